@@ -1,0 +1,3 @@
+pub mod Address
+pub mod Value
+pub mod Import

@@ -1,0 +1,28 @@
+-- The shown text of a value.
+use Rattle.std.specs.Prelude.{ℕ, List, [], Bool, true, false, codes}
+use Rattle.wi_fraction.specs.Text.{text_of}
+use Rattle.wi_values.specs.declared.value.ErrorKind.{ErrorKind}
+use Rattle.wi_values.specs.declared.value.ErrorKind.TheVariants.{NotAvailable, DivisionByZero, UnknownName, BadNumber, BadReference, BadValue, Circular}
+use Rattle.wi_values.specs.declared.value.Value.{Value}
+use Rattle.wi_values.specs.declared.value.Value.TheVariants.{Empty, Number, Text, Logical, Fault}
+
+abbrev pub error_name : ErrorKind → List ℕ
+error_name NotAvailable = codes "#N/A"
+error_name DivisionByZero = codes "#DIV/0!"
+error_name UnknownName = codes "#NAME?"
+error_name BadNumber = codes "#NUM!"
+error_name BadReference = codes "#REF!"
+error_name BadValue = codes "#VALUE!"
+error_name Circular = codes "#CIRC!"
+
+abbrev pub logical_name : Bool → List ℕ
+logical_name true = codes "TRUE"
+logical_name false = codes "FALSE"
+
+-- the text that is shown for a value
+unfoldable pub shown : Value → List ℕ
+shown Empty = []
+shown (Number x) = text_of x
+shown (Text t) = t
+shown (Logical b) = logical_name b
+shown (Fault e) = error_name e

@@ -1,0 +1,14 @@
+//! Values, texts, addresses and rectangles of a sheet.
+#![tactic(auto)]
+
+mod address;
+mod rect;
+mod replacement;
+mod text;
+mod value;
+
+pub use address::{Address, COLUMNS, ROWS};
+pub use rect::Rect;
+pub use replacement::Replacement;
+pub use text::{MAX_TEXT, Text};
+pub use value::{ErrorKind, Value};

@@ -1,0 +1,11 @@
+//! A constant put in the place of a cell's content.
+
+use crate::address::Address;
+use crate::value::Value;
+
+/// A constant that stands in for a cell's content; Empty takes the content away.
+#[derive(Debug, Drop)]
+pub struct Replacement {
+    pub at: Address,
+    pub value: Value,
+}

@@ -1,0 +1,53 @@
+//! The text of a value.
+
+ghost use Rattle.std.specs.Prelude.{◌≡◌, IfOk, string_bytes};
+
+use std::alloc::{AllocError, Global};
+use std::marker::Model;
+
+/// The greatest length of a text in bytes.
+pub const MAX_TEXT: usize = 32_767;
+
+/// The text of a value, seen as its bytes.
+#[derive(Debug, Drop)]
+pub struct Text {
+    content: String,
+}
+
+impl Model for Text {
+    ghost use Rattle.std.specs.Prelude.{List, ℕ, string_bytes};
+
+    ghost Value = { List ℕ };
+
+    ghost view = { λ t. string_bytes t.content };
+}
+
+impl Text {
+    /// The text of these bytes.
+    pub fn new(content: String) -> Text
+        ensures { result ≡ string_bytes content }
+    {
+        Text { content }
+    }
+
+    /// A copy of a text.
+    pub fn from_str(alloc: Global, content: &str) -> Result<Text, AllocError>
+        ensures { IfOk result (λ t. t ≡ content.now) }
+    {
+        let content = String::from_str(alloc, content)?;
+        Ok(Text { content })
+    }
+
+    pub fn as_str(&self) -> &str
+        ensures { result.now ≡ self.now }
+    {
+        self.content.as_str()
+    }
+
+    /// The same text once more.
+    pub fn copy(&self, alloc: Global) -> Result<Text, AllocError>
+        ensures { IfOk result (λ t. t ≡ self.now) }
+    {
+        Text::from_str(alloc, self.as_str())
+    }
+}

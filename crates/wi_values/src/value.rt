@@ -1,0 +1,53 @@
+//! What a cell shows.
+
+ghost use Rattle.std.specs.Prelude.{◌≡◌, ◌++◌, IfOk, OnOk, OnErr, string_bytes};
+ghost use Rattle.wi_values.specs.Value.{error_name, shown};
+
+use crate::text::Text;
+use std::alloc::{AllocError, Global};
+use wi_fraction::Fraction;
+
+/// Why there is no other value. The names are those of OpenFormula (OpenDocument 1.3 part 4, 6.13),
+/// but for `Circular`, which this project adds.
+#[derive(Clone, Copy, PartialEq, Eq, Hash, Debug)]
+pub enum ErrorKind {
+    /// `#N/A`
+    NotAvailable,
+    /// `#DIV/0!`
+    DivisionByZero,
+    /// `#NAME?`
+    UnknownName,
+    /// `#NUM!`
+    BadNumber,
+    /// `#REF!`
+    BadReference,
+    /// `#VALUE!`
+    BadValue,
+    /// `#CIRC!`
+    Circular,
+}
+
+/// A value.
+#[derive(Debug, Drop)]
+pub enum Value {
+    Empty,
+    Number(Fraction),
+    Text(Text),
+    Logical(bool),
+    Fault(ErrorKind),
+}
+
+impl Value {
+    /// The same value once more.
+    pub fn copy(&self, alloc: Global) -> Result<Value, AllocError>
+        ensures { IfOk result (λ v. v ≡ self.now) }
+    {
+        match self {
+            Value::Empty => Ok(Value::Empty),
+            Value::Number(x) => Ok(Value::Number(*x)),
+            Value::Text(t) => Ok(Value::Text(t.copy(alloc)?)),
+            Value::Logical(b) => Ok(Value::Logical(*b)),
+            Value::Fault(e) => Ok(Value::Fault(*e)),
+        }
+    }
+}
