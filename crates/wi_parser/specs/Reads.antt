@@ -1,0 +1,21 @@
+-- Which cells a formula reads.
+use Rattle.std.specs.Prelude.{◌==◌, ℕ, Bool, false, ◌||◌, Option, Some, None}
+use Rattle.std.specs.List.{list_any}
+use Rattle.wi_parser.specs.Tree.{Tree, number, cell, parenthesized, binary, what_if}
+use Rattle.wi_parser.specs.declared.content.Content.{Content}
+use Rattle.wi_parser.specs.declared.content.Content.TheVariants.{Constant, Formula}
+
+-- A tree reads this cell, whichever branch is taken. A what-if reads its formula cell and what replaces its inputs,
+-- and only names its inputs.
+abbrev pub reads : Tree → ℕ → Bool
+reads (number x) a = false
+reads (cell r) a = r.at == a
+reads (parenthesized t) a = reads t a
+reads (binary op t u) a = reads t a || reads u a
+reads (what_if f pairs) a = f.at == a || list_any (λ p. p.1.at == a) pairs
+
+-- what stands in a cell reads this cell
+abbrev pub content_reads : Option Content → ℕ → Bool
+content_reads None a = false
+content_reads (Some (Constant v)) a = false
+content_reads (Some (Formula t)) a = reads t a

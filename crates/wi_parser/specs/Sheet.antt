@@ -1,0 +1,53 @@
+-- A sheet, and what is put into it.
+use Rattle.std.specs.Prelude.{◌==◌, ℕ, Bool, true, false, not, List, [], ◌∷◌, filter, Option, Some, None}
+use Rattle.std.specs.Ordering.{nat_cmp}
+use Rattle.std.specs.Map.{lookup, keys_of}
+use Rattle.std.specs.BTreeMap.{is_at, insert_entry}
+use Rattle.wi_values.specs.declared.value.Value.{Value}
+use Rattle.wi_values.specs.declared.value.Value.TheVariants.{Empty, Number, Text, Logical, Fault}
+use Rattle.wi_values.specs.declared.replacement.Replacement.{Replacement}
+use Rattle.wi_parser.specs.declared.content.Content.{Content}
+use Rattle.wi_parser.specs.declared.content.Content.TheVariants.{Constant, Formula}
+
+-- the cells that have a content, in row-major order
+abbrev pub Sheet : Type 0
+Sheet = List (ℕ × Content)
+
+-- what stands in a cell
+abbrev pub content_of : Sheet → ℕ → Option Content
+content_of s c = lookup (is_at (nat_cmp c)) s
+
+-- a constant as a content: Empty is none
+abbrev pub constant : Value → Option Content
+constant Empty = None
+constant (Number x) = Some (Constant (Number x))
+constant (Text t) = Some (Constant (Text t))
+constant (Logical b) = Some (Constant (Logical b))
+constant (Fault e) = Some (Constant (Fault e))
+
+-- the sheet without a cell's content
+abbrev pub without : Sheet → ℕ → Sheet
+without s c = filter (λ e. not (e.0 == c)) s
+
+-- the sheet with a content in a cell, or with none there
+abbrev pub with_content : Sheet → ℕ → Option Content → Sheet
+with_content s c None = without s c
+with_content s c (Some x) = insert_entry nat_cmp s c x
+
+-- the sheet with a constant in a cell
+abbrev pub put : Sheet → ℕ → Value → Sheet
+put s c v = with_content s c (constant v)
+
+-- the sheet with replacements put in, one after another
+abbrev pub put_all : Sheet → List Replacement → Sheet
+put_all s [] = s
+put_all s (r ∷ rs) = put_all (put s r.at r.value) rs
+
+abbrev pub has_formula : Option Content → Bool
+has_formula None = false
+has_formula (Some (Constant v)) = false
+has_formula (Some (Formula t)) = true
+
+-- the cells that have a formula
+abbrev pub formula_cells : Sheet → List ℕ
+formula_cells s = filter (λ c. has_formula (content_of s c)) (keys_of s)

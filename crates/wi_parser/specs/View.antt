@@ -1,0 +1,23 @@
+-- The tree that an expression stands for.
+use Rattle.std.specs.Prelude.{ℕ, List, map}
+use Rattle.wi_parser.specs.Tree.{Tree, number, cell, parenthesized, binary, what_if}
+use Rattle.wi_parser.specs.declared.expr.Expr.{Expr, fold-Expr}
+use Rattle.wi_parser.specs.declared.expr.Expr.TheOpen.{Expr-F}
+use Rattle.wi_parser.specs.declared.expr.Pair.{Pair}
+use Rattle.wi_parser.specs.declared.expr.Reference.{Reference}
+
+-- an input and the cell whose value replaces it
+abbrev pub pair_of : Pair → Reference × Reference
+pair_of p = (p.input, p.by)
+
+-- one level, with each part already seen as its tree
+abbrev pub layer_tree : Expr-F Tree → Tree
+layer_tree (Expr-F.Number x) = number x
+layer_tree (Expr-F.Cell r) = cell r
+layer_tree (Expr-F.Parenthesized t) = parenthesized t.value
+layer_tree (Expr-F.Binary op t u) = binary op t.value u.value
+layer_tree (Expr-F.WhatIf f v) = what_if f (map pair_of v.items)
+
+-- the tree of an expression
+abbrev pub tree_of : Expr → Tree
+tree_of = fold-Expr Tree layer_tree

@@ -1,0 +1,62 @@
+//! The tree of a formula.
+
+ghost use Rattle.std.specs.Prelude.{◌≡◌, IfOk};
+ghost use Rattle.wi_parser.specs.View.{tree_of};
+
+use std::alloc::{AllocError, Global};
+use wi_fraction::Fraction;
+use wi_values::Address;
+
+/// A reference to one cell. What is absolute stays where a formula is filled into other cells.
+#[derive(Clone, Copy, PartialEq, Eq, Debug)]
+pub struct Reference {
+    pub at: Address,
+    pub column_is_absolute: bool,
+    pub row_is_absolute: bool,
+}
+
+/// An operator between two operands.
+#[derive(Clone, Copy, PartialEq, Eq, Debug)]
+pub enum Operator {
+    Add,
+    Subtract,
+    Multiply,
+    Divide,
+}
+
+/// An input cell of a what-if, and the cell whose value replaces it.
+#[derive(Clone, Copy, PartialEq, Eq, Debug)]
+pub struct Pair {
+    pub input: Reference,
+    pub by: Reference,
+}
+
+/// The tree of a formula, which keeps parentheses.
+#[derive(Debug, Drop)]
+pub enum Expr {
+    Number(Fraction),
+    Cell(Reference),
+    Parenthesized(Box<Expr>),
+    Binary(Operator, Box<Expr>, Box<Expr>),
+    /// The value of a cell if the inputs had the values of other cells.
+    WhatIf(Reference, Vec<Pair>),
+}
+
+impl Expr {
+    /// The same tree once more.
+    pub fn copy(&self, alloc: Global) -> Result<Expr, AllocError>
+        ensures { IfOk result (λ e. tree_of e ≡ tree_of self.now) }
+    {
+        match self {
+            Expr::Number(x) => Ok(Expr::Number(*x)),
+            Expr::Cell(r) => Ok(Expr::Cell(*r)),
+            Expr::Parenthesized(t) => Ok(Expr::Parenthesized(Box::new(alloc, t.copy(alloc)?)?)),
+            Expr::Binary(op, t, u) => Ok(Expr::Binary(
+                *op,
+                Box::new(alloc, t.copy(alloc)?)?,
+                Box::new(alloc, u.copy(alloc)?)?,
+            )),
+            Expr::WhatIf(f, pairs) => Ok(Expr::WhatIf(*f, Vec::from_slice(alloc, pairs)?)),
+        }
+    }
+}
