@@ -1,0 +1,26 @@
+-- What a formula's tree means, given a value for each cell and for each what-if.
+use Rattle.std.specs.Prelude.{ℕ, List, map}
+use Rattle.wi_values.specs.declared.value.Value.{Value}
+use Rattle.wi_values.specs.declared.value.Value.TheVariants.{Empty, Number, Text, Logical, Fault}
+use Rattle.wi_parser.specs.declared.expr.Reference.{Reference}
+use Rattle.wi_parser.specs.Tree.{Tree, number, cell, parenthesized, binary, what_if}
+use Rattle.wi_functions.specs.Convert.{operate, zero_number}
+
+-- an input and what replaces it, by their addresses
+abbrev pub addresses : Reference × Reference → ℕ × ℕ
+addresses p = (p.0.at, p.1.at)
+
+abbrev pub meaning : Tree → (ℕ → Value) → (ℕ → List (ℕ × ℕ) → Value) → Value
+meaning (number x) cells what_ifs = Number x
+meaning (cell r) cells what_ifs = cells r.at
+meaning (parenthesized t) cells what_ifs = meaning t cells what_ifs
+meaning (binary op t u) cells what_ifs = operate op (meaning t cells what_ifs) (meaning u cells what_ifs)
+meaning (what_if f pairs) cells what_ifs = what_ifs f.at (map addresses pairs)
+
+-- a formula's result: Empty becomes 0
+abbrev pub zero_for_empty : Value → Value
+zero_for_empty Empty = Number zero_number
+zero_for_empty (Number x) = Number x
+zero_for_empty (Text t) = Text t
+zero_for_empty (Logical b) = Logical b
+zero_for_empty (Fault e) = Fault e

@@ -1,0 +1,2 @@
+//! The value of one formula.
+#![tactic(auto)]

@@ -1,0 +1,3 @@
+pub mod Circular
+pub mod CellValue
+pub mod Shown

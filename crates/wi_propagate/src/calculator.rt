@@ -1,0 +1,45 @@
+//! What a calculator promises.
+
+ghost use Rattle.std.specs.Prelude.{◌≡◌, ℕ, IfOk};
+ghost use Rattle.std.specs.Option.{option_copied};
+ghost use Rattle.wi_parser.specs.Sheet.{content_of};
+ghost use Rattle.wi_store.specs.Store.{Stored, applied, Applies};
+ghost use Rattle.wi_propagate.specs.Shown.{IsSortedPut};
+ghost use Rattle.wi_propagate.specs.Shown as show;
+
+use std::alloc::AllocError;
+use wi_parser::Content;
+use wi_store::StoreFault;
+use wi_values::{Address, Replacement, Value};
+
+/// A sheet that tells what its cells show. Its meaning is the plain sheet, its limits and its count of edits.
+pub trait Calculator {
+    /// The sheet, with the count of accepted edits and the limits of both.
+    ghost stored: { Self → Stored };
+
+    /// How many formulas it has evaluated, up to the greatest number.
+    ghost evaluated: { Self → ℕ };
+
+    /// How many evaluations were begun again, up to the greatest number.
+    ghost restarted: { Self → ℕ };
+
+    /// What stands in a cell.
+    fn content(&self, at: Address) -> Option<&Content>
+        ensures { option_copied result ≡ content_of (stored self.now).sheet at };
+
+    /// One edit: puts contents in or takes them away, one after another, or refuses and leaves all as it was.
+    fn apply(&mut self, changes: Vec<(Address, Option<Content>)>) -> Result<(), StoreFault>
+        ensures { Applies (applied (stored self.old) changes.items) result (stored self.old) (stored self.new) };
+
+    /// What a cell shows under replacements, which stand in the order of their addresses, one for each.
+    fn value(&mut self, put: &[Replacement], at: Address) -> Result<Value, AllocError>
+        requires { IsSortedPut put.now }
+        ensures value { IfOk result (λ v. v ≡ show.shown (stored self.old).sheet put.now at) }
+        ensures same { stored self.new ≡ stored self.old };
+
+    fn evaluations(&self) -> u64
+        ensures { result ≡ evaluated self.now };
+
+    fn restarts(&self) -> u64
+        ensures { result ≡ restarted self.now };
+}

@@ -1,0 +1,6 @@
+//! What the cells of a sheet show.
+#![tactic(auto)]
+
+mod calculator;
+
+pub use calculator::Calculator;

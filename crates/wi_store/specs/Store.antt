@@ -1,0 +1,32 @@
+-- A sheet within limits, and what edits do to it.
+use Rattle.std.specs.Prelude.{◌≡◌, ℕ, ◌+◌, List, [], ◌∷◌, length, Option, Result, Ok, Err, nat_lt, nat_le, if◌then◌else◌}
+use Rattle.wi_parser.specs.Sheet.{Sheet, with_content}
+use Rattle.wi_parser.specs.declared.content.Content.{Content}
+use Rattle.wi_store.specs.declared.limits.Limits.{Limits}
+use Rattle.wi_store.specs.declared.fault.StoreFault.{StoreFault}
+use Rattle.wi_store.specs.declared.fault.StoreFault.TheVariants.{Full, EditLimit, Memory}
+
+-- a sheet, the count of accepted edits, and the limits of both
+pub record Stored : Type 0 where
+  pub sheet : Sheet
+  pub edits : ℕ
+  pub limits : Limits
+
+-- the sheet with contents put in or taken away, one after another
+abbrev pub edited : Sheet → List (ℕ × Option Content) → Sheet
+edited s [] = s
+edited s (e ∷ es) = edited (with_content s e.0 e.1) es
+
+-- one edit, which names cells and gives each a content or none; or the first refusal that holds
+unfoldable pub applied : Stored → List (ℕ × Option Content) → Result Stored StoreFault
+applied s es =
+    if nat_lt s.limits.cells (length (edited s.sheet es)) then Err Full
+    else (if nat_le s.limits.edits s.edits then Err EditLimit
+    else Ok (record s { sheet = edited s.sheet es; edits = s.edits + 1 }))
+
+-- the call did the edit, or refused it and left all as it was
+abbrev pub Applies : Result Stored StoreFault → Result (Unit {0}) StoreFault → Stored → Stored → Type 0
+Applies answer (Ok _) old new = answer ≡ Ok new
+Applies answer (Err Full) old new = (answer ≡ Err Full) × (new ≡ old)
+Applies answer (Err EditLimit) old new = (answer ≡ Err EditLimit) × (new ≡ old)
+Applies answer (Err Memory) old new = new ≡ old
