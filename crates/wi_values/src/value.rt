@@ -7,7 +7,7 @@ use crate::text::Text;
 use std::alloc::{AllocError, Global};
 use wi_fraction::Fraction;
 
-/// Why there is no other value. The names are those of OpenFormula (OpenDocument 1.3 part 4, 6.13),
+/// Why there is no other value. The names are those of OpenFormula (OpenDocument 1.3, part 4, "Constant Errors"),
 /// but for `Circular`, which this project adds.
 #[derive(Clone, Copy, PartialEq, Eq, Hash, Debug)]
 pub enum ErrorKind {
