@@ -1,0 +1,10 @@
+pub mod Digits
+pub mod Divisors
+pub mod Numbers
+pub mod Places
+pub mod Powers
+pub mod ReadsBack
+pub mod Sizes
+pub mod Steps
+pub mod Texts
+pub mod Values

@@ -1,0 +1,34 @@
+-- Numbers made from a sign, a size and a denominator.
+use Rattle.std.specs.Prelude.{◌≡◌, ◌⊎◌, ℕ, zero, suc, ◌*◌, ◌/◌, ◌<◌, pos, unsigned_abs, int_div, Bool, true, false, None, refl}
+use Rattle.std.proofs.Common.{ap, ◌∙◌, sym, inl, inr, arith}
+use Rattle.std.proofs.Math.Nat.{zero-div, div-one, one-mul, mul-div_cancel}
+use Rattle.wi_fraction.specs.Gcd.{gcd}
+use Rattle.wi_fraction.specs.Number.{number_at, number_at-none, number_of, signed, max_size}
+use Rattle.wi_fraction.proofs.Divisors.{gcd_scaled}
+
+pub abs-signed : (b : Bool) (n : ℕ) → unsigned_abs (signed b n) ≡ n
+abs-signed true zero = refl
+abs-signed true (suc n) = refl
+abs-signed false n = refl
+
+pub number_at-too_large : (b : Bool) (n d : ℕ) → (max_size < n) ⊎ (max_size < d) → None ≡ number_at (signed b n) d
+number_at-too_large b n d (inl h) = sym (number_at-none _ _ (λ x. absurd (omega (arith, x.num_fits, abs-signed b n))))
+number_at-too_large b n d (inr h) = sym (number_at-none _ _ (λ x. absurd (omega (arith, x.den_fits))))
+
+pub div-signed : (b : Bool) (n g : ℕ) → int_div (signed b n) (pos g) ≡ signed b (n / g)
+div-signed true zero g = rw zero-div refl
+div-signed true (suc n) g = refl
+div-signed false n g = refl
+
+pub number_of-signed : (b : Bool) (n d : ℕ) → number_at (signed b (n / gcd n d)) (d / gcd n d) ≡ number_of (signed b n) d
+unfolding number_of
+number_of-signed b n d = rw (abs-signed, div-signed)
+
+pub number_of-lowest : (s : Bool) (n d : ℕ) → gcd n d ≡ 1 → number_of (signed s n) d ≡ number_at (signed s n) d
+number_of-lowest s n d one = sym (number_of-signed s n d) ∙ rw (one, div-one n, div-one d)
+
+-- a fraction with the common factor m
+pub number_of-scaled : (s : Bool) (n d m : ℕ) → 0 < m → gcd n d ≡ 1 → number_of (signed s (n * m)) (d * m) ≡ number_at (signed s n) d
+number_of-scaled s n d m some one =
+    let g : gcd (n * m) (d * m) ≡ m = gcd_scaled n d m ∙ ap (λ k. k * m) one ∙ one-mul m in
+    sym (number_of-signed s (n * m) (d * m)) ∙ (rw (g, mul-div_cancel n some, mul-div_cancel d some))

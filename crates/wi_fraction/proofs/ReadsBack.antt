@@ -1,0 +1,114 @@
+-- Each shown text reads back to its number.
+use Rattle.std.specs.Prelude.{◌≡◌, ℕ, zero, suc, ◌+◌, ◌*◌, ◌/◌, ◌%◌, ◌^◌, ◌<◌, ◌≤◌, pos, Bool, true, false, ◌&&◌, nat_lt, nat_le, List, [], ◌∷◌, ◌++◌, length, slice_index, ◌==◌, Option, Some, None, unsigned_abs, int_lt, refl}
+use Rattle.std.specs.Fmt.{decimal}
+use Rattle.std.specs.Char.{is_ascii_digit}
+use Rattle.std.specs.Str.{all_ascii_digits}
+use Rattle.std.specs.Str.Parse.{digits_value, IsNumeral}
+use Rattle.std.specs.List.{prefix_len}
+use Rattle.std.proofs.Common.{ap, ◌∙◌, sym, subst, arith, rules, tests}
+use Rattle.std.proofs.lemmas.Bool.Decides.{nat_tests}
+use Rattle.std.proofs.lemmas.Fmt.{decimal_is_IsNumeral_wide}
+use Rattle.std.proofs.lemmas.Str.Parse.{IsNumeralModel, numerals_by_value, tells_all_ascii_digits}
+use Rattle.std.proofs.Math.Seq.{take-append_seam, drop-append_seam}
+use Rattle.std.proofs.Math.Nat.{mul_assoc, add-mul, one-le-pow, div-le_self}
+use Rattle.std.proofs.lemmas.List.{append-nil}
+use Rattle.std.proofs.lemmas.Nat.{div-add-mod'}
+use Rattle.wi_fraction.specs.Text.{places, fixed, size_text, sign_text, text_of, is_numeral, read_after, read_size, read}
+use Rattle.wi_fraction.specs.Number.{number_of, number_at, signed, max_size, number_at-some}
+use Rattle.wi_fraction.specs.Gcd.{gcd}
+use Rattle.wi_fraction.specs.Laws.{ReadsBack}
+use Rattle.wi_fraction.proofs.Numbers.{number_of-scaled, number_of-lowest}
+use Rattle.wi_fraction.proofs.Steps.{signed-abs}
+use Rattle.wi_fraction.proofs.Digits.{length-fixed, digits_fixed, value_fixed}
+use Rattle.wi_fraction.proofs.Places.{places_divide, multiple_of, factor_pos, rest_less, divides_one}
+
+own : IsNumeralModel (λ ds. all_ascii_digits ds ≡ true) (digits_value 10)
+own = numerals_by_value _ tells_all_ascii_digits
+
+scan : (ds rest : List ℕ) → all_ascii_digits ds ≡ true → prefix_len is_ascii_digit rest ≡ 0 → prefix_len is_ascii_digit (ds ++ rest) ≡ length ds
+scan [] rest h e = e
+scan (c ∷ cs) rest h e =
+    let first : is_ascii_digit c ≡ true = search (rules, tests) in
+    let others : all_ascii_digits cs ≡ true = search (rules, tests) in
+    rw (first, scan cs rest others e) (omega arith)
+
+read_size_scanned : (s : Bool) (ds rest : List ℕ) → IsNumeral 10 ds → prefix_len is_ascii_digit rest ≡ 0 → read_size s (ds ++ rest) ≡ read_after s ds rest
+unfolding read_size
+read_size_scanned s ds rest h e =
+    let some : (length ds == 0) ≡ false = grind (arith, nat_tests, h.0) in
+    rw (scan ds rest (own.from ds h.1) e, some, take-append_seam ds rest, drop-append_seam ds rest)
+
+first_digit : (ds rest : List ℕ) → IsNumeral 10 ds → is_ascii_digit (slice_index (ds ++ rest) 0) ≡ true
+first_digit [] rest h = absurd (omega (arith, h.0))
+first_digit (c ∷ cs) rest h =
+    let all : all_ascii_digits (c ∷ cs) ≡ true = own.from (c ∷ cs) h.1 in
+    search (rules, tests)
+
+read_signed : (s : Bool) (bs : List ℕ) → is_ascii_digit (slice_index bs 0) ≡ true → read (sign_text s ++ bs) ≡ read_size s bs
+unfolding read
+read_signed true bs h = refl
+read_signed false bs h =
+    let minus : (slice_index bs 0 == 45) ≡ false = grind (arith, nat_tests) in
+    let plus : (slice_index bs 0 == 43) ≡ false = grind (arith, nat_tests) in
+    rw (minus, plus)
+
+read_scanned : (s : Bool) (ds rest : List ℕ) → IsNumeral 10 ds → prefix_len is_ascii_digit rest ≡ 0 → read (sign_text s ++ (ds ++ rest)) ≡ read_after s ds rest
+read_scanned s ds rest h e = read_signed s (ds ++ rest) (first_digit ds rest h) ∙ read_size_scanned s ds rest h e
+
+numeral : (n : ℕ) → n ≤ max_size → IsNumeral 10 (decimal n)
+numeral n h = (decimal_is_IsNumeral_wide n (omega arith)).0
+
+value_decimal : (n : ℕ) → n ≤ max_size → digits_value 10 (decimal n) ≡ n
+value_decimal n h = (decimal_is_IsNumeral_wide n (omega arith)).1
+
+is_numeral-true : (ds : List ℕ) → IsNumeral 10 ds → is_numeral ds ≡ true
+is_numeral-true ds h = let all : all_ascii_digits ds ≡ true = own.from ds h.1 in let some = h.0 in grind (arith, nat_tests)
+
+read_quotient_text : (s : Bool) (n d : ℕ) → 0 < d → n ≤ max_size → d ≤ max_size → gcd n d ≡ 1 → read_after s (decimal n) (47 ∷ decimal d) ≡ number_at (signed s n) d
+unfolding read_after
+read_quotient_text s n d dp nm dm one =
+    let q : is_numeral (decimal d) ≡ true = is_numeral-true (decimal d) (numeral d dm) in
+    let t : (nat_lt 0 d && nat_le n max_size && nat_le d max_size) ≡ true = grind (arith, nat_tests) in
+    rw (q, value_decimal n nm, value_decimal d dm, t) (number_of-lowest s n d one)
+
+whole_and_rest : (n d m : ℕ) → n / d * (d * m) + n % d * m ≡ n * m
+whole_and_rest n d m = sym (ap (λ k. k + n % d * m) (mul_assoc (n / d) d m)) ∙ sym (add-mul (n / d * d) (n % d) m) ∙ ap (λ k. k * m) (div-add-mod' n d)
+
+-- the digits of n/d at the places of t = d * m
+number_of_places : (s : Bool) (n d t m : ℕ) → t ≡ d * m → 0 < m → gcd n d ≡ 1 → number_of (signed s (n / d * t + n % d * m)) t ≡ number_at (signed s n) d
+number_of_places s n d t m e mp one = rw (e, whole_and_rest n d m) (number_of-scaled s n d m mp one)
+
+numeral_fixed : (k n : ℕ) → is_numeral (fixed (suc k) n) ≡ true
+numeral_fixed k n = is_numeral-true (fixed (suc k) n) (rw (length-fixed (suc k) n) (omega arith), digits_fixed (suc k) n)
+
+div_small : (n d : ℕ) → n ≤ max_size → n / d ≤ max_size
+div_small n d h = omega (arith, div-le_self n d)
+
+read_places_text : (s : Bool) (n d k : ℕ) → 0 < d → n ≤ max_size → gcd n d ≡ 1 → 10 ^ suc k % d ≡ 0 → read_after s (decimal (n / d)) (46 ∷ fixed (suc k) (n % d * (10 ^ suc k / d))) ≡ number_at (signed s n) d
+unfolding read_after
+read_places_text s n d k dp nm one e =
+    let t = 10 ^ suc k in
+    let m = t / d in
+    let multiple : t ≡ d * m = multiple_of t d e in
+    let mp : 0 < m = factor_pos t d m multiple (one-le-pow (suc k) 10 (omega arith)) in
+    let less : n % d * m < 10 ^ suc k = subst (λ u. n % d * m < u) (sym multiple) (rest_less n d m dp mp) in
+    rw (numeral_fixed k (n % d * m), value_fixed (suc k) (n % d * m) (decimal (n / d)) less, value_decimal (n / d) (div_small n d nm), length-fixed (suc k) (n % d * m)) (number_of_places s n d t m multiple mp one)
+
+read_whole_text : (s : Bool) (n : ℕ) → n ≤ max_size → read_after s (decimal n) [] ≡ number_of (signed s n) 1
+unfolding read_after
+read_whole_text s n nm = rw (value_decimal n nm)
+
+read_text : (s : Bool) (n d : ℕ) (p : Option ℕ) → ((j : ℕ) → p ≡ Some j → 10 ^ j % d ≡ 0) → 0 < d → n ≤ max_size → d ≤ max_size → gcd n d ≡ 1 → read (sign_text s ++ size_text p n d) ≡ number_at (signed s n) d
+unfolding size_text
+read_text s n d None h dp nm dm one = read_scanned s (decimal n) (47 ∷ decimal d) (numeral n nm) refl ∙ read_quotient_text s n d dp nm dm one
+read_text s n d (Some zero) h dp nm dm one =
+    let whole : d ≡ 1 = divides_one d dp (h 0 refl) in
+    ap (λ ds. read (sign_text s ++ ds)) (sym (append-nil (decimal n))) ∙ read_scanned s (decimal n) [] (numeral n nm) refl ∙ read_whole_text s n nm ∙ number_of-lowest s n 1 (subst (λ k. gcd n k ≡ 1) whole one) ∙ ap (λ k. number_at (signed s n) k) (sym whole)
+read_text s n d (Some (suc k)) h dp nm dm one = read_scanned s (decimal (n / d)) _ (numeral (n / d) (div_small n d nm)) refl ∙ read_places_text s n d k dp nm one (h (suc k) refl)
+
+pub reads_back : ReadsBack
+unfolding text_of
+reads_back x =
+    let s = int_lt x.num (pos 0) in
+    read_text s (unsigned_abs x.num) x.den (places x.den) (places_divide x.den) x.is_number.above_zero x.is_number.num_fits x.is_number.den_fits x.is_number.lowest
+    ∙ rw (signed-abs x.num) (number_at-some x.num x.den x refl refl)

@@ -1,0 +1,158 @@
+// Sums, products, quotients and the other sign.
+
+ghost use Rattle.std.specs.Prelude.{◌≡◌, ◌≢◌, ◌*◌, ◌<◌, ◌≤◌, pos, ◌+ℤ◌, ◌*ℤ◌, ok_or, if◌then◌else◌, IfOk};
+ghost use Rattle.std.specs.Ordering.{int_eq};
+ghost use Rattle.wi_fraction.specs.Gcd.{gcd};
+ghost use Rattle.wi_fraction.specs.Number.{max_size, number_of, signed};
+ghost use Rattle.wi_fraction.specs.Arithmetic.{within, int_within, sum_of, product_of, quotient_of, negated};
+
+use crate::lowest_terms::{gcd, number_at, reduced};
+use crate::{Fraction, FractionError, MAX};
+
+impl Fraction {
+    /// The sum, which overflows where the least common multiple of the denominators, a numerator scaled to it, or
+    /// the sum of the two is too large.
+    #[tactic(auto, using(crate::proofs::Values::sum_value))]
+    pub fn checked_add(self, other: Fraction) -> Result<Fraction, FractionError>
+        ensures value { result ≡ ok_or (sum_of self other) FractionError.Overflow }
+        ensures exact { IfOk result
+            (λ z. (self.num *ℤ pos other.den +ℤ other.num *ℤ pos self.den) *ℤ pos z.den ≡ z.num *ℤ pos (self.den * other.den)) }
+    {
+        self.sum(other).ok_or(FractionError::Overflow)
+    }
+
+    /// The difference, which overflows where the sum with the second negated does.
+    pub fn checked_sub(self, other: Fraction) -> Result<Fraction, FractionError>
+        ensures { result ≡ ok_or (sum_of self (negated other)) FractionError.Overflow }
+    {
+        self.checked_add(other.neg())
+    }
+
+    /// The product, which overflows where it does not fit in lowest terms.
+    #[tactic(auto, using(crate::proofs::Values::product_value))]
+    pub fn checked_mul(self, other: Fraction) -> Result<Fraction, FractionError>
+        ensures value { result ≡ ok_or (product_of self other) FractionError.Overflow }
+        ensures exact { IfOk result
+            (λ z. (self.num *ℤ other.num) *ℤ pos z.den ≡ z.num *ℤ pos (self.den * other.den)) }
+    {
+        let Fraction {
+            numerator: a,
+            denominator: b,
+        } = self;
+        let Fraction {
+            numerator: c,
+            denominator: d,
+        } = other;
+        multiplied((a < 0) != (c < 0), a.unsigned_abs(), b, c.unsigned_abs(), d).ok_or(
+            FractionError::Overflow,
+        )
+    }
+
+    /// The quotient, which overflows where it does not fit in lowest terms.
+    #[tactic(auto, using(crate::proofs::Values::quotient_value))]
+    pub fn checked_div(self, other: Fraction) -> Result<Fraction, FractionError>
+        ensures value { result ≡ (if int_eq other.num (pos 0) then Err FractionError.ZeroDenominator else ok_or (quotient_of self other) FractionError.Overflow) }
+        ensures exact { IfOk result
+            (λ z. (self.num *ℤ pos other.den) *ℤ pos z.den ≡ z.num *ℤ (pos self.den *ℤ other.num)) }
+    {
+        if other.numerator == 0 {
+            return Err(FractionError::ZeroDenominator);
+        }
+        self.quotient(other).ok_or(FractionError::Overflow)
+    }
+
+    /// The number with the other sign.
+    pub fn neg(self) -> Fraction
+        ensures { result ≡ negated self }
+    {
+        let numerator = self.numerator;
+        let denominator = self.denominator;
+        Fraction {
+            numerator: -numerator,
+            denominator,
+        }
+    }
+
+    #[tactic(auto, unfolding(crate::specs::Arithmetic::sum_of))]
+    fn sum(self, other: Fraction) -> Option<Fraction>
+        ensures { result ≡ sum_of self other }
+    {
+        let Fraction {
+            numerator: a,
+            denominator: b,
+        } = self;
+        let Fraction {
+            numerator: c,
+            denominator: d,
+        } = other;
+        let multiple = product(b / gcd(b, d), d)?;
+        let first = scaled(a, multiple / b)?;
+        let second = scaled(c, multiple / d)?;
+        let total = total(first, second)?;
+        reduced(total < 0, total.unsigned_abs(), multiple)
+    }
+
+    fn quotient(self, other: Fraction) -> Option<Fraction>
+        requires { other.num ≢ pos 0 }
+        ensures { result ≡ quotient_of self other }
+    {
+        let Fraction {
+            numerator: a,
+            denominator: b,
+        } = self;
+        let Fraction {
+            numerator: c,
+            denominator: d,
+        } = other;
+        multiplied((a < 0) != (c < 0), a.unsigned_abs(), b, d, c.unsigned_abs())
+    }
+}
+
+/// The product of a/b and c/d, which are in lowest terms, with that sign.
+fn multiplied(negative: bool, a: u128, b: u128, c: u128, d: u128) -> Option<Fraction>
+    requires first_above_zero { 0 < b }
+    requires second_above_zero { 0 < d }
+    requires first_lowest { gcd a b ≡ 1 }
+    requires second_lowest { gcd c d ≡ 1 }
+    ensures { result ≡ number_of (signed negative (a * c)) (b * d) }
+{
+    let outer = gcd(a, d);
+    let inner = gcd(c, b);
+    let size = product(a / outer, c / inner)?;
+    let denominator = product(b / inner, d / outer)?;
+    number_at(negative, size, denominator)
+}
+
+/// The product, where it is small enough.
+fn product(a: u128, b: u128) -> Option<u128>
+    ensures { result ≡ within (a * b) }
+{
+    let product = a.checked_mul(b)?;
+    if product <= MAX { Some(product) } else { None }
+}
+
+/// The multiple of a numerator, where it is small enough.
+fn scaled(n: i128, by: u128) -> Option<i128>
+    requires { by ≤ max_size }
+    ensures { result ≡ int_within (n *ℤ pos by) }
+{
+    bounded(n.checked_mul(by as i128)?)
+}
+
+/// The sum of two numerators, where it is small enough.
+fn total(a: i128, b: i128) -> Option<i128>
+    ensures { result ≡ int_within (a +ℤ b) }
+{
+    bounded(a.checked_add(b)?)
+}
+
+/// The number, where it is small enough.
+fn bounded(n: i128) -> Option<i128>
+    ensures { result ≡ int_within n }
+{
+    if n.unsigned_abs() <= MAX {
+        Some(n)
+    } else {
+        None
+    }
+}

@@ -1,0 +1,16 @@
+//! Laws of the definitions. Each is the contract of a function that does nothing.
+
+ghost use Rattle.std.specs.Prelude.{ℕ};
+ghost use Rattle.wi_fraction.specs.Laws.{ReadsBack, ShowsFewestPlaces};
+
+/// Each shown text reads back to its number.
+#[tactic(auto, using(crate::proofs::ReadsBack::reads_back))]
+pub fn texts_read_back()
+    ensures { ReadsBack }
+{}
+
+/// A decimal is shown at the fewest places that are exact, and n/d only where twelve places are not exact.
+#[tactic(auto, using(crate::proofs::Places::shows_fewest_places))]
+pub fn texts_have_fewest_places()
+    ensures { (d : ℕ) → ShowsFewestPlaces d }
+{}

@@ -1,0 +1,55 @@
+// Numbers made from a sign, a size and a denominator.
+
+ghost use Rattle.std.specs.Prelude.{◌≡◌, ◌<◌, ◌≤◌};
+ghost use Rattle.wi_fraction.specs.Gcd.{gcd};
+ghost use Rattle.wi_fraction.specs.Number.{max_size, number_at, number_of, signed};
+
+use crate::{Fraction, MAX};
+
+/// The greatest common divisor, by Euclid's algorithm.
+pub fn gcd(a: u128, b: u128) -> u128
+    ensures value { result ≡ gcd a b }
+    ensures above_zero { 0 < b → 0 < result }
+{
+    let mut x = a;
+    let mut y = b;
+    while y != 0 {
+        let rest = x % y;
+        x = y;
+        y = rest;
+    }
+    x
+}
+
+/// The number of that sign, size and denominator, in lowest terms.
+pub fn reduced(negative: bool, size: u128, denominator: u128) -> Option<Fraction>
+    requires { 0 < denominator }
+    ensures { result ≡ number_of (signed negative size) denominator }
+{
+    let common = gcd(size, denominator);
+    number_at(negative, size / common, denominator / common)
+}
+
+/// The number of that sign, size and denominator, which have no common divisor.
+pub fn number_at(negative: bool, size: u128, denominator: u128) -> Option<Fraction>
+    requires above_zero { 0 < denominator }
+    requires lowest { gcd size denominator ≡ 1 }
+    ensures { result ≡ number_at (signed negative size) denominator }
+{
+    if size > MAX || denominator > MAX {
+        return None;
+    }
+    Some(Fraction {
+        numerator: signed(negative, size),
+        denominator,
+    })
+}
+
+/// The whole number of that sign and size.
+fn signed(negative: bool, size: u128) -> i128
+    requires { size ≤ max_size }
+    ensures { result ≡ signed negative size }
+{
+    let magnitude = size as i128;
+    if negative { -magnitude } else { magnitude }
+}

@@ -1,0 +1,90 @@
+// Equality and order.
+
+ghost use Rattle.std.specs.Prelude.{◌≡◌, ◌*◌, ◌<◌, ◌++◌, refl};
+ghost use Rattle.std.specs.Hash as fed;
+ghost use Rattle.std.specs.Ordering.{nat_cmp, as_partial_cmp};
+ghost use Rattle.std.specs.Cmp.{partial_order_from_agreeing_total};
+ghost use Rattle.std.proofs.Common.{ap};
+ghost use Rattle.wi_fraction.specs.Number.{Number};
+ghost use Rattle.wi_fraction.specs.Order.{cross_cmp, cross_total, cross_same_parts, same_parts, same_parts_partial, same_parts_equiv, same_from_parts};
+
+use crate::Fraction;
+use std::cmp::Ordering;
+use std::hash::{Hash, Hasher};
+
+impl PartialEq for Fraction {
+    ghost eq = { same_parts };
+
+    ghost laws = { same_parts_partial };
+
+    #[tactic(auto, unfolding(crate::specs::Order::same_parts))]
+    fn eq(&self, other: &Fraction) -> bool {
+        self.numerator == other.numerator && self.denominator == other.denominator
+    }
+}
+
+impl Eq for Fraction {
+    ghost laws = { same_parts_equiv };
+}
+
+impl Hash for Fraction {
+    ghost hash_input = { λ x. fed.i128 x.num ++ fed.u128 x.den };
+
+    ghost respects_eq = { λ x y e. ap (λ (z : Number). fed.i128 z.num ++ fed.u128 z.den) (same_from_parts x y e) };
+
+    fn hash<H: Hasher>(&self, state: &mut H) {
+        self.numerator.hash(state);
+        self.denominator.hash(state);
+    }
+}
+
+impl Ord for Fraction {
+    ghost cmp = { cross_cmp };
+
+    ghost total = { cross_total };
+
+    ghost matches_partial_cmp = { λ _ _. refl };
+
+    ghost matches_eq = { cross_same_parts };
+
+    fn cmp(&self, other: &Fraction) -> Ordering {
+        let a = self.numerator.unsigned_abs();
+        let c = other.numerator.unsigned_abs();
+        match (self.numerator < 0, other.numerator < 0) {
+            (true, false) => Ordering::Less,
+            (false, true) => Ordering::Greater,
+            (false, false) => compare_sizes(a, self.denominator, c, other.denominator),
+            (true, true) => compare_sizes(c, other.denominator, a, self.denominator),
+        }
+    }
+}
+
+impl PartialOrd for Fraction {
+    ghost partial_cmp = { as_partial_cmp cross_cmp };
+
+    ghost laws = { partial_order_from_agreeing_total cross_cmp cross_total (λ _ _. refl) cross_same_parts };
+
+    fn partial_cmp(&self, other: &Fraction) -> Option<Ordering> {
+        Some(self.cmp(other))
+    }
+}
+
+/// The order of a/b and c/d. What is left over the whole parts is compared upside down.
+fn compare_sizes(a: u128, b: u128, c: u128, d: u128) -> Ordering
+    requires first_above_zero { 0 < b }
+    requires second_above_zero { 0 < d }
+    ensures { result ≡ nat_cmp (a * d) (c * b) }
+{
+    match (a / b).cmp(&(c / d)) {
+        Ordering::Equal => {
+            let first = a % b;
+            let second = c % d;
+            if first == 0 || second == 0 {
+                first.cmp(&second)
+            } else {
+                compare_sizes(d, second, b, first)
+            }
+        }
+        unequal => unequal,
+    }
+}
