@@ -1,3 +1,4 @@
 pub mod Address
+pub mod AddressReading
 pub mod Value
 pub mod Import

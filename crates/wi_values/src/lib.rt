@@ -7,7 +7,7 @@ mod replacement;
 mod text;
 mod value;
 
-pub use address::{Address, COLUMNS, ROWS};
+pub use address::{Address, AddressFault, COLUMNS, ROWS};
 pub use rect::Rect;
 pub use replacement::Replacement;
 pub use text::{MAX_TEXT, Text};
