@@ -54,11 +54,20 @@ impl Address {
         ensures place { IfSome result (λ a. a ≡ place row column) }
     {
         if row < ROWS && column < COLUMNS {
-            Some(Address {
-                place: u64::from(row) * u64::from(COLUMNS) + u64::from(column),
-            })
+            Some(Address::at(row, column))
         } else {
             None
+        }
+    }
+
+    /// The cell at a row and a column of the sheet, both counted from 0.
+    pub fn at(row: u32, column: u32) -> Address
+        requires row_within { row < rows }
+        requires column_within { column < columns }
+        ensures { result ≡ place row column }
+    {
+        Address {
+            place: u64::from(row) * u64::from(COLUMNS) + u64::from(column),
         }
     }
 

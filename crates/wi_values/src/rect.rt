@@ -1,9 +1,11 @@
 //! A rectangle of cells.
 
-ghost use Rattle.std.specs.Prelude.{◌≡◌};
+ghost use Rattle.std.specs.Prelude.{◌≡◌, ◌==◌, ◌<◌, length, IfSome};
+ghost use Rattle.std.specs.List.{position};
 ghost use Rattle.wi_values.specs.Address.{rect_of};
+ghost use Rattle.wi_values.specs.AddressReading.{corners, read_rect};
 
-use crate::address::Address;
+use crate::address::{Address, AddressFault};
 use std::marker::Model;
 
 /// A rectangle of cells, seen as its upper left and its lower right.
@@ -26,6 +28,33 @@ impl Model for Rect {
 }
 
 impl Rect {
+    /// The rectangle with these corners, which may stand in any order.
+    pub fn new(a: Address, b: Address) -> Rect
+        ensures { result ≡ rect_of a b }
+    {
+        Rect {
+            first: Address::at(a.row().min(b.row()), a.column().min(b.column())),
+            last: Address::at(a.row().max(b.row()), a.column().max(b.column())),
+        }
+    }
+
+    /// The rectangle that a text such as `B2:A1` or `B2` names.
+    #[tactic(auto, unfolding(crate::specs::AddressReading::read_rect))]
+    pub fn read(bytes: &[u8]) -> Result<Rect, AddressFault>
+        ensures { result ≡ read_rect bytes.now }
+    {
+        match colon_at(bytes) {
+            None => {
+                let cell = Address::read(bytes)?;
+                Ok(Rect::new(cell, cell))
+            }
+            Some(colon) => between(
+                Address::read(&bytes[..colon]),
+                Address::read(&bytes[colon + 1..]),
+            ),
+        }
+    }
+
     /// The upper left.
     pub fn first(self) -> Address
         ensures { result ≡ self.first }
@@ -38,5 +67,28 @@ impl Rect {
         ensures { result ≡ self.last }
     {
         self.last
+    }
+}
+
+/// Where the first colon stands.
+fn colon_at(bytes: &[u8]) -> Option<usize>
+    ensures value { result ≡ position (λ c. c == 58) bytes.now }
+    ensures within { IfSome result (λ k. k < length bytes.now) }
+{
+    bytes.iter().position(|c| *c == b':')
+}
+
+/// The rectangle with these corners. The wrong shape of either comes before a cell outside the sheet.
+fn between(
+    a: Result<Address, AddressFault>,
+    b: Result<Address, AddressFault>,
+) -> Result<Rect, AddressFault>
+    ensures { result ≡ corners a b }
+{
+    match (a, b) {
+        (Ok(a), Ok(b)) => Ok(Rect::new(a, b)),
+        (Err(AddressFault::Outside), Err(fault)) => Err(fault),
+        (Err(fault), _) => Err(fault),
+        (Ok(_), Err(fault)) => Err(fault),
     }
 }

@@ -27,6 +27,23 @@ pub enum ErrorKind {
     Circular,
 }
 
+impl ErrorKind {
+    /// The name, as it is shown.
+    pub fn name(self) -> &'static str
+        ensures { result.now ≡ error_name self }
+    {
+        match self {
+            ErrorKind::NotAvailable => "#N/A",
+            ErrorKind::DivisionByZero => "#DIV/0!",
+            ErrorKind::UnknownName => "#NAME?",
+            ErrorKind::BadNumber => "#NUM!",
+            ErrorKind::BadReference => "#REF!",
+            ErrorKind::BadValue => "#VALUE!",
+            ErrorKind::Circular => "#CIRC!",
+        }
+    }
+}
+
 /// A value.
 #[derive(Debug, Drop)]
 pub enum Value {
@@ -48,6 +65,22 @@ impl Value {
             Value::Text(t) => Ok(Value::Text(t.copy(alloc)?)),
             Value::Logical(b) => Ok(Value::Logical(*b)),
             Value::Fault(e) => Ok(Value::Fault(*e)),
+        }
+    }
+
+    /// Appends the shown text. On an error the text is as before.
+    #[tactic(auto, unfolding(crate::specs::Value::shown))]
+    pub fn push_shown(&self, text: &mut String) -> Result<(), AllocError>
+        ensures ok { OnOk result (string_bytes text.new ≡ string_bytes text.old ++ shown self.now) }
+        ensures err { OnErr result (string_bytes text.new ≡ string_bytes text.old) }
+    {
+        match self {
+            Value::Empty => Ok(()),
+            Value::Number(x) => x.push_text(text),
+            Value::Text(t) => text.push_str(t.as_str()),
+            Value::Logical(true) => text.push_str("TRUE"),
+            Value::Logical(false) => text.push_str("FALSE"),
+            Value::Fault(kind) => text.push_str(kind.name()),
         }
     }
 }
