@@ -1,0 +1,58 @@
+-- Cells as a formula writes them: a column in letters, a row in digits, `$` before a part that is absolute.
+use Rattle.std.specs.Prelude.{◌≡◌, ℕ, ◌<◌, Bool, ◌&&◌, ◌==◌, nat_lt, if◌then◌else◌, List, [], ◌∷◌, ◌++◌, length, take, drop, slice_index, Option, Some, None}
+use Rattle.std.specs.List.{list_all}
+use Rattle.std.specs.Char.{is_ascii_digit, is_ascii_alphabetic}
+use Rattle.wi_lexer.specs.Runs.{IsRun, letters_len}
+use Rattle.wi_lexer.specs.declared.cell.CellText.{CellText}
+
+-- The parts of a cell as written: whether the column is absolute, its letters, whether the row is, its digits.
+pub record Cell : Type 0 where
+  pub column_fixed : Bool
+  pub letters : List ℕ
+  pub row_fixed : Bool
+  pub digits : List ℕ
+
+-- Some letters, and digits of which the first isn't 0.
+pub record IsCell (c : Cell) : Type 0 where
+  pub letters : IsRun is_ascii_alphabetic c.letters
+  pub digits : IsRun is_ascii_digit c.digits
+  pub first : 48 < slice_index c.digits 0
+
+-- a `$` where the part is absolute
+abbrev pub dollar : Bool → List ℕ
+dollar fixed = if fixed then 36 ∷ [] else []
+
+-- the text of a cell
+abbrev pub cell_text : Cell → List ℕ
+cell_text c = dollar c.column_fixed ++ (c.letters ++ (dollar c.row_fixed ++ c.digits))
+
+-- ---- where a reader finds it
+
+-- whether a `$` stands first
+abbrev pub begins_fixed : List ℕ → Bool
+begins_fixed bs = slice_index bs 0 == 36
+
+-- what follows it
+abbrev pub after_dollar : List ℕ → List ℕ
+after_dollar bs = if begins_fixed bs then drop 1 bs else bs
+
+-- the parts at whose ends the bytes would be cut
+abbrev pub cut_row : Bool → List ℕ → List ℕ → Cell
+cut_row fixed letters row = record { column_fixed = fixed; letters = letters; row_fixed = begins_fixed row; digits = after_dollar row }
+
+abbrev pub cut_column : Bool → List ℕ → Cell
+cut_column fixed bs = cut_row fixed (take (letters_len bs) bs) (drop (letters_len bs) bs)
+
+abbrev pub is_cell : Cell → Bool
+is_cell c = nat_lt 0 (length c.letters) && (nat_lt 48 (slice_index c.digits 0) && list_all is_ascii_digit c.digits)
+
+abbrev pub if_cell : Cell → Option Cell
+if_cell c = if is_cell c then Some c else None
+
+-- the cell that the bytes are the text of
+unfoldable pub cell_of : List ℕ → Option Cell
+cell_of bs = if_cell (cut_column (begins_fixed bs) (after_dollar bs))
+
+-- what a `CellText` stands for
+abbrev pub parts : CellText → Cell
+parts c = record { column_fixed = c.column_fixed; letters = c.letters.now; row_fixed = c.row_fixed; digits = c.digits.now }

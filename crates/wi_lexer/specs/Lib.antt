@@ -1,0 +1,9 @@
+pub mod Runs
+pub mod Number
+pub mod Cell
+pub mod Reference
+pub mod Mark
+pub mod Token
+pub mod Inside
+pub mod Scan
+pub mod Tokens

@@ -1,0 +1,24 @@
+-- References as a formula writes them.
+use Rattle.std.specs.Prelude.{◌≡◌, ℕ, ◌+◌, ◌-◌, ◌<◌, Bool, ◌&&◌, ◌==◌, nat_lt, if◌then◌else◌, List, [], ◌∷◌, ◌++◌, length, take, drop, slice_index, Option, Some, None, is_some}
+use Rattle.wi_lexer.specs.Runs.{inside_len}
+use Rattle.wi_lexer.specs.Cell.{Cell, IsCell, cell_text, cell_of}
+
+-- The text is a reference: `[.CELL]`.
+pub data IsReference : List ℕ → Type 0 where
+  one_cell : (c : Cell) → IsCell c → IsReference (91 ∷ 46 ∷ cell_text c ++ 93 ∷ [])
+
+-- the bytes between `[.` and `]`
+abbrev pub inside : List ℕ → List ℕ
+inside text = take (length text - 3) (drop 2 text)
+
+-- whether the text begins with `[.` and ends with `]`
+abbrev pub is_bracketed : List ℕ → Bool
+is_bracketed text = nat_lt 2 (length text) && (slice_index text 0 == 91 && (slice_index text 1 == 46 && slice_index text (length text - 1) == 93))
+
+-- the cell of a reference `[.CELL]`
+unfoldable pub reference_of : List ℕ → Option Cell
+reference_of text = if is_bracketed text then cell_of (inside text) else None
+
+-- the length of the reference at the front, or 0 where none stands there; it ends with the first `]`
+unfoldable pub reference_len : List ℕ → ℕ
+reference_len bs = if (nat_lt (inside_len bs) (length bs) && is_some (reference_of (take (inside_len bs + 1) bs))) then inside_len bs + 1 else 0

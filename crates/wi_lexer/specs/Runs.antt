@@ -1,0 +1,30 @@
+-- Runs of bytes of one class.
+use Rattle.std.specs.Prelude.{◌≡◌, ℕ, ◌<◌, Bool, true, false, ◌||◌, ◌==◌, if◌then◌else◌, List, length}
+use Rattle.std.specs.List.{list_all, prefix_len}
+use Rattle.std.specs.Char.{is_ascii_digit, is_ascii_alphabetic}
+
+-- white space: space, tab, CR or LF
+abbrev pub is_blank : ℕ → Bool
+is_blank b = b == 32 || b == 9 || b == 13 || b == 10
+
+-- any byte but `]`
+abbrev pub is_inside : ℕ → Bool
+is_inside b = if b == 93 then false else true
+
+-- some bytes, each of the class
+pub record IsRun (class : ℕ → Bool) (text : List ℕ) : Type 0 where
+  pub some : 0 < length text
+  pub all : list_all class text ≡ true
+
+-- how many bytes of the class stand at the front
+abbrev pub blanks_len : List ℕ → ℕ
+blanks_len bs = prefix_len is_blank bs
+
+abbrev pub digits_len : List ℕ → ℕ
+digits_len bs = prefix_len is_ascii_digit bs
+
+abbrev pub letters_len : List ℕ → ℕ
+letters_len bs = prefix_len is_ascii_alphabetic bs
+
+abbrev pub inside_len : List ℕ → ℕ
+inside_len bs = prefix_len is_inside bs

@@ -1,0 +1,51 @@
+//! The tokens of a text, one after another.
+
+ghost use Rattle.std.specs.Prelude.{◌≡◌};
+ghost use Rattle.wi_lexer.specs.Scan.{Gives, start_of};
+
+use crate::token::Kind;
+use std::marker::Model;
+use thiserror::Error;
+
+/// A token, the place in the source where it begins, counted in bytes, and its text.
+#[derive(Clone, Copy, Debug)]
+pub struct Token<'a> {
+    pub kind: Kind,
+    pub start: usize,
+    pub text: &'a str,
+}
+
+/// No token begins at this place of the text.
+#[derive(Clone, Copy, Debug, PartialEq, Eq, Error)]
+#[error("no token begins here")]
+pub struct BadToken;
+
+/// A reader of the tokens of a text, in time that grows with the text's length.
+#[derive(Drop)]
+pub struct Lexer<'a> {
+    source: &'a str,
+    rest: &'a str,
+}
+
+impl<'a> Model for Lexer<'a> {
+    ghost use Rattle.wi_lexer.specs.Inside.{Scan};
+
+    ghost Value = { Scan };
+
+    ghost use Rattle.wi_lexer.specs.Inside.{scan_of, IsSuffix};
+
+    ghost view = { scan_of };
+
+    ghost invariant = { IsSuffix };
+}
+
+impl<'a> Lexer<'a> {
+    pub fn new(source: &'a str) -> Lexer<'a>
+        ensures { result ≡ start_of source.now }
+    {
+        Lexer {
+            source,
+            rest: source,
+        }
+    }
+}

@@ -1,0 +1,1 @@
+// Where the parts of tokens end.

@@ -1,0 +1,42 @@
+//! What a token is.
+
+ghost use Rattle.std.specs.Prelude.{◌≡◌, length};
+ghost use Rattle.wi_lexer.specs.Mark.{mark_text};
+
+/// The kinds of tokens.
+#[derive(Clone, Copy, Debug, PartialEq, Eq)]
+pub enum Kind {
+    /// Digits, optionally a point and digits; or a point and digits.
+    Number,
+    /// `[.CELL]`, whose cell is told by `cell::reference_of`.
+    Reference,
+    /// An operator, a parenthesis or a separator.
+    Mark(Mark),
+}
+
+/// The marks.
+#[derive(Clone, Copy, Debug, PartialEq, Eq)]
+pub enum Mark {
+    OpenParenthesis,
+    CloseParenthesis,
+    Plus,
+    Minus,
+    Asterisk,
+    Slash,
+}
+
+impl Mark {
+    /// The mark as a formula writes it.
+    pub fn text(self) -> &'static str
+        ensures { result.now ≡ mark_text self }
+    {
+        match self {
+            Mark::OpenParenthesis => "(",
+            Mark::CloseParenthesis => ")",
+            Mark::Plus => "+",
+            Mark::Minus => "-",
+            Mark::Asterisk => "*",
+            Mark::Slash => "/",
+        }
+    }
+}
