@@ -43,8 +43,11 @@ cut_row fixed letters row = record { column_fixed = fixed; letters = letters; ro
 abbrev pub cut_column : Bool → List ℕ → Cell
 cut_column fixed bs = cut_row fixed (take (letters_len bs) bs) (drop (letters_len bs) bs)
 
+abbrev pub is_row : List ℕ → Bool
+is_row digits = nat_lt 48 (slice_index digits 0) && list_all is_ascii_digit digits
+
 abbrev pub is_cell : Cell → Bool
-is_cell c = nat_lt 0 (length c.letters) && (nat_lt 48 (slice_index c.digits 0) && list_all is_ascii_digit c.digits)
+is_cell c = nat_lt 0 (length c.letters) && is_row c.digits
 
 abbrev pub if_cell : Cell → Option Cell
 if_cell c = if is_cell c then Some c else None

@@ -1,8 +1,12 @@
 //! The cells that references name.
 
 ghost use Rattle.std.specs.Prelude.{◌≡◌, option_map};
+ghost use Rattle.std.specs.List.{list_all};
+ghost use Rattle.std.specs.Char.{is_ascii_digit};
 ghost use Rattle.wi_lexer.specs.Cell as spec;
 ghost use Rattle.wi_lexer.specs.Reference as reference;
+
+use crate::scan::{byte, letters_len};
 
 /// A cell as a formula writes it: the letters of its column, of either case, and the digits of its row.
 #[derive(Clone, Copy, Debug)]
@@ -13,4 +17,66 @@ pub struct CellText<'a> {
     /// Whether a `$` stands before the digits.
     pub row_fixed: bool,
     pub digits: &'a [u8],
+}
+
+// Whether a `$` stands first, and what follows it.
+fn after_dollar(text: &[u8]) -> (bool, &[u8])
+    ensures fixed { result.0 ≡ spec.begins_fixed text.now }
+    ensures rest { result.1.now ≡ spec.after_dollar text.now }
+{
+    if byte(text, 0) == b'$' {
+        return (true, &text[1..]);
+    }
+    (false, text)
+}
+
+fn all_digits(text: &[u8]) -> bool
+    ensures { result ≡ list_all is_ascii_digit text.now }
+{
+    text.iter().all(|b| b.is_ascii_digit())
+}
+
+fn is_row(digits: &[u8]) -> bool
+    ensures { result ≡ spec.is_row digits.now }
+{
+    byte(digits, 0) > b'0' && all_digits(digits)
+}
+
+/// The parts of a cell, as `$A1`. None where the text is no cell.
+#[tactic(auto, unfolding(crate::specs::Cell::cell_of))]
+pub fn cell_of(text: &[u8]) -> Option<CellText<'_>>
+    ensures { option_map spec.parts result ≡ spec.cell_of text.now }
+{
+    let (column_fixed, column) = after_dollar(text);
+    let (letters, row) = column.split_at(letters_len(column));
+    let (row_fixed, digits) = after_dollar(row);
+    if letters.is_empty() {
+        return None;
+    }
+    if !is_row(digits) {
+        return None;
+    }
+    Some(CellText {
+        column_fixed,
+        letters,
+        row_fixed,
+        digits,
+    })
+}
+
+fn is_bracketed(text: &[u8]) -> bool
+    ensures { result ≡ reference.is_bracketed text.now }
+{
+    text.len() > 2 && text[0] == b'[' && text[1] == b'.' && text[text.len() - 1] == b']'
+}
+
+/// The cell of a reference, as `[.$A1]`. None where the text is no reference.
+#[tactic(auto, unfolding(crate::specs::Reference::reference_of))]
+pub fn reference_of(text: &[u8]) -> Option<CellText<'_>>
+    ensures { option_map spec.parts result ≡ reference.reference_of text.now }
+{
+    if !is_bracketed(text) {
+        return None;
+    }
+    cell_of(&text[2..text.len() - 1])
 }

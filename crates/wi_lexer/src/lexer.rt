@@ -3,6 +3,7 @@
 ghost use Rattle.std.specs.Prelude.{◌≡◌};
 ghost use Rattle.wi_lexer.specs.Scan.{Gives, start_of};
 
+use crate::scan::{blanks_len, token_at};
 use crate::token::Kind;
 use std::marker::Model;
 use thiserror::Error;
@@ -47,5 +48,26 @@ impl<'a> Lexer<'a> {
             source,
             rest: source,
         }
+    }
+
+    /// The next token. None at the end, and from the first bad token on.
+    pub fn next_token(&mut self) -> Option<Result<Token<'a>, BadToken>>
+        ensures { Gives self.old result self.new }
+    {
+        let blanks = blanks_len(self.rest.as_bytes());
+        let (_blank, ahead) = self.rest.split_at(blanks);
+        let (_ahead, nothing) = ahead.split_at(ahead.len());
+        if ahead.is_empty() {
+            self.rest = nothing;
+            return None;
+        }
+        let Some((kind, len)) = token_at(ahead.as_bytes()) else {
+            self.rest = nothing;
+            return Some(Err(BadToken));
+        };
+        let (text, rest) = ahead.split_at(len);
+        let start = self.source.len() - ahead.len();
+        self.rest = rest;
+        Some(Ok(Token { kind, start, text }))
     }
 }

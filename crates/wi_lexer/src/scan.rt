@@ -1,1 +1,140 @@
 // Where the parts of tokens end.
+
+ghost use Rattle.std.specs.Prelude.{◌≡◌, ℕ, length, slice_index, ◌<◌, ◌≤◌};
+ghost use Rattle.wi_lexer.specs.Runs as runs;
+ghost use Rattle.wi_lexer.specs.Number as number;
+ghost use Rattle.wi_lexer.specs.Reference as reference;
+ghost use Rattle.wi_lexer.specs.Mark as mark;
+ghost use Rattle.wi_lexer.specs.Token as spec;
+
+use crate::cell::reference_of;
+use crate::token::{Kind, Mark};
+
+fn is_blank(b: u8) -> bool
+    ensures { result ≡ runs.is_blank b }
+{
+    b == b' ' || b == b'\t' || b == b'\r' || b == b'\n'
+}
+
+#[tactic(auto, using(crate::proofs::RunLemmas::run_within))]
+pub fn blanks_len(text: &[u8]) -> usize
+    ensures value { result ≡ runs.blanks_len text.now }
+    ensures within { result ≤ length text.now }
+{
+    text.iter().take_while(|b| is_blank(**b)).count()
+}
+
+#[tactic(auto, using(crate::proofs::RunLemmas::run_within))]
+pub fn digits_len(text: &[u8]) -> usize
+    ensures value { result ≡ runs.digits_len text.now }
+    ensures within { result ≤ length text.now }
+{
+    text.iter().take_while(|b| b.is_ascii_digit()).count()
+}
+
+#[tactic(auto, using(crate::proofs::RunLemmas::run_within))]
+pub fn letters_len(text: &[u8]) -> usize
+    ensures value { result ≡ runs.letters_len text.now }
+    ensures within { result ≤ length text.now }
+{
+    text.iter().take_while(|b| b.is_ascii_alphabetic()).count()
+}
+
+#[tactic(auto, using(crate::proofs::RunLemmas::run_within))]
+fn inside_len(text: &[u8]) -> usize
+    ensures value { result ≡ runs.inside_len text.now }
+    ensures within { result ≤ length text.now }
+{
+    text.iter().take_while(|b| **b != b']').count()
+}
+
+// The byte there, or 0 past the end.
+pub fn byte(text: &[u8], at: usize) -> u8
+    ensures value { result ≡ slice_index text.now at }
+    ensures within { 0 < result → at < length text.now }
+{
+    if at < text.len() { text[at] } else { 0 }
+}
+
+#[tactic(auto, unfolding(crate::specs::Number::decimals_len))]
+fn decimals_len(text: &[u8]) -> usize
+    ensures value { result ≡ number.decimals_len text.now }
+    ensures within { result ≤ length text.now }
+{
+    if byte(text, 0) != b'.' {
+        return 0;
+    }
+    let digits = digits_len(&text[1..]);
+    if digits == 0 {
+        return 0;
+    }
+    1 + digits
+}
+
+#[tactic(auto, unfolding(crate::specs::Number::number_len))]
+fn number_len(text: &[u8]) -> usize
+    ensures value { result ≡ number.number_len text.now }
+    ensures within { result ≤ length text.now }
+{
+    let digits = digits_len(text);
+    digits + decimals_len(&text[digits..])
+}
+
+#[tactic(auto, unfolding(crate::specs::Mark::mark_at))]
+fn mark_at(text: &[u8]) -> Option<Mark>
+    ensures { result ≡ mark.mark_at text.now }
+{
+    let first = byte(text, 0);
+    if first == b'(' {
+        return Some(Mark::OpenParenthesis);
+    }
+    if first == b')' {
+        return Some(Mark::CloseParenthesis);
+    }
+    if first == b'+' {
+        return Some(Mark::Plus);
+    }
+    if first == b'-' {
+        return Some(Mark::Minus);
+    }
+    if first == b'*' {
+        return Some(Mark::Asterisk);
+    }
+    if first == b'/' {
+        return Some(Mark::Slash);
+    }
+    None
+}
+
+#[tactic(auto, unfolding(crate::specs::Reference::reference_len))]
+fn reference_len(text: &[u8]) -> usize
+    ensures { result ≡ reference.reference_len text.now }
+{
+    let inside = inside_len(text);
+    if inside == text.len() {
+        return 0;
+    }
+    if reference_of(&text[..inside + 1]).is_none() {
+        return 0;
+    }
+    inside + 1
+}
+
+/// The longest token at the front, and its length.
+#[tactic(auto, unfolding(crate::specs::Token::token_at))]
+pub fn token_at(text: &[u8]) -> Option<(Kind, usize)>
+    ensures { result ≡ spec.token_at text.now }
+{
+    let number = number_len(text);
+    if number > 0 {
+        return Some((Kind::Number, number));
+    }
+    if let Some(mark) = mark_at(text) {
+        return Some((Kind::Mark(mark), mark.text().len()));
+    }
+    let reference = reference_len(text);
+    if reference > 0 {
+        return Some((Kind::Reference, reference));
+    }
+    None
+}
