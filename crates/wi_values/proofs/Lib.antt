@@ -1,2 +1,4 @@
+pub mod Corners
 pub mod Letters
+pub mod ReadsBack
 pub mod Spelling

@@ -1,4 +1,6 @@
 pub mod Address
 pub mod AddressReading
-pub mod Value
 pub mod Import
+pub mod Laws
+pub mod Same
+pub mod Value

@@ -2,6 +2,7 @@
 #![tactic(auto)]
 
 mod address;
+pub mod laws;
 mod rect;
 mod replacement;
 mod text;

@@ -1,6 +1,8 @@
 //! The text of a value.
 
 ghost use Rattle.std.specs.Prelude.{◌≡◌, IfOk, string_bytes};
+ghost use Rattle.std.specs.Str.{bytes_eq};
+ghost use Rattle.wi_values.specs.Same.{same_text_equiv, same_text_partial};
 
 use std::alloc::{AllocError, Global};
 use std::marker::Model;
@@ -50,4 +52,18 @@ impl Text {
     {
         Text::from_str(alloc, self.as_str())
     }
+}
+
+impl PartialEq for Text {
+    ghost eq = { bytes_eq };
+
+    ghost laws = { same_text_partial };
+
+    fn eq(&self, other: &Text) -> bool {
+        self.as_str() == other.as_str()
+    }
+}
+
+impl Eq for Text {
+    ghost laws = { same_text_equiv };
 }

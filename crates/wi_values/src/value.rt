@@ -45,7 +45,7 @@ impl ErrorKind {
 }
 
 /// A value.
-#[derive(Debug, Drop)]
+#[derive(PartialEq, Eq, Debug, Drop)]
 pub enum Value {
     Empty,
     Number(Fraction),

@@ -1,0 +1,12 @@
+-- Laws of the definitions.
+use Rattle.std.specs.Prelude.{◌≡◌, ℕ, ◌*◌, ◌<◌, Bool, true, ◌&&◌, Ok}
+use Rattle.wi_values.specs.Address.{columns, rows, address_text, rect_of, is_within}
+use Rattle.wi_values.specs.AddressReading.{read_address}
+
+-- the text of each cell's address reads back to that address
+abbrev pub AddressesReadBack : Type 0
+AddressesReadBack = (a : ℕ) → a < rows * columns → read_address (address_text a) ≡ Ok a
+
+-- a rectangle is the same whichever corner comes first, and its corners lie within it
+abbrev pub CornersMayTurn : Type 0
+CornersMayTurn = (a b : ℕ) → (rect_of a b ≡ rect_of b a) × (is_within (rect_of a b) a ≡ true)

@@ -1,0 +1,33 @@
+//! Laws of the definitions and of equality. The contract of each function is the law.
+
+ghost use Rattle.std.specs.Prelude.{◌≡◌, ◌↔◌, IsTrue};
+ghost use Rattle.wi_values.specs.Laws.{AddressesReadBack, CornersMayTurn};
+
+use crate::replacement::Replacement;
+use crate::value::Value;
+
+/// The text of each cell's address reads back to that address.
+#[tactic(auto, using(crate::proofs::ReadsBack::addresses_read_back))]
+pub fn addresses_read_back()
+    ensures { AddressesReadBack }
+{}
+
+/// The corners of a rectangle may stand in any order.
+#[tactic(auto, using(crate::proofs::Corners::corners_may_turn))]
+pub fn corners_may_turn()
+    ensures { CornersMayTurn }
+{}
+
+/// Values are equal exactly where they are one value.
+pub fn equal_values_are_one(a: &Value, b: &Value) -> bool
+    ensures { IsTrue result ↔ (a.now ≡ b.now) }
+{
+    *a == *b
+}
+
+/// Replacements are equal exactly where they are one replacement.
+pub fn equal_replacements_are_one(a: &Replacement, b: &Replacement) -> bool
+    ensures { IsTrue result ↔ (a.now ≡ b.now) }
+{
+    *a == *b
+}
