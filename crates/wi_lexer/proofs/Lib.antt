@@ -1,1 +1,6 @@
 pub mod RunLemmas
+pub mod NumberLemmas
+pub mod CellLemmas
+pub mod ReferenceLemmas
+pub mod MarkLemmas
+pub mod TokenLemmas

@@ -1,7 +1,51 @@
 -- Runs of bytes of one class.
-use Rattle.std.proofs.Common.{◌≡◌, ℕ, ◌≤◌, Bool, List, length}
-use Rattle.std.specs.List.{prefix_len}
+use Rattle.std.proofs.Common.{◌≡◌, ℕ, zero, suc, ◌+◌, ◌<◌, ◌≤◌, Bool, true, false, cond, ◌&&◌, ◌⊎◌, inl, inr, List, [], ◌∷◌, ◌++◌, length, take, drop, refl, sym, ap, ◌∙◌, subst, arith}
+use Rattle.std.proofs.lemmas.Bool.{cases_Bool}
+use Rattle.std.specs.List.{prefix_len, list_all}
 use Rattle.std.proofs.lemmas.List.Sums.{prefix_len-le-length}
+
+pub both_are_true : (a b : Bool) → (a && b) ≡ true → (a ≡ true) × (b ≡ true)
+both_are_true true b e = (refl, e)
+both_are_true false b e = cc
 
 pub run_within : (class : ℕ → Bool) (bs : List ℕ) → prefix_len class bs ≤ length bs
 run_within class bs = prefix_len-le-length class bs
+
+-- no run begins with a byte of another class
+pub run_stops : (class : ℕ → Bool) (b : ℕ) (bs : List ℕ) → class b ≡ false → prefix_len class (b ∷ bs) ≡ 0
+run_stops class b bs e = ap (λ t. cond t (1 + prefix_len class bs) 0) e
+
+-- bytes of the class lengthen the run that follows them
+pub run_more : (class : ℕ → Bool) (xs bs : List ℕ) → list_all class xs ≡ true → prefix_len class (xs ++ bs) ≡ length xs + prefix_len class bs
+run_more class [] bs e = omega arith
+run_more class (x ∷ xs) bs e =
+    let p = both_are_true (class x) (list_all class xs) e in
+    let more = run_more class xs bs p.1 in
+    omega (arith, more, ap (λ t. cond t (1 + prefix_len class (xs ++ bs)) 0) p.0)
+
+-- the bytes of a run are of the class
+pub run_all : (class : ℕ → Bool) (bs : List ℕ) → list_all class (take (prefix_len class bs) bs) ≡ true
+run_all class [] = refl
+run_all class (b ∷ bs) = go (run_all class bs) (cases_Bool (class b))
+  where
+    more : list_all class (take (prefix_len class bs) bs) ≡ true → class b ≡ true → list_all class (take (1 + prefix_len class bs) (b ∷ bs)) ≡ true
+    more ih e =
+        let next : 1 + prefix_len class bs ≡ suc (prefix_len class bs) = omega arith in
+        subst (λ n. list_all class (take n (b ∷ bs)) ≡ true) (sym next) (cc (e, ih))
+
+    go : list_all class (take (prefix_len class bs) bs) ≡ true → (class b ≡ true) ⊎ (class b ≡ false) → list_all class (take (prefix_len class (b ∷ bs)) (b ∷ bs)) ≡ true
+    go ih (inl e) = subst (λ t. list_all class (take (cond t (1 + prefix_len class bs) 0) (b ∷ bs)) ≡ true) (sym e) (more ih e)
+    go ih (inr e) = subst (λ t. list_all class (take (cond t (1 + prefix_len class bs) 0) (b ∷ bs)) ≡ true) (sym e) refl
+
+pub all_append : (class : ℕ → Bool) (xs ys : List ℕ) → list_all class xs ≡ true → list_all class ys ≡ true → list_all class (xs ++ ys) ≡ true
+all_append class [] ys h k = k
+all_append class (x ∷ xs) ys h k =
+    let p = both_are_true (class x) (list_all class xs) h in
+    cc (p.0, all_append class xs ys p.1 k)
+
+-- a run of a class is one of a wider class
+pub all_wider : (class wider : ℕ → Bool) → ((b : ℕ) → class b ≡ true → wider b ≡ true) → (xs : List ℕ) → list_all class xs ≡ true → list_all wider xs ≡ true
+all_wider class wider each [] h = refl
+all_wider class wider each (x ∷ xs) h =
+    let p = both_are_true (class x) (list_all class xs) h in
+    cc (each x p.0, all_wider class wider each xs p.1)

@@ -1,0 +1,112 @@
+-- The parts of a cell are found exactly where the bytes are the text of one.
+use Rattle.std.proofs.Common.{◌≡◌, ℕ, zero, suc, ◌+◌, ◌<◌, ◌≤◌, Bool, true, false, cond, ◌&&◌, ◌==◌, ◌⊎◌, inl, inr, List, [], ◌∷◌, ◌++◌, length, take, drop, Option, Some, None, refl, sym, ap, ◌∙◌, subst, arith, append_assoc, length-append}
+use Rattle.std.specs.Prelude.{nat_lt, slice_index}
+use Rattle.std.proofs.lemmas.Bool.{cases_Bool, eqb-true, ltb-true, lt-ltb, true≢false}
+use Rattle.std.proofs.lemmas.Bool.Decides.{nat_tests}
+use Rattle.std.proofs.lemmas.List.{take-append-drop}
+use Rattle.std.proofs.Math.Seq.{drop-append_seam, take-append_seam}
+use Rattle.std.specs.List.{prefix_len, list_all}
+use Rattle.std.specs.Char.{is_ascii_digit, is_ascii_alphabetic}
+use Rattle.wi_lexer.specs.Runs.{IsRun, letters_len}
+use Rattle.wi_lexer.specs.Cell.{Cell, IsCell, dollar, cell_text, begins_fixed, after_dollar, cut_row, cut_column, is_row, is_cell, if_cell, cell_of}
+use Rattle.wi_lexer.proofs.RunLemmas.{both_are_true, run_within, run_stops, run_more, run_all}
+
+-- the text before and after a `$` that may stand first
+dollar_back : (bs : List ℕ) → dollar (begins_fixed bs) ++ after_dollar bs ≡ bs
+dollar_back [] = refl
+dollar_back (b ∷ bs) = go (b == 36) refl
+  where
+    go : (t : Bool) → (b == 36) ≡ t → dollar t ++ cond t bs (b ∷ bs) ≡ b ∷ bs
+    go true e = ap (λ x. x ∷ bs) (sym (eqb-true b 36 e))
+    go false e = refl
+
+if_cell_is : (d c : Cell) → if_cell d ≡ Some c → (is_cell d ≡ true) × (d ≡ c)
+if_cell_is d c = go (is_cell d)
+  where
+    go : (t : Bool) → cond t (Some d) None ≡ Some c → (t ≡ true) × (d ≡ c)
+    go true e = (refl, cc)
+    go false e = cc
+
+some_digit : (ds : List ℕ) → 48 < slice_index ds 0 → 0 < length ds
+some_digit [] h = absurd (omega arith)
+some_digit (d ∷ ds) h = omega arith
+
+is_cell_tells : (c : Cell) → is_cell c ≡ true → list_all is_ascii_alphabetic c.letters ≡ true → IsCell c
+is_cell_tells c h all =
+    let p = both_are_true (nat_lt 0 (length c.letters)) (is_row c.digits) h in
+    let q = both_are_true (nat_lt 48 (slice_index c.digits 0)) (list_all is_ascii_digit c.digits) p.1 in
+    let first = ltb-true 48 (slice_index c.digits 0) q.0 in
+    record {
+      letters = record { some = ltb-true 0 (length c.letters) p.0; all = all };
+      digits = record { some = some_digit c.digits first; all = q.1 };
+      first = first;
+    }
+
+cut_back : (bs : List ℕ) → cell_text (cut_column (begins_fixed bs) (after_dollar bs)) ≡ bs
+cut_back bs =
+    let column = after_dollar bs in
+    let n = letters_len column in
+    ap (λ r. dollar (begins_fixed bs) ++ (take n column ++ r)) (dollar_back (drop n column))
+    ∙ ap (λ r. dollar (begins_fixed bs) ++ r) (take-append-drop n column)
+    ∙ dollar_back bs
+
+pub cell_sound : (bs : List ℕ) (c : Cell) → cell_of bs ≡ Some c → IsCell c × (cell_text c ≡ bs)
+unfolding cell_of
+cell_sound bs c h =
+    let d = cut_column (begins_fixed bs) (after_dollar bs) in
+    let p = if_cell_is d c h in
+    (subst IsCell p.1 (is_cell_tells d p.0 (run_all is_ascii_alphabetic (after_dollar bs))), ap cell_text (sym p.1) ∙ cut_back bs)
+
+-- ---- and every cell is found
+
+-- a `$` where the part is absolute is told apart from what doesn't begin with one
+dollar_found : (fixed : Bool) (xs : List ℕ) → begins_fixed xs ≡ false → (begins_fixed (dollar fixed ++ xs) ≡ fixed) × (after_dollar (dollar fixed ++ xs) ≡ xs)
+dollar_found true xs h = (refl, refl)
+dollar_found false xs h = (h, ap (λ t. cond t (drop 1 xs) xs) h)
+
+letter_no_dollar : (ls row : List ℕ) → IsRun is_ascii_alphabetic ls → begins_fixed (ls ++ row) ≡ false
+letter_no_dollar [] row run = absurd (omega (arith, run.some))
+letter_no_dollar (l ∷ ls) row run = let p = both_are_true (is_ascii_alphabetic l) (list_all is_ascii_alphabetic ls) run.all in grind (arith, nat_tests, p.0)
+
+digit_no_dollar : (ds : List ℕ) → IsRun is_ascii_digit ds → begins_fixed ds ≡ false
+digit_no_dollar [] run = refl
+digit_no_dollar (d ∷ ds) run = let p = both_are_true (is_ascii_digit d) (list_all is_ascii_digit ds) run.all in grind (arith, nat_tests, p.0)
+
+no_letter_first : (fixed : Bool) (ds : List ℕ) → IsRun is_ascii_digit ds → letters_len (dollar fixed ++ ds) ≡ 0
+no_letter_first true ds run = refl
+no_letter_first false [] run = refl
+no_letter_first false (d ∷ ds) run =
+    let p = both_are_true (is_ascii_digit d) (list_all is_ascii_digit ds) run.all in
+    let no : is_ascii_alphabetic d ≡ false = grind (arith, nat_tests, p.0) in
+    run_stops is_ascii_alphabetic d ds no
+
+abbrev cell : Bool → List ℕ → Bool → List ℕ → Cell
+cell f ls g ds = record { column_fixed = f; letters = ls; row_fixed = g; digits = ds }
+
+row_found : (f g : Bool) (ls ds : List ℕ) → begins_fixed ds ≡ false → cut_row f ls (dollar g ++ ds) ≡ cell f ls g ds
+row_found f g ls ds h =
+    let p = dollar_found g ds h in
+    ap (λ t. cell f ls t (after_dollar (dollar g ++ ds))) p.0 ∙ ap (λ r. cell f ls g r) p.1
+
+column_found : (f : Bool) (ls row : List ℕ) → list_all is_ascii_alphabetic ls ≡ true → letters_len row ≡ 0 → cut_column f (ls ++ row) ≡ cut_row f ls row
+column_found f ls row all stop =
+    let n : letters_len (ls ++ row) ≡ length ls = omega (arith, run_more is_ascii_alphabetic ls row all, stop) in
+    ap (λ i. cut_row f (take i (ls ++ row)) (drop i (ls ++ row))) n
+    ∙ ap (λ x. cut_row f x (drop (length ls) (ls ++ row))) (take-append_seam ls row)
+    ∙ ap (λ x. cut_row f ls x) (drop-append_seam ls row)
+
+is_cell_true : (c : Cell) → IsCell c → is_cell c ≡ true
+is_cell_true c h = cc (lt-ltb 0 (length c.letters) h.letters.some, lt-ltb 48 (slice_index c.digits 0) h.first, h.digits.all)
+
+pub cell_complete : (c : Cell) → IsCell c → cell_of (cell_text c) ≡ Some c
+unfolding cell_of
+cell_complete c h =
+    let row = dollar c.row_fixed ++ c.digits in
+    let column = c.letters ++ row in
+    let p = dollar_found c.column_fixed column (letter_no_dollar c.letters row h.letters) in
+    let whole : cut_column (begins_fixed (cell_text c)) (after_dollar (cell_text c)) ≡ c =
+        ap (λ t. cut_column t (after_dollar (cell_text c))) p.0
+        ∙ ap (λ x. cut_column c.column_fixed x) p.1
+        ∙ column_found c.column_fixed c.letters row h.letters.all (no_letter_first c.row_fixed c.digits h.digits)
+        ∙ row_found c.column_fixed c.row_fixed c.letters c.digits (digit_no_dollar c.digits h.digits) in
+    ap if_cell whole ∙ ap (λ t. cond t (Some c) None) (is_cell_true c h)

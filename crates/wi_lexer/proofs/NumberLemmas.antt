@@ -1,0 +1,93 @@
+-- The number found at the front is one, and no number there is longer.
+use Rattle.std.proofs.Common.{◌≡◌, ℕ, zero, suc, ◌+◌, ◌<◌, ◌≤◌, Bool, true, false, cond, ◌&&◌, ◌==◌, ◌⊎◌, inl, inr, List, [], ◌∷◌, ◌++◌, length, take, drop, refl, sym, ap, ◌∙◌, subst, arith, append_assoc, length-append, length-drop}
+use Rattle.std.specs.Prelude.{nat_lt, slice_index}
+use Rattle.std.proofs.lemmas.Bool.{cases_Bool, eqb-true, ltb-true, lt-ltb}
+use Rattle.std.proofs.lemmas.List.{take-append-drop, length-take-le}
+use Rattle.std.proofs.Math.Seq.{drop-append_seam, take-append-add}
+use Rattle.std.specs.List.{prefix_len, list_all}
+use Rattle.std.specs.Char.{is_ascii_digit}
+use Rattle.wi_lexer.specs.Runs.{IsRun, digits_len}
+use Rattle.wi_lexer.specs.Number.{IsNumber, whole, decimal, decimals_len, number_len}
+use Rattle.wi_lexer.proofs.RunLemmas.{run_within, run_more, run_all}
+
+-- a point and digits stand at the front
+pub record HasDecimals (bs : List ℕ) : Type 0 where
+  pub tail : List ℕ
+  pub is : bs ≡ 46 ∷ tail
+  pub some : 0 < digits_len tail
+  pub len : decimals_len bs ≡ 1 + digits_len tail
+
+abbrev tested : (point digit : Bool) → ℕ → ℕ
+tested point digit n = cond (point && digit) (1 + n) 0
+
+by_tests : (b : ℕ) (tail : List ℕ) (p d : Bool) → (b == 46) ≡ p → nat_lt 0 (digits_len tail) ≡ d → decimals_len (b ∷ tail) ≡ tested p d (digits_len tail) → (decimals_len (b ∷ tail) ≡ 0) ⊎ HasDecimals (b ∷ tail)
+by_tests b tail false d e f h = inl h
+by_tests b tail true false e f h = inl h
+by_tests b tail true true e f h = inr record { tail = tail; is = ap (λ x. x ∷ tail) (eqb-true b 46 e); some = ltb-true 0 (digits_len tail) f; len = h }
+
+pub decimals_cases : (bs : List ℕ) → (decimals_len bs ≡ 0) ⊎ HasDecimals bs
+unfolding decimals_len
+decimals_cases [] = inl refl
+decimals_cases (b ∷ tail) = by_tests b tail _ _ refl refl refl
+
+pub decimals_found : (tail : List ℕ) → 0 < digits_len tail → decimals_len (46 ∷ tail) ≡ 1 + digits_len tail
+unfolding decimals_len
+decimals_found tail some = ap (λ t. cond t (1 + digits_len tail) 0) (lt-ltb 0 (digits_len tail) some)
+
+-- a number at the front is no longer than what is found there
+pub number_more : (text : List ℕ) → IsNumber text → (rest : List ℕ) → length text ≤ number_len (text ++ rest)
+unfolding number_len
+number_more text (whole ds run) rest = omega (arith, run_more is_ascii_digit ds rest run.all)
+number_more text (decimal ds es all run) rest =
+    let front : (ds ++ 46 ∷ es) ++ rest ≡ ds ++ 46 ∷ (es ++ rest) = append_assoc ds (46 ∷ es) rest in
+    let n = run_more is_ascii_digit ds (46 ∷ (es ++ rest)) all in
+    let m = run_more is_ascii_digit es rest run.all in
+    let size = length-append ds (46 ∷ es) in
+    let digits : digits_len (ds ++ 46 ∷ (es ++ rest)) ≡ length ds = omega (arith, n) in
+    let after : drop (digits_len (ds ++ 46 ∷ (es ++ rest))) (ds ++ 46 ∷ (es ++ rest)) ≡ 46 ∷ (es ++ rest) = ap (λ i. drop i (ds ++ 46 ∷ (es ++ rest))) digits ∙ drop-append_seam ds (46 ∷ (es ++ rest)) in
+    let found = decimals_found (es ++ rest) (omega (arith, m, run.some)) in
+    subst (λ t. length (ds ++ 46 ∷ es) ≤ digits_len t + decimals_len (drop (digits_len t) t)) (sym front)
+    (omega (arith, size, digits, m, ap decimals_len after ∙ found))
+
+pub number_within : (bs : List ℕ) → number_len bs ≤ length bs
+unfolding number_len
+number_within bs = go (decimals_cases (drop (digits_len bs) bs))
+  where
+    go : (decimals_len (drop (digits_len bs) bs) ≡ 0) ⊎ HasDecimals (drop (digits_len bs) bs) → digits_len bs + decimals_len (drop (digits_len bs) bs) ≤ length bs
+    go (inl e) = omega (arith, e, run_within is_ascii_digit bs)
+    go (inr d) = omega (arith, d.len, run_within is_ascii_digit bs, run_within is_ascii_digit d.tail, ap length d.is, length-drop (digits_len bs) bs)
+
+whole_front : (bs : List ℕ) → 0 < digits_len bs → IsNumber (take (digits_len bs) bs)
+whole_front bs some =
+    whole (take (digits_len bs) bs) record {
+      some = omega (arith, length-take-le (digits_len bs) bs (run_within is_ascii_digit bs), some);
+      all = run_all is_ascii_digit bs;
+    }
+
+decimal_front : (ds tail : List ℕ) → list_all is_ascii_digit ds ≡ true → 0 < digits_len tail → IsNumber (take (length ds + (1 + digits_len tail)) (ds ++ 46 ∷ tail))
+decimal_front ds tail all some =
+    let m = digits_len tail in
+    let next : 1 + m ≡ suc m = omega arith in
+    let front : take (length ds + (1 + m)) (ds ++ 46 ∷ tail) ≡ ds ++ 46 ∷ take m tail =
+        take-append-add ds (46 ∷ tail) (1 + m) ∙ ap (λ i. ds ++ take i (46 ∷ tail)) next in
+    let es : IsRun is_ascii_digit (take m tail) = record {
+      some = omega (arith, length-take-le m tail (run_within is_ascii_digit tail), some);
+      all = run_all is_ascii_digit tail;
+    } in
+    subst IsNumber (sym front) (decimal ds (take m tail) all es)
+
+pub number_sound : (bs : List ℕ) → 0 < number_len bs → IsNumber (take (number_len bs) bs)
+unfolding number_len
+number_sound bs h = go (decimals_cases (drop (digits_len bs) bs))
+  where
+    go : (decimals_len (drop (digits_len bs) bs) ≡ 0) ⊎ HasDecimals (drop (digits_len bs) bs) → IsNumber (take (digits_len bs + decimals_len (drop (digits_len bs) bs)) bs)
+    go (inl e) =
+        let n : digits_len bs ≡ digits_len bs + decimals_len (drop (digits_len bs) bs) = omega (arith, e) in
+        subst (λ i. IsNumber (take i bs)) n (whole_front bs (omega (arith, n, h)))
+    go (inr d) =
+        let ds = take (digits_len bs) bs in
+        let size : length ds ≡ digits_len bs = length-take-le (digits_len bs) bs (run_within is_ascii_digit bs) in
+        let back : ds ++ 46 ∷ d.tail ≡ bs = ap (λ r. ds ++ r) (sym d.is) ∙ take-append-drop (digits_len bs) bs in
+        let n : length ds + (1 + digits_len d.tail) ≡ digits_len bs + decimals_len (drop (digits_len bs) bs) = omega (arith, size, d.len) in
+        let found = decimal_front ds d.tail (run_all is_ascii_digit bs) d.some in
+        subst (λ i. IsNumber (take i bs)) n (subst (λ t. IsNumber (take (length ds + (1 + digits_len d.tail)) t)) back found)
