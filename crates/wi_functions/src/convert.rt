@@ -1,0 +1,55 @@
+//! Values taken for numbers (OpenFormula 6.3.5).
+
+ghost use Rattle.std.specs.Prelude.{◌≡◌};
+ghost use Rattle.wi_functions.specs.Convert.{to_number, zero_number, one_number};
+ghost use Rattle.wi_functions.specs.Meaning.{zero_for_empty};
+
+use wi_fraction::Fraction;
+use wi_values::{ErrorKind, Value};
+
+/// The number 0.
+pub fn zero() -> Fraction
+    ensures { result ≡ zero_number }
+{
+    match Fraction::new(0, 1) {
+        Ok(x) => x,
+        Err(_) => unreachable!(),
+    }
+}
+
+/// The number 1.
+pub fn one() -> Fraction
+    ensures { result ≡ one_number }
+{
+    match Fraction::new(1, 1) {
+        Ok(x) => x,
+        Err(_) => unreachable!(),
+    }
+}
+
+/// A value taken for a number.
+pub fn to_number(value: &Value) -> Result<Fraction, ErrorKind>
+    ensures { result ≡ to_number value.now }
+{
+    match value {
+        Value::Empty => Ok(zero()),
+        Value::Number(x) => Ok(*x),
+        Value::Text(_) => Err(ErrorKind::BadValue),
+        Value::Logical(true) => Ok(one()),
+        Value::Logical(false) => Ok(zero()),
+        Value::Fault(e) => Err(*e),
+    }
+}
+
+/// A formula's result, in which Empty becomes 0.
+pub fn zero_for_empty(value: Value) -> Value
+    ensures { result ≡ zero_for_empty value }
+{
+    match value {
+        Value::Empty => Value::Number(zero()),
+        Value::Number(x) => Value::Number(x),
+        Value::Text(t) => Value::Text(t),
+        Value::Logical(b) => Value::Logical(b),
+        Value::Fault(e) => Value::Fault(e),
+    }
+}

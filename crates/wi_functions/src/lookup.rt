@@ -1,0 +1,34 @@
+//! What an evaluation asks.
+
+ghost use Rattle.std.specs.Prelude.{◌≡◌, ℕ, List, map, Option};
+ghost use Rattle.wi_values.specs.declared.value.Value.{Value as Values};
+ghost use Rattle.wi_parser.specs.View.{pair_of};
+ghost use Rattle.wi_functions.specs.Meaning.{addresses};
+ghost use Rattle.wi_functions.specs.Answers.{answered};
+
+use wi_parser::Pair;
+use wi_values::{Address, Value};
+
+/// What is known of a cell or of a what-if.
+#[derive(Clone, Copy, Debug)]
+pub enum Answer<'a> {
+    Known(&'a Value),
+    Missing,
+}
+
+/// Whatever knows some of the values of cells and what-ifs. Whether a reference is absolute makes no difference.
+pub trait Lookup {
+    /// The value of each cell that is known.
+    ghost known_cell: { Self → ℕ → Option Values };
+
+    /// The value of each what-if that is known.
+    ghost known_what_if: { Self → ℕ → List (ℕ × ℕ) → Option Values };
+
+    /// The value of a cell.
+    fn cell(&self, at: Address) -> Answer<'_>
+        ensures { answered result ≡ known_cell self.now at };
+
+    /// The value of a cell if the inputs had the values of other cells.
+    fn what_if(&self, formula_cell: Address, pairs: &[Pair]) -> Answer<'_>
+        ensures { answered result ≡ known_what_if self.now formula_cell (map addresses (map pair_of pairs.now)) };
+}
