@@ -5,3 +5,5 @@ pub mod Meanings
 pub mod Bounds
 pub mod Steps
 pub mod Graphs
+pub mod Numbers
+pub mod Rows

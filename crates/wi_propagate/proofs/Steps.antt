@@ -12,6 +12,7 @@ use Rattle.wi_parser.specs.Reads.{content_reads}
 use Rattle.wi_propagate.specs.Circular.{has_walk, circular}
 use Rattle.wi_functions.specs.Meaning.{meaning, zero_for_empty}
 use Rattle.wi_propagate.specs.CellValue.{value_of, replacements, value_within, cell_value, what_if_value}
+use Rattle.wi_propagate.specs.Shown.{shown}
 use Rattle.wi_propagate.proofs.Walks.{step, circular_walks, walks_circular, formula_cell, reader_formula}
 use Rattle.wi_propagate.proofs.Meanings.{meaning_same, replacements_same}
 use Rattle.wi_propagate.proofs.Bounds.{put_walk, put_formulas, bound_not_felt, bound_same, what_if_within, formula_within, tree_reads, read_walk, put_no_walk, circular_value, plain_value}
@@ -84,3 +85,11 @@ value_plain s c h p = plain_value (length (formula_cells s)) s c p ∙ ap (λ (b
 pub value_circular : (s : Sheet) (c : ℕ) → circular s c ≡ true → cell_value s c ≡ Fault Circular
 unfolding cell_value
 value_circular s c h = circular_value (length (formula_cells s)) s c h
+
+pub shown_open : (s : Sheet) (p : List Replacement) (c : ℕ) → circular s c ≡ false → shown s p c ≡ cell_value (put_all s p) c
+unfolding shown
+shown_open s p c h = ap (λ (b : Bool). cond b (Fault Circular) (cell_value (put_all s p) c)) h
+
+pub shown_circular : (s : Sheet) (p : List Replacement) (c : ℕ) → circular s c ≡ true → shown s p c ≡ Fault Circular
+unfolding shown
+shown_circular s p c h = ap (λ (b : Bool). cond b (Fault Circular) (cell_value (put_all s p) c)) h

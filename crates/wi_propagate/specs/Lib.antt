@@ -1,3 +1,4 @@
 pub mod Circular
 pub mod CellValue
 pub mod Shown
+pub mod Laws

@@ -2,5 +2,6 @@
 #![tactic(auto)]
 
 mod calculator;
+pub mod laws;
 
 pub use calculator::Calculator;
