@@ -4,3 +4,5 @@ pub mod CellLemmas
 pub mod ReferenceLemmas
 pub mod MarkLemmas
 pub mod TokenLemmas
+pub mod CutLemmas
+pub mod ScanLemmas

@@ -1,0 +1,88 @@
+-- A text may be cut after white space and after a token.
+use Rattle.std.proofs.Common.{◌≡◌, ℕ, zero, suc, ◌+◌, ◌-◌, ◌<◌, ◌≤◌, Bool, true, List, [], ◌∷◌, ◌++◌, length, take, get_or, IsUtf8, sym, ap, ◌∙◌, subst, arith, length-append}
+use Rattle.std.specs.Str.{IsCharBoundary}
+use Rattle.std.specs.List.{list_all, prefix_len}
+use Rattle.std.specs.Char.{is_ascii_digit}
+use Rattle.std.proofs.lemmas.Str.{IsCharBoundary-start, IsCharBoundary-after_ascii}
+use Rattle.std.proofs.lemmas.Bool.Decides.{nat_tests}
+use Rattle.std.proofs.lemmas.List.{get_or-append-add, get_or-take, get_or_push, length-take-le}
+use Rattle.std.proofs.lemmas.List.Sums.{AllPass-from_list_all, prefix_len_passes}
+use Rattle.wi_lexer.specs.declared.token.Kind.{Kind}
+use Rattle.wi_lexer.specs.declared.token.Kind.TheVariants.{Number, Reference, Mark}
+use Rattle.wi_lexer.specs.declared.token.Mark as mark
+use Rattle.wi_lexer.specs.declared.token.Mark.TheVariants.{OpenParenthesis, CloseParenthesis, Plus, Minus, Asterisk, Slash}
+use Rattle.wi_lexer.specs.Runs.{IsRun, is_blank, blanks_len}
+use Rattle.wi_lexer.specs.Number.{IsNumber, whole, decimal}
+use Rattle.wi_lexer.specs.Cell.{cell_text}
+use Rattle.wi_lexer.specs.Reference.{IsReference, one_cell}
+use Rattle.wi_lexer.specs.Mark.{mark_text}
+use Rattle.wi_lexer.specs.Token.{IsToken, IsLongest}
+use Rattle.wi_lexer.proofs.RunLemmas.{run_within}
+
+after_ascii : (bs : List ℕ) (n : ℕ) → IsUtf8 bs → n ≤ length bs → (0 < n → get_or bs (n - 1) 0 < 128) → IsCharBoundary bs n
+after_ascii bs zero utf8 within h = IsCharBoundary-start bs utf8
+after_ascii bs (suc n) utf8 within h =
+    let same : suc n - 1 ≡ n = omega arith in
+    let next : n + 1 ≡ suc n = omega arith in
+    let byte = h (omega arith) in
+    subst (IsCharBoundary bs) next (IsCharBoundary-after_ascii bs n utf8 (omega arith) (omega (arith, byte, ap (λ i. get_or bs i 0) same)))
+
+blank_ascii : (b : ℕ) → is_blank b ≡ true → b < 128
+blank_ascii b h = grind (arith, nat_tests)
+
+pub blanks_cut : (bs : List ℕ) → IsUtf8 bs → IsCharBoundary bs (blanks_len bs)
+blanks_cut bs utf8 =
+    after_ascii bs (blanks_len bs) utf8 (run_within is_blank bs)
+    (λ some. blank_ascii (get_or bs (blanks_len bs - 1) 0) (prefix_len_passes is_blank bs (blanks_len bs - 1) 0 (omega arith)))
+
+-- the last byte, or 0 where there is none
+abbrev last : List ℕ → ℕ
+last text = get_or text (length text - 1) 0
+
+digit_ascii : (b : ℕ) → is_ascii_digit b ≡ true → b < 128
+digit_ascii b h = grind (arith, nat_tests)
+
+digits_last : (ds : List ℕ) → IsRun is_ascii_digit ds → last ds < 128
+digits_last ds run = digit_ascii (last ds) (AllPass-from_list_all is_ascii_digit ds run.all (length ds - 1) 0 (omega (arith, run.some)))
+
+last_append : (xs ys : List ℕ) → 0 < length ys → last (xs ++ ys) ≡ last ys
+last_append xs ys some =
+    let place : length (xs ++ ys) - 1 ≡ length xs + (length ys - 1) = omega (arith, length-append xs ys) in
+    ap (λ i. get_or (xs ++ ys) i 0) place ∙ get_or-append-add xs ys (length ys - 1) 0
+
+number_last : (text : List ℕ) → IsNumber text → last text < 128
+number_last text (whole ds run) = digits_last ds run
+number_last text (decimal ds es all run) =
+    let a = last_append ds (46 ∷ es) (omega arith) in
+    let b = last_append (46 ∷ []) es run.some in
+    omega (arith, a, b, digits_last es run)
+
+reference_last : (text : List ℕ) → IsReference text → last text < 128
+reference_last text (one_cell c h) =
+    let a = last_append (91 ∷ 46 ∷ cell_text c) (93 ∷ []) (omega arith) in
+    omega (arith, a)
+
+mark_last : (m : mark.Mark) → last (mark_text m) < 128
+mark_last OpenParenthesis = omega arith
+mark_last CloseParenthesis = omega arith
+mark_last Plus = omega arith
+mark_last Minus = omega arith
+mark_last Asterisk = omega arith
+mark_last Slash = omega arith
+
+-- a token ends with an ASCII byte
+token_last : (k : Kind) (text : List ℕ) → IsToken k text → last text < 128
+token_last Number text t = number_last text t
+token_last Reference text t = reference_last text t
+token_last (Mark m) text t = subst (λ x. last x < 128) (sym t) (mark_last m)
+
+pub token_cut : (bs : List ℕ) (k : Kind) (n : ℕ) → IsUtf8 bs → IsLongest k n bs → IsCharBoundary bs n
+token_cut bs k n utf8 h = after_ascii bs n utf8 h.within ends
+  where
+    ends : 0 < n → get_or bs (n - 1) 0 < 128
+    ends some =
+        let byte = token_last k (take n bs) h.token in
+        let size = length-take-le n bs h.within in
+        let place = ap (λ i. get_or (take n bs) (i - 1) 0) size in
+        let same = get_or-take n bs (n - 1) 0 (omega arith) in
+        omega (arith, byte, place, same)

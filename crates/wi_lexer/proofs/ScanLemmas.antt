@@ -1,0 +1,50 @@
+-- What a lexer cuts off is the next token, and the slice of the source at its span.
+use Rattle.std.proofs.Common.{Bool, false, ◌==◌, eq-eqb, ◌≡◌, ◌≢◌, ℕ, zero, suc, ◌+◌, ◌-◌, ◌<◌, ◌≤◌, List, [], ◌∷◌, ◌++◌, length, take, drop, Option, Some, None, refl, sym, ap, ◌∙◌, subst, arith, length-drop}
+use Rattle.std.proofs.lemmas.List.{take-append-drop, drop-drop}
+use Rattle.std.proofs.lemmas.Bool.{true≢false}
+use Rattle.wi_lexer.specs.declared.token.Kind.{Kind}
+use Rattle.wi_lexer.specs.Runs.{blanks_len}
+use Rattle.wi_lexer.specs.Token.{IsLongest, NoToken, after_blanks, token_at}
+use Rattle.wi_lexer.specs.Inside.{Scan}
+use Rattle.wi_lexer.specs.Scan.{ahead, IsDone}
+use Rattle.wi_lexer.proofs.TokenLemmas.{token_sound, none_begins}
+
+abbrev scan : List ℕ → List ℕ → Scan
+scan source rest = record { source = source; rest = rest }
+
+-- what is left after white space was cut off
+pub ahead_is : (old : Scan) (source rest bytes a : List ℕ) (n : ℕ) → scan source rest ≡ old → bytes ≡ rest → n ≡ blanks_len bytes → a ≡ drop n rest → a ≡ ahead old
+ahead_is old source rest bytes a n view same blanks cut =
+    cut ∙ ap (λ i. drop i rest) (blanks ∙ ap blanks_len same) ∙ ap ahead view
+
+pub longest_is : (old : Scan) (a bytes : List ℕ) (k : Kind) (n m : ℕ) → token_at bytes ≡ Some (k, n) → bytes ≡ a → a ≡ ahead old → m ≡ n → IsLongest k m (ahead old)
+longest_is old a bytes k n m found same here size =
+    subst (λ i. IsLongest k i (ahead old)) (sym size) (subst (IsLongest k n) here (subst (IsLongest k n) same (token_sound bytes k n found)))
+
+pub front_is : (old : Scan) (a text after : List ℕ) (n : ℕ) → a ≡ ahead old → text ≡ take n a → after ≡ drop n a → ahead old ≡ text ++ after
+front_is old a text after n here front back =
+    sym here ∙ sym (take-append-drop n a) ∙ ap (λ x. x ++ drop n a) (sym front) ∙ ap (λ x. text ++ x) (sym back)
+
+pub none_is : (old : Scan) (a bytes : List ℕ) → token_at bytes ≡ None → bytes ≡ a → a ≡ ahead old → NoToken (ahead old)
+none_is old a bytes none same here = subst NoToken here (subst NoToken same (none_begins bytes none))
+
+pub no_bytes : (a : List ℕ) → length a ≡ 0 → a ≡ []
+no_bytes [] h = refl
+no_bytes (x ∷ xs) h = absurd (omega arith)
+
+-- the end of the source that is n bytes shorter
+pub tail_is : (source rest a : List ℕ) (n : ℕ) → length rest ≤ length source → drop (length source - length rest) source ≡ rest → a ≡ drop n rest → n ≤ length rest → drop (length source - length a) source ≡ a
+tail_is source rest a n short is cut within =
+    let size : length a ≡ length rest - n = ap length cut ∙ length-drop n rest in
+    let place : length source - length a ≡ length source - length rest + n = omega (arith, size) in
+    ap (λ i. drop i source) place ∙ sym (drop-drop n (length source - length rest) source) ∙ ap (λ x. drop n x) is ∙ sym cut
+
+pub some_bytes : (old : Scan) (a : List ℕ) (t : Bool) → t ≡ (length a == 0) → t ≡ false → a ≡ ahead old → ahead old ≢ []
+some_bytes old a t test is here empty = true≢false (sym (eq-eqb (length a) 0 (ap length (here ∙ empty))) ∙ sym test ∙ is)
+
+pub span_is : (old : Scan) (source a : List ℕ) → length a ≤ length source → a ≡ ahead old → source ≡ old.source → length source - length a + length (ahead old) ≡ length old.source
+span_is old source a short here same = omega (arith, ap length here, ap length same)
+
+pub slice_is : (old : Scan) (source a text : List ℕ) (start n : ℕ) → drop start source ≡ a → source ≡ old.source → text ≡ take n a → length text ≡ n → take (length text) (drop start old.source) ≡ text
+slice_is old source a text start n tail same front size =
+    ap (λ s. take (length text) (drop start s)) (sym same) ∙ ap (λ x. take (length text) x) tail ∙ ap (λ i. take i a) size ∙ sym front
