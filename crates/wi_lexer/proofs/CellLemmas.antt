@@ -105,8 +105,8 @@ cell_complete c h =
     let column = c.letters ++ row in
     let p = dollar_found c.column_fixed column (letter_no_dollar c.letters row h.letters) in
     let whole : cut_column (begins_fixed (cell_text c)) (after_dollar (cell_text c)) ≡ c =
-        ap (λ t. cut_column t (after_dollar (cell_text c))) p.0
-        ∙ ap (λ x. cut_column c.column_fixed x) p.1
-        ∙ column_found c.column_fixed c.letters row h.letters.all (no_letter_first c.row_fixed c.digits h.digits)
-        ∙ row_found c.column_fixed c.row_fixed c.letters c.digits (digit_no_dollar c.digits h.digits) in
+    ap (λ t. cut_column t (after_dollar (cell_text c))) p.0
+    ∙ ap (λ x. cut_column c.column_fixed x) p.1
+    ∙ column_found c.column_fixed c.letters row h.letters.all (no_letter_first c.row_fixed c.digits h.digits)
+    ∙ row_found c.column_fixed c.row_fixed c.letters c.digits (digit_no_dollar c.digits h.digits) in
     ap if_cell whole ∙ ap (λ t. cond t (Some c) None) (is_cell_true c h)

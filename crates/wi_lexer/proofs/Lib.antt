@@ -6,3 +6,4 @@ pub mod MarkLemmas
 pub mod TokenLemmas
 pub mod CutLemmas
 pub mod ScanLemmas
+pub mod CallerLemmas

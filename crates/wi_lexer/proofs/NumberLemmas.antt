@@ -69,7 +69,7 @@ decimal_front ds tail all some =
     let m = digits_len tail in
     let next : 1 + m ≡ suc m = omega arith in
     let front : take (length ds + (1 + m)) (ds ++ 46 ∷ tail) ≡ ds ++ 46 ∷ take m tail =
-        take-append-add ds (46 ∷ tail) (1 + m) ∙ ap (λ i. ds ++ take i (46 ∷ tail)) next in
+    take-append-add ds (46 ∷ tail) (1 + m) ∙ ap (λ i. ds ++ take i (46 ∷ tail)) next in
     let es : IsRun is_ascii_digit (take m tail) = record {
       some = omega (arith, length-take-le m tail (run_within is_ascii_digit tail), some);
       all = run_all is_ascii_digit tail;

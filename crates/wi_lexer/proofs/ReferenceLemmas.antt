@@ -57,9 +57,9 @@ bracketed_back (a ∷ b ∷ xs) h =
     let last : get_or xs (length xs - 1) 0 ≡ 93 = ap (λ i. get_or text i 0) (sym place) ∙ eqb-true (slice_index text (length text - 1)) 93 r.1 in
     let size : length text - 3 ≡ length xs - 1 = omega (arith, long) in
     let tail : inside text ++ 93 ∷ [] ≡ xs =
-        ap (λ i. take i xs ++ 93 ∷ []) size
-        ∙ ap (λ x. take (length xs - 1) xs ++ x ∷ []) (sym last)
-        ∙ last_apart xs (omega (arith, long)) in
+    ap (λ i. take i xs ++ 93 ∷ []) size
+    ∙ ap (λ x. take (length xs - 1) xs ++ x ∷ []) (sym last)
+    ∙ last_apart xs (omega (arith, long)) in
     cc (tail, eqb-true a 91 q.0, eqb-true b 46 r.0)
 
 pub reference_of_sound : (text : List ℕ) (c : Cell) → reference_of text ≡ Some c → IsCell c × (bracketed (cell_text c) ≡ text)
@@ -125,8 +125,8 @@ reference_complete c h rest =
     let end : inside_len bs + 1 ≡ length text = omega (arith, place, size) in
     let short : nat_lt (inside_len bs) (length bs) ≡ true = lt-ltb (inside_len bs) (length bs) (omega (arith, end, length-append text rest)) in
     let found : is_some (reference_of (take (inside_len bs + 1) bs)) ≡ true =
-        ap (λ i. is_some (reference_of (take i bs))) end
-        ∙ ap (λ t. is_some (reference_of t)) (take-append_seam text rest)
-        ∙ ap is_some (reference_of_complete c h) in
+    ap (λ i. is_some (reference_of (take i bs))) end
+    ∙ ap (λ t. is_some (reference_of t)) (take-append_seam text rest)
+    ∙ ap is_some (reference_of_complete c h) in
     let both : (nat_lt (inside_len bs) (length bs) && is_some (reference_of (take (inside_len bs + 1) bs))) ≡ true = cc (short, found) in
     ap (λ t. cond t (inside_len bs + 1) 0) both ∙ end

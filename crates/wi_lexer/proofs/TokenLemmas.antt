@@ -51,6 +51,23 @@ number_some : (text : List ℕ) → IsNumber text → 0 < length text
 number_some text (whole ds run) = run.some
 number_some text (decimal ds es all run) = omega (arith, length-append ds (46 ∷ es))
 
+mark_some : (m : mark.Mark) → 0 < length (mark_text m)
+mark_some OpenParenthesis = omega arith
+mark_some CloseParenthesis = omega arith
+mark_some Plus = omega arith
+mark_some Minus = omega arith
+mark_some Asterisk = omega arith
+mark_some Slash = omega arith
+
+reference_some : (text : List ℕ) → IsReference text → 0 < length text
+reference_some text (one_cell c h) = omega arith
+
+-- no token is empty
+pub token_some : (k : Kind) (text : List ℕ) → IsToken k text → 0 < length text
+token_some Number text t = number_some text t
+token_some Reference text t = reference_some text t
+token_some (Mark m) text t = subst (λ x. 0 < length x) (sym t) (mark_some m)
+
 covered_number : (text : List ℕ) → IsNumber text → (rest : List ℕ) → IsCovered Number text (text ++ rest)
 covered_number text t rest =
     let more = number_more text t rest in
@@ -155,3 +172,10 @@ token_complete bs k n h =
 
 pub none_begins : (bs : List ℕ) → token_at bs ≡ None → NoToken bs
 none_begins bs h j m t = let c = covered_front j m bs t in cc (sym c.found ∙ h)
+
+pub none_found : (bs : List ℕ) → NoToken bs → token_at bs ≡ None
+none_found bs none = go (token_at bs) refl
+  where
+    go : (o : Option (Kind × ℕ)) → token_at bs ≡ o → o ≡ None
+    go None e = refl
+    go (Some t) e = absurd (none t.0 t.1 ((found_stands bs t.0 t.1 e).token))

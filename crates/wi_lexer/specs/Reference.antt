@@ -3,9 +3,13 @@ use Rattle.std.specs.Prelude.{◌≡◌, ℕ, ◌+◌, ◌-◌, ◌<◌, Bool, �
 use Rattle.wi_lexer.specs.Runs.{inside_len}
 use Rattle.wi_lexer.specs.Cell.{Cell, IsCell, cell_text, cell_of}
 
--- The text is a reference: `[.CELL]`.
+-- the reference to a cell: `[.CELL]`
+abbrev pub reference_text : Cell → List ℕ
+reference_text c = 91 ∷ 46 ∷ cell_text c ++ 93 ∷ []
+
+-- The text is a reference.
 pub data IsReference : List ℕ → Type 0 where
-  one_cell : (c : Cell) → IsCell c → IsReference (91 ∷ 46 ∷ cell_text c ++ 93 ∷ [])
+  one_cell : (c : Cell) → IsCell c → IsReference (reference_text c)
 
 -- the bytes between `[.` and `]`
 abbrev pub inside : List ℕ → List ℕ

@@ -1,23 +1,42 @@
 //! Laws of the tokens alone.
 
 ghost use Rattle.std.specs.Prelude.{◌≡◌, ℕ, ◌≤◌, List, length, take, Some, None};
+ghost use Rattle.wi_lexer.specs.Cell.{Cell, IsCell, cell_text, cell_of};
+ghost use Rattle.wi_lexer.specs.Reference.{reference_text, reference_of};
 ghost use Rattle.wi_lexer.specs.Token.{token_at, IsLongest, NoToken};
 ghost use Rattle.wi_lexer.specs.declared.token.Kind.{Kind};
 
 /// What is found is the longest token.
 pub fn longest_is_found()
     ensures { (bs : List ℕ) (k : Kind) (n : ℕ) → token_at bs ≡ Some (k, n) → IsLongest k n bs }
-{
-}
+{}
 
 /// The longest token is found.
 pub fn longest_token()
     ensures { (bs : List ℕ) (k : Kind) (n : ℕ) → IsLongest k n bs → token_at bs ≡ Some (k, n) }
-{
-}
+{}
 
 /// Where nothing is found, no token begins.
 pub fn no_token()
     ensures { (bs : List ℕ) → token_at bs ≡ None → NoToken bs }
-{
-}
+{}
+
+/// What a cell is cut into is a cell of that text.
+pub fn cell_found()
+    ensures { (bs : List ℕ) (c : Cell) → cell_of bs ≡ Some c → IsCell c × (cell_text c ≡ bs) }
+{}
+
+/// Each cell is found in its text.
+pub fn cell_spelled()
+    ensures { (c : Cell) → IsCell c → cell_of (cell_text c) ≡ Some c }
+{}
+
+/// What the cell of a reference is found in is the reference to it.
+pub fn reference_found()
+    ensures { (bs : List ℕ) (c : Cell) → reference_of bs ≡ Some c → IsCell c × (reference_text c ≡ bs) }
+{}
+
+/// Each reference is found in its text.
+pub fn reference_spelled()
+    ensures { (c : Cell) → IsCell c → reference_of (reference_text c) ≡ Some c }
+{}
