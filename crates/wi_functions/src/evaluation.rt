@@ -120,6 +120,9 @@ fn what_if_value<L: Lookup>(
 {
     match lookup.what_if(formula_cell.at, pairs) {
         Answer::Known(value) => Ok(value.copy(alloc)?),
-        Answer::Missing => Err(Stop::Needs(Want::WhatIf(formula_cell.at, Vec::from_slice(alloc, pairs)?))),
+        Answer::Missing => Err(Stop::Needs(Want::WhatIf(
+            formula_cell.at,
+            Vec::from_slice(alloc, pairs)?,
+        ))),
     }
 }

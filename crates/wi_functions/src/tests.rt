@@ -10,6 +10,7 @@ use wi_parser::{Expr, Formula, Operator, Pair, Reference};
 use wi_values::{Address, ErrorKind, Value};
 
 /// Knows the value of one cell, and each what-if of that cell.
+#[derive(Drop)]
 struct OneCell {
     at: Address,
     value: Value,
@@ -95,11 +96,9 @@ fn place_of(want: Want) -> (Address, usize) {
 }
 
 #[test]
-fn values_and_wants(rt: HostRuntime) -> Result<(), Fail> {
+fn values(rt: HostRuntime) -> Result<(), Fail> {
     let alloc = rt.alloc();
     let b1 = reference(0, 1).ok_or("no B1")?;
-    let c1 = reference(0, 2).ok_or("no C1")?;
-    let half = Fraction::new(1, 2)?;
     let known = OneCell {
         at: b1.at,
         value: Value::Number(Fraction::new(10, 1)?),
@@ -109,33 +108,52 @@ fn values_and_wants(rt: HostRuntime) -> Result<(), Fail> {
 
     // (B1) / 4 - 1/2
     let enclosed = Expr::Parenthesized(Box::new(alloc, Expr::Cell(b1))?);
-    let quotient = binary(alloc, Operator::Divide, enclosed, Expr::Number(Fraction::new(4, 1)?))?;
-    let formula = Formula::new(binary(alloc, Operator::Subtract, quotient, Expr::Number(half))?);
+    let four = Expr::Number(Fraction::new(4, 1)?);
+    let quotient = binary(alloc, Operator::Divide, enclosed, four)?;
+    let half = Expr::Number(Fraction::new(1, 2)?);
+    let formula = Formula::new(binary(alloc, Operator::Subtract, quotient, half)?);
     let outcome = evaluate(alloc, &formula, &known, &mut meter)?;
     assert_eq!(rt; number_of(outcome).ok_or("not done")?, Fraction::new(2, 1)?);
 
-    // 1/2 / what B1 is with C1's value in C1
-    let pairs = Vec::from_slice(alloc, &[Pair { input: c1, by: c1 }])?;
-    let what_if = Expr::WhatIf(b1, pairs);
-    let formula = Formula::new(binary(alloc, Operator::Divide, Expr::Number(half), what_if)?);
+    // 1 / what B1 is with B1's value in B1, which is empty here
+    let pairs = Vec::from_slice(alloc, &[Pair { input: b1, by: b1 }])?;
+    let one = Expr::Number(Fraction::new(1, 1)?);
+    let formula = Formula::new(binary(alloc, Operator::Divide, one, Expr::WhatIf(b1, pairs))?);
     let outcome = evaluate(alloc, &formula, &known, &mut meter)?;
-    assert_eq!(rt; fault_of(outcome).ok_or("not done")?, ErrorKind::DivisionByZero);
+    assert_eq!(rt;
+        fault_of(outcome).ok_or("not done")?,
+        ErrorKind::DivisionByZero
+    );
     assert_eq!(rt; meter.evaluations(), 2);
     assert_eq!(rt; meter.restarts(), 0);
+    Ok(())
+}
 
-    // B1 * C1, where C1 is missing
+#[test]
+fn wants(rt: HostRuntime) -> Result<(), Fail> {
+    let alloc = rt.alloc();
+    let b1 = reference(0, 1).ok_or("no B1")?;
+    let c1 = reference(0, 2).ok_or("no C1")?;
+    let known = OneCell {
+        at: b1.at,
+        value: Value::Empty,
+        replaced: Value::Empty,
+    };
+    let mut meter = Meter::new();
+
+    // B1 * C1
     let formula = Formula::new(binary(alloc, Operator::Multiply, Expr::Cell(b1), Expr::Cell(c1))?);
     let outcome = evaluate(alloc, &formula, &known, &mut meter)?;
     let (at, count) = place_of(want_of(outcome).ok_or("done")?);
     assert!(rt; at == c1.at && count == 0);
 
-    // what C1 is with B1's value in C1, which is missing
+    // what C1 is with B1's value in C1
     let pairs = Vec::from_slice(alloc, &[Pair { input: c1, by: b1 }])?;
     let formula = Formula::new(Expr::WhatIf(c1, pairs));
     let outcome = evaluate(alloc, &formula, &known, &mut meter)?;
     let (at, count) = place_of(want_of(outcome).ok_or("done")?);
     assert!(rt; at == c1.at && count == 1);
-    assert_eq!(rt; meter.evaluations(), 2);
+    assert_eq!(rt; meter.evaluations(), 0);
     assert_eq!(rt; meter.restarts(), 2);
     Ok(())
 }
@@ -155,6 +173,9 @@ fn a_long_sum(rt: HostRuntime) -> Result<(), Fail> {
     }
     let mut meter = Meter::new();
     let outcome = evaluate(alloc, &Formula::new(tree), &known, &mut meter)?;
-    assert_eq!(rt; number_of(outcome).ok_or("not done")?, Fraction::new(2001, 1)?);
+    assert_eq!(rt;
+        number_of(outcome).ok_or("not done")?,
+        Fraction::new(2001, 1)?
+    );
     Ok(())
 }
