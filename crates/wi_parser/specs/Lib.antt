@@ -2,3 +2,8 @@ pub mod Tree
 pub mod View
 pub mod Sheet
 pub mod Reads
+pub mod Lexeme
+pub mod Grammar
+pub mod Reading
+pub mod Spelling
+pub mod Nesting

@@ -3,8 +3,11 @@
 
 mod content;
 mod expr;
+mod fault;
 mod formula;
+pub mod laws;
 
 pub use content::Content;
 pub use expr::{Expr, Operator, Pair, Reference};
+pub use fault::ParseFault;
 pub use formula::Formula;
