@@ -1,10 +1,12 @@
 //! Why a text is no formula.
 
+ghost use Rattle.std.specs.Prelude.{◌≡◌};
+
 use std::alloc::{AllocError, AllocFailed};
 use thiserror::Error;
 
 /// Why a text is no formula, or no content of a cell.
-#[derive(Clone, Copy, PartialEq, Eq, Debug, Drop, Error)]
+#[derive(Clone, Copy, PartialEq, Eq, Debug, Error)]
 pub enum ParseFault {
     /// A formula of more than 4,096 bytes, or a text of more than 32,767.
     #[error("the text is too long")]

@@ -1,0 +1,133 @@
+-- What the reader finds is spelled so.
+use Rattle.std.proofs.Common.{◌≡◌, ℕ, zero, suc, Bool, true, false, cond, ◌==◌, List, [], ◌∷◌, ◌++◌, length, Option, Some, None, option_and_then, option_map, refl, sym, ap, ◌∙◌, subst, append_assoc, append-nil}
+use Rattle.std.proofs.lemmas.Bool.{eqb-true}
+use Rattle.wi_parser.specs.declared.expr.Operator.{Operator}
+use Rattle.wi_parser.specs.Tree.{Tree, number, cell, parenthesized, binary}
+use Rattle.wi_parser.specs.Lexeme.{Lexeme, numeral, reference, open_mark, close_mark, infix_mark, refused}
+use Rattle.wi_parser.specs.Grammar.{line_of, loosest, Spells, a_number, a_cell, in_marks, tighter, joined}
+use Rattle.wi_parser.specs.Reading.{Parse, Read, read_then, then_close, after_close, operator_at, atom, chain, chain_step, line, expression, if_last, whole}
+
+-- ---- what an outcome came from
+
+inside : {A : Type 0} (p q : A) → Some p ≡ Some q → p ≡ q
+inside p q h = cc
+
+abbrev some_pair : {A B : Type 0} → A → B → Option (A × B)
+some_pair a b = Some (a, b)
+
+pub parts : {A B : Type 0} (a c : A) (b d : B) → some_pair a b ≡ some_pair c d → (a ≡ c) × (b ≡ d)
+parts {A} {B} a c b d h =
+    let p : A × B = (a, b) in
+    let q : A × B = (c, d) in
+    let e : p ≡ q = inside p q h in
+    (ap (λ r. r.0) e, ap (λ r. r.1) e)
+
+then_ok : (f : Tree → Parse) (r : Read) (q : Tree × List Lexeme) → read_then f r ≡ Some q → (p : Tree × List Lexeme) × (r ≡ Some p) × (f p.0 p.1 ≡ Some q)
+then_ok f None q h = cc
+then_ok f (Some p) q h = (p, refl, h)
+
+close_is : (ts us : List Lexeme) → after_close ts ≡ Some us → ts ≡ close_mark ∷ us
+close_is [] us h = cc
+close_is (numeral x ∷ ts) us h = cc
+close_is (reference r ∷ ts) us h = cc
+close_is (open_mark ∷ ts) us h = cc
+close_is (close_mark ∷ ts) us h = cc
+close_is (infix_mark op ∷ ts) us h = cc
+close_is (refused e ∷ ts) us h = cc
+
+passed : {A : Type 0} (b : Bool) (x y : A) → cond b (Some x) None ≡ Some y → (b ≡ true) × (x ≡ y)
+passed true x y h = (refl, cc)
+passed false x y h = cc
+
+operator_is : (k : ℕ) (ts us : List Lexeme) (op : Operator) → operator_at k ts ≡ Some (op, us) → (line_of op ≡ k) × (ts ≡ infix_mark op ∷ us)
+operator_is k [] us op h = cc
+operator_is k (numeral x ∷ ts) us op h = cc
+operator_is k (reference r ∷ ts) us op h = cc
+operator_is k (open_mark ∷ ts) us op h = cc
+operator_is k (close_mark ∷ ts) us op h = cc
+operator_is k (infix_mark o ∷ ts) us op h =
+    let p = passed (line_of o == k) (o, ts) (op, us) h in
+    let same : o ≡ op = ap (λ q. q.0) p.1 in
+    let rest : ts ≡ us = ap (λ q. q.1) p.1 in
+    (sym (ap line_of same) ∙ eqb-true (line_of o) k p.0, cc)
+operator_is k (refused e ∷ ts) us op h = cc
+
+-- ---- each line
+
+-- what a parser finds is spelled by line k, and the rest follows
+abbrev pub Finds : ℕ → Parse → Type 0
+Finds k p = (ts : List Lexeme) (t : Tree) (rest : List Lexeme) → p ts ≡ Some (t, rest) → (us : List Lexeme) × Spells k t us × (ts ≡ us ++ rest)
+
+module _ (inner : Parse) (sound : Finds 2 inner) where
+  closed_sound : (t u : Tree) (ts rest : List Lexeme) (o : Option (List Lexeme)) → after_close ts ≡ o → then_close (parenthesized t) ts ≡ Some (u, rest) → (parenthesized t ≡ u) × (ts ≡ close_mark ∷ rest)
+  closed_sound t u ts rest None is e = cc
+  closed_sound t u ts rest (Some us) is e =
+      let both = parts (parenthesized t) u us rest (ap (option_map (λ l. (parenthesized t, l))) (sym is) ∙ e) in
+      (both.0, close_is ts us is ∙ ap (λ l. close_mark ∷ l) both.1)
+
+  atom_sound : Finds 0 (atom inner)
+  unfolding atom
+  atom_sound [] t rest h = cc
+  atom_sound (numeral x ∷ ts) t rest h =
+      let both = parts (number x) t ts rest h in
+      (numeral x ∷ [], subst (λ u. Spells 0 u (numeral x ∷ [])) both.0 (a_number x), ap (λ l. numeral x ∷ l) both.1)
+  atom_sound (reference r ∷ ts) t rest h =
+      let both = parts (cell r) t ts rest h in
+      (reference r ∷ [], subst (λ u. Spells 0 u (reference r ∷ [])) both.0 (a_cell r), ap (λ l. reference r ∷ l) both.1)
+  atom_sound (open_mark ∷ ts) t rest h =
+      let inside = then_ok (λ u. then_close (parenthesized u)) (inner ts) (t, rest) h in
+      let a = sound ts inside.0.0 inside.0.1 inside.1 in
+      let shut = closed_sound inside.0.0 t inside.0.1 rest (after_close inside.0.1) refl inside.2 in
+      (open_mark ∷ a.0 ++ close_mark ∷ [], subst (λ u. Spells 0 u (open_mark ∷ a.0 ++ close_mark ∷ [])) shut.0 (in_marks inside.0.0 a.0 a.1),
+        ap (λ l. open_mark ∷ l) (a.2 ∙ ap (λ l. a.0 ++ l) shut.1 ∙ sym (append_assoc a.0 (close_mark ∷ []) rest)))
+  atom_sound (close_mark ∷ ts) t rest h = cc
+  atom_sound (infix_mark op ∷ ts) t rest h = cc
+  atom_sound (refused e ∷ ts) t rest h = cc
+
+  chain_sound : (next : Parse) (k : ℕ) → Finds k next → (n : ℕ) (left : Tree) (ls ts : List Lexeme) (t : Tree) (rest : List Lexeme) → Spells (suc k) left ls → chain next (suc k) n left ts ≡ Some (t, rest)
+      → (us : List Lexeme) × Spells (suc k) t us × (ls ++ ts ≡ us ++ rest)
+  unfolding chain
+  chain_sound next k finds zero left ls ts t rest s h =
+      let both = parts left t ts rest h in
+      (ls, subst (λ u. Spells (suc k) u ls) both.0 s, ap (λ l. ls ++ l) both.1)
+  chain_sound next k finds (suc n) left ls ts t rest s h = at_operator (λ l us vs w e. chain_sound next k finds n l us vs t rest w e) (operator_at (suc k) ts) refl h
+    where
+      at_operator : ((l : Tree) (us vs : List Lexeme) → Spells (suc k) l us → chain next (suc k) n l vs ≡ Some (t, rest) → (ws : List Lexeme) × Spells (suc k) t ws × (us ++ vs ≡ ws ++ rest)) → (o : Option (Operator × List Lexeme)) → operator_at (suc k) ts ≡ o → chain_step next (chain next (suc k) n) left ts o ≡ Some (t, rest)
+          → (us : List Lexeme) × Spells (suc k) t us × (ls ++ ts ≡ us ++ rest)
+      at_operator again None is e =
+          let both = parts left t ts rest e in
+          (ls, subst (λ u. Spells (suc k) u ls) both.0 s, ap (λ l. ls ++ l) both.1)
+      at_operator again (Some p) is e =
+          let found = then_ok (λ r rest. chain next (suc k) n (binary p.0 left r) rest) (next p.1) (t, rest) e in
+          let a = finds p.1 found.0.0 found.0.1 found.1 in
+          let op = operator_is (suc k) ts p.1 p.0 is in
+          let b = again (binary p.0 left found.0.0) (ls ++ infix_mark p.0 ∷ a.0) found.0.1 (joined k p.0 left found.0.0 ls a.0 op.0 s a.1) found.2 in
+          (b.0, b.1, ap (λ l. ls ++ l) (op.1 ∙ ap (λ l. infix_mark p.0 ∷ l) a.2) ∙ sym (append_assoc ls (infix_mark p.0 ∷ a.0) found.0.1) ∙ b.2)
+
+  line_sound : (k : ℕ) → Finds k (line inner k)
+  unfolding line
+  line_sound zero ts t rest h = atom_sound ts t rest h
+  line_sound (suc k) ts t rest h =
+      let first = then_ok (λ t rest. chain (line inner k) (suc k) (length rest) t rest) (line inner k ts) (t, rest) h in
+      let a = line_sound k ts first.0.0 first.0.1 first.1 in
+      let b = chain_sound (line inner k) k (line_sound k) _ first.0.0 a.0 first.0.1 t rest (tighter k first.0.0 a.0 a.1) first.2 in
+      (b.0, b.1, a.2 ∙ b.2)
+
+expression_sound : (d : ℕ) → Finds 2 (expression d)
+unfolding expression
+expression_sound zero ts t rest h = cc
+expression_sound (suc d) ts t rest h = line_sound (expression d) (expression_sound d) 2 ts t rest h
+
+last_ok : (t u : Tree) (rest : List Lexeme) → if_last t rest ≡ Some u → (t ≡ u) × (rest ≡ [])
+last_ok t u [] h = (cc, refl)
+last_ok t u (x ∷ rest) h = cc
+
+some_first : (r : Read) (t : Tree) → option_and_then (λ p. if_last p.0 p.1) r ≡ Some t → r ≡ Some (t, [])
+some_first None t h = cc
+some_first (Some p) t h = let l = last_ok p.0 t p.1 h in ap (λ u. Some (u, p.1)) l.0 ∙ ap (λ r. Some (t, r)) l.1
+
+-- what the lexemes are read as is spelled by them
+pub whole_sound : (d : ℕ) (ts : List Lexeme) (t : Tree) → whole d ts ≡ Some t → Spells loosest t ts
+whole_sound d ts t h =
+    let a = expression_sound d ts t [] (some_first (expression d ts) t h) in
+    subst (λ l. Spells 2 t l) (sym (a.2 ∙ append-nil a.0)) a.1

@@ -1,0 +1,60 @@
+-- One turn of the reader's loop, and how many lexemes it takes.
+use Rattle.std.proofs.Common.{◌≡◌, ℕ, zero, suc, ◌+◌, ◌-◌, ◌<◌, ◌≤◌, cond, ◌==◌, true, false, Bool, List, [], ◌∷◌, ◌++◌, length, Option, Some, None, refl, sym, ap, ◌∙◌, arith}
+use Rattle.wi_parser.specs.declared.expr.Operator.{Operator}
+use Rattle.wi_parser.specs.Tree.{Tree, binary}
+use Rattle.wi_parser.specs.Lexeme.{Lexeme, numeral, reference, open_mark, close_mark, infix_mark, refused}
+use Rattle.wi_parser.specs.Grammar.{line_of}
+use Rattle.wi_parser.specs.Reading.{Parse, Read, read_then, after_close, operator_at, chain, chain_step, line}
+
+-- ---- a mark is one lexeme
+
+pub close-length : (ts us : List Lexeme) → after_close ts ≡ Some us → length ts ≡ length us + 1
+close-length [] us h = cc
+close-length (numeral x ∷ ts) us h = cc
+close-length (reference r ∷ ts) us h = cc
+close-length (open_mark ∷ ts) us h = cc
+close-length (close_mark ∷ ts) us h = let e : ts ≡ us = cc in omega (arith, ap length e)
+close-length (infix_mark op ∷ ts) us h = cc
+close-length (refused e ∷ ts) us h = cc
+
+chosen : {A : Type 0} (b : Bool) (x y : A) → cond b (Some x) None ≡ Some y → x ≡ y
+chosen true x y h = cc
+chosen false x y h = cc
+
+pub operator-length : (k : ℕ) (ts us : List Lexeme) (op : Operator) → operator_at k ts ≡ Some (op, us) → length ts ≡ length us + 1
+operator-length k [] us op h = cc
+operator-length k (numeral x ∷ ts) us op h = cc
+operator-length k (reference r ∷ ts) us op h = cc
+operator-length k (open_mark ∷ ts) us op h = cc
+operator-length k (close_mark ∷ ts) us op h = cc
+operator-length k (infix_mark o ∷ ts) us op h = omega (arith, ap (λ p. length p.1) (chosen _ _ _ h))
+operator-length k (refused e ∷ ts) us op h = cc
+
+-- ---- operators
+
+pub chain_stop : (next : Parse) (k n : ℕ) (left : Tree) (ts : List Lexeme) → operator_at k ts ≡ None → chain next k n left ts ≡ Some (left, ts)
+unfolding chain
+chain_stop next k zero left ts h = refl
+chain_stop next k (suc n) left ts h = ap (chain_step next (chain next k n) left ts) h
+
+pub chain_fail : (next : Parse) (k n : ℕ) (left : Tree) (ts us : List Lexeme) (op : Operator) → 0 < n → operator_at k ts ≡ Some (op, us) → next us ≡ None → chain next k n left ts ≡ None
+unfolding chain
+chain_fail next k zero left ts us op some h e = absurd (omega arith)
+chain_fail next k (suc n) left ts us op some h e =
+    ap (chain_step next (chain next k n) left ts) h ∙ ap (read_then (λ r rest. chain next k n (binary op left r) rest)) e
+
+pub chain_more : (next : Parse) (k n : ℕ) (left r : Tree) (ts us rest : List Lexeme) (op : Operator) → 0 < n → operator_at k ts ≡ Some (op, us) → next us ≡ Some (r, rest)
+    → chain next k n left ts ≡ chain next k (n - 1) (binary op left r) rest
+unfolding chain
+chain_more next k zero left r ts us rest op some h e = absurd (omega arith)
+chain_more next k (suc n) left r ts us rest op some h e =
+    let less : suc n - 1 ≡ n = omega arith in
+    ap (chain_step next (chain next k n) left ts) h ∙ ap (read_then (λ r rest. chain next k n (binary op left r) rest)) e
+    ∙ ap (λ m. chain next k m (binary op left r) rest) (sym less)
+
+pub line_more : (inner : Parse) (k : ℕ) (ts : List Lexeme) → 0 < k → line inner k ts ≡ read_then (λ t rest. chain (line inner (k - 1)) k (length rest) t rest) (line inner (k - 1) ts)
+unfolding line
+line_more inner zero ts h = absurd (omega arith)
+line_more inner (suc k) ts h =
+    let less : suc k - 1 ≡ k = omega arith in
+    ap (λ m. read_then (λ t rest. chain (line inner m) (suc k) (length rest) t rest) (line inner m ts)) (sym less)
