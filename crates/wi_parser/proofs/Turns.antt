@@ -4,6 +4,9 @@ use Rattle.wi_parser.specs.declared.expr.Operator.{Operator}
 use Rattle.wi_parser.specs.Tree.{Tree, binary}
 use Rattle.wi_parser.specs.Lexeme.{Lexeme, numeral, reference, open_mark, close_mark, infix_mark, refused}
 use Rattle.wi_parser.specs.Grammar.{line_of}
+use Rattle.wi_parser.specs.declared.fault.ParseFault.{ParseFault}
+use Rattle.wi_parser.specs.declared.fault.ParseFault.TheVariants.{TooLong, OutOfSheet, NumberRange, TooDeep, Syntax, Memory}
+use Rattle.wi_parser.specs.Outcome.{Fails}
 use Rattle.wi_parser.specs.Reading.{Parse, Read, read_then, after_close, operator_at, chain, chain_step, line}
 
 -- ---- a mark is one lexeme
@@ -58,3 +61,13 @@ line_more inner zero ts h = absurd (omega arith)
 line_more inner (suc k) ts h =
     let less : suc k - 1 ≡ k = omega arith in
     ap (λ m. read_then (λ t rest. chain (line inner m) (suc k) (length rest) t rest) (line inner m ts)) (sym less)
+
+-- ---- faults
+
+pub fails_as : {A B : Type 0} (e : ParseFault) (r : Option A) (s : Option B) → (r ≡ None → s ≡ None) → Fails e r → Fails e s
+fails_as TooLong r s f h = h
+fails_as OutOfSheet r s f h = h
+fails_as NumberRange r s f h = h
+fails_as TooDeep r s f h = h
+fails_as Syntax r s f h = f h
+fails_as Memory r s f h = tt

@@ -7,3 +7,6 @@ pub mod Grammar
 pub mod Reading
 pub mod Spelling
 pub mod Nesting
+pub mod Words
+pub mod Outcome
+pub mod Nests

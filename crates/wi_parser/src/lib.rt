@@ -5,7 +5,10 @@ mod content;
 mod expr;
 mod fault;
 mod formula;
+mod grammar;
 pub mod laws;
+mod word;
+mod words;
 
 pub use content::Content;
 pub use expr::{Expr, Operator, Pair, Reference};

@@ -1,0 +1,16 @@
+use Rattle.std.proofs.Common.{arith, ◌≡◌, ◌-◌, ℕ, suc, None, ap, sym, subst, refl}
+use Rattle.wi_parser.specs.Reading.{line, expression}
+use Rattle.wi_parser.specs.Outcome.{Finds}
+use Rattle.wi_parser.proofs.grammar.+expression.Goals as goal
+
+pub returns-then-depth-eq0-clause-finds : goal.returns-then-depth-eq0-clause-finds
+unfolding expression
+returns-then-depth-eq0-clause-finds t c =
+    let zeroth : c.args.depth ≡ 0 = omega arith in
+    ap (λ d. expression d c.args.words.now) zeroth
+
+pub returns-clause-finds : goal.returns-clause-finds
+unfolding expression
+returns-clause-finds t c =
+    let more : c.args.depth ≡ suc (c.args.depth - 1) = omega arith in
+    subst (λ d. Finds (expression d c.args.words.now) c.line.result c.line.new.words) (sym more) c.line.ensures.finds

@@ -1,0 +1,65 @@
+use Rattle.std.proofs.Common.{arith, ◌≡◌, ◌<◌, ◌≤◌, ◌-◌, ℕ, length, None, Some, ap, ◌∙◌, sym, subst}
+use Rattle.std.proofs.lemmas.Result.{err_from_is_err_and}
+use Rattle.wi_parser.specs.Reading.{read_then, line, chain, atom, expression}
+use Rattle.wi_parser.specs.Tree.{binary}
+use Rattle.wi_parser.specs.View.{tree_of}
+use Rattle.wi_parser.specs.Outcome.{Finds}
+use Rattle.wi_parser.proofs.Turns.{fails_as, line_more, chain_stop, chain_fail, chain_more, operator-length}
+use Rattle.wi_parser.proofs.grammar.Grammar.+line.Goals as goal
+
+pub returns-then-line-eq0-clause-finds : goal.returns-then-line-eq0-clause-finds
+unfolding line
+returns-then-line-eq0-clause-finds g t c =
+    let i = expression c.args.self.now.depth in
+    let zeroth : c.args.line ≡ 0 = omega arith in
+    subst (λ k. Finds (line i k c.args.words.now) c.atom.result c.atom.new.words) (sym zeroth) c.atom.ensures.finds
+
+pub returns-in_err-left-clause-finds : goal.returns-in_err-left-clause-finds
+returns-in_err-left-clause-finds g t c =
+    let i = expression c.args.self.now.depth in
+    let k = c.args.line in
+    let p = err_from_is_err_and c.from_residual.result c.from_residual.ensures.1 in
+    rw (p.1, p.2) (fails_as c.in_err-left.field-0.0 _ _
+    (λ none. line_more i k c.args.words.now (omega arith) ∙ ap (read_then (λ t rest. chain (line i (k - 1)) k (length rest) t rest)) none)
+    c.in_err-left.ensures.finds)
+
+pub loop-op-init : goal.loop-op-init
+loop-op-init g t c =
+    let i = expression c.args.self.now.depth in
+    let k = c.args.line in
+    let some : 0 < k = omega arith in
+    (length c.line.new.words, omega arith,
+      line_more i k c.args.words.now some ∙ ap (read_then (λ t rest. chain (line i (k - 1)) k (length rest) t rest)) c.in_ok-left.ensures.finds,
+      c.in_ok-left.ensures.shorter, some)
+
+pub returns-in_err-right-clause-finds : goal.returns-in_err-right-clause-finds
+returns-in_err-right-clause-finds g t c =
+    let i = expression c.args.self.now.depth in
+    let k = c.args.line in
+    let l = c.loop-op in
+    let taken = operator-length k l.words _ _ c.in-Some.ensures in
+    let p = err_from_is_err_and c.from_residual-in_err-right.result c.from_residual-in_err-right.ensures.1 in
+    rw (p.1, p.2) (fails_as c.in_err-right.field-0.0 _ _
+    (λ none. l.invariant.2 ∙ chain_fail (line i (k - 1)) k l.invariant.0 (tree_of l.left) l.words _ _ (omega arith) c.in-Some.ensures none)
+    c.in_err-right.ensures.finds)
+
+pub loop-op-preserved : goal.loop-op-preserved
+loop-op-preserved g t c =
+    let i = expression c.args.self.now.depth in
+    let k = c.args.line in
+    let l = c.loop-op in
+    let n = l.invariant.0 in
+    let taken = operator-length k l.words _ _ c.in-Some.ensures in
+    let short = c.in_ok-right.ensures.shorter in
+    let again = chain_more (line i (k - 1)) k n (tree_of l.left) (tree_of c.in_ok-right.right) l.words _ _ _ (omega arith) c.in-Some.ensures c.in_ok-right.ensures.finds in
+    (n - 1, omega arith,
+      l.invariant.2 ∙ again ∙ ap (λ u. chain (line i (k - 1)) k (n - 1) u c.line-in-Some.new.words) (sym c.in_ok-left-2.ensures),
+      omega arith, l.invariant.4)
+
+pub returns-clause-finds : goal.returns-clause-finds
+returns-clause-finds g t c =
+    let i = expression c.args.self.now.depth in
+    let k = c.args.line in
+    let l = c.loop-op in
+    l.invariant.2 ∙ chain_stop (line i (k - 1)) k l.invariant.0 (tree_of l.left) l.words c.in_default.ensures.0
+    ∙ ap (λ ws. Some (tree_of l.left, ws)) (sym c.in_default.ensures.1)

@@ -1,0 +1,48 @@
+use Rattle.std.proofs.Common.{◌≡◌, None, Some, option_map, ap, ◌∙◌, sym}
+use Rattle.std.proofs.lemmas.Result.{err_from_is_err_and}
+use Rattle.wi_parser.specs.Reading.{read_then, then_close, atom, expression}
+use Rattle.wi_parser.specs.Tree.{parenthesized}
+use Rattle.wi_parser.specs.View.{tree_of}
+use Rattle.wi_parser.proofs.Turns.{fails_as}
+use Rattle.wi_parser.proofs.grammar.Grammar.atom.Goals as goal
+
+pub returns-in_err-inner-in-Open-clause-finds : goal.returns-in_err-inner-in-Open-clause-finds
+unfolding atom
+returns-in_err-inner-in-Open-clause-finds g c =
+    let i = expression c.args.self.now.depth in
+    let is = rw c.in-Open.is at c.in-Some.ensures in
+    let p = err_from_is_err_and c.from_residual.result c.from_residual.ensures.1 in
+    rw (p.1, p.2) (fails_as c.in_err-inner-in-Open.field-0.0 _ _
+    (λ none. ap (atom i) is ∙ ap (read_then (λ t. then_close (parenthesized t))) none)
+    c.in_err-inner-in-Open.ensures.finds)
+
+pub returns-then-not-take_close-clause-finds : goal.returns-then-not-take_close-clause-finds
+unfolding atom
+returns-then-not-take_close-clause-finds g c =
+    let i = expression c.args.self.now.depth in
+    let is = rw c.in-Open.is at c.in-Some.ensures in
+    let inside = c.in_ok-inner-in-Open in
+    ap (atom i) is ∙ ap (read_then (λ t. then_close (parenthesized t))) inside.ensures.finds
+    ∙ ap (option_map (λ rest. (parenthesized (tree_of inside.inner), rest))) c.if-not-take_close.ensures.no.0
+
+pub returns-in-Number-clause-finds : goal.returns-in-Number-clause-finds
+unfolding atom
+returns-in-Number-clause-finds g c =
+    let is = rw c.in-Number.is at c.in-Some.ensures in
+    ap (atom (expression c.args.self.now.depth)) is ∙ ap (λ t. Some (t, c.next.new.self)) (sym c.number.ensures)
+
+pub returns-in-Cell-clause-finds : goal.returns-in-Cell-clause-finds
+unfolding atom
+returns-in-Cell-clause-finds g c =
+    let is = rw c.in-Cell.is at c.in-Some.ensures in
+    ap (atom (expression c.args.self.now.depth)) is ∙ ap (λ t. Some (t, c.next.new.self)) (sym c.cell.ensures)
+
+pub returns-in_ok-parenthesized-in-Open-clause-finds : goal.returns-in_ok-parenthesized-in-Open-clause-finds
+unfolding atom
+returns-in_ok-parenthesized-in-Open-clause-finds g c =
+    let i = expression c.args.self.now.depth in
+    let is = rw c.in-Open.is at c.in-Some.ensures in
+    let inside = c.in_ok-inner-in-Open in
+    ap (atom i) is ∙ ap (read_then (λ t. then_close (parenthesized t))) inside.ensures.finds
+    ∙ ap (option_map (λ rest. (parenthesized (tree_of inside.inner), rest))) c.if-not-take_close.ensures.yes
+    ∙ ap (λ t. Some (t, c.take_close.new.self)) (sym c.in_ok-parenthesized-in-Open.ensures)

@@ -1,0 +1,20 @@
+-- A function value that reads an expression to a depth.
+use Rattle.std.specs.Prelude.{◌<◌, ℕ, List, length, Result, OnOk}
+use Rattle.std.specs.declared.alloc.Global.{Global}
+use denote.Ref.{MutBor}
+use Rattle.wi_parser.specs.declared.expr.Expr.{Expr}
+use Rattle.wi_parser.specs.declared.fault.ParseFault.{ParseFault}
+use Rattle.wi_parser.specs.Lexeme.{Lexeme}
+use Rattle.wi_parser.specs.Reading.{expression}
+use Rattle.wi_parser.specs.Outcome.{Finds}
+
+pub record Nests (depth : ℕ) (pre : Global → MutBor (List Lexeme) → ℕ → Type 0)
+    (post : Global → MutBor (List Lexeme) → ℕ → Result Expr ParseFault → MutBor (List Lexeme) → Type 0) : Type 0 where
+  -- it may be called
+  pub callable : (alloc : Global) (old : MutBor (List Lexeme)) → pre alloc old depth
+  -- it finds what the definition does
+  pub reads : (alloc : Global) (old new : MutBor (List Lexeme)) (r : Result Expr ParseFault) → post alloc old depth r new
+      → Finds (expression depth old.now) r new.now
+  -- it leaves fewer words
+  pub shorter : (alloc : Global) (old new : MutBor (List Lexeme)) (r : Result Expr ParseFault) → post alloc old depth r new
+      → OnOk r (length new.now < length old.now)

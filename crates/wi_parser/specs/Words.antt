@@ -1,0 +1,16 @@
+-- What the code's words stand for.
+use Rattle.std.specs.Prelude.{List, map}
+use Rattle.wi_parser.specs.declared.word.Word.{Word}
+use Rattle.wi_parser.specs.declared.word.Word.TheVariants.{Number, Cell, Open, Close, Infix, Refused}
+use Rattle.wi_parser.specs.Lexeme.{Lexeme, numeral, reference, open_mark, close_mark, infix_mark, refused}
+
+abbrev pub meant_by : Word → Lexeme
+meant_by (Number x) = numeral x
+meant_by (Cell r) = reference r
+meant_by Open = open_mark
+meant_by Close = close_mark
+meant_by (Infix op) = infix_mark op
+meant_by (Refused e) = refused e
+
+abbrev pub all_meant : List Word → List Lexeme
+all_meant = map meant_by

@@ -1,0 +1,121 @@
+//! The lines of the grammar, each over the function that reads what stands in parentheses.
+
+ghost use Rattle.std.specs.Prelude.{◌≡◌, ◌<◌, ◌≤◌, length, OnOk, IfOk};
+ghost use Rattle.wi_parser.specs.Reading as reading;
+ghost use Rattle.wi_parser.specs.Outcome.{Finds};
+ghost use Rattle.wi_parser.specs.Nests.{Nests};
+ghost use Rattle.wi_parser.specs.View.{tree_of};
+ghost use Rattle.wi_parser.specs.Tree as tree;
+
+use crate::expr::{Expr, Operator, Reference};
+use crate::fault::ParseFault;
+use crate::word::Word;
+use crate::words::Words;
+use std::alloc::{AllocError, Global};
+use wi_fraction::Fraction;
+
+#[derive(Clone, Copy)]
+struct Grammar<F> {
+    alloc: Global,
+    /// How deep parentheses may still nest.
+    depth: usize,
+    expression: F,
+}
+
+impl<F: Fn(Global, &mut Words<'_>, usize) -> Result<Expr, ParseFault>> Grammar<F> {
+    // What stands in parentheses.
+    fn inner(&self, words: &mut Words<'_>) -> Result<Expr, ParseFault>
+        requires { Nests self.now.depth (F.pre self.now.expression) (F.post self.now.expression) }
+        ensures finds { Finds (reading.expression self.now.depth words.old) result words.new }
+        ensures shorter { OnOk result (length words.new < length words.old) }
+    {
+        (self.expression)(self.alloc, words, self.depth)
+    }
+
+    // A number, a cell, or an expression in parentheses.
+    #[tactic(auto, unfolding(crate::specs::Reading::atom))]
+    fn atom(&self, words: &mut Words<'_>) -> Result<Expr, ParseFault>
+        requires { Nests self.now.depth (F.pre self.now.expression) (F.post self.now.expression) }
+        ensures finds { Finds (reading.atom (reading.expression self.now.depth) words.old) result words.new }
+        ensures shorter { OnOk result (length words.new < length words.old) }
+    {
+        let Some(word) = words.next() else {
+            return Err(ParseFault::Syntax);
+        };
+        match word {
+            Word::Number(x) => Ok(number(x)),
+            Word::Cell(at) => Ok(cell(at)),
+            Word::Open => {
+                let inner = self.inner(words)?;
+                if !words.take_close() {
+                    return Err(ParseFault::Syntax);
+                }
+                Ok(parenthesized(self.alloc, inner)?)
+            }
+            Word::Close => Err(ParseFault::Syntax),
+            Word::Infix(_) => Err(ParseFault::Syntax),
+            Word::Refused(_) => Err(ParseFault::Syntax),
+        }
+    }
+
+    // One line of the grammar: 0 is an atom, 1 a product and 2 a sum.
+    fn line(&self, words: &mut Words<'_>, line: u8) -> Result<Expr, ParseFault>
+        requires { Nests self.now.depth (F.pre self.now.expression) (F.post self.now.expression) }
+        ensures finds { Finds (reading.line (reading.expression self.now.depth) line words.old) result words.new }
+        ensures shorter { OnOk result (length words.new < length words.old) }
+    {
+        if line == 0 {
+            return self.atom(words);
+        }
+        let mut left = self.line(words, line - 1)?;
+        while let Some(op) = words.take_operator(line) {
+            let right = self.line(words, line - 1)?;
+            left = binary(self.alloc, op, left, right)?;
+        }
+        Ok(left)
+    }
+}
+
+const LOOSEST: u8 = 2;
+
+/// An expression at the front of the words, whose parentheses nest less deep than the depth.
+pub fn expression(alloc: Global, words: &mut Words<'_>, depth: usize) -> Result<Expr, ParseFault>
+    ensures finds { Finds (reading.expression depth words.old) result words.new }
+    ensures shorter { OnOk result (length words.new < length words.old) }
+{
+    if depth == 0 {
+        return Err(ParseFault::Syntax);
+    }
+    Grammar {
+        alloc,
+        depth: depth - 1,
+        expression,
+    }
+    .line(words, LOOSEST)
+}
+
+fn number(x: Fraction) -> Expr
+    ensures { tree_of result ≡ tree.number x }
+{
+    Expr::Number(x)
+}
+
+fn cell(at: Reference) -> Expr
+    ensures { tree_of result ≡ tree.cell at }
+{
+    Expr::Cell(at)
+}
+
+fn parenthesized(alloc: Global, inner: Expr) -> Result<Expr, AllocError>
+    ensures { IfOk result (λ e. tree_of e ≡ tree.parenthesized (tree_of inner)) }
+{
+    Ok(Expr::Parenthesized(Box::new(alloc, inner)?))
+}
+
+fn binary(alloc: Global, op: Operator, left: Expr, right: Expr) -> Result<Expr, AllocError>
+    ensures { IfOk result (λ e. tree_of e ≡ tree.binary op (tree_of left) (tree_of right)) }
+{
+    let left = Box::new(alloc, left)?;
+    let right = Box::new(alloc, right)?;
+    Ok(Expr::Binary(op, left, right))
+}

@@ -1,0 +1,91 @@
+//! The words that are left to read.
+
+ghost use Rattle.std.specs.Prelude.{◌≡◌, [], ◌∷◌, Some, None, MatchOption, IsTrue, ◌↔◌};
+ghost use Rattle.std.specs.Bool.{OnTrue, OnFalse};
+ghost use Rattle.wi_parser.specs.Grammar as grammar;
+ghost use Rattle.wi_parser.specs.Reading.{after_close, operator_at};
+ghost use Rattle.wi_parser.specs.Words.{meant_by, all_meant};
+
+use crate::expr::Operator;
+use crate::word::Word;
+use std::marker::Model;
+
+/// The words that are left. A contract sees them as the list of what they mean.
+#[derive(Drop)]
+pub struct Words<'a> {
+    rest: &'a [Word],
+}
+
+impl<'a> Model for Words<'a> {
+    ghost use Rattle.std.specs.Prelude.{List};
+    ghost use Rattle.wi_parser.specs.Lexeme.{Lexeme};
+    ghost use Rattle.wi_parser.specs.Words.{all_meant};
+
+    ghost Value = { List Lexeme };
+
+    ghost view = { λ w. all_meant w.rest.now };
+}
+
+impl<'a> Words<'a> {
+    pub fn new(rest: &'a [Word]) -> Words<'a>
+        ensures { result ≡ all_meant rest.now }
+    {
+        Words { rest }
+    }
+
+    pub fn is_empty(&self) -> bool
+        ensures { IsTrue result ↔ (self.now ≡ []) }
+    {
+        self.rest.is_empty()
+    }
+
+    /// Takes the next word.
+    pub fn next(&mut self) -> Option<Word>
+        ensures { MatchOption result ((self.old ≡ []) × (self.new ≡ [])) (λ w. self.old ≡ meant_by w ∷ self.new) }
+    {
+        match self.rest {
+            [first, rest @ ..] => {
+                self.rest = rest;
+                Some(*first)
+            }
+            [] => None,
+        }
+    }
+
+    /// Takes the next word, if it is the parenthesis that closes.
+    pub fn take_close(&mut self) -> bool
+        ensures yes { OnTrue result (after_close self.old ≡ Some self.new) }
+        ensures no { OnFalse result ((after_close self.old ≡ None) × (self.new ≡ self.old)) }
+    {
+        match self.rest {
+            [Word::Close, rest @ ..] => {
+                self.rest = rest;
+                true
+            }
+            _ => false,
+        }
+    }
+
+    /// Takes the next word, if it is an operator of this line of the grammar.
+    pub fn take_operator(&mut self, line: u8) -> Option<Operator>
+        ensures { MatchOption result ((operator_at line self.old ≡ None) × (self.new ≡ self.old)) (λ op. operator_at line self.old ≡ Some (op, self.new)) }
+    {
+        match self.rest {
+            [Word::Infix(op), rest @ ..] if line_of(*op) == line => {
+                self.rest = rest;
+                Some(*op)
+            }
+            _ => None,
+        }
+    }
+}
+
+/// The line of the grammar that has the operator: 1 for a product, 2 for a sum.
+fn line_of(op: Operator) -> u8
+    ensures { result ≡ grammar.line_of op }
+{
+    match op {
+        Operator::Multiply | Operator::Divide => 1,
+        Operator::Add | Operator::Subtract => 2,
+    }
+}
