@@ -1,0 +1,314 @@
+-- A run of a script so far, and how it may end.
+use Rattle.std.proofs.Common.{◌≡◌, ℕ, ◌+◌, ◌<◌, ◌≤◌, Bool, true, false, ◌||◌, cond, eqb, ltb, List, [], ◌∷◌, ◌++◌, length, refl, sym, ap, ◌∙◌, subst, Option, None, Some, Result, Ok, Err, append_assoc, append-nil, length-append, arith}
+use Rattle.std.specs.List.{concat}
+use Rattle.std.specs.Option.{option_to_list}
+use Rattle.std.specs.Io.KnownBytes.{Appends, Keeps, Consumes, IsAtEnd, prepend_known}
+use Rattle.std.proofs.KnownBytes.{Appends-trans, Appends-nil}
+use Rattle.std.specs.Str.{is_utf8, chars}
+use Rattle.std.proofs.lemmas.List.{take_at}
+use Rattle.std.proofs.lemmas.Bool.{ltb-true, ltb-false}
+use Rattle.wi_cli.specs.declared.fault.RunFault.{RunFault}
+use Rattle.wi_cli.specs.declared.fault.RunFault.TheVariants.{Memory, Read, Write, ScriptLimit}
+use Rattle.wi_scenarios.specs.State.{State}
+use Rattle.base.specs.Step.{Command}
+use Rattle.wi_cli.specs.Ahead.{Takes}
+use Rattle.wi_cli.specs.Lines.{raw_lines, onto_first, without_lf, is_whole}
+use Rattle.wi_cli.specs.Script.{line_command, data_lines, commands, whole_lines, all_commands, complete_commands}
+use Rattle.wi_cli.specs.Reading.{raw, Broke}
+use Rattle.wi_cli.specs.Turn.{Turned, CutShort, Stopped}
+use Rattle.wi_cli.specs.Run.{Writes}
+use Rattle.wi_cli.specs.Outcome.{Outcome, WritesFront, limited}
+use Rattle.wi_cli.proofs.ReadingLemmas.{Takes-trans, is_whole-append}
+use Rattle.wi_cli.proofs.RunLemmas.{Writes-append, Writes-none}
+use Rattle.wi_cli.proofs.LineLemmas.{AreWhole, AreWhole-none, AreWhole-push, raw_lines-last, without_lf-raw}
+use Rattle.wi_cli.proofs.ScriptLemmas.{AreServed, AreServed-none, AreServed-push, commands-event}
+
+-- lines that all have their LF
+abbrev pub AllWhole : List (List ℕ) → Type 0
+AllWhole ls = (more : List (List ℕ)) → whole_lines (ls ++ more) ≡ ls ++ whole_lines more
+
+AllWhole-push : (ls : List (List ℕ)) (l : List ℕ) → is_whole l ≡ true → AllWhole ls → AllWhole (ls ++ l ∷ [])
+AllWhole-push ls l h k more =
+    ap whole_lines (append_assoc ls (l ∷ []) more) ∙ k (l ∷ more)
+    ∙ ap (λ b. ls ++ cond b (l ∷ whole_lines more) []) h ∙ sym (append_assoc ls (l ∷ []) (whole_lines more))
+
+concat_push : (ls : List (List ℕ)) (l : List ℕ) → concat (ls ++ l ∷ []) ≡ concat ls ++ l
+concat_push [] l = append-nil l
+concat_push (k ∷ ks) l = ap (λ x. k ++ x) (concat_push ks l) ∙ sym (append_assoc k (concat ks) l)
+
+whole_raw : (content : List ℕ) → is_whole (raw true content) ≡ true
+whole_raw content = is_whole-append content (10 ∷ []) ∙ go (is_whole content) where
+  go : (b : Bool) → (b || is_whole (10 ∷ [])) ≡ true
+  go true = refl
+  go false = refl
+
+-- the whole lines so far, and the replies to them
+pub record IsGoing (left : Option (List ℕ)) (buffer' : List ℕ) (left' : Option (List ℕ)) (s t : State) (given given' : Option (List ℕ)) (count : ℕ) : Type 0 where
+  pub lines : List (List ℕ)
+  pub served : List Command
+  pub out : List ℕ
+  pub are_lines : AreWhole lines
+  pub all_whole : AllWhole lines
+  pub are_served : AreServed lines served
+  pub counted : length lines ≡ count
+  pub taken : Takes [] left buffer' left' (concat lines)
+  pub written : Appends given given' out
+  pub writes : Writes s served out t
+
+Takes-none : (left : Option (List ℕ)) → Takes [] left [] left []
+Takes-none None = tt
+Takes-none (Some xs) = refl
+
+pub going_none : (left : Option (List ℕ)) (s : State) (given : Option (List ℕ)) → IsGoing left [] left s s given given 0
+going_none left s given = record {
+  lines = [];
+  served = [];
+  out = [];
+  are_lines = AreWhole-none;
+  all_whole = λ more. refl;
+  are_served = AreServed-none;
+  counted = refl;
+  taken = Takes-none left;
+  written = Appends-nil given;
+  writes = Writes-none s;
+}
+
+none_asked : (l : List ℕ) → length (let ds : List (List ℕ) = [] in ds) ≡ data_lines l
+unfolding data_lines
+none_asked l = refl
+
+pub going_on : (left : Option (List ℕ)) (b : List ℕ) (p : Option (List ℕ)) (c : List ℕ) (q : Option (List ℕ)) (s m t : State) (w x y : Option (List ℕ)) (count : ℕ) (allowed : Bool)
+    → IsGoing left b p s m w x count → Turned allowed true b p c q m t x y → IsGoing left c q s t w y (count + 1)
+going_on left b p c q s m t w x y count allowed h k =
+    let line = raw true k.content in
+    record {
+      lines = h.lines ++ line ∷ [];
+      served = h.served ++ option_to_list (line_command k.content [] true);
+      out = h.out ++ k.out;
+      are_lines = AreWhole-push h.lines k.content k.no_lf h.are_lines;
+      all_whole = AllWhole-push h.lines line (whole_raw k.content) h.all_whole;
+      are_served = subst (λ z. AreServed (h.lines ++ line ∷ []) (h.served ++ option_to_list (line_command z [] true))) (without_lf-raw true k.content k.no_lf)
+          (AreServed-push h.lines h.served line [] (none_asked line) h.are_served);
+      counted = length-append h.lines (line ∷ []) ∙ ap (λ n. n + 1) h.counted;
+      taken = subst (Takes [] left c q) (sym (concat_push h.lines line)) (Takes-trans [] left b p c q _ _ h.taken k.taken);
+      written = Appends-trans w x y _ _ h.written k.written;
+      writes = Writes-append s m t _ _ h.out k.out h.writes k.writes;
+    }
+
+-- ---- from what was taken out of the buffer to what was taken from the source
+
+consumed : (left : Option (List ℕ)) (c : List ℕ) (q : Option (List ℕ)) (bs : List ℕ) → Takes [] left c q bs → Consumes left q (bs ++ c)
+consumed None c q bs h = tt
+consumed (Some p) c None bs h = absurd h
+consumed (Some p) c (Some r) bs h = h ∙ sym (append_assoc bs c r)
+
+no_more : (xs ys : List ℕ) → xs ++ ys ≡ [] → ys ≡ []
+no_more [] ys e = e
+no_more (x ∷ xs) ys e = cc
+
+consumed_all : (left : Option (List ℕ)) (c : List ℕ) (q : Option (List ℕ)) (bs : List ℕ) → Takes [] left c q bs → IsAtEnd (prepend_known c q) → Consumes left q bs
+consumed_all None c q bs h e = tt
+consumed_all (Some p) c None bs h e = absurd h
+consumed_all (Some p) c (Some r) bs h e = h ∙ ap (λ z. bs ++ z) (e ∙ sym (no_more c r e))
+
+-- ---- the line at the end
+
+nothing_said : line_command [] [] true ≡ None
+unfolding line_command is_utf8 chars
+nothing_said = refl
+
+last_commands : (content : List ℕ) → is_whole content ≡ false → commands true (raw_lines content) ≡ option_to_list (line_command content [] true)
+last_commands [] h = sym (ap option_to_list nothing_said)
+last_commands (b ∷ bs) h =
+    ap (commands true) (raw_lines-last b bs h)
+    ∙ commands-event true (b ∷ bs) [] [] (none_asked (b ∷ bs))
+    ∙ append-nil (option_to_list (line_command (without_lf (b ∷ bs)) [] true))
+    ∙ ap (λ z. option_to_list (line_command z [] true)) (ap without_lf (sym (append-nil (b ∷ bs))) ∙ without_lf-raw false (b ∷ bs) h)
+
+last_whole : (content : List ℕ) → is_whole content ≡ false → whole_lines (raw_lines content) ≡ []
+last_whole [] h = refl
+last_whole (b ∷ bs) h = ap whole_lines (raw_lines-last b bs h) ∙ ap (λ z. cond z ((b ∷ bs) ∷ []) []) h
+
+few_last : (content : List ℕ) (n : ℕ) → is_whole content ≡ false → (0 < length content → n < 1000000) → n ≤ 1000000 → n + length (raw_lines content) ≤ 1000000
+few_last [] n h k l = let e : length (raw_lines []) ≡ 0 = refl in omega arith
+few_last (b ∷ bs) n h k l = let e : length (raw_lines (b ∷ bs)) ≡ 1 = ap length (raw_lines-last b bs h) in let m : n < 1000000 = k (omega arith) in omega arith
+
+some_line : (b : ℕ) (bs : List ℕ) → 0 < length (raw_lines (b ∷ bs))
+some_line b bs = go (eqb b 10) (raw_lines bs) where
+  go : (x : Bool) (ls : List (List ℕ)) → 0 < length (cond x ((10 ∷ []) ∷ ls) (onto_first b ls))
+  go true ls = omega arith
+  go false [] = omega arith
+  go false (l ∷ ls) = omega arith
+
+limited_at : (ls more : List (List ℕ)) → length ls ≡ 1000000 → limited (ls ++ more) ≡ ls
+unfolding limited
+limited_at ls more h = take_at ls more 1000000 h
+
+-- ---- the ends of a run
+
+Appends-kept : (a b c : Option (List ℕ)) (xs : List ℕ) → Appends a b xs → Keeps b c → Appends a c xs
+Appends-kept None b c xs h k = tt
+Appends-kept (Some p) None c xs h k = absurd h
+Appends-kept (Some p) (Some q) None xs h k = absurd k
+Appends-kept (Some p) (Some q) (Some r) xs h k = k ∙ h
+
+-- the whole input was taken and served
+record IsOver (left q : Option (List ℕ)) (s t : State) (given given' : Option (List ℕ)) : Type 0 where
+  input : List ℕ
+  out : List ℕ
+  taken : Consumes left q input
+  written : Appends given given' out
+  few : length (raw_lines input) ≤ 1000000
+  writes : Writes s (all_commands input) out t
+
+over : (left : Option (List ℕ)) (b : List ℕ) (p : Option (List ℕ)) (c : List ℕ) (q : Option (List ℕ)) (s m t : State) (w x y : Option (List ℕ)) (count : ℕ) (allowed : Bool)
+    → (allowed ≡ true → count < 1000000) → count ≤ 1000000
+    → IsGoing left b p s m w x count → Turned allowed false b p c q m t x y → IsOver left q s t w y
+unfolding all_commands
+over left b p c q s m t w x y count allowed may most h k =
+    let line = k.content in
+    let input = concat h.lines ++ line in
+    let taken : Takes [] left c q input = subst (λ z. Takes [] left c q (concat h.lines ++ z)) (append-nil line) (Takes-trans [] left b p c q _ _ h.taken k.taken) in
+    let lines : raw_lines input ≡ h.lines ++ raw_lines line = h.are_lines line in
+    let said : all_commands input ≡ h.served ++ option_to_list (line_command line [] true) =
+    ap (commands true) lines ∙ h.are_served true (raw_lines line) ∙ ap (λ z. h.served ++ z) (last_commands line k.no_lf) in
+    let few = few_last line count k.no_lf (λ l. may (k.may (omega (arith, length-append line [])))) most in
+    record {
+      input = input;
+      out = h.out ++ k.out;
+      taken = consumed_all left c q input taken (k.at_end refl);
+      written = Appends-trans w x y _ _ h.written k.written;
+      few = omega (arith, ap length lines, length-append h.lines (raw_lines line), h.counted);
+      writes = subst (λ z. Writes s z (h.out ++ k.out) t) (sym said) (Writes-append s m t _ _ h.out k.out h.writes k.writes);
+    }
+
+abbrev pub Ends : Result (Unit {0}) RunFault → Option (List ℕ) → Option (List ℕ) → State → State → Option (List ℕ) → Option (List ℕ) → Type 0
+Ends r left q s t given given' = (input : List ℕ) × (out : List ℕ) × Consumes left q input × Appends given given' out × Outcome r s t input out
+
+pub ends_ok : (left : Option (List ℕ)) (b : List ℕ) (p : Option (List ℕ)) (c : List ℕ) (q : Option (List ℕ)) (s m t : State) (w x y z : Option (List ℕ)) (count : ℕ) (allowed : Bool)
+    → (allowed ≡ true → count < 1000000) → count ≤ 1000000
+    → IsGoing left b p s m w x count → Turned allowed false b p c q m t x y → Keeps y z → (u : Unit {0}) → Ends (Ok u) left q s t w z
+ends_ok left b p c q s m t w x y z count allowed may most h k e u =
+    let o = over left b p c q s m t w x y count allowed may most h k in
+    (o.input, o.out, o.taken, Appends-kept w y z o.out o.written e, (o.few, o.writes))
+
+pub ends_flush : (left : Option (List ℕ)) (b : List ℕ) (p : Option (List ℕ)) (c : List ℕ) (q : Option (List ℕ)) (s m t : State) (w x y z : Option (List ℕ)) (count : ℕ) (allowed : Bool)
+    → (allowed ≡ true → count < 1000000) → count ≤ 1000000
+    → IsGoing left b p s m w x count → Turned allowed false b p c q m t x y → Keeps y z → Ends (Err Write) left q s t w z
+ends_flush left b p c q s m t w x y z count allowed may most h k e =
+    let o = over left b p c q s m t w x y count allowed may most h k in (
+      o.input,
+      o.out,
+      o.taken,
+      Appends-kept w y z o.out o.written e,
+      record { served = all_commands o.input; others = []; whole = o.out; unwritten = []; first = sym (append-nil (all_commands o.input)); writes = o.writes; front = sym (append-nil o.out) },
+    )
+
+pub ends_read : (left : Option (List ℕ)) (b : List ℕ) (p : Option (List ℕ)) (c : List ℕ) (q : Option (List ℕ)) (s m t : State) (w x y : Option (List ℕ)) (count : ℕ) (allowed : Bool)
+    → IsGoing left b p s m w x count → Broke Read allowed b p c q → t ≡ m → y ≡ x → Ends (Err Read) left q s t w y
+unfolding complete_commands
+ends_read left b p c q s m t w x y count allowed h k same kept =
+    let line = k.0 in
+    let input = concat h.lines ++ line in
+    let taken : Takes [] left c q input = Takes-trans [] left b p c q _ _ h.taken k.3 in
+    let lines : raw_lines input ≡ h.lines ++ raw_lines line = h.are_lines line in
+    let whole : whole_lines (raw_lines input) ≡ h.lines = ap whole_lines lines ∙ h.all_whole (raw_lines line) ∙ ap (λ z. h.lines ++ z) (last_whole line k.1) ∙ append-nil h.lines in
+    let served : commands false h.lines ≡ h.served = ap (commands false) (sym (append-nil h.lines)) ∙ h.are_served false [] ∙ append-nil h.served in
+    let said : complete_commands (raw_lines input) ≡ h.served = ap (commands false) whole ∙ served in (
+      input,
+      h.out,
+      subst (λ z. Consumes left q z) (ap (λ z. input ++ z) k.2 ∙ append-nil input) (consumed left c q input taken),
+      subst (λ z. Appends w z h.out) (sym kept) h.written,
+      subst (λ z. Writes s z h.out t) (sym said) (subst (λ z. Writes s h.served h.out z) (sym same) h.writes),
+    )
+
+pub ends_limit : (left : Option (List ℕ)) (b : List ℕ) (p : Option (List ℕ)) (c : List ℕ) (q : Option (List ℕ)) (s m t : State) (w x y : Option (List ℕ)) (count : ℕ) (allowed : Bool)
+    → (allowed ≡ false → 1000000 ≤ count) → count ≤ 1000000
+    → IsGoing left b p s m w x count → Broke ScriptLimit allowed b p c q → t ≡ m → y ≡ x → Ends (Err ScriptLimit) left q s t w y
+unfolding complete_commands
+ends_limit left b p c q s m t w x y count allowed may most h k same kept =
+    let byte = k.0 in
+    let full : count ≡ 1000000 = let l = may k.1 in omega arith in
+    let taken : Takes [] left c q (concat h.lines ++ byte ∷ []) = Takes-trans [] left b p c q _ _ h.taken k.2 in
+    let input = (concat h.lines ++ byte ∷ []) ++ c in
+    let lines : raw_lines input ≡ h.lines ++ raw_lines (byte ∷ c) = ap raw_lines (append_assoc (concat h.lines) (byte ∷ []) c) ∙ h.are_lines (byte ∷ c) in
+    let firsts : limited (raw_lines input) ≡ h.lines = ap limited lines ∙ limited_at h.lines (raw_lines (byte ∷ c)) (h.counted ∙ full) in
+    let whole : whole_lines h.lines ≡ h.lines = ap whole_lines (sym (append-nil h.lines)) ∙ h.all_whole [] ∙ append-nil h.lines in
+    let served : commands false h.lines ≡ h.served = ap (commands false) (sym (append-nil h.lines)) ∙ h.are_served false [] ∙ append-nil h.served in
+    let said : complete_commands (limited (raw_lines input)) ≡ h.served = ap (λ z. commands false (whole_lines z)) firsts ∙ ap (commands false) whole ∙ served in (
+      input,
+      h.out,
+      consumed left c q _ taken,
+      subst (λ z. Appends w z h.out) (sym kept) h.written,
+      (
+        omega (arith, ap length lines, length-append h.lines (raw_lines (byte ∷ c)), h.counted, full, some_line byte c),
+        subst (λ z. Writes s z h.out t) (sym said) (subst (λ z. Writes s h.served h.out z) (sym same) h.writes),
+      ),
+    )
+
+-- the commands of what was taken begin with those served
+cut_said : (left : Option (List ℕ)) (b : List ℕ) (p : Option (List ℕ)) (c : List ℕ) (q : Option (List ℕ)) (s m : State) (w x : Option (List ℕ)) (count : ℕ) (content : List ℕ)
+    → (h : IsGoing left b p s m w x count) → is_whole content ≡ false
+    → all_commands ((concat h.lines ++ raw true content) ++ c) ≡ (h.served ++ option_to_list (line_command content [] true)) ++ commands true (raw_lines c)
+unfolding all_commands
+cut_said left b p c q s m w x count content h no_lf =
+    let line = raw true content in
+    let served = subst (λ z. AreServed (h.lines ++ line ∷ []) (h.served ++ option_to_list (line_command z [] true))) (without_lf-raw true content no_lf)
+    (AreServed-push h.lines h.served line [] (none_asked line) h.are_served) in
+    ap (λ z. commands true (raw_lines (z ++ c))) (sym (concat_push h.lines line))
+    ∙ ap (commands true) (AreWhole-push h.lines content no_lf h.are_lines c)
+    ∙ served true (raw_lines c)
+
+cut_end_said : (left : Option (List ℕ)) (b : List ℕ) (p : Option (List ℕ)) (s m : State) (w x : Option (List ℕ)) (count : ℕ) (content : List ℕ)
+    → (h : IsGoing left b p s m w x count) → is_whole content ≡ false
+    → all_commands (concat h.lines ++ content) ≡ (h.served ++ option_to_list (line_command content [] true)) ++ []
+unfolding all_commands
+cut_end_said left b p s m w x count content h no_lf =
+    ap (commands true) (h.are_lines content) ∙ h.are_served true (raw_lines content) ∙ ap (λ z. h.served ++ z) (last_commands content no_lf)
+    ∙ sym (append-nil (h.served ++ option_to_list (line_command content [] true)))
+
+pub ends_write : (left : Option (List ℕ)) (b : List ℕ) (p : Option (List ℕ)) (c : List ℕ) (q : Option (List ℕ)) (s m t : State) (w x y : Option (List ℕ)) (count : ℕ) (allowed : Bool)
+    → IsGoing left b p s m w x count → CutShort allowed b p c q m t x y → Ends (Err Write) left q s t w y
+ends_write left b p c q s m t w x y count allowed h k = go k.whole k.taken k.at_end where
+  one : List Command
+  one = option_to_list (line_command k.content [] true)
+
+  written : Appends w y (h.out ++ k.out)
+  written = Appends-trans w x y _ _ h.written k.written
+
+  front : (cs others : List Command) → cs ≡ (h.served ++ option_to_list (line_command k.content [] true)) ++ others → WritesFront s cs (h.out ++ k.out) t
+  front cs others e = record {
+    served = h.served ++ option_to_list (line_command k.content [] true);
+    others = others;
+    whole = h.out ++ (k.out ++ k.unwritten);
+    unwritten = k.unwritten;
+    first = e;
+    writes = Writes-append s m t _ _ h.out (k.out ++ k.unwritten) h.writes k.writes;
+    front = sym (append_assoc h.out k.out k.unwritten);
+  }
+
+  go : (whole : Bool) → Takes b p c q (raw whole k.content) → (whole ≡ false → IsAtEnd (prepend_known c q)) → Ends (Err Write) left q s t w y
+  go true taken at_end = (
+    (concat h.lines ++ raw true k.content) ++ c,
+    h.out ++ k.out,
+    consumed left c q _ (Takes-trans [] left b p c q _ _ h.taken taken),
+    written,
+    front _ (commands true (raw_lines c)) (cut_said left b p c q s m w x count k.content h k.no_lf),
+  )
+  go false taken at_end = (
+    concat h.lines ++ k.content,
+    h.out ++ k.out,
+    consumed_all left c q _ (subst (λ z. Takes [] left c q (concat h.lines ++ z)) (append-nil k.content) (Takes-trans [] left b p c q _ _ h.taken taken)) (at_end refl),
+    written,
+    front _ [] (cut_end_said left b p s m w x count k.content h k.no_lf),
+  )
+
+pub ends_stopped : (e : RunFault) (left : Option (List ℕ)) (b : List ℕ) (p : Option (List ℕ)) (c : List ℕ) (q : Option (List ℕ)) (s m t : State) (w x y : Option (List ℕ)) (count : ℕ)
+    → count ≤ 1000000 → IsGoing left b p s m w x count → Stopped e (ltb count 1000000) b p c q m t x y → Ends (Err e) left q s t w y
+ends_stopped Memory left b p c q s m t w x y count few h k = absurd k
+ends_stopped Read left b p c q s m t w x y count few h k = ends_read left b p c q s m t w x y count (ltb count 1000000) h k.0 k.1 k.2
+ends_stopped Write left b p c q s m t w x y count few h k = ends_write left b p c q s m t w x y count (ltb count 1000000) h k
+ends_stopped ScriptLimit left b p c q s m t w x y count few h k = ends_limit left b p c q s m t w x y count (ltb count 1000000) (ltb-false count 1000000) few h k.0 k.1 k.2
+
+pub one_more_fits : (b : List ℕ) (p : Option (List ℕ)) (c : List ℕ) (q : Option (List ℕ)) (m t : State) (x y : Option (List ℕ)) (count : ℕ) → Turned (ltb count 1000000) true b p c q m t x y → count < 1000000
+one_more_fits b p c q m t x y count k = ltb-true count 1000000 (k.may (omega (arith, length-append k.content (10 ∷ []))))

@@ -1,0 +1,60 @@
+-- Runs, one after another.
+use Rattle.std.proofs.Common.{◌≡◌, ℕ, List, [], ◌∷◌, ◌++◌, refl, sym, ap, ◌∙◌, subst, Option, None, Some, Err, append_assoc, append-nil, inl, inr}
+use Rattle.std.specs.List.{concat}
+use Rattle.std.specs.Option.{option_to_list}
+use Rattle.base.specs.declared.Refusal.{Refusal}
+use Rattle.base.specs.declared.Refusal.TheVariants.{Memory, Words, Line, Address, TooLong, Full, Sessions, Cut, Field}
+use Rattle.wi_cli.specs.Reply.{refused}
+use Rattle.wi_scenarios.specs.State.{State}
+use Rattle.base.specs.Step.{Command, step, reply, after}
+use Rattle.wi_cli.specs.declared.answer.Answer.{Answer}
+use Rattle.wi_cli.specs.declared.answer.Answer.TheVariants.{Passed, Done, Refused}
+use Rattle.wi_cli.specs.Run.{Answers, Runs, Writes}
+use Rattle.wi_cli.specs.Told.{Told, told_bytes, Refuses}
+
+Runs-append : (s : State) (cs : List Command) (rs : List (List ℕ)) (m : State) (ds : List Command) (qs : List (List ℕ)) (t : State)
+    → Runs s cs rs m → Runs m ds qs t → Runs s (cs ++ ds) (rs ++ qs) t
+Runs-append s [] [] m ds qs t h k = subst (λ (x : State). Runs x ds qs t) h k
+Runs-append s [] (r ∷ rs) m ds qs t h k = absurd h
+Runs-append s (c ∷ cs) [] m ds qs t h k = absurd h
+Runs-append s (c ∷ cs) (r ∷ rs) m ds qs t h k = (h.0, h.1, Runs-append h.0 cs rs m ds qs t h.2 k)
+
+concat-append : (rs qs : List (List ℕ)) → concat (rs ++ qs) ≡ concat rs ++ concat qs
+concat-append [] qs = refl
+concat-append (r ∷ rs) qs = ap (λ x. r ++ x) (concat-append rs qs) ∙ sym (append_assoc r (concat rs) (concat qs))
+
+pub Writes-append : (s m t : State) (cs ds : List Command) (out more : List ℕ) → Writes s cs out m → Writes m ds more t → Writes s (cs ++ ds) (out ++ more) t
+Writes-append s m t cs ds out more h k = record {
+  replies = h.replies ++ k.replies;
+  run = Runs-append s cs h.replies m ds k.replies t h.run k.run;
+  joined = ap (λ x. x ++ more) h.joined ∙ ap (λ x. concat h.replies ++ x) k.joined ∙ sym (concat-append h.replies k.replies);
+}
+
+pub Writes-none : (s : State) → Writes s [] [] s
+Writes-none s = record { replies = []; run = refl; joined = refl }
+
+pub Writes-one : (s : State) (c : Command) (told : List ℕ) (t : State) → Answers s c told t → Writes s (c ∷ []) told t
+Writes-one s c told t h = record { replies = told ∷ []; run = (t, h, refl); joined = sym (append-nil told) }
+
+answered_by : (s : State) (c : Command) (e : Refusal) (t : State) → t ≡ s → step s c ≡ Err e → Answers s c (refused e) t
+answered_by s c e t h k = inl (record { reply_is = sym (ap reply k); state_is = h ∙ sym (ap (after s) k) })
+
+refused_is : (s : State) (c : Command) (e : Refusal) (t : State) → t ≡ s → Refuses e s c → Answers s c (refused e) t
+refused_is s c Memory t h k = inr (record { reply_is = refl; state_is = h; may = k })
+refused_is s c Words t h k = answered_by s c Words t h k
+refused_is s c Line t h k = answered_by s c Line t h k
+refused_is s c Address t h k = answered_by s c Address t h k
+refused_is s c TooLong t h k = answered_by s c TooLong t h k
+refused_is s c Full t h k = answered_by s c Full t h k
+refused_is s c Sessions t h k = answered_by s c Sessions t h k
+refused_is s c Cut t h k = answered_by s c Cut t h k
+refused_is s c Field t h k = answered_by s c Field t h k
+
+-- what is told of a line is a run of its command
+pub Writes-told : (o : Option Command) (a : Answer) (s t : State) (out : List ℕ) → Told o a s t out → Writes s (option_to_list o) (told_bytes a out) t
+Writes-told None Passed s t out h = subst (λ (x : State). Writes s [] [] x) (sym h) (Writes-none s)
+Writes-told None Done s t out h = absurd h
+Writes-told None (Refused e) s t out h = absurd h
+Writes-told (Some c) Passed s t out h = absurd h
+Writes-told (Some c) Done s t out h = Writes-one s c _ t (inl (record { reply_is = sym (ap reply h); state_is = sym (ap (after s) h) }))
+Writes-told (Some c) (Refused e) s t out h = Writes-one s c (refused e) t (refused_is s c e t h.0 h.1)

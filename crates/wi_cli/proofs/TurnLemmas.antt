@@ -1,0 +1,52 @@
+-- A line served, and its answer written.
+use Rattle.std.proofs.Common.{ℕ, ◌+◌, Bool, true, List, [], ◌++◌, length, take, drop, sym, subst, Option, length-append, arith}
+use Rattle.std.specs.Option.{option_to_list}
+use Rattle.std.specs.Io.KnownBytes.{Appends}
+use Rattle.std.proofs.KnownBytes.{Appends-trans}
+use Rattle.std.proofs.lemmas.List.{take-append-drop, take-append-le}
+use Rattle.std.proofs.Math.Seq.{take-append-add}
+use Rattle.wi_cli.specs.Front.{AppendsFront}
+use Rattle.wi_scenarios.specs.State.{State}
+use Rattle.wi_cli.specs.declared.answer.Answer.{Answer}
+use Rattle.wi_cli.specs.Told.{Told, told_bytes}
+use Rattle.wi_cli.specs.Script.{line_command}
+use Rattle.wi_cli.specs.Reading.{TookLine}
+use Rattle.wi_cli.specs.Turn.{Turned, CutShort}
+use Rattle.wi_cli.specs.Run.{Writes}
+use Rattle.wi_cli.proofs.RunLemmas.{Writes-told}
+
+pub AppendsFront-append : (a b c : Option (List ℕ)) (xs ys : List ℕ) → Appends a b xs → AppendsFront b c ys → AppendsFront a c (xs ++ ys)
+AppendsFront-append a b c xs ys h k =
+    (length xs + k.0, omega (arith, length-append xs ys, k.1), subst (Appends a c) (sym (take-append-add xs ys k.0)) (Appends-trans a b c _ _ h k.2))
+
+pub AppendsFront-of : (a b : Option (List ℕ)) (xs ys : List ℕ) → AppendsFront a b xs → AppendsFront a b (xs ++ ys)
+AppendsFront-of a b xs ys k = (k.0, omega (arith, length-append xs ys, k.1), subst (Appends a b) (sym (take-append-le k.0 xs ys k.1)) k.2)
+
+pub turned : (allowed whole : Bool) (b : List ℕ) (l : Option (List ℕ)) (b' : List ℕ) (l' : Option (List ℕ)) (s t : State) (w w' : Option (List ℕ)) (line : List ℕ) (a : Answer) (out : List ℕ)
+    → (k : TookLine allowed whole b l b' l' line) → Told (line_command k.content [] true) a s t out → Appends w w' (told_bytes a out)
+    → Turned allowed whole b l b' l' s t w w'
+turned allowed whole b l b' l' s t w w' line a out k told h = record {
+  content = k.content;
+  no_lf = k.no_lf;
+  taken = k.taken;
+  at_end = k.at_end;
+  may = k.may;
+  out = told_bytes a out;
+  written = h;
+  writes = Writes-told (line_command k.content [] true) a s t out told;
+}
+
+pub cut_short : (allowed whole : Bool) (b : List ℕ) (l : Option (List ℕ)) (b' : List ℕ) (l' : Option (List ℕ)) (s t : State) (w w' : Option (List ℕ)) (line : List ℕ) (a : Answer) (out : List ℕ)
+    → (k : TookLine allowed whole b l b' l' line) → Told (line_command k.content [] true) a s t out → AppendsFront w w' (told_bytes a out)
+    → CutShort allowed b l b' l' s t w w'
+cut_short allowed whole b l b' l' s t w w' line a out k told h = record {
+  whole = whole;
+  content = k.content;
+  no_lf = k.no_lf;
+  taken = k.taken;
+  at_end = k.at_end;
+  out = take h.0 (told_bytes a out);
+  unwritten = drop h.0 (told_bytes a out);
+  written = h.2;
+  writes = subst (λ x. Writes s (option_to_list (line_command k.content [] true)) x t) (sym (take-append-drop h.0 (told_bytes a out))) (Writes-told (line_command k.content [] true) a s t out told);
+}

@@ -1,0 +1,13 @@
+pub mod Front
+pub mod Ahead
+pub mod Lines
+pub mod Words
+pub mod Script
+pub mod Spelling
+pub mod Reply
+pub mod Run
+pub mod Outcome
+pub mod Reading
+pub mod Told
+pub mod Turn
+pub mod Status

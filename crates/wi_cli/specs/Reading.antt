@@ -1,0 +1,31 @@
+-- What the reader of lines takes.
+use Rattle.std.specs.Prelude.{◌≡◌, ℕ, ◌<◌, Bool, true, false, List, [], ◌∷◌, ◌++◌, length, take, Option, if◌then◌else◌}
+use Rattle.std.specs.Io.KnownBytes.{IsAtEnd, prepend_known}
+use Rattle.wi_cli.specs.declared.fault.RunFault.{RunFault}
+use Rattle.wi_cli.specs.declared.fault.RunFault.TheVariants.{Memory, Read, Write, ScriptLimit}
+use Rattle.wi_cli.specs.Ahead.{Takes}
+use Rattle.wi_cli.specs.Lines.{is_whole}
+
+-- what is kept of a line: one byte more than the greatest length tells that it is too long
+unfoldable pub front : List ℕ → List ℕ
+front line = take 65537 line
+
+-- the bytes of a line, with its LF if that came
+abbrev pub raw : Bool → List ℕ → List ℕ
+raw whole content = content ++ (if whole then 10 ∷ [] else [])
+
+-- A line was taken, whole or up to the end, or nothing was there. Its front is kept.
+pub record TookLine (allowed whole : Bool) (buffer : List ℕ) (left : Option (List ℕ)) (buffer' : List ℕ) (left' : Option (List ℕ)) (line : List ℕ) : Type 0 where
+  pub content : List ℕ
+  pub no_lf : is_whole content ≡ false
+  pub kept : line ≡ front content
+  pub taken : Takes buffer left buffer' left' (raw whole content)
+  pub at_end : whole ≡ false → IsAtEnd (prepend_known buffer' left')
+  pub may : 0 < length (raw whole content) → allowed ≡ true
+
+-- why no line was taken: the source failed within one, or one more would be too many
+abbrev pub Broke : RunFault → Bool → List ℕ → Option (List ℕ) → List ℕ → Option (List ℕ) → Type 0
+Broke Memory allowed buffer left buffer' left' = ⊥
+Broke Read allowed buffer left buffer' left' = (content : List ℕ) × (is_whole content ≡ false) × (buffer' ≡ []) × Takes buffer left buffer' left' content
+Broke Write allowed buffer left buffer' left' = ⊥
+Broke ScriptLimit allowed buffer left buffer' left' = (b : ℕ) × (allowed ≡ false) × Takes buffer left buffer' left' (b ∷ [])

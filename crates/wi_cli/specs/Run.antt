@@ -1,0 +1,34 @@
+-- A run of commands.
+use Rattle.std.specs.Prelude.{◌≡◌, ℕ, true, List, [], ◌∷◌, ◌⊎◌}
+use Rattle.std.specs.List.{concat}
+use Rattle.wi_scenarios.specs.declared.refusal.Refusal.TheVariants.{Memory}
+use Rattle.wi_scenarios.specs.State.{State}
+use Rattle.wi_scenarios.specs.Step.{Command, step, may_want}
+use Rattle.wi_cli.specs.Reply.{refused, reply, after}
+
+-- the command is answered by its step
+pub record IsAnswered (s : State) (c : Command) (told : List ℕ) (t : State) : Type 0 where
+  pub reply_is : told ≡ reply (step s c)
+  pub state_is : t ≡ after s (step s c)
+
+-- or refused for want of memory, with the state as it was
+pub record IsUnserved (s : State) (c : Command) (told : List ℕ) (t : State) : Type 0 where
+  pub reply_is : told ≡ refused Memory
+  pub state_is : t ≡ s
+  pub may : may_want c ≡ true
+
+abbrev pub Answers : State → Command → List ℕ → State → Type 0
+Answers s c told t = IsAnswered s c told t ⊎ IsUnserved s c told t
+
+-- the commands may be answered by these replies, one after another
+abbrev pub Runs : State → List Command → List (List ℕ) → State → Type 0
+Runs s [] [] t = t ≡ s
+Runs s (c ∷ cs) (r ∷ rs) t = (mid : State) × Answers s c r mid × Runs mid cs rs t
+Runs s [] (r ∷ rs) t = ⊥
+Runs s (c ∷ cs) [] t = ⊥
+
+-- the commands may be answered by replies that, joined, are these bytes
+pub record Writes (s : State) (cs : List Command) (out : List ℕ) (t : State) : Type 0 where
+  pub replies : List (List ℕ)
+  pub run : Runs s cs replies t
+  pub joined : out ≡ concat replies

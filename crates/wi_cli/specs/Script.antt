@@ -1,0 +1,92 @@
+-- The commands that a script spells.
+use Rattle.std.specs.Prelude.{ℕ, Bool, true, false, ◌||◌, ◌==◌, not, List, [], ◌∷◌, ◌++◌, length, Option, Some, None, Result, Ok, Err, nat_lt, if◌then◌else◌, codes}
+use Rattle.std.specs.Option.{option_to_list}
+use Rattle.std.specs.Str.{bytes_eq, is_utf8}
+use Rattle.wi_values.specs.Address.{Area}
+use Rattle.wi_values.specs.AddressReading.{read_address, read_rect}
+use Rattle.wi_values.specs.declared.address.AddressFault.{AddressFault}
+use Rattle.wi_values.specs.declared.address.AddressFault.TheVariants.{Shape, Outside}
+use Rattle.wi_scenarios.specs.declared.refusal.Refusal.{Refusal}
+use Rattle.wi_scenarios.specs.declared.refusal.Refusal.TheVariants.{BadCommand, BadLine, OutOfSheet}
+use Rattle.wi_scenarios.specs.Step.{Command, Set, Show, Refused}
+use Rattle.wi_cli.specs.Lines.{raw_lines, without_lf, without_cr, is_whole}
+use Rattle.wi_cli.specs.Words.{first_word, after_word, is_blank}
+
+-- the refusal of an operand that is no address or rectangle of the sheet
+abbrev pub operand_refusal : AddressFault → Refusal
+operand_refusal Shape = BadCommand
+operand_refusal Outside = OutOfSheet
+
+-- ---- one command each
+
+abbrev pub set_at : Result ℕ AddressFault → List ℕ → Command
+set_at (Ok at) content = Set at content
+set_at (Err fault) content = Refused (operand_refusal fault)
+
+-- `set ADDR CONTENT`; CONTENT is all after the one space that follows ADDR
+abbrev pub set_command : List ℕ → Command
+set_command operands =
+    if length (after_word operands) == 0 then Refused BadCommand
+    else set_at (read_address (first_word operands)) (after_word operands)
+
+abbrev pub show_in : Result Area AddressFault → Command
+show_in (Ok area) = Show area
+show_in (Err fault) = Refused (operand_refusal fault)
+
+-- `show RECT`
+abbrev pub show_command : List ℕ → Command
+show_command operands =
+    if is_blank (after_word operands) then show_in (read_rect (first_word operands))
+    else Refused BadCommand
+
+-- the command with this name and these operands
+abbrev pub named_command : List ℕ → List ℕ → Command
+named_command name operands =
+    if bytes_eq name (codes "set") then set_command operands
+    else (if bytes_eq name (codes "show") then show_command operands
+    else Refused BadCommand)
+
+-- the command that a text spells
+unfoldable pub spelled_command : List ℕ → Command
+spelled_command text = named_command (first_word text) (after_word text)
+
+-- ---- lines
+
+-- the greatest length of a line without its LF
+abbrev pub max_line : ℕ
+max_line = 65536
+
+abbrev pub is_comment : List ℕ → Bool
+is_comment [] = false
+is_comment (b ∷ bs) = b == 35
+
+-- the command of a text that is a good line, or nothing where it is passed over
+abbrev pub text_command : List ℕ → Option Command
+text_command text = if is_blank text || is_comment text then None else Some (spelled_command text)
+
+-- The command of a line without its LF. It is refused where it is too long, a CR counted, or not UTF-8, also where it
+-- would be passed over.
+unfoldable pub line_command : List ℕ → Option Command
+line_command content =
+    if nat_lt max_line (length content) || not (is_utf8 (without_cr content)) then Some (Refused BadLine)
+    else text_command (without_cr content)
+
+-- ---- scripts
+
+-- the commands of lines, each given with its LF
+abbrev pub commands : List (List ℕ) → List Command
+commands [] = []
+commands (l ∷ ls) = option_to_list (line_command (without_lf l)) ++ commands ls
+
+-- the lines up to the first that lacks its LF
+abbrev pub whole_lines : List (List ℕ) → List (List ℕ)
+whole_lines [] = []
+whole_lines (l ∷ ls) = if is_whole l then l ∷ whole_lines ls else []
+
+-- the commands of a script that has ended
+unfoldable pub all_commands : List ℕ → List Command
+all_commands script = commands (raw_lines script)
+
+-- the commands of those lines that are complete, where the end of the script has not come
+unfoldable pub complete_commands : List (List ℕ) → List Command
+complete_commands ls = commands (whole_lines ls)

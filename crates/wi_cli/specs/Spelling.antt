@@ -1,0 +1,23 @@
+-- Commands as they are read.
+use Rattle.std.specs.Prelude.{◌≡◌, ◌≢◌, Option, Some, None, Result, Ok, Err}
+use Rattle.wi_scenarios.specs.declared.refusal.Refusal.{Refusal}
+use Rattle.wi_scenarios.specs.declared.refusal.Refusal.TheVariants.{Memory}
+use Rattle.wi_scenarios.specs.Step.{Command, Set, Show, Refused}
+use Rattle.wi_cli.specs.declared.command.Command.TheVariants as read
+use Rattle.wi_cli.specs.declared.command.Command.{Command as ReadCommand}
+
+-- the command that was read
+abbrev pub command_of : ReadCommand → Command
+command_of (read.Set at content) = Set at content.now
+command_of (read.Show area) = Show area
+
+-- the text spells this command, or one that is refused, not for want of memory
+abbrev pub Spells : Command → Result ReadCommand Refusal → Type 0
+Spells c (Ok d) = c ≡ command_of d
+Spells c (Err e) = (c ≡ Refused e) × (e ≢ Memory)
+
+-- the same of a line, which may be passed over
+abbrev pub SpellsLine : Option Command → Result (Option ReadCommand) Refusal → Type 0
+SpellsLine o (Ok None) = o ≡ None
+SpellsLine o (Ok (Some d)) = o ≡ Some (command_of d)
+SpellsLine o (Err e) = (o ≡ Some (Refused e)) × (e ≢ Memory)

@@ -1,0 +1,11 @@
+-- The status with which the program ends.
+use Rattle.std.specs.Prelude.{ℕ}
+use Rattle.wi_cli.specs.declared.fault.RunFault.{RunFault}
+use Rattle.wi_cli.specs.declared.fault.RunFault.TheVariants.{Memory, Read, Write, ScriptLimit}
+
+-- 3 where a device failed, 4 at the limit of lines, 5 without memory
+abbrev pub status_of : RunFault → ℕ
+status_of Read = 3
+status_of Write = 3
+status_of ScriptLimit = 4
+status_of Memory = 5

@@ -1,0 +1,29 @@
+-- What is told of one line.
+use Rattle.std.specs.Prelude.{◌≡◌, ℕ, true, List, [], ◌++◌, Option, Some, None, Ok, Err}
+use Rattle.wi_scenarios.specs.declared.refusal.Refusal.{Refusal}
+use Rattle.wi_scenarios.specs.declared.refusal.Refusal.TheVariants.{Memory}
+use Rattle.wi_scenarios.specs.State.{State}
+use Rattle.wi_scenarios.specs.Step.{Command, step, may_want}
+use Rattle.wi_cli.specs.declared.answer.Answer.{Answer}
+use Rattle.wi_cli.specs.declared.answer.Answer.TheVariants.{Passed, Done, Refused}
+use Rattle.wi_cli.specs.Reply.{refused, ok_line}
+
+-- want of memory may refuse some commands; another refusal is the step's
+abbrev pub Refuses : Refusal → State → Command → Type 0
+Refuses Memory s c = may_want c ≡ true
+Refuses e s c = step s c ≡ Err e
+
+-- the line is passed over, or its command is answered by the step, or by want of memory
+abbrev pub Told : Option Command → Answer → State → State → List ℕ → Type 0
+Told None Passed s t out = t ≡ s
+Told None Done s t out = ⊥
+Told None (Refused e) s t out = ⊥
+Told (Some c) Passed s t out = ⊥
+Told (Some c) Done s t out = step s c ≡ Ok (t, out)
+Told (Some c) (Refused e) s t out = (t ≡ s) × Refuses e s c
+
+-- the bytes that tell it
+abbrev pub told_bytes : Answer → List ℕ → List ℕ
+told_bytes Passed out = []
+told_bytes Done out = out ++ ok_line
+told_bytes (Refused e) out = refused e

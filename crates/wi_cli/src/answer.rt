@@ -1,0 +1,54 @@
+//! What is answered to a line.
+
+ghost use Rattle.std.specs.Prelude.{◌≡◌, false, is_err, OnOk, OnErr};
+ghost use Rattle.std.specs.Io.KnownBytes.{Appends};
+ghost use Rattle.wi_cli.specs.Front.{AppendsFront};
+ghost use Rattle.wi_cli.specs.Reply.{refused};
+ghost use Rattle.wi_cli.specs.Told.{told_bytes};
+
+use crate::device::{DeviceFault, Sink};
+use crate::write::write_all;
+use wi_scenarios::Refusal;
+
+/// What a line is answered.
+#[derive(Clone, Copy, PartialEq, Eq, Debug)]
+pub enum Answer {
+    /// Nothing: the line was passed over.
+    Passed,
+    /// The records, and `ok`.
+    Done,
+    Refused(Refusal),
+}
+
+/// Writes the line of a refusal.
+fn write_refusal<W: Sink>(writer: &mut W, refusal: Refusal) -> Result<(), DeviceFault>
+    requires { W.has_failed writer.old ≡ false }
+    ensures ok { OnOk result (Appends (W.contents writer.old) (W.contents writer.new) (refused refusal)) }
+    ensures err { OnErr result (AppendsFront (W.contents writer.old) (W.contents writer.new) (refused refusal)) }
+    ensures failed { W.has_failed writer.new ≡ is_err result }
+{
+    let code = refusal.code();
+    let tens = b'0' + code / 10;
+    let ones = b'0' + code % 10;
+    let text = [
+        b'r', b'e', b'f', b'u', b's', b'e', b'd', b' ', b'E', tens, ones, b'\n',
+    ];
+    write_all(writer, &text)
+}
+
+/// Writes the answer to a line: its records and `ok`, or its refusal.
+pub fn write_answer<W: Sink>(writer: &mut W, answer: Answer, records: &[u8]) -> Result<(), DeviceFault>
+    requires { W.has_failed writer.old ≡ false }
+    ensures ok { OnOk result (Appends (W.contents writer.old) (W.contents writer.new) (told_bytes answer records.now)) }
+    ensures err { OnErr result (AppendsFront (W.contents writer.old) (W.contents writer.new) (told_bytes answer records.now)) }
+    ensures failed { W.has_failed writer.new ≡ is_err result }
+{
+    match answer {
+        Answer::Passed => Ok(()),
+        Answer::Done => {
+            write_all(writer, records)?;
+            write_all(writer, b"ok\n")
+        }
+        Answer::Refused(refusal) => write_refusal(writer, refusal),
+    }
+}

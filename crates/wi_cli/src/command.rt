@@ -1,0 +1,89 @@
+//! The commands that lines spell.
+
+ghost use Rattle.std.specs.Prelude.{◌≡◌};
+ghost use Rattle.wi_cli.specs.Lines.{without_cr};
+ghost use Rattle.wi_cli.specs.Script.{is_comment, set_command, show_command, spelled_command, line_command};
+ghost use Rattle.wi_cli.specs.Spelling.{Spells, SpellsLine};
+
+use crate::lines::MAX_LINE;
+use crate::words::{is_blank, split_word};
+use wi_scenarios::Refusal;
+use wi_values::{Address, Rect};
+
+/// A command with its operands.
+#[derive(Clone, Copy, Debug)]
+pub enum Command<'a> {
+    Set { at: Address, content: &'a str },
+    Show { area: Rect },
+}
+
+/// `set ADDR CONTENT`, where CONTENT is all after the one space that follows ADDR.
+fn read_set(operands: &str) -> Result<Command<'_>, Refusal>
+    ensures { Spells (set_command operands.now) result }
+{
+    let (address, content) = split_word(operands);
+    if content.is_empty() {
+        return Err(Refusal::BadCommand);
+    }
+    let at = Address::read(address.as_bytes())?;
+    Ok(Command::Set { at, content })
+}
+
+/// `show RECT`.
+fn read_show(operands: &str) -> Result<Command<'_>, Refusal>
+    ensures { Spells (show_command operands.now) result }
+{
+    let (area, more) = split_word(operands);
+    if !is_blank(more) {
+        return Err(Refusal::BadCommand);
+    }
+    let area = Rect::read(area.as_bytes())?;
+    Ok(Command::Show { area })
+}
+
+/// The command that a text spells.
+#[tactic(auto, unfolding(crate::specs::Script::spelled_command))]
+pub fn read_command(text: &str) -> Result<Command<'_>, Refusal>
+    ensures { Spells (spelled_command text.now) result }
+{
+    let (name, operands) = split_word(text);
+    match name {
+        "set" => read_set(operands),
+        "show" => read_show(operands),
+        _ => Err(Refusal::BadCommand),
+    }
+}
+
+/// Without the CR at the end, if there is one.
+fn without_cr(line: &[u8]) -> &[u8]
+    ensures { result.now ≡ without_cr line.now }
+{
+    match line {
+        [text @ .., b'\r'] => text,
+        _ => line,
+    }
+}
+
+/// Whether the line begins with `#`.
+fn is_comment(text: &str) -> bool
+    ensures { result ≡ is_comment text.now }
+{
+    text.starts_with('#')
+}
+
+/// The command of a line without its LF, or nothing where the line is passed over.
+#[tactic(auto, unfolding(crate::specs::Script::line_command))]
+pub fn read_line_command(line: &[u8]) -> Result<Option<Command<'_>>, Refusal>
+    ensures { SpellsLine (line_command line.now) result }
+{
+    if line.len() > MAX_LINE {
+        return Err(Refusal::BadLine);
+    }
+    let Ok(text) = str::from_utf8(without_cr(line)) else {
+        return Err(Refusal::BadLine);
+    };
+    if is_blank(text) || is_comment(text) {
+        return Ok(None);
+    }
+    Ok(Some(read_command(text)?))
+}

@@ -1,0 +1,32 @@
+//! How a run of a script may end before the script does.
+
+ghost use Rattle.std.specs.Prelude.{◌≡◌};
+ghost use Rattle.wi_cli.specs.Status.{status_of};
+
+use thiserror::Error;
+
+/// Why a run ended before its script.
+#[derive(Clone, Copy, PartialEq, Eq, Debug, Error)]
+pub enum RunFault {
+    /// Nothing was read or written.
+    #[error("out of memory")]
+    Memory,
+    #[error("the script can't be read")]
+    Read,
+    #[error("the replies can't be written")]
+    Write,
+    #[error("the script has more than 1,000,000 lines")]
+    ScriptLimit,
+}
+
+/// The status with which the program ends after this fault.
+pub fn fault_status(fault: &RunFault) -> u8
+    ensures { result ≡ status_of fault.now }
+{
+    match fault {
+        RunFault::Read => 3,
+        RunFault::Write => 3,
+        RunFault::ScriptLimit => 4,
+        RunFault::Memory => 5,
+    }
+}

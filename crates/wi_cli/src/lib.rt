@@ -1,0 +1,20 @@
+//! The lines of a script and the commands that they spell, and the run of a script on a workbook.
+#![tactic(auto)]
+
+mod answer;
+mod chunk;
+mod command;
+mod device;
+mod fault;
+mod lines;
+mod read_from;
+mod runs;
+mod words;
+mod write;
+mod write_to;
+
+pub use device::{DeviceFault, Sink, Source};
+pub use fault::{RunFault, fault_status};
+pub use read_from::{READS, ReadFrom};
+pub use runs::{MAX_LINES, run};
+pub use write_to::WriteTo;

@@ -1,0 +1,61 @@
+//! The lines of a source.
+
+ghost use Rattle.std.specs.Prelude.{◌++◌, ◌∷◌, [], List, ℕ, ◌≡◌, ◌+◌, ◌<◌, ◌≤◌, length, false, true, MatchResult, IfOk, vec_capacity, Err, is_err, OnOk};
+ghost use Rattle.wi_cli.specs.Ahead.{budget};
+ghost use Rattle.wi_cli.specs.Reading.{TookLine, Broke, front};
+
+use crate::chunk::Chunk;
+use crate::device::Source;
+use crate::fault::RunFault;
+
+
+/// The greatest length of a line in bytes, without its LF.
+pub const MAX_LINE: usize = 65_536;
+
+/// Takes the next line, without its LF, and answers whether its LF came. Of a line over the limit
+/// the front is kept, one byte more than the limit. With no LF and no byte the input has ended.
+pub fn read_line<R: Source>(
+    chunk: &mut Chunk,
+    source: &mut R,
+    line: &mut Vec<u8>,
+    allowed: bool,
+) -> Result<bool, RunFault>
+    requires works { R.has_failed source.old ≡ false }
+    requires room { MAX_LINE + 1 ≤ vec_capacity line.old }
+    ensures took { MatchResult result
+        (λ whole. TookLine allowed whole chunk.old (R.remaining source.old) chunk.new (R.remaining source.new) line.new.items)
+        (λ e. Broke e allowed chunk.old (R.remaining source.old) chunk.new (R.remaining source.new)) }
+    ensures room { MAX_LINE + 1 ≤ vec_capacity line.new }
+    ensures works { OnOk result (R.has_failed source.new ≡ false) }
+    ensures failed { result ≡ Err RunFault.Read → R.has_failed source.new ≡ true }
+{
+    line.clear();
+    let mut byte = match chunk.next_byte(source) {
+        Ok(Some(first)) => first,
+        Ok(None) => return Ok(false),
+        Err(_) => return Err(RunFault::Read),
+    };
+    if !allowed {
+        return Err(RunFault::ScriptLimit);
+    }
+    while byte != b'\n' {
+        keep(line, byte);
+        match chunk.next_byte(source) {
+            Ok(Some(next)) => byte = next,
+            Ok(None) => return Ok(false),
+            Err(_) => return Err(RunFault::Read),
+        }
+    }
+    Ok(true)
+}
+
+/// Adds a byte to the front of a line, up to one byte more than the limit.
+fn keep(line: &mut Vec<u8>, byte: u8)
+    requires { MAX_LINE + 1 ≤ vec_capacity line.old }
+    ensures kept { (content : List ℕ) → line.old.items ≡ front content → line.new.items ≡ front (content ++ byte ∷ []) }
+    ensures room { MAX_LINE + 1 ≤ vec_capacity line.new }
+{
+    if line.len() <= MAX_LINE {
+        let _ = line.push(byte);
+    }
+}

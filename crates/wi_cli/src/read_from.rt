@@ -1,0 +1,63 @@
+//! A std reader as a source.
+
+ghost use Rattle.std.specs.Prelude.{◌≡◌, false};
+
+use crate::device::{DeviceFault, Source};
+use std::io::Read;
+
+/// How many reads a `ReadFrom` allows.
+pub const READS: u64 = 4_294_967_296;
+
+/// A std reader as a source.
+#[derive(Drop)]
+pub struct ReadFrom<R> {
+    inner: R,
+    left: u64,
+    failed: bool,
+}
+
+impl<R: Read> ReadFrom<R> {
+    /// A source that has not failed, and allows 2^32 reads.
+    pub fn new(inner: R) -> Self
+        ensures inner { result.inner ≡ inner }
+        ensures left { result.left ≡ READS }
+        ensures failed { result.failed ≡ false }
+    {
+        ReadFrom {
+            inner,
+            left: READS,
+            failed: false,
+        }
+    }
+}
+
+impl<R: Read> Source for ReadFrom<R> {
+    ghost remaining = { λ s. R.remaining s.inner };
+
+    ghost reads_left = { λ s. s.left };
+
+    ghost has_failed = { λ s. s.failed };
+
+    fn read(&mut self, buf: &mut [u8]) -> Result<usize, DeviceFault> {
+        if self.left == 0 {
+            self.failed = true;
+            return Err(DeviceFault);
+        }
+        self.left -= 1;
+        match self.inner.read(buf) {
+            Ok(n) => Ok(n),
+            Err(_) => {
+                self.failed = true;
+                Err(DeviceFault)
+            }
+        }
+    }
+
+    fn left(&self) -> u64 {
+        self.left
+    }
+
+    fn failed(&self) -> bool {
+        self.failed
+    }
+}

@@ -1,0 +1,134 @@
+//! Runs a script.
+
+ghost use Rattle.std.specs.Prelude.{◌≡◌, ◌++◌, ◌+◌, ◌≤◌, [], List, ℕ, OnOk, MatchResult, Ok, Err, false, true, vec_capacity};
+ghost use Rattle.std.specs.Io.KnownBytes.{Appends, Consumes, IsAtEnd};
+ghost use Rattle.wi_scenarios.specs.Answer.{Serves};
+ghost use Rattle.wi_scenarios.specs.Step.{step};
+ghost use Rattle.wi_cli.specs.Script.{line_command};
+ghost use Rattle.wi_cli.specs.Spelling.{command_of};
+ghost use Rattle.wi_cli.specs.Told.{Told};
+ghost use Rattle.wi_cli.specs.Turn.{Turned, Stopped};
+ghost use Rattle.wi_cli.specs.Outcome.{Outcome};
+
+use crate::answer::{Answer, write_answer};
+use crate::chunk::Chunk;
+use crate::command::{Command, read_line_command};
+use crate::device::{Sink, Source};
+use crate::fault::RunFault;
+use crate::lines::{MAX_LINE, read_line};
+use std::alloc::Global;
+use wi_propagate::Calculator;
+use wi_scenarios::{Refusal, Workbook};
+
+/// How many lines a script may have.
+pub const MAX_LINES: u32 = 1_000_000;
+
+/// Does a command, and appends its records.
+fn execute<C: Calculator>(
+    command: Command<'_>,
+    book: &mut Workbook<C>,
+    out: &mut Vec<u8>,
+) -> Result<(), Refusal>
+    ensures { (records : List ℕ) × (out.new.items ≡ out.old.items ++ records)
+        × Serves (step book.old (command_of command)) result book.old book.new records }
+{
+    match command {
+        Command::Set { at, content } => book.set(at, content),
+        Command::Show { area } => book.show(area, out),
+    }
+}
+
+/// Serves a line, and leaves its records in `out`, which was empty.
+fn serve<C: Calculator>(book: &mut Workbook<C>, line: &[u8], out: &mut Vec<u8>) -> Answer
+    requires { out.old.items ≡ [] }
+    ensures { Told (line_command line.now) result book.old book.new out.new.items }
+{
+    match read_line_command(line) {
+        Ok(None) => Answer::Passed,
+        Ok(Some(command)) => match execute(command, book, out) {
+            Ok(()) => Answer::Done,
+            Err(refusal) => Answer::Refused(refusal),
+        },
+        Err(refusal) => Answer::Refused(refusal),
+    }
+}
+
+/// Reads a line, serves it and writes its answer. Answers whether the line's LF came.
+fn turn<R: Source, W: Sink, C: Calculator>(
+    chunk: &mut Chunk,
+    reader: &mut R,
+    writer: &mut W,
+    book: &mut Workbook<C>,
+    line: &mut Vec<u8>,
+    out: &mut Vec<u8>,
+    allowed: bool,
+) -> Result<bool, RunFault>
+    requires reads { R.has_failed reader.old ≡ false }
+    requires writes { W.has_failed writer.old ≡ false }
+    requires room { MAX_LINE + 1 ≤ vec_capacity line.old }
+    ensures done { MatchResult result
+        (λ whole. Turned allowed whole chunk.old (R.remaining reader.old) chunk.new (R.remaining reader.new)
+        book.old book.new (W.contents writer.old) (W.contents writer.new))
+        (λ e. Stopped e allowed chunk.old (R.remaining reader.old) chunk.new (R.remaining reader.new)
+        book.old book.new (W.contents writer.old) (W.contents writer.new)) }
+    ensures reads { OnOk result (R.has_failed reader.new ≡ false) }
+    ensures writes { OnOk result (W.has_failed writer.new ≡ false) }
+    ensures read_fault { result ≡ Err RunFault.Read → R.has_failed reader.new ≡ true }
+    ensures write_fault { result ≡ Err RunFault.Write → W.has_failed writer.new ≡ true }
+    ensures no_memory { result ≡ Err RunFault.Memory → ⊥ }
+    ensures room { MAX_LINE + 1 ≤ vec_capacity line.new }
+{
+    let whole = read_line(chunk, reader, line, allowed)?;
+    out.clear();
+    let answer = serve(book, line, out);
+    match write_answer(writer, answer, out) {
+        Ok(()) => Ok(whole),
+        Err(_) => Err(RunFault::Write),
+    }
+}
+
+/// Runs a script on a workbook, each line as soon as it has come; its reply is written before the next line is
+/// served. On a fault the replies to the commands before it stand.
+pub fn run<R: Source, W: Sink, C: Calculator>(
+    alloc: Global,
+    reader: &mut R,
+    writer: &mut W,
+    book: &mut Workbook<C>,
+) -> Result<(), RunFault>
+    requires reads { R.has_failed reader.old ≡ false }
+    requires writes { W.has_failed writer.old ≡ false }
+
+    // The bytes written are the replies to the commands of the bytes read.
+    ensures replies { (input out : List ℕ)
+        × Consumes (R.remaining reader.old) (R.remaining reader.new) input
+        × Appends (W.contents writer.old) (W.contents writer.new) out
+        × Outcome result book.old book.new input out }
+    ensures all_read { OnOk result (IsAtEnd (R.remaining reader.new)) }
+    ensures all_sent { OnOk result (W.flushed writer.new ≡ true) }
+    ensures read_fault { result ≡ Err RunFault.Read → R.has_failed reader.new ≡ true }
+    ensures write_fault { result ≡ Err RunFault.Write → W.has_failed writer.new ≡ true }
+    ensures unread { result ≡ Err RunFault.Memory → reader.new ≡ reader.old }
+    ensures unwritten { result ≡ Err RunFault.Memory → writer.new ≡ writer.old }
+{
+    let Ok(mut line) = Vec::with_capacity(alloc, MAX_LINE + 1) else {
+        return Err(RunFault::Memory);
+    };
+    let mut out = Vec::new(alloc);
+    let mut chunk = Chunk::new();
+    let mut lines = 0;
+    while turn(
+        &mut chunk,
+        reader,
+        writer,
+        book,
+        &mut line,
+        &mut out,
+        lines < MAX_LINES,
+    )? {
+        lines += 1;
+    }
+    match writer.flush() {
+        Ok(()) => Ok(()),
+        Err(_) => Err(RunFault::Write),
+    }
+}

@@ -1,0 +1,33 @@
+-- What a command is answered.
+use Rattle.std.specs.Prelude.{◌≡◌, ℕ, List, [], Result, Ok, Err}
+use Rattle.wi_scenarios.specs.declared.refusal.Refusal.{Refusal}
+use Rattle.wi_scenarios.specs.declared.refusal.Refusal.TheVariants.{Memory, BadCommand, BadLine, OutOfSheet, Syntax, TooDeep, NumberRange, TooLong, Full, TooLarge, EditLimit}
+use Rattle.wi_scenarios.specs.State.{State}
+
+-- the new state and the records, or the first refusal that holds
+abbrev pub Answer : Type 0
+Answer = Result (State × List ℕ) Refusal
+
+-- the code of each refusal
+abbrev pub code_of : Refusal → ℕ
+code_of Memory = 1
+code_of BadCommand = 2
+code_of BadLine = 3
+code_of OutOfSheet = 4
+code_of Syntax = 5
+code_of TooDeep = 6
+code_of NumberRange = 7
+code_of TooLong = 8
+code_of Full = 9
+code_of TooLarge = 15
+code_of EditLimit = 17
+
+-- a refusal for want of memory may stand in place of any answer, another only as the answer
+abbrev pub Refuses : Refusal → Answer → Type 0
+Refuses Memory a = Unit {0}
+Refuses e a = a ≡ Err e
+
+-- The call did as the answer says and wrote these records, or it refused, wrote none and left the state as it was.
+abbrev pub Serves : Answer → Result (Unit {0}) Refusal → State → State → List ℕ → Type 0
+Serves a (Ok _) old new records = a ≡ Ok (new, records)
+Serves a (Err e) old new records = Refuses e a × (new ≡ old) × (records ≡ [])

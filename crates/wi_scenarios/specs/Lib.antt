@@ -1,0 +1,6 @@
+pub mod Row
+pub mod State
+pub mod Answer
+pub mod SetStep
+pub mod ShowStep
+pub mod Step

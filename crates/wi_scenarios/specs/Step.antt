@@ -1,0 +1,25 @@
+-- What one command does.
+use Rattle.std.specs.Prelude.{ℕ, Bool, true, false, List, Err}
+use Rattle.wi_values.specs.Address.{Area}
+use Rattle.wi_scenarios.specs.declared.refusal.Refusal.{Refusal}
+use Rattle.wi_scenarios.specs.State.{State}
+use Rattle.wi_scenarios.specs.Answer.{Answer}
+use Rattle.wi_scenarios.specs.SetStep.{set_step}
+use Rattle.wi_scenarios.specs.ShowStep.{show_step}
+
+-- a command, or a line that is refused whatever the state is
+pub data Command : Type 0 where
+  Set : ℕ → List ℕ → Command
+  Show : Area → Command
+  Refused : Refusal → Command
+
+unfoldable pub step : State → Command → Answer
+step s (Set at content) = set_step s at content
+step s (Show area) = show_step s area
+step s (Refused e) = Err e
+
+-- whether a command may be refused for want of memory
+abbrev pub may_want : Command → Bool
+may_want (Set at content) = true
+may_want (Show area) = true
+may_want (Refused e) = false

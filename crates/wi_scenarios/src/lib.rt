@@ -1,0 +1,9 @@
+//! A workbook and its commands.
+#![tactic(auto)]
+
+mod record;
+mod refusal;
+mod workbook;
+
+pub use refusal::Refusal;
+pub use workbook::Workbook;

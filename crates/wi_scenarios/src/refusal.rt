@@ -1,0 +1,109 @@
+//! Why a command is refused.
+
+ghost use Rattle.std.specs.Prelude.{◌≡◌};
+
+use std::alloc::{AllocError, AllocFailed};
+use thiserror::Error;
+use wi_parser::ParseFault;
+use wi_store::StoreFault;
+
+/// Why a command is refused. All is then as before.
+#[derive(Clone, Copy, PartialEq, Eq, Debug, Error)]
+pub enum Refusal {
+    #[error("out of memory")]
+    Memory,
+    #[error("no such command, or not its words")]
+    BadCommand,
+    #[error("the line is too long, or not UTF-8")]
+    BadLine,
+    #[error("a cell outside the sheet")]
+    OutOfSheet,
+    #[error("no formula")]
+    Syntax,
+    #[error("the formula is nested too deeply")]
+    TooDeep,
+    #[error("a number of the formula does not fit")]
+    NumberRange,
+    #[error("the text or formula is too long")]
+    TooLong,
+    #[error("the sheet would have too many occupied cells")]
+    Full,
+    #[error("the rectangle has too many cells")]
+    TooLarge,
+    #[error("no more edits are accepted")]
+    EditLimit,
+}
+
+impl Refusal {
+    ghost use Rattle.wi_scenarios.specs.Answer.{code_of};
+
+    /// The number that the reply tells.
+    pub fn code(self) -> u8
+        ensures { result ≡ code_of self }
+    {
+        match self {
+            Refusal::Memory => 1,
+            Refusal::BadCommand => 2,
+            Refusal::BadLine => 3,
+            Refusal::OutOfSheet => 4,
+            Refusal::Syntax => 5,
+            Refusal::TooDeep => 6,
+            Refusal::NumberRange => 7,
+            Refusal::TooLong => 8,
+            Refusal::Full => 9,
+            Refusal::TooLarge => 15,
+            Refusal::EditLimit => 17,
+        }
+    }
+}
+
+impl From<AllocError> for Refusal {
+    ghost use Rattle.wi_scenarios.specs.declared.refusal.Refusal.TheVariants.{Memory};
+
+    ghost from_gives = { λ _ e. e ≡ Memory };
+
+    fn from(_error: AllocError) -> Refusal {
+        Refusal::Memory
+    }
+}
+
+impl<T: Drop> From<AllocFailed<T>> for Refusal {
+    ghost use Rattle.wi_scenarios.specs.declared.refusal.Refusal.TheVariants.{Memory};
+
+    ghost from_gives = { λ _ e. e ≡ Memory };
+
+    fn from(_error: AllocFailed<T>) -> Refusal {
+        Refusal::Memory
+    }
+}
+
+impl From<ParseFault> for Refusal {
+    ghost use Rattle.wi_scenarios.specs.SetStep.{parse_refusal};
+
+    ghost from_gives = { λ fault e. e ≡ parse_refusal fault };
+
+    fn from(fault: ParseFault) -> Refusal {
+        match fault {
+            ParseFault::TooLong => Refusal::TooLong,
+            ParseFault::OutOfSheet => Refusal::OutOfSheet,
+            ParseFault::NumberRange => Refusal::NumberRange,
+            ParseFault::TooDeep => Refusal::TooDeep,
+            ParseFault::Syntax => Refusal::Syntax,
+            ParseFault::Memory => Refusal::Memory,
+        }
+    }
+}
+
+impl From<StoreFault> for Refusal {
+    ghost use Rattle.wi_scenarios.specs.SetStep.{edit_refusal};
+
+    ghost from_gives = { λ fault e. e ≡ edit_refusal fault };
+
+    fn from(fault: StoreFault) -> Refusal {
+        match fault {
+            StoreFault::Full => Refusal::Full,
+            StoreFault::EditLimit => Refusal::EditLimit,
+            StoreFault::Memory => Refusal::Memory,
+        }
+    }
+}

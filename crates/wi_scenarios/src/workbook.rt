@@ -1,0 +1,58 @@
+//! A workbook.
+
+ghost use Rattle.std.specs.Prelude.{◌≡◌, ◌++◌, ℕ, List, [], IfOk};
+ghost use Rattle.wi_scenarios.specs.Answer.{Serves};
+ghost use Rattle.wi_scenarios.specs.SetStep.{set_step};
+
+use crate::refusal::Refusal;
+use std::alloc::{AllocError, Global};
+use std::marker::Model;
+use wi_parser::Content;
+use wi_propagate::Calculator;
+use wi_values::{Address, Rect};
+
+/// A sheet and what else is kept of it, seen as the definition's state.
+#[derive(Drop)]
+pub struct Workbook<C: Calculator> {
+    alloc: Global,
+    calculator: C,
+}
+
+impl<C: Calculator> Model for Workbook<C> {
+    ghost use Rattle.wi_scenarios.specs.State.{State};
+
+    ghost Value = { State };
+
+    ghost use Rattle.wi_parser.specs.contracts.content.Content as content;
+    ghost use Rattle.std.specs.Coded.{codes};
+
+    ghost coded = { Prim.hlevel (codes, content.the_row.coded) };
+
+    ghost view = { λ w. record { stored = C.stored w.calculator } };
+}
+
+impl<C: Calculator> Workbook<C> {
+    /// A workbook over a calculator, whose sheet it takes over.
+    pub fn new(alloc: Global, calculator: C) -> Result<Workbook<C>, AllocError>
+        ensures { IfOk result (λ w. w ≡ record { stored = C.stored calculator }) }
+    {
+        Ok(Workbook { alloc, calculator })
+    }
+
+    /// The calculator that it uses.
+    pub fn calculator(&self) -> &C
+        ensures { C.stored result.now ≡ self.now.stored }
+    {
+        &self.calculator
+    }
+
+    /// Puts a content into a cell.
+    pub fn set(&mut self, at: Address, content: &str) -> Result<(), Refusal>
+        ensures { Serves (set_step self.old at content.now) result self.old self.new [] }
+    {
+        let content = Content::read(self.alloc, content)?;
+        let changes = vec![in self.alloc; (at, Some(content))]?;
+        self.calculator.apply(changes)?;
+        Ok(())
+    }
+}
