@@ -1,10 +1,14 @@
 pub mod Digits
 pub mod Divisors
+pub mod Fineness
 pub mod Numbers
 pub mod Places
 pub mod Powers
+pub mod Reading
 pub mod ReadsBack
+pub mod Scanning
 pub mod Sizes
 pub mod Steps
+pub mod Tenths
 pub mod Texts
 pub mod Values

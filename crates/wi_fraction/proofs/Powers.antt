@@ -9,12 +9,9 @@ use Rattle.wi_fraction.specs.Gcd.{gcd}
 use Rattle.wi_fraction.specs.Number.{Number, number_of, number_at, max_size, signed}
 use Rattle.wi_fraction.specs.Arithmetic.{fraction_of, within}
 use Rattle.wi_fraction.specs.Power.{power_of}
-use Rattle.wi_fraction.proofs.Divisors.{coprime_mul}
+use Rattle.wi_fraction.proofs.Divisors.{coprime_one, coprime_mul}
 use Rattle.wi_fraction.specs.Gcd.{gcd_comm, gcd_from_IsGcd}
 use Rattle.wi_fraction.proofs.Numbers.{number_of-lowest}
-
-coprime_one : (a : ℕ) → gcd a 1 ≡ 1
-coprime_one a = sym (gcd_from_IsGcd a 1 1 (one-dvd a, one-dvd 1, λ d p q. q))
 
 coprime_pow_right : (a b k : ℕ) → gcd a b ≡ 1 → gcd a (b ^ k) ≡ 1
 coprime_pow_right a b zero h = rw (pow-zero b) (coprime_one a)

@@ -10,20 +10,18 @@ use Rattle.std.proofs.lemmas.Bool.Decides.{nat_tests}
 use Rattle.std.proofs.lemmas.Fmt.{decimal_is_IsNumeral_wide}
 use Rattle.std.proofs.lemmas.Str.Parse.{IsNumeralModel, numerals_by_value, tells_all_ascii_digits}
 use Rattle.std.proofs.Math.Seq.{take-append_seam, drop-append_seam}
-use Rattle.std.proofs.Math.Nat.{mul_assoc, add-mul, one-le-pow, div-le_self}
+use Rattle.std.proofs.Math.Nat.{pow-zero, mul_assoc, add-mul, one-le-pow, div-le_self}
 use Rattle.std.proofs.lemmas.List.{append-nil}
 use Rattle.std.proofs.lemmas.Nat.{div-add-mod'}
 use Rattle.wi_fraction.specs.Text.{places, fixed, size_text, sign_text, text_of, is_numeral, read_after, read_size, read}
 use Rattle.wi_fraction.specs.Number.{number_of, number_at, signed, max_size, number_at-some}
 use Rattle.wi_fraction.specs.Gcd.{gcd}
+use Rattle.wi_fraction.proofs.Scanning.{own}
 use Rattle.wi_fraction.specs.Laws.{ReadsBack}
 use Rattle.wi_fraction.proofs.Numbers.{number_of-scaled, number_of-lowest}
 use Rattle.wi_fraction.proofs.Steps.{signed-abs}
 use Rattle.wi_fraction.proofs.Digits.{length-fixed, digits_fixed, value_fixed}
 use Rattle.wi_fraction.proofs.Places.{places_divide, multiple_of, factor_pos, rest_less, divides_one}
-
-own : IsNumeralModel (λ ds. all_ascii_digits ds ≡ true) (digits_value 10)
-own = numerals_by_value _ tells_all_ascii_digits
 
 scan : (ds rest : List ℕ) → all_ascii_digits ds ≡ true → prefix_len is_ascii_digit rest ≡ 0 → prefix_len is_ascii_digit (ds ++ rest) ≡ length ds
 scan [] rest h e = e
@@ -96,7 +94,7 @@ read_places_text s n d k dp nm one e =
 
 read_whole_text : (s : Bool) (n : ℕ) → n ≤ max_size → read_after s (decimal n) [] ≡ number_of (signed s n) 1
 unfolding read_after
-read_whole_text s n nm = rw (value_decimal n nm)
+read_whole_text s n nm = rw (append-nil (decimal n), value_decimal n nm, pow-zero 10)
 
 read_text : (s : Bool) (n d : ℕ) (p : Option ℕ) → ((j : ℕ) → p ≡ Some j → 10 ^ j % d ≡ 0) → 0 < d → n ≤ max_size → d ≤ max_size → gcd n d ≡ 1 → read (sign_text s ++ size_text p n d) ≡ number_at (signed s n) d
 unfolding size_text
