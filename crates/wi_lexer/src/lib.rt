@@ -1,8 +1,14 @@
 //! The tokens of a formula.
 #![tactic(auto)]
 
-pub mod cell;
+mod cell;
 pub mod laws;
-pub mod lexer;
+mod lexer;
 mod scan;
-pub mod token;
+#[cfg(test)]
+mod tests;
+mod token;
+
+pub use cell::{CellText, cell_of, reference_of};
+pub use lexer::{BadToken, Lexer, Token};
+pub use token::{Kind, Mark};

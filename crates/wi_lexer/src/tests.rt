@@ -1,0 +1,119 @@
+use crate::{BadToken, Kind, Lexer, Mark, cell_of, reference_of};
+
+// Whether the tokens of the source have these texts, and end with a bad one or not.
+fn is_read_as(source: &str, texts: &[&str], is_bad: bool) -> bool {
+    let mut lexer = Lexer::new(source);
+    for text in texts {
+        let Some(Ok(token)) = lexer.next_token() else {
+            return false;
+        };
+        if token.text != *text {
+            return false;
+        }
+    }
+    if is_bad {
+        let Some(Err(BadToken)) = lexer.next_token() else {
+            return false;
+        };
+    }
+    lexer.next_token().is_none() && lexer.next_token().is_none()
+}
+
+#[test]
+fn splits_numbers(rt: HostRuntime) {
+    assert!(rt; is_read_as("", &[], false));
+    assert!(rt; is_read_as(" \t\r\n", &[], false));
+    assert!(rt; is_read_as("007", &["007"], false));
+    assert!(rt; is_read_as("1.50", &["1.50"], false));
+    assert!(rt; is_read_as(".5", &[".5"], false));
+    assert!(rt; is_read_as("1.", &["1"], true));
+    assert!(rt; is_read_as(".", &[], true));
+    assert!(rt; is_read_as(".5.5", &[".5", ".5"], false));
+    assert!(rt; is_read_as("1..5", &["1"], true));
+    assert!(rt; is_read_as("1.5.5.", &["1.5", ".5"], true));
+    assert!(rt; is_read_as("1 . 5", &["1"], true));
+}
+
+#[test]
+fn splits_formulas(rt: HostRuntime) {
+    let sums = ["-", "-", "2", "*", "(", "3", "+", ".4", ")", "/", "5"];
+    assert!(rt; is_read_as("--2*(3+.4)/ 5\n", &sums, false));
+    assert!(rt;
+        is_read_as(
+            "[.a1] * 2+[.$A$1]",
+            &["[.a1]", "*", "2", "+", "[.$A$1]"],
+            false
+        )
+    );
+    assert!(rt;
+        is_read_as(
+            "[.XFD1048576][.A99999999]",
+            &["[.XFD1048576]", "[.A99999999]"],
+            false
+        )
+    );
+    assert!(rt; is_read_as("1 ] 2", &["1"], true));
+    assert!(rt; is_read_as("1\u{b}+2", &["1"], true));
+    assert!(rt; is_read_as("1\u{a0}+2", &["1"], true));
+    assert!(rt; is_read_as("1+é", &["1", "+"], true));
+}
+
+#[test]
+fn refuses_other_brackets(rt: HostRuntime) {
+    for source in [
+        "[.A0]", "[.A01]", "[.A]", "[.1]", "[.]", "[A1]", "[.A1", ".A1]", "[ .A1]", "[. A1]",
+        "[.A 1]", "[.A1 ]", "[.$$A1]", "[.A1$]", "[.A$]", "[.A1.]", "[.[A1]", "[.é1]", "[.A-1]",
+    ] {
+        assert!(rt; is_read_as(source, &[], true), "at {source}");
+    }
+}
+
+#[test]
+fn tells_kinds_and_places(rt: HostRuntime) {
+    let mut lexer = Lexer::new(" 12 +[.A1]");
+    for (kind, start) in [
+        (Kind::Number, 1),
+        (Kind::Mark(Mark::Plus), 4),
+        (Kind::Reference, 5),
+    ] {
+        let token = lexer
+            .next_token()
+            .expect(&rt, "a token")
+            .expect(&rt, "no bad one");
+        assert_eq!(rt; token.kind, kind);
+        assert_eq!(rt; token.start, start);
+    }
+}
+
+#[test]
+fn tells_marks(rt: HostRuntime) {
+    for (text, mark) in [
+        ("(", Mark::OpenParenthesis),
+        (")", Mark::CloseParenthesis),
+        ("+", Mark::Plus),
+        ("-", Mark::Minus),
+        ("*", Mark::Asterisk),
+        ("/", Mark::Slash),
+    ] {
+        let token = Lexer::new(text)
+            .next_token()
+            .expect(&rt, "a token")
+            .expect(&rt, "no bad one");
+        assert_eq!(rt; token.kind, Kind::Mark(mark));
+        assert_eq!(rt; mark.text(), text);
+    }
+}
+
+#[test]
+fn tells_the_parts_of_cells(rt: HostRuntime) {
+    let whole = cell_of(b"$ab$12").expect(&rt, "a cell");
+    assert!(rt; whole.column_fixed && whole.row_fixed);
+    assert_eq!(rt; whole.letters, b"ab".as_slice());
+    assert_eq!(rt; whole.digits, b"12".as_slice());
+    let row = reference_of(b"[.Z$9]").expect(&rt, "a reference");
+    assert!(rt; !row.column_fixed && row.row_fixed);
+    assert_eq!(rt; row.letters, b"Z".as_slice());
+    assert_eq!(rt; row.digits, b"9".as_slice());
+    assert!(rt; reference_of(b"[.Z9] ").is_none());
+    assert!(rt; cell_of(b"Z09").is_none());
+}
