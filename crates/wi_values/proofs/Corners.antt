@@ -1,8 +1,7 @@
 -- A rectangle's corners may stand in any order.
-use Rattle.std.proofs.Common.{◌≡◌, ℕ, ◌+◌, ◌*◌, ◌/◌, ◌%◌, ◌<◌, min, max, Bool, true, nat_le, ◌&&◌, ap, arith}
-use Rattle.std.proofs.Math.Nat.{min_comm}
+use Rattle.std.proofs.Common.{◌≡◌, ℕ, ◌<◌, min, max, true, nat_le, ◌&&◌, arith}
 use Rattle.std.proofs.lemmas.Bool.Decides.{nat_tests}
-use Rattle.wi_values.specs.Address.{columns, place, row_of, column_of, Area, rect_of, is_within}
+use Rattle.wi_values.specs.Address.{columns, place, row_of, column_of, rect_of, is_within}
 use Rattle.wi_values.specs.Laws.{CornersMayTurn}
 
 row_of_place : (r c : ℕ) → c < columns → row_of (place r c) ≡ r

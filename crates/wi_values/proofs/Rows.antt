@@ -1,7 +1,7 @@
 -- Worked rows: what the definitions give.
-use Rattle.std.specs.Prelude.{◌≡◌, ℕ, Some, None, Ok, Err, codes, List, [], ◌∷◌, refl, true, false}
+use Rattle.std.specs.Prelude.{◌≡◌, Some, Ok, Err, codes, [], ◌∷◌, refl, true}
 use Rattle.std.specs.Fmt.{digits}
-use Rattle.wi_values.specs.Address.{place, letters_within, address_text, letters_value, rect_of, size_of, cells_of}
+use Rattle.wi_values.specs.Address.{place, letters_within, address_text, rect_of, cells_of}
 use Rattle.wi_values.specs.AddressReading.{address_at, read_address, read_rect}
 use Rattle.wi_values.specs.Import.{imported, field_value}
 use Rattle.wi_values.specs.Value.{shown}

@@ -1,5 +1,5 @@
 -- Numbers read from the left, held at a bound once they pass it.
-use Rattle.std.proofs.Common.{◌≡◌, ℕ, ◌+◌, ◌-◌, ◌*◌, ◌<◌, ◌≤◌, min, List, [], ◌∷◌, length, drop, get_or, sym, ◌∙◌, ap, arith, inl, inr, ◌⊎◌, Option, Some, None, unwrap_or}
+use Rattle.std.proofs.Common.{◌≡◌, ℕ, ◌+◌, ◌-◌, ◌*◌, ◌<◌, ◌≤◌, min, List, [], ◌∷◌, length, drop, get_or, sym, ◌∙◌, ap, arith, inl, inr, Option, Some, None, unwrap_or}
 use Rattle.std.proofs.lemmas.Bool.Decides.{nat_tests}
 use Rattle.std.specs.Option.{SomeIff}
 use Rattle.std.proofs.lemmas.Bool.{cases_lt}
@@ -21,13 +21,14 @@ digits_large most n (c ∷ cs) h = digits_large most (n * 10 + digit_value c) cs
 pub held : (after : ℕ → List ℕ → ℕ) (most : ℕ) → ((n : ℕ) (cs : List ℕ) → most ≤ n → most ≤ after n cs) → (n : ℕ) (cs : List ℕ) → min (after (min n most) cs) most ≡ min (after n cs) most
 held after most large n cs =
     elim (cases_lt n most) [
-      inl l ↦ let e : min n most ≡ n = omega arith in ap (λ k. min (after k cs) most) e
-    | inr h ↦
-        let e : min n most ≡ most = omega arith in
-        let a : most ≤ after n cs = large n cs h in
-        let b : most ≤ after most cs = large most cs (omega arith) in
-        let both : min (after most cs) most ≡ min (after n cs) most = omega arith in
-        ap (λ k. min (after k cs) most) e ∙ both ]
+      | inl l ↦ let e : min n most ≡ n = omega arith in ap (λ k. min (after k cs) most) e
+      | inr h ↦
+          let e : min n most ≡ most = omega arith in
+          let a : most ≤ after n cs = large n cs h in
+          let b : most ≤ after most cs = large most cs (omega arith) in
+          let both : min (after most cs) most ≡ min (after n cs) most = omega arith in
+          ap (λ k. min (after k cs) most) e ∙ both
+    ]
 
 -- one more letter, one more digit
 pub letters_step : (most n d m i : ℕ) (xs : List ℕ) → i < length xs → d ≡ to_ascii_uppercase (get_or xs i 0) - 64 → m ≡ min (n * 26 + d) most → min (letters_value_after m (drop (i + 1) xs)) most ≡ min (letters_value_after n (drop i xs)) most

@@ -1,9 +1,8 @@
 -- Addresses and rectangles. A cell's address is its place in row-major order.
-use Rattle.std.specs.Prelude.{ℕ, zero, suc, ◌+◌, ◌-◌, ◌*◌, ◌/◌, ◌%◌, ◌≤◌, min, max, List, [], ◌∷◌, ◌++◌, Bool, ◌&&◌, ◌||◌, not, ◌==◌, nat_lt, nat_le, length, take, drop, slice_index, Option, Some, None, Result, Ok, Err, if◌then◌else◌, map, decimal}
+use Rattle.std.specs.Prelude.{ℕ, zero, suc, ◌+◌, ◌-◌, ◌*◌, ◌/◌, ◌%◌, ◌≤◌, min, max, List, [], ◌∷◌, ◌++◌, Bool, ◌&&◌, not, ◌==◌, nat_lt, nat_le, length, slice_index, if◌then◌else◌, map, decimal}
 use Rattle.std.specs.List.{prefix_len, range_with_len, flat_map}
 use Rattle.std.specs.Char.{is_ascii_alphabetic, to_ascii_uppercase}
 use Rattle.std.specs.Str.{all_ascii_digits}
-use Rattle.std.specs.Str.Parse.{digits_value}
 
 -- the columns and rows of a sheet
 abbrev pub columns : ℕ
@@ -36,7 +35,8 @@ IsOrdered r = (row_of r.first ≤ row_of r.last) × (column_of r.first ≤ colum
 abbrev pub rect_of : ℕ → ℕ → Area
 rect_of a b = record {
   first = place (min (row_of a) (row_of b)) (min (column_of a) (column_of b));
-  last = place (max (row_of a) (row_of b)) (max (column_of a) (column_of b)) }
+  last = place (max (row_of a) (row_of b)) (max (column_of a) (column_of b));
+}
 
 -- the cell a is in the rectangle
 abbrev pub is_within : Area → ℕ → Bool

@@ -1,10 +1,10 @@
 -- What a text that comes from outside a formula is taken for.
-use Rattle.std.specs.Prelude.{ℕ, List, [], Bool, true, false, Option, Some, None, codes, nat_lt, length, if◌then◌else◌}
+use Rattle.std.specs.Prelude.{ℕ, List, [], true, false, Option, Some, None, codes, nat_lt, length, if◌then◌else◌}
 use Rattle.std.specs.Str.{bytes_eq}
 use Rattle.wi_fraction.specs.Number.{Number as Numbers}
 use Rattle.wi_fraction.specs.Text.{read}
 use Rattle.wi_values.specs.declared.value.Value.{Value}
-use Rattle.wi_values.specs.declared.value.Value.TheVariants.{Empty, Number, Text, Logical, Fault}
+use Rattle.wi_values.specs.declared.value.Value.TheVariants.{Empty, Number, Text, Logical}
 
 -- the greatest length of a text in bytes
 abbrev pub max_text : ℕ

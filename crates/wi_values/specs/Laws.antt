@@ -1,5 +1,5 @@
 -- Laws of the definitions.
-use Rattle.std.specs.Prelude.{◌≡◌, ℕ, ◌*◌, ◌<◌, Bool, true, ◌&&◌, Ok}
+use Rattle.std.specs.Prelude.{◌≡◌, ℕ, ◌*◌, ◌<◌, true, Ok}
 use Rattle.wi_values.specs.Address.{columns, rows, address_text, rect_of, is_within}
 use Rattle.wi_values.specs.AddressReading.{read_address}
 

@@ -5,6 +5,8 @@ mod address;
 pub mod laws;
 mod rect;
 mod replacement;
+#[cfg(test)]
+mod tests;
 mod text;
 mod value;
 
