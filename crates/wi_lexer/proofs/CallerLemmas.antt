@@ -1,13 +1,14 @@
 -- What a loop over `next_token` collects: the tokens of the text.
-use Rattle.std.proofs.Common.{◌≡◌, ℕ, zero, suc, ◌+◌, ◌<◌, ◌≤◌, Bool, true, false, List, [], ◌∷◌, ◌++◌, length, take, drop, Option, Some, None, refl, sym, ap, ◌∙◌, subst, arith, append_assoc, length-append, length-drop, append-nil}
+use Rattle.std.proofs.Common.{◌≡◌, ℕ, zero, suc, ◌+◌, ◌<◌, ◌≤◌, Bool, true, false, List, [], ◌∷◌, ◌++◌, length, take, drop, Option, Some, None, Result, Ok, Err, refl, sym, ap, ◌∙◌, subst, arith, append_assoc, length-append, length-drop, append-nil}
 use Rattle.std.proofs.lemmas.List.{length-take-le}
 use Rattle.std.proofs.Math.Seq.{drop-append_seam, take-append_seam}
 use Rattle.wi_lexer.specs.declared.token.Kind.{Kind}
 use Rattle.wi_lexer.specs.declared.lexer.Token.{Token}
+use Rattle.wi_lexer.specs.declared.lexer.BadToken.{BadToken}
 use Rattle.wi_lexer.specs.Runs.{blanks_len}
 use Rattle.wi_lexer.specs.Token.{NoToken, token_at, after_blanks}
 use Rattle.wi_lexer.specs.Inside.{Scan}
-use Rattle.wi_lexer.specs.Scan.{start_of, ahead, IsNext, IsDone}
+use Rattle.wi_lexer.specs.Scan.{start_of, ahead, IsNext, IsDone, Gives}
 use Rattle.wi_lexer.specs.Tokens.{Tokens, no_tokens, bad_token, then_tokens, tokens_from, tokens_ahead, tokens_within, tokens}
 use Rattle.wi_lexer.proofs.RunLemmas.{run_within}
 use Rattle.wi_lexer.proofs.TokenLemmas.{token_some, token_sound, token_complete, none_found}
@@ -52,6 +53,16 @@ tokens_are (b ∷ bs) =
     (λ ys shorter. any_bound (length bs) (length ys) ys (omega arith) (omega arith))
 
 -- ---- what each answer of `next_token` tells
+
+-- The answer in the form in which a `match` on it tells it.
+pub gives_token : (old new : Scan) (o : Option (Result Token BadToken)) (r : Result Token BadToken) (t : Token) → Gives old o new → o ≡ Some r → r ≡ Ok t → IsNext old t new
+gives_token old new o r t h some ok = subst (λ x. Gives old (Some x) new) ok (subst (λ x. Gives old x new) some h)
+
+pub gives_bad : (old new : Scan) (o : Option (Result Token BadToken)) (r : Result Token BadToken) (b : BadToken) → Gives old o new → o ≡ Some r → r ≡ Err b → (ahead old ≡ [] → ⊥) × NoToken (ahead old) × IsDone old new
+gives_bad old new o r b h some err = subst (λ x. Gives old (Some x) new) err (subst (λ x. Gives old x new) some h)
+
+pub gives_end : (old new : Scan) (o : Option (Result Token BadToken)) → Gives old o new → o ≡ None → (ahead old ≡ []) × IsDone old new
+gives_end old new o h e = subst (λ x. Gives old x new) e h
 
 -- a token, as the tokens of a text list it
 abbrev pub listed : Token → Kind × List ℕ
