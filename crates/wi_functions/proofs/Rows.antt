@@ -1,6 +1,6 @@
 -- Formulas worked by hand.
-use Rattle.std.proofs.Common.{◌≡◌, ℕ, ◌<◌, ◌≤◌, List, [], ◌∷◌, Bool, true, false, refl, ap, lit<, lit≤}
-use Rattle.std.specs.Prelude.{pos, ◌==◌, ◌^◌, ◌-◌, if◌then◌else◌, Some}
+use Rattle.std.proofs.Common.{◌≡◌, ℕ, ◌<◌, ◌≤◌, List, [], ◌∷◌, true, false, refl, ap, lit<, lit≤}
+use Rattle.std.specs.Prelude.{pos, ◌==◌, ◌^◌, ◌-◌, if◌then◌else◌}
 use Rattle.wi_fraction.specs.Number as numbers
 use Rattle.wi_fraction.specs.Number.{max_size, number_of, number_at-some}
 use Rattle.wi_fraction.specs.Gcd.{gcd, gcd_within}

@@ -1,8 +1,8 @@
--- Values taken for numbers, and the arithmetic of values.
-use Rattle.std.specs.Prelude.{◌≡◌, ℕ, ◌<◌, ◌≤◌, pos, Bool, true, false, Option, Some, None, Result, Ok, Err, if◌then◌else◌, unsigned_abs, refl}
+-- Values taken for numbers, and the arithmetic of values (OpenFormula 6.3.5 and 6.4).
+use Rattle.std.specs.Prelude.{◌≡◌, pos, true, false, Option, Some, None, Result, Ok, Err, if◌then◌else◌, unsigned_abs, refl}
 use Rattle.std.specs.Ordering.{int_eq}
 use Rattle.std.proofs.Common.{lit<, lit≤}
-use Rattle.wi_fraction.specs.Number.{Number, IsNumber}
+use Rattle.wi_fraction.specs.Number.{Number}
 use Rattle.wi_fraction.specs.Gcd.{gcd, gcd_within}
 use Rattle.wi_fraction.specs.Arithmetic.{sum_of, product_of, quotient_of, negated}
 use Rattle.wi_values.specs.declared.value.ErrorKind.{ErrorKind}
