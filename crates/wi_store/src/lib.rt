@@ -3,6 +3,8 @@
 
 mod fault;
 mod limits;
+mod store;
 
 pub use fault::StoreFault;
 pub use limits::Limits;
+pub use store::Store;

@@ -1,0 +1,20 @@
+use Rattle.std.proofs.Common.{◌≡◌, sym, ap, ◌∙◌, Option}
+use Rattle.std.specs.Option.{option_flatten}
+use Rattle.wi_parser.specs.Sheet.{content_of}
+use Rattle.wi_parser.specs.declared.content.Content.{Content}
+use Rattle.wi_store.specs.Store.{Stored}
+use Rattle.wi_store.proofs.RoomLemmas.{Ascends-from_order, content_of-sheet_in}
+use Rattle.wi_store.proofs.store.Store.get.Goals as goal
+
+pub returns-in-Some : goal.returns-in-Some
+returns-in-Some c =
+    c.as_ref.ensures.value
+    ∙ ap (λ (o : Option (Option Content)). option_flatten o) c.in-Some.ensures.value
+    ∙ sym (content_of-sheet_in c.args.at c.self.inside.cells.entries (Ascends-from_order c.self.inside.cells.entries c.self.invariant.0))
+    ∙ ap (λ (s : Stored). content_of s.sheet c.args.at) c.self.view_is
+
+pub returns-in-None : goal.returns-in-None
+returns-in-None c =
+    ap (λ (o : Option (Option Content)). option_flatten o) c.in-None.ensures.value
+    ∙ sym (content_of-sheet_in c.args.at c.self.inside.cells.entries (Ascends-from_order c.self.inside.cells.entries c.self.invariant.0))
+    ∙ ap (λ (s : Stored). content_of s.sheet c.args.at) c.self.view_is

@@ -1,0 +1,33 @@
+-- The rooms of a store: cells that may have a content. A room is vacant only while an edit goes on.
+use Rattle.std.specs.Prelude.{◌≡◌, ℕ, List, Option, Some, None, option_map}
+use Rattle.std.specs.List.{filter_map}
+use Rattle.std.specs.Ordering.{nat_cmp}
+use Rattle.std.specs.Map.{lookup, keys_of}
+use Rattle.std.specs.BTreeMap.{is_at}
+use Rattle.std.specs.List.Sorted.{IsStrictlySortedBy}
+use Rattle.wi_parser.specs.Sheet.{Sheet}
+use Rattle.wi_parser.specs.declared.content.Content.{Content}
+
+-- cells with their contents, in row-major order
+abbrev pub Rooms : Type 0
+Rooms = List (ℕ × Option Content)
+
+-- what stands in a room, with its cell
+abbrev pub occupant : ℕ × Option Content → Option (ℕ × Content)
+occupant room = option_map (λ x. (room.0, x)) room.1
+
+-- the contents of the rooms that are not vacant
+abbrev pub sheet_in : Rooms → Sheet
+sheet_in rooms = filter_map occupant rooms
+
+-- the room of a cell, if it has one
+abbrev pub room_of : Rooms → ℕ → Option (Option Content)
+room_of rooms c = lookup (is_at (nat_cmp c)) rooms
+
+-- each cell has at most one room, and the rooms stand in row-major order
+abbrev pub IsInOrder : Rooms → Type 0
+IsInOrder rooms = IsStrictlySortedBy nat_cmp (keys_of rooms)
+
+-- every room has a content
+abbrev pub HasNoVacancy : Rooms → Type 0
+HasNoVacancy rooms = (c : ℕ) → room_of rooms c ≡ Some None → ⊥
