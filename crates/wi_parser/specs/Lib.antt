@@ -10,3 +10,5 @@ pub mod Nesting
 pub mod Words
 pub mod Outcome
 pub mod Nests
+pub mod FormulaText
+pub mod Parsed
