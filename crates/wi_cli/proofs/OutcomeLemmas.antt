@@ -10,10 +10,10 @@ use Rattle.std.proofs.lemmas.Bool.{ltb-true, ltb-false}
 use Rattle.wi_cli.specs.declared.fault.RunFault.{RunFault}
 use Rattle.wi_cli.specs.declared.fault.RunFault.TheVariants.{Memory, Read, Write, ScriptLimit}
 use Rattle.wi_scenarios.specs.State.{State}
-use Rattle.base.specs.Step.{Command}
+use Rattle.wi_scenarios.specs.Step.{Command}
 use Rattle.wi_cli.specs.Ahead.{Takes}
 use Rattle.wi_cli.specs.Lines.{raw_lines, onto_first, without_lf, is_whole}
-use Rattle.wi_cli.specs.Script.{line_command, data_lines, commands, whole_lines, all_commands, complete_commands}
+use Rattle.wi_cli.specs.Script.{line_command, commands, whole_lines, all_commands, complete_commands}
 use Rattle.wi_cli.specs.Reading.{raw, Broke}
 use Rattle.wi_cli.specs.Turn.{Turned, CutShort, Stopped}
 use Rattle.wi_cli.specs.Run.{Writes}
@@ -21,7 +21,7 @@ use Rattle.wi_cli.specs.Outcome.{Outcome, WritesFront, limited}
 use Rattle.wi_cli.proofs.ReadingLemmas.{Takes-trans, is_whole-append}
 use Rattle.wi_cli.proofs.RunLemmas.{Writes-append, Writes-none}
 use Rattle.wi_cli.proofs.LineLemmas.{AreWhole, AreWhole-none, AreWhole-push, raw_lines-last, without_lf-raw}
-use Rattle.wi_cli.proofs.ScriptLemmas.{AreServed, AreServed-none, AreServed-push, commands-event}
+use Rattle.wi_cli.proofs.ScriptLemmas.{AreServed, AreServed-none, AreServed-push}
 
 -- lines that all have their LF
 abbrev pub AllWhole : List (List ℕ) → Type 0
@@ -73,22 +73,18 @@ going_none left s given = record {
   writes = Writes-none s;
 }
 
-none_asked : (l : List ℕ) → length (let ds : List (List ℕ) = [] in ds) ≡ data_lines l
-unfolding data_lines
-none_asked l = refl
-
 pub going_on : (left : Option (List ℕ)) (b : List ℕ) (p : Option (List ℕ)) (c : List ℕ) (q : Option (List ℕ)) (s m t : State) (w x y : Option (List ℕ)) (count : ℕ) (allowed : Bool)
     → IsGoing left b p s m w x count → Turned allowed true b p c q m t x y → IsGoing left c q s t w y (count + 1)
 going_on left b p c q s m t w x y count allowed h k =
     let line = raw true k.content in
     record {
       lines = h.lines ++ line ∷ [];
-      served = h.served ++ option_to_list (line_command k.content [] true);
+      served = h.served ++ option_to_list (line_command k.content);
       out = h.out ++ k.out;
       are_lines = AreWhole-push h.lines k.content k.no_lf h.are_lines;
       all_whole = AllWhole-push h.lines line (whole_raw k.content) h.all_whole;
-      are_served = subst (λ z. AreServed (h.lines ++ line ∷ []) (h.served ++ option_to_list (line_command z [] true))) (without_lf-raw true k.content k.no_lf)
-          (AreServed-push h.lines h.served line [] (none_asked line) h.are_served);
+      are_served = subst (λ z. AreServed (h.lines ++ line ∷ []) (h.served ++ option_to_list (line_command z))) (without_lf-raw true k.content k.no_lf)
+          (AreServed-push h.lines h.served line h.are_served);
       counted = length-append h.lines (line ∷ []) ∙ ap (λ n. n + 1) h.counted;
       taken = subst (Takes [] left c q) (sym (concat_push h.lines line)) (Takes-trans [] left b p c q _ _ h.taken k.taken);
       written = Appends-trans w x y _ _ h.written k.written;
@@ -113,17 +109,16 @@ consumed_all (Some p) c (Some r) bs h e = h ∙ ap (λ z. bs ++ z) (e ∙ sym (n
 
 -- ---- the line at the end
 
-nothing_said : line_command [] [] true ≡ None
+nothing_said : line_command [] ≡ None
 unfolding line_command is_utf8 chars
 nothing_said = refl
 
-last_commands : (content : List ℕ) → is_whole content ≡ false → commands true (raw_lines content) ≡ option_to_list (line_command content [] true)
+last_commands : (content : List ℕ) → is_whole content ≡ false → commands (raw_lines content) ≡ option_to_list (line_command content)
 last_commands [] h = sym (ap option_to_list nothing_said)
 last_commands (b ∷ bs) h =
-    ap (commands true) (raw_lines-last b bs h)
-    ∙ commands-event true (b ∷ bs) [] [] (none_asked (b ∷ bs))
-    ∙ append-nil (option_to_list (line_command (without_lf (b ∷ bs)) [] true))
-    ∙ ap (λ z. option_to_list (line_command z [] true)) (ap without_lf (sym (append-nil (b ∷ bs))) ∙ without_lf-raw false (b ∷ bs) h)
+    ap commands (raw_lines-last b bs h)
+    ∙ append-nil (option_to_list (line_command (without_lf (b ∷ bs))))
+    ∙ ap (λ z. option_to_list (line_command z)) (ap without_lf (sym (append-nil (b ∷ bs))) ∙ without_lf-raw false (b ∷ bs) h)
 
 last_whole : (content : List ℕ) → is_whole content ≡ false → whole_lines (raw_lines content) ≡ []
 last_whole [] h = refl
@@ -170,8 +165,8 @@ over left b p c q s m t w x y count allowed may most h k =
     let input = concat h.lines ++ line in
     let taken : Takes [] left c q input = subst (λ z. Takes [] left c q (concat h.lines ++ z)) (append-nil line) (Takes-trans [] left b p c q _ _ h.taken k.taken) in
     let lines : raw_lines input ≡ h.lines ++ raw_lines line = h.are_lines line in
-    let said : all_commands input ≡ h.served ++ option_to_list (line_command line [] true) =
-    ap (commands true) lines ∙ h.are_served true (raw_lines line) ∙ ap (λ z. h.served ++ z) (last_commands line k.no_lf) in
+    let said : all_commands input ≡ h.served ++ option_to_list (line_command line) =
+    ap commands lines ∙ h.are_served (raw_lines line) ∙ ap (λ z. h.served ++ z) (last_commands line k.no_lf) in
     let few = few_last line count k.no_lf (λ l. may (k.may (omega (arith, length-append line [])))) most in
     record {
       input = input;
@@ -213,8 +208,8 @@ ends_read left b p c q s m t w x y count allowed h k same kept =
     let taken : Takes [] left c q input = Takes-trans [] left b p c q _ _ h.taken k.3 in
     let lines : raw_lines input ≡ h.lines ++ raw_lines line = h.are_lines line in
     let whole : whole_lines (raw_lines input) ≡ h.lines = ap whole_lines lines ∙ h.all_whole (raw_lines line) ∙ ap (λ z. h.lines ++ z) (last_whole line k.1) ∙ append-nil h.lines in
-    let served : commands false h.lines ≡ h.served = ap (commands false) (sym (append-nil h.lines)) ∙ h.are_served false [] ∙ append-nil h.served in
-    let said : complete_commands (raw_lines input) ≡ h.served = ap (commands false) whole ∙ served in (
+    let served : commands h.lines ≡ h.served = ap commands (sym (append-nil h.lines)) ∙ h.are_served [] ∙ append-nil h.served in
+    let said : complete_commands (raw_lines input) ≡ h.served = ap commands whole ∙ served in (
       input,
       h.out,
       subst (λ z. Consumes left q z) (ap (λ z. input ++ z) k.2 ∙ append-nil input) (consumed left c q input taken),
@@ -234,8 +229,8 @@ ends_limit left b p c q s m t w x y count allowed may most h k same kept =
     let lines : raw_lines input ≡ h.lines ++ raw_lines (byte ∷ c) = ap raw_lines (append_assoc (concat h.lines) (byte ∷ []) c) ∙ h.are_lines (byte ∷ c) in
     let firsts : limited (raw_lines input) ≡ h.lines = ap limited lines ∙ limited_at h.lines (raw_lines (byte ∷ c)) (h.counted ∙ full) in
     let whole : whole_lines h.lines ≡ h.lines = ap whole_lines (sym (append-nil h.lines)) ∙ h.all_whole [] ∙ append-nil h.lines in
-    let served : commands false h.lines ≡ h.served = ap (commands false) (sym (append-nil h.lines)) ∙ h.are_served false [] ∙ append-nil h.served in
-    let said : complete_commands (limited (raw_lines input)) ≡ h.served = ap (λ z. commands false (whole_lines z)) firsts ∙ ap (commands false) whole ∙ served in (
+    let served : commands h.lines ≡ h.served = ap commands (sym (append-nil h.lines)) ∙ h.are_served [] ∙ append-nil h.served in
+    let said : complete_commands (limited (raw_lines input)) ≡ h.served = ap (λ z. commands (whole_lines z)) firsts ∙ ap commands whole ∙ served in (
       input,
       h.out,
       consumed left c q _ taken,
@@ -249,36 +244,36 @@ ends_limit left b p c q s m t w x y count allowed may most h k same kept =
 -- the commands of what was taken begin with those served
 cut_said : (left : Option (List ℕ)) (b : List ℕ) (p : Option (List ℕ)) (c : List ℕ) (q : Option (List ℕ)) (s m : State) (w x : Option (List ℕ)) (count : ℕ) (content : List ℕ)
     → (h : IsGoing left b p s m w x count) → is_whole content ≡ false
-    → all_commands ((concat h.lines ++ raw true content) ++ c) ≡ (h.served ++ option_to_list (line_command content [] true)) ++ commands true (raw_lines c)
+    → all_commands ((concat h.lines ++ raw true content) ++ c) ≡ (h.served ++ option_to_list (line_command content)) ++ commands (raw_lines c)
 unfolding all_commands
 cut_said left b p c q s m w x count content h no_lf =
     let line = raw true content in
-    let served = subst (λ z. AreServed (h.lines ++ line ∷ []) (h.served ++ option_to_list (line_command z [] true))) (without_lf-raw true content no_lf)
-    (AreServed-push h.lines h.served line [] (none_asked line) h.are_served) in
-    ap (λ z. commands true (raw_lines (z ++ c))) (sym (concat_push h.lines line))
-    ∙ ap (commands true) (AreWhole-push h.lines content no_lf h.are_lines c)
-    ∙ served true (raw_lines c)
+    let served = subst (λ z. AreServed (h.lines ++ line ∷ []) (h.served ++ option_to_list (line_command z))) (without_lf-raw true content no_lf)
+    (AreServed-push h.lines h.served line h.are_served) in
+    ap (λ z. commands (raw_lines (z ++ c))) (sym (concat_push h.lines line))
+    ∙ ap commands (AreWhole-push h.lines content no_lf h.are_lines c)
+    ∙ served (raw_lines c)
 
 cut_end_said : (left : Option (List ℕ)) (b : List ℕ) (p : Option (List ℕ)) (s m : State) (w x : Option (List ℕ)) (count : ℕ) (content : List ℕ)
     → (h : IsGoing left b p s m w x count) → is_whole content ≡ false
-    → all_commands (concat h.lines ++ content) ≡ (h.served ++ option_to_list (line_command content [] true)) ++ []
+    → all_commands (concat h.lines ++ content) ≡ (h.served ++ option_to_list (line_command content)) ++ []
 unfolding all_commands
 cut_end_said left b p s m w x count content h no_lf =
-    ap (commands true) (h.are_lines content) ∙ h.are_served true (raw_lines content) ∙ ap (λ z. h.served ++ z) (last_commands content no_lf)
-    ∙ sym (append-nil (h.served ++ option_to_list (line_command content [] true)))
+    ap commands (h.are_lines content) ∙ h.are_served (raw_lines content) ∙ ap (λ z. h.served ++ z) (last_commands content no_lf)
+    ∙ sym (append-nil (h.served ++ option_to_list (line_command content)))
 
 pub ends_write : (left : Option (List ℕ)) (b : List ℕ) (p : Option (List ℕ)) (c : List ℕ) (q : Option (List ℕ)) (s m t : State) (w x y : Option (List ℕ)) (count : ℕ) (allowed : Bool)
     → IsGoing left b p s m w x count → CutShort allowed b p c q m t x y → Ends (Err Write) left q s t w y
 ends_write left b p c q s m t w x y count allowed h k = go k.whole k.taken k.at_end where
   one : List Command
-  one = option_to_list (line_command k.content [] true)
+  one = option_to_list (line_command k.content)
 
   written : Appends w y (h.out ++ k.out)
   written = Appends-trans w x y _ _ h.written k.written
 
-  front : (cs others : List Command) → cs ≡ (h.served ++ option_to_list (line_command k.content [] true)) ++ others → WritesFront s cs (h.out ++ k.out) t
+  front : (cs others : List Command) → cs ≡ (h.served ++ option_to_list (line_command k.content)) ++ others → WritesFront s cs (h.out ++ k.out) t
   front cs others e = record {
-    served = h.served ++ option_to_list (line_command k.content [] true);
+    served = h.served ++ option_to_list (line_command k.content);
     others = others;
     whole = h.out ++ (k.out ++ k.unwritten);
     unwritten = k.unwritten;
@@ -293,7 +288,7 @@ ends_write left b p c q s m t w x y count allowed h k = go k.whole k.taken k.at_
     h.out ++ k.out,
     consumed left c q _ (Takes-trans [] left b p c q _ _ h.taken taken),
     written,
-    front _ (commands true (raw_lines c)) (cut_said left b p c q s m w x count k.content h k.no_lf),
+    front _ (commands (raw_lines c)) (cut_said left b p c q s m w x count k.content h k.no_lf),
   )
   go false taken at_end = (
     concat h.lines ++ k.content,

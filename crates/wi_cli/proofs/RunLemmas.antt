@@ -2,11 +2,11 @@
 use Rattle.std.proofs.Common.{◌≡◌, ℕ, List, [], ◌∷◌, ◌++◌, refl, sym, ap, ◌∙◌, subst, Option, None, Some, Err, append_assoc, append-nil, inl, inr}
 use Rattle.std.specs.List.{concat}
 use Rattle.std.specs.Option.{option_to_list}
-use Rattle.base.specs.declared.Refusal.{Refusal}
-use Rattle.base.specs.declared.Refusal.TheVariants.{Memory, Words, Line, Address, TooLong, Full, Sessions, Cut, Field}
-use Rattle.wi_cli.specs.Reply.{refused}
+use Rattle.wi_scenarios.specs.declared.refusal.Refusal.{Refusal}
+use Rattle.wi_scenarios.specs.declared.refusal.Refusal.TheVariants.{Memory, BadCommand, BadLine, OutOfSheet, Syntax, TooDeep, NumberRange, TooLong, Full, TooLarge, EditLimit}
+use Rattle.wi_cli.specs.Reply.{refused, reply, after}
 use Rattle.wi_scenarios.specs.State.{State}
-use Rattle.base.specs.Step.{Command, step, reply, after}
+use Rattle.wi_scenarios.specs.Step.{Command, step}
 use Rattle.wi_cli.specs.declared.answer.Answer.{Answer}
 use Rattle.wi_cli.specs.declared.answer.Answer.TheVariants.{Passed, Done, Refused}
 use Rattle.wi_cli.specs.Run.{Answers, Runs, Writes}
@@ -41,14 +41,16 @@ answered_by s c e t h k = inl (record { reply_is = sym (ap reply k); state_is = 
 
 refused_is : (s : State) (c : Command) (e : Refusal) (t : State) → t ≡ s → Refuses e s c → Answers s c (refused e) t
 refused_is s c Memory t h k = inr (record { reply_is = refl; state_is = h; may = k })
-refused_is s c Words t h k = answered_by s c Words t h k
-refused_is s c Line t h k = answered_by s c Line t h k
-refused_is s c Address t h k = answered_by s c Address t h k
+refused_is s c BadCommand t h k = answered_by s c BadCommand t h k
+refused_is s c BadLine t h k = answered_by s c BadLine t h k
+refused_is s c OutOfSheet t h k = answered_by s c OutOfSheet t h k
+refused_is s c Syntax t h k = answered_by s c Syntax t h k
+refused_is s c TooDeep t h k = answered_by s c TooDeep t h k
+refused_is s c NumberRange t h k = answered_by s c NumberRange t h k
 refused_is s c TooLong t h k = answered_by s c TooLong t h k
 refused_is s c Full t h k = answered_by s c Full t h k
-refused_is s c Sessions t h k = answered_by s c Sessions t h k
-refused_is s c Cut t h k = answered_by s c Cut t h k
-refused_is s c Field t h k = answered_by s c Field t h k
+refused_is s c TooLarge t h k = answered_by s c TooLarge t h k
+refused_is s c EditLimit t h k = answered_by s c EditLimit t h k
 
 -- what is told of a line is a run of its command
 pub Writes-told : (o : Option Command) (a : Answer) (s t : State) (out : List ℕ) → Told o a s t out → Writes s (option_to_list o) (told_bytes a out) t

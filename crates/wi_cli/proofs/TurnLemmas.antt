@@ -1,16 +1,21 @@
 -- A line served, and its answer written.
-use Rattle.std.proofs.Common.{ℕ, ◌+◌, Bool, true, List, [], ◌++◌, length, take, drop, sym, subst, Option, length-append, arith}
+use Rattle.std.proofs.Common.{◌≡◌, ℕ, ◌+◌, ◌<◌, ◌≤◌, Bool, true, ◌||◌, not, cond, ltb, ap, refl, ◌∙◌, ⊎_elim, Some, List, [], ◌++◌, length, take, drop, sym, subst, Option, length-append, arith}
 use Rattle.std.specs.Option.{option_to_list}
 use Rattle.std.specs.Io.KnownBytes.{Appends}
 use Rattle.std.proofs.KnownBytes.{Appends-trans}
-use Rattle.std.proofs.lemmas.List.{take-append-drop, take-append-le}
+use Rattle.std.proofs.lemmas.List.{take-append-drop, take-append-le, length-take, take_all}
+use Rattle.std.proofs.lemmas.Bool.{lt-ltb, cases_lt}
+use Rattle.std.specs.Str.{is_utf8}
+use Rattle.wi_scenarios.specs.Step.{Refused}
+use Rattle.wi_scenarios.specs.declared.refusal.Refusal.TheVariants.{BadLine}
+use Rattle.wi_cli.specs.Lines.{without_cr}
 use Rattle.std.proofs.Math.Seq.{take-append-add}
 use Rattle.wi_cli.specs.Front.{AppendsFront}
 use Rattle.wi_scenarios.specs.State.{State}
 use Rattle.wi_cli.specs.declared.answer.Answer.{Answer}
 use Rattle.wi_cli.specs.Told.{Told, told_bytes}
-use Rattle.wi_cli.specs.Script.{line_command}
-use Rattle.wi_cli.specs.Reading.{TookLine}
+use Rattle.wi_cli.specs.Script.{line_command, text_command}
+use Rattle.wi_cli.specs.Reading.{TookLine, front}
 use Rattle.wi_cli.specs.Turn.{Turned, CutShort}
 use Rattle.wi_cli.specs.Run.{Writes}
 use Rattle.wi_cli.proofs.RunLemmas.{Writes-told}
@@ -22,8 +27,27 @@ AppendsFront-append a b c xs ys h k =
 pub AppendsFront-of : (a b : Option (List ℕ)) (xs ys : List ℕ) → AppendsFront a b xs → AppendsFront a b (xs ++ ys)
 AppendsFront-of a b xs ys k = (k.0, omega (arith, length-append xs ys, k.1), subst (Appends a b) (sym (take-append-le k.0 xs ys k.1)) k.2)
 
+-- a line too long for the limit is known by its front, and any other is its front
+same_at_front : {X : Type 0} (limit n : ℕ) (f : List ℕ → X) (long : X) (bad : List ℕ → Bool) (content : List ℕ) → n ≡ limit + 1
+    → cond (ltb limit (length (take n content)) || bad (take n content)) long (f (take n content)) ≡ cond (ltb limit (length content) || bad content) long (f content)
+same_at_front {X} limit n f long bad content e = ⊎_elim
+    (λ (h : limit < length content).
+        let cut : limit < length (take n content) = omega (arith, length-take n content) in
+        ap (λ b. cond (b || bad (take n content)) long (f (take n content))) (lt-ltb limit (length (take n content)) cut)
+        ∙ sym (ap (λ b. cond (b || bad content) long (f content)) (lt-ltb limit (length content) h)))
+    (λ (h : length content ≤ limit).
+        ap (λ xs. cond (ltb limit (length xs) || bad xs) long (f xs)) (take_all n content (omega arith)))
+    (cases_lt limit (length content))
+
+pub line_command-front : (content : List ℕ) → line_command (front content) ≡ line_command content
+unfolding front line_command
+line_command-front content = same_at_front 65536 65537 (λ xs. text_command (without_cr xs)) (Some (Refused BadLine)) (λ xs. not (is_utf8 (without_cr xs))) content refl
+
+pub told_of_front : (line content : List ℕ) (a : Answer) (s t : State) (out : List ℕ) → line ≡ front content → Told (line_command line) a s t out → Told (line_command content) a s t out
+told_of_front line content a s t out e h = subst (λ o. Told o a s t out) (ap line_command e ∙ line_command-front content) h
+
 pub turned : (allowed whole : Bool) (b : List ℕ) (l : Option (List ℕ)) (b' : List ℕ) (l' : Option (List ℕ)) (s t : State) (w w' : Option (List ℕ)) (line : List ℕ) (a : Answer) (out : List ℕ)
-    → (k : TookLine allowed whole b l b' l' line) → Told (line_command k.content [] true) a s t out → Appends w w' (told_bytes a out)
+    → (k : TookLine allowed whole b l b' l' line) → Told (line_command k.content) a s t out → Appends w w' (told_bytes a out)
     → Turned allowed whole b l b' l' s t w w'
 turned allowed whole b l b' l' s t w w' line a out k told h = record {
   content = k.content;
@@ -33,11 +57,11 @@ turned allowed whole b l b' l' s t w w' line a out k told h = record {
   may = k.may;
   out = told_bytes a out;
   written = h;
-  writes = Writes-told (line_command k.content [] true) a s t out told;
+  writes = Writes-told (line_command k.content) a s t out told;
 }
 
 pub cut_short : (allowed whole : Bool) (b : List ℕ) (l : Option (List ℕ)) (b' : List ℕ) (l' : Option (List ℕ)) (s t : State) (w w' : Option (List ℕ)) (line : List ℕ) (a : Answer) (out : List ℕ)
-    → (k : TookLine allowed whole b l b' l' line) → Told (line_command k.content [] true) a s t out → AppendsFront w w' (told_bytes a out)
+    → (k : TookLine allowed whole b l b' l' line) → Told (line_command k.content) a s t out → AppendsFront w w' (told_bytes a out)
     → CutShort allowed b l b' l' s t w w'
 cut_short allowed whole b l b' l' s t w w' line a out k told h = record {
   whole = whole;
@@ -48,5 +72,5 @@ cut_short allowed whole b l b' l' s t w w' line a out k told h = record {
   out = take h.0 (told_bytes a out);
   unwritten = drop h.0 (told_bytes a out);
   written = h.2;
-  writes = subst (λ x. Writes s (option_to_list (line_command k.content [] true)) x t) (sym (take-append-drop h.0 (told_bytes a out))) (Writes-told (line_command k.content [] true) a s t out told);
+  writes = subst (λ x. Writes s (option_to_list (line_command k.content)) x t) (sym (take-append-drop h.0 (told_bytes a out))) (Writes-told (line_command k.content) a s t out told);
 }

@@ -1,1 +1,2 @@
 pub mod RecordLemmas
+pub mod RowLemmas

@@ -1,5 +1,7 @@
 -- What a command is answered.
 use Rattle.std.specs.Prelude.{◌≡◌, ℕ, List, [], Result, Ok, Err}
+use Rattle.wi_values.specs.declared.address.AddressFault.{AddressFault}
+use Rattle.wi_values.specs.declared.address.AddressFault.TheVariants.{Shape, Outside}
 use Rattle.wi_scenarios.specs.declared.refusal.Refusal.{Refusal}
 use Rattle.wi_scenarios.specs.declared.refusal.Refusal.TheVariants.{Memory, BadCommand, BadLine, OutOfSheet, Syntax, TooDeep, NumberRange, TooLong, Full, TooLarge, EditLimit}
 use Rattle.wi_scenarios.specs.State.{State}
@@ -21,6 +23,11 @@ code_of TooLong = 8
 code_of Full = 9
 code_of TooLarge = 15
 code_of EditLimit = 17
+
+-- the refusal of an operand that is no address or rectangle, or none of the sheet
+abbrev pub operand_refusal : AddressFault → Refusal
+operand_refusal Shape = BadCommand
+operand_refusal Outside = OutOfSheet
 
 -- a refusal for want of memory may stand in place of any answer, another only as the answer
 abbrev pub Refuses : Refusal → Answer → Type 0

@@ -3,6 +3,7 @@
 
 mod record;
 mod refusal;
+mod rows;
 mod workbook;
 
 pub use refusal::Refusal;

@@ -6,6 +6,7 @@ use std::alloc::{AllocError, AllocFailed};
 use thiserror::Error;
 use wi_parser::ParseFault;
 use wi_store::StoreFault;
+use wi_values::AddressFault;
 
 /// Why a command is refused. All is then as before.
 #[derive(Clone, Copy, PartialEq, Eq, Debug, Error)]
@@ -74,6 +75,19 @@ impl<T: Drop> From<AllocFailed<T>> for Refusal {
 
     fn from(_error: AllocFailed<T>) -> Refusal {
         Refusal::Memory
+    }
+}
+
+impl From<AddressFault> for Refusal {
+    ghost use Rattle.wi_scenarios.specs.Answer.{operand_refusal};
+
+    ghost from_gives = { λ fault e. e ≡ operand_refusal fault };
+
+    fn from(fault: AddressFault) -> Refusal {
+        match fault {
+            AddressFault::Shape => Refusal::BadCommand,
+            AddressFault::Outside => Refusal::OutOfSheet,
+        }
     }
 }
 

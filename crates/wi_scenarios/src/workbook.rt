@@ -3,8 +3,10 @@
 ghost use Rattle.std.specs.Prelude.{◌≡◌, ◌++◌, ℕ, List, [], IfOk};
 ghost use Rattle.wi_scenarios.specs.Answer.{Serves};
 ghost use Rattle.wi_scenarios.specs.SetStep.{set_step};
+ghost use Rattle.wi_scenarios.specs.ShowStep.{show_step};
 
 use crate::refusal::Refusal;
+use crate::rows::{MAX_AREA, push_rows, size};
 use std::alloc::{AllocError, Global};
 use std::marker::Model;
 use wi_parser::Content;
@@ -54,5 +56,21 @@ impl<C: Calculator> Workbook<C> {
         let changes = vec![in self.alloc; (at, Some(content))]?;
         self.calculator.apply(changes)?;
         Ok(())
+    }
+
+    /// Appends the shown texts of a rectangle's cells, a record for each row.
+    pub fn show(&mut self, area: Rect, out: &mut Vec<u8>) -> Result<(), Refusal>
+        ensures { (records : List ℕ) × (out.new.items ≡ out.old.items ++ records)
+            × Serves (show_step self.old area) result self.old self.new records }
+    {
+        if size(area) > MAX_AREA {
+            return Err(Refusal::TooLarge);
+        }
+        let before = out.len();
+        let pushed = push_rows(self.alloc, &mut self.calculator, area, out);
+        if pushed.is_err() {
+            out.truncate(before);
+        }
+        Ok(pushed?)
     }
 }

@@ -6,9 +6,8 @@ abbrev pub invariant-loop-out : goal.invariant-loop-out
 invariant-loop-out g l =
     let left = g.R.Source.remaining in
     let given = g.W.Sink.contents in
-    let state = g.B.Book.state in
     record {
-      going : IsGoing (left l.fn.reader) l.chunk (left l.reader) (state l.fn.book) (state l.book) (given l.fn.writer) (given l.writer) l.lines;
+      going : IsGoing (left l.fn.reader) l.chunk (left l.reader) l.fn.book l.book (given l.fn.writer) (given l.writer) l.lines;
       few : l.lines ≤ 1000000;
       reads : g.R.Source.has_failed l.reader ≡ false;
       writes : g.W.Sink.has_failed l.writer ≡ false;
