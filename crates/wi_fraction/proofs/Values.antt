@@ -1,5 +1,5 @@
 -- What the results are worth: they have the value of the exact operation.
-use Rattle.std.specs.Prelude.{◌≡◌, ℕ, zero, suc, ◌*◌, ◌/◌, ◌<◌, ℤ, pos, negsuc, ◌+ℤ◌, ◌*ℤ◌, neg_ℤ, unsigned_abs, int_div, Option, Some, None, refl}
+use Rattle.std.specs.Prelude.{◌≡◌, ℕ, zero, suc, ◌*◌, ◌/◌, ◌<◌, ℤ, pos, negsuc, ◌+ℤ◌, ◌-ℤ◌, ◌*ℤ◌, neg_ℤ, unsigned_abs, int_div, Option, Some, None, refl}
 use Rattle.std.specs.Int.{◌∣◌}
 use Rattle.std.proofs.Common.{sym, ap, ◌∙◌, subst, arith}
 use Rattle.std.proofs.lemmas.Int.{ints}
@@ -8,8 +8,13 @@ use Rattle.std.specs.Prelude.{Bool, true, false, cond, nat_le, option_and_then, 
 use Rattle.std.specs.Ordering.{int_cmp}
 use Rattle.std.specs.Cmp.{int_ranks}
 use Rattle.wi_fraction.specs.Gcd.{gcd, is_gcd}
-use Rattle.wi_fraction.specs.Number.{Number, number_of, number_at-is, max_size}
-use Rattle.wi_fraction.specs.Arithmetic.{within, int_within, sum_of, product_of, quotient_of, fraction_of}
+use Rattle.std.proofs.lemmas.Int.{unsigned_abs-mul}
+use Rattle.wi_fraction.specs.Gcd.{same_lowest}
+use Rattle.wi_fraction.specs.Laws.{IsExact}
+use Rattle.wi_fraction.proofs.Divisors.{gcd_pos, div_gcd_pos, coprime_divided}
+use Rattle.wi_fraction.proofs.Numbers.{abs-signed}
+use Rattle.wi_fraction.specs.Number.{Number, number_of, number_at-some, number_at-is, max_size}
+use Rattle.wi_fraction.specs.Arithmetic.{negated, within, int_within, sum_of, product_of, quotient_of, fraction_of}
 use Rattle.wi_fraction.proofs.Steps.{within-some, multiple_pos}
 use Rattle.wi_fraction.specs.Integers.{mul-mul, neg-pos-mul, mul_below, int_irrefl, by_rank, turn}
 
@@ -25,6 +30,10 @@ mul-none (negsuc a) = omega (arith, ints)
 pub add-mul : (p q : ℤ) (k : ℕ) → (p +ℤ q) *ℤ pos k ≡ p *ℤ pos k +ℤ q *ℤ pos k
 add-mul p q zero = omega (arith, ints, mul-none (p +ℤ q), mul-none p, mul-none q)
 add-mul p q (suc k) = omega (arith, ints, mul-suc (p +ℤ q) k, mul-suc p k, mul-suc q k, add-mul p q k)
+
+abs-div : (n : ℤ) (g : ℕ) → unsigned_abs (int_div n (pos g)) ≡ unsigned_abs n / g
+abs-div (pos a) g = refl
+abs-div (negsuc a) g = abs-signed true (suc a / g)
 
 divided : (n : ℤ) (g : ℕ) → g ∣ unsigned_abs n → int_div n (pos g) *ℤ pos g ≡ n
 divided (pos a) g h = ap pos (div-mul_cancel g h)
@@ -128,3 +137,33 @@ fraction_value n (negsuc d) z e = both_turned n z.num z.den d (value_of (neg_ℤ
 -- a quotient has the value of the exact quotient
 pub quotient_value : (x y z : Number) → quotient_of x y ≡ Some z → (x.num *ℤ pos y.den) *ℤ pos z.den ≡ z.num *ℤ (pos x.den *ℤ y.num)
 quotient_value x y z e = fraction_value (x.num *ℤ pos y.den) (pos x.den *ℤ y.num) z e
+
+-- a difference has the value of the exact difference
+pub difference_value : (x y z : Number) → sum_of x (negated y) ≡ Some z → (x.num *ℤ pos y.den -ℤ y.num *ℤ pos x.den) *ℤ pos z.den ≡ z.num *ℤ pos (x.den * y.den)
+unfolding negated
+difference_value x y z e = ap (λ v. (x.num *ℤ pos y.den +ℤ v) *ℤ pos z.den) (sym (neg-mul y.num x.den)) ∙ sum_value x (negated y) z e
+
+-- ---- the number that has a value
+
+-- of two fractions of one value, the one in lowest terms and the number have the same parts
+number_by_value : (n : ℤ) (d : ℕ) (z : Number) → 0 < d → n *ℤ pos z.den ≡ z.num *ℤ pos d → number_of n d ≡ Some z
+unfolding number_of
+number_by_value n d z dp e =
+    let g = gcd (unsigned_abs n) d in
+    let low = d / g in
+    let top = int_div n (pos g) in
+    let i = is_gcd (unsigned_abs n) d in
+    let gp : 0 < g = gcd_pos (unsigned_abs n) d dp in
+    let top_is : top *ℤ pos g ≡ n = divided n g i.0 in
+    let low_is : low * g ≡ d = div-mul_cancel g i.1 in
+    let scaled : top *ℤ pos z.den *ℤ pos g ≡ z.num *ℤ pos low *ℤ pos g = turn top z.den g ∙ ap (λ v. v *ℤ pos z.den) top_is ∙ e ∙ ap (λ v. z.num *ℤ pos v) (sym low_is) ∙ sym (mul-mul z.num low g) in
+    let cross : top *ℤ pos z.den ≡ z.num *ℤ pos low = same_from_mul _ _ g gp scaled in
+    let size_is : unsigned_abs top ≡ unsigned_abs n / g = abs-div n g in
+    let sizes : unsigned_abs n / g * z.den ≡ unsigned_abs z.num * low = ap (λ v. v * z.den) (sym size_is) ∙ sym (unsigned_abs-mul top (pos z.den)) ∙ ap unsigned_abs cross ∙ unsigned_abs-mul z.num (pos low) in
+    let p = z.is_number in
+    let both = same_lowest (unsigned_abs n / g) low (unsigned_abs z.num) z.den (div_gcd_pos (unsigned_abs n) d dp) p.above_zero (coprime_divided (unsigned_abs n) d dp) p.lowest sizes in
+    let again : top *ℤ pos z.den ≡ z.num *ℤ pos z.den = cross ∙ ap (λ v. z.num *ℤ pos v) both.1 in
+    number_at-some top low z (sym (same_from_mul _ _ z.den p.above_zero again)) (sym both.1)
+
+pub exact : IsExact
+exact n d z dp = (value_of n d z, number_by_value n d z dp)

@@ -1,6 +1,6 @@
 // Sums, products, quotients and the other sign.
 
-ghost use Rattle.std.specs.Prelude.{◌≡◌, ◌≢◌, ◌*◌, ◌<◌, ◌≤◌, pos, ◌+ℤ◌, ◌*ℤ◌, ok_or, if◌then◌else◌, IfOk};
+ghost use Rattle.std.specs.Prelude.{◌≡◌, ◌≢◌, ◌*◌, ◌<◌, ◌≤◌, pos, ◌+ℤ◌, ◌-ℤ◌, ◌*ℤ◌, ok_or, if◌then◌else◌, IfOk};
 ghost use Rattle.std.specs.Ordering.{int_eq};
 ghost use Rattle.wi_fraction.specs.Gcd.{gcd};
 ghost use Rattle.wi_fraction.specs.Number.{max_size, number_of, signed};
@@ -22,8 +22,11 @@ impl Fraction {
     }
 
     /// The difference, which overflows where the sum with the second negated does.
+    #[tactic(auto, using(crate::proofs::Values::difference_value))]
     pub fn checked_sub(self, other: Fraction) -> Result<Fraction, FractionError>
-        ensures { result ≡ ok_or (sum_of self (negated other)) FractionError.Overflow }
+        ensures value { result ≡ ok_or (sum_of self (negated other)) FractionError.Overflow }
+        ensures exact { IfOk result
+            (λ z. (self.num *ℤ pos other.den -ℤ other.num *ℤ pos self.den) *ℤ pos z.den ≡ z.num *ℤ pos (self.den * other.den)) }
     {
         self.checked_add(other.neg())
     }

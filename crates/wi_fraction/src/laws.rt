@@ -1,7 +1,22 @@
 //! Laws of the definitions. Each is the contract of a function that does nothing.
 
 ghost use Rattle.std.specs.Prelude.{ℕ};
-ghost use Rattle.wi_fraction.specs.Laws.{ReadsBack, ShowsFewestPlaces};
+ghost use Rattle.std.specs.Int.{IsGcd};
+ghost use Rattle.wi_fraction.specs.Gcd.{gcd};
+ghost use Rattle.wi_fraction.specs.Laws.{IsExact, ReadsBack, ShowsFewestPlaces};
+
+/// The greatest common divisor is one.
+pub fn divisors_are_greatest()
+    ensures { (a b : ℕ) → IsGcd a b (gcd a b) }
+{
+}
+
+/// A fraction in lowest terms is the number that has its value, where there is one.
+#[tactic(auto, using(crate::proofs::Values::exact))]
+pub fn lowest_terms_are_exact()
+    ensures { IsExact }
+{
+}
 
 /// Each shown text reads back to its number.
 #[tactic(auto, using(crate::proofs::ReadsBack::reads_back))]
