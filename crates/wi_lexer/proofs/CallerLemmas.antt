@@ -1,5 +1,5 @@
 -- What a loop over `next_token` collects: the tokens of the text.
-use Rattle.std.proofs.Common.{◌≡◌, ℕ, zero, suc, ◌+◌, ◌<◌, ◌≤◌, Bool, true, false, List, [], ◌∷◌, ◌++◌, length, take, drop, Option, Some, None, Result, Ok, Err, refl, sym, ap, ◌∙◌, subst, arith, append_assoc, length-append, length-drop, append-nil}
+use Rattle.std.proofs.Common.{◌≡◌, ℕ, zero, suc, ◌<◌, ◌≤◌, true, false, List, [], ◌∷◌, ◌++◌, length, take, drop, Option, Some, None, Result, Ok, Err, refl, sym, ap, ◌∙◌, subst, arith, append_assoc, length-append, length-drop, append-nil}
 use Rattle.std.proofs.lemmas.List.{length-take-le}
 use Rattle.std.proofs.Math.Seq.{drop-append_seam, take-append_seam}
 use Rattle.wi_lexer.specs.declared.token.Kind.{Kind}
@@ -10,7 +10,6 @@ use Rattle.wi_lexer.specs.Token.{NoToken, token_at, after_blanks}
 use Rattle.wi_lexer.specs.Inside.{Scan}
 use Rattle.wi_lexer.specs.Scan.{start_of, ahead, IsNext, IsDone, Gives}
 use Rattle.wi_lexer.specs.Tokens.{Tokens, no_tokens, bad_token, then_tokens, tokens_from, tokens_ahead, tokens_within, tokens}
-use Rattle.wi_lexer.proofs.RunLemmas.{run_within}
 use Rattle.wi_lexer.proofs.TokenLemmas.{token_some, token_sound, token_complete, none_found}
 
 -- ---- the bound on the number of tokens is never felt

@@ -1,15 +1,15 @@
 -- The parts of a cell are found exactly where the bytes are the text of one.
-use Rattle.std.proofs.Common.{◌≡◌, ℕ, zero, suc, ◌+◌, ◌<◌, ◌≤◌, Bool, true, false, cond, ◌&&◌, ◌==◌, ◌⊎◌, inl, inr, List, [], ◌∷◌, ◌++◌, length, take, drop, Option, Some, None, refl, sym, ap, ◌∙◌, subst, arith, append_assoc, length-append}
+use Rattle.std.proofs.Common.{◌≡◌, ℕ, ◌<◌, Bool, true, false, cond, ◌==◌, List, [], ◌∷◌, ◌++◌, length, take, drop, Some, None, refl, sym, ap, ◌∙◌, subst, arith}
 use Rattle.std.specs.Prelude.{nat_lt, slice_index}
-use Rattle.std.proofs.lemmas.Bool.{cases_Bool, eqb-true, ltb-true, lt-ltb, true≢false}
+use Rattle.std.proofs.lemmas.Bool.{eqb-true, ltb-true, lt-ltb}
 use Rattle.std.proofs.lemmas.Bool.Decides.{nat_tests}
 use Rattle.std.proofs.lemmas.List.{take-append-drop}
 use Rattle.std.proofs.Math.Seq.{drop-append_seam, take-append_seam}
-use Rattle.std.specs.List.{prefix_len, list_all}
+use Rattle.std.specs.List.{list_all}
 use Rattle.std.specs.Char.{is_ascii_digit, is_ascii_alphabetic}
 use Rattle.wi_lexer.specs.Runs.{IsRun, letters_len}
 use Rattle.wi_lexer.specs.Cell.{Cell, IsCell, dollar, cell_text, begins_fixed, after_dollar, cut_row, cut_column, is_row, is_cell, if_cell, cell_of}
-use Rattle.wi_lexer.proofs.RunLemmas.{both_are_true, run_within, run_stops, run_more, run_all}
+use Rattle.wi_lexer.proofs.RunLemmas.{both_are_true, run_stops, run_more, run_all}
 
 -- the text before and after a `$` that may stand first
 dollar_back : (bs : List ℕ) → dollar (begins_fixed bs) ++ after_dollar bs ≡ bs

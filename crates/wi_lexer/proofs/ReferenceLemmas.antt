@@ -1,16 +1,16 @@
 -- The reference found at the front is one, and each reference there is found.
-use Rattle.std.proofs.Common.{◌≡◌, ℕ, zero, suc, ◌+◌, ◌-◌, ◌<◌, ◌≤◌, Bool, true, false, cond, ◌&&◌, ◌==◌, ◌⊎◌, inl, inr, List, [], ◌∷◌, ◌++◌, length, take, drop, get_or, Option, Some, None, is_some, refl, sym, ap, ◌∙◌, subst, arith, append_assoc, length-append}
+use Rattle.std.proofs.Common.{◌≡◌, ℕ, suc, ◌+◌, ◌-◌, ◌<◌, ◌≤◌, Bool, true, false, cond, ◌&&◌, ◌==◌, List, [], ◌∷◌, ◌++◌, length, take, get_or, Option, Some, None, is_some, refl, sym, ap, ◌∙◌, subst, arith, append_assoc, length-append}
 use Rattle.std.specs.Prelude.{nat_lt, slice_index}
-use Rattle.std.proofs.lemmas.Bool.{cases_Bool, eqb-true, ltb-true, lt-ltb, true≢false}
+use Rattle.std.proofs.lemmas.Bool.{eqb-true, ltb-true, lt-ltb}
 use Rattle.std.proofs.lemmas.Bool.Decides.{nat_tests}
-use Rattle.std.proofs.lemmas.List.{take-append-drop, length-take-le, take_more, get_or_push}
+use Rattle.std.proofs.lemmas.List.{take_more, get_or_push}
 use Rattle.std.proofs.Math.Seq.{take-length, take-append_seam}
-use Rattle.std.specs.List.{prefix_len, list_all}
+use Rattle.std.specs.List.{list_all}
 use Rattle.std.specs.Char.{is_ascii_digit, is_ascii_alphabetic}
-use Rattle.wi_lexer.specs.Runs.{IsRun, is_inside, inside_len}
+use Rattle.wi_lexer.specs.Runs.{is_inside, inside_len}
 use Rattle.wi_lexer.specs.Cell.{Cell, IsCell, dollar, cell_text, cell_of}
 use Rattle.wi_lexer.specs.Reference.{IsReference, one_cell, inside, is_bracketed, reference_of, reference_len}
-use Rattle.wi_lexer.proofs.RunLemmas.{both_are_true, run_within, run_more, all_append, all_wider}
+use Rattle.wi_lexer.proofs.RunLemmas.{both_are_true, run_more, all_append, all_wider}
 use Rattle.wi_lexer.proofs.CellLemmas.{cell_sound, cell_complete}
 
 abbrev bracketed : List ℕ → List ℕ

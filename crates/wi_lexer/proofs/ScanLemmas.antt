@@ -1,12 +1,12 @@
 -- What a lexer cuts off is the next token, and the slice of the source at its span.
-use Rattle.std.proofs.Common.{Bool, false, ◌==◌, eq-eqb, ◌≡◌, ◌≢◌, ℕ, zero, suc, ◌+◌, ◌-◌, ◌<◌, ◌≤◌, List, [], ◌∷◌, ◌++◌, length, take, drop, Option, Some, None, refl, sym, ap, ◌∙◌, subst, arith, length-drop}
+use Rattle.std.proofs.Common.{Bool, false, ◌==◌, eq-eqb, ◌≡◌, ◌≢◌, ℕ, ◌+◌, ◌-◌, ◌≤◌, List, [], ◌∷◌, ◌++◌, length, take, drop, Some, None, refl, sym, ap, ◌∙◌, subst, arith, length-drop}
 use Rattle.std.proofs.lemmas.List.{take-append-drop, drop-drop}
 use Rattle.std.proofs.lemmas.Bool.{true≢false}
 use Rattle.wi_lexer.specs.declared.token.Kind.{Kind}
 use Rattle.wi_lexer.specs.Runs.{blanks_len}
-use Rattle.wi_lexer.specs.Token.{IsLongest, NoToken, after_blanks, token_at}
+use Rattle.wi_lexer.specs.Token.{IsLongest, NoToken, token_at}
 use Rattle.wi_lexer.specs.Inside.{Scan}
-use Rattle.wi_lexer.specs.Scan.{ahead, IsDone}
+use Rattle.wi_lexer.specs.Scan.{ahead}
 use Rattle.wi_lexer.proofs.TokenLemmas.{token_sound, none_begins}
 
 abbrev scan : List ℕ → List ℕ → Scan

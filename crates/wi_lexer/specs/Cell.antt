@@ -1,5 +1,5 @@
 -- Cells as a formula writes them: a column in letters, a row in digits, `$` before a part that is absolute.
-use Rattle.std.specs.Prelude.{◌≡◌, ℕ, ◌<◌, Bool, ◌&&◌, ◌==◌, nat_lt, if◌then◌else◌, List, [], ◌∷◌, ◌++◌, length, take, drop, slice_index, Option, Some, None}
+use Rattle.std.specs.Prelude.{ℕ, ◌<◌, Bool, ◌&&◌, ◌==◌, nat_lt, if◌then◌else◌, List, [], ◌∷◌, ◌++◌, length, take, drop, slice_index, Option, Some, None}
 use Rattle.std.specs.List.{list_all}
 use Rattle.std.specs.Char.{is_ascii_digit, is_ascii_alphabetic}
 use Rattle.wi_lexer.specs.Runs.{IsRun, letters_len}
@@ -36,19 +36,23 @@ begins_fixed bs = slice_index bs 0 == 36
 abbrev pub after_dollar : List ℕ → List ℕ
 after_dollar bs = if begins_fixed bs then drop 1 bs else bs
 
--- the parts at whose ends the bytes would be cut
+-- the cell with this column, whose row is these bytes
 abbrev pub cut_row : Bool → List ℕ → List ℕ → Cell
 cut_row fixed letters row = record { column_fixed = fixed; letters = letters; row_fixed = begins_fixed row; digits = after_dollar row }
 
+-- the cell whose column is the letters at the front, and whose row is what follows them
 abbrev pub cut_column : Bool → List ℕ → Cell
 cut_column fixed bs = cut_row fixed (take (letters_len bs) bs) (drop (letters_len bs) bs)
 
+-- whether these are digits of which the first isn't 0
 abbrev pub is_row : List ℕ → Bool
 is_row digits = nat_lt 48 (slice_index digits 0) && list_all is_ascii_digit digits
 
+-- whether a column and a row are there
 abbrev pub is_cell : Cell → Bool
 is_cell c = nat_lt 0 (length c.letters) && is_row c.digits
 
+-- the parts, if they are a cell's
 abbrev pub if_cell : Cell → Option Cell
 if_cell c = if is_cell c then Some c else None
 
@@ -56,6 +60,6 @@ if_cell c = if is_cell c then Some c else None
 unfoldable pub cell_of : List ℕ → Option Cell
 cell_of bs = if_cell (cut_column (begins_fixed bs) (after_dollar bs))
 
--- what a `CellText` stands for
+-- the parts that a `CellText` lends
 abbrev pub parts : CellText → Cell
 parts c = record { column_fixed = c.column_fixed; letters = c.letters.now; row_fixed = c.row_fixed; digits = c.digits.now }

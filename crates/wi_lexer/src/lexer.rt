@@ -21,7 +21,9 @@ pub struct Token<'a> {
 #[error("no token begins here")]
 pub struct BadToken;
 
-/// A reader of the tokens of a text, in time that grows with the text's length.
+/// A reader of the tokens of a text. White space may stand between them and after the last.
+///
+/// Reading all tokens looks at each byte a fixed number of times at most.
 #[derive(Drop)]
 pub struct Lexer<'a> {
     source: &'a str,
@@ -41,6 +43,7 @@ impl<'a> Model for Lexer<'a> {
 }
 
 impl<'a> Lexer<'a> {
+    /// A lexer at the start of the text.
     pub fn new(source: &'a str) -> Lexer<'a>
         ensures { result ≡ start_of source.now }
     {

@@ -3,12 +3,12 @@
 ghost use Rattle.std.specs.Prelude.{◌≡◌, length};
 ghost use Rattle.wi_lexer.specs.Mark.{mark_text};
 
-/// The kinds of tokens.
+/// The kinds of tokens, as in OpenFormula, section 5.
 #[derive(Clone, Copy, Debug, PartialEq, Eq)]
 pub enum Kind {
     /// Digits, optionally a point and digits; or a point and digits.
     Number,
-    /// `[.CELL]`, whose cell is told by `cell::reference_of`.
+    /// `[.CELL]`; `reference_of` tells its cell.
     Reference,
     /// An operator, a parenthesis or a separator.
     Mark(Mark),
