@@ -1,4 +1,5 @@
 pub mod Corners
+pub mod Fields
 pub mod Letters
 pub mod ReadsBack
 pub mod Rows

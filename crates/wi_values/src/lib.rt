@@ -2,6 +2,7 @@
 #![tactic(auto)]
 
 mod address;
+mod import;
 pub mod laws;
 mod rect;
 mod replacement;
@@ -11,6 +12,7 @@ mod text;
 mod value;
 
 pub use address::{Address, AddressFault, COLUMNS, ROWS};
+pub use import::{FieldFault, field_value, imported_value};
 pub use rect::Rect;
 pub use replacement::Replacement;
 pub use text::{MAX_TEXT, Text};

@@ -1,7 +1,10 @@
 ghost use Rattle.std.specs.Prelude.{◌<◌};
 ghost use Rattle.wi_values.specs.Address.{rows};
 
-use crate::{Address, AddressFault, ErrorKind, Rect, Replacement, Text, Value};
+use crate::{
+    Address, AddressFault, ErrorKind, FieldFault, Rect, Replacement, Text, Value, field_value,
+    imported_value,
+};
 use std::alloc::{AllocError, Global};
 use std::test::Fail;
 use wi_fraction::{Fraction, FractionError};
@@ -17,6 +20,14 @@ fn written(alloc: Global, row: u32, column: u32) -> Result<String, AllocError>
 fn shown(alloc: Global, value: &Value) -> Result<String, AllocError> {
     let mut text = String::from_str(alloc, "=")?;
     value.push_shown(&mut text)?;
+    Ok(text)
+}
+
+fn repeated(alloc: Global, sign: char, count: u32) -> Result<String, AllocError> {
+    let mut text = String::new(alloc);
+    for _ in 0..count {
+        text.push(sign)?;
+    }
     Ok(text)
 }
 
@@ -166,4 +177,47 @@ fn replacements_are_compared(rt: HostRuntime) {
     };
     assert_eq!(rt; emptied, emptied);
     assert_ne!(rt; emptied, denied);
+}
+
+#[test]
+fn fields_become_values(rt: HostRuntime) -> Result<(), Fail> {
+    assert_eq!(rt; field_value(rt.alloc(), "")?, Value::Empty);
+    assert_eq!(rt; field_value(rt.alloc(), "TRUE")?, Value::Logical(true));
+    assert_eq!(rt; field_value(rt.alloc(), "FALSE")?, Value::Logical(false));
+    assert_eq!(rt; field_value(rt.alloc(), "-2.50")?, ratio(-5, 2)?);
+    assert_eq!(rt; imported_value(rt.alloc(), "+2/6")?, ratio(1, 3)?);
+    Ok(())
+}
+
+#[test]
+fn other_fields_are_texts(rt: HostRuntime) -> Result<(), Fail> {
+    for text in ["true", "=1", "'", " 1", "1/0", "1.", ".5", "1e3", "#N/A"] {
+        let word = Value::Text(Text::from_str(rt.alloc(), text)?);
+        assert_eq!(rt; field_value(rt.alloc(), text)?, word, "{text}");
+    }
+    assert_eq!(rt;
+        imported_value(rt.alloc(), "")?,
+        Value::Text(Text::new(String::new(rt.alloc())))
+    );
+    Ok(())
+}
+
+#[test]
+fn longest_field(rt: HostRuntime) -> Result<(), Fail> {
+    let longest = repeated(rt.alloc(), 'x', 32_767)?;
+    let word = Value::Text(Text::from_str(rt.alloc(), longest.as_str())?);
+    assert_eq!(rt; field_value(rt.alloc(), longest.as_str())?, word);
+    Ok(())
+}
+
+#[test]
+fn fields_that_are_too_long(rt: HostRuntime) -> Result<(), Fail> {
+    let long = repeated(rt.alloc(), 'x', 32_768)?;
+    assert_eq!(rt;
+        field_value(rt.alloc(), long.as_str()),
+        Err(FieldFault::TooLong)
+    );
+    let zeros = repeated(rt.alloc(), '0', 40_000)?;
+    assert_eq!(rt; field_value(rt.alloc(), zeros.as_str())?, ratio(0, 1)?);
+    Ok(())
 }
