@@ -1,7 +1,14 @@
--- A field that is not empty is taken for the value of its text.
+-- Fields, and texts of numbers.
 use Rattle.std.proofs.Common.{◌≡◌, ℕ, List, [], ◌∷◌, length, refl}
+use Rattle.wi_fraction.proofs.ReadsBack.{reads_back}
 use Rattle.wi_values.specs.Import.{imported, field_value}
+use Rattle.wi_values.specs.Laws.{NumbersReadBack}
 
+-- a field that is not empty is taken for the value of its text
 pub field_of_text : (bs : List ℕ) → (length bs ≡ 0 → ⊥) → field_value bs ≡ imported bs
 field_of_text [] some = absurd (some refl)
 field_of_text (b ∷ bs) some = refl
+
+pub numbers_read_back : NumbersReadBack
+unfolding imported
+numbers_read_back x = rw (reads_back x)

@@ -1,7 +1,7 @@
 //! Laws of the definitions and of equality. The contract of each function is the law.
 
 ghost use Rattle.std.specs.Prelude.{◌≡◌, ◌↔◌, IsTrue};
-ghost use Rattle.wi_values.specs.Laws.{AddressesReadBack, CornersMayTurn};
+ghost use Rattle.wi_values.specs.Laws.{AddressesReadBack, CornersMayTurn, NumbersReadBack};
 
 use crate::replacement::Replacement;
 use crate::value::Value;
@@ -16,6 +16,12 @@ pub fn addresses_read_back()
 #[tactic(auto, using(crate::proofs::Corners::corners_may_turn))]
 pub fn corners_may_turn()
     ensures { CornersMayTurn }
+{}
+
+/// The shown text of each number is taken for that number.
+#[tactic(auto, using(crate::proofs::Fields::numbers_read_back))]
+pub fn numbers_read_back()
+    ensures { NumbersReadBack }
 {}
 
 /// Values are equal exactly where they are one value.
