@@ -7,3 +7,9 @@ pub mod Steps
 pub mod Graphs
 pub mod Numbers
 pub mod Rows
+pub mod Last
+pub mod ReadLists
+pub mod Known
+pub mod Missing
+pub mod Ends
+pub mod Paths

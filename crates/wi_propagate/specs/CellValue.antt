@@ -37,3 +37,7 @@ cell_value s c = value_within (length (formula_cells s)) s c
 -- a what-if: the value of a cell in the sheet edited by each pair's input and replacing cell
 abbrev pub what_if_value : Sheet → ℕ → List (ℕ × ℕ) → Value
 what_if_value s f pairs = cell_value (put_all s (replacements (cell_value s) pairs)) f
+
+-- a formula's value in a sheet
+abbrev pub formula_value : Sheet → Tree → Value
+formula_value s t = zero_for_empty (meaning t (cell_value s) (what_if_value s))

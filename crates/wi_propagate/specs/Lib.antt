@@ -2,3 +2,8 @@ pub mod Circular
 pub mod CellValue
 pub mod Shown
 pub mod Laws
+pub mod ReadCells
+pub mod Clear
+pub mod Seen
+pub mod Found
+pub mod Ends

@@ -2,6 +2,10 @@
 #![tactic(auto)]
 
 mod calculator;
+mod circular;
+mod found;
 pub mod laws;
+mod seen;
+mod value;
 
 pub use calculator::Calculator;

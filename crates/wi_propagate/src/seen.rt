@@ -1,0 +1,93 @@
+//! What stands in a cell under replacements.
+
+ghost use Rattle.std.specs.Prelude.{◌≡◌, None, false, IfOk, IfSome, IfNone};
+ghost use Rattle.std.specs.Option.{option_copied};
+ghost use Rattle.wi_parser.specs.Sheet.{constant, content_of, has_formula, put_all};
+ghost use Rattle.wi_propagate.specs.Seen.{content_seen, last_from};
+
+use std::alloc::{AllocError, Global};
+use wi_parser::{Content, Formula};
+use wi_store::Store;
+use wi_values::{Address, Replacement, Value};
+
+/// What stands in a cell.
+#[derive(Clone, Copy, Debug)]
+pub enum Seen<'a> {
+    Nothing,
+    Constant(&'a Value),
+    Formula(&'a Formula),
+}
+
+/// What stands in a cell under replacements, of which the last for a cell stands.
+pub fn content_under<'a>(store: &'a Store, put: &'a [Replacement], at: Address) -> Seen<'a>
+    ensures { content_seen result ≡ content_of (put_all store.now.sheet put.now) at }
+{
+    match last_put(put, at) {
+        Some(value) => constant(value),
+        None => stored(store, at),
+    }
+}
+
+/// What a cell has where a constant is put.
+fn constant(value: &Value) -> Seen<'_>
+    ensures { content_seen result ≡ constant value.now }
+{
+    match value {
+        Value::Empty => Seen::Nothing,
+        Value::Number(_) => Seen::Constant(value),
+        Value::Text(_) => Seen::Constant(value),
+        Value::Logical(_) => Seen::Constant(value),
+        Value::Fault(_) => Seen::Constant(value),
+    }
+}
+
+/// What stands in a cell.
+fn stored(store: &Store, at: Address) -> Seen<'_>
+    ensures { content_seen result ≡ content_of store.now.sheet at }
+{
+    match store.get(at) {
+        None => Seen::Nothing,
+        Some(Content::Constant(value)) => Seen::Constant(value),
+        Some(Content::Formula(formula)) => Seen::Formula(formula),
+    }
+}
+
+/// The formula in a cell, if it has one.
+pub fn formula_at(store: &Store, at: Address) -> Option<&Formula>
+    ensures found { IfSome result (λ f. content_of store.now.sheet at ≡ Some (Content.Formula f.now)) }
+    ensures none { IfNone result (has_formula (content_of store.now.sheet at) ≡ false) }
+{
+    match stored(store, at) {
+        Seen::Nothing => None,
+        Seen::Constant(_) => None,
+        Seen::Formula(formula) => Some(formula),
+    }
+}
+
+/// The last replacement for a cell.
+fn last_put(put: &[Replacement], at: Address) -> Option<&Value>
+    ensures { option_copied result ≡ last_from put.now at None }
+{
+    let mut found = None;
+    for replacement in put {
+        if replacement.at == at {
+            found = Some(&replacement.value);
+        }
+    }
+    found
+}
+
+/// The same replacements once more.
+pub fn copies(alloc: Global, put: &[Replacement]) -> Result<Vec<Replacement>, AllocError>
+    ensures { IfOk result (λ v. v.items ≡ put.now) }
+{
+    let mut copies = Vec::new(alloc);
+    for replacement in put {
+        let value = replacement.value.copy(alloc)?;
+        copies.push(Replacement {
+            at: replacement.at,
+            value,
+        })?;
+    }
+    Ok(copies)
+}
