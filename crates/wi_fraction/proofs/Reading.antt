@@ -1,8 +1,8 @@
 -- Reading digit by digit: a whole number from the first, a decimal from the last.
-use Rattle.std.specs.Prelude.{◌≡◌, ℕ, zero, suc, ◌+◌, ◌-◌, ◌*◌, ◌<◌, ◌≤◌, pos, unsigned_abs, Bool, false, ◌⊎◌, List, [], ◌∷◌, length, drop, take, slice_index, Option, Some, None, refl}
+use Rattle.std.specs.Prelude.{◌≡◌, ℕ, zero, suc, ◌+◌, ◌-◌, ◌*◌, ◌<◌, ◌≤◌, pos, unsigned_abs, Bool, false, ◌⊎◌, List, [], ◌∷◌, length, drop, take, Option, Some, None, refl}
 use Rattle.std.specs.Char.{digit_value}
 use Rattle.std.specs.Str.Parse.{AllDigits, digits_value}
-use Rattle.std.proofs.Common.{ap, ◌∙◌, sym, subst, inl, inr, arith, get_or, drop-cons}
+use Rattle.std.proofs.Common.{◌∙◌, sym, inl, inr, arith, get_or, drop-cons}
 use Rattle.std.proofs.lemmas.Bool.Decides.{nat_tests}
 use Rattle.std.proofs.Math.Nat.{mul-le-mul_left}
 use Rattle.std.proofs.lemmas.Int.Digits.{digits_value_more}

@@ -8,7 +8,6 @@ use Rattle.std.specs.List.{prefix_len}
 use Rattle.std.proofs.Common.{ap, ◌∙◌, sym, subst, arith, rules, tests}
 use Rattle.std.proofs.lemmas.Bool.Decides.{nat_tests}
 use Rattle.std.proofs.lemmas.Fmt.{decimal_is_IsNumeral_wide}
-use Rattle.std.proofs.lemmas.Str.Parse.{IsNumeralModel, numerals_by_value, tells_all_ascii_digits}
 use Rattle.std.proofs.Math.Seq.{take-append_seam, drop-append_seam}
 use Rattle.std.proofs.Math.Nat.{pow-zero, mul_assoc, add-mul, one-le-pow, div-le_self}
 use Rattle.std.proofs.lemmas.List.{append-nil}

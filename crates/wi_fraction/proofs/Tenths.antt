@@ -1,11 +1,11 @@
 -- A tenth of a digit and a fraction, within the limits.
-use Rattle.std.specs.Prelude.{◌≡◌, ◌≢◌, ◌⊎◌, ℕ, zero, suc, ◌+◌, ◌*◌, ◌/◌, ◌%◌, ◌<◌, ◌≤◌, pos, false, Option, Some, None, refl}
+use Rattle.std.specs.Prelude.{◌≡◌, ◌≢◌, ◌⊎◌, ℕ, zero, suc, ◌+◌, ◌*◌, ◌/◌, ◌%◌, ◌<◌, ◌≤◌, pos, false, None, refl}
 use Rattle.std.specs.Int.{◌∣◌}
 use Rattle.std.proofs.Common.{ap, ◌∙◌, sym, subst, inl, inr, arith}
 use Rattle.std.proofs.lemmas.Nat.{le-div}
 use Rattle.std.proofs.lemmas.Nat.Gcd.{le_of_dvd}
-use Rattle.std.proofs.Math.Nat.{mod-eq-zero_of_dvd, div-add-mod', mul_comm, mul_assoc, mod-lt, mul-le-mul_left}
-use Rattle.wi_fraction.specs.Gcd.{gcd, is_gcd, gcd_comm, dvd_of_dvd-mul}
+use Rattle.std.proofs.Math.Nat.{mod-eq-zero_of_dvd, div-add-mod', mul-le-mul_left}
+use Rattle.wi_fraction.specs.Gcd.{gcd, is_gcd, dvd_of_dvd-mul}
 use Rattle.wi_fraction.specs.Number.{number_of, max_size}
 use Rattle.wi_fraction.proofs.Divisors.{coprime_mul, coprime_dvd, gcd_pos}
 use Rattle.wi_fraction.proofs.Fineness.{IsTooFine, none_from_fine, gcd_shifted, number_of-multiplied}
@@ -39,9 +39,9 @@ divisor_of_five (suc (suc (suc (suc (suc (suc k)))))) h = absurd (omega (arith, 
 -- five is prime
 coprime_five : (n : ℕ) → n % 5 ≢ 0 → gcd n 5 ≡ 1
 coprime_five n h = elim (divisor_of_five (gcd n 5) (is_gcd n 5).1) [
-      | inl e ↦ e
-      | inr e ↦ absurd (h (mod-eq-zero_of_dvd 5 (subst (λ k. k ∣ n) e (is_gcd n 5).0)))
-    ]
+  | inl e ↦ e
+  | inr e ↦ absurd (h (mod-eq-zero_of_dvd 5 (subst (λ k. k ∣ n) e (is_gcd n 5).0)))
+]
 
 -- where five does not divide c * d + n, at most a two is common to it and 10 * d
 common_two : (c n d : ℕ) → 0 < d → (c * (d % 5) + n % 5) % 5 ≢ 0 → gcd n d ≡ 1 → gcd (c * d + n) (d * 10) ≤ 2

@@ -4,7 +4,7 @@ ghost use Rattle.std.specs.Prelude.{◌≡◌, ◌≢◌, ◌*◌, ◌<◌, ◌�
 ghost use Rattle.std.specs.Ordering.{int_eq};
 ghost use Rattle.wi_fraction.specs.Gcd.{gcd};
 ghost use Rattle.wi_fraction.specs.Number.{max_size, number_of, signed};
-ghost use Rattle.wi_fraction.specs.Arithmetic.{within, int_within, sum_of, product_of, quotient_of, negated};
+ghost use Rattle.wi_fraction.specs.Arithmetic.{within, int_within, sum_of, product_of, quotient_of, negated, IsValue};
 
 use crate::lowest_terms::{gcd, number_at, reduced};
 use crate::{Fraction, FractionError, MAX};
@@ -15,8 +15,7 @@ impl Fraction {
     #[tactic(auto, using(crate::proofs::Values::sum_value))]
     pub fn checked_add(self, other: Fraction) -> Result<Fraction, FractionError>
         ensures value { result ≡ ok_or (sum_of self other) FractionError.Overflow }
-        ensures exact { IfOk result
-            (λ z. (self.num *ℤ pos other.den +ℤ other.num *ℤ pos self.den) *ℤ pos z.den ≡ z.num *ℤ pos (self.den * other.den)) }
+        ensures exact { IfOk result (IsValue (self.num *ℤ pos other.den +ℤ other.num *ℤ pos self.den) (self.den * other.den)) }
     {
         self.sum(other).ok_or(FractionError::Overflow)
     }
@@ -25,8 +24,7 @@ impl Fraction {
     #[tactic(auto, using(crate::proofs::Values::difference_value))]
     pub fn checked_sub(self, other: Fraction) -> Result<Fraction, FractionError>
         ensures value { result ≡ ok_or (sum_of self (negated other)) FractionError.Overflow }
-        ensures exact { IfOk result
-            (λ z. (self.num *ℤ pos other.den -ℤ other.num *ℤ pos self.den) *ℤ pos z.den ≡ z.num *ℤ pos (self.den * other.den)) }
+        ensures exact { IfOk result (IsValue (self.num *ℤ pos other.den -ℤ other.num *ℤ pos self.den) (self.den * other.den)) }
     {
         self.checked_add(other.neg())
     }
@@ -35,8 +33,7 @@ impl Fraction {
     #[tactic(auto, using(crate::proofs::Values::product_value))]
     pub fn checked_mul(self, other: Fraction) -> Result<Fraction, FractionError>
         ensures value { result ≡ ok_or (product_of self other) FractionError.Overflow }
-        ensures exact { IfOk result
-            (λ z. (self.num *ℤ other.num) *ℤ pos z.den ≡ z.num *ℤ pos (self.den * other.den)) }
+        ensures exact { IfOk result (IsValue (self.num *ℤ other.num) (self.den * other.den)) }
     {
         let Fraction {
             numerator: a,

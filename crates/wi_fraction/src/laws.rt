@@ -8,15 +8,13 @@ ghost use Rattle.wi_fraction.specs.Laws.{IsExact, ReadsBack, ShowsFewestPlaces};
 /// The greatest common divisor is one.
 pub fn divisors_are_greatest()
     ensures { (a b : ℕ) → IsGcd a b (gcd a b) }
-{
-}
+{}
 
 /// A fraction in lowest terms is the number that has its value, where there is one.
 #[tactic(auto, using(crate::proofs::Values::exact))]
 pub fn lowest_terms_are_exact()
     ensures { IsExact }
-{
-}
+{}
 
 /// Each shown text reads back to its number.
 #[tactic(auto, using(crate::proofs::ReadsBack::reads_back))]

@@ -83,7 +83,11 @@ fn decimal_after(whole: &[u8], rest: &[u8]) -> Option<Fraction>
     ensures { result ≡ decimal_after whole.now rest.now }
 {
     let [mark, more @ ..] = rest else {
-        return if whole.is_empty() { None } else { decimal(false, whole, rest) };
+        return if whole.is_empty() {
+            None
+        } else {
+            decimal(false, whole, rest)
+        };
     };
     if *mark != b'.' || !is_numeral(more) {
         return None;

@@ -1,5 +1,4 @@
-use crate::laws;
-use crate::{Fraction, FractionError};
+use crate::{Fraction, FractionError, laws};
 use std::alloc::{AllocError, Global};
 use std::collections::HashSet;
 use std::test::Fail;
@@ -18,10 +17,16 @@ fn makes_numbers(rt: HostRuntime) -> Result<(), Fail> {
     assert_eq!(rt; Fraction::new(3, -6)?, half.neg());
     assert_eq!(rt; Fraction::new(0, i128::MIN)?, Fraction::new(0, 1)?);
     assert_eq!(rt; Fraction::new(i128::MIN, i128::MIN)?, Fraction::new(1, 1)?);
-    assert_eq!(rt; Fraction::new(i128::MIN, 2)?.numerator(), -85070591730234615865843651857942052864);
+    assert_eq!(rt;
+        Fraction::new(i128::MIN, 2)?.numerator(),
+        -85070591730234615865843651857942052864
+    );
     assert_eq!(rt; Fraction::new(i128::MIN, 1), Err(FractionError::Overflow));
     assert_eq!(rt; Fraction::new(1, i128::MIN), Err(FractionError::Overflow));
-    assert_eq!(rt; Fraction::new(i128::MIN, 0), Err(FractionError::ZeroDenominator));
+    assert_eq!(rt;
+        Fraction::new(i128::MIN, 0),
+        Err(FractionError::ZeroDenominator)
+    );
     Ok(())
 }
 
@@ -30,12 +35,24 @@ fn shows_sums_and_powers(rt: HostRuntime) -> Result<(), Fail> {
     let one = Fraction::new(1, 1)?;
     let third = Fraction::new(1, 3)?;
     let ten = Fraction::new(10, 1)?;
-    assert_eq!(rt; shown(rt.alloc(), third.checked_add(Fraction::new(1, 6)?)?)?.as_str(), "0.5");
+    assert_eq!(rt;
+        shown(rt.alloc(), third.checked_add(Fraction::new(1, 6)?)?)?.as_str(),
+        "0.5"
+    );
     assert_eq!(rt; shown(rt.alloc(), third)?.as_str(), "1/3");
-    assert_eq!(rt; shown(rt.alloc(), one.checked_div(ten.checked_pow(12)?)?)?.as_str(), "0.000000000001");
-    assert_eq!(rt; shown(rt.alloc(), one.checked_div(ten.checked_pow(13)?)?)?.as_str(), "1/10000000000000");
+    assert_eq!(rt;
+        shown(rt.alloc(), one.checked_div(ten.checked_pow(12)?)?)?.as_str(),
+        "0.000000000001"
+    );
+    assert_eq!(rt;
+        shown(rt.alloc(), one.checked_div(ten.checked_pow(13)?)?)?.as_str(),
+        "1/10000000000000"
+    );
     assert_eq!(rt; shown(rt.alloc(), Fraction::new(10, -4)?)?.as_str(), "-2.5");
-    assert_eq!(rt; shown(rt.alloc(), Fraction::new(-1, 8192)?)?.as_str(), "-1/8192");
+    assert_eq!(rt;
+        shown(rt.alloc(), Fraction::new(-1, 8192)?)?.as_str(),
+        "-1/8192"
+    );
     assert_eq!(rt; shown(rt.alloc(), Fraction::new(0, -7)?)?.as_str(), "0");
     Ok(())
 }
@@ -47,15 +64,27 @@ fn stays_within_128_bits(rt: HostRuntime) -> Result<(), Fail> {
     let half = one.checked_div(two)?;
     let large = two.checked_pow(126)?;
     let most = large.checked_sub(one)?.checked_add(large)?;
-    assert_eq!(rt; shown(rt.alloc(), most)?.as_str(), "170141183460469231731687303715884105727");
+    assert_eq!(rt;
+        shown(rt.alloc(), most)?.as_str(),
+        "170141183460469231731687303715884105727"
+    );
     assert_eq!(rt; most, Fraction::new(i128::MAX, 1)?);
     assert_eq!(rt; most.checked_add(one), Err(FractionError::Overflow));
     assert_eq!(rt; two.checked_pow(127), Err(FractionError::Overflow));
-    assert_eq!(rt; one.checked_div(most)?.checked_add(half), Err(FractionError::Overflow));
+    assert_eq!(rt;
+        one.checked_div(most)?.checked_add(half),
+        Err(FractionError::Overflow)
+    );
     assert_eq!(rt; one.checked_div(most)?.checked_mul(most)?, one);
     assert_eq!(rt; most.checked_div(most.neg())?, one.neg());
-    assert_eq!(rt; one.checked_div(most)?.checked_mul(half), Err(FractionError::Overflow));
-    assert_eq!(rt; one.checked_div(most.checked_sub(most)?), Err(FractionError::ZeroDenominator));
+    assert_eq!(rt;
+        one.checked_div(most)?.checked_mul(half),
+        Err(FractionError::Overflow)
+    );
+    assert_eq!(rt;
+        one.checked_div(most.checked_sub(most)?),
+        Err(FractionError::ZeroDenominator)
+    );
     Ok(())
 }
 
@@ -65,7 +94,10 @@ fn raises_to_powers(rt: HostRuntime) -> Result<(), Fail> {
     assert_eq!(rt; half.checked_pow(3)?, Fraction::new(-1, 8)?);
     assert_eq!(rt; half.checked_pow(-4)?, Fraction::new(16, 1)?);
     assert_eq!(rt; half.checked_pow(i128::MIN), Err(FractionError::Overflow));
-    assert_eq!(rt; Fraction::new(-1, 1)?.checked_pow(i128::MIN)?, Fraction::new(1, 1)?);
+    assert_eq!(rt;
+        Fraction::new(-1, 1)?.checked_pow(i128::MIN)?,
+        Fraction::new(1, 1)?
+    );
     let zero = Fraction::new(0, 1)?;
     assert_eq!(rt; zero.checked_pow(0)?, Fraction::new(1, 1)?);
     assert_eq!(rt; zero.checked_pow(i128::MAX)?, zero);
@@ -103,9 +135,17 @@ fn reads_texts(rt: HostRuntime) -> Result<(), Fail> {
         ("170141183460469231731687303715884105727", i128::MAX, 1),
         ("170141183460469231731687303715884105727.000", i128::MAX, 1),
         ("85070591730234615865843651857942052863.5", i128::MAX, 2),
-        ("0.00000000000000000000000000000000000001", 1, 100000000000000000000000000000000000000),
+        (
+            "0.00000000000000000000000000000000000001",
+            1,
+            100000000000000000000000000000000000000,
+        ),
     ] {
-        assert_eq!(rt; Fraction::read(text.as_bytes()), Some(Fraction::new(n, d)?), "at {text}");
+        assert_eq!(rt;
+            Fraction::read(text.as_bytes()),
+            Some(Fraction::new(n, d)?),
+            "at {text}"
+        );
     }
     Ok(())
 }
@@ -143,11 +183,35 @@ fn refuses_other_texts(rt: HostRuntime) {
 
 #[test]
 fn reads_number_tokens(rt: HostRuntime) -> Result<(), Fail> {
-    for (token, n, d) in [("7", 7, 1), ("2.50", 5, 2), (".5", 1, 2), ("00.125", 1, 8), (".0", 0, 1)] {
-        assert_eq!(rt; Fraction::read_decimal(token.as_bytes()), Some(Fraction::new(n, d)?), "at {token}");
+    for (token, n, d) in [
+        ("7", 7, 1),
+        ("2.50", 5, 2),
+        (".5", 1, 2),
+        ("00.125", 1, 8),
+        (".0", 0, 1),
+    ] {
+        assert_eq!(rt;
+            Fraction::read_decimal(token.as_bytes()),
+            Some(Fraction::new(n, d)?),
+            "at {token}"
+        );
     }
-    for token in ["", ".", "5.", "+5", "-5", "1/2", "1e2", "1.2.3", "170141183460469231731687303715884105728"] {
-        assert_eq!(rt; Fraction::read_decimal(token.as_bytes()), None, "at {token}");
+    for token in [
+        "",
+        ".",
+        "5.",
+        "+5",
+        "-5",
+        "1/2",
+        "1e2",
+        "1.2.3",
+        "170141183460469231731687303715884105728",
+    ] {
+        assert_eq!(rt;
+            Fraction::read_decimal(token.as_bytes()),
+            None,
+            "at {token}"
+        );
     }
     Ok(())
 }
@@ -155,7 +219,8 @@ fn reads_number_tokens(rt: HostRuntime) -> Result<(), Fail> {
 /// The digits need not fit where the number does: 1/2^126 has 126 places.
 #[test]
 fn reads_many_digits(rt: HostRuntime) -> Result<(), Fail> {
-    let small = "0.000000000000000000000000000000000000011754943508222875079687365372222456778186655567720875215087517062784172594547271728515625";
+    let small =
+        "0.000000000000000000000000000000000000011754943508222875079687365372222456778186655567720875215087517062784172594547271728515625";
     let power = Fraction::new(1, 2)?.checked_pow(126)?;
     assert_eq!(rt; Fraction::read(small.as_bytes()), Some(power));
     let mut text = String::new(rt.alloc());
@@ -163,7 +228,10 @@ fn reads_many_digits(rt: HostRuntime) -> Result<(), Fail> {
     for _ in 0..1000 {
         text.push('0')?;
     }
-    assert_eq!(rt; Fraction::read_decimal(text.as_str().as_bytes()), Some(power));
+    assert_eq!(rt;
+        Fraction::read_decimal(text.as_str().as_bytes()),
+        Some(power)
+    );
     text.push('1')?;
     assert_eq!(rt; Fraction::read(text.as_str().as_bytes()), None);
     Ok(())

@@ -1,4 +1,4 @@
-use Rattle.std.proofs.Common.{◌≡◌, ◌∙◌, ◌<◌, ◌/◌, arith}
+use Rattle.std.proofs.Common.{◌∙◌, ◌<◌, ◌/◌, arith}
 use Rattle.wi_fraction.specs.Number.{max_size}
 use Rattle.wi_fraction.proofs.Tenths.{tenth_divided, tenth_none}
 use Rattle.wi_fraction.proofs.read.tenth.Goals as goal

@@ -1,4 +1,4 @@
-use Rattle.std.proofs.Common.{◌≡◌, arith, refl}
+use Rattle.std.proofs.Common.{refl}
 use Rattle.wi_fraction.proofs.Numbers.{zero_is, zero_number}
 use Rattle.wi_fraction.proofs.read.zero.Goals as goal
 
