@@ -7,3 +7,4 @@ pub mod Clear
 pub mod Seen
 pub mod Found
 pub mod Ends
+pub mod Plain

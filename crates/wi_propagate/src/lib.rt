@@ -5,7 +5,9 @@ mod calculator;
 mod circular;
 mod found;
 pub mod laws;
+mod plain;
 mod seen;
 mod value;
 
 pub use calculator::Calculator;
+pub use plain::PlainCalculator;

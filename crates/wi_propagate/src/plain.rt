@@ -1,0 +1,67 @@
+//! A calculator that keeps nothing it has calculated.
+
+ghost use Rattle.std.specs.Prelude.{◌≡◌, [], ℕ};
+
+use crate::calculator::Calculator;
+use crate::value::shown;
+use std::alloc::{AllocError, Global};
+use wi_functions::Meter;
+use wi_parser::Content;
+use wi_store::{Limits, Store, StoreFault};
+use wi_values::{Address, Replacement, Value};
+
+/// A calculator that keeps nothing it has calculated: each value is found from the contents alone. The work of a
+/// formula is that of all formulas that it reads, once for each time that it is read, and may grow as the product of
+/// demands that stand one below the other.
+#[derive(Drop)]
+pub struct PlainCalculator {
+    store: Store,
+    meter: Meter,
+    alloc: Global,
+}
+
+impl PlainCalculator {
+    ghost use Rattle.wi_propagate.specs.Plain.{stored_of, counts_of};
+
+    /// An empty sheet within limits, with no edits yet. Takes no memory.
+    pub fn new(alloc: Global, limits: Limits) -> PlainCalculator
+        ensures stored { stored_of result ≡ record { sheet = []; edits = 0; limits = limits } }
+        ensures counts { counts_of result ≡ record { evaluations = 0; restarts = 0 } }
+    {
+        PlainCalculator {
+            store: Store::new(alloc, limits),
+            meter: Meter::new(),
+            alloc,
+        }
+    }
+}
+
+impl Calculator for PlainCalculator {
+    ghost use Rattle.wi_propagate.specs.Plain.{stored_of, counts_of};
+
+    ghost stored = { stored_of };
+
+    ghost evaluated = { λ c. (counts_of c).evaluations };
+
+    ghost restarted = { λ c. (counts_of c).restarts };
+
+    fn content(&self, at: Address) -> Option<&Content> {
+        self.store.get(at)
+    }
+
+    fn apply(&mut self, changes: Vec<(Address, Option<Content>)>) -> Result<(), StoreFault> {
+        self.store.apply(changes)
+    }
+
+    fn value(&mut self, put: &[Replacement], at: Address) -> Result<Value, AllocError> {
+        shown(self.alloc, &self.store, put, at, &mut self.meter)
+    }
+
+    fn evaluations(&self) -> u64 {
+        self.meter.evaluations()
+    }
+
+    fn restarts(&self) -> u64 {
+        self.meter.restarts()
+    }
+}
