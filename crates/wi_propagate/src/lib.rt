@@ -11,3 +11,6 @@ mod value;
 
 pub use calculator::Calculator;
 pub use plain::PlainCalculator;
+
+#[cfg(test)]
+mod tests;
