@@ -1,5 +1,5 @@
 -- How deep a formula nests.
-use Rattle.std.specs.Prelude.{ℕ, suc, ◌-◌, max, List, [], ◌∷◌, Bool, ◌||◌, nat_lt}
+use Rattle.std.specs.Prelude.{ℕ, suc, ◌-◌, max, List, [], ◌∷◌, Bool, true, false, ◌||◌, nat_lt, if◌then◌else◌}
 use Rattle.wi_parser.specs.declared.expr.Operator.{Operator}
 use Rattle.wi_parser.specs.declared.expr.Operator.TheVariants.{Add, Subtract, Multiply, Divide}
 use Rattle.wi_parser.specs.Tree.{Tree, number, cell, parenthesized, binary, what_if}
@@ -23,18 +23,21 @@ deepest h (close_mark ∷ ts) = max h (deepest (h - 1) ts)
 deepest h (infix_mark op ∷ ts) = deepest h ts
 deepest h (refused e ∷ ts) = deepest h ts
 
+abbrev pub is_sign : Lexeme → Bool
+is_sign (numeral x) = false
+is_sign (reference r) = false
+is_sign open_mark = false
+is_sign close_mark = false
+is_sign (infix_mark Add) = true
+is_sign (infix_mark Subtract) = true
+is_sign (infix_mark Multiply) = false
+is_sign (infix_mark Divide) = false
+is_sign (refused e) = false
+
 -- the most `+` and `-` that stand one after another, where n stand before
 abbrev pub most_signs : ℕ → List Lexeme → ℕ
 most_signs n [] = n
-most_signs n (numeral x ∷ ts) = max n (most_signs 0 ts)
-most_signs n (reference r ∷ ts) = max n (most_signs 0 ts)
-most_signs n (open_mark ∷ ts) = max n (most_signs 0 ts)
-most_signs n (close_mark ∷ ts) = max n (most_signs 0 ts)
-most_signs n (infix_mark Add ∷ ts) = most_signs (suc n) ts
-most_signs n (infix_mark Subtract ∷ ts) = most_signs (suc n) ts
-most_signs n (infix_mark Multiply ∷ ts) = max n (most_signs 0 ts)
-most_signs n (infix_mark Divide ∷ ts) = max n (most_signs 0 ts)
-most_signs n (refused e ∷ ts) = max n (most_signs 0 ts)
+most_signs n (x ∷ ts) = if is_sign x then most_signs (suc n) ts else max n (most_signs 0 ts)
 
 -- the greatest nesting of parentheses, and of signs one after another
 abbrev pub max_depth : ℕ

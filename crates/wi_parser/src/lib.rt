@@ -5,8 +5,12 @@ mod content;
 mod expr;
 mod fault;
 mod formula;
+mod front;
 mod grammar;
 pub mod laws;
+mod limits;
+mod parser;
+mod tokens;
 mod word;
 mod words;
 
@@ -14,3 +18,4 @@ pub use content::Content;
 pub use expr::{Expr, Operator, Pair, Reference};
 pub use fault::ParseFault;
 pub use formula::Formula;
+pub use parser::{MAX_FORMULA, parse};

@@ -1,11 +1,20 @@
 //! Tokens with their values.
 
+ghost use Rattle.std.specs.Prelude.{◌≡◌};
+ghost use Rattle.wi_parser.specs.Words.{meant_by};
+ghost use Rattle.wi_parser.specs.Lexeme.{refused};
+ghost use Rattle.wi_parser.specs.FormulaText.{lexeme_of, cell_lexeme, reference_lexeme, mark_lexeme};
+ghost use Rattle.wi_lexer.specs.Cell.{parts};
+ghost use Rattle.wi_lexer.specs.Reference as spec;
+
 use crate::expr::{Operator, Reference};
 use crate::fault::ParseFault;
 use wi_fraction::Fraction;
+use wi_lexer::{CellText, Kind, Mark, Token, reference_of};
+use wi_values::Address;
 
 /// A token with its value.
-#[derive(Clone, Copy, Debug)]
+#[derive(Clone, Copy, PartialEq, Eq, Debug)]
 pub enum Word {
     Number(Fraction),
     Cell(Reference),
@@ -14,4 +23,61 @@ pub enum Word {
     Infix(Operator),
     /// A token without a value, which no formula has.
     Refused(ParseFault),
+}
+
+impl Word {
+    /// What a token means.
+    pub fn of_token(token: Token<'_>) -> Word
+        ensures { meant_by result ≡ lexeme_of token.entry.kind token.entry.text.now }
+    {
+        match token.kind {
+            Kind::Number => number(token.text.as_bytes()),
+            Kind::Reference => reference(token.text.as_bytes()),
+            Kind::Mark(mark) => of_mark(mark),
+        }
+    }
+}
+
+fn number(text: &[u8]) -> Word
+    ensures { meant_by result ≡ lexeme_of Kind.Number text.now }
+{
+    match Fraction::read_decimal(text) {
+        Some(x) => Word::Number(x),
+        None => Word::Refused(ParseFault::NumberRange),
+    }
+}
+
+fn reference(text: &[u8]) -> Word
+    ensures { meant_by result ≡ lexeme_of Kind.Reference text.now }
+{
+    match reference_of(text) {
+        Some(cell) => cell_named(cell),
+        None => Word::Refused(ParseFault::Syntax),
+    }
+}
+
+fn cell_named(cell: CellText<'_>) -> Word
+    ensures { meant_by result ≡ reference_lexeme (Some (parts cell.entry)) }
+{
+    match Address::from_parts(cell.letters, cell.digits) {
+        Some(at) => Word::Cell(Reference {
+            at,
+            column_is_absolute: cell.column_fixed,
+            row_is_absolute: cell.row_fixed,
+        }),
+        None => Word::Refused(ParseFault::OutOfSheet),
+    }
+}
+
+fn of_mark(mark: Mark) -> Word
+    ensures { meant_by result ≡ mark_lexeme mark }
+{
+    match mark {
+        Mark::OpenParenthesis => Word::Open,
+        Mark::CloseParenthesis => Word::Close,
+        Mark::Plus => Word::Infix(Operator::Add),
+        Mark::Minus => Word::Infix(Operator::Subtract),
+        Mark::Asterisk => Word::Infix(Operator::Multiply),
+        Mark::Slash => Word::Infix(Operator::Divide),
+    }
 }

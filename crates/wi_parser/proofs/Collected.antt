@@ -1,0 +1,39 @@
+-- What a loop over the tokens of a text collects.
+use Rattle.std.proofs.Common.{◌≡◌, ℕ, List, [], ◌∷◌, ◌++◌, length, ◌<◌, refl, sym, ap, ◌∙◌, arith}
+use Rattle.wi_lexer.specs.declared.lexer.Token.{Token}
+use Rattle.wi_lexer.specs.Token.{NoToken, after_blanks}
+use Rattle.wi_lexer.specs.Inside.{Scan}
+use Rattle.wi_lexer.specs.Scan.{ahead, IsNext, IsDone}
+use Rattle.wi_lexer.specs.Tokens.{tokens}
+use Rattle.wi_lexer.proofs.CallerLemmas.{tokens_next, tokens_bad, tokens_end, next_shortens}
+use Rattle.wi_parser.specs.declared.fault.ParseFault.TheVariants.{Syntax}
+use Rattle.wi_parser.specs.declared.word.Word.{Word}
+use Rattle.wi_parser.specs.Lexeme.{Lexeme, refused}
+use Rattle.wi_parser.specs.FormulaText.{lexeme_of, lexemes_of}
+use Rattle.wi_parser.specs.Words.{meant_by, all_meant}
+
+-- what is left of the text's lexemes
+abbrev pub left : Scan → List Lexeme
+left s = lexemes_of (tokens s.rest)
+
+pub left_next : (old : Scan) (t : Token) (new : Scan) → IsNext old t new → left old ≡ lexeme_of t.kind t.text.now ∷ left new
+left_next old t new h = ap lexemes_of (tokens_next old t new h)
+
+pub left_end : (s : Scan) → ahead s ≡ [] → left s ≡ []
+left_end s h = ap lexemes_of (tokens_end s h)
+
+pub left_bad : (old new : Scan) → (ahead old ≡ [] → ⊥) → NoToken (ahead old) → IsDone old new → left old ≡ refused Syntax ∷ left new
+left_bad old new some none done =
+    ap lexemes_of (tokens_bad old some none) ∙ ap (λ ts. refused Syntax ∷ ts) (sym (left_end new (ap after_blanks done.rest)))
+
+shortens : (old new : List ℕ) → (after_blanks old ≡ [] → ⊥) → new ≡ [] → length new < length old
+shortens [] new some none = absurd (some refl)
+shortens (b ∷ bs) new some none = omega (arith, ap length none)
+
+pub bad_shortens : (old new : Scan) → (ahead old ≡ [] → ⊥) → IsDone old new → length new.rest < length old.rest
+bad_shortens old new some done = shortens old.rest new.rest some done.rest
+
+-- a word more is a lexeme more
+pub pushed : (ws : List Word) (w : Word) (ts : List Lexeme) → all_meant (ws ++ w ∷ []) ++ ts ≡ all_meant ws ++ meant_by w ∷ ts
+pushed [] w ts = refl
+pushed (v ∷ ws) w ts = ap (λ us. meant_by v ∷ us) (pushed ws w ts)

@@ -1,0 +1,60 @@
+//! From a text to a formula.
+
+ghost use Rattle.std.specs.Prelude.{◌≡◌, ◌≤◌, ◌+◌, length, IfOk};
+ghost use Rattle.wi_parser.specs.Words.{all_meant};
+ghost use Rattle.wi_parser.specs.Nesting.{deepest, most_signs, max_depth};
+ghost use Rattle.wi_parser.specs.Grammar.{Spells, loosest};
+ghost use Rattle.wi_parser.specs.Reading as reading;
+ghost use Rattle.wi_parser.specs.Outcome.{FindsWhole};
+ghost use Rattle.wi_parser.specs.FormulaText.{formula_lexemes};
+ghost use Rattle.wi_parser.specs.Parsed.{Reads, Answers, parsed, max_formula};
+ghost use Rattle.wi_parser.specs.Tree.{Tree};
+
+use crate::expr::Expr;
+use crate::fault::ParseFault;
+use crate::formula::Formula;
+use crate::grammar::expression;
+use crate::limits::{MAX_DEPTH, refusal_of};
+use crate::tokens::words_of;
+use crate::word::Word;
+use crate::words::Words;
+use std::alloc::Global;
+
+/// The greatest length of a formula in bytes, its prefix counted.
+pub const MAX_FORMULA: usize = 4_096;
+
+/// The formula of a text that begins with `=` or `of:=`, by the grammar of OpenFormula (OpenDocument 1.3 part 4,
+/// section 5) in this project's profile. Of several faults the first is answered in the order of `ParseFault`, the
+/// first three for all tokens before the first bad one.
+pub fn parse(alloc: Global, text: &str) -> Result<Formula, ParseFault>
+    // the tree, or the first cause for which there is none
+    ensures parsed { Reads (parsed text.now) result }
+    // what is answered is spelled by the text
+    ensures found { IfOk result (λ t. Spells loosest t (formula_lexemes text.now)) }
+    // what the text spells within the limits is answered
+    ensures only { (t : Tree) → Spells loosest t (formula_lexemes text.now) → length text.now ≤ max_formula
+        → deepest 0 (formula_lexemes text.now) ≤ max_depth → most_signs 0 (formula_lexemes text.now) ≤ max_depth
+        → Answers t result }
+{
+    if text.len() > MAX_FORMULA {
+        return Err(ParseFault::TooLong);
+    }
+    let words = words_of(alloc, text)?;
+    if let Some(fault) = refusal_of(&words) {
+        return Err(fault);
+    }
+    let expr = whole(alloc, &words)?;
+    Ok(Formula::new(expr))
+}
+
+// The tree that all of the words are read as.
+fn whole(alloc: Global, words: &[Word]) -> Result<Expr, ParseFault>
+    ensures { FindsWhole (reading.whole (max_depth + 1) (all_meant words.now)) result }
+{
+    let mut rest = Words::new(words);
+    let found = expression(alloc, &mut rest, MAX_DEPTH + 1)?;
+    if !rest.is_empty() {
+        return Err(ParseFault::Syntax);
+    }
+    Ok(found)
+}

@@ -1,0 +1,42 @@
+//! From a text to words.
+
+ghost use Rattle.std.specs.Prelude.{◌≡◌, ◌++◌, IfOk};
+ghost use Rattle.wi_lexer.specs.Tokens.{tokens};
+ghost use Rattle.wi_parser.specs.Words.{meant_by, all_meant};
+ghost use Rattle.wi_parser.specs.FormulaText.{formula_lexemes, lexemes_of};
+
+use crate::fault::ParseFault;
+use crate::front::{after, after_prefix};
+use crate::word::Word;
+use std::alloc::{AllocError, Global};
+use wi_lexer::Lexer;
+
+/// The words of a formula's text after its `=`.
+#[tactic(auto, unfolding(crate::specs::FormulaText::formula_lexemes))]
+pub fn words_of(alloc: Global, text: &str) -> Result<Vec<Word>, AllocError>
+    ensures { IfOk result (λ words. all_meant words.items ≡ formula_lexemes text.now) }
+{
+    let text = after_prefix(text);
+    let mut words = Vec::new(alloc);
+    let Some(body) = after("=", text) else {
+        words.push(Word::Refused(ParseFault::Syntax))?;
+        push_words(text, &mut words)?;
+        return Ok(words);
+    };
+    push_words(body, &mut words)?;
+    Ok(words)
+}
+
+// Appends the words of the tokens, up to the first bad one.
+fn push_words(text: &str, words: &mut Vec<Word>) -> Result<(), AllocError>
+    ensures { IfOk result (λ _. all_meant words.new.items ≡ all_meant words.old.items ++ lexemes_of (tokens text.now)) }
+{
+    let mut lexer = Lexer::new(text);
+    while let Some(next) = lexer.next_token() {
+        match next {
+            Ok(token) => words.push(Word::of_token(token))?,
+            Err(_) => words.push(Word::Refused(ParseFault::Syntax))?,
+        }
+    }
+    Ok(())
+}
