@@ -7,7 +7,7 @@ use Rattle.wi_parser.specs.declared.expr.Reference.{Reference}
 use Rattle.wi_parser.specs.Tree.{Tree, number, cell, parenthesized, binary}
 use Rattle.wi_parser.specs.Lexeme.{Lexeme, numeral, reference, open_mark, close_mark, infix_mark}
 use Rattle.wi_parser.specs.Grammar.{line_of, loosest, Spells, a_number, a_cell, in_marks, tighter, joined}
-use Rattle.wi_parser.specs.Reading.{read_then, then_close, operator_at, atom, chain, line, expression, if_last, whole}
+use Rattle.wi_parser.specs.Reader.{read_then, then_close, operator_at, atom, chain, line, expression, if_last, whole}
 use Rattle.wi_parser.specs.Nesting.{depth}
 use Rattle.wi_parser.proofs.Turns.{chain_stop, chain_more}
 

@@ -13,11 +13,11 @@ use Rattle.wi_parser.specs.Tree.{Tree}
 use Rattle.wi_parser.specs.Lexeme.{Lexeme, numeral, reference, open_mark, close_mark, infix_mark, is_outside, is_unfit}
 use Rattle.wi_parser.specs.Grammar.{loosest, Spells, a_number, a_cell, in_marks, tighter, joined}
 use Rattle.wi_parser.specs.Nesting.{depth, deepest, most_signs, max_depth, is_too_deep}
-use Rattle.wi_parser.specs.Reading.{whole}
+use Rattle.wi_parser.specs.Reader.{whole}
 use Rattle.wi_parser.specs.View.{tree_of}
 use Rattle.wi_parser.specs.Outcome.{Fails, FindsWhole}
 use Rattle.wi_parser.specs.FormulaText.{formula_lexemes}
-use Rattle.wi_parser.specs.Parsed.{max_formula, refusal_of, unless_refused, judged, parsed, Reads, Answers}
+use Rattle.wi_parser.specs.Reading.{max_formula, refusal_of, unless_refused, judged, parsed, Reads, Answers}
 use Rattle.wi_parser.proofs.Sound.{whole_sound}
 use Rattle.wi_parser.proofs.Complete.{whole_complete}
 use Rattle.wi_parser.proofs.Depth.{depth-deepest}

@@ -5,7 +5,7 @@ use Rattle.wi_parser.specs.declared.expr.Operator.{Operator}
 use Rattle.wi_parser.specs.Tree.{Tree, number, cell, parenthesized, binary}
 use Rattle.wi_parser.specs.Lexeme.{Lexeme, numeral, reference, open_mark, close_mark, infix_mark, refused}
 use Rattle.wi_parser.specs.Grammar.{line_of, loosest, Spells, a_number, a_cell, in_marks, tighter, joined}
-use Rattle.wi_parser.specs.Reading.{Parse, Read, read_then, then_close, after_close, operator_at, atom, chain, chain_step, line, expression, if_last, whole}
+use Rattle.wi_parser.specs.Reader.{Parse, Read, read_then, then_close, after_close, operator_at, atom, chain, chain_step, line, expression, if_last, whole}
 
 -- ---- what an outcome came from
 

@@ -7,7 +7,7 @@ use Rattle.wi_parser.specs.Grammar.{line_of}
 use Rattle.wi_parser.specs.declared.fault.ParseFault.{ParseFault}
 use Rattle.wi_parser.specs.declared.fault.ParseFault.TheVariants.{TooLong, OutOfSheet, NumberRange, TooDeep, Syntax, Memory}
 use Rattle.wi_parser.specs.Outcome.{Fails}
-use Rattle.wi_parser.specs.Reading.{Parse, Read, read_then, after_close, operator_at, chain, chain_step, line}
+use Rattle.wi_parser.specs.Reader.{Parse, Read, read_then, after_close, operator_at, chain, chain_step, line}
 
 -- ---- a mark is one lexeme
 

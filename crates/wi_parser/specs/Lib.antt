@@ -4,11 +4,12 @@ pub mod Sheet
 pub mod Reads
 pub mod Lexeme
 pub mod Grammar
-pub mod Reading
+pub mod Reader
 pub mod Spelling
 pub mod Nesting
 pub mod Words
 pub mod Outcome
 pub mod Nests
 pub mod FormulaText
-pub mod Parsed
+pub mod Reading
+pub mod Faults

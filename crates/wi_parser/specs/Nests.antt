@@ -5,7 +5,7 @@ use denote.Ref.{MutBor}
 use Rattle.wi_parser.specs.declared.expr.Expr.{Expr}
 use Rattle.wi_parser.specs.declared.fault.ParseFault.{ParseFault}
 use Rattle.wi_parser.specs.Lexeme.{Lexeme}
-use Rattle.wi_parser.specs.Reading.{expression}
+use Rattle.wi_parser.specs.Reader.{expression}
 use Rattle.wi_parser.specs.Outcome.{Finds}
 
 pub record Nests (depth : ℕ) (pre : Global → MutBor (List Lexeme) → ℕ → Type 0)

@@ -5,7 +5,7 @@ use Rattle.wi_parser.specs.declared.fault.ParseFault.{ParseFault}
 use Rattle.wi_parser.specs.declared.fault.ParseFault.TheVariants.{TooLong, OutOfSheet, NumberRange, TooDeep, Syntax, Memory}
 use Rattle.wi_parser.specs.Tree.{Tree}
 use Rattle.wi_parser.specs.Lexeme.{Lexeme}
-use Rattle.wi_parser.specs.Reading.{Read}
+use Rattle.wi_parser.specs.Reader.{Read}
 use Rattle.wi_parser.specs.View.{tree_of}
 
 -- it is found that nothing is to be read, or memory ran out

@@ -1,81 +1,77 @@
--- What a reader from the left finds: a tree and the lexemes after it, or nothing.
-use Rattle.std.specs.Prelude.{ℕ, zero, suc, List, [], ◌∷◌, length, cond, ◌==◌, Option, Some, None, option_map, option_and_then}
-use Rattle.wi_parser.specs.declared.expr.Operator.{Operator}
-use Rattle.wi_parser.specs.Tree.{Tree, number, cell, parenthesized, binary}
-use Rattle.wi_parser.specs.Lexeme.{Lexeme, numeral, reference, open_mark, close_mark, infix_mark, refused}
-use Rattle.wi_parser.specs.Grammar.{line_of, loosest}
+-- What a text is taken for: a formula, or the content of a cell.
+use Rattle.std.specs.Prelude.{◌≡◌, ℕ, ◌+◌, ◌≤◌, List, length, nat_lt, if◌then◌else◌, codes, Option, Some, None, option_map, is_some, Result, Ok, Err, ok_or}
+use Rattle.std.specs.List.{list_any}
+use Rattle.wi_values.specs.declared.value.Value.TheVariants.{Text}
+use Rattle.wi_values.specs.Import.{max_text, imported}
+use Rattle.wi_parser.specs.declared.content.Content.{Content}
+use Rattle.wi_parser.specs.declared.content.Content.TheVariants.{Constant, Formula}
+use Rattle.wi_parser.specs.declared.fault.ParseFault.{ParseFault}
+use Rattle.wi_parser.specs.declared.fault.ParseFault.TheVariants.{TooLong, OutOfSheet, NumberRange, TooDeep, Syntax, Memory}
+use Rattle.wi_parser.specs.Tree.{Tree}
+use Rattle.wi_parser.specs.Lexeme.{Lexeme, is_outside, is_unfit}
+use Rattle.wi_parser.specs.Nesting.{is_too_deep, max_depth}
+use Rattle.wi_parser.specs.Reader.{whole}
+use Rattle.wi_parser.specs.FormulaText.{after, after_equals, formula_lexemes}
 
--- a tree found, and what follows it
-abbrev pub Read : Type 0
-Read = Option (Tree × List Lexeme)
+-- the greatest length of a formula's text in bytes
+abbrev pub max_formula : ℕ
+max_formula = 4096
 
-abbrev pub Parse : Type 0
-Parse = List Lexeme → Read
+-- the first cause for which the lexemes are refused before they are read
+abbrev pub refusal_of : List Lexeme → Option ParseFault
+refusal_of ts =
+    if list_any is_outside ts then Some OutOfSheet
+    else (if list_any is_unfit ts then Some NumberRange
+    else (if is_too_deep ts then Some TooDeep else None))
 
--- what was found, read on from there
-abbrev pub read_then : (Tree → Parse) → Read → Read
-read_then f r = option_and_then (λ p. f p.0 p.1) r
+abbrev pub unless_refused : Option ParseFault → Option Tree → Result Tree ParseFault
+unless_refused (Some e) found = Err e
+unless_refused None found = ok_or found Syntax
 
--- what follows the mark that closes, where one stands
-abbrev pub after_close : List Lexeme → Option (List Lexeme)
-after_close [] = None
-after_close (numeral x ∷ ts) = None
-after_close (reference r ∷ ts) = None
-after_close (open_mark ∷ ts) = None
-after_close (close_mark ∷ ts) = Some ts
-after_close (infix_mark op ∷ ts) = None
-after_close (refused e ∷ ts) = None
+-- the tree of the lexemes, or the first cause for which there is none
+abbrev pub judged : List Lexeme → Result Tree ParseFault
+judged ts = unless_refused (refusal_of ts) (whole (max_depth + 1) ts)
 
--- the operator of this line that stands first, and what follows it
-abbrev pub operator_at : ℕ → List Lexeme → Option (Operator × List Lexeme)
-operator_at k [] = None
-operator_at k (numeral x ∷ ts) = None
-operator_at k (reference r ∷ ts) = None
-operator_at k (open_mark ∷ ts) = None
-operator_at k (close_mark ∷ ts) = None
-operator_at k (infix_mark op ∷ ts) = cond (line_of op == k) (Some (op, ts)) None
-operator_at k (refused e ∷ ts) = None
+-- the tree of a formula's text, or the first cause for which there is none
+unfoldable pub parsed : List ℕ → Result Tree ParseFault
+parsed text = if nat_lt max_formula (length text) then Err TooLong else judged (formula_lexemes text)
 
--- the tree, where the mark that closes stands next
-abbrev pub then_close : Tree → Parse
-then_close t ts = option_map (λ rest. (t, rest)) (after_close ts)
+abbrev pub as_content : Result Tree ParseFault → Result Content ParseFault
+as_content (Ok t) = Ok (Formula t)
+as_content (Err e) = Err e
 
--- a number, a cell or what stands in parentheses, which `inner` reads
-unfoldable pub atom : Parse → Parse
-atom inner [] = None
-atom inner (numeral x ∷ ts) = Some (number x, ts)
-atom inner (reference r ∷ ts) = Some (cell r, ts)
-atom inner (open_mark ∷ ts) = read_then (λ t. then_close (parenthesized t)) (inner ts)
-atom inner (close_mark ∷ ts) = None
-atom inner (infix_mark op ∷ ts) = None
-atom inner (refused e ∷ ts) = None
+-- a text after an apostrophe
+abbrev pub quoted : List ℕ → Result Content ParseFault
+quoted text = if nat_lt max_text (length text) then Err TooLong else Ok (Constant (Text text))
 
--- an operator, where one stands, and its right operand, and so on
-abbrev pub chain_step : Parse → (Tree → Parse) → Tree → List Lexeme → Option (Operator × List Lexeme) → Read
-chain_step next again left ts None = Some (left, ts)
-chain_step next again left ts (Some p) = read_then (λ r rest. again (binary p.0 left r) rest) (next p.1)
+abbrev pub constant_read : List ℕ → Option (List ℕ) → Result Content ParseFault
+constant_read text (Some rest) = quoted rest
+constant_read text None = ok_or (option_map Constant (imported text)) TooLong
 
--- Operators of line k after what was read, grouped to the left. The number n bounds the turns.
-unfoldable pub chain : Parse → ℕ → ℕ → Tree → Parse
-chain next k zero left ts = Some (left, ts)
-chain next k (suc n) left ts = chain_step next (chain next k n) left ts (operator_at k ts)
+-- what is put into a cell: a formula where the text begins with `=` or `of:=`, a text after an apostrophe, or what is imported
+unfoldable pub content_read : List ℕ → Result Content ParseFault
+content_read text =
+    if is_some (after_equals text) then as_content (parsed text)
+    else constant_read text (after (codes "'") text)
 
--- one line of the grammar, by its number
-unfoldable pub line : Parse → ℕ → Parse
-unfolding atom chain
-line inner zero ts = atom inner ts
-line inner (suc k) ts = read_then (λ t rest. chain (line inner k) (suc k) (length rest) t rest) (line inner k ts)
+-- ---- what the calls answer, where memory did not run out
 
--- an expression whose parentheses nest less deep than the number
-unfoldable pub expression : ℕ → Parse
-unfolding line
-expression zero ts = None
-expression (suc d) ts = line (expression d) loosest ts
+-- what is answered is what is found, unless memory ran out
+abbrev pub Reads : {A : Type 0} → Result A ParseFault → Result A ParseFault → Type 0
+Reads found (Ok a) = found ≡ Ok a
+Reads found (Err TooLong) = found ≡ Err TooLong
+Reads found (Err OutOfSheet) = found ≡ Err OutOfSheet
+Reads found (Err NumberRange) = found ≡ Err NumberRange
+Reads found (Err TooDeep) = found ≡ Err TooDeep
+Reads found (Err Syntax) = found ≡ Err Syntax
+Reads found (Err Memory) = Unit {0}
 
-abbrev pub if_last : Tree → List Lexeme → Option Tree
-if_last t [] = Some t
-if_last t (x ∷ ts) = None
-
--- the tree that all of the lexemes are read as
-abbrev pub whole : ℕ → List Lexeme → Option Tree
-whole d ts = option_and_then (λ p. if_last p.0 p.1) (expression d ts)
+-- the answer is this, unless memory ran out
+abbrev pub Answers : {A : Type 0} → A → Result A ParseFault → Type 0
+Answers a (Ok b) = b ≡ a
+Answers a (Err TooLong) = ⊥
+Answers a (Err OutOfSheet) = ⊥
+Answers a (Err NumberRange) = ⊥
+Answers a (Err TooDeep) = ⊥
+Answers a (Err Syntax) = ⊥
+Answers a (Err Memory) = Unit {0}

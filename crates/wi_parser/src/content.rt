@@ -1,10 +1,14 @@
 //! What stands in a cell.
 
 ghost use Rattle.std.specs.Prelude.{◌≡◌, IfOk};
+ghost use Rattle.wi_parser.specs.Reading.{Reads, content_read, quoted};
 
+use crate::fault::ParseFault;
 use crate::formula::Formula;
+use crate::front::{after, is_formula};
+use crate::parser::parse;
 use std::alloc::{AllocError, Global};
-use wi_values::Value;
+use wi_values::{MAX_TEXT, Text, Value, imported_value};
 
 /// What stands in a cell. A cell with the constant Empty has no content.
 #[derive(Debug, Drop)]
@@ -14,6 +18,31 @@ pub enum Content {
 }
 
 impl Content {
+    /// The content that a text stands for: a formula where it begins with `=` or `of:=`, the text after an apostrophe,
+    /// and else a number, a truth value or a text.
+    #[tactic(auto, unfolding(crate::specs::Reading::content_read))]
+    pub fn read(alloc: Global, text: &str) -> Result<Content, ParseFault>
+        ensures { Reads (content_read text.now) result }
+    {
+        if is_formula(text) {
+            return Ok(Content::Formula(parse(alloc, text)?));
+        }
+        if let Some(rest) = after("'", text) {
+            return Content::quoted(alloc, rest);
+        }
+        Ok(Content::Constant(imported_value(alloc, text)?))
+    }
+
+    // The text after an apostrophe.
+    fn quoted(alloc: Global, text: &str) -> Result<Content, ParseFault>
+        ensures { Reads (quoted text.now) result }
+    {
+        if text.len() > MAX_TEXT {
+            return Err(ParseFault::TooLong);
+        }
+        Ok(Content::Constant(Value::Text(Text::from_str(alloc, text)?)))
+    }
+
     /// The same content once more.
     pub fn copy(&self, alloc: Global) -> Result<Content, AllocError>
         ensures { IfOk result (λ c. c ≡ self.now) }

@@ -4,6 +4,7 @@ ghost use Rattle.std.specs.Prelude.{◌≡◌};
 
 use std::alloc::{AllocError, AllocFailed};
 use thiserror::Error;
+use wi_values::FieldFault;
 
 /// Why a text is no formula, or no content of a cell.
 #[derive(Clone, Copy, PartialEq, Eq, Debug, Error)]
@@ -41,5 +42,18 @@ impl<T: Drop> From<AllocFailed<T>> for ParseFault {
 
     fn from(_error: AllocFailed<T>) -> ParseFault {
         ParseFault::Memory
+    }
+}
+
+impl From<FieldFault> for ParseFault {
+    ghost use Rattle.wi_parser.specs.Faults.{field_fault};
+
+    ghost from_gives = { λ fault e. e ≡ field_fault fault };
+
+    fn from(fault: FieldFault) -> ParseFault {
+        match fault {
+            FieldFault::TooLong => ParseFault::TooLong,
+            FieldFault::Memory => ParseFault::Memory,
+        }
     }
 }

@@ -1,7 +1,7 @@
 //! The lines of the grammar, each over the function that reads what stands in parentheses.
 
 ghost use Rattle.std.specs.Prelude.{◌≡◌, ◌<◌, ◌≤◌, length, OnOk, IfOk};
-ghost use Rattle.wi_parser.specs.Reading as reading;
+ghost use Rattle.wi_parser.specs.Reader as reader;
 ghost use Rattle.wi_parser.specs.Outcome.{Finds};
 ghost use Rattle.wi_parser.specs.Nests.{Nests};
 ghost use Rattle.wi_parser.specs.View.{tree_of};
@@ -26,17 +26,17 @@ impl<F: Fn(Global, &mut Words<'_>, usize) -> Result<Expr, ParseFault>> Grammar<F
     // What stands in parentheses.
     fn inner(&self, words: &mut Words<'_>) -> Result<Expr, ParseFault>
         requires { Nests self.now.depth (F.pre self.now.expression) (F.post self.now.expression) }
-        ensures finds { Finds (reading.expression self.now.depth words.old) result words.new }
+        ensures finds { Finds (reader.expression self.now.depth words.old) result words.new }
         ensures shorter { OnOk result (length words.new < length words.old) }
     {
         (self.expression)(self.alloc, words, self.depth)
     }
 
     // A number, a cell, or an expression in parentheses.
-    #[tactic(auto, unfolding(crate::specs::Reading::atom))]
+    #[tactic(auto, unfolding(crate::specs::Reader::atom))]
     fn atom(&self, words: &mut Words<'_>) -> Result<Expr, ParseFault>
         requires { Nests self.now.depth (F.pre self.now.expression) (F.post self.now.expression) }
-        ensures finds { Finds (reading.atom (reading.expression self.now.depth) words.old) result words.new }
+        ensures finds { Finds (reader.atom (reader.expression self.now.depth) words.old) result words.new }
         ensures shorter { OnOk result (length words.new < length words.old) }
     {
         let Some(word) = words.next() else {
@@ -61,7 +61,7 @@ impl<F: Fn(Global, &mut Words<'_>, usize) -> Result<Expr, ParseFault>> Grammar<F
     // One line of the grammar: 0 is an atom, 1 a product and 2 a sum.
     fn line(&self, words: &mut Words<'_>, line: u8) -> Result<Expr, ParseFault>
         requires { Nests self.now.depth (F.pre self.now.expression) (F.post self.now.expression) }
-        ensures finds { Finds (reading.line (reading.expression self.now.depth) line words.old) result words.new }
+        ensures finds { Finds (reader.line (reader.expression self.now.depth) line words.old) result words.new }
         ensures shorter { OnOk result (length words.new < length words.old) }
     {
         if line == 0 {
@@ -80,7 +80,7 @@ const LOOSEST: u8 = 2;
 
 /// An expression at the front of the words, whose parentheses nest less deep than the depth.
 pub fn expression(alloc: Global, words: &mut Words<'_>, depth: usize) -> Result<Expr, ParseFault>
-    ensures finds { Finds (reading.expression depth words.old) result words.new }
+    ensures finds { Finds (reader.expression depth words.old) result words.new }
     ensures shorter { OnOk result (length words.new < length words.old) }
 {
     if depth == 0 {

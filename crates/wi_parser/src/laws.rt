@@ -6,7 +6,7 @@ ghost use Rattle.wi_parser.specs.Lexeme.{Lexeme};
 ghost use Rattle.wi_parser.specs.Grammar.{Spells, loosest};
 ghost use Rattle.wi_parser.specs.Nesting.{depth, deepest};
 ghost use Rattle.wi_parser.specs.Spelling.{spelling};
-ghost use Rattle.wi_parser.specs.Reading.{whole};
+ghost use Rattle.wi_parser.specs.Reader.{whole};
 
 /// What is read from lexemes is spelled by them.
 pub fn what_is_read()

@@ -6,7 +6,7 @@ ghost use Rattle.wi_parser.specs.Lexeme as lexeme;
 ghost use Rattle.wi_parser.specs.Words.{meant_by, all_meant};
 ghost use Rattle.wi_parser.specs.Nesting as nesting;
 ghost use Rattle.wi_parser.specs.Nesting.{deepest, most_signs, max_depth};
-ghost use Rattle.wi_parser.specs.Parsed as spec;
+ghost use Rattle.wi_parser.specs.Reading as spec;
 
 use crate::expr::Operator;
 use crate::fault::ParseFault;

@@ -4,10 +4,10 @@ ghost use Rattle.std.specs.Prelude.{◌≡◌, ◌≤◌, ◌+◌, length, IfOk}
 ghost use Rattle.wi_parser.specs.Words.{all_meant};
 ghost use Rattle.wi_parser.specs.Nesting.{deepest, most_signs, max_depth};
 ghost use Rattle.wi_parser.specs.Grammar.{Spells, loosest};
-ghost use Rattle.wi_parser.specs.Reading as reading;
+ghost use Rattle.wi_parser.specs.Reader as reader;
 ghost use Rattle.wi_parser.specs.Outcome.{FindsWhole};
 ghost use Rattle.wi_parser.specs.FormulaText.{formula_lexemes};
-ghost use Rattle.wi_parser.specs.Parsed.{Reads, Answers, parsed, max_formula};
+ghost use Rattle.wi_parser.specs.Reading.{Reads, Answers, parsed, max_formula};
 ghost use Rattle.wi_parser.specs.Tree.{Tree};
 
 use crate::expr::Expr;
@@ -49,7 +49,7 @@ pub fn parse(alloc: Global, text: &str) -> Result<Formula, ParseFault>
 
 // The tree that all of the words are read as.
 fn whole(alloc: Global, words: &[Word]) -> Result<Expr, ParseFault>
-    ensures { FindsWhole (reading.whole (max_depth + 1) (all_meant words.now)) result }
+    ensures { FindsWhole (reader.whole (max_depth + 1) (all_meant words.now)) result }
 {
     let mut rest = Words::new(words);
     let found = expression(alloc, &mut rest, MAX_DEPTH + 1)?;

@@ -3,7 +3,7 @@
 ghost use Rattle.std.specs.Prelude.{◌≡◌, [], ◌∷◌, Some, None, MatchOption, IsTrue, ◌↔◌};
 ghost use Rattle.std.specs.Bool.{OnTrue, OnFalse};
 ghost use Rattle.wi_parser.specs.Grammar as grammar;
-ghost use Rattle.wi_parser.specs.Reading.{after_close, operator_at};
+ghost use Rattle.wi_parser.specs.Reader.{after_close, operator_at};
 ghost use Rattle.wi_parser.specs.Words.{meant_by, all_meant};
 
 use crate::expr::Operator;

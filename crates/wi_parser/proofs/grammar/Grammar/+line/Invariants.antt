@@ -1,5 +1,5 @@
 use Rattle.std.proofs.Common.{◌≡◌, ◌<◌, ◌≤◌, length, ℕ, ◌-◌}
-use Rattle.wi_parser.specs.Reading as reading
+use Rattle.wi_parser.specs.Reader as reader
 use Rattle.wi_parser.specs.View.{tree_of}
 use Rattle.wi_parser.proofs.grammar.Grammar.+line.Given as goal
 
@@ -9,8 +9,8 @@ decreases-line g l = l.line
 abbrev pub invariant-loop-op : goal.invariant-loop-op
 invariant-loop-op g l =
     (n : ℕ) × (length l.words ≤ n)
-    × (reading.line (reading.expression l.self.depth) l.line l.fn.words
-      ≡ reading.chain (reading.line (reading.expression l.self.depth) (l.line - 1)) l.line n (tree_of l.left) l.words)
+    × (reader.line (reader.expression l.self.depth) l.line l.fn.words
+      ≡ reader.chain (reader.line (reader.expression l.self.depth) (l.line - 1)) l.line n (tree_of l.left) l.words)
     × (length l.words < length l.fn.words) × (0 < l.line)
 
 abbrev pub decreases-loop-op : goal.decreases-loop-op
