@@ -22,9 +22,9 @@ pub const ROWS: u32 = 1_048_576;
 /// Why a text is no address.
 #[derive(Clone, Copy, PartialEq, Eq, Debug, Error)]
 pub enum AddressFault {
-    #[error("no address")]
+    #[error("no letters and digits of an address")]
     Shape,
-    #[error("outside the sheet")]
+    #[error("a cell outside the sheet")]
     Outside,
 }
 
@@ -87,7 +87,8 @@ impl Address {
         (self.place % u64::from(COLUMNS)) as u32
     }
 
-    /// The cell with these column letters, of either case, and this row number; none outside the sheet.
+    /// The cell with these column letters, of either case, and this row number, which is counted from 1; none outside the
+    /// sheet. There may be any number of letters and digits.
     #[tactic(auto, unfolding(crate::specs::AddressReading::address_at))]
     pub fn from_parts(letters: &[u8], digits: &[u8]) -> Option<Address>
         ensures { result ≡ address_at letters.now digits.now }
@@ -164,7 +165,8 @@ fn column_number(letters: &[u8]) -> u32
     number
 }
 
-/// The number of a row, counted from 1, or one too large for a sheet.
+/// The number of a row, counted from 1, or one too large for a sheet. A byte that is no digit counts as in base 36,
+/// and any other as 36.
 fn row_number(digits: &[u8]) -> u32
     ensures { result ≡ min (digits_value 10 digits.now) (rows + 1) }
 {
