@@ -1,5 +1,5 @@
 -- A line served, and its answer written.
-use Rattle.std.proofs.Common.{◌≡◌, ℕ, ◌+◌, ◌<◌, ◌≤◌, Bool, true, ◌||◌, not, cond, ltb, ap, refl, ◌∙◌, ⊎_elim, Some, List, [], ◌++◌, length, take, drop, sym, subst, Option, length-append, arith}
+use Rattle.std.proofs.Common.{◌≡◌, ℕ, ◌+◌, ◌<◌, ◌≤◌, Bool, ◌||◌, not, cond, ltb, ap, refl, ◌∙◌, ⊎_elim, Some, List, ◌++◌, length, take, drop, sym, subst, Option, length-append, arith}
 use Rattle.std.specs.Option.{option_to_list}
 use Rattle.std.specs.Io.KnownBytes.{Appends}
 use Rattle.std.proofs.KnownBytes.{Appends-trans}
@@ -32,11 +32,11 @@ same_at_front : {X : Type 0} (limit n : ℕ) (f : List ℕ → X) (long : X) (ba
     → cond (ltb limit (length (take n content)) || bad (take n content)) long (f (take n content)) ≡ cond (ltb limit (length content) || bad content) long (f content)
 same_at_front {X} limit n f long bad content e = ⊎_elim
     (λ (h : limit < length content).
-        let cut : limit < length (take n content) = omega (arith, length-take n content) in
-        ap (λ b. cond (b || bad (take n content)) long (f (take n content))) (lt-ltb limit (length (take n content)) cut)
-        ∙ sym (ap (λ b. cond (b || bad content) long (f content)) (lt-ltb limit (length content) h)))
+    let cut : limit < length (take n content) = omega (arith, length-take n content) in
+    ap (λ b. cond (b || bad (take n content)) long (f (take n content))) (lt-ltb limit (length (take n content)) cut)
+    ∙ sym (ap (λ b. cond (b || bad content) long (f content)) (lt-ltb limit (length content) h)))
     (λ (h : length content ≤ limit).
-        ap (λ xs. cond (ltb limit (length xs) || bad xs) long (f xs)) (take_all n content (omega arith)))
+    ap (λ xs. cond (ltb limit (length xs) || bad xs) long (f xs)) (take_all n content (omega arith)))
     (cases_lt limit (length content))
 
 pub line_command-front : (content : List ℕ) → line_command (front content) ≡ line_command content

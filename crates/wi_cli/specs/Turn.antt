@@ -1,5 +1,5 @@
 -- What one turn of a run does.
-use Rattle.std.specs.Prelude.{◌≡◌, ℕ, ◌<◌, Bool, true, false, List, [], ◌++◌, length, Option}
+use Rattle.std.specs.Prelude.{◌≡◌, ℕ, ◌<◌, Bool, true, false, List, ◌++◌, length, Option}
 use Rattle.std.specs.Option.{option_to_list}
 use Rattle.std.specs.Io.KnownBytes.{Appends, IsAtEnd, prepend_known}
 use Rattle.wi_cli.specs.declared.fault.RunFault.{RunFault}

@@ -37,7 +37,11 @@ fn write_refusal<W: Sink>(writer: &mut W, refusal: Refusal) -> Result<(), Device
 }
 
 /// Writes the answer to a line: its records and `ok`, or its refusal.
-pub fn write_answer<W: Sink>(writer: &mut W, answer: Answer, records: &[u8]) -> Result<(), DeviceFault>
+pub fn write_answer<W: Sink>(
+    writer: &mut W,
+    answer: Answer,
+    records: &[u8],
+) -> Result<(), DeviceFault>
     requires { W.has_failed writer.old ≡ false }
     ensures ok { OnOk result (Appends (W.contents writer.old) (W.contents writer.new) (told_bytes answer records.now)) }
     ensures err { OnErr result (AppendsFront (W.contents writer.old) (W.contents writer.new) (told_bytes answer records.now)) }

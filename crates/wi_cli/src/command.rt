@@ -2,7 +2,7 @@
 
 ghost use Rattle.std.specs.Prelude.{◌≡◌};
 ghost use Rattle.wi_cli.specs.Lines.{without_cr};
-ghost use Rattle.wi_cli.specs.Script.{is_comment, set_command, show_command, spelled_command, line_command};
+ghost use Rattle.wi_cli.specs.Script.{is_comment, set_command, show_command, spelled_command, text_command, line_command};
 ghost use Rattle.wi_cli.specs.Spelling.{Spells, SpellsLine};
 
 use crate::lines::MAX_LINE;
@@ -58,9 +58,9 @@ pub fn read_command(text: &str) -> Result<Command<'_>, Refusal>
 fn without_cr(line: &[u8]) -> &[u8]
     ensures { result.now ≡ without_cr line.now }
 {
-    match line {
-        [text @ .., b'\r'] => text,
-        _ => line,
+    match line.strip_suffix(b"\r") {
+        Some(text) => text,
+        None => line,
     }
 }
 
@@ -71,6 +71,19 @@ fn is_comment(text: &str) -> bool
     text.starts_with('#')
 }
 
+/// The command of a text that is a line, or nothing where the line is passed over.
+fn read_text(text: &str) -> Result<Option<Command<'_>>, Refusal>
+    ensures { SpellsLine (text_command text.now) result }
+{
+    if is_blank(text) || is_comment(text) {
+        return Ok(None);
+    }
+    match read_command(text) {
+        Ok(command) => Ok(Some(command)),
+        Err(refusal) => Err(refusal),
+    }
+}
+
 /// The command of a line without its LF, or nothing where the line is passed over.
 #[tactic(auto, unfolding(crate::specs::Script::line_command))]
 pub fn read_line_command(line: &[u8]) -> Result<Option<Command<'_>>, Refusal>
@@ -79,11 +92,8 @@ pub fn read_line_command(line: &[u8]) -> Result<Option<Command<'_>>, Refusal>
     if line.len() > MAX_LINE {
         return Err(Refusal::BadLine);
     }
-    let Ok(text) = str::from_utf8(without_cr(line)) else {
-        return Err(Refusal::BadLine);
-    };
-    if is_blank(text) || is_comment(text) {
-        return Ok(None);
+    match str::from_utf8(without_cr(line)) {
+        Ok(text) => read_text(text),
+        Err(_) => Err(Refusal::BadLine),
     }
-    Ok(Some(read_command(text)?))
 }

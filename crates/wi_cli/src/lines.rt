@@ -8,7 +8,6 @@ use crate::chunk::Chunk;
 use crate::device::Source;
 use crate::fault::RunFault;
 
-
 /// The greatest length of a line in bytes, without its LF.
 pub const MAX_LINE: usize = 65_536;
 

@@ -24,13 +24,14 @@ use wi_scenarios::{Refusal, Workbook};
 pub const MAX_LINES: u32 = 1_000_000;
 
 /// Does a command, and appends its records.
+#[tactic(auto, unfolding(wi_scenarios::specs::Step::step))]
 fn execute<C: Calculator>(
     command: Command<'_>,
     book: &mut Workbook<C>,
     out: &mut Vec<u8>,
 ) -> Result<(), Refusal>
     ensures { (records : List ℕ) × (out.new.items ≡ out.old.items ++ records)
-        × Serves (step book.old (command_of command)) result book.old book.new records }
+        × Serves (step book.old (command_of command.entry)) result book.old book.new records }
 {
     match command {
         Command::Set { at, content } => book.set(at, content),
@@ -39,6 +40,7 @@ fn execute<C: Calculator>(
 }
 
 /// Serves a line, and leaves its records in `out`, which was empty.
+#[tactic(auto, using(crate::proofs::ServeLemmas::told_passed, crate::proofs::ServeLemmas::told_done, crate::proofs::ServeLemmas::told_refused, crate::proofs::ServeLemmas::told_bad))]
 fn serve<C: Calculator>(book: &mut Workbook<C>, line: &[u8], out: &mut Vec<u8>) -> Answer
     requires { out.old.items ≡ [] }
     ensures { Told (line_command line.now) result book.old book.new out.new.items }

@@ -1,7 +1,7 @@
 use Rattle.std.proofs.lemmas.Result.{on_err_weaker}
 use Rattle.wi_cli.proofs.TurnLemmas.{AppendsFront-append}
-use Rattle.wi_cli.proofs.runs.write_answer.Goals as goal
+use Rattle.wi_cli.proofs.answer.write_answer.Goals as goal
 
 pub returns-in_ok-write_all-in-Done-clause-err : goal.returns-in_ok-write_all-in-Done-clause-err
 returns-in_ok-write_all-in-Done-clause-err g c =
-    rw c.in-Done.is (on_err_weaker _ (AppendsFront-append _ _ _ c.args.out.now _ c.in_ok-write_all-in-Done.ensures.ok) c.write_all-in-Done.ensures.err)
+    rw c.in-Done.is (on_err_weaker _ (AppendsFront-append _ _ _ c.args.records.now _ c.in_ok-write_all-in-Done.ensures.ok) c.write_all-in-Done.ensures.err)
