@@ -57,32 +57,38 @@ taken d zero t us c = c
 taken d (suc k) t us c = λ rest stops. led_on d k c.0 t us rest (c.1 rest stops.0) stops.1
 
 one_line : (d k : ℕ) (t : Tree) (us : List Lexeme) → Taken d k t us → Claim d (suc k) t us
-one_line d k t us c = (0, λ rest stops. record {
-  first = t;
-  after = rest;
-  found = c rest stops;
-  led = λ m. let same : m + 0 ≡ m = omega arith in ap (λ j. chain (line (expression d) k) (suc k) j t rest) same;
-  room = omega arith;
-})
+one_line d k t us c = (
+  0,
+  λ rest stops. record {
+    first = t;
+    after = rest;
+    found = c rest stops;
+    led = λ m. let same : m + 0 ≡ m = omega arith in ap (λ j. chain (line (expression d) k) (suc k) j t rest) same;
+    room = omega arith;
+  },
+)
 
 -- one more operand
 one_more : (d k : ℕ) (op : Operator) (l r : Tree) (ls rs : List Lexeme) → line_of op ≡ suc k → Claim d (suc k) l ls → Taken d k r rs → Claim d (suc k) (binary op l r) (ls ++ infix_mark op ∷ rs)
-one_more d k op l r ls rs e left right = (suc left.0, λ rest stops.
-    let next = line (expression d) k in
-    let tail : List Lexeme = infix_mark op ∷ rs ++ rest in
-    let before = left.1 tail (stops_at k op (rs ++ rest) (omega arith)) in
-    record {
-      first = before.first;
-      after = before.after;
-      found = ap next (append_assoc ls (infix_mark op ∷ rs) rest) ∙ before.found;
-      led = λ m.
-          let shift : m + suc left.0 ≡ suc m + left.0 = omega arith in
-          let less : suc m - 1 ≡ m = omega arith in
-          ap (λ j. chain next (suc k) j before.first before.after) shift ∙ before.led (suc m)
-          ∙ chain_more next (suc k) (suc m) l r tail (rs ++ rest) rest op (omega arith) (operator_here (suc k) op (rs ++ rest) e) (right rest stops)
-          ∙ ap (λ j. chain next (suc k) j (binary op l r) rest) less;
-      room = let longer = length-append rs rest in omega (arith, before.room);
-    })
+one_more d k op l r ls rs e left right = (
+  suc left.0,
+  λ rest stops.
+      let next = line (expression d) k in
+      let tail : List Lexeme = infix_mark op ∷ rs ++ rest in
+      let before = left.1 tail (stops_at k op (rs ++ rest) (omega arith)) in
+      record {
+        first = before.first;
+        after = before.after;
+        found = ap next (append_assoc ls (infix_mark op ∷ rs) rest) ∙ before.found;
+        led = λ m.
+            let shift : m + suc left.0 ≡ suc m + left.0 = omega arith in
+            let less : suc m - 1 ≡ m = omega arith in
+            ap (λ j. chain next (suc k) j before.first before.after) shift ∙ before.led (suc m)
+            ∙ chain_more next (suc k) (suc m) l r tail (rs ++ rest) rest op (omega arith) (operator_here (suc k) op (rs ++ rest) e) (right rest stops)
+            ∙ ap (λ j. chain next (suc k) j (binary op l r) rest) less;
+        room = let longer = length-append rs rest in omega (arith, before.room);
+      },
+)
 
 -- parentheses nest one deeper
 inner_taken : (d : ℕ) (t : Tree) (us rest : List Lexeme) → Taken d 2 t us → Stops 2 rest → expression (suc d) (us ++ rest) ≡ Some (t, rest)

@@ -77,9 +77,11 @@ module _ (inner : Parse) (sound : Finds 2 inner) where
   atom_sound (open_mark ∷ ts) t rest h =
       let inside = then_ok (λ u. then_close (parenthesized u)) (inner ts) (t, rest) h in
       let a = sound ts inside.0.0 inside.0.1 inside.1 in
-      let shut = closed_sound inside.0.0 t inside.0.1 rest (after_close inside.0.1) refl inside.2 in
-      (open_mark ∷ a.0 ++ close_mark ∷ [], subst (λ u. Spells 0 u (open_mark ∷ a.0 ++ close_mark ∷ [])) shut.0 (in_marks inside.0.0 a.0 a.1),
-        ap (λ l. open_mark ∷ l) (a.2 ∙ ap (λ l. a.0 ++ l) shut.1 ∙ sym (append_assoc a.0 (close_mark ∷ []) rest)))
+      let shut = closed_sound inside.0.0 t inside.0.1 rest (after_close inside.0.1) refl inside.2 in (
+        open_mark ∷ a.0 ++ close_mark ∷ [],
+        subst (λ u. Spells 0 u (open_mark ∷ a.0 ++ close_mark ∷ [])) shut.0 (in_marks inside.0.0 a.0 a.1),
+        ap (λ l. open_mark ∷ l) (a.2 ∙ ap (λ l. a.0 ++ l) shut.1 ∙ sym (append_assoc a.0 (close_mark ∷ []) rest)),
+      )
   atom_sound (close_mark ∷ ts) t rest h = cc
   atom_sound (infix_mark op ∷ ts) t rest h = cc
   atom_sound (refused e ∷ ts) t rest h = cc

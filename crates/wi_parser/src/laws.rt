@@ -11,29 +11,24 @@ ghost use Rattle.wi_parser.specs.Reader.{whole};
 /// What is read from lexemes is spelled by them.
 pub fn what_is_read()
     ensures { (d : ℕ) (ts : List Lexeme) (t : Tree) → whole d ts ≡ Some t → Spells loosest t ts }
-{
-}
+{}
 
 /// What is spelled is read, where it does not nest too deep.
 pub fn what_is_spelled()
     ensures { (d : ℕ) (ts : List Lexeme) (t : Tree) → Spells loosest t ts → depth t ≤ d → whole (suc d) ts ≡ Some t }
-{
-}
+{}
 
 /// No lexemes spell two trees.
 pub fn one_tree()
     ensures { (t u : Tree) (ts : List Lexeme) → Spells loosest t ts → Spells loosest u ts → t ≡ u }
-{
-}
+{}
 
 /// A tree nests no deeper than the parentheses of its lexemes.
 pub fn no_deeper()
     ensures { (t : Tree) (ts : List Lexeme) → Spells loosest t ts → depth t ≤ deepest 0 ts }
-{
-}
+{}
 
 /// A tree has one spelling.
 pub fn one_spelling()
     ensures { (k : ℕ) (t : Tree) (ts : List Lexeme) → Spells k t ts → ts ≡ spelling t }
-{
-}
+{}

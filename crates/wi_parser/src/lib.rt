@@ -10,6 +10,8 @@ mod grammar;
 pub mod laws;
 mod limits;
 mod parser;
+#[cfg(test)]
+mod tests;
 mod tokens;
 mod word;
 mod words;

@@ -12,6 +12,6 @@ returns-then-signs-eq-MAX_DEPTH c =
     let next = drop-cons words l.word-index c.word-item.result c.loop-word-test.true ∙ ap (λ w. w ∷ after) (sym c.word-item.is) in
     let is = sym c.is_sign.ensures ∙ c.if-is_sign.true in
     let step : most_signs l.signs (all_meant (drop l.word-index words)) ≡ most_signs (suc l.signs) (all_meant after) =
-        ap (λ ws. most_signs l.signs (all_meant ws)) next
-        ∙ ap (λ b. if b then most_signs (suc l.signs) (all_meant after) else max l.signs (most_signs 0 (all_meant after))) is in
+    ap (λ ws. most_signs l.signs (all_meant ws)) next
+    ∙ ap (λ b. if b then most_signs (suc l.signs) (all_meant after) else max l.signs (most_signs 0 (all_meant after))) is in
     (λ _. l.invariant.1.1 (omega (arith, step, least_signs (suc l.signs) (all_meant after))), λ _. refl)

@@ -27,10 +27,13 @@ pub loop-op-init : goal.loop-op-init
 loop-op-init g t c =
     let i = expression c.args.self.now.depth in
     let k = c.args.line in
-    let some : 0 < k = omega arith in
-    (length c.line.new.words, omega arith,
+    let some : 0 < k = omega arith in (
+      length c.line.new.words,
+      omega arith,
       line_more i k c.args.words.now some ∙ ap (read_then (λ t rest. chain (line i (k - 1)) k (length rest) t rest)) c.in_ok-left.ensures.finds,
-      c.in_ok-left.ensures.shorter, some)
+      c.in_ok-left.ensures.shorter,
+      some,
+    )
 
 pub returns-in_err-right-clause-finds : goal.returns-in_err-right-clause-finds
 returns-in_err-right-clause-finds g t c =
@@ -51,10 +54,13 @@ loop-op-preserved g t c =
     let n = l.invariant.0 in
     let taken = operator-length k l.words _ _ c.in-Some.ensures in
     let short = c.in_ok-right.ensures.shorter in
-    let again = chain_more (line i (k - 1)) k n (tree_of l.left) (tree_of c.in_ok-right.right) l.words _ _ _ (omega arith) c.in-Some.ensures c.in_ok-right.ensures.finds in
-    (n - 1, omega arith,
+    let again = chain_more (line i (k - 1)) k n (tree_of l.left) (tree_of c.in_ok-right.right) l.words _ _ _ (omega arith) c.in-Some.ensures c.in_ok-right.ensures.finds in (
+      n - 1,
+      omega arith,
       l.invariant.2 ∙ again ∙ ap (λ u. chain (line i (k - 1)) k (n - 1) u c.line-in-Some.new.words) (sym c.in_ok-left-2.ensures),
-      omega arith, l.invariant.4)
+      omega arith,
+      l.invariant.4,
+    )
 
 pub returns-clause-finds : goal.returns-clause-finds
 returns-clause-finds g t c =

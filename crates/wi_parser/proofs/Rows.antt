@@ -1,0 +1,133 @@
+-- Worked rows: what the definitions give.
+use Rattle.std.specs.Prelude.{◌≡◌, ℕ, ◌≤◌, pos, true, false, List, [], ◌∷◌, Some, Ok, Err, codes, refl}
+use Rattle.std.proofs.Common.{ap, ◌∙◌, lit<, lit≤, Option}
+use Rattle.wi_fraction.specs.Gcd.{gcd, gcd_within}
+use Rattle.wi_fraction.specs.Number.{Number, number_of, number_at-some, max_size}
+use Rattle.wi_fraction.specs.Text.{read_decimal, decimal_after}
+use Rattle.wi_values.specs.Address.{place}
+use Rattle.wi_values.specs.AddressReading.{address_at}
+use Rattle.wi_values.specs.declared.value.Value.TheVariants.{Text}
+use Rattle.wi_lexer.specs.Number.{number_len, decimals_len}
+use Rattle.wi_lexer.specs.Cell.{cell_of}
+use Rattle.wi_lexer.specs.Reference.{reference_of, reference_len}
+use Rattle.wi_lexer.specs.Mark.{mark_at}
+use Rattle.wi_lexer.specs.Token.{token_at}
+use Rattle.wi_lexer.specs.Tokens.{tokens, tokens_within}
+use Rattle.wi_parser.specs.declared.content.Content.TheVariants.{Constant}
+use Rattle.wi_parser.specs.declared.expr.Operator.TheVariants.{Add, Subtract, Multiply, Divide}
+use Rattle.wi_parser.specs.declared.expr.Reference.{Reference}
+use Rattle.wi_parser.specs.declared.fault.ParseFault.TheVariants.{OutOfSheet, Syntax}
+use Rattle.wi_parser.specs.Tree.{Tree, number, cell, parenthesized, binary}
+use Rattle.wi_parser.specs.Lexeme.{Lexeme, numeral, reference, open_mark, close_mark, infix_mark, refused}
+use Rattle.wi_parser.specs.Reader.{atom, chain, line, expression}
+use Rattle.wi_parser.specs.FormulaText.{number_lexeme, formula_lexemes}
+use Rattle.wi_parser.specs.Reading.{judged, parsed, content_read}
+use Rattle.wi_parser.proofs.Parses.{parsed_short}
+
+-- ---- lexemes
+
+product_before_sum : (x y z : Number) → judged (numeral x ∷ infix_mark Add ∷ numeral y ∷ infix_mark Multiply ∷ numeral z ∷ []) ≡ Ok (binary Add (number x) (binary Multiply (number y) (number z)))
+unfolding atom chain line expression
+product_before_sum x y z = refl
+
+groups_to_the_left : (x y z : Number) → judged (numeral x ∷ infix_mark Subtract ∷ numeral y ∷ infix_mark Subtract ∷ numeral z ∷ []) ≡ Ok (binary Subtract (binary Subtract (number x) (number y)) (number z))
+unfolding atom chain line expression
+groups_to_the_left x y z = refl
+
+keeps_parentheses : (x : Number) → judged (open_mark ∷ numeral x ∷ close_mark ∷ []) ≡ Ok (parenthesized (number x))
+unfolding atom chain line expression
+keeps_parentheses x = refl
+
+no_operand : (x : Number) → judged (numeral x ∷ infix_mark Add ∷ []) ≡ Err Syntax
+unfolding atom chain line expression
+no_operand x = refl
+
+-- ---- texts
+
+over_one : (n : ℕ) → gcd n 1 ≡ 1
+unfolding gcd gcd_within
+over_one n = refl
+
+abbrev whole_number : (n : ℕ) → n ≤ max_size → Number
+whole_number n fits = record { num = pos n; den = 1; is_number = record { above_zero = lit< tt; lowest = over_one n; num_fits = fits; den_fits = lit≤ tt } }
+
+abbrev one : Number
+one = whole_number 1 (lit≤ tt)
+
+abbrev two : Number
+two = whole_number 2 (lit≤ tt)
+
+abbrev three : Number
+three = whole_number 3 (lit≤ tt)
+
+read_one : read_decimal (codes "1") ≡ Some one
+unfolding read_decimal decimal_after number_of gcd gcd_within
+read_one = number_at-some (pos 1) 1 one refl refl
+
+read_two : read_decimal (codes "2") ≡ Some two
+unfolding read_decimal decimal_after number_of gcd gcd_within
+read_two = number_at-some (pos 2) 1 two refl refl
+
+read_three : read_decimal (codes "3") ≡ Some three
+unfolding read_decimal decimal_after number_of gcd gcd_within
+read_three = number_at-some (pos 3) 1 three refl refl
+
+-- three numbers with two operators between
+abbrev of_three : Lexeme → Lexeme → Option Number → Option Number → Option Number → List Lexeme
+of_three a b x y z = number_lexeme x ∷ a ∷ number_lexeme y ∷ b ∷ number_lexeme z ∷ []
+
+one_two_three : (a b : Lexeme) → of_three a b (read_decimal (codes "1")) (read_decimal (codes "2")) (read_decimal (codes "3")) ≡ numeral one ∷ a ∷ numeral two ∷ b ∷ numeral three ∷ []
+one_two_three a b =
+    ap (λ x. of_three a b x (read_decimal (codes "2")) (read_decimal (codes "3"))) read_one
+    ∙ ap (λ y. of_three a b (Some one) y (read_decimal (codes "3"))) read_two
+    ∙ ap (λ z. of_three a b (Some one) (Some two) z) read_three
+
+sum_lexemes : formula_lexemes (codes "=1+2*3") ≡ of_three (infix_mark Add) (infix_mark Multiply) (read_decimal (codes "1")) (read_decimal (codes "2")) (read_decimal (codes "3"))
+unfolding formula_lexemes tokens tokens_within token_at number_len decimals_len mark_at reference_len reference_of cell_of
+sum_lexemes = refl
+
+sum_of_product : parsed (codes "=1+2*3") ≡ Ok (binary Add (number one) (binary Multiply (number two) (number three)))
+sum_of_product = parsed_short _ (lit≤ tt) ∙ ap judged (sum_lexemes ∙ one_two_three _ _) ∙ product_before_sum one two three
+
+difference_lexemes : formula_lexemes (codes "of:= 1-2 -3 ") ≡ of_three (infix_mark Subtract) (infix_mark Subtract) (read_decimal (codes "1")) (read_decimal (codes "2")) (read_decimal (codes "3"))
+unfolding formula_lexemes tokens tokens_within token_at number_len decimals_len mark_at reference_len reference_of cell_of
+difference_lexemes = refl
+
+differences : parsed (codes "of:= 1-2 -3 ") ≡ Ok (binary Subtract (binary Subtract (number one) (number two)) (number three))
+differences = parsed_short _ (lit≤ tt) ∙ ap judged (difference_lexemes ∙ one_two_three _ _) ∙ groups_to_the_left one two three
+
+enclosed_lexemes : formula_lexemes (codes "=(1)") ≡ open_mark ∷ number_lexeme (read_decimal (codes "1")) ∷ close_mark ∷ []
+unfolding formula_lexemes tokens tokens_within token_at number_len decimals_len mark_at reference_len reference_of cell_of
+enclosed_lexemes = refl
+
+enclosed : parsed (codes "=(1)") ≡ Ok (parenthesized (number one))
+enclosed = parsed_short _ (lit≤ tt) ∙ ap judged (enclosed_lexemes ∙ ap (λ x. open_mark ∷ number_lexeme x ∷ close_mark ∷ []) read_one) ∙ keeps_parentheses one
+
+unfinished_lexemes : formula_lexemes (codes "=1+") ≡ number_lexeme (read_decimal (codes "1")) ∷ infix_mark Add ∷ []
+unfolding formula_lexemes tokens tokens_within token_at number_len decimals_len mark_at reference_len reference_of cell_of
+unfinished_lexemes = refl
+
+unfinished : parsed (codes "=1+") ≡ Err Syntax
+unfinished = parsed_short _ (lit≤ tt) ∙ ap judged (unfinished_lexemes ∙ ap (λ x. number_lexeme x ∷ infix_mark Add ∷ []) read_one) ∙ no_operand one
+
+absolute_column : parsed (codes "=[.$b3]") ≡ Ok (cell (record { at = place 2 1; column_is_absolute = true; row_is_absolute = false }))
+unfolding parsed formula_lexemes tokens tokens_within token_at number_len decimals_len mark_at reference_len reference_of cell_of address_at atom chain line expression
+absolute_column = refl
+
+row_zero : parsed (codes "=[.A0]") ≡ Err Syntax
+unfolding parsed formula_lexemes tokens tokens_within token_at number_len decimals_len mark_at reference_len reference_of cell_of address_at atom chain line expression
+row_zero = refl
+
+outside_first : parsed (codes "=[.XFE1]+") ≡ Err OutOfSheet
+unfolding parsed formula_lexemes tokens tokens_within token_at number_len decimals_len mark_at reference_len reference_of cell_of address_at atom chain line expression
+outside_first = refl
+
+no_equals : parsed (codes "[.A1]") ≡ Err Syntax
+unfolding parsed formula_lexemes tokens tokens_within token_at number_len decimals_len mark_at reference_len reference_of cell_of address_at atom chain line expression
+no_equals = refl
+
+-- ---- contents
+
+after_apostrophe : content_read (codes "'=1") ≡ Ok (Constant (Text (codes "=1")))
+unfolding content_read
+after_apostrophe = refl

@@ -1,0 +1,344 @@
+use crate::{Content, Expr, Formula, Operator, ParseFault, parse};
+use std::alloc::{AllocError, Global};
+use std::test::Fail;
+use wi_fraction::Fraction;
+use wi_values::{Address, Text, Value};
+
+/// One more than the greatest number.
+const TOO_LARGE: &str = "170141183460469231731687303715884105728";
+
+fn sign_of(op: Operator) -> char {
+    match op {
+        Operator::Add => '+',
+        Operator::Subtract => '-',
+        Operator::Multiply => '*',
+        Operator::Divide => '/',
+    }
+}
+
+// Appends a tree, with braces around each operation and brackets for parentheses.
+fn push_tree(tree: &Expr, text: &mut String) -> Result<(), AllocError> {
+    match tree {
+        Expr::Number(x) => x.push_text(text),
+        Expr::Cell(r) => r.at.push_text(text),
+        Expr::Parenthesized(inner) => {
+            text.push('[')?;
+            push_tree(inner, text)?;
+            text.push(']')
+        }
+        Expr::Binary(op, left, right) => {
+            text.push('{')?;
+            push_tree(left, text)?;
+            text.push(sign_of(*op))?;
+            push_tree(right, text)?;
+            text.push('}')
+        }
+        Expr::WhatIf(_, _) => Ok(()),
+    }
+}
+
+fn shown(alloc: Global, tree: &Expr) -> Result<String, AllocError> {
+    let mut text = String::new(alloc);
+    push_tree(tree, &mut text)?;
+    Ok(text)
+}
+
+// How many operators stand down the left side of a tree.
+fn left_depth(tree: &Expr) -> usize {
+    let mut depth = 0usize;
+    let mut below = tree;
+    while let Expr::Binary(_, left, _) = below {
+        below = left;
+        depth = depth.saturating_add(1);
+    }
+    depth
+}
+
+// A text and so many copies of another.
+fn repeated(alloc: Global, front: &str, part: &str, count: u32) -> Result<String, AllocError> {
+    let mut text = String::from_str(alloc, front)?;
+    for _ in 0..count {
+        text.push_str(part)?;
+    }
+    Ok(text)
+}
+
+fn fault(alloc: Global, text: &str) -> Option<ParseFault> {
+    parse(alloc, text).err()
+}
+
+// `1` in so many parentheses.
+fn nested(alloc: Global, count: u32) -> Result<String, AllocError> {
+    let mut text = repeated(alloc, "=", "(", count)?;
+    text.push('1')?;
+    for _ in 0..count {
+        text.push(')')?;
+    }
+    Ok(text)
+}
+
+#[test]
+fn trees_by_precedence(rt: HostRuntime) -> Result<(), Fail> {
+    for (text, tree) in [
+        ("=7", "7"),
+        ("=1+2*3", "{1+{2*3}}"),
+        ("=1*2+3", "{{1*2}+3}"),
+        ("=1-2-3", "{{1-2}-3}"),
+        ("=1-2+3", "{{1-2}+3}"),
+        ("=8/4*2/5", "{{{8/4}*2}/5}"),
+        ("=1+2*3-4/5", "{{1+{2*3}}-{4/5}}"),
+        ("=(1+2)*3", "{[{1+2}]*3}"),
+        ("=((1))", "[[1]]"),
+        ("=1-(2-3)", "{1-[{2-3}]}"),
+        ("of:=1+2", "{1+2}"),
+        ("= 1 +\t2\r\n", "{1+2}"),
+        ("=007.50*.5", "{7.5*0.5}"),
+        ("=[.a1] * 2+[.$B$12]", "{{A1*2}+B12}"),
+        ("=[.XFD1048576]", "XFD1048576"),
+        (
+            "=170141183460469231731687303715884105727",
+            "170141183460469231731687303715884105727",
+        ),
+    ] {
+        let formula = parse(rt.alloc(), text)?;
+        assert_eq!(rt; shown(rt.alloc(), formula.tree())?.as_str(), tree, "{text}");
+        let again = formula.copy(rt.alloc())?;
+        assert_eq!(rt; shown(rt.alloc(), again.tree())?.as_str(), tree, "{text}");
+    }
+    Ok(())
+}
+
+#[test]
+fn references_keep_what_is_absolute(rt: HostRuntime) -> Result<(), Fail> {
+    for (text, column, row) in [
+        ("=[.C5]", false, false),
+        ("=[.$C5]", true, false),
+        ("=[.C$5]", false, true),
+        ("=[.$C$5]", true, true),
+    ] {
+        let formula = parse(rt.alloc(), text)?;
+        let Expr::Cell(r) = formula.tree() else {
+            assert!(rt; false, "{text}");
+            return Ok(());
+        };
+        assert_eq!(rt; r.at, Address::at(4, 2), "{text}");
+        assert_eq!(rt; r.column_is_absolute, column, "{text}");
+        assert_eq!(rt; r.row_is_absolute, row, "{text}");
+    }
+    Ok(())
+}
+
+#[test]
+fn texts_that_are_no_formulas(rt: HostRuntime) {
+    for text in [
+        "",
+        "=",
+        "1",
+        "of:",
+        "of:1",
+        " =1",
+        "OF:=1",
+        "==1",
+        "=1+",
+        "=+1",
+        "=--1",
+        "=1**2",
+        "=()",
+        "=(1",
+        "=1)",
+        "=1 2",
+        "=(1)2",
+        "=2(3)",
+        "=[.A0]",
+        "=[.A1",
+        "=[A1]",
+        "=[. A1]",
+        "=[.A1][.A2]",
+        "=1.",
+        "=.5.5",
+        "=1e5",
+        "=1?",
+        "=\u{a0}1",
+    ] {
+        assert_eq!(rt; fault(rt.alloc(), text), Some(ParseFault::Syntax), "{text}");
+    }
+}
+
+#[test]
+fn cells_outside_and_numbers_too_large(rt: HostRuntime) -> Result<(), Fail> {
+    for text in [
+        "=[.XFE1]",
+        "=[.A1048577]",
+        "=1+[.AAAA1]+",
+        "=)[.XFE1]?",
+        "[.XFE1]",
+    ] {
+        assert_eq!(rt;
+            fault(rt.alloc(), text),
+            Some(ParseFault::OutOfSheet),
+            "{text}"
+        );
+    }
+    let large = repeated(rt.alloc(), "=", TOO_LARGE, 1)?;
+    assert_eq!(rt;
+        fault(rt.alloc(), large.as_str()),
+        Some(ParseFault::NumberRange)
+    );
+    let both = repeated(rt.alloc(), large.as_str(), "+[.XFE1]", 1)?;
+    assert_eq!(rt;
+        fault(rt.alloc(), both.as_str()),
+        Some(ParseFault::OutOfSheet)
+    );
+    let cut = repeated(rt.alloc(), large.as_str(), "?[.XFE1]", 1)?;
+    assert_eq!(rt;
+        fault(rt.alloc(), cut.as_str()),
+        Some(ParseFault::NumberRange)
+    );
+    let deep = repeated(rt.alloc(), large.as_str(), "(", 65)?;
+    assert_eq!(rt;
+        fault(rt.alloc(), deep.as_str()),
+        Some(ParseFault::NumberRange)
+    );
+    assert_eq!(rt; fault(rt.alloc(), "=1?[.XFE1]"), Some(ParseFault::Syntax));
+    Ok(())
+}
+
+#[test]
+fn parentheses_nest_to_a_limit(rt: HostRuntime) -> Result<(), Fail> {
+    let deepest = nested(rt.alloc(), 64)?;
+    parse(rt.alloc(), deepest.as_str())?;
+    let deeper = nested(rt.alloc(), 65)?;
+    assert_eq!(rt;
+        fault(rt.alloc(), deeper.as_str()),
+        Some(ParseFault::TooDeep)
+    );
+    let open = repeated(rt.alloc(), "=", "(", 65)?;
+    assert_eq!(rt; fault(rt.alloc(), open.as_str()), Some(ParseFault::TooDeep));
+    let behind = repeated(rt.alloc(), "=?", "(", 65)?;
+    assert_eq!(rt;
+        fault(rt.alloc(), behind.as_str()),
+        Some(ParseFault::Syntax)
+    );
+    let closed = repeated(rt.alloc(), "=))", "(", 64)?;
+    assert_eq!(rt;
+        fault(rt.alloc(), closed.as_str()),
+        Some(ParseFault::Syntax)
+    );
+    let opened = repeated(rt.alloc(), "=))", "(", 65)?;
+    assert_eq!(rt;
+        fault(rt.alloc(), opened.as_str()),
+        Some(ParseFault::TooDeep)
+    );
+    let side_by_side = repeated(rt.alloc(), "=1", "+(1)", 1_000)?;
+    parse(rt.alloc(), side_by_side.as_str())?;
+    Ok(())
+}
+
+#[test]
+fn signs_follow_each_other_to_a_limit(rt: HostRuntime) -> Result<(), Fail> {
+    let few = repeated(rt.alloc(), "=1", "- +", 32)?;
+    assert_eq!(rt; fault(rt.alloc(), few.as_str()), Some(ParseFault::Syntax));
+    let many = repeated(rt.alloc(), "=1-", "- +", 32)?;
+    assert_eq!(rt; fault(rt.alloc(), many.as_str()), Some(ParseFault::TooDeep));
+    let apart = repeated(rt.alloc(), "=1", "+1-2", 500)?;
+    parse(rt.alloc(), apart.as_str())?;
+    Ok(())
+}
+
+#[test]
+fn formulas_have_a_greatest_length(rt: HostRuntime) -> Result<(), Fail> {
+    let longest = repeated(rt.alloc(), "=1", " ", 4_094)?;
+    parse(rt.alloc(), longest.as_str())?;
+    let longer = repeated(rt.alloc(), "=1", " ", 4_095)?;
+    assert_eq!(rt;
+        fault(rt.alloc(), longer.as_str()),
+        Some(ParseFault::TooLong)
+    );
+    let prefixed = repeated(rt.alloc(), "of:=1", " ", 4_092)?;
+    assert_eq!(rt;
+        fault(rt.alloc(), prefixed.as_str()),
+        Some(ParseFault::TooLong)
+    );
+    let outside = repeated(rt.alloc(), "=[.XFE1]", " ", 4_092)?;
+    assert_eq!(rt;
+        fault(rt.alloc(), outside.as_str()),
+        Some(ParseFault::TooLong)
+    );
+    Ok(())
+}
+
+#[test]
+fn long_sums_are_read_copied_and_dropped(rt: HostRuntime) -> Result<(), Fail> {
+    let text = repeated(rt.alloc(), "=1", "+1", 2_000)?;
+    let formula = parse(rt.alloc(), text.as_str())?;
+    let again = formula.copy(rt.alloc())?;
+    assert_eq!(rt; left_depth(formula.tree()), 2_000);
+    assert_eq!(rt; left_depth(again.tree()), 2_000);
+    Ok(())
+}
+
+#[test]
+fn contents_that_are_formulas(rt: HostRuntime) -> Result<(), Fail> {
+    for text in ["=1+2", "of:=1+2"] {
+        let content = Content::read(rt.alloc(), text)?.copy(rt.alloc())?;
+        let Content::Formula(formula) = content else {
+            assert!(rt; false, "{text}");
+            return Ok(());
+        };
+        assert_eq!(rt; shown(rt.alloc(), formula.tree())?.as_str(), "{1+2}");
+    }
+    let bad = Content::read(rt.alloc(), "=1+").err();
+    assert_eq!(rt; bad, Some(ParseFault::Syntax));
+    Ok(())
+}
+
+#[test]
+fn contents_that_are_constants(rt: HostRuntime) -> Result<(), Fail> {
+    for (text, word) in [
+        ("'", ""),
+        ("'5", "5"),
+        ("'=1", "=1"),
+        ("abc", "abc"),
+        ("of:1", "of:1"),
+        (" =1", " =1"),
+    ] {
+        let Content::Constant(value) = Content::read(rt.alloc(), text)? else {
+            assert!(rt; false, "{text}");
+            return Ok(());
+        };
+        assert_eq!(rt;
+            value,
+            Value::Text(Text::from_str(rt.alloc(), word)?),
+            "{text}"
+        );
+    }
+    let Content::Constant(number) = Content::read(rt.alloc(), "-2.50")?.copy(rt.alloc())? else {
+        assert!(rt; false);
+        return Ok(());
+    };
+    assert_eq!(rt; number, Value::Number(Fraction::new(-5, 2)?));
+    Ok(())
+}
+
+#[test]
+fn contents_have_a_greatest_length(rt: HostRuntime) -> Result<(), Fail> {
+    let longest = repeated(rt.alloc(), "'", "x", 32_767)?;
+    Content::read(rt.alloc(), longest.as_str())?;
+    let longer = repeated(rt.alloc(), "'", "x", 32_768)?;
+    let quoted = Content::read(rt.alloc(), longer.as_str()).err();
+    assert_eq!(rt; quoted, Some(ParseFault::TooLong));
+    let plain = repeated(rt.alloc(), "x", "x", 32_767)?;
+    assert_eq!(rt;
+        Content::read(rt.alloc(), plain.as_str()).err(),
+        Some(ParseFault::TooLong)
+    );
+    Ok(())
+}
+
+#[test]
+fn made_trees_are_formulas(rt: HostRuntime) -> Result<(), Fail> {
+    let formula = Formula::new(Expr::Number(Fraction::new(3, 4)?));
+    let tree = formula.tree().copy(rt.alloc())?;
+    assert_eq!(rt; shown(rt.alloc(), &tree)?.as_str(), "0.75");
+    Ok(())
+}
