@@ -1,1 +1,4 @@
 pub mod RoomLemmas
+pub mod ExchangeLemmas
+pub mod ChangeLemmas
+pub mod EditLemmas

@@ -38,17 +38,17 @@ Ascends-from_order [] h = tt
 Ascends-from_order (e ∷ es) h =
     (ComeAfter-from_keys e.0 es (sorted_head nat_cmp e.0 (keys_of es) h), Ascends-from_order es (sorted_tail nat_cmp e.0 (keys_of es) h))
 
-come_after_earlier : {X : Type 0} (a b : ℕ) (es : List (ℕ × X)) → a < b → ComeAfter b es → ComeAfter a es
+pub come_after_earlier : {X : Type 0} (a b : ℕ) (es : List (ℕ × X)) → a < b → ComeAfter b es → ComeAfter a es
 come_after_earlier a b [] l h = tt
 come_after_earlier a b (e ∷ es) l h = (omega (arith, h.0), come_after_earlier a b es l h.1)
 
-is_at_same : (a : ℕ) → is_at (nat_cmp a) a ≡ true
+pub is_at_same : (a : ℕ) → is_at (nat_cmp a) a ≡ true
 is_at_same a = grind (arith, nat_tests)
 
-is_at_other : (a b : ℕ) → a < b → is_at (nat_cmp a) b ≡ false
+pub is_at_other : (a b : ℕ) → a < b → is_at (nat_cmp a) b ≡ false
 is_at_other a b h = grind (arith, nat_tests)
 
-is_at_earlier : (a b : ℕ) → b < a → is_at (nat_cmp a) b ≡ false
+pub is_at_earlier : (a b : ℕ) → b < a → is_at (nat_cmp a) b ≡ false
 is_at_earlier a b h = grind (arith, nat_tests)
 
 -- before the first cell nothing is found

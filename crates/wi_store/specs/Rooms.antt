@@ -1,6 +1,6 @@
 -- The rooms of a store: cells that may have a content. A room is vacant only while an edit goes on.
-use Rattle.std.specs.Prelude.{◌≡◌, ℕ, List, Option, Some, None, option_map}
-use Rattle.std.specs.List.{filter_map}
+use Rattle.std.specs.Prelude.{◌≡◌, ◌==◌, ℕ, true, List, Option, Some, None, option_map}
+use Rattle.std.specs.List.{filter_map, list_any}
 use Rattle.std.specs.Ordering.{nat_cmp}
 use Rattle.std.specs.Map.{lookup, keys_of}
 use Rattle.std.specs.BTreeMap.{is_at}
@@ -31,3 +31,11 @@ IsInOrder rooms = IsStrictlySortedBy nat_cmp (keys_of rooms)
 -- every room has a content
 abbrev pub HasNoVacancy : Rooms → Type 0
 HasNoVacancy rooms = (c : ℕ) → room_of rooms c ≡ Some None → ⊥
+
+-- no other room than those of the cells is vacant
+abbrev pub VacantOnlyAt : List ℕ → Rooms → Type 0
+VacantOnlyAt cells rooms = (c : ℕ) → room_of rooms c ≡ Some None → list_any (λ a. a == c) cells ≡ true
+
+-- the cell has a room, or gets no content
+abbrev pub HasRoomFor : Rooms → ℕ × Option Content → Type 0
+HasRoomFor rooms change = room_of rooms change.0 ≡ None → change.1 ≡ None

@@ -3,6 +3,7 @@
 
 mod fault;
 mod limits;
+mod rooms;
 mod store;
 
 pub use fault::StoreFault;

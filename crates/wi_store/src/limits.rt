@@ -1,6 +1,9 @@
 //! The limits of a sheet.
 
 ghost use Rattle.std.specs.Prelude.{◌≡◌};
+ghost use Rattle.wi_store.specs.Exchange.{admitted};
+
+use crate::fault::StoreFault;
 
 /// How many cells may have a content, and how many edits may be accepted.
 #[derive(Clone, Copy, PartialEq, Eq, Debug)]
@@ -18,6 +21,19 @@ impl Limits {
         Limits {
             cells: 200_000,
             edits: 1_000_000_000,
+        }
+    }
+
+    /// Whether so many occupied cells are within the limits, and one edit more than `edits`.
+    pub(crate) fn admit(&self, cells: u64, edits: u64) -> Result<(), StoreFault>
+        ensures { result ≡ admitted self.now cells edits }
+    {
+        if cells > self.cells {
+            Err(StoreFault::Full)
+        } else if edits >= self.edits {
+            Err(StoreFault::EditLimit)
+        } else {
+            Ok(())
         }
     }
 }

@@ -1,10 +1,16 @@
 //! A sheet within limits.
 
-ghost use Rattle.std.specs.Prelude.{◌≡◌, [], length, IfOk};
+ghost use Rattle.std.specs.Prelude.{◌≡◌, ◌<◌, ◌⊎◌, [], length, IfOk, OnOk, OnErr};
 ghost use Rattle.std.specs.Option.{option_copied};
+ghost use Rattle.std.specs.Map.{keys_of};
 ghost use Rattle.wi_parser.specs.Sheet.{content_of, formula_cells};
+ghost use Rattle.wi_store.specs.Store.{edited, applied, Applies};
+ghost use Rattle.wi_store.specs.Rooms.{sheet_in, IsInOrder, HasNoVacancy, VacantOnlyAt};
+ghost use Rattle.wi_store.specs.Exchange.{admitted};
 
+use crate::fault::StoreFault;
 use crate::limits::Limits;
+use crate::rooms::{exchange_all, exchange_back, make_room, release, Change, Rooms};
 use std::alloc::{AllocError, Global};
 use std::collections::BTreeMap;
 use std::marker::Model;
@@ -14,8 +20,8 @@ use wi_values::Address;
 /// The contents of a sheet, with the count of accepted edits and the limits of both.
 #[derive(Drop)]
 pub struct Store {
-    // A cell without a content has room here only while an edit goes on.
-    cells: BTreeMap<Address, Option<Content>>,
+    // None is vacant but while an edit goes on.
+    rooms: Rooms,
     edits: u64,
     limits: Limits,
 }
@@ -32,9 +38,9 @@ impl Model for Store {
 
     ghost use Rattle.wi_store.specs.Rooms.{sheet_in, IsInOrder, HasNoVacancy};
 
-    ghost view = { λ s. record { sheet = sheet_in s.cells.entries; edits = s.edits; limits = s.limits } };
+    ghost view = { λ s. record { sheet = sheet_in s.rooms.entries; edits = s.edits; limits = s.limits } };
 
-    ghost invariant = { λ s. IsInOrder s.cells.entries × HasNoVacancy s.cells.entries };
+    ghost invariant = { λ s. IsInOrder s.rooms.entries × HasNoVacancy s.rooms.entries };
 }
 
 impl Store {
@@ -45,7 +51,7 @@ impl Store {
         ensures limits { result.limits ≡ limits }
     {
         Store {
-            cells: BTreeMap::new(alloc),
+            rooms: BTreeMap::new(alloc),
             edits: 0,
             limits,
         }
@@ -55,7 +61,7 @@ impl Store {
     pub fn get(&self, at: Address) -> Option<&Content>
         ensures { option_copied result ≡ content_of self.now.sheet at }
     {
-        match self.cells.get(&at) {
+        match self.rooms.get(&at) {
             Some(room) => room.as_ref(),
             None => None,
         }
@@ -65,7 +71,7 @@ impl Store {
     pub fn occupied(&self) -> u64
         ensures { result ≡ length self.now.sheet }
     {
-        self.cells.len() as u64
+        self.rooms.len() as u64
     }
 
     /// How many edits were accepted.
@@ -81,16 +87,56 @@ impl Store {
         self.limits
     }
 
+    /// One edit, which gives each named cell a content or none; of two pairs for one cell the later counts.
+    /// `Full` if the sheet would then have more occupied cells than the limit, or else `EditLimit` if no more
+    /// edits are accepted; `Memory` if memory runs out. After each of them all is as before. The work for each
+    /// pair grows with the logarithm of the count of occupied cells.
+    pub fn apply(&mut self, changes: Vec<(Address, Option<Content>)>) -> Result<(), StoreFault>
+        ensures { Applies (applied self.old changes.items) result self.old self.new }
+    {
+        let mut changes = changes;
+        let answer = edit(&mut self.rooms, &self.limits, self.edits, &mut changes);
+        release(&mut self.rooms, &changes);
+        answer?;
+        self.edits += 1;
+        Ok(())
+    }
+
     /// The cells that have a formula, in row-major order. The work grows with the count of occupied cells.
     pub fn formulas(&self, alloc: Global) -> Result<Vec<Address>, AllocError>
         ensures { IfOk result (λ found. found.items ≡ formula_cells self.now.sheet) }
     {
         let mut found = Vec::new(alloc);
-        for (at, room) in &self.cells {
+        for (at, room) in &self.rooms {
             if let Some(Content::Formula(_)) = room {
                 found.push(*at)?;
             }
         }
         Ok(found)
     }
+}
+
+// Does an edit, or refuses it and leaves the sheet as it was. Rooms of the changed cells may be vacant then.
+fn edit(
+    rooms: &mut Rooms,
+    limits: &Limits,
+    edits: u64,
+    changes: &mut [Change],
+) -> Result<(), StoreFault>
+    requires order { IsInOrder rooms.old.entries }
+    requires full { HasNoVacancy rooms.old.entries }
+    ensures done { OnOk result (sheet_in rooms.new.entries ≡ edited (sheet_in rooms.old.entries) changes.old) }
+    ensures refused { OnErr result (sheet_in rooms.new.entries ≡ sheet_in rooms.old.entries) }
+    ensures cause { (result ≡ Err StoreFault.Memory)
+        ⊎ (result ≡ admitted limits.now (length (edited (sheet_in rooms.old.entries) changes.old)) edits) }
+    ensures order { IsInOrder rooms.new.entries }
+    ensures vacant { VacantOnlyAt (keys_of changes.new) rooms.new.entries }
+{
+    let vacant = make_room(rooms, changes)?;
+    let occupied = exchange_all(rooms, changes, vacant);
+    let answer = limits.admit(occupied as u64, edits);
+    if answer.is_err() {
+        exchange_back(rooms, changes);
+    }
+    answer
 }

@@ -13,5 +13,5 @@ pub returns : goal.returns
 returns c =
     found_all c.loop-at.found.items c.loop-at.at-iterator c.into_iter-at-iterator.result c.in-None.ensures.steps.0 c.loop-at.invariant
     ∙ ap (λ (r : Rooms). formula_rooms r) c.into_iter-at-iterator.ensures.into_iter_gives.0
-    ∙ sym (formula_cells-sheet_in c.self.inside.cells.entries (Ascends-from_order c.self.inside.cells.entries c.self.invariant.0))
+    ∙ sym (formula_cells-sheet_in c.self.inside.rooms.entries (Ascends-from_order c.self.inside.rooms.entries c.self.invariant.0))
     ∙ ap (λ (s : Stored). formula_cells s.sheet) c.self.view_is

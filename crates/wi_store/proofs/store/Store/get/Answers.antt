@@ -10,11 +10,11 @@ pub returns-in-Some : goal.returns-in-Some
 returns-in-Some c =
     c.as_ref.ensures.value
     ∙ ap (λ (o : Option (Option Content)). option_flatten o) c.in-Some.ensures.value
-    ∙ sym (content_of-sheet_in c.args.at c.self.inside.cells.entries (Ascends-from_order c.self.inside.cells.entries c.self.invariant.0))
+    ∙ sym (content_of-sheet_in c.args.at c.self.inside.rooms.entries (Ascends-from_order c.self.inside.rooms.entries c.self.invariant.0))
     ∙ ap (λ (s : Stored). content_of s.sheet c.args.at) c.self.view_is
 
 pub returns-in-None : goal.returns-in-None
 returns-in-None c =
     ap (λ (o : Option (Option Content)). option_flatten o) c.in-None.ensures.value
-    ∙ sym (content_of-sheet_in c.args.at c.self.inside.cells.entries (Ascends-from_order c.self.inside.cells.entries c.self.invariant.0))
+    ∙ sym (content_of-sheet_in c.args.at c.self.inside.rooms.entries (Ascends-from_order c.self.inside.rooms.entries c.self.invariant.0))
     ∙ ap (λ (s : Stored). content_of s.sheet c.args.at) c.self.view_is

@@ -6,5 +6,5 @@ use Rattle.wi_store.proofs.store.Store.occupied.Goals as goal
 pub returns : goal.returns
 returns c =
     c.len.ensures.len
-    ∙ sym (length-sheet_in c.self.inside.cells.entries (Ascends-from_order c.self.inside.cells.entries c.self.invariant.0) c.self.invariant.1)
+    ∙ sym (length-sheet_in c.self.inside.rooms.entries (Ascends-from_order c.self.inside.rooms.entries c.self.invariant.0) c.self.invariant.1)
     ∙ ap (λ (s : Stored). length s.sheet) c.self.view_is

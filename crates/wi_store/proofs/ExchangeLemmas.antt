@@ -1,0 +1,265 @@
+-- Laws of exchanging contents: in rooms, in the sheet, and back.
+use Rattle.std.proofs.Common.{◌≡◌, ℕ, ◌+◌, ◌<◌, ◌==◌, Bool, true, false, cond, List, [], ◌∷◌, ◌++◌, filter, length, not, Option, Some, None, refl, sym, ap, ◌∙◌, subst, arith, ⊎_elim, inl, inr, ◌⊎◌}
+use Rattle.std.specs.Option.{option_flatten, is_some}
+use Rattle.std.specs.Ordering.{nat_cmp}
+use Rattle.std.specs.declared.cmp.Ordering.TheVariants.{Less, Equal, Greater}
+use Rattle.std.specs.Map.{lookup, keys_of, set_value, remove_entry}
+use Rattle.std.specs.BTreeMap.{is_at, insert_entry}
+use Rattle.std.proofs.lemmas.Bool.{cases_order, cases_eq}
+use Rattle.std.proofs.lemmas.Bool.Decides.{nat_tests}
+use Rattle.wi_parser.specs.Sheet.{Sheet, content_of, without, with_content}
+use Rattle.wi_parser.specs.declared.content.Content.{Content}
+use Rattle.wi_store.specs.Store.{edited}
+use Rattle.wi_store.specs.Rooms.{Rooms, sheet_in, room_of}
+use Rattle.wi_store.specs.Exchange.{stood, restored}
+use Rattle.wi_store.proofs.RoomLemmas.{ComeAfter, Ascends, come_after_earlier, is_at_same, is_at_other, is_at_earlier, lookup_after, ComeAfter-sheet_in, Ascends-sheet_in, content_of-sheet_in}
+
+-- ---- one content put into a sheet, by where its cell stands
+
+cmp_same : (a : ℕ) → nat_cmp a a ≡ Equal
+cmp_same a = grind (arith, nat_tests)
+
+cmp_equal : (a b : ℕ) → a ≡ b → nat_cmp a b ≡ Equal
+cmp_equal a b h = grind (arith, nat_tests)
+
+is_at_equal : (a b : ℕ) → a ≡ b → is_at (nat_cmp a) b ≡ true
+is_at_equal a b h = grind (arith, nat_tests)
+
+cmp_before : (a b : ℕ) → a < b → nat_cmp a b ≡ Less
+cmp_before a b h = grind (arith, nat_tests)
+
+cmp_after : (a b : ℕ) → b < a → nat_cmp a b ≡ Greater
+cmp_after a b h = grind (arith, nat_tests)
+
+same_number : (a : ℕ) → (a == a) ≡ true
+same_number a = grind (arith, nat_tests)
+
+other_number : (a b : ℕ) → b < a → (b == a) ≡ false
+other_number a b h = grind (arith, nat_tests)
+
+later_number : (a b : ℕ) → a < b → (b == a) ≡ false
+later_number a b h = grind (arith, nat_tests)
+
+-- what comes after a cell has nothing of it
+without_after : (a : ℕ) (s : Sheet) → ComeAfter a s → without s a ≡ s
+without_after a [] h = refl
+without_after a (e ∷ es) h = rw (later_number a e.0 h.0) (ap (λ (t : Sheet). e ∷ t) (without_after a es h.1))
+
+insert_after : (a : ℕ) (x : Content) (s : Sheet) → ComeAfter a s → insert_entry nat_cmp s a x ≡ (a, x) ∷ s
+insert_after a x [] h = refl
+insert_after a x (e ∷ es) h = rw (cmp_before a e.0 h.0) refl
+
+-- a content in front of the sheet, or none
+abbrev with_front : ℕ → Option Content → Sheet → Sheet
+with_front a None s = s
+with_front a (Some x) s = (a, x) ∷ s
+
+with_content-after : (a : ℕ) (o : Option Content) (s : Sheet) → ComeAfter a s → with_content s a o ≡ with_front a o s
+with_content-after a None s h = without_after a s h
+with_content-after a (Some x) s h = insert_after a x s h
+
+with_content-here : (a : ℕ) (y : Content) (o : Option Content) (s : Sheet) → ComeAfter a s → with_content ((a, y) ∷ s) a o ≡ with_front a o s
+with_content-here a y None s h = rw (same_number a) (without_after a s h)
+with_content-here a y (Some x) s h = rw (cmp_same a) refl
+
+with_content-later : (a c : ℕ) (y : Content) (o : Option Content) (s : Sheet) → c < a → with_content ((c, y) ∷ s) a o ≡ (c, y) ∷ with_content s a o
+with_content-later a c y None s h = rw (other_number a c h) refl
+with_content-later a c y (Some x) s h = rw (cmp_after a c h) refl
+
+-- ---- one content put into a room
+
+abbrev Exchanges : Rooms → ℕ → Option Content → Type 0
+Exchanges rooms a o = sheet_in (set_value (is_at (nat_cmp a)) rooms o) ≡ with_content (sheet_in rooms) a o
+
+sheet_in-cons : (c : ℕ) (o : Option Content) (rooms : Rooms) → sheet_in ((c, o) ∷ rooms) ≡ with_front c o (sheet_in rooms)
+sheet_in-cons c None rooms = refl
+sheet_in-cons c (Some x) rooms = refl
+
+with_content-front : (c : ℕ) (p o : Option Content) (s : Sheet) → ComeAfter c s → with_content (with_front c p s) c o ≡ with_front c o s
+with_content-front c None o s h = with_content-after c o s h
+with_content-front c (Some y) o s h = with_content-here c y o s h
+
+with_content-past : (a c : ℕ) (p o : Option Content) (s : Sheet) → c < a → with_content (with_front c p s) a o ≡ with_front c p (with_content s a o)
+with_content-past a c None o s h = refl
+with_content-past a c (Some y) o s h = with_content-later a c y o s h
+
+exchanges_here : (c : ℕ) (p o : Option Content) (rooms : Rooms) → ComeAfter c rooms → Exchanges ((c, p) ∷ rooms) c o
+exchanges_here c p o rooms h =
+    rw (is_at_same c) (sheet_in-cons c o rooms ∙ sym (with_content-front c p o (sheet_in rooms) (ComeAfter-sheet_in c rooms h))
+    ∙ ap (λ (s : Sheet). with_content s c o) (sym (sheet_in-cons c p rooms)))
+
+exchanges_later : (a c : ℕ) (p o : Option Content) (rooms : Rooms) → c < a → Exchanges rooms a o → Exchanges ((c, p) ∷ rooms) a o
+exchanges_later a c p o rooms l h =
+    rw (is_at_earlier a c l) (sheet_in-cons c p (set_value (is_at (nat_cmp a)) rooms o) ∙ ap (λ (s : Sheet). with_front c p s) h
+    ∙ sym (with_content-past a c p o (sheet_in rooms) l) ∙ ap (λ (s : Sheet). with_content s a o) (sym (sheet_in-cons c p rooms)))
+
+-- a content put into a cell's room is put into the sheet
+pub sheet_in-set_value : (a : ℕ) (p o : Option Content) (rooms : Rooms) → Ascends rooms → room_of rooms a ≡ Some p → sheet_in (set_value (is_at (nat_cmp a)) rooms o) ≡ with_content (sheet_in rooms) a o
+sheet_in-set_value a p o [] h r = cc
+sheet_in-set_value a p o (e ∷ es) h r =
+    ⊎_elim (λ q. subst (λ (b : ℕ). Exchanges (e ∷ es) b o) (sym q) (exchanges_here e.0 e.1 o es h.0))
+    (⊎_elim (λ l. let n : room_of (e ∷ es) a ≡ None = lookup_after a (e ∷ es) (l, come_after_earlier a e.0 es l h.0) in cc)
+    (λ l. exchanges_later a e.0 e.1 o es l (sheet_in-set_value a p o es h.1 (rw (is_at_earlier a e.0 l) at r))))
+    (cases_order a e.0)
+
+-- a cell without a content, and none put into it
+pub without-nothing : (a : ℕ) (s : Sheet) → Ascends s → content_of s a ≡ None → without s a ≡ s
+without-nothing a [] h r = refl
+without-nothing a (e ∷ es) h r =
+    ⊎_elim (λ p. let n : content_of (e ∷ es) a ≡ Some e.1 = rw (is_at_equal a e.0 p) refl in cc)
+    (⊎_elim (λ l. without_after a (e ∷ es) (l, come_after_earlier a e.0 es l h.0))
+    (λ l. rw (other_number a e.0 l) (ap (λ (t : Sheet). e ∷ t) (without-nothing a es h.1 (rw (is_at_earlier a e.0 l) at r)))))
+    (cases_order a e.0)
+
+-- ---- a room made and a room taken away
+
+-- a new room that is vacant adds nothing to the sheet
+pub sheet_in-make : (a : ℕ) (rooms : Rooms) → room_of rooms a ≡ None → sheet_in (insert_entry nat_cmp rooms a None) ≡ sheet_in rooms
+sheet_in-make a [] r = refl
+sheet_in-make a (e ∷ es) r =
+    ⊎_elim (λ p. let n : room_of (e ∷ es) a ≡ Some e.1 = rw (is_at_equal a e.0 p) refl in cc)
+    (⊎_elim (λ l. rw (cmp_before a e.0 l) refl)
+    (λ l. rw (cmp_after a e.0 l) (sheet_in-cons e.0 e.1 (insert_entry nat_cmp es a None)
+        ∙ ap (λ (s : Sheet). with_front e.0 e.1 s) (sheet_in-make a es (rw (is_at_earlier a e.0 l) at r)) ∙ sym (sheet_in-cons e.0 e.1 es))))
+    (cases_order a e.0)
+
+-- a vacant room taken away takes nothing from the sheet
+pub sheet_in-release : (a : ℕ) (rooms : Rooms) → room_of rooms a ≡ Some None → sheet_in (remove_entry (is_at (nat_cmp a)) rooms) ≡ sheet_in rooms
+sheet_in-release a [] r = refl
+sheet_in-release a (e ∷ es) r = by (is_at (nat_cmp a) e.0) e.1 r (sheet_in-release a es)
+  where
+    by : (b : Bool) (o : Option Content) → cond b (Some o) (room_of es a) ≡ Some None
+        → (room_of es a ≡ Some None → sheet_in (remove_entry (is_at (nat_cmp a)) es) ≡ sheet_in es)
+        → sheet_in (cond b es ((e.0, o) ∷ remove_entry (is_at (nat_cmp a)) es)) ≡ sheet_in ((e.0, o) ∷ es)
+    by true None r ih = refl
+    by true (Some x) r ih = cc
+    by false o r ih = sheet_in-cons e.0 o (remove_entry (is_at (nat_cmp a)) es) ∙ ap (λ (s : Sheet). with_front e.0 o s) (ih r) ∙ sym (sheet_in-cons e.0 o es)
+
+-- ---- what stood, put back
+
+content_of-front : (c : ℕ) (y : Content) (s : Sheet) → content_of ((c, y) ∷ s) c ≡ Some y
+content_of-front c y s = rw (is_at_same c) refl
+
+abbrev IsPutBack : Sheet → ℕ → Option Content → Type 0
+IsPutBack s a o = with_content (with_content s a o) a (content_of s a) ≡ s
+
+put_back-here : (c : ℕ) (y : Content) (o : Option Content) (s : Sheet) → ComeAfter c s → IsPutBack ((c, y) ∷ s) c o
+put_back-here c y o s h =
+    rw (content_of-front c y s) (ap (λ (t : Sheet). with_content t c (Some y)) (with_content-here c y o s h) ∙ with_content-front c o (Some y) s h)
+
+put_back-before : (a : ℕ) (o : Option Content) (s : Sheet) → ComeAfter a s → IsPutBack s a o
+put_back-before a o s h =
+    rw (lookup_after a s h) (ap (λ (t : Sheet). without t a) (with_content-after a o s h) ∙ with_content-front a o None s h)
+
+put_back-later : (a c : ℕ) (y : Content) (o : Option Content) (s : Sheet) → c < a → IsPutBack s a o → IsPutBack ((c, y) ∷ s) a o
+put_back-later a c y o s l h =
+    rw (is_at_earlier a c l) (ap (λ (t : Sheet). with_content t a (content_of s a)) (with_content-later a c y o s l)
+    ∙ with_content-later a c y (content_of s a) (with_content s a o) l ∙ ap (λ (t : Sheet). (c, y) ∷ t) h)
+
+pub put_back : (a : ℕ) (o : Option Content) (s : Sheet) → Ascends s → with_content (with_content s a o) a (content_of s a) ≡ s
+put_back a o [] h = put_back-before a o [] tt
+put_back a o (e ∷ es) h =
+    ⊎_elim (λ p. subst (λ (b : ℕ). IsPutBack (e ∷ es) b o) (sym p) (put_back-here e.0 e.1 o es h.0))
+    (⊎_elim (λ l. put_back-before a o (e ∷ es) (l, come_after_earlier a e.0 es l h.0))
+    (λ l. put_back-later a e.0 e.1 o es l (put_back a o es h.1)))
+    (cases_order a e.0)
+
+-- a sheet stays in order
+ComeAfter-without : (b a : ℕ) (s : Sheet) → ComeAfter b s → ComeAfter b (without s a)
+ComeAfter-without b a [] h = tt
+ComeAfter-without b a (e ∷ es) h = by (not (e.0 == a)) (ComeAfter-without b a es h.1)
+  where
+    by : (t : Bool) → ComeAfter b (without es a) → ComeAfter b (cond t (e ∷ without es a) (without es a))
+    by true r = (h.0, r)
+    by false r = r
+
+ComeAfter-insert : (b a : ℕ) (x : Content) (s : Sheet) → b < a → ComeAfter b s → ComeAfter b (insert_entry nat_cmp s a x)
+ComeAfter-insert b a x [] l h = (l, tt)
+ComeAfter-insert b a x (e ∷ es) l h =
+    ⊎_elim (λ p. rw (cmp_equal a e.0 p) (h.0, h.1))
+    (⊎_elim (λ m. rw (cmp_before a e.0 m) (l, h)) (λ m. rw (cmp_after a e.0 m) (h.0, ComeAfter-insert b a x es l h.1)))
+    (cases_order a e.0)
+
+ComeAfter-with_content : (b a : ℕ) (o : Option Content) (s : Sheet) → b < a → ComeAfter b s → ComeAfter b (with_content s a o)
+ComeAfter-with_content b a None s l h = ComeAfter-without b a s h
+ComeAfter-with_content b a (Some x) s l h = ComeAfter-insert b a x s l h
+
+Ascends-front : (c : ℕ) (o : Option Content) (s : Sheet) → ComeAfter c s → Ascends s → Ascends (with_front c o s)
+Ascends-front c None s l h = h
+Ascends-front c (Some x) s l h = (l, h)
+
+pub Ascends-with_content : (a : ℕ) (o : Option Content) (s : Sheet) → Ascends s → Ascends (with_content s a o)
+Ascends-with_content a o [] h = rw (with_content-after a o [] tt) (Ascends-front a o [] tt tt)
+Ascends-with_content a o (e ∷ es) h =
+    ⊎_elim (λ p. subst (λ (b : ℕ). Ascends (with_content (e ∷ es) b o)) (sym p) (rw (with_content-here e.0 e.1 o es h.0) (Ascends-front e.0 o es h.0 h.1)))
+    (⊎_elim (λ l. let f : ComeAfter a (e ∷ es) = (l, come_after_earlier a e.0 es l h.0) in
+        rw (with_content-after a o (e ∷ es) f) (Ascends-front a o (e ∷ es) f h))
+    (λ l. rw (with_content-later a e.0 e.1 o es l) (ComeAfter-with_content e.0 a o es l h.0, Ascends-with_content a o es h.1)))
+    (cases_order a e.0)
+
+-- what stood in each cell, put back the last first, gives the sheet as it was
+pub restored-stood : (s : Sheet) (es : List (ℕ × Option Content)) → Ascends s → restored (edited s es) (stood s es) ≡ s
+restored-stood s [] h = refl
+restored-stood s (e ∷ es) h =
+    ap (λ (t : Sheet). with_content t e.0 (content_of s e.0)) (restored-stood (with_content s e.0 e.1) es (Ascends-with_content e.0 e.1 s h))
+    ∙ put_back e.0 e.1 s h
+
+-- ---- how many contents there are
+
+-- 1 for a content, and 0 for none
+abbrev pub count : Option Content → ℕ
+count None = 0
+count (Some x) = 1
+
+abbrev IsCounted : Sheet → ℕ → Option Content → Type 0
+IsCounted s a o = length (with_content s a o) + count (content_of s a) ≡ length s + count o
+
+length-front : (c : ℕ) (o : Option Content) (s : Sheet) → length (with_front c o s) ≡ length s + count o
+length-front c None s = omega arith
+length-front c (Some x) s = omega arith
+
+counted_here : (c : ℕ) (y : Content) (o : Option Content) (s : Sheet) → ComeAfter c s → IsCounted ((c, y) ∷ s) c o
+counted_here c y o s h = rw (content_of-front c y s, with_content-here c y o s h) (omega (arith, length-front c o s))
+
+counted_before : (a : ℕ) (o : Option Content) (s : Sheet) → ComeAfter a s → IsCounted s a o
+counted_before a o s h = rw (lookup_after a s h, with_content-after a o s h) (omega (arith, length-front a o s))
+
+counted_later : (a c : ℕ) (y : Content) (o : Option Content) (s : Sheet) → c < a → IsCounted s a o → IsCounted ((c, y) ∷ s) a o
+counted_later a c y o s l h = rw (is_at_earlier a c l, with_content-later a c y o s l) (omega (arith, h))
+
+pub length-with_content : (a : ℕ) (o : Option Content) (s : Sheet) → Ascends s → length (with_content s a o) + count (content_of s a) ≡ length s + count o
+length-with_content a o [] h = counted_before a o [] tt
+length-with_content a o (e ∷ es) h =
+    ⊎_elim (λ p. subst (λ (b : ℕ). IsCounted (e ∷ es) b o) (sym p) (counted_here e.0 e.1 o es h.0))
+    (⊎_elim (λ l. counted_before a o (e ∷ es) (l, come_after_earlier a e.0 es l h.0))
+    (λ l. counted_later a e.0 e.1 o es l (length-with_content a o es h.1)))
+    (cases_order a e.0)
+
+-- ---- rooms before and after
+
+pub is_at_apart : (a q : ℕ) → (q ≡ a → ⊥) → is_at (nat_cmp a) q ≡ false
+is_at_apart a q h = grind (arith, nat_tests)
+
+-- a cell that has no room after a content was written had none before
+pub none_kept : (b : Bool) (x : Option (Option Content)) (w : Option Content) (y : Option (Option Content)) → x ≡ cond b (Some w) y → x ≡ None → y ≡ None
+none_kept true x w y e h = cc
+none_kept false x w y e h = sym e ∙ h
+
+-- a room that is vacant after one was taken away was so before
+pub vacancy_kept : (b : Bool) (x y : Option (Option Content)) → x ≡ cond b None y → x ≡ Some None → y ≡ Some None
+vacancy_kept true x y e h = cc
+vacancy_kept false x y e h = sym e ∙ h
+
+pub nothing_stands : (a : ℕ) (rooms : Rooms) → Ascends rooms → room_of rooms a ≡ None → content_of (sheet_in rooms) a ≡ None
+nothing_stands a rooms h n = content_of-sheet_in a rooms h ∙ ap (λ (o : Option (Option Content)). option_flatten o) n
+
+pub nothing_put : (a : ℕ) (o : Option Content) (rooms : Rooms) → Ascends rooms → room_of rooms a ≡ None → o ≡ None → sheet_in rooms ≡ with_content (sheet_in rooms) a o
+nothing_put a o rooms h n e = rw e (sym (without-nothing a (sheet_in rooms) (Ascends-sheet_in rooms h) (nothing_stands a rooms h n)))
+
+-- a room that is vacant after one was made is that one, or was so before
+pub vacancy_made : (a q : ℕ) (x y : Option (Option Content)) → x ≡ cond (is_at (nat_cmp a) q) (Some None) y → x ≡ Some None → (q ≡ a) ⊎ (y ≡ Some None)
+vacancy_made a q x y e h = ⊎_elim (λ p. inl p) (λ apart. inr (sym (rw (is_at_apart a q apart) at e) ∙ h)) (cases_eq q a)
+
+pub none_from : (o : Option (Option Content)) → is_some o ≡ false → o ≡ None
+none_from None h = refl
+none_from (Some x) h = cc

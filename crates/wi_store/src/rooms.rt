@@ -1,0 +1,149 @@
+//! Rooms for contents. An edit first makes room for every content that it brings. Then it exchanges contents,
+//! which takes no memory and can be taken back. At the end the vacant rooms go.
+
+ghost use Rattle.std.specs.Prelude.{◌≡◌, ◌≢◌, ◌+◌, ◌≤◌, ◌⊎◌, ◌↔◌, ℕ, IsTrue, All, Some, None, length, OnOk, IfOk};
+ghost use Rattle.std.specs.Map.{keys_of};
+ghost use Rattle.wi_parser.specs.Sheet.{content_of, with_content};
+ghost use Rattle.wi_store.specs.Store.{edited};
+ghost use Rattle.wi_store.specs.Rooms.{sheet_in, room_of, IsInOrder, HasNoVacancy, VacantOnlyAt, HasRoomFor};
+ghost use Rattle.wi_store.specs.Exchange.{stood, restored};
+
+use std::alloc::AllocError;
+use std::collections::BTreeMap;
+use std::mem;
+use wi_parser::Content;
+use wi_values::Address;
+
+/// The rooms by their cells; a vacant one has no content.
+pub(crate) type Rooms = BTreeMap<Address, Option<Content>>;
+
+/// A cell, and the content that it gets, or none.
+pub(crate) type Change = (Address, Option<Content>);
+
+/// Makes a room for a cell that gets a content and has none, and answers how many it made.
+fn make_one(
+    rooms: &mut Rooms,
+    at: Address,
+    content: &Option<Content>,
+) -> Result<usize, AllocError>
+    ensures sheet { sheet_in rooms.new.entries ≡ sheet_in rooms.old.entries }
+    ensures order { IsInOrder rooms.old.entries → IsInOrder rooms.new.entries }
+    ensures vacant { (c : ℕ) → room_of rooms.new.entries c ≡ Some None
+        → (c ≡ at) ⊎ (room_of rooms.old.entries c ≡ Some None) }
+    ensures kept { (c : ℕ) → room_of rooms.new.entries c ≡ None → room_of rooms.old.entries c ≡ None }
+    ensures room { OnOk result (HasRoomFor rooms.new.entries (at, content.now)) }
+    ensures made { IfOk result (λ made. (made ≤ 1) × (length rooms.new.entries ≡ length rooms.old.entries + made)) }
+{
+    if content.is_none() || rooms.contains_key(&at) {
+        return Ok(0);
+    }
+    rooms.insert(at, None)?;
+    Ok(1)
+}
+
+/// Makes a room for each cell that gets a content and has none, and answers how many it made.
+/// If memory runs out, the rooms made so far stay.
+pub(crate) fn make_room(rooms: &mut Rooms, changes: &[Change]) -> Result<usize, AllocError>
+    requires order { IsInOrder rooms.old.entries }
+    requires full { HasNoVacancy rooms.old.entries }
+    ensures sheet { sheet_in rooms.new.entries ≡ sheet_in rooms.old.entries }
+    ensures order { IsInOrder rooms.new.entries }
+    ensures vacant { VacantOnlyAt (keys_of changes.now) rooms.new.entries }
+    ensures room { OnOk result (All (HasRoomFor rooms.new.entries) changes.now) }
+    ensures made { IfOk result (λ made. length rooms.new.entries ≡ length (sheet_in rooms.new.entries) + made) }
+{
+    let mut made = 0;
+    for (at, content) in changes {
+        made += make_one(rooms, *at, content)?;
+    }
+    Ok(made)
+}
+
+/// Exchanges a content, or none, with what stands in a cell.
+fn exchange(rooms: &mut Rooms, at: Address, content: &mut Option<Content>)
+    requires order { IsInOrder rooms.old.entries }
+    requires room { HasRoomFor rooms.old.entries (at, content.old) }
+    ensures sheet { sheet_in rooms.new.entries ≡ with_content (sheet_in rooms.old.entries) at content.old }
+    ensures stood { content.new ≡ content_of (sheet_in rooms.old.entries) at }
+    ensures order { IsInOrder rooms.new.entries }
+    ensures rooms { length rooms.new.entries ≡ length rooms.old.entries }
+    ensures kept { (c : ℕ) → room_of rooms.new.entries c ≡ None → room_of rooms.old.entries c ≡ None }
+    ensures others { (c : ℕ) → c ≢ at → room_of rooms.new.entries c ≡ room_of rooms.old.entries c }
+{
+    if let Some(room) = rooms.get_mut(&at) {
+        mem::swap(room, content);
+    }
+}
+
+/// Exchanges the contents of the changes with what stands in their cells, one after another. Answers how many
+/// cells have a content then; `vacant` is how many rooms had none before.
+pub(crate) fn exchange_all(rooms: &mut Rooms, changes: &mut [Change], vacant: usize) -> usize
+    requires order { IsInOrder rooms.old.entries }
+    requires room { All (HasRoomFor rooms.old.entries) changes.old }
+    requires vacant { length rooms.old.entries ≡ length (sheet_in rooms.old.entries) + vacant }
+    requires only { VacantOnlyAt (keys_of changes.old) rooms.old.entries }
+    ensures sheet { sheet_in rooms.new.entries ≡ edited (sheet_in rooms.old.entries) changes.old }
+    ensures stood { changes.new ≡ stood (sheet_in rooms.old.entries) changes.old }
+    ensures occupied { result ≡ length (sheet_in rooms.new.entries) }
+    ensures order { IsInOrder rooms.new.entries }
+    ensures room { All (HasRoomFor rooms.new.entries) changes.new }
+    ensures vacant { VacantOnlyAt (keys_of changes.new) rooms.new.entries }
+{
+    let mut occupied = rooms.len() - vacant;
+    for change in changes.iter_mut() {
+        occupied += usize::from(change.1.is_some());
+        exchange(rooms, change.0, &mut change.1);
+        occupied -= usize::from(change.1.is_some());
+    }
+    occupied
+}
+
+/// Exchanges the contents of the changes with what stands in their cells, the last first.
+pub(crate) fn exchange_back(rooms: &mut Rooms, changes: &mut [Change])
+    requires order { IsInOrder rooms.old.entries }
+    requires room { All (HasRoomFor rooms.old.entries) changes.old }
+    requires only { VacantOnlyAt (keys_of changes.old) rooms.old.entries }
+    ensures sheet { sheet_in rooms.new.entries ≡ restored (sheet_in rooms.old.entries) changes.old }
+    ensures order { IsInOrder rooms.new.entries }
+    ensures vacant { VacantOnlyAt (keys_of changes.new) rooms.new.entries }
+{
+    for i in (0..changes.len()).rev() {
+        let change = &mut changes[i];
+        exchange(rooms, change.0, &mut change.1);
+    }
+}
+
+/// Whether a cell has a room without a content.
+fn is_vacant(rooms: &Rooms, at: Address) -> bool
+    ensures { IsTrue result ↔ (room_of rooms.now.entries at ≡ Some None) }
+{
+    match rooms.get(&at) {
+        Some(room) => room.is_none(),
+        None => false,
+    }
+}
+
+/// Takes away the room of a cell if it is vacant.
+fn release_one(rooms: &mut Rooms, at: Address)
+    ensures sheet { sheet_in rooms.new.entries ≡ sheet_in rooms.old.entries }
+    ensures order { IsInOrder rooms.old.entries → IsInOrder rooms.new.entries }
+    ensures released { room_of rooms.new.entries at ≢ Some None }
+    ensures vacant { (c : ℕ) → room_of rooms.new.entries c ≡ Some None → room_of rooms.old.entries c ≡ Some None }
+{
+    if is_vacant(rooms, at) {
+        let _ = rooms.remove(&at);
+    }
+}
+
+/// Takes away the vacant rooms.
+pub(crate) fn release(rooms: &mut Rooms, changes: &[Change])
+    requires order { IsInOrder rooms.old.entries }
+    requires vacant { VacantOnlyAt (keys_of changes.now) rooms.old.entries }
+    ensures sheet { sheet_in rooms.new.entries ≡ sheet_in rooms.old.entries }
+    ensures order { IsInOrder rooms.new.entries }
+    ensures full { HasNoVacancy rooms.new.entries }
+{
+    for (at, _) in changes {
+        release_one(rooms, *at);
+    }
+}
