@@ -95,8 +95,21 @@ fn place_of(want: Want) -> (Address, usize) {
     }
 }
 
+/// (cell) / 4
+fn quarter(alloc: Global, cell: Reference) -> Result<Expr, Fail> {
+    let enclosed = Expr::Parenthesized(Box::new(alloc, Expr::Cell(cell))?);
+    let four = Expr::Number(Fraction::new(4, 1)?);
+    Ok(binary(alloc, Operator::Divide, enclosed, four)?)
+}
+
+/// What a cell is with another's value in a third.
+fn what_if(alloc: Global, cell: Reference, input: Reference, by: Reference) -> Result<Expr, Fail> {
+    let pairs = Vec::from_slice(alloc, &[Pair { input, by }])?;
+    Ok(Expr::WhatIf(cell, pairs))
+}
+
 #[test]
-fn values(rt: HostRuntime) -> Result<(), Fail> {
+fn a_difference(rt: HostRuntime) -> Result<(), Fail> {
     let alloc = rt.alloc();
     let b1 = reference(0, 1).ok_or("no B1")?;
     let known = OneCell {
@@ -104,28 +117,35 @@ fn values(rt: HostRuntime) -> Result<(), Fail> {
         value: Value::Number(Fraction::new(10, 1)?),
         replaced: Value::Empty,
     };
-    let mut meter = Meter::new();
-
-    // (B1) / 4 - 1/2
-    let enclosed = Expr::Parenthesized(Box::new(alloc, Expr::Cell(b1))?);
-    let four = Expr::Number(Fraction::new(4, 1)?);
-    let quotient = binary(alloc, Operator::Divide, enclosed, four)?;
     let half = Expr::Number(Fraction::new(1, 2)?);
-    let formula = Formula::new(binary(alloc, Operator::Subtract, quotient, half)?);
-    let outcome = evaluate(alloc, &formula, &known, &mut meter)?;
+    let tree = binary(alloc, Operator::Subtract, quarter(alloc, b1)?, half)?;
+    let mut meter = Meter::new();
+    let outcome = evaluate(alloc, &Formula::new(tree), &known, &mut meter)?;
     assert_eq!(rt; number_of(outcome).ok_or("not done")?, Fraction::new(2, 1)?);
+    assert!(rt; meter.evaluations() == 1 && meter.restarts() == 0);
+    Ok(())
+}
 
-    // 1 / what B1 is with B1's value in B1, which is empty here
-    let pairs = Vec::from_slice(alloc, &[Pair { input: b1, by: b1 }])?;
-    let one = Expr::Number(Fraction::new(1, 1)?);
-    let formula = Formula::new(binary(alloc, Operator::Divide, one, Expr::WhatIf(b1, pairs))?);
-    let outcome = evaluate(alloc, &formula, &known, &mut meter)?;
+#[test]
+fn a_what_if(rt: HostRuntime) -> Result<(), Fail> {
+    let alloc = rt.alloc();
+    let b1 = reference(0, 1).ok_or("no B1")?;
+    let known = OneCell {
+        at: b1.at,
+        value: Value::Number(Fraction::new(10, 1)?),
+        replaced: Value::Empty,
+    };
+    let tree = binary(
+        alloc,
+        Operator::Divide,
+        quarter(alloc, b1)?,
+        what_if(alloc, b1, b1, b1)?,
+    )?;
+    let outcome = evaluate(alloc, &Formula::new(tree), &known, &mut Meter::new())?;
     assert_eq!(rt;
         fault_of(outcome).ok_or("not done")?,
         ErrorKind::DivisionByZero
     );
-    assert_eq!(rt; meter.evaluations(), 2);
-    assert_eq!(rt; meter.restarts(), 0);
     Ok(())
 }
 
@@ -140,21 +160,15 @@ fn wants(rt: HostRuntime) -> Result<(), Fail> {
         replaced: Value::Empty,
     };
     let mut meter = Meter::new();
-
-    // B1 * C1
-    let formula = Formula::new(binary(alloc, Operator::Multiply, Expr::Cell(b1), Expr::Cell(c1))?);
-    let outcome = evaluate(alloc, &formula, &known, &mut meter)?;
+    let tree = binary(alloc, Operator::Multiply, Expr::Cell(b1), Expr::Cell(c1))?;
+    let outcome = evaluate(alloc, &Formula::new(tree), &known, &mut meter)?;
     let (at, count) = place_of(want_of(outcome).ok_or("done")?);
     assert!(rt; at == c1.at && count == 0);
-
-    // what C1 is with B1's value in C1
-    let pairs = Vec::from_slice(alloc, &[Pair { input: c1, by: b1 }])?;
-    let formula = Formula::new(Expr::WhatIf(c1, pairs));
-    let outcome = evaluate(alloc, &formula, &known, &mut meter)?;
+    let tree = what_if(alloc, c1, c1, b1)?;
+    let outcome = evaluate(alloc, &Formula::new(tree), &known, &mut meter)?;
     let (at, count) = place_of(want_of(outcome).ok_or("done")?);
     assert!(rt; at == c1.at && count == 1);
-    assert_eq!(rt; meter.evaluations(), 0);
-    assert_eq!(rt; meter.restarts(), 2);
+    assert!(rt; meter.evaluations() == 0 && meter.restarts() == 2);
     Ok(())
 }
 
