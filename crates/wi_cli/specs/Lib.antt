@@ -11,3 +11,4 @@ pub mod Reading
 pub mod Told
 pub mod Turn
 pub mod Status
+pub mod Devices

@@ -3,6 +3,7 @@
 ghost use Rattle.std.specs.Prelude.{◌≡◌};
 ghost use Rattle.wi_cli.specs.Status.{status_of};
 
+use std::alloc::AllocError;
 use thiserror::Error;
 
 /// Why a run ended before its script.
@@ -17,6 +18,16 @@ pub enum RunFault {
     Write,
     #[error("the script has more than 1,000,000 lines")]
     ScriptLimit,
+}
+
+impl From<AllocError> for RunFault {
+    ghost use Rattle.wi_cli.specs.declared.fault.RunFault.TheVariants.{Memory};
+
+    ghost from_gives = { λ _ e. e ≡ Memory };
+
+    fn from(_error: AllocError) -> RunFault {
+        RunFault::Memory
+    }
 }
 
 /// The status with which the program ends after this fault.

@@ -1,6 +1,7 @@
 //! A std reader as a source.
 
-ghost use Rattle.std.specs.Prelude.{◌≡◌, false};
+ghost use Rattle.std.specs.Prelude.{◌≡◌, ◌^◌, false};
+ghost use Rattle.wi_cli.specs.Devices.{reader_of, reads_left_of, read_failed};
 
 use crate::device::{DeviceFault, Source};
 use std::io::Read;
@@ -19,9 +20,9 @@ pub struct ReadFrom<R> {
 impl<R: Read> ReadFrom<R> {
     /// A source that has not failed, and allows 2^32 reads.
     pub fn new(inner: R) -> Self
-        ensures inner { result.inner ≡ inner }
-        ensures left { result.left ≡ READS }
-        ensures failed { result.failed ≡ false }
+        ensures reader { reader_of result ≡ inner }
+        ensures left { reads_left_of result ≡ 2 ^ 32 }
+        ensures failed { read_failed result ≡ false }
     {
         ReadFrom {
             inner,
@@ -32,11 +33,11 @@ impl<R: Read> ReadFrom<R> {
 }
 
 impl<R: Read> Source for ReadFrom<R> {
-    ghost remaining = { λ s. R.remaining s.inner };
+    ghost remaining = { λ s. R.remaining (reader_of s) };
 
-    ghost reads_left = { λ s. s.left };
+    ghost reads_left = { reads_left_of };
 
-    ghost has_failed = { λ s. s.failed };
+    ghost has_failed = { read_failed };
 
     fn read(&mut self, buf: &mut [u8]) -> Result<usize, DeviceFault> {
         if self.left == 0 {

@@ -106,6 +106,8 @@ pub fn run<R: Source, W: Sink, C: Calculator>(
         × Appends (W.contents writer.old) (W.contents writer.new) out
         × Outcome result book.old book.new input out }
     ensures all_read { OnOk result (IsAtEnd (R.remaining reader.new)) }
+    ensures reads { OnOk result (R.has_failed reader.new ≡ false) }
+    ensures writes { OnOk result (W.has_failed writer.new ≡ false) }
     ensures all_sent { OnOk result (W.flushed writer.new ≡ true) }
     ensures read_fault { result ≡ Err RunFault.Read → R.has_failed reader.new ≡ true }
     ensures write_fault { result ≡ Err RunFault.Write → W.has_failed writer.new ≡ true }

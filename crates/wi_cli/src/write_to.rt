@@ -1,6 +1,7 @@
 //! A std writer as a sink.
 
 ghost use Rattle.std.specs.Prelude.{◌≡◌, false};
+ghost use Rattle.wi_cli.specs.Devices.{writer_of, write_failed, is_flushed};
 
 use crate::device::{DeviceFault, Sink};
 use std::io::Write;
@@ -16,8 +17,8 @@ pub struct WriteTo<W> {
 impl<W: Write> WriteTo<W> {
     /// A sink that has not failed.
     pub fn new(inner: W) -> Self
-        ensures inner { result.inner ≡ inner }
-        ensures failed { result.failed ≡ false }
+        ensures writer { writer_of result ≡ inner }
+        ensures failed { write_failed result ≡ false }
     {
         WriteTo {
             inner,
@@ -28,11 +29,11 @@ impl<W: Write> WriteTo<W> {
 }
 
 impl<W: Write> Sink for WriteTo<W> {
-    ghost contents = { λ s. W.contents s.inner };
+    ghost contents = { λ s. W.contents (writer_of s) };
 
-    ghost has_failed = { λ s. s.failed };
+    ghost has_failed = { write_failed };
 
-    ghost flushed = { λ s. s.flushed };
+    ghost flushed = { is_flushed };
 
     fn write(&mut self, buf: &[u8]) -> Result<usize, DeviceFault> {
         self.flushed = false;

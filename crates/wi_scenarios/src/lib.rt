@@ -8,3 +8,6 @@ mod workbook;
 
 pub use refusal::Refusal;
 pub use workbook::Workbook;
+
+#[cfg(test)]
+mod tests;

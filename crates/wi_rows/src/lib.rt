@@ -1,0 +1,15 @@
+//! Worked rows: scripts with the bytes that must come out, run on a workbook over devices in memory.
+#![tactic(auto)]
+
+mod given;
+mod taken;
+
+pub use given::Given;
+pub use taken::Taken;
+
+#[cfg(test)]
+mod faults;
+#[cfg(test)]
+mod rows;
+#[cfg(test)]
+mod scripts;

@@ -1,0 +1,35 @@
+//! Scripts run in memory.
+
+use crate::{Given, Taken};
+use std::test::Fail;
+use wi_cli::{RunFault, run};
+use wi_propagate::PlainCalculator;
+use wi_scenarios::Workbook;
+use wi_store::Limits;
+
+/// How a run ended, and what it wrote.
+#[derive(Drop)]
+pub struct Ran {
+    pub outcome: Result<(), RunFault>,
+    pub replies: Vec<u8>,
+    pub flushed: bool,
+}
+
+/// Runs a script from a source to a sink on a new workbook within these limits.
+pub fn run_between(
+    rt: &HostRuntime,
+    mut source: Given,
+    mut sink: Taken,
+    limits: Limits,
+) -> Result<Ran, Fail>
+{
+    let alloc = rt.alloc();
+    let mut book = Workbook::new(alloc, PlainCalculator::new(alloc, limits))?;
+    let outcome = run(alloc, &mut source, &mut sink, &mut book);
+    let replies = Vec::from_slice(alloc, sink.bytes())?;
+    Ok(Ran {
+        outcome,
+        replies,
+        flushed: sink.is_flushed(),
+    })
+}
