@@ -1,6 +1,7 @@
 //! Scripts run in memory.
 
 use crate::{Given, Taken};
+use std::alloc::Global;
 use std::test::Fail;
 use wi_cli::{RunFault, run};
 use wi_propagate::PlainCalculator;
@@ -17,13 +18,12 @@ pub struct Ran {
 
 /// Runs a script from a source to a sink on a new workbook within these limits.
 pub fn run_between(
-    rt: &HostRuntime,
+    alloc: Global,
     mut source: Given,
     mut sink: Taken,
     limits: Limits,
 ) -> Result<Ran, Fail>
 {
-    let alloc = rt.alloc();
     let mut book = Workbook::new(alloc, PlainCalculator::new(alloc, limits))?;
     let outcome = run(alloc, &mut source, &mut sink, &mut book);
     let replies = Vec::from_slice(alloc, sink.bytes())?;
