@@ -200,21 +200,26 @@ ends_flush left b p c q s m t w x y z count allowed may most h k e =
     )
 
 pub ends_read : (left : Option (List ℕ)) (b : List ℕ) (p : Option (List ℕ)) (c : List ℕ) (q : Option (List ℕ)) (s m t : State) (w x y : Option (List ℕ)) (count : ℕ) (allowed : Bool)
+    → (allowed ≡ true → count < 1000000) → count ≤ 1000000
     → IsGoing left b p s m w x count → Broke Read allowed b p c q → t ≡ m → y ≡ x → Ends (Err Read) left q s t w y
 unfolding complete_commands
-ends_read left b p c q s m t w x y count allowed h k same kept =
+ends_read left b p c q s m t w x y count allowed may most h k same kept =
     let line = k.0 in
     let input = concat h.lines ++ line in
     let taken : Takes [] left c q input = Takes-trans [] left b p c q _ _ h.taken k.3 in
     let lines : raw_lines input ≡ h.lines ++ raw_lines line = h.are_lines line in
     let whole : whole_lines (raw_lines input) ≡ h.lines = ap whole_lines lines ∙ h.all_whole (raw_lines line) ∙ ap (λ z. h.lines ++ z) (last_whole line k.1) ∙ append-nil h.lines in
     let served : commands h.lines ≡ h.served = ap commands (sym (append-nil h.lines)) ∙ h.are_served [] ∙ append-nil h.served in
-    let said : complete_commands (raw_lines input) ≡ h.served = ap commands whole ∙ served in (
+    let said : complete_commands (raw_lines input) ≡ h.served = ap commands whole ∙ served in
+    let few = few_last line count k.1 (λ l. may (k.4 l)) most in (
       input,
       h.out,
       subst (λ z. Consumes left q z) (ap (λ z. input ++ z) k.2 ∙ append-nil input) (consumed left c q input taken),
       subst (λ z. Appends w z h.out) (sym kept) h.written,
-      subst (λ z. Writes s z h.out t) (sym said) (subst (λ z. Writes s h.served h.out z) (sym same) h.writes),
+      (
+        omega (arith, ap length lines, length-append h.lines (raw_lines line), h.counted, few),
+        subst (λ z. Writes s z h.out t) (sym said) (subst (λ z. Writes s h.served h.out z) (sym same) h.writes),
+      ),
     )
 
 pub ends_limit : (left : Option (List ℕ)) (b : List ℕ) (p : Option (List ℕ)) (c : List ℕ) (q : Option (List ℕ)) (s m t : State) (w x y : Option (List ℕ)) (count : ℕ) (allowed : Bool)
@@ -301,7 +306,7 @@ ends_write left b p c q s m t w x y count allowed h k = go k.whole k.taken k.at_
 pub ends_stopped : (e : RunFault) (left : Option (List ℕ)) (b : List ℕ) (p : Option (List ℕ)) (c : List ℕ) (q : Option (List ℕ)) (s m t : State) (w x y : Option (List ℕ)) (count : ℕ)
     → count ≤ 1000000 → IsGoing left b p s m w x count → Stopped e (ltb count 1000000) b p c q m t x y → Ends (Err e) left q s t w y
 ends_stopped Memory left b p c q s m t w x y count few h k = absurd k
-ends_stopped Read left b p c q s m t w x y count few h k = ends_read left b p c q s m t w x y count (ltb count 1000000) h k.0 k.1 k.2
+ends_stopped Read left b p c q s m t w x y count few h k = ends_read left b p c q s m t w x y count (ltb count 1000000) (ltb-true count 1000000) few h k.0 k.1 k.2
 ends_stopped Write left b p c q s m t w x y count few h k = ends_write left b p c q s m t w x y count (ltb count 1000000) h k
 ends_stopped ScriptLimit left b p c q s m t w x y count few h k = ends_limit left b p c q s m t w x y count (ltb count 1000000) (ltb-false count 1000000) few h k.0 k.1 k.2
 

@@ -65,9 +65,9 @@ ended a p b q c r line line' byte allowed w h k may t e =
     record { content = w.content ++ byte ∷ []; no_lf = more_no_lf w.content byte w.no_lf h; kept = k; taken = Takes-trans a p b q c r _ _ w.taken t; at_end = λ _. e; may = λ _. may }
 
 pub failed : (a : List ℕ) (p : Option (List ℕ)) (b : List ℕ) (q : Option (List ℕ)) (c : List ℕ) (r : Option (List ℕ)) (line : List ℕ) (byte : ℕ) (allowed : Bool)
-    → (w : IsWithin a p b q line byte) → (byte ≡ 10 → ⊥) → c ≡ [] → Takes b q c r [] → Broke Read allowed a p c r
-failed a p b q c r line byte allowed w h e t =
-    (w.content ++ byte ∷ [], more_no_lf w.content byte w.no_lf h, e, subst (Takes a p c r) (append-nil (w.content ++ byte ∷ [])) (Takes-trans a p b q c r _ _ w.taken t))
+    → (w : IsWithin a p b q line byte) → (byte ≡ 10 → ⊥) → allowed ≡ true → c ≡ [] → Takes b q c r [] → Broke Read allowed a p c r
+failed a p b q c r line byte allowed w h may e t =
+    (w.content ++ byte ∷ [], more_no_lf w.content byte w.no_lf h, e, subst (Takes a p c r) (append-nil (w.content ++ byte ∷ [])) (Takes-trans a p b q c r _ _ w.taken t), λ _. may)
 
 pub came : (a : List ℕ) (p : Option (List ℕ)) (b : List ℕ) (q : Option (List ℕ)) (line : List ℕ) (byte : ℕ) (allowed : Bool)
     → IsWithin a p b q line byte → byte ≡ 10 → allowed ≡ true → TookLine allowed true a p b q line

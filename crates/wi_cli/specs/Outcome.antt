@@ -31,7 +31,8 @@ limited ls = take max_lines ls
 abbrev pub Outcome : Result (Unit {0}) RunFault → State → State → List ℕ → List ℕ → Type 0
 Outcome (Ok _) s t input out = (length (raw_lines input) ≤ max_lines) × Writes s (all_commands input) out t
 Outcome (Err Memory) s t input out = (input ≡ []) × (out ≡ []) × (t ≡ s)
-Outcome (Err Read) s t input out = Writes s (complete_commands (raw_lines input)) out t
+Outcome (Err Read) s t input out =
+    (length (raw_lines input) ≤ max_lines) × Writes s (complete_commands (raw_lines input)) out t
 Outcome (Err Write) s t input out = WritesFront s (all_commands input) out t
 Outcome (Err ScriptLimit) s t input out =
     (max_lines < length (raw_lines input)) × Writes s (complete_commands (limited (raw_lines input))) out t

@@ -26,6 +26,7 @@ pub record TookLine (allowed whole : Bool) (buffer : List ℕ) (left : Option (L
 -- why no line was taken: the source failed within one, or one more would be too many
 abbrev pub Broke : RunFault → Bool → List ℕ → Option (List ℕ) → List ℕ → Option (List ℕ) → Type 0
 Broke Memory allowed buffer left buffer' left' = ⊥
-Broke Read allowed buffer left buffer' left' = (content : List ℕ) × (is_whole content ≡ false) × (buffer' ≡ []) × Takes buffer left buffer' left' content
+Broke Read allowed buffer left buffer' left' =
+    (content : List ℕ) × (is_whole content ≡ false) × (buffer' ≡ []) × Takes buffer left buffer' left' content × (0 < length content → allowed ≡ true)
 Broke Write allowed buffer left buffer' left' = ⊥
 Broke ScriptLimit allowed buffer left buffer' left' = (b : ℕ) × (allowed ≡ false) × Takes buffer left buffer' left' (b ∷ [])
