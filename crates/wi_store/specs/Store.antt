@@ -1,7 +1,8 @@
 -- A sheet within limits, and what edits do to it.
-use Rattle.std.specs.Prelude.{◌≡◌, ℕ, ◌+◌, List, [], ◌∷◌, length, Option, Result, Ok, Err, nat_lt, nat_le, if◌then◌else◌}
-use Rattle.wi_parser.specs.Sheet.{Sheet, with_content}
+use Rattle.std.specs.Prelude.{◌≡◌, ℕ, ◌+◌, List, [], ◌∷◌, length, map, Option, Some, None, Result, Ok, Err, nat_lt, nat_le, if◌then◌else◌}
+use Rattle.wi_parser.specs.Sheet.{Sheet, constant, with_content}
 use Rattle.wi_parser.specs.declared.content.Content.{Content}
+use Rattle.wi_parser.specs.declared.content.Content.TheVariants.{Constant, Formula}
 use Rattle.wi_store.specs.declared.limits.Limits.{Limits}
 use Rattle.wi_store.specs.declared.fault.StoreFault.{StoreFault}
 use Rattle.wi_store.specs.declared.fault.StoreFault.TheVariants.{Full, EditLimit, Memory}
@@ -17,12 +18,25 @@ abbrev pub edited : Sheet → List (ℕ × Option Content) → Sheet
 edited s [] = s
 edited s (e ∷ es) = edited (with_content s e.0 e.1) es
 
--- one edit, which names cells and gives each a content or none; or the first refusal that holds
-unfoldable pub applied : Stored → List (ℕ × Option Content) → Result Stored StoreFault
-applied s es =
+-- what a cell gets: the constant Empty is no content
+abbrev pub settled : Option Content → Option Content
+settled None = None
+settled (Some (Constant v)) = constant v
+settled (Some (Formula t)) = Some (Formula t)
+
+abbrev pub settled_change : ℕ × Option Content → ℕ × Option Content
+settled_change e = (e.0, settled e.1)
+
+-- one edit of contents of which none is the constant Empty, or the first refusal that holds
+unfoldable pub accepted : Stored → List (ℕ × Option Content) → Result Stored StoreFault
+accepted s es =
     if nat_lt s.limits.cells (length (edited s.sheet es)) then Err Full
     else (if nat_le s.limits.edits s.edits then Err EditLimit
     else Ok (record s { sheet = edited s.sheet es; edits = s.edits + 1 }))
+
+-- one edit, which names cells and gives each a content or none, or the first refusal that holds
+abbrev pub applied : Stored → List (ℕ × Option Content) → Result Stored StoreFault
+applied s es = accepted s (map settled_change es)
 
 -- the call did the edit, or refused it and left all as it was
 abbrev pub Applies : Result Stored StoreFault → Result (Unit {0}) StoreFault → Stored → Stored → Type 0

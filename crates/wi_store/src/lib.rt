@@ -4,6 +4,7 @@
 mod fault;
 mod limits;
 mod rooms;
+mod settle;
 mod store;
 
 pub use fault::StoreFault;

@@ -10,6 +10,7 @@ ghost use Rattle.wi_store.specs.Exchange.{admitted};
 
 use crate::fault::StoreFault;
 use crate::limits::Limits;
+use crate::settle::settle;
 use crate::rooms::{exchange_all, exchange_back, make_room, release, Change, Rooms};
 use std::alloc::{AllocError, Global};
 use std::collections::BTreeMap;
@@ -87,7 +88,8 @@ impl Store {
         self.limits
     }
 
-    /// One edit, which gives each named cell a content or none; of two pairs for one cell the later counts.
+    /// One edit, which gives each named cell a content or none; the constant Empty is none. Of two pairs for one
+    /// cell the later counts.
     /// `Full` if the sheet would then have more occupied cells than the limit, or else `EditLimit` if no more
     /// edits are accepted; `Memory` if memory runs out. After each of them all is as before. The work for each
     /// pair grows with the logarithm of the count of occupied cells.
@@ -95,6 +97,7 @@ impl Store {
         ensures { Applies (applied self.old changes.items) result self.old self.new }
     {
         let mut changes = changes;
+        settle(&mut changes);
         let answer = edit(&mut self.rooms, &self.limits, self.edits, &mut changes);
         release(&mut self.rooms, &changes);
         answer?;
