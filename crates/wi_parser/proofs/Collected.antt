@@ -5,7 +5,7 @@ use Rattle.wi_lexer.specs.Token.{NoToken, after_blanks}
 use Rattle.wi_lexer.specs.Inside.{Scan}
 use Rattle.wi_lexer.specs.Scan.{ahead, IsNext, IsDone}
 use Rattle.wi_lexer.specs.Tokens.{tokens}
-use Rattle.wi_lexer.proofs.CallerLemmas.{tokens_next, tokens_bad, tokens_end, next_shortens}
+use Rattle.wi_lexer.proofs.CallerLemmas.{tokens_next, tokens_bad, tokens_end}
 use Rattle.wi_parser.specs.declared.fault.ParseFault.TheVariants.{Syntax}
 use Rattle.wi_parser.specs.declared.word.Word.{Word}
 use Rattle.wi_parser.specs.Lexeme.{Lexeme, refused}

@@ -1,21 +1,16 @@
 -- What the tree of a text is, and why there is none.
-use Rattle.std.proofs.Common.{◌≡◌, ℕ, suc, ◌+◌, ◌<◌, ◌≤◌, Bool, true, false, ◌||◌, nat_lt, List, [], ◌∷◌, ◌++◌, length, Option, Some, None, Result, Ok, Err, ok_or, if◌then◌else◌, IfOk, refl, sym, ap, ap₂, ◌∙◌, arith}
+use Rattle.std.proofs.Common.{◌≡◌, ℕ, ◌+◌, ◌<◌, ◌≤◌, Bool, true, false, ◌||◌, nat_lt, List, [], ◌∷◌, ◌++◌, length, Option, Some, None, Result, Ok, Err, ok_or, if◌then◌else◌, IfOk, refl, sym, ap, ap₂, ◌∙◌, arith}
 use Rattle.std.proofs.lemmas.List.Folds.{list_any-append}
 use Rattle.std.proofs.lemmas.Bool.Decides.{nat_tests}
 use Rattle.std.specs.List.{list_any}
-use Rattle.wi_fraction.specs.Number.{Number}
-use Rattle.wi_parser.specs.declared.expr.Expr.{Expr}
-use Rattle.wi_parser.specs.declared.expr.Operator.{Operator}
-use Rattle.wi_parser.specs.declared.expr.Reference.{Reference}
 use Rattle.wi_parser.specs.declared.fault.ParseFault.{ParseFault}
 use Rattle.wi_parser.specs.declared.fault.ParseFault.TheVariants.{TooLong, OutOfSheet, NumberRange, TooDeep, Syntax, Memory}
 use Rattle.wi_parser.specs.Tree.{Tree}
-use Rattle.wi_parser.specs.Lexeme.{Lexeme, numeral, reference, open_mark, close_mark, infix_mark, is_outside, is_unfit}
+use Rattle.wi_parser.specs.Lexeme.{Lexeme, close_mark, infix_mark, is_outside, is_unfit}
 use Rattle.wi_parser.specs.Grammar.{loosest, Spells, a_number, a_cell, in_marks, tighter, joined}
-use Rattle.wi_parser.specs.Nesting.{depth, deepest, most_signs, max_depth, is_too_deep}
+use Rattle.wi_parser.specs.Nesting.{deepest, most_signs, max_depth, is_too_deep}
 use Rattle.wi_parser.specs.Reader.{whole}
-use Rattle.wi_parser.specs.View.{tree_of}
-use Rattle.wi_parser.specs.Outcome.{Fails, FindsWhole}
+use Rattle.wi_parser.specs.Outcome.{Fails}
 use Rattle.wi_parser.specs.FormulaText.{formula_lexemes}
 use Rattle.wi_parser.specs.Reading.{max_formula, refusal_of, unless_refused, judged, parsed, Reads, Answers}
 use Rattle.wi_parser.proofs.Sound.{whole_sound}

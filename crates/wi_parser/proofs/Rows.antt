@@ -14,11 +14,10 @@ use Rattle.wi_lexer.specs.Mark.{mark_at}
 use Rattle.wi_lexer.specs.Token.{token_at}
 use Rattle.wi_lexer.specs.Tokens.{tokens, tokens_within}
 use Rattle.wi_parser.specs.declared.content.Content.TheVariants.{Constant}
-use Rattle.wi_parser.specs.declared.expr.Operator.TheVariants.{Add, Subtract, Multiply, Divide}
-use Rattle.wi_parser.specs.declared.expr.Reference.{Reference}
+use Rattle.wi_parser.specs.declared.expr.Operator.TheVariants.{Add, Subtract, Multiply}
 use Rattle.wi_parser.specs.declared.fault.ParseFault.TheVariants.{OutOfSheet, Syntax}
-use Rattle.wi_parser.specs.Tree.{Tree, number, cell, parenthesized, binary}
-use Rattle.wi_parser.specs.Lexeme.{Lexeme, numeral, reference, open_mark, close_mark, infix_mark, refused}
+use Rattle.wi_parser.specs.Tree.{number, cell, parenthesized, binary}
+use Rattle.wi_parser.specs.Lexeme.{Lexeme, numeral, open_mark, close_mark, infix_mark}
 use Rattle.wi_parser.specs.Reader.{atom, chain, line, expression}
 use Rattle.wi_parser.specs.FormulaText.{number_lexeme, formula_lexemes}
 use Rattle.wi_parser.specs.Reading.{judged, parsed, content_read}

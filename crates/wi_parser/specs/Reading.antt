@@ -1,5 +1,5 @@
 -- What a text is taken for: a formula, or the content of a cell.
-use Rattle.std.specs.Prelude.{◌≡◌, ℕ, ◌+◌, ◌≤◌, List, length, nat_lt, if◌then◌else◌, codes, Option, Some, None, option_map, is_some, Result, Ok, Err, ok_or}
+use Rattle.std.specs.Prelude.{◌≡◌, ℕ, ◌+◌, List, length, nat_lt, if◌then◌else◌, codes, Option, Some, None, option_map, is_some, Result, Ok, Err, ok_or}
 use Rattle.std.specs.List.{list_any}
 use Rattle.wi_values.specs.declared.value.Value.TheVariants.{Text}
 use Rattle.wi_values.specs.Import.{max_text, imported}

@@ -1,5 +1,5 @@
 -- The tree that an expression stands for.
-use Rattle.std.specs.Prelude.{ℕ, List, map}
+use Rattle.std.specs.Prelude.{map}
 use Rattle.wi_parser.specs.Tree.{Tree, number, cell, parenthesized, binary, what_if}
 use Rattle.wi_parser.specs.declared.expr.Expr.{Expr, fold-Expr}
 use Rattle.wi_parser.specs.declared.expr.Expr.TheOpen.{Expr-F}

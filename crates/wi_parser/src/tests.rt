@@ -4,8 +4,8 @@ use std::test::Fail;
 use wi_fraction::Fraction;
 use wi_values::{Address, Text, Value};
 
-/// One more than the greatest number.
-const TOO_LARGE: &str = "170141183460469231731687303715884105728";
+// A number one more than the greatest.
+const TOO_LARGE: &str = "=170141183460469231731687303715884105728";
 
 fn sign_of(op: Operator) -> char {
     match op {
@@ -179,91 +179,53 @@ fn cells_outside_and_numbers_too_large(rt: HostRuntime) -> Result<(), Fail> {
             "{text}"
         );
     }
-    let large = repeated(rt.alloc(), "=", TOO_LARGE, 1)?;
-    assert_eq!(rt;
-        fault(rt.alloc(), large.as_str()),
-        Some(ParseFault::NumberRange)
-    );
-    let both = repeated(rt.alloc(), large.as_str(), "+[.XFE1]", 1)?;
-    assert_eq!(rt;
-        fault(rt.alloc(), both.as_str()),
-        Some(ParseFault::OutOfSheet)
-    );
-    let cut = repeated(rt.alloc(), large.as_str(), "?[.XFE1]", 1)?;
-    assert_eq!(rt;
-        fault(rt.alloc(), cut.as_str()),
-        Some(ParseFault::NumberRange)
-    );
-    let deep = repeated(rt.alloc(), large.as_str(), "(", 65)?;
-    assert_eq!(rt;
-        fault(rt.alloc(), deep.as_str()),
-        Some(ParseFault::NumberRange)
-    );
+    for (part, count, want) in [
+        ("", 0, ParseFault::NumberRange),
+        ("+[.XFE1]", 1, ParseFault::OutOfSheet),
+        ("?[.XFE1]", 1, ParseFault::NumberRange),
+        ("(", 65, ParseFault::NumberRange),
+    ] {
+        let text = repeated(rt.alloc(), TOO_LARGE, part, count)?;
+        assert_eq!(rt; fault(rt.alloc(), text.as_str()), Some(want), "{text}");
+    }
     assert_eq!(rt; fault(rt.alloc(), "=1?[.XFE1]"), Some(ParseFault::Syntax));
     Ok(())
 }
 
 #[test]
+fn formulas_have_limits(rt: HostRuntime) -> Result<(), Fail> {
+    for (front, part, count, want) in [
+        ("=", "(", 65, ParseFault::TooDeep),
+        ("=?", "(", 65, ParseFault::Syntax),
+        ("=))", "(", 64, ParseFault::Syntax),
+        ("=))", "(", 65, ParseFault::TooDeep),
+        ("=1", "- +", 32, ParseFault::Syntax),
+        ("=1-", "- +", 32, ParseFault::TooDeep),
+        ("=1", " ", 4_095, ParseFault::TooLong),
+        ("of:=1", " ", 4_092, ParseFault::TooLong),
+        ("=[.XFE1]", " ", 4_092, ParseFault::TooLong),
+    ] {
+        let text = repeated(rt.alloc(), front, part, count)?;
+        assert_eq!(rt; fault(rt.alloc(), text.as_str()), Some(want));
+    }
+    for (front, part, count) in [
+        ("=1", " ", 4_094),
+        ("of:=1", " ", 4_091),
+        ("=1", "+1-2", 500),
+        ("=1", "+(1)", 1_000),
+    ] {
+        let text = repeated(rt.alloc(), front, part, count)?;
+        assert_eq!(rt; fault(rt.alloc(), text.as_str()), None);
+    }
+    Ok(())
+}
+
+#[test]
 fn parentheses_nest_to_a_limit(rt: HostRuntime) -> Result<(), Fail> {
-    let deepest = nested(rt.alloc(), 64)?;
-    parse(rt.alloc(), deepest.as_str())?;
-    let deeper = nested(rt.alloc(), 65)?;
-    assert_eq!(rt;
-        fault(rt.alloc(), deeper.as_str()),
-        Some(ParseFault::TooDeep)
-    );
-    let open = repeated(rt.alloc(), "=", "(", 65)?;
-    assert_eq!(rt; fault(rt.alloc(), open.as_str()), Some(ParseFault::TooDeep));
-    let behind = repeated(rt.alloc(), "=?", "(", 65)?;
-    assert_eq!(rt;
-        fault(rt.alloc(), behind.as_str()),
-        Some(ParseFault::Syntax)
-    );
-    let closed = repeated(rt.alloc(), "=))", "(", 64)?;
-    assert_eq!(rt;
-        fault(rt.alloc(), closed.as_str()),
-        Some(ParseFault::Syntax)
-    );
-    let opened = repeated(rt.alloc(), "=))", "(", 65)?;
-    assert_eq!(rt;
-        fault(rt.alloc(), opened.as_str()),
-        Some(ParseFault::TooDeep)
-    );
-    let side_by_side = repeated(rt.alloc(), "=1", "+(1)", 1_000)?;
-    parse(rt.alloc(), side_by_side.as_str())?;
-    Ok(())
-}
-
-#[test]
-fn signs_follow_each_other_to_a_limit(rt: HostRuntime) -> Result<(), Fail> {
-    let few = repeated(rt.alloc(), "=1", "- +", 32)?;
-    assert_eq!(rt; fault(rt.alloc(), few.as_str()), Some(ParseFault::Syntax));
-    let many = repeated(rt.alloc(), "=1-", "- +", 32)?;
-    assert_eq!(rt; fault(rt.alloc(), many.as_str()), Some(ParseFault::TooDeep));
-    let apart = repeated(rt.alloc(), "=1", "+1-2", 500)?;
-    parse(rt.alloc(), apart.as_str())?;
-    Ok(())
-}
-
-#[test]
-fn formulas_have_a_greatest_length(rt: HostRuntime) -> Result<(), Fail> {
-    let longest = repeated(rt.alloc(), "=1", " ", 4_094)?;
-    parse(rt.alloc(), longest.as_str())?;
-    let longer = repeated(rt.alloc(), "=1", " ", 4_095)?;
-    assert_eq!(rt;
-        fault(rt.alloc(), longer.as_str()),
-        Some(ParseFault::TooLong)
-    );
-    let prefixed = repeated(rt.alloc(), "of:=1", " ", 4_092)?;
-    assert_eq!(rt;
-        fault(rt.alloc(), prefixed.as_str()),
-        Some(ParseFault::TooLong)
-    );
-    let outside = repeated(rt.alloc(), "=[.XFE1]", " ", 4_092)?;
-    assert_eq!(rt;
-        fault(rt.alloc(), outside.as_str()),
-        Some(ParseFault::TooLong)
-    );
+    for (count, want) in [(64, None), (65, Some(ParseFault::TooDeep))] {
+        let text = nested(rt.alloc(), count)?;
+        assert_eq!(rt; fault(rt.alloc(), text.as_str()), want);
+    }
     Ok(())
 }
 
@@ -322,16 +284,15 @@ fn contents_that_are_constants(rt: HostRuntime) -> Result<(), Fail> {
 
 #[test]
 fn contents_have_a_greatest_length(rt: HostRuntime) -> Result<(), Fail> {
-    let longest = repeated(rt.alloc(), "'", "x", 32_767)?;
-    Content::read(rt.alloc(), longest.as_str())?;
-    let longer = repeated(rt.alloc(), "'", "x", 32_768)?;
-    let quoted = Content::read(rt.alloc(), longer.as_str()).err();
-    assert_eq!(rt; quoted, Some(ParseFault::TooLong));
-    let plain = repeated(rt.alloc(), "x", "x", 32_767)?;
-    assert_eq!(rt;
-        Content::read(rt.alloc(), plain.as_str()).err(),
-        Some(ParseFault::TooLong)
-    );
+    for (front, count, want) in [
+        ("'", 32_767, None),
+        ("'", 32_768, Some(ParseFault::TooLong)),
+        ("", 32_767, None),
+        ("", 32_768, Some(ParseFault::TooLong)),
+    ] {
+        let text = repeated(rt.alloc(), front, "x", count)?;
+        assert_eq!(rt; Content::read(rt.alloc(), text.as_str()).err(), want);
+    }
     Ok(())
 }
 

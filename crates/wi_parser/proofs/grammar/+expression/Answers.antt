@@ -1,5 +1,5 @@
-use Rattle.std.proofs.Common.{arith, ◌≡◌, ◌-◌, ℕ, suc, None, ap, sym, subst, refl}
-use Rattle.wi_parser.specs.Reader.{line, expression}
+use Rattle.std.proofs.Common.{arith, ◌≡◌, ◌-◌, suc, ap, sym, subst}
+use Rattle.wi_parser.specs.Reader.{expression}
 use Rattle.wi_parser.specs.Outcome.{Finds}
 use Rattle.wi_parser.proofs.grammar.+expression.Goals as goal
 

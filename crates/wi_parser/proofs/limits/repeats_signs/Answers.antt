@@ -1,6 +1,6 @@
-use Rattle.std.proofs.Common.{arith, ◌≡◌, ◌<◌, ◌≤◌, ℕ, suc, ◌∷◌, max, drop, drop-cons, refl, ap, sym, ◌∙◌, if◌then◌else◌}
+use Rattle.std.proofs.Common.{arith, ◌≡◌, suc, ◌∷◌, max, drop, drop-cons, refl, ap, sym, ◌∙◌, if◌then◌else◌}
 use Rattle.wi_parser.specs.Words.{all_meant}
-use Rattle.wi_parser.specs.Nesting.{most_signs, max_depth}
+use Rattle.wi_parser.specs.Nesting.{most_signs}
 use Rattle.wi_parser.proofs.Refusals.{least_signs}
 use Rattle.wi_parser.proofs.limits.repeats_signs.Goals as goal
 

@@ -1,4 +1,4 @@
-use Rattle.std.proofs.Common.{◌≡◌, Ok, Err, ap, sym, ◌∙◌, ok_or}
+use Rattle.std.proofs.Common.{Ok, Err, ap, sym, ◌∙◌, ok_or}
 use Rattle.std.proofs.lemmas.Result.{err_from_is_err_and}
 use Rattle.wi_parser.specs.declared.fault.ParseFault.TheVariants.{Syntax}
 use Rattle.wi_parser.specs.Words.{all_meant}

@@ -1,4 +1,4 @@
-use Rattle.std.proofs.Common.{◌≡◌, None, Some, option_map, ap, ◌∙◌, sym}
+use Rattle.std.proofs.Common.{Some, option_map, ap, ◌∙◌, sym}
 use Rattle.std.proofs.lemmas.Result.{err_from_is_err_and}
 use Rattle.wi_parser.specs.Reader.{read_then, then_close, atom, expression}
 use Rattle.wi_parser.specs.Tree.{parenthesized}
