@@ -66,18 +66,24 @@ impl Source for Given {
             return Err(DeviceFault);
         }
         self.left -= 1;
-        let mut given = 0;
         let wanted = self.next_len(buf.len());
-        while given < wanted && given < buf.len() && self.at < self.bytes.len() {
-            buf[given] = self.bytes[self.at];
-            self.at += 1;
-            given += 1;
+        let mut given = 0usize;
+        for slot in buf.iter_mut() {
+            if given >= wanted {
+                break;
+            }
+            match self.bytes.get(self.at) {
+                Some(byte) => *slot = *byte,
+                None => break,
+            }
+            self.at = self.at.saturating_add(1);
+            given = given.saturating_add(1);
         }
         if given == 0 && self.fails {
             self.failed = true;
             return Err(DeviceFault);
         }
-        Ok(given)
+        Ok(given.min(buf.len()))
     }
 
     fn left(&self) -> u64 {

@@ -3,7 +3,7 @@
 use crate::{Given, Taken};
 use std::alloc::Global;
 use std::test::Fail;
-use wi_cli::{RunFault, run};
+use wi_cli::{RunFault, Sink, Source, run};
 use wi_propagate::PlainCalculator;
 use wi_scenarios::Workbook;
 use wi_store::Limits;
@@ -24,6 +24,9 @@ pub fn run_between(
     limits: Limits,
 ) -> Result<Ran, Fail>
 {
+    if source.failed() || sink.failed() {
+        return Err(Fail::from("a device has failed before"));
+    }
     let mut book = Workbook::new(alloc, PlainCalculator::new(alloc, limits))?;
     let outcome = run(alloc, &mut source, &mut sink, &mut book);
     let replies = Vec::from_slice(alloc, sink.bytes())?;

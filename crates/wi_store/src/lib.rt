@@ -10,3 +10,6 @@ mod store;
 pub use fault::StoreFault;
 pub use limits::Limits;
 pub use store::Store;
+
+#[cfg(test)]
+mod tests;

@@ -21,7 +21,7 @@ use wi_values::Address;
 /// The contents of a sheet, with the count of accepted edits and the limits of both.
 #[derive(Drop)]
 pub struct Store {
-    // None is vacant but while an edit goes on.
+    // None of them is vacant but while an edit goes on.
     rooms: Rooms,
     edits: u64,
     limits: Limits,
@@ -82,6 +82,7 @@ impl Store {
         self.edits
     }
 
+    /// The limits that it was made with.
     pub fn limits(&self) -> Limits
         ensures { result ≡ self.now.limits }
     {
@@ -93,10 +94,9 @@ impl Store {
     /// `Full` if the sheet would then have more occupied cells than the limit, or else `EditLimit` if no more
     /// edits are accepted; `Memory` if memory runs out. After each of them all is as before. The work for each
     /// pair grows with the logarithm of the count of occupied cells.
-    pub fn apply(&mut self, changes: Vec<(Address, Option<Content>)>) -> Result<(), StoreFault>
+    pub fn apply(&mut self, mut changes: Vec<(Address, Option<Content>)>) -> Result<(), StoreFault>
         ensures { Applies (applied self.old changes.items) result self.old self.new }
     {
-        let mut changes = changes;
         settle(&mut changes);
         let answer = edit(&mut self.rooms, &self.limits, self.edits, &mut changes);
         release(&mut self.rooms, &changes);
