@@ -80,9 +80,10 @@ cell_end n s a (WhatIf f pairs) h e = absurd h
 
 what_if_end : (n : ℕ) (s : Sheet) (f : Reference) (ps : List (Reference × Reference)) (w : Want) → WantsWhatIf w f.at ps → ReadsEnd n s (what_if f ps) → WantEnds n s w
 what_if_end n s f ps (Cell b) h e = absurd h
-what_if_end n s f ps (WhatIf g pairs) h e =
-    (ap (has_walk n s) h.0 ∙ e f.at (or_left (f.at == f.at) _ (eq-eqb f.at f.at refl)),
-    replacing_end n s pairs.items (λ a m. e a (or_right (f.at == a) _ (ap (λ (qs : List (Reference × Reference)). list_any (λ (p : Reference × Reference). p.1.at == a) qs) (sym h.1) ∙ m))))
+what_if_end n s f ps (WhatIf g pairs) h e = (
+  ap (has_walk n s) h.0 ∙ e f.at (or_left (f.at == f.at) _ (eq-eqb f.at f.at refl)),
+  replacing_end n s pairs.items (λ a m. e a (or_right (f.at == a) _ (ap (λ (qs : List (Reference × Reference)). list_any (λ (p : Reference × Reference). p.1.at == a) qs) (sym h.1) ∙ m))),
+)
 
 pub asked_end : (t : Tree) (n : ℕ) (s : Sheet) (w : Want) → ReadsEnd n s t → Asks t w → WantEnds n s w
 asked_end (number x) n s w e h = absurd h

@@ -68,7 +68,7 @@ fewer_what_if (binary op t u) g k m w v h i (inr q) e z =
     omega arith
 fewer_what_if (what_if f ps) g k m w v h i q e z =
     let there : (u : WhatIfs) → u g.at (pairs_of g) ≡ u f.at (map addresses ps) =
-      λ u. ap (λ (n : ℕ). u n (pairs_of g)) q.0 ∙ ap (λ (rs : List (Reference × Reference)). u f.at (map addresses rs)) q.1 in
+    λ u. ap (λ (n : ℕ). u n (pairs_of g)) q.0 ∙ ap (λ (rs : List (Reference × Reference)). u f.at (map addresses rs)) q.1 in
     falls (w f.at (map addresses ps)) (v f.at (map addresses ps)) (sym (there w) ∙ e) (ap one_missing (sym (there v)) ∙ z)
 
 keeps_cell : (fs : List FoundCell) (g : FoundCell) → KeepsCells (find_cell fs) (find_cell (fs ++ g ∷ []))

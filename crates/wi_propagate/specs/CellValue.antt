@@ -28,7 +28,7 @@ value_within zero s c =
     if circular s c then Fault Circular else value_of (content_of s c) (λ t. Fault Circular)
 value_within (suc k) s c =
     if circular s c then Fault Circular else value_of (content_of s c) (λ t.
-        zero_for_empty (meaning t (value_within k s) (λ f pairs. value_within k (put_all s (replacements (value_within k s) pairs)) f)))
+    zero_for_empty (meaning t (value_within k s) (λ f pairs. value_within k (put_all s (replacements (value_within k s) pairs)) f)))
 
 -- a cell's value: as many formulas as the sheet has can stand one below the other
 unfoldable pub cell_value : Sheet → ℕ → Value

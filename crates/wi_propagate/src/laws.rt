@@ -6,13 +6,11 @@ ghost use Rattle.wi_propagate.specs.Laws.{BoundIsNeverFelt, ValueByStep, Circula
 pub fn value_by_step()
     ensures bound { BoundIsNeverFelt }
     ensures step { ValueByStep }
-{
-}
+{}
 
 /// A cell is circular exactly where it reads one that is, and replacements make none so.
 pub fn circular_from_reads()
     ensures above { CircularIsAbove }
     ensures reads { CircularReadsCircular }
     ensures puts { PutsMakeNoCycle }
-{
-}
+{}

@@ -113,8 +113,18 @@ fn what_ifs(alloc: Global) -> Result<PlainCalculator, Fail> {
     let thrice = binary(alloc, Operator::Multiply, read(0, 1)?, number(3)?)?;
     set_formula(alloc, &mut calculator, cell(1, 1)?, thrice)?;
     set_number(alloc, &mut calculator, cell(3, 0)?, 7)?;
-    set_formula(alloc, &mut calculator, cell(3, 2)?, what_if(alloc, (1, 1), (0, 1), (3, 0))?)?;
-    set_formula(alloc, &mut calculator, cell(3, 3)?, what_if(alloc, (3, 2), (3, 0), (0, 1))?)?;
+    set_formula(
+        alloc,
+        &mut calculator,
+        cell(3, 2)?,
+        what_if(alloc, (1, 1), (0, 1), (3, 0))?,
+    )?;
+    set_formula(
+        alloc,
+        &mut calculator,
+        cell(3, 3)?,
+        what_if(alloc, (3, 2), (3, 0), (0, 1))?,
+    )?;
     Ok(calculator)
 }
 
@@ -152,7 +162,10 @@ fn values_under_replacements(rt: HostRuntime) -> Result<(), Fail> {
         at: cell(1, 1)?,
         value: Value::Text(Text::from_str(alloc, "low")?),
     }];
-    assert_eq!(rt; calculator.value(&text, cell(3, 2)?)?, Value::Text(Text::from_str(alloc, "low")?));
+    assert_eq!(rt;
+        calculator.value(&text, cell(3, 2)?)?,
+        Value::Text(Text::from_str(alloc, "low")?)
+    );
     Ok(())
 }
 
@@ -172,8 +185,14 @@ fn cycles(rt: HostRuntime) -> Result<(), Fail> {
     }];
     for column in 0..3 {
         let at = cell(0, column)?;
-        assert_eq!(rt; shown(&mut calculator, at)?, Value::Fault(ErrorKind::Circular));
-        assert_eq!(rt; calculator.value(&put, at)?, Value::Fault(ErrorKind::Circular));
+        assert_eq!(rt;
+            shown(&mut calculator, at)?,
+            Value::Fault(ErrorKind::Circular)
+        );
+        assert_eq!(rt;
+            calculator.value(&put, at)?,
+            Value::Fault(ErrorKind::Circular)
+        );
     }
     assert_eq!(rt; shown(&mut calculator, cell(0, 3)?)?, value(5, 1)?);
     set_number(alloc, &mut calculator, cell(0, 1)?, 2)?;
@@ -195,6 +214,9 @@ fn chain_of_200(rt: HostRuntime) -> Result<(), Fail> {
     assert_eq!(rt; shown(&mut calculator, cell(0, 0)?)?, value(205, 1)?);
     assert_eq!(rt; calculator.evaluations(), 200);
     set_formula(alloc, &mut calculator, cell(200, 0)?, read(0, 0)?)?;
-    assert_eq!(rt; shown(&mut calculator, cell(0, 0)?)?, Value::Fault(ErrorKind::Circular));
+    assert_eq!(rt;
+        shown(&mut calculator, cell(0, 0)?)?,
+        Value::Fault(ErrorKind::Circular)
+    );
     Ok(())
 }

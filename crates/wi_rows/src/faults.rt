@@ -49,6 +49,9 @@ fn keeps_within_limits(rt: HostRuntime) -> Result<(), Fail> {
     let limits = Limits { cells: 2, edits: 3 };
     let ran = run_between(rt.alloc(), source, sink, limits)?;
     assert!(rt; ran.outcome.is_ok());
-    assert!(rt; ran.replies.as_slice() == b"ok\nok\nrefused E09\nok\nrefused E17\n\"2\",\"1\",\"\"\r\nok\n".as_slice());
+    assert!(rt;
+        ran.replies.as_slice()
+            == b"ok\nok\nrefused E09\nok\nrefused E17\n\"2\",\"1\",\"\"\r\nok\n".as_slice()
+    );
     Ok(())
 }

@@ -17,7 +17,11 @@ fn expect(rt: &impl Abort, alloc: Global, script: &[u8], replies: &[u8]) -> Resu
         let ran = run_between(alloc, source, sink, Limits::standard())?;
         assert!(rt; ran.outcome.is_ok(), "in pieces of {piece}");
         assert!(rt; ran.flushed, "in pieces of {piece}");
-        assert!(rt; ran.replies.as_slice() == replies, "in pieces of {piece}: {}", ran.replies.len());
+        assert!(rt;
+            ran.replies.as_slice() == replies,
+            "in pieces of {piece}: {}",
+            ran.replies.len()
+        );
     }
     Ok(())
 }
@@ -89,12 +93,42 @@ fn long_line(alloc: Global, word: &str, byte: u8, count: usize) -> Result<Vec<u8
 
 #[test]
 fn refuses_what_is_too_long(rt: HostRuntime) -> Result<(), Fail> {
-    expect(&rt, rt.alloc(), &long_line(rt.alloc(), "#", b'x', 65_536)?, b"refused E03\n")?;
-    expect(&rt, rt.alloc(), &long_line(rt.alloc(), "#", b'x', 65_535)?, b"")?;
-    expect(&rt, rt.alloc(), &long_line(rt.alloc(), "set A1 '", b'x', 32_768)?, b"refused E08\n")?;
-    expect(&rt, rt.alloc(), &long_line(rt.alloc(), "set A1 '", b'x', 32_767)?, b"ok\n")?;
-    expect(&rt, rt.alloc(), &long_line(rt.alloc(), "set A2 =1", b' ', 4_094)?, b"ok\n")?;
-    expect(&rt, rt.alloc(), &long_line(rt.alloc(), "set A2 =1", b' ', 4_095)?, b"refused E08\n")
+    expect(
+        &rt,
+        rt.alloc(),
+        &long_line(rt.alloc(), "#", b'x', 65_536)?,
+        b"refused E03\n",
+    )?;
+    expect(
+        &rt,
+        rt.alloc(),
+        &long_line(rt.alloc(), "#", b'x', 65_535)?,
+        b"",
+    )?;
+    expect(
+        &rt,
+        rt.alloc(),
+        &long_line(rt.alloc(), "set A1 '", b'x', 32_768)?,
+        b"refused E08\n",
+    )?;
+    expect(
+        &rt,
+        rt.alloc(),
+        &long_line(rt.alloc(), "set A1 '", b'x', 32_767)?,
+        b"ok\n",
+    )?;
+    expect(
+        &rt,
+        rt.alloc(),
+        &long_line(rt.alloc(), "set A2 =1", b' ', 4_094)?,
+        b"ok\n",
+    )?;
+    expect(
+        &rt,
+        rt.alloc(),
+        &long_line(rt.alloc(), "set A2 =1", b' ', 4_095)?,
+        b"refused E08\n",
+    )
 }
 
 #[test]
@@ -105,7 +139,12 @@ fn reads_lines_and_words_as_the_manual_says(rt: HostRuntime) -> Result<(), Fail>
         b"frob\n\n   \n# a comment\n #\n  set   a1 7\r\nset A2 \nset A2  \nset A3    \nshow  A1:A3  \nshow A1 A2\nset A4 'x\"y\nshow A4",
         b"refused E02\nrefused E02\nok\nrefused E02\nok\nok\n\"7\"\r\n\" \"\r\n\"   \"\r\nok\nrefused E02\nok\n\"x\"\"y\"\r\nok\n",
     )?;
-    expect(&rt, rt.alloc(), b"show \xff\nshow A1:IV257\n", b"refused E03\nrefused E15\n")
+    expect(
+        &rt,
+        rt.alloc(),
+        b"show \xff\nshow A1:IV257\n",
+        b"refused E03\nrefused E15\n",
+    )
 }
 
 #[test]

@@ -22,8 +22,7 @@ pub fn run_between(
     mut source: Given,
     mut sink: Taken,
     limits: Limits,
-) -> Result<Ran, Fail>
-{
+) -> Result<Ran, Fail> {
     if source.failed() || sink.failed() {
         return Err(Fail::from("a device has failed before"));
     }

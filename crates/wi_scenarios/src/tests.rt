@@ -9,10 +9,7 @@ use wi_values::{Address, Rect};
 
 // A new workbook within limits.
 fn workbook(alloc: Global, limits: Limits) -> Result<Workbook<PlainCalculator>, Fail> {
-    Ok(Workbook::new(
-        alloc,
-        PlainCalculator::new(alloc, limits),
-    )?)
+    Ok(Workbook::new(alloc, PlainCalculator::new(alloc, limits))?)
 }
 
 // What is answered where a content is put into a cell.

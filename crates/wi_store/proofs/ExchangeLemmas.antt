@@ -120,7 +120,7 @@ sheet_in-make a (e ∷ es) r =
     ⊎_elim (λ p. let n : room_of (e ∷ es) a ≡ Some e.1 = rw (is_at_equal a e.0 p) refl in cc)
     (⊎_elim (λ l. rw (cmp_before a e.0 l) refl)
     (λ l. rw (cmp_after a e.0 l) (sheet_in-cons e.0 e.1 (insert_entry nat_cmp es a None)
-        ∙ ap (λ (s : Sheet). with_front e.0 e.1 s) (sheet_in-make a es (rw (is_at_earlier a e.0 l) at r)) ∙ sym (sheet_in-cons e.0 e.1 es))))
+    ∙ ap (λ (s : Sheet). with_front e.0 e.1 s) (sheet_in-make a es (rw (is_at_earlier a e.0 l) at r)) ∙ sym (sheet_in-cons e.0 e.1 es))))
     (cases_order a e.0)
 
 -- a vacant room taken away takes nothing from the sheet
@@ -193,7 +193,7 @@ Ascends-with_content a o [] h = rw (with_content-after a o [] tt) (Ascends-front
 Ascends-with_content a o (e ∷ es) h =
     ⊎_elim (λ p. subst (λ (b : ℕ). Ascends (with_content (e ∷ es) b o)) (sym p) (rw (with_content-here e.0 e.1 o es h.0) (Ascends-front e.0 o es h.0 h.1)))
     (⊎_elim (λ l. let f : ComeAfter a (e ∷ es) = (l, come_after_earlier a e.0 es l h.0) in
-        rw (with_content-after a o (e ∷ es) f) (Ascends-front a o (e ∷ es) f h))
+    rw (with_content-after a o (e ∷ es) f) (Ascends-front a o (e ∷ es) f h))
     (λ l. rw (with_content-later a e.0 e.1 o es l) (ComeAfter-with_content e.0 a o es l h.0, Ascends-with_content a o es h.1)))
     (cases_order a e.0)
 

@@ -151,7 +151,7 @@ formula_cells-own : (s : Sheet) → Ascends s → formula_cells s ≡ own_formul
 formula_cells-own [] h = refl
 formula_cells-own (e ∷ es) h =
     let later : filter (λ c. has_formula (content_of (e ∷ es) c)) (keys_of es) ≡ own_formulas es =
-        filter_same _ _ (keys_of es) (same_later has_formula e.0 e.1 es es h.0) ∙ formula_cells-own es h.1 in
+    filter_same _ _ (keys_of es) (same_later has_formula e.0 e.1 es es h.0) ∙ formula_cells-own es h.1 in
     rw (is_at_same e.0, later) (by (has_formula (Some e.1)))
   where
     by : (b : Bool) → cond b (e.0 ∷ own_formulas es) (own_formulas es) ≡ keys_of (cond b (e ∷ filter (λ e. has_formula (Some e.1)) es) (filter (λ e. has_formula (Some e.1)) es))

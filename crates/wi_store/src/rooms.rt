@@ -21,11 +21,7 @@ pub(crate) type Rooms = BTreeMap<Address, Option<Content>>;
 pub(crate) type Change = (Address, Option<Content>);
 
 /// Makes a room for a cell that gets a content and has none, and answers how many it made.
-fn make_one(
-    rooms: &mut Rooms,
-    at: Address,
-    content: &Option<Content>,
-) -> Result<usize, AllocError>
+fn make_one(rooms: &mut Rooms, at: Address, content: &Option<Content>) -> Result<usize, AllocError>
     ensures sheet { sheet_in rooms.new.entries ≡ sheet_in rooms.old.entries }
     ensures order { IsInOrder rooms.old.entries → IsInOrder rooms.new.entries }
     ensures vacant { (c : ℕ) → room_of rooms.new.entries c ≡ Some None

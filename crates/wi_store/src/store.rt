@@ -10,8 +10,8 @@ ghost use Rattle.wi_store.specs.Exchange.{admitted};
 
 use crate::fault::StoreFault;
 use crate::limits::Limits;
+use crate::rooms::{Change, Rooms, exchange_all, exchange_back, make_room, release};
 use crate::settle::settle;
-use crate::rooms::{exchange_all, exchange_back, make_room, release, Change, Rooms};
 use std::alloc::{AllocError, Global};
 use std::collections::BTreeMap;
 use std::marker::Model;

@@ -83,6 +83,6 @@ what_if_value-returns t c =
     let more = show.replacements (show.cell_value (put_all s p)) (map addresses (map pair_of c.args.pairs.now)) in
     let whole : take c.loop-pair.pair-index c.args.pairs.now ≡ c.args.pairs.now = grind (arith, common_steps) in
     let all : c.deref.result.now ≡ p ++ more =
-      c.deref.ensures.value ∙ c.loop-pair.invariant ∙ ap (λ (ps : List Pair). p ++ show.replacements (show.cell_value (put_all s p)) (map addresses (map pair_of ps))) whole in
+    c.deref.ensures.value ∙ c.loop-pair.invariant ∙ ap (λ (ps : List Pair). p ++ show.replacements (show.cell_value (put_all s p)) (map addresses (map pair_of ps))) whole in
     let e = ap (λ (rs : List Replacement). show.cell_value (put_all s rs) c.args.at) all ∙ ap (λ (u : Sheet). show.cell_value u c.args.at) (put_all-append s p more) in
     IfOk-weaker c.value_under-2.result _ _ (λ v h. h ∙ e) c.value_under-2.ensures

@@ -15,7 +15,7 @@ returns-in-Some-clause-sheet c =
     ap (λ (r : Rooms). sheet_in r) (c.get_mut.follows.holds c.swap.new.x).0
     ∙ ap (λ (o : Option Content). sheet_in (set_value (is_at (nat_cmp c.args.at)) c.args.rooms.now.entries o)) c.swap.ensures.x_after
     ∙ sheet_in-set_value c.args.at c.in-Some.room.now c.args.content.now c.args.rooms.now.entries
-        (Ascends-from_order c.args.rooms.now.entries c.requires.order) (sym c.in-Some.ensures.value)
+    (Ascends-from_order c.args.rooms.now.entries c.requires.order) (sym c.in-Some.ensures.value)
 
 pub returns-in-Some-clause-stood : goal.returns-in-Some-clause-stood
 returns-in-Some-clause-stood c =

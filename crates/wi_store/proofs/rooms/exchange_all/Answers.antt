@@ -8,8 +8,11 @@ use Rattle.wi_store.proofs.rooms.exchange_all.Goals as goal
 
 pub overflow_add-occupied : goal.overflow_add-occupied
 overflow_add-occupied c =
-    omega (arith, count_fits c.loop-change.rooms.entries c.loop-change.occupied c.len.result c.from-occupied.result c.is_some.result
-    c.loop-change.invariant.occupied (c.loop-change.invariant.rooms ∙ sym c.len.ensures.len) c.len.ensures.small c.from-occupied.ensures)
+    omega (
+      arith,
+      count_fits c.loop-change.rooms.entries c.loop-change.occupied c.len.result c.from-occupied.result c.is_some.result
+          c.loop-change.invariant.occupied (c.loop-change.invariant.rooms ∙ sym c.len.ensures.len) c.len.ensures.small c.from-occupied.ensures,
+    )
 
 pub exchange-requires-clause-room : goal.exchange-requires-clause-room
 exchange-requires-clause-room c = c.loop-change.invariant.room c.loop-change.change-index c.change-item.result (omega arith)
@@ -19,9 +22,9 @@ loop-change-preserved c =
     let below : c.loop-change.change-index < length c.loop-change.changes = omega arith in
     let order = Ascends-from_order c.loop-change.rooms.entries c.loop-change.invariant.order in
     let counted = counted_more (sheet_in c.loop-change.rooms.entries) (sheet_in c.exchange.new.rooms.entries) _ _ c.exchange.new.content
-        c.loop-change.occupied c.from-occupied.result c.from-occupied-in-loop-change.result c.is_some.result c.is_some-in-loop-change.result
-        (Ascends-sheet_in c.loop-change.rooms.entries order) c.exchange.ensures.sheet c.exchange.ensures.stood c.loop-change.invariant.occupied
-        c.from-occupied.ensures c.is_some.ensures c.from-occupied-in-loop-change.ensures c.is_some-in-loop-change.ensures in
+    c.loop-change.occupied c.from-occupied.result c.from-occupied-in-loop-change.result c.is_some.result c.is_some-in-loop-change.result
+    (Ascends-sheet_in c.loop-change.rooms.entries order) c.exchange.ensures.sheet c.exchange.ensures.stood c.loop-change.invariant.occupied
+    c.from-occupied.ensures c.is_some.ensures c.from-occupied-in-loop-change.ensures c.is_some-in-loop-change.ensures in
     record {
       sheet = edited_more (sheet_in c.loop-change.rooms.entries) (sheet_in c.exchange.new.rooms.entries)
           (edited (sheet_in c.args.rooms.now.entries) c.args.changes.now)
@@ -37,4 +40,5 @@ loop-change-preserved c =
           c.loop-change.rooms.entries c.exchange.new.rooms.entries order c.exchange.ensures.kept c.exchange.ensures.stood c.loop-change.invariant.room;
       vacant = rw (keys_of-set c.loop-change.changes c.loop-change.change-index c.change-item.result c.exchange.new.content)
           (vacant_more c.loop-change.changes c.loop-change.change-index c.change-item.result
-          c.loop-change.rooms.entries c.exchange.new.rooms.entries below c.exchange.ensures.others c.loop-change.invariant.vacant) }
+          c.loop-change.rooms.entries c.exchange.new.rooms.entries below c.exchange.ensures.others c.loop-change.invariant.vacant);
+    }

@@ -14,4 +14,5 @@ invariant-loop-change l = record {
   rooms : length l.rooms.entries ≡ length l.initial.rooms.entries;
   order : IsInOrder l.rooms.entries;
   room : All (HasRoomFor l.rooms.entries) l.changes;
-  vacant : VacantOnlyAt (keys_of l.changes) l.rooms.entries }
+  vacant : VacantOnlyAt (keys_of l.changes) l.rooms.entries;
+}

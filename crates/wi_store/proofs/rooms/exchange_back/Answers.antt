@@ -21,4 +21,5 @@ loop-i-preserved c =
           (Ascends-from_order c.loop-i.rooms.entries c.loop-i.invariant.order) c.exchange.ensures.kept c.exchange.ensures.stood c.loop-i.invariant.room;
       vacant = rw (keys_of-set c.loop-i.changes (c.loop-i.i - 1) c.index-changes-i.result c.exchange.new.content)
           (vacant_more c.loop-i.changes (c.loop-i.i - 1) c.index-changes-i.result c.loop-i.rooms.entries c.exchange.new.rooms.entries
-          below c.exchange.ensures.others c.loop-i.invariant.vacant) }
+          below c.exchange.ensures.others c.loop-i.invariant.vacant);
+    }

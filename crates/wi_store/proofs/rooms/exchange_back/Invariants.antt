@@ -10,4 +10,5 @@ invariant-loop-i l = record {
   sheet : restored (sheet_in l.rooms.entries) (take l.i l.changes) ≡ restored (sheet_in l.initial.rooms.entries) l.initial.changes;
   order : IsInOrder l.rooms.entries;
   room : All (HasRoomFor l.rooms.entries) l.changes;
-  vacant : VacantOnlyAt (keys_of l.changes) l.rooms.entries }
+  vacant : VacantOnlyAt (keys_of l.changes) l.rooms.entries;
+}

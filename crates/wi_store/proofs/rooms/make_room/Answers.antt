@@ -8,14 +8,15 @@ use Rattle.wi_store.proofs.rooms.make_room.Goals as goal
 pub loop-at-init : goal.loop-at-init
 loop-at-init c =
     let all : length (sheet_in c.args.rooms.now.entries) ≡ length c.args.rooms.now.entries =
-        length-sheet_in c.args.rooms.now.entries (Ascends-from_order c.args.rooms.now.entries c.requires.order) c.requires.full in
+    length-sheet_in c.args.rooms.now.entries (Ascends-from_order c.args.rooms.now.entries c.requires.order) c.requires.full in
     record {
       sheet = refl;
       order = c.requires.order;
       vacant = vacant_none _ c.args.rooms.now.entries c.requires.full;
       room = λ k d l. absurd (omega arith);
       made = omega arith;
-      small = omega arith }
+      small = omega arith;
+    }
 
 pub returns-in_err-made-clause-vacant : goal.returns-in_err-made-clause-vacant
 returns-in_err-made-clause-vacant c =
@@ -36,7 +37,8 @@ loop-at-preserved c =
       made =
           let same : length (sheet_in c.make_one.new.rooms.entries) ≡ length (sheet_in c.loop-at.rooms.entries) = ap length c.make_one.ensures.sheet in
           omega (arith, c.in_ok-made.ensures.made.1);
-      small = omega (arith, c.in_ok-made.ensures.made.0) }
+      small = omega (arith, c.in_ok-made.ensures.made.0);
+    }
 
 pub returns-clause-room : goal.returns-clause-room
 returns-clause-room c = λ k d l. c.loop-at.invariant.room k d (omega arith)

@@ -11,4 +11,5 @@ invariant-loop-at l = record {
   vacant : VacantOnlyAt (keys_of l.changes) l.rooms.entries;
   room : (k : ℕ) (d : ℕ × Option Content) → k < l.at-index → HasRoomFor l.rooms.entries (get_or l.changes k d);
   made : length l.rooms.entries ≡ length (sheet_in l.rooms.entries) + l.made;
-  small : l.made ≤ l.at-index }
+  small : l.made ≤ l.at-index;
+}

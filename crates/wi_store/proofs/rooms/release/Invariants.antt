@@ -7,4 +7,5 @@ abbrev pub invariant-loop-at : goal.invariant-loop-at
 invariant-loop-at l = record {
   sheet : sheet_in l.rooms.entries ≡ sheet_in l.initial.rooms.entries;
   order : IsInOrder l.rooms.entries;
-  vacant : VacantOnlyAt (keys_of (drop l.at-index l.changes)) l.rooms.entries }
+  vacant : VacantOnlyAt (keys_of (drop l.at-index l.changes)) l.rooms.entries;
+}

@@ -19,5 +19,5 @@ returns-then-is_err-clause-refused c =
     ∙ ap (λ (s : Sheet). restored s c.exchange_all-occupied.new.changes) c.exchange_all-occupied.ensures.sheet
     ∙ ap (λ (es : List (ℕ × Option Content)). restored (edited (sheet_in c.make_room.new.rooms.entries) c.args.changes.now) es) c.exchange_all-occupied.ensures.stood
     ∙ restored-stood (sheet_in c.make_room.new.rooms.entries) c.args.changes.now
-        (Ascends-sheet_in c.make_room.new.rooms.entries (Ascends-from_order c.make_room.new.rooms.entries c.make_room.ensures.order))
+    (Ascends-sheet_in c.make_room.new.rooms.entries (Ascends-from_order c.make_room.new.rooms.entries c.make_room.ensures.order))
     ∙ c.make_room.ensures.sheet)
