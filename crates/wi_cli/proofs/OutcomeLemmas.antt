@@ -1,11 +1,12 @@
 -- A run of a script so far, and how it may end.
-use Rattle.std.proofs.Common.{◌≡◌, ℕ, ◌+◌, ◌<◌, ◌≤◌, Bool, true, false, ◌||◌, cond, eqb, ltb, List, [], ◌∷◌, ◌++◌, length, refl, sym, ap, ◌∙◌, subst, Option, None, Some, Result, Ok, Err, append_assoc, append-nil, length-append, arith}
+use Rattle.std.proofs.Common.{◌≡◌, ℕ, ◌+◌, ◌-◌, ◌<◌, ◌≤◌, Bool, true, false, ◌||◌, cond, eqb, ltb, List, [], ◌∷◌, ◌++◌, length, take, refl, sym, ap, ◌∙◌, subst, Option, None, Some, Result, Ok, Err, append_assoc, append-nil, length-append, arith}
 use Rattle.std.specs.List.{concat}
 use Rattle.std.specs.Option.{option_to_list}
 use Rattle.std.specs.Io.KnownBytes.{Appends, Keeps, Consumes, IsAtEnd, prepend_known}
 use Rattle.std.proofs.KnownBytes.{Appends-trans, Appends-nil}
 use Rattle.std.specs.Str.{is_utf8, chars}
-use Rattle.std.proofs.lemmas.List.{take_at}
+use Rattle.std.proofs.lemmas.List.{take_at, take_all}
+use Rattle.std.proofs.Math.Seq.{take-append-add}
 use Rattle.std.proofs.lemmas.Bool.{ltb-true, ltb-false}
 use Rattle.wi_cli.specs.declared.fault.RunFault.{RunFault}
 use Rattle.wi_cli.specs.declared.fault.RunFault.TheVariants.{Memory, Read, Write, ScriptLimit}
@@ -139,6 +140,15 @@ limited_at : (ls more : List (List ℕ)) → length ls ≡ 1000000 → limited (
 unfolding limited
 limited_at ls more h = take_at ls more 1000000 h
 
+-- lines within the limit, and what follows them
+limited_all : (ls : List (List ℕ)) → length ls ≤ 1000000 → limited ls ≡ ls
+unfolding limited
+limited_all ls h = take_all 1000000 ls h
+
+limited_more : (ls more : List (List ℕ)) (k : ℕ) → length ls + k ≡ 1000000 → limited (ls ++ more) ≡ ls ++ take k more
+unfolding limited
+limited_more ls more k h = ap (λ n. take n (ls ++ more)) (sym h) ∙ take-append-add ls more k
+
 -- ---- the ends of a run
 
 Appends-kept : (a b c : Option (List ℕ)) (xs : List ℕ) → Appends a b xs → Keeps b c → Appends a c xs
@@ -190,13 +200,22 @@ ends_ok left b p c q s m t w x y z count allowed may most h k e u =
 pub ends_flush : (left : Option (List ℕ)) (b : List ℕ) (p : Option (List ℕ)) (c : List ℕ) (q : Option (List ℕ)) (s m t : State) (w x y z : Option (List ℕ)) (count : ℕ) (allowed : Bool)
     → (allowed ≡ true → count < 1000000) → count ≤ 1000000
     → IsGoing left b p s m w x count → Turned allowed false b p c q m t x y → Keeps y z → Ends (Err Write) left q s t w z
+unfolding all_commands
 ends_flush left b p c q s m t w x y z count allowed may most h k e =
     let o = over left b p c q s m t w x y count allowed may most h k in (
       o.input,
       o.out,
       o.taken,
       Appends-kept w y z o.out o.written e,
-      record { served = all_commands o.input; others = []; whole = o.out; unwritten = []; first = sym (append-nil (all_commands o.input)); writes = o.writes; front = sym (append-nil o.out) },
+      record {
+        served = all_commands o.input;
+        others = [];
+        whole = o.out;
+        unwritten = [];
+        first = ap commands (limited_all (raw_lines o.input) o.few) ∙ sym (append-nil (all_commands o.input));
+        writes = o.writes;
+        front = sym (append-nil o.out);
+      },
     )
 
 pub ends_read : (left : Option (List ℕ)) (b : List ℕ) (p : Option (List ℕ)) (c : List ℕ) (q : Option (List ℕ)) (s m t : State) (w x y : Option (List ℕ)) (count : ℕ) (allowed : Bool)
@@ -247,29 +266,33 @@ ends_limit left b p c q s m t w x y count allowed may most h k same kept =
     )
 
 -- the commands of what was taken begin with those served
-cut_said : (left : Option (List ℕ)) (b : List ℕ) (p : Option (List ℕ)) (c : List ℕ) (q : Option (List ℕ)) (s m : State) (w x : Option (List ℕ)) (count : ℕ) (content : List ℕ)
-    → (h : IsGoing left b p s m w x count) → is_whole content ≡ false
-    → all_commands ((concat h.lines ++ raw true content) ++ c) ≡ (h.served ++ option_to_list (line_command content)) ++ commands (raw_lines c)
-unfolding all_commands
-cut_said left b p c q s m w x count content h no_lf =
+cut_said : (left : Option (List ℕ)) (b : List ℕ) (p : Option (List ℕ)) (c : List ℕ) (q : Option (List ℕ)) (s m : State) (w x : Option (List ℕ)) (count k : ℕ) (content : List ℕ)
+    → (h : IsGoing left b p s m w x count) → is_whole content ≡ false → (count + 1) + k ≡ 1000000
+    → commands (limited (raw_lines ((concat h.lines ++ raw true content) ++ c))) ≡ (h.served ++ option_to_list (line_command content)) ++ commands (take k (raw_lines c))
+cut_said left b p c q s m w x count k content h no_lf room =
     let line = raw true content in
+    let lines : List (List ℕ) = h.lines ++ line ∷ [] in
     let served = subst (λ z. AreServed (h.lines ++ line ∷ []) (h.served ++ option_to_list (line_command z))) (without_lf-raw true content no_lf)
     (AreServed-push h.lines h.served line h.are_served) in
-    ap (λ z. commands (raw_lines (z ++ c))) (sym (concat_push h.lines line))
-    ∙ ap commands (AreWhole-push h.lines content no_lf h.are_lines c)
-    ∙ served (raw_lines c)
+    let counted : length lines + k ≡ 1000000 = omega (arith, length-append h.lines (line ∷ []), h.counted) in
+    ap (λ z. commands (limited (raw_lines (z ++ c)))) (sym (concat_push h.lines line))
+    ∙ ap (λ z. commands (limited z)) (AreWhole-push h.lines content no_lf h.are_lines c)
+    ∙ ap commands (limited_more lines (raw_lines c) k counted)
+    ∙ served (take k (raw_lines c))
 
 cut_end_said : (left : Option (List ℕ)) (b : List ℕ) (p : Option (List ℕ)) (s m : State) (w x : Option (List ℕ)) (count : ℕ) (content : List ℕ)
-    → (h : IsGoing left b p s m w x count) → is_whole content ≡ false
-    → all_commands (concat h.lines ++ content) ≡ (h.served ++ option_to_list (line_command content)) ++ []
-unfolding all_commands
-cut_end_said left b p s m w x count content h no_lf =
-    ap commands (h.are_lines content) ∙ h.are_served (raw_lines content) ∙ ap (λ z. h.served ++ z) (last_commands content no_lf)
+    → (h : IsGoing left b p s m w x count) → is_whole content ≡ false → count + length (raw_lines content) ≤ 1000000
+    → commands (limited (raw_lines (concat h.lines ++ content))) ≡ (h.served ++ option_to_list (line_command content)) ++ []
+cut_end_said left b p s m w x count content h no_lf few =
+    let all : length (h.lines ++ raw_lines content) ≤ 1000000 = omega (arith, length-append h.lines (raw_lines content), h.counted) in
+    ap (λ z. commands (limited z)) (h.are_lines content) ∙ ap commands (limited_all (h.lines ++ raw_lines content) all)
+    ∙ h.are_served (raw_lines content) ∙ ap (λ z. h.served ++ z) (last_commands content no_lf)
     ∙ sym (append-nil (h.served ++ option_to_list (line_command content)))
 
 pub ends_write : (left : Option (List ℕ)) (b : List ℕ) (p : Option (List ℕ)) (c : List ℕ) (q : Option (List ℕ)) (s m t : State) (w x y : Option (List ℕ)) (count : ℕ) (allowed : Bool)
+    → (allowed ≡ true → count < 1000000) → count ≤ 1000000
     → IsGoing left b p s m w x count → CutShort allowed b p c q m t x y → Ends (Err Write) left q s t w y
-ends_write left b p c q s m t w x y count allowed h k = go k.whole k.taken k.at_end where
+ends_write left b p c q s m t w x y count allowed may most h k = go k.whole k.taken k.at_end k.may where
   one : List Command
   one = option_to_list (line_command k.content)
 
@@ -287,27 +310,27 @@ ends_write left b p c q s m t w x y count allowed h k = go k.whole k.taken k.at_
     front = sym (append_assoc h.out k.out k.unwritten);
   }
 
-  go : (whole : Bool) → Takes b p c q (raw whole k.content) → (whole ≡ false → IsAtEnd (prepend_known c q)) → Ends (Err Write) left q s t w y
-  go true taken at_end = (
+  go : (whole : Bool) → Takes b p c q (raw whole k.content) → (whole ≡ false → IsAtEnd (prepend_known c q)) → (0 < length (raw whole k.content) → allowed ≡ true) → Ends (Err Write) left q s t w y
+  go true taken at_end allows = let room : count < 1000000 = may (allows (omega (arith, length-append k.content (10 ∷ [])))) in (
     (concat h.lines ++ raw true k.content) ++ c,
     h.out ++ k.out,
     consumed left c q _ (Takes-trans [] left b p c q _ _ h.taken taken),
     written,
-    front _ (commands (raw_lines c)) (cut_said left b p c q s m w x count k.content h k.no_lf),
+    front _ (commands (take (1000000 - (count + 1)) (raw_lines c))) (cut_said left b p c q s m w x count (1000000 - (count + 1)) k.content h k.no_lf (omega arith)),
   )
-  go false taken at_end = (
+  go false taken at_end allows = let few = few_last k.content count k.no_lf (λ l. may (allows (omega (arith, length-append k.content [])))) most in (
     concat h.lines ++ k.content,
     h.out ++ k.out,
     consumed_all left c q _ (subst (λ z. Takes [] left c q (concat h.lines ++ z)) (append-nil k.content) (Takes-trans [] left b p c q _ _ h.taken taken)) (at_end refl),
     written,
-    front _ [] (cut_end_said left b p s m w x count k.content h k.no_lf),
+    front _ [] (cut_end_said left b p s m w x count k.content h k.no_lf few),
   )
 
 pub ends_stopped : (e : RunFault) (left : Option (List ℕ)) (b : List ℕ) (p : Option (List ℕ)) (c : List ℕ) (q : Option (List ℕ)) (s m t : State) (w x y : Option (List ℕ)) (count : ℕ)
     → count ≤ 1000000 → IsGoing left b p s m w x count → Stopped e (ltb count 1000000) b p c q m t x y → Ends (Err e) left q s t w y
 ends_stopped Memory left b p c q s m t w x y count few h k = absurd k
 ends_stopped Read left b p c q s m t w x y count few h k = ends_read left b p c q s m t w x y count (ltb count 1000000) (ltb-true count 1000000) few h k.0 k.1 k.2
-ends_stopped Write left b p c q s m t w x y count few h k = ends_write left b p c q s m t w x y count (ltb count 1000000) h k
+ends_stopped Write left b p c q s m t w x y count few h k = ends_write left b p c q s m t w x y count (ltb count 1000000) (ltb-true count 1000000) few h k
 ends_stopped ScriptLimit left b p c q s m t w x y count few h k = ends_limit left b p c q s m t w x y count (ltb count 1000000) (ltb-false count 1000000) few h k.0 k.1 k.2
 
 pub one_more_fits : (b : List ℕ) (p : Option (List ℕ)) (c : List ℕ) (q : Option (List ℕ)) (m t : State) (x y : Option (List ℕ)) (count : ℕ) → Turned (ltb count 1000000) true b p c q m t x y → count < 1000000

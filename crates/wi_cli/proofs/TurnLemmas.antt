@@ -69,6 +69,7 @@ cut_short allowed whole b l b' l' s t w w' line a out k told h = record {
   no_lf = k.no_lf;
   taken = k.taken;
   at_end = k.at_end;
+  may = k.may;
   out = take h.0 (told_bytes a out);
   unwritten = drop h.0 (told_bytes a out);
   written = h.2;

@@ -5,7 +5,7 @@ use Rattle.wi_scenarios.specs.Step.{Command}
 use Rattle.wi_cli.specs.declared.fault.RunFault.{RunFault}
 use Rattle.wi_cli.specs.declared.fault.RunFault.TheVariants.{Memory, Read, Write, ScriptLimit}
 use Rattle.wi_cli.specs.Lines.{raw_lines}
-use Rattle.wi_cli.specs.Script.{all_commands, complete_commands}
+use Rattle.wi_cli.specs.Script.{commands, all_commands, complete_commands}
 use Rattle.wi_cli.specs.Run.{Writes}
 
 -- the bytes are a front of the replies to the first of these commands
@@ -33,6 +33,6 @@ Outcome (Ok _) s t input out = (length (raw_lines input) ≤ max_lines) × Write
 Outcome (Err Memory) s t input out = (input ≡ []) × (out ≡ []) × (t ≡ s)
 Outcome (Err Read) s t input out =
     (length (raw_lines input) ≤ max_lines) × Writes s (complete_commands (raw_lines input)) out t
-Outcome (Err Write) s t input out = WritesFront s (all_commands input) out t
+Outcome (Err Write) s t input out = WritesFront s (commands (limited (raw_lines input))) out t
 Outcome (Err ScriptLimit) s t input out =
     (max_lines < length (raw_lines input)) × Writes s (complete_commands (limited (raw_lines input))) out t

@@ -29,6 +29,7 @@ pub record CutShort (allowed : Bool) (buffer : List ℕ) (left : Option (List �
   pub no_lf : is_whole content ≡ false
   pub taken : Takes buffer left buffer' left' (raw whole content)
   pub at_end : whole ≡ false → IsAtEnd (prepend_known buffer' left')
+  pub may : 0 < length (raw whole content) → allowed ≡ true
   pub out : List ℕ
   pub unwritten : List ℕ
   pub written : Appends given given' out
