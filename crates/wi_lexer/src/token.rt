@@ -10,7 +10,7 @@ pub enum Kind {
     Number,
     /// `[.CELL]`; `reference_of` tells its cell.
     Reference,
-    /// An operator, a parenthesis or a separator.
+    /// An operator or a parenthesis.
     Mark(Mark),
 }
 

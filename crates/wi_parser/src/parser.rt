@@ -24,8 +24,8 @@ use std::alloc::Global;
 pub const MAX_FORMULA: usize = 4_096;
 
 /// The formula of a text that begins with `=` or `of:=`, by the grammar of OpenFormula (OpenDocument 1.3 part 4,
-/// section 5) in this project's profile. Of several faults the first is answered in the order of `ParseFault`, the
-/// first three for all tokens before the first bad one.
+/// section 5) in this project's profile. Of several faults the first is answered in the order of `ParseFault`; those of
+/// addresses, numbers and nesting are looked for in all tokens before the first bad one.
 pub fn parse(alloc: Global, text: &str) -> Result<Formula, ParseFault>
     // the tree, or the first cause for which there is none
     ensures parsed { Reads (parsed text.now) result }
