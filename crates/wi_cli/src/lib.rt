@@ -18,3 +18,6 @@ pub use fault::{RunFault, fault_status};
 pub use read_from::{READS, ReadFrom};
 pub use runs::{MAX_LINES, run};
 pub use write_to::WriteTo;
+
+#[cfg(test)]
+mod tests;
