@@ -10,37 +10,37 @@ use Rattle.std.proofs.lemmas.Int.Digits.{digits_value_push, digits_push}
 use mathlib.Core.List.{append_assoc}
 use Rattle.std.proofs.Math.Nat.{pow-suc, pow-zero, mul_assoc, one-le-pow}
 use Rattle.std.proofs.lemmas.List.{append-nil, length-append}
-use Rattle.wi_fraction.specs.Text.{fixed}
+use Rattle.wi_fraction.specs.Text.{padded}
 
 digit_of : (d : ℕ) → d < 10 → digit_value (48 + d) ≡ d
 digit_of d h = grind (arith, nat_tests)
 
-pub length-fixed : (k n : ℕ) → length (fixed k n) ≡ k
-unfolding fixed
-length-fixed zero n = refl
-length-fixed (suc k) n = rw (length-append (fixed k (n / 10)) ((48 + n % 10) ∷ []), length-fixed k (n / 10)) (omega arith)
+pub length-padded : (k n : ℕ) → length (padded k n) ≡ k
+unfolding padded
+length-padded zero n = refl
+length-padded (suc k) n = rw (length-append (padded k (n / 10)) ((48 + n % 10) ∷ []), length-padded k (n / 10)) (omega arith)
 
-pub digits_fixed : (k n : ℕ) → AllDigits 10 (fixed k n)
-unfolding fixed
-digits_fixed zero n = tt
-digits_fixed (suc k) n = digits_push 10 (fixed k (n / 10)) (48 + n % 10) (digits_fixed k (n / 10)) (rw (digit_of (n % 10) (omega arith)) (omega arith))
+pub digits_padded : (k n : ℕ) → AllDigits 10 (padded k n)
+unfolding padded
+digits_padded zero n = tt
+digits_padded (suc k) n = digits_push 10 (padded k (n / 10)) (48 + n % 10) (digits_padded k (n / 10)) (rw (digit_of (n % 10) (omega arith)) (omega arith))
 
 place : (v p q r n : ℕ) → n ≡ q * 10 + r → (v * p + q) * 10 + r ≡ v * (p * 10) + n
 place v p q r n e = omega (arith, e, mul_assoc v p 10)
 
-pub value_fixed : (k n : ℕ) (ds : List ℕ) → n < 10 ^ k → digits_value 10 (ds ++ fixed k n) ≡ digits_value 10 ds * 10 ^ k + n
-unfolding fixed
-value_fixed zero n ds h =
+pub value_padded : (k n : ℕ) (ds : List ℕ) → n < 10 ^ k → digits_value 10 (ds ++ padded k n) ≡ digits_value 10 ds * 10 ^ k + n
+unfolding padded
+value_padded zero n ds h =
     let none : n ≡ 0 = omega arith in
     rw (none, append-nil ds) (omega (arith, pow-zero 10))
-value_fixed (suc k) n ds h =
+value_padded (suc k) n ds h =
     let less : n / 10 < 10 ^ k = omega (arith, pow-suc 10 k) in
-    let pushed : digits_value 10 (ds ++ (fixed k (n / 10) ++ ((48 + n % 10) ∷ []))) ≡ digits_value 10 (ds ++ fixed k (n / 10)) * 10 + digit_value (48 + n % 10) = rw (sym (append_assoc ds (fixed k (n / 10)) ((48 + n % 10) ∷ []))) (digits_value_push 10 (ds ++ fixed k (n / 10)) (48 + n % 10)) in
-    pushed ∙ rw (digit_of (n % 10) (omega arith), value_fixed k (n / 10) ds less, pow-suc 10 k) (place (digits_value 10 ds) (10 ^ k) (n / 10) (n % 10) n (omega arith))
+    let pushed : digits_value 10 (ds ++ (padded k (n / 10) ++ ((48 + n % 10) ∷ []))) ≡ digits_value 10 (ds ++ padded k (n / 10)) * 10 + digit_value (48 + n % 10) = rw (sym (append_assoc ds (padded k (n / 10)) ((48 + n % 10) ∷ []))) (digits_value_push 10 (ds ++ padded k (n / 10)) (48 + n % 10)) in
+    pushed ∙ rw (digit_of (n % 10) (omega arith), value_padded k (n / 10) ds less, pow-suc 10 k) (place (digits_value 10 ds) (10 ^ k) (n / 10) (n % 10) n (omega arith))
 
 -- the digits with zeros in front are those of a whole number, after its first
-pub decimal_after_one : (k r : ℕ) → r < 10 ^ k → 10 ^ k + r < 10 ^ 64 → decimal (10 ^ k + r) ≡ 49 ∷ fixed k r
-unfolding fixed
+pub decimal_after_one : (k r : ℕ) → r < 10 ^ k → 10 ^ k + r < 10 ^ 64 → decimal (10 ^ k + r) ≡ 49 ∷ padded k r
+unfolding padded
 decimal_after_one zero r h f =
     let one : 10 ^ 0 + r ≡ 1 = omega (arith, pow-zero 10) in
     rw one (decimal_digit 1 (omega arith))

@@ -12,14 +12,14 @@ use Rattle.std.proofs.Math.Seq.{take-append_seam, drop-append_seam}
 use Rattle.std.proofs.Math.Nat.{pow-zero, mul_assoc, add-mul, one-le-pow, div-le_self}
 use Rattle.std.proofs.lemmas.List.{append-nil}
 use Rattle.std.proofs.lemmas.Nat.{div-add-mod'}
-use Rattle.wi_fraction.specs.Text.{places, fixed, size_text, sign_text, text_of, is_numeral, read_after, read_size, read}
+use Rattle.wi_fraction.specs.Text.{places, padded, size_text, sign_text, text_of, is_numeral, read_after, read_size, read}
 use Rattle.wi_fraction.specs.Number.{number_of, number_at, signed, max_size, number_at-some}
 use Rattle.wi_fraction.specs.Gcd.{gcd}
 use Rattle.wi_fraction.proofs.Scanning.{own}
 use Rattle.wi_fraction.specs.Laws.{ReadsBack}
 use Rattle.wi_fraction.proofs.Numbers.{number_of-scaled, number_of-lowest}
 use Rattle.wi_fraction.proofs.Steps.{signed-abs}
-use Rattle.wi_fraction.proofs.Digits.{length-fixed, digits_fixed, value_fixed}
+use Rattle.wi_fraction.proofs.Digits.{length-padded, digits_padded, value_padded}
 use Rattle.wi_fraction.proofs.Places.{places_divide, multiple_of, factor_pos, rest_less, divides_one}
 
 scan : (ds rest : List ℕ) → all_ascii_digits ds ≡ true → prefix_len is_ascii_digit rest ≡ 0 → prefix_len is_ascii_digit (ds ++ rest) ≡ length ds
@@ -75,13 +75,13 @@ whole_and_rest n d m = sym (ap (λ k. k + n % d * m) (mul_assoc (n / d) d m)) �
 number_of_places : (s : Bool) (n d t m : ℕ) → t ≡ d * m → 0 < m → gcd n d ≡ 1 → number_of (signed s (n / d * t + n % d * m)) t ≡ number_at (signed s n) d
 number_of_places s n d t m e mp one = rw (e, whole_and_rest n d m) (number_of-scaled s n d m mp one)
 
-numeral_fixed : (k n : ℕ) → is_numeral (fixed (suc k) n) ≡ true
-numeral_fixed k n = is_numeral-true (fixed (suc k) n) (rw (length-fixed (suc k) n) (omega arith), digits_fixed (suc k) n)
+numeral_padded : (k n : ℕ) → is_numeral (padded (suc k) n) ≡ true
+numeral_padded k n = is_numeral-true (padded (suc k) n) (rw (length-padded (suc k) n) (omega arith), digits_padded (suc k) n)
 
 div_small : (n d : ℕ) → n ≤ max_size → n / d ≤ max_size
 div_small n d h = omega (arith, div-le_self n d)
 
-read_places_text : (s : Bool) (n d k : ℕ) → 0 < d → n ≤ max_size → gcd n d ≡ 1 → 10 ^ suc k % d ≡ 0 → read_after s (decimal (n / d)) (46 ∷ fixed (suc k) (n % d * (10 ^ suc k / d))) ≡ number_at (signed s n) d
+read_places_text : (s : Bool) (n d k : ℕ) → 0 < d → n ≤ max_size → gcd n d ≡ 1 → 10 ^ suc k % d ≡ 0 → read_after s (decimal (n / d)) (46 ∷ padded (suc k) (n % d * (10 ^ suc k / d))) ≡ number_at (signed s n) d
 unfolding read_after
 read_places_text s n d k dp nm one e =
     let t = 10 ^ suc k in
@@ -89,7 +89,7 @@ read_places_text s n d k dp nm one e =
     let multiple : t ≡ d * m = multiple_of t d e in
     let mp : 0 < m = factor_pos t d m multiple (one-le-pow (suc k) 10 (omega arith)) in
     let less : n % d * m < 10 ^ suc k = subst (λ u. n % d * m < u) (sym multiple) (rest_less n d m dp mp) in
-    rw (numeral_fixed k (n % d * m), value_fixed (suc k) (n % d * m) (decimal (n / d)) less, value_decimal (n / d) (div_small n d nm), length-fixed (suc k) (n % d * m)) (number_of_places s n d t m multiple mp one)
+    rw (numeral_padded k (n % d * m), value_padded (suc k) (n % d * m) (decimal (n / d)) less, value_decimal (n / d) (div_small n d nm), length-padded (suc k) (n % d * m)) (number_of_places s n d t m multiple mp one)
 
 read_whole_text : (s : Bool) (n : ℕ) → n ≤ max_size → read_after s (decimal n) [] ≡ number_of (signed s n) 1
 unfolding read_after

@@ -17,9 +17,6 @@ pub mul-mul : (z : ℤ) (m n : ℕ) → z *ℤ pos m *ℤ pos n ≡ z *ℤ pos (
 mul-mul (pos a) m n = ap pos (mul_assoc a m n)
 mul-mul (negsuc a) m n = neg-pos-mul (suc a * m) n ∙ ap (λ k. neg_ℤ (pos k)) (mul_assoc (suc a) m n)
 
-neg_below : (m n : ℕ) → n < m → neg_ℤ (pos m) <ℤ neg_ℤ (pos n)
-neg_below m n h = omega (arith, ints)
-
 pub mul_below : (p q : ℤ) (k : ℕ) → 0 < k → p <ℤ q → (p *ℤ pos k) <ℤ (q *ℤ pos k)
 mul_below (pos a) (pos b) k some h = let l : a * k < b * k = mul-lt-mul_of_pos_right (omega (arith, ints)) some in omega (arith, ints)
 mul_below (pos a) (negsuc b) k some h = absurd (omega (arith, ints))

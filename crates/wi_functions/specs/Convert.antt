@@ -1,4 +1,4 @@
--- Values taken for numbers, and the arithmetic of values (OpenFormula 6.3.5 and 6.4).
+-- Values taken for numbers, and the arithmetic of values (OpenFormula, "Implicit Conversion Operators" and "Standard Operators").
 use Rattle.std.specs.Prelude.{◌≡◌, pos, true, false, Option, Some, None, Result, Ok, Err, if◌then◌else◌, unsigned_abs, refl}
 use Rattle.std.specs.Ordering.{int_eq}
 use Rattle.std.proofs.Common.{lit<, lit≤}

@@ -1,4 +1,5 @@
--- What a formula's tree means, given a value for each cell and for each what-if.
+-- What a formula's tree means, given a value for each cell and for each what-if (OpenFormula, "Standard Operators" and
+-- "MULTIPLE.OPERATIONS").
 use Rattle.std.specs.Prelude.{ℕ, List, map}
 use Rattle.wi_values.specs.declared.value.Value.{Value}
 use Rattle.wi_values.specs.declared.value.Value.TheVariants.{Empty, Number, Text, Logical, Fault}

@@ -1,4 +1,4 @@
-//! Values taken for numbers (OpenFormula 6.3.5).
+//! Values taken for numbers (OpenFormula, "Implicit Conversion Operators").
 
 ghost use Rattle.std.specs.Prelude.{◌≡◌};
 ghost use Rattle.wi_functions.specs.Convert.{to_number, zero_number, one_number};

@@ -1,4 +1,4 @@
-//! The operators between two operands (OpenFormula 6.4).
+//! The operators between two operands (OpenFormula, "Standard Operators").
 
 ghost use Rattle.std.specs.Prelude.{◌≡◌};
 ghost use Rattle.wi_functions.specs.Convert.{operate, arithmetic};

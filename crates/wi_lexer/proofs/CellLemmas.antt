@@ -8,11 +8,11 @@ use Rattle.std.proofs.Math.Seq.{drop-append_seam, take-append_seam}
 use Rattle.std.specs.List.{list_all}
 use Rattle.std.specs.Char.{is_ascii_digit, is_ascii_alphabetic}
 use Rattle.wi_lexer.specs.Runs.{IsRun, letters_len}
-use Rattle.wi_lexer.specs.Cell.{Cell, IsCell, dollar, cell_text, begins_fixed, after_dollar, cut_row, cut_column, is_row, is_cell, if_cell, cell_of}
+use Rattle.wi_lexer.specs.Cell.{Cell, IsCell, dollar, cell_text, begins_with_dollar, after_dollar, cut_row, cut_column, is_row, is_cell, if_cell, cell_of}
 use Rattle.wi_lexer.proofs.RunLemmas.{both_are_true, run_stops, run_more, run_all}
 
 -- the text before and after a `$` that may stand first
-dollar_back : (bs : List ℕ) → dollar (begins_fixed bs) ++ after_dollar bs ≡ bs
+dollar_back : (bs : List ℕ) → dollar (begins_with_dollar bs) ++ after_dollar bs ≡ bs
 dollar_back [] = refl
 dollar_back (b ∷ bs) = go (b == 36) refl
   where
@@ -42,37 +42,37 @@ is_cell_tells c h all =
       first = first;
     }
 
-cut_back : (bs : List ℕ) → cell_text (cut_column (begins_fixed bs) (after_dollar bs)) ≡ bs
+cut_back : (bs : List ℕ) → cell_text (cut_column (begins_with_dollar bs) (after_dollar bs)) ≡ bs
 cut_back bs =
     let column = after_dollar bs in
     let n = letters_len column in
-    ap (λ r. dollar (begins_fixed bs) ++ (take n column ++ r)) (dollar_back (drop n column))
-    ∙ ap (λ r. dollar (begins_fixed bs) ++ r) (take-append-drop n column)
+    ap (λ r. dollar (begins_with_dollar bs) ++ (take n column ++ r)) (dollar_back (drop n column))
+    ∙ ap (λ r. dollar (begins_with_dollar bs) ++ r) (take-append-drop n column)
     ∙ dollar_back bs
 
 pub cell_sound : (bs : List ℕ) (c : Cell) → cell_of bs ≡ Some c → IsCell c × (cell_text c ≡ bs)
 unfolding cell_of
 cell_sound bs c h =
-    let d = cut_column (begins_fixed bs) (after_dollar bs) in
+    let d = cut_column (begins_with_dollar bs) (after_dollar bs) in
     let p = if_cell_is d c h in
     (subst IsCell p.1 (is_cell_tells d p.0 (run_all is_ascii_alphabetic (after_dollar bs))), ap cell_text (sym p.1) ∙ cut_back bs)
 
 -- ---- and every cell is found
 
 -- a `$` where the part is absolute is told apart from what doesn't begin with one
-dollar_found : (fixed : Bool) (xs : List ℕ) → begins_fixed xs ≡ false → (begins_fixed (dollar fixed ++ xs) ≡ fixed) × (after_dollar (dollar fixed ++ xs) ≡ xs)
+dollar_found : (absolute : Bool) (xs : List ℕ) → begins_with_dollar xs ≡ false → (begins_with_dollar (dollar absolute ++ xs) ≡ absolute) × (after_dollar (dollar absolute ++ xs) ≡ xs)
 dollar_found true xs h = (refl, refl)
 dollar_found false xs h = (h, ap (λ t. cond t (drop 1 xs) xs) h)
 
-letter_no_dollar : (ls row : List ℕ) → IsRun is_ascii_alphabetic ls → begins_fixed (ls ++ row) ≡ false
+letter_no_dollar : (ls row : List ℕ) → IsRun is_ascii_alphabetic ls → begins_with_dollar (ls ++ row) ≡ false
 letter_no_dollar [] row run = absurd (omega (arith, run.some))
 letter_no_dollar (l ∷ ls) row run = let p = both_are_true (is_ascii_alphabetic l) (list_all is_ascii_alphabetic ls) run.all in grind (arith, nat_tests, p.0)
 
-digit_no_dollar : (ds : List ℕ) → IsRun is_ascii_digit ds → begins_fixed ds ≡ false
+digit_no_dollar : (ds : List ℕ) → IsRun is_ascii_digit ds → begins_with_dollar ds ≡ false
 digit_no_dollar [] run = refl
 digit_no_dollar (d ∷ ds) run = let p = both_are_true (is_ascii_digit d) (list_all is_ascii_digit ds) run.all in grind (arith, nat_tests, p.0)
 
-no_letter_first : (fixed : Bool) (ds : List ℕ) → IsRun is_ascii_digit ds → letters_len (dollar fixed ++ ds) ≡ 0
+no_letter_first : (absolute : Bool) (ds : List ℕ) → IsRun is_ascii_digit ds → letters_len (dollar absolute ++ ds) ≡ 0
 no_letter_first true ds run = refl
 no_letter_first false [] run = refl
 no_letter_first false (d ∷ ds) run =
@@ -81,9 +81,9 @@ no_letter_first false (d ∷ ds) run =
     run_stops is_ascii_alphabetic d ds no
 
 abbrev cell : Bool → List ℕ → Bool → List ℕ → Cell
-cell f ls g ds = record { column_fixed = f; letters = ls; row_fixed = g; digits = ds }
+cell f ls g ds = record { column_is_absolute = f; letters = ls; row_is_absolute = g; digits = ds }
 
-row_found : (f g : Bool) (ls ds : List ℕ) → begins_fixed ds ≡ false → cut_row f ls (dollar g ++ ds) ≡ cell f ls g ds
+row_found : (f g : Bool) (ls ds : List ℕ) → begins_with_dollar ds ≡ false → cut_row f ls (dollar g ++ ds) ≡ cell f ls g ds
 row_found f g ls ds h =
     let p = dollar_found g ds h in
     ap (λ t. cell f ls t (after_dollar (dollar g ++ ds))) p.0 ∙ ap (λ r. cell f ls g r) p.1
@@ -101,12 +101,12 @@ is_cell_true c h = cc (lt-ltb 0 (length c.letters) h.letters.some, lt-ltb 48 (sl
 pub cell_complete : (c : Cell) → IsCell c → cell_of (cell_text c) ≡ Some c
 unfolding cell_of
 cell_complete c h =
-    let row = dollar c.row_fixed ++ c.digits in
+    let row = dollar c.row_is_absolute ++ c.digits in
     let column = c.letters ++ row in
-    let p = dollar_found c.column_fixed column (letter_no_dollar c.letters row h.letters) in
-    let whole : cut_column (begins_fixed (cell_text c)) (after_dollar (cell_text c)) ≡ c =
+    let p = dollar_found c.column_is_absolute column (letter_no_dollar c.letters row h.letters) in
+    let whole : cut_column (begins_with_dollar (cell_text c)) (after_dollar (cell_text c)) ≡ c =
     ap (λ t. cut_column t (after_dollar (cell_text c))) p.0
-    ∙ ap (λ x. cut_column c.column_fixed x) p.1
-    ∙ column_found c.column_fixed c.letters row h.letters.all (no_letter_first c.row_fixed c.digits h.digits)
-    ∙ row_found c.column_fixed c.row_fixed c.letters c.digits (digit_no_dollar c.digits h.digits) in
+    ∙ ap (λ x. cut_column c.column_is_absolute x) p.1
+    ∙ column_found c.column_is_absolute c.letters row h.letters.all (no_letter_first c.row_is_absolute c.digits h.digits)
+    ∙ row_found c.column_is_absolute c.row_is_absolute c.letters c.digits (digit_no_dollar c.digits h.digits) in
     ap if_cell whole ∙ ap (λ t. cond t (Some c) None) (is_cell_true c h)

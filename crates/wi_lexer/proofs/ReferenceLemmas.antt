@@ -100,7 +100,7 @@ letter_inside b h = grind (arith, nat_tests)
 digit_inside : (b : ℕ) → is_ascii_digit b ≡ true → is_inside b ≡ true
 digit_inside b h = grind (arith, nat_tests)
 
-dollar_inside : (fixed : Bool) → list_all is_inside (dollar fixed) ≡ true
+dollar_inside : (absolute : Bool) → list_all is_inside (dollar absolute) ≡ true
 dollar_inside true = refl
 dollar_inside false = refl
 
@@ -108,9 +108,9 @@ cell_inside : (c : Cell) → IsCell c → list_all is_inside (cell_text c) ≡ t
 cell_inside c h =
     let letters = all_wider is_ascii_alphabetic is_inside letter_inside c.letters h.letters.all in
     let digits = all_wider is_ascii_digit is_inside digit_inside c.digits h.digits.all in
-    let row = all_append is_inside (dollar c.row_fixed) c.digits (dollar_inside c.row_fixed) digits in
-    all_append is_inside (dollar c.column_fixed) (c.letters ++ (dollar c.row_fixed ++ c.digits)) (dollar_inside c.column_fixed)
-    (all_append is_inside c.letters (dollar c.row_fixed ++ c.digits) letters row)
+    let row = all_append is_inside (dollar c.row_is_absolute) c.digits (dollar_inside c.row_is_absolute) digits in
+    all_append is_inside (dollar c.column_is_absolute) (c.letters ++ (dollar c.row_is_absolute ++ c.digits)) (dollar_inside c.column_is_absolute)
+    (all_append is_inside c.letters (dollar c.row_is_absolute ++ c.digits) letters row)
 
 pub reference_complete : (c : Cell) → IsCell c → (rest : List ℕ) → reference_len (bracketed (cell_text c) ++ rest) ≡ length (bracketed (cell_text c))
 unfolding reference_len

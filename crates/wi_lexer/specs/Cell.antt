@@ -7,9 +7,9 @@ use Rattle.wi_lexer.specs.declared.cell.CellText.{CellText}
 
 -- The parts of a cell as written: whether the column is absolute, its letters, whether the row is, its digits.
 pub record Cell : Type 0 where
-  pub column_fixed : Bool
+  pub column_is_absolute : Bool
   pub letters : List ℕ
-  pub row_fixed : Bool
+  pub row_is_absolute : Bool
   pub digits : List ℕ
 
 -- Some letters, and digits of which the first isn't 0.
@@ -20,29 +20,29 @@ pub record IsCell (c : Cell) : Type 0 where
 
 -- a `$` where the part is absolute
 abbrev pub dollar : Bool → List ℕ
-dollar fixed = if fixed then 36 ∷ [] else []
+dollar absolute = if absolute then 36 ∷ [] else []
 
 -- the text of a cell
 abbrev pub cell_text : Cell → List ℕ
-cell_text c = dollar c.column_fixed ++ (c.letters ++ (dollar c.row_fixed ++ c.digits))
+cell_text c = dollar c.column_is_absolute ++ (c.letters ++ (dollar c.row_is_absolute ++ c.digits))
 
 -- ---- where a reader finds it
 
 -- whether a `$` stands first
-abbrev pub begins_fixed : List ℕ → Bool
-begins_fixed bs = slice_index bs 0 == 36
+abbrev pub begins_with_dollar : List ℕ → Bool
+begins_with_dollar bs = slice_index bs 0 == 36
 
 -- what follows it
 abbrev pub after_dollar : List ℕ → List ℕ
-after_dollar bs = if begins_fixed bs then drop 1 bs else bs
+after_dollar bs = if begins_with_dollar bs then drop 1 bs else bs
 
 -- the cell with this column, whose row is these bytes
 abbrev pub cut_row : Bool → List ℕ → List ℕ → Cell
-cut_row fixed letters row = record { column_fixed = fixed; letters = letters; row_fixed = begins_fixed row; digits = after_dollar row }
+cut_row absolute letters row = record { column_is_absolute = absolute; letters = letters; row_is_absolute = begins_with_dollar row; digits = after_dollar row }
 
 -- the cell whose column is the letters at the front, and whose row is what follows them
 abbrev pub cut_column : Bool → List ℕ → Cell
-cut_column fixed bs = cut_row fixed (take (letters_len bs) bs) (drop (letters_len bs) bs)
+cut_column absolute bs = cut_row absolute (take (letters_len bs) bs) (drop (letters_len bs) bs)
 
 -- whether these are digits of which the first isn't 0
 abbrev pub is_row : List ℕ → Bool
@@ -58,8 +58,8 @@ if_cell c = if is_cell c then Some c else None
 
 -- the cell that the bytes are the text of
 unfoldable pub cell_of : List ℕ → Option Cell
-cell_of bs = if_cell (cut_column (begins_fixed bs) (after_dollar bs))
+cell_of bs = if_cell (cut_column (begins_with_dollar bs) (after_dollar bs))
 
 -- the parts that a `CellText` lends
 abbrev pub parts : CellText → Cell
-parts c = record { column_fixed = c.column_fixed; letters = c.letters.now; row_fixed = c.row_fixed; digits = c.digits.now }
+parts c = record { column_is_absolute = c.column_is_absolute; letters = c.letters.now; row_is_absolute = c.row_is_absolute; digits = c.digits.now }

@@ -1,4 +1,4 @@
--- Numbers as a formula writes them (OpenFormula, section 5.3).
+-- Numbers as a formula writes them (OpenFormula, "Constant Numbers").
 use Rattle.std.specs.Prelude.{◌≡◌, ℕ, ◌+◌, true, ◌&&◌, ◌==◌, nat_lt, if◌then◌else◌, List, ◌∷◌, ◌++◌, drop, slice_index}
 use Rattle.std.specs.List.{list_all}
 use Rattle.std.specs.Char.{is_ascii_digit}

@@ -1,4 +1,4 @@
--- References as a formula writes them (OpenFormula, section 5.8).
+-- References as a formula writes them (OpenFormula, "References").
 use Rattle.std.specs.Prelude.{ℕ, ◌+◌, ◌-◌, Bool, ◌&&◌, ◌==◌, nat_lt, if◌then◌else◌, List, [], ◌∷◌, ◌++◌, length, take, drop, slice_index, Option, None, is_some}
 use Rattle.wi_lexer.specs.Runs.{inside_len}
 use Rattle.wi_lexer.specs.Cell.{Cell, IsCell, cell_text, cell_of}

@@ -12,16 +12,16 @@ use crate::scan::{byte, letters_len};
 #[derive(Clone, Copy, Debug)]
 pub struct CellText<'a> {
     /// Whether a `$` stands before the letters.
-    pub column_fixed: bool,
+    pub column_is_absolute: bool,
     pub letters: &'a [u8],
     /// Whether a `$` stands before the digits.
-    pub row_fixed: bool,
+    pub row_is_absolute: bool,
     pub digits: &'a [u8],
 }
 
 // Whether a `$` stands first, and what follows it.
 fn after_dollar(text: &[u8]) -> (bool, &[u8])
-    ensures fixed { result.0 ≡ spec.begins_fixed text.now }
+    ensures absolute { result.0 ≡ spec.begins_with_dollar text.now }
     ensures rest { result.1.now ≡ spec.after_dollar text.now }
 {
     if byte(text, 0) == b'$' {
@@ -47,9 +47,9 @@ fn is_row(digits: &[u8]) -> bool
 pub fn cell_of(text: &[u8]) -> Option<CellText<'_>>
     ensures { option_map spec.parts result ≡ spec.cell_of text.now }
 {
-    let (column_fixed, column) = after_dollar(text);
+    let (column_is_absolute, column) = after_dollar(text);
     let (letters, row) = column.split_at(letters_len(column));
-    let (row_fixed, digits) = after_dollar(row);
+    let (row_is_absolute, digits) = after_dollar(row);
     if letters.is_empty() {
         return None;
     }
@@ -57,9 +57,9 @@ pub fn cell_of(text: &[u8]) -> Option<CellText<'_>>
         return None;
     }
     Some(CellText {
-        column_fixed,
+        column_is_absolute,
         letters,
-        row_fixed,
+        row_is_absolute,
         digits,
     })
 }

@@ -107,11 +107,11 @@ fn tells_marks(rt: HostRuntime) {
 #[test]
 fn tells_the_parts_of_cells(rt: HostRuntime) {
     let whole = cell_of(b"$ab$12").expect(&rt, "a cell");
-    assert!(rt; whole.column_fixed && whole.row_fixed);
+    assert!(rt; whole.column_is_absolute && whole.row_is_absolute);
     assert_eq!(rt; whole.letters, b"ab".as_slice());
     assert_eq!(rt; whole.digits, b"12".as_slice());
     let row = reference_of(b"[.Z$9]").expect(&rt, "a reference");
-    assert!(rt; !row.column_fixed && row.row_fixed);
+    assert!(rt; !row.column_is_absolute && row.row_is_absolute);
     assert_eq!(rt; row.letters, b"Z".as_slice());
     assert_eq!(rt; row.digits, b"9".as_slice());
     assert!(rt; reference_of(b"[.Z9] ").is_none());

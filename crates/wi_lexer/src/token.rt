@@ -3,7 +3,7 @@
 ghost use Rattle.std.specs.Prelude.{◌≡◌, length};
 ghost use Rattle.wi_lexer.specs.Mark.{mark_text};
 
-/// The kinds of tokens, as in OpenFormula, section 5.
+/// The kinds of tokens, as in OpenFormula, "Expression Syntax".
 #[derive(Clone, Copy, Debug, PartialEq, Eq)]
 pub enum Kind {
     /// Digits, optionally a point and digits; or a point and digits.

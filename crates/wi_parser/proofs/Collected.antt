@@ -8,23 +8,23 @@ use Rattle.wi_lexer.specs.Tokens.{tokens}
 use Rattle.wi_lexer.proofs.CallerLemmas.{tokens_next, tokens_bad, tokens_end}
 use Rattle.wi_parser.specs.declared.fault.ParseFault.TheVariants.{Syntax}
 use Rattle.wi_parser.specs.declared.word.Word.{Word}
-use Rattle.wi_parser.specs.Lexeme.{Lexeme, refused}
-use Rattle.wi_parser.specs.FormulaText.{lexeme_of, lexemes_of}
+use Rattle.wi_parser.specs.Symbol.{Symbol, refused}
+use Rattle.wi_parser.specs.FormulaText.{symbol_of, symbols_of}
 use Rattle.wi_parser.specs.Words.{meant_by, all_meant}
 
--- what is left of the text's lexemes
-abbrev pub left : Scan → List Lexeme
-left s = lexemes_of (tokens s.rest)
+-- what is left of the text's symbols
+abbrev pub left : Scan → List Symbol
+left s = symbols_of (tokens s.rest)
 
-pub left_next : (old : Scan) (t : Token) (new : Scan) → IsNext old t new → left old ≡ lexeme_of t.kind t.text.now ∷ left new
-left_next old t new h = ap lexemes_of (tokens_next old t new h)
+pub left_next : (old : Scan) (t : Token) (new : Scan) → IsNext old t new → left old ≡ symbol_of t.kind t.text.now ∷ left new
+left_next old t new h = ap symbols_of (tokens_next old t new h)
 
 pub left_end : (s : Scan) → ahead s ≡ [] → left s ≡ []
-left_end s h = ap lexemes_of (tokens_end s h)
+left_end s h = ap symbols_of (tokens_end s h)
 
 pub left_bad : (old new : Scan) → (ahead old ≡ [] → ⊥) → NoToken (ahead old) → IsDone old new → left old ≡ refused Syntax ∷ left new
 left_bad old new some none done =
-    ap lexemes_of (tokens_bad old some none) ∙ ap (λ ts. refused Syntax ∷ ts) (sym (left_end new (ap after_blanks done.rest)))
+    ap symbols_of (tokens_bad old some none) ∙ ap (λ ts. refused Syntax ∷ ts) (sym (left_end new (ap after_blanks done.rest)))
 
 shortens : (old new : List ℕ) → (after_blanks old ≡ [] → ⊥) → new ≡ [] → length new < length old
 shortens [] new some none = absurd (some refl)
@@ -33,7 +33,7 @@ shortens (b ∷ bs) new some none = omega (arith, ap length none)
 pub bad_shortens : (old new : Scan) → (ahead old ≡ [] → ⊥) → IsDone old new → length new.rest < length old.rest
 bad_shortens old new some done = shortens old.rest new.rest some done.rest
 
--- a word more is a lexeme more
-pub pushed : (ws : List Word) (w : Word) (ts : List Lexeme) → all_meant (ws ++ w ∷ []) ++ ts ≡ all_meant ws ++ meant_by w ∷ ts
+-- a word more is a symbol more
+pub pushed : (ws : List Word) (w : Word) (ts : List Symbol) → all_meant (ws ++ w ∷ []) ++ ts ≡ all_meant ws ++ meant_by w ∷ ts
 pushed [] w ts = refl
 pushed (v ∷ ws) w ts = ap (λ us. meant_by v ∷ us) (pushed ws w ts)

@@ -5,45 +5,45 @@ use Rattle.wi_fraction.specs.Number.{Number}
 use Rattle.wi_parser.specs.declared.expr.Operator.{Operator}
 use Rattle.wi_parser.specs.declared.expr.Reference.{Reference}
 use Rattle.wi_parser.specs.Tree.{Tree, number, cell, parenthesized, binary}
-use Rattle.wi_parser.specs.Lexeme.{Lexeme, numeral, reference, open_mark, close_mark, infix_mark}
+use Rattle.wi_parser.specs.Symbol.{Symbol, numeral, reference, open_mark, close_mark, infix_mark}
 use Rattle.wi_parser.specs.Grammar.{line_of, loosest, Spells, a_number, a_cell, in_marks, tighter, joined}
 use Rattle.wi_parser.specs.Reader.{read_then, then_close, operator_at, atom, chain, line, expression, if_last, whole}
 use Rattle.wi_parser.specs.Nesting.{depth}
 use Rattle.wi_parser.proofs.Turns.{chain_stop, chain_more}
 
 -- no operator of the lines up to k stands first
-abbrev pub Stops : ℕ → List Lexeme → Type 0
+abbrev pub Stops : ℕ → List Symbol → Type 0
 Stops zero rest = Unit {0}
 Stops (suc k) rest = Stops k rest × (operator_at (suc k) rest ≡ None)
 
 -- an operator of a looser line stops
-stops_at : (k : ℕ) (op : Operator) (ts : List Lexeme) → k < line_of op → Stops k (infix_mark op ∷ ts)
+stops_at : (k : ℕ) (op : Operator) (ts : List Symbol) → k < line_of op → Stops k (infix_mark op ∷ ts)
 stops_at zero op ts h = tt
 stops_at (suc k) op ts h = (stops_at k op ts (omega arith), ap (λ b. cond b (Some (op, ts)) None) (ne_eqb (line_of op) (suc k) (λ e. omega arith)))
 
-operator_here : (k : ℕ) (op : Operator) (ts : List Lexeme) → line_of op ≡ k → operator_at k (infix_mark op ∷ ts) ≡ Some (op, ts)
+operator_here : (k : ℕ) (op : Operator) (ts : List Symbol) → line_of op ≡ k → operator_at k (infix_mark op ∷ ts) ≡ Some (op, ts)
 operator_here k op ts e = ap (λ b. cond b (Some (op, ts)) None) (eq-eqb (line_of op) k e)
 
-abbrev Taken : ℕ → ℕ → Tree → List Lexeme → Type 0
-Taken d k t us = (rest : List Lexeme) → Stops k rest → line (expression d) k (us ++ rest) ≡ Some (t, rest)
+abbrev Taken : ℕ → ℕ → Tree → List Symbol → Type 0
+Taken d k t us = (rest : List Symbol) → Stops k rest → line (expression d) k (us ++ rest) ≡ Some (t, rest)
 
 -- The leftmost operand is found first, and n turns of the loop lead from it to t.
-record Turns (d k n : ℕ) (t : Tree) (us rest : List Lexeme) : Type 0 where
+record Turns (d k n : ℕ) (t : Tree) (us rest : List Symbol) : Type 0 where
   first : Tree
-  after : List Lexeme
+  after : List Symbol
   found : line (expression d) k (us ++ rest) ≡ Some (first, after)
   led : (m : ℕ) → chain (line (expression d) k) (suc k) (m + n) first after ≡ chain (line (expression d) k) (suc k) m t rest
   room : length rest + n ≤ length after
 
-abbrev Spine : ℕ → ℕ → Tree → List Lexeme → Type 0
-Spine d k t us = (n : ℕ) × ((rest : List Lexeme) → Stops k rest → Turns d k n t us rest)
+abbrev Spine : ℕ → ℕ → Tree → List Symbol → Type 0
+Spine d k t us = (n : ℕ) × ((rest : List Symbol) → Stops k rest → Turns d k n t us rest)
 
-abbrev Claim : ℕ → ℕ → Tree → List Lexeme → Type 0
+abbrev Claim : ℕ → ℕ → Tree → List Symbol → Type 0
 Claim d zero t us = Taken d 0 t us
 Claim d (suc k) t us = Spine d k t us
 
 -- the loop goes its turns and stops
-led_on : (d k n : ℕ) (t : Tree) (us rest : List Lexeme) → Turns d k n t us rest → operator_at (suc k) rest ≡ None → line (expression d) (suc k) (us ++ rest) ≡ Some (t, rest)
+led_on : (d k n : ℕ) (t : Tree) (us rest : List Symbol) → Turns d k n t us rest → operator_at (suc k) rest ≡ None → line (expression d) (suc k) (us ++ rest) ≡ Some (t, rest)
 unfolding line
 led_on d k n t us rest turns h =
     let next = line (expression d) k in
@@ -52,11 +52,11 @@ led_on d k n t us rest turns h =
     ap (read_then (λ t rest. chain next (suc k) (length rest) t rest)) turns.found
     ∙ ap (λ j. chain next (suc k) j turns.first turns.after) all_turns ∙ turns.led m ∙ chain_stop next (suc k) m t rest h
 
-taken : (d k : ℕ) (t : Tree) (us : List Lexeme) → Claim d k t us → Taken d k t us
+taken : (d k : ℕ) (t : Tree) (us : List Symbol) → Claim d k t us → Taken d k t us
 taken d zero t us c = c
 taken d (suc k) t us c = λ rest stops. led_on d k c.0 t us rest (c.1 rest stops.0) stops.1
 
-one_line : (d k : ℕ) (t : Tree) (us : List Lexeme) → Taken d k t us → Claim d (suc k) t us
+one_line : (d k : ℕ) (t : Tree) (us : List Symbol) → Taken d k t us → Claim d (suc k) t us
 one_line d k t us c = (
   0,
   λ rest stops. record {
@@ -69,12 +69,12 @@ one_line d k t us c = (
 )
 
 -- one more operand
-one_more : (d k : ℕ) (op : Operator) (l r : Tree) (ls rs : List Lexeme) → line_of op ≡ suc k → Claim d (suc k) l ls → Taken d k r rs → Claim d (suc k) (binary op l r) (ls ++ infix_mark op ∷ rs)
+one_more : (d k : ℕ) (op : Operator) (l r : Tree) (ls rs : List Symbol) → line_of op ≡ suc k → Claim d (suc k) l ls → Taken d k r rs → Claim d (suc k) (binary op l r) (ls ++ infix_mark op ∷ rs)
 one_more d k op l r ls rs e left right = (
   suc left.0,
   λ rest stops.
       let next = line (expression d) k in
-      let tail : List Lexeme = infix_mark op ∷ rs ++ rest in
+      let tail : List Symbol = infix_mark op ∷ rs ++ rest in
       let before = left.1 tail (stops_at k op (rs ++ rest) (omega arith)) in
       record {
         first = before.first;
@@ -91,11 +91,11 @@ one_more d k op l r ls rs e left right = (
 )
 
 -- parentheses nest one deeper
-inner_taken : (d : ℕ) (t : Tree) (us rest : List Lexeme) → Taken d 2 t us → Stops 2 rest → expression (suc d) (us ++ rest) ≡ Some (t, rest)
+inner_taken : (d : ℕ) (t : Tree) (us rest : List Symbol) → Taken d 2 t us → Stops 2 rest → expression (suc d) (us ++ rest) ≡ Some (t, rest)
 unfolding expression
 inner_taken d t us rest c stops = c rest stops
 
-marks_taken : (d : ℕ) (t : Tree) (ts : List Lexeme) → Taken d 2 t ts → Taken (suc d) 0 (parenthesized t) (open_mark ∷ ts ++ close_mark ∷ [])
+marks_taken : (d : ℕ) (t : Tree) (ts : List Symbol) → Taken d 2 t ts → Taken (suc d) 0 (parenthesized t) (open_mark ∷ ts ++ close_mark ∷ [])
 unfolding line atom
 marks_taken d t ts c rest stops =
     ap (λ l. read_then (λ u. then_close (parenthesized u)) (expression (suc d) l)) (append_assoc ts (close_mark ∷ []) rest)
@@ -109,7 +109,7 @@ cell_taken : (d : ℕ) (r : Reference) → Taken d 0 (cell r) (reference r ∷ [
 unfolding line atom
 cell_taken d r rest stops = refl
 
-claim : {k : ℕ} {t : Tree} {ts : List Lexeme} → Spells k t ts → (d : ℕ) → depth t ≤ d → Claim d k t ts
+claim : {k : ℕ} {t : Tree} {ts : List Symbol} → Spells k t ts → (d : ℕ) → depth t ≤ d → Claim d k t ts
 claim (a_number x) d h = number_taken d x
 claim (a_cell r) d h = cell_taken d r
 claim (in_marks t ts s) zero h = absurd (omega arith)
@@ -117,14 +117,14 @@ claim (in_marks t ts s) (suc d) h = marks_taken d t ts (taken d 2 t ts (claim s 
 claim (tighter k t ts s) d h = one_line d k t ts (taken d k t ts (claim s d h))
 claim (joined k op l r ls rs e s u) d h = one_more d k op l r ls rs e (claim s d (omega arith)) (taken d k r rs (claim u d (omega arith)))
 
--- what is spelled is what the lexemes are read as
-pub whole_complete : (d : ℕ) (ts : List Lexeme) (t : Tree) → Spells loosest t ts → depth t ≤ d → whole (suc d) ts ≡ Some t
+-- what is spelled is what the symbols are read as
+pub whole_complete : (d : ℕ) (ts : List Symbol) (t : Tree) → Spells loosest t ts → depth t ≤ d → whole (suc d) ts ≡ Some t
 whole_complete d ts t s h =
     let read = inner_taken d t ts [] (taken d 2 t ts (claim s d h)) ((tt, refl), refl) in
     ap (option_and_then (λ p. if_last p.0 p.1)) (ap (expression (suc d)) (sym (append-nil ts)) ∙ read)
 
--- no lexemes spell two trees
-pub one_tree : (t u : Tree) (ts : List Lexeme) → Spells loosest t ts → Spells loosest u ts → t ≡ u
+-- no symbols spell two trees
+pub one_tree : (t u : Tree) (ts : List Symbol) → Spells loosest t ts → Spells loosest u ts → t ≡ u
 one_tree t u ts s v =
     let d = max (depth t) (depth u) in
     let e : Some t ≡ Some u = sym (whole_complete d ts t s (omega arith)) ∙ whole_complete d ts u v (omega arith) in

@@ -1,11 +1,11 @@
--- A tree nests no deeper than the parentheses of its lexemes.
+-- A tree nests no deeper than the parentheses of its symbols.
 use Rattle.std.proofs.Common.{◌≡◌, ℕ, suc, ◌+◌, ◌-◌, ◌≤◌, List, [], ◌∷◌, ◌++◌, ap, arith, append_assoc, append-nil}
 use Rattle.wi_parser.specs.Tree.{Tree}
-use Rattle.wi_parser.specs.Lexeme.{Lexeme, numeral, reference, open_mark, close_mark, infix_mark, refused}
+use Rattle.wi_parser.specs.Symbol.{Symbol, numeral, reference, open_mark, close_mark, infix_mark, refused}
 use Rattle.wi_parser.specs.Grammar.{loosest, Spells, a_number, a_cell, in_marks, tighter, joined}
 use Rattle.wi_parser.specs.Nesting.{depth, deepest}
 
-pub least : (h : ℕ) (ts : List Lexeme) → h ≤ deepest h ts
+pub least : (h : ℕ) (ts : List Symbol) → h ≤ deepest h ts
 least h [] = omega arith
 least h (numeral x ∷ ts) = least h ts
 least h (reference r ∷ ts) = least h ts
@@ -14,12 +14,12 @@ least h (close_mark ∷ ts) = omega arith
 least h (infix_mark op ∷ ts) = least h ts
 least h (refused e ∷ ts) = least h ts
 
--- from h open parentheses on, the lexemes before rest reach d more, and no less than rest does
-record Reaches (d h : ℕ) (ts rest : List Lexeme) : Type 0 where
+-- from h open parentheses on, the symbols before rest reach d more, and no less than rest does
+record Reaches (d h : ℕ) (ts rest : List Symbol) : Type 0 where
   own : h + d ≤ deepest h (ts ++ rest)
   others : deepest h rest ≤ deepest h (ts ++ rest)
 
-reaches : {k : ℕ} {t : Tree} {ts : List Lexeme} → Spells k t ts → (h : ℕ) (rest : List Lexeme) → Reaches (depth t) h ts rest
+reaches : {k : ℕ} {t : Tree} {ts : List Symbol} → Spells k t ts → (h : ℕ) (rest : List Symbol) → Reaches (depth t) h ts rest
 reaches (a_number x) h rest = record { own = omega (arith, least h rest); others = omega arith }
 reaches (a_cell r) h rest = record { own = omega (arith, least h rest); others = omega arith }
 reaches (in_marks t ts s) h rest =
@@ -35,5 +35,5 @@ reaches (joined k op l r ls rs e s u) h rest =
     let same = ap (deepest h) (append_assoc ls (infix_mark op ∷ rs) rest) in
     record { own = omega (arith, left.own, left.others, right.own, same); others = omega (arith, left.others, right.others, same) }
 
-pub depth-deepest : (t : Tree) (ts : List Lexeme) → Spells loosest t ts → depth t ≤ deepest 0 ts
+pub depth-deepest : (t : Tree) (ts : List Symbol) → Spells loosest t ts → depth t ≤ deepest 0 ts
 depth-deepest t ts s = let r = reaches s 0 [] in omega (arith, r.own, ap (deepest 0) (append-nil ts))

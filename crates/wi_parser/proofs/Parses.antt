@@ -6,30 +6,30 @@ use Rattle.std.specs.List.{list_any}
 use Rattle.wi_parser.specs.declared.fault.ParseFault.{ParseFault}
 use Rattle.wi_parser.specs.declared.fault.ParseFault.TheVariants.{TooLong, OutOfSheet, NumberRange, TooDeep, Syntax, Memory}
 use Rattle.wi_parser.specs.Tree.{Tree}
-use Rattle.wi_parser.specs.Lexeme.{Lexeme, close_mark, infix_mark, is_outside, is_unfit}
+use Rattle.wi_parser.specs.Symbol.{Symbol, close_mark, infix_mark, is_outside, is_unfit}
 use Rattle.wi_parser.specs.Grammar.{loosest, Spells, a_number, a_cell, in_marks, tighter, joined}
 use Rattle.wi_parser.specs.Nesting.{deepest, most_signs, max_depth, is_too_deep}
 use Rattle.wi_parser.specs.Reader.{whole}
 use Rattle.wi_parser.specs.Outcome.{Fails}
-use Rattle.wi_parser.specs.FormulaText.{formula_lexemes}
-use Rattle.wi_parser.specs.Reading.{max_formula, refusal_of, unless_refused, judged, parsed, Reads, Answers}
+use Rattle.wi_parser.specs.FormulaText.{formula_symbols}
+use Rattle.wi_parser.specs.Reading.{max_formula, refusal_of, unless_refused, judged, parsed, ReadsAs, IsOrMemory}
 use Rattle.wi_parser.proofs.Sound.{whole_sound}
 use Rattle.wi_parser.proofs.Complete.{whole_complete}
 use Rattle.wi_parser.proofs.Depth.{depth-deepest}
 
--- ---- lexemes that spell a tree are not refused
+-- ---- symbols that spell a tree are not refused
 
-any_append : (p : Lexeme → Bool) (xs ys : List Lexeme) → list_any p xs ≡ false → list_any p ys ≡ false → list_any p (xs ++ ys) ≡ false
+any_append : (p : Symbol → Bool) (xs ys : List Symbol) → list_any p xs ≡ false → list_any p ys ≡ false → list_any p (xs ++ ys) ≡ false
 any_append p xs ys h e = list_any-append p xs ys ∙ ap₂ (λ a b. a || b) h e
 
-none_outside : {k : ℕ} {t : Tree} {ts : List Lexeme} → Spells k t ts → list_any is_outside ts ≡ false
+none_outside : {k : ℕ} {t : Tree} {ts : List Symbol} → Spells k t ts → list_any is_outside ts ≡ false
 none_outside (a_number x) = refl
 none_outside (a_cell r) = refl
 none_outside (in_marks t ts s) = any_append is_outside ts (close_mark ∷ []) (none_outside s) refl
 none_outside (tighter k t ts s) = none_outside s
 none_outside (joined k op l r ls rs e s u) = any_append is_outside ls (infix_mark op ∷ rs) (none_outside s) (none_outside u)
 
-none_unfit : {k : ℕ} {t : Tree} {ts : List Lexeme} → Spells k t ts → list_any is_unfit ts ≡ false
+none_unfit : {k : ℕ} {t : Tree} {ts : List Symbol} → Spells k t ts → list_any is_unfit ts ≡ false
 none_unfit (a_number x) = refl
 none_unfit (a_cell r) = refl
 none_unfit (in_marks t ts s) = any_append is_unfit ts (close_mark ∷ []) (none_unfit s) refl
@@ -42,17 +42,17 @@ not_below m n h = grind (arith, nat_tests)
 below : (m n : ℕ) → m < n → nat_lt m n ≡ true
 below m n h = grind (arith, nat_tests)
 
-not_too_deep : (ts : List Lexeme) → deepest 0 ts ≤ max_depth → most_signs 0 ts ≤ max_depth → is_too_deep ts ≡ false
+not_too_deep : (ts : List Symbol) → deepest 0 ts ≤ max_depth → most_signs 0 ts ≤ max_depth → is_too_deep ts ≡ false
 not_too_deep ts h e = ap (λ b. b || nat_lt max_depth (most_signs 0 ts)) (not_below _ max_depth h) ∙ not_below _ max_depth e
 
-not_refused : (ts : List Lexeme) → list_any is_outside ts ≡ false → list_any is_unfit ts ≡ false → is_too_deep ts ≡ false → refusal_of ts ≡ None
+not_refused : (ts : List Symbol) → list_any is_outside ts ≡ false → list_any is_unfit ts ≡ false → is_too_deep ts ≡ false → refusal_of ts ≡ None
 not_refused ts o u d =
     ap (λ b. if b then Some OutOfSheet else (if list_any is_unfit ts then Some NumberRange else (if is_too_deep ts then Some TooDeep else None))) o
     ∙ ap (λ b. if b then Some NumberRange else (if is_too_deep ts then Some TooDeep else None)) u
     ∙ ap (λ b. if b then Some TooDeep else None) d
 
 -- what is spelled and does not nest too deep is judged to be the tree
-judged_spelled : (ts : List Lexeme) (t : Tree) → Spells loosest t ts → deepest 0 ts ≤ max_depth → most_signs 0 ts ≤ max_depth → judged ts ≡ Ok t
+judged_spelled : (ts : List Symbol) (t : Tree) → Spells loosest t ts → deepest 0 ts ≤ max_depth → most_signs 0 ts ≤ max_depth → judged ts ≡ Ok t
 judged_spelled ts t s h e =
     ap (λ o. unless_refused o (whole (max_depth + 1) ts)) (not_refused ts (none_outside s) (none_unfit s) (not_too_deep ts h e))
     ∙ ap (λ found. ok_or found Syntax) (whole_complete max_depth ts t s (omega (arith, depth-deepest t ts s)))
@@ -61,19 +61,19 @@ judged_spelled ts t s h e =
 
 pub parsed_long : (text : List ℕ) → max_formula < length text → parsed text ≡ Err TooLong
 unfolding parsed
-parsed_long text h = ap (λ b. if b then Err TooLong else judged (formula_lexemes text)) (below _ _ h)
+parsed_long text h = ap (λ b. if b then Err TooLong else judged (formula_symbols text)) (below _ _ h)
 
-pub parsed_short : (text : List ℕ) → length text ≤ max_formula → parsed text ≡ judged (formula_lexemes text)
+pub parsed_short : (text : List ℕ) → length text ≤ max_formula → parsed text ≡ judged (formula_symbols text)
 unfolding parsed
-parsed_short text h = ap (λ b. if b then Err TooLong else judged (formula_lexemes text)) (not_below _ _ h)
+parsed_short text h = ap (λ b. if b then Err TooLong else judged (formula_symbols text)) (not_below _ _ h)
 
-pub parsed_refused : (text : List ℕ) (ts : List Lexeme) (e : ParseFault) → length text ≤ max_formula → ts ≡ formula_lexemes text → refusal_of ts ≡ Some e → parsed text ≡ Err e
+pub parsed_refused : (text : List ℕ) (ts : List Symbol) (e : ParseFault) → length text ≤ max_formula → ts ≡ formula_symbols text → refusal_of ts ≡ Some e → parsed text ≡ Err e
 parsed_refused text ts e h is r = parsed_short text h ∙ ap judged (sym is) ∙ ap (λ o. unless_refused o (whole (max_depth + 1) ts)) r
 
-pub parsed_whole : (text : List ℕ) (ts : List Lexeme) → length text ≤ max_formula → ts ≡ formula_lexemes text → refusal_of ts ≡ None → parsed text ≡ ok_or (whole (max_depth + 1) ts) Syntax
+pub parsed_whole : (text : List ℕ) (ts : List Symbol) → length text ≤ max_formula → ts ≡ formula_symbols text → refusal_of ts ≡ None → parsed text ≡ ok_or (whole (max_depth + 1) ts) Syntax
 parsed_whole text ts h is r = parsed_short text h ∙ ap judged (sym is) ∙ ap (λ o. unless_refused o (whole (max_depth + 1) ts)) r
 
-judged_ok : (ts : List Lexeme) (t : Tree) (o : Option ParseFault) (found : Option Tree) → unless_refused o found ≡ Ok t → found ≡ Some t
+judged_ok : (ts : List Symbol) (t : Tree) (o : Option ParseFault) (found : Option Tree) → unless_refused o found ≡ Ok t → found ≡ Some t
 judged_ok ts t (Some e) found h = cc
 judged_ok ts t None None h = cc
 judged_ok ts t None (Some u) h = cc
@@ -82,16 +82,16 @@ length_or : (b : Bool) (r : Result Tree ParseFault) (t : Tree) → (if b then Er
 length_or true r t h = cc
 length_or false r t h = h
 
-parsed_spells : (text : List ℕ) (t : Tree) → parsed text ≡ Ok t → Spells loosest t (formula_lexemes text)
+parsed_spells : (text : List ℕ) (t : Tree) → parsed text ≡ Ok t → Spells loosest t (formula_symbols text)
 unfolding parsed
 parsed_spells text t h =
-    let ts = formula_lexemes text in
+    let ts = formula_symbols text in
     let inside : judged ts ≡ Ok t = length_or (nat_lt max_formula (length text)) (judged ts) t h in
     whole_sound (max_depth + 1) ts t (judged_ok ts t (refusal_of ts) (whole (max_depth + 1) ts) inside)
 
 -- ---- what is answered
 
-pub reads_as : {A : Type 0} (found : Result A ParseFault) (e : ParseFault) → found ≡ Err e → Reads found (Err e)
+pub reads_as : {A : Type 0} (found : Result A ParseFault) (e : ParseFault) → found ≡ Err e → ReadsAs found (Err e)
 reads_as found TooLong h = h
 reads_as found OutOfSheet h = h
 reads_as found NumberRange h = h
@@ -100,7 +100,7 @@ reads_as found Syntax h = h
 reads_as found Memory h = tt
 
 -- a whole that could not be read
-pub reads_fault : (found : Result Tree ParseFault) (o : Option Tree) (e : ParseFault) → found ≡ ok_or o Syntax → Fails e o → Reads found (Err e)
+pub reads_fault : (found : Result Tree ParseFault) (o : Option Tree) (e : ParseFault) → found ≡ ok_or o Syntax → Fails e o → ReadsAs found (Err e)
 reads_fault found o TooLong h f = absurd f
 reads_fault found o OutOfSheet h f = absurd f
 reads_fault found o NumberRange h f = absurd f
@@ -108,11 +108,11 @@ reads_fault found o TooDeep h f = absurd f
 reads_fault found o Syntax h f = h ∙ ap (λ o. ok_or o Syntax) f
 reads_fault found o Memory h f = tt
 
-pub reads_spelled : (text : List ℕ) (r : Result Tree ParseFault) → Reads (parsed text) r → IfOk r (λ t. Spells loosest t (formula_lexemes text))
+pub reads_spelled : (text : List ℕ) (r : Result Tree ParseFault) → ReadsAs (parsed text) r → IfOk r (λ t. Spells loosest t (formula_symbols text))
 reads_spelled text (Ok t) h = parsed_spells text t h
 reads_spelled text (Err e) h = tt
 
-answered : (found : Result Tree ParseFault) (t : Tree) (r : Result Tree ParseFault) → Reads found r → found ≡ Ok t → Answers t r
+answered : (found : Result Tree ParseFault) (t : Tree) (r : Result Tree ParseFault) → ReadsAs found r → found ≡ Ok t → IsOrMemory t r
 answered found t (Ok u) h is = cc
 answered found t (Err TooLong) h is = let bad = sym h ∙ is in cc
 answered found t (Err OutOfSheet) h is = let bad = sym h ∙ is in cc
@@ -121,6 +121,6 @@ answered found t (Err TooDeep) h is = let bad = sym h ∙ is in cc
 answered found t (Err Syntax) h is = let bad = sym h ∙ is in cc
 answered found t (Err Memory) h is = tt
 
-pub reads_only : (text : List ℕ) (r : Result Tree ParseFault) → Reads (parsed text) r → (t : Tree) → Spells loosest t (formula_lexemes text) → length text ≤ max_formula
-    → deepest 0 (formula_lexemes text) ≤ max_depth → most_signs 0 (formula_lexemes text) ≤ max_depth → Answers t r
-reads_only text r h t s l d e = answered (parsed text) t r h (parsed_short text l ∙ judged_spelled (formula_lexemes text) t s d e)
+pub reads_only : (text : List ℕ) (r : Result Tree ParseFault) → ReadsAs (parsed text) r → (t : Tree) → Spells loosest t (formula_symbols text) → length text ≤ max_formula
+    → deepest 0 (formula_symbols text) ≤ max_depth → most_signs 0 (formula_symbols text) ≤ max_depth → IsOrMemory t r
+reads_only text r h t s l d e = answered (parsed text) t r h (parsed_short text l ∙ judged_spelled (formula_symbols text) t s d e)

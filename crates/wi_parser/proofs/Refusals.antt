@@ -2,11 +2,11 @@
 use Rattle.std.proofs.Common.{◌≡◌, ℕ, suc, ◌≤◌, Bool, true, false, ◌||◌, List, [], ◌∷◌, refl, ap, arith, if◌then◌else◌}
 use Rattle.std.specs.List.{list_any}
 use Rattle.wi_parser.specs.declared.word.Word.{Word}
-use Rattle.wi_parser.specs.Lexeme.{Lexeme}
+use Rattle.wi_parser.specs.Symbol.{Symbol}
 use Rattle.wi_parser.specs.Nesting.{is_sign, most_signs}
 use Rattle.wi_parser.specs.Words.{meant_by, all_meant}
 
-pub any_meant : (p : Lexeme → Bool) (ws : List Word) → list_any p (all_meant ws) ≡ list_any (λ w. p (meant_by w)) ws
+pub any_meant : (p : Symbol → Bool) (ws : List Word) → list_any p (all_meant ws) ≡ list_any (λ w. p (meant_by w)) ws
 any_meant p [] = refl
 any_meant p (w ∷ ws) = ap (λ b. p (meant_by w) || b) (any_meant p ws)
 
@@ -14,6 +14,6 @@ least_if : (b : Bool) (n m k : ℕ) → n ≤ m → n ≤ k → n ≤ (if b then
 least_if true n m k h e = h
 least_if false n m k h e = e
 
-pub least_signs : (n : ℕ) (ts : List Lexeme) → n ≤ most_signs n ts
+pub least_signs : (n : ℕ) (ts : List Symbol) → n ≤ most_signs n ts
 least_signs n [] = omega arith
 least_signs n (x ∷ ts) = least_if (is_sign x) n _ _ (let h = least_signs (suc n) ts in omega arith) (omega arith)

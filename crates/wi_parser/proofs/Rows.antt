@@ -17,13 +17,13 @@ use Rattle.wi_parser.specs.declared.content.Content.TheVariants.{Constant}
 use Rattle.wi_parser.specs.declared.expr.Operator.TheVariants.{Add, Subtract, Multiply}
 use Rattle.wi_parser.specs.declared.fault.ParseFault.TheVariants.{OutOfSheet, Syntax}
 use Rattle.wi_parser.specs.Tree.{number, cell, parenthesized, binary}
-use Rattle.wi_parser.specs.Lexeme.{Lexeme, numeral, open_mark, close_mark, infix_mark}
+use Rattle.wi_parser.specs.Symbol.{Symbol, numeral, open_mark, close_mark, infix_mark}
 use Rattle.wi_parser.specs.Reader.{atom, chain, line, expression}
-use Rattle.wi_parser.specs.FormulaText.{number_lexeme, formula_lexemes}
+use Rattle.wi_parser.specs.FormulaText.{number_symbol, formula_symbols}
 use Rattle.wi_parser.specs.Reading.{judged, parsed, content_read}
 use Rattle.wi_parser.proofs.Parses.{parsed_short}
 
--- ---- lexemes
+-- ---- symbols
 
 product_before_sum : (x y z : Number) → judged (numeral x ∷ infix_mark Add ∷ numeral y ∷ infix_mark Multiply ∷ numeral z ∷ []) ≡ Ok (binary Add (number x) (binary Multiply (number y) (number z)))
 unfolding atom chain line expression
@@ -72,57 +72,57 @@ unfolding read_decimal decimal_after number_of gcd gcd_within
 read_three = number_at-some (pos 3) 1 three refl refl
 
 -- three numbers with two operators between
-abbrev of_three : Lexeme → Lexeme → Option Number → Option Number → Option Number → List Lexeme
-of_three a b x y z = number_lexeme x ∷ a ∷ number_lexeme y ∷ b ∷ number_lexeme z ∷ []
+abbrev of_three : Symbol → Symbol → Option Number → Option Number → Option Number → List Symbol
+of_three a b x y z = number_symbol x ∷ a ∷ number_symbol y ∷ b ∷ number_symbol z ∷ []
 
-one_two_three : (a b : Lexeme) → of_three a b (read_decimal (codes "1")) (read_decimal (codes "2")) (read_decimal (codes "3")) ≡ numeral one ∷ a ∷ numeral two ∷ b ∷ numeral three ∷ []
+one_two_three : (a b : Symbol) → of_three a b (read_decimal (codes "1")) (read_decimal (codes "2")) (read_decimal (codes "3")) ≡ numeral one ∷ a ∷ numeral two ∷ b ∷ numeral three ∷ []
 one_two_three a b =
     ap (λ x. of_three a b x (read_decimal (codes "2")) (read_decimal (codes "3"))) read_one
     ∙ ap (λ y. of_three a b (Some one) y (read_decimal (codes "3"))) read_two
     ∙ ap (λ z. of_three a b (Some one) (Some two) z) read_three
 
-sum_lexemes : formula_lexemes (codes "=1+2*3") ≡ of_three (infix_mark Add) (infix_mark Multiply) (read_decimal (codes "1")) (read_decimal (codes "2")) (read_decimal (codes "3"))
-unfolding formula_lexemes tokens tokens_within token_at number_len decimals_len mark_at reference_len reference_of cell_of
-sum_lexemes = refl
+sum_symbols : formula_symbols (codes "=1+2*3") ≡ of_three (infix_mark Add) (infix_mark Multiply) (read_decimal (codes "1")) (read_decimal (codes "2")) (read_decimal (codes "3"))
+unfolding formula_symbols tokens tokens_within token_at number_len decimals_len mark_at reference_len reference_of cell_of
+sum_symbols = refl
 
 sum_of_product : parsed (codes "=1+2*3") ≡ Ok (binary Add (number one) (binary Multiply (number two) (number three)))
-sum_of_product = parsed_short _ (lit≤ tt) ∙ ap judged (sum_lexemes ∙ one_two_three _ _) ∙ product_before_sum one two three
+sum_of_product = parsed_short _ (lit≤ tt) ∙ ap judged (sum_symbols ∙ one_two_three _ _) ∙ product_before_sum one two three
 
-difference_lexemes : formula_lexemes (codes "of:= 1-2 -3 ") ≡ of_three (infix_mark Subtract) (infix_mark Subtract) (read_decimal (codes "1")) (read_decimal (codes "2")) (read_decimal (codes "3"))
-unfolding formula_lexemes tokens tokens_within token_at number_len decimals_len mark_at reference_len reference_of cell_of
-difference_lexemes = refl
+difference_symbols : formula_symbols (codes "of:= 1-2 -3 ") ≡ of_three (infix_mark Subtract) (infix_mark Subtract) (read_decimal (codes "1")) (read_decimal (codes "2")) (read_decimal (codes "3"))
+unfolding formula_symbols tokens tokens_within token_at number_len decimals_len mark_at reference_len reference_of cell_of
+difference_symbols = refl
 
 differences : parsed (codes "of:= 1-2 -3 ") ≡ Ok (binary Subtract (binary Subtract (number one) (number two)) (number three))
-differences = parsed_short _ (lit≤ tt) ∙ ap judged (difference_lexemes ∙ one_two_three _ _) ∙ groups_to_the_left one two three
+differences = parsed_short _ (lit≤ tt) ∙ ap judged (difference_symbols ∙ one_two_three _ _) ∙ groups_to_the_left one two three
 
-enclosed_lexemes : formula_lexemes (codes "=(1)") ≡ open_mark ∷ number_lexeme (read_decimal (codes "1")) ∷ close_mark ∷ []
-unfolding formula_lexemes tokens tokens_within token_at number_len decimals_len mark_at reference_len reference_of cell_of
-enclosed_lexemes = refl
+enclosed_symbols : formula_symbols (codes "=(1)") ≡ open_mark ∷ number_symbol (read_decimal (codes "1")) ∷ close_mark ∷ []
+unfolding formula_symbols tokens tokens_within token_at number_len decimals_len mark_at reference_len reference_of cell_of
+enclosed_symbols = refl
 
 enclosed : parsed (codes "=(1)") ≡ Ok (parenthesized (number one))
-enclosed = parsed_short _ (lit≤ tt) ∙ ap judged (enclosed_lexemes ∙ ap (λ x. open_mark ∷ number_lexeme x ∷ close_mark ∷ []) read_one) ∙ keeps_parentheses one
+enclosed = parsed_short _ (lit≤ tt) ∙ ap judged (enclosed_symbols ∙ ap (λ x. open_mark ∷ number_symbol x ∷ close_mark ∷ []) read_one) ∙ keeps_parentheses one
 
-unfinished_lexemes : formula_lexemes (codes "=1+") ≡ number_lexeme (read_decimal (codes "1")) ∷ infix_mark Add ∷ []
-unfolding formula_lexemes tokens tokens_within token_at number_len decimals_len mark_at reference_len reference_of cell_of
-unfinished_lexemes = refl
+unfinished_symbols : formula_symbols (codes "=1+") ≡ number_symbol (read_decimal (codes "1")) ∷ infix_mark Add ∷ []
+unfolding formula_symbols tokens tokens_within token_at number_len decimals_len mark_at reference_len reference_of cell_of
+unfinished_symbols = refl
 
 unfinished : parsed (codes "=1+") ≡ Err Syntax
-unfinished = parsed_short _ (lit≤ tt) ∙ ap judged (unfinished_lexemes ∙ ap (λ x. number_lexeme x ∷ infix_mark Add ∷ []) read_one) ∙ no_operand one
+unfinished = parsed_short _ (lit≤ tt) ∙ ap judged (unfinished_symbols ∙ ap (λ x. number_symbol x ∷ infix_mark Add ∷ []) read_one) ∙ no_operand one
 
 absolute_column : parsed (codes "=[.$b3]") ≡ Ok (cell (record { at = place 2 1; column_is_absolute = true; row_is_absolute = false }))
-unfolding parsed formula_lexemes tokens tokens_within token_at number_len decimals_len mark_at reference_len reference_of cell_of address_at atom chain line expression
+unfolding parsed formula_symbols tokens tokens_within token_at number_len decimals_len mark_at reference_len reference_of cell_of address_at atom chain line expression
 absolute_column = refl
 
 row_zero : parsed (codes "=[.A0]") ≡ Err Syntax
-unfolding parsed formula_lexemes tokens tokens_within token_at number_len decimals_len mark_at reference_len reference_of cell_of address_at atom chain line expression
+unfolding parsed formula_symbols tokens tokens_within token_at number_len decimals_len mark_at reference_len reference_of cell_of address_at atom chain line expression
 row_zero = refl
 
 outside_first : parsed (codes "=[.XFE1]+") ≡ Err OutOfSheet
-unfolding parsed formula_lexemes tokens tokens_within token_at number_len decimals_len mark_at reference_len reference_of cell_of address_at atom chain line expression
+unfolding parsed formula_symbols tokens tokens_within token_at number_len decimals_len mark_at reference_len reference_of cell_of address_at atom chain line expression
 outside_first = refl
 
 no_equals : parsed (codes "[.A1]") ≡ Err Syntax
-unfolding parsed formula_lexemes tokens tokens_within token_at number_len decimals_len mark_at reference_len reference_of cell_of address_at atom chain line expression
+unfolding parsed formula_symbols tokens tokens_within token_at number_len decimals_len mark_at reference_len reference_of cell_of address_at atom chain line expression
 no_equals = refl
 
 -- ---- contents

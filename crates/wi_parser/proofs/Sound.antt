@@ -3,7 +3,7 @@ use Rattle.std.proofs.Common.{◌≡◌, ℕ, zero, suc, Bool, true, false, cond
 use Rattle.std.proofs.lemmas.Bool.{eqb-true}
 use Rattle.wi_parser.specs.declared.expr.Operator.{Operator}
 use Rattle.wi_parser.specs.Tree.{Tree, number, cell, parenthesized, binary}
-use Rattle.wi_parser.specs.Lexeme.{Lexeme, numeral, reference, open_mark, close_mark, infix_mark, refused}
+use Rattle.wi_parser.specs.Symbol.{Symbol, numeral, reference, open_mark, close_mark, infix_mark, refused}
 use Rattle.wi_parser.specs.Grammar.{line_of, loosest, Spells, a_number, a_cell, in_marks, tighter, joined}
 use Rattle.wi_parser.specs.Reader.{Parse, Read, read_then, then_close, after_close, operator_at, atom, chain, chain_step, line, expression, if_last, whole}
 
@@ -22,11 +22,11 @@ parts {A} {B} a c b d h =
     let e : p ≡ q = inside p q h in
     (ap (λ r. r.0) e, ap (λ r. r.1) e)
 
-then_ok : (f : Tree → Parse) (r : Read) (q : Tree × List Lexeme) → read_then f r ≡ Some q → (p : Tree × List Lexeme) × (r ≡ Some p) × (f p.0 p.1 ≡ Some q)
+then_ok : (f : Tree → Parse) (r : Read) (q : Tree × List Symbol) → read_then f r ≡ Some q → (p : Tree × List Symbol) × (r ≡ Some p) × (f p.0 p.1 ≡ Some q)
 then_ok f None q h = cc
 then_ok f (Some p) q h = (p, refl, h)
 
-close_is : (ts us : List Lexeme) → after_close ts ≡ Some us → ts ≡ close_mark ∷ us
+close_is : (ts us : List Symbol) → after_close ts ≡ Some us → ts ≡ close_mark ∷ us
 close_is [] us h = cc
 close_is (numeral x ∷ ts) us h = cc
 close_is (reference r ∷ ts) us h = cc
@@ -39,7 +39,7 @@ passed : {A : Type 0} (b : Bool) (x y : A) → cond b (Some x) None ≡ Some y �
 passed true x y h = (refl, cc)
 passed false x y h = cc
 
-operator_is : (k : ℕ) (ts us : List Lexeme) (op : Operator) → operator_at k ts ≡ Some (op, us) → (line_of op ≡ k) × (ts ≡ infix_mark op ∷ us)
+operator_is : (k : ℕ) (ts us : List Symbol) (op : Operator) → operator_at k ts ≡ Some (op, us) → (line_of op ≡ k) × (ts ≡ infix_mark op ∷ us)
 operator_is k [] us op h = cc
 operator_is k (numeral x ∷ ts) us op h = cc
 operator_is k (reference r ∷ ts) us op h = cc
@@ -56,10 +56,10 @@ operator_is k (refused e ∷ ts) us op h = cc
 
 -- what a parser finds is spelled by line k, and the rest follows
 abbrev pub Finds : ℕ → Parse → Type 0
-Finds k p = (ts : List Lexeme) (t : Tree) (rest : List Lexeme) → p ts ≡ Some (t, rest) → (us : List Lexeme) × Spells k t us × (ts ≡ us ++ rest)
+Finds k p = (ts : List Symbol) (t : Tree) (rest : List Symbol) → p ts ≡ Some (t, rest) → (us : List Symbol) × Spells k t us × (ts ≡ us ++ rest)
 
 module _ (inner : Parse) (sound : Finds 2 inner) where
-  closed_sound : (t u : Tree) (ts rest : List Lexeme) (o : Option (List Lexeme)) → after_close ts ≡ o → then_close (parenthesized t) ts ≡ Some (u, rest) → (parenthesized t ≡ u) × (ts ≡ close_mark ∷ rest)
+  closed_sound : (t u : Tree) (ts rest : List Symbol) (o : Option (List Symbol)) → after_close ts ≡ o → then_close (parenthesized t) ts ≡ Some (u, rest) → (parenthesized t ≡ u) × (ts ≡ close_mark ∷ rest)
   closed_sound t u ts rest None is e = cc
   closed_sound t u ts rest (Some us) is e =
       let both = parts (parenthesized t) u us rest (ap (option_map (λ l. (parenthesized t, l))) (sym is) ∙ e) in
@@ -86,16 +86,16 @@ module _ (inner : Parse) (sound : Finds 2 inner) where
   atom_sound (infix_mark op ∷ ts) t rest h = cc
   atom_sound (refused e ∷ ts) t rest h = cc
 
-  chain_sound : (next : Parse) (k : ℕ) → Finds k next → (n : ℕ) (left : Tree) (ls ts : List Lexeme) (t : Tree) (rest : List Lexeme) → Spells (suc k) left ls → chain next (suc k) n left ts ≡ Some (t, rest)
-      → (us : List Lexeme) × Spells (suc k) t us × (ls ++ ts ≡ us ++ rest)
+  chain_sound : (next : Parse) (k : ℕ) → Finds k next → (n : ℕ) (left : Tree) (ls ts : List Symbol) (t : Tree) (rest : List Symbol) → Spells (suc k) left ls → chain next (suc k) n left ts ≡ Some (t, rest)
+      → (us : List Symbol) × Spells (suc k) t us × (ls ++ ts ≡ us ++ rest)
   unfolding chain
   chain_sound next k finds zero left ls ts t rest s h =
       let both = parts left t ts rest h in
       (ls, subst (λ u. Spells (suc k) u ls) both.0 s, ap (λ l. ls ++ l) both.1)
   chain_sound next k finds (suc n) left ls ts t rest s h = at_operator (λ l us vs w e. chain_sound next k finds n l us vs t rest w e) (operator_at (suc k) ts) refl h
     where
-      at_operator : ((l : Tree) (us vs : List Lexeme) → Spells (suc k) l us → chain next (suc k) n l vs ≡ Some (t, rest) → (ws : List Lexeme) × Spells (suc k) t ws × (us ++ vs ≡ ws ++ rest)) → (o : Option (Operator × List Lexeme)) → operator_at (suc k) ts ≡ o → chain_step next (chain next (suc k) n) left ts o ≡ Some (t, rest)
-          → (us : List Lexeme) × Spells (suc k) t us × (ls ++ ts ≡ us ++ rest)
+      at_operator : ((l : Tree) (us vs : List Symbol) → Spells (suc k) l us → chain next (suc k) n l vs ≡ Some (t, rest) → (ws : List Symbol) × Spells (suc k) t ws × (us ++ vs ≡ ws ++ rest)) → (o : Option (Operator × List Symbol)) → operator_at (suc k) ts ≡ o → chain_step next (chain next (suc k) n) left ts o ≡ Some (t, rest)
+          → (us : List Symbol) × Spells (suc k) t us × (ls ++ ts ≡ us ++ rest)
       at_operator again None is e =
           let both = parts left t ts rest e in
           (ls, subst (λ u. Spells (suc k) u ls) both.0 s, ap (λ l. ls ++ l) both.1)
@@ -120,7 +120,7 @@ unfolding expression
 expression_sound zero ts t rest h = cc
 expression_sound (suc d) ts t rest h = line_sound (expression d) (expression_sound d) 2 ts t rest h
 
-last_ok : (t u : Tree) (rest : List Lexeme) → if_last t rest ≡ Some u → (t ≡ u) × (rest ≡ [])
+last_ok : (t u : Tree) (rest : List Symbol) → if_last t rest ≡ Some u → (t ≡ u) × (rest ≡ [])
 last_ok t u [] h = (cc, refl)
 last_ok t u (x ∷ rest) h = cc
 
@@ -128,8 +128,8 @@ some_first : (r : Read) (t : Tree) → option_and_then (λ p. if_last p.0 p.1) r
 some_first None t h = cc
 some_first (Some p) t h = let l = last_ok p.0 t p.1 h in ap (λ u. Some (u, p.1)) l.0 ∙ ap (λ r. Some (t, r)) l.1
 
--- what the lexemes are read as is spelled by them
-pub whole_sound : (d : ℕ) (ts : List Lexeme) (t : Tree) → whole d ts ≡ Some t → Spells loosest t ts
+-- what the symbols are read as is spelled by them
+pub whole_sound : (d : ℕ) (ts : List Symbol) (t : Tree) → whole d ts ≡ Some t → Spells loosest t ts
 whole_sound d ts t h =
     let a = expression_sound d ts t [] (some_first (expression d ts) t h) in
     subst (λ l. Spells 2 t l) (sym (a.2 ∙ append-nil a.0)) a.1

@@ -1,16 +1,16 @@
--- One turn of the reader's loop, and how many lexemes it takes.
+-- One turn of the reader's loop, and how many symbols it takes.
 use Rattle.std.proofs.Common.{◌≡◌, ℕ, zero, suc, ◌+◌, ◌-◌, ◌<◌, cond, true, false, Bool, List, [], ◌∷◌, length, Option, Some, None, refl, sym, ap, ◌∙◌, arith}
 use Rattle.wi_parser.specs.declared.expr.Operator.{Operator}
 use Rattle.wi_parser.specs.Tree.{Tree, binary}
-use Rattle.wi_parser.specs.Lexeme.{Lexeme, numeral, reference, open_mark, close_mark, infix_mark, refused}
+use Rattle.wi_parser.specs.Symbol.{Symbol, numeral, reference, open_mark, close_mark, infix_mark, refused}
 use Rattle.wi_parser.specs.declared.fault.ParseFault.{ParseFault}
 use Rattle.wi_parser.specs.declared.fault.ParseFault.TheVariants.{TooLong, OutOfSheet, NumberRange, TooDeep, Syntax, Memory}
 use Rattle.wi_parser.specs.Outcome.{Fails}
 use Rattle.wi_parser.specs.Reader.{Parse, read_then, after_close, operator_at, chain, chain_step, line}
 
--- ---- a mark is one lexeme
+-- ---- a mark is one symbol
 
-pub close-length : (ts us : List Lexeme) → after_close ts ≡ Some us → length ts ≡ length us + 1
+pub close-length : (ts us : List Symbol) → after_close ts ≡ Some us → length ts ≡ length us + 1
 close-length [] us h = cc
 close-length (numeral x ∷ ts) us h = cc
 close-length (reference r ∷ ts) us h = cc
@@ -23,7 +23,7 @@ chosen : {A : Type 0} (b : Bool) (x y : A) → cond b (Some x) None ≡ Some y �
 chosen true x y h = cc
 chosen false x y h = cc
 
-pub operator-length : (k : ℕ) (ts us : List Lexeme) (op : Operator) → operator_at k ts ≡ Some (op, us) → length ts ≡ length us + 1
+pub operator-length : (k : ℕ) (ts us : List Symbol) (op : Operator) → operator_at k ts ≡ Some (op, us) → length ts ≡ length us + 1
 operator-length k [] us op h = cc
 operator-length k (numeral x ∷ ts) us op h = cc
 operator-length k (reference r ∷ ts) us op h = cc
@@ -34,18 +34,18 @@ operator-length k (refused e ∷ ts) us op h = cc
 
 -- ---- operators
 
-pub chain_stop : (next : Parse) (k n : ℕ) (left : Tree) (ts : List Lexeme) → operator_at k ts ≡ None → chain next k n left ts ≡ Some (left, ts)
+pub chain_stop : (next : Parse) (k n : ℕ) (left : Tree) (ts : List Symbol) → operator_at k ts ≡ None → chain next k n left ts ≡ Some (left, ts)
 unfolding chain
 chain_stop next k zero left ts h = refl
 chain_stop next k (suc n) left ts h = ap (chain_step next (chain next k n) left ts) h
 
-pub chain_fail : (next : Parse) (k n : ℕ) (left : Tree) (ts us : List Lexeme) (op : Operator) → 0 < n → operator_at k ts ≡ Some (op, us) → next us ≡ None → chain next k n left ts ≡ None
+pub chain_fail : (next : Parse) (k n : ℕ) (left : Tree) (ts us : List Symbol) (op : Operator) → 0 < n → operator_at k ts ≡ Some (op, us) → next us ≡ None → chain next k n left ts ≡ None
 unfolding chain
 chain_fail next k zero left ts us op some h e = absurd (omega arith)
 chain_fail next k (suc n) left ts us op some h e =
     ap (chain_step next (chain next k n) left ts) h ∙ ap (read_then (λ r rest. chain next k n (binary op left r) rest)) e
 
-pub chain_more : (next : Parse) (k n : ℕ) (left r : Tree) (ts us rest : List Lexeme) (op : Operator) → 0 < n → operator_at k ts ≡ Some (op, us) → next us ≡ Some (r, rest)
+pub chain_more : (next : Parse) (k n : ℕ) (left r : Tree) (ts us rest : List Symbol) (op : Operator) → 0 < n → operator_at k ts ≡ Some (op, us) → next us ≡ Some (r, rest)
     → chain next k n left ts ≡ chain next k (n - 1) (binary op left r) rest
 unfolding chain
 chain_more next k zero left r ts us rest op some h e = absurd (omega arith)
@@ -54,7 +54,7 @@ chain_more next k (suc n) left r ts us rest op some h e =
     ap (chain_step next (chain next k n) left ts) h ∙ ap (read_then (λ r rest. chain next k n (binary op left r) rest)) e
     ∙ ap (λ m. chain next k m (binary op left r) rest) (sym less)
 
-pub line_more : (inner : Parse) (k : ℕ) (ts : List Lexeme) → 0 < k → line inner k ts ≡ read_then (λ t rest. chain (line inner (k - 1)) k (length rest) t rest) (line inner (k - 1) ts)
+pub line_more : (inner : Parse) (k : ℕ) (ts : List Symbol) → 0 < k → line inner k ts ≡ read_then (λ t rest. chain (line inner (k - 1)) k (length rest) t rest) (line inner (k - 1) ts)
 unfolding line
 line_more inner zero ts h = absurd (omega arith)
 line_more inner (suc k) ts h =

@@ -1,4 +1,4 @@
--- The lexemes of a formula's text.
+-- The symbols of a formula's text.
 use Rattle.std.specs.Prelude.{ℕ, List, [], ◌∷◌, ◌++◌, map, codes, ◌==◌, if◌then◌else◌, Option, Some, None, unwrap_or}
 use Rattle.wi_fraction.specs.Number.{Number as Numbers}
 use Rattle.wi_fraction.specs.Text.{read_decimal}
@@ -12,41 +12,41 @@ use Rattle.wi_lexer.specs.Reference.{reference_of}
 use Rattle.wi_lexer.specs.Tokens.{Tokens, tokens}
 use Rattle.wi_parser.specs.declared.expr.Operator.TheVariants.{Add, Subtract, Multiply, Divide}
 use Rattle.wi_parser.specs.declared.fault.ParseFault.TheVariants.{OutOfSheet, NumberRange, Syntax}
-use Rattle.wi_parser.specs.Lexeme.{Lexeme, numeral, reference, open_mark, close_mark, infix_mark, refused}
+use Rattle.wi_parser.specs.Symbol.{Symbol, numeral, reference, open_mark, close_mark, infix_mark, refused}
 
 -- ---- tokens
 
 -- a number, if it fits
-abbrev pub number_lexeme : Option Numbers → Lexeme
-number_lexeme None = refused NumberRange
-number_lexeme (Some x) = numeral x
+abbrev pub number_symbol : Option Numbers → Symbol
+number_symbol None = refused NumberRange
+number_symbol (Some x) = numeral x
 
 -- a cell as written, at its address, if the sheet has it
-abbrev pub cell_lexeme : Cell → Option ℕ → Lexeme
-cell_lexeme c None = refused OutOfSheet
-cell_lexeme c (Some a) = reference (record { at = a; column_is_absolute = c.column_fixed; row_is_absolute = c.row_fixed })
+abbrev pub cell_symbol : Cell → Option ℕ → Symbol
+cell_symbol c None = refused OutOfSheet
+cell_symbol c (Some a) = reference (record { at = a; column_is_absolute = c.column_is_absolute; row_is_absolute = c.row_is_absolute })
 
-abbrev pub reference_lexeme : Option Cell → Lexeme
-reference_lexeme None = refused Syntax
-reference_lexeme (Some c) = cell_lexeme c (address_at c.letters c.digits)
+abbrev pub reference_symbol : Option Cell → Symbol
+reference_symbol None = refused Syntax
+reference_symbol (Some c) = cell_symbol c (address_at c.letters c.digits)
 
-abbrev pub mark_lexeme : mark.Mark → Lexeme
-mark_lexeme OpenParenthesis = open_mark
-mark_lexeme CloseParenthesis = close_mark
-mark_lexeme Plus = infix_mark Add
-mark_lexeme Minus = infix_mark Subtract
-mark_lexeme Asterisk = infix_mark Multiply
-mark_lexeme Slash = infix_mark Divide
+abbrev pub mark_symbol : mark.Mark → Symbol
+mark_symbol OpenParenthesis = open_mark
+mark_symbol CloseParenthesis = close_mark
+mark_symbol Plus = infix_mark Add
+mark_symbol Minus = infix_mark Subtract
+mark_symbol Asterisk = infix_mark Multiply
+mark_symbol Slash = infix_mark Divide
 
 -- what a token of this kind with these bytes means
-abbrev pub lexeme_of : Kind → List ℕ → Lexeme
-lexeme_of Number bs = number_lexeme (read_decimal bs)
-lexeme_of Reference bs = reference_lexeme (reference_of bs)
-lexeme_of (Mark m) bs = mark_lexeme m
+abbrev pub symbol_of : Kind → List ℕ → Symbol
+symbol_of Number bs = number_symbol (read_decimal bs)
+symbol_of Reference bs = reference_symbol (reference_of bs)
+symbol_of (Mark m) bs = mark_symbol m
 
 -- what tokens mean; a bad one, which ends them, is refused
-abbrev pub lexemes_of : Tokens → List Lexeme
-lexemes_of ts = map (λ t. lexeme_of t.0 t.1) ts.found ++ (if ts.bad then refused Syntax ∷ [] else [])
+abbrev pub symbols_of : Tokens → List Symbol
+symbols_of ts = map (λ t. symbol_of t.0 t.1) ts.found ++ (if ts.bad then refused Syntax ∷ [] else [])
 
 -- ---- the text
 
@@ -64,10 +64,10 @@ after_prefix text = unwrap_or (after (codes "of:") text) text
 abbrev pub after_equals : List ℕ → Option (List ℕ)
 after_equals text = after (codes "=") (after_prefix text)
 
-abbrev pub lexemes_by : List ℕ → Option (List ℕ) → List Lexeme
-lexemes_by text (Some body) = lexemes_of (tokens body)
-lexemes_by text None = refused Syntax ∷ lexemes_of (tokens text)
+abbrev pub symbols_by : List ℕ → Option (List ℕ) → List Symbol
+symbols_by text (Some body) = symbols_of (tokens body)
+symbols_by text None = refused Syntax ∷ symbols_of (tokens text)
 
--- the lexemes of a formula after its `=`; a text that does not begin with it has a refused one first
-unfoldable pub formula_lexemes : List ℕ → List Lexeme
-formula_lexemes text = lexemes_by (after_prefix text) (after_equals text)
+-- the symbols of a formula after its `=`; a text that does not begin with it has a refused one first
+unfoldable pub formula_symbols : List ℕ → List Symbol
+formula_symbols text = symbols_by (after_prefix text) (after_equals text)

@@ -1,11 +1,11 @@
--- The grammar of formulas: which lexemes spell which tree.
+-- The grammar of formulas: which symbols spell which tree (OpenFormula, "Expression Syntax").
 use Rattle.std.specs.Prelude.{◌≡◌, ℕ, suc, List, [], ◌∷◌, ◌++◌}
 use Rattle.wi_fraction.specs.Number.{Number}
 use Rattle.wi_parser.specs.declared.expr.Operator.{Operator}
 use Rattle.wi_parser.specs.declared.expr.Operator.TheVariants.{Add, Subtract, Multiply, Divide}
 use Rattle.wi_parser.specs.declared.expr.Reference.{Reference}
 use Rattle.wi_parser.specs.Tree.{Tree, number, cell, parenthesized, binary}
-use Rattle.wi_parser.specs.Lexeme.{Lexeme, numeral, reference, open_mark, close_mark, infix_mark}
+use Rattle.wi_parser.specs.Symbol.{Symbol, numeral, reference, open_mark, close_mark, infix_mark}
 
 -- the line of the grammar that has the operator: 1 Product, 2 Sum
 abbrev pub line_of : Operator → ℕ
@@ -18,13 +18,13 @@ line_of Subtract = 2
 abbrev pub loosest : ℕ
 loosest = 2
 
--- The lexemes spell the tree by line k: 0 Atom, 1 Product, 2 Sum.
-pub data Spells : ℕ → Tree → List Lexeme → Type 0 where
+-- The symbols spell the tree by line k: 0 Atom, 1 Product, 2 Sum.
+pub data Spells : ℕ → Tree → List Symbol → Type 0 where
   a_number : (x : Number) → Spells 0 (number x) (numeral x ∷ [])
   a_cell : (r : Reference) → Spells 0 (cell r) (reference r ∷ [])
-  in_marks : (t : Tree) (ts : List Lexeme) → Spells 2 t ts → Spells 0 (parenthesized t) (open_mark ∷ ts ++ close_mark ∷ [])
+  in_marks : (t : Tree) (ts : List Symbol) → Spells loosest t ts → Spells 0 (parenthesized t) (open_mark ∷ ts ++ close_mark ∷ [])
   -- what a tighter line spells
-  tighter : (k : ℕ) (t : Tree) (ts : List Lexeme) → Spells k t ts → Spells (suc k) t ts
+  tighter : (k : ℕ) (t : Tree) (ts : List Symbol) → Spells k t ts → Spells (suc k) t ts
   -- an operator of the line between two operands, of which the left may have one too
-  joined : (k : ℕ) (op : Operator) (l r : Tree) (ls rs : List Lexeme) → line_of op ≡ suc k → Spells (suc k) l ls → Spells k r rs
+  joined : (k : ℕ) (op : Operator) (l r : Tree) (ls rs : List Symbol) → line_of op ≡ suc k → Spells (suc k) l ls → Spells k r rs
       → Spells (suc k) (binary op l r) (ls ++ infix_mark op ∷ rs)

@@ -2,7 +2,7 @@ pub mod Tree
 pub mod View
 pub mod Sheet
 pub mod Reads
-pub mod Lexeme
+pub mod Symbol
 pub mod Grammar
 pub mod Reader
 pub mod Spelling

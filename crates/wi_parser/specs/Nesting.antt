@@ -2,7 +2,7 @@
 use Rattle.std.specs.Prelude.{ℕ, suc, ◌-◌, max, List, [], ◌∷◌, Bool, true, false, ◌||◌, nat_lt, if◌then◌else◌}
 use Rattle.wi_parser.specs.declared.expr.Operator.TheVariants.{Add, Subtract, Multiply, Divide}
 use Rattle.wi_parser.specs.Tree.{Tree, number, cell, parenthesized, binary, what_if}
-use Rattle.wi_parser.specs.Lexeme.{Lexeme, numeral, reference, open_mark, close_mark, infix_mark, refused}
+use Rattle.wi_parser.specs.Symbol.{Symbol, numeral, reference, open_mark, close_mark, infix_mark, refused}
 
 -- how many parentheses are around the innermost part of a tree
 abbrev pub depth : Tree → ℕ
@@ -13,7 +13,7 @@ depth (binary op l r) = max (depth l) (depth r)
 depth (what_if f pairs) = 0
 
 -- The most parentheses that are open at once, where h are open before. One that closes none counts for nothing.
-abbrev pub deepest : ℕ → List Lexeme → ℕ
+abbrev pub deepest : ℕ → List Symbol → ℕ
 deepest h [] = h
 deepest h (numeral x ∷ ts) = deepest h ts
 deepest h (reference r ∷ ts) = deepest h ts
@@ -22,7 +22,7 @@ deepest h (close_mark ∷ ts) = max h (deepest (h - 1) ts)
 deepest h (infix_mark op ∷ ts) = deepest h ts
 deepest h (refused e ∷ ts) = deepest h ts
 
-abbrev pub is_sign : Lexeme → Bool
+abbrev pub is_sign : Symbol → Bool
 is_sign (numeral x) = false
 is_sign (reference r) = false
 is_sign open_mark = false
@@ -34,7 +34,7 @@ is_sign (infix_mark Divide) = false
 is_sign (refused e) = false
 
 -- the most `+` and `-` that stand one after another, where n stand before
-abbrev pub most_signs : ℕ → List Lexeme → ℕ
+abbrev pub most_signs : ℕ → List Symbol → ℕ
 most_signs n [] = n
 most_signs n (x ∷ ts) = if is_sign x then most_signs (suc n) ts else max n (most_signs 0 ts)
 
@@ -43,5 +43,5 @@ abbrev pub max_depth : ℕ
 max_depth = 64
 
 -- parentheses or signs nest too deep
-abbrev pub is_too_deep : List Lexeme → Bool
+abbrev pub is_too_deep : List Symbol → Bool
 is_too_deep ts = nat_lt max_depth (deepest 0 ts) || nat_lt max_depth (most_signs 0 ts)

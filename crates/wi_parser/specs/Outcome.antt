@@ -4,7 +4,7 @@ use Rattle.wi_parser.specs.declared.expr.Expr.{Expr}
 use Rattle.wi_parser.specs.declared.fault.ParseFault.{ParseFault}
 use Rattle.wi_parser.specs.declared.fault.ParseFault.TheVariants.{TooLong, OutOfSheet, NumberRange, TooDeep, Syntax, Memory}
 use Rattle.wi_parser.specs.Tree.{Tree}
-use Rattle.wi_parser.specs.Lexeme.{Lexeme}
+use Rattle.wi_parser.specs.Symbol.{Symbol}
 use Rattle.wi_parser.specs.Reader.{Read}
 use Rattle.wi_parser.specs.View.{tree_of}
 
@@ -18,7 +18,7 @@ Fails Syntax found = found ≡ None
 Fails Memory found = Unit {0}
 
 -- what a function that reads some words answers and leaves
-abbrev pub Finds : Read → Result Expr ParseFault → List Lexeme → Type 0
+abbrev pub Finds : Read → Result Expr ParseFault → List Symbol → Type 0
 Finds found (Ok e) new = found ≡ Some (tree_of e, new)
 Finds found (Err e) new = Fails e found
 

@@ -1,23 +1,23 @@
--- What a reader from the left finds: a tree and the lexemes after it, or nothing.
+-- What a reader from the left finds: a tree and the symbols after it, or nothing.
 use Rattle.std.specs.Prelude.{ℕ, zero, suc, List, [], ◌∷◌, length, cond, ◌==◌, Option, Some, None, option_map, option_and_then}
 use Rattle.wi_parser.specs.declared.expr.Operator.{Operator}
 use Rattle.wi_parser.specs.Tree.{Tree, number, cell, parenthesized, binary}
-use Rattle.wi_parser.specs.Lexeme.{Lexeme, numeral, reference, open_mark, close_mark, infix_mark, refused}
+use Rattle.wi_parser.specs.Symbol.{Symbol, numeral, reference, open_mark, close_mark, infix_mark, refused}
 use Rattle.wi_parser.specs.Grammar.{line_of, loosest}
 
 -- a tree found, and what follows it
 abbrev pub Read : Type 0
-Read = Option (Tree × List Lexeme)
+Read = Option (Tree × List Symbol)
 
 abbrev pub Parse : Type 0
-Parse = List Lexeme → Read
+Parse = List Symbol → Read
 
 -- what was found, read on from there
 abbrev pub read_then : (Tree → Parse) → Read → Read
 read_then f r = option_and_then (λ p. f p.0 p.1) r
 
 -- what follows the mark that closes, where one stands
-abbrev pub after_close : List Lexeme → Option (List Lexeme)
+abbrev pub after_close : List Symbol → Option (List Symbol)
 after_close [] = None
 after_close (numeral x ∷ ts) = None
 after_close (reference r ∷ ts) = None
@@ -27,7 +27,7 @@ after_close (infix_mark op ∷ ts) = None
 after_close (refused e ∷ ts) = None
 
 -- the operator of this line that stands first, and what follows it
-abbrev pub operator_at : ℕ → List Lexeme → Option (Operator × List Lexeme)
+abbrev pub operator_at : ℕ → List Symbol → Option (Operator × List Symbol)
 operator_at k [] = None
 operator_at k (numeral x ∷ ts) = None
 operator_at k (reference r ∷ ts) = None
@@ -51,7 +51,7 @@ atom inner (infix_mark op ∷ ts) = None
 atom inner (refused e ∷ ts) = None
 
 -- an operator, where one stands, and its right operand, and so on
-abbrev pub chain_step : Parse → (Tree → Parse) → Tree → List Lexeme → Option (Operator × List Lexeme) → Read
+abbrev pub chain_step : Parse → (Tree → Parse) → Tree → List Symbol → Option (Operator × List Symbol) → Read
 chain_step next again left ts None = Some (left, ts)
 chain_step next again left ts (Some p) = read_then (λ r rest. again (binary p.0 left r) rest) (next p.1)
 
@@ -72,10 +72,10 @@ unfolding line
 expression zero ts = None
 expression (suc d) ts = line (expression d) loosest ts
 
-abbrev pub if_last : Tree → List Lexeme → Option Tree
+abbrev pub if_last : Tree → List Symbol → Option Tree
 if_last t [] = Some t
 if_last t (x ∷ ts) = None
 
--- the tree that all of the lexemes are read as
-abbrev pub whole : ℕ → List Lexeme → Option Tree
+-- the tree that all of the symbols are read as
+abbrev pub whole : ℕ → List Symbol → Option Tree
 whole d ts = option_and_then (λ p. if_last p.0 p.1) (expression d ts)

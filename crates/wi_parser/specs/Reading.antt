@@ -8,17 +8,17 @@ use Rattle.wi_parser.specs.declared.content.Content.TheVariants.{Constant, Formu
 use Rattle.wi_parser.specs.declared.fault.ParseFault.{ParseFault}
 use Rattle.wi_parser.specs.declared.fault.ParseFault.TheVariants.{TooLong, OutOfSheet, NumberRange, TooDeep, Syntax, Memory}
 use Rattle.wi_parser.specs.Tree.{Tree}
-use Rattle.wi_parser.specs.Lexeme.{Lexeme, is_outside, is_unfit}
+use Rattle.wi_parser.specs.Symbol.{Symbol, is_outside, is_unfit}
 use Rattle.wi_parser.specs.Nesting.{is_too_deep, max_depth}
 use Rattle.wi_parser.specs.Reader.{whole}
-use Rattle.wi_parser.specs.FormulaText.{after, after_equals, formula_lexemes}
+use Rattle.wi_parser.specs.FormulaText.{after, after_equals, formula_symbols}
 
 -- the greatest length of a formula's text in bytes
 abbrev pub max_formula : ℕ
 max_formula = 4096
 
--- the first cause for which the lexemes are refused before they are read
-abbrev pub refusal_of : List Lexeme → Option ParseFault
+-- the first cause for which the symbols are refused before they are read
+abbrev pub refusal_of : List Symbol → Option ParseFault
 refusal_of ts =
     if list_any is_outside ts then Some OutOfSheet
     else (if list_any is_unfit ts then Some NumberRange
@@ -28,13 +28,13 @@ abbrev pub unless_refused : Option ParseFault → Option Tree → Result Tree Pa
 unless_refused (Some e) found = Err e
 unless_refused None found = ok_or found Syntax
 
--- the tree of the lexemes, or the first cause for which there is none
-abbrev pub judged : List Lexeme → Result Tree ParseFault
+-- the tree of the symbols, or the first cause for which there is none
+abbrev pub judged : List Symbol → Result Tree ParseFault
 judged ts = unless_refused (refusal_of ts) (whole (max_depth + 1) ts)
 
 -- the tree of a formula's text, or the first cause for which there is none
 unfoldable pub parsed : List ℕ → Result Tree ParseFault
-parsed text = if nat_lt max_formula (length text) then Err TooLong else judged (formula_lexemes text)
+parsed text = if nat_lt max_formula (length text) then Err TooLong else judged (formula_symbols text)
 
 abbrev pub as_content : Result Tree ParseFault → Result Content ParseFault
 as_content (Ok t) = Ok (Formula t)
@@ -57,21 +57,21 @@ content_read text =
 -- ---- what the calls answer, where memory did not run out
 
 -- what is answered is what is found, unless memory ran out
-abbrev pub Reads : {A : Type 0} → Result A ParseFault → Result A ParseFault → Type 0
-Reads found (Ok a) = found ≡ Ok a
-Reads found (Err TooLong) = found ≡ Err TooLong
-Reads found (Err OutOfSheet) = found ≡ Err OutOfSheet
-Reads found (Err NumberRange) = found ≡ Err NumberRange
-Reads found (Err TooDeep) = found ≡ Err TooDeep
-Reads found (Err Syntax) = found ≡ Err Syntax
-Reads found (Err Memory) = Unit {0}
+abbrev pub ReadsAs : {A : Type 0} → Result A ParseFault → Result A ParseFault → Type 0
+ReadsAs found (Ok a) = found ≡ Ok a
+ReadsAs found (Err TooLong) = found ≡ Err TooLong
+ReadsAs found (Err OutOfSheet) = found ≡ Err OutOfSheet
+ReadsAs found (Err NumberRange) = found ≡ Err NumberRange
+ReadsAs found (Err TooDeep) = found ≡ Err TooDeep
+ReadsAs found (Err Syntax) = found ≡ Err Syntax
+ReadsAs found (Err Memory) = Unit {0}
 
 -- the answer is this, unless memory ran out
-abbrev pub Answers : {A : Type 0} → A → Result A ParseFault → Type 0
-Answers a (Ok b) = b ≡ a
-Answers a (Err TooLong) = ⊥
-Answers a (Err OutOfSheet) = ⊥
-Answers a (Err NumberRange) = ⊥
-Answers a (Err TooDeep) = ⊥
-Answers a (Err Syntax) = ⊥
-Answers a (Err Memory) = Unit {0}
+abbrev pub IsOrMemory : {A : Type 0} → A → Result A ParseFault → Type 0
+IsOrMemory a (Ok b) = b ≡ a
+IsOrMemory a (Err TooLong) = ⊥
+IsOrMemory a (Err OutOfSheet) = ⊥
+IsOrMemory a (Err NumberRange) = ⊥
+IsOrMemory a (Err TooDeep) = ⊥
+IsOrMemory a (Err Syntax) = ⊥
+IsOrMemory a (Err Memory) = Unit {0}

@@ -2,9 +2,9 @@
 use Rattle.std.specs.Prelude.{List, map}
 use Rattle.wi_parser.specs.declared.word.Word.{Word}
 use Rattle.wi_parser.specs.declared.word.Word.TheVariants.{Number, Cell, Open, Close, Infix, Refused}
-use Rattle.wi_parser.specs.Lexeme.{Lexeme, numeral, reference, open_mark, close_mark, infix_mark, refused}
+use Rattle.wi_parser.specs.Symbol.{Symbol, numeral, reference, open_mark, close_mark, infix_mark, refused}
 
-abbrev pub meant_by : Word → Lexeme
+abbrev pub meant_by : Word → Symbol
 meant_by (Number x) = numeral x
 meant_by (Cell r) = reference r
 meant_by Open = open_mark
@@ -12,5 +12,5 @@ meant_by Close = close_mark
 meant_by (Infix op) = infix_mark op
 meant_by (Refused e) = refused e
 
-abbrev pub all_meant : List Word → List Lexeme
+abbrev pub all_meant : List Word → List Symbol
 all_meant = map meant_by

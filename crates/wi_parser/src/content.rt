@@ -1,7 +1,7 @@
 //! What stands in a cell.
 
 ghost use Rattle.std.specs.Prelude.{◌≡◌, IfOk};
-ghost use Rattle.wi_parser.specs.Reading.{Reads, content_read, quoted};
+ghost use Rattle.wi_parser.specs.Reading.{ReadsAs, content_read, quoted};
 
 use crate::fault::ParseFault;
 use crate::formula::Formula;
@@ -22,7 +22,7 @@ impl Content {
     /// and else a number, a truth value or a text.
     #[tactic(auto, unfolding(crate::specs::Reading::content_read))]
     pub fn read(alloc: Global, text: &str) -> Result<Content, ParseFault>
-        ensures { Reads (content_read text.now) result }
+        ensures { ReadsAs (content_read text.now) result }
     {
         if is_formula(text) {
             return Ok(Content::Formula(parse(alloc, text)?));
@@ -35,7 +35,7 @@ impl Content {
 
     // The text after an apostrophe.
     fn quoted(alloc: Global, text: &str) -> Result<Content, ParseFault>
-        ensures { Reads (quoted text.now) result }
+        ensures { ReadsAs (quoted text.now) result }
     {
         if text.len() > MAX_TEXT {
             return Err(ParseFault::TooLong);

@@ -2,33 +2,33 @@
 
 ghost use Rattle.std.specs.Prelude.{◌≡◌, ℕ, ◌≤◌, List, Some, suc};
 ghost use Rattle.wi_parser.specs.Tree.{Tree};
-ghost use Rattle.wi_parser.specs.Lexeme.{Lexeme};
+ghost use Rattle.wi_parser.specs.Symbol.{Symbol};
 ghost use Rattle.wi_parser.specs.Grammar.{Spells, loosest};
 ghost use Rattle.wi_parser.specs.Nesting.{depth, deepest};
 ghost use Rattle.wi_parser.specs.Spelling.{spelling};
 ghost use Rattle.wi_parser.specs.Reader.{whole};
 
-/// What is read from lexemes is spelled by them.
+/// What is read from symbols is spelled by them.
 pub fn what_is_read()
-    ensures { (d : ℕ) (ts : List Lexeme) (t : Tree) → whole d ts ≡ Some t → Spells loosest t ts }
+    ensures { (d : ℕ) (ts : List Symbol) (t : Tree) → whole d ts ≡ Some t → Spells loosest t ts }
 {}
 
 /// What is spelled is read, where it does not nest too deep.
 pub fn what_is_spelled()
-    ensures { (d : ℕ) (ts : List Lexeme) (t : Tree) → Spells loosest t ts → depth t ≤ d → whole (suc d) ts ≡ Some t }
+    ensures { (d : ℕ) (ts : List Symbol) (t : Tree) → Spells loosest t ts → depth t ≤ d → whole (suc d) ts ≡ Some t }
 {}
 
-/// No lexemes spell two trees.
+/// No symbols spell two trees.
 pub fn one_tree()
-    ensures { (t u : Tree) (ts : List Lexeme) → Spells loosest t ts → Spells loosest u ts → t ≡ u }
+    ensures { (t u : Tree) (ts : List Symbol) → Spells loosest t ts → Spells loosest u ts → t ≡ u }
 {}
 
-/// A tree nests no deeper than the parentheses of its lexemes.
+/// A tree nests no deeper than the parentheses of its symbols.
 pub fn no_deeper()
-    ensures { (t : Tree) (ts : List Lexeme) → Spells loosest t ts → depth t ≤ deepest 0 ts }
+    ensures { (t : Tree) (ts : List Symbol) → Spells loosest t ts → depth t ≤ deepest 0 ts }
 {}
 
 /// A tree has one spelling.
 pub fn one_spelling()
-    ensures { (k : ℕ) (t : Tree) (ts : List Lexeme) → Spells k t ts → ts ≡ spelling t }
+    ensures { (k : ℕ) (t : Tree) (ts : List Symbol) → Spells k t ts → ts ≡ spelling t }
 {}

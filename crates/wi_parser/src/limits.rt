@@ -2,7 +2,7 @@
 
 ghost use Rattle.std.specs.Prelude.{◌≡◌, ◌<◌, ◌↔◌, IsTrue};
 ghost use Rattle.std.specs.List.{list_any};
-ghost use Rattle.wi_parser.specs.Lexeme as lexeme;
+ghost use Rattle.wi_parser.specs.Symbol as symbol;
 ghost use Rattle.wi_parser.specs.Words.{meant_by, all_meant};
 ghost use Rattle.wi_parser.specs.Nesting as nesting;
 ghost use Rattle.wi_parser.specs.Nesting.{deepest, most_signs, max_depth};
@@ -33,20 +33,20 @@ pub fn refusal_of(words: &[Word]) -> Option<ParseFault>
 
 #[tactic(auto, using(crate::proofs::Refusals::any_meant))]
 fn has_outside(words: &[Word]) -> bool
-    ensures { result ≡ list_any lexeme.is_outside (all_meant words.now) }
+    ensures { result ≡ list_any symbol.is_outside (all_meant words.now) }
 {
     words.iter().any(|w| is_outside(*w))
 }
 
 #[tactic(auto, using(crate::proofs::Refusals::any_meant))]
 fn has_unfit(words: &[Word]) -> bool
-    ensures { result ≡ list_any lexeme.is_unfit (all_meant words.now) }
+    ensures { result ≡ list_any symbol.is_unfit (all_meant words.now) }
 {
     words.iter().any(|w| is_unfit(*w))
 }
 
 fn is_outside(word: Word) -> bool
-    ensures { result ≡ lexeme.is_outside (meant_by word) }
+    ensures { result ≡ symbol.is_outside (meant_by word) }
 {
     match word {
         Word::Refused(ParseFault::OutOfSheet) => true,
@@ -55,7 +55,7 @@ fn is_outside(word: Word) -> bool
 }
 
 fn is_unfit(word: Word) -> bool
-    ensures { result ≡ lexeme.is_unfit (meant_by word) }
+    ensures { result ≡ symbol.is_unfit (meant_by word) }
 {
     match word {
         Word::Refused(ParseFault::NumberRange) => true,

@@ -6,8 +6,8 @@ ghost use Rattle.wi_parser.specs.Nesting.{deepest, most_signs, max_depth};
 ghost use Rattle.wi_parser.specs.Grammar.{Spells, loosest};
 ghost use Rattle.wi_parser.specs.Reader as reader;
 ghost use Rattle.wi_parser.specs.Outcome.{FindsWhole};
-ghost use Rattle.wi_parser.specs.FormulaText.{formula_lexemes};
-ghost use Rattle.wi_parser.specs.Reading.{Reads, Answers, parsed, max_formula};
+ghost use Rattle.wi_parser.specs.FormulaText.{formula_symbols};
+ghost use Rattle.wi_parser.specs.Reading.{ReadsAs, IsOrMemory, parsed, max_formula};
 ghost use Rattle.wi_parser.specs.Tree.{Tree};
 
 use crate::expr::Expr;
@@ -24,17 +24,17 @@ use std::alloc::Global;
 pub const MAX_FORMULA: usize = 4_096;
 
 /// The formula of a text that begins with `=` or `of:=`, by the grammar of OpenFormula (OpenDocument 1.3 part 4,
-/// section 5) in this project's profile. Of several faults the first is answered in the order of `ParseFault`; those of
+/// "Expression Syntax") in this project's profile. Of several faults the first is answered in the order of `ParseFault`; those of
 /// addresses, numbers and nesting are looked for in all tokens before the first bad one.
 pub fn parse(alloc: Global, text: &str) -> Result<Formula, ParseFault>
     // the tree, or the first cause for which there is none
-    ensures parsed { Reads (parsed text.now) result }
+    ensures parsed { ReadsAs (parsed text.now) result }
     // what is answered is spelled by the text
-    ensures found { IfOk result (λ t. Spells loosest t (formula_lexemes text.now)) }
+    ensures found { IfOk result (λ t. Spells loosest t (formula_symbols text.now)) }
     // what the text spells within the limits is answered
-    ensures only { (t : Tree) → Spells loosest t (formula_lexemes text.now) → length text.now ≤ max_formula
-        → deepest 0 (formula_lexemes text.now) ≤ max_depth → most_signs 0 (formula_lexemes text.now) ≤ max_depth
-        → Answers t result }
+    ensures only { (t : Tree) → Spells loosest t (formula_symbols text.now) → length text.now ≤ max_formula
+        → deepest 0 (formula_symbols text.now) ≤ max_depth → most_signs 0 (formula_symbols text.now) ≤ max_depth
+        → IsOrMemory t result }
 {
     if text.len() > MAX_FORMULA {
         return Err(ParseFault::TooLong);

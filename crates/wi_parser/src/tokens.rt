@@ -3,7 +3,7 @@
 ghost use Rattle.std.specs.Prelude.{◌≡◌, ◌++◌, IfOk};
 ghost use Rattle.wi_lexer.specs.Tokens.{tokens};
 ghost use Rattle.wi_parser.specs.Words.{meant_by, all_meant};
-ghost use Rattle.wi_parser.specs.FormulaText.{formula_lexemes, lexemes_of};
+ghost use Rattle.wi_parser.specs.FormulaText.{formula_symbols, symbols_of};
 
 use crate::fault::ParseFault;
 use crate::front::{after, after_prefix};
@@ -12,9 +12,9 @@ use std::alloc::{AllocError, Global};
 use wi_lexer::Lexer;
 
 /// The words of a formula's text after its `=`.
-#[tactic(auto, unfolding(crate::specs::FormulaText::formula_lexemes))]
+#[tactic(auto, unfolding(crate::specs::FormulaText::formula_symbols))]
 pub fn words_of(alloc: Global, text: &str) -> Result<Vec<Word>, AllocError>
-    ensures { IfOk result (λ words. all_meant words.items ≡ formula_lexemes text.now) }
+    ensures { IfOk result (λ words. all_meant words.items ≡ formula_symbols text.now) }
 {
     let text = after_prefix(text);
     let mut words = Vec::new(alloc);
@@ -29,7 +29,7 @@ pub fn words_of(alloc: Global, text: &str) -> Result<Vec<Word>, AllocError>
 
 // Appends the words of the tokens, up to the first bad one.
 fn push_words(text: &str, words: &mut Vec<Word>) -> Result<(), AllocError>
-    ensures { IfOk result (λ _. all_meant words.new.items ≡ all_meant words.old.items ++ lexemes_of (tokens text.now)) }
+    ensures { IfOk result (λ _. all_meant words.new.items ≡ all_meant words.old.items ++ symbols_of (tokens text.now)) }
 {
     let mut lexer = Lexer::new(text);
     while let Some(next) = lexer.next_token() {

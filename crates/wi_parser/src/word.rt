@@ -2,8 +2,8 @@
 
 ghost use Rattle.std.specs.Prelude.{◌≡◌};
 ghost use Rattle.wi_parser.specs.Words.{meant_by};
-ghost use Rattle.wi_parser.specs.Lexeme.{refused};
-ghost use Rattle.wi_parser.specs.FormulaText.{lexeme_of, cell_lexeme, reference_lexeme, mark_lexeme};
+ghost use Rattle.wi_parser.specs.Symbol.{refused};
+ghost use Rattle.wi_parser.specs.FormulaText.{symbol_of, cell_symbol, reference_symbol, mark_symbol};
 ghost use Rattle.wi_lexer.specs.Cell.{parts};
 ghost use Rattle.wi_lexer.specs.Reference as spec;
 
@@ -28,7 +28,7 @@ pub enum Word {
 impl Word {
     /// What a token means.
     pub fn of_token(token: Token<'_>) -> Word
-        ensures { meant_by result ≡ lexeme_of token.entry.kind token.entry.text.now }
+        ensures { meant_by result ≡ symbol_of token.entry.kind token.entry.text.now }
     {
         match token.kind {
             Kind::Number => number(token.text.as_bytes()),
@@ -39,7 +39,7 @@ impl Word {
 }
 
 fn number(text: &[u8]) -> Word
-    ensures { meant_by result ≡ lexeme_of Kind.Number text.now }
+    ensures { meant_by result ≡ symbol_of Kind.Number text.now }
 {
     match Fraction::read_decimal(text) {
         Some(x) => Word::Number(x),
@@ -48,7 +48,7 @@ fn number(text: &[u8]) -> Word
 }
 
 fn reference(text: &[u8]) -> Word
-    ensures { meant_by result ≡ lexeme_of Kind.Reference text.now }
+    ensures { meant_by result ≡ symbol_of Kind.Reference text.now }
 {
     match reference_of(text) {
         Some(cell) => cell_named(cell),
@@ -57,20 +57,20 @@ fn reference(text: &[u8]) -> Word
 }
 
 fn cell_named(cell: CellText<'_>) -> Word
-    ensures { meant_by result ≡ reference_lexeme (Some (parts cell.entry)) }
+    ensures { meant_by result ≡ reference_symbol (Some (parts cell.entry)) }
 {
     match Address::from_parts(cell.letters, cell.digits) {
         Some(at) => Word::Cell(Reference {
             at,
-            column_is_absolute: cell.column_fixed,
-            row_is_absolute: cell.row_fixed,
+            column_is_absolute: cell.column_is_absolute,
+            row_is_absolute: cell.row_is_absolute,
         }),
         None => Word::Refused(ParseFault::OutOfSheet),
     }
 }
 
 fn of_mark(mark: Mark) -> Word
-    ensures { meant_by result ≡ mark_lexeme mark }
+    ensures { meant_by result ≡ mark_symbol mark }
 {
     match mark {
         Mark::OpenParenthesis => Word::Open,

@@ -18,10 +18,10 @@ pub struct Words<'a> {
 
 impl<'a> Model for Words<'a> {
     ghost use Rattle.std.specs.Prelude.{List};
-    ghost use Rattle.wi_parser.specs.Lexeme.{Lexeme};
+    ghost use Rattle.wi_parser.specs.Symbol.{Symbol};
     ghost use Rattle.wi_parser.specs.Words.{all_meant};
 
-    ghost Value = { List Lexeme };
+    ghost Value = { List Symbol };
 
     ghost view = { λ w. all_meant w.rest.now };
 }

@@ -1,4 +1,4 @@
--- A record as it is written.
+-- A record as it is written (RFC 4180, section 2).
 use Rattle.std.specs.Prelude.{ℕ, List, [], ◌∷◌, ◌++◌, ◌==◌, if◌then◌else◌, map}
 use Rattle.std.specs.List.{flat_map, join_with_byte}
 

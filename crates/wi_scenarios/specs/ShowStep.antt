@@ -12,7 +12,7 @@ use Rattle.wi_scenarios.specs.Row.{row}
 
 -- the text that a cell shows
 abbrev pub text_at : Sheet → ℕ → List ℕ
-text_at sheet c = value.shown (cell.shown sheet [] c)
+text_at sheet c = value.shown_text (cell.shown sheet [] c)
 
 -- the record of one row of a rectangle
 abbrev pub row_shown : Sheet → Area → ℕ → List ℕ

@@ -4,7 +4,7 @@ use Rattle.std.specs.Fmt.{digits}
 use Rattle.wi_values.specs.Address.{place, letters_within, address_text, rect_of, cells_of}
 use Rattle.wi_values.specs.AddressReading.{address_at, read_address, read_rect}
 use Rattle.wi_values.specs.Import.{imported, field_value}
-use Rattle.wi_values.specs.Value.{shown}
+use Rattle.wi_values.specs.Value.{shown_text}
 use Rattle.wi_values.specs.declared.address.AddressFault.TheVariants.{Shape, Outside}
 use Rattle.wi_values.specs.declared.value.Value.TheVariants.{Empty, Text, Logical, Fault}
 use Rattle.wi_values.specs.declared.value.ErrorKind.TheVariants.{Circular}
@@ -68,6 +68,6 @@ no_formula = refl
 no_field : field_value [] ≡ Some Empty
 no_field = refl
 
-cycles_are_shown : shown (Fault Circular) ≡ codes "#CIRC!"
-unfolding shown
+cycles_are_shown : shown_text (Fault Circular) ≡ codes "#CIRC!"
+unfolding shown_text
 cycles_are_shown = refl

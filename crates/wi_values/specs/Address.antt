@@ -1,7 +1,7 @@
 -- Addresses and rectangles. A cell's address is its place in row-major order.
 use Rattle.std.specs.Prelude.{ℕ, zero, suc, ◌+◌, ◌-◌, ◌*◌, ◌/◌, ◌%◌, ◌≤◌, min, max, List, [], ◌∷◌, ◌++◌, Bool, ◌&&◌, not, ◌==◌, nat_lt, nat_le, length, slice_index, if◌then◌else◌, map, decimal}
-use Rattle.std.specs.List.{prefix_len, range_with_len, flat_map}
-use Rattle.std.specs.Char.{is_ascii_alphabetic, to_ascii_uppercase}
+use Rattle.std.specs.List.{range_with_len, flat_map}
+use Rattle.std.specs.Char.{to_ascii_uppercase}
 use Rattle.std.specs.Str.{all_ascii_digits}
 
 -- the columns and rows of a sheet
@@ -81,10 +81,6 @@ column_letters column = letters_within 3 (column + 1)
 -- an address as it is written: column letters in capitals, and the row counted from 1
 unfoldable pub address_text : ℕ → List ℕ
 address_text a = column_letters (column_of a) ++ decimal (row_of a + 1)
-
--- one letter or more, and nothing else
-abbrev pub are_letters : List ℕ → Bool
-are_letters cs = nat_lt 0 (length cs) && nat_le (length cs) (prefix_len is_ascii_alphabetic cs)
 
 -- one digit or more, the first not 0, and nothing else
 abbrev pub is_row_number : List ℕ → Bool

@@ -1,4 +1,4 @@
--- The shown text of a value.
+-- The shown text of a value (OpenFormula, "Types").
 use Rattle.std.specs.Prelude.{ℕ, List, [], Bool, true, false, codes}
 use Rattle.wi_fraction.specs.Text.{text_of}
 use Rattle.wi_values.specs.declared.value.ErrorKind.{ErrorKind}
@@ -20,9 +20,9 @@ logical_name true = codes "TRUE"
 logical_name false = codes "FALSE"
 
 -- the text that is shown for a value
-unfoldable pub shown : Value → List ℕ
-shown Empty = []
-shown (Number x) = text_of x
-shown (Text t) = t
-shown (Logical b) = logical_name b
-shown (Fault e) = error_name e
+unfoldable pub shown_text : Value → List ℕ
+shown_text Empty = []
+shown_text (Number x) = text_of x
+shown_text (Text t) = t
+shown_text (Logical b) = logical_name b
+shown_text (Fault e) = error_name e

@@ -1,7 +1,7 @@
 //! What a cell shows.
 
 ghost use Rattle.std.specs.Prelude.{◌≡◌, ◌++◌, IfOk, OnOk, OnErr, string_bytes};
-ghost use Rattle.wi_values.specs.Value.{error_name, shown};
+ghost use Rattle.wi_values.specs.Value.{error_name, shown_text};
 
 use crate::text::Text;
 use std::alloc::{AllocError, Global};
@@ -69,9 +69,9 @@ impl Value {
     }
 
     /// Appends the shown text. On an error the text is as before.
-    #[tactic(auto, unfolding(crate::specs::Value::shown))]
+    #[tactic(auto, unfolding(crate::specs::Value::shown_text))]
     pub fn push_shown(&self, text: &mut String) -> Result<(), AllocError>
-        ensures ok { OnOk result (string_bytes text.new ≡ string_bytes text.old ++ shown self.now) }
+        ensures ok { OnOk result (string_bytes text.new ≡ string_bytes text.old ++ shown_text self.now) }
         ensures err { OnErr result (string_bytes text.new ≡ string_bytes text.old) }
     {
         match self {

@@ -7,16 +7,16 @@ use Rattle.wi_parser.specs.declared.fault.ParseFault.{ParseFault}
 use Rattle.wi_parser.specs.declared.fault.ParseFault.TheVariants.{TooLong, OutOfSheet, NumberRange, TooDeep, Syntax, Memory}
 
 -- A token with its value. A refused one has none: no formula has it, for this reason.
-pub data Lexeme : Type 0 where
-  numeral : Number → Lexeme
-  reference : Reference → Lexeme
-  open_mark : Lexeme
-  close_mark : Lexeme
-  infix_mark : Operator → Lexeme
-  refused : ParseFault → Lexeme
+pub data Symbol : Type 0 where
+  numeral : Number → Symbol
+  reference : Reference → Symbol
+  open_mark : Symbol
+  close_mark : Symbol
+  infix_mark : Operator → Symbol
+  refused : ParseFault → Symbol
 
 -- a reference to a cell outside the sheet
-abbrev pub is_outside : Lexeme → Bool
+abbrev pub is_outside : Symbol → Bool
 is_outside (numeral x) = false
 is_outside (reference r) = false
 is_outside open_mark = false
@@ -30,7 +30,7 @@ is_outside (refused Syntax) = false
 is_outside (refused Memory) = false
 
 -- a number that does not fit
-abbrev pub is_unfit : Lexeme → Bool
+abbrev pub is_unfit : Symbol → Bool
 is_unfit (numeral x) = false
 is_unfit (reference r) = false
 is_unfit open_mark = false
