@@ -15,7 +15,7 @@ use Rattle.wi_lexer.proofs.TokenLemmas.{token_some, token_sound, token_complete,
 -- ---- the bound on the number of tokens is never felt
 
 -- what follows a token is shorter
-token_shortens : (bs : List ℕ) (k : Kind) (n : ℕ) → token_at bs ≡ Some (k, n) → length (drop n bs) < length bs
+pub token_shortens : (bs : List ℕ) (k : Kind) (n : ℕ) → token_at bs ≡ Some (k, n) → length (drop n bs) < length bs
 token_shortens bs k n h =
     let s = token_sound bs k n h in
     omega (arith, token_some k (take n bs) s.token, length-take-le n bs s.within, s.within, length-drop n bs)
@@ -28,7 +28,7 @@ ahead_same : (f g : List ℕ → Tokens) (bs : List ℕ) → ((ys : List ℕ) �
 ahead_same f g [] same = refl
 ahead_same f g (b ∷ bs) same = from_same f g (b ∷ bs) (token_at (b ∷ bs)) refl same
 
-after_blanks_within : (bs : List ℕ) → length (after_blanks bs) ≤ length bs
+pub after_blanks_within : (bs : List ℕ) → length (after_blanks bs) ≤ length bs
 after_blanks_within bs = omega (arith, length-drop (blanks_len bs) bs)
 
 any_bound : (n m : ℕ) (bs : List ℕ) → length bs ≤ n → length bs ≤ m → tokens_within n bs ≡ tokens_within m bs
@@ -87,7 +87,7 @@ tokens_next old t new h =
     tokens_are old.rest
     ∙ found_ahead tokens (ahead old) t.kind t.text.now new.rest h.front (next_is_some old t new h) (token_complete (ahead old) t.kind (length t.text.now) h.longest)
 
-none_ahead : (f : List ℕ → Tokens) (bs : List ℕ) → (bs ≡ [] → ⊥) → token_at bs ≡ None → tokens_ahead f bs ≡ bad_token
+pub none_ahead : (f : List ℕ → Tokens) (bs : List ℕ) → (bs ≡ [] → ⊥) → token_at bs ≡ None → tokens_ahead f bs ≡ bad_token
 none_ahead f [] some h = absurd (some refl)
 none_ahead f (b ∷ bs) some h = ap (λ o. tokens_from f (b ∷ bs) o) h
 

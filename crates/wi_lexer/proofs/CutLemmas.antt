@@ -7,16 +7,18 @@ use Rattle.std.proofs.lemmas.Bool.Decides.{nat_tests}
 use Rattle.std.proofs.lemmas.List.{get_or-append-add, get_or-take, length-take-le}
 use Rattle.std.proofs.lemmas.List.Sums.{AllPass-from_list_all, prefix_len_passes}
 use Rattle.wi_lexer.specs.declared.token.Kind.{Kind}
-use Rattle.wi_lexer.specs.declared.token.Kind.TheVariants.{Number, Reference, Mark}
+use Rattle.wi_lexer.specs.declared.token.Kind.TheVariants.{Number, Reference, Name, Mark}
 use Rattle.wi_lexer.specs.declared.token.Mark as mark
-use Rattle.wi_lexer.specs.declared.token.Mark.TheVariants.{OpenParenthesis, CloseParenthesis, Plus, Minus, Asterisk, Slash}
+use Rattle.wi_lexer.specs.declared.token.Mark.TheVariants.{OpenParenthesis, CloseParenthesis, Plus, Minus, Asterisk, Slash, Semicolon}
 use Rattle.wi_lexer.specs.Runs.{IsRun, is_blank, blanks_len}
 use Rattle.wi_lexer.specs.Number.{IsNumber, whole, decimal}
 use Rattle.wi_lexer.specs.Cell.{cell_text}
 use Rattle.wi_lexer.specs.Reference.{IsReference, one_cell}
+use Rattle.wi_lexer.specs.Name.{IsName, is_name_part}
 use Rattle.wi_lexer.specs.Mark.{mark_text}
 use Rattle.wi_lexer.specs.Token.{IsToken, IsLongest}
 use Rattle.wi_lexer.proofs.RunLemmas.{run_within}
+use Rattle.wi_lexer.proofs.NameLemmas.{name_some}
 
 after_ascii : (bs : List ℕ) (n : ℕ) → IsUtf8 bs → n ≤ length bs → (0 < n → get_or bs (n - 1) 0 < 128) → IsCharBoundary bs n
 after_ascii bs zero utf8 within h = IsCharBoundary-start bs utf8
@@ -61,6 +63,12 @@ reference_last text (one_cell c h) =
     let a = last_append (91 ∷ 46 ∷ cell_text c) (93 ∷ []) (omega arith) in
     omega (arith, a)
 
+name_part_ascii : (b : ℕ) → is_name_part b ≡ true → b < 128
+name_part_ascii b h = grind (arith, nat_tests)
+
+name_last : (text : List ℕ) → IsName text → last text < 128
+name_last text h = name_part_ascii (last text) (AllPass-from_list_all is_name_part text h.parts (length text - 1) 0 (omega (arith, name_some text h)))
+
 mark_last : (m : mark.Mark) → last (mark_text m) < 128
 mark_last OpenParenthesis = omega arith
 mark_last CloseParenthesis = omega arith
@@ -68,11 +76,13 @@ mark_last Plus = omega arith
 mark_last Minus = omega arith
 mark_last Asterisk = omega arith
 mark_last Slash = omega arith
+mark_last Semicolon = omega arith
 
 -- a token ends with an ASCII byte
 token_last : (k : Kind) (text : List ℕ) → IsToken k text → last text < 128
 token_last Number text t = number_last text t
 token_last Reference text t = reference_last text t
+token_last Name text t = name_last text t
 token_last (Mark m) text t = subst (λ x. last x < 128) (sym t) (mark_last m)
 
 pub token_cut : (bs : List ℕ) (k : Kind) (n : ℕ) → IsUtf8 bs → IsLongest k n bs → IsCharBoundary bs n

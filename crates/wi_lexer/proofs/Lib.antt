@@ -3,7 +3,9 @@ pub mod NumberLemmas
 pub mod CellLemmas
 pub mod ReferenceLemmas
 pub mod MarkLemmas
+pub mod NameLemmas
 pub mod TokenLemmas
 pub mod CutLemmas
 pub mod ScanLemmas
 pub mod CallerLemmas
+pub mod TextLemmas

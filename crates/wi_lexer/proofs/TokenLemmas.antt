@@ -1,22 +1,24 @@
 -- What `token_at` finds is the longest token, and it finds one wherever one begins.
 use Rattle.std.proofs.Common.{◌≡◌, ℕ, ◌<◌, ◌≤◌, Bool, true, false, cond, List, [], ◌∷◌, ◌++◌, length, take, drop, Option, Some, None, refl, sym, ap, ◌∙◌, subst, arith, length-append}
-use Rattle.std.specs.Prelude.{nat_lt}
+use Rattle.std.specs.Prelude.{nat_lt, slice_index}
 use Rattle.std.specs.Option.{option_or}
 use Rattle.std.proofs.lemmas.Bool.{ltb-true, lt-ltb}
 use Rattle.std.proofs.lemmas.List.{take-append-drop, length-take-le}
 use Rattle.std.proofs.Math.Seq.{take-append_seam}
 use Rattle.wi_lexer.specs.declared.token.Kind.{Kind}
-use Rattle.wi_lexer.specs.declared.token.Kind.TheVariants.{Number, Reference, Mark}
+use Rattle.wi_lexer.specs.declared.token.Kind.TheVariants.{Number, Reference, Name, Mark}
 use Rattle.wi_lexer.specs.declared.token.Mark as mark
-use Rattle.wi_lexer.specs.declared.token.Mark.TheVariants.{OpenParenthesis, CloseParenthesis, Plus, Minus, Asterisk, Slash}
+use Rattle.wi_lexer.specs.declared.token.Mark.TheVariants.{OpenParenthesis, CloseParenthesis, Plus, Minus, Asterisk, Slash, Semicolon}
 use Rattle.wi_lexer.specs.Number.{IsNumber, whole, decimal, decimals_len, number_len}
 use Rattle.wi_lexer.specs.Reference.{IsReference, one_cell, reference_len}
 use Rattle.wi_lexer.specs.Cell.{cell_text}
+use Rattle.wi_lexer.specs.Name.{IsName, is_name_start, name_len}
 use Rattle.wi_lexer.specs.Mark.{mark_text, mark_at}
 use Rattle.wi_lexer.specs.Token.{IsToken, IsLongest, NoToken, of_length, mark_token, token_at}
 use Rattle.wi_lexer.proofs.NumberLemmas.{number_more, number_within, number_sound}
 use Rattle.wi_lexer.proofs.ReferenceLemmas.{reference_sound, reference_complete}
 use Rattle.wi_lexer.proofs.MarkLemmas.{BeginsWith, mark_sound}
+use Rattle.wi_lexer.proofs.NameLemmas.{name_some, name_more, name_sound, no_number, no_mark, no_reference}
 
 -- What is found at a text that begins with a token of kind j: a token that is no shorter, and of that kind if it is as long.
 record IsCovered (j : Kind) (text bs : List ℕ) : Type 0 where
@@ -31,12 +33,22 @@ of_length_found k n h = ap (λ t. cond t (Some (k, n)) None) (lt-ltb 0 n h)
 
 number_found : (bs : List ℕ) → 0 < number_len bs → token_at bs ≡ Some (Number, number_len bs)
 unfolding token_at
-number_found bs h = ap (λ o. option_or o (option_or (mark_token (mark_at bs)) (of_length Reference (reference_len bs)))) (of_length_found Number (number_len bs) h)
+number_found bs h = ap (λ o. option_or o (option_or (mark_token (mark_at bs)) (option_or (of_length Reference (reference_len bs)) (of_length Name (name_len bs))))) (of_length_found Number (number_len bs) h)
 
 -- a text that begins with `[` is no number and no mark
 reference_found : (bs : List ℕ) → 0 < reference_len (91 ∷ bs) → token_at (91 ∷ bs) ≡ Some (Reference, reference_len (91 ∷ bs))
 unfolding token_at number_len decimals_len mark_at
-reference_found bs h = of_length_found Reference (reference_len (91 ∷ bs)) h
+reference_found bs h = ap (λ o. option_or o (of_length Name (name_len (91 ∷ bs)))) (of_length_found Reference (reference_len (91 ∷ bs)) h)
+
+name_found : (b : ℕ) (bs : List ℕ) → is_name_start b ≡ true → 0 < name_len (b ∷ bs) → token_at (b ∷ bs) ≡ Some (Name, name_len (b ∷ bs))
+unfolding token_at
+name_found b bs h some =
+    let name = of_length Name (name_len (b ∷ bs)) in
+    let later = option_or (of_length Reference (reference_len (b ∷ bs))) name in
+    ap (λ n. option_or (of_length Number n) (option_or (mark_token (mark_at (b ∷ bs))) later)) (no_number b bs h)
+    ∙ ap (λ o. option_or (mark_token o) later) (no_mark (b ∷ bs) h)
+    ∙ ap (λ n. option_or (of_length Reference n) name) (no_reference (b ∷ bs) h)
+    ∙ of_length_found Name (name_len (b ∷ bs)) some
 
 mark_found : (m : mark.Mark) (rest : List ℕ) → token_at (mark_text m ++ rest) ≡ Some (Mark m, length (mark_text m))
 unfolding token_at number_len decimals_len mark_at
@@ -46,6 +58,7 @@ mark_found Plus rest = refl
 mark_found Minus rest = refl
 mark_found Asterisk rest = refl
 mark_found Slash rest = refl
+mark_found Semicolon rest = refl
 
 number_some : (text : List ℕ) → IsNumber text → 0 < length text
 number_some text (whole ds run) = run.some
@@ -58,6 +71,7 @@ mark_some Plus = omega arith
 mark_some Minus = omega arith
 mark_some Asterisk = omega arith
 mark_some Slash = omega arith
+mark_some Semicolon = omega arith
 
 reference_some : (text : List ℕ) → IsReference text → 0 < length text
 reference_some text (one_cell c h) = omega arith
@@ -66,6 +80,7 @@ reference_some text (one_cell c h) = omega arith
 pub token_some : (k : Kind) (text : List ℕ) → IsToken k text → 0 < length text
 token_some Number text t = number_some text t
 token_some Reference text t = reference_some text t
+token_some Name text t = name_some text t
 token_some (Mark m) text t = subst (λ x. 0 < length x) (sym t) (mark_some m)
 
 covered_number : (text : List ℕ) → IsNumber text → (rest : List ℕ) → IsCovered Number text (text ++ rest)
@@ -90,12 +105,25 @@ covered_reference text (one_cell c h) rest =
       same = λ _. refl;
     }
 
+covered_name : (text : List ℕ) → IsName text → (rest : List ℕ) → IsCovered Name text (text ++ rest)
+covered_name [] t rest = absurd (omega (arith, name_some [] t))
+covered_name (b ∷ text) t rest =
+    let longer = name_more (b ∷ text) t rest in
+    record {
+      kind = Name;
+      len = name_len (b ∷ text ++ rest);
+      found = name_found b (text ++ rest) t.start (omega (arith, longer));
+      longer = longer;
+      same = λ _. refl;
+    }
+
 covered_mark : (m : mark.Mark) (rest : List ℕ) → IsCovered (Mark m) (mark_text m) (mark_text m ++ rest)
 covered_mark m rest = record { kind = Mark m; len = length (mark_text m); found = mark_found m rest; longer = omega arith; same = λ _. refl }
 
 covered : (j : Kind) (text : List ℕ) → IsToken j text → (rest : List ℕ) → IsCovered j text (text ++ rest)
 covered Number text t rest = covered_number text t rest
 covered Reference text t rest = covered_reference text t rest
+covered Name text t rest = covered_name text t rest
 covered (Mark m) text t rest = subst (λ x. IsCovered (Mark m) x (x ++ rest)) (sym t) (covered_mark m rest)
 
 -- the token of kind j that is the first m bytes, at the front of them all
@@ -135,15 +163,19 @@ found_stands : (bs : List ℕ) (k : Kind) (n : ℕ) → token_at bs ≡ Some (k,
 unfolding token_at
 found_stands bs k n h = by_number (nat_lt 0 (number_len bs)) refl h
   where
-    by_reference : (t : Bool) → nat_lt 0 (reference_len bs) ≡ t → cond t (found_token Reference (reference_len bs)) None ≡ found_token k n → Stands k n bs
-    by_reference true e f = let s = reference_sound bs (ltb-true 0 (reference_len bs) e) in stands Reference k (reference_len bs) n bs f s.within s.is
-    by_reference false e f = cc
+    by_name : (t : Bool) → nat_lt 0 (name_len bs) ≡ t → cond t (found_token Name (name_len bs)) None ≡ found_token k n → Stands k n bs
+    by_name true e f = let s = name_sound bs (ltb-true 0 (name_len bs) e) in stands Name k (name_len bs) n bs f s.within s.is
+    by_name false e f = cc
 
-    by_mark : (o : Option mark.Mark) → mark_at bs ≡ o → option_or (mark_token o) (of_length Reference (reference_len bs)) ≡ found_token k n → Stands k n bs
+    by_reference : (t : Bool) → nat_lt 0 (reference_len bs) ≡ t → option_or (cond t (found_token Reference (reference_len bs)) None) (of_length Name (name_len bs)) ≡ found_token k n → Stands k n bs
+    by_reference true e f = let s = reference_sound bs (ltb-true 0 (reference_len bs) e) in stands Reference k (reference_len bs) n bs f s.within s.is
+    by_reference false e f = by_name (nat_lt 0 (name_len bs)) refl f
+
+    by_mark : (o : Option mark.Mark) → mark_at bs ≡ o → option_or (mark_token o) (option_or (of_length Reference (reference_len bs)) (of_length Name (name_len bs))) ≡ found_token k n → Stands k n bs
     by_mark (Some m) e f = let s = mark_stands m bs (mark_sound bs m e) in stands (Mark m) k (length (mark_text m)) n bs f s.within s.token
     by_mark None e f = by_reference (nat_lt 0 (reference_len bs)) refl f
 
-    by_number : (t : Bool) → nat_lt 0 (number_len bs) ≡ t → option_or (cond t (found_token Number (number_len bs)) None) (option_or (mark_token (mark_at bs)) (of_length Reference (reference_len bs))) ≡ found_token k n → Stands k n bs
+    by_number : (t : Bool) → nat_lt 0 (number_len bs) ≡ t → option_or (cond t (found_token Number (number_len bs)) None) (option_or (mark_token (mark_at bs)) (option_or (of_length Reference (reference_len bs)) (of_length Name (name_len bs)))) ≡ found_token k n → Stands k n bs
     by_number true e f = stands Number k (number_len bs) n bs f (number_within bs) (number_sound bs (ltb-true 0 (number_len bs) e))
     by_number false e f = by_mark (mark_at bs) refl f
 

@@ -1,7 +1,7 @@
 -- Marks of a formula.
 use Rattle.std.specs.Prelude.{ℕ, ◌==◌, if◌then◌else◌, List, [], ◌∷◌, slice_index, Option, Some, None}
 use Rattle.wi_lexer.specs.declared.token.Mark.{Mark}
-use Rattle.wi_lexer.specs.declared.token.Mark.TheVariants.{OpenParenthesis, CloseParenthesis, Plus, Minus, Asterisk, Slash}
+use Rattle.wi_lexer.specs.declared.token.Mark.TheVariants.{OpenParenthesis, CloseParenthesis, Plus, Minus, Asterisk, Slash, Semicolon}
 
 -- the text of a mark
 abbrev pub mark_text : Mark → List ℕ
@@ -11,6 +11,7 @@ mark_text Plus = 43 ∷ []
 mark_text Minus = 45 ∷ []
 mark_text Asterisk = 42 ∷ []
 mark_text Slash = 47 ∷ []
+mark_text Semicolon = 59 ∷ []
 
 -- the longest mark at the front
 unfoldable pub mark_at : List ℕ → Option Mark
@@ -22,4 +23,5 @@ mark_at bs =
     else (if b == 45 then Some Minus
     else (if b == 42 then Some Asterisk
     else (if b == 47 then Some Slash
-    else None)))))
+    else (if b == 59 then Some Semicolon
+    else None))))))

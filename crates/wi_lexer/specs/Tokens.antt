@@ -1,7 +1,7 @@
 -- All tokens of a text.
-use Rattle.std.specs.Prelude.{ℕ, zero, suc, Bool, true, false, List, [], ◌∷◌, ◌++◌, length, take, drop, Option, Some, None}
+use Rattle.std.specs.Prelude.{◌≡◌, ◌≢◌, ℕ, zero, suc, Bool, true, false, List, [], ◌∷◌, ◌++◌, length, take, drop, Option, Some, None}
 use Rattle.wi_lexer.specs.declared.token.Kind.{Kind}
-use Rattle.wi_lexer.specs.Token.{token_at, after_blanks}
+use Rattle.wi_lexer.specs.Token.{IsLongest, NoToken, token_at, after_blanks}
 
 -- The tokens up to the end or the first bad one, each with its kind and bytes, and whether a bad one ended them.
 pub record Tokens : Type 0 where
@@ -19,6 +19,14 @@ bad_token = record { found = []; bad = true }
 -- these, and then those
 abbrev pub then_tokens : List (Kind × List ℕ) → Tokens → Tokens
 then_tokens ts more = record { found = ts ++ more.found; bad = more.bad }
+
+-- The tokens of a text: none where only white space is left; a bad one where none begins; else the longest one and those of what follows it.
+pub data AreTokens : List ℕ → Tokens → Type 0 where
+  ended : (text : List ℕ) → after_blanks text ≡ [] → AreTokens text no_tokens
+  bad : (text : List ℕ) → after_blanks text ≢ [] → NoToken (after_blanks text) → AreTokens text bad_token
+  more : (text : List ℕ) (k : Kind) (n : ℕ) (ts : Tokens) → IsLongest k n (after_blanks text) → AreTokens (drop n (after_blanks text)) ts → AreTokens text (then_tokens ((k, take n (after_blanks text)) ∷ []) ts)
+
+-- ---- where a reader finds them
 
 -- the token that begins the bytes, and what follows it by `again`
 abbrev pub tokens_from : (List ℕ → Tokens) → List ℕ → Option (Kind × ℕ) → Tokens

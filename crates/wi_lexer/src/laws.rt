@@ -1,9 +1,10 @@
 //! Laws of the tokens alone.
 
-ghost use Rattle.std.specs.Prelude.{◌≡◌, ℕ, ◌≤◌, List, length, take, Some, None};
+ghost use Rattle.std.specs.Prelude.{◌≡◌, ◌↔◌, ℕ, ◌≤◌, List, length, take, Some, None};
 ghost use Rattle.wi_lexer.specs.Cell.{Cell, IsCell, cell_text, cell_of};
 ghost use Rattle.wi_lexer.specs.Reference.{reference_text, reference_of};
 ghost use Rattle.wi_lexer.specs.Token.{token_at, IsLongest, NoToken};
+ghost use Rattle.wi_lexer.specs.Tokens.{Tokens, AreTokens, tokens};
 ghost use Rattle.wi_lexer.specs.declared.token.Kind.{Kind};
 
 /// What is found is the longest token.
@@ -19,6 +20,11 @@ pub fn longest_token()
 /// Where nothing is found, no token begins.
 pub fn no_token()
     ensures { (bs : List ℕ) → token_at bs ≡ None → NoToken bs }
+{}
+
+/// What is found in a whole text are its tokens, and no others are.
+pub fn what_tokens_are()
+    ensures { (text : List ℕ) (ts : Tokens) → AreTokens text ts ↔ (ts ≡ tokens text) }
 {}
 
 /// What a cell is cut into is a cell of that text.

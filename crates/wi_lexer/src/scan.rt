@@ -4,6 +4,7 @@ ghost use Rattle.std.specs.Prelude.{◌≡◌, ℕ, length, slice_index, ◌<◌
 ghost use Rattle.wi_lexer.specs.Runs as runs;
 ghost use Rattle.wi_lexer.specs.Number as number;
 ghost use Rattle.wi_lexer.specs.Reference as reference;
+ghost use Rattle.wi_lexer.specs.Name as name;
 ghost use Rattle.wi_lexer.specs.Mark as mark;
 ghost use Rattle.wi_lexer.specs.Token as spec;
 
@@ -103,6 +104,9 @@ fn mark_at(text: &[u8]) -> Option<Mark>
     if first == b'/' {
         return Some(Mark::Slash);
     }
+    if first == b';' {
+        return Some(Mark::Semicolon);
+    }
     None
 }
 
@@ -120,6 +124,34 @@ fn reference_len(text: &[u8]) -> usize
     inside + 1
 }
 
+fn is_name_start(b: u8) -> bool
+    ensures { result ≡ name.is_name_start b }
+{
+    b.is_ascii_alphabetic() || b == b'_'
+}
+
+fn is_name_part(b: u8) -> bool
+    ensures { result ≡ name.is_name_part b }
+{
+    b.is_ascii_alphabetic() || b.is_ascii_digit() || b == b'_' || b == b'.'
+}
+
+fn name_parts_len(text: &[u8]) -> usize
+    ensures { result ≡ name.name_parts_len text.now }
+{
+    text.iter().take_while(|b| is_name_part(**b)).count()
+}
+
+#[tactic(auto, unfolding(crate::specs::Name::name_len))]
+fn name_len(text: &[u8]) -> usize
+    ensures { result ≡ name.name_len text.now }
+{
+    if !is_name_start(byte(text, 0)) {
+        return 0;
+    }
+    name_parts_len(text)
+}
+
 /// The longest token at the front, and its length.
 #[tactic(auto, unfolding(crate::specs::Token::token_at))]
 pub fn token_at(text: &[u8]) -> Option<(Kind, usize)>
@@ -135,6 +167,10 @@ pub fn token_at(text: &[u8]) -> Option<(Kind, usize)>
     let reference = reference_len(text);
     if reference > 0 {
         return Some((Kind::Reference, reference));
+    }
+    let name = name_len(text);
+    if name > 0 {
+        return Some((Kind::Name, name));
     }
     None
 }

@@ -56,6 +56,11 @@ fn splits_formulas(rt: HostRuntime) {
     assert!(rt; is_read_as("1\u{b}+2", &["1"], true));
     assert!(rt; is_read_as("1\u{a0}+2", &["1"], true));
     assert!(rt; is_read_as("1+é", &["1", "+"], true));
+    let call = ["MULTIPLE.OPERATIONS", "(", "[.A1]", ";", "a1", ")"];
+    assert!(rt; is_read_as("MULTIPLE.OPERATIONS([.A1];a1)", &call, false));
+    assert!(rt; is_read_as("_x.9 x;y", &["_x.9", "x", ";", "y"], false));
+    assert!(rt; is_read_as("1e5", &["1", "e5"], false));
+    assert!(rt; is_read_as("zé", &["z"], true));
 }
 
 #[test]
@@ -70,11 +75,12 @@ fn refuses_other_brackets(rt: HostRuntime) {
 
 #[test]
 fn tells_kinds_and_places(rt: HostRuntime) {
-    let mut lexer = Lexer::new(" 12 +[.A1]");
+    let mut lexer = Lexer::new(" 12 +[.A1]Z.9");
     for (kind, start) in [
         (Kind::Number, 1),
         (Kind::Mark(Mark::Plus), 4),
         (Kind::Reference, 5),
+        (Kind::Name, 10),
     ] {
         let token = lexer
             .next_token()
@@ -94,6 +100,7 @@ fn tells_marks(rt: HostRuntime) {
         ("-", Mark::Minus),
         ("*", Mark::Asterisk),
         ("/", Mark::Slash),
+        (";", Mark::Semicolon),
     ] {
         let token = Lexer::new(text)
             .next_token()

@@ -10,7 +10,9 @@ pub enum Kind {
     Number,
     /// `[.CELL]`; `reference_of` tells its cell.
     Reference,
-    /// An operator or a parenthesis.
+    /// An ASCII letter or `_`, then ASCII letters, digits, `_` and points.
+    Name,
+    /// An operator, a parenthesis or a semicolon.
     Mark(Mark),
 }
 
@@ -23,6 +25,7 @@ pub enum Mark {
     Minus,
     Asterisk,
     Slash,
+    Semicolon,
 }
 
 impl Mark {
@@ -37,6 +40,7 @@ impl Mark {
             Mark::Minus => "-",
             Mark::Asterisk => "*",
             Mark::Slash => "/",
+            Mark::Semicolon => ";",
         }
     }
 }
