@@ -4,10 +4,10 @@ use Rattle.std.proofs.lemmas.Bool.{ne_eqb, eq-eqb}
 use Rattle.wi_fraction.specs.Number.{Number}
 use Rattle.wi_parser.specs.declared.expr.Operator.{Operator}
 use Rattle.wi_parser.specs.declared.expr.Reference.{Reference}
-use Rattle.wi_parser.specs.Tree.{Tree, number, cell, parenthesized, binary}
+use Rattle.wi_parser.specs.Tree.{Tree, number, cell, parenthesized, binary, what_if}
 use Rattle.wi_parser.specs.Symbol.{Symbol, numeral, reference, open_mark, close_mark, infix_mark}
-use Rattle.wi_parser.specs.Grammar.{line_of, loosest, Spells, a_number, a_cell, in_marks, tighter, joined}
-use Rattle.wi_parser.specs.Reader.{read_then, then_close, operator_at, atom, chain, line, expression, if_last, whole}
+use Rattle.wi_parser.specs.Grammar.{line_of, loosest, Spells, pair_symbols, what_if_symbols, a_number, a_cell, in_marks, one_input, two_inputs, tighter, joined}
+use Rattle.wi_parser.specs.Reader.{read_then, then_close, operator_at, pair_at, what_if_at, atom, chain, line, expression, if_last, whole}
 use Rattle.wi_parser.specs.Nesting.{depth}
 use Rattle.wi_parser.proofs.Turns.{chain_stop, chain_more}
 
@@ -109,9 +109,19 @@ cell_taken : (d : ℕ) (r : Reference) → Taken d 0 (cell r) (reference r ∷ [
 unfolding line atom
 cell_taken d r rest stops = refl
 
+one_taken : (d : ℕ) (f : Reference) (p : Reference × Reference) → Taken d 0 (what_if f (p ∷ [])) (what_if_symbols f (pair_symbols p))
+unfolding line atom what_if_at pair_at
+one_taken d f p rest stops = refl
+
+two_taken : (d : ℕ) (f : Reference) (p q : Reference × Reference) → Taken d 0 (what_if f (p ∷ q ∷ [])) (what_if_symbols f (pair_symbols p ++ pair_symbols q))
+unfolding line atom what_if_at pair_at
+two_taken d f p q rest stops = refl
+
 claim : {k : ℕ} {t : Tree} {ts : List Symbol} → Spells k t ts → (d : ℕ) → depth t ≤ d → Claim d k t ts
 claim (a_number x) d h = number_taken d x
 claim (a_cell r) d h = cell_taken d r
+claim (one_input f p) d h = one_taken d f p
+claim (two_inputs f p q) d h = two_taken d f p q
 claim (in_marks t ts s) zero h = absurd (omega arith)
 claim (in_marks t ts s) (suc d) h = marks_taken d t ts (taken d 2 t ts (claim s d (omega arith)))
 claim (tighter k t ts s) d h = one_line d k t ts (taken d k t ts (claim s d h))

@@ -1,8 +1,8 @@
 -- A tree nests no deeper than the parentheses of its symbols.
 use Rattle.std.proofs.Common.{◌≡◌, ℕ, suc, ◌+◌, ◌-◌, ◌≤◌, List, [], ◌∷◌, ◌++◌, ap, arith, append_assoc, append-nil}
 use Rattle.wi_parser.specs.Tree.{Tree}
-use Rattle.wi_parser.specs.Symbol.{Symbol, numeral, reference, open_mark, close_mark, infix_mark, refused}
-use Rattle.wi_parser.specs.Grammar.{loosest, Spells, a_number, a_cell, in_marks, tighter, joined}
+use Rattle.wi_parser.specs.Symbol.{Symbol, numeral, reference, open_mark, close_mark, separator, infix_mark, what_if_name, refused}
+use Rattle.wi_parser.specs.Grammar.{loosest, Spells, a_number, a_cell, in_marks, one_input, two_inputs, tighter, joined}
 use Rattle.wi_parser.specs.Nesting.{depth, deepest}
 
 pub least : (h : ℕ) (ts : List Symbol) → h ≤ deepest h ts
@@ -11,7 +11,9 @@ least h (numeral x ∷ ts) = least h ts
 least h (reference r ∷ ts) = least h ts
 least h (open_mark ∷ ts) = omega (arith, least (suc h) ts)
 least h (close_mark ∷ ts) = omega arith
+least h (separator ∷ ts) = least h ts
 least h (infix_mark op ∷ ts) = least h ts
+least h (what_if_name ∷ ts) = least h ts
 least h (refused e ∷ ts) = least h ts
 
 -- from h open parentheses on, the symbols before rest reach d more, and no less than rest does
@@ -19,9 +21,17 @@ record Reaches (d h : ℕ) (ts rest : List Symbol) : Type 0 where
   own : h + d ≤ deepest h (ts ++ rest)
   others : deepest h rest ≤ deepest h (ts ++ rest)
 
+-- parentheses that open and close with nothing nested between
+closed : (h : ℕ) (rest : List Symbol) → (h ≤ deepest (suc h) (close_mark ∷ rest)) × (deepest h rest ≤ deepest (suc h) (close_mark ∷ rest))
+closed h rest =
+    let less : suc h - 1 ≡ h = omega arith in
+    (omega arith, omega (arith, ap (λ j. deepest j rest) less))
+
 reaches : {k : ℕ} {t : Tree} {ts : List Symbol} → Spells k t ts → (h : ℕ) (rest : List Symbol) → Reaches (depth t) h ts rest
 reaches (a_number x) h rest = record { own = omega (arith, least h rest); others = omega arith }
 reaches (a_cell r) h rest = record { own = omega (arith, least h rest); others = omega arith }
+reaches (one_input f p) h rest = let c = closed h rest in record { own = omega (arith, c.0); others = c.1 }
+reaches (two_inputs f p q) h rest = let c = closed h rest in record { own = omega (arith, c.0); others = c.1 }
 reaches (in_marks t ts s) h rest =
     let inside = reaches s (suc h) (close_mark ∷ rest) in
     let same = ap (deepest (suc h)) (append_assoc ts (close_mark ∷ []) rest) in

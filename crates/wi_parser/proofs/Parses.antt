@@ -1,5 +1,5 @@
 -- What the tree of a text is, and why there is none.
-use Rattle.std.proofs.Common.{◌≡◌, ℕ, ◌+◌, ◌<◌, ◌≤◌, Bool, true, false, ◌||◌, nat_lt, List, [], ◌∷◌, ◌++◌, length, Option, Some, None, Result, Ok, Err, ok_or, if◌then◌else◌, IfOk, refl, sym, ap, ap₂, ◌∙◌, arith}
+use Rattle.std.proofs.Common.{◌≡◌, ℕ, ◌+◌, ◌<◌, ◌≤◌, Bool, true, false, ◌||◌, nat_lt, List, [], ◌∷◌, ◌++◌, length, Option, Some, None, Result, Ok, Err, ok_or, if◌then◌else◌, IfOk, ◌↔◌, refl, sym, ap, ap₂, ◌∙◌, arith}
 use Rattle.std.proofs.lemmas.List.Folds.{list_any-append}
 use Rattle.std.proofs.lemmas.Bool.Decides.{nat_tests}
 use Rattle.std.specs.List.{list_any}
@@ -7,12 +7,12 @@ use Rattle.wi_parser.specs.declared.fault.ParseFault.{ParseFault}
 use Rattle.wi_parser.specs.declared.fault.ParseFault.TheVariants.{TooLong, OutOfSheet, NumberRange, TooDeep, Syntax, Memory}
 use Rattle.wi_parser.specs.Tree.{Tree}
 use Rattle.wi_parser.specs.Symbol.{Symbol, close_mark, infix_mark, is_outside, is_unfit}
-use Rattle.wi_parser.specs.Grammar.{loosest, Spells, a_number, a_cell, in_marks, tighter, joined}
+use Rattle.wi_parser.specs.Grammar.{loosest, Spells, a_number, a_cell, in_marks, one_input, two_inputs, tighter, joined}
 use Rattle.wi_parser.specs.Nesting.{deepest, most_signs, max_depth, is_too_deep}
 use Rattle.wi_parser.specs.Reader.{whole}
 use Rattle.wi_parser.specs.Outcome.{Fails}
 use Rattle.wi_parser.specs.FormulaText.{formula_symbols}
-use Rattle.wi_parser.specs.Reading.{max_formula, refusal_of, unless_refused, judged, parsed, ReadsAs, IsOrMemory}
+use Rattle.wi_parser.specs.Reading.{max_formula, refusal_of, unless_refused, judged, parsed, IsWithinLimits, ReadsAs, IsOrMemory}
 use Rattle.wi_parser.proofs.Sound.{whole_sound}
 use Rattle.wi_parser.proofs.Complete.{whole_complete}
 use Rattle.wi_parser.proofs.Depth.{depth-deepest}
@@ -25,6 +25,8 @@ any_append p xs ys h e = list_any-append p xs ys ∙ ap₂ (λ a b. a || b) h e
 none_outside : {k : ℕ} {t : Tree} {ts : List Symbol} → Spells k t ts → list_any is_outside ts ≡ false
 none_outside (a_number x) = refl
 none_outside (a_cell r) = refl
+none_outside (one_input f p) = refl
+none_outside (two_inputs f p q) = refl
 none_outside (in_marks t ts s) = any_append is_outside ts (close_mark ∷ []) (none_outside s) refl
 none_outside (tighter k t ts s) = none_outside s
 none_outside (joined k op l r ls rs e s u) = any_append is_outside ls (infix_mark op ∷ rs) (none_outside s) (none_outside u)
@@ -32,6 +34,8 @@ none_outside (joined k op l r ls rs e s u) = any_append is_outside ls (infix_mar
 none_unfit : {k : ℕ} {t : Tree} {ts : List Symbol} → Spells k t ts → list_any is_unfit ts ≡ false
 none_unfit (a_number x) = refl
 none_unfit (a_cell r) = refl
+none_unfit (one_input f p) = refl
+none_unfit (two_inputs f p q) = refl
 none_unfit (in_marks t ts s) = any_append is_unfit ts (close_mark ∷ []) (none_unfit s) refl
 none_unfit (tighter k t ts s) = none_unfit s
 none_unfit (joined k op l r ls rs e s u) = any_append is_unfit ls (infix_mark op ∷ rs) (none_unfit s) (none_unfit u)
@@ -89,6 +93,50 @@ parsed_spells text t h =
     let inside : judged ts ≡ Ok t = length_or (nat_lt max_formula (length text)) (judged ts) t h in
     whole_sound (max_depth + 1) ts t (judged_ok ts t (refusal_of ts) (whole (max_depth + 1) ts) inside)
 
+pub spelled_parsed : (text : List ℕ) (t : Tree) → IsWithinLimits text → Spells loosest t (formula_symbols text) → parsed text ≡ Ok t
+spelled_parsed text t w s = parsed_short text w.short ∙ judged_spelled (formula_symbols text) t s w.parentheses w.signs
+
+-- what is judged to be a tree is not refused
+none_refused : (o : Option ParseFault) (found : Option Tree) (t : Tree) → unless_refused o found ≡ Ok t → o ≡ None
+none_refused None found t h = refl
+none_refused (Some e) found t h = cc
+
+-- a choice that is nothing was not made
+not_chosen : (b : Bool) (e : ParseFault) (o : Option ParseFault) → (if b then Some e else o) ≡ None → (b ≡ false) × (o ≡ None)
+not_chosen true e o h = cc
+not_chosen false e o h = (refl, h)
+
+neither : (a b : Bool) → (a || b) ≡ false → (a ≡ false) × (b ≡ false)
+neither true b h = cc
+neither false b h = (refl, h)
+
+at_most : (m n : ℕ) → nat_lt n m ≡ false → m ≤ n
+at_most m n h = grind (arith, nat_tests)
+
+shallow : (ts : List Symbol) → refusal_of ts ≡ None → (deepest 0 ts ≤ max_depth) × (most_signs 0 ts ≤ max_depth)
+shallow ts h =
+    let a = not_chosen (list_any is_outside ts) OutOfSheet _ h in
+    let b = not_chosen (list_any is_unfit ts) NumberRange _ a.1 in
+    let c = not_chosen (is_too_deep ts) TooDeep None b.1 in
+    let d = neither (nat_lt max_depth (deepest 0 ts)) (nat_lt max_depth (most_signs 0 ts)) c.0 in
+    (at_most _ max_depth d.0, at_most _ max_depth d.1)
+
+not_long : (b : Bool) (r : Result Tree ParseFault) (t : Tree) → (if b then Err TooLong else r) ≡ Ok t → b ≡ false
+not_long true r t h = cc
+not_long false r t h = refl
+
+within : (text : List ℕ) (t : Tree) → parsed text ≡ Ok t → IsWithinLimits text
+unfolding parsed
+within text t h =
+    let ts = formula_symbols text in
+    let long = nat_lt max_formula (length text) in
+    let inside : judged ts ≡ Ok t = length_or long (judged ts) t h in
+    let nesting = shallow ts (none_refused (refusal_of ts) (whole (max_depth + 1) ts) t inside) in
+    record { short = at_most (length text) max_formula (not_long long (judged ts) t h); parentheses = nesting.0; signs = nesting.1 }
+
+pub parsed_exactly : (text : List ℕ) (t : Tree) → (parsed text ≡ Ok t) ↔ (IsWithinLimits text × Spells loosest t (formula_symbols text))
+parsed_exactly text t = (λ h. (within text t h, parsed_spells text t h), λ p. spelled_parsed text t p.0 p.1)
+
 -- ---- what is answered
 
 pub reads_as : {A : Type 0} (found : Result A ParseFault) (e : ParseFault) → found ≡ Err e → ReadsAs found (Err e)
@@ -121,6 +169,5 @@ answered found t (Err TooDeep) h is = let bad = sym h ∙ is in cc
 answered found t (Err Syntax) h is = let bad = sym h ∙ is in cc
 answered found t (Err Memory) h is = tt
 
-pub reads_only : (text : List ℕ) (r : Result Tree ParseFault) → ReadsAs (parsed text) r → (t : Tree) → Spells loosest t (formula_symbols text) → length text ≤ max_formula
-    → deepest 0 (formula_symbols text) ≤ max_depth → most_signs 0 (formula_symbols text) ≤ max_depth → IsOrMemory t r
-reads_only text r h t s l d e = answered (parsed text) t r h (parsed_short text l ∙ judged_spelled (formula_symbols text) t s d e)
+pub reads_only : (text : List ℕ) (r : Result Tree ParseFault) → ReadsAs (parsed text) r → (t : Tree) → Spells loosest t (formula_symbols text) → IsWithinLimits text → IsOrMemory t r
+reads_only text r h t s w = answered (parsed text) t r h (spelled_parsed text t w s)

@@ -1,11 +1,12 @@
 -- What the reader finds is spelled so.
-use Rattle.std.proofs.Common.{◌≡◌, ℕ, zero, suc, Bool, true, false, cond, ◌==◌, List, [], ◌∷◌, ◌++◌, length, Option, Some, None, option_and_then, option_map, refl, sym, ap, ◌∙◌, subst, append_assoc, append-nil}
-use Rattle.std.proofs.lemmas.Bool.{eqb-true}
+use Rattle.std.proofs.Common.{◌≡◌, ℕ, zero, suc, List, [], ◌∷◌, ◌++◌, length, Option, Some, None, option_and_then, option_map, refl, sym, ap, ◌∙◌, subst, append_assoc, append-nil}
 use Rattle.wi_parser.specs.declared.expr.Operator.{Operator}
-use Rattle.wi_parser.specs.Tree.{Tree, number, cell, parenthesized, binary}
-use Rattle.wi_parser.specs.Symbol.{Symbol, numeral, reference, open_mark, close_mark, infix_mark, refused}
-use Rattle.wi_parser.specs.Grammar.{line_of, loosest, Spells, a_number, a_cell, in_marks, tighter, joined}
-use Rattle.wi_parser.specs.Reader.{Parse, Read, read_then, then_close, after_close, operator_at, atom, chain, chain_step, line, expression, if_last, whole}
+use Rattle.wi_parser.specs.declared.expr.Reference.{Reference}
+use Rattle.wi_parser.specs.Tree.{Tree, number, cell, parenthesized, binary, what_if}
+use Rattle.wi_parser.specs.Symbol.{Symbol, numeral, reference, open_mark, close_mark, separator, infix_mark, what_if_name, refused}
+use Rattle.wi_parser.specs.Grammar.{loosest, Spells, pair_symbols, what_if_symbols, a_number, a_cell, in_marks, one_input, two_inputs, tighter, joined}
+use Rattle.wi_parser.specs.Reader.{Parse, Read, read_then, then_close, after_open, after_close, reference_at, operator_at, pair_at, one_or_two, inputs_at, what_if_at, atom, chain, chain_step, line, expression, if_last, whole}
+use Rattle.wi_parser.proofs.Marks.{open_is, close_is, reference_is, operator_is, pair_is, and_then_ok, map_ok}
 
 -- ---- what an outcome came from
 
@@ -26,45 +27,52 @@ then_ok : (f : Tree → Parse) (r : Read) (q : Tree × List Symbol) → read_the
 then_ok f None q h = cc
 then_ok f (Some p) q h = (p, refl, h)
 
-close_is : (ts us : List Symbol) → after_close ts ≡ Some us → ts ≡ close_mark ∷ us
-close_is [] us h = cc
-close_is (numeral x ∷ ts) us h = cc
-close_is (reference r ∷ ts) us h = cc
-close_is (open_mark ∷ ts) us h = cc
-close_is (close_mark ∷ ts) us h = cc
-close_is (infix_mark op ∷ ts) us h = cc
-close_is (refused e ∷ ts) us h = cc
-
-passed : {A : Type 0} (b : Bool) (x y : A) → cond b (Some x) None ≡ Some y → (b ≡ true) × (x ≡ y)
-passed true x y h = (refl, cc)
-passed false x y h = cc
-
-operator_is : (k : ℕ) (ts us : List Symbol) (op : Operator) → operator_at k ts ≡ Some (op, us) → (line_of op ≡ k) × (ts ≡ infix_mark op ∷ us)
-operator_is k [] us op h = cc
-operator_is k (numeral x ∷ ts) us op h = cc
-operator_is k (reference r ∷ ts) us op h = cc
-operator_is k (open_mark ∷ ts) us op h = cc
-operator_is k (close_mark ∷ ts) us op h = cc
-operator_is k (infix_mark o ∷ ts) us op h =
-    let p = passed (line_of o == k) (o, ts) (op, us) h in
-    let same : o ≡ op = ap (λ q. q.0) p.1 in
-    let rest : ts ≡ us = ap (λ q. q.1) p.1 in
-    (sym (ap line_of same) ∙ eqb-true (line_of o) k p.0, cc)
-operator_is k (refused e ∷ ts) us op h = cc
-
 -- ---- each line
 
 -- what a parser finds is spelled by line k, and the rest follows
 abbrev pub Finds : ℕ → Parse → Type 0
 Finds k p = (ts : List Symbol) (t : Tree) (rest : List Symbol) → p ts ≡ Some (t, rest) → (us : List Symbol) × Spells k t us × (ts ≡ us ++ rest)
 
-module _ (inner : Parse) (sound : Finds 2 inner) where
-  closed_sound : (t u : Tree) (ts rest : List Symbol) (o : Option (List Symbol)) → after_close ts ≡ o → then_close (parenthesized t) ts ≡ Some (u, rest) → (parenthesized t ≡ u) × (ts ≡ close_mark ∷ rest)
-  closed_sound t u ts rest None is e = cc
-  closed_sound t u ts rest (Some us) is e =
-      let both = parts (parenthesized t) u us rest (ap (option_map (λ l. (parenthesized t, l))) (sym is) ∙ e) in
-      (both.0, close_is ts us is ∙ ap (λ l. close_mark ∷ l) both.1)
+-- a tree that is closed
+closed_sound : (t u : Tree) (ts rest : List Symbol) → then_close t ts ≡ Some (u, rest) → (t ≡ u) × (ts ≡ close_mark ∷ rest)
+closed_sound t u ts rest h =
+    let a = map_ok (λ l. (t, l)) (after_close ts) (u, rest) h in
+    (ap (λ p. p.0) a.2, close_is ts a.0 a.1 ∙ ap (λ p. close_mark ∷ p.1) a.2)
 
+-- what stands after the formula cell and the first pair
+inputs_sound : (f : Reference) (p : Reference × Reference) (ts : List Symbol) (t : Tree) (rest : List Symbol) (o : Option (List Symbol)) → after_close ts ≡ o → one_or_two f p ts o ≡ Some (t, rest)
+    → (us : List Symbol) × Spells 0 t (what_if_symbols f (pair_symbols p ++ us)) × (ts ≡ us ++ close_mark ∷ rest)
+inputs_sound f p ts t rest (Some us) is h =
+    let both = parts (what_if f (p ∷ [])) t us rest h in
+    ([], subst (λ u. Spells 0 u (what_if_symbols f (pair_symbols p))) both.0 (one_input f p), close_is ts us is ∙ ap (λ l. close_mark ∷ l) both.1)
+inputs_sound f p ts t rest None is h =
+    let a = and_then_ok (λ q. then_close (what_if f (p ∷ q.0 ∷ [])) q.1) (pair_at ts) (t, rest) h in
+    let q = a.0 in
+    let shut = closed_sound (what_if f (p ∷ q.0 ∷ [])) t q.1 rest a.2 in (
+      pair_symbols q.0,
+      subst (λ u. Spells 0 u (what_if_symbols f (pair_symbols p ++ pair_symbols q.0))) shut.0 (two_inputs f p q.0),
+      pair_is ts q a.1 ∙ ap (λ l. pair_symbols q.0 ++ l) shut.1,
+    )
+
+what_if_sound : (ts : List Symbol) (t : Tree) (rest : List Symbol) → what_if_at ts ≡ Some (t, rest) → (us : List Symbol) × Spells 0 t us × (what_if_name ∷ ts ≡ us ++ rest)
+unfolding what_if_at
+what_if_sound ts t rest h =
+    let a = and_then_ok (λ f. inputs_at f.0 f.1) (option_and_then reference_at (after_open ts)) (t, rest) h in
+    let f = a.0 in
+    let b = and_then_ok reference_at (after_open ts) f a.1 in
+    let c = and_then_ok (λ p. one_or_two f.0 p.0 p.1 (after_close p.1)) (pair_at f.1) (t, rest) a.2 in
+    let p = c.0 in
+    let d = inputs_sound f.0 p.0 p.1 t rest (after_close p.1) refl c.2 in
+    let parameters = pair_symbols p.0 ++ d.0 in (
+      what_if_symbols f.0 parameters,
+      d.1,
+      ap (λ l. what_if_name ∷ l)
+          (open_is ts b.0 b.1 ∙ ap (λ l. open_mark ∷ l)
+          (reference_is b.0 f b.2 ∙ ap (λ l. reference f.0 ∷ l)
+          (pair_is f.1 p c.1 ∙ ap (λ l. pair_symbols p.0 ++ l) d.2 ∙ sym (append_assoc parameters (close_mark ∷ []) rest)))),
+    )
+
+module _ (inner : Parse) (sound : Finds 2 inner) where
   atom_sound : Finds 0 (atom inner)
   unfolding atom
   atom_sound [] t rest h = cc
@@ -77,12 +85,14 @@ module _ (inner : Parse) (sound : Finds 2 inner) where
   atom_sound (open_mark ∷ ts) t rest h =
       let inside = then_ok (λ u. then_close (parenthesized u)) (inner ts) (t, rest) h in
       let a = sound ts inside.0.0 inside.0.1 inside.1 in
-      let shut = closed_sound inside.0.0 t inside.0.1 rest (after_close inside.0.1) refl inside.2 in (
+      let shut = closed_sound (parenthesized inside.0.0) t inside.0.1 rest inside.2 in (
         open_mark ∷ a.0 ++ close_mark ∷ [],
         subst (λ u. Spells 0 u (open_mark ∷ a.0 ++ close_mark ∷ [])) shut.0 (in_marks inside.0.0 a.0 a.1),
         ap (λ l. open_mark ∷ l) (a.2 ∙ ap (λ l. a.0 ++ l) shut.1 ∙ sym (append_assoc a.0 (close_mark ∷ []) rest)),
       )
+  atom_sound (what_if_name ∷ ts) t rest h = what_if_sound ts t rest h
   atom_sound (close_mark ∷ ts) t rest h = cc
+  atom_sound (separator ∷ ts) t rest h = cc
   atom_sound (infix_mark op ∷ ts) t rest h = cc
   atom_sound (refused e ∷ ts) t rest h = cc
 

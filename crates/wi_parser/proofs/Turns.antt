@@ -1,36 +1,12 @@
 -- One turn of the reader's loop, and how many symbols it takes.
-use Rattle.std.proofs.Common.{◌≡◌, ℕ, zero, suc, ◌+◌, ◌-◌, ◌<◌, cond, true, false, Bool, List, [], ◌∷◌, length, Option, Some, None, refl, sym, ap, ◌∙◌, arith}
+use Rattle.std.proofs.Common.{◌≡◌, ℕ, zero, suc, ◌+◌, ◌-◌, ◌<◌, List, [], ◌∷◌, length, Option, Some, None, refl, sym, ap, ◌∙◌, arith}
 use Rattle.wi_parser.specs.declared.expr.Operator.{Operator}
 use Rattle.wi_parser.specs.Tree.{Tree, binary}
-use Rattle.wi_parser.specs.Symbol.{Symbol, numeral, reference, open_mark, close_mark, infix_mark, refused}
+use Rattle.wi_parser.specs.Symbol.{Symbol}
 use Rattle.wi_parser.specs.declared.fault.ParseFault.{ParseFault}
 use Rattle.wi_parser.specs.declared.fault.ParseFault.TheVariants.{TooLong, OutOfSheet, NumberRange, TooDeep, Syntax, Memory}
 use Rattle.wi_parser.specs.Outcome.{Fails}
-use Rattle.wi_parser.specs.Reader.{Parse, read_then, after_close, operator_at, chain, chain_step, line}
-
--- ---- a mark is one symbol
-
-pub close-length : (ts us : List Symbol) → after_close ts ≡ Some us → length ts ≡ length us + 1
-close-length [] us h = cc
-close-length (numeral x ∷ ts) us h = cc
-close-length (reference r ∷ ts) us h = cc
-close-length (open_mark ∷ ts) us h = cc
-close-length (close_mark ∷ ts) us h = let e : ts ≡ us = cc in omega (arith, ap length e)
-close-length (infix_mark op ∷ ts) us h = cc
-close-length (refused e ∷ ts) us h = cc
-
-chosen : {A : Type 0} (b : Bool) (x y : A) → cond b (Some x) None ≡ Some y → x ≡ y
-chosen true x y h = cc
-chosen false x y h = cc
-
-pub operator-length : (k : ℕ) (ts us : List Symbol) (op : Operator) → operator_at k ts ≡ Some (op, us) → length ts ≡ length us + 1
-operator-length k [] us op h = cc
-operator-length k (numeral x ∷ ts) us op h = cc
-operator-length k (reference r ∷ ts) us op h = cc
-operator-length k (open_mark ∷ ts) us op h = cc
-operator-length k (close_mark ∷ ts) us op h = cc
-operator-length k (infix_mark o ∷ ts) us op h = omega (arith, ap (λ p. length p.1) (chosen _ _ _ h))
-operator-length k (refused e ∷ ts) us op h = cc
+use Rattle.wi_parser.specs.Reader.{Parse, read_then, operator_at, chain, chain_step, line}
 
 -- ---- operators
 

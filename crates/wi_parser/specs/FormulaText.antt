@@ -1,18 +1,19 @@
 -- The symbols of a formula's text.
 use Rattle.std.specs.Prelude.{ℕ, List, [], ◌∷◌, ◌++◌, map, codes, ◌==◌, if◌then◌else◌, Option, Some, None, unwrap_or}
+use Rattle.std.specs.Str.{str_eq_ignore_ascii_case}
 use Rattle.wi_fraction.specs.Number.{Number as Numbers}
 use Rattle.wi_fraction.specs.Text.{read_decimal}
 use Rattle.wi_values.specs.AddressReading.{address_at}
 use Rattle.wi_lexer.specs.declared.token.Kind.{Kind}
-use Rattle.wi_lexer.specs.declared.token.Kind.TheVariants.{Number, Reference, Mark}
+use Rattle.wi_lexer.specs.declared.token.Kind.TheVariants.{Number, Reference, Mark, Name}
 use Rattle.wi_lexer.specs.declared.token.Mark as mark
-use Rattle.wi_lexer.specs.declared.token.Mark.TheVariants.{OpenParenthesis, CloseParenthesis, Plus, Minus, Asterisk, Slash}
+use Rattle.wi_lexer.specs.declared.token.Mark.TheVariants.{OpenParenthesis, CloseParenthesis, Semicolon, Plus, Minus, Asterisk, Slash}
 use Rattle.wi_lexer.specs.Cell.{Cell}
 use Rattle.wi_lexer.specs.Reference.{reference_of}
 use Rattle.wi_lexer.specs.Tokens.{Tokens, tokens}
 use Rattle.wi_parser.specs.declared.expr.Operator.TheVariants.{Add, Subtract, Multiply, Divide}
 use Rattle.wi_parser.specs.declared.fault.ParseFault.TheVariants.{OutOfSheet, NumberRange, Syntax}
-use Rattle.wi_parser.specs.Symbol.{Symbol, numeral, reference, open_mark, close_mark, infix_mark, refused}
+use Rattle.wi_parser.specs.Symbol.{Symbol, numeral, reference, open_mark, close_mark, separator, infix_mark, what_if_name, refused}
 
 -- ---- tokens
 
@@ -33,16 +34,22 @@ reference_symbol (Some c) = cell_symbol c (address_at c.letters c.digits)
 abbrev pub mark_symbol : mark.Mark → Symbol
 mark_symbol OpenParenthesis = open_mark
 mark_symbol CloseParenthesis = close_mark
+mark_symbol Semicolon = separator
 mark_symbol Plus = infix_mark Add
 mark_symbol Minus = infix_mark Subtract
 mark_symbol Asterisk = infix_mark Multiply
 mark_symbol Slash = infix_mark Divide
+
+-- the name of what-ifs, in letters of either case; no formula has another name yet
+abbrev pub name_symbol : List ℕ → Symbol
+name_symbol bs = if str_eq_ignore_ascii_case bs (codes "MULTIPLE.OPERATIONS") then what_if_name else refused Syntax
 
 -- what a token of this kind with these bytes means
 abbrev pub symbol_of : Kind → List ℕ → Symbol
 symbol_of Number bs = number_symbol (read_decimal bs)
 symbol_of Reference bs = reference_symbol (reference_of bs)
 symbol_of (Mark m) bs = mark_symbol m
+symbol_of Name bs = name_symbol bs
 
 -- what tokens mean; a bad one, which ends them, is refused
 abbrev pub symbols_of : Tokens → List Symbol

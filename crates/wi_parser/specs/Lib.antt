@@ -6,6 +6,7 @@ pub mod Symbol
 pub mod Grammar
 pub mod Reader
 pub mod Spelling
+pub mod Inside
 pub mod Nesting
 pub mod Words
 pub mod Outcome

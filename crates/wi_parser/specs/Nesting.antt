@@ -1,8 +1,8 @@
 -- How deep a formula nests.
 use Rattle.std.specs.Prelude.{ℕ, suc, ◌-◌, max, List, [], ◌∷◌, Bool, true, false, ◌||◌, nat_lt, if◌then◌else◌}
-use Rattle.wi_parser.specs.declared.expr.Operator.TheVariants.{Add, Subtract, Multiply, Divide}
+use Rattle.wi_parser.specs.declared.expr.Operator.TheVariants.{Add, Subtract}
 use Rattle.wi_parser.specs.Tree.{Tree, number, cell, parenthesized, binary, what_if}
-use Rattle.wi_parser.specs.Symbol.{Symbol, numeral, reference, open_mark, close_mark, infix_mark, refused}
+use Rattle.wi_parser.specs.Symbol.{Symbol, open_mark, close_mark, infix_mark}
 
 -- how many parentheses are around the innermost part of a tree
 abbrev pub depth : Tree → ℕ
@@ -15,25 +15,15 @@ depth (what_if f pairs) = 0
 -- The most parentheses that are open at once, where h are open before. One that closes none counts for nothing.
 abbrev pub deepest : ℕ → List Symbol → ℕ
 deepest h [] = h
-deepest h (numeral x ∷ ts) = deepest h ts
-deepest h (reference r ∷ ts) = deepest h ts
 deepest h (open_mark ∷ ts) = deepest (suc h) ts
 deepest h (close_mark ∷ ts) = max h (deepest (h - 1) ts)
-deepest h (infix_mark op ∷ ts) = deepest h ts
-deepest h (refused e ∷ ts) = deepest h ts
+deepest h (s ∷ ts) = deepest h ts
 
 abbrev pub is_sign : Symbol → Bool
-is_sign (numeral x) = false
-is_sign (reference r) = false
-is_sign open_mark = false
-is_sign close_mark = false
 is_sign (infix_mark Add) = true
 is_sign (infix_mark Subtract) = true
-is_sign (infix_mark Multiply) = false
-is_sign (infix_mark Divide) = false
-is_sign (refused e) = false
+is_sign s = false
 
--- the most `+` and `-` that stand one after another, where n stand before
 abbrev pub most_signs : ℕ → List Symbol → ℕ
 most_signs n [] = n
 most_signs n (x ∷ ts) = if is_sign x then most_signs (suc n) ts else max n (most_signs 0 ts)

@@ -1,8 +1,9 @@
 -- What a reader from the left finds: a tree and the symbols after it, or nothing.
 use Rattle.std.specs.Prelude.{ℕ, zero, suc, List, [], ◌∷◌, length, cond, ◌==◌, Option, Some, None, option_map, option_and_then}
 use Rattle.wi_parser.specs.declared.expr.Operator.{Operator}
-use Rattle.wi_parser.specs.Tree.{Tree, number, cell, parenthesized, binary}
-use Rattle.wi_parser.specs.Symbol.{Symbol, numeral, reference, open_mark, close_mark, infix_mark, refused}
+use Rattle.wi_parser.specs.declared.expr.Reference.{Reference}
+use Rattle.wi_parser.specs.Tree.{Tree, number, cell, parenthesized, binary, what_if}
+use Rattle.wi_parser.specs.Symbol.{Symbol, numeral, reference, open_mark, close_mark, separator, infix_mark, what_if_name}
 use Rattle.wi_parser.specs.Grammar.{line_of, loosest}
 
 -- a tree found, and what follows it
@@ -16,39 +17,65 @@ Parse = List Symbol → Read
 abbrev pub read_then : (Tree → Parse) → Read → Read
 read_then f r = option_and_then (λ p. f p.0 p.1) r
 
--- what follows the mark that closes, where one stands
+-- what follows this mark, where it stands first
+abbrev pub after_open : List Symbol → Option (List Symbol)
+after_open (open_mark ∷ ts) = Some ts
+after_open ts = None
+
 abbrev pub after_close : List Symbol → Option (List Symbol)
-after_close [] = None
-after_close (numeral x ∷ ts) = None
-after_close (reference r ∷ ts) = None
-after_close (open_mark ∷ ts) = None
 after_close (close_mark ∷ ts) = Some ts
-after_close (infix_mark op ∷ ts) = None
-after_close (refused e ∷ ts) = None
+after_close ts = None
+
+abbrev pub after_separator : List Symbol → Option (List Symbol)
+after_separator (separator ∷ ts) = Some ts
+after_separator ts = None
+
+-- the reference that stands first, and what follows it
+abbrev pub reference_at : List Symbol → Option (Reference × List Symbol)
+reference_at (reference r ∷ ts) = Some (r, ts)
+reference_at ts = None
 
 -- the operator of this line that stands first, and what follows it
 abbrev pub operator_at : ℕ → List Symbol → Option (Operator × List Symbol)
-operator_at k [] = None
-operator_at k (numeral x ∷ ts) = None
-operator_at k (reference r ∷ ts) = None
-operator_at k (open_mark ∷ ts) = None
-operator_at k (close_mark ∷ ts) = None
 operator_at k (infix_mark op ∷ ts) = cond (line_of op == k) (Some (op, ts)) None
-operator_at k (refused e ∷ ts) = None
+operator_at k ts = None
 
 -- the tree, where the mark that closes stands next
 abbrev pub then_close : Tree → Parse
 then_close t ts = option_map (λ rest. (t, rest)) (after_close ts)
 
--- a number, a cell or what stands in parentheses, which `inner` reads
+-- ---- what-ifs
+
+-- a reference after a separator, and what follows it
+abbrev pub parameter_at : List Symbol → Option (Reference × List Symbol)
+parameter_at ts = option_and_then reference_at (after_separator ts)
+
+-- an input and the cell whose value replaces it, and what follows them
+unfoldable pub pair_at : List Symbol → Option ((Reference × Reference) × List Symbol)
+pair_at ts = option_and_then (λ r. option_map (λ x. ((r.0, x.0), x.1)) (parameter_at r.1)) (parameter_at ts)
+
+-- the end, or a second pair and the end
+abbrev pub one_or_two : Reference → Reference × Reference → List Symbol → Option (List Symbol) → Read
+one_or_two f p ts (Some rest) = Some (what_if f (p ∷ []), rest)
+one_or_two f p ts None = option_and_then (λ q. then_close (what_if f (p ∷ q.0 ∷ [])) q.1) (pair_at ts)
+
+-- what stands after the formula cell of a what-if
+abbrev pub inputs_at : Reference → Parse
+inputs_at f ts = option_and_then (λ p. one_or_two f p.0 p.1 (after_close p.1)) (pair_at ts)
+
+-- what stands after the name of a what-if
+unfoldable pub what_if_at : Parse
+what_if_at ts = option_and_then (λ f. inputs_at f.0 f.1) (option_and_then reference_at (after_open ts))
+
+-- ---- lines
+
+-- a number, a cell, what stands in parentheses, which `inner` reads, or a what-if
 unfoldable pub atom : Parse → Parse
-atom inner [] = None
 atom inner (numeral x ∷ ts) = Some (number x, ts)
 atom inner (reference r ∷ ts) = Some (cell r, ts)
 atom inner (open_mark ∷ ts) = read_then (λ t. then_close (parenthesized t)) (inner ts)
-atom inner (close_mark ∷ ts) = None
-atom inner (infix_mark op ∷ ts) = None
-atom inner (refused e ∷ ts) = None
+atom inner (what_if_name ∷ ts) = what_if_at ts
+atom inner ts = None
 
 -- an operator, where one stands, and its right operand, and so on
 abbrev pub chain_step : Parse → (Tree → Parse) → Tree → List Symbol → Option (Operator × List Symbol) → Read

@@ -1,5 +1,5 @@
 -- What a text is taken for: a formula, or the content of a cell.
-use Rattle.std.specs.Prelude.{◌≡◌, ℕ, ◌+◌, List, length, nat_lt, if◌then◌else◌, codes, Option, Some, None, option_map, is_some, Result, Ok, Err, ok_or}
+use Rattle.std.specs.Prelude.{◌≡◌, ℕ, ◌+◌, ◌≤◌, List, length, nat_lt, if◌then◌else◌, codes, Option, Some, None, option_map, is_some, Result, Ok, Err, ok_or}
 use Rattle.std.specs.List.{list_any}
 use Rattle.wi_values.specs.declared.value.Value.TheVariants.{Text}
 use Rattle.wi_values.specs.Import.{max_text, imported}
@@ -9,7 +9,7 @@ use Rattle.wi_parser.specs.declared.fault.ParseFault.{ParseFault}
 use Rattle.wi_parser.specs.declared.fault.ParseFault.TheVariants.{TooLong, OutOfSheet, NumberRange, TooDeep, Syntax, Memory}
 use Rattle.wi_parser.specs.Tree.{Tree}
 use Rattle.wi_parser.specs.Symbol.{Symbol, is_outside, is_unfit}
-use Rattle.wi_parser.specs.Nesting.{is_too_deep, max_depth}
+use Rattle.wi_parser.specs.Nesting.{deepest, most_signs, max_depth, is_too_deep}
 use Rattle.wi_parser.specs.Reader.{whole}
 use Rattle.wi_parser.specs.FormulaText.{after, after_equals, formula_symbols}
 
@@ -35,6 +35,12 @@ judged ts = unless_refused (refusal_of ts) (whole (max_depth + 1) ts)
 -- the tree of a formula's text, or the first cause for which there is none
 unfoldable pub parsed : List ℕ → Result Tree ParseFault
 parsed text = if nat_lt max_formula (length text) then Err TooLong else judged (formula_symbols text)
+
+-- the text and how deep it nests are within their limits
+pub record IsWithinLimits (text : List ℕ) : Type 0 where
+  pub short : length text ≤ max_formula
+  pub parentheses : deepest 0 (formula_symbols text) ≤ max_depth
+  pub signs : most_signs 0 (formula_symbols text) ≤ max_depth
 
 abbrev pub as_content : Result Tree ParseFault → Result Content ParseFault
 as_content (Ok t) = Ok (Formula t)

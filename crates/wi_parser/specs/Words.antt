@@ -1,15 +1,17 @@
 -- What the code's words stand for.
 use Rattle.std.specs.Prelude.{List, map}
 use Rattle.wi_parser.specs.declared.word.Word.{Word}
-use Rattle.wi_parser.specs.declared.word.Word.TheVariants.{Number, Cell, Open, Close, Infix, Refused}
-use Rattle.wi_parser.specs.Symbol.{Symbol, numeral, reference, open_mark, close_mark, infix_mark, refused}
+use Rattle.wi_parser.specs.declared.word.Word.TheVariants.{Number, Cell, Open, Close, Separator, Infix, WhatIf, Refused}
+use Rattle.wi_parser.specs.Symbol.{Symbol, numeral, reference, open_mark, close_mark, separator, infix_mark, what_if_name, refused}
 
 abbrev pub meant_by : Word → Symbol
 meant_by (Number x) = numeral x
 meant_by (Cell r) = reference r
 meant_by Open = open_mark
 meant_by Close = close_mark
+meant_by Separator = separator
 meant_by (Infix op) = infix_mark op
+meant_by WhatIf = what_if_name
 meant_by (Refused e) = refused e
 
 abbrev pub all_meant : List Word → List Symbol

@@ -1,16 +1,21 @@
 //! A formula.
 
-ghost use Rattle.std.specs.Prelude.{◌≡◌, IfOk};
-ghost use Rattle.wi_parser.specs.View.{tree_of};
+ghost use Rattle.std.specs.Prelude.{◌≡◌, ◌++◌, map, IfOk};
+ghost use Rattle.wi_parser.specs.View.{tree_of, pair_of};
+ghost use Rattle.wi_parser.specs.Reads.{inputs_of};
+ghost use Rattle.wi_parser.specs.Spelling.{IsSpelled};
 
-use crate::expr::Expr;
+use crate::expr::{Expr, Pair};
 use std::alloc::{AllocError, Global};
 use std::marker::Model;
+use wi_values::Address;
 
-/// A formula, seen as its tree.
+/// A formula, seen as its tree, which some text spells.
 #[derive(Debug, Drop)]
 pub struct Formula {
     expr: Expr,
+    /// The inputs of its what-ifs.
+    inputs: Vec<Address>,
 }
 
 impl Model for Formula {
@@ -23,14 +28,21 @@ impl Model for Formula {
     ghost use Rattle.wi_parser.specs.View.{tree_of};
 
     ghost view = { λ f. tree_of f.expr };
+
+    ghost use Rattle.wi_parser.specs.Inside.{IsFormula};
+
+    ghost invariant = { IsFormula };
 }
 
 impl Formula {
-    /// The formula of a tree.
-    pub fn new(expr: Expr) -> Formula
-        ensures { result ≡ tree_of expr }
+    /// The formula of a tree that is spelled.
+    pub(crate) fn new(alloc: Global, expr: Expr) -> Result<Formula, AllocError>
+        requires { IsSpelled (tree_of expr) }
+        ensures { IfOk result (λ f. f ≡ tree_of expr) }
     {
-        Formula { expr }
+        let mut inputs = Vec::new(alloc);
+        push_inputs(&expr, &mut inputs)?;
+        Ok(Formula { expr, inputs })
     }
 
     /// Its tree.
@@ -40,11 +52,45 @@ impl Formula {
         &self.expr
     }
 
+    /// The inputs of its what-ifs, from the left: the cells that it names and does not read.
+    pub fn inputs(&self) -> &[Address]
+        ensures { result.now ≡ inputs_of self.now }
+    {
+        &self.inputs
+    }
+
     /// The same formula once more.
     pub fn copy(&self, alloc: Global) -> Result<Formula, AllocError>
         ensures { IfOk result (λ f. f ≡ self.now) }
     {
         let expr = self.expr.copy(alloc)?;
-        Ok(Formula { expr })
+        let inputs = Vec::from_slice(alloc, &self.inputs)?;
+        Ok(Formula { expr, inputs })
     }
+}
+
+// Appends the inputs of a tree's what-ifs.
+fn push_inputs(expr: &Expr, inputs: &mut Vec<Address>) -> Result<(), AllocError>
+    ensures { IfOk result (λ _. inputs.new.items ≡ inputs.old.items ++ inputs_of (tree_of expr.now)) }
+{
+    match expr {
+        Expr::Number(_) => Ok(()),
+        Expr::Cell(_) => Ok(()),
+        Expr::Parenthesized(inner) => push_inputs(inner, inputs),
+        Expr::Binary(_, left, right) => {
+            push_inputs(left, inputs)?;
+            push_inputs(right, inputs)
+        }
+        Expr::WhatIf(_, pairs) => push_inputs_of(pairs, inputs),
+    }
+}
+
+// Appends the inputs of pairs.
+fn push_inputs_of(pairs: &[Pair], inputs: &mut Vec<Address>) -> Result<(), AllocError>
+    ensures { IfOk result (λ _. inputs.new.items ≡ inputs.old.items ++ map (λ p. p.0.at) (map pair_of pairs.now)) }
+{
+    for pair in pairs {
+        inputs.push(pair.input.at)?;
+    }
+    Ok(())
 }

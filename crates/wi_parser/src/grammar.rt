@@ -9,6 +9,7 @@ ghost use Rattle.wi_parser.specs.Tree as tree;
 
 use crate::expr::{Expr, Operator, Reference};
 use crate::fault::ParseFault;
+use crate::what_if::what_if;
 use crate::word::Word;
 use crate::words::Words;
 use std::alloc::{AllocError, Global};
@@ -32,7 +33,7 @@ impl<F: Fn(Global, &mut Words<'_>, usize) -> Result<Expr, ParseFault>> Grammar<F
         (self.expression)(self.alloc, words, self.depth)
     }
 
-    // A number, a cell, or an expression in parentheses.
+    // A number, a cell, an expression in parentheses, or a what-if.
     #[tactic(auto, unfolding(crate::specs::Reader::atom))]
     fn atom(&self, words: &mut Words<'_>) -> Result<Expr, ParseFault>
         requires { Nests self.now.depth (F.pre self.now.expression) (F.post self.now.expression) }
@@ -52,7 +53,9 @@ impl<F: Fn(Global, &mut Words<'_>, usize) -> Result<Expr, ParseFault>> Grammar<F
                 }
                 Ok(parenthesized(self.alloc, inner)?)
             }
+            Word::WhatIf => what_if(self.alloc, words),
             Word::Close => Err(ParseFault::Syntax),
+            Word::Separator => Err(ParseFault::Syntax),
             Word::Infix(_) => Err(ParseFault::Syntax),
             Word::Refused(_) => Err(ParseFault::Syntax),
         }

@@ -1,12 +1,14 @@
 //! Laws of the grammar alone.
 
-ghost use Rattle.std.specs.Prelude.{◌≡◌, ℕ, ◌≤◌, List, Some, suc};
+ghost use Rattle.std.specs.Prelude.{◌≡◌, ◌↔◌, ℕ, ◌≤◌, List, Some, Ok, suc};
 ghost use Rattle.wi_parser.specs.Tree.{Tree};
 ghost use Rattle.wi_parser.specs.Symbol.{Symbol};
 ghost use Rattle.wi_parser.specs.Grammar.{Spells, loosest};
 ghost use Rattle.wi_parser.specs.Nesting.{depth, deepest};
 ghost use Rattle.wi_parser.specs.Spelling.{spelling};
 ghost use Rattle.wi_parser.specs.Reader.{whole};
+ghost use Rattle.wi_parser.specs.FormulaText.{formula_symbols};
+ghost use Rattle.wi_parser.specs.Reading.{IsWithinLimits, parsed};
 
 /// What is read from symbols is spelled by them.
 pub fn what_is_read()
@@ -31,4 +33,9 @@ pub fn no_deeper()
 /// A tree has one spelling.
 pub fn one_spelling()
     ensures { (k : ℕ) (t : Tree) (ts : List Symbol) → Spells k t ts → ts ≡ spelling t }
+{}
+
+/// A text is read as a tree exactly where it spells the tree within the limits.
+pub fn what_a_text_is()
+    ensures { (text : List ℕ) (t : Tree) → (parsed text ≡ Ok t) ↔ (IsWithinLimits text × Spells loosest t (formula_symbols text)) }
 {}

@@ -13,6 +13,7 @@ mod parser;
 #[cfg(test)]
 mod tests;
 mod tokens;
+mod what_if;
 mod word;
 mod words;
 

@@ -1,4 +1,4 @@
-use crate::{Content, Expr, Formula, Operator, ParseFault, parse};
+use crate::{Content, Expr, Operator, ParseFault, parse};
 use std::alloc::{AllocError, Global};
 use std::test::Fail;
 use wi_fraction::Fraction;
@@ -16,7 +16,7 @@ fn sign_of(op: Operator) -> char {
     }
 }
 
-// Appends a tree, with braces around each operation and brackets for parentheses.
+// Appends a tree, with braces around each operation, brackets for parentheses, and a what-if's pairs after its cell.
 fn push_tree(tree: &Expr, text: &mut String) -> Result<(), AllocError> {
     match tree {
         Expr::Number(x) => x.push_text(text),
@@ -33,7 +33,16 @@ fn push_tree(tree: &Expr, text: &mut String) -> Result<(), AllocError> {
             push_tree(right, text)?;
             text.push('}')
         }
-        Expr::WhatIf(_, _) => Ok(()),
+        Expr::WhatIf(formula_cell, pairs) => {
+            formula_cell.at.push_text(text)?;
+            for pair in pairs {
+                text.push(' ')?;
+                pair.input.at.push_text(text)?;
+                text.push('=')?;
+                pair.by.at.push_text(text)?;
+            }
+            Ok(())
+        }
     }
 }
 
@@ -95,6 +104,12 @@ fn trees_by_precedence(rt: HostRuntime) -> Result<(), Fail> {
         ("=007.50*.5", "{7.5*0.5}"),
         ("=[.a1] * 2+[.$B$12]", "{{A1*2}+B12}"),
         ("=[.XFD1048576]", "XFD1048576"),
+        ("=MULTIPLE.OPERATIONS([.B2];[.B1];[.A4])", "B2 B1=A4"),
+        (
+            "=2*multiple.Operations ( [.B2] ;[.$B$1];[.A4];[.C1] ;[.A5] )+1",
+            "{{2*B2 B1=A4 C1=A5}+1}",
+        ),
+        ("=(MULTIPLE.OPERATIONS([.A1];[.A1];[.A1]))", "[A1 A1=A1]"),
         (
             "=170141183460469231731687303715884105727",
             "170141183460469231731687303715884105727",
@@ -159,6 +174,25 @@ fn texts_that_are_no_formulas(rt: HostRuntime) {
         "=1e5",
         "=1?",
         "=\u{a0}1",
+        "=[.A1];[.A2]",
+        "=MULTIPLE.OPERATIONS",
+        "=MULTIPLE.OPERATIONS()",
+        "=MULTIPLE.OPERATIONS([.A1])",
+        "=MULTIPLE.OPERATIONS([.A1];[.A2])",
+        "=MULTIPLE.OPERATIONS([.A1];[.A2];)",
+        "=MULTIPLE.OPERATIONS([.A1];[.A2];[.A3]",
+        "=MULTIPLE.OPERATIONS([.A1];[.A2];[.A3];[.A4])",
+        "=MULTIPLE.OPERATIONS([.A1];[.A2];[.A3];[.A4];[.A5];[.A6])",
+        "=MULTIPLE.OPERATIONS([.A1];[.A2];[.A3];[.A4];[.A5];[.A6];[.A7])",
+        "=MULTIPLE.OPERATIONS(1;[.A2];[.A3])",
+        "=MULTIPLE.OPERATIONS([.A1];([.A2]);[.A3])",
+        "=MULTIPLE.OPERATIONS([.A1];[.A2];([.A3]))",
+        "=MULTIPLE.OPERATIONS(([.A1]);[.A2];[.A3])",
+        "=MULTIPLE.OPERATIONS([.A1:.A1];[.A2];[.A3])",
+        "=MULTIPLE.OPERATIONS([.A1];[.A2];[.A3]+1)",
+        "=MULTIPLE.OPERATIONS([.A1],[.A2],[.A3])",
+        "=MULTIPLE.OPERATION([.A1];[.A2];[.A3])",
+        "=MULTIPLE_OPERATIONS([.A1];[.A2];[.A3])",
     ] {
         assert_eq!(rt; fault(rt.alloc(), text), Some(ParseFault::Syntax), "{text}");
     }
@@ -171,6 +205,7 @@ fn cells_outside_and_numbers_too_large(rt: HostRuntime) -> Result<(), Fail> {
         "=[.A1048577]",
         "=1+[.AAAA1]+",
         "=)[.XFE1]?",
+        "=MULTIPLE.OPERATIONS(1;[.XFE1])",
         "[.XFE1]",
     ] {
         assert_eq!(rt;
@@ -297,9 +332,14 @@ fn contents_have_a_greatest_length(rt: HostRuntime) -> Result<(), Fail> {
 }
 
 #[test]
-fn made_trees_are_formulas(rt: HostRuntime) -> Result<(), Fail> {
-    let formula = Formula::new(Expr::Number(Fraction::new(3, 4)?));
-    let tree = formula.tree().copy(rt.alloc())?;
-    assert_eq!(rt; shown(rt.alloc(), &tree)?.as_str(), "0.75");
+fn formulas_tell_their_inputs(rt: HostRuntime) -> Result<(), Fail> {
+    let formula = parse(
+        rt.alloc(),
+        "=[.A1]+MULTIPLE.OPERATIONS([.B2];[.C1];[.A4];[.B1];[.A5])*(MULTIPLE.OPERATIONS([.B2];[.C1];[.A6]))",
+    )?;
+    let again = formula.copy(rt.alloc())?;
+    let inputs = [Address::at(0, 2), Address::at(0, 1), Address::at(0, 2)];
+    assert_eq!(rt; formula.inputs(), inputs.as_slice());
+    assert_eq!(rt; again.inputs(), inputs.as_slice());
     Ok(())
 }

@@ -3,7 +3,7 @@
 ghost use Rattle.std.specs.Prelude.{◌≡◌};
 ghost use Rattle.wi_parser.specs.Words.{meant_by};
 ghost use Rattle.wi_parser.specs.Symbol.{refused};
-ghost use Rattle.wi_parser.specs.FormulaText.{symbol_of, cell_symbol, reference_symbol, mark_symbol};
+ghost use Rattle.wi_parser.specs.FormulaText.{symbol_of, name_symbol, cell_symbol, reference_symbol, mark_symbol};
 ghost use Rattle.wi_lexer.specs.Cell.{parts};
 ghost use Rattle.wi_lexer.specs.Reference as spec;
 
@@ -20,7 +20,10 @@ pub enum Word {
     Cell(Reference),
     Open,
     Close,
+    Separator,
     Infix(Operator),
+    /// The name MULTIPLE.OPERATIONS.
+    WhatIf,
     /// A token without a value, which no formula has.
     Refused(ParseFault),
 }
@@ -34,6 +37,7 @@ impl Word {
             Kind::Number => number(token.text.as_bytes()),
             Kind::Reference => reference(token.text.as_bytes()),
             Kind::Mark(mark) => of_mark(mark),
+            Kind::Name => name(token.text),
         }
     }
 }
@@ -56,6 +60,16 @@ fn reference(text: &[u8]) -> Word
     }
 }
 
+// No formula has another name than that of what-ifs yet.
+fn name(text: &str) -> Word
+    ensures { meant_by result ≡ name_symbol text.now }
+{
+    if text.eq_ignore_ascii_case("MULTIPLE.OPERATIONS") {
+        return Word::WhatIf;
+    }
+    Word::Refused(ParseFault::Syntax)
+}
+
 fn cell_named(cell: CellText<'_>) -> Word
     ensures { meant_by result ≡ reference_symbol (Some (parts cell.entry)) }
 {
@@ -75,6 +89,7 @@ fn of_mark(mark: Mark) -> Word
     match mark {
         Mark::OpenParenthesis => Word::Open,
         Mark::CloseParenthesis => Word::Close,
+        Mark::Semicolon => Word::Separator,
         Mark::Plus => Word::Infix(Operator::Add),
         Mark::Minus => Word::Infix(Operator::Subtract),
         Mark::Asterisk => Word::Infix(Operator::Multiply),

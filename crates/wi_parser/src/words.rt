@@ -3,10 +3,10 @@
 ghost use Rattle.std.specs.Prelude.{◌≡◌, [], ◌∷◌, Some, None, MatchOption, IsTrue, ◌↔◌};
 ghost use Rattle.std.specs.Bool.{OnTrue, OnFalse};
 ghost use Rattle.wi_parser.specs.Grammar as grammar;
-ghost use Rattle.wi_parser.specs.Reader.{after_close, operator_at};
+ghost use Rattle.wi_parser.specs.Reader.{after_open, after_close, after_separator, reference_at, operator_at};
 ghost use Rattle.wi_parser.specs.Words.{meant_by, all_meant};
 
-use crate::expr::Operator;
+use crate::expr::{Operator, Reference};
 use crate::word::Word;
 use std::marker::Model;
 
@@ -52,6 +52,20 @@ impl<'a> Words<'a> {
         }
     }
 
+    /// Takes the next word, if it is the parenthesis that opens.
+    pub fn take_open(&mut self) -> bool
+        ensures yes { OnTrue result (after_open self.old ≡ Some self.new) }
+        ensures no { OnFalse result ((after_open self.old ≡ None) × (self.new ≡ self.old)) }
+    {
+        match self.rest {
+            [Word::Open, rest @ ..] => {
+                self.rest = rest;
+                true
+            }
+            _ => false,
+        }
+    }
+
     /// Takes the next word, if it is the parenthesis that closes.
     pub fn take_close(&mut self) -> bool
         ensures yes { OnTrue result (after_close self.old ≡ Some self.new) }
@@ -63,6 +77,33 @@ impl<'a> Words<'a> {
                 true
             }
             _ => false,
+        }
+    }
+
+    /// Takes the next word, if it separates parameters.
+    pub fn take_separator(&mut self) -> bool
+        ensures yes { OnTrue result (after_separator self.old ≡ Some self.new) }
+        ensures no { OnFalse result ((after_separator self.old ≡ None) × (self.new ≡ self.old)) }
+    {
+        match self.rest {
+            [Word::Separator, rest @ ..] => {
+                self.rest = rest;
+                true
+            }
+            _ => false,
+        }
+    }
+
+    /// Takes the next word, if it is a reference.
+    pub fn take_reference(&mut self) -> Option<Reference>
+        ensures { MatchOption result ((reference_at self.old ≡ None) × (self.new ≡ self.old)) (λ r. reference_at self.old ≡ Some (r, self.new)) }
+    {
+        match self.rest {
+            [Word::Cell(at), rest @ ..] => {
+                self.rest = rest;
+                Some(*at)
+            }
+            _ => None,
         }
     }
 

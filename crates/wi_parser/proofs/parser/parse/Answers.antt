@@ -3,6 +3,8 @@ use Rattle.std.proofs.lemmas.Result.{err_from_is_err_and}
 use Rattle.wi_parser.specs.declared.fault.ParseFault.TheVariants.{Syntax}
 use Rattle.wi_parser.specs.Words.{all_meant}
 use Rattle.wi_parser.specs.Reading.{refusal_of}
+use Rattle.wi_parser.proofs.OneSpelling.{is_spelled}
+use Rattle.wi_parser.proofs.Sound.{whole_sound}
 use Rattle.wi_parser.proofs.Parses.{parsed_long, parsed_refused, parsed_whole, reads_as, reads_fault, reads_spelled, reads_only}
 use Rattle.wi_parser.proofs.parser.parse.Goals as goal
 
@@ -28,16 +30,19 @@ returns-in_err-expr-clause-parsed c =
 pub returns-in_err-expr-clause-only : goal.returns-in_err-expr-clause-only
 returns-in_err-expr-clause-only c = reads_only c.args.text.now c.from_residual-in_err-expr.result (returns-in_err-expr-clause-parsed c)
 
+pub new-requires : goal.new-requires
+new-requires c = is_spelled _ _ (whole_sound _ _ _ c.in_ok-expr.ensures)
+
 pub returns-clause-parsed : goal.returns-clause-parsed
 returns-clause-parsed c =
     let meant = ap all_meant c.deref.ensures.value ∙ c.in_ok-words.ensures in
     let meant_again = ap all_meant c.deref-2.ensures.value ∙ c.in_ok-words.ensures in
     let none = ap refusal_of (meant_again ∙ sym meant) ∙ sym c.refusal_of.ensures ∙ c.in_default.is in
     parsed_whole c.args.text.now _ c.if-text-gt-MAX_FORMULA.false meant_again none
-    ∙ ap (λ found. ok_or found Syntax) c.in_ok-expr.ensures ∙ ap Ok (sym c.new.ensures)
+    ∙ ap (λ found. ok_or found Syntax) c.in_ok-expr.ensures ∙ ap Ok (sym c.in_ok-new.ensures)
 
 pub returns-clause-found : goal.returns-clause-found
-returns-clause-found c = reads_spelled c.args.text.now (Ok c.new.result) (returns-clause-parsed c)
+returns-clause-found c = reads_spelled c.args.text.now (Ok c.in_ok-new.field-0) (returns-clause-parsed c)
 
 pub returns-clause-only : goal.returns-clause-only
-returns-clause-only c = reads_only c.args.text.now (Ok c.new.result) (returns-clause-parsed c)
+returns-clause-only c = reads_only c.args.text.now (Ok c.in_ok-new.field-0) (returns-clause-parsed c)

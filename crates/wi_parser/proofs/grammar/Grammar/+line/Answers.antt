@@ -3,7 +3,8 @@ use Rattle.std.proofs.lemmas.Result.{err_from_is_err_and}
 use Rattle.wi_parser.specs.Reader.{read_then, line, chain, expression}
 use Rattle.wi_parser.specs.View.{tree_of}
 use Rattle.wi_parser.specs.Outcome.{Finds}
-use Rattle.wi_parser.proofs.Turns.{fails_as, line_more, chain_stop, chain_fail, chain_more, operator-length}
+use Rattle.wi_parser.proofs.Marks.{operator-length}
+use Rattle.wi_parser.proofs.Turns.{fails_as, line_more, chain_stop, chain_fail, chain_more}
 use Rattle.wi_parser.proofs.grammar.Grammar.+line.Goals as goal
 
 pub returns-then-line-eq0-clause-finds : goal.returns-then-line-eq0-clause-finds

@@ -1,0 +1,69 @@
+-- What stands first, where one symbol is looked for.
+use Rattle.std.proofs.Common.{◌≡◌, ℕ, ◌+◌, ◌<◌, true, false, Bool, cond, ◌==◌, List, [], ◌∷◌, ◌++◌, length, Option, Some, None, option_map, option_and_then, refl, sym, ap, ◌∙◌, arith}
+use Rattle.std.proofs.lemmas.Bool.{eqb-true}
+use Rattle.wi_parser.specs.declared.expr.Operator.{Operator}
+use Rattle.wi_parser.specs.declared.expr.Reference.{Reference}
+use Rattle.wi_parser.specs.Symbol.{Symbol, numeral, reference, open_mark, close_mark, separator, infix_mark, what_if_name, refused}
+use Rattle.wi_parser.specs.Grammar.{line_of, pair_symbols}
+use Rattle.wi_parser.specs.Reader.{after_open, after_close, after_separator, reference_at, operator_at, parameter_at, pair_at}
+
+pub open_is : (ts us : List Symbol) → after_open ts ≡ Some us → ts ≡ open_mark ∷ us
+open_is [] us h = cc
+open_is (open_mark ∷ ts) us h = cc
+open_is (s ∷ ts) us h = cc
+
+pub close_is : (ts us : List Symbol) → after_close ts ≡ Some us → ts ≡ close_mark ∷ us
+close_is [] us h = cc
+close_is (close_mark ∷ ts) us h = cc
+close_is (s ∷ ts) us h = cc
+
+pub separator_is : (ts us : List Symbol) → after_separator ts ≡ Some us → ts ≡ separator ∷ us
+separator_is [] us h = cc
+separator_is (separator ∷ ts) us h = cc
+separator_is (s ∷ ts) us h = cc
+
+pub reference_is : (ts : List Symbol) (p : Reference × List Symbol) → reference_at ts ≡ Some p → ts ≡ reference p.0 ∷ p.1
+reference_is [] p h = cc
+reference_is (reference r ∷ ts) p h = cc
+reference_is (s ∷ ts) p h = cc
+
+passed : {A : Type 0} (b : Bool) (x y : A) → cond b (Some x) None ≡ Some y → (b ≡ true) × (x ≡ y)
+passed true x y h = (refl, cc)
+passed false x y h = cc
+
+pub operator_is : (k : ℕ) (ts us : List Symbol) (op : Operator) → operator_at k ts ≡ Some (op, us) → (line_of op ≡ k) × (ts ≡ infix_mark op ∷ us)
+operator_is k [] us op h = cc
+operator_is k (infix_mark o ∷ ts) us op h =
+    let p = passed (line_of o == k) (o, ts) (op, us) h in
+    let same : o ≡ op = ap (λ q. q.0) p.1 in
+    let rest : ts ≡ us = ap (λ q. q.1) p.1 in
+    (sym (ap line_of same) ∙ eqb-true (line_of o) k p.0, cc)
+operator_is k (s ∷ ts) us op h = cc
+
+-- ---- what follows is shorter
+
+pub operator-length : (k : ℕ) (ts us : List Symbol) (op : Operator) → operator_at k ts ≡ Some (op, us) → length ts ≡ length us + 1
+operator-length k ts us op h = let is = ap length (operator_is k ts us op h).1 in omega (arith, is)
+
+-- ---- pairs
+
+pub and_then_ok : {A B : Type 0} (f : A → Option B) (o : Option A) (b : B) → option_and_then f o ≡ Some b → (a : A) × (o ≡ Some a) × (f a ≡ Some b)
+and_then_ok f None b h = cc
+and_then_ok f (Some a) b h = (a, refl, h)
+
+pub map_ok : {A B : Type 0} (f : A → B) (o : Option A) (b : B) → option_map f o ≡ Some b → (a : A) × (o ≡ Some a) × (f a ≡ b)
+map_ok f None b h = cc
+map_ok f (Some a) b h = (a, refl, cc)
+
+pub parameter_is : (ts : List Symbol) (p : Reference × List Symbol) → parameter_at ts ≡ Some p → ts ≡ separator ∷ reference p.0 ∷ p.1
+parameter_is ts p h =
+    let a = and_then_ok reference_at (after_separator ts) p h in
+    separator_is ts a.0 a.1 ∙ ap (λ us. separator ∷ us) (reference_is a.0 p a.2)
+
+pub pair_is : (ts : List Symbol) (p : (Reference × Reference) × List Symbol) → pair_at ts ≡ Some p → ts ≡ pair_symbols p.0 ++ p.1
+unfolding pair_at
+pair_is ts p h =
+    let a = and_then_ok (λ r. option_map (λ x. ((r.0, x.0), x.1)) (parameter_at r.1)) (parameter_at ts) p h in
+    let b = map_ok (λ x. ((a.0.0, x.0), x.1)) (parameter_at a.0.1) p a.2 in
+    parameter_is ts a.0 a.1 ∙ ap (λ us. separator ∷ reference a.0.0 ∷ us) (parameter_is a.0.1 b.0 b.1)
+    ∙ ap (λ q. pair_symbols q.0 ++ q.1) b.2
