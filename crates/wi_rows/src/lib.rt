@@ -13,3 +13,5 @@ mod faults;
 mod rows;
 #[cfg(test)]
 mod scripts;
+#[cfg(test)]
+mod what_ifs;

@@ -1,30 +1,8 @@
 //! Scripts and their replies, whatever pieces the devices give and take.
 
-use crate::scripts::run_between;
-use crate::{Given, Taken};
+use crate::scripts::expect;
 use std::alloc::Global;
-use std::process::Abort;
 use std::test::Fail;
-use wi_store::Limits;
-
-const PIECES: [usize; 3] = [1, 2, 7];
-
-/// Runs the script in pieces of each size, and compares the replies.
-fn expect(rt: &impl Abort, alloc: Global, script: &[u8], replies: &[u8]) -> Result<(), Fail> {
-    for piece in PIECES {
-        let source = Given::new(Vec::from_slice(alloc, script)?, piece);
-        let sink = Taken::new(alloc, piece, usize::MAX);
-        let ran = run_between(alloc, source, sink, Limits::standard())?;
-        assert!(rt; ran.outcome.is_ok(), "in pieces of {piece}");
-        assert!(rt; ran.flushed, "in pieces of {piece}");
-        assert!(rt;
-            ran.replies.as_slice() == replies,
-            "in pieces of {piece}: {}",
-            ran.replies.len()
-        );
-    }
-    Ok(())
-}
 
 #[test]
 fn writes_nothing_for_the_empty_script(rt: HostRuntime) -> Result<(), Fail> {
