@@ -3,11 +3,11 @@
 ghost use Rattle.std.specs.Prelude.{◌≡◌};
 
 use super::{Answer, Lookup, Meter, Outcome, Want, evaluate};
-use std::alloc::{AllocError, Global};
+use std::alloc::Global;
 use std::test::Fail;
 use wi_fraction::Fraction;
-use wi_parser::{Expr, Formula, Operator, Pair, Reference};
-use wi_values::{Address, ErrorKind, Value};
+use wi_parser::{Pair, parse};
+use wi_values::{Address, Value};
 
 /// Knows the value of one cell, and each what-if of that cell.
 #[derive(Drop)]
@@ -41,18 +41,6 @@ impl Lookup for OneCell {
     }
 }
 
-fn reference(row: u32, column: u32) -> Option<Reference> {
-    Some(Reference {
-        at: Address::new(row, column)?,
-        column_is_absolute: false,
-        row_is_absolute: true,
-    })
-}
-
-fn binary(alloc: Global, operator: Operator, left: Expr, right: Expr) -> Result<Expr, AllocError> {
-    Ok(Expr::Binary(operator, Box::new(alloc, left)?, Box::new(alloc, right)?))
-}
-
 fn value_of(outcome: Outcome) -> Option<Value> {
     match outcome {
         Outcome::Done(value) => Some(value),
@@ -67,16 +55,6 @@ fn number_of(outcome: Outcome) -> Option<Fraction> {
         Value::Text(_) => None,
         Value::Logical(_) => None,
         Value::Fault(_) => None,
-    }
-}
-
-fn fault_of(outcome: Outcome) -> Option<ErrorKind> {
-    match value_of(outcome)? {
-        Value::Empty => None,
-        Value::Number(_) => None,
-        Value::Text(_) => None,
-        Value::Logical(_) => None,
-        Value::Fault(e) => Some(e),
     }
 }
 
@@ -95,98 +73,54 @@ fn place_of(want: Want) -> (Address, usize) {
     }
 }
 
-/// (cell) / 4
-fn quarter(alloc: Global, cell: Reference) -> Result<Expr, Fail> {
-    let enclosed = Expr::Parenthesized(Box::new(alloc, Expr::Cell(cell))?);
-    let four = Expr::Number(Fraction::new(4, 1)?);
-    Ok(binary(alloc, Operator::Divide, enclosed, four)?)
+/// Knows a value of B1, and that each what-if of it is Empty.
+fn b1(value: Value) -> OneCell {
+    OneCell {
+        at: Address::at(0, 1),
+        value,
+        replaced: Value::Empty,
+    }
 }
 
-/// What a cell is with another's value in a third.
-fn what_if(alloc: Global, cell: Reference, input: Reference, by: Reference) -> Result<Expr, Fail> {
-    let pairs = Vec::from_slice(alloc, &[Pair { input, by }])?;
-    Ok(Expr::WhatIf(cell, pairs))
+/// How the evaluation of a text's formula ends.
+fn evaluated(
+    alloc: Global,
+    text: &str,
+    known: &OneCell,
+    meter: &mut Meter,
+) -> Result<Outcome, Fail> {
+    Ok(evaluate(alloc, &parse(alloc, text)?, known, meter)?)
 }
 
 #[test]
 fn a_difference(rt: HostRuntime) -> Result<(), Fail> {
-    let alloc = rt.alloc();
-    let b1 = reference(0, 1).ok_or("no B1")?;
-    let known = OneCell {
-        at: b1.at,
-        value: Value::Number(Fraction::new(10, 1)?),
-        replaced: Value::Empty,
-    };
-    let half = Expr::Number(Fraction::new(1, 2)?);
-    let tree = binary(alloc, Operator::Subtract, quarter(alloc, b1)?, half)?;
+    let known = b1(Value::Number(Fraction::new(10, 1)?));
     let mut meter = Meter::new();
-    let outcome = evaluate(alloc, &Formula::new(tree), &known, &mut meter)?;
+    let outcome = evaluated(rt.alloc(), "=([.B$1])/4-0.5", &known, &mut meter)?;
     assert_eq!(rt; number_of(outcome).ok_or("not done")?, Fraction::new(2, 1)?);
     assert!(rt; meter.evaluations() == 1 && meter.restarts() == 0);
     Ok(())
 }
 
 #[test]
-fn a_what_if(rt: HostRuntime) -> Result<(), Fail> {
-    let alloc = rt.alloc();
-    let b1 = reference(0, 1).ok_or("no B1")?;
-    let known = OneCell {
-        at: b1.at,
-        value: Value::Number(Fraction::new(10, 1)?),
-        replaced: Value::Empty,
-    };
-    let tree = binary(
-        alloc,
-        Operator::Divide,
-        quarter(alloc, b1)?,
-        what_if(alloc, b1, b1, b1)?,
-    )?;
-    let outcome = evaluate(alloc, &Formula::new(tree), &known, &mut Meter::new())?;
-    assert_eq!(rt;
-        fault_of(outcome).ok_or("not done")?,
-        ErrorKind::DivisionByZero
-    );
-    Ok(())
-}
-
-#[test]
-fn wants(rt: HostRuntime) -> Result<(), Fail> {
-    let alloc = rt.alloc();
-    let b1 = reference(0, 1).ok_or("no B1")?;
-    let c1 = reference(0, 2).ok_or("no C1")?;
-    let known = OneCell {
-        at: b1.at,
-        value: Value::Empty,
-        replaced: Value::Empty,
-    };
+fn a_missing_cell(rt: HostRuntime) -> Result<(), Fail> {
+    let known = b1(Value::Empty);
     let mut meter = Meter::new();
-    let tree = binary(alloc, Operator::Multiply, Expr::Cell(b1), Expr::Cell(c1))?;
-    let outcome = evaluate(alloc, &Formula::new(tree), &known, &mut meter)?;
+    let outcome = evaluated(rt.alloc(), "=[.B$1]*[.C$1]", &known, &mut meter)?;
     let (at, count) = place_of(want_of(outcome).ok_or("done")?);
-    assert!(rt; at == c1.at && count == 0);
-    let tree = what_if(alloc, c1, c1, b1)?;
-    let outcome = evaluate(alloc, &Formula::new(tree), &known, &mut meter)?;
-    let (at, count) = place_of(want_of(outcome).ok_or("done")?);
-    assert!(rt; at == c1.at && count == 1);
-    assert!(rt; meter.evaluations() == 0 && meter.restarts() == 2);
+    assert!(rt; at == Address::at(0, 2) && count == 0);
+    assert!(rt; meter.evaluations() == 0 && meter.restarts() == 1);
     Ok(())
 }
 
 #[test]
 fn a_long_sum(rt: HostRuntime) -> Result<(), Fail> {
-    let alloc = rt.alloc();
-    let b1 = reference(0, 1).ok_or("no B1")?;
-    let known = OneCell {
-        at: b1.at,
-        value: Value::Logical(true),
-        replaced: Value::Empty,
-    };
-    let mut tree = Expr::Number(Fraction::new(1, 1)?);
+    let known = b1(Value::Logical(true));
+    let mut text = String::from_str(rt.alloc(), "=[.B$1]")?;
     for _ in 0..2000u32 {
-        tree = binary(alloc, Operator::Add, tree, Expr::Cell(b1))?;
+        text.push_str("+1")?;
     }
-    let mut meter = Meter::new();
-    let outcome = evaluate(alloc, &Formula::new(tree), &known, &mut meter)?;
+    let outcome = evaluated(rt.alloc(), &text, &known, &mut Meter::new())?;
     assert_eq!(rt;
         number_of(outcome).ok_or("not done")?,
         Fraction::new(2001, 1)?

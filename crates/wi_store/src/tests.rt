@@ -1,8 +1,7 @@
 use crate::{Limits, Store, StoreFault};
 use std::alloc::{AllocError, Global};
 use std::test::Fail;
-use wi_fraction::Fraction;
-use wi_parser::{Content, Expr, Formula};
+use wi_parser::Content;
 use wi_values::{Address, Value};
 
 type Changes = Vec<(Address, Option<Content>)>;
@@ -49,8 +48,7 @@ fn an_edit_is_read_back(rt: HostRuntime) -> Result<(), Fail> {
 
     let mut formulas = Vec::new(rt.alloc());
     for at in [a2, b1] {
-        let formula = Formula::new(Expr::Number(Fraction::new(1, 2)?));
-        formulas.push((at, Some(Content::Formula(formula))))?;
+        formulas.push((at, Some(Content::read(rt.alloc(), "=1/2")?)))?;
     }
     store.apply(formulas)?;
     let found = store.formulas(rt.alloc())?;
