@@ -38,6 +38,18 @@ Ascends-from_order [] h = tt
 Ascends-from_order (e ∷ es) h =
     (ComeAfter-from_keys e.0 es (sorted_head nat_cmp e.0 (keys_of es) h), Ascends-from_order es (sorted_tail nat_cmp e.0 (keys_of es) h))
 
+Less-from_below : (a b : ℕ) → a < b → nat_cmp a b ≡ Less
+Less-from_below a b h = grind (arith, nat_tests)
+
+keys-from_ComeAfter : {X : Type 0} (a : ℕ) (es : List (ℕ × X)) → ComeAfter a es → AllByRecursion (λ b. nat_cmp a b ≡ Less) (keys_of es)
+keys-from_ComeAfter a [] h = tt
+keys-from_ComeAfter a (e ∷ es) h = (Less-from_below a e.0 h.0, keys-from_ComeAfter a es h.1)
+
+pub order-from_Ascends : {X : Type 0} (es : List (ℕ × X)) → Ascends es → IsStrictlySortedBy nat_cmp (keys_of es)
+unfolding IsStrictlySortedBy
+order-from_Ascends [] h = tt
+order-from_Ascends (e ∷ es) h = (keys-from_ComeAfter e.0 es h.0, order-from_Ascends es h.1)
+
 pub come_after_earlier : {X : Type 0} (a b : ℕ) (es : List (ℕ × X)) → a < b → ComeAfter b es → ComeAfter a es
 come_after_earlier a b [] l h = tt
 come_after_earlier a b (e ∷ es) l h = (omega (arith, h.0), come_after_earlier a b es l h.1)

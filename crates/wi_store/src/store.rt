@@ -2,6 +2,7 @@
 
 ghost use Rattle.std.specs.Prelude.{◌≡◌, ◌<◌, ◌⊎◌, [], length, IfOk, OnOk, OnErr};
 ghost use Rattle.std.specs.Option.{option_copied};
+ghost use Rattle.std.specs.List.Sorted.{IsStrictlyIncreasing};
 ghost use Rattle.std.specs.Map.{keys_of};
 ghost use Rattle.wi_parser.specs.Sheet.{content_of, formula_cells};
 ghost use Rattle.wi_store.specs.Store.{edited, applied, Applies};
@@ -87,6 +88,13 @@ impl Store {
         ensures { result ≡ self.now.limits }
     {
         self.limits
+    }
+
+    /// The cells that have a content stand in row-major order, each once. This is a law: the call does nothing.
+    pub fn cells_stand_in_order(&self)
+        ensures { IsStrictlyIncreasing (keys_of self.now.sheet) }
+    {
+        let _ = &self.rooms;
     }
 
     /// One edit, which gives each named cell a content or none; the constant Empty is none. Of two pairs for one
