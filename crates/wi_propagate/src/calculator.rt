@@ -32,6 +32,8 @@ pub trait Calculator {
         ensures { Applies (applied (stored self.old) changes.items) result (stored self.old) (stored self.new) };
 
     /// What a cell shows under replacements, which stand in the order of their addresses, one for each.
+    /// No sheet is copied. In `PlainCalculator` the work may grow with the product of the demands that stand one below
+    /// the other.
     fn value(&mut self, put: &[Replacement], at: Address) -> Result<Value, AllocError>
         requires { IsSortedPut put.now }
         ensures value { IfOk result (λ v. v ≡ show.shown (stored self.old).sheet put.now at) }

@@ -10,9 +10,7 @@ use wi_parser::Content;
 use wi_store::{Limits, Store, StoreFault};
 use wi_values::{Address, Replacement, Value};
 
-/// A calculator that keeps nothing it has calculated: each value is found from the contents alone. The work of a
-/// formula is that of all formulas that it reads, once for each time that it is read, and may grow as the product of
-/// demands that stand one below the other.
+/// A calculator that keeps nothing it has calculated: each value is found from the contents alone.
 #[derive(Drop)]
 pub struct PlainCalculator {
     store: Store,
@@ -53,6 +51,9 @@ impl Calculator for PlainCalculator {
         self.store.apply(changes)
     }
 
+    /// What a cell shows under replacements. A formula is evaluated anew for each formula that reads it, and each
+    /// what-if values its formula cell anew in the replaced sheet, so the work may grow with the product of the
+    /// demands that stand one below the other. No sheet is copied: the replacements are carried along.
     fn value(&mut self, put: &[Replacement], at: Address) -> Result<Value, AllocError> {
         shown(self.alloc, &self.store, put, at, &mut self.meter)
     }
