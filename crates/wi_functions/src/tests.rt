@@ -7,7 +7,7 @@ use std::alloc::Global;
 use std::test::Fail;
 use wi_fraction::Fraction;
 use wi_parser::{Pair, parse};
-use wi_values::{Address, Value};
+use wi_values::{Address, ErrorKind, Value};
 
 /// Knows the value of one cell, and each what-if of that cell.
 #[derive(Drop)]
@@ -55,6 +55,16 @@ fn number_of(outcome: Outcome) -> Option<Fraction> {
         Value::Text(_) => None,
         Value::Logical(_) => None,
         Value::Fault(_) => None,
+    }
+}
+
+fn fault_of(outcome: Outcome) -> Option<ErrorKind> {
+    match value_of(outcome)? {
+        Value::Empty => None,
+        Value::Number(_) => None,
+        Value::Text(_) => None,
+        Value::Logical(_) => None,
+        Value::Fault(e) => Some(e),
     }
 }
 
@@ -125,5 +135,30 @@ fn a_long_sum(rt: HostRuntime) -> Result<(), Fail> {
         number_of(outcome).ok_or("not done")?,
         Fraction::new(2001, 1)?
     );
+    Ok(())
+}
+
+#[test]
+fn a_what_if(rt: HostRuntime) -> Result<(), Fail> {
+    let known = b1(Value::Number(Fraction::new(10, 1)?));
+    let text = "=([.B$1])/4/MULTIPLE.OPERATIONS([.B$1];[.B$1];[.B$1])";
+    let outcome = evaluated(rt.alloc(), text, &known, &mut Meter::new())?;
+    assert_eq!(rt;
+        fault_of(outcome).ok_or("not done")?,
+        ErrorKind::DivisionByZero
+    );
+    Ok(())
+}
+
+#[test]
+fn a_missing_what_if(rt: HostRuntime) -> Result<(), Fail> {
+    let mut meter = Meter::new();
+    let text = "=MULTIPLE.OPERATIONS([.C$1];[.C$1];[.B$1])";
+    for restarts in 1..3u64 {
+        let outcome = evaluated(rt.alloc(), text, &b1(Value::Empty), &mut meter)?;
+        let (at, count) = place_of(want_of(outcome).ok_or("done")?);
+        assert!(rt; at == Address::at(0, 2) && count == 1);
+        assert!(rt; meter.evaluations() == 0 && meter.restarts() == restarts);
+    }
     Ok(())
 }

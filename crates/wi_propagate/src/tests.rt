@@ -6,7 +6,7 @@ use std::test::Fail;
 use wi_fraction::Fraction;
 use wi_parser::Content;
 use wi_store::Limits;
-use wi_values::{Address, ErrorKind, Replacement, Value};
+use wi_values::{Address, ErrorKind, Replacement, Text, Value};
 
 fn number(n: i128, d: i128) -> Result<Value, Fail> {
     Ok(Value::Number(Fraction::new(n, d)?))
@@ -112,5 +112,41 @@ fn chain_of_200(rt: HostRuntime) -> Result<(), Fail> {
         shown(&mut calculator, "A1")?,
         Value::Fault(ErrorKind::Circular)
     );
+    Ok(())
+}
+
+// C4 is what B2 is with A4's value in B1, and D4 what C4 is with B1's value in A4.
+fn what_ifs(alloc: Global) -> Result<PlainCalculator, Fail> {
+    let mut calculator = PlainCalculator::new(alloc, Limits::standard());
+    set(alloc, &mut calculator, "B1", "10")?;
+    set(alloc, &mut calculator, "B2", "=[.B1]*3")?;
+    set(alloc, &mut calculator, "A4", "7")?;
+    let thrice_a4 = "=MULTIPLE.OPERATIONS([.B2];[.B1];[.A4])";
+    set(alloc, &mut calculator, "C4", thrice_a4)?;
+    let thrice_b1 = "=MULTIPLE.OPERATIONS([.C4];[.A4];[.B1])";
+    set(alloc, &mut calculator, "D4", thrice_b1)?;
+    Ok(calculator)
+}
+
+#[test]
+fn what_if_of_a_what_if(rt: HostRuntime) -> Result<(), Fail> {
+    let mut calculator = what_ifs(rt.alloc())?;
+    assert_eq!(rt; shown(&mut calculator, "B2")?, number(30, 1)?);
+    assert_eq!(rt; shown(&mut calculator, "C4")?, number(21, 1)?);
+    assert_eq!(rt; shown(&mut calculator, "D4")?, number(30, 1)?);
+    set(rt.alloc(), &mut calculator, "A4", "=[.B1]+1")?;
+    assert_eq!(rt; shown(&mut calculator, "C4")?, number(33, 1)?);
+    assert_eq!(rt; shown(&mut calculator, "D4")?, number(30, 1)?);
+    Ok(())
+}
+
+#[test]
+fn what_ifs_under_replacements(rt: HostRuntime) -> Result<(), Fail> {
+    let mut calculator = what_ifs(rt.alloc())?;
+    let c4 = shown_with(&mut calculator, "B1", number(4, 1)?, "C4")?;
+    assert_eq!(rt; c4, number(21, 1)?);
+    let low = Value::Text(Text::from_str(rt.alloc(), "low")?);
+    let c4 = shown_with(&mut calculator, "B2", low, "C4")?;
+    assert_eq!(rt; c4, Value::Text(Text::from_str(rt.alloc(), "low")?));
     Ok(())
 }
