@@ -208,13 +208,17 @@ ends_flush left b p c q s m t w x y z count allowed may most h k e =
       o.taken,
       Appends-kept w y z o.out o.written e,
       record {
-        served = all_commands o.input;
+        earlier = all_commands o.input;
+        last = None;
         others = [];
-        whole = o.out;
-        unwritten = [];
         first = ap commands (limited_all (raw_lines o.input) o.few) ∙ sym (append-nil (all_commands o.input));
-        writes = o.writes;
-        front = sym (append-nil o.out);
+        mid = t;
+        sent = o.out;
+        whole = o.writes;
+        front = [];
+        unwritten = [];
+        cut = Writes-none t;
+        written = sym (append-nil o.out);
       },
     )
 
@@ -293,21 +297,22 @@ pub ends_write : (left : Option (List ℕ)) (b : List ℕ) (p : Option (List ℕ
     → (allowed ≡ true → count < 1000000) → count ≤ 1000000
     → IsGoing left b p s m w x count → CutShort allowed b p c q m t x y → Ends (Err Write) left q s t w y
 ends_write left b p c q s m t w x y count allowed may most h k = go k.whole k.taken k.at_end k.may where
-  one : List Command
-  one = option_to_list (line_command k.content)
-
   written : Appends w y (h.out ++ k.out)
   written = Appends-trans w x y _ _ h.written k.written
 
   front : (cs others : List Command) → cs ≡ (h.served ++ option_to_list (line_command k.content)) ++ others → WritesFront s cs (h.out ++ k.out) t
   front cs others e = record {
-    served = h.served ++ option_to_list (line_command k.content);
+    earlier = h.served;
+    last = line_command k.content;
     others = others;
-    whole = h.out ++ (k.out ++ k.unwritten);
+    first = e ∙ append_assoc h.served (option_to_list (line_command k.content)) others;
+    mid = m;
+    sent = h.out;
+    whole = h.writes;
+    front = k.out;
     unwritten = k.unwritten;
-    first = e;
-    writes = Writes-append s m t _ _ h.out (k.out ++ k.unwritten) h.writes k.writes;
-    front = sym (append_assoc h.out k.out k.unwritten);
+    cut = k.writes;
+    written = refl;
   }
 
   go : (whole : Bool) → Takes b p c q (raw whole k.content) → (whole ≡ false → IsAtEnd (prepend_known c q)) → (0 < length (raw whole k.content) → allowed ≡ true) → Ends (Err Write) left q s t w y

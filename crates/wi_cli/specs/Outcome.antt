@@ -1,5 +1,6 @@
 -- What a run of a script has done when it returns.
-use Rattle.std.specs.Prelude.{◌≡◌, ℕ, ◌<◌, ◌≤◌, List, [], ◌++◌, length, take, Result, Ok, Err}
+use Rattle.std.specs.Prelude.{◌≡◌, ℕ, ◌<◌, ◌≤◌, List, [], ◌++◌, length, take, Option, Result, Ok, Err}
+use Rattle.std.specs.Option.{option_to_list}
 use Rattle.wi_scenarios.specs.State.{State}
 use Rattle.wi_scenarios.specs.Step.{Command}
 use Rattle.wi_cli.specs.declared.fault.RunFault.{RunFault}
@@ -8,15 +9,20 @@ use Rattle.wi_cli.specs.Lines.{raw_lines}
 use Rattle.wi_cli.specs.Script.{commands, all_commands, complete_commands}
 use Rattle.wi_cli.specs.Run.{Writes}
 
--- the bytes are a front of the replies to the first of these commands
+-- Each reply was written whole but the last, of which a front was, and no command was served after it. There is no
+-- last where the flush at the end failed.
 pub record WritesFront (s : State) (cs : List Command) (out : List ℕ) (t : State) : Type 0 where
-  pub served : List Command
+  pub earlier : List Command
+  pub last : Option Command
   pub others : List Command
-  pub whole : List ℕ
+  pub first : cs ≡ earlier ++ (option_to_list last ++ others)
+  pub mid : State
+  pub sent : List ℕ
+  pub whole : Writes s earlier sent mid
+  pub front : List ℕ
   pub unwritten : List ℕ
-  pub first : cs ≡ served ++ others
-  pub writes : Writes s served whole t
-  pub front : whole ≡ out ++ unwritten
+  pub cut : Writes mid (option_to_list last) (front ++ unwritten) t
+  pub written : out ≡ sent ++ front
 
 -- how many lines a run may have
 abbrev pub max_lines : ℕ
@@ -27,7 +33,8 @@ unfoldable pub limited : List (List ℕ) → List (List ℕ)
 limited ls = take max_lines ls
 
 -- From the bytes taken to the bytes written: all commands are answered; or none, as nothing was read; or those that
--- were complete when the source failed, or before one line more than allowed; or what a failed sink took is a front.
+-- were complete when the source failed, or before one line more than allowed; or, where the sink failed, those up to
+-- one whose reply may be cut short.
 abbrev pub Outcome : Result (Unit {0}) RunFault → State → State → List ℕ → List ℕ → Type 0
 Outcome (Ok _) s t input out = (length (raw_lines input) ≤ max_lines) × Writes s (all_commands input) out t
 Outcome (Err Memory) s t input out = (input ≡ []) × (out ≡ []) × (t ≡ s)

@@ -90,7 +90,8 @@ fn turn<R: Source, W: Sink, C: Calculator>(
 }
 
 /// Runs a script on a workbook, each line as soon as it has come; its reply is written before the next line is
-/// served. On a fault the replies to the commands before it stand.
+/// served. On a fault the replies to the commands before it stand; where a write failed, the last of them may be cut
+/// short, and nothing is served after it.
 pub fn run<R: Source, W: Sink, C: Calculator>(
     alloc: Global,
     reader: &mut R,
