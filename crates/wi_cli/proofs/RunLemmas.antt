@@ -9,8 +9,8 @@ use Rattle.wi_scenarios.specs.State.{State}
 use Rattle.wi_scenarios.specs.Step.{Command, step}
 use Rattle.wi_cli.specs.declared.answer.Answer.{Answer}
 use Rattle.wi_cli.specs.declared.answer.Answer.TheVariants.{Passed, Done, Refused}
-use Rattle.wi_cli.specs.Run.{Answers, Runs, Writes}
-use Rattle.wi_cli.specs.Told.{Told, told_bytes, Refuses}
+use Rattle.wi_cli.specs.Run.{MayAnswer, Runs, Writes}
+use Rattle.wi_cli.specs.Told.{Told, told_bytes, RefusedAs}
 
 Runs-append : (s : State) (cs : List Command) (rs : List (List ℕ)) (m : State) (ds : List Command) (qs : List (List ℕ)) (t : State)
     → Runs s cs rs m → Runs m ds qs t → Runs s (cs ++ ds) (rs ++ qs) t
@@ -33,13 +33,13 @@ Writes-append s m t cs ds out more h k = record {
 pub Writes-none : (s : State) → Writes s [] [] s
 Writes-none s = record { replies = []; run = refl; joined = refl }
 
-pub Writes-one : (s : State) (c : Command) (told : List ℕ) (t : State) → Answers s c told t → Writes s (c ∷ []) told t
+pub Writes-one : (s : State) (c : Command) (told : List ℕ) (t : State) → MayAnswer s c told t → Writes s (c ∷ []) told t
 Writes-one s c told t h = record { replies = told ∷ []; run = (t, h, refl); joined = sym (append-nil told) }
 
-answered_by : (s : State) (c : Command) (e : Refusal) (t : State) → t ≡ s → step s c ≡ Err e → Answers s c (refused e) t
+answered_by : (s : State) (c : Command) (e : Refusal) (t : State) → t ≡ s → step s c ≡ Err e → MayAnswer s c (refused e) t
 answered_by s c e t h k = inl (record { reply_is = sym (ap reply k); state_is = h ∙ sym (ap (after s) k) })
 
-refused_is : (s : State) (c : Command) (e : Refusal) (t : State) → t ≡ s → Refuses e s c → Answers s c (refused e) t
+refused_is : (s : State) (c : Command) (e : Refusal) (t : State) → t ≡ s → RefusedAs e s c → MayAnswer s c (refused e) t
 refused_is s c Memory t h k = inr (record { reply_is = refl; state_is = h; may = k })
 refused_is s c BadCommand t h k = answered_by s c BadCommand t h k
 refused_is s c BadLine t h k = answered_by s c BadLine t h k

@@ -10,7 +10,7 @@ use Rattle.wi_cli.specs.declared.answer.Answer.TheVariants.{Passed, Done, Refuse
 use Rattle.wi_cli.specs.declared.command.Command.{Command as ReadCommand}
 use Rattle.wi_cli.specs.declared.command.Command.TheVariants as read
 use Rattle.wi_cli.specs.Spelling.{command_of}
-use Rattle.wi_cli.specs.Told.{Told, Refuses}
+use Rattle.wi_cli.specs.Told.{Told, RefusedAs}
 
 pub told_passed : (o : Option Command) (s : State) (out : List ℕ) → o ≡ None → Told o Passed s s out
 told_passed o s out e = subst (λ x. Told x Passed s s out) (sym e) refl
@@ -24,7 +24,7 @@ may : (d : ReadCommand) → may_want (command_of d) ≡ true
 may (read.Set at content) = refl
 may (read.Show area) = refl
 
-refuses : (e : Refusal) (d : ReadCommand) (s : State) → answer.Refuses e (step s (command_of d)) → Refuses e s (command_of d)
+refuses : (e : Refusal) (d : ReadCommand) (s : State) → answer.MayRefuse e (step s (command_of d)) → RefusedAs e s (command_of d)
 refuses Memory d s h = may d
 refuses BadCommand d s h = h
 refuses BadLine d s h = h
@@ -41,7 +41,7 @@ pub told_refused : (o : Option Command) (d : ReadCommand) (e : Refusal) (s t : S
     → answer.Serves (step s (command_of d)) (Err e) s t records → Told o (Refused e) s t out
 told_refused o d e s t out records same h = subst (λ x. Told x (Refused e) s t out) (sym same) (h.1, refuses e d s h.0)
 
-bad : (e : Refusal) (s : State) → (e ≡ Memory → ⊥) → Refuses e s (spell.Refused e)
+bad : (e : Refusal) (s : State) → (e ≡ Memory → ⊥) → RefusedAs e s (spell.Refused e)
 unfolding step
 bad Memory s h = absurd (h refl)
 bad BadCommand s h = refl

@@ -13,7 +13,7 @@ use Rattle.wi_scenarios.specs.declared.refusal.Refusal.TheVariants.{Memory, BadL
 use Rattle.wi_scenarios.specs.Step.{Refused}
 use Rattle.wi_cli.specs.declared.command.Command.{Command as ReadCommand}
 use Rattle.wi_cli.specs.Script.{line_command, text_command}
-use Rattle.wi_cli.specs.Spelling.{SpellsLine}
+use Rattle.wi_cli.specs.Spelling.{IsLineOf}
 use Rattle.wi_cli.specs.Lines.{without_cr}
 
 -- what is cut off are spaces
@@ -69,7 +69,7 @@ no_cr (b ∷ bs) h = no_cr_at (length (b ∷ bs) - 1) (b ∷ bs) (omega arith) h
 -- ---- lines that are texts, and others
 
 pub text_read : (line bytes text : List ℕ) (r : Result (Option ReadCommand) Refusal) → length line ≤ 65536 → bytes ≡ without_cr line → text ≡ bytes → IsUtf8 bytes
-    → SpellsLine (text_command text) r → SpellsLine (line_command line) r
+    → IsLineOf (text_command text) r → IsLineOf (line_command line) r
 unfolding line_command
 text_read line bytes text r few e t u h =
     let content = without_cr line in
@@ -79,7 +79,7 @@ text_read line bytes text r few e t u h =
     ap (λ b. cond (b || not (is_utf8 content)) (Some (Refused BadLine)) (text_command content)) short
     ∙ ap (λ b. cond (not b) (Some (Refused BadLine)) (text_command content)) good
     ∙ ap text_command (sym (t ∙ e)) in
-    subst (λ o. SpellsLine o r) (sym said) h
+    subst (λ o. IsLineOf o r) (sym said) h
 
 pub no_text : (line bytes : List ℕ) → length line ≤ 65536 → bytes ≡ without_cr line → (IsUtf8 bytes → ⊥)
     → (line_command line ≡ Some (Refused BadLine)) × (BadLine ≡ Memory → ⊥)

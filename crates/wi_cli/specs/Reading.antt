@@ -1,18 +1,19 @@
 -- What the reader of lines takes.
-use Rattle.std.specs.Prelude.{◌≡◌, ℕ, ◌<◌, Bool, true, false, List, [], ◌∷◌, ◌++◌, length, take, Option, if◌then◌else◌}
+use Rattle.std.specs.Prelude.{◌≡◌, ℕ, ◌+◌, ◌<◌, Bool, true, false, List, [], ◌∷◌, ◌++◌, length, take, Option, if◌then◌else◌, codes}
 use Rattle.std.specs.Io.KnownBytes.{IsAtEnd, prepend_known}
 use Rattle.wi_cli.specs.declared.fault.RunFault.{RunFault}
 use Rattle.wi_cli.specs.declared.fault.RunFault.TheVariants.{Memory, Read, Write, ScriptLimit}
 use Rattle.wi_cli.specs.Ahead.{Takes}
 use Rattle.wi_cli.specs.Lines.{is_whole}
+use Rattle.wi_cli.specs.Script.{max_line}
 
 -- what is kept of a line: one byte more than the greatest length tells that it is too long
 unfoldable pub front : List ℕ → List ℕ
-front line = take 65537 line
+front line = take (max_line + 1) line
 
 -- the bytes of a line, with its LF if that came
 abbrev pub raw : Bool → List ℕ → List ℕ
-raw whole content = content ++ (if whole then 10 ∷ [] else [])
+raw whole content = content ++ (if whole then codes "\n" else [])
 
 -- A line was taken, whole or up to the end, or nothing was there. Its front is kept.
 pub record TookLine (allowed whole : Bool) (buffer : List ℕ) (left : Option (List ℕ)) (buffer' : List ℕ) (left' : Option (List ℕ)) (line : List ℕ) : Type 0 where

@@ -1,16 +1,21 @@
 -- The reply to a command.
 use Rattle.std.specs.Prelude.{ℕ, ◌+◌, ◌/◌, ◌%◌, List, [], ◌∷◌, ◌++◌, Ok, Err, codes}
+use Rattle.std.specs.Str.{byte}
 use Rattle.wi_scenarios.specs.declared.refusal.Refusal.{Refusal}
 use Rattle.wi_scenarios.specs.State.{State}
 use Rattle.wi_scenarios.specs.Answer.{Answer, code_of}
 
+-- the byte of a digit
+abbrev pub digit : ℕ → ℕ
+digit n = byte "0" + n
+
 -- the line `refused E` with the code in two digits
 unfoldable pub refused : Refusal → List ℕ
-refused e = codes "refused E" ++ (48 + code_of e / 10) ∷ (48 + code_of e % 10) ∷ 10 ∷ []
+refused e = codes "refused E" ++ digit (code_of e / 10) ∷ digit (code_of e % 10) ∷ codes "\n"
 
 -- the line `ok`
 abbrev pub ok_line : List ℕ
-ok_line = 111 ∷ 107 ∷ 10 ∷ []
+ok_line = codes "ok\n"
 
 -- the records and then `ok`, or the refusal
 abbrev pub reply : Answer → List ℕ

@@ -17,13 +17,13 @@ pub record IsUnserved (s : State) (c : Command) (told : List ℕ) (t : State) : 
   pub state_is : t ≡ s
   pub may : may_want c ≡ true
 
-abbrev pub Answers : State → Command → List ℕ → State → Type 0
-Answers s c told t = IsAnswered s c told t ⊎ IsUnserved s c told t
+abbrev pub MayAnswer : State → Command → List ℕ → State → Type 0
+MayAnswer s c told t = IsAnswered s c told t ⊎ IsUnserved s c told t
 
 -- the commands may be answered by these replies, one after another
 abbrev pub Runs : State → List Command → List (List ℕ) → State → Type 0
 Runs s [] [] t = t ≡ s
-Runs s (c ∷ cs) (r ∷ rs) t = (mid : State) × Answers s c r mid × Runs mid cs rs t
+Runs s (c ∷ cs) (r ∷ rs) t = (mid : State) × MayAnswer s c r mid × Runs mid cs rs t
 Runs s [] (r ∷ rs) t = ⊥
 Runs s (c ∷ cs) [] t = ⊥
 

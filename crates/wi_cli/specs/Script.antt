@@ -1,7 +1,7 @@
 -- The commands that a script spells.
 use Rattle.std.specs.Prelude.{ℕ, Bool, false, ◌||◌, ◌==◌, not, List, [], ◌∷◌, ◌++◌, length, Option, Some, None, Result, Ok, Err, nat_lt, if◌then◌else◌, codes}
 use Rattle.std.specs.Option.{option_to_list}
-use Rattle.std.specs.Str.{bytes_eq, is_utf8}
+use Rattle.std.specs.Str.{byte, bytes_eq, is_utf8}
 use Rattle.wi_values.specs.Address.{Area}
 use Rattle.wi_values.specs.AddressReading.{read_address, read_rect}
 use Rattle.wi_values.specs.declared.address.AddressFault.{AddressFault}
@@ -52,7 +52,7 @@ max_line = 65536
 
 abbrev pub is_comment : List ℕ → Bool
 is_comment [] = false
-is_comment (b ∷ bs) = b == 35
+is_comment (b ∷ bs) = b == byte "#"
 
 -- the command of a text that is a good line, or nothing where it is passed over
 abbrev pub text_command : List ℕ → Option Command

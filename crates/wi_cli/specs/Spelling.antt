@@ -12,12 +12,12 @@ command_of (read.Set at content) = Set at content.now
 command_of (read.Show area) = Show area
 
 -- the text spells this command, or one that is refused, not for want of memory
-abbrev pub Spells : Command → Result ReadCommand Refusal → Type 0
-Spells c (Ok d) = c ≡ command_of d
-Spells c (Err e) = (c ≡ Refused e) × (e ≢ Memory)
+abbrev pub IsCommandOf : Command → Result ReadCommand Refusal → Type 0
+IsCommandOf c (Ok d) = c ≡ command_of d
+IsCommandOf c (Err e) = (c ≡ Refused e) × (e ≢ Memory)
 
 -- the same of a line, which may be passed over
-abbrev pub SpellsLine : Option Command → Result (Option ReadCommand) Refusal → Type 0
-SpellsLine o (Ok None) = o ≡ None
-SpellsLine o (Ok (Some d)) = o ≡ Some (command_of d)
-SpellsLine o (Err e) = (o ≡ Some (Refused e)) × (e ≢ Memory)
+abbrev pub IsLineOf : Option Command → Result (Option ReadCommand) Refusal → Type 0
+IsLineOf o (Ok None) = o ≡ None
+IsLineOf o (Ok (Some d)) = o ≡ Some (command_of d)
+IsLineOf o (Err e) = (o ≡ Some (Refused e)) × (e ≢ Memory)

@@ -9,9 +9,9 @@ use Rattle.wi_cli.specs.declared.answer.Answer.TheVariants.{Passed, Done, Refuse
 use Rattle.wi_cli.specs.Reply.{refused, ok_line}
 
 -- want of memory may refuse some commands; another refusal is the step's
-abbrev pub Refuses : Refusal → State → Command → Type 0
-Refuses Memory s c = may_want c ≡ true
-Refuses e s c = step s c ≡ Err e
+abbrev pub RefusedAs : Refusal → State → Command → Type 0
+RefusedAs Memory s c = may_want c ≡ true
+RefusedAs e s c = step s c ≡ Err e
 
 -- the line is passed over, or its command is answered by the step, or by want of memory
 abbrev pub Told : Option Command → Answer → State → State → List ℕ → Type 0
@@ -20,7 +20,7 @@ Told None Done s t out = ⊥
 Told None (Refused e) s t out = ⊥
 Told (Some c) Passed s t out = ⊥
 Told (Some c) Done s t out = step s c ≡ Ok (t, out)
-Told (Some c) (Refused e) s t out = (t ≡ s) × Refuses e s c
+Told (Some c) (Refused e) s t out = (t ≡ s) × RefusedAs e s c
 
 -- the bytes that tell it
 abbrev pub told_bytes : Answer → List ℕ → List ℕ

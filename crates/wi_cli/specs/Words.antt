@@ -1,9 +1,10 @@
 -- The words of a line.
 use Rattle.std.specs.Prelude.{ℕ, List, [], ◌∷◌, ◌==◌, Bool, if◌then◌else◌}
 use Rattle.std.specs.List.{before_first, after_first, list_all}
+use Rattle.std.specs.Str.{byte}
 
 abbrev pub is_space : ℕ → Bool
-is_space b = b == 32
+is_space b = b == byte " "
 
 abbrev pub skip_spaces : List ℕ → List ℕ
 skip_spaces [] = []

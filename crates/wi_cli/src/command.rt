@@ -3,7 +3,7 @@
 ghost use Rattle.std.specs.Prelude.{◌≡◌};
 ghost use Rattle.wi_cli.specs.Lines.{without_cr};
 ghost use Rattle.wi_cli.specs.Script.{is_comment, set_command, show_command, spelled_command, text_command, line_command};
-ghost use Rattle.wi_cli.specs.Spelling.{Spells, SpellsLine};
+ghost use Rattle.wi_cli.specs.Spelling.{IsCommandOf, IsLineOf};
 
 use crate::lines::MAX_LINE;
 use crate::words::{is_blank, split_word};
@@ -19,7 +19,7 @@ pub enum Command<'a> {
 
 /// `set ADDR CONTENT`, where CONTENT is all after the one space that follows ADDR.
 fn read_set(operands: &str) -> Result<Command<'_>, Refusal>
-    ensures { Spells (set_command operands.now) result }
+    ensures { IsCommandOf (set_command operands.now) result }
 {
     let (address, content) = split_word(operands);
     if content.is_empty() {
@@ -31,7 +31,7 @@ fn read_set(operands: &str) -> Result<Command<'_>, Refusal>
 
 /// `show RECT`.
 fn read_show(operands: &str) -> Result<Command<'_>, Refusal>
-    ensures { Spells (show_command operands.now) result }
+    ensures { IsCommandOf (show_command operands.now) result }
 {
     let (area, more) = split_word(operands);
     if !is_blank(more) {
@@ -44,7 +44,7 @@ fn read_show(operands: &str) -> Result<Command<'_>, Refusal>
 /// The command that a text spells.
 #[tactic(auto, unfolding(crate::specs::Script::spelled_command))]
 pub fn read_command(text: &str) -> Result<Command<'_>, Refusal>
-    ensures { Spells (spelled_command text.now) result }
+    ensures { IsCommandOf (spelled_command text.now) result }
 {
     let (name, operands) = split_word(text);
     match name {
@@ -73,7 +73,7 @@ fn is_comment(text: &str) -> bool
 
 /// The command of a text that is a line, or nothing where the line is passed over.
 fn read_text(text: &str) -> Result<Option<Command<'_>>, Refusal>
-    ensures { SpellsLine (text_command text.now) result }
+    ensures { IsLineOf (text_command text.now) result }
 {
     if is_blank(text) || is_comment(text) {
         return Ok(None);
@@ -87,7 +87,7 @@ fn read_text(text: &str) -> Result<Option<Command<'_>>, Refusal>
 /// The command of a line without its LF, or nothing where the line is passed over.
 #[tactic(auto, unfolding(crate::specs::Script::line_command))]
 pub fn read_line_command(line: &[u8]) -> Result<Option<Command<'_>>, Refusal>
-    ensures { SpellsLine (line_command line.now) result }
+    ensures { IsLineOf (line_command line.now) result }
 {
     if line.len() > MAX_LINE {
         return Err(Refusal::BadLine);

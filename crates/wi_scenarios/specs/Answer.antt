@@ -30,11 +30,11 @@ operand_refusal Shape = BadCommand
 operand_refusal Outside = OutOfSheet
 
 -- a refusal for want of memory may stand in place of any answer, another only as the answer
-abbrev pub Refuses : Refusal → Answer → Type 0
-Refuses Memory a = Unit {0}
-Refuses e a = a ≡ Err e
+abbrev pub MayRefuse : Refusal → Answer → Type 0
+MayRefuse Memory a = Unit {0}
+MayRefuse e a = a ≡ Err e
 
 -- The call did as the answer says and wrote these records, or it refused, wrote none and left the state as it was.
 abbrev pub Serves : Answer → Result (Unit {0}) Refusal → State → State → List ℕ → Type 0
 Serves a (Ok _) old new records = a ≡ Ok (new, records)
-Serves a (Err e) old new records = Refuses e a × (new ≡ old) × (records ≡ [])
+Serves a (Err e) old new records = MayRefuse e a × (new ≡ old) × (records ≡ [])

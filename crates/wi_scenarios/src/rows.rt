@@ -1,6 +1,6 @@
 //! The records of a rectangle's rows.
 
-ghost use Rattle.std.specs.Prelude.{◌≡◌, ◌++◌, ◌<◌, [], ◌∷◌, if◌then◌else◌, OnOk};
+ghost use Rattle.std.specs.Prelude.{◌≡◌, ◌++◌, ◌<◌, [], if◌then◌else◌, OnOk, codes};
 ghost use Rattle.std.specs.List.{flat_map};
 ghost use Rattle.std.specs.Io.{StartsWith};
 ghost use Rattle.wi_values.specs.Address.{size_of, rows, rows_in};
@@ -27,7 +27,7 @@ pub fn size(area: Rect) -> u64
 /// Appends the comma before a field that is not the first.
 #[tactic(auto, using(crate::proofs::RecordLemmas::starts_more, crate::proofs::RecordLemmas::starts_itself))]
 fn push_comma(is_first: bool, out: &mut Vec<u8>) -> Result<(), AllocError>
-    ensures ok { OnOk result (out.new.items ≡ out.old.items ++ (if is_first then [] else 44 ∷ [])) }
+    ensures ok { OnOk result (out.new.items ≡ out.old.items ++ (if is_first then [] else codes ",")) }
     ensures kept { StartsWith out.new.items out.old.items }
 {
     if !is_first {
