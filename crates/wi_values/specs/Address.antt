@@ -2,7 +2,7 @@
 use Rattle.std.specs.Prelude.{ℕ, zero, suc, ◌+◌, ◌-◌, ◌*◌, ◌/◌, ◌%◌, ◌≤◌, min, max, List, [], ◌∷◌, ◌++◌, Bool, ◌&&◌, not, ◌==◌, nat_lt, nat_le, length, slice_index, if◌then◌else◌, map, decimal}
 use Rattle.std.specs.List.{range_with_len, flat_map}
 use Rattle.std.specs.Char.{to_ascii_uppercase}
-use Rattle.std.specs.Str.{all_ascii_digits}
+use Rattle.std.specs.Str.{byte, all_ascii_digits}
 
 -- the columns and rows of a sheet
 abbrev pub columns : ℕ
@@ -65,7 +65,7 @@ size_of r = ((row_of r.last + 1) - row_of r.first) * ((column_of r.last + 1) - c
 -- the number that column letters of either case stand for, A being 1, Z 26, AA 27 and so on
 abbrev pub letters_value_after : ℕ → List ℕ → ℕ
 letters_value_after n [] = n
-letters_value_after n (c ∷ cs) = letters_value_after (n * 26 + (to_ascii_uppercase c - 64)) cs
+letters_value_after n (c ∷ cs) = letters_value_after (n * 26 + (to_ascii_uppercase c - (byte "A" - 1))) cs
 
 abbrev pub letters_value : List ℕ → ℕ
 letters_value cs = letters_value_after 0 cs
@@ -73,7 +73,7 @@ letters_value cs = letters_value_after 0 cs
 -- the letters of the column with this number, at most so many
 unfoldable pub letters_within : ℕ → ℕ → List ℕ
 letters_within zero n = []
-letters_within (suc k) n = if n == 0 then [] else letters_within k ((n - 1) / 26) ++ (65 + (n - 1) % 26) ∷ []
+letters_within (suc k) n = if n == 0 then [] else letters_within k ((n - 1) / 26) ++ (byte "A" + (n - 1) % 26) ∷ []
 
 abbrev pub column_letters : ℕ → List ℕ
 column_letters column = letters_within 3 (column + 1)
@@ -84,4 +84,4 @@ address_text a = column_letters (column_of a) ++ decimal (row_of a + 1)
 
 -- one digit or more, the first not 0, and nothing else
 abbrev pub is_row_number : List ℕ → Bool
-is_row_number ds = (nat_lt 0 (length ds) && all_ascii_digits ds) && not (slice_index ds 0 == 48)
+is_row_number ds = (nat_lt 0 (length ds) && all_ascii_digits ds) && not (slice_index ds 0 == byte "0")

@@ -2,6 +2,7 @@
 use Rattle.std.specs.Prelude.{ℕ, ◌+◌, ◌-◌, List, ◌&&◌, ◌==◌, nat_lt, nat_le, take, drop, Option, Some, None, Result, Ok, Err, ok_or, if◌then◌else◌}
 use Rattle.std.specs.List.{prefix_len, position}
 use Rattle.std.specs.Char.{is_ascii_alphabetic}
+use Rattle.std.specs.Str.{byte}
 use Rattle.std.specs.Str.Parse.{digits_value}
 use Rattle.wi_values.specs.Address.{columns, rows, place, letters_value, is_row_number, Area, rect_of}
 use Rattle.wi_values.specs.declared.address.AddressFault.{AddressFault}
@@ -36,6 +37,6 @@ abbrev pub read_corners : List ℕ → Option ℕ → Result Area AddressFault
 read_corners bs None = corners (read_address bs) (read_address bs)
 read_corners bs (Some k) = corners (read_address (take k bs)) (read_address (drop (k + 1) bs))
 
--- the rectangle that a text spells: an address, or two with a colon (58) between
+-- the rectangle that a text spells: an address, or two with a colon between
 unfoldable pub read_rect : List ℕ → Result Area AddressFault
-read_rect bs = read_corners bs (position (λ c. c == 58) bs)
+read_rect bs = read_corners bs (position (λ c. c == byte ":") bs)

@@ -2,6 +2,7 @@
 
 ghost use Rattle.std.specs.Prelude.{◌≡◌, ◌==◌, ◌<◌, length, IfSome};
 ghost use Rattle.std.specs.List.{position};
+ghost use Rattle.std.specs.Str.{byte};
 ghost use Rattle.wi_values.specs.Address.{rect_of};
 ghost use Rattle.wi_values.specs.AddressReading.{corners, read_rect};
 
@@ -72,7 +73,7 @@ impl Rect {
 
 /// Where the first colon stands.
 fn colon_at(bytes: &[u8]) -> Option<usize>
-    ensures value { result ≡ position (λ c. c == 58) bytes.now }
+    ensures value { result ≡ position (λ c. c == byte ":") bytes.now }
     ensures within { IfSome result (λ k. k < length bytes.now) }
 {
     bytes.iter().position(|c| *c == b':')
