@@ -1,7 +1,8 @@
 -- Cells as a formula writes them: a column in letters, a row in digits, `$` before a part that is absolute.
-use Rattle.std.specs.Prelude.{ℕ, ◌<◌, Bool, ◌&&◌, ◌==◌, nat_lt, if◌then◌else◌, List, [], ◌∷◌, ◌++◌, length, take, drop, slice_index, Option, Some, None}
+use Rattle.std.specs.Prelude.{ℕ, ◌<◌, Bool, ◌&&◌, ◌==◌, nat_lt, if◌then◌else◌, List, [], ◌++◌, length, take, drop, slice_index, Option, Some, None, codes}
 use Rattle.std.specs.List.{list_all}
 use Rattle.std.specs.Char.{is_ascii_digit, is_ascii_alphabetic}
+use Rattle.std.specs.Str.{byte}
 use Rattle.wi_lexer.specs.Runs.{IsRun, letters_len}
 use Rattle.wi_lexer.specs.declared.cell.CellText.{CellText}
 
@@ -16,11 +17,11 @@ pub record Cell : Type 0 where
 pub record IsCell (c : Cell) : Type 0 where
   pub letters : IsRun is_ascii_alphabetic c.letters
   pub digits : IsRun is_ascii_digit c.digits
-  pub first : 48 < slice_index c.digits 0
+  pub first : byte "0" < slice_index c.digits 0
 
 -- a `$` where the part is absolute
 abbrev pub dollar : Bool → List ℕ
-dollar absolute = if absolute then 36 ∷ [] else []
+dollar absolute = if absolute then codes "$" else []
 
 -- the text of a cell
 abbrev pub cell_text : Cell → List ℕ
@@ -30,7 +31,7 @@ cell_text c = dollar c.column_is_absolute ++ (c.letters ++ (dollar c.row_is_abso
 
 -- whether a `$` stands first
 abbrev pub begins_with_dollar : List ℕ → Bool
-begins_with_dollar bs = slice_index bs 0 == 36
+begins_with_dollar bs = slice_index bs 0 == byte "$"
 
 -- what follows it
 abbrev pub after_dollar : List ℕ → List ℕ
@@ -46,7 +47,7 @@ cut_column absolute bs = cut_row absolute (take (letters_len bs) bs) (drop (lett
 
 -- whether these are digits of which the first isn't 0
 abbrev pub is_row : List ℕ → Bool
-is_row digits = nat_lt 48 (slice_index digits 0) && list_all is_ascii_digit digits
+is_row digits = nat_lt (byte "0") (slice_index digits 0) && list_all is_ascii_digit digits
 
 -- whether a column and a row are there
 abbrev pub is_cell : Cell → Bool

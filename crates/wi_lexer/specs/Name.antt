@@ -2,14 +2,15 @@
 use Rattle.std.specs.Prelude.{◌≡◌, ℕ, Bool, true, ◌||◌, ◌==◌, if◌then◌else◌, List, slice_index}
 use Rattle.std.specs.List.{list_all, prefix_len}
 use Rattle.std.specs.Char.{is_ascii_digit, is_ascii_alphabetic}
+use Rattle.std.specs.Str.{byte}
 
 -- a letter or `_`
 abbrev pub is_name_start : ℕ → Bool
-is_name_start b = is_ascii_alphabetic b || b == 95
+is_name_start b = is_ascii_alphabetic b || b == byte "_"
 
 -- a letter, a digit, `_` or a point
 abbrev pub is_name_part : ℕ → Bool
-is_name_part b = is_ascii_alphabetic b || is_ascii_digit b || b == 95 || b == 46
+is_name_part b = is_ascii_alphabetic b || is_ascii_digit b || b == byte "_" || b == byte "."
 
 -- The text is a name.
 pub record IsName (text : List ℕ) : Type 0 where

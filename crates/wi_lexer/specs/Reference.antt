@@ -1,11 +1,12 @@
 -- References as a formula writes them (OpenFormula, "References").
-use Rattle.std.specs.Prelude.{ℕ, ◌+◌, ◌-◌, Bool, ◌&&◌, ◌==◌, nat_lt, if◌then◌else◌, List, [], ◌∷◌, ◌++◌, length, take, drop, slice_index, Option, None, is_some}
+use Rattle.std.specs.Prelude.{ℕ, ◌+◌, ◌-◌, Bool, ◌&&◌, ◌==◌, nat_lt, if◌then◌else◌, List, ◌++◌, length, take, drop, slice_index, Option, None, is_some, codes}
+use Rattle.std.specs.Str.{byte}
 use Rattle.wi_lexer.specs.Runs.{inside_len}
 use Rattle.wi_lexer.specs.Cell.{Cell, IsCell, cell_text, cell_of}
 
 -- the reference to a cell: `[.CELL]`
 abbrev pub reference_text : Cell → List ℕ
-reference_text c = 91 ∷ 46 ∷ cell_text c ++ 93 ∷ []
+reference_text c = codes "[." ++ cell_text c ++ codes "]"
 
 -- The text is a reference.
 pub data IsReference : List ℕ → Type 0 where
@@ -17,7 +18,7 @@ inside text = take (length text - 3) (drop 2 text)
 
 -- whether the text begins with `[.` and ends with `]`
 abbrev pub is_bracketed : List ℕ → Bool
-is_bracketed text = nat_lt 2 (length text) && (slice_index text 0 == 91 && (slice_index text 1 == 46 && slice_index text (length text - 1) == 93))
+is_bracketed text = nat_lt 2 (length text) && (slice_index text 0 == byte "[" && (slice_index text 1 == byte "." && slice_index text (length text - 1) == byte "]"))
 
 -- the cell of a reference `[.CELL]`
 unfoldable pub reference_of : List ℕ → Option Cell

@@ -2,14 +2,15 @@
 use Rattle.std.specs.Prelude.{◌≡◌, ℕ, ◌<◌, Bool, true, false, ◌||◌, ◌==◌, if◌then◌else◌, List, length}
 use Rattle.std.specs.List.{list_all, prefix_len}
 use Rattle.std.specs.Char.{is_ascii_digit, is_ascii_alphabetic}
+use Rattle.std.specs.Str.{byte}
 
 -- white space: space, tab, CR or LF
 abbrev pub is_blank : ℕ → Bool
-is_blank b = b == 32 || b == 9 || b == 13 || b == 10
+is_blank b = b == byte " " || b == byte "\t" || b == byte "\r" || b == byte "\n"
 
 -- any byte but `]`
 abbrev pub is_inside : ℕ → Bool
-is_inside b = if b == 93 then false else true
+is_inside b = if b == byte "]" then false else true
 
 -- some bytes, each of the class
 pub record IsRun (class : ℕ → Bool) (text : List ℕ) : Type 0 where
