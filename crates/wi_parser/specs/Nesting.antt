@@ -4,7 +4,7 @@ use Rattle.wi_parser.specs.declared.expr.Operator.TheVariants.{Add, Subtract}
 use Rattle.wi_parser.specs.Tree.{Tree, number, cell, parenthesized, binary, what_if}
 use Rattle.wi_parser.specs.Symbol.{Symbol, open_mark, close_mark, infix_mark}
 
--- how many parentheses are around the innermost part of a tree
+-- how many parentheses are around the innermost part of a tree, where those of a what-if's parameters count for nothing
 abbrev pub depth : Tree → ℕ
 depth (number x) = 0
 depth (cell r) = 0
@@ -24,6 +24,7 @@ is_sign (infix_mark Add) = true
 is_sign (infix_mark Subtract) = true
 is_sign s = false
 
+-- the most signs one after another, where n stand before
 abbrev pub most_signs : ℕ → List Symbol → ℕ
 most_signs n [] = n
 most_signs n (x ∷ ts) = if is_sign x then most_signs (suc n) ts else max n (most_signs 0 ts)
