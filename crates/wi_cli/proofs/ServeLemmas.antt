@@ -4,7 +4,7 @@ use Rattle.wi_scenarios.specs.declared.refusal.Refusal.{Refusal}
 use Rattle.wi_scenarios.specs.declared.refusal.Refusal.TheVariants.{Memory, BadCommand, BadLine, OutOfSheet, Syntax, TooDeep, NumberRange, TooLong, Full, TooLarge, EditLimit}
 use Rattle.wi_scenarios.specs.State.{State}
 use Rattle.wi_scenarios.specs.Answer as answer
-use Rattle.wi_scenarios.specs.Step.{Command, step, may_want}
+use Rattle.wi_scenarios.specs.Step.{Command, step, may_lack_memory}
 use Rattle.wi_scenarios.specs.Step as spell
 use Rattle.wi_cli.specs.declared.answer.Answer.TheVariants.{Passed, Done, Refused}
 use Rattle.wi_cli.specs.declared.command.Command.{Command as ReadCommand}
@@ -20,7 +20,7 @@ pub told_done : (o : Option Command) (c : Command) (s t : State) (out out' recor
 told_done o c s t out out' records e none grown h =
     subst (λ x. Told x Done s t out') (sym e) (h ∙ ap (λ x. Ok (t, x)) (sym (grown ∙ ap (λ x. x ++ records) none)))
 
-may : (d : ReadCommand) → may_want (command_of d) ≡ true
+may : (d : ReadCommand) → may_lack_memory (command_of d) ≡ true
 may (read.Set at content) = refl
 may (read.Show area) = refl
 

@@ -3,7 +3,7 @@ use Rattle.std.specs.Prelude.{◌≡◌, ℕ, true, List, [], ◌∷◌, ◌⊎�
 use Rattle.std.specs.List.{concat}
 use Rattle.wi_scenarios.specs.declared.refusal.Refusal.TheVariants.{Memory}
 use Rattle.wi_scenarios.specs.State.{State}
-use Rattle.wi_scenarios.specs.Step.{Command, step, may_want}
+use Rattle.wi_scenarios.specs.Step.{Command, step, may_lack_memory}
 use Rattle.wi_cli.specs.Reply.{refused, reply, after}
 
 -- the command is answered by its step
@@ -15,7 +15,7 @@ pub record IsAnswered (s : State) (c : Command) (told : List ℕ) (t : State) : 
 pub record IsUnserved (s : State) (c : Command) (told : List ℕ) (t : State) : Type 0 where
   pub reply_is : told ≡ refused Memory
   pub state_is : t ≡ s
-  pub may : may_want c ≡ true
+  pub may : may_lack_memory c ≡ true
 
 abbrev pub MayAnswer : State → Command → List ℕ → State → Type 0
 MayAnswer s c told t = IsAnswered s c told t ⊎ IsUnserved s c told t

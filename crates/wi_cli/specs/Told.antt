@@ -3,14 +3,14 @@ use Rattle.std.specs.Prelude.{◌≡◌, ℕ, true, List, [], ◌++◌, Option, 
 use Rattle.wi_scenarios.specs.declared.refusal.Refusal.{Refusal}
 use Rattle.wi_scenarios.specs.declared.refusal.Refusal.TheVariants.{Memory}
 use Rattle.wi_scenarios.specs.State.{State}
-use Rattle.wi_scenarios.specs.Step.{Command, step, may_want}
+use Rattle.wi_scenarios.specs.Step.{Command, step, may_lack_memory}
 use Rattle.wi_cli.specs.declared.answer.Answer.{Answer}
 use Rattle.wi_cli.specs.declared.answer.Answer.TheVariants.{Passed, Done, Refused}
 use Rattle.wi_cli.specs.Reply.{refused, ok_line}
 
 -- want of memory may refuse some commands; another refusal is the step's
 abbrev pub RefusedAs : Refusal → State → Command → Type 0
-RefusedAs Memory s c = may_want c ≡ true
+RefusedAs Memory s c = may_lack_memory c ≡ true
 RefusedAs e s c = step s c ≡ Err e
 
 -- the line is passed over, or its command is answered by the step, or by want of memory

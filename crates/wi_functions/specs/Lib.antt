@@ -1,6 +1,6 @@
 pub mod Convert
 pub mod Meaning
-pub mod Answers
+pub mod Assignment
 pub mod Counts
 pub mod Fractions
 pub mod Wants

@@ -2,15 +2,17 @@
 -- "MULTIPLE.OPERATIONS").
 use Rattle.std.specs.Prelude.{ℕ, List, map}
 use Rattle.wi_values.specs.declared.value.Value.{Value}
-use Rattle.wi_values.specs.declared.value.Value.TheVariants.{Empty, Number, Text, Logical, Fault}
+use Rattle.wi_values.specs.declared.value.Value.TheVariants.{Empty, Number}
 use Rattle.wi_parser.specs.declared.expr.Reference.{Reference}
 use Rattle.wi_parser.specs.Tree.{Tree, number, cell, parenthesized, binary, what_if}
 use Rattle.wi_functions.specs.Convert.{operate, zero_number}
 
--- an input and what replaces it, by their addresses
+-- an input and its replacement cell, by their addresses
 abbrev pub addresses : Reference × Reference → ℕ × ℕ
 addresses p = (p.0.at, p.1.at)
 
+-- The value of a tree, where `cells` gives the value of each cell, and `what_ifs` that of each what-if, told by its
+-- formula cell and its pairs.
 abbrev pub meaning : Tree → (ℕ → Value) → (ℕ → List (ℕ × ℕ) → Value) → Value
 meaning (number x) cells what_ifs = Number x
 meaning (cell r) cells what_ifs = cells r.at
@@ -21,7 +23,4 @@ meaning (what_if f pairs) cells what_ifs = what_ifs f.at (map addresses pairs)
 -- a formula's result: Empty becomes 0
 abbrev pub zero_for_empty : Value → Value
 zero_for_empty Empty = Number zero_number
-zero_for_empty (Number x) = Number x
-zero_for_empty (Text t) = Text t
-zero_for_empty (Logical b) = Logical b
-zero_for_empty (Fault e) = Fault e
+zero_for_empty v = v

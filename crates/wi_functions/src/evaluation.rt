@@ -4,7 +4,7 @@ ghost use Rattle.std.specs.Prelude.{◌≡◌, map, IfOk, IfErr, OnErr};
 ghost use Rattle.wi_parser.specs.View.{tree_of, pair_of};
 ghost use Rattle.wi_parser.specs.Tree.{cell, what_if as what_if_tree};
 ghost use Rattle.wi_functions.specs.Meaning as formulas;
-ghost use Rattle.wi_functions.specs.Answers.{Assignment, IsKnownOf};
+ghost use Rattle.wi_functions.specs.Assignment.{Assignment, AgreesWith};
 ghost use Rattle.wi_functions.specs.Wants.{Asks, IsUnknown, IfNeeds, IfDone, IfWanting, counted};
 
 use crate::convert::zero_for_empty;
@@ -19,7 +19,7 @@ use wi_values::{Address, Value};
 #[derive(Debug, Drop)]
 pub enum Want {
     Cell(Address),
-    /// The value of the cell, and what replaces its inputs.
+    /// The value of the formula cell, if each input had the value of its replacement cell.
     WhatIf(Address, Vec<Pair>),
 }
 
@@ -57,7 +57,7 @@ pub fn evaluate<L: Lookup>(
     meter: &mut Meter,
 ) -> Result<Outcome, AllocError>
     // Where it is done, the value is that of each assignment of which what is known is a part.
-    ensures done { IfOk result (λ o. IfDone o (λ v. (a : Assignment) → IsKnownOf (L.known_cell lookup.now) (L.known_what_if lookup.now) a → v ≡ formulas.zero_for_empty (formulas.meaning formula.now a.cells a.what_ifs))) }
+    ensures done { IfOk result (λ o. IfDone o (λ v. (a : Assignment) → AgreesWith (L.known_cell lookup.now) (L.known_what_if lookup.now) a → v ≡ formulas.zero_for_empty (formulas.meaning formula.now a.cells a.what_ifs))) }
     ensures asked { IfOk result (λ o. IfWanting o (Asks formula.now)) }
     ensures unknown { IfOk result (λ o. IfWanting o (IsUnknown (L.known_cell lookup.now) (L.known_what_if lookup.now))) }
     ensures counted { IfOk result (λ o. meter.new ≡ counted o meter.old) }
@@ -78,7 +78,7 @@ pub fn evaluate<L: Lookup>(
 
 /// An expression's value.
 fn value_of<L: Lookup>(alloc: Global, expr: &Expr, lookup: &L) -> Result<Value, Stop>
-    ensures done { IfOk result (λ v. (a : Assignment) → IsKnownOf (L.known_cell lookup.now) (L.known_what_if lookup.now) a → v ≡ formulas.meaning (tree_of expr.now) a.cells a.what_ifs) }
+    ensures done { IfOk result (λ v. (a : Assignment) → AgreesWith (L.known_cell lookup.now) (L.known_what_if lookup.now) a → v ≡ formulas.meaning (tree_of expr.now) a.cells a.what_ifs) }
     ensures asked { IfErr result (λ s. IfNeeds s (Asks (tree_of expr.now))) }
     ensures unknown { IfErr result (λ s. IfNeeds s (IsUnknown (L.known_cell lookup.now) (L.known_what_if lookup.now))) }
 {
@@ -97,7 +97,7 @@ fn value_of<L: Lookup>(alloc: Global, expr: &Expr, lookup: &L) -> Result<Value, 
 
 /// A cell's value.
 fn cell_value<L: Lookup>(alloc: Global, reference: Reference, lookup: &L) -> Result<Value, Stop>
-    ensures done { IfOk result (λ v. (a : Assignment) → IsKnownOf (L.known_cell lookup.now) (L.known_what_if lookup.now) a → v ≡ a.cells reference.at) }
+    ensures done { IfOk result (λ v. (a : Assignment) → AgreesWith (L.known_cell lookup.now) (L.known_what_if lookup.now) a → v ≡ a.cells reference.at) }
     ensures asked { IfErr result (λ s. IfNeeds s (Asks (cell reference))) }
     ensures unknown { IfErr result (λ s. IfNeeds s (IsUnknown (L.known_cell lookup.now) (L.known_what_if lookup.now))) }
 {
@@ -114,7 +114,7 @@ fn what_if_value<L: Lookup>(
     pairs: &[Pair],
     lookup: &L,
 ) -> Result<Value, Stop>
-    ensures done { IfOk result (λ v. (a : Assignment) → IsKnownOf (L.known_cell lookup.now) (L.known_what_if lookup.now) a → v ≡ formulas.meaning (what_if_tree formula_cell (map pair_of pairs.now)) a.cells a.what_ifs) }
+    ensures done { IfOk result (λ v. (a : Assignment) → AgreesWith (L.known_cell lookup.now) (L.known_what_if lookup.now) a → v ≡ formulas.meaning (what_if_tree formula_cell (map pair_of pairs.now)) a.cells a.what_ifs) }
     ensures asked { IfErr result (λ s. IfNeeds s (Asks (what_if_tree formula_cell (map pair_of pairs.now)))) }
     ensures unknown { IfErr result (λ s. IfNeeds s (IsUnknown (L.known_cell lookup.now) (L.known_what_if lookup.now))) }
 {

@@ -4,7 +4,7 @@ ghost use Rattle.std.specs.Prelude.{◌≡◌, ℕ, List, map, Option};
 ghost use Rattle.wi_values.specs.declared.value.Value.{Value as Values};
 ghost use Rattle.wi_parser.specs.View.{pair_of};
 ghost use Rattle.wi_functions.specs.Meaning.{addresses};
-ghost use Rattle.wi_functions.specs.Answers.{answered};
+ghost use Rattle.wi_functions.specs.Assignment.{answered};
 
 use wi_parser::Pair;
 use wi_values::{Address, Value};

@@ -1,4 +1,4 @@
--- Names of functions as a formula writes them (OpenFormula, "Functions and Function Parameters").
+-- Names of functions as a formula writes them.
 use Rattle.std.specs.Prelude.{◌≡◌, ℕ, Bool, true, ◌||◌, ◌==◌, if◌then◌else◌, List, slice_index}
 use Rattle.std.specs.List.{list_all, prefix_len}
 use Rattle.std.specs.Char.{is_ascii_digit, is_ascii_alphabetic}

@@ -27,7 +27,7 @@ pub fn what_tokens_are()
     ensures { (text : List ℕ) (ts : Tokens) → AreTokens text ts ↔ (ts ≡ tokens text) }
 {}
 
-/// What a cell is cut into is a cell of that text.
+/// A text in which a cell is found is the text of that cell.
 pub fn cell_found()
     ensures { (bs : List ℕ) (c : Cell) → cell_of bs ≡ Some c → IsCell c × (cell_text c ≡ bs) }
 {}
@@ -37,7 +37,7 @@ pub fn cell_spelled()
     ensures { (c : Cell) → IsCell c → cell_of (cell_text c) ≡ Some c }
 {}
 
-/// What the cell of a reference is found in is the reference to it.
+/// A text in which the cell of a reference is found is the reference to that cell.
 pub fn reference_found()
     ensures { (bs : List ℕ) (c : Cell) → reference_of bs ≡ Some c → IsCell c × (reference_text c ≡ bs) }
 {}

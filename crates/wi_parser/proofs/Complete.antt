@@ -5,8 +5,8 @@ use Rattle.wi_fraction.specs.Number.{Number}
 use Rattle.wi_parser.specs.declared.expr.Operator.{Operator}
 use Rattle.wi_parser.specs.declared.expr.Reference.{Reference}
 use Rattle.wi_parser.specs.Tree.{Tree, number, cell, parenthesized, binary, what_if}
-use Rattle.wi_parser.specs.Symbol.{Symbol, numeral, reference, open_mark, close_mark, infix_mark}
-use Rattle.wi_parser.specs.Grammar.{line_of, loosest, Spells, pair_symbols, what_if_symbols, a_number, a_cell, in_marks, one_input, two_inputs, tighter, joined}
+use Rattle.wi_parser.specs.Symbol.{Symbol, numeral, reference, open_parenthesis, close_parenthesis, infix_mark}
+use Rattle.wi_parser.specs.Grammar.{line_of, loosest, Spells, pair_symbols, what_if_symbols, a_number, a_cell, in_parentheses, one_input, two_inputs, tighter, joined}
 use Rattle.wi_parser.specs.Reader.{read_then, then_close, operator_at, pair_at, what_if_at, atom, chain, line, expression, if_last, whole}
 use Rattle.wi_parser.specs.Nesting.{depth}
 use Rattle.wi_parser.proofs.Turns.{chain_stop, chain_more}
@@ -95,11 +95,11 @@ inner_taken : (d : ℕ) (t : Tree) (us rest : List Symbol) → Taken d 2 t us �
 unfolding expression
 inner_taken d t us rest c stops = c rest stops
 
-marks_taken : (d : ℕ) (t : Tree) (ts : List Symbol) → Taken d 2 t ts → Taken (suc d) 0 (parenthesized t) (open_mark ∷ ts ++ close_mark ∷ [])
+marks_taken : (d : ℕ) (t : Tree) (ts : List Symbol) → Taken d 2 t ts → Taken (suc d) 0 (parenthesized t) (open_parenthesis ∷ ts ++ close_parenthesis ∷ [])
 unfolding line atom
 marks_taken d t ts c rest stops =
-    ap (λ l. read_then (λ u. then_close (parenthesized u)) (expression (suc d) l)) (append_assoc ts (close_mark ∷ []) rest)
-    ∙ ap (read_then (λ u. then_close (parenthesized u))) (inner_taken d t ts (close_mark ∷ rest) c ((tt, refl), refl))
+    ap (λ l. read_then (λ u. then_close (parenthesized u)) (expression (suc d) l)) (append_assoc ts (close_parenthesis ∷ []) rest)
+    ∙ ap (read_then (λ u. then_close (parenthesized u))) (inner_taken d t ts (close_parenthesis ∷ rest) c ((tt, refl), refl))
 
 number_taken : (d : ℕ) (x : Number) → Taken d 0 (number x) (numeral x ∷ [])
 unfolding line atom
@@ -122,8 +122,8 @@ claim (a_number x) d h = number_taken d x
 claim (a_cell r) d h = cell_taken d r
 claim (one_input f p) d h = one_taken d f p
 claim (two_inputs f p q) d h = two_taken d f p q
-claim (in_marks t ts s) zero h = absurd (omega arith)
-claim (in_marks t ts s) (suc d) h = marks_taken d t ts (taken d 2 t ts (claim s d (omega arith)))
+claim (in_parentheses t ts s) zero h = absurd (omega arith)
+claim (in_parentheses t ts s) (suc d) h = marks_taken d t ts (taken d 2 t ts (claim s d (omega arith)))
 claim (tighter k t ts s) d h = one_line d k t ts (taken d k t ts (claim s d h))
 claim (joined k op l r ls rs e s u) d h = one_more d k op l r ls rs e (claim s d (omega arith)) (taken d k r rs (claim u d (omega arith)))
 

@@ -1,16 +1,16 @@
 -- A tree nests no deeper than the parentheses of its symbols.
 use Rattle.std.proofs.Common.{◌≡◌, ℕ, suc, ◌+◌, ◌-◌, ◌≤◌, List, [], ◌∷◌, ◌++◌, ap, arith, append_assoc, append-nil}
 use Rattle.wi_parser.specs.Tree.{Tree}
-use Rattle.wi_parser.specs.Symbol.{Symbol, numeral, reference, open_mark, close_mark, separator, infix_mark, what_if_name, refused}
-use Rattle.wi_parser.specs.Grammar.{loosest, Spells, a_number, a_cell, in_marks, one_input, two_inputs, tighter, joined}
+use Rattle.wi_parser.specs.Symbol.{Symbol, numeral, reference, open_parenthesis, close_parenthesis, separator, infix_mark, what_if_name, refused}
+use Rattle.wi_parser.specs.Grammar.{loosest, Spells, a_number, a_cell, in_parentheses, one_input, two_inputs, tighter, joined}
 use Rattle.wi_parser.specs.Nesting.{depth, deepest}
 
 pub least : (h : ℕ) (ts : List Symbol) → h ≤ deepest h ts
 least h [] = omega arith
 least h (numeral x ∷ ts) = least h ts
 least h (reference r ∷ ts) = least h ts
-least h (open_mark ∷ ts) = omega (arith, least (suc h) ts)
-least h (close_mark ∷ ts) = omega arith
+least h (open_parenthesis ∷ ts) = omega (arith, least (suc h) ts)
+least h (close_parenthesis ∷ ts) = omega arith
 least h (separator ∷ ts) = least h ts
 least h (infix_mark op ∷ ts) = least h ts
 least h (what_if_name ∷ ts) = least h ts
@@ -22,7 +22,7 @@ record Reaches (d h : ℕ) (ts rest : List Symbol) : Type 0 where
   others : deepest h rest ≤ deepest h (ts ++ rest)
 
 -- parentheses that open and close with nothing nested between
-closed : (h : ℕ) (rest : List Symbol) → (h ≤ deepest (suc h) (close_mark ∷ rest)) × (deepest h rest ≤ deepest (suc h) (close_mark ∷ rest))
+closed : (h : ℕ) (rest : List Symbol) → (h ≤ deepest (suc h) (close_parenthesis ∷ rest)) × (deepest h rest ≤ deepest (suc h) (close_parenthesis ∷ rest))
 closed h rest =
     let less : suc h - 1 ≡ h = omega arith in
     (omega arith, omega (arith, ap (λ j. deepest j rest) less))
@@ -32,9 +32,9 @@ reaches (a_number x) h rest = record { own = omega (arith, least h rest); others
 reaches (a_cell r) h rest = record { own = omega (arith, least h rest); others = omega arith }
 reaches (one_input f p) h rest = let c = closed h rest in record { own = omega (arith, c.0); others = c.1 }
 reaches (two_inputs f p q) h rest = let c = closed h rest in record { own = omega (arith, c.0); others = c.1 }
-reaches (in_marks t ts s) h rest =
-    let inside = reaches s (suc h) (close_mark ∷ rest) in
-    let same = ap (deepest (suc h)) (append_assoc ts (close_mark ∷ []) rest) in
+reaches (in_parentheses t ts s) h rest =
+    let inside = reaches s (suc h) (close_parenthesis ∷ rest) in
+    let same = ap (deepest (suc h)) (append_assoc ts (close_parenthesis ∷ []) rest) in
     let less : suc h - 1 ≡ h = omega arith in
     let after = ap (λ j. deepest j rest) less in
     record { own = omega (arith, inside.own, same); others = omega (arith, inside.others, same, after) }

@@ -3,18 +3,18 @@ use Rattle.std.proofs.Common.{◌≡◌, ℕ, ◌+◌, ◌<◌, true, false, Boo
 use Rattle.std.proofs.lemmas.Bool.{eqb-true}
 use Rattle.wi_parser.specs.declared.expr.Operator.{Operator}
 use Rattle.wi_parser.specs.declared.expr.Reference.{Reference}
-use Rattle.wi_parser.specs.Symbol.{Symbol, numeral, reference, open_mark, close_mark, separator, infix_mark, what_if_name, refused}
+use Rattle.wi_parser.specs.Symbol.{Symbol, numeral, reference, open_parenthesis, close_parenthesis, separator, infix_mark, what_if_name, refused}
 use Rattle.wi_parser.specs.Grammar.{line_of, pair_symbols}
 use Rattle.wi_parser.specs.Reader.{after_open, after_close, after_separator, reference_at, operator_at, parameter_at, pair_at}
 
-pub open_is : (ts us : List Symbol) → after_open ts ≡ Some us → ts ≡ open_mark ∷ us
+pub open_is : (ts us : List Symbol) → after_open ts ≡ Some us → ts ≡ open_parenthesis ∷ us
 open_is [] us h = cc
-open_is (open_mark ∷ ts) us h = cc
+open_is (open_parenthesis ∷ ts) us h = cc
 open_is (s ∷ ts) us h = cc
 
-pub close_is : (ts us : List Symbol) → after_close ts ≡ Some us → ts ≡ close_mark ∷ us
+pub close_is : (ts us : List Symbol) → after_close ts ≡ Some us → ts ≡ close_parenthesis ∷ us
 close_is [] us h = cc
-close_is (close_mark ∷ ts) us h = cc
+close_is (close_parenthesis ∷ ts) us h = cc
 close_is (s ∷ ts) us h = cc
 
 pub separator_is : (ts us : List Symbol) → after_separator ts ≡ Some us → ts ≡ separator ∷ us

@@ -1,14 +1,14 @@
 -- A tree has one spelling.
 use Rattle.std.proofs.Common.{◌≡◌, ℕ, List, [], ◌∷◌, ◌++◌, refl, ap, ap₂, subst}
 use Rattle.wi_parser.specs.Tree.{Tree}
-use Rattle.wi_parser.specs.Symbol.{Symbol, open_mark, close_mark, infix_mark}
-use Rattle.wi_parser.specs.Grammar.{loosest, Spells, a_number, a_cell, in_marks, one_input, two_inputs, tighter, joined}
+use Rattle.wi_parser.specs.Symbol.{Symbol, open_parenthesis, close_parenthesis, infix_mark}
+use Rattle.wi_parser.specs.Grammar.{loosest, Spells, a_number, a_cell, in_parentheses, one_input, two_inputs, tighter, joined}
 use Rattle.wi_parser.specs.Spelling.{spelling, IsSpelled}
 
 pub spelled : {k : ℕ} {t : Tree} {ts : List Symbol} → Spells k t ts → ts ≡ spelling t
 spelled (a_number x) = refl
 spelled (a_cell r) = refl
-spelled (in_marks t ts s) = ap (λ l. open_mark ∷ l ++ close_mark ∷ []) (spelled s)
+spelled (in_parentheses t ts s) = ap (λ l. open_parenthesis ∷ l ++ close_parenthesis ∷ []) (spelled s)
 spelled (one_input f p) = refl
 spelled (two_inputs f p q) = refl
 spelled (tighter k t ts s) = spelled s

@@ -1,18 +1,18 @@
 -- What the tree of a text is, and why there is none.
-use Rattle.std.proofs.Common.{◌≡◌, ℕ, ◌+◌, ◌<◌, ◌≤◌, Bool, true, false, ◌||◌, nat_lt, List, [], ◌∷◌, ◌++◌, length, Option, Some, None, Result, Ok, Err, ok_or, if◌then◌else◌, IfOk, ◌↔◌, refl, sym, ap, ap₂, ◌∙◌, arith}
+use Rattle.std.proofs.Common.{◌≡◌, ℕ, ◌+◌, ◌<◌, ◌≤◌, Bool, true, false, ◌||◌, nat_lt, List, [], ◌∷◌, ◌++◌, length, Option, Some, None, Result, Ok, Err, ok_or, if◌then◌else◌, IfOk, ◌↔◌, refl, sym, ap, ap₂, ◌∙◌, subst, arith}
 use Rattle.std.proofs.lemmas.List.Folds.{list_any-append}
 use Rattle.std.proofs.lemmas.Bool.Decides.{nat_tests}
 use Rattle.std.specs.List.{list_any}
 use Rattle.wi_parser.specs.declared.fault.ParseFault.{ParseFault}
 use Rattle.wi_parser.specs.declared.fault.ParseFault.TheVariants.{TooLong, OutOfSheet, NumberRange, TooDeep, Syntax, Memory}
 use Rattle.wi_parser.specs.Tree.{Tree}
-use Rattle.wi_parser.specs.Symbol.{Symbol, close_mark, infix_mark, is_outside, is_unfit}
-use Rattle.wi_parser.specs.Grammar.{loosest, Spells, a_number, a_cell, in_marks, one_input, two_inputs, tighter, joined}
+use Rattle.wi_parser.specs.Symbol.{Symbol, close_parenthesis, infix_mark, is_outside, is_unfit}
+use Rattle.wi_parser.specs.Grammar.{loosest, Spells, a_number, a_cell, in_parentheses, one_input, two_inputs, tighter, joined}
 use Rattle.wi_parser.specs.Nesting.{deepest, most_signs, max_depth, is_too_deep}
 use Rattle.wi_parser.specs.Reader.{whole}
 use Rattle.wi_parser.specs.Outcome.{Fails}
 use Rattle.wi_parser.specs.FormulaText.{formula_symbols}
-use Rattle.wi_parser.specs.Reading.{max_formula, refusal_of, unless_refused, judged, parsed, IsWithinLimits, ReadsAs, IsOrMemory}
+use Rattle.wi_parser.specs.Reading.{max_formula, refusal_of, unless_refused, judged, parsed, IsWithinLimits, ReadsAs}
 use Rattle.wi_parser.proofs.Sound.{whole_sound}
 use Rattle.wi_parser.proofs.Complete.{whole_complete}
 use Rattle.wi_parser.proofs.Depth.{depth-deepest}
@@ -27,7 +27,7 @@ none_outside (a_number x) = refl
 none_outside (a_cell r) = refl
 none_outside (one_input f p) = refl
 none_outside (two_inputs f p q) = refl
-none_outside (in_marks t ts s) = any_append is_outside ts (close_mark ∷ []) (none_outside s) refl
+none_outside (in_parentheses t ts s) = any_append is_outside ts (close_parenthesis ∷ []) (none_outside s) refl
 none_outside (tighter k t ts s) = none_outside s
 none_outside (joined k op l r ls rs e s u) = any_append is_outside ls (infix_mark op ∷ rs) (none_outside s) (none_outside u)
 
@@ -36,7 +36,7 @@ none_unfit (a_number x) = refl
 none_unfit (a_cell r) = refl
 none_unfit (one_input f p) = refl
 none_unfit (two_inputs f p q) = refl
-none_unfit (in_marks t ts s) = any_append is_unfit ts (close_mark ∷ []) (none_unfit s) refl
+none_unfit (in_parentheses t ts s) = any_append is_unfit ts (close_parenthesis ∷ []) (none_unfit s) refl
 none_unfit (tighter k t ts s) = none_unfit s
 none_unfit (joined k op l r ls rs e s u) = any_append is_unfit ls (infix_mark op ∷ rs) (none_unfit s) (none_unfit u)
 
@@ -160,14 +160,5 @@ pub reads_spelled : (text : List ℕ) (r : Result Tree ParseFault) → ReadsAs (
 reads_spelled text (Ok t) h = parsed_spells text t h
 reads_spelled text (Err e) h = tt
 
-answered : (found : Result Tree ParseFault) (t : Tree) (r : Result Tree ParseFault) → ReadsAs found r → found ≡ Ok t → IsOrMemory t r
-answered found t (Ok u) h is = cc
-answered found t (Err TooLong) h is = let bad = sym h ∙ is in cc
-answered found t (Err OutOfSheet) h is = let bad = sym h ∙ is in cc
-answered found t (Err NumberRange) h is = let bad = sym h ∙ is in cc
-answered found t (Err TooDeep) h is = let bad = sym h ∙ is in cc
-answered found t (Err Syntax) h is = let bad = sym h ∙ is in cc
-answered found t (Err Memory) h is = tt
-
-pub reads_only : (text : List ℕ) (r : Result Tree ParseFault) → ReadsAs (parsed text) r → (t : Tree) → Spells loosest t (formula_symbols text) → IsWithinLimits text → IsOrMemory t r
-reads_only text r h t s w = answered (parsed text) t r h (spelled_parsed text t w s)
+pub reads_only : (text : List ℕ) (r : Result Tree ParseFault) → ReadsAs (parsed text) r → (t : Tree) → Spells loosest t (formula_symbols text) → IsWithinLimits text → ReadsAs (Ok t) r
+reads_only text r h t s w = subst (λ found. ReadsAs found r) (spelled_parsed text t w s) h

@@ -18,7 +18,7 @@ use Rattle.wi_parser.specs.declared.content.Content.TheVariants.{Constant}
 use Rattle.wi_parser.specs.declared.expr.Operator.TheVariants.{Add, Subtract, Multiply}
 use Rattle.wi_parser.specs.declared.fault.ParseFault.TheVariants.{OutOfSheet, Syntax}
 use Rattle.wi_parser.specs.Tree.{number, cell, parenthesized, binary, what_if}
-use Rattle.wi_parser.specs.Symbol.{Symbol, numeral, open_mark, close_mark, infix_mark}
+use Rattle.wi_parser.specs.Symbol.{Symbol, numeral, open_parenthesis, close_parenthesis, infix_mark}
 use Rattle.wi_parser.specs.declared.expr.Reference.{Reference}
 use Rattle.wi_parser.specs.Reader.{pair_at, what_if_at, atom, chain, line, expression}
 use Rattle.wi_parser.specs.FormulaText.{number_symbol, formula_symbols}
@@ -35,7 +35,7 @@ groups_to_the_left : (x y z : Number) → judged (numeral x ∷ infix_mark Subtr
 unfolding atom chain line expression
 groups_to_the_left x y z = refl
 
-keeps_parentheses : (x : Number) → judged (open_mark ∷ numeral x ∷ close_mark ∷ []) ≡ Ok (parenthesized (number x))
+keeps_parentheses : (x : Number) → judged (open_parenthesis ∷ numeral x ∷ close_parenthesis ∷ []) ≡ Ok (parenthesized (number x))
 unfolding atom chain line expression
 keeps_parentheses x = refl
 
@@ -97,12 +97,12 @@ difference_symbols = refl
 differences : parsed (codes "of:= 1-2 -3 ") ≡ Ok (binary Subtract (binary Subtract (number one) (number two)) (number three))
 differences = parsed_short _ (lit≤ tt) ∙ ap judged (difference_symbols ∙ one_two_three _ _) ∙ groups_to_the_left one two three
 
-enclosed_symbols : formula_symbols (codes "=(1)") ≡ open_mark ∷ number_symbol (read_decimal (codes "1")) ∷ close_mark ∷ []
+enclosed_symbols : formula_symbols (codes "=(1)") ≡ open_parenthesis ∷ number_symbol (read_decimal (codes "1")) ∷ close_parenthesis ∷ []
 unfolding formula_symbols tokens tokens_within token_at number_len decimals_len mark_at reference_len reference_of cell_of name_len
 enclosed_symbols = refl
 
 enclosed : parsed (codes "=(1)") ≡ Ok (parenthesized (number one))
-enclosed = parsed_short _ (lit≤ tt) ∙ ap judged (enclosed_symbols ∙ ap (λ x. open_mark ∷ number_symbol x ∷ close_mark ∷ []) read_one) ∙ keeps_parentheses one
+enclosed = parsed_short _ (lit≤ tt) ∙ ap judged (enclosed_symbols ∙ ap (λ x. open_parenthesis ∷ number_symbol x ∷ close_parenthesis ∷ []) read_one) ∙ keeps_parentheses one
 
 unfinished_symbols : formula_symbols (codes "=1+") ≡ number_symbol (read_decimal (codes "1")) ∷ infix_mark Add ∷ []
 unfolding formula_symbols tokens tokens_within token_at number_len decimals_len mark_at reference_len reference_of cell_of name_len

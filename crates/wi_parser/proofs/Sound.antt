@@ -3,8 +3,8 @@ use Rattle.std.proofs.Common.{◌≡◌, ℕ, zero, suc, List, [], ◌∷◌, �
 use Rattle.wi_parser.specs.declared.expr.Operator.{Operator}
 use Rattle.wi_parser.specs.declared.expr.Reference.{Reference}
 use Rattle.wi_parser.specs.Tree.{Tree, number, cell, parenthesized, binary, what_if}
-use Rattle.wi_parser.specs.Symbol.{Symbol, numeral, reference, open_mark, close_mark, separator, infix_mark, what_if_name, refused}
-use Rattle.wi_parser.specs.Grammar.{loosest, Spells, pair_symbols, what_if_symbols, a_number, a_cell, in_marks, one_input, two_inputs, tighter, joined}
+use Rattle.wi_parser.specs.Symbol.{Symbol, numeral, reference, open_parenthesis, close_parenthesis, separator, infix_mark, what_if_name, refused}
+use Rattle.wi_parser.specs.Grammar.{loosest, Spells, pair_symbols, what_if_symbols, a_number, a_cell, in_parentheses, one_input, two_inputs, tighter, joined}
 use Rattle.wi_parser.specs.Reader.{Parse, Read, read_then, then_close, after_open, after_close, reference_at, operator_at, pair_at, one_or_two, inputs_at, what_if_at, atom, chain, chain_step, line, expression, if_last, whole}
 use Rattle.wi_parser.proofs.Marks.{open_is, close_is, reference_is, operator_is, pair_is, and_then_ok, map_ok}
 
@@ -34,17 +34,17 @@ abbrev pub Finds : ℕ → Parse → Type 0
 Finds k p = (ts : List Symbol) (t : Tree) (rest : List Symbol) → p ts ≡ Some (t, rest) → (us : List Symbol) × Spells k t us × (ts ≡ us ++ rest)
 
 -- a tree that is closed
-closed_sound : (t u : Tree) (ts rest : List Symbol) → then_close t ts ≡ Some (u, rest) → (t ≡ u) × (ts ≡ close_mark ∷ rest)
+closed_sound : (t u : Tree) (ts rest : List Symbol) → then_close t ts ≡ Some (u, rest) → (t ≡ u) × (ts ≡ close_parenthesis ∷ rest)
 closed_sound t u ts rest h =
     let a = map_ok (λ l. (t, l)) (after_close ts) (u, rest) h in
-    (ap (λ p. p.0) a.2, close_is ts a.0 a.1 ∙ ap (λ p. close_mark ∷ p.1) a.2)
+    (ap (λ p. p.0) a.2, close_is ts a.0 a.1 ∙ ap (λ p. close_parenthesis ∷ p.1) a.2)
 
 -- what stands after the formula cell and the first pair
 inputs_sound : (f : Reference) (p : Reference × Reference) (ts : List Symbol) (t : Tree) (rest : List Symbol) (o : Option (List Symbol)) → after_close ts ≡ o → one_or_two f p ts o ≡ Some (t, rest)
-    → (us : List Symbol) × Spells 0 t (what_if_symbols f (pair_symbols p ++ us)) × (ts ≡ us ++ close_mark ∷ rest)
+    → (us : List Symbol) × Spells 0 t (what_if_symbols f (pair_symbols p ++ us)) × (ts ≡ us ++ close_parenthesis ∷ rest)
 inputs_sound f p ts t rest (Some us) is h =
     let both = parts (what_if f (p ∷ [])) t us rest h in
-    ([], subst (λ u. Spells 0 u (what_if_symbols f (pair_symbols p))) both.0 (one_input f p), close_is ts us is ∙ ap (λ l. close_mark ∷ l) both.1)
+    ([], subst (λ u. Spells 0 u (what_if_symbols f (pair_symbols p))) both.0 (one_input f p), close_is ts us is ∙ ap (λ l. close_parenthesis ∷ l) both.1)
 inputs_sound f p ts t rest None is h =
     let a = and_then_ok (λ q. then_close (what_if f (p ∷ q.0 ∷ [])) q.1) (pair_at ts) (t, rest) h in
     let q = a.0 in
@@ -67,9 +67,9 @@ what_if_sound ts t rest h =
       what_if_symbols f.0 parameters,
       d.1,
       ap (λ l. what_if_name ∷ l)
-          (open_is ts b.0 b.1 ∙ ap (λ l. open_mark ∷ l)
+          (open_is ts b.0 b.1 ∙ ap (λ l. open_parenthesis ∷ l)
           (reference_is b.0 f b.2 ∙ ap (λ l. reference f.0 ∷ l)
-          (pair_is f.1 p c.1 ∙ ap (λ l. pair_symbols p.0 ++ l) d.2 ∙ sym (append_assoc parameters (close_mark ∷ []) rest)))),
+          (pair_is f.1 p c.1 ∙ ap (λ l. pair_symbols p.0 ++ l) d.2 ∙ sym (append_assoc parameters (close_parenthesis ∷ []) rest)))),
     )
 
 module _ (inner : Parse) (sound : Finds 2 inner) where
@@ -82,16 +82,16 @@ module _ (inner : Parse) (sound : Finds 2 inner) where
   atom_sound (reference r ∷ ts) t rest h =
       let both = parts (cell r) t ts rest h in
       (reference r ∷ [], subst (λ u. Spells 0 u (reference r ∷ [])) both.0 (a_cell r), ap (λ l. reference r ∷ l) both.1)
-  atom_sound (open_mark ∷ ts) t rest h =
+  atom_sound (open_parenthesis ∷ ts) t rest h =
       let inside = then_ok (λ u. then_close (parenthesized u)) (inner ts) (t, rest) h in
       let a = sound ts inside.0.0 inside.0.1 inside.1 in
       let shut = closed_sound (parenthesized inside.0.0) t inside.0.1 rest inside.2 in (
-        open_mark ∷ a.0 ++ close_mark ∷ [],
-        subst (λ u. Spells 0 u (open_mark ∷ a.0 ++ close_mark ∷ [])) shut.0 (in_marks inside.0.0 a.0 a.1),
-        ap (λ l. open_mark ∷ l) (a.2 ∙ ap (λ l. a.0 ++ l) shut.1 ∙ sym (append_assoc a.0 (close_mark ∷ []) rest)),
+        open_parenthesis ∷ a.0 ++ close_parenthesis ∷ [],
+        subst (λ u. Spells 0 u (open_parenthesis ∷ a.0 ++ close_parenthesis ∷ [])) shut.0 (in_parentheses inside.0.0 a.0 a.1),
+        ap (λ l. open_parenthesis ∷ l) (a.2 ∙ ap (λ l. a.0 ++ l) shut.1 ∙ sym (append_assoc a.0 (close_parenthesis ∷ []) rest)),
       )
   atom_sound (what_if_name ∷ ts) t rest h = what_if_sound ts t rest h
-  atom_sound (close_mark ∷ ts) t rest h = cc
+  atom_sound (close_parenthesis ∷ ts) t rest h = cc
   atom_sound (separator ∷ ts) t rest h = cc
   atom_sound (infix_mark op ∷ ts) t rest h = cc
   atom_sound (refused e ∷ ts) t rest h = cc

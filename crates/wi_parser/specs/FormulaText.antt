@@ -13,7 +13,7 @@ use Rattle.wi_lexer.specs.Reference.{reference_of}
 use Rattle.wi_lexer.specs.Tokens.{Tokens, tokens}
 use Rattle.wi_parser.specs.declared.expr.Operator.TheVariants.{Add, Subtract, Multiply, Divide}
 use Rattle.wi_parser.specs.declared.fault.ParseFault.TheVariants.{OutOfSheet, NumberRange, Syntax}
-use Rattle.wi_parser.specs.Symbol.{Symbol, numeral, reference, open_mark, close_mark, separator, infix_mark, what_if_name, refused}
+use Rattle.wi_parser.specs.Symbol.{Symbol, numeral, reference, open_parenthesis, close_parenthesis, separator, infix_mark, what_if_name, refused}
 
 -- ---- tokens
 
@@ -32,8 +32,8 @@ reference_symbol None = refused Syntax
 reference_symbol (Some c) = cell_symbol c (address_at c.letters c.digits)
 
 abbrev pub mark_symbol : mark.Mark → Symbol
-mark_symbol OpenParenthesis = open_mark
-mark_symbol CloseParenthesis = close_mark
+mark_symbol OpenParenthesis = open_parenthesis
+mark_symbol CloseParenthesis = close_parenthesis
 mark_symbol Semicolon = separator
 mark_symbol Plus = infix_mark Add
 mark_symbol Minus = infix_mark Subtract

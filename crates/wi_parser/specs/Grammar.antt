@@ -5,7 +5,7 @@ use Rattle.wi_parser.specs.declared.expr.Operator.{Operator}
 use Rattle.wi_parser.specs.declared.expr.Operator.TheVariants.{Add, Subtract, Multiply, Divide}
 use Rattle.wi_parser.specs.declared.expr.Reference.{Reference}
 use Rattle.wi_parser.specs.Tree.{Tree, number, cell, parenthesized, binary, what_if}
-use Rattle.wi_parser.specs.Symbol.{Symbol, numeral, reference, open_mark, close_mark, separator, infix_mark, what_if_name}
+use Rattle.wi_parser.specs.Symbol.{Symbol, numeral, reference, open_parenthesis, close_parenthesis, separator, infix_mark, what_if_name}
 
 -- the line of the grammar that has the operator: 1 Product, 2 Sum
 abbrev pub line_of : Operator → ℕ
@@ -24,13 +24,13 @@ pair_symbols p = separator ∷ reference p.0 ∷ separator ∷ reference p.1 ∷
 
 -- MULTIPLE.OPERATIONS, and its parameters in parentheses
 abbrev pub what_if_symbols : Reference → List Symbol → List Symbol
-what_if_symbols f parameters = what_if_name ∷ open_mark ∷ reference f ∷ parameters ++ close_mark ∷ []
+what_if_symbols f parameters = what_if_name ∷ open_parenthesis ∷ reference f ∷ parameters ++ close_parenthesis ∷ []
 
 -- The symbols spell the tree by line k: 0 Atom, 1 Product, 2 Sum.
 pub data Spells : ℕ → Tree → List Symbol → Type 0 where
   a_number : (x : Number) → Spells 0 (number x) (numeral x ∷ [])
   a_cell : (r : Reference) → Spells 0 (cell r) (reference r ∷ [])
-  in_marks : (t : Tree) (ts : List Symbol) → Spells loosest t ts → Spells 0 (parenthesized t) (open_mark ∷ ts ++ close_mark ∷ [])
+  in_parentheses : (t : Tree) (ts : List Symbol) → Spells loosest t ts → Spells 0 (parenthesized t) (open_parenthesis ∷ ts ++ close_parenthesis ∷ [])
   -- a formula cell, and one input or two
   one_input : (f : Reference) (p : Reference × Reference) → Spells 0 (what_if f (p ∷ [])) (what_if_symbols f (pair_symbols p))
   two_inputs : (f : Reference) (p q : Reference × Reference) → Spells 0 (what_if f (p ∷ q ∷ [])) (what_if_symbols f (pair_symbols p ++ pair_symbols q))

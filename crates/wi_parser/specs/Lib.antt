@@ -1,4 +1,5 @@
 pub mod Tree
+pub mod TreeCode
 pub mod View
 pub mod Sheet
 pub mod Reads

@@ -2,9 +2,9 @@
 use Rattle.std.specs.Prelude.{ℕ, suc, ◌-◌, max, List, [], ◌∷◌, Bool, true, false, ◌||◌, nat_lt, if◌then◌else◌}
 use Rattle.wi_parser.specs.declared.expr.Operator.TheVariants.{Add, Subtract}
 use Rattle.wi_parser.specs.Tree.{Tree, number, cell, parenthesized, binary, what_if}
-use Rattle.wi_parser.specs.Symbol.{Symbol, open_mark, close_mark, infix_mark}
+use Rattle.wi_parser.specs.Symbol.{Symbol, open_parenthesis, close_parenthesis, infix_mark}
 
--- how many parentheses are around the innermost part of a tree, where those of a what-if's parameters count for nothing
+-- How many parenthesized trees stand one inside another, at most. The parentheses of a what-if hold no tree.
 abbrev pub depth : Tree → ℕ
 depth (number x) = 0
 depth (cell r) = 0
@@ -15,16 +15,17 @@ depth (what_if f pairs) = 0
 -- The most parentheses that are open at once, where h are open before. One that closes none counts for nothing.
 abbrev pub deepest : ℕ → List Symbol → ℕ
 deepest h [] = h
-deepest h (open_mark ∷ ts) = deepest (suc h) ts
-deepest h (close_mark ∷ ts) = max h (deepest (h - 1) ts)
+deepest h (open_parenthesis ∷ ts) = deepest (suc h) ts
+deepest h (close_parenthesis ∷ ts) = max h (deepest (h - 1) ts)
 deepest h (s ∷ ts) = deepest h ts
 
+-- a `+` or a `-`
 abbrev pub is_sign : Symbol → Bool
 is_sign (infix_mark Add) = true
 is_sign (infix_mark Subtract) = true
 is_sign s = false
 
--- the most signs one after another, where n stand before
+-- the most signs that stand one after another, where n stand before
 abbrev pub most_signs : ℕ → List Symbol → ℕ
 most_signs n [] = n
 most_signs n (x ∷ ts) = if is_sign x then most_signs (suc n) ts else max n (most_signs 0 ts)

@@ -3,7 +3,7 @@ use Rattle.std.specs.Prelude.{ℕ, zero, suc, List, [], ◌∷◌, length, cond,
 use Rattle.wi_parser.specs.declared.expr.Operator.{Operator}
 use Rattle.wi_parser.specs.declared.expr.Reference.{Reference}
 use Rattle.wi_parser.specs.Tree.{Tree, number, cell, parenthesized, binary, what_if}
-use Rattle.wi_parser.specs.Symbol.{Symbol, numeral, reference, open_mark, close_mark, separator, infix_mark, what_if_name}
+use Rattle.wi_parser.specs.Symbol.{Symbol, numeral, reference, open_parenthesis, close_parenthesis, separator, infix_mark, what_if_name}
 use Rattle.wi_parser.specs.Grammar.{line_of, loosest}
 
 -- a tree found, and what follows it
@@ -19,11 +19,11 @@ read_then f r = option_and_then (λ p. f p.0 p.1) r
 
 -- what follows this mark, where it stands first
 abbrev pub after_open : List Symbol → Option (List Symbol)
-after_open (open_mark ∷ ts) = Some ts
+after_open (open_parenthesis ∷ ts) = Some ts
 after_open ts = None
 
 abbrev pub after_close : List Symbol → Option (List Symbol)
-after_close (close_mark ∷ ts) = Some ts
+after_close (close_parenthesis ∷ ts) = Some ts
 after_close ts = None
 
 abbrev pub after_separator : List Symbol → Option (List Symbol)
@@ -73,7 +73,7 @@ what_if_at ts = option_and_then (λ f. inputs_at f.0 f.1) (option_and_then refer
 unfoldable pub atom : Parse → Parse
 atom inner (numeral x ∷ ts) = Some (number x, ts)
 atom inner (reference r ∷ ts) = Some (cell r, ts)
-atom inner (open_mark ∷ ts) = read_then (λ t. then_close (parenthesized t)) (inner ts)
+atom inner (open_parenthesis ∷ ts) = read_then (λ t. then_close (parenthesized t)) (inner ts)
 atom inner (what_if_name ∷ ts) = what_if_at ts
 atom inner ts = None
 
@@ -93,7 +93,7 @@ unfolding atom chain
 line inner zero ts = atom inner ts
 line inner (suc k) ts = read_then (λ t rest. chain (line inner k) (suc k) (length rest) t rest) (line inner k ts)
 
--- an expression whose parentheses nest less deep than the number
+-- an expression in which fewer parenthesized trees than the number stand one inside another
 unfoldable pub expression : ℕ → Parse
 unfolding line
 expression zero ts = None

@@ -60,24 +60,9 @@ content_read text =
     if is_some (after_equals text) then as_content (parsed text)
     else constant_read text (after (codes "'") text)
 
--- ---- what the calls answer, where memory did not run out
+-- ---- what the calls answer
 
 -- what is answered is what is found, unless memory ran out
 abbrev pub ReadsAs : {A : Type 0} → Result A ParseFault → Result A ParseFault → Type 0
-ReadsAs found (Ok a) = found ≡ Ok a
-ReadsAs found (Err TooLong) = found ≡ Err TooLong
-ReadsAs found (Err OutOfSheet) = found ≡ Err OutOfSheet
-ReadsAs found (Err NumberRange) = found ≡ Err NumberRange
-ReadsAs found (Err TooDeep) = found ≡ Err TooDeep
-ReadsAs found (Err Syntax) = found ≡ Err Syntax
 ReadsAs found (Err Memory) = Unit {0}
-
--- the answer is this, unless memory ran out
-abbrev pub IsOrMemory : {A : Type 0} → A → Result A ParseFault → Type 0
-IsOrMemory a (Ok b) = b ≡ a
-IsOrMemory a (Err TooLong) = ⊥
-IsOrMemory a (Err OutOfSheet) = ⊥
-IsOrMemory a (Err NumberRange) = ⊥
-IsOrMemory a (Err TooDeep) = ⊥
-IsOrMemory a (Err Syntax) = ⊥
-IsOrMemory a (Err Memory) = Unit {0}
+ReadsAs found answer = found ≡ answer

@@ -5,7 +5,7 @@ use Rattle.wi_parser.specs.Tree.{Tree, number, cell, parenthesized, binary, what
 use Rattle.wi_parser.specs.declared.content.Content.{Content}
 use Rattle.wi_parser.specs.declared.content.Content.TheVariants.{Constant, Formula}
 
--- A tree reads this cell, whichever branch is taken. A what-if reads its formula cell and what replaces its inputs,
+-- A tree reads this cell, whichever branch is taken. A what-if reads its formula cell and its replacement cells,
 -- and only names its inputs.
 abbrev pub reads : Tree → ℕ → Bool
 reads (number x) a = false

@@ -4,12 +4,12 @@ use Rattle.std.specs.Ordering.{nat_cmp}
 use Rattle.std.specs.Map.{lookup, keys_of}
 use Rattle.std.specs.BTreeMap.{is_at, insert_entry}
 use Rattle.wi_values.specs.declared.value.Value.{Value}
-use Rattle.wi_values.specs.declared.value.Value.TheVariants.{Empty, Number, Text, Logical, Fault}
+use Rattle.wi_values.specs.declared.value.Value.TheVariants.{Empty}
 use Rattle.wi_values.specs.declared.replacement.Replacement.{Replacement}
 use Rattle.wi_parser.specs.declared.content.Content.{Content}
 use Rattle.wi_parser.specs.declared.content.Content.TheVariants.{Constant, Formula}
 
--- the cells that have a content, in row-major order
+-- The cells that have a content, in row-major order. A content is never the constant Empty.
 abbrev pub Sheet : Type 0
 Sheet = List (ℕ × Content)
 
@@ -20,10 +20,7 @@ content_of s c = lookup (is_at (nat_cmp c)) s
 -- a constant as a content: Empty is none
 abbrev pub constant : Value → Option Content
 constant Empty = None
-constant (Number x) = Some (Constant (Number x))
-constant (Text t) = Some (Constant (Text t))
-constant (Logical b) = Some (Constant (Logical b))
-constant (Fault e) = Some (Constant (Fault e))
+constant v = Some (Constant v)
 
 -- the sheet without a cell's content
 abbrev pub without : Sheet → ℕ → Sheet
@@ -49,5 +46,5 @@ has_formula (Some (Constant v)) = false
 has_formula (Some (Formula t)) = true
 
 -- the cells that have a formula
-abbrev pub formula_cells : Sheet → List ℕ
-formula_cells s = filter (λ c. has_formula (content_of s c)) (keys_of s)
+abbrev pub cells_with_formula : Sheet → List ℕ
+cells_with_formula s = filter (λ c. has_formula (content_of s c)) (keys_of s)

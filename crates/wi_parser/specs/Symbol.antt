@@ -10,8 +10,8 @@ use Rattle.wi_parser.specs.declared.fault.ParseFault.TheVariants.{OutOfSheet, Nu
 pub data Symbol : Type 0 where
   numeral : Number → Symbol
   reference : Reference → Symbol
-  open_mark : Symbol
-  close_mark : Symbol
+  open_parenthesis : Symbol
+  close_parenthesis : Symbol
   separator : Symbol
   infix_mark : Operator → Symbol
   -- the name MULTIPLE.OPERATIONS

@@ -6,7 +6,7 @@ use Rattle.wi_parser.specs.declared.expr.Expr.TheOpen.{Expr-F}
 use Rattle.wi_parser.specs.declared.expr.Pair.{Pair}
 use Rattle.wi_parser.specs.declared.expr.Reference.{Reference}
 
--- an input and the cell whose value replaces it
+-- an input and its replacement cell
 abbrev pub pair_of : Pair → Reference × Reference
 pair_of p = (p.input, p.by)
 

@@ -2,13 +2,13 @@
 use Rattle.std.specs.Prelude.{List, map}
 use Rattle.wi_parser.specs.declared.word.Word.{Word}
 use Rattle.wi_parser.specs.declared.word.Word.TheVariants.{Number, Cell, Open, Close, Separator, Infix, WhatIf, Refused}
-use Rattle.wi_parser.specs.Symbol.{Symbol, numeral, reference, open_mark, close_mark, separator, infix_mark, what_if_name, refused}
+use Rattle.wi_parser.specs.Symbol.{Symbol, numeral, reference, open_parenthesis, close_parenthesis, separator, infix_mark, what_if_name, refused}
 
 abbrev pub meant_by : Word → Symbol
 meant_by (Number x) = numeral x
 meant_by (Cell r) = reference r
-meant_by Open = open_mark
-meant_by Close = close_mark
+meant_by Open = open_parenthesis
+meant_by Close = close_parenthesis
 meant_by Separator = separator
 meant_by (Infix op) = infix_mark op
 meant_by WhatIf = what_if_name

@@ -19,7 +19,8 @@ pub struct Formula {
 }
 
 impl Model for Formula {
-    ghost use Rattle.wi_parser.specs.Tree.{Tree, tree_code};
+    ghost use Rattle.wi_parser.specs.Tree.{Tree};
+    ghost use Rattle.wi_parser.specs.TreeCode.{tree_code};
 
     ghost Value = { Tree };
 

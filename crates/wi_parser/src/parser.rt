@@ -1,13 +1,13 @@
 //! From a text to a formula.
 
-ghost use Rattle.std.specs.Prelude.{◌≡◌, ◌+◌, IfOk};
+ghost use Rattle.std.specs.Prelude.{◌≡◌, ◌+◌, Ok, IfOk};
 ghost use Rattle.wi_parser.specs.Words.{all_meant};
 ghost use Rattle.wi_parser.specs.Nesting.{max_depth};
 ghost use Rattle.wi_parser.specs.Grammar.{Spells, loosest};
 ghost use Rattle.wi_parser.specs.Reader as reader;
 ghost use Rattle.wi_parser.specs.Outcome.{FindsWhole};
 ghost use Rattle.wi_parser.specs.FormulaText.{formula_symbols};
-ghost use Rattle.wi_parser.specs.Reading.{ReadsAs, IsOrMemory, IsWithinLimits, parsed};
+ghost use Rattle.wi_parser.specs.Reading.{ReadsAs, IsWithinLimits, parsed};
 ghost use Rattle.wi_parser.specs.Tree.{Tree};
 
 use crate::expr::Expr;
@@ -32,7 +32,7 @@ pub fn parse(alloc: Global, text: &str) -> Result<Formula, ParseFault>
     // what is answered is spelled by the text
     ensures found { IfOk result (λ t. Spells loosest t (formula_symbols text.now)) }
     // what the text spells within the limits is answered
-    ensures only { (t : Tree) → Spells loosest t (formula_symbols text.now) → IsWithinLimits text.now → IsOrMemory t result }
+    ensures only { (t : Tree) → Spells loosest t (formula_symbols text.now) → IsWithinLimits text.now → ReadsAs (Ok t) result }
 {
     if text.len() > MAX_FORMULA {
         return Err(ParseFault::TooLong);

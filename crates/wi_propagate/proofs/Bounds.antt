@@ -9,7 +9,7 @@ use Rattle.wi_values.specs.declared.value.ErrorKind.TheVariants.{Circular}
 use Rattle.wi_parser.specs.declared.content.Content.{Content}
 use Rattle.wi_parser.specs.declared.content.Content.TheVariants.{Constant, Formula}
 use Rattle.wi_values.specs.declared.replacement.Replacement.{Replacement}
-use Rattle.wi_parser.specs.Sheet.{Sheet, constant, content_of, put_all, has_formula, formula_cells}
+use Rattle.wi_parser.specs.Sheet.{Sheet, constant, content_of, put_all, has_formula, cells_with_formula}
 use Rattle.wi_parser.specs.Reads.{reads, content_reads}
 use Rattle.wi_propagate.specs.Circular.{has_walk, circular}
 use Rattle.wi_functions.specs.Meaning.{meaning, zero_for_empty}
@@ -67,7 +67,7 @@ filter_fewer p q k (x ∷ xs) = at (p x) (q x) refl refl (filter_fewer p q k xs)
     at false false e f ih = ih
 
 -- replacements make no more formulas
-pub put_formulas : (s : Sheet) (p : List Replacement) → length (formula_cells (put_all s p)) ≤ length (formula_cells s)
+pub put_formulas : (s : Sheet) (p : List Replacement) → length (cells_with_formula (put_all s p)) ≤ length (cells_with_formula s)
 put_formulas s p =
     let e = ap (λ (xs : List ℕ). length xs) (formula_cells_put_all s p) in
     let l = filter_fewer (λ c. has_formula (content_of (put_all s p) c)) (λ c. has_formula (content_of s c)) (put_formula s p) (keys_of s) in
@@ -129,10 +129,10 @@ bound_same (suc n) (suc j) (suc k) s c h a b =
     (replacements_same ps (value_within j s) (value_within k s) (λ d m. bound_same n j k s d (read_walk n s c d h (tree_reads s c t d e (i.1 d m))) (omega arith) (omega arith)))))))
 
 -- every bound from the number of formulas on gives a cell its value
-pub bound_not_felt : (k : ℕ) (s : Sheet) (c : ℕ) → length (formula_cells s) ≤ k → value_within k s c ≡ cell_value s c
+pub bound_not_felt : (k : ℕ) (s : Sheet) (c : ℕ) → length (cells_with_formula s) ≤ k → value_within k s c ≡ cell_value s c
 unfolding cell_value circular
 bound_not_felt k s c l = at (circular s c) refl
   where
-    at : (b : Bool) → circular s c ≡ b → value_within k s c ≡ value_within (length (formula_cells s)) s c
-    at true e = circular_value k s c e ∙ sym (circular_value (length (formula_cells s)) s c e)
-    at false e = bound_same (length (formula_cells s)) k (length (formula_cells s)) s c e l (omega arith)
+    at : (b : Bool) → circular s c ≡ b → value_within k s c ≡ value_within (length (cells_with_formula s)) s c
+    at true e = circular_value k s c e ∙ sym (circular_value (length (cells_with_formula s)) s c e)
+    at false e = bound_same (length (cells_with_formula s)) k (length (cells_with_formula s)) s c e l (omega arith)

@@ -13,7 +13,7 @@ use Rattle.wi_parser.specs.declared.content.Content.{Content}
 use Rattle.wi_parser.specs.declared.content.Content.TheVariants.{Formula}
 use Rattle.wi_parser.specs.Tree.{Tree, number, cell, parenthesized, binary, what_if}
 use Rattle.wi_parser.specs.View.{pair_of}
-use Rattle.wi_parser.specs.Sheet.{Sheet, content_of, put_all, has_formula, formula_cells}
+use Rattle.wi_parser.specs.Sheet.{Sheet, content_of, put_all, has_formula, cells_with_formula}
 use Rattle.wi_parser.specs.Reads.{reads, content_reads}
 use Rattle.wi_functions.specs.Wants.{Asks, WantsCell, WantsWhatIf}
 use Rattle.wi_functions.specs.declared.evaluation.Want.{Want}
@@ -43,13 +43,13 @@ keys_length [] = refl
 keys_length (e ∷ es) = ap (λ (n : ℕ). suc n) (keys_length es)
 
 -- a sheet has no more formulas than contents
-pub formulas_within : (s : Sheet) → length (formula_cells s) ≤ length s
+pub formulas_within : (s : Sheet) → length (cells_with_formula s) ≤ length s
 formulas_within s = let a = formulas_fit (keys_of s) (λ c. has_formula (content_of s c)) in let b = keys_length s in omega arith
 
 -- as many steps as the sheet has contents lead on from circular cells alone
 pub walk_circular : (n : ℕ) (s : Sheet) (c : ℕ) → n ≡ length s → has_walk n s c ≡ true → circular s c ≡ true
 unfolding circular
-walk_circular n s c e h = fewer n (length (formula_cells s)) s c (let f = formulas_within s in omega arith) h
+walk_circular n s c e h = fewer n (length (cells_with_formula s)) s c (let f = formulas_within s in omega arith) h
 
 pub open_ends : (n : ℕ) (s : Sheet) (c : ℕ) → n ≡ length s → circular s c ≡ false → has_walk n s c ≡ false
 open_ends n s c e h = false_from_ne_true (has_walk n s c) (λ w. let z = walk_circular n s c e w in cc)
@@ -67,7 +67,7 @@ reads_end n m s p c t k h e = λ d r.
 
 -- ---- what an evaluation asks is read
 
--- a fact of each cell that replaces an input is one of each pair
+-- a fact of each replacement cell is one of each pair
 replacing_end : (n : ℕ) (s : Sheet) (pairs : List Pair) → ((a : ℕ) → list_any (λ (p : Reference × Reference). p.1.at == a) (map pair_of pairs) ≡ true → has_walk n s a ≡ false) → ReplacingEnd n s pairs
 replacing_end n s [] h = All-nil (λ (p : Pair). has_walk n s p.by.at ≡ false)
 replacing_end n s (p ∷ ps) h =

@@ -1,7 +1,7 @@
 -- What a search for cycles rests on.
 use Rattle.std.proofs.Common.{◌≡◌, ℕ, zero, suc, Bool, true, false, List, length, refl, ap, ◌∙◌}
 use Rattle.std.proofs.lemmas.Bool.{false_from_ne_true}
-use Rattle.wi_parser.specs.Sheet.{Sheet, content_of, formula_cells}
+use Rattle.wi_parser.specs.Sheet.{Sheet, content_of, cells_with_formula}
 use Rattle.wi_parser.specs.Reads.{content_reads}
 use Rattle.wi_propagate.specs.Circular.{has_walk, circular}
 use Rattle.wi_propagate.proofs.Walks.{step, first_step, circular_walks, walks_circular, reader_formula}
@@ -20,6 +20,6 @@ left_circular s P k c h = walks_circular s c (λ n. all n c h)
 pub stripped : (s : Sheet) (c : ℕ) → ((d : ℕ) → content_reads (content_of s c) d ≡ true → circular s d ≡ false) → circular s c ≡ false
 unfolding circular
 stripped s c k = false_from_ne_true (circular s c) (λ h.
-    let f = first_step (length (formula_cells s)) s c (circular_walks s c h (suc (length (formula_cells s)))) in
+    let f = first_step (length (cells_with_formula s)) s c (circular_walks s c h (suc (length (cells_with_formula s)))) in
     let z = k f.0 f.1 in
     cc)

@@ -3,7 +3,7 @@ use Rattle.std.proofs.Common.{◌≡◌, ◌==◌, ℕ, ◌++◌, ◌&&◌, Bool
 use Rattle.std.proofs.lemmas.Bool.{and_parts}
 use Rattle.std.proofs.lemmas.Bool.Decides.{nat_tests}
 use Rattle.wi_values.specs.declared.value.Value.{Value}
-use Rattle.wi_functions.specs.Answers.{Assignment, IsKnownOf}
+use Rattle.wi_functions.specs.Assignment.{Assignment, AgreesWith}
 use Rattle.wi_propagate.specs.Found.{same_pairs, pairs_of, find_cell, find_what_if, AreRight, AreRightWhatIfs}
 use Rattle.wi_propagate.specs.declared.found.FoundCell.{FoundCell}
 use Rattle.wi_propagate.specs.declared.found.FoundWhatIf.{FoundWhatIf}
@@ -43,7 +43,7 @@ find_right_what_if what_ifs (f ∷ fs) r q ps = at (f.at == q && same_pairs (pai
     at false h ih = ih
 
 -- what is found is known of the values of which each found one is one
-pub known_of : (a : Assignment) (fs : List FoundCell) (ws : List FoundWhatIf) → AreRight a.cells fs → AreRightWhatIfs a.what_ifs ws → IsKnownOf (find_cell fs) (find_what_if ws) a
+pub known_of : (a : Assignment) (fs : List FoundCell) (ws : List FoundWhatIf) → AreRight a.cells fs → AreRightWhatIfs a.what_ifs ws → AgreesWith (find_cell fs) (find_what_if ws) a
 known_of a fs ws r w = record { cells = find_right a.cells fs r; what_ifs = find_right_what_if a.what_ifs ws w }
 
 pub AreRight-push : (cells : ℕ → Value) (fs : List FoundCell) (f : FoundCell) → AreRight cells fs → f.value ≡ cells f.at → AreRight cells (fs ++ f ∷ [])

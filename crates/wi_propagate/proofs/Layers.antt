@@ -8,7 +8,7 @@ use Rattle.std.specs.Map.{keys_of}
 use Rattle.std.specs.BTreeMap.{is_at}
 use Rattle.wi_parser.specs.declared.content.Content.{Content}
 use Rattle.wi_parser.specs.declared.content.Content.TheVariants.{Constant, Formula}
-use Rattle.wi_parser.specs.Sheet.{Sheet, content_of, has_formula, formula_cells}
+use Rattle.wi_parser.specs.Sheet.{Sheet, content_of, has_formula, cells_with_formula}
 use Rattle.wi_parser.specs.Reads.{content_reads}
 use Rattle.wi_propagate.specs.Circular.{has_walk, circular}
 use Rattle.wi_propagate.proofs.Puts.{is_at-eq, filter_same}
@@ -36,11 +36,11 @@ is_one_of xs a = list_any (λ x. x == a) xs
 
 -- the cells with a formula from which n steps lead
 abbrev pub layer : ℕ → Sheet → List ℕ
-layer n s = filter (has_walk n s) (formula_cells s)
+layer n s = filter (has_walk n s) (cells_with_formula s)
 
 -- one step more leads from a cell that reads one of them
 pub has_walk_more : (n : ℕ) (s : Sheet) (c : ℕ) → has_walk (suc n) s c ≡ list_any (content_reads (content_of s c)) (layer n s)
-has_walk_more n s c = list_any-both (content_reads (content_of s c)) (has_walk n s) (formula_cells s)
+has_walk_more n s c = list_any-both (content_reads (content_of s c)) (has_walk n s) (cells_with_formula s)
 
 filter_twice : (p : ℕ → Bool) (xs : List ℕ) → filter p (filter p xs) ≡ filter p xs
 filter_twice p [] = refl
@@ -51,14 +51,14 @@ filter_twice p (x ∷ xs) = at (p x) refl (filter_twice p xs)
     at false h ih = ih
 
 -- no step leads from each cell with a formula
-pub layer_zero : (s : Sheet) → layer 0 s ≡ formula_cells s
+pub layer_zero : (s : Sheet) → layer 0 s ≡ cells_with_formula s
 layer_zero s = filter_twice (λ c. has_formula (content_of s c)) (keys_of s)
 
 -- the next layer: what reads one of this
-pub layer_more : (n : ℕ) (s : Sheet) → layer (n + 1) s ≡ filter (λ c. list_any (content_reads (content_of s c)) (layer n s)) (formula_cells s)
+pub layer_more : (n : ℕ) (s : Sheet) → layer (n + 1) s ≡ filter (λ c. list_any (content_reads (content_of s c)) (layer n s)) (cells_with_formula s)
 layer_more n s =
     let e : n + 1 ≡ suc n = omega arith in
-    ap (λ (m : ℕ). layer m s) e ∙ filter_same (has_walk (suc n) s) (λ c. list_any (content_reads (content_of s c)) (layer n s)) (has_walk_more n s) (formula_cells s)
+    ap (λ (m : ℕ). layer m s) e ∙ filter_same (has_walk (suc n) s) (λ c. list_any (content_reads (content_of s c)) (layer n s)) (has_walk_more n s) (cells_with_formula s)
 
 none_reads : (w : ℕ → Bool) (xs : List ℕ) → list_any (λ d. false && w d) xs ≡ false
 none_reads w [] = refl
@@ -71,7 +71,7 @@ reader_has_formula (Some (Formula t)) w xs h = refl
 
 pub walker_has_formula : (n : ℕ) (s : Sheet) (c : ℕ) → has_walk n s c ≡ true → has_formula (content_of s c) ≡ true
 walker_has_formula zero s c h = h
-walker_has_formula (suc n) s c h = reader_has_formula (content_of s c) (has_walk n s) (formula_cells s) h
+walker_has_formula (suc n) s c h = reader_has_formula (content_of s c) (has_walk n s) (cells_with_formula s) h
 
 is_key : (s : Sheet) (a : ℕ) → has_formula (content_of s a) ≡ true → list_any (λ k. k == a) (keys_of s) ≡ true
 is_key [] a h = h
@@ -98,11 +98,11 @@ implied false c h = refl
 
 -- a cell is in a layer exactly where so many steps lead from it
 pub in_layer : (n : ℕ) (s : Sheet) (a : ℕ) → list_any (λ x. x == a) (layer n s) ≡ has_walk n s a
-in_layer n s a = among (has_walk n s) (formula_cells s) a ∙ implied (has_walk n s a) _ (λ h.
+in_layer n s a = among (has_walk n s) (cells_with_formula s) a ∙ implied (has_walk n s a) _ (λ h.
     let f = walker_has_formula n s a h in
     among (λ c. has_formula (content_of s c)) (keys_of s) a ∙ ap (λ (b : Bool). b && list_any (λ k. k == a) (keys_of s)) f ∙ is_key s a f)
 
 -- what a plain search for a cycle answers
-pub circular_layer : (s : Sheet) (a : ℕ) → list_any (λ x. x == a) (layer (length (formula_cells s)) s) ≡ circular s a
+pub circular_layer : (s : Sheet) (a : ℕ) → list_any (λ x. x == a) (layer (length (cells_with_formula s)) s) ≡ circular s a
 unfolding circular
-circular_layer s a = in_layer (length (formula_cells s)) s a
+circular_layer s a = in_layer (length (cells_with_formula s)) s a

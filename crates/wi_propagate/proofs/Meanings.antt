@@ -36,7 +36,7 @@ meaning_same (what_if f ps) g h w v k l =
 abbrev with : ℕ → Value → List Replacement → List Replacement
 with a v rs = (record { at = a; value = v }) ∷ rs
 
--- values that agree on the replacing cells give the same replacements
+-- values that agree on the replacement cells give the same replacements
 pub replacements_same : (ps : List (ℕ × ℕ)) (g h : ℕ → Value) → ((a : ℕ) → list_any (λ p. p.1 == a) ps ≡ true → g a ≡ h a) → replacements g ps ≡ replacements h ps
 replacements_same [] g h k = refl
 replacements_same (p ∷ ps) g h k =

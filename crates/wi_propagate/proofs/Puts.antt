@@ -11,7 +11,7 @@ use Rattle.wi_values.specs.declared.value.Value.TheVariants.{Empty, Number, Text
 use Rattle.wi_parser.specs.declared.content.Content.{Content}
 use Rattle.wi_parser.specs.declared.content.Content.TheVariants.{Constant}
 use Rattle.wi_values.specs.declared.replacement.Replacement.{Replacement}
-use Rattle.wi_parser.specs.Sheet.{Sheet, constant, content_of, without, with_content, put, put_all, has_formula, formula_cells}
+use Rattle.wi_parser.specs.Sheet.{Sheet, constant, content_of, without, with_content, put, put_all, has_formula, cells_with_formula}
 
 -- a content under replacements, of which the last for a cell stands
 abbrev pub overlaid : List Replacement → ℕ → Option Content → Option Content
@@ -157,7 +157,7 @@ filter_same P Q h [] = refl
 filter_same P Q h (x ∷ xs) = ap (λ (b : Bool). cond b (x ∷ filter P xs) (filter P xs)) (h x) ∙ ap (λ (ks : List ℕ). cond (Q x) (x ∷ ks) ks) (filter_same P Q h xs)
 
 -- the formulas under replacements are those of the sheet's cells that still have one
-pub formula_cells_put_all : (s : Sheet) (p : List Replacement) → formula_cells (put_all s p) ≡ filter (λ c. has_formula (content_of (put_all s p) c)) (keys_of s)
+pub formula_cells_put_all : (s : Sheet) (p : List Replacement) → cells_with_formula (put_all s p) ≡ filter (λ c. has_formula (content_of (put_all s p) c)) (keys_of s)
 formula_cells_put_all s p =
     let P : ℕ → Bool = λ c. has_formula (content_of (put_all s p) c) in
     let Q : ℕ → Bool = λ c. has_formula (overlaid p c (content_of s c)) in

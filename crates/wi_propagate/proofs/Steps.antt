@@ -7,7 +7,7 @@ use Rattle.wi_values.specs.declared.value.Value.TheVariants.{Empty, Fault}
 use Rattle.wi_values.specs.declared.value.ErrorKind.TheVariants.{Circular}
 use Rattle.wi_parser.specs.declared.content.Content.TheVariants.{Formula}
 use Rattle.wi_values.specs.declared.replacement.Replacement.{Replacement}
-use Rattle.wi_parser.specs.Sheet.{Sheet, content_of, put_all, has_formula, formula_cells}
+use Rattle.wi_parser.specs.Sheet.{Sheet, content_of, put_all, has_formula, cells_with_formula}
 use Rattle.wi_parser.specs.Reads.{content_reads}
 use Rattle.wi_propagate.specs.Circular.{has_walk, circular}
 use Rattle.wi_functions.specs.Meaning.{meaning, zero_for_empty}
@@ -35,18 +35,18 @@ reads_circular s c d r h = walks_circular s c all
 pub reads_not_circular : (s : Sheet) (c d : ℕ) → content_reads (content_of s c) d ≡ true → circular s c ≡ false → circular s d ≡ false
 reads_not_circular s c d r h = false_from_ne_true (circular s d) (λ w. let z = reads_circular s c d r w in cc)
 
-pub some_formula : (s : Sheet) (c : ℕ) (n : ℕ) → length (formula_cells s) ≡ n → has_formula (content_of s c) ≡ true → 0 < n
-some_formula s c n e h = at (formula_cells s) e (formula_cell s c h)
+pub some_formula : (s : Sheet) (c : ℕ) (n : ℕ) → length (cells_with_formula s) ≡ n → has_formula (content_of s c) ≡ true → 0 < n
+some_formula s c n e h = at (cells_with_formula s) e (formula_cell s c h)
   where
     at : (xs : List ℕ) → length xs ≡ n → list_any (λ x. x == c) xs ≡ true → 0 < n
     at [] l m = cc
     at (x ∷ xs) l m = omega arith
 
 -- a cell that a formula reads, by a bound that is one less
-near : (n : ℕ) (s : Sheet) (d : ℕ) → length (formula_cells s) ≡ suc n → has_walk n s d ≡ false → value_within n s d ≡ cell_value s d
-near n s d l w = bound_same n n (length (formula_cells s)) s d w (omega arith) (omega arith) ∙ bound_not_felt (length (formula_cells s)) s d (omega arith)
+near : (n : ℕ) (s : Sheet) (d : ℕ) → length (cells_with_formula s) ≡ suc n → has_walk n s d ≡ false → value_within n s d ≡ cell_value s d
+near n s d l w = bound_same n n (length (cells_with_formula s)) s d w (omega arith) (omega arith) ∙ bound_not_felt (length (cells_with_formula s)) s d (omega arith)
 
-nested : (n : ℕ) (s : Sheet) (rs : List Replacement) (f : ℕ) → length (formula_cells s) ≡ suc n → has_walk n s f ≡ false → value_within n (put_all s rs) f ≡ cell_value (put_all s rs) f
+nested : (n : ℕ) (s : Sheet) (rs : List Replacement) (f : ℕ) → length (cells_with_formula s) ≡ suc n → has_walk n s f ≡ false → value_within n (put_all s rs) f ≡ cell_value (put_all s rs) f
 nested n s rs f l w =
     bound_same n n (suc n) (put_all s rs) f (put_no_walk n s rs f w) (omega arith) (omega arith)
     ∙ bound_not_felt (suc n) (put_all s rs) f (let x = put_formulas s rs in omega arith)
@@ -55,7 +55,7 @@ by_formula : (n : ℕ) (s : Sheet) (c : ℕ) (t : Tree) → circular s c ≡ fal
 unfolding value_within
 by_formula n s c t h e = rw h (rw e refl)
 
-by_steps : (n : ℕ) (s : Sheet) (c : ℕ) (t : Tree) → length (formula_cells s) ≡ suc n → has_walk (suc n) s c ≡ false → content_of s c ≡ Some (Formula t) →
+by_steps : (n : ℕ) (s : Sheet) (c : ℕ) (t : Tree) → length (cells_with_formula s) ≡ suc n → has_walk (suc n) s c ≡ false → content_of s c ≡ Some (Formula t) →
     formula_within n s t ≡ zero_for_empty (meaning t (cell_value s) (what_if_value s))
 by_steps n s c t l w e =
     ap zero_for_empty (meaning_same t (value_within n s) (cell_value s) (what_if_within n s) (what_if_value s)
@@ -65,26 +65,26 @@ by_steps n s c t l w e =
     ∙ ap (λ (rs : List Replacement). cell_value (put_all s rs) f)
     (replacements_same ps (value_within n s) (cell_value s) (λ d m. near n s d l (read_walk n s c d w (tree_reads s c t d e (i.1 d m)))))))
 
-pub no_walk : (n : ℕ) (s : Sheet) (c : ℕ) → length (formula_cells s) ≡ n → circular s c ≡ false → has_walk n s c ≡ false
+pub no_walk : (n : ℕ) (s : Sheet) (c : ℕ) → length (cells_with_formula s) ≡ n → circular s c ≡ false → has_walk n s c ≡ false
 unfolding circular
 no_walk n s c l h = subst (λ (m : ℕ). has_walk m s c ≡ false) l h
 
 -- a formula's value: the meaning of its tree, each cell that it reads standing for its value
 pub value_step : (s : Sheet) (c : ℕ) (t : Tree) → circular s c ≡ false → content_of s c ≡ Some (Formula t) → cell_value s c ≡ zero_for_empty (meaning t (cell_value s) (what_if_value s))
-value_step s c t h e = at (length (formula_cells s)) refl (some_formula s c (length (formula_cells s)) refl (ap has_formula e))
+value_step s c t h e = at (length (cells_with_formula s)) refl (some_formula s c (length (cells_with_formula s)) refl (ap has_formula e))
   where
-    at : (n : ℕ) → length (formula_cells s) ≡ n → 0 < n → cell_value s c ≡ zero_for_empty (meaning t (cell_value s) (what_if_value s))
+    at : (n : ℕ) → length (cells_with_formula s) ≡ n → 0 < n → cell_value s c ≡ zero_for_empty (meaning t (cell_value s) (what_if_value s))
     at zero l z = absurd (omega arith)
     at (suc n) l z = sym (bound_not_felt (suc n) s c (omega arith)) ∙ by_formula n s c t h e ∙ by_steps n s c t l (no_walk (suc n) s c l h) e
 
 -- a cell without a formula shows what stands there
 pub value_plain : (s : Sheet) (c : ℕ) → circular s c ≡ false → has_formula (content_of s c) ≡ false → cell_value s c ≡ value_of (content_of s c) (λ t. Empty)
 unfolding cell_value
-value_plain s c h p = plain_value (length (formula_cells s)) s c p ∙ ap (λ (b : Bool). cond b (Fault Circular) (value_of (content_of s c) (λ t. Empty))) h
+value_plain s c h p = plain_value (length (cells_with_formula s)) s c p ∙ ap (λ (b : Bool). cond b (Fault Circular) (value_of (content_of s c) (λ t. Empty))) h
 
 pub value_circular : (s : Sheet) (c : ℕ) → circular s c ≡ true → cell_value s c ≡ Fault Circular
 unfolding cell_value
-value_circular s c h = circular_value (length (formula_cells s)) s c h
+value_circular s c h = circular_value (length (cells_with_formula s)) s c h
 
 pub shown_open : (s : Sheet) (p : List Replacement) (c : ℕ) → circular s c ≡ false → shown s p c ≡ cell_value (put_all s p) c
 unfolding shown

@@ -5,7 +5,7 @@ use Rattle.std.proofs.lemmas.Bool.Decides.{nat_tests}
 use Rattle.std.specs.List.{list_any}
 use Rattle.wi_parser.specs.declared.content.Content.{Content}
 use Rattle.wi_parser.specs.declared.content.Content.TheVariants.{Constant, Formula}
-use Rattle.wi_parser.specs.Sheet.{Sheet, content_of, has_formula, formula_cells}
+use Rattle.wi_parser.specs.Sheet.{Sheet, content_of, has_formula, cells_with_formula}
 use Rattle.wi_parser.specs.Reads.{content_reads}
 use Rattle.wi_propagate.specs.Circular.{has_walk, circular}
 use Rattle.wi_propagate.proofs.Layers.{is_one_of, layer, layer_zero, in_layer, walker_has_formula}
@@ -41,16 +41,16 @@ finds p (x ∷ xs) h = at (p x) refl h (finds p xs)
     at false e h ih = ih h
 
 -- a cell with a formula is among those that have one
-pub formula_cell : (s : Sheet) (a : ℕ) → has_formula (content_of s a) ≡ true → is_one_of (formula_cells s) a ≡ true
+pub formula_cell : (s : Sheet) (a : ℕ) → has_formula (content_of s a) ≡ true → is_one_of (cells_with_formula s) a ≡ true
 formula_cell s a h = ap (λ (xs : List ℕ). is_one_of xs a) (sym (layer_zero s)) ∙ in_layer 0 s a ∙ h
 
 pub step : (n : ℕ) (s : Sheet) (c d : ℕ) → content_reads (content_of s c) d ≡ true → has_walk n s d ≡ true → has_walk (suc n) s c ≡ true
 step n s c d r h =
-    found (λ e. content_reads (content_of s c) e && has_walk n s e) (formula_cells s) d (formula_cell s d (walker_has_formula n s d h)) (and_from _ _ r h)
+    found (λ e. content_reads (content_of s c) e && has_walk n s e) (cells_with_formula s) d (formula_cell s d (walker_has_formula n s d h)) (and_from _ _ r h)
 
 pub first_step : (n : ℕ) (s : Sheet) (c : ℕ) → has_walk (suc n) s c ≡ true → (d : ℕ) × (content_reads (content_of s c) d ≡ true) × (has_walk n s d ≡ true)
 first_step n s c h =
-    let f = finds (λ e. content_reads (content_of s c) e && has_walk n s e) (formula_cells s) h in
+    let f = finds (λ e. content_reads (content_of s c) e && has_walk n s e) (cells_with_formula s) h in
     let x = and_parts (content_reads (content_of s c) f.0) (has_walk n s f.0) f.1 in
     (f.0, x.0, x.1)
 
@@ -134,46 +134,46 @@ shrinks p q le (x ∷ xs) = at (p x) (q x) refl refl (shrinks p q le xs)
         there a h (inr y) = k.1 a y h
 
 -- n steps lead on, or fewer cells than formulas by n have them
-thins : (n : ℕ) (s : Sheet) → Leads n s ⊎ (length (layer n s) + n ≤ length (formula_cells s))
+thins : (n : ℕ) (s : Sheet) → Leads n s ⊎ (length (layer n s) + n ≤ length (cells_with_formula s))
 thins zero s = inr (let e = ap (λ (xs : List ℕ). length xs) (layer_zero s) in omega arith)
 thins (suc n) s = at (thins n s)
   where
-    at_less : length (layer n s) + n ≤ length (formula_cells s) → (length (layer (suc n) s) < length (layer n s)) ⊎ Same (has_walk n s) (has_walk (suc n) s) (formula_cells s) →
-        Leads (suc n) s ⊎ (length (layer (suc n) s) + suc n ≤ length (formula_cells s))
+    at_less : length (layer n s) + n ≤ length (cells_with_formula s) → (length (layer (suc n) s) < length (layer n s)) ⊎ Same (has_walk n s) (has_walk (suc n) s) (cells_with_formula s) →
+        Leads (suc n) s ⊎ (length (layer (suc n) s) + suc n ≤ length (cells_with_formula s))
     at_less l (inl k) = inr (omega arith)
     at_less l (inr k) = inl (leads_on n s (λ c h. k.1 c (formula_cell s c (walker_has_formula n s c h)) h))
 
-    at : Leads n s ⊎ (length (layer n s) + n ≤ length (formula_cells s)) → Leads (suc n) s ⊎ (length (layer (suc n) s) + suc n ≤ length (formula_cells s))
+    at : Leads n s ⊎ (length (layer n s) + n ≤ length (cells_with_formula s)) → Leads (suc n) s ⊎ (length (layer (suc n) s) + suc n ≤ length (cells_with_formula s))
     at (inl l) = inl (leads_on n s l)
-    at (inr l) = at_less l (shrinks (has_walk n s) (has_walk (suc n) s) (λ c h. one_less n s c h) (formula_cells s))
+    at (inr l) = at_less l (shrinks (has_walk n s) (has_walk (suc n) s) (λ c h. one_less n s c h) (cells_with_formula s))
 
 no_length : (xs : List ℕ) → length xs ≡ 0 → xs ≡ []
 no_length [] h = refl
 no_length (x ∷ xs) h = absurd (omega arith)
 
 -- the pigeonhole: as many steps as there are formulas lead on by one more
-pub all_lead : (s : Sheet) → Leads (length (formula_cells s)) s
-all_lead s = at (thins (length (formula_cells s)) s)
+pub all_lead : (s : Sheet) → Leads (length (cells_with_formula s)) s
+all_lead s = at (thins (length (cells_with_formula s)) s)
   where
-    at : Leads (length (formula_cells s)) s ⊎ (length (layer (length (formula_cells s)) s) + length (formula_cells s) ≤ length (formula_cells s)) → Leads (length (formula_cells s)) s
+    at : Leads (length (cells_with_formula s)) s ⊎ (length (layer (length (cells_with_formula s)) s) + length (cells_with_formula s) ≤ length (cells_with_formula s)) → Leads (length (cells_with_formula s)) s
     at (inl l) = l
     at (inr l) = λ c h.
-        let z : length (layer (length (formula_cells s)) s) ≡ 0 = omega arith in
-        let e = no_length (layer (length (formula_cells s)) s) z in
-        let m = in_layer (length (formula_cells s)) s c in
+        let z : length (layer (length (cells_with_formula s)) s) ≡ 0 = omega arith in
+        let e = no_length (layer (length (cells_with_formula s)) s) z in
+        let m = in_layer (length (cells_with_formula s)) s c in
         let i = ap (λ (xs : List ℕ). is_one_of xs c) e in
         cc
 
 -- from a circular cell lead walks of every length
 pub circular_walks : (s : Sheet) (c : ℕ) → circular s c ≡ true → (n : ℕ) → has_walk n s c ≡ true
 unfolding circular
-circular_walks s c h n = at (cases_lt n (length (formula_cells s)))
+circular_walks s c h n = at (cases_lt n (length (cells_with_formula s)))
   where
-    at : (n < length (formula_cells s)) ⊎ (length (formula_cells s) ≤ n) → has_walk n s c ≡ true
-    at (inl l) = fewer (length (formula_cells s)) n s c (omega arith) h
-    at (inr l) = (further n (length (formula_cells s)) s l (all_lead s) c h).0
+    at : (n < length (cells_with_formula s)) ⊎ (length (cells_with_formula s) ≤ n) → has_walk n s c ≡ true
+    at (inl l) = fewer (length (cells_with_formula s)) n s c (omega arith) h
+    at (inr l) = (further n (length (cells_with_formula s)) s l (all_lead s) c h).0
 
 -- and from no other
 pub walks_circular : (s : Sheet) (c : ℕ) → ((n : ℕ) → has_walk n s c ≡ true) → circular s c ≡ true
 unfolding circular
-walks_circular s c h = h (length (formula_cells s))
+walks_circular s c h = h (length (cells_with_formula s))

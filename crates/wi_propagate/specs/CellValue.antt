@@ -7,7 +7,7 @@ use Rattle.wi_values.specs.declared.replacement.Replacement.{Replacement}
 use Rattle.wi_parser.specs.Tree.{Tree}
 use Rattle.wi_parser.specs.declared.content.Content.{Content}
 use Rattle.wi_parser.specs.declared.content.Content.TheVariants.{Constant, Formula}
-use Rattle.wi_parser.specs.Sheet.{Sheet, content_of, put_all, formula_cells}
+use Rattle.wi_parser.specs.Sheet.{Sheet, content_of, put_all, cells_with_formula}
 use Rattle.wi_functions.specs.Meaning.{meaning, zero_for_empty}
 use Rattle.wi_propagate.specs.Circular.{circular}
 
@@ -17,7 +17,7 @@ value_of None of_formula = Empty
 value_of (Some (Constant v)) of_formula = v
 value_of (Some (Formula t)) of_formula = of_formula t
 
--- each input with the value of the cell that replaces it
+-- each input with the value of its replacement cell
 abbrev pub replacements : (ℕ → Value) → List (ℕ × ℕ) → List Replacement
 replacements cells pairs = map (λ p. record { at = p.0; value = cells p.1 }) pairs
 
@@ -32,9 +32,11 @@ value_within (suc k) s c =
 
 -- a cell's value: as many formulas as the sheet has can stand one below the other
 unfoldable pub cell_value : Sheet → ℕ → Value
-cell_value s c = value_within (length (formula_cells s)) s c
+cell_value s c = value_within (length (cells_with_formula s)) s c
 
--- a what-if: the value of a cell in the sheet edited by each pair's input and replacing cell
+-- A what-if: the value of its formula cell in the sheet with each input replaced by the value of its replacement cell, the
+-- first pair's first, so that of two pairs for one input the second stands. It is only asked for where nothing that it
+-- reads is circular in the sheet as it stands: by itself it would let a replacement cut a cycle.
 abbrev pub what_if_value : Sheet → ℕ → List (ℕ × ℕ) → Value
 what_if_value s f pairs = cell_value (put_all s (replacements (cell_value s) pairs)) f
 

@@ -12,7 +12,7 @@ use Rattle.wi_propagate.specs.Circular.{has_walk}
 abbrev pub ReadsEnd : ℕ → Sheet → Tree → Type 0
 ReadsEnd n s t = (c : ℕ) → reads t c ≡ true → has_walk n s c ≡ false
 
--- nor from a cell that replaces an input
+-- nor from a replacement cell
 abbrev pub ReplacingEnd : ℕ → Sheet → List Pair → Type 0
 ReplacingEnd n s pairs = All (λ p. has_walk n s p.by.at ≡ false) pairs
 

@@ -14,7 +14,7 @@ same_pairs [] (q ∷ qs) = false
 same_pairs (p ∷ ps) [] = false
 same_pairs (p ∷ ps) (q ∷ qs) = p.0 == q.0 && (p.1 == q.1 && same_pairs ps qs)
 
--- the inputs of what was found, each with the cell that replaces it
+-- the inputs of what was found, each with its replacement cell
 abbrev pub pairs_of : FoundWhatIf → List (ℕ × ℕ)
 pairs_of f = map addresses (map pair_of f.pairs.items)
 

@@ -3,7 +3,7 @@ use Rattle.std.specs.Prelude.{◌≡◌, ℕ, ◌≤◌, true, false, List, leng
 use Rattle.wi_values.specs.declared.replacement.Replacement.{Replacement}
 use Rattle.wi_parser.specs.Tree.{Tree}
 use Rattle.wi_parser.specs.declared.content.Content.TheVariants.{Formula}
-use Rattle.wi_parser.specs.Sheet.{Sheet, content_of, put_all, formula_cells}
+use Rattle.wi_parser.specs.Sheet.{Sheet, content_of, put_all, cells_with_formula}
 use Rattle.wi_parser.specs.Reads.{content_reads}
 use Rattle.wi_functions.specs.Meaning.{meaning, zero_for_empty}
 use Rattle.wi_propagate.specs.Circular.{circular}
@@ -11,7 +11,7 @@ use Rattle.wi_propagate.specs.CellValue.{value_within, cell_value, what_if_value
 
 -- every bound from the number of formulas on gives a cell its value
 abbrev pub BoundIsNeverFelt : Type 0
-BoundIsNeverFelt = (s : Sheet) (c k : ℕ) → length (formula_cells s) ≤ k → value_within k s c ≡ cell_value s c
+BoundIsNeverFelt = (s : Sheet) (c k : ℕ) → length (cells_with_formula s) ≤ k → value_within k s c ≡ cell_value s c
 
 -- a formula that is not circular in the sheet has, under replacements, the meaning of its tree,
 -- where each cell stands for its value there and each what-if for its value there

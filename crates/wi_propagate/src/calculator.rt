@@ -17,10 +17,10 @@ pub trait Calculator {
     /// The sheet, with the count of accepted edits and the limits of both.
     ghost stored: { Self → Stored };
 
-    /// How many formulas it has evaluated, up to the greatest number.
+    /// The count of evaluations that it tells. What counts as one is said of `evaluate`.
     ghost evaluated: { Self → ℕ };
 
-    /// How many evaluations were begun again, up to the greatest number.
+    /// The count of evaluations begun again that it tells.
     ghost restarted: { Self → ℕ };
 
     /// What stands in a cell.

@@ -71,7 +71,7 @@ impl Lookup for Found {
     }
 }
 
-/// Whether two lists name the same inputs and replacing cells.
+/// Whether two lists name the same inputs and replacement cells.
 fn are_same(a: &[Pair], b: &[Pair]) -> bool
     ensures { result ≡ same_pairs (map addresses (map pair_of a.now)) (map addresses (map pair_of b.now)) }
 {

@@ -245,7 +245,7 @@ fn shows_what_was_worked_out_by_hand(rt: HostRuntime) -> Result<(), Fail> {
                  show C1:D2\n",
                 "ok\nok\nok\nok\nok\nok\nok\nok\nok\n\"72\",\"78\"\r\n\"108\",\"78\"\r\nok\n",
             ),
-            // the inner replacement of one input stands; a replacing cell is valued as the outer call has it
+            // the inner replacement of one input stands; a replacement cell is valued as the outer call has it
             (
                 "set B1 10\n\
                  set B3 2\n\
@@ -304,7 +304,7 @@ fn shows_what_was_worked_out_by_hand(rt: HostRuntime) -> Result<(), Fail> {
                  show C1:C3\n",
                 "ok\nok\nok\nok\nok\nok\nok\n\"21\"\r\n\"#DIV/0!\"\r\n\"0\"\r\nok\n",
             ),
-            // the formula cell is the input; the formula cell is the replacing cell
+            // the formula cell is the input; the formula cell is the replacement cell
             (
                 "set B1 5\n\
                  set A1 =[.B1]+1\n\

@@ -1,5 +1,5 @@
 -- The command `set`: puts a content into a cell.
-use Rattle.std.specs.Prelude.{ℕ, List, [], ◌∷◌, Some, Result, Ok, Err}
+use Rattle.std.specs.Prelude.{ℕ, ◌==◌, if◌then◌else◌, List, [], ◌∷◌, length, Some, Result, Ok, Err}
 use Rattle.wi_parser.specs.declared.content.Content.{Content}
 use Rattle.wi_parser.specs.declared.fault.ParseFault.{ParseFault}
 use Rattle.wi_parser.specs.declared.fault.ParseFault.TheVariants as parse
@@ -8,7 +8,7 @@ use Rattle.wi_store.specs.declared.fault.StoreFault.{StoreFault}
 use Rattle.wi_store.specs.declared.fault.StoreFault.TheVariants as store
 use Rattle.wi_store.specs.Store.{Stored, applied}
 use Rattle.wi_scenarios.specs.declared.refusal.Refusal.{Refusal}
-use Rattle.wi_scenarios.specs.declared.refusal.Refusal.TheVariants.{Memory, OutOfSheet, Syntax, TooDeep, NumberRange, TooLong, Full, EditLimit}
+use Rattle.wi_scenarios.specs.declared.refusal.Refusal.TheVariants.{Memory, BadCommand, OutOfSheet, Syntax, TooDeep, NumberRange, TooLong, Full, EditLimit}
 use Rattle.wi_scenarios.specs.State.{State}
 use Rattle.wi_scenarios.specs.Answer.{Answer}
 
@@ -37,5 +37,6 @@ abbrev pub put_answer : State → ℕ → Result Content ParseFault → Answer
 put_answer s at (Ok content) = edit_answer s (applied s.stored ((at, Some content) ∷ []))
 put_answer s at (Err e) = Err (parse_refusal e)
 
+-- an empty content is none
 abbrev pub set_step : State → ℕ → List ℕ → Answer
-set_step s at text = put_answer s at (content_read text)
+set_step s at text = if length text == 0 then Err BadCommand else put_answer s at (content_read text)

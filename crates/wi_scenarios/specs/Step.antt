@@ -19,7 +19,7 @@ step s (Show area) = show_step s area
 step s (Refused e) = Err e
 
 -- whether a command may be refused for want of memory
-abbrev pub may_want : Command → Bool
-may_want (Set at content) = true
-may_want (Show area) = true
-may_want (Refused e) = false
+abbrev pub may_lack_memory : Command → Bool
+may_lack_memory (Set at content) = true
+may_lack_memory (Show area) = true
+may_lack_memory (Refused e) = false

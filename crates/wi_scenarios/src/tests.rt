@@ -42,6 +42,7 @@ fn refuses_contents(rt: HostRuntime) -> Result<(), Fail> {
     let mut book = workbook(rt.alloc(), Limits::standard())?;
     assert_eq!(rt; set(&mut book, "A1", "=[.XFE1]")?, Err(Refusal::OutOfSheet));
     assert_eq!(rt; set(&mut book, "A1", "=1+")?, Err(Refusal::Syntax));
+    assert_eq!(rt; set(&mut book, "A1", "")?, Err(Refusal::BadCommand));
     assert_eq!(rt; Refusal::Syntax.code(), 5);
     assert!(rt; book.calculator().content(Address::read(b"A1")?).is_none());
     Ok(())

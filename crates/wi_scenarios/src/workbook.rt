@@ -48,10 +48,13 @@ impl<C: Calculator> Workbook<C> {
         &self.calculator
     }
 
-    /// Puts a content into a cell.
+    /// Puts a content into a cell. An empty one is refused as `BadCommand`.
     pub fn set(&mut self, at: Address, content: &str) -> Result<(), Refusal>
         ensures { Serves (set_step self.old at content.now) result self.old self.new [] }
     {
+        if content.is_empty() {
+            return Err(Refusal::BadCommand);
+        }
         let content = Content::read(self.alloc, content)?;
         let changes = vec![in self.alloc; (at, Some(content))]?;
         self.calculator.apply(changes)?;

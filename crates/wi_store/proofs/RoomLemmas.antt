@@ -11,7 +11,7 @@ use Rattle.std.specs.BTreeMap.{is_at}
 use Rattle.std.proofs.lemmas.Bool.{cases_order}
 use Rattle.std.proofs.lemmas.Bool.Decides.{nat_tests}
 use Rattle.std.proofs.lemmas.Map.Keys.{sorted_head, sorted_tail}
-use Rattle.wi_parser.specs.Sheet.{Sheet, content_of, formula_cells, has_formula}
+use Rattle.wi_parser.specs.Sheet.{Sheet, content_of, cells_with_formula, has_formula}
 use Rattle.wi_parser.specs.declared.content.Content.{Content}
 use Rattle.wi_store.specs.Rooms.{Rooms, occupant, sheet_in, room_of, IsInOrder, HasNoVacancy}
 
@@ -159,11 +159,11 @@ same_later f c x all (e ∷ es) h = (rw (is_at_earlier e.0 c h.0), same_later f 
 abbrev own_formulas : Sheet → List ℕ
 own_formulas s = keys_of (filter (λ e. has_formula (Some e.1)) s)
 
-formula_cells-own : (s : Sheet) → Ascends s → formula_cells s ≡ own_formulas s
-formula_cells-own [] h = refl
-formula_cells-own (e ∷ es) h =
+cells_with_formula-own : (s : Sheet) → Ascends s → cells_with_formula s ≡ own_formulas s
+cells_with_formula-own [] h = refl
+cells_with_formula-own (e ∷ es) h =
     let later : filter (λ c. has_formula (content_of (e ∷ es) c)) (keys_of es) ≡ own_formulas es =
-    filter_same _ _ (keys_of es) (same_later has_formula e.0 e.1 es es h.0) ∙ formula_cells-own es h.1 in
+    filter_same _ _ (keys_of es) (same_later has_formula e.0 e.1 es es h.0) ∙ cells_with_formula-own es h.1 in
     rw (is_at_same e.0, later) (by (has_formula (Some e.1)))
   where
     by : (b : Bool) → cond b (e.0 ∷ own_formulas es) (own_formulas es) ≡ keys_of (cond b (e ∷ filter (λ e. has_formula (Some e.1)) es) (filter (λ e. has_formula (Some e.1)) es))
@@ -182,5 +182,5 @@ own_formulas-sheet_in : (rooms : Rooms) → own_formulas (sheet_in rooms) ≡ fo
 own_formulas-sheet_in [] = refl
 own_formulas-sheet_in (e ∷ es) = own_formulas-one_more e.0 e.1 es (own_formulas-sheet_in es)
 
-pub formula_cells-sheet_in : (rooms : Rooms) → Ascends rooms → formula_cells (sheet_in rooms) ≡ formula_rooms rooms
-formula_cells-sheet_in rooms h = formula_cells-own (sheet_in rooms) (Ascends-sheet_in rooms h) ∙ own_formulas-sheet_in rooms
+pub cells_with_formula-sheet_in : (rooms : Rooms) → Ascends rooms → cells_with_formula (sheet_in rooms) ≡ formula_rooms rooms
+cells_with_formula-sheet_in rooms h = cells_with_formula-own (sheet_in rooms) (Ascends-sheet_in rooms h) ∙ own_formulas-sheet_in rooms

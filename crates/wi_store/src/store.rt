@@ -4,7 +4,7 @@ ghost use Rattle.std.specs.Prelude.{◌≡◌, ◌<◌, ◌⊎◌, [], length, I
 ghost use Rattle.std.specs.Option.{option_copied};
 ghost use Rattle.std.specs.List.Sorted.{IsStrictlyIncreasing};
 ghost use Rattle.std.specs.Map.{keys_of};
-ghost use Rattle.wi_parser.specs.Sheet.{content_of, formula_cells};
+ghost use Rattle.wi_parser.specs.Sheet.{content_of, cells_with_formula};
 ghost use Rattle.wi_store.specs.Store.{edited, applied, Applies};
 ghost use Rattle.wi_store.specs.Rooms.{sheet_in, IsInOrder, HasNoVacancy, VacantOnlyAt};
 ghost use Rattle.wi_store.specs.Exchange.{admitted};
@@ -115,7 +115,7 @@ impl Store {
 
     /// The cells that have a formula, in row-major order. The work grows with the count of occupied cells.
     pub fn formulas(&self, alloc: Global) -> Result<Vec<Address>, AllocError>
-        ensures { IfOk result (λ found. found.items ≡ formula_cells self.now.sheet) }
+        ensures { IfOk result (λ found. found.items ≡ cells_with_formula self.now.sheet) }
     {
         let mut found = Vec::new(alloc);
         for (at, room) in &self.rooms {

@@ -7,7 +7,7 @@ use Rattle.wi_parser.specs.declared.expr.Pair.{Pair}
 use Rattle.wi_parser.specs.declared.content.Content.TheVariants.{Constant}
 use Rattle.wi_parser.specs.View.{pair_of}
 use Rattle.wi_parser.specs.Sheet.{Sheet, put_all}
-use Rattle.wi_functions.specs.Answers.{Assignment}
+use Rattle.wi_functions.specs.Assignment.{Assignment}
 use Rattle.wi_functions.specs.Meaning.{addresses}
 use Rattle.wi_propagate.specs.CellValue as show
 use Rattle.wi_propagate.proofs.Puts.{put_all-append}

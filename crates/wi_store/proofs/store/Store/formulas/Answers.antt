@@ -1,8 +1,8 @@
 use Rattle.std.proofs.Common.{◌≡◌, ℕ, List, [], ◌++◌, sym, ap, ◌∙◌, append-nil}
-use Rattle.wi_parser.specs.Sheet.{formula_cells}
+use Rattle.wi_parser.specs.Sheet.{cells_with_formula}
 use Rattle.wi_store.specs.Store.{Stored}
 use Rattle.wi_store.specs.Rooms.{Rooms}
-use Rattle.wi_store.proofs.RoomLemmas.{Ascends-from_order, formula_rooms, formula_cells-sheet_in}
+use Rattle.wi_store.proofs.RoomLemmas.{Ascends-from_order, formula_rooms, cells_with_formula-sheet_in}
 use Rattle.wi_store.proofs.store.Store.formulas.Goals as goal
 
 -- at the end of the loop nothing is left
@@ -13,5 +13,5 @@ pub returns : goal.returns
 returns c =
     found_all c.loop-at.found.items c.loop-at.at-iterator c.into_iter-at-iterator.result c.in-None.ensures.steps.0 c.loop-at.invariant
     ∙ ap (λ (r : Rooms). formula_rooms r) c.into_iter-at-iterator.ensures.into_iter_gives.0
-    ∙ sym (formula_cells-sheet_in c.self.inside.rooms.entries (Ascends-from_order c.self.inside.rooms.entries c.self.invariant.0))
-    ∙ ap (λ (s : Stored). formula_cells s.sheet) c.self.view_is
+    ∙ sym (cells_with_formula-sheet_in c.self.inside.rooms.entries (Ascends-from_order c.self.inside.rooms.entries c.self.invariant.0))
+    ∙ ap (λ (s : Stored). cells_with_formula s.sheet) c.self.view_is

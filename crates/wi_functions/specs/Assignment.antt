@@ -15,6 +15,6 @@ pub record Assignment : Type 0 where
   pub what_ifs : ℕ → List (ℕ × ℕ) → Value
 
 -- what is known is so in this assignment
-pub record IsKnownOf (known_cell : ℕ → Option Value) (known_what_if : ℕ → List (ℕ × ℕ) → Option Value) (a : Assignment) : Type 0 where
+pub record AgreesWith (known_cell : ℕ → Option Value) (known_what_if : ℕ → List (ℕ × ℕ) → Option Value) (a : Assignment) : Type 0 where
   pub cells : (c : ℕ) → IfSome (known_cell c) (λ v. v ≡ a.cells c)
   pub what_ifs : (f : ℕ) (pairs : List (ℕ × ℕ)) → IfSome (known_what_if f pairs) (λ v. v ≡ a.what_ifs f pairs)
