@@ -1,9 +1,9 @@
 -- What stands first, where one symbol is looked for.
-use Rattle.std.proofs.Common.{◌≡◌, ℕ, ◌+◌, ◌<◌, true, false, Bool, cond, ◌==◌, List, [], ◌∷◌, ◌++◌, length, Option, Some, None, option_map, option_and_then, refl, sym, ap, ◌∙◌, arith}
+use Rattle.std.proofs.Common.{◌≡◌, ℕ, ◌+◌, true, false, Bool, cond, ◌==◌, List, [], ◌∷◌, ◌++◌, length, Option, Some, None, option_map, option_and_then, refl, sym, ap, ◌∙◌, arith}
 use Rattle.std.proofs.lemmas.Bool.{eqb-true}
 use Rattle.wi_parser.specs.declared.expr.Operator.{Operator}
 use Rattle.wi_parser.specs.declared.expr.Reference.{Reference}
-use Rattle.wi_parser.specs.Symbol.{Symbol, numeral, reference, open_parenthesis, close_parenthesis, separator, infix_mark, what_if_name, refused}
+use Rattle.wi_parser.specs.Symbol.{Symbol, reference, open_parenthesis, close_parenthesis, separator, infix_mark}
 use Rattle.wi_parser.specs.Grammar.{line_of, pair_symbols}
 use Rattle.wi_parser.specs.Reader.{after_open, after_close, after_separator, reference_at, operator_at, parameter_at, pair_at}
 

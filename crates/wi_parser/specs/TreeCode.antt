@@ -18,12 +18,6 @@ reference_code =
     (λ r. (r.at, (r.column_is_absolute, r.row_is_absolute)))
     (λ p. record { at = p.0; column_is_absolute = p.1.0; row_is_absolute = p.1.1 }) (λ _. refl)
 
-abbrev operator_number : Operator → ℕ
-operator_number Add = 0
-operator_number Subtract = 1
-operator_number Multiply = 2
-operator_number Divide = 3
-
 abbrev operator_at : ℕ → Operator
 operator_at zero = Add
 operator_at (suc zero) = Subtract
