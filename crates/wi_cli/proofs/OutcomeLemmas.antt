@@ -1,5 +1,5 @@
 -- A run of a script so far, and how it may end.
-use Rattle.std.proofs.Common.{◌≡◌, ℕ, ◌+◌, ◌-◌, ◌<◌, ◌≤◌, Bool, true, false, ◌||◌, cond, eqb, ltb, List, [], ◌∷◌, ◌++◌, length, take, refl, sym, ap, ◌∙◌, subst, Option, None, Some, Result, Ok, Err, append_assoc, append-nil, length-append, arith}
+use Rattle.std.proofs.Common.{◌≡◌, ℕ, ◌+◌, ◌-◌, ◌<◌, ◌≤◌, Bool, true, false, ◌||◌, cond, eqb, ltb, List, [], ◌∷◌, ◌++◌, length, take, refl, sym, ap, ◌∙◌, subst, Option, None, Some, Result, Ok, Err, append_assoc, append-nil, length-append, inl, inr, arith}
 use Rattle.std.specs.List.{concat}
 use Rattle.std.specs.Option.{option_to_list}
 use Rattle.std.specs.Io.KnownBytes.{Appends, Keeps, Consumes, IsAtEnd, prepend_known}
@@ -108,6 +108,10 @@ consumed_all None c q bs h e = tt
 consumed_all (Some p) c None bs h e = absurd h
 consumed_all (Some p) c (Some r) bs h e = h ∙ ap (λ z. bs ++ z) (e ∙ sym (no_more c r e))
 
+at_end_of : (c : List ℕ) (q : Option (List ℕ)) → IsAtEnd (prepend_known c q) → IsAtEnd q
+at_end_of c None e = tt
+at_end_of c (Some r) e = no_more c r e
+
 -- ---- the line at the end
 
 nothing_said : line_command [] ≡ None
@@ -162,6 +166,7 @@ record IsOver (left q : Option (List ℕ)) (s t : State) (given given' : Option 
   input : List ℕ
   out : List ℕ
   taken : Consumes left q input
+  at_end : IsAtEnd q
   written : Appends given given' out
   few : length (raw_lines input) ≤ 1000000
   writes : Writes s (all_commands input) out t
@@ -182,13 +187,14 @@ over left b p c q s m t w x y count allowed may most h k =
       input = input;
       out = h.out ++ k.out;
       taken = consumed_all left c q input taken (k.at_end refl);
+      at_end = at_end_of c q (k.at_end refl);
       written = Appends-trans w x y _ _ h.written k.written;
       few = omega (arith, ap length lines, length-append h.lines (raw_lines line), h.counted);
       writes = subst (λ z. Writes s z (h.out ++ k.out) t) (sym said) (Writes-append s m t _ _ h.out k.out h.writes k.writes);
     }
 
 abbrev pub Ends : Result (Unit {0}) RunFault → Option (List ℕ) → Option (List ℕ) → State → State → Option (List ℕ) → Option (List ℕ) → Type 0
-Ends r left q s t given given' = (input : List ℕ) × (out : List ℕ) × Consumes left q input × Appends given given' out × Outcome r s t input out
+Ends r left q s t given given' = (input : List ℕ) × (out : List ℕ) × Consumes left q input × Appends given given' out × Outcome r q s t input out
 
 pub ends_ok : (left : Option (List ℕ)) (b : List ℕ) (p : Option (List ℕ)) (c : List ℕ) (q : Option (List ℕ)) (s m t : State) (w x y z : Option (List ℕ)) (count : ℕ) (allowed : Bool)
     → (allowed ≡ true → count < 1000000) → count ≤ 1000000
@@ -207,19 +213,22 @@ ends_flush left b p c q s m t w x y z count allowed may most h k e =
       o.out,
       o.taken,
       Appends-kept w y z o.out o.written e,
-      record {
-        earlier = all_commands o.input;
-        last = None;
-        others = [];
-        first = ap commands (limited_all (raw_lines o.input) o.few) ∙ sym (append-nil (all_commands o.input));
-        mid = t;
-        sent = o.out;
-        whole = o.writes;
-        front = [];
-        unwritten = [];
-        cut = Writes-none t;
-        written = sym (append-nil o.out);
-      },
+      inr (
+        o.at_end,
+        record {
+          earlier = all_commands o.input;
+          last = None;
+          others = [];
+          first = ap commands (limited_all (raw_lines o.input) o.few) ∙ sym (append-nil (all_commands o.input));
+          mid = t;
+          sent = o.out;
+          whole = o.writes;
+          front = [];
+          unwritten = [];
+          cut = Writes-none t;
+          written = sym (append-nil o.out);
+        },
+      ),
     )
 
 pub ends_read : (left : Option (List ℕ)) (b : List ℕ) (p : Option (List ℕ)) (c : List ℕ) (q : Option (List ℕ)) (s m t : State) (w x y : Option (List ℕ)) (count : ℕ) (allowed : Bool)
@@ -269,20 +278,22 @@ ends_limit left b p c q s m t w x y count allowed may most h k same kept =
       ),
     )
 
--- the commands of what was taken begin with those served
+-- the complete commands of what was taken begin with those served
 cut_said : (left : Option (List ℕ)) (b : List ℕ) (p : Option (List ℕ)) (c : List ℕ) (q : Option (List ℕ)) (s m : State) (w x : Option (List ℕ)) (count k : ℕ) (content : List ℕ)
     → (h : IsGoing left b p s m w x count) → is_whole content ≡ false → (count + 1) + k ≡ 1000000
-    → commands (limited (raw_lines ((concat h.lines ++ raw true content) ++ c))) ≡ (h.served ++ option_to_list (line_command content)) ++ commands (take k (raw_lines c))
+    → complete_commands (limited (raw_lines ((concat h.lines ++ raw true content) ++ c))) ≡ (h.served ++ option_to_list (line_command content)) ++ complete_commands (take k (raw_lines c))
+unfolding complete_commands
 cut_said left b p c q s m w x count k content h no_lf room =
     let line = raw true content in
     let lines : List (List ℕ) = h.lines ++ line ∷ [] in
     let served = subst (λ z. AreServed (h.lines ++ line ∷ []) (h.served ++ option_to_list (line_command z))) (without_lf-raw true content no_lf)
     (AreServed-push h.lines h.served line h.are_served) in
     let counted : length lines + k ≡ 1000000 = omega (arith, length-append h.lines (line ∷ []), h.counted) in
-    ap (λ z. commands (limited (raw_lines (z ++ c)))) (sym (concat_push h.lines line))
-    ∙ ap (λ z. commands (limited z)) (AreWhole-push h.lines content no_lf h.are_lines c)
-    ∙ ap commands (limited_more lines (raw_lines c) k counted)
-    ∙ served (take k (raw_lines c))
+    ap (λ z. commands (whole_lines (limited (raw_lines (z ++ c))))) (sym (concat_push h.lines line))
+    ∙ ap (λ z. commands (whole_lines (limited z))) (AreWhole-push h.lines content no_lf h.are_lines c)
+    ∙ ap (λ z. commands (whole_lines z)) (limited_more lines (raw_lines c) k counted)
+    ∙ ap commands (AllWhole-push h.lines line (whole_raw content) h.all_whole (take k (raw_lines c)))
+    ∙ served (whole_lines (take k (raw_lines c)))
 
 cut_end_said : (left : Option (List ℕ)) (b : List ℕ) (p : Option (List ℕ)) (s m : State) (w x : Option (List ℕ)) (count : ℕ) (content : List ℕ)
     → (h : IsGoing left b p s m w x count) → is_whole content ≡ false → count + length (raw_lines content) ≤ 1000000
@@ -321,14 +332,14 @@ ends_write left b p c q s m t w x y count allowed may most h k = go k.whole k.ta
     h.out ++ k.out,
     consumed left c q _ (Takes-trans [] left b p c q _ _ h.taken taken),
     written,
-    front _ (commands (take (1000000 - (count + 1)) (raw_lines c))) (cut_said left b p c q s m w x count (1000000 - (count + 1)) k.content h k.no_lf (omega arith)),
+    inl (front _ (complete_commands (take (1000000 - (count + 1)) (raw_lines c))) (cut_said left b p c q s m w x count (1000000 - (count + 1)) k.content h k.no_lf (omega arith))),
   )
   go false taken at_end allows = let few = few_last k.content count k.no_lf (λ l. may (allows (omega (arith, length-append k.content [])))) most in (
     concat h.lines ++ k.content,
     h.out ++ k.out,
     consumed_all left c q _ (subst (λ z. Takes [] left c q (concat h.lines ++ z)) (append-nil k.content) (Takes-trans [] left b p c q _ _ h.taken taken)) (at_end refl),
     written,
-    front _ [] (cut_end_said left b p s m w x count k.content h k.no_lf few),
+    inr (at_end_of c q (at_end refl), front _ [] (cut_end_said left b p s m w x count k.content h k.no_lf few)),
   )
 
 pub ends_stopped : (e : RunFault) (left : Option (List ℕ)) (b : List ℕ) (p : Option (List ℕ)) (c : List ℕ) (q : Option (List ℕ)) (s m t : State) (w x y : Option (List ℕ)) (count : ℕ)

@@ -1,6 +1,7 @@
 -- What a run of a script has done when it returns.
-use Rattle.std.specs.Prelude.{◌≡◌, ℕ, ◌<◌, ◌≤◌, List, [], ◌++◌, length, take, Option, Result, Ok, Err}
+use Rattle.std.specs.Prelude.{◌≡◌, ℕ, ◌<◌, ◌≤◌, List, [], ◌++◌, length, take, ◌⊎◌, Option, Result, Ok, Err}
 use Rattle.std.specs.Option.{option_to_list}
+use Rattle.std.specs.Io.KnownBytes.{IsAtEnd}
 use Rattle.wi_scenarios.specs.State.{State}
 use Rattle.wi_scenarios.specs.Step.{Command}
 use Rattle.wi_cli.specs.declared.fault.RunFault.{RunFault}
@@ -34,12 +35,14 @@ limited ls = take max_lines ls
 
 -- From the bytes taken to the bytes written: all commands are answered; or none, as nothing was read; or those that
 -- were complete when the source failed, or before one line more than allowed; or, where the sink failed, those up to
--- one whose reply may be cut short.
-abbrev pub Outcome : Result (Unit {0}) RunFault → State → State → List ℕ → List ℕ → Type 0
-Outcome (Ok _) s t input out = (length (raw_lines input) ≤ max_lines) × Writes s (all_commands input) out t
-Outcome (Err Memory) s t input out = (input ≡ []) × (out ≡ []) × (t ≡ s)
-Outcome (Err Read) s t input out =
+-- one whose reply may be cut short. There a last line that lacks its LF counts only where the source has nothing left.
+abbrev pub Outcome : Result (Unit {0}) RunFault → Option (List ℕ) → State → State → List ℕ → List ℕ → Type 0
+Outcome (Ok _) left s t input out = (length (raw_lines input) ≤ max_lines) × Writes s (all_commands input) out t
+Outcome (Err Memory) left s t input out = (input ≡ []) × (out ≡ []) × (t ≡ s)
+Outcome (Err Read) left s t input out =
     (length (raw_lines input) ≤ max_lines) × Writes s (complete_commands (raw_lines input)) out t
-Outcome (Err Write) s t input out = WritesFront s (commands (limited (raw_lines input))) out t
-Outcome (Err ScriptLimit) s t input out =
+Outcome (Err Write) left s t input out =
+    WritesFront s (complete_commands (limited (raw_lines input))) out t
+    ⊎ (IsAtEnd left × WritesFront s (commands (limited (raw_lines input))) out t)
+Outcome (Err ScriptLimit) left s t input out =
     (max_lines < length (raw_lines input)) × Writes s (complete_commands (limited (raw_lines input))) out t

@@ -89,9 +89,9 @@ fn turn<R: Source, W: Sink, C: Calculator>(
     }
 }
 
-/// Runs a script on a workbook, each line as soon as it has come; its reply is written before the next line is
-/// served. On a fault the replies to the commands before it stand; where a write failed, the last of them may be cut
-/// short, and nothing is served after it.
+/// Runs a script on a workbook. It takes each line as it comes, serves it and writes its reply, then goes on to the
+/// next; the contract tells what is written, not when. On a fault the replies to the commands before it stand; where a
+/// write failed, the last of them may be cut short, and nothing is served after it.
 pub fn run<R: Source, W: Sink, C: Calculator>(
     alloc: Global,
     reader: &mut R,
@@ -105,7 +105,7 @@ pub fn run<R: Source, W: Sink, C: Calculator>(
     ensures replies { (input out : List ℕ)
         × Consumes (R.remaining reader.old) (R.remaining reader.new) input
         × Appends (W.contents writer.old) (W.contents writer.new) out
-        × Outcome result book.old book.new input out }
+        × Outcome result (R.remaining reader.new) book.old book.new input out }
     ensures all_read { OnOk result (IsAtEnd (R.remaining reader.new)) }
     ensures reads { OnOk result (R.has_failed reader.new ≡ false) }
     ensures writes { OnOk result (W.has_failed writer.new ≡ false) }
