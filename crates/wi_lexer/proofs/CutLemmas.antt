@@ -9,7 +9,7 @@ use Rattle.std.proofs.lemmas.List.Sums.{AllPass-from_list_all, prefix_len_passes
 use Rattle.wi_lexer.specs.declared.token.Kind.{Kind}
 use Rattle.wi_lexer.specs.declared.token.Kind.TheVariants.{Number, Reference, Name, Mark}
 use Rattle.wi_lexer.specs.declared.token.Mark as mark
-use Rattle.wi_lexer.specs.declared.token.Mark.TheVariants.{OpenParenthesis, CloseParenthesis, Plus, Minus, Asterisk, Slash, Semicolon}
+use Rattle.wi_lexer.specs.declared.token.Mark.TheVariants.{NotEqual}
 use Rattle.wi_lexer.specs.Runs.{IsRun, is_blank, blanks_len}
 use Rattle.wi_lexer.specs.Number.{IsNumber, whole, decimal}
 use Rattle.wi_lexer.specs.Cell.{cell_text}
@@ -70,13 +70,8 @@ name_last : (text : List ℕ) → IsName text → last text < 128
 name_last text h = name_part_ascii (last text) (AllPass-from_list_all is_name_part text h.parts (length text - 1) 0 (omega (arith, name_some text h)))
 
 mark_last : (m : mark.Mark) → last (mark_text m) < 128
-mark_last OpenParenthesis = omega arith
-mark_last CloseParenthesis = omega arith
-mark_last Plus = omega arith
-mark_last Minus = omega arith
-mark_last Asterisk = omega arith
-mark_last Slash = omega arith
-mark_last Semicolon = omega arith
+mark_last NotEqual = omega arith
+mark_last m = omega arith
 
 -- a token ends with an ASCII byte
 token_last : (k : Kind) (text : List ℕ) → IsToken k text → last text < 128

@@ -7,7 +7,7 @@ use Rattle.std.proofs.lemmas.List.{get_or-take}
 use Rattle.std.specs.List.{prefix_len}
 use Rattle.std.specs.Char.{is_ascii_digit}
 use Rattle.wi_lexer.specs.declared.token.Mark.{Mark}
-use Rattle.wi_lexer.specs.declared.token.Mark.TheVariants.{OpenParenthesis, CloseParenthesis, Plus, Minus, Asterisk, Slash, Semicolon}
+use Rattle.wi_lexer.specs.declared.token.Mark.TheVariants.{NotEqual}
 use Rattle.wi_lexer.specs.Runs.{digits_len}
 use Rattle.wi_lexer.specs.Number.{decimals_len, number_len}
 use Rattle.wi_lexer.specs.Reference.{IsReference, one_cell, reference_len}
@@ -65,13 +65,8 @@ no_number b bs h =
     omega (arith, digits, ap decimals_len after, no_decimals b bs h)
 
 mark_start : (m : Mark) (rest : List ℕ) → is_name_start (slice_index (mark_text m ++ rest) 0) ≡ false
-mark_start OpenParenthesis rest = refl
-mark_start CloseParenthesis rest = refl
-mark_start Plus rest = refl
-mark_start Minus rest = refl
-mark_start Asterisk rest = refl
-mark_start Slash rest = refl
-mark_start Semicolon rest = refl
+mark_start NotEqual rest = refl
+mark_start m rest = refl
 
 pub no_mark : (bs : List ℕ) → is_name_start (slice_index bs 0) ≡ true → mark_at bs ≡ None
 no_mark bs h = go (mark_at bs) refl

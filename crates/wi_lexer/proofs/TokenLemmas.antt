@@ -1,5 +1,5 @@
 -- What `token_at` finds is the longest token, and it finds one wherever one begins.
-use Rattle.std.proofs.Common.{◌≡◌, ℕ, ◌<◌, ◌≤◌, Bool, true, false, cond, List, [], ◌∷◌, ◌++◌, length, take, drop, Option, Some, None, refl, sym, ap, ◌∙◌, subst, arith, length-append}
+use Rattle.std.proofs.Common.{◌≡◌, ℕ, ◌<◌, ◌≤◌, Bool, true, false, cond, ◌==◌, List, [], ◌∷◌, ◌++◌, length, take, drop, Option, Some, None, refl, sym, ap, ◌∙◌, subst, arith, length-append}
 use Rattle.std.specs.Prelude.{nat_lt}
 use Rattle.std.specs.Option.{option_or}
 use Rattle.std.proofs.lemmas.Bool.{ltb-true, lt-ltb}
@@ -8,12 +8,12 @@ use Rattle.std.proofs.Math.Seq.{take-append_seam}
 use Rattle.wi_lexer.specs.declared.token.Kind.{Kind}
 use Rattle.wi_lexer.specs.declared.token.Kind.TheVariants.{Number, Reference, Name, Mark}
 use Rattle.wi_lexer.specs.declared.token.Mark as mark
-use Rattle.wi_lexer.specs.declared.token.Mark.TheVariants.{OpenParenthesis, CloseParenthesis, Plus, Minus, Asterisk, Slash, Semicolon}
+use Rattle.wi_lexer.specs.declared.token.Mark.TheVariants.{NotEqual, Less, LessOrEqual, Greater, GreaterOrEqual}
 use Rattle.wi_lexer.specs.Number.{IsNumber, whole, decimal, decimals_len, number_len}
 use Rattle.wi_lexer.specs.Reference.{IsReference, one_cell, reference_len}
 use Rattle.wi_lexer.specs.Cell.{cell_text}
 use Rattle.wi_lexer.specs.Name.{IsName, is_name_start, name_len}
-use Rattle.wi_lexer.specs.Mark.{mark_text, mark_at}
+use Rattle.wi_lexer.specs.Mark.{mark_text, two_byte_mark, one_byte_mark, mark_at}
 use Rattle.wi_lexer.specs.Token.{IsToken, IsLongest, NoToken, of_length, mark_token, token_at}
 use Rattle.wi_lexer.proofs.NumberLemmas.{number_more, number_within, number_sound}
 use Rattle.wi_lexer.proofs.ReferenceLemmas.{reference_sound, reference_complete}
@@ -37,7 +37,7 @@ number_found bs h = ap (λ o. option_or o (option_or (mark_token (mark_at bs)) (
 
 -- a text that begins with `[` is no number and no mark
 reference_found : (bs : List ℕ) → 0 < reference_len (91 ∷ bs) → token_at (91 ∷ bs) ≡ Some (Reference, reference_len (91 ∷ bs))
-unfolding token_at number_len decimals_len mark_at
+unfolding token_at number_len decimals_len mark_at two_byte_mark one_byte_mark
 reference_found bs h = ap (λ o. option_or o (of_length Name (name_len (91 ∷ bs)))) (of_length_found Reference (reference_len (91 ∷ bs)) h)
 
 name_found : (b : ℕ) (bs : List ℕ) → is_name_start b ≡ true → 0 < name_len (b ∷ bs) → token_at (b ∷ bs) ≡ Some (Name, name_len (b ∷ bs))
@@ -50,28 +50,58 @@ name_found b bs h some =
     ∙ ap (λ n. option_or (of_length Reference n) name) (no_reference (b ∷ bs) h)
     ∙ of_length_found Name (name_len (b ∷ bs)) some
 
-mark_found : (m : mark.Mark) (rest : List ℕ) → token_at (mark_text m ++ rest) ≡ Some (Mark m, length (mark_text m))
-unfolding token_at number_len decimals_len mark_at
-mark_found OpenParenthesis rest = refl
-mark_found CloseParenthesis rest = refl
-mark_found Plus rest = refl
-mark_found Minus rest = refl
-mark_found Asterisk rest = refl
-mark_found Slash rest = refl
-mark_found Semicolon rest = refl
+abbrev MarkFound : mark.Mark → List ℕ → Type 0
+MarkFound m bs = token_at bs ≡ Some (Mark m, length (mark_text m))
+
+abbrev CoveredMark : mark.Mark → List ℕ → Type 0
+CoveredMark m rest = IsCovered (Mark m) (mark_text m) (mark_text m ++ rest)
+
+whole_mark : (m : mark.Mark) (rest : List ℕ) → MarkFound m (mark_text m ++ rest) → CoveredMark m rest
+whole_mark m rest found = record { kind = Mark m; len = length (mark_text m); found = found; longer = omega arith; same = λ _. refl }
+
+-- a mark of two bytes is longer than one of one
+longer_mark : (m n : mark.Mark) (rest : List ℕ) → MarkFound n (mark_text m ++ rest) → length (mark_text m) < length (mark_text n) → CoveredMark m rest
+longer_mark m n rest found longer =
+    record { kind = Mark n; len = length (mark_text n); found = found; longer = omega arith; same = λ e. absurd (omega arith) }
+
+no_number_before : (bs : List ℕ) (m : mark.Mark) → number_len bs ≡ 0 → mark_at bs ≡ Some m → MarkFound m bs
+unfolding token_at
+no_number_before bs m none found =
+    let later = option_or (of_length Reference (reference_len bs)) (of_length Name (name_len bs)) in
+    ap (λ n. option_or (of_length Number n) (option_or (mark_token (mark_at bs)) later)) none ∙ ap (λ o. option_or (mark_token o) later) found
+
+covered_less : (rest : List ℕ) → CoveredMark Less rest
+unfolding number_len decimals_len mark_at two_byte_mark one_byte_mark
+covered_less [] = whole_mark Less [] (no_number_before (60 ∷ []) Less refl refl)
+covered_less (b ∷ rest) = go (b == 62) (b == 61) refl refl
+  where
+    go : (greater equal : Bool) → (b == 62) ≡ greater → (b == 61) ≡ equal → CoveredMark Less (b ∷ rest)
+    go true equal e f = longer_mark Less NotEqual (b ∷ rest) (no_number_before (60 ∷ b ∷ rest) NotEqual refl (cc e)) (omega arith)
+    go false true e f = longer_mark Less LessOrEqual (b ∷ rest) (no_number_before (60 ∷ b ∷ rest) LessOrEqual refl (cc (e, f))) (omega arith)
+    go false false e f = whole_mark Less (b ∷ rest) (no_number_before (60 ∷ b ∷ rest) Less refl (cc (e, f)))
+
+covered_greater : (rest : List ℕ) → CoveredMark Greater rest
+unfolding number_len decimals_len mark_at two_byte_mark one_byte_mark
+covered_greater [] = whole_mark Greater [] (no_number_before (62 ∷ []) Greater refl refl)
+covered_greater (b ∷ rest) = go (b == 61) refl
+  where
+    go : (equal : Bool) → (b == 61) ≡ equal → CoveredMark Greater (b ∷ rest)
+    go true e = longer_mark Greater GreaterOrEqual (b ∷ rest) (no_number_before (62 ∷ b ∷ rest) GreaterOrEqual refl (cc e)) (omega arith)
+    go false e = whole_mark Greater (b ∷ rest) (no_number_before (62 ∷ b ∷ rest) Greater refl (cc e))
+
+covered_mark : (m : mark.Mark) (rest : List ℕ) → CoveredMark m rest
+unfolding number_len decimals_len mark_at two_byte_mark one_byte_mark
+covered_mark Less rest = covered_less rest
+covered_mark Greater rest = covered_greater rest
+covered_mark m rest = whole_mark m rest (no_number_before (mark_text m ++ rest) m refl refl)
 
 number_some : (text : List ℕ) → IsNumber text → 0 < length text
 number_some text (whole ds run) = run.some
 number_some text (decimal ds es all run) = omega (arith, length-append ds (46 ∷ es))
 
 mark_some : (m : mark.Mark) → 0 < length (mark_text m)
-mark_some OpenParenthesis = omega arith
-mark_some CloseParenthesis = omega arith
-mark_some Plus = omega arith
-mark_some Minus = omega arith
-mark_some Asterisk = omega arith
-mark_some Slash = omega arith
-mark_some Semicolon = omega arith
+mark_some NotEqual = omega arith
+mark_some m = omega arith
 
 reference_some : (text : List ℕ) → IsReference text → 0 < length text
 reference_some text (one_cell c h) = omega arith
@@ -116,9 +146,6 @@ covered_name (b ∷ text) t rest =
       longer = longer;
       same = λ _. refl;
     }
-
-covered_mark : (m : mark.Mark) (rest : List ℕ) → IsCovered (Mark m) (mark_text m) (mark_text m ++ rest)
-covered_mark m rest = record { kind = Mark m; len = length (mark_text m); found = mark_found m rest; longer = omega arith; same = λ _. refl }
 
 covered : (j : Kind) (text : List ℕ) → IsToken j text → (rest : List ℕ) → IsCovered j text (text ++ rest)
 covered Number text t rest = covered_number text t rest

@@ -81,33 +81,46 @@ fn number_len(text: &[u8]) -> usize
     digits + decimals_len(&text[digits..])
 }
 
+#[tactic(auto, unfolding(crate::specs::Mark::two_byte_mark))]
+fn two_byte_mark(first: u8, second: u8) -> Option<Mark>
+    ensures { result ≡ mark.two_byte_mark first second }
+{
+    match (first, second) {
+        (b'<', b'>') => Some(Mark::NotEqual),
+        (b'<', b'=') => Some(Mark::LessOrEqual),
+        (b'>', b'=') => Some(Mark::GreaterOrEqual),
+        _ => None,
+    }
+}
+
+#[tactic(auto, unfolding(crate::specs::Mark::one_byte_mark))]
+fn one_byte_mark(b: u8) -> Option<Mark>
+    ensures { result ≡ mark.one_byte_mark b }
+{
+    match b {
+        b'(' => Some(Mark::OpenParenthesis),
+        b')' => Some(Mark::CloseParenthesis),
+        b'+' => Some(Mark::Plus),
+        b'-' => Some(Mark::Minus),
+        b'*' => Some(Mark::Asterisk),
+        b'/' => Some(Mark::Slash),
+        b'^' => Some(Mark::Caret),
+        b'%' => Some(Mark::Percent),
+        b'&' => Some(Mark::Ampersand),
+        b'=' => Some(Mark::Equal),
+        b'<' => Some(Mark::Less),
+        b'>' => Some(Mark::Greater),
+        b';' => Some(Mark::Semicolon),
+        _ => None,
+    }
+}
+
 #[tactic(auto, unfolding(crate::specs::Mark::mark_at))]
 fn mark_at(text: &[u8]) -> Option<Mark>
     ensures { result ≡ mark.mark_at text.now }
 {
     let first = byte(text, 0);
-    if first == b'(' {
-        return Some(Mark::OpenParenthesis);
-    }
-    if first == b')' {
-        return Some(Mark::CloseParenthesis);
-    }
-    if first == b'+' {
-        return Some(Mark::Plus);
-    }
-    if first == b'-' {
-        return Some(Mark::Minus);
-    }
-    if first == b'*' {
-        return Some(Mark::Asterisk);
-    }
-    if first == b'/' {
-        return Some(Mark::Slash);
-    }
-    if first == b';' {
-        return Some(Mark::Semicolon);
-    }
-    None
+    two_byte_mark(first, byte(text, 1)).or(one_byte_mark(first))
 }
 
 #[tactic(auto, unfolding(crate::specs::Reference::reference_len))]

@@ -61,6 +61,19 @@ fn splits_formulas(rt: HostRuntime) {
     assert!(rt; is_read_as("_x.9 x;y", &["_x.9", "x", ";", "y"], false));
     assert!(rt; is_read_as("1e5", &["1", "e5"], false));
     assert!(rt; is_read_as("zé", &["z"], true));
+    assert!(rt; is_read_as("A1(", &["A1", "("], false));
+    assert!(rt; is_read_as("<>=", &["<>", "="], false));
+    assert!(rt; is_read_as("><", &[">", "<"], false));
+    assert!(rt; is_read_as("<<=", &["<", "<="], false));
+    assert!(rt; is_read_as("=>", &["=", ">"], false));
+    assert!(rt; is_read_as("< =", &["<", "="], false));
+    assert!(rt;
+        is_read_as(
+            "2^3%&4>=5",
+            &["2", "^", "3", "%", "&", "4", ">=", "5"],
+            false
+        )
+    );
 }
 
 #[test]
@@ -100,6 +113,15 @@ fn tells_marks(rt: HostRuntime) {
         ("-", Mark::Minus),
         ("*", Mark::Asterisk),
         ("/", Mark::Slash),
+        ("^", Mark::Caret),
+        ("%", Mark::Percent),
+        ("&", Mark::Ampersand),
+        ("=", Mark::Equal),
+        ("<>", Mark::NotEqual),
+        ("<", Mark::Less),
+        ("<=", Mark::LessOrEqual),
+        (">", Mark::Greater),
+        (">=", Mark::GreaterOrEqual),
         (";", Mark::Semicolon),
     ] {
         let token = Lexer::new(text)

@@ -25,6 +25,15 @@ pub enum Mark {
     Minus,
     Asterisk,
     Slash,
+    Caret,
+    Percent,
+    Ampersand,
+    Equal,
+    NotEqual,
+    Less,
+    LessOrEqual,
+    Greater,
+    GreaterOrEqual,
     Semicolon,
 }
 
@@ -40,6 +49,15 @@ impl Mark {
             Mark::Minus => "-",
             Mark::Asterisk => "*",
             Mark::Slash => "/",
+            Mark::Caret => "^",
+            Mark::Percent => "%",
+            Mark::Ampersand => "&",
+            Mark::Equal => "=",
+            Mark::NotEqual => "<>",
+            Mark::Less => "<",
+            Mark::LessOrEqual => "<=",
+            Mark::Greater => ">",
+            Mark::GreaterOrEqual => ">=",
             Mark::Semicolon => ";",
         }
     }
