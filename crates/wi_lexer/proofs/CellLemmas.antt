@@ -1,5 +1,5 @@
 -- The parts of a cell are found exactly where the bytes are the text of one.
-use Rattle.std.proofs.Common.{◌≡◌, ℕ, ◌<◌, Bool, true, false, cond, ◌==◌, List, [], ◌∷◌, ◌++◌, length, take, drop, Some, None, refl, sym, ap, ◌∙◌, subst, arith}
+use Rattle.std.proofs.Common.{◌≡◌, ℕ, ◌<◌, Bool, true, false, cond, ◌&&◌, ◌==◌, List, [], ◌∷◌, ◌++◌, length, take, drop, Some, None, refl, sym, ap, ◌∙◌, subst, arith}
 use Rattle.std.specs.Prelude.{nat_lt, slice_index}
 use Rattle.std.proofs.lemmas.Bool.{eqb-true, ltb-true, lt-ltb}
 use Rattle.std.proofs.lemmas.Bool.Decides.{nat_tests}
@@ -9,7 +9,7 @@ use Rattle.std.specs.List.{list_all}
 use Rattle.std.specs.Char.{is_ascii_digit, is_ascii_alphabetic}
 use Rattle.wi_lexer.specs.Runs.{IsRun, letters_len}
 use Rattle.wi_lexer.specs.Cell.{Cell, IsCell, dollar, cell_text, begins_with_dollar, after_dollar, cut_row, cut_column, is_row, is_cell, if_cell, cell_of}
-use Rattle.wi_lexer.proofs.RunLemmas.{both_are_true, run_stops, run_more, run_all}
+use Rattle.wi_lexer.proofs.RunLemmas.{both_are_true, run_stops, run_more, run_all, all_append, all_wider}
 
 -- the text before and after a `$` that may stand first
 dollar_back : (bs : List ℕ) → dollar (begins_with_dollar bs) ++ after_dollar bs ≡ bs
@@ -110,3 +110,16 @@ cell_complete c h =
     ∙ column_found c.column_is_absolute c.letters row h.letters.all (no_letter_first c.row_is_absolute c.digits h.digits)
     ∙ row_found c.column_is_absolute c.row_is_absolute c.letters c.digits (digit_no_dollar c.digits h.digits) in
     ap if_cell whole ∙ ap (λ t. cond t (Some c) None) (is_cell_true c h)
+
+-- each byte of a cell is of a class that has the letters, the digits and `$`
+pub cell_all : (class : ℕ → Bool) → ((b : ℕ) → is_ascii_alphabetic b ≡ true → class b ≡ true) → ((b : ℕ) → is_ascii_digit b ≡ true → class b ≡ true) → class 36 ≡ true → (c : Cell) → IsCell c → list_all class (cell_text c) ≡ true
+cell_all class letter digit sign c h =
+    let letters = all_wider is_ascii_alphabetic class letter c.letters h.letters.all in
+    let digits = all_wider is_ascii_digit class digit c.digits h.digits.all in
+    let row = all_append class (dollar c.row_is_absolute) c.digits (dollar_all c.row_is_absolute) digits in
+    all_append class (dollar c.column_is_absolute) (c.letters ++ (dollar c.row_is_absolute ++ c.digits)) (dollar_all c.column_is_absolute)
+    (all_append class c.letters (dollar c.row_is_absolute ++ c.digits) letters row)
+  where
+    dollar_all : (absolute : Bool) → list_all class (dollar absolute) ≡ true
+    dollar_all true = ap (λ t. t && true) sign
+    dollar_all false = refl

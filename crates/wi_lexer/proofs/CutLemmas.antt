@@ -7,17 +7,20 @@ use Rattle.std.proofs.lemmas.Bool.Decides.{nat_tests}
 use Rattle.std.proofs.lemmas.List.{get_or-append-add, get_or-take, length-take-le}
 use Rattle.std.proofs.lemmas.List.Sums.{AllPass-from_list_all, prefix_len_passes}
 use Rattle.wi_lexer.specs.declared.token.Kind.{Kind}
-use Rattle.wi_lexer.specs.declared.token.Kind.TheVariants.{Number, Reference, Name, Mark}
+use Rattle.wi_lexer.specs.declared.token.Kind.TheVariants.{Number, Reference, Rectangle, Name, Mark}
 use Rattle.wi_lexer.specs.declared.token.Mark as mark
 use Rattle.wi_lexer.specs.declared.token.Mark.TheVariants.{NotEqual}
 use Rattle.wi_lexer.specs.Runs.{IsRun, is_blank, blanks_len}
 use Rattle.wi_lexer.specs.Number.{IsNumber, whole, decimal}
 use Rattle.wi_lexer.specs.Cell.{cell_text}
 use Rattle.wi_lexer.specs.Reference.{IsReference, one_cell}
+use Rattle.wi_lexer.specs.Rectangle.{IsRectangle, two_cells}
 use Rattle.wi_lexer.specs.Name.{IsName, is_name_part}
 use Rattle.wi_lexer.specs.Mark.{mark_text}
 use Rattle.wi_lexer.specs.Token.{IsToken, IsLongest}
 use Rattle.wi_lexer.proofs.RunLemmas.{run_within}
+use Rattle.wi_lexer.proofs.BracketLemmas.{bracketed}
+use Rattle.wi_lexer.proofs.RectangleLemmas.{beside, rectangle_is}
 use Rattle.wi_lexer.proofs.NameLemmas.{name_some}
 
 after_ascii : (bs : List ℕ) (n : ℕ) → IsUtf8 bs → n ≤ length bs → (0 < n → get_or bs (n - 1) 0 < 128) → IsCharBoundary bs n
@@ -58,10 +61,16 @@ number_last text (decimal ds es all run) =
     let b = last_append (46 ∷ []) es run.some in
     omega (arith, a, b, digits_last es run)
 
-reference_last : (text : List ℕ) → IsReference text → last text < 128
-reference_last text (one_cell c h) =
-    let a = last_append (91 ∷ 46 ∷ cell_text c) (93 ∷ []) (omega arith) in
+bracketed_last : (x : List ℕ) → last (bracketed x) < 128
+bracketed_last x =
+    let a = last_append (91 ∷ 46 ∷ x) (93 ∷ []) (omega arith) in
     omega (arith, a)
+
+reference_last : (text : List ℕ) → IsReference text → last text < 128
+reference_last text (one_cell c h) = bracketed_last (cell_text c)
+
+rectangle_last : (text : List ℕ) → IsRectangle text → last text < 128
+rectangle_last text (two_cells c d h k) = subst (λ x. last x < 128) (rectangle_is c d) (bracketed_last (beside c d))
 
 name_part_ascii : (b : ℕ) → is_name_part b ≡ true → b < 128
 name_part_ascii b h = grind (arith, nat_tests)
@@ -77,6 +86,7 @@ mark_last m = omega arith
 token_last : (k : Kind) (text : List ℕ) → IsToken k text → last text < 128
 token_last Number text t = number_last text t
 token_last Reference text t = reference_last text t
+token_last Rectangle text t = rectangle_last text t
 token_last Name text t = name_last text t
 token_last (Mark m) text t = subst (λ x. last x < 128) (sym t) (mark_last m)
 

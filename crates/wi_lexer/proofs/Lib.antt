@@ -1,7 +1,9 @@
 pub mod RunLemmas
 pub mod NumberLemmas
 pub mod CellLemmas
+pub mod BracketLemmas
 pub mod ReferenceLemmas
+pub mod RectangleLemmas
 pub mod MarkLemmas
 pub mod NameLemmas
 pub mod TokenLemmas

@@ -1,7 +1,7 @@
 -- The name found at the front is one, and no name there is longer; what begins as a name is no other token.
 use Rattle.std.proofs.Common.{◌≡◌, ℕ, ◌+◌, ◌<◌, ◌≤◌, Bool, true, false, cond, ◌&&◌, ◌==◌, List, [], ◌∷◌, ◌++◌, length, take, drop, Option, Some, None, refl, sym, ap, ◌∙◌, arith}
 use Rattle.std.specs.Prelude.{nat_lt, slice_index}
-use Rattle.std.proofs.lemmas.Bool.{true≢false, ltb-true}
+use Rattle.std.proofs.lemmas.Bool.{true≢false}
 use Rattle.std.proofs.lemmas.Bool.Decides.{nat_tests}
 use Rattle.std.proofs.lemmas.List.{get_or-take}
 use Rattle.std.specs.List.{prefix_len}
@@ -10,11 +10,9 @@ use Rattle.wi_lexer.specs.declared.token.Mark.{Mark}
 use Rattle.wi_lexer.specs.declared.token.Mark.TheVariants.{NotEqual}
 use Rattle.wi_lexer.specs.Runs.{digits_len}
 use Rattle.wi_lexer.specs.Number.{decimals_len, number_len}
-use Rattle.wi_lexer.specs.Reference.{IsReference, one_cell, reference_len}
 use Rattle.wi_lexer.specs.Mark.{mark_text, mark_at}
 use Rattle.wi_lexer.specs.Name.{IsName, is_name_start, is_name_part, name_len}
 use Rattle.wi_lexer.proofs.RunLemmas.{run_within, run_stops, run_more, run_all}
-use Rattle.wi_lexer.proofs.ReferenceLemmas.{reference_sound}
 use Rattle.wi_lexer.proofs.MarkLemmas.{mark_sound}
 
 pub name_some : (text : List ℕ) → IsName text → 0 < length text
@@ -77,16 +75,5 @@ no_mark bs h = go (mark_at bs) refl
         let s = mark_sound bs m e in
         absurd (true≢false (sym h ∙ ap (λ x. is_name_start (slice_index x 0)) (sym s.is) ∙ mark_start m s.after))
 
-reference_start : (text : List ℕ) → IsReference text → slice_index text 0 ≡ 91
-reference_start text (one_cell c h) = refl
-
-pub no_reference : (bs : List ℕ) → is_name_start (slice_index bs 0) ≡ true → reference_len bs ≡ 0
-no_reference bs h = go (nat_lt 0 (reference_len bs)) refl
-  where
-    go : (t : Bool) → nat_lt 0 (reference_len bs) ≡ t → reference_len bs ≡ 0
-    go true e =
-        let some = ltb-true 0 (reference_len bs) e in
-        let s = reference_sound bs some in
-        let first : slice_index bs 0 ≡ 91 = sym (get_or-take (reference_len bs) bs 0 0 some) ∙ reference_start (take (reference_len bs) bs) s.is in
-        absurd (true≢false (sym h ∙ ap is_name_start first))
-    go false e = grind (arith, nat_tests)
+pub no_bracket : (b : ℕ) → is_name_start b ≡ true → b ≡ 91 → ⊥
+no_bracket b h e = true≢false (sym h ∙ ap is_name_start e)

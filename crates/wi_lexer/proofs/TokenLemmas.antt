@@ -1,24 +1,27 @@
 -- What `token_at` finds is the longest token, and it finds one wherever one begins.
 use Rattle.std.proofs.Common.{◌≡◌, ℕ, ◌<◌, ◌≤◌, Bool, true, false, cond, ◌==◌, List, [], ◌∷◌, ◌++◌, length, take, drop, Option, Some, None, refl, sym, ap, ◌∙◌, subst, arith, length-append}
-use Rattle.std.specs.Prelude.{nat_lt}
+use Rattle.std.specs.Prelude.{nat_lt, slice_index}
 use Rattle.std.specs.Option.{option_or}
 use Rattle.std.proofs.lemmas.Bool.{ltb-true, lt-ltb}
 use Rattle.std.proofs.lemmas.List.{take-append-drop, length-take-le}
 use Rattle.std.proofs.Math.Seq.{take-append_seam}
 use Rattle.wi_lexer.specs.declared.token.Kind.{Kind}
-use Rattle.wi_lexer.specs.declared.token.Kind.TheVariants.{Number, Reference, Name, Mark}
+use Rattle.wi_lexer.specs.declared.token.Kind.TheVariants.{Number, Reference, Rectangle, Name, Mark}
 use Rattle.wi_lexer.specs.declared.token.Mark as mark
 use Rattle.wi_lexer.specs.declared.token.Mark.TheVariants.{NotEqual, Less, LessOrEqual, Greater, GreaterOrEqual}
 use Rattle.wi_lexer.specs.Number.{IsNumber, whole, decimal, decimals_len, number_len}
 use Rattle.wi_lexer.specs.Reference.{IsReference, one_cell, reference_len}
-use Rattle.wi_lexer.specs.Cell.{cell_text}
+use Rattle.wi_lexer.specs.Rectangle.{IsRectangle, two_cells, rectangle_len}
+use Rattle.wi_lexer.specs.Cell.{Cell, IsCell, cell_text}
 use Rattle.wi_lexer.specs.Name.{IsName, is_name_start, name_len}
 use Rattle.wi_lexer.specs.Mark.{mark_text, two_byte_mark, one_byte_mark, mark_at}
 use Rattle.wi_lexer.specs.Token.{IsToken, IsLongest, NoToken, of_length, mark_token, token_at}
 use Rattle.wi_lexer.proofs.NumberLemmas.{number_more, number_within, number_sound}
-use Rattle.wi_lexer.proofs.ReferenceLemmas.{reference_sound, reference_complete}
+use Rattle.wi_lexer.proofs.BracketLemmas.{bracketed}
+use Rattle.wi_lexer.proofs.ReferenceLemmas.{reference_sound, reference_complete, no_reference}
+use Rattle.wi_lexer.proofs.RectangleLemmas.{beside, rectangle_is, rectangle_sound, rectangle_complete, no_rectangle, no_reference_len}
 use Rattle.wi_lexer.proofs.MarkLemmas.{BeginsWith, mark_sound}
-use Rattle.wi_lexer.proofs.NameLemmas.{name_some, name_more, name_sound, no_number, no_mark, no_reference}
+use Rattle.wi_lexer.proofs.NameLemmas.{name_some, name_more, name_sound, no_number, no_mark, no_bracket}
 
 -- What is found at a text that begins with a token of kind j: a token that is no shorter, and of that kind if it is as long.
 record IsCovered (j : Kind) (text bs : List ℕ) : Type 0 where
@@ -28,27 +31,64 @@ record IsCovered (j : Kind) (text bs : List ℕ) : Type 0 where
   longer : length text ≤ len
   same : len ≡ length text → kind ≡ j
 
-of_length_found : (k : Kind) (n : ℕ) → 0 < n → of_length k n ≡ Some (k, n)
-of_length_found k n h = ap (λ t. cond t (Some (k, n)) None) (lt-ltb 0 n h)
+-- ---- what each kind finds where the kinds before it find nothing
+
+abbrev from_rectangle : List ℕ → Option (Kind × ℕ)
+from_rectangle bs = option_or (of_length Rectangle (rectangle_len bs)) (of_length Name (name_len bs))
+
+abbrev from_reference : List ℕ → Option (Kind × ℕ)
+from_reference bs = option_or (of_length Reference (reference_len bs)) (from_rectangle bs)
+
+abbrev from_mark : List ℕ → Option (Kind × ℕ)
+from_mark bs = option_or (mark_token (mark_at bs)) (from_reference bs)
+
+last_found : (k : Kind) (n : ℕ) → 0 < n → of_length k n ≡ Some (k, n)
+last_found k n h = ap (λ t. cond t (Some (k, n)) None) (lt-ltb 0 n h)
+
+length_found : (k : Kind) (n : ℕ) (later : Option (Kind × ℕ)) → 0 < n → option_or (of_length k n) later ≡ Some (k, n)
+length_found k n later h = ap (λ o. option_or o later) (last_found k n h)
+
+length_passed : (k : Kind) (n : ℕ) (later : Option (Kind × ℕ)) → n ≡ 0 → option_or (of_length k n) later ≡ later
+length_passed k n later h = ap (λ i. option_or (of_length k i) later) h
 
 number_found : (bs : List ℕ) → 0 < number_len bs → token_at bs ≡ Some (Number, number_len bs)
 unfolding token_at
-number_found bs h = ap (λ o. option_or o (option_or (mark_token (mark_at bs)) (option_or (of_length Reference (reference_len bs)) (of_length Name (name_len bs))))) (of_length_found Number (number_len bs) h)
+number_found bs h = length_found Number (number_len bs) (from_mark bs) h
+
+number_passed : (bs : List ℕ) → number_len bs ≡ 0 → token_at bs ≡ from_mark bs
+unfolding token_at
+number_passed bs h = length_passed Number (number_len bs) (from_mark bs) h
+
+mark_passed : (bs : List ℕ) → number_len bs ≡ 0 → mark_at bs ≡ None → token_at bs ≡ from_reference bs
+mark_passed bs h k = number_passed bs h ∙ ap (λ o. option_or (mark_token o) (from_reference bs)) k
 
 -- a text that begins with `[` is no number and no mark
+bracket_passed : (bs : List ℕ) → token_at (91 ∷ bs) ≡ from_reference (91 ∷ bs)
+unfolding number_len decimals_len mark_at two_byte_mark one_byte_mark
+bracket_passed bs = mark_passed (91 ∷ bs) refl refl
+
 reference_found : (bs : List ℕ) → 0 < reference_len (91 ∷ bs) → token_at (91 ∷ bs) ≡ Some (Reference, reference_len (91 ∷ bs))
-unfolding token_at number_len decimals_len mark_at two_byte_mark one_byte_mark
-reference_found bs h = ap (λ o. option_or o (of_length Name (name_len (91 ∷ bs)))) (of_length_found Reference (reference_len (91 ∷ bs)) h)
+reference_found bs h = bracket_passed bs ∙ length_found Reference (reference_len (91 ∷ bs)) (from_rectangle (91 ∷ bs)) h
+
+rectangle_found : (bs : List ℕ) → reference_len (91 ∷ bs) ≡ 0 → 0 < rectangle_len (91 ∷ bs) → token_at (91 ∷ bs) ≡ Some (Rectangle, rectangle_len (91 ∷ bs))
+rectangle_found bs none h =
+    bracket_passed bs
+    ∙ length_passed Reference (reference_len (91 ∷ bs)) (from_rectangle (91 ∷ bs)) none
+    ∙ length_found Rectangle (rectangle_len (91 ∷ bs)) (of_length Name (name_len (91 ∷ bs))) h
+
+-- no reference begins with another byte than `[`
+brackets_passed : (bs : List ℕ) → (slice_index bs 0 ≡ 91 → ⊥) → from_reference bs ≡ of_length Name (name_len bs)
+brackets_passed bs other =
+    length_passed Reference (reference_len bs) (from_rectangle bs) (no_reference bs other)
+    ∙ length_passed Rectangle (rectangle_len bs) (of_length Name (name_len bs)) (no_rectangle bs other)
 
 name_found : (b : ℕ) (bs : List ℕ) → is_name_start b ≡ true → 0 < name_len (b ∷ bs) → token_at (b ∷ bs) ≡ Some (Name, name_len (b ∷ bs))
-unfolding token_at
 name_found b bs h some =
-    let name = of_length Name (name_len (b ∷ bs)) in
-    let later = option_or (of_length Reference (reference_len (b ∷ bs))) name in
-    ap (λ n. option_or (of_length Number n) (option_or (mark_token (mark_at (b ∷ bs))) later)) (no_number b bs h)
-    ∙ ap (λ o. option_or (mark_token o) later) (no_mark (b ∷ bs) h)
-    ∙ ap (λ n. option_or (of_length Reference n) name) (no_reference (b ∷ bs) h)
-    ∙ of_length_found Name (name_len (b ∷ bs)) some
+    mark_passed (b ∷ bs) (no_number b bs h) (no_mark (b ∷ bs) h)
+    ∙ brackets_passed (b ∷ bs) (no_bracket b h)
+    ∙ last_found Name (name_len (b ∷ bs)) some
+
+-- ---- marks
 
 abbrev MarkFound : mark.Mark → List ℕ → Type 0
 MarkFound m bs = token_at bs ≡ Some (Mark m, length (mark_text m))
@@ -64,36 +104,35 @@ longer_mark : (m n : mark.Mark) (rest : List ℕ) → MarkFound n (mark_text m +
 longer_mark m n rest found longer =
     record { kind = Mark n; len = length (mark_text n); found = found; longer = omega arith; same = λ e. absurd (omega arith) }
 
-no_number_before : (bs : List ℕ) (m : mark.Mark) → number_len bs ≡ 0 → mark_at bs ≡ Some m → MarkFound m bs
-unfolding token_at
-no_number_before bs m none found =
-    let later = option_or (of_length Reference (reference_len bs)) (of_length Name (name_len bs)) in
-    ap (λ n. option_or (of_length Number n) (option_or (mark_token (mark_at bs)) later)) none ∙ ap (λ o. option_or (mark_token o) later) found
+mark_found : (bs : List ℕ) (m : mark.Mark) → number_len bs ≡ 0 → mark_at bs ≡ Some m → MarkFound m bs
+mark_found bs m none h = number_passed bs none ∙ ap (λ o. option_or (mark_token o) (from_reference bs)) h
 
 covered_less : (rest : List ℕ) → CoveredMark Less rest
 unfolding number_len decimals_len mark_at two_byte_mark one_byte_mark
-covered_less [] = whole_mark Less [] (no_number_before (60 ∷ []) Less refl refl)
+covered_less [] = whole_mark Less [] (mark_found (60 ∷ []) Less refl refl)
 covered_less (b ∷ rest) = go (b == 62) (b == 61) refl refl
   where
     go : (greater equal : Bool) → (b == 62) ≡ greater → (b == 61) ≡ equal → CoveredMark Less (b ∷ rest)
-    go true equal e f = longer_mark Less NotEqual (b ∷ rest) (no_number_before (60 ∷ b ∷ rest) NotEqual refl (cc e)) (omega arith)
-    go false true e f = longer_mark Less LessOrEqual (b ∷ rest) (no_number_before (60 ∷ b ∷ rest) LessOrEqual refl (cc (e, f))) (omega arith)
-    go false false e f = whole_mark Less (b ∷ rest) (no_number_before (60 ∷ b ∷ rest) Less refl (cc (e, f)))
+    go true equal e f = longer_mark Less NotEqual (b ∷ rest) (mark_found (60 ∷ b ∷ rest) NotEqual refl (cc e)) (omega arith)
+    go false true e f = longer_mark Less LessOrEqual (b ∷ rest) (mark_found (60 ∷ b ∷ rest) LessOrEqual refl (cc (e, f))) (omega arith)
+    go false false e f = whole_mark Less (b ∷ rest) (mark_found (60 ∷ b ∷ rest) Less refl (cc (e, f)))
 
 covered_greater : (rest : List ℕ) → CoveredMark Greater rest
 unfolding number_len decimals_len mark_at two_byte_mark one_byte_mark
-covered_greater [] = whole_mark Greater [] (no_number_before (62 ∷ []) Greater refl refl)
+covered_greater [] = whole_mark Greater [] (mark_found (62 ∷ []) Greater refl refl)
 covered_greater (b ∷ rest) = go (b == 61) refl
   where
     go : (equal : Bool) → (b == 61) ≡ equal → CoveredMark Greater (b ∷ rest)
-    go true e = longer_mark Greater GreaterOrEqual (b ∷ rest) (no_number_before (62 ∷ b ∷ rest) GreaterOrEqual refl (cc e)) (omega arith)
-    go false e = whole_mark Greater (b ∷ rest) (no_number_before (62 ∷ b ∷ rest) Greater refl (cc e))
+    go true e = longer_mark Greater GreaterOrEqual (b ∷ rest) (mark_found (62 ∷ b ∷ rest) GreaterOrEqual refl (cc e)) (omega arith)
+    go false e = whole_mark Greater (b ∷ rest) (mark_found (62 ∷ b ∷ rest) Greater refl (cc e))
 
 covered_mark : (m : mark.Mark) (rest : List ℕ) → CoveredMark m rest
 unfolding number_len decimals_len mark_at two_byte_mark one_byte_mark
 covered_mark Less rest = covered_less rest
 covered_mark Greater rest = covered_greater rest
-covered_mark m rest = whole_mark m rest (no_number_before (mark_text m ++ rest) m refl refl)
+covered_mark m rest = whole_mark m rest (mark_found (mark_text m ++ rest) m refl refl)
+
+-- ---- every token is found, or a longer one
 
 number_some : (text : List ℕ) → IsNumber text → 0 < length text
 number_some text (whole ds run) = run.some
@@ -106,10 +145,14 @@ mark_some m = omega arith
 reference_some : (text : List ℕ) → IsReference text → 0 < length text
 reference_some text (one_cell c h) = omega arith
 
+rectangle_some : (text : List ℕ) → IsRectangle text → 0 < length text
+rectangle_some text (two_cells c d h k) = omega arith
+
 -- no token is empty
 pub token_some : (k : Kind) (text : List ℕ) → IsToken k text → 0 < length text
 token_some Number text t = number_some text t
 token_some Reference text t = reference_some text t
+token_some Rectangle text t = rectangle_some text t
 token_some Name text t = name_some text t
 token_some (Mark m) text t = subst (λ x. 0 < length x) (sym t) (mark_some m)
 
@@ -135,6 +178,20 @@ covered_reference text (one_cell c h) rest =
       same = λ _. refl;
     }
 
+covered_beside : (c d : Cell) → IsCell c → IsCell d → (rest : List ℕ) → IsCovered Rectangle (bracketed (beside c d)) (bracketed (beside c d) ++ rest)
+covered_beside c d h k rest =
+    let whole = rectangle_complete c d h k rest in
+    record {
+      kind = Rectangle;
+      len = rectangle_len (bracketed (beside c d) ++ rest);
+      found = rectangle_found (46 ∷ (beside c d ++ 93 ∷ []) ++ rest) (no_reference_len c d h k rest) (omega (arith, whole));
+      longer = omega (arith, whole);
+      same = λ _. refl;
+    }
+
+covered_rectangle : (text : List ℕ) → IsRectangle text → (rest : List ℕ) → IsCovered Rectangle text (text ++ rest)
+covered_rectangle text (two_cells c d h k) rest = subst (λ t. IsCovered Rectangle t (t ++ rest)) (rectangle_is c d) (covered_beside c d h k rest)
+
 covered_name : (text : List ℕ) → IsName text → (rest : List ℕ) → IsCovered Name text (text ++ rest)
 covered_name [] t rest = absurd (omega (arith, name_some [] t))
 covered_name (b ∷ text) t rest =
@@ -150,6 +207,7 @@ covered_name (b ∷ text) t rest =
 covered : (j : Kind) (text : List ℕ) → IsToken j text → (rest : List ℕ) → IsCovered j text (text ++ rest)
 covered Number text t rest = covered_number text t rest
 covered Reference text t rest = covered_reference text t rest
+covered Rectangle text t rest = covered_rectangle text t rest
 covered Name text t rest = covered_name text t rest
 covered (Mark m) text t rest = subst (λ x. IsCovered (Mark m) x (x ++ rest)) (sym t) (covered_mark m rest)
 
@@ -172,13 +230,25 @@ inside p q h = cc
 same_token : (j k : Kind) (m n : ℕ) → found_token j m ≡ found_token k n → (j ≡ k) × (m ≡ n)
 same_token j k m n h = let e = inside (j, m) (k, n) h in (ap (λ p. p.0) e, ap (λ p. p.1) e)
 
-stands : (j k : Kind) (m n : ℕ) (bs : List ℕ) → found_token j m ≡ found_token k n → m ≤ length bs → IsToken j (take m bs) → Stands k n bs
-stands j k m n bs h w t =
+same_stands : (j k : Kind) (m n : ℕ) (bs : List ℕ) → found_token j m ≡ found_token k n → Stands j m bs → Stands k n bs
+same_stands j k m n bs h s =
     let e = same_token j k m n h in
-    record {
-      within = omega (arith, e.1, w);
-      token = subst (λ i. IsToken i (take n bs)) e.0 (subst (λ i. IsToken j (take i bs)) e.1 t);
-    }
+    subst (λ i. Stands i n bs) e.0 (subst (λ i. Stands j i bs) e.1 s)
+
+-- what stands there if it has a length, or what later kinds find
+stands_or : (j k : Kind) (m n : ℕ) (bs : List ℕ) (later : Option (Kind × ℕ)) → (0 < m → Stands j m bs) → (later ≡ found_token k n → Stands k n bs) → option_or (of_length j m) later ≡ found_token k n → Stands k n bs
+stands_or j k m n bs later here next h = go (nat_lt 0 m) refl h
+  where
+    go : (t : Bool) → nat_lt 0 m ≡ t → option_or (cond t (found_token j m) None) later ≡ found_token k n → Stands k n bs
+    go true e f = same_stands j k m n bs f (here (ltb-true 0 m e))
+    go false e f = next f
+
+last_stands : (j k : Kind) (m n : ℕ) (bs : List ℕ) → (0 < m → Stands j m bs) → of_length j m ≡ found_token k n → Stands k n bs
+last_stands j k m n bs here h = stands_or j k m n bs None here (λ none. cc) (or_none (of_length j m) ∙ h)
+  where
+    or_none : (o : Option (Kind × ℕ)) → option_or o None ≡ o
+    or_none None = refl
+    or_none (Some t) = refl
 
 mark_stands : (m : mark.Mark) (bs : List ℕ) → BeginsWith m bs → Stands (Mark m) (length (mark_text m)) bs
 mark_stands m bs b = subst (Stands (Mark m) (length (mark_text m))) b.is record {
@@ -186,25 +256,33 @@ mark_stands m bs b = subst (Stands (Mark m) (length (mark_text m))) b.is record 
   token = take-append_seam (mark_text m) b.after;
 }
 
+mark_or : (k : Kind) (n : ℕ) (bs : List ℕ) (later : Option (Kind × ℕ)) → (later ≡ found_token k n → Stands k n bs) → option_or (mark_token (mark_at bs)) later ≡ found_token k n → Stands k n bs
+mark_or k n bs later next h = go (mark_at bs) refl h
+  where
+    go : (o : Option mark.Mark) → mark_at bs ≡ o → option_or (mark_token o) later ≡ found_token k n → Stands k n bs
+    go (Some m) e f = same_stands (Mark m) k (length (mark_text m)) n bs f (mark_stands m bs (mark_sound bs m e))
+    go None e f = next f
+
 found_stands : (bs : List ℕ) (k : Kind) (n : ℕ) → token_at bs ≡ Some (k, n) → Stands k n bs
 unfolding token_at
-found_stands bs k n h = by_number (nat_lt 0 (number_len bs)) refl h
+found_stands bs k n =
+    stands_or Number k (number_len bs) n bs (from_mark bs) number
+    (mark_or k n bs (from_reference bs)
+    (stands_or Reference k (reference_len bs) n bs (from_rectangle bs) reference
+    (stands_or Rectangle k (rectangle_len bs) n bs (of_length Name (name_len bs)) rectangle
+    (last_stands Name k (name_len bs) n bs name))))
   where
-    by_name : (t : Bool) → nat_lt 0 (name_len bs) ≡ t → cond t (found_token Name (name_len bs)) None ≡ found_token k n → Stands k n bs
-    by_name true e f = let s = name_sound bs (ltb-true 0 (name_len bs) e) in stands Name k (name_len bs) n bs f s.within s.is
-    by_name false e f = cc
+    number : 0 < number_len bs → Stands Number (number_len bs) bs
+    number h = record { within = number_within bs; token = number_sound bs h }
 
-    by_reference : (t : Bool) → nat_lt 0 (reference_len bs) ≡ t → option_or (cond t (found_token Reference (reference_len bs)) None) (of_length Name (name_len bs)) ≡ found_token k n → Stands k n bs
-    by_reference true e f = let s = reference_sound bs (ltb-true 0 (reference_len bs) e) in stands Reference k (reference_len bs) n bs f s.within s.is
-    by_reference false e f = by_name (nat_lt 0 (name_len bs)) refl f
+    reference : 0 < reference_len bs → Stands Reference (reference_len bs) bs
+    reference h = let s = reference_sound bs h in record { within = s.within; token = s.is }
 
-    by_mark : (o : Option mark.Mark) → mark_at bs ≡ o → option_or (mark_token o) (option_or (of_length Reference (reference_len bs)) (of_length Name (name_len bs))) ≡ found_token k n → Stands k n bs
-    by_mark (Some m) e f = let s = mark_stands m bs (mark_sound bs m e) in stands (Mark m) k (length (mark_text m)) n bs f s.within s.token
-    by_mark None e f = by_reference (nat_lt 0 (reference_len bs)) refl f
+    rectangle : 0 < rectangle_len bs → Stands Rectangle (rectangle_len bs) bs
+    rectangle h = let s = rectangle_sound bs h in record { within = s.within; token = s.is }
 
-    by_number : (t : Bool) → nat_lt 0 (number_len bs) ≡ t → option_or (cond t (found_token Number (number_len bs)) None) (option_or (mark_token (mark_at bs)) (option_or (of_length Reference (reference_len bs)) (of_length Name (name_len bs)))) ≡ found_token k n → Stands k n bs
-    by_number true e f = stands Number k (number_len bs) n bs f (number_within bs) (number_sound bs (ltb-true 0 (number_len bs) e))
-    by_number false e f = by_mark (mark_at bs) refl f
+    name : 0 < name_len bs → Stands Name (name_len bs) bs
+    name h = let s = name_sound bs h in record { within = s.within; token = s.is }
 
 -- ---- the laws
 

@@ -2,6 +2,7 @@ pub mod Runs
 pub mod Number
 pub mod Cell
 pub mod Reference
+pub mod Rectangle
 pub mod Name
 pub mod Mark
 pub mod Token

@@ -12,6 +12,10 @@ is_blank b = b == byte " " || b == byte "\t" || b == byte "\r" || b == byte "\n"
 abbrev pub is_inside : ℕ → Bool
 is_inside b = if b == byte "]" then false else true
 
+-- any byte but `:`
+abbrev pub is_before_colon : ℕ → Bool
+is_before_colon b = if b == byte ":" then false else true
+
 -- some bytes, each of the class
 pub record IsRun (class : ℕ → Bool) (text : List ℕ) : Type 0 where
   pub some : 0 < length text
@@ -29,3 +33,6 @@ letters_len bs = prefix_len is_ascii_alphabetic bs
 
 abbrev pub inside_len : List ℕ → ℕ
 inside_len bs = prefix_len is_inside bs
+
+abbrev pub before_colon_len : List ℕ → ℕ
+before_colon_len bs = prefix_len is_before_colon bs

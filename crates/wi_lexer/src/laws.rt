@@ -3,6 +3,7 @@
 ghost use Rattle.std.specs.Prelude.{◌≡◌, ◌↔◌, ℕ, ◌≤◌, List, length, take, Some, None};
 ghost use Rattle.wi_lexer.specs.Cell.{Cell, IsCell, cell_text, cell_of};
 ghost use Rattle.wi_lexer.specs.Reference.{reference_text, reference_of};
+ghost use Rattle.wi_lexer.specs.Rectangle.{rectangle_text, rectangle_of};
 ghost use Rattle.wi_lexer.specs.Token.{token_at, IsLongest, NoToken};
 ghost use Rattle.wi_lexer.specs.Tokens.{Tokens, AreTokens, tokens};
 ghost use Rattle.wi_lexer.specs.declared.token.Kind.{Kind};
@@ -45,4 +46,14 @@ pub fn reference_found()
 /// Each reference is found in its text.
 pub fn reference_spelled()
     ensures { (c : Cell) → IsCell c → reference_of (reference_text c) ≡ Some c }
+{}
+
+/// A text in which the cells of a rectangle are found is the reference to it.
+pub fn rectangle_found()
+    ensures { (bs : List ℕ) (c d : Cell) → rectangle_of bs ≡ Some (c, d) → IsCell c × IsCell d × (rectangle_text c d ≡ bs) }
+{}
+
+/// Each reference to a rectangle is found in its text.
+pub fn rectangle_spelled()
+    ensures { (c d : Cell) → IsCell c → IsCell d → rectangle_of (rectangle_text c d) ≡ Some (c, d) }
 {}

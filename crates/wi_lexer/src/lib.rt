@@ -9,6 +9,6 @@ mod scan;
 mod tests;
 mod token;
 
-pub use cell::{CellText, cell_of, reference_of};
+pub use cell::{CellText, cell_of, rectangle_of, reference_of};
 pub use lexer::{BadToken, Lexer, Token};
 pub use token::{Kind, Mark};

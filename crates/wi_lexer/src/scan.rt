@@ -4,11 +4,12 @@ ghost use Rattle.std.specs.Prelude.{◌≡◌, ℕ, length, slice_index, ◌<◌
 ghost use Rattle.wi_lexer.specs.Runs as runs;
 ghost use Rattle.wi_lexer.specs.Number as number;
 ghost use Rattle.wi_lexer.specs.Reference as reference;
+ghost use Rattle.wi_lexer.specs.Rectangle as rectangle;
 ghost use Rattle.wi_lexer.specs.Name as name;
 ghost use Rattle.wi_lexer.specs.Mark as mark;
 ghost use Rattle.wi_lexer.specs.Token as spec;
 
-use crate::cell::reference_of;
+use crate::cell::{rectangle_of, reference_of};
 use crate::token::{Kind, Mark};
 
 fn is_blank(b: u8) -> bool
@@ -47,6 +48,14 @@ fn inside_len(text: &[u8]) -> usize
     ensures within { result ≤ length text.now }
 {
     text.iter().take_while(|b| **b != b']').count()
+}
+
+#[tactic(auto, using(crate::proofs::RunLemmas::run_within))]
+pub fn before_colon_len(text: &[u8]) -> usize
+    ensures value { result ≡ runs.before_colon_len text.now }
+    ensures within { result ≤ length text.now }
+{
+    text.iter().take_while(|b| **b != b':').count()
 }
 
 // The byte there, or 0 past the end.
@@ -123,15 +132,35 @@ fn mark_at(text: &[u8]) -> Option<Mark>
     two_byte_mark(first, byte(text, 1)).or(one_byte_mark(first))
 }
 
-#[tactic(auto, unfolding(crate::specs::Reference::reference_len))]
+#[tactic(auto, using(crate::proofs::ReferenceLemmas::no_reference), unfolding(crate::specs::Reference::reference_len))]
 fn reference_len(text: &[u8]) -> usize
     ensures { result ≡ reference.reference_len text.now }
 {
+    if byte(text, 0) != b'[' {
+        return 0;
+    }
     let inside = inside_len(text);
     if inside == text.len() {
         return 0;
     }
     if reference_of(&text[..inside + 1]).is_none() {
+        return 0;
+    }
+    inside + 1
+}
+
+#[tactic(auto, using(crate::proofs::RectangleLemmas::no_rectangle), unfolding(crate::specs::Rectangle::rectangle_len))]
+fn rectangle_len(text: &[u8]) -> usize
+    ensures { result ≡ rectangle.rectangle_len text.now }
+{
+    if byte(text, 0) != b'[' {
+        return 0;
+    }
+    let inside = inside_len(text);
+    if inside == text.len() {
+        return 0;
+    }
+    if rectangle_of(&text[..inside + 1]).is_none() {
         return 0;
     }
     inside + 1
@@ -180,6 +209,10 @@ pub fn token_at(text: &[u8]) -> Option<(Kind, usize)>
     let reference = reference_len(text);
     if reference > 0 {
         return Some((Kind::Reference, reference));
+    }
+    let rectangle = rectangle_len(text);
+    if rectangle > 0 {
+        return Some((Kind::Rectangle, rectangle));
     }
     let name = name_len(text);
     if name > 0 {

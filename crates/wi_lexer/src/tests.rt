@@ -1,4 +1,4 @@
-use crate::{BadToken, Kind, Lexer, Mark, cell_of, reference_of};
+use crate::{BadToken, Kind, Lexer, Mark, cell_of, rectangle_of, reference_of};
 
 // Whether the tokens of the source have these texts, and end with a bad one or not.
 fn is_read_as(source: &str, texts: &[&str], is_bad: bool) -> bool {
@@ -52,6 +52,7 @@ fn splits_formulas(rt: HostRuntime) {
             false
         )
     );
+    assert!(rt; is_read_as("[.A1:.B2][.$a$1:.B2]", &["[.A1:.B2]", "[.$a$1:.B2]"], false));
     assert!(rt; is_read_as("1 ] 2", &["1"], true));
     assert!(rt; is_read_as("1\u{b}+2", &["1"], true));
     assert!(rt; is_read_as("1\u{a0}+2", &["1"], true));
@@ -79,8 +80,34 @@ fn splits_formulas(rt: HostRuntime) {
 #[test]
 fn refuses_other_brackets(rt: HostRuntime) {
     for source in [
-        "[.A0]", "[.A01]", "[.A]", "[.1]", "[.]", "[A1]", "[.A1", ".A1]", "[ .A1]", "[. A1]",
-        "[.A 1]", "[.A1 ]", "[.$$A1]", "[.A1$]", "[.A$]", "[.A1.]", "[.[A1]", "[.é1]", "[.A-1]",
+        "[.A0]",
+        "[.A01]",
+        "[.A]",
+        "[.1]",
+        "[.]",
+        "[A1]",
+        "[.A1",
+        ".A1]",
+        "[ .A1]",
+        "[. A1]",
+        "[.A 1]",
+        "[.A1 ]",
+        "[.$$A1]",
+        "[.A1$]",
+        "[.A$]",
+        "[.A1.]",
+        "[.[A1]",
+        "[.é1]",
+        "[.A-1]",
+        "[.A1:A2]",
+        "[.A1:.A2:.A3]",
+        "[.A1: .A2]",
+        "[.A1 :.A2]",
+        "[.A1:.A2",
+        "[.A1:.A0]",
+        "[.A1:.]",
+        "[.:.A1]",
+        "[.A1.A2]",
     ] {
         assert!(rt; is_read_as(source, &[], true), "at {source}");
     }
@@ -88,12 +115,13 @@ fn refuses_other_brackets(rt: HostRuntime) {
 
 #[test]
 fn tells_kinds_and_places(rt: HostRuntime) {
-    let mut lexer = Lexer::new(" 12 +[.A1]Z.9");
+    let mut lexer = Lexer::new(" 12 +[.A1]Z.9[.A1:.B2]");
     for (kind, start) in [
         (Kind::Number, 1),
         (Kind::Mark(Mark::Plus), 4),
         (Kind::Reference, 5),
         (Kind::Name, 10),
+        (Kind::Rectangle, 13),
     ] {
         let token = lexer
             .next_token()
@@ -143,6 +171,13 @@ fn tells_the_parts_of_cells(rt: HostRuntime) {
     assert!(rt; !row.column_is_absolute && row.row_is_absolute);
     assert_eq!(rt; row.letters, b"Z".as_slice());
     assert_eq!(rt; row.digits, b"9".as_slice());
+    let (first, second) = rectangle_of(b"[.a1:.$B2]").expect(&rt, "a rectangle");
+    assert_eq!(rt; first.letters, b"a".as_slice());
+    assert!(rt; second.column_is_absolute && !second.row_is_absolute);
+    assert_eq!(rt; second.letters, b"B".as_slice());
+    assert_eq!(rt; second.digits, b"2".as_slice());
     assert!(rt; reference_of(b"[.Z9] ").is_none());
+    assert!(rt; reference_of(b"[.Z9:.Z9]").is_none());
+    assert!(rt; rectangle_of(b"[.Z9]").is_none());
     assert!(rt; cell_of(b"Z09").is_none());
 }

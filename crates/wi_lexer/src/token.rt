@@ -10,6 +10,8 @@ pub enum Kind {
     Number,
     /// `[.CELL]`; `reference_of` tells its cell.
     Reference,
+    /// `[.CELL:.CELL]`; `rectangle_of` tells its cells.
+    Rectangle,
     /// An ASCII letter or `_`, then ASCII letters, digits, `_` and points.
     Name,
     /// An operator, a parenthesis or a semicolon.
