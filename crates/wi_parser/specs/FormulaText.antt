@@ -1,15 +1,16 @@
 -- The symbols of a formula's text.
-use Rattle.std.specs.Prelude.{ℕ, List, [], ◌∷◌, ◌++◌, map, codes, ◌==◌, if◌then◌else◌, Option, Some, None, unwrap_or}
+use Rattle.std.specs.Prelude.{ℕ, List, [], ◌∷◌, ◌++◌, map, codes, ◌==◌, if◌then◌else◌, Option, Some, None, is_some, ◌&&◌, unwrap_or}
 use Rattle.std.specs.Str.{str_eq_ignore_ascii_case}
 use Rattle.wi_fraction.specs.Number.{Number as Numbers}
 use Rattle.wi_fraction.specs.Text.{read_decimal}
 use Rattle.wi_values.specs.AddressReading.{address_at}
 use Rattle.wi_lexer.specs.declared.token.Kind.{Kind}
-use Rattle.wi_lexer.specs.declared.token.Kind.TheVariants.{Number, Reference, Mark, Name}
+use Rattle.wi_lexer.specs.declared.token.Kind.TheVariants.{Number, Reference, Rectangle, Mark, Name}
 use Rattle.wi_lexer.specs.declared.token.Mark as mark
 use Rattle.wi_lexer.specs.declared.token.Mark.TheVariants.{OpenParenthesis, CloseParenthesis, Semicolon, Plus, Minus, Asterisk, Slash}
 use Rattle.wi_lexer.specs.Cell.{Cell}
 use Rattle.wi_lexer.specs.Reference.{reference_of}
+use Rattle.wi_lexer.specs.Rectangle.{rectangle_of}
 use Rattle.wi_lexer.specs.Tokens.{Tokens, tokens}
 use Rattle.wi_parser.specs.declared.expr.Operator.TheVariants.{Add, Subtract, Multiply, Divide}
 use Rattle.wi_parser.specs.declared.fault.ParseFault.TheVariants.{OutOfSheet, NumberRange, Syntax}
@@ -31,6 +32,13 @@ abbrev pub reference_symbol : Option Cell → Symbol
 reference_symbol None = refused Syntax
 reference_symbol (Some c) = cell_symbol c (address_at c.letters c.digits)
 
+-- a rectangle, if the sheet has its corners; no formula has one yet
+abbrev pub rectangle_symbol : Option (Cell × Cell) → Symbol
+rectangle_symbol None = refused Syntax
+rectangle_symbol (Some p) =
+    if is_some (address_at p.0.letters p.0.digits) && is_some (address_at p.1.letters p.1.digits) then refused Syntax else refused OutOfSheet
+
+-- a mark; no formula has any other one yet
 abbrev pub mark_symbol : mark.Mark → Symbol
 mark_symbol OpenParenthesis = open_parenthesis
 mark_symbol CloseParenthesis = close_parenthesis
@@ -39,6 +47,7 @@ mark_symbol Plus = infix_mark Add
 mark_symbol Minus = infix_mark Subtract
 mark_symbol Asterisk = infix_mark Multiply
 mark_symbol Slash = infix_mark Divide
+mark_symbol other = refused Syntax
 
 -- the name of what-ifs, in letters of either case; no formula has another name yet
 abbrev pub name_symbol : List ℕ → Symbol
@@ -48,6 +57,7 @@ name_symbol bs = if str_eq_ignore_ascii_case bs (codes "MULTIPLE.OPERATIONS") th
 abbrev pub symbol_of : Kind → List ℕ → Symbol
 symbol_of Number bs = number_symbol (read_decimal bs)
 symbol_of Reference bs = reference_symbol (reference_of bs)
+symbol_of Rectangle bs = rectangle_symbol (rectangle_of bs)
 symbol_of (Mark m) bs = mark_symbol m
 symbol_of Name bs = name_symbol bs
 

@@ -3,14 +3,14 @@
 ghost use Rattle.std.specs.Prelude.{◌≡◌};
 ghost use Rattle.wi_parser.specs.Words.{meant_by};
 ghost use Rattle.wi_parser.specs.Symbol.{refused};
-ghost use Rattle.wi_parser.specs.FormulaText.{symbol_of, name_symbol, cell_symbol, reference_symbol, mark_symbol};
+ghost use Rattle.wi_parser.specs.FormulaText.{symbol_of, name_symbol, cell_symbol, reference_symbol, rectangle_symbol, mark_symbol};
 ghost use Rattle.wi_lexer.specs.Cell.{parts};
 ghost use Rattle.wi_lexer.specs.Reference as spec;
 
 use crate::expr::{Operator, Reference};
 use crate::fault::ParseFault;
 use wi_fraction::Fraction;
-use wi_lexer::{CellText, Kind, Mark, Token, reference_of};
+use wi_lexer::{CellText, Kind, Mark, Token, rectangle_of, reference_of};
 use wi_values::Address;
 
 /// A token with its value.
@@ -36,6 +36,7 @@ impl Word {
         match token.kind {
             Kind::Number => number(token.text.as_bytes()),
             Kind::Reference => reference(token.text.as_bytes()),
+            Kind::Rectangle => rectangle(token.text.as_bytes()),
             Kind::Mark(mark) => of_mark(mark),
             Kind::Name => name(token.text),
         }
@@ -83,6 +84,28 @@ fn cell_named(cell: CellText<'_>) -> Word
     }
 }
 
+// No formula has a rectangle yet.
+fn rectangle(text: &[u8]) -> Word
+    ensures { meant_by result ≡ symbol_of Kind.Rectangle text.now }
+{
+    match rectangle_of(text) {
+        Some((first, last)) => between(first, last),
+        None => Word::Refused(ParseFault::Syntax),
+    }
+}
+
+fn between(first: CellText<'_>, last: CellText<'_>) -> Word
+    ensures { meant_by result ≡ rectangle_symbol (Some (parts first.entry, parts last.entry)) }
+{
+    if Address::from_parts(first.letters, first.digits).is_none() {
+        return Word::Refused(ParseFault::OutOfSheet);
+    }
+    if Address::from_parts(last.letters, last.digits).is_none() {
+        return Word::Refused(ParseFault::OutOfSheet);
+    }
+    Word::Refused(ParseFault::Syntax)
+}
+
 fn of_mark(mark: Mark) -> Word
     ensures { meant_by result ≡ mark_symbol mark }
 {
@@ -94,5 +117,15 @@ fn of_mark(mark: Mark) -> Word
         Mark::Minus => Word::Infix(Operator::Subtract),
         Mark::Asterisk => Word::Infix(Operator::Multiply),
         Mark::Slash => Word::Infix(Operator::Divide),
+        // No formula has these yet.
+        Mark::Caret
+        | Mark::Percent
+        | Mark::Ampersand
+        | Mark::Equal
+        | Mark::NotEqual
+        | Mark::Less
+        | Mark::LessOrEqual
+        | Mark::Greater
+        | Mark::GreaterOrEqual => Word::Refused(ParseFault::Syntax),
     }
 }
