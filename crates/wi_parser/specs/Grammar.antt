@@ -13,6 +13,7 @@ line_of Multiply = 1
 line_of Divide = 1
 line_of Add = 2
 line_of Subtract = 2
+line_of op = 9
 
 -- the line of a whole formula
 abbrev pub loosest : ℕ

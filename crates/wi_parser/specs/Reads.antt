@@ -1,7 +1,7 @@
 -- Which cells a formula reads, and which it only names.
 use Rattle.std.specs.Prelude.{◌==◌, ℕ, Bool, false, ◌||◌, List, [], ◌++◌, map, Option, Some, None}
 use Rattle.std.specs.List.{list_any}
-use Rattle.wi_parser.specs.Tree.{Tree, number, cell, parenthesized, binary, what_if}
+use Rattle.wi_parser.specs.Tree.{Tree, number, cell, parenthesized, signed, percent, binary, what_if}
 use Rattle.wi_parser.specs.declared.content.Content.{Content}
 use Rattle.wi_parser.specs.declared.content.Content.TheVariants.{Constant, Formula}
 
@@ -11,6 +11,8 @@ abbrev pub reads : Tree → ℕ → Bool
 reads (number x) a = false
 reads (cell r) a = r.at == a
 reads (parenthesized t) a = reads t a
+reads (signed s t) a = reads t a
+reads (percent t) a = reads t a
 reads (binary op t u) a = reads t a || reads u a
 reads (what_if f pairs) a = f.at == a || list_any (λ p. p.1.at == a) pairs
 
@@ -19,6 +21,8 @@ abbrev pub inputs_of : Tree → List ℕ
 inputs_of (number x) = []
 inputs_of (cell r) = []
 inputs_of (parenthesized t) = inputs_of t
+inputs_of (signed s t) = inputs_of t
+inputs_of (percent t) = inputs_of t
 inputs_of (binary op t u) = inputs_of t ++ inputs_of u
 inputs_of (what_if f pairs) = map (λ p. p.0.at) pairs
 

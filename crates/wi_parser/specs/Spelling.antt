@@ -1,7 +1,7 @@
 -- The symbols that spell a tree.
 use Rattle.std.specs.Prelude.{List, [], ◌∷◌, ◌++◌}
 use Rattle.std.specs.List.{flat_map}
-use Rattle.wi_parser.specs.Tree.{Tree, number, cell, parenthesized, binary, what_if}
+use Rattle.wi_parser.specs.Tree.{Tree, number, cell, parenthesized, signed, percent, binary, what_if}
 use Rattle.wi_parser.specs.Symbol.{Symbol, numeral, reference, open_parenthesis, close_parenthesis, infix_mark}
 use Rattle.wi_parser.specs.Grammar.{loosest, Spells, pair_symbols, what_if_symbols}
 
@@ -10,6 +10,8 @@ abbrev pub spelling : Tree → List Symbol
 spelling (number x) = numeral x ∷ []
 spelling (cell r) = reference r ∷ []
 spelling (parenthesized t) = open_parenthesis ∷ spelling t ++ close_parenthesis ∷ []
+spelling (signed s t) = spelling t
+spelling (percent t) = spelling t
 spelling (binary op l r) = spelling l ++ infix_mark op ∷ spelling r
 spelling (what_if f pairs) = what_if_symbols f (flat_map pair_symbols pairs)
 

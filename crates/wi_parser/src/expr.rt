@@ -22,6 +22,22 @@ pub enum Operator {
     Subtract,
     Multiply,
     Divide,
+    Power,
+    /// `&`, which joins texts.
+    Join,
+    Equal,
+    NotEqual,
+    Less,
+    LessOrEqual,
+    Greater,
+    GreaterOrEqual,
+}
+
+/// A sign before an operand.
+#[derive(Clone, Copy, PartialEq, Eq, Debug)]
+pub enum Sign {
+    Plus,
+    Minus,
 }
 
 /// An input cell of a what-if, and the cell whose value replaces it.
@@ -37,6 +53,9 @@ pub enum Expr {
     Number(Fraction),
     Cell(Reference),
     Parenthesized(Box<Expr>),
+    Signed(Sign, Box<Expr>),
+    /// A hundredth of its operand.
+    Percent(Box<Expr>),
     Binary(Operator, Box<Expr>, Box<Expr>),
     /// The value of a cell if the inputs had the values of other cells.
     WhatIf(Reference, Vec<Pair>),
@@ -51,6 +70,8 @@ impl Expr {
             Expr::Number(x) => Ok(Expr::Number(*x)),
             Expr::Cell(r) => Ok(Expr::Cell(*r)),
             Expr::Parenthesized(t) => Ok(Expr::Parenthesized(Box::new(alloc, t.copy(alloc)?)?)),
+            Expr::Signed(sign, t) => Ok(Expr::Signed(*sign, Box::new(alloc, t.copy(alloc)?)?)),
+            Expr::Percent(t) => Ok(Expr::Percent(Box::new(alloc, t.copy(alloc)?)?)),
             Expr::Binary(op, t, u) => Ok(Expr::Binary(
                 *op,
                 Box::new(alloc, t.copy(alloc)?)?,

@@ -78,6 +78,8 @@ fn push_inputs(expr: &Expr, inputs: &mut Vec<Address>) -> Result<(), AllocError>
         Expr::Number(_) => Ok(()),
         Expr::Cell(_) => Ok(()),
         Expr::Parenthesized(inner) => push_inputs(inner, inputs),
+        Expr::Signed(_, operand) => push_inputs(operand, inputs),
+        Expr::Percent(operand) => push_inputs(operand, inputs),
         Expr::Binary(_, left, right) => {
             push_inputs(left, inputs)?;
             push_inputs(right, inputs)

@@ -128,5 +128,13 @@ fn line_of(op: Operator) -> u8
     match op {
         Operator::Multiply | Operator::Divide => 1,
         Operator::Add | Operator::Subtract => 2,
+        Operator::Power
+        | Operator::Join
+        | Operator::Equal
+        | Operator::NotEqual
+        | Operator::Less
+        | Operator::LessOrEqual
+        | Operator::Greater
+        | Operator::GreaterOrEqual => 9,
     }
 }
