@@ -4,22 +4,37 @@ use Rattle.std.proofs.lemmas.Bool.{ne_eqb, eq-eqb}
 use Rattle.wi_fraction.specs.Number.{Number}
 use Rattle.wi_parser.specs.declared.expr.Operator.{Operator}
 use Rattle.wi_parser.specs.declared.expr.Reference.{Reference}
-use Rattle.wi_parser.specs.Tree.{Tree, number, cell, parenthesized, binary, what_if}
-use Rattle.wi_parser.specs.Symbol.{Symbol, numeral, reference, open_parenthesis, close_parenthesis, infix_mark}
-use Rattle.wi_parser.specs.Grammar.{line_of, loosest, Spells, pair_symbols, what_if_symbols, a_number, a_cell, in_parentheses, one_input, two_inputs, tighter, joined}
-use Rattle.wi_parser.specs.Reader.{read_then, then_close, operator_at, pair_at, what_if_at, atom, chain, line, expression, if_last, whole}
+use Rattle.wi_parser.specs.declared.expr.Operator.TheVariants.{Power}
+use Rattle.wi_parser.specs.declared.expr.Sign.{Sign}
+use Rattle.wi_parser.specs.declared.expr.Sign.TheVariants.{Plus, Minus}
+use Rattle.wi_parser.specs.Tree.{Tree, number, cell, parenthesized, signed, percent, binary, what_if}
+use Rattle.wi_parser.specs.Symbol.{Symbol, numeral, reference, open_parenthesis, close_parenthesis, infix_mark, sign_mark, percent_mark}
+use Rattle.wi_parser.specs.Grammar.{line_of, loosest, Spells, pair_symbols, what_if_symbols, a_number, a_cell, in_parentheses, one_input, two_inputs, with_sign, with_percent, tighter, joined}
+use Rattle.wi_parser.specs.Reader.{Parse, read_then, then_close, after_percent, operator_at, pair_at, what_if_at, atom, signed_read, prefixed, percents, chain, line, expression, if_last, whole}
 use Rattle.wi_parser.specs.Nesting.{depth}
-use Rattle.wi_parser.proofs.Turns.{chain_stop, chain_more}
+use Rattle.wi_parser.proofs.Turns.{percents_stop, chain_stop, chain_more}
 
--- no operator of the lines up to k stands first
+-- no percent mark and no operator of the lines up to k stands first
 abbrev pub Stops : ℕ → List Symbol → Type 0
 Stops zero rest = Unit {0}
-Stops (suc k) rest = Stops k rest × (operator_at (suc k) rest ≡ None)
+Stops (suc zero) rest = Unit {0}
+Stops (suc (suc zero)) rest = after_percent rest ≡ None
+Stops (suc (suc (suc k))) rest = Stops (suc (suc k)) rest × (operator_at (suc (suc (suc k))) rest ≡ None)
 
 -- an operator of a looser line stops
 stops_at : (k : ℕ) (op : Operator) (ts : List Symbol) → k < line_of op → Stops k (infix_mark op ∷ ts)
 stops_at zero op ts h = tt
-stops_at (suc k) op ts h = (stops_at k op ts (omega arith), ap (λ b. cond b (Some (op, ts)) None) (ne_eqb (line_of op) (suc k) (λ e. omega arith)))
+stops_at (suc zero) op ts h = tt
+stops_at (suc (suc zero)) op ts h = refl
+stops_at (suc (suc (suc k))) op ts h =
+    (stops_at (suc (suc k)) op ts (omega arith), ap (λ b. cond b (Some (op, ts)) None) (ne_eqb (line_of op) (suc (suc (suc k))) (λ e. omega arith)))
+
+-- nothing that goes on stands there
+ended : Stops loosest []
+ended = (((((refl, refl), refl), refl), refl), refl)
+
+closed : (rest : List Symbol) → Stops loosest (close_parenthesis ∷ rest)
+closed rest = (((((refl, refl), refl), refl), refl), refl)
 
 operator_here : (k : ℕ) (op : Operator) (ts : List Symbol) → line_of op ≡ k → operator_at k (infix_mark op ∷ ts) ≡ Some (op, ts)
 operator_here k op ts e = ap (λ b. cond b (Some (op, ts)) None) (eq-eqb (line_of op) k e)
@@ -38,26 +53,42 @@ record Turns (d k n : ℕ) (t : Tree) (us rest : List Symbol) : Type 0 where
 abbrev Spine : ℕ → ℕ → Tree → List Symbol → Type 0
 Spine d k t us = (n : ℕ) × ((rest : List Symbol) → Stops k rest → Turns d k n t us rest)
 
+-- whatever follows
+abbrev Always : ℕ → ℕ → Tree → List Symbol → Type 0
+Always d k t us = (rest : List Symbol) → line (expression d) k (us ++ rest) ≡ Some (t, rest)
+
 abbrev Claim : ℕ → ℕ → Tree → List Symbol → Type 0
-Claim d zero t us = Taken d 0 t us
-Claim d (suc k) t us = Spine d k t us
+Claim d zero t us = Always d 0 t us
+Claim d (suc zero) t us = Always d 1 t us
+Claim d (suc (suc zero)) t us = (rest : List Symbol) → line (expression d) 2 (us ++ rest) ≡ percents t rest
+Claim d (suc (suc (suc k))) t us = Spine d (suc (suc k)) t us
 
 -- the loop goes its turns and stops
-led_on : (d k n : ℕ) (t : Tree) (us rest : List Symbol) → Turns d k n t us rest → operator_at (suc k) rest ≡ None → line (expression d) (suc k) (us ++ rest) ≡ Some (t, rest)
+led_on : (d k n : ℕ) (t : Tree) (us rest : List Symbol) → Turns d (suc (suc k)) n t us rest → operator_at (suc (suc (suc k))) rest ≡ None → line (expression d) (suc (suc (suc k))) (us ++ rest) ≡ Some (t, rest)
 unfolding line
 led_on d k n t us rest turns h =
-    let next = line (expression d) k in
+    let next = line (expression d) (suc (suc k)) in
+    let looser = suc (suc (suc k)) in
     let m = length turns.after - n in
     let all_turns : length turns.after ≡ m + n = omega (arith, turns.room) in
-    ap (read_then (λ t rest. chain next (suc k) (length rest) t rest)) turns.found
-    ∙ ap (λ j. chain next (suc k) j turns.first turns.after) all_turns ∙ turns.led m ∙ chain_stop next (suc k) m t rest h
+    ap (read_then (λ t rest. chain next looser (length rest) t rest)) turns.found
+    ∙ ap (λ j. chain next looser j turns.first turns.after) all_turns ∙ turns.led m ∙ chain_stop next looser m t rest h
 
 taken : (d k : ℕ) (t : Tree) (us : List Symbol) → Claim d k t us → Taken d k t us
-taken d zero t us c = c
-taken d (suc k) t us c = λ rest stops. led_on d k c.0 t us rest (c.1 rest stops.0) stops.1
+taken d zero t us c = λ rest stops. c rest
+taken d (suc zero) t us c = λ rest stops. c rest
+taken d (suc (suc zero)) t us c = λ rest stops. c rest ∙ percents_stop t rest stops
+taken d (suc (suc (suc k))) t us c = λ rest stops. led_on d k c.0 t us rest (c.1 rest stops.0) stops.1
 
-one_line : (d k : ℕ) (t : Tree) (us : List Symbol) → Taken d k t us → Claim d (suc k) t us
-one_line d k t us c = (
+-- an atom doesn't begin with a sign
+unsigned : (inner : Parse) (ts : List Symbol) (p : Tree × List Symbol) → atom inner ts ≡ Some p → prefixed (atom inner) ts ≡ Some p
+unfolding atom
+unsigned inner [] p h = h
+unsigned inner (infix_mark op ∷ ts) p h = cc
+unsigned inner (x ∷ ts) p h = h
+
+one_operand : (d k : ℕ) (t : Tree) (us : List Symbol) → Taken d k t us → Spine d k t us
+one_operand d k t us c = (
   0,
   λ rest stops. record {
     first = t;
@@ -68,8 +99,14 @@ one_line d k t us c = (
   },
 )
 
+one_line : (d k : ℕ) (t : Tree) (us : List Symbol) → Claim d k t us → Claim d (suc k) t us
+unfolding line
+one_line d zero t us c = λ rest. unsigned (expression d) (us ++ rest) (t, rest) (c rest)
+one_line d (suc zero) t us c = λ rest. ap (read_then percents) (c rest)
+one_line d (suc (suc k)) t us c = one_operand d (suc (suc k)) t us (taken d (suc (suc k)) t us c)
+
 -- one more operand
-one_more : (d k : ℕ) (op : Operator) (l r : Tree) (ls rs : List Symbol) → line_of op ≡ suc k → Claim d (suc k) l ls → Taken d k r rs → Claim d (suc k) (binary op l r) (ls ++ infix_mark op ∷ rs)
+one_more : (d k : ℕ) (op : Operator) (l r : Tree) (ls rs : List Symbol) → line_of op ≡ suc k → Spine d k l ls → Taken d k r rs → Spine d k (binary op l r) (ls ++ infix_mark op ∷ rs)
 one_more d k op l r ls rs e left right = (
   suc left.0,
   λ rest stops.
@@ -90,32 +127,50 @@ one_more d k op l r ls rs e left right = (
       },
 )
 
+-- no line tighter than powers has an operator
+from_powers : (op : Operator) → 3 ≤ line_of op
+from_powers Power = omega arith
+from_powers op = omega arith
+
+joins : (d k : ℕ) (op : Operator) (l r : Tree) (ls rs : List Symbol) → line_of op ≡ suc k → Claim d (suc k) l ls → Taken d k r rs → Claim d (suc k) (binary op l r) (ls ++ infix_mark op ∷ rs)
+joins d zero op l r ls rs e left right = absurd (omega (arith, from_powers op))
+joins d (suc zero) op l r ls rs e left right = absurd (omega (arith, from_powers op))
+joins d (suc (suc k)) op l r ls rs e left right = one_more d (suc (suc k)) op l r ls rs e left right
+
+sign_taken : (d : ℕ) (s : Sign) (t : Tree) (ts : List Symbol) → Claim d 1 t ts → Claim d 1 (signed s t) (sign_mark s ∷ ts)
+unfolding line
+sign_taken d Plus t ts c rest = ap (signed_read Plus) (c rest)
+sign_taken d Minus t ts c rest = ap (signed_read Minus) (c rest)
+
+percent_taken : (d : ℕ) (t : Tree) (ts : List Symbol) → Claim d 2 t ts → Claim d 2 (percent t) (ts ++ percent_mark ∷ [])
+percent_taken d t ts c rest = ap (line (expression d) 2) (append_assoc ts (percent_mark ∷ []) rest) ∙ c (percent_mark ∷ rest)
+
 -- parentheses nest one deeper
-inner_taken : (d : ℕ) (t : Tree) (us rest : List Symbol) → Taken d 2 t us → Stops 2 rest → expression (suc d) (us ++ rest) ≡ Some (t, rest)
+inner_taken : (d : ℕ) (t : Tree) (us rest : List Symbol) → Taken d loosest t us → Stops loosest rest → expression (suc d) (us ++ rest) ≡ Some (t, rest)
 unfolding expression
 inner_taken d t us rest c stops = c rest stops
 
-marks_taken : (d : ℕ) (t : Tree) (ts : List Symbol) → Taken d 2 t ts → Taken (suc d) 0 (parenthesized t) (open_parenthesis ∷ ts ++ close_parenthesis ∷ [])
+marks_taken : (d : ℕ) (t : Tree) (ts : List Symbol) → Taken d loosest t ts → Always (suc d) 0 (parenthesized t) (open_parenthesis ∷ ts ++ close_parenthesis ∷ [])
 unfolding line atom
-marks_taken d t ts c rest stops =
+marks_taken d t ts c rest =
     ap (λ l. read_then (λ u. then_close (parenthesized u)) (expression (suc d) l)) (append_assoc ts (close_parenthesis ∷ []) rest)
-    ∙ ap (read_then (λ u. then_close (parenthesized u))) (inner_taken d t ts (close_parenthesis ∷ rest) c ((tt, refl), refl))
+    ∙ ap (read_then (λ u. then_close (parenthesized u))) (inner_taken d t ts (close_parenthesis ∷ rest) c (closed rest))
 
-number_taken : (d : ℕ) (x : Number) → Taken d 0 (number x) (numeral x ∷ [])
+number_taken : (d : ℕ) (x : Number) → Always d 0 (number x) (numeral x ∷ [])
 unfolding line atom
-number_taken d x rest stops = refl
+number_taken d x rest = refl
 
-cell_taken : (d : ℕ) (r : Reference) → Taken d 0 (cell r) (reference r ∷ [])
+cell_taken : (d : ℕ) (r : Reference) → Always d 0 (cell r) (reference r ∷ [])
 unfolding line atom
-cell_taken d r rest stops = refl
+cell_taken d r rest = refl
 
-one_taken : (d : ℕ) (f : Reference) (p : Reference × Reference) → Taken d 0 (what_if f (p ∷ [])) (what_if_symbols f (pair_symbols p))
+one_taken : (d : ℕ) (f : Reference) (p : Reference × Reference) → Always d 0 (what_if f (p ∷ [])) (what_if_symbols f (pair_symbols p))
 unfolding line atom what_if_at pair_at
-one_taken d f p rest stops = refl
+one_taken d f p rest = refl
 
-two_taken : (d : ℕ) (f : Reference) (p q : Reference × Reference) → Taken d 0 (what_if f (p ∷ q ∷ [])) (what_if_symbols f (pair_symbols p ++ pair_symbols q))
+two_taken : (d : ℕ) (f : Reference) (p q : Reference × Reference) → Always d 0 (what_if f (p ∷ q ∷ [])) (what_if_symbols f (pair_symbols p ++ pair_symbols q))
 unfolding line atom what_if_at pair_at
-two_taken d f p q rest stops = refl
+two_taken d f p q rest = refl
 
 claim : {k : ℕ} {t : Tree} {ts : List Symbol} → Spells k t ts → (d : ℕ) → depth t ≤ d → Claim d k t ts
 claim (a_number x) d h = number_taken d x
@@ -123,14 +178,16 @@ claim (a_cell r) d h = cell_taken d r
 claim (one_input f p) d h = one_taken d f p
 claim (two_inputs f p q) d h = two_taken d f p q
 claim (in_parentheses t ts s) zero h = absurd (omega arith)
-claim (in_parentheses t ts s) (suc d) h = marks_taken d t ts (taken d 2 t ts (claim s d (omega arith)))
-claim (tighter k t ts s) d h = one_line d k t ts (taken d k t ts (claim s d h))
-claim (joined k op l r ls rs e s u) d h = one_more d k op l r ls rs e (claim s d (omega arith)) (taken d k r rs (claim u d (omega arith)))
+claim (in_parentheses t ts s) (suc d) h = marks_taken d t ts (taken d loosest t ts (claim s d (omega arith)))
+claim (with_sign s t ts o) d h = sign_taken d s t ts (claim o d h)
+claim (with_percent t ts s) d h = percent_taken d t ts (claim s d h)
+claim (tighter k t ts s) d h = one_line d k t ts (claim s d h)
+claim (joined k op l r ls rs e s u) d h = joins d k op l r ls rs e (claim s d (omega arith)) (taken d k r rs (claim u d (omega arith)))
 
 -- what is spelled is what the symbols are read as
 pub whole_complete : (d : ℕ) (ts : List Symbol) (t : Tree) → Spells loosest t ts → depth t ≤ d → whole (suc d) ts ≡ Some t
 whole_complete d ts t s h =
-    let read = inner_taken d t ts [] (taken d 2 t ts (claim s d h)) ((tt, refl), refl) in
+    let read = inner_taken d t ts [] (taken d loosest t ts (claim s d h)) ended in
     ap (option_and_then (λ p. if_last p.0 p.1)) (ap (expression (suc d)) (sym (append-nil ts)) ∙ read)
 
 -- no symbols spell two trees

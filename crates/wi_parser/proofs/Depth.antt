@@ -1,8 +1,8 @@
 -- A tree nests no deeper than the parentheses of its symbols.
 use Rattle.std.proofs.Common.{◌≡◌, ℕ, suc, ◌+◌, ◌-◌, ◌≤◌, List, [], ◌∷◌, ◌++◌, ap, arith, append_assoc, append-nil}
 use Rattle.wi_parser.specs.Tree.{Tree}
-use Rattle.wi_parser.specs.Symbol.{Symbol, numeral, reference, open_parenthesis, close_parenthesis, separator, infix_mark, what_if_name, refused}
-use Rattle.wi_parser.specs.Grammar.{loosest, Spells, a_number, a_cell, in_parentheses, one_input, two_inputs, tighter, joined}
+use Rattle.wi_parser.specs.Symbol.{Symbol, numeral, reference, open_parenthesis, close_parenthesis, separator, infix_mark, percent_mark, what_if_name, refused}
+use Rattle.wi_parser.specs.Grammar.{loosest, Spells, a_number, a_cell, in_parentheses, one_input, two_inputs, with_sign, with_percent, tighter, joined}
 use Rattle.wi_parser.specs.Nesting.{depth, deepest}
 
 pub least : (h : ℕ) (ts : List Symbol) → h ≤ deepest h ts
@@ -13,6 +13,7 @@ least h (open_parenthesis ∷ ts) = omega (arith, least (suc h) ts)
 least h (close_parenthesis ∷ ts) = omega arith
 least h (separator ∷ ts) = least h ts
 least h (infix_mark op ∷ ts) = least h ts
+least h (percent_mark ∷ ts) = least h ts
 least h (what_if_name ∷ ts) = least h ts
 least h (refused e ∷ ts) = least h ts
 
@@ -38,6 +39,11 @@ reaches (in_parentheses t ts s) h rest =
     let less : suc h - 1 ≡ h = omega arith in
     let after = ap (λ j. deepest j rest) less in
     record { own = omega (arith, inside.own, same); others = omega (arith, inside.others, same, after) }
+reaches (with_sign s t ts o) h rest = let inside = reaches o h rest in record { own = inside.own; others = inside.others }
+reaches (with_percent t ts s) h rest =
+    let inside = reaches s h (percent_mark ∷ rest) in
+    let same = ap (deepest h) (append_assoc ts (percent_mark ∷ []) rest) in
+    record { own = omega (arith, inside.own, same); others = omega (arith, inside.others, same) }
 reaches (tighter k t ts s) h rest = reaches s h rest
 reaches (joined k op l r ls rs e s u) h rest =
     let left = reaches s h (infix_mark op ∷ rs ++ rest) in

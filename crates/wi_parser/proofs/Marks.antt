@@ -2,10 +2,13 @@
 use Rattle.std.proofs.Common.{◌≡◌, ℕ, ◌+◌, true, false, Bool, cond, ◌==◌, List, [], ◌∷◌, ◌++◌, length, Option, Some, None, option_map, option_and_then, refl, sym, ap, ◌∙◌, arith}
 use Rattle.std.proofs.lemmas.Bool.{eqb-true}
 use Rattle.wi_parser.specs.declared.expr.Operator.{Operator}
+use Rattle.wi_parser.specs.declared.expr.Operator.TheVariants.{Add, Subtract}
 use Rattle.wi_parser.specs.declared.expr.Reference.{Reference}
-use Rattle.wi_parser.specs.Symbol.{Symbol, reference, open_parenthesis, close_parenthesis, separator, infix_mark}
+use Rattle.wi_parser.specs.declared.expr.Sign.{Sign}
+use Rattle.wi_parser.specs.declared.expr.Sign.TheVariants.{Plus, Minus}
+use Rattle.wi_parser.specs.Symbol.{Symbol, reference, open_parenthesis, close_parenthesis, separator, infix_mark, sign_mark, percent_mark}
 use Rattle.wi_parser.specs.Grammar.{line_of, pair_symbols}
-use Rattle.wi_parser.specs.Reader.{after_open, after_close, after_separator, reference_at, operator_at, parameter_at, pair_at}
+use Rattle.wi_parser.specs.Reader.{after_open, after_close, after_separator, after_percent, reference_at, sign_of, sign_at, operator_at, parameter_at, pair_at}
 
 pub open_is : (ts us : List Symbol) → after_open ts ≡ Some us → ts ≡ open_parenthesis ∷ us
 open_is [] us h = cc
@@ -21,6 +24,16 @@ pub separator_is : (ts us : List Symbol) → after_separator ts ≡ Some us → 
 separator_is [] us h = cc
 separator_is (separator ∷ ts) us h = cc
 separator_is (s ∷ ts) us h = cc
+
+pub percent_is : (ts us : List Symbol) → after_percent ts ≡ Some us → ts ≡ percent_mark ∷ us
+percent_is [] us h = cc
+percent_is (percent_mark ∷ ts) us h = cc
+percent_is (s ∷ ts) us h = cc
+
+pub sign_is : (x : Symbol) (s : Sign) → sign_of x ≡ Some s → x ≡ sign_mark s
+sign_is (infix_mark Add) s h = let is : Plus ≡ s = cc in ap sign_mark is
+sign_is (infix_mark Subtract) s h = let is : Minus ≡ s = cc in ap sign_mark is
+sign_is x s h = cc
 
 pub reference_is : (ts : List Symbol) (p : Reference × List Symbol) → reference_at ts ≡ Some p → ts ≡ reference p.0 ∷ p.1
 reference_is [] p h = cc
@@ -45,6 +58,9 @@ operator_is k (s ∷ ts) us op h = cc
 pub operator-length : (k : ℕ) (ts us : List Symbol) (op : Operator) → operator_at k ts ≡ Some (op, us) → length ts ≡ length us + 1
 operator-length k ts us op h = let is = ap length (operator_is k ts us op h).1 in omega (arith, is)
 
+pub percent-length : (ts us : List Symbol) → after_percent ts ≡ Some us → length ts ≡ length us + 1
+percent-length ts us h = let is = ap length (percent_is ts us h) in omega (arith, is)
+
 -- ---- pairs
 
 pub and_then_ok : {A B : Type 0} (f : A → Option B) (o : Option A) (b : B) → option_and_then f o ≡ Some b → (a : A) × (o ≡ Some a) × (f a ≡ Some b)
@@ -67,3 +83,12 @@ pair_is ts p h =
     let b = map_ok (λ x. ((a.0.0, x.0), x.1)) (parameter_at a.0.1) p a.2 in
     parameter_is ts a.0 a.1 ∙ ap (λ us. separator ∷ reference a.0.0 ∷ us) (parameter_is a.0.1 b.0 b.1)
     ∙ ap (λ q. pair_symbols q.0 ++ q.1) b.2
+
+-- ---- signs
+
+pub sign-length : (ts us : List Symbol) (s : Sign) → sign_at ts ≡ Some (s, us) → length ts ≡ length us + 1
+sign-length [] us s h = cc
+sign-length (x ∷ ts) us s h =
+    let a = map_ok (λ s. (s, ts)) (sign_of x) (s, us) h in
+    let is = ap (λ p. length p.1) a.2 in
+    omega (arith, is)

@@ -6,8 +6,8 @@ use Rattle.std.specs.List.{list_any}
 use Rattle.wi_parser.specs.declared.fault.ParseFault.{ParseFault}
 use Rattle.wi_parser.specs.declared.fault.ParseFault.TheVariants.{TooLong, OutOfSheet, NumberRange, TooDeep, Syntax, Memory}
 use Rattle.wi_parser.specs.Tree.{Tree}
-use Rattle.wi_parser.specs.Symbol.{Symbol, close_parenthesis, infix_mark, is_outside, is_unfit}
-use Rattle.wi_parser.specs.Grammar.{loosest, Spells, a_number, a_cell, in_parentheses, one_input, two_inputs, tighter, joined}
+use Rattle.wi_parser.specs.Symbol.{Symbol, close_parenthesis, infix_mark, percent_mark, is_outside, is_unfit}
+use Rattle.wi_parser.specs.Grammar.{loosest, Spells, a_number, a_cell, in_parentheses, one_input, two_inputs, with_sign, with_percent, tighter, joined}
 use Rattle.wi_parser.specs.Nesting.{deepest, most_signs, max_depth, is_too_deep}
 use Rattle.wi_parser.specs.Reader.{whole}
 use Rattle.wi_parser.specs.Outcome.{Fails}
@@ -28,6 +28,8 @@ none_outside (a_cell r) = refl
 none_outside (one_input f p) = refl
 none_outside (two_inputs f p q) = refl
 none_outside (in_parentheses t ts s) = any_append is_outside ts (close_parenthesis ∷ []) (none_outside s) refl
+none_outside (with_sign s t ts o) = none_outside o
+none_outside (with_percent t ts s) = any_append is_outside ts (percent_mark ∷ []) (none_outside s) refl
 none_outside (tighter k t ts s) = none_outside s
 none_outside (joined k op l r ls rs e s u) = any_append is_outside ls (infix_mark op ∷ rs) (none_outside s) (none_outside u)
 
@@ -37,6 +39,8 @@ none_unfit (a_cell r) = refl
 none_unfit (one_input f p) = refl
 none_unfit (two_inputs f p q) = refl
 none_unfit (in_parentheses t ts s) = any_append is_unfit ts (close_parenthesis ∷ []) (none_unfit s) refl
+none_unfit (with_sign s t ts o) = none_unfit o
+none_unfit (with_percent t ts s) = any_append is_unfit ts (percent_mark ∷ []) (none_unfit s) refl
 none_unfit (tighter k t ts s) = none_unfit s
 none_unfit (joined k op l r ls rs e s u) = any_append is_unfit ls (infix_mark op ∷ rs) (none_unfit s) (none_unfit u)
 

@@ -2,11 +2,12 @@
 use Rattle.std.proofs.Common.{◌≡◌, ℕ, zero, suc, List, [], ◌∷◌, ◌++◌, length, Option, Some, None, option_and_then, refl, sym, ap, ◌∙◌, subst, append_assoc, append-nil}
 use Rattle.wi_parser.specs.declared.expr.Operator.{Operator}
 use Rattle.wi_parser.specs.declared.expr.Reference.{Reference}
-use Rattle.wi_parser.specs.Tree.{Tree, number, cell, parenthesized, binary, what_if}
-use Rattle.wi_parser.specs.Symbol.{Symbol, numeral, reference, open_parenthesis, close_parenthesis, separator, infix_mark, what_if_name, refused}
-use Rattle.wi_parser.specs.Grammar.{loosest, Spells, pair_symbols, what_if_symbols, a_number, a_cell, in_parentheses, one_input, two_inputs, tighter, joined}
-use Rattle.wi_parser.specs.Reader.{Parse, Read, read_then, then_close, after_open, after_close, reference_at, operator_at, pair_at, one_or_two, inputs_at, what_if_at, atom, chain, chain_step, line, expression, if_last, whole}
-use Rattle.wi_parser.proofs.Marks.{open_is, close_is, reference_is, operator_is, pair_is, and_then_ok, map_ok}
+use Rattle.wi_parser.specs.declared.expr.Sign.{Sign}
+use Rattle.wi_parser.specs.Tree.{Tree, number, cell, parenthesized, signed, percent, binary, what_if}
+use Rattle.wi_parser.specs.Symbol.{Symbol, numeral, reference, open_parenthesis, close_parenthesis, separator, infix_mark, sign_mark, percent_mark, what_if_name, refused}
+use Rattle.wi_parser.specs.Grammar.{loosest, Spells, pair_symbols, what_if_symbols, a_number, a_cell, in_parentheses, one_input, two_inputs, with_sign, with_percent, tighter, joined}
+use Rattle.wi_parser.specs.Reader.{Parse, Read, read_then, then_close, after_open, after_close, reference_at, sign_of, operator_at, pair_at, one_or_two, inputs_at, what_if_at, atom, prefix_step, prefixed, percents, chain, chain_step, line, expression, if_last, whole}
+use Rattle.wi_parser.proofs.Marks.{open_is, close_is, reference_is, sign_is, operator_is, pair_is, and_then_ok, map_ok}
 
 -- ---- what an outcome came from
 
@@ -72,7 +73,35 @@ what_if_sound ts t rest h =
           (pair_is f.1 p c.1 ∙ ap (λ l. pair_symbols p.0 ++ l) d.2 ∙ sym (append_assoc parameters (close_parenthesis ∷ []) rest)))),
     )
 
-module _ (inner : Parse) (sound : Finds 2 inner) where
+prefixed_sound : (next : Parse) → Finds 0 next → Finds 1 (prefixed next)
+prefixed_sound next finds [] t rest h = let a = finds [] t rest h in (a.0, tighter 0 t a.0 a.1, a.2)
+prefixed_sound next finds (x ∷ ts) t rest h = at_sign (prefixed_sound next finds ts) (sign_of x) refl h
+  where
+    at_sign : ((u : Tree) (after : List Symbol) → prefixed next ts ≡ Some (u, after) → (us : List Symbol) × Spells 1 u us × (ts ≡ us ++ after)) → (o : Option Sign) → sign_of x ≡ o → prefix_step (next (x ∷ ts)) (prefixed next ts) o ≡ Some (t, rest)
+        → (us : List Symbol) × Spells 1 t us × (x ∷ ts ≡ us ++ rest)
+    at_sign again None is e = let a = finds (x ∷ ts) t rest e in (a.0, tighter 0 t a.0 a.1, a.2)
+    at_sign again (Some s) is e =
+        let found = then_ok (λ u after. Some (signed s u, after)) (prefixed next ts) (t, rest) e in
+        let both = parts (signed s found.0.0) t found.0.1 rest found.2 in
+        let a = again found.0.0 found.0.1 found.1 in (
+          sign_mark s ∷ a.0,
+          subst (λ u. Spells 1 u (sign_mark s ∷ a.0)) both.0 (with_sign s found.0.0 a.0 a.1),
+          ap (λ y. y ∷ ts) (sign_is x s is) ∙ ap (λ l. sign_mark s ∷ l) (a.2 ∙ ap (λ l. a.0 ++ l) both.1),
+        )
+
+-- marks on after what was read
+percents_sound : (left : Tree) (ls ts : List Symbol) (t : Tree) (rest : List Symbol) → Spells 2 left ls → percents left ts ≡ Some (t, rest) → (us : List Symbol) × Spells 2 t us × (ls ++ ts ≡ us ++ rest)
+percents_sound left ls [] t rest s h =
+    let both = parts left t [] rest h in
+    (ls, subst (λ u. Spells 2 u ls) both.0 s, ap (λ l. ls ++ l) both.1)
+percents_sound left ls (percent_mark ∷ ts) t rest s h =
+    let b = percents_sound (percent left) (ls ++ percent_mark ∷ []) ts t rest (with_percent left ls s) h in
+    (b.0, b.1, sym (append_assoc ls (percent_mark ∷ []) ts) ∙ b.2)
+percents_sound left ls (x ∷ ts) t rest s h =
+    let both = parts left t (x ∷ ts) rest h in
+    (ls, subst (λ u. Spells 2 u ls) both.0 s, ap (λ l. ls ++ l) both.1)
+
+module _ (inner : Parse) (sound : Finds loosest inner) where
   atom_sound : Finds 0 (atom inner)
   unfolding atom
   atom_sound [] t rest h = cc
@@ -94,6 +123,7 @@ module _ (inner : Parse) (sound : Finds 2 inner) where
   atom_sound (close_parenthesis ∷ ts) t rest h = cc
   atom_sound (separator ∷ ts) t rest h = cc
   atom_sound (infix_mark op ∷ ts) t rest h = cc
+  atom_sound (percent_mark ∷ ts) t rest h = cc
   atom_sound (refused e ∷ ts) t rest h = cc
 
   chain_sound : (next : Parse) (k : ℕ) → Finds k next → (n : ℕ) (left : Tree) (ls ts : List Symbol) (t : Tree) (rest : List Symbol) → Spells (suc k) left ls → chain next (suc k) n left ts ≡ Some (t, rest)
@@ -119,16 +149,23 @@ module _ (inner : Parse) (sound : Finds 2 inner) where
   line_sound : (k : ℕ) → Finds k (line inner k)
   unfolding line
   line_sound zero ts t rest h = atom_sound ts t rest h
-  line_sound (suc k) ts t rest h =
-      let first = then_ok (λ t rest. chain (line inner k) (suc k) (length rest) t rest) (line inner k ts) (t, rest) h in
-      let a = line_sound k ts first.0.0 first.0.1 first.1 in
-      let b = chain_sound (line inner k) k (line_sound k) _ first.0.0 a.0 first.0.1 t rest (tighter k first.0.0 a.0 a.1) first.2 in
+  line_sound (suc zero) ts t rest h = prefixed_sound (atom inner) atom_sound ts t rest h
+  line_sound (suc (suc zero)) ts t rest h =
+      let first = then_ok percents (prefixed (atom inner) ts) (t, rest) h in
+      let a = prefixed_sound (atom inner) atom_sound ts first.0.0 first.0.1 first.1 in
+      let b = percents_sound first.0.0 a.0 first.0.1 t rest (tighter 1 first.0.0 a.0 a.1) first.2 in
+      (b.0, b.1, a.2 ∙ b.2)
+  line_sound (suc (suc (suc k))) ts t rest h =
+      let next = line inner (suc (suc k)) in
+      let first = then_ok (λ t rest. chain next (suc (suc (suc k))) (length rest) t rest) (next ts) (t, rest) h in
+      let a = line_sound (suc (suc k)) ts first.0.0 first.0.1 first.1 in
+      let b = chain_sound next (suc (suc k)) (line_sound (suc (suc k))) _ first.0.0 a.0 first.0.1 t rest (tighter (suc (suc k)) first.0.0 a.0 a.1) first.2 in
       (b.0, b.1, a.2 ∙ b.2)
 
-expression_sound : (d : ℕ) → Finds 2 (expression d)
+expression_sound : (d : ℕ) → Finds loosest (expression d)
 unfolding expression
 expression_sound zero ts t rest h = cc
-expression_sound (suc d) ts t rest h = line_sound (expression d) (expression_sound d) 2 ts t rest h
+expression_sound (suc d) ts t rest h = line_sound (expression d) (expression_sound d) loosest ts t rest h
 
 last_ok : (t u : Tree) (rest : List Symbol) → if_last t rest ≡ Some u → (t ≡ u) × (rest ≡ [])
 last_ok t u [] h = (cc, refl)
@@ -142,4 +179,4 @@ some_first (Some p) t h = let l = last_ok p.0 t p.1 h in ap (λ u. Some (u, p.1)
 pub whole_sound : (d : ℕ) (ts : List Symbol) (t : Tree) → whole d ts ≡ Some t → Spells loosest t ts
 whole_sound d ts t h =
     let a = expression_sound d ts t [] (some_first (expression d ts) t h) in
-    subst (λ l. Spells 2 t l) (sym (a.2 ∙ append-nil a.0)) a.1
+    subst (λ l. Spells loosest t l) (sym (a.2 ∙ append-nil a.0)) a.1

@@ -1,12 +1,42 @@
 -- One turn of the reader's loop, and how many symbols it takes.
-use Rattle.std.proofs.Common.{◌≡◌, ℕ, zero, suc, ◌-◌, ◌<◌, List, length, Option, Some, None, refl, sym, ap, ◌∙◌, arith}
+use Rattle.std.proofs.Common.{◌≡◌, ℕ, zero, suc, ◌-◌, ◌<◌, List, [], ◌∷◌, length, Option, Some, None, option_map, refl, sym, ap, ◌∙◌, arith}
 use Rattle.wi_parser.specs.declared.expr.Operator.{Operator}
-use Rattle.wi_parser.specs.Tree.{Tree, binary}
-use Rattle.wi_parser.specs.Symbol.{Symbol}
+use Rattle.wi_parser.specs.declared.expr.Sign.{Sign}
+use Rattle.wi_parser.specs.Tree.{Tree, percent, binary}
+use Rattle.wi_parser.specs.Symbol.{Symbol, percent_mark}
 use Rattle.wi_parser.specs.declared.fault.ParseFault.{ParseFault}
 use Rattle.wi_parser.specs.declared.fault.ParseFault.TheVariants.{TooLong, OutOfSheet, NumberRange, TooDeep, Syntax, Memory}
 use Rattle.wi_parser.specs.Outcome.{Fails}
-use Rattle.wi_parser.specs.Reader.{Parse, read_then, operator_at, chain, chain_step, line}
+use Rattle.wi_parser.specs.Reader.{Parse, read_then, after_percent, sign_of, sign_at, operator_at, signed_read, prefix_step, prefixed, percents, chain, chain_step, line}
+use Rattle.wi_parser.proofs.Marks.{map_ok}
+
+-- ---- signs
+
+map_none : {A B : Type 0} (f : A → B) (o : Option A) → option_map f o ≡ None → o ≡ None
+map_none f None h = refl
+map_none f (Some a) h = cc
+
+pub prefix_stop : (next : Parse) (ts : List Symbol) → sign_at ts ≡ None → prefixed next ts ≡ next ts
+prefix_stop next [] h = refl
+prefix_stop next (x ∷ ts) h = ap (prefix_step (next (x ∷ ts)) (prefixed next ts)) (map_none (λ s. (s, ts)) (sign_of x) h)
+
+pub prefix_more : (next : Parse) (s : Sign) (ts us : List Symbol) → sign_at ts ≡ Some (s, us) → prefixed next ts ≡ signed_read s (prefixed next us)
+prefix_more next s [] us h = cc
+prefix_more next s (x ∷ ts) us h =
+    let a = map_ok (λ s. (s, ts)) (sign_of x) (s, us) h in
+    ap (prefix_step (next (x ∷ ts)) (prefixed next ts)) a.1 ∙ ap (λ p. signed_read p.0 (prefixed next p.1)) a.2
+
+-- ---- percent marks
+
+pub percents_stop : (t : Tree) (ts : List Symbol) → after_percent ts ≡ None → percents t ts ≡ Some (t, ts)
+percents_stop t [] h = refl
+percents_stop t (percent_mark ∷ ts) h = cc
+percents_stop t (x ∷ ts) h = refl
+
+pub percents_more : (t : Tree) (ts us : List Symbol) → after_percent ts ≡ Some us → percents t ts ≡ percents (percent t) us
+percents_more t [] us h = cc
+percents_more t (percent_mark ∷ ts) us h = let is : ts ≡ us = cc in ap (percents (percent t)) is
+percents_more t (x ∷ ts) us h = cc
 
 -- ---- operators
 
@@ -30,12 +60,14 @@ chain_more next k (suc n) left r ts us rest op some h e =
     ap (chain_step next (chain next k n) left ts) h ∙ ap (read_then (λ r rest. chain next k n (binary op left r) rest)) e
     ∙ ap (λ m. chain next k m (binary op left r) rest) (sym less)
 
-pub line_more : (inner : Parse) (k : ℕ) (ts : List Symbol) → 0 < k → line inner k ts ≡ read_then (λ t rest. chain (line inner (k - 1)) k (length rest) t rest) (line inner (k - 1) ts)
+pub line_more : (inner : Parse) (k : ℕ) (ts : List Symbol) → 2 < k → line inner k ts ≡ read_then (λ t rest. chain (line inner (k - 1)) k (length rest) t rest) (line inner (k - 1) ts)
 unfolding line
 line_more inner zero ts h = absurd (omega arith)
-line_more inner (suc k) ts h =
-    let less : suc k - 1 ≡ k = omega arith in
-    ap (λ m. read_then (λ t rest. chain (line inner m) (suc k) (length rest) t rest) (line inner m ts)) (sym less)
+line_more inner (suc zero) ts h = absurd (omega arith)
+line_more inner (suc (suc zero)) ts h = absurd (omega arith)
+line_more inner (suc (suc (suc k))) ts h =
+    let less : suc (suc (suc k)) - 1 ≡ suc (suc k) = omega arith in
+    ap (λ m. read_then (λ t rest. chain (line inner m) (suc (suc (suc k))) (length rest) t rest) (line inner m ts)) (sym less)
 
 -- ---- faults
 

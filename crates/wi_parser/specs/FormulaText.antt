@@ -7,14 +7,14 @@ use Rattle.wi_values.specs.AddressReading.{address_at}
 use Rattle.wi_lexer.specs.declared.token.Kind.{Kind}
 use Rattle.wi_lexer.specs.declared.token.Kind.TheVariants.{Number, Reference, Rectangle, Mark, Name}
 use Rattle.wi_lexer.specs.declared.token.Mark as mark
-use Rattle.wi_lexer.specs.declared.token.Mark.TheVariants.{OpenParenthesis, CloseParenthesis, Semicolon, Plus, Minus, Asterisk, Slash}
+use Rattle.wi_lexer.specs.declared.token.Mark.TheVariants.{OpenParenthesis, CloseParenthesis, Semicolon, Plus, Minus, Asterisk, Slash, Caret, Percent, Ampersand, Equal, NotEqual, Less, LessOrEqual, Greater, GreaterOrEqual}
 use Rattle.wi_lexer.specs.Cell.{Cell}
 use Rattle.wi_lexer.specs.Reference.{reference_of}
 use Rattle.wi_lexer.specs.Rectangle.{rectangle_of}
 use Rattle.wi_lexer.specs.Tokens.{Tokens, tokens}
-use Rattle.wi_parser.specs.declared.expr.Operator.TheVariants.{Add, Subtract, Multiply, Divide}
+use Rattle.wi_parser.specs.declared.expr.Operator.TheVariants as operator
 use Rattle.wi_parser.specs.declared.fault.ParseFault.TheVariants.{OutOfSheet, NumberRange, Syntax}
-use Rattle.wi_parser.specs.Symbol.{Symbol, numeral, reference, open_parenthesis, close_parenthesis, separator, infix_mark, what_if_name, refused}
+use Rattle.wi_parser.specs.Symbol.{Symbol, numeral, reference, open_parenthesis, close_parenthesis, separator, infix_mark, percent_mark, what_if_name, refused}
 
 -- ---- tokens
 
@@ -38,16 +38,24 @@ rectangle_symbol None = refused Syntax
 rectangle_symbol (Some p) =
     if is_some (address_at p.0.letters p.0.digits) && is_some (address_at p.1.letters p.1.digits) then refused Syntax else refused OutOfSheet
 
--- a mark; no formula has any other one yet
+-- a mark
 abbrev pub mark_symbol : mark.Mark → Symbol
 mark_symbol OpenParenthesis = open_parenthesis
 mark_symbol CloseParenthesis = close_parenthesis
 mark_symbol Semicolon = separator
-mark_symbol Plus = infix_mark Add
-mark_symbol Minus = infix_mark Subtract
-mark_symbol Asterisk = infix_mark Multiply
-mark_symbol Slash = infix_mark Divide
-mark_symbol other = refused Syntax
+mark_symbol Plus = infix_mark operator.Add
+mark_symbol Minus = infix_mark operator.Subtract
+mark_symbol Asterisk = infix_mark operator.Multiply
+mark_symbol Slash = infix_mark operator.Divide
+mark_symbol Caret = infix_mark operator.Power
+mark_symbol Percent = percent_mark
+mark_symbol Ampersand = infix_mark operator.Join
+mark_symbol Equal = infix_mark operator.Equal
+mark_symbol NotEqual = infix_mark operator.NotEqual
+mark_symbol Less = infix_mark operator.Less
+mark_symbol LessOrEqual = infix_mark operator.LessOrEqual
+mark_symbol Greater = infix_mark operator.Greater
+mark_symbol GreaterOrEqual = infix_mark operator.GreaterOrEqual
 
 -- the name of what-ifs, in letters of either case; no formula has another name yet
 abbrev pub name_symbol : List ℕ → Symbol

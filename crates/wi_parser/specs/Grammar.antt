@@ -2,22 +2,30 @@
 use Rattle.std.specs.Prelude.{◌≡◌, ℕ, suc, List, [], ◌∷◌, ◌++◌}
 use Rattle.wi_fraction.specs.Number.{Number}
 use Rattle.wi_parser.specs.declared.expr.Operator.{Operator}
-use Rattle.wi_parser.specs.declared.expr.Operator.TheVariants.{Add, Subtract, Multiply, Divide}
+use Rattle.wi_parser.specs.declared.expr.Operator.TheVariants.{Add, Subtract, Multiply, Divide, Power, Join, Equal, NotEqual, Less, LessOrEqual, Greater, GreaterOrEqual}
 use Rattle.wi_parser.specs.declared.expr.Reference.{Reference}
-use Rattle.wi_parser.specs.Tree.{Tree, number, cell, parenthesized, binary, what_if}
-use Rattle.wi_parser.specs.Symbol.{Symbol, numeral, reference, open_parenthesis, close_parenthesis, separator, infix_mark, what_if_name}
+use Rattle.wi_parser.specs.declared.expr.Sign.{Sign}
+use Rattle.wi_parser.specs.Tree.{Tree, number, cell, parenthesized, signed, percent, binary, what_if}
+use Rattle.wi_parser.specs.Symbol.{Symbol, numeral, reference, open_parenthesis, close_parenthesis, separator, infix_mark, sign_mark, percent_mark, what_if_name}
 
--- the line of the grammar that has the operator: 1 Product, 2 Sum
+-- the line of the grammar that has the operator
 abbrev pub line_of : Operator → ℕ
-line_of Multiply = 1
-line_of Divide = 1
-line_of Add = 2
-line_of Subtract = 2
-line_of op = 9
+line_of Power = 3
+line_of Multiply = 4
+line_of Divide = 4
+line_of Add = 5
+line_of Subtract = 5
+line_of Join = 6
+line_of Equal = 7
+line_of NotEqual = 7
+line_of Less = 7
+line_of LessOrEqual = 7
+line_of Greater = 7
+line_of GreaterOrEqual = 7
 
 -- the line of a whole formula
 abbrev pub loosest : ℕ
-loosest = 2
+loosest = 7
 
 -- an input and the cell whose value replaces it, each after a separator
 abbrev pub pair_symbols : Reference × Reference → List Symbol
@@ -27,7 +35,7 @@ pair_symbols p = separator ∷ reference p.0 ∷ separator ∷ reference p.1 ∷
 abbrev pub what_if_symbols : Reference → List Symbol → List Symbol
 what_if_symbols f parameters = what_if_name ∷ open_parenthesis ∷ reference f ∷ parameters ++ close_parenthesis ∷ []
 
--- The symbols spell the tree by line k: 0 Atom, 1 Product, 2 Sum.
+-- The symbols spell the tree by line k: 0 Atom, 1 Prefix, 2 Percent, 3 Power, 4 Product, 5 Sum, 6 Concat, 7 Compare.
 pub data Spells : ℕ → Tree → List Symbol → Type 0 where
   a_number : (x : Number) → Spells 0 (number x) (numeral x ∷ [])
   a_cell : (r : Reference) → Spells 0 (cell r) (reference r ∷ [])
@@ -35,6 +43,10 @@ pub data Spells : ℕ → Tree → List Symbol → Type 0 where
   -- a formula cell, and one input or two
   one_input : (f : Reference) (p : Reference × Reference) → Spells 0 (what_if f (p ∷ [])) (what_if_symbols f (pair_symbols p))
   two_inputs : (f : Reference) (p q : Reference × Reference) → Spells 0 (what_if f (p ∷ q ∷ [])) (what_if_symbols f (pair_symbols p ++ pair_symbols q))
+  -- a sign before an operand, which may have one too
+  with_sign : (s : Sign) (t : Tree) (ts : List Symbol) → Spells 1 t ts → Spells 1 (signed s t) (sign_mark s ∷ ts)
+  -- a percent mark after an operand, which may have one too
+  with_percent : (t : Tree) (ts : List Symbol) → Spells 2 t ts → Spells 2 (percent t) (ts ++ percent_mark ∷ [])
   -- what a tighter line spells
   tighter : (k : ℕ) (t : Tree) (ts : List Symbol) → Spells k t ts → Spells (suc k) t ts
   -- an operator of the line between two operands, of which the left may have one too

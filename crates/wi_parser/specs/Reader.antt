@@ -1,9 +1,12 @@
 -- What a reader from the left finds: a tree and the symbols after it, or nothing.
 use Rattle.std.specs.Prelude.{ℕ, zero, suc, List, [], ◌∷◌, length, cond, ◌==◌, Option, Some, None, option_map, option_and_then}
 use Rattle.wi_parser.specs.declared.expr.Operator.{Operator}
+use Rattle.wi_parser.specs.declared.expr.Operator.TheVariants.{Add, Subtract}
 use Rattle.wi_parser.specs.declared.expr.Reference.{Reference}
-use Rattle.wi_parser.specs.Tree.{Tree, number, cell, parenthesized, binary, what_if}
-use Rattle.wi_parser.specs.Symbol.{Symbol, numeral, reference, open_parenthesis, close_parenthesis, separator, infix_mark, what_if_name}
+use Rattle.wi_parser.specs.declared.expr.Sign.{Sign}
+use Rattle.wi_parser.specs.declared.expr.Sign.TheVariants.{Plus, Minus}
+use Rattle.wi_parser.specs.Tree.{Tree, number, cell, parenthesized, signed, percent, binary, what_if}
+use Rattle.wi_parser.specs.Symbol.{Symbol, numeral, reference, open_parenthesis, close_parenthesis, separator, infix_mark, percent_mark, what_if_name}
 use Rattle.wi_parser.specs.Grammar.{line_of, loosest}
 
 -- a tree found, and what follows it
@@ -30,10 +33,25 @@ abbrev pub after_separator : List Symbol → Option (List Symbol)
 after_separator (separator ∷ ts) = Some ts
 after_separator ts = None
 
+abbrev pub after_percent : List Symbol → Option (List Symbol)
+after_percent (percent_mark ∷ ts) = Some ts
+after_percent ts = None
+
 -- the reference that stands first, and what follows it
 abbrev pub reference_at : List Symbol → Option (Reference × List Symbol)
 reference_at (reference r ∷ ts) = Some (r, ts)
 reference_at ts = None
+
+-- the sign that is written so
+abbrev pub sign_of : Symbol → Option Sign
+sign_of (infix_mark Add) = Some Plus
+sign_of (infix_mark Subtract) = Some Minus
+sign_of s = None
+
+-- the sign that stands first, and what follows it
+abbrev pub sign_at : List Symbol → Option (Sign × List Symbol)
+sign_at [] = None
+sign_at (x ∷ ts) = option_map (λ s. (s, ts)) (sign_of x)
 
 -- the operator of this line that stands first, and what follows it
 abbrev pub operator_at : ℕ → List Symbol → Option (Operator × List Symbol)
@@ -77,6 +95,26 @@ atom inner (open_parenthesis ∷ ts) = read_then (λ t. then_close (parenthesize
 atom inner (what_if_name ∷ ts) = what_if_at ts
 atom inner ts = None
 
+-- what was found, with a sign before it
+abbrev pub signed_read : Sign → Read → Read
+signed_read s = read_then (λ t rest. Some (signed s t, rest))
+
+-- a sign and what follows it, or what is found without one
+abbrev pub prefix_step : Read → Read → Option Sign → Read
+prefix_step bare after None = bare
+prefix_step bare after (Some s) = signed_read s after
+
+-- any number of signs, and what `next` reads
+abbrev pub prefixed : Parse → Parse
+prefixed next [] = next []
+prefixed next (x ∷ ts) = prefix_step (next (x ∷ ts)) (prefixed next ts) (sign_of x)
+
+-- any number of percent marks after what was read
+abbrev pub percents : Tree → Parse
+percents t [] = Some (t, [])
+percents t (percent_mark ∷ ts) = percents (percent t) ts
+percents t (x ∷ ts) = Some (t, x ∷ ts)
+
 -- an operator, where one stands, and its right operand, and so on
 abbrev pub chain_step : Parse → (Tree → Parse) → Tree → List Symbol → Option (Operator × List Symbol) → Read
 chain_step next again left ts None = Some (left, ts)
@@ -91,7 +129,10 @@ chain next k (suc n) left ts = chain_step next (chain next k n) left ts (operato
 unfoldable pub line : Parse → ℕ → Parse
 unfolding atom chain
 line inner zero ts = atom inner ts
-line inner (suc k) ts = read_then (λ t rest. chain (line inner k) (suc k) (length rest) t rest) (line inner k ts)
+line inner (suc zero) ts = prefixed (atom inner) ts
+line inner (suc (suc zero)) ts = read_then percents (prefixed (atom inner) ts)
+line inner (suc (suc (suc k))) ts =
+    read_then (λ t rest. chain (line inner (suc (suc k))) (suc (suc (suc k))) (length rest) t rest) (line inner (suc (suc k)) ts)
 
 -- an expression in which fewer parenthesized trees than the number stand one inside another
 unfoldable pub expression : ℕ → Parse

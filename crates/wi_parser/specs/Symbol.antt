@@ -2,7 +2,10 @@
 use Rattle.std.specs.Prelude.{Bool, true, false}
 use Rattle.wi_fraction.specs.Number.{Number}
 use Rattle.wi_parser.specs.declared.expr.Operator.{Operator}
+use Rattle.wi_parser.specs.declared.expr.Operator.TheVariants.{Add, Subtract}
 use Rattle.wi_parser.specs.declared.expr.Reference.{Reference}
+use Rattle.wi_parser.specs.declared.expr.Sign.{Sign}
+use Rattle.wi_parser.specs.declared.expr.Sign.TheVariants.{Plus, Minus}
 use Rattle.wi_parser.specs.declared.fault.ParseFault.{ParseFault}
 use Rattle.wi_parser.specs.declared.fault.ParseFault.TheVariants.{OutOfSheet, NumberRange}
 
@@ -14,9 +17,18 @@ pub data Symbol : Type 0 where
   close_parenthesis : Symbol
   separator : Symbol
   infix_mark : Operator → Symbol
+  percent_mark : Symbol
   -- the name MULTIPLE.OPERATIONS
   what_if_name : Symbol
   refused : ParseFault → Symbol
+
+-- the operator that is written as the sign is
+abbrev pub written_as : Sign → Operator
+written_as Plus = Add
+written_as Minus = Subtract
+
+abbrev pub sign_mark : Sign → Symbol
+sign_mark s = infix_mark (written_as s)
 
 -- a reference to a cell outside the sheet
 abbrev pub is_outside : Symbol → Bool

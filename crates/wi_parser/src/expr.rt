@@ -63,21 +63,28 @@ pub enum Expr {
 
 impl Expr {
     /// The same tree once more.
+    #[cycle(copying)]
     pub fn copy(&self, alloc: Global) -> Result<Expr, AllocError>
         ensures { IfOk result (λ e. tree_of e ≡ tree_of self.now) }
     {
         match self {
             Expr::Number(x) => Ok(Expr::Number(*x)),
             Expr::Cell(r) => Ok(Expr::Cell(*r)),
-            Expr::Parenthesized(t) => Ok(Expr::Parenthesized(Box::new(alloc, t.copy(alloc)?)?)),
-            Expr::Signed(sign, t) => Ok(Expr::Signed(*sign, Box::new(alloc, t.copy(alloc)?)?)),
-            Expr::Percent(t) => Ok(Expr::Percent(Box::new(alloc, t.copy(alloc)?)?)),
-            Expr::Binary(op, t, u) => Ok(Expr::Binary(
-                *op,
-                Box::new(alloc, t.copy(alloc)?)?,
-                Box::new(alloc, u.copy(alloc)?)?,
-            )),
+            Expr::Parenthesized(t) => Ok(Expr::Parenthesized(copied(alloc, t)?)),
+            Expr::Signed(sign, t) => Ok(Expr::Signed(*sign, copied(alloc, t)?)),
+            Expr::Percent(t) => Ok(Expr::Percent(copied(alloc, t)?)),
+            Expr::Binary(op, t, u) => {
+                Ok(Expr::Binary(*op, copied(alloc, t)?, copied(alloc, u)?))
+            }
             Expr::WhatIf(f, pairs) => Ok(Expr::WhatIf(*f, Vec::from_slice(alloc, pairs)?)),
         }
     }
+}
+
+// An operand of a copied tree. It stands apart so that a tree's copy needs little stack for each level.
+#[cycle(copying)]
+fn copied(alloc: Global, expr: &Expr) -> Result<Box<Expr>, AllocError>
+    ensures { IfOk result (λ e. tree_of e.value ≡ tree_of expr.now) }
+{
+    Ok(Box::new(alloc, expr.copy(alloc)?)?)
 }

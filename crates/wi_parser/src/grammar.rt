@@ -7,7 +7,7 @@ ghost use Rattle.wi_parser.specs.Nests.{Nests};
 ghost use Rattle.wi_parser.specs.View.{tree_of};
 ghost use Rattle.wi_parser.specs.Tree as tree;
 
-use crate::expr::{Expr, Operator, Reference};
+use crate::expr::{Expr, Operator, Reference, Sign};
 use crate::fault::ParseFault;
 use crate::what_if::what_if;
 use crate::word::Word;
@@ -57,18 +57,46 @@ impl<F: Fn(Global, &mut Words<'_>, usize) -> Result<Expr, ParseFault>> Grammar<F
             Word::Close => Err(ParseFault::Syntax),
             Word::Separator => Err(ParseFault::Syntax),
             Word::Infix(_) => Err(ParseFault::Syntax),
+            Word::Percent => Err(ParseFault::Syntax),
             Word::Refused(_) => Err(ParseFault::Syntax),
         }
     }
 
-    // One line of the grammar: 0 is an atom, 1 a product and 2 a sum.
-    fn line(&self, words: &mut Words<'_>, line: u8) -> Result<Expr, ParseFault>
+    // Any number of signs, and an atom.
+    fn prefixed(&self, words: &mut Words<'_>) -> Result<Expr, ParseFault>
         requires { Nests self.now.depth (F.pre self.now.expression) (F.post self.now.expression) }
+        ensures finds { Finds (reader.line (reader.expression self.now.depth) 1 words.old) result words.new }
+        ensures shorter { OnOk result (length words.new < length words.old) }
+    {
+        let Some(sign) = words.take_sign() else {
+            return self.atom(words);
+        };
+        let operand = self.prefixed(words)?;
+        Ok(signed(self.alloc, sign, operand)?)
+    }
+
+    // An operand with its signs, and any number of percent marks.
+    fn percents(&self, words: &mut Words<'_>) -> Result<Expr, ParseFault>
+        requires { Nests self.now.depth (F.pre self.now.expression) (F.post self.now.expression) }
+        ensures finds { Finds (reader.line (reader.expression self.now.depth) 2 words.old) result words.new }
+        ensures shorter { OnOk result (length words.new < length words.old) }
+    {
+        let mut operand = self.prefixed(words)?;
+        while words.take_percent() {
+            operand = percent(self.alloc, operand)?;
+        }
+        Ok(operand)
+    }
+
+    // A line of the grammar from percents, which are line 2, to comparisons.
+    fn line(&self, words: &mut Words<'_>, line: u8) -> Result<Expr, ParseFault>
+        requires nests { Nests self.now.depth (F.pre self.now.expression) (F.post self.now.expression) }
+        requires from_percents { 2 ≤ line }
         ensures finds { Finds (reader.line (reader.expression self.now.depth) line words.old) result words.new }
         ensures shorter { OnOk result (length words.new < length words.old) }
     {
-        if line == 0 {
-            return self.atom(words);
+        if line == 2 {
+            return self.percents(words);
         }
         let mut left = self.line(words, line - 1)?;
         while let Some(op) = words.take_operator(line) {
@@ -79,7 +107,7 @@ impl<F: Fn(Global, &mut Words<'_>, usize) -> Result<Expr, ParseFault>> Grammar<F
     }
 }
 
-const LOOSEST: u8 = 2;
+const LOOSEST: u8 = 7;
 
 /// An expression at the front of the words, whose parentheses nest less deep than the depth.
 pub fn expression(alloc: Global, words: &mut Words<'_>, depth: usize) -> Result<Expr, ParseFault>
@@ -113,6 +141,18 @@ fn parenthesized(alloc: Global, inner: Expr) -> Result<Expr, AllocError>
     ensures { IfOk result (λ e. tree_of e ≡ tree.parenthesized (tree_of inner)) }
 {
     Ok(Expr::Parenthesized(Box::new(alloc, inner)?))
+}
+
+fn signed(alloc: Global, sign: Sign, operand: Expr) -> Result<Expr, AllocError>
+    ensures { IfOk result (λ e. tree_of e ≡ tree.signed sign (tree_of operand)) }
+{
+    Ok(Expr::Signed(sign, Box::new(alloc, operand)?))
+}
+
+fn percent(alloc: Global, operand: Expr) -> Result<Expr, AllocError>
+    ensures { IfOk result (λ e. tree_of e ≡ tree.percent (tree_of operand)) }
+{
+    Ok(Expr::Percent(Box::new(alloc, operand)?))
 }
 
 fn binary(alloc: Global, op: Operator, left: Expr, right: Expr) -> Result<Expr, AllocError>

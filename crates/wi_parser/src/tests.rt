@@ -1,4 +1,4 @@
-use crate::{Content, Expr, Operator, ParseFault, parse};
+use crate::{Content, Expr, Operator, ParseFault, Sign, parse};
 use std::alloc::{AllocError, Global};
 use std::test::Fail;
 use wi_fraction::Fraction;
@@ -7,12 +7,27 @@ use wi_values::{Address, Text, Value};
 // A number one more than the greatest.
 const TOO_LARGE: &str = "=170141183460469231731687303715884105728";
 
-fn sign_of(op: Operator) -> char {
+fn mark_of(op: Operator) -> &'static str {
     match op {
-        Operator::Add => '+',
-        Operator::Subtract => '-',
-        Operator::Multiply => '*',
-        Operator::Divide => '/',
+        Operator::Add => "+",
+        Operator::Subtract => "-",
+        Operator::Multiply => "*",
+        Operator::Divide => "/",
+        Operator::Power => "^",
+        Operator::Join => "&",
+        Operator::Equal => "=",
+        Operator::NotEqual => "<>",
+        Operator::Less => "<",
+        Operator::LessOrEqual => "<=",
+        Operator::Greater => ">",
+        Operator::GreaterOrEqual => ">=",
+    }
+}
+
+fn sign_of(sign: Sign) -> char {
+    match sign {
+        Sign::Plus => '+',
+        Sign::Minus => '-',
     }
 }
 
@@ -26,10 +41,21 @@ fn push_tree(tree: &Expr, text: &mut String) -> Result<(), AllocError> {
             push_tree(inner, text)?;
             text.push(']')
         }
+        Expr::Signed(sign, operand) => {
+            text.push('{')?;
+            text.push(sign_of(*sign))?;
+            push_tree(operand, text)?;
+            text.push('}')
+        }
+        Expr::Percent(operand) => {
+            text.push('{')?;
+            push_tree(operand, text)?;
+            text.push_str("%}")
+        }
         Expr::Binary(op, left, right) => {
             text.push('{')?;
             push_tree(left, text)?;
-            text.push(sign_of(*op))?;
+            text.push_str(mark_of(*op))?;
             push_tree(right, text)?;
             text.push('}')
         }
@@ -155,9 +181,24 @@ fn texts_that_are_no_formulas(rt: HostRuntime) {
         "OF:=1",
         "==1",
         "=1+",
-        "=+1",
-        "=--1",
+        "=+",
+        "=-%",
+        "=%1",
+        "=1%2",
+        "=1^%",
+        "=1-+",
+        "=(-)1",
+        "=1*/2",
+        "=1&&2",
+        "=1^^2",
         "=1**2",
+        "=1=<2",
+        "=1==2",
+        "=1< =2",
+        "=&1",
+        "=^1",
+        "=<1",
+        "=1>=",
         "=()",
         "=(1",
         "=1)",
@@ -176,15 +217,6 @@ fn texts_that_are_no_formulas(rt: HostRuntime) {
         "=\u{a0}1",
         "=[.A1];[.A2]",
         "=[.A1:.B2]",
-        "=1^2",
-        "=1%",
-        "=1&2",
-        "=1=2",
-        "=1<>2",
-        "=1<2",
-        "=1<=2",
-        "=1>2",
-        "=1>=2",
         "=MULTIPLE.OPERATIONS",
         "=MULTIPLE.OPERATIONS()",
         "=MULTIPLE.OPERATIONS([.A1])",
@@ -216,7 +248,8 @@ fn cells_outside_and_numbers_too_large(rt: HostRuntime) -> Result<(), Fail> {
         "=1+[.AAAA1]+",
         "=)[.XFE1]?",
         "=MULTIPLE.OPERATIONS(1;[.XFE1])",
-        "=1<=[.XFE1]",
+        "=1=[.XFE1]",
+        "=%[.XFE1]",
         "=[.A1:.XFE1]",
         "=[.A1048577:.A1]",
         "[.XFE1]",
@@ -249,6 +282,8 @@ fn formulas_have_limits(rt: HostRuntime) -> Result<(), Fail> {
         ("=))", "(", 65, ParseFault::TooDeep),
         ("=1", "- +", 32, ParseFault::Syntax),
         ("=1-", "- +", 32, ParseFault::TooDeep),
+        ("=1", "-", 65, ParseFault::TooDeep),
+        ("=1", "%", 4_095, ParseFault::TooLong),
         ("=1", " ", 4_095, ParseFault::TooLong),
         ("of:=1", " ", 4_092, ParseFault::TooLong),
         ("=[.XFE1]", " ", 4_092, ParseFault::TooLong),
@@ -261,6 +296,7 @@ fn formulas_have_limits(rt: HostRuntime) -> Result<(), Fail> {
         ("of:=1", " ", 4_091),
         ("=1", "+1-2", 500),
         ("=1", "+(1)", 1_000),
+        ("=1", "%", 4_094),
     ] {
         let text = repeated(rt.alloc(), front, part, count)?;
         assert_eq!(rt; fault(rt.alloc(), text.as_str()), None);

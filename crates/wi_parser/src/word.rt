@@ -22,6 +22,7 @@ pub enum Word {
     Close,
     Separator,
     Infix(Operator),
+    Percent,
     /// The name MULTIPLE.OPERATIONS.
     WhatIf,
     /// A token without a value, which no formula has.
@@ -117,15 +118,14 @@ fn of_mark(mark: Mark) -> Word
         Mark::Minus => Word::Infix(Operator::Subtract),
         Mark::Asterisk => Word::Infix(Operator::Multiply),
         Mark::Slash => Word::Infix(Operator::Divide),
-        // No formula has these yet.
-        Mark::Caret
-        | Mark::Percent
-        | Mark::Ampersand
-        | Mark::Equal
-        | Mark::NotEqual
-        | Mark::Less
-        | Mark::LessOrEqual
-        | Mark::Greater
-        | Mark::GreaterOrEqual => Word::Refused(ParseFault::Syntax),
+        Mark::Caret => Word::Infix(Operator::Power),
+        Mark::Percent => Word::Percent,
+        Mark::Ampersand => Word::Infix(Operator::Join),
+        Mark::Equal => Word::Infix(Operator::Equal),
+        Mark::NotEqual => Word::Infix(Operator::NotEqual),
+        Mark::Less => Word::Infix(Operator::Less),
+        Mark::LessOrEqual => Word::Infix(Operator::LessOrEqual),
+        Mark::Greater => Word::Infix(Operator::Greater),
+        Mark::GreaterOrEqual => Word::Infix(Operator::GreaterOrEqual),
     }
 }

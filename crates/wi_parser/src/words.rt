@@ -3,10 +3,10 @@
 ghost use Rattle.std.specs.Prelude.{◌≡◌, [], ◌∷◌, Some, None, MatchOption, IsTrue, ◌↔◌};
 ghost use Rattle.std.specs.Bool.{OnTrue, OnFalse};
 ghost use Rattle.wi_parser.specs.Grammar as grammar;
-ghost use Rattle.wi_parser.specs.Reader.{after_open, after_close, after_separator, reference_at, operator_at};
+ghost use Rattle.wi_parser.specs.Reader.{after_open, after_close, after_separator, after_percent, reference_at, sign_at, operator_at};
 ghost use Rattle.wi_parser.specs.Words.{meant_by, all_meant};
 
-use crate::expr::{Operator, Reference};
+use crate::expr::{Operator, Reference, Sign};
 use crate::word::Word;
 use std::marker::Model;
 
@@ -107,6 +107,37 @@ impl<'a> Words<'a> {
         }
     }
 
+    /// Takes the next word, if it is a percent mark.
+    pub fn take_percent(&mut self) -> bool
+        ensures yes { OnTrue result (after_percent self.old ≡ Some self.new) }
+        ensures no { OnFalse result ((after_percent self.old ≡ None) × (self.new ≡ self.old)) }
+    {
+        match self.rest {
+            [Word::Percent, rest @ ..] => {
+                self.rest = rest;
+                true
+            }
+            _ => false,
+        }
+    }
+
+    /// Takes the next word, if it is a sign.
+    pub fn take_sign(&mut self) -> Option<Sign>
+        ensures { MatchOption result ((sign_at self.old ≡ None) × (self.new ≡ self.old)) (λ s. sign_at self.old ≡ Some (s, self.new)) }
+    {
+        match self.rest {
+            [Word::Infix(Operator::Add), rest @ ..] => {
+                self.rest = rest;
+                Some(Sign::Plus)
+            }
+            [Word::Infix(Operator::Subtract), rest @ ..] => {
+                self.rest = rest;
+                Some(Sign::Minus)
+            }
+            _ => None,
+        }
+    }
+
     /// Takes the next word, if it is an operator of this line of the grammar.
     pub fn take_operator(&mut self, line: u8) -> Option<Operator>
         ensures { MatchOption result ((operator_at line self.old ≡ None) × (self.new ≡ self.old)) (λ op. operator_at line self.old ≡ Some (op, self.new)) }
@@ -121,20 +152,20 @@ impl<'a> Words<'a> {
     }
 }
 
-/// The line of the grammar that has the operator: 1 for a product, 2 for a sum.
+/// The line of the grammar that has the operator.
 fn line_of(op: Operator) -> u8
     ensures { result ≡ grammar.line_of op }
 {
     match op {
-        Operator::Multiply | Operator::Divide => 1,
-        Operator::Add | Operator::Subtract => 2,
-        Operator::Power
-        | Operator::Join
-        | Operator::Equal
+        Operator::Power => 3,
+        Operator::Multiply | Operator::Divide => 4,
+        Operator::Add | Operator::Subtract => 5,
+        Operator::Join => 6,
+        Operator::Equal
         | Operator::NotEqual
         | Operator::Less
         | Operator::LessOrEqual
         | Operator::Greater
-        | Operator::GreaterOrEqual => 9,
+        | Operator::GreaterOrEqual => 7,
     }
 }

@@ -7,12 +7,12 @@ use Rattle.wi_parser.proofs.Marks.{operator-length}
 use Rattle.wi_parser.proofs.Turns.{fails_as, line_more, chain_stop, chain_fail, chain_more}
 use Rattle.wi_parser.proofs.grammar.Grammar.+line.Goals as goal
 
-pub returns-then-line-eq0-clause-finds : goal.returns-then-line-eq0-clause-finds
+pub returns-then-line-eq2-clause-finds : goal.returns-then-line-eq2-clause-finds
 unfolding line
-returns-then-line-eq0-clause-finds g t c =
+returns-then-line-eq2-clause-finds g t c =
     let i = expression c.args.self.now.depth in
-    let zeroth : c.args.line ≡ 0 = omega arith in
-    subst (λ k. Finds (line i k c.args.words.now) c.atom.result c.atom.new.words) (sym zeroth) c.atom.ensures.finds
+    let second : c.args.line ≡ 2 = omega arith in
+    subst (λ k. Finds (line i k c.args.words.now) c.percents.result c.percents.new.words) (sym second) c.percents.ensures.finds
 
 pub returns-in_err-left-clause-finds : goal.returns-in_err-left-clause-finds
 returns-in_err-left-clause-finds g t c =
@@ -27,7 +27,7 @@ pub loop-op-init : goal.loop-op-init
 loop-op-init g t c =
     let i = expression c.args.self.now.depth in
     let k = c.args.line in
-    let some : 0 < k = omega arith in (
+    let some : 2 < k = omega (arith, c.requires.from_percents) in (
       length c.line.new.words,
       omega arith,
       line_more i k c.args.words.now some ∙ ap (read_then (λ t rest. chain (line i (k - 1)) k (length rest) t rest)) c.in_ok-left.ensures.finds,

@@ -11,7 +11,7 @@ invariant-loop-op g l =
     (n : ℕ) × (length l.words ≤ n)
     × (reader.line (reader.expression l.self.depth) l.line l.fn.words
     ≡ reader.chain (reader.line (reader.expression l.self.depth) (l.line - 1)) l.line n (tree_of l.left) l.words)
-    × (length l.words < length l.fn.words) × (0 < l.line)
+    × (length l.words < length l.fn.words) × (2 < l.line)
 
 abbrev pub decreases-loop-op : goal.decreases-loop-op
 decreases-loop-op g l = length l.words

@@ -1,0 +1,12 @@
+use Rattle.std.proofs.Common.{◌≡◌, ◌<◌, length}
+use Rattle.wi_parser.specs.Reader as reader
+use Rattle.wi_parser.specs.View.{tree_of}
+use Rattle.wi_parser.proofs.grammar.Grammar.percents.Given as goal
+
+abbrev pub invariant-loop-operand : goal.invariant-loop-operand
+invariant-loop-operand g l =
+    (reader.line (reader.expression l.self.depth) 2 l.fn.words ≡ reader.percents (tree_of l.operand) l.words)
+    × (length l.words < length l.fn.words)
+
+abbrev pub decreases-loop-operand : goal.decreases-loop-operand
+decreases-loop-operand g l = length l.words
