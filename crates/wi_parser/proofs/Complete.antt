@@ -2,14 +2,15 @@
 use Rattle.std.proofs.Common.{◌≡◌, ℕ, zero, suc, ◌+◌, ◌-◌, ◌<◌, ◌≤◌, max, cond, List, [], ◌∷◌, ◌++◌, length, Some, None, option_and_then, refl, sym, ap, ◌∙◌, arith, append_assoc, append-nil, length-append}
 use Rattle.std.proofs.lemmas.Bool.{ne_eqb, eq-eqb}
 use Rattle.wi_fraction.specs.Number.{Number}
+use Rattle.wi_parser.specs.declared.expr.Corners.{Corners}
 use Rattle.wi_parser.specs.declared.expr.Operator.{Operator}
 use Rattle.wi_parser.specs.declared.expr.Reference.{Reference}
 use Rattle.wi_parser.specs.declared.expr.Operator.TheVariants.{Power}
 use Rattle.wi_parser.specs.declared.expr.Sign.{Sign}
 use Rattle.wi_parser.specs.declared.expr.Sign.TheVariants.{Plus, Minus}
-use Rattle.wi_parser.specs.Tree.{Tree, number, cell, parenthesized, signed, percent, binary, what_if}
-use Rattle.wi_parser.specs.Symbol.{Symbol, numeral, reference, open_parenthesis, close_parenthesis, infix_mark, sign_mark, percent_mark}
-use Rattle.wi_parser.specs.Grammar.{line_of, loosest, Spells, pair_symbols, what_if_symbols, a_number, a_cell, in_parentheses, one_input, two_inputs, with_sign, with_percent, tighter, joined}
+use Rattle.wi_parser.specs.Tree.{Tree, number, cell, rectangle, parenthesized, signed, percent, binary, what_if}
+use Rattle.wi_parser.specs.Symbol.{Symbol, numeral, reference, corners, open_parenthesis, close_parenthesis, infix_mark, sign_mark, percent_mark}
+use Rattle.wi_parser.specs.Grammar.{line_of, loosest, Spells, pair_symbols, what_if_symbols, a_number, a_cell, a_rectangle, in_parentheses, one_input, two_inputs, with_sign, with_percent, tighter, joined}
 use Rattle.wi_parser.specs.Reader.{Parse, read_then, then_close, after_percent, operator_at, pair_at, what_if_at, atom, signed_read, prefixed, percents, chain, line, expression, if_last, whole}
 use Rattle.wi_parser.specs.Nesting.{depth}
 use Rattle.wi_parser.proofs.Turns.{percents_stop, chain_stop, chain_more}
@@ -164,6 +165,10 @@ cell_taken : (d : ℕ) (r : Reference) → Always d 0 (cell r) (reference r ∷ 
 unfolding line atom
 cell_taken d r rest = refl
 
+rectangle_taken : (d : ℕ) (c : Corners) → Always d 0 (rectangle c) (corners c ∷ [])
+unfolding line atom
+rectangle_taken d c rest = refl
+
 one_taken : (d : ℕ) (f : Reference) (p : Reference × Reference) → Always d 0 (what_if f (p ∷ [])) (what_if_symbols f (pair_symbols p))
 unfolding line atom what_if_at pair_at
 one_taken d f p rest = refl
@@ -175,6 +180,7 @@ two_taken d f p q rest = refl
 claim : {k : ℕ} {t : Tree} {ts : List Symbol} → Spells k t ts → (d : ℕ) → depth t ≤ d → Claim d k t ts
 claim (a_number x) d h = number_taken d x
 claim (a_cell r) d h = cell_taken d r
+claim (a_rectangle c) d h = rectangle_taken d c
 claim (one_input f p) d h = one_taken d f p
 claim (two_inputs f p q) d h = two_taken d f p q
 claim (in_parentheses t ts s) zero h = absurd (omega arith)

@@ -1,14 +1,15 @@
 -- A tree nests no deeper than the parentheses of its symbols.
 use Rattle.std.proofs.Common.{◌≡◌, ℕ, suc, ◌+◌, ◌-◌, ◌≤◌, List, [], ◌∷◌, ◌++◌, ap, arith, append_assoc, append-nil}
 use Rattle.wi_parser.specs.Tree.{Tree}
-use Rattle.wi_parser.specs.Symbol.{Symbol, numeral, reference, open_parenthesis, close_parenthesis, separator, infix_mark, percent_mark, what_if_name, refused}
-use Rattle.wi_parser.specs.Grammar.{loosest, Spells, a_number, a_cell, in_parentheses, one_input, two_inputs, with_sign, with_percent, tighter, joined}
+use Rattle.wi_parser.specs.Symbol.{Symbol, numeral, reference, corners, open_parenthesis, close_parenthesis, separator, infix_mark, percent_mark, what_if_name, refused}
+use Rattle.wi_parser.specs.Grammar.{loosest, Spells, a_number, a_cell, a_rectangle, in_parentheses, one_input, two_inputs, with_sign, with_percent, tighter, joined}
 use Rattle.wi_parser.specs.Nesting.{depth, deepest}
 
 pub least : (h : ℕ) (ts : List Symbol) → h ≤ deepest h ts
 least h [] = omega arith
 least h (numeral x ∷ ts) = least h ts
 least h (reference r ∷ ts) = least h ts
+least h (corners c ∷ ts) = least h ts
 least h (open_parenthesis ∷ ts) = omega (arith, least (suc h) ts)
 least h (close_parenthesis ∷ ts) = omega arith
 least h (separator ∷ ts) = least h ts
@@ -31,6 +32,7 @@ closed h rest =
 reaches : {k : ℕ} {t : Tree} {ts : List Symbol} → Spells k t ts → (h : ℕ) (rest : List Symbol) → Reaches (depth t) h ts rest
 reaches (a_number x) h rest = record { own = omega (arith, least h rest); others = omega arith }
 reaches (a_cell r) h rest = record { own = omega (arith, least h rest); others = omega arith }
+reaches (a_rectangle c) h rest = record { own = omega (arith, least h rest); others = omega arith }
 reaches (one_input f p) h rest = let c = closed h rest in record { own = omega (arith, c.0); others = c.1 }
 reaches (two_inputs f p q) h rest = let c = closed h rest in record { own = omega (arith, c.0); others = c.1 }
 reaches (in_parentheses t ts s) h rest =

@@ -2,12 +2,13 @@
 use Rattle.std.proofs.Common.{◌≡◌, ℕ, List, [], ◌∷◌, ◌++◌, refl, ap, ap₂, subst}
 use Rattle.wi_parser.specs.Tree.{Tree}
 use Rattle.wi_parser.specs.Symbol.{Symbol, open_parenthesis, close_parenthesis, infix_mark, sign_mark, percent_mark}
-use Rattle.wi_parser.specs.Grammar.{loosest, Spells, a_number, a_cell, in_parentheses, one_input, two_inputs, with_sign, with_percent, tighter, joined}
+use Rattle.wi_parser.specs.Grammar.{loosest, Spells, a_number, a_cell, a_rectangle, in_parentheses, one_input, two_inputs, with_sign, with_percent, tighter, joined}
 use Rattle.wi_parser.specs.Spelling.{spelling, IsSpelled}
 
 pub spelled : {k : ℕ} {t : Tree} {ts : List Symbol} → Spells k t ts → ts ≡ spelling t
 spelled (a_number x) = refl
 spelled (a_cell r) = refl
+spelled (a_rectangle c) = refl
 spelled (in_parentheses t ts s) = ap (λ l. open_parenthesis ∷ l ++ close_parenthesis ∷ []) (spelled s)
 spelled (one_input f p) = refl
 spelled (two_inputs f p q) = refl

@@ -7,7 +7,7 @@ use Rattle.wi_parser.specs.declared.fault.ParseFault.{ParseFault}
 use Rattle.wi_parser.specs.declared.fault.ParseFault.TheVariants.{TooLong, OutOfSheet, NumberRange, TooDeep, Syntax, Memory}
 use Rattle.wi_parser.specs.Tree.{Tree}
 use Rattle.wi_parser.specs.Symbol.{Symbol, close_parenthesis, infix_mark, percent_mark, is_outside, is_unfit}
-use Rattle.wi_parser.specs.Grammar.{loosest, Spells, a_number, a_cell, in_parentheses, one_input, two_inputs, with_sign, with_percent, tighter, joined}
+use Rattle.wi_parser.specs.Grammar.{loosest, Spells, a_number, a_cell, a_rectangle, in_parentheses, one_input, two_inputs, with_sign, with_percent, tighter, joined}
 use Rattle.wi_parser.specs.Nesting.{deepest, most_signs, max_depth, is_too_deep}
 use Rattle.wi_parser.specs.Reader.{whole}
 use Rattle.wi_parser.specs.Outcome.{Fails}
@@ -25,6 +25,7 @@ any_append p xs ys h e = list_any-append p xs ys ∙ ap₂ (λ a b. a || b) h e
 none_outside : {k : ℕ} {t : Tree} {ts : List Symbol} → Spells k t ts → list_any is_outside ts ≡ false
 none_outside (a_number x) = refl
 none_outside (a_cell r) = refl
+none_outside (a_rectangle c) = refl
 none_outside (one_input f p) = refl
 none_outside (two_inputs f p q) = refl
 none_outside (in_parentheses t ts s) = any_append is_outside ts (close_parenthesis ∷ []) (none_outside s) refl
@@ -36,6 +37,7 @@ none_outside (joined k op l r ls rs e s u) = any_append is_outside ls (infix_mar
 none_unfit : {k : ℕ} {t : Tree} {ts : List Symbol} → Spells k t ts → list_any is_unfit ts ≡ false
 none_unfit (a_number x) = refl
 none_unfit (a_cell r) = refl
+none_unfit (a_rectangle c) = refl
 none_unfit (one_input f p) = refl
 none_unfit (two_inputs f p q) = refl
 none_unfit (in_parentheses t ts s) = any_append is_unfit ts (close_parenthesis ∷ []) (none_unfit s) refl

@@ -3,9 +3,9 @@ use Rattle.std.proofs.Common.{◌≡◌, ℕ, zero, suc, List, [], ◌∷◌, �
 use Rattle.wi_parser.specs.declared.expr.Operator.{Operator}
 use Rattle.wi_parser.specs.declared.expr.Reference.{Reference}
 use Rattle.wi_parser.specs.declared.expr.Sign.{Sign}
-use Rattle.wi_parser.specs.Tree.{Tree, number, cell, parenthesized, signed, percent, binary, what_if}
-use Rattle.wi_parser.specs.Symbol.{Symbol, numeral, reference, open_parenthesis, close_parenthesis, separator, infix_mark, sign_mark, percent_mark, what_if_name, refused}
-use Rattle.wi_parser.specs.Grammar.{loosest, Spells, pair_symbols, what_if_symbols, a_number, a_cell, in_parentheses, one_input, two_inputs, with_sign, with_percent, tighter, joined}
+use Rattle.wi_parser.specs.Tree.{Tree, number, cell, rectangle, parenthesized, signed, percent, binary, what_if}
+use Rattle.wi_parser.specs.Symbol.{Symbol, numeral, reference, corners, open_parenthesis, close_parenthesis, separator, infix_mark, sign_mark, percent_mark, what_if_name, refused}
+use Rattle.wi_parser.specs.Grammar.{loosest, Spells, pair_symbols, what_if_symbols, a_number, a_cell, a_rectangle, in_parentheses, one_input, two_inputs, with_sign, with_percent, tighter, joined}
 use Rattle.wi_parser.specs.Reader.{Parse, Read, read_then, then_close, after_open, after_close, reference_at, sign_of, operator_at, pair_at, one_or_two, inputs_at, what_if_at, atom, prefix_step, prefixed, percents, chain, chain_step, line, expression, if_last, whole}
 use Rattle.wi_parser.proofs.Marks.{open_is, close_is, reference_is, sign_is, operator_is, pair_is, and_then_ok, map_ok}
 
@@ -111,6 +111,9 @@ module _ (inner : Parse) (sound : Finds loosest inner) where
   atom_sound (reference r ∷ ts) t rest h =
       let both = parts (cell r) t ts rest h in
       (reference r ∷ [], subst (λ u. Spells 0 u (reference r ∷ [])) both.0 (a_cell r), ap (λ l. reference r ∷ l) both.1)
+  atom_sound (corners c ∷ ts) t rest h =
+      let both = parts (rectangle c) t ts rest h in
+      (corners c ∷ [], subst (λ u. Spells 0 u (corners c ∷ [])) both.0 (a_rectangle c), ap (λ l. corners c ∷ l) both.1)
   atom_sound (open_parenthesis ∷ ts) t rest h =
       let inside = then_ok (λ u. then_close (parenthesized u)) (inner ts) (t, rest) h in
       let a = sound ts inside.0.0 inside.0.1 inside.1 in

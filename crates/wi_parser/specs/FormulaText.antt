@@ -1,5 +1,5 @@
 -- The symbols of a formula's text.
-use Rattle.std.specs.Prelude.{ℕ, List, [], ◌∷◌, ◌++◌, map, codes, ◌==◌, if◌then◌else◌, Option, Some, None, is_some, ◌&&◌, unwrap_or}
+use Rattle.std.specs.Prelude.{ℕ, List, [], ◌∷◌, ◌++◌, map, codes, ◌==◌, if◌then◌else◌, Option, Some, None, option_map, unwrap_or}
 use Rattle.std.specs.Str.{str_eq_ignore_ascii_case}
 use Rattle.wi_fraction.specs.Number.{Number as Numbers}
 use Rattle.wi_fraction.specs.Text.{read_decimal}
@@ -13,8 +13,9 @@ use Rattle.wi_lexer.specs.Reference.{reference_of}
 use Rattle.wi_lexer.specs.Rectangle.{rectangle_of}
 use Rattle.wi_lexer.specs.Tokens.{Tokens, tokens}
 use Rattle.wi_parser.specs.declared.expr.Operator.TheVariants as operator
+use Rattle.wi_parser.specs.declared.expr.Reference as references
 use Rattle.wi_parser.specs.declared.fault.ParseFault.TheVariants.{OutOfSheet, NumberRange, Syntax}
-use Rattle.wi_parser.specs.Symbol.{Symbol, numeral, reference, open_parenthesis, close_parenthesis, separator, infix_mark, percent_mark, what_if_name, refused}
+use Rattle.wi_parser.specs.Symbol.{Symbol, numeral, reference, corners, open_parenthesis, close_parenthesis, separator, infix_mark, percent_mark, what_if_name, refused}
 
 -- ---- tokens
 
@@ -23,20 +24,28 @@ abbrev pub number_symbol : Option Numbers → Symbol
 number_symbol None = refused NumberRange
 number_symbol (Some x) = numeral x
 
--- a cell as written, at its address, if the sheet has it
-abbrev pub cell_symbol : Cell → Option ℕ → Symbol
-cell_symbol c None = refused OutOfSheet
-cell_symbol c (Some a) = reference (record { at = a; column_is_absolute = c.column_is_absolute; row_is_absolute = c.row_is_absolute })
+-- the reference to a cell as written, if the sheet has it
+abbrev pub reference_to : Cell → Option references.Reference
+reference_to c =
+    option_map (λ a. record { at = a; column_is_absolute = c.column_is_absolute; row_is_absolute = c.row_is_absolute }) (address_at c.letters c.digits)
+
+abbrev pub cell_symbol : Option references.Reference → Symbol
+cell_symbol None = refused OutOfSheet
+cell_symbol (Some r) = reference r
 
 abbrev pub reference_symbol : Option Cell → Symbol
 reference_symbol None = refused Syntax
-reference_symbol (Some c) = cell_symbol c (address_at c.letters c.digits)
+reference_symbol (Some c) = cell_symbol (reference_to c)
 
--- a rectangle, if the sheet has its corners; no formula has one yet
+-- a rectangle, if the sheet has both corners
+abbrev pub corners_symbol : Option references.Reference → Option references.Reference → Symbol
+corners_symbol None d = refused OutOfSheet
+corners_symbol (Some c) None = refused OutOfSheet
+corners_symbol (Some c) (Some d) = corners (record { one = c; other = d })
+
 abbrev pub rectangle_symbol : Option (Cell × Cell) → Symbol
 rectangle_symbol None = refused Syntax
-rectangle_symbol (Some p) =
-    if is_some (address_at p.0.letters p.0.digits) && is_some (address_at p.1.letters p.1.digits) then refused Syntax else refused OutOfSheet
+rectangle_symbol (Some p) = corners_symbol (reference_to p.0) (reference_to p.1)
 
 -- a mark
 abbrev pub mark_symbol : mark.Mark → Symbol

@@ -1,12 +1,13 @@
 -- The grammar of formulas: which symbols spell which tree (OpenFormula, "Expression Syntax").
 use Rattle.std.specs.Prelude.{◌≡◌, ℕ, suc, List, [], ◌∷◌, ◌++◌}
 use Rattle.wi_fraction.specs.Number.{Number}
+use Rattle.wi_parser.specs.declared.expr.Corners.{Corners}
 use Rattle.wi_parser.specs.declared.expr.Operator.{Operator}
 use Rattle.wi_parser.specs.declared.expr.Operator.TheVariants.{Add, Subtract, Multiply, Divide, Power, Join, Equal, NotEqual, Less, LessOrEqual, Greater, GreaterOrEqual}
 use Rattle.wi_parser.specs.declared.expr.Reference.{Reference}
 use Rattle.wi_parser.specs.declared.expr.Sign.{Sign}
-use Rattle.wi_parser.specs.Tree.{Tree, number, cell, parenthesized, signed, percent, binary, what_if}
-use Rattle.wi_parser.specs.Symbol.{Symbol, numeral, reference, open_parenthesis, close_parenthesis, separator, infix_mark, sign_mark, percent_mark, what_if_name}
+use Rattle.wi_parser.specs.Tree.{Tree, number, cell, rectangle, parenthesized, signed, percent, binary, what_if}
+use Rattle.wi_parser.specs.Symbol.{Symbol, numeral, reference, corners, open_parenthesis, close_parenthesis, separator, infix_mark, sign_mark, percent_mark, what_if_name}
 
 -- the line of the grammar that has the operator
 abbrev pub line_of : Operator → ℕ
@@ -39,6 +40,7 @@ what_if_symbols f parameters = what_if_name ∷ open_parenthesis ∷ reference f
 pub data Spells : ℕ → Tree → List Symbol → Type 0 where
   a_number : (x : Number) → Spells 0 (number x) (numeral x ∷ [])
   a_cell : (r : Reference) → Spells 0 (cell r) (reference r ∷ [])
+  a_rectangle : (c : Corners) → Spells 0 (rectangle c) (corners c ∷ [])
   in_parentheses : (t : Tree) (ts : List Symbol) → Spells loosest t ts → Spells 0 (parenthesized t) (open_parenthesis ∷ ts ++ close_parenthesis ∷ [])
   -- a formula cell, and one input or two
   one_input : (f : Reference) (p : Reference × Reference) → Spells 0 (what_if f (p ∷ [])) (what_if_symbols f (pair_symbols p))

@@ -1,13 +1,14 @@
 -- How deep a formula nests.
 use Rattle.std.specs.Prelude.{ℕ, suc, ◌-◌, max, List, [], ◌∷◌, Bool, true, false, ◌||◌, nat_lt, if◌then◌else◌}
 use Rattle.wi_parser.specs.declared.expr.Operator.TheVariants.{Add, Subtract}
-use Rattle.wi_parser.specs.Tree.{Tree, number, cell, parenthesized, signed, percent, binary, what_if}
+use Rattle.wi_parser.specs.Tree.{Tree, number, cell, rectangle, parenthesized, signed, percent, binary, what_if}
 use Rattle.wi_parser.specs.Symbol.{Symbol, open_parenthesis, close_parenthesis, infix_mark}
 
 -- How many parenthesized trees stand one inside another, at most. The parentheses of a what-if hold no tree.
 abbrev pub depth : Tree → ℕ
 depth (number x) = 0
 depth (cell r) = 0
+depth (rectangle c) = 0
 depth (parenthesized t) = suc (depth t)
 depth (signed s t) = depth t
 depth (percent t) = depth t

@@ -5,8 +5,8 @@ use Rattle.wi_parser.specs.declared.expr.Operator.TheVariants.{Add, Subtract}
 use Rattle.wi_parser.specs.declared.expr.Reference.{Reference}
 use Rattle.wi_parser.specs.declared.expr.Sign.{Sign}
 use Rattle.wi_parser.specs.declared.expr.Sign.TheVariants.{Plus, Minus}
-use Rattle.wi_parser.specs.Tree.{Tree, number, cell, parenthesized, signed, percent, binary, what_if}
-use Rattle.wi_parser.specs.Symbol.{Symbol, numeral, reference, open_parenthesis, close_parenthesis, separator, infix_mark, percent_mark, what_if_name}
+use Rattle.wi_parser.specs.Tree.{Tree, number, cell, rectangle, parenthesized, signed, percent, binary, what_if}
+use Rattle.wi_parser.specs.Symbol.{Symbol, numeral, reference, corners, open_parenthesis, close_parenthesis, separator, infix_mark, percent_mark, what_if_name}
 use Rattle.wi_parser.specs.Grammar.{line_of, loosest}
 
 -- a tree found, and what follows it
@@ -87,10 +87,11 @@ what_if_at ts = option_and_then (λ f. inputs_at f.0 f.1) (option_and_then refer
 
 -- ---- lines
 
--- a number, a cell, what stands in parentheses, which `inner` reads, or a what-if
+-- a number, a cell, a rectangle, what stands in parentheses, which `inner` reads, or a what-if
 unfoldable pub atom : Parse → Parse
 atom inner (numeral x ∷ ts) = Some (number x, ts)
 atom inner (reference r ∷ ts) = Some (cell r, ts)
+atom inner (corners c ∷ ts) = Some (rectangle c, ts)
 atom inner (open_parenthesis ∷ ts) = read_then (λ t. then_close (parenthesized t)) (inner ts)
 atom inner (what_if_name ∷ ts) = what_if_at ts
 atom inner ts = None

@@ -1,6 +1,7 @@
 -- What tokens mean.
 use Rattle.std.specs.Prelude.{Bool, true, false}
 use Rattle.wi_fraction.specs.Number.{Number}
+use Rattle.wi_parser.specs.declared.expr.Corners.{Corners}
 use Rattle.wi_parser.specs.declared.expr.Operator.{Operator}
 use Rattle.wi_parser.specs.declared.expr.Operator.TheVariants.{Add, Subtract}
 use Rattle.wi_parser.specs.declared.expr.Reference.{Reference}
@@ -13,6 +14,8 @@ use Rattle.wi_parser.specs.declared.fault.ParseFault.TheVariants.{OutOfSheet, Nu
 pub data Symbol : Type 0 where
   numeral : Number → Symbol
   reference : Reference → Symbol
+  -- a reference to a rectangle
+  corners : Corners → Symbol
   open_parenthesis : Symbol
   close_parenthesis : Symbol
   separator : Symbol

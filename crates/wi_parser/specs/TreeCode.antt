@@ -3,12 +3,13 @@ use Rattle.std.specs.Prelude.{◌≡◌, ℕ, zero, suc, Bool, false, List, [], 
 use Rattle.std.proofs.Common.{ap, ◌∙◌}
 use Rattle.std.specs.Coded.{Coded, code_by, coded×, coded_ℕ, coded_bool, coded_list}
 use Rattle.wi_fraction.specs.Number.{Number, number_code}
+use Rattle.wi_parser.specs.declared.expr.Corners.{Corners}
 use Rattle.wi_parser.specs.declared.expr.Operator.{Operator}
 use Rattle.wi_parser.specs.declared.expr.Operator.TheVariants.{Add, Subtract, Multiply, Divide, Power, Join, Equal, NotEqual, Less, LessOrEqual, Greater, GreaterOrEqual}
 use Rattle.wi_parser.specs.declared.expr.Reference.{Reference}
 use Rattle.wi_parser.specs.declared.expr.Sign.{Sign}
 use Rattle.wi_parser.specs.declared.expr.Sign.TheVariants.{Plus, Minus}
-use Rattle.wi_parser.specs.Tree.{Tree, number, cell, parenthesized, signed, percent, binary, what_if}
+use Rattle.wi_parser.specs.Tree.{Tree, number, cell, rectangle, parenthesized, signed, percent, binary, what_if}
 
 -- a step: which form, of which kind, numbers and references
 abbrev pub Step : Type 0
@@ -77,6 +78,7 @@ sign_at-code Minus = refl
 abbrev pub steps : Tree → List Step
 steps (number x) = (0, (0, (x ∷ [], []))) ∷ []
 steps (cell r) = (1, (0, ([], (r, r) ∷ []))) ∷ []
+steps (rectangle c) = (1, (1, ([], (c.one, c.other) ∷ []))) ∷ []
 steps (parenthesized t) = steps t ++ (2, (0, ([], []))) ∷ []
 steps (signed s t) = steps t ++ (3, (sign_code s, ([], []))) ∷ []
 steps (percent t) = steps t ++ (4, (0, ([], []))) ∷ []
@@ -87,9 +89,11 @@ abbrev add_number : List Number → List Tree → List Tree
 add_number [] ts = ts
 add_number (x ∷ xs) ts = number x ∷ ts
 
-abbrev add_cell : List (Reference × Reference) → List Tree → List Tree
-add_cell [] ts = ts
-add_cell (p ∷ ps) ts = cell p.0 ∷ ts
+-- kind 0 is a cell, and 1 a rectangle
+abbrev add_reference : ℕ → List (Reference × Reference) → List Tree → List Tree
+add_reference k [] ts = ts
+add_reference zero (p ∷ ps) ts = cell p.0 ∷ ts
+add_reference (suc k) (p ∷ ps) ts = rectangle (record { one = p.0; other = p.1 }) ∷ ts
 
 abbrev enclose : List Tree → List Tree
 enclose [] = []
@@ -113,7 +117,7 @@ join k ts = ts
 
 abbrev build : ℕ → ℕ → List Number → List (Reference × Reference) → List Tree → List Tree
 build zero k xs ps ts = add_number xs ts
-build (suc zero) k xs ps ts = add_cell ps ts
+build (suc zero) k xs ps ts = add_reference k ps ts
 build (suc (suc zero)) k xs ps ts = enclose ts
 build (suc (suc (suc zero))) k xs ps ts = sign k ts
 build (suc (suc (suc (suc zero)))) k xs ps ts = take_percent ts
@@ -151,6 +155,7 @@ after-two xs ys e t u ts is both =
 run-steps : (t : Tree) (ts : List Tree) → run (steps t) ts ≡ t ∷ ts
 run-steps (number x) ts = refl
 run-steps (cell r) ts = refl
+run-steps (rectangle c) ts = refl
 run-steps (parenthesized t) ts = after-one (steps t) (2, (0, ([], []))) t ts (run-steps t ts)
 run-steps (signed s t) ts =
     after-one (steps t) (3, (sign_code s, ([], []))) t ts (run-steps t ts) ∙ ap (λ s. signed s t ∷ ts) (sign_at-code s)

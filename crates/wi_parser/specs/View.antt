@@ -1,6 +1,6 @@
 -- The tree that an expression stands for.
 use Rattle.std.specs.Prelude.{map}
-use Rattle.wi_parser.specs.Tree.{Tree, number, cell, parenthesized, signed, percent, binary, what_if}
+use Rattle.wi_parser.specs.Tree.{Tree, number, cell, rectangle, parenthesized, signed, percent, binary, what_if}
 use Rattle.wi_parser.specs.declared.expr.Expr.{Expr, fold-Expr}
 use Rattle.wi_parser.specs.declared.expr.Expr.TheOpen.{Expr-F}
 use Rattle.wi_parser.specs.declared.expr.Pair.{Pair}
@@ -14,6 +14,7 @@ pair_of p = (p.input, p.by)
 abbrev pub layer_tree : Expr-F Tree → Tree
 layer_tree (Expr-F.Number x) = number x
 layer_tree (Expr-F.Cell r) = cell r
+layer_tree (Expr-F.Rectangle c) = rectangle c
 layer_tree (Expr-F.Parenthesized t) = parenthesized t.value
 layer_tree (Expr-F.Signed s t) = signed s t.value
 layer_tree (Expr-F.Percent t) = percent t.value

@@ -1,12 +1,13 @@
 -- What the code's words stand for.
 use Rattle.std.specs.Prelude.{List, map}
 use Rattle.wi_parser.specs.declared.word.Word.{Word}
-use Rattle.wi_parser.specs.declared.word.Word.TheVariants.{Number, Cell, Open, Close, Separator, Infix, Percent, WhatIf, Refused}
-use Rattle.wi_parser.specs.Symbol.{Symbol, numeral, reference, open_parenthesis, close_parenthesis, separator, infix_mark, percent_mark, what_if_name, refused}
+use Rattle.wi_parser.specs.declared.word.Word.TheVariants.{Number, Cell, Rectangle, Open, Close, Separator, Infix, Percent, WhatIf, Refused}
+use Rattle.wi_parser.specs.Symbol.{Symbol, numeral, reference, corners, open_parenthesis, close_parenthesis, separator, infix_mark, percent_mark, what_if_name, refused}
 
 abbrev pub meant_by : Word → Symbol
 meant_by (Number x) = numeral x
 meant_by (Cell r) = reference r
+meant_by (Rectangle c) = corners c
 meant_by Open = open_parenthesis
 meant_by Close = close_parenthesis
 meant_by Separator = separator

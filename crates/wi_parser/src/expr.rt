@@ -2,10 +2,11 @@
 
 ghost use Rattle.std.specs.Prelude.{◌≡◌, IfOk};
 ghost use Rattle.wi_parser.specs.View.{tree_of};
+ghost use Rattle.wi_parser.specs.Reads.{area_of};
 
 use std::alloc::{AllocError, Global};
 use wi_fraction::Fraction;
-use wi_values::Address;
+use wi_values::{Address, Rect};
 
 /// A reference to one cell. What is absolute stays where a formula is filled into other cells.
 #[derive(Clone, Copy, PartialEq, Eq, Debug)]
@@ -13,6 +14,22 @@ pub struct Reference {
     pub at: Address,
     pub column_is_absolute: bool,
     pub row_is_absolute: bool,
+}
+
+/// Two opposite corners of a rectangle, in the order in which they are written.
+#[derive(Clone, Copy, PartialEq, Eq, Debug)]
+pub struct Corners {
+    pub one: Reference,
+    pub other: Reference,
+}
+
+impl Corners {
+    /// The rectangle that they span, both included.
+    pub fn area(self) -> Rect
+        ensures { result ≡ area_of self }
+    {
+        Rect::new(self.one.at, self.other.at)
+    }
 }
 
 /// An operator between two operands.
@@ -52,6 +69,7 @@ pub struct Pair {
 pub enum Expr {
     Number(Fraction),
     Cell(Reference),
+    Rectangle(Corners),
     Parenthesized(Box<Expr>),
     Signed(Sign, Box<Expr>),
     /// A hundredth of its operand.
@@ -70,6 +88,7 @@ impl Expr {
         match self {
             Expr::Number(x) => Ok(Expr::Number(*x)),
             Expr::Cell(r) => Ok(Expr::Cell(*r)),
+            Expr::Rectangle(corners) => Ok(Expr::Rectangle(*corners)),
             Expr::Parenthesized(t) => Ok(Expr::Parenthesized(copied(alloc, t)?)),
             Expr::Signed(sign, t) => Ok(Expr::Signed(*sign, copied(alloc, t)?)),
             Expr::Percent(t) => Ok(Expr::Percent(copied(alloc, t)?)),

@@ -77,6 +77,7 @@ fn push_inputs(expr: &Expr, inputs: &mut Vec<Address>) -> Result<(), AllocError>
     match expr {
         Expr::Number(_) => Ok(()),
         Expr::Cell(_) => Ok(()),
+        Expr::Rectangle(_) => Ok(()),
         Expr::Parenthesized(inner) => push_inputs(inner, inputs),
         Expr::Signed(_, operand) => push_inputs(operand, inputs),
         Expr::Percent(operand) => push_inputs(operand, inputs),

@@ -7,7 +7,7 @@ ghost use Rattle.wi_parser.specs.Nests.{Nests};
 ghost use Rattle.wi_parser.specs.View.{tree_of};
 ghost use Rattle.wi_parser.specs.Tree as tree;
 
-use crate::expr::{Expr, Operator, Reference, Sign};
+use crate::expr::{Expr, Operator, Reference, Sign, Corners};
 use crate::fault::ParseFault;
 use crate::what_if::what_if;
 use crate::word::Word;
@@ -33,7 +33,7 @@ impl<F: Fn(Global, &mut Words<'_>, usize) -> Result<Expr, ParseFault>> Grammar<F
         (self.expression)(self.alloc, words, self.depth)
     }
 
-    // A number, a cell, an expression in parentheses, or a what-if.
+    // A number, a cell, a rectangle, an expression in parentheses, or a what-if.
     #[tactic(auto, unfolding(crate::specs::Reader::atom))]
     fn atom(&self, words: &mut Words<'_>) -> Result<Expr, ParseFault>
         requires { Nests self.now.depth (F.pre self.now.expression) (F.post self.now.expression) }
@@ -46,6 +46,7 @@ impl<F: Fn(Global, &mut Words<'_>, usize) -> Result<Expr, ParseFault>> Grammar<F
         match word {
             Word::Number(x) => Ok(number(x)),
             Word::Cell(at) => Ok(cell(at)),
+            Word::Rectangle(corners) => Ok(rectangle(corners)),
             Word::Open => {
                 let inner = self.inner(words)?;
                 if !words.take_close() {
@@ -135,6 +136,12 @@ fn cell(at: Reference) -> Expr
     ensures { tree_of result ≡ tree.cell at }
 {
     Expr::Cell(at)
+}
+
+fn rectangle(corners: Corners) -> Expr
+    ensures { tree_of result ≡ tree.rectangle corners }
+{
+    Expr::Rectangle(corners)
 }
 
 fn parenthesized(alloc: Global, inner: Expr) -> Result<Expr, AllocError>

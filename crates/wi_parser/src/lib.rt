@@ -18,7 +18,7 @@ mod word;
 mod words;
 
 pub use content::Content;
-pub use expr::{Expr, Operator, Pair, Reference, Sign};
+pub use expr::{Corners, Expr, Operator, Pair, Reference, Sign};
 pub use fault::ParseFault;
 pub use formula::Formula;
 pub use parser::{MAX_FORMULA, parse};

@@ -3,11 +3,11 @@
 ghost use Rattle.std.specs.Prelude.{◌≡◌};
 ghost use Rattle.wi_parser.specs.Words.{meant_by};
 ghost use Rattle.wi_parser.specs.Symbol.{refused};
-ghost use Rattle.wi_parser.specs.FormulaText.{symbol_of, name_symbol, cell_symbol, reference_symbol, rectangle_symbol, mark_symbol};
+ghost use Rattle.wi_parser.specs.FormulaText.{symbol_of, name_symbol, reference_to, reference_symbol, rectangle_symbol, mark_symbol};
 ghost use Rattle.wi_lexer.specs.Cell.{parts};
 ghost use Rattle.wi_lexer.specs.Reference as spec;
 
-use crate::expr::{Operator, Reference};
+use crate::expr::{Corners, Operator, Reference};
 use crate::fault::ParseFault;
 use wi_fraction::Fraction;
 use wi_lexer::{CellText, Kind, Mark, Token, rectangle_of, reference_of};
@@ -18,6 +18,7 @@ use wi_values::Address;
 pub enum Word {
     Number(Fraction),
     Cell(Reference),
+    Rectangle(Corners),
     Open,
     Close,
     Separator,
@@ -75,36 +76,43 @@ fn name(text: &str) -> Word
 fn cell_named(cell: CellText<'_>) -> Word
     ensures { meant_by result ≡ reference_symbol (Some (parts cell.entry)) }
 {
-    match Address::from_parts(cell.letters, cell.digits) {
-        Some(at) => Word::Cell(Reference {
-            at,
-            column_is_absolute: cell.column_is_absolute,
-            row_is_absolute: cell.row_is_absolute,
-        }),
+    match reference_to(cell) {
+        Some(at) => Word::Cell(at),
         None => Word::Refused(ParseFault::OutOfSheet),
     }
 }
 
-// No formula has a rectangle yet.
+// The reference to a cell, where the sheet has it.
+fn reference_to(cell: CellText<'_>) -> Option<Reference>
+    ensures { result ≡ reference_to (parts cell.entry) }
+{
+    match Address::from_parts(cell.letters, cell.digits) {
+        Some(at) => Some(Reference {
+            at,
+            column_is_absolute: cell.column_is_absolute,
+            row_is_absolute: cell.row_is_absolute,
+        }),
+        None => None,
+    }
+}
+
 fn rectangle(text: &[u8]) -> Word
     ensures { meant_by result ≡ symbol_of Kind.Rectangle text.now }
 {
     match rectangle_of(text) {
-        Some((first, last)) => between(first, last),
+        Some((one, other)) => between(one, other),
         None => Word::Refused(ParseFault::Syntax),
     }
 }
 
-fn between(first: CellText<'_>, last: CellText<'_>) -> Word
-    ensures { meant_by result ≡ rectangle_symbol (Some (parts first.entry, parts last.entry)) }
+fn between(one: CellText<'_>, other: CellText<'_>) -> Word
+    ensures { meant_by result ≡ rectangle_symbol (Some (parts one.entry, parts other.entry)) }
 {
-    if Address::from_parts(first.letters, first.digits).is_none() {
-        return Word::Refused(ParseFault::OutOfSheet);
+    match (reference_to(one), reference_to(other)) {
+        (Some(one), Some(other)) => Word::Rectangle(Corners { one, other }),
+        (Some(_), None) => Word::Refused(ParseFault::OutOfSheet),
+        (None, _) => Word::Refused(ParseFault::OutOfSheet),
     }
-    if Address::from_parts(last.letters, last.digits).is_none() {
-        return Word::Refused(ParseFault::OutOfSheet);
-    }
-    Word::Refused(ParseFault::Syntax)
 }
 
 fn of_mark(mark: Mark) -> Word

@@ -37,6 +37,12 @@ returns-in-Cell-clause-finds g c =
     let is = rw c.in-Cell.is at c.in-Some.ensures in
     ap (atom (expression c.args.self.now.depth)) is ∙ ap (λ t. Some (t, c.next.new.self)) (sym c.cell.ensures)
 
+pub returns-in-Rectangle-clause-finds : goal.returns-in-Rectangle-clause-finds
+unfolding atom
+returns-in-Rectangle-clause-finds g c =
+    let is = rw c.in-Rectangle.is at c.in-Some.ensures in
+    ap (atom (expression c.args.self.now.depth)) is ∙ ap (λ t. Some (t, c.next.new.self)) (sym c.rectangle.ensures)
+
 pub returns-in_ok-parenthesized-in-Open-clause-finds : goal.returns-in_ok-parenthesized-in-Open-clause-finds
 unfolding atom
 returns-in_ok-parenthesized-in-Open-clause-finds g c =
