@@ -18,10 +18,12 @@ use Rattle.wi_lexer.specs.Tokens.{tokens, tokens_within}
 use Rattle.wi_parser.specs.declared.content.Content.TheVariants.{Constant}
 use Rattle.wi_parser.specs.declared.expr.Operator.TheVariants.{Add, Subtract, Multiply}
 use Rattle.wi_parser.specs.declared.fault.ParseFault.TheVariants.{OutOfSheet, Syntax}
-use Rattle.wi_parser.specs.Tree.{number, cell, parenthesized, binary, what_if}
+use Rattle.wi_parser.specs.Tree.{number, cell, rectangle, parenthesized, binary, what_if}
 use Rattle.wi_parser.specs.Symbol.{Symbol, numeral, open_parenthesis, close_parenthesis, infix_mark}
+use Rattle.wi_parser.specs.declared.expr.Corners.{Corners}
 use Rattle.wi_parser.specs.declared.expr.Reference.{Reference}
 use Rattle.wi_parser.specs.Reader.{pair_at, what_if_at, atom, chain, line, expression}
+use Rattle.wi_parser.specs.Reads.{reads}
 use Rattle.wi_parser.specs.FormulaText.{number_symbol, formula_symbols}
 use Rattle.wi_parser.specs.Reading.{judged, parsed, content_read}
 use Rattle.wi_parser.proofs.Parses.{parsed_short}
@@ -127,6 +129,34 @@ outside_first = refl
 no_equals : parsed (codes "[.A1]") ≡ Err Syntax
 unfolding parsed formula_symbols tokens tokens_within token_at number_len decimals_len mark_at two_byte_mark one_byte_mark reference_len reference_of cell_of rectangle_len rectangle_of cells_of name_len address_at atom chain line expression
 no_equals = refl
+
+-- ---- rectangles
+
+-- B2, its column absolute, and A3, its row absolute
+abbrev b2_to_a3 : Corners
+b2_to_a3 =
+    record {
+      one = record { at = place 1 1; column_is_absolute = true; row_is_absolute = false };
+      other = record { at = place 2 0; column_is_absolute = false; row_is_absolute = true };
+    }
+
+corners_as_written : parsed (codes "=[.$B2:.A$3]") ≡ Ok (rectangle b2_to_a3)
+unfolding parsed formula_symbols tokens tokens_within token_at number_len decimals_len mark_at two_byte_mark one_byte_mark reference_len reference_of cell_of rectangle_len rectangle_of cells_of name_len address_at atom chain line expression
+corners_as_written = refl
+
+corner_outside : parsed (codes "=[.A1:.XFE1]+") ≡ Err OutOfSheet
+unfolding parsed formula_symbols tokens tokens_within token_at number_len decimals_len mark_at two_byte_mark one_byte_mark reference_len reference_of cell_of rectangle_len rectangle_of cells_of name_len address_at atom chain line expression
+corner_outside = refl
+
+rectangle_as_parameter : parsed (codes "=MULTIPLE.OPERATIONS([.B2];[.B1];[.A4:.A4])") ≡ Err Syntax
+unfolding parsed formula_symbols tokens tokens_within token_at number_len decimals_len mark_at two_byte_mark one_byte_mark reference_len reference_of cell_of rectangle_len rectangle_of cells_of name_len address_at pair_at what_if_at atom chain line expression
+rectangle_as_parameter = refl
+
+reads_each_between : (reads (rectangle b2_to_a3) (place 1 0) ≡ true) × (reads (rectangle b2_to_a3) (place 2 1) ≡ true)
+reads_each_between = (refl, refl)
+
+reads_none_beside : (reads (rectangle b2_to_a3) (place 1 2) ≡ false) × (reads (rectangle b2_to_a3) (place 0 1) ≡ false)
+reads_none_beside = (refl, refl)
 
 -- ---- what-ifs
 

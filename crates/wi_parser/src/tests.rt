@@ -1,4 +1,4 @@
-use crate::{Content, Expr, Operator, ParseFault, Sign, parse};
+use crate::{Content, Expr, Operator, ParseFault, Reference, Sign, parse};
 use std::alloc::{AllocError, Global};
 use std::test::Fail;
 use wi_fraction::Fraction;
@@ -31,11 +31,23 @@ fn sign_of(sign: Sign) -> char {
     }
 }
 
+// Appends a corner, with a `$` before it for its column and one after it for its row, where they are absolute.
+fn push_corner(r: Reference, text: &mut String) -> Result<(), AllocError> {
+    text.push_str(if r.column_is_absolute { "$" } else { "" })?;
+    r.at.push_text(text)?;
+    text.push_str(if r.row_is_absolute { "$" } else { "" })
+}
+
 // Appends a tree, with braces around each operation, brackets for parentheses, and a what-if's pairs after its cell.
 fn push_tree(tree: &Expr, text: &mut String) -> Result<(), AllocError> {
     match tree {
         Expr::Number(x) => x.push_text(text),
         Expr::Cell(r) => r.at.push_text(text),
+        Expr::Rectangle(corners) => {
+            push_corner(corners.one, text)?;
+            text.push(':')?;
+            push_corner(corners.other, text)
+        }
         Expr::Parenthesized(inner) => {
             text.push('[')?;
             push_tree(inner, text)?;
@@ -130,6 +142,10 @@ fn trees_by_precedence(rt: HostRuntime) -> Result<(), Fail> {
         ("=007.50*.5", "{7.5*0.5}"),
         ("=[.a1] * 2+[.$B$12]", "{{A1*2}+B12}"),
         ("=[.XFD1048576]", "XFD1048576"),
+        ("=[.A1:.B$2]", "A1:B2$"),
+        ("=[.$b2:.$A$1]", "$B2:$A1$"),
+        ("=[.XFD1048576:.A1]", "XFD1048576:A1"),
+        ("=([.C3:.C3])*2", "{[C3:C3]*2}"),
         ("=MULTIPLE.OPERATIONS([.B2];[.B1];[.A4])", "B2 B1=A4"),
         (
             "=2*multiple.Operations ( [.B2] ;[.$B$1];[.A4];[.C1] ;[.A5] )+1",
@@ -165,6 +181,28 @@ fn references_keep_what_is_absolute(rt: HostRuntime) -> Result<(), Fail> {
         assert_eq!(rt; r.at, Address::at(4, 2), "{text}");
         assert_eq!(rt; r.column_is_absolute, column, "{text}");
         assert_eq!(rt; r.row_is_absolute, row, "{text}");
+    }
+    Ok(())
+}
+
+#[test]
+fn rectangles_span_their_corners(rt: HostRuntime) -> Result<(), Fail> {
+    for (text, first, last) in [
+        ("=[.B2:.D5]", (1, 1), (4, 3)),
+        ("=[.D5:.B2]", (1, 1), (4, 3)),
+        ("=[.$B5:.D$2]", (1, 1), (4, 3)),
+        ("=[.D2:.B5]", (1, 1), (4, 3)),
+        ("=[.C4:.C4]", (3, 2), (3, 2)),
+        ("=[.A1048576:.XFD1]", (0, 0), (1_048_575, 16_383)),
+    ] {
+        let formula = parse(rt.alloc(), text)?;
+        let Expr::Rectangle(corners) = formula.tree() else {
+            assert!(rt; false, "{text}");
+            return Ok(());
+        };
+        let area = corners.area();
+        assert_eq!(rt; area.first(), Address::at(first.0, first.1), "{text}");
+        assert_eq!(rt; area.last(), Address::at(last.0, last.1), "{text}");
     }
     Ok(())
 }
@@ -216,7 +254,9 @@ fn texts_that_are_no_formulas(rt: HostRuntime) {
         "=1?",
         "=\u{a0}1",
         "=[.A1];[.A2]",
-        "=[.A1:.B2]",
+        "=[.A1:B2]",
+        "=[.A1:.B0]",
+        "=[.A1:.B2:.C3]",
         "=MULTIPLE.OPERATIONS",
         "=MULTIPLE.OPERATIONS()",
         "=MULTIPLE.OPERATIONS([.A1])",
@@ -231,6 +271,8 @@ fn texts_that_are_no_formulas(rt: HostRuntime) {
         "=MULTIPLE.OPERATIONS([.A1];[.A2];([.A3]))",
         "=MULTIPLE.OPERATIONS(([.A1]);[.A2];[.A3])",
         "=MULTIPLE.OPERATIONS([.A1:.A1];[.A2];[.A3])",
+        "=MULTIPLE.OPERATIONS([.A1];[.A2:.A2];[.A3])",
+        "=MULTIPLE.OPERATIONS([.A1];[.A2];[.A3:.A3])",
         "=MULTIPLE.OPERATIONS([.A1];[.A2];[.A3]+1)",
         "=MULTIPLE.OPERATIONS([.A1],[.A2],[.A3])",
         "=MULTIPLE.OPERATION([.A1];[.A2];[.A3])",
@@ -252,6 +294,7 @@ fn cells_outside_and_numbers_too_large(rt: HostRuntime) -> Result<(), Fail> {
         "=%[.XFE1]",
         "=[.A1:.XFE1]",
         "=[.A1048577:.A1]",
+        "=[.XFE1:.AAAA1]+",
         "[.XFE1]",
     ] {
         assert_eq!(rt;
