@@ -16,10 +16,11 @@ use Rattle.wi_lexer.specs.Name.{name_len}
 use Rattle.wi_lexer.specs.Token.{token_at}
 use Rattle.wi_lexer.specs.Tokens.{tokens, tokens_within}
 use Rattle.wi_parser.specs.declared.content.Content.TheVariants.{Constant}
-use Rattle.wi_parser.specs.declared.expr.Operator.TheVariants.{Add, Subtract, Multiply}
+use Rattle.wi_parser.specs.declared.expr.Operator.TheVariants.{Add, Subtract, Multiply, Power, Join, Less, NotEqual}
+use Rattle.wi_parser.specs.declared.expr.Sign.TheVariants.{Minus}
 use Rattle.wi_parser.specs.declared.fault.ParseFault.TheVariants.{OutOfSheet, Syntax}
-use Rattle.wi_parser.specs.Tree.{number, cell, rectangle, parenthesized, binary, what_if}
-use Rattle.wi_parser.specs.Symbol.{Symbol, numeral, open_parenthesis, close_parenthesis, infix_mark}
+use Rattle.wi_parser.specs.Tree.{number, cell, rectangle, parenthesized, signed, percent, binary, what_if}
+use Rattle.wi_parser.specs.Symbol.{Symbol, numeral, open_parenthesis, close_parenthesis, infix_mark, sign_mark, percent_mark}
 use Rattle.wi_parser.specs.declared.expr.Corners.{Corners}
 use Rattle.wi_parser.specs.declared.expr.Reference.{Reference}
 use Rattle.wi_parser.specs.Reader.{pair_at, what_if_at, atom, chain, line, expression}
@@ -41,6 +42,22 @@ groups_to_the_left x y z = refl
 keeps_parentheses : (x : Number) → judged (open_parenthesis ∷ numeral x ∷ close_parenthesis ∷ []) ≡ Ok (parenthesized (number x))
 unfolding atom chain line expression
 keeps_parentheses x = refl
+
+power_to_the_left : (x y z : Number) → judged (numeral x ∷ infix_mark Power ∷ numeral y ∷ infix_mark Power ∷ numeral z ∷ []) ≡ Ok (binary Power (binary Power (number x) (number y)) (number z))
+unfolding atom chain line expression
+power_to_the_left x y z = refl
+
+sign_before_percent_before_power : (x y : Number) → judged (sign_mark Minus ∷ numeral x ∷ percent_mark ∷ infix_mark Power ∷ numeral y ∷ []) ≡ Ok (binary Power (percent (signed Minus (number x))) (number y))
+unfolding atom chain line expression
+sign_before_percent_before_power x y = refl
+
+signed_power : (x y : Number) → judged (numeral x ∷ infix_mark Power ∷ sign_mark Minus ∷ numeral y ∷ percent_mark ∷ percent_mark ∷ []) ≡ Ok (binary Power (number x) (percent (percent (signed Minus (number y)))))
+unfolding atom chain line expression
+signed_power x y = refl
+
+sum_before_join_before_comparison : (x y z w : Number) → judged (numeral x ∷ infix_mark Less ∷ numeral y ∷ infix_mark Join ∷ numeral z ∷ infix_mark Add ∷ numeral w ∷ []) ≡ Ok (binary Less (number x) (binary Join (number y) (binary Add (number z) (number w))))
+unfolding atom chain line expression
+sum_before_join_before_comparison x y z w = refl
 
 no_operand : (x : Number) → judged (numeral x ∷ infix_mark Add ∷ []) ≡ Err Syntax
 unfolding atom chain line expression
@@ -106,6 +123,10 @@ enclosed_symbols = refl
 
 enclosed : parsed (codes "=(1)") ≡ Ok (parenthesized (number one))
 enclosed = parsed_short _ (lit≤ tt) ∙ ap judged (enclosed_symbols ∙ ap (λ x. open_parenthesis ∷ number_symbol x ∷ close_parenthesis ∷ []) read_one) ∙ keeps_parentheses one
+
+unequal_symbols : formula_symbols (codes "=1<>-2%") ≡ number_symbol (read_decimal (codes "1")) ∷ infix_mark NotEqual ∷ sign_mark Minus ∷ number_symbol (read_decimal (codes "2")) ∷ percent_mark ∷ []
+unfolding formula_symbols tokens tokens_within token_at number_len decimals_len mark_at two_byte_mark one_byte_mark reference_len reference_of cell_of rectangle_len rectangle_of cells_of name_len
+unequal_symbols = refl
 
 unfinished_symbols : formula_symbols (codes "=1+") ≡ number_symbol (read_decimal (codes "1")) ∷ infix_mark Add ∷ []
 unfolding formula_symbols tokens tokens_within token_at number_len decimals_len mark_at two_byte_mark one_byte_mark reference_len reference_of cell_of rectangle_len rectangle_of cells_of name_len

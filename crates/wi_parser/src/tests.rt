@@ -90,12 +90,20 @@ fn shown(alloc: Global, tree: &Expr) -> Result<String, AllocError> {
     Ok(text)
 }
 
-// How many operators stand down the left side of a tree.
+fn first_operand(tree: &Expr) -> Option<&Expr> {
+    match tree {
+        Expr::Binary(_, left, _) => Some(left),
+        Expr::Percent(operand) => Some(operand),
+        _ => None,
+    }
+}
+
+// How many operators and percent marks stand down the left side of a tree.
 fn left_depth(tree: &Expr) -> usize {
     let mut depth = 0usize;
     let mut below = tree;
-    while let Expr::Binary(_, left, _) = below {
-        below = left;
+    while let Some(operand) = first_operand(below) {
+        below = operand;
         depth = depth.saturating_add(1);
     }
     depth
@@ -166,6 +174,55 @@ fn trees_by_precedence(rt: HostRuntime) -> Result<(), Fail> {
 }
 
 #[test]
+fn trees_of_signs_and_percents(rt: HostRuntime) -> Result<(), Fail> {
+    for (text, tree) in [
+        ("=-1", "{-1}"),
+        ("=-+ -1", "{-{+{-1}}}"),
+        ("=1--1", "{1-{-1}}"),
+        ("=1%", "{1%}"),
+        ("=50%%", "{{50%}%}"),
+        ("=-50%", "{{-50}%}"),
+        ("=-2^2", "{{-2}^2}"),
+        ("=2^-1", "{2^{-1}}"),
+        ("=2%^3%", "{{2%}^{3%}}"),
+        ("=-2*-3", "{{-2}*{-3}}"),
+        ("=-[.A1]%+1", "{{{-A1}%}+1}"),
+        ("=-(1+2)%", "{{-[{1+2}]}%}"),
+        (
+            "=+MULTIPLE.OPERATIONS([.B2];[.B1];[.A4])%",
+            "{{+B2 B1=A4}%}",
+        ),
+    ] {
+        let formula = parse(rt.alloc(), text)?.copy(rt.alloc())?;
+        assert_eq!(rt; shown(rt.alloc(), formula.tree())?.as_str(), tree, "{text}");
+    }
+    Ok(())
+}
+
+#[test]
+fn trees_of_every_operator(rt: HostRuntime) -> Result<(), Fail> {
+    for (text, tree) in [
+        ("=2^3^2", "{{2^3}^2}"),
+        ("=2*3^4", "{2*{3^4}}"),
+        ("=2^3/4", "{{2^3}/4}"),
+        ("=1&2+3", "{1&{2+3}}"),
+        ("=1-2&3", "{{1-2}&3}"),
+        ("=1&2&3", "{{1&2}&3}"),
+        ("=1=2&3", "{1={2&3}}"),
+        ("=1&2<>3", "{{1&2}<>3}"),
+        ("=1<2<=3", "{{1<2}<=3}"),
+        ("=1>2>=3=4<>5", "{{{{1>2}>=3}=4}<>5}"),
+        ("=1<-2%^3*4+5&6", "{1<{{{{{{-2}%}^3}*4}+5}&6}}"),
+        ("=6&5+4*3^2%=1", "{{6&{5+{4*{3^{2%}}}}}=1}"),
+        ("=1=(2=3)", "{1=[{2=3}]}"),
+    ] {
+        let formula = parse(rt.alloc(), text)?.copy(rt.alloc())?;
+        assert_eq!(rt; shown(rt.alloc(), formula.tree())?.as_str(), tree, "{text}");
+    }
+    Ok(())
+}
+
+#[test]
 fn references_keep_what_is_absolute(rt: HostRuntime) -> Result<(), Fail> {
     for (text, column, row) in [
         ("=[.C5]", false, false),
@@ -219,24 +276,17 @@ fn texts_that_are_no_formulas(rt: HostRuntime) {
         "OF:=1",
         "==1",
         "=1+",
-        "=+",
+        "=-",
         "=-%",
         "=%1",
         "=1%2",
-        "=1^%",
-        "=1-+",
         "=(-)1",
-        "=1*/2",
-        "=1&&2",
-        "=1^^2",
+        "=1-*2",
         "=1**2",
-        "=1=<2",
-        "=1==2",
-        "=1< =2",
+        "=1^",
         "=&1",
-        "=^1",
-        "=<1",
-        "=1>=",
+        "=1=<2",
+        "=1< =2",
         "=()",
         "=(1",
         "=1)",
@@ -325,8 +375,6 @@ fn formulas_have_limits(rt: HostRuntime) -> Result<(), Fail> {
         ("=))", "(", 65, ParseFault::TooDeep),
         ("=1", "- +", 32, ParseFault::Syntax),
         ("=1-", "- +", 32, ParseFault::TooDeep),
-        ("=1", "-", 65, ParseFault::TooDeep),
-        ("=1", "%", 4_095, ParseFault::TooLong),
         ("=1", " ", 4_095, ParseFault::TooLong),
         ("of:=1", " ", 4_092, ParseFault::TooLong),
         ("=[.XFE1]", " ", 4_092, ParseFault::TooLong),
@@ -339,7 +387,6 @@ fn formulas_have_limits(rt: HostRuntime) -> Result<(), Fail> {
         ("of:=1", " ", 4_091),
         ("=1", "+1-2", 500),
         ("=1", "+(1)", 1_000),
-        ("=1", "%", 4_094),
     ] {
         let text = repeated(rt.alloc(), front, part, count)?;
         assert_eq!(rt; fault(rt.alloc(), text.as_str()), None);
@@ -357,12 +404,24 @@ fn parentheses_nest_to_a_limit(rt: HostRuntime) -> Result<(), Fail> {
 }
 
 #[test]
-fn long_sums_are_read_copied_and_dropped(rt: HostRuntime) -> Result<(), Fail> {
-    let text = repeated(rt.alloc(), "=1", "+1", 2_000)?;
-    let formula = parse(rt.alloc(), text.as_str())?;
-    let again = formula.copy(rt.alloc())?;
-    assert_eq!(rt; left_depth(formula.tree()), 2_000);
-    assert_eq!(rt; left_depth(again.tree()), 2_000);
+fn signs_stand_to_a_limit(rt: HostRuntime) -> Result<(), Fail> {
+    for (count, want) in [(64, None), (65, Some(ParseFault::TooDeep))] {
+        let mut text = repeated(rt.alloc(), "=", "-", count)?;
+        text.push('1')?;
+        assert_eq!(rt; fault(rt.alloc(), text.as_str()), want);
+    }
+    Ok(())
+}
+
+#[test]
+fn long_formulas_are_read_copied_and_dropped(rt: HostRuntime) -> Result<(), Fail> {
+    for (part, count, depth) in [("+1", 2_000, 2_000), ("%", 4_094, 4_094)] {
+        let text = repeated(rt.alloc(), "=1", part, count)?;
+        let formula = parse(rt.alloc(), text.as_str())?;
+        let again = formula.copy(rt.alloc())?;
+        assert_eq!(rt; left_depth(formula.tree()), depth);
+        assert_eq!(rt; left_depth(again.tree()), depth);
+    }
     Ok(())
 }
 
