@@ -48,7 +48,7 @@ fine_shifted : (c m v : ℕ) → IsTooFine v m → IsTooFine (c * m + v) m
 fine_shifted c m v h = rw (gcd_shifted c m v) h
 
 -- a tenth has no smaller denominator
-fine_tenth : (n m : ℕ) → 0 < m → IsTooFine n m → IsTooFine n (m * 10)
+pub fine_tenth : (n m : ℕ) → 0 < m → IsTooFine n m → IsTooFine n (m * 10)
 fine_tenth n m mp h =
     let g = gcd n m in
     let k = gcd n (m * 10) in
@@ -91,7 +91,7 @@ value_append ds es = after_append 0 ds es ∙ value_after (digits_value 10 ds) e
 abbrev pub IsFineTail : List ℕ → Type 0
 IsFineTail ds = IsTooFine (digits_value 10 ds) (10 ^ length ds)
 
-ten_pow_pos : (k : ℕ) → 0 < 10 ^ k
+pub ten_pow_pos : (k : ℕ) → 0 < 10 ^ k
 ten_pow_pos k = one-le-pow k 10 (omega arith)
 
 fine_cons : (c : ℕ) (ds : List ℕ) → IsFineTail ds → IsFineTail (c ∷ ds)
@@ -126,7 +126,7 @@ tail_below_one ds x all e =
     let p = parts_of false (digits_value 10 ds) (10 ^ length ds) x e in
     lt_of_mul-lt-mul_right (gcd (digits_value 10 ds) (10 ^ length ds)) (rw (p.0, p.1) (digits_value-lt 10 ds all))
 
-step_value : (s t : Bool) (c k n d : ℕ) (x : Number) → 0 < d → Some x ≡ number_of (signed s n) d → number_of (signed t (c * x.den + unsigned_abs x.num)) (x.den * k) ≡ number_of (signed t (c * d + n)) (d * k)
+pub step_value : (s t : Bool) (c k n d : ℕ) (x : Number) → 0 < d → Some x ≡ number_of (signed s n) d → number_of (signed t (c * x.den + unsigned_abs x.num)) (x.den * k) ≡ number_of (signed t (c * d + n)) (d * k)
 step_value s t c k n d x dp e =
     let p = parts_of s n d x e in
     let g = gcd n d in

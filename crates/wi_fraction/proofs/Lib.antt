@@ -1,7 +1,9 @@
 pub mod Digits
 pub mod Divisors
+pub mod Exponents
 pub mod Fineness
 pub mod Numbers
+pub mod Pieces
 pub mod Places
 pub mod Powers
 pub mod Reading

@@ -37,7 +37,7 @@ part_below_one ds i n d x all e f g = rw (f, g) (tail_below_one (drop i ds) x (d
 pub part_none : (ds : List ℕ) (i : ℕ) → AllDigits 10 ds → None ≡ decimal_value false [] (drop i ds) → None ≡ decimal_value false [] ds
 part_none ds i all e = none_from_tail false [] ds (fine_drop i ds (tail_from_none (drop i ds) (digits_drop i ds all) e))
 
-within-too_large : (n : ℕ) → max_size < n → None ≡ within n
+pub within-too_large : (n : ℕ) → max_size < n → None ≡ within n
 within-too_large n h = grind (arith, nat_tests)
 
 pub within-fits : (n : ℕ) → n ≤ max_size → Some n ≡ within n

@@ -1,6 +1,6 @@
 // Reading texts and number tokens.
 
-ghost use Rattle.std.specs.Prelude.{◌≡◌, ◌+◌, ◌*◌, ◌<◌, ◌≤◌, unsigned_abs, pos, length, IsTrue, false, [], None, Some};
+ghost use Rattle.std.specs.Prelude.{◌≡◌, ◌+◌, ◌*◌, ◌^◌, ◌<◌, ◌≤◌, ◌++◌, unsigned_abs, pos, length, slice_index, IsTrue, false, [], None, Some};
 ghost use Rattle.std.specs.Char.{is_ascii_digit, digit_value};
 ghost use Rattle.std.specs.Int.{IsInRange};
 ghost use Rattle.std.specs.List.{prefix_len};
@@ -8,8 +8,9 @@ ghost use Rattle.std.specs.Str.Parse.{AllDigits, digits_value};
 ghost use Rattle.wi_fraction.specs.Gcd.{gcd};
 ghost use Rattle.wi_fraction.specs.Number.{max_size, number_of};
 ghost use Rattle.wi_fraction.specs.Arithmetic.{within};
-ghost use Rattle.wi_fraction.specs.Text.{read, read_size, read_after, read_quotient, read_decimal, decimal_after, decimal_value, is_numeral};
+ghost use Rattle.wi_fraction.specs.Text.{read, read_size, read_after, read_quotient, read_decimal, decimal_after, point_after, scaled_after, exponent_after, with_exponent, raised, lowered, decimal_value, is_numeral};
 
+use crate::arithmetic::multiplied;
 use crate::lowest_terms::{number_at, reduced};
 use crate::{Fraction, MAX};
 
@@ -27,8 +28,9 @@ impl Fraction {
         }
     }
 
-    /// The number that a number token without exponent spells: digits, or a decimal, before whose point no digit need
-    /// stand.
+    /// The number that a number token spells: digits, or a decimal, before whose point no digit need stand; then, where
+    /// one is, an exponent: `e` or `E`, an optional sign and digits. Neither digits nor exponent need fit where the number
+    /// does. Takes time in proportion to the text, whatever the exponent.
     #[tactic(auto, unfolding(crate::specs::Text::read_decimal))]
     pub fn read_decimal(token: &[u8]) -> Option<Fraction>
         ensures { result ≡ read_decimal token.now }
@@ -64,13 +66,13 @@ fn read_after(negative: bool, whole: &[u8], rest: &[u8]) -> Option<Fraction>
     ensures { result ≡ read_after negative whole.now rest.now }
 {
     let [mark, more @ ..] = rest else {
-        return decimal(negative, whole, rest);
+        return decimal(negative, &[], whole, &[], rest);
     };
     if !is_numeral(more) {
         return None;
     }
     match *mark {
-        b'.' => decimal(negative, whole, more),
+        b'.' => decimal(negative, &[], whole, &[], more),
         b'/' => quotient(negative, whole, more),
         _ => None,
     }
@@ -86,13 +88,146 @@ fn decimal_after(whole: &[u8], rest: &[u8]) -> Option<Fraction>
         return if whole.is_empty() {
             None
         } else {
-            decimal(false, whole, rest)
+            decimal(false, &[], whole, &[], rest)
         };
     };
-    if *mark != b'.' || !is_numeral(more) {
+    if *mark == b'.' {
+        return point_after(whole, more);
+    }
+    if whole.is_empty() {
         return None;
     }
-    decimal(false, whole, more)
+    scaled_after(whole, &[], rest)
+}
+
+/// What the digits before a point and the rest of a number token after it read as.
+#[tactic(auto, unfolding(crate::specs::Text::point_after))]
+fn point_after(whole: &[u8], text: &[u8]) -> Option<Fraction>
+    requires { AllDigits 10 whole.now }
+    ensures { result ≡ point_after whole.now text.now }
+{
+    let places = digit_count(text);
+    if places == 0 {
+        return None;
+    }
+    scaled_after(whole, &text[..places], &text[places..])
+}
+
+/// What the digits before and after the point and the rest of a number token read as.
+#[tactic(auto, unfolding(crate::specs::Text::scaled_after))]
+fn scaled_after(whole: &[u8], parts: &[u8], rest: &[u8]) -> Option<Fraction>
+    requires whole { AllDigits 10 whole.now }
+    requires parts { AllDigits 10 parts.now }
+    ensures { result ≡ scaled_after whole.now parts.now rest.now }
+{
+    let [mark, more @ ..] = rest else {
+        return decimal(false, &[], whole, &[], parts);
+    };
+    if *mark != b'e' && *mark != b'E' {
+        return None;
+    }
+    exponent_after(whole, parts, more)
+}
+
+/// The decimal with the exponent that the text spells.
+#[tactic(auto, unfolding(crate::specs::Text::exponent_after))]
+fn exponent_after(whole: &[u8], parts: &[u8], text: &[u8]) -> Option<Fraction>
+    requires whole { AllDigits 10 whole.now }
+    requires parts { AllDigits 10 parts.now }
+    ensures { result ≡ exponent_after whole.now parts.now text.now }
+{
+    match text {
+        [b'-', digits @ ..] => with_exponent(true, whole, parts, digits),
+        [b'+', digits @ ..] => with_exponent(false, whole, parts, digits),
+        digits => with_exponent(false, whole, parts, digits),
+    }
+}
+
+/// The decimal with the exponent that the digits write.
+#[tactic(auto, unfolding(crate::specs::Text::with_exponent))]
+fn with_exponent(negative: bool, whole: &[u8], parts: &[u8], digits: &[u8]) -> Option<Fraction>
+    requires whole { AllDigits 10 whole.now }
+    requires parts { AllDigits 10 parts.now }
+    ensures { result ≡ with_exponent negative whole.now parts.now digits.now }
+{
+    if !is_numeral(digits) {
+        return None;
+    }
+    let power = exponent(digits);
+    if negative {
+        lowered(whole, parts, power)
+    } else {
+        raised(whole, parts, power)
+    }
+}
+
+/// The exponent that the digits write, or the greatest where it is larger.
+fn exponent(digits: &[u8]) -> u128
+    requires { AllDigits 10 digits.now }
+    ensures exact { digits_value 10 digits.now ≤ max_size → result ≡ digits_value 10 digits.now }
+    ensures large { max_size < digits_value 10 digits.now → max_size ≤ result }
+{
+    whole_number(&[], digits).unwrap_or(MAX)
+}
+
+/// The decimal times that power of ten.
+fn raised(whole: &[u8], parts: &[u8], power: u128) -> Option<Fraction>
+    requires whole { AllDigits 10 whole.now }
+    requires parts { AllDigits 10 parts.now }
+    ensures { result ≡ raised whole.now parts.now power }
+{
+    let places = parts.len() as u128;
+    if power < places {
+        let place = power as usize;
+        return decimal(false, whole, &parts[..place], &[], &parts[place..]);
+    }
+    let size = raised_size(whole_number(whole, parts)?, power - places)?;
+    number_at(false, size, 1)
+}
+
+/// The whole number times that power of ten, where it is small enough.
+fn raised_size(size: u128, power: u128) -> Option<u128>
+    requires { size ≤ max_size }
+    ensures { result ≡ within (size * 10 ^ power) }
+{
+    if size == 0 {
+        return Some(0);
+    }
+    if power > 38 {
+        return None;
+    }
+    mul_add(size, 10u128.pow(power as u32), 0)
+}
+
+/// The decimal divided by that power of ten.
+fn lowered(whole: &[u8], parts: &[u8], power: u128) -> Option<Fraction>
+    requires whole { AllDigits 10 whole.now }
+    requires parts { AllDigits 10 parts.now }
+    ensures { result ≡ lowered whole.now parts.now power }
+{
+    let places = whole.len() as u128;
+    if power <= places {
+        let place = (places - power) as usize;
+        return decimal(false, &[], &whole[..place], &whole[place..], parts);
+    }
+    let part = decimal_part(whole, parts)?;
+    lowered_part(part.size(), part.denominator(), power - places)
+}
+
+/// n/d, which is below one, that many places lower.
+fn lowered_part(n: u128, d: u128, places: u128) -> Option<Fraction>
+    requires below_one { n < d }
+    requires fits { d ≤ max_size }
+    requires lowest { gcd n d ≡ 1 }
+    ensures { result ≡ number_of (pos n) (d * 10 ^ places) }
+{
+    if n == 0 {
+        return Some(zero());
+    }
+    if places > 38 {
+        return None;
+    }
+    multiplied(false, n, d, 1, 10u128.pow(places as u32))
 }
 
 /// The quotient of the whole numbers that the digits write.
@@ -101,22 +236,28 @@ fn quotient(negative: bool, above: &[u8], below: &[u8]) -> Option<Fraction>
     requires below { AllDigits 10 below.now }
     ensures { result ≡ read_quotient negative (digits_value 10 above.now) (digits_value 10 below.now) }
 {
-    let size = whole_number(above)?;
-    let denominator = whole_number(below)?;
+    let size = whole_number(&[], above)?;
+    let denominator = whole_number(&[], below)?;
     if denominator == 0 {
         return None;
     }
     reduced(negative, size, denominator)
 }
 
-/// The decimal with those digits before and after the point.
-fn decimal(negative: bool, whole: &[u8], parts: &[u8]) -> Option<Fraction>
-    requires whole { AllDigits 10 whole.now }
-    requires parts { AllDigits 10 parts.now }
-    ensures { result ≡ decimal_value negative whole.now parts.now }
+/// The decimal with those digits, in two pieces each, before and after the point.
+fn decimal(
+    negative: bool,
+    first: &[u8],
+    second: &[u8],
+    third: &[u8],
+    fourth: &[u8],
+) -> Option<Fraction>
+    requires whole { AllDigits 10 (first.now ++ second.now) }
+    requires parts { AllDigits 10 (third.now ++ fourth.now) }
+    ensures { result ≡ decimal_value negative (first.now ++ second.now) (third.now ++ fourth.now) }
 {
-    let part = decimal_part(parts)?;
-    let whole = whole_number(whole)?;
+    let part = decimal_part(third, fourth)?;
+    let whole = whole_number(first, second)?;
     let denominator = part.denominator();
     let size = mul_add(whole, denominator, part.size())?;
     number_at(negative, size, denominator)
@@ -124,13 +265,13 @@ fn decimal(negative: bool, whole: &[u8], parts: &[u8]) -> Option<Fraction>
 
 /// The decimal with nothing before the point, from its last digit to its first. The digits need not fit where the
 /// number does, but where the digits from some place on are no number the whole is none.
-fn decimal_part(digits: &[u8]) -> Option<Fraction>
-    requires { AllDigits 10 digits.now }
-    ensures { result ≡ decimal_value false [] digits.now }
+fn decimal_part(first: &[u8], second: &[u8]) -> Option<Fraction>
+    requires { AllDigits 10 (first.now ++ second.now) }
+    ensures { result ≡ decimal_value false [] (first.now ++ second.now) }
 {
     let mut part = zero();
-    for i in (0..digits.len()).rev() {
-        part = tenth(digit(digits[i]), part.size(), part.denominator())?;
+    for i in (0..first.len() + second.len()).rev() {
+        part = tenth(digit_at(first, second, i), part.size(), part.denominator())?;
     }
     Some(part)
 }
@@ -163,15 +304,29 @@ fn tenth(digit: u128, n: u128, d: u128) -> Option<Fraction>
 }
 
 /// The whole number that the digits write, where it is small enough.
-fn whole_number(digits: &[u8]) -> Option<u128>
-    requires { AllDigits 10 digits.now }
-    ensures { result ≡ within (digits_value 10 digits.now) }
+fn whole_number(first: &[u8], second: &[u8]) -> Option<u128>
+    requires { AllDigits 10 (first.now ++ second.now) }
+    ensures { result ≡ within (digits_value 10 (first.now ++ second.now)) }
 {
     let mut value = 0;
-    for byte in digits {
-        value = mul_add(value, 10, digit(*byte))?;
+    for i in 0..first.len() + second.len() {
+        value = mul_add(value, 10, digit_at(first, second, i))?;
     }
     Some(value)
+}
+
+/// The value of a digit of two pieces.
+fn digit_at(first: &[u8], second: &[u8], i: usize) -> u128
+    requires digits { AllDigits 10 (first.now ++ second.now) }
+    requires inside { i < length first.now + length second.now }
+    ensures value { result ≡ digit_value (slice_index (first.now ++ second.now) i) }
+    ensures small { result < 10 }
+{
+    let count = first.len();
+    if i < count {
+        return digit(first[i]);
+    }
+    digit(second[i - count])
 }
 
 /// The product and more, where it is small enough.

@@ -189,6 +189,21 @@ fn reads_number_tokens(rt: HostRuntime) -> Result<(), Fail> {
         (".5", 1, 2),
         ("00.125", 1, 8),
         (".0", 0, 1),
+        ("1e2", 100, 1),
+        ("1E-2", 1, 100),
+        ("2.5e+01", 25, 1),
+        (".5e1", 5, 1),
+        ("12.34e1", 617, 5),
+        ("12.34e-1", 617, 500),
+        ("1234e-3", 617, 500),
+        ("12e-4", 3, 2500),
+        ("1e38", 100000000000000000000000000000000000000, 1),
+        ("1e-38", 1, 100000000000000000000000000000000000000),
+        ("32e-39", 1, 31250000000000000000000000000000000000),
+        ("17014118346046923173168730371588410572.7e1", i128::MAX, 1),
+        ("1701411834604692317316873037158841057270e-1", i128::MAX, 1),
+        ("0e99999999999", 0, 1),
+        ("0.00e-9999999999999999999999999999999999999999", 0, 1),
     ] {
         assert_eq!(rt;
             Fraction::read_decimal(token.as_bytes()),
@@ -203,9 +218,25 @@ fn reads_number_tokens(rt: HostRuntime) -> Result<(), Fail> {
         "+5",
         "-5",
         "1/2",
-        "1e2",
         "1.2.3",
         "170141183460469231731687303715884105728",
+        "e1",
+        ".e1",
+        "1.e1",
+        "1e",
+        "1e-",
+        "1e+-1",
+        "1e 1",
+        "1e1.",
+        "1ee1",
+        "1f1",
+        "1e39",
+        "2e38",
+        "1e-39",
+        "5e-39",
+        "17014118346046923173168730371588410572.8e1",
+        "1e9999999999999999999999999999999999999999",
+        "1e-9999999999999999999999999999999999999999",
     ] {
         assert_eq!(rt;
             Fraction::read_decimal(token.as_bytes()),
@@ -234,6 +265,25 @@ fn reads_many_digits(rt: HostRuntime) -> Result<(), Fail> {
     );
     text.push('1')?;
     assert_eq!(rt; Fraction::read(text.as_str().as_bytes()), None);
+    let mut high = String::new(rt.alloc());
+    high.push_str("7")?;
+    let mut low = String::new(rt.alloc());
+    low.push_str("0.0")?;
+    for _ in 0..100 {
+        high.push('0')?;
+        low.push('0')?;
+    }
+    high.push_str("e-100")?;
+    low.push_str("7e102")?;
+    let seven = Fraction::new(7, 1)?;
+    assert_eq!(rt;
+        Fraction::read_decimal(high.as_str().as_bytes()),
+        Some(seven)
+    );
+    assert_eq!(rt;
+        Fraction::read_decimal(low.as_str().as_bytes()),
+        Some(seven)
+    );
     Ok(())
 }
 

@@ -1,20 +1,21 @@
-use Rattle.std.proofs.Common.{◌≡◌, ◌∙◌, sym, arith, None, [], false, drop, ◌-◌}
-use Rattle.std.proofs.lemmas.Str.Parse.{digit_at}
+use Rattle.std.proofs.Common.{◌≡◌, ◌∙◌, sym, arith, None, [], false, drop, length, ◌-◌, ◌++◌, ◌≤◌}
+use Rattle.std.proofs.lemmas.List.{length-append}
 use Rattle.wi_fraction.specs.Text.{decimal_value}
 use Rattle.wi_fraction.proofs.Reading.{part_next, part_below_one, part_none}
 use Rattle.wi_fraction.proofs.read.decimal_part.Goals as goal
 
-pub digit-requires : goal.digit-requires
-digit-requires c = digit_at c.args.digits.now (c.loop-i.i - 1) c.requires (omega arith)
-
 pub tenth-requires-clause-below_one : goal.tenth-requires-clause-below_one
-tenth-requires-clause-below_one c = part_below_one c.args.digits.now c.loop-i.i _ _ c.loop-i.part c.requires c.loop-i.invariant c.size.ensures c.denominator.ensures
+tenth-requires-clause-below_one c = part_below_one (c.args.first.now ++ c.args.second.now) c.loop-i.i _ _ c.loop-i.part c.requires c.loop-i.invariant c.size.ensures c.denominator.ensures
 
 pub returns-in_err-part : goal.returns-in_err-part
 returns-in_err-part c =
-    let ds = c.args.digits.now in
-    let none : None ≡ decimal_value false [] (drop (c.loop-i.i - 1) ds) = part_next ds c.loop-i.i _ _ _ c.loop-i.part None (omega arith) (omega arith) c.loop-i.invariant c.digit.ensures.value c.size.ensures c.denominator.ensures (sym c.in_err-part.was ∙ c.tenth.ensures) in
+    let ds = c.args.first.now ++ c.args.second.now in
+    let inside : c.loop-i.i ≤ length ds = rw (length-append c.args.first.now c.args.second.now) (omega arith) in
+    let none : None ≡ decimal_value false [] (drop (c.loop-i.i - 1) ds) = part_next ds c.loop-i.i _ _ _ c.loop-i.part None (omega arith) inside c.loop-i.invariant c.digit_at.ensures.value c.size.ensures c.denominator.ensures (sym c.in_err-part.was ∙ c.tenth.ensures) in
     c.from_residual.ensures ∙ part_none ds (c.loop-i.i - 1) c.requires none
 
 pub loop-i-preserved : goal.loop-i-preserved
-loop-i-preserved c = part_next c.args.digits.now c.loop-i.i _ _ _ c.loop-i.part _ (omega arith) (omega arith) c.loop-i.invariant c.digit.ensures.value c.size.ensures c.denominator.ensures c.in_ok-part.ensures
+loop-i-preserved c =
+    let ds = c.args.first.now ++ c.args.second.now in
+    let inside : c.loop-i.i ≤ length ds = rw (length-append c.args.first.now c.args.second.now) (omega arith) in
+    part_next ds c.loop-i.i _ _ _ c.loop-i.part _ (omega arith) inside c.loop-i.invariant c.digit_at.ensures.value c.size.ensures c.denominator.ensures c.in_ok-part.ensures

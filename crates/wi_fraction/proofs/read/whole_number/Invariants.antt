@@ -1,7 +1,7 @@
-use Rattle.std.proofs.Common.{◌≡◌, ◌≤◌, take}
+use Rattle.std.proofs.Common.{◌≡◌, ◌≤◌, take, ◌++◌}
 use Rattle.std.specs.Str.Parse.{digits_value}
 use Rattle.wi_fraction.specs.Number.{max_size}
 use Rattle.wi_fraction.proofs.read.whole_number.Given as goal
 
-abbrev pub invariant-loop-byte : goal.invariant-loop-byte
-invariant-loop-byte l = (l.value ≡ digits_value 10 (take l.byte-index l.digits)) × (l.value ≤ max_size)
+abbrev pub invariant-loop-i : goal.invariant-loop-i
+invariant-loop-i l = (l.value ≡ digits_value 10 (take l.i (l.first ++ l.second))) × (l.value ≤ max_size)

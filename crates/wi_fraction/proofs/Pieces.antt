@@ -1,0 +1,32 @@
+-- Digits in two pieces.
+use Rattle.std.specs.Prelude.{◌≡◌, ℕ, zero, suc, ◌+◌, ◌-◌, ◌<◌, ◌≤◌, List, [], ◌∷◌, ◌++◌, length, take, drop, refl}
+use Rattle.std.specs.Int.{IsInRange}
+use Rattle.std.specs.Str.Parse.{AllDigits}
+use Rattle.std.proofs.Common.{sym, ap, ◌∙◌, subst, arith, get_or}
+use Rattle.std.proofs.lemmas.Str.Parse.{digit_at}
+use Rattle.std.proofs.Math.ListN.{get_or-append}
+use Rattle.std.proofs.Math.Seq.{get_or-append_right}
+use Rattle.std.proofs.lemmas.List.{length-append, take-append-drop, append_assoc}
+
+pub digits_append : (ds es : List ℕ) → AllDigits 10 ds → AllDigits 10 es → AllDigits 10 (ds ++ es)
+digits_append [] es h k = k
+digits_append (c ∷ cs) es h k = (h.0, digits_append cs es h.1 k)
+
+pub digits_take : (i : ℕ) (ds : List ℕ) → AllDigits 10 ds → AllDigits 10 (take i ds)
+digits_take zero ds h = tt
+digits_take (suc i) [] h = tt
+digits_take (suc i) (c ∷ ds) h = (h.0, digits_take i ds h.1)
+
+pub digit_left : (ds es : List ℕ) (i : ℕ) → AllDigits 10 (ds ++ es) → i < length ds → IsInRange 48 57 (get_or ds i 0)
+digit_left ds es i all h = subst (λ c. IsInRange 48 57 c) (get_or-append ds es 0 i h) (digit_at (ds ++ es) i all (rw (length-append ds es) (omega (arith, h))))
+
+pub digit_right : (ds es : List ℕ) (i : ℕ) → AllDigits 10 (ds ++ es) → length ds ≤ i → i < length ds + length es → IsInRange 48 57 (get_or es (i - length ds) 0)
+digit_right ds es i all h k = subst (λ c. IsInRange 48 57 c) (get_or-append_right ds es i 0 h) (digit_at (ds ++ es) i all (rw (length-append ds es) k))
+
+-- a piece cut in two and put together with what stands before it
+pub cut_after : (ds es : List ℕ) (i : ℕ) → ds ++ take i es ++ drop i es ≡ ds ++ es
+cut_after ds es i = append_assoc ds (take i es) (drop i es) ∙ ap (λ xs. ds ++ xs) (take-append-drop i es)
+
+-- the same with what stands after it
+pub cut_before : (ds es : List ℕ) (i : ℕ) → take i ds ++ (drop i ds ++ es) ≡ ds ++ es
+cut_before ds es i = sym (append_assoc (take i ds) (drop i ds) es) ∙ ap (λ xs. xs ++ es) (take-append-drop i ds)

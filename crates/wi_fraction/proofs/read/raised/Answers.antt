@@ -1,0 +1,31 @@
+use Rattle.std.proofs.Common.{arith, sym, ◌∙◌}
+use Rattle.std.proofs.lemmas.List.{take_rest}
+use Rattle.wi_fraction.proofs.Divisors.{coprime_one}
+use Rattle.wi_fraction.proofs.Pieces.{digits_append, digits_take}
+use Rattle.wi_fraction.proofs.Reading.{digits_drop}
+use Rattle.wi_fraction.proofs.Exponents.{raised_by_cut, raised_none_whole, raised_none, raised_some}
+use Rattle.wi_fraction.proofs.read.raised.Goals as goal
+
+pub decimal-requires-clause-whole : goal.decimal-requires-clause-whole
+decimal-requires-clause-whole c = digits_append c.args.whole.now _ c.requires.whole (digits_take _ c.args.parts.now c.requires.parts)
+
+pub decimal-requires-clause-parts : goal.decimal-requires-clause-parts
+decimal-requires-clause-parts c = digits_take _ _ (digits_drop _ c.args.parts.now c.requires.parts)
+
+pub returns-then-power-places : goal.returns-then-power-places
+returns-then-power-places c = c.decimal.ensures ∙ rw take_rest (raised_by_cut c.args.whole.now c.args.parts.now c.args.power (omega arith))
+
+pub whole_number-requires : goal.whole_number-requires
+whole_number-requires c = digits_append c.args.whole.now c.args.parts.now c.requires.whole c.requires.parts
+
+pub returns-in_err-whole_number : goal.returns-in_err-whole_number
+returns-in_err-whole_number c = c.from_residual.ensures ∙ raised_none_whole c.args.whole.now c.args.parts.now c.args.power (omega arith) (sym c.in_err-whole_number.was ∙ c.whole_number.ensures)
+
+pub returns-in_err-size : goal.returns-in_err-size
+returns-in_err-size c = c.from_residual-in_err-size.ensures ∙ raised_none c.args.whole.now c.args.parts.now c.args.power _ (omega arith) c.in_ok-whole_number.ensures (sym c.in_err-size.was ∙ c.raised_size.ensures)
+
+pub number_at-requires-clause-lowest : goal.number_at-requires-clause-lowest
+number_at-requires-clause-lowest c = coprime_one _
+
+pub returns : goal.returns
+returns c = raised_some c.args.whole.now c.args.parts.now c.args.power _ _ _ (omega arith) c.in_ok-whole_number.ensures c.in_ok-size.ensures c.number_at.ensures
