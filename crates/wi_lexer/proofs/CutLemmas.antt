@@ -11,7 +11,7 @@ use Rattle.wi_lexer.specs.declared.token.Kind.TheVariants.{Number, Reference, Re
 use Rattle.wi_lexer.specs.declared.token.Mark as mark
 use Rattle.wi_lexer.specs.declared.token.Mark.TheVariants.{NotEqual}
 use Rattle.wi_lexer.specs.Runs.{IsRun, is_blank, blanks_len}
-use Rattle.wi_lexer.specs.Number.{IsNumber, whole, decimal}
+use Rattle.wi_lexer.specs.Number.{IsDecimal, whole, decimal, IsExponent, unsigned, signed, IsNumber, plain, scaled}
 use Rattle.wi_lexer.specs.Cell.{cell_text}
 use Rattle.wi_lexer.specs.Reference.{IsReference, one_cell}
 use Rattle.wi_lexer.specs.Rectangle.{IsRectangle, two_cells}
@@ -54,12 +54,22 @@ last_append xs ys some =
     let place : length (xs ++ ys) - 1 ≡ length xs + (length ys - 1) = omega (arith, length-append xs ys) in
     ap (λ i. get_or (xs ++ ys) i 0) place ∙ get_or-append-add xs ys (length ys - 1) 0
 
-number_last : (text : List ℕ) → IsNumber text → last text < 128
-number_last text (whole ds run) = digits_last ds run
-number_last text (decimal ds es all run) =
+decimal_last : (text : List ℕ) → IsDecimal text → last text < 128
+decimal_last text (whole ds run) = digits_last ds run
+decimal_last text (decimal ds es all run) =
     let a = last_append ds (46 ∷ es) (omega arith) in
     let b = last_append (46 ∷ []) es run.some in
     omega (arith, a, b, digits_last es run)
+
+exponent_last : (text : List ℕ) → IsExponent text → (0 < length text) × (last text < 128)
+exponent_last text (unsigned e ds letter run) = (omega arith, omega (arith, last_append (e ∷ []) ds run.some, digits_last ds run))
+exponent_last text (signed e s ds letter sign run) = (omega arith, omega (arith, last_append (e ∷ s ∷ []) ds run.some, digits_last ds run))
+
+number_last : (text : List ℕ) → IsNumber text → last text < 128
+number_last text (plain ds h) = decimal_last ds h
+number_last text (scaled ds es h k) =
+    let exponent = exponent_last es k in
+    omega (arith, last_append ds es exponent.0, exponent.1)
 
 bracketed_last : (x : List ℕ) → last (bracketed x) < 128
 bracketed_last x =

@@ -1,4 +1,5 @@
 pub mod RunLemmas
+pub mod DecimalLemmas
 pub mod NumberLemmas
 pub mod CellLemmas
 pub mod BracketLemmas

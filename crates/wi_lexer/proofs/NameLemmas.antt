@@ -9,10 +9,11 @@ use Rattle.std.specs.Char.{is_ascii_digit}
 use Rattle.wi_lexer.specs.declared.token.Mark.{Mark}
 use Rattle.wi_lexer.specs.declared.token.Mark.TheVariants.{NotEqual}
 use Rattle.wi_lexer.specs.Runs.{digits_len}
-use Rattle.wi_lexer.specs.Number.{decimals_len, number_len}
+use Rattle.wi_lexer.specs.Number.{decimals_len, decimal_len, number_len}
 use Rattle.wi_lexer.specs.Mark.{mark_text, mark_at}
 use Rattle.wi_lexer.specs.Name.{IsName, is_name_start, is_name_part, name_len}
 use Rattle.wi_lexer.proofs.RunLemmas.{run_within, run_stops, run_more, run_all}
+use Rattle.wi_lexer.proofs.NumberLemmas.{decimal_none}
 use Rattle.wi_lexer.proofs.MarkLemmas.{mark_sound}
 
 pub name_some : (text : List ℕ) → IsName text → 0 < length text
@@ -55,12 +56,15 @@ no_decimals : (b : ℕ) (bs : List ℕ) → is_name_start b ≡ true → decimal
 unfolding decimals_len
 no_decimals b bs h = ap (λ t. cond (t && nat_lt 0 (digits_len bs)) (1 + digits_len bs) 0) (start_no_point b h)
 
-pub no_number : (b : ℕ) (bs : List ℕ) → is_name_start b ≡ true → number_len (b ∷ bs) ≡ 0
-unfolding number_len
-no_number b bs h =
+no_decimal : (b : ℕ) (bs : List ℕ) → is_name_start b ≡ true → decimal_len (b ∷ bs) ≡ 0
+unfolding decimal_len
+no_decimal b bs h =
     let digits : digits_len (b ∷ bs) ≡ 0 = run_stops is_ascii_digit b bs (start_no_digit b h) in
     let after : drop (digits_len (b ∷ bs)) (b ∷ bs) ≡ b ∷ bs = ap (λ i. drop i (b ∷ bs)) digits in
     omega (arith, digits, ap decimals_len after, no_decimals b bs h)
+
+pub no_number : (b : ℕ) (bs : List ℕ) → is_name_start b ≡ true → number_len (b ∷ bs) ≡ 0
+no_number b bs h = decimal_none (b ∷ bs) (no_decimal b bs h)
 
 mark_start : (m : Mark) (rest : List ℕ) → is_name_start (slice_index (mark_text m ++ rest) 0) ≡ false
 mark_start NotEqual rest = refl

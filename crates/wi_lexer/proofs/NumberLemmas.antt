@@ -1,93 +1,180 @@
 -- The number found at the front is one, and no number there is longer.
-use Rattle.std.proofs.Common.{◌≡◌, ℕ, suc, ◌+◌, ◌<◌, ◌≤◌, Bool, true, false, cond, ◌&&◌, ◌==◌, ◌⊎◌, inl, inr, List, [], ◌∷◌, ◌++◌, length, take, drop, refl, sym, ap, ◌∙◌, subst, arith, append_assoc, length-append, length-drop}
+use Rattle.std.proofs.Common.{◌≡◌, ℕ, suc, ◌+◌, ◌<◌, ◌≤◌, Bool, true, false, cond, ◌==◌, List, [], ◌∷◌, ◌++◌, length, take, drop, refl, sym, ap, ◌∙◌, subst, arith, append_assoc, length-append, length-drop}
 use Rattle.std.specs.Prelude.{nat_lt}
-use Rattle.std.proofs.lemmas.Bool.{eqb-true, ltb-true, lt-ltb}
-use Rattle.std.proofs.lemmas.List.{take-append-drop, length-take-le}
-use Rattle.std.proofs.Math.Seq.{drop-append_seam, take-append-add}
-use Rattle.std.specs.List.{list_all}
+use Rattle.std.proofs.lemmas.Bool.{ltb-true, ltb-false, lt-ltb}
+use Rattle.std.proofs.lemmas.Bool.Decides.{nat_tests}
+use Rattle.std.proofs.Math.Seq.{take-add, drop-append_seam}
 use Rattle.std.specs.Char.{is_ascii_digit}
-use Rattle.wi_lexer.specs.Runs.{IsRun, digits_len}
-use Rattle.wi_lexer.specs.Number.{IsNumber, whole, decimal, decimals_len, number_len}
-use Rattle.wi_lexer.proofs.RunLemmas.{run_within, run_more, run_all}
+use Rattle.wi_lexer.specs.Runs.{digits_len, one_more}
+use Rattle.wi_lexer.specs.Number.{IsDecimal, IsExponent, unsigned, signed, IsNumber, plain, scaled, is_exponent_letter, is_sign, decimal_len, signed_len, exponent_len, number_len}
+use Rattle.wi_lexer.proofs.RunLemmas.{run_within, run_more, one_more_some, one_more_back, one_more_within}
+use Rattle.wi_lexer.proofs.DecimalLemmas.{digits_front, decimal_some, decimal_more, decimal_within, decimal_sound, decimal_exact}
 
--- a point and digits stand at the front
-pub record HasDecimals (bs : List ℕ) : Type 0 where
-  pub tail : List ℕ
-  pub is : bs ≡ 46 ∷ tail
-  pub some : 0 < digits_len tail
-  pub len : decimals_len bs ≡ 1 + digits_len tail
+-- ---- exponents
 
-abbrev tested : (point digit : Bool) → ℕ → ℕ
-tested point digit n = cond (point && digit) (1 + n) 0
+letter_no_digit : (b : ℕ) → is_exponent_letter b ≡ true → is_ascii_digit b ≡ false
+letter_no_digit b h = grind (arith, nat_tests)
 
-by_tests : (b : ℕ) (tail : List ℕ) (p d : Bool) → (b == 46) ≡ p → nat_lt 0 (digits_len tail) ≡ d → decimals_len (b ∷ tail) ≡ tested p d (digits_len tail) → (decimals_len (b ∷ tail) ≡ 0) ⊎ HasDecimals (b ∷ tail)
-by_tests b tail false d e f h = inl h
-by_tests b tail true false e f h = inl h
-by_tests b tail true true e f h = inr record { tail = tail; is = ap (λ x. x ∷ tail) (eqb-true b 46 e); some = ltb-true 0 (digits_len tail) f; len = h }
+letter_no_point : (b : ℕ) → is_exponent_letter b ≡ true → (b == 46) ≡ false
+letter_no_point b h = grind (arith, nat_tests)
 
-pub decimals_cases : (bs : List ℕ) → (decimals_len bs ≡ 0) ⊎ HasDecimals bs
-unfolding decimals_len
-decimals_cases [] = inl refl
-decimals_cases (b ∷ tail) = by_tests b tail _ _ refl refl refl
+digit_no_sign : (b : ℕ) → is_ascii_digit b ≡ true → is_sign b ≡ false
+digit_no_sign b h = grind (arith, nat_tests)
 
-pub decimals_found : (tail : List ℕ) → 0 < digits_len tail → decimals_len (46 ∷ tail) ≡ 1 + digits_len tail
-unfolding decimals_len
-decimals_found tail some = ap (λ t. cond t (1 + digits_len tail) 0) (lt-ltb 0 (digits_len tail) some)
+signed_within : (bs : List ℕ) → signed_len bs ≤ length bs
+unfolding signed_len
+signed_within [] = omega arith
+signed_within (b ∷ bs) = go (is_sign b)
+  where
+    go : (t : Bool) → cond t (one_more (digits_len bs)) (digits_len (b ∷ bs)) ≤ length (b ∷ bs)
+    go true = omega (arith, one_more_within (digits_len bs), run_within is_ascii_digit bs)
+    go false = run_within is_ascii_digit (b ∷ bs)
+
+pub exponent_within : (bs : List ℕ) → exponent_len bs ≤ length bs
+unfolding exponent_len
+exponent_within [] = omega arith
+exponent_within (b ∷ bs) = go (is_exponent_letter b)
+  where
+    go : (t : Bool) → cond t (one_more (signed_len bs)) 0 ≤ length (b ∷ bs)
+    go true = omega (arith, one_more_within (signed_len bs), signed_within bs)
+    go false = omega arith
+
+-- a letter and what is found after it
+signed_sound : (e : ℕ) → is_exponent_letter e ≡ true → (bs : List ℕ) → 0 < signed_len bs → IsExponent (e ∷ take (signed_len bs) bs)
+unfolding signed_len
+signed_sound e letter [] some = absurd (omega (arith, some))
+signed_sound e letter (b ∷ bs) some = go (is_sign b) refl some
+  where
+    found : ℕ → Type 0
+    found n = IsExponent (e ∷ take n (b ∷ bs))
+
+    go : (t : Bool) → is_sign b ≡ t → 0 < cond t (one_more (digits_len bs)) (digits_len (b ∷ bs)) → found (cond t (one_more (digits_len bs)) (digits_len (b ∷ bs)))
+    go true is h =
+        let digits = one_more_back (digits_len bs) h in
+        subst found (sym (one_more_some (digits_len bs) digits)) (signed e b (take (digits_len bs) bs) letter is (digits_front bs digits))
+    go false is h = unsigned e (take (digits_len (b ∷ bs)) (b ∷ bs)) letter (digits_front (b ∷ bs) h)
+
+pub exponent_sound : (bs : List ℕ) → 0 < exponent_len bs → IsExponent (take (exponent_len bs) bs)
+unfolding exponent_len
+exponent_sound [] some = absurd (omega (arith, some))
+exponent_sound (b ∷ bs) some = go (is_exponent_letter b) refl some
+  where
+    found : ℕ → Type 0
+    found n = IsExponent (take n (b ∷ bs))
+
+    go : (t : Bool) → is_exponent_letter b ≡ t → 0 < cond t (one_more (signed_len bs)) 0 → found (cond t (one_more (signed_len bs)) 0)
+    go true is h =
+        let digits = one_more_back (signed_len bs) h in
+        subst found (sym (one_more_some (signed_len bs) digits)) (signed_sound b is bs digits)
+    go false is h = absurd (omega (arith, h))
+
+-- what follows a letter is found with it
+letter_found : (e : ℕ) (bs : List ℕ) → is_exponent_letter e ≡ true → 0 < signed_len bs → exponent_len (e ∷ bs) ≡ suc (signed_len bs)
+unfolding exponent_len
+letter_found e bs letter some = ap (λ t. cond t (one_more (signed_len bs)) 0) letter ∙ one_more_some (signed_len bs) some
+
+sign_found : (s : ℕ) (bs : List ℕ) → is_sign s ≡ true → 0 < digits_len bs → signed_len (s ∷ bs) ≡ suc (digits_len bs)
+unfolding signed_len
+sign_found s bs sign some = ap (λ t. cond t (one_more (digits_len bs)) (digits_len (s ∷ bs))) sign ∙ one_more_some (digits_len bs) some
+
+-- digits are found where no sign stands before them
+digits_found : (bs : List ℕ) → 0 < digits_len bs → signed_len bs ≡ digits_len bs
+unfolding signed_len
+digits_found [] some = absurd (omega (arith, some))
+digits_found (b ∷ bs) some = go (is_ascii_digit b) refl some
+  where
+    go : (t : Bool) → is_ascii_digit b ≡ t → 0 < cond t (1 + digits_len bs) 0 → signed_len (b ∷ bs) ≡ digits_len (b ∷ bs)
+    go true is h = ap (λ t. cond t (one_more (digits_len bs)) (digits_len (b ∷ bs))) (digit_no_sign b is)
+    go false is h = absurd (omega (arith, h))
+
+-- an exponent at the front is no longer than what is found there
+exponent_more : (text : List ℕ) → IsExponent text → (rest : List ℕ) → length text ≤ exponent_len (text ++ rest)
+exponent_more text (unsigned e ds letter run) rest =
+    let m = run_more is_ascii_digit ds rest run.all in
+    let digits = digits_found (ds ++ rest) (omega (arith, m, run.some)) in
+    let found = letter_found e (ds ++ rest) letter (omega (arith, m, run.some, digits)) in
+    omega (arith, m, digits, found)
+exponent_more text (signed e s ds letter sign run) rest =
+    let m = run_more is_ascii_digit ds rest run.all in
+    let digits = sign_found s (ds ++ rest) sign (omega (arith, m, run.some)) in
+    let found = letter_found e (s ∷ ds ++ rest) letter (omega (arith, digits)) in
+    omega (arith, m, digits, found)
+
+-- the letter and what follows it
+record HasLetter (text : List ℕ) : Type 0 where
+  letter : ℕ
+  after : List ℕ
+  is : text ≡ letter ∷ after
+  test : is_exponent_letter letter ≡ true
+
+has_letter : (text : List ℕ) → IsExponent text → HasLetter text
+has_letter text (unsigned e ds letter run) = record { letter = e; after = ds; is = refl; test = letter }
+has_letter text (signed e s ds letter sign run) = record { letter = e; after = s ∷ ds; is = refl; test = letter }
+
+-- ---- numbers
+
+pub number_some : (text : List ℕ) → IsNumber text → 0 < length text
+number_some text (plain ds h) = decimal_some ds h
+number_some text (scaled ds es h k) = omega (arith, decimal_some ds h, length-append ds es)
+
+-- a decimal that is found, and the exponent after it
+decimal_first : (bs : List ℕ) → 0 < decimal_len bs → number_len bs ≡ decimal_len bs + exponent_len (drop (decimal_len bs) bs)
+unfolding number_len
+decimal_first bs some = ap (λ t. cond t (decimal_len bs + exponent_len (drop (decimal_len bs) bs)) 0) (lt-ltb 0 (decimal_len bs) some)
+
+pub decimal_none : (bs : List ℕ) → decimal_len bs ≡ 0 → number_len bs ≡ 0
+unfolding number_len
+decimal_none bs none = ap (λ n. cond (nat_lt 0 n) (n + exponent_len (drop n bs)) 0) none
+
+exact_more : (text exponent rest : List ℕ) → IsDecimal text → IsExponent exponent → decimal_len (text ++ (exponent ++ rest)) ≡ length text → length (text ++ exponent) ≤ number_len (text ++ (exponent ++ rest))
+exact_more text exponent rest h k exact =
+    let bs = text ++ (exponent ++ rest) in
+    let first = decimal_first bs (omega (arith, exact, decimal_some text h)) in
+    let after : drop (decimal_len bs) bs ≡ exponent ++ rest = ap (λ i. drop i bs) exact ∙ drop-append_seam text (exponent ++ rest) in
+    omega (arith, first, exact, ap exponent_len after, exponent_more exponent k rest, length-append text exponent)
 
 -- a number at the front is no longer than what is found there
 pub number_more : (text : List ℕ) → IsNumber text → (rest : List ℕ) → length text ≤ number_len (text ++ rest)
+number_more text (plain ds h) rest =
+    let more = decimal_more ds h rest in
+    omega (arith, more, decimal_first (ds ++ rest) (omega (arith, more, decimal_some ds h)))
+number_more text (scaled ds es h k) rest =
+    let begins = has_letter es k in
+    let tail : es ++ rest ≡ begins.letter ∷ (begins.after ++ rest) = ap (λ x. x ++ rest) begins.is in
+    let exact : decimal_len (ds ++ (es ++ rest)) ≡ length ds =
+    ap (λ x. decimal_len (ds ++ x)) tail
+    ∙ decimal_exact ds h begins.letter (begins.after ++ rest) (letter_no_digit begins.letter begins.test) (letter_no_point begins.letter begins.test) in
+    subst (λ t. length (ds ++ es) ≤ number_len t) (sym (append_assoc ds es rest)) (exact_more ds es rest h k exact)
+
+-- the cases in which a number is found
+number_by : (P : ℕ → Type 0) (bs : List ℕ) → (decimal_len bs ≡ 0 → P 0) → (0 < decimal_len bs → P (decimal_len bs + exponent_len (drop (decimal_len bs) bs))) → P (number_len bs)
 unfolding number_len
-number_more text (whole ds run) rest = omega (arith, run_more is_ascii_digit ds rest run.all)
-number_more text (decimal ds es all run) rest =
-    let front : (ds ++ 46 ∷ es) ++ rest ≡ ds ++ 46 ∷ (es ++ rest) = append_assoc ds (46 ∷ es) rest in
-    let n = run_more is_ascii_digit ds (46 ∷ (es ++ rest)) all in
-    let m = run_more is_ascii_digit es rest run.all in
-    let size = length-append ds (46 ∷ es) in
-    let digits : digits_len (ds ++ 46 ∷ (es ++ rest)) ≡ length ds = omega (arith, n) in
-    let after : drop (digits_len (ds ++ 46 ∷ (es ++ rest))) (ds ++ 46 ∷ (es ++ rest)) ≡ 46 ∷ (es ++ rest) = ap (λ i. drop i (ds ++ 46 ∷ (es ++ rest))) digits ∙ drop-append_seam ds (46 ∷ (es ++ rest)) in
-    let found = decimals_found (es ++ rest) (omega (arith, m, run.some)) in
-    subst (λ t. length (ds ++ 46 ∷ es) ≤ digits_len t + decimals_len (drop (digits_len t) t)) (sym front)
-    (omega (arith, size, digits, m, ap decimals_len after ∙ found))
+number_by P bs none some = go (nat_lt 0 (decimal_len bs)) refl
+  where
+    go : (t : Bool) → nat_lt 0 (decimal_len bs) ≡ t → P (cond t (decimal_len bs + exponent_len (drop (decimal_len bs) bs)) 0)
+    go true e = some (ltb-true 0 (decimal_len bs) e)
+    go false e = none (omega (arith, ltb-false 0 (decimal_len bs) e))
 
 pub number_within : (bs : List ℕ) → number_len bs ≤ length bs
-unfolding number_len
-number_within bs = go (decimals_cases (drop (digits_len bs) bs))
+number_within bs =
+    number_by (λ n. n ≤ length bs) bs (λ none. omega arith)
+    (λ some. omega (arith, decimal_within bs, exponent_within (drop (decimal_len bs) bs), length-drop (decimal_len bs) bs))
+
+-- a decimal and the exponent after it, if one is found
+decimal_then : (bs : List ℕ) → 0 < decimal_len bs → IsNumber (take (decimal_len bs + exponent_len (drop (decimal_len bs) bs)) bs)
+decimal_then bs some = go (nat_lt 0 x) refl
   where
-    go : (decimals_len (drop (digits_len bs) bs) ≡ 0) ⊎ HasDecimals (drop (digits_len bs) bs) → digits_len bs + decimals_len (drop (digits_len bs) bs) ≤ length bs
-    go (inl e) = omega (arith, e, run_within is_ascii_digit bs)
-    go (inr d) = omega (arith, d.len, run_within is_ascii_digit bs, run_within is_ascii_digit d.tail, ap length d.is, length-drop (digits_len bs) bs)
+    d : ℕ
+    d = decimal_len bs
 
-whole_front : (bs : List ℕ) → 0 < digits_len bs → IsNumber (take (digits_len bs) bs)
-whole_front bs some =
-    whole (take (digits_len bs) bs) record {
-      some = omega (arith, length-take-le (digits_len bs) bs (run_within is_ascii_digit bs), some);
-      all = run_all is_ascii_digit bs;
-    }
+    x : ℕ
+    x = exponent_len (drop d bs)
 
-decimal_front : (ds tail : List ℕ) → list_all is_ascii_digit ds ≡ true → 0 < digits_len tail → IsNumber (take (length ds + (1 + digits_len tail)) (ds ++ 46 ∷ tail))
-decimal_front ds tail all some =
-    let m = digits_len tail in
-    let next : 1 + m ≡ suc m = omega arith in
-    let front : take (length ds + (1 + m)) (ds ++ 46 ∷ tail) ≡ ds ++ 46 ∷ take m tail =
-    take-append-add ds (46 ∷ tail) (1 + m) ∙ ap (λ i. ds ++ take i (46 ∷ tail)) next in
-    let es : IsRun is_ascii_digit (take m tail) = record {
-      some = omega (arith, length-take-le m tail (run_within is_ascii_digit tail), some);
-      all = run_all is_ascii_digit tail;
-    } in
-    subst IsNumber (sym front) (decimal ds (take m tail) all es)
+    go : (t : Bool) → nat_lt 0 x ≡ t → IsNumber (take (d + x) bs)
+    go true e = subst IsNumber (sym (take-add d x bs)) (scaled (take d bs) (take x (drop d bs)) (decimal_sound bs some) (exponent_sound (drop d bs) (ltb-true 0 x e)))
+    go false e =
+        let alone : d ≡ d + x = omega (arith, ltb-false 0 x e) in
+        subst (λ i. IsNumber (take i bs)) alone (plain (take d bs) (decimal_sound bs some))
 
 pub number_sound : (bs : List ℕ) → 0 < number_len bs → IsNumber (take (number_len bs) bs)
-unfolding number_len
-number_sound bs h = go (decimals_cases (drop (digits_len bs) bs))
-  where
-    go : (decimals_len (drop (digits_len bs) bs) ≡ 0) ⊎ HasDecimals (drop (digits_len bs) bs) → IsNumber (take (digits_len bs + decimals_len (drop (digits_len bs) bs)) bs)
-    go (inl e) =
-        let n : digits_len bs ≡ digits_len bs + decimals_len (drop (digits_len bs) bs) = omega (arith, e) in
-        subst (λ i. IsNumber (take i bs)) n (whole_front bs (omega (arith, n, h)))
-    go (inr d) =
-        let ds = take (digits_len bs) bs in
-        let size : length ds ≡ digits_len bs = length-take-le (digits_len bs) bs (run_within is_ascii_digit bs) in
-        let back : ds ++ 46 ∷ d.tail ≡ bs = ap (λ r. ds ++ r) (sym d.is) ∙ take-append-drop (digits_len bs) bs in
-        let n : length ds + (1 + digits_len d.tail) ≡ digits_len bs + decimals_len (drop (digits_len bs) bs) = omega (arith, size, d.len) in
-        let found = decimal_front ds d.tail (run_all is_ascii_digit bs) d.some in
-        subst (λ i. IsNumber (take i bs)) n (subst (λ t. IsNumber (take (length ds + (1 + digits_len d.tail)) t)) back found)
+number_sound bs = number_by (λ n. 0 < n → IsNumber (take n bs)) bs (λ none some. absurd (omega (arith, some))) (λ some _. decimal_then bs some)

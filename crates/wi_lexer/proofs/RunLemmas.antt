@@ -1,8 +1,10 @@
 -- Runs of bytes of one class.
-use Rattle.std.proofs.Common.{◌≡◌, ℕ, suc, ◌+◌, ◌≤◌, Bool, true, false, cond, ◌&&◌, ◌⊎◌, inl, inr, List, [], ◌∷◌, ◌++◌, length, take, refl, sym, ap, subst, arith}
-use Rattle.std.proofs.lemmas.Bool.{cases_Bool}
+use Rattle.std.proofs.Common.{◌≡◌, ℕ, suc, ◌+◌, ◌<◌, ◌≤◌, Bool, true, false, cond, ◌&&◌, ◌⊎◌, inl, inr, List, [], ◌∷◌, ◌++◌, length, take, refl, sym, ap, ◌∙◌, subst, arith}
+use Rattle.std.specs.Prelude.{nat_lt}
+use Rattle.std.proofs.lemmas.Bool.{cases_Bool, ltb-true, lt-ltb}
 use Rattle.std.specs.List.{prefix_len, list_all}
 use Rattle.std.proofs.lemmas.List.Sums.{prefix_len-le-length}
+use Rattle.wi_lexer.specs.Runs.{one_more}
 
 pub both_are_true : (a b : Bool) → (a && b) ≡ true → (a ≡ true) × (b ≡ true)
 both_are_true true b e = (refl, e)
@@ -49,3 +51,22 @@ all_wider class wider each [] h = refl
 all_wider class wider each (x ∷ xs) h =
     let p = both_are_true (class x) (list_all class xs) h in
     cc (each x p.0, all_wider class wider each xs p.1)
+
+-- ---- a length and one byte before it
+
+pub one_more_some : (n : ℕ) → 0 < n → one_more n ≡ suc n
+one_more_some n h = ap (λ t. cond t (1 + n) 0) (lt-ltb 0 n h) ∙ omega arith
+
+pub one_more_back : (n : ℕ) → 0 < one_more n → 0 < n
+one_more_back n h = go (nat_lt 0 n) refl h
+  where
+    go : (t : Bool) → nat_lt 0 n ≡ t → 0 < cond t (1 + n) 0 → 0 < n
+    go true e f = ltb-true 0 n e
+    go false e f = absurd (omega (arith, f))
+
+pub one_more_within : (n : ℕ) → one_more n ≤ suc n
+one_more_within n = go (nat_lt 0 n)
+  where
+    go : (t : Bool) → cond t (1 + n) 0 ≤ suc n
+    go true = omega arith
+    go false = omega arith

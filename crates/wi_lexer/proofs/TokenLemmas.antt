@@ -9,14 +9,14 @@ use Rattle.wi_lexer.specs.declared.token.Kind.{Kind}
 use Rattle.wi_lexer.specs.declared.token.Kind.TheVariants.{Number, Reference, Rectangle, Name, Mark}
 use Rattle.wi_lexer.specs.declared.token.Mark as mark
 use Rattle.wi_lexer.specs.declared.token.Mark.TheVariants.{NotEqual, Less, LessOrEqual, Greater, GreaterOrEqual}
-use Rattle.wi_lexer.specs.Number.{IsNumber, whole, decimal, decimals_len, number_len}
+use Rattle.wi_lexer.specs.Number.{IsNumber, decimals_len, decimal_len, number_len}
 use Rattle.wi_lexer.specs.Reference.{IsReference, one_cell, reference_len}
 use Rattle.wi_lexer.specs.Rectangle.{IsRectangle, two_cells, rectangle_len}
 use Rattle.wi_lexer.specs.Cell.{Cell, IsCell, cell_text}
 use Rattle.wi_lexer.specs.Name.{IsName, is_name_start, name_len}
 use Rattle.wi_lexer.specs.Mark.{mark_text, two_byte_mark, one_byte_mark, mark_at}
 use Rattle.wi_lexer.specs.Token.{IsToken, IsLongest, NoToken, of_length, mark_token, token_at}
-use Rattle.wi_lexer.proofs.NumberLemmas.{number_more, number_within, number_sound}
+use Rattle.wi_lexer.proofs.NumberLemmas.{number_some, number_more, number_within, number_sound}
 use Rattle.wi_lexer.proofs.BracketLemmas.{bracketed}
 use Rattle.wi_lexer.proofs.ReferenceLemmas.{reference_sound, reference_complete, no_reference}
 use Rattle.wi_lexer.proofs.RectangleLemmas.{beside, rectangle_is, rectangle_sound, rectangle_complete, no_rectangle, no_reference_len}
@@ -64,7 +64,7 @@ mark_passed bs h k = number_passed bs h ∙ ap (λ o. option_or (mark_token o) (
 
 -- a text that begins with `[` is no number and no mark
 bracket_passed : (bs : List ℕ) → token_at (91 ∷ bs) ≡ from_reference (91 ∷ bs)
-unfolding number_len decimals_len mark_at two_byte_mark one_byte_mark
+unfolding number_len decimal_len decimals_len mark_at two_byte_mark one_byte_mark
 bracket_passed bs = mark_passed (91 ∷ bs) refl refl
 
 reference_found : (bs : List ℕ) → 0 < reference_len (91 ∷ bs) → token_at (91 ∷ bs) ≡ Some (Reference, reference_len (91 ∷ bs))
@@ -108,7 +108,7 @@ mark_found : (bs : List ℕ) (m : mark.Mark) → number_len bs ≡ 0 → mark_at
 mark_found bs m none h = number_passed bs none ∙ ap (λ o. option_or (mark_token o) (from_reference bs)) h
 
 covered_less : (rest : List ℕ) → CoveredMark Less rest
-unfolding number_len decimals_len mark_at two_byte_mark one_byte_mark
+unfolding number_len decimal_len decimals_len mark_at two_byte_mark one_byte_mark
 covered_less [] = whole_mark Less [] (mark_found (60 ∷ []) Less refl refl)
 covered_less (b ∷ rest) = go (b == 62) (b == 61) refl refl
   where
@@ -118,7 +118,7 @@ covered_less (b ∷ rest) = go (b == 62) (b == 61) refl refl
     go false false e f = whole_mark Less (b ∷ rest) (mark_found (60 ∷ b ∷ rest) Less refl (cc (e, f)))
 
 covered_greater : (rest : List ℕ) → CoveredMark Greater rest
-unfolding number_len decimals_len mark_at two_byte_mark one_byte_mark
+unfolding number_len decimal_len decimals_len mark_at two_byte_mark one_byte_mark
 covered_greater [] = whole_mark Greater [] (mark_found (62 ∷ []) Greater refl refl)
 covered_greater (b ∷ rest) = go (b == 61) refl
   where
@@ -127,16 +127,12 @@ covered_greater (b ∷ rest) = go (b == 61) refl
     go false e = whole_mark Greater (b ∷ rest) (mark_found (62 ∷ b ∷ rest) Greater refl (cc e))
 
 covered_mark : (m : mark.Mark) (rest : List ℕ) → CoveredMark m rest
-unfolding number_len decimals_len mark_at two_byte_mark one_byte_mark
+unfolding number_len decimal_len decimals_len mark_at two_byte_mark one_byte_mark
 covered_mark Less rest = covered_less rest
 covered_mark Greater rest = covered_greater rest
 covered_mark m rest = whole_mark m rest (mark_found (mark_text m ++ rest) m refl refl)
 
 -- ---- every token is found, or a longer one
-
-number_some : (text : List ℕ) → IsNumber text → 0 < length text
-number_some text (whole ds run) = run.some
-number_some text (decimal ds es all run) = omega (arith, length-append ds (46 ∷ es))
 
 mark_some : (m : mark.Mark) → 0 < length (mark_text m)
 mark_some NotEqual = omega arith

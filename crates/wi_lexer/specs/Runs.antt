@@ -1,5 +1,5 @@
 -- Runs of bytes of one class.
-use Rattle.std.specs.Prelude.{◌≡◌, ℕ, ◌<◌, Bool, true, false, ◌||◌, ◌==◌, if◌then◌else◌, List, length}
+use Rattle.std.specs.Prelude.{◌≡◌, ℕ, ◌+◌, ◌<◌, Bool, true, false, ◌||◌, ◌==◌, nat_lt, if◌then◌else◌, List, length}
 use Rattle.std.specs.List.{list_all, prefix_len}
 use Rattle.std.specs.Char.{is_ascii_digit, is_ascii_alphabetic}
 use Rattle.std.specs.Str.{byte}
@@ -36,3 +36,7 @@ inside_len bs = prefix_len is_inside bs
 
 abbrev pub before_colon_len : List ℕ → ℕ
 before_colon_len bs = prefix_len is_before_colon bs
+
+-- a length and one byte before it, or 0 where the length is 0
+abbrev pub one_more : ℕ → ℕ
+one_more n = if nat_lt 0 n then 1 + n else 0

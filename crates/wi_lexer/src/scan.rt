@@ -81,13 +81,61 @@ fn decimals_len(text: &[u8]) -> usize
     1 + digits
 }
 
+#[tactic(auto, unfolding(crate::specs::Number::decimal_len))]
+fn decimal_len(text: &[u8]) -> usize
+    ensures value { result ≡ number.decimal_len text.now }
+    ensures within { result ≤ length text.now }
+{
+    let digits = digits_len(text);
+    digits + decimals_len(&text[digits..])
+}
+
+fn is_exponent_letter(b: u8) -> bool
+    ensures { result ≡ number.is_exponent_letter b }
+{
+    b == b'e' || b == b'E'
+}
+
+fn is_sign(b: u8) -> bool
+    ensures { result ≡ number.is_sign b }
+{
+    b == b'+' || b == b'-'
+}
+
+#[tactic(auto, unfolding(crate::specs::Number::signed_len))]
+fn signed_len(text: &[u8]) -> usize
+    ensures value { result ≡ number.signed_len text.now }
+    ensures within { result ≤ length text.now }
+{
+    if !is_sign(byte(text, 0)) {
+        return digits_len(text);
+    }
+    let digits = digits_len(&text[1..]);
+    if digits > 0 { 1 + digits } else { 0 }
+}
+
+#[tactic(auto, unfolding(crate::specs::Number::exponent_len))]
+fn exponent_len(text: &[u8]) -> usize
+    ensures value { result ≡ number.exponent_len text.now }
+    ensures within { result ≤ length text.now }
+{
+    if !is_exponent_letter(byte(text, 0)) {
+        return 0;
+    }
+    let signed = signed_len(&text[1..]);
+    if signed > 0 { 1 + signed } else { 0 }
+}
+
 #[tactic(auto, unfolding(crate::specs::Number::number_len))]
 fn number_len(text: &[u8]) -> usize
     ensures value { result ≡ number.number_len text.now }
     ensures within { result ≤ length text.now }
 {
-    let digits = digits_len(text);
-    digits + decimals_len(&text[digits..])
+    let decimal = decimal_len(text);
+    if decimal == 0 {
+        return 0;
+    }
+    decimal + exponent_len(&text[decimal..])
 }
 
 #[tactic(auto, unfolding(crate::specs::Mark::two_byte_mark))]

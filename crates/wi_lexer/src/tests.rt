@@ -35,6 +35,22 @@ fn splits_numbers(rt: HostRuntime) {
 }
 
 #[test]
+fn splits_exponents(rt: HostRuntime) {
+    for whole in ["1e5", "1E-5", "1.5e+07", ".5e-3", "0e99999999999"] {
+        assert!(rt; is_read_as(whole, &[whole], false), "at {whole}");
+    }
+    assert!(rt; is_read_as("1e", &["1", "e"], false));
+    assert!(rt; is_read_as("1e+", &["1", "e", "+"], false));
+    assert!(rt; is_read_as("1e+-2", &["1", "e", "+", "-", "2"], false));
+    assert!(rt; is_read_as("1e 5", &["1", "e", "5"], false));
+    assert!(rt; is_read_as("1.e5", &["1"], true));
+    assert!(rt; is_read_as("e5", &["e5"], false));
+    assert!(rt; is_read_as("1e5e6", &["1e5", "e6"], false));
+    assert!(rt; is_read_as("1e5.5", &["1e5", ".5"], false));
+    assert!(rt; is_read_as("2E3F", &["2E3", "F"], false));
+}
+
+#[test]
 fn splits_formulas(rt: HostRuntime) {
     let sums = ["-", "-", "2", "*", "(", "3", "+", ".4", ")", "/", "5"];
     assert!(rt; is_read_as("--2*(3+.4)/ 5\n", &sums, false));
@@ -60,7 +76,6 @@ fn splits_formulas(rt: HostRuntime) {
     let call = ["MULTIPLE.OPERATIONS", "(", "[.A1]", ";", "a1", ")"];
     assert!(rt; is_read_as("MULTIPLE.OPERATIONS([.A1];a1)", &call, false));
     assert!(rt; is_read_as("_x.9 x;y", &["_x.9", "x", ";", "y"], false));
-    assert!(rt; is_read_as("1e5", &["1", "e5"], false));
     assert!(rt; is_read_as("zé", &["z"], true));
     assert!(rt; is_read_as("A1(", &["A1", "("], false));
     assert!(rt; is_read_as("<>=", &["<>", "="], false));

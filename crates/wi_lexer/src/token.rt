@@ -6,7 +6,7 @@ ghost use Rattle.wi_lexer.specs.Mark.{mark_text};
 /// The kinds of tokens, as in OpenFormula, "Expression Syntax".
 #[derive(Clone, Copy, Debug, PartialEq, Eq)]
 pub enum Kind {
-    /// Digits, optionally a point and digits; or a point and digits.
+    /// Digits, optionally a point and digits, or a point and digits; then optionally `e` or `E`, a sign or none, and digits.
     Number,
     /// `[.CELL]`; `reference_of` tells its cell.
     Reference,

@@ -1,0 +1,123 @@
+-- The decimal found at the front is one, and no decimal there is longer.
+use Rattle.std.proofs.Common.{◌≡◌, ℕ, suc, ◌+◌, ◌<◌, ◌≤◌, Bool, true, false, cond, ◌&&◌, ◌==◌, ◌⊎◌, inl, inr, List, [], ◌∷◌, ◌++◌, length, take, drop, refl, sym, ap, ◌∙◌, subst, arith, append_assoc, length-append, length-drop}
+use Rattle.std.specs.Prelude.{nat_lt}
+use Rattle.std.proofs.lemmas.Bool.{eqb-true, ltb-true, lt-ltb}
+use Rattle.std.proofs.lemmas.List.{take-append-drop, length-take-le}
+use Rattle.std.proofs.Math.Seq.{drop-append_seam, take-append-add}
+use Rattle.std.specs.List.{list_all}
+use Rattle.std.specs.Char.{is_ascii_digit}
+use Rattle.wi_lexer.specs.Runs.{IsRun, digits_len}
+use Rattle.wi_lexer.specs.Number.{IsDecimal, whole, decimal, decimals_len, decimal_len}
+use Rattle.wi_lexer.proofs.RunLemmas.{run_within, run_stops, run_more, run_all}
+
+-- a point and digits stand at the front
+pub record HasDecimals (bs : List ℕ) : Type 0 where
+  pub tail : List ℕ
+  pub is : bs ≡ 46 ∷ tail
+  pub some : 0 < digits_len tail
+  pub len : decimals_len bs ≡ 1 + digits_len tail
+
+abbrev tested : (point digit : Bool) → ℕ → ℕ
+tested point digit n = cond (point && digit) (1 + n) 0
+
+by_tests : (b : ℕ) (tail : List ℕ) (p d : Bool) → (b == 46) ≡ p → nat_lt 0 (digits_len tail) ≡ d → decimals_len (b ∷ tail) ≡ tested p d (digits_len tail) → (decimals_len (b ∷ tail) ≡ 0) ⊎ HasDecimals (b ∷ tail)
+by_tests b tail false d e f h = inl h
+by_tests b tail true false e f h = inl h
+by_tests b tail true true e f h = inr record { tail = tail; is = ap (λ x. x ∷ tail) (eqb-true b 46 e); some = ltb-true 0 (digits_len tail) f; len = h }
+
+pub decimals_cases : (bs : List ℕ) → (decimals_len bs ≡ 0) ⊎ HasDecimals bs
+unfolding decimals_len
+decimals_cases [] = inl refl
+decimals_cases (b ∷ tail) = by_tests b tail _ _ refl refl refl
+
+pub decimals_found : (tail : List ℕ) → 0 < digits_len tail → decimals_len (46 ∷ tail) ≡ 1 + digits_len tail
+unfolding decimals_len
+decimals_found tail some = ap (λ t. cond t (1 + digits_len tail) 0) (lt-ltb 0 (digits_len tail) some)
+
+-- a decimal at the front is no longer than what is found there
+pub decimal_more : (text : List ℕ) → IsDecimal text → (rest : List ℕ) → length text ≤ decimal_len (text ++ rest)
+unfolding decimal_len
+decimal_more text (whole ds run) rest = omega (arith, run_more is_ascii_digit ds rest run.all)
+decimal_more text (decimal ds es all run) rest =
+    let front : (ds ++ 46 ∷ es) ++ rest ≡ ds ++ 46 ∷ (es ++ rest) = append_assoc ds (46 ∷ es) rest in
+    let n = run_more is_ascii_digit ds (46 ∷ (es ++ rest)) all in
+    let m = run_more is_ascii_digit es rest run.all in
+    let size = length-append ds (46 ∷ es) in
+    let digits : digits_len (ds ++ 46 ∷ (es ++ rest)) ≡ length ds = omega (arith, n) in
+    let after : drop (digits_len (ds ++ 46 ∷ (es ++ rest))) (ds ++ 46 ∷ (es ++ rest)) ≡ 46 ∷ (es ++ rest) = ap (λ i. drop i (ds ++ 46 ∷ (es ++ rest))) digits ∙ drop-append_seam ds (46 ∷ (es ++ rest)) in
+    let found = decimals_found (es ++ rest) (omega (arith, m, run.some)) in
+    subst (λ t. length (ds ++ 46 ∷ es) ≤ digits_len t + decimals_len (drop (digits_len t) t)) (sym front)
+    (omega (arith, size, digits, m, ap decimals_len after ∙ found))
+
+pub decimal_within : (bs : List ℕ) → decimal_len bs ≤ length bs
+unfolding decimal_len
+decimal_within bs = go (decimals_cases (drop (digits_len bs) bs))
+  where
+    go : (decimals_len (drop (digits_len bs) bs) ≡ 0) ⊎ HasDecimals (drop (digits_len bs) bs) → digits_len bs + decimals_len (drop (digits_len bs) bs) ≤ length bs
+    go (inl e) = omega (arith, e, run_within is_ascii_digit bs)
+    go (inr d) = omega (arith, d.len, run_within is_ascii_digit bs, run_within is_ascii_digit d.tail, ap length d.is, length-drop (digits_len bs) bs)
+
+-- the digits at the front
+pub digits_front : (bs : List ℕ) → 0 < digits_len bs → IsRun is_ascii_digit (take (digits_len bs) bs)
+digits_front bs some = record {
+  some = omega (arith, length-take-le (digits_len bs) bs (run_within is_ascii_digit bs), some);
+  all = run_all is_ascii_digit bs;
+}
+
+whole_front : (bs : List ℕ) → 0 < digits_len bs → IsDecimal (take (digits_len bs) bs)
+whole_front bs some = whole (take (digits_len bs) bs) (digits_front bs some)
+
+decimal_front : (ds tail : List ℕ) → list_all is_ascii_digit ds ≡ true → 0 < digits_len tail → IsDecimal (take (length ds + (1 + digits_len tail)) (ds ++ 46 ∷ tail))
+decimal_front ds tail all some =
+    let m = digits_len tail in
+    let next : 1 + m ≡ suc m = omega arith in
+    let front : take (length ds + (1 + m)) (ds ++ 46 ∷ tail) ≡ ds ++ 46 ∷ take m tail =
+    take-append-add ds (46 ∷ tail) (1 + m) ∙ ap (λ i. ds ++ take i (46 ∷ tail)) next in
+    subst IsDecimal (sym front) (decimal ds (take m tail) all (digits_front tail some))
+
+pub decimal_sound : (bs : List ℕ) → 0 < decimal_len bs → IsDecimal (take (decimal_len bs) bs)
+unfolding decimal_len
+decimal_sound bs h = go (decimals_cases (drop (digits_len bs) bs))
+  where
+    go : (decimals_len (drop (digits_len bs) bs) ≡ 0) ⊎ HasDecimals (drop (digits_len bs) bs) → IsDecimal (take (digits_len bs + decimals_len (drop (digits_len bs) bs)) bs)
+    go (inl e) =
+        let n : digits_len bs ≡ digits_len bs + decimals_len (drop (digits_len bs) bs) = omega (arith, e) in
+        subst (λ i. IsDecimal (take i bs)) n (whole_front bs (omega (arith, n, h)))
+    go (inr d) =
+        let ds = take (digits_len bs) bs in
+        let size : length ds ≡ digits_len bs = length-take-le (digits_len bs) bs (run_within is_ascii_digit bs) in
+        let back : ds ++ 46 ∷ d.tail ≡ bs = ap (λ r. ds ++ r) (sym d.is) ∙ take-append-drop (digits_len bs) bs in
+        let n : length ds + (1 + digits_len d.tail) ≡ digits_len bs + decimals_len (drop (digits_len bs) bs) = omega (arith, size, d.len) in
+        let found = decimal_front ds d.tail (run_all is_ascii_digit bs) d.some in
+        subst (λ i. IsDecimal (take i bs)) n (subst (λ t. IsDecimal (take (length ds + (1 + digits_len d.tail)) t)) back found)
+
+pub decimal_some : (text : List ℕ) → IsDecimal text → 0 < length text
+decimal_some text (whole ds run) = run.some
+decimal_some text (decimal ds es all run) = omega (arith, length-append ds (46 ∷ es))
+
+-- ---- a decimal that ends before another byte
+
+no_point : (b : ℕ) (rest : List ℕ) → (b == 46) ≡ false → decimals_len (b ∷ rest) ≡ 0
+unfolding decimals_len
+no_point b rest e = ap (λ t. cond (t && nat_lt 0 (digits_len rest)) (1 + digits_len rest) 0) e
+
+-- digits that end before another byte
+digits_exact : (ds : List ℕ) (b : ℕ) (rest : List ℕ) → list_all is_ascii_digit ds ≡ true → is_ascii_digit b ≡ false → digits_len (ds ++ b ∷ rest) ≡ length ds
+digits_exact ds b rest all e = omega (arith, run_more is_ascii_digit ds (b ∷ rest) all, run_stops is_ascii_digit b rest e)
+
+-- the digits before, and the decimals of what follows them
+after_digits : (ds tail : List ℕ) → digits_len (ds ++ tail) ≡ length ds → decimal_len (ds ++ tail) ≡ length ds + decimals_len tail
+unfolding decimal_len
+after_digits ds tail n =
+    let after : drop (digits_len (ds ++ tail)) (ds ++ tail) ≡ tail = ap (λ i. drop i (ds ++ tail)) n ∙ drop-append_seam ds tail in
+    omega (arith, n, ap decimals_len after)
+
+pub decimal_exact : (text : List ℕ) → IsDecimal text → (b : ℕ) (rest : List ℕ) → is_ascii_digit b ≡ false → (b == 46) ≡ false → decimal_len (text ++ b ∷ rest) ≡ length text
+decimal_exact text (whole ds run) b rest e f = omega (arith, after_digits ds (b ∷ rest) (digits_exact ds b rest run.all e), no_point b rest f)
+decimal_exact text (decimal ds es all run) b rest e f =
+    let tail = es ++ b ∷ rest in
+    let front : (ds ++ 46 ∷ es) ++ b ∷ rest ≡ ds ++ 46 ∷ tail = append_assoc ds (46 ∷ es) (b ∷ rest) in
+    let whole = after_digits ds (46 ∷ tail) (digits_exact ds 46 tail all refl) in
+    let es_len = digits_exact es b rest run.all e in
+    let found = decimals_found tail (omega (arith, es_len, run.some)) in
+    omega (arith, ap decimal_len front, whole, found, es_len, length-append ds (46 ∷ es))
