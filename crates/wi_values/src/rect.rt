@@ -3,7 +3,7 @@
 ghost use Rattle.std.specs.Prelude.{◌≡◌, ◌==◌, ◌<◌, length, IfSome};
 ghost use Rattle.std.specs.List.{position};
 ghost use Rattle.std.specs.Str.{byte};
-ghost use Rattle.wi_values.specs.Address.{rect_of};
+ghost use Rattle.wi_values.specs.Address.{rect_of, is_within};
 ghost use Rattle.wi_values.specs.AddressReading.{corners, read_rect};
 
 use crate::address::{Address, AddressFault};
@@ -68,6 +68,14 @@ impl Rect {
         ensures { result ≡ self.last }
     {
         self.last
+    }
+
+    /// Whether a cell lies in it.
+    pub fn contains(self, at: Address) -> bool
+        ensures { result ≡ is_within self at }
+    {
+        (self.first.row() <= at.row() && at.row() <= self.last.row())
+            && (self.first.column() <= at.column() && at.column() <= self.last.column())
     }
 }
 

@@ -110,6 +110,24 @@ fn rectangles_are_read(rt: HostRuntime) {
 }
 
 #[test]
+fn cells_of_a_rectangle(rt: HostRuntime) {
+    let area = Rect::new(Address::at(4, 1), Address::at(1, 3));
+    for (row, column, lies_in_it) in [
+        (1, 1, true),
+        (1, 3, true),
+        (4, 1, true),
+        (4, 3, true),
+        (2, 2, true),
+        (0, 2, false),
+        (5, 2, false),
+        (2, 0, false),
+        (2, 4, false),
+    ] {
+        assert_eq!(rt; area.contains(Address::at(row, column)), lies_in_it);
+    }
+}
+
+#[test]
 fn other_texts_are_no_rectangles(rt: HostRuntime) {
     for text in ["", ":", "A1:", ":A1", "A1:B2:C3", "XFE1:A0", "A0:XFE1"] {
         assert_eq!(rt;
