@@ -1,17 +1,20 @@
 -- Formulas worked by hand.
 use Rattle.std.proofs.Common.{◌≡◌, ℕ, ◌<◌, ◌≤◌, List, [], ◌∷◌, true, false, refl, ap, lit<, lit≤}
-use Rattle.std.specs.Prelude.{pos, ◌==◌, ◌^◌, ◌-◌, if◌then◌else◌}
+use Rattle.std.specs.Prelude.{pos, codes, ◌==◌, ◌^◌, ◌-◌, if◌then◌else◌}
 use Rattle.wi_fraction.specs.Number as numbers
 use Rattle.wi_fraction.specs.Number.{max_size, number_of, number_at-some}
 use Rattle.wi_fraction.specs.Gcd.{gcd, gcd_within}
 use Rattle.wi_fraction.specs.Arithmetic.{sum_of, negated}
+use Rattle.wi_values.specs.Value.{shown_text}
 use Rattle.wi_values.specs.declared.value.ErrorKind.TheVariants.{NotAvailable, DivisionByZero, BadNumber, BadValue}
 use Rattle.wi_values.specs.declared.value.Value.{Value}
 use Rattle.wi_values.specs.declared.value.Value.TheVariants.{Empty, Number, Text, Logical, Fault}
-use Rattle.wi_parser.specs.declared.expr.Operator.TheVariants.{Add, Subtract, Multiply, Divide}
+use Rattle.wi_parser.specs.declared.expr.Operator.TheVariants.{Add, Subtract, Multiply, Divide, Power, Join, Equal, NotEqual, Less, LessOrEqual, Greater, GreaterOrEqual}
+use Rattle.wi_parser.specs.declared.expr.Sign.TheVariants.{Plus, Minus}
 use Rattle.wi_parser.specs.declared.expr.Reference.{Reference}
-use Rattle.wi_parser.specs.Tree.{Tree, number, cell, parenthesized, binary, what_if}
-use Rattle.wi_functions.specs.Convert.{number_value, zero_number}
+use Rattle.wi_parser.specs.Tree.{Tree, number, cell, parenthesized, signed, percent, binary, what_if}
+use Rattle.wi_functions.specs.Convert.{zero_number}
+use Rattle.wi_functions.specs.Operators.{number_value}
 use Rattle.wi_functions.specs.Meaning.{meaning, zero_for_empty}
 
 lowest_over_one : (n : ℕ) → gcd n 1 ≡ 1
@@ -155,3 +158,95 @@ of_what_if = refl
 what_if_and_half : value (binary Multiply (what_if (at 3) ((at 5, at 7) ∷ [])) (cell (at 3))) ≡ Number one
 unfolding number_of gcd gcd_within
 what_if_and_half = ap number_value (number_at-some (pos 1) 1 one refl refl)
+
+-- ---- powers
+
+abbrev three : numbers.Number
+three = whole 3 (lit≤ tt)
+
+abbrev eight : numbers.Number
+eight = whole 8 (lit≤ tt)
+
+two_cubed : value (binary Power (number two) (number three)) ≡ Number eight
+unfolding number_of gcd gcd_within
+two_cubed = ap number_value (number_at-some (pos 8) 1 eight refl refl)
+
+empty_to_minus_one : value (binary Power (cell (at 9)) (signed Minus (number one))) ≡ Fault DivisionByZero
+unfolding negated
+empty_to_minus_one = refl
+
+empty_to_empty : value (binary Power (cell (at 9)) (cell (at 9))) ≡ Number one
+unfolding number_of gcd gcd_within
+empty_to_empty = ap number_value (number_at-some (pos 1) 1 one refl refl)
+
+-- the exponent is looked at before a zero to a negative power
+empty_to_half_below : value (binary Power (cell (at 9)) (signed Minus (number one_half))) ≡ Fault BadNumber
+unfolding negated
+empty_to_half_below = refl
+
+-- both operands are converted before the exponent is looked at
+error_after_exponent : value (binary Power (number one_half) (cell (at 2))) ≡ Fault NotAvailable
+error_after_exponent = refl
+
+-- ---- signs and percents
+
+plus_keeps_text : value (signed Plus (cell (at 1))) ≡ Text (97 ∷ [])
+plus_keeps_text = refl
+
+plus_keeps_empty : value (signed Plus (cell (at 9))) ≡ Empty
+plus_keeps_empty = refl
+
+minus_text : value (signed Minus (cell (at 1))) ≡ Fault BadValue
+minus_text = refl
+
+-- two hundredths
+fiftieth_lowest : gcd 1 50 ≡ 1
+unfolding gcd gcd_within
+fiftieth_lowest = refl
+
+abbrev fiftieth : numbers.Number
+fiftieth = over 1 50 (lit< tt) fiftieth_lowest (lit≤ tt) (lit≤ tt)
+
+two_percent : value (percent (cell (at 3))) ≡ Number fiftieth
+unfolding number_of gcd gcd_within
+two_percent = ap number_value (number_at-some (pos 1) 50 fiftieth refl refl)
+
+-- ---- joins
+
+text_and_true : value (binary Join (cell (at 1)) (cell (at 0))) ≡ Text (codes "aTRUE")
+unfolding shown_text
+text_and_true = refl
+
+empty_and_empty : value (binary Join (cell (at 9)) (cell (at 9))) ≡ Text []
+unfolding shown_text
+empty_and_empty = refl
+
+text_and_error : value (binary Join (cell (at 1)) (cell (at 2))) ≡ Fault NotAvailable
+text_and_error = refl
+
+-- ---- comparisons
+
+number_before_text : value (binary Less (number greatest) (cell (at 1))) ≡ Logical true
+number_before_text = refl
+
+text_before_logical : value (binary GreaterOrEqual (cell (at 1)) (cell (at 0))) ≡ Logical false
+text_before_logical = refl
+
+-- TRUE isn't the number 1
+kinds_differ : value (binary Equal (cell (at 0)) (number one)) ≡ Logical false
+kinds_differ = refl
+
+empty_is_zero : value (binary LessOrEqual (cell (at 9)) (number one)) ≡ Logical true
+empty_is_zero = refl
+
+empty_is_no_text : value (binary NotEqual (cell (at 9)) (cell (at 1))) ≡ Logical true
+empty_is_no_text = refl
+
+empty_is_false : value (binary Greater (cell (at 0)) (cell (at 9))) ≡ Logical true
+empty_is_false = refl
+
+empty_is_empty : value (binary Equal (cell (at 9)) (cell (at 8))) ≡ Logical true
+empty_is_empty = refl
+
+error_compared : value (binary Equal (cell (at 9)) (cell (at 2))) ≡ Fault NotAvailable
+error_compared = refl

@@ -1,4 +1,6 @@
 pub mod Convert
+pub mod Comparison
+pub mod Operators
 pub mod Meaning
 pub mod Assignment
 pub mod Counts

@@ -4,8 +4,9 @@ use Rattle.std.specs.Prelude.{ℕ, List, map}
 use Rattle.wi_values.specs.declared.value.Value.{Value}
 use Rattle.wi_values.specs.declared.value.Value.TheVariants.{Empty, Number}
 use Rattle.wi_parser.specs.declared.expr.Reference.{Reference}
-use Rattle.wi_parser.specs.Tree.{Tree, number, cell, parenthesized, binary, what_if}
-use Rattle.wi_functions.specs.Convert.{operate, zero_number}
+use Rattle.wi_parser.specs.Tree.{Tree, number, cell, parenthesized, signed, percent, binary, what_if}
+use Rattle.wi_functions.specs.Convert.{zero_number}
+use Rattle.wi_functions.specs.Operators.{operate, with_sign, hundredth}
 
 -- an input and its replacement cell, by their addresses
 abbrev pub addresses : Reference × Reference → ℕ × ℕ
@@ -17,6 +18,8 @@ abbrev pub meaning : Tree → (ℕ → Value) → (ℕ → List (ℕ × ℕ) →
 meaning (number x) cells what_ifs = Number x
 meaning (cell r) cells what_ifs = cells r.at
 meaning (parenthesized t) cells what_ifs = meaning t cells what_ifs
+meaning (signed s t) cells what_ifs = with_sign s (meaning t cells what_ifs)
+meaning (percent t) cells what_ifs = hundredth (meaning t cells what_ifs)
 meaning (binary op t u) cells what_ifs = operate op (meaning t cells what_ifs) (meaning u cells what_ifs)
 meaning (what_if f pairs) cells what_ifs = what_ifs f.at (map addresses pairs)
 

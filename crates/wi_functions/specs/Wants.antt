@@ -2,7 +2,7 @@
 use Rattle.std.specs.Prelude.{◌≡◌, ◌⊎◌, ℕ, List, map, Option, None}
 use Rattle.wi_values.specs.declared.value.Value.{Value}
 use Rattle.wi_parser.specs.declared.expr.Reference.{Reference}
-use Rattle.wi_parser.specs.Tree.{Tree, number, cell, parenthesized, binary, what_if}
+use Rattle.wi_parser.specs.Tree.{Tree, number, cell, parenthesized, signed, percent, binary, what_if}
 use Rattle.wi_parser.specs.View.{pair_of}
 use Rattle.wi_functions.specs.Meaning.{addresses}
 use Rattle.wi_functions.specs.Counts.{Counts, one_more}
@@ -27,6 +27,8 @@ abbrev pub Asks : Tree → Want → Type 0
 Asks (number x) w = ⊥
 Asks (cell r) w = WantsCell w r.at
 Asks (parenthesized t) w = Asks t w
+Asks (signed s t) w = Asks t w
+Asks (percent t) w = Asks t w
 Asks (binary op t u) w = Asks t w ⊎ Asks u w
 Asks (what_if f pairs) w = WantsWhatIf w f.at pairs
 

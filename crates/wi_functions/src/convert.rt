@@ -1,7 +1,7 @@
 //! Values taken for numbers (OpenFormula, "Implicit Conversion Operators").
 
 ghost use Rattle.std.specs.Prelude.{◌≡◌};
-ghost use Rattle.wi_functions.specs.Convert.{to_number, zero_number, one_number};
+ghost use Rattle.wi_functions.specs.Convert.{to_number, zero_number, one_number, hundred_number};
 ghost use Rattle.wi_functions.specs.Meaning.{zero_for_empty};
 
 use wi_fraction::Fraction;
@@ -22,6 +22,16 @@ pub fn one() -> Fraction
     ensures { result ≡ one_number }
 {
     match Fraction::new(1, 1) {
+        Ok(x) => x,
+        Err(_) => unreachable!(),
+    }
+}
+
+/// The number 100.
+pub fn hundred() -> Fraction
+    ensures { result ≡ hundred_number }
+{
+    match Fraction::new(100, 1) {
         Ok(x) => x,
         Err(_) => unreachable!(),
     }

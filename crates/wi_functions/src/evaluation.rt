@@ -10,7 +10,7 @@ ghost use Rattle.wi_functions.specs.Wants.{Asks, IsUnknown, IfNeeds, IfDone, IfW
 use crate::convert::zero_for_empty;
 use crate::lookup::{Answer, Lookup};
 use crate::meter::Meter;
-use crate::operators::operate;
+use crate::operators::{hundredth, operate, with_sign};
 use std::alloc::{AllocError, Global};
 use wi_parser::{Expr, Formula, Pair, Reference};
 use wi_values::{Address, Value};
@@ -49,7 +49,8 @@ impl From<AllocError> for Stop {
     }
 }
 
-/// A formula's value, in which Empty becomes 0, or what is missing for it. Either is counted.
+/// A formula's value, in which Empty becomes 0, or what is missing for it. Either is counted. Memory is needed for the
+/// texts that are copied and joined, and for what is missing; want of it counts nothing.
 pub fn evaluate<L: Lookup>(
     alloc: Global,
     formula: &Formula,
@@ -86,10 +87,18 @@ fn value_of<L: Lookup>(alloc: Global, expr: &Expr, lookup: &L) -> Result<Value, 
         Expr::Number(x) => Ok(Value::Number(*x)),
         Expr::Cell(reference) => cell_value(alloc, *reference, lookup),
         Expr::Parenthesized(inner) => value_of(alloc, inner, lookup),
+        Expr::Signed(sign, inner) => {
+            let x = value_of(alloc, inner, lookup)?;
+            Ok(with_sign(*sign, x))
+        }
+        Expr::Percent(inner) => {
+            let x = value_of(alloc, inner, lookup)?;
+            Ok(hundredth(&x))
+        }
         Expr::Binary(operator, left, right) => {
             let x = value_of(alloc, left, lookup)?;
             let y = value_of(alloc, right, lookup)?;
-            Ok(operate(*operator, &x, &y))
+            Ok(operate(alloc, *operator, &x, &y)?)
         }
         Expr::WhatIf(formula_cell, pairs) => what_if_value(alloc, *formula_cell, pairs, lookup),
     }

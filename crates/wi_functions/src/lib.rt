@@ -1,11 +1,14 @@
 //! The value of one formula.
 #![tactic(auto)]
 
+mod comparison;
 mod convert;
 mod evaluation;
 mod lookup;
 mod meter;
 mod operators;
+#[cfg(test)]
+mod tables;
 #[cfg(test)]
 mod tests;
 

@@ -1,36 +1,153 @@
-//! The operators between two operands (OpenFormula, "Standard Operators").
+//! The operators (OpenFormula, "Standard Operators").
 
-ghost use Rattle.std.specs.Prelude.{◌≡◌};
-ghost use Rattle.wi_functions.specs.Convert.{operate, arithmetic};
-ghost use Rattle.wi_functions.specs.Fractions.{fraction_value};
+ghost use Rattle.std.specs.Prelude.{◌≡◌, IfOk};
+ghost use Rattle.wi_values.specs.Value.{shown_text};
+ghost use Rattle.wi_functions.specs.Comparison.{first_error, unless_error};
+ghost use Rattle.wi_functions.specs.Convert.{to_number, to_text};
+ghost use Rattle.wi_functions.specs.Fractions.{fraction_value, value_or_error};
+ghost use Rattle.wi_functions.specs.Operators.{operate, with_sign, hundredth, minus, on_both, added, subtracted, multiplied, divided, raised, joined};
 
-use crate::convert::to_number;
+use crate::comparison::{compare, first_error};
+use crate::convert::{hundred, to_number};
+use std::alloc::{AllocError, Global};
 use wi_fraction::{Fraction, FractionError};
-use wi_parser::Operator;
-use wi_values::{ErrorKind, Value};
+use wi_parser::{Operator, Sign};
+use wi_values::{ErrorKind, MAX_TEXT, Text, Value};
 
-/// What an operator gives for two values.
-pub fn operate(operator: Operator, left: &Value, right: &Value) -> Value
-    ensures { result ≡ operate operator left.now right.now }
+/// What an operator gives for two values. Only a join needs memory.
+pub fn operate(
+    alloc: Global,
+    operator: Operator,
+    left: &Value,
+    right: &Value,
+) -> Result<Value, AllocError>
+    ensures { IfOk result (λ v. v ≡ operate operator left.now right.now) }
 {
-    match to_number(left) {
-        Ok(x) => match to_number(right) {
-            Ok(y) => arithmetic(operator, x, y),
-            Err(e) => Value::Fault(e),
-        },
+    match operator {
+        Operator::Add => Ok(value_or_error(add(left, right))),
+        Operator::Subtract => Ok(value_or_error(subtract(left, right))),
+        Operator::Multiply => Ok(value_or_error(multiply(left, right))),
+        Operator::Divide => Ok(value_or_error(divide(left, right))),
+        Operator::Power => Ok(value_or_error(raise(left, right))),
+        Operator::Join => join(alloc, left, right),
+        Operator::Equal => Ok(truth(left, right, compare(alloc, left, right).is_eq())),
+        Operator::NotEqual => Ok(truth(left, right, compare(alloc, left, right).is_ne())),
+        Operator::Less => Ok(truth(left, right, compare(alloc, left, right).is_lt())),
+        Operator::LessOrEqual => Ok(truth(left, right, compare(alloc, left, right).is_le())),
+        Operator::Greater => Ok(truth(left, right, compare(alloc, left, right).is_gt())),
+        Operator::GreaterOrEqual => Ok(truth(left, right, compare(alloc, left, right).is_ge())),
+    }
+}
+
+/// What a sign gives for a value. A plus changes nothing.
+pub fn with_sign(sign: Sign, value: Value) -> Value
+    ensures { result ≡ with_sign sign value }
+{
+    match sign {
+        Sign::Plus => value,
+        Sign::Minus => minus(to_number(&value)),
+    }
+}
+
+/// A value divided by 100.
+pub fn hundredth(value: &Value) -> Value
+    ensures { result ≡ hundredth value.now }
+{
+    value_or_error(divide(value, &Value::Number(hundred())))
+}
+
+fn add(left: &Value, right: &Value) -> Result<Value, ErrorKind>
+    ensures { value_or_error result ≡ on_both added (to_number left.now) (to_number right.now) }
+{
+    let x = to_number(left)?;
+    let y = to_number(right)?;
+    Ok(fraction_value(x.checked_add(y)))
+}
+
+fn subtract(left: &Value, right: &Value) -> Result<Value, ErrorKind>
+    ensures { value_or_error result ≡ on_both subtracted (to_number left.now) (to_number right.now) }
+{
+    let x = to_number(left)?;
+    let y = to_number(right)?;
+    Ok(fraction_value(x.checked_sub(y)))
+}
+
+fn multiply(left: &Value, right: &Value) -> Result<Value, ErrorKind>
+    ensures { value_or_error result ≡ on_both multiplied (to_number left.now) (to_number right.now) }
+{
+    let x = to_number(left)?;
+    let y = to_number(right)?;
+    Ok(fraction_value(x.checked_mul(y)))
+}
+
+fn divide(left: &Value, right: &Value) -> Result<Value, ErrorKind>
+    ensures { value_or_error result ≡ on_both divided (to_number left.now) (to_number right.now) }
+{
+    let dividend = to_number(left)?;
+    let divisor = to_number(right)?;
+    Ok(fraction_value(dividend.checked_div(divisor)))
+}
+
+fn raise(left: &Value, right: &Value) -> Result<Value, ErrorKind>
+    ensures { value_or_error result ≡ on_both raised (to_number left.now) (to_number right.now) }
+{
+    let base = to_number(left)?;
+    let exponent = to_number(right)?;
+    Ok(power(base, exponent))
+}
+
+/// The power of a number, whose exponent is whole.
+fn power(x: Fraction, y: Fraction) -> Value
+    ensures { result ≡ raised x y }
+{
+    if y.denominator() == 1 {
+        fraction_value(x.checked_pow(y.numerator()))
+    } else {
+        Value::Fault(ErrorKind::BadNumber)
+    }
+}
+
+/// The number with the other sign.
+fn minus(number: Result<Fraction, ErrorKind>) -> Value
+    ensures { result ≡ minus number }
+{
+    match number {
+        Ok(x) => Value::Number(x.neg()),
         Err(e) => Value::Fault(e),
     }
 }
 
-/// What an operator gives for two numbers.
-fn arithmetic(operator: Operator, x: Fraction, y: Fraction) -> Value
-    ensures { result ≡ arithmetic operator x y }
+/// Two values joined as texts.
+fn join(alloc: Global, left: &Value, right: &Value) -> Result<Value, AllocError>
+    ensures { IfOk result (λ v. v ≡ on_both joined (to_text left.now) (to_text right.now)) }
 {
-    match operator {
-        Operator::Add => fraction_value(x.checked_add(y)),
-        Operator::Subtract => fraction_value(x.checked_sub(y)),
-        Operator::Multiply => fraction_value(x.checked_mul(y)),
-        Operator::Divide => fraction_value(x.checked_div(y)),
+    match first_error(left, right) {
+        Some(e) => Ok(Value::Fault(e)),
+        None => join_shown(alloc, left, right),
+    }
+}
+
+/// The shown texts of two values, one after the other.
+fn join_shown(alloc: Global, left: &Value, right: &Value) -> Result<Value, AllocError>
+    ensures { IfOk result (λ v. v ≡ joined (shown_text left.now) (shown_text right.now)) }
+{
+    let mut text = String::new(alloc);
+    left.push_shown(&mut text)?;
+    right.push_shown(&mut text)?;
+    if text.len() <= MAX_TEXT {
+        Ok(Value::Text(Text::new(text)))
+    } else {
+        Ok(Value::Fault(ErrorKind::BadValue))
+    }
+}
+
+/// Whether two values compare so, unless one is an error.
+fn truth(left: &Value, right: &Value, holds: bool) -> Value
+    ensures { result ≡ unless_error (first_error left.now right.now) (Value.Logical holds) }
+{
+    match first_error(left, right) {
+        Some(e) => Value::Fault(e),
+        None => Value::Logical(holds),
     }
 }
 
@@ -42,5 +159,15 @@ fn fraction_value(outcome: Result<Fraction, FractionError>) -> Value
         Ok(x) => Value::Number(x),
         Err(FractionError::ZeroDenominator) => Value::Fault(ErrorKind::DivisionByZero),
         Err(FractionError::Overflow) => Value::Fault(ErrorKind::BadNumber),
+    }
+}
+
+/// The value, or else the error.
+fn value_or_error(outcome: Result<Value, ErrorKind>) -> Value
+    ensures { result ≡ value_or_error outcome }
+{
+    match outcome {
+        Ok(value) => value,
+        Err(e) => Value::Fault(e),
     }
 }

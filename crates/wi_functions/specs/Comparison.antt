@@ -1,0 +1,53 @@
+-- How values compare (OpenFormula, "Infix Operator Ordered Comparison").
+use Rattle.std.specs.Prelude.{ℕ, [], Bool, false, Option, Some, None}
+use Rattle.std.specs.Option.{option_or}
+use Rattle.std.specs.declared.cmp.Ordering.{Ordering}
+use Rattle.std.specs.Ordering.{nat_cmp, bool_cmp}
+use Rattle.std.specs.Cmp.Lexicographic.{slice_cmp}
+use Rattle.wi_fraction.specs.Order.{cross_cmp}
+use Rattle.wi_values.specs.declared.value.ErrorKind.{ErrorKind}
+use Rattle.wi_values.specs.declared.value.Value.{Value}
+use Rattle.wi_values.specs.declared.value.Value.TheVariants.{Empty, Number, Text, Logical, Fault}
+use Rattle.wi_functions.specs.Convert.{zero_number}
+
+-- what Empty counts as beside a value: 0, the empty text or FALSE, as the value is
+abbrev pub empty_beside : Value → Value
+empty_beside (Text t) = Text []
+empty_beside (Logical b) = Logical false
+empty_beside v = Number zero_number
+
+-- the second value, as it counts beside the first
+abbrev pub beside : Value → Value → Value
+beside v Empty = empty_beside v
+beside v w = w
+
+-- Numbers come first, then Texts, then Logicals
+abbrev pub rank : Value → ℕ
+rank (Text t) = 1
+rank (Logical b) = 2
+rank v = 0
+
+-- the order of two values: of one kind that of fractions, of bytes, or of FALSE and TRUE, and else that of the kinds
+abbrev pub order : Value → Value → Ordering
+order (Number x) (Number y) = cross_cmp x y
+order (Text s) (Text t) = slice_cmp nat_cmp s t
+order (Logical a) (Logical b) = bool_cmp a b
+order v w = nat_cmp (rank v) (rank w)
+
+-- the error, where the value is one
+abbrev pub error_in : Value → Option ErrorKind
+error_in (Fault e) = Some e
+error_in v = None
+
+-- the first error from the left
+abbrev pub first_error : Value → Value → Option ErrorKind
+first_error v w = option_or (error_in v) (error_in w)
+
+-- the error, or else the value
+abbrev pub unless_error : Option ErrorKind → Value → Value
+unless_error (Some e) v = Fault e
+unless_error None v = v
+
+-- whether the order of the two operands passes the test
+abbrev pub compared : (Ordering → Bool) → Value → Value → Value
+compared test v w = unless_error (first_error v w) (Logical (test (order (beside w v) (beside v w))))

@@ -1,0 +1,80 @@
+-- The operators on numbers and texts (OpenFormula, "Standard Operators").
+use Rattle.std.specs.Prelude.{ℕ, pos, ◌++◌, List, length, nat_le, ◌==◌, ◌&&◌, int_lt, Option, Some, None, Result, Ok, Err, if◌then◌else◌}
+use Rattle.std.specs.Ordering.{int_eq, is_eq, is_ne, is_lt, is_le, is_gt, is_ge}
+use Rattle.wi_fraction.specs.Number as numbers
+use Rattle.wi_fraction.specs.Arithmetic.{sum_of, product_of, quotient_of, negated}
+use Rattle.wi_fraction.specs.Power.{power_of}
+use Rattle.wi_values.specs.Import.{max_text}
+use Rattle.wi_values.specs.declared.value.ErrorKind.{ErrorKind}
+use Rattle.wi_values.specs.declared.value.ErrorKind.TheVariants.{DivisionByZero, BadNumber, BadValue}
+use Rattle.wi_values.specs.declared.value.Value.{Value}
+use Rattle.wi_values.specs.declared.value.Value.TheVariants.{Number, Text, Fault}
+use Rattle.wi_parser.specs.declared.expr.Operator.{Operator}
+use Rattle.wi_parser.specs.declared.expr.Operator.TheVariants as op
+use Rattle.wi_parser.specs.declared.expr.Sign.{Sign}
+use Rattle.wi_parser.specs.declared.expr.Sign.TheVariants.{Plus, Minus}
+use Rattle.wi_functions.specs.Convert.{to_number, to_text, hundred_number}
+use Rattle.wi_functions.specs.Comparison.{compared}
+
+-- a number, where it fits
+abbrev pub number_value : Option numbers.Number → Value
+number_value (Some x) = Number x
+number_value None = Fault BadNumber
+
+abbrev pub added : numbers.Number → numbers.Number → Value
+added x y = number_value (sum_of x y)
+
+abbrev pub subtracted : numbers.Number → numbers.Number → Value
+subtracted x y = number_value (sum_of x (negated y))
+
+abbrev pub multiplied : numbers.Number → numbers.Number → Value
+multiplied x y = number_value (product_of x y)
+
+abbrev pub divided : numbers.Number → numbers.Number → Value
+divided x y = if int_eq y.num (pos 0) then Fault DivisionByZero else number_value (quotient_of x y)
+
+-- the exponent is whole, and zero has no negative power
+abbrev pub raised : numbers.Number → numbers.Number → Value
+raised x y =
+    if y.den == 1 then
+    (if int_eq x.num (pos 0) && int_lt y.num (pos 0) then Fault DivisionByZero else number_value (power_of x y.num))
+    else Fault BadNumber
+
+-- one text after the other, where that is not too long
+abbrev pub joined : List ℕ → List ℕ → Value
+joined s t = if nat_le (length (s ++ t)) max_text then Text (s ++ t) else Fault BadValue
+
+-- what a function gives for both operands, or the first error from the left
+abbrev pub on_both : {A : Type 0} → (A → A → Value) → Result A ErrorKind → Result A ErrorKind → Value
+on_both f (Err e) y = Fault e
+on_both f (Ok x) (Err e) = Fault e
+on_both f (Ok x) (Ok y) = f x y
+
+-- what an operator gives for its two operands
+abbrev pub operate : Operator → Value → Value → Value
+operate op.Add v w = on_both added (to_number v) (to_number w)
+operate op.Subtract v w = on_both subtracted (to_number v) (to_number w)
+operate op.Multiply v w = on_both multiplied (to_number v) (to_number w)
+operate op.Divide v w = on_both divided (to_number v) (to_number w)
+operate op.Power v w = on_both raised (to_number v) (to_number w)
+operate op.Join v w = on_both joined (to_text v) (to_text w)
+operate op.Equal v w = compared is_eq v w
+operate op.NotEqual v w = compared is_ne v w
+operate op.Less v w = compared is_lt v w
+operate op.LessOrEqual v w = compared is_le v w
+operate op.Greater v w = compared is_gt v w
+operate op.GreaterOrEqual v w = compared is_ge v w
+
+-- the number with the other sign, or the error
+abbrev pub minus : Result numbers.Number ErrorKind → Value
+minus (Ok x) = Number (negated x)
+minus (Err e) = Fault e
+
+-- what a sign gives for its operand: a plus changes nothing, not even a text
+abbrev pub with_sign : Sign → Value → Value
+with_sign Plus v = v
+with_sign Minus v = minus (to_number v)
+
+-- the quotient by 100
+abbrev pub hundredth : Value → Value
+hundredth v = operate op.Divide v (Number hundred_number)
