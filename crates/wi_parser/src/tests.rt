@@ -415,12 +415,12 @@ fn signs_stand_to_a_limit(rt: HostRuntime) -> Result<(), Fail> {
 
 #[test]
 fn long_formulas_are_read_copied_and_dropped(rt: HostRuntime) -> Result<(), Fail> {
-    for (part, count, depth) in [("+1", 2_000, 2_000), ("%", 4_094, 4_094)] {
-        let text = repeated(rt.alloc(), "=1", part, count)?;
+    for part in ["+1", "%"] {
+        let text = repeated(rt.alloc(), "=1", part, 2_000)?;
         let formula = parse(rt.alloc(), text.as_str())?;
         let again = formula.copy(rt.alloc())?;
-        assert_eq!(rt; left_depth(formula.tree()), depth);
-        assert_eq!(rt; left_depth(again.tree()), depth);
+        assert_eq!(rt; left_depth(formula.tree()), 2_000);
+        assert_eq!(rt; left_depth(again.tree()), 2_000);
     }
     Ok(())
 }
