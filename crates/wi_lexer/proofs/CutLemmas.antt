@@ -2,12 +2,13 @@
 use Rattle.std.proofs.Common.{◌≡◌, ℕ, zero, suc, ◌+◌, ◌-◌, ◌<◌, ◌≤◌, true, List, [], ◌∷◌, ◌++◌, length, take, get_or, IsUtf8, sym, ap, ◌∙◌, subst, arith, length-append}
 use Rattle.std.specs.Str.{IsCharBoundary}
 use Rattle.std.specs.Char.{is_ascii_digit}
+use Rattle.std.specs.List.{flat_map}
 use Rattle.std.proofs.lemmas.Str.{IsCharBoundary-start, IsCharBoundary-after_ascii}
 use Rattle.std.proofs.lemmas.Bool.Decides.{nat_tests}
 use Rattle.std.proofs.lemmas.List.{get_or-append-add, get_or-take, length-take-le}
 use Rattle.std.proofs.lemmas.List.Sums.{AllPass-from_list_all, prefix_len_passes}
 use Rattle.wi_lexer.specs.declared.token.Kind.{Kind}
-use Rattle.wi_lexer.specs.declared.token.Kind.TheVariants.{Number, Reference, Rectangle, Name, Mark}
+use Rattle.wi_lexer.specs.declared.token.Kind.TheVariants.{Number, Reference, Rectangle, Name, Text, Mark}
 use Rattle.wi_lexer.specs.declared.token.Mark as mark
 use Rattle.wi_lexer.specs.declared.token.Mark.TheVariants.{NotEqual}
 use Rattle.wi_lexer.specs.Runs.{IsRun, is_blank, blanks_len}
@@ -16,6 +17,7 @@ use Rattle.wi_lexer.specs.Cell.{cell_text}
 use Rattle.wi_lexer.specs.Reference.{IsReference, one_cell}
 use Rattle.wi_lexer.specs.Rectangle.{IsRectangle, two_cells}
 use Rattle.wi_lexer.specs.Name.{IsName, is_name_part}
+use Rattle.wi_lexer.specs.Text.{IsText, of_content, doubled}
 use Rattle.wi_lexer.specs.Mark.{mark_text}
 use Rattle.wi_lexer.specs.Token.{IsToken, IsLongest}
 use Rattle.wi_lexer.proofs.RunLemmas.{run_within}
@@ -88,6 +90,9 @@ name_part_ascii b h = grind (arith, nat_tests)
 name_last : (text : List ℕ) → IsName text → last text < 128
 name_last text h = name_part_ascii (last text) (AllPass-from_list_all is_name_part text h.parts (length text - 1) 0 (omega (arith, name_some text h)))
 
+text_last : (text : List ℕ) → IsText text → last text < 128
+text_last text (of_content content) = omega (arith, last_append (34 ∷ flat_map doubled content) (34 ∷ []) (omega arith))
+
 mark_last : (m : mark.Mark) → last (mark_text m) < 128
 mark_last NotEqual = omega arith
 mark_last m = omega arith
@@ -98,6 +103,7 @@ token_last Number text t = number_last text t
 token_last Reference text t = reference_last text t
 token_last Rectangle text t = rectangle_last text t
 token_last Name text t = name_last text t
+token_last Text text t = text_last text t
 token_last (Mark m) text t = subst (λ x. last x < 128) (sym t) (mark_last m)
 
 pub token_cut : (bs : List ℕ) (k : Kind) (n : ℕ) → IsUtf8 bs → IsLongest k n bs → IsCharBoundary bs n

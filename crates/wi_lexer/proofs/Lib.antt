@@ -7,6 +7,7 @@ pub mod ReferenceLemmas
 pub mod RectangleLemmas
 pub mod MarkLemmas
 pub mod NameLemmas
+pub mod QuoteLemmas
 pub mod TokenLemmas
 pub mod CutLemmas
 pub mod ScanLemmas

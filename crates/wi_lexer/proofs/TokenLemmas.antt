@@ -6,7 +6,7 @@ use Rattle.std.proofs.lemmas.Bool.{ltb-true, lt-ltb}
 use Rattle.std.proofs.lemmas.List.{take-append-drop, length-take-le}
 use Rattle.std.proofs.Math.Seq.{take-append_seam}
 use Rattle.wi_lexer.specs.declared.token.Kind.{Kind}
-use Rattle.wi_lexer.specs.declared.token.Kind.TheVariants.{Number, Reference, Rectangle, Name, Mark}
+use Rattle.wi_lexer.specs.declared.token.Kind.TheVariants.{Number, Reference, Rectangle, Name, Text, Mark}
 use Rattle.wi_lexer.specs.declared.token.Mark as mark
 use Rattle.wi_lexer.specs.declared.token.Mark.TheVariants.{NotEqual, Less, LessOrEqual, Greater, GreaterOrEqual}
 use Rattle.wi_lexer.specs.Number.{IsNumber, decimals_len, decimal_len, number_len}
@@ -14,6 +14,7 @@ use Rattle.wi_lexer.specs.Reference.{IsReference, one_cell, reference_len}
 use Rattle.wi_lexer.specs.Rectangle.{IsRectangle, two_cells, rectangle_len}
 use Rattle.wi_lexer.specs.Cell.{Cell, IsCell, cell_text}
 use Rattle.wi_lexer.specs.Name.{IsName, is_name_start, name_len}
+use Rattle.wi_lexer.specs.Text.{IsText, of_content, quoted, text_len}
 use Rattle.wi_lexer.specs.Mark.{mark_text, two_byte_mark, one_byte_mark, mark_at}
 use Rattle.wi_lexer.specs.Token.{IsToken, IsLongest, NoToken, of_length, mark_token, token_at}
 use Rattle.wi_lexer.proofs.NumberLemmas.{number_some, number_more, number_within, number_sound}
@@ -22,6 +23,7 @@ use Rattle.wi_lexer.proofs.ReferenceLemmas.{reference_sound, reference_complete,
 use Rattle.wi_lexer.proofs.RectangleLemmas.{beside, rectangle_is, rectangle_sound, rectangle_complete, no_rectangle, no_reference_len}
 use Rattle.wi_lexer.proofs.MarkLemmas.{BeginsWith, mark_sound}
 use Rattle.wi_lexer.proofs.NameLemmas.{name_some, name_more, name_sound, no_number, no_mark, no_bracket}
+use Rattle.wi_lexer.proofs.QuoteLemmas.{inside_of, text_some, text_more, text_within, text_sound}
 
 -- What is found at a text that begins with a token of kind j: a token that is no shorter, and of that kind if it is as long.
 record IsCovered (j : Kind) (text bs : List ℕ) : Type 0 where
@@ -33,8 +35,11 @@ record IsCovered (j : Kind) (text bs : List ℕ) : Type 0 where
 
 -- ---- what each kind finds where the kinds before it find nothing
 
+abbrev from_name : List ℕ → Option (Kind × ℕ)
+from_name bs = option_or (of_length Name (name_len bs)) (of_length Text (text_len bs))
+
 abbrev from_rectangle : List ℕ → Option (Kind × ℕ)
-from_rectangle bs = option_or (of_length Rectangle (rectangle_len bs)) (of_length Name (name_len bs))
+from_rectangle bs = option_or (of_length Rectangle (rectangle_len bs)) (from_name bs)
 
 abbrev from_reference : List ℕ → Option (Kind × ℕ)
 from_reference bs = option_or (of_length Reference (reference_len bs)) (from_rectangle bs)
@@ -74,19 +79,28 @@ rectangle_found : (bs : List ℕ) → reference_len (91 ∷ bs) ≡ 0 → 0 < re
 rectangle_found bs none h =
     bracket_passed bs
     ∙ length_passed Reference (reference_len (91 ∷ bs)) (from_rectangle (91 ∷ bs)) none
-    ∙ length_found Rectangle (rectangle_len (91 ∷ bs)) (of_length Name (name_len (91 ∷ bs))) h
+    ∙ length_found Rectangle (rectangle_len (91 ∷ bs)) (from_name (91 ∷ bs)) h
 
 -- no reference begins with another byte than `[`
-brackets_passed : (bs : List ℕ) → (slice_index bs 0 ≡ 91 → ⊥) → from_reference bs ≡ of_length Name (name_len bs)
+brackets_passed : (bs : List ℕ) → (slice_index bs 0 ≡ 91 → ⊥) → from_reference bs ≡ from_name bs
 brackets_passed bs other =
     length_passed Reference (reference_len bs) (from_rectangle bs) (no_reference bs other)
-    ∙ length_passed Rectangle (rectangle_len bs) (of_length Name (name_len bs)) (no_rectangle bs other)
+    ∙ length_passed Rectangle (rectangle_len bs) (from_name bs) (no_rectangle bs other)
 
 name_found : (b : ℕ) (bs : List ℕ) → is_name_start b ≡ true → 0 < name_len (b ∷ bs) → token_at (b ∷ bs) ≡ Some (Name, name_len (b ∷ bs))
 name_found b bs h some =
     mark_passed (b ∷ bs) (no_number b bs h) (no_mark (b ∷ bs) h)
     ∙ brackets_passed (b ∷ bs) (no_bracket b h)
-    ∙ last_found Name (name_len (b ∷ bs)) some
+    ∙ length_found Name (name_len (b ∷ bs)) (of_length Text (text_len (b ∷ bs))) some
+
+-- a text that begins with a quote is no other token
+text_found : (bs : List ℕ) → 0 < text_len (34 ∷ bs) → token_at (34 ∷ bs) ≡ Some (Text, text_len (34 ∷ bs))
+unfolding number_len decimal_len decimals_len mark_at two_byte_mark one_byte_mark name_len
+text_found bs some =
+    mark_passed (34 ∷ bs) refl refl
+    ∙ brackets_passed (34 ∷ bs) (λ e. omega (arith, e))
+    ∙ length_passed Name (name_len (34 ∷ bs)) (of_length Text (text_len (34 ∷ bs))) refl
+    ∙ last_found Text (text_len (34 ∷ bs)) some
 
 -- ---- marks
 
@@ -150,6 +164,7 @@ token_some Number text t = number_some text t
 token_some Reference text t = reference_some text t
 token_some Rectangle text t = rectangle_some text t
 token_some Name text t = name_some text t
+token_some Text text t = text_some text t
 token_some (Mark m) text t = subst (λ x. 0 < length x) (sym t) (mark_some m)
 
 covered_number : (text : List ℕ) → IsNumber text → (rest : List ℕ) → IsCovered Number text (text ++ rest)
@@ -200,11 +215,23 @@ covered_name (b ∷ text) t rest =
       same = λ _. refl;
     }
 
+covered_text : (text : List ℕ) → IsText text → (rest : List ℕ) → IsCovered Text text (text ++ rest)
+covered_text text (of_content content) rest =
+    let longer = text_more (quoted content) (of_content content) rest in
+    record {
+      kind = Text;
+      len = text_len (quoted content ++ rest);
+      found = text_found (inside_of content ++ rest) (omega (arith, longer));
+      longer = longer;
+      same = λ _. refl;
+    }
+
 covered : (j : Kind) (text : List ℕ) → IsToken j text → (rest : List ℕ) → IsCovered j text (text ++ rest)
 covered Number text t rest = covered_number text t rest
 covered Reference text t rest = covered_reference text t rest
 covered Rectangle text t rest = covered_rectangle text t rest
 covered Name text t rest = covered_name text t rest
+covered Text text t rest = covered_text text t rest
 covered (Mark m) text t rest = subst (λ x. IsCovered (Mark m) x (x ++ rest)) (sym t) (covered_mark m rest)
 
 -- the token of kind j that is the first m bytes, at the front of them all
@@ -265,8 +292,9 @@ found_stands bs k n =
     stands_or Number k (number_len bs) n bs (from_mark bs) number
     (mark_or k n bs (from_reference bs)
     (stands_or Reference k (reference_len bs) n bs (from_rectangle bs) reference
-    (stands_or Rectangle k (rectangle_len bs) n bs (of_length Name (name_len bs)) rectangle
-    (last_stands Name k (name_len bs) n bs name))))
+    (stands_or Rectangle k (rectangle_len bs) n bs (from_name bs) rectangle
+    (stands_or Name k (name_len bs) n bs (of_length Text (text_len bs)) name
+    (last_stands Text k (text_len bs) n bs text)))))
   where
     number : 0 < number_len bs → Stands Number (number_len bs) bs
     number h = record { within = number_within bs; token = number_sound bs h }
@@ -279,6 +307,9 @@ found_stands bs k n =
 
     name : 0 < name_len bs → Stands Name (name_len bs) bs
     name h = let s = name_sound bs h in record { within = s.within; token = s.is }
+
+    text : 0 < text_len bs → Stands Text (text_len bs) bs
+    text h = record { within = text_within bs; token = text_sound bs h }
 
 -- ---- the laws
 

@@ -4,6 +4,7 @@ pub mod Cell
 pub mod Reference
 pub mod Rectangle
 pub mod Name
+pub mod Text
 pub mod Mark
 pub mod Token
 pub mod Inside

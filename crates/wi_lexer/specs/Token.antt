@@ -2,13 +2,14 @@
 use Rattle.std.specs.Prelude.{◌≡◌, ℕ, ◌≤◌, nat_lt, if◌then◌else◌, List, length, take, drop, Option, Some, None}
 use Rattle.std.specs.Option.{option_or}
 use Rattle.wi_lexer.specs.declared.token.Kind.{Kind}
-use Rattle.wi_lexer.specs.declared.token.Kind.TheVariants.{Number, Reference, Rectangle, Name, Mark}
+use Rattle.wi_lexer.specs.declared.token.Kind.TheVariants.{Number, Reference, Rectangle, Name, Text, Mark}
 use Rattle.wi_lexer.specs.declared.token.Mark as mark
 use Rattle.wi_lexer.specs.Runs.{blanks_len}
 use Rattle.wi_lexer.specs.Number.{IsNumber, number_len}
 use Rattle.wi_lexer.specs.Reference.{IsReference, reference_len}
 use Rattle.wi_lexer.specs.Rectangle.{IsRectangle, rectangle_len}
 use Rattle.wi_lexer.specs.Name.{IsName, name_len}
+use Rattle.wi_lexer.specs.Text.{IsText, text_len}
 use Rattle.wi_lexer.specs.Mark.{mark_text, mark_at}
 
 -- the text is a token of this kind
@@ -17,6 +18,7 @@ IsToken Number text = IsNumber text
 IsToken Reference text = IsReference text
 IsToken Rectangle text = IsRectangle text
 IsToken Name text = IsName text
+IsToken Text text = IsText text
 IsToken (Mark m) text = text ≡ mark_text m
 
 -- The first n bytes are a token of this kind, and no more of them are a token of any kind.
@@ -40,14 +42,15 @@ abbrev pub mark_token : Option mark.Mark → Option (Kind × ℕ)
 mark_token None = None
 mark_token (Some m) = Some (Mark m, length (mark_text m))
 
--- the longest token at the front and its length: a number, else a mark, else a reference, else a rectangle, else a name
+-- the longest token at the front and its length: a number, else a mark, else a reference, else a rectangle, else a name, else a text
 unfoldable pub token_at : List ℕ → Option (Kind × ℕ)
 token_at bs =
     option_or (of_length Number (number_len bs))
     (option_or (mark_token (mark_at bs))
     (option_or (of_length Reference (reference_len bs))
     (option_or (of_length Rectangle (rectangle_len bs))
-    (of_length Name (name_len bs)))))
+    (option_or (of_length Name (name_len bs))
+    (of_length Text (text_len bs))))))
 
 -- what follows the white space at the front
 abbrev pub after_blanks : List ℕ → List ℕ

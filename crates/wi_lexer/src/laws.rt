@@ -4,6 +4,7 @@ ghost use Rattle.std.specs.Prelude.{◌≡◌, ◌↔◌, ℕ, ◌≤◌, List, 
 ghost use Rattle.wi_lexer.specs.Cell.{Cell, IsCell, cell_text, cell_of};
 ghost use Rattle.wi_lexer.specs.Reference.{reference_text, reference_of};
 ghost use Rattle.wi_lexer.specs.Rectangle.{rectangle_text, rectangle_of};
+ghost use Rattle.wi_lexer.specs.Text.{quoted, text_content};
 ghost use Rattle.wi_lexer.specs.Token.{token_at, IsLongest, NoToken};
 ghost use Rattle.wi_lexer.specs.Tokens.{Tokens, AreTokens, tokens};
 ghost use Rattle.wi_lexer.specs.declared.token.Kind.{Kind};
@@ -56,4 +57,9 @@ pub fn rectangle_found()
 /// Each reference to a rectangle is found in its text.
 pub fn rectangle_spelled()
     ensures { (c d : Cell) → IsCell c → IsCell d → rectangle_of (rectangle_text c d) ≡ Some (c, d) }
+{}
+
+/// Each content is found in its text in double quotes.
+pub fn text_spelled()
+    ensures { (content : List ℕ) → text_content (quoted content) ≡ content }
 {}

@@ -7,8 +7,10 @@ mod lexer;
 mod scan;
 #[cfg(test)]
 mod tests;
+mod text;
 mod token;
 
 pub use cell::{CellText, cell_of, rectangle_of, reference_of};
 pub use lexer::{BadToken, Lexer, Token};
+pub use text::text_content;
 pub use token::{Kind, Mark};

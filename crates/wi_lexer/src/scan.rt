@@ -6,6 +6,7 @@ ghost use Rattle.wi_lexer.specs.Number as number;
 ghost use Rattle.wi_lexer.specs.Reference as reference;
 ghost use Rattle.wi_lexer.specs.Rectangle as rectangle;
 ghost use Rattle.wi_lexer.specs.Name as name;
+ghost use Rattle.wi_lexer.specs.Text as quotes;
 ghost use Rattle.wi_lexer.specs.Mark as mark;
 ghost use Rattle.wi_lexer.specs.Token as spec;
 
@@ -242,6 +243,25 @@ fn name_len(text: &[u8]) -> usize
     name_parts_len(text)
 }
 
+// Up to the last quote that may be the last of a text.
+fn text_len(text: &[u8]) -> usize
+    ensures { result ≡ quotes.text_len text.now }
+{
+    let mut inside = false;
+    let mut len = 0;
+    for (i, b) in text.iter().enumerate() {
+        if *b == b'"' {
+            inside = !inside;
+            if !inside {
+                len = i + 1;
+            }
+        } else if !inside {
+            return len;
+        }
+    }
+    len
+}
+
 /// The longest token at the front, and its length.
 #[tactic(auto, unfolding(crate::specs::Token::token_at))]
 pub fn token_at(text: &[u8]) -> Option<(Kind, usize)>
@@ -265,6 +285,10 @@ pub fn token_at(text: &[u8]) -> Option<(Kind, usize)>
     let name = name_len(text);
     if name > 0 {
         return Some((Kind::Name, name));
+    }
+    let text = text_len(text);
+    if text > 0 {
+        return Some((Kind::Text, text));
     }
     None
 }

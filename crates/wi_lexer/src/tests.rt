@@ -1,4 +1,5 @@
-use crate::{BadToken, Kind, Lexer, Mark, cell_of, rectangle_of, reference_of};
+use crate::{BadToken, Kind, Lexer, Mark, cell_of, rectangle_of, reference_of, text_content};
+use std::test::Fail;
 
 // Whether the tokens of the source have these texts, and end with a bad one or not.
 fn is_read_as(source: &str, texts: &[&str], is_bad: bool) -> bool {
@@ -48,6 +49,37 @@ fn splits_exponents(rt: HostRuntime) {
     assert!(rt; is_read_as("1e5e6", &["1e5", "e6"], false));
     assert!(rt; is_read_as("1e5.5", &["1e5", ".5"], false));
     assert!(rt; is_read_as("2E3F", &["2E3", "F"], false));
+}
+
+#[test]
+fn splits_texts(rt: HostRuntime) {
+    for whole in ["\"\"", "\"\"\"\"", "\"a\"\"b\"", "\" é;\u{a0}[.A1]\n\""] {
+        assert!(rt; is_read_as(whole, &[whole], false), "at {whole}");
+    }
+    assert!(rt; is_read_as("\"", &[], true));
+    assert!(rt; is_read_as("\"a", &[], true));
+    assert!(rt; is_read_as("\"\"\"", &["\"\""], true));
+    assert!(rt; is_read_as("\"a\"\"", &["\"a\""], true));
+    assert!(rt; is_read_as("\"a\"\"b", &["\"a\""], true));
+    assert!(rt; is_read_as("\"a\"b", &["\"a\"", "b"], false));
+    assert!(rt; is_read_as("\"a\" \"b\"", &["\"a\"", "\"b\""], false));
+    assert!(rt; is_read_as("x\"1\"&\"\"2", &["x", "\"1\"", "&", "\"\"", "2"], false));
+    assert!(rt; is_read_as("'a'", &[], true));
+}
+
+#[test]
+fn tells_contents(rt: HostRuntime) -> Result<(), Fail> {
+    for (text, content) in [
+        ("\"\"", ""),
+        ("\"\"\"\"", "\""),
+        ("\"a\"\"b\"", "a\"b"),
+        ("\"\"\"é\"\"\"\" \"", "\"é\"\" "),
+        ("a\"b\"", ""),
+    ] {
+        let told = text_content(rt.alloc(), text)?;
+        assert_eq!(rt; told.as_str(), content);
+    }
+    Ok(())
 }
 
 #[test]
@@ -130,13 +162,14 @@ fn refuses_other_brackets(rt: HostRuntime) {
 
 #[test]
 fn tells_kinds_and_places(rt: HostRuntime) {
-    let mut lexer = Lexer::new(" 12 +[.A1]Z.9[.A1:.B2]");
+    let mut lexer = Lexer::new(" 12 +[.A1]Z.9[.A1:.B2]\"\"");
     for (kind, start) in [
         (Kind::Number, 1),
         (Kind::Mark(Mark::Plus), 4),
         (Kind::Reference, 5),
         (Kind::Name, 10),
         (Kind::Rectangle, 13),
+        (Kind::Text, 22),
     ] {
         let token = lexer
             .next_token()

@@ -14,6 +14,8 @@ pub enum Kind {
     Rectangle,
     /// An ASCII letter or `_`, then ASCII letters, digits, `_` and points.
     Name,
+    /// Anything in double quotes, a quote inside doubled; `text_content` tells what it stands for.
+    Text,
     /// An operator, a parenthesis or a semicolon.
     Mark(Mark),
 }
