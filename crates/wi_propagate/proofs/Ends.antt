@@ -11,7 +11,7 @@ use Rattle.wi_parser.specs.declared.expr.Pair.{Pair}
 use Rattle.wi_parser.specs.declared.expr.Reference.{Reference}
 use Rattle.wi_parser.specs.declared.content.Content.{Content}
 use Rattle.wi_parser.specs.declared.content.Content.TheVariants.{Formula}
-use Rattle.wi_parser.specs.Tree.{Tree, number, cell, parenthesized, binary, what_if}
+use Rattle.wi_parser.specs.Tree.{Tree, number, cell, parenthesized, signed, percent, binary, what_if}
 use Rattle.wi_parser.specs.View.{pair_of}
 use Rattle.wi_parser.specs.Sheet.{Sheet, content_of, put_all, has_formula, cells_with_formula}
 use Rattle.wi_parser.specs.Reads.{reads, content_reads}
@@ -89,6 +89,8 @@ pub asked_end : (t : Tree) (n : ℕ) (s : Sheet) (w : Want) → ReadsEnd n s t �
 asked_end (number x) n s w e h = absurd h
 asked_end (cell r) n s w e h = cell_end n s r.at w h (e r.at (eq-eqb r.at r.at refl))
 asked_end (parenthesized t) n s w e h = asked_end t n s w e h
+asked_end (signed x t) n s w e h = asked_end t n s w e h
+asked_end (percent t) n s w e h = asked_end t n s w e h
 asked_end (binary op t u) n s w e (inl h) = asked_end t n s w (λ a r. e a (or_left (reads t a) (reads u a) r)) h
 asked_end (binary op t u) n s w e (inr h) = asked_end u n s w (λ a r. e a (or_right (reads t a) (reads u a) r)) h
 asked_end (what_if f ps) n s w e h = what_if_end n s f ps w h e

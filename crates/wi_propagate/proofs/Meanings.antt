@@ -5,9 +5,9 @@ use Rattle.std.specs.List.{list_any}
 use Rattle.wi_values.specs.declared.value.Value.{Value}
 use Rattle.wi_values.specs.declared.replacement.Replacement.{Replacement}
 use Rattle.wi_parser.specs.declared.expr.Reference.{Reference}
-use Rattle.wi_parser.specs.Tree.{Tree, number, cell, parenthesized, binary, what_if}
+use Rattle.wi_parser.specs.Tree.{Tree, number, cell, parenthesized, signed, percent, binary, what_if}
 use Rattle.wi_parser.specs.Reads.{reads}
-use Rattle.wi_functions.specs.Convert.{operate}
+use Rattle.wi_functions.specs.Operators.{operate, with_sign, hundredth}
 use Rattle.wi_functions.specs.Meaning.{meaning, addresses}
 use Rattle.wi_propagate.specs.CellValue.{replacements}
 
@@ -25,6 +25,8 @@ pub meaning_same : (t : Tree) (g h : ℕ → Value) (w v : ℕ → List (ℕ × 
 meaning_same (number n) g h w v k l = refl
 meaning_same (cell r) g h w v k l = k r.at (eq-eqb r.at r.at refl)
 meaning_same (parenthesized t) g h w v k l = meaning_same t g h w v k l
+meaning_same (signed s t) g h w v k l = ap (with_sign s) (meaning_same t g h w v k l)
+meaning_same (percent t) g h w v k l = ap hundredth (meaning_same t g h w v k l)
 meaning_same (binary op t u) g h w v k l =
     ap (λ (x : Value). operate op x (meaning u g w))
     (meaning_same t g h w v (λ a r. k a (or_left (reads t a) (reads u a) r)) (λ f ps i. l f ps (or_left (reads t f) (reads u f) i.0, λ a r. or_left (reads t a) (reads u a) (i.1 a r))))

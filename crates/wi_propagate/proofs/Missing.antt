@@ -3,7 +3,7 @@ use Rattle.std.proofs.Common.{◌≡◌, ◌==◌, ℕ, ◌+◌, ◌<◌, ◌≤
 use Rattle.std.proofs.lemmas.Bool.{and_from}
 use Rattle.wi_values.specs.declared.value.Value.{Value}
 use Rattle.wi_parser.specs.declared.expr.Reference.{Reference}
-use Rattle.wi_parser.specs.Tree.{Tree, number, cell, parenthesized, binary, what_if}
+use Rattle.wi_parser.specs.Tree.{Tree, number, cell, parenthesized, signed, percent, binary, what_if}
 use Rattle.wi_functions.specs.Meaning.{addresses}
 use Rattle.wi_functions.specs.Wants.{Asks}
 use Rattle.wi_functions.specs.declared.evaluation.Want.TheVariants.{Cell, WhatIf}
@@ -28,6 +28,8 @@ no_more : (t : Tree) (k m : Cells) (w v : WhatIfs) → KeepsCells k m → KeepsW
 no_more (number x) k m w v h i = omega arith
 no_more (cell r) k m w v h i = h r.at
 no_more (parenthesized t) k m w v h i = no_more t k m w v h i
+no_more (signed s t) k m w v h i = no_more t k m w v h i
+no_more (percent t) k m w v h i = no_more t k m w v h i
 no_more (binary op t u) k m w v h i =
     let left = no_more t k m w v h i in
     let right = no_more u k m w v h i in
@@ -43,6 +45,8 @@ fewer_cell : (t : Tree) (a : ℕ) (k m : Cells) (w v : WhatIfs) → KeepsCells k
 fewer_cell (number x) a k m w v h i q e z = absurd q
 fewer_cell (cell r) a k m w v h i q e z = falls (k r.at) (m r.at) (ap k (sym q) ∙ e) (ap (λ (b : ℕ). one_missing (m b)) (sym q) ∙ z)
 fewer_cell (parenthesized t) a k m w v h i q e z = fewer_cell t a k m w v h i q e z
+fewer_cell (signed s t) a k m w v h i q e z = fewer_cell t a k m w v h i q e z
+fewer_cell (percent t) a k m w v h i q e z = fewer_cell t a k m w v h i q e z
 fewer_cell (binary op t u) a k m w v h i (inl q) e z =
     let left = fewer_cell t a k m w v h i q e z in
     let right = no_more u k m w v h i in
@@ -58,6 +62,8 @@ fewer_what_if : (t : Tree) (g : FoundWhatIf) (k m : Cells) (w v : WhatIfs) → K
 fewer_what_if (number x) g k m w v h i q e z = absurd q
 fewer_what_if (cell r) g k m w v h i q e z = absurd q
 fewer_what_if (parenthesized t) g k m w v h i q e z = fewer_what_if t g k m w v h i q e z
+fewer_what_if (signed s t) g k m w v h i q e z = fewer_what_if t g k m w v h i q e z
+fewer_what_if (percent t) g k m w v h i q e z = fewer_what_if t g k m w v h i q e z
 fewer_what_if (binary op t u) g k m w v h i (inl q) e z =
     let left = fewer_what_if t g k m w v h i q e z in
     let right = no_more u k m w v h i in

@@ -5,7 +5,7 @@ use Rattle.std.proofs.lemmas.List.Folds.{list_any-append}
 use Rattle.std.specs.List.{list_any}
 use Rattle.wi_parser.specs.declared.expr.Reference.{Reference}
 use Rattle.wi_parser.specs.declared.content.Content.TheVariants.{Formula}
-use Rattle.wi_parser.specs.Tree.{Tree, number, cell, parenthesized, binary, what_if}
+use Rattle.wi_parser.specs.Tree.{Tree, number, cell, parenthesized, signed, percent, binary, what_if}
 use Rattle.wi_parser.specs.Sheet.{Sheet, content_of}
 use Rattle.wi_parser.specs.Reads.{reads, content_reads}
 use Rattle.wi_propagate.specs.Circular.{circular}
@@ -27,6 +27,8 @@ pub read_cells_all : (t : Tree) (a : ℕ) → is_one_of (read_cells t) a ≡ rea
 read_cells_all (number x) a = refl
 read_cells_all (cell r) a = or_false (r.at == a)
 read_cells_all (parenthesized t) a = read_cells_all t a
+read_cells_all (signed s t) a = read_cells_all t a
+read_cells_all (percent t) a = read_cells_all t a
 read_cells_all (binary op t u) a =
     list_any-append (λ (x : ℕ). x == a) (read_cells t) (read_cells u)
     ∙ ap (λ (b : Bool). b || is_one_of (read_cells u) a) (read_cells_all t a) ∙ ap (λ (b : Bool). reads t a || b) (read_cells_all u a)

@@ -1,7 +1,7 @@
 -- The values that were found for one formula.
 use Rattle.std.specs.Prelude.{◌≡◌, ◌==◌, ℕ, ◌+◌, Bool, true, false, ◌&&◌, List, [], ◌∷◌, map, Option, Some, None, is_some, if◌then◌else◌}
 use Rattle.wi_values.specs.declared.value.Value.{Value}
-use Rattle.wi_parser.specs.Tree.{Tree, number, cell, parenthesized, binary, what_if}
+use Rattle.wi_parser.specs.Tree.{Tree, number, cell, parenthesized, signed, percent, binary, what_if}
 use Rattle.wi_parser.specs.View.{pair_of}
 use Rattle.wi_functions.specs.Meaning.{addresses}
 use Rattle.wi_propagate.specs.declared.found.Found.{Found}
@@ -49,6 +49,8 @@ abbrev pub missing : Tree → (ℕ → Option Value) → (ℕ → List (ℕ × �
 missing (number x) cells what_ifs = 0
 missing (cell r) cells what_ifs = one_missing (cells r.at)
 missing (parenthesized t) cells what_ifs = missing t cells what_ifs
+missing (signed s t) cells what_ifs = missing t cells what_ifs
+missing (percent t) cells what_ifs = missing t cells what_ifs
 missing (binary op t u) cells what_ifs = missing t cells what_ifs + missing u cells what_ifs
 missing (what_if f pairs) cells what_ifs = one_missing (what_ifs f.at (map addresses pairs))
 

@@ -85,6 +85,8 @@ fn push_reads(expr: &Expr, cells: &mut Vec<Address>) -> Result<(), AllocError>
             Ok(())
         }
         Expr::Parenthesized(inner) => push_reads(inner, cells),
+        Expr::Signed(_, operand) => push_reads(operand, cells),
+        Expr::Percent(operand) => push_reads(operand, cells),
         Expr::Binary(_, left, right) => {
             push_reads(left, cells)?;
             push_reads(right, cells)
