@@ -12,7 +12,7 @@ use Rattle.wi_values.specs.declared.value.Value.TheVariants.{Empty, Number, Text
 use Rattle.wi_parser.specs.declared.expr.Operator.TheVariants.{Add, Subtract, Multiply, Divide, Power, Join, Equal, NotEqual, Less, LessOrEqual, Greater, GreaterOrEqual}
 use Rattle.wi_parser.specs.declared.expr.Sign.TheVariants.{Plus, Minus}
 use Rattle.wi_parser.specs.declared.expr.Reference.{Reference}
-use Rattle.wi_parser.specs.Tree.{Tree, number, cell, parenthesized, signed, percent, binary, what_if}
+use Rattle.wi_parser.specs.Tree.{Tree, number, cell, rectangle, parenthesized, signed, percent, binary, what_if}
 use Rattle.wi_functions.specs.Convert.{zero_number}
 use Rattle.wi_functions.specs.Operators.{number_value}
 use Rattle.wi_functions.specs.Meaning.{meaning, zero_for_empty}
@@ -140,6 +140,20 @@ error_over_zero = refl
 
 greatest_over_zero : value (binary Divide (number greatest) (cell (at 9))) ≡ Fault DivisionByZero
 greatest_over_zero = refl
+
+-- ---- rectangles
+
+one_cell : value (rectangle (record { one = at 3; other = at 3 })) ≡ Number two
+one_cell = refl
+
+-- a rectangle of one cell keeps Empty
+one_empty_cell : value (rectangle (record { one = at 9; other = at 9 })) ≡ Empty
+one_empty_cell = refl
+
+two_cells : value (rectangle (record { one = at 3; other = at 2 })) ≡ Fault BadValue
+two_cells = refl
+
+-- ---- parentheses and references
 
 in_parentheses : (t : Tree) → value (parenthesized t) ≡ value t
 in_parentheses t = refl

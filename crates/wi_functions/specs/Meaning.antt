@@ -1,10 +1,12 @@
 -- What a formula's tree means, given a value for each cell and for each what-if (OpenFormula, "Standard Operators" and
 -- "MULTIPLE.OPERATIONS").
-use Rattle.std.specs.Prelude.{ℕ, List, map}
+use Rattle.std.specs.Prelude.{◌==◌, ℕ, Bool, if◌then◌else◌, List, map}
 use Rattle.wi_values.specs.declared.value.Value.{Value}
-use Rattle.wi_values.specs.declared.value.Value.TheVariants.{Empty, Number}
+use Rattle.wi_values.specs.declared.value.Value.TheVariants.{Empty, Number, Fault}
+use Rattle.wi_values.specs.declared.value.ErrorKind.TheVariants.{BadValue}
+use Rattle.wi_parser.specs.declared.expr.Corners.{Corners}
 use Rattle.wi_parser.specs.declared.expr.Reference.{Reference}
-use Rattle.wi_parser.specs.Tree.{Tree, number, cell, parenthesized, signed, percent, binary, what_if}
+use Rattle.wi_parser.specs.Tree.{Tree, number, cell, rectangle, parenthesized, signed, percent, binary, what_if}
 use Rattle.wi_functions.specs.Convert.{zero_number}
 use Rattle.wi_functions.specs.Operators.{operate, with_sign, hundredth}
 
@@ -12,11 +14,16 @@ use Rattle.wi_functions.specs.Operators.{operate, with_sign, hundredth}
 abbrev pub addresses : Reference × Reference → ℕ × ℕ
 addresses p = (p.0.at, p.1.at)
 
+-- both corners are one cell
+abbrev pub is_one_cell : Corners → Bool
+is_one_cell c = c.one.at == c.other.at
+
 -- The value of a tree, where `cells` gives the value of each cell, and `what_ifs` that of each what-if, told by its
 -- formula cell and its pairs.
 abbrev pub meaning : Tree → (ℕ → Value) → (ℕ → List (ℕ × ℕ) → Value) → Value
 meaning (number x) cells what_ifs = Number x
 meaning (cell r) cells what_ifs = cells r.at
+meaning (rectangle c) cells what_ifs = if is_one_cell c then cells c.one.at else Fault BadValue
 meaning (parenthesized t) cells what_ifs = meaning t cells what_ifs
 meaning (signed s t) cells what_ifs = with_sign s (meaning t cells what_ifs)
 meaning (percent t) cells what_ifs = hundredth (meaning t cells what_ifs)

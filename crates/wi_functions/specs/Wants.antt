@@ -1,10 +1,10 @@
 -- What an evaluation may ask for, and how its end is counted.
-use Rattle.std.specs.Prelude.{◌≡◌, ◌⊎◌, ℕ, List, map, Option, None}
+use Rattle.std.specs.Prelude.{◌≡◌, ◌⊎◌, ℕ, true, List, map, Option, None}
 use Rattle.wi_values.specs.declared.value.Value.{Value}
 use Rattle.wi_parser.specs.declared.expr.Reference.{Reference}
-use Rattle.wi_parser.specs.Tree.{Tree, number, cell, parenthesized, signed, percent, binary, what_if}
+use Rattle.wi_parser.specs.Tree.{Tree, number, cell, rectangle, parenthesized, signed, percent, binary, what_if}
 use Rattle.wi_parser.specs.View.{pair_of}
-use Rattle.wi_functions.specs.Meaning.{addresses}
+use Rattle.wi_functions.specs.Meaning.{addresses, is_one_cell}
 use Rattle.wi_functions.specs.Counts.{Counts, one_more}
 use Rattle.wi_functions.specs.declared.evaluation.Want.{Want}
 use Rattle.wi_functions.specs.declared.evaluation.Want.TheVariants.{Cell, WhatIf}
@@ -22,10 +22,11 @@ abbrev pub WantsWhatIf : Want → ℕ → List (Reference × Reference) → Type
 WantsWhatIf (Cell a) g qs = ⊥
 WantsWhatIf (WhatIf f pairs) g qs = (f ≡ g) × (map pair_of pairs.items ≡ qs)
 
--- the want is a cell or a what-if of the tree
+-- The want is a cell or a what-if of the tree. Of a rectangle it is one only where that has no other cell.
 abbrev pub Asks : Tree → Want → Type 0
 Asks (number x) w = ⊥
 Asks (cell r) w = WantsCell w r.at
+Asks (rectangle c) w = (is_one_cell c ≡ true) × WantsCell w c.one.at
 Asks (parenthesized t) w = Asks t w
 Asks (signed s t) w = Asks t w
 Asks (percent t) w = Asks t w

@@ -2,7 +2,7 @@
 
 ghost use Rattle.std.specs.Prelude.{◌≡◌, map, IfOk, IfErr, OnErr};
 ghost use Rattle.wi_parser.specs.View.{tree_of, pair_of};
-ghost use Rattle.wi_parser.specs.Tree.{cell, what_if as what_if_tree};
+ghost use Rattle.wi_parser.specs.Tree.{cell, rectangle, what_if as what_if_tree};
 ghost use Rattle.wi_functions.specs.Meaning as formulas;
 ghost use Rattle.wi_functions.specs.Assignment.{Assignment, AgreesWith};
 ghost use Rattle.wi_functions.specs.Wants.{Asks, IsUnknown, IfNeeds, IfDone, IfWanting, counted};
@@ -12,8 +12,8 @@ use crate::lookup::{Answer, Lookup};
 use crate::meter::Meter;
 use crate::operators::{hundredth, operate, with_sign};
 use std::alloc::{AllocError, Global};
-use wi_parser::{Expr, Formula, Pair, Reference};
-use wi_values::{Address, Value};
+use wi_parser::{Corners, Expr, Formula, Pair, Reference};
+use wi_values::{Address, ErrorKind, Value};
 
 /// What an evaluation can't go on without.
 #[derive(Debug, Drop)]
@@ -86,6 +86,7 @@ fn value_of<L: Lookup>(alloc: Global, expr: &Expr, lookup: &L) -> Result<Value, 
     match expr {
         Expr::Number(x) => Ok(Value::Number(*x)),
         Expr::Cell(reference) => cell_value(alloc, *reference, lookup),
+        Expr::Rectangle(corners) => rectangle_value(alloc, *corners, lookup),
         Expr::Parenthesized(inner) => value_of(alloc, inner, lookup),
         Expr::Signed(sign, inner) => {
             let x = value_of(alloc, inner, lookup)?;
@@ -114,6 +115,18 @@ fn cell_value<L: Lookup>(alloc: Global, reference: Reference, lookup: &L) -> Res
         Answer::Known(value) => Ok(value.copy(alloc)?),
         Answer::Missing => Err(Stop::Needs(Want::Cell(reference.at))),
     }
+}
+
+/// The value of a rectangle of one cell. A larger one has none, and none of its cells is asked for.
+fn rectangle_value<L: Lookup>(alloc: Global, corners: Corners, lookup: &L) -> Result<Value, Stop>
+    ensures done { IfOk result (λ v. (a : Assignment) → AgreesWith (L.known_cell lookup.now) (L.known_what_if lookup.now) a → v ≡ formulas.meaning (rectangle corners) a.cells a.what_ifs) }
+    ensures asked { IfErr result (λ s. IfNeeds s (Asks (rectangle corners))) }
+    ensures unknown { IfErr result (λ s. IfNeeds s (IsUnknown (L.known_cell lookup.now) (L.known_what_if lookup.now))) }
+{
+    if corners.one.at == corners.other.at {
+        return cell_value(alloc, corners.one, lookup);
+    }
+    Ok(Value::Fault(ErrorKind::BadValue))
 }
 
 /// A what-if's value.

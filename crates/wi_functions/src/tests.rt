@@ -113,6 +113,33 @@ fn a_difference(rt: HostRuntime) -> Result<(), Fail> {
 }
 
 #[test]
+fn a_rectangle_of_one_cell(rt: HostRuntime) -> Result<(), Fail> {
+    let known = b1(Value::Number(Fraction::new(10, 1)?));
+    let outcome = evaluated(
+        rt.alloc(),
+        "=([.$B1:.B$1])/4-0.5",
+        &known,
+        &mut Meter::new(),
+    )?;
+    assert_eq!(rt; number_of(outcome).ok_or("not done")?, Fraction::new(2, 1)?);
+    let outcome = evaluated(rt.alloc(), "=[.C2:.C2]", &known, &mut Meter::new())?;
+    let (at, count) = place_of(want_of(outcome).ok_or("done")?);
+    assert!(rt; at == Address::at(1, 2) && count == 0);
+    Ok(())
+}
+
+// None of their cells is asked for.
+#[test]
+fn larger_rectangles(rt: HostRuntime) -> Result<(), Fail> {
+    let known = b1(Value::Empty);
+    for text in ["=[.B1:.C1]", "=[.B2:.B1]+[.C1]", "=([.XFD1048576:.A1])"] {
+        let outcome = evaluated(rt.alloc(), text, &known, &mut Meter::new())?;
+        assert_eq!(rt; fault_of(outcome).ok_or("not done")?, ErrorKind::BadValue);
+    }
+    Ok(())
+}
+
+#[test]
 fn a_missing_cell(rt: HostRuntime) -> Result<(), Fail> {
     let known = b1(Value::Empty);
     let mut meter = Meter::new();
