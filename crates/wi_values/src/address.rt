@@ -1,11 +1,11 @@
 //! A cell's address.
 
-ghost use Rattle.std.specs.Prelude.{◌≡◌, ◌+◌, ◌<◌, ◌≤◌, ◌↔◌, ◌++◌, ℕ, IsSome, IfSome, OnOk, OnErr, min, length, string_bytes, string_len, string_capacity};
+ghost use Rattle.std.specs.Prelude.{◌≡◌, ◌+◌, ◌<◌, ◌≤◌, ◌↔◌, ◌++◌, ℕ, IsSome, IfSome, OnOk, OnErr, min, length, decimal, string_bytes, string_len, string_capacity};
 ghost use Rattle.std.specs.Char.{is_ascii_alphabetic};
 ghost use Rattle.std.specs.List.{prefix_len};
 ghost use Rattle.std.specs.Str.{all_ascii_digits};
 ghost use Rattle.std.specs.Str.Parse.{digits_value};
-ghost use Rattle.wi_values.specs.Address.{columns, rows, place, row_of, column_of, letters_value, letters_within, address_text, is_row_number};
+ghost use Rattle.wi_values.specs.Address.{columns, rows, place, row_of, column_of, letters_value, letters_within, column_letters, address_text, is_row_number};
 ghost use Rattle.wi_values.specs.AddressReading.{cell_at, address_at, read_address};
 
 use itoa::Buffer;
@@ -124,6 +124,25 @@ impl Address {
         text.reserve(3 + row.len())?;
         push_letters(3, self.column() + 1, text);
         text.push_str(row)
+    }
+
+    /// Appends the letters of the column, as `B`. On an error the text is as before.
+    pub fn push_column(self, text: &mut String) -> Result<(), AllocError>
+        ensures ok { OnOk result (string_bytes text.new ≡ string_bytes text.old ++ column_letters (column_of self)) }
+        ensures err { OnErr result (string_bytes text.new ≡ string_bytes text.old) }
+    {
+        text.reserve(3)?;
+        push_letters(3, self.column() + 1, text);
+        Ok(())
+    }
+
+    /// Appends the number of the row, counted from 1. On an error the text is as before.
+    pub fn push_row(self, text: &mut String) -> Result<(), AllocError>
+        ensures ok { OnOk result (string_bytes text.new ≡ string_bytes text.old ++ decimal (row_of self + 1)) }
+        ensures err { OnErr result (string_bytes text.new ≡ string_bytes text.old) }
+    {
+        let mut buffer = Buffer::new();
+        text.push_str(buffer.format(self.row() + 1))
     }
 }
 
