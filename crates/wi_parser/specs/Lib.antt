@@ -8,6 +8,8 @@ pub mod Grammar
 pub mod Reader
 pub mod Spelling
 pub mod Inside
+pub mod Printing
+pub mod PrintedParts
 pub mod Nesting
 pub mod Words
 pub mod Outcome

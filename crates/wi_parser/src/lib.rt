@@ -10,6 +10,9 @@ mod grammar;
 pub mod laws;
 mod limits;
 mod parser;
+mod print;
+#[cfg(test)]
+mod print_tests;
 #[cfg(test)]
 mod tests;
 mod tokens;

@@ -1,0 +1,11 @@
+-- The texts of parts of a formula.
+use Rattle.std.specs.Prelude.{ℕ, List, map}
+use Rattle.std.specs.List.{flat_map}
+use Rattle.wi_parser.specs.declared.expr.Pair.{Pair}
+use Rattle.wi_parser.specs.Grammar.{pair_symbols}
+use Rattle.wi_parser.specs.Printing.{symbols_text}
+use Rattle.wi_parser.specs.View.{pair_of}
+
+-- inputs with their replacement cells, each after a separator
+abbrev pub pairs_text : List Pair → List ℕ
+pairs_text pairs = symbols_text (flat_map pair_symbols (map pair_of pairs))

@@ -1,0 +1,70 @@
+-- The text of a formula.
+use Rattle.std.specs.Prelude.{ℕ, ◌+◌, List, [], ◌++◌, codes}
+use Rattle.std.specs.Fmt.{decimal}
+use Rattle.std.specs.List.{flat_map}
+use Rattle.wi_fraction.specs.Number.{Number}
+use Rattle.wi_fraction.specs.Text.{text_of}
+use Rattle.wi_values.specs.Address.{row_of, column_of, column_letters}
+use Rattle.wi_lexer.specs.Cell.{Cell}
+use Rattle.wi_lexer.specs.Reference.{reference_text}
+use Rattle.wi_lexer.specs.Mark.{mark_text}
+use Rattle.wi_lexer.specs.declared.token.Mark.{Mark}
+use Rattle.wi_lexer.specs.declared.token.Mark.TheVariants as mark
+use Rattle.wi_parser.specs.declared.expr.Operator.{Operator}
+use Rattle.wi_parser.specs.declared.expr.Operator.TheVariants.{Add, Subtract, Multiply, Divide, Power, Join, Equal, NotEqual, Less, LessOrEqual, Greater, GreaterOrEqual}
+use Rattle.wi_parser.specs.declared.expr.Reference.{Reference}
+use Rattle.wi_parser.specs.Tree.{Tree}
+use Rattle.wi_parser.specs.Symbol.{Symbol, numeral, reference, open_parenthesis, close_parenthesis, separator, infix_mark, percent_mark, what_if_name, refused}
+use Rattle.wi_parser.specs.Spelling.{spelling}
+
+-- the text of a number
+abbrev pub numeral_text : Number → List ℕ
+numeral_text x = text_of x
+
+-- the cell of a reference: its column in capitals, `$` as written
+abbrev pub cell_named : Reference → Cell
+cell_named r = record {
+  column_is_absolute = r.column_is_absolute;
+  letters = column_letters (column_of r.at);
+  row_is_absolute = r.row_is_absolute;
+  digits = decimal (row_of r.at + 1);
+}
+
+-- the mark that an operator is written as
+abbrev pub mark_of : Operator → Mark
+mark_of Add = mark.Plus
+mark_of Subtract = mark.Minus
+mark_of Multiply = mark.Asterisk
+mark_of Divide = mark.Slash
+mark_of Power = mark.Caret
+mark_of Join = mark.Ampersand
+mark_of Equal = mark.Equal
+mark_of NotEqual = mark.NotEqual
+mark_of Less = mark.Less
+mark_of LessOrEqual = mark.LessOrEqual
+mark_of Greater = mark.Greater
+mark_of GreaterOrEqual = mark.GreaterOrEqual
+
+-- the text of a symbol; a refused one, which no tree has, has none
+abbrev pub symbol_text : Symbol → List ℕ
+symbol_text (numeral x) = numeral_text x
+symbol_text (reference r) = reference_text (cell_named r)
+symbol_text open_parenthesis = codes "("
+symbol_text close_parenthesis = codes ")"
+symbol_text separator = codes ";"
+symbol_text (infix_mark op) = mark_text (mark_of op)
+symbol_text percent_mark = codes "%"
+symbol_text what_if_name = codes "MULTIPLE.OPERATIONS"
+symbol_text (refused e) = []
+
+-- the texts of symbols, one after another
+abbrev pub symbols_text : List Symbol → List ℕ
+symbols_text = flat_map symbol_text
+
+-- the texts of the symbols that spell a tree
+abbrev pub tree_text : Tree → List ℕ
+tree_text t = symbols_text (spelling t)
+
+-- a formula as it is printed
+abbrev pub printed : Tree → List ℕ
+printed t = codes "=" ++ tree_text t

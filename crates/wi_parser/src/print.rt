@@ -1,0 +1,177 @@
+//! The text of a formula.
+
+ghost use Rattle.std.specs.Prelude.{◌≡◌, ◌++◌, map, OnOk, OnErr, string_bytes, codes};
+ghost use Rattle.std.specs.Io.{StartsWith};
+ghost use Rattle.wi_lexer.specs.Cell.{dollar, cell_text};
+ghost use Rattle.wi_lexer.specs.Mark.{mark_text};
+ghost use Rattle.wi_lexer.specs.Reference.{reference_text};
+ghost use Rattle.wi_parser.specs.Grammar.{pair_symbols};
+ghost use Rattle.wi_parser.specs.Printing as spec;
+ghost use Rattle.wi_parser.specs.Printing.{cell_named, numeral_text, symbols_text, tree_text, printed};
+ghost use Rattle.wi_parser.specs.Symbol.{written_as};
+ghost use Rattle.wi_parser.specs.Tree.{what_if};
+ghost use Rattle.wi_parser.specs.View.{tree_of, pair_of};
+ghost use Rattle.wi_parser.specs.PrintedParts.{pairs_text};
+
+use crate::expr::{Expr, Operator, Pair, Reference, Sign};
+use crate::formula::Formula;
+use std::alloc::AllocError;
+use wi_fraction::Fraction;
+
+impl Formula {
+    /// Appends the formula's text: `=` and its tokens without white space, names and columns in capitals, parentheses
+    /// and `$` as written, numbers as decimals. It can be longer than a formula's text may be. On an error the text is
+    /// as before.
+    pub fn print(&self, out: &mut String) -> Result<(), AllocError>
+        ensures ok { OnOk result (string_bytes out.new ≡ string_bytes out.old ++ printed self.now) }
+        ensures err { OnErr result (string_bytes out.new ≡ string_bytes out.old) }
+    {
+        let before = out.as_str().len();
+        let pushed = push_formula(self.tree(), out);
+        if pushed.is_err() {
+            out.truncate(before);
+        }
+        pushed
+    }
+}
+
+// Appends the text of a formula with this tree. On an error a part of it may be there.
+#[tactic(auto, using(crate::proofs::PrintLemmas::starts_trans))]
+fn push_formula(expr: &Expr, out: &mut String) -> Result<(), AllocError>
+    ensures ok { OnOk result (string_bytes out.new ≡ string_bytes out.old ++ printed (tree_of expr.now)) }
+    ensures kept { StartsWith (string_bytes out.new) (string_bytes out.old) }
+{
+    out.push_str("=")?;
+    push_tree(expr, out)
+}
+
+// Appends the text of a tree. On an error a part of it may be there.
+#[tactic(auto, using(crate::proofs::PrintLemmas::starts_trans, crate::proofs::PrintLemmas::starts_more, crate::proofs::PrintLemmas::starts_itself, crate::proofs::PrintLemmas::symbols_more))]
+fn push_tree(expr: &Expr, out: &mut String) -> Result<(), AllocError>
+    ensures ok { OnOk result (string_bytes out.new ≡ string_bytes out.old ++ tree_text (tree_of expr.now)) }
+    ensures kept { StartsWith (string_bytes out.new) (string_bytes out.old) }
+{
+    match expr {
+        Expr::Number(x) => push_number(*x, out),
+        Expr::Cell(at) => push_reference(*at, out),
+        Expr::Parenthesized(inner) => {
+            out.push_str("(")?;
+            push_tree(inner, out)?;
+            out.push_str(")")
+        }
+        Expr::Signed(sign, operand) => {
+            out.push_str(sign_text(*sign))?;
+            push_tree(operand, out)
+        }
+        Expr::Percent(operand) => {
+            push_tree(operand, out)?;
+            out.push_str("%")
+        }
+        Expr::Binary(op, left, right) => {
+            push_tree(left, out)?;
+            out.push_str(operator_text(*op))?;
+            push_tree(right, out)
+        }
+        Expr::WhatIf(formula_cell, pairs) => push_what_if(*formula_cell, pairs, out),
+    }
+}
+
+// Appends a number. On an error the text is as before.
+fn push_number(x: Fraction, out: &mut String) -> Result<(), AllocError>
+    ensures ok { OnOk result (string_bytes out.new ≡ string_bytes out.old ++ numeral_text x) }
+    ensures err { OnErr result (string_bytes out.new ≡ string_bytes out.old) }
+{
+    x.push_text(out)
+}
+
+fn dollar(is_absolute: bool) -> &'static str
+    ensures { result.now ≡ dollar is_absolute }
+{
+    if is_absolute { "$" } else { "" }
+}
+
+// Appends a reference. On an error a part of it may be there.
+fn push_reference(at: Reference, out: &mut String) -> Result<(), AllocError>
+    ensures ok { OnOk result (string_bytes out.new ≡ string_bytes out.old ++ reference_text (cell_named at)) }
+    ensures kept { StartsWith (string_bytes out.new) (string_bytes out.old) }
+{
+    out.push_str("[.")?;
+    push_cell(at, out)?;
+    out.push_str("]")
+}
+
+// Appends the cell of a reference. On an error a part of it may be there.
+fn push_cell(at: Reference, out: &mut String) -> Result<(), AllocError>
+    ensures ok { OnOk result (string_bytes out.new ≡ string_bytes out.old ++ cell_text (cell_named at)) }
+    ensures kept { StartsWith (string_bytes out.new) (string_bytes out.old) }
+{
+    out.push_str(dollar(at.column_is_absolute))?;
+    at.at.push_column(out)?;
+    out.push_str(dollar(at.row_is_absolute))?;
+    at.at.push_row(out)
+}
+
+// Appends a what-if. On an error a part of it may be there.
+#[tactic(auto, using(crate::proofs::PrintLemmas::starts_trans, crate::proofs::PrintLemmas::starts_more, crate::proofs::PrintLemmas::symbols_more))]
+fn push_what_if(formula_cell: Reference, pairs: &[Pair], out: &mut String) -> Result<(), AllocError>
+    ensures ok { OnOk result (string_bytes out.new ≡ string_bytes out.old ++ tree_text (what_if formula_cell (map pair_of pairs.now))) }
+    ensures kept { StartsWith (string_bytes out.new) (string_bytes out.old) }
+{
+    out.push_str("MULTIPLE.OPERATIONS(")?;
+    push_reference(formula_cell, out)?;
+    push_pairs(pairs, out)?;
+    out.push_str(")")
+}
+
+// Appends inputs with their replacement cells. On an error a part of them may be there.
+fn push_pairs(pairs: &[Pair], out: &mut String) -> Result<(), AllocError>
+    ensures ok { OnOk result (string_bytes out.new ≡ string_bytes out.old ++ pairs_text pairs.now) }
+    ensures kept { StartsWith (string_bytes out.new) (string_bytes out.old) }
+{
+    for pair in pairs {
+        push_pair(*pair, out)?;
+    }
+    Ok(())
+}
+
+// Appends an input and its replacement cell, each after a separator. On an error a part of them may be there.
+#[tactic(auto, using(crate::proofs::PrintLemmas::starts_trans, crate::proofs::PrintLemmas::starts_more, crate::proofs::PrintLemmas::starts_itself))]
+fn push_pair(pair: Pair, out: &mut String) -> Result<(), AllocError>
+    ensures ok { OnOk result (string_bytes out.new ≡ string_bytes out.old ++ symbols_text (pair_symbols (pair_of pair))) }
+    ensures kept { StartsWith (string_bytes out.new) (string_bytes out.old) }
+{
+    out.push_str(";")?;
+    push_reference(pair.input, out)?;
+    out.push_str(";")?;
+    push_reference(pair.by, out)
+}
+
+// How an operator is written.
+fn operator_text(op: Operator) -> &'static str
+    ensures { result.now ≡ mark_text (spec.mark_of op) }
+{
+    match op {
+        Operator::Add => "+",
+        Operator::Subtract => "-",
+        Operator::Multiply => "*",
+        Operator::Divide => "/",
+        Operator::Power => "^",
+        Operator::Join => "&",
+        Operator::Equal => "=",
+        Operator::NotEqual => "<>",
+        Operator::Less => "<",
+        Operator::LessOrEqual => "<=",
+        Operator::Greater => ">",
+        Operator::GreaterOrEqual => ">=",
+    }
+}
+
+// How a sign is written.
+fn sign_text(sign: Sign) -> &'static str
+    ensures { result.now ≡ mark_text (spec.mark_of (written_as sign)) }
+{
+    match sign {
+        Sign::Plus => "+",
+        Sign::Minus => "-",
+    }
+}
