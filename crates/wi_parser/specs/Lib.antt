@@ -17,3 +17,4 @@ pub mod Nests
 pub mod FormulaText
 pub mod Reading
 pub mod Faults
+pub mod Shift

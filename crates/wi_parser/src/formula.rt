@@ -4,8 +4,10 @@ ghost use Rattle.std.specs.Prelude.{◌≡◌, ◌++◌, map, IfOk};
 ghost use Rattle.wi_parser.specs.View.{tree_of, pair_of};
 ghost use Rattle.wi_parser.specs.Reads.{inputs_of};
 ghost use Rattle.wi_parser.specs.Spelling.{IsSpelled};
+ghost use Rattle.wi_parser.specs.Shift.{shifted, ShiftsTo};
 
 use crate::expr::{Expr, Pair};
+use crate::shift::{self, ShiftFault};
 use std::alloc::{AllocError, Global};
 use std::marker::Model;
 use wi_values::Address;
@@ -67,6 +69,20 @@ impl Formula {
         let expr = self.expr.copy(alloc)?;
         let inputs = Vec::from_slice(alloc, &self.inputs)?;
         Ok(Formula { expr, inputs })
+    }
+
+    /// The formula for a cell so many rows below and columns to the right of the one that has it: the relative parts
+    /// of its references move as far, those of its what-ifs too, and the absolute parts stay. It leaves the sheet where a
+    /// relative part of any reference does.
+    #[tactic(auto, using(crate::proofs::Shifts::still_spelled))]
+    pub fn shift(&self, alloc: Global, rows: i64, columns: i64) -> Result<Formula, ShiftFault>
+        ensures { ShiftsTo (shifted rows columns self.now) result }
+    {
+        if !shift::all_stay(&self.expr, rows, columns) {
+            return Err(ShiftFault::LeavesSheet);
+        }
+        let expr = shift::shifted(alloc, &self.expr, rows, columns)?;
+        Ok(Formula::new(alloc, expr)?)
     }
 }
 

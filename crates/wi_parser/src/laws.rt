@@ -1,6 +1,6 @@
 //! Laws of the grammar alone.
 
-ghost use Rattle.std.specs.Prelude.{◌≡◌, ◌↔◌, ℕ, ◌≤◌, List, Some, Ok, suc};
+ghost use Rattle.std.specs.Prelude.{◌≡◌, ◌↔◌, ℕ, ◌≤◌, pos, true, List, Some, Ok, suc};
 ghost use Rattle.wi_parser.specs.Tree.{Tree};
 ghost use Rattle.wi_parser.specs.Symbol.{Symbol};
 ghost use Rattle.wi_parser.specs.Grammar.{Spells, loosest};
@@ -9,6 +9,7 @@ ghost use Rattle.wi_parser.specs.Spelling.{spelling};
 ghost use Rattle.wi_parser.specs.Reader.{whole};
 ghost use Rattle.wi_parser.specs.FormulaText.{formula_symbols};
 ghost use Rattle.wi_parser.specs.Reading.{IsWithinLimits, parsed};
+ghost use Rattle.wi_parser.specs.Shift.{in_sheet, all_references, shifted};
 
 /// What is read from symbols is spelled by them.
 pub fn what_is_read()
@@ -38,4 +39,9 @@ pub fn one_spelling()
 /// A text is read as a tree exactly where it spells the tree within the limits.
 pub fn what_a_text_is()
     ensures { (text : List ℕ) (t : Tree) → (parsed text ≡ Ok t) ↔ (IsWithinLimits text × Spells loosest t (formula_symbols text)) }
+{}
+
+/// A formula whose references are in the sheet stays as it is where it moves by nothing.
+pub fn shifted_by_nothing()
+    ensures { (t : Tree) → all_references in_sheet t ≡ true → shifted (pos 0) (pos 0) t ≡ Some t }
 {}

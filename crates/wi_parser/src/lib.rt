@@ -13,6 +13,7 @@ mod parser;
 mod print;
 #[cfg(test)]
 mod print_tests;
+mod shift;
 #[cfg(test)]
 mod tests;
 mod tokens;
@@ -25,3 +26,4 @@ pub use expr::{Corners, Expr, Operator, Pair, Reference, Sign};
 pub use fault::ParseFault;
 pub use formula::Formula;
 pub use parser::{MAX_FORMULA, parse};
+pub use shift::ShiftFault;

@@ -1,0 +1,73 @@
+-- A formula filled into another cell: the relative parts of its references move with it.
+use Rattle.std.specs.Prelude.{◌≡◌, ℕ, ℤ, pos, negsuc, ◌+ℤ◌, ◌*◌, Bool, true, false, ◌&&◌, nat_lt, if◌then◌else◌, map, Option, Some, None, is_some, unwrap_or, Result, Ok, Err}
+use Rattle.std.specs.List.{list_all}
+use Rattle.wi_values.specs.Address.{columns, rows, place, row_of, column_of}
+use Rattle.wi_parser.specs.declared.expr.Reference.{Reference}
+use Rattle.wi_parser.specs.declared.shift.ShiftFault.{ShiftFault}
+use Rattle.wi_parser.specs.declared.shift.ShiftFault.TheVariants.{LeavesSheet, Memory}
+use Rattle.wi_parser.specs.Tree.{Tree, number, cell, parenthesized, signed, percent, binary, what_if}
+
+-- ---- references
+
+-- a row or a column, where a sheet that has so many has it
+abbrev pub within : ℕ → ℤ → Option ℕ
+within size (pos k) = if nat_lt k size then Some k else None
+within size (negsuc k) = None
+
+-- a part of a reference: an absolute one stays, and a relative one moves, where it does not leave the sheet
+abbrev pub part : Bool → ℕ → ℤ → ℕ → Option ℕ
+part true size by k = Some k
+part false size by k = within size (pos k +ℤ by)
+
+abbrev pub row_moved : ℤ → Reference → Option ℕ
+row_moved down r = part r.row_is_absolute rows down (row_of r.at)
+
+abbrev pub column_moved : ℤ → Reference → Option ℕ
+column_moved right r = part r.column_is_absolute columns right (column_of r.at)
+
+-- a reference to a cell of the sheet
+abbrev pub in_sheet : Reference → Bool
+in_sheet r = nat_lt r.at (rows * columns)
+
+-- the relative parts of a reference stay in the sheet
+unfoldable pub stays : ℤ → ℤ → Reference → Bool
+stays down right r = is_some (row_moved down r) && is_some (column_moved right r)
+
+-- the reference moved down and to the right; what is absolute is as before
+unfoldable pub moved : ℤ → ℤ → Reference → Reference
+moved down right r = record r { at = place (unwrap_or (row_moved down r) 0) (unwrap_or (column_moved right r) 0) }
+
+-- ---- trees
+
+-- all references of the tree are such
+abbrev pub all_references : (Reference → Bool) → Tree → Bool
+all_references p (number x) = true
+all_references p (cell r) = p r
+all_references p (parenthesized t) = all_references p t
+all_references p (signed s t) = all_references p t
+all_references p (percent t) = all_references p t
+all_references p (binary op t u) = all_references p t && all_references p u
+all_references p (what_if r pairs) = p r && list_all (λ q. p q.0 && p q.1) pairs
+
+-- the tree with another reference in place of each
+abbrev pub map_references : (Reference → Reference) → Tree → Tree
+map_references f (number x) = number x
+map_references f (cell r) = cell (f r)
+map_references f (parenthesized t) = parenthesized (map_references f t)
+map_references f (signed s t) = signed s (map_references f t)
+map_references f (percent t) = percent (map_references f t)
+map_references f (binary op t u) = binary op (map_references f t) (map_references f u)
+map_references f (what_if r pairs) = what_if (f r) (map (λ q. (f q.0, f q.1)) pairs)
+
+-- the tree with each reference moved, where the relative parts of all of them stay in the sheet
+abbrev pub shifted : ℤ → ℤ → Tree → Option Tree
+shifted down right t =
+    if all_references (stays down right) t then Some (map_references (moved down right) t) else None
+
+-- ---- what the calls answer
+
+-- what is found is answered: LeavesSheet where nothing is, and Memory wherever memory ran out
+abbrev pub ShiftsTo : Option Tree → Result Tree ShiftFault → Type 0
+ShiftsTo found (Ok t) = found ≡ Some t
+ShiftsTo found (Err LeavesSheet) = found ≡ None
+ShiftsTo found (Err Memory) = Unit {0}

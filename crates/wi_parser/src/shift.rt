@@ -1,0 +1,174 @@
+//! Formulas filled into other cells.
+
+ghost use Rattle.std.specs.Prelude.{◌≡◌, ◌<◌, ◌&&◌, map, IfSome, IfOk};
+ghost use Rattle.std.specs.List.{list_all};
+ghost use Rattle.wi_values.specs.Address as spec;
+ghost use Rattle.wi_parser.specs.Tree as tree;
+ghost use Rattle.wi_parser.specs.View.{tree_of, pair_of};
+ghost use Rattle.wi_parser.specs.Shift as shift;
+
+use crate::expr::{Expr, Pair, Reference};
+use std::alloc::{AllocError, AllocFailed, Global};
+use thiserror::Error;
+use wi_values::{Address, COLUMNS, ROWS};
+
+/// Why a formula is not filled into another cell.
+#[derive(Clone, Copy, PartialEq, Eq, Debug, Error)]
+pub enum ShiftFault {
+    #[error("a reference leaves the sheet")]
+    LeavesSheet,
+    #[error("there is no memory left")]
+    Memory,
+}
+
+impl From<AllocError> for ShiftFault {
+    ghost use Rattle.wi_parser.specs.declared.shift.ShiftFault.TheVariants.{Memory};
+
+    ghost from_gives = { λ _ e. e ≡ Memory };
+
+    fn from(_error: AllocError) -> ShiftFault {
+        ShiftFault::Memory
+    }
+}
+
+impl<T: Drop> From<AllocFailed<T>> for ShiftFault {
+    ghost use Rattle.wi_parser.specs.declared.shift.ShiftFault.TheVariants.{Memory};
+
+    ghost from_gives = { λ _ e. e ≡ Memory };
+
+    fn from(_error: AllocFailed<T>) -> ShiftFault {
+        ShiftFault::Memory
+    }
+}
+
+/// Whether the relative parts of all references stay in the sheet where they move by so many rows and columns.
+pub fn all_stay(expr: &Expr, rows: i64, columns: i64) -> bool
+    ensures { result ≡ shift.all_references (shift.stays rows columns) (tree_of expr.now) }
+{
+    match expr {
+        Expr::Number(_) => true,
+        Expr::Cell(r) => stays(r, rows, columns),
+        Expr::Parenthesized(t) => all_stay(t, rows, columns),
+        Expr::Signed(_, t) => all_stay(t, rows, columns),
+        Expr::Percent(t) => all_stay(t, rows, columns),
+        Expr::Binary(_, t, u) => all_stay(t, rows, columns) && all_stay(u, rows, columns),
+        Expr::WhatIf(f, pairs) => stays(f, rows, columns) && pairs_stay(pairs, rows, columns),
+    }
+}
+
+fn pairs_stay(pairs: &[Pair], rows: i64, columns: i64) -> bool
+    ensures { result ≡ list_all (λ q. shift.stays rows columns q.0 && shift.stays rows columns q.1) (map pair_of pairs.now) }
+{
+    pairs.iter().all(|p| stays(&p.input, rows, columns) && stays(&p.by, rows, columns))
+}
+
+/// The tree with each reference moved by so many rows and columns.
+#[cycle(shift)]
+pub fn shifted(alloc: Global, expr: &Expr, rows: i64, columns: i64) -> Result<Expr, AllocError>
+    ensures { IfOk result (λ e. tree_of e ≡ shift.map_references (shift.moved rows columns) (tree_of expr.now)) }
+{
+    match expr {
+        Expr::Number(x) => Ok(Expr::Number(*x)),
+        Expr::Cell(r) => Ok(Expr::Cell(moved(r, rows, columns))),
+        Expr::Parenthesized(t) => Ok(Expr::Parenthesized(boxed(alloc, t, rows, columns)?)),
+        Expr::Signed(sign, t) => Ok(Expr::Signed(*sign, boxed(alloc, t, rows, columns)?)),
+        Expr::Percent(t) => Ok(Expr::Percent(boxed(alloc, t, rows, columns)?)),
+        Expr::Binary(op, t, u) => Ok(Expr::Binary(
+            *op,
+            boxed(alloc, t, rows, columns)?,
+            boxed(alloc, u, rows, columns)?,
+        )),
+        Expr::WhatIf(f, pairs) => what_if(alloc, f, pairs, rows, columns),
+    }
+}
+
+// A part of a tree, in a box.
+#[cycle(shift)]
+fn boxed(alloc: Global, expr: &Expr, rows: i64, columns: i64) -> Result<Box<Expr>, AllocError>
+    ensures { IfOk result (λ b. tree_of b.value ≡ shift.map_references (shift.moved rows columns) (tree_of expr.now)) }
+{
+    Ok(Box::new(alloc, shifted(alloc, expr, rows, columns)?)?)
+}
+
+// The inputs of a what-if move as the cells do that it reads.
+fn what_if(
+    alloc: Global,
+    f: &Reference,
+    pairs: &[Pair],
+    rows: i64,
+    columns: i64,
+) -> Result<Expr, AllocError>
+    ensures { IfOk result (λ e. tree_of e ≡ tree.what_if (shift.moved rows columns f.now) (map (λ q. (shift.moved rows columns q.0, shift.moved rows columns q.1)) (map pair_of pairs.now))) }
+{
+    let formula_cell = moved(f, rows, columns);
+    let pairs = moved_pairs(alloc, pairs, rows, columns)?;
+    Ok(Expr::WhatIf(formula_cell, pairs))
+}
+
+fn moved_pairs(
+    alloc: Global,
+    pairs: &[Pair],
+    rows: i64,
+    columns: i64,
+) -> Result<Vec<Pair>, AllocError>
+    ensures { IfOk result (λ v. map pair_of v.items ≡ map (λ q. (shift.moved rows columns q.0, shift.moved rows columns q.1)) (map pair_of pairs.now)) }
+{
+    let mut all = Vec::new(alloc);
+    for pair in pairs {
+        all.push(Pair {
+            input: moved(&pair.input, rows, columns),
+            by: moved(&pair.by, rows, columns),
+        })?;
+    }
+    Ok(all)
+}
+
+#[tactic(auto, unfolding(crate::specs::Shift::stays))]
+fn stays(r: &Reference, rows: i64, columns: i64) -> bool
+    ensures { result ≡ shift.stays rows columns r.now }
+{
+    row_moved(r, rows).is_some() && column_moved(r, columns).is_some()
+}
+
+#[tactic(auto, unfolding(crate::specs::Shift::moved))]
+fn moved(r: &Reference, rows: i64, columns: i64) -> Reference
+    ensures { result ≡ shift.moved rows columns r.now }
+{
+    let row = row_moved(r, rows).unwrap_or(0);
+    let column = column_moved(r, columns).unwrap_or(0);
+    Reference {
+        at: Address::at(row, column),
+        column_is_absolute: r.column_is_absolute,
+        row_is_absolute: r.row_is_absolute,
+    }
+}
+
+fn row_moved(r: &Reference, rows: i64) -> Option<u32>
+    ensures value { result ≡ shift.row_moved rows r.now }
+    ensures within { IfSome result (λ k. k < spec.rows) }
+{
+    part(r.row_is_absolute, ROWS, rows, r.at.row())
+}
+
+fn column_moved(r: &Reference, columns: i64) -> Option<u32>
+    ensures value { result ≡ shift.column_moved columns r.now }
+    ensures within { IfSome result (λ k. k < spec.columns) }
+{
+    part(r.column_is_absolute, COLUMNS, columns, r.at.column())
+}
+
+// A row or a column of a sheet that has so many, moved unless it is absolute; none outside the sheet.
+fn part(is_absolute: bool, size: u32, by: i64, at: u32) -> Option<u32>
+    requires { at < size }
+    ensures value { result ≡ shift.part is_absolute size by at }
+    ensures within { IfSome result (λ k. k < size) }
+{
+    if is_absolute {
+        return Some(at);
+    }
+    let moved = i64::from(at).checked_add(by)?;
+    if moved < 0 || moved >= i64::from(size) {
+        return None;
+    }
+    Some(moved as u32)
+}
