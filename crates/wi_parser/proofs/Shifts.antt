@@ -4,10 +4,11 @@ use Rattle.std.specs.List.{list_all}
 use Rattle.std.proofs.lemmas.Bool.Decides.{nat_tests}
 use Rattle.std.proofs.lemmas.Int.{ints}
 use Rattle.wi_values.specs.Address.{columns, rows, place, row_of, column_of}
+use Rattle.wi_parser.specs.declared.expr.Corners.{Corners}
 use Rattle.wi_parser.specs.declared.expr.Reference.{Reference}
-use Rattle.wi_parser.specs.Tree.{Tree, number, cell, parenthesized, signed, percent, binary, what_if}
+use Rattle.wi_parser.specs.Tree.{Tree, number, cell, rectangle, parenthesized, signed, percent, binary, what_if}
 use Rattle.wi_parser.specs.Symbol.{Symbol}
-use Rattle.wi_parser.specs.Grammar.{Spells, a_number, a_cell, in_parentheses, one_input, two_inputs, tighter, joined}
+use Rattle.wi_parser.specs.Grammar.{Spells, a_number, a_cell, a_rectangle, in_parentheses, one_input, two_inputs, with_sign, with_percent, tighter, joined}
 use Rattle.wi_parser.specs.Spelling.{spelling}
 use Rattle.wi_parser.specs.Shift.{within, part, stays, moved, in_sheet, all_references, map_references, shifted}
 
@@ -15,9 +16,12 @@ use Rattle.wi_parser.specs.Shift.{within, part, stays, moved, in_sheet, all_refe
 pub still_spelled : (f : Reference → Reference) {k : ℕ} {t : Tree} {ts : List Symbol} → Spells k t ts → Spells k (map_references f t) (spelling (map_references f t))
 still_spelled f (a_number x) = a_number x
 still_spelled f (a_cell r) = a_cell (f r)
+still_spelled f (a_rectangle c) = a_rectangle (record { one = f c.one; other = f c.other })
 still_spelled f (in_parentheses t ts s) = in_parentheses (map_references f t) (spelling (map_references f t)) (still_spelled f s)
 still_spelled f (one_input r p) = one_input (f r) (f p.0, f p.1)
 still_spelled f (two_inputs r p q) = two_inputs (f r) (f p.0, f p.1) (f q.0, f q.1)
+still_spelled f (with_sign s t ts u) = with_sign s (map_references f t) (spelling (map_references f t)) (still_spelled f u)
+still_spelled f (with_percent t ts s) = with_percent (map_references f t) (spelling (map_references f t)) (still_spelled f s)
 still_spelled f (tighter k t ts s) = tighter k (map_references f t) (spelling (map_references f t)) (still_spelled f s)
 still_spelled f (joined k op l r ls rs e s u) =
     joined k op (map_references f l) (map_references f r) (spelling (map_references f l)) (spelling (map_references f r)) e (still_spelled f s) (still_spelled f u)
@@ -55,6 +59,9 @@ tree_kept : (p q : Reference → Bool) (f : Reference → Reference) → ((r : R
     → (t : Tree) → all_references p t ≡ true → (all_references q t ≡ true) × (map_references f t ≡ t)
 tree_kept p q f h (number x) e = (refl, refl)
 tree_kept p q f h (cell r) e = let i = h r e in (i.0, ap cell i.1)
+tree_kept p q f h (rectangle c) e =
+    let i = pair_kept p q f h (c.one, c.other) e in
+    (i.0, ap (λ (x : Reference × Reference). rectangle (record { one = x.0; other = x.1 })) i.1)
 tree_kept p q f h (parenthesized t) e = let i = tree_kept p q f h t e in (i.0, ap parenthesized i.1)
 tree_kept p q f h (signed s t) e = let i = tree_kept p q f h t e in (i.0, ap (signed s) i.1)
 tree_kept p q f h (percent t) e = let i = tree_kept p q f h t e in (i.0, ap percent i.1)

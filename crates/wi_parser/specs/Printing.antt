@@ -7,6 +7,7 @@ use Rattle.wi_fraction.specs.Text.{text_of}
 use Rattle.wi_values.specs.Address.{row_of, column_of, column_letters}
 use Rattle.wi_lexer.specs.Cell.{Cell}
 use Rattle.wi_lexer.specs.Reference.{reference_text}
+use Rattle.wi_lexer.specs.Rectangle.{rectangle_text}
 use Rattle.wi_lexer.specs.Mark.{mark_text}
 use Rattle.wi_lexer.specs.declared.token.Mark.{Mark}
 use Rattle.wi_lexer.specs.declared.token.Mark.TheVariants as mark
@@ -14,7 +15,7 @@ use Rattle.wi_parser.specs.declared.expr.Operator.{Operator}
 use Rattle.wi_parser.specs.declared.expr.Operator.TheVariants.{Add, Subtract, Multiply, Divide, Power, Join, Equal, NotEqual, Less, LessOrEqual, Greater, GreaterOrEqual}
 use Rattle.wi_parser.specs.declared.expr.Reference.{Reference}
 use Rattle.wi_parser.specs.Tree.{Tree}
-use Rattle.wi_parser.specs.Symbol.{Symbol, numeral, reference, open_parenthesis, close_parenthesis, separator, infix_mark, percent_mark, what_if_name, refused}
+use Rattle.wi_parser.specs.Symbol.{Symbol, numeral, reference, corners, open_parenthesis, close_parenthesis, separator, infix_mark, percent_mark, what_if_name, refused}
 use Rattle.wi_parser.specs.Spelling.{spelling}
 
 -- the text of a number
@@ -49,6 +50,7 @@ mark_of GreaterOrEqual = mark.GreaterOrEqual
 abbrev pub symbol_text : Symbol → List ℕ
 symbol_text (numeral x) = numeral_text x
 symbol_text (reference r) = reference_text (cell_named r)
+symbol_text (corners c) = rectangle_text (cell_named c.one) (cell_named c.other)
 symbol_text open_parenthesis = codes "("
 symbol_text close_parenthesis = codes ")"
 symbol_text separator = codes ";"

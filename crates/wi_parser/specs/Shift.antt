@@ -5,7 +5,7 @@ use Rattle.wi_values.specs.Address.{columns, rows, place, row_of, column_of}
 use Rattle.wi_parser.specs.declared.expr.Reference.{Reference}
 use Rattle.wi_parser.specs.declared.shift.ShiftFault.{ShiftFault}
 use Rattle.wi_parser.specs.declared.shift.ShiftFault.TheVariants.{LeavesSheet, Memory}
-use Rattle.wi_parser.specs.Tree.{Tree, number, cell, parenthesized, signed, percent, binary, what_if}
+use Rattle.wi_parser.specs.Tree.{Tree, number, cell, rectangle, parenthesized, signed, percent, binary, what_if}
 
 -- ---- references
 
@@ -43,6 +43,7 @@ moved down right r = record r { at = place (unwrap_or (row_moved down r) 0) (unw
 abbrev pub all_references : (Reference → Bool) → Tree → Bool
 all_references p (number x) = true
 all_references p (cell r) = p r
+all_references p (rectangle c) = p c.one && p c.other
 all_references p (parenthesized t) = all_references p t
 all_references p (signed s t) = all_references p t
 all_references p (percent t) = all_references p t
@@ -53,6 +54,7 @@ all_references p (what_if r pairs) = p r && list_all (λ q. p q.0 && p q.1) pair
 abbrev pub map_references : (Reference → Reference) → Tree → Tree
 map_references f (number x) = number x
 map_references f (cell r) = cell (f r)
+map_references f (rectangle c) = rectangle (record { one = f c.one; other = f c.other })
 map_references f (parenthesized t) = parenthesized (map_references f t)
 map_references f (signed s t) = signed s (map_references f t)
 map_references f (percent t) = percent (map_references f t)

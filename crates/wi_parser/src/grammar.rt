@@ -7,7 +7,7 @@ ghost use Rattle.wi_parser.specs.Nests.{Nests};
 ghost use Rattle.wi_parser.specs.View.{tree_of};
 ghost use Rattle.wi_parser.specs.Tree as tree;
 
-use crate::expr::{Expr, Operator, Reference, Sign, Corners};
+use crate::expr::{Corners, Expr, Operator, Reference, Sign};
 use crate::fault::ParseFault;
 use crate::what_if::what_if;
 use crate::word::Word;

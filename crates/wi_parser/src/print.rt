@@ -5,6 +5,7 @@ ghost use Rattle.std.specs.Io.{StartsWith};
 ghost use Rattle.wi_lexer.specs.Cell.{dollar, cell_text};
 ghost use Rattle.wi_lexer.specs.Mark.{mark_text};
 ghost use Rattle.wi_lexer.specs.Reference.{reference_text};
+ghost use Rattle.wi_lexer.specs.Rectangle.{rectangle_text};
 ghost use Rattle.wi_parser.specs.Grammar.{pair_symbols};
 ghost use Rattle.wi_parser.specs.Printing as spec;
 ghost use Rattle.wi_parser.specs.Printing.{cell_named, numeral_text, symbols_text, tree_text, printed};
@@ -13,7 +14,7 @@ ghost use Rattle.wi_parser.specs.Tree.{what_if};
 ghost use Rattle.wi_parser.specs.View.{tree_of, pair_of};
 ghost use Rattle.wi_parser.specs.PrintedParts.{pairs_text};
 
-use crate::expr::{Expr, Operator, Pair, Reference, Sign};
+use crate::expr::{Corners, Expr, Operator, Pair, Reference, Sign};
 use crate::formula::Formula;
 use std::alloc::AllocError;
 use wi_fraction::Fraction;
@@ -54,6 +55,7 @@ fn push_tree(expr: &Expr, out: &mut String) -> Result<(), AllocError>
     match expr {
         Expr::Number(x) => push_number(*x, out),
         Expr::Cell(at) => push_reference(*at, out),
+        Expr::Rectangle(corners) => push_rectangle(*corners, out),
         Expr::Parenthesized(inner) => {
             out.push_str("(")?;
             push_tree(inner, out)?;
@@ -97,6 +99,18 @@ fn push_reference(at: Reference, out: &mut String) -> Result<(), AllocError>
 {
     out.push_str("[.")?;
     push_cell(at, out)?;
+    out.push_str("]")
+}
+
+// Appends a reference to a rectangle. On an error a part of it may be there.
+fn push_rectangle(corners: Corners, out: &mut String) -> Result<(), AllocError>
+    ensures ok { OnOk result (string_bytes out.new ≡ string_bytes out.old ++ rectangle_text (cell_named corners.one) (cell_named corners.other)) }
+    ensures kept { StartsWith (string_bytes out.new) (string_bytes out.old) }
+{
+    out.push_str("[.")?;
+    push_cell(corners.one, out)?;
+    out.push_str(":.")?;
+    push_cell(corners.other, out)?;
     out.push_str("]")
 }
 

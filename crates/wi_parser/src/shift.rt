@@ -7,7 +7,7 @@ ghost use Rattle.wi_parser.specs.Tree as tree;
 ghost use Rattle.wi_parser.specs.View.{tree_of, pair_of};
 ghost use Rattle.wi_parser.specs.Shift as shift;
 
-use crate::expr::{Expr, Pair, Reference};
+use crate::expr::{Corners, Expr, Pair, Reference};
 use std::alloc::{AllocError, AllocFailed, Global};
 use thiserror::Error;
 use wi_values::{Address, COLUMNS, ROWS};
@@ -48,6 +48,9 @@ pub fn all_stay(expr: &Expr, rows: i64, columns: i64) -> bool
     match expr {
         Expr::Number(_) => true,
         Expr::Cell(r) => stays(r, rows, columns),
+        Expr::Rectangle(corners) => {
+            stays(&corners.one, rows, columns) && stays(&corners.other, rows, columns)
+        }
         Expr::Parenthesized(t) => all_stay(t, rows, columns),
         Expr::Signed(_, t) => all_stay(t, rows, columns),
         Expr::Percent(t) => all_stay(t, rows, columns),
@@ -70,6 +73,10 @@ pub fn shifted(alloc: Global, expr: &Expr, rows: i64, columns: i64) -> Result<Ex
     match expr {
         Expr::Number(x) => Ok(Expr::Number(*x)),
         Expr::Cell(r) => Ok(Expr::Cell(moved(r, rows, columns))),
+        Expr::Rectangle(corners) => Ok(Expr::Rectangle(Corners {
+            one: moved(&corners.one, rows, columns),
+            other: moved(&corners.other, rows, columns),
+        })),
         Expr::Parenthesized(t) => Ok(Expr::Parenthesized(boxed(alloc, t, rows, columns)?)),
         Expr::Signed(sign, t) => Ok(Expr::Signed(*sign, boxed(alloc, t, rows, columns)?)),
         Expr::Percent(t) => Ok(Expr::Percent(boxed(alloc, t, rows, columns)?)),
