@@ -14,3 +14,4 @@ pub mod Steps
 pub mod Tenths
 pub mod Texts
 pub mod Values
+pub mod Wholes

@@ -46,7 +46,7 @@ pub fn number_at(negative: bool, size: u128, denominator: u128) -> Option<Fracti
 }
 
 /// The whole number of that sign and size.
-fn signed(negative: bool, size: u128) -> i128
+pub fn signed(negative: bool, size: u128) -> i128
     requires { size ≤ max_size }
     ensures { result ≡ signed negative size }
 {

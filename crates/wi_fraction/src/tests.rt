@@ -1,4 +1,4 @@
-use crate::{Fraction, FractionError, laws};
+use crate::{Fraction, FractionError, Mode, laws};
 use std::alloc::{AllocError, Global};
 use std::collections::HashSet;
 use std::test::Fail;
@@ -284,6 +284,93 @@ fn reads_many_digits(rt: HostRuntime) -> Result<(), Fail> {
         Fraction::read_decimal(low.as_str().as_bytes()),
         Some(seven)
     );
+    Ok(())
+}
+
+#[test]
+fn finds_floors(rt: HostRuntime) -> Result<(), Fail> {
+    for (n, d, floor) in [
+        (7, 2, 3),
+        (-7, 2, -4),
+        (-6, 1, -6),
+        (0, 1, 0),
+        (1, i128::MAX, 0),
+        (-1, i128::MAX, -1),
+        (-i128::MAX, 1, -i128::MAX),
+        (i128::MAX, 2, 85070591730234615865843651857942052863),
+        (-i128::MAX, 2, -85070591730234615865843651857942052864),
+    ] {
+        assert_eq!(rt;
+            Fraction::new(n, d)?.floor(),
+            Fraction::new(floor, 1)?,
+            "at {n}/{d}"
+        );
+    }
+    Ok(())
+}
+
+#[test]
+fn rounds_to_places(rt: HostRuntime) -> Result<(), Fail> {
+    for (n, d, places, mode, top, low) in [
+        (5, 2, 0, Mode::HalfAway, 3, 1),
+        (-5, 2, 0, Mode::HalfAway, -3, 1),
+        (5, 2, 0, Mode::Away, 3, 1),
+        (-5, 2, 0, Mode::Toward, -2, 1),
+        (1249, 1000, 2, Mode::HalfAway, 5, 4),
+        (1249, 1000, 2, Mode::Toward, 31, 25),
+        (-1241, 1000, 2, Mode::Away, -5, 4),
+        (25, 1, -1, Mode::HalfAway, 30, 1),
+        (14, 1, -1, Mode::HalfAway, 10, 1),
+        (14, 1, -1, Mode::Away, 20, 1),
+        (20, 1, -1, Mode::Away, 20, 1),
+        (1, i128::MAX, 0, Mode::Away, 1, 1),
+        (1, i128::MAX, 0, Mode::HalfAway, 0, 1),
+        (
+            1,
+            1,
+            -38,
+            Mode::Away,
+            100000000000000000000000000000000000000,
+            1,
+        ),
+        (17, 10, 38, Mode::HalfAway, 17, 10),
+        (
+            -1,
+            3,
+            38,
+            Mode::Toward,
+            -33333333333333333333333333333333333333,
+            100000000000000000000000000000000000000,
+        ),
+        (
+            i128::MAX,
+            2,
+            0,
+            Mode::HalfAway,
+            85070591730234615865843651857942052864,
+            1,
+        ),
+    ] {
+        assert_eq!(rt;
+            Fraction::new(n, d)?.round_to(places, mode),
+            Ok(Fraction::new(top, low)?),
+            "at {n}/{d}, {places}"
+        );
+    }
+    for (n, d, places) in [
+        (0, 1, 39),
+        (0, 1, i128::MIN),
+        (2, 1, 38),
+        (1, 2, -38),
+        (i128::MAX, 1, 1),
+        (i128::MAX, 1, -38),
+    ] {
+        assert_eq!(rt;
+            Fraction::new(n, d)?.round_to(places, Mode::Away),
+            Err(FractionError::Overflow),
+            "at {n}/{d}, {places}"
+        );
+    }
     Ok(())
 }
 

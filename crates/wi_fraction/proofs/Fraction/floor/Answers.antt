@@ -1,0 +1,24 @@
+use Rattle.std.proofs.Common.{◌∙◌, refl, rules, tests, arith, FitsSigned, ◌≡◌, pos, unsigned_abs, true, false}
+use Rattle.std.specs.Prelude.{int_lt}
+use Rattle.std.proofs.lemmas.Bool.Decides.{nat_tests}
+use Rattle.std.specs.Int.{w128}
+use Rattle.std.proofs.lemmas.Int.{to_z-of_z}
+use Rattle.wi_fraction.specs.Number.{Number}
+use Rattle.wi_fraction.proofs.Wholes.{floor_up, floor_down, floored_from}
+use Rattle.wi_fraction.proofs.Fraction.floor.Goals as goal
+
+pub returns-then-n-ge0 : goal.returns-then-n-ge0
+returns-then-n-ge0 c =
+    let fits : FitsSigned w128 c.self.inside.numerator = search rules in
+    let size : c.unsigned_abs-size.result ≡ unsigned_abs c.self.inside.numerator = c.unsigned_abs-size.ensures.value ∙ simp to_z-of_z refl in
+    let upper : int_lt c.self.inside.numerator (pos 0) ≡ false = first_of (search (rules, tests), grind (arith, nat_tests)) in
+    let x : Number = record { num = c.self.inside.numerator; den = c.self.inside.denominator; is_number = c.self.inside.is_number } in
+    rw (← c.self.view_is) (floored_from x c.whole.result (c.whole.ensures.numerator ∙ rw size (floor_up c.self.inside.numerator c.self.inside.denominator upper)) c.whole.ensures.denominator)
+
+pub returns : goal.returns
+returns c =
+    let fits : FitsSigned w128 c.self.inside.numerator = search rules in
+    let size : c.unsigned_abs-size.result ≡ unsigned_abs c.self.inside.numerator = c.unsigned_abs-size.ensures.value ∙ simp to_z-of_z refl in
+    let lower : int_lt c.self.inside.numerator (pos 0) ≡ true = first_of (search (rules, tests), grind (arith, nat_tests)) in
+    let x : Number = record { num = c.self.inside.numerator; den = c.self.inside.denominator; is_number = c.self.inside.is_number } in
+    rw (← c.self.view_is) (floored_from x c.whole-2.result (c.whole-2.ensures.numerator ∙ rw size (floor_down c.self.inside.numerator c.self.inside.denominator lower)) c.whole-2.ensures.denominator)

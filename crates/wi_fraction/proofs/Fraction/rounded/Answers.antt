@@ -1,0 +1,14 @@
+use Rattle.std.proofs.Common.{◌∙◌, refl, rules, FitsSigned, ◌≡◌, unsigned_abs}
+use Rattle.std.specs.Int.{w128}
+use Rattle.std.proofs.lemmas.Int.{to_z-of_z}
+use Rattle.wi_fraction.specs.Number.{Number}
+use Rattle.wi_fraction.proofs.Wholes.{rounded_from}
+use Rattle.wi_fraction.proofs.Fraction.rounded.Goals as goal
+
+pub returns : goal.returns
+returns c =
+    let fits : FitsSigned w128 c.self.inside.numerator = search rules in
+    let size : c.unsigned_abs.result ≡ unsigned_abs c.self.inside.numerator = c.unsigned_abs.ensures.value ∙ simp to_z-of_z refl in
+    let x : Number = record { num = c.self.inside.numerator; den = c.self.inside.denominator; is_number = c.self.inside.is_number } in
+    let sign = simp to_z-of_z at c.whole.ensures.numerator in
+    rw (← c.self.view_is) (rounded_from c.args.mode x c.whole.result (sign ∙ rw (c.rounded_size.ensures.value, size) refl) c.whole.ensures.denominator)

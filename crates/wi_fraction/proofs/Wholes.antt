@@ -1,0 +1,35 @@
+-- Whole numbers near a number.
+use Rattle.std.specs.Prelude.{◌≡◌, ℕ, zero, suc, ◌+◌, ◌-◌, ◌*◌, ◌/◌, ◌%◌, ◌^◌, ◌<◌, ◌≤◌, ℤ, pos, negsuc, neg_ℤ, ◌*ℤ◌, unsigned_abs, int_lt, nat_lt, Bool, true, false, refl}
+use Rattle.std.proofs.Common.{sym, ap, ◌∙◌, arith}
+use Rattle.std.proofs.lemmas.Bool.Decides.{nat_tests}
+use Rattle.std.proofs.lemmas.Int.{ints}
+use Rattle.std.proofs.lemmas.Nat.{div-mul-add}
+use Rattle.std.proofs.Math.Nat.{div-add-mod', mul-one, pow-zero}
+use Rattle.wi_fraction.specs.declared.rounding.Mode.{Mode}
+use Rattle.wi_fraction.specs.Number.{Number, number_of, signed, same_number}
+use Rattle.wi_fraction.specs.Integers.{neg-pos-mul}
+use Rattle.wi_fraction.specs.Rounding.{floor_of, floored, rounded_size, rounded, times_ten_to}
+use Rattle.wi_fraction.proofs.Steps.{signed-abs}
+
+-- ---- the floor
+
+pub floor_up : (n : ℤ) (d : ℕ) → int_lt n (pos 0) ≡ false → pos (unsigned_abs n / d) ≡ floor_of n d
+floor_up (pos n) d h = refl
+floor_up (negsuc n) d h = absurd (grind (arith, nat_tests, h))
+
+pub floor_down : (n : ℤ) (d : ℕ) → int_lt n (pos 0) ≡ true → neg_ℤ (pos ((unsigned_abs n - 1) / d + 1)) ≡ floor_of n d
+floor_down (pos n) d h = absurd (grind (arith, nat_tests, h))
+floor_down (negsuc n) d h =
+    let one : suc n - 1 ≡ n = omega arith in
+    let next : n / d + 1 ≡ suc (n / d) = omega arith in
+    rw (one, next) refl
+
+-- ---- numbers by their parts
+
+pub floored_from : (x y : Number) → y.num ≡ floor_of x.num x.den → y.den ≡ 1 → y ≡ floored x
+unfolding floored
+floored_from x y e f = same_number y (floored x) e f
+
+pub rounded_from : (m : Mode) (x y : Number) → y.num ≡ signed (int_lt x.num (pos 0)) (rounded_size m (unsigned_abs x.num) x.den) → y.den ≡ 1 → y ≡ rounded m x
+unfolding rounded
+rounded_from m x y e f = same_number y (rounded m x) e f
