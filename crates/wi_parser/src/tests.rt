@@ -90,19 +90,15 @@ fn shown(alloc: Global, tree: &Expr) -> Result<String, AllocError> {
     Ok(text)
 }
 
-fn first_operand(tree: &Expr) -> Option<&Expr> {
-    match tree {
-        Expr::Binary(_, left, _) => Some(left),
-        Expr::Percent(operand) => Some(operand),
-        _ => None,
-    }
-}
-
-// How many operators and percent marks stand down the left side of a tree.
+// How many operators stand down the left side of a tree, and then percent marks.
 fn left_depth(tree: &Expr) -> usize {
     let mut depth = 0usize;
     let mut below = tree;
-    while let Some(operand) = first_operand(below) {
+    while let Expr::Binary(_, left, _) = below {
+        below = left;
+        depth = depth.saturating_add(1);
+    }
+    while let Expr::Percent(operand) = below {
         below = operand;
         depth = depth.saturating_add(1);
     }
