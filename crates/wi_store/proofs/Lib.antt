@@ -2,3 +2,4 @@ pub mod RoomLemmas
 pub mod ExchangeLemmas
 pub mod ChangeLemmas
 pub mod EditLemmas
+pub mod Within

@@ -13,7 +13,7 @@ use Rattle.std.proofs.lemmas.Bool.Decides.{nat_tests}
 use Rattle.std.proofs.lemmas.Map.Keys.{sorted_head, sorted_tail}
 use Rattle.wi_parser.specs.Sheet.{Sheet, content_of, cells_with_formula, has_formula}
 use Rattle.wi_parser.specs.declared.content.Content.{Content}
-use Rattle.wi_store.specs.Rooms.{Rooms, occupant, sheet_in, room_of, IsInOrder, HasNoVacancy}
+use Rattle.wi_store.specs.Rooms.{Rooms, occupant, sheet_in, room_of, formula_rooms, IsInOrder, HasNoVacancy}
 
 -- ---- orders by numbers
 
@@ -142,10 +142,6 @@ length-sheet_in (e ∷ es) h n =
     omega (arith, length-one_more e.0 e.1 es o r)
 
 -- ---- formula cells
-
--- the rooms with a formula
-abbrev pub formula_rooms : Rooms → List ℕ
-formula_rooms rooms = keys_of (filter (λ e. has_formula e.1) rooms)
 
 filter_same : (p q : ℕ → Bool) (cs : List ℕ) → AllByRecursion (λ c. p c ≡ q c) cs → filter p cs ≡ filter q cs
 filter_same p q [] h = refl

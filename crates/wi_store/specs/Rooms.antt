@@ -1,11 +1,11 @@
 -- The rooms of a store: cells that may have a content. A room is vacant only while an edit goes on.
-use Rattle.std.specs.Prelude.{◌≡◌, ◌==◌, ℕ, true, List, Option, Some, None, option_map}
+use Rattle.std.specs.Prelude.{◌≡◌, ◌==◌, ℕ, true, List, filter, Option, Some, None, option_map}
 use Rattle.std.specs.List.{filter_map, list_any}
 use Rattle.std.specs.Ordering.{nat_cmp}
 use Rattle.std.specs.Map.{lookup, keys_of}
 use Rattle.std.specs.BTreeMap.{is_at}
 use Rattle.std.specs.List.Sorted.{IsStrictlySortedBy}
-use Rattle.wi_parser.specs.Sheet.{Sheet}
+use Rattle.wi_parser.specs.Sheet.{Sheet, has_formula}
 use Rattle.wi_parser.specs.declared.content.Content.{Content}
 
 -- cells with their contents, in row-major order
@@ -23,6 +23,10 @@ sheet_in rooms = filter_map occupant rooms
 -- the room of a cell, if it has one
 abbrev pub room_of : Rooms → ℕ → Option (Option Content)
 room_of rooms c = lookup (is_at (nat_cmp c)) rooms
+
+-- the cells of the rooms with a formula
+abbrev pub formula_rooms : Rooms → List ℕ
+formula_rooms rooms = keys_of (filter (λ e. has_formula e.1) rooms)
 
 -- each cell has at most one room, and the rooms stand in row-major order
 abbrev pub IsInOrder : Rooms → Type 0

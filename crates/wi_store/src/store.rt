@@ -1,12 +1,13 @@
 //! A sheet within limits.
 
-ghost use Rattle.std.specs.Prelude.{◌≡◌, ◌<◌, ◌⊎◌, [], length, IfOk, OnOk, OnErr};
+ghost use Rattle.std.specs.Prelude.{◌≡◌, ◌<◌, ◌⊎◌, ◌++◌, ◌&&◌, ℕ, List, [], filter, length, IfOk, OnOk, OnErr};
 ghost use Rattle.std.specs.Option.{option_copied};
 ghost use Rattle.std.specs.List.Sorted.{IsStrictlyIncreasing};
 ghost use Rattle.std.specs.Map.{keys_of};
-ghost use Rattle.wi_parser.specs.Sheet.{content_of, cells_with_formula};
+ghost use Rattle.wi_values.specs.Address.{is_within};
+ghost use Rattle.wi_parser.specs.Sheet.{content_of, has_formula, cells_with_formula};
 ghost use Rattle.wi_store.specs.Store.{edited, applied, Applies};
-ghost use Rattle.wi_store.specs.Rooms.{sheet_in, IsInOrder, HasNoVacancy, VacantOnlyAt};
+ghost use Rattle.wi_store.specs.Rooms.{sheet_in, formula_rooms, IsInOrder, HasNoVacancy, VacantOnlyAt};
 ghost use Rattle.wi_store.specs.Exchange.{admitted};
 
 use crate::fault::StoreFault;
@@ -16,8 +17,9 @@ use crate::settle::settle;
 use std::alloc::{AllocError, Global};
 use std::collections::BTreeMap;
 use std::marker::Model;
+use std::ops::Bound;
 use wi_parser::Content;
-use wi_values::Address;
+use wi_values::{Address, Rect};
 
 /// The contents of a sheet, with the count of accepted edits and the limits of both.
 #[derive(Drop)]
@@ -124,6 +126,51 @@ impl Store {
             }
         }
         Ok(found)
+    }
+
+    /// Appends the cells of a rectangle that have a formula, in row-major order. On an error the list is as before.
+    /// The work grows with the count of occupied cells from the rectangle's first cell to its last in row-major order,
+    /// those beside it too, and with the logarithm of the count of all.
+    pub fn push_formulas_within(
+        &self,
+        area: Rect,
+        found: &mut Vec<Address>,
+    ) -> Result<(), AllocError>
+        ensures ok { OnOk result (found.new.items ≡ found.old.items ++ filter (is_within area) (cells_with_formula self.now.sheet)) }
+        ensures err { OnErr result (found.new.items ≡ found.old.items) }
+    {
+        let before = found.len();
+        let outcome = push_formulas(&self.rooms, area, found);
+        if outcome.is_err() {
+            found.truncate(before);
+        }
+        outcome
+    }
+}
+
+// Appends the cells of a rectangle that have a formula. On an error some of them may be there.
+fn push_formulas(rooms: &Rooms, area: Rect, found: &mut Vec<Address>) -> Result<(), AllocError>
+    ensures ok { OnOk result (found.new.items ≡ found.old.items ++ filter (is_within area) (formula_rooms rooms.now.entries)) }
+    ensures err { OnErr result ((some : List ℕ) × (found.new.items ≡ found.old.items ++ some)) }
+{
+    let from = Bound::Included(area.first());
+    let to = Bound::Included(area.last());
+    for (cell, room) in rooms.range((from, to)) {
+        if is_formula_within(area, *cell, room) {
+            found.push(*cell)?;
+        }
+    }
+    Ok(())
+}
+
+// Whether a room has a formula and its cell lies in a rectangle.
+fn is_formula_within(area: Rect, at: Address, room: &Option<Content>) -> bool
+    ensures { result ≡ (has_formula room.now && is_within area at) }
+{
+    match room {
+        Some(Content::Formula(_)) => area.contains(at),
+        Some(Content::Constant(_)) => false,
+        None => false,
     }
 }
 

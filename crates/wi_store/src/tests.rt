@@ -2,7 +2,7 @@ use crate::{Limits, Store, StoreFault};
 use std::alloc::{AllocError, Global};
 use std::test::Fail;
 use wi_parser::Content;
-use wi_values::{Address, Value};
+use wi_values::{Address, Rect, Value};
 
 type Changes = Vec<(Address, Option<Content>)>;
 
@@ -55,6 +55,53 @@ fn an_edit_is_read_back(rt: HostRuntime) -> Result<(), Fail> {
     assert_eq!(rt; found.as_slice(), [b1, a2].as_slice());
     assert_eq!(rt; store.occupied(), 3);
     assert_eq!(rt; store.limits(), Limits::standard());
+    Ok(())
+}
+
+// A sheet with formulas in B1, D1, A2, B2, C2, D2, C3 and A4, and a constant in B3.
+fn with_formulas(alloc: Global) -> Result<Store, Fail> {
+    let mut store = Store::new(alloc, Limits::standard());
+    let mut changes = changes(alloc, &[(Address::at(2, 1), Some(true))])?;
+    for (row, column) in [
+        (3, 0),
+        (2, 2),
+        (1, 3),
+        (1, 2),
+        (1, 1),
+        (1, 0),
+        (0, 3),
+        (0, 1),
+    ] {
+        let formula = Content::read(alloc, "=1")?;
+        changes.push((Address::at(row, column), Some(formula)))?;
+    }
+    store.apply(changes)?;
+    Ok(store)
+}
+
+#[test]
+fn formulas_within_rectangles(rt: HostRuntime) -> Result<(), Fail> {
+    let store = with_formulas(rt.alloc())?;
+    let sheet = Rect::new(Address::at(0, 0), Address::at(1_048_575, 16_383));
+    for (area, text) in [
+        (Rect::read(b"B1:C3")?, "B1 B2 C2 C3 "),
+        (Rect::read(b"C3:B2")?, "B2 C2 C3 "),
+        (Rect::read(b"A1:A4")?, "A2 A4 "),
+        (Rect::read(b"D2")?, "D2 "),
+        (Rect::read(b"B3")?, ""),
+        (Rect::read(b"A5:XFD9")?, ""),
+        (sheet, "B1 D1 A2 B2 C2 D2 C3 A4 "),
+    ] {
+        let mut found = Vec::new(rt.alloc());
+        found.push(Address::at(8, 8))?;
+        store.push_formulas_within(area, &mut found)?;
+        let mut shown = String::new(rt.alloc());
+        for at in &found {
+            at.push_text(&mut shown)?;
+            shown.push(' ')?;
+        }
+        assert_eq!(rt; shown.as_str().strip_prefix("I9 "), Some(text));
+    }
     Ok(())
 }
 

@@ -1,8 +1,8 @@
 use Rattle.std.proofs.Common.{◌≡◌, ℕ, List, [], ◌++◌, sym, ap, ◌∙◌, append-nil}
 use Rattle.wi_parser.specs.Sheet.{cells_with_formula}
 use Rattle.wi_store.specs.Store.{Stored}
-use Rattle.wi_store.specs.Rooms.{Rooms}
-use Rattle.wi_store.proofs.RoomLemmas.{Ascends-from_order, formula_rooms, cells_with_formula-sheet_in}
+use Rattle.wi_store.specs.Rooms.{Rooms, formula_rooms}
+use Rattle.wi_store.proofs.RoomLemmas.{Ascends-from_order, cells_with_formula-sheet_in}
 use Rattle.wi_store.proofs.store.Store.formulas.Goals as goal
 
 -- at the end of the loop nothing is left

@@ -1,5 +1,5 @@
 use Rattle.std.proofs.Common.{◌≡◌, ◌++◌}
-use Rattle.wi_store.proofs.RoomLemmas.{formula_rooms}
+use Rattle.wi_store.specs.Rooms.{formula_rooms}
 use Rattle.wi_store.proofs.store.Store.formulas.Given as goal
 
 abbrev pub invariant-loop-at : goal.invariant-loop-at
