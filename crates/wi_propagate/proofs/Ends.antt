@@ -7,11 +7,12 @@ use Rattle.std.specs.Map.{keys_of}
 use Rattle.wi_values.specs.declared.value.Value.{Value}
 use Rattle.wi_values.specs.declared.value.Value.TheVariants.{Empty}
 use Rattle.wi_values.specs.declared.replacement.Replacement.{Replacement}
+use Rattle.wi_values.proofs.Corners.{corners_may_turn}
 use Rattle.wi_parser.specs.declared.expr.Pair.{Pair}
 use Rattle.wi_parser.specs.declared.expr.Reference.{Reference}
 use Rattle.wi_parser.specs.declared.content.Content.{Content}
 use Rattle.wi_parser.specs.declared.content.Content.TheVariants.{Formula}
-use Rattle.wi_parser.specs.Tree.{Tree, number, cell, parenthesized, signed, percent, binary, what_if}
+use Rattle.wi_parser.specs.Tree.{Tree, number, cell, rectangle, parenthesized, signed, percent, binary, what_if}
 use Rattle.wi_parser.specs.View.{pair_of}
 use Rattle.wi_parser.specs.Sheet.{Sheet, content_of, put_all, has_formula, cells_with_formula}
 use Rattle.wi_parser.specs.Reads.{reads, content_reads}
@@ -88,6 +89,7 @@ what_if_end n s f ps (WhatIf g pairs) h e = (
 pub asked_end : (t : Tree) (n : ℕ) (s : Sheet) (w : Want) → ReadsEnd n s t → Asks t w → WantEnds n s w
 asked_end (number x) n s w e h = absurd h
 asked_end (cell r) n s w e h = cell_end n s r.at w h (e r.at (eq-eqb r.at r.at refl))
+asked_end (rectangle c) n s w e h = cell_end n s c.one.at w h.1 (e c.one.at (corners_may_turn c.one.at c.other.at).1)
 asked_end (parenthesized t) n s w e h = asked_end t n s w e h
 asked_end (signed x t) n s w e h = asked_end t n s w e h
 asked_end (percent t) n s w e h = asked_end t n s w e h

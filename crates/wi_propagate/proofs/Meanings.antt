@@ -1,14 +1,17 @@
 -- A formula's meaning rests on the cells that it reads alone.
-use Rattle.std.proofs.Common.{◌≡◌, ◌==◌, ℕ, Bool, true, ◌||◌, List, [], ◌∷◌, map, refl, ap, sym, ◌∙◌, eq-eqb}
+use Rattle.std.proofs.Common.{◌≡◌, ◌==◌, ℕ, Bool, true, ◌||◌, cond, List, [], ◌∷◌, map, refl, ap, sym, ◌∙◌, eq-eqb}
 use Rattle.std.proofs.lemmas.Bool.{or_left, or_right}
 use Rattle.std.specs.List.{list_any}
+use Rattle.wi_values.proofs.Corners.{corners_may_turn}
+use Rattle.wi_values.specs.declared.value.ErrorKind.TheVariants.{BadValue}
 use Rattle.wi_values.specs.declared.value.Value.{Value}
+use Rattle.wi_values.specs.declared.value.Value.TheVariants.{Fault}
 use Rattle.wi_values.specs.declared.replacement.Replacement.{Replacement}
 use Rattle.wi_parser.specs.declared.expr.Reference.{Reference}
-use Rattle.wi_parser.specs.Tree.{Tree, number, cell, parenthesized, signed, percent, binary, what_if}
+use Rattle.wi_parser.specs.Tree.{Tree, number, cell, rectangle, parenthesized, signed, percent, binary, what_if}
 use Rattle.wi_parser.specs.Reads.{reads}
 use Rattle.wi_functions.specs.Operators.{operate, with_sign, hundredth}
-use Rattle.wi_functions.specs.Meaning.{meaning, addresses}
+use Rattle.wi_functions.specs.Meaning.{meaning, addresses, is_one_cell}
 use Rattle.wi_propagate.specs.CellValue.{replacements}
 
 -- a what-if that reads no more than a tree does
@@ -24,6 +27,7 @@ pub meaning_same : (t : Tree) (g h : ℕ → Value) (w v : ℕ → List (ℕ × 
     ((f : ℕ) (ps : List (ℕ × ℕ)) → ReadsNoMore f ps t → w f ps ≡ v f ps) → meaning t g w ≡ meaning t h v
 meaning_same (number n) g h w v k l = refl
 meaning_same (cell r) g h w v k l = k r.at (eq-eqb r.at r.at refl)
+meaning_same (rectangle c) g h w v k l = ap (λ (x : Value). cond (is_one_cell c) x (Fault BadValue)) (k c.one.at (corners_may_turn c.one.at c.other.at).1)
 meaning_same (parenthesized t) g h w v k l = meaning_same t g h w v k l
 meaning_same (signed s t) g h w v k l = ap (with_sign s) (meaning_same t g h w v k l)
 meaning_same (percent t) g h w v k l = ap hundredth (meaning_same t g h w v k l)

@@ -3,8 +3,8 @@ use Rattle.std.proofs.Common.{◌≡◌, ◌==◌, ℕ, ◌+◌, ◌<◌, ◌≤
 use Rattle.std.proofs.lemmas.Bool.{and_from}
 use Rattle.wi_values.specs.declared.value.Value.{Value}
 use Rattle.wi_parser.specs.declared.expr.Reference.{Reference}
-use Rattle.wi_parser.specs.Tree.{Tree, number, cell, parenthesized, signed, percent, binary, what_if}
-use Rattle.wi_functions.specs.Meaning.{addresses}
+use Rattle.wi_parser.specs.Tree.{Tree, number, cell, rectangle, parenthesized, signed, percent, binary, what_if}
+use Rattle.wi_functions.specs.Meaning.{addresses, is_one_cell}
 use Rattle.wi_functions.specs.Wants.{Asks}
 use Rattle.wi_functions.specs.declared.evaluation.Want.TheVariants.{Cell, WhatIf}
 use Rattle.wi_propagate.specs.Found.{same_pairs, pairs_of, find_cell, find_what_if, one_missing, missing}
@@ -27,6 +27,11 @@ KeepsWhatIfs w v = (f : ℕ) (ps : List (ℕ × ℕ)) → one_missing (v f ps) �
 no_more : (t : Tree) (k m : Cells) (w v : WhatIfs) → KeepsCells k m → KeepsWhatIfs w v → missing t m v ≤ missing t k w
 no_more (number x) k m w v h i = omega arith
 no_more (cell r) k m w v h i = h r.at
+no_more (rectangle c) k m w v h i = at (is_one_cell c)
+  where
+    at : (b : Bool) → cond b (one_missing (m c.one.at)) 0 ≤ cond b (one_missing (k c.one.at)) 0
+    at true = h c.one.at
+    at false = omega arith
 no_more (parenthesized t) k m w v h i = no_more t k m w v h i
 no_more (signed s t) k m w v h i = no_more t k m w v h i
 no_more (percent t) k m w v h i = no_more t k m w v h i
@@ -44,6 +49,9 @@ falls (Some x) p e z = cc
 fewer_cell : (t : Tree) (a : ℕ) (k m : Cells) (w v : WhatIfs) → KeepsCells k m → KeepsWhatIfs w v → Asks t (Cell a) → k a ≡ None → one_missing (m a) ≡ 0 → missing t m v < missing t k w
 fewer_cell (number x) a k m w v h i q e z = absurd q
 fewer_cell (cell r) a k m w v h i q e z = falls (k r.at) (m r.at) (ap k (sym q) ∙ e) (ap (λ (b : ℕ). one_missing (m b)) (sym q) ∙ z)
+fewer_cell (rectangle c) a k m w v h i q e z =
+    subst (λ (b : Bool). cond b (one_missing (m c.one.at)) 0 < cond b (one_missing (k c.one.at)) 0) (sym q.0)
+    (falls (k c.one.at) (m c.one.at) (ap k (sym q.1) ∙ e) (ap (λ (b : ℕ). one_missing (m b)) (sym q.1) ∙ z))
 fewer_cell (parenthesized t) a k m w v h i q e z = fewer_cell t a k m w v h i q e z
 fewer_cell (signed s t) a k m w v h i q e z = fewer_cell t a k m w v h i q e z
 fewer_cell (percent t) a k m w v h i q e z = fewer_cell t a k m w v h i q e z
@@ -61,6 +69,7 @@ fewer_what_if : (t : Tree) (g : FoundWhatIf) (k m : Cells) (w v : WhatIfs) → K
     w g.at (pairs_of g) ≡ None → one_missing (v g.at (pairs_of g)) ≡ 0 → missing t m v < missing t k w
 fewer_what_if (number x) g k m w v h i q e z = absurd q
 fewer_what_if (cell r) g k m w v h i q e z = absurd q
+fewer_what_if (rectangle c) g k m w v h i q e z = absurd q.1
 fewer_what_if (parenthesized t) g k m w v h i q e z = fewer_what_if t g k m w v h i q e z
 fewer_what_if (signed s t) g k m w v h i q e z = fewer_what_if t g k m w v h i q e z
 fewer_what_if (percent t) g k m w v h i q e z = fewer_what_if t g k m w v h i q e z

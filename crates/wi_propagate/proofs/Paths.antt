@@ -18,7 +18,7 @@ use Rattle.wi_propagate.specs.ReadCells.{read_cells}
 use Rattle.wi_propagate.proofs.Layers.{is_one_of}
 use Rattle.wi_propagate.proofs.Walks.{same_cell, step, circular_walks}
 use Rattle.wi_propagate.proofs.Graphs.{left_circular}
-use Rattle.wi_propagate.proofs.ReadLists.{read_cells_all, reads_open}
+use Rattle.wi_propagate.proofs.ReadLists.{listed_is_read, reads_open}
 use Rattle.wi_propagate.proofs.Ends.{ends_open}
 
 first_in : (c : ℕ) (cs : List ℕ) (d : ℕ) → (is_one_of (c ∷ cs) (first_of cs d) ≡ true) ⊎ (first_of cs d ≡ d)
@@ -67,16 +67,16 @@ path-push s (c ∷ cs) a d p r = (ap (content_reads (content_of s c)) (first_of-
 -- ---- steps of the search
 
 -- a cell of the list of what a formula reads is read
-pub listed_read : (s : Sheet) (c : ℕ) (t : Tree) (cells : List ℕ) (i d : ℕ) → content_of s c ≡ Some (Formula t) → cells ≡ read_cells t → i < length cells → d ≡ get_or cells i d → content_reads (content_of s c) d ≡ true
+pub listed_read : (s : Sheet) (c : ℕ) (t : Tree) (cells : List ℕ) (i d : ℕ) → content_of s c ≡ Some (Formula t) → cells ≡ read_cells s t → i < length cells → d ≡ get_or cells i d → content_reads (content_of s c) d ≡ true
 listed_read s c t cells i d e k l h =
     let one = list_any_at (λ (x : ℕ). x == d) cells i d l (eq-eqb (get_or cells i d) d (sym h)) in
-    ap (λ o. content_reads o d) e ∙ sym (read_cells_all t d) ∙ ap (λ (xs : List ℕ). is_one_of xs d) (sym k) ∙ one
+    ap (λ o. content_reads o d) e ∙ listed_is_read s t d (ap (λ (xs : List ℕ). is_one_of xs d) (sym k) ∙ one)
 
 pub plain_clear : (s : Sheet) (c : ℕ) → has_formula (content_of s c) ≡ false → circular s c ≡ false
 plain_clear s c h = ends_open 0 s c h
 
 -- none of the cells that were looked at is circular, and all were
-pub all_clear : (s : Sheet) (c : ℕ) (t : Tree) (cells : List ℕ) (i : ℕ) → content_of s c ≡ Some (Formula t) → cells ≡ read_cells t → length cells ≤ i →
+pub all_clear : (s : Sheet) (c : ℕ) (t : Tree) (cells : List ℕ) (i : ℕ) → content_of s c ≡ Some (Formula t) → cells ≡ read_cells s t → length cells ≤ i →
     list_any (circular s) (drop i cells) ≡ list_any (circular s) cells → circular s c ≡ false
 all_clear s c t cells i e k l h =
     reads_open s c t e (ap (list_any (circular s)) (sym k) ∙ sym h ∙ ap (list_any (circular s)) (drop_all i cells l))

@@ -1,17 +1,18 @@
 -- The cells that a formula reads, as a list.
-use Rattle.std.proofs.Common.{◌≡◌, ◌==◌, ℕ, ◌||◌, Bool, true, false, List, [], ◌∷◌, ◌++◌, map, Some, refl, ap, sym, ◌∙◌}
-use Rattle.std.proofs.lemmas.Bool.{false_from_ne_true}
+use Rattle.std.proofs.Common.{◌≡◌, ◌==◌, ℕ, ◌||◌, ◌&&◌, Bool, true, false, cond, List, [], ◌∷◌, ◌++◌, map, filter, Some, refl, ap, sym, ◌∙◌, inl, inr, ◌⊎◌}
+use Rattle.std.proofs.lemmas.Bool.{false_from_ne_true, and_parts, or_cases, or_left, or_right}
 use Rattle.std.proofs.lemmas.List.Folds.{list_any-append}
 use Rattle.std.specs.List.{list_any}
+use Rattle.wi_values.specs.Address.{is_within}
 use Rattle.wi_parser.specs.declared.expr.Reference.{Reference}
 use Rattle.wi_parser.specs.declared.content.Content.TheVariants.{Formula}
-use Rattle.wi_parser.specs.Tree.{Tree, number, cell, parenthesized, signed, percent, binary, what_if}
-use Rattle.wi_parser.specs.Sheet.{Sheet, content_of}
-use Rattle.wi_parser.specs.Reads.{reads, content_reads}
+use Rattle.wi_parser.specs.Tree.{Tree, number, cell, rectangle, parenthesized, signed, percent, binary, what_if}
+use Rattle.wi_parser.specs.Sheet.{Sheet, content_of, has_formula, cells_with_formula}
+use Rattle.wi_parser.specs.Reads.{area_of, reads, content_reads}
 use Rattle.wi_propagate.specs.Circular.{circular}
 use Rattle.wi_propagate.specs.ReadCells.{read_cells}
 use Rattle.wi_propagate.proofs.Layers.{is_one_of}
-use Rattle.wi_propagate.proofs.Walks.{found}
+use Rattle.wi_propagate.proofs.Walks.{same_cell, found, formula_cell, circular_walks}
 use Rattle.wi_propagate.proofs.Graphs.{stripped}
 
 or_false : (b : Bool) → (b || false) ≡ b
@@ -22,20 +23,64 @@ replacing : (ps : List (Reference × Reference)) (a : ℕ) → is_one_of (map (�
 replacing [] a = refl
 replacing (p ∷ ps) a = ap (λ (b : Bool). (p.1.at == a) || b) (replacing ps a)
 
--- a cell is in the list exactly where the tree reads it
-pub read_cells_all : (t : Tree) (a : ℕ) → is_one_of (read_cells t) a ≡ reads t a
-read_cells_all (number x) a = refl
-read_cells_all (cell r) a = or_false (r.at == a)
-read_cells_all (parenthesized t) a = read_cells_all t a
-read_cells_all (signed s t) a = read_cells_all t a
-read_cells_all (percent t) a = read_cells_all t a
-read_cells_all (binary op t u) a =
-    list_any-append (λ (x : ℕ). x == a) (read_cells t) (read_cells u)
-    ∙ ap (λ (b : Bool). b || is_one_of (read_cells u) a) (read_cells_all t a) ∙ ap (λ (b : Bool). reads t a || b) (read_cells_all u a)
-read_cells_all (what_if f ps) a = ap (λ (b : Bool). (f.at == a) || b) (replacing ps a)
+and_true : (b : Bool) → (b && true) ≡ b
+and_true true = refl
+and_true false = refl
+
+and_false : (b : Bool) → (b && false) ≡ false
+and_false true = refl
+and_false false = refl
+
+-- a cell is among those that pass a test exactly where it passes and is among all
+in_filter : (p : ℕ → Bool) (xs : List ℕ) (a : ℕ) → is_one_of (filter p xs) a ≡ (p a && is_one_of xs a)
+in_filter p [] a = sym (and_false (p a))
+in_filter p (x ∷ xs) a = by (p x) (x == a) refl refl (in_filter p xs a)
+  where
+    by : (b d : Bool) → p x ≡ b → (x == a) ≡ d → is_one_of (filter p xs) a ≡ (p a && is_one_of xs a) → is_one_of (cond b (x ∷ filter p xs) (filter p xs)) a ≡ (p a && (d || is_one_of xs a))
+    by true true e f ih =
+        ap (λ (c : Bool). c || is_one_of (filter p xs) a) f
+        ∙ sym (and_true (p a) ∙ sym (ap p (same_cell a x f)) ∙ e)
+    by true false e f ih = ap (λ (c : Bool). c || is_one_of (filter p xs) a) f ∙ ih
+    by false true e f ih =
+        let no = sym (ap p (same_cell a x f)) ∙ e in
+        ih ∙ ap (λ (c : Bool). c && is_one_of xs a) no ∙ sym (ap (λ (c : Bool). c && true) no)
+    by false false e f ih = ih
+
+-- of the cells with a formula, exactly those are in the list that the tree reads
+formula_listed : (s : Sheet) (t : Tree) (a : ℕ) → has_formula (content_of s a) ≡ true → is_one_of (read_cells s t) a ≡ reads t a
+formula_listed s (number x) a h = refl
+formula_listed s (cell r) a h = or_false (r.at == a)
+formula_listed s (rectangle c) a h =
+    in_filter (is_within (area_of c)) (cells_with_formula s) a ∙ ap (λ (b : Bool). is_within (area_of c) a && b) (formula_cell s a h) ∙ and_true (is_within (area_of c) a)
+formula_listed s (parenthesized t) a h = formula_listed s t a h
+formula_listed s (signed x t) a h = formula_listed s t a h
+formula_listed s (percent t) a h = formula_listed s t a h
+formula_listed s (binary op t u) a h =
+    list_any-append (λ (x : ℕ). x == a) (read_cells s t) (read_cells s u)
+    ∙ ap (λ (b : Bool). b || is_one_of (read_cells s u) a) (formula_listed s t a h) ∙ ap (λ (b : Bool). reads t a || b) (formula_listed s u a h)
+formula_listed s (what_if f ps) a h = ap (λ (b : Bool). (f.at == a) || b) (replacing ps a)
+
+-- a cell in the list is read
+pub listed_is_read : (s : Sheet) (t : Tree) (a : ℕ) → is_one_of (read_cells s t) a ≡ true → reads t a ≡ true
+listed_is_read s (number x) a h = h
+listed_is_read s (cell r) a h = sym (or_false (r.at == a)) ∙ h
+listed_is_read s (rectangle c) a h = (and_parts (is_within (area_of c) a) _ (sym (in_filter (is_within (area_of c)) (cells_with_formula s) a) ∙ h)).0
+listed_is_read s (parenthesized t) a h = listed_is_read s t a h
+listed_is_read s (signed x t) a h = listed_is_read s t a h
+listed_is_read s (percent t) a h = listed_is_read s t a h
+listed_is_read s (binary op t u) a h =
+    at (or_cases (is_one_of (read_cells s t) a) _ (sym (list_any-append (λ (x : ℕ). x == a) (read_cells s t) (read_cells s u)) ∙ h)) (listed_is_read s t a) (listed_is_read s u a)
+  where
+    at : (is_one_of (read_cells s t) a ≡ true) ⊎ (is_one_of (read_cells s u) a ≡ true) → (is_one_of (read_cells s t) a ≡ true → reads t a ≡ true) →
+        (is_one_of (read_cells s u) a ≡ true → reads u a ≡ true) → (reads t a || reads u a) ≡ true
+    at (inl k) left right = or_left (reads t a) (reads u a) (left k)
+    at (inr k) left right = or_right (reads t a) (reads u a) (right k)
+listed_is_read s (what_if f ps) a h = sym (ap (λ (b : Bool). (f.at == a) || b) (replacing ps a)) ∙ h
 
 -- a formula that reads no circular cell stands in one that is not
-pub reads_open : (s : Sheet) (c : ℕ) (t : Tree) → content_of s c ≡ Some (Formula t) → list_any (circular s) (read_cells t) ≡ false → circular s c ≡ false
+pub reads_open : (s : Sheet) (c : ℕ) (t : Tree) → content_of s c ≡ Some (Formula t) → list_any (circular s) (read_cells s t) ≡ false → circular s c ≡ false
 reads_open s c t e h = stripped s c (λ d r.
-    let m = read_cells_all t d ∙ sym (ap (λ o. content_reads o d) e) ∙ r in
-    false_from_ne_true (circular s d) (λ k. let z = found (circular s) (read_cells t) d m k in cc))
+    false_from_ne_true (circular s d) (λ k.
+    let m = formula_listed s t d (circular_walks s d k 0) ∙ sym (ap (λ o. content_reads o d) e) ∙ r in
+    let z = found (circular s) (read_cells s t) d m k in
+    cc))

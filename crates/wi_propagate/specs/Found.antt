@@ -1,9 +1,9 @@
 -- The values that were found for one formula.
 use Rattle.std.specs.Prelude.{◌≡◌, ◌==◌, ℕ, ◌+◌, Bool, true, false, ◌&&◌, List, [], ◌∷◌, map, Option, Some, None, is_some, if◌then◌else◌}
 use Rattle.wi_values.specs.declared.value.Value.{Value}
-use Rattle.wi_parser.specs.Tree.{Tree, number, cell, parenthesized, signed, percent, binary, what_if}
+use Rattle.wi_parser.specs.Tree.{Tree, number, cell, rectangle, parenthesized, signed, percent, binary, what_if}
 use Rattle.wi_parser.specs.View.{pair_of}
-use Rattle.wi_functions.specs.Meaning.{addresses}
+use Rattle.wi_functions.specs.Meaning.{addresses, is_one_cell}
 use Rattle.wi_propagate.specs.declared.found.Found.{Found}
 use Rattle.wi_propagate.specs.declared.found.FoundCell.{FoundCell}
 use Rattle.wi_propagate.specs.declared.found.FoundWhatIf.{FoundWhatIf}
@@ -48,6 +48,7 @@ one_missing None = 1
 abbrev pub missing : Tree → (ℕ → Option Value) → (ℕ → List (ℕ × ℕ) → Option Value) → ℕ
 missing (number x) cells what_ifs = 0
 missing (cell r) cells what_ifs = one_missing (cells r.at)
+missing (rectangle c) cells what_ifs = if is_one_cell c then one_missing (cells c.one.at) else 0
 missing (parenthesized t) cells what_ifs = missing t cells what_ifs
 missing (signed s t) cells what_ifs = missing t cells what_ifs
 missing (percent t) cells what_ifs = missing t cells what_ifs

@@ -3,11 +3,10 @@
 ghost use Rattle.std.specs.Prelude.{◌≡◌, ◌==◌, ◌++◌, IfOk, OnOk, map};
 ghost use Rattle.std.specs.Bool.{OnFalse};
 ghost use Rattle.std.specs.List.{list_any};
-ghost use Rattle.wi_parser.specs.Tree.{what_if};
 ghost use Rattle.wi_parser.specs.View.{tree_of, pair_of};
 ghost use Rattle.wi_propagate.specs.Circular as cycles;
 ghost use Rattle.wi_propagate.specs.Clear.{AreClear, IsPathTo, Leads};
-ghost use Rattle.wi_propagate.specs.ReadCells.{read_cells};
+ghost use Rattle.wi_propagate.specs.ReadCells.{read_cells, what_if_cells};
 
 use crate::seen::formula_at;
 use std::alloc::{AllocError, Global};
@@ -55,7 +54,7 @@ fn leads_on(
         return Ok(true);
     }
     let mut cells = Vec::new(alloc);
-    push_reads(formula.tree(), &mut cells)?;
+    push_reads(store, formula.tree(), &mut cells)?;
     path.push(at)?;
     for cell in &cells {
         if leads_on(alloc, store, *cell, steps - 1, path, clear)? {
@@ -74,9 +73,10 @@ fn is_among(cells: &[Address], at: Address) -> bool
     cells.iter().any(|c| *c == at)
 }
 
-/// Appends the cells that an expression reads.
-fn push_reads(expr: &Expr, cells: &mut Vec<Address>) -> Result<(), AllocError>
-    ensures { OnOk result (cells.new.items ≡ cells.old.items ++ read_cells (tree_of expr.now)) }
+/// Appends the cells that an expression reads, of a rectangle those that have a formula. The work grows as that of
+/// `Store::push_formulas_within`.
+fn push_reads(store: &Store, expr: &Expr, cells: &mut Vec<Address>) -> Result<(), AllocError>
+    ensures { OnOk result (cells.new.items ≡ cells.old.items ++ read_cells store.now.sheet (tree_of expr.now)) }
 {
     match expr {
         Expr::Number(_) => Ok(()),
@@ -84,12 +84,13 @@ fn push_reads(expr: &Expr, cells: &mut Vec<Address>) -> Result<(), AllocError>
             cells.push(reference.at)?;
             Ok(())
         }
-        Expr::Parenthesized(inner) => push_reads(inner, cells),
-        Expr::Signed(_, operand) => push_reads(operand, cells),
-        Expr::Percent(operand) => push_reads(operand, cells),
+        Expr::Rectangle(corners) => store.push_formulas_within(corners.area(), cells),
+        Expr::Parenthesized(inner) => push_reads(store, inner, cells),
+        Expr::Signed(_, operand) => push_reads(store, operand, cells),
+        Expr::Percent(operand) => push_reads(store, operand, cells),
         Expr::Binary(_, left, right) => {
-            push_reads(left, cells)?;
-            push_reads(right, cells)
+            push_reads(store, left, cells)?;
+            push_reads(store, right, cells)
         }
         Expr::WhatIf(formula_cell, pairs) => push_what_if(*formula_cell, pairs, cells),
     }
@@ -101,7 +102,7 @@ fn push_what_if(
     pairs: &[Pair],
     cells: &mut Vec<Address>,
 ) -> Result<(), AllocError>
-    ensures { OnOk result (cells.new.items ≡ cells.old.items ++ read_cells (what_if formula_cell (map pair_of pairs.now))) }
+    ensures { OnOk result (cells.new.items ≡ cells.old.items ++ what_if_cells formula_cell (map pair_of pairs.now)) }
 {
     cells.push(formula_cell.at)?;
     for pair in pairs {

@@ -1,8 +1,7 @@
 use Rattle.std.proofs.Common.{◌≡◌, ◌++◌, take, map}
-use Rattle.wi_parser.specs.Tree.{what_if}
 use Rattle.wi_parser.specs.View.{pair_of}
-use Rattle.wi_propagate.specs.ReadCells.{read_cells}
+use Rattle.wi_propagate.specs.ReadCells.{what_if_cells}
 use Rattle.wi_propagate.proofs.circular.push_what_if.Given as goal
 
 abbrev pub invariant-loop-pair : goal.invariant-loop-pair
-invariant-loop-pair l = l.cells.items ≡ l.fn.cells.items ++ read_cells (what_if l.fn.formula_cell (map pair_of (take l.pair-index l.pairs)))
+invariant-loop-pair l = l.cells.items ≡ l.fn.cells.items ++ what_if_cells l.fn.formula_cell (map pair_of (take l.pair-index l.pairs))
