@@ -15,6 +15,8 @@ mod print;
 mod print_tests;
 mod shift;
 #[cfg(test)]
+mod shift_tests;
+#[cfg(test)]
 mod tests;
 mod tokens;
 mod what_if;

@@ -1,0 +1,117 @@
+use crate::{Expr, Reference, ShiftFault, parse};
+use std::alloc::{AllocError, Global};
+use std::test::Fail;
+
+// Appends a tree's references from the left.
+fn push_references(tree: &Expr, all: &mut Vec<Reference>) -> Result<(), AllocError> {
+    match tree {
+        Expr::Cell(r) => Ok(all.push(*r)?),
+        Expr::Parenthesized(t) => push_references(t, all),
+        Expr::Binary(_, t, u) => {
+            push_references(t, all)?;
+            push_references(u, all)
+        }
+        Expr::WhatIf(f, pairs) => {
+            all.push(*f)?;
+            for pair in pairs {
+                all.push(pair.input)?;
+                all.push(pair.by)?;
+            }
+            Ok(())
+        }
+        _ => Ok(()),
+    }
+}
+
+fn references(alloc: Global, tree: &Expr) -> Result<Vec<Reference>, AllocError> {
+    let mut all = Vec::new(alloc);
+    push_references(tree, &mut all)?;
+    Ok(all)
+}
+
+#[test]
+fn references_move(rt: HostRuntime) -> Result<(), Fail> {
+    for (text, rows, columns, wanted) in [
+        ("=[.B2]", 1, 1, "=[.C3]"),
+        ("=[.B2]", -1, -1, "=[.A1]"),
+        ("=[.B2]", 0, 0, "=[.B2]"),
+        ("=[.$B2]", 1, 1, "=[.$B3]"),
+        ("=[.B$2]", 1, 1, "=[.C$2]"),
+        ("=[.$B$2]", 1, 1, "=[.$B$2]"),
+        ("=[.Z9]", 1, 1, "=[.AA10]"),
+        ("=[.A1]", 1_048_575, 16_383, "=[.XFD1048576]"),
+        ("=[.XFD1048576]", -1_048_575, -16_383, "=[.A1]"),
+        ("=[.$A$1]", i64::MAX, i64::MIN, "=[.$A$1]"),
+        ("=[.$B2]", 3, i64::MIN, "=[.$B5]"),
+        ("=[.B$2]", i64::MAX, -1, "=[.A$2]"),
+        ("=7", i64::MIN, i64::MAX, "=7"),
+        ("=([.A1]+2)*[.$C3]", 2, 1, "=([.B3]+2)*[.$C5]"),
+        (
+            "=MULTIPLE.OPERATIONS([.B2];[.B$1];[.$A4];[.C3];[.$D$4])",
+            1,
+            2,
+            "=MULTIPLE.OPERATIONS([.D3];[.D$1];[.$A5];[.E4];[.$D$4])",
+        ),
+    ] {
+        let formula = parse(rt.alloc(), text)?;
+        let wanted = parse(rt.alloc(), wanted)?;
+        let moved = formula.shift(rt.alloc(), rows, columns)?;
+        let found = references(rt.alloc(), moved.tree())?;
+        let right = references(rt.alloc(), wanted.tree())?;
+        assert_eq!(rt; found.as_slice(), right.as_slice(), "{text}");
+        assert_eq!(rt; moved.inputs(), wanted.inputs(), "{text}");
+    }
+    Ok(())
+}
+
+#[test]
+fn references_leave_the_sheet(rt: HostRuntime) -> Result<(), Fail> {
+    for (text, rows, columns) in [
+        ("=[.A1]", -1, 0),
+        ("=[.A1]", 0, -1),
+        ("=[.A1]", 1_048_576, 0),
+        ("=[.A1]", 0, 16_384),
+        ("=[.XFD1048576]", 1, 0),
+        ("=[.XFD1048576]", 0, 1),
+        ("=[.A1]", i64::MIN, 0),
+        ("=[.A1]", 0, i64::MAX),
+        ("=[.XFD1048576]", i64::MAX, i64::MAX),
+        ("=[.A$1]", 0, -1),
+        ("=[.$A1]", -1, 0),
+        ("=[.B2]+[.B1]", -1, 0),
+        ("=[.B1]+[.B2]", -1, 0),
+        ("=MULTIPLE.OPERATIONS([.B1];[.B2];[.B2])", -1, 0),
+        ("=MULTIPLE.OPERATIONS([.B2];[.B1];[.B2])", -1, 0),
+        ("=MULTIPLE.OPERATIONS([.B2];[.B2];[.B2];[.B2];[.B1])", -1, 0),
+    ] {
+        let fault = parse(rt.alloc(), text)?
+            .shift(rt.alloc(), rows, columns)
+            .err();
+        assert_eq!(rt; fault, Some(ShiftFault::LeavesSheet), "{text}");
+    }
+    Ok(())
+}
+
+#[test]
+fn a_formula_stays_where_another_is_made_of_it(rt: HostRuntime) -> Result<(), Fail> {
+    let formula = parse(rt.alloc(), "=MULTIPLE.OPERATIONS([.B2];[.B1];[.A4])+1")?;
+    let before = references(rt.alloc(), formula.tree())?;
+    let _moved = formula.shift(rt.alloc(), 5, 5)?;
+    let _none = formula.shift(rt.alloc(), -5, 5).err();
+    let after = references(rt.alloc(), formula.tree())?;
+    assert_eq!(rt; before.as_slice(), after.as_slice());
+    Ok(())
+}
+
+#[test]
+fn long_formulas_move(rt: HostRuntime) -> Result<(), Fail> {
+    let mut text = String::from_str(rt.alloc(), "=[.A1]")?;
+    for _ in 0..2_000 {
+        text.push_str("+1")?;
+    }
+    let moved = parse(rt.alloc(), text.as_str())?.shift(rt.alloc(), 1, 1)?;
+    let found = references(rt.alloc(), moved.tree())?;
+    let wanted = references(rt.alloc(), parse(rt.alloc(), "=[.B2]")?.tree())?;
+    assert_eq!(rt; found.as_slice(), wanted.as_slice());
+    Ok(())
+}
