@@ -8,12 +8,13 @@ use Rattle.wi_parser.specs.declared.expr.Reference.{Reference}
 use Rattle.wi_parser.specs.declared.expr.Operator.TheVariants.{Power}
 use Rattle.wi_parser.specs.declared.expr.Sign.{Sign}
 use Rattle.wi_parser.specs.declared.expr.Sign.TheVariants.{Plus, Minus}
-use Rattle.wi_parser.specs.Tree.{Tree, number, cell, rectangle, parenthesized, signed, percent, binary, what_if}
-use Rattle.wi_parser.specs.Symbol.{Symbol, numeral, reference, corners, open_parenthesis, close_parenthesis, infix_mark, sign_mark, percent_mark}
-use Rattle.wi_parser.specs.Grammar.{line_of, loosest, Spells, pair_symbols, what_if_symbols, a_number, a_cell, a_rectangle, in_parentheses, one_input, two_inputs, with_sign, with_percent, tighter, joined}
-use Rattle.wi_parser.specs.Reader.{Parse, read_then, then_close, after_percent, operator_at, pair_at, what_if_at, atom, signed_read, prefixed, percents, chain, line, expression, if_last, whole}
-use Rattle.wi_parser.specs.Nesting.{depth}
+use Rattle.wi_parser.specs.Tree.{Tree, number, cell, rectangle, parenthesized, signed, percent, binary, what_if, Trees, text, call, no_trees, more_trees}
+use Rattle.wi_parser.specs.Symbol.{Symbol, numeral, reference, corners, open_parenthesis, close_parenthesis, infix_mark, sign_mark, percent_mark, text_literal, separator, name}
+use Rattle.wi_parser.specs.Grammar.{line_of, loosest, Spells, pair_symbols, what_if_symbols, a_number, a_cell, a_rectangle, in_parentheses, one_input, two_inputs, with_sign, with_percent, tighter, joined, SpellsAll, SpellsMore, a_text, a_call, no_parameter, parameters, last_parameter, another_parameter}
+use Rattle.wi_parser.specs.Reader.{Parse, read_then, then_close, after_percent, operator_at, pair_at, what_if_at, atom, signed_read, prefixed, percents, chain, line, expression, if_last, whole, after_close, put_first, more_parameters, parameters_at, as_call}
+use Rattle.wi_parser.specs.Nesting.{depth, greatest_depth}
 use Rattle.wi_parser.proofs.Turns.{percents_stop, chain_stop, chain_more}
+use Rattle.wi_parser.proofs.Parameters.{parameters_first, more_last, more_again}
 
 -- no percent mark and no operator of the lines up to k stands first
 abbrev pub Stops : ℕ → List Symbol → Type 0
@@ -36,6 +37,29 @@ ended = (((((refl, refl), refl), refl), refl), refl)
 
 closed : (rest : List Symbol) → Stops loosest (close_parenthesis ∷ rest)
 closed rest = (((((refl, refl), refl), refl), refl), refl)
+
+separated : (rest : List Symbol) → Stops loosest (separator ∷ rest)
+separated rest = (((((refl, refl), refl), refl), refl), refl)
+
+-- no tree begins with the parenthesis that closes
+not_closed : {k : ℕ} {t : Tree} {ts : List Symbol} (rest : List Symbol) → Spells k t ts → after_close (ts ++ rest) ≡ None
+not_closed rest (a_number x) = refl
+not_closed rest (a_text s) = refl
+not_closed rest (a_cell r) = refl
+not_closed rest (in_parentheses t ts s) = refl
+not_closed rest (one_input f p) = refl
+not_closed rest (two_inputs f p q) = refl
+not_closed rest (a_call f all ts s) = refl
+not_closed rest (with_sign Plus t ts o) = refl
+not_closed rest (with_sign Minus t ts o) = refl
+not_closed rest (with_percent t ts s) = ap after_close (append_assoc ts (percent_mark ∷ []) rest) ∙ not_closed (percent_mark ∷ rest) s
+not_closed rest (tighter k t ts s) = not_closed rest s
+not_closed rest (joined k op l r ls rs e s u) = ap after_close (append_assoc ls (infix_mark op ∷ rs) rest) ∙ not_closed (infix_mark op ∷ rs ++ rest) s
+
+-- what follows a parameter stops it
+stops_after : {all : Trees} {us : List Symbol} (rest : List Symbol) → SpellsMore all us → Stops loosest (us ++ rest)
+stops_after rest last_parameter = closed rest
+stops_after rest (another_parameter t all ts us s u) = separated ((ts ++ us) ++ rest)
 
 operator_here : (k : ℕ) (op : Operator) (ts : List Symbol) → line_of op ≡ k → operator_at k (infix_mark op ∷ ts) ≡ Some (op, ts)
 operator_here k op ts e = ap (λ b. cond b (Some (op, ts)) None) (eq-eqb (line_of op) k e)
@@ -177,18 +201,69 @@ two_taken : (d : ℕ) (f : Reference) (p q : Reference × Reference) → Always 
 unfolding line atom what_if_at pair_at
 two_taken d f p q rest = refl
 
-claim : {k : ℕ} {t : Tree} {ts : List Symbol} → Spells k t ts → (d : ℕ) → depth t ≤ d → Claim d k t ts
-claim (a_number x) d h = number_taken d x
-claim (a_cell r) d h = cell_taken d r
-claim (a_rectangle c) d h = rectangle_taken d c
-claim (one_input f p) d h = one_taken d f p
-claim (two_inputs f p q) d h = two_taken d f p q
-claim (in_parentheses t ts s) zero h = absurd (omega arith)
-claim (in_parentheses t ts s) (suc d) h = marks_taken d t ts (taken d loosest t ts (claim s d (omega arith)))
-claim (with_sign s t ts o) d h = sign_taken d s t ts (claim o d h)
-claim (with_percent t ts s) d h = percent_taken d t ts (claim s d h)
-claim (tighter k t ts s) d h = one_line d k t ts (claim s d h)
-claim (joined k op l r ls rs e s u) d h = joins d k op l r ls rs e (claim s d (omega arith)) (taken d k r rs (claim u d (omega arith)))
+text_taken : (d : ℕ) (s : List ℕ) → Always d 0 (text s) (text_literal s ∷ [])
+unfolding line atom
+text_taken d s rest = refl
+
+-- ---- calls
+
+abbrev AllTaken : ℕ → Trees → List Symbol → Type 0
+AllTaken d all us = (rest : List Symbol) → parameters_at (expression d) (us ++ rest) ≡ Some (all, rest)
+
+abbrev MoreTaken : ℕ → Trees → List Symbol → Type 0
+MoreTaken d all us = (n : ℕ) (rest : List Symbol) → length us ≤ n → more_parameters (expression d) n (us ++ rest) ≡ Some (all, rest)
+
+none_taken : (d : ℕ) → AllTaken d no_trees (close_parenthesis ∷ [])
+unfolding parameters_at
+none_taken d rest = refl
+
+last_taken : (d : ℕ) → MoreTaken d no_trees (close_parenthesis ∷ [])
+last_taken d n rest room = more_last (expression d) n (close_parenthesis ∷ rest) rest (omega arith) refl
+
+first_taken : (d : ℕ) (t : Tree) (all : Trees) (ts us : List Symbol) → Spells loosest t ts → SpellsMore all us → Taken d loosest t ts → MoreTaken (suc d) all us → AllTaken (suc d) (more_trees t all) (ts ++ us)
+first_taken d t all ts us s u one others rest =
+    let tail = us ++ rest in
+    ap (parameters_at (expression (suc d))) (append_assoc ts us rest)
+    ∙ parameters_first (expression (suc d)) (ts ++ tail) tail t (not_closed tail s) (inner_taken d t ts tail one (stops_after rest u))
+    ∙ ap (put_first t) (others (length tail) rest (omega (arith, length-append us rest)))
+
+another_taken : (d : ℕ) (t : Tree) (all : Trees) (ts us : List Symbol) → SpellsMore all us → Taken d loosest t ts → MoreTaken (suc d) all us → MoreTaken (suc d) (more_trees t all) (separator ∷ ts ++ us)
+another_taken d t all ts us u one others n rest room =
+    let tail = us ++ rest in
+    let some : 0 < n = omega arith in
+    let least = length-append ts us in
+    ap (λ l. more_parameters (expression (suc d)) n (separator ∷ l)) (append_assoc ts us rest)
+    ∙ more_again (expression (suc d)) n t (separator ∷ ts ++ tail) (ts ++ tail) tail some refl refl (inner_taken d t ts tail one (stops_after rest u))
+    ∙ ap (put_first t) (others (n - 1) rest (omega arith))
+
+call_taken : (d : ℕ) (f : List ℕ) (all : Trees) (ts : List Symbol) → AllTaken d all ts → Always d 0 (call f all) (name f ∷ open_parenthesis ∷ ts)
+unfolding line atom
+call_taken d f all ts c rest = ap (as_call f) (c rest)
+
+mutual
+  claim : {k : ℕ} {t : Tree} {ts : List Symbol} → Spells k t ts → (d : ℕ) → depth t ≤ d → Claim d k t ts
+  claim (a_number x) d h = number_taken d x
+  claim (a_text s) d h = text_taken d s
+  claim (a_cell r) d h = cell_taken d r
+  claim (a_rectangle c) d h = rectangle_taken d c
+  claim (one_input f p) d h = one_taken d f p
+  claim (two_inputs f p q) d h = two_taken d f p q
+  claim (in_parentheses t ts s) zero h = absurd (omega arith)
+  claim (in_parentheses t ts s) (suc d) h = marks_taken d t ts (taken d loosest t ts (claim s d (omega arith)))
+  claim (a_call f all ts s) zero h = absurd (omega arith)
+  claim (a_call f all ts s) (suc d) h = call_taken (suc d) f all ts (all_claim s d (omega arith))
+  claim (with_sign s t ts o) d h = sign_taken d s t ts (claim o d h)
+  claim (with_percent t ts s) d h = percent_taken d t ts (claim s d h)
+  claim (tighter k t ts s) d h = one_line d k t ts (claim s d h)
+  claim (joined k op l r ls rs e s u) d h = joins d k op l r ls rs e (claim s d (omega arith)) (taken d k r rs (claim u d (omega arith)))
+
+  all_claim : {all : Trees} {ts : List Symbol} → SpellsAll all ts → (d : ℕ) → greatest_depth all ≤ d → AllTaken (suc d) all ts
+  all_claim no_parameter d h = none_taken (suc d)
+  all_claim (parameters t all ts us s u) d h = first_taken d t all ts us s u (taken d loosest t ts (claim s d (omega arith))) (more_claim u d (omega arith))
+
+  more_claim : {all : Trees} {ts : List Symbol} → SpellsMore all ts → (d : ℕ) → greatest_depth all ≤ d → MoreTaken (suc d) all ts
+  more_claim last_parameter d h = last_taken (suc d)
+  more_claim (another_parameter t all ts us s u) d h = another_taken d t all ts us u (taken d loosest t ts (claim s d (omega arith))) (more_claim u d (omega arith))
 
 -- what is spelled is what the symbols are read as
 pub whole_complete : (d : ℕ) (ts : List Symbol) (t : Tree) → Spells loosest t ts → depth t ≤ d → whole (suc d) ts ≡ Some t

@@ -61,6 +61,12 @@ operator-length k ts us op h = let is = ap length (operator_is k ts us op h).1 i
 pub percent-length : (ts us : List Symbol) → after_percent ts ≡ Some us → length ts ≡ length us + 1
 percent-length ts us h = let is = ap length (percent_is ts us h) in omega (arith, is)
 
+pub close-length : (ts us : List Symbol) → after_close ts ≡ Some us → length ts ≡ length us + 1
+close-length ts us h = let is = ap length (close_is ts us h) in omega (arith, is)
+
+pub separator-length : (ts us : List Symbol) → after_separator ts ≡ Some us → length ts ≡ length us + 1
+separator-length ts us h = let is = ap length (separator_is ts us h) in omega (arith, is)
+
 -- ---- pairs
 
 pub and_then_ok : {A B : Type 0} (f : A → Option B) (o : Option A) (b : B) → option_and_then f o ≡ Some b → (a : A) × (o ≡ Some a) × (f a ≡ Some b)

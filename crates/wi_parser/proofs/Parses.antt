@@ -5,9 +5,9 @@ use Rattle.std.proofs.lemmas.Bool.Decides.{nat_tests}
 use Rattle.std.specs.List.{list_any}
 use Rattle.wi_parser.specs.declared.fault.ParseFault.{ParseFault}
 use Rattle.wi_parser.specs.declared.fault.ParseFault.TheVariants.{TooLong, OutOfSheet, NumberRange, TooDeep, Syntax, Memory}
-use Rattle.wi_parser.specs.Tree.{Tree}
+use Rattle.wi_parser.specs.Tree.{Tree, Trees}
 use Rattle.wi_parser.specs.Symbol.{Symbol, close_parenthesis, infix_mark, percent_mark, is_outside, is_unfit}
-use Rattle.wi_parser.specs.Grammar.{loosest, Spells, a_number, a_cell, a_rectangle, in_parentheses, one_input, two_inputs, with_sign, with_percent, tighter, joined}
+use Rattle.wi_parser.specs.Grammar.{loosest, Spells, a_number, a_cell, a_rectangle, in_parentheses, one_input, two_inputs, with_sign, with_percent, tighter, joined, SpellsAll, SpellsMore, a_text, a_call, no_parameter, parameters, last_parameter, another_parameter}
 use Rattle.wi_parser.specs.Nesting.{deepest, most_signs, max_depth, is_too_deep}
 use Rattle.wi_parser.specs.Reader.{whole}
 use Rattle.wi_parser.specs.Outcome.{Fails}
@@ -22,29 +22,51 @@ use Rattle.wi_parser.proofs.Depth.{depth-deepest}
 any_append : (p : Symbol → Bool) (xs ys : List Symbol) → list_any p xs ≡ false → list_any p ys ≡ false → list_any p (xs ++ ys) ≡ false
 any_append p xs ys h e = list_any-append p xs ys ∙ ap₂ (λ a b. a || b) h e
 
-none_outside : {k : ℕ} {t : Tree} {ts : List Symbol} → Spells k t ts → list_any is_outside ts ≡ false
-none_outside (a_number x) = refl
-none_outside (a_cell r) = refl
-none_outside (a_rectangle c) = refl
-none_outside (one_input f p) = refl
-none_outside (two_inputs f p q) = refl
-none_outside (in_parentheses t ts s) = any_append is_outside ts (close_parenthesis ∷ []) (none_outside s) refl
-none_outside (with_sign s t ts o) = none_outside o
-none_outside (with_percent t ts s) = any_append is_outside ts (percent_mark ∷ []) (none_outside s) refl
-none_outside (tighter k t ts s) = none_outside s
-none_outside (joined k op l r ls rs e s u) = any_append is_outside ls (infix_mark op ∷ rs) (none_outside s) (none_outside u)
+mutual
+  none_outside : {k : ℕ} {t : Tree} {ts : List Symbol} → Spells k t ts → list_any is_outside ts ≡ false
+  none_outside (a_number x) = refl
+  none_outside (a_text s) = refl
+  none_outside (a_cell r) = refl
+  none_outside (a_rectangle c) = refl
+  none_outside (one_input f p) = refl
+  none_outside (two_inputs f p q) = refl
+  none_outside (in_parentheses t ts s) = any_append is_outside ts (close_parenthesis ∷ []) (none_outside s) refl
+  none_outside (a_call f all ts s) = none_outside_in_all s
+  none_outside (with_sign s t ts o) = none_outside o
+  none_outside (with_percent t ts s) = any_append is_outside ts (percent_mark ∷ []) (none_outside s) refl
+  none_outside (tighter k t ts s) = none_outside s
+  none_outside (joined k op l r ls rs e s u) = any_append is_outside ls (infix_mark op ∷ rs) (none_outside s) (none_outside u)
 
-none_unfit : {k : ℕ} {t : Tree} {ts : List Symbol} → Spells k t ts → list_any is_unfit ts ≡ false
-none_unfit (a_number x) = refl
-none_unfit (a_cell r) = refl
-none_unfit (a_rectangle c) = refl
-none_unfit (one_input f p) = refl
-none_unfit (two_inputs f p q) = refl
-none_unfit (in_parentheses t ts s) = any_append is_unfit ts (close_parenthesis ∷ []) (none_unfit s) refl
-none_unfit (with_sign s t ts o) = none_unfit o
-none_unfit (with_percent t ts s) = any_append is_unfit ts (percent_mark ∷ []) (none_unfit s) refl
-none_unfit (tighter k t ts s) = none_unfit s
-none_unfit (joined k op l r ls rs e s u) = any_append is_unfit ls (infix_mark op ∷ rs) (none_unfit s) (none_unfit u)
+  none_outside_in_all : {all : Trees} {ts : List Symbol} → SpellsAll all ts → list_any is_outside ts ≡ false
+  none_outside_in_all no_parameter = refl
+  none_outside_in_all (parameters t all ts us s u) = any_append is_outside ts us (none_outside s) (none_outside_in_more u)
+
+  none_outside_in_more : {all : Trees} {ts : List Symbol} → SpellsMore all ts → list_any is_outside ts ≡ false
+  none_outside_in_more last_parameter = refl
+  none_outside_in_more (another_parameter t all ts us s u) = any_append is_outside ts us (none_outside s) (none_outside_in_more u)
+
+mutual
+  none_unfit : {k : ℕ} {t : Tree} {ts : List Symbol} → Spells k t ts → list_any is_unfit ts ≡ false
+  none_unfit (a_number x) = refl
+  none_unfit (a_text s) = refl
+  none_unfit (a_cell r) = refl
+  none_unfit (a_rectangle c) = refl
+  none_unfit (one_input f p) = refl
+  none_unfit (two_inputs f p q) = refl
+  none_unfit (in_parentheses t ts s) = any_append is_unfit ts (close_parenthesis ∷ []) (none_unfit s) refl
+  none_unfit (a_call f all ts s) = none_unfit_in_all s
+  none_unfit (with_sign s t ts o) = none_unfit o
+  none_unfit (with_percent t ts s) = any_append is_unfit ts (percent_mark ∷ []) (none_unfit s) refl
+  none_unfit (tighter k t ts s) = none_unfit s
+  none_unfit (joined k op l r ls rs e s u) = any_append is_unfit ls (infix_mark op ∷ rs) (none_unfit s) (none_unfit u)
+
+  none_unfit_in_all : {all : Trees} {ts : List Symbol} → SpellsAll all ts → list_any is_unfit ts ≡ false
+  none_unfit_in_all no_parameter = refl
+  none_unfit_in_all (parameters t all ts us s u) = any_append is_unfit ts us (none_unfit s) (none_unfit_in_more u)
+
+  none_unfit_in_more : {all : Trees} {ts : List Symbol} → SpellsMore all ts → list_any is_unfit ts ≡ false
+  none_unfit_in_more last_parameter = refl
+  none_unfit_in_more (another_parameter t all ts us s u) = any_append is_unfit ts us (none_unfit s) (none_unfit_in_more u)
 
 not_below : (m n : ℕ) → m ≤ n → nat_lt n m ≡ false
 not_below m n h = grind (arith, nat_tests)

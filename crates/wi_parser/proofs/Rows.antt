@@ -19,11 +19,11 @@ use Rattle.wi_parser.specs.declared.content.Content.TheVariants.{Constant}
 use Rattle.wi_parser.specs.declared.expr.Operator.TheVariants.{Add, Subtract, Multiply, Power, Join, Less, NotEqual}
 use Rattle.wi_parser.specs.declared.expr.Sign.TheVariants.{Minus}
 use Rattle.wi_parser.specs.declared.fault.ParseFault.TheVariants.{OutOfSheet, Syntax}
-use Rattle.wi_parser.specs.Tree.{number, cell, rectangle, parenthesized, signed, percent, binary, what_if}
+use Rattle.wi_parser.specs.Tree.{number, cell, rectangle, parenthesized, signed, percent, binary, what_if, Tree, call, no_trees, trees_of}
 use Rattle.wi_parser.specs.Symbol.{Symbol, numeral, open_parenthesis, close_parenthesis, infix_mark, sign_mark, percent_mark}
 use Rattle.wi_parser.specs.declared.expr.Corners.{Corners}
 use Rattle.wi_parser.specs.declared.expr.Reference.{Reference}
-use Rattle.wi_parser.specs.Reader.{pair_at, what_if_at, atom, chain, line, expression}
+use Rattle.wi_parser.specs.Reader.{pair_at, what_if_at, parameters_at, more_parameters, atom, chain, line, expression}
 use Rattle.wi_parser.specs.Reads.{reads}
 use Rattle.wi_parser.specs.FormulaText.{number_symbol, formula_symbols}
 use Rattle.wi_parser.specs.Reading.{judged, parsed, content_read}
@@ -201,9 +201,22 @@ four_parameters : parsed (codes "=MULTIPLE.OPERATIONS([.B2];[.B1];[.A4];[.C1])")
 unfolding parsed formula_symbols tokens tokens_within token_at number_len decimals_len mark_at two_byte_mark one_byte_mark reference_len reference_of cell_of rectangle_len rectangle_of cells_of name_len address_at pair_at what_if_at atom chain line expression
 four_parameters = refl
 
-another_name : parsed (codes "=MULTIPLE([.B2];[.B1];[.A4])") ≡ Err Syntax
-unfolding parsed formula_symbols tokens tokens_within token_at number_len decimals_len mark_at two_byte_mark one_byte_mark reference_len reference_of cell_of rectangle_len rectangle_of cells_of name_len address_at pair_at what_if_at atom chain line expression
+-- ---- calls
+
+abbrev one_cell : ℕ → ℕ → Tree
+one_cell row column = cell (relative row column)
+
+another_name : parsed (codes "=Multiple([.B2];([.B1]);NOW())") ≡ Ok (call (codes "MULTIPLE") (trees_of (one_cell 1 1 ∷ parenthesized (one_cell 0 1) ∷ call (codes "NOW") no_trees ∷ [])))
+unfolding parsed formula_symbols tokens tokens_within token_at number_len decimals_len mark_at two_byte_mark one_byte_mark reference_len reference_of cell_of rectangle_len rectangle_of cells_of name_len address_at pair_at what_if_at parameters_at more_parameters atom chain line expression
 another_name = refl
+
+name_alone : parsed (codes "=NOW") ≡ Err Syntax
+unfolding parsed formula_symbols tokens tokens_within token_at number_len decimals_len mark_at two_byte_mark one_byte_mark reference_len reference_of cell_of rectangle_len rectangle_of cells_of name_len address_at pair_at what_if_at parameters_at more_parameters atom chain line expression
+name_alone = refl
+
+empty_parameter : parsed (codes "=SUM([.A1];)") ≡ Err Syntax
+unfolding parsed formula_symbols tokens tokens_within token_at number_len decimals_len mark_at two_byte_mark one_byte_mark reference_len reference_of cell_of rectangle_len rectangle_of cells_of name_len address_at pair_at what_if_at parameters_at more_parameters atom chain line expression
+empty_parameter = refl
 
 -- ---- contents
 

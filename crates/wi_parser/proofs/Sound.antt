@@ -3,11 +3,11 @@ use Rattle.std.proofs.Common.{◌≡◌, ℕ, zero, suc, List, [], ◌∷◌, �
 use Rattle.wi_parser.specs.declared.expr.Operator.{Operator}
 use Rattle.wi_parser.specs.declared.expr.Reference.{Reference}
 use Rattle.wi_parser.specs.declared.expr.Sign.{Sign}
-use Rattle.wi_parser.specs.Tree.{Tree, number, cell, rectangle, parenthesized, signed, percent, binary, what_if}
-use Rattle.wi_parser.specs.Symbol.{Symbol, numeral, reference, corners, open_parenthesis, close_parenthesis, separator, infix_mark, sign_mark, percent_mark, what_if_name, refused}
-use Rattle.wi_parser.specs.Grammar.{loosest, Spells, pair_symbols, what_if_symbols, a_number, a_cell, a_rectangle, in_parentheses, one_input, two_inputs, with_sign, with_percent, tighter, joined}
-use Rattle.wi_parser.specs.Reader.{Parse, Read, read_then, then_close, after_open, after_close, reference_at, sign_of, operator_at, pair_at, one_or_two, inputs_at, what_if_at, atom, prefix_step, prefixed, percents, chain, chain_step, line, expression, if_last, whole}
-use Rattle.wi_parser.proofs.Marks.{open_is, close_is, reference_is, sign_is, operator_is, pair_is, and_then_ok, map_ok}
+use Rattle.wi_parser.specs.Tree.{Tree, number, cell, rectangle, parenthesized, signed, percent, binary, what_if, Trees, text, call, no_trees, more_trees}
+use Rattle.wi_parser.specs.Symbol.{Symbol, numeral, reference, corners, open_parenthesis, close_parenthesis, separator, infix_mark, sign_mark, percent_mark, what_if_name, refused, text_literal, name}
+use Rattle.wi_parser.specs.Grammar.{loosest, Spells, pair_symbols, what_if_symbols, a_number, a_cell, a_rectangle, in_parentheses, one_input, two_inputs, with_sign, with_percent, tighter, joined, SpellsAll, SpellsMore, a_text, a_call, no_parameter, parameters, last_parameter, another_parameter}
+use Rattle.wi_parser.specs.Reader.{Parse, Read, read_then, then_close, after_open, after_close, reference_at, sign_of, operator_at, pair_at, one_or_two, inputs_at, what_if_at, atom, prefix_step, prefixed, percents, chain, chain_step, line, expression, if_last, whole, ParseAll, after_separator, put_first, and_then_all, after_parameter, unless_closed, more_parameters, first_parameter, parameters_at, called}
+use Rattle.wi_parser.proofs.Marks.{open_is, close_is, reference_is, sign_is, operator_is, pair_is, and_then_ok, map_ok, separator_is}
 
 -- ---- what an outcome came from
 
@@ -101,13 +101,77 @@ percents_sound left ls (x ∷ ts) t rest s h =
     let both = parts left t (x ∷ ts) rest h in
     (ls, subst (λ u. Spells 2 u ls) both.0 s, ap (λ l. ls ++ l) both.1)
 
+-- a tree that was found, and the trees after it
+found_first : (others : ParseAll) (r : Read) (all : Trees) (rest : List Symbol) → and_then_all others r ≡ Some (all, rest)
+    → (p : Tree × List Symbol) × (more : Trees) × (r ≡ Some p) × (others p.1 ≡ Some (more, rest)) × (more_trees p.0 more ≡ all)
+found_first others r all rest h =
+    let a = and_then_ok (λ p. put_first p.0 (others p.1)) r (all, rest) h in
+    let b = map_ok (λ q. (more_trees a.0.0 q.0, q.1)) (others a.0.1) (all, rest) a.2 in
+    (a.0, b.0.0, a.1, b.1 ∙ ap (λ q. Some (b.0.0, q.1)) b.2, ap (λ q. q.0) b.2)
+
 module _ (inner : Parse) (sound : Finds loosest inner) where
+  more_sound : (n : ℕ) (ts : List Symbol) (all : Trees) (rest : List Symbol) → more_parameters inner n ts ≡ Some (all, rest) → (us : List Symbol) × SpellsMore all us × (ts ≡ us ++ rest)
+  unfolding more_parameters
+  more_sound zero ts all rest h = cc
+  more_sound (suc n) ts all rest h = at_close (λ us more w. more_sound n us more rest w) (after_close ts) refl h
+    where
+      at_separator : ((us : List Symbol) (more : Trees) → more_parameters inner n us ≡ Some (more, rest) → (vs : List Symbol) × SpellsMore more vs × (us ≡ vs ++ rest)) → (o : Option (List Symbol)) → after_separator ts ≡ o → after_parameter inner (more_parameters inner n) o ≡ Some (all, rest)
+          → (us : List Symbol) × SpellsMore all us × (ts ≡ us ++ rest)
+      at_separator again None is e = cc
+      at_separator again (Some us) is e =
+          let first = found_first (more_parameters inner n) (inner us) all rest e in
+          let a = sound us first.0.0 first.0.1 first.2 in
+          let b = again first.0.1 first.1 first.3 in (
+            separator ∷ a.0 ++ b.0,
+            subst (λ l. SpellsMore l (separator ∷ a.0 ++ b.0)) first.4 (another_parameter first.0.0 first.1 a.0 b.0 a.1 b.1),
+            separator_is ts us is ∙ ap (λ l. separator ∷ l) (a.2 ∙ ap (λ l. a.0 ++ l) b.2 ∙ sym (append_assoc a.0 b.0 rest)),
+          )
+
+      at_close : ((us : List Symbol) (more : Trees) → more_parameters inner n us ≡ Some (more, rest) → (vs : List Symbol) × SpellsMore more vs × (us ≡ vs ++ rest)) → (o : Option (List Symbol)) → after_close ts ≡ o → unless_closed inner (more_parameters inner n) ts o ≡ Some (all, rest)
+          → (us : List Symbol) × SpellsMore all us × (ts ≡ us ++ rest)
+      at_close again None is e = at_separator again (after_separator ts) refl e
+      at_close again (Some us) is e =
+          let both = parts no_trees all us rest e in
+          (close_parenthesis ∷ [], subst (λ l. SpellsMore l (close_parenthesis ∷ [])) both.0 last_parameter, close_is ts us is ∙ ap (λ l. close_parenthesis ∷ l) both.1)
+
+  all_sound : (ts : List Symbol) (all : Trees) (rest : List Symbol) → parameters_at inner ts ≡ Some (all, rest) → (us : List Symbol) × SpellsAll all us × (ts ≡ us ++ rest)
+  unfolding parameters_at
+  all_sound ts all rest h = at_close (after_close ts) refl h
+    where
+      at_close : (o : Option (List Symbol)) → after_close ts ≡ o → first_parameter inner ts o ≡ Some (all, rest) → (us : List Symbol) × SpellsAll all us × (ts ≡ us ++ rest)
+      at_close None is e =
+          let first = found_first (λ l. more_parameters inner (length l) l) (inner ts) all rest e in
+          let a = sound ts first.0.0 first.0.1 first.2 in
+          let b = more_sound (length first.0.1) first.0.1 first.1 rest first.3 in (
+            a.0 ++ b.0,
+            subst (λ l. SpellsAll l (a.0 ++ b.0)) first.4 (parameters first.0.0 first.1 a.0 b.0 a.1 b.1),
+            a.2 ∙ ap (λ l. a.0 ++ l) b.2 ∙ sym (append_assoc a.0 b.0 rest),
+          )
+      at_close (Some us) is e =
+          let both = parts no_trees all us rest e in
+          (close_parenthesis ∷ [], subst (λ l. SpellsAll l (close_parenthesis ∷ [])) both.0 no_parameter, close_is ts us is ∙ ap (λ l. close_parenthesis ∷ l) both.1)
+
+  call_sound : (f : List ℕ) (ts : List Symbol) (t : Tree) (rest : List Symbol) (o : Option (List Symbol)) → after_open ts ≡ o → called inner f o ≡ Some (t, rest)
+      → (us : List Symbol) × Spells 0 t us × (name f ∷ ts ≡ us ++ rest)
+  call_sound f ts t rest None is e = cc
+  call_sound f ts t rest (Some us) is e =
+      let found = map_ok (λ p. (call f p.0, p.1)) (parameters_at inner us) (t, rest) e in
+      let same : call f found.0.0 ≡ t = ap (λ q. q.0) found.2 in
+      let a = all_sound us found.0.0 rest (found.1 ∙ ap (λ q. Some (found.0.0, q.1)) found.2) in (
+        name f ∷ open_parenthesis ∷ a.0,
+        subst (λ u. Spells 0 u (name f ∷ open_parenthesis ∷ a.0)) same (a_call f found.0.0 a.0 a.1),
+        ap (λ l. name f ∷ l) (open_is ts us is) ∙ ap (λ l. name f ∷ open_parenthesis ∷ l) a.2,
+      )
+
   atom_sound : Finds 0 (atom inner)
   unfolding atom
   atom_sound [] t rest h = cc
   atom_sound (numeral x ∷ ts) t rest h =
       let both = parts (number x) t ts rest h in
       (numeral x ∷ [], subst (λ u. Spells 0 u (numeral x ∷ [])) both.0 (a_number x), ap (λ l. numeral x ∷ l) both.1)
+  atom_sound (text_literal s ∷ ts) t rest h =
+      let both = parts (text s) t ts rest h in
+      (text_literal s ∷ [], subst (λ u. Spells 0 u (text_literal s ∷ [])) both.0 (a_text s), ap (λ l. text_literal s ∷ l) both.1)
   atom_sound (reference r ∷ ts) t rest h =
       let both = parts (cell r) t ts rest h in
       (reference r ∷ [], subst (λ u. Spells 0 u (reference r ∷ [])) both.0 (a_cell r), ap (λ l. reference r ∷ l) both.1)
@@ -123,6 +187,7 @@ module _ (inner : Parse) (sound : Finds loosest inner) where
         ap (λ l. open_parenthesis ∷ l) (a.2 ∙ ap (λ l. a.0 ++ l) shut.1 ∙ sym (append_assoc a.0 (close_parenthesis ∷ []) rest)),
       )
   atom_sound (what_if_name ∷ ts) t rest h = what_if_sound ts t rest h
+  atom_sound (name f ∷ ts) t rest h = call_sound f ts t rest (after_open ts) refl h
   atom_sound (close_parenthesis ∷ ts) t rest h = cc
   atom_sound (separator ∷ ts) t rest h = cc
   atom_sound (infix_mark op ∷ ts) t rest h = cc

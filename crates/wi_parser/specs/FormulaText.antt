@@ -15,7 +15,8 @@ use Rattle.wi_lexer.specs.Tokens.{Tokens, tokens}
 use Rattle.wi_parser.specs.declared.expr.Operator.TheVariants as operator
 use Rattle.wi_parser.specs.declared.expr.Reference as references
 use Rattle.wi_parser.specs.declared.fault.ParseFault.TheVariants.{OutOfSheet, NumberRange, Syntax}
-use Rattle.wi_parser.specs.Symbol.{Symbol, numeral, reference, corners, open_parenthesis, close_parenthesis, separator, infix_mark, percent_mark, what_if_name, refused}
+use Rattle.wi_parser.specs.Symbol.{Symbol, numeral, reference, corners, open_parenthesis, close_parenthesis, separator, infix_mark, percent_mark, what_if_name, refused, name}
+use Rattle.wi_parser.specs.Capitals.{in_capitals}
 
 -- ---- tokens
 
@@ -66,9 +67,9 @@ mark_symbol LessOrEqual = infix_mark operator.LessOrEqual
 mark_symbol Greater = infix_mark operator.Greater
 mark_symbol GreaterOrEqual = infix_mark operator.GreaterOrEqual
 
--- the name of what-ifs, in letters of either case; no formula has another name yet
+-- the name of what-ifs, in letters of either case, or another name
 abbrev pub name_symbol : List ℕ → Symbol
-name_symbol bs = if str_eq_ignore_ascii_case bs (codes "MULTIPLE.OPERATIONS") then what_if_name else refused Syntax
+name_symbol bs = if str_eq_ignore_ascii_case bs (codes "MULTIPLE.OPERATIONS") then what_if_name else name (in_capitals bs)
 
 -- what a token of this kind with these bytes means
 abbrev pub symbol_of : Kind → List ℕ → Symbol

@@ -4,6 +4,7 @@ pub mod View
 pub mod Sheet
 pub mod Reads
 pub mod Symbol
+pub mod Capitals
 pub mod Grammar
 pub mod Reader
 pub mod Spelling

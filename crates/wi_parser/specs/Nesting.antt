@@ -1,19 +1,26 @@
 -- How deep a formula nests.
 use Rattle.std.specs.Prelude.{ℕ, suc, ◌-◌, max, List, [], ◌∷◌, Bool, true, false, ◌||◌, nat_lt, if◌then◌else◌}
 use Rattle.wi_parser.specs.declared.expr.Operator.TheVariants.{Add, Subtract}
-use Rattle.wi_parser.specs.Tree.{Tree, number, cell, rectangle, parenthesized, signed, percent, binary, what_if}
+use Rattle.wi_parser.specs.Tree.{Tree, Trees, number, text, cell, rectangle, parenthesized, signed, percent, binary, what_if, call, no_trees, more_trees}
 use Rattle.wi_parser.specs.Symbol.{Symbol, open_parenthesis, close_parenthesis, infix_mark}
 
--- How many parenthesized trees stand one inside another, at most. The parentheses of a what-if hold no tree.
-abbrev pub depth : Tree → ℕ
-depth (number x) = 0
-depth (cell r) = 0
-depth (rectangle c) = 0
-depth (parenthesized t) = suc (depth t)
-depth (signed s t) = depth t
-depth (percent t) = depth t
-depth (binary op l r) = max (depth l) (depth r)
-depth (what_if f pairs) = 0
+abbrev mutual
+  -- How many parenthesized trees and calls stand one inside another, at most. The parentheses of a what-if hold no tree.
+  pub depth : Tree → ℕ
+  depth (number x) = 0
+  depth (text s) = 0
+  depth (cell r) = 0
+  depth (rectangle c) = 0
+  depth (parenthesized t) = suc (depth t)
+  depth (signed s t) = depth t
+  depth (percent t) = depth t
+  depth (binary op l r) = max (depth l) (depth r)
+  depth (what_if f pairs) = 0
+  depth (call f ts) = suc (greatest_depth ts)
+
+  pub greatest_depth : Trees → ℕ
+  greatest_depth no_trees = 0
+  greatest_depth (more_trees t ts) = max (depth t) (greatest_depth ts)
 
 -- The most parentheses that are open at once, where h are open before. One that closes none counts for nothing.
 abbrev pub deepest : ℕ → List Symbol → ℕ

@@ -5,8 +5,8 @@ use Rattle.wi_parser.specs.declared.expr.Operator.TheVariants.{Add, Subtract}
 use Rattle.wi_parser.specs.declared.expr.Reference.{Reference}
 use Rattle.wi_parser.specs.declared.expr.Sign.{Sign}
 use Rattle.wi_parser.specs.declared.expr.Sign.TheVariants.{Plus, Minus}
-use Rattle.wi_parser.specs.Tree.{Tree, number, cell, rectangle, parenthesized, signed, percent, binary, what_if}
-use Rattle.wi_parser.specs.Symbol.{Symbol, numeral, reference, corners, open_parenthesis, close_parenthesis, separator, infix_mark, percent_mark, what_if_name}
+use Rattle.wi_parser.specs.Tree.{Tree, number, cell, rectangle, parenthesized, signed, percent, binary, what_if, Trees, text, call, no_trees, more_trees}
+use Rattle.wi_parser.specs.Symbol.{Symbol, numeral, reference, corners, open_parenthesis, close_parenthesis, separator, infix_mark, percent_mark, what_if_name, text_literal, name}
 use Rattle.wi_parser.specs.Grammar.{line_of, loosest}
 
 -- a tree found, and what follows it
@@ -85,15 +85,64 @@ inputs_at f ts = option_and_then (λ p. one_or_two f p.0 p.1 (after_close p.1)) 
 unfoldable pub what_if_at : Parse
 what_if_at ts = option_and_then (λ f. inputs_at f.0 f.1) (option_and_then reference_at (after_open ts))
 
+-- ---- calls
+
+-- trees found, and what follows them
+abbrev pub ReadAll : Type 0
+ReadAll = Option (Trees × List Symbol)
+
+abbrev pub ParseAll : Type 0
+ParseAll = List Symbol → ReadAll
+
+-- the tree before the trees that were found
+abbrev pub put_first : Tree → ReadAll → ReadAll
+put_first t r = option_map (λ p. (more_trees t p.0, p.1)) r
+
+-- a tree that was found, and the trees after it
+abbrev pub and_then_all : ParseAll → Read → ReadAll
+and_then_all others r = option_and_then (λ p. put_first p.0 (others p.1)) r
+
+abbrev pub after_parameter : Parse → ParseAll → Option (List Symbol) → ReadAll
+after_parameter inner again None = None
+after_parameter inner again (Some us) = and_then_all again (inner us)
+
+abbrev pub unless_closed : Parse → ParseAll → List Symbol → Option (List Symbol) → ReadAll
+unless_closed inner again ts (Some rest) = Some (no_trees, rest)
+unless_closed inner again ts None = after_parameter inner again (after_separator ts)
+
+-- The parameters after the first, and the parenthesis that closes. The number bounds the turns.
+unfoldable pub more_parameters : Parse → ℕ → ParseAll
+more_parameters inner zero ts = None
+more_parameters inner (suc n) ts = unless_closed inner (more_parameters inner n) ts (after_close ts)
+
+abbrev pub first_parameter : Parse → List Symbol → Option (List Symbol) → ReadAll
+first_parameter inner ts (Some rest) = Some (no_trees, rest)
+first_parameter inner ts None = and_then_all (λ rest. more_parameters inner (length rest) rest) (inner ts)
+
+-- the parameters and the parenthesis that closes
+unfoldable pub parameters_at : Parse → ParseAll
+parameters_at inner ts = first_parameter inner ts (after_close ts)
+
+-- the call of a function with the parameters that were found
+abbrev pub as_call : List ℕ → ReadAll → Read
+as_call f r = option_map (λ p. (call f p.0, p.1)) r
+
+-- what stands after the name of a function
+abbrev pub called : Parse → List ℕ → Option (List Symbol) → Read
+called inner f None = None
+called inner f (Some us) = as_call f (parameters_at inner us)
+
 -- ---- lines
 
--- a number, a cell, a rectangle, what stands in parentheses, which `inner` reads, or a what-if
+-- a number, a text, a cell, a rectangle, what stands in parentheses, which `inner` reads, a what-if, or a call
 unfoldable pub atom : Parse → Parse
 atom inner (numeral x ∷ ts) = Some (number x, ts)
+atom inner (text_literal s ∷ ts) = Some (text s, ts)
 atom inner (reference r ∷ ts) = Some (cell r, ts)
 atom inner (corners c ∷ ts) = Some (rectangle c, ts)
 atom inner (open_parenthesis ∷ ts) = read_then (λ t. then_close (parenthesized t)) (inner ts)
 atom inner (what_if_name ∷ ts) = what_if_at ts
+atom inner (name f ∷ ts) = called inner f (after_open ts)
 atom inner ts = None
 
 -- what was found, with a sign before it

@@ -1,5 +1,5 @@
 -- What tokens mean.
-use Rattle.std.specs.Prelude.{Bool, true, false}
+use Rattle.std.specs.Prelude.{ℕ, List, Bool, true, false}
 use Rattle.wi_fraction.specs.Number.{Number}
 use Rattle.wi_parser.specs.declared.expr.Corners.{Corners}
 use Rattle.wi_parser.specs.declared.expr.Operator.{Operator}
@@ -13,6 +13,8 @@ use Rattle.wi_parser.specs.declared.fault.ParseFault.TheVariants.{OutOfSheet, Nu
 -- A token with its value. A refused one has none: no formula has it, for this reason.
 pub data Symbol : Type 0 where
   numeral : Number → Symbol
+  -- a text, without its quotes
+  text_literal : List ℕ → Symbol
   reference : Reference → Symbol
   -- a reference to a rectangle
   corners : Corners → Symbol
@@ -23,6 +25,8 @@ pub data Symbol : Type 0 where
   percent_mark : Symbol
   -- the name MULTIPLE.OPERATIONS
   what_if_name : Symbol
+  -- another name, in capitals
+  name : List ℕ → Symbol
   refused : ParseFault → Symbol
 
 -- the operator that is written as the sign is

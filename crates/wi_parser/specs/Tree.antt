@@ -1,18 +1,32 @@
 -- A formula's tree, as definitions see it.
-use Rattle.std.specs.Prelude.{List}
+use Rattle.std.specs.Prelude.{ℕ, List, [], ◌∷◌}
 use Rattle.wi_fraction.specs.Number.{Number}
 use Rattle.wi_parser.specs.declared.expr.Corners.{Corners}
 use Rattle.wi_parser.specs.declared.expr.Operator.{Operator}
 use Rattle.wi_parser.specs.declared.expr.Reference.{Reference}
 use Rattle.wi_parser.specs.declared.expr.Sign.{Sign}
 
--- a what-if has its formula cell, and each input with its replacement cell, whose value it gets
-pub data Tree : Type 0 where
-  number : Number → Tree
-  cell : Reference → Tree
-  rectangle : Corners → Tree
-  parenthesized : Tree → Tree
-  signed : Sign → Tree → Tree
-  percent : Tree → Tree
-  binary : Operator → Tree → Tree → Tree
-  what_if : Reference → List (Reference × Reference) → Tree
+mutual
+  -- A what-if has its formula cell, and each input with its replacement cell, whose value it gets. A call has the name of its
+  -- function in capitals, and its parameters.
+  pub data Tree : Type 0 where
+    number : Number → Tree
+    text : List ℕ → Tree
+    cell : Reference → Tree
+    rectangle : Corners → Tree
+    parenthesized : Tree → Tree
+    signed : Sign → Tree → Tree
+    percent : Tree → Tree
+    binary : Operator → Tree → Tree → Tree
+    what_if : Reference → List (Reference × Reference) → Tree
+    call : List ℕ → Trees → Tree
+
+  -- trees one after another
+  pub data Trees : Type 0 where
+    no_trees : Trees
+    more_trees : Tree → Trees → Trees
+
+-- the trees of a list
+abbrev pub trees_of : List Tree → Trees
+trees_of [] = no_trees
+trees_of (t ∷ ts) = more_trees t (trees_of ts)

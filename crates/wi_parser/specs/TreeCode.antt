@@ -9,11 +9,11 @@ use Rattle.wi_parser.specs.declared.expr.Operator.TheVariants.{Add, Subtract, Mu
 use Rattle.wi_parser.specs.declared.expr.Reference.{Reference}
 use Rattle.wi_parser.specs.declared.expr.Sign.{Sign}
 use Rattle.wi_parser.specs.declared.expr.Sign.TheVariants.{Plus, Minus}
-use Rattle.wi_parser.specs.Tree.{Tree, number, cell, rectangle, parenthesized, signed, percent, binary, what_if}
+use Rattle.wi_parser.specs.Tree.{Tree, Trees, number, text, cell, rectangle, parenthesized, signed, percent, binary, what_if, call, no_trees, more_trees, trees_of}
 
--- a step: which form, of which kind, numbers and references
+-- a step: which form, of which kind, bytes, numbers and references
 abbrev pub Step : Type 0
-Step = ℕ × (ℕ × (List Number × List (Reference × Reference)))
+Step = ℕ × (ℕ × (List ℕ × (List Number × List (Reference × Reference))))
 
 abbrev pub reference_code : Coded Reference
 reference_code =
@@ -75,15 +75,23 @@ sign_at-code : (s : Sign) → sign_at (sign_code s) ≡ s
 sign_at-code Plus = refl
 sign_at-code Minus = refl
 
-abbrev pub steps : Tree → List Step
-steps (number x) = (0, (0, (x ∷ [], []))) ∷ []
-steps (cell r) = (1, (0, ([], (r, r) ∷ []))) ∷ []
-steps (rectangle c) = (1, (1, ([], (c.one, c.other) ∷ []))) ∷ []
-steps (parenthesized t) = steps t ++ (2, (0, ([], []))) ∷ []
-steps (signed s t) = steps t ++ (3, (sign_code s, ([], []))) ∷ []
-steps (percent t) = steps t ++ (4, (0, ([], []))) ∷ []
-steps (binary op t u) = steps t ++ (steps u ++ (5, (operator_code op, ([], []))) ∷ [])
-steps (what_if f ps) = (6, (0, ([], (f, f) ∷ ps))) ∷ []
+abbrev mutual
+  pub steps : Tree → List Step
+  steps (number x) = (0, (0, ([], (x ∷ [], [])))) ∷ []
+  steps (cell r) = (1, (0, ([], ([], (r, r) ∷ [])))) ∷ []
+  steps (rectangle c) = (1, (1, ([], ([], (c.one, c.other) ∷ [])))) ∷ []
+  steps (parenthesized t) = steps t ++ (2, (0, ([], ([], [])))) ∷ []
+  steps (signed s t) = steps t ++ (3, (sign_code s, ([], ([], [])))) ∷ []
+  steps (percent t) = steps t ++ (4, (0, ([], ([], [])))) ∷ []
+  steps (binary op t u) = steps t ++ (steps u ++ (5, (operator_code op, ([], ([], [])))) ∷ [])
+  steps (what_if f ps) = (6, (0, ([], ([], (f, f) ∷ ps)))) ∷ []
+  steps (text s) = (7, (0, (s, ([], [])))) ∷ []
+  steps (call f ts) = (8, (0, ([], ([], [])))) ∷ steps_of_all ts ++ (9, (0, (f, ([], [])))) ∷ []
+
+  -- the last tree comes first
+  pub steps_of_all : Trees → List Step
+  steps_of_all no_trees = []
+  steps_of_all (more_trees t ts) = steps_of_all ts ++ steps t
 
 abbrev add_number : List Number → List Tree → List Tree
 add_number [] ts = ts
@@ -115,61 +123,100 @@ abbrev join : ℕ → List Tree → List Tree
 join k (u ∷ t ∷ ts) = binary (operator_at k) t u ∷ ts
 join k ts = ts
 
-abbrev build : ℕ → ℕ → List Number → List (Reference × Reference) → List Tree → List Tree
-build zero k xs ps ts = add_number xs ts
-build (suc zero) k xs ps ts = add_reference k ps ts
-build (suc (suc zero)) k xs ps ts = enclose ts
-build (suc (suc (suc zero))) k xs ps ts = sign k ts
-build (suc (suc (suc (suc zero)))) k xs ps ts = take_percent ts
-build (suc (suc (suc (suc (suc zero))))) k xs ps ts = join k ts
-build (suc (suc (suc (suc (suc (suc form)))))) k xs ps ts = add_what_if ps ts
+-- the trees built so far, the newest first, and those put aside for the parameters of a call
+abbrev pub Built : Type 0
+Built = List Tree × List (List Tree)
 
--- the trees built from the steps, the newest first
-abbrev run : List Step → List Tree → List Tree
-run [] ts = ts
-run (e ∷ es) ts = run es (build e.0 e.1.0 e.1.1.0 e.1.1.1 ts)
+abbrev on_newest : (List Tree → List Tree) → Built → Built
+on_newest f b = (f b.0, b.1)
+
+abbrev put_aside : Built → Built
+put_aside b = ([], b.0 ∷ b.1)
+
+abbrev add_call : List ℕ → List Tree → List (List Tree) → Built
+add_call f ts [] = (ts, [])
+add_call f ts (us ∷ aside) = (call f (trees_of ts) ∷ us, aside)
+
+abbrev build : ℕ → ℕ → List ℕ → List Number → List (Reference × Reference) → Built → Built
+build zero k s xs ps b = on_newest (add_number xs) b
+build (suc zero) k s xs ps b = on_newest (add_reference k ps) b
+build (suc (suc zero)) k s xs ps b = on_newest enclose b
+build (suc (suc (suc zero))) k s xs ps b = on_newest (sign k) b
+build (suc (suc (suc (suc zero)))) k s xs ps b = on_newest take_percent b
+build (suc (suc (suc (suc (suc zero))))) k s xs ps b = on_newest (join k) b
+build (suc (suc (suc (suc (suc (suc zero)))))) k s xs ps b = on_newest (add_what_if ps) b
+build (suc (suc (suc (suc (suc (suc (suc zero))))))) k s xs ps b = on_newest (λ ts. text s ∷ ts) b
+build (suc (suc (suc (suc (suc (suc (suc (suc zero)))))))) k s xs ps b = put_aside b
+build (suc (suc (suc (suc (suc (suc (suc (suc (suc form))))))))) k s xs ps b = add_call s b.0 b.1
+
+-- what is built from the steps
+abbrev run : List Step → Built → Built
+run [] b = b
+run (e ∷ es) b = run es (build e.0 e.1.0 e.1.1.0 e.1.1.1.0 e.1.1.1.1 b)
 
 abbrev top : List Tree → Tree
 top [] = what_if (record { at = 0; column_is_absolute = false; row_is_absolute = false }) []
 top (t ∷ ts) = t
 
 abbrev tree_at_top : List Step → Tree
-tree_at_top es = top (run es [])
+tree_at_top es = top (run es ([], [])).0
 
-run-append : (xs ys : List Step) (ts : List Tree) → run (xs ++ ys) ts ≡ run ys (run xs ts)
-run-append [] ys ts = refl
-run-append (x ∷ xs) ys ts = run-append xs ys _
+run-append : (xs ys : List Step) (b : Built) → run (xs ++ ys) b ≡ run ys (run xs b)
+run-append [] ys b = refl
+run-append (x ∷ xs) ys b = run-append xs ys _
+
+abbrev with_tree : Tree → Built → Built
+with_tree t b = (t ∷ b.0, b.1)
 
 -- the steps of one tree, and a step on it
-after-one : (xs : List Step) (e : Step) (t : Tree) (ts : List Tree) → run xs ts ≡ t ∷ ts → run (xs ++ e ∷ []) ts ≡ run (e ∷ []) (t ∷ ts)
-after-one xs e t ts is = run-append xs (e ∷ []) ts ∙ ap (run (e ∷ [])) is
+after-one : (xs : List Step) (e : Step) (t : Tree) (b : Built) → run xs b ≡ with_tree t b → run (xs ++ e ∷ []) b ≡ run (e ∷ []) (with_tree t b)
+after-one xs e t b is = run-append xs (e ∷ []) b ∙ ap (run (e ∷ [])) is
 
 -- the steps of two trees, and a step on both
-after-two : (xs ys : List Step) (e : Step) (t u : Tree) (ts : List Tree) →
-    run xs ts ≡ t ∷ ts → run ys (t ∷ ts) ≡ u ∷ t ∷ ts →
-    run (xs ++ (ys ++ e ∷ [])) ts ≡ run (e ∷ []) (u ∷ t ∷ ts)
-after-two xs ys e t u ts is both =
-    run-append xs (ys ++ e ∷ []) ts ∙ ap (run (ys ++ e ∷ [])) is
-    ∙ run-append ys (e ∷ []) (t ∷ ts) ∙ ap (run (e ∷ [])) both
+after-two : (xs ys : List Step) (e : Step) (t u : Tree) (b : Built) →
+    run xs b ≡ with_tree t b → run ys (with_tree t b) ≡ with_tree u (with_tree t b) →
+    run (xs ++ (ys ++ e ∷ [])) b ≡ run (e ∷ []) (with_tree u (with_tree t b))
+after-two xs ys e t u b is both =
+    run-append xs (ys ++ e ∷ []) b ∙ ap (run (ys ++ e ∷ [])) is
+    ∙ run-append ys (e ∷ []) (with_tree t b) ∙ ap (run (e ∷ [])) both
 
-run-steps : (t : Tree) (ts : List Tree) → run (steps t) ts ≡ t ∷ ts
-run-steps (number x) ts = refl
-run-steps (cell r) ts = refl
-run-steps (rectangle c) ts = refl
-run-steps (parenthesized t) ts = after-one (steps t) (2, (0, ([], []))) t ts (run-steps t ts)
-run-steps (signed s t) ts =
-    after-one (steps t) (3, (sign_code s, ([], []))) t ts (run-steps t ts) ∙ ap (λ s. signed s t ∷ ts) (sign_at-code s)
-run-steps (percent t) ts = after-one (steps t) (4, (0, ([], []))) t ts (run-steps t ts)
-run-steps (binary op t u) ts =
-    after-two (steps t) (steps u) (5, (operator_code op, ([], []))) t u ts (run-steps t ts) (run-steps u (t ∷ ts))
-    ∙ ap (λ op. binary op t u ∷ ts) (operator_at-code op)
-run-steps (what_if f ps) ts = refl
+abbrev list_of : Trees → List Tree
+list_of no_trees = []
+list_of (more_trees t ts) = t ∷ list_of ts
+
+trees_of-list_of : (ts : Trees) → trees_of (list_of ts) ≡ ts
+trees_of-list_of no_trees = refl
+trees_of-list_of (more_trees t ts) = ap (more_trees t) (trees_of-list_of ts)
+
+mutual
+  run-steps : (t : Tree) (b : Built) → run (steps t) b ≡ with_tree t b
+  run-steps (number x) b = refl
+  run-steps (cell r) b = refl
+  run-steps (rectangle c) b = refl
+  run-steps (parenthesized t) b = after-one (steps t) (2, (0, ([], ([], [])))) t b (run-steps t b)
+  run-steps (signed s t) b =
+      after-one (steps t) (3, (sign_code s, ([], ([], [])))) t b (run-steps t b) ∙ ap (λ s. with_tree (signed s t) b) (sign_at-code s)
+  run-steps (percent t) b = after-one (steps t) (4, (0, ([], ([], [])))) t b (run-steps t b)
+  run-steps (binary op t u) b =
+      after-two (steps t) (steps u) (5, (operator_code op, ([], ([], [])))) t u b (run-steps t b) (run-steps u (with_tree t b))
+      ∙ ap (λ op. with_tree (binary op t u) b) (operator_at-code op)
+  run-steps (what_if f ps) b = refl
+  run-steps (text s) b = refl
+  run-steps (call f ts) b =
+      run-append (steps_of_all ts) ((9, (0, (f, ([], [])))) ∷ []) (put_aside b)
+      ∙ ap (run ((9, (0, (f, ([], [])))) ∷ [])) (run-all ts (b.0 ∷ b.1))
+      ∙ ap (λ ts. with_tree (call f ts) b) (trees_of-list_of ts)
+
+  run-all : (ts : Trees) (aside : List (List Tree)) → run (steps_of_all ts) ([], aside) ≡ (list_of ts, aside)
+  run-all no_trees aside = refl
+  run-all (more_trees t ts) aside =
+      run-append (steps_of_all ts) (steps t) ([], aside) ∙ ap (run (steps t)) (run-all ts aside) ∙ run-steps t (list_of ts, aside)
 
 pub tree_at_top-steps : (t : Tree) → tree_at_top (steps t) ≡ t
-tree_at_top-steps t = ap top (run-steps t [])
+tree_at_top-steps t = ap (λ b. top b.0) (run-steps t ([], []))
 
 -- a tree is stored as its steps
 abbrev pub tree_code : Coded Tree
 tree_code =
-    code_by (List Step) (coded_list (coded× coded_ℕ (coded× coded_ℕ (coded× (coded_list number_code) (coded_list (coded× reference_code reference_code))))))
+    code_by (List Step) (coded_list (coded× coded_ℕ (coded× coded_ℕ (coded× (coded_list coded_ℕ) (coded× (coded_list number_code) (coded_list (coded× reference_code reference_code)))))))
     steps tree_at_top tree_at_top-steps

@@ -1,6 +1,6 @@
 -- The tree that an expression stands for.
-use Rattle.std.specs.Prelude.{map}
-use Rattle.wi_parser.specs.Tree.{Tree, number, cell, rectangle, parenthesized, signed, percent, binary, what_if}
+use Rattle.std.specs.Prelude.{map, List}
+use Rattle.wi_parser.specs.Tree.{Tree, Trees, number, text, cell, rectangle, parenthesized, signed, percent, binary, what_if, call, trees_of}
 use Rattle.wi_parser.specs.declared.expr.Expr.{Expr, fold-Expr}
 use Rattle.wi_parser.specs.declared.expr.Expr.TheOpen.{Expr-F}
 use Rattle.wi_parser.specs.declared.expr.Pair.{Pair}
@@ -13,6 +13,7 @@ pair_of p = (p.input, p.by)
 -- one level, with each part already seen as its tree
 abbrev pub layer_tree : Expr-F Tree → Tree
 layer_tree (Expr-F.Number x) = number x
+layer_tree (Expr-F.Text s) = text s
 layer_tree (Expr-F.Cell r) = cell r
 layer_tree (Expr-F.Rectangle c) = rectangle c
 layer_tree (Expr-F.Parenthesized t) = parenthesized t.value
@@ -20,7 +21,12 @@ layer_tree (Expr-F.Signed s t) = signed s t.value
 layer_tree (Expr-F.Percent t) = percent t.value
 layer_tree (Expr-F.Binary op t u) = binary op t.value u.value
 layer_tree (Expr-F.WhatIf f v) = what_if f (map pair_of v.items)
+layer_tree (Expr-F.Call f v) = call f (trees_of v.items)
 
 -- the tree of an expression
 abbrev pub tree_of : Expr → Tree
 tree_of = fold-Expr Tree layer_tree
+
+-- the trees of expressions
+abbrev pub all_of : List Expr → Trees
+all_of es = trees_of (map tree_of es)

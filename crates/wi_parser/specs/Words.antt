@@ -1,8 +1,8 @@
 -- What the code's words stand for.
 use Rattle.std.specs.Prelude.{List, map}
 use Rattle.wi_parser.specs.declared.word.Word.{Word}
-use Rattle.wi_parser.specs.declared.word.Word.TheVariants.{Number, Cell, Rectangle, Open, Close, Separator, Infix, Percent, WhatIf, Refused}
-use Rattle.wi_parser.specs.Symbol.{Symbol, numeral, reference, corners, open_parenthesis, close_parenthesis, separator, infix_mark, percent_mark, what_if_name, refused}
+use Rattle.wi_parser.specs.declared.word.Word.TheVariants.{Number, Cell, Rectangle, Open, Close, Separator, Infix, Percent, WhatIf, Refused, Name}
+use Rattle.wi_parser.specs.Symbol.{Symbol, numeral, reference, corners, open_parenthesis, close_parenthesis, separator, infix_mark, percent_mark, what_if_name, refused, name}
 
 abbrev pub meant_by : Word → Symbol
 meant_by (Number x) = numeral x
@@ -14,6 +14,7 @@ meant_by Separator = separator
 meant_by (Infix op) = infix_mark op
 meant_by Percent = percent_mark
 meant_by WhatIf = what_if_name
+meant_by (Name f) = name f
 meant_by (Refused e) = refused e
 
 abbrev pub all_meant : List Word → List Symbol

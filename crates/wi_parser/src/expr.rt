@@ -1,12 +1,12 @@
 //! The tree of a formula.
 
 ghost use Rattle.std.specs.Prelude.{◌≡◌, IfOk};
-ghost use Rattle.wi_parser.specs.View.{tree_of};
+ghost use Rattle.wi_parser.specs.View.{tree_of, all_of};
 ghost use Rattle.wi_parser.specs.Reads.{area_of};
 
 use std::alloc::{AllocError, Global};
 use wi_fraction::Fraction;
-use wi_values::{Address, Rect};
+use wi_values::{Address, Text, Rect};
 
 /// A reference to one cell. What is absolute stays where a formula is filled into other cells.
 #[derive(Clone, Copy, PartialEq, Eq, Debug)]
@@ -68,6 +68,7 @@ pub struct Pair {
 #[derive(Debug, Drop)]
 pub enum Expr {
     Number(Fraction),
+    Text(Text),
     Cell(Reference),
     Rectangle(Corners),
     Parenthesized(Box<Expr>),
@@ -77,6 +78,8 @@ pub enum Expr {
     Binary(Operator, Box<Expr>, Box<Expr>),
     /// The value of a cell if the inputs had the values of other cells.
     WhatIf(Reference, Vec<Pair>),
+    /// A function by its name in capitals, with its parameters.
+    Call(Text, Vec<Expr>),
 }
 
 impl Expr {
@@ -87,6 +90,7 @@ impl Expr {
     {
         match self {
             Expr::Number(x) => Ok(Expr::Number(*x)),
+            Expr::Text(s) => Ok(Expr::Text(s.copy(alloc)?)),
             Expr::Cell(r) => Ok(Expr::Cell(*r)),
             Expr::Rectangle(corners) => Ok(Expr::Rectangle(*corners)),
             Expr::Parenthesized(t) => Ok(Expr::Parenthesized(copied(alloc, t)?)),
@@ -96,6 +100,7 @@ impl Expr {
                 Ok(Expr::Binary(*op, copied(alloc, t)?, copied(alloc, u)?))
             }
             Expr::WhatIf(f, pairs) => Ok(Expr::WhatIf(*f, Vec::from_slice(alloc, pairs)?)),
+            Expr::Call(f, trees) => Ok(Expr::Call(f.copy(alloc)?, all_copied(alloc, trees)?)),
         }
     }
 }
@@ -106,4 +111,15 @@ fn copied(alloc: Global, expr: &Expr) -> Result<Box<Expr>, AllocError>
     ensures { IfOk result (λ e. tree_of e.value ≡ tree_of expr.now) }
 {
     Ok(Box::new(alloc, expr.copy(alloc)?)?)
+}
+
+#[cycle(copying)]
+fn all_copied(alloc: Global, exprs: &[Expr]) -> Result<Vec<Expr>, AllocError>
+    ensures { IfOk result (λ v. all_of v.items ≡ all_of exprs.now) }
+{
+    let mut copies = Vec::new(alloc);
+    for expr in exprs {
+        copies.push(expr.copy(alloc)?)?;
+    }
+    Ok(copies)
 }

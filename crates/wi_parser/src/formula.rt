@@ -1,8 +1,8 @@
 //! A formula.
 
 ghost use Rattle.std.specs.Prelude.{◌≡◌, ◌++◌, map, IfOk};
-ghost use Rattle.wi_parser.specs.View.{tree_of, pair_of};
-ghost use Rattle.wi_parser.specs.Reads.{inputs_of};
+ghost use Rattle.wi_parser.specs.View.{tree_of, all_of, pair_of};
+ghost use Rattle.wi_parser.specs.Reads.{inputs_of, all_inputs_of};
 ghost use Rattle.wi_parser.specs.Spelling.{IsSpelled};
 ghost use Rattle.wi_parser.specs.Shift.{shifted, ShiftsTo};
 
@@ -87,11 +87,13 @@ impl Formula {
 }
 
 // Appends the inputs of a tree's what-ifs.
+#[cycle(inputs)]
 fn push_inputs(expr: &Expr, inputs: &mut Vec<Address>) -> Result<(), AllocError>
     ensures { IfOk result (λ _. inputs.new.items ≡ inputs.old.items ++ inputs_of (tree_of expr.now)) }
 {
     match expr {
         Expr::Number(_) => Ok(()),
+        Expr::Text(_) => Ok(()),
         Expr::Cell(_) => Ok(()),
         Expr::Rectangle(_) => Ok(()),
         Expr::Parenthesized(inner) => push_inputs(inner, inputs),
@@ -102,7 +104,19 @@ fn push_inputs(expr: &Expr, inputs: &mut Vec<Address>) -> Result<(), AllocError>
             push_inputs(right, inputs)
         }
         Expr::WhatIf(_, pairs) => push_inputs_of(pairs, inputs),
+        Expr::Call(_, parameters) => push_all_inputs(parameters, inputs),
     }
+}
+
+// Appends the inputs of the what-ifs of trees.
+#[cycle(inputs)]
+fn push_all_inputs(trees: &[Expr], inputs: &mut Vec<Address>) -> Result<(), AllocError>
+    ensures { IfOk result (λ _. inputs.new.items ≡ inputs.old.items ++ all_inputs_of (all_of trees.now)) }
+{
+    for tree in trees {
+        push_inputs(tree, inputs)?;
+    }
+    Ok(())
 }
 
 // Appends the inputs of pairs.

@@ -2,9 +2,9 @@
 
 ghost use Rattle.std.specs.Prelude.{◌≡◌, ◌<◌, ◌≤◌, length, OnOk, IfOk};
 ghost use Rattle.wi_parser.specs.Reader as reader;
-ghost use Rattle.wi_parser.specs.Outcome.{Finds};
+ghost use Rattle.wi_parser.specs.Outcome.{Finds, FindsAll, FindsMore, put_before};
 ghost use Rattle.wi_parser.specs.Nests.{Nests};
-ghost use Rattle.wi_parser.specs.View.{tree_of};
+ghost use Rattle.wi_parser.specs.View.{tree_of, all_of};
 ghost use Rattle.wi_parser.specs.Tree as tree;
 
 use crate::expr::{Corners, Expr, Operator, Reference, Sign};
@@ -14,6 +14,7 @@ use crate::word::Word;
 use crate::words::Words;
 use std::alloc::{AllocError, Global};
 use wi_fraction::Fraction;
+use wi_values::Text;
 
 #[derive(Clone, Copy)]
 struct Grammar<F> {
@@ -33,7 +34,41 @@ impl<F: Fn(Global, &mut Words<'_>, usize) -> Result<Expr, ParseFault>> Grammar<F
         (self.expression)(self.alloc, words, self.depth)
     }
 
-    // A number, a cell, a rectangle, an expression in parentheses, or a what-if.
+    // What follows a parameter: the others behind those found, and the parenthesis that closes.
+    fn more_parameters(
+        &self,
+        words: &mut Words<'_>,
+        found: &mut Vec<Expr>,
+    ) -> Result<(), ParseFault>
+        requires { Nests self.now.depth (F.pre self.now.expression) (F.post self.now.expression) }
+        ensures finds { FindsMore (put_before found.old.items (reader.more_parameters (reader.expression self.now.depth) (length words.old) words.old)) result found.new.items words.new }
+        ensures shorter { OnOk result (length words.new < length words.old) }
+    {
+        while !words.take_close() {
+            if !words.take_separator() {
+                return Err(ParseFault::Syntax);
+            }
+            found.push(self.inner(words)?)?;
+        }
+        Ok(())
+    }
+
+    // The parameters of a call, and the parenthesis that closes.
+    fn parameters(&self, words: &mut Words<'_>) -> Result<Vec<Expr>, ParseFault>
+        requires { Nests self.now.depth (F.pre self.now.expression) (F.post self.now.expression) }
+        ensures finds { FindsAll (reader.parameters_at (reader.expression self.now.depth) words.old) result words.new }
+        ensures shorter { OnOk result (length words.new < length words.old) }
+    {
+        let mut found = Vec::new(self.alloc);
+        if words.take_close() {
+            return Ok(found);
+        }
+        found.push(self.inner(words)?)?;
+        self.more_parameters(words, &mut found)?;
+        Ok(found)
+    }
+
+    // A number, a text, a cell, a rectangle, an expression in parentheses, a what-if, or a call.
     #[tactic(auto, unfolding(crate::specs::Reader::atom))]
     fn atom(&self, words: &mut Words<'_>) -> Result<Expr, ParseFault>
         requires { Nests self.now.depth (F.pre self.now.expression) (F.post self.now.expression) }
@@ -44,9 +79,9 @@ impl<F: Fn(Global, &mut Words<'_>, usize) -> Result<Expr, ParseFault>> Grammar<F
             return Err(ParseFault::Syntax);
         };
         match word {
-            Word::Number(x) => Ok(number(x)),
-            Word::Cell(at) => Ok(cell(at)),
-            Word::Rectangle(corners) => Ok(rectangle(corners)),
+            Word::Number(x) => Ok(number(*x)),
+            Word::Cell(at) => Ok(cell(*at)),
+            Word::Rectangle(corners) => Ok(rectangle(*corners)),
             Word::Open => {
                 let inner = self.inner(words)?;
                 if !words.take_close() {
@@ -55,6 +90,13 @@ impl<F: Fn(Global, &mut Words<'_>, usize) -> Result<Expr, ParseFault>> Grammar<F
                 Ok(parenthesized(self.alloc, inner)?)
             }
             Word::WhatIf => what_if(self.alloc, words),
+            Word::Name(name) => {
+                if !words.take_open() {
+                    return Err(ParseFault::Syntax);
+                }
+                let parameters = self.parameters(words)?;
+                Ok(call(self.alloc, name, parameters)?)
+            }
             Word::Close => Err(ParseFault::Syntax),
             Word::Separator => Err(ParseFault::Syntax),
             Word::Infix(_) => Err(ParseFault::Syntax),
@@ -168,4 +210,10 @@ fn binary(alloc: Global, op: Operator, left: Expr, right: Expr) -> Result<Expr, 
     let left = Box::new(alloc, left)?;
     let right = Box::new(alloc, right)?;
     Ok(Expr::Binary(op, left, right))
+}
+
+fn call(alloc: Global, name: &Text, parameters: Vec<Expr>) -> Result<Expr, AllocError>
+    ensures { IfOk result (λ e. tree_of e ≡ tree.call name.now (all_of parameters.items)) }
+{
+    Ok(Expr::Call(name.copy(alloc)?, parameters))
 }

@@ -35,18 +35,18 @@ pub fn refusal_of(words: &[Word]) -> Option<ParseFault>
 fn has_outside(words: &[Word]) -> bool
     ensures { result ≡ list_any symbol.is_outside (all_meant words.now) }
 {
-    words.iter().any(|w| is_outside(*w))
+    words.iter().any(|w| is_outside(w))
 }
 
 #[tactic(auto, using(crate::proofs::Refusals::any_meant))]
 fn has_unfit(words: &[Word]) -> bool
     ensures { result ≡ list_any symbol.is_unfit (all_meant words.now) }
 {
-    words.iter().any(|w| is_unfit(*w))
+    words.iter().any(|w| is_unfit(w))
 }
 
-fn is_outside(word: Word) -> bool
-    ensures { result ≡ symbol.is_outside (meant_by word) }
+fn is_outside(word: &Word) -> bool
+    ensures { result ≡ symbol.is_outside (meant_by word.now) }
 {
     match word {
         Word::Refused(ParseFault::OutOfSheet) => true,
@@ -54,8 +54,8 @@ fn is_outside(word: Word) -> bool
     }
 }
 
-fn is_unfit(word: Word) -> bool
-    ensures { result ≡ symbol.is_unfit (meant_by word) }
+fn is_unfit(word: &Word) -> bool
+    ensures { result ≡ symbol.is_unfit (meant_by word.now) }
 {
     match word {
         Word::Refused(ParseFault::NumberRange) => true,
@@ -63,8 +63,8 @@ fn is_unfit(word: Word) -> bool
     }
 }
 
-fn is_sign(word: Word) -> bool
-    ensures { result ≡ nesting.is_sign (meant_by word) }
+fn is_sign(word: &Word) -> bool
+    ensures { result ≡ nesting.is_sign (meant_by word.now) }
 {
     match word {
         Word::Infix(Operator::Add) => true,
@@ -109,7 +109,7 @@ fn repeats_signs(words: &[Word]) -> bool
 {
     let mut signs = 0;
     for word in words {
-        if is_sign(*word) {
+        if is_sign(word) {
             if signs == MAX_DEPTH {
                 return true;
             }

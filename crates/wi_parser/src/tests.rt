@@ -71,6 +71,16 @@ fn push_tree(tree: &Expr, text: &mut String) -> Result<(), AllocError> {
             push_tree(right, text)?;
             text.push('}')
         }
+        Expr::Call(name, parameters) => {
+            text.push_str(name.as_str())?;
+            for parameter in parameters {
+                text.push('<')?;
+                push_tree(parameter, text)?;
+                text.push('>')?;
+            }
+            Ok(())
+        }
+        Expr::Text(_) => Ok(()),
         Expr::WhatIf(formula_cell, pairs) => {
             formula_cell.at.push_text(text)?;
             for pair in pairs {
@@ -118,9 +128,9 @@ fn fault(alloc: Global, text: &str) -> Option<ParseFault> {
     parse(alloc, text).err()
 }
 
-// `1` in so many parentheses.
-fn nested(alloc: Global, count: u32) -> Result<String, AllocError> {
-    let mut text = repeated(alloc, "=", "(", count)?;
+// `1` in so many parentheses, each of which begins so.
+fn nested(alloc: Global, open: &str, count: u32) -> Result<String, AllocError> {
+    let mut text = repeated(alloc, "=", open, count)?;
     text.push('1')?;
     for _ in 0..count {
         text.push(')')?;
@@ -156,6 +166,18 @@ fn trees_by_precedence(rt: HostRuntime) -> Result<(), Fail> {
             "{{2*B2 B1=A4 C1=A5}+1}",
         ),
         ("=(MULTIPLE.OPERATIONS([.A1];[.A1];[.A1]))", "[A1 A1=A1]"),
+        ("=TRUE()", "TRUE"),
+        ("=sUm ( [.a1] )", "SUM<A1>"),
+        ("=_f.2(1+2*3;(4))", "_F.2<{1+{2*3}}><[4]>"),
+        ("=2*If(A1();b(C());3)-1", "{{2*IF<A1><B<C>><3>}-1}"),
+        (
+            "=MULTIPLE.OPERATION([.A1];[.A2];[.A3])",
+            "MULTIPLE.OPERATION<A1><A2><A3>",
+        ),
+        (
+            "=MULTIPLE_OPERATIONS(MULTIPLE.OPERATIONS([.A1];[.A2];[.A3]))",
+            "MULTIPLE_OPERATIONS<A1 A2=A3>",
+        ),
         (
             "=170141183460469231731687303715884105727",
             "170141183460469231731687303715884105727",
@@ -321,8 +343,25 @@ fn texts_that_are_no_formulas(rt: HostRuntime) {
         "=MULTIPLE.OPERATIONS([.A1];[.A2];[.A3:.A3])",
         "=MULTIPLE.OPERATIONS([.A1];[.A2];[.A3]+1)",
         "=MULTIPLE.OPERATIONS([.A1],[.A2],[.A3])",
-        "=MULTIPLE.OPERATION([.A1];[.A2];[.A3])",
-        "=MULTIPLE_OPERATIONS([.A1];[.A2];[.A3])",
+        "=A1",
+        "=A1(",
+        "=SUM",
+        "=SUM(",
+        "=SUM 1",
+        "=SUM(1",
+        "=SUM(1;",
+        "=SUM(1;)",
+        "=SUM(;1)",
+        "=SUM(;)",
+        "=SUM(1;;2)",
+        "=SUM(1 2)",
+        "=SUM(1,2)",
+        "=SUM(1)2",
+        "=SUM(1))",
+        "=SUM()()",
+        "=SUM([.A1];1+)",
+        "=1(2)",
+        "=MULTIPLE.OPERATIONS(SUM([.A1]);[.A2];[.A3])",
     ] {
         assert_eq!(rt; fault(rt.alloc(), text), Some(ParseFault::Syntax), "{text}");
     }
@@ -392,8 +431,13 @@ fn formulas_have_limits(rt: HostRuntime) -> Result<(), Fail> {
 
 #[test]
 fn parentheses_nest_to_a_limit(rt: HostRuntime) -> Result<(), Fail> {
-    for (count, want) in [(64, None), (65, Some(ParseFault::TooDeep))] {
-        let text = nested(rt.alloc(), count)?;
+    for (open, count, want) in [
+        ("(", 64, None),
+        ("(", 65, Some(ParseFault::TooDeep)),
+        ("f(", 64, None),
+        ("f(", 65, Some(ParseFault::TooDeep)),
+    ] {
+        let text = nested(rt.alloc(), open, count)?;
         assert_eq!(rt; fault(rt.alloc(), text.as_str()), want);
     }
     Ok(())
@@ -418,6 +462,20 @@ fn long_formulas_are_read_copied_and_dropped(rt: HostRuntime) -> Result<(), Fail
         assert_eq!(rt; left_depth(formula.tree()), 2_000);
         assert_eq!(rt; left_depth(again.tree()), 2_000);
     }
+    Ok(())
+}
+
+#[test]
+fn calls_with_many_parameters(rt: HostRuntime) -> Result<(), Fail> {
+    let mut text = repeated(rt.alloc(), "=f(1", ";1", 1_299)?;
+    text.push(')')?;
+    let formula = parse(rt.alloc(), text.as_str())?.copy(rt.alloc())?;
+    let Expr::Call(name, parameters) = formula.tree() else {
+        assert!(rt; false);
+        return Ok(());
+    };
+    assert_eq!(rt; name.as_str(), "F");
+    assert_eq!(rt; parameters.len(), 1_300);
     Ok(())
 }
 
@@ -482,7 +540,7 @@ fn contents_have_a_greatest_length(rt: HostRuntime) -> Result<(), Fail> {
 fn formulas_tell_their_inputs(rt: HostRuntime) -> Result<(), Fail> {
     let formula = parse(
         rt.alloc(),
-        "=[.A1]+MULTIPLE.OPERATIONS([.B2];[.C1];[.A4];[.B1];[.A5])*(MULTIPLE.OPERATIONS([.B2];[.C1];[.A6]))",
+        "=[.A1]+MULTIPLE.OPERATIONS([.B2];[.C1];[.A4];[.B1];[.A5])*(IF([.A1];MULTIPLE.OPERATIONS([.B2];[.C1];[.A6])))",
     )?;
     let again = formula.copy(rt.alloc())?;
     let inputs = [Address::at(0, 2), Address::at(0, 1), Address::at(0, 2)];

@@ -20,21 +20,21 @@ pub fn words_of(alloc: Global, text: &str) -> Result<Vec<Word>, AllocError>
     let mut words = Vec::new(alloc);
     let Some(body) = after("=", text) else {
         words.push(Word::Refused(ParseFault::Syntax))?;
-        push_words(text, &mut words)?;
+        push_words(alloc, text, &mut words)?;
         return Ok(words);
     };
-    push_words(body, &mut words)?;
+    push_words(alloc, body, &mut words)?;
     Ok(words)
 }
 
 // Appends the words of the tokens, up to the first bad one.
-fn push_words(text: &str, words: &mut Vec<Word>) -> Result<(), AllocError>
+fn push_words(alloc: Global, text: &str, words: &mut Vec<Word>) -> Result<(), AllocError>
     ensures { IfOk result (λ _. all_meant words.new.items ≡ all_meant words.old.items ++ symbols_of (tokens text.now)) }
 {
     let mut lexer = Lexer::new(text);
     while let Some(next) = lexer.next_token() {
         match next {
-            Ok(token) => words.push(Word::of_token(token))?,
+            Ok(token) => words.push(Word::of_token(alloc, token)?)?,
             Err(_) => words.push(Word::Refused(ParseFault::Syntax))?,
         }
     }

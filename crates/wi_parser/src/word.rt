@@ -1,6 +1,6 @@
 //! Tokens with their values.
 
-ghost use Rattle.std.specs.Prelude.{◌≡◌};
+ghost use Rattle.std.specs.Prelude.{◌≡◌, IfOk};
 ghost use Rattle.wi_parser.specs.Words.{meant_by};
 ghost use Rattle.wi_parser.specs.Symbol.{refused};
 ghost use Rattle.wi_parser.specs.FormulaText.{symbol_of, name_symbol, reference_to, reference_symbol, rectangle_symbol, mark_symbol};
@@ -9,12 +9,13 @@ ghost use Rattle.wi_lexer.specs.Reference as spec;
 
 use crate::expr::{Corners, Operator, Reference};
 use crate::fault::ParseFault;
+use std::alloc::{AllocError, Global};
 use wi_fraction::Fraction;
 use wi_lexer::{CellText, Kind, Mark, Token, rectangle_of, reference_of};
-use wi_values::Address;
+use wi_values::{Address, Text};
 
 /// A token with its value.
-#[derive(Clone, Copy, PartialEq, Eq, Debug)]
+#[derive(PartialEq, Eq, Debug, Drop)]
 pub enum Word {
     Number(Fraction),
     Cell(Reference),
@@ -26,21 +27,23 @@ pub enum Word {
     Percent,
     /// The name MULTIPLE.OPERATIONS.
     WhatIf,
+    /// Another name, in capitals.
+    Name(Text),
     /// A token without a value, which no formula has.
     Refused(ParseFault),
 }
 
 impl Word {
     /// What a token means.
-    pub fn of_token(token: Token<'_>) -> Word
-        ensures { meant_by result ≡ symbol_of token.entry.kind token.entry.text.now }
+    pub fn of_token(alloc: Global, token: Token<'_>) -> Result<Word, AllocError>
+        ensures { IfOk result (λ w. meant_by w ≡ symbol_of token.entry.kind token.entry.text.now) }
     {
         match token.kind {
-            Kind::Number => number(token.text.as_bytes()),
-            Kind::Reference => reference(token.text.as_bytes()),
-            Kind::Rectangle => rectangle(token.text.as_bytes()),
-            Kind::Mark(mark) => of_mark(mark),
-            Kind::Name => name(token.text),
+            Kind::Number => Ok(number(token.text.as_bytes())),
+            Kind::Reference => Ok(reference(token.text.as_bytes())),
+            Kind::Rectangle => Ok(rectangle(token.text.as_bytes())),
+            Kind::Mark(mark) => Ok(of_mark(mark)),
+            Kind::Name => name(alloc, token.text),
         }
     }
 }
@@ -63,14 +66,13 @@ fn reference(text: &[u8]) -> Word
     }
 }
 
-// No formula has another name than that of what-ifs yet.
-fn name(text: &str) -> Word
-    ensures { meant_by result ≡ name_symbol text.now }
+fn name(alloc: Global, text: &str) -> Result<Word, AllocError>
+    ensures { IfOk result (λ w. meant_by w ≡ name_symbol text.now) }
 {
     if text.eq_ignore_ascii_case("MULTIPLE.OPERATIONS") {
-        return Word::WhatIf;
+        return Ok(Word::WhatIf);
     }
-    Word::Refused(ParseFault::Syntax)
+    Ok(Word::Name(Text::new(text.to_ascii_uppercase(alloc)?)))
 }
 
 fn cell_named(cell: CellText<'_>) -> Word

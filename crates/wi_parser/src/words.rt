@@ -40,13 +40,13 @@ impl<'a> Words<'a> {
     }
 
     /// Takes the next word.
-    pub fn next(&mut self) -> Option<Word>
-        ensures { MatchOption result ((self.old ≡ []) × (self.new ≡ [])) (λ w. self.old ≡ meant_by w ∷ self.new) }
+    pub fn next(&mut self) -> Option<&'a Word>
+        ensures { MatchOption result ((self.old ≡ []) × (self.new ≡ [])) (λ w. self.old ≡ meant_by w.now ∷ self.new) }
     {
         match self.rest {
             [first, rest @ ..] => {
                 self.rest = rest;
-                Some(*first)
+                Some(first)
             }
             [] => None,
         }

@@ -4,16 +4,16 @@ use Rattle.wi_parser.proofs.Collected.{left, left_next, left_bad, left_end, push
 use Rattle.wi_lexer.proofs.CallerLemmas.{next_shortens}
 use Rattle.wi_parser.proofs.tokens.push_words.Goals as goal
 
-pub loop-next-smaller-in-Continue-1 : goal.loop-next-smaller-in-Continue-1
-loop-next-smaller-in-Continue-1 c = next_shortens c.loop-next.lexer c.in-Ok.token c.next_token.new.self (rw c.in-Ok.is at c.in-Some.ensures)
+pub loop-next-smaller-in_ok-push-in-Ok : goal.loop-next-smaller-in_ok-push-in-Ok
+loop-next-smaller-in_ok-push-in-Ok c = next_shortens c.loop-next.lexer c.in-Ok.token c.next_token.new.self (rw c.in-Ok.is at c.in-Some.ensures)
 
-pub loop-next-preserved-in-Continue-1 : goal.loop-next-preserved-in-Continue-1
-loop-next-preserved-in-Continue-1 c =
+pub loop-next-preserved-in_ok-push-in-Ok : goal.loop-next-preserved-in_ok-push-in-Ok
+loop-next-preserved-in_ok-push-in-Ok c =
     let l = c.loop-next in
     let new = c.next_token.new.self in
     let given = rw c.in-Ok.is at c.in-Some.ensures in
-    ap (λ ws. all_meant ws ++ left new) c.in_ok-push-in-Ok.ensures.items ∙ pushed l.words.items c.of_token.result (left new)
-    ∙ ap (λ x. all_meant l.words.items ++ x) (ap (λ x. x ∷ left new) c.of_token.ensures ∙ sym (left_next l.lexer c.in-Ok.token new given))
+    ap (λ ws. all_meant ws ++ left new) c.in_ok-push-in-Ok.ensures.items ∙ pushed l.words.items c.in_ok-of_token-in-Ok.field-0 (left new)
+    ∙ ap (λ x. all_meant l.words.items ++ x) (ap (λ x. x ∷ left new) c.in_ok-of_token-in-Ok.ensures ∙ sym (left_next l.lexer c.in-Ok.token new given))
     ∙ l.invariant
 
 pub loop-next-preserved : goal.loop-next-preserved
