@@ -6,25 +6,38 @@ use Rattle.std.proofs.lemmas.Int.{ints}
 use Rattle.wi_values.specs.Address.{columns, rows, place, row_of, column_of}
 use Rattle.wi_parser.specs.declared.expr.Corners.{Corners}
 use Rattle.wi_parser.specs.declared.expr.Reference.{Reference}
-use Rattle.wi_parser.specs.Tree.{Tree, number, cell, rectangle, parenthesized, signed, percent, binary, what_if}
+use Rattle.wi_parser.specs.Tree.{Tree, Trees, number, text, cell, rectangle, parenthesized, signed, percent, binary, what_if, call, no_trees, more_trees}
 use Rattle.wi_parser.specs.Symbol.{Symbol}
-use Rattle.wi_parser.specs.Grammar.{Spells, a_number, a_cell, a_rectangle, in_parentheses, one_input, two_inputs, with_sign, with_percent, tighter, joined}
-use Rattle.wi_parser.specs.Spelling.{spelling}
-use Rattle.wi_parser.specs.Shift.{within, part, stays, moved, in_sheet, all_references, map_references, shifted}
+use Rattle.wi_parser.specs.Grammar.{Spells, SpellsAll, SpellsMore, a_number, a_text, a_cell, a_rectangle, in_parentheses, one_input, two_inputs, a_call, with_sign, with_percent, tighter, joined, no_parameter, parameters, last_parameter, another_parameter}
+use Rattle.wi_parser.specs.Spelling.{spelling, spelling_of_all, spelling_of_more}
+use Rattle.wi_parser.specs.Shift.{within, part, stays, moved, in_sheet, all_references, all_references_in, map_references, map_references_in, shifted}
 
--- a tree with other references is spelled where the tree is
-pub still_spelled : (f : Reference → Reference) {k : ℕ} {t : Tree} {ts : List Symbol} → Spells k t ts → Spells k (map_references f t) (spelling (map_references f t))
-still_spelled f (a_number x) = a_number x
-still_spelled f (a_cell r) = a_cell (f r)
-still_spelled f (a_rectangle c) = a_rectangle (record { one = f c.one; other = f c.other })
-still_spelled f (in_parentheses t ts s) = in_parentheses (map_references f t) (spelling (map_references f t)) (still_spelled f s)
-still_spelled f (one_input r p) = one_input (f r) (f p.0, f p.1)
-still_spelled f (two_inputs r p q) = two_inputs (f r) (f p.0, f p.1) (f q.0, f q.1)
-still_spelled f (with_sign s t ts u) = with_sign s (map_references f t) (spelling (map_references f t)) (still_spelled f u)
-still_spelled f (with_percent t ts s) = with_percent (map_references f t) (spelling (map_references f t)) (still_spelled f s)
-still_spelled f (tighter k t ts s) = tighter k (map_references f t) (spelling (map_references f t)) (still_spelled f s)
-still_spelled f (joined k op l r ls rs e s u) =
-    joined k op (map_references f l) (map_references f r) (spelling (map_references f l)) (spelling (map_references f r)) e (still_spelled f s) (still_spelled f u)
+mutual
+  -- a tree with other references is spelled where the tree is
+  pub still_spelled : (f : Reference → Reference) {k : ℕ} {t : Tree} {ts : List Symbol} → Spells k t ts → Spells k (map_references f t) (spelling (map_references f t))
+  still_spelled f (a_number x) = a_number x
+  still_spelled f (a_text s) = a_text s
+  still_spelled f (a_cell r) = a_cell (f r)
+  still_spelled f (a_rectangle c) = a_rectangle (record { one = f c.one; other = f c.other })
+  still_spelled f (in_parentheses t ts s) = in_parentheses (map_references f t) (spelling (map_references f t)) (still_spelled f s)
+  still_spelled f (one_input r p) = one_input (f r) (f p.0, f p.1)
+  still_spelled f (two_inputs r p q) = two_inputs (f r) (f p.0, f p.1) (f q.0, f q.1)
+  still_spelled f (a_call g all ts s) = a_call g (map_references_in f all) (spelling_of_all (map_references_in f all)) (all_still_spelled f s)
+  still_spelled f (with_sign s t ts u) = with_sign s (map_references f t) (spelling (map_references f t)) (still_spelled f u)
+  still_spelled f (with_percent t ts s) = with_percent (map_references f t) (spelling (map_references f t)) (still_spelled f s)
+  still_spelled f (tighter k t ts s) = tighter k (map_references f t) (spelling (map_references f t)) (still_spelled f s)
+  still_spelled f (joined k op l r ls rs e s u) =
+      joined k op (map_references f l) (map_references f r) (spelling (map_references f l)) (spelling (map_references f r)) e (still_spelled f s) (still_spelled f u)
+
+  all_still_spelled : (f : Reference → Reference) {all : Trees} {ts : List Symbol} → SpellsAll all ts → SpellsAll (map_references_in f all) (spelling_of_all (map_references_in f all))
+  all_still_spelled f no_parameter = no_parameter
+  all_still_spelled f (parameters t all ts us s u) =
+      parameters (map_references f t) (map_references_in f all) (spelling (map_references f t)) (spelling_of_more (map_references_in f all)) (still_spelled f s) (more_still_spelled f u)
+
+  more_still_spelled : (f : Reference → Reference) {all : Trees} {ts : List Symbol} → SpellsMore all ts → SpellsMore (map_references_in f all) (spelling_of_more (map_references_in f all))
+  more_still_spelled f last_parameter = last_parameter
+  more_still_spelled f (another_parameter t all ts us s u) =
+      another_parameter (map_references f t) (map_references_in f all) (spelling (map_references f t)) (spelling_of_more (map_references_in f all)) (still_spelled f s) (more_still_spelled f u)
 
 -- ---- shifts by nothing
 
@@ -55,26 +68,38 @@ pairs_kept p q f h (x ∷ xs) e =
     let j = pairs_kept p q f h xs a.1 in
     (both_true _ _ i.0 j.0, ap₂ (λ (y : Reference × Reference) ys. y ∷ ys) i.1 j.1)
 
-tree_kept : (p q : Reference → Bool) (f : Reference → Reference) → ((r : Reference) → p r ≡ true → (q r ≡ true) × (f r ≡ r))
-    → (t : Tree) → all_references p t ≡ true → (all_references q t ≡ true) × (map_references f t ≡ t)
-tree_kept p q f h (number x) e = (refl, refl)
-tree_kept p q f h (cell r) e = let i = h r e in (i.0, ap cell i.1)
-tree_kept p q f h (rectangle c) e =
-    let i = pair_kept p q f h (c.one, c.other) e in
-    (i.0, ap (λ (x : Reference × Reference). rectangle (record { one = x.0; other = x.1 })) i.1)
-tree_kept p q f h (parenthesized t) e = let i = tree_kept p q f h t e in (i.0, ap parenthesized i.1)
-tree_kept p q f h (signed s t) e = let i = tree_kept p q f h t e in (i.0, ap (signed s) i.1)
-tree_kept p q f h (percent t) e = let i = tree_kept p q f h t e in (i.0, ap percent i.1)
-tree_kept p q f h (binary op t u) e =
-    let a = each_true _ _ e in
-    let i = tree_kept p q f h t a.0 in
-    let j = tree_kept p q f h u a.1 in
-    (both_true _ _ i.0 j.0, ap₂ (binary op) i.1 j.1)
-tree_kept p q f h (what_if r xs) e =
-    let a = each_true _ _ e in
-    let i = h r a.0 in
-    let j = pairs_kept p q f h xs a.1 in
-    (both_true _ _ i.0 j.0, ap₂ what_if i.1 j.1)
+mutual
+  tree_kept : (p q : Reference → Bool) (f : Reference → Reference) → ((r : Reference) → p r ≡ true → (q r ≡ true) × (f r ≡ r))
+      → (t : Tree) → all_references p t ≡ true → (all_references q t ≡ true) × (map_references f t ≡ t)
+  tree_kept p q f h (number x) e = (refl, refl)
+  tree_kept p q f h (text s) e = (refl, refl)
+  tree_kept p q f h (cell r) e = let i = h r e in (i.0, ap cell i.1)
+  tree_kept p q f h (rectangle c) e =
+      let i = pair_kept p q f h (c.one, c.other) e in
+      (i.0, ap (λ (x : Reference × Reference). rectangle (record { one = x.0; other = x.1 })) i.1)
+  tree_kept p q f h (parenthesized t) e = let i = tree_kept p q f h t e in (i.0, ap parenthesized i.1)
+  tree_kept p q f h (signed s t) e = let i = tree_kept p q f h t e in (i.0, ap (signed s) i.1)
+  tree_kept p q f h (percent t) e = let i = tree_kept p q f h t e in (i.0, ap percent i.1)
+  tree_kept p q f h (binary op t u) e =
+      let a = each_true _ _ e in
+      let i = tree_kept p q f h t a.0 in
+      let j = tree_kept p q f h u a.1 in
+      (both_true _ _ i.0 j.0, ap₂ (binary op) i.1 j.1)
+  tree_kept p q f h (what_if r xs) e =
+      let a = each_true _ _ e in
+      let i = h r a.0 in
+      let j = pairs_kept p q f h xs a.1 in
+      (both_true _ _ i.0 j.0, ap₂ what_if i.1 j.1)
+  tree_kept p q f h (call g ts) e = let i = trees_kept p q f h ts e in (i.0, ap (call g) i.1)
+
+  trees_kept : (p q : Reference → Bool) (f : Reference → Reference) → ((r : Reference) → p r ≡ true → (q r ≡ true) × (f r ≡ r))
+      → (ts : Trees) → all_references_in p ts ≡ true → (all_references_in q ts ≡ true) × (map_references_in f ts ≡ ts)
+  trees_kept p q f h no_trees e = (refl, refl)
+  trees_kept p q f h (more_trees t ts) e =
+      let a = each_true _ _ e in
+      let i = tree_kept p q f h t a.0 in
+      let j = trees_kept p q f h ts a.1 in
+      (both_true _ _ i.0 j.0, ap₂ more_trees i.1 j.1)
 
 part_kept : (b : Bool) (size k : ℕ) → k < size → part b size (pos 0) k ≡ Some k
 part_kept true size k h = refl

@@ -5,17 +5,18 @@ use Rattle.wi_fraction.specs.Number.{Number as Numbers}
 use Rattle.wi_fraction.specs.Text.{read_decimal}
 use Rattle.wi_values.specs.AddressReading.{address_at}
 use Rattle.wi_lexer.specs.declared.token.Kind.{Kind}
-use Rattle.wi_lexer.specs.declared.token.Kind.TheVariants.{Number, Reference, Rectangle, Mark, Name}
+use Rattle.wi_lexer.specs.declared.token.Kind.TheVariants.{Number, Text, Reference, Rectangle, Mark, Name}
 use Rattle.wi_lexer.specs.declared.token.Mark as mark
 use Rattle.wi_lexer.specs.declared.token.Mark.TheVariants.{OpenParenthesis, CloseParenthesis, Semicolon, Plus, Minus, Asterisk, Slash, Caret, Percent, Ampersand, Equal, NotEqual, Less, LessOrEqual, Greater, GreaterOrEqual}
 use Rattle.wi_lexer.specs.Cell.{Cell}
 use Rattle.wi_lexer.specs.Reference.{reference_of}
 use Rattle.wi_lexer.specs.Rectangle.{rectangle_of}
+use Rattle.wi_lexer.specs.Text.{text_content}
 use Rattle.wi_lexer.specs.Tokens.{Tokens, tokens}
 use Rattle.wi_parser.specs.declared.expr.Operator.TheVariants as operator
 use Rattle.wi_parser.specs.declared.expr.Reference as references
 use Rattle.wi_parser.specs.declared.fault.ParseFault.TheVariants.{OutOfSheet, NumberRange, Syntax}
-use Rattle.wi_parser.specs.Symbol.{Symbol, numeral, reference, corners, open_parenthesis, close_parenthesis, separator, infix_mark, percent_mark, what_if_name, refused, name}
+use Rattle.wi_parser.specs.Symbol.{Symbol, numeral, text_literal, reference, corners, open_parenthesis, close_parenthesis, separator, infix_mark, percent_mark, what_if_name, refused, name}
 use Rattle.wi_parser.specs.Capitals.{in_capitals}
 
 -- ---- tokens
@@ -74,6 +75,7 @@ name_symbol bs = if str_eq_ignore_ascii_case bs (codes "MULTIPLE.OPERATIONS") th
 -- what a token of this kind with these bytes means
 abbrev pub symbol_of : Kind → List ℕ → Symbol
 symbol_of Number bs = number_symbol (read_decimal bs)
+symbol_of Text bs = text_literal (text_content bs)
 symbol_of Reference bs = reference_symbol (reference_of bs)
 symbol_of Rectangle bs = rectangle_symbol (rectangle_of bs)
 symbol_of (Mark m) bs = mark_symbol m

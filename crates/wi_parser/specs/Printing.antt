@@ -9,13 +9,14 @@ use Rattle.wi_lexer.specs.Cell.{Cell}
 use Rattle.wi_lexer.specs.Reference.{reference_text}
 use Rattle.wi_lexer.specs.Rectangle.{rectangle_text}
 use Rattle.wi_lexer.specs.Mark.{mark_text}
+use Rattle.wi_lexer.specs.Text.{quoted}
 use Rattle.wi_lexer.specs.declared.token.Mark.{Mark}
 use Rattle.wi_lexer.specs.declared.token.Mark.TheVariants as mark
 use Rattle.wi_parser.specs.declared.expr.Operator.{Operator}
 use Rattle.wi_parser.specs.declared.expr.Operator.TheVariants.{Add, Subtract, Multiply, Divide, Power, Join, Equal, NotEqual, Less, LessOrEqual, Greater, GreaterOrEqual}
 use Rattle.wi_parser.specs.declared.expr.Reference.{Reference}
 use Rattle.wi_parser.specs.Tree.{Tree}
-use Rattle.wi_parser.specs.Symbol.{Symbol, numeral, reference, corners, open_parenthesis, close_parenthesis, separator, infix_mark, percent_mark, what_if_name, refused}
+use Rattle.wi_parser.specs.Symbol.{Symbol, numeral, text_literal, reference, corners, open_parenthesis, close_parenthesis, separator, infix_mark, percent_mark, what_if_name, name, refused}
 use Rattle.wi_parser.specs.Spelling.{spelling}
 
 -- the text of a number
@@ -49,6 +50,7 @@ mark_of GreaterOrEqual = mark.GreaterOrEqual
 -- the text of a symbol; a refused one, which no tree has, has none
 abbrev pub symbol_text : Symbol → List ℕ
 symbol_text (numeral x) = numeral_text x
+symbol_text (text_literal s) = quoted s
 symbol_text (reference r) = reference_text (cell_named r)
 symbol_text (corners c) = rectangle_text (cell_named c.one) (cell_named c.other)
 symbol_text open_parenthesis = codes "("
@@ -57,6 +59,7 @@ symbol_text separator = codes ";"
 symbol_text (infix_mark op) = mark_text (mark_of op)
 symbol_text percent_mark = codes "%"
 symbol_text what_if_name = codes "MULTIPLE.OPERATIONS"
+symbol_text (name f) = f
 symbol_text (refused e) = []
 
 -- the texts of symbols, one after another

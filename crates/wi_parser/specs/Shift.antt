@@ -5,7 +5,7 @@ use Rattle.wi_values.specs.Address.{columns, rows, place, row_of, column_of}
 use Rattle.wi_parser.specs.declared.expr.Reference.{Reference}
 use Rattle.wi_parser.specs.declared.shift.ShiftFault.{ShiftFault}
 use Rattle.wi_parser.specs.declared.shift.ShiftFault.TheVariants.{LeavesSheet, Memory}
-use Rattle.wi_parser.specs.Tree.{Tree, number, cell, rectangle, parenthesized, signed, percent, binary, what_if}
+use Rattle.wi_parser.specs.Tree.{Tree, Trees, number, text, cell, rectangle, parenthesized, signed, percent, binary, what_if, call, no_trees, more_trees}
 
 -- ---- references
 
@@ -39,27 +39,41 @@ moved down right r = record r { at = place (unwrap_or (row_moved down r) 0) (unw
 
 -- ---- trees
 
--- all references of the tree are such
-abbrev pub all_references : (Reference → Bool) → Tree → Bool
-all_references p (number x) = true
-all_references p (cell r) = p r
-all_references p (rectangle c) = p c.one && p c.other
-all_references p (parenthesized t) = all_references p t
-all_references p (signed s t) = all_references p t
-all_references p (percent t) = all_references p t
-all_references p (binary op t u) = all_references p t && all_references p u
-all_references p (what_if r pairs) = p r && list_all (λ q. p q.0 && p q.1) pairs
+abbrev mutual
+  -- all references of the tree are such
+  pub all_references : (Reference → Bool) → Tree → Bool
+  all_references p (number x) = true
+  all_references p (text s) = true
+  all_references p (cell r) = p r
+  all_references p (rectangle c) = p c.one && p c.other
+  all_references p (parenthesized t) = all_references p t
+  all_references p (signed s t) = all_references p t
+  all_references p (percent t) = all_references p t
+  all_references p (binary op t u) = all_references p t && all_references p u
+  all_references p (what_if r pairs) = p r && list_all (λ q. p q.0 && p q.1) pairs
+  all_references p (call f ts) = all_references_in p ts
 
--- the tree with another reference in place of each
-abbrev pub map_references : (Reference → Reference) → Tree → Tree
-map_references f (number x) = number x
-map_references f (cell r) = cell (f r)
-map_references f (rectangle c) = rectangle (record { one = f c.one; other = f c.other })
-map_references f (parenthesized t) = parenthesized (map_references f t)
-map_references f (signed s t) = signed s (map_references f t)
-map_references f (percent t) = percent (map_references f t)
-map_references f (binary op t u) = binary op (map_references f t) (map_references f u)
-map_references f (what_if r pairs) = what_if (f r) (map (λ q. (f q.0, f q.1)) pairs)
+  pub all_references_in : (Reference → Bool) → Trees → Bool
+  all_references_in p no_trees = true
+  all_references_in p (more_trees t ts) = all_references p t && all_references_in p ts
+
+abbrev mutual
+  -- the tree with another reference in place of each
+  pub map_references : (Reference → Reference) → Tree → Tree
+  map_references f (number x) = number x
+  map_references f (text s) = text s
+  map_references f (cell r) = cell (f r)
+  map_references f (rectangle c) = rectangle (record { one = f c.one; other = f c.other })
+  map_references f (parenthesized t) = parenthesized (map_references f t)
+  map_references f (signed s t) = signed s (map_references f t)
+  map_references f (percent t) = percent (map_references f t)
+  map_references f (binary op t u) = binary op (map_references f t) (map_references f u)
+  map_references f (what_if r pairs) = what_if (f r) (map (λ q. (f q.0, f q.1)) pairs)
+  map_references f (call g ts) = call g (map_references_in f ts)
+
+  pub map_references_in : (Reference → Reference) → Trees → Trees
+  map_references_in f no_trees = no_trees
+  map_references_in f (more_trees t ts) = more_trees (map_references f t) (map_references_in f ts)
 
 -- the tree with each reference moved, where the relative parts of all of them stay in the sheet
 abbrev pub shifted : ℤ → ℤ → Tree → Option Tree

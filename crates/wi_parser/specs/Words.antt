@@ -1,11 +1,12 @@
 -- What the code's words stand for.
 use Rattle.std.specs.Prelude.{List, map}
 use Rattle.wi_parser.specs.declared.word.Word.{Word}
-use Rattle.wi_parser.specs.declared.word.Word.TheVariants.{Number, Cell, Rectangle, Open, Close, Separator, Infix, Percent, WhatIf, Refused, Name}
-use Rattle.wi_parser.specs.Symbol.{Symbol, numeral, reference, corners, open_parenthesis, close_parenthesis, separator, infix_mark, percent_mark, what_if_name, refused, name}
+use Rattle.wi_parser.specs.declared.word.Word.TheVariants.{Number, Text, Cell, Rectangle, Open, Close, Separator, Infix, Percent, WhatIf, Refused, Name}
+use Rattle.wi_parser.specs.Symbol.{Symbol, numeral, text_literal, reference, corners, open_parenthesis, close_parenthesis, separator, infix_mark, percent_mark, what_if_name, refused, name}
 
 abbrev pub meant_by : Word → Symbol
 meant_by (Number x) = numeral x
+meant_by (Text s) = text_literal s
 meant_by (Cell r) = reference r
 meant_by (Rectangle c) = corners c
 meant_by Open = open_parenthesis

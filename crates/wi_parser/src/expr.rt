@@ -6,7 +6,7 @@ ghost use Rattle.wi_parser.specs.Reads.{area_of};
 
 use std::alloc::{AllocError, Global};
 use wi_fraction::Fraction;
-use wi_values::{Address, Text, Rect};
+use wi_values::{Address, Rect, Text};
 
 /// A reference to one cell. What is absolute stays where a formula is filled into other cells.
 #[derive(Clone, Copy, PartialEq, Eq, Debug)]

@@ -80,6 +80,7 @@ impl<F: Fn(Global, &mut Words<'_>, usize) -> Result<Expr, ParseFault>> Grammar<F
         };
         match word {
             Word::Number(x) => Ok(number(*x)),
+            Word::Text(content) => Ok(text(self.alloc, content)?),
             Word::Cell(at) => Ok(cell(*at)),
             Word::Rectangle(corners) => Ok(rectangle(*corners)),
             Word::Open => {
@@ -172,6 +173,12 @@ fn number(x: Fraction) -> Expr
     ensures { tree_of result ≡ tree.number x }
 {
     Expr::Number(x)
+}
+
+fn text(alloc: Global, content: &Text) -> Result<Expr, AllocError>
+    ensures { IfOk result (λ e. tree_of e ≡ tree.text content.now) }
+{
+    Ok(Expr::Text(content.copy(alloc)?))
 }
 
 fn cell(at: Reference) -> Expr

@@ -4,6 +4,7 @@ ghost use Rattle.std.specs.Prelude.{◌≡◌, ◌++◌, map, OnOk, OnErr, strin
 ghost use Rattle.std.specs.Io.{StartsWith};
 ghost use Rattle.wi_lexer.specs.Cell.{dollar, cell_text};
 ghost use Rattle.wi_lexer.specs.Mark.{mark_text};
+ghost use Rattle.wi_lexer.specs.Text.{quoted};
 ghost use Rattle.wi_lexer.specs.Reference.{reference_text};
 ghost use Rattle.wi_lexer.specs.Rectangle.{rectangle_text};
 ghost use Rattle.wi_parser.specs.Grammar.{pair_symbols};
@@ -11,7 +12,8 @@ ghost use Rattle.wi_parser.specs.Printing as spec;
 ghost use Rattle.wi_parser.specs.Printing.{cell_named, numeral_text, symbols_text, tree_text, printed};
 ghost use Rattle.wi_parser.specs.Symbol.{written_as};
 ghost use Rattle.wi_parser.specs.Tree.{what_if};
-ghost use Rattle.wi_parser.specs.View.{tree_of, pair_of};
+ghost use Rattle.wi_parser.specs.View.{tree_of, all_of, pair_of};
+ghost use Rattle.wi_parser.specs.Spelling.{spelling_of_all, spelling_of_more};
 ghost use Rattle.wi_parser.specs.PrintedParts.{pairs_text};
 
 use crate::expr::{Corners, Expr, Operator, Pair, Reference, Sign};
@@ -47,6 +49,7 @@ fn push_formula(expr: &Expr, out: &mut String) -> Result<(), AllocError>
 }
 
 // Appends the text of a tree. On an error a part of it may be there.
+#[cycle(print)]
 #[tactic(auto, using(crate::proofs::PrintLemmas::starts_trans, crate::proofs::PrintLemmas::starts_more, crate::proofs::PrintLemmas::starts_itself, crate::proofs::PrintLemmas::symbols_more))]
 fn push_tree(expr: &Expr, out: &mut String) -> Result<(), AllocError>
     ensures ok { OnOk result (string_bytes out.new ≡ string_bytes out.old ++ tree_text (tree_of expr.now)) }
@@ -54,6 +57,7 @@ fn push_tree(expr: &Expr, out: &mut String) -> Result<(), AllocError>
 {
     match expr {
         Expr::Number(x) => push_number(*x, out),
+        Expr::Text(content) => push_quoted(content.as_str(), out),
         Expr::Cell(at) => push_reference(*at, out),
         Expr::Rectangle(corners) => push_rectangle(*corners, out),
         Expr::Parenthesized(inner) => {
@@ -75,7 +79,59 @@ fn push_tree(expr: &Expr, out: &mut String) -> Result<(), AllocError>
             push_tree(right, out)
         }
         Expr::WhatIf(formula_cell, pairs) => push_what_if(*formula_cell, pairs, out),
+        Expr::Call(name, parameters) => {
+            out.push_str(name.as_str())?;
+            out.push_str("(")?;
+            push_parameters(parameters, out)
+        }
     }
+}
+
+// Appends parameters and the parenthesis that closes. On an error a part of them may be there.
+#[cycle(print)]
+#[tactic(auto, using(crate::proofs::PrintLemmas::starts_trans, crate::proofs::PrintLemmas::starts_more, crate::proofs::PrintLemmas::symbols_more))]
+fn push_parameters(parameters: &[Expr], out: &mut String) -> Result<(), AllocError>
+    ensures ok { OnOk result (string_bytes out.new ≡ string_bytes out.old ++ symbols_text (spelling_of_all (all_of parameters.now))) }
+    ensures kept { StartsWith (string_bytes out.new) (string_bytes out.old) }
+{
+    match parameters {
+        [] => out.push_str(")"),
+        [first, others @ ..] => {
+            push_tree(first, out)?;
+            push_others(others, out)
+        }
+    }
+}
+
+// Appends parameters, each after a separator, and the parenthesis that closes. On an error a part of them may be there.
+#[cycle(print)]
+#[tactic(auto, using(crate::proofs::PrintLemmas::starts_trans, crate::proofs::PrintLemmas::starts_more, crate::proofs::PrintLemmas::starts_itself, crate::proofs::PrintLemmas::symbols_more))]
+fn push_others(parameters: &[Expr], out: &mut String) -> Result<(), AllocError>
+    ensures ok { OnOk result (string_bytes out.new ≡ string_bytes out.old ++ symbols_text (spelling_of_more (all_of parameters.now))) }
+    ensures kept { StartsWith (string_bytes out.new) (string_bytes out.old) }
+{
+    for parameter in parameters {
+        out.push_str(";")?;
+        push_tree(parameter, out)?;
+    }
+    out.push_str(")")
+}
+
+// Appends a text in double quotes, a quote inside doubled. On an error a part of it may be there.
+#[tactic(auto, using(crate::proofs::PrintLemmas::starts_trans, crate::proofs::PrintLemmas::starts_more))]
+fn push_quoted(content: &str, out: &mut String) -> Result<(), AllocError>
+    ensures ok { OnOk result (string_bytes out.new ≡ string_bytes out.old ++ quoted content.now) }
+    ensures kept { StartsWith (string_bytes out.new) (string_bytes out.old) }
+{
+    out.push_str("\"")?;
+    let mut rest = content;
+    while let Some((piece, after)) = rest.split_once('"') {
+        out.push_str(piece)?;
+        out.push_str("\"\"")?;
+        rest = after;
+    }
+    out.push_str(rest)?;
+    out.push_str("\"")
 }
 
 // Appends a number. On an error the text is as before.

@@ -4,7 +4,7 @@ ghost use Rattle.std.specs.Prelude.{◌≡◌, ◌<◌, ◌&&◌, map, IfSome, I
 ghost use Rattle.std.specs.List.{list_all};
 ghost use Rattle.wi_values.specs.Address as spec;
 ghost use Rattle.wi_parser.specs.Tree as tree;
-ghost use Rattle.wi_parser.specs.View.{tree_of, pair_of};
+ghost use Rattle.wi_parser.specs.View.{tree_of, all_of, pair_of};
 ghost use Rattle.wi_parser.specs.Shift as shift;
 
 use crate::expr::{Corners, Expr, Pair, Reference};
@@ -42,11 +42,13 @@ impl<T: Drop> From<AllocFailed<T>> for ShiftFault {
 }
 
 /// Whether the relative parts of all references stay in the sheet where they move by so many rows and columns.
+#[cycle(staying)]
 pub fn all_stay(expr: &Expr, rows: i64, columns: i64) -> bool
     ensures { result ≡ shift.all_references (shift.stays rows columns) (tree_of expr.now) }
 {
     match expr {
         Expr::Number(_) => true,
+        Expr::Text(_) => true,
         Expr::Cell(r) => stays(r, rows, columns),
         Expr::Rectangle(corners) => {
             stays(&corners.one, rows, columns) && stays(&corners.other, rows, columns)
@@ -56,7 +58,20 @@ pub fn all_stay(expr: &Expr, rows: i64, columns: i64) -> bool
         Expr::Percent(t) => all_stay(t, rows, columns),
         Expr::Binary(_, t, u) => all_stay(t, rows, columns) && all_stay(u, rows, columns),
         Expr::WhatIf(f, pairs) => stays(f, rows, columns) && pairs_stay(pairs, rows, columns),
+        Expr::Call(_, parameters) => each_stays(parameters, rows, columns),
     }
+}
+
+#[cycle(staying)]
+fn each_stays(exprs: &[Expr], rows: i64, columns: i64) -> bool
+    ensures { result ≡ shift.all_references_in (shift.stays rows columns) (all_of exprs.now) }
+{
+    for expr in exprs {
+        if !all_stay(expr, rows, columns) {
+            return false;
+        }
+    }
+    true
 }
 
 fn pairs_stay(pairs: &[Pair], rows: i64, columns: i64) -> bool
@@ -72,6 +87,7 @@ pub fn shifted(alloc: Global, expr: &Expr, rows: i64, columns: i64) -> Result<Ex
 {
     match expr {
         Expr::Number(x) => Ok(Expr::Number(*x)),
+        Expr::Text(s) => Ok(Expr::Text(s.copy(alloc)?)),
         Expr::Cell(r) => Ok(Expr::Cell(moved(r, rows, columns))),
         Expr::Rectangle(corners) => Ok(Expr::Rectangle(Corners {
             one: moved(&corners.one, rows, columns),
@@ -86,6 +102,10 @@ pub fn shifted(alloc: Global, expr: &Expr, rows: i64, columns: i64) -> Result<Ex
             boxed(alloc, u, rows, columns)?,
         )),
         Expr::WhatIf(f, pairs) => what_if(alloc, f, pairs, rows, columns),
+        Expr::Call(f, parameters) => {
+            let parameters = each_shifted(alloc, parameters, rows, columns)?;
+            Ok(Expr::Call(f.copy(alloc)?, parameters))
+        }
     }
 }
 
@@ -95,6 +115,23 @@ fn boxed(alloc: Global, expr: &Expr, rows: i64, columns: i64) -> Result<Box<Expr
     ensures { IfOk result (λ b. tree_of b.value ≡ shift.map_references (shift.moved rows columns) (tree_of expr.now)) }
 {
     Ok(Box::new(alloc, shifted(alloc, expr, rows, columns)?)?)
+}
+
+// The parameters of a call.
+#[cycle(shift)]
+fn each_shifted(
+    alloc: Global,
+    exprs: &[Expr],
+    rows: i64,
+    columns: i64,
+) -> Result<Vec<Expr>, AllocError>
+    ensures { IfOk result (λ v. all_of v.items ≡ shift.map_references_in (shift.moved rows columns) (all_of exprs.now)) }
+{
+    let mut moved = Vec::new(alloc);
+    for expr in exprs {
+        moved.push(shifted(alloc, expr, rows, columns)?)?;
+    }
+    Ok(moved)
 }
 
 // The inputs of a what-if move as the cells do that it reads.

@@ -11,13 +11,15 @@ use crate::expr::{Corners, Operator, Reference};
 use crate::fault::ParseFault;
 use std::alloc::{AllocError, Global};
 use wi_fraction::Fraction;
-use wi_lexer::{CellText, Kind, Mark, Token, rectangle_of, reference_of};
+use wi_lexer::{CellText, Kind, Mark, Token, rectangle_of, reference_of, text_content};
 use wi_values::{Address, Text};
 
 /// A token with its value.
 #[derive(PartialEq, Eq, Debug, Drop)]
 pub enum Word {
     Number(Fraction),
+    /// The content of a text in double quotes.
+    Text(Text),
     Cell(Reference),
     Rectangle(Corners),
     Open,
@@ -40,6 +42,7 @@ impl Word {
     {
         match token.kind {
             Kind::Number => Ok(number(token.text.as_bytes())),
+            Kind::Text => Ok(Word::Text(Text::new(text_content(alloc, token.text)?))),
             Kind::Reference => Ok(reference(token.text.as_bytes())),
             Kind::Rectangle => Ok(rectangle(token.text.as_bytes())),
             Kind::Mark(mark) => Ok(of_mark(mark)),

@@ -37,6 +37,12 @@ returns-in-Cell-clause-finds g c =
     let is = rw c.in-Cell.is at c.in-Some.ensures in
     ap (atom (expression c.args.self.now.depth)) is ∙ ap (λ t. Some (t, c.next.new.self)) (sym c.cell.ensures)
 
+pub returns-in_ok-text-in-Text-clause-finds : goal.returns-in_ok-text-in-Text-clause-finds
+unfolding atom
+returns-in_ok-text-in-Text-clause-finds g c =
+    let is = rw c.in-Text.is at c.in-Some.ensures in
+    ap (atom (expression c.args.self.now.depth)) is ∙ ap (λ t. Some (t, c.next.new.self)) (sym c.in_ok-text-in-Text.ensures)
+
 pub returns-in-Rectangle-clause-finds : goal.returns-in-Rectangle-clause-finds
 unfolding atom
 returns-in-Rectangle-clause-finds g c =
