@@ -2,11 +2,11 @@
 -- "MULTIPLE.OPERATIONS").
 use Rattle.std.specs.Prelude.{◌==◌, ℕ, Bool, if◌then◌else◌, List, map}
 use Rattle.wi_values.specs.declared.value.Value.{Value}
-use Rattle.wi_values.specs.declared.value.Value.TheVariants.{Empty, Number, Fault}
-use Rattle.wi_values.specs.declared.value.ErrorKind.TheVariants.{BadValue}
+use Rattle.wi_values.specs.declared.value.Value.TheVariants.{Empty, Number, Text, Fault}
+use Rattle.wi_values.specs.declared.value.ErrorKind.TheVariants.{BadValue, UnknownName}
 use Rattle.wi_parser.specs.declared.expr.Corners.{Corners}
 use Rattle.wi_parser.specs.declared.expr.Reference.{Reference}
-use Rattle.wi_parser.specs.Tree.{Tree, number, cell, rectangle, parenthesized, signed, percent, binary, what_if}
+use Rattle.wi_parser.specs.Tree.{Tree, number, text, cell, rectangle, parenthesized, signed, percent, binary, what_if, call}
 use Rattle.wi_functions.specs.Convert.{zero_number}
 use Rattle.wi_functions.specs.Operators.{operate, with_sign, hundredth}
 
@@ -22,6 +22,7 @@ is_one_cell c = c.one.at == c.other.at
 -- formula cell and its pairs.
 abbrev pub meaning : Tree → (ℕ → Value) → (ℕ → List (ℕ × ℕ) → Value) → Value
 meaning (number x) cells what_ifs = Number x
+meaning (text s) cells what_ifs = Text s
 meaning (cell r) cells what_ifs = cells r.at
 meaning (rectangle c) cells what_ifs = if is_one_cell c then cells c.one.at else Fault BadValue
 meaning (parenthesized t) cells what_ifs = meaning t cells what_ifs
@@ -29,6 +30,8 @@ meaning (signed s t) cells what_ifs = with_sign s (meaning t cells what_ifs)
 meaning (percent t) cells what_ifs = hundredth (meaning t cells what_ifs)
 meaning (binary op t u) cells what_ifs = operate op (meaning t cells what_ifs) (meaning u cells what_ifs)
 meaning (what_if f pairs) cells what_ifs = what_ifs f.at (map addresses pairs)
+-- no function is known yet, whatever its parameters
+meaning (call f ts) cells what_ifs = Fault UnknownName
 
 -- a formula's result: Empty becomes 0
 abbrev pub zero_for_empty : Value → Value

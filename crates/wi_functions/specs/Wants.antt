@@ -2,7 +2,7 @@
 use Rattle.std.specs.Prelude.{◌≡◌, ◌⊎◌, ℕ, true, List, map, Option, None}
 use Rattle.wi_values.specs.declared.value.Value.{Value}
 use Rattle.wi_parser.specs.declared.expr.Reference.{Reference}
-use Rattle.wi_parser.specs.Tree.{Tree, number, cell, rectangle, parenthesized, signed, percent, binary, what_if}
+use Rattle.wi_parser.specs.Tree.{Tree, Trees, number, text, cell, rectangle, parenthesized, signed, percent, binary, what_if, call, no_trees, more_trees}
 use Rattle.wi_parser.specs.View.{pair_of}
 use Rattle.wi_functions.specs.Meaning.{addresses, is_one_cell}
 use Rattle.wi_functions.specs.Counts.{Counts, one_more}
@@ -22,16 +22,24 @@ abbrev pub WantsWhatIf : Want → ℕ → List (Reference × Reference) → Type
 WantsWhatIf (Cell a) g qs = ⊥
 WantsWhatIf (WhatIf f pairs) g qs = (f ≡ g) × (map pair_of pairs.items ≡ qs)
 
--- The want is a cell or a what-if of the tree. Of a rectangle it is one only where that has no other cell.
-abbrev pub Asks : Tree → Want → Type 0
-Asks (number x) w = ⊥
-Asks (cell r) w = WantsCell w r.at
-Asks (rectangle c) w = (is_one_cell c ≡ true) × WantsCell w c.one.at
-Asks (parenthesized t) w = Asks t w
-Asks (signed s t) w = Asks t w
-Asks (percent t) w = Asks t w
-Asks (binary op t u) w = Asks t w ⊎ Asks u w
-Asks (what_if f pairs) w = WantsWhatIf w f.at pairs
+abbrev mutual
+  -- The want is a cell or a what-if of the tree. Of a rectangle it is one only where that has no other cell.
+  pub Asks : Tree → Want → Type 0
+  Asks (number x) w = ⊥
+  Asks (text s) w = ⊥
+  Asks (cell r) w = WantsCell w r.at
+  Asks (rectangle c) w = (is_one_cell c ≡ true) × WantsCell w c.one.at
+  Asks (parenthesized t) w = Asks t w
+  Asks (signed s t) w = Asks t w
+  Asks (percent t) w = Asks t w
+  Asks (binary op t u) w = Asks t w ⊎ Asks u w
+  Asks (what_if f pairs) w = WantsWhatIf w f.at pairs
+  Asks (call f ts) w = AnyAsks ts w
+
+  -- a cell or a what-if of one of the trees
+  pub AnyAsks : Trees → Want → Type 0
+  AnyAsks no_trees w = ⊥
+  AnyAsks (more_trees t ts) w = Asks t w ⊎ AnyAsks ts w
 
 -- what is wanted isn't known
 abbrev pub IsUnknown : (ℕ → Option Value) → (ℕ → List (ℕ × ℕ) → Option Value) → Want → Type 0

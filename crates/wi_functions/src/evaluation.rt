@@ -85,6 +85,7 @@ fn value_of<L: Lookup>(alloc: Global, expr: &Expr, lookup: &L) -> Result<Value, 
 {
     match expr {
         Expr::Number(x) => Ok(Value::Number(*x)),
+        Expr::Text(text) => Ok(Value::Text(text.copy(alloc)?)),
         Expr::Cell(reference) => cell_value(alloc, *reference, lookup),
         Expr::Rectangle(corners) => rectangle_value(alloc, *corners, lookup),
         Expr::Parenthesized(inner) => value_of(alloc, inner, lookup),
@@ -102,6 +103,8 @@ fn value_of<L: Lookup>(alloc: Global, expr: &Expr, lookup: &L) -> Result<Value, 
             Ok(operate(alloc, *operator, &x, &y)?)
         }
         Expr::WhatIf(formula_cell, pairs) => what_if_value(alloc, *formula_cell, pairs, lookup),
+        // No function is known yet.
+        Expr::Call(_, _) => Ok(Value::Fault(ErrorKind::UnknownName)),
     }
 }
 

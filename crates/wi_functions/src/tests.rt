@@ -189,3 +189,33 @@ fn a_missing_what_if(rt: HostRuntime) -> Result<(), Fail> {
     }
     Ok(())
 }
+
+#[test]
+fn unknown_functions(rt: HostRuntime) -> Result<(), Fail> {
+    for (text, fault) in [
+        ("=NOW()", ErrorKind::UnknownName),
+        ("=f(1/0;[.C$1])", ErrorKind::UnknownName),
+        ("=-f()%", ErrorKind::UnknownName),
+        ("=f()+1/0", ErrorKind::UnknownName),
+        ("=1/0+f()", ErrorKind::DivisionByZero),
+    ] {
+        let outcome = evaluated(rt.alloc(), text, &b1(Value::Empty), &mut Meter::new())?;
+        assert_eq!(rt; fault_of(outcome).ok_or("not done")?, fault, "{text}");
+    }
+    Ok(())
+}
+
+#[test]
+fn a_call_with_many_parameters(rt: HostRuntime) -> Result<(), Fail> {
+    let mut text = String::from_str(rt.alloc(), "=f([.C$1]")?;
+    for _ in 0..1300u32 {
+        text.push_str(";1")?;
+    }
+    text.push(')')?;
+    let outcome = evaluated(rt.alloc(), &text, &b1(Value::Empty), &mut Meter::new())?;
+    assert_eq!(rt;
+        fault_of(outcome).ok_or("not done")?,
+        ErrorKind::UnknownName
+    );
+    Ok(())
+}
