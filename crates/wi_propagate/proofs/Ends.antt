@@ -1,10 +1,9 @@
 -- How far references lead on from what a formula reads.
-use Rattle.std.proofs.Common.{◌≡◌, ◌==◌, ℕ, zero, suc, ◌+◌, ◌<◌, ◌≤◌, ◌||◌, Bool, true, false, cond, List, [], ◌∷◌, ◌++◌, map, filter, Option, Some, length, refl, ap, sym, ◌∙◌, subst, arith, inl, inr, ◌⊎◌, eq-eqb}
+use Rattle.std.proofs.Common.{◌≡◌, ◌==◌, ℕ, zero, suc, ◌<◌, ◌≤◌, Bool, true, false, cond, List, [], ◌∷◌, map, filter, Option, Some, length, refl, ap, sym, ◌∙◌, subst, arith, inl, inr, eq-eqb}
 use Rattle.std.proofs.lemmas.List.Elements.{All-nil, All-cons}
-use Rattle.std.proofs.lemmas.Bool.{false_from_ne_true, or_left, or_right, cases_lt}
+use Rattle.std.proofs.lemmas.Bool.{false_from_ne_true, or_left, or_right}
 use Rattle.std.specs.List.{list_any}
 use Rattle.std.specs.Map.{keys_of}
-use Rattle.wi_values.specs.declared.value.Value.{Value}
 use Rattle.wi_values.specs.declared.value.Value.TheVariants.{Empty}
 use Rattle.wi_values.specs.declared.replacement.Replacement.{Replacement}
 use Rattle.wi_values.proofs.Corners.{corners_may_turn}
@@ -12,18 +11,18 @@ use Rattle.wi_parser.specs.declared.expr.Pair.{Pair}
 use Rattle.wi_parser.specs.declared.expr.Reference.{Reference}
 use Rattle.wi_parser.specs.declared.content.Content.{Content}
 use Rattle.wi_parser.specs.declared.content.Content.TheVariants.{Formula}
-use Rattle.wi_parser.specs.Tree.{Tree, number, cell, rectangle, parenthesized, signed, percent, binary, what_if}
+use Rattle.wi_parser.specs.Tree.{Tree, Trees, number, text, cell, rectangle, parenthesized, signed, percent, binary, what_if, call, no_trees, more_trees}
 use Rattle.wi_parser.specs.View.{pair_of}
 use Rattle.wi_parser.specs.Sheet.{Sheet, content_of, put_all, has_formula, cells_with_formula}
-use Rattle.wi_parser.specs.Reads.{reads, content_reads}
-use Rattle.wi_functions.specs.Wants.{Asks, WantsCell, WantsWhatIf}
+use Rattle.wi_parser.specs.Reads.{reads, any_reads, content_reads}
+use Rattle.wi_functions.specs.Wants.{Asks, AnyAsks, WantsCell, WantsWhatIf}
 use Rattle.wi_functions.specs.declared.evaluation.Want.{Want}
 use Rattle.wi_functions.specs.declared.evaluation.Want.TheVariants.{Cell, WhatIf}
 use Rattle.wi_propagate.specs.Circular.{has_walk, circular}
 use Rattle.wi_propagate.specs.CellValue.{value_of, cell_value, formula_value}
 use Rattle.wi_propagate.specs.Clear.{Leads}
 use Rattle.wi_propagate.specs.Ends.{ReadsEnd, ReplacingEnd, WantEnds}
-use Rattle.wi_propagate.proofs.Walks.{circular_walks, walks_circular, fewer}
+use Rattle.wi_propagate.proofs.Walks.{circular_walks, fewer}
 use Rattle.wi_propagate.proofs.Bounds.{put_reads, put_formula, read_walk}
 use Rattle.wi_propagate.proofs.Steps.{put_not_circular, value_step, value_plain}
 
@@ -86,16 +85,24 @@ what_if_end n s f ps (WhatIf g pairs) h e = (
   replacing_end n s pairs.items (λ a m. e a (or_right (f.at == a) _ (ap (λ (qs : List (Reference × Reference)). list_any (λ (p : Reference × Reference). p.1.at == a) qs) (sym h.1) ∙ m))),
 )
 
-pub asked_end : (t : Tree) (n : ℕ) (s : Sheet) (w : Want) → ReadsEnd n s t → Asks t w → WantEnds n s w
-asked_end (number x) n s w e h = absurd h
-asked_end (cell r) n s w e h = cell_end n s r.at w h (e r.at (eq-eqb r.at r.at refl))
-asked_end (rectangle c) n s w e h = cell_end n s c.one.at w h.1 (e c.one.at (corners_may_turn c.one.at c.other.at).1)
-asked_end (parenthesized t) n s w e h = asked_end t n s w e h
-asked_end (signed x t) n s w e h = asked_end t n s w e h
-asked_end (percent t) n s w e h = asked_end t n s w e h
-asked_end (binary op t u) n s w e (inl h) = asked_end t n s w (λ a r. e a (or_left (reads t a) (reads u a) r)) h
-asked_end (binary op t u) n s w e (inr h) = asked_end u n s w (λ a r. e a (or_right (reads t a) (reads u a) r)) h
-asked_end (what_if f ps) n s w e h = what_if_end n s f ps w h e
+mutual
+  pub asked_end : (t : Tree) (n : ℕ) (s : Sheet) (w : Want) → ReadsEnd n s t → Asks t w → WantEnds n s w
+  asked_end (number x) n s w e h = absurd h
+  asked_end (text x) n s w e h = absurd h
+  asked_end (cell r) n s w e h = cell_end n s r.at w h (e r.at (eq-eqb r.at r.at refl))
+  asked_end (rectangle c) n s w e h = cell_end n s c.one.at w h.1 (e c.one.at (corners_may_turn c.one.at c.other.at).1)
+  asked_end (parenthesized t) n s w e h = asked_end t n s w e h
+  asked_end (signed x t) n s w e h = asked_end t n s w e h
+  asked_end (percent t) n s w e h = asked_end t n s w e h
+  asked_end (binary op t u) n s w e (inl h) = asked_end t n s w (λ a r. e a (or_left (reads t a) (reads u a) r)) h
+  asked_end (binary op t u) n s w e (inr h) = asked_end u n s w (λ a r. e a (or_right (reads t a) (reads u a) r)) h
+  asked_end (what_if f ps) n s w e h = what_if_end n s f ps w h e
+  asked_end (call f ts) n s w e h = any_asked_end ts n s w e h
+
+  any_asked_end : (ts : Trees) (n : ℕ) (s : Sheet) (w : Want) → ((a : ℕ) → any_reads ts a ≡ true → has_walk n s a ≡ false) → AnyAsks ts w → WantEnds n s w
+  any_asked_end no_trees n s w e h = absurd h
+  any_asked_end (more_trees t ts) n s w e (inl h) = asked_end t n s w (λ a r. e a (or_left (reads t a) (any_reads ts a) r)) h
+  any_asked_end (more_trees t ts) n s w e (inr h) = any_asked_end ts n s w (λ a r. e a (or_right (reads t a) (any_reads ts a) r)) h
 
 -- ---- values under replacements
 

@@ -8,7 +8,7 @@ use Rattle.wi_values.specs.declared.value.Value.{Value}
 use Rattle.wi_values.specs.declared.value.Value.TheVariants.{Fault}
 use Rattle.wi_values.specs.declared.replacement.Replacement.{Replacement}
 use Rattle.wi_parser.specs.declared.expr.Reference.{Reference}
-use Rattle.wi_parser.specs.Tree.{Tree, number, cell, rectangle, parenthesized, signed, percent, binary, what_if}
+use Rattle.wi_parser.specs.Tree.{Tree, number, text, cell, rectangle, parenthesized, signed, percent, binary, what_if, call}
 use Rattle.wi_parser.specs.Reads.{reads}
 use Rattle.wi_functions.specs.Operators.{operate, with_sign, hundredth}
 use Rattle.wi_functions.specs.Meaning.{meaning, addresses, is_one_cell}
@@ -26,6 +26,7 @@ replacing (p ∷ ps) a = ap (λ (b : Bool). (p.1.at == a) || b) (replacing ps a)
 pub meaning_same : (t : Tree) (g h : ℕ → Value) (w v : ℕ → List (ℕ × ℕ) → Value) → ((a : ℕ) → reads t a ≡ true → g a ≡ h a) →
     ((f : ℕ) (ps : List (ℕ × ℕ)) → ReadsNoMore f ps t → w f ps ≡ v f ps) → meaning t g w ≡ meaning t h v
 meaning_same (number n) g h w v k l = refl
+meaning_same (text s) g h w v k l = refl
 meaning_same (cell r) g h w v k l = k r.at (eq-eqb r.at r.at refl)
 meaning_same (rectangle c) g h w v k l = ap (λ (x : Value). cond (is_one_cell c) x (Fault BadValue)) (k c.one.at (corners_may_turn c.one.at c.other.at).1)
 meaning_same (parenthesized t) g h w v k l = meaning_same t g h w v k l
@@ -38,6 +39,7 @@ meaning_same (binary op t u) g h w v k l =
     (meaning_same u g h w v (λ a r. k a (or_right (reads t a) (reads u a) r)) (λ f ps i. l f ps (or_right (reads t f) (reads u f) i.0, λ a r. or_right (reads t a) (reads u a) (i.1 a r))))
 meaning_same (what_if f ps) g h w v k l =
     l f.at (map addresses ps) (or_left (f.at == f.at) _ (eq-eqb f.at f.at refl), λ a r. or_right (f.at == a) _ (sym (replacing ps a) ∙ r))
+meaning_same (call f ts) g h w v k l = refl
 
 abbrev with : ℕ → Value → List Replacement → List Replacement
 with a v rs = (record { at = a; value = v }) ∷ rs

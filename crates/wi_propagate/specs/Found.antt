@@ -1,7 +1,7 @@
 -- The values that were found for one formula.
-use Rattle.std.specs.Prelude.{◌≡◌, ◌==◌, ℕ, ◌+◌, Bool, true, false, ◌&&◌, List, [], ◌∷◌, map, Option, Some, None, is_some, if◌then◌else◌}
+use Rattle.std.specs.Prelude.{◌≡◌, ◌==◌, ℕ, ◌+◌, Bool, true, false, ◌&&◌, List, [], ◌∷◌, map, Option, Some, None, if◌then◌else◌}
 use Rattle.wi_values.specs.declared.value.Value.{Value}
-use Rattle.wi_parser.specs.Tree.{Tree, number, cell, rectangle, parenthesized, signed, percent, binary, what_if}
+use Rattle.wi_parser.specs.Tree.{Tree, Trees, number, text, cell, rectangle, parenthesized, signed, percent, binary, what_if, call, no_trees, more_trees}
 use Rattle.wi_parser.specs.View.{pair_of}
 use Rattle.wi_functions.specs.Meaning.{addresses, is_one_cell}
 use Rattle.wi_propagate.specs.declared.found.Found.{Found}
@@ -44,16 +44,23 @@ abbrev pub one_missing : Option Value → ℕ
 one_missing (Some v) = 0
 one_missing None = 1
 
--- how many cells and what-ifs of a tree have no value yet
-abbrev pub missing : Tree → (ℕ → Option Value) → (ℕ → List (ℕ × ℕ) → Option Value) → ℕ
-missing (number x) cells what_ifs = 0
-missing (cell r) cells what_ifs = one_missing (cells r.at)
-missing (rectangle c) cells what_ifs = if is_one_cell c then one_missing (cells c.one.at) else 0
-missing (parenthesized t) cells what_ifs = missing t cells what_ifs
-missing (signed s t) cells what_ifs = missing t cells what_ifs
-missing (percent t) cells what_ifs = missing t cells what_ifs
-missing (binary op t u) cells what_ifs = missing t cells what_ifs + missing u cells what_ifs
-missing (what_if f pairs) cells what_ifs = one_missing (what_ifs f.at (map addresses pairs))
+abbrev mutual
+  -- how many cells and what-ifs of a tree have no value yet
+  pub missing : Tree → (ℕ → Option Value) → (ℕ → List (ℕ × ℕ) → Option Value) → ℕ
+  missing (number x) cells what_ifs = 0
+  missing (text s) cells what_ifs = 0
+  missing (cell r) cells what_ifs = one_missing (cells r.at)
+  missing (rectangle c) cells what_ifs = if is_one_cell c then one_missing (cells c.one.at) else 0
+  missing (parenthesized t) cells what_ifs = missing t cells what_ifs
+  missing (signed s t) cells what_ifs = missing t cells what_ifs
+  missing (percent t) cells what_ifs = missing t cells what_ifs
+  missing (binary op t u) cells what_ifs = missing t cells what_ifs + missing u cells what_ifs
+  missing (what_if f pairs) cells what_ifs = one_missing (what_ifs f.at (map addresses pairs))
+  missing (call f ts) cells what_ifs = all_missing ts cells what_ifs
+
+  pub all_missing : Trees → (ℕ → Option Value) → (ℕ → List (ℕ × ℕ) → Option Value) → ℕ
+  all_missing no_trees cells what_ifs = 0
+  all_missing (more_trees t ts) cells what_ifs = missing t cells what_ifs + all_missing ts cells what_ifs
 
 abbrev pub missing_in : Tree → Found → ℕ
 missing_in t f = missing t (find_cell f.cells.items) (find_what_if f.what_ifs.items)

@@ -3,10 +3,10 @@
 ghost use Rattle.std.specs.Prelude.{◌≡◌, ◌==◌, ◌++◌, IfOk, OnOk, map};
 ghost use Rattle.std.specs.Bool.{OnFalse};
 ghost use Rattle.std.specs.List.{list_any};
-ghost use Rattle.wi_parser.specs.View.{tree_of, pair_of};
+ghost use Rattle.wi_parser.specs.View.{tree_of, all_of, pair_of};
 ghost use Rattle.wi_propagate.specs.Circular as cycles;
 ghost use Rattle.wi_propagate.specs.Clear.{AreClear, IsPathTo, Leads};
-ghost use Rattle.wi_propagate.specs.ReadCells.{read_cells, what_if_cells};
+ghost use Rattle.wi_propagate.specs.ReadCells.{read_cells, all_read_cells, what_if_cells};
 
 use crate::seen::formula_at;
 use std::alloc::{AllocError, Global};
@@ -75,11 +75,13 @@ fn is_among(cells: &[Address], at: Address) -> bool
 
 /// Appends the cells that an expression reads, of a rectangle those that have a formula. The work grows as that of
 /// `Store::push_formulas_within`.
+#[cycle(reading)]
 fn push_reads(store: &Store, expr: &Expr, cells: &mut Vec<Address>) -> Result<(), AllocError>
     ensures { OnOk result (cells.new.items ≡ cells.old.items ++ read_cells store.now.sheet (tree_of expr.now)) }
 {
     match expr {
         Expr::Number(_) => Ok(()),
+        Expr::Text(_) => Ok(()),
         Expr::Cell(reference) => {
             cells.push(reference.at)?;
             Ok(())
@@ -93,7 +95,23 @@ fn push_reads(store: &Store, expr: &Expr, cells: &mut Vec<Address>) -> Result<()
             push_reads(store, right, cells)
         }
         Expr::WhatIf(formula_cell, pairs) => push_what_if(*formula_cell, pairs, cells),
+        Expr::Call(_, parameters) => push_all_reads(store, parameters, cells),
     }
+}
+
+/// Appends the cells that expressions read.
+#[cycle(reading)]
+fn push_all_reads(
+    store: &Store,
+    exprs: &[Expr],
+    cells: &mut Vec<Address>,
+) -> Result<(), AllocError>
+    ensures { OnOk result (cells.new.items ≡ cells.old.items ++ all_read_cells store.now.sheet (all_of exprs.now)) }
+{
+    for expr in exprs {
+        push_reads(store, expr, cells)?;
+    }
+    Ok(())
 }
 
 /// Appends the cells that a what-if reads: its formula cell, and those that replace its inputs.

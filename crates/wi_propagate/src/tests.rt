@@ -150,3 +150,22 @@ fn what_ifs_under_replacements(rt: HostRuntime) -> Result<(), Fail> {
     assert_eq!(rt; c4, Value::Text(Text::from_str(rt.alloc(), "low")?));
     Ok(())
 }
+
+#[test]
+fn cycles_through_parameters(rt: HostRuntime) -> Result<(), Fail> {
+    let mut calculator = PlainCalculator::new(rt.alloc(), Limits::standard());
+    set(rt.alloc(), &mut calculator, "A1", "=f(1;-[.B1])")?;
+    set(rt.alloc(), &mut calculator, "B1", "=g([.A1])")?;
+    for cell in ["A1", "B1"] {
+        assert_eq!(rt;
+            shown(&mut calculator, cell)?,
+            Value::Fault(ErrorKind::Circular)
+        );
+    }
+    set(rt.alloc(), &mut calculator, "B1", "5")?;
+    assert_eq!(rt;
+        shown(&mut calculator, "A1")?,
+        Value::Fault(ErrorKind::UnknownName)
+    );
+    Ok(())
+}
