@@ -2,5 +2,6 @@ pub mod Address
 pub mod AddressReading
 pub mod Import
 pub mod Laws
+pub mod Name
 pub mod Same
 pub mod Value

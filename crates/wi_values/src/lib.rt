@@ -4,6 +4,7 @@
 mod address;
 mod import;
 pub mod laws;
+mod name;
 mod rect;
 mod replacement;
 #[cfg(test)]
@@ -13,6 +14,7 @@ mod value;
 
 pub use address::{Address, AddressFault, COLUMNS, ROWS};
 pub use import::{FieldFault, field_value, imported_value};
+pub use name::{MAX_NAME, Name};
 pub use rect::Rect;
 pub use replacement::Replacement;
 pub use text::{MAX_TEXT, Text};

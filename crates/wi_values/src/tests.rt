@@ -2,8 +2,8 @@ ghost use Rattle.std.specs.Prelude.{◌<◌};
 ghost use Rattle.wi_values.specs.Address.{rows};
 
 use crate::{
-    Address, AddressFault, ErrorKind, FieldFault, Rect, Replacement, Text, Value, field_value,
-    imported_value,
+    Address, AddressFault, ErrorKind, FieldFault, Name, Rect, Replacement, Text, Value,
+    field_value, imported_value,
 };
 use std::alloc::{AllocError, Global};
 use std::test::Fail;
@@ -238,4 +238,26 @@ fn fields_that_are_too_long(rt: HostRuntime) -> Result<(), Fail> {
     let zeros = repeated(rt.alloc(), '0', 40_000)?;
     assert_eq!(rt; field_value(rt.alloc(), zeros.as_str())?, ratio(0, 1)?);
     Ok(())
+}
+
+#[test]
+fn reads_names(rt: HostRuntime) {
+    for text in ["a", "_", "7", "Low_2", "abcdefghijklmnopqrstuvwxyz_01234"] {
+        let name = Name::read(text).expect(&rt, "a name");
+        assert_eq!(rt; name.as_str(), text);
+    }
+    for text in [
+        "",
+        "-",
+        "a b",
+        "a.b",
+        "é",
+        "abcdefghijklmnopqrstuvwxyz_012345",
+    ] {
+        assert!(rt; Name::read(text).is_none(), "at {text}");
+    }
+    assert!(rt; Name::read("a") == Name::read("a"));
+    assert!(rt; Name::read("a") != Name::read("A"));
+    assert!(rt; Name::read("A") < Name::read("_"));
+    assert!(rt; Name::read("b") > Name::read("ab"));
 }
