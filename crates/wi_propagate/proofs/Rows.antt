@@ -8,7 +8,7 @@ use Rattle.wi_values.specs.declared.replacement.Replacement.{Replacement}
 use Rattle.wi_parser.specs.declared.expr.Reference.{Reference}
 use Rattle.wi_parser.specs.declared.expr.Operator.TheVariants.{Add, Subtract, Multiply, Divide}
 use Rattle.wi_parser.specs.declared.content.Content.TheVariants.{Constant, Formula}
-use Rattle.wi_parser.specs.Tree.{Tree, number, cell, binary, what_if}
+use Rattle.wi_parser.specs.Tree.{Tree, number, cell, rectangle, binary, what_if}
 use Rattle.wi_parser.specs.Sheet.{Sheet, put_all}
 use Rattle.wi_functions.specs.Meaning.{zero_for_empty}
 use Rattle.wi_functions.specs.Convert.{zero_number}
@@ -145,6 +145,32 @@ by_formula =
 nested_by_formula : shown formula_sheet [] d4 ≡ Number n.thirty
 unfolding circular value_within cell_value shown
 nested_by_formula = rw n.ten_times_three refl
+
+-- ---- A1 =[.B3:.B1], B2 =[.C1], C1 =[.D1], D1 5
+
+-- the rectangle between two cells
+abbrev between : ℕ → ℕ → Tree
+between c d = rectangle (record { one = to c; other = to d })
+
+abbrev no_cell_twice : Sheet
+no_cell_twice = (a1, Formula (between b3 b1)) ∷ (c1, Formula (at d1)) ∷ (d1, Constant (Number n.five)) ∷ (b2, Formula (at c1)) ∷ []
+
+larger_rectangle : shown no_cell_twice [] a1 ≡ Fault BadValue
+unfolding circular value_within cell_value shown
+larger_rectangle = refl
+
+-- then C1 =[.A1]: A1 reads B2 between its corners, and is on a cycle though it would be #VALUE! without one
+abbrev through_rectangle : Sheet
+through_rectangle = (a1, Formula (between b3 b1)) ∷ (c1, Formula (at a1)) ∷ (d1, Constant (Number n.five)) ∷ (b2, Formula (at c1)) ∷ []
+
+cycle_through_rectangle : shown through_rectangle [] a1 ≡ Fault Circular
+unfolding circular value_within cell_value shown
+cycle_through_rectangle = refl
+
+-- a cell in its own rectangle
+own_rectangle : shown ((b2, Formula (between c1 b3)) ∷ []) [] b2 ≡ Fault Circular
+unfolding circular value_within cell_value shown
+own_rectangle = refl
 
 -- ---- A1 =[.B1], B1 =[.A1], C1 =[.A1]+1, D1 5
 

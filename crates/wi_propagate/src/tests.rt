@@ -94,6 +94,53 @@ fn cycles(rt: HostRuntime) -> Result<(), Fail> {
     Ok(())
 }
 
+#[test]
+fn cycles_through_rectangles(rt: HostRuntime) -> Result<(), Fail> {
+    let alloc = rt.alloc();
+    let mut calculator = PlainCalculator::new(alloc, Limits::standard());
+    for (at, text) in [
+        ("A1", "=[.A1:.A1]"),
+        ("B1", "=1+[.C9:.B1]"),
+        ("D1", "=[.E9:.D2]"),
+        ("E5", "=[.D1]"),
+        ("F1", "=[.A9:.A1]"),
+        ("G1", "=[.H1:.XFD1048576]"),
+        ("H1", "=[.I1:.I1]*2"),
+        ("I1", "5"),
+        ("J1", "=[.G1]"),
+    ] {
+        set(alloc, &mut calculator, at, text)?;
+    }
+    for at in ["A1", "B1", "D1", "E5", "F1", "G1", "J1"] {
+        let circular = Value::Fault(ErrorKind::Circular);
+        assert_eq!(rt; shown(&mut calculator, at)?, circular, "{at}");
+    }
+    assert_eq!(rt; shown(&mut calculator, "H1")?, number(10, 1)?);
+    set(alloc, &mut calculator, "J1", "=[.I1]")?;
+    let bad = Value::Fault(ErrorKind::BadValue);
+    assert_eq!(rt; shown(&mut calculator, "G1")?, bad);
+    Ok(())
+}
+
+// A larger rectangle is evaluated once, whatever stands in it.
+#[test]
+fn rectangles_of_many_cells(rt: HostRuntime) -> Result<(), Fail> {
+    let alloc = rt.alloc();
+    let mut calculator = PlainCalculator::new(alloc, Limits::standard());
+    let mut changes = Vec::new(alloc);
+    for row in 0..2_000u32 {
+        let constant = Content::read(alloc, "7")?;
+        changes.push((Address::at(row, row), Some(constant)))?;
+    }
+    calculator.apply(changes)?;
+    set(alloc, &mut calculator, "B1", "=[.A2:.XFD1048576]")?;
+    let bad = Value::Fault(ErrorKind::BadValue);
+    assert_eq!(rt; shown(&mut calculator, "B1")?, bad);
+    assert_eq!(rt; calculator.evaluations(), 1);
+    assert_eq!(rt; calculator.restarts(), 0);
+    Ok(())
+}
+
 // Each cell of column A is one more than the one below it, down to row 201.
 #[test]
 fn chain_of_200(rt: HostRuntime) -> Result<(), Fail> {

@@ -1,11 +1,10 @@
-use Rattle.std.proofs.Common.{rules, ◌≡◌, ◌∙◌, ◌++◌, ◌∷◌, [], cond, ◌&&◌, Bool, ℕ, List, filter, sym, ap, append-nil, append_assoc}
+use Rattle.std.proofs.Common.{◌∙◌, ◌++◌, ◌∷◌, [], ℕ, List, filter, sym, ap, append_assoc}
 use Rattle.std.specs.Ordering.{nat_cmp}
 use Rattle.std.specs.declared.ops.Bound.TheVariants.{Included}
 use Rattle.std.specs.BTreeMap.Range.{entries_between}
 use Rattle.wi_values.specs.Address.{is_within}
-use Rattle.wi_parser.specs.Sheet.{has_formula}
 use Rattle.wi_store.specs.Rooms.{Rooms, formula_rooms}
-use Rattle.wi_store.proofs.Within.{next_room, between_all, found_more, found_none, found_all}
+use Rattle.wi_store.proofs.Within.{between_all, found_more, found_none, found_all}
 use Rattle.wi_store.proofs.store.push_formulas.Goals as goal
 
 pub loop-cell-preserved-in-Continue-1 : goal.loop-cell-preserved-in-Continue-1
