@@ -132,7 +132,7 @@ fn a_rectangle_of_one_cell(rt: HostRuntime) -> Result<(), Fail> {
 #[test]
 fn larger_rectangles(rt: HostRuntime) -> Result<(), Fail> {
     let known = b1(Value::Empty);
-    for text in ["=[.B1:.C1]", "=[.B2:.B1]+[.C1]", "=([.XFD1048576:.A1])"] {
+    for text in ["=[.B1:.C1]", "=[.B2:.B1]+[.B1]", "=([.XFD1048576:.A1])"] {
         let outcome = evaluated(rt.alloc(), text, &known, &mut Meter::new())?;
         assert_eq!(rt; fault_of(outcome).ok_or("not done")?, ErrorKind::BadValue);
     }
