@@ -3,4 +3,5 @@ pub mod State
 pub mod Answer
 pub mod SetStep
 pub mod ShowStep
+pub mod FormulaStep
 pub mod Step

@@ -6,20 +6,24 @@ use Rattle.wi_scenarios.specs.State.{State}
 use Rattle.wi_scenarios.specs.Answer.{Answer}
 use Rattle.wi_scenarios.specs.SetStep.{set_step}
 use Rattle.wi_scenarios.specs.ShowStep.{show_step}
+use Rattle.wi_scenarios.specs.FormulaStep.{formula_step}
 
 -- a command, or a line that is refused whatever the state is
 pub data Command : Type 0 where
   Set : ℕ → List ℕ → Command
   Show : Area → Command
+  Formula : ℕ → Command
   Refused : Refusal → Command
 
 unfoldable pub step : State → Command → Answer
 step s (Set at content) = set_step s at content
 step s (Show area) = show_step s area
+step s (Formula at) = formula_step s at
 step s (Refused e) = Err e
 
 -- whether a command may be refused for want of memory
 abbrev pub may_lack_memory : Command → Bool
 may_lack_memory (Set at content) = true
 may_lack_memory (Show area) = true
+may_lack_memory (Formula at) = true
 may_lack_memory (Refused e) = false

@@ -1,6 +1,7 @@
 //! A workbook and its commands.
 #![tactic(auto)]
 
+mod formula_text;
 mod record;
 mod refusal;
 mod rows;
@@ -9,5 +10,7 @@ mod workbook;
 pub use refusal::Refusal;
 pub use workbook::Workbook;
 
+#[cfg(test)]
+mod formula_tests;
 #[cfg(test)]
 mod tests;

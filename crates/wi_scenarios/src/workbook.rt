@@ -4,7 +4,9 @@ ghost use Rattle.std.specs.Prelude.{◌≡◌, ◌++◌, ℕ, List, [], IfOk};
 ghost use Rattle.wi_scenarios.specs.Answer.{Serves};
 ghost use Rattle.wi_scenarios.specs.SetStep.{set_step};
 ghost use Rattle.wi_scenarios.specs.ShowStep.{show_step};
+ghost use Rattle.wi_scenarios.specs.FormulaStep.{formula_step};
 
+use crate::formula_text::append_content;
 use crate::refusal::Refusal;
 use crate::rows::{MAX_AREA, push_rows, size};
 use std::alloc::{AllocError, Global};
@@ -75,5 +77,15 @@ impl<C: Calculator> Workbook<C> {
             out.truncate(before);
         }
         Ok(pushed?)
+    }
+
+    /// Appends a record: a cell's address and its content, which is a formula as printed, a text after an apostrophe,
+    /// another constant as shown, and empty where there is none.
+    pub fn formula_text(&self, at: Address, out: &mut Vec<u8>) -> Result<(), Refusal>
+        ensures { (records : List ℕ) × (out.new.items ≡ out.old.items ++ records)
+            × Serves (formula_step self.now at) result self.now self.now records }
+    {
+        append_content(self.alloc, &self.calculator, at, out)?;
+        Ok(())
     }
 }

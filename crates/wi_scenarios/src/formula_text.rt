@@ -1,0 +1,91 @@
+//! What stands in a cell, as a text.
+
+ghost use Rattle.std.specs.Prelude.{◌≡◌, ◌++◌, Some, OnOk, OnErr, string_bytes};
+ghost use Rattle.std.specs.Io.{StartsWith};
+ghost use Rattle.wi_scenarios.specs.FormulaStep.{constant_text, content_text, content_record};
+ghost use Rattle.wi_parser.specs.Sheet.{content_of};
+
+use crate::record::push_quoted;
+use std::alloc::{AllocError, Global};
+use wi_parser::Content;
+use wi_propagate::Calculator;
+use wi_values::{Address, Value};
+
+/// Appends the record of a cell: its address and its content. On an error the bytes are as before.
+pub fn append_content<C: Calculator>(
+    alloc: Global,
+    calculator: &C,
+    at: Address,
+    out: &mut Vec<u8>,
+) -> Result<(), AllocError>
+    ensures ok { OnOk result (out.new.items ≡ out.old.items ++ content_record (C.stored calculator.now).sheet at) }
+    ensures err { OnErr result (out.new.items ≡ out.old.items) }
+{
+    let before = out.len();
+    let pushed = push_record(alloc, calculator, at, out);
+    if pushed.is_err() {
+        out.truncate(before);
+    }
+    pushed
+}
+
+// Appends the record of a cell. On an error a part of it may be there.
+#[tactic(auto, using(crate::proofs::RecordLemmas::starts_trans, crate::proofs::RecordLemmas::starts_more), unfolding(crate::specs::Row::row))]
+fn push_record<C: Calculator>(
+    alloc: Global,
+    calculator: &C,
+    at: Address,
+    out: &mut Vec<u8>,
+) -> Result<(), AllocError>
+    ensures ok { OnOk result (out.new.items ≡ out.old.items ++ content_record (C.stored calculator.now).sheet at) }
+    ensures kept { StartsWith out.new.items out.old.items }
+{
+    let mut text = String::new(alloc);
+    at.push_text(&mut text)?;
+    push_quoted(text.as_bytes(), out)?;
+    out.extend_from_slice(b",")?;
+    text.clear();
+    push_content_of(calculator, at, &mut text)?;
+    push_quoted(text.as_bytes(), out)?;
+    out.extend_from_slice(b"\r\n")
+}
+
+// Appends what stands in a cell.
+fn push_content_of<C: Calculator>(
+    calculator: &C,
+    at: Address,
+    text: &mut String,
+) -> Result<(), AllocError>
+    ensures { OnOk result (string_bytes text.new ≡ string_bytes text.old ++ content_text (content_of (C.stored calculator.now).sheet at)) }
+{
+    match calculator.content(at) {
+        Some(content) => push_content(content, text),
+        None => Ok(()),
+    }
+}
+
+// Appends a content.
+fn push_content(content: &Content, text: &mut String) -> Result<(), AllocError>
+    ensures { OnOk result (string_bytes text.new ≡ string_bytes text.old ++ content_text (Some content.now)) }
+{
+    match content {
+        Content::Constant(value) => push_constant(value, text),
+        Content::Formula(formula) => formula.print(text),
+    }
+}
+
+// Appends a constant.
+fn push_constant(value: &Value, text: &mut String) -> Result<(), AllocError>
+    ensures { OnOk result (string_bytes text.new ≡ string_bytes text.old ++ constant_text value.now) }
+{
+    match value {
+        Value::Text(bytes) => {
+            text.push_str("'")?;
+            text.push_str(bytes.as_str())
+        }
+        Value::Empty => value.push_shown(text),
+        Value::Number(_) => value.push_shown(text),
+        Value::Logical(_) => value.push_shown(text),
+        Value::Fault(_) => value.push_shown(text),
+    }
+}
