@@ -23,6 +23,7 @@ told_done o c s t out out' records e none grown h =
 may : (d : ReadCommand) → may_lack_memory (command_of d) ≡ true
 may (read.Set at content) = refl
 may (read.Show area) = refl
+may (read.Formula at) = refl
 
 refuses : (e : Refusal) (d : ReadCommand) (s : State) → answer.MayRefuse e (step s (command_of d)) → RefusedAs e s (command_of d)
 refuses Memory d s h = may d

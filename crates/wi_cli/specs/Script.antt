@@ -7,7 +7,7 @@ use Rattle.wi_values.specs.AddressReading.{read_address, read_rect}
 use Rattle.wi_values.specs.declared.address.AddressFault.{AddressFault}
 use Rattle.wi_scenarios.specs.declared.refusal.Refusal.TheVariants.{BadCommand, BadLine}
 use Rattle.wi_scenarios.specs.Answer.{operand_refusal}
-use Rattle.wi_scenarios.specs.Step.{Command, Set, Show, Refused}
+use Rattle.wi_scenarios.specs.Step.{Command, Set, Show, Formula, Refused}
 use Rattle.wi_cli.specs.Lines.{raw_lines, without_lf, without_cr, is_whole}
 use Rattle.wi_cli.specs.Words.{first_word, after_word, is_blank}
 
@@ -33,12 +33,23 @@ show_command operands =
     if is_blank (after_word operands) then show_in (read_rect (first_word operands))
     else Refused BadCommand
 
+abbrev pub formula_at : Result ℕ AddressFault → Command
+formula_at (Ok at) = Formula at
+formula_at (Err fault) = Refused (operand_refusal fault)
+
+-- `formula ADDR`
+abbrev pub formula_command : List ℕ → Command
+formula_command operands =
+    if is_blank (after_word operands) then formula_at (read_address (first_word operands))
+    else Refused BadCommand
+
 -- the command with this name and these operands
 abbrev pub named_command : List ℕ → List ℕ → Command
 named_command name operands =
     if bytes_eq name (codes "set") then set_command operands
     else (if bytes_eq name (codes "show") then show_command operands
-    else Refused BadCommand)
+    else (if bytes_eq name (codes "formula") then formula_command operands
+    else Refused BadCommand))
 
 -- the command that a text spells
 unfoldable pub spelled_command : List ℕ → Command

@@ -2,7 +2,7 @@
 use Rattle.std.specs.Prelude.{◌≡◌, ◌≢◌, Option, Some, None, Result, Ok, Err}
 use Rattle.wi_scenarios.specs.declared.refusal.Refusal.{Refusal}
 use Rattle.wi_scenarios.specs.declared.refusal.Refusal.TheVariants.{Memory}
-use Rattle.wi_scenarios.specs.Step.{Command, Set, Show, Refused}
+use Rattle.wi_scenarios.specs.Step.{Command, Set, Show, Formula, Refused}
 use Rattle.wi_cli.specs.declared.command.Command.TheVariants as read
 use Rattle.wi_cli.specs.declared.command.Command.{Command as ReadCommand}
 
@@ -10,6 +10,7 @@ use Rattle.wi_cli.specs.declared.command.Command.{Command as ReadCommand}
 abbrev pub command_of : ReadCommand → Command
 command_of (read.Set at content) = Set at content.now
 command_of (read.Show area) = Show area
+command_of (read.Formula at) = Formula at
 
 -- the text spells this command, or one that is refused, not for want of memory
 abbrev pub IsCommandOf : Command → Result ReadCommand Refusal → Type 0

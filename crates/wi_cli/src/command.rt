@@ -2,7 +2,7 @@
 
 ghost use Rattle.std.specs.Prelude.{◌≡◌};
 ghost use Rattle.wi_cli.specs.Lines.{without_cr};
-ghost use Rattle.wi_cli.specs.Script.{is_comment, set_command, show_command, spelled_command, text_command, line_command};
+ghost use Rattle.wi_cli.specs.Script.{is_comment, set_command, show_command, formula_command, spelled_command, text_command, line_command};
 ghost use Rattle.wi_cli.specs.Spelling.{IsCommandOf, IsLineOf};
 
 use crate::lines::MAX_LINE;
@@ -15,6 +15,7 @@ use wi_values::{Address, Rect};
 pub enum Command<'a> {
     Set { at: Address, content: &'a str },
     Show { area: Rect },
+    Formula { at: Address },
 }
 
 /// `set ADDR CONTENT`, where CONTENT is all after the one space that follows ADDR.
@@ -41,6 +42,18 @@ fn read_show(operands: &str) -> Result<Command<'_>, Refusal>
     Ok(Command::Show { area })
 }
 
+/// `formula ADDR`.
+fn read_formula(operands: &str) -> Result<Command<'_>, Refusal>
+    ensures { IsCommandOf (formula_command operands.now) result }
+{
+    let (address, others) = split_word(operands);
+    if !is_blank(others) {
+        return Err(Refusal::BadCommand);
+    }
+    let at = Address::read(address.as_bytes())?;
+    Ok(Command::Formula { at })
+}
+
 /// The command that a text spells.
 #[tactic(auto, unfolding(crate::specs::Script::spelled_command))]
 pub fn read_command(text: &str) -> Result<Command<'_>, Refusal>
@@ -50,6 +63,7 @@ pub fn read_command(text: &str) -> Result<Command<'_>, Refusal>
     match name {
         "set" => read_set(operands),
         "show" => read_show(operands),
+        "formula" => read_formula(operands),
         _ => Err(Refusal::BadCommand),
     }
 }

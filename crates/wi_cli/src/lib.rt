@@ -20,4 +20,6 @@ pub use runs::{MAX_LINES, run};
 pub use write_to::WriteTo;
 
 #[cfg(test)]
+mod formula_tests;
+#[cfg(test)]
 mod tests;

@@ -36,6 +36,7 @@ fn execute<C: Calculator>(
     match command {
         Command::Set { at, content } => book.set(at, content),
         Command::Show { area } => book.show(area, out),
+        Command::Formula { at } => book.formula_text(at, out),
     }
 }
 

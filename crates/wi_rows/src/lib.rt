@@ -10,6 +10,8 @@ pub use taken::Taken;
 #[cfg(test)]
 mod faults;
 #[cfg(test)]
+mod formulas;
+#[cfg(test)]
 mod rows;
 #[cfg(test)]
 mod scripts;
