@@ -7,7 +7,8 @@ use Rattle.wi_fraction.specs.Text.{read_decimal, decimal_after}
 use Rattle.wi_values.specs.Address.{place}
 use Rattle.wi_values.specs.AddressReading.{address_at}
 use Rattle.wi_values.specs.declared.value.Value.TheVariants.{Text}
-use Rattle.wi_lexer.specs.Number.{number_len, decimals_len}
+use Rattle.wi_lexer.specs.Number.{number_len, decimal_len, decimals_len, signed_len, exponent_len}
+use Rattle.wi_lexer.specs.Text.{quoted_len, content_from, text_content}
 use Rattle.wi_lexer.specs.Cell.{cell_of}
 use Rattle.wi_lexer.specs.Reference.{reference_of, reference_len}
 use Rattle.wi_lexer.specs.Rectangle.{rectangle_len, rectangle_of, cells_of}
@@ -19,7 +20,7 @@ use Rattle.wi_parser.specs.declared.content.Content.TheVariants.{Constant}
 use Rattle.wi_parser.specs.declared.expr.Operator.TheVariants.{Add, Subtract, Multiply, Power, Join, Less, NotEqual}
 use Rattle.wi_parser.specs.declared.expr.Sign.TheVariants.{Minus}
 use Rattle.wi_parser.specs.declared.fault.ParseFault.TheVariants.{OutOfSheet, Syntax}
-use Rattle.wi_parser.specs.Tree.{number, cell, rectangle, parenthesized, signed, percent, binary, what_if, Tree, call, no_trees, trees_of}
+use Rattle.wi_parser.specs.Tree.{number, cell, rectangle, parenthesized, signed, percent, binary, what_if, Tree, text, call, no_trees, trees_of}
 use Rattle.wi_parser.specs.Symbol.{Symbol, numeral, open_parenthesis, close_parenthesis, infix_mark, sign_mark, percent_mark}
 use Rattle.wi_parser.specs.declared.expr.Corners.{Corners}
 use Rattle.wi_parser.specs.declared.expr.Reference.{Reference}
@@ -104,51 +105,51 @@ one_two_three a b =
     ∙ ap (λ z. of_three a b (Some one) (Some two) z) read_three
 
 sum_symbols : formula_symbols (codes "=1+2*3") ≡ of_three (infix_mark Add) (infix_mark Multiply) (read_decimal (codes "1")) (read_decimal (codes "2")) (read_decimal (codes "3"))
-unfolding formula_symbols tokens tokens_within token_at number_len decimals_len mark_at two_byte_mark one_byte_mark reference_len reference_of cell_of rectangle_len rectangle_of cells_of name_len
+unfolding formula_symbols tokens tokens_within token_at number_len decimal_len decimals_len signed_len exponent_len quoted_len mark_at two_byte_mark one_byte_mark reference_len reference_of cell_of rectangle_len rectangle_of cells_of name_len
 sum_symbols = refl
 
 sum_of_product : parsed (codes "=1+2*3") ≡ Ok (binary Add (number one) (binary Multiply (number two) (number three)))
 sum_of_product = parsed_short _ (lit≤ tt) ∙ ap judged (sum_symbols ∙ one_two_three _ _) ∙ product_before_sum one two three
 
 difference_symbols : formula_symbols (codes "of:= 1-2 -3 ") ≡ of_three (infix_mark Subtract) (infix_mark Subtract) (read_decimal (codes "1")) (read_decimal (codes "2")) (read_decimal (codes "3"))
-unfolding formula_symbols tokens tokens_within token_at number_len decimals_len mark_at two_byte_mark one_byte_mark reference_len reference_of cell_of rectangle_len rectangle_of cells_of name_len
+unfolding formula_symbols tokens tokens_within token_at number_len decimal_len decimals_len signed_len exponent_len quoted_len mark_at two_byte_mark one_byte_mark reference_len reference_of cell_of rectangle_len rectangle_of cells_of name_len
 difference_symbols = refl
 
 differences : parsed (codes "of:= 1-2 -3 ") ≡ Ok (binary Subtract (binary Subtract (number one) (number two)) (number three))
 differences = parsed_short _ (lit≤ tt) ∙ ap judged (difference_symbols ∙ one_two_three _ _) ∙ groups_to_the_left one two three
 
 enclosed_symbols : formula_symbols (codes "=(1)") ≡ open_parenthesis ∷ number_symbol (read_decimal (codes "1")) ∷ close_parenthesis ∷ []
-unfolding formula_symbols tokens tokens_within token_at number_len decimals_len mark_at two_byte_mark one_byte_mark reference_len reference_of cell_of rectangle_len rectangle_of cells_of name_len
+unfolding formula_symbols tokens tokens_within token_at number_len decimal_len decimals_len signed_len exponent_len quoted_len mark_at two_byte_mark one_byte_mark reference_len reference_of cell_of rectangle_len rectangle_of cells_of name_len
 enclosed_symbols = refl
 
 enclosed : parsed (codes "=(1)") ≡ Ok (parenthesized (number one))
 enclosed = parsed_short _ (lit≤ tt) ∙ ap judged (enclosed_symbols ∙ ap (λ x. open_parenthesis ∷ number_symbol x ∷ close_parenthesis ∷ []) read_one) ∙ keeps_parentheses one
 
 unequal_symbols : formula_symbols (codes "=1<>-2%") ≡ number_symbol (read_decimal (codes "1")) ∷ infix_mark NotEqual ∷ sign_mark Minus ∷ number_symbol (read_decimal (codes "2")) ∷ percent_mark ∷ []
-unfolding formula_symbols tokens tokens_within token_at number_len decimals_len mark_at two_byte_mark one_byte_mark reference_len reference_of cell_of rectangle_len rectangle_of cells_of name_len
+unfolding formula_symbols tokens tokens_within token_at number_len decimal_len decimals_len signed_len exponent_len quoted_len mark_at two_byte_mark one_byte_mark reference_len reference_of cell_of rectangle_len rectangle_of cells_of name_len
 unequal_symbols = refl
 
 unfinished_symbols : formula_symbols (codes "=1+") ≡ number_symbol (read_decimal (codes "1")) ∷ infix_mark Add ∷ []
-unfolding formula_symbols tokens tokens_within token_at number_len decimals_len mark_at two_byte_mark one_byte_mark reference_len reference_of cell_of rectangle_len rectangle_of cells_of name_len
+unfolding formula_symbols tokens tokens_within token_at number_len decimal_len decimals_len signed_len exponent_len quoted_len mark_at two_byte_mark one_byte_mark reference_len reference_of cell_of rectangle_len rectangle_of cells_of name_len
 unfinished_symbols = refl
 
 unfinished : parsed (codes "=1+") ≡ Err Syntax
 unfinished = parsed_short _ (lit≤ tt) ∙ ap judged (unfinished_symbols ∙ ap (λ x. number_symbol x ∷ infix_mark Add ∷ []) read_one) ∙ no_operand one
 
 absolute_column : parsed (codes "=[.$b3]") ≡ Ok (cell (record { at = place 2 1; column_is_absolute = true; row_is_absolute = false }))
-unfolding parsed formula_symbols tokens tokens_within token_at number_len decimals_len mark_at two_byte_mark one_byte_mark reference_len reference_of cell_of rectangle_len rectangle_of cells_of name_len address_at atom chain line expression
+unfolding parsed formula_symbols tokens tokens_within token_at number_len decimal_len decimals_len signed_len exponent_len quoted_len mark_at two_byte_mark one_byte_mark reference_len reference_of cell_of rectangle_len rectangle_of cells_of name_len address_at atom chain line expression
 absolute_column = refl
 
 row_zero : parsed (codes "=[.A0]") ≡ Err Syntax
-unfolding parsed formula_symbols tokens tokens_within token_at number_len decimals_len mark_at two_byte_mark one_byte_mark reference_len reference_of cell_of rectangle_len rectangle_of cells_of name_len address_at atom chain line expression
+unfolding parsed formula_symbols tokens tokens_within token_at number_len decimal_len decimals_len signed_len exponent_len quoted_len mark_at two_byte_mark one_byte_mark reference_len reference_of cell_of rectangle_len rectangle_of cells_of name_len address_at atom chain line expression
 row_zero = refl
 
 outside_first : parsed (codes "=[.XFE1]+") ≡ Err OutOfSheet
-unfolding parsed formula_symbols tokens tokens_within token_at number_len decimals_len mark_at two_byte_mark one_byte_mark reference_len reference_of cell_of rectangle_len rectangle_of cells_of name_len address_at atom chain line expression
+unfolding parsed formula_symbols tokens tokens_within token_at number_len decimal_len decimals_len signed_len exponent_len quoted_len mark_at two_byte_mark one_byte_mark reference_len reference_of cell_of rectangle_len rectangle_of cells_of name_len address_at atom chain line expression
 outside_first = refl
 
 no_equals : parsed (codes "[.A1]") ≡ Err Syntax
-unfolding parsed formula_symbols tokens tokens_within token_at number_len decimals_len mark_at two_byte_mark one_byte_mark reference_len reference_of cell_of rectangle_len rectangle_of cells_of name_len address_at atom chain line expression
+unfolding parsed formula_symbols tokens tokens_within token_at number_len decimal_len decimals_len signed_len exponent_len quoted_len mark_at two_byte_mark one_byte_mark reference_len reference_of cell_of rectangle_len rectangle_of cells_of name_len address_at atom chain line expression
 no_equals = refl
 
 -- ---- rectangles
@@ -186,19 +187,19 @@ abbrev relative : ℕ → ℕ → Reference
 relative row column = record { at = place row column; column_is_absolute = false; row_is_absolute = false }
 
 one_input_read : parsed (codes "=Multiple.Operations([.B2];[.B1] ;[.A4])") ≡ Ok (what_if (relative 1 1) ((relative 0 1, relative 3 0) ∷ []))
-unfolding parsed formula_symbols tokens tokens_within token_at number_len decimals_len mark_at two_byte_mark one_byte_mark reference_len reference_of cell_of rectangle_len rectangle_of cells_of name_len address_at pair_at what_if_at atom chain line expression
+unfolding parsed formula_symbols tokens tokens_within token_at number_len decimal_len decimals_len signed_len exponent_len quoted_len mark_at two_byte_mark one_byte_mark reference_len reference_of cell_of rectangle_len rectangle_of cells_of name_len address_at pair_at what_if_at atom chain line expression
 one_input_read = refl
 
 two_inputs_read : parsed (codes "=MULTIPLE.OPERATIONS([.B2];[.B1];[.A4];[.C1];[.A5])") ≡ Ok (what_if (relative 1 1) ((relative 0 1, relative 3 0) ∷ (relative 0 2, relative 4 0) ∷ []))
-unfolding parsed formula_symbols tokens tokens_within token_at number_len decimals_len mark_at two_byte_mark one_byte_mark reference_len reference_of cell_of rectangle_len rectangle_of cells_of name_len address_at pair_at what_if_at atom chain line expression
+unfolding parsed formula_symbols tokens tokens_within token_at number_len decimal_len decimals_len signed_len exponent_len quoted_len mark_at two_byte_mark one_byte_mark reference_len reference_of cell_of rectangle_len rectangle_of cells_of name_len address_at pair_at what_if_at atom chain line expression
 two_inputs_read = refl
 
 parenthesised_parameter : parsed (codes "=MULTIPLE.OPERATIONS([.B2];[.B1];([.A4]))") ≡ Err Syntax
-unfolding parsed formula_symbols tokens tokens_within token_at number_len decimals_len mark_at two_byte_mark one_byte_mark reference_len reference_of cell_of rectangle_len rectangle_of cells_of name_len address_at pair_at what_if_at atom chain line expression
+unfolding parsed formula_symbols tokens tokens_within token_at number_len decimal_len decimals_len signed_len exponent_len quoted_len mark_at two_byte_mark one_byte_mark reference_len reference_of cell_of rectangle_len rectangle_of cells_of name_len address_at pair_at what_if_at atom chain line expression
 parenthesised_parameter = refl
 
 four_parameters : parsed (codes "=MULTIPLE.OPERATIONS([.B2];[.B1];[.A4];[.C1])") ≡ Err Syntax
-unfolding parsed formula_symbols tokens tokens_within token_at number_len decimals_len mark_at two_byte_mark one_byte_mark reference_len reference_of cell_of rectangle_len rectangle_of cells_of name_len address_at pair_at what_if_at atom chain line expression
+unfolding parsed formula_symbols tokens tokens_within token_at number_len decimal_len decimals_len signed_len exponent_len quoted_len mark_at two_byte_mark one_byte_mark reference_len reference_of cell_of rectangle_len rectangle_of cells_of name_len address_at pair_at what_if_at atom chain line expression
 four_parameters = refl
 
 -- ---- calls
@@ -207,16 +208,26 @@ abbrev one_cell : ℕ → ℕ → Tree
 one_cell row column = cell (relative row column)
 
 another_name : parsed (codes "=Multiple([.B2];([.B1]);NOW())") ≡ Ok (call (codes "MULTIPLE") (trees_of (one_cell 1 1 ∷ parenthesized (one_cell 0 1) ∷ call (codes "NOW") no_trees ∷ [])))
-unfolding parsed formula_symbols tokens tokens_within token_at number_len decimals_len mark_at two_byte_mark one_byte_mark reference_len reference_of cell_of rectangle_len rectangle_of cells_of name_len address_at pair_at what_if_at parameters_at more_parameters atom chain line expression
+unfolding parsed formula_symbols tokens tokens_within token_at number_len decimal_len decimals_len signed_len exponent_len quoted_len mark_at two_byte_mark one_byte_mark reference_len reference_of cell_of rectangle_len rectangle_of cells_of name_len address_at pair_at what_if_at parameters_at more_parameters atom chain line expression
 another_name = refl
 
 name_alone : parsed (codes "=NOW") ≡ Err Syntax
-unfolding parsed formula_symbols tokens tokens_within token_at number_len decimals_len mark_at two_byte_mark one_byte_mark reference_len reference_of cell_of rectangle_len rectangle_of cells_of name_len address_at pair_at what_if_at parameters_at more_parameters atom chain line expression
+unfolding parsed formula_symbols tokens tokens_within token_at number_len decimal_len decimals_len signed_len exponent_len quoted_len mark_at two_byte_mark one_byte_mark reference_len reference_of cell_of rectangle_len rectangle_of cells_of name_len address_at pair_at what_if_at parameters_at more_parameters atom chain line expression
 name_alone = refl
 
 empty_parameter : parsed (codes "=SUM([.A1];)") ≡ Err Syntax
-unfolding parsed formula_symbols tokens tokens_within token_at number_len decimals_len mark_at two_byte_mark one_byte_mark reference_len reference_of cell_of rectangle_len rectangle_of cells_of name_len address_at pair_at what_if_at parameters_at more_parameters atom chain line expression
+unfolding parsed formula_symbols tokens tokens_within token_at number_len decimal_len decimals_len signed_len exponent_len quoted_len mark_at two_byte_mark one_byte_mark reference_len reference_of cell_of rectangle_len rectangle_of cells_of name_len address_at pair_at what_if_at parameters_at more_parameters atom chain line expression
 empty_parameter = refl
+
+-- ---- texts in quotes
+
+joined_text : parsed (codes "=F(\"a\"\"b\";\"\")") ≡ Ok (call (codes "F") (trees_of (text (codes "a\"b") ∷ text [] ∷ [])))
+unfolding parsed formula_symbols tokens tokens_within token_at number_len decimal_len decimals_len signed_len exponent_len quoted_len content_from text_content mark_at two_byte_mark one_byte_mark reference_len reference_of cell_of rectangle_len rectangle_of cells_of name_len address_at pair_at what_if_at parameters_at more_parameters atom chain line expression
+joined_text = refl
+
+unclosed_text : parsed (codes "=\"a") ≡ Err Syntax
+unfolding parsed formula_symbols tokens tokens_within token_at number_len decimal_len decimals_len signed_len exponent_len quoted_len content_from text_content mark_at two_byte_mark one_byte_mark reference_len reference_of cell_of rectangle_len rectangle_of cells_of name_len address_at pair_at what_if_at parameters_at more_parameters atom chain line expression
+unclosed_text = refl
 
 -- ---- contents
 

@@ -80,7 +80,11 @@ fn push_tree(tree: &Expr, text: &mut String) -> Result<(), AllocError> {
             }
             Ok(())
         }
-        Expr::Text(_) => Ok(()),
+        Expr::Text(content) => {
+            text.push('\'')?;
+            text.push_str(content.as_str())?;
+            text.push('\'')
+        }
         Expr::WhatIf(formula_cell, pairs) => {
             formula_cell.at.push_text(text)?;
             for pair in pairs {
@@ -166,6 +170,8 @@ fn trees_by_precedence(rt: HostRuntime) -> Result<(), Fail> {
             "{{2*B2 B1=A4 C1=A5}+1}",
         ),
         ("=(MULTIPLE.OPERATIONS([.A1];[.A1];[.A1]))", "[A1 A1=A1]"),
+        ("=\"a;(\"\"b)\"&\"\" ", "{'a;(\"b)'&''}"),
+        ("=f(\"x\";(\"é\"))", "F<'x'><['é']>"),
         ("=TRUE()", "TRUE"),
         ("=sUm ( [.a1] )", "SUM<A1>"),
         ("=_f.2(1+2*3;(4))", "_F.2<{1+{2*3}}><[4]>"),
@@ -318,7 +324,12 @@ fn texts_that_are_no_formulas(rt: HostRuntime) {
         "=[.A1][.A2]",
         "=1.",
         "=.5.5",
-        "=1e5",
+        "=1e",
+        "=\"",
+        "=\"a",
+        "=\"a\"\"",
+        "=\"a\"b",
+        "=\"a\" \"b\"",
         "=1?",
         "=\u{a0}1",
         "=[.A1];[.A2]",
