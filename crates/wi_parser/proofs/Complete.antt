@@ -46,6 +46,7 @@ not_closed : {k : ℕ} {t : Tree} {ts : List Symbol} (rest : List Symbol) → Sp
 not_closed rest (a_number x) = refl
 not_closed rest (a_text s) = refl
 not_closed rest (a_cell r) = refl
+not_closed rest (a_rectangle c) = refl
 not_closed rest (in_parentheses t ts s) = refl
 not_closed rest (one_input f p) = refl
 not_closed rest (two_inputs f p q) = refl

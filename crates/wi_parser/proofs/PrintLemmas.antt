@@ -1,5 +1,5 @@
 -- What is appended to a text that must stay at the front.
-use Rattle.std.proofs.Common.{◌≡◌, ℕ, ◌≤◌, List, ◌++◌, length, take, sym, ap, ◌∙◌, subst, arith, string_bytes, String, [], ◌∷◌, append_assoc, map, codes, cond, Result, Ok, Err, is_ok, OnOk}
+use Rattle.std.proofs.Common.{◌≡◌, refl, ℕ, ◌≤◌, List, ◌++◌, length, take, sym, ap, ◌∙◌, subst, arith, string_bytes, String, [], ◌∷◌, append_assoc, map, codes, cond, Result, Ok, Err, is_ok, OnOk}
 use Rattle.std.specs.declared.alloc.Global.{Global}
 use Rattle.std.specs.Str.{IsUtf8, IsCharBoundary}
 use Rattle.std.specs.Io.{StartsWith}
@@ -11,7 +11,8 @@ use Rattle.wi_lexer.specs.Reference.{reference_text}
 use Rattle.wi_parser.specs.declared.expr.Pair.{Pair}
 use Rattle.wi_parser.specs.declared.expr.Reference.{Reference}
 use Rattle.wi_parser.specs.Grammar.{pair_symbols}
-use Rattle.wi_parser.specs.Tree.{what_if}
+use Rattle.wi_parser.specs.Spelling.{spelling, spelling_of_all, spelling_of_more}
+use Rattle.wi_parser.specs.Tree.{Tree, Trees, what_if, no_trees, more_trees}
 use Rattle.wi_parser.specs.Symbol.{Symbol, close_parenthesis}
 use Rattle.wi_parser.specs.View.{pair_of}
 use Rattle.wi_parser.specs.Printing.{cell_named, symbol_text, symbols_text, tree_text}
@@ -51,3 +52,24 @@ what_if_written (Ok u) f pairs o a b c d h k l m =
     m ∙ ap (λ x. x ++ codes ")") (l ∙ ap (λ x. x ++ inputs) (k ∙ ap (λ x. x ++ cell) h))
     ∙ append_assoc ((o ++ name) ++ cell) inputs (codes ")") ∙ append_assoc (o ++ name) cell (inputs ++ codes ")") ∙ append_assoc o name (cell ++ (inputs ++ codes ")"))
     ∙ ap (λ x. o ++ (name ++ (cell ++ x))) (sym (symbols_more (flat_map pair_symbols (map pair_of pairs)) (close_parenthesis ∷ [])))
+
+-- ---- parameters
+
+-- parameters of which the first follows this separator, and the parenthesis that closes
+abbrev pub parameters_from : List ℕ → Trees → List ℕ
+parameters_from sep no_trees = codes ")"
+parameters_from sep (more_trees t ts) = sep ++ (tree_text t ++ symbols_text (spelling_of_more ts))
+
+pub from_first : (ts : Trees) → parameters_from [] ts ≡ symbols_text (spelling_of_all ts)
+from_first no_trees = refl
+from_first (more_trees t ts) = sym (symbols_more (spelling t) (spelling_of_more ts))
+
+pub from_other : (ts : Trees) → parameters_from (codes ";") ts ≡ symbols_text (spelling_of_more ts)
+from_other no_trees = refl
+from_other (more_trees t ts) = ap (λ x. 59 ∷ x) (sym (symbols_more (spelling t) (spelling_of_more ts)))
+
+-- one parameter is written
+pub parameter_written : (out sep : List ℕ) (t : Tree) (ts : Trees) → ((out ++ sep) ++ tree_text t) ++ parameters_from (codes ";") ts ≡ out ++ parameters_from sep (more_trees t ts)
+parameter_written out sep t ts =
+    ap (λ x. ((out ++ sep) ++ tree_text t) ++ x) (from_other ts)
+    ∙ append_assoc (out ++ sep) (tree_text t) (symbols_text (spelling_of_more ts)) ∙ append_assoc out sep (tree_text t ++ symbols_text (spelling_of_more ts))

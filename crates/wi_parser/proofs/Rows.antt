@@ -163,15 +163,15 @@ b2_to_a3 =
     }
 
 corners_as_written : parsed (codes "=[.$B2:.A$3]") ≡ Ok (rectangle b2_to_a3)
-unfolding parsed formula_symbols tokens tokens_within token_at number_len decimals_len mark_at two_byte_mark one_byte_mark reference_len reference_of cell_of rectangle_len rectangle_of cells_of name_len address_at atom chain line expression
+unfolding parsed formula_symbols tokens tokens_within token_at number_len decimal_len decimals_len signed_len exponent_len quoted_len mark_at two_byte_mark one_byte_mark reference_len reference_of cell_of rectangle_len rectangle_of cells_of name_len address_at atom chain line expression
 corners_as_written = refl
 
 corner_outside : parsed (codes "=[.A1:.XFE1]+") ≡ Err OutOfSheet
-unfolding parsed formula_symbols tokens tokens_within token_at number_len decimals_len mark_at two_byte_mark one_byte_mark reference_len reference_of cell_of rectangle_len rectangle_of cells_of name_len address_at atom chain line expression
+unfolding parsed formula_symbols tokens tokens_within token_at number_len decimal_len decimals_len signed_len exponent_len quoted_len mark_at two_byte_mark one_byte_mark reference_len reference_of cell_of rectangle_len rectangle_of cells_of name_len address_at atom chain line expression
 corner_outside = refl
 
 rectangle_as_parameter : parsed (codes "=MULTIPLE.OPERATIONS([.B2];[.B1];[.A4:.A4])") ≡ Err Syntax
-unfolding parsed formula_symbols tokens tokens_within token_at number_len decimals_len mark_at two_byte_mark one_byte_mark reference_len reference_of cell_of rectangle_len rectangle_of cells_of name_len address_at pair_at what_if_at atom chain line expression
+unfolding parsed formula_symbols tokens tokens_within token_at number_len decimal_len decimals_len signed_len exponent_len quoted_len mark_at two_byte_mark one_byte_mark reference_len reference_of cell_of rectangle_len rectangle_of cells_of name_len address_at pair_at what_if_at atom chain line expression
 rectangle_as_parameter = refl
 
 reads_each_between : (reads (rectangle b2_to_a3) (place 1 0) ≡ true) × (reads (rectangle b2_to_a3) (place 2 1) ≡ true)

@@ -6,7 +6,7 @@ use Rattle.std.proofs.lemmas.Int.{ints}
 use Rattle.wi_values.specs.Address.{columns, rows, place, row_of, column_of}
 use Rattle.wi_parser.specs.declared.expr.Corners.{Corners}
 use Rattle.wi_parser.specs.declared.expr.Reference.{Reference}
-use Rattle.wi_parser.specs.Tree.{Tree, Trees, number, text, cell, rectangle, parenthesized, signed, percent, binary, what_if, call, no_trees, more_trees}
+use Rattle.wi_parser.specs.Tree.{Tree, Trees, number, text, cell, rectangle, parenthesized, signed, percent, binary, what_if, call, no_trees, more_trees, trees_of}
 use Rattle.wi_parser.specs.Symbol.{Symbol}
 use Rattle.wi_parser.specs.Grammar.{Spells, SpellsAll, SpellsMore, a_number, a_text, a_cell, a_rectangle, in_parentheses, one_input, two_inputs, a_call, with_sign, with_percent, tighter, joined, no_parameter, parameters, last_parameter, another_parameter}
 use Rattle.wi_parser.specs.Spelling.{spelling, spelling_of_all, spelling_of_more}
@@ -38,6 +38,11 @@ mutual
   more_still_spelled f last_parameter = last_parameter
   more_still_spelled f (another_parameter t all ts us s u) =
       another_parameter (map_references f t) (map_references_in f all) (spelling (map_references f t)) (spelling_of_more (map_references_in f all)) (still_spelled f s) (more_still_spelled f u)
+
+-- the trees of a list, each with other references
+pub mapped : (f : Reference → Reference) (ts : List Tree) → map_references_in f (trees_of ts) ≡ trees_of (map (map_references f) ts)
+mapped f [] = refl
+mapped f (t ∷ ts) = ap (more_trees (map_references f t)) (mapped f ts)
 
 -- ---- shifts by nothing
 

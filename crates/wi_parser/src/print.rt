@@ -13,7 +13,7 @@ ghost use Rattle.wi_parser.specs.Printing.{cell_named, numeral_text, symbols_tex
 ghost use Rattle.wi_parser.specs.Symbol.{written_as};
 ghost use Rattle.wi_parser.specs.Tree.{what_if};
 ghost use Rattle.wi_parser.specs.View.{tree_of, all_of, pair_of};
-ghost use Rattle.wi_parser.specs.Spelling.{spelling_of_all, spelling_of_more};
+ghost use Rattle.wi_parser.specs.Spelling.{spelling_of_all};
 ghost use Rattle.wi_parser.specs.PrintedParts.{pairs_text};
 
 use crate::expr::{Corners, Expr, Operator, Pair, Reference, Sign};
@@ -89,30 +89,16 @@ fn push_tree(expr: &Expr, out: &mut String) -> Result<(), AllocError>
 
 // Appends parameters and the parenthesis that closes. On an error a part of them may be there.
 #[cycle(print)]
-#[tactic(auto, using(crate::proofs::PrintLemmas::starts_trans, crate::proofs::PrintLemmas::starts_more, crate::proofs::PrintLemmas::symbols_more))]
+#[tactic(auto, using(crate::proofs::PrintLemmas::starts_trans, crate::proofs::PrintLemmas::starts_more, crate::proofs::PrintLemmas::starts_itself))]
 fn push_parameters(parameters: &[Expr], out: &mut String) -> Result<(), AllocError>
     ensures ok { OnOk result (string_bytes out.new ≡ string_bytes out.old ++ symbols_text (spelling_of_all (all_of parameters.now))) }
     ensures kept { StartsWith (string_bytes out.new) (string_bytes out.old) }
 {
-    match parameters {
-        [] => out.push_str(")"),
-        [first, others @ ..] => {
-            push_tree(first, out)?;
-            push_others(others, out)
-        }
-    }
-}
-
-// Appends parameters, each after a separator, and the parenthesis that closes. On an error a part of them may be there.
-#[cycle(print)]
-#[tactic(auto, using(crate::proofs::PrintLemmas::starts_trans, crate::proofs::PrintLemmas::starts_more, crate::proofs::PrintLemmas::starts_itself, crate::proofs::PrintLemmas::symbols_more))]
-fn push_others(parameters: &[Expr], out: &mut String) -> Result<(), AllocError>
-    ensures ok { OnOk result (string_bytes out.new ≡ string_bytes out.old ++ symbols_text (spelling_of_more (all_of parameters.now))) }
-    ensures kept { StartsWith (string_bytes out.new) (string_bytes out.old) }
-{
+    let mut separator = "";
     for parameter in parameters {
-        out.push_str(";")?;
+        out.push_str(separator)?;
         push_tree(parameter, out)?;
+        separator = ";";
     }
     out.push_str(")")
 }

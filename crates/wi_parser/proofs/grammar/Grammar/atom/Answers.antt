@@ -11,7 +11,7 @@ unfolding atom
 returns-in_err-inner-in-Open-clause-finds g c =
     let i = expression c.args.self.now.depth in
     let is = rw c.in-Open.is at c.in-Some.ensures in
-    let p = err_from_is_err_and c.from_residual.result c.from_residual.ensures.1 in
+    let p = err_from_is_err_and c.from_residual-in_err-inner-in-Open.result c.from_residual-in_err-inner-in-Open.ensures.1 in
     rw (p.1, p.2) (fails_as c.in_err-inner-in-Open.field-0.0 _ _
     (λ none. ap (atom i) is ∙ ap (read_then (λ t. then_close (parenthesized t))) none)
     c.in_err-inner-in-Open.ensures.finds)

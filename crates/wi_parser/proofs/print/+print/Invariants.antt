@@ -1,0 +1,18 @@
+use Rattle.std.proofs.Common.{◌≡◌, ◌++◌, drop, string_bytes}
+use denote.Text.{Utf8}
+use denote.Shadow.{shadow}
+use Rattle.std.specs.Io.{StartsWith}
+use Rattle.wi_parser.specs.View.{all_of}
+use Rattle.wi_parser.specs.Spelling.{spelling_of_all}
+use Rattle.wi_parser.specs.Printing.{symbols_text}
+use Rattle.wi_parser.proofs.PrintLemmas.{parameters_from}
+use Rattle.wi_parser.proofs.print.+print.Given as goal
+
+-- what is written and the text of the parameters that are left
+abbrev pub invariant-push_parameters-loop-parameter : goal.invariant-push_parameters-loop-parameter
+invariant-push_parameters-loop-parameter l =
+    record {
+      utf8 : shadow (Utf8 l.separator);
+      written : string_bytes l.out ++ parameters_from l.separator (all_of (drop l.parameter-index l.parameters)) ≡ string_bytes l.fn.out ++ symbols_text (spelling_of_all (all_of l.parameters));
+      kept : StartsWith (string_bytes l.out) (string_bytes l.fn.out);
+    }

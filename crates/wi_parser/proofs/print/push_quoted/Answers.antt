@@ -1,0 +1,28 @@
+use Rattle.std.proofs.Common.{rules, ap, sym, subst, ◌∙◌, ◌++◌, ◌∷◌, [], string_bytes}
+use Rattle.std.specs.Io.{StartsWith}
+use Rattle.std.specs.List.{flat_map}
+use Rattle.wi_lexer.specs.Text.{doubled}
+use Rattle.wi_parser.proofs.PrintLemmas.{starts_more}
+use Rattle.wi_parser.proofs.Quotes.{piece_doubled, rest_doubled, piece_written, last_written}
+use Rattle.wi_parser.proofs.print.push_quoted.Goals as goal
+
+pub loop-piece-preserved : goal.loop-piece-preserved
+loop-piece-preserved c =
+    let l = c.loop-piece in
+    let out = string_bytes l.out in
+    let old = string_bytes c.args.out.now in
+    let piece = c.in-Some.piece.now in
+    let after = c.in-Some.after.now in
+    let cut = piece_doubled l.rest.now c.split_once.result _ c.split_once.ensures.cases c.in-Some.is in
+    let written = c.in_ok-push_str-3.ensures.bytes ∙ ap (λ x. x ++ 34 ∷ 34 ∷ []) c.in_ok-push_str-2.ensures.bytes in
+    record {
+      utf8 = search rules;
+      written = ap (λ x. x ++ flat_map doubled after) written ∙ piece_written out _ l.rest.now piece after l.invariant.written cut;
+      kept = subst (λ x. StartsWith x old) (sym written) (starts_more (out ++ piece) (34 ∷ 34 ∷ []) old (starts_more out piece old l.invariant.kept));
+    }
+
+pub returns-clause-ok : goal.returns-clause-ok
+returns-clause-ok c =
+    let l = c.loop-piece in
+    let plain = rest_doubled l.rest.now c.split_once.result c.split_once.ensures.cases c.in_default.is in
+    last_written c.push_str-3.result (string_bytes c.args.out.now) c.args.content.now l.rest.now _ _ _ l.invariant.written plain c.in_ok-push_str-4.ensures.bytes c.push_str-3.ensures.bytes
