@@ -1,3 +1,5 @@
+pub mod Decimals
+pub mod DecimalsReadBack
 pub mod Digits
 pub mod Divisors
 pub mod Exponents

@@ -6,7 +6,7 @@ use Rattle.std.proofs.Math.Nat.{mod-lt, div-add-mod, mul-lt-mul_of_pos_right, mo
 use Rattle.wi_fraction.specs.Laws.{ShowsFewestPlaces}
 use Rattle.wi_fraction.specs.Text.{places_from, places}
 
-places_from_divide : (t k d j : ℕ) → places_from t k d ≡ Some j → 10 ^ j % d ≡ 0
+pub places_from_divide : (t k d j : ℕ) → places_from t k d ≡ Some j → 10 ^ j % d ≡ 0
 unfolding places_from
 places_from_divide zero k d j e = cc
 places_from_divide (suc t) k d j e =
@@ -29,7 +29,7 @@ pub places_least : (d j i : ℕ) → places d ≡ Some j → i < j → 10 ^ i % 
 unfolding places
 places_least d j i e h = places_from_least 13 0 d j i e (omega arith) h
 
-places_from_none : (t k d i : ℕ) → places_from t k d ≡ None → k ≤ i → i < k + t → 10 ^ i % d ≢ 0
+pub places_from_none : (t k d i : ℕ) → places_from t k d ≡ None → k ≤ i → i < k + t → 10 ^ i % d ≢ 0
 unfolding places_from
 places_from_none zero k d i e from below z = omega arith
 places_from_none (suc t) k d i e from below z =

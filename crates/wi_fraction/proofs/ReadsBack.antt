@@ -22,7 +22,7 @@ use Rattle.wi_fraction.proofs.Steps.{signed-abs}
 use Rattle.wi_fraction.proofs.Digits.{length-padded, digits_padded, value_padded}
 use Rattle.wi_fraction.proofs.Places.{places_divide, multiple_of, factor_pos, rest_less, divides_one}
 
-scan : (ds rest : List ℕ) → all_ascii_digits ds ≡ true → prefix_len is_ascii_digit rest ≡ 0 → prefix_len is_ascii_digit (ds ++ rest) ≡ length ds
+pub scan : (ds rest : List ℕ) → all_ascii_digits ds ≡ true → prefix_len is_ascii_digit rest ≡ 0 → prefix_len is_ascii_digit (ds ++ rest) ≡ length ds
 scan [] rest h e = e
 scan (c ∷ cs) rest h e =
     let first : is_ascii_digit c ≡ true = search (rules, tests) in
@@ -52,13 +52,13 @@ read_signed false bs h =
 read_scanned : (s : Bool) (ds rest : List ℕ) → IsNumeral 10 ds → prefix_len is_ascii_digit rest ≡ 0 → read (sign_text s ++ (ds ++ rest)) ≡ read_after s ds rest
 read_scanned s ds rest h e = read_signed s (ds ++ rest) (first_digit ds rest h) ∙ read_size_scanned s ds rest h e
 
-numeral : (n : ℕ) → n ≤ max_size → IsNumeral 10 (decimal n)
+pub numeral : (n : ℕ) → n ≤ max_size → IsNumeral 10 (decimal n)
 numeral n h = (decimal_is_IsNumeral_wide n (omega arith)).0
 
 value_decimal : (n : ℕ) → n ≤ max_size → digits_value 10 (decimal n) ≡ n
 value_decimal n h = (decimal_is_IsNumeral_wide n (omega arith)).1
 
-is_numeral-true : (ds : List ℕ) → IsNumeral 10 ds → is_numeral ds ≡ true
+pub is_numeral-true : (ds : List ℕ) → IsNumeral 10 ds → is_numeral ds ≡ true
 is_numeral-true ds h = let all : all_ascii_digits ds ≡ true = own.from ds h.1 in let some = h.0 in grind (arith, nat_tests)
 
 read_quotient_text : (s : Bool) (n d : ℕ) → 0 < d → n ≤ max_size → d ≤ max_size → gcd n d ≡ 1 → read_after s (decimal n) (47 ∷ decimal d) ≡ number_at (signed s n) d
@@ -75,13 +75,13 @@ whole_and_rest n d m = sym (ap (λ k. k + n % d * m) (mul_assoc (n / d) d m)) �
 number_of_places : (s : Bool) (n d t m : ℕ) → t ≡ d * m → 0 < m → gcd n d ≡ 1 → number_of (signed s (n / d * t + n % d * m)) t ≡ number_at (signed s n) d
 number_of_places s n d t m e mp one = rw (e, whole_and_rest n d m) (number_of-scaled s n d m mp one)
 
-numeral_padded : (k n : ℕ) → is_numeral (padded (suc k) n) ≡ true
+pub numeral_padded : (k n : ℕ) → is_numeral (padded (suc k) n) ≡ true
 numeral_padded k n = is_numeral-true (padded (suc k) n) (rw (length-padded (suc k) n) (omega arith), digits_padded (suc k) n)
 
-div_small : (n d : ℕ) → n ≤ max_size → n / d ≤ max_size
+pub div_small : (n d : ℕ) → n ≤ max_size → n / d ≤ max_size
 div_small n d h = omega (arith, div-le_self n d)
 
-read_places_text : (s : Bool) (n d k : ℕ) → 0 < d → n ≤ max_size → gcd n d ≡ 1 → 10 ^ suc k % d ≡ 0 → read_after s (decimal (n / d)) (46 ∷ padded (suc k) (n % d * (10 ^ suc k / d))) ≡ number_at (signed s n) d
+pub read_places_text : (s : Bool) (n d k : ℕ) → 0 < d → n ≤ max_size → gcd n d ≡ 1 → 10 ^ suc k % d ≡ 0 → read_after s (decimal (n / d)) (46 ∷ padded (suc k) (n % d * (10 ^ suc k / d))) ≡ number_at (signed s n) d
 unfolding read_after
 read_places_text s n d k dp nm one e =
     let t = 10 ^ suc k in
@@ -91,7 +91,7 @@ read_places_text s n d k dp nm one e =
     let less : n % d * m < 10 ^ suc k = subst (λ u. n % d * m < u) (sym multiple) (rest_less n d m dp mp) in
     rw (numeral_padded k (n % d * m), value_padded (suc k) (n % d * m) (decimal (n / d)) less, value_decimal (n / d) (div_small n d nm), length-padded (suc k) (n % d * m)) (number_of_places s n d t m multiple mp one)
 
-read_whole_text : (s : Bool) (n : ℕ) → n ≤ max_size → read_after s (decimal n) [] ≡ number_of (signed s n) 1
+pub read_whole_text : (s : Bool) (n : ℕ) → n ≤ max_size → read_after s (decimal n) [] ≡ number_of (signed s n) 1
 unfolding read_after
 read_whole_text s n nm = rw (append-nil (decimal n), value_decimal n nm, pow-zero 10)
 

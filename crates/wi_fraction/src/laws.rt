@@ -3,7 +3,7 @@
 ghost use Rattle.std.specs.Prelude.{ℕ};
 ghost use Rattle.std.specs.Int.{IsGcd};
 ghost use Rattle.wi_fraction.specs.Gcd.{gcd};
-ghost use Rattle.wi_fraction.specs.Laws.{IsExact, ReadsBack, ShowsFewestPlaces};
+ghost use Rattle.wi_fraction.specs.Laws.{IsExact, ReadsBack, DecimalsReadBack, ShowsFewestPlaces};
 
 /// The greatest common divisor is one.
 pub fn divisors_are_greatest()
@@ -20,6 +20,12 @@ pub fn lowest_terms_are_exact()
 #[tactic(auto, using(crate::proofs::ReadsBack::reads_back))]
 pub fn texts_read_back()
     ensures { ReadsBack }
+{}
+
+/// Each exact decimal of a number that is not negative reads back to the number, as a number token.
+#[tactic(auto, using(crate::proofs::DecimalsReadBack::decimals_read_back))]
+pub fn decimals_read_back()
+    ensures { DecimalsReadBack }
 {}
 
 /// A decimal is shown at the fewest places that are exact, and n/d only where twelve places are not exact.

@@ -375,9 +375,38 @@ fn rounds_to_places(rt: HostRuntime) -> Result<(), Fail> {
 }
 
 #[test]
+fn writes_exact_decimals(rt: HostRuntime) -> Result<(), Fail> {
+    for (n, d, text) in [
+        (0, 1, "=0"),
+        (-7, 1, "=-7"),
+        (-5, 2, "=-2.5"),
+        (1, 3, "=1/3"),
+        (1, 8192, "=0.0001220703125"),
+        (i128::MAX, 5, "=34028236692093846346337460743176821145.4"),
+        (
+            -1,
+            100000000000000000000000000000000000000,
+            "=-0.00000000000000000000000000000000000001",
+        ),
+        (
+            3,
+            85070591730234615865843651857942052864,
+            "=0.000000000000000000000000000000000000035264830524668625239062096116667370334559966703162625645262551188352517783641815185546875",
+        ),
+    ] {
+        let mut out = String::new(rt.alloc());
+        out.push_str("=")?;
+        Fraction::new(n, d)?.push_decimal(&mut out)?;
+        assert_eq!(rt; out.as_str(), text);
+    }
+    Ok(())
+}
+
+#[test]
 fn has_its_laws() {
     laws::divisors_are_greatest();
     laws::lowest_terms_are_exact();
     laws::texts_read_back();
+    laws::decimals_read_back();
     laws::texts_have_fewest_places();
 }

@@ -1,0 +1,12 @@
+use Rattle.std.proofs.Common.{ap, sym, subst, length, string_bytes}
+use Rattle.std.proofs.lemmas.Str.{IsUtf8-string_bytes}
+use Rattle.std.specs.Str.{IsCharBoundary}
+use Rattle.wi_fraction.proofs.Decimals.{cut_place}
+use Rattle.wi_fraction.proofs.Fraction.push_decimal.Goals as goal
+
+pub truncate-requires : goal.truncate-requires
+truncate-requires c =
+    let new = c.push_exact-pushed.new.text in
+    let whole = cut_place new (string_bytes c.args.text.now) (IsUtf8-string_bytes c.args.text.now) c.push_exact-pushed.ensures.kept in
+    let cut = subst (IsCharBoundary (string_bytes new)) (sym (ap length c.as_str-before.ensures.value)) whole in
+    λ _. (cut.0, λ _. cut.1)

@@ -1,0 +1,13 @@
+use Rattle.std.proofs.Common.{◌≡◌, ◌<◌, ◌-◌, ◌%◌}
+use Rattle.std.specs.Prelude.{◌^◌}
+use Rattle.wi_fraction.specs.Text.{places_from}
+use Rattle.wi_fraction.specs.Decimal.{all_places}
+use Rattle.wi_fraction.proofs.decimal.all_places.Given as goal
+
+-- ten to the power k without multiples of d, and the places that are left to try
+abbrev pub invariant-loop-k : goal.invariant-loop-k
+invariant-loop-k l = record {
+  power : l.rest ≡ 10 ^ l.k % l.d;
+  below : l.rest < l.d;
+  left : all_places l.d ≡ places_from (127 - l.k) l.k l.d;
+}

@@ -1,0 +1,18 @@
+use Rattle.std.proofs.Common.{◌≡◌, ◌<◌, ◌++◌, arith, string_bytes}
+use Rattle.std.specs.Fmt.{decimal}
+use Rattle.std.proofs.Math.Nat.{mod-lt}
+use Rattle.wi_fraction.proofs.Decimals.{digits_none, digits_next, rest_none, rest_next}
+use Rattle.wi_fraction.proofs.decimal.push_digits.Goals as goal
+
+pub loop-i-init : goal.loop-i-init
+loop-i-init c = record { written = digits_none c.args.n c.args.d (string_bytes c.args.text.now); left = rest_none c.args.n c.args.d c.requires.below_one; below = c.requires.below_one }
+
+pub loop-i-preserved : goal.loop-i-preserved
+loop-i-preserved c =
+    let some : 0 < c.args.d = omega (arith, c.requires.below_one) in
+    let pushed : string_bytes c.push_str.new.self ≡ string_bytes c.loop-i.text ++ decimal c.tenfold-step.result.digit = rw c.format.ensures.text at c.in_ok-push_str.ensures.bytes in
+    record {
+      written = digits_next c.args.n c.loop-i.i c.args.d c.loop-i.rest c.tenfold-step.result.digit (string_bytes c.args.text.now) (string_bytes c.loop-i.text) (string_bytes c.push_str.new.self) c.loop-i.invariant.below c.loop-i.invariant.written c.loop-i.invariant.left c.tenfold-step.ensures.digit pushed;
+      left = rest_next c.args.n c.loop-i.i c.args.d c.loop-i.rest c.tenfold-step.result.rest c.loop-i.invariant.left c.tenfold-step.ensures.rest;
+      below = rw c.tenfold-step.ensures.rest (mod-lt _ some);
+    }

@@ -1,0 +1,29 @@
+use Rattle.std.proofs.Common.{◌≡◌, ◌∙◌, sym, ap, subst, arith, rules, string_bytes, ◌<◌, ◌++◌, ◌∷◌, [], ◌*◌, ◌/◌, ◌%◌, Some, OnOk}
+use Rattle.std.specs.Prelude.{◌^◌}
+use Rattle.std.specs.Fmt.{decimal}
+use Rattle.std.proofs.lemmas.List.{append-nil}
+use Rattle.wi_fraction.specs.Text.{sign_text, size_text, padded}
+use Rattle.wi_fraction.specs.Decimal.{all_places}
+use Rattle.wi_fraction.proofs.Decimals.{exact_none, exact_whole, exact_point, exact_written}
+use Rattle.wi_fraction.proofs.decimal.push_exact.Goals as goal
+
+pub returns-in-None-clause-ok : goal.returns-in-None-clause-ok
+returns-in-None-clause-ok c = rw (exact_none c.args.n c.args.d c.in-None.ensures, ← c.format.ensures.text, ← c.format-in-None.ensures.text) c.push_joined.ensures.ok
+
+pub returns-in-Some-eq0-clause-ok : goal.returns-in-Some-eq0-clause-ok
+returns-in-Some-eq0-clause-ok c =
+    let none : Some 0 ≡ all_places c.args.d = first_of (grind (arith, c.in-Some-eq0.ensures, c.in-Some-eq0.field-0-is), search (rules, c.in-Some-eq0.ensures)) in
+    rw (exact_whole c.args.n c.args.d none, sym (append-nil (decimal c.args.n)), ← c.format-in-Some-eq0.ensures.text) c.push_joined-in-Some-eq0.ensures.ok
+
+pub returns-in_ok-push_joined-in-Some-clause-ok : goal.returns-in_ok-push_joined-in-Some-clause-ok
+returns-in_ok-push_joined-in-Some-clause-ok c =
+    let n = c.args.n in
+    let d = c.args.d in
+    let k = c.in-Some.k in
+    let old = string_bytes c.args.text.now in
+    let mid = string_bytes c.push_joined-in-Some.new.text in
+    let digits = padded k (n % d * 10 ^ k / d) in
+    let front : mid ≡ old ++ (sign_text c.args.negative ++ (decimal (n / d) ++ (46 ∷ []))) = rw c.format-in-Some.ensures.text at c.in_ok-push_joined-in-Some.ensures.ok in
+    let text : size_text (all_places d) n d ≡ decimal (n / d) ++ 46 ∷ digits = exact_point n d k c.in-Some.ensures (omega (arith, c.in-Some.k-test)) c.requires.above_zero in
+    let whole : mid ++ digits ≡ old ++ (sign_text c.args.negative ++ size_text (all_places d) n d) = exact_written old (sign_text c.args.negative) (decimal (n / d)) digits mid front ∙ ap (λ x. old ++ (sign_text c.args.negative ++ x)) (sym text) in
+    subst (λ x. OnOk c.push_digits.result (string_bytes c.push_digits.new.text ≡ x)) whole c.push_digits.ensures.ok
