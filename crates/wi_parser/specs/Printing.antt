@@ -3,7 +3,7 @@ use Rattle.std.specs.Prelude.{ℕ, ◌+◌, List, [], ◌++◌, codes}
 use Rattle.std.specs.Fmt.{decimal}
 use Rattle.std.specs.List.{flat_map}
 use Rattle.wi_fraction.specs.Number.{Number}
-use Rattle.wi_fraction.specs.Text.{text_of}
+use Rattle.wi_fraction.specs.Decimal.{decimal_text}
 use Rattle.wi_values.specs.Address.{row_of, column_of, column_letters}
 use Rattle.wi_lexer.specs.Cell.{Cell}
 use Rattle.wi_lexer.specs.Reference.{reference_text}
@@ -19,9 +19,9 @@ use Rattle.wi_parser.specs.Tree.{Tree}
 use Rattle.wi_parser.specs.Symbol.{Symbol, numeral, text_literal, reference, corners, open_parenthesis, close_parenthesis, separator, infix_mark, percent_mark, what_if_name, name, refused}
 use Rattle.wi_parser.specs.Spelling.{spelling}
 
--- the text of a number
+-- the text of a number: the exact decimal
 abbrev pub numeral_text : Number → List ℕ
-numeral_text x = text_of x
+numeral_text x = decimal_text x
 
 -- the cell of a reference: its column in capitals, `$` as written
 abbrev pub cell_named : Reference → Cell

@@ -125,7 +125,7 @@ fn push_number(x: Fraction, out: &mut String) -> Result<(), AllocError>
     ensures ok { OnOk result (string_bytes out.new ≡ string_bytes out.old ++ numeral_text x) }
     ensures err { OnErr result (string_bytes out.new ≡ string_bytes out.old) }
 {
-    x.push_text(out)
+    x.push_decimal(out)
 }
 
 fn dollar(is_absolute: bool) -> &'static str
