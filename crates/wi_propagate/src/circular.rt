@@ -101,11 +101,7 @@ fn push_reads(store: &Store, expr: &Expr, cells: &mut Vec<Address>) -> Result<()
 
 /// Appends the cells that expressions read.
 #[cycle(reading)]
-fn push_all_reads(
-    store: &Store,
-    exprs: &[Expr],
-    cells: &mut Vec<Address>,
-) -> Result<(), AllocError>
+fn push_all_reads(store: &Store, exprs: &[Expr], cells: &mut Vec<Address>) -> Result<(), AllocError>
     ensures { OnOk result (cells.new.items ≡ cells.old.items ++ all_read_cells store.now.sheet (all_of exprs.now)) }
 {
     for expr in exprs {
