@@ -12,6 +12,8 @@ mod faults;
 #[cfg(test)]
 mod formulas;
 #[cfg(test)]
+mod grammar;
+#[cfg(test)]
 mod operators;
 #[cfg(test)]
 mod rows;
