@@ -5,6 +5,7 @@ pub mod Divisors
 pub mod Exponents
 pub mod Fineness
 pub mod Numbers
+pub mod Numerals
 pub mod Pieces
 pub mod Places
 pub mod Powers

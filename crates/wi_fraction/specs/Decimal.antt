@@ -1,11 +1,16 @@
 -- The exact decimal of a number, of any number of places.
-use Rattle.std.specs.Prelude.{◌≡◌, ℕ, ◌%◌, ◌^◌, pos, List, ◌++◌, Option, unsigned_abs, int_lt}
+use Rattle.std.specs.Prelude.{◌≡◌, ℕ, ◌%◌, ◌^◌, pos, List, ◌++◌, Option, unsigned_abs, int_lt, false}
 use Rattle.wi_fraction.specs.Number.{Number}
 use Rattle.wi_fraction.specs.Text.{places_from, size_text, sign_text}
 
 -- the denominator divides a power of ten
 abbrev pub IsDecimal : Number → Type 0
 IsDecimal x = (k : ℕ) × (10 ^ k % x.den ≡ 0)
+
+-- The number can be written as a decimal without a sign.
+pub record IsNumeral (x : Number) : Type 0 where
+  pub decimal : IsDecimal x
+  pub unsigned : int_lt x.num (pos 0) ≡ false
 
 -- the fewest decimal places, at most 126, that write each fraction over d exactly
 unfoldable pub all_places : ℕ → Option ℕ

@@ -19,3 +19,4 @@ pub mod FormulaText
 pub mod Reading
 pub mod Faults
 pub mod Shift
+pub mod Writable
