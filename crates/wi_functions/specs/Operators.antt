@@ -1,4 +1,4 @@
--- The operators on numbers and texts (OpenFormula, "Standard Operators").
+-- What each operator gives for its operands (OpenFormula, "Standard Operators").
 use Rattle.std.specs.Prelude.{ℕ, pos, ◌++◌, List, length, nat_le, ◌==◌, ◌&&◌, int_lt, Option, Some, None, Result, Ok, Err, if◌then◌else◌}
 use Rattle.std.specs.Ordering.{int_eq, is_eq, is_ne, is_lt, is_le, is_gt, is_ge}
 use Rattle.wi_fraction.specs.Number as numbers

@@ -23,7 +23,7 @@ WantsWhatIf (Cell a) g qs = ⊥
 WantsWhatIf (WhatIf f pairs) g qs = (f ≡ g) × (map pair_of pairs.items ≡ qs)
 
 abbrev mutual
-  -- The want is a cell or a what-if of the tree. Of a rectangle it is one only where that has no other cell.
+  -- The tree asks for this: for one of its cells or what-ifs, and for the cell of a rectangle that has only one.
   pub Asks : Tree → Want → Type 0
   Asks (number x) w = ⊥
   Asks (text s) w = ⊥

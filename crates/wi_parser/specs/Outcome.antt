@@ -9,7 +9,7 @@ use Rattle.wi_parser.specs.Symbol.{Symbol}
 use Rattle.wi_parser.specs.Reader.{Read, ReadAll}
 use Rattle.wi_parser.specs.View.{tree_of, all_of}
 
--- it is found that nothing is to be read, or memory ran out
+-- Syntax where nothing to be read is found, or Memory, which says nothing of that; no other fault
 abbrev pub Fails : {A : Type 0} → ParseFault → Option A → Type 0
 Fails TooLong found = ⊥
 Fails OutOfSheet found = ⊥

@@ -62,7 +62,7 @@ content_read text =
 
 -- ---- what the calls answer
 
--- what is answered is what is found, unless memory ran out
+-- what is answered is what is found, or Memory, which says nothing of it
 abbrev pub ReadsAs : {A : Type 0} → Result A ParseFault → Result A ParseFault → Type 0
 ReadsAs found (Err Memory) = Unit {0}
 ReadsAs found answer = found ≡ answer

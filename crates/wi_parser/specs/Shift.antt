@@ -82,7 +82,7 @@ shifted down right t =
 
 -- ---- what the calls answer
 
--- what is found is answered: LeavesSheet where nothing is, and Memory wherever memory ran out
+-- what is found is answered, and LeavesSheet where nothing is; or Memory, which says nothing of it
 abbrev pub ShiftsTo : Option Tree → Result Tree ShiftFault → Type 0
 ShiftsTo found (Ok t) = found ≡ Some t
 ShiftsTo found (Err LeavesSheet) = found ≡ None
