@@ -67,7 +67,7 @@ gives_end old new o h e = subst (λ x. Gives old x new) e h
 abbrev pub listed : Token → Kind × List ℕ
 listed t = (t.kind, t.text.now)
 
-found_ahead : (f : List ℕ → Tokens) (bs : List ℕ) (k : Kind) (text rest : List ℕ) → bs ≡ text ++ rest → 0 < length text → token_at bs ≡ Some (k, length text) → tokens_ahead f bs ≡ then_tokens ((k, text) ∷ []) (f rest)
+pub found_ahead : (f : List ℕ → Tokens) (bs : List ℕ) (k : Kind) (text rest : List ℕ) → bs ≡ text ++ rest → 0 < length text → token_at bs ≡ Some (k, length text) → tokens_ahead f bs ≡ then_tokens ((k, text) ∷ []) (f rest)
 found_ahead f [] k text rest front some h = absurd (omega (arith, ap length front, length-append text rest))
 found_ahead f (b ∷ bs) k text rest front some h =
     let whole = b ∷ bs in

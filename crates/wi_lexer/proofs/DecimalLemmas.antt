@@ -8,7 +8,7 @@ use Rattle.std.specs.List.{list_all}
 use Rattle.std.specs.Char.{is_ascii_digit}
 use Rattle.wi_lexer.specs.Runs.{IsRun, digits_len}
 use Rattle.wi_lexer.specs.Number.{IsDecimal, whole, decimal, decimals_len, decimal_len}
-use Rattle.wi_lexer.proofs.RunLemmas.{run_within, run_stops, run_more, run_all}
+use Rattle.wi_lexer.proofs.RunLemmas.{run_within, run_more, run_all}
 
 -- a point and digits stand at the front
 pub record HasDecimals (bs : List ℕ) : Type 0 where
@@ -95,15 +95,14 @@ pub decimal_some : (text : List ℕ) → IsDecimal text → 0 < length text
 decimal_some text (whole ds run) = run.some
 decimal_some text (decimal ds es all run) = omega (arith, length-append ds (46 ∷ es))
 
--- ---- a decimal that ends before another byte
+-- ---- a decimal is found whole where nothing goes on with it
 
-no_point : (b : ℕ) (rest : List ℕ) → (b == 46) ≡ false → decimals_len (b ∷ rest) ≡ 0
+pub no_point : (b : ℕ) (rest : List ℕ) → (b == 46) ≡ false → decimals_len (b ∷ rest) ≡ 0
 unfolding decimals_len
 no_point b rest e = ap (λ t. cond (t && nat_lt 0 (digits_len rest)) (1 + digits_len rest) 0) e
 
--- digits that end before another byte
-digits_exact : (ds : List ℕ) (b : ℕ) (rest : List ℕ) → list_all is_ascii_digit ds ≡ true → is_ascii_digit b ≡ false → digits_len (ds ++ b ∷ rest) ≡ length ds
-digits_exact ds b rest all e = omega (arith, run_more is_ascii_digit ds (b ∷ rest) all, run_stops is_ascii_digit b rest e)
+digits_exact : (ds rest : List ℕ) → list_all is_ascii_digit ds ≡ true → digits_len rest ≡ 0 → digits_len (ds ++ rest) ≡ length ds
+digits_exact ds rest all none = omega (arith, run_more is_ascii_digit ds rest all, none)
 
 -- the digits before, and the decimals of what follows them
 after_digits : (ds tail : List ℕ) → digits_len (ds ++ tail) ≡ length ds → decimal_len (ds ++ tail) ≡ length ds + decimals_len tail
@@ -112,12 +111,12 @@ after_digits ds tail n =
     let after : drop (digits_len (ds ++ tail)) (ds ++ tail) ≡ tail = ap (λ i. drop i (ds ++ tail)) n ∙ drop-append_seam ds tail in
     omega (arith, n, ap decimals_len after)
 
-pub decimal_exact : (text : List ℕ) → IsDecimal text → (b : ℕ) (rest : List ℕ) → is_ascii_digit b ≡ false → (b == 46) ≡ false → decimal_len (text ++ b ∷ rest) ≡ length text
-decimal_exact text (whole ds run) b rest e f = omega (arith, after_digits ds (b ∷ rest) (digits_exact ds b rest run.all e), no_point b rest f)
-decimal_exact text (decimal ds es all run) b rest e f =
-    let tail = es ++ b ∷ rest in
-    let front : (ds ++ 46 ∷ es) ++ b ∷ rest ≡ ds ++ 46 ∷ tail = append_assoc ds (46 ∷ es) (b ∷ rest) in
-    let whole = after_digits ds (46 ∷ tail) (digits_exact ds 46 tail all refl) in
-    let es_len = digits_exact es b rest run.all e in
+pub decimal_exact : (text : List ℕ) → IsDecimal text → (rest : List ℕ) → digits_len rest ≡ 0 → decimals_len rest ≡ 0 → decimal_len (text ++ rest) ≡ length text
+decimal_exact text (whole ds run) rest digits decimals = omega (arith, after_digits ds rest (digits_exact ds rest run.all digits), decimals)
+decimal_exact text (decimal ds es all run) rest digits decimals =
+    let tail = es ++ rest in
+    let front : (ds ++ 46 ∷ es) ++ rest ≡ ds ++ 46 ∷ tail = append_assoc ds (46 ∷ es) rest in
+    let whole = after_digits ds (46 ∷ tail) (digits_exact ds (46 ∷ tail) all refl) in
+    let es_len = digits_exact es rest run.all digits in
     let found = decimals_found tail (omega (arith, es_len, run.some)) in
     omega (arith, ap decimal_len front, whole, found, es_len, length-append ds (46 ∷ es))

@@ -13,3 +13,4 @@ pub mod CutLemmas
 pub mod ScanLemmas
 pub mod CallerLemmas
 pub mod TextLemmas
+pub mod EndLemmas

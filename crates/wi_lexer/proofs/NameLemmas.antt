@@ -28,6 +28,14 @@ name_more (b ∷ text) h rest =
     let run = run_more is_name_part (b ∷ text) rest h.parts in
     omega (arith, run, ap (λ t. cond t (prefix_len is_name_part ((b ∷ text) ++ rest)) 0) h.start)
 
+-- a name is found whole where no part of a name follows
+pub name_exact : (text : List ℕ) → IsName text → (rest : List ℕ) → prefix_len is_name_part rest ≡ 0 → name_len (text ++ rest) ≡ length text
+unfolding name_len
+name_exact [] h rest none = absurd (omega (arith, name_some [] h))
+name_exact (b ∷ text) h rest none =
+    let run = run_more is_name_part (b ∷ text) rest h.parts in
+    omega (arith, run, none, ap (λ t. cond t (prefix_len is_name_part ((b ∷ text) ++ rest)) 0) h.start)
+
 -- the first bytes are a name
 pub record BeginsName (n : ℕ) (bs : List ℕ) : Type 0 where
   pub within : n ≤ length bs

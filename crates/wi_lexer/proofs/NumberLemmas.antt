@@ -6,9 +6,9 @@ use Rattle.std.proofs.lemmas.Bool.Decides.{nat_tests}
 use Rattle.std.proofs.Math.Seq.{take-add, drop-append_seam}
 use Rattle.std.specs.Char.{is_ascii_digit}
 use Rattle.wi_lexer.specs.Runs.{digits_len, one_more}
-use Rattle.wi_lexer.specs.Number.{IsDecimal, IsExponent, unsigned, signed, IsNumber, plain, scaled, is_exponent_letter, is_sign, decimal_len, signed_len, exponent_len, number_len}
-use Rattle.wi_lexer.proofs.RunLemmas.{run_within, run_more, one_more_some, one_more_back, one_more_within}
-use Rattle.wi_lexer.proofs.DecimalLemmas.{digits_front, decimal_some, decimal_more, decimal_within, decimal_sound, decimal_exact}
+use Rattle.wi_lexer.specs.Number.{IsDecimal, IsExponent, unsigned, signed, IsNumber, plain, scaled, is_exponent_letter, is_sign, decimals_len, decimal_len, signed_len, exponent_len, number_len}
+use Rattle.wi_lexer.proofs.RunLemmas.{run_within, run_stops, run_more, one_more_some, one_more_back, one_more_within}
+use Rattle.wi_lexer.proofs.DecimalLemmas.{digits_front, decimal_some, decimal_more, decimal_within, decimal_sound, no_point, decimal_exact}
 
 -- ---- exponents
 
@@ -100,6 +100,19 @@ exponent_more text (signed e s ds letter sign run) rest =
     let found = letter_found e (s ∷ ds ++ rest) letter (omega (arith, digits)) in
     omega (arith, m, digits, found)
 
+-- an exponent is found whole where no digit follows
+exponent_exact : (text : List ℕ) → IsExponent text → (rest : List ℕ) → digits_len rest ≡ 0 → exponent_len (text ++ rest) ≡ length text
+exponent_exact text (unsigned e ds letter run) rest none =
+    let m = run_more is_ascii_digit ds rest run.all in
+    let digits = digits_found (ds ++ rest) (omega (arith, m, run.some)) in
+    let found = letter_found e (ds ++ rest) letter (omega (arith, m, run.some, digits)) in
+    omega (arith, m, digits, found, none)
+exponent_exact text (signed e s ds letter sign run) rest none =
+    let m = run_more is_ascii_digit ds rest run.all in
+    let digits = sign_found s (ds ++ rest) sign (omega (arith, m, run.some)) in
+    let found = letter_found e (s ∷ ds ++ rest) letter (omega (arith, digits)) in
+    omega (arith, m, digits, found, none)
+
 -- the letter and what follows it
 record HasLetter (text : List ℕ) : Type 0 where
   letter : ℕ
@@ -126,25 +139,40 @@ pub decimal_none : (bs : List ℕ) → decimal_len bs ≡ 0 → number_len bs �
 unfolding number_len
 decimal_none bs none = ap (λ n. cond (nat_lt 0 n) (n + exponent_len (drop n bs)) 0) none
 
-exact_more : (text exponent rest : List ℕ) → IsDecimal text → IsExponent exponent → decimal_len (text ++ (exponent ++ rest)) ≡ length text → length (text ++ exponent) ≤ number_len (text ++ (exponent ++ rest))
-exact_more text exponent rest h k exact =
+-- the decimal before an exponent, and the exponent
+scaled_len : (text exponent rest : List ℕ) → IsDecimal text → IsExponent exponent → number_len ((text ++ exponent) ++ rest) ≡ length text + exponent_len (exponent ++ rest)
+scaled_len text exponent rest h k =
     let bs = text ++ (exponent ++ rest) in
+    let begins = has_letter exponent k in
+    let tail : exponent ++ rest ≡ begins.letter ∷ (begins.after ++ rest) = ap (λ x. x ++ rest) begins.is in
+    let digits = ap digits_len tail ∙ run_stops is_ascii_digit begins.letter (begins.after ++ rest) (letter_no_digit begins.letter begins.test) in
+    let decimals = ap decimals_len tail ∙ no_point begins.letter (begins.after ++ rest) (letter_no_point begins.letter begins.test) in
+    let exact = decimal_exact text h (exponent ++ rest) digits decimals in
     let first = decimal_first bs (omega (arith, exact, decimal_some text h)) in
     let after : drop (decimal_len bs) bs ≡ exponent ++ rest = ap (λ i. drop i bs) exact ∙ drop-append_seam text (exponent ++ rest) in
-    omega (arith, first, exact, ap exponent_len after, exponent_more exponent k rest, length-append text exponent)
+    omega (arith, ap number_len (append_assoc text exponent rest), first, exact, ap exponent_len after)
 
 -- a number at the front is no longer than what is found there
 pub number_more : (text : List ℕ) → IsNumber text → (rest : List ℕ) → length text ≤ number_len (text ++ rest)
 number_more text (plain ds h) rest =
     let more = decimal_more ds h rest in
     omega (arith, more, decimal_first (ds ++ rest) (omega (arith, more, decimal_some ds h)))
-number_more text (scaled ds es h k) rest =
-    let begins = has_letter es k in
-    let tail : es ++ rest ≡ begins.letter ∷ (begins.after ++ rest) = ap (λ x. x ++ rest) begins.is in
-    let exact : decimal_len (ds ++ (es ++ rest)) ≡ length ds =
-    ap (λ x. decimal_len (ds ++ x)) tail
-    ∙ decimal_exact ds h begins.letter (begins.after ++ rest) (letter_no_digit begins.letter begins.test) (letter_no_point begins.letter begins.test) in
-    subst (λ t. length (ds ++ es) ≤ number_len t) (sym (append_assoc ds es rest)) (exact_more ds es rest h k exact)
+number_more text (scaled ds es h k) rest = omega (arith, scaled_len ds es rest h k, exponent_more es k rest, length-append ds es)
+
+-- What goes on with no number.
+pub record EndsNumber (rest : List ℕ) : Type 0 where
+  pub digits : digits_len rest ≡ 0
+  pub decimals : decimals_len rest ≡ 0
+  pub exponent : exponent_len rest ≡ 0
+
+-- a number is found whole where nothing goes on with it
+pub number_exact : (text : List ℕ) → IsNumber text → (rest : List ℕ) → EndsNumber rest → number_len (text ++ rest) ≡ length text
+number_exact text (plain ds h) rest stops =
+    let exact = decimal_exact ds h rest stops.digits stops.decimals in
+    let first = decimal_first (ds ++ rest) (omega (arith, exact, decimal_some ds h)) in
+    let after : drop (decimal_len (ds ++ rest)) (ds ++ rest) ≡ rest = ap (λ i. drop i (ds ++ rest)) exact ∙ drop-append_seam ds rest in
+    omega (arith, first, exact, ap exponent_len after, stops.exponent)
+number_exact text (scaled ds es h k) rest stops = omega (arith, scaled_len ds es rest h k, exponent_exact es k rest stops.digits, length-append ds es)
 
 -- the cases in which a number is found
 number_by : (P : ℕ → Type 0) (bs : List ℕ) → (decimal_len bs ≡ 0 → P 0) → (0 < decimal_len bs → P (decimal_len bs + exponent_len (drop (decimal_len bs) bs))) → P (number_len bs)

@@ -194,6 +194,34 @@ text_more text (of_content content) rest =
     let size = length-append (flat_map doubled content) (34 ∷ []) in
     omega (arith, more, size, one_more_some n (omega (arith, more, size)))
 
+-- a text is found whole where no quote follows
+inside_exact : (content rest : List ℕ) → quoted_len false rest ≡ 0 → quoted_len true (inside_of content ++ rest) ≡ length (inside_of content)
+unfolding quoted_len
+inside_exact [] rest none = omega (arith, none)
+inside_exact (b ∷ content) rest none = go (b == 34) refl (inside_exact content rest none)
+  where
+    later : List ℕ
+    later = flat_map doubled content
+
+    go : (t : Bool) → (b == 34) ≡ t → quoted_len true (inside_of content ++ rest) ≡ length (inside_of content) → quoted_len true (((cond t (34 ∷ 34 ∷ []) (b ∷ []) ++ later) ++ 34 ∷ []) ++ rest) ≡ length ((cond t (34 ∷ 34 ∷ []) (b ∷ []) ++ later) ++ 34 ∷ [])
+    go true e exact =
+        let n = quoted_len true (inside_of content ++ rest) in
+        let size = length-append later (34 ∷ []) in
+        omega (arith, exact, size, one_more_some n (omega (arith, exact, size)))
+    go false e exact =
+        let n = quoted_len true (inside_of content ++ rest) in
+        let size = length-append later (34 ∷ []) in
+        let step : quoted_len true (b ∷ inside_of content ++ rest) ≡ one_more n = ap (λ t. cond t (1 + quoted_len false (inside_of content ++ rest)) (one_more n)) e in
+        omega (arith, exact, size, step, one_more_some n (omega (arith, exact, size)))
+
+pub text_exact : (text : List ℕ) → IsText text → (rest : List ℕ) → text_len rest ≡ 0 → text_len (text ++ rest) ≡ length text
+unfolding quoted_len
+text_exact text (of_content content) rest none =
+    let n = quoted_len true (inside_of content ++ rest) in
+    let exact = inside_exact content rest none in
+    let size = length-append (flat_map doubled content) (34 ∷ []) in
+    omega (arith, exact, size, one_more_some n (omega (arith, exact, size)))
+
 quoted_within : (inside : Bool) (bs : List ℕ) → quoted_len inside bs ≤ length bs
 unfolding quoted_len
 quoted_within inside [] = omega arith

@@ -56,7 +56,7 @@ length_found k n later h = ap (λ o. option_or o later) (last_found k n h)
 length_passed : (k : Kind) (n : ℕ) (later : Option (Kind × ℕ)) → n ≡ 0 → option_or (of_length k n) later ≡ later
 length_passed k n later h = ap (λ i. option_or (of_length k i) later) h
 
-number_found : (bs : List ℕ) → 0 < number_len bs → token_at bs ≡ Some (Number, number_len bs)
+pub number_found : (bs : List ℕ) → 0 < number_len bs → token_at bs ≡ Some (Number, number_len bs)
 unfolding token_at
 number_found bs h = length_found Number (number_len bs) (from_mark bs) h
 
@@ -72,10 +72,10 @@ bracket_passed : (bs : List ℕ) → token_at (91 ∷ bs) ≡ from_reference (91
 unfolding number_len decimal_len decimals_len mark_at two_byte_mark one_byte_mark
 bracket_passed bs = mark_passed (91 ∷ bs) refl refl
 
-reference_found : (bs : List ℕ) → 0 < reference_len (91 ∷ bs) → token_at (91 ∷ bs) ≡ Some (Reference, reference_len (91 ∷ bs))
+pub reference_found : (bs : List ℕ) → 0 < reference_len (91 ∷ bs) → token_at (91 ∷ bs) ≡ Some (Reference, reference_len (91 ∷ bs))
 reference_found bs h = bracket_passed bs ∙ length_found Reference (reference_len (91 ∷ bs)) (from_rectangle (91 ∷ bs)) h
 
-rectangle_found : (bs : List ℕ) → reference_len (91 ∷ bs) ≡ 0 → 0 < rectangle_len (91 ∷ bs) → token_at (91 ∷ bs) ≡ Some (Rectangle, rectangle_len (91 ∷ bs))
+pub rectangle_found : (bs : List ℕ) → reference_len (91 ∷ bs) ≡ 0 → 0 < rectangle_len (91 ∷ bs) → token_at (91 ∷ bs) ≡ Some (Rectangle, rectangle_len (91 ∷ bs))
 rectangle_found bs none h =
     bracket_passed bs
     ∙ length_passed Reference (reference_len (91 ∷ bs)) (from_rectangle (91 ∷ bs)) none
@@ -87,14 +87,14 @@ brackets_passed bs other =
     length_passed Reference (reference_len bs) (from_rectangle bs) (no_reference bs other)
     ∙ length_passed Rectangle (rectangle_len bs) (from_name bs) (no_rectangle bs other)
 
-name_found : (b : ℕ) (bs : List ℕ) → is_name_start b ≡ true → 0 < name_len (b ∷ bs) → token_at (b ∷ bs) ≡ Some (Name, name_len (b ∷ bs))
+pub name_found : (b : ℕ) (bs : List ℕ) → is_name_start b ≡ true → 0 < name_len (b ∷ bs) → token_at (b ∷ bs) ≡ Some (Name, name_len (b ∷ bs))
 name_found b bs h some =
     mark_passed (b ∷ bs) (no_number b bs h) (no_mark (b ∷ bs) h)
     ∙ brackets_passed (b ∷ bs) (no_bracket b h)
     ∙ length_found Name (name_len (b ∷ bs)) (of_length Text (text_len (b ∷ bs))) some
 
 -- a text that begins with a quote is no other token
-text_found : (bs : List ℕ) → 0 < text_len (34 ∷ bs) → token_at (34 ∷ bs) ≡ Some (Text, text_len (34 ∷ bs))
+pub text_found : (bs : List ℕ) → 0 < text_len (34 ∷ bs) → token_at (34 ∷ bs) ≡ Some (Text, text_len (34 ∷ bs))
 unfolding number_len decimal_len decimals_len mark_at two_byte_mark one_byte_mark name_len
 text_found bs some =
     mark_passed (34 ∷ bs) refl refl
@@ -104,7 +104,7 @@ text_found bs some =
 
 -- ---- marks
 
-abbrev MarkFound : mark.Mark → List ℕ → Type 0
+abbrev pub MarkFound : mark.Mark → List ℕ → Type 0
 MarkFound m bs = token_at bs ≡ Some (Mark m, length (mark_text m))
 
 abbrev CoveredMark : mark.Mark → List ℕ → Type 0
@@ -118,7 +118,7 @@ longer_mark : (m n : mark.Mark) (rest : List ℕ) → MarkFound n (mark_text m +
 longer_mark m n rest found longer =
     record { kind = Mark n; len = length (mark_text n); found = found; longer = omega arith; same = λ e. absurd (omega arith) }
 
-mark_found : (bs : List ℕ) (m : mark.Mark) → number_len bs ≡ 0 → mark_at bs ≡ Some m → MarkFound m bs
+pub mark_found : (bs : List ℕ) (m : mark.Mark) → number_len bs ≡ 0 → mark_at bs ≡ Some m → MarkFound m bs
 mark_found bs m none h = number_passed bs none ∙ ap (λ o. option_or (mark_token o) (from_reference bs)) h
 
 covered_less : (rest : List ℕ) → CoveredMark Less rest
@@ -244,7 +244,7 @@ record Stands (k : Kind) (n : ℕ) (bs : List ℕ) : Type 0 where
   within : n ≤ length bs
   token : IsToken k (take n bs)
 
-abbrev found_token : Kind → ℕ → Option (Kind × ℕ)
+abbrev pub found_token : Kind → ℕ → Option (Kind × ℕ)
 found_token k n = Some (k, n)
 
 inside : (p q : Kind × ℕ) → Some p ≡ Some q → p ≡ q

@@ -10,3 +10,4 @@ pub mod Token
 pub mod Inside
 pub mod Scan
 pub mod Tokens
+pub mod Ends

@@ -1,12 +1,13 @@
 //! Laws of the tokens alone.
 
-ghost use Rattle.std.specs.Prelude.{◌≡◌, ◌↔◌, ℕ, ◌≤◌, List, length, take, Some, None};
+ghost use Rattle.std.specs.Prelude.{◌≡◌, ◌↔◌, ℕ, ◌≤◌, true, List, [], ◌∷◌, ◌++◌, length, take, Some, None};
 ghost use Rattle.wi_lexer.specs.Cell.{Cell, IsCell, cell_text, cell_of};
 ghost use Rattle.wi_lexer.specs.Reference.{reference_text, reference_of};
 ghost use Rattle.wi_lexer.specs.Rectangle.{rectangle_text, rectangle_of};
 ghost use Rattle.wi_lexer.specs.Text.{quoted, text_content};
-ghost use Rattle.wi_lexer.specs.Token.{token_at, IsLongest, NoToken};
-ghost use Rattle.wi_lexer.specs.Tokens.{Tokens, AreTokens, tokens};
+ghost use Rattle.wi_lexer.specs.Token.{IsToken, token_at, IsLongest, NoToken};
+ghost use Rattle.wi_lexer.specs.Tokens.{Tokens, AreTokens, then_tokens, tokens};
+ghost use Rattle.wi_lexer.specs.Ends.{ends};
 ghost use Rattle.wi_lexer.specs.declared.token.Kind.{Kind};
 
 /// What is found is the longest token.
@@ -27,6 +28,11 @@ pub fn no_token()
 /// What is found in a whole text are its tokens, and no others are.
 pub fn what_tokens_are()
     ensures { (text : List ℕ) (ts : Tokens) → AreTokens text ts ↔ (ts ≡ tokens text) }
+{}
+
+/// A token stays one where what follows doesn't go on with it.
+pub fn token_and_rest()
+    ensures { (k : Kind) (text rest : List ℕ) → IsToken k text → ends k rest ≡ true → tokens (text ++ rest) ≡ then_tokens ((k, text) ∷ []) (tokens rest) }
 {}
 
 /// A text in which a cell is found is the text of that cell.
