@@ -12,6 +12,11 @@ fn is_read_as(source: &str, texts: &[&str], is_bad: bool) -> bool {
             return false;
         }
     }
+    is_at_end(lexer, is_bad)
+}
+
+// Whether nothing is left but a bad token, or nothing at all.
+fn is_at_end(mut lexer: Lexer, is_bad: bool) -> bool {
     if is_bad {
         let Some(Err(BadToken)) = lexer.next_token() else {
             return false;
@@ -20,15 +25,28 @@ fn is_read_as(source: &str, texts: &[&str], is_bad: bool) -> bool {
     lexer.next_token().is_none() && lexer.next_token().is_none()
 }
 
+// Whether the tokens of the source have these kinds, texts and places, and end with a bad one or not.
+fn is_split_as(source: &str, tokens: &[(Kind, &str, usize)], is_bad: bool) -> bool {
+    let mut lexer = Lexer::new(source);
+    for (kind, text, start) in tokens {
+        let Some(Ok(token)) = lexer.next_token() else {
+            return false;
+        };
+        if token.kind != *kind || token.text != *text || token.start != *start {
+            return false;
+        }
+    }
+    is_at_end(lexer, is_bad)
+}
+
 #[test]
 fn splits_numbers(rt: HostRuntime) {
     assert!(rt; is_read_as("", &[], false));
     assert!(rt; is_read_as(" \t\r\n", &[], false));
     assert!(rt; is_read_as("007", &["007"], false));
     assert!(rt; is_read_as("1.50", &["1.50"], false));
-    assert!(rt; is_read_as(".5", &[".5"], false));
-    assert!(rt; is_read_as("1.", &["1"], true));
     assert!(rt; is_read_as(".", &[], true));
+    assert!(rt; is_read_as("..5", &[], true));
     assert!(rt; is_read_as(".5.5", &[".5", ".5"], false));
     assert!(rt; is_read_as("1..5", &["1"], true));
     assert!(rt; is_read_as("1.5.5.", &["1.5", ".5"], true));
@@ -40,8 +58,6 @@ fn splits_exponents(rt: HostRuntime) {
     for whole in ["1e5", "1E-5", "1.5e+07", ".5e-3", "0e99999999999"] {
         assert!(rt; is_read_as(whole, &[whole], false), "at {whole}");
     }
-    assert!(rt; is_read_as("1e", &["1", "e"], false));
-    assert!(rt; is_read_as("1e+", &["1", "e", "+"], false));
     assert!(rt; is_read_as("1e+-2", &["1", "e", "+", "-", "2"], false));
     assert!(rt; is_read_as("1e 5", &["1", "e", "5"], false));
     assert!(rt; is_read_as("1.e5", &["1"], true));
@@ -109,7 +125,6 @@ fn splits_formulas(rt: HostRuntime) {
     assert!(rt; is_read_as("MULTIPLE.OPERATIONS([.A1];a1)", &call, false));
     assert!(rt; is_read_as("_x.9 x;y", &["_x.9", "x", ";", "y"], false));
     assert!(rt; is_read_as("zé", &["z"], true));
-    assert!(rt; is_read_as("A1(", &["A1", "("], false));
     assert!(rt; is_read_as("<>=", &["<>", "="], false));
     assert!(rt; is_read_as("><", &[">", "<"], false));
     assert!(rt; is_read_as("<<=", &["<", "<="], false));
@@ -146,7 +161,7 @@ fn refuses_other_brackets(rt: HostRuntime) {
         "[.[A1]",
         "[.é1]",
         "[.A-1]",
-        "[.A1:A2]",
+        "[.A1:B2]",
         "[.A1:.A2:.A3]",
         "[.A1: .A2]",
         "[.A1 :.A2]",
@@ -158,6 +173,66 @@ fn refuses_other_brackets(rt: HostRuntime) {
     ] {
         assert!(rt; is_read_as(source, &[], true), "at {source}");
     }
+}
+
+#[test]
+fn tells_numbers_from_what_begins_alike(rt: HostRuntime) {
+    for whole in [".5", "1e5", "1E-3"] {
+        assert!(rt;
+            is_split_as(whole, &[(Kind::Number, whole, 0)], false),
+            "at {whole}"
+        );
+    }
+    let one = (Kind::Number, "1", 0);
+    let letter = (Kind::Name, "e", 1);
+    assert!(rt; is_split_as("1.", &[one], true));
+    assert!(rt; is_split_as("1e", &[one, letter], false));
+    assert!(rt;
+        is_split_as(
+            "1e+",
+            &[one, letter, (Kind::Mark(Mark::Plus), "+", 2)],
+            false
+        )
+    );
+    assert!(rt;
+        is_split_as(
+            "1.5.2",
+            &[(Kind::Number, "1.5", 0), (Kind::Number, ".2", 3)],
+            false
+        )
+    );
+}
+
+#[test]
+fn tells_marks_that_begin_alike(rt: HostRuntime) {
+    for (text, mark) in [
+        ("<>", Mark::NotEqual),
+        ("<=", Mark::LessOrEqual),
+        ("<", Mark::Less),
+        (">=", Mark::GreaterOrEqual),
+        (">", Mark::Greater),
+    ] {
+        assert!(rt;
+            is_split_as(text, &[(Kind::Mark(mark), text, 0)], false),
+            "at {text}"
+        );
+    }
+}
+
+#[test]
+fn tells_texts_cells_and_names(rt: HostRuntime) {
+    let quotes = "\"\"\"\"";
+    let cells = "[.A1:.B2]";
+    assert!(rt; is_split_as(quotes, &[(Kind::Text, quotes, 0)], false));
+    assert!(rt; is_split_as(cells, &[(Kind::Rectangle, cells, 0)], false));
+    let name = (Kind::Name, "A1", 0);
+    assert!(rt;
+        is_split_as(
+            "A1(",
+            &[name, (Kind::Mark(Mark::OpenParenthesis), "(", 2)],
+            false
+        )
+    );
 }
 
 #[test]
