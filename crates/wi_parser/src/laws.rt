@@ -1,6 +1,6 @@
 //! Laws of the grammar alone.
 
-ghost use Rattle.std.specs.Prelude.{◌≡◌, ◌↔◌, ℕ, ◌≤◌, pos, true, List, Some, Ok, suc};
+ghost use Rattle.std.specs.Prelude.{◌≡◌, ◌↔◌, ℕ, ◌≤◌, pos, true, List, length, Some, Ok, suc};
 ghost use Rattle.wi_parser.specs.Tree.{Tree};
 ghost use Rattle.wi_parser.specs.Symbol.{Symbol};
 ghost use Rattle.wi_parser.specs.Grammar.{Spells, loosest};
@@ -8,7 +8,9 @@ ghost use Rattle.wi_parser.specs.Nesting.{depth, deepest};
 ghost use Rattle.wi_parser.specs.Spelling.{spelling};
 ghost use Rattle.wi_parser.specs.Reader.{whole};
 ghost use Rattle.wi_parser.specs.FormulaText.{formula_symbols};
-ghost use Rattle.wi_parser.specs.Reading.{IsWithinLimits, parsed};
+ghost use Rattle.wi_parser.specs.Reading.{max_formula, IsWithinLimits, parsed};
+ghost use Rattle.wi_parser.specs.Printing.{printed};
+ghost use Rattle.wi_parser.specs.Writable.{IsFormulaTree};
 ghost use Rattle.wi_parser.specs.Shift.{in_sheet, all_references, shifted};
 
 /// What is read from symbols is spelled by them.
@@ -39,6 +41,16 @@ pub fn one_spelling()
 /// A text is read as a tree exactly where it spells the tree within the limits.
 pub fn what_a_text_is()
     ensures { (text : List ℕ) (t : Tree) → (parsed text ≡ Ok t) ↔ (IsWithinLimits text × Spells loosest t (formula_symbols text)) }
+{}
+
+/// The symbols of a formula as printed are those that spell its tree, however long its text is.
+pub fn printed_symbols()
+    ensures { (t : Tree) → IsFormulaTree t → formula_symbols (printed t) ≡ spelling t }
+{}
+
+/// A formula as printed is read as its tree, where its text is not too long.
+pub fn printed_reads_back()
+    ensures { (t : Tree) → IsFormulaTree t → length (printed t) ≤ max_formula → parsed (printed t) ≡ Ok t }
 {}
 
 /// A formula whose references are in the sheet stays as it is where it moves by nothing.

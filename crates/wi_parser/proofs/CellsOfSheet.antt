@@ -1,0 +1,105 @@
+-- The cell of a reference in the sheet is written with its column and row, which stand for its address.
+use Rattle.std.proofs.Common.{◌≡◌, ℕ, zero, suc, ◌+◌, ◌-◌, ◌*◌, ◌/◌, ◌%◌, ◌<◌, ◌^◌, Bool, true, false, ◌&&◌, nat_lt, List, [], ◌∷◌, ◌++◌, length, Option, Some, None, Ok, Err, ok_or, option_map, if◌then◌else◌, refl, sym, ap, ◌∙◌, arith, length-append}
+use Rattle.std.proofs.lemmas.Bool.Decides.{nat_tests}
+use Rattle.std.proofs.lemmas.Fmt.{decimal_is_IsNumeral, first_decimal}
+use Rattle.std.proofs.Math.Seq.{take-append_seam, drop-append_seam}
+use Rattle.std.specs.Char.{is_ascii_alphabetic, is_ascii_digit}
+use Rattle.std.specs.Fmt.{decimal}
+use Rattle.std.specs.List.{list_all, prefix_len}
+use Rattle.std.specs.Str.{all_ascii_digits}
+use Rattle.std.specs.Str.Parse.{IsNumeral}
+use Rattle.wi_fraction.proofs.Scanning.{own}
+use Rattle.wi_values.specs.Address.{columns, rows, row_of, column_of, letters_within, column_letters, address_text, is_row_number}
+use Rattle.wi_values.specs.AddressReading.{address_at, read_address}
+use Rattle.wi_values.specs.declared.address.AddressFault.TheVariants.{Shape, Outside}
+use Rattle.wi_values.proofs.Letters.{letters_at_most_none, letters_of_none, letters_more}
+use Rattle.wi_values.proofs.ReadsBack.{addresses_read_back}
+use Rattle.wi_lexer.specs.Runs.{IsRun}
+use Rattle.wi_lexer.specs.Cell.{IsCell}
+use Rattle.wi_lexer.proofs.RunLemmas.{both_are_true, run_stops, run_more, all_append}
+use Rattle.wi_parser.specs.declared.expr.Reference.{Reference}
+use Rattle.wi_parser.specs.Printing.{cell_named}
+use Rattle.wi_parser.specs.Shift.{in_sheet}
+use Rattle.wi_parser.specs.FormulaText.{reference_to}
+
+digits_same : (ds : List ℕ) → all_ascii_digits ds ≡ list_all is_ascii_digit ds
+digits_same [] = refl
+digits_same (d ∷ ds) = ap (λ b. is_ascii_digit d && b) (digits_same ds)
+
+pub digits_run : (ds : List ℕ) → IsNumeral 10 ds → IsRun is_ascii_digit ds
+digits_run ds h = record { some = h.0; all = sym (digits_same ds) ∙ own.from ds h.1 }
+
+-- ---- the column, and the row
+
+capital : (n : ℕ) → n < 26 → is_ascii_alphabetic (65 + n) ≡ true
+capital n h = grind (arith, nat_tests)
+
+letters_are : (k n : ℕ) → list_all is_ascii_alphabetic (letters_within k n) ≡ true
+letters_are zero n = ap (list_all is_ascii_alphabetic) (letters_at_most_none n)
+letters_are (suc k) zero = ap (list_all is_ascii_alphabetic) (letters_of_none (suc k))
+letters_are (suc k) (suc n) =
+    let left = (suc n - 1) / 26 in
+    let last = 65 + (suc n - 1) % 26 in
+    let fewer : suc k - 1 ≡ k = omega arith in
+    let front = ap (λ j. list_all is_ascii_alphabetic (letters_within j left)) fewer ∙ letters_are k left in
+    ap (list_all is_ascii_alphabetic) (letters_more (suc k) (suc n) (omega arith) (omega arith))
+    ∙ all_append is_ascii_alphabetic (letters_within (suc k - 1) left) (last ∷ []) front (ap (λ b. b && true) (capital ((suc n - 1) % 26) (omega arith)))
+
+column_is : (column : ℕ) → IsRun is_ascii_alphabetic (column_letters column)
+column_is column =
+    let left = letters_within 2 ((column + 1 - 1) / 26) in
+    let last = (65 + (column + 1 - 1) % 26) ∷ [] in
+    let long = ap length (letters_more 3 (column + 1) (omega arith) (omega arith)) in
+    record { some = omega (arith, long, length-append left last); all = letters_are 3 (column + 1) }
+
+short : (row : ℕ) → row < rows → row + 1 < 2 ^ 64
+short row h = omega arith
+
+row_is : (row : ℕ) → row < rows → IsRun is_ascii_digit (decimal (row + 1))
+row_is row h = digits_run (decimal (row + 1)) (decimal_is_IsNumeral (row + 1) (short row h)).0
+
+-- ---- the cell
+
+inside : (r : Reference) → in_sheet r ≡ true → r.at < rows * columns
+inside r e = grind (arith, nat_tests)
+
+row_inside : (a : ℕ) → a < rows * columns → row_of a < rows
+row_inside a h = omega arith
+
+pub cell_is : (r : Reference) → in_sheet r ≡ true → IsCell (cell_named r)
+cell_is r e =
+    let row = row_inside r.at (inside r e) in
+    record {
+      letters = column_is (column_of r.at);
+      digits = row_is (row_of r.at) row;
+      first = first_decimal (row_of r.at + 1) (omega arith) (short (row_of r.at) row);
+    }
+
+no_letters : (ds : List ℕ) → IsRun is_ascii_digit ds → prefix_len is_ascii_alphabetic ds ≡ 0
+no_letters [] run = refl
+no_letters (d ∷ ds) run =
+    let first = (both_are_true (is_ascii_digit d) (list_all is_ascii_digit ds) run.all).0 in
+    let other : is_ascii_alphabetic d ≡ false = grind (arith, nat_tests, first) in
+    run_stops is_ascii_alphabetic d ds other
+
+-- an address that was read was there
+was_there : (b : Bool) (o : Option ℕ) (a : ℕ) → (if b then ok_or o Outside else Err Shape) ≡ Ok a → o ≡ Some a
+was_there true None a h = cc
+was_there true (Some b) a h = cc
+was_there false o a h = cc
+
+-- an address that is read from letters and digits is the one of that column and row
+read_parts : (ls ds : List ℕ) (a : ℕ) → IsRun is_ascii_alphabetic ls → IsRun is_ascii_digit ds → read_address (ls ++ ds) ≡ Ok a → address_at ls ds ≡ Some a
+unfolding read_address
+read_parts ls ds a h i e =
+    let len : prefix_len is_ascii_alphabetic (ls ++ ds) ≡ length ls = omega (arith, run_more is_ascii_alphabetic ls ds h.all, no_letters ds i) in
+    was_there (nat_lt 0 (length ls) && is_row_number ds) (address_at ls ds) a (rw (len, take-append_seam ls ds, drop-append_seam ls ds) at e)
+
+address_there : (a : ℕ) → a < rows * columns → address_at (column_letters (column_of a)) (decimal (row_of a + 1)) ≡ Some a
+unfolding address_text
+address_there a h = read_parts (column_letters (column_of a)) (decimal (row_of a + 1)) a (column_is (column_of a)) (row_is (row_of a) (row_inside a h)) (addresses_read_back a h)
+
+-- the cell as it is written means the reference
+pub cell_means : (r : Reference) → in_sheet r ≡ true → reference_to (cell_named r) ≡ Some r
+cell_means r e =
+    ap (option_map (λ a. record { at = a; column_is_absolute = r.column_is_absolute; row_is_absolute = r.row_is_absolute })) (address_there r.at (inside r e))
