@@ -3,9 +3,9 @@ use Rattle.std.specs.Prelude.{◌≡◌}
 use Rattle.wi_parser.specs.declared.formula.Formula.TheInside.{Inside}
 use Rattle.wi_parser.specs.View.{tree_of}
 use Rattle.wi_parser.specs.Reads.{inputs_of}
-use Rattle.wi_parser.specs.Spelling.{IsSpelled}
+use Rattle.wi_parser.specs.Writable.{IsFormulaTree}
 
--- its tree is spelled, and its inputs stand beside it
+-- its tree is one that a text can have, and its inputs stand beside it
 pub record IsFormula (f : Inside) : Type 0 where
-  pub spelled : IsSpelled (tree_of f.expr)
+  pub tree : IsFormulaTree (tree_of f.expr)
   pub inputs : f.inputs.items ≡ inputs_of (tree_of f.expr)

@@ -3,7 +3,7 @@
 ghost use Rattle.std.specs.Prelude.{◌≡◌, ◌++◌, map, IfOk};
 ghost use Rattle.wi_parser.specs.View.{tree_of, all_of, pair_of};
 ghost use Rattle.wi_parser.specs.Reads.{inputs_of, all_inputs_of};
-ghost use Rattle.wi_parser.specs.Spelling.{IsSpelled};
+ghost use Rattle.wi_parser.specs.Writable.{IsFormulaTree};
 ghost use Rattle.wi_parser.specs.Shift.{shifted, ShiftsTo};
 
 use crate::expr::{Expr, Pair};
@@ -12,7 +12,7 @@ use std::alloc::{AllocError, Global};
 use std::marker::Model;
 use wi_values::Address;
 
-/// A formula, seen as its tree, which some text spells.
+/// A formula, seen as its tree, which is one that a text can have.
 #[derive(Debug, Drop)]
 pub struct Formula {
     expr: Expr,
@@ -38,9 +38,9 @@ impl Model for Formula {
 }
 
 impl Formula {
-    /// The formula of a tree that is spelled.
+    /// The formula of a tree that a text can have.
     pub(crate) fn new(alloc: Global, expr: Expr) -> Result<Formula, AllocError>
-        requires { IsSpelled (tree_of expr) }
+        requires { IsFormulaTree (tree_of expr) }
         ensures { IfOk result (λ f. f ≡ tree_of expr) }
     {
         let mut inputs = Vec::new(alloc);
@@ -74,7 +74,6 @@ impl Formula {
     /// The formula for a cell so many rows below and columns to the right of the one that has it: the relative parts
     /// of its references move as far, those of its what-ifs too, and the absolute parts stay. It leaves the sheet where a
     /// relative part of any reference does.
-    #[tactic(auto, using(crate::proofs::Shifts::still_spelled))]
     pub fn shift(&self, alloc: Global, rows: i64, columns: i64) -> Result<Formula, ShiftFault>
         ensures { ShiftsTo (shifted rows columns self.now) result }
     {

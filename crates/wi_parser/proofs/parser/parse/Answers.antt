@@ -3,8 +3,7 @@ use Rattle.std.proofs.lemmas.Result.{err_from_is_err_and}
 use Rattle.wi_parser.specs.declared.fault.ParseFault.TheVariants.{Syntax}
 use Rattle.wi_parser.specs.Words.{all_meant}
 use Rattle.wi_parser.specs.Reading.{refusal_of}
-use Rattle.wi_parser.proofs.OneSpelling.{is_spelled}
-use Rattle.wi_parser.proofs.Sound.{whole_sound}
+use Rattle.wi_parser.proofs.FormulaTrees.{read_tree}
 use Rattle.wi_parser.proofs.Parses.{parsed_long, parsed_refused, parsed_whole, reads_as, reads_fault, reads_spelled, reads_only}
 use Rattle.wi_parser.proofs.parser.parse.Goals as goal
 
@@ -31,7 +30,12 @@ pub returns-in_err-expr-clause-only : goal.returns-in_err-expr-clause-only
 returns-in_err-expr-clause-only c = reads_only c.args.text.now c.from_residual-in_err-expr.result (returns-in_err-expr-clause-parsed c)
 
 pub new-requires : goal.new-requires
-new-requires c = is_spelled _ _ (whole_sound _ _ _ c.in_ok-expr.ensures)
+new-requires c =
+    let meant = ap all_meant c.deref.ensures.value ∙ c.in_ok-words.ensures in
+    let meant_again = ap all_meant c.deref-2.ensures.value ∙ c.in_ok-words.ensures in
+    let none = ap refusal_of (meant_again ∙ sym meant) ∙ sym c.refusal_of.ensures ∙ c.in_default.is in
+    read_tree c.args.text.now _
+    (parsed_whole c.args.text.now _ c.if-text-gt-MAX_FORMULA.false meant_again none ∙ ap (λ found. ok_or found Syntax) c.in_ok-expr.ensures)
 
 pub returns-clause-parsed : goal.returns-clause-parsed
 returns-clause-parsed c =
