@@ -1,5 +1,5 @@
 -- Which cells a formula reads, and which it only names.
-use Rattle.std.specs.Prelude.{◌==◌, ℕ, Bool, false, ◌||◌, List, [], ◌++◌, map, Option, Some, None}
+use Rattle.std.specs.Prelude.{◌==◌, ℕ, Bool, false, ◌||◌, List, [], ◌∷◌, ◌++◌, map, Option, Some, None}
 use Rattle.std.specs.List.{list_any}
 use Rattle.wi_values.specs.Address.{Area, rect_of, is_within}
 use Rattle.wi_parser.specs.declared.expr.Corners.{Corners}
@@ -48,6 +48,28 @@ abbrev mutual
   pub all_inputs_of : Trees → List ℕ
   all_inputs_of no_trees = []
   all_inputs_of (more_trees t ts) = inputs_of t ++ all_inputs_of ts
+
+-- the rectangle of one cell
+abbrev pub cell_area : ℕ → Area
+cell_area a = rect_of a a
+
+abbrev mutual
+  -- the rectangles that a tree reads, from the left; a single cell is the rectangle of that cell
+  pub rectangles_of : Tree → List Area
+  rectangles_of (number x) = []
+  rectangles_of (text s) = []
+  rectangles_of (cell r) = cell_area r.at ∷ []
+  rectangles_of (rectangle c) = area_of c ∷ []
+  rectangles_of (parenthesized t) = rectangles_of t
+  rectangles_of (signed s t) = rectangles_of t
+  rectangles_of (percent t) = rectangles_of t
+  rectangles_of (binary op t u) = rectangles_of t ++ rectangles_of u
+  rectangles_of (what_if f pairs) = cell_area f.at ∷ map (λ p. cell_area p.1.at) pairs
+  rectangles_of (call f ts) = all_rectangles_of ts
+
+  pub all_rectangles_of : Trees → List Area
+  all_rectangles_of no_trees = []
+  all_rectangles_of (more_trees t ts) = rectangles_of t ++ all_rectangles_of ts
 
 -- what stands in a cell reads this cell
 abbrev pub content_reads : Option Content → ℕ → Bool

@@ -2,7 +2,7 @@
 
 ghost use Rattle.std.specs.Prelude.{◌≡◌, ◌++◌, map, IfOk};
 ghost use Rattle.wi_parser.specs.View.{tree_of, all_of, pair_of};
-ghost use Rattle.wi_parser.specs.Reads.{inputs_of, all_inputs_of};
+ghost use Rattle.wi_parser.specs.Reads.{inputs_of, all_inputs_of, cell_area, rectangles_of, all_rectangles_of};
 ghost use Rattle.wi_parser.specs.Writable.{IsFormulaTree};
 ghost use Rattle.wi_parser.specs.Shift.{shifted, ShiftsTo};
 
@@ -10,7 +10,7 @@ use crate::expr::{Expr, Pair};
 use crate::shift::{self, ShiftFault};
 use std::alloc::{AllocError, Global};
 use std::marker::Model;
-use wi_values::Address;
+use wi_values::{Address, Rect};
 
 /// A formula, seen as its tree, which is one that a text can have.
 #[derive(Debug, Drop)]
@@ -18,6 +18,8 @@ pub struct Formula {
     expr: Expr,
     /// The inputs of its what-ifs.
     inputs: Vec<Address>,
+    /// The rectangles that it reads.
+    rectangles: Vec<Rect>,
 }
 
 impl Model for Formula {
@@ -45,7 +47,13 @@ impl Formula {
     {
         let mut inputs = Vec::new(alloc);
         push_inputs(&expr, &mut inputs)?;
-        Ok(Formula { expr, inputs })
+        let mut rectangles = Vec::new(alloc);
+        push_rectangles(&expr, &mut rectangles)?;
+        Ok(Formula {
+            expr,
+            inputs,
+            rectangles,
+        })
     }
 
     /// Its tree.
@@ -62,13 +70,25 @@ impl Formula {
         &self.inputs
     }
 
+    /// The rectangles that it reads, from the left: that of each cell and each rectangle that it names, but for the inputs.
+    pub fn rectangles(&self) -> &[Rect]
+        ensures { result.now ≡ rectangles_of self.now }
+    {
+        &self.rectangles
+    }
+
     /// The same formula once more.
     pub fn copy(&self, alloc: Global) -> Result<Formula, AllocError>
         ensures { IfOk result (λ f. f ≡ self.now) }
     {
         let expr = self.expr.copy(alloc)?;
         let inputs = Vec::from_slice(alloc, &self.inputs)?;
-        Ok(Formula { expr, inputs })
+        let rectangles = Vec::from_slice(alloc, &self.rectangles)?;
+        Ok(Formula {
+            expr,
+            inputs,
+            rectangles,
+        })
     }
 
     /// The formula for a cell so many rows below and columns to the right of the one that has it: the relative parts
@@ -124,6 +144,65 @@ fn push_inputs_of(pairs: &[Pair], inputs: &mut Vec<Address>) -> Result<(), Alloc
 {
     for pair in pairs {
         inputs.push(pair.input.at)?;
+    }
+    Ok(())
+}
+
+// The rectangle of one cell.
+fn cell_area(at: Address) -> Rect
+    ensures { result ≡ cell_area at }
+{
+    Rect::new(at, at)
+}
+
+// Appends the rectangles that a tree reads.
+#[cycle(rectangles)]
+fn push_rectangles(expr: &Expr, rectangles: &mut Vec<Rect>) -> Result<(), AllocError>
+    ensures { IfOk result (λ _. rectangles.new.items ≡ rectangles.old.items ++ rectangles_of (tree_of expr.now)) }
+{
+    match expr {
+        Expr::Number(_) => Ok(()),
+        Expr::Text(_) => Ok(()),
+        Expr::Cell(reference) => {
+            rectangles.push(cell_area(reference.at))?;
+            Ok(())
+        }
+        Expr::Rectangle(corners) => {
+            rectangles.push(corners.area())?;
+            Ok(())
+        }
+        Expr::Parenthesized(inner) => push_rectangles(inner, rectangles),
+        Expr::Signed(_, operand) => push_rectangles(operand, rectangles),
+        Expr::Percent(operand) => push_rectangles(operand, rectangles),
+        Expr::Binary(_, left, right) => {
+            push_rectangles(left, rectangles)?;
+            push_rectangles(right, rectangles)
+        }
+        Expr::WhatIf(formula_cell, pairs) => {
+            rectangles.push(cell_area(formula_cell.at))?;
+            push_replacing(pairs, rectangles)
+        }
+        Expr::Call(_, parameters) => push_all_rectangles(parameters, rectangles),
+    }
+}
+
+// Appends the rectangles that trees read.
+#[cycle(rectangles)]
+fn push_all_rectangles(trees: &[Expr], rectangles: &mut Vec<Rect>) -> Result<(), AllocError>
+    ensures { IfOk result (λ _. rectangles.new.items ≡ rectangles.old.items ++ all_rectangles_of (all_of trees.now)) }
+{
+    for tree in trees {
+        push_rectangles(tree, rectangles)?;
+    }
+    Ok(())
+}
+
+// Appends the rectangles of the replacement cells of pairs.
+fn push_replacing(pairs: &[Pair], rectangles: &mut Vec<Rect>) -> Result<(), AllocError>
+    ensures { IfOk result (λ _. rectangles.new.items ≡ rectangles.old.items ++ map (λ p. cell_area p.1.at) (map pair_of pairs.now)) }
+{
+    for pair in pairs {
+        rectangles.push(cell_area(pair.by.at))?;
     }
     Ok(())
 }

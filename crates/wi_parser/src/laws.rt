@@ -1,6 +1,8 @@
 //! Laws of the grammar alone.
 
 ghost use Rattle.std.specs.Prelude.{◌≡◌, ◌↔◌, ℕ, ◌≤◌, pos, true, List, length, Some, Ok, suc};
+ghost use Rattle.std.specs.List.{list_any};
+ghost use Rattle.wi_values.specs.Address.{is_within};
 ghost use Rattle.wi_parser.specs.Tree.{Tree};
 ghost use Rattle.wi_parser.specs.Symbol.{Symbol};
 ghost use Rattle.wi_parser.specs.Grammar.{Spells, loosest};
@@ -11,6 +13,7 @@ ghost use Rattle.wi_parser.specs.FormulaText.{formula_symbols};
 ghost use Rattle.wi_parser.specs.Reading.{max_formula, IsWithinLimits, parsed};
 ghost use Rattle.wi_parser.specs.Printing.{printed};
 ghost use Rattle.wi_parser.specs.Writable.{IsFormulaTree};
+ghost use Rattle.wi_parser.specs.Reads.{reads, rectangles_of};
 ghost use Rattle.wi_parser.specs.Shift.{in_sheet, all_references, shifted};
 
 /// What is read from symbols is spelled by them.
@@ -56,4 +59,9 @@ pub fn printed_reads_back()
 /// A formula whose references are in the sheet stays as it is where it moves by nothing.
 pub fn shifted_by_nothing()
     ensures { (t : Tree) → all_references in_sheet t ≡ true → shifted (pos 0) (pos 0) t ≡ Some t }
+{}
+
+/// A tree reads exactly the cells of its rectangles.
+pub fn what_is_in_its_rectangles()
+    ensures { (t : Tree) (a : ℕ) → reads t a ≡ list_any (λ r. is_within r a) (rectangles_of t) }
 {}

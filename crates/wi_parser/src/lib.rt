@@ -13,6 +13,8 @@ mod parser;
 mod print;
 #[cfg(test)]
 mod print_tests;
+#[cfg(test)]
+mod rectangle_tests;
 mod shift;
 #[cfg(test)]
 mod shift_tests;
