@@ -1,21 +1,25 @@
 -- Which trees are a formula's.
-use Rattle.std.proofs.Common.{◌≡◌, ℕ, suc, ◌-◌, ◌*◌, ◌<◌, ◌≤◌, max, pos, negsuc, ℤ, ◌+ℤ◌, Bool, true, false, nat_lt, List, [], ◌∷◌, ◌++◌, map, All, Some, None, unwrap_or, Ok, refl, sym, ap, ap₂, ◌∙◌, subst, arith, if◌then◌else◌}
+use Rattle.std.proofs.Common.{◌≡◌, ℕ, suc, ◌-◌, ◌*◌, ◌<◌, ◌≤◌, max, pos, negsuc, ℤ, ◌+ℤ◌, Bool, true, false, nat_lt, List, [], ◌∷◌, ◌++◌, length, map, All, Some, None, unwrap_or, Ok, refl, sym, ap, ap₂, ◌∙◌, subst, arith, if◌then◌else◌}
 use Rattle.std.specs.List.{flat_map}
 use Rattle.std.proofs.lemmas.Bool.Decides.{nat_tests}
 use Rattle.std.proofs.lemmas.List.Elements.{All-map, All-weaker}
 use Rattle.wi_values.specs.Address.{columns, rows, place, row_of, column_of}
+use Rattle.wi_parser.specs.declared.expr.Expr.{Expr}
 use Rattle.wi_parser.specs.declared.expr.Reference.{Reference}
 use Rattle.wi_parser.specs.FormulaText.{formula_symbols}
-use Rattle.wi_parser.specs.Grammar.{pair_symbols}
+use Rattle.wi_parser.specs.Grammar.{loosest, Spells, pair_symbols}
 use Rattle.wi_parser.specs.Nesting.{deepest, most_signs, max_depth, is_sign}
-use Rattle.wi_parser.specs.Reading.{parsed}
+use Rattle.wi_parser.specs.Printing.{printed}
+use Rattle.wi_parser.specs.Reading.{max_formula, parsed}
 use Rattle.wi_parser.specs.Shift.{within, part, row_moved, column_moved, moved, in_sheet, map_references, map_references_in}
 use Rattle.wi_parser.specs.Spelling.{spelling, spelling_of_all, spelling_of_more}
 use Rattle.wi_parser.specs.Symbol.{Symbol, reference, corners, open_parenthesis, close_parenthesis, separator, infix_mark, sign_mark, percent_mark, what_if_name, name}
 use Rattle.wi_parser.specs.Tree.{Tree, Trees, number, text, cell, rectangle, parenthesized, signed, percent, binary, what_if, call, no_trees, more_trees}
+use Rattle.wi_parser.specs.View.{tree_of}
 use Rattle.wi_parser.specs.Writable.{IsWritable, IsFormulaTree}
 use Rattle.wi_parser.proofs.OneSpelling.{spelled, is_spelled}
 use Rattle.wi_parser.proofs.Parses.{parsed_exactly}
+use Rattle.wi_parser.proofs.ReadsBack.{printed_symbols, printed_reads_back}
 use Rattle.wi_parser.proofs.Shifts.{still_spelled}
 use Rattle.wi_parser.proofs.TextSymbols.{text_writable}
 
@@ -142,3 +146,14 @@ moved_in_sheet down right r h =
 
 pub moved_tree : (down right : ℤ) (t : Tree) → IsFormulaTree t → IsFormulaTree (map_references (moved down right) t)
 moved_tree down right = with_references (moved down right) (moved_in_sheet down right)
+
+-- ---- what is printed
+
+-- the tree of a formula is told by its view
+pub printed_spells : (e : Expr) (t : Tree) → tree_of e ≡ t → IsFormulaTree (tree_of e) → Spells loosest t (formula_symbols (printed t))
+printed_spells e t is h =
+    let tree = subst IsFormulaTree is h in
+    subst (Spells loosest t) (sym (printed_symbols t tree)) tree.spelled
+
+pub printed_again : (e : Expr) (t : Tree) → tree_of e ≡ t → IsFormulaTree (tree_of e) → length (printed t) ≤ max_formula → parsed (printed t) ≡ Ok t
+printed_again e t is h = printed_reads_back t (subst IsFormulaTree is h)

@@ -1,12 +1,17 @@
 //! A formula.
 
-ghost use Rattle.std.specs.Prelude.{◌≡◌, ◌++◌, map, IfOk};
+ghost use Rattle.std.specs.Prelude.{◌≡◌, ◌≤◌, ◌++◌, map, length, Ok, IfOk, OnOk, OnErr, string_bytes};
 ghost use Rattle.wi_parser.specs.View.{tree_of, all_of, pair_of};
 ghost use Rattle.wi_parser.specs.Reads.{inputs_of, all_inputs_of, cell_area, rectangles_of, all_rectangles_of};
 ghost use Rattle.wi_parser.specs.Writable.{IsFormulaTree};
 ghost use Rattle.wi_parser.specs.Shift.{shifted, ShiftsTo};
+ghost use Rattle.wi_parser.specs.Printing.{printed};
+ghost use Rattle.wi_parser.specs.Grammar.{Spells, loosest};
+ghost use Rattle.wi_parser.specs.FormulaText.{formula_symbols};
+ghost use Rattle.wi_parser.specs.Reading.{max_formula, parsed};
 
 use crate::expr::{Expr, Pair};
+use crate::print;
 use crate::shift::{self, ShiftFault};
 use std::alloc::{AllocError, Global};
 use std::marker::Model;
@@ -102,6 +107,26 @@ impl Formula {
         }
         let expr = shift::shifted(alloc, &self.expr, rows, columns)?;
         Ok(Formula::new(alloc, expr)?)
+    }
+
+    /// Appends the formula's text: `=` and its tokens without white space, names and columns in capitals, parentheses
+    /// and `$` as written, numbers as decimals. It can be longer than a formula's text may be. On an error the text is
+    /// as before.
+    #[tactic(auto, using(crate::proofs::FormulaTrees::printed_spells, crate::proofs::FormulaTrees::printed_again))]
+    pub fn print(&self, out: &mut String) -> Result<(), AllocError>
+        ensures ok { OnOk result (string_bytes out.new ≡ string_bytes out.old ++ printed self.now) }
+        ensures err { OnErr result (string_bytes out.new ≡ string_bytes out.old) }
+        // what is printed spells the formula
+        ensures spells { Spells loosest self.now (formula_symbols (printed self.now)) }
+        // and is read as it, where it isn't too long
+        ensures again { length (printed self.now) ≤ max_formula → parsed (printed self.now) ≡ Ok self.now }
+    {
+        let before = out.as_str().len();
+        let pushed = print::push_formula(&self.expr, out);
+        if pushed.is_err() {
+            out.truncate(before);
+        }
+        pushed
     }
 }
 

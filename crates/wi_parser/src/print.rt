@@ -17,30 +17,12 @@ ghost use Rattle.wi_parser.specs.Spelling.{spelling_of_all};
 ghost use Rattle.wi_parser.specs.PrintedParts.{pairs_text};
 
 use crate::expr::{Corners, Expr, Operator, Pair, Reference, Sign};
-use crate::formula::Formula;
 use std::alloc::AllocError;
 use wi_fraction::Fraction;
 
-impl Formula {
-    /// Appends the formula's text: `=` and its tokens without white space, names and columns in capitals, parentheses
-    /// and `$` as written, numbers as decimals. It can be longer than a formula's text may be. On an error the text is
-    /// as before.
-    pub fn print(&self, out: &mut String) -> Result<(), AllocError>
-        ensures ok { OnOk result (string_bytes out.new ≡ string_bytes out.old ++ printed self.now) }
-        ensures err { OnErr result (string_bytes out.new ≡ string_bytes out.old) }
-    {
-        let before = out.as_str().len();
-        let pushed = push_formula(self.tree(), out);
-        if pushed.is_err() {
-            out.truncate(before);
-        }
-        pushed
-    }
-}
-
-// Appends the text of a formula with this tree. On an error a part of it may be there.
+/// Appends the text of a formula with this tree. On an error a part of it may be there.
 #[tactic(auto, using(crate::proofs::PrintLemmas::starts_trans))]
-fn push_formula(expr: &Expr, out: &mut String) -> Result<(), AllocError>
+pub fn push_formula(expr: &Expr, out: &mut String) -> Result<(), AllocError>
     ensures ok { OnOk result (string_bytes out.new ≡ string_bytes out.old ++ printed (tree_of expr.now)) }
     ensures kept { StartsWith (string_bytes out.new) (string_bytes out.old) }
 {
