@@ -1,27 +1,19 @@
 -- The cells that a formula reads, as a list.
-use Rattle.std.proofs.Common.{◌≡◌, ◌==◌, ℕ, ◌||◌, ◌&&◌, Bool, true, false, cond, List, [], ◌∷◌, ◌++◌, map, filter, Some, refl, ap, sym, ◌∙◌, inl, inr, ◌⊎◌}
-use Rattle.std.proofs.lemmas.Bool.{false_from_ne_true, and_parts, or_cases, or_left, or_right}
+use Rattle.std.proofs.Common.{◌≡◌, ◌==◌, ℕ, ◌||◌, ◌&&◌, Bool, true, false, cond, List, [], ◌∷◌, filter, Some, refl, ap, sym, ◌∙◌}
+use Rattle.std.proofs.lemmas.Bool.{false_from_ne_true, and_parts}
 use Rattle.std.proofs.lemmas.List.Folds.{list_any-append}
 use Rattle.std.specs.List.{list_any}
-use Rattle.wi_values.specs.Address.{is_within}
-use Rattle.wi_parser.specs.declared.expr.Reference.{Reference}
+use Rattle.wi_values.specs.Address.{Area, is_within}
 use Rattle.wi_parser.specs.declared.content.Content.TheVariants.{Formula}
-use Rattle.wi_parser.specs.Tree.{Tree, Trees, number, text, cell, rectangle, parenthesized, signed, percent, binary, what_if, call, no_trees, more_trees}
+use Rattle.wi_parser.specs.Tree.{Tree}
 use Rattle.wi_parser.specs.Sheet.{Sheet, content_of, has_formula, cells_with_formula}
-use Rattle.wi_parser.specs.Reads.{area_of, reads, any_reads, content_reads}
+use Rattle.wi_parser.specs.Reads.{reads, content_reads, rectangles_of}
+use Rattle.wi_parser.proofs.Rectangles.{reads_within}
 use Rattle.wi_propagate.specs.Circular.{circular}
-use Rattle.wi_propagate.specs.ReadCells.{read_cells, all_read_cells}
+use Rattle.wi_propagate.specs.ReadCells.{formulas_within, read_cells}
 use Rattle.wi_propagate.proofs.Layers.{is_one_of}
 use Rattle.wi_propagate.proofs.Walks.{same_cell, found, formula_cell, circular_walks}
 use Rattle.wi_propagate.proofs.Graphs.{stripped}
-
-or_false : (b : Bool) → (b || false) ≡ b
-or_false true = refl
-or_false false = refl
-
-replacing : (ps : List (Reference × Reference)) (a : ℕ) → is_one_of (map (λ (p : Reference × Reference). p.1.at) ps) a ≡ list_any (λ (p : Reference × Reference). p.1.at == a) ps
-replacing [] a = refl
-replacing (p ∷ ps) a = ap (λ (b : Bool). (p.1.at == a) || b) (replacing ps a)
 
 and_true : (b : Bool) → (b && true) ≡ b
 and_true true = refl
@@ -46,56 +38,31 @@ in_filter p (x ∷ xs) a = by (p x) (x == a) refl refl (in_filter p xs a)
         ih ∙ ap (λ (c : Bool). c && is_one_of xs a) no ∙ sym (ap (λ (c : Bool). c && true) no)
     by false false e f ih = ih
 
-mutual
-  -- of the cells with a formula, exactly those are in the list that the tree reads
-  formula_listed : (s : Sheet) (t : Tree) (a : ℕ) → has_formula (content_of s a) ≡ true → is_one_of (read_cells s t) a ≡ reads t a
-  formula_listed s (number x) a h = refl
-  formula_listed s (text x) a h = refl
-  formula_listed s (cell r) a h = or_false (r.at == a)
-  formula_listed s (rectangle c) a h =
-      in_filter (is_within (area_of c)) (cells_with_formula s) a ∙ ap (λ (b : Bool). is_within (area_of c) a && b) (formula_cell s a h) ∙ and_true (is_within (area_of c) a)
-  formula_listed s (parenthesized t) a h = formula_listed s t a h
-  formula_listed s (signed x t) a h = formula_listed s t a h
-  formula_listed s (percent t) a h = formula_listed s t a h
-  formula_listed s (binary op t u) a h =
-      list_any-append (λ (x : ℕ). x == a) (read_cells s t) (read_cells s u)
-      ∙ ap (λ (b : Bool). b || is_one_of (read_cells s u) a) (formula_listed s t a h) ∙ ap (λ (b : Bool). reads t a || b) (formula_listed s u a h)
-  formula_listed s (what_if f ps) a h = ap (λ (b : Bool). (f.at == a) || b) (replacing ps a)
-  formula_listed s (call f ts) a h = all_formulas_listed s ts a h
+shared : (x y m : Bool) → ((x && m) || (y && m)) ≡ ((x || y) && m)
+shared true y true = refl
+shared true true false = refl
+shared true false false = refl
+shared false y m = refl
 
-  all_formulas_listed : (s : Sheet) (ts : Trees) (a : ℕ) → has_formula (content_of s a) ≡ true → is_one_of (all_read_cells s ts) a ≡ any_reads ts a
-  all_formulas_listed s no_trees a h = refl
-  all_formulas_listed s (more_trees t ts) a h =
-      list_any-append (λ (x : ℕ). x == a) (read_cells s t) (all_read_cells s ts)
-      ∙ ap (λ (b : Bool). b || is_one_of (all_read_cells s ts) a) (formula_listed s t a h) ∙ ap (λ (b : Bool). reads t a || b) (all_formulas_listed s ts a h)
+-- the cells listed of rectangles are those in one of them that have a formula
+in_rectangles : (s : Sheet) (rs : List Area) (a : ℕ) → is_one_of (formulas_within s rs) a ≡ (list_any (λ (r : Area). is_within r a) rs && is_one_of (cells_with_formula s) a)
+in_rectangles s [] a = refl
+in_rectangles s (r ∷ rs) a =
+    list_any-append (λ (x : ℕ). x == a) (filter (is_within r) (cells_with_formula s)) (formulas_within s rs)
+    ∙ ap (λ (b : Bool). b || is_one_of (formulas_within s rs) a) (in_filter (is_within r) (cells_with_formula s) a)
+    ∙ ap (λ (b : Bool). (is_within r a && is_one_of (cells_with_formula s) a) || b) (in_rectangles s rs a)
+    ∙ shared (is_within r a) (list_any (λ (x : Area). is_within x a) rs) (is_one_of (cells_with_formula s) a)
 
--- what is among two lists, one after the other, is read where what is among each is
-either_read : (xs ys : List ℕ) (a : ℕ) (b d : Bool) → (is_one_of xs a ≡ true → b ≡ true) → (is_one_of ys a ≡ true → d ≡ true) → is_one_of (xs ++ ys) a ≡ true → (b || d) ≡ true
-either_read xs ys a b d left right h = at (or_cases (is_one_of xs a) _ (sym (list_any-append (λ (x : ℕ). x == a) xs ys) ∙ h))
-  where
-    at : (is_one_of xs a ≡ true) ⊎ (is_one_of ys a ≡ true) → (b || d) ≡ true
-    at (inl k) = or_left b d (left k)
-    at (inr k) = or_right b d (right k)
+-- of the cells with a formula, exactly those are in the list that the tree reads
+formula_listed : (s : Sheet) (t : Tree) (a : ℕ) → has_formula (content_of s a) ≡ true → is_one_of (read_cells s t) a ≡ reads t a
+formula_listed s t a h =
+    let any = list_any (λ (r : Area). is_within r a) (rectangles_of t) in
+    in_rectangles s (rectangles_of t) a ∙ ap (λ (b : Bool). any && b) (formula_cell s a h) ∙ and_true any ∙ sym (reads_within t a)
 
-mutual
-  -- a cell in the list is read
-  pub listed_is_read : (s : Sheet) (t : Tree) (a : ℕ) → is_one_of (read_cells s t) a ≡ true → reads t a ≡ true
-  listed_is_read s (number x) a h = h
-  listed_is_read s (text x) a h = h
-  listed_is_read s (cell r) a h = sym (or_false (r.at == a)) ∙ h
-  listed_is_read s (rectangle c) a h = (and_parts (is_within (area_of c) a) _ (sym (in_filter (is_within (area_of c)) (cells_with_formula s) a) ∙ h)).0
-  listed_is_read s (parenthesized t) a h = listed_is_read s t a h
-  listed_is_read s (signed x t) a h = listed_is_read s t a h
-  listed_is_read s (percent t) a h = listed_is_read s t a h
-  listed_is_read s (binary op t u) a h =
-      either_read (read_cells s t) (read_cells s u) a (reads t a) (reads u a) (listed_is_read s t a) (listed_is_read s u a) h
-  listed_is_read s (what_if f ps) a h = sym (ap (λ (b : Bool). (f.at == a) || b) (replacing ps a)) ∙ h
-  listed_is_read s (call f ts) a h = all_listed_are_read s ts a h
-
-  all_listed_are_read : (s : Sheet) (ts : Trees) (a : ℕ) → is_one_of (all_read_cells s ts) a ≡ true → any_reads ts a ≡ true
-  all_listed_are_read s no_trees a h = h
-  all_listed_are_read s (more_trees t ts) a h =
-      either_read (read_cells s t) (all_read_cells s ts) a (reads t a) (any_reads ts a) (listed_is_read s t a) (all_listed_are_read s ts a) h
+-- a cell in the list is read
+pub listed_is_read : (s : Sheet) (t : Tree) (a : ℕ) → is_one_of (read_cells s t) a ≡ true → reads t a ≡ true
+listed_is_read s t a h =
+    reads_within t a ∙ (and_parts (list_any (λ (r : Area). is_within r a) (rectangles_of t)) _ (sym (in_rectangles s (rectangles_of t) a) ∙ h)).0
 
 -- a formula that reads no circular cell stands in one that is not
 pub reads_open : (s : Sheet) (c : ℕ) (t : Tree) → content_of s c ≡ Some (Formula t) → list_any (circular s) (read_cells s t) ≡ false → circular s c ≡ false

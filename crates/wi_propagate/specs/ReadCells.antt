@@ -1,29 +1,15 @@
--- The cells that a formula reads, as a list.
-use Rattle.std.specs.Prelude.{ℕ, List, [], ◌∷◌, ◌++◌, map, filter}
-use Rattle.wi_values.specs.Address.{is_within}
-use Rattle.wi_parser.specs.declared.expr.Reference.{Reference}
+-- The cells with a formula that a formula reads, as a list.
+use Rattle.std.specs.Prelude.{ℕ, List, filter}
+use Rattle.std.specs.List.{flat_map}
+use Rattle.wi_values.specs.Address.{Area, is_within}
 use Rattle.wi_parser.specs.Sheet.{Sheet, cells_with_formula}
-use Rattle.wi_parser.specs.Reads.{area_of}
-use Rattle.wi_parser.specs.Tree.{Tree, Trees, number, text, cell, rectangle, parenthesized, signed, percent, binary, what_if, call, no_trees, more_trees}
+use Rattle.wi_parser.specs.Reads.{rectangles_of}
+use Rattle.wi_parser.specs.Tree.{Tree}
 
--- the cells that a what-if reads: its formula cell, and those that replace its inputs
-abbrev pub what_if_cells : Reference → List (Reference × Reference) → List ℕ
-what_if_cells f pairs = f.at ∷ map (λ p. p.1.at) pairs
+-- the cells with a formula of rectangles, of one after the other
+abbrev pub formulas_within : Sheet → List Area → List ℕ
+formulas_within s rs = flat_map (λ r. filter (is_within r) (cells_with_formula s)) rs
 
-abbrev mutual
-  -- the cells that a tree reads, in the order in which it names them; of a rectangle those that have a formula
-  pub read_cells : Sheet → Tree → List ℕ
-  read_cells s (number x) = []
-  read_cells s (text x) = []
-  read_cells s (cell r) = r.at ∷ []
-  read_cells s (rectangle c) = filter (is_within (area_of c)) (cells_with_formula s)
-  read_cells s (parenthesized t) = read_cells s t
-  read_cells s (signed x t) = read_cells s t
-  read_cells s (percent t) = read_cells s t
-  read_cells s (binary op t u) = read_cells s t ++ read_cells s u
-  read_cells s (what_if f pairs) = what_if_cells f pairs
-  read_cells s (call f ts) = all_read_cells s ts
-
-  pub all_read_cells : Sheet → Trees → List ℕ
-  all_read_cells s no_trees = []
-  all_read_cells s (more_trees t ts) = read_cells s t ++ all_read_cells s ts
+-- the cells with a formula that a tree reads, in the order in which it names them
+abbrev pub read_cells : Sheet → Tree → List ℕ
+read_cells s t = formulas_within s (rectangles_of t)

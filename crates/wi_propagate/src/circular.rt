@@ -1,21 +1,19 @@
 //! Which cells are on or above a cycle of references.
 
-ghost use Rattle.std.specs.Prelude.{◌≡◌, ◌==◌, ◌++◌, IfOk, OnOk, map};
+ghost use Rattle.std.specs.Prelude.{◌≡◌, ◌==◌, ◌++◌, IfOk, OnOk};
 ghost use Rattle.std.specs.Bool.{OnFalse};
 ghost use Rattle.std.specs.List.{list_any};
-ghost use Rattle.wi_parser.specs.View.{tree_of, all_of, pair_of};
 ghost use Rattle.wi_propagate.specs.Circular as cycles;
 ghost use Rattle.wi_propagate.specs.Clear.{AreClear, IsPathTo, Leads};
-ghost use Rattle.wi_propagate.specs.ReadCells.{read_cells, all_read_cells, what_if_cells};
+ghost use Rattle.wi_propagate.specs.ReadCells.{formulas_within};
 
 use crate::seen::formula_at;
 use std::alloc::{AllocError, Global};
 use std::collections::BTreeSet;
-use wi_parser::{Expr, Pair, Reference};
 use wi_store::Store;
-use wi_values::Address;
+use wi_values::{Address, Rect};
 
-/// Whether a cell is on or above a cycle. Each cell that it reaches and that is not is looked at once.
+/// Whether a cell is on or above a cycle. Of the formulas that it reaches, each that is not is looked at once.
 pub fn is_circular(alloc: Global, store: &Store, at: Address) -> Result<bool, AllocError>
     ensures { IfOk result (λ b. b ≡ cycles.circular store.now.sheet at) }
 {
@@ -54,7 +52,7 @@ fn leads_on(
         return Ok(true);
     }
     let mut cells = Vec::new(alloc);
-    push_reads(store, formula.tree(), &mut cells)?;
+    push_reads(store, formula.rectangles(), &mut cells)?;
     path.push(at)?;
     for cell in &cells {
         if leads_on(alloc, store, *cell, steps - 1, path, clear)? {
@@ -73,54 +71,17 @@ fn is_among(cells: &[Address], at: Address) -> bool
     cells.iter().any(|c| *c == at)
 }
 
-/// Appends the cells that an expression reads, of a rectangle those that have a formula. The work grows as that of
+/// Appends the cells with a formula of rectangles, of one rectangle after the other. The work for each grows as that of
 /// `Store::push_formulas_within`.
-#[cycle(reading)]
-fn push_reads(store: &Store, expr: &Expr, cells: &mut Vec<Address>) -> Result<(), AllocError>
-    ensures { OnOk result (cells.new.items ≡ cells.old.items ++ read_cells store.now.sheet (tree_of expr.now)) }
-{
-    match expr {
-        Expr::Number(_) => Ok(()),
-        Expr::Text(_) => Ok(()),
-        Expr::Cell(reference) => {
-            cells.push(reference.at)?;
-            Ok(())
-        }
-        Expr::Rectangle(corners) => store.push_formulas_within(corners.area(), cells),
-        Expr::Parenthesized(inner) => push_reads(store, inner, cells),
-        Expr::Signed(_, operand) => push_reads(store, operand, cells),
-        Expr::Percent(operand) => push_reads(store, operand, cells),
-        Expr::Binary(_, left, right) => {
-            push_reads(store, left, cells)?;
-            push_reads(store, right, cells)
-        }
-        Expr::WhatIf(formula_cell, pairs) => push_what_if(*formula_cell, pairs, cells),
-        Expr::Call(_, parameters) => push_all_reads(store, parameters, cells),
-    }
-}
-
-/// Appends the cells that expressions read.
-#[cycle(reading)]
-fn push_all_reads(store: &Store, exprs: &[Expr], cells: &mut Vec<Address>) -> Result<(), AllocError>
-    ensures { OnOk result (cells.new.items ≡ cells.old.items ++ all_read_cells store.now.sheet (all_of exprs.now)) }
-{
-    for expr in exprs {
-        push_reads(store, expr, cells)?;
-    }
-    Ok(())
-}
-
-/// Appends the cells that a what-if reads: its formula cell, and those that replace its inputs.
-fn push_what_if(
-    formula_cell: Reference,
-    pairs: &[Pair],
+fn push_reads(
+    store: &Store,
+    rectangles: &[Rect],
     cells: &mut Vec<Address>,
 ) -> Result<(), AllocError>
-    ensures { OnOk result (cells.new.items ≡ cells.old.items ++ what_if_cells formula_cell (map pair_of pairs.now)) }
+    ensures { OnOk result (cells.new.items ≡ cells.old.items ++ formulas_within store.now.sheet rectangles.now) }
 {
-    cells.push(formula_cell.at)?;
-    for pair in pairs {
-        cells.push(pair.by.at)?;
+    for rectangle in rectangles {
+        store.push_formulas_within(*rectangle, cells)?;
     }
     Ok(())
 }
