@@ -38,14 +38,14 @@ impl Fraction {
     /// The number rounded at so many places after the point, or before it where they are negative. It overflows where
     /// there are more than 38, or where the number times that power of ten, or the rounded one divided by it, does not
     /// fit.
-    pub fn round_to(self, places: i128, mode: Mode) -> Result<Fraction, FractionError>
+    pub fn round_to(self, places: i32, mode: Mode) -> Result<Fraction, FractionError>
         ensures { result ≡ ok_or (round_to self places mode) FractionError.Overflow }
     {
         self.rounded_at(places, mode).ok_or(FractionError::Overflow)
     }
 
     #[tactic(auto, unfolding(crate::specs::Rounding::round_to))]
-    fn rounded_at(self, places: i128, mode: Mode) -> Option<Fraction>
+    fn rounded_at(self, places: i32, mode: Mode) -> Option<Fraction>
         ensures { result ≡ round_to self places mode }
     {
         let count = places.unsigned_abs();
@@ -57,7 +57,7 @@ impl Fraction {
     }
 
     /// The number times that power of ten, or divided by it.
-    fn shifted(self, down: bool, power: u128) -> Option<Fraction>
+    fn shifted(self, down: bool, power: u32) -> Option<Fraction>
         requires { power ≤ 38 }
         ensures { result ≡ times_ten_to (signed down power) self }
     {
@@ -65,7 +65,7 @@ impl Fraction {
             numerator: n,
             denominator: d,
         } = self;
-        let ten = 10u128.pow(power as u32);
+        let ten = 10u128.pow(power);
         if down {
             return multiplied(n < 0, n.unsigned_abs(), d, 1, ten);
         }

@@ -359,7 +359,7 @@ fn rounds_to_places(rt: HostRuntime) -> Result<(), Fail> {
     }
     for (n, d, places) in [
         (0, 1, 39),
-        (0, 1, i128::MIN),
+        (0, 1, i32::MIN),
         (2, 1, 38),
         (1, 2, -38),
         (i128::MAX, 1, 1),
