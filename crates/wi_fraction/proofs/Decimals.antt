@@ -1,6 +1,6 @@
 -- The exact decimal: its places, its digits, and what stands before it.
 use Rattle.std.proofs.Common.{String, string_bytes, subst, sym, ap, ◌∙◌, arith}
-use Rattle.std.specs.Prelude.{◌≡◌, ℕ, zero, suc, ◌+◌, ◌-◌, ◌*◌, ◌/◌, ◌%◌, ◌^◌, ◌<◌, ◌≤◌, ◌≢◌, List, [], ◌∷◌, ◌++◌, length, take, Option, Some, None, refl}
+use Rattle.std.specs.Prelude.{◌≡◌, ℕ, zero, suc, ◌+◌, ◌-◌, ◌*◌, ◌/◌, ◌%◌, ◌^◌, ◌<◌, ◌≤◌, ◌≢◌, List, [], ◌∷◌, ◌++◌, length, take, Some, None, refl}
 use Rattle.std.specs.declared.alloc.Global.{Global}
 use Rattle.std.specs.Fmt.{decimal}
 use Rattle.std.specs.Io.{StartsWith}
@@ -9,10 +9,10 @@ use Rattle.std.proofs.lemmas.Fmt.{decimal_digit}
 use Rattle.std.proofs.lemmas.List.{take-append-le, take_all, length-take, take-take, append_assoc, append-nil}
 use Rattle.std.proofs.lemmas.Nat.{div-mul-add}
 use Rattle.std.proofs.lemmas.Str.{IsCharBoundary-from_take, IsUtf8-string_bytes}
-use Rattle.std.proofs.Math.Nat.{div-add-mod', mod-lt, mul-div_cancel, mul_assoc, mul_comm, mul_right_comm, pow-suc, pow-zero, mul-one, mod-eq_of_lt, mul-add-mod_self_right, add-mul-div_right, div-lt_iff_lt-mul}
+use Rattle.std.proofs.Math.Nat.{div-add-mod', mul-div_cancel, mul_assoc, mul_comm, mul_right_comm, pow-suc, pow-zero, mul-one, mod-eq_of_lt, mul-add-mod_self_right, add-mul-div_right, div-lt_iff_lt-mul}
 use Rattle.wi_fraction.specs.Text.{places_from, padded, size_text}
 use Rattle.wi_fraction.specs.Decimal.{all_places}
-use Rattle.wi_fraction.proofs.Places.{places_from_end, places_from_found, places_from_more, places_from_divide, places_from_none, multiple_of, factor_pos, divides_one}
+use Rattle.wi_fraction.proofs.Places.{places_from_end, places_from_found, places_from_more, places_from_divide, places_from_none, multiple_of}
 
 -- ---- bytes that stay at the front
 

@@ -1,5 +1,5 @@
 -- The exact decimal of a number that is not negative reads back to it.
-use Rattle.std.specs.Prelude.{◌≡◌, ◌≢◌, ℕ, zero, suc, ◌+◌, ◌*◌, ◌/◌, ◌%◌, ◌^◌, ◌<◌, ◌≤◌, ◌⊎◌, pos, Bool, true, false, int_lt, List, [], ◌∷◌, ◌++◌, length, take, drop, ◌==◌, Option, Some, None, unsigned_abs, refl}
+use Rattle.std.specs.Prelude.{◌≡◌, ◌≢◌, ℕ, zero, suc, ◌*◌, ◌/◌, ◌%◌, ◌^◌, ◌<◌, ◌≤◌, ◌⊎◌, pos, false, List, [], ◌∷◌, ◌++◌, length, ◌==◌, Option, Some, None, unsigned_abs, refl}
 use Rattle.std.specs.Char.{is_ascii_digit}
 use Rattle.std.specs.Fmt.{decimal}
 use Rattle.std.specs.Int.{◌∣◌}
@@ -14,14 +14,14 @@ use Rattle.std.proofs.Math.Seq.{take-append_seam, drop-append_seam, drop-length}
 use Rattle.std.proofs.Math.Nat.{pow-suc, pow-zero, one-dvd, mul_comm, mul_right_comm, mul-one, mul-le-mul_left, div-mul_cancel, eq-one_of_dvd-one, dvd_of_mul-dvd-mul_right, mul-dvd-mul, pos_of_dvd_of_pos}
 use Rattle.wi_fraction.specs.Gcd.{gcd, is_gcd, dvd_of_dvd-mul}
 use Rattle.wi_fraction.specs.Laws.{DecimalsReadBack}
-use Rattle.wi_fraction.specs.Number.{Number, number_at, number_at-some, signed, max_size}
-use Rattle.wi_fraction.specs.Text.{padded, size_text, is_numeral, read_after, read_decimal, decimal_after, point_after, scaled_after}
-use Rattle.wi_fraction.specs.Decimal.{IsDecimal, all_places, decimal_text}
+use Rattle.wi_fraction.specs.Number.{number_at, number_at-some, signed, max_size}
+use Rattle.wi_fraction.specs.Text.{padded, size_text, read_after, read_decimal, decimal_after, point_after, scaled_after}
+use Rattle.wi_fraction.specs.Decimal.{all_places, decimal_text}
 use Rattle.wi_fraction.proofs.Decimals.{all_divide, all_none}
 use Rattle.wi_fraction.proofs.Divisors.{gcd_pos, coprime_divided, divided_dvd}
 use Rattle.wi_fraction.proofs.Numbers.{number_of-lowest}
 use Rattle.wi_fraction.proofs.Places.{divides_one}
-use Rattle.wi_fraction.proofs.ReadsBack.{scan, is_numeral-true, numeral, numeral_padded, div_small, read_places_text, read_whole_text}
+use Rattle.wi_fraction.proofs.ReadsBack.{scan, is_numeral-true, numeral, div_small, read_places_text, read_whole_text}
 use Rattle.wi_fraction.proofs.Digits.{length-padded, digits_padded}
 use Rattle.wi_fraction.proofs.Scanning.{own}
 use Rattle.wi_fraction.proofs.Steps.{signed-abs}

@@ -1,7 +1,7 @@
 -- Decimals times powers of ten, and divided by them.
 use Rattle.std.specs.Prelude.{◌≡◌, ℕ, zero, suc, ◌+◌, ◌-◌, ◌*◌, ◌/◌, ◌^◌, ◌<◌, ◌≤◌, pos, unsigned_abs, false, List, [], ◌++◌, length, take, drop, Option, Some, None, refl}
 use Rattle.std.specs.Str.Parse.{digits_value, AllDigits}
-use Rattle.std.proofs.Common.{sym, ap, ◌∙◌, subst, inl, inr, arith}
+use Rattle.std.proofs.Common.{sym, ap, ◌∙◌, inl, inr, arith}
 use Rattle.std.proofs.lemmas.Bool.{cases_lt}
 use Rattle.std.proofs.lemmas.Int.Digits.{digits_value-lt}
 use Rattle.std.proofs.lemmas.List.{length-append, length-drop}
@@ -9,7 +9,7 @@ use Rattle.std.proofs.lemmas.Nat.{le-div, pow-add}
 use Rattle.std.proofs.lemmas.Nat.Gcd.{le_of_dvd}
 use Rattle.std.proofs.Math.Nat.{pow-suc, pow-zero, zero-mul, one-mul, mul-one, mul_assoc, mul-pos, mul-le-mul_left, mul-le-mul_right, pow-le-pow_right, le_trans}
 use Rattle.wi_fraction.specs.Gcd.{gcd, is_gcd, gcd_comm}
-use Rattle.wi_fraction.specs.Number.{Number, number_at, number_of, signed, max_size}
+use Rattle.wi_fraction.specs.Number.{Number, number_at, number_of, max_size}
 use Rattle.wi_fraction.specs.Arithmetic.{within}
 use Rattle.wi_fraction.specs.Text.{decimal_value, raised, lowered}
 use Rattle.wi_fraction.proofs.Divisors.{gcd_pos, coprime_one}

@@ -112,12 +112,12 @@ sum_value x y z e =
 pub product_value : (x y z : Number) → product_of x y ≡ Some z → (x.num *ℤ y.num) *ℤ pos z.den ≡ z.num *ℤ pos (x.den * y.den)
 product_value x y z e = value_of (x.num *ℤ y.num) (x.den * y.den) z e
 
-neg-neg : (z : ℤ) → neg_ℤ (neg_ℤ z) ≡ z
+pub neg-neg : (z : ℤ) → neg_ℤ (neg_ℤ z) ≡ z
 neg-neg (pos zero) = refl
 neg-neg (pos (suc n)) = refl
 neg-neg (negsuc n) = refl
 
-neg-mul : (n : ℤ) (k : ℕ) → neg_ℤ n *ℤ pos k ≡ neg_ℤ (n *ℤ pos k)
+pub neg-mul : (n : ℤ) (k : ℕ) → neg_ℤ n *ℤ pos k ≡ neg_ℤ (n *ℤ pos k)
 neg-mul (pos n) k = neg-pos-mul n k
 neg-mul (negsuc n) k = sym (neg-neg (pos (suc n * k)))
 

@@ -1,15 +1,10 @@
 -- Whole numbers near a number.
-use Rattle.std.specs.Prelude.{◌≡◌, ℕ, zero, suc, ◌+◌, ◌-◌, ◌*◌, ◌/◌, ◌%◌, ◌^◌, ◌<◌, ◌≤◌, ℤ, pos, negsuc, neg_ℤ, ◌*ℤ◌, unsigned_abs, int_lt, nat_lt, Bool, true, false, refl}
-use Rattle.std.proofs.Common.{sym, ap, ◌∙◌, arith}
+use Rattle.std.specs.Prelude.{◌≡◌, ℕ, suc, ◌+◌, ◌-◌, ◌/◌, ℤ, pos, negsuc, neg_ℤ, unsigned_abs, int_lt, true, false, refl}
+use Rattle.std.proofs.Common.{arith}
 use Rattle.std.proofs.lemmas.Bool.Decides.{nat_tests}
-use Rattle.std.proofs.lemmas.Int.{ints}
-use Rattle.std.proofs.lemmas.Nat.{div-mul-add}
-use Rattle.std.proofs.Math.Nat.{div-add-mod', mul-one, pow-zero}
 use Rattle.wi_fraction.specs.declared.rounding.Mode.{Mode}
-use Rattle.wi_fraction.specs.Number.{Number, number_of, signed, same_number}
-use Rattle.wi_fraction.specs.Integers.{neg-pos-mul}
-use Rattle.wi_fraction.specs.Rounding.{floor_of, floored, rounded_size, rounded, times_ten_to}
-use Rattle.wi_fraction.proofs.Steps.{signed-abs}
+use Rattle.wi_fraction.specs.Number.{Number, signed, same_number}
+use Rattle.wi_fraction.specs.Rounding.{floor_of, floored, rounded_size, rounded}
 
 -- ---- the floor
 

@@ -3,7 +3,8 @@
 ghost use Rattle.std.specs.Prelude.{ℕ};
 ghost use Rattle.std.specs.Int.{IsGcd};
 ghost use Rattle.wi_fraction.specs.Gcd.{gcd};
-ghost use Rattle.wi_fraction.specs.Laws.{IsExact, ReadsBack, DecimalsReadBack, ShowsFewestPlaces};
+ghost use Rattle.wi_fraction.specs.Laws.{IsExact, ReadsBack, DecimalsReadBack, ShowsFewestPlaces, HasFloor, IsRounded};
+ghost use Rattle.wi_fraction.specs.Number.{Number};
 
 /// The greatest common divisor is one.
 pub fn divisors_are_greatest()
@@ -32,4 +33,15 @@ pub fn decimals_read_back()
 #[tactic(auto, using(crate::proofs::Places::shows_fewest_places))]
 pub fn texts_have_fewest_places()
     ensures { (d : ℕ) → ShowsFewestPlaces d }
+{}
+
+/// The floor is the greatest whole number that is not above.
+#[tactic(auto, using(crate::proofs::Neighbours::has_floor))]
+pub fn floors_are_greatest()
+    ensures { (x : Number) → HasFloor x }
+{}
+
+/// Rounding gives the nearest whole number, a half going away from zero, or the next one away from zero or toward it.
+pub fn rounded_are_near()
+    ensures { (x : Number) → IsRounded x }
 {}

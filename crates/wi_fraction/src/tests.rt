@@ -409,4 +409,6 @@ fn has_its_laws() {
     laws::texts_read_back();
     laws::decimals_read_back();
     laws::texts_have_fewest_places();
+    laws::floors_are_greatest();
+    laws::rounded_are_near();
 }

@@ -1,4 +1,4 @@
-use Rattle.std.proofs.Common.{◌≡◌, ◌∙◌, sym, ap, subst, arith, rules, string_bytes, ◌<◌, ◌++◌, ◌∷◌, [], ◌*◌, ◌/◌, ◌%◌, Some, OnOk}
+use Rattle.std.proofs.Common.{◌≡◌, ◌∙◌, sym, ap, subst, arith, rules, string_bytes, ◌++◌, ◌∷◌, [], ◌*◌, ◌/◌, ◌%◌, Some, OnOk}
 use Rattle.std.specs.Prelude.{◌^◌}
 use Rattle.std.specs.Fmt.{decimal}
 use Rattle.std.proofs.lemmas.List.{append-nil}

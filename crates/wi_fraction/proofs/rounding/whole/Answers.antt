@@ -1,8 +1,8 @@
-use Rattle.std.proofs.Common.{arith, rules, FitsSigned, ◌≤◌}
+use Rattle.std.proofs.Common.{rules, FitsSigned, ◌≤◌}
 use Rattle.std.specs.Prelude.{unsigned_abs}
 use Rattle.std.specs.Int.{w128}
 use Rattle.std.proofs.lemmas.Int.{to_z-of_z}
-use Rattle.wi_fraction.specs.Number.{max_size, signed}
+use Rattle.wi_fraction.specs.Number.{max_size}
 use Rattle.wi_fraction.specs.Rounding.{whole_is}
 use Rattle.wi_fraction.proofs.Numbers.{abs-signed}
 use Rattle.wi_fraction.proofs.rounding.whole.Goals as goal
