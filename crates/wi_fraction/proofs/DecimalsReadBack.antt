@@ -4,7 +4,7 @@ use Rattle.std.specs.Char.{is_ascii_digit}
 use Rattle.std.specs.Fmt.{decimal}
 use Rattle.std.specs.Int.{◌∣◌}
 use Rattle.std.specs.List.{prefix_len}
-use Rattle.std.specs.Str.Parse.{IsNumeral}
+use Rattle.std.specs.Str.Parse.{AllDigits, IsNumeral}
 use Rattle.std.proofs.Common.{ap, ◌∙◌, sym, subst, inl, inr, arith}
 use Rattle.std.proofs.lemmas.Bool.{cases_lt}
 use Rattle.std.proofs.lemmas.Bool.Decides.{nat_tests}
@@ -72,11 +72,11 @@ decimal_few k d dp fits e = mod-eq-zero_of_dvd d (few k 126 d dp (dvd_of_mod-eq-
 
 -- ---- reading
 
-read_scanned : (ds rest : List ℕ) → IsNumeral 10 ds → prefix_len is_ascii_digit rest ≡ 0 → read_decimal (ds ++ rest) ≡ decimal_after ds rest
+pub read_scanned : (ds rest : List ℕ) → AllDigits 10 ds → prefix_len is_ascii_digit rest ≡ 0 → read_decimal (ds ++ rest) ≡ decimal_after ds rest
 unfolding read_decimal
-read_scanned ds rest h e = rw (scan ds rest (own.from ds h.1) e, take-append_seam ds rest, drop-append_seam ds rest) refl
+read_scanned ds rest h e = rw (scan ds rest (own.from ds h) e, take-append_seam ds rest, drop-append_seam ds rest) refl
 
-some_digits : (ds : List ℕ) → IsNumeral 10 ds → (length ds == 0) ≡ false
+pub some_digits : (ds : List ℕ) → IsNumeral 10 ds → (length ds == 0) ≡ false
 some_digits ds h = grind (arith, nat_tests, h.0)
 
 after_whole : (ds : List ℕ) → IsNumeral 10 ds → decimal_after ds [] ≡ read_after false ds []
@@ -102,10 +102,10 @@ unfolding size_text
 read_back_text n d None h some dp nm one = absurd (some refl)
 read_back_text n d (Some zero) h some dp nm one =
     let whole : d ≡ 1 = divides_one d dp (h 0 refl) in
-    ap read_decimal (sym (append-nil (decimal n))) ∙ read_scanned (decimal n) [] (numeral n nm) refl ∙ after_whole (decimal n) (numeral n nm) ∙ read_whole_text false n nm ∙ number_of-lowest false n 1 (subst (λ k. gcd n k ≡ 1) whole one) ∙ ap (λ k. number_at (pos n) k) (sym whole)
+    ap read_decimal (sym (append-nil (decimal n))) ∙ read_scanned (decimal n) [] (numeral n nm).1 refl ∙ after_whole (decimal n) (numeral n nm) ∙ read_whole_text false n nm ∙ number_of-lowest false n 1 (subst (λ k. gcd n k ≡ 1) whole one) ∙ ap (λ k. number_at (pos n) k) (sym whole)
 read_back_text n d (Some (suc k)) h some dp nm one =
     let digits = padded (suc k) (n % d * (10 ^ suc k / d)) in
-    read_scanned (decimal (n / d)) (46 ∷ digits) (numeral (n / d) (div_small n d nm)) refl ∙ after_point (decimal (n / d)) digits (padded_numeral k _) ∙ read_places_text false n d k dp nm one (h (suc k) refl)
+    read_scanned (decimal (n / d)) (46 ∷ digits) (numeral (n / d) (div_small n d nm)).1 refl ∙ after_point (decimal (n / d)) digits (padded_numeral k _) ∙ read_places_text false n d k dp nm one (h (suc k) refl)
 
 pub decimals_read_back : DecimalsReadBack
 unfolding decimal_text

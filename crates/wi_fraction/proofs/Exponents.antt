@@ -31,7 +31,7 @@ ten_pow_large k h =
     omega (arith, more)
 
 -- a power in two parts
-in_parts : (k j : ℕ) → j ≤ k → 10 ^ k ≡ 10 ^ (k - j) * 10 ^ j
+pub in_parts : (k j : ℕ) → j ≤ k → 10 ^ k ≡ 10 ^ (k - j) * 10 ^ j
 in_parts k j h = let whole : k ≡ k - j + j = omega (arith, h) in ap (λ e. 10 ^ e) whole ∙ pow-add 10 (k - j) j
 
 pub one_lowest : (k : ℕ) → gcd 1 k ≡ 1

@@ -19,3 +19,4 @@ pub mod Tenths
 pub mod Texts
 pub mod Values
 pub mod Wholes
+pub mod Written

@@ -35,7 +35,7 @@ read_size_scanned s ds rest h e =
     let some : (length ds == 0) ≡ false = grind (arith, nat_tests, h.0) in
     rw (scan ds rest (own.from ds h.1) e, some, take-append_seam ds rest, drop-append_seam ds rest)
 
-first_digit : (ds rest : List ℕ) → IsNumeral 10 ds → is_ascii_digit (slice_index (ds ++ rest) 0) ≡ true
+pub first_digit : (ds rest : List ℕ) → IsNumeral 10 ds → is_ascii_digit (slice_index (ds ++ rest) 0) ≡ true
 first_digit [] rest h = absurd (omega (arith, h.0))
 first_digit (c ∷ cs) rest h =
     let all : all_ascii_digits (c ∷ cs) ≡ true = own.from (c ∷ cs) h.1 in
