@@ -14,6 +14,7 @@ pub mod Reading
 pub mod ReadsBack
 pub mod Scanning
 pub mod Sizes
+pub mod Spelled
 pub mod Steps
 pub mod Tenths
 pub mod Texts

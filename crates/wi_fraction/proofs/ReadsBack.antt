@@ -29,7 +29,7 @@ scan (c ∷ cs) rest h e =
     let others : all_ascii_digits cs ≡ true = search (rules, tests) in
     rw (first, scan cs rest others e) (omega arith)
 
-read_size_scanned : (s : Bool) (ds rest : List ℕ) → IsNumeral 10 ds → prefix_len is_ascii_digit rest ≡ 0 → read_size s (ds ++ rest) ≡ read_after s ds rest
+pub read_size_scanned : (s : Bool) (ds rest : List ℕ) → IsNumeral 10 ds → prefix_len is_ascii_digit rest ≡ 0 → read_size s (ds ++ rest) ≡ read_after s ds rest
 unfolding read_size
 read_size_scanned s ds rest h e =
     let some : (length ds == 0) ≡ false = grind (arith, nat_tests, h.0) in
@@ -41,7 +41,7 @@ first_digit (c ∷ cs) rest h =
     let all : all_ascii_digits (c ∷ cs) ≡ true = own.from (c ∷ cs) h.1 in
     search (rules, tests)
 
-read_signed : (s : Bool) (bs : List ℕ) → is_ascii_digit (slice_index bs 0) ≡ true → read (sign_text s ++ bs) ≡ read_size s bs
+pub read_signed : (s : Bool) (bs : List ℕ) → is_ascii_digit (slice_index bs 0) ≡ true → read (sign_text s ++ bs) ≡ read_size s bs
 unfolding read
 read_signed true bs h = refl
 read_signed false bs h =

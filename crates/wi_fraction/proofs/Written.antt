@@ -109,15 +109,15 @@ value text w p k (writes front rest w2 p2 k2 d e) = digits_rest front w2 p2 d re
 
 -- ---- what is read is written
 
-some_if : (b : Bool) (o : Option Number) (x : Number) → (if b then None else o) ≡ Some x → (b ≡ false) × (o ≡ Some x)
+pub some_if : (b : Bool) (o : Option Number) (x : Number) → (if b then None else o) ≡ Some x → (b ≡ false) × (o ≡ Some x)
 some_if true o x e = cc
 some_if false o x e = (refl, e)
 
-some_then : (b : Bool) (o : Option Number) (x : Number) → (if b then o else None) ≡ Some x → (b ≡ true) × (o ≡ Some x)
+pub some_then : (b : Bool) (o : Option Number) (x : Number) → (if b then o else None) ≡ Some x → (b ≡ true) × (o ≡ Some x)
 some_then true o x e = (refl, e)
 some_then false o x e = cc
 
-numeral_from_test : (ds : List ℕ) → not (is_numeral ds) ≡ false → IsNumeral 10 ds
+pub numeral_from_test : (ds : List ℕ) → not (is_numeral ds) ≡ false → IsNumeral 10 ds
 numeral_from_test ds h =
     let some : 0 < length ds = grind (arith, nat_tests) in
     let all : all_ascii_digits ds ≡ true = grind (arith, nat_tests) in
@@ -158,7 +158,7 @@ point_written ds bs x all e =
     let back : (ds ++ 46 ∷ take n bs) ++ drop n bs ≡ ds ++ 46 ∷ bs = append_assoc ds (46 ∷ take n bs) (drop n bs) ∙ ap (λ cs. ds ++ 46 ∷ cs) (take-append-drop n bs) in
     subst IsWritten back (ds, take n bs, k.0, writes (ds ++ 46 ∷ take n bs) (drop n bs) ds (take n bs) k.0 (point ds (take n bs) all (some, digits_before bs)) k.1)
 
-some_from_test : (ds : List ℕ) → AllDigits 10 ds → (length ds == 0) ≡ false → IsNumeral 10 ds
+pub some_from_test : (ds : List ℕ) → AllDigits 10 ds → (length ds == 0) ≡ false → IsNumeral 10 ds
 some_from_test ds all h = (grind (arith, nat_tests), all)
 
 digits_written : (ds rest : List ℕ) (x : Number) → AllDigits 10 ds → decimal_after ds rest ≡ Some x → IsWritten (ds ++ rest)

@@ -3,7 +3,7 @@
 ghost use Rattle.std.specs.Prelude.{ℕ};
 ghost use Rattle.std.specs.Int.{IsGcd};
 ghost use Rattle.wi_fraction.specs.Gcd.{gcd};
-ghost use Rattle.wi_fraction.specs.Laws.{IsExact, ReadsBack, DecimalsReadBack, ShowsFewestPlaces, ReadsWhatIsWritten, HasFloor, IsRounded};
+ghost use Rattle.wi_fraction.specs.Laws.{IsExact, ReadsBack, DecimalsReadBack, ShowsFewestPlaces, ReadsWhatIsSpelled, ReadsWhatIsWritten, HasFloor, IsRounded};
 ghost use Rattle.wi_fraction.specs.Number.{Number};
 
 /// The greatest common divisor is one.
@@ -27,6 +27,12 @@ pub fn texts_read_back()
 #[tactic(auto, using(crate::proofs::DecimalsReadBack::decimals_read_back))]
 pub fn decimals_read_back()
     ensures { DecimalsReadBack }
+{}
+
+/// A text is read as the fraction that it spells, in lowest terms, and what spells none is refused.
+#[tactic(auto, using(crate::proofs::Spelled::reads_what_is_spelled))]
+pub fn texts_are_read_as_spelled()
+    ensures { ReadsWhatIsSpelled }
 {}
 
 /// A number token is read as the value of the digits and the exponent that it writes, and what writes none is refused.

@@ -408,6 +408,7 @@ fn has_its_laws() {
     laws::lowest_terms_are_exact();
     laws::texts_read_back();
     laws::decimals_read_back();
+    laws::texts_are_read_as_spelled();
     laws::tokens_are_read_as_written();
     laws::texts_have_fewest_places();
     laws::floors_are_greatest();
