@@ -7,30 +7,37 @@ use std::test::Fail;
 use wi_parser::{Operator, Sign};
 use wi_values::{ErrorKind, Text, Value, field_value};
 
-/// A value from its text: nothing is Empty, a quote the empty text.
-fn value(alloc: Global, text: &str) -> Result<Value, Fail> {
-    match text {
-        "#N/A" => Ok(Value::Fault(ErrorKind::NotAvailable)),
-        "#REF!" => Ok(Value::Fault(ErrorKind::BadReference)),
-        "'" => Ok(Value::Text(Text::new(String::new(alloc)))),
-        _ => Ok(field_value(alloc, text)?),
+fn fault_named(name: &str) -> Option<ErrorKind> {
+    match name {
+        "#N/A" => Some(ErrorKind::NotAvailable),
+        "#REF!" => Some(ErrorKind::BadReference),
+        "#VALUE!" => Some(ErrorKind::BadValue),
+        "#NUM!" => Some(ErrorKind::BadNumber),
+        "#DIV/0!" => Some(ErrorKind::DivisionByZero),
+        _ => None,
     }
 }
 
-fn shown(alloc: Global, value: &Value) -> Result<String, Fail> {
-    let mut text = String::new(alloc);
-    value.push_shown(&mut text)?;
-    Ok(text)
+/// A value from its text: an error by its name, what follows a quote as a text, nothing as Empty, and else a number, a
+/// truth value or a text.
+fn value(alloc: Global, text: &str) -> Result<Value, Fail> {
+    if let Some(fault) = fault_named(text) {
+        return Ok(Value::Fault(fault));
+    }
+    if let Some(content) = text.strip_prefix("'") {
+        return Ok(Value::Text(Text::from_str(alloc, content)?));
+    }
+    Ok(field_value(alloc, text)?)
 }
 
-/// What an operator gives for two values, as it is shown.
-fn applied(alloc: Global, operator: Operator, left: &str, right: &str) -> Result<String, Fail> {
+/// What an operator gives for two values.
+fn applied(alloc: Global, operator: Operator, left: &str, right: &str) -> Result<Value, Fail> {
     let x = value(alloc, left)?;
     let y = value(alloc, right)?;
-    shown(alloc, &operate(alloc, operator, &x, &y)?)
+    Ok(operate(alloc, operator, &x, &y)?)
 }
 
-/// Two operands with what an operator gives.
+/// Two operands with what an operator gives, in kind and content.
 fn expect(
     rt: &impl Abort,
     alloc: Global,
@@ -38,11 +45,8 @@ fn expect(
     rows: &[(&str, &str, &str)],
 ) -> Result<(), Fail> {
     for (left, right, expected) in rows {
-        let text = applied(alloc, operator, left, right)?;
-        assert!(rt;
-            text.as_str() == *expected,
-            "{left} and {right} give {text}"
-        );
+        let given = applied(alloc, operator, left, right)?;
+        assert_eq!(rt; given, value(alloc, expected)?, "{left} and {right}");
     }
     Ok(())
 }
@@ -60,9 +64,8 @@ fn expect_order(rt: &impl Abort, alloc: Global, rows: &[(&str, &str, &str)]) -> 
             (Operator::Greater, !less && !equal),
             (Operator::GreaterOrEqual, !less),
         ] {
-            let text = applied(alloc, operator, left, right)?;
-            let expected = if holds { "TRUE" } else { "FALSE" };
-            assert!(rt; text.as_str() == expected, "{left} and {right} give {text}");
+            let given = applied(alloc, operator, left, right)?;
+            assert_eq!(rt; given, Value::Logical(holds), "{left} and {right}");
         }
     }
     Ok(())
@@ -77,6 +80,8 @@ fn arithmetic(rt: HostRuntime) -> Result<(), Fail> {
         ("1", "'", "#VALUE!"),
         ("x", "#N/A", "#VALUE!"),
         ("#N/A", "x", "#N/A"),
+        ("1", "'5", "#VALUE!"),
+        ("'TRUE", "1", "#VALUE!"),
     ];
     expect(&rt, rt.alloc(), Operator::Add, &add)?;
     let subtract = [
@@ -123,11 +128,15 @@ fn powers(rt: HostRuntime) -> Result<(), Fail> {
 #[test]
 fn joins(rt: HostRuntime) -> Result<(), Fail> {
     let rows = [
-        ("a", "b", "ab"),
-        ("0.5", "TRUE", "0.5TRUE"),
-        ("", "", ""),
-        ("1/3", "", "1/3"),
-        ("'", "-2", "-2"),
+        ("a", "b", "'ab"),
+        ("0.5", "TRUE", "'0.5TRUE"),
+        ("", "", "'"),
+        ("1/3", "", "'1/3"),
+        ("'", "-2", "'-2"),
+        ("5", "", "'5"),
+        ("2", "'6", "'26"),
+        ("TRUE", "'", "'TRUE"),
+        ("'#N/", "'A", "'#N/A"),
         ("#N/A", "#REF!", "#N/A"),
         ("x", "#REF!", "#REF!"),
     ];
@@ -140,10 +149,12 @@ fn the_longest_join(rt: HostRuntime) -> Result<(), Fail> {
     for _ in 0..32_766u32 {
         text.push('x')?;
     }
-    let fits = applied(rt.alloc(), Operator::Join, text.as_str(), "7")?;
-    assert!(rt; fits.len() == 32_767 && fits.as_str().ends_with("x7"));
     let long = applied(rt.alloc(), Operator::Join, text.as_str(), "77")?;
-    assert_eq!(rt; long.as_str(), "#VALUE!");
+    assert_eq!(rt; long, Value::Fault(ErrorKind::BadValue));
+    let fits = applied(rt.alloc(), Operator::Join, text.as_str(), "7")?;
+    text.push('7')?;
+    assert_eq!(rt; text.len(), 32_767);
+    assert_eq!(rt; fits, Value::Text(Text::new(text)));
     Ok(())
 }
 
@@ -169,8 +180,11 @@ fn comparisons_of_a_kind(rt: HostRuntime) -> Result<(), Fail> {
 fn comparisons_across_kinds(rt: HostRuntime) -> Result<(), Fail> {
     let rows = [
         ("99", "'", "<"),
+        ("5", "'5", "<"),
         ("zz", "FALSE", "<"),
+        ("'TRUE", "TRUE", "<"),
         ("1", "TRUE", "<"),
+        ("1", "'TRUE", "<"),
         ("", "", "="),
         ("", "-1", ">"),
         ("0", "", "="),
@@ -197,16 +211,20 @@ fn comparisons_of_errors(rt: HostRuntime) -> Result<(), Fail> {
 fn signs(rt: HostRuntime) -> Result<(), Fail> {
     for (sign, operand, expected) in [
         (Sign::Plus, "x", "x"),
+        (Sign::Plus, "5", "5"),
+        (Sign::Plus, "'5", "'5"),
         (Sign::Plus, "", ""),
+        (Sign::Plus, "'", "'"),
         (Sign::Plus, "TRUE", "TRUE"),
         (Sign::Minus, "0.5", "-0.5"),
         (Sign::Minus, "", "0"),
         (Sign::Minus, "TRUE", "-1"),
         (Sign::Minus, "x", "#VALUE!"),
+        (Sign::Minus, "'5", "#VALUE!"),
         (Sign::Minus, "#REF!", "#REF!"),
     ] {
-        let text = shown(rt.alloc(), &with_sign(sign, value(rt.alloc(), operand)?))?;
-        assert!(rt; text.as_str() == expected, "{operand} gives {text}");
+        let given = with_sign(sign, value(rt.alloc(), operand)?);
+        assert_eq!(rt; given, value(rt.alloc(), expected)?, "{operand}");
     }
     Ok(())
 }
@@ -218,11 +236,12 @@ fn percents(rt: HostRuntime) -> Result<(), Fail> {
         ("", "0"),
         ("TRUE", "0.01"),
         ("x", "#VALUE!"),
+        ("'5", "#VALUE!"),
         ("#N/A", "#N/A"),
         ("1/170141183460469231731687303715884105727", "#NUM!"),
     ] {
-        let text = shown(rt.alloc(), &hundredth(&value(rt.alloc(), operand)?))?;
-        assert!(rt; text.as_str() == expected, "{operand} gives {text}");
+        let given = hundredth(&value(rt.alloc(), operand)?);
+        assert_eq!(rt; given, value(rt.alloc(), expected)?, "{operand}");
     }
     Ok(())
 }
