@@ -19,6 +19,8 @@ mod shift;
 #[cfg(test)]
 mod shift_tests;
 #[cfg(test)]
+mod table_tests;
+#[cfg(test)]
 mod tests;
 mod tokens;
 mod what_if;

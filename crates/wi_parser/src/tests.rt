@@ -31,8 +31,8 @@ fn sign_of(sign: Sign) -> char {
     }
 }
 
-// Appends a corner, with a `$` before it for its column and one after it for its row, where they are absolute.
-fn push_corner(r: Reference, text: &mut String) -> Result<(), AllocError> {
+// Appends a cell, with a `$` before it for its column and one after it for its row, where they are absolute.
+fn push_cell(r: Reference, text: &mut String) -> Result<(), AllocError> {
     text.push_str(if r.column_is_absolute { "$" } else { "" })?;
     r.at.push_text(text)?;
     text.push_str(if r.row_is_absolute { "$" } else { "" })
@@ -42,11 +42,11 @@ fn push_corner(r: Reference, text: &mut String) -> Result<(), AllocError> {
 fn push_tree(tree: &Expr, text: &mut String) -> Result<(), AllocError> {
     match tree {
         Expr::Number(x) => x.push_text(text),
-        Expr::Cell(r) => r.at.push_text(text),
+        Expr::Cell(r) => push_cell(*r, text),
         Expr::Rectangle(corners) => {
-            push_corner(corners.one, text)?;
+            push_cell(corners.one, text)?;
             text.push(':')?;
-            push_corner(corners.other, text)
+            push_cell(corners.other, text)
         }
         Expr::Parenthesized(inner) => {
             text.push('[')?;
@@ -86,19 +86,20 @@ fn push_tree(tree: &Expr, text: &mut String) -> Result<(), AllocError> {
             text.push('\'')
         }
         Expr::WhatIf(formula_cell, pairs) => {
-            formula_cell.at.push_text(text)?;
+            push_cell(*formula_cell, text)?;
             for pair in pairs {
                 text.push(' ')?;
-                pair.input.at.push_text(text)?;
+                push_cell(pair.input, text)?;
                 text.push('=')?;
-                pair.by.at.push_text(text)?;
+                push_cell(pair.by, text)?;
             }
             Ok(())
         }
     }
 }
 
-fn shown(alloc: Global, tree: &Expr) -> Result<String, AllocError> {
+/// A tree as it is told.
+pub fn shown(alloc: Global, tree: &Expr) -> Result<String, AllocError> {
     let mut text = String::new(alloc);
     push_tree(tree, &mut text)?;
     Ok(text)
@@ -119,8 +120,8 @@ fn left_depth(tree: &Expr) -> usize {
     depth
 }
 
-// A text and so many copies of another.
-fn repeated(alloc: Global, front: &str, part: &str, count: u32) -> Result<String, AllocError> {
+/// A text and so many copies of another.
+pub fn repeated(alloc: Global, front: &str, part: &str, count: u32) -> Result<String, AllocError> {
     let mut text = String::from_str(alloc, front)?;
     for _ in 0..count {
         text.push_str(part)?;
@@ -128,7 +129,8 @@ fn repeated(alloc: Global, front: &str, part: &str, count: u32) -> Result<String
     Ok(text)
 }
 
-fn fault(alloc: Global, text: &str) -> Option<ParseFault> {
+/// Why a text is no formula.
+pub fn fault(alloc: Global, text: &str) -> Option<ParseFault> {
     parse(alloc, text).err()
 }
 
@@ -158,7 +160,7 @@ fn trees_by_precedence(rt: HostRuntime) -> Result<(), Fail> {
         ("of:=1+2", "{1+2}"),
         ("= 1 +\t2\r\n", "{1+2}"),
         ("=007.50*.5", "{7.5*0.5}"),
-        ("=[.a1] * 2+[.$B$12]", "{{A1*2}+B12}"),
+        ("=[.a1] * 2+[.$B$12]", "{{A1*2}+$B12$}"),
         ("=[.XFD1048576]", "XFD1048576"),
         ("=[.A1:.B$2]", "A1:B2$"),
         ("=[.$b2:.$A$1]", "$B2:$A1$"),
@@ -167,7 +169,7 @@ fn trees_by_precedence(rt: HostRuntime) -> Result<(), Fail> {
         ("=MULTIPLE.OPERATIONS([.B2];[.B1];[.A4])", "B2 B1=A4"),
         (
             "=2*multiple.Operations ( [.B2] ;[.$B$1];[.A4];[.C1] ;[.A5] )+1",
-            "{{2*B2 B1=A4 C1=A5}+1}",
+            "{{2*B2 $B1$=A4 C1=A5}+1}",
         ),
         ("=(MULTIPLE.OPERATIONS([.A1];[.A1];[.A1]))", "[A1 A1=A1]"),
         ("=\"a;(\"\"b)\"&\"\" ", "{'a;(\"b)'&''}"),
