@@ -1,3 +1,4 @@
+use crate::tests::shown;
 use crate::{Expr, Reference, ShiftFault, parse};
 use std::alloc::{AllocError, Global};
 use std::test::Fail;
@@ -5,8 +6,16 @@ use std::test::Fail;
 // Appends a tree's references from the left.
 fn push_references(tree: &Expr, all: &mut Vec<Reference>) -> Result<(), AllocError> {
     match tree {
+        Expr::Number(_) => Ok(()),
+        Expr::Text(_) => Ok(()),
         Expr::Cell(r) => Ok(all.push(*r)?),
+        Expr::Rectangle(corners) => {
+            all.push(corners.one)?;
+            Ok(all.push(corners.other)?)
+        }
         Expr::Parenthesized(t) => push_references(t, all),
+        Expr::Signed(_, t) => push_references(t, all),
+        Expr::Percent(t) => push_references(t, all),
         Expr::Binary(_, t, u) => {
             push_references(t, all)?;
             push_references(u, all)
@@ -19,7 +28,12 @@ fn push_references(tree: &Expr, all: &mut Vec<Reference>) -> Result<(), AllocErr
             }
             Ok(())
         }
-        _ => Ok(()),
+        Expr::Call(_, parameters) => {
+            for parameter in parameters {
+                push_references(parameter, all)?;
+            }
+            Ok(())
+        }
     }
 }
 
@@ -52,6 +66,31 @@ fn references_move(rt: HostRuntime) -> Result<(), Fail> {
             2,
             "=MULTIPLE.OPERATIONS([.D3];[.D$1];[.$A5];[.E4];[.$D$4])",
         ),
+        ("=\"[.B2]\"&[.B2]", 1, 1, "=\"[.B2]\"&[.C3]"),
+        ("=-[.B2]%^+[.B$2]", 2, 1, "=-[.C4]%^+[.C$2]"),
+        (
+            "=F([.B2];G(1;[.$B2]%);-([.B$2]);\"x\";[.$B$2])",
+            1,
+            2,
+            "=F([.D3];G(1;[.$B3]%);-([.D$2]);\"x\";[.$B$2])",
+        ),
+        ("=F()", i64::MAX, i64::MIN, "=F()"),
+        ("=[.$B2:.C$5]", 1, 2, "=[.$B3:.E$5]"),
+        ("=[.C$5:.$B2]", -1, 2, "=[.E$5:.$B1]"),
+        ("=[.$B$2:.$C$5]", i64::MIN, i64::MIN, "=[.$B$2:.$C$5]"),
+        ("=[.B2:.C5]", -1, -1, "=[.A1:.B4]"),
+        (
+            "=[.A1:.B2]",
+            1_048_574,
+            16_382,
+            "=[.XFC1048575:.XFD1048576]",
+        ),
+        (
+            "=1+MULTIPLE.OPERATIONS([.$B$2];[.$C$3];[.$D$4])",
+            i64::MIN,
+            i64::MAX,
+            "=1+MULTIPLE.OPERATIONS([.$B$2];[.$C$3];[.$D$4])",
+        ),
     ] {
         let formula = parse(rt.alloc(), text)?;
         let wanted = parse(rt.alloc(), wanted)?;
@@ -59,6 +98,12 @@ fn references_move(rt: HostRuntime) -> Result<(), Fail> {
         let found = references(rt.alloc(), moved.tree())?;
         let right = references(rt.alloc(), wanted.tree())?;
         assert_eq!(rt; found.as_slice(), right.as_slice(), "{text}");
+        let told = shown(rt.alloc(), moved.tree())?;
+        assert_eq!(rt;
+            told.as_str(),
+            shown(rt.alloc(), wanted.tree())?.as_str(),
+            "{text}"
+        );
         assert_eq!(rt; moved.inputs(), wanted.inputs(), "{text}");
     }
     Ok(())
@@ -83,6 +128,30 @@ fn references_leave_the_sheet(rt: HostRuntime) -> Result<(), Fail> {
         ("=MULTIPLE.OPERATIONS([.B1];[.B2];[.B2])", -1, 0),
         ("=MULTIPLE.OPERATIONS([.B2];[.B1];[.B2])", -1, 0),
         ("=MULTIPLE.OPERATIONS([.B2];[.B2];[.B2];[.B2];[.B1])", -1, 0),
+        // over each of the four edges, by one and by as far as can be said
+        ("=[.C1]", -1, 0),
+        ("=[.C1048576]", 1, 0),
+        ("=[.A3]", 0, -1),
+        ("=[.XFD3]", 0, 1),
+        ("=[.C3]", i64::MIN, 0),
+        ("=[.C3]", i64::MAX, 0),
+        ("=[.C3]", 0, i64::MIN),
+        ("=[.C3]", 0, i64::MAX),
+        ("=[.C3]", i64::MIN, i64::MIN),
+        ("=[.C3]", i64::MAX, i64::MIN),
+        // in whatever it stands
+        ("=\"x\"&[.C1]", -1, 0),
+        ("=-[.XFD3]%", 0, 1),
+        ("=F(1;[.C3];G([.A3]))", 0, -1),
+        ("=F([.C3])", i64::MIN, 0),
+        ("=[.C1:.C3]", -1, 0),
+        ("=[.C3:.C1048576]", 1, 0),
+        ("=[.C$3:.A3]", 0, -1),
+        ("=[.$XFD3:.XFD$3]", 0, 1),
+        ("=[.$C3:.$C$3]", i64::MAX, 0),
+        ("=[.C$3:.$C$3]", 0, i64::MIN),
+        ("=MULTIPLE.OPERATIONS([.$C$3];[.$C$3];[.XFD$3])", 0, 1),
+        ("=MULTIPLE.OPERATIONS([.$C$3];[.$C3];[.$C$3])", i64::MAX, 0),
     ] {
         let fault = parse(rt.alloc(), text)?
             .shift(rt.alloc(), rows, columns)
