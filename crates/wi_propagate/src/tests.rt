@@ -50,8 +50,9 @@ fn values_of_formulas(rt: HostRuntime) -> Result<(), Fail> {
     assert_eq!(rt; shown(&mut calculator, "B1")?, number(5, 2)?);
     assert_eq!(rt; shown(&mut calculator, "C1")?, number(74, 3)?);
     assert_eq!(rt; shown(&mut calculator, "D1")?, Value::Empty);
-    assert!(rt; calculator.evaluations() > 0);
-    assert!(rt; calculator.restarts() > 0);
+    // B1 once for itself and once for C1, and C1. B1 lacks A1 both times, and C1 first B1 and then A1.
+    assert_eq!(rt; calculator.evaluations(), 3);
+    assert_eq!(rt; calculator.restarts(), 4);
     assert!(rt; calculator.content(Address::read(b"C1")?).is_some());
     assert!(rt; calculator.content(Address::read(b"D1")?).is_none());
     Ok(())
@@ -154,6 +155,7 @@ fn chain_of_200(rt: HostRuntime) -> Result<(), Fail> {
     set(alloc, &mut calculator, "A201", "5")?;
     assert_eq!(rt; shown(&mut calculator, "A1")?, number(205, 1)?);
     assert_eq!(rt; calculator.evaluations(), 200);
+    assert_eq!(rt; calculator.restarts(), 200);
     set(alloc, &mut calculator, "A201", "=[.A1]")?;
     assert_eq!(rt;
         shown(&mut calculator, "A1")?,
