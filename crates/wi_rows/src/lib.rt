@@ -20,4 +20,6 @@ mod rows;
 #[cfg(test)]
 mod scripts;
 #[cfg(test)]
+mod shapes;
+#[cfg(test)]
 mod what_ifs;
