@@ -1,0 +1,59 @@
+-- Texts joined by commas, one more at a time.
+use Rattle.std.proofs.Common.{◌≡◌, ◌<◌, ◌≤◌, ◌+◌, cond, Result, Ok, Err, is_ok, OnOk, ℕ, List, [], ◌∷◌, ◌++◌, map, take, length, get_or, refl, sym, ap, ◌∙◌, append_assoc}
+use Rattle.std.proofs.lemmas.List.{take_more, take_all, map-append}
+use Rattle.wi_csv.specs.Row.{quoted, row}
+use Rattle.std.specs.List.{join_with_byte}
+
+-- what stands before one more
+abbrev pub comma : List (List ℕ) → List ℕ
+comma [] = []
+comma (x ∷ xs) = 44 ∷ []
+
+pub join_push : (xs : List (List ℕ)) (x : List ℕ) → join_with_byte 44 (xs ++ x ∷ []) ≡ join_with_byte 44 xs ++ (comma xs ++ x)
+join_push [] x = refl
+join_push (y ∷ []) x = refl
+join_push (y ∷ z ∷ zs) x = ap (λ t. y ++ (44 ∷ t)) (join_push (z ∷ zs) x) ∙ sym (append_assoc y (44 ∷ join_with_byte 44 (z ∷ zs)) (44 ∷ x))
+
+-- the first fields of a record, each in quotes
+abbrev pub done : {F : Type 0} → (F → List ℕ) → List F → ℕ → List (List ℕ)
+done text fields n = map quoted (map text (take n fields))
+
+done_more : {F : Type 0} (text : F → List ℕ) (fields : List F) (i : ℕ) (x : F) → i < length fields → x ≡ get_or fields i x
+    → done text fields (i + 1) ≡ done text fields i ++ quoted (text x) ∷ []
+done_more text fields i x lt is =
+    ap (λ xs. map quoted (map text xs)) (take_more fields i x lt ∙ ap (λ y. take i fields ++ y ∷ []) (sym is))
+    ∙ ap (map quoted) (map-append text (take i fields) (x ∷ []))
+    ∙ map-append quoted (map text (take i fields)) (text x ∷ [])
+
+-- one more field is there
+pub written_more : {F : Type 0} (text : F → List ℕ) (fields : List F) (i : ℕ) (x : F) (before out sep field next : List ℕ) → i < length fields → x ≡ get_or fields i x
+    → out ≡ before ++ join_with_byte 44 (done text fields i) → sep ≡ comma (done text fields i) → field ≡ text x → next ≡ out ++ sep ++ quoted field
+    → next ≡ before ++ join_with_byte 44 (done text fields (i + 1))
+written_more text fields i x before out sep field next lt is h k f e =
+    let so_far = done text fields i in
+    let cell = quoted (text x) in
+    e ∙ ap (λ b. (out ++ sep) ++ quoted b) f ∙ ap (λ s. (out ++ s) ++ cell) k ∙ ap (λ o. (o ++ comma so_far) ++ cell) h
+    ∙ ap (λ o. o ++ cell) (append_assoc before (join_with_byte 44 so_far) (comma so_far))
+    ∙ append_assoc before (join_with_byte 44 so_far ++ comma so_far) cell
+    ∙ ap (λ o. before ++ o) (append_assoc (join_with_byte 44 so_far) (comma so_far) cell
+    ∙ sym (join_push so_far cell) ∙ ap (join_with_byte 44) (sym (done_more text fields i x lt is)))
+
+comma_after : (xs : List (List ℕ)) (x : List ℕ) → 44 ∷ [] ≡ comma (xs ++ x ∷ [])
+comma_after [] x = refl
+comma_after (y ∷ ys) x = refl
+
+-- a comma follows it
+pub comma_more : {F : Type 0} (text : F → List ℕ) (fields : List F) (i : ℕ) (x : F) → i < length fields → x ≡ get_or fields i x
+    → 44 ∷ [] ≡ comma (done text fields (i + 1))
+comma_more text fields i x lt is =
+    comma_after (done text fields i) (quoted (text x)) ∙ ap comma (sym (done_more text fields i x lt is))
+
+-- all fields, and the line end
+pub row_done : {F E : Type 0} (r : Result (Unit {0}) E) (text : F → List ℕ) (fields : List F) (n : ℕ) (before out next : List ℕ) → length fields ≤ n
+    → out ≡ before ++ join_with_byte 44 (done text fields n) → next ≡ cond (is_ok r) (out ++ 13 ∷ 10 ∷ []) out
+    → OnOk r (next ≡ before ++ row (map text fields))
+unfolding row
+row_done (Ok u) text fields n before out next all h k =
+    k ∙ ap (λ o. o ++ 13 ∷ 10 ∷ []) (h ∙ ap (λ xs. before ++ join_with_byte 44 (map quoted (map text xs))) (take_all n fields all))
+    ∙ append_assoc before (join_with_byte 44 (map quoted (map text fields))) (13 ∷ 10 ∷ [])
+row_done (Err x) text fields n before out next all h k = tt

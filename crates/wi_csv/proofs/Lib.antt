@@ -1,0 +1,6 @@
+pub mod Growth
+pub mod Joined
+pub mod Counted
+pub mod Copied
+pub mod Faults
+pub mod ReadAgain

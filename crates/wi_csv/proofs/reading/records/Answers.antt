@@ -1,0 +1,66 @@
+use Rattle.std.proofs.Common.{Bor, List, ℕ, ◌∙◌, sym, refl, inl, inr, subst, map, Some, []}
+use Rattle.csv.specs.Reading.{Reached, default_config, strip_bom}
+use Rattle.csv.specs.Records.{fields_of}
+use Rattle.csv.specs.declared.parser.State.TheVariants as st
+use Rattle.csv.proofs.ReadFacts.{rows-end, rows-more}
+use Rattle.wi_csv.proofs.Copied.{one_more}
+use Rattle.wi_csv.proofs.Counted.{all_read}
+use Rattle.wi_csv.proofs.Faults.{only_io, told}
+use Rattle.wi_csv.proofs.reading.records.Goals as goal
+
+pub loop-row-init : goal.loop-row-init
+unfolding Reached
+loop-row-init c =
+    let reader = c.from_reader-reader.ensures in
+    let flexible = c.flexible.ensures in
+    let named = c.has_headers.ensures in
+    let start = c.into_iter-row-iterator.ensures.into_iter_gives ∙ refl in
+    let items = c.into_byte_records-row-items.ensures in
+    rw (start, items.rdr, c.new-rows.ensures.items) (
+      rw (flexible, named) at reader.trim ∙ c.new.ensures.trim,
+      inr (inr (rw (flexible, named) at reader.has_headers, reader.headers)),
+      items.left,
+      rw (flexible, named) at reader.config ∙ c.new.ensures.config,
+      rw flexible at reader.flexible,
+      strip_bom c.args.bytes.now,
+      reader.source,
+      (sym reader.state, refl),
+    )
+
+pub returns-in_err-row-clause-read : goal.returns-in_err-row-clause-read
+returns-in_err-row-clause-read c =
+    let (trim, ready, left, config, flexible, y, source, reached) = c.loop-row.invariant in
+    let why = rw (c.in-Some.is, c.in_err-row.was) at ((c.next.ensures.steps left trim).0 ready) in
+    told c.from_residual.result c.in_err-row.field-0.0 (only_io (λ (s : Bor (List ℕ)). Some s.now) c.loop-row.row-iterator.rdr c.next.new.self.rdr c.in_err-row.field-0.0.kind flexible why) c.from_residual.ensures.1
+
+pub loop-row-preserved : goal.loop-row-preserved
+loop-row-preserved c =
+    let (trim, ready, left, config, flexible, y, source, reached) = c.loop-row.invariant in
+    let all = c.next.ensures.steps left trim in
+    let read = rw (c.in-Some.is, c.in_ok-row.was) at (all.0 ready) in
+    let same = rw (c.in-Some.is, c.in_ok-row.was) at all.3 in
+    let rem : Bor (List ℕ) → _ = λ s. Some s.now in
+    let text = strip_bom c.args.bytes.now in
+    let old = c.loop-row.row-iterator.rdr in
+    let new = c.next.new.self.rdr in
+    let fields = fields_of c.in_ok-row.field-0 in
+    let rows = map (λ fields. map (λ f. f.items) fields.items) c.loop-row.rows.items in
+    let (z, rest, more) = rows-more rem old new fields default_config st.StartRecord text y rows config source reached read.0 in (
+      read.0.3 ∙ trim,
+      inl read.1,
+      read.2,
+      read.0.2 ∙ config,
+      same ∙ flexible,
+      z,
+      rest,
+      subst (λ rs. Reached default_config st.StartRecord text rs new.state z)
+          (one_more (λ fields. map (λ f. f.items) fields.items) c.loop-row.rows.items c.push.new.self.items c.in_ok-copied_fields.field-0 fields c.in_ok-push.ensures.items c.in_ok-copied_fields.ensures) more,
+    )
+
+pub returns-clause-records : goal.returns-clause-records
+returns-clause-records c =
+    let (trim, ready, left, config, flexible, y, source, reached) = c.loop-row.invariant in
+    let read = rw c.in-None.is at ((c.next.ensures.steps left trim).0 ready) in
+    let rem : Bor (List ℕ) → _ = λ s. Some s.now in
+    let old = c.loop-row.row-iterator.rdr in
+    all_read c.args.bytes.now _ (old.state, y, reached, rows-end rem old c.next.new.self.rdr [] default_config y config source read)

@@ -1,0 +1,19 @@
+use Rattle.wi_csv.proofs.Growth.{starts_trans}
+use Rattle.wi_csv.proofs.Joined.{written_more, comma_more, row_done}
+use Rattle.wi_csv.proofs.row.push_all.Goals as goal
+
+pub loop-field-preserved : goal.loop-field-preserved
+loop-field-preserved g c =
+    let old = c.loop-field.invariant in
+    let text = g.F.AsSlice.items in
+    let fields = c.args.fields.now in
+    let i = c.loop-field.field-index in
+    record {
+      written = written_more text fields i c.field-item.result _ _ _ _ _ c.loop-field-test.true c.field-item.is old.written old.separator c.as_slice.ensures c.in_ok-push_field.ensures.ok;
+      separator = comma_more text fields i c.field-item.result c.loop-field-test.true c.field-item.is;
+      kept = starts_trans _ _ _ c.push_field.ensures.kept old.kept;
+    }
+
+pub returns-clause-ok : goal.returns-clause-ok
+returns-clause-ok g c =
+    row_done c.extend_from_slice.result g.F.AsSlice.items c.args.fields.now c.loop-field.field-index _ _ _ c.loop-field-test.false c.loop-field.invariant.written c.extend_from_slice.ensures.items

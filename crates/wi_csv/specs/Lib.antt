@@ -1,0 +1,4 @@
+pub mod Row
+pub mod Records
+pub mod Fault
+pub mod Laws

@@ -1,0 +1,7 @@
+-- The records of a CSV text, as the crate `csv` states them.
+use Rattle.std.specs.Prelude.{ℕ, List}
+use Rattle.csv.specs.Reading.{default_config, strip_bom, records}
+
+-- commas between fields, double quotes, and what follows a byte order mark
+unfoldable pub recs : List ℕ → List (List (List ℕ))
+recs text = records default_config (strip_bom text)
