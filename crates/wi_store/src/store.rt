@@ -1,13 +1,13 @@
 //! A sheet within limits.
 
-ghost use Rattle.std.specs.Prelude.{◌≡◌, ◌<◌, ◌⊎◌, ◌++◌, ◌&&◌, ℕ, List, [], filter, length, IfOk, OnOk, OnErr};
+ghost use Rattle.std.specs.Prelude.{◌≡◌, ◌<◌, ◌≤◌, ◌⊎◌, ◌++◌, ℕ, List, [], true, false, filter, length, IfOk, IfSome, OnOk, OnErr};
 ghost use Rattle.std.specs.Option.{option_copied};
 ghost use Rattle.std.specs.List.Sorted.{IsStrictlyIncreasing};
 ghost use Rattle.std.specs.Map.{keys_of};
 ghost use Rattle.wi_values.specs.Address.{is_within};
 ghost use Rattle.wi_parser.specs.Sheet.{content_of, has_formula, cells_with_formula};
 ghost use Rattle.wi_store.specs.Store.{edited, applied, Applies};
-ghost use Rattle.wi_store.specs.Rooms.{sheet_in, formula_rooms, IsInOrder, HasNoVacancy, VacantOnlyAt};
+ghost use Rattle.wi_store.specs.Rooms.{sheet_in, formula_rooms, is_ahead, IsInOrder, HasNoVacancy, VacantOnlyAt};
 ghost use Rattle.wi_store.specs.Exchange.{admitted};
 
 use crate::fault::StoreFault;
@@ -115,22 +115,18 @@ impl Store {
         Ok(())
     }
 
-    /// The cells that have a formula, in row-major order. The work grows with the count of occupied cells.
-    pub fn formulas(&self, alloc: Global) -> Result<Vec<Address>, AllocError>
-        ensures { IfOk result (λ found. found.items ≡ cells_with_formula self.now.sheet) }
+    /// The cells of a rectangle that have a formula, in row-major order. The work is that of `push_formulas_within`.
+    pub fn formulas_in(&self, alloc: Global, area: Rect) -> Result<Vec<Address>, AllocError>
+        ensures { IfOk result (λ found. found.items ≡ filter (is_within area) (cells_with_formula self.now.sheet)) }
     {
         let mut found = Vec::new(alloc);
-        for (at, room) in &self.rooms {
-            if let Some(Content::Formula(_)) = room {
-                found.push(*at)?;
-            }
-        }
+        self.push_formulas_within(area, &mut found)?;
         Ok(found)
     }
 
     /// Appends the cells of a rectangle that have a formula, in row-major order. On an error the list is as before.
-    /// The work grows with the count of occupied cells from the rectangle's first cell to its last in row-major order,
-    /// those beside it too, and with the logarithm of the count of all.
+    /// The work grows with the count of its occupied cells, and with the logarithm of the count of all, once and for each
+    /// of its rows where a cell beside it is occupied.
     pub fn push_formulas_within(
         &self,
         area: Rect,
@@ -153,25 +149,62 @@ fn push_formulas(rooms: &Rooms, area: Rect, found: &mut Vec<Address>) -> Result<
     ensures ok { OnOk result (found.new.items ≡ found.old.items ++ filter (is_within area) (formula_rooms rooms.now.entries)) }
     ensures err { OnErr result ((some : List ℕ) × (found.new.items ≡ found.old.items ++ some)) }
 {
-    let from = Bound::Included(area.first());
-    let to = Bound::Included(area.last());
-    for (cell, room) in rooms.range((from, to)) {
-        if is_formula_within(area, *cell, room) {
-            found.push(*cell)?;
-        }
+    let mut ahead = Some(area.first());
+    while let Some(from) = ahead {
+        ahead = push_run(rooms, area, from, found)?;
     }
     Ok(())
 }
 
-// Whether a room has a formula and its cell lies in a rectangle.
-fn is_formula_within(area: Rect, at: Address, room: &Option<Content>) -> bool
-    ensures { result ≡ (has_formula room.now && is_within area at) }
+// Appends the cells of a rectangle that have a formula, from a cell on up to the first room beside the rectangle. Answers
+// where to go on. On an error some of them may be there.
+fn push_run(
+    rooms: &Rooms,
+    area: Rect,
+    from: Address,
+    found: &mut Vec<Address>,
+) -> Result<Option<Address>, AllocError>
+    requires { from ≤ area.last }
+    ensures ok { IfOk result (λ next. found.new.items ++ filter (is_ahead area next) (formula_rooms rooms.now.entries)
+        ≡ found.old.items ++ filter (is_ahead area (Some from)) (formula_rooms rooms.now.entries)) }
+    ensures next { IfOk result (λ next. IfSome next (λ n. (from < n) × (n ≤ area.last))) }
+    ensures more { (some : List ℕ) × (found.new.items ≡ found.old.items ++ some) }
 {
-    match room {
-        Some(Content::Formula(_)) => area.contains(at),
-        Some(Content::Constant(_)) => false,
-        None => false,
+    let start = Bound::Included(from);
+    let end = Bound::Included(area.last());
+    for (cell, room) in rooms.range((start, end)) {
+        if !area.contains(*cell) {
+            return Ok(next_inside(area, *cell));
+        }
+        if is_formula(room) {
+            found.push(*cell)?;
+        }
     }
+    Ok(None)
+}
+
+// The first cell of a rectangle after a cell beside it, if there is one.
+fn next_inside(area: Rect, at: Address) -> Option<Address>
+    requires to { at ≤ area.last }
+    requires beside { is_within area at ≡ false }
+    ensures after { IfSome result (λ n. (at < n) × (n ≤ area.last)) }
+    ensures all { (a : ℕ) → is_within area a ≡ true → at ≤ a → is_ahead area result a ≡ true }
+{
+    let left = area.first().column();
+    if at.column() < left {
+        Some(Address::at(at.row(), left))
+    } else if at.row() < area.last().row() {
+        Some(Address::at(at.row() + 1, left))
+    } else {
+        None
+    }
+}
+
+// Whether a room has a formula.
+fn is_formula(room: &Option<Content>) -> bool
+    ensures { result ≡ has_formula room.now }
+{
+    matches!(room, Some(Content::Formula(_)))
 }
 
 // Does an edit, or refuses it and leaves the sheet as it was. Rooms of the changed cells may be vacant then.

@@ -51,7 +51,7 @@ fn an_edit_is_read_back(rt: HostRuntime) -> Result<(), Fail> {
         formulas.push((at, Some(Content::read(rt.alloc(), "=1/2")?)))?;
     }
     store.apply(formulas)?;
-    let found = store.formulas(rt.alloc())?;
+    let found = store.formulas_in(rt.alloc(), Rect::new(a1, Address::at(9, 9)))?;
     assert_eq!(rt; found.as_slice(), [b1, a2].as_slice());
     assert_eq!(rt; store.occupied(), 3);
     assert_eq!(rt; store.limits(), Limits::standard());
@@ -87,6 +87,8 @@ fn formulas_within_rectangles(rt: HostRuntime) -> Result<(), Fail> {
         (Rect::read(b"B1:C3")?, "B1 B2 C2 C3 "),
         (Rect::read(b"C3:B2")?, "B2 C2 C3 "),
         (Rect::read(b"A1:A4")?, "A2 A4 "),
+        (Rect::read(b"D1:D9")?, "D1 D2 "),
+        (Rect::read(b"C1:C3")?, "C2 C3 "),
         (Rect::read(b"D2")?, "D2 "),
         (Rect::read(b"B3")?, ""),
         (Rect::read(b"A5:XFD9")?, ""),

@@ -1,41 +1,26 @@
-use Rattle.std.proofs.Common.{◌∙◌, ◌++◌, ◌∷◌, [], ℕ, List, filter, sym, ap, append_assoc}
-use Rattle.std.specs.Ordering.{nat_cmp}
-use Rattle.std.specs.declared.ops.Bound.TheVariants.{Included}
-use Rattle.std.specs.BTreeMap.Range.{entries_between}
+use Rattle.std.proofs.Common.{◌∙◌, ◌++◌, ℕ, List, Option, filter, sym, ap, append_assoc}
 use Rattle.wi_values.specs.Address.{is_within}
-use Rattle.wi_store.specs.Rooms.{Rooms, formula_rooms}
-use Rattle.wi_store.proofs.Within.{between_all, found_more, found_none, found_all}
+use Rattle.wi_store.specs.Rooms.{formula_rooms, is_ahead}
+use Rattle.wi_store.proofs.Within.{none_ahead, next_within}
 use Rattle.wi_store.proofs.store.push_formulas.Goals as goal
 
-pub loop-cell-preserved-in-Continue-1 : goal.loop-cell-preserved-in-Continue-1
-loop-cell-preserved-in-Continue-1 c =
-    let i = c.loop-cell.invariant in
-    let w = is_within c.args.area in
-    let here = c.in-Some.cell.now in (
-      i.0 ++ here ∷ [],
-      c.in_ok-push.ensures.items ∙ ap (λ (xs : List ℕ). xs ++ here ∷ []) i.1 ∙ append_assoc c.args.found.now.items i.0 (here ∷ []),
-      found_more w i.0 here c.in-Some.room.now c.next.new.self (sym c.is_formula_within.ensures ∙ c.if-is_formula_within.true)
-          ∙ ap (λ (r : Rooms). i.0 ++ filter w (formula_rooms r)) (sym c.in-Some.ensures.steps) ∙ i.2,
-    )
-
-pub loop-cell-preserved : goal.loop-cell-preserved
-loop-cell-preserved c =
-    let i = c.loop-cell.invariant in
-    let w = is_within c.args.area in (
-      i.0,
-      i.1,
-      found_none w i.0 c.in-Some.cell.now c.in-Some.room.now c.next.new.self (sym c.is_formula_within.ensures ∙ c.if-is_formula_within.false)
-          ∙ ap (λ (r : Rooms). i.0 ++ filter w (formula_rooms r)) (sym c.in-Some.ensures.steps) ∙ i.2,
-    )
+pub loop-ahead-preserved : goal.loop-ahead-preserved
+loop-ahead-preserved c =
+    let i = c.loop-ahead.invariant in
+    let more = c.push_run.ensures.more in
+    let cells = formula_rooms c.args.rooms.now.entries in
+    record {
+      some = (
+        i.some.0 ++ more.0,
+        more.1 ∙ ap (λ (xs : List ℕ). xs ++ more.0) i.some.1 ∙ append_assoc c.args.found.now.items i.some.0 more.0,
+      );
+      ahead = c.in_ok-ahead.ensures.ok ∙ ap (λ (o : Option ℕ). c.loop-ahead.found.items ++ filter (is_ahead c.args.area o) cells) (sym c.in-Some.is) ∙ i.ahead;
+      within = next_within c.in-Some.from c.args.area.last c.in_ok-ahead.ahead c.in_ok-ahead.ensures.next;
+    }
 
 pub returns-clause-ok : goal.returns-clause-ok
 returns-clause-ok c =
-    let i = c.loop-cell.invariant in
-    let w = is_within c.args.area in
-    let entries = c.args.rooms.now.entries in
-    i.1 ∙ ap (λ (xs : List ℕ). c.args.found.now.items ++ xs)
-    (found_all w i.0 c.loop-cell.cell-iterator c.into_iter-cell-iterator.result c.in-None.ensures.steps.0 i.2
-    ∙ ap (λ (r : Rooms). filter w (formula_rooms r)) (c.into_iter-cell-iterator.ensures.into_iter_gives ∙ c.range-cell-items.ensures.between tt)
-    ∙ ap (λ (a : ℕ). filter w (formula_rooms (entries_between nat_cmp (Included a) (Included c.last.result) entries))) c.first.ensures
-    ∙ ap (λ (b : ℕ). filter w (formula_rooms (entries_between nat_cmp (Included c.args.area.first) (Included b) entries))) c.last.ensures
-    ∙ between_all c.args.area entries)
+    let cells = formula_rooms c.args.rooms.now.entries in
+    let all = c.args.found.now.items ++ filter (is_within c.args.area) cells in
+    let i = c.loop-ahead.invariant in
+    none_ahead c.args.area c.loop-ahead.found.items all cells (ap (λ (o : Option ℕ). c.loop-ahead.found.items ++ filter (is_ahead c.args.area o) cells) (sym c.in_default.is) ∙ i.ahead)

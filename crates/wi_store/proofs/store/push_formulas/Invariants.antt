@@ -1,10 +1,21 @@
-use Rattle.std.proofs.Common.{◌≡◌, ◌++◌, ℕ, List, filter}
-use Rattle.wi_values.specs.Address.{is_within}
-use Rattle.wi_store.specs.Rooms.{formula_rooms}
+use Rattle.std.proofs.Common.{◌≡◌, ◌++◌, ◌-◌, ◌+◌, ◌≤◌, ℕ, List, filter, IfSome, Option, Some, None}
+use Rattle.wi_values.specs.Address.{Area, is_within}
+use Rattle.wi_store.specs.Rooms.{formula_rooms, is_ahead}
 use Rattle.wi_store.proofs.store.push_formulas.Given as goal
 
--- what was found, and what is left to find
-abbrev pub invariant-loop-cell : goal.invariant-loop-cell
-invariant-loop-cell l =
-    (some : List ℕ) × (l.found.items ≡ l.fn.found.items ++ some)
-    × (some ++ filter (is_within l.area) (formula_rooms l.cell-iterator) ≡ filter (is_within l.area) (formula_rooms l.initial.cell-iterator))
+-- how many cells there are from this one to the last of the rectangle
+abbrev pub cells_ahead : Area → Option ℕ → ℕ
+cells_ahead r None = 0
+cells_ahead r (Some from) = (r.last + 1) - from
+
+abbrev pub decreases-loop-ahead : goal.decreases-loop-ahead
+decreases-loop-ahead l = cells_ahead l.area l.ahead
+
+-- what was found, and what is ahead
+abbrev pub invariant-loop-ahead : goal.invariant-loop-ahead
+invariant-loop-ahead l =
+    record {
+      some : (some : List ℕ) × (l.found.items ≡ l.fn.found.items ++ some);
+      ahead : l.found.items ++ filter (is_ahead l.area l.ahead) (formula_rooms l.rooms.entries) ≡ l.fn.found.items ++ filter (is_within l.area) (formula_rooms l.rooms.entries);
+      within : IfSome l.ahead (λ n. n ≤ l.area.last);
+    }
