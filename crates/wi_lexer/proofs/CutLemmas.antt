@@ -12,7 +12,7 @@ use Rattle.wi_lexer.specs.declared.token.Kind.TheVariants.{Number, Reference, Re
 use Rattle.wi_lexer.specs.declared.token.Mark as mark
 use Rattle.wi_lexer.specs.declared.token.Mark.TheVariants.{NotEqual}
 use Rattle.wi_lexer.specs.Runs.{IsRun, is_blank, blanks_len}
-use Rattle.wi_lexer.specs.Number.{IsDecimal, whole, decimal, IsExponent, unsigned, signed, IsNumber, plain, scaled}
+use Rattle.wi_lexer.specs.Number.{IsDecimalText, whole, decimal, IsExponent, unsigned, signed, IsNumberText, plain, scaled}
 use Rattle.wi_lexer.specs.Cell.{cell_text}
 use Rattle.wi_lexer.specs.Reference.{IsReference, one_cell}
 use Rattle.wi_lexer.specs.Rectangle.{IsRectangle, two_cells}
@@ -56,7 +56,7 @@ last_append xs ys some =
     let place : length (xs ++ ys) - 1 ≡ length xs + (length ys - 1) = omega (arith, length-append xs ys) in
     ap (λ i. get_or (xs ++ ys) i 0) place ∙ get_or-append-add xs ys (length ys - 1) 0
 
-decimal_last : (text : List ℕ) → IsDecimal text → last text < 128
+decimal_last : (text : List ℕ) → IsDecimalText text → last text < 128
 decimal_last text (whole ds run) = digits_last ds run
 decimal_last text (decimal ds es all run) =
     let a = last_append ds (46 ∷ es) (omega arith) in
@@ -67,7 +67,7 @@ exponent_last : (text : List ℕ) → IsExponent text → (0 < length text) × (
 exponent_last text (unsigned e ds letter run) = (omega arith, omega (arith, last_append (e ∷ []) ds run.some, digits_last ds run))
 exponent_last text (signed e s ds letter sign run) = (omega arith, omega (arith, last_append (e ∷ s ∷ []) ds run.some, digits_last ds run))
 
-number_last : (text : List ℕ) → IsNumber text → last text < 128
+number_last : (text : List ℕ) → IsNumberText text → last text < 128
 number_last text (plain ds h) = decimal_last ds h
 number_last text (scaled ds es h k) =
     let exponent = exponent_last es k in

@@ -7,7 +7,7 @@ use Rattle.std.proofs.Math.Seq.{drop-append_seam, take-append-add}
 use Rattle.std.specs.List.{list_all}
 use Rattle.std.specs.Char.{is_ascii_digit}
 use Rattle.wi_lexer.specs.Runs.{IsRun, digits_len}
-use Rattle.wi_lexer.specs.Number.{IsDecimal, whole, decimal, decimals_len, decimal_len}
+use Rattle.wi_lexer.specs.Number.{IsDecimalText, whole, decimal, decimals_len, decimal_len}
 use Rattle.wi_lexer.proofs.RunLemmas.{run_within, run_more, run_all}
 
 -- a point and digits stand at the front
@@ -35,7 +35,7 @@ unfolding decimals_len
 decimals_found tail some = ap (λ t. cond t (1 + digits_len tail) 0) (lt-ltb 0 (digits_len tail) some)
 
 -- a decimal at the front is no longer than what is found there
-pub decimal_more : (text : List ℕ) → IsDecimal text → (rest : List ℕ) → length text ≤ decimal_len (text ++ rest)
+pub decimal_more : (text : List ℕ) → IsDecimalText text → (rest : List ℕ) → length text ≤ decimal_len (text ++ rest)
 unfolding decimal_len
 decimal_more text (whole ds run) rest = omega (arith, run_more is_ascii_digit ds rest run.all)
 decimal_more text (decimal ds es all run) rest =
@@ -64,34 +64,34 @@ digits_front bs some = record {
   all = run_all is_ascii_digit bs;
 }
 
-whole_front : (bs : List ℕ) → 0 < digits_len bs → IsDecimal (take (digits_len bs) bs)
+whole_front : (bs : List ℕ) → 0 < digits_len bs → IsDecimalText (take (digits_len bs) bs)
 whole_front bs some = whole (take (digits_len bs) bs) (digits_front bs some)
 
-decimal_front : (ds tail : List ℕ) → list_all is_ascii_digit ds ≡ true → 0 < digits_len tail → IsDecimal (take (length ds + (1 + digits_len tail)) (ds ++ 46 ∷ tail))
+decimal_front : (ds tail : List ℕ) → list_all is_ascii_digit ds ≡ true → 0 < digits_len tail → IsDecimalText (take (length ds + (1 + digits_len tail)) (ds ++ 46 ∷ tail))
 decimal_front ds tail all some =
     let m = digits_len tail in
     let next : 1 + m ≡ suc m = omega arith in
     let front : take (length ds + (1 + m)) (ds ++ 46 ∷ tail) ≡ ds ++ 46 ∷ take m tail =
     take-append-add ds (46 ∷ tail) (1 + m) ∙ ap (λ i. ds ++ take i (46 ∷ tail)) next in
-    subst IsDecimal (sym front) (decimal ds (take m tail) all (digits_front tail some))
+    subst IsDecimalText (sym front) (decimal ds (take m tail) all (digits_front tail some))
 
-pub decimal_sound : (bs : List ℕ) → 0 < decimal_len bs → IsDecimal (take (decimal_len bs) bs)
+pub decimal_sound : (bs : List ℕ) → 0 < decimal_len bs → IsDecimalText (take (decimal_len bs) bs)
 unfolding decimal_len
 decimal_sound bs h = go (decimals_cases (drop (digits_len bs) bs))
   where
-    go : (decimals_len (drop (digits_len bs) bs) ≡ 0) ⊎ HasDecimals (drop (digits_len bs) bs) → IsDecimal (take (digits_len bs + decimals_len (drop (digits_len bs) bs)) bs)
+    go : (decimals_len (drop (digits_len bs) bs) ≡ 0) ⊎ HasDecimals (drop (digits_len bs) bs) → IsDecimalText (take (digits_len bs + decimals_len (drop (digits_len bs) bs)) bs)
     go (inl e) =
         let n : digits_len bs ≡ digits_len bs + decimals_len (drop (digits_len bs) bs) = omega (arith, e) in
-        subst (λ i. IsDecimal (take i bs)) n (whole_front bs (omega (arith, n, h)))
+        subst (λ i. IsDecimalText (take i bs)) n (whole_front bs (omega (arith, n, h)))
     go (inr d) =
         let ds = take (digits_len bs) bs in
         let size : length ds ≡ digits_len bs = length-take-le (digits_len bs) bs (run_within is_ascii_digit bs) in
         let back : ds ++ 46 ∷ d.tail ≡ bs = ap (λ r. ds ++ r) (sym d.is) ∙ take-append-drop (digits_len bs) bs in
         let n : length ds + (1 + digits_len d.tail) ≡ digits_len bs + decimals_len (drop (digits_len bs) bs) = omega (arith, size, d.len) in
         let found = decimal_front ds d.tail (run_all is_ascii_digit bs) d.some in
-        subst (λ i. IsDecimal (take i bs)) n (subst (λ t. IsDecimal (take (length ds + (1 + digits_len d.tail)) t)) back found)
+        subst (λ i. IsDecimalText (take i bs)) n (subst (λ t. IsDecimalText (take (length ds + (1 + digits_len d.tail)) t)) back found)
 
-pub decimal_some : (text : List ℕ) → IsDecimal text → 0 < length text
+pub decimal_some : (text : List ℕ) → IsDecimalText text → 0 < length text
 decimal_some text (whole ds run) = run.some
 decimal_some text (decimal ds es all run) = omega (arith, length-append ds (46 ∷ es))
 
@@ -111,7 +111,7 @@ after_digits ds tail n =
     let after : drop (digits_len (ds ++ tail)) (ds ++ tail) ≡ tail = ap (λ i. drop i (ds ++ tail)) n ∙ drop-append_seam ds tail in
     omega (arith, n, ap decimals_len after)
 
-pub decimal_exact : (text : List ℕ) → IsDecimal text → (rest : List ℕ) → digits_len rest ≡ 0 → decimals_len rest ≡ 0 → decimal_len (text ++ rest) ≡ length text
+pub decimal_exact : (text : List ℕ) → IsDecimalText text → (rest : List ℕ) → digits_len rest ≡ 0 → decimals_len rest ≡ 0 → decimal_len (text ++ rest) ≡ length text
 decimal_exact text (whole ds run) rest digits decimals = omega (arith, after_digits ds rest (digits_exact ds rest run.all digits), decimals)
 decimal_exact text (decimal ds es all run) rest digits decimals =
     let tail = es ++ rest in

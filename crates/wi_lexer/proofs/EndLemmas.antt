@@ -9,7 +9,7 @@ use Rattle.wi_lexer.specs.declared.token.Kind.TheVariants.{Number, Reference, Re
 use Rattle.wi_lexer.specs.declared.token.Mark as mark
 use Rattle.wi_lexer.specs.declared.token.Mark.TheVariants.{NotEqual, Less, Greater}
 use Rattle.wi_lexer.specs.Runs.{is_blank, IsRun, one_more}
-use Rattle.wi_lexer.specs.Number.{IsDecimal, whole, decimal, IsNumber, plain, scaled, is_exponent_letter, decimals_len, decimal_len, signed_len, exponent_len, number_len}
+use Rattle.wi_lexer.specs.Number.{IsDecimalText, whole, decimal, IsNumberText, plain, scaled, is_exponent_letter, decimals_len, decimal_len, signed_len, exponent_len, number_len}
 use Rattle.wi_lexer.specs.Cell.{Cell, IsCell, cell_text}
 use Rattle.wi_lexer.specs.Reference.{IsReference, one_cell}
 use Rattle.wi_lexer.specs.Rectangle.{IsRectangle, two_cells}
@@ -48,12 +48,12 @@ pub first_of_both : (text rest : List ℕ) → 0 < length text → slice_index (
 first_of_both [] rest some = absurd (omega (arith, some))
 first_of_both (b ∷ text) rest some = refl
 
-decimal_start : (text : List ℕ) → IsDecimal text → is_number_start (slice_index text 0) ≡ true
+decimal_start : (text : List ℕ) → IsDecimalText text → is_number_start (slice_index text 0) ≡ true
 decimal_start text (whole ds run) = digit_starts (slice_index ds 0) (run_start is_ascii_digit ds run)
 decimal_start text (decimal [] es all run) = refl
 decimal_start text (decimal (d ∷ ds) es all run) = digit_starts d (both_are_true (is_ascii_digit d) (list_all is_ascii_digit ds) all).0
 
-pub number_start : (text : List ℕ) → IsNumber text → is_number_start (slice_index text 0) ≡ true
+pub number_start : (text : List ℕ) → IsNumberText text → is_number_start (slice_index text 0) ≡ true
 number_start text (plain ds h) = decimal_start ds h
 number_start text (scaled ds es h k) = ap is_number_start (first_of_both ds es (decimal_some ds h)) ∙ decimal_start ds h
 
@@ -112,7 +112,7 @@ ends_number (b ∷ rest) h = record {
   exponent = ap (λ t. cond t (one_more (signed_len rest)) 0) (no_letter_on b h);
 }
 
-number_whole : (text rest : List ℕ) → IsNumber text → ends Number rest ≡ true → FoundWhole Number text rest
+number_whole : (text rest : List ℕ) → IsNumberText text → ends Number rest ≡ true → FoundWhole Number text rest
 number_whole text rest t h =
     let exact = number_exact text t rest (ends_number rest h) in
     number_found (text ++ rest) (omega (arith, exact, number_some text t)) ∙ ap (found_token Number) exact

@@ -6,7 +6,7 @@ use Rattle.std.proofs.lemmas.Bool.Decides.{nat_tests}
 use Rattle.std.proofs.Math.Seq.{take-add, drop-append_seam}
 use Rattle.std.specs.Char.{is_ascii_digit}
 use Rattle.wi_lexer.specs.Runs.{digits_len, one_more}
-use Rattle.wi_lexer.specs.Number.{IsDecimal, IsExponent, unsigned, signed, IsNumber, plain, scaled, is_exponent_letter, is_sign, decimals_len, decimal_len, signed_len, exponent_len, number_len}
+use Rattle.wi_lexer.specs.Number.{IsDecimalText, IsExponent, unsigned, signed, IsNumberText, plain, scaled, is_exponent_letter, is_sign, decimals_len, decimal_len, signed_len, exponent_len, number_len}
 use Rattle.wi_lexer.proofs.RunLemmas.{run_within, run_stops, run_more, one_more_some, one_more_back, one_more_within}
 use Rattle.wi_lexer.proofs.DecimalLemmas.{digits_front, decimal_some, decimal_more, decimal_within, decimal_sound, no_point, decimal_exact}
 
@@ -126,7 +126,7 @@ has_letter text (signed e s ds letter sign run) = record { letter = e; after = s
 
 -- ---- numbers
 
-pub number_some : (text : List ℕ) → IsNumber text → 0 < length text
+pub number_some : (text : List ℕ) → IsNumberText text → 0 < length text
 number_some text (plain ds h) = decimal_some ds h
 number_some text (scaled ds es h k) = omega (arith, decimal_some ds h, length-append ds es)
 
@@ -140,7 +140,7 @@ unfolding number_len
 decimal_none bs none = ap (λ n. cond (nat_lt 0 n) (n + exponent_len (drop n bs)) 0) none
 
 -- the decimal before an exponent, and the exponent
-scaled_len : (text exponent rest : List ℕ) → IsDecimal text → IsExponent exponent → number_len ((text ++ exponent) ++ rest) ≡ length text + exponent_len (exponent ++ rest)
+scaled_len : (text exponent rest : List ℕ) → IsDecimalText text → IsExponent exponent → number_len ((text ++ exponent) ++ rest) ≡ length text + exponent_len (exponent ++ rest)
 scaled_len text exponent rest h k =
     let bs = text ++ (exponent ++ rest) in
     let begins = has_letter exponent k in
@@ -153,7 +153,7 @@ scaled_len text exponent rest h k =
     omega (arith, ap number_len (append_assoc text exponent rest), first, exact, ap exponent_len after)
 
 -- a number at the front is no longer than what is found there
-pub number_more : (text : List ℕ) → IsNumber text → (rest : List ℕ) → length text ≤ number_len (text ++ rest)
+pub number_more : (text : List ℕ) → IsNumberText text → (rest : List ℕ) → length text ≤ number_len (text ++ rest)
 number_more text (plain ds h) rest =
     let more = decimal_more ds h rest in
     omega (arith, more, decimal_first (ds ++ rest) (omega (arith, more, decimal_some ds h)))
@@ -166,7 +166,7 @@ pub record EndsNumber (rest : List ℕ) : Type 0 where
   pub exponent : exponent_len rest ≡ 0
 
 -- a number is found whole where nothing goes on with it
-pub number_exact : (text : List ℕ) → IsNumber text → (rest : List ℕ) → EndsNumber rest → number_len (text ++ rest) ≡ length text
+pub number_exact : (text : List ℕ) → IsNumberText text → (rest : List ℕ) → EndsNumber rest → number_len (text ++ rest) ≡ length text
 number_exact text (plain ds h) rest stops =
     let exact = decimal_exact ds h rest stops.digits stops.decimals in
     let first = decimal_first (ds ++ rest) (omega (arith, exact, decimal_some ds h)) in
@@ -189,7 +189,7 @@ number_within bs =
     (λ some. omega (arith, decimal_within bs, exponent_within (drop (decimal_len bs) bs), length-drop (decimal_len bs) bs))
 
 -- a decimal and the exponent after it, if one is found
-decimal_then : (bs : List ℕ) → 0 < decimal_len bs → IsNumber (take (decimal_len bs + exponent_len (drop (decimal_len bs) bs)) bs)
+decimal_then : (bs : List ℕ) → 0 < decimal_len bs → IsNumberText (take (decimal_len bs + exponent_len (drop (decimal_len bs) bs)) bs)
 decimal_then bs some = go (nat_lt 0 x) refl
   where
     d : ℕ
@@ -198,11 +198,11 @@ decimal_then bs some = go (nat_lt 0 x) refl
     x : ℕ
     x = exponent_len (drop d bs)
 
-    go : (t : Bool) → nat_lt 0 x ≡ t → IsNumber (take (d + x) bs)
-    go true e = subst IsNumber (sym (take-add d x bs)) (scaled (take d bs) (take x (drop d bs)) (decimal_sound bs some) (exponent_sound (drop d bs) (ltb-true 0 x e)))
+    go : (t : Bool) → nat_lt 0 x ≡ t → IsNumberText (take (d + x) bs)
+    go true e = subst IsNumberText (sym (take-add d x bs)) (scaled (take d bs) (take x (drop d bs)) (decimal_sound bs some) (exponent_sound (drop d bs) (ltb-true 0 x e)))
     go false e =
         let alone : d ≡ d + x = omega (arith, ltb-false 0 x e) in
-        subst (λ i. IsNumber (take i bs)) alone (plain (take d bs) (decimal_sound bs some))
+        subst (λ i. IsNumberText (take i bs)) alone (plain (take d bs) (decimal_sound bs some))
 
-pub number_sound : (bs : List ℕ) → 0 < number_len bs → IsNumber (take (number_len bs) bs)
-number_sound bs = number_by (λ n. 0 < n → IsNumber (take n bs)) bs (λ none some. absurd (omega (arith, some))) (λ some _. decimal_then bs some)
+pub number_sound : (bs : List ℕ) → 0 < number_len bs → IsNumberText (take (number_len bs) bs)
+number_sound bs = number_by (λ n. 0 < n → IsNumberText (take n bs)) bs (λ none some. absurd (omega (arith, some))) (λ some _. decimal_then bs some)

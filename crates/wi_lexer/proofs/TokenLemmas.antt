@@ -9,7 +9,7 @@ use Rattle.wi_lexer.specs.declared.token.Kind.{Kind}
 use Rattle.wi_lexer.specs.declared.token.Kind.TheVariants.{Number, Reference, Rectangle, Name, Text, Mark}
 use Rattle.wi_lexer.specs.declared.token.Mark as mark
 use Rattle.wi_lexer.specs.declared.token.Mark.TheVariants.{NotEqual, Less, LessOrEqual, Greater, GreaterOrEqual}
-use Rattle.wi_lexer.specs.Number.{IsNumber, decimals_len, decimal_len, number_len}
+use Rattle.wi_lexer.specs.Number.{IsNumberText, decimals_len, decimal_len, number_len}
 use Rattle.wi_lexer.specs.Reference.{IsReference, one_cell, reference_len}
 use Rattle.wi_lexer.specs.Rectangle.{IsRectangle, two_cells, rectangle_len}
 use Rattle.wi_lexer.specs.Cell.{Cell, IsCell, cell_text}
@@ -167,7 +167,7 @@ token_some Name text t = name_some text t
 token_some Text text t = text_some text t
 token_some (Mark m) text t = subst (λ x. 0 < length x) (sym t) (mark_some m)
 
-covered_number : (text : List ℕ) → IsNumber text → (rest : List ℕ) → IsCovered Number text (text ++ rest)
+covered_number : (text : List ℕ) → IsNumberText text → (rest : List ℕ) → IsCovered Number text (text ++ rest)
 covered_number text t rest =
     let more = number_more text t rest in
     record {

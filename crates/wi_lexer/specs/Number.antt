@@ -6,9 +6,9 @@ use Rattle.std.specs.Str.{byte}
 use Rattle.wi_lexer.specs.Runs.{IsRun, digits_len, one_more}
 
 -- The text is a decimal: digits; or digits or none, a point, and digits.
-pub data IsDecimal : List ℕ → Type 0 where
-  whole : (ds : List ℕ) → IsRun is_ascii_digit ds → IsDecimal ds
-  decimal : (ds es : List ℕ) → list_all is_ascii_digit ds ≡ true → IsRun is_ascii_digit es → IsDecimal (ds ++ byte "." ∷ es)
+pub data IsDecimalText : List ℕ → Type 0 where
+  whole : (ds : List ℕ) → IsRun is_ascii_digit ds → IsDecimalText ds
+  decimal : (ds es : List ℕ) → list_all is_ascii_digit ds ≡ true → IsRun is_ascii_digit es → IsDecimalText (ds ++ byte "." ∷ es)
 
 abbrev pub is_exponent_letter : ℕ → Bool
 is_exponent_letter b = b == byte "e" || b == byte "E"
@@ -22,9 +22,9 @@ pub data IsExponent : List ℕ → Type 0 where
   signed : (e s : ℕ) (ds : List ℕ) → is_exponent_letter e ≡ true → is_sign s ≡ true → IsRun is_ascii_digit ds → IsExponent (e ∷ s ∷ ds)
 
 -- The text is a number: a decimal, with an exponent or without.
-pub data IsNumber : List ℕ → Type 0 where
-  plain : (text : List ℕ) → IsDecimal text → IsNumber text
-  scaled : (text exponent : List ℕ) → IsDecimal text → IsExponent exponent → IsNumber (text ++ exponent)
+pub data IsNumberText : List ℕ → Type 0 where
+  plain : (text : List ℕ) → IsDecimalText text → IsNumberText text
+  scaled : (text exponent : List ℕ) → IsDecimalText text → IsExponent exponent → IsNumberText (text ++ exponent)
 
 -- ---- where a reader finds it
 

@@ -5,7 +5,7 @@ use Rattle.wi_lexer.specs.declared.token.Kind.{Kind}
 use Rattle.wi_lexer.specs.declared.token.Kind.TheVariants.{Number, Reference, Rectangle, Name, Text, Mark}
 use Rattle.wi_lexer.specs.declared.token.Mark as mark
 use Rattle.wi_lexer.specs.Runs.{blanks_len}
-use Rattle.wi_lexer.specs.Number.{IsNumber, number_len}
+use Rattle.wi_lexer.specs.Number.{IsNumberText, number_len}
 use Rattle.wi_lexer.specs.Reference.{IsReference, reference_len}
 use Rattle.wi_lexer.specs.Rectangle.{IsRectangle, rectangle_len}
 use Rattle.wi_lexer.specs.Name.{IsName, name_len}
@@ -14,7 +14,7 @@ use Rattle.wi_lexer.specs.Mark.{mark_text, mark_at}
 
 -- the text is a token of this kind
 abbrev pub IsToken : Kind → List ℕ → Type 0
-IsToken Number text = IsNumber text
+IsToken Number text = IsNumberText text
 IsToken Reference text = IsReference text
 IsToken Rectangle text = IsRectangle text
 IsToken Name text = IsName text

@@ -8,7 +8,7 @@ use Rattle.wi_lexer.specs.declared.token.Kind.{Kind}
 use Rattle.wi_lexer.specs.declared.token.Kind.TheVariants.{Number, Name, Text, Mark}
 use Rattle.wi_lexer.specs.declared.token.Mark.TheVariants.{Less, Greater}
 use Rattle.wi_lexer.specs.Name.{IsName, is_name_start}
-use Rattle.wi_lexer.specs.Number.{IsDecimal, whole, decimal}
+use Rattle.wi_lexer.specs.Number.{IsDecimalText, whole, decimal}
 use Rattle.wi_lexer.specs.Ends.{goes_on, ends}
 use Rattle.wi_lexer.proofs.RunLemmas.{both_are_true}
 use Rattle.wi_parser.specs.declared.expr.Operator.{Operator}
@@ -30,7 +30,7 @@ digit_first d rest h = (grind (arith, nat_tests), grind (arith, nat_tests))
 name_first : (b : ℕ) (rest : List ℕ) → is_name_start b ≡ true → AfterMark (b ∷ rest)
 name_first b rest h = (grind (arith, nat_tests), grind (arith, nat_tests))
 
-number_first : (text rest : List ℕ) → IsDecimal text → AfterMark (text ++ rest)
+number_first : (text rest : List ℕ) → IsDecimalText text → AfterMark (text ++ rest)
 number_first text rest (whole [] run) = absurd (omega (arith, run.some))
 number_first text rest (whole (d ∷ ds) run) = digit_first d (ds ++ rest) (both_are_true (is_ascii_digit d) (list_all is_ascii_digit ds) run.all).0
 number_first text rest (decimal [] es all run) = (refl, refl)

@@ -11,7 +11,7 @@ use Rattle.wi_fraction.proofs.DecimalsReadBack.{decimal_few, decimals_read_back}
 use Rattle.wi_lexer.specs.declared.token.Kind.{Kind}
 use Rattle.wi_lexer.specs.declared.token.Kind.TheVariants.{Number, Text, Reference, Rectangle, Mark, Name}
 use Rattle.wi_lexer.specs.declared.token.Mark.TheVariants.{OpenParenthesis, CloseParenthesis, Semicolon, Percent}
-use Rattle.wi_lexer.specs.Number.{IsDecimal, whole, decimal as with_point, plain}
+use Rattle.wi_lexer.specs.Number.{IsDecimalText, whole, decimal as with_point, plain}
 use Rattle.wi_lexer.specs.Reference.{one_cell}
 use Rattle.wi_lexer.specs.Rectangle.{two_cells}
 use Rattle.wi_lexer.specs.Text.{of_content}
@@ -54,7 +54,7 @@ pub record IsWritten (s : Symbol) : Type 0 where
 
 -- ---- numbers
 
-size_is : (n d : ℕ) (p : Option ℕ) → p ≢ None → n ≤ max_size → IsDecimal (size_text p n d)
+size_is : (n d : ℕ) (p : Option ℕ) → p ≢ None → n ≤ max_size → IsDecimalText (size_text p n d)
 unfolding size_text
 size_is n d None some fits = absurd (some refl)
 size_is n d (Some zero) some fits = whole (decimal n) (digits_run (decimal n) (decimal_digits n fits))
@@ -65,12 +65,12 @@ size_is n d (Some (suc k)) some fits =
     with_point (decimal (n / d)) digits front.all (digits_run digits (long, digits_padded (suc k) _))
 
 -- the exact decimal of a number without a sign is one
-pub number_is : (x : Numbers) → IsNumeral x → IsDecimal (decimal_text x)
+pub number_is : (x : Numbers) → IsNumeral x → IsDecimalText (decimal_text x)
 unfolding decimal_text
 number_is x h =
     let divides = decimal_few h.decimal.0 x.den x.is_number.above_zero x.is_number.den_fits h.decimal.1 in
     let size = size_is (unsigned_abs x.num) x.den (all_places x.den) (λ none. all_none x.den none divides) x.is_number.num_fits in
-    subst (λ b. IsDecimal (sign_text b ++ size_text (all_places x.den) (unsigned_abs x.num) x.den)) (sym h.unsigned) size
+    subst (λ b. IsDecimalText (sign_text b ++ size_text (all_places x.den) (unsigned_abs x.num) x.den)) (sym h.unsigned) size
 
 number_written : (x : Numbers) → IsNumeral x → IsWritten (numeral x)
 number_written x h = record { token = plain (decimal_text x) (number_is x h); means = ap number_symbol (decimals_read_back x h.decimal h.unsigned) }
