@@ -2,6 +2,6 @@
 use Rattle.std.specs.Prelude.{ℕ, List}
 use Rattle.csv.specs.Reading.{default_config, strip_bom, records}
 
--- commas between fields, double quotes, and what follows a byte order mark
+-- with commas and double quotes, and without a byte order mark at the front
 unfoldable pub recs : List ℕ → List (List (List ℕ))
 recs text = records default_config (strip_bom text)

@@ -10,7 +10,8 @@ use crate::fault::CsvFault;
 use csv::{ByteRecord, ReaderBuilder};
 use std::alloc::{AllocError, Global};
 
-/// The records of a text, each a list of its fields.
+/// The records of a text, each a list of its fields. A byte order mark at its front is taken off, and an empty line is no
+/// record. No text is refused for what it holds: `Read` is an error of `csv` of another kind.
 pub fn records(alloc: Global, bytes: &[u8]) -> Result<Vec<Vec<Vec<u8>>>, CsvFault>
     ensures records { IfOk result (λ rows. map (λ fields. map (λ f. f.items) fields.items) rows.items ≡ recs bytes.now) }
     ensures read { IfErr result (λ fault. fault ≡ Read → HasFailed) }
