@@ -3,3 +3,4 @@ pub mod ExchangeLemmas
 pub mod ChangeLemmas
 pub mod EditLemmas
 pub mod Within
+pub mod NextRoom

@@ -1,10 +1,9 @@
 -- Laws of rooms and of the sheet in them.
-use Rattle.std.proofs.Common.{◌≡◌, ℕ, ◌+◌, ◌<◌, ◌==◌, Bool, true, false, cond, List, [], ◌∷◌, filter, length, Option, Some, None, IsSome, option_map, refl, sym, ap, ◌∙◌, subst, arith, ⊎_elim}
-use Rattle.std.specs.Prelude.{nat_lt, nat_eq}
-use Rattle.std.specs.Option.{option_flatten, is_some}
-use Rattle.std.specs.List.{AllByRecursion, filter_map}
+use Rattle.std.proofs.Common.{◌≡◌, ℕ, ◌+◌, ◌<◌, Bool, true, false, cond, List, [], ◌∷◌, filter, length, Option, Some, None, refl, sym, ap, ◌∙◌, subst, arith, ⊎_elim}
+use Rattle.std.specs.Option.{option_flatten}
+use Rattle.std.specs.List.{AllByRecursion}
 use Rattle.std.specs.List.Sorted.{IsStrictlySortedBy}
-use Rattle.std.specs.Ordering.{nat_cmp, is_eq}
+use Rattle.std.specs.Ordering.{nat_cmp}
 use Rattle.std.specs.declared.cmp.Ordering.TheVariants.{Less}
 use Rattle.std.specs.Map.{lookup, keys_of}
 use Rattle.std.specs.BTreeMap.{is_at}
@@ -13,7 +12,7 @@ use Rattle.std.proofs.lemmas.Bool.Decides.{nat_tests}
 use Rattle.std.proofs.lemmas.Map.Keys.{sorted_head, sorted_tail}
 use Rattle.wi_parser.specs.Sheet.{Sheet, content_of, cells_with_formula, has_formula}
 use Rattle.wi_parser.specs.declared.content.Content.{Content}
-use Rattle.wi_store.specs.Rooms.{Rooms, occupant, sheet_in, room_of, formula_rooms, IsInOrder, HasNoVacancy}
+use Rattle.wi_store.specs.Rooms.{Rooms, sheet_in, room_of, formula_rooms, HasNoVacancy}
 
 -- ---- orders by numbers
 
@@ -140,6 +139,17 @@ length-sheet_in (e ∷ es) h n =
     let o : e.1 ≡ None → ⊥ = λ p. n e.0 (room_of-here e.0 e.1 es ∙ ap (λ (o : Option Content). Some o) p) in
     let r : length (sheet_in es) ≡ length es = length-sheet_in es h.1 (λ a v. n a (room_of-tail a e.0 e.1 es h.0 v)) in
     omega (arith, length-one_more e.0 e.1 es o r)
+
+keys-one_more : (c : ℕ) (o : Option Content) (es : Rooms) → (o ≡ None → ⊥) → keys_of (sheet_in es) ≡ keys_of es → keys_of (sheet_in ((c, o) ∷ es)) ≡ c ∷ keys_of es
+keys-one_more c None es n h = absurd (n refl)
+keys-one_more c (Some x) es n h = ap (λ (cs : List ℕ). c ∷ cs) h
+
+-- and has their cells
+pub keys-sheet_in : (rooms : Rooms) → Ascends rooms → HasNoVacancy rooms → keys_of (sheet_in rooms) ≡ keys_of rooms
+keys-sheet_in [] h n = refl
+keys-sheet_in (e ∷ es) h n =
+    let o : e.1 ≡ None → ⊥ = λ p. n e.0 (room_of-here e.0 e.1 es ∙ ap (λ (o : Option Content). Some o) p) in
+    keys-one_more e.0 e.1 es o (keys-sheet_in es h.1 (λ a v. n a (room_of-tail a e.0 e.1 es h.0 v)))
 
 -- ---- formula cells
 

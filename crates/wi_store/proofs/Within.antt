@@ -1,5 +1,5 @@
 -- The formula cells of a rectangle, as a search over rooms finds them.
-use Rattle.std.proofs.Common.{◌≡◌, ℕ, ◌<◌, ◌≤◌, Bool, true, false, ◌&&◌, cond, List, [], ◌∷◌, ◌++◌, filter, Option, Some, None, IfSome, refl, sym, ap, ◌∙◌, subst, arith, append_assoc, append-nil}
+use Rattle.std.proofs.Common.{◌≡◌, ℕ, ◌+◌, ◌-◌, ◌<◌, ◌≤◌, Bool, true, false, ◌&&◌, cond, List, [], ◌∷◌, ◌++◌, filter, Option, Some, None, IfSome, refl, sym, ap, ◌∙◌, subst, arith, append_assoc, append-nil}
 use Rattle.std.specs.Prelude.{nat_le, not}
 use Rattle.std.specs.Ordering.{nat_cmp, is_le, is_lt}
 use Rattle.std.specs.Map.{keys_of}
@@ -21,7 +21,7 @@ next_room w c o es = by (has_formula o)
     by true = refl
     by false = refl
 
-and_false : (b : Bool) → (b && false) ≡ false
+pub and_false : (b : Bool) → (b && false) ≡ false
 and_false true = refl
 and_false false = refl
 
@@ -46,10 +46,10 @@ last_room w before c o b h =
 
 -- ---- orders
 
-at_most : (m n : ℕ) → nat_le m n ≡ true → m ≤ n
+pub at_most : (m n : ℕ) → nat_le m n ≡ true → m ≤ n
 at_most m n h = grind (arith, nat_tests)
 
-nat_le-from : (m n : ℕ) → m ≤ n → nat_le m n ≡ true
+pub nat_le-from : (m n : ℕ) → m ≤ n → nat_le m n ≡ true
 nat_le-from m n h = grind (arith, nat_tests)
 
 nat_le-not : (m n : ℕ) → n < m → nat_le m n ≡ false
@@ -79,14 +79,14 @@ within_between r a h =
     let right = at_most _ _ cols.1 in
     (omega arith, omega arith)
 
-abbrev is_between : ℕ → ℕ → ℕ → Bool
+abbrev pub is_between : ℕ → ℕ → ℕ → Bool
 is_between from last a = range_contains nat_cmp (Included from) (Included last) a
 
-is_between-means : (from last a : ℕ) → is_between from last a ≡ true → (from ≤ a) × (a ≤ last)
+pub is_between-means : (from last a : ℕ) → is_between from last a ≡ true → (from ≤ a) × (a ≤ last)
 is_between-means from last a h =
     let p = and_parts (is_le (nat_cmp from a)) _ h in (is_le-means from a p.0, is_not_lt-means last a p.1)
 
-is_between-from : (from last a : ℕ) → (from ≤ a) × (a ≤ last) → is_between from last a ≡ true
+pub is_between-from : (from last a : ℕ) → (from ≤ a) × (a ≤ last) → is_between from last a ≡ true
 is_between-from from last a h = and_from _ _ (is_le-from from a h.0) (is_not_lt-from last a h.1)
 
 -- the rooms from a cell to another
@@ -216,12 +216,12 @@ pub none_ahead : (r : Area) (found all cs : List ℕ) → found ++ filter (is_ah
 none_ahead r found all cs h = sym (append-nil found) ∙ ap (λ (xs : List ℕ). found ++ xs) (sym (nothing_ahead r cs)) ∙ h
 
 -- where the next cell is after c, nothing before c is ahead
-low : (r : Area) (c : ℕ) (next : Option ℕ) → IfSome next (λ n. (c < n) × (n ≤ r.last)) → (a : ℕ) → a < c → is_ahead r next a ≡ false
+pub low : (r : Area) (c : ℕ) (next : Option ℕ) → IfSome next (λ n. (c < n) × (n ≤ r.last)) → (a : ℕ) → a < c → is_ahead r next a ≡ false
 low r c None h a l = refl
 low r c (Some n) h a l = ap (λ (b : Bool). b && is_within r a) (nat_le-not n a (omega (arith, h.0)))
 
 -- and from c on all of the rectangle is, where it is said to be
-same : (r : Area) (c : ℕ) (next : Option ℕ) → ((a : ℕ) → is_within r a ≡ true → c ≤ a → is_ahead r next a ≡ true) → (a : ℕ) → c ≤ a → is_ahead r next a ≡ is_within r a
+pub same : (r : Area) (c : ℕ) (next : Option ℕ) → ((a : ℕ) → is_within r a ≡ true → c ≤ a → is_ahead r next a ≡ true) → (a : ℕ) → c ≤ a → is_ahead r next a ≡ is_within r a
 same r c next all a l = at next (is_within r a) refl (λ w. all a w l)
   where
     at : (o : Option ℕ) (b : Bool) → is_within r a ≡ b → (is_within r a ≡ true → is_ahead r o a ≡ true) → is_ahead r o a ≡ is_within r a
@@ -283,3 +283,8 @@ run_same w before c o old found f k =
 pub next_within : (from last : ℕ) (next : Option ℕ) → IfSome next (λ n. (from < n) × (n ≤ last)) → IfSome next (λ n. n ≤ last)
 next_within from last None h = tt
 next_within from last (Some n) h = h.1
+
+-- how many cells there are from this one to the last of the rectangle
+abbrev pub cells_ahead : Area → Option ℕ → ℕ
+cells_ahead r None = 0
+cells_ahead r (Some from) = (r.last + 1) - from

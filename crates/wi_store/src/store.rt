@@ -1,7 +1,8 @@
 //! A sheet within limits.
 
-ghost use Rattle.std.specs.Prelude.{◌≡◌, ◌<◌, ◌≤◌, ◌⊎◌, ◌++◌, ℕ, List, [], true, false, filter, length, IfOk, IfSome, OnOk, OnErr};
+ghost use Rattle.std.specs.Prelude.{◌≡◌, ◌<◌, ◌≤◌, ◌⊎◌, ◌++◌, ◌&&◌, ℕ, List, [], true, false, nat_le, filter, length, IfOk, IfSome, OnOk, OnErr};
 ghost use Rattle.std.specs.Option.{option_copied};
+ghost use Rattle.std.specs.List.{find};
 ghost use Rattle.std.specs.List.Sorted.{IsStrictlyIncreasing};
 ghost use Rattle.std.specs.Map.{keys_of};
 ghost use Rattle.wi_values.specs.Address.{is_within};
@@ -142,6 +143,14 @@ impl Store {
         }
         outcome
     }
+
+    /// The first occupied cell of a rectangle, in row-major order, at a cell or after it. The work grows with the logarithm of
+    /// the count of all occupied cells, once and for each row of the rectangle where a cell beside it comes before the one found.
+    pub fn next_occupied(&self, area: Rect, from: Address) -> Option<Address>
+        ensures { result ≡ find (λ a. nat_le from a) (filter (is_within area) (keys_of self.now.sheet)) }
+    {
+        next_room(&self.rooms, area, from)
+    }
 }
 
 // Appends the cells of a rectangle that have a formula. On an error some of them may be there.
@@ -183,7 +192,7 @@ fn push_run(
     Ok(None)
 }
 
-// The first cell of a rectangle after a cell beside it, if there is one.
+// Where a rectangle goes on after a cell beside it, in the first column of a row, if it does.
 fn next_inside(area: Rect, at: Address) -> Option<Address>
     requires to { at ≤ area.last }
     requires beside { is_within area at ≡ false }
@@ -197,6 +206,38 @@ fn next_inside(area: Rect, at: Address) -> Option<Address>
         Some(Address::at(at.row() + 1, left))
     } else {
         None
+    }
+}
+
+// The first room of a rectangle, at a cell or after it.
+fn next_room(rooms: &Rooms, area: Rect, from: Address) -> Option<Address>
+    requires { IsInOrder rooms.now.entries }
+    ensures { result ≡ find (is_ahead area (Some from)) (keys_of rooms.now.entries) }
+{
+    let mut ahead = Some(from);
+    while let Some(start) = ahead {
+        let cell = first_room(rooms, start, area.last())?;
+        if area.contains(cell) {
+            return Some(cell);
+        }
+        ahead = next_inside(area, cell);
+    }
+    None
+}
+
+// The first room from a cell to another.
+fn first_room(rooms: &Rooms, from: Address, to: Address) -> Option<Address>
+    ensures { result ≡ find (λ a. nat_le from a && nat_le a to) (keys_of rooms.now.entries) }
+{
+    if to < from {
+        return None;
+    }
+    match rooms
+        .range((Bound::Included(from), Bound::Included(to)))
+        .next()
+    {
+        Some((cell, _)) => Some(*cell),
+        None => None,
     }
 }
 

@@ -108,6 +108,34 @@ fn formulas_within_rectangles(rt: HostRuntime) -> Result<(), Fail> {
 }
 
 #[test]
+fn the_next_occupied_cell(rt: HostRuntime) -> Result<(), Fail> {
+    let store = with_formulas(rt.alloc())?;
+    for (area, from, next) in [
+        ("B1:C3", "A1", "B1"),
+        ("B1:C3", "B1", "B1"),
+        ("B1:C3", "C1", "B2"),
+        ("B1:C3", "D2", "B3"),
+        ("A1:A9", "A3", "A4"),
+        ("C1:C3", "A1", "C2"),
+        ("A1:XFD1048576", "C1", "D1"),
+    ] {
+        let found = store.next_occupied(
+            Rect::read(area.as_bytes())?,
+            Address::read(from.as_bytes())?,
+        );
+        assert_eq!(rt; found, Some(Address::read(next.as_bytes())?));
+    }
+    for (area, from) in [("B1:C3", "D3"), ("E1:E9", "A1"), ("A1:A2", "A4")] {
+        let found = store.next_occupied(
+            Rect::read(area.as_bytes())?,
+            Address::read(from.as_bytes())?,
+        );
+        assert_eq!(rt; found, None);
+    }
+    Ok(())
+}
+
+#[test]
 fn an_edit_is_judged_by_its_end(rt: HostRuntime) -> Result<(), Fail> {
     let (a1, b1) = (Address::at(0, 0), Address::at(0, 1));
     let limits = Limits { cells: 1, edits: 3 };

@@ -1,12 +1,8 @@
-use Rattle.std.proofs.Common.{◌≡◌, ◌++◌, ◌-◌, ◌+◌, ◌≤◌, ℕ, List, filter, IfSome, Option, Some, None}
-use Rattle.wi_values.specs.Address.{Area, is_within}
+use Rattle.std.proofs.Common.{◌≡◌, ◌++◌, ◌≤◌, ℕ, List, filter, IfSome}
+use Rattle.wi_values.specs.Address.{is_within}
 use Rattle.wi_store.specs.Rooms.{formula_rooms, is_ahead}
+use Rattle.wi_store.proofs.Within.{cells_ahead}
 use Rattle.wi_store.proofs.store.push_formulas.Given as goal
-
--- how many cells there are from this one to the last of the rectangle
-abbrev pub cells_ahead : Area → Option ℕ → ℕ
-cells_ahead r None = 0
-cells_ahead r (Some from) = (r.last + 1) - from
 
 abbrev pub decreases-loop-ahead : goal.decreases-loop-ahead
 decreases-loop-ahead l = cells_ahead l.area l.ahead

@@ -1,0 +1,166 @@
+-- The first room of a rectangle, as a search finds it.
+use Rattle.std.proofs.Common.{◌≡◌, ℕ, ◌<◌, ◌≤◌, Bool, true, false, ◌&&◌, cond, List, [], ◌∷◌, filter, Option, Some, None, IfSome, refl, sym, ap, ◌∙◌, subst, arith}
+use Rattle.std.specs.Prelude.{nat_le}
+use Rattle.std.specs.List.{find}
+use Rattle.std.specs.Map.{keys_of}
+use Rattle.std.proofs.lemmas.Bool.{and_parts, and_from, false_from_ne_true}
+use Rattle.wi_values.specs.Address.{Area, is_within}
+use Rattle.wi_store.specs.Rooms.{Rooms, is_ahead}
+use Rattle.wi_store.proofs.RoomLemmas.{ComeAfter, Ascends}
+use Rattle.wi_store.proofs.Within.{range_of, same, and_false, at_most, nat_le-from, within_between, is_between, is_between-means, is_between-from, cells_ahead}
+
+-- the cell comes at or after the one, and at or before the other
+abbrev pub spans : ℕ → ℕ → ℕ → Bool
+spans from to a = nat_le from a && nat_le a to
+
+spans-means : (from to a : ℕ) → spans from to a ≡ true → (from ≤ a) × (a ≤ to)
+spans-means from to a h = let p = and_parts (nat_le from a) _ h in (at_most from a p.0, at_most a to p.1)
+
+spans-from : (from to a : ℕ) → (from ≤ a) × (a ≤ to) → spans from to a ≡ true
+spans-from from to a h = and_from _ _ (nat_le-from from a h.0) (nat_le-from a to h.1)
+
+-- ---- the first of a list
+
+found_passes : (p : ℕ → Bool) (xs : List ℕ) (c : ℕ) → find p xs ≡ Some c → p c ≡ true
+found_passes p [] c h = absurd (let z = h in cc)
+found_passes p (x ∷ xs) c h = at (p x) refl h (found_passes p xs c)
+  where
+    at : (b : Bool) → p x ≡ b → cond b (Some x) (find p xs) ≡ Some c → (find p xs ≡ Some c → p c ≡ true) → p c ≡ true
+    at true e k ih = let same : x ≡ c = cc in ap p (sym same) ∙ e
+    at false e k ih = ih k
+
+-- where nothing passes one test, nothing passes a narrower one
+none_narrower : (p q : ℕ → Bool) → ((a : ℕ) → p a ≡ false → q a ≡ false) → (xs : List ℕ) → find p xs ≡ None → find q xs ≡ None
+none_narrower p q n [] h = refl
+none_narrower p q n (x ∷ xs) h = at (p x) refl h (none_narrower p q n xs)
+  where
+    at : (b : Bool) → p x ≡ b → cond b (Some x) (find p xs) ≡ None → (find p xs ≡ None → find q xs ≡ None) → cond (q x) (Some x) (find q xs) ≡ None
+    at true e k ih = absurd (let z = k in cc)
+    at false e k ih = ap (λ (b : Bool). cond b (Some x) (find q xs)) (n x e) ∙ ih k
+
+-- the first that passes a test is the first of a narrower one that it passes
+first_narrower : (p q : ℕ → Bool) (c : ℕ) → ((a : ℕ) → p a ≡ false → q a ≡ false) → q c ≡ true → (xs : List ℕ) → find p xs ≡ Some c → find q xs ≡ Some c
+first_narrower p q c n f [] h = absurd (let z = h in cc)
+first_narrower p q c n f (x ∷ xs) h = at (p x) refl h (first_narrower p q c n f xs)
+  where
+    at : (b : Bool) → p x ≡ b → cond b (Some x) (find p xs) ≡ Some c → (find p xs ≡ Some c → find q xs ≡ Some c) → cond (q x) (Some x) (find q xs) ≡ Some c
+    at true e k ih =
+        let same : x ≡ c = cc in
+        ap (λ (b : Bool). cond b (Some x) (find q xs)) (ap q same ∙ f) ∙ ap (λ (a : ℕ). Some a) same
+    at false e k ih = ap (λ (b : Bool). cond b (Some x) (find q xs)) (n x e) ∙ ih k
+
+alike_after : (p q : ℕ → Bool) (c : ℕ) → ((a : ℕ) → c < a → p a ≡ q a) → (es : Rooms) → ComeAfter c es → find p (keys_of es) ≡ find q (keys_of es)
+alike_after p q c h [] k = refl
+alike_after p q c h (e ∷ es) k =
+    ap (λ (b : Bool). cond b (Some e.0) (find p (keys_of es))) (h e.0 k.0)
+    ∙ ap (λ (o : Option ℕ). cond (q e.0) (Some e.0) o) (alike_after p q c h es k.1)
+
+-- two tests that pass nothing up to the first that passes a third, and that are one after it, find the same
+alike_from : (s p q : ℕ → Bool) (c : ℕ) → ((a : ℕ) → s a ≡ false → p a ≡ false) → ((a : ℕ) → s a ≡ false → q a ≡ false) → p c ≡ false → q c ≡ false → ((a : ℕ) → c < a → p a ≡ q a) →
+    (es : Rooms) → Ascends es → find s (keys_of es) ≡ Some c → find p (keys_of es) ≡ find q (keys_of es)
+alike_from s p q c np nq pc qc h [] asc k = refl
+alike_from s p q c np nq pc qc h (e ∷ es) asc k = at (s e.0) refl k (alike_from s p q c np nq pc qc h es asc.1)
+  where
+    neither : p e.0 ≡ false → q e.0 ≡ false → find p (keys_of es) ≡ find q (keys_of es) → cond (p e.0) (Some e.0) (find p (keys_of es)) ≡ cond (q e.0) (Some e.0) (find q (keys_of es))
+    neither x y z =
+        ap (λ (b : Bool). cond b (Some e.0) (find p (keys_of es))) x ∙ z ∙ sym (ap (λ (b : Bool). cond b (Some e.0) (find q (keys_of es))) y)
+
+    at : (b : Bool) → s e.0 ≡ b → cond b (Some e.0) (find s (keys_of es)) ≡ Some c → (find s (keys_of es) ≡ Some c → find p (keys_of es) ≡ find q (keys_of es)) → cond (p e.0) (Some e.0) (find p (keys_of es)) ≡ cond (q e.0) (Some e.0) (find q (keys_of es))
+    at true x l ih =
+        let here : e.0 ≡ c = cc in
+        neither (ap p here ∙ pc) (ap q here ∙ qc) (alike_after p q e.0 (λ a m. h a (subst (λ (n : ℕ). n < a) here m)) es asc.0)
+    at false x l ih = neither (np e.0 x) (nq e.0 x) (ih l)
+
+-- ---- a range of rooms
+
+abbrev pub first_cell : Rooms → Option ℕ
+first_cell [] = None
+first_cell (e ∷ es) = Some e.0
+
+pub first_in_range : (from to : ℕ) (rooms : Rooms) → first_cell (range_of from to rooms) ≡ find (spans from to) (keys_of rooms)
+first_in_range from to [] = refl
+first_in_range from to (e ∷ es) = at (is_between from to e.0) refl (first_in_range from to es)
+  where
+    at : (b : Bool) → is_between from to e.0 ≡ b → first_cell (range_of from to es) ≡ find (spans from to) (keys_of es) →
+        first_cell (cond b (e ∷ range_of from to es) (range_of from to es)) ≡ cond (spans from to e.0) (Some e.0) (find (spans from to) (keys_of es))
+    at true h ih = sym (ap (λ (b : Bool). cond b (Some e.0) (find (spans from to) (keys_of es))) (spans-from from to e.0 (is_between-means from to e.0 h)))
+    at false h ih =
+        let none = false_from_ne_true (spans from to e.0) (λ w. let z = is_between-from from to e.0 (spans-means from to e.0 w) in cc) in
+        ih ∙ sym (ap (λ (b : Bool). cond b (Some e.0) (find (spans from to) (keys_of es))) none)
+
+pub none_spanned : (from to : ℕ) → to < from → (xs : List ℕ) → find (spans from to) xs ≡ None
+none_spanned from to h [] = refl
+none_spanned from to h (x ∷ xs) =
+    let none = false_from_ne_true (spans from to x) (λ w. let p = spans-means from to x w in absurd (omega (arith, p.0, p.1))) in
+    ap (λ (b : Bool). cond b (Some x) (find (spans from to) xs)) none ∙ none_spanned from to h xs
+
+-- ---- the search
+
+-- what is ahead in a rectangle comes before its last cell
+ahead_spans : (r : Area) (start a : ℕ) → spans start r.last a ≡ false → is_ahead r (Some start) a ≡ false
+ahead_spans r start a h =
+    false_from_ne_true (is_ahead r (Some start) a) (λ w.
+    let p = and_parts (nat_le start a) _ w in
+    let z = spans-from start r.last a (at_most start a p.0, (within_between r a p.1).1) in
+    cc)
+
+pub search_none : (r : Area) (start : ℕ) (xs : List ℕ) → find (spans start r.last) xs ≡ None → find (is_ahead r (Some start)) xs ≡ None
+search_none r start xs h = none_narrower (spans start r.last) (is_ahead r (Some start)) (ahead_spans r start) xs h
+
+pub search_found : (r : Area) (start c : ℕ) (xs : List ℕ) → find (spans start r.last) xs ≡ Some c → is_within r c ≡ true → find (is_ahead r (Some start)) xs ≡ Some c
+search_found r start c xs h w =
+    let s = spans-means start r.last c (found_passes (spans start r.last) xs c h) in
+    first_narrower (spans start r.last) (is_ahead r (Some start)) c (ahead_spans r start) (and_from _ _ (nat_le-from start c s.0) w) xs h
+
+-- where the search goes on after a cell beside the rectangle
+pub search_on : (r : Area) (start c : ℕ) (next : Option ℕ) (rooms : Rooms) → Ascends rooms → find (spans start r.last) (keys_of rooms) ≡ Some c → is_within r c ≡ false →
+    IfSome next (λ n. (c < n) × (n ≤ r.last)) → ((a : ℕ) → is_within r a ≡ true → c ≤ a → is_ahead r next a ≡ true) →
+    find (is_ahead r next) (keys_of rooms) ≡ find (is_ahead r (Some start)) (keys_of rooms)
+search_on r start c next rooms asc h beside after all =
+    let s = spans-means start r.last c (found_passes (spans start r.last) (keys_of rooms) c h) in
+    alike_from (spans start r.last) (is_ahead r next) (is_ahead r (Some start)) c
+    (λ a m. false_from_ne_true (is_ahead r next a) (λ w. let z = spans-from start r.last a (reach next after a w s.0) in cc))
+    (ahead_spans r start)
+    (same r c next all c (omega arith) ∙ beside)
+    (ap (λ (b : Bool). nat_le start c && b) beside ∙ and_false (nat_le start c))
+    (λ a m. same r c next all a (omega arith) ∙ sym (ap (λ (b : Bool). b && is_within r a) (nat_le-from start a (omega (arith, s.0)))))
+    rooms asc h
+  where
+    reach : (o : Option ℕ) → IfSome o (λ n. (c < n) × (n ≤ r.last)) → (a : ℕ) → is_ahead r o a ≡ true → start ≤ c → (start ≤ a) × (a ≤ r.last)
+    reach None k a w l = absurd (let z = w in cc)
+    reach (Some n) k a w l =
+        let p = and_parts (nat_le n a) _ w in
+        let m = at_most n a p.0 in
+        (omega (arith, k.0), (within_between r a p.1).1)
+
+-- each turn of the search leaves fewer cells
+pub search_shorter : (r : Area) (start c : ℕ) (xs : List ℕ) → find (spans start r.last) xs ≡ Some c → (start ≤ c) × (c ≤ r.last)
+search_shorter r start c xs h = spans-means start r.last c (found_passes (spans start r.last) xs c h)
+
+pub nothing_found : (r : Area) (xs : List ℕ) → find (is_ahead r None) xs ≡ None
+nothing_found r [] = refl
+nothing_found r (x ∷ xs) = nothing_found r xs
+
+and_true : (b : Bool) → (b && true) ≡ b
+and_true true = refl
+and_true false = refl
+
+-- one test after another
+pub find_ahead : (r : Area) (from : ℕ) (xs : List ℕ) → find (is_ahead r (Some from)) xs ≡ find (λ a. nat_le from a) (filter (is_within r) xs)
+find_ahead r from [] = refl
+find_ahead r from (x ∷ xs) = at (is_within r x) refl (find_ahead r from xs)
+  where
+    at : (b : Bool) → is_within r x ≡ b → find (is_ahead r (Some from)) xs ≡ find (λ a. nat_le from a) (filter (is_within r) xs) →
+        cond (nat_le from x && is_within r x) (Some x) (find (is_ahead r (Some from)) xs) ≡ find (λ a. nat_le from a) (cond b (x ∷ filter (is_within r) xs) (filter (is_within r) xs))
+    at true h ih =
+        ap (λ (b : Bool). cond (nat_le from x && b) (Some x) (find (is_ahead r (Some from)) xs)) h
+        ∙ ap (λ (b : Bool). cond b (Some x) (find (is_ahead r (Some from)) xs)) (and_true (nat_le from x))
+        ∙ ap (λ (o : Option ℕ). cond (nat_le from x) (Some x) o) ih
+    at false h ih =
+        ap (λ (b : Bool). cond (nat_le from x && b) (Some x) (find (is_ahead r (Some from)) xs)) h
+        ∙ ap (λ (b : Bool). cond b (Some x) (find (is_ahead r (Some from)) xs)) (and_false (nat_le from x))
+        ∙ ih
+
+pub fewer_ahead : (r : Area) (start c : ℕ) (next now : Option ℕ) → now ≡ Some start → (start ≤ c) × (c ≤ r.last) → IfSome next (λ n. (c < n) × (n ≤ r.last)) → cells_ahead r next < cells_ahead r now
+fewer_ahead r start c None now e l h = subst (λ (o : Option ℕ). cells_ahead r None < cells_ahead r o) (sym e) (omega (arith, l.0, l.1))
+fewer_ahead r start c (Some n) now e l h = subst (λ (o : Option ℕ). cells_ahead r (Some n) < cells_ahead r o) (sym e) (omega (arith, l.0, l.1, h.0, h.1))
