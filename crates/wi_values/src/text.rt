@@ -1,10 +1,12 @@
 //! The text of a value.
 
 ghost use Rattle.std.specs.Prelude.{◌≡◌, IfOk, string_bytes};
+ghost use Rattle.std.specs.Hash as fed;
 ghost use Rattle.std.specs.Str.{bytes_eq};
-ghost use Rattle.wi_values.specs.Same.{same_text_equiv, same_text_partial};
+ghost use Rattle.wi_values.specs.Same.{same_text_equiv, same_text_hash, same_text_partial};
 
 use std::alloc::{AllocError, Global};
+use std::hash::{Hash, Hasher};
 use std::marker::Model;
 
 /// The greatest length of a text in bytes.
@@ -66,4 +68,14 @@ impl PartialEq for Text {
 
 impl Eq for Text {
     ghost laws = { same_text_equiv };
+}
+
+impl Hash for Text {
+    ghost hash_input = { fed.str };
+
+    ghost respects_eq = { same_text_hash };
+
+    fn hash<H: Hasher>(&self, state: &mut H) {
+        self.as_str().hash(state);
+    }
 }

@@ -45,7 +45,7 @@ impl ErrorKind {
 }
 
 /// A value.
-#[derive(PartialEq, Eq, Debug, Drop)]
+#[derive(PartialEq, Eq, Hash, Debug, Drop)]
 pub enum Value {
     Empty,
     Number(Fraction),
