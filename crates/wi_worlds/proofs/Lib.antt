@@ -1,0 +1,4 @@
+pub mod InOrder
+pub mod Overriding
+pub mod Filtering
+mod Rows

@@ -1,0 +1,31 @@
+use Rattle.std.proofs.Common.{◌∙◌, ◌++◌, ◌∷◌, [], sym, ap, subst}
+use Rattle.wi_values.specs.declared.replacement.Replacement.{Replacement}
+use Rattle.wi_worlds.specs.World.{IsInOrder}
+use Rattle.wi_worlds.specs.Reaching.{reaches}
+use Rattle.wi_worlds.proofs.Filtering.{order_of_filter, kept_more, kept_same, kept_all}
+use Rattle.wi_worlds.proofs.world.World.reaching.Goals.{then-reaches+in_ok-copied+in_ok-push, else-reaches}
+use Rattle.wi_worlds.proofs.world.World.reaching.Goals as goal
+
+pub loop-replacement-preserved : goal.loop-replacement-preserved
+loop-replacement-preserved c =
+    let p = reaches c.args.cones.now c.args.at in
+    let kept = c.loop-replacement.replacements.items in
+    let all = c.deref-replacement-items.result.now in
+    elim c.if-reaches.branch [
+      | then-reaches+in_ok-copied+in_ok-push w ↦
+          kept_more p kept c.if-reaches.replacements.items all _ c.loop-replacement.replacement-index c.replacement-item.result
+          c.loop-replacement-test.true c.replacement-item.is (sym c.reaches.ensures ∙ w.if-reaches.true)
+          (ap (λ v. v.items) w.replacements-is ∙ w.in_ok-push.ensures.items
+          ∙ ap (λ (r : Replacement). kept ++ r ∷ []) w.in_ok-copied.ensures) c.loop-replacement.invariant
+      | else-reaches w ↦
+          kept_same p kept c.if-reaches.replacements.items all _ c.loop-replacement.replacement-index c.replacement-item.result
+          c.loop-replacement-test.true c.replacement-item.is (sym c.reaches.ensures ∙ w.if-reaches.false)
+          (ap (λ v. v.items) w.replacements-is) c.loop-replacement.invariant
+    ]
+
+pub invariant_of-result : goal.invariant_of-result
+invariant_of-result c =
+    let p = reaches c.args.cones.now c.args.at in
+    let all = c.deref-replacement-items.result.now in
+    subst IsInOrder (sym (kept_all p c.loop-replacement.replacements.items all c.loop-replacement.replacement-index c.loop-replacement-test.false c.loop-replacement.invariant))
+    (order_of_filter p all (subst IsInOrder (sym c.deref-replacement-items.ensures.value) c.self.invariant))

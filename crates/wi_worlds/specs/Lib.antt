@@ -1,0 +1,3 @@
+pub mod World
+pub mod Reaching
+pub mod Compared

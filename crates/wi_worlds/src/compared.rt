@@ -1,0 +1,30 @@
+//! Equality and hash of worlds.
+
+ghost use Rattle.wi_worlds.specs.Compared.{same_world, same_world_equiv, same_world_hash, same_world_partial, world_input};
+
+use crate::world::World;
+use std::hash::{Hash, Hasher};
+
+impl PartialEq for World {
+    ghost eq = { same_world };
+
+    ghost laws = { same_world_partial };
+
+    fn eq(&self, other: &World) -> bool {
+        self.replacements() == other.replacements()
+    }
+}
+
+impl Eq for World {
+    ghost laws = { same_world_equiv };
+}
+
+impl Hash for World {
+    ghost hash_input = { world_input };
+
+    ghost respects_eq = { same_world_hash };
+
+    fn hash<H: Hasher>(&self, state: &mut H) {
+        self.replacements().hash(state);
+    }
+}

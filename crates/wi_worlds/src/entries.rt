@@ -1,0 +1,49 @@
+//! Replacements as entries of a map, and back.
+
+ghost use Rattle.std.specs.Prelude.{◌≡◌, IfOk, OnOk};
+ghost use Rattle.wi_worlds.specs.World.{IsInOrder, entries, overridden};
+
+use std::alloc::{AllocError, Global};
+use std::collections::BTreeMap;
+use wi_values::{Address, Replacement, Value};
+
+/// Values by addresses.
+type Entries = BTreeMap<Address, Value>;
+
+/// The same replacement once more.
+pub(crate) fn copied(alloc: Global, replacement: &Replacement) -> Result<Replacement, AllocError>
+    ensures { IfOk result (λ r. r ≡ replacement.now) }
+{
+    let value = replacement.value.copy(alloc)?;
+    Ok(Replacement {
+        at: replacement.at,
+        value,
+    })
+}
+
+/// Puts copies of replacements into a map, one after another. If memory runs out, those put in so far stay.
+pub(crate) fn put_in(
+    alloc: Global,
+    map: &mut Entries,
+    replacements: &[Replacement],
+) -> Result<(), AllocError>
+    ensures { OnOk result (map.new.entries ≡ overridden map.old.entries replacements.now) }
+{
+    for replacement in replacements {
+        let value = replacement.value.copy(alloc)?;
+        map.insert(replacement.at, value)?;
+    }
+    Ok(())
+}
+
+/// The entries of a map as replacements, in row-major order.
+pub(crate) fn listed(alloc: Global, map: Entries) -> Result<Vec<Replacement>, AllocError>
+    ensures value { IfOk result (λ rs. entries rs.items ≡ map.entries) }
+    ensures order { IfOk result (λ rs. IsInOrder rs.items) }
+{
+    let mut replacements = Vec::with_capacity(alloc, map.len())?;
+    for (at, value) in map {
+        replacements.push(Replacement { at, value })?;
+    }
+    Ok(replacements)
+}

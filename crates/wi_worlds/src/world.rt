@@ -1,0 +1,99 @@
+//! Replacements, one for each address.
+
+ghost use Rattle.std.specs.Prelude.{◌≡◌, ◌==◌, ℕ, [], All, filter, IsSome, IfOk};
+ghost use Rattle.std.specs.BTreeMap.{get};
+ghost use Rattle.std.specs.List.{list_any};
+ghost use Rattle.std.specs.Option.{option_or};
+ghost use Rattle.std.specs.Ordering.{nat_cmp};
+ghost use Rattle.wi_worlds.specs.Reaching.{cells_of, reaches};
+ghost use Rattle.wi_worlds.specs.World.{IsInOrder, entries, last_for, overridden, replaced};
+
+use crate::entries::{copied, listed, put_in};
+use std::alloc::{AllocError, Global};
+use std::collections::BTreeMap;
+use std::marker::Model;
+use wi_values::{Address, Replacement};
+
+/// Replacements, one for each address, in row-major order. A replacement by Empty is one like others.
+#[derive(Debug, Drop)]
+pub struct World {
+    replacements: Vec<Replacement>,
+}
+
+impl Model for World {
+    ghost use Rattle.std.specs.Prelude.{List};
+    ghost use Rattle.wi_values.specs.declared.replacement.Replacement.{Replacement};
+    ghost use Rattle.std.specs.Coded.{coded_list};
+    ghost use Rattle.wi_values.specs.contracts.replacement.Replacement as replacement;
+
+    ghost Value = { List Replacement };
+
+    ghost coded = { coded_list replacement.the_row.coded };
+
+    ghost use Rattle.wi_worlds.specs.World.{IsInOrder};
+
+    ghost view = { λ w. w.replacements.items };
+
+    ghost invariant = { λ w. IsInOrder w.replacements.items };
+}
+
+impl World {
+    /// No replacements. Takes no memory.
+    pub fn new(alloc: Global) -> World
+        ensures { result ≡ [] }
+    {
+        World {
+            replacements: Vec::new(alloc),
+        }
+    }
+
+    /// The replacements, in row-major order.
+    pub fn replacements(&self) -> &[Replacement]
+        ensures value { result.now ≡ self.now }
+        ensures order { IsInOrder self.now }
+    {
+        self.replacements.as_slice()
+    }
+
+    /// The replacements with others put in, each in the place of an earlier one for its address. Of two others for
+    /// one address the later counts. The work for each replacement, the old ones too, grows with the logarithm of
+    /// the count of all.
+    pub fn with(&self, alloc: Global, others: &[Replacement]) -> Result<World, AllocError>
+        ensures list { IfOk result (λ w. entries w ≡ overridden (entries self.now) others.now) }
+        ensures each { IfOk result (λ w. (a : ℕ) → replaced w a ≡ option_or (last_for others.now a) (replaced self.now a)) }
+    {
+        let mut all = BTreeMap::new(alloc);
+        put_in(alloc, &mut all, self.replacements())?;
+        put_in(alloc, &mut all, others)?;
+        let replacements = listed(alloc, all)?;
+        Ok(World { replacements })
+    }
+
+    /// The replacements whose cone has a cell, the cones being those of the replaced addresses. The work grows with
+    /// the counts of cells in them.
+    pub fn reaching(
+        &self,
+        alloc: Global,
+        at: Address,
+        cones: &BTreeMap<Address, Vec<Address>>,
+    ) -> Result<World, AllocError>
+        requires cones { All (λ r. IsSome (get nat_cmp cones.now r.at)) self.now }
+        ensures { IfOk result (λ w. w ≡ filter (reaches cones.now at) self.now) }
+    {
+        let mut replacements = Vec::new(alloc);
+        for replacement in &self.replacements {
+            if reaches(replacement.at, at, cones) {
+                replacements.push(copied(alloc, replacement)?)?;
+            }
+        }
+        Ok(World { replacements })
+    }
+}
+
+/// Whether the cone of a replaced address has a cell.
+fn reaches(replaced: Address, at: Address, cones: &BTreeMap<Address, Vec<Address>>) -> bool
+    requires { IsSome (get nat_cmp cones.now replaced) }
+    ensures { result ≡ list_any (λ a. a == at) (cells_of (get nat_cmp cones.now replaced)) }
+{
+    cones[&replaced].contains(&at)
+}
