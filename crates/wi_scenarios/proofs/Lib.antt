@@ -1,2 +1,1 @@
-pub mod RecordLemmas
 pub mod RowLemmas

@@ -10,7 +10,7 @@ use Rattle.wi_parser.specs.Printing.{printed}
 use Rattle.wi_parser.specs.Sheet.{Sheet, content_of}
 use Rattle.wi_scenarios.specs.State.{State}
 use Rattle.wi_scenarios.specs.Answer.{Answer}
-use Rattle.wi_scenarios.specs.Row.{row}
+use Rattle.wi_csv.specs.Row.{row}
 
 -- a text after an apostrophe, another constant as it is shown
 abbrev pub constant_text : Value → List ℕ

@@ -1,4 +1,3 @@
-pub mod Row
 pub mod State
 pub mod Answer
 pub mod SetStep

@@ -8,7 +8,7 @@ use Rattle.wi_propagate.specs.Shown as cell
 use Rattle.wi_scenarios.specs.declared.refusal.Refusal.TheVariants.{TooLarge}
 use Rattle.wi_scenarios.specs.State.{State}
 use Rattle.wi_scenarios.specs.Answer.{Answer}
-use Rattle.wi_scenarios.specs.Row.{row}
+use Rattle.wi_csv.specs.Row.{row}
 
 -- the text that a cell shows
 abbrev pub text_at : Sheet → ℕ → List ℕ

@@ -1,12 +1,11 @@
 //! What stands in a cell, as a text.
 
 ghost use Rattle.std.specs.Prelude.{◌≡◌, ◌++◌, Some, OnOk, OnErr, string_bytes};
-ghost use Rattle.std.specs.Io.{StartsWith};
 ghost use Rattle.wi_scenarios.specs.FormulaStep.{constant_text, content_text, content_record};
 ghost use Rattle.wi_parser.specs.Sheet.{content_of};
 
-use crate::record::push_quoted;
 use std::alloc::{AllocError, Global};
+use wi_csv::push_record;
 use wi_parser::Content;
 use wi_propagate::Calculator;
 use wi_values::{Address, Value};
@@ -21,33 +20,11 @@ pub fn append_content<C: Calculator>(
     ensures ok { OnOk result (out.new.items ≡ out.old.items ++ content_record (C.stored calculator.now).sheet at) }
     ensures err { OnErr result (out.new.items ≡ out.old.items) }
 {
-    let before = out.len();
-    let pushed = push_record(alloc, calculator, at, out);
-    if pushed.is_err() {
-        out.truncate(before);
-    }
-    pushed
-}
-
-// Appends the record of a cell. On an error a part of it may be there.
-#[tactic(auto, using(crate::proofs::RecordLemmas::starts_trans, crate::proofs::RecordLemmas::starts_more), unfolding(crate::specs::Row::row))]
-fn push_record<C: Calculator>(
-    alloc: Global,
-    calculator: &C,
-    at: Address,
-    out: &mut Vec<u8>,
-) -> Result<(), AllocError>
-    ensures ok { OnOk result (out.new.items ≡ out.old.items ++ content_record (C.stored calculator.now).sheet at) }
-    ensures kept { StartsWith out.new.items out.old.items }
-{
-    let mut text = String::new(alloc);
-    at.push_text(&mut text)?;
-    push_quoted(text.as_bytes(), out)?;
-    out.extend_from_slice(b",")?;
-    text.clear();
-    push_content_of(calculator, at, &mut text)?;
-    push_quoted(text.as_bytes(), out)?;
-    out.extend_from_slice(b"\r\n")
+    let mut address = String::new(alloc);
+    at.push_text(&mut address)?;
+    let mut content = String::new(alloc);
+    push_content_of(calculator, at, &mut content)?;
+    push_record(&[address.as_str(), content.as_str()], out)
 }
 
 // Appends what stands in a cell.

@@ -2,7 +2,6 @@
 #![tactic(auto)]
 
 mod formula_text;
-mod record;
 mod refusal;
 mod rows;
 mod workbook;

@@ -1,14 +1,13 @@
 //! The records of a rectangle's rows.
 
-ghost use Rattle.std.specs.Prelude.{◌≡◌, ◌++◌, ◌<◌, [], if◌then◌else◌, OnOk, codes};
+ghost use Rattle.std.specs.Prelude.{◌≡◌, ◌++◌, ◌<◌, IfOk, OnOk, string_bytes};
 ghost use Rattle.std.specs.List.{flat_map};
 ghost use Rattle.std.specs.Io.{StartsWith};
 ghost use Rattle.wi_values.specs.Address.{size_of, rows, rows_in};
-ghost use Rattle.wi_scenarios.specs.Row.{quoted};
 ghost use Rattle.wi_scenarios.specs.ShowStep.{text_at, row_shown};
 
-use crate::record::push_quoted;
 use std::alloc::{AllocError, Global};
+use wi_csv::push_record;
 use wi_propagate::Calculator;
 use wi_values::{Address, Rect};
 
@@ -24,41 +23,28 @@ pub fn size(area: Rect) -> u64
     u64::from(rows) * u64::from(columns)
 }
 
-/// Appends the comma before a field that is not the first.
-#[tactic(auto, using(crate::proofs::RecordLemmas::starts_more, crate::proofs::RecordLemmas::starts_itself))]
-fn push_comma(is_first: bool, out: &mut Vec<u8>) -> Result<(), AllocError>
-    ensures ok { OnOk result (out.new.items ≡ out.old.items ++ (if is_first then [] else codes ",")) }
-    ensures kept { StartsWith out.new.items out.old.items }
-{
-    if !is_first {
-        out.push(b',')?;
-    }
-    Ok(())
-}
-
-/// Appends a cell's shown text as a field. On an error a part of it may be there.
-fn push_cell<C: Calculator>(
+/// The text that a cell shows.
+fn shown_text<C: Calculator>(
+    alloc: Global,
     calculator: &mut C,
     at: Address,
-    text: &mut String,
-    out: &mut Vec<u8>,
-) -> Result<(), AllocError>
-    ensures ok { OnOk result (out.new.items ≡ out.old.items ++ quoted (text_at (C.stored calculator.old).sheet at)) }
-    ensures kept { StartsWith out.new.items out.old.items }
+) -> Result<String, AllocError>
+    ensures text { IfOk result (λ text. string_bytes text ≡ text_at (C.stored calculator.old).sheet at) }
     ensures same { C.stored calculator.new ≡ C.stored calculator.old }
 {
     let value = calculator.value(&[], at)?;
-    text.clear();
-    value.push_shown(text)?;
-    push_quoted(text.as_bytes(), out)
+    let mut text = String::new(alloc);
+    value.push_shown(&mut text)?;
+    Ok(text)
 }
 
-/// Appends the record of one row of a rectangle. On an error a part of it may be there.
+/// Appends the record of one row of a rectangle. On an error the bytes are as before.
+#[tactic(auto, using(crate::proofs::RowLemmas::grown))]
 fn push_row<C: Calculator>(
+    alloc: Global,
     calculator: &mut C,
     row: u32,
     area: Rect,
-    text: &mut String,
     out: &mut Vec<u8>,
 ) -> Result<(), AllocError>
     requires { row < rows }
@@ -66,12 +52,12 @@ fn push_row<C: Calculator>(
     ensures kept { StartsWith out.new.items out.old.items }
     ensures same { C.stored calculator.new ≡ C.stored calculator.old }
 {
+    let mut texts = Vec::new(alloc);
     let first = area.first().column();
     for column in first..area.last().column() + 1 {
-        push_comma(column == first, out)?;
-        push_cell(calculator, Address::at(row, column), text, out)?;
+        texts.push(shown_text(alloc, calculator, Address::at(row, column))?)?;
     }
-    out.extend_from_slice(b"\r\n")
+    push_record(&texts, out)
 }
 
 /// Appends the records of all rows of a rectangle. On an error a part of them may be there.
@@ -86,10 +72,9 @@ pub fn push_rows<C: Calculator>(
     ensures kept { StartsWith out.new.items out.old.items }
     ensures same { C.stored calculator.new ≡ C.stored calculator.old }
 {
-    let mut text = String::new(alloc);
     let first = area.first().row();
     for row in first..area.last().row() + 1 {
-        push_row(calculator, row, area, &mut text, out)?;
+        push_row(alloc, calculator, row, area, out)?;
     }
     Ok(())
 }

@@ -1,7 +1,7 @@
-use Rattle.std.proofs.Common.{◌+◌, ◌-◌, ◌∙◌, ap, arith}
+use Rattle.std.proofs.Common.{◌+◌, ◌-◌, ◌∙◌, ap, arith, map}
+use Rattle.std.specs.Prelude.{string_bytes}
 use Rattle.wi_values.specs.Address.{column_of}
-use Rattle.wi_scenarios.proofs.RecordLemmas.{starts_trans}
-use Rattle.wi_scenarios.proofs.RowLemmas.{written_more, row_done}
+use Rattle.wi_scenarios.proofs.RowLemmas.{texts_more, row_done}
 use Rattle.wi_scenarios.proofs.rows.push_row.Goals as goal
 
 pub loop-column-preserved : goal.loop-column-preserved
@@ -11,10 +11,9 @@ loop-column-preserved g c =
     let column = c.loop-column.column in
     record {
       within = omega arith;
-      same = c.in_ok-push_cell.ensures.same ∙ old.same;
-      written = written_more _ _ c.args.row first (column - first) (column + 1 - first) column c.at.result _ _ _ _ (omega arith) (omega arith) old.same c.at.ensures
-          old.written c.in_ok-push_comma.ensures.ok c.in_ok-push_cell.ensures.ok;
-      kept = starts_trans _ _ _ c.in_ok-push_cell.ensures.kept (starts_trans _ _ _ c.in_ok-push_comma.ensures.kept old.kept);
+      same = c.in_ok-shown_text.ensures.same ∙ old.same;
+      texts = texts_more string_bytes _ _ c.args.row first (column - first) (column + 1 - first) column c.at.result _ _ c.in_ok-shown_text.field-0 (omega arith) (omega arith) old.same c.at.ensures
+          old.texts c.in_ok-shown_text.ensures.text c.in_ok-push.ensures.items;
     }
 
 pub returns-clause-ok : goal.returns-clause-ok
@@ -22,6 +21,6 @@ returns-clause-ok g c =
     let first = c.column-first.result in
     let last = c.column-column-end.result in
     let column = c.loop-column.column in
-    row_done c.extend_from_slice.result _ c.args.area c.args.row first last (column - first) _ _ _
+    row_done string_bytes c.push_record.result _ c.args.area c.args.row first last (column - first) _ _ _
     (c.column-first.ensures.value ∙ ap column_of c.first.ensures) (c.column-column-end.ensures.value ∙ ap column_of c.last.ensures) (omega arith)
-    c.loop-column.invariant.written c.extend_from_slice.ensures.items
+    (ap (map string_bytes) c.deref.ensures.value ∙ c.loop-column.invariant.texts) c.push_record.ensures.ok

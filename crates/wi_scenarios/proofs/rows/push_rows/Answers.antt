@@ -1,5 +1,5 @@
 use Rattle.std.proofs.Common.{◌+◌, ◌-◌, ◌∙◌, arith}
-use Rattle.wi_scenarios.proofs.RecordLemmas.{starts_trans}
+use Rattle.wi_csv.proofs.Growth.{starts_trans}
 use Rattle.wi_scenarios.proofs.RowLemmas.{rows_more}
 use Rattle.wi_scenarios.proofs.rows.push_rows.Goals as goal
 
