@@ -12,7 +12,7 @@ use Rattle.std.proofs.lemmas.Str.{IsCharBoundary-from_take, IsUtf8-string_bytes}
 use Rattle.std.proofs.Math.Nat.{div-add-mod', mul-div_cancel, mul_assoc, mul_comm, mul_right_comm, pow-suc, pow-zero, mul-one, mod-eq_of_lt, mul-add-mod_self_right, add-mul-div_right, div-lt_iff_lt-mul}
 use Rattle.wi_fraction.specs.Text.{places_from, padded, size_text}
 use Rattle.wi_fraction.specs.Decimal.{all_places}
-use Rattle.wi_fraction.proofs.Places.{places_from_end, places_from_found, places_from_more, places_from_divide, places_from_none, multiple_of}
+use Rattle.wi_fraction.proofs.Places.{places_from_end, places_from_found, places_from_more, all_divide, multiple_of}
 
 -- ---- bytes that stay at the front
 
@@ -93,14 +93,6 @@ all_found k d r h e zero_is f =
 
 pub all_end : (k d : ℕ) → 127 ≤ k → all_places d ≡ places_from (127 - k) k d → None ≡ all_places d
 all_end k d h f = places_from_end (127 - k) k d (omega (arith, h)) ∙ sym f
-
-pub all_divide : (d j : ℕ) → all_places d ≡ Some j → 10 ^ j % d ≡ 0
-unfolding all_places
-all_divide d j e = places_from_divide 127 0 d j e
-
-pub all_none : (d : ℕ) → all_places d ≡ None → 10 ^ 126 % d ≢ 0
-unfolding all_places
-all_none d e = places_from_none 127 0 d 126 e (omega arith) (omega arith)
 
 -- ---- the digits
 

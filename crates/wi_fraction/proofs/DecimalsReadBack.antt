@@ -17,10 +17,9 @@ use Rattle.wi_fraction.specs.Laws.{DecimalsReadBack}
 use Rattle.wi_fraction.specs.Number.{number_at, number_at-some, signed, max_size}
 use Rattle.wi_fraction.specs.Text.{padded, size_text, read_after, read_decimal, decimal_after, point_after, scaled_after}
 use Rattle.wi_fraction.specs.Decimal.{all_places, decimal_text}
-use Rattle.wi_fraction.proofs.Decimals.{all_divide, all_none}
 use Rattle.wi_fraction.proofs.Divisors.{gcd_pos, coprime_divided, divided_dvd}
 use Rattle.wi_fraction.proofs.Numbers.{number_of-lowest}
-use Rattle.wi_fraction.proofs.Places.{divides_one}
+use Rattle.wi_fraction.proofs.Places.{all_divide, all_none, divides_one}
 use Rattle.wi_fraction.proofs.ReadsBack.{scan, is_numeral-true, numeral, div_small, read_places_text, read_whole_text}
 use Rattle.wi_fraction.proofs.Digits.{length-padded, digits_padded}
 use Rattle.wi_fraction.proofs.Scanning.{own}

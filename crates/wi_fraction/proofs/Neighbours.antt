@@ -7,7 +7,7 @@ use Rattle.std.proofs.lemmas.Int.{ints}
 use Rattle.std.proofs.Math.Nat.{div-mul-le_self, lt-div-mul-add, div-lt_iff_lt-mul, le-div_iff_mul-le, mul-le-mul_right, mul-pos}
 use Rattle.wi_fraction.specs.declared.rounding.Mode.{Mode}
 use Rattle.wi_fraction.specs.declared.rounding.Mode.TheVariants.{HalfAway, Away, Toward}
-use Rattle.wi_fraction.specs.Laws.{NotAbove, NotBelow, distance, IsGreatestBelow, IsLeastAbove, IsNearest, HasFloor, IsRounded}
+use Rattle.wi_fraction.specs.Laws.{NotAbove, NotBelow, distance, IsGreatestNotAbove, IsLeastNotBelow, IsNearest, HasFloor, IsRounded}
 use Rattle.wi_fraction.specs.Number.{Number, signed, abs-neg}
 use Rattle.wi_fraction.specs.Rounding.{floor_of, floored, rounded_size, rounded_below, rounded}
 use Rattle.wi_fraction.proofs.Values.{neg-neg, neg-mul}
@@ -30,7 +30,7 @@ greatest_floor (negsuc n) d dp (negsuc a) h =
     let m : n / d < suc a = (div-lt_iff_lt-mul {k = d} {x = n} {y = suc a} dp).1 l in
     omega (arith, ints)
 
-floor_is : (n : ℤ) (d : ℕ) → 0 < d → IsGreatestBelow n d (floor_of n d)
+floor_is : (n : ℤ) (d : ℕ) → 0 < d → IsGreatestNotAbove n d (floor_of n d)
 floor_is n d dp = record { not_above = not_above_floor n d dp; greatest = greatest_floor n d dp }
 
 pub has_floor : (x : Number) → HasFloor x
@@ -39,7 +39,7 @@ has_floor x = record { whole = refl; is = floor_is x.num x.den x.is_number.above
 
 -- ---- the sizes that are rounded to
 
-least_away : (m d : ℕ) → 0 < d → IsLeastAbove (pos m) d (pos (rounded_size Away m d))
+least_away : (m d : ℕ) → 0 < d → IsLeastNotBelow (pos m) d (pos (rounded_size Away m d))
 least_away m d dp = record { not_below = below; least = least }
   where
     below : NotBelow (pos (rounded_size Away m d)) (pos m) d
@@ -89,7 +89,7 @@ nearest_half m d dp = nearest_by m d (rounded_size HalfAway m d) dp (div-mul-le_
 
 -- ---- on the other side of zero
 
-turned_down : (n y : ℤ) (d : ℕ) → IsLeastAbove n d y → IsGreatestBelow (neg_ℤ n) d (neg_ℤ y)
+turned_down : (n y : ℤ) (d : ℕ) → IsLeastNotBelow n d y → IsGreatestNotAbove (neg_ℤ n) d (neg_ℤ y)
 turned_down n y d h = record {
   not_above = rw (neg-mul y d) (let l = h.not_below in omega (arith, ints));
   greatest = λ w k.
@@ -98,7 +98,7 @@ turned_down n y d h = record {
       omega (arith, ints, m);
 }
 
-turned_up : (n y : ℤ) (d : ℕ) → IsGreatestBelow n d y → IsLeastAbove (neg_ℤ n) d (neg_ℤ y)
+turned_up : (n y : ℤ) (d : ℕ) → IsGreatestNotAbove n d y → IsLeastNotBelow (neg_ℤ n) d (neg_ℤ y)
 turned_up n y d h = record {
   not_below = rw (neg-mul y d) (let l = h.not_above in omega (arith, ints));
   least = λ w k.
@@ -160,8 +160,8 @@ is_rounded x =
     record {
       whole = λ m. refl;
       nearest = near x.num d dp;
-      away_upward = λ h. upward (λ z y. IsLeastAbove z d y) Away x.num d h (least_away n d dp);
-      away_downward = λ h. downward (λ z y. IsGreatestBelow z d y) Away x.num d dp h (turned_down _ _ d (least_away n d dp));
-      toward_downward = λ h. upward (λ z y. IsGreatestBelow z d y) Toward x.num d h (floor_is (pos n) d dp);
-      toward_upward = λ h. downward (λ z y. IsLeastAbove z d y) Toward x.num d dp h (turned_up _ _ d (floor_is (pos n) d dp));
+      away_upward = λ h. upward (λ z y. IsLeastNotBelow z d y) Away x.num d h (least_away n d dp);
+      away_downward = λ h. downward (λ z y. IsGreatestNotAbove z d y) Away x.num d dp h (turned_down _ _ d (least_away n d dp));
+      toward_downward = λ h. upward (λ z y. IsGreatestNotAbove z d y) Toward x.num d h (floor_is (pos n) d dp);
+      toward_upward = λ h. downward (λ z y. IsLeastNotBelow z d y) Toward x.num d dp h (turned_up _ _ d (floor_is (pos n) d dp));
     }

@@ -11,11 +11,11 @@ use Rattle.std.proofs.lemmas.Nat.Gcd.{mod-eq-zero_of_dvd}
 use Rattle.wi_fraction.specs.Gcd.{gcd, is_gcd}
 use Rattle.wi_fraction.specs.Number.{Number, number_of, number_at-is}
 use Rattle.wi_fraction.specs.Text.{is_numeral, decimal_value, raised, lowered, with_exponent, exponent_after, scaled_after, point_after, decimal_after, read_decimal}
-use Rattle.wi_fraction.specs.Decimal.{IsNumeral}
+use Rattle.wi_fraction.specs.Decimal.{IsUnsignedDecimal}
 
 -- the number, if there is one, is a decimal without a sign
 abbrev Good : Option Number → Type 0
-Good o = (x : Number) → o ≡ Some x → IsNumeral x
+Good o = (x : Number) → o ≡ Some x → IsUnsignedDecimal x
 
 of_none : Good None
 of_none x e = cc
@@ -63,6 +63,6 @@ of_digits whole [] = of_test (length whole == 0) None (decimal_value false whole
 of_digits whole (c ∷ more) =
     of_test (c == byte ".") _ _ (of_point whole more) (of_test (length whole == 0) None _ of_none (of_rest whole [] (c ∷ more)))
 
-pub read_decimal-numeral : (bs : List ℕ) (x : Number) → read_decimal bs ≡ Some x → IsNumeral x
+pub read_decimal-numeral : (bs : List ℕ) (x : Number) → read_decimal bs ≡ Some x → IsUnsignedDecimal x
 unfolding read_decimal
 read_decimal-numeral bs = let k = prefix_len is_ascii_digit bs in of_digits (take k bs) (drop k bs)

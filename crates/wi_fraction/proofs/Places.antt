@@ -5,6 +5,7 @@ use Rattle.std.proofs.lemmas.Bool.Decides.{nat_tests}
 use Rattle.std.proofs.Math.Nat.{mod-lt, div-add-mod, mul-lt-mul_of_pos_right, mod-eq_of_lt, pow-le-pow_right}
 use Rattle.wi_fraction.specs.Laws.{ShowsFewestPlaces}
 use Rattle.wi_fraction.specs.Text.{places_from, places}
+use Rattle.wi_fraction.specs.Decimal.{all_places}
 
 pub places_from_divide : (t k d j : ℕ) → places_from t k d ≡ Some j → 10 ^ j % d ≡ 0
 unfolding places_from
@@ -40,6 +41,22 @@ places_from_none (suc t) k d i e from below z =
 pub places_none : (d : ℕ) → places d ≡ None → 10 ^ 12 % d ≢ 0
 unfolding places
 places_none d e = places_from_none 13 0 d 12 e (omega arith) (omega arith)
+
+-- ---- as an exact decimal
+
+pub all_divide : (d j : ℕ) → all_places d ≡ Some j → 10 ^ j % d ≡ 0
+unfolding all_places
+all_divide d j e = places_from_divide 127 0 d j e
+
+all_least : (d j i : ℕ) → all_places d ≡ Some j → i < j → 10 ^ i % d ≢ 0
+unfolding all_places
+all_least d j i e h = places_from_least 127 0 d j i e (omega arith) h
+
+pub all_none : (d : ℕ) → all_places d ≡ None → 10 ^ 126 % d ≢ 0
+unfolding all_places
+all_none d e = places_from_none 127 0 d 126 e (omega arith) (omega arith)
+
+-- ---- divisors of powers
 
 pub multiple_of : (t d : ℕ) → t % d ≡ 0 → t ≡ d * (t / d)
 multiple_of t d e = omega (arith, div-add-mod t d, e)
@@ -93,4 +110,6 @@ pub shows_fewest_places : (d : ℕ) → ShowsFewestPlaces d
 shows_fewest_places d = record {
   shown = λ j e. record { enough = places_divide d j e; no_fewer = λ i h. places_least d j i e h };
   not_shown = λ e. places_none d e;
+  written = λ j e. record { enough = all_divide d j e; no_fewer = λ i h. all_least d j i e h };
+  not_written = λ e. all_none d e;
 }

@@ -8,7 +8,7 @@ abbrev pub IsDecimal : Number → Type 0
 IsDecimal x = (k : ℕ) × (10 ^ k % x.den ≡ 0)
 
 -- The number can be written as a decimal without a sign.
-pub record IsNumeral (x : Number) : Type 0 where
+pub record IsUnsignedDecimal (x : Number) : Type 0 where
   pub decimal : IsDecimal x
   pub unsigned : int_lt x.num (pos 0) ≡ false
 

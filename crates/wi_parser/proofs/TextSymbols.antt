@@ -10,7 +10,7 @@ use Rattle.std.specs.Str.Parse.{digits_value}
 use Rattle.std.specs.Str.{bytes_eq, str_to_ascii_lowercase, str_eq_ignore_ascii_case}
 use Rattle.wi_fraction.specs.Number.{Number as Numbers}
 use Rattle.wi_fraction.specs.Text.{read_decimal}
-use Rattle.wi_fraction.specs.Decimal.{IsNumeral}
+use Rattle.wi_fraction.specs.Decimal.{IsUnsignedDecimal}
 use Rattle.wi_fraction.proofs.Numerals.{read_decimal-numeral}
 use Rattle.wi_values.specs.Address.{columns, rows, place, letters_value}
 use Rattle.wi_values.specs.AddressReading.{cell_at, address_at}
@@ -35,7 +35,7 @@ use Rattle.wi_parser.specs.Writable.{IsWritable}
 
 -- ---- numbers
 
-number_writable : (o : Option Numbers) → ((x : Numbers) → o ≡ Some x → IsNumeral x) → IsWritable (number_symbol o)
+number_writable : (o : Option Numbers) → ((x : Numbers) → o ≡ Some x → IsUnsignedDecimal x) → IsWritable (number_symbol o)
 number_writable None h = tt
 number_writable (Some x) h = h x refl
 

@@ -3,7 +3,7 @@ use Rattle.std.proofs.Common.{◌≡◌, ◌≢◌, ℕ, zero, suc, ◌*◌, ◌
 use Rattle.std.specs.Fmt.{decimal}
 use Rattle.wi_fraction.specs.Number.{Number as Numbers, max_size}
 use Rattle.wi_fraction.specs.Text.{padded, size_text, sign_text}
-use Rattle.wi_fraction.specs.Decimal.{all_places, decimal_text, IsNumeral}
+use Rattle.wi_fraction.specs.Decimal.{all_places, decimal_text, IsUnsignedDecimal}
 use Rattle.wi_fraction.proofs.Digits.{length-padded, digits_padded}
 use Rattle.wi_fraction.proofs.Decimals.{all_none}
 use Rattle.wi_fraction.proofs.ReadsBack.{numeral as decimal_digits, div_small}
@@ -65,14 +65,14 @@ size_is n d (Some (suc k)) some fits =
     with_point (decimal (n / d)) digits front.all (digits_run digits (long, digits_padded (suc k) _))
 
 -- the exact decimal of a number without a sign is one
-pub number_is : (x : Numbers) → IsNumeral x → IsDecimalText (decimal_text x)
+pub number_is : (x : Numbers) → IsUnsignedDecimal x → IsDecimalText (decimal_text x)
 unfolding decimal_text
 number_is x h =
     let divides = decimal_few h.decimal.0 x.den x.is_number.above_zero x.is_number.den_fits h.decimal.1 in
     let size = size_is (unsigned_abs x.num) x.den (all_places x.den) (λ none. all_none x.den none divides) x.is_number.num_fits in
     subst (λ b. IsDecimalText (sign_text b ++ size_text (all_places x.den) (unsigned_abs x.num) x.den)) (sym h.unsigned) size
 
-number_written : (x : Numbers) → IsNumeral x → IsWritten (numeral x)
+number_written : (x : Numbers) → IsUnsignedDecimal x → IsWritten (numeral x)
 number_written x h = record { token = plain (decimal_text x) (number_is x h); means = ap number_symbol (decimals_read_back x h.decimal h.unsigned) }
 
 -- ---- other symbols

@@ -1,7 +1,7 @@
 -- Which symbols and trees a formula's text can have.
 use Rattle.std.specs.Prelude.{◌≡◌, ℕ, ◌≤◌, List, All, true, false, codes}
 use Rattle.std.specs.Str.{str_eq_ignore_ascii_case}
-use Rattle.wi_fraction.specs.Decimal.{IsNumeral}
+use Rattle.wi_fraction.specs.Decimal.{IsUnsignedDecimal}
 use Rattle.wi_lexer.specs.Name.{IsName}
 use Rattle.wi_parser.specs.Capitals.{in_capitals}
 use Rattle.wi_parser.specs.Nesting.{deepest, most_signs, max_depth}
@@ -18,7 +18,7 @@ pub record IsFunctionName (f : List ℕ) : Type 0 where
 
 -- A text can have the symbol: its number is a decimal without a sign, its cells are in the sheet, its name is a function's.
 abbrev pub IsWritable : Symbol → Type 0
-IsWritable (numeral x) = IsNumeral x
+IsWritable (numeral x) = IsUnsignedDecimal x
 IsWritable (reference r) = in_sheet r ≡ true
 IsWritable (corners c) = (in_sheet c.one ≡ true) × (in_sheet c.other ≡ true)
 IsWritable (name f) = IsFunctionName f
