@@ -11,6 +11,10 @@ abbrev pub cells_of : Option (Vec ℕ) → List ℕ
 cells_of None = []
 cells_of (Some cone) = cone.items
 
+-- the cone of the address a has the cell c
+abbrev pub cone_has : BTreeMap ℕ (Vec ℕ) → ℕ → ℕ → Bool
+cone_has cones a c = list_any (λ b. b == c) (cells_of (get nat_cmp cones a))
+
 -- the cone of the replaced address has the cell
 abbrev pub reaches : BTreeMap ℕ (Vec ℕ) → ℕ → Replacement → Bool
-reaches cones c r = list_any (λ a. a == c) (cells_of (get nat_cmp cones r.at))
+reaches cones c r = cone_has cones r.at c

@@ -24,9 +24,9 @@ fn old(alloc: Global) -> Result<World, AllocError> {
 }
 
 /// C3 gets a text, A1 is TRUE, then emptied.
-fn newer(alloc: Global) -> Result<World, AllocError> {
+fn newer(alloc: Global, world: &World) -> Result<World, AllocError> {
     let text = Text::from_str(alloc, "three")?;
-    old(alloc)?.with(
+    world.with(
         alloc,
         &[
             by(Address::at(2, 2), Value::Text(text)),
@@ -44,7 +44,8 @@ fn later_ones_count(rt: HostRuntime) -> Result<(), Fail> {
         by(Address::at(1, 0), Value::Logical(true)),
         by(Address::at(2, 2), Value::Text(text)),
     ];
-    assert_eq!(rt; newer(rt.alloc())?.replacements(), expected.as_slice());
+    let world = newer(rt.alloc(), &old(rt.alloc())?)?;
+    assert_eq!(rt; world.replacements(), expected.as_slice());
     assert!(rt; World::new(rt.alloc()).replacements().is_empty());
     Ok(())
 }
@@ -111,26 +112,27 @@ fn cones_that_have_a_cell(rt: HostRuntime) -> Result<(), Fail> {
 
 #[test]
 fn equal_worlds_are_one_key(rt: HostRuntime) -> Result<(), Fail> {
+    let old = old(rt.alloc())?;
+    let newer_once = newer(rt.alloc(), &old)?;
+    let newer_twice = newer(rt.alloc(), &newer_once)?;
+    assert!(rt; newer_once == newer_twice && newer_once != old);
     let mut kept = HashMap::new(rt.alloc());
-    kept.insert(old(rt.alloc())?, 1)?;
-    kept.insert(newer(rt.alloc())?, 2)?;
-    kept.insert(newer(rt.alloc())?, 3)?;
-    assert_eq!(rt; kept.len(), 2);
-    assert_eq!(rt; kept.get(&old(rt.alloc())?), Some(&1));
-    assert_eq!(rt; kept.get(&newer(rt.alloc())?), Some(&3));
-    assert_eq!(rt; kept.get(&World::new(rt.alloc())), None);
+    kept.insert(newer_once, 1)?;
+    kept.insert(newer_twice, 2)?;
+    assert_eq!(rt; kept.len(), 1);
+    assert_eq!(rt; kept.get(&newer(rt.alloc(), &old)?), Some(&2));
+    assert_eq!(rt; kept.get(&old), None);
     Ok(())
 }
 
 #[test]
 fn a_refused_growth_leaves_the_world(rt: HostRuntime) {
-    let Ok(world) = old(rt.alloc()) else {
+    let (Ok(world), Ok(as_before)) = (old(rt.alloc()), old(rt.alloc())) else {
         return;
     };
-    let Ok(newer) = newer(rt.alloc()) else {
-        assert_eq!(rt; world.replacements().len(), 2);
-        return;
-    };
-    assert_ne!(rt; newer, world);
-    assert_eq!(rt; newer.replacements().len(), 3);
+    match newer(rt.alloc(), &world) {
+        Ok(newer) => assert_eq!(rt; newer.replacements().len(), 3),
+        Err(AllocError) => {}
+    }
+    assert_eq!(rt; world, as_before);
 }

@@ -1,11 +1,10 @@
 //! Replacements, one for each address.
 
-ghost use Rattle.std.specs.Prelude.{◌≡◌, ◌==◌, ℕ, [], All, filter, IsSome, IfOk};
+ghost use Rattle.std.specs.Prelude.{◌≡◌, ℕ, [], All, filter, None, IsSome, IfOk, if◌then◌else◌};
 ghost use Rattle.std.specs.BTreeMap.{get};
-ghost use Rattle.std.specs.List.{list_any};
 ghost use Rattle.std.specs.Option.{option_or};
 ghost use Rattle.std.specs.Ordering.{nat_cmp};
-ghost use Rattle.wi_worlds.specs.Reaching.{cells_of, reaches};
+ghost use Rattle.wi_worlds.specs.Reaching.{cone_has, reaches};
 ghost use Rattle.wi_worlds.specs.World.{IsInOrder, entries, last_for, overridden, replaced};
 
 use crate::entries::{copied, listed, put_in};
@@ -78,7 +77,8 @@ impl World {
         cones: &BTreeMap<Address, Vec<Address>>,
     ) -> Result<World, AllocError>
         requires cones { All (λ r. IsSome (get nat_cmp cones.now r.at)) self.now }
-        ensures { IfOk result (λ w. w ≡ filter (reaches cones.now at) self.now) }
+        ensures list { IfOk result (λ w. w ≡ filter (reaches cones.now at) self.now) }
+        ensures each { IfOk result (λ w. (a : ℕ) → replaced w a ≡ (if cone_has cones.now a at then replaced self.now a else None)) }
     {
         let mut replacements = Vec::new(alloc);
         for replacement in &self.replacements {
@@ -93,7 +93,7 @@ impl World {
 /// Whether the cone of a replaced address has a cell.
 fn reaches(replaced: Address, at: Address, cones: &BTreeMap<Address, Vec<Address>>) -> bool
     requires { IsSome (get nat_cmp cones.now replaced) }
-    ensures { result ≡ list_any (λ a. a == at) (cells_of (get nat_cmp cones.now replaced)) }
+    ensures { result ≡ cone_has cones.now replaced at }
 {
     cones[&replaced].contains(&at)
 }

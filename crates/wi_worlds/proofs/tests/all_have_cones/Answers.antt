@@ -1,5 +1,4 @@
-use Rattle.std.proofs.Common.{◌≡◌, ◌∙◌, ◌+◌, ◌<◌, ℕ, zero, suc, Bool, true, false, not, Option, Some, None, IsSome, List, [], ◌∷◌, length, get_or, refl, sym, ap, subst, arith, ⊎_elim}
-use Rattle.std.specs.Option.{is_some}
+use Rattle.std.proofs.Common.{◌≡◌, ◌∙◌, ◌+◌, ◌<◌, ℕ, zero, suc, IsSome, List, [], ◌∷◌, length, get_or, refl, sym, ap, subst, arith, ⊎_elim}
 use Rattle.std.specs.Ordering.{nat_cmp}
 use Rattle.std.specs.Global.{Vec}
 use Rattle.std.specs.BTreeMap.{BTreeMap, get}

@@ -1,8 +1,8 @@
-use Rattle.std.proofs.Common.{◌∙◌, ◌++◌, ◌∷◌, [], sym, ap, subst}
+use Rattle.std.proofs.Common.{◌∙◌, ◌++◌, ◌∷◌, List, [], filter, sym, ap, subst}
 use Rattle.wi_values.specs.declared.replacement.Replacement.{Replacement}
-use Rattle.wi_worlds.specs.World.{IsInOrder}
-use Rattle.wi_worlds.specs.Reaching.{reaches}
-use Rattle.wi_worlds.proofs.Filtering.{order_of_filter, kept_more, kept_same, kept_all}
+use Rattle.wi_worlds.specs.World.{IsInOrder, replaced}
+use Rattle.wi_worlds.specs.Reaching.{cone_has, reaches}
+use Rattle.wi_worlds.proofs.Filtering.{order_of_filter, kept_more, kept_same, kept_all, replaced-filter}
 use Rattle.wi_worlds.proofs.world.World.reaching.Goals.{then-reaches+in_ok-copied+in_ok-push, else-reaches}
 use Rattle.wi_worlds.proofs.world.World.reaching.Goals as goal
 
@@ -29,3 +29,15 @@ invariant_of-result c =
     let all = c.deref-replacement-items.result.now in
     subst IsInOrder (sym (kept_all p c.loop-replacement.replacements.items all c.loop-replacement.replacement-index c.loop-replacement-test.false c.loop-replacement.invariant))
     (order_of_filter p all (subst IsInOrder (sym c.deref-replacement-items.ensures.value) c.self.invariant))
+
+pub returns-clause-list : goal.returns-clause-list
+returns-clause-list c =
+    let p = reaches c.args.cones.now c.args.at in
+    kept_all p c.loop-replacement.replacements.items c.deref-replacement-items.result.now c.loop-replacement.replacement-index c.loop-replacement-test.false c.loop-replacement.invariant
+    ∙ ap (filter p) (c.deref-replacement-items.ensures.value ∙ c.self.view_is)
+
+pub returns-clause-each : goal.returns-clause-each
+returns-clause-each c =
+    λ a.
+    ap (λ (rs : List Replacement). replaced rs a) (returns-clause-list c)
+    ∙ replaced-filter (λ b. cone_has c.args.cones.now b c.args.at) a c.args.self.now
