@@ -1,0 +1,6 @@
+pub mod BlockLemmas
+pub mod PieceLemmas
+pub mod ReaderLemmas
+pub mod BagLemmas
+pub mod Found
+pub mod CutLemmas

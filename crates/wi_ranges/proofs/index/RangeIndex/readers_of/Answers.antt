@@ -1,0 +1,47 @@
+use Rattle.std.proofs.Common.{◌≡◌, ◌∙◌, ◌||◌, ◌↔◌, ℕ, List, sym, ap, subst, false}
+use Rattle.std.specs.Ordering.{nat_cmp}
+use Rattle.std.specs.Cmp.{nat_cmp_total}
+use Rattle.std.specs.List.{Contains, list_any}
+use Rattle.std.specs.List.Sorted.{IsStrictlyIncreasing}
+use Rattle.std.specs.BTreeSet.{contains}
+use Rattle.std.proofs.lemmas.Result.{IfOk-weaker}
+use Rattle.std.proofs.lemmas.Map.Keys.{IsStrictlyIncreasing-from_sorted}
+use Rattle.std.proofs.lemmas.Map.Lookups.{exact_unsigned}
+use Rattle.std.proofs.lemmas.Map.Views.{btree_set_contains_iff}
+use Rattle.std.specs.BTreeMap.{is_at}
+use Rattle.wi_ranges.specs.declared.block.Block.{Block}
+use Rattle.wi_ranges.specs.Blocks.{blocks_with}
+use Rattle.wi_ranges.specs.Bag.{Bag, IsReader}
+use Rattle.wi_ranges.specs.Index.{reads_at}
+use Rattle.wi_ranges.proofs.Found.{reader_found, found_reader}
+use Rattle.wi_ranges.proofs.index.RangeIndex.readers_of.Goals as goal
+
+pub returns-clause-order : goal.returns-clause-order
+returns-clause-order c =
+    IfOk-weaker c.listed.result (λ list. list.items ≡ c.add_all_readers.new.readers.keys) (λ list. IsStrictlyIncreasing list.items)
+    (λ list e. subst IsStrictlyIncreasing (sym e) (IsStrictlyIncreasing-from_sorted c.add_all_readers.new.readers.keys c.listed.ensures.order)) c.listed.ensures.items
+
+pub returns-clause-readers : goal.returns-clause-readers
+returns-clause-readers c =
+    let set = c.add_all_readers.new.readers in
+    let bag = c.self.inside.counts.entries in
+    let ks = c.self.inside.pieces.keys in
+    let row = c.row.result in
+    let a = c.args.at in
+    let xs = blocks_with row 20 0 in
+    let path = ap (λ (x : Block). blocks_with row x.level x.first) c.sheet.ensures in
+    let none : (r : ℕ) → contains nat_cmp c.new-readers.result r ≡ false = λ r. ap (λ (us : List ℕ). list_any (λ k. is_at (nat_cmp r) k) us) c.new-readers.ensures.empty in
+    let found : (r : ℕ) → contains nat_cmp set r ≡ list_any (reads_at xs a r) ks = λ r.
+    c.in_ok-add_all_readers.ensures r ∙ ap (λ b. b || list_any (reads_at (blocks_with row c.sheet.result.level c.sheet.result.first) a r) ks) (none r)
+    ∙ ap (λ (us : List Block). list_any (reads_at us a r) ks) path in
+    let reader : (r : ℕ) → Contains set.keys r → IsReader c.args.self.now a r = λ r h.
+    subst (λ (b : Bag). IsReader b a r) c.self.view_is
+    (reader_found bag ks xs a r c.self.invariant.0 c.self.invariant.1 (sym (found r) ∙ (btree_set_contains_iff nat_cmp_total exact_unsigned set r).1 h)) in
+    let read : (r : ℕ) → IsReader c.args.self.now a r → Contains set.keys r = λ r h.
+    (btree_set_contains_iff nat_cmp_total exact_unsigned set r).0
+    (found r ∙ found_reader bag ks row a r c.row.ensures.value c.row.ensures.within c.self.invariant.0 (subst (λ (b : Bag). IsReader b a r) (sym c.self.view_is) h)) in
+    IfOk-weaker c.listed.result (λ list. list.items ≡ set.keys) (λ list. (r : ℕ) → Contains list.items r ↔ IsReader c.args.self.now a r)
+    (λ list e r. (
+      λ h. reader r (subst (λ (us : List ℕ). Contains us r) e h),
+      λ h. subst (λ (us : List ℕ). Contains us r) (sym e) (read r h),
+    )) c.listed.ensures.items

@@ -1,0 +1,12 @@
+use Rattle.std.proofs.Common.{◌≡◌, ◌||◌, ℕ}
+use Rattle.std.specs.Ordering.{nat_cmp}
+use Rattle.std.specs.List.{list_any}
+use Rattle.std.specs.BTreeSet.{contains}
+use Rattle.wi_ranges.specs.Index.{reads_here}
+use Rattle.wi_ranges.proofs.readers.add_readers.Given as goal
+
+-- the readers found, and those that are left to find
+abbrev pub invariant-loop-pair : goal.invariant-loop-pair
+invariant-loop-pair l = (r : ℕ) →
+    (contains nat_cmp l.readers r || list_any (reads_here l.at r) l.pair-iterator)
+    ≡ (contains nat_cmp l.initial.readers r || list_any (reads_here l.at r) l.initial.pair-iterator)

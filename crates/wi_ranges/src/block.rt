@@ -1,0 +1,102 @@
+//! Blocks of rows.
+
+ghost use Rattle.std.specs.Prelude.{◌≡◌, ◌<◌, ◌+◌, ◌-◌, ◌^◌, ◌≤◌, ◌&&◌, nat_lt};
+ghost use Rattle.wi_values.specs.Address.{rows};
+ghost use Rattle.wi_ranges.specs.Blocks.{block, lies_within, meets, half_with, first_row, last_row};
+
+use crate::pair::Pair;
+
+/// 2^level rows.
+#[derive(Clone, Copy, PartialEq, Eq, PartialOrd, Ord, Debug)]
+pub struct Block {
+    pub(crate) level: u32,
+    pub(crate) first: u32,
+}
+
+impl Block {
+    /// All rows of a sheet.
+    pub(crate) fn sheet() -> Block
+        ensures { result ≡ block 20 0 }
+    {
+        Block {
+            level: 20,
+            first: 0,
+        }
+    }
+
+    /// The row after its last.
+    fn end(&self) -> u32
+        requires { self.now.first + 2 ^ self.now.level ≤ rows }
+        ensures { result ≡ self.now.first + 2 ^ self.now.level }
+    {
+        self.first + (1 << self.level)
+    }
+
+    /// Whether all of its rows are rows of the rectangle.
+    pub(crate) fn lies_within(&self, pair: &Pair) -> bool
+        requires { self.now.first + 2 ^ self.now.level ≤ rows }
+        ensures { result ≡ lies_within (first_row pair.now) (last_row pair.now) self.now }
+    {
+        pair.first.row() <= self.first && self.end() <= pair.last.row() + 1
+    }
+
+    /// Whether one of its rows is a row of the rectangle.
+    pub(crate) fn meets(&self, pair: &Pair) -> bool
+        requires { self.now.first + 2 ^ self.now.level ≤ rows }
+        ensures { result ≡ meets (first_row pair.now) (last_row pair.now) self.now }
+    {
+        pair.first.row() < self.end() && self.first <= pair.last.row()
+    }
+
+    /// Its upper half.
+    pub(crate) fn upper(&self) -> Block
+        requires level { 0 < self.now.level }
+        requires on_sheet { self.now.first + 2 ^ self.now.level ≤ rows }
+        ensures value { result ≡ block (self.now.level - 1) self.now.first }
+        ensures within { result.first + 2 ^ result.level ≤ rows }
+    {
+        Block {
+            level: self.level - 1,
+            first: self.first,
+        }
+    }
+
+    /// Its lower half.
+    pub(crate) fn lower(&self) -> Block
+        requires level { 0 < self.now.level }
+        requires on_sheet { self.now.first + 2 ^ self.now.level ≤ rows }
+        ensures value { result ≡ block (self.now.level - 1) (self.now.first + 2 ^ (self.now.level - 1)) }
+        ensures within { result.first + 2 ^ result.level ≤ rows }
+    {
+        Block {
+            level: self.level - 1,
+            first: self.upper().end(),
+        }
+    }
+
+    /// The half that holds a row of it.
+    pub(crate) fn half_with(&self, row: u32) -> Block
+        requires level { 0 < self.now.level }
+        requires on_sheet { self.now.first + 2 ^ self.now.level ≤ rows }
+        ensures value { result ≡ half_with row self.now }
+        ensures within { result.first + 2 ^ result.level ≤ rows }
+    {
+        let lower = self.lower();
+        if row < lower.first {
+            self.upper()
+        } else {
+            lower
+        }
+    }
+
+    /// What comes next of this level in the order of blocks.
+    pub(crate) fn next(&self) -> Block
+        requires { self.now.first + 2 ^ self.now.level ≤ rows }
+        ensures { result ≡ block self.now.level (self.now.first + 1) }
+    {
+        Block {
+            level: self.level,
+            first: self.first + 1,
+        }
+    }
+}

@@ -1,0 +1,95 @@
+//! The index of readers.
+
+ghost use Rattle.std.specs.Prelude.{◌≡◌, [], ℕ, ◌↔◌, IfOk, OnOk, OnErr};
+ghost use Rattle.std.specs.List.{Contains};
+ghost use Rattle.std.specs.List.Sorted.{IsStrictlyIncreasing};
+ghost use Rattle.wi_ranges.specs.Bag.{pair_of, pieces_of, HasOneMore, HasOneLess, IsReader};
+
+use crate::bag::{Counts, add_pair, remove_pair};
+use crate::block::Block;
+use crate::pair::Pair;
+use crate::pieces::{Pieces, count};
+use crate::readers::{add_all_readers, listed};
+use std::alloc::{AllocError, Global};
+use std::collections::{BTreeMap, BTreeSet};
+use std::marker::Model;
+use wi_values::{Address, Rect};
+
+/// Pairs of a rectangle and a cell that reads it, any number of each.
+#[derive(Drop)]
+pub struct RangeIndex {
+    counts: Counts,
+    // Each pair that there is, at each of its blocks.
+    pieces: Pieces,
+    total: u64,
+}
+
+impl Model for RangeIndex {
+    ghost use Rattle.wi_ranges.specs.Bag.{Bag, pieces_of};
+    ghost use Rattle.wi_ranges.specs.Index.{IsIndexed, HasNoZero};
+    ghost use Rattle.std.specs.Prelude.{◌≡◌};
+
+    ghost Value = { Bag };
+
+    ghost view = { λ x. x.counts.entries };
+
+    ghost invariant = { λ x. IsIndexed x.counts.entries x.pieces.keys × HasNoZero x.counts.entries × (x.total ≡ pieces_of x.counts.entries) };
+}
+
+impl RangeIndex {
+    /// No pairs. Takes no memory.
+    pub fn new(alloc: Global) -> RangeIndex
+        ensures { result ≡ [] }
+    {
+        RangeIndex {
+            counts: BTreeMap::new(alloc),
+            pieces: BTreeSet::new(alloc),
+            total: 0,
+        }
+    }
+
+    /// Adds a pair. On an error all is as before; one comes also if there would be 2^64 pieces. The work grows with the pair's
+    /// blocks and the logarithm of the count of pieces.
+    pub fn add(&mut self, area: Rect, reader: Address) -> Result<(), AllocError>
+        ensures ok { OnOk result (HasOneMore (pair_of area reader) self.old self.new) }
+        ensures err { OnErr result (self.new ≡ self.old) }
+    {
+        let pair = Pair::new(area, reader);
+        let more = count(&pair, &Block::sheet());
+        if self.total > u64::MAX - more {
+            return Err(AllocError);
+        }
+        add_pair(&mut self.counts, &mut self.pieces, &pair)?;
+        self.total += more;
+        Ok(())
+    }
+
+    /// Takes away one such pair if there is one. Takes no memory. The work grows with the pair's blocks and the logarithm of the
+    /// count of pieces.
+    pub fn remove(&mut self, area: Rect, reader: Address)
+        ensures { HasOneLess (pair_of area reader) self.old self.new }
+    {
+        let pair = Pair::new(area, reader);
+        if remove_pair(&mut self.counts, &mut self.pieces, &pair) {
+            self.total -= count(&pair, &Block::sheet());
+        }
+    }
+
+    /// The cells that read a rectangle with the cell, in row-major order, each once. The work grows with the pairs at the 21
+    /// blocks that hold the cell's row, and with the logarithms of their count and of that of all pieces.
+    pub fn readers_of(&self, alloc: Global, at: Address) -> Result<Vec<Address>, AllocError>
+        ensures order { IfOk result (λ readers. IsStrictlyIncreasing readers.items) }
+        ensures readers { IfOk result (λ readers. (r : ℕ) → Contains readers.items r ↔ IsReader self.now at r) }
+    {
+        let mut readers = BTreeSet::new(alloc);
+        add_all_readers(&self.pieces, at, at.row(), &Block::sheet(), &mut readers)?;
+        listed(alloc, &readers)
+    }
+
+    /// How many blocks all pairs have together.
+    pub fn pieces(&self) -> u64
+        ensures { result ≡ pieces_of self.now }
+    {
+        self.total
+    }
+}

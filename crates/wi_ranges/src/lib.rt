@@ -1,0 +1,14 @@
+//! Which cells read a cell: pairs of a rectangle and a cell that reads it, found by blocks of rows.
+#![tactic(auto)]
+
+mod bag;
+mod block;
+mod index;
+pub mod laws;
+mod pair;
+mod pieces;
+mod readers;
+#[cfg(test)]
+mod tests;
+
+pub use index::RangeIndex;

@@ -1,0 +1,64 @@
+//! Who reads a cell.
+
+ghost use Rattle.std.specs.Prelude.{◌≡◌, ◌+◌, ◌^◌, ◌≤◌, ◌||◌, ◌∷◌, ℕ, [], OnOk, IfOk};
+ghost use Rattle.std.specs.Ordering.{nat_cmp};
+ghost use Rattle.std.specs.List.{list_any};
+ghost use Rattle.std.specs.BTreeSet.{contains, IsOrdered};
+ghost use Rattle.wi_values.specs.Address.{rows};
+ghost use Rattle.wi_ranges.specs.Blocks.{blocks_with};
+ghost use Rattle.wi_ranges.specs.Index.{reads_at};
+
+use crate::block::Block;
+use crate::pair::Pair;
+use crate::pieces::Pieces;
+use std::alloc::{AllocError, Global};
+use std::collections::BTreeSet;
+use wi_values::Address;
+
+/// Adds the readers of a cell that stand at a block. If memory runs out, some of them may be added.
+fn add_readers(
+    pieces: &Pieces,
+    at: Address,
+    block: &Block,
+    readers: &mut BTreeSet<Address>,
+) -> Result<(), AllocError>
+    requires { block.now.first + 2 ^ block.now.level ≤ rows }
+    ensures { OnOk result ((r : ℕ) → contains nat_cmp readers.new r ≡ (contains nat_cmp readers.old r || list_any (reads_at (block.now ∷ []) at r) pieces.now.keys)) }
+{
+    let from = (*block, Pair::lowest());
+    let to = (block.next(), Pair::lowest());
+    for (_, pair) in pieces.range(from..to) {
+        if pair.has(at) {
+            readers.insert(pair.reader)?;
+        }
+    }
+    Ok(())
+}
+
+/// Adds the readers of a cell that stand at a block that holds the row, or at one of the halves, quarters and so on that do.
+/// If memory runs out, some of them may be added.
+pub(crate) fn add_all_readers(
+    pieces: &Pieces,
+    at: Address,
+    row: u32,
+    block: &Block,
+    readers: &mut BTreeSet<Address>,
+) -> Result<(), AllocError>
+    requires { block.now.first + 2 ^ block.now.level ≤ rows }
+    ensures { OnOk result ((r : ℕ) → contains nat_cmp readers.new r
+        ≡ (contains nat_cmp readers.old r || list_any (reads_at (blocks_with row block.now.level block.now.first) at r) pieces.now.keys)) }
+{
+    add_readers(pieces, at, block, readers)?;
+    if block.level > 0 {
+        add_all_readers(pieces, at, row, &block.half_with(row), readers)?;
+    }
+    Ok(())
+}
+
+/// The cells of a set as a list.
+pub(crate) fn listed(alloc: Global, readers: &BTreeSet<Address>) -> Result<Vec<Address>, AllocError>
+    ensures items { IfOk result (λ list. list.items ≡ readers.now.keys) }
+    ensures order { IsOrdered nat_cmp readers.now }
+{
+    readers.iter().copied().collect(alloc)
+}
