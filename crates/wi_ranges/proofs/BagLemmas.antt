@@ -26,7 +26,7 @@ exact_pair p q h =
     (exact_pairs nat_cmp (λ (x y : ℕ × ℕ). ordering_then (nat_cmp x.0 y.0) (nat_cmp x.1 y.1)) exact_unsigned (exact_pairs nat_cmp nat_cmp exact_unsigned exact_unsigned)
     (p.first, (p.last, p.reader)) (q.first, (q.last, q.reader)) h)
 
-exact_block : CmpEqualImpliesEq block_cmp
+pub exact_block : CmpEqualImpliesEq block_cmp
 exact_block x y h =
     ap (λ (t : ℕ × ℕ). record { level = t.0; first = t.1 }) (exact_pairs nat_cmp nat_cmp exact_unsigned exact_unsigned (x.level, x.first) (y.level, y.first) h)
 

@@ -4,3 +4,5 @@ pub mod ReaderLemmas
 pub mod BagLemmas
 pub mod Found
 pub mod CutLemmas
+pub mod LargestLemmas
+pub mod Rows

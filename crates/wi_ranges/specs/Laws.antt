@@ -1,9 +1,10 @@
 -- Laws of blocks.
-use Rattle.std.specs.Prelude.{◌≡◌, ℕ, ◌+◌, ◌^◌, ◌<◌, ◌≤◌, ◌⊎◌, List, [], ◌∷◌, ◌&&◌, nat_lt, nat_le, length, if◌then◌else◌}
+use Rattle.std.specs.Prelude.{◌≡◌, ℕ, ◌+◌, ◌*◌, ◌^◌, ◌<◌, ◌≤◌, ◌⊎◌, List, [], ◌∷◌, ◌&&◌, true, false, nat_lt, nat_le, length, if◌then◌else◌}
 use Rattle.wi_values.specs.Address.{rows}
 use Rattle.wi_ranges.specs.declared.block.Block.{Block}
 use Rattle.wi_ranges.specs.declared.pair.Pair.{Pair}
-use Rattle.wi_ranges.specs.Blocks.{blocks_of, first_row, last_row}
+use Rattle.wi_ranges.specs.Blocks.{lies_within, blocks_of, first_row, last_row}
+use Rattle.wi_ranges.specs.Index.{is_among}
 
 -- how many of the blocks hold the row r
 abbrev pub times_held : ℕ → List Block → ℕ
@@ -19,3 +20,17 @@ RowsAreHeldOnce = (p : Pair) (r : ℕ) → r < rows
 -- no pair has more than 38 blocks
 abbrev pub BlocksAreFew : Type 0
 BlocksAreFew = (p : Pair) → length (blocks_of p) ≤ 38
+
+-- a block of 2^level rows begins at a multiple of 2^level
+abbrev pub IsAligned : Block → Type 0
+IsAligned x = (n : ℕ) × (x.first ≡ n * 2 ^ x.level)
+
+-- all rows of the block x are rows of the block y
+abbrev pub IsPartOf : Block → Block → Type 0
+IsPartOf x y = (y.first ≤ x.first) × (x.first + 2 ^ x.level ≤ y.first + 2 ^ y.level)
+
+-- each block of a pair is one of the sheet's and lies within the rows of the rectangle, as no larger block of the sheet does that it is a part of
+abbrev pub BlocksAreLargest : Type 0
+BlocksAreLargest = (p : Pair) (x : Block) → is_among x (blocks_of p) ≡ true
+    → IsAligned x × (lies_within (first_row p) (last_row p) x ≡ true)
+    × ((y : Block) → IsAligned y → y.level ≤ 20 → x.level < y.level → IsPartOf x y → lies_within (first_row p) (last_row p) y ≡ false)
