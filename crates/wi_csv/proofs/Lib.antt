@@ -2,5 +2,4 @@ pub mod Growth
 pub mod Joined
 pub mod Counted
 pub mod Copied
-pub mod Faults
 pub mod ReadAgain

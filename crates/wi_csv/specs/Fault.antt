@@ -1,7 +1,4 @@
 -- Why a text isn't read.
-use Rattle.std.specs.Prelude.{◌≡◌, true}
-use Rattle.csv.specs.Reading.{error_kind, is_io}
-use Rattle.csv.specs.declared.error.Error.{Error}
 use Rattle.csv.specs.declared.error.ErrorKind.{ErrorKind}
 use Rattle.csv.specs.declared.error.ErrorKind.TheVariants as kind
 use Rattle.wi_csv.specs.declared.fault.CsvFault.{CsvFault}
@@ -15,7 +12,3 @@ fault_of (kind.Utf8 pos err) = Read
 fault_of (kind.UnequalLengths pos expected len) = Read
 fault_of (kind.Serialize text) = Read
 fault_of (kind.Deserialize pos err) = Read
-
--- `csv` has an error of what it reads from, and not of what it read
-abbrev pub HasFailed : Type 0
-HasFailed = (e : Error) × (is_io (error_kind e) ≡ true)

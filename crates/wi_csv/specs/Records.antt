@@ -2,6 +2,6 @@
 use Rattle.std.specs.Prelude.{ℕ, List}
 use Rattle.csv.specs.Reading.{default_config, strip_bom, records}
 
--- with commas and double quotes, and without a byte order mark at the front
+-- the records with commas between fields and double quotes around them, once a byte order mark at the front is taken off
 unfoldable pub recs : List ℕ → List (List (List ℕ))
 recs text = records default_config (strip_bom text)

@@ -9,8 +9,10 @@ use thiserror::Error;
 /// Why a text isn't read.
 #[derive(Clone, Copy, PartialEq, Eq, Debug, Error)]
 pub enum CsvFault {
+    /// `csv` refused for another cause than memory.
     #[error("the records can't be read")]
     Read,
+    /// A growth was refused.
     #[error("there is no memory left")]
     Memory,
 }

@@ -1,20 +1,19 @@
 //! The records of a CSV text.
 
-ghost use Rattle.std.specs.Prelude.{◌≡◌, map, IfOk, IfErr};
+ghost use Rattle.std.specs.Prelude.{◌≡◌, map, IfOk};
 ghost use Rattle.csv.specs.Records.{fields_of};
 ghost use Rattle.wi_csv.specs.Records.{recs};
-ghost use Rattle.wi_csv.specs.Fault.{HasFailed};
-ghost use Rattle.wi_csv.specs.declared.fault.CsvFault.TheVariants.{Read};
 
 use crate::fault::CsvFault;
 use csv::{ByteRecord, ReaderBuilder};
 use std::alloc::{AllocError, Global};
 
-/// The records of a text, each a list of its fields. A byte order mark at its front is taken off, and an empty line is no
-/// record. No text is refused for what it holds: `Read` is an error of `csv` of another kind.
+/// The records of a text, each a list of its fields: commas between fields, double quotes around those that need them. A
+/// byte order mark at its front is taken off, an empty line is no record, lengths may differ, and nothing is trimmed. No
+/// text is refused for what it holds; `Read` comes only where `csv` refuses for another cause than memory. The work grows
+/// with the text.
 pub fn records(alloc: Global, bytes: &[u8]) -> Result<Vec<Vec<Vec<u8>>>, CsvFault>
-    ensures records { IfOk result (λ rows. map (λ fields. map (λ f. f.items) fields.items) rows.items ≡ recs bytes.now) }
-    ensures read { IfErr result (λ fault. fault ≡ Read → HasFailed) }
+    ensures { IfOk result (λ rows. map (λ fields. map (λ f. f.items) fields.items) rows.items ≡ recs bytes.now) }
 {
     let reader = ReaderBuilder::new()
         .has_headers(false)

@@ -5,7 +5,6 @@ use Rattle.csv.specs.declared.parser.State.TheVariants as st
 use Rattle.csv.proofs.ReadFacts.{rows-end, rows-more}
 use Rattle.wi_csv.proofs.Copied.{one_more}
 use Rattle.wi_csv.proofs.Counted.{all_read}
-use Rattle.wi_csv.proofs.Faults.{only_io, told}
 use Rattle.wi_csv.proofs.reading.records.Goals as goal
 
 pub loop-row-init : goal.loop-row-init
@@ -26,12 +25,6 @@ loop-row-init c =
       reader.source,
       (sym reader.state, refl),
     )
-
-pub returns-in_err-row-clause-read : goal.returns-in_err-row-clause-read
-returns-in_err-row-clause-read c =
-    let (trim, ready, left, config, flexible, y, source, reached) = c.loop-row.invariant in
-    let why = rw (c.in-Some.is, c.in_err-row.was) at ((c.next.ensures.steps left trim).0 ready) in
-    told c.from_residual.result c.in_err-row.field-0.0 (only_io (λ (s : Bor (List ℕ)). Some s.now) c.loop-row.row-iterator.rdr c.next.new.self.rdr c.in_err-row.field-0.0.kind flexible why) c.from_residual.ensures.1
 
 pub loop-row-preserved : goal.loop-row-preserved
 loop-row-preserved c =
@@ -57,8 +50,8 @@ loop-row-preserved c =
           (one_more (λ fields. map (λ f. f.items) fields.items) c.loop-row.rows.items c.push.new.self.items c.in_ok-copied_fields.field-0 fields c.in_ok-push.ensures.items c.in_ok-copied_fields.ensures) more,
     )
 
-pub returns-clause-records : goal.returns-clause-records
-returns-clause-records c =
+pub returns : goal.returns
+returns c =
     let (trim, ready, left, config, flexible, y, source, reached) = c.loop-row.invariant in
     let read = rw c.in-None.is at ((c.next.ensures.steps left trim).0 ready) in
     let rem : Bor (List ℕ) → _ = λ s. Some s.now in
