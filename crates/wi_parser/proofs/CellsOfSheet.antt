@@ -22,7 +22,7 @@ use Rattle.wi_parser.specs.Printing.{cell_named}
 use Rattle.wi_parser.specs.Shift.{in_sheet}
 use Rattle.wi_parser.specs.FormulaText.{reference_to}
 
-digits_same : (ds : List ℕ) → all_ascii_digits ds ≡ list_all is_ascii_digit ds
+pub digits_same : (ds : List ℕ) → all_ascii_digits ds ≡ list_all is_ascii_digit ds
 digits_same [] = refl
 digits_same (d ∷ ds) = ap (λ b. is_ascii_digit d && b) (digits_same ds)
 

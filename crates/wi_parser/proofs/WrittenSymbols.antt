@@ -5,7 +5,7 @@ use Rattle.wi_fraction.specs.Number.{Number as Numbers, max_size}
 use Rattle.wi_fraction.specs.Text.{padded, size_text, sign_text}
 use Rattle.wi_fraction.specs.Decimal.{all_places, decimal_text, IsUnsignedDecimal}
 use Rattle.wi_fraction.proofs.Digits.{length-padded, digits_padded}
-use Rattle.wi_fraction.proofs.Decimals.{all_none}
+use Rattle.wi_fraction.proofs.Places.{all_none}
 use Rattle.wi_fraction.proofs.ReadsBack.{numeral as decimal_digits, div_small}
 use Rattle.wi_fraction.proofs.DecimalsReadBack.{decimal_few, decimals_read_back}
 use Rattle.wi_lexer.specs.declared.token.Kind.{Kind}

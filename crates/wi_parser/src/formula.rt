@@ -99,12 +99,13 @@ impl Formula {
     /// The formula for a cell so many rows below and columns to the right of the one that has it: the relative parts
     /// of its references move as far, those of its what-ifs too, and the absolute parts stay. It leaves the sheet where a
     /// relative part of any reference does.
-    pub fn shift(&self, alloc: Global, rows: i64, columns: i64) -> Result<Formula, ShiftFault>
+    pub fn shift(&self, rows: i64, columns: i64) -> Result<Formula, ShiftFault>
         ensures { ShiftsTo (shifted rows columns self.now) result }
     {
         if !shift::all_stay(&self.expr, rows, columns) {
             return Err(ShiftFault::LeavesSheet);
         }
+        let alloc = *self.inputs.allocator();
         let expr = shift::shifted(alloc, &self.expr, rows, columns)?;
         Ok(Formula::new(alloc, expr)?)
     }

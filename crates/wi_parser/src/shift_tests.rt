@@ -94,7 +94,7 @@ fn references_move(rt: HostRuntime) -> Result<(), Fail> {
     ] {
         let formula = parse(rt.alloc(), text)?;
         let wanted = parse(rt.alloc(), wanted)?;
-        let moved = formula.shift(rt.alloc(), rows, columns)?;
+        let moved = formula.shift(rows, columns)?;
         let found = references(rt.alloc(), moved.tree())?;
         let right = references(rt.alloc(), wanted.tree())?;
         assert_eq!(rt; found.as_slice(), right.as_slice(), "{text}");
@@ -153,9 +153,7 @@ fn references_leave_the_sheet(rt: HostRuntime) -> Result<(), Fail> {
         ("=MULTIPLE.OPERATIONS([.$C$3];[.$C$3];[.XFD$3])", 0, 1),
         ("=MULTIPLE.OPERATIONS([.$C$3];[.$C3];[.$C$3])", i64::MAX, 0),
     ] {
-        let fault = parse(rt.alloc(), text)?
-            .shift(rt.alloc(), rows, columns)
-            .err();
+        let fault = parse(rt.alloc(), text)?.shift(rows, columns).err();
         assert_eq!(rt; fault, Some(ShiftFault::LeavesSheet), "{text}");
     }
     Ok(())
@@ -165,8 +163,8 @@ fn references_leave_the_sheet(rt: HostRuntime) -> Result<(), Fail> {
 fn a_formula_stays_where_another_is_made_of_it(rt: HostRuntime) -> Result<(), Fail> {
     let formula = parse(rt.alloc(), "=MULTIPLE.OPERATIONS([.B2];[.B1];[.A4])+1")?;
     let before = references(rt.alloc(), formula.tree())?;
-    let _moved = formula.shift(rt.alloc(), 5, 5)?;
-    let _none = formula.shift(rt.alloc(), -5, 5).err();
+    let _moved = formula.shift(5, 5)?;
+    let _none = formula.shift(-5, 5).err();
     let after = references(rt.alloc(), formula.tree())?;
     assert_eq!(rt; before.as_slice(), after.as_slice());
     Ok(())
@@ -178,7 +176,7 @@ fn long_formulas_move(rt: HostRuntime) -> Result<(), Fail> {
     for _ in 0..2_000 {
         text.push_str("+1")?;
     }
-    let moved = parse(rt.alloc(), text.as_str())?.shift(rt.alloc(), 1, 1)?;
+    let moved = parse(rt.alloc(), text.as_str())?.shift(1, 1)?;
     let found = references(rt.alloc(), moved.tree())?;
     let wanted = references(rt.alloc(), parse(rt.alloc(), "=[.B2]")?.tree())?;
     assert_eq!(rt; found.as_slice(), wanted.as_slice());

@@ -879,7 +879,7 @@ fn longest_formulas_are_printed_copied_and_moved(rt: HostRuntime) -> Result<(), 
         let copy = formula.copy(rt.alloc())?;
         assert_eq!(rt; printed(rt.alloc(), &copy)?, text);
         let moved_text = text.replace(rt.alloc(), "[.A1]", "[.B2]")?;
-        let moved = formula.shift(rt.alloc(), 1, 1)?;
+        let moved = formula.shift(1, 1)?;
         assert_eq!(rt; printed(rt.alloc(), &moved)?, moved_text);
         let again = parse(rt.alloc(), &moved_text)?;
         assert_eq!(rt; printed(rt.alloc(), &again)?, moved_text);

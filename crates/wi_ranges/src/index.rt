@@ -22,6 +22,7 @@ pub struct RangeIndex {
     // Each pair that there is, at each of its blocks.
     pieces: Pieces,
     total: u64,
+    alloc: Global,
 }
 
 impl Model for RangeIndex {
@@ -45,6 +46,7 @@ impl RangeIndex {
             counts: BTreeMap::new(alloc),
             pieces: BTreeSet::new(alloc),
             total: 0,
+            alloc,
         }
     }
 
@@ -77,13 +79,13 @@ impl RangeIndex {
 
     /// The cells that read a rectangle with the cell, in row-major order, each once. The work grows with the pairs at the 21
     /// blocks that hold the cell's row, and with the logarithms of their count and of that of all pieces.
-    pub fn readers_of(&self, alloc: Global, at: Address) -> Result<Vec<Address>, AllocError>
+    pub fn readers_of(&self, at: Address) -> Result<Vec<Address>, AllocError>
         ensures order { IfOk result (λ readers. IsStrictlyIncreasing readers.items) }
         ensures readers { IfOk result (λ readers. (r : ℕ) → Contains readers.items r ↔ IsReader self.now at r) }
     {
-        let mut readers = BTreeSet::new(alloc);
+        let mut readers = BTreeSet::new(self.alloc);
         add_all_readers(&self.pieces, at, at.row(), &Block::sheet(), &mut readers)?;
-        listed(alloc, &readers)
+        listed(self.alloc, &readers)
     }
 
     /// How many blocks all pairs have together.

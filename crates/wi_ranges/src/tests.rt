@@ -39,13 +39,13 @@ fn equal_pairs_count(rt: HostRuntime) -> Result<(), Fail> {
     assert_eq!(rt; index.pieces(), 4);
     index.remove(rows, reader);
     assert_eq!(rt; index.pieces(), 2);
-    let readers = index.readers_of(rt.alloc(), cell("A3")?)?;
+    let readers = index.readers_of(cell("A3")?)?;
     assert_eq!(rt; readers.as_slice(), [reader].as_slice());
     index.remove(rows, reader);
     assert_eq!(rt; index.pieces(), 0);
     index.remove(rows, reader);
     assert_eq!(rt; index.pieces(), 0);
-    assert!(rt; index.readers_of(rt.alloc(), cell("A3")?)?.is_empty());
+    assert!(rt; index.readers_of(cell("A3")?)?.is_empty());
     Ok(())
 }
 
@@ -77,7 +77,7 @@ fn readers_stand_in_order(rt: HostRuntime) -> Result<(), Fail> {
         ("XFD1048576", "F7 "),
     ] {
         let mut shown = String::new(rt.alloc());
-        for reader in &index.readers_of(rt.alloc(), cell(at)?)? {
+        for reader in &index.readers_of(cell(at)?)? {
             reader.push_text(&mut shown)?;
             shown.push(' ')?;
         }
@@ -107,10 +107,10 @@ fn a_refused_growth_leaves_all_as_it_was(rt: HostRuntime) {
     };
     let added = index.add(Rect::new(top, bottom), reader).is_ok();
     assert_eq!(rt; index.pieces(), if added { 40 } else { 2 });
-    if let Ok(readers) = index.readers_of(rt.alloc(), bottom) {
+    if let Ok(readers) = index.readers_of(bottom) {
         assert_eq!(rt; readers.len(), usize::from(added));
     }
-    if let Ok(readers) = index.readers_of(rt.alloc(), top) {
+    if let Ok(readers) = index.readers_of(top) {
         assert_eq!(rt; readers.len(), 1 + usize::from(added));
     }
 }

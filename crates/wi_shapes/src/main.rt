@@ -68,10 +68,10 @@ fn told(alloc: Global, text: &str) -> Result<String, AllocError> {
     let Ok(formula) = parse(alloc, text) else {
         return String::from_str(alloc, "no formula");
     };
-    let Ok(moved) = formula.copy(alloc)?.shift(alloc, 1, 1) else {
+    let Ok(moved) = formula.copy(alloc)?.shift(1, 1) else {
         return String::from_str(alloc, "not moved");
     };
-    let Ok(back) = moved.shift(alloc, -1, -1) else {
+    let Ok(back) = moved.shift(-1, -1) else {
         return String::from_str(alloc, "not moved back");
     };
     let moved_text = text.replace(alloc, "[.A1]", "[.B2]")?;

@@ -29,6 +29,7 @@ pub struct Store {
     rooms: Rooms,
     edits: u64,
     limits: Limits,
+    alloc: Global,
 }
 
 impl Model for Store {
@@ -59,6 +60,7 @@ impl Store {
             rooms: BTreeMap::new(alloc),
             edits: 0,
             limits,
+            alloc,
         }
     }
 
@@ -117,10 +119,10 @@ impl Store {
     }
 
     /// The cells of a rectangle that have a formula, in row-major order. The work is that of `push_formulas_within`.
-    pub fn formulas_in(&self, alloc: Global, area: Rect) -> Result<Vec<Address>, AllocError>
+    pub fn formulas_in(&self, area: Rect) -> Result<Vec<Address>, AllocError>
         ensures { IfOk result (λ found. found.items ≡ filter (is_within area) (cells_with_formula self.now.sheet)) }
     {
-        let mut found = Vec::new(alloc);
+        let mut found = Vec::new(self.alloc);
         self.push_formulas_within(area, &mut found)?;
         Ok(found)
     }

@@ -51,7 +51,7 @@ fn an_edit_is_read_back(rt: HostRuntime) -> Result<(), Fail> {
         formulas.push((at, Some(Content::read(rt.alloc(), "=1/2")?)))?;
     }
     store.apply(formulas)?;
-    let found = store.formulas_in(rt.alloc(), Rect::new(a1, Address::at(9, 9)))?;
+    let found = store.formulas_in(Rect::new(a1, Address::at(9, 9)))?;
     assert_eq!(rt; found.as_slice(), [b1, a2].as_slice());
     assert_eq!(rt; store.occupied(), 3);
     assert_eq!(rt; store.limits(), Limits::standard());

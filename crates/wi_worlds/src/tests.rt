@@ -14,26 +14,20 @@ fn by(at: Address, value: Value) -> Replacement {
 
 /// A2 is TRUE and C3 is emptied.
 fn old(alloc: Global) -> Result<World, AllocError> {
-    World::new(alloc).with(
-        alloc,
-        &[
-            by(Address::at(2, 2), Value::Empty),
-            by(Address::at(1, 0), Value::Logical(true)),
-        ],
-    )
+    World::new(alloc).with(&[
+        by(Address::at(2, 2), Value::Empty),
+        by(Address::at(1, 0), Value::Logical(true)),
+    ])
 }
 
 /// C3 gets a text, A1 is TRUE, then emptied.
 fn newer(alloc: Global, world: &World) -> Result<World, AllocError> {
     let text = Text::from_str(alloc, "three")?;
-    world.with(
-        alloc,
-        &[
-            by(Address::at(2, 2), Value::Text(text)),
-            by(Address::at(0, 0), Value::Logical(true)),
-            by(Address::at(0, 0), Value::Empty),
-        ],
-    )
+    world.with(&[
+        by(Address::at(2, 2), Value::Text(text)),
+        by(Address::at(0, 0), Value::Logical(true)),
+        by(Address::at(0, 0), Value::Empty),
+    ])
 }
 
 #[test]
@@ -104,7 +98,7 @@ fn cones_that_have_a_cell(rt: HostRuntime) -> Result<(), Fail> {
         (Address::at(3, 3), "A2 C3 "),
         (Address::at(4, 4), "C3 "),
     ] {
-        let found = world.reaching(rt.alloc(), at, &cones)?;
+        let found = world.reaching(at, &cones)?;
         assert_eq!(rt; text_of(rt.alloc(), &found)?.as_str(), text);
     }
     Ok(())

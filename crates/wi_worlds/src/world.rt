@@ -57,10 +57,11 @@ impl World {
     /// The replacements with others put in, each in the place of an earlier one for its address. Of two others for
     /// one address the later counts. The work for each replacement, the old ones too, grows with the logarithm of
     /// the count of all.
-    pub fn with(&self, alloc: Global, others: &[Replacement]) -> Result<World, AllocError>
+    pub fn with(&self, others: &[Replacement]) -> Result<World, AllocError>
         ensures list { IfOk result (λ w. entries w ≡ overridden (entries self.now) others.now) }
         ensures each { IfOk result (λ w. (a : ℕ) → replaced w a ≡ option_or (last_for others.now a) (replaced self.now a)) }
     {
+        let alloc = *self.replacements.allocator();
         let mut all = BTreeMap::new(alloc);
         put_in(alloc, &mut all, self.replacements())?;
         put_in(alloc, &mut all, others)?;
@@ -72,7 +73,6 @@ impl World {
     /// the counts of cells in them.
     pub fn reaching(
         &self,
-        alloc: Global,
         at: Address,
         cones: &BTreeMap<Address, Vec<Address>>,
     ) -> Result<World, AllocError>
@@ -80,6 +80,7 @@ impl World {
         ensures list { IfOk result (λ w. w ≡ filter (reaches cones.now at) self.now) }
         ensures each { IfOk result (λ w. (a : ℕ) → replaced w a ≡ (if cone_has cones.now a at then replaced self.now a else None)) }
     {
+        let alloc = *self.replacements.allocator();
         let mut replacements = Vec::new(alloc);
         for replacement in &self.replacements {
             if reaches(replacement.at, at, cones) {
