@@ -1,0 +1,55 @@
+-- Values by keys.
+use Rattle.std.specs.Prelude.{◌≡◌, ℕ, ◌+◌, ◌<◌, ◌≤◌, ◌⊎◌, Bool, List, length, min, Option, Some, None, IsSome, is_some, refl, if◌then◌else◌}
+use Rattle.std.specs.List.{IsDistinct}
+use Rattle.std.specs.Map.{keys_of, lookup, update}
+use Rattle.std.specs.Coded.{Coded, code_by, coded×, coded_list, coded_ℕ}
+use Rattle.wi_values.specs.declared.value.Value.{Value}
+use Rattle.wi_cache.specs.declared.key.Key.{Key}
+use Rattle.wi_cache.specs.contracts.key.KeyPartialEq.TheImpl as equality
+
+-- whether two keys are equal: they are one key then
+abbrev pub same_key : Key → Key → Bool
+same_key = equality.ghosts.eq
+
+abbrev pub Entries : Type 0
+Entries = List (Key × Value)
+
+-- the value that stands for a key, if one does
+abbrev pub value_for : Entries → Key → Option Value
+value_for es k = lookup (same_key k) es
+
+-- no key stands twice
+abbrev pub HasOneEach : Entries → Type 0
+HasOneEach es = IsDistinct same_key (keys_of es)
+
+module _ (es fs : Entries) (k : Key) (v : Value) where
+  -- v stands for k, and for every other key what stood before
+  abbrev pub Puts : Type 0
+  Puts = (q : Key) → value_for fs q ≡ update same_key (value_for es) k (Some v) q
+
+  -- one key that stood goes; v stands for k, and for every other key what stood before
+  abbrev pub PutsForOne : Type 0
+  PutsForOne = (gone : Key) × IsSome (value_for es gone) × ((q : Key) → value_for fs q ≡ update same_key (update same_key (value_for es) gone None) k (Some v) q)
+
+-- the values that are kept, and how many there may be
+pub record KeptValues : Type 0 where
+  pub entries : Entries
+  pub capacity : ℕ
+
+abbrev pub kept : Entries → ℕ → KeptValues
+kept es n = record { entries = es; capacity = n }
+
+abbrev pub kept_code : Coded Key → Coded Value → Coded KeptValues
+kept_code k v = code_by (Entries × ℕ) (coded× (coded_list (coded× k v)) coded_ℕ) (λ m. (m.entries, m.capacity)) (λ p. kept p.0 p.1) (λ _. refl)
+
+-- what holds of kept values at any time
+abbrev pub IsKept : KeptValues → Type 0
+IsKept m = HasOneEach m.entries × (length m.entries ≤ m.capacity) × (1 ≤ m.capacity)
+
+-- a value for k asks for none to go: k has one, or the list isn't full
+abbrev pub HasRoom : KeptValues → Key → Type 0
+HasRoom m k = IsSome (value_for m.entries k) ⊎ (length m.entries < m.capacity)
+
+-- how many there are after one is kept for k
+abbrev pub len_after : KeptValues → Key → ℕ
+len_after m k = if is_some (value_for m.entries k) then length m.entries else min (length m.entries + 1) m.capacity

@@ -1,0 +1,75 @@
+//! Values that outlive a call.
+
+ghost use Rattle.std.specs.Prelude.{◌≡◌, ◌<◌, ◌≤◌, [], length, Some, None, IfOk, OnOk, OnErr};
+ghost use Rattle.std.specs.Option.{option_copied};
+ghost use Rattle.wi_cache.specs.Entries.{HasOneEach, HasRoom, Puts, PutsForOne, kept, len_after, value_for};
+
+use crate::key::Key;
+use lru::LruCache;
+use std::alloc::{AllocError, Global};
+use std::marker::Model;
+use std::num::NonZeroUsize;
+use wi_values::Value;
+
+/// Values by keys, of which there are at most so many as the capacity.
+#[derive(Drop)]
+pub struct Kept {
+    entries: LruCache<Key, Value>,
+}
+
+impl Model for Kept {
+    ghost use Rattle.wi_cache.specs.Entries.{KeptValues, IsKept, kept, kept_code};
+    ghost use Rattle.wi_cache.specs.contracts.key.Key as key;
+    ghost use Rattle.wi_values.specs.contracts.value.Value as value;
+
+    ghost Value = { KeptValues };
+
+    ghost coded = { kept_code key.the_row.coded value.the_row.coded };
+
+    ghost view = { λ k. kept k.entries.entries k.entries.cap };
+
+    ghost invariant = { λ k. IsKept (kept k.entries.entries k.entries.cap) };
+}
+
+impl Kept {
+    /// No values, and room for as many as the capacity says. Memory for them is taken as they come.
+    pub fn new(alloc: Global, capacity: usize) -> Result<Kept, AllocError>
+        requires { 1 ≤ capacity }
+        ensures { IfOk result (λ k. k ≡ kept [] capacity) }
+    {
+        let capacity = NonZeroUsize::new(capacity).unwrap();
+        let entries = LruCache::sparse(alloc, capacity)?;
+        Ok(Kept { entries })
+    }
+
+    /// The value that is kept for a key. Expected constant time, beside the hash of the key.
+    pub fn look(&self, key: &Key) -> Option<&Value>
+        ensures { option_copied result ≡ value_for self.now.entries key.now }
+    {
+        self.entries.peek(key)
+    }
+
+    /// Keeps a value for a key, in the place of an earlier one. A new key that comes to a full list takes the place of
+    /// the one that was kept longest ago. If memory runs out, all stays as it was. Expected constant time, beside
+    /// the hash of the key.
+    pub fn keep(&mut self, key: Key, value: Value) -> Result<(), AllocError>
+        ensures found { OnOk result (value_for self.new.entries key ≡ Some value) }
+        ensures stays { OnOk result (HasRoom self.old key → Puts self.old.entries self.new.entries key value) }
+        ensures one_goes { OnOk result (value_for self.old.entries key ≡ None → self.old.capacity ≤ length self.old.entries → PutsForOne self.old.entries self.new.entries key value) }
+        ensures len { OnOk result (length self.new.entries ≡ len_after self.old key) }
+        ensures capacity { self.new.capacity ≡ self.old.capacity }
+        ensures err { OnErr result (self.new ≡ self.old) }
+    {
+        self.entries.put(key, value)?;
+        Ok(())
+    }
+
+    /// How many values are kept.
+    pub fn len(&self) -> usize
+        ensures len { result ≡ length self.now.entries }
+        ensures within { length self.now.entries ≤ self.now.capacity }
+        ensures one_each { HasOneEach self.now.entries }
+    {
+        self.entries.len()
+    }
+}

@@ -1,0 +1,13 @@
+//! Kept values: those of one call, and those that outlive a call, of which there are only so many.
+#![tactic(auto)]
+
+mod kept;
+mod key;
+pub mod laws;
+mod run_table;
+#[cfg(test)]
+mod tests;
+
+pub use kept::Kept;
+pub use key::Key;
+pub use run_table::RunTable;
