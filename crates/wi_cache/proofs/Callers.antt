@@ -30,7 +30,7 @@ module _ (P : Key → Value → Type 0) where
     holds_after_puts es fs old puts q = subst (λ o. IfSome o (P q)) (sym (puts q)) (put_holds (value_for es) old q)
 
     holds_after_one_goes : (es fs : Entries) → HoldsOfEach es → PutsForOne es fs k v → HoldsOfEach fs
-    holds_after_one_goes es fs old puts q = subst (λ o. IfSome o (P q)) (sym (puts.2 q)) (put_holds (update same_key (value_for es) puts.0 None) (gone_holds (value_for es) puts.0 old) q)
+    holds_after_one_goes es fs old puts q = subst (λ o. IfSome o (P q)) (sym (puts.others q)) (put_holds (update same_key (value_for es) puts.gone None) (gone_holds (value_for es) puts.gone old) q)
 
     module _ (m n : KeptValues) (stays : HasRoom m k → Puts m.entries n.entries k v) (one_goes : value_for m.entries k ≡ None → m.capacity ≤ length m.entries → PutsForOne m.entries n.entries k v) where
       -- the same of an accepted `keep`, whose clauses are taken as they stand

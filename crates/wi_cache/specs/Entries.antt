@@ -28,8 +28,10 @@ module _ (es fs : Entries) (k : Key) (v : Value) where
   Puts = (q : Key) → value_for fs q ≡ update same_key (value_for es) k (Some v) q
 
   -- one key that stood goes; v stands for k, and for every other key what stood before
-  abbrev pub PutsForOne : Type 0
-  PutsForOne = (gone : Key) × IsSome (value_for es gone) × ((q : Key) → value_for fs q ≡ update same_key (update same_key (value_for es) gone None) k (Some v) q)
+  pub record PutsForOne : Type 0 where
+    pub gone : Key
+    pub stood : IsSome (value_for es gone)
+    pub others : (q : Key) → value_for fs q ≡ update same_key (update same_key (value_for es) gone None) k (Some v) q
 
 -- the values that are kept, and how many there may be
 pub record KeptValues : Type 0 where
