@@ -76,7 +76,7 @@ fn a_key_is_of_one_generation_and_one_world(rt: HostRuntime) -> Result<(), Fail>
         at: Address::at(4, 0),
         value: Value::Empty,
     };
-    let world = World::new(alloc).with(alloc, &[emptied])?;
+    let world = World::new(alloc).with(&[emptied])?;
     let mut later = key(alloc, 0);
     later.generation = 1;
     let mut elsewhere = key(alloc, 0);
