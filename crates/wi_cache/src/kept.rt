@@ -50,8 +50,8 @@ impl Kept {
     }
 
     /// Keeps a value for a key, in the place of an earlier one. A new key that comes to a full list takes the place of
-    /// the one that was kept longest ago. If memory runs out, all stays as it was. Expected constant time, beside
-    /// the hash of the key.
+    /// the one that was kept longest ago. If memory runs out, all stays as it was. Expected constant time over many
+    /// calls, beside the hash of the key.
     #[tactic(auto, using(crate::proofs::Keeping::keeping))]
     pub fn keep(&mut self, key: Key, value: Value) -> Result<(), AllocError>
         ensures found { OnOk result (value_for self.new.entries key ≡ Some value) }
