@@ -75,7 +75,8 @@ impl Formula {
         &self.inputs
     }
 
-    /// The rectangles that it reads, from the left: that of each cell and each rectangle that it names, but for the inputs.
+    /// The rectangles that it reads, from the left; a cell that it reads is the rectangle of that cell. The inputs of its
+    /// what-ifs are only named.
     pub fn rectangles(&self) -> &[Rect]
         ensures { result.now ≡ rectangles_of self.now }
     {

@@ -13,7 +13,7 @@ use std::collections::BTreeSet;
 use wi_store::Store;
 use wi_values::{Address, Rect};
 
-/// Whether a cell is on or above a cycle. Of the formulas that it reaches, each that is not is looked at once.
+/// Whether a cell is on or above a cycle. A formula that it reaches and that turns out not to be is not looked at again.
 pub fn is_circular(alloc: Global, store: &Store, at: Address) -> Result<bool, AllocError>
     ensures { IfOk result (λ b. b ≡ cycles.circular store.now.sheet at) }
 {

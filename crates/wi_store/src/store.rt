@@ -128,8 +128,8 @@ impl Store {
     }
 
     /// Appends the cells of a rectangle that have a formula, in row-major order. On an error the list is as before.
-    /// The work grows with the count of its occupied cells, and with the logarithm of the count of all, once and for each
-    /// of its rows where a cell beside it is occupied.
+    /// The work grows with the count of its occupied cells, and with the logarithm of the count of all for each search in
+    /// the map: one, and at most two more for each row of the sheet where a cell is occupied beside it.
     pub fn push_formulas_within(
         &self,
         area: Rect,
