@@ -4,11 +4,15 @@
 mod content;
 mod expr;
 mod fault;
+#[cfg(test)]
+mod fault_tests;
 mod formula;
 mod front;
 mod grammar;
 pub mod laws;
 mod limits;
+#[cfg(test)]
+mod longest_tests;
 mod parser;
 mod print;
 #[cfg(test)]
