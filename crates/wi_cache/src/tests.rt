@@ -1,8 +1,8 @@
 ghost use Rattle.std.specs.Prelude.{◌<◌};
 
 use crate::{Kept, Key, RunTable};
-use std::alloc::Global;
-use std::test::*;
+use std::alloc::{AllocError, Global};
+use std::test::Fail;
 use wi_values::{Address, Replacement, Value};
 use wi_worlds::World;
 
@@ -101,4 +101,35 @@ fn a_run_table_drops_none(rt: HostRuntime) -> Result<(), Fail> {
     assert!(rt; found(&table, &key(alloc, 39), &Value::Empty));
     assert!(rt; table.look(&key(alloc, 40)).is_none());
     Ok(())
+}
+
+/// A list of two that has one value.
+fn with_one(alloc: Global) -> Result<Kept, AllocError> {
+    let mut kept = Kept::new(alloc, 2)?;
+    kept.keep(key(alloc, 0), Value::Logical(true))?;
+    Ok(kept)
+}
+
+#[test]
+fn a_refused_growth_leaves_what_was_kept(rt: HostRuntime) {
+    let alloc = rt.alloc();
+    let Ok(mut kept) = with_one(alloc) else {
+        return;
+    };
+    let added = kept.keep(key(alloc, 1), Value::Empty).is_ok();
+    assert_eq!(rt; kept.len(), 1 + usize::from(added));
+    assert!(rt; has(&kept, &key(alloc, 0), &Value::Logical(true)));
+    assert_eq!(rt; has(&kept, &key(alloc, 1), &Value::Empty), added);
+}
+
+#[test]
+fn a_refused_growth_leaves_what_was_found(rt: HostRuntime) {
+    let alloc = rt.alloc();
+    let mut table = RunTable::new(alloc);
+    let first = table.keep(key(alloc, 0), Value::Logical(true)).is_ok();
+    for column in 1..20 {
+        let added = table.keep(key(alloc, column), Value::Empty).is_ok();
+        assert_eq!(rt; found(&table, &key(alloc, column), &Value::Empty), added);
+    }
+    assert_eq!(rt; found(&table, &key(alloc, 0), &Value::Logical(true)), first);
 }
