@@ -1,6 +1,8 @@
 pub mod Circular
 pub mod CellValue
 pub mod Shown
+pub mod Reach
+pub mod Demand
 pub mod Laws
 pub mod ReadCells
 pub mod Clear

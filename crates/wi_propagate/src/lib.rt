@@ -5,6 +5,7 @@ mod calculator;
 mod circular;
 mod found;
 pub mod laws;
+mod memo;
 mod plain;
 mod seen;
 mod value;
