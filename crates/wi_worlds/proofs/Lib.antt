@@ -1,4 +1,5 @@
 pub mod InOrder
 pub mod Overriding
 pub mod Filtering
+mod Searching
 mod Rows

@@ -4,7 +4,7 @@ ghost use Rattle.std.specs.Ordering.{nat_cmp};
 
 use crate::World;
 use std::alloc::{AllocError, Global};
-use std::collections::{BTreeMap, HashMap};
+use std::collections::{BTreeMap, BTreeSet, HashMap};
 use std::test::Fail;
 use wi_values::{Address, Replacement, Text, Value};
 
@@ -55,17 +55,17 @@ fn a_replacement_by_empty_is_one(rt: HostRuntime) -> Result<(), Fail> {
 }
 
 /// A2 reaches itself and D4; C3 reaches itself, D4 and E5.
-fn cones(alloc: Global) -> Result<BTreeMap<Address, Vec<Address>>, Fail> {
+fn cones(alloc: Global) -> Result<BTreeMap<Address, BTreeSet<Address>>, Fail> {
     let (a2, c3) = (Address::at(1, 0), Address::at(2, 2));
     let (d4, e5) = (Address::at(3, 3), Address::at(4, 4));
     let mut cones = BTreeMap::new(alloc);
-    cones.insert(a2, vec![in alloc; a2, d4]?)?;
-    cones.insert(c3, vec![in alloc; d4, c3, e5]?)?;
+    cones.insert(a2, BTreeSet::from_array(alloc, [a2, d4])?)?;
+    cones.insert(c3, BTreeSet::from_array(alloc, [d4, c3, e5])?)?;
     Ok(cones)
 }
 
 /// Whether each replaced address has a cone.
-fn all_have_cones(world: &World, cones: &BTreeMap<Address, Vec<Address>>) -> bool
+fn all_have_cones(world: &World, cones: &BTreeMap<Address, BTreeSet<Address>>) -> bool
     ensures { IsTrue result → All (λ r. IsSome (get nat_cmp cones.now r.at)) world.now }
 {
     for replacement in world.replacements() {
@@ -101,6 +101,23 @@ fn cones_that_have_a_cell(rt: HostRuntime) -> Result<(), Fail> {
         let found = world.reaching(at, &cones)?;
         assert_eq!(rt; text_of(rt.alloc(), &found)?.as_str(), text);
     }
+    Ok(())
+}
+
+#[test]
+fn replacements_by_address(rt: HostRuntime) -> Result<(), Fail> {
+    let world = newer(rt.alloc(), &old(rt.alloc())?)?;
+    let text = Value::Text(Text::from_str(rt.alloc(), "three")?);
+    for (at, value) in [
+        (Address::at(0, 0), Some(&Value::Empty)),
+        (Address::at(0, 1), None),
+        (Address::at(1, 0), Some(&Value::Logical(true))),
+        (Address::at(2, 2), Some(&text)),
+        (Address::at(2, 3), None),
+    ] {
+        assert_eq!(rt; world.replacement(at), value);
+    }
+    assert_eq!(rt; World::new(rt.alloc()).replacement(Address::at(0, 0)), None);
     Ok(())
 }
 

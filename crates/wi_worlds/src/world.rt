@@ -2,16 +2,16 @@
 
 ghost use Rattle.std.specs.Prelude.{◌≡◌, ℕ, [], All, filter, None, IsSome, IfOk, if◌then◌else◌};
 ghost use Rattle.std.specs.BTreeMap.{get};
-ghost use Rattle.std.specs.Option.{option_or};
+ghost use Rattle.std.specs.Option.{option_copied, option_or};
 ghost use Rattle.std.specs.Ordering.{nat_cmp};
 ghost use Rattle.wi_worlds.specs.Reaching.{cone_has, reaches};
 ghost use Rattle.wi_worlds.specs.World.{IsInOrder, entries, last_for, overridden, replaced};
 
 use crate::entries::{copied, listed, put_in};
 use std::alloc::{AllocError, Global};
-use std::collections::BTreeMap;
+use std::collections::{BTreeMap, BTreeSet};
 use std::marker::Model;
-use wi_values::{Address, Replacement};
+use wi_values::{Address, Replacement, Value};
 
 /// Replacements, one for each address, in row-major order. A replacement by Empty is one like others.
 #[derive(Debug, Drop)]
@@ -69,12 +69,26 @@ impl World {
         Ok(World { replacements })
     }
 
-    /// The replacements whose cone has a cell, the cones being those of the replaced addresses. The work grows with
-    /// the counts of cells in them.
+    /// The value that stands in the place of a cell's content, if one does. The work grows with the logarithm of the
+    /// count of replacements.
+    pub fn replacement(&self, at: Address) -> Option<&Value>
+        ensures { option_copied result ≡ replaced self.now at }
+    {
+        match self
+            .replacements
+            .binary_search_by_key(&at, |replacement| replacement.at)
+        {
+            Ok(place) => Some(&self.replacements[place].value),
+            Err(_) => None,
+        }
+    }
+
+    /// The replacements whose cone has a cell, the cones being those of the replaced addresses. The work for each
+    /// replacement grows with the logarithms of the count of cones and of the count of cells in its own.
     pub fn reaching(
         &self,
         at: Address,
-        cones: &BTreeMap<Address, Vec<Address>>,
+        cones: &BTreeMap<Address, BTreeSet<Address>>,
     ) -> Result<World, AllocError>
         requires cones { All (λ r. IsSome (get nat_cmp cones.now r.at)) self.now }
         ensures list { IfOk result (λ w. w ≡ filter (reaches cones.now at) self.now) }
@@ -92,7 +106,7 @@ impl World {
 }
 
 /// Whether the cone of a replaced address has a cell.
-fn reaches(replaced: Address, at: Address, cones: &BTreeMap<Address, Vec<Address>>) -> bool
+fn reaches(replaced: Address, at: Address, cones: &BTreeMap<Address, BTreeSet<Address>>) -> bool
     requires { IsSome (get nat_cmp cones.now replaced) }
     ensures { result ≡ cone_has cones.now replaced at }
 {

@@ -1,6 +1,6 @@
 use Rattle.std.proofs.Common.{◌≡◌, ◌∙◌, ◌+◌, ◌<◌, ℕ, zero, suc, IsSome, List, [], ◌∷◌, length, get_or, refl, sym, ap, subst, arith, ⊎_elim}
 use Rattle.std.specs.Ordering.{nat_cmp}
-use Rattle.std.specs.Global.{Vec}
+use Rattle.std.specs.BTreeSet.{BTreeSet}
 use Rattle.std.specs.BTreeMap.{BTreeMap, get}
 use Rattle.std.proofs.lemmas.Bool.{cases_eq}
 use Rattle.wi_values.specs.declared.replacement.Replacement.{Replacement}
@@ -12,7 +12,7 @@ same_element (r ∷ rs) zero d e l = refl
 same_element (r ∷ rs) (suc i) d e l = same_element rs i d e (omega arith)
 
 -- one more has its cone
-one_more : (cones : BTreeMap ℕ (Vec ℕ)) (rs : List Replacement) (i : ℕ) (r : Replacement) → i < length rs → r ≡ get_or rs i r → IsSome (get nat_cmp cones r.at)
+one_more : (cones : BTreeMap ℕ (BTreeSet ℕ)) (rs : List Replacement) (i : ℕ) (r : Replacement) → i < length rs → r ≡ get_or rs i r → IsSome (get nat_cmp cones r.at)
     → ((k : ℕ) (d : Replacement) → k < i → IsSome (get nat_cmp cones (get_or rs k d).at))
     → (k : ℕ) (d : Replacement) → k < i + 1 → IsSome (get nat_cmp cones (get_or rs k d).at)
 one_more cones rs i r m is here h =

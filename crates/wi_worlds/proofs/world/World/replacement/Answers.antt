@@ -1,0 +1,16 @@
+use Rattle.std.proofs.Common.{rules}
+use Rattle.std.proofs.lemmas.List.Sorted.{answers_always}
+use Rattle.wi_worlds.proofs.Searching.{searched_of}
+use Rattle.wi_worlds.proofs.world.World.replacement.Goals as goal
+
+pub returns-in-Ok : goal.returns-in-Ok
+returns-in-Ok c =
+    let facts = c.binary_search_by_key.ensures in
+    searched_of _ _ _ c.args.at _ _ c.self.invariant c.self.view_is c.deref.ensures.value c.in-Ok.is facts.bound
+    (facts.position (λ r. r.at) (answers_always _ _ _ (λ f a r g called. search rules))) c.index.result.now c.index.ensures
+
+pub returns-in-Err : goal.returns-in-Err
+returns-in-Err c =
+    let facts = c.binary_search_by_key.ensures in
+    searched_of _ _ _ c.args.at _ _ c.self.invariant c.self.view_is c.deref.ensures.value c.in-Err.is facts.bound
+    (facts.position (λ r. r.at) (answers_always _ _ _ (λ f a r g called. search rules)))
