@@ -13,3 +13,7 @@ pub mod Known
 pub mod Missing
 pub mod Ends
 pub mod Paths
+pub mod Agreement
+pub mod Locality
+pub mod ReachTest
+pub mod Overrides

@@ -1,0 +1,143 @@
+-- Replacements that others override.
+use Rattle.std.proofs.Common.{◌≡◌, ◌==◌, ℕ, Bool, true, false, cond, List, [], ◌∷◌, Option, Some, None, refl, ap, sym, ◌∙◌, arith}
+use Rattle.std.proofs.lemmas.Bool.Decides.{nat_tests}
+use Rattle.std.proofs.lemmas.Map.Keys.{sorted_head, sorted_tail}
+use Rattle.std.specs.Option.{option_or}
+use Rattle.std.specs.Ordering.{nat_cmp, match_ordering}
+use Rattle.std.specs.declared.cmp.Ordering.{Ordering}
+use Rattle.std.specs.declared.cmp.Ordering.TheVariants.{Less, Equal, Greater}
+use Rattle.std.specs.List.{AllByRecursion}
+use Rattle.std.specs.List.Sorted.{IsStrictlySortedBy}
+use Rattle.std.specs.Map.{lookup, keys_of}
+use Rattle.std.specs.BTreeMap.{is_at, insert_entry}
+use Rattle.wi_values.specs.declared.value.Value.{Value}
+use Rattle.wi_values.specs.declared.replacement.Replacement.{Replacement}
+use Rattle.wi_parser.specs.declared.content.Content.{Content}
+use Rattle.wi_parser.specs.Sheet.{Sheet, constant, content_of, put_all}
+use Rattle.wi_worlds.specs.World.{IsInOrder, entries, replaced, overridden, last_for}
+use Rattle.wi_worlds.proofs.InOrder.{sorted_from_order, order_from_entries}
+use Rattle.wi_worlds.proofs.Filtering.{order_of_filter}
+use Rattle.wi_worlds.proofs.Overriding.{overridden-nothing, lookup-overridden}
+use Rattle.wi_propagate.specs.CellValue.{replacements, cell_value, what_if_value}
+use Rattle.wi_propagate.specs.Reach.{reaches}
+use Rattle.wi_propagate.specs.Demand.{reaching, puts_of, what_if_world}
+use Rattle.wi_propagate.proofs.Puts.{overlaid, content_of-put_all}
+use Rattle.wi_propagate.proofs.Last.{over}
+use Rattle.wi_propagate.proofs.Locality.{value_same, others_do_not_count}
+use Rattle.wi_propagate.proofs.ReachTest.{true_reaches}
+
+-- ---- the last replacement for a cell stands
+
+turn : (x y : ℕ) → (x == y) ≡ (y == x)
+turn x y = grind (arith, nat_tests)
+
+chosen : (b : Bool) (v : Value) (o : Option Content) → cond b (constant v) o ≡ over (cond b (Some v) None) o
+chosen true v o = refl
+chosen false v o = refl
+
+-- one value over another
+over_both : (v w : Option Value) (o : Option Content) → over (option_or v w) o ≡ over v (over w o)
+over_both None w o = refl
+over_both (Some x) w o = refl
+
+overlaid_last : (p : List Replacement) (q : ℕ) (o : Option Content) → overlaid p q o ≡ over (last_for p q) o
+overlaid_last [] q o = refl
+overlaid_last (r ∷ rs) q o =
+    overlaid_last rs q (cond (q == r.at) (constant r.value) o)
+    ∙ ap (over (last_for rs q)) (ap (λ (b : Bool). cond b (constant r.value) o) (turn q r.at) ∙ chosen (r.at == q) r.value o)
+    ∙ sym (over_both (last_for rs q) (cond (r.at == q) (Some r.value) None) o)
+
+-- what a sheet has in a cell under replacements
+pub content_by_last : (s : Sheet) (p : List Replacement) (q : ℕ) → content_of (put_all s p) q ≡ over (last_for p q) (content_of s q)
+content_by_last s p q = content_of-put_all s p q ∙ overlaid_last p q (content_of s q)
+
+or_none : (o : Option Value) → option_or o None ≡ o
+or_none None = refl
+or_none (Some v) = refl
+
+-- where replacements are in order, the last for a cell is the one
+pub last_in_order : (p : List Replacement) → IsInOrder p → (a : ℕ) → last_for p a ≡ replaced p a
+last_in_order p h a =
+    sym (or_none (last_for p a)) ∙ sym (lookup-overridden a [] p)
+    ∙ ap (λ (es : List (ℕ × Value)). lookup (is_at (nat_cmp a)) es) (overridden-nothing p h)
+
+-- ---- replacements put in keep the order
+
+abbrev Rises : List (ℕ × Value) → Type 0
+Rises es = IsStrictlySortedBy nat_cmp (keys_of es)
+
+-- each key comes after a
+abbrev After : ℕ → List (ℕ × Value) → Type 0
+After a es = AllByRecursion (λ b. nat_cmp a b ≡ Less) (keys_of es)
+
+after_insert : (a k : ℕ) (v : Value) (es : List (ℕ × Value)) → nat_cmp a k ≡ Less → After a es → After a (insert_entry nat_cmp es k v)
+after_insert a k v [] l h = (l, tt)
+after_insert a k v (e ∷ es) l h = by (nat_cmp k e.0) (after_insert a k v es l h.1)
+  where
+    by : (o : Ordering) → After a (insert_entry nat_cmp es k v) → After a (match_ordering o ((k, v) ∷ e ∷ es) ((e.0, v) ∷ es) (e ∷ insert_entry nat_cmp es k v))
+    by Less ih = (l, h)
+    by Equal ih = h
+    by Greater ih = (h.0, ih)
+
+less_from_both : (a b c : ℕ) → nat_cmp a b ≡ Less → nat_cmp b c ≡ Less → nat_cmp a c ≡ Less
+less_from_both a b c g h = grind (arith, nat_tests)
+
+after_earlier : (a b : ℕ) (es : List (ℕ × Value)) → nat_cmp a b ≡ Less → After b es → After a es
+after_earlier a b [] l h = tt
+after_earlier a b (e ∷ es) l h = (less_from_both a b e.0 l h.0, after_earlier a b es l h.1)
+
+other_way : (a b : ℕ) → nat_cmp a b ≡ Greater → nat_cmp b a ≡ Less
+other_way a b h = grind (arith, nat_tests)
+
+rises_insert : (es : List (ℕ × Value)) (k : ℕ) (v : Value) → Rises es → Rises (insert_entry nat_cmp es k v)
+unfolding IsStrictlySortedBy
+rises_insert [] k v h = (tt, tt)
+rises_insert (e ∷ es) k v h = by (nat_cmp k e.0) refl (rises_insert es k v h.1)
+  where
+    by : (o : Ordering) → nat_cmp k e.0 ≡ o → Rises (insert_entry nat_cmp es k v) → Rises (match_ordering o ((k, v) ∷ e ∷ es) ((e.0, v) ∷ es) (e ∷ insert_entry nat_cmp es k v))
+    by Less q ih = ((q, after_earlier k e.0 es q h.0), h)
+    by Equal q ih = h
+    by Greater q ih = (after_insert e.0 k v es (other_way k e.0 q) h.0, ih)
+
+rises_overridden : (es : List (ℕ × Value)) (rs : List Replacement) → Rises es → Rises (overridden es rs)
+rises_overridden es [] h = h
+rises_overridden es (r ∷ rs) h = rises_overridden (insert_entry nat_cmp es r.at r.value) rs (rises_insert es r.at r.value h)
+
+entries_puts : (es : List (ℕ × Value)) → entries (puts_of es) ≡ es
+entries_puts [] = refl
+entries_puts (e ∷ es) = ap (λ (xs : List (ℕ × Value)). e ∷ xs) (entries_puts es)
+
+pub override_in_order : (w rs : List Replacement) → IsInOrder w → IsInOrder (puts_of (overridden (entries w) rs))
+override_in_order w rs h =
+    order_from_entries (puts_of (overridden (entries w) rs)) (overridden (entries w) rs) (entries_puts (overridden (entries w) rs)) (rises_overridden (entries w) rs (sorted_from_order w h))
+
+pub what_if_in_order : (s : Sheet) (w : List Replacement) (pairs : List (ℕ × ℕ)) → IsInOrder w → IsInOrder (what_if_world s w pairs)
+what_if_in_order s w pairs h = override_in_order w (replacements (cell_value (put_all s w)) pairs) h
+
+pub reaching_in_order : (s : Sheet) (c : ℕ) (w : List Replacement) → IsInOrder w → IsInOrder (reaching s c w)
+reaching_in_order s c w h = order_of_filter (λ r. reaches s c r.at) w h
+
+-- ---- what overrides, stands over what was there
+
+override_last : (w rs : List Replacement) → IsInOrder w → (a : ℕ) → last_for (puts_of (overridden (entries w) rs)) a ≡ option_or (last_for rs a) (last_for w a)
+override_last w rs h a =
+    last_in_order (puts_of (overridden (entries w) rs)) (override_in_order w rs h) a
+    ∙ ap (λ (es : List (ℕ × Value)). lookup (is_at (nat_cmp a)) es) (entries_puts (overridden (entries w) rs))
+    ∙ lookup-overridden a (entries w) rs ∙ ap (option_or (last_for rs a)) (sym (last_in_order w h a))
+
+pub override_content : (s : Sheet) (w rs : List Replacement) → IsInOrder w → (a : ℕ) → content_of (put_all s (puts_of (overridden (entries w) rs))) a ≡ content_of (put_all (put_all s w) rs) a
+override_content s w rs h a =
+    content_by_last s (puts_of (overridden (entries w) rs)) a
+    ∙ ap (λ (v : Option Value). over v (content_of s a)) (override_last w rs h a)
+    ∙ over_both (last_for rs a) (last_for w a) (content_of s a)
+    ∙ ap (over (last_for rs a)) (sym (content_by_last s w a)) ∙ sym (content_by_last (put_all s w) rs a)
+
+-- a what-if under replacements is its formula cell under those of its world
+pub what_if_world_value : (s : Sheet) (w : List Replacement) (f : ℕ) (pairs : List (ℕ × ℕ)) → IsInOrder w → cell_value (put_all s (what_if_world s w pairs)) f ≡ what_if_value (put_all s w) f pairs
+what_if_world_value s w f pairs h =
+    let rs = replacements (cell_value (put_all s w)) pairs in
+    value_same (put_all s (puts_of (overridden (entries w) rs))) (put_all (put_all s w) rs) f (λ d r. override_content s w rs h d)
+
+-- a cell's value under replacements is the one under those alone that reach it
+pub reaching_suffices : (s : Sheet) (w : List Replacement) (c : ℕ) → cell_value (put_all s (reaching s c w)) c ≡ cell_value (put_all s w) c
+reaching_suffices s w c = others_do_not_count s w c (reaches s c) (true_reaches s c)
