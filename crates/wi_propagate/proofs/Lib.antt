@@ -17,3 +17,4 @@ pub mod Agreement
 pub mod Locality
 pub mod ReachTest
 pub mod Overrides
+pub mod ReachSteps
