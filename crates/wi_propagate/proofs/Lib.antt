@@ -18,3 +18,4 @@ pub mod Locality
 pub mod ReachTest
 pub mod Overrides
 pub mod ReachSteps
+pub mod Cones

@@ -4,6 +4,7 @@ pub mod Shown
 pub mod Reach
 pub mod Demand
 pub mod Laws
+pub mod Locality
 pub mod ReadCells
 pub mod Clear
 pub mod Seen

@@ -1,6 +1,8 @@
 //! Laws about what cells show. Each is the contract of a function that does nothing.
 
 ghost use Rattle.wi_propagate.specs.Laws.{BoundIsNeverFelt, ValueByStep, CircularIsAbove, CircularReadsCircular, PutsMakeNoCycle};
+ghost use Rattle.wi_propagate.specs.Locality.{RestsOnReach, OthersDoNotCount, ReachingSuffices, WhatIfWorld, OrderStays};
+ghost use Rattle.wi_propagate.specs.Locality.{ConeStays, OutsideStays, OutsideStaysUnderPuts, UnmarkedStays, ReachIsDecided, ConeIsDecided};
 
 /// How a cell's value follows from those of the cells that its formula reads.
 pub fn value_by_step()
@@ -13,4 +15,28 @@ pub fn circular_from_reads()
     ensures above { CircularIsAbove }
     ensures reads { CircularReadsCircular }
     ensures puts { PutsMakeNoCycle }
+{}
+
+/// What a cell shows rests on the cells that it reaches alone, and so on those replacements alone that reach it. The
+/// replacements of a what-if and those around it are one list.
+pub fn value_is_local()
+    ensures local { RestsOnReach }
+    ensures others { OthersDoNotCount }
+    ensures reaching { ReachingSuffices }
+    ensures what_if { WhatIfWorld }
+    ensures order { OrderStays }
+{}
+
+/// An edit changes nothing outside the cone of the edited cells, under any replacements.
+pub fn edit_is_local()
+    ensures cone { ConeStays }
+    ensures outside { OutsideStays }
+    ensures puts { OutsideStaysUnderPuts }
+    ensures unmarked { UnmarkedStays }
+{}
+
+/// Whether a cell reaches another, or is in a cone, is told by a test.
+pub fn reach_is_decided()
+    ensures reach { ReachIsDecided }
+    ensures cone { ConeIsDecided }
 {}

@@ -1,0 +1,15 @@
+use Rattle.wi_propagate.proofs.Cones.{cone_stays, outside_content, outside_circular, outside_shown_same, outside_shown, unmarked}
+use Rattle.wi_propagate.proofs.ReachTest.{not_in_cone}
+use Rattle.wi_propagate.proofs.laws.edit_is_local.Goals as goal
+
+pub returns-clause-cone : goal.returns-clause-cone
+returns-clause-cone c = cone_stays
+
+pub returns-clause-outside : goal.returns-clause-outside
+returns-clause-outside c = λ s t edited a same out. (outside_content s t edited a same out, outside_circular s t edited a same out, λ p. outside_shown_same s t edited a p same out)
+
+pub returns-clause-puts : goal.returns-clause-puts
+returns-clause-puts c = outside_shown
+
+pub returns-clause-unmarked : goal.returns-clause-unmarked
+returns-clause-unmarked c = λ s t u edited p q a st su puts out. unmarked s t u edited p q a st su puts (not_in_cone s edited a out)
