@@ -11,6 +11,7 @@ use Rattle.wi_parser.specs.declared.content.Content.TheVariants.{Constant, Formu
 use Rattle.wi_parser.specs.Sheet.{Sheet, content_of, has_formula, cells_with_formula}
 use Rattle.wi_parser.specs.Reads.{content_reads}
 use Rattle.wi_propagate.specs.Circular.{has_walk, circular}
+pub use Rattle.wi_propagate.specs.Reach.{is_one_of}
 use Rattle.wi_propagate.proofs.Puts.{is_at-eq, filter_same}
 
 and_true : (a : Bool) → (a && true) ≡ a
@@ -29,10 +30,6 @@ list_any-both p q (x ∷ xs) = at (q x) (list_any-both p q xs)
     at : (b : Bool) → list_any (λ x. p x && q x) xs ≡ list_any p (filter q xs) → ((p x && b) || list_any (λ x. p x && q x) xs) ≡ list_any p (cond b (x ∷ filter q xs) (filter q xs))
     at true ih = ap (λ (c : Bool). c || list_any (λ x. p x && q x) xs) (and_true (p x)) ∙ ap (λ (c : Bool). p x || c) ih
     at false ih = ap (λ (c : Bool). c || list_any (λ x. p x && q x) xs) (and_false (p x)) ∙ ih
-
--- the cell is one of these
-abbrev pub is_one_of : List ℕ → ℕ → Bool
-is_one_of xs a = list_any (λ x. x == a) xs
 
 -- the cells with a formula from which n steps lead
 abbrev pub layer : ℕ → Sheet → List ℕ
