@@ -10,7 +10,7 @@ use Rattle.wi_worlds.specs.World.{last_for}
 use Rattle.wi_propagate.specs.Circular.{circular}
 use Rattle.wi_propagate.specs.CellValue.{cell_value}
 use Rattle.wi_propagate.specs.Shown.{shown}
-use Rattle.wi_propagate.specs.Reach.{Walks, Reaches, AgreeFrom, is_one_of, IsInCone, SameOff, reaches, in_cone}
+use Rattle.wi_propagate.specs.Reach.{Walks, AgreeFrom, is_one_of, IsInCone, SameOff, reaches, in_cone}
 use Rattle.wi_propagate.specs.Demand.{reaching}
 use Rattle.wi_propagate.proofs.Puts.{overlaid, content_of-put_all}
 use Rattle.wi_propagate.proofs.Walks.{same_tests}

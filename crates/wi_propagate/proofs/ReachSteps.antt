@@ -1,10 +1,10 @@
 -- What a cell reaches, step by step.
-use Rattle.std.proofs.Common.{◌≡◌, ◌==◌, ℕ, zero, suc, ◌+◌, Bool, true, false, List, Option, refl, ap, sym, ◌∙◌, arith, inl, inr, ◌⊎◌}
+use Rattle.std.proofs.Common.{◌≡◌, ℕ, zero, suc, true, false, List, refl, ap, sym, ◌∙◌, inl, inr, ◌⊎◌}
 use Rattle.wi_values.specs.declared.replacement.Replacement.{Replacement}
 use Rattle.wi_parser.specs.Sheet.{Sheet, content_of, put_all, has_formula}
 use Rattle.wi_parser.specs.Reads.{content_reads}
 use Rattle.wi_propagate.specs.Reach.{Walks, Reaches, reaches}
-use Rattle.wi_propagate.proofs.Walks.{reader_formula, same_tests}
+use Rattle.wi_propagate.proofs.Walks.{reader_formula}
 use Rattle.wi_propagate.proofs.Agreement.{put_reaches}
 use Rattle.wi_propagate.proofs.ReachTest.{reaches_true, true_reaches}
 
