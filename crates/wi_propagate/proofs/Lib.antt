@@ -19,3 +19,5 @@ pub mod ReachTest
 pub mod Overrides
 pub mod ReachSteps
 pub mod Cones
+pub mod SmallerWorlds
+mod ReachRows

@@ -118,7 +118,7 @@ reaching_in_order s c w h = order_of_filter (λ r. reaches s c r.at) w h
 
 -- ---- what overrides, stands over what was there
 
-override_last : (w rs : List Replacement) → IsInOrder w → (a : ℕ) → last_for (puts_of (overridden (entries w) rs)) a ≡ option_or (last_for rs a) (last_for w a)
+pub override_last : (w rs : List Replacement) → IsInOrder w → (a : ℕ) → last_for (puts_of (overridden (entries w) rs)) a ≡ option_or (last_for rs a) (last_for w a)
 override_last w rs h a =
     last_in_order (puts_of (overridden (entries w) rs)) (override_in_order w rs h) a
     ∙ ap (λ (es : List (ℕ × Value)). lookup (is_at (nat_cmp a)) es) (entries_puts (overridden (entries w) rs))
