@@ -21,3 +21,6 @@ pub mod ReachSteps
 pub mod Cones
 pub mod SmallerWorlds
 mod ReachRows
+pub mod Ranks
+pub mod Members
+pub mod Demands

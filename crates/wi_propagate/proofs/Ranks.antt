@@ -1,0 +1,49 @@
+-- Ranks fall along reads.
+use Rattle.std.proofs.Common.{◌≡◌, ◌<◌, ◌≤◌, ◌+◌, ℕ, zero, suc, Bool, true, false, if◌then◌else◌, List, length, refl, ap, sym, ◌∙◌, arith}
+use Rattle.wi_parser.specs.Sheet.{Sheet, content_of, has_formula, cells_with_formula}
+use Rattle.wi_parser.specs.Reads.{content_reads}
+use Rattle.wi_propagate.specs.Circular.{has_walk, circular}
+use Rattle.wi_propagate.specs.Rank.{lengths_below, rank}
+use Rattle.wi_propagate.proofs.Walks.{step, reader_formula}
+
+one_if : (b c : Bool) → (b ≡ true → c ≡ true) → (if b then 1 else 0) ≤ (if c then 1 else 0)
+one_if true true f = omega arith
+one_if true false f = let z = f refl in cc
+one_if false true f = omega arith
+one_if false false f = omega arith
+
+-- each length of a walk from what is read, and one more
+longer : (n : ℕ) (s : Sheet) (c d : ℕ) → content_reads (content_of s c) d ≡ true → lengths_below n s d + 1 ≤ lengths_below (suc n) s c
+longer zero s c d r = rw (reader_formula (content_of s c) d r) (omega arith)
+longer (suc n) s c d r =
+    let one = one_if (has_walk n s d) (has_walk (suc n) s c) (step n s c d r) in
+    let rest = longer n s c d r in
+    omega (arith, one, rest)
+
+-- a length that no walk has counts nothing
+no_more : (n : ℕ) (s : Sheet) (c : ℕ) → has_walk n s c ≡ false → lengths_below (suc n) s c ≡ lengths_below n s c
+no_more n s c h = rw h (omega arith)
+
+-- ranks fall from a cell that is not circular to each formula that it reads
+pub rank_falls : (s : Sheet) (c d : ℕ) → content_reads (content_of s c) d ≡ true → circular s c ≡ false → has_formula (content_of s d) ≡ true → rank s d < rank s c
+unfolding rank circular
+rank_falls s c d r o f =
+    let more = longer (length (cells_with_formula s)) s c d r in
+    let same = no_more (length (cells_with_formula s)) s c o in
+    omega (arith, more, same)
+
+bit_small : (b : Bool) → (if b then 1 else 0) ≤ 1
+bit_small true = omega arith
+bit_small false = omega arith
+
+few_lengths : (n : ℕ) (s : Sheet) (c : ℕ) → lengths_below n s c ≤ n
+few_lengths zero s c = omega arith
+few_lengths (suc n) s c =
+    let one = bit_small (has_walk n s c) in
+    let rest = few_lengths n s c in
+    omega (arith, one, rest)
+
+-- no rank is greater than the number of formulas
+pub rank_small : (s : Sheet) (c : ℕ) → rank s c ≤ length (cells_with_formula s)
+unfolding rank
+rank_small s c = few_lengths (length (cells_with_formula s)) s c
