@@ -1,20 +1,19 @@
 -- What a value demands, with no bound in sight.
-use Rattle.std.proofs.Common.{◌≡◌, ◌==◌, ◌≤◌, ◌<◌, ◌⊎◌, inl, inr, ◌||◌, ℕ, zero, suc, Bool, true, false, cond, List, [], ◌∷◌, ◌++◌, filter, map, length, Option, Some, None, Contains, refl, ap, sym, ◌∙◌, subst, arith, eq-eqb}
+use Rattle.std.proofs.Common.{◌≡◌, ◌==◌, ◌≤◌, ◌<◌, ◌⊎◌, inl, inr, ◌||◌, ℕ, zero, suc, Bool, true, false, cond, List, [], ◌∷◌, map, length, Option, Some, None, Contains, refl, ap, sym, ◌∙◌, subst, arith, eq-eqb}
 use Rattle.std.proofs.lemmas.Bool.{or_left, or_right, cases_Bool, false_from_ne_true}
-use Rattle.std.specs.List.{list_any, flat_map}
+use Rattle.std.specs.List.{flat_map}
 use Rattle.wi_values.specs.declared.replacement.Replacement.{Replacement}
 use Rattle.wi_parser.specs.Tree.{Tree, Trees, number, text, cell, rectangle, parenthesized, signed, percent, binary, what_if, call, no_trees, more_trees}
 use Rattle.wi_parser.specs.declared.content.Content.{Content}
 use Rattle.wi_parser.specs.declared.content.Content.TheVariants.{Constant, Formula}
 use Rattle.wi_parser.specs.Sheet.{Sheet, content_of, put_all, has_formula, cells_with_formula}
 use Rattle.wi_parser.specs.Reads.{reads, any_reads, content_reads}
-use Rattle.wi_functions.specs.Meaning.{addresses}
 use Rattle.wi_propagate.specs.Circular.{has_walk, circular}
 use Rattle.wi_propagate.specs.Demand.{Case, case_of, what_if_world, what_ifs_of, what_ifs_in, reads_here, any_reads_here, read_here, rests_on, of_formula, demand_within, demand, RestsOn, IsClosed}
 use Rattle.wi_propagate.proofs.Bounds.{read_walk, tree_reads, put_formula, put_reads}
 use Rattle.wi_propagate.proofs.Steps.{some_formula, no_walk}
 use Rattle.wi_propagate.proofs.Ends.{ends_open}
-use Rattle.wi_propagate.proofs.Members.{IsIn, in_contained, contains_in, in_left, in_right, in_either, in_map, of_map, in_flat, of_flat, of_filter, flat_same}
+use Rattle.wi_propagate.proofs.Members.{IsIn, in_contained, contains_in, in_either, of_map, in_flat, of_flat, of_filter, flat_same}
 
 either_way : (a b c d : Bool) → (a ≡ true → c ≡ true) → (b ≡ true → d ≡ true) → (a || b) ≡ true → (c || d) ≡ true
 either_way true b c d f g h = or_left c d (f refl)

@@ -24,3 +24,5 @@ mod ReachRows
 pub mod Ranks
 pub mod Members
 pub mod Demands
+pub mod Cases
+pub mod Counting

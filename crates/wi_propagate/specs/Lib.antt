@@ -6,6 +6,7 @@ pub mod Demand
 pub mod Rank
 pub mod Laws
 pub mod Locality
+pub mod DemandLaws
 pub mod ReadCells
 pub mod Clear
 pub mod Seen

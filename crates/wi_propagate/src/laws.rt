@@ -3,6 +3,7 @@
 ghost use Rattle.wi_propagate.specs.Laws.{BoundIsNeverFelt, ValueByStep, CircularIsAbove, CircularReadsCircular, PutsMakeNoCycle};
 ghost use Rattle.wi_propagate.specs.Locality.{RestsOnReach, OthersDoNotCount, ReachingSuffices, WhatIfWorld, OrderStays};
 ghost use Rattle.wi_propagate.specs.Locality.{ConeStays, OutsideStays, OutsideStaysUnderPuts, UnmarkedStays, ReachIsDecided, ConeIsDecided};
+ghost use Rattle.wi_propagate.specs.DemandLaws.{DemandByStep, CircularDemandsNothing, PlainDemandsNothing};
 
 /// How a cell's value follows from those of the cells that its formula reads.
 pub fn value_by_step()
@@ -40,3 +41,8 @@ pub fn reach_is_decided()
     ensures reach { ReachIsDecided }
     ensures cone { ConeIsDecided }
 {}
+/// What a cell's value demands follows, by one step, from what those demand that its formula asks for.
+pub fn demand_by_step()
+    ensures step { DemandByStep }
+    ensures circular { CircularDemandsNothing }
+    ensures plain { PlainDemandsNothing }

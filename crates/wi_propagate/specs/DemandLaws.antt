@@ -1,0 +1,22 @@
+-- Laws about what a value demands, as statements.
+use Rattle.std.specs.Prelude.{◌≡◌, true, false, [], ◌∷◌, Some}
+use Rattle.std.specs.List.{flat_map}
+use Rattle.wi_parser.specs.Tree.{Tree}
+use Rattle.wi_parser.specs.declared.content.Content.TheVariants.{Formula}
+use Rattle.wi_parser.specs.Sheet.{Sheet, content_of, put_all, has_formula}
+use Rattle.wi_propagate.specs.Circular.{circular}
+use Rattle.wi_propagate.specs.Demand.{Case, rests_on, demand}
+
+-- a cell that is not circular in the sheet, with a formula under its replacements, demands itself, and then what each of
+-- those cases demands on which its formula's value rests
+abbrev pub DemandByStep : Type 0
+DemandByStep = (s : Sheet) (k : Case) (t : Tree) → circular s k.0 ≡ false → content_of (put_all s k.1) k.0 ≡ Some (Formula t) →
+    demand s k ≡ k ∷ flat_map (demand s) (rests_on s k.1 t)
+
+-- a circular cell demands nothing
+abbrev pub CircularDemandsNothing : Type 0
+CircularDemandsNothing = (s : Sheet) (k : Case) → circular s k.0 ≡ true → demand s k ≡ []
+
+-- a cell with no formula under its replacements demands nothing
+abbrev pub PlainDemandsNothing : Type 0
+PlainDemandsNothing = (s : Sheet) (k : Case) → has_formula (content_of (put_all s k.1) k.0) ≡ false → demand s k ≡ []
