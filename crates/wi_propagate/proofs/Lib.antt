@@ -26,3 +26,4 @@ pub mod Members
 pub mod Demands
 pub mod Cases
 pub mod Counting
+pub mod DemandRows
