@@ -41,8 +41,10 @@ pub fn reach_is_decided()
     ensures reach { ReachIsDecided }
     ensures cone { ConeIsDecided }
 {}
+
 /// What a cell's value demands follows, by one step, from what those demand that its formula asks for.
 pub fn demand_by_step()
     ensures step { DemandByStep }
     ensures circular { CircularDemandsNothing }
     ensures plain { PlainDemandsNothing }
+{}
