@@ -20,6 +20,7 @@ pub mod Overrides
 pub mod ReachSteps
 pub mod Cones
 pub mod SmallerWorlds
+pub mod RestsStay
 mod ReachRows
 pub mod Ranks
 pub mod Members

@@ -50,7 +50,7 @@ shown_same s t p q c a b =
 
 -- ---- replacements that do not reach a cell
 
-keeps_those : (keep : ℕ → Bool) (p : List Replacement) (d : ℕ) (o : Option Content) → keep d ≡ true → overlaid (filter (λ r. keep r.at) p) d o ≡ overlaid p d o
+pub keeps_those : (keep : ℕ → Bool) (p : List Replacement) (d : ℕ) (o : Option Content) → keep d ≡ true → overlaid (filter (λ r. keep r.at) p) d o ≡ overlaid p d o
 keeps_those keep [] d o h = refl
 keeps_those keep (r ∷ rs) d o h = at (keep r.at) (d == r.at) refl refl (λ (u : Option Content). keeps_those keep rs d u h)
   where

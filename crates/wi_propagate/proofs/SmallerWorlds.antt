@@ -1,19 +1,19 @@
 -- What is left of replacements where those that do not reach a cell are left out.
 use Rattle.std.proofs.Common.{◌≡◌, ◌==◌, ℕ, Bool, true, false, cond, List, [], ◌∷◌, filter, Option, None, refl, ap, sym, ◌∙◌}
-use Rattle.std.proofs.lemmas.Bool.{false_from_ne_true}
 use Rattle.std.specs.List.{list_any}
 use Rattle.std.specs.Option.{option_or}
 use Rattle.wi_values.specs.declared.value.Value.{Value}
 use Rattle.wi_values.specs.declared.replacement.Replacement.{Replacement}
-use Rattle.wi_parser.specs.Sheet.{Sheet, put_all}
-use Rattle.wi_worlds.specs.World.{IsInOrder, entries, replaced, overridden, last_for}
+use Rattle.wi_parser.specs.Sheet.{Sheet, content_of, put_all}
+use Rattle.wi_worlds.specs.World.{IsInOrder, replaced, last_for}
 use Rattle.wi_worlds.proofs.InOrder.{same_from_replaced}
 use Rattle.wi_worlds.proofs.Filtering.{replaced-filter}
 use Rattle.wi_propagate.specs.CellValue.{replacements, cell_value}
 use Rattle.wi_propagate.specs.Reach.{reaches}
 use Rattle.wi_propagate.specs.Demand.{reaching, what_if_world}
+use Rattle.wi_propagate.proofs.Puts.{content_of-put_all}
 use Rattle.wi_propagate.proofs.Meanings.{replacements_same}
-use Rattle.wi_propagate.proofs.Locality.{others_do_not_count}
+use Rattle.wi_propagate.proofs.Locality.{keeps_those, others_do_not_count}
 use Rattle.wi_propagate.proofs.ReachTest.{true_reaches}
 use Rattle.wi_propagate.proofs.ReachSteps.{reaches_here, reaches_on}
 use Rattle.wi_propagate.proofs.Overrides.{what_if_in_order, reaching_in_order, last_in_order, override_last}
@@ -36,6 +36,11 @@ reaching_below s c d w r = filter_through (reaches s d) (reaches s c) (λ a h. r
 -- so it has the same value
 pub value_below : (s : Sheet) (c d : ℕ) (w : List Replacement) → reaches s c d ≡ true → cell_value (put_all s (reaching s c w)) d ≡ cell_value (put_all s w) d
 value_below s c d w r = others_do_not_count s w d (reaches s c) (λ a h. reaches_on s c d a r (true_reaches s d a h))
+
+-- and the cell itself the same content
+pub content_below : (s : Sheet) (c : ℕ) (w : List Replacement) → content_of (put_all s (reaching s c w)) c ≡ content_of (put_all s w) c
+content_below s c w =
+    content_of-put_all s (reaching s c w) c ∙ keeps_those (reaches s c) w c (content_of s c) (reaches_here s c) ∙ sym (content_of-put_all s w c)
 
 -- ---- what-ifs below
 

@@ -1,13 +1,15 @@
 -- The laws of locality, as statements: what a cell shows rests on the cells that it reaches alone.
-use Rattle.std.specs.Prelude.{◌≡◌, ℕ, Bool, true, false, List, filter}
+use Rattle.std.specs.Prelude.{◌≡◌, ℕ, Bool, true, false, List, filter, Some}
 use Rattle.wi_values.specs.declared.replacement.Replacement.{Replacement}
+use Rattle.wi_parser.specs.Tree.{Tree}
+use Rattle.wi_parser.specs.declared.content.Content.TheVariants.{Formula}
 use Rattle.wi_parser.specs.Sheet.{Sheet, content_of, put_all}
 use Rattle.wi_worlds.specs.World.{IsInOrder, last_for}
 use Rattle.wi_propagate.specs.Circular.{circular}
 use Rattle.wi_propagate.specs.CellValue.{cell_value, what_if_value}
 use Rattle.wi_propagate.specs.Shown.{shown}
 use Rattle.wi_propagate.specs.Reach.{Reaches, AgreeFrom, is_one_of, IsInCone, SameOff, reaches, in_cone}
-use Rattle.wi_propagate.specs.Demand.{reaching, what_if_world}
+use Rattle.wi_propagate.specs.Demand.{reaching, what_if_world, rests_on}
 
 -- ---- values
 
@@ -31,6 +33,11 @@ WhatIfWorld = (s : Sheet) (w : List Replacement) (f : ℕ) (pairs : List (ℕ ×
 -- what is made of replacements in order is in order
 abbrev pub OrderStays : Type 0
 OrderStays = (s : Sheet) (w : List Replacement) → IsInOrder w → ((c : ℕ) → IsInOrder (reaching s c w)) × ((pairs : List (ℕ × ℕ)) → IsInOrder (what_if_world s w pairs))
+
+-- under those replacements alone that reach it, a cell has the same formula, and what the formula rests on is the same
+abbrev pub RestsStay : Type 0
+RestsStay = (s : Sheet) (w : List Replacement) (c : ℕ) (t : Tree) → IsInOrder w → content_of (put_all s w) c ≡ Some (Formula t) →
+    (content_of (put_all s (reaching s c w)) c ≡ Some (Formula t)) × (rests_on s (reaching s c w) t ≡ rests_on s w t)
 
 -- ---- edits
 

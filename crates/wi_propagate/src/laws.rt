@@ -1,7 +1,7 @@
 //! Laws about what cells show. Each is the contract of a function that does nothing.
 
 ghost use Rattle.wi_propagate.specs.Laws.{BoundIsNeverFelt, ValueByStep, CircularIsAbove, CircularReadsCircular, PutsMakeNoCycle};
-ghost use Rattle.wi_propagate.specs.Locality.{RestsOnReach, OthersDoNotCount, ReachingSuffices, WhatIfWorld, OrderStays};
+ghost use Rattle.wi_propagate.specs.Locality.{RestsOnReach, OthersDoNotCount, ReachingSuffices, WhatIfWorld, OrderStays, RestsStay};
 ghost use Rattle.wi_propagate.specs.Locality.{ConeStays, OutsideStays, OutsideStaysUnderPuts, UnmarkedStays, ReachIsDecided, ConeIsDecided};
 ghost use Rattle.wi_propagate.specs.DemandLaws.{DemandByStep, CircularDemandsNothing, PlainDemandsNothing};
 
@@ -25,7 +25,13 @@ pub fn value_is_local()
     ensures others { OthersDoNotCount }
     ensures reaching { ReachingSuffices }
     ensures what_if { WhatIfWorld }
+{}
+
+/// Replacements are left out and put in without loss: what a formula rests on is the same under those alone that reach its
+/// cell, and what is made of replacements in order is in order.
+pub fn replacements_are_local()
     ensures order { OrderStays }
+    ensures rests { RestsStay }
 {}
 
 /// An edit changes nothing outside the cone of the edited cells, under any replacements.

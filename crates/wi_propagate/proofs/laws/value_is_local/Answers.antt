@@ -1,6 +1,6 @@
 use Rattle.wi_propagate.proofs.Agreement.{circular_same}
 use Rattle.wi_propagate.proofs.Locality.{value_same, others_do_not_count}
-use Rattle.wi_propagate.proofs.Overrides.{reaching_suffices, what_if_world_value, reaching_in_order, what_if_in_order}
+use Rattle.wi_propagate.proofs.Overrides.{reaching_suffices, what_if_world_value}
 use Rattle.wi_propagate.proofs.laws.value_is_local.Goals as goal
 
 pub returns-clause-local : goal.returns-clause-local
@@ -14,6 +14,3 @@ returns-clause-reaching c = reaching_suffices
 
 pub returns-clause-what_if : goal.returns-clause-what_if
 returns-clause-what_if c = what_if_world_value
-
-pub returns-clause-order : goal.returns-clause-order
-returns-clause-order c = λ s w h. (λ a. reaching_in_order s a w h, λ pairs. what_if_in_order s w pairs h)
