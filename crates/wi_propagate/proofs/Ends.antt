@@ -20,7 +20,6 @@ use Rattle.wi_functions.specs.declared.evaluation.Want.{Want}
 use Rattle.wi_functions.specs.declared.evaluation.Want.TheVariants.{Cell, WhatIf}
 use Rattle.wi_propagate.specs.Circular.{has_walk, circular}
 use Rattle.wi_propagate.specs.CellValue.{value_of, cell_value, formula_value}
-use Rattle.wi_propagate.specs.Clear.{Leads}
 use Rattle.wi_propagate.specs.Ends.{ReadsEnd, ReplacingEnd, WantEnds}
 use Rattle.wi_propagate.proofs.Walks.{circular_walks, fewer}
 use Rattle.wi_propagate.proofs.Bounds.{put_reads, put_formula, read_walk}
@@ -114,8 +113,3 @@ under_formula n s p c t h e = value_step (put_all s p) c t (put_not_circular s p
 pub under_plain : (n : ℕ) (s : Sheet) (p : List Replacement) (c : ℕ) (o : Option Content) → has_walk n s c ≡ false → content_of (put_all s p) c ≡ o → has_formula o ≡ false → cell_value (put_all s p) c ≡ value_of o (λ t. Empty)
 under_plain n s p c o h e f =
     value_plain (put_all s p) c (put_not_circular s p c (ends_open n s c h)) (ap has_formula e ∙ f) ∙ ap (λ (x : Option Content). value_of x (λ t. Empty)) e
-
--- a search for a cycle decides
-pub decided : (n : ℕ) (s : Sheet) (c : ℕ) → n ≡ length s → (b : Bool) → Leads n s c b → b ≡ circular s c
-decided n s c e true h = sym (walk_circular n s c e h)
-decided n s c e false h = sym h

@@ -12,7 +12,6 @@ pub mod ReadLists
 pub mod Known
 pub mod Missing
 pub mod Ends
-pub mod Paths
 pub mod Agreement
 pub mod Locality
 pub mod ReachTest
@@ -28,3 +27,7 @@ pub mod Demands
 pub mod Cases
 pub mod Counting
 pub mod DemandRows
+pub mod Loops
+pub mod ReadOrders
+pub mod WalkSteps
+pub mod WalkLengths

@@ -1,6 +1,6 @@
 -- The cells that a formula reads, as a list.
 use Rattle.std.proofs.Common.{◌≡◌, ◌==◌, ℕ, ◌||◌, ◌&&◌, Bool, true, false, cond, List, [], ◌∷◌, filter, Some, refl, ap, sym, ◌∙◌}
-use Rattle.std.proofs.lemmas.Bool.{false_from_ne_true, and_parts}
+use Rattle.std.proofs.lemmas.Bool.{and_parts}
 use Rattle.std.proofs.lemmas.List.Folds.{list_any-append}
 use Rattle.std.specs.List.{list_any}
 use Rattle.wi_values.specs.Address.{Area, is_within}
@@ -9,11 +9,9 @@ use Rattle.wi_parser.specs.Tree.{Tree}
 use Rattle.wi_parser.specs.Sheet.{Sheet, content_of, has_formula, cells_with_formula}
 use Rattle.wi_parser.specs.Reads.{reads, content_reads, rectangles_of}
 use Rattle.wi_parser.proofs.Rectangles.{reads_within}
-use Rattle.wi_propagate.specs.Circular.{circular}
 use Rattle.wi_propagate.specs.ReadCells.{formulas_within, read_cells}
 use Rattle.wi_propagate.proofs.Layers.{is_one_of}
-use Rattle.wi_propagate.proofs.Walks.{same_cell, found, formula_cell, circular_walks}
-use Rattle.wi_propagate.proofs.Graphs.{stripped}
+use Rattle.wi_propagate.proofs.Walks.{same_cell, formula_cell}
 
 and_true : (b : Bool) → (b && true) ≡ b
 and_true true = refl
@@ -54,7 +52,7 @@ in_rectangles s (r ∷ rs) a =
     ∙ shared (is_within r a) (list_any (λ (x : Area). is_within x a) rs) (is_one_of (cells_with_formula s) a)
 
 -- of the cells with a formula, exactly those are in the list that the tree reads
-formula_listed : (s : Sheet) (t : Tree) (a : ℕ) → has_formula (content_of s a) ≡ true → is_one_of (read_cells s t) a ≡ reads t a
+pub formula_listed : (s : Sheet) (t : Tree) (a : ℕ) → has_formula (content_of s a) ≡ true → is_one_of (read_cells s t) a ≡ reads t a
 formula_listed s t a h =
     let any = list_any (λ (r : Area). is_within r a) (rectangles_of t) in
     in_rectangles s (rectangles_of t) a ∙ ap (λ (b : Bool). any && b) (formula_cell s a h) ∙ and_true any ∙ sym (reads_within t a)
@@ -63,11 +61,3 @@ formula_listed s t a h =
 pub listed_is_read : (s : Sheet) (t : Tree) (a : ℕ) → is_one_of (read_cells s t) a ≡ true → reads t a ≡ true
 listed_is_read s t a h =
     reads_within t a ∙ (and_parts (list_any (λ (r : Area). is_within r a) (rectangles_of t)) _ (sym (in_rectangles s (rectangles_of t) a) ∙ h)).0
-
--- a formula that reads no circular cell stands in one that is not
-pub reads_open : (s : Sheet) (c : ℕ) (t : Tree) → content_of s c ≡ Some (Formula t) → list_any (circular s) (read_cells s t) ≡ false → circular s c ≡ false
-reads_open s c t e h = stripped s c (λ d r.
-    false_from_ne_true (circular s d) (λ k.
-    let m = formula_listed s t d (circular_walks s d k 0) ∙ sym (ap (λ o. content_reads o d) e) ∙ r in
-    let z = found (circular s) (read_cells s t) d m k in
-    cc))

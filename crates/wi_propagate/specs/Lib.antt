@@ -8,7 +8,8 @@ pub mod Laws
 pub mod Locality
 pub mod DemandLaws
 pub mod ReadCells
-pub mod Clear
+pub mod ReadOrder
+pub mod Walk
 pub mod Seen
 pub mod Found
 pub mod Ends

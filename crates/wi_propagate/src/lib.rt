@@ -9,6 +9,7 @@ mod memo;
 mod plain;
 mod seen;
 mod value;
+mod walk;
 
 pub use calculator::Calculator;
 pub use plain::PlainCalculator;

@@ -1,6 +1,6 @@
 use Rattle.std.proofs.Common.{◌≡◌, ◌++◌, drop}
 use Rattle.wi_propagate.specs.ReadCells.{formulas_within}
-use Rattle.wi_propagate.proofs.circular.push_reads.Given as goal
+use Rattle.wi_propagate.proofs.walk.push_reads.Given as goal
 
 abbrev pub invariant-loop-rectangle : goal.invariant-loop-rectangle
 invariant-loop-rectangle l =

@@ -1,0 +1,367 @@
+-- Steps of a walk along references.
+use Rattle.std.proofs.Common.{◌≡◌, ◌==◌, ℕ, suc, ◌+◌, ◌≤◌, Bool, true, false, ◌||◌, cond, if◌then◌else◌, List, [], ◌∷◌, ◌++◌, map, length, Option, Some, None, refl, ap, sym, ◌∙◌, subst, append_assoc, arith, inl, inr, ◌⊎◌, eq-eqb}
+use Rattle.std.proofs.lemmas.Bool.{or_cases, or_left, or_right, false_from_ne_true}
+use Rattle.std.proofs.lemmas.Bool.Decides.{nat_tests}
+use Rattle.std.proofs.lemmas.List.Folds.{list_any-append}
+use Rattle.std.specs.List.{list_any}
+use Rattle.std.specs.Ordering.{nat_cmp}
+use Rattle.std.specs.BTreeMap.{BTreeMap, get, is_at, Updates}
+use Rattle.wi_parser.specs.declared.content.Content.TheVariants.{Constant, Formula}
+use Rattle.wi_parser.specs.declared.content.Content.{Content}
+use Rattle.wi_parser.specs.Tree.{Tree}
+use Rattle.wi_parser.specs.Sheet.{Sheet, content_of, has_formula}
+use Rattle.wi_parser.specs.Reads.{content_reads}
+use Rattle.wi_propagate.specs.Circular.{circular}
+use Rattle.wi_propagate.specs.Reach.{is_one_of, Reaches}
+use Rattle.wi_propagate.specs.ReadCells.{read_cells}
+use Rattle.wi_propagate.specs.ReadOrder.{IsReadOrder, MayFollow}
+use Rattle.wi_propagate.specs.Walk.{cell_of, leaves, has_task, has_leave, LeadsTo, IsOpen, EachLeave, mark_of, IsWalk, read_by}
+use Rattle.wi_propagate.specs.declared.walk.Mark.{Mark}
+use Rattle.wi_propagate.specs.declared.walk.Mark.TheVariants.{Open, Done}
+use Rattle.wi_propagate.specs.declared.walk.Task.{Task}
+use Rattle.wi_propagate.specs.declared.walk.Task.TheVariants.{Enter, Leave}
+use Rattle.wi_propagate.proofs.Walks.{same_cell}
+use Rattle.wi_propagate.proofs.Loops.{loop_circular, reaches_circular, reaches-step}
+use Rattle.wi_propagate.proofs.ReadLists.{listed_is_read, formula_listed}
+use Rattle.wi_propagate.proofs.ReadOrders.{order-push, order_clear}
+use Rattle.wi_propagate.proofs.Ends.{ends_open}
+
+-- ---- tasks one after another
+
+task_split : (xs ys : List Task) (d : ℕ) → has_task (xs ++ ys) d ≡ true → (has_task xs d ≡ true) ⊎ (has_task ys d ≡ true)
+task_split xs ys d h = or_cases (has_task xs d) (has_task ys d) (sym (list_any-append (λ (t : Task). cell_of t == d) xs ys) ∙ h)
+
+task_front : (xs ys : List Task) (d : ℕ) → has_task xs d ≡ true → has_task (xs ++ ys) d ≡ true
+task_front xs ys d h = list_any-append (λ (t : Task). cell_of t == d) xs ys ∙ or_left (has_task xs d) (has_task ys d) h
+
+task_back : (xs ys : List Task) (d : ℕ) → has_task ys d ≡ true → has_task (xs ++ ys) d ≡ true
+task_back xs ys d h = list_any-append (λ (t : Task). cell_of t == d) xs ys ∙ or_right (has_task xs d) (has_task ys d) h
+
+leave_parts : (xs ys : List Task) (d : ℕ) → has_leave (xs ++ ys) d ≡ (has_leave xs d || has_leave ys d)
+leave_parts xs ys d = list_any-append (λ (t : Task). leaves t d) xs ys
+
+-- the one task that is of this cell
+of_one : (t : Task) (d : ℕ) → has_task (t ∷ []) d ≡ true → cell_of t ≡ d
+of_one t d h = at (or_cases (cell_of t == d) false h)
+  where
+    at : ((cell_of t == d) ≡ true) ⊎ (false ≡ true) → cell_of t ≡ d
+    at (inl k) = same_cell d (cell_of t) k
+    at (inr k) = cc
+
+is_of_one : (t : Task) → has_task (t ∷ []) (cell_of t) ≡ true
+is_of_one t = or_left (cell_of t == cell_of t) false (eq-eqb (cell_of t) (cell_of t) refl)
+
+-- what holds of the last cell that is to be left
+last_leave : (P : ℕ → List Task → Type 0) (c : ℕ) (ts : List Task) → EachLeave P (ts ++ Leave c ∷ []) → P c []
+last_leave P c [] e = e.0
+last_leave P c (Enter a ∷ ts) e = last_leave P c ts e
+last_leave P c (Leave a ∷ ts) e = last_leave P c ts e.1
+
+-- and of one before a last task
+some_leave : (P : ℕ → List Task → Type 0) (t : Task) (c : ℕ) (ts : List Task) → EachLeave P (ts ++ t ∷ []) → has_leave ts c ≡ true → (ys : List Task) × P c (ys ++ t ∷ [])
+some_leave P t c [] e h = cc
+some_leave P t c (Enter a ∷ ts) e h = some_leave P t c ts e h
+some_leave P t c (Leave a ∷ ts) e h = at (or_cases (a == c) (has_leave ts c) h) (some_leave P t c ts e.1)
+  where
+    at : ((a == c) ≡ true) ⊎ (has_leave ts c ≡ true) → (has_leave ts c ≡ true → (ys : List Task) × P c (ys ++ t ∷ [])) → (ys : List Task) × P c (ys ++ t ∷ [])
+    at (inl k) ih = (ts, subst (λ (x : ℕ). P x (ts ++ t ∷ [])) (same_cell c a k) e.0)
+    at (inr k) ih = ih k
+
+-- ---- a cycle
+
+-- a cell that is to be entered and still to be left leads to itself
+pub walk-cycle : (s : Sheet) (root c : ℕ) (ts : List Task) (marks : BTreeMap ℕ Mark) (order : List ℕ) → IsWalk s root (ts ++ Enter c ∷ []) marks order → get nat_cmp marks c ≡ Some Open → circular s root ≡ true
+walk-cycle s root c ts marks order w m =
+    let left = some_leave (IsOpen s order) (Enter c) c ts w.waiting (is_open (is_one_of order c) (has_leave (ts ++ Enter c ∷ []) c) (leave_parts ts (Enter c ∷ []) c) (sym (w.marked c) ∙ m)) in
+    let loop = left.1.leads c (task_back left.0 (Enter c ∷ []) c (is_of_one (Enter c))) in
+    reaches_circular s root c (w.reached c (task_back ts (Enter c ∷ []) c (is_of_one (Enter c)))) (loop_circular s c loop)
+  where
+    either : (b : Bool) → (b || false) ≡ true → b ≡ true
+    either true h = refl
+    either false h = h
+
+    is_open : (b d : Bool) → d ≡ (has_leave ts c || false) → (if b then Some Done else (if d then Some Open else None)) ≡ Some Open → has_leave ts c ≡ true
+    is_open true d e h = cc
+    is_open false true e h = either (has_leave ts c) (sym e)
+    is_open false false e h = cc
+
+-- ---- a cell that is passed: it stands in the order, or has no formula
+
+-- among the tasks before a last one to enter a cell that is passed
+without_passed : (s : Sheet) (c : ℕ) (order : List ℕ) → (has_formula (content_of s c) ≡ true → is_one_of order c ≡ true) → (ys : List Task) (d : ℕ) →
+    has_formula (content_of s d) ≡ true → (is_one_of order d || has_task (ys ++ Enter c ∷ []) d) ≡ true → (is_one_of order d || has_task ys d) ≡ true
+without_passed s c order p ys d f h = at (or_cases (is_one_of order d) _ h)
+  where
+    before : (has_task ys d ≡ true) ⊎ (has_task (Enter c ∷ []) d ≡ true) → (is_one_of order d || has_task ys d) ≡ true
+    before (inl k) = or_right (is_one_of order d) _ k
+    before (inr k) =
+        let e = of_one (Enter c) d k in
+        or_left (is_one_of order d) _ (subst (λ (x : ℕ). is_one_of order x ≡ true) e (p (ap (λ (x : ℕ). has_formula (content_of s x)) e ∙ f)))
+
+    at : (is_one_of order d ≡ true) ⊎ (has_task (ys ++ Enter c ∷ []) d ≡ true) → (is_one_of order d || has_task ys d) ≡ true
+    at (inl k) = or_left (is_one_of order d) _ k
+    at (inr k) = before (task_split ys (Enter c ∷ []) d k)
+
+or_false : (b : Bool) → (b || false) ≡ b
+or_false true = refl
+or_false false = refl
+
+open-passed : (s : Sheet) (c : ℕ) (order : List ℕ) → (has_formula (content_of s c) ≡ true → is_one_of order c ≡ true) → (a : ℕ) (ys : List Task) → IsOpen s order a (ys ++ Enter c ∷ []) → IsOpen s order a ys
+open-passed s c order p a ys o = record {
+  formula = o.formula;
+  reads = λ d r f. without_passed s c order p ys d f (o.reads d r f);
+  leads = λ d h. o.leads d (task_front ys (Enter c ∷ []) d h);
+  fresh = o.fresh;
+  once = sym (leave_parts ys (Enter c ∷ []) a ∙ or_false (has_leave ys a)) ∙ o.once;
+}
+
+waiting-passed : (s : Sheet) (c : ℕ) (order : List ℕ) → (has_formula (content_of s c) ≡ true → is_one_of order c ≡ true) → (ts : List Task) → EachLeave (IsOpen s order) (ts ++ Enter c ∷ []) → EachLeave (IsOpen s order) ts
+waiting-passed s c order p [] e = tt
+waiting-passed s c order p (Enter a ∷ ts) e = waiting-passed s c order p ts e
+waiting-passed s c order p (Leave a ∷ ts) e = (open-passed s c order p a ts e.0, waiting-passed s c order p ts e.1)
+
+pub walk-passed : (s : Sheet) (root c : ℕ) (ts : List Task) (marks : BTreeMap ℕ Mark) (order : List ℕ) → IsWalk s root (ts ++ Enter c ∷ []) marks order → (has_formula (content_of s c) ≡ true → is_one_of order c ≡ true) → IsWalk s root ts marks order
+walk-passed s root c ts marks order w p = record {
+  waiting = waiting-passed s c order p ts w.waiting;
+  marked = λ a. w.marked a ∙ ap (λ (b : Bool). if is_one_of order a then Some Done else (if b then Some Open else None)) (leave_parts ts (Enter c ∷ []) a ∙ or_false (has_leave ts a));
+  ordered = w.ordered;
+  reached = λ d h. w.reached d (task_front ts (Enter c ∷ []) d h);
+  rooted = λ f. without_passed s c order p ts root f (w.rooted f);
+}
+
+-- a cell whose mark says so stands in the order
+pub done_ordered : (ts : List Task) (order : List ℕ) (c : ℕ) (marks : BTreeMap ℕ Mark) → get nat_cmp marks c ≡ mark_of ts order c → get nat_cmp marks c ≡ Some Done → is_one_of order c ≡ true
+done_ordered ts order c marks m h = at (is_one_of order c) (has_leave ts c) refl (sym m ∙ h)
+  where
+    at : (b d : Bool) → is_one_of order c ≡ b → (if b then Some Done else (if d then Some Open else None)) ≡ Some Done → is_one_of order c ≡ true
+    at true d e h = e
+    at false true e h = cc
+    at false false e h = cc
+
+-- ---- a cell that is left
+
+same_key : (q k : ℕ) → is_at (nat_cmp q) k ≡ true → q ≡ k
+same_key q k h = grind (arith, nat_tests)
+
+at_key : (q k : ℕ) → is_at (nat_cmp q) k ≡ (q == k)
+at_key q k = grind (arith, nat_tests)
+
+order_parts : (order : List ℕ) (c a : ℕ) → is_one_of (order ++ c ∷ []) a ≡ (is_one_of order a || (c == a))
+order_parts order c a = list_any-append (λ (x : ℕ). x == a) order (c ∷ []) ∙ ap (λ (b : Bool). is_one_of order a || b) (or_false (c == a))
+
+-- the cell counts among the order in the place of its task
+moved : (order : List ℕ) (ys : List Task) (c d : ℕ) → (is_one_of order d || has_task (ys ++ Leave c ∷ []) d) ≡ true → (is_one_of (order ++ c ∷ []) d || has_task ys d) ≡ true
+moved order ys c d h = at (or_cases (is_one_of order d) _ h)
+  where
+    ordered : is_one_of order d ≡ true → is_one_of (order ++ c ∷ []) d ≡ true
+    ordered k = order_parts order c d ∙ or_left (is_one_of order d) _ k
+
+    here : c ≡ d → is_one_of (order ++ c ∷ []) d ≡ true
+    here e = order_parts order c d ∙ or_right (is_one_of order d) _ (eq-eqb c d e)
+
+    before : (has_task ys d ≡ true) ⊎ (has_task (Leave c ∷ []) d ≡ true) → (is_one_of (order ++ c ∷ []) d || has_task ys d) ≡ true
+    before (inl k) = or_right (is_one_of (order ++ c ∷ []) d) _ k
+    before (inr k) = or_left (is_one_of (order ++ c ∷ []) d) _ (here (of_one (Leave c) d k))
+
+    at : (is_one_of order d ≡ true) ⊎ (has_task (ys ++ Leave c ∷ []) d ≡ true) → (is_one_of (order ++ c ∷ []) d || has_task ys d) ≡ true
+    at (inl k) = or_left (is_one_of (order ++ c ∷ []) d) _ (ordered k)
+    at (inr k) = before (task_split ys (Leave c ∷ []) d k)
+
+or_parts : (b d : Bool) → (b || d) ≡ false → (b ≡ false) × (d ≡ false)
+or_parts true d h = cc
+or_parts false d h = (refl, h)
+
+turned : (a c : ℕ) → (c == a) ≡ (a == c)
+turned a c = grind (arith, nat_tests)
+
+open-left : (s : Sheet) (c : ℕ) (order : List ℕ) (a : ℕ) (ys : List Task) → IsOpen s order a (ys ++ Leave c ∷ []) → IsOpen s (order ++ c ∷ []) a ys
+open-left s c order a ys o =
+    let parts = or_parts (has_leave ys a) _ (sym (leave_parts ys (Leave c ∷ []) a) ∙ o.once) in
+    let other = or_parts (c == a) _ parts.1 in
+    record {
+      formula = o.formula;
+      reads = λ d r f. moved order ys c d (o.reads d r f);
+      leads = λ d h. o.leads d (task_front ys (Leave c ∷ []) d h);
+      fresh = order_parts order c a ∙ ap (λ (b : Bool). b || (c == a)) o.fresh ∙ other.0;
+      once = parts.0;
+    }
+
+waiting-left : (s : Sheet) (c : ℕ) (order : List ℕ) (ts : List Task) → EachLeave (IsOpen s order) (ts ++ Leave c ∷ []) → EachLeave (IsOpen s (order ++ c ∷ [])) ts
+waiting-left s c order [] e = tt
+waiting-left s c order (Enter a ∷ ts) e = waiting-left s c order ts e
+waiting-left s c order (Leave a ∷ ts) e = (open-left s c order a ts e.0, waiting-left s c order ts e.1)
+
+-- a cell that is left when no task comes before it may follow the order
+may_follow : (s : Sheet) (order : List ℕ) (c : ℕ) → IsOpen s order c [] → MayFollow s order c
+may_follow s order c o = record { formula = o.formula; reads = λ d r f. sym (or_false (is_one_of order d)) ∙ o.reads d r f; once = o.fresh }
+
+mark_left : (i o h b d l : Bool) → i ≡ b → o ≡ (d || b) → h ≡ (l || (b || false)) →
+    cond i (Some Done) (if d then Some Done else (if h then Some Open else None)) ≡ (if o then Some Done else (if l then Some Open else None))
+mark_left i o h true true l e f g = rw (e, f) refl
+mark_left i o h true false l e f g = rw (e, f) refl
+mark_left i o h false true l e f g = rw (e, f) refl
+mark_left i o h false false true e f g = rw (e, f, g) refl
+mark_left i o h false false false e f g = rw (e, f, g) refl
+
+marks-left : (ts : List Task) (order : List ℕ) (c a : ℕ) → cond (is_at (nat_cmp c) a) (Some Done) (mark_of (ts ++ Leave c ∷ []) order a) ≡ mark_of ts (order ++ c ∷ []) a
+marks-left ts order c a =
+    mark_left (is_at (nat_cmp c) a) (is_one_of (order ++ c ∷ []) a) (has_leave (ts ++ Leave c ∷ []) a) (c == a) (is_one_of order a) (has_leave ts a) (at_key c a) (order_parts order c a) (leave_parts ts (Leave c ∷ []) a)
+
+pub walk-left : (s : Sheet) (root c : ℕ) (ts : List Task) (old new : BTreeMap ℕ Mark) (order : List ℕ) → IsWalk s root (ts ++ Leave c ∷ []) old order →
+    ((q : ℕ) → get nat_cmp new q ≡ cond (is_at (nat_cmp c) q) (Some Done) (get nat_cmp old q)) → IsWalk s root ts new (order ++ c ∷ [])
+walk-left s root c ts old new order w u = record {
+  waiting = waiting-left s c order ts w.waiting;
+  marked = λ a. u a ∙ ap (λ (m : Option Mark). cond (is_at (nat_cmp c) a) (Some Done) m) (w.marked a) ∙ marks-left ts order c a;
+  ordered = order-push s order c w.ordered (may_follow s order c (last_leave (IsOpen s order) c ts w.waiting));
+  reached = λ d h. w.reached d (task_front ts (Leave c ∷ []) d h);
+  rooted = λ f. moved order ts c root (w.rooted f);
+}
+
+-- ---- a cell that is entered
+
+-- what is listed of a content is read
+listed : (s : Sheet) (o : Option Content) (d : ℕ) → is_one_of (read_by s o) d ≡ true → content_reads o d ≡ true
+listed s None d h = h
+listed s (Some (Constant v)) d h = h
+listed s (Some (Formula t)) d h = listed_is_read s t d h
+
+-- and each cell with a formula that it reads is listed
+reads_listed : (s : Sheet) (o : Option Content) (d : ℕ) → content_reads o d ≡ true → has_formula (content_of s d) ≡ true → is_one_of (read_by s o) d ≡ true
+reads_listed s None d h f = h
+reads_listed s (Some (Constant v)) d h f = h
+reads_listed s (Some (Formula t)) d h f = formula_listed s t d f ∙ h
+
+entered_task : (cells : List ℕ) (d : ℕ) → has_task (map Enter cells) d ≡ is_one_of cells d
+entered_task [] d = refl
+entered_task (c ∷ cs) d = ap (λ (b : Bool). (c == d) || b) (entered_task cs d)
+
+entered_leave : (cells : List ℕ) (d : ℕ) → has_leave (map Enter cells) d ≡ false
+entered_leave [] d = refl
+entered_leave (c ∷ cs) d = entered_leave cs d
+
+entered_waiting : (P : ℕ → List Task → Type 0) (cells : List ℕ) → EachLeave P (map Enter cells)
+entered_waiting P [] = tt
+entered_waiting P (c ∷ cs) = entered_waiting P cs
+
+-- tasks that end with a cell to be left and what it reads: one before it, its own, or one of what it reads
+entered_cases : (ys : List Task) (c : ℕ) (cells : List ℕ) (d : ℕ) → has_task (ys ++ Leave c ∷ map Enter cells) d ≡ true → (has_task ys d ≡ true) ⊎ (c ≡ d) ⊎ (is_one_of cells d ≡ true)
+entered_cases ys c cells d h = at (task_split ys (Leave c ∷ map Enter cells) d h)
+  where
+    end : ((c == d) ≡ true) ⊎ (has_task (map Enter cells) d ≡ true) → (has_task ys d ≡ true) ⊎ (c ≡ d) ⊎ (is_one_of cells d ≡ true)
+    end (inl k) = inr (inl (same_cell d c k))
+    end (inr k) = inr (inr (sym (entered_task cells d) ∙ k))
+
+    at : (has_task ys d ≡ true) ⊎ (has_task (Leave c ∷ map Enter cells) d ≡ true) → (has_task ys d ≡ true) ⊎ (c ≡ d) ⊎ (is_one_of cells d ≡ true)
+    at (inl k) = inl k
+    at (inr k) = end (or_cases (c == d) _ k)
+
+-- no task is lost
+kept_task : (ys : List Task) (c : ℕ) (cells : List ℕ) (d : ℕ) → has_task (ys ++ Enter c ∷ []) d ≡ true → has_task (ys ++ Leave c ∷ map Enter cells) d ≡ true
+kept_task ys c cells d h = at (task_split ys (Enter c ∷ []) d h)
+  where
+    at : (has_task ys d ≡ true) ⊎ (has_task (Enter c ∷ []) d ≡ true) → has_task (ys ++ Leave c ∷ map Enter cells) d ≡ true
+    at (inl k) = task_front ys (Leave c ∷ map Enter cells) d k
+    at (inr k) = task_back ys (Leave c ∷ map Enter cells) d (or_left (c == d) _ (eq-eqb c d (of_one (Enter c) d k)))
+
+kept_or : (b : Bool) (ys : List Task) (c : ℕ) (cells : List ℕ) (d : ℕ) → (b || has_task (ys ++ Enter c ∷ []) d) ≡ true → (b || has_task (ys ++ Leave c ∷ map Enter cells) d) ≡ true
+kept_or true ys c cells d h = refl
+kept_or false ys c cells d h = kept_task ys c cells d h
+
+open-entered : (s : Sheet) (c : ℕ) (order cells : List ℕ) → ((d : ℕ) → is_one_of cells d ≡ true → content_reads (content_of s c) d ≡ true) →
+    (a : ℕ) (ys : List Task) → (a == c) ≡ false → IsOpen s order a (ys ++ Enter c ∷ []) → IsOpen s order a (ys ++ Leave c ∷ map Enter cells)
+open-entered s c order cells r a ys n o = record {
+  formula = o.formula;
+  reads = λ d h f. kept_or (is_one_of order d) ys c cells d (o.reads d h f);
+  leads = λ d h. leads d (entered_cases ys c cells d h);
+  fresh = o.fresh;
+  once = leave_parts ys (Leave c ∷ map Enter cells) a ∙ ap (λ (b : Bool). b || ((c == a) || has_leave (map Enter cells) a)) (sym (or_false (has_leave ys a)) ∙ sym (leave_parts ys (Enter c ∷ []) a) ∙ o.once) ∙ ap (λ (b : Bool). b || has_leave (map Enter cells) a) (turned a c ∙ n) ∙ entered_leave cells a;
+}
+  where
+    here : LeadsTo s a c
+    here = o.leads c (task_back ys (Enter c ∷ []) c (is_of_one (Enter c)))
+
+    leads : (d : ℕ) → (has_task ys d ≡ true) ⊎ (c ≡ d) ⊎ (is_one_of cells d ≡ true) → LeadsTo s a d
+    leads d (inl k) = o.leads d (task_front ys (Enter c ∷ []) d k)
+    leads d (inr (inl k)) = subst (LeadsTo s a) k here
+    leads d (inr (inr k)) = (here.0, here.1, reaches-step s here.0 c d here.2 (r d k))
+
+waiting-entered : (s : Sheet) (c : ℕ) (order cells : List ℕ) → ((d : ℕ) → is_one_of cells d ≡ true → content_reads (content_of s c) d ≡ true) → IsOpen s order c (map Enter cells) →
+    (ts : List Task) → has_leave ts c ≡ false → EachLeave (IsOpen s order) (ts ++ Enter c ∷ []) → EachLeave (IsOpen s order) (ts ++ Leave c ∷ map Enter cells)
+waiting-entered s c order cells r o [] n e = (o, entered_waiting (IsOpen s order) cells)
+waiting-entered s c order cells r o (Enter a ∷ ts) n e = waiting-entered s c order cells r o ts n e
+waiting-entered s c order cells r o (Leave a ∷ ts) n e =
+    let parts = or_parts (a == c) _ n in
+    (open-entered s c order cells r a ts parts.0 e.0, waiting-entered s c order cells r o ts parts.1 e.1)
+
+mark_entered : (i h k b d l : Bool) → i ≡ b → (b ≡ true → d ≡ false) → h ≡ (l || false) → k ≡ (l || (b || false)) →
+    cond i (Some Open) (if d then Some Done else (if h then Some Open else None)) ≡ (if d then Some Done else (if k then Some Open else None))
+mark_entered i h k true true l e f g j = let z = f refl in cc
+mark_entered i h k true false true e f g j = rw (e, j) refl
+mark_entered i h k true false false e f g j = rw (e, j) refl
+mark_entered i h k false true l e f g j = rw e refl
+mark_entered i h k false false true e f g j = rw (e, g, j) refl
+mark_entered i h k false false false e f g j = rw (e, g, j) refl
+
+marks-entered : (ts : List Task) (order cells : List ℕ) (c a : ℕ) → is_one_of order c ≡ false → cond (is_at (nat_cmp c) a) (Some Open) (mark_of (ts ++ Enter c ∷ []) order a) ≡ mark_of (ts ++ Leave c ∷ map Enter cells) order a
+marks-entered ts order cells c a f =
+    mark_entered (is_at (nat_cmp c) a) (has_leave (ts ++ Enter c ∷ []) a) (has_leave (ts ++ Leave c ∷ map Enter cells) a) (c == a) (is_one_of order a) (has_leave ts a)
+    (at_key c a)
+    (λ k. ap (is_one_of order) (sym (same_cell a c k)) ∙ f)
+    (leave_parts ts (Enter c ∷ []) a)
+    (leave_parts ts (Leave c ∷ map Enter cells) a ∙ ap (λ (b : Bool). has_leave ts a || ((c == a) || b)) (entered_leave cells a))
+
+-- a cell without a mark is neither in the order nor to be left
+unmarked : (ts : List Task) (order : List ℕ) (c : ℕ) → mark_of ts order c ≡ None → (is_one_of order c ≡ false) × (has_leave ts c ≡ false)
+unmarked ts order c h = at (is_one_of order c) (has_leave ts c) refl refl h
+  where
+    at : (b d : Bool) → is_one_of order c ≡ b → has_leave ts c ≡ d → (if b then Some Done else (if d then Some Open else None)) ≡ None → (is_one_of order c ≡ false) × (has_leave ts c ≡ false)
+    at true d e f h = cc
+    at false true e f h = cc
+    at false false e f h = (e, f)
+
+pub walk-entered : (s : Sheet) (root c : ℕ) (ts : List Task) (old new : BTreeMap ℕ Mark) (order : List ℕ) → IsWalk s root (ts ++ Enter c ∷ []) old order → has_formula (content_of s c) ≡ true → get nat_cmp old c ≡ None →
+    ((q : ℕ) → get nat_cmp new q ≡ cond (is_at (nat_cmp c) q) (Some Open) (get nat_cmp old q)) → IsWalk s root (ts ++ Leave c ∷ map Enter (read_by s (content_of s c))) new order
+walk-entered s root c ts old new order w f n u =
+    let cells = read_by s (content_of s c) in
+    let none = unmarked (ts ++ Enter c ∷ []) order c (sym (w.marked c) ∙ n) in
+    let unleft = sym (leave_parts ts (Enter c ∷ []) c ∙ or_false (has_leave ts c)) ∙ none.1 in
+    let here : IsOpen s order c (map Enter cells) = record {
+      formula = f;
+      reads = λ d r g. or_right (is_one_of order d) _ (entered_task cells d ∙ reads_listed s (content_of s c) d r g);
+      leads = λ d h. (d, listed s (content_of s c) d (sym (entered_task cells d) ∙ h), (0, refl));
+      fresh = none.0;
+      once = entered_leave cells c;
+    } in
+    record {
+      waiting = waiting-entered s c order cells (listed s (content_of s c)) here ts unleft w.waiting;
+      marked = λ a. u a ∙ ap (λ (m : Option Mark). cond (is_at (nat_cmp c) a) (Some Open) m) (w.marked a) ∙ marks-entered ts order cells c a none.0;
+      ordered = w.ordered;
+      reached = λ d h. reached d (entered_cases ts c cells d h);
+      rooted = λ g. kept_or (is_one_of order root) ts c cells root (w.rooted g);
+    }
+  where
+    here : Reaches s root c
+    here = w.reached c (task_back ts (Enter c ∷ []) c (is_of_one (Enter c)))
+
+    reached : (d : ℕ) → (has_task ts d ≡ true) ⊎ (c ≡ d) ⊎ (is_one_of (read_by s (content_of s c)) d ≡ true) → Reaches s root d
+    reached d (inl k) = w.reached d (task_front ts (Enter c ∷ []) d k)
+    reached d (inr (inl k)) = subst (Reaches s root) k here
+    reached d (inr (inr k)) = reaches-step s root c d here (listed s (content_of s c) d k)
+
+-- a cell that is looked at for the first time: it has a formula or none
+pub walk-taken : (s : Sheet) (root c : ℕ) (ts more : List Task) (old new : BTreeMap ℕ Mark) (order : List ℕ) → IsWalk s root (ts ++ Enter c ∷ []) old order → get nat_cmp old c ≡ None → (has_formula (content_of s c) ≡ false → (more ≡ ts) × (new ≡ old)) →
+    (has_formula (content_of s c) ≡ true → more ≡ ts ++ Leave c ∷ map Enter (read_by s (content_of s c))) → (has_formula (content_of s c) ≡ true → Updates nat_cmp old new c (Some Open)) → IsWalk s root more new order
+walk-taken s root c ts more old new order w n plain tasks marks = at (has_formula (content_of s c)) refl
+  where
+    at : (b : Bool) → has_formula (content_of s c) ≡ b → IsWalk s root more new order
+    at true f = rw (tasks f) (walk-entered s root c ts old new order w f n (marks f).0)
+    at false f = rw ((plain f).0, (plain f).1) (walk-passed s root c ts old order w (λ g. let z = f in cc))
+
+-- a walk with nothing before it has met no cycle
+pub walk-ended : (s : Sheet) (root : ℕ) (ts : List Task) (marks : BTreeMap ℕ Mark) (order : List ℕ) → IsWalk s root ts marks order → length ts ≡ 0 → circular s root ≡ false
+walk-ended s root [] marks order w z = at (has_formula (content_of s root)) refl
+  where
+    at : (b : Bool) → has_formula (content_of s root) ≡ b → circular s root ≡ false
+    at true f = order_clear s order w.ordered root (sym (or_false (is_one_of order root)) ∙ w.rooted f)
+    at false f = ends_open 0 s root f
+walk-ended s root (t ∷ ts) marks order w z = absurd (omega arith)

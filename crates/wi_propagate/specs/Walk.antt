@@ -1,0 +1,75 @@
+-- A walk along references, depth first.
+use Rattle.std.specs.Prelude.{◌≡◌, ◌==◌, ℕ, ◌+◌, Bool, true, false, ◌||◌, if◌then◌else◌, List, [], ◌∷◌, length, Option, Some, None, is_some, sum_by}
+use Rattle.std.specs.List.{list_any}
+use Rattle.std.specs.Ordering.{nat_cmp}
+use Rattle.std.specs.BTreeMap.{BTreeMap, get}
+use Rattle.wi_parser.specs.declared.content.Content.{Content}
+use Rattle.wi_parser.specs.declared.content.Content.TheVariants.{Constant, Formula}
+use Rattle.wi_parser.specs.Sheet.{Sheet, content_of, has_formula, cells_with_formula}
+use Rattle.wi_parser.specs.Reads.{content_reads}
+use Rattle.wi_propagate.specs.Reach.{is_one_of, Reaches}
+use Rattle.wi_propagate.specs.ReadCells.{read_cells}
+use Rattle.wi_propagate.specs.ReadOrder.{IsReadOrder}
+use Rattle.wi_propagate.specs.declared.walk.Mark.{Mark}
+use Rattle.wi_propagate.specs.declared.walk.Mark.TheVariants.{Open, Done}
+use Rattle.wi_propagate.specs.declared.walk.Task.{Task}
+use Rattle.wi_propagate.specs.declared.walk.Task.TheVariants.{Enter, Leave}
+
+abbrev pub cell_of : Task → ℕ
+cell_of (Enter c) = c
+cell_of (Leave c) = c
+
+abbrev pub leaves : Task → ℕ → Bool
+leaves (Enter c) a = false
+leaves (Leave c) a = c == a
+
+-- one of the tasks is one of this cell
+abbrev pub has_task : List Task → ℕ → Bool
+has_task ts a = list_any (λ t. cell_of t == a) ts
+
+-- one of the tasks is to leave this cell
+abbrev pub has_leave : List Task → ℕ → Bool
+has_leave ts a = list_any (λ t. leaves t a) ts
+
+-- c reads a cell that reaches d
+abbrev pub LeadsTo : Sheet → ℕ → ℕ → Type 0
+LeadsTo s c d = (e : ℕ) × (content_reads (content_of s c) e ≡ true) × Reaches s e d
+
+-- c has a formula, and is to be left once these tasks are done: then all that it reads stands in the order
+pub record IsOpen (s : Sheet) (order : List ℕ) (c : ℕ) (ts : List Task) : Type 0 where
+  pub formula : has_formula (content_of s c) ≡ true
+  pub reads : (d : ℕ) → content_reads (content_of s c) d ≡ true → has_formula (content_of s d) ≡ true → (is_one_of order d || has_task ts d) ≡ true
+  pub leads : (d : ℕ) → has_task ts d ≡ true → LeadsTo s c d
+  pub fresh : is_one_of order c ≡ false
+  pub once : has_leave ts c ≡ false
+
+-- this holds of each cell that is to be left, and of the tasks that are to be done first: the last of them is the next
+abbrev pub EachLeave : (ℕ → List Task → Type 0) → List Task → Type 0
+EachLeave P [] = Unit {0}
+EachLeave P (Enter c ∷ ts) = EachLeave P ts
+EachLeave P (Leave c ∷ ts) = P c ts × EachLeave P ts
+
+abbrev pub mark_of : List Task → List ℕ → ℕ → Option Mark
+mark_of ts order c = if is_one_of order c then Some Done else (if has_leave ts c then Some Open else None)
+
+-- a walk from the root that has these tasks before it, and this order behind it
+pub record IsWalk (s : Sheet) (root : ℕ) (ts : List Task) (marks : BTreeMap ℕ Mark) (order : List ℕ) : Type 0 where
+  pub waiting : EachLeave (IsOpen s order) ts
+  pub marked : (c : ℕ) → get nat_cmp marks c ≡ mark_of ts order c
+  pub ordered : IsReadOrder s order
+  pub reached : (d : ℕ) → has_task ts d ≡ true → Reaches s root d
+  pub rooted : has_formula (content_of s root) ≡ true → (is_one_of order root || has_task ts root) ≡ true
+
+-- the cells with a formula that a content reads
+abbrev pub read_by : Sheet → Option Content → List ℕ
+read_by s None = []
+read_by s (Some (Constant v)) = []
+read_by s (Some (Formula t)) = read_cells s t
+
+-- how many tasks a cell that has no mark brings
+abbrev pub tasks_of : Sheet → BTreeMap ℕ Mark → ℕ → ℕ
+tasks_of s marks c = if is_some (get nat_cmp marks c) then 0 else length (read_by s (content_of s c)) + 1
+
+-- how many tasks are still to be done, at the most
+abbrev pub tasks_left : Sheet → BTreeMap ℕ Mark → List Task → ℕ
+tasks_left s marks ts = length ts + sum_by (tasks_of s marks) (cells_with_formula s)
