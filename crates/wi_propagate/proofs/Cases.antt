@@ -2,6 +2,7 @@
 use Rattle.std.proofs.Common.{◌≡◌, ◌==◌, ◌||◌, inl, inr, ℕ, Bool, true, false, cond, List, [], ◌∷◌, Contains, refl, ap, sym, ◌∙◌, subst, arith, eq-eqb}
 use Rattle.std.proofs.lemmas.Bool.{and_parts, and_from}
 use Rattle.std.proofs.lemmas.Bool.Decides.{nat_tests}
+use Rattle.std.specs.Prelude.{Decides}
 use Rattle.std.specs.List.{list_any}
 use Rattle.wi_values.specs.declared.replacement.Replacement.{Replacement}
 use Rattle.wi_worlds.specs.Compared.{same_world, same_world_Decides}
@@ -26,6 +27,10 @@ one_case k j h =
 -- a case passes it with itself
 pub same_case-refl : (k : Case) → same_case k k ≡ true
 same_case-refl k = and_from (k.0 == k.0) (same_world k.1 k.1) (eq-eqb k.0 k.0 refl) ((same_world_Decides k.1 k.1).1 refl)
+
+-- so the test decides
+pub same_case_Decides : (k j : Case) → Decides (same_case k j) (k ≡ j)
+same_case_Decides k j = (one_case k j, λ e. subst (λ (i : Case). same_case k i ≡ true) e (same_case-refl k))
 
 in_same : (k : Case) (ks : List Case) → list_any (same_case k) ks ≡ true → IsIn ks k
 in_same k [] h = cc

@@ -31,3 +31,4 @@ pub mod Loops
 pub mod ReadOrders
 pub mod WalkSteps
 pub mod WalkLengths
+pub mod Asked

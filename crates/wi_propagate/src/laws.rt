@@ -48,7 +48,8 @@ pub fn reach_is_decided()
     ensures cone { ConeIsDecided }
 {}
 
-/// What a cell's value demands follows, by one step, from what those demand that its formula asks for.
+/// What a case demands: itself, and what those cases demand on which its formula's value rests. A circular cell demands
+/// nothing, nor does one without a formula under its replacements.
 pub fn demand_by_step()
     ensures step { DemandByStep }
     ensures circular { CircularDemandsNothing }
