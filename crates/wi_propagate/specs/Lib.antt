@@ -12,5 +12,7 @@ pub mod ReadOrder
 pub mod Walk
 pub mod Seen
 pub mod Found
+pub mod Findings
+pub mod Answers
 pub mod Ends
 pub mod Plain

@@ -1,10 +1,13 @@
 //! What the cells of a sheet show.
 #![tactic(auto)]
 
+mod answers;
 mod calculator;
 mod circular;
+mod findings;
 mod found;
 pub mod laws;
+mod lookup;
 mod memo;
 mod plain;
 mod seen;

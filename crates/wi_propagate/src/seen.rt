@@ -9,6 +9,7 @@ use std::alloc::{AllocError, Global};
 use wi_parser::{Content, Formula};
 use wi_store::Store;
 use wi_values::{Address, Replacement, Value};
+use wi_worlds::World;
 
 /// What stands in a cell.
 #[derive(Clone, Copy, Debug)]
@@ -26,6 +27,19 @@ pub fn content_under<'a>(store: &'a Store, put: &'a [Replacement], at: Address) 
         Some(value) => constant(value),
         None => stored(store, at),
     }
+}
+
+/// What stands in a cell under the replacements of a world. The work grows with the logarithms of the counts of
+/// replacements and of occupied cells.
+pub fn content_in<'a>(store: &'a Store, world: &'a World, at: Address) -> Seen<'a>
+    ensures { content_seen result ≡ content_of (put_all store.now.sheet world.now) at }
+{
+    // They stand in order, so that one is the last for its address.
+    let _ = world.replacements();
+    if let Some(value) = world.replacement(at) {
+        return constant(value);
+    }
+    stored(store, at)
 }
 
 /// What a cell has where a constant is put.
