@@ -9,6 +9,13 @@ pub mod Numbers
 pub mod Rows
 pub mod Last
 pub mod ReadLists
+pub mod OnceReplaced
+pub mod Answering
+pub mod Filters
+pub mod Rectangles
+pub mod FoundPairs
+pub mod Rightness
+pub mod Lacks
 pub mod Known
 pub mod Missing
 pub mod Ends

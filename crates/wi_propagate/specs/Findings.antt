@@ -5,7 +5,7 @@ use Rattle.std.specs.BTreeMap.{get}
 use Rattle.wi_values.specs.declared.value.Value.{Value}
 use Rattle.wi_parser.specs.View.{pair_of}
 use Rattle.wi_functions.specs.Meaning.{addresses}
-use Rattle.wi_functions.specs.Assignment.{Assignment, AgreesWith}
+use Rattle.wi_functions.specs.Assignment.{AgreesWith}
 use Rattle.wi_propagate.specs.declared.findings.Findings.{Findings}
 use Rattle.wi_propagate.specs.declared.findings.FoundWhatIf.{FoundWhatIf}
 

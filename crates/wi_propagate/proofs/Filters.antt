@@ -1,0 +1,49 @@
+-- How many of a list pass a test, where fewer pass it than before.
+use Rattle.std.proofs.Common.{◌≡◌, ◌<◌, ◌≤◌, Bool, true, false, ◌||◌, cond, List, [], ◌∷◌, filter, length, refl, arith}
+use Rattle.std.specs.List.{list_any}
+
+-- what passes the second test passes the first
+abbrev pub PassesToo : {A : Type 0} → (A → Bool) → (A → Bool) → Type 0
+PassesToo {A} p q = (x : A) → q x ≡ true → p x ≡ true
+
+pub at_most_all : {A : Type 0} (p : A → Bool) (xs : List A) → length (filter p xs) ≤ length xs
+at_most_all p [] = omega arith
+at_most_all {A} p (x ∷ xs) = by (p x) (at_most_all p xs)
+  where
+    by : (b : Bool) → length (filter p xs) ≤ length xs → length (cond b (x ∷ filter p xs) (filter p xs)) ≤ length (x ∷ xs)
+    by true ih = omega arith
+    by false ih = omega arith
+
+pub all_pass : {A : Type 0} (p : A → Bool) → ((x : A) → p x ≡ true) → (xs : List A) → length (filter p xs) ≡ length xs
+all_pass p k [] = refl
+all_pass p k (x ∷ xs) = by (p x) (k x) (all_pass p k xs)
+  where
+    by : (b : Bool) → b ≡ true → length (filter p xs) ≡ length xs → length (cond b (x ∷ filter p xs) (filter p xs)) ≡ length (x ∷ xs)
+    by true e ih = omega arith
+    by false e ih = cc
+
+module _ {A : Type 0} (p q : A → Bool) (h : PassesToo p q) where
+  pub no_more : (xs : List A) → length (filter q xs) ≤ length (filter p xs)
+  no_more [] = omega arith
+  no_more (x ∷ xs) = by (p x) (q x) (h x) (no_more xs)
+    where
+      by : (b d : Bool) → (d ≡ true → b ≡ true) → length (filter q xs) ≤ length (filter p xs) → length (cond d (x ∷ filter q xs) (filter q xs)) ≤ length (cond b (x ∷ filter p xs) (filter p xs))
+      by true true k ih = omega arith
+      by true false k ih = omega arith
+      by false true k ih = let z = k refl in cc
+      by false false k ih = ih
+
+  -- one that is there passes the first test alone
+  pub fewer : (m : A → Bool) → ((x : A) → m x ≡ true → (p x ≡ true) × (q x ≡ false)) → (xs : List A) → list_any m xs ≡ true → length (filter q xs) < length (filter p xs)
+  fewer m k [] e = cc
+  fewer m k (x ∷ xs) e = by (m x) (p x) (q x) (k x) (h x) e (no_more xs) (fewer m k xs)
+    where
+      by : (n b d : Bool) → (n ≡ true → (b ≡ true) × (d ≡ false)) → (d ≡ true → b ≡ true) → (n || list_any m xs) ≡ true → length (filter q xs) ≤ length (filter p xs)
+          → (list_any m xs ≡ true → length (filter q xs) < length (filter p xs)) → length (cond d (x ∷ filter q xs) (filter q xs)) < length (cond b (x ∷ filter p xs) (filter p xs))
+      by true true true z i e l ih = let w = z refl in cc
+      by true true false z i e l ih = omega arith
+      by true false d z i e l ih = let w = z refl in cc
+      by false true true z i e l ih = let w = ih e in omega arith
+      by false true false z i e l ih = let w = ih e in omega arith
+      by false false true z i e l ih = let w = i refl in cc
+      by false false false z i e l ih = ih e
