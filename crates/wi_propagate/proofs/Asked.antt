@@ -24,7 +24,7 @@ use Rattle.wi_propagate.proofs.Walks.{same_cell, formula_cell}
 use Rattle.wi_propagate.proofs.Bounds.{put_formula}
 use Rattle.wi_propagate.proofs.Steps.{reads_not_circular}
 use Rattle.wi_propagate.proofs.Ranks.{rank_falls}
-use Rattle.wi_propagate.proofs.Members.{IsIn, in_contained, contains_in, in_left, in_right, in_map, in_filter}
+use Rattle.wi_propagate.proofs.Members.{IsIn, in_contained, contains_in, in_left, in_right, in_either, in_map, in_filter}
 use Rattle.wi_propagate.proofs.Demands.{rests_reads}
 
 -- ---- what is read is below
@@ -131,28 +131,37 @@ mutual
   any_asked_in (more_trees t ts) f qs w k (inl h) = in_left (what_ifs_of t) (what_ifs_in ts) (named f qs) (asked_in t f qs w k h)
   any_asked_in (more_trees t ts) f qs w k (inr h) = in_right (what_ifs_of t) (what_ifs_in ts) (named f qs) (any_asked_in ts f qs w k h)
 
-mutual
-  replacing_in : (t : Tree) (f : ℕ) (pairs : List (Reference × Reference)) (w : Want) → WantsWhatIf w f pairs → Asks t w → (a : ℕ) → list_any (λ p. p.1.at == a) pairs ≡ true → reads_here t a ≡ true
-  replacing_in (number x) f qs w k h a m = absurd h
-  replacing_in (text s) f qs w k h a m = absurd h
-  replacing_in (cell r) f qs (Cell b) k h a m = absurd k
-  replacing_in (cell r) f qs (WhatIf g ps) k h a m = absurd h
-  replacing_in (rectangle c) f qs (Cell b) k h a m = absurd k
-  replacing_in (rectangle c) f qs (WhatIf g ps) k h a m = absurd h.1
-  replacing_in (parenthesized t) f qs w k h a m = replacing_in t f qs w k h a m
-  replacing_in (signed s t) f qs w k h a m = replacing_in t f qs w k h a m
-  replacing_in (percent t) f qs w k h a m = replacing_in t f qs w k h a m
-  replacing_in (binary op t u) f qs w k (inl h) a m = or_left (reads_here t a) (reads_here u a) (replacing_in t f qs w k h a m)
-  replacing_in (binary op t u) f qs w k (inr h) a m = or_right (reads_here t a) (reads_here u a) (replacing_in u f qs w k h a m)
-  replacing_in (what_if g rs) f qs (Cell b) k h a m = absurd k
-  replacing_in (what_if g rs) f qs (WhatIf e ps) k h a m =
-      ap (λ (xs : List (Reference × Reference)). list_any (λ (p : Reference × Reference). p.1.at == a) xs) (sym h.1 ∙ k.1) ∙ m
-  replacing_in (call e ts) f qs w k h a m = any_replacing_in ts f qs w k h a m
+replacing : (ps : List (Reference × Reference)) (a : ℕ) → list_any (λ p. p.1 == a) (map addresses ps) ≡ list_any (λ p. p.1.at == a) ps
+replacing [] a = refl
+replacing (p ∷ ps) a = ap (λ (b : Bool). (p.1.at == a) || b) (replacing ps a)
 
-  any_replacing_in : (ts : Trees) (f : ℕ) (pairs : List (Reference × Reference)) (w : Want) → WantsWhatIf w f pairs → AnyAsks ts w → (a : ℕ) → list_any (λ p. p.1.at == a) pairs ≡ true → any_reads_here ts a ≡ true
-  any_replacing_in no_trees f qs w k h a m = absurd h
-  any_replacing_in (more_trees t ts) f qs w k (inl h) a m = or_left (reads_here t a) (any_reads_here ts a) (replacing_in t f qs w k h a m)
-  any_replacing_in (more_trees t ts) f qs w k (inr h) a m = or_right (reads_here t a) (any_reads_here ts a) (any_replacing_in ts f qs w k h a m)
+abbrev replaces_by : ℕ × List (ℕ × ℕ) → ℕ → Bool
+replaces_by x a = list_any (λ p. p.1 == a) x.1
+
+mutual
+  -- the replacement cells of a tree's what-ifs are read as the sheet stands
+  pub replacing_read : (t : Tree) (x : ℕ × List (ℕ × ℕ)) (a : ℕ) → IsIn (what_ifs_of t) x → replaces_by x a ≡ true → reads_here t a ≡ true
+  replacing_read (number n) x a i h = absurd i
+  replacing_read (text s) x a i h = absurd i
+  replacing_read (cell r) x a i h = absurd i
+  replacing_read (rectangle c) x a i h = absurd i
+  replacing_read (parenthesized t) x a i h = replacing_read t x a i h
+  replacing_read (signed s t) x a i h = replacing_read t x a i h
+  replacing_read (percent t) x a i h = replacing_read t x a i h
+  replacing_read (binary op t u) x a i h = elim (in_either (what_ifs_of t) (what_ifs_of u) x i) [
+    | inl k ↦ or_left (reads_here t a) (reads_here u a) (replacing_read t x a k h)
+    | inr k ↦ or_right (reads_here t a) (reads_here u a) (replacing_read u x a k h)
+  ]
+  replacing_read (what_if f ps) x a (inl e) h = sym (replacing ps a) ∙ ap (λ (y : ℕ × List (ℕ × ℕ)). replaces_by y a) e ∙ h
+  replacing_read (what_if f ps) x a (inr i) h = absurd i
+  replacing_read (call f ts) x a i h = any_replacing_read ts x a i h
+
+  any_replacing_read : (ts : Trees) (x : ℕ × List (ℕ × ℕ)) (a : ℕ) → IsIn (what_ifs_in ts) x → replaces_by x a ≡ true → any_reads_here ts a ≡ true
+  any_replacing_read no_trees x a i h = absurd i
+  any_replacing_read (more_trees t ts) x a i h = elim (in_either (what_ifs_of t) (what_ifs_in ts) x i) [
+    | inl k ↦ or_left (reads_here t a) (any_reads_here ts a) (replacing_read t x a k h)
+    | inr k ↦ or_right (reads_here t a) (any_reads_here ts a) (any_replacing_read ts x a k h)
+  ]
 
 all_replacing : (t : Tree) (pairs : List Pair) → ((a : ℕ) → list_any (λ (p : Reference × Reference). p.1.at == a) (map pair_of pairs) ≡ true → reads_here t a ≡ true) → All (λ p. reads_here t p.by.at ≡ true) pairs
 all_replacing t [] h = All-nil (λ (p : Pair). reads_here t p.by.at ≡ true)
@@ -160,10 +169,15 @@ all_replacing t (p ∷ ps) h =
     All-cons (λ (q : Pair). reads_here t q.by.at ≡ true) p ps (h p.by.at (or_left (p.by.at == p.by.at) _ (eq-eqb p.by.at p.by.at refl)))
     (all_replacing t ps (λ a m. h a (or_right (p.by.at == a) _ m)))
 
+wanted_in : (t : Tree) (f : ℕ) (pairs : Vec Pair) → Asks t (WhatIf f pairs) → IsIn (what_ifs_of t) (named f (map pair_of pairs.items))
+wanted_in t f pairs h = asked_in t f (map pair_of pairs.items) (WhatIf f pairs) (refl, refl) h
+
 -- a what-if that is asked for is one of the tree's
 pub asked_what_if : (t : Tree) (f : ℕ) (pairs : Vec Pair) → Asks t (WhatIf f pairs) → Contains (what_ifs_of t) (f, map addresses (map pair_of pairs.items))
-asked_what_if t f pairs h = contains_in (what_ifs_of t) (named f (map pair_of pairs.items)) (asked_in t f (map pair_of pairs.items) (WhatIf f pairs) (refl, refl) h)
+asked_what_if t f pairs h = contains_in (what_ifs_of t) (named f (map pair_of pairs.items)) (wanted_in t f pairs h)
 
 -- and each of its replacement cells is read as the sheet stands
 pub asked_replacing : (t : Tree) (f : ℕ) (pairs : Vec Pair) → Asks t (WhatIf f pairs) → All (λ p. reads_here t p.by.at ≡ true) pairs.items
-asked_replacing t f pairs h = all_replacing t pairs.items (replacing_in t f (map pair_of pairs.items) (WhatIf f pairs) (refl, refl) h)
+asked_replacing t f pairs h =
+    let x = named f (map pair_of pairs.items) in
+    all_replacing t pairs.items (λ a m. replacing_read t x a (wanted_in t f pairs h) (replacing (map pair_of pairs.items) a ∙ m))

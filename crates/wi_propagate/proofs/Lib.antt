@@ -39,3 +39,4 @@ pub mod ReadOrders
 pub mod WalkSteps
 pub mod WalkLengths
 pub mod Asked
+pub mod Limits

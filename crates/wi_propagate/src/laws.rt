@@ -3,7 +3,7 @@
 ghost use Rattle.wi_propagate.specs.Laws.{BoundIsNeverFelt, ValueByStep, CircularIsAbove, CircularReadsCircular, PutsMakeNoCycle};
 ghost use Rattle.wi_propagate.specs.Locality.{RestsOnReach, OthersDoNotCount, ReachingSuffices, WhatIfWorld, OrderStays, RestsStay};
 ghost use Rattle.wi_propagate.specs.Locality.{ConeStays, OutsideStays, OutsideStaysUnderPuts, UnmarkedStays, ReachIsDecided, ConeIsDecided};
-ghost use Rattle.wi_propagate.specs.DemandLaws.{DemandByStep, CircularDemandsNothing, PlainDemandsNothing};
+ghost use Rattle.wi_propagate.specs.DemandLaws.{DemandByStep, DemandUnderReplacements, CircularDemandsNothing, PlainDemandsNothing};
 
 /// How a cell's value follows from those of the cells that its formula reads.
 pub fn value_by_step()
@@ -52,6 +52,7 @@ pub fn reach_is_decided()
 /// nothing, nor does one without a formula under its replacements.
 pub fn demand_by_step()
     ensures step { DemandByStep }
+    ensures replacements { DemandUnderReplacements }
     ensures circular { CircularDemandsNothing }
     ensures plain { PlainDemandsNothing }
 {}
