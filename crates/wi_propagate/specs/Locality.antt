@@ -19,20 +19,23 @@ RestsOnReach = (s t : Sheet) (c : ℕ) → AgreeFrom s t c → (circular s c ≡
 
 -- of replacements those alone count that are put in cells that c reaches in the sheet as it stands
 abbrev pub OthersDoNotCount : Type 0
-OthersDoNotCount = (s : Sheet) (p : List Replacement) (c : ℕ) (keep : ℕ → Bool) → ((d : ℕ) → Reaches s c d → keep d ≡ true) → cell_value (put_all s (filter (λ r. keep r.at) p)) c ≡ cell_value (put_all s p) c
+OthersDoNotCount = (s : Sheet) (p : List Replacement) (c : ℕ) (keep : ℕ → Bool) → ((d : ℕ) → Reaches s c d → keep d ≡ true) →
+    cell_value (put_all s (filter (λ r. keep r.at) p)) c ≡ cell_value (put_all s p) c
 
 -- so a cell has its value under those of the replacements that reach it
 abbrev pub ReachingSuffices : Type 0
 ReachingSuffices = (s : Sheet) (w : List Replacement) (c : ℕ) → cell_value (put_all s (reaching s c w)) c ≡ cell_value (put_all s w) c
 
--- A what-if under replacements is its formula cell's value under one list, in which its own override those. They are to
--- stand in the order of their addresses, one for each, as one that is put in takes the place of the first for its address.
+-- A what-if under replacements is its formula cell's value under one list, in which its own override those around it.
+-- These stand in the order of their addresses, one for each: in another list only the first for an address would go.
 abbrev pub WhatIfWorld : Type 0
-WhatIfWorld = (s : Sheet) (w : List Replacement) (f : ℕ) (pairs : List (ℕ × ℕ)) → IsInOrder w → cell_value (put_all s (what_if_world s w pairs)) f ≡ what_if_value (put_all s w) f pairs
+WhatIfWorld = (s : Sheet) (w : List Replacement) (f : ℕ) (pairs : List (ℕ × ℕ)) → IsInOrder w →
+    cell_value (put_all s (what_if_world s w pairs)) f ≡ what_if_value (put_all s w) f pairs
 
 -- what is made of replacements in order is in order
 abbrev pub OrderStays : Type 0
-OrderStays = (s : Sheet) (w : List Replacement) → IsInOrder w → ((c : ℕ) → IsInOrder (reaching s c w)) × ((pairs : List (ℕ × ℕ)) → IsInOrder (what_if_world s w pairs))
+OrderStays = (s : Sheet) (w : List Replacement) → IsInOrder w →
+    ((c : ℕ) → IsInOrder (reaching s c w)) × ((pairs : List (ℕ × ℕ)) → IsInOrder (what_if_world s w pairs))
 
 -- under those replacements alone that reach it, a cell has the same formula, and what the formula rests on is the same
 abbrev pub RestsStay : Type 0
@@ -43,16 +46,22 @@ RestsStay = (s : Sheet) (w : List Replacement) (c : ℕ) (t : Tree) → IsInOrde
 
 -- the cone of the edited cells is the same before and after
 abbrev pub ConeStays : Type 0
-ConeStays = (s t : Sheet) (edited : List ℕ) (c : ℕ) → SameOff s t edited → (IsInCone s edited c → IsInCone t edited c) × (IsInCone t edited c → IsInCone s edited c)
+ConeStays = (s t : Sheet) (edited : List ℕ) (c : ℕ) → SameOff s t edited →
+    (IsInCone s edited c → IsInCone t edited c) × (IsInCone t edited c → IsInCone s edited c)
 
 -- a cell outside it keeps its content, its circular state, and what it shows under any replacements
 abbrev pub OutsideStays : Type 0
 OutsideStays = (s t : Sheet) (edited : List ℕ) (c : ℕ) → SameOff s t edited → (IsInCone s edited c → ⊥) →
     (content_of s c ≡ content_of t c) × (circular s c ≡ circular t c) × ((p : List Replacement) → shown s p c ≡ shown t p c)
 
--- also under two lists of replacements that leave the same content in all cells but the edited ones
+-- and it reaches what it reached
+abbrev pub ReachStays : Type 0
+ReachStays = (s t : Sheet) (edited : List ℕ) (c a : ℕ) → SameOff s t edited → (IsInCone s edited c → ⊥) → reaches s c a ≡ reaches t c a
+
+-- it shows one value also under two lists of replacements that leave all cells but the edited ones the same content
 abbrev pub OutsideStaysUnderPuts : Type 0
-OutsideStaysUnderPuts = (s t : Sheet) (edited : List ℕ) (p q : List Replacement) (c : ℕ) → SameOff s t edited → SameOff (put_all s p) (put_all t q) edited → (IsInCone s edited c → ⊥) → shown s p c ≡ shown t q c
+OutsideStaysUnderPuts = (s t : Sheet) (edited : List ℕ) (p q : List Replacement) (c : ℕ) → SameOff s t edited →
+    SameOff (put_all s p) (put_all t q) edited → (IsInCone s edited c → ⊥) → shown s p c ≡ shown t q c
 
 -- A cell outside the cone of a list shows one value in all sheets that are s but for the list, under all replacements that
 -- are the same but for the list.

@@ -2,7 +2,7 @@
 
 ghost use Rattle.wi_propagate.specs.Laws.{BoundIsNeverFelt, ValueByStep, CircularIsAbove, CircularReadsCircular, PutsMakeNoCycle};
 ghost use Rattle.wi_propagate.specs.Locality.{RestsOnReach, OthersDoNotCount, ReachingSuffices, WhatIfWorld, OrderStays, RestsStay};
-ghost use Rattle.wi_propagate.specs.Locality.{ConeStays, OutsideStays, OutsideStaysUnderPuts, UnmarkedStays, ReachIsDecided, ConeIsDecided};
+ghost use Rattle.wi_propagate.specs.Locality.{ConeStays, OutsideStays, OutsideStaysUnderPuts, UnmarkedStays, ReachIsDecided, ConeIsDecided, ReachStays};
 ghost use Rattle.wi_propagate.specs.DemandLaws.{DemandByStep, DemandUnderReplacements, CircularDemandsNothing, PlainDemandsNothing};
 
 /// How a cell's value follows from those of the cells that its formula reads.
@@ -38,6 +38,7 @@ pub fn replacements_are_local()
 pub fn edit_is_local()
     ensures cone { ConeStays }
     ensures outside { OutsideStays }
+    ensures reach { ReachStays }
     ensures puts { OutsideStaysUnderPuts }
     ensures unmarked { UnmarkedStays }
 {}
