@@ -80,3 +80,7 @@ pub flat_same : {X Y : Type 0} (f g : X → List Y) (xs : List X) → ((x : X) �
 flat_same f g [] h = refl
 flat_same {Y} f g (x ∷ xs) h =
     ap (λ (ys : List Y). ys ++ flat_map f xs) (h x (inl refl)) ∙ ap (λ (ys : List Y). g x ++ ys) (flat_same f g xs (λ y i. h y (inr i)))
+
+pub map_same : {X Y : Type 0} (f g : X → Y) (xs : List X) → ((x : X) → IsIn xs x → f x ≡ g x) → map f xs ≡ map g xs
+map_same f g [] h = refl
+map_same {Y} f g (x ∷ xs) h = ap (λ (y : Y). y ∷ map f xs) (h x (inl refl)) ∙ ap (λ (ys : List Y). g x ∷ ys) (map_same f g xs (λ y i. h y (inr i)))
