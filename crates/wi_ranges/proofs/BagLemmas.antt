@@ -1,58 +1,29 @@
 -- Laws of counts, and of the index that goes with them.
-use Rattle.std.proofs.Common.{◌≡◌, ℕ, ◌+◌, ◌-◌, ◌*◌, ◌<◌, Bool, true, false, ◌&&◌, cond, List, [], ◌∷◌, length, Option, Some, None, refl, sym, ap, subst, ◌∙◌, arith}
+use Rattle.std.proofs.Common.{◌≡◌, ℕ, ◌+◌, ◌-◌, ◌*◌, ◌<◌, ◌≤◌, Bool, true, false, ◌&&◌, cond, List, [], ◌∷◌, length, Option, Some, None, Result, Ok, Err, OnErr, refl, sym, ap, subst, ◌∙◌, arith, nat_lt}
 use Rattle.std.specs.Prelude.{if◌then◌else◌}
-use Rattle.std.specs.Option.{is_some, unwrap_or}
+use Rattle.std.specs.Option.{unwrap_or}
+use Rattle.std.specs.Result.{is_err}
 use Rattle.std.specs.Ordering.{nat_cmp, ordering_then, is_eq, match_ordering}
 use Rattle.std.specs.declared.cmp.Ordering.TheVariants.{Less, Equal, Greater}
 use Rattle.std.specs.declared.cmp.Ordering.{Ordering}
 use Rattle.std.specs.Map.{lookup, set_value, remove_entry}
 use Rattle.std.specs.BTreeMap.{is_at, insert_entry}
 use Rattle.std.proofs.Math.Nat.{add-mul}
-use Rattle.std.proofs.lemmas.Bool.{and_right}
+use Rattle.std.proofs.lemmas.Nat.{mul-le}
+use Rattle.std.specs.List.Sorted.{IsStrictlySortedBy}
+use Rattle.std.proofs.lemmas.Bool.{true≢false, and_right, and_parts, cond-true, cond-false}
 use Rattle.std.proofs.lemmas.Bool.Decides.{nat_tests}
-use Rattle.std.proofs.lemmas.Map.Lookups.{CmpEqualImpliesEq, exact_unsigned, exact_pairs}
-use Rattle.std.proofs.lemmas.Map.Views.{tells_apart}
+use Rattle.std.proofs.lemmas.Map.Lookups.{btree_set_from_contains}
 use Rattle.wi_ranges.specs.declared.block.Block.{Block}
 use Rattle.wi_ranges.specs.declared.pair.Pair.{Pair}
-use Rattle.wi_ranges.specs.Blocks.{blocks_of}
-use Rattle.wi_ranges.specs.Bag.{Bag, pair_cmp, is_same, count_of, HasOneMore, HasOneLess, pieces_of}
-use Rattle.wi_ranges.specs.Index.{Piece, block_cmp, piece_cmp, has_piece, is_among, is_piece, IsIndexed, HasNoZero, HasSamePairs, KeepsOtherPieces}
-
--- ---- one pair and another
-
-exact_pair : CmpEqualImpliesEq pair_cmp
-exact_pair p q h =
-    ap (λ (t : ℕ × (ℕ × ℕ)). record { first = t.0; last = t.1.0; reader = t.1.1 })
-    (exact_pairs nat_cmp (λ (x y : ℕ × ℕ). ordering_then (nat_cmp x.0 y.0) (nat_cmp x.1 y.1)) exact_unsigned (exact_pairs nat_cmp nat_cmp exact_unsigned exact_unsigned)
-    (p.first, (p.last, p.reader)) (q.first, (q.last, q.reader)) h)
-
-pub exact_block : CmpEqualImpliesEq block_cmp
-exact_block x y h =
-    ap (λ (t : ℕ × ℕ). record { level = t.0; first = t.1 }) (exact_pairs nat_cmp nat_cmp exact_unsigned exact_unsigned (x.level, x.first) (y.level, y.first) h)
-
-pub same_is : (p q : Pair) → is_same p q ≡ true → p ≡ q
-same_is p q h = tells_apart exact_pair p q h
-
-pub same_piece : (x y : Piece) → is_at (piece_cmp x) y ≡ true → x ≡ y
-same_piece x y h = tells_apart (exact_pairs block_cmp pair_cmp exact_block exact_pair) x y h
-
-nat_same : (a : ℕ) → nat_cmp a a ≡ Equal
-nat_same a = grind (arith, nat_tests)
-
-pub same_self : (p : Pair) → is_same p p ≡ true
-same_self p = rw (nat_same p.first, nat_same p.last, nat_same p.reader)
-
-pub block_self : (x : Block) → is_at (block_cmp x) x ≡ true
-block_self x = rw (nat_same x.level, nat_same x.first)
-
-pub piece_self : (q : Piece) → is_at (piece_cmp q) q ≡ true
-piece_self q = rw (nat_same q.0.level, nat_same q.0.first, nat_same q.1.first, nat_same q.1.last, nat_same q.1.reader)
+use Rattle.wi_ranges.specs.declared.pair.Numbered.{Numbered}
+use Rattle.wi_ranges.specs.Blocks.{block, blocks_in, blocks_of, first_row}
+use Rattle.wi_ranges.specs.Bag.{Bag, Sets, pair_cmp, is_same, count_of, HasOneMore, HasOneLess, pieces_of}
+use Rattle.wi_ranges.specs.Index.{Piece, piece_cmp, has_piece, is_among, is_one, is_piece, HasPieces, LacksPieces, IsIndexed, AreCounted, HasNoZero, KeepsOtherPieces}
+use Rattle.wi_ranges.proofs.Found.{some_block}
+use Rattle.wi_ranges.proofs.Exact.{same_is, same_self, one_is, exact_piece, piece_total}
 
 -- ---- counts
-
--- the look-ups after the pair p got w
-abbrev pub Sets : Pair → Option ℕ → Bag → Bag → Type 0
-Sets p w old new = (q : Pair) → lookup (is_same q) new ≡ cond (is_same p q) w (lookup (is_same q) old)
 
 pub has_one_more : (p : Pair) (n : ℕ) (old new : Bag) → count_of old p ≡ n → Sets p (Some (n + 1)) old new → HasOneMore p old new
 has_one_more p n old new e u q = ap (λ o. unwrap_or o 0) (u q) ∙ by (is_same p q) refl
@@ -95,49 +66,118 @@ no_zero_taken p old new z u q k h = by (is_same p q) (sym (u q) ∙ h)
     by true e = cc
     by false e = z q k e
 
-pub same_pairs : (p : Pair) (m n : ℕ) (old new : Bag) → lookup (is_same p) old ≡ Some n → Sets p (Some m) old new → HasSamePairs old new
-same_pairs p m n old new e u q = ap (λ o. is_some o) (u q) ∙ by (is_same p q) refl
+-- where there is none of a pair, it has no entry
+pub none_of_zero : (p : Pair) (bag : Bag) → HasNoZero bag → count_of bag p ≡ 0 → lookup (is_same p) bag ≡ None
+none_of_zero p bag z e = by (lookup (is_same p) bag) refl
   where
-    by : (b : Bool) → is_same p q ≡ b → is_some (cond b (Some m) (lookup (is_same q) old)) ≡ is_some (lookup (is_same q) old)
-    by true h = sym (ap (λ (x : Pair). is_some (lookup (is_same x) old)) (sym (same_is p q h)) ∙ ap (λ o. is_some o) e)
-    by false h = refl
+    by : (o : Option ℕ) → lookup (is_same p) bag ≡ o → o ≡ None
+    by None h = refl
+    by (Some n) h =
+        let pos : 0 < n = z p n h in
+        let zero : n ≡ 0 = sym (ap (λ o. unwrap_or o 0) h) ∙ e in
+        absurd (omega (arith, pos, zero))
+
+pub some_of_more : (p : Pair) (n : ℕ) (bag : Bag) → 0 < n → count_of bag p ≡ n → lookup (is_same p) bag ≡ Some n
+some_of_more p n bag l e = by (lookup (is_same p) bag) refl
+  where
+    by : (o : Option ℕ) → lookup (is_same p) bag ≡ o → o ≡ Some n
+    by None h = let zero : 0 ≡ n = sym (ap (λ o. unwrap_or o 0) h) ∙ e in absurd (omega (arith, l, zero))
+    by (Some k) h = ap (λ j. Some j) (sym (ap (λ o. unwrap_or o 0) h) ∙ e)
 
 -- ---- the index
 
-pub indexed_same : (old new : Bag) (ks : List Piece) → HasSamePairs old new → IsIndexed old ks → IsIndexed new ks
-indexed_same old new ks s i q = i q ∙ ap (λ b. b && is_among q.0 (blocks_of q.1)) (sym (s q.1))
+both_equal : (o p : Ordering) → is_eq (ordering_then o p) ≡ (is_eq o && is_eq p)
+both_equal Less p = refl
+both_equal Equal p = refl
+both_equal Greater p = refl
 
-pub indexed_put : (p : Pair) (n : ℕ) (old new : Bag) (ks ls : List Piece) → lookup (is_same p) old ≡ None → Sets p (Some n) old new → IsIndexed old ks
-    → ((q : Piece) → is_piece (blocks_of p) p q ≡ true → has_piece ls q ≡ true) → KeepsOtherPieces p ks ls → IsIndexed new ls
-indexed_put p n old new ks ls e u i put kept q = by (is_same p q.1) (is_among q.0 (blocks_of p)) refl refl ∙ ap (λ o. is_some o && is_among q.0 (blocks_of q.1)) (sym (u q.1))
+one_parts : (m n : Numbered) → is_one m n ≡ (is_same m.pair n.pair && is_at (nat_cmp m.number) n.number)
+one_parts m n = both_equal (pair_cmp m.pair n.pair) (nat_cmp m.number n.number)
+
+and_true : (b : Bool) → (b && true) ≡ b
+and_true true = refl
+and_true false = refl
+
+-- where the pieces of m are told by w, and the bags tell of other pairs the same
+pub indexed_change : (m : Numbered) (w : Bool) (old new : Bag) (ks ls : List Piece) → IsIndexed old ks
+    → ((q : Piece) → is_piece (blocks_of m.pair) m q ≡ true → has_piece ls q ≡ w) → KeepsOtherPieces m ks ls
+    → (nat_lt m.number (count_of new m.pair) ≡ w)
+    → ((n : Numbered) → is_one m n ≡ false → nat_lt n.number (count_of new n.pair) ≡ nat_lt n.number (count_of old n.pair))
+    → IsIndexed new ls
+indexed_change m w old new ks ls i put kept told others q = by (is_one m q.1) (is_among q.0 (blocks_of m.pair)) refl refl
   where
-    by : (b m : Bool) → is_same p q.1 ≡ b → is_among q.0 (blocks_of p) ≡ m
-        → has_piece ls q ≡ (is_some (cond b (Some n) (lookup (is_same q.1) old)) && is_among q.0 (blocks_of q.1))
-    by true true h k = put q (rw (h, k)) ∙ sym k ∙ ap (λ (x : Pair). is_among q.0 (blocks_of x)) (same_is p q.1 h)
+    by : (b a : Bool) → is_one m q.1 ≡ b → is_among q.0 (blocks_of m.pair) ≡ a
+        → has_piece ls q ≡ (nat_lt q.1.number (count_of new q.1.pair) && is_among q.0 (blocks_of q.1.pair))
+    by true true h k =
+        put q (rw (h, k)) ∙ sym (ap (λ b. b && true) told ∙ and_true w)
+        ∙ ap (λ b. nat_lt m.number (count_of new m.pair) && b) (sym k)
+        ∙ ap (λ (n : Numbered). nat_lt n.number (count_of new n.pair) && is_among q.0 (blocks_of n.pair)) (one_is m q.1 h)
     by true false h k =
-        let none : lookup (is_same q.1) old ≡ None = ap (λ (x : Pair). lookup (is_same x) old) (sym (same_is p q.1 h)) ∙ e in
-        kept q (rw (h, k)) ∙ i q ∙ ap (λ o. is_some o && is_among q.0 (blocks_of q.1)) none ∙ sym k ∙ ap (λ (x : Pair). is_among q.0 (blocks_of x)) (same_is p q.1 h)
-    by false m h k = kept q (rw h) ∙ i q
+        kept q (rw (h, k)) ∙ i q
+        ∙ and_right _ _ (ap (λ (n : Numbered). is_among q.0 (blocks_of n.pair)) (sym (one_is m q.1 h)) ∙ k)
+        ∙ sym (and_right _ _ (ap (λ (n : Numbered). is_among q.0 (blocks_of n.pair)) (sym (one_is m q.1 h)) ∙ k))
+    by false a h k = kept q (rw h) ∙ i q ∙ ap (λ b. b && is_among q.0 (blocks_of q.1.pair)) (sym (others q.1 h))
 
--- no piece of a pair is left
-pub indexed_taken : (p : Pair) (old new : Bag) (ks ls : List Piece) → Sets p None old new → IsIndexed old ks
-    → ((q : Piece) → is_piece (blocks_of p) p q ≡ true → has_piece ls q ≡ false) → KeepsOtherPieces p ks ls → IsIndexed new ls
-indexed_taken p old new ks ls u i taken kept q = by (is_same p q.1) (is_among q.0 (blocks_of p)) refl refl ∙ ap (λ o. is_some o && is_among q.0 (blocks_of q.1)) (sym (u q.1))
-  where
-    by : (b m : Bool) → is_same p q.1 ≡ b → is_among q.0 (blocks_of p) ≡ m
-        → has_piece ls q ≡ (is_some (cond b None (lookup (is_same q.1) old)) && is_among q.0 (blocks_of q.1))
-    by true true h k = taken q (rw (h, k))
-    by true false h k =
-        kept q (rw (h, k)) ∙ i q ∙ and_right _ _ (ap (λ (x : Pair). is_among q.0 (blocks_of x)) (sym (same_is p q.1 h)) ∙ k)
-    by false m h k = kept q (rw h) ∙ i q
+-- one number more or less tells of no other number
+next_apart : (a n : ℕ) → is_at (nat_cmp n) a ≡ false → nat_lt a (n + 1) ≡ nat_lt a n
+next_apart a n h = grind (arith, nat_tests)
 
--- where there is none of a pair, its look-ups are as if it were taken out
-pub sets_none : (p : Pair) (bag : Bag) → lookup (is_same p) bag ≡ None → Sets p None bag bag
-sets_none p bag e q = by (is_same p q) refl
+never_below : (n : ℕ) → nat_lt n n ≡ false
+never_below n = grind (arith, nat_tests)
+
+below_next : (n : ℕ) → nat_lt n (n + 1) ≡ true
+below_next n = grind (arith, nat_tests)
+
+-- what two bags tell of a number of a pair, where they have n and n + 1 of p, and as many of each other
+same_of_others : (m n : Numbered) (a b : Bag) → is_one m n ≡ false → count_of a m.pair ≡ m.number → count_of b m.pair ≡ m.number + 1
+    → (is_same m.pair n.pair ≡ false → count_of b n.pair ≡ count_of a n.pair) → nat_lt n.number (count_of b n.pair) ≡ nat_lt n.number (count_of a n.pair)
+same_of_others m n a b h e f g = by (is_same m.pair n.pair) refl (sym (one_parts m n) ∙ h)
   where
-    by : (b : Bool) → is_same p q ≡ b → lookup (is_same q) bag ≡ cond b None (lookup (is_same q) bag)
-    by true h = ap (λ (x : Pair). lookup (is_same x) bag) (sym (same_is p q h)) ∙ e
-    by false h = refl
+    by : (t : Bool) → is_same m.pair n.pair ≡ t → (t && is_at (nat_cmp m.number) n.number) ≡ false
+        → nat_lt n.number (count_of b n.pair) ≡ nat_lt n.number (count_of a n.pair)
+    by true s k =
+        let p = same_is m.pair n.pair s in
+        ap (λ c. nat_lt n.number c) (ap (λ (x : Pair). count_of b x) (sym p) ∙ f) ∙ next_apart n.number m.number k
+        ∙ ap (λ c. nat_lt n.number c) (sym e ∙ ap (λ (x : Pair). count_of a x) p)
+    by false s k = ap (λ c. nat_lt n.number c) (g s)
+
+pub indexed_more : (m : Numbered) (old new : Bag) (ks ls : List Piece) → IsIndexed old ks → count_of old m.pair ≡ m.number → HasOneMore m.pair old new
+    → HasPieces (blocks_of m.pair) m ls → KeepsOtherPieces m ks ls → IsIndexed new ls
+indexed_more m old new ks ls i e more put kept =
+    let one : count_of new m.pair ≡ m.number + 1 = more m.pair ∙ cond-true (is_same m.pair m.pair) _ _ (same_self m.pair) ∙ ap (λ c. c + 1) e in
+    indexed_change m true old new ks ls i put kept (ap (λ c. nat_lt m.number c) one ∙ below_next m.number)
+    (λ n h. same_of_others m n old new h e one (λ s. more n.pair ∙ cond-false (is_same m.pair n.pair) _ _ s))
+
+pub indexed_less : (m : Numbered) (old new : Bag) (ks ls : List Piece) → IsIndexed old ks → count_of old m.pair ≡ m.number + 1 → HasOneLess m.pair old new
+    → LacksPieces (blocks_of m.pair) m ls → KeepsOtherPieces m ks ls → IsIndexed new ls
+indexed_less m old new ks ls i e less taken kept =
+    let one : count_of new m.pair ≡ m.number = less m.pair ∙ cond-true (is_same m.pair m.pair) _ _ (same_self m.pair) ∙ ap (λ c. c - 1) e ∙ omega arith in
+    indexed_change m false old new ks ls i taken kept (ap (λ c. nat_lt m.number c) one ∙ never_below m.number)
+    (λ n h. sym (same_of_others m n new old h one e (λ s. sym (less n.pair ∙ cond-false (is_same m.pair n.pair) _ _ s))))
+
+pub indexed_back : (m : Numbered) (bag : Bag) (ks ls : List Piece) → IsIndexed bag ks → count_of bag m.pair ≡ m.number
+    → LacksPieces (blocks_of m.pair) m ls → KeepsOtherPieces m ks ls → IsIndexed bag ls
+indexed_back m bag ks ls i e taken kept =
+    indexed_change m false bag bag ks ls i taken kept (ap (λ c. nat_lt m.number c) e ∙ never_below m.number) (λ n h. refl)
+
+-- ---- which pieces there are of the last of equal pairs, and of the next
+
+piece_of_m : (m : Numbered) (bag : Bag) (ks : List Piece) (w : Bool) → IsIndexed bag ks → nat_lt m.number (count_of bag m.pair) ≡ w
+    → (q : Piece) → is_piece (blocks_of m.pair) m q ≡ true → has_piece ks q ≡ w
+piece_of_m m bag ks w i e q h =
+    let parts = and_parts (is_one m q.1) (is_among q.0 (blocks_of m.pair)) h in
+    i q ∙ sym (ap (λ (n : Numbered). nat_lt n.number (count_of bag n.pair) && is_among q.0 (blocks_of n.pair)) (one_is m q.1 parts.0))
+    ∙ ap (λ b. nat_lt m.number (count_of bag m.pair) && b) parts.1 ∙ and_true _ ∙ e
+
+pub lacks_next : (m : Numbered) (bag : Bag) (ks : List Piece) → IsIndexed bag ks → count_of bag m.pair ≡ m.number → LacksPieces (blocks_of m.pair) m ks
+lacks_next m bag ks i e = piece_of_m m bag ks false i (ap (λ c. nat_lt m.number c) e ∙ never_below m.number)
+
+pub has_last : (m : Numbered) (bag : Bag) (ks : List Piece) → IsIndexed bag ks → count_of bag m.pair ≡ m.number + 1 → HasPieces (blocks_of m.pair) m ks
+has_last m bag ks i e = piece_of_m m bag ks true i (ap (λ c. nat_lt m.number c) e ∙ below_next m.number)
+
+-- an index of the same bag has the same pieces
+pub same_pieces : (bag : Bag) (ks ls : List Piece) → IsIndexed bag ks → IsIndexed bag ls → IsStrictlySortedBy piece_cmp ks → IsStrictlySortedBy piece_cmp ls → ks ≡ ls
+same_pieces bag ks ls i j s t = btree_set_from_contains piece_total (record { keys = ks }) (record { keys = ls }) s t (λ q. i q ∙ sym (j q)) exact_piece
 
 -- ---- how many pieces
 
@@ -191,3 +231,73 @@ pieces_new p n (e ∷ es) h = by (pair_cmp p e.0) h (pieces_new p n es)
     by Less k r = omega arith
     by Equal k r = cc
     by Greater k r = omega (arith, r k)
+
+-- a pair that has a block is there no more often than there are pieces
+pub count_below : (p : Pair) (bag : Bag) → 0 < length (blocks_of p) → count_of bag p ≤ pieces_of bag
+count_below p [] l = omega arith
+count_below p (e ∷ es) l = by (is_same p e.0) refl (count_below p es l)
+  where
+    by : (b : Bool) → is_same p e.0 ≡ b → count_of es p ≤ pieces_of es
+        → unwrap_or (cond b (Some e.1) (lookup (is_same p) es)) 0 ≤ e.1 * length (blocks_of e.0) + pieces_of es
+    by true s k =
+        let here : length (blocks_of p) ≡ length (blocks_of e.0) = ap (λ (x : Pair). length (blocks_of x)) (same_is p e.0 s) in
+        let times : e.1 * 1 ≤ e.1 * length (blocks_of e.0) = mul-le e.1 1 e.1 (length (blocks_of e.0)) (omega arith) (omega (arith, here, l)) in
+        omega (arith, times)
+    by false s k = omega (arith, k)
+
+-- ---- one more pair, at the blocks of the sheet
+
+-- what is known of the blocks of the sheet's block is known of the pair's
+of_sheet : (p : Pair) (x : Block) → x ≡ block 20 0 → blocks_in p x ≡ blocks_of p
+of_sheet p x e = ap (λ (y : Block). blocks_in p y) e
+
+pub number_below : (m : Numbered) (x : Block) (bag : Bag) (ks ls : List Piece) → x ≡ block 20 0 → first_row m.pair < 1048576 → IsIndexed bag ks → AreCounted bag ks
+    → count_of bag m.pair ≡ m.number → (LacksPieces (blocks_in m.pair x) m ks → length ls ≡ length ks + length (blocks_in m.pair x)) → m.number < length ls
+number_below m x bag ks ls e l i k n more =
+    let blocks = of_sheet m.pair x e in
+    let some : 0 < length (blocks_of m.pair) = some_block m.pair l in
+    let long = more (subst (λ (zs : List Block). LacksPieces zs m ks) (sym blocks) (lacks_next m bag ks i n)) in
+    let added : length (blocks_in m.pair x) ≡ length (blocks_of m.pair) = ap (λ (zs : List Block). length zs) blocks in
+    omega (arith, count_below m.pair bag some, n, k.1, long, added, some)
+
+pub others_kept : (m : Numbered) (x : Block) (ks ls : List Piece) → x ≡ block 20 0
+    → ((q : Piece) → is_piece (blocks_in m.pair x) m q ≡ false → has_piece ls q ≡ has_piece ks q) → KeepsOtherPieces m ks ls
+others_kept m x ks ls e h = subst (λ (zs : List Block). (q : Piece) → is_piece zs m q ≡ false → has_piece ls q ≡ has_piece ks q) (of_sheet m.pair x e) h
+
+pub lacks_all : (m : Numbered) (x : Block) (ls : List Piece) → x ≡ block 20 0 → LacksPieces (blocks_in m.pair x) m ls → LacksPieces (blocks_of m.pair) m ls
+lacks_all m x ls e h = subst (λ (zs : List Block). LacksPieces zs m ls) (of_sheet m.pair x e) h
+
+pub has_all : (m : Numbered) (x : Block) (ls : List Piece) → x ≡ block 20 0 → HasPieces (blocks_in m.pair x) m ls → HasPieces (blocks_of m.pair) m ls
+has_all m x ls e h = subst (λ (zs : List Block). HasPieces zs m ls) (of_sheet m.pair x e) h
+
+pub counted_more : (m : Numbered) (x : Block) (old new : Bag) (ks ls : List Piece) → x ≡ block 20 0 → IsIndexed old ks → AreCounted old ks → count_of old m.pair ≡ m.number
+    → (IsStrictlySortedBy piece_cmp ks → IsStrictlySortedBy piece_cmp ls)
+    → (LacksPieces (blocks_in m.pair x) m ks → length ls ≡ length ks + length (blocks_in m.pair x))
+    → pieces_of new ≡ pieces_of old + length (blocks_of m.pair) → AreCounted new ls
+counted_more m x old new ks ls e i k n order more total =
+    let blocks = of_sheet m.pair x e in
+    let long = more (subst (λ (zs : List Block). LacksPieces zs m ks) (sym blocks) (lacks_next m old ks i n)) in
+    let added : length (blocks_in m.pair x) ≡ length (blocks_of m.pair) = ap (λ (zs : List Block). length zs) blocks in
+    (order k.0, omega (arith, k.1, long, added, total))
+
+pub counted_less : (m : Numbered) (x : Block) (old new : Bag) (ks ls : List Piece) → x ≡ block 20 0 → IsIndexed old ks → AreCounted old ks → count_of old m.pair ≡ m.number + 1
+    → (IsStrictlySortedBy piece_cmp ks → IsStrictlySortedBy piece_cmp ls)
+    → (HasPieces (blocks_in m.pair x) m ks → length ks ≡ length ls + length (blocks_in m.pair x))
+    → pieces_of old ≡ pieces_of new + length (blocks_of m.pair) → AreCounted new ls
+counted_less m x old new ks ls e i k n order less total =
+    let blocks = of_sheet m.pair x e in
+    let long = less (subst (λ (zs : List Block). HasPieces zs m ks) (sym blocks) (has_last m old ks i n)) in
+    let taken : length (blocks_in m.pair x) ≡ length (blocks_of m.pair) = ap (λ (zs : List Block). length zs) blocks in
+    (order k.0, omega (arith, k.1, long, taken, total))
+
+pub counted_back : (bag : Bag) (ks ls : List Piece) → IsIndexed bag ks → IsIndexed bag ls → AreCounted bag ks → IsStrictlySortedBy piece_cmp ls → AreCounted bag ls
+counted_back bag ks ls i j k t = (t, sym (ap (λ (us : List Piece). length us) (same_pieces bag ks ls i j k.0 t)) ∙ k.1)
+
+-- what is left once the pieces that were put in are taken out again
+pub kept_back : (m : Numbered) (x : Block) (ks ls us : List Piece) → x ≡ block 20 0 → KeepsOtherPieces m ks ls
+    → ((q : Piece) → is_piece (blocks_in m.pair x) m q ≡ false → has_piece us q ≡ has_piece ls q) → KeepsOtherPieces m ks us
+kept_back m x ks ls us e k h q t = others_kept m x ls us e h q t ∙ k q t
+
+pub at_error : {T E P : Type 0} (r : Result T E) → is_err r ≡ true → OnErr r P → P
+at_error (Ok v) e h = absurd (true≢false (sym e))
+at_error (Err v) e h = h

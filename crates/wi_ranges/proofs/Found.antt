@@ -1,20 +1,19 @@
 -- Who is found at the blocks that hold a cell's row is who reads the cell.
-use Rattle.std.proofs.Common.{◌≡◌, ℕ, zero, suc, ◌+◌, ◌^◌, ◌<◌, ◌≤◌, ◌==◌, Bool, true, false, ◌&&◌, ◌||◌, cond, List, [], ◌∷◌, ◌++◌, Option, Some, None, refl, sym, ap, ◌∙◌, arith, ⊎_elim, nat_lt, nat_le}
-use Rattle.std.specs.Option.{is_some, unwrap_or}
+use Rattle.std.proofs.Common.{◌≡◌, ℕ, zero, suc, ◌+◌, ◌^◌, ◌<◌, ◌≤◌, ◌==◌, Bool, true, false, ◌&&◌, ◌||◌, cond, List, [], ◌∷◌, ◌++◌, refl, sym, ap, ◌∙◌, arith, ⊎_elim, nat_lt, nat_le, length}
+use Rattle.std.specs.Prelude.{if◌then◌else◌}
 use Rattle.std.specs.List.{list_any}
-use Rattle.std.specs.Map.{lookup}
 use Rattle.std.specs.BTreeMap.{is_at}
 use Rattle.std.proofs.Math.Nat.{pow-succ'}
-use Rattle.std.proofs.lemmas.Bool.{true≢false, and_parts, and_from, or_left, or_right, cond-true, cond-false, cases_Bool, cases_lt, lt-ltb, le-leb, le-ltb, leb-true, eqb-true, eq-eqb}
+use Rattle.std.proofs.lemmas.Bool.{true≢false, and_parts, and_from, or_left, or_right, cond-true, cond-false, cases_Bool, cases_lt, lt-ltb, ltb-true, ltb-false, le-leb, le-ltb, leb-true, eqb-true, eq-eqb}
 use Rattle.std.proofs.lemmas.List.Folds.{list_any-append}
 use Rattle.wi_values.specs.Address.{row_of, is_within}
 use Rattle.wi_ranges.specs.declared.block.Block.{Block}
 use Rattle.wi_ranges.specs.declared.pair.Pair.{Pair}
 use Rattle.wi_ranges.specs.Blocks.{block, lies_within, meets, blocks_within, blocks_with, blocks_of, first_row, last_row}
-use Rattle.wi_ranges.specs.Bag.{Bag, is_same, area_of, count_of, IsReader}
-use Rattle.wi_ranges.specs.Index.{Piece, block_cmp, piece_cmp, has_piece, is_among, reads_here, reads_at, IsIndexed, HasNoZero}
+use Rattle.wi_ranges.specs.Bag.{Bag, area_of, count_of, IsReader}
+use Rattle.wi_ranges.specs.Index.{Piece, block_cmp, piece_cmp, has_piece, is_among, reads_here, reads_at, IsIndexed}
 use Rattle.wi_ranges.proofs.BlockLemmas.{blocks_within-here}
-use Rattle.wi_ranges.proofs.BagLemmas.{block_self, piece_self, same_piece}
+use Rattle.wi_ranges.proofs.Exact.{block_self, piece_self, same_piece}
 
 -- ---- each row of some rows is in one of their blocks
 
@@ -95,38 +94,50 @@ any_from f (x ∷ xs) q h e = by (is_at (piece_cmp q) x) refl h (any_from f xs q
 
 -- ---- readers
 
-counted : (bag : Bag) (p : Pair) → HasNoZero bag → is_some (lookup (is_same p) bag) ≡ true → 0 < count_of bag p
-counted bag p z h = by (lookup (is_same p) bag) refl h
-  where
-    by : (o : Option ℕ) → lookup (is_same p) bag ≡ o → is_some o ≡ true → 0 < unwrap_or o 0
-    by (Some n) e h = z p n e
-    by None e h = absurd (true≢false (sym h))
-
-some_counted : (bag : Bag) (p : Pair) → 0 < count_of bag p → is_some (lookup (is_same p) bag) ≡ true
-some_counted bag p h = by (lookup (is_same p) bag) h
-  where
-    by : (o : Option ℕ) → 0 < unwrap_or o 0 → is_some o ≡ true
-    by (Some n) h = refl
-    by None h = absurd (omega (arith, h))
-
-pub reader_found : (bag : Bag) (ks : List Piece) (xs : List Block) (a r : ℕ) → IsIndexed bag ks → HasNoZero bag → list_any (reads_at xs a r) ks ≡ true → IsReader bag a r
-reader_found bag ks xs a r i z h =
+pub reader_found : (bag : Bag) (ks : List Piece) (xs : List Block) (a r : ℕ) → IsIndexed bag ks → list_any (reads_at xs a r) ks ≡ true → IsReader bag a r
+reader_found bag ks xs a r i h =
     let s = any_gives (reads_at xs a r) ks h in
     let q = s.0 in
     let reads = (and_parts (is_among q.0 xs) (reads_here a r q) s.1).1 in
-    let parts = and_parts (is_within (area_of q.1) a) (q.1.reader == r) reads in
-    let there = (and_parts (is_some (lookup (is_same q.1) bag)) (is_among q.0 (blocks_of q.1)) (sym (i q) ∙ s.2)).0 in
-    (q.1, eqb-true q.1.reader r parts.1, counted bag q.1 z there, parts.0)
+    let p = q.1.pair in
+    let parts = and_parts (is_within (area_of p) a) (p.reader == r) reads in
+    let there = (and_parts (nat_lt q.1.number (count_of bag p)) (is_among q.0 (blocks_of p)) (sym (i q) ∙ s.2)).0 in
+    let below : q.1.number < count_of bag p = ltb-true q.1.number (count_of bag p) there in
+    (p, eqb-true p.reader r parts.1, omega (arith, below), parts.0)
+
+last_at_least : (p : Pair) (r : ℕ) → r ≤ row_of p.last → r ≤ last_row p
+last_at_least p r h = by (nat_lt (row_of p.last) (row_of p.first)) refl
+  where
+    by : (b : Bool) → nat_lt (row_of p.last) (row_of p.first) ≡ b → r ≤ (if b then row_of p.first else row_of p.last)
+    by true e = let l : row_of p.last < row_of p.first = ltb-true (row_of p.last) (row_of p.first) e in omega (arith, h, l)
+    by false e = h
+
+-- each pair has a block
+pub some_block : (p : Pair) → first_row p < 1048576 → 0 < length (blocks_of p)
+some_block p l =
+    let s = covered (first_row p) (last_row p) (first_row p) 20 0 (omega arith) (first_at_most p) (omega arith) (omega (arith, l)) in
+    not_none s.0 (blocks_of p) s.1
+  where
+    first_at_most : (p : Pair) → first_row p ≤ last_row p
+    first_at_most p = by (nat_lt (row_of p.last) (row_of p.first)) refl
+      where
+        by : (b : Bool) → nat_lt (row_of p.last) (row_of p.first) ≡ b → row_of p.first ≤ (if b then row_of p.first else row_of p.last)
+        by true e = omega arith
+        by false e = ltb-false (row_of p.last) (row_of p.first) e
+
+    not_none : (x : Block) (xs : List Block) → is_among x xs ≡ true → 0 < length xs
+    not_none x [] h = absurd (true≢false (sym h))
+    not_none x (y ∷ xs) h = omega arith
 
 pub found_reader : (bag : Bag) (ks : List Piece) (row a r : ℕ) → row ≡ row_of a → row < 1048576 → IsIndexed bag ks → IsReader bag a r
     → list_any (reads_at (blocks_with row 20 0) a r) ks ≡ true
 found_reader bag ks row a r e l i h =
     let p = h.0 in
-    let within = and_parts (nat_le (first_row p) (row_of a) && nat_le (row_of a) (last_row p)) _ h.3 in
-    let rows = and_parts (nat_le (first_row p) (row_of a)) (nat_le (row_of a) (last_row p)) within.0 in
+    let within = and_parts (nat_le (first_row p) (row_of a) && nat_le (row_of a) (row_of p.last)) _ h.3 in
+    let rows = and_parts (nat_le (first_row p) (row_of a)) (nat_le (row_of a) (row_of p.last)) within.0 in
     let above : first_row p ≤ row_of a = leb-true (first_row p) (row_of a) rows.0 in
-    let below : row_of a ≤ last_row p = leb-true (row_of a) (last_row p) rows.1 in
+    let below : row_of a ≤ last_row p = last_at_least p (row_of a) (leb-true (row_of a) (row_of p.last) rows.1) in
     let s = covered (first_row p) (last_row p) row 20 0 (omega (arith, e, above)) (omega (arith, e, below)) (omega arith) (omega (arith, l)) in
-    any_from (reads_at (blocks_with row 20 0) a r) ks (s.0, p)
-    (i (s.0, p) ∙ and_from _ _ (some_counted bag p h.2) s.1)
+    any_from (reads_at (blocks_with row 20 0) a r) ks (s.0, record { pair = p; number = 0 })
+    (i (s.0, record { pair = p; number = 0 }) ∙ and_from _ _ (lt-ltb 0 (count_of bag p) h.2) s.1)
     (and_from _ _ s.2 (and_from _ _ h.3 (eq-eqb p.reader r h.1)))

@@ -11,7 +11,7 @@ use Rattle.wi_ranges.specs.Blocks.{block, lies_within, meets, blocks_within, fir
 use Rattle.wi_ranges.specs.Index.{block_cmp, is_among}
 use Rattle.wi_ranges.specs.Laws.{IsAligned, IsPartOf, BlocksAreLargest}
 use Rattle.wi_ranges.proofs.BlockLemmas.{blocks_within-here, blocks_within-apart, blocks_within-row}
-use Rattle.wi_ranges.proofs.BagLemmas.{exact_block}
+use Rattle.wi_ranges.proofs.Exact.{exact_block}
 use Rattle.wi_ranges.proofs.Found.{halves}
 
 among_one : (x y : Block) → is_among x (y ∷ []) ≡ true → y ≡ x
@@ -22,10 +22,10 @@ among_one x y h = tells_apart exact_block y x (by (is_at (block_cmp y) x) h)
     by false e = e
 
 -- where a block of a cut comes from
-abbrev Whole : ℕ → ℕ → ℕ → ℕ → Block → Type 0
+abbrev pub Whole : ℕ → ℕ → ℕ → ℕ → Block → Type 0
 Whole a b k f x = (lies_within a b (block k f) ≡ true) × (block k f ≡ x)
 
-abbrev OfHalves : ℕ → ℕ → ℕ → ℕ → Block → Type 0
+abbrev pub OfHalves : ℕ → ℕ → ℕ → ℕ → Block → Type 0
 OfHalves a b k f x = (lies_within a b (block (suc k) f) ≡ false)
     × ((is_among x (blocks_within a b k f) ≡ true) ⊎ (is_among x (blocks_within a b k (f + 2 ^ k)) ≡ true))
 
@@ -35,11 +35,11 @@ whole a b k f x t h = (t, among_one x (block k f) (sym (ap (λ (xs : List Block)
 not_empty : (x : Block) (xs : List Block) → is_among x xs ≡ true → xs ≡ [] → ⊥
 not_empty x xs h e = true≢false (sym h ∙ ap (λ (ys : List Block). is_among x ys) e)
 
-of_row : (a b f : ℕ) (x : Block) → is_among x (blocks_within a b 0 f) ≡ true → Whole a b 0 f x
+pub of_row : (a b f : ℕ) (x : Block) → is_among x (blocks_within a b 0 f) ≡ true → Whole a b 0 f x
 of_row a b f x h =
     ⊎_elim (λ t. whole a b 0 f x t h) (λ t. absurd (not_empty x _ h (blocks_within-row a b 0 f t refl))) (cases_Bool (lies_within a b (block 0 f)))
 
-which : (a b k f : ℕ) (x : Block) → is_among x (blocks_within a b (suc k) f) ≡ true → Whole a b (suc k) f x ⊎ OfHalves a b k f x
+pub which : (a b k f : ℕ) (x : Block) → is_among x (blocks_within a b (suc k) f) ≡ true → Whole a b (suc k) f x ⊎ OfHalves a b k f x
 which a b k f x h =
     ⊎_elim (λ t. inl (whole a b (suc k) f x t h))
     (λ t. inr (

@@ -1,4 +1,5 @@
 pub mod BlockLemmas
+pub mod Exact
 pub mod PieceLemmas
 pub mod ReaderLemmas
 pub mod BagLemmas
@@ -6,3 +7,4 @@ pub mod Found
 pub mod CutLemmas
 pub mod LargestLemmas
 pub mod Rows
+pub mod Apart

@@ -11,9 +11,10 @@ use Rattle.std.proofs.lemmas.Bool.{true≢false}
 use Rattle.std.proofs.lemmas.Bool.Decides.{nat_tests}
 use Rattle.wi_ranges.specs.declared.block.Block.{Block}
 use Rattle.wi_ranges.specs.declared.pair.Pair.{Pair}
+use Rattle.wi_ranges.specs.declared.pair.Numbered.{Numbered}
 use Rattle.wi_ranges.specs.Blocks.{block}
 use Rattle.wi_ranges.specs.Bag.{pair_cmp, lowest_pair}
-use Rattle.wi_ranges.specs.Index.{block_cmp, Piece, piece_cmp, is_among, reads_here, reads_at}
+use Rattle.wi_ranges.specs.Index.{block_cmp, numbered_cmp, lowest, Piece, piece_cmp, is_among, reads_here, reads_at}
 
 -- ---- which pieces come from a block on, and before the next
 
@@ -27,6 +28,9 @@ no_later_then Greater p h k = h
 
 lowest_first : (p : Pair) → is_le (pair_cmp lowest_pair p) ≡ true
 lowest_first p = no_later_then (nat_cmp 0 p.first) _ (no_later p.first) (no_later_then (nat_cmp 0 p.last) _ (no_later p.last) (no_later p.reader))
+
+lowest_numbered : (m : Numbered) → is_le (numbered_cmp lowest m) ≡ true
+lowest_numbered m = no_later_then (pair_cmp lowest_pair m.pair) _ (lowest_first m.pair) (no_later m.number)
 
 next_after_less : (a b : ℕ) → nat_cmp a b ≡ Less → is_le (nat_cmp (a + 1) b) ≡ true
 next_after_less a b h = grind (arith, nat_tests)
@@ -47,9 +51,9 @@ at_block Equal Equal Greater p h k m = rw h
 at_block Equal Greater g p h k m = refl
 
 pub between_is_at_block : (x : Block) (q : Piece)
-    → range_contains piece_cmp (Included (x, lowest_pair)) (Excluded (block x.level (x.first + 1), lowest_pair)) q ≡ is_among q.0 (x ∷ [])
-between_is_at_block x q = at_block (nat_cmp x.level q.0.level) (nat_cmp x.first q.0.first) (nat_cmp (x.first + 1) q.0.first) (pair_cmp lowest_pair q.1)
-    (lowest_first q.1) (next_after_less x.first q.0.first) (next_after_equal x.first q.0.first)
+    → range_contains piece_cmp (Included (x, lowest)) (Excluded (block x.level (x.first + 1), lowest)) q ≡ is_among q.0 (x ∷ [])
+between_is_at_block x q = at_block (nat_cmp x.level q.0.level) (nat_cmp x.first q.0.first) (nat_cmp (x.first + 1) q.0.first) (numbered_cmp lowest q.1)
+    (lowest_numbered q.1) (next_after_less x.first q.0.first) (next_after_equal x.first q.0.first)
 
 -- ---- any of a filter, any of two tests
 
@@ -92,7 +96,7 @@ readers_more x xs zs a r ks old mid new e f g =
 
 -- the loop's end
 pub readers_found : (x : Block) (a r : ℕ) (rest all ks : List Piece) (old new : Bool) → rest ≡ []
-    → all ≡ filter (range_contains piece_cmp (Included (x, lowest_pair)) (Excluded (block x.level (x.first + 1), lowest_pair))) ks
+    → all ≡ filter (range_contains piece_cmp (Included (x, lowest)) (Excluded (block x.level (x.first + 1), lowest))) ks
     → (new || list_any (reads_here a r) rest) ≡ (old || list_any (reads_here a r) all)
     → new ≡ (old || list_any (reads_at (x ∷ []) a r) ks)
 readers_found x a r rest all ks old new e f h =

@@ -1,5 +1,5 @@
 -- A bag of pairs, each a rectangle and a cell that reads it.
-use Rattle.std.specs.Prelude.{◌≡◌, ℕ, ◌+◌, ◌-◌, ◌*◌, ◌<◌, List, [], ◌∷◌, Bool, true, length, if◌then◌else◌}
+use Rattle.std.specs.Prelude.{◌≡◌, ℕ, ◌+◌, ◌-◌, ◌*◌, ◌<◌, List, [], ◌∷◌, Bool, true, cond, Option, length, if◌then◌else◌}
 use Rattle.std.specs.Ordering.{nat_cmp, ordering_then}
 use Rattle.std.specs.declared.cmp.Ordering.{Ordering}
 use Rattle.std.specs.Option.{unwrap_or}
@@ -31,6 +31,10 @@ Bag = List (Pair × ℕ)
 
 abbrev pub count_of : Bag → Pair → ℕ
 count_of bag p = unwrap_or (lookup (is_same p) bag) 0
+
+-- new has w at the pair p, and what old has at each other
+abbrev pub Sets : Pair → Option ℕ → Bag → Bag → Type 0
+Sets p w old new = (q : Pair) → lookup (is_same q) new ≡ cond (is_same p q) w (lookup (is_same q) old)
 
 -- new has one more of the pair p than old, and as many of each other
 abbrev pub HasOneMore : Pair → Bag → Bag → Type 0

@@ -25,8 +25,9 @@ blocks_within a b (suc k) f =
 abbrev pub first_row : Pair → ℕ
 first_row p = row_of p.first
 
+-- the corners of a rectangle stand in order; with any others a pair has the row of the first
 abbrev pub last_row : Pair → ℕ
-last_row p = row_of p.last
+last_row p = if nat_lt (row_of p.last) (row_of p.first) then row_of p.first else row_of p.last
 
 -- the largest blocks that lie within the rows of the pair's rectangle, of one block
 abbrev pub blocks_in : Pair → Block → List Block

@@ -1,26 +1,38 @@
--- The index by blocks: each pair of the bag stands at each of its blocks.
-use Rattle.std.specs.Prelude.{◌≡◌, ℕ, ◌<◌, ◌==◌, List, Some, Bool, false, ◌&&◌}
-use Rattle.std.specs.Option.{is_some}
+-- The index by blocks: each pair of the bag stands at each of its blocks, and equal ones by their numbers.
+use Rattle.std.specs.Prelude.{◌≡◌, ℕ, ◌<◌, ◌==◌, List, Some, Bool, true, false, ◌&&◌, nat_lt, length}
 use Rattle.std.specs.Ordering.{nat_cmp, ordering_then}
 use Rattle.std.specs.declared.cmp.Ordering.{Ordering}
 use Rattle.std.specs.List.{list_any}
+use Rattle.std.specs.List.Sorted.{IsStrictlySortedBy}
 use Rattle.std.specs.Map.{lookup}
 use Rattle.std.specs.BTreeMap.{is_at}
 use Rattle.wi_values.specs.Address.{is_within}
 use Rattle.wi_ranges.specs.Blocks.{blocks_of}
-use Rattle.wi_ranges.specs.Bag.{Bag, pair_cmp, is_same, area_of}
+use Rattle.wi_ranges.specs.Bag.{Bag, lowest_pair, pair_cmp, is_same, area_of, count_of, pieces_of}
 use Rattle.wi_ranges.specs.declared.block.Block.{Block}
 use Rattle.wi_ranges.specs.declared.pair.Pair.{Pair}
+use Rattle.wi_ranges.specs.declared.pair.Numbered.{Numbered}
 
 abbrev pub block_cmp : Block → Block → Ordering
 block_cmp x y = ordering_then (nat_cmp x.level y.level) (nat_cmp x.first y.first)
 
+-- equal pairs stand by their numbers
+abbrev pub numbered_cmp : Numbered → Numbered → Ordering
+numbered_cmp m n = ordering_then (pair_cmp m.pair n.pair) (nat_cmp m.number n.number)
+
+abbrev pub is_one : Numbered → Numbered → Bool
+is_one m n = is_at (numbered_cmp m) n
+
+-- the first in this order
+abbrev pub lowest : Numbered
+lowest = record { pair = lowest_pair; number = 0 }
+
 -- a block and a pair that stands there
 abbrev pub Piece : Type 0
-Piece = Block × Pair
+Piece = Block × Numbered
 
 abbrev pub piece_cmp : Piece → Piece → Ordering
-piece_cmp x y = ordering_then (block_cmp x.0 y.0) (pair_cmp x.1 y.1)
+piece_cmp x y = ordering_then (block_cmp x.0 y.0) (numbered_cmp x.1 y.1)
 
 abbrev pub has_piece : List Piece → Piece → Bool
 has_piece pieces q = list_any (is_at (piece_cmp q)) pieces
@@ -28,29 +40,35 @@ has_piece pieces q = list_any (is_at (piece_cmp q)) pieces
 abbrev pub is_among : Block → List Block → Bool
 is_among x xs = list_any (λ y. is_at (block_cmp y) x) xs
 
--- a piece of the pair p, at one of the blocks
-abbrev pub is_piece : List Block → Pair → Piece → Bool
-is_piece xs p q = is_same p q.1 && is_among q.0 xs
+-- a piece of the pair m, at one of the blocks
+abbrev pub is_piece : List Block → Numbered → Piece → Bool
+is_piece xs m q = is_one m q.1 && is_among q.0 xs
 
 -- the cell r of the piece reads the cell a
 abbrev pub reads_here : ℕ → ℕ → Piece → Bool
-reads_here a r q = is_within (area_of q.1) a && (q.1.reader == r)
+reads_here a r q = is_within (area_of q.1.pair) a && (q.1.pair.reader == r)
 
 -- the piece stands at one of the blocks, and its cell r reads the cell a
 abbrev pub reads_at : List Block → ℕ → ℕ → Piece → Bool
 reads_at xs a r q = is_among q.0 xs && reads_here a r q
 
--- what the index keeps true
+abbrev pub HasPieces : List Block → Numbered → List Piece → Type 0
+HasPieces xs m pieces = (q : Piece) → is_piece xs m q ≡ true → has_piece pieces q ≡ true
+
+abbrev pub LacksPieces : List Block → Numbered → List Piece → Type 0
+LacksPieces xs m pieces = (q : Piece) → is_piece xs m q ≡ true → has_piece pieces q ≡ false
+
+-- each pair of the bag, by numbers from 0 on, is there at each of its blocks, and nothing else is
 abbrev pub IsIndexed : Bag → List Piece → Type 0
-IsIndexed bag pieces = (q : Piece) → has_piece pieces q ≡ (is_some (lookup (is_same q.1) bag) && is_among q.0 (blocks_of q.1))
+IsIndexed bag pieces = (q : Piece) → has_piece pieces q ≡ (nat_lt q.1.number (count_of bag q.1.pair) && is_among q.0 (blocks_of q.1.pair))
 
 abbrev pub HasNoZero : Bag → Type 0
 HasNoZero bag = (p : Pair) (n : ℕ) → lookup (is_same p) bag ≡ Some n → 0 < n
 
--- there are some of the same pairs
-abbrev pub HasSamePairs : Bag → Bag → Type 0
-HasSamePairs old new = (p : Pair) → is_some (lookup (is_same p) new) ≡ is_some (lookup (is_same p) old)
+-- pieces stand in order, each once, and are as many as the blocks of all pairs
+abbrev pub AreCounted : Bag → List Piece → Type 0
+AreCounted bag pieces = IsStrictlySortedBy piece_cmp pieces × (length pieces ≡ pieces_of bag)
 
--- only pieces of the pair p at its blocks may differ
-abbrev pub KeepsOtherPieces : Pair → List Piece → List Piece → Type 0
-KeepsOtherPieces p old new = (q : Piece) → is_piece (blocks_of p) p q ≡ false → has_piece new q ≡ has_piece old q
+-- only pieces of the pair m at its blocks may differ
+abbrev pub KeepsOtherPieces : Numbered → List Piece → List Piece → Type 0
+KeepsOtherPieces m old new = (q : Piece) → is_piece (blocks_of m.pair) m q ≡ false → has_piece new q ≡ has_piece old q

@@ -37,7 +37,7 @@ impl Block {
         requires { self.now.first + 2 ^ self.now.level ≤ rows }
         ensures { result ≡ lies_within (first_row pair.now) (last_row pair.now) self.now }
     {
-        pair.first.row() <= self.first && self.end() <= pair.last.row() + 1
+        pair.first.row() <= self.first && self.end() <= pair.last_row() + 1
     }
 
     /// Whether one of its rows is a row of the rectangle.
@@ -45,7 +45,7 @@ impl Block {
         requires { self.now.first + 2 ^ self.now.level ≤ rows }
         ensures { result ≡ meets (first_row pair.now) (last_row pair.now) self.now }
     {
-        pair.first.row() < self.end() && self.first <= pair.last.row()
+        pair.first.row() < self.end() && self.first <= pair.last_row()
     }
 
     /// Its upper half.

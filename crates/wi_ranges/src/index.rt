@@ -8,7 +8,7 @@ ghost use Rattle.wi_ranges.specs.Bag.{pair_of, pieces_of, HasOneMore, HasOneLess
 use crate::bag::{Counts, add_pair, remove_pair};
 use crate::block::Block;
 use crate::pair::Pair;
-use crate::pieces::{Pieces, count};
+use crate::pieces::Pieces;
 use crate::readers::{add_all_readers, listed};
 use std::alloc::{AllocError, Global};
 use std::collections::{BTreeMap, BTreeSet};
@@ -19,22 +19,20 @@ use wi_values::{Address, Rect};
 #[derive(Drop)]
 pub struct RangeIndex {
     counts: Counts,
-    // Each pair that there is, at each of its blocks.
+    // Each pair that there is, by number, at each of its blocks.
     pieces: Pieces,
-    total: u64,
     alloc: Global,
 }
 
 impl Model for RangeIndex {
-    ghost use Rattle.wi_ranges.specs.Bag.{Bag, pieces_of};
-    ghost use Rattle.wi_ranges.specs.Index.{IsIndexed, HasNoZero};
-    ghost use Rattle.std.specs.Prelude.{◌≡◌};
+    ghost use Rattle.wi_ranges.specs.Bag.{Bag};
+    ghost use Rattle.wi_ranges.specs.Index.{AreCounted, IsIndexed, HasNoZero};
 
     ghost Value = { Bag };
 
     ghost view = { λ x. x.counts.entries };
 
-    ghost invariant = { λ x. IsIndexed x.counts.entries x.pieces.keys × HasNoZero x.counts.entries × (x.total ≡ pieces_of x.counts.entries) };
+    ghost invariant = { λ x. IsIndexed x.counts.entries x.pieces.keys × AreCounted x.counts.entries x.pieces.keys × HasNoZero x.counts.entries };
 }
 
 impl RangeIndex {
@@ -45,25 +43,17 @@ impl RangeIndex {
         RangeIndex {
             counts: BTreeMap::new(alloc),
             pieces: BTreeSet::new(alloc),
-            total: 0,
             alloc,
         }
     }
 
-    /// Adds a pair. On an error all is as before; one comes also if there would be 2^64 pieces. The work grows with the pair's
-    /// blocks and the logarithm of the count of pieces.
+    /// Adds a pair. On an error all is as before. The work grows with the pair's blocks and the logarithm of the count of pieces.
     pub fn add(&mut self, area: Rect, reader: Address) -> Result<(), AllocError>
         ensures ok { OnOk result (HasOneMore (pair_of area reader) self.old self.new) }
         ensures err { OnErr result (self.new ≡ self.old) }
     {
         let pair = Pair::new(area, reader);
-        let more = count(&pair, &Block::sheet());
-        if self.total > u64::MAX - more {
-            return Err(AllocError);
-        }
-        add_pair(&mut self.counts, &mut self.pieces, &pair)?;
-        self.total += more;
-        Ok(())
+        add_pair(&mut self.counts, &mut self.pieces, &pair)
     }
 
     /// Takes away one such pair if there is one. Takes no memory. The work grows with the pair's blocks and the logarithm of the
@@ -72,13 +62,11 @@ impl RangeIndex {
         ensures { HasOneLess (pair_of area reader) self.old self.new }
     {
         let pair = Pair::new(area, reader);
-        if remove_pair(&mut self.counts, &mut self.pieces, &pair) {
-            self.total -= count(&pair, &Block::sheet());
-        }
+        remove_pair(&mut self.counts, &mut self.pieces, &pair);
     }
 
-    /// The cells that read a rectangle with the cell, in row-major order, each once. The work grows with the pairs at the 21
-    /// blocks that hold the cell's row, and with the logarithms of their count and of that of all pieces.
+    /// The cells that read a rectangle with the cell, in row-major order, each once. The work grows with the pairs, equal ones
+    /// too, at the 21 blocks that hold the cell's row, and with the logarithms of their count and of that of all pieces.
     pub fn readers_of(&self, at: Address) -> Result<Vec<Address>, AllocError>
         ensures order { IfOk result (λ readers. IsStrictlyIncreasing readers.items) }
         ensures readers { IfOk result (λ readers. (r : ℕ) → Contains readers.items r ↔ IsReader self.now at r) }
@@ -92,6 +80,6 @@ impl RangeIndex {
     pub fn pieces(&self) -> u64
         ensures { result ≡ pieces_of self.now }
     {
-        self.total
+        self.pieces.len() as u64
     }
 }

@@ -1,8 +1,10 @@
 //! A rectangle and a cell that reads it.
 
-ghost use Rattle.std.specs.Prelude.{◌≡◌};
-ghost use Rattle.wi_values.specs.Address.{is_within};
+ghost use Rattle.std.specs.Prelude.{◌≡◌, ◌<◌};
+ghost use Rattle.wi_values.specs.Address.{is_within, rows};
 ghost use Rattle.wi_ranges.specs.Bag.{pair_of, area_of, lowest_pair};
+ghost use Rattle.wi_ranges.specs.Blocks.{last_row};
+ghost use Rattle.wi_ranges.specs.Index.{lowest};
 
 use wi_values::{Address, Rect};
 
@@ -12,6 +14,25 @@ pub struct Pair {
     pub(crate) first: Address,
     pub(crate) last: Address,
     pub(crate) reader: Address,
+}
+
+/// One of the pairs that are equal, by its number among them, which is counted from 0.
+#[derive(Clone, Copy, PartialEq, Eq, PartialOrd, Ord, Debug)]
+pub struct Numbered {
+    pub(crate) pair: Pair,
+    pub(crate) number: u64,
+}
+
+impl Numbered {
+    /// The first in the order of numbered pairs.
+    pub(crate) fn lowest() -> Numbered
+        ensures { result ≡ lowest }
+    {
+        Numbered {
+            pair: Pair::lowest(),
+            number: 0,
+        }
+    }
 }
 
 impl Pair {
@@ -35,6 +56,14 @@ impl Pair {
             last: first,
             reader: first,
         }
+    }
+
+    /// The last row of the rectangle, counted from 0.
+    pub(crate) fn last_row(&self) -> u32
+        ensures value { result ≡ last_row self.now }
+        ensures within { result < rows }
+    {
+        self.first.row().max(self.last.row())
     }
 
     /// Whether a cell lies in the rectangle.

@@ -9,7 +9,7 @@ ghost use Rattle.wi_ranges.specs.Blocks.{blocks_with};
 ghost use Rattle.wi_ranges.specs.Index.{reads_at};
 
 use crate::block::Block;
-use crate::pair::Pair;
+use crate::pair::Numbered;
 use crate::pieces::Pieces;
 use std::alloc::{AllocError, Global};
 use std::collections::BTreeSet;
@@ -25,11 +25,11 @@ fn add_readers(
     requires { block.now.first + 2 ^ block.now.level ≤ rows }
     ensures { OnOk result ((r : ℕ) → contains nat_cmp readers.new r ≡ (contains nat_cmp readers.old r || list_any (reads_at (block.now ∷ []) at r) pieces.now.keys)) }
 {
-    let from = (*block, Pair::lowest());
-    let to = (block.next(), Pair::lowest());
-    for (_, pair) in pieces.range(from..to) {
-        if pair.has(at) {
-            readers.insert(pair.reader)?;
+    let from = (*block, Numbered::lowest());
+    let to = (block.next(), Numbered::lowest());
+    for (_, numbered) in pieces.range(from..to) {
+        if numbered.pair.has(at) {
+            readers.insert(numbered.pair.reader)?;
         }
     }
     Ok(())

@@ -106,11 +106,13 @@ fn a_refused_growth_leaves_all_as_it_was(rt: HostRuntime) {
         return;
     };
     let added = index.add(Rect::new(top, bottom), reader).is_ok();
-    assert_eq!(rt; index.pieces(), if added { 40 } else { 2 });
+    let added_again = index.add(Rect::new(top, bottom), reader).is_ok();
+    let times = u64::from(added) + u64::from(added_again);
+    assert_eq!(rt; index.pieces(), 2 + 38 * times);
     if let Ok(readers) = index.readers_of(bottom) {
-        assert_eq!(rt; readers.len(), usize::from(added));
+        assert_eq!(rt; readers.len(), usize::from(times > 0));
     }
     if let Ok(readers) = index.readers_of(top) {
-        assert_eq!(rt; readers.len(), 1 + usize::from(added));
+        assert_eq!(rt; readers.len(), 1 + usize::from(times > 0));
     }
 }

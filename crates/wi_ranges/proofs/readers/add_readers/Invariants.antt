@@ -6,7 +6,7 @@ use Rattle.wi_ranges.specs.Index.{reads_here}
 use Rattle.wi_ranges.proofs.readers.add_readers.Given as goal
 
 -- the readers found, and those that are left to find
-abbrev pub invariant-loop-pair : goal.invariant-loop-pair
-invariant-loop-pair l = (r : ℕ) →
-    (contains nat_cmp l.readers r || list_any (reads_here l.at r) l.pair-iterator)
-    ≡ (contains nat_cmp l.initial.readers r || list_any (reads_here l.at r) l.initial.pair-iterator)
+abbrev pub invariant-loop-numbered : goal.invariant-loop-numbered
+invariant-loop-numbered l = (r : ℕ) →
+    (contains nat_cmp l.readers r || list_any (reads_here l.at r) l.numbered-iterator)
+    ≡ (contains nat_cmp l.initial.readers r || list_any (reads_here l.at r) l.initial.numbered-iterator)

@@ -36,7 +36,7 @@ returns-clause-readers c =
     ∙ ap (λ (us : List Block). list_any (reads_at us a r) ks) path in
     let reader : (r : ℕ) → Contains set.keys r → IsReader c.args.self.now a r = λ r h.
     subst (λ (b : Bag). IsReader b a r) c.self.view_is
-    (reader_found bag ks xs a r c.self.invariant.0 c.self.invariant.1 (sym (found r) ∙ (btree_set_contains_iff nat_cmp_total exact_unsigned set r).1 h)) in
+    (reader_found bag ks xs a r c.self.invariant.0 (sym (found r) ∙ (btree_set_contains_iff nat_cmp_total exact_unsigned set r).1 h)) in
     let read : (r : ℕ) → IsReader c.args.self.now a r → Contains set.keys r = λ r h.
     (btree_set_contains_iff nat_cmp_total exact_unsigned set r).0
     (found r ∙ found_reader bag ks row a r c.row.ensures.value c.row.ensures.within c.self.invariant.0 (subst (λ (b : Bag). IsReader b a r) (sym c.self.view_is) h)) in
