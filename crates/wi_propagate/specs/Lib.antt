@@ -16,3 +16,4 @@ pub mod Findings
 pub mod Answers
 pub mod Ends
 pub mod Plain
+pub mod Memory
