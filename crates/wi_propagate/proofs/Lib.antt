@@ -40,3 +40,5 @@ pub mod WalkSteps
 pub mod WalkLengths
 pub mod Asked
 pub mod Limits
+pub mod ConeSteps
+pub mod Remembering

@@ -7,7 +7,8 @@ use Rattle.std.specs.Ordering.{nat_cmp}
 use Rattle.std.specs.BTreeMap.{BTreeMap, get, is_at, Updates}
 use Rattle.wi_parser.specs.Sheet.{Sheet, content_of, has_formula, cells_with_formula}
 use Rattle.wi_propagate.specs.Reach.{is_one_of}
-use Rattle.wi_propagate.specs.Walk.{read_by, tasks_of, tasks_left}
+use Rattle.wi_propagate.specs.Walk.{tasks_of, tasks_left}
+use Rattle.wi_propagate.specs.ReadCells.{read_by}
 use Rattle.wi_propagate.specs.declared.walk.Mark.TheVariants.{Open}
 use Rattle.wi_propagate.specs.declared.walk.Mark.{Mark}
 use Rattle.wi_propagate.specs.declared.walk.Task.{Task}

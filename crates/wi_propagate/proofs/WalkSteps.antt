@@ -6,23 +6,20 @@ use Rattle.std.proofs.lemmas.List.Folds.{list_any-append}
 use Rattle.std.specs.List.{list_any}
 use Rattle.std.specs.Ordering.{nat_cmp}
 use Rattle.std.specs.BTreeMap.{BTreeMap, get, is_at, Updates}
-use Rattle.wi_parser.specs.declared.content.Content.TheVariants.{Constant, Formula}
-use Rattle.wi_parser.specs.declared.content.Content.{Content}
-use Rattle.wi_parser.specs.Tree.{Tree}
 use Rattle.wi_parser.specs.Sheet.{Sheet, content_of, has_formula}
 use Rattle.wi_parser.specs.Reads.{content_reads}
 use Rattle.wi_propagate.specs.Circular.{circular}
 use Rattle.wi_propagate.specs.Reach.{is_one_of, Reaches}
-use Rattle.wi_propagate.specs.ReadCells.{read_cells}
+use Rattle.wi_propagate.specs.ReadCells.{read_by}
 use Rattle.wi_propagate.specs.ReadOrder.{IsReadOrder, MayFollow}
-use Rattle.wi_propagate.specs.Walk.{cell_of, leaves, has_task, has_leave, LeadsTo, IsOpen, EachLeave, mark_of, IsWalk, read_by}
+use Rattle.wi_propagate.specs.Walk.{cell_of, leaves, has_task, has_leave, LeadsTo, IsOpen, EachLeave, mark_of, IsWalk}
 use Rattle.wi_propagate.specs.declared.walk.Mark.{Mark}
 use Rattle.wi_propagate.specs.declared.walk.Mark.TheVariants.{Open, Done}
 use Rattle.wi_propagate.specs.declared.walk.Task.{Task}
 use Rattle.wi_propagate.specs.declared.walk.Task.TheVariants.{Enter, Leave}
 use Rattle.wi_propagate.proofs.Walks.{same_cell}
 use Rattle.wi_propagate.proofs.Loops.{loop_circular, reaches_circular, reaches-step}
-use Rattle.wi_propagate.proofs.ReadLists.{listed_is_read, formula_listed}
+use Rattle.wi_propagate.proofs.ReadLists.{listed, reads_listed}
 use Rattle.wi_propagate.proofs.ReadOrders.{order-push, order_clear}
 use Rattle.wi_propagate.proofs.Ends.{ends_open}
 
@@ -218,18 +215,6 @@ walk-left s root c ts old new order w u = record {
 }
 
 -- ---- a cell that is entered
-
--- what is listed of a content is read
-listed : (s : Sheet) (o : Option Content) (d : ℕ) → is_one_of (read_by s o) d ≡ true → content_reads o d ≡ true
-listed s None d h = h
-listed s (Some (Constant v)) d h = h
-listed s (Some (Formula t)) d h = listed_is_read s t d h
-
--- and each cell with a formula that it reads is listed
-reads_listed : (s : Sheet) (o : Option Content) (d : ℕ) → content_reads o d ≡ true → has_formula (content_of s d) ≡ true → is_one_of (read_by s o) d ≡ true
-reads_listed s None d h f = h
-reads_listed s (Some (Constant v)) d h f = h
-reads_listed s (Some (Formula t)) d h f = formula_listed s t d f ∙ h
 
 entered_task : (cells : List ℕ) (d : ℕ) → has_task (map Enter cells) d ≡ is_one_of cells d
 entered_task [] d = refl

@@ -10,6 +10,7 @@ pub mod DemandLaws
 pub mod ReadCells
 pub mod ReadOrder
 pub mod Walk
+pub mod Remembered
 pub mod Seen
 pub mod Found
 pub mod Findings

@@ -3,12 +3,10 @@ use Rattle.std.specs.Prelude.{◌≡◌, ◌==◌, ℕ, ◌+◌, Bool, true, fal
 use Rattle.std.specs.List.{list_any}
 use Rattle.std.specs.Ordering.{nat_cmp}
 use Rattle.std.specs.BTreeMap.{BTreeMap, get}
-use Rattle.wi_parser.specs.declared.content.Content.{Content}
-use Rattle.wi_parser.specs.declared.content.Content.TheVariants.{Constant, Formula}
 use Rattle.wi_parser.specs.Sheet.{Sheet, content_of, has_formula, cells_with_formula}
 use Rattle.wi_parser.specs.Reads.{content_reads}
 use Rattle.wi_propagate.specs.Reach.{is_one_of, Reaches}
-use Rattle.wi_propagate.specs.ReadCells.{read_cells}
+use Rattle.wi_propagate.specs.ReadCells.{read_by}
 use Rattle.wi_propagate.specs.ReadOrder.{IsReadOrder}
 use Rattle.wi_propagate.specs.declared.walk.Mark.{Mark}
 use Rattle.wi_propagate.specs.declared.walk.Mark.TheVariants.{Open, Done}
@@ -59,12 +57,6 @@ pub record IsWalk (s : Sheet) (root : ℕ) (ts : List Task) (marks : BTreeMap �
   pub ordered : IsReadOrder s order
   pub reached : (d : ℕ) → has_task ts d ≡ true → Reaches s root d
   pub rooted : has_formula (content_of s root) ≡ true → (is_one_of order root || has_task ts root) ≡ true
-
--- the cells with a formula that a content reads
-abbrev pub read_by : Sheet → Option Content → List ℕ
-read_by s None = []
-read_by s (Some (Constant v)) = []
-read_by s (Some (Formula t)) = read_cells s t
 
 -- how many tasks a cell that has no mark brings
 abbrev pub tasks_of : Sheet → BTreeMap ℕ Mark → ℕ → ℕ

@@ -8,9 +8,9 @@ ghost use Rattle.std.specs.Option.{is_none};
 ghost use Rattle.wi_parser.specs.Sheet.{content_of, has_formula};
 ghost use Rattle.wi_propagate.specs.Circular as cycles;
 ghost use Rattle.wi_propagate.specs.Reach.{is_one_of};
-ghost use Rattle.wi_propagate.specs.ReadCells.{formulas_within};
+ghost use Rattle.wi_propagate.specs.ReadCells.{formulas_within, read_by};
 ghost use Rattle.wi_propagate.specs.ReadOrder.{IsReadOrder};
-ghost use Rattle.wi_propagate.specs.Walk.{IsWalk, read_by, tasks_left};
+ghost use Rattle.wi_propagate.specs.Walk.{IsWalk, tasks_left};
 ghost use Rattle.wi_propagate.specs.declared.walk.Mark.TheVariants.{Open, Done};
 ghost use Rattle.wi_propagate.specs.declared.walk.Task.TheVariants.{Enter, Leave};
 
