@@ -20,4 +20,6 @@ pub use calculator::Calculator;
 pub use plain::PlainCalculator;
 
 #[cfg(test)]
+mod answers_tests;
+#[cfg(test)]
 mod tests;
