@@ -28,7 +28,7 @@ pub trait Lookup {
     fn cell(&self, at: Address) -> Answer<'_>
         ensures { answered result ≡ known_cell self.now at };
 
-    /// The value of a cell if the inputs had the values of other cells.
+    /// The value of a formula cell, if each input had the value of its replacement cell.
     fn what_if(&self, formula_cell: Address, pairs: &[Pair]) -> Answer<'_>
         ensures { answered result ≡ known_what_if self.now formula_cell (map addresses (map pair_of pairs.now)) };
 }

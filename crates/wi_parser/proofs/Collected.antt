@@ -10,7 +10,7 @@ use Rattle.wi_parser.specs.declared.fault.ParseFault.TheVariants.{Syntax}
 use Rattle.wi_parser.specs.declared.word.Word.{Word}
 use Rattle.wi_parser.specs.Symbol.{Symbol, refused}
 use Rattle.wi_parser.specs.FormulaText.{symbol_of, symbols_of}
-use Rattle.wi_parser.specs.Words.{meant_by, all_meant}
+use Rattle.wi_parser.specs.WordSymbols.{meant_by, all_meant}
 
 -- what is left of the text's symbols
 abbrev pub left : Scan → List Symbol

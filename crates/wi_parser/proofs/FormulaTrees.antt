@@ -17,7 +17,7 @@ use Rattle.wi_parser.specs.Symbol.{Symbol, reference, corners, open_parenthesis,
 use Rattle.wi_parser.specs.Tree.{Tree, Trees, number, text, cell, rectangle, parenthesized, signed, percent, binary, what_if, call, no_trees, more_trees}
 use Rattle.wi_parser.specs.View.{tree_of}
 use Rattle.wi_parser.specs.Writable.{IsWritable, IsFormulaTree}
-use Rattle.wi_parser.proofs.OneSpelling.{spelled, is_spelled}
+use Rattle.wi_parser.proofs.OneSpelling.{spelled, has_spelling}
 use Rattle.wi_parser.proofs.Parses.{parsed_exactly}
 use Rattle.wi_parser.proofs.ReadsBack.{printed_symbols, printed_reads_back}
 use Rattle.wi_parser.proofs.Shifts.{still_spelled}
@@ -30,7 +30,7 @@ read_tree bs t h =
     let found = (parsed_exactly bs t).0 h in
     let same : formula_symbols bs ≡ spelling t = spelled found.1 in
     record {
-      spelled = is_spelled t (formula_symbols bs) found.1;
+      spelled = has_spelling t (formula_symbols bs) found.1;
       symbols = subst (All IsWritable) same (text_writable bs);
       parentheses = subst (λ ts. deepest 0 ts ≤ max_depth) same found.0.parentheses;
       signs = subst (λ ts. most_signs 0 ts ≤ max_depth) same found.0.signs;

@@ -3,7 +3,7 @@ use Rattle.std.proofs.Common.{◌≡◌, ℕ, List, [], ◌∷◌, ◌++◌, ref
 use Rattle.wi_parser.specs.Tree.{Tree, Trees}
 use Rattle.wi_parser.specs.Symbol.{Symbol, open_parenthesis, close_parenthesis, separator, infix_mark, sign_mark, percent_mark, name}
 use Rattle.wi_parser.specs.Grammar.{loosest, Spells, SpellsAll, SpellsMore, a_number, a_text, a_cell, a_rectangle, in_parentheses, one_input, two_inputs, a_call, with_sign, with_percent, tighter, joined, no_parameter, parameters, last_parameter, another_parameter}
-use Rattle.wi_parser.specs.Spelling.{spelling, spelling_of_all, spelling_of_more, IsSpelled}
+use Rattle.wi_parser.specs.Spelling.{spelling, spelling_of_all, spelling_of_more, HasSpelling}
 
 mutual
   pub spelled : {k : ℕ} {t : Tree} {ts : List Symbol} → Spells k t ts → ts ≡ spelling t
@@ -28,5 +28,5 @@ mutual
   more_spelled last_parameter = refl
   more_spelled (another_parameter t all ts us s u) = ap₂ (λ a b. separator ∷ a ++ b) (spelled s) (more_spelled u)
 
-pub is_spelled : (t : Tree) (ts : List Symbol) → Spells loosest t ts → IsSpelled t
-is_spelled t ts s = subst (Spells loosest t) (spelled s) s
+pub has_spelling : (t : Tree) (ts : List Symbol) → Spells loosest t ts → HasSpelling t
+has_spelling t ts s = subst (Spells loosest t) (spelled s) s

@@ -58,11 +58,11 @@ one_cell r a = ap (λ (x : Area). is_within x a) (cell_at_once r) ∙ by (r == a
     by true h = ap (λ (x : ℕ). is_within (at_once x) a) (same_cell r a h) ∙ within_itself a
     by false h = false_from_ne_true (is_within (at_once r) a) (λ w. let e = ap (λ (x : ℕ). x == a) (within_means r a w) ∙ cell_is_itself a in cc)
 
-replacing : (ps : List (Reference × Reference)) (a : ℕ) → list_any (λ (p : Reference × Reference). p.1.at == a) ps ≡ list_any (λ (r : Area). is_within r a) (map (λ (p : Reference × Reference). cell_area p.1.at) ps)
-replacing [] a = refl
-replacing (p ∷ ps) a =
+replacement_cells : (ps : List (Reference × Reference)) (a : ℕ) → list_any (λ (p : Reference × Reference). p.1.at == a) ps ≡ list_any (λ (r : Area). is_within r a) (map (λ (p : Reference × Reference). cell_area p.1.at) ps)
+replacement_cells [] a = refl
+replacement_cells (p ∷ ps) a =
     ap (λ (b : Bool). b || list_any (λ (p : Reference × Reference). p.1.at == a) ps) (sym (one_cell p.1.at a))
-    ∙ ap (λ (b : Bool). is_within (cell_area p.1.at) a || b) (replacing ps a)
+    ∙ ap (λ (b : Bool). is_within (cell_area p.1.at) a || b) (replacement_cells ps a)
 
 mutual
   pub reads_within : (t : Tree) (a : ℕ) → reads t a ≡ list_any (λ (r : Area). is_within r a) (rectangles_of t)
@@ -79,7 +79,7 @@ mutual
       ∙ sym (list_any-append (λ (r : Area). is_within r a) (rectangles_of t) (rectangles_of u))
   reads_within (what_if f ps) a =
       ap (λ (b : Bool). b || list_any (λ (p : Reference × Reference). p.1.at == a) ps) (sym (one_cell f.at a))
-      ∙ ap (λ (b : Bool). is_within (cell_area f.at) a || b) (replacing ps a)
+      ∙ ap (λ (b : Bool). is_within (cell_area f.at) a || b) (replacement_cells ps a)
   reads_within (call f ts) a = all_read_within ts a
 
   all_read_within : (ts : Trees) (a : ℕ) → any_reads ts a ≡ list_any (λ (r : Area). is_within r a) (all_rectangles_of ts)

@@ -28,7 +28,7 @@ line_of GreaterOrEqual = 7
 abbrev pub loosest : ℕ
 loosest = 7
 
--- an input and the cell whose value replaces it, each after a separator
+-- an input and its replacement cell, each after a separator
 abbrev pub pair_symbols : Reference × Reference → List Symbol
 pair_symbols p = separator ∷ reference p.0 ∷ separator ∷ reference p.1 ∷ []
 

@@ -12,7 +12,7 @@ pub mod Inside
 pub mod Printing
 pub mod PrintedParts
 pub mod Nesting
-pub mod Words
+pub mod WordSymbols
 pub mod Outcome
 pub mod Nests
 pub mod FormulaText

@@ -15,6 +15,6 @@ pub record Nests (depth : ℕ) (pre : Global → MutBor (List Symbol) → ℕ �
   -- it finds what the definition does
   pub reads : (alloc : Global) (old new : MutBor (List Symbol)) (r : Result Expr ParseFault) → post alloc old depth r new
       → Finds (expression depth old.now) r new.now
-  -- it leaves fewer words
+  -- it leaves fewer symbols
   pub shorter : (alloc : Global) (old new : MutBor (List Symbol)) (r : Result Expr ParseFault) → post alloc old depth r new
       → OnOk r (length new.now < length old.now)

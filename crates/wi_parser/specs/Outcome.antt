@@ -18,7 +18,7 @@ Fails TooDeep found = ⊥
 Fails Syntax found = found ≡ None
 Fails Memory found = Unit {0}
 
--- what a function that reads some words answers and leaves
+-- what a function that reads some symbols answers and leaves
 abbrev pub Finds : Read → Result Expr ParseFault → List Symbol → Type 0
 Finds found (Ok e) new = found ≡ Some (tree_of e, new)
 Finds found (Err e) new = Fails e found
@@ -42,7 +42,7 @@ before (e ∷ es) ts = more_trees (tree_of e) (before es ts)
 abbrev pub put_before : List Expr → ReadAll → ReadAll
 put_before es r = option_map (λ p. (before es p.0, p.1)) r
 
--- what a function that reads all of the words answers
+-- what a function that reads all symbols answers
 abbrev pub FindsWhole : Option Tree → Result Expr ParseFault → Type 0
 FindsWhole found (Ok e) = found ≡ Some (tree_of e)
 FindsWhole found (Err e) = Fails e found

@@ -68,7 +68,7 @@ then_close t ts = option_map (λ rest. (t, rest)) (after_close ts)
 abbrev pub parameter_at : List Symbol → Option (Reference × List Symbol)
 parameter_at ts = option_and_then reference_at (after_separator ts)
 
--- an input and the cell whose value replaces it, and what follows them
+-- an input and its replacement cell, and what follows them
 unfoldable pub pair_at : List Symbol → Option ((Reference × Reference) × List Symbol)
 pair_at ts = option_and_then (λ r. option_map (λ x. ((r.0, x.0), x.1)) (parameter_at r.1)) (parameter_at ts)
 

@@ -46,12 +46,12 @@ abbrev pub as_content : Result Tree ParseFault → Result Content ParseFault
 as_content (Ok t) = Ok (Formula t)
 as_content (Err e) = Err e
 
--- a text after an apostrophe
-abbrev pub quoted : List ℕ → Result Content ParseFault
-quoted text = if nat_lt max_text (length text) then Err TooLong else Ok (Constant (Text text))
+-- what stands after an apostrophe is taken as a text, where it is not too long
+abbrev pub taken_as_text : List ℕ → Result Content ParseFault
+taken_as_text text = if nat_lt max_text (length text) then Err TooLong else Ok (Constant (Text text))
 
 abbrev pub constant_read : List ℕ → Option (List ℕ) → Result Content ParseFault
-constant_read text (Some rest) = quoted rest
+constant_read text (Some rest) = taken_as_text rest
 constant_read text None = ok_or (option_map Constant (imported text)) TooLong
 
 -- what is put into a cell: a formula where the text begins with `=` or `of:=`, a text after an apostrophe, or what is imported

@@ -29,6 +29,6 @@ abbrev mutual
   spelling_of_more no_trees = close_parenthesis ∷ []
   spelling_of_more (more_trees t ts) = separator ∷ spelling t ++ spelling_of_more ts
 
--- some symbols spell the tree
-abbrev pub IsSpelled : Tree → Type 0
-IsSpelled t = Spells loosest t (spelling t)
+-- some symbols spell the tree, and these are its spelling
+abbrev pub HasSpelling : Tree → Type 0
+HasSpelling t = Spells loosest t (spelling t)

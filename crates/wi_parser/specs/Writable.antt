@@ -6,7 +6,7 @@ use Rattle.wi_lexer.specs.Name.{IsName}
 use Rattle.wi_parser.specs.Capitals.{in_capitals}
 use Rattle.wi_parser.specs.Nesting.{deepest, most_signs, max_depth}
 use Rattle.wi_parser.specs.Shift.{in_sheet}
-use Rattle.wi_parser.specs.Spelling.{IsSpelled, spelling}
+use Rattle.wi_parser.specs.Spelling.{HasSpelling, spelling}
 use Rattle.wi_parser.specs.Symbol.{Symbol, numeral, reference, corners, name}
 use Rattle.wi_parser.specs.Tree.{Tree}
 
@@ -27,7 +27,7 @@ IsWritable s = Unit {0}
 -- Some text is read as the tree, were it not for the length of texts: it is spelled, by symbols that a text can have,
 -- and nests within the limits.
 pub record IsFormulaTree (t : Tree) : Type 0 where
-  pub spelled : IsSpelled t
+  pub spelled : HasSpelling t
   pub symbols : All IsWritable (spelling t)
   pub parentheses : deepest 0 (spelling t) ≤ max_depth
   pub signs : most_signs 0 (spelling t) ≤ max_depth

@@ -1,7 +1,7 @@
 //! What stands in a cell.
 
 ghost use Rattle.std.specs.Prelude.{◌≡◌, IfOk};
-ghost use Rattle.wi_parser.specs.Reading.{ReadsAs, content_read, quoted};
+ghost use Rattle.wi_parser.specs.Reading.{ReadsAs, content_read, taken_as_text};
 
 use crate::fault::ParseFault;
 use crate::formula::Formula;
@@ -28,14 +28,14 @@ impl Content {
             return Ok(Content::Formula(parse(alloc, text)?));
         }
         if let Some(rest) = after("'", text) {
-            return Content::quoted(alloc, rest);
+            return Content::taken_as_text(alloc, rest);
         }
         Ok(Content::Constant(imported_value(alloc, text)?))
     }
 
     // The text after an apostrophe.
-    fn quoted(alloc: Global, text: &str) -> Result<Content, ParseFault>
-        ensures { ReadsAs (quoted text.now) result }
+    fn taken_as_text(alloc: Global, text: &str) -> Result<Content, ParseFault>
+        ensures { ReadsAs (taken_as_text text.now) result }
     {
         if text.len() > MAX_TEXT {
             return Err(ParseFault::TooLong);

@@ -57,7 +57,7 @@ pub enum Sign {
     Minus,
 }
 
-/// An input cell of a what-if, and the cell whose value replaces it.
+/// An input cell of a what-if, and its replacement cell, whose value it gets.
 #[derive(Clone, Copy, PartialEq, Eq, Debug)]
 pub struct Pair {
     pub input: Reference,
@@ -76,7 +76,7 @@ pub enum Expr {
     /// A hundredth of its operand.
     Percent(Box<Expr>),
     Binary(Operator, Box<Expr>, Box<Expr>),
-    /// The value of a cell if the inputs had the values of other cells.
+    /// The value of a formula cell, if each input had the value of its replacement cell.
     WhatIf(Reference, Vec<Pair>),
     /// A function by its name in capitals, with its parameters.
     Call(Text, Vec<Expr>),

@@ -207,7 +207,7 @@ fn push_rectangles(expr: &Expr, rectangles: &mut Vec<Rect>) -> Result<(), AllocE
         }
         Expr::WhatIf(formula_cell, pairs) => {
             rectangles.push(cell_area(formula_cell.at))?;
-            push_replacing(pairs, rectangles)
+            push_replacement_cells(pairs, rectangles)
         }
         Expr::Call(_, parameters) => push_all_rectangles(parameters, rectangles),
     }
@@ -225,7 +225,7 @@ fn push_all_rectangles(trees: &[Expr], rectangles: &mut Vec<Rect>) -> Result<(),
 }
 
 // Appends the rectangles of the replacement cells of pairs.
-fn push_replacing(pairs: &[Pair], rectangles: &mut Vec<Rect>) -> Result<(), AllocError>
+fn push_replacement_cells(pairs: &[Pair], rectangles: &mut Vec<Rect>) -> Result<(), AllocError>
     ensures { IfOk result (λ _. rectangles.new.items ≡ rectangles.old.items ++ map (λ p. cell_area p.1.at) (map pair_of pairs.now)) }
 {
     for pair in pairs {

@@ -10,8 +10,8 @@ use crate::fault::ParseFault;
 use crate::words::Words;
 use std::alloc::Global;
 
-/// What stands after the name of a what-if: in parentheses a formula cell, and one input or two, each with the cell
-/// whose value replaces it.
+/// What stands after the name of a what-if: in parentheses a formula cell, and one input or two, each with its
+/// replacement cell.
 #[tactic(auto, unfolding(crate::specs::Reader::what_if_at))]
 pub fn what_if(alloc: Global, words: &mut Words<'_>) -> Result<Expr, ParseFault>
     ensures finds { Finds (what_if_at words.old) result words.new }
@@ -50,7 +50,7 @@ fn formula_cell(words: &mut Words<'_>) -> Option<Reference>
     words.take_reference()
 }
 
-// An input, and the cell whose value replaces it.
+// An input, and its replacement cell.
 #[tactic(auto, unfolding(crate::specs::Reader::pair_at))]
 fn pair(words: &mut Words<'_>) -> Option<Pair>
     ensures finds { MatchOption result (pair_at words.old ≡ None) (λ p. pair_at words.old ≡ Some (pair_of p, words.new)) }

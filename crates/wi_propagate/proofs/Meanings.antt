@@ -18,9 +18,9 @@ use Rattle.wi_propagate.specs.CellValue.{replacements}
 abbrev pub ReadsNoMore : ℕ → List (ℕ × ℕ) → Tree → Type 0
 ReadsNoMore f pairs t = (reads t f ≡ true) × ((a : ℕ) → list_any (λ p. p.1 == a) pairs ≡ true → reads t a ≡ true)
 
-replacing : (pairs : List (Reference × Reference)) (a : ℕ) → list_any (λ p. p.1 == a) (map addresses pairs) ≡ list_any (λ p. p.1.at == a) pairs
-replacing [] a = refl
-replacing (p ∷ ps) a = ap (λ (b : Bool). (p.1.at == a) || b) (replacing ps a)
+replacement_cells : (pairs : List (Reference × Reference)) (a : ℕ) → list_any (λ p. p.1 == a) (map addresses pairs) ≡ list_any (λ p. p.1.at == a) pairs
+replacement_cells [] a = refl
+replacement_cells (p ∷ ps) a = ap (λ (b : Bool). (p.1.at == a) || b) (replacement_cells ps a)
 
 -- assignments that agree on what a tree reads, and on what-ifs that read no more than it does, give it one meaning
 pub meaning_same : (t : Tree) (g h : ℕ → Value) (w v : ℕ → List (ℕ × ℕ) → Value) → ((a : ℕ) → reads t a ≡ true → g a ≡ h a) →
@@ -38,7 +38,7 @@ meaning_same (binary op t u) g h w v k l =
     ∙ ap (λ (x : Value). operate op (meaning t h v) x)
     (meaning_same u g h w v (λ a r. k a (or_right (reads t a) (reads u a) r)) (λ f ps i. l f ps (or_right (reads t f) (reads u f) i.0, λ a r. or_right (reads t a) (reads u a) (i.1 a r))))
 meaning_same (what_if f ps) g h w v k l =
-    l f.at (map addresses ps) (or_left (f.at == f.at) _ (eq-eqb f.at f.at refl), λ a r. or_right (f.at == a) _ (sym (replacing ps a) ∙ r))
+    l f.at (map addresses ps) (or_left (f.at == f.at) _ (eq-eqb f.at f.at refl), λ a r. or_right (f.at == a) _ (sym (replacement_cells ps a) ∙ r))
 meaning_same (call f ts) g h w v k l = refl
 
 abbrev with : ℕ → Value → List Replacement → List Replacement

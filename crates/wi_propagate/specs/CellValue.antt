@@ -21,8 +21,8 @@ value_of (Some (Formula t)) of_formula = of_formula t
 abbrev pub replacements : (ℕ → Value) → List (ℕ × ℕ) → List Replacement
 replacements cells pairs = map (λ p. record { at = p.0; value = cells p.1 }) pairs
 
--- A cell's value, by at most k formulas one below the other. In a what-if all replacing values are taken in the sheet
--- as it stands, and its formula cell then has its value in the sheet with them put in.
+-- A cell's value, by at most k formulas one below the other. In a what-if the values of all replacement cells are taken in
+-- the sheet as it stands, and its formula cell then has its value in the sheet with them put in.
 unfoldable pub value_within : ℕ → Sheet → ℕ → Value
 value_within zero s c =
     if circular s c then Fault Circular else value_of (content_of s c) (λ t. Fault Circular)

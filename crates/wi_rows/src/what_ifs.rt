@@ -262,7 +262,7 @@ fn shows_what_was_worked_out_by_hand(rt: HostRuntime) -> Result<(), Fail> {
                 "ok\nok\nok\nok\nok\nok\nok\nok\nok\nok\nok\n\"72\",\"72\"\r\n\"22\",\"88\"\r\n\
                  \"110\",\"77\"\r\nok\n",
             ),
-            // an input that is read by two ways, and one that the replacing formula reads
+            // an input that is read by two ways, and one that the replacement cell reads
             (
                 "set B1 10\n\
                  set C1 =[.B1]+1\n\

@@ -23,7 +23,7 @@ column_of a = a % columns
 
 -- ---- rectangles
 
--- a rectangle, by its upper left and its lower right
+-- a rectangle, by its upper left and its lower right: what a `Rect` of the code is seen as
 pub record Area : Type 0 where
   pub first : ℕ
   pub last : ℕ

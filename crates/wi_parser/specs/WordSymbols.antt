@@ -1,4 +1,4 @@
--- What the code's words stand for.
+-- The symbols that the code's words stand for.
 use Rattle.std.specs.Prelude.{List, map}
 use Rattle.wi_parser.specs.declared.word.Word.{Word}
 use Rattle.wi_parser.specs.declared.word.Word.TheVariants.{Number, Text, Cell, Rectangle, Open, Close, Separator, Infix, Percent, WhatIf, Refused, Name}

@@ -1,7 +1,7 @@
 use Rattle.std.proofs.Common.{◌≡◌, ◌++◌, map, drop}
 use Rattle.wi_parser.specs.View.{pair_of}
 use Rattle.wi_parser.specs.Reads.{cell_area}
-use Rattle.wi_parser.proofs.formula.push_replacing.Given as goal
+use Rattle.wi_parser.proofs.formula.push_replacement_cells.Given as goal
 
 abbrev pub invariant-loop-pair : goal.invariant-loop-pair
 invariant-loop-pair l =
