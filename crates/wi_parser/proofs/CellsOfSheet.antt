@@ -1,56 +1,34 @@
 -- The cell of a reference in the sheet is written with its column and row, which stand for its address.
-use Rattle.std.proofs.Common.{◌≡◌, ℕ, zero, suc, ◌+◌, ◌-◌, ◌*◌, ◌/◌, ◌%◌, ◌<◌, ◌^◌, Bool, true, false, ◌&&◌, nat_lt, List, [], ◌∷◌, ◌++◌, length, Option, Some, None, Ok, Err, ok_or, option_map, if◌then◌else◌, refl, sym, ap, ◌∙◌, arith, length-append}
+use Rattle.std.proofs.Common.{◌≡◌, ℕ, ◌+◌, ◌*◌, ◌<◌, ◌^◌, Bool, true, false, ◌&&◌, nat_lt, List, [], ◌∷◌, ◌++◌, length, Option, Some, None, Ok, Err, ok_or, option_map, if◌then◌else◌, refl, sym, ap, ◌∙◌, arith}
 use Rattle.std.proofs.lemmas.Bool.Decides.{nat_tests}
 use Rattle.std.proofs.lemmas.Fmt.{decimal_is_IsNumeral, first_decimal}
 use Rattle.std.proofs.Math.Seq.{take-append_seam, drop-append_seam}
 use Rattle.std.specs.Char.{is_ascii_alphabetic, is_ascii_digit}
 use Rattle.std.specs.Fmt.{decimal}
 use Rattle.std.specs.List.{list_all, prefix_len}
-use Rattle.std.specs.Str.{all_ascii_digits}
 use Rattle.std.specs.Str.Parse.{IsNumeral}
 use Rattle.wi_fraction.proofs.Scanning.{own}
-use Rattle.wi_values.specs.Address.{columns, rows, row_of, column_of, letters_within, column_letters, address_text, is_row_number}
+use Rattle.wi_values.specs.Address.{columns, rows, row_of, column_of, column_letters, address_text, is_row_number}
 use Rattle.wi_values.specs.AddressReading.{address_at, read_address}
 use Rattle.wi_values.specs.declared.address.AddressFault.TheVariants.{Shape, Outside}
-use Rattle.wi_values.proofs.Letters.{letters_at_most_none, letters_of_none, letters_more}
-use Rattle.wi_values.proofs.ReadsBack.{addresses_read_back}
+use Rattle.wi_values.proofs.Digits.{digits_same}
+use Rattle.wi_values.proofs.ReadsBack.{addresses_read_back, letters_are, letters_some}
 use Rattle.wi_lexer.specs.Runs.{IsRun}
 use Rattle.wi_lexer.specs.Cell.{IsCell}
-use Rattle.wi_lexer.proofs.RunLemmas.{both_are_true, run_stops, run_more, all_append}
+use Rattle.wi_lexer.proofs.RunLemmas.{both_are_true, run_stops, run_more}
 use Rattle.wi_parser.specs.declared.expr.Reference.{Reference}
 use Rattle.wi_parser.specs.Printing.{cell_named}
 use Rattle.wi_parser.specs.Shift.{in_sheet}
 use Rattle.wi_parser.specs.FormulaText.{reference_to}
-
-pub digits_same : (ds : List ℕ) → all_ascii_digits ds ≡ list_all is_ascii_digit ds
-digits_same [] = refl
-digits_same (d ∷ ds) = ap (λ b. is_ascii_digit d && b) (digits_same ds)
 
 pub digits_run : (ds : List ℕ) → IsNumeral 10 ds → IsRun is_ascii_digit ds
 digits_run ds h = record { some = h.0; all = sym (digits_same ds) ∙ own.from ds h.1 }
 
 -- ---- the column, and the row
 
-capital : (n : ℕ) → n < 26 → is_ascii_alphabetic (65 + n) ≡ true
-capital n h = grind (arith, nat_tests)
-
-letters_are : (k n : ℕ) → list_all is_ascii_alphabetic (letters_within k n) ≡ true
-letters_are zero n = ap (list_all is_ascii_alphabetic) (letters_at_most_none n)
-letters_are (suc k) zero = ap (list_all is_ascii_alphabetic) (letters_of_none (suc k))
-letters_are (suc k) (suc n) =
-    let left = (suc n - 1) / 26 in
-    let last = 65 + (suc n - 1) % 26 in
-    let fewer : suc k - 1 ≡ k = omega arith in
-    let front = ap (λ j. list_all is_ascii_alphabetic (letters_within j left)) fewer ∙ letters_are k left in
-    ap (list_all is_ascii_alphabetic) (letters_more (suc k) (suc n) (omega arith) (omega arith))
-    ∙ all_append is_ascii_alphabetic (letters_within (suc k - 1) left) (last ∷ []) front (ap (λ b. b && true) (capital ((suc n - 1) % 26) (omega arith)))
-
 column_is : (column : ℕ) → IsRun is_ascii_alphabetic (column_letters column)
 column_is column =
-    let left = letters_within 2 ((column + 1 - 1) / 26) in
-    let last = (65 + (column + 1 - 1) % 26) ∷ [] in
-    let long = ap length (letters_more 3 (column + 1) (omega arith) (omega arith)) in
-    record { some = omega (arith, long, length-append left last); all = letters_are 3 (column + 1) }
+    record { some = letters_some 3 (column + 1) (omega arith) (omega arith); all = letters_are 3 (column + 1) }
 
 short : (row : ℕ) → row < rows → row + 1 < 2 ^ 64
 short row h = omega arith

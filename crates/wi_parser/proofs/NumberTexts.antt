@@ -7,9 +7,10 @@ use Rattle.std.specs.Str.Parse.{AllDigits, IsNumeral}
 use Rattle.wi_fraction.specs.Written as fraction
 use Rattle.wi_fraction.specs.Written.{WritesDigits, WritesExponent, IsWritten, writes}
 use Rattle.wi_fraction.proofs.Scanning.{own}
+use Rattle.wi_values.proofs.Digits.{digits_same}
 use Rattle.wi_lexer.specs.Runs.{IsRun}
 use Rattle.wi_lexer.specs.Number.{IsDecimalText, whole, decimal, IsExponent, unsigned, signed, is_exponent_letter, is_sign, IsNumberText, plain, scaled}
-use Rattle.wi_parser.proofs.CellsOfSheet.{digits_same, digits_run}
+use Rattle.wi_parser.proofs.CellsOfSheet.{digits_run}
 
 all_digits : (ds : List ℕ) → list_all is_ascii_digit ds ≡ true → AllDigits 10 ds
 all_digits ds h = own.to ds (digits_same ds ∙ h)

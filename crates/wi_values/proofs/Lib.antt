@@ -1,4 +1,5 @@
 pub mod Corners
+pub mod Digits
 pub mod Equal
 pub mod Fields
 pub mod Letters

@@ -4,27 +4,24 @@ use Rattle.std.proofs.Math.Seq.{take-append_seam, drop-append_seam}
 use Rattle.std.proofs.lemmas.Bool.Decides.{nat_tests}
 use Rattle.std.proofs.lemmas.Fmt.{decimal_is_IsNumeral, decimal_nonempty, first_decimal}
 use Rattle.std.proofs.lemmas.List.Recursion.{and_push}
-use Rattle.std.proofs.lemmas.Str.Parse.{IsNumeralModel, numerals_by_value, tells_all_ascii_digits}
 use Rattle.std.specs.Char.{is_ascii_alphabetic, is_ascii_digit, to_ascii_uppercase}
 use Rattle.std.specs.Fmt.{decimal}
 use Rattle.std.specs.List.{list_all, prefix_len}
 use Rattle.std.specs.Str.{all_ascii_digits}
 use Rattle.std.specs.Str.Parse.{digits_value}
+use Rattle.wi_fraction.proofs.Scanning.{own}
 use Rattle.wi_values.proofs.Letters.{letters_at_most_none, letters_of_none, letters_more}
 use Rattle.wi_values.specs.Address.{columns, rows, place, row_of, column_of, letters_value, letters_value_after, letters_within, column_letters, address_text, is_row_number}
 use Rattle.wi_values.specs.AddressReading.{cell_at, address_at, read_address}
 use Rattle.wi_values.specs.declared.address.AddressFault.TheVariants.{Outside}
 use Rattle.wi_values.specs.Laws.{AddressesReadBack}
 
-own : IsNumeralModel (λ ds. all_ascii_digits ds ≡ true) (digits_value 10)
-own = numerals_by_value _ tells_all_ascii_digits
-
 -- a letter of a column
 capital : (n : ℕ) → n < 26 → (to_ascii_uppercase (65 + n) - 64 ≡ n + 1) × (is_ascii_alphabetic (65 + n) ≡ true)
 capital n h = (grind (arith, nat_tests), grind (arith, nat_tests))
 
 -- the letters of a column are letters, and stand for its number
-letters_are : (k n : ℕ) → list_all is_ascii_alphabetic (letters_within k n) ≡ true
+pub letters_are : (k n : ℕ) → list_all is_ascii_alphabetic (letters_within k n) ≡ true
 letters_are zero n = rw letters_at_most_none refl
 letters_are (suc k) zero = rw (letters_of_none (suc k)) refl
 letters_are (suc k) (suc n) =
@@ -52,7 +49,7 @@ letters_value-within (suc k) (suc n) h =
     let others : letters_value_after 0 (letters_within k ((suc n - 1) / 26)) ≡ (suc n - 1) / 26 = letters_value-within k ((suc n - 1) / 26) (omega arith) in
     rw (more, fewer, value_pushed 0 (letters_within k ((suc n - 1) / 26)) (65 + (suc n - 1) % 26), others, (capital _ last).0) (omega arith)
 
-letters_some : (k n : ℕ) → 0 < k → 0 < n → 0 < length (letters_within k n)
+pub letters_some : (k n : ℕ) → 0 < k → 0 < n → 0 < length (letters_within k n)
 letters_some k n h i = rw (letters_more k n h i, length-append) (omega arith)
 
 scan : (cs rest : List ℕ) → list_all is_ascii_alphabetic cs ≡ true → prefix_len is_ascii_alphabetic rest ≡ 0 → prefix_len is_ascii_alphabetic (cs ++ rest) ≡ length cs
