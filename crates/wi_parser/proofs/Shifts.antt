@@ -4,7 +4,6 @@ use Rattle.std.specs.List.{list_all}
 use Rattle.std.proofs.lemmas.Bool.Decides.{nat_tests}
 use Rattle.std.proofs.lemmas.Int.{ints}
 use Rattle.wi_values.specs.Address.{columns, rows, place, row_of, column_of}
-use Rattle.wi_parser.specs.declared.expr.Corners.{Corners}
 use Rattle.wi_parser.specs.declared.expr.Reference.{Reference}
 use Rattle.wi_parser.specs.Tree.{Tree, Trees, number, text, cell, rectangle, parenthesized, signed, percent, binary, what_if, call, no_trees, more_trees, trees_of}
 use Rattle.wi_parser.specs.Symbol.{Symbol}

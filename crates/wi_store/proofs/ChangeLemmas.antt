@@ -14,7 +14,7 @@ use Rattle.wi_parser.specs.declared.content.Content.{Content}
 use Rattle.wi_store.specs.Store.{edited}
 use Rattle.wi_store.specs.Rooms.{Rooms, sheet_in, room_of, HasNoVacancy, VacantOnlyAt, HasRoomFor}
 use Rattle.wi_store.specs.Exchange.{stood, restored}
-use Rattle.wi_store.proofs.RoomLemmas.{Ascends, content_of-sheet_in}
+use Rattle.wi_store.proofs.RoomLemmas.{Ascends}
 use Rattle.wi_store.proofs.ExchangeLemmas.{nothing_stands, count, length-with_content}
 
 abbrev pub Changes : Type 0

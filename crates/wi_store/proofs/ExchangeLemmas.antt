@@ -1,9 +1,9 @@
 -- Laws of exchanging contents: in rooms, in the sheet, and back.
-use Rattle.std.proofs.Common.{◌≡◌, ℕ, ◌+◌, ◌<◌, ◌==◌, Bool, true, false, cond, List, [], ◌∷◌, ◌++◌, filter, length, not, Option, Some, None, refl, sym, ap, ◌∙◌, subst, arith, ⊎_elim, inl, inr, ◌⊎◌}
+use Rattle.std.proofs.Common.{◌≡◌, ℕ, ◌+◌, ◌<◌, ◌==◌, Bool, true, false, cond, List, [], ◌∷◌, length, not, Option, Some, None, refl, sym, ap, ◌∙◌, subst, arith, ⊎_elim, inl, inr, ◌⊎◌}
 use Rattle.std.specs.Option.{option_flatten, is_some}
 use Rattle.std.specs.Ordering.{nat_cmp}
 use Rattle.std.specs.declared.cmp.Ordering.TheVariants.{Less, Equal, Greater}
-use Rattle.std.specs.Map.{lookup, keys_of, set_value, remove_entry}
+use Rattle.std.specs.Map.{set_value, remove_entry}
 use Rattle.std.specs.BTreeMap.{is_at, insert_entry}
 use Rattle.std.proofs.lemmas.Bool.{cases_order, cases_eq}
 use Rattle.std.proofs.lemmas.Bool.Decides.{nat_tests}
@@ -12,7 +12,7 @@ use Rattle.wi_parser.specs.declared.content.Content.{Content}
 use Rattle.wi_store.specs.Store.{edited}
 use Rattle.wi_store.specs.Rooms.{Rooms, sheet_in, room_of}
 use Rattle.wi_store.specs.Exchange.{stood, restored}
-use Rattle.wi_store.proofs.RoomLemmas.{ComeAfter, Ascends, come_after_earlier, is_at_same, is_at_other, is_at_earlier, lookup_after, ComeAfter-sheet_in, Ascends-sheet_in, content_of-sheet_in}
+use Rattle.wi_store.proofs.RoomLemmas.{ComeAfter, Ascends, come_after_earlier, is_at_same, is_at_earlier, lookup_after, ComeAfter-sheet_in, Ascends-sheet_in, content_of-sheet_in}
 
 -- ---- one content put into a sheet, by where its cell stands
 

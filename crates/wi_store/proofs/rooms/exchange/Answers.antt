@@ -1,11 +1,10 @@
-use Rattle.std.proofs.Common.{◌≡◌, ◌≢◌, ℕ, Some, None, Option, sym, ap, ◌∙◌}
+use Rattle.std.proofs.Common.{◌≡◌, None, Option, sym, ap, ◌∙◌}
 use Rattle.std.specs.Option.{option_flatten, is_some}
 use Rattle.std.specs.Ordering.{nat_cmp}
 use Rattle.std.specs.Map.{set_value}
 use Rattle.std.specs.BTreeMap.{is_at}
-use Rattle.wi_parser.specs.Sheet.{content_of, with_content}
 use Rattle.wi_parser.specs.declared.content.Content.{Content}
-use Rattle.wi_store.specs.Rooms.{Rooms, sheet_in, room_of, IsInOrder}
+use Rattle.wi_store.specs.Rooms.{Rooms, sheet_in, room_of}
 use Rattle.wi_store.proofs.RoomLemmas.{Ascends-from_order, content_of-sheet_in}
 use Rattle.wi_store.proofs.ExchangeLemmas.{sheet_in-set_value, is_at_apart, none_kept, nothing_stands, nothing_put}
 use Rattle.wi_store.proofs.rooms.exchange.Goals as goal

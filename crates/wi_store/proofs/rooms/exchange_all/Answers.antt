@@ -1,4 +1,4 @@
-use Rattle.std.proofs.Common.{◌≡◌, ◌+◌, ◌<◌, length, sym, ◌∙◌, arith}
+use Rattle.std.proofs.Common.{◌<◌, length, sym, ◌∙◌, arith}
 use Rattle.wi_store.specs.Store.{edited}
 use Rattle.wi_store.specs.Rooms.{sheet_in}
 use Rattle.wi_store.specs.Exchange.{stood}

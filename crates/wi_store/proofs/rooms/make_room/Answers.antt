@@ -1,4 +1,4 @@
-use Rattle.std.proofs.Common.{◌≡◌, ◌<◌, ℕ, length, refl, ap, ◌∙◌, arith}
+use Rattle.std.proofs.Common.{◌≡◌, ◌<◌, length, refl, ap, ◌∙◌, arith}
 use Rattle.std.proofs.lemmas.Result.{IfOk-at_ok}
 use Rattle.wi_store.specs.Rooms.{sheet_in, HasRoomFor}
 use Rattle.wi_store.proofs.RoomLemmas.{Ascends-from_order, length-sheet_in}

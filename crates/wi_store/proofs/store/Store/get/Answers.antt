@@ -1,4 +1,4 @@
-use Rattle.std.proofs.Common.{◌≡◌, sym, ap, ◌∙◌, Option}
+use Rattle.std.proofs.Common.{sym, ap, ◌∙◌, Option}
 use Rattle.std.specs.Option.{option_flatten}
 use Rattle.wi_parser.specs.Sheet.{content_of}
 use Rattle.wi_parser.specs.declared.content.Content.{Content}
