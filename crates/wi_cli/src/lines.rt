@@ -1,7 +1,6 @@
 //! The lines of a source.
 
-ghost use Rattle.std.specs.Prelude.{◌++◌, ◌∷◌, [], List, ℕ, ◌≡◌, ◌+◌, ◌<◌, ◌≤◌, length, false, true, MatchResult, IfOk, vec_capacity, Err, is_err, OnOk};
-ghost use Rattle.wi_cli.specs.Ahead.{budget};
+ghost use Rattle.std.specs.Prelude.{◌++◌, ◌∷◌, [], List, ℕ, ◌≡◌, ◌+◌, ◌<◌, ◌≤◌, false, true, MatchResult, vec_capacity, Err, OnOk};
 ghost use Rattle.wi_cli.specs.Reading.{TookLine, Broke, front};
 
 use crate::chunk::Chunk;

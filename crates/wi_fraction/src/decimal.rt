@@ -1,6 +1,6 @@
 // The exact decimal of any number of places.
 
-ghost use Rattle.std.specs.Prelude.{◌≡◌, ◌+◌, ◌*◌, ◌/◌, ◌%◌, ◌^◌, ◌<◌, ◌≤◌, ◌++◌, OnOk, OnErr, IfSome, string_bytes};
+ghost use Rattle.std.specs.Prelude.{◌≡◌, ◌+◌, ◌*◌, ◌/◌, ◌%◌, ◌^◌, ◌<◌, ◌≤◌, ◌++◌, OnOk, OnErr, string_bytes};
 ghost use Rattle.std.specs.Io.{StartsWith};
 ghost use Rattle.wi_fraction.specs.Number.{max_size};
 ghost use Rattle.wi_fraction.specs.Text.{sign_text, size_text, padded};

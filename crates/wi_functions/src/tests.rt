@@ -1,7 +1,5 @@
 //! Formulas over one cell and one what-if.
 
-ghost use Rattle.std.specs.Prelude.{◌≡◌};
-
 use super::{Answer, Lookup, Meter, Outcome, Want, evaluate};
 use std::alloc::Global;
 use std::test::Fail;

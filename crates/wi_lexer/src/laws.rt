@@ -1,6 +1,6 @@
 //! Laws of the tokens alone.
 
-ghost use Rattle.std.specs.Prelude.{◌≡◌, ◌↔◌, ℕ, ◌≤◌, true, List, [], ◌∷◌, ◌++◌, length, take, Some, None};
+ghost use Rattle.std.specs.Prelude.{◌≡◌, ◌↔◌, ℕ, true, List, [], ◌∷◌, ◌++◌, Some, None};
 ghost use Rattle.wi_lexer.specs.Cell.{Cell, IsCell, cell_text, cell_of};
 ghost use Rattle.wi_lexer.specs.Reference.{reference_text, reference_of};
 ghost use Rattle.wi_lexer.specs.Rectangle.{rectangle_text, rectangle_of};

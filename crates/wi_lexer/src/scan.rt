@@ -1,6 +1,6 @@
 // Where the parts of tokens end.
 
-ghost use Rattle.std.specs.Prelude.{◌≡◌, ℕ, length, slice_index, ◌<◌, ◌≤◌};
+ghost use Rattle.std.specs.Prelude.{◌≡◌, length, slice_index, ◌<◌, ◌≤◌};
 ghost use Rattle.wi_lexer.specs.Runs as runs;
 ghost use Rattle.wi_lexer.specs.Number as number;
 ghost use Rattle.wi_lexer.specs.Reference as reference;

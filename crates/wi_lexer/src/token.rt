@@ -1,6 +1,6 @@
 //! What a token is.
 
-ghost use Rattle.std.specs.Prelude.{◌≡◌, length};
+ghost use Rattle.std.specs.Prelude.{◌≡◌};
 ghost use Rattle.wi_lexer.specs.Mark.{mark_text};
 
 /// The kinds of tokens, as in OpenFormula, "Expression Syntax".

@@ -1,6 +1,6 @@
 //! From a text to a formula.
 
-ghost use Rattle.std.specs.Prelude.{◌≡◌, ◌+◌, Ok, IfOk};
+ghost use Rattle.std.specs.Prelude.{◌+◌, Ok, IfOk};
 ghost use Rattle.wi_parser.specs.WordSymbols.{all_meant};
 ghost use Rattle.wi_parser.specs.Nesting.{max_depth};
 ghost use Rattle.wi_parser.specs.Grammar.{Spells, loosest};

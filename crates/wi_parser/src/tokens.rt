@@ -2,7 +2,7 @@
 
 ghost use Rattle.std.specs.Prelude.{◌≡◌, ◌++◌, IfOk};
 ghost use Rattle.wi_lexer.specs.Tokens.{tokens};
-ghost use Rattle.wi_parser.specs.WordSymbols.{meant_by, all_meant};
+ghost use Rattle.wi_parser.specs.WordSymbols.{all_meant};
 ghost use Rattle.wi_parser.specs.FormulaText.{formula_symbols, symbols_of};
 
 use crate::fault::ParseFault;

@@ -2,10 +2,8 @@
 
 ghost use Rattle.std.specs.Prelude.{◌≡◌, IfOk};
 ghost use Rattle.wi_parser.specs.WordSymbols.{meant_by};
-ghost use Rattle.wi_parser.specs.Symbol.{refused};
 ghost use Rattle.wi_parser.specs.FormulaText.{symbol_of, name_symbol, reference_to, reference_symbol, rectangle_symbol, mark_symbol};
 ghost use Rattle.wi_lexer.specs.Cell.{parts};
-ghost use Rattle.wi_lexer.specs.Reference as spec;
 
 use crate::expr::{Corners, Operator, Reference};
 use crate::fault::ParseFault;
