@@ -5,22 +5,25 @@ use Rattle.std.proofs.lemmas.Bool.Decides.{nat_tests}
 use Rattle.std.proofs.lemmas.List.Folds.{list_any-append}
 use Rattle.std.specs.List.{list_any}
 use Rattle.std.specs.Ordering.{nat_cmp}
-use Rattle.std.specs.BTreeMap.{BTreeMap, get, is_at, Updates}
+use Rattle.std.specs.BTreeMap.{BTreeMap, get, is_at, Updates, IsEmpty}
+use Rattle.wi_parser.specs.declared.content.Content.TheVariants.{Constant, Formula}
+use Rattle.wi_parser.specs.declared.content.Content.{Content}
+use Rattle.wi_parser.specs.Tree.{Tree}
 use Rattle.wi_parser.specs.Sheet.{Sheet, content_of, has_formula}
 use Rattle.wi_parser.specs.Reads.{content_reads}
 use Rattle.wi_propagate.specs.Circular.{circular}
 use Rattle.wi_propagate.specs.Reach.{is_one_of, Reaches}
 use Rattle.wi_propagate.specs.ReadCells.{read_by}
 use Rattle.wi_propagate.specs.ReadOrder.{IsReadOrder, MayFollow}
-use Rattle.wi_propagate.specs.Walk.{cell_of, leaves, has_task, has_leave, LeadsTo, IsOpen, EachLeave, mark_of, IsWalk}
+use Rattle.wi_propagate.specs.Walk.{cell_of, leaves, has_task, has_leave, LeadsTo, IsOpen, EachLeave, mark_of, IsWalk, IsBelow, read_by}
 use Rattle.wi_propagate.specs.declared.walk.Mark.{Mark}
 use Rattle.wi_propagate.specs.declared.walk.Mark.TheVariants.{Open, Done}
 use Rattle.wi_propagate.specs.declared.walk.Task.{Task}
 use Rattle.wi_propagate.specs.declared.walk.Task.TheVariants.{Enter, Leave}
 use Rattle.wi_propagate.proofs.Walks.{same_cell}
 use Rattle.wi_propagate.proofs.Loops.{loop_circular, reaches_circular, reaches-step}
-use Rattle.wi_propagate.proofs.ReadLists.{listed, reads_listed}
-use Rattle.wi_propagate.proofs.ReadOrders.{order-push, order_clear}
+use Rattle.wi_propagate.proofs.ReadLists.{listed, reads_listed, listed_is_read, formula_listed}
+use Rattle.wi_propagate.proofs.ReadOrders.{order-push, order_clear, no_order}
 use Rattle.wi_propagate.proofs.Ends.{ends_open}
 
 -- ---- tasks one after another
@@ -66,12 +69,21 @@ some_leave P t c (Leave a ∷ ts) e h = at (or_cases (a == c) (has_leave ts c) h
 
 -- ---- a cycle
 
+some_circular : (s : Sheet) (xs : List ℕ) (c : ℕ) → is_one_of xs c ≡ true → circular s c ≡ true → list_any (circular s) xs ≡ true
+some_circular s [] c m h = cc
+some_circular s (x ∷ xs) c m h = at (or_cases (x == c) _ m) (some_circular s xs c)
+  where
+    at : ((x == c) ≡ true) ⊎ (is_one_of xs c ≡ true) → (is_one_of xs c ≡ true → circular s c ≡ true → list_any (circular s) xs ≡ true) → list_any (circular s) (x ∷ xs) ≡ true
+    at (inl k) ih = or_left (circular s x) _ (ap (circular s) (same_cell c x k) ∙ h)
+    at (inr k) ih = or_right (circular s x) _ (ih k h)
+
 -- a cell that is to be entered and still to be left leads to itself
-pub walk-cycle : (s : Sheet) (root c : ℕ) (ts : List Task) (marks : BTreeMap ℕ Mark) (order : List ℕ) → IsWalk s root (ts ++ Enter c ∷ []) marks order → get nat_cmp marks c ≡ Some Open → circular s root ≡ true
-walk-cycle s root c ts marks order w m =
+pub walk-cycle : (s : Sheet) (roots : List ℕ) (c : ℕ) (ts : List Task) (marks : BTreeMap ℕ Mark) (order : List ℕ) → IsWalk s roots (ts ++ Enter c ∷ []) marks order → get nat_cmp marks c ≡ Some Open → list_any (circular s) roots ≡ true
+walk-cycle s roots c ts marks order w m =
     let left = some_leave (IsOpen s order) (Enter c) c ts w.waiting (is_open (is_one_of order c) (has_leave (ts ++ Enter c ∷ []) c) (leave_parts ts (Enter c ∷ []) c) (sym (w.marked c) ∙ m)) in
     let loop = left.1.leads c (task_back left.0 (Enter c ∷ []) c (is_of_one (Enter c))) in
-    reaches_circular s root c (w.reached c (task_back ts (Enter c ∷ []) c (is_of_one (Enter c)))) (loop_circular s c loop)
+    let from = w.reached c (task_back ts (Enter c ∷ []) c (is_of_one (Enter c))) in
+    some_circular s roots from.0 from.1 (reaches_circular s from.0 c from.2 (loop_circular s c loop))
   where
     either : (b : Bool) → (b || false) ≡ true → b ≡ true
     either true h = refl
@@ -117,13 +129,13 @@ waiting-passed s c order p [] e = tt
 waiting-passed s c order p (Enter a ∷ ts) e = waiting-passed s c order p ts e
 waiting-passed s c order p (Leave a ∷ ts) e = (open-passed s c order p a ts e.0, waiting-passed s c order p ts e.1)
 
-pub walk-passed : (s : Sheet) (root c : ℕ) (ts : List Task) (marks : BTreeMap ℕ Mark) (order : List ℕ) → IsWalk s root (ts ++ Enter c ∷ []) marks order → (has_formula (content_of s c) ≡ true → is_one_of order c ≡ true) → IsWalk s root ts marks order
-walk-passed s root c ts marks order w p = record {
+pub walk-passed : (s : Sheet) (roots : List ℕ) (c : ℕ) (ts : List Task) (marks : BTreeMap ℕ Mark) (order : List ℕ) → IsWalk s roots (ts ++ Enter c ∷ []) marks order → (has_formula (content_of s c) ≡ true → is_one_of order c ≡ true) → IsWalk s roots ts marks order
+walk-passed s roots c ts marks order w p = record {
   waiting = waiting-passed s c order p ts w.waiting;
   marked = λ a. w.marked a ∙ ap (λ (b : Bool). if is_one_of order a then Some Done else (if b then Some Open else None)) (leave_parts ts (Enter c ∷ []) a ∙ or_false (has_leave ts a));
   ordered = w.ordered;
   reached = λ d h. w.reached d (task_front ts (Enter c ∷ []) d h);
-  rooted = λ f. without_passed s c order p ts root f (w.rooted f);
+  rooted = λ r m f. without_passed s c order p ts r f (w.rooted r m f);
 }
 
 -- a cell whose mark says so stands in the order
@@ -204,14 +216,14 @@ marks-left : (ts : List Task) (order : List ℕ) (c a : ℕ) → cond (is_at (na
 marks-left ts order c a =
     mark_left (is_at (nat_cmp c) a) (is_one_of (order ++ c ∷ []) a) (has_leave (ts ++ Leave c ∷ []) a) (c == a) (is_one_of order a) (has_leave ts a) (at_key c a) (order_parts order c a) (leave_parts ts (Leave c ∷ []) a)
 
-pub walk-left : (s : Sheet) (root c : ℕ) (ts : List Task) (old new : BTreeMap ℕ Mark) (order : List ℕ) → IsWalk s root (ts ++ Leave c ∷ []) old order →
-    ((q : ℕ) → get nat_cmp new q ≡ cond (is_at (nat_cmp c) q) (Some Done) (get nat_cmp old q)) → IsWalk s root ts new (order ++ c ∷ [])
-walk-left s root c ts old new order w u = record {
+pub walk-left : (s : Sheet) (roots : List ℕ) (c : ℕ) (ts : List Task) (old new : BTreeMap ℕ Mark) (order : List ℕ) → IsWalk s roots (ts ++ Leave c ∷ []) old order →
+    ((q : ℕ) → get nat_cmp new q ≡ cond (is_at (nat_cmp c) q) (Some Done) (get nat_cmp old q)) → IsWalk s roots ts new (order ++ c ∷ [])
+walk-left s roots c ts old new order w u = record {
   waiting = waiting-left s c order ts w.waiting;
   marked = λ a. u a ∙ ap (λ (m : Option Mark). cond (is_at (nat_cmp c) a) (Some Done) m) (w.marked a) ∙ marks-left ts order c a;
   ordered = order-push s order c w.ordered (may_follow s order c (last_leave (IsOpen s order) c ts w.waiting));
   reached = λ d h. w.reached d (task_front ts (Leave c ∷ []) d h);
-  rooted = λ f. moved order ts c root (w.rooted f);
+  rooted = λ r m f. moved order ts c r (w.rooted r m f);
 }
 
 -- ---- a cell that is entered
@@ -304,9 +316,9 @@ unmarked ts order c h = at (is_one_of order c) (has_leave ts c) refl refl h
     at false true e f h = cc
     at false false e f h = (e, f)
 
-pub walk-entered : (s : Sheet) (root c : ℕ) (ts : List Task) (old new : BTreeMap ℕ Mark) (order : List ℕ) → IsWalk s root (ts ++ Enter c ∷ []) old order → has_formula (content_of s c) ≡ true → get nat_cmp old c ≡ None →
-    ((q : ℕ) → get nat_cmp new q ≡ cond (is_at (nat_cmp c) q) (Some Open) (get nat_cmp old q)) → IsWalk s root (ts ++ Leave c ∷ map Enter (read_by s (content_of s c))) new order
-walk-entered s root c ts old new order w f n u =
+pub walk-entered : (s : Sheet) (roots : List ℕ) (c : ℕ) (ts : List Task) (old new : BTreeMap ℕ Mark) (order : List ℕ) → IsWalk s roots (ts ++ Enter c ∷ []) old order → has_formula (content_of s c) ≡ true → get nat_cmp old c ≡ None →
+    ((q : ℕ) → get nat_cmp new q ≡ cond (is_at (nat_cmp c) q) (Some Open) (get nat_cmp old q)) → IsWalk s roots (ts ++ Leave c ∷ map Enter (read_by s (content_of s c))) new order
+walk-entered s roots c ts old new order w f n u =
     let cells = read_by s (content_of s c) in
     let none = unmarked (ts ++ Enter c ∷ []) order c (sym (w.marked c) ∙ n) in
     let unleft = sym (leave_parts ts (Enter c ∷ []) c ∙ or_false (has_leave ts c)) ∙ none.1 in
@@ -322,31 +334,54 @@ walk-entered s root c ts old new order w f n u =
       marked = λ a. u a ∙ ap (λ (m : Option Mark). cond (is_at (nat_cmp c) a) (Some Open) m) (w.marked a) ∙ marks-entered ts order cells c a none.0;
       ordered = w.ordered;
       reached = λ d h. reached d (entered_cases ts c cells d h);
-      rooted = λ g. kept_or (is_one_of order root) ts c cells root (w.rooted g);
+      rooted = λ r m g. kept_or (is_one_of order r) ts c cells r (w.rooted r m g);
     }
   where
-    here : Reaches s root c
+    here : IsBelow s roots c
     here = w.reached c (task_back ts (Enter c ∷ []) c (is_of_one (Enter c)))
 
-    reached : (d : ℕ) → (has_task ts d ≡ true) ⊎ (c ≡ d) ⊎ (is_one_of (read_by s (content_of s c)) d ≡ true) → Reaches s root d
+    reached : (d : ℕ) → (has_task ts d ≡ true) ⊎ (c ≡ d) ⊎ (is_one_of (read_by s (content_of s c)) d ≡ true) → IsBelow s roots d
     reached d (inl k) = w.reached d (task_front ts (Enter c ∷ []) d k)
-    reached d (inr (inl k)) = subst (Reaches s root) k here
-    reached d (inr (inr k)) = reaches-step s root c d here (listed s (content_of s c) d k)
+    reached d (inr (inl k)) = subst (IsBelow s roots) k here
+    reached d (inr (inr k)) = (here.0, here.1, reaches-step s here.0 c d here.2 (listed s (content_of s c) d k))
 
 -- a cell that is looked at for the first time: it has a formula or none
-pub walk-taken : (s : Sheet) (root c : ℕ) (ts more : List Task) (old new : BTreeMap ℕ Mark) (order : List ℕ) → IsWalk s root (ts ++ Enter c ∷ []) old order → get nat_cmp old c ≡ None → (has_formula (content_of s c) ≡ false → (more ≡ ts) × (new ≡ old)) →
-    (has_formula (content_of s c) ≡ true → more ≡ ts ++ Leave c ∷ map Enter (read_by s (content_of s c))) → (has_formula (content_of s c) ≡ true → Updates nat_cmp old new c (Some Open)) → IsWalk s root more new order
-walk-taken s root c ts more old new order w n plain tasks marks = at (has_formula (content_of s c)) refl
+pub walk-taken : (s : Sheet) (roots : List ℕ) (c : ℕ) (ts more : List Task) (old new : BTreeMap ℕ Mark) (order : List ℕ) → IsWalk s roots (ts ++ Enter c ∷ []) old order → get nat_cmp old c ≡ None → (has_formula (content_of s c) ≡ false → (more ≡ ts) × (new ≡ old)) →
+    (has_formula (content_of s c) ≡ true → more ≡ ts ++ Leave c ∷ map Enter (read_by s (content_of s c))) → (has_formula (content_of s c) ≡ true → Updates nat_cmp old new c (Some Open)) → IsWalk s roots more new order
+walk-taken s roots c ts more old new order w n plain tasks marks = at (has_formula (content_of s c)) refl
   where
-    at : (b : Bool) → has_formula (content_of s c) ≡ b → IsWalk s root more new order
-    at true f = rw (tasks f) (walk-entered s root c ts old new order w f n (marks f).0)
-    at false f = rw ((plain f).0, (plain f).1) (walk-passed s root c ts old order w (λ g. let z = f in cc))
+    at : (b : Bool) → has_formula (content_of s c) ≡ b → IsWalk s roots more new order
+    at true f = rw (tasks f) (walk-entered s roots c ts old new order w f n (marks f).0)
+    at false f = rw ((plain f).0, (plain f).1) (walk-passed s roots c ts old order w (λ g. let z = f in cc))
+
+-- where no cell is circular, the test for one fails
+none_circular : (s : Sheet) (xs : List ℕ) → ((c : ℕ) → is_one_of xs c ≡ true → circular s c ≡ false) → list_any (circular s) xs ≡ false
+none_circular s [] h = refl
+none_circular s (x ∷ xs) h =
+    or_false_from (circular s x) _ (h x (or_left (x == x) _ (eq-eqb x x refl))) (none_circular s xs (λ c m. h c (or_right (x == c) _ m)))
+  where
+    or_false_from : (b d : Bool) → b ≡ false → d ≡ false → (b || d) ≡ false
+    or_false_from true d h k = h
+    or_false_from false d h k = k
 
 -- a walk with nothing before it has met no cycle
-pub walk-ended : (s : Sheet) (root : ℕ) (ts : List Task) (marks : BTreeMap ℕ Mark) (order : List ℕ) → IsWalk s root ts marks order → length ts ≡ 0 → circular s root ≡ false
-walk-ended s root [] marks order w z = at (has_formula (content_of s root)) refl
+pub walk-ended : (s : Sheet) (roots : List ℕ) (ts : List Task) (marks : BTreeMap ℕ Mark) (order : List ℕ) → IsWalk s roots ts marks order → length ts ≡ 0 → list_any (circular s) roots ≡ false
+walk-ended s roots [] marks order w z = none_circular s roots (λ c m. at c m (has_formula (content_of s c)) refl)
   where
-    at : (b : Bool) → has_formula (content_of s root) ≡ b → circular s root ≡ false
-    at true f = order_clear s order w.ordered root (sym (or_false (is_one_of order root)) ∙ w.rooted f)
-    at false f = ends_open 0 s root f
-walk-ended s root (t ∷ ts) marks order w z = absurd (omega arith)
+    at : (c : ℕ) → is_one_of roots c ≡ true → (b : Bool) → has_formula (content_of s c) ≡ b → circular s c ≡ false
+    at c m true f = order_clear s order w.ordered c (sym (or_false (is_one_of order c)) ∙ w.rooted c m f)
+    at c m false f = ends_open 0 s c f
+walk-ended s roots (t ∷ ts) marks order w z = absurd (omega arith)
+
+-- a walk that is to enter each of its roots, with nothing behind it
+pub walk-begun : (s : Sheet) (roots : List ℕ) (marks : BTreeMap ℕ Mark) → IsEmpty marks → IsWalk s roots (map Enter roots) marks []
+walk-begun s roots marks n = record {
+  waiting = entered_waiting (IsOpen s []) roots;
+  marked = λ c. no_mark c ∙ ap (λ (b : Bool). if b then Some Open else None) (sym (entered_leave roots c));
+  ordered = no_order s;
+  reached = λ d h. (d, sym (entered_task roots d) ∙ h, (0, refl));
+  rooted = λ r m f. entered_task roots r ∙ m;
+}
+  where
+    no_mark : (c : ℕ) → get nat_cmp marks c ≡ None
+    no_mark c = rw n refl

@@ -50,13 +50,17 @@ EachLeave P (Leave c ∷ ts) = P c ts × EachLeave P ts
 abbrev pub mark_of : List Task → List ℕ → ℕ → Option Mark
 mark_of ts order c = if is_one_of order c then Some Done else (if has_leave ts c then Some Open else None)
 
--- a walk from the root that has these tasks before it, and this order behind it
-pub record IsWalk (s : Sheet) (root : ℕ) (ts : List Task) (marks : BTreeMap ℕ Mark) (order : List ℕ) : Type 0 where
+-- one of the roots reaches d
+abbrev pub IsBelow : Sheet → List ℕ → ℕ → Type 0
+IsBelow s roots d = (root : ℕ) × (is_one_of roots root ≡ true) × Reaches s root d
+
+-- a walk from the roots that has these tasks before it, and this order behind it
+pub record IsWalk (s : Sheet) (roots : List ℕ) (ts : List Task) (marks : BTreeMap ℕ Mark) (order : List ℕ) : Type 0 where
   pub waiting : EachLeave (IsOpen s order) ts
   pub marked : (c : ℕ) → get nat_cmp marks c ≡ mark_of ts order c
   pub ordered : IsReadOrder s order
-  pub reached : (d : ℕ) → has_task ts d ≡ true → Reaches s root d
-  pub rooted : has_formula (content_of s root) ≡ true → (is_one_of order root || has_task ts root) ≡ true
+  pub reached : (d : ℕ) → has_task ts d ≡ true → IsBelow s roots d
+  pub rooted : (root : ℕ) → is_one_of roots root ≡ true → has_formula (content_of s root) ≡ true → (is_one_of order root || has_task ts root) ≡ true
 
 -- how many tasks a cell that has no mark brings
 abbrev pub tasks_of : Sheet → BTreeMap ℕ Mark → ℕ → ℕ

@@ -1,10 +1,11 @@
 //! Which cells a cell reaches, by a walk along references.
 
-ghost use Rattle.std.specs.Prelude.{◌≡◌, ◌≤◌, ◌++◌, ◌∷◌, [], ℕ, Some, true, false, map, IfOk, IfSome, OnOk};
+ghost use Rattle.std.specs.Prelude.{◌≡◌, ◌≤◌, ◌++◌, ◌∷◌, [], ℕ, List, Some, true, false, map, IfOk, IfSome, OnOk};
 ghost use Rattle.std.specs.BTreeMap.{Updates};
 ghost use Rattle.std.specs.Ordering.{nat_cmp};
 ghost use Rattle.std.specs.Bool.{OnFalse, OnTrue};
 ghost use Rattle.std.specs.Option.{is_none};
+ghost use Rattle.std.specs.List.{list_any};
 ghost use Rattle.wi_parser.specs.Sheet.{content_of, has_formula};
 ghost use Rattle.wi_propagate.specs.Circular as cycles;
 ghost use Rattle.wi_propagate.specs.Reach.{is_one_of};
@@ -49,9 +50,7 @@ struct Walk {
 }
 
 /// The cells with a formula that a cell reaches, itself among them, each once and after those that it reads. None where
-/// the cell is circular. The work grows with the count of those cells and of the formulas in the rectangles that they
-/// read, for each of these with the logarithm of the count, and for each rectangle as that of
-/// `Store::push_formulas_within`.
+/// the cell is circular. The work is that of `reached_from`.
 pub fn reached(
     alloc: Global,
     store: &Store,
@@ -61,9 +60,27 @@ pub fn reached(
     ensures order { IfOk result (λ o. IfSome o (λ r. IsReadOrder store.now.sheet r.items)) }
     ensures root { IfOk result (λ o. IfSome o (λ r. has_formula (content_of store.now.sheet at) ≡ true → is_one_of r.items at ≡ true)) }
 {
+    reached_from(alloc, store, &[at])
+}
+
+/// The cells with a formula that these cells reach, they among them, each once and after those that it reads. None where
+/// one of these cells is circular. The work grows with the count of the cells reached and of the formulas in the rectangles
+/// that they read, for each of these with the logarithm of the count, and for each rectangle as that of
+/// `Store::push_formulas_within`.
+pub fn reached_from(
+    alloc: Global,
+    store: &Store,
+    cells: &[Address],
+) -> Result<Option<Vec<Address>>, AllocError>
+    ensures circular { IfOk result (λ o. is_none o ≡ list_any (cycles.circular store.now.sheet) cells.now) }
+    ensures order { IfOk result (λ o. IfSome o (λ r. IsReadOrder store.now.sheet r.items)) }
+    ensures roots { IfOk result (λ o. IfSome o (λ r. (c : ℕ) → is_one_of cells.now c ≡ true → has_formula (content_of store.now.sheet c) ≡ true → is_one_of r.items c ≡ true)) }
+{
+    let mut tasks = Vec::new(alloc);
+    push_enters(&mut tasks, cells)?;
     let mut walk = Walk {
         alloc,
-        tasks: vec![in alloc; Task::Enter(at)]?,
+        tasks,
         marks: BTreeMap::new(alloc),
         order: Vec::new(alloc),
     };
@@ -78,8 +95,8 @@ pub fn reached(
 impl Walk {
     /// Does a task. Answers whether a cell is to be entered that is still to be left: then it is on a cycle.
     fn meets_cycle(&mut self, store: &Store, task: Task) -> Result<bool, AllocError>
-        ensures cycle { IfOk result (λ b. OnTrue b ((root : ℕ) → IsWalk store.now.sheet root (self.old.tasks.items ++ task ∷ []) self.old.marks self.old.order.items → cycles.circular store.now.sheet root ≡ true)) }
-        ensures walk { IfOk result (λ b. OnFalse b ((root : ℕ) → IsWalk store.now.sheet root (self.old.tasks.items ++ task ∷ []) self.old.marks self.old.order.items → IsWalk store.now.sheet root self.new.tasks.items self.new.marks self.new.order.items)) }
+        ensures cycle { IfOk result (λ b. OnTrue b ((roots : List ℕ) → IsWalk store.now.sheet roots (self.old.tasks.items ++ task ∷ []) self.old.marks self.old.order.items → list_any (cycles.circular store.now.sheet) roots ≡ true)) }
+        ensures walk { IfOk result (λ b. OnFalse b ((roots : List ℕ) → IsWalk store.now.sheet roots (self.old.tasks.items ++ task ∷ []) self.old.marks self.old.order.items → IsWalk store.now.sheet roots self.new.tasks.items self.new.marks self.new.order.items)) }
         ensures less { OnOk result (tasks_left store.now.sheet self.new.marks self.new.tasks.items ≤ tasks_left store.now.sheet self.old.marks self.old.tasks.items) }
     {
         match task {
