@@ -18,10 +18,11 @@ use Rattle.wi_worlds.proofs.InOrder.{sorted_from_order, order_from_entries}
 use Rattle.wi_worlds.proofs.Filtering.{order_of_filter}
 use Rattle.wi_worlds.proofs.Overriding.{overridden-nothing, lookup-overridden}
 use Rattle.wi_propagate.specs.CellValue.{replacements, cell_value, what_if_value}
-use Rattle.wi_propagate.specs.Reach.{reaches}
+use Rattle.wi_propagate.specs.Reach.{Reaches, reaches}
 use Rattle.wi_propagate.specs.Demand.{reaching, puts_of, what_if_world}
 use Rattle.wi_propagate.proofs.Puts.{overlaid, content_of-put_all}
 use Rattle.wi_propagate.proofs.Last.{over}
+use Rattle.wi_propagate.proofs.Agreement.{agree_put_both}
 use Rattle.wi_propagate.proofs.Locality.{value_same, others_do_not_count}
 use Rattle.wi_propagate.proofs.ReachTest.{true_reaches}
 
@@ -140,3 +141,9 @@ what_if_world_value s w f pairs h =
 -- a cell's value under replacements is the one under those alone that reach it
 pub reaching_suffices : (s : Sheet) (w : List Replacement) (c : ℕ) → cell_value (put_all s (reaching s c w)) c ≡ cell_value (put_all s w) c
 reaching_suffices s w c = others_do_not_count s w c (reaches s c) (true_reaches s c)
+
+-- lists that say the same of each cell that c reaches give it one value
+pub same_for_reached : (s : Sheet) (p q : List Replacement) (c : ℕ) → ((d : ℕ) → Reaches s c d → last_for p d ≡ last_for q d) → cell_value (put_all s p) c ≡ cell_value (put_all s q) c
+same_for_reached s p q c h =
+    value_same (put_all s p) (put_all s q) c
+    (agree_put_both s s p q c (λ d r. content_by_last s p d ∙ ap (λ (o : Option Value). over o (content_of s d)) (h d r) ∙ sym (content_by_last s q d)))

@@ -6,23 +6,20 @@ use Rattle.std.proofs.lemmas.List.Folds.{list_any-append}
 use Rattle.std.specs.List.{list_any}
 use Rattle.std.specs.Ordering.{nat_cmp}
 use Rattle.std.specs.BTreeMap.{BTreeMap, get, is_at, Updates, IsEmpty}
-use Rattle.wi_parser.specs.declared.content.Content.TheVariants.{Constant, Formula}
-use Rattle.wi_parser.specs.declared.content.Content.{Content}
-use Rattle.wi_parser.specs.Tree.{Tree}
 use Rattle.wi_parser.specs.Sheet.{Sheet, content_of, has_formula}
 use Rattle.wi_parser.specs.Reads.{content_reads}
 use Rattle.wi_propagate.specs.Circular.{circular}
 use Rattle.wi_propagate.specs.Reach.{is_one_of, Reaches}
 use Rattle.wi_propagate.specs.ReadCells.{read_by}
 use Rattle.wi_propagate.specs.ReadOrder.{IsReadOrder, MayFollow}
-use Rattle.wi_propagate.specs.Walk.{cell_of, leaves, has_task, has_leave, LeadsTo, IsOpen, EachLeave, mark_of, IsWalk, IsBelow, read_by}
+use Rattle.wi_propagate.specs.Walk.{cell_of, leaves, has_task, has_leave, LeadsTo, IsOpen, EachLeave, mark_of, IsWalk, IsBelow}
 use Rattle.wi_propagate.specs.declared.walk.Mark.{Mark}
 use Rattle.wi_propagate.specs.declared.walk.Mark.TheVariants.{Open, Done}
 use Rattle.wi_propagate.specs.declared.walk.Task.{Task}
 use Rattle.wi_propagate.specs.declared.walk.Task.TheVariants.{Enter, Leave}
 use Rattle.wi_propagate.proofs.Walks.{same_cell}
 use Rattle.wi_propagate.proofs.Loops.{loop_circular, reaches_circular, reaches-step}
-use Rattle.wi_propagate.proofs.ReadLists.{listed, reads_listed, listed_is_read, formula_listed}
+use Rattle.wi_propagate.proofs.ReadLists.{listed, reads_listed}
 use Rattle.wi_propagate.proofs.ReadOrders.{order-push, order_clear, no_order}
 use Rattle.wi_propagate.proofs.Ends.{ends_open}
 

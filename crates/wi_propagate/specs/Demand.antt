@@ -24,7 +24,7 @@ Case = ℕ × List Replacement
 abbrev pub reaching : Sheet → ℕ → List Replacement → List Replacement
 reaching s c w = filter (λ r. reaches s c r.at) w
 
--- a cell with the replacements that reach it
+-- a cell with the replacements of cells that it reaches
 abbrev pub case_of : Sheet → List Replacement → ℕ → Case
 case_of s w c = (c, reaching s c w)
 
@@ -75,7 +75,7 @@ abbrev mutual
   any_reads_here no_trees a = false
   any_reads_here (more_trees t ts) a = reads_here t a || any_reads_here ts a
 
--- of a formula's tree, and of any other content this
+-- what f gives of a formula's tree, and x where no formula stands
 abbrev pub of_formula : {A : Type 0} → Option Content → A → (Tree → A) → A
 of_formula None x f = x
 of_formula (Some (Constant v)) x f = x
@@ -109,7 +109,8 @@ abbrev pub different : List Case → List Case
 different [] = []
 different (k ∷ ks) = if list_any (same_case k) ks then different ks else k ∷ different ks
 
--- a case rests on another: its formula's value asks for that one's, which has a formula too
+-- a case rests on another: its formula reads that one's cell as the sheet stands, or has a what-if of it, and that one has a
+-- formula too
 pub record RestsOn (s : Sheet) (k j : Case) : Type 0 where
   pub tree : Tree
   pub is : content_of (put_all s k.1) k.0 ≡ Some (Formula tree)

@@ -22,7 +22,11 @@ abbrev pub OthersDoNotCount : Type 0
 OthersDoNotCount = (s : Sheet) (p : List Replacement) (c : ℕ) (keep : ℕ → Bool) → ((d : ℕ) → Reaches s c d → keep d ≡ true) →
     cell_value (put_all s (filter (λ r. keep r.at) p)) c ≡ cell_value (put_all s p) c
 
--- so a cell has its value under those of the replacements that reach it
+-- two lists of replacements that say the same of each cell that c reaches give it one value
+abbrev pub SameForReached : Type 0
+SameForReached = (s : Sheet) (p q : List Replacement) (c : ℕ) → ((d : ℕ) → Reaches s c d → last_for p d ≡ last_for q d) → cell_value (put_all s p) c ≡ cell_value (put_all s q) c
+
+-- so a cell has its value under those of the replacements alone that stand for cells that it reaches
 abbrev pub ReachingSuffices : Type 0
 ReachingSuffices = (s : Sheet) (w : List Replacement) (c : ℕ) → cell_value (put_all s (reaching s c w)) c ≡ cell_value (put_all s w) c
 

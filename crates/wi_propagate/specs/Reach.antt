@@ -29,7 +29,7 @@ IsInCone s xs c = (a : ℕ) × (is_one_of xs a ≡ true) × Reaches s c a
 abbrev pub SameOff : Sheet → Sheet → List ℕ → Type 0
 SameOff s t xs = (d : ℕ) → is_one_of xs d ≡ false → content_of s d ≡ content_of t d
 
--- c reaches a by at most n steps from a formula to a formula, and one to a
+-- c is a, or reaches it by at most n steps from a formula to a formula, and one more to a
 abbrev pub reaches_by : ℕ → Sheet → ℕ → ℕ → Bool
 reaches_by zero s c a = c == a || content_reads (content_of s c) a
 reaches_by (suc n) s c a = (c == a || content_reads (content_of s c) a) || list_any (λ d. content_reads (content_of s c) d && reaches_by n s d a) (cells_with_formula s)

@@ -1,6 +1,6 @@
 use Rattle.wi_propagate.proofs.Agreement.{circular_same}
 use Rattle.wi_propagate.proofs.Locality.{value_same, others_do_not_count}
-use Rattle.wi_propagate.proofs.Overrides.{reaching_suffices, what_if_world_value}
+use Rattle.wi_propagate.proofs.Overrides.{reaching_suffices, same_for_reached, what_if_world_value}
 use Rattle.wi_propagate.proofs.laws.value_is_local.Goals as goal
 
 pub returns-clause-local : goal.returns-clause-local
@@ -8,6 +8,9 @@ returns-clause-local c = λ s t a h. (circular_same s t a h, value_same s t a h)
 
 pub returns-clause-others : goal.returns-clause-others
 returns-clause-others c = others_do_not_count
+
+pub returns-clause-same : goal.returns-clause-same
+returns-clause-same c = same_for_reached
 
 pub returns-clause-reaching : goal.returns-clause-reaching
 returns-clause-reaching c = reaching_suffices
