@@ -1,8 +1,7 @@
 -- The cells of one rectangle that a formula reads.
-use Rattle.std.proofs.Common.{◌≡◌, ◌==◌, ◌<◌, ℕ, ◌||◌, ◌&&◌, Bool, true, false, cond, List, [], ◌∷◌, ◌++◌, map, filter, length, get_or, refl, ap, sym, ◌∙◌, subst, inl, inr, ◌⊎◌, eq-eqb}
+use Rattle.std.proofs.Common.{◌≡◌, ◌==◌, ℕ, ◌||◌, ◌&&◌, Bool, true, false, cond, Some, List, [], ◌∷◌, ◌++◌, map, filter, refl, ap, sym, ◌∙◌, subst, inl, inr, ◌⊎◌, eq-eqb}
 use Rattle.std.proofs.lemmas.Bool.{and_from, and_parts, or_left, or_right}
-use Rattle.std.proofs.lemmas.List.Elements.{All-from_recursion}
-use Rattle.std.specs.List.{list_any, AllByRecursion}
+use Rattle.std.specs.List.{find, list_any, AllByRecursion}
 use Rattle.std.specs.Map.{keys_of}
 use Rattle.wi_values.specs.Address.{Area, is_within}
 use Rattle.wi_parser.specs.declared.expr.Reference.{Reference}
@@ -90,17 +89,29 @@ mutual
   any_here_is_read (more_trees t ts) a h = either (reads_here t a) (any_reads_here ts a) (reads t a) (any_reads ts a) (here_is_read t a) (any_here_is_read ts a) h
 
 -- a cell that is read here is in one of the rectangles
-pub in_one : (t : Tree) (a : ℕ) → reads_here t a ≡ true → list_any (λ (r : Area). is_within r a) (rectangles_of t) ≡ true
-in_one t a h = sym (reads_within t a) ∙ here_is_read t a h
+pub in_one_of : (t : Tree) (rs : List Area) (a : ℕ) → rs ≡ rectangles_of t → reads_here t a ≡ true → list_any (λ (r : Area). is_within r a) rs ≡ true
+in_one_of t rs a e h = ap (λ (xs : List Area). list_any (λ (r : Area). is_within r a) xs) e ∙ sym (reads_within t a) ∙ here_is_read t a h
+
+-- the rectangle that is found holds the cell, and is one of them
+found_one : (P : Area → Type 0) (rs : List Area) (r : Area) (a : ℕ) → AllByRecursion P rs → find (λ (x : Area). is_within x a) rs ≡ Some r → P r × (is_within r a ≡ true)
+found_one P [] r a h e = cc
+found_one P (x ∷ rs) r a h e = by (is_within x a) refl e (found_one P rs r a h.1)
+  where
+    by : (b : Bool) → is_within x a ≡ b → cond b (Some x) (find (λ (y : Area). is_within y a) rs) ≡ Some r
+        → (find (λ (y : Area). is_within y a) rs ≡ Some r → P r × (is_within r a ≡ true)) → P r × (is_within r a ≡ true)
+    by true k g ih = let same : x ≡ r = cc in (subst P same h.0, ap (λ (y : Area). is_within y a) (sym same) ∙ k)
+    by false k g ih = ih g
 
 -- ---- the cells with a formula of a rectangle
 
--- a cell with a formula of a rectangle is among them
-pub among_them : (s : Sheet) (r : Area) (cells : List ℕ) (a : ℕ) → cells ≡ filter (is_within r) (cells_with_formula s) → is_within r a ≡ true → has_formula (content_of s a) ≡ true → is_one_of cells a ≡ true
-among_them s r cells a e w h =
-    ap (λ (xs : List ℕ). is_one_of xs a) e
+-- a cell with a formula is among those of a rectangle that was found for it
+pub among_them : (s : Sheet) (t : Tree) (rs : List Area) (r : Area) (cells : List ℕ) (a : ℕ) → rs ≡ rectangles_of t → find (λ (x : Area). is_within x a) rs ≡ Some r →
+    cells ≡ filter (is_within r) (cells_with_formula s) → has_formula (content_of s a) ≡ true → is_one_of cells a ≡ true
+among_them s t rs r cells a e k f h =
+    let holds = (found_one (IsWhole (reads_here t)) rs r a (subst (AllByRecursion (IsWhole (reads_here t))) (sym e) (wholes t)) k).1 in
+    ap (λ (xs : List ℕ). is_one_of xs a) f
     ∙ sym (list_any-both (λ (x : ℕ). x == a) (is_within r) (cells_with_formula s))
-    ∙ found (λ (x : ℕ). x == a && is_within r x) (cells_with_formula s) a (formula_cell s a h) (and_from (a == a) _ (eq-eqb a a refl) w)
+    ∙ found (λ (x : ℕ). x == a && is_within r x) (cells_with_formula s) a (formula_cell s a h) (and_from (a == a) _ (eq-eqb a a refl) holds)
 
 -- one of those that pass a test passes it
 passes : (p : ℕ → Bool) (xs : List ℕ) (a : ℕ) → is_one_of (filter p xs) a ≡ true → p a ≡ true
@@ -122,14 +133,14 @@ wider p (x ∷ xs) a h = at (p x) h (wider p xs a)
     at true h ih = later (x == a) (is_one_of (filter p xs) a) (is_one_of xs a) ih h
     at false h ih = or_right (x == a) _ (ih h)
 
--- each of them has a formula, and is read where one of the rectangle is
-pub they_are_read : (s : Sheet) (t : Tree) (rs : List Area) (i : ℕ) (r : Area) (cells : List ℕ) (a d : ℕ) → rs ≡ rectangles_of t → i < length rs → r ≡ get_or rs i r →
-    is_within r a ≡ true → reads_here t a ≡ true → cells ≡ filter (is_within r) (cells_with_formula s) → is_one_of cells d ≡ true → (reads_here t d ≡ true) × (has_formula (content_of s d) ≡ true)
-they_are_read s t rs i r cells a d e l k w h f m =
+-- each of them has a formula, and is read here
+pub they_are_read : (s : Sheet) (t : Tree) (rs : List Area) (r : Area) (cells : List ℕ) (a : ℕ) → rs ≡ rectangles_of t → find (λ (x : Area). is_within x a) rs ≡ Some r →
+    cells ≡ filter (is_within r) (cells_with_formula s) → reads_here t a ≡ true → (d : ℕ) → is_one_of cells d ≡ true → (reads_here t d ≡ true) × (has_formula (content_of s d) ≡ true)
+they_are_read s t rs r cells a e k f h d m =
     let listed = ap (λ (xs : List ℕ). is_one_of xs d) (sym f) ∙ m in
-    let inside = passes (is_within r) (cells_with_formula s) d listed in
-    (at (subst (IsWhole (reads_here t)) (sym k) (All-from_recursion (IsWhole (reads_here t)) rs (subst (AllByRecursion (IsWhole (reads_here t))) (sym e) (wholes t)) i r l)) inside, passes (λ c. has_formula (content_of s c)) (keys_of s) d (wider (is_within r) (cells_with_formula s) d listed))
+    let one = found_one (IsWhole (reads_here t)) rs r a (subst (AllByRecursion (IsWhole (reads_here t))) (sym e) (wholes t)) k in
+    (at one.0 one.1 (passes (is_within r) (cells_with_formula s) d listed), passes (λ c. has_formula (content_of s c)) (keys_of s) d (wider (is_within r) (cells_with_formula s) d listed))
   where
-    at : IsWhole (reads_here t) r → is_within r d ≡ true → reads_here t d ≡ true
-    at (inl single) inside = ap (reads_here t) (single d a inside w) ∙ h
-    at (inr whole) inside = whole d inside
+    at : IsWhole (reads_here t) r → is_within r a ≡ true → is_within r d ≡ true → reads_here t d ≡ true
+    at (inl single) w inside = ap (reads_here t) (single d a inside w) ∙ h
+    at (inr whole) w inside = whole d inside

@@ -1,6 +1,8 @@
 //! One evaluation over what is known, and what is to be found for it.
 
-ghost use Rattle.std.specs.Prelude.{◌≡◌, ℕ, true, false, IfOk, OnErr};
+ghost use Rattle.std.specs.Prelude.{◌≡◌, ℕ, true, false, Some, IfOk, OnErr};
+ghost use Rattle.std.specs.List.{find, list_any};
+ghost use Rattle.wi_values.specs.Address.{is_within};
 ghost use Rattle.wi_parser.specs.Sheet.{content_of, has_formula, put_all};
 ghost use Rattle.wi_functions.specs.Wants.{IfDone, IfWanting, counted};
 ghost use Rattle.wi_propagate.specs.Circular.{circular};
@@ -17,7 +19,7 @@ use std::alloc::{AllocError, Global};
 use wi_functions::{Meter, Outcome, evaluate};
 use wi_parser::Formula;
 use wi_store::Store;
-use wi_values::Address;
+use wi_values::{Address, Rect};
 use wi_worlds::World;
 
 /// A formula's value under replacements, where what is known suffices, or what is lacking. Either is counted; want of
@@ -54,9 +56,17 @@ pub fn together(store: &Store, formula: &Formula, at: Address) -> Result<Vec<Add
     ensures read { IfOk result (λ v. (d : ℕ) → is_one_of v.items d ≡ true → (reads_here formula.now d ≡ true) × (has_formula (content_of store.now.sheet d) ≡ true)) }
     ensures wanted { IfOk result (λ v. is_one_of v.items at ≡ true) }
 {
-    for rectangle in formula.rectangles() {
+    store.formulas_in(first_with(formula.rectangles(), at))
+}
+
+/// The first of rectangles that holds a cell.
+fn first_with(rectangles: &[Rect], at: Address) -> Rect
+    requires { list_any (λ r. is_within r at) rectangles.now ≡ true }
+    ensures { find (λ r. is_within r at) rectangles.now ≡ Some result }
+{
+    for rectangle in rectangles {
         if rectangle.contains(at) {
-            return store.formulas_in(*rectangle);
+            return *rectangle;
         }
     }
     unreachable!()
