@@ -23,7 +23,8 @@ use wi_values::{Address, Rect};
 use wi_worlds::World;
 
 /// A formula's value under replacements, where what is known suffices, or what is lacking. Either is counted; want of
-/// memory counts nothing.
+/// memory counts nothing. The work is one walk over the formula's tree, in which each cell costs the logarithms of the
+/// counts of replacements, of occupied cells and of cells found, and each what-if a look through those found.
 pub fn answer(
     alloc: Global,
     store: &Store,
