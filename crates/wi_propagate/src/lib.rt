@@ -4,8 +4,8 @@
 mod answers;
 mod calculator;
 mod circular;
-mod findings;
 mod cone;
+mod findings;
 mod found;
 pub mod laws;
 mod lookup;
