@@ -34,6 +34,8 @@ pub mod Demands
 pub mod Cases
 pub mod Counting
 pub mod DemandRows
+pub mod TableEntries
+pub mod TableRows
 pub mod Loops
 pub mod ReadOrders
 pub mod WalkSteps

@@ -3,6 +3,7 @@ pub mod CellValue
 pub mod Shown
 pub mod Reach
 pub mod Demand
+pub mod TableEntry
 pub mod Rank
 pub mod Laws
 pub mod Locality
