@@ -12,6 +12,7 @@ mod tables;
 #[cfg(test)]
 mod tests;
 
+pub use convert::zero_for_empty;
 pub use evaluation::{Outcome, Want, evaluate};
 pub use lookup::{Answer, Lookup};
 pub use meter::Meter;

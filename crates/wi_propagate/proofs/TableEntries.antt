@@ -1,7 +1,6 @@
 -- What an entry of a data table demands.
-use Rattle.std.proofs.Common.{◌≡◌, ◌⊎◌, inl, inr, ℕ, Bool, true, false, ◌||◌, cond, List, [], ◌∷◌, ◌++◌, map, Contains, refl, ap, sym, ◌∙◌}
+use Rattle.std.proofs.Common.{◌≡◌, inl, inr, ℕ, zero, suc, arith, All, Bool, true, false, ◌||◌, cond, List, [], ◌∷◌, ◌++◌, map, Contains, refl, ap, sym, ◌∙◌}
 use Rattle.std.specs.List.{list_any, flat_map}
-use Rattle.wi_values.specs.declared.value.Value.{Value}
 use Rattle.wi_values.specs.declared.value.Value.TheVariants.{Fault}
 use Rattle.wi_values.specs.declared.value.ErrorKind.TheVariants.{Circular}
 use Rattle.wi_values.specs.declared.replacement.Replacement.{Replacement}
@@ -60,13 +59,29 @@ table_has_formula_cell s w f pairs h g =
 
 -- ---- its value
 
--- the test for circular cells is one over all the cells that an entry names first
-pub circular_cells : (s : Sheet) (f : ℕ) (pairs : List (ℕ × ℕ)) → list_any (circular s) (f ∷ map (λ x. x.1) pairs) ≡ (circular s f || list_any (λ x. circular s x.1) pairs)
-circular_cells s f pairs = ap (λ (b : Bool). circular s f || b) (of_pairs pairs)
+-- the test for circular cells is one over all the cells whose values are asked for
+pub test_of_cells : (s : Sheet) (f : ℕ) (pairs : List (ℕ × ℕ)) (cells : List ℕ) → cells ≡ f ∷ map (λ x. x.1) pairs → (circular s f || list_any (λ x. circular s x.1) pairs) ≡ list_any (circular s) cells
+test_of_cells s f pairs cells e = ap (λ (b : Bool). circular s f || b) (of_pairs pairs) ∙ ap (λ (xs : List ℕ). list_any (circular s) xs) (sym e)
   where
-    of_pairs : (xs : List (ℕ × ℕ)) → list_any (circular s) (map (λ x. x.1) xs) ≡ list_any (λ x. circular s x.1) xs
+    of_pairs : (xs : List (ℕ × ℕ)) → list_any (λ x. circular s x.1) xs ≡ list_any (circular s) (map (λ x. x.1) xs)
     of_pairs [] = refl
     of_pairs (x ∷ xs) = ap (λ (b : Bool). circular s x.1 || b) (of_pairs xs)
+
+or_parts : (b d : Bool) → (b || d) ≡ false → (b ≡ false) × (d ≡ false)
+or_parts true d h = cc
+or_parts false d h = (refl, h)
+
+-- where no element passes a test, each fails it
+each_fails : {X : Type 0} (p : X → Bool) (xs : List X) → list_any p xs ≡ false → All (λ x. p x ≡ false) xs
+each_fails p [] h k d l = absurd (omega arith)
+each_fails p (x ∷ xs) h zero d l = (or_parts (p x) (list_any p xs) h).0
+each_fails p (x ∷ xs) h (suc k) d l = each_fails p xs (or_parts (p x) (list_any p xs) h).1 k d (omega arith)
+
+-- so none of these cells is circular where the test says that none is
+pub cells_open : (s : Sheet) (f : ℕ) (pairs : List (ℕ × ℕ)) → (circular s f || list_any (λ x. circular s x.1) pairs) ≡ false → (circular s f ≡ false) × All (λ x. circular s x.1 ≡ false) pairs
+cells_open s f pairs h =
+    let parts = or_parts (circular s f) (list_any (λ x. circular s x.1) pairs) h in
+    (parts.0, each_fails (λ (x : ℕ × ℕ). circular s x.1) pairs parts.1)
 
 pub entry_circular : (s : Sheet) (p : List Replacement) (f : ℕ) (pairs : List (ℕ × ℕ)) → (circular s f || list_any (λ x. circular s x.1) pairs) ≡ true → table_entry s p f pairs ≡ Fault Circular
 unfolding table_entry

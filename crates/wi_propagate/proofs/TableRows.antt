@@ -5,7 +5,6 @@ use Rattle.wi_values.specs.declared.value.Value as value
 use Rattle.wi_values.specs.declared.value.Value.TheVariants.{Number, Fault}
 use Rattle.wi_values.specs.declared.value.ErrorKind.TheVariants.{Circular}
 use Rattle.wi_values.specs.declared.replacement.Replacement.{Replacement}
-use Rattle.wi_parser.specs.declared.expr.Reference.{Reference}
 use Rattle.wi_parser.specs.declared.expr.Operator.TheVariants.{Add, Multiply}
 use Rattle.wi_parser.specs.declared.content.Content.TheVariants.{Constant, Formula}
 use Rattle.wi_parser.specs.Tree.{Tree, number, cell, binary}

@@ -6,6 +6,7 @@ ghost use Rattle.wi_parser.specs.Sheet.{content_of};
 ghost use Rattle.wi_store.specs.Store.{Stored, applied, Applies};
 ghost use Rattle.wi_propagate.specs.Shown.{IsSortedPut};
 ghost use Rattle.wi_propagate.specs.Shown as show;
+ghost use Rattle.wi_propagate.specs.TableEntry.{table_entry};
 
 use std::alloc::AllocError;
 use wi_parser::Content;
@@ -37,6 +38,19 @@ pub trait Calculator {
     fn value(&mut self, put: &[Replacement], at: Address) -> Result<Value, AllocError>
         requires { IsSortedPut put.now }
         ensures value { IfOk result (λ v. v ≡ show.shown (stored self.old).sheet put.now at) }
+        ensures same { stored self.new ≡ stored self.old };
+
+    /// What an entry of a data table shows under replacements, which stand in the order of their addresses, one for each:
+    /// the value of the formula cell if each input, the first of a pair, had the value of its replacement cell, the second.
+    /// An entry stands in no cell, so the sheet stays as it is, and no cell reads it.
+    fn what_if_value(
+        &mut self,
+        put: &[Replacement],
+        formula_cell: Address,
+        pairs: &[(Address, Address)],
+    ) -> Result<Value, AllocError>
+        requires { IsSortedPut put.now }
+        ensures value { IfOk result (λ v. v ≡ table_entry (stored self.old).sheet put.now formula_cell pairs.now) }
         ensures same { stored self.new ≡ stored self.old };
 
     fn evaluations(&self) -> u64

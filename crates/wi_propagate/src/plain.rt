@@ -3,7 +3,7 @@
 ghost use Rattle.std.specs.Prelude.{◌≡◌, [], ℕ};
 
 use crate::calculator::Calculator;
-use crate::value::shown;
+use crate::value::{shown, table_entry};
 use std::alloc::{AllocError, Global};
 use wi_functions::Meter;
 use wi_parser::Content;
@@ -56,6 +56,22 @@ impl Calculator for PlainCalculator {
     /// demands that stand one below the other. No sheet is copied: the replacements are carried along.
     fn value(&mut self, put: &[Replacement], at: Address) -> Result<Value, AllocError> {
         shown(self.alloc, &self.store, put, at, &mut self.meter)
+    }
+
+    fn what_if_value(
+        &mut self,
+        put: &[Replacement],
+        formula_cell: Address,
+        pairs: &[(Address, Address)],
+    ) -> Result<Value, AllocError> {
+        table_entry(
+            self.alloc,
+            &self.store,
+            put,
+            formula_cell,
+            pairs,
+            &mut self.meter,
+        )
     }
 
     fn evaluations(&self) -> u64 {

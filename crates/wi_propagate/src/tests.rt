@@ -218,3 +218,35 @@ fn cycles_through_parameters(rt: HostRuntime) -> Result<(), Fail> {
     );
     Ok(())
 }
+
+// What an entry of a data table shows that replaces one input.
+fn entry(calculator: &mut PlainCalculator, at: &str, input: &str, by: &str) -> Result<Value, Fail> {
+    let input = Address::read(input.as_bytes())?;
+    let by = Address::read(by.as_bytes())?;
+    let at = Address::read(at.as_bytes())?;
+    Ok(calculator.what_if_value(&[], at, &[(input, by)])?)
+}
+
+#[test]
+fn entries_of_a_data_table(rt: HostRuntime) -> Result<(), Fail> {
+    let mut calculator = what_ifs(rt.alloc())?;
+    let b2 = entry(&mut calculator, "B2", "B1", "A4")?;
+    assert_eq!(rt; b2, number(21, 1)?);
+    assert_eq!(rt; calculator.evaluations(), 1);
+    let b2 = entry(&mut calculator, "B2", "B2", "A4")?;
+    assert_eq!(rt; b2, number(7, 1)?);
+    assert_eq!(rt; entry(&mut calculator, "B2", "B2", "A9")?, number(0, 1)?);
+    Ok(())
+}
+
+#[test]
+fn circular_entries(rt: HostRuntime) -> Result<(), Fail> {
+    let mut calculator = what_ifs(rt.alloc())?;
+    set(rt.alloc(), &mut calculator, "A4", "=[.A4]+1")?;
+    let circular = Value::Fault(ErrorKind::Circular);
+    assert_eq!(rt; entry(&mut calculator, "B2", "B1", "A4")?, circular);
+    assert_eq!(rt; entry(&mut calculator, "A4", "A4", "B1")?, circular);
+    let b2 = entry(&mut calculator, "B2", "A4", "B1")?;
+    assert_eq!(rt; b2, number(30, 1)?);
+    Ok(())
+}
