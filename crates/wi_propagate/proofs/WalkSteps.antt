@@ -1,6 +1,6 @@
 -- Steps of a walk along references.
-use Rattle.std.proofs.Common.{◌≡◌, ◌==◌, ℕ, suc, ◌+◌, ◌≤◌, Bool, true, false, ◌||◌, cond, if◌then◌else◌, List, [], ◌∷◌, ◌++◌, map, length, Option, Some, None, refl, ap, sym, ◌∙◌, subst, append_assoc, arith, inl, inr, ◌⊎◌, eq-eqb}
-use Rattle.std.proofs.lemmas.Bool.{or_cases, or_left, or_right, false_from_ne_true}
+use Rattle.std.proofs.Common.{◌≡◌, ◌==◌, ℕ, Bool, true, false, ◌||◌, cond, if◌then◌else◌, List, [], ◌∷◌, ◌++◌, map, length, Option, Some, None, refl, ap, sym, ◌∙◌, subst, arith, inl, inr, ◌⊎◌, eq-eqb}
+use Rattle.std.proofs.lemmas.Bool.{or_cases, or_left, or_right}
 use Rattle.std.proofs.lemmas.Bool.Decides.{nat_tests}
 use Rattle.std.proofs.lemmas.List.Folds.{list_any-append}
 use Rattle.std.specs.List.{list_any}
@@ -132,6 +132,7 @@ walk-passed s roots c ts marks order w p = record {
   marked = λ a. w.marked a ∙ ap (λ (b : Bool). if is_one_of order a then Some Done else (if b then Some Open else None)) (leave_parts ts (Enter c ∷ []) a ∙ or_false (has_leave ts a));
   ordered = w.ordered;
   reached = λ d h. w.reached d (task_front ts (Enter c ∷ []) d h);
+  below = w.below;
   rooted = λ r m f. without_passed s c order p ts r f (w.rooted r m f);
 }
 
@@ -220,8 +221,16 @@ walk-left s roots c ts old new order w u = record {
   marked = λ a. u a ∙ ap (λ (m : Option Mark). cond (is_at (nat_cmp c) a) (Some Done) m) (w.marked a) ∙ marks-left ts order c a;
   ordered = order-push s order c w.ordered (may_follow s order c (last_leave (IsOpen s order) c ts w.waiting));
   reached = λ d h. w.reached d (task_front ts (Leave c ∷ []) d h);
+  below = λ d h. below d (or_cases (is_one_of order d) _ (sym (order_parts order c d) ∙ h));
   rooted = λ r m f. moved order ts c r (w.rooted r m f);
 }
+  where
+    here : IsBelow s roots c
+    here = w.reached c (task_back ts (Leave c ∷ []) c (is_of_one (Leave c)))
+
+    below : (d : ℕ) → (is_one_of order d ≡ true) ⊎ ((c == d) ≡ true) → IsBelow s roots d
+    below d (inl k) = w.below d k
+    below d (inr k) = subst (IsBelow s roots) (same_cell d c k) here
 
 -- ---- a cell that is entered
 
@@ -331,6 +340,7 @@ walk-entered s roots c ts old new order w f n u =
       marked = λ a. u a ∙ ap (λ (m : Option Mark). cond (is_at (nat_cmp c) a) (Some Open) m) (w.marked a) ∙ marks-entered ts order cells c a none.0;
       ordered = w.ordered;
       reached = λ d h. reached d (entered_cases ts c cells d h);
+      below = w.below;
       rooted = λ r m g. kept_or (is_one_of order r) ts c cells r (w.rooted r m g);
     }
   where
@@ -350,6 +360,14 @@ walk-taken s roots c ts more old new order w n plain tasks marks = at (has_formu
     at : (b : Bool) → has_formula (content_of s c) ≡ b → IsWalk s roots more new order
     at true f = rw (tasks f) (walk-entered s roots c ts old new order w f n (marks f).0)
     at false f = rw ((plain f).0, (plain f).1) (walk-passed s roots c ts old order w (λ g. let z = f in cc))
+
+-- what is below a single root
+pub below_one : (s : Sheet) (c d : ℕ) → IsBelow s (c ∷ []) d → Reaches s c d
+below_one s c d b = at (or_cases (c == b.0) false b.1)
+  where
+    at : ((c == b.0) ≡ true) ⊎ (false ≡ true) → Reaches s c d
+    at (inl k) = subst (λ (x : ℕ). Reaches s x d) (sym (same_cell b.0 c k)) b.2
+    at (inr k) = cc
 
 -- where no cell is circular, the test for one fails
 none_circular : (s : Sheet) (xs : List ℕ) → ((c : ℕ) → is_one_of xs c ≡ true → circular s c ≡ false) → list_any (circular s) xs ≡ false
@@ -377,6 +395,7 @@ walk-begun s roots marks n = record {
   marked = λ c. no_mark c ∙ ap (λ (b : Bool). if b then Some Open else None) (sym (entered_leave roots c));
   ordered = no_order s;
   reached = λ d h. (d, sym (entered_task roots d) ∙ h, (0, refl));
+  below = λ d h. cc;
   rooted = λ r m f. entered_task roots r ∙ m;
 }
   where

@@ -4,7 +4,7 @@ use Rattle.wi_parser.specs.Sheet.{Sheet, content_of, has_formula}
 use Rattle.wi_parser.specs.Reads.{content_reads}
 use Rattle.wi_propagate.specs.Reach.{is_one_of}
 
--- the cell may stand after these: it has a formula, and each cell with a formula that it reads is one of them, but not itself
+-- the cell may stand after these: it has a formula, each cell with a formula that it reads is one of these, and the cell itself is none of these
 pub record MayFollow (s : Sheet) (cells : List ℕ) (c : ℕ) : Type 0 where
   pub formula : has_formula (content_of s c) ≡ true
   pub reads : (d : ℕ) → content_reads (content_of s c) d ≡ true → has_formula (content_of s d) ≡ true → is_one_of cells d ≡ true

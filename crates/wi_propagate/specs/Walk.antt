@@ -60,6 +60,7 @@ pub record IsWalk (s : Sheet) (roots : List ℕ) (ts : List Task) (marks : BTree
   pub marked : (c : ℕ) → get nat_cmp marks c ≡ mark_of ts order c
   pub ordered : IsReadOrder s order
   pub reached : (d : ℕ) → has_task ts d ≡ true → IsBelow s roots d
+  pub below : (d : ℕ) → is_one_of order d ≡ true → IsBelow s roots d
   pub rooted : (root : ℕ) → is_one_of roots root ≡ true → has_formula (content_of s root) ≡ true → (is_one_of order root || has_task ts root) ≡ true
 
 -- how many tasks a cell that has no mark brings

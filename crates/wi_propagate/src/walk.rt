@@ -8,10 +8,10 @@ ghost use Rattle.std.specs.Option.{is_none};
 ghost use Rattle.std.specs.List.{list_any};
 ghost use Rattle.wi_parser.specs.Sheet.{content_of, has_formula};
 ghost use Rattle.wi_propagate.specs.Circular as cycles;
-ghost use Rattle.wi_propagate.specs.Reach.{is_one_of};
+ghost use Rattle.wi_propagate.specs.Reach.{is_one_of, Reaches};
 ghost use Rattle.wi_propagate.specs.ReadCells.{formulas_within, read_by};
 ghost use Rattle.wi_propagate.specs.ReadOrder.{IsReadOrder};
-ghost use Rattle.wi_propagate.specs.Walk.{IsWalk, tasks_left};
+ghost use Rattle.wi_propagate.specs.Walk.{IsBelow, IsWalk, tasks_left};
 ghost use Rattle.wi_propagate.specs.declared.walk.Mark.TheVariants.{Open, Done};
 ghost use Rattle.wi_propagate.specs.declared.walk.Task.TheVariants.{Enter, Leave};
 
@@ -58,6 +58,7 @@ pub fn reached(
 ) -> Result<Option<Vec<Address>>, AllocError>
     ensures circular { IfOk result (λ o. is_none o ≡ cycles.circular store.now.sheet at) }
     ensures order { IfOk result (λ o. IfSome o (λ r. IsReadOrder store.now.sheet r.items)) }
+    ensures only { IfOk result (λ o. IfSome o (λ r. (d : ℕ) → is_one_of r.items d ≡ true → Reaches store.now.sheet at d)) }
     ensures root { IfOk result (λ o. IfSome o (λ r. has_formula (content_of store.now.sheet at) ≡ true → is_one_of r.items at ≡ true)) }
 {
     reached_from(alloc, store, &[at])
@@ -74,6 +75,7 @@ pub fn reached_from(
 ) -> Result<Option<Vec<Address>>, AllocError>
     ensures circular { IfOk result (λ o. is_none o ≡ list_any (cycles.circular store.now.sheet) cells.now) }
     ensures order { IfOk result (λ o. IfSome o (λ r. IsReadOrder store.now.sheet r.items)) }
+    ensures only { IfOk result (λ o. IfSome o (λ r. (d : ℕ) → is_one_of r.items d ≡ true → IsBelow store.now.sheet cells.now d)) }
     ensures roots { IfOk result (λ o. IfSome o (λ r. (c : ℕ) → is_one_of cells.now c ≡ true → has_formula (content_of store.now.sheet c) ≡ true → is_one_of r.items c ≡ true)) }
 {
     let mut tasks = Vec::new(alloc);

@@ -1,4 +1,4 @@
-use Rattle.std.proofs.Common.{◌≡◌, ◌<◌, length, sym, arith}
+use Rattle.std.proofs.Common.{sym, arith}
 use Rattle.wi_propagate.proofs.WalkSteps.{walk-begun, walk-ended}
 use Rattle.wi_propagate.proofs.walk.reached_from.Goals as goal
 
