@@ -1,6 +1,6 @@
 -- The bound on a value is never felt.
-use Rattle.std.proofs.Common.{◌≡◌, ◌==◌, ℕ, zero, suc, ◌≤◌, Bool, true, false, cond, List, [], ◌∷◌, filter, Option, Some, None, length, refl, ap, sym, ◌∙◌, arith, eq-eqb}
-use Rattle.std.proofs.lemmas.Bool.{false_from_ne_true, or_left, or_right}
+use Rattle.std.proofs.Common.{◌≡◌, ◌==◌, ℕ, zero, suc, ◌≤◌, Bool, true, false, cond, List, [], ◌∷◌, filter, Option, Some, None, length, refl, ap, sym, ◌∙◌, arith}
+use Rattle.std.proofs.lemmas.Bool.{false_from_ne_true}
 use Rattle.std.specs.Map.{keys_of}
 use Rattle.wi_parser.specs.Tree.{Tree}
 use Rattle.wi_values.specs.declared.value.Value.{Value}
@@ -16,7 +16,7 @@ use Rattle.wi_functions.specs.Meaning.{meaning, zero_for_empty}
 use Rattle.wi_propagate.specs.CellValue.{value_of, replacements, value_within, cell_value}
 use Rattle.wi_propagate.proofs.Puts.{overlaid, plain, content_of-put_all, formula_cells_put_all}
 use Rattle.wi_propagate.proofs.Walks.{step, first_step}
-use Rattle.wi_propagate.proofs.Meanings.{ReadsNoMore, meaning_same, replacements_same}
+use Rattle.wi_propagate.proofs.Meanings.{meaning_same, replacements_same}
 
 -- ---- replacements lengthen no walk
 

@@ -21,7 +21,7 @@ use Rattle.wi_worlds.specs.Reaching as cones
 use Rattle.wi_propagate.specs.Demand.{reaching}
 use Rattle.wi_propagate.specs.Reach.{is_one_of, reaches}
 use Rattle.wi_propagate.specs.ReadCells.{read_by}
-use Rattle.wi_propagate.specs.ReadOrder.{IsReadOrder, MayFollow}
+use Rattle.wi_propagate.specs.ReadOrder.{IsReadOrder}
 use Rattle.wi_propagate.specs.Remembered.{AreCones}
 use Rattle.wi_propagate.proofs.Walks.{same_cell, same_tests, found}
 use Rattle.wi_propagate.proofs.ReadLists.{listed, reads_listed}

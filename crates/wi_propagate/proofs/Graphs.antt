@@ -1,5 +1,5 @@
 -- What a search for cycles rests on.
-use Rattle.std.proofs.Common.{◌≡◌, ℕ, zero, suc, Bool, true, false, List, length, refl, ap, ◌∙◌}
+use Rattle.std.proofs.Common.{◌≡◌, ℕ, zero, suc, Bool, true, false, length}
 use Rattle.std.proofs.lemmas.Bool.{false_from_ne_true}
 use Rattle.wi_parser.specs.Sheet.{Sheet, content_of, cells_with_formula}
 use Rattle.wi_parser.specs.Reads.{content_reads}

@@ -44,3 +44,9 @@ pub mod Asked
 pub mod Limits
 pub mod ConeSteps
 pub mod Remembering
+pub mod Resting
+pub mod Awaiting
+pub mod Settling
+pub mod Stacks
+pub mod Budgets
+pub mod Running

@@ -1,5 +1,5 @@
 -- A few numbers and what they make, for sheets worked by hand.
-use Rattle.std.proofs.Common.{◌≡◌, ℕ, ◌≤◌, ℤ, pos, Option, Some, refl, lit<, lit≤}
+use Rattle.std.proofs.Common.{◌≡◌, ℕ, ◌≤◌, pos, Some, refl, lit<, lit≤}
 use Rattle.wi_fraction.specs.Gcd.{gcd, gcd_within}
 use Rattle.wi_fraction.specs.Number.{Number, number_of, number_at-some, max_size}
 use Rattle.wi_functions.specs.Convert.{zero_number}

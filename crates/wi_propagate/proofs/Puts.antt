@@ -9,7 +9,6 @@ use Rattle.std.specs.BTreeMap.{is_at, insert_entry}
 use Rattle.wi_values.specs.declared.value.Value.{Value}
 use Rattle.wi_values.specs.declared.value.Value.TheVariants.{Empty, Number, Text, Logical, Fault}
 use Rattle.wi_parser.specs.declared.content.Content.{Content}
-use Rattle.wi_parser.specs.declared.content.Content.TheVariants.{Constant}
 use Rattle.wi_values.specs.declared.replacement.Replacement.{Replacement}
 use Rattle.wi_parser.specs.Sheet.{Sheet, constant, content_of, without, with_content, put, put_all, has_formula, cells_with_formula}
 

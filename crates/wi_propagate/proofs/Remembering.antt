@@ -1,5 +1,5 @@
 -- What is remembered in one question.
-use Rattle.std.proofs.Common.{◌≡◌, ◌==◌, ℕ, Bool, true, false, ◌||◌, cond, List, [], ◌∷◌, ◌++◌, Option, Some, None, IfSome, Result, Ok, Err, OnOk, OnErr, refl, ap, sym, ◌∙◌, subst, inl, inr, ◌⊎◌}
+use Rattle.std.proofs.Common.{◌≡◌, ◌==◌, ℕ, Bool, true, false, cond, List, [], ◌∷◌, ◌++◌, Option, Some, None, IfSome, Result, Ok, Err, OnOk, OnErr, refl, ap, sym, ◌∙◌, subst, inl, inr, ◌⊎◌}
 use Rattle.std.proofs.lemmas.Bool.{or_cases, or_left}
 use Rattle.std.proofs.lemmas.List.Folds.{list_any-append}
 use Rattle.std.specs.declared.alloc.AllocError.{AllocError}
@@ -8,9 +8,9 @@ use Rattle.wi_values.specs.declared.replacement.Replacement.{Replacement}
 use Rattle.wi_cache.specs.declared.key.Key.{Key}
 use Rattle.wi_cache.specs.Entries.{Entries, Puts, same_key, value_for}
 use Rattle.wi_cache.proofs.Keys.{same_key_Decides}
-use Rattle.wi_parser.specs.Sheet.{Sheet, content_of, put_all, has_formula}
+use Rattle.wi_parser.specs.Sheet.{Sheet, put_all}
 use Rattle.wi_propagate.specs.CellValue.{cell_value}
-use Rattle.wi_propagate.specs.Memory.{AreKnownRight, IsClosedUnderReads, IsMemoryOf}
+use Rattle.wi_propagate.specs.Memory.{IsClosedUnderReads, IsMemoryOf}
 use Rattle.wi_propagate.specs.Reach.{is_one_of}
 use Rattle.wi_propagate.specs.ReadOrder.{IsReadOrder}
 use Rattle.wi_propagate.specs.Remembered.{key_of, memory_of, remembered}

@@ -2,7 +2,7 @@
 use Rattle.std.proofs.Common.{◌≡◌, ℕ, false, [], ◌∷◌, List, refl, ap, ◌∙◌, codes}
 use Rattle.wi_values.specs.Address.{place}
 use Rattle.wi_values.specs.declared.value.Value as value
-use Rattle.wi_values.specs.declared.value.Value.TheVariants.{Empty, Number, Text, Fault}
+use Rattle.wi_values.specs.declared.value.Value.TheVariants.{Number, Text, Fault}
 use Rattle.wi_values.specs.declared.value.ErrorKind.TheVariants.{Circular, BadValue}
 use Rattle.wi_values.specs.declared.replacement.Replacement.{Replacement}
 use Rattle.wi_parser.specs.declared.expr.Reference.{Reference}

@@ -19,3 +19,6 @@ pub mod Answers
 pub mod Ends
 pub mod Plain
 pub mod Memory
+pub mod Frames
+pub mod Steps
+pub mod Spending

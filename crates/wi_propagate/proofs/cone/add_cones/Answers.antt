@@ -1,6 +1,5 @@
-use Rattle.std.proofs.Common.{◌≡◌, ◌∙◌, sym, ap, subst, take, length, List, arith}
+use Rattle.std.proofs.Common.{◌≡◌, ◌∙◌, subst, take, arith}
 use Rattle.std.proofs.lemmas.Grind.{common_steps}
-use Rattle.wi_values.specs.declared.replacement.Replacement.{Replacement}
 use Rattle.wi_propagate.proofs.ConeSteps.{HaveCones, have_more}
 use Rattle.wi_propagate.proofs.cone.add_cones.Goals as goal
 

@@ -1,7 +1,6 @@
-use Rattle.std.proofs.Common.{◌≡◌, ◌<◌, ◌∙◌, sym, refl, ap, arith, length}
+use Rattle.std.proofs.Common.{◌∙◌, sym}
 use Rattle.std.specs.Ordering.{nat_cmp}
 use Rattle.std.specs.BTreeSet.{contains}
-use Rattle.wi_propagate.specs.Reach.{reaches}
 use Rattle.wi_propagate.proofs.ConeSteps.{step_reaches, cone_more, cone_same}
 use Rattle.wi_propagate.proofs.cone.cone.Goals.{then-reaches+in_ok-insert, else-reaches}
 use Rattle.wi_propagate.proofs.cone.cone.Goals as goal

@@ -1,4 +1,4 @@
-use Rattle.std.proofs.Common.{◌≡◌, ◌==◌, ◌||◌, ◌++◌, Bool, true, false, List, ℕ, refl, ap, sym, ◌∙◌}
+use Rattle.std.proofs.Common.{◌==◌, ◌||◌, ◌++◌, List, ℕ, ap, sym, ◌∙◌}
 use Rattle.std.proofs.lemmas.Bool.{or_left, or_right}
 use Rattle.std.specs.List.{list_any}
 use Rattle.std.specs.Ordering.{nat_cmp}
@@ -6,7 +6,6 @@ use Rattle.std.specs.BTreeSet.{contains}
 use Rattle.wi_values.specs.Address.{Area, is_within}
 use Rattle.wi_parser.specs.Sheet.{content_of}
 use Rattle.wi_parser.specs.Reads.{content_reads}
-use Rattle.wi_parser.specs.declared.content.Content.TheVariants.{Formula}
 use Rattle.wi_propagate.specs.ReadCells.{formulas_within, read_by}
 use Rattle.wi_propagate.proofs.ConeSteps.{reads_rectangles, only_last}
 use Rattle.wi_propagate.proofs.cone.steps_into.Goals as goal

@@ -1,4 +1,4 @@
-use Rattle.std.proofs.Common.{◌≡◌, ◌+◌, ◌*◌, ◌++◌, List, map, take}
+use Rattle.std.proofs.Common.{◌≡◌, ◌+◌, ◌*◌, ◌++◌, map, take}
 use Rattle.wi_parser.specs.View.{pair_of}
 use Rattle.wi_parser.specs.Sheet.{put_all}
 use Rattle.wi_functions.specs.Meaning.{addresses}

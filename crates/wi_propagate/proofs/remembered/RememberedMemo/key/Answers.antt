@@ -1,4 +1,4 @@
-use Rattle.std.proofs.Common.{◌≡◌, ◌∙◌, ap, subst, List, ℕ}
+use Rattle.std.proofs.Common.{◌∙◌, ap, subst, List, ℕ}
 use Rattle.wi_propagate.specs.Demand.{reaching}
 use Rattle.wi_propagate.specs.Reach.{is_one_of}
 use Rattle.wi_propagate.specs.Remembered.{AreCones, OneQuestion}
