@@ -42,7 +42,8 @@ pub trait Calculator {
 
     /// What an entry of a data table shows under replacements, which stand in the order of their addresses, one for each:
     /// the value of the formula cell if each input, the first of a pair, had the value of its replacement cell, the second.
-    /// An entry stands in no cell, so the sheet stays as it is, and no cell reads it.
+    /// An entry stands in no cell, so the sheet stays as it is, and no cell reads it. The work is that of `value` for each
+    /// replacement cell and for the formula cell.
     fn what_if_value(
         &mut self,
         put: &[Replacement],
