@@ -9,7 +9,7 @@ use Rattle.std.specs.BTreeMap.{BTreeMap, get, is_at, Updates, IsEmpty}
 use Rattle.wi_parser.specs.Sheet.{Sheet, content_of, has_formula}
 use Rattle.wi_parser.specs.Reads.{content_reads}
 use Rattle.wi_propagate.specs.Circular.{circular}
-use Rattle.wi_propagate.specs.Reach.{is_one_of}
+use Rattle.wi_propagate.specs.Reach.{is_one_of, Reaches}
 use Rattle.wi_propagate.specs.ReadCells.{read_by}
 use Rattle.wi_propagate.specs.ReadOrder.{MayFollow}
 use Rattle.wi_propagate.specs.Walk.{cell_of, leaves, has_task, has_leave, LeadsTo, IsOpen, EachLeave, mark_of, IsWalk, IsBelow}
