@@ -30,6 +30,7 @@ pub mod RestsStay
 mod ReachRows
 pub mod Ranks
 pub mod Members
+pub mod Smallest
 pub mod Demands
 pub mod Cases
 pub mod Counting

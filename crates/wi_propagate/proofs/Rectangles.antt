@@ -1,7 +1,7 @@
 -- The cells of one rectangle that a formula reads.
-use Rattle.std.proofs.Common.{◌≡◌, ◌==◌, ℕ, ◌||◌, ◌&&◌, Bool, true, false, cond, Some, List, [], ◌∷◌, ◌++◌, map, filter, refl, ap, sym, ◌∙◌, subst, inl, inr, ◌⊎◌, eq-eqb}
+use Rattle.std.proofs.Common.{◌≡◌, ◌==◌, ℕ, ◌||◌, ◌&&◌, Bool, true, false, cond, List, [], ◌∷◌, ◌++◌, map, filter, refl, ap, sym, ◌∙◌, subst, inl, inr, ◌⊎◌, eq-eqb}
 use Rattle.std.proofs.lemmas.Bool.{and_from, and_parts, or_left, or_right}
-use Rattle.std.specs.List.{find, list_any, AllByRecursion}
+use Rattle.std.specs.List.{list_any, AllByRecursion}
 use Rattle.std.specs.Map.{keys_of}
 use Rattle.wi_values.specs.Address.{Area, is_within}
 use Rattle.wi_parser.specs.declared.expr.Reference.{Reference}
@@ -11,7 +11,9 @@ use Rattle.wi_parser.specs.Reads.{cell_area, reads, any_reads, rectangles_of, al
 use Rattle.wi_parser.proofs.Rectangles.{one_cell, reads_within}
 use Rattle.wi_propagate.specs.Demand.{reads_here, any_reads_here}
 use Rattle.wi_propagate.specs.Reach.{is_one_of}
+use Rattle.wi_propagate.specs.Answers.{IsSmallestWith, AreOfRectangle}
 use Rattle.wi_propagate.proofs.Layers.{list_any-both}
+use Rattle.wi_propagate.proofs.Members.{IsIn, in_contained}
 use Rattle.wi_propagate.proofs.Walks.{same_cell, found, finds, formula_cell}
 
 -- ---- a rectangle is of one cell, or each of its cells is read here
@@ -92,26 +94,24 @@ mutual
 pub in_one_of : (t : Tree) (rs : List Area) (a : ℕ) → rs ≡ rectangles_of t → reads_here t a ≡ true → list_any (λ (r : Area). is_within r a) rs ≡ true
 in_one_of t rs a e h = ap (λ (xs : List Area). list_any (λ (r : Area). is_within r a) xs) e ∙ sym (reads_within t a) ∙ here_is_read t a h
 
--- the rectangle that is found holds the cell, and is one of them
-found_one : (P : Area → Type 0) (rs : List Area) (r : Area) (a : ℕ) → AllByRecursion P rs → find (λ (x : Area). is_within x a) rs ≡ Some r → P r × (is_within r a ≡ true)
-found_one P [] r a h e = cc
-found_one P (x ∷ rs) r a h e = by (is_within x a) refl e (found_one P rs r a h.1)
+-- a rectangle that holds the cell is of one cell, or each of its cells is read here
+smallest_whole : (t : Tree) (rs : List Area) (a : ℕ) (r : Area) → rs ≡ rectangles_of t → IsSmallestWith rs a r → IsWhole (reads_here t) r
+smallest_whole t rs a r e h = all_in (IsWhole (reads_here t)) rs r (subst (AllByRecursion (IsWhole (reads_here t))) (sym e) (wholes t)) (in_contained rs r h.one_of)
   where
-    by : (b : Bool) → is_within x a ≡ b → cond b (Some x) (find (λ (y : Area). is_within y a) rs) ≡ Some r
-        → (find (λ (y : Area). is_within y a) rs ≡ Some r → P r × (is_within r a ≡ true)) → P r × (is_within r a ≡ true)
-    by true k g ih = let same : x ≡ r = cc in (subst P same h.0, ap (λ (y : Area). is_within y a) (sym same) ∙ k)
-    by false k g ih = ih g
+    all_in : (P : Area → Type 0) (xs : List Area) (x : Area) → AllByRecursion P xs → IsIn xs x → P x
+    all_in P [] x h m = absurd m
+    all_in P (y ∷ xs) x h (inl same) = subst P same h.0
+    all_in P (y ∷ xs) x h (inr m) = all_in P xs x h.1 m
 
 -- ---- the cells with a formula of a rectangle
 
--- a cell with a formula is among those of a rectangle that was found for it
-pub among_them : (s : Sheet) (t : Tree) (rs : List Area) (r : Area) (cells : List ℕ) (a : ℕ) → rs ≡ rectangles_of t → find (λ (x : Area). is_within x a) rs ≡ Some r →
+-- a cell with a formula is among those of a rectangle that holds it
+pub among_them : (s : Sheet) (rs : List Area) (r : Area) (cells : List ℕ) (a : ℕ) → IsSmallestWith rs a r →
     cells ≡ filter (is_within r) (cells_with_formula s) → has_formula (content_of s a) ≡ true → is_one_of cells a ≡ true
-among_them s t rs r cells a e k f h =
-    let holds = (found_one (IsWhole (reads_here t)) rs r a (subst (AllByRecursion (IsWhole (reads_here t))) (sym e) (wholes t)) k).1 in
+among_them s rs r cells a k f h =
     ap (λ (xs : List ℕ). is_one_of xs a) f
     ∙ sym (list_any-both (λ (x : ℕ). x == a) (is_within r) (cells_with_formula s))
-    ∙ found (λ (x : ℕ). x == a && is_within r x) (cells_with_formula s) a (formula_cell s a h) (and_from (a == a) _ (eq-eqb a a refl) holds)
+    ∙ found (λ (x : ℕ). x == a && is_within r x) (cells_with_formula s) a (formula_cell s a h) (and_from (a == a) _ (eq-eqb a a refl) k.holds)
 
 -- one of those that pass a test passes it
 passes : (p : ℕ → Bool) (xs : List ℕ) (a : ℕ) → is_one_of (filter p xs) a ≡ true → p a ≡ true
@@ -134,13 +134,21 @@ wider p (x ∷ xs) a h = at (p x) h (wider p xs a)
     at false h ih = or_right (x == a) _ (ih h)
 
 -- each of them has a formula, and is read here
-pub they_are_read : (s : Sheet) (t : Tree) (rs : List Area) (r : Area) (cells : List ℕ) (a : ℕ) → rs ≡ rectangles_of t → find (λ (x : Area). is_within x a) rs ≡ Some r →
+pub they_are_read : (s : Sheet) (t : Tree) (rs : List Area) (r : Area) (cells : List ℕ) (a : ℕ) → rs ≡ rectangles_of t → IsSmallestWith rs a r →
     cells ≡ filter (is_within r) (cells_with_formula s) → reads_here t a ≡ true → (d : ℕ) → is_one_of cells d ≡ true → (reads_here t d ≡ true) × (has_formula (content_of s d) ≡ true)
 they_are_read s t rs r cells a e k f h d m =
     let listed = ap (λ (xs : List ℕ). is_one_of xs d) (sym f) ∙ m in
-    let one = found_one (IsWhole (reads_here t)) rs r a (subst (AllByRecursion (IsWhole (reads_here t))) (sym e) (wholes t)) k in
-    (at one.0 one.1 (passes (is_within r) (cells_with_formula s) d listed), passes (λ c. has_formula (content_of s c)) (keys_of s) d (wider (is_within r) (cells_with_formula s) d listed))
+    (at (smallest_whole t rs a r e k) k.holds (passes (is_within r) (cells_with_formula s) d listed), passes (λ c. has_formula (content_of s c)) (keys_of s) d (wider (is_within r) (cells_with_formula s) d listed))
   where
     at : IsWhole (reads_here t) r → is_within r a ≡ true → is_within r d ≡ true → reads_here t d ≡ true
     at (inl single) w inside = ap (reads_here t) (single d a inside w) ∙ h
     at (inr whole) w inside = whole d inside
+
+-- they are those of one rectangle
+pub of_rectangle : (s : Sheet) (t : Tree) (rs : List Area) (r : Area) (cells : List ℕ) (a : ℕ) → rs ≡ rectangles_of t → IsSmallestWith rs a r →
+    cells ≡ filter (is_within r) (cells_with_formula s) → AreOfRectangle s t a cells
+of_rectangle s t rs r cells a e k f = record {
+  rectangle = r;
+  smallest = subst (λ (xs : List Area). IsSmallestWith xs a r) e k;
+  cells = f;
+}

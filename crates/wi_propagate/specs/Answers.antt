@@ -1,6 +1,7 @@
 -- What is known while one formula is valued, what it lacks, and what it asks for.
-use Rattle.std.specs.Prelude.{◌≡◌, ℕ, ◌+◌, true, List, map, filter, length, Option, Some, None}
+use Rattle.std.specs.Prelude.{◌≡◌, ◌≤◌, ℕ, ◌+◌, true, List, map, filter, length, Contains, Option, Some, None}
 use Rattle.std.specs.Option.{is_none}
+use Rattle.wi_values.specs.Address.{Area, is_within, size_of}
 use Rattle.wi_values.specs.declared.value.Value.{Value}
 use Rattle.wi_values.specs.declared.value.Value.TheVariants.{Empty}
 use Rattle.wi_values.specs.declared.replacement.Replacement.{Replacement}
@@ -8,7 +9,8 @@ use Rattle.wi_parser.specs.Tree.{Tree}
 use Rattle.wi_parser.specs.View.{pair_of}
 use Rattle.wi_parser.specs.declared.content.Content.{Content}
 use Rattle.wi_parser.specs.declared.content.Content.TheVariants.{Constant, Formula}
-use Rattle.wi_parser.specs.Sheet.{Sheet, content_of, put_all, has_formula}
+use Rattle.wi_parser.specs.Sheet.{Sheet, content_of, put_all, has_formula, cells_with_formula}
+use Rattle.wi_parser.specs.Reads.{rectangles_of}
 use Rattle.wi_functions.specs.Meaning.{addresses}
 use Rattle.wi_functions.specs.Wants.{Asks}
 use Rattle.wi_functions.specs.declared.evaluation.Want.{Want}
@@ -44,3 +46,15 @@ abbrev pub lacking : Sheet → Tree → Findings → ℕ
 lacking s t f =
     length (filter (λ c. is_none (cell_found f c)) (read_here s t))
     + length (filter (λ x. is_none (what_if_found f x.0 x.1)) (what_ifs_of t))
+
+-- the rectangle is one of these, it holds the cell, and none of these that holds it has fewer cells
+pub record IsSmallestWith (rs : List Area) (a : ℕ) (r : Area) : Type 0 where
+  pub one_of : Contains rs r
+  pub holds : is_within r a ≡ true
+  pub least : (o : Area) → Contains rs o → is_within o a ≡ true → size_of r ≤ size_of o
+
+-- the cells are those with a formula of one rectangle that the formula reads, a smallest that holds the cell
+pub record AreOfRectangle (s : Sheet) (t : Tree) (a : ℕ) (xs : List ℕ) : Type 0 where
+  pub rectangle : Area
+  pub smallest : IsSmallestWith (rectangles_of t) a rectangle
+  pub cells : xs ≡ filter (is_within rectangle) (cells_with_formula s)

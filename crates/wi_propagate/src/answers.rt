@@ -1,8 +1,8 @@
 //! One evaluation over what is known, and what is to be found for it.
 
-ghost use Rattle.std.specs.Prelude.{◌≡◌, ℕ, true, false, Some, IfOk, OnErr};
-ghost use Rattle.std.specs.List.{find, list_any};
-ghost use Rattle.wi_values.specs.Address.{is_within};
+ghost use Rattle.std.specs.Prelude.{◌≡◌, ℕ, true, false, nat_lt, if◌then◌else◌, IfOk, OnErr};
+ghost use Rattle.std.specs.List.{list_any};
+ghost use Rattle.wi_values.specs.Address.{is_within, size_of};
 ghost use Rattle.wi_parser.specs.Sheet.{content_of, has_formula, put_all};
 ghost use Rattle.wi_functions.specs.Wants.{IfDone, IfWanting, counted};
 ghost use Rattle.wi_propagate.specs.Circular.{circular};
@@ -10,7 +10,7 @@ ghost use Rattle.wi_propagate.specs.CellValue as show;
 ghost use Rattle.wi_propagate.specs.Reach.{is_one_of};
 ghost use Rattle.wi_propagate.specs.Demand.{reads_here};
 ghost use Rattle.wi_propagate.specs.Findings.{AreAllRight};
-ghost use Rattle.wi_propagate.specs.Answers.{AsksAt, IsLacking};
+ghost use Rattle.wi_propagate.specs.Answers.{AsksAt, IsLacking, IsSmallestWith, AreOfRectangle};
 
 use crate::findings::Findings;
 use crate::lookup::Known;
@@ -49,26 +49,56 @@ pub fn answer(
     evaluate(alloc, formula, &known, meter)
 }
 
-/// The cells with a formula that are to be found together with one that a formula lacks: those of the first of its
-/// rectangles that holds it. The work grows with the count of its rectangles, and as that of `Store::formulas_in`.
+/// The cells with a formula that are to be found together with one that a formula lacks: those of the smallest of its
+/// rectangles that hold it, so that a large one is not found for the sake of a cell that is read alone. The work grows
+/// with the count of its rectangles, and as that of `Store::formulas_in`.
 pub fn together(store: &Store, formula: &Formula, at: Address) -> Result<Vec<Address>, AllocError>
     requires read { reads_here formula.now at ≡ true }
     requires formula { has_formula (content_of store.now.sheet at) ≡ true }
     ensures read { IfOk result (λ v. (d : ℕ) → is_one_of v.items d ≡ true → (reads_here formula.now d ≡ true) × (has_formula (content_of store.now.sheet d) ≡ true)) }
     ensures wanted { IfOk result (λ v. is_one_of v.items at ≡ true) }
+    ensures whole { IfOk result (λ v. AreOfRectangle store.now.sheet formula.now at v.items) }
 {
-    store.formulas_in(first_with(formula.rectangles(), at))
+    store.formulas_in(smallest_with(formula.rectangles(), at))
 }
 
-/// The first of rectangles that holds a cell.
-fn first_with(rectangles: &[Rect], at: Address) -> Rect
+/// The one of rectangles that holds a cell and has the fewest cells, the first where more have as few. The work grows
+/// with their count.
+pub fn smallest_with(rectangles: &[Rect], at: Address) -> Rect
     requires { list_any (λ r. is_within r at) rectangles.now ≡ true }
-    ensures { find (λ r. is_within r at) rectangles.now ≡ Some result }
+    ensures { IsSmallestWith rectangles.now at result }
 {
+    let mut smallest = None;
     for rectangle in rectangles {
         if rectangle.contains(at) {
-            return *rectangle;
+            smallest = Some(match smallest {
+                Some(kept) => smaller(kept, *rectangle),
+                None => *rectangle,
+            });
         }
     }
-    unreachable!()
+    let Some(smallest) = smallest else {
+        unreachable!()
+    };
+    smallest
+}
+
+/// The one of two rectangles with fewer cells, the first where they have as many.
+fn smaller(first: Rect, second: Rect) -> Rect
+    ensures { result ≡ if nat_lt (size_of second) (size_of first) then second else first }
+{
+    if size(second) < size(first) {
+        second
+    } else {
+        first
+    }
+}
+
+/// How many cells a rectangle has.
+fn size(area: Rect) -> u64
+    ensures { result ≡ size_of area }
+{
+    let rows = (area.last().row() + 1).saturating_sub(area.first().row());
+    let columns = (area.last().column() + 1).saturating_sub(area.first().column());
+    u64::from(rows) * u64::from(columns)
 }

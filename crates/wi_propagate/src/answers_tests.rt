@@ -6,7 +6,7 @@ ghost use Rattle.wi_functions.specs.Wants.{IfDone};
 ghost use Rattle.wi_propagate.specs.CellValue as show;
 ghost use Rattle.wi_propagate.specs.Findings.{AreAllRight};
 
-use crate::answers::answer;
+use crate::answers::{answer, smallest_with};
 use crate::circular::is_circular;
 use crate::findings::{Findings, FoundWhatIf};
 use crate::seen::{Seen, content_in};
@@ -16,7 +16,7 @@ use wi_fraction::Fraction;
 use wi_functions::{Meter, Outcome, Want};
 use wi_parser::{Content, Pair};
 use wi_store::{Limits, Store};
-use wi_values::{Address, Replacement, Value};
+use wi_values::{Address, Rect, Replacement, Value};
 use wi_worlds::World;
 
 // A cell of the first row.
@@ -179,5 +179,28 @@ fn what_ifs_are_told_apart(rt: HostRuntime) -> Result<(), Fail> {
     assert_eq!(rt; found.what_if(cell(2), &pairs), Some(&number(13)?));
     assert_eq!(rt; found.what_if(cell(2), &[]), Some(&number(1)?));
     assert!(rt; found.what_if(cell(1), &pairs).is_none());
+    Ok(())
+}
+
+// The smallest of these rectangles that holds a cell.
+fn smallest(rectangles: &[Rect], at: Address) -> Result<Rect, Fail> {
+    if !rectangles.iter().any(|r| r.contains(at)) {
+        return Err(Fail::new("none holds it"));
+    }
+    Ok(smallest_with(rectangles, at))
+}
+
+#[test]
+fn smallest_rectangles_are_taken(rt: HostRuntime) -> Result<(), Fail> {
+    let a5 = Address::at(4, 0);
+    let elsewhere = Rect::new(cell(1), cell(1));
+    let column = Rect::new(cell(0), Address::at(99_999, 0));
+    let row = Rect::new(a5, Address::at(4, 2));
+    let above = Rect::new(Address::at(2, 0), a5);
+    let one = Rect::new(a5, a5);
+    assert_eq!(rt; smallest(&[column, elsewhere, one], a5)?, one);
+    assert_eq!(rt; smallest(&[one, column], a5)?, one);
+    assert_eq!(rt; smallest(&[elsewhere, column, row, above], a5)?, row);
+    assert_eq!(rt; smallest(&[above, row], a5)?, above);
     Ok(())
 }
