@@ -68,7 +68,7 @@ input_unvalued s m n w pairs i x k h e en u =
     let same = rw en at u in
     (ap (λ (a : ℕ). list_any (λ p. p.1.at == a) (map pair_of pairs)) u.cell ∙ pair_found pairs i x h e, rw (← u.cell) at same)
 
-puts_entries : (w : List Replacement) → puts_of (entries w) ≡ w
+pub puts_entries : (w : List Replacement) → puts_of (entries w) ≡ w
 puts_entries [] = refl
 puts_entries (r ∷ rs) = ap (λ (xs : List Replacement). r ∷ xs) (puts_entries rs)
 

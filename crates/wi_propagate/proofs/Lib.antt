@@ -51,3 +51,4 @@ pub mod Settling
 pub mod Stacks
 pub mod Budgets
 pub mod Running
+pub mod Showing

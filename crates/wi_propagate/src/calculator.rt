@@ -32,9 +32,8 @@ pub trait Calculator {
     fn apply(&mut self, changes: Vec<(Address, Option<Content>)>) -> Result<(), StoreFault>
         ensures { Applies (applied (stored self.old) changes.items) result (stored self.old) (stored self.new) };
 
-    /// What a cell shows under replacements, which stand in the order of their addresses, one for each.
-    /// No sheet is copied. In `PlainCalculator` the work may grow with the product of the demands that stand one below
-    /// the other.
+    /// What a cell shows under replacements, which stand in the order of their addresses, one for each. No sheet is
+    /// copied.
     fn value(&mut self, put: &[Replacement], at: Address) -> Result<Value, AllocError>
         requires { IsSortedPut put.now }
         ensures value { IfOk result (λ v. v ≡ show.shown (stored self.old).sheet put.now at) }
@@ -42,8 +41,8 @@ pub trait Calculator {
 
     /// What an entry of a data table shows under replacements, which stand in the order of their addresses, one for each:
     /// the value of the formula cell if each input, the first of a pair, had the value of its replacement cell, the second.
-    /// An entry stands in no cell, so the sheet stays as it is, and no cell reads it. The work is that of `value` for each
-    /// replacement cell and for the formula cell.
+    /// An entry stands in no cell, so the sheet stays as it is, and no cell reads it. In
+    /// `PlainCalculator` the work may grow with the product of the demands that stand one below the other.
     fn what_if_value(
         &mut self,
         put: &[Replacement],

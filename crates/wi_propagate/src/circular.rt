@@ -4,17 +4,10 @@ ghost use Rattle.std.specs.Prelude.{◌≡◌, IfOk};
 ghost use Rattle.std.specs.List.{list_any};
 ghost use Rattle.wi_propagate.specs.Circular as cycles;
 
-use crate::walk::{reached, reached_from};
+use crate::walk::reached_from;
 use std::alloc::{AllocError, Global};
 use wi_store::Store;
 use wi_values::Address;
-
-/// Whether a cell is on or above a cycle. The work is that of `reached`.
-pub fn is_circular(alloc: Global, store: &Store, at: Address) -> Result<bool, AllocError>
-    ensures { IfOk result (λ b. b ≡ cycles.circular store.now.sheet at) }
-{
-    Ok(reached(alloc, store, at)?.is_none())
-}
 
 /// Whether one of these cells is on or above a cycle. The work is that of `reached_from`.
 pub fn any_is_circular(alloc: Global, store: &Store, cells: &[Address]) -> Result<bool, AllocError>

@@ -15,6 +15,7 @@ mod memo;
 mod plain;
 mod remembered;
 mod seen;
+mod table_entry;
 mod value;
 mod walk;
 

@@ -3,7 +3,8 @@
 ghost use Rattle.std.specs.Prelude.{◌≡◌, [], ℕ};
 
 use crate::calculator::Calculator;
-use crate::value::{shown, table_entry};
+use crate::table_entry::table_entry;
+use crate::value::shown;
 use std::alloc::{AllocError, Global};
 use wi_functions::Meter;
 use wi_parser::Content;
@@ -51,9 +52,9 @@ impl Calculator for PlainCalculator {
         self.store.apply(changes)
     }
 
-    /// What a cell shows under replacements. A formula is evaluated anew for each formula that reads it, and each
-    /// what-if values its formula cell anew in the replaced sheet, so the work may grow with the product of the
-    /// demands that stand one below the other. No sheet is copied: the replacements are carried along.
+    /// What a cell shows under replacements. A formula is evaluated once for each list of the replacements that reach it
+    /// under which its value is asked for, and begun again where it lacks a value. No sheet is copied: the replacements
+    /// are carried along. What was found is forgotten at the end.
     fn value(&mut self, put: &[Replacement], at: Address) -> Result<Value, AllocError> {
         shown(self.alloc, &self.store, put, at, &mut self.meter)
     }

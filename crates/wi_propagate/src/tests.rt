@@ -50,9 +50,9 @@ fn values_of_formulas(rt: HostRuntime) -> Result<(), Fail> {
     assert_eq!(rt; shown(&mut calculator, "B1")?, number(5, 2)?);
     assert_eq!(rt; shown(&mut calculator, "C1")?, number(74, 3)?);
     assert_eq!(rt; shown(&mut calculator, "D1")?, Value::Empty);
-    // B1 once for itself and once for C1, and C1. B1 lacks A1 both times, and C1 first B1 and then A1.
+    // B1 once for itself and once for C1, and C1, which lacks B1 at first.
     assert_eq!(rt; calculator.evaluations(), 3);
-    assert_eq!(rt; calculator.restarts(), 4);
+    assert_eq!(rt; calculator.restarts(), 1);
     assert!(rt; calculator.content(Address::read(b"C1")?).is_some());
     assert!(rt; calculator.content(Address::read(b"D1")?).is_none());
     Ok(())
@@ -154,8 +154,9 @@ fn chain_of_200(rt: HostRuntime) -> Result<(), Fail> {
     }
     set(alloc, &mut calculator, "A201", "5")?;
     assert_eq!(rt; shown(&mut calculator, "A1")?, number(205, 1)?);
+    // Each but the last lacks the one below it at first.
     assert_eq!(rt; calculator.evaluations(), 200);
-    assert_eq!(rt; calculator.restarts(), 200);
+    assert_eq!(rt; calculator.restarts(), 199);
     set(alloc, &mut calculator, "A201", "=[.A1]")?;
     assert_eq!(rt;
         shown(&mut calculator, "A1")?,
@@ -180,8 +181,11 @@ fn what_ifs(alloc: Global) -> Result<PlainCalculator, Fail> {
 #[test]
 fn what_if_of_a_what_if(rt: HostRuntime) -> Result<(), Fail> {
     let mut calculator = what_ifs(rt.alloc())?;
-    assert_eq!(rt; shown(&mut calculator, "B2")?, number(30, 1)?);
     assert_eq!(rt; shown(&mut calculator, "C4")?, number(21, 1)?);
+    // C4, and B2 with 7 in B1.
+    assert_eq!(rt; calculator.evaluations(), 2);
+    assert_eq!(rt; shown(&mut calculator, "B2")?, number(30, 1)?);
+    assert_eq!(rt; calculator.evaluations(), 3);
     assert_eq!(rt; shown(&mut calculator, "D4")?, number(30, 1)?);
     set(rt.alloc(), &mut calculator, "A4", "=[.B1]+1")?;
     assert_eq!(rt; shown(&mut calculator, "C4")?, number(33, 1)?);
@@ -248,5 +252,29 @@ fn circular_entries(rt: HostRuntime) -> Result<(), Fail> {
     assert_eq!(rt; entry(&mut calculator, "A4", "A4", "B1")?, circular);
     let b2 = entry(&mut calculator, "B2", "A4", "B1")?;
     assert_eq!(rt; b2, number(30, 1)?);
+    Ok(())
+}
+
+// Each asks the one above it twice, with the same value in B1.
+#[test]
+fn what_ifs_through_each_other(rt: HostRuntime) -> Result<(), Fail> {
+    let alloc = rt.alloc();
+    let mut calculator = PlainCalculator::new(alloc, Limits::standard());
+    set(alloc, &mut calculator, "B1", "1")?;
+    set(alloc, &mut calculator, "C1", "=[.B1]+1")?;
+    set(alloc, &mut calculator, "C2", "=1+[.B1]")?;
+    let first = "=MULTIPLE.OPERATIONS([.B1];[.B1];[.C1])+MULTIPLE.OPERATIONS([.B1];[.B1];[.C2])";
+    set(alloc, &mut calculator, "D1", first)?;
+    for row in 1..64u32 {
+        let at = format!(in alloc; "D{}", row + 1)?;
+        let text = format!(in alloc;
+            "=MULTIPLE.OPERATIONS([.D{row}];[.B1];[.C1])+MULTIPLE.OPERATIONS([.D{row}];[.B1];[.C2])"
+        )?;
+        set(alloc, &mut calculator, &at, &text)?;
+    }
+    let d64 = shown(&mut calculator, "D64")?;
+    assert_eq!(rt; d64, number(1_199_038_364_791_120_855_040, 1)?);
+    // Each with C1 and C2, under one number in B1.
+    assert_eq!(rt; calculator.evaluations(), 192);
     Ok(())
 }

@@ -1,21 +1,32 @@
-use Rattle.std.proofs.Common.{◌≡◌, true, false, sym, ◌∙◌}
+use Rattle.std.proofs.Common.{◌≡◌, true, false, sym}
 use Rattle.std.proofs.lemmas.Result.{IfOk-weaker}
 use Rattle.wi_propagate.specs.Circular.{circular}
-use Rattle.wi_propagate.proofs.Ends.{open_ends}
-use Rattle.wi_propagate.proofs.Steps.{shown_circular, shown_open}
+use Rattle.wi_propagate.specs.Demand.{wants}
+use Rattle.wi_propagate.proofs.Steps.{shown_circular}
+use Rattle.wi_propagate.proofs.Showing.{put_alone, shown_value, shown_at_most, shown_evaluations, nothing_found}
 use Rattle.wi_propagate.proofs.value.shown.Goals as goal
 
-pub returns-then-branch : goal.returns-then-branch
-returns-then-branch c =
-    let circles : circular c.args.store.now.sheet c.args.at ≡ true = sym c.in_ok-is_circular.ensures ∙ c.if-branch.true in
+pub returns-in_default-clause-value : goal.returns-in_default-clause-value
+returns-in_default-clause-value c =
+    let circles : circular c.args.store.now.sheet c.args.at ≡ true = sym (rw c.in_default.is at c.in_ok-order.ensures.circular) in
     sym (shown_circular c.args.store.now.sheet c.args.put.now c.args.at circles)
 
-pub value_under-requires : goal.value_under-requires
-value_under-requires c =
-    let leaf : circular c.args.store.now.sheet c.args.at ≡ false = sym c.in_ok-is_circular.ensures ∙ c.if-branch.false in
-    open_ends c.occupied.result c.args.store.now.sheet c.args.at c.occupied.ensures leaf
+pub returns-clause-value : goal.returns-clause-value
+returns-clause-value c =
+    let leaf : circular c.args.store.now.sheet c.args.at ≡ false = sym (rw c.in-Some.is at c.in_ok-order.ensures.circular) in
+    let same = put_alone c.in_ok-world.world c.new.result c.args.put.now c.requires c.new.ensures c.in_ok-world.ensures.list in
+    IfOk-weaker c.value_under.result _ _ (λ v h. shown_value c.args.store.now.sheet c.in_ok-world.world c.args.put.now c.args.at v leaf same h) c.value_under.ensures.value
 
-pub returns : goal.returns
-returns c =
-    let leaf : circular c.args.store.now.sheet c.args.at ≡ false = sym c.in_ok-is_circular.ensures ∙ c.if-branch.false in
-    IfOk-weaker c.value_under.result _ _ (λ v h. h ∙ sym (shown_open c.args.store.now.sheet c.args.put.now c.args.at leaf)) c.value_under.ensures
+pub returns-clause-evaluations : goal.returns-clause-evaluations
+returns-clause-evaluations c =
+    let leaf : circular c.args.store.now.sheet c.args.at ≡ false = sym (rw c.in-Some.is at c.in_ok-order.ensures.circular) in
+    let same = put_alone c.in_ok-world.world c.new.result c.args.put.now c.requires c.new.ensures c.in_ok-world.ensures.list in
+    shown_evaluations c.args.store.now.sheet c.in_ok-world.world c.args.put.now c.args.at c.args.meter.now.evaluations c.value_under.new.meter.evaluations leaf same
+    (nothing_found c.args.store.now.sheet c.in-Some.order.items c.new-memo.result _ (λ k. 1) c.args.meter.now.evaluations c.value_under.new.meter.evaluations c.new-memo.ensures.value c.value_under.ensures.evaluations)
+
+pub returns-clause-restarts : goal.returns-clause-restarts
+returns-clause-restarts c =
+    let leaf : circular c.args.store.now.sheet c.args.at ≡ false = sym (rw c.in-Some.is at c.in_ok-order.ensures.circular) in
+    let same = put_alone c.in_ok-world.world c.new.result c.args.put.now c.requires c.new.ensures c.in_ok-world.ensures.list in
+    shown_at_most c.args.store.now.sheet c.in_ok-world.world c.args.put.now c.args.at (wants c.args.store.now.sheet) c.args.meter.now.restarts c.value_under.new.meter.restarts leaf same
+    (nothing_found c.args.store.now.sheet c.in-Some.order.items c.new-memo.result _ (wants c.args.store.now.sheet) c.args.meter.now.restarts c.value_under.new.meter.restarts c.new-memo.ensures.value c.value_under.ensures.restarts)

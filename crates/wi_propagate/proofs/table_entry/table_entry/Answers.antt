@@ -1,7 +1,7 @@
 use Rattle.std.proofs.Common.{sym, ◌∙◌}
 use Rattle.std.proofs.lemmas.Result.{IfOk-weaker}
 use Rattle.wi_propagate.proofs.TableEntries.{test_of_cells, cells_open, entry_circular, entry_open}
-use Rattle.wi_propagate.proofs.value.table_entry.Goals as goal
+use Rattle.wi_propagate.proofs.table_entry.table_entry.Goals as goal
 
 pub returns-then-branch : goal.returns-then-branch
 returns-then-branch c =

@@ -4,7 +4,7 @@ use Rattle.wi_parser.specs.Sheet.{put_all}
 use Rattle.wi_functions.specs.Meaning.{addresses}
 use Rattle.wi_propagate.specs.CellValue as show
 use Rattle.wi_propagate.specs.Found.{AreAllRight, missing_in}
-use Rattle.wi_propagate.proofs.value.+value.Given as goal
+use Rattle.wi_propagate.proofs.table_entry.+value.Given as goal
 
 abbrev pub decreases-value_under : goal.decreases-value_under
 decreases-value_under l = 4 * l.steps

@@ -13,7 +13,7 @@ use Rattle.wi_propagate.proofs.Puts.{put_all-append}
 use Rattle.wi_propagate.proofs.Known.{known_of, AreRight-push, AreRightWhatIfs-push}
 use Rattle.wi_propagate.proofs.Missing.{missing-push_cell, missing-push_what_if}
 use Rattle.wi_propagate.proofs.Ends.{some_steps, reads_end, asked_end, under_formula, under_plain}
-use Rattle.wi_propagate.proofs.value.+value.Goals as goal
+use Rattle.wi_propagate.proofs.table_entry.+value.Goals as goal
 
 pub value_under-returns-in-Nothing : goal.value_under-returns-in-Nothing
 value_under-returns-in-Nothing t c =

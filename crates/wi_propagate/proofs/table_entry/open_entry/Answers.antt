@@ -6,7 +6,7 @@ use Rattle.wi_functions.specs.Meaning.{zero_for_empty}
 use Rattle.wi_propagate.specs.CellValue.{replacements, cell_value}
 use Rattle.wi_propagate.proofs.Puts.{put_all-append}
 use Rattle.wi_propagate.proofs.Ends.{open_ends}
-use Rattle.wi_propagate.proofs.value.open_entry.Goals as goal
+use Rattle.wi_propagate.proofs.table_entry.open_entry.Goals as goal
 
 pub value_under-requires : goal.value_under-requires
 value_under-requires c = open_ends c.occupied.result c.args.store.now.sheet c.args.formula_cell c.occupied.ensures c.requires.formula_cell

@@ -1,7 +1,7 @@
 use Rattle.std.proofs.Common.{◌≡◌, ℕ, false, ap, ◌∙◌}
 use Rattle.wi_propagate.specs.Circular.{circular}
 use Rattle.wi_propagate.proofs.Ends.{open_ends}
-use Rattle.wi_propagate.proofs.value.with_inputs.Goals as goal
+use Rattle.wi_propagate.proofs.table_entry.with_inputs.Goals as goal
 
 pub value_under-requires : goal.value_under-requires
 value_under-requires c =
