@@ -52,3 +52,5 @@ pub mod Stacks
 pub mod Budgets
 pub mod Running
 pub mod Showing
+pub mod Cursors
+pub mod PathSteps

@@ -2,7 +2,8 @@
 use Rattle.std.proofs.Common.{◌≡◌, ◌==◌, ℕ, ◌||◌, ◌&&◌, Bool, true, false, cond, List, [], ◌∷◌, filter, Option, Some, None, refl, ap, sym, ◌∙◌}
 use Rattle.std.proofs.lemmas.Bool.{and_parts}
 use Rattle.std.proofs.lemmas.List.Folds.{list_any-append}
-use Rattle.std.specs.List.{list_any}
+use Rattle.std.specs.List.{list_any, flat_map}
+use Rattle.std.specs.Map.{keys_of}
 use Rattle.wi_values.specs.Address.{Area, is_within}
 use Rattle.wi_parser.specs.declared.content.Content.TheVariants.{Constant, Formula}
 use Rattle.wi_parser.specs.declared.content.Content.{Content}
@@ -10,7 +11,7 @@ use Rattle.wi_parser.specs.Tree.{Tree}
 use Rattle.wi_parser.specs.Sheet.{Sheet, content_of, has_formula, cells_with_formula}
 use Rattle.wi_parser.specs.Reads.{reads, content_reads, rectangles_of}
 use Rattle.wi_parser.proofs.Rectangles.{reads_within}
-use Rattle.wi_propagate.specs.ReadCells.{formulas_within, read_cells, read_by}
+use Rattle.wi_propagate.specs.ReadCells.{formulas_within, read_cells, read_by, rectangles_in, occupied_within}
 use Rattle.wi_propagate.proofs.Layers.{is_one_of}
 use Rattle.wi_propagate.proofs.Walks.{same_cell, formula_cell}
 
@@ -43,25 +44,25 @@ shared true true false = refl
 shared true false false = refl
 shared false y m = refl
 
--- the cells listed of rectangles are those in one of them that have a formula
-in_rectangles : (s : Sheet) (rs : List Area) (a : ℕ) → is_one_of (formulas_within s rs) a ≡ (list_any (λ (r : Area). is_within r a) rs && is_one_of (cells_with_formula s) a)
-in_rectangles s [] a = refl
-in_rectangles s (r ∷ rs) a =
-    list_any-append (λ (x : ℕ). x == a) (filter (is_within r) (cells_with_formula s)) (formulas_within s rs)
-    ∙ ap (λ (b : Bool). b || is_one_of (formulas_within s rs) a) (in_filter (is_within r) (cells_with_formula s) a)
-    ∙ ap (λ (b : Bool). (is_within r a && is_one_of (cells_with_formula s) a) || b) (in_rectangles s rs a)
-    ∙ shared (is_within r a) (list_any (λ (x : Area). is_within x a) rs) (is_one_of (cells_with_formula s) a)
+-- the cells listed of rectangles are those in one of them
+in_rectangles : (cells : List ℕ) (rs : List Area) (a : ℕ) → is_one_of (flat_map (λ r. filter (is_within r) cells) rs) a ≡ (list_any (λ (r : Area). is_within r a) rs && is_one_of cells a)
+in_rectangles cells [] a = refl
+in_rectangles cells (r ∷ rs) a =
+    list_any-append (λ (x : ℕ). x == a) (filter (is_within r) cells) (flat_map (λ x. filter (is_within x) cells) rs)
+    ∙ ap (λ (b : Bool). b || is_one_of (flat_map (λ x. filter (is_within x) cells) rs) a) (in_filter (is_within r) cells a)
+    ∙ ap (λ (b : Bool). (is_within r a && is_one_of cells a) || b) (in_rectangles cells rs a)
+    ∙ shared (is_within r a) (list_any (λ (x : Area). is_within x a) rs) (is_one_of cells a)
 
 -- of the cells with a formula, exactly those are in the list that the tree reads
 formula_listed : (s : Sheet) (t : Tree) (a : ℕ) → has_formula (content_of s a) ≡ true → is_one_of (read_cells s t) a ≡ reads t a
 formula_listed s t a h =
     let any = list_any (λ (r : Area). is_within r a) (rectangles_of t) in
-    in_rectangles s (rectangles_of t) a ∙ ap (λ (b : Bool). any && b) (formula_cell s a h) ∙ and_true any ∙ sym (reads_within t a)
+    in_rectangles (cells_with_formula s) (rectangles_of t) a ∙ ap (λ (b : Bool). any && b) (formula_cell s a h) ∙ and_true any ∙ sym (reads_within t a)
 
 -- a cell in the list is read
 listed_is_read : (s : Sheet) (t : Tree) (a : ℕ) → is_one_of (read_cells s t) a ≡ true → reads t a ≡ true
 listed_is_read s t a h =
-    reads_within t a ∙ (and_parts (list_any (λ (r : Area). is_within r a) (rectangles_of t)) _ (sym (in_rectangles s (rectangles_of t) a) ∙ h)).0
+    reads_within t a ∙ (and_parts (list_any (λ (r : Area). is_within r a) (rectangles_of t)) _ (sym (in_rectangles (cells_with_formula s) (rectangles_of t) a) ∙ h)).0
 
 -- what is listed of a content is read
 pub listed : (s : Sheet) (o : Option Content) (d : ℕ) → is_one_of (read_by s o) d ≡ true → content_reads o d ≡ true
@@ -74,3 +75,24 @@ pub reads_listed : (s : Sheet) (o : Option Content) (d : ℕ) → content_reads 
 reads_listed s None d h f = h
 reads_listed s (Some (Constant v)) d h f = h
 reads_listed s (Some (Formula t)) d h f = formula_listed s t d f ∙ h
+
+-- ---- occupied cells
+
+-- an occupied cell of the rectangles that a content reads is read
+pub occupied_read : (s : Sheet) (o : Option Content) (d : ℕ) → is_one_of (occupied_within s (rectangles_in o)) d ≡ true → content_reads o d ≡ true
+occupied_read s None d h = h
+occupied_read s (Some (Constant v)) d h = h
+occupied_read s (Some (Formula t)) d h =
+    reads_within t d ∙ (and_parts (list_any (λ (r : Area). is_within r d) (rectangles_of t)) _ (sym (in_rectangles (keys_of s) (rectangles_of t) d) ∙ h)).0
+
+occupied : (s : Sheet) (d : ℕ) → has_formula (content_of s d) ≡ true → is_one_of (keys_of s) d ≡ true
+occupied s d f =
+    (and_parts (has_formula (content_of s d)) _ (sym (in_filter (λ c. has_formula (content_of s c)) (keys_of s) d) ∙ formula_cell s d f)).1
+
+-- and each cell with a formula that it reads is one of them
+pub read_occupied : (s : Sheet) (o : Option Content) (d : ℕ) → content_reads o d ≡ true → has_formula (content_of s d) ≡ true → is_one_of (occupied_within s (rectangles_in o)) d ≡ true
+read_occupied s None d h f = h
+read_occupied s (Some (Constant v)) d h f = h
+read_occupied s (Some (Formula t)) d h f =
+    let any = list_any (λ (r : Area). is_within r d) (rectangles_of t) in
+    in_rectangles (keys_of s) (rectangles_of t) d ∙ ap (λ (b : Bool). any && b) (occupied s d f) ∙ and_true any ∙ sym (reads_within t d) ∙ h

@@ -1,5 +1,5 @@
 -- Steps of a walk along references.
-use Rattle.std.proofs.Common.{◌≡◌, ◌==◌, ℕ, Bool, true, false, ◌||◌, cond, if◌then◌else◌, List, [], ◌∷◌, ◌++◌, map, length, Option, Some, None, refl, ap, sym, ◌∙◌, subst, arith, inl, inr, ◌⊎◌, eq-eqb}
+use Rattle.std.proofs.Common.{◌≡◌, ◌==◌, ℕ, Bool, true, false, ◌||◌, cond, if◌then◌else◌, List, [], ◌∷◌, ◌++◌, length, Option, Some, None, refl, ap, sym, ◌∙◌, subst, append_assoc, append-nil, arith, inl, inr, ◌⊎◌, eq-eqb}
 use Rattle.std.proofs.lemmas.Bool.{or_cases, or_left, or_right}
 use Rattle.std.proofs.lemmas.Bool.Decides.{nat_tests}
 use Rattle.std.proofs.lemmas.List.Folds.{list_any-append}
@@ -10,16 +10,14 @@ use Rattle.wi_parser.specs.Sheet.{Sheet, content_of, has_formula}
 use Rattle.wi_parser.specs.Reads.{content_reads}
 use Rattle.wi_propagate.specs.Circular.{circular}
 use Rattle.wi_propagate.specs.Reach.{is_one_of, Reaches}
-use Rattle.wi_propagate.specs.ReadCells.{read_by}
+use Rattle.wi_propagate.specs.ReadCells.{rectangles_in, occupied_within}
 use Rattle.wi_propagate.specs.ReadOrder.{MayFollow}
-use Rattle.wi_propagate.specs.Walk.{cell_of, leaves, has_task, has_leave, LeadsTo, IsOpen, EachLeave, mark_of, IsWalk, IsBelow}
+use Rattle.wi_propagate.specs.Walk.{Task, Enter, Leave, enters, cell_of, leaves, has_task, has_leave, LeadsTo, IsOpen, EachLeave, mark_of, IsWalk, IsBelow}
 use Rattle.wi_propagate.specs.declared.walk.Mark.{Mark}
 use Rattle.wi_propagate.specs.declared.walk.Mark.TheVariants.{Open, Done}
-use Rattle.wi_propagate.specs.declared.walk.Task.{Task}
-use Rattle.wi_propagate.specs.declared.walk.Task.TheVariants.{Enter, Leave}
 use Rattle.wi_propagate.proofs.Walks.{same_cell}
 use Rattle.wi_propagate.proofs.Loops.{loop_circular, reaches_circular, reaches-step}
-use Rattle.wi_propagate.proofs.ReadLists.{listed, reads_listed}
+use Rattle.wi_propagate.proofs.ReadLists.{occupied_read, read_occupied}
 use Rattle.wi_propagate.proofs.ReadOrders.{order-push, order_clear, no_order}
 use Rattle.wi_propagate.proofs.Ends.{ends_open}
 
@@ -234,50 +232,60 @@ walk-left s roots c ts old new order w u = record {
 
 -- ---- a cell that is entered
 
-entered_task : (cells : List ℕ) (d : ℕ) → has_task (map Enter cells) d ≡ is_one_of cells d
+other_way : (b d : Bool) → (b || (d || false)) ≡ (d || b)
+other_way true true = refl
+other_way true false = refl
+other_way false true = refl
+other_way false false = refl
+
+entered_task : (cells : List ℕ) (d : ℕ) → has_task (enters cells) d ≡ is_one_of cells d
 entered_task [] d = refl
-entered_task (c ∷ cs) d = ap (λ (b : Bool). (c == d) || b) (entered_task cs d)
+entered_task (c ∷ cs) d =
+    list_any-append (λ (t : Task). cell_of t == d) (enters cs) (Enter c ∷ []) ∙ other_way (has_task (enters cs) d) (c == d) ∙ ap (λ (b : Bool). (c == d) || b) (entered_task cs d)
 
-entered_leave : (cells : List ℕ) (d : ℕ) → has_leave (map Enter cells) d ≡ false
+entered_leave : (cells : List ℕ) (d : ℕ) → has_leave (enters cells) d ≡ false
 entered_leave [] d = refl
-entered_leave (c ∷ cs) d = entered_leave cs d
+entered_leave (c ∷ cs) d = leave_parts (enters cs) (Enter c ∷ []) d ∙ or_false (has_leave (enters cs) d) ∙ entered_leave cs d
 
-entered_waiting : (P : ℕ → List Task → Type 0) (cells : List ℕ) → EachLeave P (map Enter cells)
-entered_waiting P [] = tt
-entered_waiting P (c ∷ cs) = entered_waiting P cs
+entered_before : (P : ℕ → List Task → Type 0) (cells : List ℕ) (ts : List Task) → EachLeave P ts → EachLeave P (enters cells ++ ts)
+entered_before P [] ts e = e
+entered_before P (c ∷ cs) ts e = subst (EachLeave P) (sym (append_assoc (enters cs) (Enter c ∷ []) ts)) (entered_before P cs (Enter c ∷ ts) e)
+
+entered_waiting : (P : ℕ → List Task → Type 0) (cells : List ℕ) → EachLeave P (enters cells)
+entered_waiting P cells = subst (EachLeave P) (append-nil (enters cells)) (entered_before P cells [] tt)
 
 -- tasks that end with a cell to be left and what it reads: one before it, its own, or one of what it reads
-entered_cases : (ys : List Task) (c : ℕ) (cells : List ℕ) (d : ℕ) → has_task (ys ++ Leave c ∷ map Enter cells) d ≡ true → (has_task ys d ≡ true) ⊎ (c ≡ d) ⊎ (is_one_of cells d ≡ true)
-entered_cases ys c cells d h = at (task_split ys (Leave c ∷ map Enter cells) d h)
+entered_cases : (ys : List Task) (c : ℕ) (cells : List ℕ) (d : ℕ) → has_task (ys ++ Leave c ∷ enters cells) d ≡ true → (has_task ys d ≡ true) ⊎ (c ≡ d) ⊎ (is_one_of cells d ≡ true)
+entered_cases ys c cells d h = at (task_split ys (Leave c ∷ enters cells) d h)
   where
-    end : ((c == d) ≡ true) ⊎ (has_task (map Enter cells) d ≡ true) → (has_task ys d ≡ true) ⊎ (c ≡ d) ⊎ (is_one_of cells d ≡ true)
+    end : ((c == d) ≡ true) ⊎ (has_task (enters cells) d ≡ true) → (has_task ys d ≡ true) ⊎ (c ≡ d) ⊎ (is_one_of cells d ≡ true)
     end (inl k) = inr (inl (same_cell d c k))
     end (inr k) = inr (inr (sym (entered_task cells d) ∙ k))
 
-    at : (has_task ys d ≡ true) ⊎ (has_task (Leave c ∷ map Enter cells) d ≡ true) → (has_task ys d ≡ true) ⊎ (c ≡ d) ⊎ (is_one_of cells d ≡ true)
+    at : (has_task ys d ≡ true) ⊎ (has_task (Leave c ∷ enters cells) d ≡ true) → (has_task ys d ≡ true) ⊎ (c ≡ d) ⊎ (is_one_of cells d ≡ true)
     at (inl k) = inl k
     at (inr k) = end (or_cases (c == d) _ k)
 
 -- no task is lost
-kept_task : (ys : List Task) (c : ℕ) (cells : List ℕ) (d : ℕ) → has_task (ys ++ Enter c ∷ []) d ≡ true → has_task (ys ++ Leave c ∷ map Enter cells) d ≡ true
+kept_task : (ys : List Task) (c : ℕ) (cells : List ℕ) (d : ℕ) → has_task (ys ++ Enter c ∷ []) d ≡ true → has_task (ys ++ Leave c ∷ enters cells) d ≡ true
 kept_task ys c cells d h = at (task_split ys (Enter c ∷ []) d h)
   where
-    at : (has_task ys d ≡ true) ⊎ (has_task (Enter c ∷ []) d ≡ true) → has_task (ys ++ Leave c ∷ map Enter cells) d ≡ true
-    at (inl k) = task_front ys (Leave c ∷ map Enter cells) d k
-    at (inr k) = task_back ys (Leave c ∷ map Enter cells) d (or_left (c == d) _ (eq-eqb c d (of_one (Enter c) d k)))
+    at : (has_task ys d ≡ true) ⊎ (has_task (Enter c ∷ []) d ≡ true) → has_task (ys ++ Leave c ∷ enters cells) d ≡ true
+    at (inl k) = task_front ys (Leave c ∷ enters cells) d k
+    at (inr k) = task_back ys (Leave c ∷ enters cells) d (or_left (c == d) _ (eq-eqb c d (of_one (Enter c) d k)))
 
-kept_or : (b : Bool) (ys : List Task) (c : ℕ) (cells : List ℕ) (d : ℕ) → (b || has_task (ys ++ Enter c ∷ []) d) ≡ true → (b || has_task (ys ++ Leave c ∷ map Enter cells) d) ≡ true
+kept_or : (b : Bool) (ys : List Task) (c : ℕ) (cells : List ℕ) (d : ℕ) → (b || has_task (ys ++ Enter c ∷ []) d) ≡ true → (b || has_task (ys ++ Leave c ∷ enters cells) d) ≡ true
 kept_or true ys c cells d h = refl
 kept_or false ys c cells d h = kept_task ys c cells d h
 
 open-entered : (s : Sheet) (c : ℕ) (order cells : List ℕ) → ((d : ℕ) → is_one_of cells d ≡ true → content_reads (content_of s c) d ≡ true) →
-    (a : ℕ) (ys : List Task) → (a == c) ≡ false → IsOpen s order a (ys ++ Enter c ∷ []) → IsOpen s order a (ys ++ Leave c ∷ map Enter cells)
+    (a : ℕ) (ys : List Task) → (a == c) ≡ false → IsOpen s order a (ys ++ Enter c ∷ []) → IsOpen s order a (ys ++ Leave c ∷ enters cells)
 open-entered s c order cells r a ys n o = record {
   formula = o.formula;
   reads = λ d h f. kept_or (is_one_of order d) ys c cells d (o.reads d h f);
   leads = λ d h. leads d (entered_cases ys c cells d h);
   fresh = o.fresh;
-  once = leave_parts ys (Leave c ∷ map Enter cells) a ∙ ap (λ (b : Bool). b || ((c == a) || has_leave (map Enter cells) a)) (sym (or_false (has_leave ys a)) ∙ sym (leave_parts ys (Enter c ∷ []) a) ∙ o.once) ∙ ap (λ (b : Bool). b || has_leave (map Enter cells) a) (turned a c ∙ n) ∙ entered_leave cells a;
+  once = leave_parts ys (Leave c ∷ enters cells) a ∙ ap (λ (b : Bool). b || ((c == a) || has_leave (enters cells) a)) (sym (or_false (has_leave ys a)) ∙ sym (leave_parts ys (Enter c ∷ []) a) ∙ o.once) ∙ ap (λ (b : Bool). b || has_leave (enters cells) a) (turned a c ∙ n) ∙ entered_leave cells a;
 }
   where
     here : LeadsTo s a c
@@ -288,8 +296,8 @@ open-entered s c order cells r a ys n o = record {
     leads d (inr (inl k)) = subst (LeadsTo s a) k here
     leads d (inr (inr k)) = (here.0, here.1, reaches-step s here.0 c d here.2 (r d k))
 
-waiting-entered : (s : Sheet) (c : ℕ) (order cells : List ℕ) → ((d : ℕ) → is_one_of cells d ≡ true → content_reads (content_of s c) d ≡ true) → IsOpen s order c (map Enter cells) →
-    (ts : List Task) → has_leave ts c ≡ false → EachLeave (IsOpen s order) (ts ++ Enter c ∷ []) → EachLeave (IsOpen s order) (ts ++ Leave c ∷ map Enter cells)
+waiting-entered : (s : Sheet) (c : ℕ) (order cells : List ℕ) → ((d : ℕ) → is_one_of cells d ≡ true → content_reads (content_of s c) d ≡ true) → IsOpen s order c (enters cells) →
+    (ts : List Task) → has_leave ts c ≡ false → EachLeave (IsOpen s order) (ts ++ Enter c ∷ []) → EachLeave (IsOpen s order) (ts ++ Leave c ∷ enters cells)
 waiting-entered s c order cells r o [] n e = (o, entered_waiting (IsOpen s order) cells)
 waiting-entered s c order cells r o (Enter a ∷ ts) n e = waiting-entered s c order cells r o ts n e
 waiting-entered s c order cells r o (Leave a ∷ ts) n e =
@@ -305,13 +313,13 @@ mark_entered i h k false true l e f g j = rw e refl
 mark_entered i h k false false true e f g j = rw (e, g, j) refl
 mark_entered i h k false false false e f g j = rw (e, g, j) refl
 
-marks-entered : (ts : List Task) (order cells : List ℕ) (c a : ℕ) → is_one_of order c ≡ false → cond (is_at (nat_cmp c) a) (Some Open) (mark_of (ts ++ Enter c ∷ []) order a) ≡ mark_of (ts ++ Leave c ∷ map Enter cells) order a
+marks-entered : (ts : List Task) (order cells : List ℕ) (c a : ℕ) → is_one_of order c ≡ false → cond (is_at (nat_cmp c) a) (Some Open) (mark_of (ts ++ Enter c ∷ []) order a) ≡ mark_of (ts ++ Leave c ∷ enters cells) order a
 marks-entered ts order cells c a f =
-    mark_entered (is_at (nat_cmp c) a) (has_leave (ts ++ Enter c ∷ []) a) (has_leave (ts ++ Leave c ∷ map Enter cells) a) (c == a) (is_one_of order a) (has_leave ts a)
+    mark_entered (is_at (nat_cmp c) a) (has_leave (ts ++ Enter c ∷ []) a) (has_leave (ts ++ Leave c ∷ enters cells) a) (c == a) (is_one_of order a) (has_leave ts a)
     (at_key c a)
     (λ k. ap (is_one_of order) (sym (same_cell a c k)) ∙ f)
     (leave_parts ts (Enter c ∷ []) a)
-    (leave_parts ts (Leave c ∷ map Enter cells) a ∙ ap (λ (b : Bool). has_leave ts a || ((c == a) || b)) (entered_leave cells a))
+    (leave_parts ts (Leave c ∷ enters cells) a ∙ ap (λ (b : Bool). has_leave ts a || ((c == a) || b)) (entered_leave cells a))
 
 -- a cell without a mark is neither in the order nor to be left
 unmarked : (ts : List Task) (order : List ℕ) (c : ℕ) → mark_of ts order c ≡ None → (is_one_of order c ≡ false) × (has_leave ts c ≡ false)
@@ -323,20 +331,20 @@ unmarked ts order c h = at (is_one_of order c) (has_leave ts c) refl refl h
     at false false e f h = (e, f)
 
 pub walk-entered : (s : Sheet) (roots : List ℕ) (c : ℕ) (ts : List Task) (old new : BTreeMap ℕ Mark) (order : List ℕ) → IsWalk s roots (ts ++ Enter c ∷ []) old order → has_formula (content_of s c) ≡ true → get nat_cmp old c ≡ None →
-    ((q : ℕ) → get nat_cmp new q ≡ cond (is_at (nat_cmp c) q) (Some Open) (get nat_cmp old q)) → IsWalk s roots (ts ++ Leave c ∷ map Enter (read_by s (content_of s c))) new order
+    ((q : ℕ) → get nat_cmp new q ≡ cond (is_at (nat_cmp c) q) (Some Open) (get nat_cmp old q)) → IsWalk s roots (ts ++ Leave c ∷ enters (occupied_within s (rectangles_in (content_of s c)))) new order
 walk-entered s roots c ts old new order w f n u =
-    let cells = read_by s (content_of s c) in
+    let cells = occupied_within s (rectangles_in (content_of s c)) in
     let none = unmarked (ts ++ Enter c ∷ []) order c (sym (w.marked c) ∙ n) in
     let unleft = sym (leave_parts ts (Enter c ∷ []) c ∙ or_false (has_leave ts c)) ∙ none.1 in
-    let here : IsOpen s order c (map Enter cells) = record {
+    let here : IsOpen s order c (enters cells) = record {
       formula = f;
-      reads = λ d r g. or_right (is_one_of order d) _ (entered_task cells d ∙ reads_listed s (content_of s c) d r g);
-      leads = λ d h. (d, listed s (content_of s c) d (sym (entered_task cells d) ∙ h), (0, refl));
+      reads = λ d r g. or_right (is_one_of order d) _ (entered_task cells d ∙ read_occupied s (content_of s c) d r g);
+      leads = λ d h. (d, occupied_read s (content_of s c) d (sym (entered_task cells d) ∙ h), (0, refl));
       fresh = none.0;
       once = entered_leave cells c;
     } in
     record {
-      waiting = waiting-entered s c order cells (listed s (content_of s c)) here ts unleft w.waiting;
+      waiting = waiting-entered s c order cells (occupied_read s (content_of s c)) here ts unleft w.waiting;
       marked = λ a. u a ∙ ap (λ (m : Option Mark). cond (is_at (nat_cmp c) a) (Some Open) m) (w.marked a) ∙ marks-entered ts order cells c a none.0;
       ordered = w.ordered;
       reached = λ d h. reached d (entered_cases ts c cells d h);
@@ -347,14 +355,14 @@ walk-entered s roots c ts old new order w f n u =
     here : IsBelow s roots c
     here = w.reached c (task_back ts (Enter c ∷ []) c (is_of_one (Enter c)))
 
-    reached : (d : ℕ) → (has_task ts d ≡ true) ⊎ (c ≡ d) ⊎ (is_one_of (read_by s (content_of s c)) d ≡ true) → IsBelow s roots d
+    reached : (d : ℕ) → (has_task ts d ≡ true) ⊎ (c ≡ d) ⊎ (is_one_of (occupied_within s (rectangles_in (content_of s c))) d ≡ true) → IsBelow s roots d
     reached d (inl k) = w.reached d (task_front ts (Enter c ∷ []) d k)
     reached d (inr (inl k)) = subst (IsBelow s roots) k here
-    reached d (inr (inr k)) = (here.0, here.1, reaches-step s here.0 c d here.2 (listed s (content_of s c) d k))
+    reached d (inr (inr k)) = (here.0, here.1, reaches-step s here.0 c d here.2 (occupied_read s (content_of s c) d k))
 
 -- a cell that is looked at for the first time: it has a formula or none
 pub walk-taken : (s : Sheet) (roots : List ℕ) (c : ℕ) (ts more : List Task) (old new : BTreeMap ℕ Mark) (order : List ℕ) → IsWalk s roots (ts ++ Enter c ∷ []) old order → get nat_cmp old c ≡ None → (has_formula (content_of s c) ≡ false → (more ≡ ts) × (new ≡ old)) →
-    (has_formula (content_of s c) ≡ true → more ≡ ts ++ Leave c ∷ map Enter (read_by s (content_of s c))) → (has_formula (content_of s c) ≡ true → Updates nat_cmp old new c (Some Open)) → IsWalk s roots more new order
+    (has_formula (content_of s c) ≡ true → more ≡ ts ++ Leave c ∷ enters (occupied_within s (rectangles_in (content_of s c)))) → (has_formula (content_of s c) ≡ true → Updates nat_cmp old new c (Some Open)) → IsWalk s roots more new order
 walk-taken s roots c ts more old new order w n plain tasks marks = at (has_formula (content_of s c)) refl
   where
     at : (b : Bool) → has_formula (content_of s c) ≡ b → IsWalk s roots more new order
@@ -389,7 +397,7 @@ walk-ended s roots [] marks order w z = none_circular s roots (λ c m. at c m (h
 walk-ended s roots (t ∷ ts) marks order w z = absurd (omega arith)
 
 -- a walk that is to enter each of its roots, with nothing behind it
-pub walk-begun : (s : Sheet) (roots : List ℕ) (marks : BTreeMap ℕ Mark) → IsEmpty marks → IsWalk s roots (map Enter roots) marks []
+pub walk-begun : (s : Sheet) (roots : List ℕ) (marks : BTreeMap ℕ Mark) → IsEmpty marks → IsWalk s roots (enters roots) marks []
 walk-begun s roots marks n = record {
   waiting = entered_waiting (IsOpen s []) roots;
   marked = λ c. no_mark c ∙ ap (λ (b : Bool). if b then Some Open else None) (sym (entered_leave roots c));

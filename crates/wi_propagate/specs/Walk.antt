@@ -1,17 +1,24 @@
 -- A walk along references, depth first.
-use Rattle.std.specs.Prelude.{◌≡◌, ◌==◌, ℕ, ◌+◌, Bool, true, false, ◌||◌, if◌then◌else◌, List, [], ◌∷◌, length, Option, Some, None, is_some, sum_by}
-use Rattle.std.specs.List.{list_any}
+use Rattle.std.specs.Prelude.{◌≡◌, ◌==◌, ℕ, ◌+◌, Bool, true, false, ◌||◌, if◌then◌else◌, List, [], ◌∷◌, ◌++◌, filter, drop, nat_lt, length, Option, Some, None, is_some, sum_by}
+use Rattle.std.specs.List.{list_any, flat_map}
 use Rattle.std.specs.Ordering.{nat_cmp}
 use Rattle.std.specs.BTreeMap.{BTreeMap, get}
+use Rattle.std.specs.Map.{keys_of}
+use Rattle.wi_values.specs.Address.{Area, is_within}
 use Rattle.wi_parser.specs.Sheet.{Sheet, content_of, has_formula, cells_with_formula}
 use Rattle.wi_parser.specs.Reads.{content_reads}
+use Rattle.wi_propagate.specs.Circular.{circular}
 use Rattle.wi_propagate.specs.Reach.{is_one_of, Reaches}
-use Rattle.wi_propagate.specs.ReadCells.{read_by}
+use Rattle.wi_propagate.specs.ReadCells.{rectangles_in, occupied_within}
 use Rattle.wi_propagate.specs.ReadOrder.{IsReadOrder}
 use Rattle.wi_propagate.specs.declared.walk.Mark.{Mark}
 use Rattle.wi_propagate.specs.declared.walk.Mark.TheVariants.{Open, Done}
-use Rattle.wi_propagate.specs.declared.walk.Task.{Task}
-use Rattle.wi_propagate.specs.declared.walk.Task.TheVariants.{Enter, Leave}
+use Rattle.wi_propagate.specs.declared.walk.Visit.{Visit}
+
+-- what is to be done with a cell: to look at it, or to put it into the order
+pub data Task : Type 0 where
+  Enter : ℕ → Task
+  Leave : ℕ → Task
 
 abbrev pub cell_of : Task → ℕ
 cell_of (Enter c) = c
@@ -65,8 +72,51 @@ pub record IsWalk (s : Sheet) (roots : List ℕ) (ts : List Task) (marks : BTree
 
 -- how many tasks a cell that has no mark brings
 abbrev pub tasks_of : Sheet → BTreeMap ℕ Mark → ℕ → ℕ
-tasks_of s marks c = if is_some (get nat_cmp marks c) then 0 else length (read_by s (content_of s c)) + 1
+tasks_of s marks c = if is_some (get nat_cmp marks c) then 0 else length (occupied_within s (rectangles_in (content_of s c))) + 1
 
 -- how many tasks are still to be done, at the most
 abbrev pub tasks_left : Sheet → BTreeMap ℕ Mark → List Task → ℕ
 tasks_left s marks ts = length ts + sum_by (tasks_of s marks) (cells_with_formula s)
+
+-- ---- the tasks that a path stands for
+
+-- the cell comes after the one last looked at, if one was
+abbrev pub is_after : Option ℕ → ℕ → Bool
+is_after None a = true
+is_after (Some c) a = nat_lt c a
+
+-- the occupied cells of a rectangle after the one last looked at
+abbrev pub cells_after : Sheet → Area → Option ℕ → List ℕ
+cells_after s r o = filter (is_after o) (filter (is_within r) (keys_of s))
+
+-- and those of rectangles, in the first of which that one is
+abbrev pub cells_ahead : Sheet → List Area → Option ℕ → List ℕ
+cells_ahead s [] o = []
+cells_ahead s (r ∷ rs) o = cells_after s r o ++ occupied_within s rs
+
+-- the cells that a visit is still to look at
+abbrev pub unread : Sheet → Visit → List ℕ
+unread s v = cells_ahead s (drop v.rectangle (rectangles_in (content_of s v.cell))) v.after
+
+-- a visit that has looked at nothing
+abbrev pub begun : ℕ → Visit
+begun c = record { cell = c; rectangle = 0; after = None }
+
+-- tasks to enter cells, the first of them next
+abbrev pub enters : List ℕ → List Task
+enters [] = []
+enters (c ∷ cs) = enters cs ++ Enter c ∷ []
+
+abbrev pub tasks_at : Sheet → Visit → List Task
+tasks_at s v = Leave v.cell ∷ enters (unread s v)
+
+abbrev pub tasks_in : Sheet → List Visit → List Task
+tasks_in s path = flat_map (tasks_at s) path
+
+-- in each walk these last tasks, marks and order may give way to those
+abbrev pub GoesOn : Sheet → List Task → BTreeMap ℕ Mark → List ℕ → List Task → BTreeMap ℕ Mark → List ℕ → Type 0
+GoesOn s ts marks order us new_marks new_order = (roots : List ℕ) (front : List Task) → IsWalk s roots (front ++ ts) marks order → IsWalk s roots (front ++ us) new_marks new_order
+
+-- a walk with these last tasks, marks and order has a circular root
+abbrev pub HasCycle : Sheet → List Task → BTreeMap ℕ Mark → List ℕ → Type 0
+HasCycle s ts marks order = (roots : List ℕ) (front : List Task) → IsWalk s roots (front ++ ts) marks order → list_any (circular s) roots ≡ true

@@ -1,39 +1,40 @@
 //! Which cells a cell reaches, by a walk along references.
 
-ghost use Rattle.std.specs.Prelude.{◌≡◌, ◌≤◌, ◌++◌, ◌∷◌, [], ℕ, List, Some, true, false, map, IfOk, IfSome, OnOk};
+ghost use Rattle.std.specs.Prelude.{◌≡◌, ◌<◌, ◌≤◌, ◌+◌, ◌++◌, ◌∷◌, [], ℕ, List, Some, None, true, false, IfOk, IfSome, IfNone, OnOk, nat_le};
 ghost use Rattle.std.specs.BTreeMap.{Updates};
 ghost use Rattle.std.specs.Ordering.{nat_cmp};
 ghost use Rattle.std.specs.Bool.{OnFalse, OnTrue};
 ghost use Rattle.std.specs.Option.{is_none};
 ghost use Rattle.std.specs.List.{list_any};
+ghost use Rattle.wi_values.specs.Address.{is_within};
 ghost use Rattle.wi_parser.specs.Sheet.{content_of, has_formula};
 ghost use Rattle.wi_propagate.specs.Circular as cycles;
 ghost use Rattle.wi_propagate.specs.Reach.{is_one_of, Reaches};
-ghost use Rattle.wi_propagate.specs.ReadCells.{formulas_within, read_by};
+ghost use Rattle.wi_propagate.specs.ReadCells.{formulas_within};
 ghost use Rattle.wi_propagate.specs.ReadOrder.{IsReadOrder};
-ghost use Rattle.wi_propagate.specs.Walk.{IsBelow, IsWalk, tasks_left};
+ghost use Rattle.wi_propagate.specs.Walk.{IsBelow, Enter, GoesOn, HasCycle, begun, cells_after, is_after, tasks_in, tasks_left, unread};
 ghost use Rattle.wi_propagate.specs.declared.walk.Mark.TheVariants.{Open, Done};
-ghost use Rattle.wi_propagate.specs.declared.walk.Task.TheVariants.{Enter, Leave};
 
 use crate::seen::formula_at;
 use std::alloc::{AllocError, Global};
 use std::collections::BTreeMap;
 use wi_store::Store;
-use wi_values::{Address, Rect};
+use wi_values::{Address, COLUMNS, Rect};
 
-/// What is to be done with a cell.
+/// A cell that the walk is below, and how far it has come in what the cell's formula reads.
 #[derive(Clone, Copy, Debug)]
-enum Task {
-    /// To look at it, and where it has a formula at what that reads.
-    Enter(Address),
-    /// To put it into the order: what it reads stands there.
-    Leave(Address),
+struct Visit {
+    cell: Address,
+    // The rectangle of the formula that it has come to.
+    rectangle: usize,
+    // The cell of that rectangle that was looked at last, if one was.
+    after: Option<Address>,
 }
 
 /// How far a cell has come.
 #[derive(Clone, Copy, Debug)]
 enum Mark {
-    /// It is to be left.
+    /// It is on the path.
     Open,
     /// It stands in the order.
     Done,
@@ -42,15 +43,14 @@ enum Mark {
 /// A walk along references, depth first.
 #[derive(Drop)]
 struct Walk {
-    alloc: Global,
-    // What is to be done, the last first.
-    tasks: Vec<Task>,
+    // Each cell of it is read by the one before.
+    path: Vec<Visit>,
     marks: BTreeMap<Address, Mark>,
     order: Vec<Address>,
 }
 
 /// The cells with a formula that a cell reaches, itself among them, each once and after those that it reads. None where
-/// the cell is circular. The work is that of `reached_from`.
+/// the cell is circular. The work and the memory are those of `reached_from`.
 pub fn reached(
     alloc: Global,
     store: &Store,
@@ -65,9 +65,9 @@ pub fn reached(
 }
 
 /// The cells with a formula that these cells reach, they among them, each once and after those that it reads. None where
-/// one of these cells is circular. The work grows with the count of the cells reached and of the formulas in the rectangles
-/// that they read, for each of these with the logarithm of the count, and for each rectangle as that of
-/// `Store::push_formulas_within`.
+/// one of these cells is circular. The work grows with the count of the occupied cells in the rectangles that the reached
+/// cells read, each as often as it is read (so with the square of a column of running totals), for each of these as that of
+/// `Store::next_occupied`. The memory grows with the count of the cells reached.
 pub fn reached_from(
     alloc: Global,
     store: &Store,
@@ -78,16 +78,13 @@ pub fn reached_from(
     ensures only { IfOk result (λ o. IfSome o (λ r. (d : ℕ) → is_one_of r.items d ≡ true → IsBelow store.now.sheet cells.now d)) }
     ensures roots { IfOk result (λ o. IfSome o (λ r. (c : ℕ) → is_one_of cells.now c ≡ true → has_formula (content_of store.now.sheet c) ≡ true → is_one_of r.items c ≡ true)) }
 {
-    let mut tasks = Vec::new(alloc);
-    push_enters(&mut tasks, cells)?;
     let mut walk = Walk {
-        alloc,
-        tasks,
+        path: Vec::new(alloc),
         marks: BTreeMap::new(alloc),
         order: Vec::new(alloc),
     };
-    while let Some(task) = walk.tasks.pop() {
-        if walk.meets_cycle(store, task)? {
+    for cell in cells {
+        if walk.meets_cycle(store, *cell)? {
             return Ok(None);
         }
     }
@@ -95,31 +92,63 @@ pub fn reached_from(
 }
 
 impl Walk {
-    /// Does a task. Answers whether a cell is to be entered that is still to be left: then it is on a cycle.
-    fn meets_cycle(&mut self, store: &Store, task: Task) -> Result<bool, AllocError>
-        ensures cycle { IfOk result (λ b. OnTrue b ((roots : List ℕ) → IsWalk store.now.sheet roots (self.old.tasks.items ++ task ∷ []) self.old.marks self.old.order.items → list_any (cycles.circular store.now.sheet) roots ≡ true)) }
-        ensures walk { IfOk result (λ b. OnFalse b ((roots : List ℕ) → IsWalk store.now.sheet roots (self.old.tasks.items ++ task ∷ []) self.old.marks self.old.order.items → IsWalk store.now.sheet roots self.new.tasks.items self.new.marks self.new.order.items)) }
-        ensures less { OnOk result (tasks_left store.now.sheet self.new.marks self.new.tasks.items ≤ tasks_left store.now.sheet self.old.marks self.old.tasks.items) }
+    /// Walks from a cell on to all that it reaches. Answers whether it came upon a cycle.
+    fn meets_cycle(&mut self, store: &Store, root: Address) -> Result<bool, AllocError>
+        requires { self.old.path.items ≡ [] }
+        ensures cycle { IfOk result (λ b. OnTrue b (HasCycle store.now.sheet (Enter root ∷ []) self.old.marks self.old.order.items)) }
+        ensures walk { IfOk result (λ b. OnFalse b (GoesOn store.now.sheet (Enter root ∷ []) self.old.marks self.old.order.items [] self.new.marks self.new.order.items)) }
+        ensures path { IfOk result (λ b. OnFalse b (self.new.path.items ≡ [])) }
     {
-        match task {
-            Task::Leave(cell) => {
-                self.leave(cell)?;
+        if self.enter(store, root)? {
+            return Ok(true);
+        }
+        while let Some(visit) = self.path.pop() {
+            if self.go_on(store, visit)? {
+                return Ok(true);
+            }
+        }
+        Ok(false)
+    }
+
+    /// Goes on from the last cell of the path, which was taken off: to the next cell that it reads, or back. Answers whether
+    /// that closes a cycle.
+    fn go_on(&mut self, store: &Store, visit: Visit) -> Result<bool, AllocError>
+        ensures cycle { IfOk result (λ b. OnTrue b (HasCycle store.now.sheet (tasks_in store.now.sheet (self.old.path.items ++ visit ∷ [])) self.old.marks self.old.order.items)) }
+        ensures walk { IfOk result (λ b. OnFalse b (GoesOn store.now.sheet (tasks_in store.now.sheet (self.old.path.items ++ visit ∷ [])) self.old.marks self.old.order.items (tasks_in store.now.sheet self.new.path.items) self.new.marks self.new.order.items)) }
+        ensures less { OnOk result (tasks_left store.now.sheet self.new.marks (tasks_in store.now.sheet self.new.path.items) < tasks_left store.now.sheet self.old.marks (tasks_in store.now.sheet (self.old.path.items ++ visit ∷ []))) }
+    {
+        let current = visit.cell;
+        match visit.next(store) {
+            Some((cell, ahead)) => {
+                self.path.push(ahead)?;
+                self.enter(store, cell)
+            }
+            None => {
+                self.leave(current)?;
                 Ok(false)
             }
-            Task::Enter(cell) => match self.marks.get(&cell) {
-                Some(Mark::Open) => Ok(true),
-                Some(Mark::Done) => Ok(false),
-                None => {
-                    self.enter(store, cell)?;
-                    Ok(false)
-                }
-            },
+        }
+    }
+
+    /// Goes into a cell that the last one of the path reads. Answers whether it is on the path: then it is on a cycle.
+    fn enter(&mut self, store: &Store, cell: Address) -> Result<bool, AllocError>
+        ensures cycle { IfOk result (λ b. OnTrue b (HasCycle store.now.sheet (tasks_in store.now.sheet self.old.path.items ++ Enter cell ∷ []) self.old.marks self.old.order.items)) }
+        ensures walk { IfOk result (λ b. OnFalse b (GoesOn store.now.sheet (tasks_in store.now.sheet self.old.path.items ++ Enter cell ∷ []) self.old.marks self.old.order.items (tasks_in store.now.sheet self.new.path.items) self.new.marks self.new.order.items)) }
+        ensures less { OnOk result (tasks_left store.now.sheet self.new.marks (tasks_in store.now.sheet self.new.path.items) ≤ tasks_left store.now.sheet self.old.marks (tasks_in store.now.sheet self.old.path.items)) }
+    {
+        match self.marks.get(&cell) {
+            Some(Mark::Open) => Ok(true),
+            Some(Mark::Done) => Ok(false),
+            None => {
+                self.visit(store, cell)?;
+                Ok(false)
+            }
         }
     }
 
     /// Puts a cell into the order.
     fn leave(&mut self, cell: Address) -> Result<(), AllocError>
-        ensures tasks { self.new.tasks.items ≡ self.old.tasks.items }
+        ensures path { self.new.path.items ≡ self.old.path.items }
         ensures order { OnOk result (self.new.order.items ≡ self.old.order.items ++ cell ∷ []) }
         ensures marks { OnOk result (Updates nat_cmp self.old.marks self.new.marks cell (Some Done)) }
     {
@@ -128,32 +157,87 @@ impl Walk {
         Ok(())
     }
 
-    /// Looks at a cell. Where it has a formula, it is left after what that reads.
-    fn enter(&mut self, store: &Store, cell: Address) -> Result<(), AllocError>
+    /// Looks at a cell. Where it has a formula, it comes onto the path.
+    fn visit(&mut self, store: &Store, cell: Address) -> Result<(), AllocError>
         ensures order { self.new.order.items ≡ self.old.order.items }
-        ensures plain { has_formula (content_of store.now.sheet cell) ≡ false → (self.new.tasks.items ≡ self.old.tasks.items) × (self.new.marks ≡ self.old.marks) }
-        ensures tasks { OnOk result (has_formula (content_of store.now.sheet cell) ≡ true → self.new.tasks.items ≡ self.old.tasks.items ++ Leave cell ∷ map Enter (read_by store.now.sheet (content_of store.now.sheet cell))) }
+        ensures plain { has_formula (content_of store.now.sheet cell) ≡ false → (self.new.path.items ≡ self.old.path.items) × (self.new.marks ≡ self.old.marks) }
+        ensures path { OnOk result (has_formula (content_of store.now.sheet cell) ≡ true → self.new.path.items ≡ self.old.path.items ++ begun cell ∷ []) }
         ensures marks { OnOk result (has_formula (content_of store.now.sheet cell) ≡ true → Updates nat_cmp self.old.marks self.new.marks cell (Some Open)) }
     {
-        let Some(formula) = formula_at(store, cell) else {
+        if formula_at(store, cell).is_none() {
             return Ok(());
-        };
-        let mut cells = Vec::new(self.alloc);
-        push_reads(store, formula.rectangles(), &mut cells)?;
+        }
         self.marks.insert(cell, Mark::Open)?;
-        self.tasks.push(Task::Leave(cell))?;
-        push_enters(&mut self.tasks, &cells)
+        self.path.push(Visit {
+            cell,
+            rectangle: 0,
+            after: None,
+        })?;
+        Ok(())
     }
 }
 
-/// Appends tasks to enter cells.
-fn push_enters(tasks: &mut Vec<Task>, cells: &[Address]) -> Result<(), AllocError>
-    ensures { OnOk result (tasks.new.items ≡ tasks.old.items ++ map Enter cells.now) }
-{
-    for cell in cells {
-        tasks.push(Task::Enter(*cell))?;
+impl Visit {
+    /// The next occupied cell that the formula reads, and the visit once that was looked at.
+    fn next(self, store: &Store) -> Option<(Address, Visit)>
+        ensures some { IfSome result (λ r. unread store.now.sheet self ≡ r.0 ∷ unread store.now.sheet r.1) }
+        ensures same { IfSome result (λ r. r.1.cell ≡ self.cell) }
+        ensures none { IfNone result (unread store.now.sheet self ≡ []) }
+    {
+        let formula = formula_at(store, self.cell)?;
+        let rectangles = formula.rectangles();
+        let mut rectangle = self.rectangle;
+        let mut after = self.after;
+        while let Some(area) = rectangles.get(rectangle) {
+            if let Some(cell) = next_within(store, *area, after) {
+                let ahead = Visit {
+                    cell: self.cell,
+                    rectangle,
+                    after: Some(cell),
+                };
+                return Some((cell, ahead));
+            }
+            rectangle += 1;
+            after = None;
+        }
+        None
     }
-    Ok(())
+}
+
+/// The first occupied cell of a rectangle after the one looked at last.
+fn next_within(store: &Store, area: Rect, after: Option<Address>) -> Option<Address>
+    ensures some { IfSome result (λ c. cells_after store.now.sheet area after ≡ c ∷ cells_after store.now.sheet area (Some c)) }
+    ensures none { IfNone result (cells_after store.now.sheet area after ≡ []) }
+{
+    store.cells_stand_in_order();
+    let from = first_after(area, after)?;
+    store.next_occupied(area, from)
+}
+
+/// From where on the cells of a rectangle come after the one looked at last, if any of them does.
+fn first_after(area: Rect, after: Option<Address>) -> Option<Address>
+    ensures some { IfSome result (λ from. (a : ℕ) → is_within area a ≡ true → is_after after a ≡ nat_le from a) }
+    ensures none { IfNone result ((a : ℕ) → is_within area a ≡ true → is_after after a ≡ false) }
+{
+    match after {
+        None => Some(area.first()),
+        Some(cell) => successor(cell, area.last()),
+    }
+}
+
+/// The address after another in row-major order, unless that is the last one or comes later.
+fn successor(cell: Address, last: Address) -> Option<Address>
+    ensures some { IfSome result (λ next. next ≡ cell + 1) }
+    ensures none { IfNone result (last ≤ cell) }
+{
+    if last <= cell {
+        return None;
+    }
+    if cell.column() + 1 < COLUMNS {
+        Some(Address::at(cell.row(), cell.column() + 1))
+    } else {
+        Some(Address::at(cell.row() + 1, 0))
+    }
 }
 
 /// Appends the cells with a formula of rectangles, of one rectangle after the other. The work for each grows as that of

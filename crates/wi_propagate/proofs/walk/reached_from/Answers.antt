@@ -1,17 +1,26 @@
-use Rattle.std.proofs.Common.{sym, arith}
+use Rattle.std.proofs.Common.{◌≡◌, ◌+◌, [], List, ℕ, length, drop, suc, sym, refl, ap, subst, arith}
+use Rattle.std.proofs.lemmas.List.{drop_all}
+use Rattle.wi_propagate.specs.Walk.{IsWalk, enters}
 use Rattle.wi_propagate.proofs.WalkSteps.{walk-begun, walk-ended}
+use Rattle.wi_propagate.proofs.PathSteps.{root-cycle, root-walked}
 use Rattle.wi_propagate.proofs.walk.reached_from.Goals as goal
 
-pub loop-task-init : goal.loop-task-init
-loop-task-init c =
-    rw (c.in_ok-push_enters.ensures, c.new-tasks.ensures.items, c.new-2.ensures.items) (walk-begun c.args.store.now.sheet c.args.cells.now c.new.result c.new.ensures.empty)
+pub loop-cell-init : goal.loop-cell-init
+loop-cell-init c = (rw c.new-3.ensures.items (walk-begun c.args.store.now.sheet c.args.cells.now c.new-2.result c.new-2.ensures.empty), c.new.ensures.items)
 
-pub loop-task-preserved : goal.loop-task-preserved
-loop-task-preserved c =
+pub loop-cell-preserved : goal.loop-cell-preserved
+loop-cell-preserved c =
+    let s = c.args.store.now.sheet in
+    let cells = c.args.cells.now in
+    let i = c.loop-cell.cell-index in
     let walk = rw c.if-branch.false at c.in_ok-meets_cycle.ensures.walk in
-    walk c.args.cells.now (rw c.in-Some.ensures.items at c.loop-task.invariant)
+    let path = rw c.if-branch.false at c.in_ok-meets_cycle.ensures.path in
+    let one : suc i ≡ i + 1 = omega arith in
+    (subst (λ (n : ℕ). IsWalk s cells (enters (drop n cells)) c.meets_cycle.new.self.marks c.meets_cycle.new.self.order.items) one (root-walked s cells i c.cell-item.result c.loop-cell.walk.marks c.meets_cycle.new.self.marks c.loop-cell.walk.order.items c.meets_cycle.new.self.order.items c.loop-cell-test.true c.cell-item.is c.loop-cell.invariant.0 walk), path)
 
 pub returns-clause-circular : goal.returns-clause-circular
 returns-clause-circular c =
-    let cases = rw c.in_default.is at c.pop.ensures.cases in
-    sym (walk-ended c.args.store.now.sheet c.args.cells.now c.loop-task.walk.tasks.items c.loop-task.walk.marks c.loop-task.walk.order.items c.loop-task.invariant (omega (arith, c.loop-task.walk.tasks.ok, cases.0)))
+    let s = c.args.store.now.sheet in
+    let cells = c.args.cells.now in
+    let none : drop c.loop-cell.cell-index cells ≡ [] = drop_all c.loop-cell.cell-index cells (omega (arith, c.loop-cell-test.false)) in
+    sym (walk-ended s cells (enters (drop c.loop-cell.cell-index cells)) c.loop-cell.walk.marks c.loop-cell.walk.order.items c.loop-cell.invariant.0 (ap (λ (xs : List ℕ). length (enters xs)) none))
