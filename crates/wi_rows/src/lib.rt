@@ -8,6 +8,8 @@ pub use given::Given;
 pub use taken::Taken;
 
 #[cfg(test)]
+mod chains;
+#[cfg(test)]
 mod faults;
 #[cfg(test)]
 mod formulas;
