@@ -3,14 +3,15 @@
 ghost use Rattle.std.specs.Prelude.{◌≡◌, ◌<◌, IfOk};
 ghost use Rattle.wi_parser.specs.Sheet.{put_all};
 ghost use Rattle.wi_functions.specs.Wants.{IfDone};
+ghost use Rattle.wi_propagate.specs.Circular as cycles;
 ghost use Rattle.wi_propagate.specs.CellValue as show;
 ghost use Rattle.wi_propagate.specs.Findings.{AreAllRight};
 
 use crate::answers::{answer, smallest_with};
-use crate::circular::is_circular;
 use crate::findings::{Findings, FoundWhatIf};
 use crate::seen::{Seen, content_in};
-use std::alloc::Global;
+use crate::walk::reached;
+use std::alloc::{AllocError, Global};
 use std::test::Fail;
 use wi_fraction::Fraction;
 use wi_functions::{Meter, Outcome, Want};
@@ -53,6 +54,13 @@ fn is_done(outcome: &Outcome, value: i128) -> Result<bool, Fail> {
 
 fn asks_for(outcome: &Outcome, at: Address) -> bool {
     matches!(outcome, Outcome::Needs(Want::Cell(wanted)) if *wanted == at)
+}
+
+// Whether a cell is on or above a cycle.
+fn is_circular(alloc: Global, store: &Store, at: Address) -> Result<bool, AllocError>
+    ensures { IfOk result (λ b. b ≡ cycles.circular store.now.sheet at) }
+{
+    Ok(reached(alloc, store, at)?.is_none())
 }
 
 // One evaluation of the formula in a cell, with what was found.
