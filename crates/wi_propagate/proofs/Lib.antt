@@ -16,8 +16,6 @@ pub mod Rectangles
 pub mod FoundPairs
 pub mod Rightness
 pub mod Lacks
-pub mod Known
-pub mod Missing
 pub mod Ends
 pub mod Agreement
 pub mod Locality
@@ -52,5 +50,6 @@ pub mod Stacks
 pub mod Budgets
 pub mod Running
 pub mod Showing
+pub mod ShowingEntries
 pub mod Cursors
 pub mod PathSteps

@@ -13,10 +13,8 @@ pub mod ReadOrder
 pub mod Walk
 pub mod Remembered
 pub mod Seen
-pub mod Found
 pub mod Findings
 pub mod Answers
-pub mod Ends
 pub mod Plain
 pub mod Memory
 pub mod Frames

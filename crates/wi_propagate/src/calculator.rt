@@ -41,8 +41,7 @@ pub trait Calculator {
 
     /// What an entry of a data table shows under replacements, which stand in the order of their addresses, one for each:
     /// the value of the formula cell if each input, the first of a pair, had the value of its replacement cell, the second.
-    /// An entry stands in no cell, so the sheet stays as it is, and no cell reads it. In
-    /// `PlainCalculator` the work may grow with the product of the demands that stand one below the other.
+    /// An entry stands in no cell, so the sheet stays as it is, and no cell reads it.
     fn what_if_value(
         &mut self,
         put: &[Replacement],

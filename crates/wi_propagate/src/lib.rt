@@ -3,11 +3,9 @@
 
 mod answers;
 mod calculator;
-mod circular;
 mod cone;
 mod engine;
 mod findings;
-mod found;
 mod frame;
 pub mod laws;
 mod lookup;

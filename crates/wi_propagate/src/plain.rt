@@ -59,6 +59,9 @@ impl Calculator for PlainCalculator {
         shown(self.alloc, &self.store, put, at, &mut self.meter)
     }
 
+    /// What an entry of a data table shows under replacements. A formula is evaluated once for each list of the replacements
+    /// that reach it under which its value is asked for, for whichever cell of the entry. What was found is forgotten at the
+    /// end.
     fn what_if_value(
         &mut self,
         put: &[Replacement],

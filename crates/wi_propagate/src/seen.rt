@@ -1,14 +1,12 @@
 //! What stands in a cell under replacements.
 
-ghost use Rattle.std.specs.Prelude.{◌≡◌, None, false, IfOk, IfSome, IfNone};
-ghost use Rattle.std.specs.Option.{option_copied};
+ghost use Rattle.std.specs.Prelude.{◌≡◌, false, IfSome, IfNone};
 ghost use Rattle.wi_parser.specs.Sheet.{constant, content_of, has_formula, put_all};
-ghost use Rattle.wi_propagate.specs.Seen.{content_seen, last_from};
+ghost use Rattle.wi_propagate.specs.Seen.{content_seen};
 
-use std::alloc::{AllocError, Global};
 use wi_parser::{Content, Formula};
 use wi_store::Store;
-use wi_values::{Address, Replacement, Value};
+use wi_values::{Address, Value};
 use wi_worlds::World;
 
 /// What stands in a cell.
@@ -17,16 +15,6 @@ pub enum Seen<'a> {
     Nothing,
     Constant(&'a Value),
     Formula(&'a Formula),
-}
-
-/// What stands in a cell under replacements, of which the last for a cell stands.
-pub fn content_under<'a>(store: &'a Store, put: &'a [Replacement], at: Address) -> Seen<'a>
-    ensures { content_seen result ≡ content_of (put_all store.now.sheet put.now) at }
-{
-    match last_put(put, at) {
-        Some(value) => constant(value),
-        None => stored(store, at),
-    }
 }
 
 /// What stands in a cell under the replacements of a world. The work grows with the logarithms of the counts of
@@ -76,32 +64,4 @@ pub fn formula_at(store: &Store, at: Address) -> Option<&Formula>
         Seen::Constant(_) => None,
         Seen::Formula(formula) => Some(formula),
     }
-}
-
-/// The last replacement for a cell.
-fn last_put(put: &[Replacement], at: Address) -> Option<&Value>
-    ensures { option_copied result ≡ last_from put.now at None }
-{
-    let mut found = None;
-    for replacement in put {
-        if replacement.at == at {
-            found = Some(&replacement.value);
-        }
-    }
-    found
-}
-
-/// The same replacements once more.
-pub fn copies(alloc: Global, put: &[Replacement]) -> Result<Vec<Replacement>, AllocError>
-    ensures { IfOk result (λ v. v.items ≡ put.now) }
-{
-    let mut copies = Vec::new(alloc);
-    for replacement in put {
-        let value = replacement.value.copy(alloc)?;
-        copies.push(Replacement {
-            at: replacement.at,
-            value,
-        })?;
-    }
-    Ok(copies)
 }

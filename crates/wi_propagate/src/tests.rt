@@ -240,6 +240,34 @@ fn entries_of_a_data_table(rt: HostRuntime) -> Result<(), Fail> {
     let b2 = entry(&mut calculator, "B2", "B2", "A4")?;
     assert_eq!(rt; b2, number(7, 1)?);
     assert_eq!(rt; entry(&mut calculator, "B2", "B2", "A9")?, number(0, 1)?);
+    // No more than B2 with A4's value in B1: where B2 is replaced, its formula isn't asked for.
+    assert_eq!(rt; calculator.evaluations(), 1);
+    assert_eq!(rt; calculator.restarts(), 0);
+    Ok(())
+}
+
+// Both replacement cells and the formula cell rest on A2.
+#[test]
+fn entry_values_each_once(rt: HostRuntime) -> Result<(), Fail> {
+    let alloc = rt.alloc();
+    let mut calculator = PlainCalculator::new(alloc, Limits::standard());
+    for (at, text) in [
+        ("A1", "2"),
+        ("A2", "=[.A1]*[.A1]"),
+        ("A3", "=[.A2]+1"),
+        ("A4", "=[.A2]+2"),
+        ("C1", "=[.B1]*[.B2]+[.A2]"),
+    ] {
+        set(alloc, &mut calculator, at, text)?;
+    }
+    let c1 = Address::read(b"C1")?;
+    let first = (Address::read(b"B1")?, Address::read(b"A3")?);
+    let second = (Address::read(b"B2")?, Address::read(b"A4")?);
+    let value = calculator.what_if_value(&[], c1, &[first, second])?;
+    assert_eq!(rt; value, number(34, 1)?);
+    // A2, A3, A4 and C1. The others each lack A2 at first; B1 and B2 are constants where C1 is valued.
+    assert_eq!(rt; calculator.evaluations(), 4);
+    assert_eq!(rt; calculator.restarts(), 3);
     Ok(())
 }
 
@@ -250,8 +278,11 @@ fn circular_entries(rt: HostRuntime) -> Result<(), Fail> {
     let circular = Value::Fault(ErrorKind::Circular);
     assert_eq!(rt; entry(&mut calculator, "B2", "B1", "A4")?, circular);
     assert_eq!(rt; entry(&mut calculator, "A4", "A4", "B1")?, circular);
+    // A circular entry is found with no evaluation.
+    assert_eq!(rt; calculator.evaluations(), 0);
     let b2 = entry(&mut calculator, "B2", "A4", "B1")?;
     assert_eq!(rt; b2, number(30, 1)?);
+    assert_eq!(rt; calculator.evaluations(), 1);
     Ok(())
 }
 

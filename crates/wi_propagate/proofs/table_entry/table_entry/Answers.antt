@@ -1,24 +1,48 @@
-use Rattle.std.proofs.Common.{sym, ◌∙◌}
+use Rattle.std.proofs.Common.{◌≡◌, true, false, sym, ◌∙◌}
 use Rattle.std.proofs.lemmas.Result.{IfOk-weaker}
-use Rattle.wi_propagate.proofs.TableEntries.{test_of_cells, cells_open, entry_circular, entry_open}
+use Rattle.std.specs.List.{list_any}
+use Rattle.wi_propagate.specs.Circular.{circular}
+use Rattle.wi_propagate.specs.Demand.{wants}
+use Rattle.wi_propagate.proofs.TableEntries.{test_of_cells, entry_circular}
+use Rattle.wi_propagate.proofs.Showing.{put_alone, nothing_found}
+use Rattle.wi_propagate.proofs.ShowingEntries.{replacing_readable, entry_value, entry_at_most, entry_evaluations}
 use Rattle.wi_propagate.proofs.table_entry.table_entry.Goals as goal
 
-pub returns-then-branch : goal.returns-then-branch
-returns-then-branch c =
+pub returns-in_default-clause-value : goal.returns-in_default-clause-value
+returns-in_default-clause-value c =
     let s = c.args.store.now.sheet in
     let test = test_of_cells s c.args.formula_cell c.args.pairs.now c.deref.result.now (c.deref.ensures.value ∙ c.in_ok-cells.ensures) in
-    sym (entry_circular s c.args.put.now c.args.formula_cell c.args.pairs.now (test ∙ sym c.in_ok-any_is_circular.ensures ∙ c.if-branch.true))
+    let circles : list_any (circular s) c.deref.result.now ≡ true = sym (rw c.in_default.is at c.in_ok-order.ensures.circular) in
+    sym (entry_circular s c.args.put.now c.args.formula_cell c.args.pairs.now (test ∙ circles))
 
-pub open_entry-requires : goal.open_entry-requires
-open_entry-requires c =
+pub open_entry-requires-clause-replacing : goal.open_entry-requires-clause-replacing
+open_entry-requires-clause-replacing c =
     let s = c.args.store.now.sheet in
-    let test = test_of_cells s c.args.formula_cell c.args.pairs.now c.deref.result.now (c.deref.ensures.value ∙ c.in_ok-cells.ensures) in
-    let clear = cells_open s c.args.formula_cell c.args.pairs.now (test ∙ sym c.in_ok-any_is_circular.ensures ∙ c.if-branch.false) in
-    record { formula_cell = clear.0; replacing = clear.1 }
+    let clear : list_any (circular s) c.deref.result.now ≡ false = sym (rw c.in-Some.is at c.in_ok-order.ensures.circular) in
+    let roots = rw c.in-Some.is at c.in_ok-order.ensures.roots in
+    replacing_readable s c.args.formula_cell c.args.pairs.now c.deref.result.now (c.deref.ensures.value ∙ c.in_ok-cells.ensures) clear c.in-Some.order.items c.new-memo.result c.new-memo.ensures.value roots
 
-pub returns : goal.returns
-returns c =
+pub returns-clause-value : goal.returns-clause-value
+returns-clause-value c =
     let s = c.args.store.now.sheet in
-    let test = test_of_cells s c.args.formula_cell c.args.pairs.now c.deref.result.now (c.deref.ensures.value ∙ c.in_ok-cells.ensures) in
-    let shows = entry_open s c.args.put.now c.args.formula_cell c.args.pairs.now (test ∙ sym c.in_ok-any_is_circular.ensures ∙ c.if-branch.false) in
-    IfOk-weaker c.open_entry.result _ _ (λ v h. h ∙ sym shows) c.open_entry.ensures
+    let clear : list_any (circular s) c.deref.result.now ≡ false = sym (rw c.in-Some.is at c.in_ok-order.ensures.circular) in
+    let same = put_alone c.in_ok-world.world c.new.result c.args.put.now c.requires c.new.ensures c.in_ok-world.ensures.list in
+    IfOk-weaker c.open_entry.result _ _
+    (λ v h. entry_value s c.args.formula_cell c.args.pairs.now c.deref.result.now (c.deref.ensures.value ∙ c.in_ok-cells.ensures) clear c.in_ok-world.world c.args.put.now v c.requires same h)
+    c.open_entry.ensures.value
+
+pub returns-clause-evaluations : goal.returns-clause-evaluations
+returns-clause-evaluations c =
+    let s = c.args.store.now.sheet in
+    let clear : list_any (circular s) c.deref.result.now ≡ false = sym (rw c.in-Some.is at c.in_ok-order.ensures.circular) in
+    let same = put_alone c.in_ok-world.world c.new.result c.args.put.now c.requires c.new.ensures c.in_ok-world.ensures.list in
+    entry_evaluations s c.args.formula_cell c.args.pairs.now c.deref.result.now (c.deref.ensures.value ∙ c.in_ok-cells.ensures) clear c.in_ok-world.world c.args.put.now c.args.meter.now.evaluations c.open_entry.new.meter.evaluations same
+    (nothing_found s c.in-Some.order.items c.new-memo.result _ (λ k. 1) c.args.meter.now.evaluations c.open_entry.new.meter.evaluations c.new-memo.ensures.value c.open_entry.ensures.evaluations)
+
+pub returns-clause-restarts : goal.returns-clause-restarts
+returns-clause-restarts c =
+    let s = c.args.store.now.sheet in
+    let clear : list_any (circular s) c.deref.result.now ≡ false = sym (rw c.in-Some.is at c.in_ok-order.ensures.circular) in
+    let same = put_alone c.in_ok-world.world c.new.result c.args.put.now c.requires c.new.ensures c.in_ok-world.ensures.list in
+    entry_at_most s c.args.formula_cell c.args.pairs.now c.deref.result.now (c.deref.ensures.value ∙ c.in_ok-cells.ensures) clear c.in_ok-world.world c.args.put.now (wants s) c.args.meter.now.restarts c.open_entry.new.meter.restarts same
+    (nothing_found s c.in-Some.order.items c.new-memo.result _ (wants s) c.args.meter.now.restarts c.open_entry.new.meter.restarts c.new-memo.ensures.value c.open_entry.ensures.restarts)

@@ -1,11 +1,15 @@
-use Rattle.std.proofs.Common.{◌≡◌, ℕ, false, ap, ◌∙◌}
-use Rattle.wi_propagate.specs.Circular.{circular}
-use Rattle.wi_propagate.proofs.Ends.{open_ends}
+use Rattle.std.proofs.Common.{◌≡◌, List, ℕ, take, ap, ◌∙◌, arith}
+use Rattle.std.proofs.lemmas.Grind.{common_steps}
+use Rattle.std.proofs.lemmas.Result.{IfOk-weaker}
+use Rattle.wi_parser.specs.Sheet.{put_all}
+use Rattle.wi_propagate.specs.CellValue.{replacements, cell_value}
+use Rattle.wi_propagate.proofs.Awaiting.{replaced_world}
 use Rattle.wi_propagate.proofs.table_entry.with_inputs.Goals as goal
 
-pub value_under-requires : goal.value_under-requires
-value_under-requires c =
+pub returns-clause-world : goal.returns-clause-world
+returns-clause-world g c =
     let s = c.args.store.now.sheet in
-    let x = c.pair-item.result in
-    let clear : circular s x.1 ≡ false = ap (λ (y : ℕ × ℕ). circular s y.1) c.pair-item.is ∙ c.requires c.loop-pair.pair-index x c.loop-pair-test.true in
-    open_ends c.occupied.result s x.1 c.occupied.ensures clear
+    let w = c.args.world.now in
+    let whole : take c.loop-pair.pair-index c.args.pairs.now ≡ c.args.pairs.now = grind (arith, common_steps) in
+    let inputs = c.deref.ensures.value ∙ c.loop-pair.invariant.inputs ∙ ap (λ (ps : List (ℕ × ℕ)). replacements (cell_value (put_all s w)) ps) whole in
+    IfOk-weaker c.with.result _ _ (λ v h. replaced_world s w v c.deref.result.now c.args.pairs.now inputs h) c.with.ensures.list

@@ -1,7 +1,17 @@
-use Rattle.std.proofs.Common.{◌≡◌, ◌++◌, take}
+use Rattle.std.proofs.Common.{◌≡◌, take}
 use Rattle.wi_parser.specs.Sheet.{put_all}
 use Rattle.wi_propagate.specs.CellValue.{replacements, cell_value}
+use Rattle.wi_propagate.specs.Demand.{wants}
+use Rattle.wi_propagate.specs.Memory.{IsMemoryOf}
+use Rattle.wi_propagate.specs.Spending.{CountsFound}
+use Rattle.wi_propagate.specs.TableEntry.{HasReplacing}
 use Rattle.wi_propagate.proofs.table_entry.with_inputs.Given as goal
 
 abbrev pub invariant-loop-pair : goal.invariant-loop-pair
-invariant-loop-pair l = l.all.items ≡ l.put ++ replacements (cell_value (put_all l.store.sheet l.put)) (take l.pair-index l.pairs)
+invariant-loop-pair g l = record {
+  inputs : l.inputs.items ≡ replacements (cell_value (put_all l.store.sheet l.world)) (take l.pair-index l.pairs);
+  memory : IsMemoryOf l.store.sheet (g.M.Memo.memory l.memo);
+  same_cells : (g.M.Memo.memory l.memo).covers ≡ (g.M.Memo.memory l.fn.memo).covers;
+  evaluations : CountsFound l.store.sheet (HasReplacing l.store.sheet l.world l.pairs) (λ k. 1) (g.M.Memo.memory l.fn.memo).found (g.M.Memo.memory l.memo).found l.fn.meter.evaluations l.meter.evaluations;
+  restarts : CountsFound l.store.sheet (HasReplacing l.store.sheet l.world l.pairs) (wants l.store.sheet) (g.M.Memo.memory l.fn.memo).found (g.M.Memo.memory l.memo).found l.fn.meter.restarts l.meter.restarts;
+}
