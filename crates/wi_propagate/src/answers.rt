@@ -87,18 +87,9 @@ pub fn smallest_with(rectangles: &[Rect], at: Address) -> Rect
 fn smaller(first: Rect, second: Rect) -> Rect
     ensures { result ≡ if nat_lt (size_of second) (size_of first) then second else first }
 {
-    if size(second) < size(first) {
+    if second.size() < first.size() {
         second
     } else {
         first
     }
-}
-
-/// How many cells a rectangle has.
-fn size(area: Rect) -> u64
-    ensures { result ≡ size_of area }
-{
-    let rows = (area.last().row() + 1).saturating_sub(area.first().row());
-    let columns = (area.last().column() + 1).saturating_sub(area.first().column());
-    u64::from(rows) * u64::from(columns)
 }

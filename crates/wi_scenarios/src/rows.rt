@@ -3,7 +3,7 @@
 ghost use Rattle.std.specs.Prelude.{◌≡◌, ◌++◌, ◌<◌, IfOk, OnOk, string_bytes};
 ghost use Rattle.std.specs.List.{flat_map};
 ghost use Rattle.std.specs.Io.{StartsWith};
-ghost use Rattle.wi_values.specs.Address.{size_of, rows, rows_in};
+ghost use Rattle.wi_values.specs.Address.{rows, rows_in};
 ghost use Rattle.wi_scenarios.specs.ShowStep.{text_at, row_shown};
 
 use std::alloc::{AllocError, Global};
@@ -13,15 +13,6 @@ use wi_values::{Address, Rect};
 
 /// How many cells may be asked for at once.
 pub const MAX_AREA: u64 = 65_536;
-
-/// How many cells a rectangle has.
-pub fn size(area: Rect) -> u64
-    ensures { result ≡ size_of area }
-{
-    let rows = (area.last().row() + 1).saturating_sub(area.first().row());
-    let columns = (area.last().column() + 1).saturating_sub(area.first().column());
-    u64::from(rows) * u64::from(columns)
-}
 
 /// The text that a cell shows.
 fn shown_text<C: Calculator>(

@@ -8,7 +8,7 @@ ghost use Rattle.wi_scenarios.specs.FormulaStep.{formula_step};
 
 use crate::formula_text::append_content;
 use crate::refusal::Refusal;
-use crate::rows::{MAX_AREA, push_rows, size};
+use crate::rows::{MAX_AREA, push_rows};
 use std::alloc::{AllocError, Global};
 use std::marker::Model;
 use wi_parser::Content;
@@ -68,7 +68,7 @@ impl<C: Calculator> Workbook<C> {
         ensures { (records : List ℕ) × (out.new.items ≡ out.old.items ++ records)
             × Serves (show_step self.old area) result self.old self.new records }
     {
-        if size(area) > MAX_AREA {
+        if area.size() > MAX_AREA {
             return Err(Refusal::TooLarge);
         }
         let before = out.len();

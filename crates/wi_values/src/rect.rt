@@ -3,7 +3,7 @@
 ghost use Rattle.std.specs.Prelude.{◌≡◌, ◌==◌, ◌<◌, length, IfSome};
 ghost use Rattle.std.specs.List.{position};
 ghost use Rattle.std.specs.Str.{byte};
-ghost use Rattle.wi_values.specs.Address.{rect_of, is_within};
+ghost use Rattle.wi_values.specs.Address.{rect_of, is_within, size_of};
 ghost use Rattle.wi_values.specs.AddressReading.{corners, read_rect};
 
 use crate::address::{Address, AddressFault};
@@ -76,6 +76,15 @@ impl Rect {
     {
         (self.first.row() <= at.row() && at.row() <= self.last.row())
             && (self.first.column() <= at.column() && at.column() <= self.last.column())
+    }
+
+    /// How many cells it has.
+    pub fn size(self) -> u64
+        ensures { result ≡ size_of self }
+    {
+        let rows = self.last.row() + 1 - self.first.row();
+        let columns = self.last.column() + 1 - self.first.column();
+        u64::from(rows) * u64::from(columns)
     }
 }
 

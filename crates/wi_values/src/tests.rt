@@ -112,6 +112,7 @@ fn rectangles_are_read(rt: HostRuntime) {
 #[test]
 fn cells_of_a_rectangle(rt: HostRuntime) {
     let area = Rect::new(Address::at(4, 1), Address::at(1, 3));
+    assert_eq!(rt; area.size(), 12);
     for (row, column, lies_in_it) in [
         (1, 1, true),
         (1, 3, true),
