@@ -1,8 +1,8 @@
 //! Values that were found in one call.
 
-ghost use Rattle.std.specs.Prelude.{◌≡◌, [], length, OnOk, OnErr};
+ghost use Rattle.std.specs.Prelude.{◌≡◌, [], OnOk, OnErr};
 ghost use Rattle.std.specs.Option.{option_copied};
-ghost use Rattle.wi_cache.specs.Entries.{HasOneEach, Puts, value_for};
+ghost use Rattle.wi_cache.specs.Entries.{Puts, value_for};
 
 use crate::key::Key;
 use std::alloc::{AllocError, Global};

@@ -18,7 +18,8 @@ use Rattle.wi_functions.specs.declared.evaluation.Want.{Want}
 use Rattle.wi_functions.specs.declared.evaluation.Want.TheVariants.{Cell, WhatIf}
 use Rattle.wi_propagate.specs.Circular.{circular}
 use Rattle.wi_propagate.specs.Rank.{rank}
-use Rattle.wi_propagate.specs.Demand.{Case, reaching, case_of, what_if_world, what_ifs_of, what_ifs_in, reads_here, any_reads_here, read_here, rests_on, RestsOn}
+use Rattle.wi_propagate.specs.Demand.{Case, reaching, case_of, with_what_if, what_ifs_of, what_ifs_in, reads_here, any_reads_here, formulas_read_here, rests_on}
+use Rattle.wi_propagate.specs.Spending.{RestsOn}
 use Rattle.wi_propagate.proofs.Layers.{is_one_of}
 use Rattle.wi_propagate.proofs.Walks.{same_cell, formula_cell}
 use Rattle.wi_propagate.proofs.Bounds.{put_formula}
@@ -41,13 +42,13 @@ is_in (x ∷ xs) a h = at (x == a) refl h (is_in xs a)
 pub read_is_below : (s : Sheet) (w : List Replacement) (t : Tree) (d : ℕ) → reads_here t d ≡ true → has_formula (content_of s d) ≡ true → Contains (rests_on s w t) (case_of s w d)
 read_is_below s w t d h f =
     let m = in_filter (reads_here t) (cells_with_formula s) d (is_in (cells_with_formula s) d (formula_cell s d f)) h in
-    contains_in (rests_on s w t) (case_of s w d) (in_left (map (case_of s w) (read_here s t)) _ (case_of s w d) (in_map (case_of s w) (read_here s t) d m))
+    contains_in (rests_on s w t) (case_of s w d) (in_left (map (case_of s w) (formulas_read_here s t)) _ (case_of s w d) (in_map (case_of s w) (formulas_read_here s t) d m))
 
 -- and on the formula cell of each of its what-ifs, with the replacements of that what-if put in
-pub what_if_is_below : (s : Sheet) (w : List Replacement) (t : Tree) (x : ℕ × List (ℕ × ℕ)) → Contains (what_ifs_of t) x → Contains (rests_on s w t) (case_of s (what_if_world s w x.1) x.0)
+pub what_if_is_below : (s : Sheet) (w : List Replacement) (t : Tree) (x : ℕ × List (ℕ × ℕ)) → Contains (what_ifs_of t) x → Contains (rests_on s w t) (case_of s (with_what_if s w x.1) x.0)
 what_if_is_below s w t x h =
-    let inner : ℕ × List (ℕ × ℕ) → Case = λ y. case_of s (what_if_world s w y.1) y.0 in
-    contains_in (rests_on s w t) (inner x) (in_right (map (case_of s w) (read_here s t)) (map inner (what_ifs_of t)) (inner x) (in_map inner (what_ifs_of t) x (in_contained (what_ifs_of t) x h)))
+    let inner : ℕ × List (ℕ × ℕ) → Case = λ y. case_of s (with_what_if s w y.1) y.0 in
+    contains_in (rests_on s w t) (inner x) (in_right (map (case_of s w) (formulas_read_here s t)) (map inner (what_ifs_of t)) (inner x) (in_map inner (what_ifs_of t) x (in_contained (what_ifs_of t) x h)))
 
 -- a case rests on that of each cell that its formula reads as the sheet stands, where that has a formula too
 pub rests_on_read : (s : Sheet) (k : Case) (t : Tree) (d : ℕ) → content_of (put_all s k.1) k.0 ≡ Some (Formula t) → reads_here t d ≡ true →
@@ -61,7 +62,7 @@ rests_on_read s k t d e h f = record {
 
 -- and on that of each formula cell of its what-ifs
 pub rests_on_what_if : (s : Sheet) (k : Case) (t : Tree) (x : ℕ × List (ℕ × ℕ)) → content_of (put_all s k.1) k.0 ≡ Some (Formula t) → Contains (what_ifs_of t) x →
-    has_formula (content_of (put_all s (reaching s x.0 (what_if_world s k.1 x.1))) x.0) ≡ true → RestsOn s k (case_of s (what_if_world s k.1 x.1) x.0)
+    has_formula (content_of (put_all s (reaching s x.0 (with_what_if s k.1 x.1))) x.0) ≡ true → RestsOn s k (case_of s (with_what_if s k.1 x.1) x.0)
 rests_on_what_if s k t x e h f = record {
   tree = t;
   is = e;

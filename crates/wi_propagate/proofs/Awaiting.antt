@@ -18,7 +18,7 @@ use Rattle.wi_worlds.specs.World.{entries, overridden}
 use Rattle.wi_cache.specs.declared.key.Key.{Key}
 use Rattle.wi_propagate.specs.CellValue.{replacements, cell_value, what_if_value}
 use Rattle.wi_propagate.specs.Reach.{is_one_of}
-use Rattle.wi_propagate.specs.Demand.{Case, puts_of, what_if_world, what_ifs_of, reads_here, read_here, of_formula}
+use Rattle.wi_propagate.specs.Demand.{Case, puts_of, with_what_if, what_ifs_of, reads_here, formulas_read_here, of_formula}
 use Rattle.wi_propagate.specs.Memory.{Memory}
 use Rattle.wi_propagate.specs.Findings.{pairs_of, cell_found, what_if_found, AreAllRight, IsWithCell, IsWithWhatIf}
 use Rattle.wi_propagate.specs.Answers.{AsksAt, IsLacking, lacking}
@@ -72,7 +72,7 @@ pub puts_entries : (w : List Replacement) → puts_of (entries w) ≡ w
 puts_entries [] = refl
 puts_entries (r ∷ rs) = ap (λ (xs : List Replacement). r ∷ xs) (puts_entries rs)
 
-pub replaced_world : (s : Sheet) (w v inputs : List Replacement) (pairs : List (ℕ × ℕ)) → inputs ≡ replacements (cell_value (put_all s w)) pairs → entries v ≡ overridden (entries w) inputs → v ≡ what_if_world s w pairs
+pub replaced_world : (s : Sheet) (w v inputs : List Replacement) (pairs : List (ℕ × ℕ)) → inputs ≡ replacements (cell_value (put_all s w)) pairs → entries v ≡ overridden (entries w) inputs → v ≡ with_what_if s w pairs
 replaced_world s w v inputs pairs e k = sym (puts_entries v) ∙ ap puts_of (k ∙ ap (overridden (entries w)) e)
 
 -- ---- what a formula asks for
@@ -114,7 +114,7 @@ pub some_cell : (s : Sheet) (k : Key) (f : Findings) (a : ℕ) → cell_found f 
 some_cell s k f a l h g =
     let t = tree_with (content_of (put_all s k.world) k.cell) (λ t. reads_here t a) h in
     let read = in_filter (reads_here t.0) (cells_with_formula s) a (is_in (cells_with_formula s) a (formula_cell s a g)) t.2 in
-    let n = in_some (filter (λ c. is_none (cell_found f c)) (read_here s t.0)) a (in_filter (λ c. is_none (cell_found f c)) (read_here s t.0) a read (ap (λ (o : Option Value). is_none o) l)) in
+    let n = in_some (filter (λ c. is_none (cell_found f c)) (formulas_read_here s t.0)) a (in_filter (λ c. is_none (cell_found f c)) (formulas_read_here s t.0) a read (ap (λ (o : Option Value). is_none o) l)) in
     let e = lacks_at s k f t.0 t.1 in
     omega (arith, n, e)
 

@@ -7,7 +7,8 @@ use Rattle.wi_parser.specs.Sheet.{Sheet, content_of, put_all}
 use Rattle.wi_worlds.specs.Compared.{same_world}
 use Rattle.wi_cache.specs.declared.key.Key.{Key}
 use Rattle.wi_propagate.specs.Rank.{rank}
-use Rattle.wi_propagate.specs.Demand.{Case, same_case, of_formula, read_here, what_ifs_of, left, wants}
+use Rattle.wi_propagate.specs.Demand.{Case, same_case, of_formula, formulas_read_here, what_ifs_of, wants}
+use Rattle.wi_propagate.specs.Spending.{left}
 use Rattle.wi_propagate.specs.Memory.{Memory}
 use Rattle.wi_propagate.specs.Answers.{lacking}
 use Rattle.wi_propagate.specs.Frames.{case_at, IsStack, taken, all_spare, at_most, spare, waits}
@@ -105,7 +106,7 @@ spare_new s k f e n =
     let same = ap (λ (x : Key). wants s (case_at x)) e in
     omega (arith, z, l, same)
   where
-    within : (o : Option Content) → of_formula o 0 (λ t. lacking s t f.found) ≤ of_formula o 0 (λ t. length (read_here s t) + length (what_ifs_of t))
+    within : (o : Option Content) → of_formula o 0 (λ t. lacking s t f.found) ≤ of_formula o 0 (λ t. length (formulas_read_here s t) + length (what_ifs_of t))
     within None = omega arith
     within (Some (Constant v)) = omega arith
     within (Some (Formula t)) = lacking_at_most s t f.found

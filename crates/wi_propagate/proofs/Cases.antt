@@ -8,7 +8,8 @@ use Rattle.wi_values.specs.declared.replacement.Replacement.{Replacement}
 use Rattle.wi_worlds.specs.Compared.{same_world, same_world_Decides}
 use Rattle.wi_parser.specs.Sheet.{Sheet, content_of, put_all, has_formula}
 use Rattle.wi_propagate.specs.Circular.{circular}
-use Rattle.wi_propagate.specs.Demand.{Case, same_case, demand, different, IsClosed}
+use Rattle.wi_propagate.specs.Demand.{Case, same_case, demand, different}
+use Rattle.wi_propagate.specs.Spending.{IsClosed}
 use Rattle.wi_propagate.proofs.Members.{IsIn, in_contained, contains_in}
 use Rattle.wi_propagate.proofs.Demands.{demand_closed, demand_has_itself}
 

@@ -20,11 +20,11 @@ use Rattle.wi_parser.proofs.Rectangles.{reads_within}
 use Rattle.wi_worlds.specs.Reaching as cones
 use Rattle.wi_propagate.specs.Demand.{reaching}
 use Rattle.wi_propagate.specs.Reach.{is_one_of, reaches}
-use Rattle.wi_propagate.specs.ReadCells.{read_by}
+use Rattle.wi_propagate.specs.ReadCells.{rectangles_in, occupied_within}
 use Rattle.wi_propagate.specs.ReadOrder.{IsReadOrder}
 use Rattle.wi_propagate.specs.Remembered.{AreCones}
 use Rattle.wi_propagate.proofs.Walks.{same_cell, same_tests, found}
-use Rattle.wi_propagate.proofs.ReadLists.{listed, reads_listed}
+use Rattle.wi_propagate.proofs.ReadLists.{occupied_read, read_occupied}
 use Rattle.wi_propagate.proofs.ReachTest.{finds_in}
 use Rattle.wi_propagate.proofs.ReachSteps.{reaches_here, reaches_read, reaches_step, reaches_by_step}
 
@@ -32,9 +32,9 @@ use Rattle.wi_propagate.proofs.ReachSteps.{reaches_here, reaches_read, reaches_s
 pub reads_rectangles : (s : Sheet) (c : ℕ) (t : Tree) (a : ℕ) → content_of s c ≡ Some (Formula t) → content_reads (content_of s c) a ≡ list_any (λ (r : Area). is_within r a) (rectangles_of t)
 reads_rectangles s c t a e = ap (λ o. content_reads o a) e ∙ reads_within t a
 
--- a cell is another, reads it, or reads one of these
+-- a cell is another, reads it, or reads an occupied one of these
 abbrev pub steps_in : Sheet → (ℕ → Bool) → ℕ → ℕ → Bool
-steps_in s among c a = c == a || content_reads (content_of s c) a || list_any among (read_by s (content_of s c))
+steps_in s among c a = c == a || content_reads (content_of s c) a || list_any among (occupied_within s (rectangles_in (content_of s c)))
 
 pub only_last : (a b c : Bool) → a ≡ false → b ≡ false → (a || b || c) ≡ c
 only_last a b c e f = rw (e, f) refl
@@ -53,18 +53,18 @@ step_reaches s order i x a among o l e h = same_tests (steps_in s among x a) (re
     at_once (inl k) = subst (λ (b : ℕ). reaches s x b ≡ true) (same_cell a x k) (reaches_here s x)
     at_once (inr k) = reaches_read s x a k
 
-    forward : ((x == a || content_reads (content_of s x) a) ≡ true) ⊎ (list_any among (read_by s (content_of s x)) ≡ true) → reaches s x a ≡ true
+    forward : ((x == a || content_reads (content_of s x) a) ≡ true) ⊎ (list_any among (occupied_within s (rectangles_in (content_of s x))) ≡ true) → reaches s x a ≡ true
     forward (inl k) = at_once (or_cases (x == a) _ k)
     forward (inr k) =
-        let f = finds_in among (read_by s (content_of s x)) k in
-        reaches_step s x f.0 a (listed s (content_of s x) f.0 f.1) (and_parts (is_one_of (take i order) f.0) (reaches s f.0 a) (sym (h f.0) ∙ f.2)).1
+        let f = finds_in among (occupied_within s (rectangles_in (content_of s x))) k in
+        reaches_step s x f.0 a (occupied_read s (content_of s x) f.0 f.1) (and_parts (is_one_of (take i order) f.0) (reaches s f.0 a) (sym (h f.0) ∙ f.2)).1
 
     backward : (x ≡ a) ⊎ ((content_reads (content_of s x) a ≡ true) ⊎ ((d : ℕ) × (content_reads (content_of s x) d ≡ true) × (has_formula (content_of s d) ≡ true) × (reaches s d a ≡ true))) → steps_in s among x a ≡ true
     backward (inl k) = or_left (x == a || content_reads (content_of s x) a) _ (or_left (x == a) _ (eq-eqb x a k))
     backward (inr (inl k)) = or_left (x == a || content_reads (content_of s x) a) _ (or_right (x == a) _ k)
     backward (inr (inr k)) =
         let earlier = (o.each (take i order) (drop (suc i) order) x (cut order i x l e)).reads k.0 k.1 k.2 in
-        or_right (x == a || content_reads (content_of s x) a) _ (found among (read_by s (content_of s x)) k.0 (reads_listed s (content_of s x) k.0 k.1 k.2) (h k.0 ∙ and_from _ _ earlier k.3))
+        or_right (x == a || content_reads (content_of s x) a) _ (found among (occupied_within s (rectangles_in (content_of s x))) k.0 (read_occupied s (content_of s x) k.0 k.1 k.2) (h k.0 ∙ and_from _ _ earlier k.3))
 
 same_key : (q k : ℕ) → is_at (nat_cmp q) k ≡ true → q ≡ k
 same_key q k h = grind (arith, nat_tests)

@@ -1,9 +1,11 @@
 -- What is left to find falls with each case that is found.
-use Rattle.std.proofs.Common.{◌≡◌, ◌≤◌, ◌<◌, ◌+◌, ◌*◌, ◌||◌, inl, inr, ℕ, Bool, true, false, if◌then◌else◌, List, [], ◌∷◌, length, Contains, refl, ap, ◌∙◌, arith}
+use Rattle.std.proofs.Common.{◌≡◌, ◌≤◌, ◌<◌, ◌+◌, ◌*◌, ◌||◌, inl, inr, ℕ, Bool, true, false, if◌then◌else◌, List, [], ◌∷◌, length, Contains, refl, ap, sym, ◌∙◌, arith, sum_by}
 use Rattle.std.proofs.lemmas.Bool.{or_left, or_right}
+use Rattle.std.proofs.lemmas.List.Sums.{sum_by-cons}
 use Rattle.wi_values.specs.declared.replacement.Replacement.{Replacement}
 use Rattle.wi_parser.specs.Sheet.{Sheet, cells_with_formula}
-use Rattle.wi_propagate.specs.Demand.{Case, same_case, left, total}
+use Rattle.wi_propagate.specs.Demand.{Case, same_case}
+use Rattle.wi_propagate.specs.Spending.{left}
 use Rattle.wi_propagate.specs.Rank.{rank}
 use Rattle.wi_propagate.proofs.Ranks.{rank_small}
 use Rattle.wi_propagate.proofs.Members.{IsIn, in_contained}
@@ -60,14 +62,14 @@ weight_is_left weight found k ks u i =
     omega (arith, l)
 
 -- where nothing is found, all is left
-pub left_of_nothing : (weight : Case → ℕ) (ks : List Case) → left weight (λ c w. false) ks ≡ total weight ks
+pub left_of_nothing : (weight : Case → ℕ) (ks : List Case) → left weight (λ c w. false) ks ≡ sum_by weight ks
 left_of_nothing weight [] = refl
-left_of_nothing weight (k ∷ ks) = ap (λ (n : ℕ). weight k + n) (left_of_nothing weight ks)
+left_of_nothing weight (k ∷ ks) = ap (λ (n : ℕ). weight k + n) (left_of_nothing weight ks) ∙ sym (sum_by-cons weight k ks)
 
 -- counted each as one, there are as many as the list is long
-pub total_of_ones : (ks : List Case) → total (λ k. 1) ks ≡ length ks
-total_of_ones [] = refl
-total_of_ones (k ∷ ks) = let e = total_of_ones ks in omega (arith, e)
+pub sum_of_ones : (ks : List Case) → sum_by (λ k. 1) ks ≡ length ks
+sum_of_ones [] = refl
+sum_of_ones (k ∷ ks) = let e = sum_of_ones ks in let more = sum_by-cons (λ (j : Case). 1) k ks in omega (arith, e, more)
 
 -- ---- how a calculation ends
 

@@ -1,7 +1,7 @@
 -- What a visit is still to look at.
 use Rattle.std.proofs.Common.{◌≡◌, ℕ, suc, ◌+◌, ◌<◌, ◌≤◌, Bool, true, false, cond, List, [], ◌∷◌, ◌++◌, length, get_or, filter, drop, Option, Some, None, IfSome, IfNone, refl, sym, ap, ◌∙◌, subst, arith, append_assoc, append-nil}
 use Rattle.std.specs.Prelude.{nat_le, nat_lt}
-use Rattle.std.specs.List.{find, flat_map, AllPairs}
+use Rattle.std.specs.List.{find, AllPairs}
 use Rattle.std.specs.List.Sorted.{IsStrictlyIncreasing}
 use Rattle.std.specs.Map.{keys_of}
 use Rattle.std.proofs.Math.Seq.{drop-cons}
@@ -9,8 +9,8 @@ use Rattle.std.proofs.lemmas.Bool.Decides.{nat_tests}
 use Rattle.std.proofs.lemmas.List.Kept.{AllPairs-from_increasing, IsStrictlyIncreasing-filter}
 use Rattle.wi_values.specs.Address.{Area, is_within}
 use Rattle.wi_parser.specs.Sheet.{Sheet, content_of}
-use Rattle.wi_propagate.specs.ReadCells.{rectangles_in, occupied_within}
-use Rattle.wi_propagate.specs.Walk.{Task, Enter, Leave, is_after, cells_after, cells_ahead, unread, begun, enters, tasks_at, tasks_in}
+use Rattle.wi_propagate.specs.ReadCells.{rectangles_in, occupied_within, is_after, cells_after}
+use Rattle.wi_propagate.specs.Walk.{Task, Enter, Leave, cells_ahead, unread, begun, enters, tasks_at, tasks_in}
 use Rattle.wi_propagate.specs.declared.walk.Visit.{Visit}
 
 -- ---- a list in order
@@ -88,7 +88,7 @@ no_more : (xs : List ℕ) → filter (λ a. false) xs ≡ []
 no_more [] = refl
 no_more (x ∷ xs) = no_more xs
 
-all_pass : (xs : List ℕ) → filter (is_after None) xs ≡ xs
+pub all_pass : (xs : List ℕ) → filter (is_after None) xs ≡ xs
 all_pass [] = refl
 all_pass (x ∷ xs) = ap (λ (ys : List ℕ). x ∷ ys) (all_pass xs)
 

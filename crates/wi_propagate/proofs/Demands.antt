@@ -9,7 +9,8 @@ use Rattle.wi_parser.specs.declared.content.Content.TheVariants.{Constant, Formu
 use Rattle.wi_parser.specs.Sheet.{Sheet, content_of, put_all, has_formula, cells_with_formula}
 use Rattle.wi_parser.specs.Reads.{reads, any_reads, content_reads}
 use Rattle.wi_propagate.specs.Circular.{has_walk, circular}
-use Rattle.wi_propagate.specs.Demand.{Case, case_of, what_if_world, what_ifs_of, what_ifs_in, reads_here, any_reads_here, read_here, rests_on, of_formula, demand_within, demand, RestsOn, IsClosed}
+use Rattle.wi_propagate.specs.Demand.{Case, case_of, with_what_if, what_ifs_of, what_ifs_in, reads_here, any_reads_here, formulas_read_here, rests_on, of_formula, demand_within, demand}
+use Rattle.wi_propagate.specs.Spending.{RestsOn, IsClosed}
 use Rattle.wi_propagate.proofs.Bounds.{read_walk, tree_reads, put_formula, put_reads}
 use Rattle.wi_propagate.proofs.Steps.{some_formula, no_walk}
 use Rattle.wi_propagate.proofs.Ends.{ends_open}
@@ -67,12 +68,12 @@ what_if_reads t x h = formula_cell_in t x (in_contained (what_ifs_of t) x h)
 
 -- the cell of each case on which a tree's value rests is read
 below_reads : (s : Sheet) (w : List Replacement) (t : Tree) (j : Case) → IsIn (rests_on s w t) j → reads t j.0 ≡ true
-below_reads s w t j h = elim (in_either (map (case_of s w) (read_here s t)) _ j h) [
+below_reads s w t j h = elim (in_either (map (case_of s w) (formulas_read_here s t)) _ j h) [
   | inl i ↦
-      (let x = of_map (case_of s w) (read_here s t) j i in
+      (let x = of_map (case_of s w) (formulas_read_here s t) j i in
       ap (reads t) (sym (ap (λ (k : Case). k.0) x.2)) ∙ here_reads t x.0 (of_filter (reads_here t) (cells_with_formula s) x.0 x.1).1)
   | inr i ↦
-      (let x = of_map (λ (y : ℕ × List (ℕ × ℕ)). case_of s (what_if_world s w y.1) y.0) (what_ifs_of t) j i in
+      (let x = of_map (λ (y : ℕ × List (ℕ × ℕ)). case_of s (with_what_if s w y.1) y.0) (what_ifs_of t) j i in
       ap (reads t) (sym (ap (λ (k : Case). k.0) x.2)) ∙ formula_cell_in t x.0 x.1)
 ]
 

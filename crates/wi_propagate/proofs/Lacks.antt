@@ -16,7 +16,7 @@ use Rattle.wi_functions.specs.Wants.{Asks, AnyAsks}
 use Rattle.wi_functions.specs.declared.evaluation.Want.TheVariants.{WhatIf}
 use Rattle.wi_propagate.specs.declared.findings.Findings.{Findings}
 use Rattle.wi_propagate.specs.declared.findings.FoundWhatIf.{FoundWhatIf}
-use Rattle.wi_propagate.specs.Demand.{reads_here, read_here, what_ifs_of, what_ifs_in}
+use Rattle.wi_propagate.specs.Demand.{reads_here, formulas_read_here, what_ifs_of, what_ifs_in}
 use Rattle.wi_propagate.specs.Findings.{same_pairs, pairs_of, first_for, cell_found, what_if_found, IsWithCell, IsWithWhatIf}
 use Rattle.wi_propagate.specs.Answers.{lacking}
 use Rattle.wi_propagate.proofs.Layers.{list_any-both}
@@ -34,15 +34,15 @@ lacks_what_if f x = is_none (what_if_found f x.0 x.1)
 
 -- ---- how many at most
 
-pub lacking_at_most : (s : Sheet) (t : Tree) (f : Findings) → lacking s t f ≤ length (read_here s t) + length (what_ifs_of t)
+pub lacking_at_most : (s : Sheet) (t : Tree) (f : Findings) → lacking s t f ≤ length (formulas_read_here s t) + length (what_ifs_of t)
 lacking_at_most s t f =
-    let cells = at_most_all (lacks_cell f) (read_here s t) in
+    let cells = at_most_all (lacks_cell f) (formulas_read_here s t) in
     let what_ifs = at_most_all (lacks_what_if f) (what_ifs_of t) in
     omega arith
 
-pub lacking_all : (s : Sheet) (t : Tree) (f : Findings) → f.cells.entries ≡ [] → f.what_ifs.items ≡ [] → lacking s t f ≡ length (read_here s t) + length (what_ifs_of t)
+pub lacking_all : (s : Sheet) (t : Tree) (f : Findings) → f.cells.entries ≡ [] → f.what_ifs.items ≡ [] → lacking s t f ≡ length (formulas_read_here s t) + length (what_ifs_of t)
 lacking_all s t f e g =
-    let cells = all_pass (lacks_cell f) (λ c. ap (λ (es : List (ℕ × Value)). is_none (lookup (is_at (nat_cmp c)) es)) e) (read_here s t) in
+    let cells = all_pass (lacks_cell f) (λ c. ap (λ (es : List (ℕ × Value)). is_none (lookup (is_at (nat_cmp c)) es)) e) (formulas_read_here s t) in
     let what_ifs = all_pass (lacks_what_if f) (λ x. ap (λ (fs : List FoundWhatIf). is_none (first_for fs x.0 x.1)) g) (what_ifs_of t) in
     omega arith
 
@@ -62,7 +62,7 @@ module _ (f g : Findings) (a : ℕ) (v : Value) (more : IsWithCell f g a v) wher
   -- whichever cell it is of, no more are lacking
   pub cell_lacks_no_more : (s : Sheet) (t : Tree) → lacking s t g ≤ lacking s t f
   cell_lacks_no_more s t =
-      let cells = no_more (lacks_cell f) (lacks_cell g) cell_lacked (read_here s t) in
+      let cells = no_more (lacks_cell f) (lacks_cell g) cell_lacked (formulas_read_here s t) in
       let what_ifs = same_what_ifs t in
       omega arith
 
@@ -79,7 +79,7 @@ module _ (f g : Findings) (a : ℕ) (v : Value) (more : IsWithCell f g a v) wher
       let listed =
       sym (list_any-both (λ (x : ℕ). x == a) (reads_here t) (cells_with_formula s))
       ∙ found (λ (x : ℕ). x == a && reads_here t x) (cells_with_formula s) a (formula_cell s a h) (and_from (a == a) _ (eq-eqb a a refl) r) in
-      let cells = fewer (lacks_cell f) (lacks_cell g) cell_lacked (λ c. c == a) (cell_gone e) (read_here s t) listed in
+      let cells = fewer (lacks_cell f) (lacks_cell g) cell_lacked (λ c. c == a) (cell_gone e) (formulas_read_here s t) listed in
       let what_ifs = same_what_ifs t in
       omega arith
 
@@ -125,7 +125,7 @@ module _ (f g : Findings) (x : FoundWhatIf) (more : IsWithWhatIf f g x) where
   -- whichever what-if it is of, no more are lacking
   pub what_if_lacks_no_more : (s : Sheet) (t : Tree) → lacking s t g ≤ lacking s t f
   what_if_lacks_no_more s t =
-      let cells = fewer_cells (read_here s t) in
+      let cells = fewer_cells (formulas_read_here s t) in
       let what_ifs = no_more (lacks_what_if f) (lacks_what_if g) what_if_lacked (what_ifs_of t) in
       omega arith
 
@@ -142,6 +142,6 @@ module _ (f g : Findings) (x : FoundWhatIf) (more : IsWithWhatIf f g x) where
   -- of one that the tree asks for, and that had none, fewer are lacking
   pub what_if_lacks_fewer : (s : Sheet) (t : Tree) → Asks t (WhatIf x.at x.pairs) → what_if_found f x.at (pairs_of x) ≡ None → lacking s t g < lacking s t f
   what_if_lacks_fewer s t asks e =
-      let cells = fewer_cells (read_here s t) in
+      let cells = fewer_cells (formulas_read_here s t) in
       let what_ifs = fewer (lacks_what_if f) (lacks_what_if g) what_if_lacked (is_what_if x) (what_if_gone e) (what_ifs_of t) (asked_what_if t x asks) in
       omega arith

@@ -9,6 +9,7 @@ pub mod Numbers
 pub mod Rows
 pub mod Last
 pub mod ReadLists
+pub mod NextCells
 pub mod OnceReplaced
 pub mod Answering
 pub mod Filters

@@ -19,7 +19,7 @@ use Rattle.wi_worlds.proofs.Filtering.{order_of_filter}
 use Rattle.wi_worlds.proofs.Overriding.{overridden-nothing, lookup-overridden}
 use Rattle.wi_propagate.specs.CellValue.{replacements, cell_value, what_if_value}
 use Rattle.wi_propagate.specs.Reach.{Reaches, reaches}
-use Rattle.wi_propagate.specs.Demand.{reaching, puts_of, what_if_world}
+use Rattle.wi_propagate.specs.Demand.{reaching, puts_of, with_what_if}
 use Rattle.wi_propagate.proofs.Puts.{overlaid, content_of-put_all}
 use Rattle.wi_propagate.proofs.Last.{over}
 use Rattle.wi_propagate.proofs.Agreement.{agree_put_both}
@@ -111,7 +111,7 @@ pub override_in_order : (w rs : List Replacement) → IsInOrder w → IsInOrder 
 override_in_order w rs h =
     order_from_entries (puts_of (overridden (entries w) rs)) (overridden (entries w) rs) (entries_puts (overridden (entries w) rs)) (rises_overridden (entries w) rs (sorted_from_order w h))
 
-pub what_if_in_order : (s : Sheet) (w : List Replacement) (pairs : List (ℕ × ℕ)) → IsInOrder w → IsInOrder (what_if_world s w pairs)
+pub what_if_in_order : (s : Sheet) (w : List Replacement) (pairs : List (ℕ × ℕ)) → IsInOrder w → IsInOrder (with_what_if s w pairs)
 what_if_in_order s w pairs h = override_in_order w (replacements (cell_value (put_all s w)) pairs) h
 
 pub reaching_in_order : (s : Sheet) (c : ℕ) (w : List Replacement) → IsInOrder w → IsInOrder (reaching s c w)
@@ -133,8 +133,8 @@ override_content s w rs h a =
     ∙ ap (over (last_for rs a)) (sym (content_by_last s w a)) ∙ sym (content_by_last (put_all s w) rs a)
 
 -- a what-if under replacements is its formula cell under those of its world
-pub what_if_world_value : (s : Sheet) (w : List Replacement) (f : ℕ) (pairs : List (ℕ × ℕ)) → IsInOrder w → cell_value (put_all s (what_if_world s w pairs)) f ≡ what_if_value (put_all s w) f pairs
-what_if_world_value s w f pairs h =
+pub with_what_if_value : (s : Sheet) (w : List Replacement) (f : ℕ) (pairs : List (ℕ × ℕ)) → IsInOrder w → cell_value (put_all s (with_what_if s w pairs)) f ≡ what_if_value (put_all s w) f pairs
+with_what_if_value s w f pairs h =
     let rs = replacements (cell_value (put_all s w)) pairs in
     value_same (put_all s (puts_of (overridden (entries w) rs))) (put_all (put_all s w) rs) f (λ d r. override_content s w rs h d)
 

@@ -11,7 +11,7 @@ use Rattle.wi_parser.specs.Sheet.{Sheet, put_all}
 use Rattle.wi_propagate.specs.Circular.{circular}
 use Rattle.wi_propagate.specs.CellValue.{value_within, cell_value, what_if_value}
 use Rattle.wi_propagate.specs.Reach.{reaches, in_cone}
-use Rattle.wi_propagate.specs.Demand.{reaching, what_if_world}
+use Rattle.wi_propagate.specs.Demand.{reaching, with_what_if}
 
 abbrev a1 : ℕ
 a1 = place 0 0
@@ -89,7 +89,7 @@ those_that_reach = refl
 -- ---- one list for a what-if and what is around it
 
 -- Around it A1 is TRUE and D1 empty; it gives B1 and D1 the value of A1.
-put_among : what_if_world [] (by a1 (Logical true) ∷ by d1 Empty ∷ []) ((b1, a1) ∷ (d1, a1) ∷ []) ≡ by a1 (Logical true) ∷ by b1 (Logical true) ∷ by d1 (Logical true) ∷ []
+put_among : with_what_if [] (by a1 (Logical true) ∷ by d1 Empty ∷ []) ((b1, a1) ∷ (d1, a1) ∷ []) ≡ by a1 (Logical true) ∷ by b1 (Logical true) ∷ by d1 (Logical true) ∷ []
 unfolding cell_value value_within circular
 put_among = refl
 
@@ -98,7 +98,7 @@ put_among = refl
 abbrev twice : List Replacement
 twice = by a1 (Logical true) ∷ by a1 (Logical false) ∷ []
 
-second_stands : cell_value (put_all [] (what_if_world [] twice ((a1, b1) ∷ []))) a1 ≡ Logical false
+second_stands : cell_value (put_all [] (with_what_if [] twice ((a1, b1) ∷ []))) a1 ≡ Logical false
 unfolding cell_value value_within circular
 second_stands = refl
 

@@ -1,4 +1,4 @@
--- The cells that a formula reads, as a list.
+-- The occupied cells that a formula reads, as a list.
 use Rattle.std.proofs.Common.{◌≡◌, ◌==◌, ℕ, ◌||◌, ◌&&◌, Bool, true, false, cond, List, [], ◌∷◌, filter, Option, Some, None, refl, ap, sym, ◌∙◌}
 use Rattle.std.proofs.lemmas.Bool.{and_parts}
 use Rattle.std.proofs.lemmas.List.Folds.{list_any-append}
@@ -7,11 +7,10 @@ use Rattle.std.specs.Map.{keys_of}
 use Rattle.wi_values.specs.Address.{Area, is_within}
 use Rattle.wi_parser.specs.declared.content.Content.TheVariants.{Constant, Formula}
 use Rattle.wi_parser.specs.declared.content.Content.{Content}
-use Rattle.wi_parser.specs.Tree.{Tree}
-use Rattle.wi_parser.specs.Sheet.{Sheet, content_of, has_formula, cells_with_formula}
-use Rattle.wi_parser.specs.Reads.{reads, content_reads, rectangles_of}
+use Rattle.wi_parser.specs.Sheet.{Sheet, content_of, has_formula}
+use Rattle.wi_parser.specs.Reads.{content_reads, rectangles_of}
 use Rattle.wi_parser.proofs.Rectangles.{reads_within}
-use Rattle.wi_propagate.specs.ReadCells.{formulas_within, read_cells, read_by, rectangles_in, occupied_within}
+use Rattle.wi_propagate.specs.ReadCells.{rectangles_in, occupied_within}
 use Rattle.wi_propagate.proofs.Layers.{is_one_of}
 use Rattle.wi_propagate.proofs.Walks.{same_cell, formula_cell}
 
@@ -52,31 +51,6 @@ in_rectangles cells (r ∷ rs) a =
     ∙ ap (λ (b : Bool). b || is_one_of (flat_map (λ x. filter (is_within x) cells) rs) a) (in_filter (is_within r) cells a)
     ∙ ap (λ (b : Bool). (is_within r a && is_one_of cells a) || b) (in_rectangles cells rs a)
     ∙ shared (is_within r a) (list_any (λ (x : Area). is_within x a) rs) (is_one_of cells a)
-
--- of the cells with a formula, exactly those are in the list that the tree reads
-formula_listed : (s : Sheet) (t : Tree) (a : ℕ) → has_formula (content_of s a) ≡ true → is_one_of (read_cells s t) a ≡ reads t a
-formula_listed s t a h =
-    let any = list_any (λ (r : Area). is_within r a) (rectangles_of t) in
-    in_rectangles (cells_with_formula s) (rectangles_of t) a ∙ ap (λ (b : Bool). any && b) (formula_cell s a h) ∙ and_true any ∙ sym (reads_within t a)
-
--- a cell in the list is read
-listed_is_read : (s : Sheet) (t : Tree) (a : ℕ) → is_one_of (read_cells s t) a ≡ true → reads t a ≡ true
-listed_is_read s t a h =
-    reads_within t a ∙ (and_parts (list_any (λ (r : Area). is_within r a) (rectangles_of t)) _ (sym (in_rectangles (cells_with_formula s) (rectangles_of t) a) ∙ h)).0
-
--- what is listed of a content is read
-pub listed : (s : Sheet) (o : Option Content) (d : ℕ) → is_one_of (read_by s o) d ≡ true → content_reads o d ≡ true
-listed s None d h = h
-listed s (Some (Constant v)) d h = h
-listed s (Some (Formula t)) d h = listed_is_read s t d h
-
--- and each cell with a formula that it reads is listed
-pub reads_listed : (s : Sheet) (o : Option Content) (d : ℕ) → content_reads o d ≡ true → has_formula (content_of s d) ≡ true → is_one_of (read_by s o) d ≡ true
-reads_listed s None d h f = h
-reads_listed s (Some (Constant v)) d h f = h
-reads_listed s (Some (Formula t)) d h f = formula_listed s t d f ∙ h
-
--- ---- occupied cells
 
 -- an occupied cell of the rectangles that a content reads is read
 pub occupied_read : (s : Sheet) (o : Option Content) (d : ℕ) → is_one_of (occupied_within s (rectangles_in o)) d ≡ true → content_reads o d ≡ true

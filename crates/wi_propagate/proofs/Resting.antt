@@ -22,7 +22,8 @@ use Rattle.wi_cache.specs.declared.key.Key.{Key}
 use Rattle.wi_propagate.specs.Circular.{circular}
 use Rattle.wi_propagate.specs.CellValue.{value_of, cell_value}
 use Rattle.wi_propagate.specs.Reach.{is_one_of}
-use Rattle.wi_propagate.specs.Demand.{Case, case_of, reaching, what_if_world, what_ifs_of, reads_here, any_reads_here, read_here, rests_on, of_formula, RestsOn}
+use Rattle.wi_propagate.specs.Demand.{Case, case_of, reaching, with_what_if, what_ifs_of, reads_here, any_reads_here, formulas_read_here, rests_on, of_formula}
+use Rattle.wi_propagate.specs.Spending.{RestsOn}
 use Rattle.wi_propagate.specs.Memory.{Memory, IsMemoryOf}
 use Rattle.wi_propagate.specs.Answers.{AsksAt}
 use Rattle.wi_propagate.specs.Frames.{case_at, content_reads_here, MayBeRead, IsUnvalued, IsNext}
@@ -134,20 +135,20 @@ rests_cell s k a h f =
     record {
       tree = t.0;
       is = t.1;
-      asks = contains_in (rests_on s k.1 t.0) (case_of s k.1 a) (in_left (map (case_of s k.1) (read_here s t.0)) _ (case_of s k.1 a) (in_map (case_of s k.1) (read_here s t.0) a (in_filter (reads_here t.0) (cells_with_formula s) a i t.2)));
+      asks = contains_in (rests_on s k.1 t.0) (case_of s k.1 a) (in_left (map (case_of s k.1) (formulas_read_here s t.0)) _ (case_of s k.1 a) (in_map (case_of s k.1) (formulas_read_here s t.0) a (in_filter (reads_here t.0) (cells_with_formula s) a i t.2)));
       formula = f;
     }
 
 -- the formula cell of a what-if, under its replacements
-pub rests_what_if : (s : Sheet) (k : Case) (f : ℕ) (pairs : Vec Pair) (w : List Replacement) → AsksAt s k.1 k.0 (WhatIf f pairs) → w ≡ what_if_world s k.1 (named f pairs).1 →
+pub rests_what_if : (s : Sheet) (k : Case) (f : ℕ) (pairs : Vec Pair) (w : List Replacement) → AsksAt s k.1 k.0 (WhatIf f pairs) → w ≡ with_what_if s k.1 (named f pairs).1 →
     has_formula (content_of (put_all s (reaching s f w)) f) ≡ true → RestsOn s k (case_of s w f)
 rests_what_if s k f pairs w h e g =
-    let there = case_of s (what_if_world s k.1 (named f pairs).1) f in
-    let i = in_map (λ (x : ℕ × List (ℕ × ℕ)). case_of s (what_if_world s k.1 x.1) x.0) (what_ifs_of h.tree) (named f pairs) (asked_in h.tree f pairs h.asks) in
+    let there = case_of s (with_what_if s k.1 (named f pairs).1) f in
+    let i = in_map (λ (x : ℕ × List (ℕ × ℕ)). case_of s (with_what_if s k.1 x.1) x.0) (what_ifs_of h.tree) (named f pairs) (asked_in h.tree f pairs h.asks) in
     record {
       tree = h.tree;
       is = h.is;
-      asks = rw e (contains_in (rests_on s k.1 h.tree) there (in_right (map (case_of s k.1) (read_here s h.tree)) _ there i));
+      asks = rw e (contains_in (rests_on s k.1 h.tree) there (in_right (map (case_of s k.1) (formulas_read_here s h.tree)) _ there i));
       formula = g;
     }
 
@@ -187,5 +188,5 @@ next_cell s m below k a u h = next_key s m below k below.world a u (rests_cell s
 
 -- the key of a what-if's formula cell
 pub next_what_if : (s : Sheet) (m : Memory) (below k : Key) (f : ℕ) (pairs : Vec Pair) (w : List Replacement) → IsUnvalued s m w f k → AsksAt s below.world below.cell (WhatIf f pairs) →
-    w ≡ what_if_world s below.world (named f pairs).1 → IsNext s m below k
+    w ≡ with_what_if s below.world (named f pairs).1 → IsNext s m below k
 next_what_if s m below k f pairs w u h e = next_key s m below k w f u (rests_what_if s (case_at below) f pairs w h e (formula_there s m w f k u))

@@ -8,7 +8,7 @@ use Rattle.wi_parser.specs.Sheet.{Sheet, content_of, put_all, cells_with_formula
 use Rattle.wi_parser.specs.Reads.{reads}
 use Rattle.wi_worlds.specs.World.{IsInOrder}
 use Rattle.wi_propagate.specs.Reach.{reaches}
-use Rattle.wi_propagate.specs.Demand.{Case, case_of, reaching, what_if_world, what_ifs_of, reads_here, read_here, rests_on}
+use Rattle.wi_propagate.specs.Demand.{Case, case_of, reaching, with_what_if, what_ifs_of, reads_here, formulas_read_here, rests_on}
 use Rattle.wi_propagate.proofs.Bounds.{put_reads, tree_reads}
 use Rattle.wi_propagate.proofs.ReachSteps.{reaches_read}
 use Rattle.wi_propagate.proofs.SmallerWorlds.{reaching_below, content_below, what_if_below}
@@ -22,7 +22,7 @@ case_below s w c d r = ap (λ (p : List Replacement). (d, p)) (reaching_below s 
 
 -- the case of a what-if's formula cell
 abbrev what_if_case : Sheet → List Replacement → ℕ × List (ℕ × ℕ) → Case
-what_if_case s w x = case_of s (what_if_world s w x.1) x.0
+what_if_case s w x = case_of s (with_what_if s w x.1) x.0
 
 -- a what-if that reads cells below has the same one
 what_if_case_below : (s : Sheet) (w : List Replacement) (c : ℕ) (x : ℕ × List (ℕ × ℕ)) → IsInOrder w → reaches s c x.0 ≡ true →
@@ -32,9 +32,9 @@ what_if_case_below s w c x h r k = ap (λ (p : List Replacement). (x.0, p)) (wha
 same_rests : (s : Sheet) (c : ℕ) (w : List Replacement) (t : Tree) → IsInOrder w → ((a : ℕ) → reads t a ≡ true → reaches s c a ≡ true) → rests_on s (reaching s c w) t ≡ rests_on s w t
 same_rests s c w t h k =
     ap (λ (ks : List Case). ks ++ map (what_if_case s (reaching s c w)) (what_ifs_of t))
-    (map_same (case_of s (reaching s c w)) (case_of s w) (read_here s t) (λ d i.
+    (map_same (case_of s (reaching s c w)) (case_of s w) (formulas_read_here s t) (λ d i.
     case_below s w c d (k d (here_reads t d (of_filter (reads_here t) (cells_with_formula s) d i).1))))
-    ∙ ap (λ (ks : List Case). map (case_of s w) (read_here s t) ++ ks)
+    ∙ ap (λ (ks : List Case). map (case_of s w) (formulas_read_here s t) ++ ks)
     (map_same (what_if_case s (reaching s c w)) (what_if_case s w) (what_ifs_of t) (λ x i.
     what_if_case_below s w c x h (k x.0 (what_if_reads t x (contains_in (what_ifs_of t) x i))) (λ a m. k a (here_reads t a (replacing_read t x a i m)))))
 

@@ -8,10 +8,10 @@ use Rattle.wi_cache.specs.declared.key.Key.{Key}
 use Rattle.wi_propagate.specs.Circular.{circular}
 use Rattle.wi_propagate.specs.CellValue.{cell_value, what_if_value}
 use Rattle.wi_propagate.specs.Rank.{rank}
-use Rattle.wi_propagate.specs.Demand.{Case, same_case, case_of, reaching, IsClosed, demand, left, wants}
+use Rattle.wi_propagate.specs.Demand.{Case, same_case, case_of, reaching, demand, wants}
 use Rattle.wi_propagate.specs.Memory.{Memory, IsMemoryOf}
 use Rattle.wi_propagate.specs.Frames.{case_at, IsToValue, IsUnvalued, IsFrame, IsNext, IsBegun, IsStack, BottomIs, spare, at_most}
-use Rattle.wi_propagate.specs.Spending.{CountsAtMost, CountsFound, HasCase}
+use Rattle.wi_propagate.specs.Spending.{CountsAtMost, CountsFound, HasCase, IsClosed, left}
 use Rattle.wi_propagate.specs.declared.frame.Frame.{Frame}
 use Rattle.wi_propagate.specs.declared.frame.Waiting.TheVariants.{Nothing}
 use Rattle.wi_propagate.proofs.Rightness.{right_none}

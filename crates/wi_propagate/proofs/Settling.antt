@@ -16,7 +16,7 @@ use Rattle.wi_functions.specs.declared.evaluation.Want.TheVariants as wanted
 use Rattle.wi_worlds.specs.World.{IsInOrder}
 use Rattle.wi_cache.specs.declared.key.Key.{Key}
 use Rattle.wi_propagate.specs.CellValue.{cell_value, what_if_value}
-use Rattle.wi_propagate.specs.Demand.{Case, what_if_world}
+use Rattle.wi_propagate.specs.Demand.{Case, with_what_if}
 use Rattle.wi_propagate.specs.Memory.{Memory, IsMemoryOf}
 use Rattle.wi_propagate.specs.Answers.{AsksAt, IsLacking}
 use Rattle.wi_propagate.specs.Findings.{IsWithCell, IsWithWhatIf, pairs_of}
@@ -27,7 +27,7 @@ use Rattle.wi_propagate.specs.declared.frame.Frame.{Frame}
 use Rattle.wi_propagate.specs.declared.frame.Waiting.{Waiting}
 use Rattle.wi_propagate.specs.declared.frame.Waiting.TheVariants.{Nothing, Cells}
 use Rattle.wi_propagate.proofs.Bounds.{put_formula}
-use Rattle.wi_propagate.proofs.Overrides.{what_if_world_value}
+use Rattle.wi_propagate.proofs.Overrides.{with_what_if_value}
 use Rattle.wi_propagate.proofs.Rightness.{right_cell, right_what_if}
 use Rattle.wi_propagate.proofs.Asked.{asked_cell}
 use Rattle.wi_propagate.proofs.Resting.{may_be_read, here_in_sheet, what_if_in_sheet, replacing_reads, next_cell, next_what_if}
@@ -96,15 +96,15 @@ next_input s m below j f pairs ps asks e u =
     next_cell s m below j j.cell u.1 (replacing_reads s (case_at below) f pairs j.cell asks (ap (λ (qs : List Pair). list_any (λ p. p.1.at == j.cell) (map pair_of qs)) (sym e) ∙ u.0))
 
 pub next_inner : (s : Sheet) (m n : Memory) (below j : Key) (f : ℕ) (pairs : Vec Pair) (ps : List Pair) (w : List Replacement) → n ≡ m → AsksAt s below.world below.cell (wanted.WhatIf f pairs) → ps ≡ pairs.items →
-    w ≡ what_if_world s below.world (map addresses (map pair_of ps)) → IsUnvalued s n w f j → IsNext s m below j
+    w ≡ with_what_if s below.world (map addresses (map pair_of ps)) → IsUnvalued s n w f j → IsNext s m below j
 next_inner s m n below j f pairs ps w en asks e is u =
     let same = rw en at u in
-    next_what_if s m below j f pairs w same asks (is ∙ ap (λ (qs : List Pair). what_if_world s below.world (map addresses (map pair_of qs))) e)
+    next_what_if s m below j f pairs w same asks (is ∙ ap (λ (qs : List Pair). with_what_if s below.world (map addresses (map pair_of qs))) e)
 
-pub what_if_right : (s : Sheet) (v w : List Replacement) (f : ℕ) (pairs ps : List Pair) (x : Value) → IsInOrder w → ps ≡ pairs → v ≡ what_if_world s w (map addresses (map pair_of ps)) → x ≡ cell_value (put_all s v) f →
+pub what_if_right : (s : Sheet) (v w : List Replacement) (f : ℕ) (pairs ps : List Pair) (x : Value) → IsInOrder w → ps ≡ pairs → v ≡ with_what_if s w (map addresses (map pair_of ps)) → x ≡ cell_value (put_all s v) f →
     x ≡ what_if_value (put_all s w) f (map addresses (map pair_of pairs))
 what_if_right s v w f pairs ps x o e is h =
-    h ∙ ap (λ (u : List Replacement). cell_value (put_all s u) f) (is ∙ ap (λ (qs : List Pair). what_if_world s w (map addresses (map pair_of qs))) e) ∙ what_if_world_value s w f (map addresses (map pair_of pairs)) o
+    h ∙ ap (λ (u : List Replacement). cell_value (put_all s u) f) (is ∙ ap (λ (qs : List Pair). with_what_if s w (map addresses (map pair_of qs))) e) ∙ with_what_if_value s w f (map addresses (map pair_of pairs)) o
 
 pub what_if_found_frame : (s : Sheet) (m : Memory) (f g : Frame) (x : FoundWhatIf) → IsFrame s m f → g.key ≡ f.key → g.waiting ≡ Nothing → IsWithWhatIf f.found g.found x →
     x.value ≡ what_if_value (put_all s f.key.world) x.at (pairs_of x) → IsFrame s m g

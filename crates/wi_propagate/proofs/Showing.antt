@@ -1,5 +1,5 @@
 -- What is counted where a cell is shown.
-use Rattle.std.proofs.Common.{◌≡◌, ◌≤◌, ◌+◌, ℕ, false, List, [], length, ap, sym, ◌∙◌, subst, arith}
+use Rattle.std.proofs.Common.{◌≡◌, ◌≤◌, ◌+◌, ℕ, false, List, [], length, sum_by, ap, sym, ◌∙◌, subst, arith}
 use Rattle.wi_values.specs.declared.value.Value.{Value}
 use Rattle.wi_values.specs.declared.replacement.Replacement.{Replacement}
 use Rattle.wi_parser.specs.Sheet.{Sheet, put_all, has_formula}
@@ -8,13 +8,13 @@ use Rattle.wi_worlds.proofs.Overriding.{overridden-nothing}
 use Rattle.wi_propagate.specs.Circular.{circular}
 use Rattle.wi_propagate.specs.CellValue.{cell_value}
 use Rattle.wi_propagate.specs.Shown.{shown}
-use Rattle.wi_propagate.specs.Demand.{Case, case_of, puts_of, demand, different, total}
+use Rattle.wi_propagate.specs.Demand.{Case, case_of, puts_of, demand, different}
 use Rattle.wi_propagate.specs.Remembered.{OneQuestion, remembered, memory_of}
 use Rattle.wi_propagate.specs.Spending.{CountsAtMost, HasCase}
 use Rattle.wi_propagate.proofs.Steps.{shown_open}
 use Rattle.wi_propagate.proofs.SmallerWorlds.{content_below}
 use Rattle.wi_propagate.proofs.Cases.{different_closed, different_has_itself}
-use Rattle.wi_propagate.proofs.Counting.{left_of_nothing, total_of_ones}
+use Rattle.wi_propagate.proofs.Counting.{left_of_nothing, sum_of_ones}
 use Rattle.wi_propagate.proofs.Awaiting.{puts_entries}
 
 -- replacements in order, put in where there are none
@@ -28,7 +28,7 @@ shown_value s w put a v o e is = is ∙ ap (λ (p : List Replacement). cell_valu
 
 -- no more is counted than what the cell demands weighs
 pub shown_at_most : (s : Sheet) (w put : List Replacement) (a : ℕ) (weight : Case → ℕ) (n m : ℕ) → circular s a ≡ false → w ≡ put → CountsAtMost s (HasCase s w a) weight (λ c p. false) n m →
-    m ≤ n + total weight (different (demand s (case_of s put a)))
+    m ≤ n + sum_by weight (different (demand s (case_of s put a)))
 shown_at_most s w put a weight n m o e h =
     let k = case_of s put a in
     let here : CountsAtMost s (HasCase s put a) weight (λ c p. false) n m = subst (λ (p : List Replacement). CountsAtMost s (HasCase s p a) weight (λ c q. false) n m) e h in
@@ -40,7 +40,7 @@ pub shown_evaluations : (s : Sheet) (w put : List Replacement) (a : ℕ) (n m : 
     m ≤ n + length (different (demand s (case_of s put a)))
 shown_evaluations s w put a n m o e h =
     let counted = shown_at_most s w put a (λ k. 1) n m o e h in
-    let all = total_of_ones (different (demand s (case_of s put a))) in
+    let all = sum_of_ones (different (demand s (case_of s put a))) in
     omega (arith, counted, all)
 
 -- ---- with nothing remembered

@@ -1,5 +1,5 @@
 -- What is counted where an entry of a data table is shown.
-use Rattle.std.proofs.Common.{◌≡◌, ◌==◌, ◌≤◌, ◌<◌, ◌+◌, ℕ, zero, suc, true, false, List, [], ◌∷◌, map, get_or, length, All, inl, inr, refl, ap, sym, ◌∙◌, subst, arith, eq-eqb}
+use Rattle.std.proofs.Common.{◌≡◌, ◌==◌, ◌≤◌, ◌<◌, ◌+◌, ℕ, zero, suc, true, false, List, [], ◌∷◌, map, get_or, length, sum_by, All, inl, inr, refl, ap, sym, ◌∙◌, subst, arith, eq-eqb}
 use Rattle.std.proofs.lemmas.Bool.{or_left, or_right}
 use Rattle.std.specs.List.{list_any}
 use Rattle.wi_values.specs.declared.value.Value.{Value}
@@ -10,14 +10,14 @@ use Rattle.wi_worlds.specs.World.{IsInOrder}
 use Rattle.wi_propagate.specs.Circular.{circular}
 use Rattle.wi_propagate.specs.CellValue.{cell_value}
 use Rattle.wi_propagate.specs.Reach.{is_one_of}
-use Rattle.wi_propagate.specs.Demand.{Case, what_if_world, different, total}
+use Rattle.wi_propagate.specs.Demand.{Case, with_what_if, different}
 use Rattle.wi_propagate.specs.Frames.{MayBeRead}
 use Rattle.wi_propagate.specs.Remembered.{OneQuestion, remembered, memory_of}
-use Rattle.wi_propagate.specs.Spending.{CountsAtMost}
-use Rattle.wi_propagate.specs.TableEntry.{table_entry, table_demand, HasEntry}
+use Rattle.wi_propagate.specs.Spending.{CountsAtMost, HasEntry}
+use Rattle.wi_propagate.specs.TableEntry.{table_entry, table_demand}
 use Rattle.wi_propagate.proofs.Members.{IsIn, contains_in}
-use Rattle.wi_propagate.proofs.Overrides.{what_if_world_value}
-use Rattle.wi_propagate.proofs.Counting.{left_of_nothing, total_of_ones}
+use Rattle.wi_propagate.proofs.Overrides.{with_what_if_value}
+use Rattle.wi_propagate.proofs.Counting.{left_of_nothing, sum_of_ones}
 use Rattle.wi_propagate.proofs.TableEntries.{table_closed, table_has_replacing, table_has_formula_cell, test_of_cells, cells_open, entry_open}
 
 replacing_cell_read : (pairs : List (ℕ × ℕ)) (i : ℕ) (x : ℕ × ℕ) → i < length pairs → is_one_of (map (λ p. p.1) pairs) (get_or pairs i x).1 ≡ true
@@ -43,14 +43,14 @@ module _ (s : Sheet) (f : ℕ) (pairs : List (ℕ × ℕ)) (cells : List ℕ) (n
         covered = λ h. ap (λ (y : OneQuestion). is_one_of y.cells c) e ∙ roots c (ap (λ (xs : List ℕ). is_one_of xs c) named ∙ read) h;
       }
 
-  pub entry_value : (w put : List Replacement) (v : Value) → IsInOrder put → w ≡ put → v ≡ zero_for_empty (cell_value (put_all s (what_if_world s w pairs)) f) → v ≡ table_entry s put f pairs
+  pub entry_value : (w put : List Replacement) (v : Value) → IsInOrder put → w ≡ put → v ≡ zero_for_empty (cell_value (put_all s (with_what_if s w pairs)) f) → v ≡ table_entry s put f pairs
   entry_value w put v o e is =
-      is ∙ ap (λ (p : List Replacement). zero_for_empty (cell_value (put_all s (what_if_world s p pairs)) f)) e
-      ∙ ap (λ (x : Value). zero_for_empty x) (what_if_world_value s put f pairs o)
+      is ∙ ap (λ (p : List Replacement). zero_for_empty (cell_value (put_all s (with_what_if s p pairs)) f)) e
+      ∙ ap (λ (x : Value). zero_for_empty x) (with_what_if_value s put f pairs o)
       ∙ sym (entry_open s put f pairs (test_of_cells s f pairs cells named ∙ clear))
 
   -- no more is counted than what the entry demands weighs
-  pub entry_at_most : (w put : List Replacement) (weight : Case → ℕ) (n m : ℕ) → w ≡ put → CountsAtMost s (HasEntry s w f pairs) weight (λ c p. false) n m → m ≤ n + total weight (different (table_demand s put f pairs))
+  pub entry_at_most : (w put : List Replacement) (weight : Case → ℕ) (n m : ℕ) → w ≡ put → CountsAtMost s (HasEntry s w f pairs) weight (λ c p. false) n m → m ≤ n + sum_by weight (different (table_demand s put f pairs))
   entry_at_most w put weight n m e h =
       let open_cells = cells_open s f pairs (test_of_cells s f pairs cells named ∙ clear) in
       let ks = different (table_demand s put f pairs) in
@@ -63,5 +63,5 @@ module _ (s : Sheet) (f : ℕ) (pairs : List (ℕ × ℕ)) (cells : List ℕ) (n
   pub entry_evaluations : (w put : List Replacement) (n m : ℕ) → w ≡ put → CountsAtMost s (HasEntry s w f pairs) (λ k. 1) (λ c p. false) n m → m ≤ n + length (different (table_demand s put f pairs))
   entry_evaluations w put n m e h =
       let counted = entry_at_most w put (λ k. 1) n m e h in
-      let all = total_of_ones (different (table_demand s put f pairs)) in
+      let all = sum_of_ones (different (table_demand s put f pairs)) in
       omega (arith, counted, all)

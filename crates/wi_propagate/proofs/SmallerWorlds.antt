@@ -10,7 +10,7 @@ use Rattle.wi_worlds.proofs.InOrder.{same_from_replaced}
 use Rattle.wi_worlds.proofs.Filtering.{replaced-filter}
 use Rattle.wi_propagate.specs.CellValue.{replacements, cell_value}
 use Rattle.wi_propagate.specs.Reach.{reaches}
-use Rattle.wi_propagate.specs.Demand.{reaching, what_if_world}
+use Rattle.wi_propagate.specs.Demand.{reaching, with_what_if}
 use Rattle.wi_propagate.proofs.Puts.{content_of-put_all}
 use Rattle.wi_propagate.proofs.Meanings.{replacements_same}
 use Rattle.wi_propagate.proofs.Locality.{keeps_those, others_do_not_count}
@@ -49,9 +49,9 @@ either_list true x y h = h refl
 either_list false x y h = refl
 
 what_if_replaced : (s : Sheet) (w : List Replacement) (pairs : List (ℕ × ℕ)) → IsInOrder w → (a : ℕ) →
-    replaced (what_if_world s w pairs) a ≡ option_or (last_for (replacements (cell_value (put_all s w)) pairs) a) (replaced w a)
+    replaced (with_what_if s w pairs) a ≡ option_or (last_for (replacements (cell_value (put_all s w)) pairs) a) (replaced w a)
 what_if_replaced s w pairs h a =
-    sym (last_in_order (what_if_world s w pairs) (what_if_in_order s w pairs h) a)
+    sym (last_in_order (with_what_if s w pairs) (what_if_in_order s w pairs h) a)
     ∙ override_last w (replacements (cell_value (put_all s w)) pairs) h a
     ∙ ap (option_or (last_for (replacements (cell_value (put_all s w)) pairs) a)) (last_in_order w h a)
 
@@ -60,17 +60,17 @@ reaching_replaced s c a w r = replaced-filter (reaches s c) a w ∙ ap (λ (b : 
 
 -- a what-if that reads cells below has the same replacements that reach its formula cell
 pub what_if_below : (s : Sheet) (c f : ℕ) (w : List Replacement) (pairs : List (ℕ × ℕ)) → IsInOrder w → reaches s c f ≡ true →
-    ((a : ℕ) → list_any (λ p. p.1 == a) pairs ≡ true → reaches s c a ≡ true) → reaching s f (what_if_world s (reaching s c w) pairs) ≡ reaching s f (what_if_world s w pairs)
+    ((a : ℕ) → list_any (λ p. p.1 == a) pairs ≡ true → reaches s c a ≡ true) → reaching s f (with_what_if s (reaching s c w) pairs) ≡ reaching s f (with_what_if s w pairs)
 what_if_below s c f w pairs h r k =
     let g = reaching_in_order s c w h in
-    same_from_replaced (reaching s f (what_if_world s (reaching s c w) pairs)) (reaching s f (what_if_world s w pairs))
-    (reaching_in_order s f (what_if_world s (reaching s c w) pairs) (what_if_in_order s (reaching s c w) pairs g))
-    (reaching_in_order s f (what_if_world s w pairs) (what_if_in_order s w pairs h))
-    (λ a. replaced-filter (reaches s f) a (what_if_world s (reaching s c w) pairs)
-    ∙ either_list (reaches s f a) (replaced (what_if_world s (reaching s c w) pairs) a) (replaced (what_if_world s w pairs) a)
+    same_from_replaced (reaching s f (with_what_if s (reaching s c w) pairs)) (reaching s f (with_what_if s w pairs))
+    (reaching_in_order s f (with_what_if s (reaching s c w) pairs) (what_if_in_order s (reaching s c w) pairs g))
+    (reaching_in_order s f (with_what_if s w pairs) (what_if_in_order s w pairs h))
+    (λ a. replaced-filter (reaches s f) a (with_what_if s (reaching s c w) pairs)
+    ∙ either_list (reaches s f a) (replaced (with_what_if s (reaching s c w) pairs) a) (replaced (with_what_if s w pairs) a)
     (λ m. what_if_replaced s (reaching s c w) pairs g a
     ∙ ap (λ (rs : List Replacement). option_or (last_for rs a) (replaced (reaching s c w) a))
     (replacements_same pairs (cell_value (put_all s (reaching s c w))) (cell_value (put_all s w)) (λ d i. value_below s c d w (k d i)))
     ∙ ap (option_or (last_for (replacements (cell_value (put_all s w)) pairs) a)) (reaching_replaced s c a w (reaches_on s c f a r m))
     ∙ sym (what_if_replaced s w pairs h a))
-    ∙ sym (replaced-filter (reaches s f) a (what_if_world s w pairs)))
+    ∙ sym (replaced-filter (reaches s f) a (with_what_if s w pairs)))

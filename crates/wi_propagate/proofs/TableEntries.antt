@@ -8,7 +8,8 @@ use Rattle.wi_parser.specs.Sheet.{Sheet, content_of, put_all, has_formula}
 use Rattle.wi_functions.specs.Meaning.{zero_for_empty}
 use Rattle.wi_propagate.specs.Circular.{circular}
 use Rattle.wi_propagate.specs.CellValue.{what_if_value}
-use Rattle.wi_propagate.specs.Demand.{Case, case_of, what_if_world, demand, different, IsClosed}
+use Rattle.wi_propagate.specs.Demand.{Case, case_of, with_what_if, demand, different}
+use Rattle.wi_propagate.specs.Spending.{IsClosed}
 use Rattle.wi_propagate.specs.TableEntry.{table_entry, table_demand}
 use Rattle.wi_propagate.proofs.Members.{IsIn, in_contained, contains_in, in_left, in_right, in_either, in_flat, of_flat}
 use Rattle.wi_propagate.proofs.SmallerWorlds.{content_below}
@@ -32,9 +33,9 @@ closed_flat s f xs c = λ k j h r.
 pub table_closed : (s : Sheet) (w : List Replacement) (f : ℕ) (pairs : List (ℕ × ℕ)) → IsClosed s (different (table_demand s w f pairs))
 table_closed s w f pairs =
     closed_different s (table_demand s w f pairs)
-    (closed_both s (flat_map (λ x. demand s (case_of s w x.1)) pairs) (demand s (case_of s (what_if_world s w pairs) f))
+    (closed_both s (flat_map (λ x. demand s (case_of s w x.1)) pairs) (demand s (case_of s (with_what_if s w pairs) f))
     (closed_flat s (λ x. demand s (case_of s w x.1)) pairs (λ x. demand_closed s (case_of s w x.1)))
-    (demand_closed s (case_of s (what_if_world s w pairs) f)))
+    (demand_closed s (case_of s (with_what_if s w pairs) f)))
 
 -- ---- it has its roots
 
@@ -47,15 +48,15 @@ pub table_has_replacing : (s : Sheet) (w : List Replacement) (f : ℕ) (pairs : 
 table_has_replacing s w f pairs x i h g =
     let replacing = flat_map (λ (y : ℕ × ℕ). demand s (case_of s w y.1)) pairs in
     contains_different (table_demand s w f pairs) (case_of s w x.1) (contains_in (table_demand s w f pairs) (case_of s w x.1)
-    (in_left replacing (demand s (case_of s (what_if_world s w pairs) f)) (case_of s w x.1)
+    (in_left replacing (demand s (case_of s (with_what_if s w pairs) f)) (case_of s w x.1)
     (in_flat (λ (y : ℕ × ℕ). demand s (case_of s w y.1)) pairs x (case_of s w x.1) (in_contained pairs x i) (case_itself s w x.1 h g))))
 
 pub table_has_formula_cell : (s : Sheet) (w : List Replacement) (f : ℕ) (pairs : List (ℕ × ℕ)) → circular s f ≡ false →
-    has_formula (content_of (put_all s (what_if_world s w pairs)) f) ≡ true → Contains (different (table_demand s w f pairs)) (case_of s (what_if_world s w pairs) f)
+    has_formula (content_of (put_all s (with_what_if s w pairs)) f) ≡ true → Contains (different (table_demand s w f pairs)) (case_of s (with_what_if s w pairs) f)
 table_has_formula_cell s w f pairs h g =
-    let last = case_of s (what_if_world s w pairs) f in
+    let last = case_of s (with_what_if s w pairs) f in
     contains_different (table_demand s w f pairs) last (contains_in (table_demand s w f pairs) last
-    (in_right (flat_map (λ (y : ℕ × ℕ). demand s (case_of s w y.1)) pairs) (demand s last) last (case_itself s (what_if_world s w pairs) f h g)))
+    (in_right (flat_map (λ (y : ℕ × ℕ). demand s (case_of s w y.1)) pairs) (demand s last) last (case_itself s (with_what_if s w pairs) f h g)))
 
 -- ---- its value
 

@@ -15,7 +15,7 @@ use Rattle.wi_functions.specs.Meaning.{addresses}
 use Rattle.wi_functions.specs.Wants.{Asks}
 use Rattle.wi_functions.specs.declared.evaluation.Want.{Want}
 use Rattle.wi_functions.specs.declared.evaluation.Want.TheVariants.{Cell, WhatIf}
-use Rattle.wi_propagate.specs.Demand.{read_here, what_ifs_of}
+use Rattle.wi_propagate.specs.Demand.{formulas_read_here, what_ifs_of}
 use Rattle.wi_propagate.specs.Findings.{cell_found, what_if_found}
 use Rattle.wi_propagate.specs.declared.findings.Findings.{Findings}
 
@@ -44,7 +44,7 @@ IsLacking s w f (WhatIf c pairs) = what_if_found f c (map addresses (map pair_of
 -- stands, and of what-ifs
 abbrev pub lacking : Sheet → Tree → Findings → ℕ
 lacking s t f =
-    length (filter (λ c. is_none (cell_found f c)) (read_here s t))
+    length (filter (λ c. is_none (cell_found f c)) (formulas_read_here s t))
     + length (filter (λ x. is_none (what_if_found f x.0 x.1)) (what_ifs_of t))
 
 -- the rectangle is one of these, it holds the cell, and none of these that holds it has fewer cells

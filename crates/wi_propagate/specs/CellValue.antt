@@ -40,6 +40,6 @@ cell_value s c = value_within (length (cells_with_formula s)) s c
 abbrev pub what_if_value : Sheet → ℕ → List (ℕ × ℕ) → Value
 what_if_value s f pairs = cell_value (put_all s (replacements (cell_value s) pairs)) f
 
--- a formula's value in a sheet
+-- a formula's value in a sheet: the meaning of its tree, where each cell stands for its value and each what-if for its own
 abbrev pub formula_value : Sheet → Tree → Value
 formula_value s t = zero_for_empty (meaning t (cell_value s) (what_if_value s))

@@ -1,5 +1,5 @@
 -- What the value of one cell demands.
-use Rattle.std.specs.Prelude.{◌≡◌, ◌==◌, ℕ, zero, suc, ◌+◌, Bool, true, false, ◌&&◌, ◌||◌, if◌then◌else◌, List, [], ◌∷◌, ◌++◌, map, filter, length, Option, Some, None, Contains}
+use Rattle.std.specs.Prelude.{◌==◌, ℕ, zero, suc, ◌+◌, Bool, false, ◌&&◌, ◌||◌, if◌then◌else◌, List, [], ◌∷◌, ◌++◌, map, filter, length, Option, Some, None}
 use Rattle.std.specs.List.{list_any, flat_map}
 use Rattle.wi_values.specs.Address.{is_within}
 use Rattle.wi_values.specs.declared.value.Value.{Value}
@@ -7,7 +7,7 @@ use Rattle.wi_values.specs.declared.replacement.Replacement.{Replacement}
 use Rattle.wi_parser.specs.Tree.{Tree, Trees, number, text, cell, rectangle, parenthesized, signed, percent, binary, what_if, call, no_trees, more_trees}
 use Rattle.wi_parser.specs.declared.content.Content.{Content}
 use Rattle.wi_parser.specs.declared.content.Content.TheVariants.{Constant, Formula}
-use Rattle.wi_parser.specs.Sheet.{Sheet, content_of, put_all, has_formula, cells_with_formula}
+use Rattle.wi_parser.specs.Sheet.{Sheet, content_of, put_all, cells_with_formula}
 use Rattle.wi_parser.specs.Reads.{area_of}
 use Rattle.wi_functions.specs.Meaning.{addresses}
 use Rattle.wi_worlds.specs.World.{entries, overridden}
@@ -36,8 +36,8 @@ abbrev pub puts_of : List (ℕ × Value) → List Replacement
 puts_of es = map (λ e. record { at = e.0; value = e.1 }) es
 
 -- replacements with those of a what-if put in: each input has the value that its replacement cell has under the outer ones
-abbrev pub what_if_world : Sheet → List Replacement → List (ℕ × ℕ) → List Replacement
-what_if_world s w pairs = puts_of (overridden (entries w) (replacements (cell_value (put_all s w)) pairs))
+abbrev pub with_what_if : Sheet → List Replacement → List (ℕ × ℕ) → List Replacement
+with_what_if s w pairs = puts_of (overridden (entries w) (replacements (cell_value (put_all s w)) pairs))
 
 abbrev mutual
   -- the what-ifs in a tree, from the left: the formula cell, and each input with its replacement cell
@@ -82,12 +82,12 @@ of_formula (Some (Constant v)) x f = x
 of_formula (Some (Formula t)) x f = f t
 
 -- the cells with a formula that a tree reads as the sheet stands
-abbrev pub read_here : Sheet → Tree → List ℕ
-read_here s t = filter (reads_here t) (cells_with_formula s)
+abbrev pub formulas_read_here : Sheet → Tree → List ℕ
+formulas_read_here s t = filter (reads_here t) (cells_with_formula s)
 
 -- the cases on which a tree's value under replacements rests
 abbrev pub rests_on : Sheet → List Replacement → Tree → List Case
-rests_on s w t = map (case_of s w) (read_here s t) ++ map (λ x. case_of s (what_if_world s w x.1) x.0) (what_ifs_of t)
+rests_on s w t = map (case_of s w) (formulas_read_here s t) ++ map (λ x. case_of s (with_what_if s w x.1) x.0) (what_ifs_of t)
 
 -- The cases that a case demands, by at most n formulas one below the other: itself, and what those demand on which its
 -- formula's value rests. One that is circular in the sheet, or has no formula under its replacements, demands nothing.
@@ -102,31 +102,9 @@ demand s k = demand_within (length (cells_with_formula s)) s k
 
 -- how many values a case's formula may ask for: of cells with a formula, and of what-ifs
 abbrev pub wants : Sheet → Case → ℕ
-wants s k = of_formula (content_of (put_all s k.1) k.0) 0 (λ t. length (read_here s t) + length (what_ifs_of t))
+wants s k = of_formula (content_of (put_all s k.1) k.0) 0 (λ t. length (formulas_read_here s t) + length (what_ifs_of t))
 
 -- each case once
 abbrev pub different : List Case → List Case
 different [] = []
 different (k ∷ ks) = if list_any (same_case k) ks then different ks else k ∷ different ks
-
--- a case rests on another: its formula reads that one's cell as the sheet stands, or has a what-if of it, and that one has a
--- formula too
-pub record RestsOn (s : Sheet) (k j : Case) : Type 0 where
-  pub tree : Tree
-  pub is : content_of (put_all s k.1) k.0 ≡ Some (Formula tree)
-  pub asks : Contains (rests_on s k.1 tree) j
-  pub formula : has_formula (content_of (put_all s j.1) j.0) ≡ true
-
--- a list of cases that has all on which they rest
-abbrev pub IsClosed : Sheet → List Case → Type 0
-IsClosed s ks = (k j : Case) → Contains ks k → RestsOn s k j → Contains ks j
-
--- the weights of the cases that are not found yet
-abbrev pub left : (Case → ℕ) → (ℕ → List Replacement → Bool) → List Case → ℕ
-left weight found [] = 0
-left weight found (k ∷ ks) = (if found k.0 k.1 then 0 else weight k) + left weight found ks
-
--- the weights of all
-abbrev pub total : (Case → ℕ) → List Case → ℕ
-total weight [] = 0
-total weight (k ∷ ks) = weight k + total weight ks

@@ -9,7 +9,8 @@ use Rattle.wi_propagate.specs.Circular.{circular}
 use Rattle.wi_propagate.specs.CellValue.{cell_value, what_if_value}
 use Rattle.wi_propagate.specs.Reach.{is_one_of}
 use Rattle.wi_propagate.specs.Rank.{rank}
-use Rattle.wi_propagate.specs.Demand.{Case, same_case, reaching, reads_here, of_formula, RestsOn, IsClosed, left}
+use Rattle.wi_propagate.specs.Demand.{Case, same_case, reaching, reads_here, of_formula}
+use Rattle.wi_propagate.specs.Spending.{RestsOn, IsClosed, left}
 use Rattle.wi_propagate.specs.Memory.{Memory}
 use Rattle.wi_propagate.specs.Findings.{AreAllRight}
 use Rattle.wi_propagate.specs.Answers.{AsksAt, IsLacking, lacking}

@@ -5,19 +5,17 @@ use Rattle.wi_parser.specs.Tree.{Tree}
 use Rattle.wi_parser.specs.declared.content.Content.TheVariants.{Formula}
 use Rattle.wi_parser.specs.Sheet.{Sheet, content_of, put_all, cells_with_formula}
 use Rattle.wi_parser.specs.Reads.{content_reads}
-use Rattle.wi_functions.specs.Meaning.{meaning, zero_for_empty}
 use Rattle.wi_propagate.specs.Circular.{circular}
-use Rattle.wi_propagate.specs.CellValue.{value_within, cell_value, what_if_value}
+use Rattle.wi_propagate.specs.CellValue.{value_within, cell_value, formula_value}
 
 -- every bound from the number of formulas on gives a cell its value
 abbrev pub BoundIsNeverFelt : Type 0
 BoundIsNeverFelt = (s : Sheet) (c k : ℕ) → length (cells_with_formula s) ≤ k → value_within k s c ≡ cell_value s c
 
--- a formula that is not circular in the sheet has, under replacements, the meaning of its tree,
--- where each cell stands for its value there and each what-if for its value there
+-- a cell with a formula that is not circular in the sheet has, under replacements, its formula's value there
 abbrev pub ValueByStep : Type 0
 ValueByStep = (s : Sheet) (p : List Replacement) (c : ℕ) (t : Tree) → circular s c ≡ false → content_of (put_all s p) c ≡ Some (Formula t) →
-    cell_value (put_all s p) c ≡ zero_for_empty (meaning t (cell_value (put_all s p)) (what_if_value (put_all s p)))
+    cell_value (put_all s p) c ≡ formula_value (put_all s p) t
 
 -- a cell that is not circular reads none that is
 abbrev pub CircularIsAbove : Type 0

@@ -9,7 +9,7 @@ use Rattle.wi_propagate.specs.Circular.{circular}
 use Rattle.wi_propagate.specs.CellValue.{cell_value, what_if_value}
 use Rattle.wi_propagate.specs.Shown.{shown}
 use Rattle.wi_propagate.specs.Reach.{Reaches, AgreeFrom, is_one_of, IsInCone, SameOff, reaches, in_cone}
-use Rattle.wi_propagate.specs.Demand.{reaching, what_if_world, rests_on}
+use Rattle.wi_propagate.specs.Demand.{reaching, with_what_if, rests_on}
 
 -- ---- values
 
@@ -32,14 +32,14 @@ ReachingSuffices = (s : Sheet) (w : List Replacement) (c : ℕ) → cell_value (
 
 -- A what-if under replacements is its formula cell's value under one list, in which its own override those around it.
 -- These stand in the order of their addresses, one for each: in another list only the first for an address would go.
-abbrev pub WhatIfWorld : Type 0
-WhatIfWorld = (s : Sheet) (w : List Replacement) (f : ℕ) (pairs : List (ℕ × ℕ)) → IsInOrder w →
-    cell_value (put_all s (what_if_world s w pairs)) f ≡ what_if_value (put_all s w) f pairs
+abbrev pub WhatIfIsOneList : Type 0
+WhatIfIsOneList = (s : Sheet) (w : List Replacement) (f : ℕ) (pairs : List (ℕ × ℕ)) → IsInOrder w →
+    cell_value (put_all s (with_what_if s w pairs)) f ≡ what_if_value (put_all s w) f pairs
 
 -- what is made of replacements in order is in order
 abbrev pub OrderStays : Type 0
 OrderStays = (s : Sheet) (w : List Replacement) → IsInOrder w →
-    ((c : ℕ) → IsInOrder (reaching s c w)) × ((pairs : List (ℕ × ℕ)) → IsInOrder (what_if_world s w pairs))
+    ((c : ℕ) → IsInOrder (reaching s c w)) × ((pairs : List (ℕ × ℕ)) → IsInOrder (with_what_if s w pairs))
 
 -- under those replacements alone that reach it, a cell has the same formula, and what the formula rests on is the same
 abbrev pub RestsStay : Type 0

@@ -1,6 +1,5 @@
 -- What a cell shows under a scenario's replacements.
-use Rattle.std.specs.Prelude.{ℕ, List, map, if◌then◌else◌}
-use Rattle.std.specs.List.Sorted.{IsStrictlyIncreasing}
+use Rattle.std.specs.Prelude.{ℕ, List, if◌then◌else◌}
 use Rattle.wi_values.specs.declared.value.Value.{Value}
 use Rattle.wi_values.specs.declared.value.Value.TheVariants.{Fault}
 use Rattle.wi_values.specs.declared.value.ErrorKind.TheVariants.{Circular}
@@ -12,7 +11,3 @@ use Rattle.wi_propagate.specs.CellValue.{cell_value}
 -- Cycles are those of the sheet's own formulas: no replacement cuts one.
 unfoldable pub shown : Sheet → List Replacement → ℕ → Value
 shown s p c = if circular s c then Fault Circular else cell_value (put_all s p) c
-
--- the replacements stand in the order of their addresses, one for each
-abbrev pub IsSortedPut : List Replacement → Type 0
-IsSortedPut p = IsStrictlyIncreasing (map (λ r. r.at) p)

@@ -1,5 +1,5 @@
 -- What an entry of a data table shows, and what it demands.
-use Rattle.std.specs.Prelude.{ℕ, ◌||◌, if◌then◌else◌, List, ◌++◌, All}
+use Rattle.std.specs.Prelude.{ℕ, ◌||◌, if◌then◌else◌, List, ◌++◌}
 use Rattle.std.specs.List.{list_any, flat_map}
 use Rattle.wi_values.specs.declared.value.Value.{Value}
 use Rattle.wi_values.specs.declared.value.Value.TheVariants.{Fault}
@@ -9,8 +9,7 @@ use Rattle.wi_parser.specs.Sheet.{Sheet, put_all}
 use Rattle.wi_functions.specs.Meaning.{zero_for_empty}
 use Rattle.wi_propagate.specs.Circular.{circular}
 use Rattle.wi_propagate.specs.CellValue.{what_if_value}
-use Rattle.wi_propagate.specs.Demand.{Case, case_of, what_if_world, demand}
-use Rattle.wi_propagate.specs.Spending.{HasCase}
+use Rattle.wi_propagate.specs.Demand.{Case, case_of, with_what_if, demand}
 
 -- What an entry shows under a scenario's replacements: the value of its formula cell with each input replaced by the value of
 -- its replacement cell. It is valued as a formula in a cell of its own that nothing reads, so Empty becomes 0. Cycles are
@@ -21,12 +20,4 @@ table_entry s p f pairs =
 
 -- the cases that an entry demands: those of its replacement cells, and of its formula cell with the inputs replaced
 abbrev pub table_demand : Sheet → List Replacement → ℕ → List (ℕ × ℕ) → List Case
-table_demand s w f pairs = flat_map (λ x. demand s (case_of s w x.1)) pairs ++ demand s (case_of s (what_if_world s w pairs) f)
-
--- The list has the case of each replacement cell that has a formula under the replacements.
-abbrev pub HasReplacing : Sheet → List Replacement → List (ℕ × ℕ) → List Case → Type 0
-HasReplacing s w pairs ks = All (λ x. HasCase s w x.1 ks) pairs
-
--- and that of the formula cell with the inputs replaced
-abbrev pub HasEntry : Sheet → List Replacement → ℕ → List (ℕ × ℕ) → List Case → Type 0
-HasEntry s w f pairs ks = HasReplacing s w pairs ks × HasCase s (what_if_world s w pairs) f ks
+table_demand s w f pairs = flat_map (λ x. demand s (case_of s w x.1)) pairs ++ demand s (case_of s (with_what_if s w pairs) f)

@@ -1,15 +1,14 @@
 -- A walk along references, depth first.
-use Rattle.std.specs.Prelude.{◌≡◌, ◌==◌, ℕ, ◌+◌, Bool, true, false, ◌||◌, if◌then◌else◌, List, [], ◌∷◌, ◌++◌, filter, drop, nat_lt, length, Option, Some, None, is_some, sum_by}
+use Rattle.std.specs.Prelude.{◌≡◌, ◌==◌, ℕ, ◌+◌, Bool, true, false, ◌||◌, if◌then◌else◌, List, [], ◌∷◌, ◌++◌, drop, length, Option, Some, None, is_some, sum_by}
 use Rattle.std.specs.List.{list_any, flat_map}
 use Rattle.std.specs.Ordering.{nat_cmp}
 use Rattle.std.specs.BTreeMap.{BTreeMap, get}
-use Rattle.std.specs.Map.{keys_of}
-use Rattle.wi_values.specs.Address.{Area, is_within}
+use Rattle.wi_values.specs.Address.{Area}
 use Rattle.wi_parser.specs.Sheet.{Sheet, content_of, has_formula, cells_with_formula}
 use Rattle.wi_parser.specs.Reads.{content_reads}
 use Rattle.wi_propagate.specs.Circular.{circular}
 use Rattle.wi_propagate.specs.Reach.{is_one_of, Reaches}
-use Rattle.wi_propagate.specs.ReadCells.{rectangles_in, occupied_within}
+use Rattle.wi_propagate.specs.ReadCells.{rectangles_in, occupied_within, cells_after}
 use Rattle.wi_propagate.specs.ReadOrder.{IsReadOrder}
 use Rattle.wi_propagate.specs.declared.walk.Mark.{Mark}
 use Rattle.wi_propagate.specs.declared.walk.Mark.TheVariants.{Open, Done}
@@ -80,16 +79,7 @@ tasks_left s marks ts = length ts + sum_by (tasks_of s marks) (cells_with_formul
 
 -- ---- the tasks that a path stands for
 
--- the cell comes after the one last looked at, if one was
-abbrev pub is_after : Option ℕ → ℕ → Bool
-is_after None a = true
-is_after (Some c) a = nat_lt c a
-
--- the occupied cells of a rectangle after the one last looked at
-abbrev pub cells_after : Sheet → Area → Option ℕ → List ℕ
-cells_after s r o = filter (is_after o) (filter (is_within r) (keys_of s))
-
--- and those of rectangles, in the first of which that one is
+-- the occupied cells of rectangles after the one last looked at, which is in the first of them
 abbrev pub cells_ahead : Sheet → List Area → Option ℕ → List ℕ
 cells_ahead s [] o = []
 cells_ahead s (r ∷ rs) o = cells_after s r o ++ occupied_within s rs

@@ -4,7 +4,7 @@ ghost use Rattle.std.specs.Prelude.{◌≡◌, ℕ, IfOk};
 ghost use Rattle.std.specs.Option.{option_copied};
 ghost use Rattle.wi_parser.specs.Sheet.{content_of};
 ghost use Rattle.wi_store.specs.Store.{Stored, applied, Applies};
-ghost use Rattle.wi_propagate.specs.Shown.{IsSortedPut};
+ghost use Rattle.wi_worlds.specs.World.{IsInOrder};
 ghost use Rattle.wi_propagate.specs.Shown as show;
 ghost use Rattle.wi_propagate.specs.TableEntry.{table_entry};
 
@@ -35,7 +35,7 @@ pub trait Calculator {
     /// What a cell shows under replacements, which stand in the order of their addresses, one for each. No sheet is
     /// copied.
     fn value(&mut self, put: &[Replacement], at: Address) -> Result<Value, AllocError>
-        requires { IsSortedPut put.now }
+        requires { IsInOrder put.now }
         ensures value { IfOk result (λ v. v ≡ show.shown (stored self.old).sheet put.now at) }
         ensures same { stored self.new ≡ stored self.old };
 
@@ -48,7 +48,7 @@ pub trait Calculator {
         formula_cell: Address,
         pairs: &[(Address, Address)],
     ) -> Result<Value, AllocError>
-        requires { IsSortedPut put.now }
+        requires { IsInOrder put.now }
         ensures value { IfOk result (λ v. v ≡ table_entry (stored self.old).sheet put.now formula_cell pairs.now) }
         ensures same { stored self.new ≡ stored self.old };
 

@@ -1,20 +1,21 @@
 //! Which cells reach a cell.
 
-ghost use Rattle.std.specs.Prelude.{◌≡◌, ◌==◌, ◌&&◌, ◌||◌, ℕ, All, IsSome, IfOk, OnOk};
+ghost use Rattle.std.specs.Prelude.{◌≡◌, ◌==◌, ◌&&◌, ◌||◌, ℕ, filter, All, IsSome, IfOk, OnOk};
 ghost use Rattle.std.specs.BTreeMap.{get};
 ghost use Rattle.std.specs.BTreeSet.{contains};
 ghost use Rattle.std.specs.List.{list_any};
+ghost use Rattle.std.specs.Map.{keys_of};
 ghost use Rattle.std.specs.Ordering.{nat_cmp};
 ghost use Rattle.wi_values.specs.Address.{is_within};
 ghost use Rattle.wi_parser.specs.Sheet.{content_of};
 ghost use Rattle.wi_parser.specs.Reads.{content_reads};
 ghost use Rattle.wi_propagate.specs.Reach.{is_one_of, reaches};
-ghost use Rattle.wi_propagate.specs.ReadCells.{read_by};
+ghost use Rattle.wi_propagate.specs.ReadCells.{rectangles_in, occupied_within};
 ghost use Rattle.wi_propagate.specs.ReadOrder.{IsReadOrder};
 ghost use Rattle.wi_propagate.specs.Remembered.{AreCones};
 
+use crate::occupied::next_within;
 use crate::seen::formula_at;
-use crate::walk::push_reads;
 use std::alloc::{AllocError, Global};
 use std::collections::{BTreeMap, BTreeSet};
 use wi_store::Store;
@@ -66,7 +67,8 @@ fn add_cone(
     Ok(())
 }
 
-/// The cells of an order of reading that reach a cell. The work is one pass over what they read.
+/// The cells of an order of reading that reach a cell. The work is one pass over the occupied cells that they read, each as
+/// often as it is read.
 fn cone(
     alloc: Global,
     store: &Store,
@@ -78,37 +80,28 @@ fn cone(
 {
     let mut cone = BTreeSet::new(alloc);
     for cell in order {
-        let reaches = steps_into(alloc, store, *cell, at, &cone)?;
-        if reaches {
+        if steps_into(store, *cell, at, &cone) {
             cone.insert(*cell)?;
         }
     }
     Ok(cone)
 }
 
-/// Whether a cell is another, reads it, or reads a cell with a formula that is among those that reach it.
-fn steps_into(
-    alloc: Global,
-    store: &Store,
-    cell: Address,
-    at: Address,
-    cone: &BTreeSet<Address>,
-) -> Result<bool, AllocError>
-    ensures { IfOk result (λ b. b ≡ (cell == at || content_reads (content_of store.now.sheet cell) at || list_any (contains nat_cmp cone.now) (read_by store.now.sheet (content_of store.now.sheet cell)))) }
+/// Whether a cell is another, reads it, or reads one that is among those that reach it.
+fn steps_into(store: &Store, cell: Address, at: Address, cone: &BTreeSet<Address>) -> bool
+    ensures { result ≡ (cell == at || content_reads (content_of store.now.sheet cell) at || list_any (contains nat_cmp cone.now) (occupied_within store.now.sheet (rectangles_in (content_of store.now.sheet cell)))) }
 {
     if cell == at {
-        return Ok(true);
+        return true;
     }
     let Some(formula) = formula_at(store, cell) else {
-        return Ok(false);
+        return false;
     };
     let rectangles = formula.rectangles();
     if is_in_one(at, rectangles) {
-        return Ok(true);
+        return true;
     }
-    let mut cells = Vec::new(alloc);
-    push_reads(store, rectangles, &mut cells)?;
-    Ok(has_one(cone, &cells))
+    has_one(store, rectangles, cone)
 }
 
 /// Whether a cell is in one of these rectangles.
@@ -118,9 +111,25 @@ fn is_in_one(at: Address, rectangles: &[Rect]) -> bool
     rectangles.iter().any(|rectangle| rectangle.contains(at))
 }
 
-/// Whether a set has one of these cells.
-fn has_one(set: &BTreeSet<Address>, cells: &[Address]) -> bool
-    ensures { result ≡ list_any (contains nat_cmp set.now) cells.now }
+/// Whether a set has one of the occupied cells of these rectangles.
+fn has_one(store: &Store, rectangles: &[Rect], set: &BTreeSet<Address>) -> bool
+    ensures { result ≡ list_any (λ r. list_any (contains nat_cmp set.now) (filter (is_within r) (keys_of store.now.sheet))) rectangles.now }
 {
-    cells.iter().any(|cell| set.contains(cell))
+    rectangles
+        .iter()
+        .any(|rectangle| has_one_within(store, *rectangle, set))
+}
+
+/// Whether a set has one of the occupied cells of a rectangle.
+fn has_one_within(store: &Store, area: Rect, set: &BTreeSet<Address>) -> bool
+    ensures { result ≡ list_any (contains nat_cmp set.now) (filter (is_within area) (keys_of store.now.sheet)) }
+{
+    let mut ahead = next_within(store, area, None);
+    while let Some(cell) = ahead {
+        if set.contains(&cell) {
+            return true;
+        }
+        ahead = next_within(store, area, Some(cell));
+    }
+    false
 }

@@ -8,7 +8,7 @@ ghost use Rattle.wi_functions.specs.Meaning.{addresses};
 ghost use Rattle.wi_functions.specs.declared.evaluation.Want.TheVariants as wanted;
 ghost use Rattle.wi_worlds.specs.World.{IsInOrder};
 ghost use Rattle.wi_propagate.specs.CellValue as show;
-ghost use Rattle.wi_propagate.specs.Demand.{what_if_world, wants};
+ghost use Rattle.wi_propagate.specs.Demand.{with_what_if, wants};
 ghost use Rattle.wi_propagate.specs.Memory.{IsMemoryOf};
 ghost use Rattle.wi_propagate.specs.Answers.{AsksAt, IsLacking};
 ghost use Rattle.wi_propagate.specs.Frames.{MayBeRead, IsToValue, IsUnvalued, AreReadHere, Awaits, IsFrame, IsNext, case_at, spare, waits};
@@ -68,7 +68,7 @@ fn replaced<M: Memo>(
 ) -> Result<Inputs, AllocError>
     requires memory { IsMemoryOf store.now.sheet (M.memory memo.old) }
     requires read { All (λ p. MayBeRead store.now.sheet (M.memory memo.old) p.by.at) pairs.now }
-    ensures known { IfOk result (λ i. IfReplaced i (λ w. w ≡ what_if_world store.now.sheet world.now (map addresses (map pair_of pairs.now)))) }
+    ensures known { IfOk result (λ i. IfReplaced i (λ w. w ≡ with_what_if store.now.sheet world.now (map addresses (map pair_of pairs.now)))) }
     ensures unknown { IfOk result (λ i. IfInputUnknown i (λ k. (list_any (λ p. p.1.at == k.cell) (map pair_of pairs.now) ≡ true) × IsUnvalued store.now.sheet (M.memory memo.old) world.now k.cell k)) }
     ensures order { IsInOrder world.now }
     ensures same { M.memory memo.new ≡ M.memory memo.old }

@@ -1,7 +1,7 @@
 //! Laws about what cells show. Each is the contract of a function that does nothing.
 
 ghost use Rattle.wi_propagate.specs.Laws.{BoundIsNeverFelt, ValueByStep, CircularIsAbove, CircularReadsCircular, PutsMakeNoCycle};
-ghost use Rattle.wi_propagate.specs.Locality.{RestsOnReach, OthersDoNotCount, SameForReached, ReachingSuffices, WhatIfWorld, OrderStays, RestsStay};
+ghost use Rattle.wi_propagate.specs.Locality.{RestsOnReach, OthersDoNotCount, SameForReached, ReachingSuffices, WhatIfIsOneList, OrderStays, RestsStay};
 ghost use Rattle.wi_propagate.specs.Locality.{ConeStays, OutsideStays, OutsideStaysUnderPuts, UnmarkedStays, ReachIsDecided, ConeIsDecided, ReachStays};
 ghost use Rattle.wi_propagate.specs.DemandLaws.{DemandByStep, DemandUnderReplacements, CircularDemandsNothing, PlainDemandsNothing};
 
@@ -25,7 +25,7 @@ pub fn value_is_local()
     ensures others { OthersDoNotCount }
     ensures same { SameForReached }
     ensures reaching { ReachingSuffices }
-    ensures what_if { WhatIfWorld }
+    ensures what_if { WhatIfIsOneList }
 {}
 
 /// Replacements are left out and put in without loss: what a formula rests on is the same under those alone that reach its

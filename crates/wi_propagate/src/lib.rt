@@ -10,6 +10,7 @@ mod frame;
 pub mod laws;
 mod lookup;
 mod memo;
+mod occupied;
 mod plain;
 mod remembered;
 mod seen;

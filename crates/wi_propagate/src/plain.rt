@@ -1,6 +1,6 @@
 //! A calculator that keeps nothing it has calculated.
 
-ghost use Rattle.std.specs.Prelude.{◌≡◌, [], ℕ};
+ghost use Rattle.std.specs.Prelude.{◌≡◌, []};
 
 use crate::calculator::Calculator;
 use crate::table_entry::table_entry;

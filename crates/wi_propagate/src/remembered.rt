@@ -1,9 +1,6 @@
 //! What is remembered in one question.
 
-ghost use Rattle.std.specs.Prelude.{◌≡◌, ◌⊎◌, ◌||◌, [], ℕ, true, false, List, Some, None, IfOk, IfSome, OnOk};
-ghost use Rattle.std.specs.Option.{option_copied};
-ghost use Rattle.wi_values.specs.declared.replacement.Replacement.{Replacement as Replacements};
-ghost use Rattle.wi_propagate.specs.Demand.{reaching, same_case};
+ghost use Rattle.std.specs.Prelude.{◌≡◌, []};
 ghost use Rattle.wi_propagate.specs.Memory.{IsMemoryOf};
 ghost use Rattle.wi_propagate.specs.ReadOrder.{IsReadOrder};
 ghost use Rattle.wi_propagate.specs.Remembered.{memory_of, remembered};

@@ -1,16 +1,16 @@
 //! What an entry of a data table shows.
 
-ghost use Rattle.std.specs.Prelude.{◌≡◌, ◌+◌, ◌≤◌, ◌∷◌, length, map, All, IfOk, OnOk};
+ghost use Rattle.std.specs.Prelude.{◌≡◌, ◌+◌, ◌≤◌, ◌∷◌, length, sum_by, map, All, IfOk, OnOk};
 ghost use Rattle.wi_parser.specs.Sheet.{put_all};
 ghost use Rattle.wi_functions.specs.Meaning as formulas;
 ghost use Rattle.wi_propagate.specs.CellValue as show;
-ghost use Rattle.wi_propagate.specs.Shown.{IsSortedPut};
+ghost use Rattle.wi_worlds.specs.World.{IsInOrder};
 ghost use Rattle.wi_propagate.specs.TableEntry as table;
-ghost use Rattle.wi_propagate.specs.TableEntry.{table_demand, HasReplacing, HasEntry};
-ghost use Rattle.wi_propagate.specs.Demand.{what_if_world, different, total, wants};
+ghost use Rattle.wi_propagate.specs.TableEntry.{table_demand};
+ghost use Rattle.wi_propagate.specs.Demand.{with_what_if, different, wants};
 ghost use Rattle.wi_propagate.specs.Memory.{IsMemoryOf};
 ghost use Rattle.wi_propagate.specs.Frames.{MayBeRead};
-ghost use Rattle.wi_propagate.specs.Spending.{CountsAtMost, CountsFound};
+ghost use Rattle.wi_propagate.specs.Spending.{CountsAtMost, CountsFound, HasReplacing, HasEntry};
 
 use crate::engine::value_under;
 use crate::memo::Memo;
@@ -35,12 +35,12 @@ pub fn table_entry(
     pairs: &[(Address, Address)],
     meter: &mut Meter,
 ) -> Result<Value, AllocError>
-    requires { IsSortedPut put.now }
+    requires { IsInOrder put.now }
     ensures value { IfOk result (λ v. v ≡ table.table_entry store.now.sheet put.now formula_cell pairs.now) }
 
     // No more than what the entry demands is valued, also where memory runs out.
     ensures evaluations { meter.new.evaluations ≤ meter.old.evaluations + length (different (table_demand store.now.sheet put.now formula_cell pairs.now)) }
-    ensures restarts { meter.new.restarts ≤ meter.old.restarts + total (wants store.now.sheet) (different (table_demand store.now.sheet put.now formula_cell pairs.now)) }
+    ensures restarts { meter.new.restarts ≤ meter.old.restarts + sum_by (wants store.now.sheet) (different (table_demand store.now.sheet put.now formula_cell pairs.now)) }
 {
     let cells = valued_cells(alloc, formula_cell, pairs)?;
     let Some(order) = reached_from(alloc, store, &cells)? else {
@@ -79,7 +79,7 @@ fn open_entry<M: Memo>(
     requires memory { IsMemoryOf store.now.sheet (M.memory memo.old) }
     requires formula_cell { MayBeRead store.now.sheet (M.memory memo.old) formula_cell }
     requires replacing { All (λ x. MayBeRead store.now.sheet (M.memory memo.old) x.1) pairs.now }
-    ensures value { IfOk result (λ v. v ≡ formulas.zero_for_empty (show.cell_value (put_all store.now.sheet (what_if_world store.now.sheet world.now pairs.now)) formula_cell)) }
+    ensures value { IfOk result (λ v. v ≡ formulas.zero_for_empty (show.cell_value (put_all store.now.sheet (with_what_if store.now.sheet world.now pairs.now)) formula_cell)) }
     ensures evaluations { CountsAtMost store.now.sheet (HasEntry store.now.sheet world.now formula_cell pairs.now) (λ _. 1) (M.memory memo.old).found meter.old.evaluations meter.new.evaluations }
     ensures restarts { CountsAtMost store.now.sheet (HasEntry store.now.sheet world.now formula_cell pairs.now) (wants store.now.sheet) (M.memory memo.old).found meter.old.restarts meter.new.restarts }
 {
@@ -100,7 +100,7 @@ fn with_inputs<M: Memo>(
 ) -> Result<World, AllocError>
     requires memory { IsMemoryOf store.now.sheet (M.memory memo.old) }
     requires replacing { All (λ x. MayBeRead store.now.sheet (M.memory memo.old) x.1) pairs.now }
-    ensures world { IfOk result (λ w. w ≡ what_if_world store.now.sheet world.now pairs.now) }
+    ensures world { IfOk result (λ w. w ≡ with_what_if store.now.sheet world.now pairs.now) }
     ensures memory { IsMemoryOf store.now.sheet (M.memory memo.new) }
     ensures same_cells { (M.memory memo.new).covers ≡ (M.memory memo.old).covers }
 

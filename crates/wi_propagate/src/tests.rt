@@ -142,6 +142,56 @@ fn rectangles_of_many_cells(rt: HostRuntime) -> Result<(), Fail> {
     Ok(())
 }
 
+// Each cell of column A reads all that stand above it, down to row 300.
+#[test]
+fn running_totals(rt: HostRuntime) -> Result<(), Fail> {
+    let alloc = rt.alloc();
+    let mut calculator = PlainCalculator::new(alloc, Limits::standard());
+    set(alloc, &mut calculator, "A1", "5")?;
+    for row in 1..300u32 {
+        let at = format!(in alloc; "A{}", row + 1)?;
+        let text = format!(in alloc; "=[.A1:.A{row}]")?;
+        set(alloc, &mut calculator, &at, &text)?;
+    }
+    assert_eq!(rt; shown(&mut calculator, "A2")?, number(5, 1)?);
+    let bad = Value::Fault(ErrorKind::BadValue);
+    assert_eq!(rt; shown(&mut calculator, "A300")?, bad);
+    // All are looked at, but a rectangle of many cells is no number, whatever stands in it.
+    assert_eq!(rt; calculator.evaluations(), 2);
+    set(alloc, &mut calculator, "A1", "=[.A300]")?;
+    for at in ["A1", "A2", "A300"] {
+        let circular = Value::Fault(ErrorKind::Circular);
+        assert_eq!(rt; shown(&mut calculator, at)?, circular);
+    }
+    Ok(())
+}
+
+// One formula names a column of 300 formulas 100 times.
+#[test]
+fn rectangle_named_many_times(rt: HostRuntime) -> Result<(), Fail> {
+    let alloc = rt.alloc();
+    let mut calculator = PlainCalculator::new(alloc, Limits::standard());
+    for row in 1..301u32 {
+        let at = format!(in alloc; "A{row}")?;
+        set(alloc, &mut calculator, &at, "=[.C1]+1")?;
+    }
+    let mut text = format!(in alloc; "=[.A1]+f([.A1:.A300]")?;
+    for _ in 1..100u32 {
+        text.push_str(";[.A1:.A300]")?;
+    }
+    text.push_str(")")?;
+    set(alloc, &mut calculator, "B1", &text)?;
+    let unknown = Value::Fault(ErrorKind::UnknownName);
+    assert_eq!(rt; shown(&mut calculator, "B1")?, unknown);
+    // A1 and B1, which lacks A1 at first and asks for no other.
+    assert_eq!(rt; calculator.evaluations(), 2);
+    assert_eq!(rt; calculator.restarts(), 1);
+    set(alloc, &mut calculator, "C1", "=[.B1]")?;
+    let circular = Value::Fault(ErrorKind::Circular);
+    assert_eq!(rt; shown(&mut calculator, "B1")?, circular);
+    Ok(())
+}
+
 // Each cell of column A is one more than the one below it, down to row 201.
 #[test]
 fn chain_of_200(rt: HostRuntime) -> Result<(), Fail> {

@@ -1,9 +1,9 @@
 //! What a cell shows.
 
-ghost use Rattle.std.specs.Prelude.{◌≡◌, ◌+◌, ◌≤◌, length, IfOk};
-ghost use Rattle.wi_propagate.specs.Shown.{IsSortedPut};
+ghost use Rattle.std.specs.Prelude.{◌≡◌, ◌+◌, ◌≤◌, length, sum_by, IfOk};
+ghost use Rattle.wi_worlds.specs.World.{IsInOrder};
 ghost use Rattle.wi_propagate.specs.Shown as show;
-ghost use Rattle.wi_propagate.specs.Demand.{case_of, demand, different, total, wants};
+ghost use Rattle.wi_propagate.specs.Demand.{case_of, demand, different, wants};
 
 use crate::engine::value_under;
 use crate::remembered::Remembered;
@@ -24,12 +24,12 @@ pub fn shown(
     at: Address,
     meter: &mut Meter,
 ) -> Result<Value, AllocError>
-    requires { IsSortedPut put.now }
+    requires { IsInOrder put.now }
     ensures value { IfOk result (λ v. v ≡ show.shown store.now.sheet put.now at) }
 
     // No more than what the cell demands is valued, also where memory runs out.
     ensures evaluations { meter.new.evaluations ≤ meter.old.evaluations + length (different (demand store.now.sheet (case_of store.now.sheet put.now at))) }
-    ensures restarts { meter.new.restarts ≤ meter.old.restarts + total (wants store.now.sheet) (different (demand store.now.sheet (case_of store.now.sheet put.now at))) }
+    ensures restarts { meter.new.restarts ≤ meter.old.restarts + sum_by (wants store.now.sheet) (different (demand store.now.sheet (case_of store.now.sheet put.now at))) }
 {
     let Some(order) = reached(alloc, store, at)? else {
         return Ok(Value::Fault(ErrorKind::Circular));

@@ -1,25 +1,24 @@
 //! Which cells a cell reaches, by a walk along references.
 
-ghost use Rattle.std.specs.Prelude.{◌≡◌, ◌<◌, ◌≤◌, ◌+◌, ◌++◌, ◌∷◌, [], ℕ, List, Some, None, true, false, IfOk, IfSome, IfNone, OnOk, nat_le};
+ghost use Rattle.std.specs.Prelude.{◌≡◌, ◌<◌, ◌≤◌, ◌+◌, ◌++◌, ◌∷◌, [], ℕ, List, Some, None, true, false, IfOk, IfSome, IfNone, OnOk};
 ghost use Rattle.std.specs.BTreeMap.{Updates};
 ghost use Rattle.std.specs.Ordering.{nat_cmp};
 ghost use Rattle.std.specs.Bool.{OnFalse, OnTrue};
 ghost use Rattle.std.specs.Option.{is_none};
 ghost use Rattle.std.specs.List.{list_any};
-ghost use Rattle.wi_values.specs.Address.{is_within};
 ghost use Rattle.wi_parser.specs.Sheet.{content_of, has_formula};
 ghost use Rattle.wi_propagate.specs.Circular as cycles;
 ghost use Rattle.wi_propagate.specs.Reach.{is_one_of, Reaches};
-ghost use Rattle.wi_propagate.specs.ReadCells.{formulas_within};
 ghost use Rattle.wi_propagate.specs.ReadOrder.{IsReadOrder};
-ghost use Rattle.wi_propagate.specs.Walk.{IsBelow, Enter, GoesOn, HasCycle, begun, cells_after, is_after, tasks_in, tasks_left, unread};
+ghost use Rattle.wi_propagate.specs.Walk.{IsBelow, Enter, GoesOn, HasCycle, begun, tasks_in, tasks_left, unread};
 ghost use Rattle.wi_propagate.specs.declared.walk.Mark.TheVariants.{Open, Done};
 
+use crate::occupied::next_within;
 use crate::seen::formula_at;
 use std::alloc::{AllocError, Global};
 use std::collections::BTreeMap;
 use wi_store::Store;
-use wi_values::{Address, COLUMNS, Rect};
+use wi_values::Address;
 
 /// A cell that the walk is below, and how far it has come in what the cell's formula reads.
 #[derive(Clone, Copy, Debug)]
@@ -202,55 +201,4 @@ impl Visit {
         }
         None
     }
-}
-
-/// The first occupied cell of a rectangle after the one looked at last.
-fn next_within(store: &Store, area: Rect, after: Option<Address>) -> Option<Address>
-    ensures some { IfSome result (λ c. cells_after store.now.sheet area after ≡ c ∷ cells_after store.now.sheet area (Some c)) }
-    ensures none { IfNone result (cells_after store.now.sheet area after ≡ []) }
-{
-    store.cells_stand_in_order();
-    let from = first_after(area, after)?;
-    store.next_occupied(area, from)
-}
-
-/// From where on the cells of a rectangle come after the one looked at last, if any of them does.
-fn first_after(area: Rect, after: Option<Address>) -> Option<Address>
-    ensures some { IfSome result (λ from. (a : ℕ) → is_within area a ≡ true → is_after after a ≡ nat_le from a) }
-    ensures none { IfNone result ((a : ℕ) → is_within area a ≡ true → is_after after a ≡ false) }
-{
-    match after {
-        None => Some(area.first()),
-        Some(cell) => successor(cell, area.last()),
-    }
-}
-
-/// The address after another in row-major order, unless that is the last one or comes later.
-fn successor(cell: Address, last: Address) -> Option<Address>
-    ensures some { IfSome result (λ next. next ≡ cell + 1) }
-    ensures none { IfNone result (last ≤ cell) }
-{
-    if last <= cell {
-        return None;
-    }
-    if cell.column() + 1 < COLUMNS {
-        Some(Address::at(cell.row(), cell.column() + 1))
-    } else {
-        Some(Address::at(cell.row() + 1, 0))
-    }
-}
-
-/// Appends the cells with a formula of rectangles, of one rectangle after the other. The work for each grows as that of
-/// `Store::push_formulas_within`.
-pub fn push_reads(
-    store: &Store,
-    rectangles: &[Rect],
-    cells: &mut Vec<Address>,
-) -> Result<(), AllocError>
-    ensures { OnOk result (cells.new.items ≡ cells.old.items ++ formulas_within store.now.sheet rectangles.now) }
-{
-    for rectangle in rectangles {
-        store.push_formulas_within(*rectangle, cells)?;
-    }
-    Ok(())
 }

@@ -1,6 +1,6 @@
 //! Blocks of rows.
 
-ghost use Rattle.std.specs.Prelude.{◌≡◌, ◌<◌, ◌+◌, ◌-◌, ◌^◌, ◌≤◌, ◌&&◌, nat_lt};
+ghost use Rattle.std.specs.Prelude.{◌≡◌, ◌<◌, ◌+◌, ◌-◌, ◌^◌, ◌≤◌, ◌&&◌};
 ghost use Rattle.wi_values.specs.Address.{rows};
 ghost use Rattle.wi_ranges.specs.Blocks.{block, lies_within, meets, half_with, first_row, last_row};
 

@@ -2,8 +2,6 @@
 //! and let go: the input has the longest formulas of the worst shapes.
 #![tactic(auto)]
 
-ghost use Rattle.std.specs.Prelude.{◌≡◌};
-
 use std::alloc::{AllocError, Global};
 use std::io;
 use wi_fraction::Fraction;

@@ -1,4 +1,4 @@
-use Rattle.std.proofs.Common.{◌==◌, ◌||◌, ◌++◌, List, ℕ, ap, sym, ◌∙◌}
+use Rattle.std.proofs.Common.{◌==◌, ◌||◌, List, ap, sym, ◌∙◌}
 use Rattle.std.proofs.lemmas.Bool.{or_left, or_right}
 use Rattle.std.specs.List.{list_any}
 use Rattle.std.specs.Ordering.{nat_cmp}
@@ -6,7 +6,8 @@ use Rattle.std.specs.BTreeSet.{contains}
 use Rattle.wi_values.specs.Address.{Area, is_within}
 use Rattle.wi_parser.specs.Sheet.{content_of}
 use Rattle.wi_parser.specs.Reads.{content_reads}
-use Rattle.wi_propagate.specs.ReadCells.{formulas_within, read_by}
+use Rattle.wi_propagate.specs.ReadCells.{occupied_within, rectangles_in}
+use Rattle.wi_propagate.proofs.NextCells.{any_within}
 use Rattle.wi_propagate.proofs.ConeSteps.{reads_rectangles, only_last}
 use Rattle.wi_propagate.proofs.cone.steps_into.Goals as goal
 
@@ -22,5 +23,8 @@ returns c =
     let s = c.args.store.now.sheet in
     let none = ap (λ (rs : List Area). list_any (λ r. is_within r c.args.at) rs) (sym c.rectangles-rectangles.ensures) ∙ sym c.is_in_one.ensures ∙ c.if-is_in_one.false in
     let unread = reads_rectangles s c.args.cell c.in-Some.formula.now c.args.at c.in-Some.ensures.found ∙ none in
-    let cells = c.deref.ensures.value ∙ c.in_ok-push_reads.ensures ∙ ap (λ (xs : List ℕ). xs ++ formulas_within s c.rectangles-rectangles.result.now) c.new-cells.ensures.items ∙ ap (formulas_within s) c.rectangles-rectangles.ensures ∙ ap (read_by s) (sym c.in-Some.ensures.found) in
-    c.has_one.ensures ∙ ap (list_any (contains nat_cmp c.args.cone.now)) cells ∙ sym (only_last (c.args.cell == c.args.at) (content_reads (content_of s c.args.cell) c.args.at) _ (sym c.eq.ensures ∙ c.if-eq.false) unread)
+    let cells = ap (occupied_within s) (c.rectangles-rectangles.ensures ∙ ap rectangles_in (sym c.in-Some.ensures.found)) in
+    c.has_one.ensures
+    ∙ sym (any_within s (contains nat_cmp c.args.cone.now) c.rectangles-rectangles.result.now)
+    ∙ ap (list_any (contains nat_cmp c.args.cone.now)) cells
+    ∙ sym (only_last (c.args.cell == c.args.at) (content_reads (content_of s c.args.cell) c.args.at) _ (sym c.eq.ensures ∙ c.if-eq.false) unread)

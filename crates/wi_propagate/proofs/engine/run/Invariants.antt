@@ -1,7 +1,8 @@
 use Rattle.std.proofs.Common.{◌+◌, ◌*◌, length}
 use Rattle.wi_parser.specs.Sheet.{cells_with_formula}
 use Rattle.wi_propagate.specs.Rank.{rank}
-use Rattle.wi_propagate.specs.Demand.{demand, left}
+use Rattle.wi_propagate.specs.Demand.{demand}
+use Rattle.wi_propagate.specs.Spending.{left}
 use Rattle.wi_propagate.specs.Frames.{case_at}
 use Rattle.wi_propagate.proofs.Running.{IsRunning}
 use Rattle.wi_propagate.proofs.engine.run.Given as goal

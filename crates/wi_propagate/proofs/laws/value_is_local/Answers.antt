@@ -1,6 +1,6 @@
 use Rattle.wi_propagate.proofs.Agreement.{circular_same}
 use Rattle.wi_propagate.proofs.Locality.{value_same, others_do_not_count}
-use Rattle.wi_propagate.proofs.Overrides.{reaching_suffices, same_for_reached, what_if_world_value}
+use Rattle.wi_propagate.proofs.Overrides.{reaching_suffices, same_for_reached, with_what_if_value}
 use Rattle.wi_propagate.proofs.laws.value_is_local.Goals as goal
 
 pub returns-clause-local : goal.returns-clause-local
@@ -16,4 +16,4 @@ pub returns-clause-reaching : goal.returns-clause-reaching
 returns-clause-reaching c = reaching_suffices
 
 pub returns-clause-what_if : goal.returns-clause-what_if
-returns-clause-what_if c = what_if_world_value
+returns-clause-what_if c = with_what_if_value

@@ -3,8 +3,7 @@ use Rattle.wi_parser.specs.Sheet.{put_all}
 use Rattle.wi_propagate.specs.CellValue.{replacements, cell_value}
 use Rattle.wi_propagate.specs.Demand.{wants}
 use Rattle.wi_propagate.specs.Memory.{IsMemoryOf}
-use Rattle.wi_propagate.specs.Spending.{CountsFound}
-use Rattle.wi_propagate.specs.TableEntry.{HasReplacing}
+use Rattle.wi_propagate.specs.Spending.{CountsFound, HasReplacing}
 use Rattle.wi_propagate.proofs.table_entry.with_inputs.Given as goal
 
 abbrev pub invariant-loop-pair : goal.invariant-loop-pair

@@ -1,8 +1,8 @@
-use Rattle.std.proofs.Common.{◌≡◌, ◌+◌, [], List, ℕ, length, drop, suc, sym, refl, ap, subst, arith}
+use Rattle.std.proofs.Common.{◌≡◌, ◌+◌, [], List, ℕ, length, drop, suc, sym, ap, subst, arith}
 use Rattle.std.proofs.lemmas.List.{drop_all}
 use Rattle.wi_propagate.specs.Walk.{IsWalk, enters}
 use Rattle.wi_propagate.proofs.WalkSteps.{walk-begun, walk-ended}
-use Rattle.wi_propagate.proofs.PathSteps.{root-cycle, root-walked}
+use Rattle.wi_propagate.proofs.PathSteps.{root-walked}
 use Rattle.wi_propagate.proofs.walk.reached_from.Goals as goal
 
 pub loop-cell-init : goal.loop-cell-init

@@ -1,6 +1,4 @@
-use Rattle.std.proofs.Common.{◌≡◌, List, [], ◌∷◌, ◌++◌, sym, ap, ◌∙◌}
-use Rattle.wi_propagate.specs.Walk.{Enter, tasks_in}
-use Rattle.wi_propagate.specs.declared.walk.Visit.{Visit}
+use Rattle.wi_propagate.specs.Walk.{tasks_in}
 use Rattle.wi_propagate.specs.declared.walk.Mark.TheVariants.{Done}
 use Rattle.wi_propagate.proofs.Cursors.{path-on, path-done}
 use Rattle.wi_propagate.proofs.PathSteps.{path-left}

@@ -1,4 +1,4 @@
-use Rattle.std.proofs.Common.{◌≡◌, [], ◌∷◌, length, arith}
+use Rattle.std.proofs.Common.{[], ◌∷◌, arith}
 use Rattle.wi_propagate.specs.Walk.{Enter}
 use Rattle.wi_propagate.proofs.PathSteps.{path-ended}
 use Rattle.wi_propagate.proofs.walk.Walk.meets_cycle.Goals as goal

@@ -1,7 +1,7 @@
 use Rattle.std.proofs.Common.{◌≡◌, []}
-use Rattle.wi_propagate.specs.Walk.{cells_after}
+use Rattle.wi_propagate.specs.ReadCells.{cells_after}
 use Rattle.wi_propagate.proofs.Cursors.{next_if_some, next_if_none, none_after, whichever}
-use Rattle.wi_propagate.proofs.walk.next_within.Goals as goal
+use Rattle.wi_propagate.proofs.occupied.next_within.Goals as goal
 
 pub returns-in_err-from-clause-none : goal.returns-in_err-from-clause-none
 returns-in_err-from-clause-none c =
