@@ -1,14 +1,15 @@
 -- What a frame waits for is found, or a key is next.
-use Rattle.std.proofs.Common.{◌≡◌, ◌==◌, ◌+◌, ◌<◌, ◌≤◌, ℕ, zero, suc, true, List, [], ◌∷◌, map, length, get_or, All, Option, refl, ap, sym, ◌∙◌, subst, arith, eq-eqb}
+use Rattle.std.proofs.Common.{◌≡◌, ◌==◌, ◌+◌, ◌<◌, ◌≤◌, ℕ, zero, suc, Bool, true, false, ◌&&◌, if◌then◌else◌, List, [], ◌∷◌, map, length, get_or, All, Option, Some, inl, inr, ◌⊎◌, refl, ap, sym, ◌∙◌, subst, arith, eq-eqb}
 use Rattle.std.proofs.lemmas.Bool.{or_left, or_right}
 use Rattle.std.specs.List.{list_any}
+use Rattle.std.specs.Option.{is_none}
 use Rattle.std.specs.Global.{Vec}
 use Rattle.wi_values.specs.declared.value.Value.{Value}
 use Rattle.wi_values.specs.declared.replacement.Replacement.{Replacement}
 use Rattle.wi_parser.specs.declared.expr.Pair.{Pair}
 use Rattle.wi_parser.specs.View.{pair_of}
 use Rattle.wi_parser.specs.declared.content.Content.{Content}
-use Rattle.wi_parser.specs.Sheet.{Sheet, content_of, put_all}
+use Rattle.wi_parser.specs.Sheet.{Sheet, content_of, put_all, has_formula}
 use Rattle.wi_functions.specs.Meaning.{addresses}
 use Rattle.wi_functions.specs.Counts.{one_more}
 use Rattle.wi_functions.specs.declared.evaluation.Want.{Want}
@@ -17,9 +18,10 @@ use Rattle.wi_worlds.specs.World.{IsInOrder}
 use Rattle.wi_cache.specs.declared.key.Key.{Key}
 use Rattle.wi_propagate.specs.CellValue.{cell_value, what_if_value}
 use Rattle.wi_propagate.specs.Demand.{Case, with_what_if}
+use Rattle.wi_propagate.specs.Reach.{is_one_of}
 use Rattle.wi_propagate.specs.Memory.{Memory, IsMemoryOf}
-use Rattle.wi_propagate.specs.Answers.{AsksAt, IsLacking}
-use Rattle.wi_propagate.specs.Findings.{IsWithCell, IsWithWhatIf, pairs_of}
+use Rattle.wi_propagate.specs.Answers.{AsksAt, IsLacking, lacks_cell}
+use Rattle.wi_propagate.specs.Findings.{IsWithCell, IsWithWhatIf, pairs_of, cell_found}
 use Rattle.wi_propagate.specs.Frames.{case_at, content_reads_here, MayBeRead, IsToValue, IsUnvalued, IsNext, IsFrame, AreReadHere, Awaits, lacks, spare, waits}
 use Rattle.wi_propagate.specs.declared.findings.Findings.{Findings}
 use Rattle.wi_propagate.specs.declared.findings.FoundWhatIf.{FoundWhatIf}
@@ -140,3 +142,25 @@ pub round_smaller : (s : Sheet) (w : Waiting) (f g : Frame) → Awaits s (case_a
 round_smaller s w f g a e n l =
     let less = spare_waiting s f.key f.found w f a e (omega arith) n in
     omega (arith, less, l)
+
+-- of some cells none is lacked but those that are left and the next one, once the value of the one before was found
+pub lacked_next : (s : Sheet) (w : List Replacement) (f g : Findings) (a next : ℕ) (v : Value) (all others rest : List ℕ) → IsWithCell f g a v →
+    ((d : ℕ) → is_one_of all d ≡ true → lacks_cell s w f d ≡ true → (is_one_of others d ≡ true) ⊎ (d ≡ a)) →
+    ((d : ℕ) → is_one_of others d ≡ true → lacks_cell s w g d ≡ true → (is_one_of rest d ≡ true) ⊎ (d ≡ next)) →
+    (d : ℕ) → is_one_of all d ≡ true → lacks_cell s w g d ≡ true → (is_one_of rest d ≡ true) ⊎ (d ≡ next)
+lacked_next s w f g a next v all others rest k before passed d i l = at (a == d) refl (k.cells d)
+  where
+    formula : Bool
+    formula = has_formula (content_of (put_all s w) d)
+
+    found : (b : Bool) → (b && is_none (Some v)) ≡ true → ⊥
+    found true e = let z = e in cc
+    found false e = let z = e in cc
+
+    left : (is_one_of others d ≡ true) ⊎ (d ≡ a) → (a == d) ≡ false → (is_one_of rest d ≡ true) ⊎ (d ≡ next)
+    left (inl m) n = passed d m l
+    left (inr e) n = absurd (let z = sym (eq-eqb a d (sym e)) ∙ n in cc)
+
+    at : (b : Bool) → (a == d) ≡ b → cell_found g d ≡ (if b then Some v else cell_found f d) → (is_one_of rest d ≡ true) ⊎ (d ≡ next)
+    at true n e = absurd (found formula (sym (ap (λ (o : Option Value). formula && is_none o) e) ∙ l))
+    at false n e = left (before d i (sym (ap (λ (o : Option Value). formula && is_none o) e) ∙ l)) n

@@ -1,5 +1,5 @@
 -- What is known while one formula is valued, what it lacks, and what it asks for.
-use Rattle.std.specs.Prelude.{◌≡◌, ◌≤◌, ℕ, ◌+◌, true, List, map, filter, length, Contains, Option, Some, None}
+use Rattle.std.specs.Prelude.{◌≡◌, ◌≤◌, ℕ, ◌+◌, Bool, ◌&&◌, true, List, map, filter, length, Contains, Option, Some, None}
 use Rattle.std.specs.Option.{is_none}
 use Rattle.wi_values.specs.Address.{Area, is_within, size_of}
 use Rattle.wi_values.specs.declared.value.Value.{Value}
@@ -39,6 +39,10 @@ pub record AsksAt (s : Sheet) (w : List Replacement) (c : ℕ) (want : Want) : T
 abbrev pub IsLacking : Sheet → List Replacement → Findings → Want → Type 0
 IsLacking s w f (Cell a) = (has_formula (content_of (put_all s w) a) ≡ true) × (cell_found f a ≡ None)
 IsLacking s w f (WhatIf c pairs) = what_if_found f c (map addresses (map pair_of pairs.items)) ≡ None
+
+-- a cell has a formula under replacements, and its value was not found: as a test
+abbrev pub lacks_cell : Sheet → List Replacement → Findings → ℕ → Bool
+lacks_cell s w f a = has_formula (content_of (put_all s w) a) && is_none (cell_found f a)
 
 -- how many of the values on which a tree's value rests were not found: of cells with a formula that it reads as the sheet
 -- stands, and of what-ifs

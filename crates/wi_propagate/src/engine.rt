@@ -1,6 +1,6 @@
 //! Values by a stack of frames.
 
-ghost use Rattle.std.specs.Prelude.{◌≡◌, ◌==◌, ◌+◌, ◌≤◌, ◌∷◌, [], true, false, None, Ok, All, Contains, map, IsTrue, IfOk, IfSome, OnOk, OnErr};
+ghost use Rattle.std.specs.Prelude.{◌≡◌, ◌==◌, ◌+◌, ◌≤◌, ◌∷◌, [], ◌⊎◌, ℕ, true, false, None, Ok, All, Contains, map, IfOk, IfSome, IfNone, OnOk, OnErr};
 ghost use Rattle.std.specs.List.{list_any};
 ghost use Rattle.wi_parser.specs.View.{pair_of};
 ghost use Rattle.wi_parser.specs.Sheet.{put_all};
@@ -9,8 +9,9 @@ ghost use Rattle.wi_functions.specs.declared.evaluation.Want.TheVariants as want
 ghost use Rattle.wi_worlds.specs.World.{IsInOrder};
 ghost use Rattle.wi_propagate.specs.CellValue as show;
 ghost use Rattle.wi_propagate.specs.Demand.{with_what_if, wants};
+ghost use Rattle.wi_propagate.specs.Reach.{is_one_of};
 ghost use Rattle.wi_propagate.specs.Memory.{IsMemoryOf};
-ghost use Rattle.wi_propagate.specs.Answers.{AsksAt, IsLacking};
+ghost use Rattle.wi_propagate.specs.Answers.{AsksAt, IsLacking, lacks_cell};
 ghost use Rattle.wi_propagate.specs.Frames.{MayBeRead, IsToValue, IsUnvalued, AreReadHere, Awaits, IsFrame, IsNext, case_at, spare, waits};
 ghost use Rattle.wi_propagate.specs.Steps.{IfKnown, IfUnknown, IfReplaced, IfInputUnknown, IfDone, IfNeeds, evaluations_after};
 ghost use Rattle.wi_propagate.specs.Spending.{CountsAtMost, CountsFound, HasCase};
@@ -87,11 +88,13 @@ fn replaced<M: Memo>(
     Ok(Inputs::Known(world.with(&inputs)?))
 }
 
-/// The next of these cells whose value a frame lacks, and takes it and those behind it away.
+/// The next of these cells whose value a frame lacks, and takes it and those behind it away, none of which it lacks.
 fn next_lacking(store: &Store, frame: &Frame, cells: &mut Vec<Address>) -> Option<Address>
     requires { AreReadHere store.now.sheet (case_at frame.now.key) cells.old.items }
     ensures rest { AreReadHere store.now.sheet (case_at frame.now.key) cells.new.items }
     ensures next { IfSome result (λ a. IsLacking store.now.sheet frame.now.key.world frame.now.found (wanted.Cell a) × AreReadHere store.now.sheet (case_at frame.now.key) (a ∷ [])) }
+    ensures passed { IfSome result (λ a. (d : ℕ) → is_one_of cells.old.items d ≡ true → lacks_cell store.now.sheet frame.now.key.world frame.now.found d ≡ true → (is_one_of cells.new.items d ≡ true) ⊎ (d ≡ a)) }
+    ensures none { IfNone result ((d : ℕ) → is_one_of cells.old.items d ≡ true → lacks_cell store.now.sheet frame.now.key.world frame.now.found d ≡ false) }
 {
     while let Some(at) = cells.pop() {
         if is_lacking(store, frame, at) {
@@ -103,7 +106,7 @@ fn next_lacking(store: &Store, frame: &Frame, cells: &mut Vec<Address>) -> Optio
 
 /// Whether a frame lacks the value of a cell: it has a formula under the frame's replacements, and was not found.
 fn is_lacking(store: &Store, frame: &Frame, at: Address) -> bool
-    ensures { IsTrue result → IsLacking store.now.sheet frame.now.key.world frame.now.found (wanted.Cell at) }
+    ensures { result ≡ lacks_cell store.now.sheet frame.now.key.world frame.now.found at }
 {
     match content_in(store, &frame.key.world, at) {
         Seen::Nothing => false,
@@ -112,7 +115,8 @@ fn is_lacking(store: &Store, frame: &Frame, at: Address) -> bool
     }
 }
 
-/// Finds the values of cells for a frame that waits for nothing else, or gives the key of one that has to be valued first.
+/// Finds the values of cells for a frame that waits for nothing else, so that it lacks none of them, or gives the key of one
+/// that has to be valued first.
 fn settle_cells<M: Memo>(
     alloc: Global,
     store: &Store,
@@ -129,6 +133,7 @@ fn settle_cells<M: Memo>(
     ensures frame { OnOk result (IsFrame store.now.sheet (M.memory memo.old) frame.new) }
     ensures next { IfOk result (λ o. IfSome o (IsNext store.now.sheet (M.memory memo.old) frame.old.key)) }
     ensures settled { result ≡ Ok None → frame.new.waiting ≡ waiting.Nothing }
+    ensures all { result ≡ Ok None → (d : ℕ) → is_one_of others.items d ≡ true → lacks_cell store.now.sheet frame.new.key.world frame.new.found d ≡ false }
     ensures spare { OnOk result (spare store.now.sheet frame.new + 1 ≤ spare store.now.sheet frame.old) }
     ensures same { M.memory memo.new ≡ M.memory memo.old }
 {

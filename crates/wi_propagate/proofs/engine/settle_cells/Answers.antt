@@ -1,7 +1,7 @@
 use Rattle.std.proofs.Common.{refl, ◌∙◌, arith}
 use Rattle.wi_propagate.specs.Frames.{case_at}
 use Rattle.wi_propagate.specs.declared.frame.Waiting.TheVariants as states
-use Rattle.wi_propagate.proofs.Settling.{spare_waiting, spare_found, two_steps, may_read_here, next_here, cell_found_frame, awaits_next, lacks_less}
+use Rattle.wi_propagate.proofs.Settling.{spare_waiting, spare_found, two_steps, may_read_here, next_here, cell_found_frame, awaits_next, lacks_less, lacked_next}
 use Rattle.wi_propagate.proofs.Awaiting.{cell_falls}
 use Rattle.wi_propagate.proofs.engine.settle_cells.Goals as goal
 
@@ -37,6 +37,7 @@ cells-preserved g c =
       frame = cell_found_frame s (g.M.Memo.memory c.args.memo.now) c.cells.frame _ c.cells.at c.in-Known.value i.frame refl i.nothing c.in_ok-add_cell-in-Known.ensures.ok known;
       awaits = awaits_next s (case_at c.cells.frame.key) c.add_cell.new.self c.in-Some.next c.next_lacking.new.cells c.in-Some.ensures.next c.in-Some.ensures.rest;
       fewer = omega (arith, less, i.fewer);
+      lacked = lacked_next s c.cells.frame.key.world c.cells.frame.found c.add_cell.new.self c.cells.at c.in-Some.next c.in-Known.value c.args.others.items c.cells.others.items c.next_lacking.new.cells.items c.in_ok-add_cell-in-Known.ensures.ok i.lacked c.in-Some.ensures.passed;
       same = c.in_ok-value.ensures.same ∙ i.same;
     }
 

@@ -1,4 +1,6 @@
-use Rattle.std.proofs.Common.{◌≡◌, ◌≤◌}
+use Rattle.std.proofs.Common.{◌≡◌, ◌≤◌, ℕ, true, ◌⊎◌}
+use Rattle.wi_propagate.specs.Reach.{is_one_of}
+use Rattle.wi_propagate.specs.Answers.{lacks_cell}
 use Rattle.wi_propagate.specs.Frames.{Awaits, IsFrame, case_at, lacks}
 use Rattle.wi_propagate.specs.declared.frame.Waiting.TheVariants as states
 use Rattle.wi_propagate.proofs.engine.settle_cells.Given as goal
@@ -10,6 +12,7 @@ invariant-cells g l = record {
   frame : IsFrame l.store.sheet (g.M.Memo.memory l.fn.memo) l.frame;
   awaits : Awaits l.store.sheet (case_at l.frame.key) l.frame.found (states.Cells l.at l.others);
   fewer : lacks l.store.sheet l.frame.key l.frame.found ≤ lacks l.store.sheet l.fn.frame.key l.fn.frame.found;
+  lacked : (d : ℕ) → is_one_of l.fn.others.items d ≡ true → lacks_cell l.store.sheet l.frame.key.world l.frame.found d ≡ true → (is_one_of l.others.items d ≡ true) ⊎ (d ≡ l.at);
   same : g.M.Memo.memory l.memo ≡ g.M.Memo.memory l.fn.memo;
 }
 
