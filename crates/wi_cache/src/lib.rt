@@ -5,8 +5,6 @@ mod kept;
 mod key;
 pub mod laws;
 mod run_table;
-#[cfg(test)]
-mod tests;
 
 pub use kept::Kept;
 pub use key::Key;

@@ -19,7 +19,3 @@ pub use read_from::{READS, ReadFrom};
 pub use runs::{MAX_LINES, run};
 pub use write_to::WriteTo;
 
-#[cfg(test)]
-mod formula_tests;
-#[cfg(test)]
-mod tests;

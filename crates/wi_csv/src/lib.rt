@@ -10,5 +10,3 @@ pub use fault::CsvFault;
 pub use reading::records;
 pub use row::push_record;
 
-#[cfg(test)]
-mod tests;

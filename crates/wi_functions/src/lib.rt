@@ -7,10 +7,6 @@ mod evaluation;
 mod lookup;
 mod meter;
 mod operators;
-#[cfg(test)]
-mod tables;
-#[cfg(test)]
-mod tests;
 
 pub use convert::zero_for_empty;
 pub use evaluation::{Outcome, Want, evaluate};

@@ -5,8 +5,6 @@ mod cell;
 pub mod laws;
 mod lexer;
 mod scan;
-#[cfg(test)]
-mod tests;
 mod text;
 mod token;
 

@@ -21,7 +21,3 @@ mod walk;
 pub use calculator::Calculator;
 pub use plain::PlainCalculator;
 
-#[cfg(test)]
-mod answers_tests;
-#[cfg(test)]
-mod tests;

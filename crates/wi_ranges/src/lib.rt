@@ -8,7 +8,5 @@ pub mod laws;
 mod pair;
 mod pieces;
 mod readers;
-#[cfg(test)]
-mod tests;
 
 pub use index::RangeIndex;

@@ -9,7 +9,3 @@ mod workbook;
 pub use refusal::Refusal;
 pub use workbook::Workbook;
 
-#[cfg(test)]
-mod formula_tests;
-#[cfg(test)]
-mod tests;

@@ -11,5 +11,3 @@ pub use fault::StoreFault;
 pub use limits::Limits;
 pub use store::Store;
 
-#[cfg(test)]
-mod tests;

@@ -7,8 +7,6 @@ pub mod laws;
 mod name;
 mod rect;
 mod replacement;
-#[cfg(test)]
-mod tests;
 mod text;
 mod value;
 

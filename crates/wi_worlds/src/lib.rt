@@ -4,8 +4,6 @@
 mod compared;
 mod entries;
 pub mod laws;
-#[cfg(test)]
-mod tests;
 mod world;
 
 pub use world::World;

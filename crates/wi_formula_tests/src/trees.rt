@@ -1,4 +1,4 @@
-use crate::{Content, Expr, Operator, ParseFault, Reference, Sign, parse};
+use wi_parser::{Content, Expr, Operator, ParseFault, Reference, Sign, parse};
 use std::alloc::{AllocError, Global};
 use std::test::Fail;
 use wi_fraction::Fraction;

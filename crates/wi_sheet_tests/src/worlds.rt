@@ -2,7 +2,7 @@ ghost use Rattle.std.specs.Prelude.{All, IsSome, IsTrue};
 ghost use Rattle.std.specs.BTreeMap.{get};
 ghost use Rattle.std.specs.Ordering.{nat_cmp};
 
-use crate::World;
+use wi_worlds::World;
 use std::alloc::{AllocError, Global};
 use std::collections::{BTreeMap, BTreeSet, HashMap};
 use std::test::Fail;

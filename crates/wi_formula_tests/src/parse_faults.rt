@@ -1,7 +1,7 @@
 //! Formulas that are refused, with their faults worked out from the grammar apart from the parser.
 
-use crate::ParseFault;
-use crate::tests::fault;
+use wi_parser::ParseFault;
+use crate::trees::fault;
 use std::alloc::{AllocError, Global};
 use std::process::Abort;
 use std::test::Fail;

@@ -2,7 +2,7 @@ use Rattle.std.proofs.Common.{ℕ, ◌<◌, IsSome, get_or}
 use Rattle.std.specs.BTreeMap.{get}
 use Rattle.std.specs.Ordering.{nat_cmp}
 use Rattle.wi_values.specs.declared.replacement.Replacement.{Replacement}
-use Rattle.wi_worlds.proofs.tests.all_have_cones.Given as goal
+use Rattle.wi_sheet_tests.proofs.worlds.all_have_cones.Given as goal
 
 -- those so far have cones
 abbrev pub invariant-loop-replacement : goal.invariant-loop-replacement

@@ -1,6 +1,6 @@
 //! Commands on new workbooks, worked by hand.
 
-use super::{Refusal, Workbook};
+use wi_scenarios::{Refusal, Workbook};
 use std::alloc::Global;
 use std::test::Fail;
 use wi_propagate::{Calculator, PlainCalculator};

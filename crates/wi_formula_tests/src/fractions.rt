@@ -1,4 +1,4 @@
-use crate::{Fraction, FractionError, Mode, laws};
+use wi_fraction::{Fraction, FractionError, Mode, laws};
 use std::alloc::{AllocError, Global};
 use std::collections::HashSet;
 use std::test::Fail;

@@ -1,6 +1,6 @@
 //! Texts worked by hand, as RFC 4180 and the crate `csv` have them.
 
-use super::{CsvFault, push_record, records};
+use wi_csv::{CsvFault, push_record, records};
 use std::alloc::Global;
 use std::test::Fail;
 

@@ -1,4 +1,4 @@
-use crate::parse;
+use wi_parser::parse;
 use std::alloc::Global;
 use std::test::Fail;
 use wi_values::Rect;

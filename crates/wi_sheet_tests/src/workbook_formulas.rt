@@ -1,6 +1,6 @@
 //! The command `formula`, worked by hand.
 
-use super::Workbook;
+use wi_scenarios::Workbook;
 use std::alloc::Global;
 use std::test::Fail;
 use wi_propagate::PlainCalculator;

@@ -1,4 +1,4 @@
-use crate::{Limits, Store, StoreFault};
+use wi_store::{Limits, Store, StoreFault};
 use std::alloc::{AllocError, Global};
 use std::test::Fail;
 use wi_parser::Content;

@@ -1,6 +1,6 @@
 //! Small sheets, worked by hand.
 
-use super::{Calculator, PlainCalculator};
+use wi_propagate::{Calculator, PlainCalculator};
 use std::alloc::Global;
 use std::test::Fail;
 use wi_fraction::Fraction;

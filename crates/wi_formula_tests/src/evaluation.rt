@@ -1,6 +1,6 @@
 //! Formulas over one cell and one what-if.
 
-use super::{Answer, Lookup, Meter, Outcome, Want, evaluate};
+use wi_functions::{Answer, Lookup, Meter, Outcome, Want, evaluate};
 use std::alloc::Global;
 use std::test::Fail;
 use wi_fraction::Fraction;

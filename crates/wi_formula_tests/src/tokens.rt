@@ -1,4 +1,4 @@
-use crate::{BadToken, Kind, Lexer, Mark, cell_of, rectangle_of, reference_of, text_content};
+use wi_lexer::{BadToken, Kind, Lexer, Mark, cell_of, rectangle_of, reference_of, text_content};
 use std::test::Fail;
 
 // Whether the tokens of the source have these texts, and end with a bad one or not.

@@ -1,8 +1,8 @@
 //! The longest formulas of the worst shapes.
 
-use crate::table_tests::printed;
-use crate::tests::repeated;
-use crate::{MAX_FORMULA, parse};
+use crate::tree_tables::printed;
+use crate::trees::repeated;
+use wi_parser::{MAX_FORMULA, parse};
 use std::test::Fail;
 
 // Formulas as long as they may be, of a front, so many of a part, and an end: those with the most operators, marks,

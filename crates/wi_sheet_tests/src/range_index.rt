@@ -1,4 +1,4 @@
-use crate::RangeIndex;
+use wi_ranges::RangeIndex;
 use std::alloc::{AllocError, Global};
 use std::test::Fail;
 use wi_values::{Address, AddressFault, Rect};

@@ -1,6 +1,6 @@
 //! The command `formula` in a script.
 
-use crate::{ReadFrom, WriteTo, run};
+use wi_cli::{ReadFrom, WriteTo, run};
 use std::test::Fail;
 use wi_propagate::PlainCalculator;
 use wi_scenarios::Workbook;

@@ -1,6 +1,6 @@
 ghost use Rattle.std.specs.Prelude.{◌<◌};
 
-use crate::{Kept, Key, RunTable};
+use wi_cache::{Kept, Key, RunTable};
 use std::alloc::{AllocError, Global};
 use std::test::Fail;
 use wi_values::{Address, Replacement, Value};

@@ -1,5 +1,5 @@
-use crate::tests::shown;
-use crate::{Expr, Reference, ShiftFault, parse};
+use crate::trees::shown;
+use wi_parser::{Expr, Reference, ShiftFault, parse};
 use std::alloc::{AllocError, Global};
 use std::test::Fail;
 

@@ -1,6 +1,6 @@
 //! Formulas as they are printed, worked by hand.
 
-use crate::parse;
+use wi_parser::parse;
 use std::alloc::Global;
 use std::test::Fail;
 

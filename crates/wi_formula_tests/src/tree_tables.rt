@@ -1,7 +1,7 @@
 //! Formulas with their trees, worked out from the grammar apart from the parser.
 
-use crate::tests::shown;
-use crate::{Formula, parse};
+use crate::trees::shown;
+use wi_parser::{Formula, parse};
 use std::alloc::Global;
 use std::process::Abort;
 use std::test::Fail;

@@ -1,6 +1,6 @@
 //! The std devices that serve as a source and a sink.
 
-use crate::{READS, ReadFrom, RunFault, Sink, Source, WriteTo, run};
+use wi_cli::{READS, ReadFrom, RunFault, Sink, Source, WriteTo, run};
 use std::alloc::Global;
 use std::io;
 use std::io::{Read, Write};

@@ -1,7 +1,7 @@
 //! Tables of numbers at the limits and beyond them.
 
-use crate::FractionError::{Overflow, ZeroDenominator};
-use crate::{Fraction, FractionError, Mode};
+use wi_fraction::FractionError::{Overflow, ZeroDenominator};
+use wi_fraction::{Fraction, FractionError, Mode};
 use std::alloc::{AllocError, Global};
 use std::test::Fail;
 

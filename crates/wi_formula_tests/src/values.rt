@@ -1,7 +1,7 @@
 ghost use Rattle.std.specs.Prelude.{◌<◌};
 ghost use Rattle.wi_values.specs.Address.{rows};
 
-use crate::{
+use wi_values::{
     Address, AddressFault, ErrorKind, FieldFault, Name, Rect, Replacement, Text, Value,
     field_value, imported_value,
 };

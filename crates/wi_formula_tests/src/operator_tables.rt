@@ -1,11 +1,34 @@
 //! Operators on operands of each kind.
 
-use crate::operators::{hundredth, operate, with_sign};
 use std::alloc::Global;
 use std::process::Abort;
 use std::test::Fail;
-use wi_parser::{Operator, Sign};
-use wi_values::{ErrorKind, Text, Value, field_value};
+use wi_functions::{Answer, Lookup, Meter, Outcome, evaluate};
+use wi_parser::{Pair, parse};
+use wi_values::{Address, ErrorKind, Text, Value, field_value};
+
+/// Knows two values, in A1 and in each other cell.
+#[derive(Drop)]
+struct Operands {
+    left: Value,
+    right: Value,
+}
+
+impl Lookup for Operands {
+    ghost use Rattle.std.specs.Prelude.{◌==◌, if◌then◌else◌, Some, None};
+
+    ghost known_cell = { λ k a. if a == 0 then Some k.left else Some k.right };
+
+    ghost known_what_if = { λ _ _ _. None };
+
+    fn cell(&self, at: Address) -> Answer<'_> {
+        Answer::Known(if at == Address::at(0, 0) { &self.left } else { &self.right })
+    }
+
+    fn what_if(&self, _formula_cell: Address, _pairs: &[Pair]) -> Answer<'_> {
+        Answer::Missing
+    }
+}
 
 fn fault_named(name: &str) -> Option<ErrorKind> {
     match name {
@@ -30,22 +53,27 @@ fn value(alloc: Global, text: &str) -> Result<Value, Fail> {
     Ok(field_value(alloc, text)?)
 }
 
-/// What an operator gives for two values.
-fn applied(alloc: Global, operator: Operator, left: &str, right: &str) -> Result<Value, Fail> {
-    let x = value(alloc, left)?;
-    let y = value(alloc, right)?;
-    Ok(operate(alloc, operator, &x, &y)?)
+/// What a formula gives for two values, in A1 and B1.
+fn applied(alloc: Global, formula: &str, left: &str, right: &str) -> Result<Value, Fail> {
+    let known = Operands {
+        left: value(alloc, left)?,
+        right: value(alloc, right)?,
+    };
+    match evaluate(alloc, &parse(alloc, formula)?, &known, &mut Meter::new())? {
+        Outcome::Done(value) => Ok(value),
+        Outcome::Needs(_) => Err(Fail::new("not done")),
+    }
 }
 
-/// Two operands with what an operator gives, in kind and content.
+/// Two operands with what a formula gives, in kind and content.
 fn expect(
     rt: &impl Abort,
     alloc: Global,
-    operator: Operator,
+    formula: &str,
     rows: &[(&str, &str, &str)],
 ) -> Result<(), Fail> {
     for (left, right, expected) in rows {
-        let given = applied(alloc, operator, left, right)?;
+        let given = applied(alloc, formula, left, right)?;
         assert_eq!(rt; given, value(alloc, expected)?, "{left} and {right}");
     }
     Ok(())
@@ -56,15 +84,15 @@ fn expect_order(rt: &impl Abort, alloc: Global, rows: &[(&str, &str, &str)]) -> 
     for (left, right, order) in rows {
         let less = *order == "<";
         let equal = *order == "=";
-        for (operator, holds) in [
-            (Operator::Equal, equal),
-            (Operator::NotEqual, !equal),
-            (Operator::Less, less),
-            (Operator::LessOrEqual, less || equal),
-            (Operator::Greater, !less && !equal),
-            (Operator::GreaterOrEqual, !less),
+        for (formula, holds) in [
+            ("=[.A1]=[.B1]", equal),
+            ("=[.A1]<>[.B1]", !equal),
+            ("=[.A1]<[.B1]", less),
+            ("=[.A1]<=[.B1]", less || equal),
+            ("=[.A1]>[.B1]", !less && !equal),
+            ("=[.A1]>=[.B1]", !less),
         ] {
-            let given = applied(alloc, operator, left, right)?;
+            let given = applied(alloc, formula, left, right)?;
             assert_eq!(rt; given, Value::Logical(holds), "{left} and {right}");
         }
     }
@@ -83,19 +111,19 @@ fn arithmetic(rt: HostRuntime) -> Result<(), Fail> {
         ("1", "'5", "#VALUE!"),
         ("'TRUE", "1", "#VALUE!"),
     ];
-    expect(&rt, rt.alloc(), Operator::Add, &add)?;
+    expect(&rt, rt.alloc(), "=[.A1]+[.B1]", &add)?;
     let subtract = [
         ("1/3", "1", "-2/3"),
         ("", "TRUE", "-1"),
         ("#REF!", "#N/A", "#REF!"),
     ];
-    expect(&rt, rt.alloc(), Operator::Subtract, &subtract)?;
+    expect(&rt, rt.alloc(), "=[.A1]-[.B1]", &subtract)?;
     let multiply = [
         ("2/3", "0.75", "0.5"),
         ("7", "FALSE", "0"),
         ("7", "x", "#VALUE!"),
     ];
-    expect(&rt, rt.alloc(), Operator::Multiply, &multiply)?;
+    expect(&rt, rt.alloc(), "=[.A1]*[.B1]", &multiply)?;
     let divide = [
         ("10", "4", "2.5"),
         ("1", "", "#DIV/0!"),
@@ -103,7 +131,7 @@ fn arithmetic(rt: HostRuntime) -> Result<(), Fail> {
         ("0", "x", "#VALUE!"),
         ("0", "#REF!", "#REF!"),
     ];
-    expect(&rt, rt.alloc(), Operator::Divide, &divide)
+    expect(&rt, rt.alloc(), "=[.A1]/[.B1]", &divide)
 }
 
 #[test]
@@ -122,7 +150,7 @@ fn powers(rt: HostRuntime) -> Result<(), Fail> {
         ("0.5", "x", "#VALUE!"),
         ("#REF!", "0.5", "#REF!"),
     ];
-    expect(&rt, rt.alloc(), Operator::Power, &rows)
+    expect(&rt, rt.alloc(), "=[.A1]^[.B1]", &rows)
 }
 
 #[test]
@@ -140,7 +168,7 @@ fn joins(rt: HostRuntime) -> Result<(), Fail> {
         ("#N/A", "#REF!", "#N/A"),
         ("x", "#REF!", "#REF!"),
     ];
-    expect(&rt, rt.alloc(), Operator::Join, &rows)
+    expect(&rt, rt.alloc(), "=[.A1]&[.B1]", &rows)
 }
 
 #[test]
@@ -149,9 +177,9 @@ fn the_longest_join(rt: HostRuntime) -> Result<(), Fail> {
     for _ in 0..32_766u32 {
         text.push('x')?;
     }
-    let long = applied(rt.alloc(), Operator::Join, text.as_str(), "77")?;
+    let long = applied(rt.alloc(), "=[.A1]&[.B1]", text.as_str(), "77")?;
     assert_eq!(rt; long, Value::Fault(ErrorKind::BadValue));
-    let fits = applied(rt.alloc(), Operator::Join, text.as_str(), "7")?;
+    let fits = applied(rt.alloc(), "=[.A1]&[.B1]", text.as_str(), "7")?;
     text.push('7')?;
     assert_eq!(rt; text.len(), 32_767);
     assert_eq!(rt; fits, Value::Text(Text::new(text)));
@@ -203,27 +231,27 @@ fn comparisons_of_errors(rt: HostRuntime) -> Result<(), Fail> {
         ("", "#REF!", "#REF!"),
         ("#REF!", "x", "#REF!"),
     ];
-    expect(&rt, rt.alloc(), Operator::Equal, &rows)?;
-    expect(&rt, rt.alloc(), Operator::Greater, &rows)
+    expect(&rt, rt.alloc(), "=[.A1]=[.B1]", &rows)?;
+    expect(&rt, rt.alloc(), "=[.A1]>[.B1]", &rows)
 }
 
 #[test]
 fn signs(rt: HostRuntime) -> Result<(), Fail> {
-    for (sign, operand, expected) in [
-        (Sign::Plus, "x", "x"),
-        (Sign::Plus, "5", "5"),
-        (Sign::Plus, "'5", "'5"),
-        (Sign::Plus, "", ""),
-        (Sign::Plus, "'", "'"),
-        (Sign::Plus, "TRUE", "TRUE"),
-        (Sign::Minus, "0.5", "-0.5"),
-        (Sign::Minus, "", "0"),
-        (Sign::Minus, "TRUE", "-1"),
-        (Sign::Minus, "x", "#VALUE!"),
-        (Sign::Minus, "'5", "#VALUE!"),
-        (Sign::Minus, "#REF!", "#REF!"),
+    for (formula, operand, expected) in [
+        ("=+[.A1]", "x", "x"),
+        ("=+[.A1]", "5", "5"),
+        ("=+[.A1]", "'5", "'5"),
+        ("=+[.A1]", "", "0"),
+        ("=+[.A1]", "'", "'"),
+        ("=+[.A1]", "TRUE", "TRUE"),
+        ("=-[.A1]", "0.5", "-0.5"),
+        ("=-[.A1]", "", "0"),
+        ("=-[.A1]", "TRUE", "-1"),
+        ("=-[.A1]", "x", "#VALUE!"),
+        ("=-[.A1]", "'5", "#VALUE!"),
+        ("=-[.A1]", "#REF!", "#REF!"),
     ] {
-        let given = with_sign(sign, value(rt.alloc(), operand)?);
+        let given = applied(rt.alloc(), formula, operand, "")?;
         assert_eq!(rt; given, value(rt.alloc(), expected)?, "{operand}");
     }
     Ok(())
@@ -240,7 +268,7 @@ fn percents(rt: HostRuntime) -> Result<(), Fail> {
         ("#N/A", "#N/A"),
         ("1/170141183460469231731687303715884105727", "#NUM!"),
     ] {
-        let given = hundredth(&value(rt.alloc(), operand)?);
+        let given = applied(rt.alloc(), "=[.A1]%", operand, "")?;
         assert_eq!(rt; given, value(rt.alloc(), expected)?, "{operand}");
     }
     Ok(())

@@ -1,9 +1,0 @@
-use Rattle.wi_parser.specs.Sheet.{put_all}
-use Rattle.wi_propagate.specs.CellValue.{cell_value, what_if_value}
-use Rattle.wi_propagate.proofs.Rightness.{right_none}
-use Rattle.wi_propagate.proofs.answers_tests.first.Goals as goal
-
-pub evaluated-requires : goal.evaluated-requires
-evaluated-requires c =
-    let s = put_all c.args.store.now.sheet c.args.world.now in
-    right_none (cell_value s) (what_if_value s) c.new-found.result c.new-found.ensures.cells c.new-found.ensures.what_ifs
