@@ -4,7 +4,7 @@ use Rattle.std.specs.BTreeSet.{BTreeSet}
 use Rattle.std.specs.BTreeMap.{BTreeMap, get}
 use Rattle.std.proofs.lemmas.Bool.{cases_eq}
 use Rattle.wi_values.specs.declared.replacement.Replacement.{Replacement}
-use Rattle.wi_worlds.proofs.tests.all_have_cones.Goals as goal
+use Rattle.wi_sheet_tests.proofs.worlds.all_have_cones.Goals as goal
 
 same_element : (rs : List Replacement) (i : ℕ) (d e : Replacement) → i < length rs → get_or rs i d ≡ get_or rs i e
 same_element [] i d e l = absurd (omega arith)
