@@ -1,9 +1,9 @@
 //! Formulas over one cell and one what-if.
 
-use wi_functions::{Answer, Lookup, Meter, Outcome, Want, evaluate};
 use std::alloc::Global;
 use std::test::Fail;
 use wi_fraction::Fraction;
+use wi_functions::{Answer, Lookup, Meter, Outcome, Want, evaluate};
 use wi_parser::{Pair, parse};
 use wi_values::{Address, ErrorKind, Value};
 

@@ -2,8 +2,8 @@
 
 use crate::tree_tables::printed;
 use crate::trees::repeated;
-use wi_parser::{MAX_FORMULA, parse};
 use std::test::Fail;
+use wi_parser::{MAX_FORMULA, parse};
 
 // Formulas as long as they may be, of a front, so many of a part, and an end: those with the most operators, marks,
 // parentheses, signs, parameters, what-ifs and bytes in a text.

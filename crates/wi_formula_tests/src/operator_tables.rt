@@ -22,7 +22,11 @@ impl Lookup for Operands {
     ghost known_what_if = { λ _ _ _. None };
 
     fn cell(&self, at: Address) -> Answer<'_> {
-        Answer::Known(if at == Address::at(0, 0) { &self.left } else { &self.right })
+        Answer::Known(if at == Address::at(0, 0) {
+            &self.left
+        } else {
+            &self.right
+        })
     }
 
     fn what_if(&self, _formula_cell: Address, _pairs: &[Pair]) -> Answer<'_> {

@@ -1,10 +1,13 @@
 //! Formulas that are refused, with their faults worked out from the grammar apart from the parser.
 
-use wi_parser::ParseFault;
-use crate::trees::fault;
+use crate::trees::{fault, repeated};
 use std::alloc::{AllocError, Global};
 use std::process::Abort;
 use std::test::Fail;
+use wi_parser::ParseFault;
+
+// A number one more than the greatest.
+const TOO_LARGE: &str = "=170141183460469231731687303715884105728";
 
 // Texts that are refused for this fault.
 fn expect_faults(rt: &impl Abort, alloc: Global, wanted: ParseFault, texts: &[&str]) {
@@ -413,4 +416,171 @@ fn length_comes_before_other_faults(rt: HostRuntime) -> Result<(), Fail> {
         );
     }
     Ok(())
+}
+
+#[test]
+fn texts_that_are_no_formulas(rt: HostRuntime) {
+    expect_faults(
+        &rt,
+        rt.alloc(),
+        ParseFault::Syntax,
+        &[
+            "",
+            "=",
+            "1",
+            "of:",
+            "of:1",
+            " =1",
+            "OF:=1",
+            "==1",
+            "=1+",
+            "=-",
+            "=-%",
+            "=%1",
+            "=1%2",
+            "=(-)1",
+            "=1-*2",
+            "=1**2",
+            "=1^",
+            "=&1",
+            "=1=<2",
+            "=1< =2",
+            "=()",
+            "=(1",
+            "=1)",
+            "=1 2",
+            "=(1)2",
+            "=2(3)",
+            "=[.A0]",
+            "=[.A1",
+            "=[A1]",
+            "=[. A1]",
+            "=[.A1][.A2]",
+            "=1.",
+            "=.5.5",
+            "=1e",
+            "=\"",
+            "=\"a",
+            "=\"a\"\"",
+            "=\"a\"b",
+            "=\"a\" \"b\"",
+            "=1?",
+            "=\u{a0}1",
+            "=[.A1];[.A2]",
+            "=[.A1:B2]",
+            "=[.A1:.B0]",
+            "=[.A1:.B2:.C3]",
+            "=MULTIPLE.OPERATIONS",
+            "=MULTIPLE.OPERATIONS()",
+            "=MULTIPLE.OPERATIONS([.A1])",
+            "=MULTIPLE.OPERATIONS([.A1];[.A2])",
+            "=MULTIPLE.OPERATIONS([.A1];[.A2];)",
+            "=MULTIPLE.OPERATIONS([.A1];[.A2];[.A3]",
+            "=MULTIPLE.OPERATIONS([.A1];[.A2];[.A3];[.A4])",
+            "=MULTIPLE.OPERATIONS([.A1];[.A2];[.A3];[.A4];[.A5];[.A6])",
+            "=MULTIPLE.OPERATIONS([.A1];[.A2];[.A3];[.A4];[.A5];[.A6];[.A7])",
+            "=MULTIPLE.OPERATIONS(1;[.A2];[.A3])",
+            "=MULTIPLE.OPERATIONS([.A1];([.A2]);[.A3])",
+            "=MULTIPLE.OPERATIONS([.A1];[.A2];([.A3]))",
+            "=MULTIPLE.OPERATIONS(([.A1]);[.A2];[.A3])",
+            "=MULTIPLE.OPERATIONS([.A1:.A1];[.A2];[.A3])",
+            "=MULTIPLE.OPERATIONS([.A1];[.A2:.A2];[.A3])",
+            "=MULTIPLE.OPERATIONS([.A1];[.A2];[.A3:.A3])",
+            "=MULTIPLE.OPERATIONS([.A1];[.A2];[.A3]+1)",
+            "=MULTIPLE.OPERATIONS([.A1],[.A2],[.A3])",
+            "=A1",
+            "=A1(",
+            "=SUM",
+            "=SUM(",
+            "=SUM 1",
+            "=SUM(1",
+            "=SUM(1;",
+            "=SUM(1;)",
+            "=SUM(;1)",
+            "=SUM(;)",
+            "=SUM(1;;2)",
+            "=SUM(1 2)",
+            "=SUM(1,2)",
+            "=SUM(1)2",
+            "=SUM(1))",
+            "=SUM()()",
+            "=SUM([.A1];1+)",
+            "=1(2)",
+            "=MULTIPLE.OPERATIONS(SUM([.A1]);[.A2];[.A3])",
+        ],
+    );
+}
+
+#[test]
+fn cells_outside_before_other_faults(rt: HostRuntime) {
+    expect_faults(
+        &rt,
+        rt.alloc(),
+        ParseFault::OutOfSheet,
+        &[
+            "=[.XFE1]",
+            "=[.A1048577]",
+            "=1+[.AAAA1]+",
+            "=)[.XFE1]?",
+            "=MULTIPLE.OPERATIONS(1;[.XFE1])",
+            "=1=[.XFE1]",
+            "=%[.XFE1]",
+            "=[.A1:.XFE1]",
+            "=[.A1048577:.A1]",
+            "=[.XFE1:.AAAA1]+",
+            "[.XFE1]",
+        ],
+    );
+}
+
+// Texts that end with so many copies of a part, and their faults.
+fn expect_repeated(
+    rt: &impl Abort,
+    alloc: Global,
+    rows: &[(&str, &str, u32, Option<ParseFault>)],
+) -> Result<(), Fail> {
+    for row in rows {
+        let &(front, part, count, want) = row;
+        let text = repeated(alloc, front, part, count)?;
+        assert_eq!(rt; fault(alloc, text.as_str()), want, "{front}");
+    }
+    Ok(())
+}
+
+#[test]
+fn formulas_have_limits(rt: HostRuntime) -> Result<(), Fail> {
+    expect_repeated(
+        &rt,
+        rt.alloc(),
+        &[
+            ("=", "(", 65, Some(ParseFault::TooDeep)),
+            ("=?", "(", 65, Some(ParseFault::Syntax)),
+            ("=))", "(", 64, Some(ParseFault::Syntax)),
+            ("=))", "(", 65, Some(ParseFault::TooDeep)),
+            ("=1", "- +", 32, Some(ParseFault::Syntax)),
+            ("=1-", "- +", 32, Some(ParseFault::TooDeep)),
+            ("=1", " ", 4_095, Some(ParseFault::TooLong)),
+            ("of:=1", " ", 4_092, Some(ParseFault::TooLong)),
+            ("=[.XFE1]", " ", 4_092, Some(ParseFault::TooLong)),
+            ("=1", " ", 4_094, None),
+            ("of:=1", " ", 4_091, None),
+            ("=1", "+1-2", 500, None),
+            ("=1", "+(1)", 1_000, None),
+        ],
+    )
+}
+
+#[test]
+fn numbers_too_large(rt: HostRuntime) -> Result<(), Fail> {
+    expect_repeated(
+        &rt,
+        rt.alloc(),
+        &[
+            (TOO_LARGE, "", 0, Some(ParseFault::NumberRange)),
+            (TOO_LARGE, "+[.XFE1]", 1, Some(ParseFault::OutOfSheet)),
+            (TOO_LARGE, "?[.XFE1]", 1, Some(ParseFault::NumberRange)),
+            (TOO_LARGE, "(", 65, Some(ParseFault::NumberRange)),
+            ("=1?[.XFE1]", "", 0, Some(ParseFault::Syntax)),
+        ],
+    )
 }

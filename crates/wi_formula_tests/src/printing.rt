@@ -1,8 +1,8 @@
 //! Formulas as they are printed, worked by hand.
 
-use wi_parser::parse;
 use std::alloc::Global;
 use std::test::Fail;
+use wi_parser::parse;
 
 // What is printed of the formula with this text.
 fn printed(alloc: Global, text: &str) -> Result<String, Fail> {

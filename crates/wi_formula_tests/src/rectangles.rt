@@ -1,6 +1,6 @@
-use wi_parser::parse;
 use std::alloc::Global;
 use std::test::Fail;
+use wi_parser::parse;
 use wi_values::Rect;
 
 // Whether a formula and its copy tell these rectangles.

@@ -1,7 +1,7 @@
 use crate::trees::shown;
-use wi_parser::{Expr, Reference, ShiftFault, parse};
 use std::alloc::{AllocError, Global};
 use std::test::Fail;
+use wi_parser::{Expr, Reference, ShiftFault, parse};
 
 // Appends a tree's references from the left.
 fn push_references(tree: &Expr, all: &mut Vec<Reference>) -> Result<(), AllocError> {

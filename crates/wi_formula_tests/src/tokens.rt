@@ -1,5 +1,5 @@
-use wi_lexer::{BadToken, Kind, Lexer, Mark, cell_of, rectangle_of, reference_of, text_content};
 use std::test::Fail;
+use wi_lexer::{BadToken, Kind, Lexer, Mark, cell_of, rectangle_of, reference_of, text_content};
 
 // Whether the tokens of the source have these texts, and end with a bad one or not.
 fn is_read_as(source: &str, texts: &[&str], is_bad: bool) -> bool {

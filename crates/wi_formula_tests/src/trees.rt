@@ -1,11 +1,9 @@
-use wi_parser::{Content, Expr, Operator, ParseFault, Reference, Sign, parse};
 use std::alloc::{AllocError, Global};
+use std::process::Abort;
 use std::test::Fail;
 use wi_fraction::Fraction;
+use wi_parser::{Content, Expr, Operator, ParseFault, Reference, Sign, parse};
 use wi_values::{Address, Text, Value};
-
-// A number one more than the greatest.
-const TOO_LARGE: &str = "=170141183460469231731687303715884105728";
 
 fn mark_of(op: Operator) -> &'static str {
     match op {
@@ -145,110 +143,6 @@ fn nested(alloc: Global, open: &str, count: u32) -> Result<String, AllocError> {
 }
 
 #[test]
-fn trees_by_precedence(rt: HostRuntime) -> Result<(), Fail> {
-    for (text, tree) in [
-        ("=7", "7"),
-        ("=1+2*3", "{1+{2*3}}"),
-        ("=1*2+3", "{{1*2}+3}"),
-        ("=1-2-3", "{{1-2}-3}"),
-        ("=1-2+3", "{{1-2}+3}"),
-        ("=8/4*2/5", "{{{8/4}*2}/5}"),
-        ("=1+2*3-4/5", "{{1+{2*3}}-{4/5}}"),
-        ("=(1+2)*3", "{[{1+2}]*3}"),
-        ("=((1))", "[[1]]"),
-        ("=1-(2-3)", "{1-[{2-3}]}"),
-        ("of:=1+2", "{1+2}"),
-        ("= 1 +\t2\r\n", "{1+2}"),
-        ("=007.50*.5", "{7.5*0.5}"),
-        ("=[.a1] * 2+[.$B$12]", "{{A1*2}+$B12$}"),
-        ("=[.XFD1048576]", "XFD1048576"),
-        ("=[.A1:.B$2]", "A1:B2$"),
-        ("=[.$b2:.$A$1]", "$B2:$A1$"),
-        ("=[.XFD1048576:.A1]", "XFD1048576:A1"),
-        ("=([.C3:.C3])*2", "{[C3:C3]*2}"),
-        ("=MULTIPLE.OPERATIONS([.B2];[.B1];[.A4])", "B2 B1=A4"),
-        (
-            "=2*multiple.Operations ( [.B2] ;[.$B$1];[.A4];[.C1] ;[.A5] )+1",
-            "{{2*B2 $B1$=A4 C1=A5}+1}",
-        ),
-        ("=(MULTIPLE.OPERATIONS([.A1];[.A1];[.A1]))", "[A1 A1=A1]"),
-        ("=\"a;(\"\"b)\"&\"\" ", "{'a;(\"b)'&''}"),
-        ("=f(\"x\";(\"é\"))", "F<'x'><['é']>"),
-        ("=TRUE()", "TRUE"),
-        ("=sUm ( [.a1] )", "SUM<A1>"),
-        ("=_f.2(1+2*3;(4))", "_F.2<{1+{2*3}}><[4]>"),
-        ("=2*If(A1();b(C());3)-1", "{{2*IF<A1><B<C>><3>}-1}"),
-        (
-            "=MULTIPLE.OPERATION([.A1];[.A2];[.A3])",
-            "MULTIPLE.OPERATION<A1><A2><A3>",
-        ),
-        (
-            "=MULTIPLE_OPERATIONS(MULTIPLE.OPERATIONS([.A1];[.A2];[.A3]))",
-            "MULTIPLE_OPERATIONS<A1 A2=A3>",
-        ),
-        (
-            "=170141183460469231731687303715884105727",
-            "170141183460469231731687303715884105727",
-        ),
-    ] {
-        let formula = parse(rt.alloc(), text)?;
-        assert_eq!(rt; shown(rt.alloc(), formula.tree())?.as_str(), tree, "{text}");
-        let again = formula.copy(rt.alloc())?;
-        assert_eq!(rt; shown(rt.alloc(), again.tree())?.as_str(), tree, "{text}");
-    }
-    Ok(())
-}
-
-#[test]
-fn trees_of_signs_and_percents(rt: HostRuntime) -> Result<(), Fail> {
-    for (text, tree) in [
-        ("=-1", "{-1}"),
-        ("=-+ -1", "{-{+{-1}}}"),
-        ("=1--1", "{1-{-1}}"),
-        ("=1%", "{1%}"),
-        ("=50%%", "{{50%}%}"),
-        ("=-50%", "{{-50}%}"),
-        ("=-2^2", "{{-2}^2}"),
-        ("=2^-1", "{2^{-1}}"),
-        ("=2%^3%", "{{2%}^{3%}}"),
-        ("=-2*-3", "{{-2}*{-3}}"),
-        ("=-[.A1]%+1", "{{{-A1}%}+1}"),
-        ("=-(1+2)%", "{{-[{1+2}]}%}"),
-        (
-            "=+MULTIPLE.OPERATIONS([.B2];[.B1];[.A4])%",
-            "{{+B2 B1=A4}%}",
-        ),
-    ] {
-        let formula = parse(rt.alloc(), text)?.copy(rt.alloc())?;
-        assert_eq!(rt; shown(rt.alloc(), formula.tree())?.as_str(), tree, "{text}");
-    }
-    Ok(())
-}
-
-#[test]
-fn trees_of_every_operator(rt: HostRuntime) -> Result<(), Fail> {
-    for (text, tree) in [
-        ("=2^3^2", "{{2^3}^2}"),
-        ("=2*3^4", "{2*{3^4}}"),
-        ("=2^3/4", "{{2^3}/4}"),
-        ("=1&2+3", "{1&{2+3}}"),
-        ("=1-2&3", "{{1-2}&3}"),
-        ("=1&2&3", "{{1&2}&3}"),
-        ("=1=2&3", "{1={2&3}}"),
-        ("=1&2<>3", "{{1&2}<>3}"),
-        ("=1<2<=3", "{{1<2}<=3}"),
-        ("=1>2>=3=4<>5", "{{{{1>2}>=3}=4}<>5}"),
-        ("=1<-2%^3*4+5&6", "{1<{{{{{{-2}%}^3}*4}+5}&6}}"),
-        ("=6&5+4*3^2%=1", "{{6&{5+{4*{3^{2%}}}}}=1}"),
-        ("=1=(2=3)", "{1=[{2=3}]}"),
-    ] {
-        let formula = parse(rt.alloc(), text)?.copy(rt.alloc())?;
-        assert_eq!(rt; shown(rt.alloc(), formula.tree())?.as_str(), tree, "{text}");
-    }
-    Ok(())
-}
-
-#[test]
 fn references_keep_what_is_absolute(rt: HostRuntime) -> Result<(), Fail> {
     for (text, column, row) in [
         ("=[.C5]", false, false),
@@ -286,158 +180,6 @@ fn rectangles_span_their_corners(rt: HostRuntime) -> Result<(), Fail> {
         let area = corners.area();
         assert_eq!(rt; area.first(), Address::at(first.0, first.1), "{text}");
         assert_eq!(rt; area.last(), Address::at(last.0, last.1), "{text}");
-    }
-    Ok(())
-}
-
-#[test]
-fn texts_that_are_no_formulas(rt: HostRuntime) {
-    for text in [
-        "",
-        "=",
-        "1",
-        "of:",
-        "of:1",
-        " =1",
-        "OF:=1",
-        "==1",
-        "=1+",
-        "=-",
-        "=-%",
-        "=%1",
-        "=1%2",
-        "=(-)1",
-        "=1-*2",
-        "=1**2",
-        "=1^",
-        "=&1",
-        "=1=<2",
-        "=1< =2",
-        "=()",
-        "=(1",
-        "=1)",
-        "=1 2",
-        "=(1)2",
-        "=2(3)",
-        "=[.A0]",
-        "=[.A1",
-        "=[A1]",
-        "=[. A1]",
-        "=[.A1][.A2]",
-        "=1.",
-        "=.5.5",
-        "=1e",
-        "=\"",
-        "=\"a",
-        "=\"a\"\"",
-        "=\"a\"b",
-        "=\"a\" \"b\"",
-        "=1?",
-        "=\u{a0}1",
-        "=[.A1];[.A2]",
-        "=[.A1:B2]",
-        "=[.A1:.B0]",
-        "=[.A1:.B2:.C3]",
-        "=MULTIPLE.OPERATIONS",
-        "=MULTIPLE.OPERATIONS()",
-        "=MULTIPLE.OPERATIONS([.A1])",
-        "=MULTIPLE.OPERATIONS([.A1];[.A2])",
-        "=MULTIPLE.OPERATIONS([.A1];[.A2];)",
-        "=MULTIPLE.OPERATIONS([.A1];[.A2];[.A3]",
-        "=MULTIPLE.OPERATIONS([.A1];[.A2];[.A3];[.A4])",
-        "=MULTIPLE.OPERATIONS([.A1];[.A2];[.A3];[.A4];[.A5];[.A6])",
-        "=MULTIPLE.OPERATIONS([.A1];[.A2];[.A3];[.A4];[.A5];[.A6];[.A7])",
-        "=MULTIPLE.OPERATIONS(1;[.A2];[.A3])",
-        "=MULTIPLE.OPERATIONS([.A1];([.A2]);[.A3])",
-        "=MULTIPLE.OPERATIONS([.A1];[.A2];([.A3]))",
-        "=MULTIPLE.OPERATIONS(([.A1]);[.A2];[.A3])",
-        "=MULTIPLE.OPERATIONS([.A1:.A1];[.A2];[.A3])",
-        "=MULTIPLE.OPERATIONS([.A1];[.A2:.A2];[.A3])",
-        "=MULTIPLE.OPERATIONS([.A1];[.A2];[.A3:.A3])",
-        "=MULTIPLE.OPERATIONS([.A1];[.A2];[.A3]+1)",
-        "=MULTIPLE.OPERATIONS([.A1],[.A2],[.A3])",
-        "=A1",
-        "=A1(",
-        "=SUM",
-        "=SUM(",
-        "=SUM 1",
-        "=SUM(1",
-        "=SUM(1;",
-        "=SUM(1;)",
-        "=SUM(;1)",
-        "=SUM(;)",
-        "=SUM(1;;2)",
-        "=SUM(1 2)",
-        "=SUM(1,2)",
-        "=SUM(1)2",
-        "=SUM(1))",
-        "=SUM()()",
-        "=SUM([.A1];1+)",
-        "=1(2)",
-        "=MULTIPLE.OPERATIONS(SUM([.A1]);[.A2];[.A3])",
-    ] {
-        assert_eq!(rt; fault(rt.alloc(), text), Some(ParseFault::Syntax), "{text}");
-    }
-}
-
-#[test]
-fn cells_outside_and_numbers_too_large(rt: HostRuntime) -> Result<(), Fail> {
-    for text in [
-        "=[.XFE1]",
-        "=[.A1048577]",
-        "=1+[.AAAA1]+",
-        "=)[.XFE1]?",
-        "=MULTIPLE.OPERATIONS(1;[.XFE1])",
-        "=1=[.XFE1]",
-        "=%[.XFE1]",
-        "=[.A1:.XFE1]",
-        "=[.A1048577:.A1]",
-        "=[.XFE1:.AAAA1]+",
-        "[.XFE1]",
-    ] {
-        assert_eq!(rt;
-            fault(rt.alloc(), text),
-            Some(ParseFault::OutOfSheet),
-            "{text}"
-        );
-    }
-    for (part, count, want) in [
-        ("", 0, ParseFault::NumberRange),
-        ("+[.XFE1]", 1, ParseFault::OutOfSheet),
-        ("?[.XFE1]", 1, ParseFault::NumberRange),
-        ("(", 65, ParseFault::NumberRange),
-    ] {
-        let text = repeated(rt.alloc(), TOO_LARGE, part, count)?;
-        assert_eq!(rt; fault(rt.alloc(), text.as_str()), Some(want), "{text}");
-    }
-    assert_eq!(rt; fault(rt.alloc(), "=1?[.XFE1]"), Some(ParseFault::Syntax));
-    Ok(())
-}
-
-#[test]
-fn formulas_have_limits(rt: HostRuntime) -> Result<(), Fail> {
-    for (front, part, count, want) in [
-        ("=", "(", 65, ParseFault::TooDeep),
-        ("=?", "(", 65, ParseFault::Syntax),
-        ("=))", "(", 64, ParseFault::Syntax),
-        ("=))", "(", 65, ParseFault::TooDeep),
-        ("=1", "- +", 32, ParseFault::Syntax),
-        ("=1-", "- +", 32, ParseFault::TooDeep),
-        ("=1", " ", 4_095, ParseFault::TooLong),
-        ("of:=1", " ", 4_092, ParseFault::TooLong),
-        ("=[.XFE1]", " ", 4_092, ParseFault::TooLong),
-    ] {
-        let text = repeated(rt.alloc(), front, part, count)?;
-        assert_eq!(rt; fault(rt.alloc(), text.as_str()), Some(want));
-    }
-    for (front, part, count) in [
-        ("=1", " ", 4_094),
-        ("of:=1", " ", 4_091),
-        ("=1", "+1-2", 500),
-        ("=1", "+(1)", 1_000),
-    ] {
-        let text = repeated(rt.alloc(), front, part, count)?;
-        assert_eq!(rt; fault(rt.alloc(), text.as_str()), None);
     }
     Ok(())
 }
@@ -508,34 +250,6 @@ fn contents_that_are_formulas(rt: HostRuntime) -> Result<(), Fail> {
 }
 
 #[test]
-fn contents_that_are_constants(rt: HostRuntime) -> Result<(), Fail> {
-    for (text, word) in [
-        ("'", ""),
-        ("'5", "5"),
-        ("'=1", "=1"),
-        ("abc", "abc"),
-        ("of:1", "of:1"),
-        (" =1", " =1"),
-    ] {
-        let Content::Constant(value) = Content::read(rt.alloc(), text)? else {
-            assert!(rt; false, "{text}");
-            return Ok(());
-        };
-        assert_eq!(rt;
-            value,
-            Value::Text(Text::from_str(rt.alloc(), word)?),
-            "{text}"
-        );
-    }
-    let Content::Constant(number) = Content::read(rt.alloc(), "-2.50")?.copy(rt.alloc())? else {
-        assert!(rt; false);
-        return Ok(());
-    };
-    assert_eq!(rt; number, Value::Number(Fraction::new(-5, 2)?));
-    Ok(())
-}
-
-#[test]
 fn contents_have_a_greatest_length(rt: HostRuntime) -> Result<(), Fail> {
     for (front, count, want) in [
         ("'", 32_767, None),
@@ -559,5 +273,45 @@ fn formulas_tell_their_inputs(rt: HostRuntime) -> Result<(), Fail> {
     let inputs = [Address::at(0, 2), Address::at(0, 1), Address::at(0, 2)];
     assert_eq!(rt; formula.inputs(), inputs.as_slice());
     assert_eq!(rt; again.inputs(), inputs.as_slice());
+    Ok(())
+}
+
+// The constant of a text.
+fn constant(alloc: Global, text: &str) -> Result<Value, Fail> {
+    match Content::read(alloc, text)? {
+        Content::Constant(value) => Ok(value),
+        Content::Formula(_) => Err(Fail::new("a formula")),
+    }
+}
+
+// Texts of contents that are these texts.
+fn expect_words(rt: &impl Abort, alloc: Global, rows: &[(&str, &str)]) -> Result<(), Fail> {
+    for (text, word) in rows {
+        let wanted = Value::Text(Text::from_str(alloc, word)?);
+        assert_eq!(rt; constant(alloc, text)?, wanted, "{text}");
+    }
+    Ok(())
+}
+
+#[test]
+fn contents_that_are_texts(rt: HostRuntime) -> Result<(), Fail> {
+    expect_words(
+        &rt,
+        rt.alloc(),
+        &[
+            ("'", ""),
+            ("'5", "5"),
+            ("'=1", "=1"),
+            ("abc", "abc"),
+            ("of:1", "of:1"),
+            (" =1", " =1"),
+        ],
+    )
+}
+
+#[test]
+fn contents_that_are_numbers(rt: HostRuntime) -> Result<(), Fail> {
+    let number = constant(rt.alloc(), "-2.50")?;
+    assert_eq!(rt; number, Value::Number(Fraction::new(-5, 2)?));
     Ok(())
 }

@@ -1,13 +1,13 @@
 ghost use Rattle.std.specs.Prelude.{◌<◌};
 ghost use Rattle.wi_values.specs.Address.{rows};
 
+use std::alloc::{AllocError, Global};
+use std::test::Fail;
+use wi_fraction::{Fraction, FractionError};
 use wi_values::{
     Address, AddressFault, ErrorKind, FieldFault, Name, Rect, Replacement, Text, Value,
     field_value, imported_value,
 };
-use std::alloc::{AllocError, Global};
-use std::test::Fail;
-use wi_fraction::{Fraction, FractionError};
 
 fn written(alloc: Global, row: u32, column: u32) -> Result<String, AllocError>
     requires { row < rows }
