@@ -1,10 +1,11 @@
 //! Small sheets, worked by hand.
 
-use wi_propagate::{Calculator, PlainCalculator};
 use std::alloc::Global;
+use std::process::Abort;
 use std::test::Fail;
 use wi_fraction::Fraction;
 use wi_parser::Content;
+use wi_propagate::{Calculator, PlainCalculator};
 use wi_store::Limits;
 use wi_values::{Address, ErrorKind, Replacement, Text, Value};
 
@@ -19,6 +20,25 @@ fn set(alloc: Global, calculator: &mut PlainCalculator, at: &str, text: &str) ->
     changes.push((at, Some(Content::read(alloc, text)?)))?;
     calculator.apply(changes)?;
     Ok(())
+}
+
+// Puts into each cell what its text stands for.
+fn set_all(
+    alloc: Global,
+    calculator: &mut PlainCalculator,
+    rows: &[(&str, &str)],
+) -> Result<(), Fail> {
+    for (at, text) in rows {
+        set(alloc, calculator, at, text)?;
+    }
+    Ok(())
+}
+
+// A calculator whose cells have these contents.
+fn sheet(alloc: Global, rows: &[(&str, &str)]) -> Result<PlainCalculator, Fail> {
+    let mut calculator = PlainCalculator::new(alloc, Limits::standard());
+    set_all(alloc, &mut calculator, rows)?;
+    Ok(calculator)
 }
 
 // What a cell shows with nothing replaced.
@@ -38,33 +58,66 @@ fn shown_with(
     Ok(calculator.value(&put, Address::read(at.as_bytes())?)?)
 }
 
+// Cells that show numbers.
+fn expect_numbers(
+    rt: &impl Abort,
+    calculator: &mut PlainCalculator,
+    rows: &[(&str, i128, i128)],
+) -> Result<(), Fail> {
+    for row in rows {
+        let &(at, n, d) = row;
+        assert_eq!(rt; shown(calculator, at)?, number(n, d)?, "{at}");
+    }
+    Ok(())
+}
+
+// Cells that show an error.
+fn expect_faults(
+    rt: &impl Abort,
+    calculator: &mut PlainCalculator,
+    fault: ErrorKind,
+    cells: &[&str],
+) -> Result<(), Fail> {
+    for at in cells {
+        assert_eq!(rt; shown(calculator, at)?, Value::Fault(fault), "{at}");
+    }
+    Ok(())
+}
+
+// How many formulas were valued and begun again so far.
+fn expect_counts(rt: &impl Abort, calculator: &PlainCalculator, evaluations: u64, restarts: u64) {
+    assert_eq!(rt; calculator.evaluations(), evaluations);
+    assert_eq!(rt; calculator.restarts(), restarts);
+}
+
 #[test]
 fn values_of_formulas(rt: HostRuntime) -> Result<(), Fail> {
-    let alloc = rt.alloc();
-    let mut calculator = PlainCalculator::new(alloc, Limits::standard());
-    set(alloc, &mut calculator, "A1", "10")?;
-    set(alloc, &mut calculator, "B1", "=[.A1]/4")?;
-    set(alloc, &mut calculator, "C1", "=[.B1]*[.A1]-1/3")?;
-    assert_eq!(rt; calculator.evaluations(), 0);
-    assert_eq!(rt; shown(&mut calculator, "A1")?, number(10, 1)?);
-    assert_eq!(rt; shown(&mut calculator, "B1")?, number(5, 2)?);
-    assert_eq!(rt; shown(&mut calculator, "C1")?, number(74, 3)?);
-    assert_eq!(rt; shown(&mut calculator, "D1")?, Value::Empty);
+    let rows = [("A1", "10"), ("B1", "=[.A1]/4"), ("C1", "=[.B1]*[.A1]-1/3")];
+    let mut calculator = sheet(rt.alloc(), &rows)?;
+    expect_counts(&rt, &calculator, 0, 0);
+    expect_numbers(
+        &rt,
+        &mut calculator,
+        &[("A1", 10, 1), ("B1", 5, 2), ("C1", 74, 3)],
+    )?;
     // B1 once for itself and once for C1, and C1, which lacks B1 at first.
-    assert_eq!(rt; calculator.evaluations(), 3);
-    assert_eq!(rt; calculator.restarts(), 1);
-    assert!(rt; calculator.content(Address::read(b"C1")?).is_some());
-    assert!(rt; calculator.content(Address::read(b"D1")?).is_none());
+    expect_counts(&rt, &calculator, 3, 1);
+    Ok(())
+}
+
+#[test]
+fn cells_with_no_content(rt: HostRuntime) -> Result<(), Fail> {
+    let mut calculator = sheet(rt.alloc(), &[("C1", "=1")])?;
+    assert_eq!(rt; shown(&mut calculator, "D1")?, Value::Empty);
+    assert!(rt; calculator.content(Address::at(0, 2)).is_some());
+    assert!(rt; calculator.content(Address::at(0, 3)).is_none());
     Ok(())
 }
 
 #[test]
 fn values_under_replacements(rt: HostRuntime) -> Result<(), Fail> {
-    let alloc = rt.alloc();
-    let mut calculator = PlainCalculator::new(alloc, Limits::standard());
-    set(alloc, &mut calculator, "B1", "10")?;
-    set(alloc, &mut calculator, "B2", "=[.B1]*3")?;
-    assert_eq!(rt; shown(&mut calculator, "B2")?, number(30, 1)?);
+    let mut calculator = sheet(rt.alloc(), &[("B1", "10"), ("B2", "=[.B1]*3")])?;
+    expect_numbers(&rt, &mut calculator, &[("B2", 30, 1)])?;
     let b2 = shown_with(&mut calculator, "B1", number(4, 1)?, "B2")?;
     assert_eq!(rt; b2, number(12, 1)?);
     let b2 = shown_with(&mut calculator, "B1", Value::Empty, "B2")?;
@@ -77,29 +130,29 @@ fn values_under_replacements(rt: HostRuntime) -> Result<(), Fail> {
 #[test]
 fn cycles(rt: HostRuntime) -> Result<(), Fail> {
     let alloc = rt.alloc();
-    let mut calculator = PlainCalculator::new(alloc, Limits::standard());
-    set(alloc, &mut calculator, "A1", "=[.B1]")?;
-    set(alloc, &mut calculator, "B1", "=[.A1]")?;
-    set(alloc, &mut calculator, "C1", "=[.A1]+1")?;
-    set(alloc, &mut calculator, "D1", "5")?;
-    for at in ["A1", "B1", "C1"] {
-        let circular = Value::Fault(ErrorKind::Circular);
-        assert_eq!(rt; shown(&mut calculator, at)?, circular);
-        let replaced = shown_with(&mut calculator, "B1", number(2, 1)?, at)?;
-        assert_eq!(rt; replaced, circular);
-    }
-    assert_eq!(rt; shown(&mut calculator, "D1")?, number(5, 1)?);
+    let rows = [
+        ("A1", "=[.B1]"),
+        ("B1", "=[.A1]"),
+        ("C1", "=[.A1]+1"),
+        ("D1", "5"),
+    ];
+    let mut calculator = sheet(alloc, &rows)?;
+    expect_faults(
+        &rt,
+        &mut calculator,
+        ErrorKind::Circular,
+        &["A1", "B1", "C1"],
+    )?;
+    let replaced = shown_with(&mut calculator, "B1", number(2, 1)?, "A1")?;
+    assert_eq!(rt; replaced, Value::Fault(ErrorKind::Circular));
+    expect_numbers(&rt, &mut calculator, &[("D1", 5, 1)])?;
     set(alloc, &mut calculator, "B1", "2")?;
-    assert_eq!(rt; shown(&mut calculator, "A1")?, number(2, 1)?);
-    assert_eq!(rt; shown(&mut calculator, "C1")?, number(3, 1)?);
-    Ok(())
+    expect_numbers(&rt, &mut calculator, &[("A1", 2, 1), ("C1", 3, 1)])
 }
 
 #[test]
 fn cycles_through_rectangles(rt: HostRuntime) -> Result<(), Fail> {
-    let alloc = rt.alloc();
-    let mut calculator = PlainCalculator::new(alloc, Limits::standard());
-    for (at, text) in [
+    let rows = [
         ("A1", "=[.A1:.A1]"),
         ("B1", "=1+[.C9:.B1]"),
         ("D1", "=[.E9:.D2]"),
@@ -109,18 +162,13 @@ fn cycles_through_rectangles(rt: HostRuntime) -> Result<(), Fail> {
         ("H1", "=[.I1:.I1]*2"),
         ("I1", "5"),
         ("J1", "=[.G1]"),
-    ] {
-        set(alloc, &mut calculator, at, text)?;
-    }
-    for at in ["A1", "B1", "D1", "E5", "F1", "G1", "J1"] {
-        let circular = Value::Fault(ErrorKind::Circular);
-        assert_eq!(rt; shown(&mut calculator, at)?, circular, "{at}");
-    }
-    assert_eq!(rt; shown(&mut calculator, "H1")?, number(10, 1)?);
-    set(alloc, &mut calculator, "J1", "=[.I1]")?;
-    let bad = Value::Fault(ErrorKind::BadValue);
-    assert_eq!(rt; shown(&mut calculator, "G1")?, bad);
-    Ok(())
+    ];
+    let mut calculator = sheet(rt.alloc(), &rows)?;
+    let circular = ["A1", "B1", "D1", "E5", "F1", "G1", "J1"];
+    expect_faults(&rt, &mut calculator, ErrorKind::Circular, &circular)?;
+    expect_numbers(&rt, &mut calculator, &[("H1", 10, 1)])?;
+    set(rt.alloc(), &mut calculator, "J1", "=[.I1]")?;
+    expect_faults(&rt, &mut calculator, ErrorKind::BadValue, &["G1"])
 }
 
 // A larger rectangle is evaluated once, whatever stands in it.
@@ -153,17 +201,17 @@ fn running_totals(rt: HostRuntime) -> Result<(), Fail> {
         let text = format!(in alloc; "=[.A1:.A{row}]")?;
         set(alloc, &mut calculator, &at, &text)?;
     }
-    assert_eq!(rt; shown(&mut calculator, "A2")?, number(5, 1)?);
-    let bad = Value::Fault(ErrorKind::BadValue);
-    assert_eq!(rt; shown(&mut calculator, "A300")?, bad);
+    expect_numbers(&rt, &mut calculator, &[("A2", 5, 1)])?;
+    expect_faults(&rt, &mut calculator, ErrorKind::BadValue, &["A300"])?;
     // All are looked at, but a rectangle of many cells is no number, whatever stands in it.
     assert_eq!(rt; calculator.evaluations(), 2);
     set(alloc, &mut calculator, "A1", "=[.A300]")?;
-    for at in ["A1", "A2", "A300"] {
-        let circular = Value::Fault(ErrorKind::Circular);
-        assert_eq!(rt; shown(&mut calculator, at)?, circular);
-    }
-    Ok(())
+    expect_faults(
+        &rt,
+        &mut calculator,
+        ErrorKind::Circular,
+        &["A1", "A2", "A300"],
+    )
 }
 
 // One formula names a column of 300 formulas 100 times.
@@ -181,15 +229,11 @@ fn rectangle_named_many_times(rt: HostRuntime) -> Result<(), Fail> {
     }
     text.push_str(")")?;
     set(alloc, &mut calculator, "B1", &text)?;
-    let unknown = Value::Fault(ErrorKind::UnknownName);
-    assert_eq!(rt; shown(&mut calculator, "B1")?, unknown);
+    expect_faults(&rt, &mut calculator, ErrorKind::UnknownName, &["B1"])?;
     // A1 and B1, which lacks A1 at first and asks for no other.
-    assert_eq!(rt; calculator.evaluations(), 2);
-    assert_eq!(rt; calculator.restarts(), 1);
+    expect_counts(&rt, &calculator, 2, 1);
     set(alloc, &mut calculator, "C1", "=[.B1]")?;
-    let circular = Value::Fault(ErrorKind::Circular);
-    assert_eq!(rt; shown(&mut calculator, "B1")?, circular);
-    Ok(())
+    expect_faults(&rt, &mut calculator, ErrorKind::Circular, &["B1"])
 }
 
 // Each cell of column A is one more than the one below it, down to row 201.
@@ -203,44 +247,36 @@ fn chain_of_200(rt: HostRuntime) -> Result<(), Fail> {
         set(alloc, &mut calculator, &at, &text)?;
     }
     set(alloc, &mut calculator, "A201", "5")?;
-    assert_eq!(rt; shown(&mut calculator, "A1")?, number(205, 1)?);
+    expect_numbers(&rt, &mut calculator, &[("A1", 205, 1)])?;
     // Each but the last lacks the one below it at first.
-    assert_eq!(rt; calculator.evaluations(), 200);
-    assert_eq!(rt; calculator.restarts(), 199);
+    expect_counts(&rt, &calculator, 200, 199);
     set(alloc, &mut calculator, "A201", "=[.A1]")?;
-    assert_eq!(rt;
-        shown(&mut calculator, "A1")?,
-        Value::Fault(ErrorKind::Circular)
-    );
-    Ok(())
+    expect_faults(&rt, &mut calculator, ErrorKind::Circular, &["A1"])
 }
 
 // C4 is what B2 is with A4's value in B1, and D4 what C4 is with B1's value in A4.
 fn what_ifs(alloc: Global) -> Result<PlainCalculator, Fail> {
-    let mut calculator = PlainCalculator::new(alloc, Limits::standard());
-    set(alloc, &mut calculator, "B1", "10")?;
-    set(alloc, &mut calculator, "B2", "=[.B1]*3")?;
-    set(alloc, &mut calculator, "A4", "7")?;
-    let thrice_a4 = "=MULTIPLE.OPERATIONS([.B2];[.B1];[.A4])";
-    set(alloc, &mut calculator, "C4", thrice_a4)?;
-    let thrice_b1 = "=MULTIPLE.OPERATIONS([.C4];[.A4];[.B1])";
-    set(alloc, &mut calculator, "D4", thrice_b1)?;
-    Ok(calculator)
+    let rows = [
+        ("B1", "10"),
+        ("B2", "=[.B1]*3"),
+        ("A4", "7"),
+        ("C4", "=MULTIPLE.OPERATIONS([.B2];[.B1];[.A4])"),
+        ("D4", "=MULTIPLE.OPERATIONS([.C4];[.A4];[.B1])"),
+    ];
+    sheet(alloc, &rows)
 }
 
 #[test]
 fn what_if_of_a_what_if(rt: HostRuntime) -> Result<(), Fail> {
     let mut calculator = what_ifs(rt.alloc())?;
-    assert_eq!(rt; shown(&mut calculator, "C4")?, number(21, 1)?);
+    expect_numbers(&rt, &mut calculator, &[("C4", 21, 1)])?;
     // C4, and B2 with 7 in B1.
     assert_eq!(rt; calculator.evaluations(), 2);
-    assert_eq!(rt; shown(&mut calculator, "B2")?, number(30, 1)?);
+    expect_numbers(&rt, &mut calculator, &[("B2", 30, 1)])?;
     assert_eq!(rt; calculator.evaluations(), 3);
-    assert_eq!(rt; shown(&mut calculator, "D4")?, number(30, 1)?);
+    expect_numbers(&rt, &mut calculator, &[("D4", 30, 1)])?;
     set(rt.alloc(), &mut calculator, "A4", "=[.B1]+1")?;
-    assert_eq!(rt; shown(&mut calculator, "C4")?, number(33, 1)?);
-    assert_eq!(rt; shown(&mut calculator, "D4")?, number(30, 1)?);
-    Ok(())
+    expect_numbers(&rt, &mut calculator, &[("C4", 33, 1), ("D4", 30, 1)])
 }
 
 #[test]
@@ -256,21 +292,11 @@ fn what_ifs_under_replacements(rt: HostRuntime) -> Result<(), Fail> {
 
 #[test]
 fn cycles_through_parameters(rt: HostRuntime) -> Result<(), Fail> {
-    let mut calculator = PlainCalculator::new(rt.alloc(), Limits::standard());
-    set(rt.alloc(), &mut calculator, "A1", "=f(1;-[.B1])")?;
-    set(rt.alloc(), &mut calculator, "B1", "=g([.A1])")?;
-    for cell in ["A1", "B1"] {
-        assert_eq!(rt;
-            shown(&mut calculator, cell)?,
-            Value::Fault(ErrorKind::Circular)
-        );
-    }
+    let rows = [("A1", "=f(1;-[.B1])"), ("B1", "=g([.A1])")];
+    let mut calculator = sheet(rt.alloc(), &rows)?;
+    expect_faults(&rt, &mut calculator, ErrorKind::Circular, &["A1", "B1"])?;
     set(rt.alloc(), &mut calculator, "B1", "5")?;
-    assert_eq!(rt;
-        shown(&mut calculator, "A1")?,
-        Value::Fault(ErrorKind::UnknownName)
-    );
-    Ok(())
+    expect_faults(&rt, &mut calculator, ErrorKind::UnknownName, &["A1"])
 }
 
 // What an entry of a data table shows that replaces one input.
@@ -299,25 +325,21 @@ fn entries_of_a_data_table(rt: HostRuntime) -> Result<(), Fail> {
 // Both replacement cells and the formula cell rest on A2.
 #[test]
 fn entry_values_each_once(rt: HostRuntime) -> Result<(), Fail> {
-    let alloc = rt.alloc();
-    let mut calculator = PlainCalculator::new(alloc, Limits::standard());
-    for (at, text) in [
+    let rows = [
         ("A1", "2"),
         ("A2", "=[.A1]*[.A1]"),
         ("A3", "=[.A2]+1"),
         ("A4", "=[.A2]+2"),
         ("C1", "=[.B1]*[.B2]+[.A2]"),
-    ] {
-        set(alloc, &mut calculator, at, text)?;
-    }
-    let c1 = Address::read(b"C1")?;
-    let first = (Address::read(b"B1")?, Address::read(b"A3")?);
-    let second = (Address::read(b"B2")?, Address::read(b"A4")?);
-    let value = calculator.what_if_value(&[], c1, &[first, second])?;
+    ];
+    let mut calculator = sheet(rt.alloc(), &rows)?;
+    // B1 by A3, and B2 by A4.
+    let first = (Address::at(0, 1), Address::at(2, 0));
+    let second = (Address::at(1, 1), Address::at(3, 0));
+    let value = calculator.what_if_value(&[], Address::at(0, 2), &[first, second])?;
     assert_eq!(rt; value, number(34, 1)?);
     // A2, A3, A4 and C1. The others each lack A2 at first; B1 and B2 are constants where C1 is valued.
-    assert_eq!(rt; calculator.evaluations(), 4);
-    assert_eq!(rt; calculator.restarts(), 3);
+    expect_counts(&rt, &calculator, 4, 3);
     Ok(())
 }
 
@@ -340,12 +362,14 @@ fn circular_entries(rt: HostRuntime) -> Result<(), Fail> {
 #[test]
 fn what_ifs_through_each_other(rt: HostRuntime) -> Result<(), Fail> {
     let alloc = rt.alloc();
-    let mut calculator = PlainCalculator::new(alloc, Limits::standard());
-    set(alloc, &mut calculator, "B1", "1")?;
-    set(alloc, &mut calculator, "C1", "=[.B1]+1")?;
-    set(alloc, &mut calculator, "C2", "=1+[.B1]")?;
     let first = "=MULTIPLE.OPERATIONS([.B1];[.B1];[.C1])+MULTIPLE.OPERATIONS([.B1];[.B1];[.C2])";
-    set(alloc, &mut calculator, "D1", first)?;
+    let rows = [
+        ("B1", "1"),
+        ("C1", "=[.B1]+1"),
+        ("C2", "=1+[.B1]"),
+        ("D1", first),
+    ];
+    let mut calculator = sheet(alloc, &rows)?;
     for row in 1..64u32 {
         let at = format!(in alloc; "D{}", row + 1)?;
         let text = format!(in alloc;
@@ -353,8 +377,11 @@ fn what_ifs_through_each_other(rt: HostRuntime) -> Result<(), Fail> {
         )?;
         set(alloc, &mut calculator, &at, &text)?;
     }
-    let d64 = shown(&mut calculator, "D64")?;
-    assert_eq!(rt; d64, number(1_199_038_364_791_120_855_040, 1)?);
+    expect_numbers(
+        &rt,
+        &mut calculator,
+        &[("D64", 1_199_038_364_791_120_855_040, 1)],
+    )?;
     // Each with C1 and C2, under one number in B1.
     assert_eq!(rt; calculator.evaluations(), 192);
     Ok(())

@@ -1,8 +1,8 @@
 //! Texts worked by hand, as RFC 4180 and the crate `csv` have them.
 
-use wi_csv::{CsvFault, push_record, records};
 use std::alloc::Global;
 use std::test::Fail;
+use wi_csv::{CsvFault, push_record, records};
 
 // The records of a text, `|` behind each field and `;` behind each record.
 fn shown(alloc: Global, text: &[u8]) -> Result<Vec<u8>, CsvFault> {

@@ -1,7 +1,7 @@
 //! The command `formula` in a script.
 
-use wi_cli::{ReadFrom, WriteTo, run};
 use std::test::Fail;
+use wi_cli::{ReadFrom, WriteTo, run};
 use wi_propagate::PlainCalculator;
 use wi_scenarios::Workbook;
 use wi_store::Limits;

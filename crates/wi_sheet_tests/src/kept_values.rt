@@ -1,8 +1,8 @@
 ghost use Rattle.std.specs.Prelude.{◌<◌};
 
-use wi_cache::{Kept, Key, RunTable};
 use std::alloc::{AllocError, Global};
 use std::test::Fail;
+use wi_cache::{Kept, Key, RunTable};
 use wi_values::{Address, Replacement, Value};
 use wi_worlds::World;
 

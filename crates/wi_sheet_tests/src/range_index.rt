@@ -1,6 +1,6 @@
-use wi_ranges::RangeIndex;
 use std::alloc::{AllocError, Global};
 use std::test::Fail;
+use wi_ranges::RangeIndex;
 use wi_values::{Address, AddressFault, Rect};
 
 fn area(text: &str) -> Result<Rect, AddressFault> {

@@ -1,10 +1,10 @@
 //! The std devices that serve as a source and a sink.
 
-use wi_cli::{READS, ReadFrom, RunFault, Sink, Source, WriteTo, run};
 use std::alloc::Global;
 use std::io;
 use std::io::{Read, Write};
 use std::test::Fail;
+use wi_cli::{READS, ReadFrom, RunFault, Sink, Source, WriteTo, run};
 use wi_propagate::PlainCalculator;
 use wi_scenarios::Workbook;
 use wi_store::Limits;

@@ -1,7 +1,7 @@
-use wi_store::{Limits, Store, StoreFault};
 use std::alloc::{AllocError, Global};
 use std::test::Fail;
 use wi_parser::Content;
+use wi_store::{Limits, Store, StoreFault};
 use wi_values::{Address, Rect, Value};
 
 type Changes = Vec<(Address, Option<Content>)>;

@@ -1,9 +1,9 @@
 //! Commands on new workbooks, worked by hand.
 
-use wi_scenarios::{Refusal, Workbook};
 use std::alloc::Global;
 use std::test::Fail;
 use wi_propagate::{Calculator, PlainCalculator};
+use wi_scenarios::{Refusal, Workbook};
 use wi_store::Limits;
 use wi_values::{Address, Rect};
 

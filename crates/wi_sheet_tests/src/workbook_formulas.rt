@@ -1,9 +1,9 @@
 //! The command `formula`, worked by hand.
 
-use wi_scenarios::Workbook;
 use std::alloc::Global;
 use std::test::Fail;
 use wi_propagate::PlainCalculator;
+use wi_scenarios::Workbook;
 use wi_store::Limits;
 use wi_values::Address;
 

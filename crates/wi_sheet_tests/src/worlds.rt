@@ -2,11 +2,11 @@ ghost use Rattle.std.specs.Prelude.{All, IsSome, IsTrue};
 ghost use Rattle.std.specs.BTreeMap.{get};
 ghost use Rattle.std.specs.Ordering.{nat_cmp};
 
-use wi_worlds::World;
 use std::alloc::{AllocError, Global};
 use std::collections::{BTreeMap, BTreeSet, HashMap};
 use std::test::Fail;
 use wi_values::{Address, Replacement, Text, Value};
+use wi_worlds::World;
 
 fn by(at: Address, value: Value) -> Replacement {
     Replacement { at, value }
