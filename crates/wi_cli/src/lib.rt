@@ -18,4 +18,3 @@ pub use fault::{RunFault, fault_status};
 pub use read_from::{READS, ReadFrom};
 pub use runs::{MAX_LINES, run};
 pub use write_to::WriteTo;
-

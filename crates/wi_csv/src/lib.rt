@@ -9,4 +9,3 @@ mod row;
 pub use fault::CsvFault;
 pub use reading::records;
 pub use row::push_record;
-

@@ -20,4 +20,3 @@ mod walk;
 
 pub use calculator::Calculator;
 pub use plain::PlainCalculator;
-

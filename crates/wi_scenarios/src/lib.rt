@@ -8,4 +8,3 @@ mod workbook;
 
 pub use refusal::Refusal;
 pub use workbook::Workbook;
-

@@ -10,4 +10,3 @@ mod store;
 pub use fault::StoreFault;
 pub use limits::Limits;
 pub use store::Store;
-
