@@ -7,6 +7,8 @@ mod evaluation;
 #[cfg(test)]
 mod fraction_tables;
 #[cfg(test)]
+mod fraction_texts;
+#[cfg(test)]
 mod fractions;
 #[cfg(test)]
 mod longest;
