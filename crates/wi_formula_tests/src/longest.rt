@@ -1,6 +1,6 @@
 //! The longest formulas of the worst shapes.
 
-use crate::tree_tables::printed;
+use crate::printing::printed;
 use crate::trees::repeated;
 use std::alloc::Global;
 use std::process::Abort;

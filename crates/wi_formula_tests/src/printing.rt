@@ -2,20 +2,19 @@
 
 use std::alloc::Global;
 use std::test::Fail;
-use wi_parser::parse;
+use wi_parser::{Formula, parse};
 
-// What is printed of the formula with this text.
-fn printed(alloc: Global, text: &str) -> Result<String, Fail> {
-    let formula = parse(alloc, text)?;
-    let mut out = String::new(alloc);
-    formula.print(&mut out)?;
-    Ok(out)
+// The text of a formula.
+pub fn printed(alloc: Global, formula: &Formula) -> Result<String, Fail> {
+    let mut text = String::new(alloc);
+    formula.print(&mut text)?;
+    Ok(text)
 }
 
 // Whether the formula is printed so, and what is printed of it too.
 fn prints(alloc: Global, text: &str, wanted: &str) -> Result<bool, Fail> {
-    let once = printed(alloc, text)?;
-    let twice = printed(alloc, once.as_str())?;
+    let once = printed(alloc, &parse(alloc, text)?)?;
+    let twice = printed(alloc, &parse(alloc, once.as_str())?)?;
     Ok(once.as_str() == wanted && twice.as_str() == wanted)
 }
 

@@ -1,10 +1,11 @@
 //! Formulas with their trees, worked out from the grammar apart from the parser.
 
+use crate::printing::printed;
 use crate::trees::shown;
 use std::alloc::Global;
 use std::process::Abort;
 use std::test::Fail;
-use wi_parser::{Formula, parse};
+use wi_parser::parse;
 
 // Formulas with their trees. What is printed of each has the same tree.
 fn expect_trees(rt: &impl Abort, alloc: Global, rows: &[(&str, &str)]) -> Result<(), Fail> {
@@ -17,13 +18,6 @@ fn expect_trees(rt: &impl Abort, alloc: Global, rows: &[(&str, &str)]) -> Result
         assert_eq!(rt; shown(alloc, again.tree())?.as_str(), *tree, "{text}");
     }
     Ok(())
-}
-
-// The text of a formula.
-pub fn printed(alloc: Global, formula: &Formula) -> Result<String, Fail> {
-    let mut text = String::new(alloc);
-    formula.print(&mut text)?;
-    Ok(text)
 }
 
 #[test]
