@@ -3,7 +3,8 @@ use Rattle.std.proofs.Common.{◌≡◌, ◌==◌, ◌&&◌, ℕ, Bool, true, fa
 use Rattle.std.specs.Prelude.{Decides}
 use Rattle.std.specs.Cmp.{IsEquivalence, decided}
 use Rattle.std.proofs.lemmas.Bool.Decides.{nat_tests}
-use Rattle.wi_worlds.specs.Compared.{same_world, same_world_Decides}
+use Rattle.wi_values.specs.Replacements.{same_replacements}
+use Rattle.wi_values.proofs.Replacements.Same.{same_replacements_Decides}
 use Rattle.wi_cache.specs.declared.key.Key.{Key}
 use Rattle.wi_cache.specs.Entries.{same_key}
 
@@ -26,18 +27,18 @@ same_key_Decides a b = (means, λ e. ap (same_key a) (sym e) ∙ itself)
   where
     means : same_key a b ≡ true → a ≡ b
     means h =
-        let outer = both_hold (a.cell == b.cell) (a.generation == b.generation && same_world a.world b.world) h in
-        let inner = both_hold (a.generation == b.generation) (same_world a.world b.world) outer.1 in
+        let outer = both_hold (a.cell == b.cell) (a.generation == b.generation && same_replacements a.world b.world) h in
+        let inner = both_hold (a.generation == b.generation) (same_replacements a.world b.world) outer.1 in
         let cell = one_number a.cell b.cell outer.0 in
         let generation = one_number a.generation b.generation inner.0 in
-        let world = (same_world_Decides a.world b.world).0 inner.1 in
+        let world = (same_replacements_Decides a.world b.world).0 inner.1 in
         λ i. record { cell = cell i; generation = generation i; world = world i }
 
     itself : same_key a a ≡ true
     itself =
-        let world = (same_world_Decides a.world a.world).1 refl in
-        both_true (a.cell == a.cell) (a.generation == a.generation && same_world a.world a.world) (same_number a.cell)
-        (both_true (a.generation == a.generation) (same_world a.world a.world) (same_number a.generation) world)
+        let world = (same_replacements_Decides a.world a.world).1 refl in
+        both_true (a.cell == a.cell) (a.generation == a.generation && same_replacements a.world a.world) (same_number a.cell)
+        (both_true (a.generation == a.generation) (same_replacements a.world a.world) (same_number a.generation) world)
 
 pub same_key_equiv : IsEquivalence same_key
 same_key_equiv = decided same_key same_key_Decides

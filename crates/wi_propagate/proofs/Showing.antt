@@ -2,20 +2,20 @@
 use Rattle.std.proofs.Common.{◌≡◌, ◌≤◌, ◌+◌, ℕ, false, List, [], length, sum_by, ap, sym, ◌∙◌, subst, arith}
 use Rattle.wi_values.specs.declared.value.Value.{Value}
 use Rattle.wi_values.specs.declared.replacement.Replacement.{Replacement}
+use Rattle.wi_values.specs.Replacements.{IsInOrder, entries, overridden}
+use Rattle.wi_values.proofs.Replacements.Overriding.{overridden-nothing}
 use Rattle.wi_parser.specs.Sheet.{Sheet, put_all, has_formula}
-use Rattle.wi_worlds.specs.World.{IsInOrder, entries, overridden}
-use Rattle.wi_worlds.proofs.Overriding.{overridden-nothing}
-use Rattle.wi_propagate.specs.Circular.{circular}
-use Rattle.wi_propagate.specs.CellValue.{cell_value}
-use Rattle.wi_propagate.specs.Shown.{shown}
-use Rattle.wi_propagate.specs.Demand.{Case, case_of, puts_of, demand, different}
-use Rattle.wi_propagate.specs.Remembered.{OneQuestion, remembered, memory_of}
-use Rattle.wi_propagate.specs.Spending.{CountsAtMost, HasCase}
-use Rattle.wi_propagate.proofs.Steps.{shown_open}
-use Rattle.wi_propagate.proofs.SmallerWorlds.{content_below}
-use Rattle.wi_propagate.proofs.Cases.{different_closed, different_has_itself}
-use Rattle.wi_propagate.proofs.Counting.{left_of_nothing, sum_of_ones}
-use Rattle.wi_propagate.proofs.Awaiting.{puts_entries}
+use Rattle.wi_graph.specs.Circular.{circular}
+use Rattle.wi_sheet.specs.CellValue.{cell_value}
+use Rattle.wi_sheet.specs.Shown.{shown}
+use Rattle.wi_sheet.specs.Demand.{Case, case_of, puts_of, demand, different}
+use Rattle.wi_sheet.specs.Spending.{CountsAtMost, HasCase}
+use Rattle.wi_sheet.proofs.Steps.{shown_open}
+use Rattle.wi_sheet.proofs.SmallerWorlds.{content_below}
+use Rattle.wi_sheet.proofs.Cases.{different_closed, different_has_itself}
+use Rattle.wi_sheet.proofs.Counting.{left_of_nothing, sum_of_ones}
+use Rattle.wi_sheet.proofs.Overrides.{puts_entries}
+use Rattle.wi_engine.specs.Remembered.{OneQuestion, remembered, memory_of}
 
 -- replacements in order, put in where there are none
 pub put_alone : (w base put : List Replacement) → IsInOrder put → base ≡ [] → entries w ≡ overridden (entries base) put → w ≡ put

@@ -2,11 +2,11 @@
 
 ghost use Rattle.std.specs.Prelude.{◌≡◌, ℕ, IfOk};
 ghost use Rattle.std.specs.Option.{option_copied};
+ghost use Rattle.wi_values.specs.Replacements.{IsInOrder};
 ghost use Rattle.wi_parser.specs.Sheet.{content_of};
 ghost use Rattle.wi_store.specs.Store.{Stored, applied, Applies};
-ghost use Rattle.wi_worlds.specs.World.{IsInOrder};
-ghost use Rattle.wi_propagate.specs.Shown as show;
-ghost use Rattle.wi_propagate.specs.TableEntry.{table_entry};
+ghost use Rattle.wi_sheet.specs.Shown as show;
+ghost use Rattle.wi_sheet.specs.TableEntry.{table_entry};
 
 use std::alloc::AllocError;
 use wi_parser::Content;

@@ -1,9 +1,9 @@
 //! Laws about what cells show. Each is the contract of a function that does nothing.
 
-ghost use Rattle.wi_propagate.specs.Laws.{BoundIsNeverFelt, ValueByStep, CircularIsAbove, CircularReadsCircular, PutsMakeNoCycle};
-ghost use Rattle.wi_propagate.specs.Locality.{RestsOnReach, OthersDoNotCount, SameForReached, ReachingSuffices, WhatIfIsOneList, OrderStays, RestsStay};
-ghost use Rattle.wi_propagate.specs.Locality.{ConeStays, OutsideStays, OutsideStaysUnderPuts, UnmarkedStays, ReachIsDecided, ConeIsDecided, ReachStays};
-ghost use Rattle.wi_propagate.specs.DemandLaws.{DemandByStep, DemandUnderReplacements, CircularDemandsNothing, PlainDemandsNothing};
+ghost use Rattle.wi_sheet.specs.Laws.{BoundIsNeverFelt, ValueByStep, CircularIsAbove, CircularReadsCircular, PutsMakeNoCycle};
+ghost use Rattle.wi_sheet.specs.Locality.{RestsOnReach, OthersDoNotCount, SameForReached, ReachingSuffices, WhatIfIsOneList, OrderStays, RestsStay};
+ghost use Rattle.wi_sheet.specs.Locality.{ConeStays, OutsideStays, OutsideStaysUnderPuts, UnmarkedStays, ReachIsDecided, ConeIsDecided, ReachStays};
+ghost use Rattle.wi_sheet.specs.DemandLaws.{DemandByStep, DemandUnderReplacements, CircularDemandsNothing, PlainDemandsNothing};
 
 /// How a cell's value follows from those of the cells that its formula reads.
 pub fn value_by_step()

@@ -1,22 +1,19 @@
 //! What an entry of a data table shows.
 
 ghost use Rattle.std.specs.Prelude.{◌≡◌, ◌+◌, ◌≤◌, ◌∷◌, length, sum_by, map, All, IfOk, OnOk};
+ghost use Rattle.wi_values.specs.Replacements.{IsInOrder};
 ghost use Rattle.wi_parser.specs.Sheet.{put_all};
 ghost use Rattle.wi_functions.specs.Meaning as formulas;
-ghost use Rattle.wi_propagate.specs.CellValue as show;
-ghost use Rattle.wi_worlds.specs.World.{IsInOrder};
-ghost use Rattle.wi_propagate.specs.TableEntry as table;
-ghost use Rattle.wi_propagate.specs.TableEntry.{table_demand};
-ghost use Rattle.wi_propagate.specs.Demand.{with_what_if, different, wants};
-ghost use Rattle.wi_propagate.specs.Memory.{IsMemoryOf};
-ghost use Rattle.wi_propagate.specs.Frames.{MayBeRead};
-ghost use Rattle.wi_propagate.specs.Spending.{CountsAtMost, CountsFound, HasReplacing, HasEntry};
+ghost use Rattle.wi_sheet.specs.CellValue as show;
+ghost use Rattle.wi_sheet.specs.TableEntry as table;
+ghost use Rattle.wi_sheet.specs.TableEntry.{table_demand};
+ghost use Rattle.wi_sheet.specs.Demand.{with_what_if, different, wants};
+ghost use Rattle.wi_sheet.specs.Spending.{CountsAtMost, CountsFound, HasReplacing, HasEntry};
+ghost use Rattle.wi_engine.specs.Memory.{IsMemoryOf};
+ghost use Rattle.wi_engine.specs.Frames.{MayBeRead};
 
-use crate::engine::value_under;
-use crate::memo::Memo;
-use crate::remembered::Remembered;
-use crate::walk::reached_from;
 use std::alloc::{AllocError, Global};
+use wi_engine::{Memo, Remembered, reached_from, value_under};
 use wi_functions::{Meter, zero_for_empty};
 use wi_store::Store;
 use wi_values::{Address, ErrorKind, Replacement, Value};

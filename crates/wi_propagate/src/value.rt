@@ -1,14 +1,12 @@
 //! What a cell shows.
 
 ghost use Rattle.std.specs.Prelude.{◌≡◌, ◌+◌, ◌≤◌, length, sum_by, IfOk};
-ghost use Rattle.wi_worlds.specs.World.{IsInOrder};
-ghost use Rattle.wi_propagate.specs.Shown as show;
-ghost use Rattle.wi_propagate.specs.Demand.{case_of, demand, different, wants};
+ghost use Rattle.wi_values.specs.Replacements.{IsInOrder};
+ghost use Rattle.wi_sheet.specs.Shown as show;
+ghost use Rattle.wi_sheet.specs.Demand.{case_of, demand, different, wants};
 
-use crate::engine::value_under;
-use crate::remembered::Remembered;
-use crate::walk::reached;
 use std::alloc::{AllocError, Global};
+use wi_engine::{Remembered, reached, value_under};
 use wi_functions::Meter;
 use wi_store::Store;
 use wi_values::{Address, ErrorKind, Replacement, Value};

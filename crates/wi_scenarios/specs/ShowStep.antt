@@ -4,7 +4,7 @@ use Rattle.std.specs.List.{flat_map}
 use Rattle.wi_values.specs.Address.{Area, size_of, rows_in, cells_of_row}
 use Rattle.wi_values.specs.Value as value
 use Rattle.wi_parser.specs.Sheet.{Sheet}
-use Rattle.wi_propagate.specs.Shown as cell
+use Rattle.wi_sheet.specs.Shown as cell
 use Rattle.wi_scenarios.specs.declared.refusal.Refusal.TheVariants.{TooLarge}
 use Rattle.wi_scenarios.specs.State.{State}
 use Rattle.wi_scenarios.specs.Answer.{Answer}

@@ -4,5 +4,6 @@ pub mod Equal
 pub mod Fields
 pub mod Letters
 pub mod ReadsBack
+pub mod Replacements
 pub mod Rows
 pub mod Spelling

@@ -1,5 +1,2 @@
-pub mod InOrder
-pub mod Overriding
 pub mod Filtering
 mod Searching
-mod Rows

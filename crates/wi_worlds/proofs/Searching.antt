@@ -7,7 +7,7 @@ use Rattle.std.proofs.lemmas.Cmp.{ranked}
 use Rattle.std.proofs.lemmas.Map.Keys.{sorted_from_strictly_increasing, below_from_sorted}
 use Rattle.std.proofs.lemmas.List.{length-map, get_or-map}
 use Rattle.wi_values.specs.declared.replacement.Replacement.{Replacement}
-use Rattle.wi_worlds.specs.World.{IsInOrder, replaced}
+use Rattle.wi_values.specs.Replacements.{IsInOrder, replaced}
 
 -- none of them is at the address
 abbrev NoneAt : ℕ → List Replacement → Type 0

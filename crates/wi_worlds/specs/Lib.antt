@@ -1,3 +1,2 @@
-pub mod World
 pub mod Reaching
 pub mod Compared

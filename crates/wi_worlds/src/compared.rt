@@ -1,12 +1,13 @@
 //! Equality and hash of worlds.
 
-ghost use Rattle.wi_worlds.specs.Compared.{same_world, same_world_equiv, same_world_hash, same_world_partial, world_input};
+ghost use Rattle.wi_values.specs.Replacements.{same_replacements};
+ghost use Rattle.wi_worlds.specs.Compared.{same_world_equiv, same_world_hash, same_world_partial, world_input};
 
 use crate::world::World;
 use std::hash::{Hash, Hasher};
 
 impl PartialEq for World {
-    ghost eq = { same_world };
+    ghost eq = { same_replacements };
 
     ghost laws = { same_world_partial };
 

@@ -1,7 +1,7 @@
 //! Replacements as entries of a map, and back.
 
 ghost use Rattle.std.specs.Prelude.{◌≡◌, IfOk, OnOk};
-ghost use Rattle.wi_worlds.specs.World.{IsInOrder, entries, overridden};
+ghost use Rattle.wi_values.specs.Replacements.{IsInOrder, entries, overridden};
 
 use std::alloc::{AllocError, Global};
 use std::collections::BTreeMap;

@@ -1,7 +1,7 @@
 //! Laws of equality. The contract of each function is the law.
 
 ghost use Rattle.std.specs.Prelude.{◌≡◌, ◌↔◌, ℕ, IsTrue};
-ghost use Rattle.wi_worlds.specs.World.{replaced};
+ghost use Rattle.wi_values.specs.Replacements.{replaced};
 
 use crate::world::World;
 

@@ -4,8 +4,8 @@ ghost use Rattle.std.specs.Prelude.{◌≡◌, ℕ, [], All, filter, None, IsSom
 ghost use Rattle.std.specs.BTreeMap.{get};
 ghost use Rattle.std.specs.Option.{option_copied, option_or};
 ghost use Rattle.std.specs.Ordering.{nat_cmp};
+ghost use Rattle.wi_values.specs.Replacements.{IsInOrder, entries, last_for, overridden, replaced};
 ghost use Rattle.wi_worlds.specs.Reaching.{cone_has, reaches};
-ghost use Rattle.wi_worlds.specs.World.{IsInOrder, entries, last_for, overridden, replaced};
 
 use crate::entries::{copied, listed, put_in};
 use std::alloc::{AllocError, Global};
@@ -29,7 +29,7 @@ impl Model for World {
 
     ghost coded = { coded_list replacement.the_row.coded };
 
-    ghost use Rattle.wi_worlds.specs.World.{IsInOrder};
+    ghost use Rattle.wi_values.specs.Replacements.{IsInOrder};
 
     ghost view = { λ w. w.replacements.items };
 

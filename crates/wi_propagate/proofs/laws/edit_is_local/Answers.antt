@@ -1,5 +1,6 @@
-use Rattle.wi_propagate.proofs.Cones.{cone_stays, outside_content, outside_circular, outside_reaches, outside_shown_same, outside_shown, unmarked}
-use Rattle.wi_propagate.proofs.ReachTest.{not_in_cone}
+use Rattle.wi_graph.proofs.Cones.{cone_stays, outside_content, outside_circular, outside_reaches}
+use Rattle.wi_graph.proofs.ReachTest.{not_in_cone}
+use Rattle.wi_sheet.proofs.Cones.{outside_shown_same, outside_shown, unmarked}
 use Rattle.wi_propagate.proofs.laws.edit_is_local.Goals as goal
 
 pub returns-clause-cone : goal.returns-clause-cone

@@ -1,9 +1,9 @@
 use Rattle.std.proofs.Common.{◌≡◌, true, false, sym, ◌∙◌}
 use Rattle.std.proofs.lemmas.Result.{IfOk-weaker}
 use Rattle.std.specs.List.{list_any}
-use Rattle.wi_propagate.specs.Circular.{circular}
-use Rattle.wi_propagate.specs.Demand.{wants}
-use Rattle.wi_propagate.proofs.TableEntries.{test_of_cells, entry_circular}
+use Rattle.wi_graph.specs.Circular.{circular}
+use Rattle.wi_sheet.specs.Demand.{wants}
+use Rattle.wi_sheet.proofs.TableEntries.{test_of_cells, entry_circular}
 use Rattle.wi_propagate.proofs.Showing.{put_alone, nothing_found}
 use Rattle.wi_propagate.proofs.ShowingEntries.{replacing_readable, entry_value, entry_at_most, entry_evaluations}
 use Rattle.wi_propagate.proofs.table_entry.table_entry.Goals as goal

@@ -2,8 +2,8 @@ use Rattle.std.proofs.Common.{◌≡◌, List, ℕ, take, ap, ◌∙◌, arith}
 use Rattle.std.proofs.lemmas.Grind.{common_steps}
 use Rattle.std.proofs.lemmas.Result.{IfOk-weaker}
 use Rattle.wi_parser.specs.Sheet.{put_all}
-use Rattle.wi_propagate.specs.CellValue.{replacements, cell_value}
-use Rattle.wi_propagate.proofs.Awaiting.{replaced_world}
+use Rattle.wi_sheet.specs.CellValue.{replacements, cell_value}
+use Rattle.wi_sheet.proofs.Overrides.{replaced_world}
 use Rattle.wi_propagate.proofs.table_entry.with_inputs.Goals as goal
 
 pub returns-clause-world : goal.returns-clause-world

@@ -1,9 +1,9 @@
 use Rattle.std.proofs.Common.{◌≡◌, take}
 use Rattle.wi_parser.specs.Sheet.{put_all}
-use Rattle.wi_propagate.specs.CellValue.{replacements, cell_value}
-use Rattle.wi_propagate.specs.Demand.{wants}
-use Rattle.wi_propagate.specs.Memory.{IsMemoryOf}
-use Rattle.wi_propagate.specs.Spending.{CountsFound, HasReplacing}
+use Rattle.wi_sheet.specs.CellValue.{replacements, cell_value}
+use Rattle.wi_sheet.specs.Demand.{wants}
+use Rattle.wi_sheet.specs.Spending.{CountsFound, HasReplacing}
+use Rattle.wi_engine.specs.Memory.{IsMemoryOf}
 use Rattle.wi_propagate.proofs.table_entry.with_inputs.Given as goal
 
 abbrev pub invariant-loop-pair : goal.invariant-loop-pair

@@ -1,8 +1,8 @@
 use Rattle.std.proofs.Common.{◌≡◌, true, false, sym}
 use Rattle.std.proofs.lemmas.Result.{IfOk-weaker}
-use Rattle.wi_propagate.specs.Circular.{circular}
-use Rattle.wi_propagate.specs.Demand.{wants}
-use Rattle.wi_propagate.proofs.Steps.{shown_circular}
+use Rattle.wi_graph.specs.Circular.{circular}
+use Rattle.wi_sheet.specs.Demand.{wants}
+use Rattle.wi_sheet.proofs.Steps.{shown_circular}
 use Rattle.wi_propagate.proofs.Showing.{put_alone, shown_value, shown_at_most, shown_evaluations, nothing_found}
 use Rattle.wi_propagate.proofs.value.shown.Goals as goal
 

@@ -1,6 +1,6 @@
 use Rattle.std.proofs.Common.{◌≡◌, ◌++◌, ◌∙◌, List, [], ℕ, sym, ap, append-nil}
 use Rattle.wi_values.specs.declared.value.Value.{Value}
-use Rattle.wi_worlds.proofs.InOrder.{order_from_entries}
+use Rattle.wi_values.proofs.Replacements.InOrder.{order_from_entries}
 use Rattle.wi_worlds.proofs.entries.listed.Goals as goal
 
 -- at the end nothing is left

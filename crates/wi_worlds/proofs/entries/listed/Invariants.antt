@@ -1,5 +1,5 @@
 use Rattle.std.proofs.Common.{◌≡◌, ◌++◌}
-use Rattle.wi_worlds.specs.World.{entries}
+use Rattle.wi_values.specs.Replacements.{entries}
 use Rattle.wi_worlds.proofs.entries.listed.Given as goal
 
 abbrev pub invariant-loop-at : goal.invariant-loop-at

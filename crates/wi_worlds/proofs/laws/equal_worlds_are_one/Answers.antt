@@ -1,13 +1,13 @@
 use Rattle.std.proofs.Common.{◌∙◌, List, sym, ap}
 use Rattle.wi_values.specs.declared.replacement.Replacement.{Replacement}
-use Rattle.wi_worlds.specs.World.{replaced}
-use Rattle.wi_worlds.specs.Compared.{same_world_Decides}
-use Rattle.wi_worlds.proofs.InOrder.{same_from_replaced}
+use Rattle.wi_values.specs.Replacements.{replaced}
+use Rattle.wi_values.proofs.Replacements.Same.{same_replacements_Decides}
+use Rattle.wi_values.proofs.Replacements.InOrder.{same_from_replaced}
 use Rattle.wi_worlds.proofs.laws.equal_worlds_are_one.Goals as goal
 
 pub returns-clause-one : goal.returns-clause-one
 returns-clause-one c =
-    let decides = same_world_Decides c.args.a.now c.args.b.now in
+    let decides = same_replacements_Decides c.args.a.now c.args.b.now in
     (λ t. decides.0 (sym c.eq.ensures ∙ t), λ e. c.eq.ensures ∙ decides.1 e)
 
 pub returns-clause-everywhere : goal.returns-clause-everywhere

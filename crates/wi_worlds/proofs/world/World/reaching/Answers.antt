@@ -1,8 +1,9 @@
 use Rattle.std.proofs.Common.{◌∙◌, ◌++◌, ◌∷◌, List, [], filter, sym, ap, subst}
 use Rattle.wi_values.specs.declared.replacement.Replacement.{Replacement}
-use Rattle.wi_worlds.specs.World.{IsInOrder, replaced}
+use Rattle.wi_values.specs.Replacements.{IsInOrder, replaced}
+use Rattle.wi_values.proofs.Replacements.Filtering.{order_of_filter, replaced-filter}
 use Rattle.wi_worlds.specs.Reaching.{cone_has, reaches}
-use Rattle.wi_worlds.proofs.Filtering.{order_of_filter, kept_more, kept_same, kept_all, replaced-filter}
+use Rattle.wi_worlds.proofs.Filtering.{kept_more, kept_same, kept_all}
 use Rattle.wi_worlds.proofs.world.World.reaching.Goals.{then-reaches+in_ok-copied+in_ok-push, else-reaches}
 use Rattle.wi_worlds.proofs.world.World.reaching.Goals as goal
 

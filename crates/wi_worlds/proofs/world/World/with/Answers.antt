@@ -1,8 +1,8 @@
 use Rattle.std.proofs.Common.{◌≡◌, ◌∙◌, ℕ, List, [], sym, ap, subst}
 use Rattle.wi_values.specs.declared.value.Value.{Value}
 use Rattle.wi_values.specs.declared.replacement.Replacement.{Replacement}
-use Rattle.wi_worlds.specs.World.{IsInOrder, entries, overridden}
-use Rattle.wi_worlds.proofs.Overriding.{overridden-nothing, replaced-overridden}
+use Rattle.wi_values.specs.Replacements.{IsInOrder, entries, overridden}
+use Rattle.wi_values.proofs.Replacements.Overriding.{overridden-nothing, replaced-overridden}
 use Rattle.wi_worlds.proofs.world.World.with.Goals as goal
 
 -- the old replacements are put into an empty map, then the others

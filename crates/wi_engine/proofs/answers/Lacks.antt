@@ -1,0 +1,147 @@
+-- One value more is found, and fewer are lacking.
+use Rattle.std.proofs.Common.{◌≡◌, ◌==◌, ℕ, ◌+◌, ◌<◌, ◌≤◌, Bool, true, false, ◌&&◌, cond, List, [], map, filter, length, Option, Some, None, refl, ap, sym, ◌∙◌, arith, inl, inr, eq-eqb}
+use Rattle.std.proofs.lemmas.Bool.{and_from, and_parts, or_left, or_right}
+use Rattle.std.proofs.lemmas.List.Folds.{list_any-append}
+use Rattle.std.specs.List.{list_any}
+use Rattle.std.specs.Option.{is_none, option_or}
+use Rattle.std.specs.Ordering.{nat_cmp}
+use Rattle.std.specs.Map.{lookup}
+use Rattle.std.specs.BTreeMap.{is_at}
+use Rattle.wi_values.specs.declared.value.Value.{Value}
+use Rattle.wi_parser.specs.declared.expr.Reference.{Reference}
+use Rattle.wi_parser.specs.Tree.{Tree, Trees, number, text, cell, rectangle, parenthesized, signed, percent, binary, what_if, call, no_trees, more_trees}
+use Rattle.wi_parser.specs.Sheet.{Sheet, content_of, has_formula, cells_with_formula}
+use Rattle.wi_functions.specs.Meaning.{addresses}
+use Rattle.wi_functions.specs.Wants.{Asks, AnyAsks}
+use Rattle.wi_functions.specs.declared.evaluation.Want.TheVariants.{WhatIf}
+use Rattle.wi_graph.proofs.Layers.{list_any-both}
+use Rattle.wi_graph.proofs.Walks.{same_cell, found, formula_cell}
+use Rattle.wi_sheet.specs.Demand.{reads_here, formulas_read_here, what_ifs_of, what_ifs_in}
+use Rattle.wi_engine.specs.declared.findings.Findings.{Findings}
+use Rattle.wi_engine.specs.declared.findings.FoundWhatIf.{FoundWhatIf}
+use Rattle.wi_engine.specs.Findings.{same_pairs, pairs_of, first_for, cell_found, what_if_found, IsWithCell, IsWithWhatIf}
+use Rattle.wi_engine.specs.Answers.{lacking}
+use Rattle.wi_engine.proofs.answers.Filters.{PassesToo, at_most_all, all_pass, no_more, fewer}
+use Rattle.wi_engine.proofs.findings.FoundPairs.{same_lists, same_pairs-refl, first_for-push}
+
+-- a cell of which no value was found
+abbrev lacks_cell : Findings → ℕ → Bool
+lacks_cell f c = is_none (cell_found f c)
+
+-- a what-if of which no value was found
+abbrev lacks_what_if : Findings → ℕ × List (ℕ × ℕ) → Bool
+lacks_what_if f x = is_none (what_if_found f x.0 x.1)
+
+-- ---- how many at most
+
+pub lacking_at_most : (s : Sheet) (t : Tree) (f : Findings) → lacking s t f ≤ length (formulas_read_here s t) + length (what_ifs_of t)
+lacking_at_most s t f =
+    let cells = at_most_all (lacks_cell f) (formulas_read_here s t) in
+    let what_ifs = at_most_all (lacks_what_if f) (what_ifs_of t) in
+    omega arith
+
+pub lacking_all : (s : Sheet) (t : Tree) (f : Findings) → f.cells.entries ≡ [] → f.what_ifs.items ≡ [] → lacking s t f ≡ length (formulas_read_here s t) + length (what_ifs_of t)
+lacking_all s t f e g =
+    let cells = all_pass (lacks_cell f) (λ c. ap (λ (es : List (ℕ × Value)). is_none (lookup (is_at (nat_cmp c)) es)) e) (formulas_read_here s t) in
+    let what_ifs = all_pass (lacks_what_if f) (λ x. ap (λ (fs : List FoundWhatIf). is_none (first_for fs x.0 x.1)) g) (what_ifs_of t) in
+    omega arith
+
+-- ---- a cell's value more
+
+module _ (f g : Findings) (a : ℕ) (v : Value) (more : IsWithCell f g a v) where
+  cell_lacked : PassesToo (lacks_cell f) (lacks_cell g)
+  cell_lacked c h = by (a == c) (sym (ap (λ (o : Option Value). is_none o) (more.cells c)) ∙ h)
+    where
+      by : (b : Bool) → is_none (cond b (Some v) (cell_found f c)) ≡ true → is_none (cell_found f c) ≡ true
+      by true k = cc
+      by false k = k
+
+  same_what_ifs : (t : Tree) → length (filter (lacks_what_if g) (what_ifs_of t)) ≡ length (filter (lacks_what_if f) (what_ifs_of t))
+  same_what_ifs t = ap (λ (fs : List FoundWhatIf). length (filter (λ (x : ℕ × List (ℕ × ℕ)). is_none (first_for fs x.0 x.1)) (what_ifs_of t))) more.what_ifs
+
+  -- whichever cell it is of, no more are lacking
+  pub cell_lacks_no_more : (s : Sheet) (t : Tree) → lacking s t g ≤ lacking s t f
+  cell_lacks_no_more s t =
+      let cells = no_more (lacks_cell f) (lacks_cell g) cell_lacked (formulas_read_here s t) in
+      let what_ifs = same_what_ifs t in
+      omega arith
+
+  cell_gone : cell_found f a ≡ None → (c : ℕ) → (c == a) ≡ true → (lacks_cell f c ≡ true) × (lacks_cell g c ≡ false)
+  cell_gone e c h =
+      let is = same_cell a c h in (
+        ap (lacks_cell f) is ∙ ap (λ (o : Option Value). is_none o) e,
+        ap (lacks_cell g) is ∙ ap (λ (o : Option Value). is_none o) (more.cells a) ∙ ap (λ (b : Bool). is_none (cond b (Some v) (cell_found f a))) (eq-eqb a a refl),
+      )
+
+  -- of a cell with a formula that the tree reads as the sheet stands, and that had none, fewer are lacking
+  pub cell_lacks_fewer : (s : Sheet) (t : Tree) → reads_here t a ≡ true → has_formula (content_of s a) ≡ true → cell_found f a ≡ None → lacking s t g < lacking s t f
+  cell_lacks_fewer s t r h e =
+      let listed =
+      sym (list_any-both (λ (x : ℕ). x == a) (reads_here t) (cells_with_formula s))
+      ∙ found (λ (x : ℕ). x == a && reads_here t x) (cells_with_formula s) a (formula_cell s a h) (and_from (a == a) _ (eq-eqb a a refl) r) in
+      let cells = fewer (lacks_cell f) (lacks_cell g) cell_lacked (λ c. c == a) (cell_gone e) (formulas_read_here s t) listed in
+      let what_ifs = same_what_ifs t in
+      omega arith
+
+-- ---- a what-if's value more
+
+-- this what-if
+abbrev is_what_if : FoundWhatIf → ℕ × List (ℕ × ℕ) → Bool
+is_what_if x y = x.at == y.0 && same_pairs (pairs_of x) y.1
+
+mutual
+  asked_what_if : (t : Tree) (x : FoundWhatIf) → Asks t (WhatIf x.at x.pairs) → list_any (is_what_if x) (what_ifs_of t) ≡ true
+  asked_what_if (number n) x h = absurd h
+  asked_what_if (text s) x h = absurd h
+  asked_what_if (cell r) x h = absurd h
+  asked_what_if (rectangle c) x h = absurd h.1
+  asked_what_if (parenthesized t) x h = asked_what_if t x h
+  asked_what_if (signed s t) x h = asked_what_if t x h
+  asked_what_if (percent t) x h = asked_what_if t x h
+  asked_what_if (binary op t u) x (inl h) = list_any-append (is_what_if x) (what_ifs_of t) (what_ifs_of u) ∙ or_left _ _ (asked_what_if t x h)
+  asked_what_if (binary op t u) x (inr h) = list_any-append (is_what_if x) (what_ifs_of t) (what_ifs_of u) ∙ or_right _ _ (asked_what_if u x h)
+  asked_what_if (what_if f ps) x h =
+      let at = ap (λ (n : ℕ). x.at == n) (sym h.0) ∙ eq-eqb x.at x.at refl in
+      let pairs = ap (λ (qs : List (Reference × Reference)). same_pairs (pairs_of x) (map addresses qs)) (sym h.1) ∙ same_pairs-refl (pairs_of x) in
+      or_left (is_what_if x (f.at, map addresses ps)) false (and_from (x.at == f.at) _ at pairs)
+  asked_what_if (call f ts) x h = any_asked_what_if ts x h
+
+  any_asked_what_if : (ts : Trees) (x : FoundWhatIf) → AnyAsks ts (WhatIf x.at x.pairs) → list_any (is_what_if x) (what_ifs_in ts) ≡ true
+  any_asked_what_if no_trees x h = absurd h
+  any_asked_what_if (more_trees t ts) x (inl h) = list_any-append (is_what_if x) (what_ifs_of t) (what_ifs_in ts) ∙ or_left _ _ (asked_what_if t x h)
+  any_asked_what_if (more_trees t ts) x (inr h) = list_any-append (is_what_if x) (what_ifs_of t) (what_ifs_in ts) ∙ or_right _ _ (any_asked_what_if ts x h)
+
+module _ (f g : Findings) (x : FoundWhatIf) (more : IsWithWhatIf f g x) where
+  what_if_lacked : PassesToo (lacks_what_if f) (lacks_what_if g)
+  what_if_lacked y h = by (first_for f.what_ifs.items y.0 y.1) (sym (ap (λ (fs : List FoundWhatIf). is_none (first_for fs y.0 y.1)) more.what_ifs ∙ ap (λ (o : Option Value). is_none o) (first_for-push f.what_ifs.items x y.0 y.1)) ∙ h)
+    where
+      by : (o : Option Value) → is_none (option_or o (cond (is_what_if x y) (Some x.value) None)) ≡ true → is_none o ≡ true
+      by None k = refl
+      by (Some w) k = k
+
+  fewer_cells : (xs : List ℕ) → length (filter (lacks_cell g) xs) ≤ length (filter (lacks_cell f) xs)
+  fewer_cells xs = no_more (lacks_cell f) (lacks_cell g) (λ c h. sym (ap (λ (o : Option Value). is_none o) (more.cells c)) ∙ h) xs
+
+  -- whichever what-if it is of, no more are lacking
+  pub what_if_lacks_no_more : (s : Sheet) (t : Tree) → lacking s t g ≤ lacking s t f
+  what_if_lacks_no_more s t =
+      let cells = fewer_cells (formulas_read_here s t) in
+      let what_ifs = no_more (lacks_what_if f) (lacks_what_if g) what_if_lacked (what_ifs_of t) in
+      omega arith
+
+  what_if_gone : what_if_found f x.at (pairs_of x) ≡ None → (y : ℕ × List (ℕ × ℕ)) → is_what_if x y ≡ true → (lacks_what_if f y ≡ true) × (lacks_what_if g y ≡ false)
+  what_if_gone e y h =
+      let parts = and_parts (x.at == y.0) _ h in
+      let there : what_if_found f y.0 y.1 ≡ None =
+      ap (λ (n : ℕ). what_if_found f n y.1) (sym (same_cell y.0 x.at parts.0)) ∙ ap (what_if_found f x.at) (sym (same_lists (pairs_of x) y.1 parts.1)) ∙ e in
+      let now : what_if_found g y.0 y.1 ≡ Some x.value =
+      ap (λ (fs : List FoundWhatIf). first_for fs y.0 y.1) more.what_ifs ∙ first_for-push f.what_ifs.items x y.0 y.1
+      ∙ ap (λ (o : Option Value). option_or o (cond (is_what_if x y) (Some x.value) None)) there ∙ ap (λ (b : Bool). cond b (Some x.value) None) h in
+      (ap (λ (o : Option Value). is_none o) there, ap (λ (o : Option Value). is_none o) now)
+
+  -- of one that the tree asks for, and that had none, fewer are lacking
+  pub what_if_lacks_fewer : (s : Sheet) (t : Tree) → Asks t (WhatIf x.at x.pairs) → what_if_found f x.at (pairs_of x) ≡ None → lacking s t g < lacking s t f
+  what_if_lacks_fewer s t asks e =
+      let cells = fewer_cells (formulas_read_here s t) in
+      let what_ifs = fewer (lacks_what_if f) (lacks_what_if g) what_if_lacked (is_what_if x) (what_if_gone e) (what_ifs_of t) (asked_what_if t x asks) in
+      omega arith

@@ -1,0 +1,154 @@
+-- The cells of one rectangle that a formula reads.
+use Rattle.std.proofs.Common.{◌≡◌, ◌==◌, ℕ, ◌||◌, ◌&&◌, Bool, true, false, cond, List, [], ◌∷◌, ◌++◌, map, filter, refl, ap, sym, ◌∙◌, subst, inl, inr, ◌⊎◌, eq-eqb}
+use Rattle.std.proofs.lemmas.Bool.{and_from, and_parts, or_left, or_right}
+use Rattle.std.specs.List.{list_any, AllByRecursion}
+use Rattle.std.specs.Map.{keys_of}
+use Rattle.wi_values.specs.Address.{Area, is_within}
+use Rattle.wi_parser.specs.declared.expr.Reference.{Reference}
+use Rattle.wi_parser.specs.Tree.{Tree, Trees, number, text, cell, rectangle, parenthesized, signed, percent, binary, what_if, call, no_trees, more_trees}
+use Rattle.wi_parser.specs.Sheet.{Sheet, content_of, has_formula, cells_with_formula}
+use Rattle.wi_parser.specs.Reads.{cell_area, reads, any_reads, rectangles_of, all_rectangles_of}
+use Rattle.wi_parser.proofs.Rectangles.{one_cell, reads_within}
+use Rattle.wi_graph.specs.Reach.{is_one_of}
+use Rattle.wi_graph.proofs.Layers.{list_any-both}
+use Rattle.wi_graph.proofs.Walks.{same_cell, found, finds, formula_cell}
+use Rattle.wi_sheet.specs.Demand.{reads_here, any_reads_here}
+use Rattle.wi_sheet.proofs.Members.{IsIn, in_contained}
+use Rattle.wi_engine.specs.Answers.{IsSmallestWith, AreOfRectangle}
+
+-- ---- a rectangle is of one cell, or each of its cells is read here
+
+abbrev IsSingle : Area → Type 0
+IsSingle r = (a d : ℕ) → is_within r a ≡ true → is_within r d ≡ true → a ≡ d
+
+-- each cell of the rectangle passes the test, where it has more than one
+abbrev IsWhole : (ℕ → Bool) → Area → Type 0
+IsWhole p r = IsSingle r ⊎ ((d : ℕ) → is_within r d ≡ true → p d ≡ true)
+
+single : (c : ℕ) → IsSingle (cell_area c)
+single c a d h k = sym (same_cell a c (sym (one_cell c a) ∙ h)) ∙ same_cell d c (sym (one_cell c d) ∙ k)
+
+more_pass : (p q : ℕ → Bool) → ((d : ℕ) → p d ≡ true → q d ≡ true) → (r : Area) → IsWhole p r → IsWhole q r
+more_pass p q k r (inl h) = inl h
+more_pass p q k r (inr h) = inr (λ d m. k d (h d m))
+
+all_more_pass : (p q : ℕ → Bool) → ((d : ℕ) → p d ≡ true → q d ≡ true) → (rs : List Area) → AllByRecursion (IsWhole p) rs → AllByRecursion (IsWhole q) rs
+all_more_pass p q k [] h = tt
+all_more_pass p q k (r ∷ rs) h = (more_pass p q k r h.0, all_more_pass p q k rs h.1)
+
+joined : (p : ℕ → Bool) (rs ss : List Area) → AllByRecursion (IsWhole p) rs → AllByRecursion (IsWhole p) ss → AllByRecursion (IsWhole p) (rs ++ ss)
+joined p [] ss h k = k
+joined p (r ∷ rs) ss h k = (h.0, joined p rs ss h.1 k)
+
+singles : (p : ℕ → Bool) (ps : List (Reference × Reference)) → AllByRecursion (IsWhole p) (map (λ x. cell_area x.1.at) ps)
+singles p [] = tt
+singles p (x ∷ ps) = (inl (single x.1.at), singles p ps)
+
+mutual
+  wholes : (t : Tree) → AllByRecursion (IsWhole (reads_here t)) (rectangles_of t)
+  wholes (number x) = tt
+  wholes (text s) = tt
+  wholes (cell r) = (inl (single r.at), tt)
+  wholes (rectangle c) = (inr (λ d m. m), tt)
+  wholes (parenthesized t) = wholes t
+  wholes (signed s t) = wholes t
+  wholes (percent t) = wholes t
+  wholes (binary op t u) =
+      joined (reads_here (binary op t u)) (rectangles_of t) (rectangles_of u)
+      (all_more_pass (reads_here t) (reads_here (binary op t u)) (λ d m. or_left (reads_here t d) (reads_here u d) m) (rectangles_of t) (wholes t))
+      (all_more_pass (reads_here u) (reads_here (binary op t u)) (λ d m. or_right (reads_here t d) (reads_here u d) m) (rectangles_of u) (wholes u))
+  wholes (what_if f ps) = (inl (single f.at), singles (reads_here (what_if f ps)) ps)
+  wholes (call f ts) = all_wholes ts
+
+  all_wholes : (ts : Trees) → AllByRecursion (IsWhole (any_reads_here ts)) (all_rectangles_of ts)
+  all_wholes no_trees = tt
+  all_wholes (more_trees t ts) =
+      joined (any_reads_here (more_trees t ts)) (rectangles_of t) (all_rectangles_of ts)
+      (all_more_pass (reads_here t) (any_reads_here (more_trees t ts)) (λ d m. or_left (reads_here t d) (any_reads_here ts d) m) (rectangles_of t) (wholes t))
+      (all_more_pass (any_reads_here ts) (any_reads_here (more_trees t ts)) (λ d m. or_right (reads_here t d) (any_reads_here ts d) m) (all_rectangles_of ts) (all_wholes ts))
+
+-- ---- what is read here is read
+
+either : (b c d e : Bool) → (b ≡ true → d ≡ true) → (c ≡ true → e ≡ true) → (b || c) ≡ true → (d || e) ≡ true
+either true c d e k l h = or_left d e (k refl)
+either false c d e k l h = or_right d e (l h)
+
+mutual
+  pub here_is_read : (t : Tree) (a : ℕ) → reads_here t a ≡ true → reads t a ≡ true
+  here_is_read (number x) a h = h
+  here_is_read (text s) a h = h
+  here_is_read (cell r) a h = h
+  here_is_read (rectangle c) a h = h
+  here_is_read (parenthesized t) a h = here_is_read t a h
+  here_is_read (signed s t) a h = here_is_read t a h
+  here_is_read (percent t) a h = here_is_read t a h
+  here_is_read (binary op t u) a h = either (reads_here t a) (reads_here u a) (reads t a) (reads u a) (here_is_read t a) (here_is_read u a) h
+  here_is_read (what_if f ps) a h = or_right (f.at == a) _ h
+  here_is_read (call f ts) a h = any_here_is_read ts a h
+
+  any_here_is_read : (ts : Trees) (a : ℕ) → any_reads_here ts a ≡ true → any_reads ts a ≡ true
+  any_here_is_read no_trees a h = h
+  any_here_is_read (more_trees t ts) a h = either (reads_here t a) (any_reads_here ts a) (reads t a) (any_reads ts a) (here_is_read t a) (any_here_is_read ts a) h
+
+-- a cell that is read here is in one of the rectangles
+pub in_one_of : (t : Tree) (rs : List Area) (a : ℕ) → rs ≡ rectangles_of t → reads_here t a ≡ true → list_any (λ (r : Area). is_within r a) rs ≡ true
+in_one_of t rs a e h = ap (λ (xs : List Area). list_any (λ (r : Area). is_within r a) xs) e ∙ sym (reads_within t a) ∙ here_is_read t a h
+
+-- a rectangle that holds the cell is of one cell, or each of its cells is read here
+smallest_whole : (t : Tree) (rs : List Area) (a : ℕ) (r : Area) → rs ≡ rectangles_of t → IsSmallestWith rs a r → IsWhole (reads_here t) r
+smallest_whole t rs a r e h = all_in (IsWhole (reads_here t)) rs r (subst (AllByRecursion (IsWhole (reads_here t))) (sym e) (wholes t)) (in_contained rs r h.one_of)
+  where
+    all_in : (P : Area → Type 0) (xs : List Area) (x : Area) → AllByRecursion P xs → IsIn xs x → P x
+    all_in P [] x h m = absurd m
+    all_in P (y ∷ xs) x h (inl same) = subst P same h.0
+    all_in P (y ∷ xs) x h (inr m) = all_in P xs x h.1 m
+
+-- ---- the cells with a formula of a rectangle
+
+-- a cell with a formula is among those of a rectangle that holds it
+pub among_them : (s : Sheet) (rs : List Area) (r : Area) (cells : List ℕ) (a : ℕ) → IsSmallestWith rs a r →
+    cells ≡ filter (is_within r) (cells_with_formula s) → has_formula (content_of s a) ≡ true → is_one_of cells a ≡ true
+among_them s rs r cells a k f h =
+    ap (λ (xs : List ℕ). is_one_of xs a) f
+    ∙ sym (list_any-both (λ (x : ℕ). x == a) (is_within r) (cells_with_formula s))
+    ∙ found (λ (x : ℕ). x == a && is_within r x) (cells_with_formula s) a (formula_cell s a h) (and_from (a == a) _ (eq-eqb a a refl) k.holds)
+
+-- one of those that pass a test passes it
+passes : (p : ℕ → Bool) (xs : List ℕ) (a : ℕ) → is_one_of (filter p xs) a ≡ true → p a ≡ true
+passes p xs a h =
+    let one = finds (λ (x : ℕ). x == a && p x) xs (list_any-both (λ (x : ℕ). x == a) p xs ∙ h) in
+    let parts = and_parts (one.0 == a) _ one.1 in
+    ap p (sym (same_cell a one.0 parts.0)) ∙ parts.1
+
+later : (b m n : Bool) → (m ≡ true → n ≡ true) → (b || m) ≡ true → (b || n) ≡ true
+later true m n k h = refl
+later false m n k h = k h
+
+-- one of those that pass a test is one of all
+wider : (p : ℕ → Bool) (xs : List ℕ) (a : ℕ) → is_one_of (filter p xs) a ≡ true → is_one_of xs a ≡ true
+wider p [] a h = h
+wider p (x ∷ xs) a h = at (p x) h (wider p xs a)
+  where
+    at : (b : Bool) → is_one_of (cond b (x ∷ filter p xs) (filter p xs)) a ≡ true → (is_one_of (filter p xs) a ≡ true → is_one_of xs a ≡ true) → (x == a || is_one_of xs a) ≡ true
+    at true h ih = later (x == a) (is_one_of (filter p xs) a) (is_one_of xs a) ih h
+    at false h ih = or_right (x == a) _ (ih h)
+
+-- each of them has a formula, and is read here
+pub they_are_read : (s : Sheet) (t : Tree) (rs : List Area) (r : Area) (cells : List ℕ) (a : ℕ) → rs ≡ rectangles_of t → IsSmallestWith rs a r →
+    cells ≡ filter (is_within r) (cells_with_formula s) → reads_here t a ≡ true → (d : ℕ) → is_one_of cells d ≡ true → (reads_here t d ≡ true) × (has_formula (content_of s d) ≡ true)
+they_are_read s t rs r cells a e k f h d m =
+    let listed = ap (λ (xs : List ℕ). is_one_of xs d) (sym f) ∙ m in
+    (at (smallest_whole t rs a r e k) k.holds (passes (is_within r) (cells_with_formula s) d listed), passes (λ c. has_formula (content_of s c)) (keys_of s) d (wider (is_within r) (cells_with_formula s) d listed))
+  where
+    at : IsWhole (reads_here t) r → is_within r a ≡ true → is_within r d ≡ true → reads_here t d ≡ true
+    at (inl single) w inside = ap (reads_here t) (single d a inside w) ∙ h
+    at (inr whole) w inside = whole d inside
+
+-- they are those of one rectangle
+pub of_rectangle : (s : Sheet) (t : Tree) (rs : List Area) (r : Area) (cells : List ℕ) (a : ℕ) → rs ≡ rectangles_of t → IsSmallestWith rs a r →
+    cells ≡ filter (is_within r) (cells_with_formula s) → AreOfRectangle s t a cells
+of_rectangle s t rs r cells a e k f = record {
+  rectangle = r;
+  smallest = subst (λ (xs : List Area). IsSmallestWith xs a r) e k;
+  cells = f;
+}

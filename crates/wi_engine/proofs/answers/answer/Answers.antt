@@ -1,0 +1,13 @@
+use Rattle.std.proofs.Common.{ap, sym}
+use Rattle.std.proofs.lemmas.Result.{IfOk-weaker}
+use Rattle.wi_engine.proofs.answers.Answering.{done_with}
+use Rattle.wi_engine.proofs.answers.answer.Goals as goal
+
+pub returns-clause-done : goal.returns-clause-done
+returns-clause-done c =
+    let known = c.new-known.result in
+    let stands = c.new-known.ensures in
+    IfOk-weaker c.evaluate.result _ _
+    (λ o h. done_with c.args.store.now.sheet known.store.now.sheet c.args.world.now known.world.now c.args.found.now known.found.now c.args.at c.in-Formula.formula.now o
+    (ap (λ k. k.sheet) stands.store) stands.world stands.found c.requires.open (sym c.in-Formula.ensures) c.requires.right h)
+    c.evaluate.ensures.done

@@ -1,0 +1,2 @@
+-- What the proofs about cones use.
+pub mod ConeSteps

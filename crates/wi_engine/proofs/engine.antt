@@ -1,0 +1,9 @@
+-- What the proofs about the frames use.
+pub mod Awaiting
+pub mod Budgets
+pub mod Ranks
+pub mod Resting
+pub mod Rightness
+pub mod Running
+pub mod Settling
+pub mod Stacks

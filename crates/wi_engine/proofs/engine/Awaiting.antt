@@ -1,0 +1,152 @@
+-- What a frame waits for, and what it gets.
+use Rattle.std.proofs.Common.{◌≡◌, ◌==◌, ◌+◌, ◌<◌, ◌≤◌, ℕ, zero, suc, Bool, true, false, ◌||◌, cond, List, [], ◌∷◌, ◌++◌, map, filter, length, get_or, Option, Some, None, refl, ap, sym, ◌∙◌, arith, eq-eqb}
+use Rattle.std.proofs.lemmas.Bool.{or_left, or_right}
+use Rattle.std.specs.List.{list_any}
+use Rattle.std.specs.Option.{is_none}
+use Rattle.std.specs.Global.{Vec}
+use Rattle.wi_values.specs.declared.value.Value.{Value}
+use Rattle.wi_values.specs.declared.replacement.Replacement.{Replacement}
+use Rattle.wi_parser.specs.declared.expr.Pair.{Pair}
+use Rattle.wi_parser.specs.View.{pair_of}
+use Rattle.wi_parser.specs.Tree.{Tree}
+use Rattle.wi_parser.specs.declared.content.Content.{Content}
+use Rattle.wi_parser.specs.declared.content.Content.TheVariants.{Formula}
+use Rattle.wi_parser.specs.Sheet.{Sheet, constant, content_of, put_all, has_formula, cells_with_formula}
+use Rattle.wi_functions.specs.declared.evaluation.Want.{Want}
+use Rattle.wi_functions.specs.declared.evaluation.Want.TheVariants as wanted
+use Rattle.wi_cache.specs.declared.key.Key.{Key}
+use Rattle.wi_graph.specs.Reach.{is_one_of}
+use Rattle.wi_graph.proofs.Walks.{formula_cell}
+use Rattle.wi_sheet.specs.CellValue.{cell_value, what_if_value}
+use Rattle.wi_sheet.specs.Demand.{Case, what_ifs_of, reads_here, formulas_read_here, of_formula}
+use Rattle.wi_sheet.proofs.Puts.{overlaid, content_of-put_all, plain}
+use Rattle.wi_sheet.proofs.Bounds.{put_formula}
+use Rattle.wi_sheet.proofs.Members.{IsIn, in_filter}
+use Rattle.wi_sheet.proofs.Asked.{asked_cell}
+use Rattle.wi_engine.specs.Memory.{Memory}
+use Rattle.wi_engine.specs.Findings.{pairs_of, cell_found, what_if_found, AreAllRight, IsWithCell, IsWithWhatIf}
+use Rattle.wi_engine.specs.Answers.{AsksAt, IsLacking, lacking}
+use Rattle.wi_engine.specs.Frames.{case_at, content_reads_here, AreReadHere, Awaits, IsUnvalued, IsFrame, lacks, waits}
+use Rattle.wi_engine.specs.declared.findings.Findings.{Findings}
+use Rattle.wi_engine.specs.declared.findings.FoundWhatIf.{FoundWhatIf}
+use Rattle.wi_engine.specs.declared.frame.Frame.{Frame}
+use Rattle.wi_engine.specs.declared.frame.Waiting.{Waiting}
+use Rattle.wi_engine.specs.declared.frame.Waiting.TheVariants.{Nothing, Cells, WhatIf}
+use Rattle.wi_engine.proofs.answers.Lacks.{cell_lacks_fewer, what_if_lacks_fewer}
+use Rattle.wi_engine.proofs.engine.Resting.{named, is_in, asked_in, tree_with}
+
+in_front : (xs ys : List ℕ) (d : ℕ) → is_one_of xs d ≡ true → is_one_of (xs ++ ys) d ≡ true
+in_front [] ys d h = cc
+in_front (x ∷ xs) ys d h = at (x == d) h (in_front xs ys d)
+  where
+    at : (b : Bool) → (b || is_one_of xs d) ≡ true → (is_one_of xs d ≡ true → is_one_of (xs ++ ys) d ≡ true) → (b || is_one_of (xs ++ ys) d) ≡ true
+    at true h ih = refl
+    at false h ih = ih h
+
+in_back : (xs ys : List ℕ) (d : ℕ) → is_one_of ys d ≡ true → is_one_of (xs ++ ys) d ≡ true
+in_back [] ys d h = h
+in_back (x ∷ xs) ys d h = or_right (x == d) _ (in_back xs ys d h)
+
+pub read_front : (s : Sheet) (k : Case) (xs ys : List ℕ) → AreReadHere s k (xs ++ ys) → AreReadHere s k xs
+read_front s k xs ys h = λ d i. h d (in_front xs ys d i)
+
+pub read_back : (s : Sheet) (k : Case) (xs ys : List ℕ) → AreReadHere s k (xs ++ ys) → AreReadHere s k ys
+read_back s k xs ys h = λ d i. h d (in_back xs ys d i)
+
+-- ---- a what-if's inputs
+
+-- a pair of a list is found in it by its replacement cell
+pair_found : (pairs : List Pair) (i : ℕ) (x : Pair) → i < length pairs → x ≡ get_or pairs i x → list_any (λ p. p.1.at == x.by.at) (map pair_of pairs) ≡ true
+pair_found [] i x h e = absurd (omega arith)
+pair_found (p ∷ ps) zero x h e = or_left (p.by.at == x.by.at) _ (eq-eqb p.by.at x.by.at (ap (λ (y : Pair). y.by.at) (sym e)))
+pair_found (p ∷ ps) (suc i) x h e = or_right (p.by.at == x.by.at) _ (pair_found ps i x (omega arith) e)
+
+pub input_unvalued : (s : Sheet) (m n : Memory) (w : List Replacement) (pairs : List Pair) (i : ℕ) (x : Pair) (k : Key) → i < length pairs → x ≡ get_or pairs i x → n ≡ m → IsUnvalued s n w x.by.at k →
+    (list_any (λ p. p.1.at == k.cell) (map pair_of pairs) ≡ true) × IsUnvalued s m w k.cell k
+input_unvalued s m n w pairs i x k h e en u =
+    let same = rw en at u in
+    (ap (λ (a : ℕ). list_any (λ p. p.1.at == a) (map pair_of pairs)) u.cell ∙ pair_found pairs i x h e, rw (← u.cell) at same)
+
+-- ---- what a formula asks for
+
+overlaid_is : (p : List Replacement) (c : ℕ) (o : Option Content) (t : Tree) → overlaid p c o ≡ Some (Formula t) → o ≡ Some (Formula t)
+overlaid_is [] c o t h = h
+overlaid_is (r ∷ rs) c o t h = at (c == r.at) (overlaid_is rs c (cond (c == r.at) (constant r.value) o) t h)
+  where
+    at : (b : Bool) → cond b (constant r.value) o ≡ Some (Formula t) → o ≡ Some (Formula t)
+    at true k = let z = plain r.value in let y = ap has_formula k in cc
+    at false k = k
+
+-- a formula under replacements is the sheet's
+formula_is : (s : Sheet) (k : Case) (t u : Tree) → content_of (put_all s k.1) k.0 ≡ Some (Formula t) → content_of s k.0 ≡ Some (Formula u) → t ≡ u
+formula_is s k t u e h = let there = overlaid_is k.1 k.0 (content_of s k.0) t (sym (content_of-put_all s k.1 k.0) ∙ e) in cc
+
+pub cell_here : (s : Sheet) (k : Case) (want : Want) (t : Tree) (a : ℕ) → AsksAt s k.1 k.0 want → want ≡ wanted.Cell a → content_of s k.0 ≡ Some (Formula t) → reads_here t a ≡ true
+cell_here s k want t a h e i =
+    let asks = rw e at h.asks in
+    ap (λ (u : Tree). reads_here u a) (sym (formula_is s k h.tree t h.is i)) ∙ asked_cell h.tree a asks
+
+pub awaits_cells : (s : Sheet) (k : Key) (f : Findings) (want : Want) (t : Tree) (a : ℕ) (others : Vec ℕ) → AsksAt s k.world k.cell want → IsLacking s k.world f want → want ≡ wanted.Cell a →
+    content_of s k.cell ≡ Some (Formula t) → ((d : ℕ) → is_one_of others.items d ≡ true → (reads_here t d ≡ true) × (has_formula (content_of s d) ≡ true)) → Awaits s (case_at k) f (Cells a others)
+awaits_cells s k f want t a others h l e i r =
+    let lacking = rw e at l in
+    let here = λ (d : ℕ). ap (λ (o : Option Content). content_reads_here o d) h.is ∙ ap (λ (u : Tree). reads_here u d) (formula_is s (case_at k) h.tree t h.is i) in
+    (lacking, here a ∙ cell_here s (case_at k) want t a h e i, put_formula s k.world a lacking.0, λ d m. (here d ∙ (r d m).0, (r d m).1))
+
+-- ---- how much is lacking
+
+lacks_at : (s : Sheet) (k : Key) (f : Findings) (t : Tree) → content_of (put_all s k.world) k.cell ≡ Some (Formula t) → lacks s k f ≡ lacking s t f
+lacks_at s k f t e = ap (λ (o : Option Content). of_formula o 0 (λ u. lacking s u f)) e
+
+in_some : {X : Type 0} (xs : List X) (x : X) → IsIn xs x → 1 ≤ length xs
+in_some [] x h = absurd h
+in_some (y ∷ xs) x h = omega arith
+
+pub some_cell : (s : Sheet) (k : Key) (f : Findings) (a : ℕ) → cell_found f a ≡ None → content_reads_here (content_of (put_all s k.world) k.cell) a ≡ true → has_formula (content_of s a) ≡ true → 1 ≤ lacks s k f
+some_cell s k f a l h g =
+    let t = tree_with (content_of (put_all s k.world) k.cell) (λ t. reads_here t a) h in
+    let read = in_filter (reads_here t.0) (cells_with_formula s) a (is_in (cells_with_formula s) a (formula_cell s a g)) t.2 in
+    let n = in_some (filter (λ c. is_none (cell_found f c)) (formulas_read_here s t.0)) a (in_filter (λ c. is_none (cell_found f c)) (formulas_read_here s t.0) a read (ap (λ (o : Option Value). is_none o) l)) in
+    let e = lacks_at s k f t.0 t.1 in
+    omega (arith, n, e)
+
+pub some_what_if : (s : Sheet) (k : Key) (f : Findings) (a : ℕ) (pairs : Vec Pair) → what_if_found f a (named a pairs).1 ≡ None → AsksAt s k.world k.cell (wanted.WhatIf a pairs) → 1 ≤ lacks s k f
+some_what_if s k f a pairs l h =
+    let n = in_some (filter (λ x. is_none (what_if_found f x.0 x.1)) (what_ifs_of h.tree)) (named a pairs)
+    (in_filter (λ (x : ℕ × List (ℕ × ℕ)). is_none (what_if_found f x.0 x.1)) (what_ifs_of h.tree) (named a pairs) (asked_in h.tree a pairs h.asks) (ap (λ (o : Option Value). is_none o) l)) in
+    let e = lacks_at s k f h.tree h.is in
+    omega (arith, n, e)
+
+-- what is waited for is lacking
+pub some_lacks : (s : Sheet) (k : Key) (f : Findings) (w : Waiting) → Awaits s (case_at k) f w → waits w ≤ lacks s k f
+some_lacks s k f Nothing h = omega arith
+some_lacks s k f (Cells a others) h = some_cell s k f a h.0.1 h.1 h.2
+some_lacks s k f (WhatIf a pairs) h = some_what_if s k f a pairs h.0 h.1
+
+-- with a cell's value that was lacking, less is lacking
+pub cell_falls : (s : Sheet) (k : Key) (f g : Findings) (a : ℕ) (v : Value) → IsWithCell f g a v → cell_found f a ≡ None → content_reads_here (content_of (put_all s k.world) k.cell) a ≡ true →
+    has_formula (content_of s a) ≡ true → lacks s k g + 1 ≤ lacks s k f
+cell_falls s k f g a v more l h i =
+    let t = tree_with (content_of (put_all s k.world) k.cell) (λ t. reads_here t a) h in
+    let less = cell_lacks_fewer f g a v more s t.0 t.2 i l in
+    let e = lacks_at s k f t.0 t.1 in
+    let d = lacks_at s k g t.0 t.1 in
+    omega (arith, less, e, d)
+
+-- and with a what-if's
+pub what_if_falls : (s : Sheet) (k : Key) (f g : Findings) (x : FoundWhatIf) → IsWithWhatIf f g x → AsksAt s k.world k.cell (wanted.WhatIf x.at x.pairs) → what_if_found f x.at (pairs_of x) ≡ None → lacks s k g + 1 ≤ lacks s k f
+what_if_falls s k f g x more h l =
+    let less = what_if_lacks_fewer f g x more s h.tree h.asks l in
+    let e = lacks_at s k f h.tree h.is in
+    let d = lacks_at s k g h.tree h.is in
+    omega (arith, less, e, d)
+
+-- ---- the same frame with other values or waiting for something else
+
+pub frame_with : (s : Sheet) (m : Memory) (f g : Frame) → IsFrame s m f → g.key ≡ f.key → AreAllRight (cell_value (put_all s f.key.world)) (what_if_value (put_all s f.key.world)) g.found →
+    Awaits s (case_at f.key) g.found g.waiting → IsFrame s m g
+frame_with s m f g h e r a = record {
+  key = rw e h.key;
+  found = rw e r;
+  waiting = rw e a;
+}

@@ -1,0 +1,192 @@
+-- On which cases the value of a case rests.
+use Rattle.std.proofs.Common.{◌≡◌, ◌==◌, ℕ, Bool, true, false, ◌||◌, List, [], ◌∷◌, map, Option, Some, None, refl, ap, sym, ◌∙◌, subst, inl, inr, arith}
+use Rattle.std.proofs.lemmas.Bool.{or_left, or_right, false_from_ne_true}
+use Rattle.std.proofs.lemmas.Bool.Decides.{nat_tests}
+use Rattle.std.specs.List.{list_any}
+use Rattle.std.specs.Global.{Vec}
+use Rattle.wi_values.specs.declared.value.Value.{Value}
+use Rattle.wi_values.specs.declared.value.Value.TheVariants.{Empty}
+use Rattle.wi_values.specs.declared.replacement.Replacement.{Replacement}
+use Rattle.wi_parser.specs.declared.expr.Pair.{Pair}
+use Rattle.wi_parser.specs.declared.expr.Reference.{Reference}
+use Rattle.wi_parser.specs.Tree.{Tree, Trees, number, text, cell, rectangle, parenthesized, signed, percent, binary, what_if, call, no_trees, more_trees}
+use Rattle.wi_parser.specs.View.{pair_of}
+use Rattle.wi_parser.specs.declared.content.Content.{Content}
+use Rattle.wi_parser.specs.declared.content.Content.TheVariants.{Constant, Formula}
+use Rattle.wi_parser.specs.Sheet.{Sheet, content_of, put_all, has_formula, cells_with_formula}
+use Rattle.wi_parser.specs.Reads.{content_reads}
+use Rattle.wi_functions.specs.Meaning.{addresses}
+use Rattle.wi_functions.specs.Wants.{Asks, AnyAsks}
+use Rattle.wi_functions.specs.declared.evaluation.Want.TheVariants.{WhatIf}
+use Rattle.wi_cache.specs.declared.key.Key.{Key}
+use Rattle.wi_graph.specs.Circular.{circular}
+use Rattle.wi_graph.specs.Reach.{is_one_of}
+use Rattle.wi_graph.proofs.Walks.{formula_cell, circular_walks}
+use Rattle.wi_sheet.specs.CellValue.{value_of, cell_value}
+use Rattle.wi_sheet.specs.Demand.{Case, case_of, reaching, with_what_if, what_ifs_of, reads_here, any_reads_here, formulas_read_here, rests_on, of_formula}
+use Rattle.wi_sheet.specs.Spending.{RestsOn}
+use Rattle.wi_sheet.proofs.Bounds.{put_formula, put_reads, tree_reads}
+use Rattle.wi_sheet.proofs.Steps.{value_plain, reads_not_circular}
+use Rattle.wi_sheet.proofs.Overrides.{reaching_suffices}
+use Rattle.wi_sheet.proofs.Members.{IsIn, in_contained, contains_in, in_left, in_right, in_map, in_filter}
+use Rattle.wi_sheet.proofs.SmallerWorlds.{content_below}
+use Rattle.wi_sheet.proofs.Asked.{asked_what_if}
+use Rattle.wi_sheet.proofs.Demands.{here_reads, what_if_reads}
+use Rattle.wi_engine.specs.Memory.{Memory, IsMemoryOf}
+use Rattle.wi_engine.specs.Answers.{AsksAt}
+use Rattle.wi_engine.specs.Frames.{case_at, content_reads_here, MayBeRead, IsUnvalued, IsNext}
+
+-- ---- a cell without a formula, and one with a formula
+
+-- a cell without a formula shows what stands there
+pub plain_cell : (s : Sheet) (c : ℕ) (o : Option Content) → content_of s c ≡ o → has_formula o ≡ false → cell_value s c ≡ value_of o (λ t. Empty)
+plain_cell s c o e h =
+    value_plain s c (false_from_ne_true (circular s c) (λ w. let z = circular_walks s c w 0 in let y = ap has_formula e in cc)) (ap has_formula e ∙ h)
+    ∙ ap (λ (x : Option Content). value_of x (λ t. Empty)) e
+
+-- ---- what is read
+
+pub may_be_read : (s : Sheet) (m : Memory) (c a : ℕ) → IsMemoryOf s m → circular s c ≡ false → m.covers c ≡ true → content_reads (content_of s c) a ≡ true → MayBeRead s m a
+may_be_read s m c a h o v r = record {
+  open_cell = reads_not_circular s c a r o;
+  covered = λ f. h.closed c a v r f;
+}
+
+-- the key of a cell with a formula, for which nothing is remembered
+pub unvalued : (s : Sheet) (m n : Memory) (w : List Replacement) (a : ℕ) (k : Key) → IsMemoryOf s m → MayBeRead s m a → has_formula (content_of (put_all s w) a) ≡ true → n ≡ m →
+    k.cell ≡ a → k.world ≡ reaching m.sheet a w → k.generation ≡ m.generation a → n.found k.cell k.world ≡ false → IsUnvalued s m w a k
+unvalued s m n w a k h r f en ec ew eg u =
+    let there : k.world ≡ reaching s a w = ew ∙ ap (λ (t : Sheet). reaching t a w) h.sheet in
+    record {
+      formula = f;
+      cell = ec;
+      world = there;
+      key = record {
+        formula = rw (ec, there) (ap has_formula (content_below s a w) ∙ f);
+        open_cell = rw ec r.open_cell;
+        covered = rw ec (r.covered (put_formula s w a f));
+        generation = rw ec eg;
+      };
+      unfound = rw en at u;
+    }
+
+-- what is remembered under the key of a cell is its value
+pub known_value : (s : Sheet) (m n : Memory) (w : List Replacement) (a : ℕ) (k : Key) (v : Value) → IsMemoryOf s m → n ≡ m → k.cell ≡ a → k.world ≡ reaching m.sheet a w →
+    Some v ≡ n.known k.cell k.world → v ≡ cell_value (put_all s w) a
+known_value s m n w a k v h en ec ew e =
+    let there : k.world ≡ reaching s a w = ew ∙ ap (λ (t : Sheet). reaching t a w) h.sheet in
+    let stands : m.known a (reaching s a w) ≡ Some v = rw (en, ec, there) at (sym e) in
+    rw stands at (h.right a (reaching s a w)) ∙ reaching_suffices s w a
+
+-- ---- what is asked for
+
+mutual
+  -- the replacement cells of a what-if that is asked for are read as the sheet stands
+  pub replacing_here : (t : Tree) (f : ℕ) (pairs : Vec Pair) (a : ℕ) → Asks t (WhatIf f pairs) → list_any (λ p. p.1.at == a) (map pair_of pairs.items) ≡ true → reads_here t a ≡ true
+  replacing_here (number x) f pairs a h l = absurd h
+  replacing_here (text s) f pairs a h l = absurd h
+  replacing_here (cell r) f pairs a h l = absurd h
+  replacing_here (rectangle c) f pairs a h l = absurd h.1
+  replacing_here (parenthesized t) f pairs a h l = replacing_here t f pairs a h l
+  replacing_here (signed s t) f pairs a h l = replacing_here t f pairs a h l
+  replacing_here (percent t) f pairs a h l = replacing_here t f pairs a h l
+  replacing_here (binary op t u) f pairs a (inl h) l = or_left (reads_here t a) (reads_here u a) (replacing_here t f pairs a h l)
+  replacing_here (binary op t u) f pairs a (inr h) l = or_right (reads_here t a) (reads_here u a) (replacing_here u f pairs a h l)
+  replacing_here (what_if g ps) f pairs a h l = ap (λ (qs : List (Reference × Reference)). list_any (λ p. p.1.at == a) qs) (sym h.1) ∙ l
+  replacing_here (call g ts) f pairs a h l = any_replacing_here ts f pairs a h l
+
+  any_replacing_here : (ts : Trees) (f : ℕ) (pairs : Vec Pair) (a : ℕ) → AnyAsks ts (WhatIf f pairs) → list_any (λ p. p.1.at == a) (map pair_of pairs.items) ≡ true → any_reads_here ts a ≡ true
+  any_replacing_here no_trees f pairs a h l = absurd h
+  any_replacing_here (more_trees t ts) f pairs a (inl h) l = or_left (reads_here t a) (any_reads_here ts a) (replacing_here t f pairs a h l)
+  any_replacing_here (more_trees t ts) f pairs a (inr h) l = or_right (reads_here t a) (any_reads_here ts a) (any_replacing_here ts f pairs a h l)
+
+-- a what-if as a want names it
+abbrev pub named : ℕ → Vec Pair → ℕ × List (ℕ × ℕ)
+named f pairs = (f, map addresses (map pair_of pairs.items))
+
+-- a what-if that is asked for is one of the tree's
+pub asked_in : (t : Tree) (f : ℕ) (pairs : Vec Pair) → Asks t (WhatIf f pairs) → IsIn (what_ifs_of t) (named f pairs)
+asked_in t f pairs h = in_contained (what_ifs_of t) (named f pairs) (asked_what_if t f pairs h)
+
+-- ---- the cases on which a case rests
+
+pub is_in : (xs : List ℕ) (a : ℕ) → is_one_of xs a ≡ true → IsIn xs a
+is_in [] a h = cc
+is_in (x ∷ xs) a h = at (x == a) refl h (is_in xs a)
+  where
+    same : (x == a) ≡ true → x ≡ a
+    same e = grind (arith, nat_tests)
+
+    at : (b : Bool) → (x == a) ≡ b → (b || list_any (λ y. y == a) xs) ≡ true → (is_one_of xs a ≡ true → IsIn xs a) → IsIn (x ∷ xs) a
+    at true e h ih = inl (same e)
+    at false e h ih = inr (ih h)
+
+-- a formula's tree, and what is so of it
+pub tree_with : (o : Option Content) (P : Tree → Bool) → of_formula o false P ≡ true → (t : Tree) × (o ≡ Some (Formula t)) × (P t ≡ true)
+tree_with None P h = cc
+tree_with (Some (Constant v)) P h = cc
+tree_with (Some (Formula t)) P h = (t, refl, h)
+
+-- a cell that is read as the sheet stands
+pub rests_cell : (s : Sheet) (k : Case) (a : ℕ) → content_reads_here (content_of (put_all s k.1) k.0) a ≡ true → has_formula (content_of (put_all s (reaching s a k.1)) a) ≡ true → RestsOn s k (case_of s k.1 a)
+rests_cell s k a h f =
+    let t = tree_with (content_of (put_all s k.1) k.0) (λ t. reads_here t a) h in
+    let i = is_in (cells_with_formula s) a (formula_cell s a (put_formula s (reaching s a k.1) a f)) in
+    record {
+      tree = t.0;
+      is = t.1;
+      asks = contains_in (rests_on s k.1 t.0) (case_of s k.1 a) (in_left (map (case_of s k.1) (formulas_read_here s t.0)) _ (case_of s k.1 a) (in_map (case_of s k.1) (formulas_read_here s t.0) a (in_filter (reads_here t.0) (cells_with_formula s) a i t.2)));
+      formula = f;
+    }
+
+-- the formula cell of a what-if, under its replacements
+pub rests_what_if : (s : Sheet) (k : Case) (f : ℕ) (pairs : Vec Pair) (w : List Replacement) → AsksAt s k.1 k.0 (WhatIf f pairs) → w ≡ with_what_if s k.1 (named f pairs).1 →
+    has_formula (content_of (put_all s (reaching s f w)) f) ≡ true → RestsOn s k (case_of s w f)
+rests_what_if s k f pairs w h e g =
+    let there = case_of s (with_what_if s k.1 (named f pairs).1) f in
+    let i = in_map (λ (x : ℕ × List (ℕ × ℕ)). case_of s (with_what_if s k.1 x.1) x.0) (what_ifs_of h.tree) (named f pairs) (asked_in h.tree f pairs h.asks) in
+    record {
+      tree = h.tree;
+      is = h.is;
+      asks = rw e (contains_in (rests_on s k.1 h.tree) there (in_right (map (case_of s k.1) (formulas_read_here s h.tree)) _ there i));
+      formula = g;
+    }
+
+-- a replacement cell of a what-if that is asked for
+pub replacing_reads : (s : Sheet) (k : Case) (f : ℕ) (pairs : Vec Pair) (a : ℕ) → AsksAt s k.1 k.0 (WhatIf f pairs) → list_any (λ p. p.1.at == a) (map pair_of pairs.items) ≡ true → content_reads_here (content_of (put_all s k.1) k.0) a ≡ true
+replacing_reads s k f pairs a h l = ap (λ (o : Option Content). content_reads_here o a) h.is ∙ replacing_here h.tree f pairs a h.asks l
+
+-- ---- ranks fall, and nothing on which a cell rests is circular
+
+pub here_in_sheet : (s : Sheet) (k : Case) (a : ℕ) → content_reads_here (content_of (put_all s k.1) k.0) a ≡ true → content_reads (content_of s k.0) a ≡ true
+here_in_sheet s k a h =
+    let t = tree_with (content_of (put_all s k.1) k.0) (λ t. reads_here t a) h in
+    put_reads s k.1 k.0 a (tree_reads (put_all s k.1) k.0 t.0 a t.1 (here_reads t.0 a t.2))
+
+pub what_if_in_sheet : (s : Sheet) (k : Case) (f : ℕ) (pairs : Vec Pair) → AsksAt s k.1 k.0 (WhatIf f pairs) → content_reads (content_of s k.0) f ≡ true
+what_if_in_sheet s k f pairs h =
+    put_reads s k.1 k.0 f (tree_reads (put_all s k.1) k.0 h.tree f h.is (what_if_reads h.tree (named f pairs) (contains_in (what_ifs_of h.tree) (named f pairs) (asked_in h.tree f pairs h.asks))))
+
+-- ---- the next key
+
+pub key_path : (a b : ℕ) (v w : List Replacement) → a ≡ b → v ≡ w → ◌≡◌ {A = Case} (b, w) (a, v)
+key_path a b v w e f = ap (λ (n : ℕ). (n, w)) (sym e) ∙ ap (λ (x : List Replacement). (a, x)) (sym f)
+
+next_key : (s : Sheet) (m : Memory) (below k : Key) (w : List Replacement) (a : ℕ) → IsUnvalued s m w a k → RestsOn s (case_at below) (case_of s w a) → IsNext s m below k
+next_key s m below k w a u r = record {
+  rests = subst (λ (j : Case). RestsOn s (case_at below) j) (key_path k.cell a k.world (reaching s a w) u.cell u.world) r;
+  key = u.key;
+  unfound = u.unfound;
+}
+
+formula_there : (s : Sheet) (m : Memory) (w : List Replacement) (a : ℕ) (k : Key) → IsUnvalued s m w a k → has_formula (content_of (put_all s (reaching s a w)) a) ≡ true
+formula_there s m w a k u = ap (λ (j : Case). has_formula (content_of (put_all s j.1) j.0)) (key_path k.cell a k.world (reaching s a w) u.cell u.world) ∙ u.key.formula
+
+-- the key of a cell that is read as the sheet stands
+pub next_cell : (s : Sheet) (m : Memory) (below k : Key) (a : ℕ) → IsUnvalued s m below.world a k → content_reads_here (content_of (put_all s below.world) below.cell) a ≡ true → IsNext s m below k
+next_cell s m below k a u h = next_key s m below k below.world a u (rests_cell s (case_at below) a h (formula_there s m below.world a k u))
+
+-- the key of a what-if's formula cell
+pub next_what_if : (s : Sheet) (m : Memory) (below k : Key) (f : ℕ) (pairs : Vec Pair) (w : List Replacement) → IsUnvalued s m w f k → AsksAt s below.world below.cell (WhatIf f pairs) →
+    w ≡ with_what_if s below.world (named f pairs).1 → IsNext s m below k
+next_what_if s m below k f pairs w u h e = next_key s m below k w f u (rests_what_if s (case_at below) f pairs w h e (formula_there s m w f k u))

@@ -1,0 +1,166 @@
+-- What a frame waits for is found, or a key is next.
+use Rattle.std.proofs.Common.{◌≡◌, ◌==◌, ◌+◌, ◌<◌, ◌≤◌, ℕ, zero, suc, Bool, true, false, ◌&&◌, if◌then◌else◌, List, [], ◌∷◌, map, length, get_or, All, Option, Some, inl, inr, ◌⊎◌, refl, ap, sym, ◌∙◌, subst, arith, eq-eqb}
+use Rattle.std.proofs.lemmas.Bool.{or_left, or_right}
+use Rattle.std.specs.List.{list_any}
+use Rattle.std.specs.Option.{is_none}
+use Rattle.std.specs.Global.{Vec}
+use Rattle.wi_values.specs.declared.value.Value.{Value}
+use Rattle.wi_values.specs.declared.replacement.Replacement.{Replacement}
+use Rattle.wi_values.specs.Replacements.{IsInOrder}
+use Rattle.wi_parser.specs.declared.expr.Pair.{Pair}
+use Rattle.wi_parser.specs.View.{pair_of}
+use Rattle.wi_parser.specs.declared.content.Content.{Content}
+use Rattle.wi_parser.specs.Sheet.{Sheet, content_of, put_all, has_formula}
+use Rattle.wi_functions.specs.Meaning.{addresses}
+use Rattle.wi_functions.specs.Counts.{one_more}
+use Rattle.wi_functions.specs.declared.evaluation.Want.{Want}
+use Rattle.wi_functions.specs.declared.evaluation.Want.TheVariants as wanted
+use Rattle.wi_cache.specs.declared.key.Key.{Key}
+use Rattle.wi_graph.specs.Reach.{is_one_of}
+use Rattle.wi_sheet.specs.CellValue.{cell_value, what_if_value}
+use Rattle.wi_sheet.specs.Demand.{Case, with_what_if}
+use Rattle.wi_sheet.proofs.Bounds.{put_formula}
+use Rattle.wi_sheet.proofs.Overrides.{with_what_if_value}
+use Rattle.wi_sheet.proofs.Asked.{asked_cell}
+use Rattle.wi_engine.specs.Memory.{Memory, IsMemoryOf}
+use Rattle.wi_engine.specs.Answers.{AsksAt, IsLacking, lacks_cell}
+use Rattle.wi_engine.specs.Findings.{IsWithCell, IsWithWhatIf, pairs_of, cell_found}
+use Rattle.wi_engine.specs.Frames.{case_at, content_reads_here, MayBeRead, IsToValue, IsUnvalued, IsNext, IsFrame, AreReadHere, Awaits, lacks, spare, waits}
+use Rattle.wi_engine.specs.declared.findings.Findings.{Findings}
+use Rattle.wi_engine.specs.declared.findings.FoundWhatIf.{FoundWhatIf}
+use Rattle.wi_engine.specs.declared.frame.Frame.{Frame}
+use Rattle.wi_engine.specs.declared.frame.Waiting.{Waiting}
+use Rattle.wi_engine.specs.declared.frame.Waiting.TheVariants.{Nothing, Cells}
+use Rattle.wi_engine.proofs.engine.Rightness.{right_cell, right_what_if}
+use Rattle.wi_engine.proofs.engine.Resting.{may_be_read, here_in_sheet, what_if_in_sheet, replacing_reads, next_cell, next_what_if}
+use Rattle.wi_engine.proofs.engine.Awaiting.{some_cell, some_what_if, some_lacks, cell_falls, frame_with}
+
+-- ---- how often a formula may still be evaluated again
+
+pub spare_waiting : (s : Sheet) (k : Key) (f : Findings) (w : Waiting) (g : Frame) → Awaits s (case_at k) f w → waits w ≡ 1 → lacks s k f ≤ lacks s g.key g.found → g.waiting ≡ Nothing →
+    spare s (record { key = k; found = f; waiting = w }) + 1 ≤ spare s g
+spare_waiting s k f w g a e l n =
+    let some = some_lacks s k f w a in
+    let z = ap waits n in
+    omega (arith, some, e, l, z)
+
+pub spare_found : (s : Sheet) (k : Key) (f : Findings) (w : Waiting) (g : Frame) → lacks s k f + 1 ≤ lacks s g.key g.found → g.waiting ≡ Nothing → spare s (record { key = k; found = f; waiting = w }) + 1 ≤ spare s g
+spare_found s k f w g l n =
+    let z = ap waits n in
+    omega (arith, l, z)
+
+pub two_steps : (a b c : ℕ) → a + 1 ≤ b → b ≤ c → a + 1 ≤ c
+two_steps a b c h k = omega (arith, h, k)
+
+-- ---- cells
+
+pub may_read_here : (s : Sheet) (m n : Memory) (k : Key) (a : ℕ) → IsMemoryOf s m → n ≡ m → IsToValue s m k → content_reads_here (content_of (put_all s k.world) k.cell) a ≡ true → MayBeRead s n a
+may_read_here s m n k a h en key r = rw en (may_be_read s m k.cell a h key.open_cell key.covered (here_in_sheet s (case_at k) a r))
+
+pub next_here : (s : Sheet) (m n : Memory) (k below j : Key) (a : ℕ) → n ≡ m → k ≡ below → IsUnvalued s n k.world a j → content_reads_here (content_of (put_all s k.world) k.cell) a ≡ true → IsNext s m below j
+next_here s m n k below j a en e u r =
+    let same = rw en at u in
+    subst (λ (b : Key). IsNext s m b j) e (next_cell s m k j a same r)
+
+pub cell_found_frame : (s : Sheet) (m : Memory) (f g : Frame) (a : ℕ) (v : Value) → IsFrame s m f → g.key ≡ f.key → g.waiting ≡ Nothing → IsWithCell f.found g.found a v → v ≡ cell_value (put_all s f.key.world) a → IsFrame s m g
+cell_found_frame s m f g a v h e n more is =
+    frame_with s m f g h e (right_cell (cell_value (put_all s f.key.world)) (what_if_value (put_all s f.key.world)) f.found g.found a v more is h.found) (rw n tt)
+
+pub awaits_next : (s : Sheet) (k : Case) (f : Findings) (a : ℕ) (others : Vec ℕ) → IsLacking s k.1 f (wanted.Cell a) × AreReadHere s k (a ∷ []) → AreReadHere s k others.items → Awaits s k f (Cells a others)
+awaits_next s k f a others h r =
+    let here = h.1 a (or_left (a == a) _ (eq-eqb a a refl)) in
+    (h.0, here.0, here.1, r)
+
+pub lacks_less : (s : Sheet) (k : Key) (f g : Findings) (a : ℕ) (v : Value) (others : Vec ℕ) → IsWithCell f g a v → Awaits s (case_at k) f (Cells a others) → lacks s k g < lacks s k f
+lacks_less s k f g a v others more h =
+    let less = cell_falls s k f g a v more h.0.1 h.1 h.2 in
+    omega (arith, less)
+
+-- ---- a what-if
+
+pub may_read_what_if : (s : Sheet) (m n : Memory) (k : Key) (f : ℕ) (pairs : Vec Pair) → IsMemoryOf s m → n ≡ m → IsToValue s m k → AsksAt s k.world k.cell (wanted.WhatIf f pairs) → MayBeRead s n f
+may_read_what_if s m n k f pairs h en key asks = rw en (may_be_read s m k.cell f h key.open_cell key.covered (what_if_in_sheet s (case_at k) f pairs asks))
+
+found_at : (ps : List Pair) (i : ℕ) (d : Pair) → i < length ps → list_any (λ p. p.1.at == (get_or ps i d).by.at) (map pair_of ps) ≡ true
+found_at [] i d h = absurd (omega arith)
+found_at (p ∷ ps) zero d h = or_left (p.by.at == p.by.at) _ (eq-eqb p.by.at p.by.at refl)
+found_at (p ∷ ps) (suc i) d h = or_right (p.by.at == (get_or ps i d).by.at) _ (found_at ps i d (omega arith))
+
+pub may_read_inputs : (s : Sheet) (m : Memory) (k : Key) (f : ℕ) (pairs : Vec Pair) (ps : List Pair) → IsMemoryOf s m → IsToValue s m k → AsksAt s k.world k.cell (wanted.WhatIf f pairs) → ps ≡ pairs.items →
+    All (λ p. MayBeRead s m p.by.at) ps
+may_read_inputs s m k f pairs ps h key asks e = λ i d l.
+    let here = replacing_reads s (case_at k) f pairs (get_or ps i d).by.at asks (ap (λ (qs : List Pair). list_any (λ p. p.1.at == (get_or ps i d).by.at) (map pair_of qs)) (sym e) ∙ found_at ps i d l) in
+    may_be_read s m k.cell (get_or ps i d).by.at h key.open_cell key.covered (here_in_sheet s (case_at k) (get_or ps i d).by.at here)
+
+pub next_input : (s : Sheet) (m : Memory) (below j : Key) (f : ℕ) (pairs : Vec Pair) (ps : List Pair) → AsksAt s below.world below.cell (wanted.WhatIf f pairs) → ps ≡ pairs.items →
+    (list_any (λ p. p.1.at == j.cell) (map pair_of ps) ≡ true) × IsUnvalued s m below.world j.cell j → IsNext s m below j
+next_input s m below j f pairs ps asks e u =
+    next_cell s m below j j.cell u.1 (replacing_reads s (case_at below) f pairs j.cell asks (ap (λ (qs : List Pair). list_any (λ p. p.1.at == j.cell) (map pair_of qs)) (sym e) ∙ u.0))
+
+pub next_inner : (s : Sheet) (m n : Memory) (below j : Key) (f : ℕ) (pairs : Vec Pair) (ps : List Pair) (w : List Replacement) → n ≡ m → AsksAt s below.world below.cell (wanted.WhatIf f pairs) → ps ≡ pairs.items →
+    w ≡ with_what_if s below.world (map addresses (map pair_of ps)) → IsUnvalued s n w f j → IsNext s m below j
+next_inner s m n below j f pairs ps w en asks e is u =
+    let same = rw en at u in
+    next_what_if s m below j f pairs w same asks (is ∙ ap (λ (qs : List Pair). with_what_if s below.world (map addresses (map pair_of qs))) e)
+
+pub what_if_right : (s : Sheet) (v w : List Replacement) (f : ℕ) (pairs ps : List Pair) (x : Value) → IsInOrder w → ps ≡ pairs → v ≡ with_what_if s w (map addresses (map pair_of ps)) → x ≡ cell_value (put_all s v) f →
+    x ≡ what_if_value (put_all s w) f (map addresses (map pair_of pairs))
+what_if_right s v w f pairs ps x o e is h =
+    h ∙ ap (λ (u : List Replacement). cell_value (put_all s u) f) (is ∙ ap (λ (qs : List Pair). with_what_if s w (map addresses (map pair_of qs))) e) ∙ with_what_if_value s w f (map addresses (map pair_of pairs)) o
+
+pub what_if_found_frame : (s : Sheet) (m : Memory) (f g : Frame) (x : FoundWhatIf) → IsFrame s m f → g.key ≡ f.key → g.waiting ≡ Nothing → IsWithWhatIf f.found g.found x →
+    x.value ≡ what_if_value (put_all s f.key.world) x.at (pairs_of x) → IsFrame s m g
+what_if_found_frame s m f g x h e n more is =
+    frame_with s m f g h e (right_what_if (cell_value (put_all s f.key.world)) (what_if_value (put_all s f.key.world)) f.found g.found x more is h.found) (rw n tt)
+
+-- ---- an evaluation that lacks a value
+
+pub one_more_at_most : (n m : ℕ) → m ≡ one_more n → m ≤ n + 1
+one_more_at_most n m e = omega (arith, e)
+
+-- it is counted, and one less is spare
+pub round_counted : (n m now before start bound : ℕ) → m ≡ one_more n → now + 1 ≤ before → before ≤ start → n + start ≤ bound → m + now ≤ bound
+round_counted n m now before start bound e l k h =
+    let one = one_more_at_most n m e in
+    omega (arith, one, l, k, h)
+
+want_lacks : (s : Sheet) (k : Key) (f : Findings) (want : Want) → AsksAt s k.world k.cell want → IsLacking s k.world f want → 1 ≤ lacks s k f
+want_lacks s k f (wanted.Cell a) h l =
+    some_cell s k f a l.1 (ap (λ (o : Option Content). content_reads_here o a) h.is ∙ asked_cell h.tree a h.asks) (put_formula s k.world a l.0)
+want_lacks s k f (wanted.WhatIf a pairs) h l = some_what_if s k f a pairs l h
+
+-- it is counted, and was spare
+pub want_counted : (s : Sheet) (f : Frame) (want : Want) (n m start bound : ℕ) → AsksAt s f.key.world f.key.cell want → IsLacking s f.key.world f.found want → f.waiting ≡ Nothing → m ≡ one_more n →
+    spare s f ≤ start → n + start ≤ bound → m ≤ bound
+want_counted s f want n m start bound h l e is k b =
+    let some = want_lacks s f.key f.found want h l in
+    let z = ap waits e in
+    let one = one_more_at_most n m is in
+    omega (arith, some, z, one, k, b)
+
+pub round_smaller : (s : Sheet) (w : Waiting) (f g : Frame) → Awaits s (case_at f.key) f.found w → waits w ≡ 1 → f.waiting ≡ Nothing → spare s f ≤ spare s g → spare s (record { key = f.key; found = f.found; waiting = w }) < spare s g
+round_smaller s w f g a e n l =
+    let less = spare_waiting s f.key f.found w f a e (omega arith) n in
+    omega (arith, less, l)
+
+-- of some cells none is lacked but those that are left and the next one, once the value of the one before was found
+pub lacked_next : (s : Sheet) (w : List Replacement) (f g : Findings) (a next : ℕ) (v : Value) (all others rest : List ℕ) → IsWithCell f g a v →
+    ((d : ℕ) → is_one_of all d ≡ true → lacks_cell s w f d ≡ true → (is_one_of others d ≡ true) ⊎ (d ≡ a)) →
+    ((d : ℕ) → is_one_of others d ≡ true → lacks_cell s w g d ≡ true → (is_one_of rest d ≡ true) ⊎ (d ≡ next)) →
+    (d : ℕ) → is_one_of all d ≡ true → lacks_cell s w g d ≡ true → (is_one_of rest d ≡ true) ⊎ (d ≡ next)
+lacked_next s w f g a next v all others rest k before passed d i l = at (a == d) refl (k.cells d)
+  where
+    formula : Bool
+    formula = has_formula (content_of (put_all s w) d)
+
+    found : (b : Bool) → (b && is_none (Some v)) ≡ true → ⊥
+    found true e = let z = e in cc
+    found false e = let z = e in cc
+
+    left : (is_one_of others d ≡ true) ⊎ (d ≡ a) → (a == d) ≡ false → (is_one_of rest d ≡ true) ⊎ (d ≡ next)
+    left (inl m) n = passed d m l
+    left (inr e) n = absurd (let z = sym (eq-eqb a d (sym e)) ∙ n in cc)
+
+    at : (b : Bool) → (a == d) ≡ b → cell_found g d ≡ (if b then Some v else cell_found f d) → (is_one_of rest d ≡ true) ⊎ (d ≡ next)
+    at true n e = absurd (found formula (sym (ap (λ (o : Option Value). formula && is_none o) e) ∙ l))
+    at false n e = left (before d i (sym (ap (λ (o : Option Value). formula && is_none o) e) ∙ l)) n

@@ -1,0 +1,127 @@
+-- The stack of frames, a push and a pop.
+use Rattle.std.proofs.Common.{◌≡◌, ◌==◌, ◌<◌, ◌⊎◌, inl, inr, ◌||◌, ◌&&◌, ℕ, Bool, true, false, List, [], ◌∷◌, ◌++◌, Contains, Option, Some, None, IfSome, refl, ap, sym, ◌∙◌, subst, arith}
+use Rattle.std.proofs.lemmas.Bool.Decides.{nat_tests}
+use Rattle.wi_values.specs.declared.value.Value.{Value}
+use Rattle.wi_values.specs.declared.replacement.Replacement.{Replacement}
+use Rattle.wi_values.specs.Replacements.{same_replacements}
+use Rattle.wi_parser.specs.Sheet.{Sheet, put_all}
+use Rattle.wi_cache.specs.declared.key.Key.{Key}
+use Rattle.wi_sheet.specs.CellValue.{cell_value}
+use Rattle.wi_sheet.specs.Demand.{Case, same_case}
+use Rattle.wi_engine.specs.Rank.{rank}
+use Rattle.wi_engine.specs.Memory.{Memory, IsMemoryOf, AreKnownRight, IsClosedUnderReads}
+use Rattle.wi_engine.specs.Frames.{case_at, IsFrame, IsBegun, IsNext, IsDemanded, AreBelow, IsStack, BottomIs}
+use Rattle.wi_engine.specs.declared.frame.Frame.{Frame}
+
+-- ---- ranks fall from the bottom to the top
+
+below_push : (s : Sheet) (fs : List Frame) (g : Frame) (n : ℕ) → AreBelow s fs n → rank s g.key.cell < n → AreBelow s (fs ++ g ∷ []) n
+below_push s [] g n h k = (k, tt)
+below_push s (f ∷ fs) g n h k = (h.0, below_push s fs g n h.1 k)
+
+below_front : (s : Sheet) (fs : List Frame) (g : Frame) (n : ℕ) → AreBelow s (fs ++ g ∷ []) n → (rank s g.key.cell < n) × AreBelow s fs n
+below_front s [] g n h = (h.0, tt)
+below_front s (f ∷ fs) g n h =
+    let k = below_front s fs g n h.1 in
+    (k.0, (h.0, k.1))
+
+pub push_stack : (s : Sheet) (m : Memory) (root : Case) (fs : List Frame) (g : Frame) (r : ℕ) → IsStack s m root fs (rank s g.key.cell) → IsBegun s m root g → r < rank s g.key.cell → IsStack s m root (fs ++ g ∷ []) r
+push_stack s m root [] g r st b h = (b, h, tt, tt)
+push_stack s m root (f ∷ fs) g r st b h =
+    let lower : r < rank s f.key.cell = omega (arith, st.1, h) in
+    (st.0, lower, below_push s fs g (rank s f.key.cell) st.2 st.1, push_stack s m root fs g r st.3 b h)
+
+pub pop_stack : (s : Sheet) (m : Memory) (root : Case) (fs : List Frame) (g : Frame) (r : ℕ) → IsStack s m root (fs ++ g ∷ []) r → IsBegun s m root g × IsStack s m root fs (rank s g.key.cell)
+pop_stack s m root [] g r st = (st.0, tt)
+pop_stack s m root (f ∷ fs) g r st =
+    let k = pop_stack s m root fs g r st.3 in
+    let b = below_front s fs g (rank s f.key.cell) st.2 in
+    (k.0, (st.0, b.0, b.1, k.1))
+
+pub push_bottom : (root : Case) (fs : List Frame) (f g : Frame) → BottomIs root fs f → BottomIs root (fs ++ f ∷ []) g
+push_bottom root [] f g h = h
+push_bottom root (e ∷ fs) f g h = h
+
+pub pop_bottom : (root : Case) (fs : List Frame) (f g : Frame) → BottomIs root (fs ++ g ∷ []) f → BottomIs root fs g
+pop_bottom root [] f g h = h
+pop_bottom root (e ∷ fs) f g h = h
+
+pub same_bottom : (root : Case) (fs : List Frame) (f g : Frame) → g.key ≡ f.key → BottomIs root fs f → BottomIs root fs g
+same_bottom root [] f g e h = ap case_at e ∙ h
+same_bottom root (k ∷ fs) f g e h = h
+
+-- ---- one more case is found
+
+pub other_case : (a b : ℕ) (t : Bool) → (a ≡ b → ⊥) → ((a == b) && t) ≡ false
+other_case a b true h = grind (arith, nat_tests)
+other_case a b false h = grind (arith, nat_tests)
+
+pub or_false : (a b : Bool) → a ≡ false → b ≡ false → (a || b) ≡ false
+or_false a b e f = rw (e, f) refl
+
+-- what is found or kept otherwise makes no difference to a frame
+pub same_frame : (s : Sheet) (m n : Memory) (f : Frame) → n.covers ≡ m.covers → n.generation ≡ m.generation → IsFrame s m f → IsFrame s n f
+same_frame s m n f ec eg h = record {
+  key = record {
+    formula = h.key.formula;
+    open_cell = h.key.open_cell;
+    covered = rw ec h.key.covered;
+    generation = rw eg h.key.generation;
+  };
+  found = h.found;
+  waiting = h.waiting;
+}
+
+-- what is found next is none of the frames below
+pub found_stack : (s : Sheet) (m n : Memory) (k : Key) (root : Case) (fs : List Frame) → n.covers ≡ m.covers → n.generation ≡ m.generation →
+    ((c : ℕ) (w : List Replacement) → n.found c w ≡ (m.found c w || same_case (case_at k) (c, w))) → IsStack s m root fs (rank s k.cell) → IsStack s n root fs (rank s k.cell)
+found_stack s m n k root [] ec eg e st = tt
+found_stack s m n k root (f ∷ fs) ec eg e st =
+    let apart : k.cell ≡ f.key.cell → ⊥ = λ (h : k.cell ≡ f.key.cell). (let y = ap (rank s) h in absurd (omega (arith, y, st.1))) in
+    let other = other_case k.cell f.key.cell (same_replacements k.world f.key.world) apart in (
+      record {
+        frame = same_frame s m n f ec eg st.0.frame;
+        unfound = e f.key.cell f.key.world ∙ or_false (m.found f.key.cell f.key.world) _ st.0.unfound other;
+        demanded = st.0.demanded;
+      },
+      st.1,
+      st.2,
+      found_stack s m n k root fs ec eg e st.3,
+    )
+
+-- what is remembered next is right
+pub right_kept : (s : Sheet) (known after : ℕ → List Replacement → Option Value) (k : Key) (v : Value) →
+    ((c : ℕ) (w : List Replacement) → IfSome (after c w) (λ x. (known c w ≡ Some x) ⊎ ((c ≡ k.cell) × (w ≡ k.world) × (x ≡ v)))) → v ≡ cell_value (put_all s k.world) k.cell → AreKnownRight s known → AreKnownRight s after
+right_kept s known after k v e h r = λ c w. at c w (after c w) (e c w)
+  where
+    of : (c : ℕ) (w : List Replacement) (x : Value) → (known c w ≡ Some x) ⊎ ((c ≡ k.cell) × (w ≡ k.world) × (x ≡ v)) → x ≡ cell_value (put_all s w) c
+    of c w x (inl g) = rw g at (r c w)
+    of c w x (inr g) = g.2 ∙ h ∙ ap (λ (u : List Replacement). cell_value (put_all s u) k.cell) (sym g.1) ∙ ap (cell_value (put_all s w)) (sym g.0)
+
+    at : (c : ℕ) (w : List Replacement) (o : Option Value) → IfSome o (λ x. (known c w ≡ Some x) ⊎ ((c ≡ k.cell) × (w ≡ k.world) × (x ≡ v))) → IfSome o (λ x. x ≡ cell_value (put_all s w) c)
+    at c w None g = tt
+    at c w (Some x) g = of c w x g
+
+pub kept_memory : (s : Sheet) (m n : Memory) (k : Key) (v : Value) → IsMemoryOf s m → n.sheet ≡ m.sheet → n.covers ≡ m.covers →
+    ((c : ℕ) (w : List Replacement) → IfSome (n.known c w) (λ x. (m.known c w ≡ Some x) ⊎ ((c ≡ k.cell) × (w ≡ k.world) × (x ≡ v)))) → v ≡ cell_value (put_all s k.world) k.cell → IsMemoryOf s n
+kept_memory s m n k v h es ec e is = record {
+  sheet = es ∙ h.sheet;
+  right = right_kept s m.known n.known k v e is h.right;
+  closed = subst (λ (covers : ℕ → Bool). IsClosedUnderReads s covers) (sym ec) h.closed;
+}
+
+-- ---- a new frame, and the same frame with more values
+
+pub begun_next : (s : Sheet) (m : Memory) (root : Case) (below : Frame) (k : Key) (f : Frame) → IsDemanded s root (case_at below.key) → IsNext s m below.key k → f.key ≡ k → IsFrame s m f → IsBegun s m root f
+begun_next s m root below k f d n e h = record {
+  frame = h;
+  unfound = rw e n.unfound;
+  demanded = λ ks closed top. subst (λ (j : Key). Contains ks (case_at j)) (sym e) (closed (case_at below.key) (case_at k) (d ks closed top) n.rests);
+}
+
+pub same_begun : (s : Sheet) (m : Memory) (root : Case) (f g : Frame) → g.key ≡ f.key → IsFrame s m g → IsBegun s m root f → IsBegun s m root g
+same_begun s m root f g e h b = record {
+  frame = h;
+  unfound = rw e b.unfound;
+  demanded = rw e b.demanded;
+}

@@ -1,0 +1,44 @@
+use Rattle.std.proofs.Common.{◌≤◌, ◌+◌, Ok, ap, ◌∙◌, refl, rules, arith}
+use Rattle.wi_functions.specs.Counts.{Counts}
+use Rattle.wi_engine.specs.Frames.{IsFrame, spare}
+use Rattle.wi_engine.proofs.engine.Awaiting.{frame_with}
+use Rattle.wi_engine.proofs.engine.Settling.{spare_waiting, round_counted, want_counted, round_smaller}
+use Rattle.wi_engine.proofs.engine.advance.Goals as goal
+
+pub returns-in_err-frame-in-Needs-clause-err_restarts : goal.returns-in_err-frame-in-Needs-clause-err_restarts
+returns-in_err-frame-in-Needs-clause-err_restarts g c =
+    let s = c.args.store.now.sheet in
+    let i = c.rounds.invariant in
+    let f = c.settle.new.frame in
+    let counted = rw c.in-Needs.is at c.in_ok-value.ensures.counted in
+    let asked = rw c.in-Needs.is at c.in_ok-value.ensures.asked in
+    let lacking = rw c.in-Needs.is at c.in_ok-value.ensures.lacking in
+    let nothing = c.in_ok-key.ensures.settled (ap (λ o. Ok o) c.in_default.is) in
+    let within : c.answer.new.meter.restarts ≤ c.args.meter.now.restarts + spare s c.args.frame.now =
+    want_counted s f c.in-Needs.want c.rounds.meter.restarts c.answer.new.meter.restarts (spare s c.rounds.frame) (c.args.meter.now.restarts + spare s c.args.frame.now)
+    asked lacking nothing (ap (λ (m : Counts). m.restarts) counted) c.in_ok-key.ensures.spare i.restarts in
+    search (rules, within)
+
+pub rounds-smaller : goal.rounds-smaller
+rounds-smaller g c =
+    let nothing = c.in_ok-key.ensures.settled (ap (λ o. Ok o) c.in_default.is) in
+    round_smaller c.args.store.now.sheet c.in_ok-frame-in-Needs.field-0 c.settle.new.frame c.rounds.frame c.in_ok-frame-in-Needs.ensures.awaits c.in_ok-frame-in-Needs.ensures.waits nothing c.in_ok-key.ensures.spare
+
+pub rounds-preserved : goal.rounds-preserved
+rounds-preserved g c =
+    let s = c.args.store.now.sheet in
+    let m = g.M.Memo.memory c.args.memo.now in
+    let i = c.rounds.invariant in
+    let f = c.settle.new.frame in
+    let w = c.in_ok-frame-in-Needs.field-0 in
+    let nothing = c.in_ok-key.ensures.settled (ap (λ o. Ok o) c.in_default.is) in
+    let counted = rw c.in-Needs.is at c.in_ok-value.ensures.counted in
+    let frame : IsFrame s m f = rw i.same at c.in_ok-key.ensures.frame in
+    let less = spare_waiting s f.key f.found w f c.in_ok-frame-in-Needs.ensures.awaits c.in_ok-frame-in-Needs.ensures.waits (omega arith) nothing in
+    record {
+      key = c.in_ok-key.ensures.key ∙ i.key;
+      frame = frame_with s m f _ frame refl frame.found c.in_ok-frame-in-Needs.ensures.awaits;
+      evaluations = ap (λ (n : Counts). n.evaluations) counted ∙ i.evaluations;
+      restarts = round_counted c.rounds.meter.restarts c.answer.new.meter.restarts _ (spare s f) (spare s c.rounds.frame) _ (ap (λ (n : Counts). n.restarts) counted) less c.in_ok-key.ensures.spare i.restarts;
+      same = c.in_ok-key.ensures.same ∙ i.same;
+    }

@@ -1,0 +1,16 @@
+use Rattle.std.proofs.Common.{◌≡◌, ◌+◌, ◌≤◌}
+use Rattle.wi_engine.specs.Frames.{IsFrame, spare}
+use Rattle.wi_engine.proofs.engine.advance.Given as goal
+
+abbrev pub invariant-rounds : goal.invariant-rounds
+invariant-rounds g l = record {
+  key : l.frame.key ≡ l.fn.frame.key;
+  frame : IsFrame l.store.sheet (g.M.Memo.memory l.fn.memo) l.frame;
+  evaluations : l.meter.evaluations ≡ l.fn.meter.evaluations;
+  restarts : l.meter.restarts + spare l.store.sheet l.frame ≤ l.fn.meter.restarts + spare l.store.sheet l.fn.frame;
+  same : g.M.Memo.memory l.memo ≡ g.M.Memo.memory l.fn.memo;
+}
+
+-- how often the formula may still be evaluated again
+abbrev pub decreases-rounds : goal.decreases-rounds
+decreases-rounds g l = spare l.store.sheet l.frame

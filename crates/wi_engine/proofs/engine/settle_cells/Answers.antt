@@ -1,0 +1,49 @@
+use Rattle.std.proofs.Common.{refl, ◌∙◌, arith}
+use Rattle.wi_engine.specs.Frames.{case_at}
+use Rattle.wi_engine.specs.declared.frame.Waiting.TheVariants as states
+use Rattle.wi_engine.proofs.engine.Settling.{spare_waiting, spare_found, two_steps, may_read_here, next_here, cell_found_frame, awaits_next, lacks_less, lacked_next}
+use Rattle.wi_engine.proofs.engine.Awaiting.{cell_falls}
+use Rattle.wi_engine.proofs.engine.settle_cells.Goals as goal
+
+pub value_now-requires-clause-read : goal.value_now-requires-clause-read
+value_now-requires-clause-read g c =
+    let i = c.cells.invariant in
+    may_read_here c.args.store.now.sheet (g.M.Memo.memory c.args.memo.now) (g.M.Memo.memory c.cells.memo) c.cells.frame.key c.cells.at c.requires.memory i.same i.frame.key i.awaits.1
+
+pub returns-in-Unknown-clause-next : goal.returns-in-Unknown-clause-next
+returns-in-Unknown-clause-next g c =
+    let i = c.cells.invariant in
+    let unknown = rw c.in-Unknown.is at c.in_ok-value.ensures.unknown in
+    next_here c.args.store.now.sheet (g.M.Memo.memory c.args.memo.now) (g.M.Memo.memory c.cells.memo) c.cells.frame.key c.args.frame.now.key c.in-Unknown.key c.cells.at i.same i.key unknown i.awaits.1
+
+pub returns-in-Unknown-clause-spare : goal.returns-in-Unknown-clause-spare
+returns-in-Unknown-clause-spare g c =
+    let i = c.cells.invariant in
+    spare_waiting c.args.store.now.sheet c.cells.frame.key c.cells.frame.found (states.Cells c.cells.at c.cells.others) c.args.frame.now i.awaits refl i.fewer c.requires.waiting
+
+pub cells-smaller : goal.cells-smaller
+cells-smaller g c =
+    lacks_less c.args.store.now.sheet c.cells.frame.key c.cells.frame.found c.add_cell.new.self c.cells.at c.in-Known.value c.cells.others c.in_ok-add_cell-in-Known.ensures.ok c.cells.invariant.awaits
+
+pub cells-preserved : goal.cells-preserved
+cells-preserved g c =
+    let s = c.args.store.now.sheet in
+    let i = c.cells.invariant in
+    let known = rw c.in-Known.is at c.in_ok-value.ensures.known in
+    let less = cell_falls s c.cells.frame.key c.cells.frame.found c.add_cell.new.self c.cells.at c.in-Known.value c.in_ok-add_cell-in-Known.ensures.ok i.awaits.0.1 i.awaits.1 i.awaits.2 in
+    record {
+      key = i.key;
+      nothing = i.nothing;
+      frame = cell_found_frame s (g.M.Memo.memory c.args.memo.now) c.cells.frame _ c.cells.at c.in-Known.value i.frame refl i.nothing c.in_ok-add_cell-in-Known.ensures.ok known;
+      awaits = awaits_next s (case_at c.cells.frame.key) c.add_cell.new.self c.in-Some.next c.next_lacking.new.cells c.in-Some.ensures.next c.in-Some.ensures.rest;
+      fewer = omega (arith, less, i.fewer);
+      lacked = lacked_next s c.cells.frame.key.world c.cells.frame.found c.add_cell.new.self c.cells.at c.in-Some.next c.in-Known.value c.args.others.items c.cells.others.items c.next_lacking.new.cells.items c.in_ok-add_cell-in-Known.ensures.ok i.lacked c.in-Some.ensures.passed;
+      same = c.in_ok-value.ensures.same ∙ i.same;
+    }
+
+pub returns-in-None-clause-spare : goal.returns-in-None-clause-spare
+returns-in-None-clause-spare g c =
+    let s = c.args.store.now.sheet in
+    let i = c.cells.invariant in
+    let less = cell_falls s c.cells.frame.key c.cells.frame.found c.add_cell.new.self c.cells.at c.in-Known.value c.in_ok-add_cell-in-Known.ensures.ok i.awaits.0.1 i.awaits.1 i.awaits.2 in
+    spare_found s c.cells.frame.key c.add_cell.new.self c.cells.frame.waiting c.args.frame.now (two_steps _ _ _ less i.fewer) c.requires.waiting

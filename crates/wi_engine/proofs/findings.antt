@@ -1,0 +1,2 @@
+-- What the proofs about what was found use.
+pub mod FoundPairs

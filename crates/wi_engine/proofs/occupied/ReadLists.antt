@@ -1,0 +1,72 @@
+-- The occupied cells that a formula reads, as a list.
+use Rattle.std.proofs.Common.{◌≡◌, ◌==◌, ℕ, ◌||◌, ◌&&◌, Bool, true, false, cond, List, [], ◌∷◌, filter, Option, Some, None, refl, ap, sym, ◌∙◌}
+use Rattle.std.proofs.lemmas.Bool.{and_parts}
+use Rattle.std.proofs.lemmas.List.Folds.{list_any-append}
+use Rattle.std.specs.List.{list_any, flat_map}
+use Rattle.std.specs.Map.{keys_of}
+use Rattle.wi_values.specs.Address.{Area, is_within}
+use Rattle.wi_parser.specs.declared.content.Content.TheVariants.{Constant, Formula}
+use Rattle.wi_parser.specs.declared.content.Content.{Content}
+use Rattle.wi_parser.specs.Sheet.{Sheet, content_of, has_formula}
+use Rattle.wi_parser.specs.Reads.{content_reads, rectangles_of}
+use Rattle.wi_parser.proofs.Rectangles.{reads_within}
+use Rattle.wi_graph.proofs.Layers.{is_one_of}
+use Rattle.wi_graph.proofs.Walks.{same_cell, formula_cell}
+use Rattle.wi_engine.specs.ReadCells.{rectangles_in, occupied_within}
+
+and_true : (b : Bool) → (b && true) ≡ b
+and_true true = refl
+and_true false = refl
+
+and_false : (b : Bool) → (b && false) ≡ false
+and_false true = refl
+and_false false = refl
+
+-- a cell is among those that pass a test exactly where it passes and is among all
+in_filter : (p : ℕ → Bool) (xs : List ℕ) (a : ℕ) → is_one_of (filter p xs) a ≡ (p a && is_one_of xs a)
+in_filter p [] a = sym (and_false (p a))
+in_filter p (x ∷ xs) a = by (p x) (x == a) refl refl (in_filter p xs a)
+  where
+    by : (b d : Bool) → p x ≡ b → (x == a) ≡ d → is_one_of (filter p xs) a ≡ (p a && is_one_of xs a) → is_one_of (cond b (x ∷ filter p xs) (filter p xs)) a ≡ (p a && (d || is_one_of xs a))
+    by true true e f ih =
+        ap (λ (c : Bool). c || is_one_of (filter p xs) a) f
+        ∙ sym (and_true (p a) ∙ sym (ap p (same_cell a x f)) ∙ e)
+    by true false e f ih = ap (λ (c : Bool). c || is_one_of (filter p xs) a) f ∙ ih
+    by false true e f ih =
+        let no = sym (ap p (same_cell a x f)) ∙ e in
+        ih ∙ ap (λ (c : Bool). c && is_one_of xs a) no ∙ sym (ap (λ (c : Bool). c && true) no)
+    by false false e f ih = ih
+
+shared : (x y m : Bool) → ((x && m) || (y && m)) ≡ ((x || y) && m)
+shared true y true = refl
+shared true true false = refl
+shared true false false = refl
+shared false y m = refl
+
+-- the cells listed of rectangles are those in one of them
+in_rectangles : (cells : List ℕ) (rs : List Area) (a : ℕ) → is_one_of (flat_map (λ r. filter (is_within r) cells) rs) a ≡ (list_any (λ (r : Area). is_within r a) rs && is_one_of cells a)
+in_rectangles cells [] a = refl
+in_rectangles cells (r ∷ rs) a =
+    list_any-append (λ (x : ℕ). x == a) (filter (is_within r) cells) (flat_map (λ x. filter (is_within x) cells) rs)
+    ∙ ap (λ (b : Bool). b || is_one_of (flat_map (λ x. filter (is_within x) cells) rs) a) (in_filter (is_within r) cells a)
+    ∙ ap (λ (b : Bool). (is_within r a && is_one_of cells a) || b) (in_rectangles cells rs a)
+    ∙ shared (is_within r a) (list_any (λ (x : Area). is_within x a) rs) (is_one_of cells a)
+
+-- an occupied cell of the rectangles that a content reads is read
+pub occupied_read : (s : Sheet) (o : Option Content) (d : ℕ) → is_one_of (occupied_within s (rectangles_in o)) d ≡ true → content_reads o d ≡ true
+occupied_read s None d h = h
+occupied_read s (Some (Constant v)) d h = h
+occupied_read s (Some (Formula t)) d h =
+    reads_within t d ∙ (and_parts (list_any (λ (r : Area). is_within r d) (rectangles_of t)) _ (sym (in_rectangles (keys_of s) (rectangles_of t) d) ∙ h)).0
+
+occupied : (s : Sheet) (d : ℕ) → has_formula (content_of s d) ≡ true → is_one_of (keys_of s) d ≡ true
+occupied s d f =
+    (and_parts (has_formula (content_of s d)) _ (sym (in_filter (λ c. has_formula (content_of s c)) (keys_of s) d) ∙ formula_cell s d f)).1
+
+-- and each cell with a formula that it reads is one of them
+pub read_occupied : (s : Sheet) (o : Option Content) (d : ℕ) → content_reads o d ≡ true → has_formula (content_of s d) ≡ true → is_one_of (occupied_within s (rectangles_in o)) d ≡ true
+read_occupied s None d h f = h
+read_occupied s (Some (Constant v)) d h f = h
+read_occupied s (Some (Formula t)) d h f =
+    let any = list_any (λ (r : Area). is_within r d) (rectangles_of t) in
+    in_rectangles (keys_of s) (rectangles_of t) d ∙ ap (λ (b : Bool). any && b) (occupied s d f) ∙ and_true any ∙ sym (reads_within t d) ∙ h

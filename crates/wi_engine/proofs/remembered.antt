@@ -1,0 +1,2 @@
+-- What the proofs about what is remembered use.
+pub mod Remembering

@@ -1,0 +1,66 @@
+-- What is remembered in one question.
+use Rattle.std.proofs.Common.{◌≡◌, ◌==◌, ℕ, Bool, true, false, cond, List, [], ◌∷◌, ◌++◌, Option, Some, None, IfSome, Result, Ok, Err, OnOk, OnErr, refl, ap, sym, ◌∙◌, subst, inl, inr, ◌⊎◌}
+use Rattle.std.proofs.lemmas.Bool.{or_cases, or_left}
+use Rattle.std.proofs.lemmas.List.Folds.{list_any-append}
+use Rattle.std.specs.declared.alloc.AllocError.{AllocError}
+use Rattle.wi_values.specs.declared.value.Value.{Value}
+use Rattle.wi_values.specs.declared.replacement.Replacement.{Replacement}
+use Rattle.wi_parser.specs.Sheet.{Sheet, put_all}
+use Rattle.wi_cache.specs.declared.key.Key.{Key}
+use Rattle.wi_cache.specs.Entries.{Entries, Puts, same_key, value_for}
+use Rattle.wi_cache.proofs.Keys.{same_key_Decides}
+use Rattle.wi_graph.specs.Reach.{is_one_of}
+use Rattle.wi_graph.proofs.Walks.{same_cell}
+use Rattle.wi_sheet.specs.CellValue.{cell_value}
+use Rattle.wi_engine.specs.Memory.{IsClosedUnderReads, IsMemoryOf}
+use Rattle.wi_engine.specs.ReadOrder.{IsReadOrder}
+use Rattle.wi_engine.specs.Remembered.{key_of, memory_of, remembered}
+
+-- a list, cut before one of its cells
+cut_before : (xs : List ℕ) (c : ℕ) → is_one_of xs c ≡ true → (front back : List ℕ) × (xs ≡ front ++ c ∷ back)
+cut_before [] c h = cc
+cut_before (x ∷ xs) c h = at (or_cases (x == c) _ h) (cut_before xs c)
+  where
+    at : ((x == c) ≡ true) ⊎ (is_one_of xs c ≡ true) → (is_one_of xs c ≡ true → (front back : List ℕ) × (xs ≡ front ++ c ∷ back)) → (front back : List ℕ) × (x ∷ xs ≡ front ++ c ∷ back)
+    at (inl k) ih = ([], xs, ap (λ (y : ℕ). y ∷ xs) (same_cell c x k))
+    at (inr k) ih = let i = ih k in (x ∷ i.0, i.1, ap (λ (ys : List ℕ). x ∷ ys) i.2)
+
+-- an order of reading has all cells with a formula that one of its cells reads
+pub closed_order : (s : Sheet) (order : List ℕ) → IsReadOrder s order → IsClosedUnderReads s (is_one_of order)
+closed_order s order o c d m r f =
+    let k = cut_before order c m in
+    let before = (o.each k.0 k.1 c k.2).reads d r f in
+    ap (λ (xs : List ℕ). is_one_of xs d) k.2 ∙ list_any-append (λ (x : ℕ). x == d) k.0 (c ∷ k.1) ∙ or_left (is_one_of k.0 d) _ before
+
+-- nothing is remembered yet
+pub no_memory : (s : Sheet) (order : List ℕ) (values : Entries) → IsReadOrder s order → values ≡ [] → IsMemoryOf s (memory_of (remembered s order values))
+no_memory s order values o e = record {
+  sheet = refl;
+  right = λ c w. subst (λ (es : Entries). IfSome (value_for es (key_of c w)) (λ v. v ≡ cell_value (put_all s w) c)) (sym e) tt;
+  closed = closed_order s order o;
+}
+
+-- a value is remembered for a key that was put in, or was before
+known_put : (old new : Entries) (k : Key) (v : Value) → Puts old new k v → (c : ℕ) (w : List Replacement) →
+    IfSome (value_for new (key_of c w)) (λ u. (value_for old (key_of c w) ≡ Some u) ⊎ ((c ≡ k.cell) × (w ≡ k.world) × (u ≡ v)))
+known_put old new k v p c w = subst (λ (o : Option Value). IfSome o Known) (sym (p (key_of c w))) (at (same_key k (key_of c w)) refl)
+  where
+    Known : Value → Type 0
+    Known u = (value_for old (key_of c w) ≡ Some u) ⊎ ((c ≡ k.cell) × (w ≡ k.world) × (u ≡ v))
+
+    before : (o : Option Value) → value_for old (key_of c w) ≡ o → IfSome o Known
+    before None e = tt
+    before (Some u) e = inl e
+
+    at : (b : Bool) → same_key k (key_of c w) ≡ b → IfSome (cond b (Some v) (value_for old (key_of c w))) Known
+    at true e = let same = (same_key_Decides k (key_of c w)).0 e in inr (ap (λ (q : Key). q.cell) (sym same), ap (λ (q : Key). q.world) (sym same), refl)
+    at false e = before (value_for old (key_of c w)) refl
+
+pub known_kept : (r : Result (Unit {0}) AllocError) (old new : Entries) (k : Key) (v : Value) → OnOk r (Puts old new k v) → OnErr r (new ≡ old) → (c : ℕ) (w : List Replacement) →
+    IfSome (value_for new (key_of c w)) (λ u. (value_for old (key_of c w) ≡ Some u) ⊎ ((c ≡ k.cell) × (w ≡ k.world) × (u ≡ v)))
+known_kept (Ok x) old new k v p e c w = known_put old new k v p c w
+known_kept (Err x) old new k v p e c w = before (value_for new (key_of c w)) (ap (λ (es : Entries). value_for es (key_of c w)) (sym e))
+  where
+    before : (o : Option Value) → value_for old (key_of c w) ≡ o → IfSome o (λ u. (value_for old (key_of c w) ≡ Some u) ⊎ ((c ≡ k.cell) × (w ≡ k.world) × (u ≡ v)))
+    before None h = tt
+    before (Some u) h = inl h

@@ -1,0 +1,7 @@
+-- What the proofs about the walk along references use.
+pub mod Cursors
+pub mod Loops
+pub mod PathSteps
+pub mod ReadOrders
+pub mod WalkLengths
+pub mod WalkSteps

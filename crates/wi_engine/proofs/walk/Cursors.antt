@@ -1,0 +1,167 @@
+-- What a visit is still to look at.
+use Rattle.std.proofs.Common.{◌≡◌, ℕ, suc, ◌+◌, ◌<◌, ◌≤◌, Bool, true, false, cond, List, [], ◌∷◌, ◌++◌, length, get_or, filter, drop, Option, Some, None, IfSome, IfNone, refl, sym, ap, ◌∙◌, subst, arith, append_assoc, append-nil}
+use Rattle.std.specs.Prelude.{nat_le, nat_lt}
+use Rattle.std.specs.List.{find, AllPairs}
+use Rattle.std.specs.List.Sorted.{IsStrictlyIncreasing}
+use Rattle.std.specs.Map.{keys_of}
+use Rattle.std.proofs.Math.Seq.{drop-cons}
+use Rattle.std.proofs.lemmas.Bool.Decides.{nat_tests}
+use Rattle.std.proofs.lemmas.List.Kept.{AllPairs-from_increasing, IsStrictlyIncreasing-filter}
+use Rattle.wi_values.specs.Address.{Area, is_within}
+use Rattle.wi_parser.specs.Sheet.{Sheet, content_of}
+use Rattle.wi_engine.specs.ReadCells.{rectangles_in, occupied_within, is_after, cells_after}
+use Rattle.wi_engine.specs.Walk.{Task, Enter, Leave, cells_ahead, unread, begun, enters, tasks_at, tasks_in}
+use Rattle.wi_engine.specs.declared.walk.Visit.{Visit}
+
+-- ---- a list in order
+
+abbrev Above : ℕ → List ℕ → Type 0
+Above x [] = Unit {0}
+Above x (y ∷ ys) = (x < y) × Above x ys
+
+above_from : (x : ℕ) (ys : List ℕ) → ((k d : ℕ) → k < length ys → x < get_or ys k d) → Above x ys
+above_from x [] h = tt
+above_from x (y ∷ ys) h = (h 0 0 (omega arith), above_from x ys (λ k d w. h (suc k) d (omega arith)))
+
+after_not : (a b : ℕ) → b ≤ a → nat_lt a b ≡ false
+after_not a b h = grind (arith, nat_tests)
+
+after_is : (a b : ℕ) → a < b → nat_lt a b ≡ true
+after_is a b h = grind (arith, nat_tests)
+
+at_most : (a b : ℕ) → nat_le a b ≡ true → a ≤ b
+at_most a b h = grind (arith, nat_tests)
+
+more_than : (a b : ℕ) → nat_le a b ≡ false → b < a
+more_than a b h = grind (arith, nat_tests)
+
+from_is : (a b : ℕ) → a ≤ b → nat_le a b ≡ true
+from_is a b h = grind (arith, nat_tests)
+
+-- all that come after x come at or after f, where x does
+both_pass : (f x : ℕ) (ys : List ℕ) → f ≤ x → Above x ys → filter (nat_le f) ys ≡ filter (nat_lt x) ys
+both_pass f x [] l h = refl
+both_pass f x (y ∷ ys) l h = rw (from_is f y (omega (arith, h.0)), after_is x y h.0, both_pass f x ys l h.1) refl
+
+found_above : (f c x : ℕ) (ys : List ℕ) → Above x ys → find (nat_le f) ys ≡ Some c → x < c
+found_above f c x [] h k = absurd (let z = k in cc)
+found_above f c x (y ∷ ys) h k = at (nat_le f y) k (found_above f c x ys h.1)
+  where
+    at : (b : Bool) → cond b (Some y) (find (nat_le f) ys) ≡ Some c → (find (nat_le f) ys ≡ Some c → x < c) → x < c
+    at true k ih = let same : y ≡ c = cc in subst (λ (n : ℕ). x < n) same h.0
+    at false k ih = ih k
+
+-- those from f on are the first of them and those after it
+from_first : (f c : ℕ) (xs : List ℕ) → AllPairs (λ x y. x < y) xs → find (nat_le f) xs ≡ Some c → filter (nat_le f) xs ≡ c ∷ filter (nat_lt c) xs
+from_first f c [] p h = absurd (let z = h in cc)
+from_first f c (x ∷ xs) p h = at (nat_le f x) refl h (from_first f c xs (λ i j d lt w. p (suc i) (suc j) d (omega arith) (omega arith)))
+  where
+    above : Above x xs
+    above = above_from x xs (λ k d w. p 0 (suc k) d (omega arith) (omega arith))
+
+    at : (b : Bool) → nat_le f x ≡ b → cond b (Some x) (find (nat_le f) xs) ≡ Some c → (find (nat_le f) xs ≡ Some c → filter (nat_le f) xs ≡ c ∷ filter (nat_lt c) xs) →
+        cond b (x ∷ filter (nat_le f) xs) (filter (nat_le f) xs) ≡ c ∷ cond (nat_lt c x) (x ∷ filter (nat_lt c) xs) (filter (nat_lt c) xs)
+    at true e k ih =
+        let same : x ≡ c = cc in
+        subst (λ (n : ℕ). x ∷ filter (nat_le f) xs ≡ n ∷ cond (nat_lt n x) (x ∷ filter (nat_lt n) xs) (filter (nat_lt n) xs)) same
+        (rw (after_not x x (omega arith)) (ap (λ (zs : List ℕ). x ∷ zs) (both_pass f x xs (at_most f x e) above)))
+    at false e k ih = rw (after_not c x (omega (arith, found_above f c x xs above k))) (ih k)
+
+none_pass : (p : ℕ → Bool) (xs : List ℕ) → find p xs ≡ None → filter p xs ≡ []
+none_pass p [] h = refl
+none_pass p (x ∷ xs) h = at (p x) h (none_pass p xs)
+  where
+    at : (b : Bool) → cond b (Some x) (find p xs) ≡ None → (find p xs ≡ None → filter p xs ≡ []) → cond b (x ∷ filter p xs) (filter p xs) ≡ []
+    at true k ih = absurd (let z = k in cc)
+    at false k ih = ih k
+
+-- two tests that are one where a third passes
+alike_within : (w p q : ℕ → Bool) → ((a : ℕ) → w a ≡ true → p a ≡ q a) → (xs : List ℕ) → filter p (filter w xs) ≡ filter q (filter w xs)
+alike_within w p q h [] = refl
+alike_within w p q h (x ∷ xs) = at (w x) refl (alike_within w p q h xs)
+  where
+    at : (b : Bool) → w x ≡ b → filter p (filter w xs) ≡ filter q (filter w xs) → filter p (cond b (x ∷ filter w xs) (filter w xs)) ≡ filter q (cond b (x ∷ filter w xs) (filter w xs))
+    at true e ih = rw (h x e, ih) refl
+    at false e ih = ih
+
+no_more : (xs : List ℕ) → filter (λ a. false) xs ≡ []
+no_more [] = refl
+no_more (x ∷ xs) = no_more xs
+
+pub all_pass : (xs : List ℕ) → filter (is_after None) xs ≡ xs
+all_pass [] = refl
+all_pass (x ∷ xs) = ap (λ (ys : List ℕ). x ∷ ys) (all_pass xs)
+
+-- ---- one rectangle
+
+pub next_some : (s : Sheet) (r : Area) (after : Option ℕ) (from c : ℕ) → IsStrictlyIncreasing (keys_of s) → ((a : ℕ) → is_within r a ≡ true → is_after after a ≡ nat_le from a) →
+    find (λ a. nat_le from a) (filter (is_within r) (keys_of s)) ≡ Some c → cells_after s r after ≡ c ∷ cells_after s r (Some c)
+next_some s r after from c asc alike h =
+    alike_within (is_within r) (is_after after) (nat_le from) alike (keys_of s)
+    ∙ from_first from c (filter (is_within r) (keys_of s)) (AllPairs-from_increasing _ (IsStrictlyIncreasing-filter (is_within r) (keys_of s) asc)) h
+
+pub next_none : (s : Sheet) (r : Area) (after : Option ℕ) (from : ℕ) → ((a : ℕ) → is_within r a ≡ true → is_after after a ≡ nat_le from a) →
+    find (λ a. nat_le from a) (filter (is_within r) (keys_of s)) ≡ None → cells_after s r after ≡ []
+next_none s r after from alike h =
+    alike_within (is_within r) (is_after after) (nat_le from) alike (keys_of s) ∙ none_pass (nat_le from) (filter (is_within r) (keys_of s)) h
+
+pub none_after : (s : Sheet) (r : Area) (after : Option ℕ) → ((a : ℕ) → is_within r a ≡ true → is_after after a ≡ false) → cells_after s r after ≡ []
+none_after s r after h = alike_within (is_within r) (is_after after) (λ a. false) h (keys_of s) ∙ no_more (filter (is_within r) (keys_of s))
+
+pub next_if_some : (s : Sheet) (r : Area) (after : Option ℕ) (from : ℕ) (o : Option ℕ) → IsStrictlyIncreasing (keys_of s) → ((a : ℕ) → is_within r a ≡ true → is_after after a ≡ nat_le from a) →
+    o ≡ find (λ a. nat_le from a) (filter (is_within r) (keys_of s)) → IfSome o (λ c. cells_after s r after ≡ c ∷ cells_after s r (Some c))
+next_if_some s r after from None asc alike h = tt
+next_if_some s r after from (Some c) asc alike h = next_some s r after from c asc alike (sym h)
+
+pub next_if_none : (s : Sheet) (r : Area) (after : Option ℕ) (from : ℕ) (o : Option ℕ) → ((a : ℕ) → is_within r a ≡ true → is_after after a ≡ nat_le from a) →
+    o ≡ find (λ a. nat_le from a) (filter (is_within r) (keys_of s)) → IfNone o (cells_after s r after ≡ [])
+next_if_none s r after from None alike h = next_none s r after from alike (sym h)
+next_if_none s r after from (Some c) alike h = tt
+
+pub whichever : (P : Type 0) (o : Option ℕ) → P → IfNone o P
+whichever P None h = h
+whichever P (Some c) h = tt
+
+-- ---- rectangles
+
+pub ahead_all : (s : Sheet) (rs : List Area) → cells_ahead s rs None ≡ occupied_within s rs
+ahead_all s [] = refl
+ahead_all s (r ∷ rs) = ap (λ (xs : List ℕ). xs ++ occupied_within s rs) (all_pass (filter (is_within r) (keys_of s)))
+
+pub ahead_some : (s : Sheet) (rs more : List Area) (r : Area) (o : Option ℕ) (c : ℕ) → rs ≡ r ∷ more → cells_after s r o ≡ c ∷ cells_after s r (Some c) → cells_ahead s rs o ≡ c ∷ cells_ahead s rs (Some c)
+ahead_some s rs more r o c e h = rw e (ap (λ (xs : List ℕ). xs ++ occupied_within s more) h)
+
+pub ahead_none : (s : Sheet) (rs more : List Area) (r : Area) (o : Option ℕ) → rs ≡ r ∷ more → cells_after s r o ≡ [] → cells_ahead s more None ≡ cells_ahead s rs o
+ahead_none s rs more r o e h = rw e (ahead_all s more ∙ sym (ap (λ (xs : List ℕ). xs ++ occupied_within s more) h))
+
+-- on to the next rectangle
+pub next_rectangle : (s : Sheet) (rs : List Area) (i : ℕ) (r : Area) (o : Option ℕ) → i < length rs → r ≡ get_or rs i r → cells_after s r o ≡ [] → cells_ahead s (drop (i + 1) rs) None ≡ cells_ahead s (drop i rs) o
+next_rectangle s rs i r o l e h =
+    let cut : drop i rs ≡ r ∷ drop (suc i) rs = drop-cons rs i r l ∙ ap (λ (x : Area). x ∷ drop (suc i) rs) (sym e) in
+    ap (λ (n : ℕ). cells_ahead s (drop n rs) None) one ∙ ahead_none s (drop i rs) (drop (suc i) rs) r o cut h
+  where
+    one : i + 1 ≡ suc i
+    one = omega arith
+
+-- ---- paths
+
+path-push : (s : Sheet) (path : List Visit) (v : Visit) → tasks_in s (path ++ v ∷ []) ≡ tasks_in s path ++ tasks_at s v
+path-push s [] v = append-nil (tasks_at s v)
+path-push s (u ∷ us) v = ap (λ (ts : List Task). tasks_at s u ++ ts) (path-push s us v) ∙ sym (append_assoc (tasks_at s u) (tasks_in s us) (tasks_at s v))
+
+pub path-begun : (s : Sheet) (path : List Visit) (c : ℕ) → tasks_in s (path ++ begun c ∷ []) ≡ tasks_in s path ++ Leave c ∷ enters (occupied_within s (rectangles_in (content_of s c)))
+path-begun s path c = path-push s path (begun c) ∙ ap (λ (xs : List ℕ). tasks_in s path ++ Leave c ∷ enters xs) (ahead_all s (rectangles_in (content_of s c)))
+
+pub path-next : (s : Sheet) (path : List Visit) (v w : Visit) (c : ℕ) → unread s v ≡ c ∷ unread s w → w.cell ≡ v.cell → tasks_in s (path ++ v ∷ []) ≡ tasks_in s (path ++ w ∷ []) ++ Enter c ∷ []
+path-next s path v w c h e =
+    path-push s path v
+    ∙ ap (λ (xs : List ℕ). tasks_in s path ++ Leave v.cell ∷ enters xs) h
+    ∙ ap (λ (x : ℕ). tasks_in s path ++ Leave x ∷ enters (c ∷ unread s w)) (sym e)
+    ∙ sym (append_assoc (tasks_in s path) (tasks_at s w) (Enter c ∷ []))
+    ∙ ap (λ (ts : List Task). ts ++ Enter c ∷ []) (sym (path-push s path w))
+
+pub path-done : (s : Sheet) (path : List Visit) (v : Visit) → unread s v ≡ [] → tasks_in s (path ++ v ∷ []) ≡ tasks_in s path ++ Leave v.cell ∷ []
+path-done s path v h = path-push s path v ∙ ap (λ (xs : List ℕ). tasks_in s path ++ Leave v.cell ∷ enters xs) h
+
+pub path-on : (s : Sheet) (path more : List Visit) (v w : Visit) (c : ℕ) → unread s v ≡ c ∷ unread s w → w.cell ≡ v.cell → more ≡ path ++ w ∷ [] → tasks_in s (path ++ v ∷ []) ≡ tasks_in s more ++ Enter c ∷ []
+path-on s path more v w c h e m = path-next s path v w c h e ∙ ap (λ (vs : List Visit). tasks_in s vs ++ Enter c ∷ []) (sym m)

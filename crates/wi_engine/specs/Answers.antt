@@ -1,0 +1,64 @@
+-- What is known while one formula is valued, what it lacks, and what it asks for.
+use Rattle.std.specs.Prelude.{◌≡◌, ◌≤◌, ℕ, ◌+◌, Bool, ◌&&◌, true, List, map, filter, length, Contains, Option, Some, None}
+use Rattle.std.specs.Option.{is_none}
+use Rattle.wi_values.specs.Address.{Area, is_within, size_of}
+use Rattle.wi_values.specs.declared.value.Value.{Value}
+use Rattle.wi_values.specs.declared.value.Value.TheVariants.{Empty}
+use Rattle.wi_values.specs.declared.replacement.Replacement.{Replacement}
+use Rattle.wi_parser.specs.Tree.{Tree}
+use Rattle.wi_parser.specs.View.{pair_of}
+use Rattle.wi_parser.specs.declared.content.Content.{Content}
+use Rattle.wi_parser.specs.declared.content.Content.TheVariants.{Constant, Formula}
+use Rattle.wi_parser.specs.Sheet.{Sheet, content_of, put_all, has_formula, cells_with_formula}
+use Rattle.wi_parser.specs.Reads.{rectangles_of}
+use Rattle.wi_functions.specs.Meaning.{addresses}
+use Rattle.wi_functions.specs.Wants.{Asks}
+use Rattle.wi_functions.specs.declared.evaluation.Want.{Want}
+use Rattle.wi_functions.specs.declared.evaluation.Want.TheVariants.{Cell, WhatIf}
+use Rattle.wi_sheet.specs.Demand.{formulas_read_here, what_ifs_of}
+use Rattle.wi_engine.specs.Findings.{cell_found, what_if_found}
+use Rattle.wi_engine.specs.declared.findings.Findings.{Findings}
+
+-- what is known of a cell with this content, of which this was found
+abbrev pub known_in : Option Content → Option Value → Option Value
+known_in None found = Some Empty
+known_in (Some (Constant v)) found = Some v
+known_in (Some (Formula t)) found = found
+
+-- what is known of a cell under replacements
+abbrev pub cell_known : Sheet → List Replacement → Findings → ℕ → Option Value
+cell_known s w f c = known_in (content_of (put_all s w) c) (cell_found f c)
+
+-- the formula that stands in a cell under replacements asks for this
+pub record AsksAt (s : Sheet) (w : List Replacement) (c : ℕ) (want : Want) : Type 0 where
+  pub tree : Tree
+  pub is : content_of (put_all s w) c ≡ Some (Formula tree)
+  pub asks : Asks tree want
+
+-- a value that was not found: of a cell that has a formula under replacements, or of a what-if
+abbrev pub IsLacking : Sheet → List Replacement → Findings → Want → Type 0
+IsLacking s w f (Cell a) = (has_formula (content_of (put_all s w) a) ≡ true) × (cell_found f a ≡ None)
+IsLacking s w f (WhatIf c pairs) = what_if_found f c (map addresses (map pair_of pairs.items)) ≡ None
+
+-- a cell has a formula under replacements, and its value was not found: as a test
+abbrev pub lacks_cell : Sheet → List Replacement → Findings → ℕ → Bool
+lacks_cell s w f a = has_formula (content_of (put_all s w) a) && is_none (cell_found f a)
+
+-- how many of the values on which a tree's value rests were not found: of cells with a formula that it reads as the sheet
+-- stands, and of what-ifs
+abbrev pub lacking : Sheet → Tree → Findings → ℕ
+lacking s t f =
+    length (filter (λ c. is_none (cell_found f c)) (formulas_read_here s t))
+    + length (filter (λ x. is_none (what_if_found f x.0 x.1)) (what_ifs_of t))
+
+-- the rectangle is one of these, it holds the cell, and none of these that holds it has fewer cells
+pub record IsSmallestWith (rs : List Area) (a : ℕ) (r : Area) : Type 0 where
+  pub one_of : Contains rs r
+  pub holds : is_within r a ≡ true
+  pub least : (o : Area) → Contains rs o → is_within o a ≡ true → size_of r ≤ size_of o
+
+-- the cells are those with a formula of one rectangle that the formula reads, a smallest that holds the cell
+pub record AreOfRectangle (s : Sheet) (t : Tree) (a : ℕ) (xs : List ℕ) : Type 0 where
+  pub rectangle : Area
+  pub smallest : IsSmallestWith (rectangles_of t) a rectangle
+  pub cells : xs ≡ filter (is_within rectangle) (cells_with_formula s)

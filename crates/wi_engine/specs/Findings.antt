@@ -1,0 +1,53 @@
+-- The values that were found for one formula.
+use Rattle.std.specs.Prelude.{◌≡◌, ◌==◌, ℕ, Bool, true, false, ◌&&◌, List, [], ◌∷◌, ◌++◌, map, Option, Some, None, if◌then◌else◌}
+use Rattle.std.specs.Ordering.{nat_cmp}
+use Rattle.std.specs.BTreeMap.{get}
+use Rattle.wi_values.specs.declared.value.Value.{Value}
+use Rattle.wi_parser.specs.View.{pair_of}
+use Rattle.wi_functions.specs.Meaning.{addresses}
+use Rattle.wi_functions.specs.Assignment.{AgreesWith}
+use Rattle.wi_engine.specs.declared.findings.Findings.{Findings}
+use Rattle.wi_engine.specs.declared.findings.FoundWhatIf.{FoundWhatIf}
+
+-- the same inputs, each with the same replacement cell
+abbrev pub same_pairs : List (ℕ × ℕ) → List (ℕ × ℕ) → Bool
+same_pairs [] [] = true
+same_pairs [] (q ∷ qs) = false
+same_pairs (p ∷ ps) [] = false
+same_pairs (p ∷ ps) (q ∷ qs) = p.0 == q.0 && (p.1 == q.1 && same_pairs ps qs)
+
+-- the inputs of what was found, each with its replacement cell
+abbrev pub pairs_of : FoundWhatIf → List (ℕ × ℕ)
+pairs_of f = map addresses (map pair_of f.pairs.items)
+
+-- the first value for a what-if
+abbrev pub first_for : List FoundWhatIf → ℕ → List (ℕ × ℕ) → Option Value
+first_for [] c pairs = None
+first_for (f ∷ fs) c pairs = if f.at == c && same_pairs (pairs_of f) pairs then Some f.value else first_for fs c pairs
+
+-- the value found of a cell
+abbrev pub cell_found : Findings → ℕ → Option Value
+cell_found f c = get nat_cmp f.cells c
+
+-- the value found of a what-if
+abbrev pub what_if_found : Findings → ℕ → List (ℕ × ℕ) → Option Value
+what_if_found f = first_for f.what_ifs.items
+
+-- each value found of a cell, and each of a what-if, is so
+abbrev pub AreAllRight : (ℕ → Value) → (ℕ → List (ℕ × ℕ) → Value) → Findings → Type 0
+AreAllRight cells what_ifs f = AgreesWith (cell_found f) (what_if_found f) (record { cells = cells; what_ifs = what_ifs })
+
+-- the second is the first with a cell's value, which stands in the place of an earlier one
+pub record IsWithCell (f g : Findings) (a : ℕ) (v : Value) : Type 0 where
+  pub cells : (c : ℕ) → cell_found g c ≡ (if a == c then Some v else cell_found f c)
+  pub what_ifs : g.what_ifs.items ≡ f.what_ifs.items
+
+-- the second is the first with a what-if's value behind the others
+pub record IsWithWhatIf (f g : Findings) (x : FoundWhatIf) : Type 0 where
+  pub cells : (c : ℕ) → cell_found g c ≡ cell_found f c
+  pub what_ifs : g.what_ifs.items ≡ f.what_ifs.items ++ x ∷ []
+
+-- both have the same values
+pub record IsSame (f g : Findings) : Type 0 where
+  pub cells : g.cells.entries ≡ f.cells.entries
+  pub what_ifs : g.what_ifs.items ≡ f.what_ifs.items

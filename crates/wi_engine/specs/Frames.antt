@@ -1,0 +1,127 @@
+-- What is so of the frames: cases whose formulas are being valued, each resting on the next.
+use Rattle.std.specs.Prelude.{◌≡◌, ℕ, ◌+◌, ◌-◌, ◌<◌, ◌||◌, Bool, true, false, List, [], ◌∷◌, Option, Contains}
+use Rattle.wi_values.specs.declared.replacement.Replacement.{Replacement}
+use Rattle.wi_parser.specs.declared.content.Content.{Content}
+use Rattle.wi_parser.specs.Sheet.{Sheet, content_of, put_all, has_formula}
+use Rattle.wi_functions.specs.declared.evaluation.Want as want
+use Rattle.wi_cache.specs.declared.key.Key.{Key}
+use Rattle.wi_graph.specs.Circular.{circular}
+use Rattle.wi_graph.specs.Reach.{is_one_of}
+use Rattle.wi_sheet.specs.CellValue.{cell_value, what_if_value}
+use Rattle.wi_sheet.specs.Demand.{Case, same_case, reaching, reads_here, of_formula}
+use Rattle.wi_sheet.specs.Spending.{RestsOn, IsClosed, left}
+use Rattle.wi_engine.specs.Rank.{rank}
+use Rattle.wi_engine.specs.Memory.{Memory}
+use Rattle.wi_engine.specs.Findings.{AreAllRight}
+use Rattle.wi_engine.specs.Answers.{AsksAt, IsLacking, lacking}
+use Rattle.wi_engine.specs.declared.findings.Findings.{Findings}
+use Rattle.wi_engine.specs.declared.frame.Frame.{Frame}
+use Rattle.wi_engine.specs.declared.frame.Waiting.{Waiting}
+use Rattle.wi_engine.specs.declared.frame.Waiting.TheVariants.{Nothing, Cells, WhatIf}
+
+-- the case of a key
+abbrev pub case_at : Key → Case
+case_at k = (k.cell, k.world)
+
+-- a cell that may be valued: it is not circular, and keys are made for it if it has a formula
+pub record MayBeRead (s : Sheet) (m : Memory) (a : ℕ) : Type 0 where
+  pub open_cell : circular s a ≡ false
+  pub covered : has_formula (content_of s a) ≡ true → m.covers a ≡ true
+
+-- a key for a formula under replacements
+pub record IsToValue (s : Sheet) (m : Memory) (k : Key) : Type 0 where
+  pub formula : has_formula (content_of (put_all s k.world) k.cell) ≡ true
+  pub open_cell : circular s k.cell ≡ false
+  pub covered : m.covers k.cell ≡ true
+  pub generation : k.generation ≡ m.generation k.cell
+
+-- the key of a cell under replacements, whose formula has to be valued
+pub record IsUnvalued (s : Sheet) (m : Memory) (w : List Replacement) (a : ℕ) (k : Key) : Type 0 where
+  pub formula : has_formula (content_of (put_all s w) a) ≡ true
+  pub cell : k.cell ≡ a
+  pub world : k.world ≡ reaching s a w
+  pub key : IsToValue s m k
+  pub unfound : m.found k.cell k.world ≡ false
+
+-- what stands in a cell reads this one as the sheet stands
+abbrev pub content_reads_here : Option Content → ℕ → Bool
+content_reads_here o a = of_formula o false (λ t. reads_here t a)
+
+-- each of these cells has a formula and is read as the sheet stands by what stands in the case's cell
+abbrev pub AreReadHere : Sheet → Case → List ℕ → Type 0
+AreReadHere s k cells = (d : ℕ) → is_one_of cells d ≡ true → (content_reads_here (content_of (put_all s k.1) k.0) d ≡ true) × (has_formula (content_of s d) ≡ true)
+
+-- this is asked for by what stands in the case's cell, and was not found
+abbrev pub Awaits : Sheet → Case → Findings → Waiting → Type 0
+Awaits s k f Nothing = Unit {0}
+Awaits s k f (Cells a others) =
+    IsLacking s k.1 f (want.TheVariants.Cell a) × (content_reads_here (content_of (put_all s k.1) k.0) a ≡ true) × (has_formula (content_of s a) ≡ true) × AreReadHere s k others.items
+Awaits s k f (WhatIf a pairs) = IsLacking s k.1 f (want.TheVariants.WhatIf a pairs) × AsksAt s k.1 k.0 (want.TheVariants.WhatIf a pairs)
+
+-- what is so of a frame by itself
+pub record IsFrame (s : Sheet) (m : Memory) (f : Frame) : Type 0 where
+  pub key : IsToValue s m f.key
+  pub found : AreAllRight (cell_value (put_all s f.key.world)) (what_if_value (put_all s f.key.world)) f.found
+  pub waiting : Awaits s (case_at f.key) f.found f.waiting
+
+-- a key whose value has to be found before a frame's
+pub record IsNext (s : Sheet) (m : Memory) (below k : Key) : Type 0 where
+  pub rests : RestsOn s (case_at below) (case_at k)
+  pub key : IsToValue s m k
+  pub unfound : m.found k.cell k.world ≡ false
+
+-- ---- restarts
+
+-- one where something is waited for
+abbrev pub waits : Waiting → ℕ
+waits Nothing = 0
+waits (Cells a others) = 1
+waits (WhatIf a pairs) = 1
+
+-- how many values a frame's formula lacks
+abbrev pub lacks : Sheet → Key → Findings → ℕ
+lacks s k f = of_formula (content_of (put_all s k.world) k.cell) 0 (λ t. lacking s t f)
+
+-- how often a frame's formula may still have to be evaluated again
+abbrev pub spare : Sheet → Frame → ℕ
+spare s f = lacks s f.key f.found - waits f.waiting
+
+-- ---- a stack of frames
+
+-- a case that every closed list with the root has
+abbrev pub IsDemanded : Sheet → Case → Case → Type 0
+IsDemanded s root k = (ks : List Case) → IsClosed s ks → Contains ks root → Contains ks k
+
+-- what is so of a frame that was begun for the root
+pub record IsBegun (s : Sheet) (m : Memory) (root : Case) (f : Frame) : Type 0 where
+  pub frame : IsFrame s m f
+  pub unfound : m.found f.key.cell f.key.world ≡ false
+  pub demanded : IsDemanded s root (case_at f.key)
+
+-- the ranks of these are below a number
+abbrev pub AreBelow : Sheet → List Frame → ℕ → Type 0
+AreBelow s [] n = Unit {0}
+AreBelow s (f ∷ fs) n = (rank s f.key.cell < n) × AreBelow s fs n
+
+-- the frames below one of rank r, the lowest first: ranks fall from each to those above it
+abbrev pub IsStack : Sheet → Memory → Case → List Frame → ℕ → Type 0
+IsStack s m root [] r = Unit {0}
+IsStack s m root (f ∷ fs) r = IsBegun s m root f × (r < rank s f.key.cell) × AreBelow s fs (rank s f.key.cell) × IsStack s m root fs r
+
+-- the lowest frame is the root's
+abbrev pub BottomIs : Case → List Frame → Frame → Type 0
+BottomIs root [] f = case_at f.key ≡ root
+BottomIs root (g ∷ fs) f = case_at g.key ≡ root
+
+-- found, or being found in one of these frames
+abbrev pub taken : (ℕ → List Replacement → Bool) → List Frame → ℕ → List Replacement → Bool
+taken found [] c w = found c w
+taken found (f ∷ fs) c w = taken found fs c w || same_case (case_at f.key) (c, w)
+
+abbrev pub all_spare : (Frame → ℕ) → List Frame → ℕ
+all_spare of [] = 0
+all_spare of (f ∷ fs) = of f + all_spare of fs
+
+-- what was counted, with what the frames and the cases not yet taken may still count
+abbrev pub at_most : (Case → ℕ) → (Frame → ℕ) → (ℕ → List Replacement → Bool) → List Frame → ℕ → List Case → ℕ
+at_most weight of found fs n ks = n + (all_spare of fs + left weight (taken found fs) ks)

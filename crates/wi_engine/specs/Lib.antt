@@ -1,0 +1,11 @@
+pub mod ReadCells
+pub mod ReadOrder
+pub mod Walk
+pub mod Rank
+pub mod Memory
+pub mod Remembered
+pub mod Seen
+pub mod Findings
+pub mod Answers
+pub mod Frames
+pub mod Steps

@@ -1,0 +1,33 @@
+-- What is remembered of the values of a sheet's cells.
+use Rattle.std.specs.Prelude.{◌≡◌, ℕ, Bool, true, List, Option, IfSome}
+use Rattle.wi_values.specs.declared.value.Value.{Value}
+use Rattle.wi_values.specs.declared.replacement.Replacement.{Replacement}
+use Rattle.wi_parser.specs.Sheet.{Sheet, content_of, put_all, has_formula}
+use Rattle.wi_parser.specs.Reads.{content_reads}
+use Rattle.wi_sheet.specs.CellValue.{cell_value}
+
+pub record Memory : Type 0 where
+  -- the sheet whose values are remembered
+  pub sheet : Sheet
+  -- the cells for which keys are made
+  pub covers : ℕ → Bool
+  -- how often a cell's value may have changed
+  pub generation : ℕ → ℕ
+  -- the value that is remembered of a cell under replacements; it may be forgotten
+  pub known : ℕ → List Replacement → Option Value
+  -- whether a value was found since this was made; that is never forgotten
+  pub found : ℕ → List Replacement → Bool
+
+-- each value that is remembered is the cell's
+abbrev pub AreKnownRight : Sheet → (ℕ → List Replacement → Option Value) → Type 0
+AreKnownRight s known = (c : ℕ) (w : List Replacement) → IfSome (known c w) (λ v. v ≡ cell_value (put_all s w) c)
+
+-- of a cell that is covered, each cell that it reads is covered where it has a formula
+abbrev pub IsClosedUnderReads : Sheet → (ℕ → Bool) → Type 0
+IsClosedUnderReads s covers = (c d : ℕ) → covers c ≡ true → content_reads (content_of s c) d ≡ true → has_formula (content_of s d) ≡ true → covers d ≡ true
+
+-- what is remembered is so of this sheet
+pub record IsMemoryOf (s : Sheet) (m : Memory) : Type 0 where
+  pub sheet : m.sheet ≡ s
+  pub right : AreKnownRight s m.known
+  pub closed : IsClosedUnderReads s m.covers

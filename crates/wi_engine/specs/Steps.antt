@@ -1,0 +1,44 @@
+-- What a step of a valuation gives.
+use Rattle.std.specs.Prelude.{ℕ, List}
+use Rattle.wi_values.specs.declared.value.Value.{Value}
+use Rattle.wi_values.specs.declared.replacement.Replacement.{Replacement}
+use Rattle.wi_functions.specs.Counts.{one_more}
+use Rattle.wi_cache.specs.declared.key.Key.{Key}
+use Rattle.wi_engine.specs.declared.frame.Asked as asked
+use Rattle.wi_engine.specs.declared.frame.Inputs as inputs
+use Rattle.wi_engine.specs.declared.frame.Step as step
+
+-- a fact of a value that is there
+abbrev pub IfKnown : asked.Asked → (Value → Type 0) → Type 0
+IfKnown (asked.TheVariants.Known v) P = P v
+IfKnown (asked.TheVariants.Unknown k) P = Unit {0}
+
+-- a fact of the key of a value that is not
+abbrev pub IfUnknown : asked.Asked → (Key → Type 0) → Type 0
+IfUnknown (asked.TheVariants.Known v) P = Unit {0}
+IfUnknown (asked.TheVariants.Unknown k) P = P k
+
+-- a fact of replacements with a what-if's put in
+abbrev pub IfReplaced : inputs.Inputs → (List Replacement → Type 0) → Type 0
+IfReplaced (inputs.TheVariants.Known w) P = P w
+IfReplaced (inputs.TheVariants.Unknown k) P = Unit {0}
+
+-- a fact of the key of an input whose value is not there
+abbrev pub IfInputUnknown : inputs.Inputs → (Key → Type 0) → Type 0
+IfInputUnknown (inputs.TheVariants.Known w) P = Unit {0}
+IfInputUnknown (inputs.TheVariants.Unknown k) P = P k
+
+-- a fact of a frame's value
+abbrev pub IfDone : step.Step → (Value → Type 0) → Type 0
+IfDone (step.TheVariants.Done v) P = P v
+IfDone (step.TheVariants.Needs k) P = Unit {0}
+
+-- a fact of a key that a frame needs
+abbrev pub IfNeeds : step.Step → (Key → Type 0) → Type 0
+IfNeeds (step.TheVariants.Done v) P = Unit {0}
+IfNeeds (step.TheVariants.Needs k) P = P k
+
+-- an evaluation that is done counts one
+abbrev pub evaluations_after : step.Step → ℕ → ℕ
+evaluations_after (step.TheVariants.Done v) n = one_more n
+evaluations_after (step.TheVariants.Needs k) n = n

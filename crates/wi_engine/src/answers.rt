@@ -1,0 +1,95 @@
+//! One evaluation over what is known, and what is to be found for it.
+
+ghost use Rattle.std.specs.Prelude.{◌≡◌, ℕ, true, false, nat_lt, if◌then◌else◌, IfOk, OnErr};
+ghost use Rattle.std.specs.List.{list_any};
+ghost use Rattle.wi_values.specs.Address.{is_within, size_of};
+ghost use Rattle.wi_parser.specs.Sheet.{content_of, has_formula, put_all};
+ghost use Rattle.wi_functions.specs.Wants.{IfDone, IfWanting, counted};
+ghost use Rattle.wi_graph.specs.Circular.{circular};
+ghost use Rattle.wi_graph.specs.Reach.{is_one_of};
+ghost use Rattle.wi_sheet.specs.CellValue as show;
+ghost use Rattle.wi_sheet.specs.Demand.{reads_here};
+ghost use Rattle.wi_engine.specs.Findings.{AreAllRight};
+ghost use Rattle.wi_engine.specs.Answers.{AsksAt, IsLacking, IsSmallestWith, AreOfRectangle};
+
+use crate::findings::Findings;
+use crate::lookup::Known;
+use crate::seen::{Seen, content_in};
+use std::alloc::{AllocError, Global};
+use wi_functions::{Meter, Outcome, evaluate};
+use wi_parser::Formula;
+use wi_store::Store;
+use wi_values::{Address, Rect};
+use wi_worlds::World;
+
+/// A formula's value under replacements, where what is known suffices, or what is lacking. Either is counted; want of
+/// memory counts nothing. The work is one walk over the formula's tree, in which each cell costs the logarithms of the
+/// counts of replacements, of occupied cells and of cells found, and each what-if a look through those found.
+pub fn answer(
+    alloc: Global,
+    store: &Store,
+    at: Address,
+    world: &World,
+    found: &Findings,
+    meter: &mut Meter,
+) -> Result<Outcome, AllocError>
+    requires open { circular store.now.sheet at ≡ false }
+    requires formula { has_formula (content_of (put_all store.now.sheet world.now) at) ≡ true }
+    requires right { AreAllRight (show.cell_value (put_all store.now.sheet world.now)) (show.what_if_value (put_all store.now.sheet world.now)) found.now }
+    ensures done { IfOk result (λ o. IfDone o (λ v. v ≡ show.cell_value (put_all store.now.sheet world.now) at)) }
+    ensures asked { IfOk result (λ o. IfWanting o (AsksAt store.now.sheet world.now at)) }
+    ensures lacking { IfOk result (λ o. IfWanting o (IsLacking store.now.sheet world.now found.now)) }
+    ensures counted { IfOk result (λ o. meter.new ≡ counted o meter.old) }
+    ensures err { OnErr result (meter.new ≡ meter.old) }
+{
+    let Seen::Formula(formula) = content_in(store, world, at) else {
+        unreachable!()
+    };
+    let known = Known::new(store, world, found);
+    evaluate(alloc, formula, &known, meter)
+}
+
+/// The cells with a formula that are to be found together with one that a formula lacks: those of the smallest of its
+/// rectangles that hold it, so that a large one is not found for the sake of a cell that is read alone. The work grows
+/// with the count of its rectangles, and as that of `Store::formulas_in`.
+pub fn together(store: &Store, formula: &Formula, at: Address) -> Result<Vec<Address>, AllocError>
+    requires read { reads_here formula.now at ≡ true }
+    requires formula { has_formula (content_of store.now.sheet at) ≡ true }
+    ensures read { IfOk result (λ v. (d : ℕ) → is_one_of v.items d ≡ true → (reads_here formula.now d ≡ true) × (has_formula (content_of store.now.sheet d) ≡ true)) }
+    ensures wanted { IfOk result (λ v. is_one_of v.items at ≡ true) }
+    ensures whole { IfOk result (λ v. AreOfRectangle store.now.sheet formula.now at v.items) }
+{
+    store.formulas_in(smallest_with(formula.rectangles(), at))
+}
+
+/// The one of rectangles that holds a cell and has the fewest cells, the first where more have as few. The work grows
+/// with their count.
+pub fn smallest_with(rectangles: &[Rect], at: Address) -> Rect
+    requires { list_any (λ r. is_within r at) rectangles.now ≡ true }
+    ensures { IsSmallestWith rectangles.now at result }
+{
+    let mut smallest = None;
+    for rectangle in rectangles {
+        if rectangle.contains(at) {
+            smallest = Some(match smallest {
+                Some(kept) => smaller(kept, *rectangle),
+                None => *rectangle,
+            });
+        }
+    }
+    let Some(smallest) = smallest else {
+        unreachable!()
+    };
+    smallest
+}
+
+/// The one of two rectangles with fewer cells, the first where they have as many.
+fn smaller(first: Rect, second: Rect) -> Rect
+    ensures { result ≡ if nat_lt (size_of second) (size_of first) then second else first }
+{
+    if second.size() < first.size() {
+        second
+    } else {
+        first
+    }
+}

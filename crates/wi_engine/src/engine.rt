@@ -1,0 +1,351 @@
+//! Values by a stack of frames.
+
+ghost use Rattle.std.specs.Prelude.{◌≡◌, ◌==◌, ◌+◌, ◌≤◌, ◌∷◌, [], ◌⊎◌, ℕ, true, false, None, Ok, All, Contains, map, IfOk, IfSome, IfNone, OnOk, OnErr};
+ghost use Rattle.std.specs.List.{list_any};
+ghost use Rattle.wi_values.specs.Replacements.{IsInOrder};
+ghost use Rattle.wi_parser.specs.View.{pair_of};
+ghost use Rattle.wi_parser.specs.Sheet.{put_all};
+ghost use Rattle.wi_functions.specs.Meaning.{addresses};
+ghost use Rattle.wi_functions.specs.declared.evaluation.Want.TheVariants as wanted;
+ghost use Rattle.wi_graph.specs.Reach.{is_one_of};
+ghost use Rattle.wi_sheet.specs.CellValue as show;
+ghost use Rattle.wi_sheet.specs.Demand.{with_what_if, wants};
+ghost use Rattle.wi_sheet.specs.Spending.{CountsAtMost, CountsFound, HasCase};
+ghost use Rattle.wi_engine.specs.Memory.{IsMemoryOf};
+ghost use Rattle.wi_engine.specs.Answers.{AsksAt, IsLacking, lacks_cell};
+ghost use Rattle.wi_engine.specs.Frames.{MayBeRead, IsToValue, IsUnvalued, AreReadHere, Awaits, IsFrame, IsNext, case_at, spare, waits};
+ghost use Rattle.wi_engine.specs.Steps.{IfKnown, IfUnknown, IfReplaced, IfInputUnknown, IfDone, IfNeeds, evaluations_after};
+ghost use Rattle.wi_engine.specs.declared.frame.Waiting.TheVariants as waiting;
+
+use crate::answers::{answer, together};
+use crate::findings::FoundWhatIf;
+use crate::frame::{Asked, Frame, Inputs, Step, Waiting};
+use crate::memo::Memo;
+use crate::seen::{Seen, content_in, formula_at};
+use std::alloc::{AllocError, Global};
+use std::mem;
+use wi_cache::Key;
+use wi_functions::{Meter, Outcome, Want};
+use wi_parser::Pair;
+use wi_store::Store;
+use wi_values::{Address, Replacement, Value};
+use wi_worlds::World;
+
+/// A cell's value under replacements, where no formula has to be evaluated for it: nothing, a constant, or what is
+/// remembered.
+fn value_now<M: Memo>(
+    alloc: Global,
+    store: &Store,
+    world: &World,
+    at: Address,
+    memo: &mut M,
+) -> Result<Asked, AllocError>
+    requires memory { IsMemoryOf store.now.sheet (M.memory memo.old) }
+    requires read { MayBeRead store.now.sheet (M.memory memo.old) at }
+    ensures known { IfOk result (λ a. IfKnown a (λ v. v ≡ show.cell_value (put_all store.now.sheet world.now) at)) }
+    ensures unknown { IfOk result (λ a. IfUnknown a (IsUnvalued store.now.sheet (M.memory memo.old) world.now at)) }
+    ensures same { M.memory memo.new ≡ M.memory memo.old }
+{
+    match content_in(store, world, at) {
+        Seen::Nothing => Ok(Asked::Known(Value::Empty)),
+        Seen::Constant(value) => Ok(Asked::Known(value.copy(alloc)?)),
+        Seen::Formula(_) => {
+            let key = memo.key(at, world)?;
+            match memo.look(&key) {
+                Some(value) => Ok(Asked::Known(value.copy(alloc)?)),
+                None => Ok(Asked::Unknown(key)),
+            }
+        }
+    }
+}
+
+/// Replacements with those of a what-if put in. All its inputs' values are taken before any is put.
+fn replaced<M: Memo>(
+    alloc: Global,
+    store: &Store,
+    world: &World,
+    pairs: &[Pair],
+    memo: &mut M,
+) -> Result<Inputs, AllocError>
+    requires memory { IsMemoryOf store.now.sheet (M.memory memo.old) }
+    requires read { All (λ p. MayBeRead store.now.sheet (M.memory memo.old) p.by.at) pairs.now }
+    ensures known { IfOk result (λ i. IfReplaced i (λ w. w ≡ with_what_if store.now.sheet world.now (map addresses (map pair_of pairs.now)))) }
+    ensures unknown { IfOk result (λ i. IfInputUnknown i (λ k. (list_any (λ p. p.1.at == k.cell) (map pair_of pairs.now) ≡ true) × IsUnvalued store.now.sheet (M.memory memo.old) world.now k.cell k)) }
+    ensures order { IsInOrder world.now }
+    ensures same { M.memory memo.new ≡ M.memory memo.old }
+{
+    let _ = world.replacements();
+    let mut inputs = Vec::new(alloc);
+    for pair in pairs {
+        match value_now(alloc, store, world, pair.by.at, memo)? {
+            Asked::Known(value) => inputs.push(Replacement {
+                at: pair.input.at,
+                value,
+            })?,
+            Asked::Unknown(key) => return Ok(Inputs::Unknown(key)),
+        }
+    }
+    Ok(Inputs::Known(world.with(&inputs)?))
+}
+
+/// The next of these cells whose value a frame lacks, and takes it and those behind it away, none of which it lacks.
+fn next_lacking(store: &Store, frame: &Frame, cells: &mut Vec<Address>) -> Option<Address>
+    requires { AreReadHere store.now.sheet (case_at frame.now.key) cells.old.items }
+    ensures rest { AreReadHere store.now.sheet (case_at frame.now.key) cells.new.items }
+    ensures next { IfSome result (λ a. IsLacking store.now.sheet frame.now.key.world frame.now.found (wanted.Cell a) × AreReadHere store.now.sheet (case_at frame.now.key) (a ∷ [])) }
+    ensures passed { IfSome result (λ a. (d : ℕ) → is_one_of cells.old.items d ≡ true → lacks_cell store.now.sheet frame.now.key.world frame.now.found d ≡ true → (is_one_of cells.new.items d ≡ true) ⊎ (d ≡ a)) }
+    ensures none { IfNone result ((d : ℕ) → is_one_of cells.old.items d ≡ true → lacks_cell store.now.sheet frame.now.key.world frame.now.found d ≡ false) }
+{
+    while let Some(at) = cells.pop() {
+        if is_lacking(store, frame, at) {
+            return Some(at);
+        }
+    }
+    None
+}
+
+/// Whether a frame lacks the value of a cell: it has a formula under the frame's replacements, and was not found.
+fn is_lacking(store: &Store, frame: &Frame, at: Address) -> bool
+    ensures { result ≡ lacks_cell store.now.sheet frame.now.key.world frame.now.found at }
+{
+    match content_in(store, &frame.key.world, at) {
+        Seen::Nothing => false,
+        Seen::Constant(_) => false,
+        Seen::Formula(_) => frame.found.cell(at).is_none(),
+    }
+}
+
+/// Finds the values of cells for a frame that waits for nothing else, so that it lacks none of them, or gives the key of one
+/// that has to be valued first.
+fn settle_cells<M: Memo>(
+    alloc: Global,
+    store: &Store,
+    frame: &mut Frame,
+    at: Address,
+    others: Vec<Address>,
+    memo: &mut M,
+) -> Result<Option<Key>, AllocError>
+    requires memory { IsMemoryOf store.now.sheet (M.memory memo.old) }
+    requires frame { IsFrame store.now.sheet (M.memory memo.old) frame.old }
+    requires waiting { frame.old.waiting ≡ waiting.Nothing }
+    requires awaits { Awaits store.now.sheet (case_at frame.old.key) frame.old.found (waiting.Cells at others) }
+    ensures key { frame.new.key ≡ frame.old.key }
+    ensures frame { OnOk result (IsFrame store.now.sheet (M.memory memo.old) frame.new) }
+    ensures next { IfOk result (λ o. IfSome o (IsNext store.now.sheet (M.memory memo.old) frame.old.key)) }
+    ensures settled { result ≡ Ok None → frame.new.waiting ≡ waiting.Nothing }
+    ensures all { result ≡ Ok None → (d : ℕ) → is_one_of others.items d ≡ true → lacks_cell store.now.sheet frame.new.key.world frame.new.found d ≡ false }
+    ensures spare { OnOk result (spare store.now.sheet frame.new + 1 ≤ spare store.now.sheet frame.old) }
+    ensures same { M.memory memo.new ≡ M.memory memo.old }
+{
+    let mut others = others;
+    let mut at = at;
+    'cells: loop {
+        match value_now(alloc, store, &frame.key.world, at, memo)? {
+            Asked::Known(value) => frame.found.add_cell(at, value)?,
+            Asked::Unknown(key) => {
+                frame.waiting = Waiting::Cells(at, others);
+                return Ok(Some(key));
+            }
+        }
+        match next_lacking(store, frame, &mut others) {
+            Some(next) => at = next,
+            None => return Ok(None),
+        }
+    }
+}
+
+/// Finds the value of a what-if for a frame that waits for nothing else, or gives the key of a cell that has to be valued
+/// first: that of an input's value, and else its formula cell.
+fn settle_what_if<M: Memo>(
+    alloc: Global,
+    store: &Store,
+    frame: &mut Frame,
+    at: Address,
+    pairs: Vec<Pair>,
+    memo: &mut M,
+) -> Result<Option<Key>, AllocError>
+    requires memory { IsMemoryOf store.now.sheet (M.memory memo.old) }
+    requires frame { IsFrame store.now.sheet (M.memory memo.old) frame.old }
+    requires waiting { frame.old.waiting ≡ waiting.Nothing }
+    requires awaits { Awaits store.now.sheet (case_at frame.old.key) frame.old.found (waiting.WhatIf at pairs) }
+    ensures key { frame.new.key ≡ frame.old.key }
+    ensures frame { OnOk result (IsFrame store.now.sheet (M.memory memo.old) frame.new) }
+    ensures next { IfOk result (λ o. IfSome o (IsNext store.now.sheet (M.memory memo.old) frame.old.key)) }
+    ensures settled { result ≡ Ok None → frame.new.waiting ≡ waiting.Nothing }
+    ensures spare { OnOk result (spare store.now.sheet frame.new + 1 ≤ spare store.now.sheet frame.old) }
+    ensures same { M.memory memo.new ≡ M.memory memo.old }
+{
+    match replaced(alloc, store, &frame.key.world, &pairs, memo)? {
+        Inputs::Unknown(key) => {
+            frame.waiting = Waiting::WhatIf(at, pairs);
+            Ok(Some(key))
+        }
+        Inputs::Known(world) => match value_now(alloc, store, &world, at, memo)? {
+            Asked::Unknown(key) => {
+                frame.waiting = Waiting::WhatIf(at, pairs);
+                Ok(Some(key))
+            }
+            Asked::Known(value) => {
+                frame.found.add_what_if(FoundWhatIf { at, pairs, value })?;
+                Ok(None)
+            }
+        },
+    }
+}
+
+/// Finds what a frame waits for, or gives the key of a cell that has to be valued first.
+fn settle<M: Memo>(
+    alloc: Global,
+    store: &Store,
+    frame: &mut Frame,
+    memo: &mut M,
+) -> Result<Option<Key>, AllocError>
+    requires memory { IsMemoryOf store.now.sheet (M.memory memo.old) }
+    requires frame { IsFrame store.now.sheet (M.memory memo.old) frame.old }
+    ensures key { frame.new.key ≡ frame.old.key }
+    ensures frame { OnOk result (IsFrame store.now.sheet (M.memory memo.old) frame.new) }
+    ensures next { IfOk result (λ o. IfSome o (IsNext store.now.sheet (M.memory memo.old) frame.old.key)) }
+    ensures settled { result ≡ Ok None → frame.new.waiting ≡ waiting.Nothing }
+    ensures spare { OnOk result (spare store.now.sheet frame.new ≤ spare store.now.sheet frame.old) }
+    ensures same { M.memory memo.new ≡ M.memory memo.old }
+{
+    match mem::replace(&mut frame.waiting, Waiting::Nothing) {
+        Waiting::Nothing => Ok(None),
+        Waiting::Cells(at, others) => settle_cells(alloc, store, frame, at, others, memo),
+        Waiting::WhatIf(at, pairs) => settle_what_if(alloc, store, frame, at, pairs, memo),
+    }
+}
+
+/// What a frame waits for where its formula lacks a value: for a cell, with those that are found together with it.
+fn awaited(store: &Store, frame: &Frame, want: Want) -> Result<Waiting, AllocError>
+    requires asks { AsksAt store.now.sheet frame.now.key.world frame.now.key.cell want }
+    requires lacking { IsLacking store.now.sheet frame.now.key.world frame.now.found want }
+    ensures awaits { IfOk result (Awaits store.now.sheet (case_at frame.now.key) frame.now.found) }
+    ensures waits { IfOk result (λ w. waits w ≡ 1) }
+{
+    match want {
+        Want::Cell(at) => {
+            let Some(formula) = formula_at(store, frame.key.cell) else {
+                unreachable!()
+            };
+            Ok(Waiting::Cells(at, together(store, formula, at)?))
+        }
+        Want::WhatIf(at, pairs) => Ok(Waiting::WhatIf(at, pairs)),
+    }
+}
+
+/// Goes on with a frame until its value is there or another has to be found first.
+fn advance<M: Memo>(
+    alloc: Global,
+    store: &Store,
+    frame: &mut Frame,
+    memo: &mut M,
+    meter: &mut Meter,
+) -> Result<Step, AllocError>
+    requires memory { IsMemoryOf store.now.sheet (M.memory memo.old) }
+    requires frame { IsFrame store.now.sheet (M.memory memo.old) frame.old }
+    ensures key { frame.new.key ≡ frame.old.key }
+    ensures frame { OnOk result (IsFrame store.now.sheet (M.memory memo.old) frame.new) }
+    ensures done { IfOk result (λ s. IfDone s (λ v. v ≡ show.cell_value (put_all store.now.sheet frame.old.key.world) frame.old.key.cell)) }
+    ensures next { IfOk result (λ s. IfNeeds s (IsNext store.now.sheet (M.memory memo.old) frame.old.key)) }
+    ensures evaluations { IfOk result (λ s. meter.new.evaluations ≡ evaluations_after s meter.old.evaluations) }
+    ensures restarts { OnOk result (meter.new.restarts + spare store.now.sheet frame.new ≤ meter.old.restarts + spare store.now.sheet frame.old) }
+    ensures err_evaluations { OnErr result (meter.new.evaluations ≡ meter.old.evaluations) }
+    ensures err_restarts { OnErr result (meter.new.restarts ≤ meter.old.restarts + spare store.now.sheet frame.old) }
+    ensures same { M.memory memo.new ≡ M.memory memo.old }
+{
+    'rounds: loop {
+        if let Some(key) = settle(alloc, store, frame, memo)? {
+            return Ok(Step::Needs(key));
+        }
+        match answer(
+            alloc,
+            store,
+            frame.key.cell,
+            &frame.key.world,
+            &frame.found,
+            meter,
+        )? {
+            Outcome::Done(value) => return Ok(Step::Done(value)),
+            Outcome::Needs(want) => frame.waiting = awaited(store, frame, want)?,
+        }
+    }
+}
+
+/// The value of a formula under the replacements of its key, found by a stack of frames. No value is remembered in the
+/// place of another, and none twice.
+fn run<M: Memo>(
+    alloc: Global,
+    store: &Store,
+    key: Key,
+    memo: &mut M,
+    meter: &mut Meter,
+) -> Result<Value, AllocError>
+    requires memory { IsMemoryOf store.now.sheet (M.memory memo.old) }
+    requires key { IsToValue store.now.sheet (M.memory memo.old) key }
+    requires unfound { (M.memory memo.old).found key.cell key.world ≡ false }
+    ensures value { IfOk result (λ v. v ≡ show.cell_value (put_all store.now.sheet key.world) key.cell) }
+    ensures memory { IsMemoryOf store.now.sheet (M.memory memo.new) }
+    ensures same_cells { (M.memory memo.new).covers ≡ (M.memory memo.old).covers }
+    ensures same_generation { (M.memory memo.new).generation ≡ (M.memory memo.old).generation }
+
+    ensures evaluations { CountsAtMost store.now.sheet (λ ks. Contains ks (case_at key)) (λ _. 1) (M.memory memo.old).found meter.old.evaluations meter.new.evaluations }
+    ensures evaluations_ok { OnOk result (CountsFound store.now.sheet (λ ks. Contains ks (case_at key)) (λ _. 1) (M.memory memo.old).found (M.memory memo.new).found meter.old.evaluations meter.new.evaluations) }
+
+    ensures restarts { CountsAtMost store.now.sheet (λ ks. Contains ks (case_at key)) (wants store.now.sheet) (M.memory memo.old).found meter.old.restarts meter.new.restarts }
+    ensures restarts_ok { OnOk result (CountsFound store.now.sheet (λ ks. Contains ks (case_at key)) (wants store.now.sheet) (M.memory memo.old).found (M.memory memo.new).found meter.old.restarts meter.new.restarts) }
+{
+    let mut stack = Vec::new(alloc);
+    let mut frame = Frame::new(alloc, key);
+    'frames: loop {
+        match advance(alloc, store, &mut frame, memo, meter)? {
+            Step::Needs(next) => {
+                stack.push(frame)?;
+                frame = Frame::new(alloc, next);
+            }
+            Step::Done(value) => match stack.pop() {
+                None => {
+                    let shown = value.copy(alloc)?;
+                    memo.keep(frame.into_key(), value)?;
+                    return Ok(shown);
+                }
+                Some(below) => {
+                    memo.keep(frame.into_key(), value)?;
+                    frame = below;
+                }
+            },
+        }
+    }
+}
+
+/// The value of a cell under replacements, with what is remembered of others, and of it. A formula is valued where no
+/// value is remembered for its key, and each only once, however many rest on it. No formula calls for another on the
+/// machine's stack: those that wait stand in a list, which grows as the references lead on.
+pub fn value_under<M: Memo>(
+    alloc: Global,
+    store: &Store,
+    world: &World,
+    at: Address,
+    memo: &mut M,
+    meter: &mut Meter,
+) -> Result<Value, AllocError>
+    requires memory { IsMemoryOf store.now.sheet (M.memory memo.old) }
+    requires read { MayBeRead store.now.sheet (M.memory memo.old) at }
+    ensures value { IfOk result (λ v. v ≡ show.cell_value (put_all store.now.sheet world.now) at) }
+
+    // What is remembered then is right, also where memory runs out.
+    ensures memory { IsMemoryOf store.now.sheet (M.memory memo.new) }
+    ensures same_cells { (M.memory memo.new).covers ≡ (M.memory memo.old).covers }
+    ensures same_generation { (M.memory memo.new).generation ≡ (M.memory memo.old).generation }
+
+    ensures evaluations { CountsAtMost store.now.sheet (HasCase store.now.sheet world.now at) (λ _. 1) (M.memory memo.old).found meter.old.evaluations meter.new.evaluations }
+    ensures evaluations_ok { OnOk result (CountsFound store.now.sheet (HasCase store.now.sheet world.now at) (λ _. 1) (M.memory memo.old).found (M.memory memo.new).found meter.old.evaluations meter.new.evaluations) }
+
+    ensures restarts { CountsAtMost store.now.sheet (HasCase store.now.sheet world.now at) (wants store.now.sheet) (M.memory memo.old).found meter.old.restarts meter.new.restarts }
+    ensures restarts_ok { OnOk result (CountsFound store.now.sheet (HasCase store.now.sheet world.now at) (wants store.now.sheet) (M.memory memo.old).found (M.memory memo.new).found meter.old.restarts meter.new.restarts) }
+{
+    match value_now(alloc, store, world, at, memo)? {
+        Asked::Known(value) => Ok(value),
+        Asked::Unknown(key) => run(alloc, store, key, memo, meter),
+    }
+}

@@ -1,0 +1,92 @@
+//! The values that were found for one formula.
+
+ghost use Rattle.std.specs.Prelude.{◌≡◌, [], map, OnOk, OnErr};
+ghost use Rattle.std.specs.Option.{option_copied};
+ghost use Rattle.wi_parser.specs.View.{pair_of};
+ghost use Rattle.wi_functions.specs.Meaning.{addresses};
+ghost use Rattle.wi_engine.specs.Findings.{same_pairs, cell_found, what_if_found, IsWithCell, IsWithWhatIf, IsSame};
+
+use std::alloc::{AllocError, Global};
+use std::collections::BTreeMap;
+use wi_parser::Pair;
+use wi_values::{Address, Value};
+
+/// A what-if's value.
+#[derive(Debug, Drop)]
+pub struct FoundWhatIf {
+    pub at: Address,
+    pub pairs: Vec<Pair>,
+    pub value: Value,
+}
+
+/// The values that were found for one formula: of cells, and of what-ifs, which are few.
+#[derive(Debug, Drop)]
+pub struct Findings {
+    pub cells: BTreeMap<Address, Value>,
+    pub what_ifs: Vec<FoundWhatIf>,
+}
+
+impl Findings {
+    /// No values yet. Takes no memory.
+    pub fn new(alloc: Global) -> Findings
+        ensures cells { result.cells.entries ≡ [] }
+        ensures what_ifs { result.what_ifs.items ≡ [] }
+    {
+        Findings {
+            cells: BTreeMap::new(alloc),
+            what_ifs: Vec::new(alloc),
+        }
+    }
+
+    /// The value found of a cell. The work grows with the logarithm of the count of cells found.
+    pub fn cell(&self, at: Address) -> Option<&Value>
+        ensures { option_copied result ≡ cell_found self.now at }
+    {
+        self.cells.get(&at)
+    }
+
+    /// The value found of a what-if. The work grows with the count of what-ifs found.
+    pub fn what_if(&self, at: Address, pairs: &[Pair]) -> Option<&Value>
+        ensures { option_copied result ≡ what_if_found self.now at (map addresses (map pair_of pairs.now)) }
+    {
+        for found in &self.what_ifs {
+            if found.at == at && are_same(&found.pairs, pairs) {
+                return Some(&found.value);
+            }
+        }
+        None
+    }
+
+    /// Adds a cell's value, in the place of an earlier one. The work grows with the logarithm of the count of cells found.
+    pub fn add_cell(&mut self, at: Address, value: Value) -> Result<(), AllocError>
+        ensures ok { OnOk result (IsWithCell self.old self.new at value) }
+        ensures err { OnErr result (IsSame self.old self.new) }
+    {
+        self.cells.insert(at, value)?;
+        Ok(())
+    }
+
+    /// Adds a what-if's value, behind the others.
+    pub fn add_what_if(&mut self, found: FoundWhatIf) -> Result<(), AllocError>
+        ensures ok { OnOk result (IsWithWhatIf self.old self.new found) }
+        ensures err { OnErr result (IsSame self.old self.new) }
+    {
+        self.what_ifs.push(found)?;
+        Ok(())
+    }
+}
+
+/// Whether two lists name the same inputs and replacement cells.
+fn are_same(a: &[Pair], b: &[Pair]) -> bool
+    ensures { result ≡ same_pairs (map addresses (map pair_of a.now)) (map addresses (map pair_of b.now)) }
+{
+    match a {
+        [] => b.is_empty(),
+        [x, a_rest @ ..] => match b {
+            [] => false,
+            [y, b_rest @ ..] => {
+                x.input.at == y.input.at && x.by.at == y.by.at && are_same(a_rest, b_rest)
+            }
+        },
+    }
+}

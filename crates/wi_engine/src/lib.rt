@@ -1,0 +1,19 @@
+//! Values of cells by a stack of frames, over what is remembered, and walks along references.
+#![tactic(auto)]
+
+mod answers;
+mod cone;
+mod engine;
+mod findings;
+mod frame;
+mod lookup;
+mod memo;
+mod occupied;
+mod remembered;
+mod seen;
+mod walk;
+
+pub use engine::value_under;
+pub use memo::Memo;
+pub use remembered::Remembered;
+pub use walk::{reached, reached_from};

@@ -1,0 +1,73 @@
+//! What is known while one formula is valued.
+
+ghost use Rattle.std.specs.Prelude.{◌≡◌};
+ghost use Rattle.std.specs.Option.{option_copied};
+ghost use Rattle.wi_values.specs.declared.value.Value.TheVariants.{Empty};
+ghost use Rattle.wi_functions.specs.Assignment.{answered};
+
+use crate::findings::Findings;
+use crate::seen::{Seen, content_in};
+use wi_functions::{Answer, Lookup};
+use wi_parser::Pair;
+use wi_store::Store;
+use wi_values::{Address, Value};
+use wi_worlds::World;
+
+/// A cell without a formula under the replacements shows what stands there; the values of others, and of what-ifs, are
+/// known where they were found.
+#[derive(Drop)]
+pub struct Known<'a> {
+    store: &'a Store,
+    world: &'a World,
+    found: &'a Findings,
+    // What a cell shows where nothing stands, to be lent.
+    empty: Value,
+    ghost is_empty: { empty ≡ Empty },
+}
+
+impl<'a> Known<'a> {
+    /// What is known with these values found.
+    pub fn new(store: &'a Store, world: &'a World, found: &'a Findings) -> Known<'a>
+        ensures store { result.store.now ≡ store.now }
+        ensures world { result.world.now ≡ world.now }
+        ensures found { result.found.now ≡ found.now }
+    {
+        Known {
+            store,
+            world,
+            found,
+            empty: Value::Empty,
+        }
+    }
+}
+
+impl<'a> Lookup for Known<'a> {
+    ghost use Rattle.wi_engine.specs.Findings.{what_if_found};
+    ghost use Rattle.wi_engine.specs.Answers.{cell_known};
+
+    ghost known_cell = { λ k. cell_known k.store.now.sheet k.world.now k.found.now };
+
+    ghost known_what_if = { λ k. what_if_found k.found.now };
+
+    fn cell(&self, at: Address) -> Answer<'_> {
+        match content_in(self.store, self.world, at) {
+            Seen::Nothing => Answer::Known(&self.empty),
+            Seen::Constant(value) => Answer::Known(value),
+            Seen::Formula(_) => answer_of(self.found.cell(at)),
+        }
+    }
+
+    fn what_if(&self, formula_cell: Address, pairs: &[Pair]) -> Answer<'_> {
+        answer_of(self.found.what_if(formula_cell, pairs))
+    }
+}
+
+/// A value that was found is known.
+fn answer_of(found: Option<&Value>) -> Answer<'_>
+    ensures { answered result ≡ option_copied found.entry }
+{
+    match found {
+        Some(value) => Answer::Known(value),
+        None => Answer::Missing,
+    }
+}

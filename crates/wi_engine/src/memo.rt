@@ -1,0 +1,43 @@
+//! What is remembered of values.
+
+ghost use Rattle.std.specs.Prelude.{◌≡◌, ◌⊎◌, ◌||◌, ℕ, true, false, List, Some, None, IfOk, IfSome, OnOk};
+ghost use Rattle.std.specs.Option.{option_copied};
+ghost use Rattle.wi_values.specs.declared.replacement.Replacement.{Replacement as Replacements};
+ghost use Rattle.wi_sheet.specs.Demand.{reaching, same_case};
+ghost use Rattle.wi_engine.specs.Memory.{Memory};
+
+use std::alloc::AllocError;
+use wi_cache::Key;
+use wi_values::{Address, Value};
+use wi_worlds::World;
+
+/// What is remembered of the values of a sheet's cells under replacements. A value stands under a key: its cell, how
+/// often that may have changed, and the replacements that reach it.
+pub trait Memo {
+    /// The sheet, the cells for which keys are made, and what is remembered of them.
+    ghost memory: { Self → Memory };
+
+    /// The key for a cell under replacements.
+    fn key(&mut self, at: Address, world: &World) -> Result<Key, AllocError>
+        requires covered { (memory self.old).covers at ≡ true }
+        ensures cell { IfOk result (λ k. k.cell ≡ at) }
+        ensures world { IfOk result (λ k. k.world ≡ reaching (memory self.old).sheet at world.now) }
+        ensures generation { IfOk result (λ k. k.generation ≡ (memory self.old).generation at) }
+        ensures same { memory self.new ≡ memory self.old };
+
+    /// The value that is remembered for a key.
+    fn look(&self, key: &Key) -> Option<&Value>
+        requires generation { key.now.generation ≡ (memory self.now).generation key.now.cell }
+        ensures value { option_copied result ≡ (memory self.now).known key.now.cell key.now.world }
+        ensures missing { result ≡ None → (memory self.now).found key.now.cell key.now.world ≡ false };
+
+    /// Remembers a value for a key.
+    fn keep(&mut self, key: Key, value: Value) -> Result<(), AllocError>
+        requires generation { key.generation ≡ (memory self.old).generation key.cell }
+        ensures known { (c : ℕ) (w : List Replacements) → IfSome ((memory self.new).known c w) (λ v. ((memory self.old).known c w ≡ Some v) ⊎ ((c ≡ key.cell) × (w ≡ key.world) × (v ≡ value))) }
+        ensures stays { (c : ℕ) (w : List Replacements) → (memory self.old).found c w ≡ true → (memory self.new).found c w ≡ true }
+        ensures found { OnOk result ((c : ℕ) (w : List Replacements) → (memory self.new).found c w ≡ ((memory self.old).found c w || same_case (key.cell, key.world) (c, w))) }
+        ensures same_sheet { (memory self.new).sheet ≡ (memory self.old).sheet }
+        ensures same_cells { (memory self.new).covers ≡ (memory self.old).covers }
+        ensures same_generation { (memory self.new).generation ≡ (memory self.old).generation };
+}

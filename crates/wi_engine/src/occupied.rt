@@ -1,0 +1,44 @@
+//! The occupied cells of a rectangle, one after another.
+
+ghost use Rattle.std.specs.Prelude.{◌≡◌, ◌≤◌, ◌+◌, ◌∷◌, [], ℕ, Some, true, false, IfSome, IfNone, nat_le};
+ghost use Rattle.wi_values.specs.Address.{is_within};
+ghost use Rattle.wi_engine.specs.ReadCells.{cells_after, is_after};
+
+use wi_store::Store;
+use wi_values::{Address, COLUMNS, Rect};
+
+/// The first occupied cell of a rectangle after the one looked at last. The work is that of `Store::next_occupied`.
+pub fn next_within(store: &Store, area: Rect, after: Option<Address>) -> Option<Address>
+    ensures some { IfSome result (λ c. cells_after store.now.sheet area after ≡ c ∷ cells_after store.now.sheet area (Some c)) }
+    ensures none { IfNone result (cells_after store.now.sheet area after ≡ []) }
+{
+    store.cells_stand_in_order();
+    let from = first_after(area, after)?;
+    store.next_occupied(area, from)
+}
+
+/// From where on the cells of a rectangle come after the one looked at last, if any of them does.
+fn first_after(area: Rect, after: Option<Address>) -> Option<Address>
+    ensures some { IfSome result (λ from. (a : ℕ) → is_within area a ≡ true → is_after after a ≡ nat_le from a) }
+    ensures none { IfNone result ((a : ℕ) → is_within area a ≡ true → is_after after a ≡ false) }
+{
+    match after {
+        None => Some(area.first()),
+        Some(cell) => successor(cell, area.last()),
+    }
+}
+
+/// The address after another in row-major order, unless that is the last one or comes later.
+fn successor(cell: Address, last: Address) -> Option<Address>
+    ensures some { IfSome result (λ next. next ≡ cell + 1) }
+    ensures none { IfNone result (last ≤ cell) }
+{
+    if last <= cell {
+        return None;
+    }
+    if cell.column() + 1 < COLUMNS {
+        Some(Address::at(cell.row(), cell.column() + 1))
+    } else {
+        Some(Address::at(cell.row() + 1, 0))
+    }
+}

@@ -1,0 +1,67 @@
+//! What stands in a cell under replacements.
+
+ghost use Rattle.std.specs.Prelude.{◌≡◌, false, IfSome, IfNone};
+ghost use Rattle.wi_parser.specs.Sheet.{constant, content_of, has_formula, put_all};
+ghost use Rattle.wi_engine.specs.Seen.{content_seen};
+
+use wi_parser::{Content, Formula};
+use wi_store::Store;
+use wi_values::{Address, Value};
+use wi_worlds::World;
+
+/// What stands in a cell.
+#[derive(Clone, Copy, Debug)]
+pub enum Seen<'a> {
+    Nothing,
+    Constant(&'a Value),
+    Formula(&'a Formula),
+}
+
+/// What stands in a cell under the replacements of a world. The work grows with the logarithms of the counts of
+/// replacements and of occupied cells.
+pub fn content_in<'a>(store: &'a Store, world: &'a World, at: Address) -> Seen<'a>
+    ensures { content_seen result ≡ content_of (put_all store.now.sheet world.now) at }
+{
+    // They stand in order, so that one is the last for its address.
+    let _ = world.replacements();
+    if let Some(value) = world.replacement(at) {
+        return constant(value);
+    }
+    stored(store, at)
+}
+
+/// What a cell has where a constant is put.
+fn constant(value: &Value) -> Seen<'_>
+    ensures { content_seen result ≡ constant value.now }
+{
+    match value {
+        Value::Empty => Seen::Nothing,
+        Value::Number(_) => Seen::Constant(value),
+        Value::Text(_) => Seen::Constant(value),
+        Value::Logical(_) => Seen::Constant(value),
+        Value::Fault(_) => Seen::Constant(value),
+    }
+}
+
+/// What stands in a cell.
+fn stored(store: &Store, at: Address) -> Seen<'_>
+    ensures { content_seen result ≡ content_of store.now.sheet at }
+{
+    match store.get(at) {
+        None => Seen::Nothing,
+        Some(Content::Constant(value)) => Seen::Constant(value),
+        Some(Content::Formula(formula)) => Seen::Formula(formula),
+    }
+}
+
+/// The formula in a cell, if it has one.
+pub fn formula_at(store: &Store, at: Address) -> Option<&Formula>
+    ensures found { IfSome result (λ f. content_of store.now.sheet at ≡ Some (Content.Formula f.now)) }
+    ensures none { IfNone result (has_formula (content_of store.now.sheet at) ≡ false) }
+{
+    match stored(store, at) {
+        Seen::Nothing => None,
+        Seen::Constant(_) => None,
+        Seen::Formula(formula) => Some(formula),
+    }
+}

@@ -1,0 +1,105 @@
+-- The cells from which so many steps lead, layer by layer.
+use Rattle.std.proofs.Common.{◌≡◌, ◌==◌, ℕ, zero, suc, ◌+◌, Bool, true, false, ◌&&◌, ◌||◌, cond, List, [], ◌∷◌, filter, Option, Some, None, length, refl, ap, sym, ◌∙◌, arith}
+use Rattle.std.proofs.lemmas.Bool.Decides.{nat_tests}
+use Rattle.std.proofs.lemmas.Map.Views.{any-filter_same}
+use Rattle.std.specs.List.{list_any}
+use Rattle.std.specs.Ordering.{nat_cmp}
+use Rattle.std.specs.Map.{keys_of}
+use Rattle.std.specs.BTreeMap.{is_at}
+use Rattle.wi_parser.specs.declared.content.Content.{Content}
+use Rattle.wi_parser.specs.declared.content.Content.TheVariants.{Constant, Formula}
+use Rattle.wi_parser.specs.Sheet.{Sheet, content_of, has_formula, cells_with_formula}
+use Rattle.wi_parser.specs.Reads.{content_reads}
+use Rattle.wi_graph.specs.Circular.{has_walk, circular}
+pub use Rattle.wi_graph.specs.Reach.{is_one_of}
+use Rattle.wi_graph.proofs.Tests.{is_at-eq, filter_same}
+
+and_true : (a : Bool) → (a && true) ≡ a
+and_true true = refl
+and_true false = refl
+
+and_false : (a : Bool) → (a && false) ≡ false
+and_false true = refl
+and_false false = refl
+
+-- to find an element with two properties is to find one with the first among those with the second
+pub list_any-both : (p q : ℕ → Bool) (xs : List ℕ) → list_any (λ x. p x && q x) xs ≡ list_any p (filter q xs)
+list_any-both p q [] = refl
+list_any-both p q (x ∷ xs) = at (q x) (list_any-both p q xs)
+  where
+    at : (b : Bool) → list_any (λ x. p x && q x) xs ≡ list_any p (filter q xs) → ((p x && b) || list_any (λ x. p x && q x) xs) ≡ list_any p (cond b (x ∷ filter q xs) (filter q xs))
+    at true ih = ap (λ (c : Bool). c || list_any (λ x. p x && q x) xs) (and_true (p x)) ∙ ap (λ (c : Bool). p x || c) ih
+    at false ih = ap (λ (c : Bool). c || list_any (λ x. p x && q x) xs) (and_false (p x)) ∙ ih
+
+-- the cells with a formula from which n steps lead
+abbrev pub layer : ℕ → Sheet → List ℕ
+layer n s = filter (has_walk n s) (cells_with_formula s)
+
+-- one step more leads from a cell that reads one of them
+pub has_walk_more : (n : ℕ) (s : Sheet) (c : ℕ) → has_walk (suc n) s c ≡ list_any (content_reads (content_of s c)) (layer n s)
+has_walk_more n s c = list_any-both (content_reads (content_of s c)) (has_walk n s) (cells_with_formula s)
+
+filter_twice : (p : ℕ → Bool) (xs : List ℕ) → filter p (filter p xs) ≡ filter p xs
+filter_twice p [] = refl
+filter_twice p (x ∷ xs) = at (p x) refl (filter_twice p xs)
+  where
+    at : (b : Bool) → p x ≡ b → filter p (filter p xs) ≡ filter p xs → filter p (cond b (x ∷ filter p xs) (filter p xs)) ≡ cond b (x ∷ filter p xs) (filter p xs)
+    at true h ih = ap (λ (c : Bool). cond c (x ∷ filter p (filter p xs)) (filter p (filter p xs))) h ∙ ap (λ (ys : List ℕ). x ∷ ys) ih
+    at false h ih = ih
+
+-- no step leads from each cell with a formula
+pub layer_zero : (s : Sheet) → layer 0 s ≡ cells_with_formula s
+layer_zero s = filter_twice (λ c. has_formula (content_of s c)) (keys_of s)
+
+-- the next layer: what reads one of this
+pub layer_more : (n : ℕ) (s : Sheet) → layer (n + 1) s ≡ filter (λ c. list_any (content_reads (content_of s c)) (layer n s)) (cells_with_formula s)
+layer_more n s =
+    let e : n + 1 ≡ suc n = omega arith in
+    ap (λ (m : ℕ). layer m s) e ∙ filter_same (has_walk (suc n) s) (λ c. list_any (content_reads (content_of s c)) (layer n s)) (has_walk_more n s) (cells_with_formula s)
+
+none_reads : (w : ℕ → Bool) (xs : List ℕ) → list_any (λ d. false && w d) xs ≡ false
+none_reads w [] = refl
+none_reads w (x ∷ xs) = none_reads w xs
+
+reader_has_formula : (o : Option Content) (w : ℕ → Bool) (xs : List ℕ) → list_any (λ d. content_reads o d && w d) xs ≡ true → has_formula o ≡ true
+reader_has_formula None w xs h = sym (none_reads w xs) ∙ h
+reader_has_formula (Some (Constant v)) w xs h = sym (none_reads w xs) ∙ h
+reader_has_formula (Some (Formula t)) w xs h = refl
+
+pub walker_has_formula : (n : ℕ) (s : Sheet) (c : ℕ) → has_walk n s c ≡ true → has_formula (content_of s c) ≡ true
+walker_has_formula zero s c h = h
+walker_has_formula (suc n) s c h = reader_has_formula (content_of s c) (has_walk n s) (cells_with_formula s) h
+
+is_key : (s : Sheet) (a : ℕ) → has_formula (content_of s a) ≡ true → list_any (λ k. k == a) (keys_of s) ≡ true
+is_key [] a h = h
+is_key (e ∷ es) a h = at (is_at (nat_cmp a) e.0) (is_at-eq a e.0) h (is_key es a)
+  where
+    turn : (x y : ℕ) → (x == y) ≡ (y == x)
+    turn x y = grind (arith, nat_tests)
+
+    at : (b : Bool) → b ≡ (a == e.0) → has_formula (cond b (Some e.1) (content_of es a)) ≡ true → (has_formula (content_of es a) ≡ true → list_any (λ k. k == a) (keys_of es) ≡ true) →
+        ((e.0 == a) || list_any (λ k. k == a) (keys_of es)) ≡ true
+    at true t h ih = ap (λ (c : Bool). c || list_any (λ k. k == a) (keys_of es)) (turn e.0 a ∙ sym t)
+    at false t h ih = ap (λ (c : Bool). c || list_any (λ k. k == a) (keys_of es)) (turn e.0 a ∙ sym t) ∙ ih h
+
+same_key : (a k : ℕ) → (k == a) ≡ true → k ≡ a
+same_key a k h = grind (arith, nat_tests)
+
+-- a cell is found among those that pass a test exactly where it is one and passes
+among : (p : ℕ → Bool) (xs : List ℕ) (a : ℕ) → list_any (λ x. x == a) (filter p xs) ≡ (p a && list_any (λ x. x == a) xs)
+among p xs a = any-filter_same (λ x. x == a) p (p a) (λ k h. ap p (same_key a k h)) xs
+
+implied : (b c : Bool) → (b ≡ true → c ≡ true) → (b && c) ≡ b
+implied true c h = h refl
+implied false c h = refl
+
+-- a cell is in a layer exactly where so many steps lead from it
+pub in_layer : (n : ℕ) (s : Sheet) (a : ℕ) → list_any (λ x. x == a) (layer n s) ≡ has_walk n s a
+in_layer n s a = among (has_walk n s) (cells_with_formula s) a ∙ implied (has_walk n s a) _ (λ h.
+    let f = walker_has_formula n s a h in
+    among (λ c. has_formula (content_of s c)) (keys_of s) a ∙ ap (λ (b : Bool). b && list_any (λ k. k == a) (keys_of s)) f ∙ is_key s a f)
+
+-- what a plain search for a cycle answers
+pub circular_layer : (s : Sheet) (a : ℕ) → list_any (λ x. x == a) (layer (length (cells_with_formula s)) s) ≡ circular s a
+unfolding circular
+circular_layer s a = in_layer (length (cells_with_formula s)) s a

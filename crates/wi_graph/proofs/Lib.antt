@@ -1,0 +1,9 @@
+pub mod Tests
+pub mod Layers
+pub mod Walks
+pub mod Ends
+pub mod Graphs
+pub mod ReachTest
+pub mod ReachSteps
+pub mod Agreement
+pub mod Cones

@@ -1,0 +1,179 @@
+-- Walks between formulas: one that is as long as there are formulas has no end.
+use Rattle.std.proofs.Common.{◌≡◌, ◌==◌, ℕ, zero, suc, ◌+◌, ◌<◌, ◌≤◌, Bool, true, false, ◌&&◌, ◌||◌, cond, List, [], ◌∷◌, filter, Option, Some, None, length, refl, ap, sym, ◌∙◌, subst, arith, inl, inr, ◌⊎◌}
+use Rattle.std.proofs.lemmas.Bool.{and_parts, and_from, or_cases, cases_lt}
+use Rattle.std.proofs.lemmas.Bool.Decides.{nat_tests}
+use Rattle.std.specs.List.{list_any}
+use Rattle.wi_parser.specs.declared.content.Content.{Content}
+use Rattle.wi_parser.specs.declared.content.Content.TheVariants.{Constant, Formula}
+use Rattle.wi_parser.specs.Sheet.{Sheet, content_of, has_formula, cells_with_formula}
+use Rattle.wi_parser.specs.Reads.{content_reads}
+use Rattle.wi_graph.specs.Circular.{has_walk, circular}
+use Rattle.wi_graph.proofs.Layers.{is_one_of, layer, layer_zero, in_layer, walker_has_formula}
+
+pub same_cell : (a k : ℕ) → (k == a) ≡ true → k ≡ a
+same_cell a k h = grind (arith, nat_tests)
+
+pub same_tests : (a b : Bool) → (a ≡ true → b ≡ true) → (b ≡ true → a ≡ true) → a ≡ b
+same_tests true b h k = sym (h refl)
+same_tests false true h k = k refl
+same_tests false false h k = refl
+
+-- a test that one element of a list passes
+pub found : (p : ℕ → Bool) (xs : List ℕ) (a : ℕ) → is_one_of xs a ≡ true → p a ≡ true → list_any p xs ≡ true
+found p [] a m h = m
+found p (x ∷ xs) a m h = at (x == a) refl m (found p xs a)
+  where
+    at : (b : Bool) → (x == a) ≡ b → (b || list_any (λ y. y == a) xs) ≡ true → (is_one_of xs a ≡ true → p a ≡ true → list_any p xs ≡ true) → (p x || list_any p xs) ≡ true
+    at true e m ih = ap (λ (b : Bool). b || list_any p xs) (ap p (same_cell a x e) ∙ h)
+    at false e m ih = either (p x) (ih m h)
+      where
+        either : (b : Bool) → list_any p xs ≡ true → (b || list_any p xs) ≡ true
+        either true k = refl
+        either false k = k
+
+-- the element that passes
+pub finds : (p : ℕ → Bool) (xs : List ℕ) → list_any p xs ≡ true → (a : ℕ) × (p a ≡ true)
+finds p [] h = cc
+finds p (x ∷ xs) h = at (p x) refl h (finds p xs)
+  where
+    at : (b : Bool) → p x ≡ b → (b || list_any p xs) ≡ true → (list_any p xs ≡ true → (a : ℕ) × (p a ≡ true)) → (a : ℕ) × (p a ≡ true)
+    at true e h ih = (x, e)
+    at false e h ih = ih h
+
+-- a cell with a formula is among those that have one
+pub formula_cell : (s : Sheet) (a : ℕ) → has_formula (content_of s a) ≡ true → is_one_of (cells_with_formula s) a ≡ true
+formula_cell s a h = ap (λ (xs : List ℕ). is_one_of xs a) (sym (layer_zero s)) ∙ in_layer 0 s a ∙ h
+
+pub step : (n : ℕ) (s : Sheet) (c d : ℕ) → content_reads (content_of s c) d ≡ true → has_walk n s d ≡ true → has_walk (suc n) s c ≡ true
+step n s c d r h =
+    found (λ e. content_reads (content_of s c) e && has_walk n s e) (cells_with_formula s) d (formula_cell s d (walker_has_formula n s d h)) (and_from _ _ r h)
+
+pub first_step : (n : ℕ) (s : Sheet) (c : ℕ) → has_walk (suc n) s c ≡ true → (d : ℕ) × (content_reads (content_of s c) d ≡ true) × (has_walk n s d ≡ true)
+first_step n s c h =
+    let f = finds (λ e. content_reads (content_of s c) e && has_walk n s e) (cells_with_formula s) h in
+    let x = and_parts (content_reads (content_of s c) f.0) (has_walk n s f.0) f.1 in
+    (f.0, x.0, x.1)
+
+pub one_less : (n : ℕ) (s : Sheet) (c : ℕ) → has_walk (suc n) s c ≡ true → has_walk n s c ≡ true
+one_less zero s c h = walker_has_formula 1 s c h
+one_less (suc n) s c h =
+    let f = first_step (suc n) s c h in
+    step n s c f.0 f.1 (one_less n s f.0 f.2)
+
+pub fewer : (n m : ℕ) (s : Sheet) (c : ℕ) → m ≤ n → has_walk n s c ≡ true → has_walk m s c ≡ true
+fewer zero m s c l h =
+    let e : 0 ≡ m = omega arith in
+    subst (λ (k : ℕ). has_walk k s c ≡ true) e h
+fewer (suc n) m s c l h = at (cases_lt n m) (λ g. fewer n m s c g (one_less n s c h))
+  where
+    at : (n < m) ⊎ (m ≤ n) → (m ≤ n → has_walk m s c ≡ true) → has_walk m s c ≡ true
+    at (inl g) ih =
+        let e : suc n ≡ m = omega arith in
+        subst (λ (k : ℕ). has_walk k s c ≡ true) e h
+    at (inr g) ih = ih g
+
+-- what reads a cell has a formula
+pub reader_formula : (o : Option Content) (d : ℕ) → content_reads o d ≡ true → has_formula o ≡ true
+reader_formula None d h = cc
+reader_formula (Some (Constant v)) d h = cc
+reader_formula (Some (Formula t)) d h = refl
+
+-- n steps lead on by one more wherever they lead
+abbrev pub Leads : ℕ → Sheet → Type 0
+Leads n s = (c : ℕ) → has_walk n s c ≡ true → has_walk (suc n) s c ≡ true
+
+pub leads_on : (n : ℕ) (s : Sheet) → Leads n s → Leads (suc n) s
+leads_on n s l c h =
+    let f = first_step n s c h in
+    step (suc n) s c f.0 f.1 (l f.0 f.2)
+
+pub further : (m n : ℕ) (s : Sheet) → n ≤ m → Leads n s → (c : ℕ) → has_walk n s c ≡ true → (has_walk m s c ≡ true) × Leads m s
+further zero n s l k c h =
+    let e : n ≡ 0 = omega arith in
+    (subst (λ (i : ℕ). has_walk i s c ≡ true) e h, subst (λ (i : ℕ). Leads i s) e k)
+further (suc m) n s l k c h = at (cases_lt m n) (λ g. further m n s g k c h)
+  where
+    at : (m < n) ⊎ (n ≤ m) → (n ≤ m → (has_walk m s c ≡ true) × Leads m s) → (has_walk (suc m) s c ≡ true) × Leads (suc m) s
+    at (inl g) ih =
+        let e : n ≡ suc m = omega arith in
+        (subst (λ (i : ℕ). has_walk i s c ≡ true) e h, subst (λ (i : ℕ). Leads i s) e k)
+    at (inr g) ih =
+        let x = ih g in
+        (x.1 c x.0, leads_on m s x.1)
+
+-- ---- of two filters of one list, one of which keeps no more: it keeps fewer, or the same
+
+abbrev pub Same : (ℕ → Bool) → (ℕ → Bool) → List ℕ → Type 0
+Same p q xs = (length (filter q xs) ≡ length (filter p xs)) × ((a : ℕ) → is_one_of xs a ≡ true → p a ≡ true → q a ≡ true)
+
+pub shrinks : (p q : ℕ → Bool) → ((x : ℕ) → q x ≡ true → p x ≡ true) → (xs : List ℕ) → (length (filter q xs) < length (filter p xs)) ⊎ Same p q xs
+shrinks p q le [] = inr (refl, λ a m h. cc)
+shrinks p q le (x ∷ xs) = at (p x) (q x) refl refl (shrinks p q le xs)
+  where
+    at : (b d : Bool) → p x ≡ b → q x ≡ d → (length (filter q xs) < length (filter p xs)) ⊎ Same p q xs →
+        (length (cond d (x ∷ filter q xs) (filter q xs)) < length (cond b (x ∷ filter p xs) (filter p xs)))
+        ⊎ ((length (cond d (x ∷ filter q xs) (filter q xs)) ≡ length (cond b (x ∷ filter p xs) (filter p xs))) × ((a : ℕ) → ((x == a) || list_any (λ y. y == a) xs) ≡ true → p a ≡ true → q a ≡ true))
+    at true true e f (inl l) = inl (omega arith)
+    at true true e f (inr k) = inr (omega (arith, k.0), λ a m h. here a m h (q a) refl)
+      where
+        here : (a : ℕ) → ((x == a) || list_any (λ y. y == a) xs) ≡ true → p a ≡ true → (b : Bool) → q a ≡ b → b ≡ true
+        here a m h true g = refl
+        here a m h false g = absurd (no (or_cases (x == a) _ m))
+          where
+            no : ((x == a) ≡ true) ⊎ (is_one_of xs a ≡ true) → ⊥
+            no (inl y) = let z = ap q (same_cell a x y) in cc
+            no (inr y) = let z = k.1 a y h in cc
+    at true false e f (inl l) = inl (omega arith)
+    at true false e f (inr k) = inl (omega (arith, k.0))
+    at false true e f i = let z = le x f in cc
+    at false false e f (inl l) = inl l
+    at false false e f (inr k) = inr (k.0, λ a m h. there a h (or_cases (x == a) _ m))
+      where
+        there : (a : ℕ) → p a ≡ true → ((x == a) ≡ true) ⊎ (is_one_of xs a ≡ true) → q a ≡ true
+        there a h (inl y) = let z = ap p (same_cell a x y) in cc
+        there a h (inr y) = k.1 a y h
+
+-- n steps lead on, or fewer cells than formulas by n have them
+thins : (n : ℕ) (s : Sheet) → Leads n s ⊎ (length (layer n s) + n ≤ length (cells_with_formula s))
+thins zero s = inr (let e = ap (λ (xs : List ℕ). length xs) (layer_zero s) in omega arith)
+thins (suc n) s = at (thins n s)
+  where
+    at_less : length (layer n s) + n ≤ length (cells_with_formula s) → (length (layer (suc n) s) < length (layer n s)) ⊎ Same (has_walk n s) (has_walk (suc n) s) (cells_with_formula s) →
+        Leads (suc n) s ⊎ (length (layer (suc n) s) + suc n ≤ length (cells_with_formula s))
+    at_less l (inl k) = inr (omega arith)
+    at_less l (inr k) = inl (leads_on n s (λ c h. k.1 c (formula_cell s c (walker_has_formula n s c h)) h))
+
+    at : Leads n s ⊎ (length (layer n s) + n ≤ length (cells_with_formula s)) → Leads (suc n) s ⊎ (length (layer (suc n) s) + suc n ≤ length (cells_with_formula s))
+    at (inl l) = inl (leads_on n s l)
+    at (inr l) = at_less l (shrinks (has_walk n s) (has_walk (suc n) s) (λ c h. one_less n s c h) (cells_with_formula s))
+
+no_length : (xs : List ℕ) → length xs ≡ 0 → xs ≡ []
+no_length [] h = refl
+no_length (x ∷ xs) h = absurd (omega arith)
+
+-- the pigeonhole: as many steps as there are formulas lead on by one more
+pub all_lead : (s : Sheet) → Leads (length (cells_with_formula s)) s
+all_lead s = at (thins (length (cells_with_formula s)) s)
+  where
+    at : Leads (length (cells_with_formula s)) s ⊎ (length (layer (length (cells_with_formula s)) s) + length (cells_with_formula s) ≤ length (cells_with_formula s)) → Leads (length (cells_with_formula s)) s
+    at (inl l) = l
+    at (inr l) = λ c h.
+        let z : length (layer (length (cells_with_formula s)) s) ≡ 0 = omega arith in
+        let e = no_length (layer (length (cells_with_formula s)) s) z in
+        let m = in_layer (length (cells_with_formula s)) s c in
+        let i = ap (λ (xs : List ℕ). is_one_of xs c) e in
+        cc
+
+-- from a circular cell lead walks of every length
+pub circular_walks : (s : Sheet) (c : ℕ) → circular s c ≡ true → (n : ℕ) → has_walk n s c ≡ true
+unfolding circular
+circular_walks s c h n = at (cases_lt n (length (cells_with_formula s)))
+  where
+    at : (n < length (cells_with_formula s)) ⊎ (length (cells_with_formula s) ≤ n) → has_walk n s c ≡ true
+    at (inl l) = fewer (length (cells_with_formula s)) n s c (omega arith) h
+    at (inr l) = (further n (length (cells_with_formula s)) s l (all_lead s) c h).0
+
+-- and from no other
+pub walks_circular : (s : Sheet) (c : ℕ) → ((n : ℕ) → has_walk n s c ≡ true) → circular s c ≡ true
+unfolding circular
+walks_circular s c h = h (length (cells_with_formula s))

@@ -1,0 +1,2 @@
+pub mod Circular
+pub mod Reach

@@ -1,5 +1,0 @@
-use Rattle.wi_propagate.proofs.Remembering.{no_memory}
-use Rattle.wi_propagate.proofs.remembered.Remembered.new.Goals as goal
-
-pub returns-clause-right : goal.returns-clause-right
-returns-clause-right c = no_memory c.args.store.now.sheet c.args.order.items c.new-2.result c.requires.order c.new-2.ensures

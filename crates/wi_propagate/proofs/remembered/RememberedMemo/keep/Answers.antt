@@ -1,9 +1,0 @@
-use Rattle.std.proofs.Common.{ap}
-use Rattle.wi_propagate.specs.Remembered.{OneQuestion}
-use Rattle.wi_propagate.proofs.Remembering.{known_kept}
-use Rattle.wi_propagate.proofs.remembered.RememberedMemo.keep.Goals as goal
-
-pub returns-clause-known : goal.returns-clause-known
-returns-clause-known c =
-    let same = ap (λ (q : OneQuestion). q.values) c.self.view_is in
-    rw (← same) (known_kept c.keep.result c.self.inside.table c.keep.new.self c.args.key c.args.value c.keep.ensures.ok c.keep.ensures.err)

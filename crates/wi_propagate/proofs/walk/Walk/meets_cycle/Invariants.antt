@@ -1,9 +1,0 @@
-use Rattle.std.proofs.Common.{[], ◌∷◌}
-use Rattle.wi_propagate.specs.Walk.{Enter, GoesOn, tasks_in, tasks_left}
-use Rattle.wi_propagate.proofs.walk.Walk.meets_cycle.Given as goal
-
-abbrev pub invariant-loop-visit : goal.invariant-loop-visit
-invariant-loop-visit l = GoesOn l.store.sheet (Enter l.fn.root ∷ []) l.fn.self.marks l.fn.self.order.items (tasks_in l.store.sheet l.self.path.items) l.self.marks l.self.order.items
-
-abbrev pub decreases-loop-visit : goal.decreases-loop-visit
-decreases-loop-visit l = tasks_left l.store.sheet l.self.marks (tasks_in l.store.sheet l.self.path.items)

@@ -1,6 +1,0 @@
-use Rattle.std.proofs.Common.{◌≡◌, [], drop}
-use Rattle.wi_propagate.specs.Walk.{IsWalk, enters}
-use Rattle.wi_propagate.proofs.walk.reached_from.Given as goal
-
-abbrev pub invariant-loop-cell : goal.invariant-loop-cell
-invariant-loop-cell l = IsWalk l.store.sheet l.cells (enters (drop l.cell-index l.cells)) l.walk.marks l.walk.order.items × (l.walk.path.items ≡ [])

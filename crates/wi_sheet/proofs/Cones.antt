@@ -1,0 +1,53 @@
+-- What stays outside the cone of edited cells, under replacements.
+use Rattle.std.proofs.Common.{◌≡◌, ℕ, Bool, false, cond, List, [], ◌∷◌, filter, Option, refl, ap, sym, ◌∙◌}
+use Rattle.std.proofs.lemmas.Bool.{false_from_ne_true}
+use Rattle.wi_values.specs.declared.value.Value.{Value}
+use Rattle.wi_values.specs.declared.replacement.Replacement.{Replacement}
+use Rattle.wi_values.specs.Replacements.{last_for}
+use Rattle.wi_parser.specs.Sheet.{Sheet, content_of, put_all}
+use Rattle.wi_graph.specs.Reach.{is_one_of, IsInCone, SameOff, reaches}
+use Rattle.wi_graph.proofs.Cones.{cone_stays, agree_outside, outside_reaches}
+use Rattle.wi_sheet.specs.CellValue.{cell_value}
+use Rattle.wi_sheet.specs.Shown.{shown}
+use Rattle.wi_sheet.specs.Demand.{reaching}
+use Rattle.wi_sheet.proofs.Puts.{overlaid, content_of-put_all}
+use Rattle.wi_sheet.proofs.Last.{over, content_by_last}
+use Rattle.wi_sheet.proofs.Agreement.{agree_put}
+use Rattle.wi_sheet.proofs.Locality.{value_same, shown_same}
+
+pub outside_value : (s t : Sheet) (xs : List ℕ) (c : ℕ) (p : List Replacement) → SameOff s t xs → (IsInCone s xs c → ⊥) → cell_value (put_all s p) c ≡ cell_value (put_all t p) c
+outside_value s t xs c p same out = value_same (put_all s p) (put_all t p) c (agree_put s t p c (agree_outside s t xs c same out))
+
+-- under replacements that leave one content in each cell that was not edited
+pub outside_shown : (s t : Sheet) (xs : List ℕ) (p q : List Replacement) (c : ℕ) → SameOff s t xs → SameOff (put_all s p) (put_all t q) xs → (IsInCone s xs c → ⊥) → shown s p c ≡ shown t q c
+outside_shown s t xs p q c same puts out =
+    shown_same s t p q c (agree_outside s t xs c same out) (λ d w. puts d (false_from_ne_true (is_one_of xs d) (λ m. out (d, m, w))))
+
+same_off_put : (s t : Sheet) (xs : List ℕ) (p : List Replacement) → SameOff s t xs → SameOff (put_all s p) (put_all t p) xs
+same_off_put s t xs p same d m = content_of-put_all s p d ∙ ap (overlaid p d) (same d m) ∙ sym (content_of-put_all t p d)
+
+pub outside_shown_same : (s t : Sheet) (xs : List ℕ) (c : ℕ) (p : List Replacement) → SameOff s t xs → (IsInCone s xs c → ⊥) → shown s p c ≡ shown t p c
+outside_shown_same s t xs c p same out = outside_shown s t xs p p c same (same_off_put s t xs p same) out
+
+filter_alike : (f g : ℕ → Bool) → ((a : ℕ) → f a ≡ g a) → (w : List Replacement) → filter (λ r. f r.at) w ≡ filter (λ r. g r.at) w
+filter_alike f g h [] = refl
+filter_alike f g h (r ∷ rs) =
+    ap (λ (b : Bool). cond b (r ∷ filter (λ x. f x.at) rs) (filter (λ x. f x.at) rs)) (h r.at)
+    ∙ ap (λ (xs : List Replacement). cond (g r.at) (r ∷ xs) xs) (filter_alike f g h rs)
+
+-- so the replacements that reach a cell are the same
+pub outside_reaching : (s t : Sheet) (xs : List ℕ) (c : ℕ) (w : List Replacement) → SameOff s t xs → (IsInCone s xs c → ⊥) → reaching s c w ≡ reaching t c w
+outside_reaching s t xs c w same out = filter_alike (reaches s c) (reaches t c) (λ a. outside_reaches s t xs c a same out) w
+
+-- ---- two edits of the same cells, under replacements that agree in all others
+
+same_off_with : (s t : Sheet) (xs : List ℕ) (p q : List Replacement) → SameOff s t xs → ((d : ℕ) → is_one_of xs d ≡ false → last_for p d ≡ last_for q d) → SameOff (put_all s p) (put_all t q) xs
+same_off_with s t xs p q same puts d m =
+    content_by_last s p d ∙ ap (over (last_for p d)) (same d m)
+    ∙ ap (λ (v : Option Value). over v (content_of t d)) (puts d m) ∙ sym (content_by_last t q d)
+
+pub unmarked : (s t u : Sheet) (xs : List ℕ) (p q : List Replacement) (c : ℕ) → SameOff s t xs → SameOff s u xs → ((d : ℕ) → is_one_of xs d ≡ false → last_for p d ≡ last_for q d) →
+    (IsInCone s xs c → ⊥) → shown t p c ≡ shown u q c
+unmarked s t u xs p q c a b puts out =
+    let same : SameOff t u xs = λ d m. sym (a d m) ∙ b d m in
+    outside_shown t u xs p q c same (same_off_with t u xs p q same puts) (λ i. out ((cone_stays s t xs c a).1 i))

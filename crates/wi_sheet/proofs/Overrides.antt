@@ -1,0 +1,135 @@
+-- Replacements that others override.
+use Rattle.std.proofs.Common.{◌≡◌, ℕ, List, [], ◌∷◌, Option, Some, None, refl, ap, sym, ◌∙◌, arith}
+use Rattle.std.proofs.lemmas.Bool.Decides.{nat_tests}
+use Rattle.std.specs.Option.{option_or}
+use Rattle.std.specs.Ordering.{nat_cmp, match_ordering}
+use Rattle.std.specs.declared.cmp.Ordering.{Ordering}
+use Rattle.std.specs.declared.cmp.Ordering.TheVariants.{Less, Equal, Greater}
+use Rattle.std.specs.List.{AllByRecursion}
+use Rattle.std.specs.List.Sorted.{IsStrictlySortedBy}
+use Rattle.std.specs.Map.{lookup, keys_of}
+use Rattle.std.specs.BTreeMap.{is_at, insert_entry}
+use Rattle.wi_values.specs.declared.value.Value.{Value}
+use Rattle.wi_values.specs.declared.replacement.Replacement.{Replacement}
+use Rattle.wi_values.specs.Replacements.{IsInOrder, entries, replaced, overridden, last_for}
+use Rattle.wi_values.proofs.Replacements.InOrder.{sorted_from_order, order_from_entries}
+use Rattle.wi_values.proofs.Replacements.Filtering.{order_of_filter}
+use Rattle.wi_values.proofs.Replacements.Overriding.{overridden-nothing, lookup-overridden}
+use Rattle.wi_parser.specs.Sheet.{Sheet, content_of, put_all}
+use Rattle.wi_graph.specs.Reach.{Reaches, reaches}
+use Rattle.wi_graph.proofs.ReachTest.{true_reaches}
+use Rattle.wi_sheet.specs.CellValue.{replacements, cell_value, what_if_value}
+use Rattle.wi_sheet.specs.Demand.{reaching, puts_of, with_what_if}
+use Rattle.wi_sheet.proofs.Last.{over, over_both, content_by_last}
+use Rattle.wi_sheet.proofs.Agreement.{agree_put_both}
+use Rattle.wi_sheet.proofs.Locality.{value_same, others_do_not_count}
+
+-- ---- in order, the first replacement for a cell is the last
+
+or_none : (o : Option Value) → option_or o None ≡ o
+or_none None = refl
+or_none (Some v) = refl
+
+-- where replacements are in order, the last for a cell is the one
+pub last_in_order : (p : List Replacement) → IsInOrder p → (a : ℕ) → last_for p a ≡ replaced p a
+last_in_order p h a =
+    sym (or_none (last_for p a)) ∙ sym (lookup-overridden a [] p)
+    ∙ ap (λ (es : List (ℕ × Value)). lookup (is_at (nat_cmp a)) es) (overridden-nothing p h)
+
+pub content_in_order : (s : Sheet) (w : List Replacement) (a : ℕ) → IsInOrder w → content_of (put_all s w) a ≡ over (replaced w a) (content_of s a)
+content_in_order s w a h = content_by_last s w a ∙ ap (λ (o : Option Value). over o (content_of s a)) (last_in_order w h a)
+
+-- ---- replacements put in keep the order
+
+abbrev Rises : List (ℕ × Value) → Type 0
+Rises es = IsStrictlySortedBy nat_cmp (keys_of es)
+
+-- each key comes after a
+abbrev After : ℕ → List (ℕ × Value) → Type 0
+After a es = AllByRecursion (λ b. nat_cmp a b ≡ Less) (keys_of es)
+
+after_insert : (a k : ℕ) (v : Value) (es : List (ℕ × Value)) → nat_cmp a k ≡ Less → After a es → After a (insert_entry nat_cmp es k v)
+after_insert a k v [] l h = (l, tt)
+after_insert a k v (e ∷ es) l h = by (nat_cmp k e.0) (after_insert a k v es l h.1)
+  where
+    by : (o : Ordering) → After a (insert_entry nat_cmp es k v) → After a (match_ordering o ((k, v) ∷ e ∷ es) ((e.0, v) ∷ es) (e ∷ insert_entry nat_cmp es k v))
+    by Less ih = (l, h)
+    by Equal ih = h
+    by Greater ih = (h.0, ih)
+
+less_from_both : (a b c : ℕ) → nat_cmp a b ≡ Less → nat_cmp b c ≡ Less → nat_cmp a c ≡ Less
+less_from_both a b c g h = grind (arith, nat_tests)
+
+after_earlier : (a b : ℕ) (es : List (ℕ × Value)) → nat_cmp a b ≡ Less → After b es → After a es
+after_earlier a b [] l h = tt
+after_earlier a b (e ∷ es) l h = (less_from_both a b e.0 l h.0, after_earlier a b es l h.1)
+
+other_way : (a b : ℕ) → nat_cmp a b ≡ Greater → nat_cmp b a ≡ Less
+other_way a b h = grind (arith, nat_tests)
+
+rises_insert : (es : List (ℕ × Value)) (k : ℕ) (v : Value) → Rises es → Rises (insert_entry nat_cmp es k v)
+unfolding IsStrictlySortedBy
+rises_insert [] k v h = (tt, tt)
+rises_insert (e ∷ es) k v h = by (nat_cmp k e.0) refl (rises_insert es k v h.1)
+  where
+    by : (o : Ordering) → nat_cmp k e.0 ≡ o → Rises (insert_entry nat_cmp es k v) → Rises (match_ordering o ((k, v) ∷ e ∷ es) ((e.0, v) ∷ es) (e ∷ insert_entry nat_cmp es k v))
+    by Less q ih = ((q, after_earlier k e.0 es q h.0), h)
+    by Equal q ih = h
+    by Greater q ih = (after_insert e.0 k v es (other_way k e.0 q) h.0, ih)
+
+rises_overridden : (es : List (ℕ × Value)) (rs : List Replacement) → Rises es → Rises (overridden es rs)
+rises_overridden es [] h = h
+rises_overridden es (r ∷ rs) h = rises_overridden (insert_entry nat_cmp es r.at r.value) rs (rises_insert es r.at r.value h)
+
+entries_puts : (es : List (ℕ × Value)) → entries (puts_of es) ≡ es
+entries_puts [] = refl
+entries_puts (e ∷ es) = ap (λ (xs : List (ℕ × Value)). e ∷ xs) (entries_puts es)
+
+pub puts_entries : (w : List Replacement) → puts_of (entries w) ≡ w
+puts_entries [] = refl
+puts_entries (r ∷ rs) = ap (λ (xs : List Replacement). r ∷ xs) (puts_entries rs)
+
+pub override_in_order : (w rs : List Replacement) → IsInOrder w → IsInOrder (puts_of (overridden (entries w) rs))
+override_in_order w rs h =
+    order_from_entries (puts_of (overridden (entries w) rs)) (overridden (entries w) rs) (entries_puts (overridden (entries w) rs)) (rises_overridden (entries w) rs (sorted_from_order w h))
+
+pub what_if_in_order : (s : Sheet) (w : List Replacement) (pairs : List (ℕ × ℕ)) → IsInOrder w → IsInOrder (with_what_if s w pairs)
+what_if_in_order s w pairs h = override_in_order w (replacements (cell_value (put_all s w)) pairs) h
+
+pub reaching_in_order : (s : Sheet) (c : ℕ) (w : List Replacement) → IsInOrder w → IsInOrder (reaching s c w)
+reaching_in_order s c w h = order_of_filter (λ r. reaches s c r.at) w h
+
+-- ---- what overrides, stands over what was there
+
+pub override_last : (w rs : List Replacement) → IsInOrder w → (a : ℕ) → last_for (puts_of (overridden (entries w) rs)) a ≡ option_or (last_for rs a) (last_for w a)
+override_last w rs h a =
+    last_in_order (puts_of (overridden (entries w) rs)) (override_in_order w rs h) a
+    ∙ ap (λ (es : List (ℕ × Value)). lookup (is_at (nat_cmp a)) es) (entries_puts (overridden (entries w) rs))
+    ∙ lookup-overridden a (entries w) rs ∙ ap (option_or (last_for rs a)) (sym (last_in_order w h a))
+
+pub override_content : (s : Sheet) (w rs : List Replacement) → IsInOrder w → (a : ℕ) → content_of (put_all s (puts_of (overridden (entries w) rs))) a ≡ content_of (put_all (put_all s w) rs) a
+override_content s w rs h a =
+    content_by_last s (puts_of (overridden (entries w) rs)) a
+    ∙ ap (λ (v : Option Value). over v (content_of s a)) (override_last w rs h a)
+    ∙ over_both (last_for rs a) (last_for w a) (content_of s a)
+    ∙ ap (over (last_for rs a)) (sym (content_by_last s w a)) ∙ sym (content_by_last (put_all s w) rs a)
+
+-- replacements whose entries are those of a what-if put in are those with the what-if
+pub replaced_world : (s : Sheet) (w v inputs : List Replacement) (pairs : List (ℕ × ℕ)) → inputs ≡ replacements (cell_value (put_all s w)) pairs → entries v ≡ overridden (entries w) inputs → v ≡ with_what_if s w pairs
+replaced_world s w v inputs pairs e k = sym (puts_entries v) ∙ ap puts_of (k ∙ ap (overridden (entries w)) e)
+
+-- a what-if under replacements is its formula cell under those of its world
+pub with_what_if_value : (s : Sheet) (w : List Replacement) (f : ℕ) (pairs : List (ℕ × ℕ)) → IsInOrder w → cell_value (put_all s (with_what_if s w pairs)) f ≡ what_if_value (put_all s w) f pairs
+with_what_if_value s w f pairs h =
+    let rs = replacements (cell_value (put_all s w)) pairs in
+    value_same (put_all s (puts_of (overridden (entries w) rs))) (put_all (put_all s w) rs) f (λ d r. override_content s w rs h d)
+
+-- a cell's value under replacements is the one under those alone that reach it
+pub reaching_suffices : (s : Sheet) (w : List Replacement) (c : ℕ) → cell_value (put_all s (reaching s c w)) c ≡ cell_value (put_all s w) c
+reaching_suffices s w c = others_do_not_count s w c (reaches s c) (true_reaches s c)
+
+-- lists that say the same of each cell that c reaches give it one value
+pub same_for_reached : (s : Sheet) (p q : List Replacement) (c : ℕ) → ((d : ℕ) → Reaches s c d → last_for p d ≡ last_for q d) → cell_value (put_all s p) c ≡ cell_value (put_all s q) c
+same_for_reached s p q c h =
+    value_same (put_all s p) (put_all s q) c
+    (agree_put_both s s p q c (λ d r. content_by_last s p d ∙ ap (λ (o : Option Value). over o (content_of s d)) (h d r) ∙ sym (content_by_last s q d)))

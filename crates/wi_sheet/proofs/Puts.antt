@@ -1,0 +1,158 @@
+-- What replacements do to a sheet.
+use Rattle.std.proofs.Common.{◌≡◌, ◌==◌, ℕ, Bool, true, false, not, cond, List, [], ◌∷◌, ◌++◌, filter, Option, Some, None, refl, ap, sym, ◌∙◌, arith}
+use Rattle.std.proofs.lemmas.Bool.Decides.{nat_tests}
+use Rattle.std.specs.Ordering.{nat_cmp, match_ordering}
+use Rattle.std.specs.declared.cmp.Ordering.{Ordering}
+use Rattle.std.specs.declared.cmp.Ordering.TheVariants.{Less, Equal, Greater}
+use Rattle.std.specs.Map.{lookup, keys_of}
+use Rattle.std.specs.BTreeMap.{is_at, insert_entry}
+use Rattle.wi_values.specs.declared.value.Value.{Value}
+use Rattle.wi_values.specs.declared.value.Value.TheVariants.{Empty, Number, Text, Logical, Fault}
+use Rattle.wi_values.specs.declared.replacement.Replacement.{Replacement}
+use Rattle.wi_parser.specs.declared.content.Content.{Content}
+use Rattle.wi_parser.specs.Sheet.{Sheet, constant, content_of, without, with_content, put, put_all, has_formula, cells_with_formula}
+use Rattle.wi_graph.proofs.Tests.{is_at-eq, filter_same}
+
+-- a content under replacements, of which the last for a cell stands
+abbrev pub overlaid : List Replacement → ℕ → Option Content → Option Content
+overlaid [] q o = o
+overlaid (r ∷ rs) q o = overlaid rs q (cond (q == r.at) (constant r.value) o)
+
+shadow : (b d : Bool) (x y z : Option Content) → d ≡ b → cond d x z ≡ cond b x (cond d y z)
+shadow true true x y z h = refl
+shadow false false x y z h = refl
+shadow true false x y z h = cc
+shadow false true x y z h = cc
+
+swap : (b d : Bool) (x y z r : Option Content) → (b ≡ true → d ≡ true → ⊥) → r ≡ cond b x z → cond d y r ≡ cond b x (cond d y z)
+swap true true x y z r h e = absurd (h refl refl)
+swap true false x y z r h e = e
+swap false true x y z r h e = refl
+swap false false x y z r h e = e
+
+apart : (q c k : ℕ) → nat_cmp c k ≡ Greater → (q == c) ≡ true → is_at (nat_cmp q) k ≡ true → ⊥
+apart q c k h a b = grind (arith, nat_tests)
+
+tied : (c k : ℕ) → nat_cmp c k ≡ Equal → c ≡ k
+tied c k h = grind (arith, nat_tests)
+
+-- an insertion at one place of the order
+insert_at : (q c : ℕ) (x : Content) (e : ℕ × Content) (es : Sheet) (o : Ordering) → nat_cmp c e.0 ≡ o →
+    lookup (is_at (nat_cmp q)) (insert_entry nat_cmp es c x) ≡ cond (q == c) (Some x) (lookup (is_at (nat_cmp q)) es) →
+    lookup (is_at (nat_cmp q)) (match_ordering o ((c, x) ∷ e ∷ es) ((e.0, x) ∷ es) (e ∷ insert_entry nat_cmp es c x)) ≡ cond (q == c) (Some x) (lookup (is_at (nat_cmp q)) (e ∷ es))
+insert_at q c x e es Less h ih = ap (λ (b : Bool). cond b (Some x) (lookup (is_at (nat_cmp q)) (e ∷ es))) (is_at-eq q c)
+insert_at q c x e es Equal h ih =
+    shadow (q == c) (is_at (nat_cmp q) e.0) (Some x) (Some e.1) (lookup (is_at (nat_cmp q)) es) (is_at-eq q e.0 ∙ ap (λ (k : ℕ). q == k) (sym (tied c e.0 h)))
+insert_at q c x e es Greater h ih =
+    swap (q == c) (is_at (nat_cmp q) e.0) (Some x) (Some e.1) (lookup (is_at (nat_cmp q)) es) _ (apart q c e.0 h) ih
+
+pub content_of-insert : (s : Sheet) (c : ℕ) (x : Content) (q : ℕ) → content_of (insert_entry nat_cmp s c x) q ≡ cond (q == c) (Some x) (content_of s q)
+content_of-insert [] c x q = ap (λ (b : Bool). cond b (Some x) None) (is_at-eq q c)
+content_of-insert (e ∷ es) c x q = insert_at q c x e es (nat_cmp c e.0) refl (content_of-insert es c x q)
+
+gone : (b d : Bool) (y z r : Option Content) → d ≡ b → r ≡ cond b None z → r ≡ cond b None (cond d y z)
+gone true d y z r h e = e
+gone false false y z r h e = e
+gone false true y z r h e = cc
+
+apart_keys : (q c k : ℕ) → (k == c) ≡ false → (q == c) ≡ true → is_at (nat_cmp q) k ≡ true → ⊥
+apart_keys q c k h a b = grind (arith, nat_tests)
+
+same_key : (c k : ℕ) → (k == c) ≡ true → k ≡ c
+same_key c k h = grind (arith, nat_tests)
+
+-- a cell taken away, at one entry
+remove_at : (q c : ℕ) (e : ℕ × Content) (es : Sheet) (b : Bool) → (e.0 == c) ≡ b →
+    content_of (without es c) q ≡ cond (q == c) None (content_of es q) →
+    content_of (cond (not b) (e ∷ without es c) (without es c)) q ≡ cond (q == c) None (content_of (e ∷ es) q)
+remove_at q c e es true h ih = gone (q == c) (is_at (nat_cmp q) e.0) (Some e.1) (content_of es q) _ (is_at-eq q e.0 ∙ ap (λ (k : ℕ). q == k) (same_key c e.0 h)) ih
+remove_at q c e es false h ih = swap (q == c) (is_at (nat_cmp q) e.0) None (Some e.1) (content_of es q) _ (apart_keys q c e.0 h) ih
+
+content_of-remove : (s : Sheet) (c q : ℕ) → content_of (without s c) q ≡ cond (q == c) None (content_of s q)
+content_of-remove [] c q = nothing (q == c)
+  where
+    nothing : (b : Bool) → ◌≡◌ {A = Option Content} None (cond b None None)
+    nothing true = refl
+    nothing false = refl
+content_of-remove (e ∷ es) c q = remove_at q c e es (e.0 == c) refl (content_of-remove es c q)
+
+pub content_of-with : (s : Sheet) (c : ℕ) (o : Option Content) (q : ℕ) → content_of (with_content s c o) q ≡ cond (q == c) o (content_of s q)
+content_of-with s c None q = content_of-remove s c q
+content_of-with s c (Some x) q = content_of-insert s c x q
+
+pub content_of-put : (s : Sheet) (c : ℕ) (v : Value) (q : ℕ) → content_of (put s c v) q ≡ cond (q == c) (constant v) (content_of s q)
+content_of-put s c v q = content_of-with s c (constant v) q
+
+pub content_of-put_all : (s : Sheet) (p : List Replacement) (q : ℕ) → content_of (put_all s p) q ≡ overlaid p q (content_of s q)
+content_of-put_all s [] q = refl
+content_of-put_all s (r ∷ rs) q = content_of-put_all (put s r.at r.value) rs q ∙ ap (overlaid rs q) (content_of-put s r.at r.value q)
+
+pub put_all-append : (s : Sheet) (p r : List Replacement) → put_all s (p ++ r) ≡ put_all (put_all s p) r
+put_all-append s [] r = refl
+put_all-append s (x ∷ p) r = put_all-append (put s x.at x.value) p r
+
+-- ---- the formulas that are left
+
+pub plain : (v : Value) → has_formula (constant v) ≡ false
+plain Empty = refl
+plain (Number n) = refl
+plain (Text t) = refl
+plain (Logical b) = refl
+plain (Fault e) = refl
+
+-- what has no formula has none under replacements
+stays_plain : (p : List Replacement) (q : ℕ) (o : Option Content) → has_formula o ≡ false → has_formula (overlaid p q o) ≡ false
+stays_plain [] q o h = h
+stays_plain (r ∷ rs) q o h = stays_plain rs q (cond (q == r.at) (constant r.value) o) (either (q == r.at))
+  where
+    either : (b : Bool) → has_formula (cond b (constant r.value) o) ≡ false
+    either true = plain r.value
+    either false = h
+
+-- a test fails at each replaced cell
+abbrev FailsAt : (ℕ → Bool) → List Replacement → Type 0
+FailsAt P [] = Unit {0}
+FailsAt P (r ∷ rs) = (P r.at ≡ false) × FailsAt P rs
+
+itself : (a : ℕ) (x y : Option Content) → cond (a == a) x y ≡ x
+itself a x y = grind (arith, nat_tests)
+
+fails_at_replaced : (p : List Replacement) (o : ℕ → Option Content) → FailsAt (λ c. has_formula (overlaid p c (o c))) p
+fails_at_replaced [] o = tt
+fails_at_replaced (r ∷ rs) o =
+    (stays_plain rs r.at _ (ap has_formula (itself r.at (constant r.value) (o r.at)) ∙ plain r.value), fails_at_replaced rs (λ c. cond (c == r.at) (constant r.value) (o c)))
+
+filter-insert : (P : ℕ → Bool) (s : Sheet) (c : ℕ) (x : Content) → P c ≡ false → filter P (keys_of (insert_entry nat_cmp s c x)) ≡ filter P (keys_of s)
+filter-insert P [] c x h = ap (λ (b : Bool). cond b (c ∷ []) []) h
+filter-insert P (e ∷ es) c x h = at_entry (nat_cmp c e.0) (filter-insert P es c x h)
+  where
+    at_entry : (o : Ordering) → filter P (keys_of (insert_entry nat_cmp es c x)) ≡ filter P (keys_of es) →
+        filter P (keys_of (match_ordering o ((c, x) ∷ e ∷ es) ((e.0, x) ∷ es) (e ∷ insert_entry nat_cmp es c x))) ≡ filter P (keys_of (e ∷ es))
+    at_entry Less ih = ap (λ (b : Bool). cond b (c ∷ filter P (keys_of (e ∷ es))) (filter P (keys_of (e ∷ es)))) h
+    at_entry Equal ih = refl
+    at_entry Greater ih = ap (λ (ks : List ℕ). cond (P e.0) (e.0 ∷ ks) ks) ih
+
+filter-remove : (P : ℕ → Bool) (s : Sheet) (c : ℕ) → P c ≡ false → filter P (keys_of (without s c)) ≡ filter P (keys_of s)
+filter-remove P [] c h = refl
+filter-remove P (e ∷ es) c h = at_entry (e.0 == c) refl (filter-remove P es c h)
+  where
+    at_entry : (b : Bool) → (e.0 == c) ≡ b → filter P (keys_of (without es c)) ≡ filter P (keys_of es) →
+        filter P (keys_of (cond (not b) (e ∷ without es c) (without es c))) ≡ filter P (keys_of (e ∷ es))
+    at_entry true k ih = ih ∙ sym (ap (λ (b : Bool). cond b (e.0 ∷ filter P (keys_of es)) (filter P (keys_of es))) (ap P (same_key c e.0 k) ∙ h))
+    at_entry false k ih = ap (λ (ks : List ℕ). cond (P e.0) (e.0 ∷ ks) ks) ih
+
+filter-with : (P : ℕ → Bool) (s : Sheet) (c : ℕ) (o : Option Content) → P c ≡ false → filter P (keys_of (with_content s c o)) ≡ filter P (keys_of s)
+filter-with P s c None h = filter-remove P s c h
+filter-with P s c (Some x) h = filter-insert P s c x h
+
+filter-put_all : (P : ℕ → Bool) (p : List Replacement) (s : Sheet) → FailsAt P p → filter P (keys_of (put_all s p)) ≡ filter P (keys_of s)
+filter-put_all P [] s h = refl
+filter-put_all P (r ∷ rs) s h = filter-put_all P rs (put s r.at r.value) h.1 ∙ filter-with P s r.at (constant r.value) h.0
+
+-- the formulas under replacements are those of the sheet's cells that still have one
+pub formula_cells_put_all : (s : Sheet) (p : List Replacement) → cells_with_formula (put_all s p) ≡ filter (λ c. has_formula (content_of (put_all s p) c)) (keys_of s)
+formula_cells_put_all s p =
+    let P : ℕ → Bool = λ c. has_formula (content_of (put_all s p) c) in
+    let Q : ℕ → Bool = λ c. has_formula (overlaid p c (content_of s c)) in
+    let same : (c : ℕ) → P c ≡ Q c = λ c. ap has_formula (content_of-put_all s p c) in
+    filter_same P Q same (keys_of (put_all s p)) ∙ filter-put_all Q p s (fails_at_replaced p (content_of s)) ∙ sym (filter_same P Q same (keys_of s))

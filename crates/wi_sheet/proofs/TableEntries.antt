@@ -1,0 +1,93 @@
+-- What an entry of a data table demands.
+use Rattle.std.proofs.Common.{◌≡◌, inl, inr, ℕ, zero, suc, arith, All, Bool, true, false, ◌||◌, cond, List, [], ◌∷◌, ◌++◌, map, Contains, refl, ap, sym, ◌∙◌}
+use Rattle.std.specs.List.{list_any, flat_map}
+use Rattle.wi_values.specs.declared.value.Value.TheVariants.{Fault}
+use Rattle.wi_values.specs.declared.value.ErrorKind.TheVariants.{Circular}
+use Rattle.wi_values.specs.declared.replacement.Replacement.{Replacement}
+use Rattle.wi_parser.specs.Sheet.{Sheet, content_of, put_all, has_formula}
+use Rattle.wi_functions.specs.Meaning.{zero_for_empty}
+use Rattle.wi_graph.specs.Circular.{circular}
+use Rattle.wi_sheet.specs.CellValue.{what_if_value}
+use Rattle.wi_sheet.specs.Demand.{Case, case_of, with_what_if, demand, different}
+use Rattle.wi_sheet.specs.Spending.{IsClosed}
+use Rattle.wi_sheet.specs.TableEntry.{table_entry, table_demand}
+use Rattle.wi_sheet.proofs.Members.{IsIn, in_contained, contains_in, in_left, in_right, in_either, in_flat, of_flat}
+use Rattle.wi_sheet.proofs.SmallerWorlds.{content_below}
+use Rattle.wi_sheet.proofs.Demands.{demand_closed, demand_has_itself}
+use Rattle.wi_sheet.proofs.Cases.{closed_different, contains_different}
+
+-- ---- the demand is closed
+
+closed_both : (s : Sheet) (ks js : List Case) → IsClosed s ks → IsClosed s js → IsClosed s (ks ++ js)
+closed_both s ks js c d = λ k j h r. contains_in (ks ++ js) j (elim (in_either ks js k (in_contained (ks ++ js) k h)) [
+  | inl i ↦ in_left ks js j (in_contained ks j (c k j (contains_in ks k i) r))
+  | inr i ↦ in_right ks js j (in_contained js j (d k j (contains_in js k i) r))
+])
+
+closed_flat : {X : Type 0} (s : Sheet) (f : X → List Case) (xs : List X) → ((x : X) → IsClosed s (f x)) → IsClosed s (flat_map f xs)
+closed_flat s f xs c = λ k j h r.
+    let y = of_flat f xs k (in_contained (flat_map f xs) k h) in
+    contains_in (flat_map f xs) j (in_flat f xs y.0 j y.1 (in_contained (f y.0) j (c y.0 k j (contains_in (f y.0) k y.2) r)))
+
+-- what an entry demands, each case once, has all on which its cases rest
+pub table_closed : (s : Sheet) (w : List Replacement) (f : ℕ) (pairs : List (ℕ × ℕ)) → IsClosed s (different (table_demand s w f pairs))
+table_closed s w f pairs =
+    closed_different s (table_demand s w f pairs)
+    (closed_both s (flat_map (λ x. demand s (case_of s w x.1)) pairs) (demand s (case_of s (with_what_if s w pairs) f))
+    (closed_flat s (λ x. demand s (case_of s w x.1)) pairs (λ x. demand_closed s (case_of s w x.1)))
+    (demand_closed s (case_of s (with_what_if s w pairs) f)))
+
+-- ---- it has its roots
+
+-- a cell that is not circular demands its own case where it has a formula under the replacements
+case_itself : (s : Sheet) (w : List Replacement) (c : ℕ) → circular s c ≡ false → has_formula (content_of (put_all s w) c) ≡ true → IsIn (demand s (case_of s w c)) (case_of s w c)
+case_itself s w c h f = in_contained (demand s (case_of s w c)) (case_of s w c) (demand_has_itself s (case_of s w c) h (ap has_formula (content_below s c w) ∙ f))
+
+pub table_has_replacing : (s : Sheet) (w : List Replacement) (f : ℕ) (pairs : List (ℕ × ℕ)) (x : ℕ × ℕ) → Contains pairs x → circular s x.1 ≡ false →
+    has_formula (content_of (put_all s w) x.1) ≡ true → Contains (different (table_demand s w f pairs)) (case_of s w x.1)
+table_has_replacing s w f pairs x i h g =
+    let replacing = flat_map (λ (y : ℕ × ℕ). demand s (case_of s w y.1)) pairs in
+    contains_different (table_demand s w f pairs) (case_of s w x.1) (contains_in (table_demand s w f pairs) (case_of s w x.1)
+    (in_left replacing (demand s (case_of s (with_what_if s w pairs) f)) (case_of s w x.1)
+    (in_flat (λ (y : ℕ × ℕ). demand s (case_of s w y.1)) pairs x (case_of s w x.1) (in_contained pairs x i) (case_itself s w x.1 h g))))
+
+pub table_has_formula_cell : (s : Sheet) (w : List Replacement) (f : ℕ) (pairs : List (ℕ × ℕ)) → circular s f ≡ false →
+    has_formula (content_of (put_all s (with_what_if s w pairs)) f) ≡ true → Contains (different (table_demand s w f pairs)) (case_of s (with_what_if s w pairs) f)
+table_has_formula_cell s w f pairs h g =
+    let last = case_of s (with_what_if s w pairs) f in
+    contains_different (table_demand s w f pairs) last (contains_in (table_demand s w f pairs) last
+    (in_right (flat_map (λ (y : ℕ × ℕ). demand s (case_of s w y.1)) pairs) (demand s last) last (case_itself s (with_what_if s w pairs) f h g)))
+
+-- ---- its value
+
+-- the test for circular cells is one over all the cells whose values are asked for
+pub test_of_cells : (s : Sheet) (f : ℕ) (pairs : List (ℕ × ℕ)) (cells : List ℕ) → cells ≡ f ∷ map (λ x. x.1) pairs → (circular s f || list_any (λ x. circular s x.1) pairs) ≡ list_any (circular s) cells
+test_of_cells s f pairs cells e = ap (λ (b : Bool). circular s f || b) (of_pairs pairs) ∙ ap (λ (xs : List ℕ). list_any (circular s) xs) (sym e)
+  where
+    of_pairs : (xs : List (ℕ × ℕ)) → list_any (λ x. circular s x.1) xs ≡ list_any (circular s) (map (λ x. x.1) xs)
+    of_pairs [] = refl
+    of_pairs (x ∷ xs) = ap (λ (b : Bool). circular s x.1 || b) (of_pairs xs)
+
+or_parts : (b d : Bool) → (b || d) ≡ false → (b ≡ false) × (d ≡ false)
+or_parts true d h = cc
+or_parts false d h = (refl, h)
+
+-- where no element passes a test, each fails it
+each_fails : {X : Type 0} (p : X → Bool) (xs : List X) → list_any p xs ≡ false → All (λ x. p x ≡ false) xs
+each_fails p [] h k d l = absurd (omega arith)
+each_fails p (x ∷ xs) h zero d l = (or_parts (p x) (list_any p xs) h).0
+each_fails p (x ∷ xs) h (suc k) d l = each_fails p xs (or_parts (p x) (list_any p xs) h).1 k d (omega arith)
+
+-- so none of these cells is circular where the test says that none is
+pub cells_open : (s : Sheet) (f : ℕ) (pairs : List (ℕ × ℕ)) → (circular s f || list_any (λ x. circular s x.1) pairs) ≡ false → (circular s f ≡ false) × All (λ x. circular s x.1 ≡ false) pairs
+cells_open s f pairs h =
+    let parts = or_parts (circular s f) (list_any (λ x. circular s x.1) pairs) h in
+    (parts.0, each_fails (λ (x : ℕ × ℕ). circular s x.1) pairs parts.1)
+
+pub entry_circular : (s : Sheet) (p : List Replacement) (f : ℕ) (pairs : List (ℕ × ℕ)) → (circular s f || list_any (λ x. circular s x.1) pairs) ≡ true → table_entry s p f pairs ≡ Fault Circular
+unfolding table_entry
+entry_circular s p f pairs h = ap (λ (b : Bool). cond b (Fault Circular) (zero_for_empty (what_if_value (put_all s p) f pairs))) h
+
+pub entry_open : (s : Sheet) (p : List Replacement) (f : ℕ) (pairs : List (ℕ × ℕ)) → (circular s f || list_any (λ x. circular s x.1) pairs) ≡ false → table_entry s p f pairs ≡ zero_for_empty (what_if_value (put_all s p) f pairs)
+unfolding table_entry
+entry_open s p f pairs h = ap (λ (b : Bool). cond b (Fault Circular) (zero_for_empty (what_if_value (put_all s p) f pairs))) h

@@ -1,0 +1,109 @@
+-- What the value of one cell demands.
+use Rattle.std.specs.Prelude.{◌==◌, ℕ, zero, suc, ◌+◌, Bool, false, ◌&&◌, ◌||◌, if◌then◌else◌, List, [], ◌∷◌, ◌++◌, map, filter, length, Option, Some, None}
+use Rattle.std.specs.List.{list_any, flat_map}
+use Rattle.wi_values.specs.Address.{is_within}
+use Rattle.wi_values.specs.declared.value.Value.{Value}
+use Rattle.wi_values.specs.declared.replacement.Replacement.{Replacement}
+use Rattle.wi_values.specs.Replacements.{entries, overridden, same_replacements}
+use Rattle.wi_parser.specs.Tree.{Tree, Trees, number, text, cell, rectangle, parenthesized, signed, percent, binary, what_if, call, no_trees, more_trees}
+use Rattle.wi_parser.specs.declared.content.Content.{Content}
+use Rattle.wi_parser.specs.declared.content.Content.TheVariants.{Constant, Formula}
+use Rattle.wi_parser.specs.Sheet.{Sheet, content_of, put_all, cells_with_formula}
+use Rattle.wi_parser.specs.Reads.{area_of}
+use Rattle.wi_functions.specs.Meaning.{addresses}
+use Rattle.wi_graph.specs.Circular.{circular}
+use Rattle.wi_graph.specs.Reach.{reaches}
+use Rattle.wi_sheet.specs.CellValue.{replacements, cell_value}
+
+-- a cell and the replacements under which it is valued
+abbrev pub Case : Type 0
+Case = ℕ × List Replacement
+
+-- the replacements of cells that c reaches
+abbrev pub reaching : Sheet → ℕ → List Replacement → List Replacement
+reaching s c w = filter (λ r. reaches s c r.at) w
+
+-- a cell with the replacements of cells that it reaches
+abbrev pub case_of : Sheet → List Replacement → ℕ → Case
+case_of s w c = (c, reaching s c w)
+
+abbrev pub same_case : Case → Case → Bool
+same_case k j = k.0 == j.0 && same_replacements k.1 j.1
+
+-- entries of a map as replacements
+abbrev pub puts_of : List (ℕ × Value) → List Replacement
+puts_of es = map (λ e. record { at = e.0; value = e.1 }) es
+
+-- replacements with those of a what-if put in: each input has the value that its replacement cell has under the outer ones
+abbrev pub with_what_if : Sheet → List Replacement → List (ℕ × ℕ) → List Replacement
+with_what_if s w pairs = puts_of (overridden (entries w) (replacements (cell_value (put_all s w)) pairs))
+
+abbrev mutual
+  -- the what-ifs in a tree, from the left: the formula cell, and each input with its replacement cell
+  pub what_ifs_of : Tree → List (ℕ × List (ℕ × ℕ))
+  what_ifs_of (number x) = []
+  what_ifs_of (text s) = []
+  what_ifs_of (cell r) = []
+  what_ifs_of (rectangle c) = []
+  what_ifs_of (parenthesized t) = what_ifs_of t
+  what_ifs_of (signed s t) = what_ifs_of t
+  what_ifs_of (percent t) = what_ifs_of t
+  what_ifs_of (binary op t u) = what_ifs_of t ++ what_ifs_of u
+  what_ifs_of (what_if f pairs) = (f.at, map addresses pairs) ∷ []
+  what_ifs_of (call f ts) = what_ifs_in ts
+
+  pub what_ifs_in : Trees → List (ℕ × List (ℕ × ℕ))
+  what_ifs_in no_trees = []
+  what_ifs_in (more_trees t ts) = what_ifs_of t ++ what_ifs_in ts
+
+abbrev mutual
+  -- A tree reads this cell as the sheet stands: it reads it in another place than as the formula cell of a what-if.
+  pub reads_here : Tree → ℕ → Bool
+  reads_here (number x) a = false
+  reads_here (text s) a = false
+  reads_here (cell r) a = r.at == a
+  reads_here (rectangle c) a = is_within (area_of c) a
+  reads_here (parenthesized t) a = reads_here t a
+  reads_here (signed s t) a = reads_here t a
+  reads_here (percent t) a = reads_here t a
+  reads_here (binary op t u) a = reads_here t a || reads_here u a
+  reads_here (what_if f pairs) a = list_any (λ p. p.1.at == a) pairs
+  reads_here (call f ts) a = any_reads_here ts a
+
+  pub any_reads_here : Trees → ℕ → Bool
+  any_reads_here no_trees a = false
+  any_reads_here (more_trees t ts) a = reads_here t a || any_reads_here ts a
+
+-- what f gives of a formula's tree, and x where no formula stands
+abbrev pub of_formula : {A : Type 0} → Option Content → A → (Tree → A) → A
+of_formula None x f = x
+of_formula (Some (Constant v)) x f = x
+of_formula (Some (Formula t)) x f = f t
+
+-- the cells with a formula that a tree reads as the sheet stands
+abbrev pub formulas_read_here : Sheet → Tree → List ℕ
+formulas_read_here s t = filter (reads_here t) (cells_with_formula s)
+
+-- the cases on which a tree's value under replacements rests
+abbrev pub rests_on : Sheet → List Replacement → Tree → List Case
+rests_on s w t = map (case_of s w) (formulas_read_here s t) ++ map (λ x. case_of s (with_what_if s w x.1) x.0) (what_ifs_of t)
+
+-- The cases that a case demands, by at most n formulas one below the other: itself, and what those demand on which its
+-- formula's value rests. One that is circular in the sheet, or has no formula under its replacements, demands nothing.
+unfoldable pub demand_within : ℕ → Sheet → Case → List Case
+demand_within zero s k = []
+demand_within (suc n) s k = if circular s k.0 then [] else
+    of_formula (content_of (put_all s k.1) k.0) [] (λ t. k ∷ flat_map (demand_within n s) (rests_on s k.1 t))
+
+-- the cases that a case demands: as many formulas as the sheet has can stand one below the other
+unfoldable pub demand : Sheet → Case → List Case
+demand s k = demand_within (length (cells_with_formula s)) s k
+
+-- how many values a case's formula may ask for: of cells with a formula, and of what-ifs
+abbrev pub wants : Sheet → Case → ℕ
+wants s k = of_formula (content_of (put_all s k.1) k.0) 0 (λ t. length (formulas_read_here s t) + length (what_ifs_of t))
+
+-- each case once
+abbrev pub different : List Case → List Case
+different [] = []
+different (k ∷ ks) = if list_any (same_case k) ks then different ks else k ∷ different ks

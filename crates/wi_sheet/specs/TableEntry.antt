@@ -1,0 +1,23 @@
+-- What an entry of a data table shows, and what it demands.
+use Rattle.std.specs.Prelude.{ℕ, ◌||◌, if◌then◌else◌, List, ◌++◌}
+use Rattle.std.specs.List.{list_any, flat_map}
+use Rattle.wi_values.specs.declared.value.Value.{Value}
+use Rattle.wi_values.specs.declared.value.Value.TheVariants.{Fault}
+use Rattle.wi_values.specs.declared.value.ErrorKind.TheVariants.{Circular}
+use Rattle.wi_values.specs.declared.replacement.Replacement.{Replacement}
+use Rattle.wi_parser.specs.Sheet.{Sheet, put_all}
+use Rattle.wi_functions.specs.Meaning.{zero_for_empty}
+use Rattle.wi_graph.specs.Circular.{circular}
+use Rattle.wi_sheet.specs.CellValue.{what_if_value}
+use Rattle.wi_sheet.specs.Demand.{Case, case_of, with_what_if, demand}
+
+-- What an entry shows under a scenario's replacements: the value of its formula cell with each input replaced by the value of
+-- its replacement cell. It is valued as a formula in a cell of its own that nothing reads, so Empty becomes 0. Cycles are
+-- those of the sheet's own formulas: no replacement cuts one.
+unfoldable pub table_entry : Sheet → List Replacement → ℕ → List (ℕ × ℕ) → Value
+table_entry s p f pairs =
+    if circular s f || list_any (λ x. circular s x.1) pairs then Fault Circular else zero_for_empty (what_if_value (put_all s p) f pairs)
+
+-- the cases that an entry demands: those of its replacement cells, and of its formula cell with the inputs replaced
+abbrev pub table_demand : Sheet → List Replacement → ℕ → List (ℕ × ℕ) → List Case
+table_demand s w f pairs = flat_map (λ x. demand s (case_of s w x.1)) pairs ++ demand s (case_of s (with_what_if s w pairs) f)

@@ -1,0 +1,6 @@
+-- What is proved of lists of replacements.
+pub mod Same
+pub mod InOrder
+pub mod Overriding
+pub mod Filtering
+mod Rows

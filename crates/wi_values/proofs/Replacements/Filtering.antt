@@ -1,0 +1,54 @@
+-- Some of the replacements.
+use Rattle.std.proofs.Common.{◌≡◌, ℕ, Bool, true, false, cond, List, [], ◌∷◌, None, filter, refl, ap, ◌∙◌, arith}
+use Rattle.std.specs.Ordering.{nat_cmp}
+use Rattle.std.specs.List.Sorted.{IsStrictlySortedBy}
+use Rattle.std.specs.Map.{lookup, keys_of}
+use Rattle.std.specs.BTreeMap.{is_at}
+use Rattle.std.proofs.lemmas.Bool.Decides.{nat_tests}
+use Rattle.std.proofs.lemmas.Map.Entries.{lookup-filter-keys}
+use Rattle.wi_values.specs.declared.value.Value.{Value}
+use Rattle.wi_values.specs.declared.replacement.Replacement.{Replacement}
+use Rattle.wi_values.specs.Replacements.{IsInOrder, entries, replaced}
+use Rattle.wi_values.proofs.Replacements.InOrder.{ComeAfter, sorted_from_order, order_from_sorted}
+
+after_filter : (a : ℕ) (p : Replacement → Bool) (rs : List Replacement) → ComeAfter a rs → ComeAfter a (filter p rs)
+after_filter a p [] h = tt
+after_filter a p (r ∷ rs) h = by (p r) (after_filter a p rs h.1)
+  where
+    by : (b : Bool) → ComeAfter a (filter p rs) → ComeAfter a (cond b (r ∷ filter p rs) (filter p rs))
+    by true k = (h.0, k)
+    by false k = k
+
+abbrev Rises : List Replacement → Type 0
+Rises rs = IsStrictlySortedBy nat_cmp (keys_of (entries rs))
+
+sorted_filter : (p : Replacement → Bool) (rs : List Replacement) → Rises rs → Rises (filter p rs)
+unfolding IsStrictlySortedBy
+sorted_filter p [] h = tt
+sorted_filter p (r ∷ rs) h = by (p r) (after_filter r.at p rs h.0) (sorted_filter p rs h.1)
+  where
+    by : (b : Bool) → ComeAfter r.at (filter p rs) → Rises (filter p rs) → Rises (cond b (r ∷ filter p rs) (filter p rs))
+    by true k s = (k, s)
+    by false k s = s
+
+pub order_of_filter : (p : Replacement → Bool) (rs : List Replacement) → IsInOrder rs → IsInOrder (filter p rs)
+order_of_filter p rs h = order_from_sorted (filter p rs) (sorted_filter p rs (sorted_from_order rs h))
+
+-- ---- what an address has among those that are left
+
+entries-filter : (p : ℕ → Bool) (rs : List Replacement) → entries (filter (λ r. p r.at) rs) ≡ filter (λ e. p e.0) (entries rs)
+entries-filter p [] = refl
+entries-filter p (r ∷ rs) = by (p r.at) (entries-filter p rs)
+  where
+    by : (b : Bool) → entries (filter (λ s. p s.at) rs) ≡ filter (λ e. p e.0) (entries rs)
+        → entries (cond b (r ∷ filter (λ s. p s.at) rs) (filter (λ s. p s.at) rs)) ≡ cond b ((r.at, r.value) ∷ filter (λ e. p e.0) (entries rs)) (filter (λ e. p e.0) (entries rs))
+    by true h = ap (λ (es : List (ℕ × Value)). (r.at, r.value) ∷ es) h
+    by false h = h
+
+found_key : (a k : ℕ) → is_at (nat_cmp a) k ≡ true → k ≡ a
+found_key a k h = grind (arith, nat_tests)
+
+pub replaced-filter : (p : ℕ → Bool) (a : ℕ) (rs : List Replacement) → replaced (filter (λ r. p r.at) rs) a ≡ cond (p a) (replaced rs a) None
+replaced-filter p a rs =
+    ap (λ (es : List (ℕ × Value)). lookup (is_at (nat_cmp a)) es) (entries-filter p rs)
+    ∙ lookup-filter-keys (is_at (nat_cmp a)) p (p a) (λ k t. ap p (found_key a k t)) (entries rs)
