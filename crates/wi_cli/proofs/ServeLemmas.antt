@@ -20,13 +20,13 @@ pub told_done : (o : Option Command) (c : Command) (s t : State) (out out' recor
 told_done o c s t out out' records e none grown h =
     subst (λ x. Told x Done s t out') (sym e) (h ∙ ap (λ x. Ok (t, x)) (sym (grown ∙ ap (λ x. x ++ records) none)))
 
-may : (d : ReadCommand) → may_lack_memory (command_of d) ≡ true
-may (read.Set at content) = refl
-may (read.Show area) = refl
-may (read.Formula at) = refl
+may : (d : ReadCommand) (s : State) → answer.may_grow (step s (command_of d)) ≡ true → may_lack_memory s (command_of d) ≡ true
+may (read.Set at content) s h = h
+may (read.Show area) s h = h
+may (read.Formula at) s h = h
 
 refuses : (e : Refusal) (d : ReadCommand) (s : State) → answer.MayRefuse e (step s (command_of d)) → RefusedAs e s (command_of d)
-refuses Memory d s h = may d
+refuses Memory d s h = may d s h
 refuses BadCommand d s h = h
 refuses BadLine d s h = h
 refuses OutOfSheet d s h = h

@@ -15,7 +15,7 @@ pub record IsAnswered (s : State) (c : Command) (told : List ℕ) (t : State) : 
 pub record IsUnserved (s : State) (c : Command) (told : List ℕ) (t : State) : Type 0 where
   pub reply_is : told ≡ refused Memory
   pub state_is : t ≡ s
-  pub may : may_lack_memory c ≡ true
+  pub may : may_lack_memory s c ≡ true
 
 abbrev pub MayAnswer : State → Command → List ℕ → State → Type 0
 MayAnswer s c told t = IsAnswered s c told t ⊎ IsUnserved s c told t

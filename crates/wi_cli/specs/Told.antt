@@ -10,7 +10,7 @@ use Rattle.wi_cli.specs.Reply.{refused, ok_line}
 
 -- want of memory may refuse some commands; another refusal is the step's
 abbrev pub RefusedAs : Refusal → State → Command → Type 0
-RefusedAs Memory s c = may_lack_memory c ≡ true
+RefusedAs Memory s c = may_lack_memory s c ≡ true
 RefusedAs e s c = step s c ≡ Err e
 
 -- the line is passed over, or its command is answered by the step, or by want of memory

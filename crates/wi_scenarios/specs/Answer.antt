@@ -1,5 +1,5 @@
 -- What a command is answered.
-use Rattle.std.specs.Prelude.{◌≡◌, ℕ, List, [], Result, Ok, Err}
+use Rattle.std.specs.Prelude.{◌≡◌, ℕ, Bool, true, false, not, List, [], Result, Ok, Err}
 use Rattle.wi_values.specs.declared.address.AddressFault.{AddressFault}
 use Rattle.wi_values.specs.declared.address.AddressFault.TheVariants.{Shape, Outside}
 use Rattle.wi_scenarios.specs.declared.refusal.Refusal.{Refusal}
@@ -29,9 +29,21 @@ abbrev pub operand_refusal : AddressFault → Refusal
 operand_refusal Shape = BadCommand
 operand_refusal Outside = OutOfSheet
 
--- a refusal for want of memory may stand in place of any answer, another only as the answer
+-- whether a refusal is found before anything grows
+abbrev pub is_found_before_growth : Refusal → Bool
+is_found_before_growth BadCommand = true
+is_found_before_growth BadLine = true
+is_found_before_growth TooLarge = true
+is_found_before_growth e = false
+
+-- whether anything may grow before this answer is found
+abbrev pub may_grow : Answer → Bool
+may_grow (Ok a) = true
+may_grow (Err e) = not (is_found_before_growth e)
+
+-- a refusal for want of memory may stand in place of an answer before which something may grow, another only as the answer
 abbrev pub MayRefuse : Refusal → Answer → Type 0
-MayRefuse Memory a = Unit {0}
+MayRefuse Memory a = may_grow a ≡ true
 MayRefuse e a = a ≡ Err e
 
 -- The call did as the answer says and wrote these records, or it refused, wrote none and left the state as it was.

@@ -1,9 +1,9 @@
 -- What one command does.
-use Rattle.std.specs.Prelude.{ℕ, Bool, true, false, List, Err}
+use Rattle.std.specs.Prelude.{ℕ, Bool, false, List, Err}
 use Rattle.wi_values.specs.Address.{Area}
 use Rattle.wi_scenarios.specs.declared.refusal.Refusal.{Refusal}
 use Rattle.wi_scenarios.specs.State.{State}
-use Rattle.wi_scenarios.specs.Answer.{Answer}
+use Rattle.wi_scenarios.specs.Answer.{Answer, may_grow}
 use Rattle.wi_scenarios.specs.SetStep.{set_step}
 use Rattle.wi_scenarios.specs.ShowStep.{show_step}
 use Rattle.wi_scenarios.specs.FormulaStep.{formula_step}
@@ -21,9 +21,7 @@ step s (Show area) = show_step s area
 step s (Formula at) = formula_step s at
 step s (Refused e) = Err e
 
--- whether a command may be refused for want of memory
-abbrev pub may_lack_memory : Command → Bool
-may_lack_memory (Set at content) = true
-may_lack_memory (Show area) = true
-may_lack_memory (Formula at) = true
-may_lack_memory (Refused e) = false
+-- whether a command may be refused for want of memory: not where it is refused before anything grows
+abbrev pub may_lack_memory : State → Command → Bool
+may_lack_memory s (Refused e) = false
+may_lack_memory s c = may_grow (step s c)
