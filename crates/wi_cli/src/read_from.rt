@@ -1,10 +1,11 @@
 //! A std reader as a source.
 
-ghost use Rattle.std.specs.Prelude.{◌≡◌, ◌^◌, false};
+ghost use Rattle.std.specs.Prelude.{◌≡◌, ◌^◌, ◌≤◌, false, length, IfOk};
+ghost use Rattle.std.specs.Io.KnownBytes.{ReadConsumes};
 ghost use Rattle.wi_cli.specs.Devices.{reader_of, reads_left_of, read_failed};
 
 use crate::device::{DeviceFault, Source};
-use std::io::Read;
+use std::io::{ErrorKind, Read};
 
 /// How many reads a `ReadFrom` allows.
 pub const READS: u64 = 4_294_967_296;
@@ -32,6 +33,24 @@ impl<R: Read> ReadFrom<R> {
     }
 }
 
+/// One read, made again where the system interrupts it.
+fn read_some<R: Read>(reader: &mut R, buf: &mut [u8]) -> Result<usize, DeviceFault>
+    ensures bound { IfOk result (λ n. n ≤ length buf.new) }
+    ensures bytes { ReadConsumes (R.remaining reader.old) (R.remaining reader.new) result buf.new }
+{
+    for _ in 0..u64::MAX {
+        match reader.read(buf) {
+            Ok(n) => return Ok(n),
+            Err(error) => {
+                if error.kind() != ErrorKind::Interrupted {
+                    return Err(DeviceFault);
+                }
+            }
+        }
+    }
+    Err(DeviceFault)
+}
+
 impl<R: Read> Source for ReadFrom<R> {
     ghost remaining = { λ s. R.remaining (reader_of s) };
 
@@ -45,13 +64,9 @@ impl<R: Read> Source for ReadFrom<R> {
             return Err(DeviceFault);
         }
         self.left -= 1;
-        match self.inner.read(buf) {
-            Ok(n) => Ok(n),
-            Err(_) => {
-                self.failed = true;
-                Err(DeviceFault)
-            }
-        }
+        let outcome = read_some(&mut self.inner, buf);
+        self.failed = outcome.is_err();
+        outcome
     }
 
     fn left(&self) -> u64 {

@@ -1,10 +1,11 @@
 //! A std writer as a sink.
 
-ghost use Rattle.std.specs.Prelude.{◌≡◌, false};
+ghost use Rattle.std.specs.Prelude.{◌≡◌, ◌≤◌, ◌<◌, false, length, IfOk};
+ghost use Rattle.std.specs.Io.KnownBytes.{WriteAppends};
 ghost use Rattle.wi_cli.specs.Devices.{writer_of, write_failed, is_flushed};
 
 use crate::device::{DeviceFault, Sink};
-use std::io::Write;
+use std::io::{ErrorKind, Write};
 
 /// A std writer as a sink.
 #[derive(Drop)]
@@ -28,6 +29,30 @@ impl<W: Write> WriteTo<W> {
     }
 }
 
+/// One write, made again where the system interrupts it. A write of no byte, where there is one, is a failed one.
+fn write_some<W: Write>(writer: &mut W, buf: &[u8]) -> Result<usize, DeviceFault>
+    ensures bound { IfOk result (λ n. n ≤ length buf.now) }
+    ensures some { IfOk result (λ n. 0 < length buf.now → 0 < n) }
+    ensures bytes { WriteAppends (W.contents writer.old) (W.contents writer.new) result buf.now }
+{
+    for _ in 0..u64::MAX {
+        match writer.write(buf) {
+            Ok(n) => {
+                if n == 0 && !buf.is_empty() {
+                    return Err(DeviceFault);
+                }
+                return Ok(n);
+            }
+            Err(error) => {
+                if error.kind() != ErrorKind::Interrupted {
+                    return Err(DeviceFault);
+                }
+            }
+        }
+    }
+    Err(DeviceFault)
+}
+
 impl<W: Write> Sink for WriteTo<W> {
     ghost contents = { λ s. W.contents (writer_of s) };
 
@@ -37,19 +62,9 @@ impl<W: Write> Sink for WriteTo<W> {
 
     fn write(&mut self, buf: &[u8]) -> Result<usize, DeviceFault> {
         self.flushed = false;
-        match self.inner.write(buf) {
-            Ok(n) => {
-                if n == 0 && !buf.is_empty() {
-                    self.failed = true;
-                    return Err(DeviceFault);
-                }
-                Ok(n)
-            }
-            Err(_) => {
-                self.failed = true;
-                Err(DeviceFault)
-            }
-        }
+        let outcome = write_some(&mut self.inner, buf);
+        self.failed = outcome.is_err();
+        outcome
     }
 
     fn flush(&mut self) -> Result<(), DeviceFault> {
