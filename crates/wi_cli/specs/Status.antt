@@ -1,5 +1,5 @@
 -- The status with which the program ends.
-use Rattle.std.specs.Prelude.{ℕ}
+use Rattle.std.specs.Prelude.{ℕ, Result, Ok, Err}
 use Rattle.wi_cli.specs.declared.fault.RunFault.{RunFault}
 use Rattle.wi_cli.specs.declared.fault.RunFault.TheVariants.{Memory, Read, Write, ScriptLimit}
 
@@ -9,3 +9,8 @@ status_of Read = 3
 status_of Write = 3
 status_of ScriptLimit = 4
 status_of Memory = 5
+
+-- 0 where the script was run to its end
+abbrev pub ending_status : Result (Unit {0}) RunFault → ℕ
+ending_status (Ok _) = 0
+ending_status (Err fault) = status_of fault

@@ -5,6 +5,7 @@ mod answer;
 mod chunk;
 mod command;
 mod device;
+mod ending;
 mod fault;
 mod lines;
 mod read_from;
@@ -14,6 +15,7 @@ mod write;
 mod write_to;
 
 pub use device::{DeviceFault, Sink, Source};
+pub use ending::{Ending, run_new};
 pub use fault::{RunFault, fault_status};
 pub use read_from::{READS, ReadFrom};
 pub use runs::{MAX_LINES, run};

@@ -1,0 +1,70 @@
+//! What a program does with its devices.
+
+ghost use Rattle.std.specs.Prelude.{◌≡◌, ℕ, List, Err, IfOk, OnOk, true, false};
+ghost use Rattle.std.specs.Io.KnownBytes.{Appends, Consumes, IsAtEnd};
+ghost use Rattle.wi_scenarios.specs.State.{State, new_state};
+ghost use Rattle.wi_cli.specs.Outcome.{Outcome};
+ghost use Rattle.wi_cli.specs.Status.{ending_status};
+
+use crate::device::{Sink, Source};
+use crate::fault::{RunFault, fault_status};
+use crate::runs::run;
+use std::alloc::{AllocError, Global};
+use wi_propagate::PlainCalculator;
+use wi_scenarios::Workbook;
+use wi_store::Limits;
+
+/// How a program ends.
+#[derive(Clone, Copy)]
+pub struct Ending {
+    /// Whether the script was run to its end.
+    pub outcome: Result<(), RunFault>,
+    /// The exit status.
+    pub status: u8,
+}
+
+impl Ending {
+    fn new(outcome: Result<(), RunFault>) -> Ending
+        ensures outcome { result.outcome ≡ outcome }
+        ensures status { result.status ≡ ending_status outcome }
+    {
+        let status = match &outcome {
+            Ok(()) => 0,
+            Err(fault) => fault_status(fault),
+        };
+        Ending { outcome, status }
+    }
+}
+
+#[tactic(auto, using(crate::proofs::EndingLemmas::is_new))]
+fn new_workbook(alloc: Global) -> Result<Workbook<PlainCalculator>, AllocError>
+    ensures { IfOk result (λ book. book ≡ new_state) }
+{
+    Workbook::new(alloc, PlainCalculator::new(alloc, Limits::standard()))
+}
+
+/// Runs a script on a new workbook, within the standard limits. The outcome is that of `run`.
+pub fn run_new<R: Source, W: Sink>(alloc: Global, reader: &mut R, writer: &mut W) -> Ending
+    requires reads { R.has_failed reader.old ≡ false }
+    requires writes { W.has_failed writer.old ≡ false }
+
+    // The bytes written are the replies to the commands of the bytes read, from an empty sheet on.
+    ensures replies { (last : State) × (input out : List ℕ)
+        × Consumes (R.remaining reader.old) (R.remaining reader.new) input
+        × Appends (W.contents writer.old) (W.contents writer.new) out
+        × Outcome result.outcome (R.remaining reader.new) new_state last input out }
+    ensures all_read { OnOk result.outcome (IsAtEnd (R.remaining reader.new)) }
+    ensures reads { OnOk result.outcome (R.has_failed reader.new ≡ false) }
+    ensures writes { OnOk result.outcome (W.has_failed writer.new ≡ false) }
+    ensures all_sent { OnOk result.outcome (W.flushed writer.new ≡ true) }
+    ensures read_fault { result.outcome ≡ Err RunFault.Read → R.has_failed reader.new ≡ true }
+    ensures write_fault { result.outcome ≡ Err RunFault.Write → W.has_failed writer.new ≡ true }
+    ensures unread { result.outcome ≡ Err RunFault.Memory → reader.new ≡ reader.old }
+    ensures unwritten { result.outcome ≡ Err RunFault.Memory → writer.new ≡ writer.old }
+    ensures status { result.status ≡ ending_status result.outcome }
+{
+    let Ok(mut book) = new_workbook(alloc) else {
+        return Ending::new(Err(RunFault::Memory));
+    };
+    Ending::new(run(alloc, reader, writer, &mut book))
+}
