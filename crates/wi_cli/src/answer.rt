@@ -11,7 +11,7 @@ use crate::write::write_all;
 use wi_scenarios::Refusal;
 
 /// What a line is answered.
-#[derive(Clone, Copy, PartialEq, Eq, Debug)]
+#[derive(Clone, Copy)]
 pub enum Answer {
     /// Nothing: the line was passed over.
     Passed,

@@ -11,7 +11,7 @@ use wi_scenarios::Refusal;
 use wi_values::{Address, Rect};
 
 /// A command with its operands.
-#[derive(Clone, Copy, Debug)]
+#[derive(Clone, Copy)]
 pub enum Command<'a> {
     Set { at: Address, content: &'a str },
     Show { area: Rect },

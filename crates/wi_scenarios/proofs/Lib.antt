@@ -1,1 +1,1 @@
-pub mod RowLemmas
+pub mod ShowLemmas

@@ -1,6 +1,6 @@
 pub mod State
 pub mod Answer
-pub mod SetStep
-pub mod ShowStep
-pub mod FormulaStep
+pub mod Set
+pub mod Show
+pub mod Formula
 pub mod Step

@@ -4,9 +4,9 @@ use Rattle.wi_values.specs.Address.{Area}
 use Rattle.wi_scenarios.specs.declared.refusal.Refusal.{Refusal}
 use Rattle.wi_scenarios.specs.State.{State}
 use Rattle.wi_scenarios.specs.Answer.{Answer, may_grow}
-use Rattle.wi_scenarios.specs.SetStep.{set_step}
-use Rattle.wi_scenarios.specs.ShowStep.{show_step}
-use Rattle.wi_scenarios.specs.FormulaStep.{formula_step}
+use Rattle.wi_scenarios.specs.Set.{set_step}
+use Rattle.wi_scenarios.specs.Show.{show_step}
+use Rattle.wi_scenarios.specs.Formula.{formula_step}
 
 -- a command, or a line that is refused whatever the state is
 pub data Command : Type 0 where

@@ -1,9 +1,10 @@
 //! A workbook and its commands.
 #![tactic(auto)]
 
-mod formula_text;
+mod formula;
 mod refusal;
-mod rows;
+mod set;
+mod show;
 mod workbook;
 
 pub use refusal::Refusal;

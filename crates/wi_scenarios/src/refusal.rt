@@ -8,29 +8,43 @@ use wi_parser::ParseFault;
 use wi_store::StoreFault;
 use wi_values::AddressFault;
 
-/// Why a command is refused. All is then as before.
-#[derive(Clone, Copy, PartialEq, Eq, Debug, Error)]
+/// Why a command is refused. All is then as before. The first cause of this order that holds is answered: `BadLine`,
+/// `BadCommand`, `OutOfSheet` of an operand, `TooLarge`, `TooLong`, `OutOfSheet` of a formula, `NumberRange`, `TooDeep`,
+/// `Syntax`, `Full`, `EditLimit`. `Memory` may stand in place of any answer but the first four refusals, which are found
+/// before anything grows.
+#[derive(Clone, Copy, PartialEq, Debug, Error)]
 pub enum Refusal {
+    /// E01.
     #[error("out of memory")]
     Memory,
+    /// E02.
     #[error("no such command, or not its words")]
     BadCommand,
+    /// E03.
     #[error("the line is too long, or not UTF-8")]
     BadLine,
+    /// E04.
     #[error("a cell outside the sheet")]
     OutOfSheet,
+    /// E05.
     #[error("no formula")]
     Syntax,
+    /// E06.
     #[error("the formula is nested too deeply")]
     TooDeep,
+    /// E07.
     #[error("a number of the formula does not fit")]
     NumberRange,
+    /// E08.
     #[error("the text or formula is too long")]
     TooLong,
+    /// E09.
     #[error("the sheet would have too many occupied cells")]
     Full,
+    /// E15.
     #[error("the rectangle has too many cells")]
     TooLarge,
+    /// E17.
     #[error("no more edits are accepted")]
     EditLimit,
 }
@@ -92,7 +106,7 @@ impl From<AddressFault> for Refusal {
 }
 
 impl From<ParseFault> for Refusal {
-    ghost use Rattle.wi_scenarios.specs.SetStep.{parse_refusal};
+    ghost use Rattle.wi_scenarios.specs.Answer.{parse_refusal};
 
     ghost from_gives = { λ fault e. e ≡ parse_refusal fault };
 
@@ -109,7 +123,7 @@ impl From<ParseFault> for Refusal {
 }
 
 impl From<StoreFault> for Refusal {
-    ghost use Rattle.wi_scenarios.specs.SetStep.{edit_refusal};
+    ghost use Rattle.wi_scenarios.specs.Answer.{edit_refusal};
 
     ghost from_gives = { λ fault e. e ≡ edit_refusal fault };
 

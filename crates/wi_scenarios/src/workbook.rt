@@ -1,17 +1,18 @@
 //! A workbook.
 
 ghost use Rattle.std.specs.Prelude.{◌≡◌, ◌++◌, ℕ, List, [], IfOk};
+ghost use Rattle.wi_scenarios.specs.State.{state_of};
 ghost use Rattle.wi_scenarios.specs.Answer.{Serves};
-ghost use Rattle.wi_scenarios.specs.SetStep.{set_step};
-ghost use Rattle.wi_scenarios.specs.ShowStep.{show_step};
-ghost use Rattle.wi_scenarios.specs.FormulaStep.{formula_step};
+ghost use Rattle.wi_scenarios.specs.Set.{set_step};
+ghost use Rattle.wi_scenarios.specs.Show.{show_step};
+ghost use Rattle.wi_scenarios.specs.Formula.{formula_step};
 
-use crate::formula_text::append_content;
+use crate::formula::formula;
 use crate::refusal::Refusal;
-use crate::rows::{MAX_AREA, push_rows};
+use crate::set::set;
+use crate::show::show;
 use std::alloc::{AllocError, Global};
 use std::marker::Model;
-use wi_parser::Content;
 use wi_propagate::Calculator;
 use wi_values::{Address, Rect};
 
@@ -23,7 +24,7 @@ pub struct Workbook<C: Calculator> {
 }
 
 impl<C: Calculator> Model for Workbook<C> {
-    ghost use Rattle.wi_scenarios.specs.State.{State};
+    ghost use Rattle.wi_scenarios.specs.State.{State, state_of};
 
     ghost Value = { State };
 
@@ -32,13 +33,13 @@ impl<C: Calculator> Model for Workbook<C> {
 
     ghost coded = { Prim.hlevel (codes, content.the_row.coded) };
 
-    ghost view = { λ w. record { stored = C.stored w.calculator } };
+    ghost view = { λ w. state_of (C.stored w.calculator) };
 }
 
 impl<C: Calculator> Workbook<C> {
     /// A workbook over a calculator, whose sheet it takes over.
     pub fn new(alloc: Global, calculator: C) -> Result<Workbook<C>, AllocError>
-        ensures { IfOk result (λ w. w ≡ record { stored = C.stored calculator }) }
+        ensures { IfOk result (λ w. w ≡ state_of (C.stored calculator)) }
     {
         Ok(Workbook { alloc, calculator })
     }
@@ -54,13 +55,7 @@ impl<C: Calculator> Workbook<C> {
     pub fn set(&mut self, at: Address, content: &str) -> Result<(), Refusal>
         ensures { Serves (set_step self.old at content.now) result self.old self.new [] }
     {
-        if content.is_empty() {
-            return Err(Refusal::BadCommand);
-        }
-        let content = Content::read(self.alloc, content)?;
-        let changes = vec![in self.alloc; (at, Some(content))]?;
-        self.calculator.apply(changes)?;
-        Ok(())
+        set(self.alloc, &mut self.calculator, at, content)
     }
 
     /// Appends the shown texts of a rectangle's cells, a record for each row.
@@ -68,15 +63,7 @@ impl<C: Calculator> Workbook<C> {
         ensures { (records : List ℕ) × (out.new.items ≡ out.old.items ++ records)
             × Serves (show_step self.old area) result self.old self.new records }
     {
-        if area.size() > MAX_AREA {
-            return Err(Refusal::TooLarge);
-        }
-        let before = out.len();
-        let pushed = push_rows(self.alloc, &mut self.calculator, area, out);
-        if pushed.is_err() {
-            out.truncate(before);
-        }
-        Ok(pushed?)
+        show(self.alloc, &mut self.calculator, area, out)
     }
 
     /// Appends a record: a cell's address and its content, which is a formula as printed, a text after an apostrophe,
@@ -85,7 +72,6 @@ impl<C: Calculator> Workbook<C> {
         ensures { (records : List ℕ) × (out.new.items ≡ out.old.items ++ records)
             × Serves (formula_step self.now at) result self.now self.now records }
     {
-        append_content(self.alloc, &self.calculator, at, out)?;
-        Ok(())
+        formula(self.alloc, &self.calculator, at, out)
     }
 }

@@ -1,7 +1,7 @@
 use Rattle.std.proofs.Common.{◌+◌, ◌-◌, ◌∙◌, arith}
 use Rattle.wi_csv.proofs.Growth.{starts_trans}
-use Rattle.wi_scenarios.proofs.RowLemmas.{rows_more}
-use Rattle.wi_scenarios.proofs.rows.push_rows.Goals as goal
+use Rattle.wi_scenarios.proofs.ShowLemmas.{rows_more}
+use Rattle.wi_scenarios.proofs.show.push_rows.Goals as goal
 
 pub loop-row-preserved : goal.loop-row-preserved
 loop-row-preserved g c =

@@ -1,8 +1,8 @@
 use Rattle.std.proofs.Common.{◌≡◌, ◌≤◌, ◌+◌, ◌-◌, ◌++◌}
 use Rattle.std.specs.Io.{StartsWith}
 use Rattle.std.specs.List.{flat_map, range_with_len}
-use Rattle.wi_scenarios.specs.ShowStep.{row_shown}
-use Rattle.wi_scenarios.proofs.rows.push_rows.Given as goal
+use Rattle.wi_scenarios.specs.Show.{row_shown}
+use Rattle.wi_scenarios.proofs.show.push_rows.Given as goal
 
 -- the records before this row are written
 abbrev pub invariant-loop-row : goal.invariant-loop-row

@@ -1,31 +1,17 @@
-//! What stands in a cell, as a text.
+//! The command `formula`: a cell's address, and its content as a text.
 
-ghost use Rattle.std.specs.Prelude.{◌≡◌, ◌++◌, Some, OnOk, OnErr, string_bytes};
-ghost use Rattle.wi_scenarios.specs.FormulaStep.{constant_text, content_text, content_record};
+ghost use Rattle.std.specs.Prelude.{◌≡◌, ◌++◌, ℕ, List, Some, OnOk, string_bytes};
 ghost use Rattle.wi_parser.specs.Sheet.{content_of};
+ghost use Rattle.wi_scenarios.specs.State.{state_of};
+ghost use Rattle.wi_scenarios.specs.Answer.{Serves};
+ghost use Rattle.wi_scenarios.specs.Formula.{constant_text, content_text, formula_step};
 
+use crate::refusal::Refusal;
 use std::alloc::{AllocError, Global};
 use wi_csv::push_record;
 use wi_parser::Content;
 use wi_propagate::Calculator;
 use wi_values::{Address, Value};
-
-/// Appends the record of a cell: its address and its content. On an error the bytes are as before.
-pub fn append_content<C: Calculator>(
-    alloc: Global,
-    calculator: &C,
-    at: Address,
-    out: &mut Vec<u8>,
-) -> Result<(), AllocError>
-    ensures ok { OnOk result (out.new.items ≡ out.old.items ++ content_record (C.stored calculator.now).sheet at) }
-    ensures err { OnErr result (out.new.items ≡ out.old.items) }
-{
-    let mut address = String::new(alloc);
-    at.push_text(&mut address)?;
-    let mut content = String::new(alloc);
-    push_content_of(calculator, at, &mut content)?;
-    push_record(&[address.as_str(), content.as_str()], out)
-}
 
 // Appends what stands in a cell.
 fn push_content_of<C: Calculator>(
@@ -65,4 +51,23 @@ fn push_constant(value: &Value, text: &mut String) -> Result<(), AllocError>
         Value::Logical(_) => value.push_shown(text),
         Value::Fault(_) => value.push_shown(text),
     }
+}
+
+/// Appends the record of a cell: its address and its content.
+pub fn formula<C: Calculator>(
+    alloc: Global,
+    calculator: &C,
+    at: Address,
+    out: &mut Vec<u8>,
+) -> Result<(), Refusal>
+    ensures { let state = state_of (C.stored calculator.now) in
+        (records : List ℕ) × (out.new.items ≡ out.old.items ++ records)
+        × Serves (formula_step state at) result state state records }
+{
+    let mut address = String::new(alloc);
+    at.push_text(&mut address)?;
+    let mut content = String::new(alloc);
+    push_content_of(calculator, at, &mut content)?;
+    push_record(&[address.as_str(), content.as_str()], out)?;
+    Ok(())
 }

@@ -1,18 +1,21 @@
-//! The records of a rectangle's rows.
+//! The command `show`: the shown texts of a rectangle, a record for each row.
 
-ghost use Rattle.std.specs.Prelude.{◌≡◌, ◌++◌, ◌<◌, IfOk, OnOk, string_bytes};
+ghost use Rattle.std.specs.Prelude.{◌≡◌, ◌++◌, ◌<◌, ℕ, List, IfOk, OnOk, string_bytes};
 ghost use Rattle.std.specs.List.{flat_map};
 ghost use Rattle.std.specs.Io.{StartsWith};
 ghost use Rattle.wi_values.specs.Address.{rows, rows_in};
-ghost use Rattle.wi_scenarios.specs.ShowStep.{text_at, row_shown};
+ghost use Rattle.wi_scenarios.specs.State.{state_of};
+ghost use Rattle.wi_scenarios.specs.Answer.{Serves};
+ghost use Rattle.wi_scenarios.specs.Show.{text_at, row_shown, show_step};
 
+use crate::refusal::Refusal;
 use std::alloc::{AllocError, Global};
 use wi_csv::push_record;
 use wi_propagate::Calculator;
 use wi_values::{Address, Rect};
 
 /// How many cells may be asked for at once.
-pub const MAX_AREA: u64 = 65_536;
+const MAX_AREA: u64 = 65_536;
 
 /// The text that a cell shows.
 fn shown_text<C: Calculator>(
@@ -30,7 +33,7 @@ fn shown_text<C: Calculator>(
 }
 
 /// Appends the record of one row of a rectangle. On an error the bytes are as before.
-#[tactic(auto, using(crate::proofs::RowLemmas::grown))]
+#[tactic(auto, using(crate::proofs::ShowLemmas::grown))]
 fn push_row<C: Calculator>(
     alloc: Global,
     calculator: &mut C,
@@ -52,7 +55,7 @@ fn push_row<C: Calculator>(
 }
 
 /// Appends the records of all rows of a rectangle. On an error a part of them may be there.
-pub fn push_rows<C: Calculator>(
+fn push_rows<C: Calculator>(
     alloc: Global,
     calculator: &mut C,
     area: Rect,
@@ -68,4 +71,26 @@ pub fn push_rows<C: Calculator>(
         push_row(alloc, calculator, row, area, out)?;
     }
     Ok(())
+}
+
+/// Appends the records of a rectangle.
+pub fn show<C: Calculator>(
+    alloc: Global,
+    calculator: &mut C,
+    area: Rect,
+    out: &mut Vec<u8>,
+) -> Result<(), Refusal>
+    ensures { let old = state_of (C.stored calculator.old) in
+        (records : List ℕ) × (out.new.items ≡ out.old.items ++ records)
+        × Serves (show_step old area) result old (state_of (C.stored calculator.new)) records }
+{
+    if area.size() > MAX_AREA {
+        return Err(Refusal::TooLarge);
+    }
+    let before = out.len();
+    let pushed = push_rows(alloc, calculator, area, out);
+    if pushed.is_err() {
+        out.truncate(before);
+    }
+    Ok(pushed?)
 }

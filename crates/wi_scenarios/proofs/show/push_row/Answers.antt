@@ -1,8 +1,8 @@
 use Rattle.std.proofs.Common.{◌+◌, ◌-◌, ◌∙◌, ap, arith, map}
 use Rattle.std.specs.Prelude.{string_bytes}
 use Rattle.wi_values.specs.Address.{column_of}
-use Rattle.wi_scenarios.proofs.RowLemmas.{texts_more, row_done}
-use Rattle.wi_scenarios.proofs.rows.push_row.Goals as goal
+use Rattle.wi_scenarios.proofs.ShowLemmas.{texts_more, row_done}
+use Rattle.wi_scenarios.proofs.show.push_row.Goals as goal
 
 pub loop-column-preserved : goal.loop-column-preserved
 loop-column-preserved g c =

@@ -1,7 +1,7 @@
 use Rattle.std.proofs.Common.{◌≡◌, ◌≤◌, ◌+◌, ◌-◌, map}
 use Rattle.std.specs.Prelude.{string_bytes}
-use Rattle.wi_scenarios.proofs.RowLemmas.{texts}
-use Rattle.wi_scenarios.proofs.rows.push_row.Given as goal
+use Rattle.wi_scenarios.proofs.ShowLemmas.{texts}
+use Rattle.wi_scenarios.proofs.show.push_row.Given as goal
 
 -- the texts before this column are there
 abbrev pub invariant-loop-column : goal.invariant-loop-column

@@ -9,7 +9,7 @@ use Rattle.wi_parser.specs.Sheet.{Sheet}
 use Rattle.wi_store.specs.Store.{Stored}
 use Rattle.wi_csv.specs.Row as csv
 use Rattle.wi_csv.proofs.Growth.{starts_itself, starts_more}
-use Rattle.wi_scenarios.specs.ShowStep.{text_at, row_shown}
+use Rattle.wi_scenarios.specs.Show.{text_at, row_shown}
 
 -- the texts of the first cells of a row
 abbrev pub texts : Sheet → ℕ → ℕ → ℕ → List (List ℕ)
