@@ -4,10 +4,8 @@ ghost use Rattle.std.specs.Prelude.{◌≡◌, option_map};
 ghost use Rattle.std.specs.List.{list_all};
 ghost use Rattle.std.specs.Char.{is_ascii_digit};
 ghost use Rattle.wi_lexer.specs.Cell as spec;
-ghost use Rattle.wi_lexer.specs.Reference as reference;
-ghost use Rattle.wi_lexer.specs.Rectangle as rectangle;
 
-use crate::scan::{before_colon_len, byte, letters_len};
+use crate::runs::{byte, letters_len};
 
 /// A cell as a formula writes it: the letters of its column, of either case, and the digits of its row.
 #[derive(Clone, Copy, Debug)]
@@ -63,44 +61,4 @@ pub fn cell_of(text: &[u8]) -> Option<CellText<'_>>
         row_is_absolute,
         digits,
     })
-}
-
-fn is_bracketed(text: &[u8]) -> bool
-    ensures { result ≡ reference.is_bracketed text.now }
-{
-    text.len() > 2 && text[0] == b'[' && text[1] == b'.' && text[text.len() - 1] == b']'
-}
-
-/// The cell of a reference, as `[.$A1]`. None where the text is no reference.
-#[tactic(auto, unfolding(crate::specs::Reference::reference_of))]
-pub fn reference_of(text: &[u8]) -> Option<CellText<'_>>
-    ensures { option_map spec.parts result ≡ reference.reference_of text.now }
-{
-    if !is_bracketed(text) {
-        return None;
-    }
-    cell_of(&text[2..text.len() - 1])
-}
-
-/// The cells on both sides of `:.`.
-#[tactic(auto, unfolding(crate::specs::Rectangle::cells_of))]
-fn cells_of(text: &[u8]) -> Option<(CellText<'_>, CellText<'_>)>
-    ensures { option_map rectangle.parts_of_both result ≡ rectangle.cells_of text.now }
-{
-    let (first, rest) = text.split_at(before_colon_len(text));
-    if byte(rest, 0) != b':' || byte(rest, 1) != b'.' {
-        return None;
-    }
-    Some((cell_of(first)?, cell_of(&rest[2..])?))
-}
-
-/// The cells of a reference to a rectangle, as `[.$A1:.B$2]`. None where the text is none.
-#[tactic(auto, unfolding(crate::specs::Rectangle::rectangle_of))]
-pub fn rectangle_of(text: &[u8]) -> Option<(CellText<'_>, CellText<'_>)>
-    ensures { option_map rectangle.parts_of_both result ≡ rectangle.rectangle_of text.now }
-{
-    if !is_bracketed(text) {
-        return None;
-    }
-    cells_of(&text[2..text.len() - 1])
 }

@@ -3,8 +3,8 @@
 ghost use Rattle.std.specs.Prelude.{◌≡◌};
 ghost use Rattle.wi_lexer.specs.Scan.{Gives, start_of};
 
-use crate::scan::{blanks_len, token_at};
-use crate::token::Kind;
+use crate::runs::blanks_len;
+use crate::token::{Kind, token_at};
 use std::marker::Model;
 use thiserror::Error;
 

@@ -4,11 +4,18 @@
 mod cell;
 pub mod laws;
 mod lexer;
-mod scan;
+mod mark;
+mod name;
+mod number;
+mod rectangle;
+mod reference;
+mod runs;
 mod text;
 mod token;
 
-pub use cell::{CellText, cell_of, rectangle_of, reference_of};
+pub use cell::{CellText, cell_of};
 pub use lexer::{BadToken, Lexer, Token};
+pub use rectangle::rectangle_of;
+pub use reference::reference_of;
 pub use text::text_content;
 pub use token::{Kind, Mark};

@@ -24,3 +24,22 @@ pub fn text_content(alloc: Global, text: &str) -> Result<String, AllocError>
     content.push_str(rest)?;
     Ok(content)
 }
+
+// Up to the last quote that may be the last of a text.
+pub fn text_len(text: &[u8]) -> usize
+    ensures { result ≡ spec.text_len text.now }
+{
+    let mut inside = false;
+    let mut len = 0;
+    for (i, b) in text.iter().enumerate() {
+        if *b == b'"' {
+            inside = !inside;
+            if !inside {
+                len = i + 1;
+            }
+        } else if !inside {
+            return len;
+        }
+    }
+    len
+}

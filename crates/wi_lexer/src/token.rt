@@ -2,6 +2,14 @@
 
 ghost use Rattle.std.specs.Prelude.{◌≡◌};
 ghost use Rattle.wi_lexer.specs.Mark.{mark_text};
+ghost use Rattle.wi_lexer.specs.Token as spec;
+
+use crate::mark::mark_at;
+use crate::name::name_len;
+use crate::number::number_len;
+use crate::rectangle::rectangle_len;
+use crate::reference::reference_len;
+use crate::text::text_len;
 
 /// The kinds of tokens, as in OpenFormula, "Expression Syntax".
 #[derive(Clone, Copy, Debug, PartialEq, Eq)]
@@ -65,4 +73,35 @@ impl Mark {
             Mark::Semicolon => ";",
         }
     }
+}
+
+/// The longest token at the front, and its length.
+#[tactic(auto, unfolding(crate::specs::Token::token_at))]
+pub fn token_at(text: &[u8]) -> Option<(Kind, usize)>
+    ensures { result ≡ spec.token_at text.now }
+{
+    let number = number_len(text);
+    if number > 0 {
+        return Some((Kind::Number, number));
+    }
+    if let Some(mark) = mark_at(text) {
+        return Some((Kind::Mark(mark), mark.text().len()));
+    }
+    let reference = reference_len(text);
+    if reference > 0 {
+        return Some((Kind::Reference, reference));
+    }
+    let rectangle = rectangle_len(text);
+    if rectangle > 0 {
+        return Some((Kind::Rectangle, rectangle));
+    }
+    let name = name_len(text);
+    if name > 0 {
+        return Some((Kind::Name, name));
+    }
+    let text = text_len(text);
+    if text > 0 {
+        return Some((Kind::Text, text));
+    }
+    None
 }

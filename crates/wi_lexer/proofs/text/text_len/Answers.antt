@@ -1,7 +1,7 @@
 use Rattle.std.proofs.Common.{subst, arith}
 use Rattle.wi_lexer.proofs.QuoteLemmas.{IsReached, reached_close, reached_open, reached_more, reached_end, reached_all}
-use Rattle.wi_lexer.proofs.scan.text_len.Goals as goal
-use Rattle.wi_lexer.proofs.scan.text_len.Goals.{then-b-eq34+then-not-inside, then-b-eq34+else-not-inside, else-b-eq34+else-not-inside-2}
+use Rattle.wi_lexer.proofs.text.text_len.Goals as goal
+use Rattle.wi_lexer.proofs.text.text_len.Goals.{then-b-eq34+then-not-inside, then-b-eq34+else-not-inside, else-b-eq34+else-not-inside-2}
 
 pub returns-then-not-inside-2 : goal.returns-then-not-inside-2
 returns-then-not-inside-2 c =

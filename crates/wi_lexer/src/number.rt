@@ -1,0 +1,78 @@
+//! Where a number ends.
+
+ghost use Rattle.std.specs.Prelude.{◌≡◌, length, ◌≤◌};
+ghost use Rattle.wi_lexer.specs.Number as spec;
+
+use crate::runs::{byte, digits_len};
+
+#[tactic(auto, unfolding(crate::specs::Number::decimals_len))]
+fn decimals_len(text: &[u8]) -> usize
+    ensures value { result ≡ spec.decimals_len text.now }
+    ensures within { result ≤ length text.now }
+{
+    if byte(text, 0) != b'.' {
+        return 0;
+    }
+    let digits = digits_len(&text[1..]);
+    if digits == 0 {
+        return 0;
+    }
+    1 + digits
+}
+
+#[tactic(auto, unfolding(crate::specs::Number::decimal_len))]
+fn decimal_len(text: &[u8]) -> usize
+    ensures value { result ≡ spec.decimal_len text.now }
+    ensures within { result ≤ length text.now }
+{
+    let digits = digits_len(text);
+    digits + decimals_len(&text[digits..])
+}
+
+fn is_exponent_letter(b: u8) -> bool
+    ensures { result ≡ spec.is_exponent_letter b }
+{
+    b == b'e' || b == b'E'
+}
+
+fn is_sign(b: u8) -> bool
+    ensures { result ≡ spec.is_sign b }
+{
+    b == b'+' || b == b'-'
+}
+
+#[tactic(auto, unfolding(crate::specs::Number::signed_len))]
+fn signed_len(text: &[u8]) -> usize
+    ensures value { result ≡ spec.signed_len text.now }
+    ensures within { result ≤ length text.now }
+{
+    if !is_sign(byte(text, 0)) {
+        return digits_len(text);
+    }
+    let digits = digits_len(&text[1..]);
+    if digits > 0 { 1 + digits } else { 0 }
+}
+
+#[tactic(auto, unfolding(crate::specs::Number::exponent_len))]
+fn exponent_len(text: &[u8]) -> usize
+    ensures value { result ≡ spec.exponent_len text.now }
+    ensures within { result ≤ length text.now }
+{
+    if !is_exponent_letter(byte(text, 0)) {
+        return 0;
+    }
+    let signed = signed_len(&text[1..]);
+    if signed > 0 { 1 + signed } else { 0 }
+}
+
+#[tactic(auto, unfolding(crate::specs::Number::number_len))]
+pub fn number_len(text: &[u8]) -> usize
+    ensures value { result ≡ spec.number_len text.now }
+    ensures within { result ≤ length text.now }
+{
+    let decimal = decimal_len(text);
+    if decimal == 0 {
+        return 0;
+    }
+    decimal + exponent_len(&text[decimal..])
+}

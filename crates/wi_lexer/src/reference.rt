@@ -1,0 +1,42 @@
+//! References to one cell.
+
+ghost use Rattle.std.specs.Prelude.{◌≡◌, option_map};
+ghost use Rattle.wi_lexer.specs.Cell.{parts};
+ghost use Rattle.wi_lexer.specs.Reference as spec;
+
+use crate::cell::{CellText, cell_of};
+use crate::runs::{byte, inside_len};
+
+pub fn is_bracketed(text: &[u8]) -> bool
+    ensures { result ≡ spec.is_bracketed text.now }
+{
+    text.len() > 2 && text[0] == b'[' && text[1] == b'.' && text[text.len() - 1] == b']'
+}
+
+/// The cell of a reference, as `[.$A1]`. None where the text is no reference.
+#[tactic(auto, unfolding(crate::specs::Reference::reference_of))]
+pub fn reference_of(text: &[u8]) -> Option<CellText<'_>>
+    ensures { option_map parts result ≡ spec.reference_of text.now }
+{
+    if !is_bracketed(text) {
+        return None;
+    }
+    cell_of(&text[2..text.len() - 1])
+}
+
+#[tactic(auto, using(crate::proofs::ReferenceLemmas::no_reference), unfolding(crate::specs::Reference::reference_len))]
+pub fn reference_len(text: &[u8]) -> usize
+    ensures { result ≡ spec.reference_len text.now }
+{
+    if byte(text, 0) != b'[' {
+        return 0;
+    }
+    let inside = inside_len(text);
+    if inside == text.len() {
+        return 0;
+    }
+    if reference_of(&text[..inside + 1]).is_none() {
+        return 0;
+    }
+    inside + 1
+}
