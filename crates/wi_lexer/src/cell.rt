@@ -8,7 +8,7 @@ ghost use Rattle.wi_lexer.specs.Cell as spec;
 use crate::runs::{byte, letters_len};
 
 /// A cell as a formula writes it: the letters of its column, of either case, and the digits of its row.
-#[derive(Clone, Copy, Debug)]
+#[derive(Clone, Copy)]
 pub struct CellText<'a> {
     /// Whether a `$` stands before the letters.
     pub column_is_absolute: bool,

@@ -9,7 +9,7 @@ use std::marker::Model;
 use thiserror::Error;
 
 /// A token, the place in the source where it begins, counted in bytes, and its text.
-#[derive(Clone, Copy, Debug)]
+#[derive(Clone, Copy)]
 pub struct Token<'a> {
     pub kind: Kind,
     pub start: usize,
@@ -17,7 +17,7 @@ pub struct Token<'a> {
 }
 
 /// No token begins at this place of the text.
-#[derive(Clone, Copy, Debug, PartialEq, Eq, Error)]
+#[derive(Clone, Copy, Debug, Error)]
 #[error("no token begins here")]
 pub struct BadToken;
 

@@ -1,0 +1,7 @@
+use Rattle.std.proofs.Common.{rules}
+use Rattle.wi_lexer.specs.Reference.{reference_of}
+use Rattle.wi_lexer.proofs.reference.reference_of.Goals as goal
+
+pub returns : goal.returns
+unfolding reference_of
+returns c = search rules
