@@ -11,7 +11,7 @@ use std::alloc::{AllocError, Global};
 use wi_values::{MAX_TEXT, Text, Value, imported_value};
 
 /// What stands in a cell. A cell with the constant Empty has no content.
-#[derive(Debug, Drop)]
+#[derive(Drop)]
 pub enum Content {
     Constant(Value),
     Formula(Formula),

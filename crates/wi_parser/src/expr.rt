@@ -9,7 +9,7 @@ use wi_fraction::Fraction;
 use wi_values::{Address, Rect, Text};
 
 /// A reference to one cell. What is absolute stays where a formula is filled into other cells.
-#[derive(Clone, Copy, PartialEq, Eq, Debug)]
+#[derive(Clone, Copy, Debug)]
 pub struct Reference {
     pub at: Address,
     pub column_is_absolute: bool,
@@ -17,7 +17,7 @@ pub struct Reference {
 }
 
 /// Two opposite corners of a rectangle, in the order in which they are written.
-#[derive(Clone, Copy, PartialEq, Eq, Debug)]
+#[derive(Clone, Copy, Debug)]
 pub struct Corners {
     pub one: Reference,
     pub other: Reference,
@@ -33,7 +33,7 @@ impl Corners {
 }
 
 /// An operator between two operands.
-#[derive(Clone, Copy, PartialEq, Eq, Debug)]
+#[derive(Clone, Copy, Debug)]
 pub enum Operator {
     Add,
     Subtract,
@@ -51,14 +51,14 @@ pub enum Operator {
 }
 
 /// A sign before an operand.
-#[derive(Clone, Copy, PartialEq, Eq, Debug)]
+#[derive(Clone, Copy, Debug)]
 pub enum Sign {
     Plus,
     Minus,
 }
 
 /// An input cell of a what-if, and its replacement cell, whose value it gets.
-#[derive(Clone, Copy, PartialEq, Eq, Debug)]
+#[derive(Clone, Copy, Debug)]
 pub struct Pair {
     pub input: Reference,
     pub by: Reference,

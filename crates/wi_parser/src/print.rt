@@ -11,7 +11,7 @@ ghost use Rattle.wi_parser.specs.Grammar.{pair_symbols};
 ghost use Rattle.wi_parser.specs.Printing as spec;
 ghost use Rattle.wi_parser.specs.Printing.{cell_named, numeral_text, symbols_text, tree_text, printed};
 ghost use Rattle.wi_parser.specs.Symbol.{written_as};
-ghost use Rattle.wi_parser.specs.Tree.{what_if};
+ghost use Rattle.wi_parser.specs.Tree as tree;
 ghost use Rattle.wi_parser.specs.View.{tree_of, all_of, pair_of};
 ghost use Rattle.wi_parser.specs.Spelling.{spelling_of_all};
 ghost use Rattle.wi_parser.specs.PrintedParts.{pairs_text};
@@ -19,6 +19,7 @@ ghost use Rattle.wi_parser.specs.PrintedParts.{pairs_text};
 use crate::expr::{Corners, Expr, Operator, Pair, Reference, Sign};
 use std::alloc::AllocError;
 use wi_fraction::Fraction;
+use wi_values::Text;
 
 /// Appends the text of a formula with this tree. On an error a part of it may be there.
 #[tactic(auto, using(crate::proofs::PrintLemmas::starts_trans))]
@@ -32,7 +33,7 @@ pub fn push_formula(expr: &Expr, out: &mut String) -> Result<(), AllocError>
 
 // Appends the text of a tree. On an error a part of it may be there.
 #[cycle(print)]
-#[tactic(auto, using(crate::proofs::PrintLemmas::starts_trans, crate::proofs::PrintLemmas::starts_more, crate::proofs::PrintLemmas::starts_itself, crate::proofs::PrintLemmas::symbols_more))]
+#[tactic(auto, using(crate::proofs::PrintLemmas::starts_trans, crate::proofs::PrintLemmas::symbols_more))]
 fn push_tree(expr: &Expr, out: &mut String) -> Result<(), AllocError>
     ensures ok { OnOk result (string_bytes out.new ≡ string_bytes out.old ++ tree_text (tree_of expr.now)) }
     ensures kept { StartsWith (string_bytes out.new) (string_bytes out.old) }
@@ -42,31 +43,73 @@ fn push_tree(expr: &Expr, out: &mut String) -> Result<(), AllocError>
         Expr::Text(content) => push_quoted(content.as_str(), out),
         Expr::Cell(at) => push_reference(*at, out),
         Expr::Rectangle(corners) => push_rectangle(*corners, out),
-        Expr::Parenthesized(inner) => {
-            out.push_str("(")?;
-            push_tree(inner, out)?;
-            out.push_str(")")
-        }
-        Expr::Signed(sign, operand) => {
-            out.push_str(sign_text(*sign))?;
-            push_tree(operand, out)
-        }
-        Expr::Percent(operand) => {
-            push_tree(operand, out)?;
-            out.push_str("%")
-        }
+        Expr::Parenthesized(inner) => push_parenthesized(inner, out),
+        Expr::Signed(sign, operand) => push_signed(*sign, operand, out),
+        Expr::Percent(operand) => push_percent(operand, out),
         Expr::Binary(op, left, right) => {
             push_tree(left, out)?;
-            out.push_str(operator_text(*op))?;
-            push_tree(right, out)
+            push_operation(*op, right, out)
         }
         Expr::WhatIf(formula_cell, pairs) => push_what_if(*formula_cell, pairs, out),
-        Expr::Call(name, parameters) => {
-            out.push_str(name.as_str())?;
-            out.push_str("(")?;
-            push_parameters(parameters, out)
-        }
+        Expr::Call(name, parameters) => push_call(name, parameters, out),
     }
+}
+
+// Appends a tree in parentheses. On an error a part of it may be there.
+#[cycle(print)]
+#[tactic(auto, using(crate::proofs::PrintLemmas::starts_trans, crate::proofs::PrintLemmas::starts_more, crate::proofs::PrintLemmas::symbols_more))]
+fn push_parenthesized(inner: &Expr, out: &mut String) -> Result<(), AllocError>
+    ensures ok { OnOk result (string_bytes out.new ≡ string_bytes out.old ++ tree_text (tree.parenthesized (tree_of inner.now))) }
+    ensures kept { StartsWith (string_bytes out.new) (string_bytes out.old) }
+{
+    out.push_str("(")?;
+    push_tree(inner, out)?;
+    out.push_str(")")
+}
+
+// Appends a sign and its operand. On an error a part of them may be there.
+#[cycle(print)]
+#[tactic(auto, using(crate::proofs::PrintLemmas::starts_trans, crate::proofs::PrintLemmas::symbols_more))]
+fn push_signed(sign: Sign, operand: &Expr, out: &mut String) -> Result<(), AllocError>
+    ensures ok { OnOk result (string_bytes out.new ≡ string_bytes out.old ++ tree_text (tree.signed sign (tree_of operand.now))) }
+    ensures kept { StartsWith (string_bytes out.new) (string_bytes out.old) }
+{
+    out.push_str(sign_text(sign))?;
+    push_tree(operand, out)
+}
+
+// Appends an operand and its percent mark. On an error a part of them may be there.
+#[cycle(print)]
+#[tactic(auto, using(crate::proofs::PrintLemmas::starts_more, crate::proofs::PrintLemmas::symbols_more))]
+fn push_percent(operand: &Expr, out: &mut String) -> Result<(), AllocError>
+    ensures ok { OnOk result (string_bytes out.new ≡ string_bytes out.old ++ tree_text (tree.percent (tree_of operand.now))) }
+    ensures kept { StartsWith (string_bytes out.new) (string_bytes out.old) }
+{
+    push_tree(operand, out)?;
+    out.push_str("%")
+}
+
+// Appends an operator and the operand after it. On an error a part of them may be there.
+#[cycle(print)]
+#[tactic(auto, using(crate::proofs::PrintLemmas::starts_trans))]
+fn push_operation(op: Operator, operand: &Expr, out: &mut String) -> Result<(), AllocError>
+    ensures ok { OnOk result (string_bytes out.new ≡ string_bytes out.old ++ (mark_text (spec.mark_of op) ++ tree_text (tree_of operand.now))) }
+    ensures kept { StartsWith (string_bytes out.new) (string_bytes out.old) }
+{
+    out.push_str(operator_text(op))?;
+    push_tree(operand, out)
+}
+
+// Appends a call. On an error a part of it may be there.
+#[cycle(print)]
+#[tactic(auto, using(crate::proofs::PrintLemmas::starts_trans, crate::proofs::PrintLemmas::starts_more, crate::proofs::PrintLemmas::symbols_more))]
+fn push_call(name: &Text, parameters: &[Expr], out: &mut String) -> Result<(), AllocError>
+    ensures ok { OnOk result (string_bytes out.new ≡ string_bytes out.old ++ tree_text (tree.call name.now (all_of parameters.now))) }
+    ensures kept { StartsWith (string_bytes out.new) (string_bytes out.old) }
+{
+    out.push_str(name.as_str())?;
+    out.push_str("(")?;
+    push_parameters(parameters, out)
 }
 
 // Appends parameters and the parenthesis that closes. On an error a part of them may be there.
@@ -152,7 +195,7 @@ fn push_cell(at: Reference, out: &mut String) -> Result<(), AllocError>
 // Appends a what-if. On an error a part of it may be there.
 #[tactic(auto, using(crate::proofs::PrintLemmas::starts_trans, crate::proofs::PrintLemmas::starts_more, crate::proofs::PrintLemmas::symbols_more))]
 fn push_what_if(formula_cell: Reference, pairs: &[Pair], out: &mut String) -> Result<(), AllocError>
-    ensures ok { OnOk result (string_bytes out.new ≡ string_bytes out.old ++ tree_text (what_if formula_cell (map pair_of pairs.now))) }
+    ensures ok { OnOk result (string_bytes out.new ≡ string_bytes out.old ++ tree_text (tree.what_if formula_cell (map pair_of pairs.now))) }
     ensures kept { StartsWith (string_bytes out.new) (string_bytes out.old) }
 {
     out.push_str("MULTIPLE.OPERATIONS(")?;

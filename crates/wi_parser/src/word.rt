@@ -13,7 +13,7 @@ use wi_lexer::{CellText, Kind, Mark, Token, rectangle_of, reference_of, text_con
 use wi_values::{Address, Text};
 
 /// A token with its value.
-#[derive(PartialEq, Eq, Debug, Drop)]
+#[derive(Drop)]
 pub enum Word {
     Number(Fraction),
     /// The content of a text in double quotes.
