@@ -1,12 +1,13 @@
 -- What the tree of a text is, and why there is none.
 use Rattle.std.proofs.Common.{◌≡◌, ℕ, ◌+◌, ◌<◌, ◌≤◌, Bool, true, false, ◌||◌, nat_lt, List, [], ◌∷◌, ◌++◌, length, Option, Some, None, Result, Ok, Err, ok_or, if◌then◌else◌, IfOk, ◌↔◌, refl, sym, ap, ap₂, ◌∙◌, subst, arith}
+use Rattle.std.proofs.lemmas.Bool.{or_parts}
 use Rattle.std.proofs.lemmas.List.Folds.{list_any-append}
 use Rattle.std.proofs.lemmas.Bool.Decides.{nat_tests}
 use Rattle.std.specs.List.{list_any}
 use Rattle.wi_parser.specs.declared.fault.ParseFault.{ParseFault}
 use Rattle.wi_parser.specs.declared.fault.ParseFault.TheVariants.{TooLong, OutOfSheet, NumberRange, TooDeep, Syntax, Memory}
 use Rattle.wi_parser.specs.Tree.{Tree, Trees}
-use Rattle.wi_parser.specs.Symbol.{Symbol, close_parenthesis, infix_mark, percent_mark, is_outside, is_unfit}
+use Rattle.wi_parser.specs.Symbol.{Symbol, close_parenthesis, infix_mark, percent_mark, refused, is_outside, is_unfit}
 use Rattle.wi_parser.specs.Grammar.{loosest, Spells, a_number, a_cell, a_rectangle, in_parentheses, one_input, two_inputs, with_sign, with_percent, tighter, joined, SpellsAll, SpellsMore, a_text, a_call, no_parameter, parameters, last_parameter, another_parameter}
 use Rattle.wi_parser.specs.Nesting.{deepest, most_signs, max_depth, is_too_deep}
 use Rattle.wi_parser.specs.Reader.{whole}
@@ -19,54 +20,50 @@ use Rattle.wi_parser.proofs.Depth.{depth-deepest}
 
 -- ---- symbols that spell a tree are not refused
 
-any_append : (p : Symbol → Bool) (xs ys : List Symbol) → list_any p xs ≡ false → list_any p ys ≡ false → list_any p (xs ++ ys) ≡ false
-any_append p xs ys h e = list_any-append p xs ys ∙ ap₂ (λ a b. a || b) h e
+abbrev is_refused : Symbol → Bool
+is_refused (refused e) = true
+is_refused s = false
+
+none_in_both : (xs ys : List Symbol) → list_any is_refused xs ≡ false → list_any is_refused ys ≡ false → list_any is_refused (xs ++ ys) ≡ false
+none_in_both xs ys h e = list_any-append is_refused xs ys ∙ ap₂ (λ a b. a || b) h e
 
 mutual
-  none_outside : {k : ℕ} {t : Tree} {ts : List Symbol} → Spells k t ts → list_any is_outside ts ≡ false
-  none_outside (a_number x) = refl
-  none_outside (a_text s) = refl
-  none_outside (a_cell r) = refl
-  none_outside (a_rectangle c) = refl
-  none_outside (one_input f p) = refl
-  none_outside (two_inputs f p q) = refl
-  none_outside (in_parentheses t ts s) = any_append is_outside ts (close_parenthesis ∷ []) (none_outside s) refl
-  none_outside (a_call f all ts s) = none_outside_in_all s
-  none_outside (with_sign s t ts o) = none_outside o
-  none_outside (with_percent t ts s) = any_append is_outside ts (percent_mark ∷ []) (none_outside s) refl
-  none_outside (tighter k t ts s) = none_outside s
-  none_outside (joined k op l r ls rs e s u) = any_append is_outside ls (infix_mark op ∷ rs) (none_outside s) (none_outside u)
+  none_is_refused : {k : ℕ} {t : Tree} {ts : List Symbol} → Spells k t ts → list_any is_refused ts ≡ false
+  none_is_refused (a_number x) = refl
+  none_is_refused (a_text s) = refl
+  none_is_refused (a_cell r) = refl
+  none_is_refused (a_rectangle c) = refl
+  none_is_refused (one_input f p) = refl
+  none_is_refused (two_inputs f p q) = refl
+  none_is_refused (in_parentheses t ts s) = none_in_both ts (close_parenthesis ∷ []) (none_is_refused s) refl
+  none_is_refused (a_call f all ts s) = none_in_all s
+  none_is_refused (with_sign s t ts o) = none_is_refused o
+  none_is_refused (with_percent t ts s) = none_in_both ts (percent_mark ∷ []) (none_is_refused s) refl
+  none_is_refused (tighter k t ts s) = none_is_refused s
+  none_is_refused (joined k op l r ls rs e s u) = none_in_both ls (infix_mark op ∷ rs) (none_is_refused s) (none_is_refused u)
 
-  none_outside_in_all : {all : Trees} {ts : List Symbol} → SpellsAll all ts → list_any is_outside ts ≡ false
-  none_outside_in_all no_parameter = refl
-  none_outside_in_all (parameters t all ts us s u) = any_append is_outside ts us (none_outside s) (none_outside_in_more u)
+  none_in_all : {all : Trees} {ts : List Symbol} → SpellsAll all ts → list_any is_refused ts ≡ false
+  none_in_all no_parameter = refl
+  none_in_all (parameters t all ts us s u) = none_in_both ts us (none_is_refused s) (none_in_more u)
 
-  none_outside_in_more : {all : Trees} {ts : List Symbol} → SpellsMore all ts → list_any is_outside ts ≡ false
-  none_outside_in_more last_parameter = refl
-  none_outside_in_more (another_parameter t all ts us s u) = any_append is_outside ts us (none_outside s) (none_outside_in_more u)
+  none_in_more : {all : Trees} {ts : List Symbol} → SpellsMore all ts → list_any is_refused ts ≡ false
+  none_in_more last_parameter = refl
+  none_in_more (another_parameter t all ts us s u) = none_in_both ts us (none_is_refused s) (none_in_more u)
 
-mutual
-  none_unfit : {k : ℕ} {t : Tree} {ts : List Symbol} → Spells k t ts → list_any is_unfit ts ≡ false
-  none_unfit (a_number x) = refl
-  none_unfit (a_text s) = refl
-  none_unfit (a_cell r) = refl
-  none_unfit (a_rectangle c) = refl
-  none_unfit (one_input f p) = refl
-  none_unfit (two_inputs f p q) = refl
-  none_unfit (in_parentheses t ts s) = any_append is_unfit ts (close_parenthesis ∷ []) (none_unfit s) refl
-  none_unfit (a_call f all ts s) = none_unfit_in_all s
-  none_unfit (with_sign s t ts o) = none_unfit o
-  none_unfit (with_percent t ts s) = any_append is_unfit ts (percent_mark ∷ []) (none_unfit s) refl
-  none_unfit (tighter k t ts s) = none_unfit s
-  none_unfit (joined k op l r ls rs e s u) = any_append is_unfit ls (infix_mark op ∷ rs) (none_unfit s) (none_unfit u)
+-- a test that no symbol passes but a refused one
+none_passes : (p : Symbol → Bool) → ((s : Symbol) → is_refused s ≡ false → p s ≡ false) → (ts : List Symbol) → list_any is_refused ts ≡ false → list_any p ts ≡ false
+none_passes p h [] e = refl
+none_passes p h (s ∷ ts) e =
+    let i = or_parts (is_refused s) (list_any is_refused ts) e in
+    ap₂ (λ a b. a || b) (h s i.0) (none_passes p h ts i.1)
 
-  none_unfit_in_all : {all : Trees} {ts : List Symbol} → SpellsAll all ts → list_any is_unfit ts ≡ false
-  none_unfit_in_all no_parameter = refl
-  none_unfit_in_all (parameters t all ts us s u) = any_append is_unfit ts us (none_unfit s) (none_unfit_in_more u)
+outside_is_refused : (s : Symbol) → is_refused s ≡ false → is_outside s ≡ false
+outside_is_refused (refused e) h = cc
+outside_is_refused s h = refl
 
-  none_unfit_in_more : {all : Trees} {ts : List Symbol} → SpellsMore all ts → list_any is_unfit ts ≡ false
-  none_unfit_in_more last_parameter = refl
-  none_unfit_in_more (another_parameter t all ts us s u) = any_append is_unfit ts us (none_unfit s) (none_unfit_in_more u)
+unfit_is_refused : (s : Symbol) → is_refused s ≡ false → is_unfit s ≡ false
+unfit_is_refused (refused e) h = cc
+unfit_is_refused s h = refl
 
 not_below : (m n : ℕ) → m ≤ n → nat_lt n m ≡ false
 not_below m n h = grind (arith, nat_tests)
@@ -86,7 +83,7 @@ not_refused ts o u d =
 -- what is spelled and does not nest too deep is judged to be the tree
 judged_spelled : (ts : List Symbol) (t : Tree) → Spells loosest t ts → deepest 0 ts ≤ max_depth → most_signs 0 ts ≤ max_depth → judged ts ≡ Ok t
 judged_spelled ts t s h e =
-    ap (λ o. unless_refused o (whole (max_depth + 1) ts)) (not_refused ts (none_outside s) (none_unfit s) (not_too_deep ts h e))
+    ap (λ o. unless_refused o (whole (max_depth + 1) ts)) (not_refused ts (none_passes is_outside outside_is_refused ts (none_is_refused s)) (none_passes is_unfit unfit_is_refused ts (none_is_refused s)) (not_too_deep ts h e))
     ∙ ap (λ found. ok_or found Syntax) (whole_complete max_depth ts t s (omega (arith, depth-deepest t ts s)))
 
 -- ---- a text
@@ -134,10 +131,6 @@ not_chosen : (b : Bool) (e : ParseFault) (o : Option ParseFault) → (if b then 
 not_chosen true e o h = cc
 not_chosen false e o h = (refl, h)
 
-neither : (a b : Bool) → (a || b) ≡ false → (a ≡ false) × (b ≡ false)
-neither true b h = cc
-neither false b h = (refl, h)
-
 at_most : (m n : ℕ) → nat_lt n m ≡ false → m ≤ n
 at_most m n h = grind (arith, nat_tests)
 
@@ -146,7 +139,7 @@ shallow ts h =
     let a = not_chosen (list_any is_outside ts) OutOfSheet _ h in
     let b = not_chosen (list_any is_unfit ts) NumberRange _ a.1 in
     let c = not_chosen (is_too_deep ts) TooDeep None b.1 in
-    let d = neither (nat_lt max_depth (deepest 0 ts)) (nat_lt max_depth (most_signs 0 ts)) c.0 in
+    let d = or_parts (nat_lt max_depth (deepest 0 ts)) (nat_lt max_depth (most_signs 0 ts)) c.0 in
     (at_most _ max_depth d.0, at_most _ max_depth d.1)
 
 not_long : (b : Bool) (r : Result Tree ParseFault) (t : Tree) → (if b then Err TooLong else r) ≡ Ok t → b ≡ false

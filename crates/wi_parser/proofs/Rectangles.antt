@@ -2,17 +2,14 @@
 use Rattle.std.proofs.Common.{◌≡◌, ◌==◌, ◌≤◌, ℕ, ◌||◌, ◌&&◌, Bool, true, false, List, [], ◌∷◌, map, min, max, refl, ap, sym, ◌∙◌, arith}
 use Rattle.std.specs.Prelude.{nat_le}
 use Rattle.std.specs.List.{list_any}
-use Rattle.std.proofs.lemmas.Bool.{false_from_ne_true, and_parts}
+use Rattle.std.proofs.Math.Bool.{or-false}
+use Rattle.std.proofs.lemmas.Bool.{false_from_ne_true, and_parts, leb-true, eqb-true}
 use Rattle.std.proofs.lemmas.Bool.Decides.{nat_tests}
 use Rattle.std.proofs.lemmas.List.Folds.{list_any-append}
 use Rattle.wi_values.specs.Address.{Area, place, row_of, column_of, is_within}
 use Rattle.wi_parser.specs.declared.expr.Reference.{Reference}
 use Rattle.wi_parser.specs.Tree.{Tree, Trees, number, text, cell, rectangle, parenthesized, signed, percent, binary, what_if, call, no_trees, more_trees}
 use Rattle.wi_parser.specs.Reads.{cell_area, area_of, reads, any_reads, rectangles_of, all_rectangles_of}
-
-or_false : (b : Bool) → (b || false) ≡ b
-or_false true = refl
-or_false false = refl
 
 -- the area of two equal corners
 abbrev at_once : ℕ → Area
@@ -24,14 +21,8 @@ cell_at_once r =
     let last : place (max (row_of r) (row_of r)) (max (column_of r) (column_of r)) ≡ r = omega arith in
     cc
 
-at_most : (m n : ℕ) → nat_le m n ≡ true → m ≤ n
-at_most m n h = grind (arith, nat_tests)
-
 nat_le-same : (n : ℕ) → nat_le n n ≡ true
 nat_le-same n = grind (arith, nat_tests)
-
-same_cell : (r a : ℕ) → (r == a) ≡ true → r ≡ a
-same_cell r a h = grind (arith, nat_tests)
 
 cell_is_itself : (a : ℕ) → (a == a) ≡ true
 cell_is_itself a = grind (arith, nat_tests)
@@ -44,10 +35,10 @@ within_means r a h =
     let p = and_parts (nat_le (row_of r) (row_of a) && nat_le (row_of a) (row_of r)) _ h in
     let rows = and_parts (nat_le (row_of r) (row_of a)) _ p.0 in
     let cols = and_parts (nat_le (column_of r) (column_of a)) _ p.1 in
-    let above = at_most _ _ rows.0 in
-    let below = at_most _ _ rows.1 in
-    let left = at_most _ _ cols.0 in
-    let right = at_most _ _ cols.1 in
+    let above = leb-true _ _ rows.0 in
+    let below = leb-true _ _ rows.1 in
+    let left = leb-true _ _ cols.0 in
+    let right = leb-true _ _ cols.1 in
     omega arith
 
 -- in the rectangle of one cell is that cell alone
@@ -55,7 +46,7 @@ pub one_cell : (r a : ℕ) → is_within (cell_area r) a ≡ (r == a)
 one_cell r a = ap (λ (x : Area). is_within x a) (cell_at_once r) ∙ by (r == a) refl
   where
     by : (b : Bool) → (r == a) ≡ b → is_within (at_once r) a ≡ b
-    by true h = ap (λ (x : ℕ). is_within (at_once x) a) (same_cell r a h) ∙ within_itself a
+    by true h = ap (λ (x : ℕ). is_within (at_once x) a) (eqb-true r a h) ∙ within_itself a
     by false h = false_from_ne_true (is_within (at_once r) a) (λ w. let e = ap (λ (x : ℕ). x == a) (within_means r a w) ∙ cell_is_itself a in cc)
 
 replacement_cells : (ps : List (Reference × Reference)) (a : ℕ) → list_any (λ (p : Reference × Reference). p.1.at == a) ps ≡ list_any (λ (r : Area). is_within r a) (map (λ (p : Reference × Reference). cell_area p.1.at) ps)
@@ -68,8 +59,8 @@ mutual
   pub reads_within : (t : Tree) (a : ℕ) → reads t a ≡ list_any (λ (r : Area). is_within r a) (rectangles_of t)
   reads_within (number x) a = refl
   reads_within (text s) a = refl
-  reads_within (cell r) a = sym (or_false (is_within (cell_area r.at) a) ∙ one_cell r.at a)
-  reads_within (rectangle c) a = sym (or_false (is_within (area_of c) a))
+  reads_within (cell r) a = sym (or-false (is_within (cell_area r.at) a) ∙ one_cell r.at a)
+  reads_within (rectangle c) a = sym (or-false (is_within (area_of c) a))
   reads_within (parenthesized t) a = reads_within t a
   reads_within (signed s t) a = reads_within t a
   reads_within (percent t) a = reads_within t a

@@ -1,6 +1,7 @@
 -- Trees whose references move.
 use Rattle.std.proofs.Common.{◌≡◌, ℕ, ◌*◌, ◌<◌, pos, ◌+ℤ◌, Bool, true, false, ◌&&◌, nat_lt, if◌then◌else◌, List, [], ◌∷◌, map, Some, None, is_some, unwrap_or, refl, ap, ap₂, ◌∙◌, arith}
 use Rattle.std.specs.List.{list_all}
+use Rattle.std.proofs.lemmas.Bool.{and_parts}
 use Rattle.std.proofs.lemmas.Bool.Decides.{nat_tests}
 use Rattle.std.proofs.lemmas.Int.{ints}
 use Rattle.wi_values.specs.Address.{columns, rows, place, row_of, column_of}
@@ -45,10 +46,6 @@ mapped f (t ∷ ts) = ap (more_trees (map_references f t)) (mapped f ts)
 
 -- ---- shifts by nothing
 
-each_true : (a b : Bool) → (a && b) ≡ true → (a ≡ true) × (b ≡ true)
-each_true true b e = (refl, e)
-each_true false b e = cc
-
 both_true : (a b : Bool) → a ≡ true → b ≡ true → (a && b) ≡ true
 both_true true b e f = f
 both_true false b e f = e
@@ -57,7 +54,7 @@ both_true false b e f = e
 pair_kept : (p q : Reference → Bool) (f : Reference → Reference) → ((r : Reference) → p r ≡ true → (q r ≡ true) × (f r ≡ r))
     → (x : Reference × Reference) → (p x.0 && p x.1) ≡ true → ((q x.0 && q x.1) ≡ true) × (◌≡◌ {A = Reference × Reference} (f x.0, f x.1) x)
 pair_kept p q f h x e =
-    let a = each_true _ _ e in
+    let a = and_parts _ _ e in
     let i = h x.0 a.0 in
     let j = h x.1 a.1 in
     (both_true _ _ i.0 j.0, ap₂ (λ (a b : Reference). (a, b)) i.1 j.1)
@@ -67,7 +64,7 @@ pairs_kept : (p q : Reference → Bool) (f : Reference → Reference) → ((r : 
     → (list_all (λ x. q x.0 && q x.1) xs ≡ true) × (map (λ x. (f x.0, f x.1)) xs ≡ xs)
 pairs_kept p q f h [] e = (refl, refl)
 pairs_kept p q f h (x ∷ xs) e =
-    let a = each_true _ _ e in
+    let a = and_parts _ _ e in
     let i = pair_kept p q f h x a.0 in
     let j = pairs_kept p q f h xs a.1 in
     (both_true _ _ i.0 j.0, ap₂ (λ (y : Reference × Reference) ys. y ∷ ys) i.1 j.1)
@@ -85,12 +82,12 @@ mutual
   tree_kept p q f h (signed s t) e = let i = tree_kept p q f h t e in (i.0, ap (signed s) i.1)
   tree_kept p q f h (percent t) e = let i = tree_kept p q f h t e in (i.0, ap percent i.1)
   tree_kept p q f h (binary op t u) e =
-      let a = each_true _ _ e in
+      let a = and_parts _ _ e in
       let i = tree_kept p q f h t a.0 in
       let j = tree_kept p q f h u a.1 in
       (both_true _ _ i.0 j.0, ap₂ (binary op) i.1 j.1)
   tree_kept p q f h (what_if r xs) e =
-      let a = each_true _ _ e in
+      let a = and_parts _ _ e in
       let i = h r a.0 in
       let j = pairs_kept p q f h xs a.1 in
       (both_true _ _ i.0 j.0, ap₂ what_if i.1 j.1)
@@ -100,7 +97,7 @@ mutual
       → (ts : Trees) → all_references_in p ts ≡ true → (all_references_in q ts ≡ true) × (map_references_in f ts ≡ ts)
   trees_kept p q f h no_trees e = (refl, refl)
   trees_kept p q f h (more_trees t ts) e =
-      let a = each_true _ _ e in
+      let a = and_parts _ _ e in
       let i = tree_kept p q f h t a.0 in
       let j = trees_kept p q f h ts a.1 in
       (both_true _ _ i.0 j.0, ap₂ more_trees i.1 j.1)

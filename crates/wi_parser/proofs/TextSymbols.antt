@@ -1,6 +1,6 @@
 -- Each symbol of a formula's text is one that a text can have.
 use Rattle.std.proofs.Common.{◌≡◌, ℕ, ◌-◌, ◌*◌, ◌<◌, ◌≤◌, Bool, true, false, ◌&&◌, nat_lt, nat_le, List, [], ◌∷◌, All, codes, Option, Some, None, option_map, refl, ap, ap₂, ◌∙◌, subst, arith, if◌then◌else◌}
-use Rattle.std.proofs.lemmas.Bool.{ltb-true, leb-true, lt-ltb}
+use Rattle.std.proofs.lemmas.Bool.{and_parts, ltb-true, leb-true, lt-ltb}
 use Rattle.std.proofs.lemmas.Bool.Decides.{nat_tests}
 use Rattle.std.proofs.lemmas.List.Elements.{All-nil, All-cons, All-append, All-map, All-weaker}
 use Rattle.std.proofs.lemmas.Str.Ascii.{lowercase-uppercase, uppercase-uppercase}
@@ -41,10 +41,6 @@ number_writable (Some x) h = h x refl
 
 -- ---- references
 
-both : (a b : Bool) → (a && b) ≡ true → (a ≡ true) × (b ≡ true)
-both true b e = (refl, e)
-both false b e = cc
-
 -- an address that is found is in the sheet
 abbrev Found : Option ℕ → Type 0
 Found o = (a : ℕ) → o ≡ Some a → nat_lt a (rows * columns) ≡ true
@@ -58,8 +54,8 @@ has_column column = nat_lt 0 column && nat_le column columns
 
 place_found : (row column : ℕ) → has_row row ≡ true → has_column column ≡ true → nat_lt (place (row - 1) (column - 1)) (rows * columns) ≡ true
 place_found row column h e =
-    let r = both (nat_lt 0 row) (nat_le row rows) h in
-    let c = both (nat_lt 0 column) (nat_le column columns) e in
+    let r = and_parts (nat_lt 0 row) (nat_le row rows) h in
+    let c = and_parts (nat_lt 0 column) (nat_le column columns) e in
     let some_row : 0 < row = ltb-true 0 row r.0 in
     let last_row : row ≤ rows = leb-true row rows r.1 in
     let some_column : 0 < column = ltb-true 0 column c.0 in
@@ -71,7 +67,7 @@ cell_found row column = go (has_row row && has_column column) refl
   where
     go : (b : Bool) → (has_row row && has_column column) ≡ b → Found (if b then Some (place (row - 1) (column - 1)) else None)
     go true t a e =
-        let h = both (has_row row) (has_column column) t in
+        let h = and_parts (has_row row) (has_column column) t in
         let same : place (row - 1) (column - 1) ≡ a = cc in
         subst (λ n. nat_lt n (rows * columns) ≡ true) same (place_found row column h.0 h.1)
     go false t a e = cc
@@ -138,7 +134,7 @@ part_in_capitals b h = grind (arith, nat_tests)
 parts_in_capitals : (bs : List ℕ) → list_all is_name_part bs ≡ true → list_all is_name_part (in_capitals bs) ≡ true
 parts_in_capitals [] h = refl
 parts_in_capitals (b ∷ bs) h =
-    let e = both (is_name_part b) (list_all is_name_part bs) h in
+    let e = and_parts (is_name_part b) (list_all is_name_part bs) h in
     ap₂ (λ x y. x && y) (part_in_capitals b e.0) (parts_in_capitals bs e.1)
 
 name_in_capitals : (bs : List ℕ) → IsName bs → IsName (in_capitals bs)
