@@ -17,6 +17,8 @@ pub mod Outcome
 pub mod Nests
 pub mod FormulaText
 pub mod Reading
+pub mod Symbols
+pub mod Contents
 pub mod Faults
 pub mod Shift
 pub mod Writable

@@ -1,18 +1,25 @@
 //! Laws of the grammar alone.
 
-ghost use Rattle.std.specs.Prelude.{◌≡◌, ◌↔◌, ℕ, ◌≤◌, pos, true, List, length, Some, Ok, suc};
+ghost use Rattle.std.specs.Prelude.{◌≡◌, ◌↔◌, ℕ, ◌≤◌, pos, true, List, length, Some, Result, Ok, suc};
 ghost use Rattle.std.specs.List.{list_any};
 ghost use Rattle.wi_values.specs.Address.{is_within};
 ghost use Rattle.wi_fraction.specs.Written.{IsWritten};
 ghost use Rattle.wi_lexer.specs.Number.{IsNumberText};
+ghost use Rattle.wi_lexer.specs.Token.{IsToken};
+ghost use Rattle.wi_lexer.specs.Tokens.{tokens};
+ghost use Rattle.wi_lexer.specs.declared.token.Kind.{Kind};
+ghost use Rattle.wi_parser.specs.declared.content.Content.{Content};
+ghost use Rattle.wi_parser.specs.declared.fault.ParseFault.{ParseFault};
 ghost use Rattle.wi_parser.specs.Tree.{Tree};
 ghost use Rattle.wi_parser.specs.Symbol.{Symbol};
 ghost use Rattle.wi_parser.specs.Grammar.{Spells, loosest};
 ghost use Rattle.wi_parser.specs.Nesting.{depth, deepest};
 ghost use Rattle.wi_parser.specs.Spelling.{spelling};
 ghost use Rattle.wi_parser.specs.Reader.{whole};
-ghost use Rattle.wi_parser.specs.FormulaText.{formula_symbols};
-ghost use Rattle.wi_parser.specs.Reading.{max_formula, IsWithinLimits, parsed};
+ghost use Rattle.wi_parser.specs.FormulaText.{formula_symbols, symbol_of, symbols_of};
+ghost use Rattle.wi_parser.specs.Reading.{max_formula, IsWithinLimits, parsed, content_read};
+ghost use Rattle.wi_parser.specs.Symbols.{Means, AreSymbols};
+ghost use Rattle.wi_parser.specs.Contents.{IsFormulaText, IsParsed, IsContent};
 ghost use Rattle.wi_parser.specs.Printing.{printed};
 ghost use Rattle.wi_parser.specs.Writable.{IsFormulaTree};
 ghost use Rattle.wi_parser.specs.Reads.{reads, rectangles_of};
@@ -22,6 +29,31 @@ ghost use Rattle.wi_parser.specs.Shift.{in_sheet, all_references, shifted};
 /// it is the number that doesn't fit.
 pub fn number_tokens_write_decimals()
     ensures { (text : List ℕ) → IsNumberText text ↔ IsWritten text }
+{}
+
+/// A text means a symbol exactly where it is a token of some kind that stands for it.
+pub fn what_tokens_mean()
+    ensures { (text : List ℕ) (s : Symbol) → Means text s ↔ ((k : Kind) × IsToken k text × (symbol_of k text ≡ s)) }
+{}
+
+/// The symbols of a text are those of its tokens, and it has no others.
+pub fn what_symbols_are()
+    ensures { (text : List ℕ) (ts : List Symbol) → AreSymbols text ts ↔ (symbols_of (tokens text) ≡ ts) }
+{}
+
+/// The symbols of a formula's text are those of what follows its `=`.
+pub fn what_formula_symbols_are()
+    ensures { (text body : List ℕ) (ts : List Symbol) → IsFormulaText text body → AreSymbols body ts ↔ (formula_symbols text ≡ ts) }
+{}
+
+/// A formula's text is parsed as one tree, or refused for one cause.
+pub fn what_is_parsed()
+    ensures { (text body : List ℕ) (r : Result Tree ParseFault) → IsFormulaText text body → IsParsed text r ↔ (parsed text ≡ r) }
+{}
+
+/// A text stands for one content, or is refused for one cause.
+pub fn what_a_content_is()
+    ensures { (text : List ℕ) (r : Result Content ParseFault) → IsContent text r ↔ (content_read text ≡ r) }
 {}
 
 /// What is read from symbols is spelled by them.

@@ -2,6 +2,7 @@ pub mod Corners
 pub mod Digits
 pub mod Equal
 pub mod Fields
+pub mod Imports
 pub mod Letters
 pub mod ReadsBack
 pub mod Replacements

@@ -1,6 +1,7 @@
 pub mod Address
 pub mod AddressReading
 pub mod Import
+pub mod Imported
 pub mod Laws
 pub mod Name
 pub mod Replacements

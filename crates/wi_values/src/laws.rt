@@ -1,7 +1,10 @@
 //! Laws of the definitions and of equality. The contract of each function is the law.
 
-ghost use Rattle.std.specs.Prelude.{◌≡◌, ◌↔◌, IsTrue};
+ghost use Rattle.std.specs.Prelude.{◌≡◌, ◌↔◌, ℕ, List, Option, IsTrue};
+ghost use Rattle.wi_values.specs.Import.{imported};
+ghost use Rattle.wi_values.specs.Imported.{IsImported};
 ghost use Rattle.wi_values.specs.Laws.{AddressesReadBack, CornersMayTurn, NumbersReadBack};
+ghost use Rattle.wi_values.specs.declared.value.Value.{Value};
 
 use crate::replacement::Replacement;
 use crate::value::Value;
@@ -22,6 +25,12 @@ pub fn corners_may_turn()
 #[tactic(auto, using(crate::proofs::Fields::numbers_read_back))]
 pub fn numbers_read_back()
     ensures { NumbersReadBack }
+{}
+
+/// Each text is taken for one thing: for the number or truth value that it spells, and else for a text, or for nothing
+/// where it is too long.
+pub fn what_a_text_is_taken_for()
+    ensures { (text : List ℕ) (o : Option Value) → IsImported text o ↔ (imported text ≡ o) }
 {}
 
 /// Values are equal exactly where they are one value.

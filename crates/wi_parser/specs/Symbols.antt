@@ -1,0 +1,55 @@
+-- The symbols of a text: what its tokens mean, as facts about its bytes.
+use Rattle.std.specs.Prelude.{◌≡◌, ◌≢◌, ℕ, ◌≤◌, ℤ, true, false, List, [], ◌∷◌, ◌++◌, length, ◌⊎◌, Some, None, codes}
+use Rattle.wi_fraction.specs.Number.{Number}
+use Rattle.wi_fraction.specs.Written.{Writes, written_value}
+use Rattle.wi_lexer.specs.Cell.{Cell, IsCell}
+use Rattle.wi_lexer.specs.Mark.{mark_text}
+use Rattle.wi_lexer.specs.Name.{IsName}
+use Rattle.wi_lexer.specs.Rectangle.{rectangle_text}
+use Rattle.wi_lexer.specs.Reference.{reference_text}
+use Rattle.wi_lexer.specs.Runs.{is_blank}
+use Rattle.wi_lexer.specs.Text.{quoted}
+use Rattle.wi_parser.specs.declared.expr.Corners.{Corners}
+use Rattle.wi_parser.specs.declared.expr.Operator.{Operator}
+use Rattle.wi_parser.specs.declared.expr.Reference.{Reference}
+use Rattle.wi_parser.specs.declared.fault.ParseFault.TheVariants.{OutOfSheet, NumberRange, Syntax}
+use Rattle.wi_parser.specs.FormulaText.{reference_to, name_symbol}
+use Rattle.wi_parser.specs.Printing.{mark_of}
+use Rattle.wi_parser.specs.Symbol.{Symbol, numeral, text_literal, reference, corners, open_parenthesis, close_parenthesis, separator, infix_mark, percent_mark, refused}
+
+-- The text is a token, and means this symbol. A number that does not fit and a cell outside the sheet are refused.
+pub data Means : List ℕ → Symbol → Type 0 where
+  a_number : (text whole parts : List ℕ) (k : ℤ) (x : Number) → Writes text whole parts k → written_value whole parts k ≡ Some x
+      → Means text (numeral x)
+  an_unfit_number : (text whole parts : List ℕ) (k : ℤ) → Writes text whole parts k → written_value whole parts k ≡ None
+      → Means text (refused NumberRange)
+  a_text : (content : List ℕ) → Means (quoted content) (text_literal content)
+  a_reference : (c : Cell) (r : Reference) → IsCell c → reference_to c ≡ Some r → Means (reference_text c) (reference r)
+  an_outside_reference : (c : Cell) → IsCell c → reference_to c ≡ None → Means (reference_text c) (refused OutOfSheet)
+  a_rectangle : (c d : Cell) (p : Corners) → IsCell c → IsCell d → reference_to c ≡ Some p.one → reference_to d ≡ Some p.other
+      → Means (rectangle_text c d) (corners p)
+  an_outside_rectangle : (c d : Cell) → IsCell c → IsCell d → (reference_to c ≡ None) ⊎ (reference_to d ≡ None)
+      → Means (rectangle_text c d) (refused OutOfSheet)
+  a_name : (text : List ℕ) → IsName text → Means text (name_symbol text)
+  an_opening_parenthesis : Means (codes "(") open_parenthesis
+  a_closing_parenthesis : Means (codes ")") close_parenthesis
+  a_separator : Means (codes ";") separator
+  a_percent_mark : Means (codes "%") percent_mark
+  an_operator : (op : Operator) → Means (mark_text (mark_of op)) (infix_mark op)
+
+-- no longer token begins the bytes
+abbrev pub NoneLonger : List ℕ → List ℕ → Type 0
+NoneLonger token bytes = (other rest : List ℕ) (s : Symbol) → Means other s → other ++ rest ≡ bytes → length other ≤ length token
+
+-- no token begins the bytes
+abbrev pub NoneBegins : List ℕ → Type 0
+NoneBegins bytes = (token rest : List ℕ) (s : Symbol) → Means token s → token ++ rest ≢ bytes
+
+-- The symbols of a text. White space is passed over; then the longest token comes first; where none begins, a refused
+-- symbol is the last.
+pub data AreSymbols : List ℕ → List Symbol → Type 0 where
+  at_the_end : AreSymbols [] []
+  white_space : (b : ℕ) (text : List ℕ) (ts : List Symbol) → is_blank b ≡ true → AreSymbols text ts → AreSymbols (b ∷ text) ts
+  a_token : (token rest : List ℕ) (s : Symbol) (ts : List Symbol) → Means token s → NoneLonger token (token ++ rest) → AreSymbols rest ts
+      → AreSymbols (token ++ rest) (s ∷ ts)
+  no_token : (b : ℕ) (text : List ℕ) → is_blank b ≡ false → NoneBegins (b ∷ text) → AreSymbols (b ∷ text) (refused Syntax ∷ [])
