@@ -2,7 +2,7 @@
 use Rattle.std.specs.Prelude.{◌≡◌, ℕ, ◌*◌, ◌/◌, ◌%◌, ◌<◌, refl}
 use Rattle.std.specs.Int.{◌∣◌}
 use Rattle.std.proofs.Common.{sym, ◌∙◌, ap, subst}
-use Rattle.std.proofs.Math.Nat.{one-dvd, mul_comm, one-mul, dvd-mul_right, dvd_trans, div-mul_cancel, pos_of_dvd_of_pos, eq-one_of_dvd-one, dvd_of_mul-dvd-mul_right, mul-dvd-mul_right, mul-mul-mul_comm, mul-pos}
+use Rattle.std.proofs.Math.Nat.{mul_comm, one-mul, dvd-mul_right, dvd_trans, div-mul_cancel, pos_of_dvd_of_pos, eq-one_of_dvd-one, dvd_of_mul-dvd-mul_right, mul-dvd-mul_right, mul-mul-mul_comm, mul-pos}
 use Rattle.std.proofs.lemmas.Nat.Gcd.{IsGcd-from_zero, IsGcd-from_mod}
 use Rattle.wi_fraction.specs.Gcd.{gcd, is_gcd, dvd_gcd_mul, gcd_from_IsGcd, gcd_comm, dvd_of_dvd-mul}
 
@@ -84,6 +84,3 @@ cross_denominator a b c d = sym (ap (λ n. b / gcd c b * (d / gcd a d) * n) (mul
 
 pub cross_denominator_pos : (a b c d : ℕ) → 0 < b → 0 < d → 0 < b / gcd c b * (d / gcd a d)
 cross_denominator_pos a b c d bp dp = mul-pos (pos_of_dvd_of_pos (divided_dvd_second c b) bp) (pos_of_dvd_of_pos (divided_dvd_second a d) dp)
-
-pub coprime_one : (a : ℕ) → gcd a 1 ≡ 1
-coprime_one a = sym (gcd_from_IsGcd a 1 1 (one-dvd a, one-dvd 1, λ d p q. q))

@@ -8,11 +8,12 @@ use Rattle.std.proofs.lemmas.List.{length-append, length-drop}
 use Rattle.std.proofs.lemmas.Nat.{le-div, pow-add}
 use Rattle.std.proofs.lemmas.Nat.Gcd.{le_of_dvd}
 use Rattle.std.proofs.Math.Nat.{pow-suc, pow-zero, zero-mul, one-mul, mul-one, mul_assoc, mul-pos, mul-le-mul_left, mul-le-mul_right, pow-le-pow_right, le_trans}
+use Rattle.wi_fraction.specs.Rounding.{gcd-one}
 use Rattle.wi_fraction.specs.Gcd.{gcd, is_gcd, gcd_comm}
 use Rattle.wi_fraction.specs.Number.{Number, number_at, number_of, max_size}
 use Rattle.wi_fraction.specs.Arithmetic.{within}
 use Rattle.wi_fraction.specs.Text.{decimal_value, raised, lowered}
-use Rattle.wi_fraction.proofs.Divisors.{gcd_pos, coprime_one}
+use Rattle.wi_fraction.proofs.Divisors.{gcd_pos}
 use Rattle.wi_fraction.proofs.Fineness.{IsTooFine, none_from_fine, fine_tenth, ten_pow_pos, step_value, number_of-multiplied, tail_from_none}
 use Rattle.wi_fraction.proofs.Numbers.{number_of-lowest, number_at-too_large}
 use Rattle.wi_fraction.proofs.Pieces.{cut_after, cut_before}
@@ -35,7 +36,7 @@ pub in_parts : (k j : ℕ) → j ≤ k → 10 ^ k ≡ 10 ^ (k - j) * 10 ^ j
 in_parts k j h = let whole : k ≡ k - j + j = omega (arith, h) in ap (λ e. 10 ^ e) whole ∙ pow-add 10 (k - j) j
 
 pub one_lowest : (k : ℕ) → gcd 1 k ≡ 1
-one_lowest k = gcd_comm 1 k ∙ coprime_one k
+one_lowest k = gcd_comm 1 k ∙ gcd-one k
 
 pub zero_of : (d : ℕ) → 0 < d → number_of (pos 0) d ≡ number_of (pos 0) 1
 zero_of d h = rw (zero-mul d, one-mul d) at (number_of-multiplied false 0 1 d h)
@@ -74,7 +75,7 @@ raised_whole whole parts k h =
     let t = 10 ^ (k - length parts) in
     let p = 10 ^ length parts in
     let size : v * 10 ^ k ≡ v * t * p = ap (λ e. v * e) (in_parts k (length parts) h) ∙ sym (mul_assoc v t p) in
-    sym (number_of-lowest false (v * t) 1 (coprime_one (v * t))) ∙ sym (rw (one-mul p) at (number_of-multiplied false (v * t) 1 p (ten_pow_pos (length parts)))) ∙ ap (λ n. number_of (pos n) p) (sym size)
+    sym (number_of-lowest false (v * t) 1 (gcd-one (v * t))) ∙ sym (rw (one-mul p) at (number_of-multiplied false (v * t) 1 p (ten_pow_pos (length parts)))) ∙ ap (λ n. number_of (pos n) p) (sym size)
 
 raised_too_large : (whole parts : List ℕ) (k : ℕ) → length parts ≤ k → max_size < digits_value 10 (whole ++ parts) * 10 ^ (k - length parts) → None ≡ raised whole parts k
 raised_too_large whole parts k h large = number_at-too_large false _ 1 (inl large) ∙ raised_whole whole parts k h

@@ -2,9 +2,10 @@
 use Rattle.std.specs.Prelude.{◌≡◌, ◌⊎◌, ℕ, zero, suc, ◌*◌, ◌/◌, ◌<◌, pos, unsigned_abs, int_div, Bool, true, false, Some, None, refl}
 use Rattle.std.proofs.Common.{ap, ◌∙◌, sym, inl, inr, arith}
 use Rattle.std.proofs.Math.Nat.{zero-div, div-one, one-mul, mul-div_cancel}
+use Rattle.wi_fraction.specs.Rounding.{gcd-one}
 use Rattle.wi_fraction.specs.Gcd.{gcd}
 use Rattle.wi_fraction.specs.Number.{Number, IsNumber, number_at-some, number_at, number_at-none, number_of, signed, max_size}
-use Rattle.wi_fraction.proofs.Divisors.{gcd_scaled, coprime_one}
+use Rattle.wi_fraction.proofs.Divisors.{gcd_scaled}
 
 pub abs-signed : (b : Bool) (n : ℕ) → unsigned_abs (signed b n) ≡ n
 abs-signed true zero = refl
@@ -34,8 +35,8 @@ number_of-scaled s n d m some one =
     sym (number_of-signed s (n * m) (d * m)) ∙ (rw (g, mul-div_cancel n some, mul-div_cancel d some))
 
 pub zero_is : IsNumber (pos 0) 1
-zero_is = record { above_zero = omega arith; lowest = coprime_one 0; num_fits = omega arith; den_fits = omega arith }
+zero_is = record { above_zero = omega arith; lowest = gcd-one 0; num_fits = omega arith; den_fits = omega arith }
 
 -- zero is 0/1
 pub zero_number : (x : Number) → x.num ≡ pos 0 → x.den ≡ 1 → Some x ≡ number_of (pos 0) 1
-zero_number x e f = sym (number_of-lowest false 0 1 (coprime_one 0) ∙ number_at-some (pos 0) 1 x e f)
+zero_number x e f = sym (number_of-lowest false 0 1 (gcd-one 0) ∙ number_at-some (pos 0) 1 x e f)

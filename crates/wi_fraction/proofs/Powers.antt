@@ -5,16 +5,17 @@ use Rattle.std.proofs.Common.{arith, ap, sym, ◌∙◌}
 use Rattle.std.proofs.lemmas.Bool.Decides.{nat_tests}
 use Rattle.std.proofs.Math.Nat.{pow-suc, pow-zero, one-le-pow, pow-le-pow_left, pow-le-pow_right, le_trans}
 use Rattle.std.specs.Ordering.{int_eq}
+use Rattle.wi_fraction.specs.Rounding.{gcd-one}
 use Rattle.wi_fraction.specs.Gcd.{gcd}
 use Rattle.wi_fraction.specs.Number.{Number, number_of, number_at, max_size, signed}
 use Rattle.wi_fraction.specs.Arithmetic.{fraction_of, within}
 use Rattle.wi_fraction.specs.Power.{power_of}
-use Rattle.wi_fraction.proofs.Divisors.{coprime_one, coprime_mul}
+use Rattle.wi_fraction.proofs.Divisors.{coprime_mul}
 use Rattle.wi_fraction.specs.Gcd.{gcd_comm}
 use Rattle.wi_fraction.proofs.Numbers.{number_of-lowest}
 
 coprime_pow_right : (a b k : ℕ) → gcd a b ≡ 1 → gcd a (b ^ k) ≡ 1
-coprime_pow_right a b zero h = rw (pow-zero b) (coprime_one a)
+coprime_pow_right a b zero h = rw (pow-zero b) (gcd-one a)
 coprime_pow_right a b (suc k) h = rw (pow-suc b k) (coprime_mul a (b ^ k) b (coprime_pow_right a b k h) h)
 
 pub coprime_pow : (a b k : ℕ) → gcd a b ≡ 1 → gcd (a ^ k) (b ^ k) ≡ 1

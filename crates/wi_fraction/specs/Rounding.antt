@@ -22,7 +22,8 @@ rounded_size Toward n d = n / d
 
 -- ---- these are numbers
 
-gcd-one : (a : ℕ) → gcd a 1 ≡ 1
+-- a whole number is in lowest terms over one
+pub gcd-one : (a : ℕ) → gcd a 1 ≡ 1
 gcd-one a = sym (gcd_from_IsGcd a 1 1 (one-dvd a, one-dvd 1, λ d p q. q))
 
 pub floor_fits : (n : ℤ) (d : ℕ) → unsigned_abs n ≤ max_size → unsigned_abs (floor_of n d) ≤ max_size

@@ -109,7 +109,7 @@ impl Fraction {
 }
 
 /// The product of a/b and c/d, which are in lowest terms, with that sign.
-pub fn multiplied(negative: bool, a: u128, b: u128, c: u128, d: u128) -> Option<Fraction>
+pub(crate) fn multiplied(negative: bool, a: u128, b: u128, c: u128, d: u128) -> Option<Fraction>
     requires first_above_zero { 0 < b }
     requires second_above_zero { 0 < d }
     requires first_lowest { gcd a b ≡ 1 }

@@ -7,7 +7,7 @@ ghost use Rattle.wi_fraction.specs.Number.{max_size, number_at, number_of, signe
 use crate::{Fraction, MAX};
 
 /// The greatest common divisor, by Euclid's algorithm.
-pub fn gcd(a: u128, b: u128) -> u128
+pub(crate) fn gcd(a: u128, b: u128) -> u128
     ensures value { result ≡ gcd a b }
     ensures above_zero { 0 < b → 0 < result }
 {
@@ -22,7 +22,7 @@ pub fn gcd(a: u128, b: u128) -> u128
 }
 
 /// The number of that sign, size and denominator, in lowest terms.
-pub fn reduced(negative: bool, size: u128, denominator: u128) -> Option<Fraction>
+pub(crate) fn reduced(negative: bool, size: u128, denominator: u128) -> Option<Fraction>
     requires { 0 < denominator }
     ensures { result ≡ number_of (signed negative size) denominator }
 {
@@ -31,7 +31,7 @@ pub fn reduced(negative: bool, size: u128, denominator: u128) -> Option<Fraction
 }
 
 /// The number of that sign, size and denominator, which have no common divisor.
-pub fn number_at(negative: bool, size: u128, denominator: u128) -> Option<Fraction>
+pub(crate) fn number_at(negative: bool, size: u128, denominator: u128) -> Option<Fraction>
     requires above_zero { 0 < denominator }
     requires lowest { gcd size denominator ≡ 1 }
     ensures { result ≡ number_at (signed negative size) denominator }
@@ -46,7 +46,7 @@ pub fn number_at(negative: bool, size: u128, denominator: u128) -> Option<Fracti
 }
 
 /// The whole number of that sign and size.
-pub fn signed(negative: bool, size: u128) -> i128
+pub(crate) fn signed(negative: bool, size: u128) -> i128
     requires { size ≤ max_size }
     ensures { result ≡ signed negative size }
 {

@@ -9,7 +9,7 @@ use crate::lowest_terms::signed;
 use crate::{Fraction, FractionError};
 
 /// Which whole number a number is rounded to.
-#[derive(Clone, Copy, Debug, PartialEq, Eq, Hash)]
+#[derive(Clone, Copy)]
 pub enum Mode {
     /// The nearest, a half away from zero.
     HalfAway,

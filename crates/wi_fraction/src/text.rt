@@ -71,7 +71,7 @@ fn push_parts(negative: bool, n: u128, d: u128, text: &mut String) -> Result<(),
 }
 
 /// Appends the sign and the three texts. On an error the text is as before.
-pub fn push_joined(
+pub(crate) fn push_joined(
     negative: bool,
     above: &str,
     mark: &str,

@@ -1,5 +1,5 @@
 use Rattle.std.proofs.Common.{arith}
-use Rattle.wi_fraction.proofs.Divisors.{coprime_one}
+use Rattle.wi_fraction.specs.Rounding.{gcd-one}
 use Rattle.wi_fraction.proofs.Exponents.{ten_pow_few, one_lowest}
 use Rattle.wi_fraction.proofs.Fineness.{ten_pow_pos}
 use Rattle.wi_fraction.proofs.Fraction.shifted.Goals as goal
@@ -14,4 +14,4 @@ pub multiplied-requires-clause-second_lowest : goal.multiplied-requires-clause-s
 multiplied-requires-clause-second_lowest c = one_lowest c.pow-ten.result
 
 pub multiplied-requires-2-clause-second_lowest : goal.multiplied-requires-2-clause-second_lowest
-multiplied-requires-2-clause-second_lowest c = coprime_one c.pow-ten.result
+multiplied-requires-2-clause-second_lowest c = gcd-one c.pow-ten.result

@@ -1,6 +1,6 @@
 use Rattle.std.proofs.Common.{arith, sym, ◌∙◌}
 use Rattle.std.proofs.lemmas.List.{take_rest}
-use Rattle.wi_fraction.proofs.Divisors.{coprime_one}
+use Rattle.wi_fraction.specs.Rounding.{gcd-one}
 use Rattle.wi_fraction.proofs.Pieces.{digits_append, digits_take}
 use Rattle.wi_fraction.proofs.Reading.{digits_drop}
 use Rattle.wi_fraction.proofs.Exponents.{raised_by_cut, raised_none_whole, raised_none, raised_some}
@@ -25,7 +25,7 @@ pub returns-in_err-size : goal.returns-in_err-size
 returns-in_err-size c = c.from_residual-in_err-size.ensures ∙ raised_none c.args.whole.now c.args.parts.now c.args.power _ (omega arith) c.in_ok-whole_number.ensures (sym c.in_err-size.was ∙ c.raised_size.ensures)
 
 pub number_at-requires-clause-lowest : goal.number_at-requires-clause-lowest
-number_at-requires-clause-lowest c = coprime_one _
+number_at-requires-clause-lowest c = gcd-one _
 
 pub returns : goal.returns
 returns c = raised_some c.args.whole.now c.args.parts.now c.args.power _ _ _ (omega arith) c.in_ok-whole_number.ensures c.in_ok-size.ensures c.number_at.ensures

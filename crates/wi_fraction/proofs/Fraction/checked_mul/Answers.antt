@@ -1,0 +1,9 @@
+use Rattle.std.proofs.Common.{rules}
+use Rattle.wi_fraction.proofs.Values.{product_value}
+use Rattle.wi_fraction.proofs.Fraction.checked_mul.Goals as goal
+
+pub returns-clause-value : goal.returns-clause-value
+returns-clause-value c = search rules
+
+pub returns-clause-exact : goal.returns-clause-exact
+returns-clause-exact c = search (rules, product_value)

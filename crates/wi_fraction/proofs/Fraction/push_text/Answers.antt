@@ -1,0 +1,7 @@
+use Rattle.std.proofs.Common.{rules}
+use Rattle.wi_fraction.specs.Text.{text_of}
+use Rattle.wi_fraction.proofs.Fraction.push_text.Goals as goal
+
+pub returns-clause-ok : goal.returns-clause-ok
+unfolding text_of
+returns-clause-ok c = search rules
