@@ -12,7 +12,7 @@ mod value;
 
 pub use address::{Address, AddressFault, COLUMNS, ROWS};
 pub use import::{FieldFault, field_value, imported_value};
-pub use name::{MAX_NAME, Name};
+pub use name::Name;
 pub use rect::Rect;
 pub use replacement::Replacement;
 pub use text::{MAX_TEXT, Text};

@@ -5,11 +5,11 @@ ghost use Rattle.std.specs.List.{list_all};
 ghost use Rattle.wi_values.specs.Name as spec;
 
 /// The greatest length of a name in bytes.
-pub const MAX_NAME: usize = 32;
+const MAX_NAME: usize = 32;
 
 /// The name of a scenario or of a session: 1 to 32 ASCII letters, digits and `_`. Names are compared by their
 /// bytes.
-#[derive(Clone, Copy, PartialEq, Eq, PartialOrd, Ord, Debug)]
+#[derive(Clone, Copy, PartialEq, Eq, PartialOrd, Ord)]
 pub struct Name<'a> {
     text: &'a str,
 }

@@ -1,0 +1,7 @@
+use Rattle.std.proofs.Common.{rules}
+use Rattle.wi_values.specs.AddressReading.{read_address}
+use Rattle.wi_values.proofs.address.Address.read.Goals as goal
+
+pub returns : goal.returns
+unfolding read_address
+returns c = search rules

@@ -1,0 +1,5 @@
+use Rattle.std.proofs.Common.{rules}
+use Rattle.wi_values.proofs.value.Value.copy.Goals as goal
+
+pub returns-in-Logical : goal.returns-in-Logical
+returns-in-Logical c = search rules
