@@ -8,6 +8,7 @@ use Rattle.std.specs.declared.cmp.Ordering.TheVariants.{Less, Equal, Greater}
 use Rattle.std.specs.declared.cmp.Ordering.{Ordering}
 use Rattle.std.specs.Map.{lookup, set_value, remove_entry}
 use Rattle.std.specs.BTreeMap.{is_at, insert_entry}
+use Rattle.std.proofs.Math.Bool.{and-true}
 use Rattle.std.proofs.Math.Nat.{add-mul}
 use Rattle.std.proofs.lemmas.Nat.{mul-le}
 use Rattle.std.specs.List.Sorted.{IsStrictlySortedBy}
@@ -94,10 +95,6 @@ both_equal Greater p = refl
 one_parts : (m n : Numbered) → is_one m n ≡ (is_same m.pair n.pair && is_at (nat_cmp m.number) n.number)
 one_parts m n = both_equal (pair_cmp m.pair n.pair) (nat_cmp m.number n.number)
 
-and_true : (b : Bool) → (b && true) ≡ b
-and_true true = refl
-and_true false = refl
-
 -- where the pieces of m are told by w, and the bags tell of other pairs the same
 pub indexed_change : (m : Numbered) (w : Bool) (old new : Bag) (ks ls : List Piece) → IsIndexed old ks
     → ((q : Piece) → is_piece (blocks_of m.pair) m q ≡ true → has_piece ls q ≡ w) → KeepsOtherPieces m ks ls
@@ -109,7 +106,7 @@ indexed_change m w old new ks ls i put kept told others q = by (is_one m q.1) (i
     by : (b a : Bool) → is_one m q.1 ≡ b → is_among q.0 (blocks_of m.pair) ≡ a
         → has_piece ls q ≡ (nat_lt q.1.number (count_of new q.1.pair) && is_among q.0 (blocks_of q.1.pair))
     by true true h k =
-        put q (rw (h, k)) ∙ sym (ap (λ b. b && true) told ∙ and_true w)
+        put q (rw (h, k)) ∙ sym (ap (λ b. b && true) told ∙ and-true w)
         ∙ ap (λ b. nat_lt m.number (count_of new m.pair) && b) (sym k)
         ∙ ap (λ (n : Numbered). nat_lt n.number (count_of new n.pair) && is_among q.0 (blocks_of n.pair)) (one_is m q.1 h)
     by true false h k =
@@ -167,7 +164,7 @@ piece_of_m : (m : Numbered) (bag : Bag) (ks : List Piece) (w : Bool) → IsIndex
 piece_of_m m bag ks w i e q h =
     let parts = and_parts (is_one m q.1) (is_among q.0 (blocks_of m.pair)) h in
     i q ∙ sym (ap (λ (n : Numbered). nat_lt n.number (count_of bag n.pair) && is_among q.0 (blocks_of n.pair)) (one_is m q.1 parts.0))
-    ∙ ap (λ b. nat_lt m.number (count_of bag m.pair) && b) parts.1 ∙ and_true _ ∙ e
+    ∙ ap (λ b. nat_lt m.number (count_of bag m.pair) && b) parts.1 ∙ and-true _ ∙ e
 
 pub lacks_next : (m : Numbered) (bag : Bag) (ks : List Piece) → IsIndexed bag ks → count_of bag m.pair ≡ m.number → LacksPieces (blocks_of m.pair) m ks
 lacks_next m bag ks i e = piece_of_m m bag ks false i (ap (λ c. nat_lt m.number c) e ∙ never_below m.number)
@@ -251,14 +248,15 @@ count_below p (e ∷ es) l = by (is_same p e.0) refl (count_below p es l)
 of_sheet : (p : Pair) (x : Block) → x ≡ block 20 0 → blocks_in p x ≡ blocks_of p
 of_sheet p x e = ap (λ (y : Block). blocks_in p y) e
 
+as_many : (p : Pair) (x : Block) → x ≡ block 20 0 → length (blocks_in p x) ≡ length (blocks_of p)
+as_many p x e = ap (λ (zs : List Block). length zs) (of_sheet p x e)
+
 pub number_below : (m : Numbered) (x : Block) (bag : Bag) (ks ls : List Piece) → x ≡ block 20 0 → first_row m.pair < 1048576 → IsIndexed bag ks → AreCounted bag ks
     → count_of bag m.pair ≡ m.number → (LacksPieces (blocks_in m.pair x) m ks → length ls ≡ length ks + length (blocks_in m.pair x)) → m.number < length ls
 number_below m x bag ks ls e l i k n more =
-    let blocks = of_sheet m.pair x e in
     let some : 0 < length (blocks_of m.pair) = some_block m.pair l in
-    let long = more (subst (λ (zs : List Block). LacksPieces zs m ks) (sym blocks) (lacks_next m bag ks i n)) in
-    let added : length (blocks_in m.pair x) ≡ length (blocks_of m.pair) = ap (λ (zs : List Block). length zs) blocks in
-    omega (arith, count_below m.pair bag some, n, k.1, long, added, some)
+    let long = more (subst (λ (zs : List Block). LacksPieces zs m ks) (sym (of_sheet m.pair x e)) (lacks_next m bag ks i n)) in
+    omega (arith, count_below m.pair bag some, n, k.1, long, as_many m.pair x e, some)
 
 pub others_kept : (m : Numbered) (x : Block) (ks ls : List Piece) → x ≡ block 20 0
     → ((q : Piece) → is_piece (blocks_in m.pair x) m q ≡ false → has_piece ls q ≡ has_piece ks q) → KeepsOtherPieces m ks ls
@@ -275,20 +273,16 @@ pub counted_more : (m : Numbered) (x : Block) (old new : Bag) (ks ls : List Piec
     → (LacksPieces (blocks_in m.pair x) m ks → length ls ≡ length ks + length (blocks_in m.pair x))
     → pieces_of new ≡ pieces_of old + length (blocks_of m.pair) → AreCounted new ls
 counted_more m x old new ks ls e i k n order more total =
-    let blocks = of_sheet m.pair x e in
-    let long = more (subst (λ (zs : List Block). LacksPieces zs m ks) (sym blocks) (lacks_next m old ks i n)) in
-    let added : length (blocks_in m.pair x) ≡ length (blocks_of m.pair) = ap (λ (zs : List Block). length zs) blocks in
-    (order k.0, omega (arith, k.1, long, added, total))
+    let long = more (subst (λ (zs : List Block). LacksPieces zs m ks) (sym (of_sheet m.pair x e)) (lacks_next m old ks i n)) in
+    (order k.0, omega (arith, k.1, long, as_many m.pair x e, total))
 
 pub counted_less : (m : Numbered) (x : Block) (old new : Bag) (ks ls : List Piece) → x ≡ block 20 0 → IsIndexed old ks → AreCounted old ks → count_of old m.pair ≡ m.number + 1
     → (IsStrictlySortedBy piece_cmp ks → IsStrictlySortedBy piece_cmp ls)
     → (HasPieces (blocks_in m.pair x) m ks → length ks ≡ length ls + length (blocks_in m.pair x))
     → pieces_of old ≡ pieces_of new + length (blocks_of m.pair) → AreCounted new ls
 counted_less m x old new ks ls e i k n order less total =
-    let blocks = of_sheet m.pair x e in
-    let long = less (subst (λ (zs : List Block). HasPieces zs m ks) (sym blocks) (has_last m old ks i n)) in
-    let taken : length (blocks_in m.pair x) ≡ length (blocks_of m.pair) = ap (λ (zs : List Block). length zs) blocks in
-    (order k.0, omega (arith, k.1, long, taken, total))
+    let long = less (subst (λ (zs : List Block). HasPieces zs m ks) (sym (of_sheet m.pair x e)) (has_last m old ks i n)) in
+    (order k.0, omega (arith, k.1, long, as_many m.pair x e, total))
 
 pub counted_back : (bag : Bag) (ks ls : List Piece) → IsIndexed bag ks → IsIndexed bag ls → AreCounted bag ks → IsStrictlySortedBy piece_cmp ls → AreCounted bag ls
 counted_back bag ks ls i j k t = (t, sym (ap (λ (us : List Piece). length us) (same_pieces bag ks ls i j k.0 t)) ∙ k.1)

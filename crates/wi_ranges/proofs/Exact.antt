@@ -1,11 +1,10 @@
 -- What compares as equal is one.
-use Rattle.std.proofs.Common.{◌≡◌, ℕ, true, ap, arith}
+use Rattle.std.proofs.Common.{◌≡◌, ℕ, true, ap, refl, sym}
 use Rattle.std.specs.Ordering.{nat_cmp, ordering_then}
-use Rattle.std.specs.Cmp.{IsTotalOrder, nat_cmp_total}
+use Rattle.std.specs.Cmp.{IsTotalOrder, nat_cmp_is, nat_cmp_total}
 use Rattle.std.proofs.lemmas.Cmp.{on_total, then_total}
 use Rattle.std.specs.declared.cmp.Ordering.TheVariants.{Equal}
 use Rattle.std.specs.BTreeMap.{is_at}
-use Rattle.std.proofs.lemmas.Bool.Decides.{nat_tests}
 use Rattle.std.proofs.lemmas.Map.Lookups.{CmpEqualImpliesEq, exact_unsigned, exact_pairs}
 use Rattle.std.proofs.lemmas.Map.Views.{tells_apart}
 use Rattle.wi_ranges.specs.declared.block.Block.{Block}
@@ -40,7 +39,7 @@ pub same_piece : (x y : Piece) → is_at (piece_cmp x) y ≡ true → x ≡ y
 same_piece x y h = tells_apart exact_piece x y h
 
 nat_same : (a : ℕ) → nat_cmp a a ≡ Equal
-nat_same a = grind (arith, nat_tests)
+nat_same a = sym (nat_cmp_is a a Equal refl)
 
 pub same_self : (p : Pair) → is_same p p ≡ true
 same_self p = rw (nat_same p.first, nat_same p.last, nat_same p.reader)

@@ -8,7 +8,9 @@ use Rattle.std.proofs.lemmas.Bool.{or_left, or_right, or_cases, or_parts, and_ri
 use Rattle.std.proofs.lemmas.List.Folds.{list_any-append}
 use Rattle.wi_ranges.specs.declared.block.Block.{Block}
 use Rattle.wi_ranges.specs.declared.pair.Numbered.{Numbered}
+use Rattle.wi_ranges.specs.Blocks.{blocks_in, first_row, last_row, lies_within}
 use Rattle.wi_ranges.specs.Index.{block_cmp, numbered_cmp, HasPieces, LacksPieces, is_one, Piece, piece_cmp, has_piece, is_piece}
+use Rattle.wi_ranges.proofs.BlockLemmas.{blocks_within-here}
 use Rattle.wi_ranges.proofs.Exact.{piece_self}
 
 equal_both : (o p : Ordering) → is_eq (ordering_then o p) ≡ (is_eq p && (is_eq o || false))
@@ -55,109 +57,105 @@ piece_of_none zs p q e h = true≢false (sym h ∙ ap (λ (us : List Block). is_
 pub piece_of_one : (x : Block) (zs : List Block) (p : Numbered) (q : Piece) (b : Bool) → zs ≡ x ∷ [] → is_piece zs p q ≡ b → is_at (piece_cmp (x, p)) q ≡ b
 piece_of_one x zs p q b e h = key_is_piece x p q ∙ ap (λ (us : List Block). is_piece us p q) (sym e) ∙ h
 
--- ---- put in
+-- ---- one piece put in, or taken out
 
-pub put_here : (x : Block) (zs : List Block) (p : Numbered) (old new : List Piece) → zs ≡ x ∷ []
-    → ((q : Piece) → has_piece new q ≡ cond (is_at (piece_cmp (x, p)) q) true (has_piece old q))
-    → (q : Piece) → is_piece zs p q ≡ true → has_piece new q ≡ true
-put_here x zs p old new e u q h = u q ∙ cond-true _ _ _ (piece_of_one x zs p q true e h)
+-- of the pieces of a block that lies within the rows, which is that block's own
+here : (m : Numbered) (x : Block) → lies_within (first_row m.pair) (last_row m.pair) x ≡ true → blocks_in m.pair x ≡ x ∷ []
+here m x h = blocks_within-here (first_row m.pair) (last_row m.pair) x.level x.first h
 
-pub stays_here : (x : Block) (p : Numbered) (old new : List Piece)
-    → ((q : Piece) → has_piece new q ≡ cond (is_at (piece_cmp (x, p)) q) true (has_piece old q))
-    → (q : Piece) → has_piece old q ≡ true → has_piece new q ≡ true
-stays_here x p old new u q h = u q ∙ ap (λ b. cond (is_at (piece_cmp (x, p)) q) true b) h ∙ both (is_at (piece_cmp (x, p)) q)
+-- the piece of m at x is told by w, and any other as before
+abbrev pub Updates : Block → Numbered → List Piece → List Piece → Bool → Type 0
+Updates x m old new w = (q : Piece) → has_piece new q ≡ cond (is_at (piece_cmp (x, m)) q) w (has_piece old q)
+
+-- whether the pieces of m within x are there
+abbrev pub AreTold : Numbered → Block → List Piece → Bool → Type 0
+AreTold m x ks w = (q : Piece) → is_piece (blocks_in m.pair x) m q ≡ true → has_piece ks q ≡ w
+
+-- only pieces of m within x may differ
+abbrev pub KeepsOthers : Numbered → Block → List Piece → List Piece → Type 0
+KeepsOthers m x old new = (q : Piece) → is_piece (blocks_in m.pair x) m q ≡ false → has_piece new q ≡ has_piece old q
+
+pub told_here : (m : Numbered) (x : Block) (old new : List Piece) (w : Bool) → lies_within (first_row m.pair) (last_row m.pair) x ≡ true → Updates x m old new w → AreTold m x new w
+told_here m x old new w h u q t = u q ∙ cond-true _ _ _ (piece_of_one x (blocks_in m.pair x) m q true (here m x h) t)
+
+pub kept_here : (m : Numbered) (x : Block) (old new : List Piece) (w : Bool) → lies_within (first_row m.pair) (last_row m.pair) x ≡ true → Updates x m old new w → KeepsOthers m x old new
+kept_here m x old new w h u q t = u q ∙ cond-false _ _ _ (piece_of_one x (blocks_in m.pair x) m q false (here m x h) t)
+
+-- what was told so before is told so after
+pub stays_told : (m : Numbered) (x : Block) (old new : List Piece) (w : Bool) → Updates x m old new w → (q : Piece) → has_piece old q ≡ w → has_piece new q ≡ w
+stays_told m x old new w u q h = u q ∙ ap (λ b. cond (is_at (piece_cmp (x, m)) q) w b) h ∙ both (is_at (piece_cmp (x, m)) q)
   where
-    both : (b : Bool) → cond b true true ≡ true
+    both : (b : Bool) → cond b w w ≡ w
     both true = refl
     both false = refl
 
--- also where it is taken out
-pub kept_here : (x : Block) (zs : List Block) (p : Numbered) (old new : List Piece) (w : Bool) → zs ≡ x ∷ []
-    → ((q : Piece) → has_piece new q ≡ cond (is_at (piece_cmp (x, p)) q) w (has_piece old q))
-    → (q : Piece) → is_piece zs p q ≡ false → has_piece new q ≡ has_piece old q
-kept_here x zs p old new w e u q h = u q ∙ cond-false _ _ _ (piece_of_one x zs p q false e h)
+-- ---- both halves
 
-pub put_both : (xs ys zs : List Block) (p : Numbered) (old mid new : List Piece) → zs ≡ xs ++ ys
-    → ((q : Piece) → is_piece xs p q ≡ true → has_piece mid q ≡ true)
-    → ((q : Piece) → is_piece ys p q ≡ true → has_piece new q ≡ true)
-    → ((q : Piece) → has_piece mid q ≡ true → has_piece new q ≡ true)
-    → (q : Piece) → is_piece zs p q ≡ true → has_piece new q ≡ true
-put_both xs ys zs p old mid new e f g s q h = ⊎_elim (λ l. s q (f q l)) (λ r. g q r) (piece_of_either xs ys zs p q e h)
+-- the blocks of x are those of its halves
+abbrev pub AreHalves : Numbered → Block → Block → Block → Type 0
+AreHalves m x u l = blocks_in m.pair x ≡ blocks_in m.pair u ++ blocks_in m.pair l
 
-pub kept_both : (xs ys zs : List Block) (p : Numbered) (old mid new : List Piece) → zs ≡ xs ++ ys
-    → ((q : Piece) → is_piece xs p q ≡ false → has_piece mid q ≡ has_piece old q)
-    → ((q : Piece) → is_piece ys p q ≡ false → has_piece new q ≡ has_piece mid q)
-    → (q : Piece) → is_piece zs p q ≡ false → has_piece new q ≡ has_piece old q
-kept_both xs ys zs p old mid new e f g q h = let n = piece_of_neither xs ys zs p q e h in g q n.1 ∙ f q n.0
+pub told_both : (m : Numbered) (x u l : Block) (mid new : List Piece) (w : Bool) → AreHalves m x u l → AreTold m u mid w → AreTold m l new w
+    → ((q : Piece) → has_piece mid q ≡ w → has_piece new q ≡ w) → AreTold m x new w
+told_both m x u l mid new w e f g s q h =
+    ⊎_elim (λ t. s q (f q t)) (λ t. g q t) (piece_of_either (blocks_in m.pair u) (blocks_in m.pair l) (blocks_in m.pair x) m q e h)
 
-pub kept_first : (xs ys zs : List Block) (p : Numbered) (old mid : List Piece) → zs ≡ xs ++ ys
-    → ((q : Piece) → is_piece xs p q ≡ false → has_piece mid q ≡ has_piece old q)
-    → (q : Piece) → is_piece zs p q ≡ false → has_piece mid q ≡ has_piece old q
-kept_first xs ys zs p old mid e f q h = f q (piece_of_neither xs ys zs p q e h).0
+pub kept_both : (m : Numbered) (x u l : Block) (old mid new : List Piece) → AreHalves m x u l → KeepsOthers m u old mid → KeepsOthers m l mid new → KeepsOthers m x old new
+kept_both m x u l old mid new e f g q h =
+    let n = piece_of_neither (blocks_in m.pair u) (blocks_in m.pair l) (blocks_in m.pair x) m q e h in
+    g q n.1 ∙ f q n.0
 
--- ---- taken out
+pub kept_first : (m : Numbered) (x u l : Block) (old mid : List Piece) → AreHalves m x u l → KeepsOthers m u old mid → KeepsOthers m x old mid
+kept_first m x u l old mid e f q h = f q (piece_of_neither (blocks_in m.pair u) (blocks_in m.pair l) (blocks_in m.pair x) m q e h).0
 
-pub gone_here : (x : Block) (zs : List Block) (p : Numbered) (old new : List Piece) → zs ≡ x ∷ []
-    → ((q : Piece) → has_piece new q ≡ cond (is_at (piece_cmp (x, p)) q) false (has_piece old q))
-    → (q : Piece) → is_piece zs p q ≡ true → has_piece new q ≡ false
-gone_here x zs p old new e u q h = u q ∙ cond-true _ _ _ (piece_of_one x zs p q true e h)
-
-pub stays_gone : (x : Block) (p : Numbered) (old new : List Piece)
-    → ((q : Piece) → has_piece new q ≡ cond (is_at (piece_cmp (x, p)) q) false (has_piece old q))
-    → (q : Piece) → has_piece old q ≡ false → has_piece new q ≡ false
-stays_gone x p old new u q h = u q ∙ ap (λ b. cond (is_at (piece_cmp (x, p)) q) false b) h ∙ both (is_at (piece_cmp (x, p)) q)
-  where
-    both : (b : Bool) → cond b false false ≡ false
-    both true = refl
-    both false = refl
-
-pub gone_both : (xs ys zs : List Block) (p : Numbered) (old mid new : List Piece) → zs ≡ xs ++ ys
-    → ((q : Piece) → is_piece xs p q ≡ true → has_piece mid q ≡ false)
-    → ((q : Piece) → is_piece ys p q ≡ true → has_piece new q ≡ false)
-    → ((q : Piece) → has_piece mid q ≡ false → has_piece new q ≡ false)
-    → (q : Piece) → is_piece zs p q ≡ true → has_piece new q ≡ false
-gone_both xs ys zs p old mid new e f g s q h = ⊎_elim (λ l. s q (f q l)) (λ r. g q r) (piece_of_either xs ys zs p q e h)
+-- where the pieces within x are told by w, so are those of each half when its turn comes
+told_parts : (m : Numbered) (x u l : Block) (old mid : List Piece) (w : Bool) → AreHalves m x u l → KeepsOthers m u old mid
+    → ((q : Piece) → is_piece (blocks_in m.pair l) m q ≡ true → is_piece (blocks_in m.pair u) m q ≡ false)
+    → AreTold m x old w → AreTold m u old w × AreTold m l mid w
+told_parts m x u l old mid w e k apart h = (
+  λ q t. h q (piece_of_first (blocks_in m.pair u) (blocks_in m.pair l) (blocks_in m.pair x) m q e t),
+  λ q t. k q (apart q t) ∙ h q (piece_of_second (blocks_in m.pair u) (blocks_in m.pair l) (blocks_in m.pair x) m q e t),
+)
 
 -- ---- how many
 
-here_it_is : (x : Block) (zs : List Block) (m : Numbered) → zs ≡ x ∷ [] → is_piece zs m (x, m) ≡ true
-here_it_is x zs m e = ap (λ (us : List Block). is_piece us m (x, m)) e ∙ sym (key_is_piece x m (x, m)) ∙ piece_self (x, m)
+here_it_is : (m : Numbered) (x : Block) → blocks_in m.pair x ≡ x ∷ [] → is_piece (blocks_in m.pair x) m (x, m) ≡ true
+here_it_is m x e = ap (λ (us : List Block). is_piece us m (x, m)) e ∙ sym (key_is_piece x m (x, m)) ∙ piece_self (x, m)
 
-pub count_put_here : (x : Block) (zs : List Block) (m : Numbered) (old new : List Piece) (added : Bool) → zs ≡ x ∷ [] → added ≡ not (has_piece old (x, m))
-    → length new ≡ length old + cond added 1 0 → LacksPieces zs m old → length new ≡ length old + length zs
-count_put_here x zs m old new added e a l h =
-    let is_new : added ≡ true = a ∙ ap not (h (x, m) (here_it_is x zs m e)) in
-    l ∙ ap (λ b. length old + cond b 1 0) is_new ∙ sym (ap (λ (us : List Block). length old + length us) e)
+pub count_put_here : (m : Numbered) (x : Block) (old new : List Piece) (added : Bool) → lies_within (first_row m.pair) (last_row m.pair) x ≡ true → added ≡ not (has_piece old (x, m))
+    → length new ≡ length old + cond added 1 0 → LacksPieces (blocks_in m.pair x) m old → length new ≡ length old + length (blocks_in m.pair x)
+count_put_here m x old new added t a n h =
+    let e = here m x t in
+    let is_new : added ≡ true = a ∙ ap not (h (x, m) (here_it_is m x e)) in
+    n ∙ ap (λ b. length old + cond b 1 0) is_new ∙ sym (ap (λ (us : List Block). length old + length us) e)
 
-pub count_put_both : (xs ys zs : List Block) (m : Numbered) (old mid new : List Piece) → zs ≡ xs ++ ys
-    → (LacksPieces xs m old → length mid ≡ length old + length xs)
-    → (LacksPieces ys m mid → length new ≡ length mid + length ys)
-    → ((q : Piece) → is_piece xs m q ≡ false → has_piece mid q ≡ has_piece old q)
-    → ((q : Piece) → is_piece ys m q ≡ true → is_piece xs m q ≡ false)
-    → LacksPieces zs m old → length new ≡ length old + length zs
-count_put_both xs ys zs m old mid new e f g k apart h =
-    let upper = f (λ q t. h q (piece_of_first xs ys zs m q e t)) in
-    let lower = g (λ q t. k q (apart q t) ∙ h q (piece_of_second xs ys zs m q e t)) in
-    let long : length zs ≡ length xs + length ys = ap (λ (us : List Block). length us) e ∙ length-append xs ys in
-    omega (arith, upper, lower, long)
+pub count_taken_here : (m : Numbered) (x : Block) (old new : List Piece) (taken : Bool) → lies_within (first_row m.pair) (last_row m.pair) x ≡ true → taken ≡ has_piece old (x, m)
+    → length new + cond taken 1 0 ≡ length old → HasPieces (blocks_in m.pair x) m old → length old ≡ length new + length (blocks_in m.pair x)
+count_taken_here m x old new taken t a n h =
+    let e = here m x t in
+    let is_there : taken ≡ true = a ∙ h (x, m) (here_it_is m x e) in
+    sym n ∙ ap (λ b. length new + cond b 1 0) is_there ∙ sym (ap (λ (us : List Block). length new + length us) e)
+
+long_halves : (m : Numbered) (x u l : Block) → AreHalves m x u l → length (blocks_in m.pair x) ≡ length (blocks_in m.pair u) + length (blocks_in m.pair l)
+long_halves m x u l e = ap (λ (us : List Block). length us) e ∙ length-append (blocks_in m.pair u) (blocks_in m.pair l)
+
+pub count_put_both : (m : Numbered) (x u l : Block) (old mid new : List Piece) → AreHalves m x u l
+    → (LacksPieces (blocks_in m.pair u) m old → length mid ≡ length old + length (blocks_in m.pair u))
+    → (LacksPieces (blocks_in m.pair l) m mid → length new ≡ length mid + length (blocks_in m.pair l))
+    → KeepsOthers m u old mid → ((q : Piece) → is_piece (blocks_in m.pair l) m q ≡ true → is_piece (blocks_in m.pair u) m q ≡ false)
+    → LacksPieces (blocks_in m.pair x) m old → length new ≡ length old + length (blocks_in m.pair x)
+count_put_both m x u l old mid new e f g k apart h =
+    let parts = told_parts m x u l old mid false e k apart h in
+    omega (arith, f parts.0, g parts.1, long_halves m x u l e)
+
+pub count_taken_both : (m : Numbered) (x u l : Block) (old mid new : List Piece) → AreHalves m x u l
+    → (HasPieces (blocks_in m.pair u) m old → length old ≡ length mid + length (blocks_in m.pair u))
+    → (HasPieces (blocks_in m.pair l) m mid → length mid ≡ length new + length (blocks_in m.pair l))
+    → KeepsOthers m u old mid → ((q : Piece) → is_piece (blocks_in m.pair l) m q ≡ true → is_piece (blocks_in m.pair u) m q ≡ false)
+    → HasPieces (blocks_in m.pair x) m old → length old ≡ length new + length (blocks_in m.pair x)
+count_taken_both m x u l old mid new e f g k apart h =
+    let parts = told_parts m x u l old mid true e k apart h in
+    omega (arith, f parts.0, g parts.1, long_halves m x u l e)
 
 pub count_none : (zs : List Block) (ks : List Piece) → zs ≡ [] → length ks ≡ length ks + length zs
 count_none zs ks e = let none : length zs ≡ 0 = ap (λ (us : List Block). length us) e in omega (arith, none)
-
-pub count_taken_here : (x : Block) (zs : List Block) (m : Numbered) (old new : List Piece) (taken : Bool) → zs ≡ x ∷ [] → taken ≡ has_piece old (x, m)
-    → length new + cond taken 1 0 ≡ length old → HasPieces zs m old → length old ≡ length new + length zs
-count_taken_here x zs m old new taken e a l h =
-    let is_there : taken ≡ true = a ∙ h (x, m) (here_it_is x zs m e) in
-    sym l ∙ ap (λ b. length new + cond b 1 0) is_there ∙ sym (ap (λ (us : List Block). length new + length us) e)
-
-pub count_taken_both : (xs ys zs : List Block) (m : Numbered) (old mid new : List Piece) → zs ≡ xs ++ ys
-    → (HasPieces xs m old → length old ≡ length mid + length xs)
-    → (HasPieces ys m mid → length mid ≡ length new + length ys)
-    → ((q : Piece) → is_piece xs m q ≡ false → has_piece mid q ≡ has_piece old q)
-    → ((q : Piece) → is_piece ys m q ≡ true → is_piece xs m q ≡ false)
-    → HasPieces zs m old → length old ≡ length new + length zs
-count_taken_both xs ys zs m old mid new e f g k apart h =
-    let upper = f (λ q t. h q (piece_of_first xs ys zs m q e t)) in
-    let lower = g (λ q t. k q (apart q t) ∙ h q (piece_of_second xs ys zs m q e t)) in
-    let long : length zs ≡ length xs + length ys = ap (λ (us : List Block). length us) e ∙ length-append xs ys in
-    omega (arith, upper, lower, long)

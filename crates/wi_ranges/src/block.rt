@@ -7,7 +7,7 @@ ghost use Rattle.wi_ranges.specs.Blocks.{block, lies_within, meets, half_with, f
 use crate::pair::Pair;
 
 /// 2^level rows.
-#[derive(Clone, Copy, PartialEq, Eq, PartialOrd, Ord, Debug)]
+#[derive(Clone, Copy, PartialEq, Eq, PartialOrd, Ord)]
 pub struct Block {
     pub(crate) level: u32,
     pub(crate) first: u32,

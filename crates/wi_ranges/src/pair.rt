@@ -9,7 +9,7 @@ ghost use Rattle.wi_ranges.specs.Index.{lowest};
 use wi_values::{Address, Rect};
 
 /// A rectangle, by its corners, and a cell that reads it.
-#[derive(Clone, Copy, PartialEq, Eq, PartialOrd, Ord, Debug)]
+#[derive(Clone, Copy, PartialEq, Eq, PartialOrd, Ord)]
 pub struct Pair {
     pub(crate) first: Address,
     pub(crate) last: Address,
@@ -17,7 +17,7 @@ pub struct Pair {
 }
 
 /// One of the pairs that are equal, by its number among them, which is counted from 0.
-#[derive(Clone, Copy, PartialEq, Eq, PartialOrd, Ord, Debug)]
+#[derive(Clone, Copy, PartialEq, Eq, PartialOrd, Ord)]
 pub struct Numbered {
     pub(crate) pair: Pair,
     pub(crate) number: u64,

@@ -1,84 +1,64 @@
-use Rattle.std.proofs.Common.{sym, ◌∙◌, arith, false}
+use Rattle.std.proofs.Common.{◌≡◌, [], sym, ◌∙◌, arith, false}
 use Rattle.wi_ranges.specs.Blocks.{blocks_in, first_row, last_row}
-use Rattle.wi_ranges.proofs.BlockLemmas.{blocks_within-here, blocks_within-apart, blocks_within-row, halves_of}
+use Rattle.wi_ranges.proofs.BlockLemmas.{blocks_within-apart, blocks_within-row, halves_of}
 use Rattle.wi_ranges.proofs.Apart.{halves_apart}
-use Rattle.wi_ranges.proofs.PieceLemmas.{count_taken_here, count_taken_both, count_none, gone_here, stays_gone, kept_here, gone_both, kept_both, piece_of_none}
+use Rattle.wi_ranges.proofs.PieceLemmas.{count_taken_here, count_taken_both, count_none, told_here, stays_told, kept_here, told_both, kept_both, piece_of_none}
 use Rattle.wi_ranges.proofs.pieces.+take_out.Goals as goal
 use Rattle.wi_ranges.proofs.pieces.+take_out.Goals.{else-block-gt0-via-then-block-gt0+else-meets, else-block-gt0-via-else-block-gt0}
 
 pub returns-then-lies_within-clause-taken : goal.returns-then-lies_within-clause-taken
 returns-then-lies_within-clause-taken t c =
-    let m = c.args.numbered.now in
-    let p = m.pair in
-    let x = c.args.block.now in
-    gone_here x (blocks_in p x) m c.args.pieces.now.keys c.remove.new.self.keys
-    (blocks_within-here (first_row p) (last_row p) x.level x.first (sym c.lies_within.ensures ∙ c.if-lies_within.true)) (λ q. c.remove.ensures.updates.0 q)
+    told_here c.args.numbered.now c.args.block.now c.args.pieces.now.keys c.remove.new.self.keys false (sym c.lies_within.ensures ∙ c.if-lies_within.true) (λ q. c.remove.ensures.updates.0 q)
 
 pub returns-then-lies_within-clause-kept : goal.returns-then-lies_within-clause-kept
 returns-then-lies_within-clause-kept t c =
-    let m = c.args.numbered.now in
-    let p = m.pair in
-    let x = c.args.block.now in
-    kept_here x (blocks_in p x) m c.args.pieces.now.keys c.remove.new.self.keys false
-    (blocks_within-here (first_row p) (last_row p) x.level x.first (sym c.lies_within.ensures ∙ c.if-lies_within.true)) (λ q. c.remove.ensures.updates.0 q)
+    kept_here c.args.numbered.now c.args.block.now c.args.pieces.now.keys c.remove.new.self.keys false (sym c.lies_within.ensures ∙ c.if-lies_within.true) (λ q. c.remove.ensures.updates.0 q)
 
 pub returns-then-lies_within-clause-gone : goal.returns-then-lies_within-clause-gone
 returns-then-lies_within-clause-gone t c =
-    stays_gone c.args.block.now c.args.numbered.now c.args.pieces.now.keys c.remove.new.self.keys (λ q. c.remove.ensures.updates.0 q)
+    stays_told c.args.numbered.now c.args.block.now c.args.pieces.now.keys c.remove.new.self.keys false (λ q. c.remove.ensures.updates.0 q)
+
+pub returns-then-lies_within-clause-count : goal.returns-then-lies_within-clause-count
+returns-then-lies_within-clause-count t c =
+    count_taken_here c.args.numbered.now c.args.block.now c.args.pieces.now.keys c.remove.new.self.keys c.remove.result (sym c.lies_within.ensures ∙ c.if-lies_within.true) c.remove.ensures.test c.remove.ensures.len
 
 pub returns-then-meets-clause-taken : goal.returns-then-meets-clause-taken
 returns-then-meets-clause-taken t c =
-    let m = c.args.numbered.now in
-    let p = m.pair in
-    let x = c.args.block.now in
-    gone_both (blocks_in p c.upper.result) (blocks_in p c.lower.result) (blocks_in p x) m c.args.pieces.now.keys c.take_out.new.pieces.keys c.take_out-then-meets.new.pieces.keys
-    (halves_of p x c.upper.result c.lower.result c.upper.ensures.value c.lower.ensures.value (sym c.lies_within.ensures ∙ c.if-lies_within.false) c.if-block-gt0.true (sym c.meets.ensures ∙ c.if-meets.true))
+    told_both c.args.numbered.now c.args.block.now c.upper.result c.lower.result c.take_out.new.pieces.keys c.take_out-then-meets.new.pieces.keys false
+    (halves_of c.args.numbered.now.pair c.args.block.now c.upper.result c.lower.result c.upper.ensures.value c.lower.ensures.value (sym c.lies_within.ensures ∙ c.if-lies_within.false) c.if-block-gt0.true (sym c.meets.ensures ∙ c.if-meets.true))
     c.take_out.ensures.taken c.take_out-then-meets.ensures.taken c.take_out-then-meets.ensures.gone
 
 pub returns-then-meets-clause-kept : goal.returns-then-meets-clause-kept
 returns-then-meets-clause-kept t c =
-    let m = c.args.numbered.now in
-    let p = m.pair in
-    let x = c.args.block.now in
-    kept_both (blocks_in p c.upper.result) (blocks_in p c.lower.result) (blocks_in p x) m c.args.pieces.now.keys c.take_out.new.pieces.keys c.take_out-then-meets.new.pieces.keys
-    (halves_of p x c.upper.result c.lower.result c.upper.ensures.value c.lower.ensures.value (sym c.lies_within.ensures ∙ c.if-lies_within.false) c.if-block-gt0.true (sym c.meets.ensures ∙ c.if-meets.true))
+    kept_both c.args.numbered.now c.args.block.now c.upper.result c.lower.result c.args.pieces.now.keys c.take_out.new.pieces.keys c.take_out-then-meets.new.pieces.keys
+    (halves_of c.args.numbered.now.pair c.args.block.now c.upper.result c.lower.result c.upper.ensures.value c.lower.ensures.value (sym c.lies_within.ensures ∙ c.if-lies_within.false) c.if-block-gt0.true (sym c.meets.ensures ∙ c.if-meets.true))
     c.take_out.ensures.kept c.take_out-then-meets.ensures.kept
+
+pub returns-then-meets-clause-count : goal.returns-then-meets-clause-count
+returns-then-meets-clause-count t c =
+    count_taken_both c.args.numbered.now c.args.block.now c.upper.result c.lower.result c.args.pieces.now.keys c.take_out.new.pieces.keys c.take_out-then-meets.new.pieces.keys
+    (halves_of c.args.numbered.now.pair c.args.block.now c.upper.result c.lower.result c.upper.ensures.value c.lower.ensures.value (sym c.lies_within.ensures ∙ c.if-lies_within.false) c.if-block-gt0.true (sym c.meets.ensures ∙ c.if-meets.true))
+    c.take_out.ensures.count c.take_out-then-meets.ensures.count c.take_out.ensures.kept
+    (halves_apart c.args.block.now c.upper.result c.lower.result c.args.numbered.now c.upper.ensures.value c.lower.ensures.value)
 
 pub returns-else-block-gt0-clause-taken : goal.returns-else-block-gt0-clause-taken
 returns-else-block-gt0-clause-taken t c =
     let x = c.args.block.now in
-    let m = c.args.numbered.now in
-    let p = m.pair in
+    let p = c.args.numbered.now.pair in
     let apart = sym c.lies_within.ensures ∙ c.if-lies_within.false in
-    elim c.else-block-gt0.branch [
-      | else-block-gt0-via-then-block-gt0+else-meets w ↦ λ q h. absurd (piece_of_none (blocks_in p x) m q (blocks_within-apart (first_row p) (last_row p) x.level x.first apart (sym w.meets.ensures ∙ w.if-meets.false)) h)
-      | else-block-gt0-via-else-block-gt0 w ↦ λ q h. absurd (piece_of_none (blocks_in p x) m q (blocks_within-row (first_row p) (last_row p) x.level x.first apart (omega (arith, w.if-block-gt0.false))) h)
-    ]
-
-pub returns-then-lies_within-clause-count : goal.returns-then-lies_within-clause-count
-returns-then-lies_within-clause-count t c =
-    let m = c.args.numbered.now in
-    let p = m.pair in
-    let x = c.args.block.now in
-    count_taken_here x (blocks_in p x) m c.args.pieces.now.keys c.remove.new.self.keys c.remove.result
-    (blocks_within-here (first_row p) (last_row p) x.level x.first (sym c.lies_within.ensures ∙ c.if-lies_within.true)) c.remove.ensures.test c.remove.ensures.len
-
-pub returns-then-meets-clause-count : goal.returns-then-meets-clause-count
-returns-then-meets-clause-count t c =
-    let m = c.args.numbered.now in
-    let p = m.pair in
-    let x = c.args.block.now in
-    count_taken_both (blocks_in p c.upper.result) (blocks_in p c.lower.result) (blocks_in p x) m c.args.pieces.now.keys c.take_out.new.pieces.keys c.take_out-then-meets.new.pieces.keys
-    (halves_of p x c.upper.result c.lower.result c.upper.ensures.value c.lower.ensures.value (sym c.lies_within.ensures ∙ c.if-lies_within.false) c.if-block-gt0.true (sym c.meets.ensures ∙ c.if-meets.true))
-    c.take_out.ensures.count c.take_out-then-meets.ensures.count c.take_out.ensures.kept
-    (halves_apart x c.upper.result c.lower.result m c.upper.ensures.value c.lower.ensures.value)
+    let none : blocks_in p x ≡ [] = elim c.else-block-gt0.branch [
+      | else-block-gt0-via-then-block-gt0+else-meets w ↦ blocks_within-apart (first_row p) (last_row p) x.level x.first apart (sym w.meets.ensures ∙ w.if-meets.false)
+      | else-block-gt0-via-else-block-gt0 w ↦ blocks_within-row (first_row p) (last_row p) x.level x.first apart (omega (arith, w.if-block-gt0.false))
+    ] in
+    λ q h. absurd (piece_of_none (blocks_in p x) c.args.numbered.now q none h)
 
 pub returns-else-block-gt0-clause-count : goal.returns-else-block-gt0-clause-count
 returns-else-block-gt0-clause-count t c =
     let x = c.args.block.now in
     let p = c.args.numbered.now.pair in
     let apart = sym c.lies_within.ensures ∙ c.if-lies_within.false in
-    elim c.else-block-gt0.branch [
-      | else-block-gt0-via-then-block-gt0+else-meets w ↦ λ h. count_none (blocks_in p x) c.args.pieces.now.keys (blocks_within-apart (first_row p) (last_row p) x.level x.first apart (sym w.meets.ensures ∙ w.if-meets.false))
-      | else-block-gt0-via-else-block-gt0 w ↦ λ h. count_none (blocks_in p x) c.args.pieces.now.keys (blocks_within-row (first_row p) (last_row p) x.level x.first apart (omega (arith, w.if-block-gt0.false)))
-    ]
+    let none : blocks_in p x ≡ [] = elim c.else-block-gt0.branch [
+      | else-block-gt0-via-then-block-gt0+else-meets w ↦ blocks_within-apart (first_row p) (last_row p) x.level x.first apart (sym w.meets.ensures ∙ w.if-meets.false)
+      | else-block-gt0-via-else-block-gt0 w ↦ blocks_within-row (first_row p) (last_row p) x.level x.first apart (omega (arith, w.if-block-gt0.false))
+    ] in
+    λ h. count_none (blocks_in p x) c.args.pieces.now.keys none
