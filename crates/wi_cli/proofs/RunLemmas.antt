@@ -1,12 +1,12 @@
 -- Runs, one after another.
-use Rattle.std.proofs.Common.{◌≡◌, ℕ, List, [], ◌∷◌, ◌++◌, refl, sym, ap, ◌∙◌, subst, Option, None, Some, Err, append_assoc, append-nil, inl, inr}
+use Rattle.std.proofs.Common.{◌≡◌, ℕ, List, [], ◌∷◌, ◌++◌, refl, sym, ap, ◌∙◌, subst, Option, None, Some, Ok, Err, append_assoc, append-nil, inl, inr}
 use Rattle.std.specs.List.{concat}
 use Rattle.std.specs.Option.{option_to_list}
 use Rattle.wi_scenarios.specs.declared.refusal.Refusal.{Refusal}
 use Rattle.wi_scenarios.specs.declared.refusal.Refusal.TheVariants.{Memory, BadCommand, BadLine, OutOfSheet, Syntax, TooDeep, NumberRange, TooLong, Full, TooLarge, EditLimit}
-use Rattle.wi_cli.specs.Reply.{refused, reply, after}
+use Rattle.wi_cli.specs.Reply.{refused}
 use Rattle.wi_scenarios.specs.State.{State}
-use Rattle.wi_scenarios.specs.Step.{Command, step}
+use Rattle.wi_scenarios.specs.Step.{Command, IsStep}
 use Rattle.wi_cli.specs.declared.answer.Answer.{Answer}
 use Rattle.wi_cli.specs.declared.answer.Answer.TheVariants.{Passed, Done, Refused}
 use Rattle.wi_cli.specs.Run.{MayAnswer, Runs, Writes}
@@ -36,8 +36,8 @@ Writes-none s = record { replies = []; run = refl; joined = refl }
 pub Writes-one : (s : State) (c : Command) (told : List ℕ) (t : State) → MayAnswer s c told t → Writes s (c ∷ []) told t
 Writes-one s c told t h = record { replies = told ∷ []; run = (t, h, refl); joined = sym (append-nil told) }
 
-answered_by : (s : State) (c : Command) (e : Refusal) (t : State) → t ≡ s → step s c ≡ Err e → MayAnswer s c (refused e) t
-answered_by s c e t h k = inl (record { reply_is = sym (ap reply k); state_is = h ∙ sym (ap (after s) k) })
+answered_by : (s : State) (c : Command) (e : Refusal) (t : State) → t ≡ s → IsStep s c (Err e) → MayAnswer s c (refused e) t
+answered_by s c e t h k = inl (record { answer = Err e; is_step = k; reply_is = refl; state_is = h })
 
 refused_is : (s : State) (c : Command) (e : Refusal) (t : State) → t ≡ s → RefusedAs e s c → MayAnswer s c (refused e) t
 refused_is s c Memory t h k = inr (record { reply_is = refl; state_is = h; may = k })
@@ -58,5 +58,5 @@ Writes-told None Passed s t out h = subst (λ (x : State). Writes s [] [] x) (sy
 Writes-told None Done s t out h = absurd h
 Writes-told None (Refused e) s t out h = absurd h
 Writes-told (Some c) Passed s t out h = absurd h
-Writes-told (Some c) Done s t out h = Writes-one s c _ t (inl (record { reply_is = sym (ap reply h); state_is = sym (ap (after s) h) }))
+Writes-told (Some c) Done s t out h = Writes-one s c _ t (inl (record { answer = Ok (t, out); is_step = h; reply_is = refl; state_is = refl }))
 Writes-told (Some c) (Refused e) s t out h = Writes-one s c (refused e) t (refused_is s c e t h.0 h.1)

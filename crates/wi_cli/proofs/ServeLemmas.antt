@@ -1,10 +1,10 @@
 -- What is told of a line that was served.
-use Rattle.std.proofs.Common.{◌≡◌, ℕ, true, List, [], ◌++◌, refl, sym, ap, ◌∙◌, subst, Option, None, Some, Ok, Err}
+use Rattle.std.proofs.Common.{◌≡◌, ℕ, List, [], ◌++◌, refl, sym, ap, ◌∙◌, subst, Option, None, Some, Ok, Err}
 use Rattle.wi_scenarios.specs.declared.refusal.Refusal.{Refusal}
 use Rattle.wi_scenarios.specs.declared.refusal.Refusal.TheVariants.{Memory, BadCommand, BadLine, OutOfSheet, Syntax, TooDeep, NumberRange, TooLong, Full, TooLarge, EditLimit}
 use Rattle.wi_scenarios.specs.State.{State}
 use Rattle.wi_scenarios.specs.Answer as answer
-use Rattle.wi_scenarios.specs.Step.{Command, step, may_lack_memory}
+use Rattle.wi_scenarios.specs.Step.{Command, IsStep, MayLackMemory}
 use Rattle.wi_scenarios.specs.Step as spell
 use Rattle.wi_cli.specs.declared.answer.Answer.TheVariants.{Passed, Done, Refused}
 use Rattle.wi_cli.specs.declared.command.Command.{Command as ReadCommand}
@@ -16,16 +16,16 @@ pub told_passed : (o : Option Command) (s : State) (out : List ℕ) → o ≡ No
 told_passed o s out e = subst (λ x. Told x Passed s s out) (sym e) refl
 
 pub told_done : (o : Option Command) (c : Command) (s t : State) (out out' records : List ℕ) → o ≡ Some c → out ≡ [] → out' ≡ out ++ records
-    → answer.Serves (step s c) (Ok tt) s t records → Told o Done s t out'
+    → answer.Serves (IsStep s c) (Ok tt) s t records → Told o Done s t out'
 told_done o c s t out out' records e none grown h =
-    subst (λ x. Told x Done s t out') (sym e) (h ∙ ap (λ x. Ok (t, x)) (sym (grown ∙ ap (λ x. x ++ records) none)))
+    subst (λ x. Told x Done s t out') (sym e) (subst (λ x. IsStep s c (Ok (t, x))) (sym (grown ∙ ap (λ x. x ++ records) none)) h)
 
-may : (d : ReadCommand) (s : State) → answer.may_grow (step s (command_of d)) ≡ true → may_lack_memory s (command_of d) ≡ true
+may : (d : ReadCommand) (s : State) → answer.MayGrow (IsStep s (command_of d)) → MayLackMemory s (command_of d)
 may (read.Set at content) s h = h
 may (read.Show area) s h = h
 may (read.Formula at) s h = h
 
-refuses : (e : Refusal) (d : ReadCommand) (s : State) → answer.MayRefuse e (step s (command_of d)) → RefusedAs e s (command_of d)
+refuses : (e : Refusal) (d : ReadCommand) (s : State) → answer.MayRefuse e (IsStep s (command_of d)) → RefusedAs e s (command_of d)
 refuses Memory d s h = may d s h
 refuses BadCommand d s h = h
 refuses BadLine d s h = h
@@ -39,11 +39,10 @@ refuses TooLarge d s h = h
 refuses EditLimit d s h = h
 
 pub told_refused : (o : Option Command) (d : ReadCommand) (e : Refusal) (s t : State) (out records : List ℕ) → o ≡ Some (command_of d)
-    → answer.Serves (step s (command_of d)) (Err e) s t records → Told o (Refused e) s t out
+    → answer.Serves (IsStep s (command_of d)) (Err e) s t records → Told o (Refused e) s t out
 told_refused o d e s t out records same h = subst (λ x. Told x (Refused e) s t out) (sym same) (h.1, refuses e d s h.0)
 
 bad : (e : Refusal) (s : State) → (e ≡ Memory → ⊥) → RefusedAs e s (spell.Refused e)
-unfolding step
 bad Memory s h = absurd (h refl)
 bad BadCommand s h = refl
 bad BadLine s h = refl

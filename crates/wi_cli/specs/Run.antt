@@ -1,21 +1,24 @@
 -- A run of commands.
-use Rattle.std.specs.Prelude.{◌≡◌, ℕ, true, List, [], ◌∷◌, ◌⊎◌}
+use Rattle.std.specs.Prelude.{◌≡◌, ℕ, List, [], ◌∷◌, ◌⊎◌}
 use Rattle.std.specs.List.{concat}
 use Rattle.wi_scenarios.specs.declared.refusal.Refusal.TheVariants.{Memory}
 use Rattle.wi_scenarios.specs.State.{State}
-use Rattle.wi_scenarios.specs.Step.{Command, step, may_lack_memory}
+use Rattle.wi_scenarios.specs.Answer.{Answer}
+use Rattle.wi_scenarios.specs.Step.{Command, IsStep, MayLackMemory}
 use Rattle.wi_cli.specs.Reply.{refused, reply, after}
 
 -- the command is answered by its step
 pub record IsAnswered (s : State) (c : Command) (told : List ℕ) (t : State) : Type 0 where
-  pub reply_is : told ≡ reply (step s c)
-  pub state_is : t ≡ after s (step s c)
+  pub answer : Answer
+  pub is_step : IsStep s c answer
+  pub reply_is : told ≡ reply answer
+  pub state_is : t ≡ after s answer
 
 -- or refused for want of memory, with the state as it was
 pub record IsUnserved (s : State) (c : Command) (told : List ℕ) (t : State) : Type 0 where
   pub reply_is : told ≡ refused Memory
   pub state_is : t ≡ s
-  pub may : may_lack_memory s c ≡ true
+  pub may : MayLackMemory s c
 
 abbrev pub MayAnswer : State → Command → List ℕ → State → Type 0
 MayAnswer s c told t = IsAnswered s c told t ⊎ IsUnserved s c told t

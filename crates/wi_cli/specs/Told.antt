@@ -1,17 +1,17 @@
 -- What is told of one line.
-use Rattle.std.specs.Prelude.{◌≡◌, ℕ, true, List, [], ◌++◌, Option, Some, None, Ok, Err}
+use Rattle.std.specs.Prelude.{◌≡◌, ℕ, List, [], ◌++◌, Option, Some, None, Ok, Err}
 use Rattle.wi_scenarios.specs.declared.refusal.Refusal.{Refusal}
 use Rattle.wi_scenarios.specs.declared.refusal.Refusal.TheVariants.{Memory}
 use Rattle.wi_scenarios.specs.State.{State}
-use Rattle.wi_scenarios.specs.Step.{Command, step, may_lack_memory}
+use Rattle.wi_scenarios.specs.Step.{Command, IsStep, MayLackMemory}
 use Rattle.wi_cli.specs.declared.answer.Answer.{Answer}
 use Rattle.wi_cli.specs.declared.answer.Answer.TheVariants.{Passed, Done, Refused}
 use Rattle.wi_cli.specs.Reply.{refused, ok_line}
 
 -- want of memory may refuse some commands; another refusal is the step's
 abbrev pub RefusedAs : Refusal → State → Command → Type 0
-RefusedAs Memory s c = may_lack_memory s c ≡ true
-RefusedAs e s c = step s c ≡ Err e
+RefusedAs Memory s c = MayLackMemory s c
+RefusedAs e s c = IsStep s c (Err e)
 
 -- the line is passed over, or its command is answered by the step, or by want of memory
 abbrev pub Told : Option Command → Answer → State → State → List ℕ → Type 0
@@ -19,7 +19,7 @@ Told None Passed s t out = t ≡ s
 Told None Done s t out = ⊥
 Told None (Refused e) s t out = ⊥
 Told (Some c) Passed s t out = ⊥
-Told (Some c) Done s t out = step s c ≡ Ok (t, out)
+Told (Some c) Done s t out = IsStep s c (Ok (t, out))
 Told (Some c) (Refused e) s t out = (t ≡ s) × RefusedAs e s c
 
 -- the bytes that tell it

@@ -3,7 +3,7 @@
 ghost use Rattle.std.specs.Prelude.{◌≡◌, ◌++◌, ◌+◌, ◌≤◌, [], List, ℕ, OnOk, MatchResult, Ok, Err, false, true, vec_capacity};
 ghost use Rattle.std.specs.Io.KnownBytes.{Appends, Consumes, IsAtEnd};
 ghost use Rattle.wi_scenarios.specs.Answer.{Serves};
-ghost use Rattle.wi_scenarios.specs.Step.{step};
+ghost use Rattle.wi_scenarios.specs.Step.{IsStep};
 ghost use Rattle.wi_cli.specs.Script.{line_command};
 ghost use Rattle.wi_cli.specs.Spelling.{command_of};
 ghost use Rattle.wi_cli.specs.Told.{Told};
@@ -24,14 +24,13 @@ use wi_scenarios::{Refusal, Workbook};
 pub const MAX_LINES: u32 = 1_000_000;
 
 /// Does a command, and appends its records.
-#[tactic(auto, unfolding(wi_scenarios::specs::Step::step))]
 fn execute<C: Calculator>(
     command: Command<'_>,
     book: &mut Workbook<C>,
     out: &mut Vec<u8>,
 ) -> Result<(), Refusal>
     ensures { (records : List ℕ) × (out.new.items ≡ out.old.items ++ records)
-        × Serves (step book.old (command_of command.entry)) result book.old book.new records }
+        × Serves (IsStep book.old (command_of command.entry)) result book.old book.new records }
 {
     match command {
         Command::Set { at, content } => book.set(at, content),

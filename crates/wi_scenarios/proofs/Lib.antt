@@ -1,1 +1,3 @@
+pub mod SetLemmas
 pub mod ShowLemmas
+pub mod StepLemmas

@@ -66,12 +66,18 @@ abbrev pub may_grow : Answer → Bool
 may_grow (Ok a) = true
 may_grow (Err e) = not (is_found_before_growth e)
 
+-- The answer is one before which something may grow.
+pub record MayGrow (IsAnswer : Answer → Type 0) : Type 0 where
+  pub answer : Answer
+  pub is_answer : IsAnswer answer
+  pub grows : may_grow answer ≡ true
+
 -- a refusal for want of memory may stand in place of an answer before which something may grow, another only as the answer
-abbrev pub MayRefuse : Refusal → Answer → Type 0
-MayRefuse Memory a = may_grow a ≡ true
-MayRefuse e a = a ≡ Err e
+abbrev pub MayRefuse : Refusal → (Answer → Type 0) → Type 0
+MayRefuse Memory IsAnswer = MayGrow IsAnswer
+MayRefuse e IsAnswer = IsAnswer (Err e)
 
 -- The call did as the answer says and wrote these records, or it refused, wrote none and left the state as it was.
-abbrev pub Serves : Answer → Result (Unit {0}) Refusal → State → State → List ℕ → Type 0
-Serves a (Ok _) old new records = a ≡ Ok (new, records)
-Serves a (Err e) old new records = MayRefuse e a × (new ≡ old) × (records ≡ [])
+abbrev pub Serves : (Answer → Type 0) → Result (Unit {0}) Refusal → State → State → List ℕ → Type 0
+Serves IsAnswer (Ok _) old new records = IsAnswer (Ok (new, records))
+Serves IsAnswer (Err e) old new records = MayRefuse e IsAnswer × (new ≡ old) × (records ≡ [])

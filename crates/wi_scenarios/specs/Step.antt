@@ -1,10 +1,10 @@
 -- What one command does.
-use Rattle.std.specs.Prelude.{ℕ, Bool, false, List, Err}
+use Rattle.std.specs.Prelude.{◌≡◌, ℕ, List, Err}
 use Rattle.wi_values.specs.Address.{Area}
 use Rattle.wi_scenarios.specs.declared.refusal.Refusal.{Refusal}
 use Rattle.wi_scenarios.specs.State.{State}
-use Rattle.wi_scenarios.specs.Answer.{Answer, may_grow}
-use Rattle.wi_scenarios.specs.Set.{set_step}
+use Rattle.wi_scenarios.specs.Answer.{Answer, MayGrow}
+use Rattle.wi_scenarios.specs.Set.{IsSetStep}
 use Rattle.wi_scenarios.specs.Show.{show_step}
 use Rattle.wi_scenarios.specs.Formula.{formula_step}
 
@@ -15,13 +15,14 @@ pub data Command : Type 0 where
   Formula : ℕ → Command
   Refused : Refusal → Command
 
-unfoldable pub step : State → Command → Answer
-step s (Set at content) = set_step s at content
-step s (Show area) = show_step s area
-step s (Formula at) = formula_step s at
-step s (Refused e) = Err e
+-- the command has this answer
+abbrev pub IsStep : State → Command → Answer → Type 0
+IsStep s (Set at content) a = IsSetStep s at content a
+IsStep s (Show area) a = show_step s area ≡ a
+IsStep s (Formula at) a = formula_step s at ≡ a
+IsStep s (Refused e) a = Err e ≡ a
 
--- whether a command may be refused for want of memory: not where it is refused before anything grows
-abbrev pub may_lack_memory : State → Command → Bool
-may_lack_memory s (Refused e) = false
-may_lack_memory s c = may_grow (step s c)
+-- the command may be refused for want of memory: something may grow before its answer, and it is no line that is refused
+abbrev pub MayLackMemory : State → Command → Type 0
+MayLackMemory s (Refused e) = ⊥
+MayLackMemory s c = MayGrow (IsStep s c)

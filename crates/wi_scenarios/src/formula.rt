@@ -4,7 +4,8 @@ ghost use Rattle.std.specs.Prelude.{◌≡◌, ◌++◌, ℕ, List, Some, OnOk, 
 ghost use Rattle.wi_parser.specs.Sheet.{content_of};
 ghost use Rattle.wi_scenarios.specs.State.{state_of};
 ghost use Rattle.wi_scenarios.specs.Answer.{Serves};
-ghost use Rattle.wi_scenarios.specs.Formula.{constant_text, content_text, formula_step};
+ghost use Rattle.wi_scenarios.specs.Formula.{constant_text, content_text};
+ghost use Rattle.wi_scenarios.specs.Step.{Formula, IsStep};
 
 use crate::refusal::Refusal;
 use std::alloc::{AllocError, Global};
@@ -62,7 +63,7 @@ pub fn formula<C: Calculator>(
 ) -> Result<(), Refusal>
     ensures { let state = state_of (C.stored calculator.now) in
         (records : List ℕ) × (out.new.items ≡ out.old.items ++ records)
-        × Serves (formula_step state at) result state state records }
+        × Serves (IsStep state (Formula at)) result state state records }
 {
     let mut address = String::new(alloc);
     at.push_text(&mut address)?;

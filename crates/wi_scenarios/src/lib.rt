@@ -2,6 +2,7 @@
 #![tactic(auto)]
 
 mod formula;
+pub mod laws;
 mod refusal;
 mod set;
 mod show;

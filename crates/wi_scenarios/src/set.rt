@@ -3,7 +3,7 @@
 ghost use Rattle.std.specs.Prelude.{[]};
 ghost use Rattle.wi_scenarios.specs.State.{state_of};
 ghost use Rattle.wi_scenarios.specs.Answer.{Serves};
-ghost use Rattle.wi_scenarios.specs.Set.{set_step};
+ghost use Rattle.wi_scenarios.specs.Step.{Set, IsStep};
 
 use crate::refusal::Refusal;
 use std::alloc::Global;
@@ -12,6 +12,7 @@ use wi_propagate::Calculator;
 use wi_values::Address;
 
 /// Puts a content into a cell.
+#[tactic(auto, using(crate::proofs::SetLemmas::set_answered, crate::proofs::SetLemmas::set_served))]
 pub fn set<C: Calculator>(
     alloc: Global,
     calculator: &mut C,
@@ -19,7 +20,7 @@ pub fn set<C: Calculator>(
     content: &str,
 ) -> Result<(), Refusal>
     ensures { let old = state_of (C.stored calculator.old) in
-        Serves (set_step old at content.now) result old (state_of (C.stored calculator.new)) [] }
+        Serves (IsStep old (Set at content.now)) result old (state_of (C.stored calculator.new)) [] }
 {
     if content.is_empty() {
         return Err(Refusal::BadCommand);

@@ -6,7 +6,8 @@ ghost use Rattle.std.specs.Io.{StartsWith};
 ghost use Rattle.wi_values.specs.Address.{rows, rows_in};
 ghost use Rattle.wi_scenarios.specs.State.{state_of};
 ghost use Rattle.wi_scenarios.specs.Answer.{Serves};
-ghost use Rattle.wi_scenarios.specs.Show.{text_at, row_shown, show_step};
+ghost use Rattle.wi_scenarios.specs.Show.{text_at, row_shown};
+ghost use Rattle.wi_scenarios.specs.Step.{Show, IsStep};
 
 use crate::refusal::Refusal;
 use std::alloc::{AllocError, Global};
@@ -82,7 +83,7 @@ pub fn show<C: Calculator>(
 ) -> Result<(), Refusal>
     ensures { let old = state_of (C.stored calculator.old) in
         (records : List ℕ) × (out.new.items ≡ out.old.items ++ records)
-        × Serves (show_step old area) result old (state_of (C.stored calculator.new)) records }
+        × Serves (IsStep old (Show area)) result old (state_of (C.stored calculator.new)) records }
 {
     if area.size() > MAX_AREA {
         return Err(Refusal::TooLarge);

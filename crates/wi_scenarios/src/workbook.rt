@@ -3,9 +3,7 @@
 ghost use Rattle.std.specs.Prelude.{◌≡◌, ◌++◌, ℕ, List, [], IfOk};
 ghost use Rattle.wi_scenarios.specs.State.{state_of};
 ghost use Rattle.wi_scenarios.specs.Answer.{Serves};
-ghost use Rattle.wi_scenarios.specs.Set.{set_step};
-ghost use Rattle.wi_scenarios.specs.Show.{show_step};
-ghost use Rattle.wi_scenarios.specs.Formula.{formula_step};
+ghost use Rattle.wi_scenarios.specs.Step.{Set, Show, Formula, IsStep};
 
 use crate::formula::formula;
 use crate::refusal::Refusal;
@@ -53,7 +51,7 @@ impl<C: Calculator> Workbook<C> {
 
     /// Puts a content into a cell. An empty one is refused as `BadCommand`.
     pub fn set(&mut self, at: Address, content: &str) -> Result<(), Refusal>
-        ensures { Serves (set_step self.old at content.now) result self.old self.new [] }
+        ensures { Serves (IsStep self.old (Set at content.now)) result self.old self.new [] }
     {
         set(self.alloc, &mut self.calculator, at, content)
     }
@@ -61,7 +59,7 @@ impl<C: Calculator> Workbook<C> {
     /// Appends the shown texts of a rectangle's cells, a record for each row.
     pub fn show(&mut self, area: Rect, out: &mut Vec<u8>) -> Result<(), Refusal>
         ensures { (records : List ℕ) × (out.new.items ≡ out.old.items ++ records)
-            × Serves (show_step self.old area) result self.old self.new records }
+            × Serves (IsStep self.old (Show area)) result self.old self.new records }
     {
         show(self.alloc, &mut self.calculator, area, out)
     }
@@ -70,7 +68,7 @@ impl<C: Calculator> Workbook<C> {
     /// another constant as shown, and empty where there is none.
     pub fn formula_text(&self, at: Address, out: &mut Vec<u8>) -> Result<(), Refusal>
         ensures { (records : List ℕ) × (out.new.items ≡ out.old.items ++ records)
-            × Serves (formula_step self.now at) result self.now self.now records }
+            × Serves (IsStep self.now (Formula at)) result self.now self.now records }
     {
         formula(self.alloc, &self.calculator, at, out)
     }
