@@ -1,5 +1,5 @@
 -- A run of a script so far, and how it may end.
-use Rattle.std.proofs.Common.{◌≡◌, ℕ, ◌+◌, ◌-◌, ◌<◌, ◌≤◌, Bool, true, false, ◌||◌, cond, eqb, ltb, List, [], ◌∷◌, ◌++◌, length, take, refl, sym, ap, ◌∙◌, subst, Option, None, Some, Result, Ok, Err, append_assoc, append-nil, length-append, inl, inr, arith}
+use Rattle.std.proofs.Common.{◌≡◌, ℕ, ◌+◌, ◌-◌, ◌<◌, ◌≤◌, Bool, true, false, ◌||◌, cond, eqb, ltb, List, [], ◌∷◌, ◌++◌, length, take, refl, sym, ap, ◌∙◌, subst, Option, None, Some, Result, Ok, Err, IfErr, append_assoc, append-nil, length-append, inl, inr, arith}
 use Rattle.std.specs.List.{concat}
 use Rattle.std.specs.Option.{option_to_list}
 use Rattle.std.specs.Io.KnownBytes.{Appends, Keeps, Consumes, IsAtEnd, prepend_known}
@@ -196,14 +196,14 @@ over left b p c q s m t w x y count allowed may most h k =
 abbrev pub Ends : Result (Unit {0}) RunFault → Option (List ℕ) → Option (List ℕ) → State → State → Option (List ℕ) → Option (List ℕ) → Type 0
 Ends r left q s t given given' = (input : List ℕ) × (out : List ℕ) × Consumes left q input × Appends given given' out × Outcome r q s t input out
 
-pub ends_ok : (left : Option (List ℕ)) (b : List ℕ) (p : Option (List ℕ)) (c : List ℕ) (q : Option (List ℕ)) (s m t : State) (w x y z : Option (List ℕ)) (count : ℕ) (allowed : Bool)
+ends_ok : (left : Option (List ℕ)) (b : List ℕ) (p : Option (List ℕ)) (c : List ℕ) (q : Option (List ℕ)) (s m t : State) (w x y z : Option (List ℕ)) (count : ℕ) (allowed : Bool)
     → (allowed ≡ true → count < 1000000) → count ≤ 1000000
     → IsGoing left b p s m w x count → Turned allowed false b p c q m t x y → Keeps y z → (u : Unit {0}) → Ends (Ok u) left q s t w z
 ends_ok left b p c q s m t w x y z count allowed may most h k e u =
     let o = over left b p c q s m t w x y count allowed may most h k in
     (o.input, o.out, o.taken, Appends-kept w y z o.out o.written e, (o.few, o.writes))
 
-pub ends_flush : (left : Option (List ℕ)) (b : List ℕ) (p : Option (List ℕ)) (c : List ℕ) (q : Option (List ℕ)) (s m t : State) (w x y z : Option (List ℕ)) (count : ℕ) (allowed : Bool)
+ends_flush : (left : Option (List ℕ)) (b : List ℕ) (p : Option (List ℕ)) (c : List ℕ) (q : Option (List ℕ)) (s m t : State) (w x y z : Option (List ℕ)) (count : ℕ) (allowed : Bool)
     → (allowed ≡ true → count < 1000000) → count ≤ 1000000
     → IsGoing left b p s m w x count → Turned allowed false b p c q m t x y → Keeps y z → Ends (Err Write) left q s t w z
 unfolding all_commands
@@ -230,6 +230,13 @@ ends_flush left b p c q s m t w x y z count allowed may most h k e =
         },
       ),
     )
+
+-- the flush at the end succeeded or failed
+pub ends_sent : (r : Result (Unit {0}) RunFault) (left : Option (List ℕ)) (b : List ℕ) (p : Option (List ℕ)) (c : List ℕ) (q : Option (List ℕ)) (s m t : State) (w x y z : Option (List ℕ)) (count : ℕ)
+    → count ≤ 1000000 → IsGoing left b p s m w x count → Turned (ltb count 1000000) false b p c q m t x y → Keeps y z → IfErr r (λ fault. fault ≡ Write) → Ends r left q s t w z
+ends_sent (Ok u) left b p c q s m t w x y z count most h k e f = ends_ok left b p c q s m t w x y z count (ltb count 1000000) (ltb-true count 1000000) most h k e u
+ends_sent (Err fault) left b p c q s m t w x y z count most h k e f =
+    subst (λ (x : RunFault). Ends (Err x) left q s t w z) (sym f) (ends_flush left b p c q s m t w x y z count (ltb count 1000000) (ltb-true count 1000000) most h k e)
 
 pub ends_read : (left : Option (List ℕ)) (b : List ℕ) (p : Option (List ℕ)) (c : List ℕ) (q : Option (List ℕ)) (s m t : State) (w x y : Option (List ℕ)) (count : ℕ) (allowed : Bool)
     → (allowed ≡ true → count < 1000000) → count ≤ 1000000

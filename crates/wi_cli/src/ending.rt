@@ -36,7 +36,6 @@ impl Ending {
     }
 }
 
-#[tactic(auto, using(crate::proofs::EndingLemmas::is_new))]
 fn new_workbook(alloc: Global) -> Result<Workbook<PlainCalculator>, AllocError>
     ensures { IfOk result (λ book. book ≡ new_state) }
 {

@@ -1,7 +1,7 @@
 //! Runs a script.
 
-ghost use Rattle.std.specs.Prelude.{◌≡◌, ◌++◌, ◌+◌, ◌≤◌, [], List, ℕ, OnOk, MatchResult, Ok, Err, false, true, vec_capacity};
-ghost use Rattle.std.specs.Io.KnownBytes.{Appends, Consumes, IsAtEnd};
+ghost use Rattle.std.specs.Prelude.{◌≡◌, ◌++◌, ◌+◌, ◌≤◌, [], List, ℕ, OnOk, OnErr, IfErr, MatchResult, Ok, Err, false, true, vec_capacity};
+ghost use Rattle.std.specs.Io.KnownBytes.{Appends, Consumes, IsAtEnd, Keeps};
 ghost use Rattle.wi_scenarios.specs.Answer.{Serves};
 ghost use Rattle.wi_scenarios.specs.Step.{IsStep};
 ghost use Rattle.wi_cli.specs.Script.{line_command};
@@ -89,6 +89,21 @@ fn turn<R: Source, W: Sink, C: Calculator>(
     }
 }
 
+/// Sends on what the writer holds back.
+fn send<W: Sink>(writer: &mut W) -> Result<(), RunFault>
+    requires { W.has_failed writer.old ≡ false }
+    ensures bytes { Keeps (W.contents writer.old) (W.contents writer.new) }
+    ensures sent { OnOk result (W.flushed writer.new ≡ true) }
+    ensures works { OnOk result (W.has_failed writer.new ≡ false) }
+    ensures fault { IfErr result (λ e. e ≡ RunFault.Write) }
+    ensures failed { OnErr result (W.has_failed writer.new ≡ true) }
+{
+    match writer.flush() {
+        Ok(()) => Ok(()),
+        Err(_) => Err(RunFault::Write),
+    }
+}
+
 /// Runs a script on a workbook. It takes each line as it comes, serves it and writes its reply, then goes on to the
 /// next; the contract tells what is written, not when. On a fault the replies to the commands before it stand; where a
 /// write failed, the last of them may be cut short, and nothing is served after it.
@@ -132,8 +147,5 @@ pub fn run<R: Source, W: Sink, C: Calculator>(
     )? {
         lines += 1;
     }
-    match writer.flush() {
-        Ok(()) => Ok(()),
-        Err(_) => Err(RunFault::Write),
-    }
+    send(writer)
 }

@@ -47,10 +47,12 @@ rows_more stored stored' area first n m r out before next e more_is same h k =
     ∙ ap (λ xs. before ++ flat_map f xs) (sym more) ∙ ap (λ x. before ++ flat_map f (range_with_len first x)) (sym more_is)
 
 -- all cells of a row
-pub row_done : {X E : Type 0} (bytes : X → List ℕ) (r : Result (Unit {0}) E) (sheet : Sheet) (area : Area) (row first last n : ℕ) (written : List X) (before next : List ℕ)
-    → first ≡ column_of area.first → last ≡ column_of area.last → n ≡ (last + 1) - first → map bytes written ≡ texts sheet row first n
-    → OnOk r (next ≡ before ++ csv.row (map bytes written)) → OnOk r (next ≡ before ++ row_shown sheet area row)
-row_done bytes (Ok u) sheet area r first last n written before next f l e h k =
+pub row_done : {X E : Type 0} (bytes : X → List ℕ) (r : Result (Unit {0}) E) (sheet : Sheet) (area : Area) (row upper first lower last n : ℕ) (lent written : List X) (before next : List ℕ)
+    → upper ≡ area.first → first ≡ column_of upper → lower ≡ area.last → last ≡ column_of lower → n ≡ (last + 1) - first → lent ≡ written → map bytes written ≡ texts sheet row first n
+    → OnOk r (next ≡ before ++ csv.row (map bytes lent)) → OnOk r (next ≡ before ++ row_shown sheet area row)
+row_done bytes (Ok u) sheet area r upper first lower last n lent written before next u_is first_is l_is last_is e same h k =
+    let f : first ≡ column_of area.first = first_is ∙ ap column_of u_is in
+    let l : last ≡ column_of area.last = last_is ∙ ap column_of l_is in
     let all : n ≡ (column_of area.last + 1) - column_of area.first = e ∙ ap (λ x. (x + 1) - first) l ∙ ap (λ x. (column_of area.last + 1) - x) f in
-    k ∙ ap (λ ts. before ++ csv.row ts) (h ∙ ap (λ x. texts sheet r x n) f ∙ ap (λ x. texts sheet r (column_of area.first) x) all)
-row_done bytes (Err x) sheet area r first last n written before next f l e h k = tt
+    k ∙ ap (λ ts. before ++ csv.row ts) (ap (map bytes) same ∙ h ∙ ap (λ x. texts sheet r x n) f ∙ ap (λ x. texts sheet r (column_of area.first) x) all)
+row_done bytes (Err x) sheet area r upper first lower last n lent written before next u_is first_is l_is last_is e same h k = tt

@@ -37,3 +37,9 @@ loop-byte-init g c =
       room = search rules;
       may = search rules;
     }
+
+pub returns-then-not-allowed-clause-took : goal.returns-then-not-allowed-clause-took
+returns-then-not-allowed-clause-took g c = search rules
+
+pub returns-then-not-allowed-clause-failed : goal.returns-then-not-allowed-clause-failed
+returns-then-not-allowed-clause-failed g c = search rules

@@ -1,7 +1,6 @@
 use Rattle.std.proofs.Common.{rules, arith}
 use Rattle.std.proofs.lemmas.Result.{err_from_is_err_and}
-use Rattle.std.proofs.lemmas.Bool.{ltb-true}
-use Rattle.wi_cli.proofs.OutcomeLemmas.{going_none, going_on, ends_ok, ends_flush, ends_stopped, one_more_fits}
+use Rattle.wi_cli.proofs.OutcomeLemmas.{going_none, going_on, ends_sent, ends_stopped, one_more_fits}
 use Rattle.wi_cli.proofs.runs.run.Goals as goal
 
 pub loop-out-init : goal.loop-out-init
@@ -32,14 +31,8 @@ returns-in_err-turn-clause-replies g c =
     let old = c.loop-out.invariant in
     rw (p.1, p.2) (ends_stopped _ _ _ _ _ _ _ _ _ _ _ _ c.loop-out.lines old.few old.going c.in_err-turn.ensures.done)
 
-pub returns-in-Ok-flush-clause-replies : goal.returns-in-Ok-flush-clause-replies
-returns-in-Ok-flush-clause-replies g c =
-    let turned = rw c.if-branch.false at c.in_ok-turn.ensures.done in
-    let old = c.loop-out.invariant in
-    ends_ok _ _ _ _ _ _ _ _ _ _ _ _ c.loop-out.lines _ (ltb-true c.loop-out.lines 1000000) old.few old.going turned c.flush.ensures.bytes tt
-
 pub returns-clause-replies : goal.returns-clause-replies
 returns-clause-replies g c =
     let turned = rw c.if-branch.false at c.in_ok-turn.ensures.done in
     let old = c.loop-out.invariant in
-    ends_flush _ _ _ _ _ _ _ _ _ _ _ _ c.loop-out.lines _ (ltb-true c.loop-out.lines 1000000) old.few old.going turned c.flush.ensures.bytes
+    ends_sent _ _ _ _ _ _ _ _ _ _ _ _ _ c.loop-out.lines old.few old.going turned c.send.ensures.bytes c.send.ensures.fault

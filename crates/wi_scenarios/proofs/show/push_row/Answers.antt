@@ -1,6 +1,5 @@
-use Rattle.std.proofs.Common.{◌+◌, ◌-◌, ◌∙◌, ap, arith, map}
+use Rattle.std.proofs.Common.{◌+◌, ◌-◌, ◌∙◌, arith}
 use Rattle.std.specs.Prelude.{string_bytes}
-use Rattle.wi_values.specs.Address.{column_of}
 use Rattle.wi_scenarios.proofs.ShowLemmas.{texts_more, row_done}
 use Rattle.wi_scenarios.proofs.show.push_row.Goals as goal
 
@@ -21,6 +20,6 @@ returns-clause-ok g c =
     let first = c.column-first.result in
     let last = c.column-column-end.result in
     let column = c.loop-column.column in
-    row_done string_bytes c.push_record.result _ c.args.area c.args.row first last (column - first) _ _ _
-    (c.column-first.ensures.value ∙ ap column_of c.first.ensures) (c.column-column-end.ensures.value ∙ ap column_of c.last.ensures) (omega arith)
-    (ap (map string_bytes) c.deref.ensures.value ∙ c.loop-column.invariant.texts) c.push_record.ensures.ok
+    row_done string_bytes c.push_record.result _ c.args.area c.args.row _ first _ last (column - first) _ _ _ _
+    c.first.ensures c.column-first.ensures.value c.last.ensures c.column-column-end.ensures.value (omega arith)
+    c.deref.ensures.value c.loop-column.invariant.texts c.push_record.ensures.ok

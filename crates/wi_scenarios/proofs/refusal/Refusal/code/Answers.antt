@@ -1,0 +1,5 @@
+use Rattle.std.proofs.Common.{rules}
+use Rattle.wi_scenarios.proofs.refusal.Refusal.code.Goals as goal
+
+pub returns-in-TooLarge : goal.returns-in-TooLarge
+returns-in-TooLarge c = search rules

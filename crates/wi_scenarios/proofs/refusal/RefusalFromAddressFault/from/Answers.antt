@@ -1,0 +1,5 @@
+use Rattle.std.proofs.Common.{rules}
+use Rattle.wi_scenarios.proofs.refusal.RefusalFromAddressFault.from.Goals as goal
+
+pub returns-in-Outside : goal.returns-in-Outside
+returns-in-Outside c = search rules

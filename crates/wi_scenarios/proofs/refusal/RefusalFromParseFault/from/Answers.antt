@@ -1,0 +1,5 @@
+use Rattle.std.proofs.Common.{rules}
+use Rattle.wi_scenarios.proofs.refusal.RefusalFromParseFault.from.Goals as goal
+
+pub returns-in-TooDeep : goal.returns-in-TooDeep
+returns-in-TooDeep c = search rules
