@@ -2,7 +2,7 @@
 
 ghost use Rattle.std.specs.Prelude.{◌≡◌, map, IfOk, IfErr, OnErr};
 ghost use Rattle.wi_parser.specs.View.{tree_of, pair_of};
-ghost use Rattle.wi_parser.specs.Tree.{cell, rectangle, what_if as what_if_tree};
+ghost use Rattle.wi_parser.specs.Tree.{cell, rectangle, signed, percent, binary, what_if as what_if_tree};
 ghost use Rattle.wi_functions.specs.Meaning as formulas;
 ghost use Rattle.wi_functions.specs.Assignment.{Assignment, AgreesWith};
 ghost use Rattle.wi_functions.specs.Wants.{Asks, IsUnknown, IfNeeds, IfDone, IfWanting, counted};
@@ -12,8 +12,8 @@ use crate::lookup::{Answer, Lookup};
 use crate::meter::Meter;
 use crate::operators::{hundredth, operate, with_sign};
 use std::alloc::{AllocError, Global};
-use wi_parser::{Corners, Expr, Formula, Pair, Reference};
-use wi_values::{Address, ErrorKind, Value};
+use wi_parser::{Corners, Expr, Formula, Operator, Pair, Reference, Sign};
+use wi_values::{Address, ErrorKind, Text, Value};
 
 /// What an evaluation can't go on without.
 #[derive(Debug, Drop)]
@@ -77,7 +77,10 @@ pub fn evaluate<L: Lookup>(
     }
 }
 
-/// An expression's value.
+/// An expression's value. What each kind of expression needs of the stack stands in a function of its own, so that a level
+/// of a long chain needs little.
+#[cycle(evaluating)]
+#[inline(never)]
 fn value_of<L: Lookup>(alloc: Global, expr: &Expr, lookup: &L) -> Result<Value, Stop>
     ensures done { IfOk result (λ v. (a : Assignment) → AgreesWith (L.known_cell lookup.now) (L.known_what_if lookup.now) a → v ≡ formulas.meaning (tree_of expr.now) a.cells a.what_ifs) }
     ensures asked { IfErr result (λ s. IfNeeds s (Asks (tree_of expr.now))) }
@@ -85,30 +88,78 @@ fn value_of<L: Lookup>(alloc: Global, expr: &Expr, lookup: &L) -> Result<Value, 
 {
     match expr {
         Expr::Number(x) => Ok(Value::Number(*x)),
-        Expr::Text(text) => Ok(Value::Text(text.copy(alloc)?)),
+        Expr::Text(text) => text_value(alloc, text),
         Expr::Cell(reference) => cell_value(alloc, *reference, lookup),
         Expr::Rectangle(corners) => rectangle_value(alloc, *corners, lookup),
         Expr::Parenthesized(inner) => value_of(alloc, inner, lookup),
-        Expr::Signed(sign, inner) => {
-            let x = value_of(alloc, inner, lookup)?;
-            Ok(with_sign(*sign, x))
-        }
-        Expr::Percent(inner) => {
-            let x = value_of(alloc, inner, lookup)?;
-            Ok(hundredth(&x))
-        }
-        Expr::Binary(operator, left, right) => {
-            let x = value_of(alloc, left, lookup)?;
-            let y = value_of(alloc, right, lookup)?;
-            Ok(operate(alloc, *operator, &x, &y)?)
-        }
+        Expr::Signed(sign, inner) => signed_value(alloc, *sign, inner, lookup),
+        Expr::Percent(inner) => percent_value(alloc, inner, lookup),
+        Expr::Binary(operator, left, right) => binary_value(alloc, *operator, left, right, lookup),
         Expr::WhatIf(formula_cell, pairs) => what_if_value(alloc, *formula_cell, pairs, lookup),
         // No function is known yet.
         Expr::Call(_, _) => Ok(Value::Fault(ErrorKind::UnknownName)),
     }
 }
 
+/// The value of an expression after a sign.
+#[cycle(evaluating)]
+#[inline(never)]
+fn signed_value<L: Lookup>(
+    alloc: Global,
+    sign: Sign,
+    inner: &Expr,
+    lookup: &L,
+) -> Result<Value, Stop>
+    ensures done { IfOk result (λ v. (a : Assignment) → AgreesWith (L.known_cell lookup.now) (L.known_what_if lookup.now) a → v ≡ formulas.meaning (signed sign (tree_of inner.now)) a.cells a.what_ifs) }
+    ensures asked { IfErr result (λ s. IfNeeds s (Asks (signed sign (tree_of inner.now)))) }
+    ensures unknown { IfErr result (λ s. IfNeeds s (IsUnknown (L.known_cell lookup.now) (L.known_what_if lookup.now))) }
+{
+    let x = value_of(alloc, inner, lookup)?;
+    Ok(with_sign(sign, x))
+}
+
+/// The value of an expression before a percent sign.
+#[cycle(evaluating)]
+#[inline(never)]
+fn percent_value<L: Lookup>(alloc: Global, inner: &Expr, lookup: &L) -> Result<Value, Stop>
+    ensures done { IfOk result (λ v. (a : Assignment) → AgreesWith (L.known_cell lookup.now) (L.known_what_if lookup.now) a → v ≡ formulas.meaning (percent (tree_of inner.now)) a.cells a.what_ifs) }
+    ensures asked { IfErr result (λ s. IfNeeds s (Asks (percent (tree_of inner.now)))) }
+    ensures unknown { IfErr result (λ s. IfNeeds s (IsUnknown (L.known_cell lookup.now) (L.known_what_if lookup.now))) }
+{
+    let x = value_of(alloc, inner, lookup)?;
+    Ok(hundredth(&x))
+}
+
+/// The value of two expressions with an operator between them.
+#[cycle(evaluating)]
+#[inline(never)]
+fn binary_value<L: Lookup>(
+    alloc: Global,
+    operator: Operator,
+    left: &Expr,
+    right: &Expr,
+    lookup: &L,
+) -> Result<Value, Stop>
+    ensures done { IfOk result (λ v. (a : Assignment) → AgreesWith (L.known_cell lookup.now) (L.known_what_if lookup.now) a → v ≡ formulas.meaning (binary operator (tree_of left.now) (tree_of right.now)) a.cells a.what_ifs) }
+    ensures asked { IfErr result (λ s. IfNeeds s (Asks (binary operator (tree_of left.now) (tree_of right.now)))) }
+    ensures unknown { IfErr result (λ s. IfNeeds s (IsUnknown (L.known_cell lookup.now) (L.known_what_if lookup.now))) }
+{
+    let x = value_of(alloc, left, lookup)?;
+    let y = value_of(alloc, right, lookup)?;
+    Ok(operate(alloc, operator, &x, &y)?)
+}
+
+/// A text's value.
+#[inline(never)]
+fn text_value(alloc: Global, text: &Text) -> Result<Value, Stop>
+    ensures done { IfOk result (λ v. v ≡ Value.Text text.now) }
+    ensures memory { IfErr result (λ s. s ≡ Stop.Memory) }
+{
+    Ok(Value::Text(text.copy(alloc)?))
+}
+
 /// A cell's value.
+#[inline(never)]
 fn cell_value<L: Lookup>(alloc: Global, reference: Reference, lookup: &L) -> Result<Value, Stop>
     ensures done { IfOk result (λ v. (a : Assignment) → AgreesWith (L.known_cell lookup.now) (L.known_what_if lookup.now) a → v ≡ a.cells reference.at) }
     ensures asked { IfErr result (λ s. IfNeeds s (Asks (cell reference))) }
@@ -121,6 +172,7 @@ fn cell_value<L: Lookup>(alloc: Global, reference: Reference, lookup: &L) -> Res
 }
 
 /// The value of a rectangle of one cell. A larger one has none, and none of its cells is asked for.
+#[inline(never)]
 fn rectangle_value<L: Lookup>(alloc: Global, corners: Corners, lookup: &L) -> Result<Value, Stop>
     ensures done { IfOk result (λ v. (a : Assignment) → AgreesWith (L.known_cell lookup.now) (L.known_what_if lookup.now) a → v ≡ formulas.meaning (rectangle corners) a.cells a.what_ifs) }
     ensures asked { IfErr result (λ s. IfNeeds s (Asks (rectangle corners))) }
@@ -133,6 +185,7 @@ fn rectangle_value<L: Lookup>(alloc: Global, corners: Corners, lookup: &L) -> Re
 }
 
 /// A what-if's value.
+#[inline(never)]
 fn what_if_value<L: Lookup>(
     alloc: Global,
     formula_cell: Reference,

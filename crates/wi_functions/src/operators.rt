@@ -15,6 +15,7 @@ use wi_parser::{Operator, Sign};
 use wi_values::{ErrorKind, MAX_TEXT, Text, Value};
 
 /// What an operator gives for two values. Only a join needs memory.
+#[inline(never)]
 pub fn operate(
     alloc: Global,
     operator: Operator,
