@@ -1,0 +1,110 @@
+//! Values of formulas over two cells and their what-ifs.
+
+use crate::spelled;
+use crate::values::{push_value, value};
+use anyhow::{Context, Result};
+use std::alloc::{AllocError, Global};
+use wi_functions::{Answer, Lookup, Meter, Outcome, Want, evaluate};
+use wi_parser::{Formula, Pair, parse};
+use wi_values::{Address, Value};
+
+/// Knows the values of A1 and B1, and that each what-if of A1 has that of A1 and each of B1 is Empty.
+#[derive(Drop)]
+pub struct Cells {
+    a1: Value,
+    b1: Value,
+    empty: Value,
+}
+
+impl Lookup for Cells {
+    ghost use Rattle.std.specs.Prelude.{◌==◌, if◌then◌else◌, Some, None};
+
+    ghost known_cell = { λ k a. if a == 0 then Some k.a1 else if a == 1 then Some k.b1 else None };
+
+    ghost known_what_if = { λ k f _. if f == 0 then Some k.a1 else if f == 1 then Some k.empty else None };
+
+    fn cell(&self, at: Address) -> Answer<'_> {
+        if at == Address::at(0, 0) {
+            Answer::Known(&self.a1)
+        } else if at == Address::at(0, 1) {
+            Answer::Known(&self.b1)
+        } else {
+            Answer::Missing
+        }
+    }
+
+    fn what_if(&self, formula_cell: Address, _pairs: &[Pair]) -> Answer<'_> {
+        if formula_cell == Address::at(0, 0) {
+            Answer::Known(&self.a1)
+        } else if formula_cell == Address::at(0, 1) {
+            Answer::Known(&self.empty)
+        } else {
+            Answer::Missing
+        }
+    }
+}
+
+fn push_want(want: &Want, line: &mut String) -> Result<(), AllocError> {
+    line.push_str("asks for ")?;
+    match want {
+        Want::Cell(at) => at.push_text(line),
+        Want::WhatIf(at, pairs) => {
+            at.push_text(line)?;
+            let count = pairs.len();
+            write!(line, ", pairs: {count}")
+        }
+    }
+}
+
+/// What is known where A1 and B1 have these values.
+pub fn known(a1: Value, b1: Value) -> Cells {
+    Cells {
+        a1,
+        b1,
+        empty: Value::Empty,
+    }
+}
+
+/// Appends the value of a formula, or what it asks for.
+pub fn push_value_of(
+    alloc: Global,
+    formula: &Formula,
+    known: &Cells,
+    line: &mut String,
+) -> Result<(), AllocError> {
+    match evaluate(alloc, formula, known, &mut Meter::new())? {
+        Outcome::Done(value) => push_value(&value, line),
+        Outcome::Needs(want) => push_want(&want, line),
+    }
+}
+
+/// Appends what is counted after each of two evaluations of a formula.
+fn push_counts(
+    alloc: Global,
+    formula: &Formula,
+    known: &Cells,
+    line: &mut String,
+) -> Result<(), AllocError> {
+    let mut meter = Meter::new();
+    for _ in 0..2u32 {
+        let _outcome = evaluate(alloc, formula, known, &mut meter)?;
+        let evaluations = meter.evaluations();
+        let restarts = meter.restarts();
+        write!(line, "evaluations {evaluations}, restarts {restarts} | ")?;
+    }
+    line.push_str("end")
+}
+
+/// Appends what the evaluation of a formula gives, or what it counts, after the values of A1 and B1.
+pub fn push(alloc: Global, operation: &str, operands: &str, line: &mut String) -> Result<()> {
+    let (left, others) = operands.split_once(' ').context("no values")?;
+    let (right, text) = others.split_once(' ').context("no formula")?;
+    let a1 = value(alloc, &spelled(alloc, left)?)?;
+    let b1 = value(alloc, &spelled(alloc, right)?)?;
+    let formula = parse(alloc, &spelled(alloc, text)?)?;
+    if operation == "count" {
+        Ok(push_counts(alloc, &formula, &known(a1, b1), line)?)
+    } else {
+        Ok(push_value_of(alloc, &formula, &known(a1, b1), line)?)
+    }
+}

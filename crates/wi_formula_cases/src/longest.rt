@@ -1,0 +1,49 @@
+//! The longest formulas of the worst shapes, with half of the usual stack.
+
+use crate::cells::{known, push_value_of};
+use crate::formulas::printed;
+use anyhow::{Result, ensure};
+use std::alloc::{AllocError, Global};
+use wi_fraction::Fraction;
+use wi_parser::{Formula, MAX_FORMULA, parse};
+use wi_values::Value;
+
+/// Half of the usual stack, in bytes.
+const HALF: usize = 4 * 1024 * 1024;
+
+/// Whether a formula and its copy are printed as this text, and so is the formula that is read from it.
+fn prints(alloc: Global, formula: &Formula, text: &str) -> Result<bool, AllocError> {
+    let Ok(again) = parse(alloc, text) else {
+        return Ok(false);
+    };
+    let copy = formula.copy(alloc)?;
+    Ok(
+        printed(alloc, formula)?.as_str() == text
+            && printed(alloc, &copy)?.as_str() == text
+            && printed(alloc, &again)?.as_str() == text,
+    )
+}
+
+/// Reads, copies, prints, moves and moves back a formula, and appends its value where A1 has the value 2.
+fn push_all_of(alloc: Global, text: &str, line: &mut String) -> Result<()> {
+    ensure!(text.len() == MAX_FORMULA, "not as long as may be");
+    let formula = parse(alloc, text)?;
+    ensure!(prints(alloc, &formula, text)?, "printed otherwise");
+    let moved = formula.shift(1, 1)?;
+    let there = text.replace(alloc, "[.A1]", "[.B2]")?;
+    ensure!(prints(alloc, &moved, &there)?, "moved elsewhere");
+    let back = moved.shift(-1, -1)?;
+    ensure!(prints(alloc, &back, text)?, "not moved back");
+    let two = Value::Number(Fraction::new(2, 1)?);
+    Ok(push_value_of(alloc, &back, &known(two, Value::Empty), line)?)
+}
+
+/// As `push_all_of`, while an array takes half of the usual stack.
+pub fn push(alloc: Global, text: &str, line: &mut String) -> Result<()> {
+    let mut taken = [0u8; HALF];
+    taken[text.len() % HALF] = 1;
+    push_all_of(alloc, text, line)?;
+    let is_kept = taken[text.len() % HALF] == 1 && taken[line.len() % HALF] <= 1;
+    ensure!(is_kept, "the array has changed");
+    Ok(())
+}
