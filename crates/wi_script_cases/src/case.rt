@@ -1,0 +1,109 @@
+//! A case as standard input spells it.
+
+use std::alloc::{AllocError, Global};
+use std::io;
+use std::io::Write;
+use wi_cases::{number, push_spelled};
+use wi_store::Limits;
+
+/// A script, and what it is run on.
+#[derive(Drop)]
+pub struct Case {
+    pub title: String,
+    pub script: Vec<u8>,
+    pub limits: Limits,
+    /// How many bytes of replies can be written.
+    pub room: usize,
+    /// Whether the read after the script fails.
+    pub torn: bool,
+    /// Whether the lines are told too, each before the replies to it.
+    pub in_turns: bool,
+    /// Whether the number of evaluations is told.
+    pub evaluations: bool,
+    /// Whether the number of restarts is told.
+    pub restarts: bool,
+}
+
+impl Case {
+    /// A case with an empty script.
+    pub fn new(alloc: Global, title: &str) -> Result<Case, AllocError> {
+        Ok(Case {
+            title: String::from_str(alloc, title)?,
+            script: Vec::new(alloc),
+            limits: Limits::standard(),
+            room: usize::MAX,
+            torn: false,
+            in_turns: false,
+            evaluations: false,
+            restarts: false,
+        })
+    }
+
+    /// Takes a line of the case.
+    pub fn take(&mut self, line: &str) -> io::Result<()> {
+        match line.split_once(' ') {
+            Some(("@bytes", text)) => push_spelled(text, &mut self.script),
+            Some(("@rows", text)) => push_rows(text, &mut self.script),
+            Some(("@cells", count)) => {
+                self.limits.cells = number(count)?;
+                Ok(())
+            }
+            Some(("@edits", count)) => {
+                self.limits.edits = number(count)?;
+                Ok(())
+            }
+            Some(("@room", count)) => {
+                self.room = usize::try_from(number(count)?).unwrap_or(usize::MAX);
+                Ok(())
+            }
+            _ => self.take_word(line),
+        }
+    }
+
+    /// Takes a line that is a word of its own, or a line of the script.
+    fn take_word(&mut self, line: &str) -> io::Result<()> {
+        match line {
+            "@torn" => self.torn = true,
+            "@turns" => self.in_turns = true,
+            "@evaluations" => self.evaluations = true,
+            "@restarts" => self.restarts = true,
+            _ => {
+                self.script.extend_from_slice(line.as_bytes())?;
+                self.script.push(b'\n')?;
+            }
+        }
+        Ok(())
+    }
+}
+
+/// Appends a line for each of some numbers: `2..4 set A# =[.A#-1]` for A2 to A4.
+fn push_rows(text: &str, script: &mut Vec<u8>) -> io::Result<()> {
+    let Some((numbers, line)) = text.split_once(' ') else {
+        return Err(io::ErrorKind::InvalidData.into());
+    };
+    let Some((first, last)) = numbers.split_once("..") else {
+        return Err(io::ErrorKind::InvalidData.into());
+    };
+    for row in number(first)?..=number(last)? {
+        push_row(line, row, script)?;
+    }
+    Ok(())
+}
+
+fn push_row(line: &str, row: u64, script: &mut Vec<u8>) -> io::Result<()> {
+    let mut pieces = line.split('#');
+    if let Some(front) = pieces.next() {
+        script.extend_from_slice(front.as_bytes())?;
+    }
+    for piece in pieces {
+        if let Some(rest) = piece.strip_prefix("-1") {
+            write!(script, "{}{rest}", row.saturating_sub(1))?;
+        } else if let Some(rest) = piece.strip_prefix("+1") {
+            write!(script, "{}{rest}", row.saturating_add(1))?;
+        } else {
+            write!(script, "{row}{piece}")?;
+        }
+    }
+    script.push(b'\n')?;
+    Ok(())
+}

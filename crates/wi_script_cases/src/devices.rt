@@ -1,0 +1,77 @@
+//! Devices in memory.
+
+use std::cell::RefCell;
+use std::io;
+use std::io::{Read, Write};
+
+/// Gives its bytes so many at a time, and then ends or fails.
+#[derive(Drop)]
+pub struct Pieces<'a> {
+    pub bytes: &'a [u8],
+    pub piece: usize,
+    /// Whether the read after the last byte fails.
+    pub torn: bool,
+}
+
+impl Read for Pieces<'_> {
+    fn read(&mut self, buf: &mut [u8]) -> io::Result<usize> {
+        if self.bytes.is_empty() && self.torn {
+            return Err(io::ErrorKind::Other.into());
+        }
+        let wanted = buf.len().min(self.piece);
+        self.bytes.read(&mut buf[..wanted])
+    }
+}
+
+/// Gives a line at a time, and notes it before the replies to it.
+#[derive(Drop)]
+pub struct Lines<'a> {
+    pub bytes: &'a [u8],
+    pub notes: &'a RefCell<Vec<u8>>,
+}
+
+impl Read for Lines<'_> {
+    fn read(&mut self, buf: &mut [u8]) -> io::Result<usize> {
+        let end = self.bytes.iter().position(|byte| *byte == b'\n');
+        let line_len = end.unwrap_or(self.bytes.len()).saturating_add(1);
+        let wanted = buf.len().min(line_len);
+        let given = self.bytes.read(&mut buf[..wanted])?;
+        let Ok(mut notes) = self.notes.try_borrow_mut() else {
+            return Err(io::ErrorKind::Other.into());
+        };
+        if given > 0 {
+            notes.extend_from_slice(b"> ")?;
+            notes.extend_from_slice(&buf[..given])?;
+        }
+        Ok(given)
+    }
+}
+
+/// Takes so many bytes at a time, and fails where it has no room left.
+#[derive(Drop)]
+pub struct Taken<'a> {
+    pub bytes: &'a RefCell<Vec<u8>>,
+    pub piece: usize,
+    /// How many bytes it still takes.
+    pub room: usize,
+    /// Whether all that was written was flushed.
+    pub flushed: bool,
+}
+
+impl Write for Taken<'_> {
+    fn write(&mut self, buf: &[u8]) -> io::Result<usize> {
+        self.flushed = false;
+        let taken = buf.len().min(self.piece).min(self.room);
+        let Ok(mut bytes) = self.bytes.try_borrow_mut() else {
+            return Err(io::ErrorKind::Other.into());
+        };
+        bytes.extend_from_slice(&buf[..taken])?;
+        self.room -= taken;
+        Ok(taken)
+    }
+
+    fn flush(&mut self) -> io::Result<()> {
+        self.flushed = true;
+        Ok(())
+    }
+}
