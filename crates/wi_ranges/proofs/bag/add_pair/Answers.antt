@@ -28,9 +28,3 @@ returns-then-is_err-clause-counted c =
     (counted_back bag c.args.pieces.now.keys us c.requires.indexed
     (subst (λ (b : Bag). IsIndexed b us) same (returns-then-is_err-clause-indexed c)) c.requires.counted
     (c.take_out.ensures.order (at_error c.put_one-outcome.result failed c.put_one-outcome.ensures.order)))
-
-pub returns-else-is_err-clause-indexed : goal.returns-else-is_err-clause-indexed
-returns-else-is_err-clause-indexed c = search rules
-
-pub returns-else-is_err-clause-counted : goal.returns-else-is_err-clause-counted
-returns-else-is_err-clause-counted c = search rules
