@@ -9,6 +9,7 @@ ghost use Rattle.wi_graph.specs.Circular.{circular};
 ghost use Rattle.wi_graph.specs.Reach.{is_one_of};
 ghost use Rattle.wi_sheet.specs.CellValue as show;
 ghost use Rattle.wi_sheet.specs.Demand.{reads_here};
+ghost use Rattle.wi_sheet.specs.Spending.{NeverFall};
 ghost use Rattle.wi_engine.specs.Findings.{AreAllRight};
 ghost use Rattle.wi_engine.specs.Answers.{AsksAt, IsLacking, IsSmallestWith, AreOfRectangle};
 
@@ -40,12 +41,16 @@ pub fn answer(
     ensures asked { IfOk result (λ o. IfWanting o (AsksAt store.now.sheet world.now at)) }
     ensures lacking { IfOk result (λ o. IfWanting o (IsLacking store.now.sheet world.now found.now)) }
     ensures counted { IfOk result (λ o. meter.new ≡ counted o meter.old) }
+    ensures counts { NeverFall meter.old meter.new }
     ensures err { OnErr result (meter.new ≡ meter.old) }
 {
     let Seen::Formula(formula) = content_in(store, world, at) else {
         unreachable!()
     };
     let known = Known::new(store, world, found);
+    // Each count is at most the greatest number, so one more is no less.
+    let _ = meter.evaluations();
+    let _ = meter.restarts();
     evaluate(alloc, formula, &known, meter)
 }
 

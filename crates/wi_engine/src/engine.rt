@@ -10,7 +10,7 @@ ghost use Rattle.wi_functions.specs.declared.evaluation.Want.TheVariants as want
 ghost use Rattle.wi_graph.specs.Reach.{is_one_of};
 ghost use Rattle.wi_sheet.specs.CellValue as show;
 ghost use Rattle.wi_sheet.specs.Demand.{with_what_if, wants};
-ghost use Rattle.wi_sheet.specs.Spending.{CountsAtMost, CountsFound, HasCase};
+ghost use Rattle.wi_sheet.specs.Spending.{CountsAtMost, CountsFound, HasCase, NeverFall};
 ghost use Rattle.wi_engine.specs.Memory.{IsMemoryOf};
 ghost use Rattle.wi_engine.specs.Answers.{AsksAt, IsLacking, lacks_cell};
 ghost use Rattle.wi_engine.specs.Frames.{MayBeRead, IsToValue, IsUnvalued, AreReadHere, Awaits, IsFrame, IsNext, case_at, spare, waits};
@@ -252,6 +252,7 @@ fn advance<M: Memo>(
     ensures restarts { OnOk result (meter.new.restarts + spare store.now.sheet frame.new ≤ meter.old.restarts + spare store.now.sheet frame.old) }
     ensures err_evaluations { OnErr result (meter.new.evaluations ≡ meter.old.evaluations) }
     ensures err_restarts { OnErr result (meter.new.restarts ≤ meter.old.restarts + spare store.now.sheet frame.old) }
+    ensures counts { NeverFall meter.old meter.new }
     ensures same { M.memory memo.new ≡ M.memory memo.old }
 {
     'rounds: loop {
@@ -294,6 +295,8 @@ fn run<M: Memo>(
 
     ensures restarts { CountsAtMost store.now.sheet (λ ks. Contains ks (case_at key)) (wants store.now.sheet) (M.memory memo.old).found meter.old.restarts meter.new.restarts }
     ensures restarts_ok { OnOk result (CountsFound store.now.sheet (λ ks. Contains ks (case_at key)) (wants store.now.sheet) (M.memory memo.old).found (M.memory memo.new).found meter.old.restarts meter.new.restarts) }
+
+    ensures counts { NeverFall meter.old meter.new }
 {
     let mut stack = Vec::new(alloc);
     let mut frame = Frame::new(alloc, key);
@@ -343,6 +346,8 @@ pub fn value_under<M: Memo>(
 
     ensures restarts { CountsAtMost store.now.sheet (HasCase store.now.sheet world.now at) (wants store.now.sheet) (M.memory memo.old).found meter.old.restarts meter.new.restarts }
     ensures restarts_ok { OnOk result (CountsFound store.now.sheet (HasCase store.now.sheet world.now at) (wants store.now.sheet) (M.memory memo.old).found (M.memory memo.new).found meter.old.restarts meter.new.restarts) }
+
+    ensures counts { NeverFall meter.old meter.new }
 {
     match value_now(alloc, store, world, at, memo)? {
         Asked::Known(value) => Ok(value),

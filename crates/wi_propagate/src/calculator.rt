@@ -1,12 +1,13 @@
 //! What a calculator promises.
 
-ghost use Rattle.std.specs.Prelude.{◌≡◌, ℕ, IfOk};
+ghost use Rattle.std.specs.Prelude.{◌≡◌, ◌+◌, ◌≤◌, ℕ, length, sum_by, IfOk};
 ghost use Rattle.std.specs.Option.{option_copied};
 ghost use Rattle.wi_values.specs.Replacements.{IsInOrder};
 ghost use Rattle.wi_parser.specs.Sheet.{content_of};
 ghost use Rattle.wi_store.specs.Store.{Stored, applied, Applies};
 ghost use Rattle.wi_sheet.specs.Shown as show;
-ghost use Rattle.wi_sheet.specs.TableEntry.{table_entry};
+ghost use Rattle.wi_sheet.specs.Demand.{demanded, wants};
+ghost use Rattle.wi_sheet.specs.TableEntry.{table_entry, entry_demanded};
 
 use std::alloc::AllocError;
 use wi_parser::Content;
@@ -37,7 +38,13 @@ pub trait Calculator {
     fn value(&mut self, put: &[Replacement], at: Address) -> Result<Value, AllocError>
         requires { IsInOrder put.now }
         ensures value { IfOk result (λ v. v ≡ show.shown (stored self.old).sheet put.now at) }
-        ensures same { stored self.new ≡ stored self.old };
+        ensures same { stored self.new ≡ stored self.old }
+
+        // No more is evaluated than what the value demands, also where memory runs out.
+        ensures evaluations { evaluated self.new ≤ evaluated self.old + length (demanded (stored self.old).sheet put.now at) }
+        ensures restarts { restarted self.new ≤ restarted self.old + sum_by (wants (stored self.old).sheet) (demanded (stored self.old).sheet put.now at) }
+        ensures evaluations_never_fall { evaluated self.old ≤ evaluated self.new }
+        ensures restarts_never_fall { restarted self.old ≤ restarted self.new };
 
     /// What an entry of a data table shows under replacements, which stand in the order of their addresses, one for each:
     /// the value of the formula cell if each input, the first of a pair, had the value of its replacement cell, the second.
@@ -50,7 +57,13 @@ pub trait Calculator {
     ) -> Result<Value, AllocError>
         requires { IsInOrder put.now }
         ensures value { IfOk result (λ v. v ≡ table_entry (stored self.old).sheet put.now formula_cell pairs.now) }
-        ensures same { stored self.new ≡ stored self.old };
+        ensures same { stored self.new ≡ stored self.old }
+
+        // No more is evaluated than what the entry demands, also where memory runs out.
+        ensures evaluations { evaluated self.new ≤ evaluated self.old + length (entry_demanded (stored self.old).sheet put.now formula_cell pairs.now) }
+        ensures restarts { restarted self.new ≤ restarted self.old + sum_by (wants (stored self.old).sheet) (entry_demanded (stored self.old).sheet put.now formula_cell pairs.now) }
+        ensures evaluations_never_fall { evaluated self.old ≤ evaluated self.new }
+        ensures restarts_never_fall { restarted self.old ≤ restarted self.new };
 
     fn evaluations(&self) -> u64
         ensures { result ≡ evaluated self.now };

@@ -6,9 +6,9 @@ ghost use Rattle.wi_parser.specs.Sheet.{put_all};
 ghost use Rattle.wi_functions.specs.Meaning as formulas;
 ghost use Rattle.wi_sheet.specs.CellValue as show;
 ghost use Rattle.wi_sheet.specs.TableEntry as table;
-ghost use Rattle.wi_sheet.specs.TableEntry.{table_demand};
-ghost use Rattle.wi_sheet.specs.Demand.{with_what_if, different, wants};
-ghost use Rattle.wi_sheet.specs.Spending.{CountsAtMost, CountsFound, HasReplacing, HasEntry};
+ghost use Rattle.wi_sheet.specs.TableEntry.{entry_demanded};
+ghost use Rattle.wi_sheet.specs.Demand.{with_what_if, wants};
+ghost use Rattle.wi_sheet.specs.Spending.{CountsAtMost, CountsFound, HasReplacing, HasEntry, NeverFall};
 ghost use Rattle.wi_engine.specs.Memory.{IsMemoryOf};
 ghost use Rattle.wi_engine.specs.Frames.{MayBeRead};
 
@@ -36,8 +36,9 @@ pub fn table_entry(
     ensures value { IfOk result (λ v. v ≡ table.table_entry store.now.sheet put.now formula_cell pairs.now) }
 
     // No more than what the entry demands is valued, also where memory runs out.
-    ensures evaluations { meter.new.evaluations ≤ meter.old.evaluations + length (different (table_demand store.now.sheet put.now formula_cell pairs.now)) }
-    ensures restarts { meter.new.restarts ≤ meter.old.restarts + sum_by (wants store.now.sheet) (different (table_demand store.now.sheet put.now formula_cell pairs.now)) }
+    ensures evaluations { meter.new.evaluations ≤ meter.old.evaluations + length (entry_demanded store.now.sheet put.now formula_cell pairs.now) }
+    ensures restarts { meter.new.restarts ≤ meter.old.restarts + sum_by (wants store.now.sheet) (entry_demanded store.now.sheet put.now formula_cell pairs.now) }
+    ensures counts { NeverFall meter.old meter.new }
 {
     let cells = valued_cells(alloc, formula_cell, pairs)?;
     let Some(order) = reached_from(alloc, store, &cells)? else {
@@ -79,6 +80,7 @@ fn open_entry<M: Memo>(
     ensures value { IfOk result (λ v. v ≡ formulas.zero_for_empty (show.cell_value (put_all store.now.sheet (with_what_if store.now.sheet world.now pairs.now)) formula_cell)) }
     ensures evaluations { CountsAtMost store.now.sheet (HasEntry store.now.sheet world.now formula_cell pairs.now) (λ _. 1) (M.memory memo.old).found meter.old.evaluations meter.new.evaluations }
     ensures restarts { CountsAtMost store.now.sheet (HasEntry store.now.sheet world.now formula_cell pairs.now) (wants store.now.sheet) (M.memory memo.old).found meter.old.restarts meter.new.restarts }
+    ensures counts { NeverFall meter.old meter.new }
 {
     let replaced = with_inputs(alloc, store, world, pairs, memo, meter)?;
     let value = value_under(alloc, store, &replaced, formula_cell, memo, meter)?;
@@ -106,6 +108,8 @@ fn with_inputs<M: Memo>(
 
     ensures restarts { CountsAtMost store.now.sheet (HasReplacing store.now.sheet world.now pairs.now) (wants store.now.sheet) (M.memory memo.old).found meter.old.restarts meter.new.restarts }
     ensures restarts_ok { OnOk result (CountsFound store.now.sheet (HasReplacing store.now.sheet world.now pairs.now) (wants store.now.sheet) (M.memory memo.old).found (M.memory memo.new).found meter.old.restarts meter.new.restarts) }
+
+    ensures counts { NeverFall meter.old meter.new }
 {
     let mut inputs = Vec::new(alloc);
     for pair in pairs {

@@ -3,7 +3,8 @@
 ghost use Rattle.std.specs.Prelude.{◌≡◌, ◌+◌, ◌≤◌, length, sum_by, IfOk};
 ghost use Rattle.wi_values.specs.Replacements.{IsInOrder};
 ghost use Rattle.wi_sheet.specs.Shown as show;
-ghost use Rattle.wi_sheet.specs.Demand.{case_of, demand, different, wants};
+ghost use Rattle.wi_sheet.specs.Demand.{demanded, wants};
+ghost use Rattle.wi_sheet.specs.Spending.{NeverFall};
 
 use std::alloc::{AllocError, Global};
 use wi_engine::{Remembered, reached, value_under};
@@ -26,8 +27,9 @@ pub fn shown(
     ensures value { IfOk result (λ v. v ≡ show.shown store.now.sheet put.now at) }
 
     // No more than what the cell demands is valued, also where memory runs out.
-    ensures evaluations { meter.new.evaluations ≤ meter.old.evaluations + length (different (demand store.now.sheet (case_of store.now.sheet put.now at))) }
-    ensures restarts { meter.new.restarts ≤ meter.old.restarts + sum_by (wants store.now.sheet) (different (demand store.now.sheet (case_of store.now.sheet put.now at))) }
+    ensures evaluations { meter.new.evaluations ≤ meter.old.evaluations + length (demanded store.now.sheet put.now at) }
+    ensures restarts { meter.new.restarts ≤ meter.old.restarts + sum_by (wants store.now.sheet) (demanded store.now.sheet put.now at) }
+    ensures counts { NeverFall meter.old meter.new }
 {
     let Some(order) = reached(alloc, store, at)? else {
         return Ok(Value::Fault(ErrorKind::Circular));

@@ -4,7 +4,8 @@ use Rattle.std.proofs.lemmas.Bool.{or_left, or_right}
 use Rattle.std.proofs.lemmas.List.Sums.{sum_by-cons}
 use Rattle.wi_values.specs.declared.replacement.Replacement.{Replacement}
 use Rattle.wi_sheet.specs.Demand.{Case, same_case}
-use Rattle.wi_sheet.specs.Spending.{left}
+use Rattle.wi_functions.specs.Counts.{Counts}
+use Rattle.wi_sheet.specs.Spending.{NeverFall, left}
 use Rattle.wi_sheet.proofs.Members.{IsIn, in_contained}
 use Rattle.wi_sheet.proofs.Cases.{same_case-refl}
 
@@ -72,3 +73,11 @@ sum_of_ones (k ∷ ks) = let e = sum_of_ones ks in let more = sum_by-cons (λ (j
 pub one_less_left : (found after : Finds) (k : Case) (ks : List Case) → ((c : ℕ) (w : List Replacement) → after c w ≡ (found c w || same_case k (c, w))) →
     found k.0 k.1 ≡ false → Contains ks k → left (λ j. 1) after ks + 1 ≤ left (λ j. 1) found ks
 one_less_left found after k ks h u i = left_at_keep (λ j. 1) found after k ks h u i
+
+-- ---- counts that never fall
+
+pub never_fall-same : (a : Counts) → NeverFall a a
+never_fall-same a = (omega arith, omega arith)
+
+pub never_fall-then : (a b c : Counts) → NeverFall a b → NeverFall b c → NeverFall a c
+never_fall-then a b c h k = let x = h.0 in let y = h.1 in let z = k.0 in let w = k.1 in (omega (arith, x, z), omega (arith, y, w))

@@ -107,3 +107,7 @@ wants s k = of_formula (content_of (put_all s k.1) k.0) 0 (λ t. length (formula
 abbrev pub different : List Case → List Case
 different [] = []
 different (k ∷ ks) = if list_any (same_case k) ks then different ks else k ∷ different ks
+
+-- the different cases that a cell's value under replacements demands
+abbrev pub demanded : Sheet → List Replacement → ℕ → List Case
+demanded s w c = different (demand s (case_of s w c))

@@ -4,6 +4,7 @@ use Rattle.wi_values.specs.declared.replacement.Replacement.{Replacement}
 use Rattle.wi_parser.specs.Tree.{Tree}
 use Rattle.wi_parser.specs.declared.content.Content.TheVariants.{Formula}
 use Rattle.wi_parser.specs.Sheet.{Sheet, content_of, put_all, has_formula}
+use Rattle.wi_functions.specs.Counts.{Counts}
 use Rattle.wi_sheet.specs.Demand.{Case, case_of, with_what_if, rests_on}
 
 -- a case rests on another: its formula reads that one's cell as the sheet stands, or has a what-if of it, and that one has a
@@ -43,3 +44,7 @@ HasReplacing s w pairs ks = All (λ x. HasCase s w x.1 ks) pairs
 -- and that of the formula cell with the inputs replaced
 abbrev pub HasEntry : Sheet → List Replacement → ℕ → List (ℕ × ℕ) → List Case → Type 0
 HasEntry s w f pairs ks = HasReplacing s w pairs ks × HasCase s (with_what_if s w pairs) f ks
+
+-- neither count falls
+abbrev pub NeverFall : Counts → Counts → Type 0
+NeverFall before after = (before.evaluations ≤ after.evaluations) × (before.restarts ≤ after.restarts)

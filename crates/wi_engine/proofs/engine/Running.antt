@@ -8,9 +8,9 @@ use Rattle.wi_cache.specs.declared.key.Key.{Key}
 use Rattle.wi_graph.specs.Circular.{circular}
 use Rattle.wi_sheet.specs.CellValue.{cell_value, what_if_value}
 use Rattle.wi_sheet.specs.Demand.{Case, same_case, case_of, reaching, demand, wants}
-use Rattle.wi_sheet.specs.Spending.{CountsAtMost, CountsFound, HasCase, IsClosed, left}
+use Rattle.wi_sheet.specs.Spending.{CountsAtMost, CountsFound, HasCase, IsClosed, NeverFall, left}
 use Rattle.wi_sheet.proofs.Overrides.{reaching_suffices}
-use Rattle.wi_sheet.proofs.Counting.{one_less_left}
+use Rattle.wi_sheet.proofs.Counting.{one_less_left, never_fall-same, never_fall-then}
 use Rattle.wi_sheet.proofs.Demands.{demand_closed, demand_has_itself}
 use Rattle.wi_engine.specs.Rank.{rank}
 use Rattle.wi_engine.specs.Memory.{Memory, IsMemoryOf}
@@ -32,6 +32,7 @@ pub record IsRunning (s : Sheet) (old m : Memory) (root : Case) (start now : Cou
   pub begun : IsBegun s m root f
   pub stack : IsStack s m root fs (rank s f.key.cell)
   pub bottom : BottomIs root fs f
+  pub counts : NeverFall start now
   pub evaluations : (ks : List Case) → IsClosed s ks → Contains ks root → at_most (λ k. 1) (λ g. 1) m.found (f ∷ fs) now.evaluations ks ≤ start.evaluations + left (λ k. 1) old.found ks
   pub restarts : (ks : List Case) → IsClosed s ks → Contains ks root → at_most (wants s) (spare s) m.found (f ∷ fs) now.restarts ks ≤ start.restarts + left (wants s) old.found ks
 
@@ -74,6 +75,7 @@ start_alone s m k f now h key u n = record {
   };
   stack = tt;
   bottom = ap case_at n.key;
+  counts = never_fall-same now;
   evaluations = λ ks closed top. budget_start (λ j. 1) (λ g. 1) m.found ks f (case_at k) now.evaluations (ap case_at n.key) (omega arith) u top;
   restarts = λ ks closed top. budget_start (wants s) (spare s) m.found ks f (case_at k) now.restarts (ap case_at n.key) (spare_new s k f n.key n.waiting) u top;
 }
@@ -84,8 +86,8 @@ run_start s m k fs f now h key u n e = subst (λ (gs : List Frame). IsRunning s 
 -- ---- a frame more
 
 push_alone : (s : Sheet) (old m : Memory) (root : Case) (start now next : Counts) (fs : List Frame) (f h g : Frame) (k : Key) → IsRunning s old m root start now fs f → h.key ≡ f.key → IsFrame s m h → IsNext s m f.key k →
-    next.evaluations ≡ now.evaluations → next.restarts + spare s h ≤ now.restarts + spare s f → IsNew g k → IsRunning s old m root start next (fs ++ h ∷ []) g
-push_alone s old m root start now next fs f h g k i e frame n ev re new =
+    NeverFall now next → next.evaluations ≡ now.evaluations → next.restarts + spare s h ≤ now.restarts + spare s f → IsNew g k → IsRunning s old m root start next (fs ++ h ∷ []) g
+push_alone s old m root start now next fs f h g k i e frame n up ev re new =
     let lower = rests_rank s (case_at f.key) (case_at k) n.rests i.begun.frame.key.open_cell in
     let begun = same_begun s m root f h e frame i.begun in
     let at_h : IsStack s m root fs (rank s h.key.cell) = rw e i.stack in
@@ -98,6 +100,7 @@ push_alone s old m root start now next fs f h g k i e frame n ev re new =
       begun = begun_next s m root f k g i.begun.demanded n new.key (new_frame s m g k new n.key);
       stack = push_stack s m root fs h (rank s g.key.cell) at_h begun below;
       bottom = push_bottom root fs h g (same_bottom root fs f h e i.bottom);
+      counts = never_fall-then start now next i.counts up;
       evaluations = λ ks closed top.
           budget_push (λ j. 1) (λ x. 1) m.found ks fs f h g (case_at k) now.evaluations next.evaluations _ (i.evaluations ks closed top) e (ap case_at new.key) (omega (arith, ev)) (omega arith) apart
           (closed (case_at f.key) (case_at k) (i.begun.demanded ks closed top) n.rests);
@@ -107,9 +110,9 @@ push_alone s old m root start now next fs f h g k i e frame n ev re new =
     }
 
 pub run_push : (s : Sheet) (old m n : Memory) (root : Case) (start now next : Counts) (fs gs : List Frame) (f h g : Frame) (k : Key) → IsRunning s old m root start now fs f → n ≡ m → h.key ≡ f.key → IsFrame s m h → IsNext s m f.key k →
-    next.evaluations ≡ now.evaluations → next.restarts + spare s h ≤ now.restarts + spare s f → IsNew g k → gs ≡ fs ++ h ∷ [] → IsRunning s old n root start next gs g
-run_push s old m n root start now next fs gs f h g k i en e frame x ev re new eg =
-    subst (λ (xs : List Frame). IsRunning s old n root start next xs g) (sym eg) (subst (λ (y : Memory). IsRunning s old y root start next (fs ++ h ∷ []) g) (sym en) (push_alone s old m root start now next fs f h g k i e frame x ev re new))
+    NeverFall now next → next.evaluations ≡ now.evaluations → next.restarts + spare s h ≤ now.restarts + spare s f → IsNew g k → gs ≡ fs ++ h ∷ [] → IsRunning s old n root start next gs g
+run_push s old m n root start now next fs gs f h g k i en e frame x up ev re new eg =
+    subst (λ (xs : List Frame). IsRunning s old n root start next xs g) (sym eg) (subst (λ (y : Memory). IsRunning s old y root start next (fs ++ h ∷ []) g) (sym en) (push_alone s old m root start now next fs f h g k i e frame x up ev re new))
 
 pub push_smaller : (s : Sheet) (old m n : Memory) (root : Case) (start now : Counts) (fs : List Frame) (f g : Frame) (k : Key) → IsRunning s old m root start now fs f → n ≡ m → IsNext s m f.key k → g.key ≡ k →
     left (λ j. 1) n.found (demand s root) * (length (cells_with_formula s) + 2) + rank s g.key.cell < left (λ j. 1) m.found (demand s root) * (length (cells_with_formula s) + 2) + rank s f.key.cell
@@ -126,8 +129,8 @@ pub run_keeps : (s : Sheet) (m n : Memory) (k j : Key) (v : Value) → IsMemoryO
 run_keeps s m n k j v h keeps e is = kept_memory s m n k v h keeps.sheet keeps.covers keeps.known (rw e is)
 
 pop_alone : (s : Sheet) (old m n : Memory) (root : Case) (start now next : Counts) (fs : List Frame) (f b : Frame) (v : Value) → IsRunning s old m root start now (fs ++ b ∷ []) f → Keeps m n f.key v → Finds m n f.key →
-    v ≡ cell_value (put_all s f.key.world) f.key.cell → next.evaluations ≤ now.evaluations + 1 → next.restarts ≤ now.restarts + spare s f → IsRunning s old n root start next fs b
-pop_alone s old m n root start now next fs f b v i keeps finds is ev re =
+    v ≡ cell_value (put_all s f.key.world) f.key.cell → NeverFall now next → next.evaluations ≤ now.evaluations + 1 → next.restarts ≤ now.restarts + spare s f → IsRunning s old n root start next fs b
+pop_alone s old m n root start now next fs f b v i keeps finds is up ev re =
     let stack = found_stack s m n f.key root (fs ++ b ∷ []) keeps.covers keeps.generation finds i.stack in
     let below = pop_stack s n root fs b (rank s f.key.cell) stack in
     record {
@@ -137,6 +140,7 @@ pop_alone s old m n root start now next fs f b v i keeps finds is ev re =
       begun = below.0;
       stack = below.1;
       bottom = pop_bottom root fs f b i.bottom;
+      counts = never_fall-then start now next i.counts up;
       evaluations = λ ks closed top. budget_pop (λ j. 1) (λ x. 1) m.found ks n.found fs f b now.evaluations next.evaluations _ finds (i.evaluations ks closed top) ev;
       restarts = λ ks closed top. budget_pop (wants s) (spare s) m.found ks n.found fs f b now.restarts next.restarts _ finds (i.restarts ks closed top) re;
     }
@@ -145,10 +149,10 @@ keeps_key : (m n : Memory) (k j : Key) (v : Value) → k ≡ j → Keeps m n k v
 keeps_key m n k j v e h = subst (λ (x : Key). Keeps m n x v) e h
 
 pub run_pop : (s : Sheet) (old m a n : Memory) (root : Case) (start now next : Counts) (fs gs : List Frame) (f b : Frame) (k : Key) (v : Value) → IsRunning s old m root start now gs f → a ≡ m → gs ≡ fs ++ b ∷ [] → k ≡ f.key →
-    Keeps a n k v → Finds a n k → v ≡ cell_value (put_all s f.key.world) f.key.cell → next.evaluations ≡ one_more now.evaluations → next.restarts ≤ now.restarts + spare s f → IsRunning s old n root start next fs b
-run_pop s old m a n root start now next fs gs f b k v i ea eg ek keeps finds is ev re =
+    Keeps a n k v → Finds a n k → v ≡ cell_value (put_all s f.key.world) f.key.cell → NeverFall now next → next.evaluations ≡ one_more now.evaluations → next.restarts ≤ now.restarts + spare s f → IsRunning s old n root start next fs b
+run_pop s old m a n root start now next fs gs f b k v i ea eg ek keeps finds is up ev re =
     let there = subst (λ (xs : List Frame). IsRunning s old a root start now xs f) eg (subst (λ (y : Memory). IsRunning s old y root start now gs f) (sym ea) i) in
-    pop_alone s old a n root start now next fs f b v there (keeps_key a n k f.key v ek keeps) (finds_key a n k f.key ek finds) is (one_more_at_most now.evaluations next.evaluations ev) re
+    pop_alone s old a n root start now next fs f b v there (keeps_key a n k f.key v ek keeps) (finds_key a n k f.key ek finds) is up (one_more_at_most now.evaluations next.evaluations ev) re
 
 pub pop_smaller : (s : Sheet) (old m a n : Memory) (root : Case) (start now : Counts) (fs : List Frame) (f b : Frame) (k : Key) → IsRunning s old m root start now fs f → a ≡ m → k ≡ f.key → Finds a n k →
     circular s root.0 ≡ false → has_formula (content_of (put_all s root.1) root.0) ≡ true →

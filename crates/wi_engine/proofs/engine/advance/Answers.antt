@@ -1,5 +1,6 @@
 use Rattle.std.proofs.Common.{◌≤◌, ◌+◌, Ok, ap, ◌∙◌, refl, rules, arith}
 use Rattle.wi_functions.specs.Counts.{Counts}
+use Rattle.wi_sheet.proofs.Counting.{never_fall-then}
 use Rattle.wi_engine.specs.Frames.{IsFrame, spare}
 use Rattle.wi_engine.proofs.engine.Awaiting.{frame_with}
 use Rattle.wi_engine.proofs.engine.Settling.{spare_waiting, round_counted, want_counted, round_smaller}
@@ -39,6 +40,7 @@ rounds-preserved g c =
       key = c.in_ok-key.ensures.key ∙ i.key;
       frame = frame_with s m f _ frame refl frame.found c.in_ok-frame-in-Needs.ensures.awaits;
       evaluations = ap (λ (n : Counts). n.evaluations) counted ∙ i.evaluations;
+      counts = never_fall-then _ _ _ i.counts c.answer.ensures.counts;
       restarts = round_counted c.rounds.meter.restarts c.answer.new.meter.restarts _ (spare s f) (spare s c.rounds.frame) _ (ap (λ (n : Counts). n.restarts) counted) less c.in_ok-key.ensures.spare i.restarts;
       same = c.in_ok-key.ensures.same ∙ i.same;
     }

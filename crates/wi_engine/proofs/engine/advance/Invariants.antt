@@ -1,4 +1,5 @@
 use Rattle.std.proofs.Common.{◌≡◌, ◌+◌, ◌≤◌}
+use Rattle.wi_sheet.specs.Spending.{NeverFall}
 use Rattle.wi_engine.specs.Frames.{IsFrame, spare}
 use Rattle.wi_engine.proofs.engine.advance.Given as goal
 
@@ -7,6 +8,7 @@ invariant-rounds g l = record {
   key : l.frame.key ≡ l.fn.frame.key;
   frame : IsFrame l.store.sheet (g.M.Memo.memory l.fn.memo) l.frame;
   evaluations : l.meter.evaluations ≡ l.fn.meter.evaluations;
+  counts : NeverFall l.fn.meter l.meter;
   restarts : l.meter.restarts + spare l.store.sheet l.frame ≤ l.fn.meter.restarts + spare l.store.sheet l.fn.frame;
   same : g.M.Memo.memory l.memo ≡ g.M.Memo.memory l.fn.memo;
 }

@@ -22,7 +22,7 @@ frames-preserved-in-Needs g c =
     let next = rw c.in-Needs.is at a.next in
     let counted = rw c.in-Needs.is at a.evaluations in
     run_push c.args.store.now.sheet (g.M.Memo.memory c.args.memo.now) (g.M.Memo.memory c.frames.memo) (g.M.Memo.memory c.advance.new.memo) (case_at c.args.key) c.args.meter.now c.frames.meter c.advance.new.meter
-    c.frames.stack.items c.push.new.self.items c.frames.frame c.advance.new.frame c.new-frame-in-Needs.result c.in-Needs.next c.frames.invariant a.same a.key a.frame next counted a.restarts
+    c.frames.stack.items c.push.new.self.items c.frames.frame c.advance.new.frame c.new-frame-in-Needs.result c.in-Needs.next c.frames.invariant a.same a.key a.frame next c.advance.ensures.counts counted a.restarts
     (record { key = n.key; cells = n.cells; what_ifs = n.what_ifs; waiting = n.waiting }) c.in_ok-push-in-Needs.ensures.items
 
 pub frames-smaller : goal.frames-smaller
@@ -42,4 +42,4 @@ frames-preserved g c =
     let restarts : c.advance.new.meter.restarts ≤ c.frames.meter.restarts + spare s c.frames.frame = omega (arith, a.restarts) in
     run_pop s (g.M.Memo.memory c.args.memo.now) (g.M.Memo.memory c.frames.memo) (g.M.Memo.memory c.advance.new.memo) (g.M.Memo.memory c.keep-in-Some.new.self) (case_at c.args.key) c.args.meter.now c.frames.meter c.advance.new.meter
     c.pop.new.self.items c.frames.stack.items c.frames.frame c.in-Some.below c.into_key-in-Some.result c.in-Done.value c.frames.invariant a.same popped (c.into_key-in-Some.ensures ∙ a.key)
-    (record { sheet = k.same_sheet; covers = k.same_cells; generation = k.same_generation; known = k.known }) k.found value counted restarts
+    (record { sheet = k.same_sheet; covers = k.same_cells; generation = k.same_generation; known = k.known }) k.found value c.advance.ensures.counts counted restarts

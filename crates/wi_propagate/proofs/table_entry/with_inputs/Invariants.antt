@@ -2,7 +2,7 @@ use Rattle.std.proofs.Common.{◌≡◌, take}
 use Rattle.wi_parser.specs.Sheet.{put_all}
 use Rattle.wi_sheet.specs.CellValue.{replacements, cell_value}
 use Rattle.wi_sheet.specs.Demand.{wants}
-use Rattle.wi_sheet.specs.Spending.{CountsFound, HasReplacing}
+use Rattle.wi_sheet.specs.Spending.{CountsFound, HasReplacing, NeverFall}
 use Rattle.wi_engine.specs.Memory.{IsMemoryOf}
 use Rattle.wi_propagate.proofs.table_entry.with_inputs.Given as goal
 
@@ -12,5 +12,6 @@ invariant-loop-pair g l = record {
   memory : IsMemoryOf l.store.sheet (g.M.Memo.memory l.memo);
   same_cells : (g.M.Memo.memory l.memo).covers ≡ (g.M.Memo.memory l.fn.memo).covers;
   evaluations : CountsFound l.store.sheet (HasReplacing l.store.sheet l.world l.pairs) (λ k. 1) (g.M.Memo.memory l.fn.memo).found (g.M.Memo.memory l.memo).found l.fn.meter.evaluations l.meter.evaluations;
+  counts : NeverFall l.fn.meter l.meter;
   restarts : CountsFound l.store.sheet (HasReplacing l.store.sheet l.world l.pairs) (wants l.store.sheet) (g.M.Memo.memory l.fn.memo).found (g.M.Memo.memory l.memo).found l.fn.meter.restarts l.meter.restarts;
 }
