@@ -19,7 +19,7 @@ use wi_scenarios::Workbook;
 const ONE_BY_ONE: usize = 9;
 
 /// How a run ended, whether its replies were flushed, and how often formulas were evaluated and begun again.
-#[derive(Clone, Copy, PartialEq, Eq)]
+#[derive(Clone, Copy, PartialEq)]
 struct Ending {
     outcome: Result<(), RunFault>,
     flushed: bool,
