@@ -134,6 +134,7 @@ impl Formula {
 
 // Appends the inputs of a tree's what-ifs.
 #[cycle(inputs)]
+#[tactic(auto, using(crate::proofs::Appended::both_appended))]
 fn push_inputs(expr: &Expr, inputs: &mut Vec<Address>) -> Result<(), AllocError>
     ensures { IfOk result (λ _. inputs.new.items ≡ inputs.old.items ++ inputs_of (tree_of expr.now)) }
 {
@@ -184,6 +185,7 @@ fn cell_area(at: Address) -> Rect
 
 // Appends the rectangles that a tree reads.
 #[cycle(rectangles)]
+#[tactic(auto, using(crate::proofs::Appended::both_appended))]
 fn push_rectangles(expr: &Expr, rectangles: &mut Vec<Rect>) -> Result<(), AllocError>
     ensures { IfOk result (λ _. rectangles.new.items ≡ rectangles.old.items ++ rectangles_of (tree_of expr.now)) }
 {

@@ -33,7 +33,7 @@ pub fn push_formula(expr: &Expr, out: &mut String) -> Result<(), AllocError>
 
 // Appends the text of a tree. On an error a part of it may be there.
 #[cycle(print)]
-#[tactic(auto, using(crate::proofs::PrintLemmas::starts_trans, crate::proofs::PrintLemmas::symbols_more))]
+#[tactic(auto, using(crate::proofs::PrintLemmas::starts_trans))]
 fn push_tree(expr: &Expr, out: &mut String) -> Result<(), AllocError>
     ensures ok { OnOk result (string_bytes out.new ≡ string_bytes out.old ++ tree_text (tree_of expr.now)) }
     ensures kept { StartsWith (string_bytes out.new) (string_bytes out.old) }
@@ -57,7 +57,7 @@ fn push_tree(expr: &Expr, out: &mut String) -> Result<(), AllocError>
 
 // Appends a tree in parentheses. On an error a part of it may be there.
 #[cycle(print)]
-#[tactic(auto, using(crate::proofs::PrintLemmas::starts_trans, crate::proofs::PrintLemmas::starts_more, crate::proofs::PrintLemmas::symbols_more))]
+#[tactic(auto, using(crate::proofs::PrintLemmas::starts_trans, crate::proofs::PrintLemmas::starts_more))]
 fn push_parenthesized(inner: &Expr, out: &mut String) -> Result<(), AllocError>
     ensures ok { OnOk result (string_bytes out.new ≡ string_bytes out.old ++ tree_text (tree.parenthesized (tree_of inner.now))) }
     ensures kept { StartsWith (string_bytes out.new) (string_bytes out.old) }
@@ -69,7 +69,7 @@ fn push_parenthesized(inner: &Expr, out: &mut String) -> Result<(), AllocError>
 
 // Appends a sign and its operand. On an error a part of them may be there.
 #[cycle(print)]
-#[tactic(auto, using(crate::proofs::PrintLemmas::starts_trans, crate::proofs::PrintLemmas::symbols_more))]
+#[tactic(auto, using(crate::proofs::PrintLemmas::starts_trans))]
 fn push_signed(sign: Sign, operand: &Expr, out: &mut String) -> Result<(), AllocError>
     ensures ok { OnOk result (string_bytes out.new ≡ string_bytes out.old ++ tree_text (tree.signed sign (tree_of operand.now))) }
     ensures kept { StartsWith (string_bytes out.new) (string_bytes out.old) }
@@ -102,7 +102,7 @@ fn push_operation(op: Operator, operand: &Expr, out: &mut String) -> Result<(), 
 
 // Appends a call. On an error a part of it may be there.
 #[cycle(print)]
-#[tactic(auto, using(crate::proofs::PrintLemmas::starts_trans, crate::proofs::PrintLemmas::starts_more, crate::proofs::PrintLemmas::symbols_more))]
+#[tactic(auto, using(crate::proofs::PrintLemmas::starts_trans, crate::proofs::PrintLemmas::starts_more))]
 fn push_call(name: &Text, parameters: &[Expr], out: &mut String) -> Result<(), AllocError>
     ensures ok { OnOk result (string_bytes out.new ≡ string_bytes out.old ++ tree_text (tree.call name.now (all_of parameters.now))) }
     ensures kept { StartsWith (string_bytes out.new) (string_bytes out.old) }
@@ -193,7 +193,7 @@ fn push_cell(at: Reference, out: &mut String) -> Result<(), AllocError>
 }
 
 // Appends a what-if. On an error a part of it may be there.
-#[tactic(auto, using(crate::proofs::PrintLemmas::starts_trans, crate::proofs::PrintLemmas::starts_more, crate::proofs::PrintLemmas::symbols_more))]
+#[tactic(auto, using(crate::proofs::PrintLemmas::starts_trans, crate::proofs::PrintLemmas::starts_more))]
 fn push_what_if(formula_cell: Reference, pairs: &[Pair], out: &mut String) -> Result<(), AllocError>
     ensures ok { OnOk result (string_bytes out.new ≡ string_bytes out.old ++ tree_text (tree.what_if formula_cell (map pair_of pairs.now))) }
     ensures kept { StartsWith (string_bytes out.new) (string_bytes out.old) }
