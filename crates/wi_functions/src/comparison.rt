@@ -10,14 +10,14 @@ use std::cmp::Ordering;
 use wi_values::{ErrorKind, Text, Value};
 
 /// The first error from the left.
-pub fn first_error(left: &Value, right: &Value) -> Option<ErrorKind>
+pub(crate) fn first_error(left: &Value, right: &Value) -> Option<ErrorKind>
     ensures { result ≡ first_error left.now right.now }
 {
     error_in(left).or(error_in(right))
 }
 
 /// The order of two values, in which Empty counts as 0, the empty text or FALSE, as the other is.
-pub fn compare(alloc: Global, left: &Value, right: &Value) -> Ordering
+pub(crate) fn compare(alloc: Global, left: &Value, right: &Value) -> Ordering
     ensures { result ≡ order (beside right.now left.now) (beside left.now right.now) }
 {
     let left_empty = empty_beside(alloc, right);

@@ -8,7 +8,7 @@ use wi_fraction::Fraction;
 use wi_values::{ErrorKind, Value};
 
 /// The number 0.
-pub fn zero() -> Fraction
+pub(crate) fn zero() -> Fraction
     ensures { result ≡ zero_number }
 {
     match Fraction::new(0, 1) {
@@ -18,7 +18,7 @@ pub fn zero() -> Fraction
 }
 
 /// The number 1.
-pub fn one() -> Fraction
+pub(crate) fn one() -> Fraction
     ensures { result ≡ one_number }
 {
     match Fraction::new(1, 1) {
@@ -28,7 +28,7 @@ pub fn one() -> Fraction
 }
 
 /// The number 100.
-pub fn hundred() -> Fraction
+pub(crate) fn hundred() -> Fraction
     ensures { result ≡ hundred_number }
 {
     match Fraction::new(100, 1) {
@@ -38,7 +38,7 @@ pub fn hundred() -> Fraction
 }
 
 /// A value taken for a number.
-pub fn to_number(value: &Value) -> Result<Fraction, ErrorKind>
+pub(crate) fn to_number(value: &Value) -> Result<Fraction, ErrorKind>
     ensures { result ≡ to_number value.now }
 {
     match value {

@@ -4,6 +4,7 @@ ghost use Rattle.std.specs.Prelude.{◌≡◌, map, IfOk, IfErr, OnErr};
 ghost use Rattle.wi_parser.specs.View.{tree_of, pair_of};
 ghost use Rattle.wi_parser.specs.Tree.{cell, rectangle, signed, percent, binary, what_if as what_if_tree};
 ghost use Rattle.wi_functions.specs.Meaning as formulas;
+ghost use Rattle.wi_functions.specs.Operators as operators;
 ghost use Rattle.wi_functions.specs.Assignment.{Assignment, AgreesWith};
 ghost use Rattle.wi_functions.specs.Wants.{Asks, IsUnknown, IfNeeds, IfDone, IfWanting, counted};
 
@@ -16,7 +17,7 @@ use wi_parser::{Corners, Expr, Formula, Operator, Pair, Reference, Sign};
 use wi_values::{Address, ErrorKind, Text, Value};
 
 /// What an evaluation can't go on without.
-#[derive(Debug, Drop)]
+#[derive(Drop)]
 pub enum Want {
     Cell(Address),
     /// The value of the formula cell, if each input had the value of its replacement cell.
@@ -24,14 +25,14 @@ pub enum Want {
 }
 
 /// How an evaluation ends.
-#[derive(Debug, Drop)]
+#[derive(Drop)]
 pub enum Outcome {
     Done(Value),
     Needs(Want),
 }
 
 /// Why an evaluation stops before its end.
-#[derive(Debug, Drop)]
+#[derive(Drop)]
 enum Stop {
     Needs(Want),
     Memory,
@@ -145,8 +146,25 @@ fn binary_value<L: Lookup>(
     ensures unknown { IfErr result (λ s. IfNeeds s (IsUnknown (L.known_cell lookup.now) (L.known_what_if lookup.now))) }
 {
     let x = value_of(alloc, left, lookup)?;
+    with_right_operand(alloc, operator, &x, right, lookup)
+}
+
+/// The value of an operator between a value and an expression.
+#[cycle(evaluating)]
+#[inline(never)]
+fn with_right_operand<L: Lookup>(
+    alloc: Global,
+    operator: Operator,
+    left: &Value,
+    right: &Expr,
+    lookup: &L,
+) -> Result<Value, Stop>
+    ensures done { IfOk result (λ v. (a : Assignment) → AgreesWith (L.known_cell lookup.now) (L.known_what_if lookup.now) a → v ≡ operators.operate operator left.now (formulas.meaning (tree_of right.now) a.cells a.what_ifs)) }
+    ensures asked { IfErr result (λ s. IfNeeds s (Asks (tree_of right.now))) }
+    ensures unknown { IfErr result (λ s. IfNeeds s (IsUnknown (L.known_cell lookup.now) (L.known_what_if lookup.now))) }
+{
     let y = value_of(alloc, right, lookup)?;
-    Ok(operate(alloc, operator, &x, &y)?)
+    Ok(operate(alloc, operator, left, &y)?)
 }
 
 /// A text's value.

@@ -10,7 +10,7 @@ use wi_parser::Pair;
 use wi_values::{Address, Value};
 
 /// What is known of a cell or of a what-if.
-#[derive(Clone, Copy, Debug)]
+#[derive(Clone, Copy)]
 pub enum Answer<'a> {
     Known(&'a Value),
     Missing,

@@ -16,7 +16,7 @@ use wi_values::{ErrorKind, MAX_TEXT, Text, Value};
 
 /// What an operator gives for two values. Only a join needs memory.
 #[inline(never)]
-pub fn operate(
+pub(crate) fn operate(
     alloc: Global,
     operator: Operator,
     left: &Value,
@@ -41,7 +41,7 @@ pub fn operate(
 }
 
 /// What a sign gives for a value. A plus changes nothing.
-pub fn with_sign(sign: Sign, value: Value) -> Value
+pub(crate) fn with_sign(sign: Sign, value: Value) -> Value
     ensures { result ≡ with_sign sign value }
 {
     match sign {
@@ -51,7 +51,7 @@ pub fn with_sign(sign: Sign, value: Value) -> Value
 }
 
 /// A value divided by 100.
-pub fn hundredth(value: &Value) -> Value
+pub(crate) fn hundredth(value: &Value) -> Value
     ensures { result ≡ hundredth value.now }
 {
     value_or_error(divide(value, &Value::Number(hundred())))
