@@ -2,22 +2,19 @@
 use Rattle.std.proofs.Common.{◌≡◌, ℕ, ◌+◌, ◌<◌, ◌==◌, Bool, true, false, cond, List, [], ◌∷◌, length, not, Option, Some, None, refl, sym, ap, ◌∙◌, subst, arith, ⊎_elim, inl, inr, ◌⊎◌}
 use Rattle.std.specs.Option.{option_flatten, is_some}
 use Rattle.std.specs.Ordering.{nat_cmp}
-use Rattle.std.specs.declared.cmp.Ordering.TheVariants.{Less, Equal, Greater}
+use Rattle.std.specs.declared.cmp.Ordering.TheVariants.{Equal, Greater}
 use Rattle.std.specs.Map.{set_value, remove_entry}
 use Rattle.std.specs.BTreeMap.{is_at, insert_entry}
-use Rattle.std.proofs.lemmas.Bool.{cases_order, cases_eq}
+use Rattle.std.proofs.lemmas.Bool.{cases_order, cases_eq, eq-eqb}
 use Rattle.std.proofs.lemmas.Bool.Decides.{nat_tests}
 use Rattle.wi_parser.specs.Sheet.{Sheet, content_of, without, with_content}
 use Rattle.wi_parser.specs.declared.content.Content.{Content}
 use Rattle.wi_store.specs.Store.{edited}
 use Rattle.wi_store.specs.Rooms.{Rooms, sheet_in, room_of}
 use Rattle.wi_store.specs.Exchange.{stood, restored}
-use Rattle.wi_store.proofs.RoomLemmas.{ComeAfter, Ascends, come_after_earlier, is_at_same, is_at_earlier, lookup_after, ComeAfter-sheet_in, Ascends-sheet_in, content_of-sheet_in}
+use Rattle.wi_store.proofs.RoomLemmas.{ComeAfter, Ascends, cmp_before, come_after_earlier, is_at_same, is_at_earlier, lookup_after, ComeAfter-sheet_in, Ascends-sheet_in, content_of-sheet_in}
 
 -- ---- one content put into a sheet, by where its cell stands
-
-cmp_same : (a : ℕ) → nat_cmp a a ≡ Equal
-cmp_same a = grind (arith, nat_tests)
 
 cmp_equal : (a b : ℕ) → a ≡ b → nat_cmp a b ≡ Equal
 cmp_equal a b h = grind (arith, nat_tests)
@@ -25,14 +22,8 @@ cmp_equal a b h = grind (arith, nat_tests)
 is_at_equal : (a b : ℕ) → a ≡ b → is_at (nat_cmp a) b ≡ true
 is_at_equal a b h = grind (arith, nat_tests)
 
-cmp_before : (a b : ℕ) → a < b → nat_cmp a b ≡ Less
-cmp_before a b h = grind (arith, nat_tests)
-
 cmp_after : (a b : ℕ) → b < a → nat_cmp a b ≡ Greater
 cmp_after a b h = grind (arith, nat_tests)
-
-same_number : (a : ℕ) → (a == a) ≡ true
-same_number a = grind (arith, nat_tests)
 
 other_number : (a b : ℕ) → b < a → (b == a) ≡ false
 other_number a b h = grind (arith, nat_tests)
@@ -59,8 +50,8 @@ with_content-after a None s h = without_after a s h
 with_content-after a (Some x) s h = insert_after a x s h
 
 with_content-here : (a : ℕ) (y : Content) (o : Option Content) (s : Sheet) → ComeAfter a s → with_content ((a, y) ∷ s) a o ≡ with_front a o s
-with_content-here a y None s h = rw (same_number a) (without_after a s h)
-with_content-here a y (Some x) s h = rw (cmp_same a) refl
+with_content-here a y None s h = rw (eq-eqb a a refl) (without_after a s h)
+with_content-here a y (Some x) s h = rw (cmp_equal a a refl) refl
 
 with_content-later : (a c : ℕ) (y : Content) (o : Option Content) (s : Sheet) → c < a → with_content ((c, y) ∷ s) a o ≡ (c, y) ∷ with_content s a o
 with_content-later a c y None s h = rw (other_number a c h) refl

@@ -3,21 +3,22 @@ use Rattle.std.proofs.Common.{◌≡◌, ℕ, ◌<◌, ◌≤◌, Bool, true, fa
 use Rattle.std.specs.Prelude.{nat_le}
 use Rattle.std.specs.List.{find}
 use Rattle.std.specs.Map.{keys_of}
-use Rattle.std.proofs.lemmas.Bool.{and_parts, and_from, false_from_ne_true}
+use Rattle.std.proofs.Math.Bool.{and-false, and-true}
+use Rattle.std.proofs.lemmas.Bool.{and_parts, and_from, false_from_ne_true, le-leb, leb-true}
 use Rattle.wi_values.specs.Address.{Area, is_within}
 use Rattle.wi_store.specs.Rooms.{Rooms, is_ahead}
 use Rattle.wi_store.proofs.RoomLemmas.{ComeAfter, Ascends}
-use Rattle.wi_store.proofs.Within.{range_of, same, and_false, at_most, nat_le-from, within_between, is_between, is_between-means, is_between-from, cells_ahead}
+use Rattle.wi_store.proofs.Within.{range_of, same, within_between, is_between, is_between-means, is_between-from, cells_ahead}
 
 -- the cell comes at or after the one, and at or before the other
 abbrev pub spans : ℕ → ℕ → ℕ → Bool
 spans from to a = nat_le from a && nat_le a to
 
 spans-means : (from to a : ℕ) → spans from to a ≡ true → (from ≤ a) × (a ≤ to)
-spans-means from to a h = let p = and_parts (nat_le from a) _ h in (at_most from a p.0, at_most a to p.1)
+spans-means from to a h = let p = and_parts (nat_le from a) _ h in (leb-true from a p.0, leb-true a to p.1)
 
 spans-from : (from to a : ℕ) → (from ≤ a) × (a ≤ to) → spans from to a ≡ true
-spans-from from to a h = and_from _ _ (nat_le-from from a h.0) (nat_le-from a to h.1)
+spans-from from to a h = and_from _ _ (le-leb from a h.0) (le-leb a to h.1)
 
 -- ---- the first of a list
 
@@ -101,7 +102,7 @@ ahead_spans : (r : Area) (start a : ℕ) → spans start r.last a ≡ false → 
 ahead_spans r start a h =
     false_from_ne_true (is_ahead r (Some start) a) (λ w.
     let p = and_parts (nat_le start a) _ w in
-    let z = spans-from start r.last a (at_most start a p.0, (within_between r a p.1).1) in
+    let z = spans-from start r.last a (leb-true start a p.0, (within_between r a p.1).1) in
     cc)
 
 pub search_none : (r : Area) (start : ℕ) (xs : List ℕ) → find (spans start r.last) xs ≡ None → find (is_ahead r (Some start)) xs ≡ None
@@ -110,7 +111,7 @@ search_none r start xs h = none_narrower (spans start r.last) (is_ahead r (Some 
 pub search_found : (r : Area) (start c : ℕ) (xs : List ℕ) → find (spans start r.last) xs ≡ Some c → is_within r c ≡ true → find (is_ahead r (Some start)) xs ≡ Some c
 search_found r start c xs h w =
     let s = spans-means start r.last c (found_passes (spans start r.last) xs c h) in
-    first_narrower (spans start r.last) (is_ahead r (Some start)) c (ahead_spans r start) (and_from _ _ (nat_le-from start c s.0) w) xs h
+    first_narrower (spans start r.last) (is_ahead r (Some start)) c (ahead_spans r start) (and_from _ _ (le-leb start c s.0) w) xs h
 
 -- where the search goes on after a cell beside the rectangle
 pub search_on : (r : Area) (start c : ℕ) (next : Option ℕ) (rooms : Rooms) → Ascends rooms → find (spans start r.last) (keys_of rooms) ≡ Some c → is_within r c ≡ false →
@@ -122,15 +123,15 @@ search_on r start c next rooms asc h beside after all =
     (λ a m. false_from_ne_true (is_ahead r next a) (λ w. let z = spans-from start r.last a (reach next after a w s.0) in cc))
     (ahead_spans r start)
     (same r c next all c (omega arith) ∙ beside)
-    (ap (λ (b : Bool). nat_le start c && b) beside ∙ and_false (nat_le start c))
-    (λ a m. same r c next all a (omega arith) ∙ sym (ap (λ (b : Bool). b && is_within r a) (nat_le-from start a (omega (arith, s.0)))))
+    (ap (λ (b : Bool). nat_le start c && b) beside ∙ and-false (nat_le start c))
+    (λ a m. same r c next all a (omega arith) ∙ sym (ap (λ (b : Bool). b && is_within r a) (le-leb start a (omega (arith, s.0)))))
     rooms asc h
   where
     reach : (o : Option ℕ) → IfSome o (λ n. (c < n) × (n ≤ r.last)) → (a : ℕ) → is_ahead r o a ≡ true → start ≤ c → (start ≤ a) × (a ≤ r.last)
     reach None k a w l = absurd (let z = w in cc)
     reach (Some n) k a w l =
         let p = and_parts (nat_le n a) _ w in
-        let m = at_most n a p.0 in
+        let m = leb-true n a p.0 in
         (omega (arith, k.0), (within_between r a p.1).1)
 
 -- each turn of the search leaves fewer cells
@@ -141,10 +142,6 @@ pub nothing_found : (r : Area) (xs : List ℕ) → find (is_ahead r None) xs ≡
 nothing_found r [] = refl
 nothing_found r (x ∷ xs) = nothing_found r xs
 
-and_true : (b : Bool) → (b && true) ≡ b
-and_true true = refl
-and_true false = refl
-
 -- one test after another
 pub find_ahead : (r : Area) (from : ℕ) (xs : List ℕ) → find (is_ahead r (Some from)) xs ≡ find (λ a. nat_le from a) (filter (is_within r) xs)
 find_ahead r from [] = refl
@@ -154,11 +151,11 @@ find_ahead r from (x ∷ xs) = at (is_within r x) refl (find_ahead r from xs)
         cond (nat_le from x && is_within r x) (Some x) (find (is_ahead r (Some from)) xs) ≡ find (λ a. nat_le from a) (cond b (x ∷ filter (is_within r) xs) (filter (is_within r) xs))
     at true h ih =
         ap (λ (b : Bool). cond (nat_le from x && b) (Some x) (find (is_ahead r (Some from)) xs)) h
-        ∙ ap (λ (b : Bool). cond b (Some x) (find (is_ahead r (Some from)) xs)) (and_true (nat_le from x))
+        ∙ ap (λ (b : Bool). cond b (Some x) (find (is_ahead r (Some from)) xs)) (and-true (nat_le from x))
         ∙ ap (λ (o : Option ℕ). cond (nat_le from x) (Some x) o) ih
     at false h ih =
         ap (λ (b : Bool). cond (nat_le from x && b) (Some x) (find (is_ahead r (Some from)) xs)) h
-        ∙ ap (λ (b : Bool). cond b (Some x) (find (is_ahead r (Some from)) xs)) (and_false (nat_le from x))
+        ∙ ap (λ (b : Bool). cond b (Some x) (find (is_ahead r (Some from)) xs)) (and-false (nat_le from x))
         ∙ ih
 
 pub fewer_ahead : (r : Area) (start c : ℕ) (next now : Option ℕ) → now ≡ Some start → (start ≤ c) × (c ≤ r.last) → IfSome next (λ n. (c < n) × (n ≤ r.last)) → cells_ahead r next < cells_ahead r now

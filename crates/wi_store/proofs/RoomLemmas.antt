@@ -37,12 +37,12 @@ Ascends-from_order [] h = tt
 Ascends-from_order (e ∷ es) h =
     (ComeAfter-from_keys e.0 es (sorted_head nat_cmp e.0 (keys_of es) h), Ascends-from_order es (sorted_tail nat_cmp e.0 (keys_of es) h))
 
-Less-from_below : (a b : ℕ) → a < b → nat_cmp a b ≡ Less
-Less-from_below a b h = grind (arith, nat_tests)
+pub cmp_before : (a b : ℕ) → a < b → nat_cmp a b ≡ Less
+cmp_before a b h = grind (arith, nat_tests)
 
 keys-from_ComeAfter : {X : Type 0} (a : ℕ) (es : List (ℕ × X)) → ComeAfter a es → AllByRecursion (λ b. nat_cmp a b ≡ Less) (keys_of es)
 keys-from_ComeAfter a [] h = tt
-keys-from_ComeAfter a (e ∷ es) h = (Less-from_below a e.0 h.0, keys-from_ComeAfter a es h.1)
+keys-from_ComeAfter a (e ∷ es) h = (cmp_before a e.0 h.0, keys-from_ComeAfter a es h.1)
 
 pub order-from_Ascends : {X : Type 0} (es : List (ℕ × X)) → Ascends es → IsStrictlySortedBy nat_cmp (keys_of es)
 unfolding IsStrictlySortedBy

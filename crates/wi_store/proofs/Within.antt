@@ -5,8 +5,10 @@ use Rattle.std.specs.Ordering.{nat_cmp, is_le, is_lt}
 use Rattle.std.specs.Map.{keys_of}
 use Rattle.std.specs.declared.ops.Bound.TheVariants.{Included}
 use Rattle.std.specs.BTreeMap.Range.{range_contains, entries_between}
-use Rattle.std.proofs.lemmas.Bool.{and_parts, and_from, false_from_ne_true}
+use Rattle.std.proofs.Math.Bool.{and-false}
+use Rattle.std.proofs.lemmas.Bool.{and_parts, and_from, false_from_ne_true, le-leb, leb-true, lt-leb}
 use Rattle.std.proofs.lemmas.Bool.Decides.{nat_tests}
+use Rattle.std.proofs.lemmas.List.Elements.{filter_agree}
 use Rattle.wi_values.specs.Address.{Area, row_of, column_of, is_within}
 use Rattle.wi_parser.specs.Sheet.{has_formula}
 use Rattle.wi_parser.specs.declared.content.Content.{Content}
@@ -20,10 +22,6 @@ next_room w c o es = by (has_formula o)
     by : (b : Bool) → filter w (keys_of (cond b ((c, o) ∷ filter (λ e. has_formula e.1) es) (filter (λ e. has_formula e.1) es))) ≡ cond (b && w c) (c ∷ filter w (formula_rooms es)) (filter w (formula_rooms es))
     by true = refl
     by false = refl
-
-pub and_false : (b : Bool) → (b && false) ≡ false
-and_false true = refl
-and_false false = refl
 
 -- ---- rooms one after another
 
@@ -46,15 +44,6 @@ last_room w before c o b h =
 
 -- ---- orders
 
-pub at_most : (m n : ℕ) → nat_le m n ≡ true → m ≤ n
-at_most m n h = grind (arith, nat_tests)
-
-pub nat_le-from : (m n : ℕ) → m ≤ n → nat_le m n ≡ true
-nat_le-from m n h = grind (arith, nat_tests)
-
-nat_le-not : (m n : ℕ) → n < m → nat_le m n ≡ false
-nat_le-not m n h = grind (arith, nat_tests)
-
 is_le-from : (a b : ℕ) → a ≤ b → is_le (nat_cmp a b) ≡ true
 is_le-from a b h = grind (arith, nat_tests)
 
@@ -73,10 +62,10 @@ within_between r a h =
     let p = and_parts (nat_le (row_of r.first) (row_of a) && nat_le (row_of a) (row_of r.last)) _ h in
     let rows = and_parts (nat_le (row_of r.first) (row_of a)) _ p.0 in
     let cols = and_parts (nat_le (column_of r.first) (column_of a)) _ p.1 in
-    let above = at_most _ _ rows.0 in
-    let below = at_most _ _ rows.1 in
-    let left = at_most _ _ cols.0 in
-    let right = at_most _ _ cols.1 in
+    let above = leb-true _ _ rows.0 in
+    let below = leb-true _ _ rows.1 in
+    let left = leb-true _ _ cols.0 in
+    let right = leb-true _ _ cols.1 in
     (omega arith, omega arith)
 
 abbrev pub is_between : ℕ → ℕ → ℕ → Bool
@@ -146,7 +135,7 @@ between_all p a b h (e ∷ es) = at (is_between a b e.0) refl (between_all p a b
     at false k ih =
         let none = false_from_ne_true (p e.0) (λ w. let z = is_between-from a b e.0 (h e.0 w) in cc) in
         ih
-        ∙ ap (λ (x : Bool). cond x (e.0 ∷ filter p (formula_rooms es)) (filter p (formula_rooms es))) (sym (ap (λ (x : Bool). has_formula e.1 && x) none ∙ and_false (has_formula e.1)))
+        ∙ ap (λ (x : Bool). cond x (e.0 ∷ filter p (formula_rooms es)) (filter p (formula_rooms es))) (sym (ap (λ (x : Bool). has_formula e.1 && x) none ∙ and-false (has_formula e.1)))
         ∙ sym (next_room p e.0 e.1 es)
 
 -- two properties agree on rooms between a and b where they agree from a on
@@ -180,36 +169,32 @@ from_here p q c o low same [] es h =
     ∙ sym (next_room q c o es)
 from_here p q c o low same (e ∷ before) es h =
     next_room p e.0 e.1 (before ++ (c, o) ∷ es)
-    ∙ ap (λ (x : Bool). cond x (e.0 ∷ filter p (formula_rooms (before ++ (c, o) ∷ es))) (filter p (formula_rooms (before ++ (c, o) ∷ es)))) (ap (λ (x : Bool). has_formula e.1 && x) (low e.0 (comes_before e.0 c o before es h.0)) ∙ and_false (has_formula e.1))
+    ∙ ap (λ (x : Bool). cond x (e.0 ∷ filter p (formula_rooms (before ++ (c, o) ∷ es))) (filter p (formula_rooms (before ++ (c, o) ∷ es)))) (ap (λ (x : Bool). has_formula e.1 && x) (low e.0 (comes_before e.0 c o before es h.0)) ∙ and-false (has_formula e.1))
     ∙ from_here p q c o low same before es h.1
 
 -- ---- what is ahead
 
 -- from a cell on the rectangle is what is ahead
 ahead_from : (r : Area) (from a : ℕ) → from ≤ a → is_within r a ≡ is_ahead r (Some from) a
-ahead_from r from a h = sym (ap (λ (b : Bool). b && is_within r a) (nat_le-from from a h))
+ahead_from r from a h = sym (ap (λ (b : Bool). b && is_within r a) (le-leb from a h))
 
 pub ahead_in_range : (r : Area) (from : ℕ) (rooms : Rooms) → filter (is_within r) (formula_rooms (range_of from r.last rooms)) ≡ filter (is_ahead r (Some from)) (formula_rooms rooms)
 ahead_in_range r from rooms =
     same_between (is_within r) (is_ahead r (Some from)) from r.last (ahead_from r from) (range_of from r.last rooms) (range_between from r.last rooms)
     ∙ between_all (is_ahead r (Some from)) from r.last
-    (λ c h. let p = and_parts (nat_le from c) _ h in (at_most from c p.0, (within_between r c p.1).1)) rooms
+    (λ c h. let p = and_parts (nat_le from c) _ h in (leb-true from c p.0, (within_between r c p.1).1)) rooms
 
 nothing_ahead : (r : Area) (cs : List ℕ) → filter (is_ahead r None) cs ≡ []
 nothing_ahead r [] = refl
 nothing_ahead r (c ∷ cs) = nothing_ahead r cs
 
-filter_same : (p q : ℕ → Bool) → ((c : ℕ) → p c ≡ q c) → (cs : List ℕ) → filter p cs ≡ filter q cs
-filter_same p q h [] = refl
-filter_same p q h (c ∷ cs) = rw (h c, filter_same p q h cs)
-
 -- from its first cell on all of the rectangle is ahead
 pub all_ahead : (r : Area) (cs : List ℕ) → filter (is_ahead r (Some r.first)) cs ≡ filter (is_within r) cs
-all_ahead r cs = filter_same _ _ (λ c. at c (is_within r c) refl) cs
+all_ahead r cs = filter_agree _ _ (λ c. at c (is_within r c) refl) cs
   where
     at : (c : ℕ) (b : Bool) → is_within r c ≡ b → (nat_le r.first c && is_within r c) ≡ is_within r c
-    at c true h = ap (λ (x : Bool). x && is_within r c) (nat_le-from r.first c (within_between r c h).0)
-    at c false h = ap (λ (x : Bool). nat_le r.first c && x) h ∙ and_false (nat_le r.first c) ∙ sym h
+    at c true h = ap (λ (x : Bool). x && is_within r c) (le-leb r.first c (within_between r c h).0)
+    at c false h = ap (λ (x : Bool). nat_le r.first c && x) h ∙ and-false (nat_le r.first c) ∙ sym h
 
 -- at the end of the search
 pub none_ahead : (r : Area) (found all cs : List ℕ) → found ++ filter (is_ahead r None) cs ≡ all → found ≡ all
@@ -218,7 +203,7 @@ none_ahead r found all cs h = sym (append-nil found) ∙ ap (λ (xs : List ℕ).
 -- where the next cell is after c, nothing before c is ahead
 pub low : (r : Area) (c : ℕ) (next : Option ℕ) → IfSome next (λ n. (c < n) × (n ≤ r.last)) → (a : ℕ) → a < c → is_ahead r next a ≡ false
 low r c None h a l = refl
-low r c (Some n) h a l = ap (λ (b : Bool). b && is_within r a) (nat_le-not n a (omega (arith, h.0)))
+low r c (Some n) h a l = ap (λ (b : Bool). b && is_within r a) (lt-leb n a (omega (arith, h.0)))
 
 -- and from c on all of the rectangle is, where it is said to be
 pub same : (r : Area) (c : ℕ) (next : Option ℕ) → ((a : ℕ) → is_within r a ≡ true → c ≤ a → is_ahead r next a ≡ true) → (a : ℕ) → c ≤ a → is_ahead r next a ≡ is_within r a
@@ -227,13 +212,13 @@ same r c next all a l = at next (is_within r a) refl (λ w. all a w l)
     at : (o : Option ℕ) (b : Bool) → is_within r a ≡ b → (is_within r a ≡ true → is_ahead r o a ≡ true) → is_ahead r o a ≡ is_within r a
     at o true h k = k h ∙ sym h
     at None false h k = sym h
-    at (Some n) false h k = ap (λ (x : Bool). nat_le n a && x) h ∙ and_false (nat_le n a) ∙ sym h
+    at (Some n) false h k = ap (λ (x : Bool). nat_le n a && x) h ∙ and-false (nat_le n a) ∙ sym h
 
 ahead_between : (r : Area) (from c : ℕ) (next : Option ℕ) → from ≤ c → IfSome next (λ n. (c < n) × (n ≤ r.last)) → (a : ℕ) → is_ahead r next a ≡ true → (from ≤ a) × (a ≤ r.last)
 ahead_between r from c None f h a k = absurd (let z = k in cc)
 ahead_between r from c (Some n) f h a k =
     let p = and_parts (nat_le n a) _ k in
-    let l = at_most n a p.0 in
+    let l = leb-true n a p.0 in
     (omega (arith, h.0), (within_between r a p.1).1)
 
 -- ---- a loop over a range

@@ -1,0 +1,5 @@
+use Rattle.std.proofs.Common.{rules}
+use Rattle.wi_store.proofs.limits.Limits.admit.Goals as goal
+
+pub returns-then-cells-self : goal.returns-then-cells-self
+returns-then-cells-self c = search rules
