@@ -11,7 +11,8 @@ use std::marker::Model;
 use std::num::NonZeroUsize;
 use wi_values::Value;
 
-/// Values by keys, of which there are at most so many as the capacity.
+/// Values by keys, of which there are at most so many as the capacity. Where one has to go, it is the entry that was kept
+/// longest ago, however often it was looked at since: a look leaves the order as it is.
 #[derive(Drop)]
 pub struct Kept {
     entries: LruCache<Key, Value>,
