@@ -1,7 +1,5 @@
 use Rattle.std.proofs.Common.{rules}
-use Rattle.wi_scenarios.specs.Step.{step}
 use Rattle.wi_cli.proofs.runs.execute.Goals as goal
 
 pub returns-in-Set : goal.returns-in-Set
-unfolding step
 returns-in-Set g c = search rules
