@@ -11,16 +11,20 @@ use wi_values::Value;
 /// Half of the usual stack, in bytes.
 const HALF: usize = 4 * 1024 * 1024;
 
+/// Whether a formula is printed as this text.
+fn is_printed_as(alloc: Global, formula: &Formula, text: &str) -> Result<bool, AllocError> {
+    let out = printed(alloc, formula)?;
+    Ok(out.as_str() == text)
+}
+
 /// Whether a formula and its copy are printed as this text, and so is the formula that is read from it.
-fn prints(alloc: Global, formula: &Formula, text: &str) -> Result<bool, AllocError> {
-    let Ok(again) = parse(alloc, text) else {
-        return Ok(false);
-    };
+fn prints(alloc: Global, formula: &Formula, text: &str) -> Result<bool> {
     let copy = formula.copy(alloc)?;
+    let again = parse(alloc, text)?;
     Ok(
-        printed(alloc, formula)?.as_str() == text
-            && printed(alloc, &copy)?.as_str() == text
-            && printed(alloc, &again)?.as_str() == text,
+        is_printed_as(alloc, formula, text)?
+            && is_printed_as(alloc, &copy, text)?
+            && is_printed_as(alloc, &again, text)?,
     )
 }
 
