@@ -2,7 +2,7 @@
 use Rattle.std.proofs.Common.{◌≡◌, ℕ, ◌+◌, ◌<◌, ◌≤◌, List, [], ◌∷◌, ◌++◌, length, get_or, take, drop, ap, ◌∙◌, arith, Option, None, Some}
 use Rattle.std.specs.Io.KnownBytes.{Consumes}
 use Rattle.std.proofs.lemmas.List.{drop_more, get_or-take, length-take}
-use Rattle.wi_cli.specs.Ahead.{Takes}
+use Rattle.wi_cli.specs.Inner.Ahead.{Takes}
 
 pub first_of : (bytes : List ℕ) (at filled : ℕ) → at < filled → filled ≤ length bytes → drop at (take filled bytes) ≡ get_or bytes at 0 ∷ drop (at + 1) (take filled bytes)
 first_of bytes at filled l m =

@@ -3,7 +3,7 @@ use Rattle.std.proofs.Common.{◌≡◌, ℕ, Bool, true, false, cond, eqb, List
 use Rattle.std.specs.List.{concat}
 use Rattle.std.proofs.lemmas.Bool.{false≢true}
 use Rattle.wi_cli.specs.Lines.{raw_lines, onto_first, without_lf, is_whole}
-use Rattle.wi_cli.specs.Reading.{raw}
+use Rattle.wi_cli.specs.Inner.Reading.{raw}
 
 -- a byte that is no LF, by the test of a line that begins with it
 not_lf : (b : ℕ) (bs : List ℕ) → is_whole (b ∷ bs) ≡ false → (eqb b 10 ≡ false) × (is_whole bs ≡ false)

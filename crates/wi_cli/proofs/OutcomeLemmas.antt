@@ -12,11 +12,11 @@ use Rattle.wi_cli.specs.declared.fault.RunFault.{RunFault}
 use Rattle.wi_cli.specs.declared.fault.RunFault.TheVariants.{Memory, Read, Write, ScriptLimit}
 use Rattle.wi_scenarios.specs.State.{State}
 use Rattle.wi_scenarios.specs.Step.{Command}
-use Rattle.wi_cli.specs.Ahead.{Takes}
+use Rattle.wi_cli.specs.Inner.Ahead.{Takes}
 use Rattle.wi_cli.specs.Lines.{raw_lines, onto_first, without_lf, is_whole}
 use Rattle.wi_cli.specs.Script.{line_command, commands, whole_lines, all_commands, complete_commands}
-use Rattle.wi_cli.specs.Reading.{raw, Broke}
-use Rattle.wi_cli.specs.Turn.{Turned, CutShort, Stopped}
+use Rattle.wi_cli.specs.Inner.Reading.{raw, Broke}
+use Rattle.wi_cli.specs.Inner.Turn.{Turned, CutShort, Stopped}
 use Rattle.wi_cli.specs.Run.{Writes}
 use Rattle.wi_cli.specs.Outcome.{Outcome, WritesFront, limited}
 use Rattle.wi_cli.proofs.ReadingLemmas.{Takes-trans, is_whole-append}

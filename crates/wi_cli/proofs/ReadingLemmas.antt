@@ -5,9 +5,9 @@ use Rattle.std.proofs.KnownBytes.{Consumes-trans}
 use Rattle.std.proofs.lemmas.List.{take_all, take-append-le, length-take}
 use Rattle.std.proofs.lemmas.Bool.{false≢true, ne_eqb}
 use Rattle.wi_cli.specs.declared.fault.RunFault.TheVariants.{Read}
-use Rattle.wi_cli.specs.Ahead.{Takes}
+use Rattle.wi_cli.specs.Inner.Ahead.{Takes}
 use Rattle.wi_cli.specs.Lines.{is_whole}
-use Rattle.wi_cli.specs.Reading.{front, TookLine, Broke}
+use Rattle.wi_cli.specs.Inner.Reading.{front, TookLine, Broke}
 
 -- the bytes before the last one taken, and that one
 pub record IsWithin (buffer : List ℕ) (left : Option (List ℕ)) (buffer' : List ℕ) (left' : Option (List ℕ)) (line : List ℕ) (byte : ℕ) : Type 0 where

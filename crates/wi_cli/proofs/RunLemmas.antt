@@ -10,7 +10,7 @@ use Rattle.wi_scenarios.specs.Step.{Command, IsStep}
 use Rattle.wi_cli.specs.declared.answer.Answer.{Answer}
 use Rattle.wi_cli.specs.declared.answer.Answer.TheVariants.{Passed, Done, Refused}
 use Rattle.wi_cli.specs.Run.{MayAnswer, Runs, Writes}
-use Rattle.wi_cli.specs.Told.{Told, told_bytes, RefusedAs}
+use Rattle.wi_cli.specs.Inner.Told.{Told, told_bytes, RefusedAs}
 
 Runs-append : (s : State) (cs : List Command) (rs : List (List ℕ)) (m : State) (ds : List Command) (qs : List (List ℕ)) (t : State)
     → Runs s cs rs m → Runs m ds qs t → Runs s (cs ++ ds) (rs ++ qs) t

@@ -9,8 +9,8 @@ use Rattle.wi_scenarios.specs.Step as spell
 use Rattle.wi_cli.specs.declared.answer.Answer.TheVariants.{Passed, Done, Refused}
 use Rattle.wi_cli.specs.declared.command.Command.{Command as ReadCommand}
 use Rattle.wi_cli.specs.declared.command.Command.TheVariants as read
-use Rattle.wi_cli.specs.Spelling.{command_of}
-use Rattle.wi_cli.specs.Told.{Told, RefusedAs}
+use Rattle.wi_cli.specs.Inner.Spelling.{command_of}
+use Rattle.wi_cli.specs.Inner.Told.{Told, RefusedAs}
 
 pub told_passed : (o : Option Command) (s : State) (out : List ℕ) → o ≡ None → Told o Passed s s out
 told_passed o s out e = subst (λ x. Told x Passed s s out) (sym e) refl

@@ -10,13 +10,13 @@ use Rattle.wi_scenarios.specs.Step.{Refused}
 use Rattle.wi_scenarios.specs.declared.refusal.Refusal.TheVariants.{BadLine}
 use Rattle.wi_cli.specs.Lines.{without_cr}
 use Rattle.std.proofs.Math.Seq.{take-append-add}
-use Rattle.wi_cli.specs.Front.{AppendsFront}
+use Rattle.wi_cli.specs.Inner.Front.{AppendsFront}
 use Rattle.wi_scenarios.specs.State.{State}
 use Rattle.wi_cli.specs.declared.answer.Answer.{Answer}
-use Rattle.wi_cli.specs.Told.{Told, told_bytes}
+use Rattle.wi_cli.specs.Inner.Told.{Told, told_bytes}
 use Rattle.wi_cli.specs.Script.{line_command, text_command}
-use Rattle.wi_cli.specs.Reading.{TookLine, front}
-use Rattle.wi_cli.specs.Turn.{Turned, CutShort}
+use Rattle.wi_cli.specs.Inner.Reading.{TookLine, front}
+use Rattle.wi_cli.specs.Inner.Turn.{Turned, CutShort}
 use Rattle.wi_cli.specs.Run.{Writes}
 use Rattle.wi_cli.proofs.RunLemmas.{Writes-told}
 

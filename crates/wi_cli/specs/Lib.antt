@@ -1,14 +1,9 @@
-pub mod Front
-pub mod Ahead
 pub mod Lines
 pub mod Words
 pub mod Script
-pub mod Spelling
 pub mod Reply
 pub mod Run
 pub mod Outcome
-pub mod Reading
-pub mod Told
-pub mod Turn
 pub mod Status
 pub mod Devices
+pub mod Inner

@@ -2,9 +2,9 @@
 
 ghost use Rattle.std.specs.Prelude.{◌≡◌, false, is_err, OnOk, OnErr};
 ghost use Rattle.std.specs.Io.KnownBytes.{Appends};
-ghost use Rattle.wi_cli.specs.Front.{AppendsFront};
+ghost use Rattle.wi_cli.specs.Inner.Front.{AppendsFront};
 ghost use Rattle.wi_cli.specs.Reply.{refused};
-ghost use Rattle.wi_cli.specs.Told.{told_bytes};
+ghost use Rattle.wi_cli.specs.Inner.Told.{told_bytes};
 
 use crate::device::{DeviceFault, Sink};
 use crate::write::write_all;

@@ -2,7 +2,7 @@
 
 ghost use Rattle.std.specs.Prelude.{◌≡◌, ◌<◌, ◌≤◌, [], ◌∷◌, false, is_err, IfOk, IfSome, IfNone, OnErr, IsSome};
 ghost use Rattle.std.specs.Io.KnownBytes.{IsAtEnd, prepend_known};
-ghost use Rattle.wi_cli.specs.Ahead.{Takes, budget};
+ghost use Rattle.wi_cli.specs.Inner.Ahead.{Takes, budget};
 
 use crate::device::{DeviceFault, Source};
 use std::marker::Model;

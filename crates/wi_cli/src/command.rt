@@ -3,7 +3,7 @@
 ghost use Rattle.std.specs.Prelude.{◌≡◌};
 ghost use Rattle.wi_cli.specs.Lines.{without_cr};
 ghost use Rattle.wi_cli.specs.Script.{is_comment, set_command, show_command, formula_command, spelled_command, text_command, line_command};
-ghost use Rattle.wi_cli.specs.Spelling.{IsCommandOf, IsLineOf};
+ghost use Rattle.wi_cli.specs.Inner.Spelling.{IsCommandOf, IsLineOf};
 
 use crate::lines::MAX_LINE;
 use crate::words::{is_blank, split_word};

@@ -1,7 +1,7 @@
 //! The lines of a source.
 
 ghost use Rattle.std.specs.Prelude.{◌++◌, ◌∷◌, [], List, ℕ, ◌≡◌, ◌+◌, ◌<◌, ◌≤◌, false, true, MatchResult, vec_capacity, Err, OnOk};
-ghost use Rattle.wi_cli.specs.Reading.{TookLine, Broke, front};
+ghost use Rattle.wi_cli.specs.Inner.Reading.{TookLine, Broke, front};
 
 use crate::chunk::Chunk;
 use crate::device::Source;

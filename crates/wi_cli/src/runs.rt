@@ -5,9 +5,9 @@ ghost use Rattle.std.specs.Io.KnownBytes.{Appends, Consumes, IsAtEnd, Keeps};
 ghost use Rattle.wi_scenarios.specs.Answer.{Serves};
 ghost use Rattle.wi_scenarios.specs.Step.{IsStep};
 ghost use Rattle.wi_cli.specs.Script.{line_command};
-ghost use Rattle.wi_cli.specs.Spelling.{command_of};
-ghost use Rattle.wi_cli.specs.Told.{Told};
-ghost use Rattle.wi_cli.specs.Turn.{Turned, Stopped};
+ghost use Rattle.wi_cli.specs.Inner.Spelling.{command_of};
+ghost use Rattle.wi_cli.specs.Inner.Told.{Told};
+ghost use Rattle.wi_cli.specs.Inner.Turn.{Turned, Stopped};
 ghost use Rattle.wi_cli.specs.Outcome.{Outcome};
 
 use crate::answer::{Answer, write_answer};

@@ -2,7 +2,7 @@
 
 ghost use Rattle.std.specs.Prelude.{◌≡◌, false, is_err, OnOk, OnErr};
 ghost use Rattle.std.specs.Io.KnownBytes.{Appends};
-ghost use Rattle.wi_cli.specs.Front.{AppendsFront};
+ghost use Rattle.wi_cli.specs.Inner.Front.{AppendsFront};
 
 use crate::device::{DeviceFault, Sink};
 

@@ -1,4 +1,4 @@
 pub mod Row
 pub mod Records
-pub mod Fault
 pub mod Laws
+pub mod Inner

@@ -39,7 +39,7 @@ impl<T: Drop> From<AllocFailed<T>> for CsvFault {
 
 impl From<CsvError> for CsvFault {
     ghost use Rattle.csv.specs.Reading.{error_kind};
-    ghost use Rattle.wi_csv.specs.Fault.{fault_of};
+    ghost use Rattle.wi_csv.specs.Inner.Fault.{fault_of};
 
     ghost from_gives = { λ error e. e ≡ fault_of (error_kind error) };
 

@@ -1,11 +1,1 @@
-pub mod ReadCells
-pub mod ReadOrder
-pub mod Walk
-pub mod Rank
-pub mod Memory
-pub mod Remembered
-pub mod Seen
-pub mod Findings
-pub mod Answers
-pub mod Frames
-pub mod Steps
+pub mod Inner

@@ -4,14 +4,15 @@ ghost use Rattle.std.specs.Prelude.{◌≡◌, ℕ, true, false, nat_lt, if◌th
 ghost use Rattle.std.specs.List.{list_any};
 ghost use Rattle.wi_values.specs.Address.{is_within, size_of};
 ghost use Rattle.wi_parser.specs.Sheet.{content_of, has_formula, put_all};
-ghost use Rattle.wi_functions.specs.Wants.{IfDone, IfWanting, counted};
+ghost use Rattle.wi_functions.specs.Wants.{IfDone, IfWanting};
+ghost use Rattle.wi_functions.specs.Counts.{counted};
 ghost use Rattle.wi_graph.specs.Circular.{circular};
 ghost use Rattle.wi_graph.specs.Reach.{is_one_of};
 ghost use Rattle.wi_sheet.specs.CellValue as show;
 ghost use Rattle.wi_sheet.specs.Demand.{reads_here};
-ghost use Rattle.wi_sheet.specs.Spending.{NeverFall};
-ghost use Rattle.wi_engine.specs.Findings.{AreAllRight};
-ghost use Rattle.wi_engine.specs.Answers.{AsksAt, IsLacking, IsSmallestWith, AreOfRectangle};
+ghost use Rattle.wi_sheet.specs.Inner.Spending.{NeverFall};
+ghost use Rattle.wi_engine.specs.Inner.Findings.{AreAllRight};
+ghost use Rattle.wi_engine.specs.Inner.Answers.{AsksAt, IsLacking, IsSmallestWith, AreOfRectangle};
 
 use crate::findings::Findings;
 use crate::lookup::Known;

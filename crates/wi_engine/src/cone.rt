@@ -10,9 +10,9 @@ ghost use Rattle.wi_values.specs.Address.{is_within};
 ghost use Rattle.wi_parser.specs.Sheet.{content_of};
 ghost use Rattle.wi_parser.specs.Reads.{content_reads};
 ghost use Rattle.wi_graph.specs.Reach.{is_one_of, reaches};
-ghost use Rattle.wi_engine.specs.ReadCells.{rectangles_in, occupied_within};
-ghost use Rattle.wi_engine.specs.ReadOrder.{IsReadOrder};
-ghost use Rattle.wi_engine.specs.Remembered.{AreCones};
+ghost use Rattle.wi_engine.specs.Inner.ReadCells.{rectangles_in, occupied_within};
+ghost use Rattle.wi_engine.specs.Inner.ReadOrder.{IsReadOrder};
+ghost use Rattle.wi_engine.specs.Inner.Remembered.{AreCones};
 
 use crate::occupied::next_within;
 use crate::seen::formula_at;

@@ -10,11 +10,11 @@ ghost use Rattle.wi_functions.specs.declared.evaluation.Want.TheVariants as want
 ghost use Rattle.wi_graph.specs.Reach.{is_one_of};
 ghost use Rattle.wi_sheet.specs.CellValue as show;
 ghost use Rattle.wi_sheet.specs.Demand.{with_what_if, wants};
-ghost use Rattle.wi_sheet.specs.Spending.{CountsAtMost, CountsFound, HasCase, NeverFall};
-ghost use Rattle.wi_engine.specs.Memory.{IsMemoryOf};
-ghost use Rattle.wi_engine.specs.Answers.{AsksAt, IsLacking, lacks_cell};
-ghost use Rattle.wi_engine.specs.Frames.{MayBeRead, IsToValue, IsUnvalued, AreReadHere, Awaits, IsFrame, IsNext, case_at, spare, waits};
-ghost use Rattle.wi_engine.specs.Steps.{IfKnown, IfUnknown, IfReplaced, IfInputUnknown, IfDone, IfNeeds, evaluations_after};
+ghost use Rattle.wi_sheet.specs.Inner.Spending.{CountsAtMost, CountsFound, HasCase, NeverFall};
+ghost use Rattle.wi_engine.specs.Inner.Memory.{IsMemoryOf};
+ghost use Rattle.wi_engine.specs.Inner.Answers.{AsksAt, IsLacking, lacks_cell};
+ghost use Rattle.wi_engine.specs.Inner.Frames.{MayBeRead, IsToValue, IsUnvalued, AreReadHere, Awaits, IsFrame, IsNext, case_at, spare, waits};
+ghost use Rattle.wi_engine.specs.Inner.Steps.{IfKnown, IfUnknown, IfReplaced, IfInputUnknown, IfDone, IfNeeds, evaluations_after};
 ghost use Rattle.wi_engine.specs.declared.frame.Waiting.TheVariants as waiting;
 
 use crate::answers::{answer, together};

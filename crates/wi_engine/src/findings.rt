@@ -4,7 +4,7 @@ ghost use Rattle.std.specs.Prelude.{◌≡◌, [], map, OnOk, OnErr};
 ghost use Rattle.std.specs.Option.{option_copied};
 ghost use Rattle.wi_parser.specs.View.{pair_of};
 ghost use Rattle.wi_functions.specs.Meaning.{addresses};
-ghost use Rattle.wi_engine.specs.Findings.{same_pairs, cell_found, what_if_found, IsWithCell, IsWithWhatIf, IsSame};
+ghost use Rattle.wi_engine.specs.Inner.Findings.{same_pairs, cell_found, what_if_found, IsWithCell, IsWithWhatIf, IsSame};
 
 use std::alloc::{AllocError, Global};
 use std::collections::BTreeMap;

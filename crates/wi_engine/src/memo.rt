@@ -4,7 +4,7 @@ ghost use Rattle.std.specs.Prelude.{◌≡◌, ◌⊎◌, ◌||◌, ℕ, true, f
 ghost use Rattle.std.specs.Option.{option_copied};
 ghost use Rattle.wi_values.specs.declared.replacement.Replacement.{Replacement as Replacements};
 ghost use Rattle.wi_sheet.specs.Demand.{reaching, same_case};
-ghost use Rattle.wi_engine.specs.Memory.{Memory};
+ghost use Rattle.wi_engine.specs.Inner.Memory.{Memory};
 
 use std::alloc::AllocError;
 use wi_cache::Key;

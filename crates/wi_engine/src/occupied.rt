@@ -2,7 +2,7 @@
 
 ghost use Rattle.std.specs.Prelude.{◌≡◌, ◌≤◌, ◌+◌, ◌∷◌, [], ℕ, Some, true, false, IfSome, IfNone, nat_le};
 ghost use Rattle.wi_values.specs.Address.{is_within};
-ghost use Rattle.wi_engine.specs.ReadCells.{cells_after, is_after};
+ghost use Rattle.wi_engine.specs.Inner.ReadCells.{cells_after, is_after};
 
 use wi_store::Store;
 use wi_values::{Address, COLUMNS, Rect};

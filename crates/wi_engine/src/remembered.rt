@@ -1,9 +1,9 @@
 //! What is remembered in one question.
 
 ghost use Rattle.std.specs.Prelude.{◌≡◌, []};
-ghost use Rattle.wi_engine.specs.Memory.{IsMemoryOf};
-ghost use Rattle.wi_engine.specs.ReadOrder.{IsReadOrder};
-ghost use Rattle.wi_engine.specs.Remembered.{memory_of, remembered};
+ghost use Rattle.wi_engine.specs.Inner.Memory.{IsMemoryOf};
+ghost use Rattle.wi_engine.specs.Inner.ReadOrder.{IsReadOrder};
+ghost use Rattle.wi_engine.specs.Inner.Remembered.{memory_of, remembered};
 
 use crate::cone::{Cones, add_cones};
 use crate::memo::Memo;
@@ -28,7 +28,7 @@ pub struct Remembered<'a> {
 }
 
 impl<'a> Model for Remembered<'a> {
-    ghost use Rattle.wi_engine.specs.Remembered.{OneQuestion};
+    ghost use Rattle.wi_engine.specs.Inner.Remembered.{OneQuestion};
 
     ghost Value = { OneQuestion };
 
@@ -39,8 +39,8 @@ impl<'a> Model for Remembered<'a> {
 
     ghost coded = { Prim.hlevel (codes, content.the_row.coded, key.the_row.coded, value.the_row.coded) };
 
-    ghost use Rattle.wi_engine.specs.ReadOrder.{IsReadOrder};
-    ghost use Rattle.wi_engine.specs.Remembered.{AreCones, remembered};
+    ghost use Rattle.wi_engine.specs.Inner.ReadOrder.{IsReadOrder};
+    ghost use Rattle.wi_engine.specs.Inner.Remembered.{AreCones, remembered};
 
     ghost view = { λ m. remembered m.store.now.sheet m.order.items m.table };
 

@@ -2,7 +2,7 @@
 
 ghost use Rattle.std.specs.Prelude.{◌≡◌, false, IfSome, IfNone};
 ghost use Rattle.wi_parser.specs.Sheet.{constant, content_of, has_formula, put_all};
-ghost use Rattle.wi_engine.specs.Seen.{content_seen};
+ghost use Rattle.wi_engine.specs.Inner.Seen.{content_seen};
 
 use wi_parser::{Content, Formula};
 use wi_store::Store;

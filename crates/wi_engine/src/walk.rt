@@ -9,8 +9,8 @@ ghost use Rattle.std.specs.List.{list_any};
 ghost use Rattle.wi_parser.specs.Sheet.{content_of, has_formula};
 ghost use Rattle.wi_graph.specs.Circular as cycles;
 ghost use Rattle.wi_graph.specs.Reach.{is_one_of, Reaches};
-ghost use Rattle.wi_engine.specs.ReadOrder.{IsReadOrder};
-ghost use Rattle.wi_engine.specs.Walk.{IsBelow, Enter, GoesOn, HasCycle, begun, tasks_in, tasks_left, unread};
+ghost use Rattle.wi_engine.specs.Inner.ReadOrder.{IsReadOrder};
+ghost use Rattle.wi_engine.specs.Inner.Walk.{IsBelow, Enter, GoesOn, HasCycle, begun, tasks_in, tasks_left, unread};
 ghost use Rattle.wi_engine.specs.declared.walk.Mark.TheVariants.{Open, Done};
 
 use crate::occupied::next_within;

@@ -12,10 +12,13 @@ use Rattle.std.proofs.lemmas.List.{append-nil, take_all}
 use Rattle.std.proofs.lemmas.Nat.Gcd.{dvd_of_mod-eq-zero, mod-eq-zero_of_dvd}
 use Rattle.std.proofs.Math.Seq.{take-append_seam, drop-append_seam, drop-length}
 use Rattle.std.proofs.Math.Nat.{pow-suc, pow-zero, one-dvd, mul_comm, mul_right_comm, mul-one, mul-le-mul_left, div-mul_cancel, eq-one_of_dvd-one, dvd_of_mul-dvd-mul_right, mul-dvd-mul, pos_of_dvd_of_pos}
-use Rattle.wi_fraction.specs.Gcd.{gcd, is_gcd, dvd_of_dvd-mul}
+use Rattle.wi_fraction.specs.Gcd.{gcd}
+use Rattle.wi_fraction.specs.Gcd.Laws.{is_gcd, dvd_of_dvd-mul}
 use Rattle.wi_fraction.specs.Laws.{DecimalsReadBack}
-use Rattle.wi_fraction.specs.Number.{number_at, number_at-some, signed, max_size}
-use Rattle.wi_fraction.specs.Text.{padded, size_text, read_after, read_decimal, decimal_after, point_after, scaled_after}
+use Rattle.wi_fraction.specs.Number.{number_at, signed, max_size}
+use Rattle.wi_fraction.specs.Number.Laws.{number_at-some}
+use Rattle.wi_fraction.specs.Text.{padded, size_text}
+use Rattle.wi_fraction.specs.Inner.Reading.{read_after, read_decimal, decimal_after, point_after, scaled_after}
 use Rattle.wi_fraction.specs.Decimal.{all_places, decimal_text}
 use Rattle.wi_fraction.proofs.Divisors.{gcd_pos, coprime_divided, divided_dvd}
 use Rattle.wi_fraction.proofs.Numbers.{number_of-lowest}

@@ -8,11 +8,12 @@ use Rattle.std.proofs.lemmas.List.{length-append, length-drop}
 use Rattle.std.proofs.lemmas.Nat.{le-div, pow-add}
 use Rattle.std.proofs.lemmas.Nat.Gcd.{le_of_dvd}
 use Rattle.std.proofs.Math.Nat.{pow-suc, pow-zero, zero-mul, one-mul, mul-one, mul_assoc, mul-pos, mul-le-mul_left, mul-le-mul_right, pow-le-pow_right, le_trans}
-use Rattle.wi_fraction.specs.Rounding.{gcd-one}
-use Rattle.wi_fraction.specs.Gcd.{gcd, is_gcd, gcd_comm}
+use Rattle.wi_fraction.specs.Rounding.Laws.{gcd-one}
+use Rattle.wi_fraction.specs.Gcd.{gcd}
+use Rattle.wi_fraction.specs.Gcd.Laws.{is_gcd, gcd_comm}
 use Rattle.wi_fraction.specs.Number.{Number, number_at, number_of, max_size}
 use Rattle.wi_fraction.specs.Arithmetic.{within}
-use Rattle.wi_fraction.specs.Text.{decimal_value, raised, lowered}
+use Rattle.wi_fraction.specs.Inner.Reading.{decimal_value, raised, lowered}
 use Rattle.wi_fraction.proofs.Divisors.{gcd_pos}
 use Rattle.wi_fraction.proofs.Fineness.{IsTooFine, none_from_fine, fine_tenth, ten_pow_pos, step_value, number_of-multiplied, tail_from_none}
 use Rattle.wi_fraction.proofs.Numbers.{number_of-lowest, number_at-too_large}

@@ -9,9 +9,11 @@ use Rattle.std.proofs.lemmas.Int.Digits.{digits_value-lt}
 use Rattle.std.proofs.lemmas.Nat.{le-div}
 use Rattle.std.proofs.lemmas.Nat.Gcd.{le_of_dvd}
 use Rattle.std.proofs.Math.Nat.{pow-suc, pow-zero, one-le-pow, div-mul_cancel, mul-le-mul_left, lt_of_mul-lt-mul_right, mul-add-mod_self_right, mul-div-mul_right, mul_right_comm, mul-one, dvd-mul_right_of_dvd}
-use Rattle.wi_fraction.specs.Gcd.{gcd, is_gcd, dvd_gcd_mul}
-use Rattle.wi_fraction.specs.Number.{Number, number_at, number_at-some, number_at-is, number_of, signed, max_size}
-use Rattle.wi_fraction.specs.Text.{decimal_value}
+use Rattle.wi_fraction.specs.Gcd.{gcd}
+use Rattle.wi_fraction.specs.Gcd.Laws.{is_gcd, dvd_gcd_mul}
+use Rattle.wi_fraction.specs.Number.{Number, number_at, number_of, signed, max_size}
+use Rattle.wi_fraction.specs.Number.Laws.{number_at-some, number_at-is}
+use Rattle.wi_fraction.specs.Inner.Reading.{decimal_value}
 use Rattle.wi_fraction.proofs.Divisors.{gcd_pos, gcd_step, gcd_scaled, coprime_divided, div_gcd_pos}
 use Rattle.wi_fraction.proofs.Numbers.{abs-signed, number_of-signed, number_at-too_large}
 

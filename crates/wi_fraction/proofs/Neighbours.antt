@@ -8,8 +8,11 @@ use Rattle.std.proofs.Math.Nat.{div-mul-le_self, lt-div-mul-add, div-lt_iff_lt-m
 use Rattle.wi_fraction.specs.declared.rounding.Mode.{Mode}
 use Rattle.wi_fraction.specs.declared.rounding.Mode.TheVariants.{HalfAway, Away, Toward}
 use Rattle.wi_fraction.specs.Laws.{NotAbove, NotBelow, distance, IsGreatestNotAbove, IsLeastNotBelow, IsNearest, HasFloor, IsRounded}
-use Rattle.wi_fraction.specs.Number.{Number, signed, abs-neg}
-use Rattle.wi_fraction.specs.Rounding.{floor_of, floored, rounded_size, rounded_below, rounded}
+use Rattle.wi_fraction.specs.Number.{Number, signed}
+use Rattle.wi_fraction.specs.Number.Laws.{abs-neg}
+use Rattle.wi_fraction.specs.Whole.{floor_of, rounded_size}
+use Rattle.wi_fraction.specs.Rounding.{floored, rounded}
+use Rattle.wi_fraction.specs.Rounding.Laws.{rounded_below}
 use Rattle.wi_fraction.proofs.Values.{neg-neg, neg-mul}
 
 -- ---- below and above

@@ -8,9 +8,11 @@ use Rattle.std.specs.Str.{byte}
 use Rattle.std.specs.Str.Parse.{digits_value, without_leading_plus}
 use Rattle.std.proofs.Math.Nat.{div-mul_cancel, dvd-mul_right}
 use Rattle.std.proofs.lemmas.Nat.Gcd.{mod-eq-zero_of_dvd}
-use Rattle.wi_fraction.specs.Gcd.{gcd, is_gcd}
-use Rattle.wi_fraction.specs.Number.{Number, number_of, number_at-is}
-use Rattle.wi_fraction.specs.Text.{is_numeral, decimal_value, raised, lowered, with_exponent, exponent_after, scaled_after, point_after, decimal_after, read_decimal}
+use Rattle.wi_fraction.specs.Gcd.{gcd}
+use Rattle.wi_fraction.specs.Gcd.Laws.{is_gcd}
+use Rattle.wi_fraction.specs.Number.{Number, number_of}
+use Rattle.wi_fraction.specs.Number.Laws.{number_at-is}
+use Rattle.wi_fraction.specs.Inner.Reading.{is_numeral, decimal_value, raised, lowered, with_exponent, exponent_after, scaled_after, point_after, decimal_after, read_decimal}
 use Rattle.wi_fraction.specs.Decimal.{IsUnsignedDecimal}
 
 -- the number, if there is one, is a decimal without a sign

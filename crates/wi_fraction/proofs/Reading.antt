@@ -9,7 +9,7 @@ use Rattle.std.proofs.lemmas.Int.Digits.{digits_value_more}
 use Rattle.std.proofs.lemmas.Str.Parse.{digits_value-take-le}
 use Rattle.wi_fraction.specs.Number.{Number, number_at, number_of, signed, max_size}
 use Rattle.wi_fraction.specs.Arithmetic.{within}
-use Rattle.wi_fraction.specs.Text.{decimal_value, read_quotient}
+use Rattle.wi_fraction.specs.Inner.Reading.{decimal_value, read_quotient}
 use Rattle.wi_fraction.proofs.Steps.{within-some, within-none}
 use Rattle.wi_fraction.proofs.Fineness.{tail_more, tail_below_one, tail_from_none, tail_whole, fine_drop, none_from_tail, gcd_shifted}
 use Rattle.wi_fraction.proofs.Numbers.{number_of-lowest, number_at-too_large}

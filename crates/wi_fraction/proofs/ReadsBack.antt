@@ -12,8 +12,10 @@ use Rattle.std.proofs.Math.Seq.{take-append_seam, drop-append_seam}
 use Rattle.std.proofs.Math.Nat.{pow-zero, mul_assoc, add-mul, one-le-pow, div-le_self}
 use Rattle.std.proofs.lemmas.List.{append-nil}
 use Rattle.std.proofs.lemmas.Nat.{div-add-mod'}
-use Rattle.wi_fraction.specs.Text.{places, padded, size_text, sign_text, text_of, is_numeral, read_after, read_size, read}
-use Rattle.wi_fraction.specs.Number.{number_of, number_at, signed, max_size, number_at-some}
+use Rattle.wi_fraction.specs.Text.{places, padded, size_text, sign_text, text_of}
+use Rattle.wi_fraction.specs.Inner.Reading.{is_numeral, read_after, read_size, read}
+use Rattle.wi_fraction.specs.Number.{number_of, number_at, signed, max_size}
+use Rattle.wi_fraction.specs.Number.Laws.{number_at-some}
 use Rattle.wi_fraction.specs.Gcd.{gcd}
 use Rattle.wi_fraction.proofs.Scanning.{own}
 use Rattle.wi_fraction.specs.Laws.{ReadsBack}

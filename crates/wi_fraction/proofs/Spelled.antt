@@ -12,7 +12,7 @@ use Rattle.std.proofs.Math.Nat.{pow-zero}
 use Rattle.wi_fraction.specs.Laws.{ReadsWhatIsSpelled}
 use Rattle.wi_fraction.specs.Number.{Number, number_of, signed, max_size}
 use Rattle.wi_fraction.specs.Spelled.{SpellsSize, whole, point, slash, SpellsFraction, plain, plus, minus, IsSpelled}
-use Rattle.wi_fraction.specs.Text.{is_numeral, decimal_value, read_quotient, read_after, read_size, read}
+use Rattle.wi_fraction.specs.Inner.Reading.{is_numeral, decimal_value, read_quotient, read_after, read_size, read}
 use Rattle.wi_fraction.proofs.ReadsBack.{first_digit, is_numeral-true, read_size_scanned, read_signed}
 use Rattle.wi_fraction.proofs.Scanning.{digits_before}
 use Rattle.wi_fraction.proofs.Written.{some_if, some_then, numeral_from_test}

@@ -10,7 +10,7 @@ use Rattle.wi_fraction.specs.Gcd.{gcd}
 use Rattle.wi_fraction.specs.Number.{Number, number_of, max_size, signed, number_at}
 use Rattle.wi_fraction.specs.Arithmetic.{within, int_within, sum_of}
 use Rattle.wi_fraction.proofs.Divisors.{gcd_pos, div_gcd_pos, coprime_cross, cross_numerator, cross_denominator}
-use Rattle.wi_fraction.specs.Gcd.{gcd_comm}
+use Rattle.wi_fraction.specs.Gcd.Laws.{gcd_comm}
 use Rattle.wi_fraction.proofs.Numbers.{number_of-scaled}
 
 pub within-some : (n m : ℕ) → Some m ≡ within n → (m ≡ n) × (n ≤ max_size)

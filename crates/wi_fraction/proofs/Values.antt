@@ -7,16 +7,18 @@ use Rattle.std.proofs.Math.Nat.{mul_comm, mul_assoc, div-mul_cancel, dvd-mul_lef
 use Rattle.std.specs.Prelude.{Bool, true, false, cond, nat_le, option_and_then, ◌<ℤ◌}
 use Rattle.std.specs.Ordering.{int_cmp}
 use Rattle.std.specs.Cmp.{int_ranks}
-use Rattle.wi_fraction.specs.Gcd.{gcd, is_gcd}
+use Rattle.wi_fraction.specs.Gcd.{gcd}
+use Rattle.wi_fraction.specs.Gcd.Laws.{is_gcd}
 use Rattle.std.proofs.lemmas.Int.{unsigned_abs-mul}
-use Rattle.wi_fraction.specs.Gcd.{same_lowest}
+use Rattle.wi_fraction.specs.Gcd.Laws.{same_lowest}
 use Rattle.wi_fraction.specs.Laws.{IsExact}
 use Rattle.wi_fraction.proofs.Divisors.{gcd_pos, div_gcd_pos, coprime_divided}
 use Rattle.wi_fraction.proofs.Numbers.{abs-signed}
-use Rattle.wi_fraction.specs.Number.{Number, number_of, number_at-some, number_at-is, max_size}
+use Rattle.wi_fraction.specs.Number.{Number, number_of, max_size}
+use Rattle.wi_fraction.specs.Number.Laws.{number_at-some, number_at-is}
 use Rattle.wi_fraction.specs.Arithmetic.{negated, within, int_within, sum_of, product_of, quotient_of, fraction_of}
 use Rattle.wi_fraction.proofs.Steps.{within-some, multiple_pos}
-use Rattle.wi_fraction.specs.Integers.{mul-mul, neg-pos-mul, mul_below, int_irrefl, by_rank, turn}
+use Rattle.wi_fraction.specs.Order.Integers.{mul-mul, neg-pos-mul, mul_below, int_irrefl, by_rank, turn}
 
 mul-suc : (z : ℤ) (k : ℕ) → z *ℤ pos (suc k) ≡ z *ℤ pos k +ℤ z
 mul-suc (pos a) k = omega (arith, ints)

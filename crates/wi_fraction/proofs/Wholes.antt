@@ -3,8 +3,10 @@ use Rattle.std.specs.Prelude.{◌≡◌, ℕ, suc, ◌+◌, ◌-◌, ◌/◌, �
 use Rattle.std.proofs.Common.{arith}
 use Rattle.std.proofs.lemmas.Bool.Decides.{nat_tests}
 use Rattle.wi_fraction.specs.declared.rounding.Mode.{Mode}
-use Rattle.wi_fraction.specs.Number.{Number, signed, same_number}
-use Rattle.wi_fraction.specs.Rounding.{floor_of, floored, rounded_size, rounded}
+use Rattle.wi_fraction.specs.Number.{Number, signed}
+use Rattle.wi_fraction.specs.Number.Laws.{same_number}
+use Rattle.wi_fraction.specs.Whole.{floor_of, rounded_size}
+use Rattle.wi_fraction.specs.Rounding.{floored, rounded}
 
 -- ---- the floor
 

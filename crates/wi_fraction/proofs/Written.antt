@@ -14,7 +14,7 @@ use Rattle.std.proofs.Math.Nat.{mul_assoc, mul-one, one-mul, pow-zero}
 use Rattle.std.proofs.Math.Seq.{take-append_seam, drop-append_seam}
 use Rattle.wi_fraction.specs.Laws.{ReadsWhatIsWritten}
 use Rattle.wi_fraction.specs.Number.{Number, number_of}
-use Rattle.wi_fraction.specs.Text.{is_numeral, decimal_value, raised, lowered, with_exponent, exponent_after, scaled_after, point_after, decimal_after, read_decimal}
+use Rattle.wi_fraction.specs.Inner.Reading.{is_numeral, decimal_value, raised, lowered, with_exponent, exponent_after, scaled_after, point_after, decimal_after, read_decimal}
 use Rattle.wi_fraction.specs.Written.{WritesDigits, plain, point, is_exponent_letter, WritesExponent, none, unsigned, plus, minus, Writes, writes, IsWritten, times_power, written_value}
 use Rattle.wi_fraction.proofs.DecimalsReadBack.{read_scanned, some_digits}
 use Rattle.wi_fraction.proofs.Exponents.{in_parts}

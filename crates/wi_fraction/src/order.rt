@@ -6,7 +6,8 @@ ghost use Rattle.std.specs.Ordering.{nat_cmp, as_partial_cmp};
 ghost use Rattle.std.specs.Cmp.{partial_order_from_agreeing_total};
 ghost use Rattle.std.proofs.Common.{ap};
 ghost use Rattle.wi_fraction.specs.Number.{Number};
-ghost use Rattle.wi_fraction.specs.Order.{cross_cmp, cross_total, cross_same_parts, same_parts, same_parts_partial, same_parts_equiv, same_from_parts};
+ghost use Rattle.wi_fraction.specs.Order.{cross_cmp, same_parts};
+ghost use Rattle.wi_fraction.specs.Order.Laws.{cross_total, cross_same_parts, same_parts_partial, same_parts_equiv, same_from_parts};
 
 use crate::Fraction;
 use std::cmp::Ordering;

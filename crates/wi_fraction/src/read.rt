@@ -8,7 +8,7 @@ ghost use Rattle.std.specs.Str.Parse.{AllDigits, digits_value};
 ghost use Rattle.wi_fraction.specs.Gcd.{gcd};
 ghost use Rattle.wi_fraction.specs.Number.{max_size, number_of};
 ghost use Rattle.wi_fraction.specs.Arithmetic.{within};
-ghost use Rattle.wi_fraction.specs.Text.{read, read_size, read_after, read_quotient, read_decimal, decimal_after, point_after, scaled_after, exponent_after, with_exponent, raised, lowered, decimal_value, is_numeral};
+ghost use Rattle.wi_fraction.specs.Inner.Reading.{read, read_size, read_after, read_quotient, read_decimal, decimal_after, point_after, scaled_after, exponent_after, with_exponent, raised, lowered, decimal_value, is_numeral};
 
 use crate::arithmetic::multiplied;
 use crate::lowest_terms::{number_at, reduced};
@@ -17,7 +17,7 @@ use crate::{Fraction, MAX};
 impl Fraction {
     /// The number that a text spells: an optional sign, then digits, a decimal with a digit before the point, or two
     /// whole numbers with a `/` between. A decimal may have any number of digits; its value counts in lowest terms.
-    #[tactic(auto, unfolding(crate::specs::Text::read))]
+    #[tactic(auto, unfolding(crate::specs::Inner::Reading::read))]
     pub fn read(text: &[u8]) -> Option<Fraction>
         ensures { result ≡ read text.now }
     {
@@ -31,7 +31,7 @@ impl Fraction {
     /// The number that a number token spells: digits, or a decimal, before whose point no digit need stand; then, where
     /// one is, an exponent: `e` or `E`, an optional sign and digits. Neither digits nor exponent need fit where the number
     /// does. Takes time in proportion to the text, whatever the exponent.
-    #[tactic(auto, unfolding(crate::specs::Text::read_decimal))]
+    #[tactic(auto, unfolding(crate::specs::Inner::Reading::read_decimal))]
     pub fn read_decimal(token: &[u8]) -> Option<Fraction>
         ensures { result ≡ read_decimal token.now }
     {
@@ -48,7 +48,7 @@ impl Fraction {
 }
 
 /// What a text without its sign reads as.
-#[tactic(auto, unfolding(crate::specs::Text::read_size))]
+#[tactic(auto, unfolding(crate::specs::Inner::Reading::read_size))]
 fn read_size(negative: bool, text: &[u8]) -> Option<Fraction>
     ensures { result ≡ read_size negative text.now }
 {
@@ -60,7 +60,7 @@ fn read_size(negative: bool, text: &[u8]) -> Option<Fraction>
 }
 
 /// What the digits and the rest of a text read as.
-#[tactic(auto, unfolding(crate::specs::Text::read_after))]
+#[tactic(auto, unfolding(crate::specs::Inner::Reading::read_after))]
 fn read_after(negative: bool, whole: &[u8], rest: &[u8]) -> Option<Fraction>
     requires { AllDigits 10 whole.now }
     ensures { result ≡ read_after negative whole.now rest.now }
@@ -79,7 +79,7 @@ fn read_after(negative: bool, whole: &[u8], rest: &[u8]) -> Option<Fraction>
 }
 
 /// What the digits and the rest of a number token read as.
-#[tactic(auto, unfolding(crate::specs::Text::decimal_after))]
+#[tactic(auto, unfolding(crate::specs::Inner::Reading::decimal_after))]
 fn decimal_after(whole: &[u8], rest: &[u8]) -> Option<Fraction>
     requires { AllDigits 10 whole.now }
     ensures { result ≡ decimal_after whole.now rest.now }
@@ -101,7 +101,7 @@ fn decimal_after(whole: &[u8], rest: &[u8]) -> Option<Fraction>
 }
 
 /// What the digits before a point and the rest of a number token after it read as.
-#[tactic(auto, unfolding(crate::specs::Text::point_after))]
+#[tactic(auto, unfolding(crate::specs::Inner::Reading::point_after))]
 fn point_after(whole: &[u8], text: &[u8]) -> Option<Fraction>
     requires { AllDigits 10 whole.now }
     ensures { result ≡ point_after whole.now text.now }
@@ -114,7 +114,7 @@ fn point_after(whole: &[u8], text: &[u8]) -> Option<Fraction>
 }
 
 /// What the digits before and after the point and the rest of a number token read as.
-#[tactic(auto, unfolding(crate::specs::Text::scaled_after))]
+#[tactic(auto, unfolding(crate::specs::Inner::Reading::scaled_after))]
 fn scaled_after(whole: &[u8], parts: &[u8], rest: &[u8]) -> Option<Fraction>
     requires whole { AllDigits 10 whole.now }
     requires parts { AllDigits 10 parts.now }
@@ -130,7 +130,7 @@ fn scaled_after(whole: &[u8], parts: &[u8], rest: &[u8]) -> Option<Fraction>
 }
 
 /// The decimal with the exponent that the text spells.
-#[tactic(auto, unfolding(crate::specs::Text::exponent_after))]
+#[tactic(auto, unfolding(crate::specs::Inner::Reading::exponent_after))]
 fn exponent_after(whole: &[u8], parts: &[u8], text: &[u8]) -> Option<Fraction>
     requires whole { AllDigits 10 whole.now }
     requires parts { AllDigits 10 parts.now }
@@ -144,7 +144,7 @@ fn exponent_after(whole: &[u8], parts: &[u8], text: &[u8]) -> Option<Fraction>
 }
 
 /// The decimal with the exponent that the digits write.
-#[tactic(auto, unfolding(crate::specs::Text::with_exponent))]
+#[tactic(auto, unfolding(crate::specs::Inner::Reading::with_exponent))]
 fn with_exponent(negative: bool, whole: &[u8], parts: &[u8], digits: &[u8]) -> Option<Fraction>
     requires whole { AllDigits 10 whole.now }
     requires parts { AllDigits 10 parts.now }

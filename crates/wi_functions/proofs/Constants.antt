@@ -1,7 +1,8 @@
 -- The constants 0, 1 and 100, as they are made.
 use Rattle.std.proofs.Common.{◌≡◌, refl}
 use Rattle.std.specs.Prelude.{pos, Some}
-use Rattle.wi_fraction.specs.Number.{number_of, number_at-some}
+use Rattle.wi_fraction.specs.Number.{number_of}
+use Rattle.wi_fraction.specs.Number.Laws.{number_at-some}
 use Rattle.wi_fraction.specs.Gcd.{gcd, gcd_within}
 use Rattle.wi_functions.specs.Convert.{zero_number, one_number, hundred_number}
 

@@ -1,25 +1,14 @@
 -- Values taken for numbers and for texts (OpenFormula, "Implicit Conversion Operators").
-use Rattle.std.specs.Prelude.{◌≡◌, ℕ, List, pos, true, false, Result, Ok, Err, unsigned_abs, refl}
+pub mod Laws
+use Rattle.std.specs.Prelude.{ℕ, List, pos, true, false, Result, Ok, Err}
 use Rattle.std.proofs.Common.{lit<, lit≤}
 use Rattle.wi_fraction.specs.Number.{Number}
-use Rattle.wi_fraction.specs.Gcd.{gcd, gcd_within}
 use Rattle.wi_values.specs.Value.{shown_text}
 use Rattle.wi_values.specs.declared.value.ErrorKind.{ErrorKind}
 use Rattle.wi_values.specs.declared.value.ErrorKind.TheVariants.{BadValue}
 use Rattle.wi_values.specs.declared.value.Value as value
 use Rattle.wi_values.specs.declared.value.Value.TheVariants as v
-
-pub zero_lowest : gcd (unsigned_abs (pos 0)) 1 ≡ 1
-unfolding gcd gcd_within
-zero_lowest = refl
-
-pub one_lowest : gcd (unsigned_abs (pos 1)) 1 ≡ 1
-unfolding gcd gcd_within
-one_lowest = refl
-
-pub hundred_lowest : gcd (unsigned_abs (pos 100)) 1 ≡ 1
-unfolding gcd gcd_within
-hundred_lowest = refl
+use Rattle.wi_functions.specs.Convert.Laws.{hundred_lowest, one_lowest, zero_lowest}
 
 abbrev pub zero_number : Number
 zero_number = record { num = pos 0; den = 1; is_number = record { above_zero = lit< tt; lowest = zero_lowest; num_fits = lit≤ tt; den_fits = lit≤ tt } }

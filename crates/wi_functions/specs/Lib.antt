@@ -4,5 +4,5 @@ pub mod Operators
 pub mod Meaning
 pub mod Assignment
 pub mod Counts
-pub mod Fractions
 pub mod Wants
+pub mod Inner

@@ -5,7 +5,6 @@ use Rattle.wi_parser.specs.declared.expr.Reference.{Reference}
 use Rattle.wi_parser.specs.Tree.{Tree, Trees, number, text, cell, rectangle, parenthesized, signed, percent, binary, what_if, call, no_trees, more_trees}
 use Rattle.wi_parser.specs.View.{pair_of}
 use Rattle.wi_functions.specs.Meaning.{addresses, is_one_cell}
-use Rattle.wi_functions.specs.Counts.{Counts, one_more}
 use Rattle.wi_functions.specs.declared.evaluation.Want.{Want}
 use Rattle.wi_functions.specs.declared.evaluation.Want.TheVariants.{Cell, WhatIf}
 use Rattle.wi_functions.specs.declared.evaluation.Outcome.{Outcome}
@@ -60,8 +59,3 @@ IfDone (Needs w) P = Unit {0}
 abbrev pub IfWanting : Outcome → (Want → Type 0) → Type 0
 IfWanting (Done v) P = Unit {0}
 IfWanting (Needs w) P = P w
-
--- an evaluation that is done, or one that has to start again, is counted
-abbrev pub counted : Outcome → Counts → Counts
-counted (Done v) c = record c { evaluations = one_more c.evaluations }
-counted (Needs w) c = record c { restarts = one_more c.restarts }

@@ -6,7 +6,8 @@ ghost use Rattle.wi_parser.specs.Tree.{cell, rectangle, signed, percent, binary,
 ghost use Rattle.wi_functions.specs.Meaning as formulas;
 ghost use Rattle.wi_functions.specs.Operators as operators;
 ghost use Rattle.wi_functions.specs.Assignment.{Assignment, AgreesWith};
-ghost use Rattle.wi_functions.specs.Wants.{Asks, IsUnknown, IfNeeds, IfDone, IfWanting, counted};
+ghost use Rattle.wi_functions.specs.Wants.{Asks, IsUnknown, IfNeeds, IfDone, IfWanting};
+ghost use Rattle.wi_functions.specs.Counts.{counted};
 
 use crate::convert::zero_for_empty;
 use crate::lookup::{Answer, Lookup};

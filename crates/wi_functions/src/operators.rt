@@ -4,7 +4,7 @@ ghost use Rattle.std.specs.Prelude.{◌≡◌, IfOk};
 ghost use Rattle.wi_values.specs.Value.{shown_text};
 ghost use Rattle.wi_functions.specs.Comparison.{first_error, unless_error};
 ghost use Rattle.wi_functions.specs.Convert.{to_number, to_text};
-ghost use Rattle.wi_functions.specs.Fractions.{fraction_value, value_or_error};
+ghost use Rattle.wi_functions.specs.Inner.Fractions.{fraction_value, value_or_error};
 ghost use Rattle.wi_functions.specs.Operators.{operate, with_sign, hundredth, minus, on_both, added, subtracted, multiplied, divided, raised, joined};
 
 use crate::comparison::{compare, first_error};

@@ -7,9 +7,9 @@ use Rattle.std.proofs.lemmas.List.{take_more, get_or_push, get_or-take}
 use Rattle.std.proofs.Math.Seq.{take-length, take-append_seam}
 use Rattle.std.specs.List.{list_all}
 use Rattle.std.specs.Char.{is_ascii_digit, is_ascii_alphabetic}
-use Rattle.wi_lexer.specs.Runs.{is_inside, inside_len}
+use Rattle.wi_lexer.specs.Inner.Runs.{is_inside, inside_len}
 use Rattle.wi_lexer.specs.Cell.{Cell, IsCell, cell_text}
-use Rattle.wi_lexer.specs.Reference.{inside, is_bracketed}
+use Rattle.wi_lexer.specs.Inner.Reference.{inside, is_bracketed}
 use Rattle.wi_lexer.proofs.RunLemmas.{both_are_true, run_more}
 use Rattle.wi_lexer.proofs.CellLemmas.{cell_all}
 

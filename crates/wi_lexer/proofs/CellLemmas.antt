@@ -7,8 +7,10 @@ use Rattle.std.proofs.lemmas.List.{take-append-drop}
 use Rattle.std.proofs.Math.Seq.{drop-append_seam, take-append_seam}
 use Rattle.std.specs.List.{list_all}
 use Rattle.std.specs.Char.{is_ascii_digit, is_ascii_alphabetic}
-use Rattle.wi_lexer.specs.Runs.{IsRun, letters_len}
-use Rattle.wi_lexer.specs.Cell.{Cell, IsCell, dollar, cell_text, begins_with_dollar, after_dollar, cut_row, cut_column, is_row, is_cell, if_cell, cell_of}
+use Rattle.wi_lexer.specs.Runs.{IsRun}
+use Rattle.wi_lexer.specs.Inner.Runs.{letters_len}
+use Rattle.wi_lexer.specs.Cell.{Cell, IsCell, dollar, cell_text}
+use Rattle.wi_lexer.specs.Inner.Cell.{begins_with_dollar, after_dollar, cut_row, cut_column, is_row, is_cell, if_cell, cell_of}
 use Rattle.wi_lexer.proofs.RunLemmas.{both_are_true, run_stops, run_more, run_all, all_append, all_wider}
 
 -- the text before and after a `$` that may stand first

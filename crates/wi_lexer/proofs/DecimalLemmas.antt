@@ -6,8 +6,10 @@ use Rattle.std.proofs.lemmas.List.{take-append-drop, length-take-le}
 use Rattle.std.proofs.Math.Seq.{drop-append_seam, take-append-add}
 use Rattle.std.specs.List.{list_all}
 use Rattle.std.specs.Char.{is_ascii_digit}
-use Rattle.wi_lexer.specs.Runs.{IsRun, digits_len}
-use Rattle.wi_lexer.specs.Number.{IsDecimalText, whole, decimal, decimals_len, decimal_len}
+use Rattle.wi_lexer.specs.Runs.{IsRun}
+use Rattle.wi_lexer.specs.Inner.Runs.{digits_len}
+use Rattle.wi_lexer.specs.Number.{IsDecimalText, whole, decimal}
+use Rattle.wi_lexer.specs.Inner.Number.{decimals_len, decimal_len}
 use Rattle.wi_lexer.proofs.RunLemmas.{run_within, run_more, run_all}
 
 -- a point and digits stand at the front

@@ -8,17 +8,23 @@ use Rattle.wi_lexer.specs.declared.token.Kind.{Kind}
 use Rattle.wi_lexer.specs.declared.token.Kind.TheVariants.{Number, Reference, Rectangle, Name, Text, Mark}
 use Rattle.wi_lexer.specs.declared.token.Mark as mark
 use Rattle.wi_lexer.specs.declared.token.Mark.TheVariants.{NotEqual, Less, Greater}
-use Rattle.wi_lexer.specs.Runs.{is_blank, IsRun, one_more}
-use Rattle.wi_lexer.specs.Number.{IsDecimalText, whole, decimal, IsNumberText, plain, scaled, is_exponent_letter, decimals_len, decimal_len, signed_len, exponent_len, number_len}
+use Rattle.wi_lexer.specs.Runs.{is_blank, IsRun}
+use Rattle.wi_lexer.specs.Inner.Runs.{one_more}
+use Rattle.wi_lexer.specs.Number.{IsDecimalText, whole, decimal, IsNumberText, plain, scaled, is_exponent_letter}
+use Rattle.wi_lexer.specs.Inner.Number.{decimals_len, decimal_len, signed_len, exponent_len, number_len}
 use Rattle.wi_lexer.specs.Cell.{Cell, IsCell, cell_text}
 use Rattle.wi_lexer.specs.Reference.{IsReference, one_cell}
 use Rattle.wi_lexer.specs.Rectangle.{IsRectangle, two_cells}
 use Rattle.wi_lexer.specs.Name.{IsName, is_name_start, is_name_part}
-use Rattle.wi_lexer.specs.Text.{IsText, of_content, quoted, quoted_len, text_len}
-use Rattle.wi_lexer.specs.Mark.{mark_text, two_byte_mark, one_byte_mark, mark_at}
-use Rattle.wi_lexer.specs.Token.{IsToken, token_at, after_blanks}
-use Rattle.wi_lexer.specs.Tokens.{then_tokens, tokens_ahead, tokens}
-use Rattle.wi_lexer.specs.Ends.{ends}
+use Rattle.wi_lexer.specs.Text.{IsText, of_content, quoted}
+use Rattle.wi_lexer.specs.Inner.Text.{quoted_len, text_len}
+use Rattle.wi_lexer.specs.Mark.{mark_text}
+use Rattle.wi_lexer.specs.Inner.Mark.{two_byte_mark, one_byte_mark, mark_at}
+use Rattle.wi_lexer.specs.Token.{IsToken, after_blanks}
+use Rattle.wi_lexer.specs.Inner.Token.{token_at}
+use Rattle.wi_lexer.specs.Tokens.{then_tokens}
+use Rattle.wi_lexer.specs.Inner.Tokens.{tokens_ahead, tokens}
+use Rattle.wi_lexer.specs.Inner.Ends.{ends}
 use Rattle.wi_lexer.proofs.RunLemmas.{both_are_true, run_stops}
 use Rattle.wi_lexer.proofs.DecimalLemmas.{decimal_some, no_point}
 use Rattle.wi_lexer.proofs.NumberLemmas.{number_some, EndsNumber, number_exact}

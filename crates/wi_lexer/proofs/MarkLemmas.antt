@@ -4,7 +4,8 @@ use Rattle.std.specs.Option.{option_or}
 use Rattle.std.proofs.lemmas.Bool.{eqb-true}
 use Rattle.wi_lexer.specs.declared.token.Mark.{Mark}
 use Rattle.wi_lexer.specs.declared.token.Mark.TheVariants.{OpenParenthesis, CloseParenthesis, Plus, Minus, Asterisk, Slash, Caret, Percent, Ampersand, Equal, NotEqual, Less, LessOrEqual, Greater, GreaterOrEqual, Semicolon}
-use Rattle.wi_lexer.specs.Mark.{mark_text, two_byte_mark, one_byte_mark, mark_at}
+use Rattle.wi_lexer.specs.Mark.{mark_text}
+use Rattle.wi_lexer.specs.Inner.Mark.{two_byte_mark, one_byte_mark, mark_at}
 use Rattle.wi_lexer.proofs.RunLemmas.{both_are_true}
 
 same_mark : (m n : Mark) → Some m ≡ Some n → m ≡ n

@@ -8,10 +8,12 @@ use Rattle.std.specs.List.{prefix_len}
 use Rattle.std.specs.Char.{is_ascii_digit}
 use Rattle.wi_lexer.specs.declared.token.Mark.{Mark}
 use Rattle.wi_lexer.specs.declared.token.Mark.TheVariants.{NotEqual}
-use Rattle.wi_lexer.specs.Runs.{digits_len}
-use Rattle.wi_lexer.specs.Number.{decimals_len, decimal_len, number_len}
-use Rattle.wi_lexer.specs.Mark.{mark_text, mark_at}
-use Rattle.wi_lexer.specs.Name.{IsName, is_name_start, is_name_part, name_len}
+use Rattle.wi_lexer.specs.Inner.Runs.{digits_len}
+use Rattle.wi_lexer.specs.Inner.Number.{decimals_len, decimal_len, number_len}
+use Rattle.wi_lexer.specs.Mark.{mark_text}
+use Rattle.wi_lexer.specs.Inner.Mark.{mark_at}
+use Rattle.wi_lexer.specs.Name.{IsName, is_name_start, is_name_part}
+use Rattle.wi_lexer.specs.Inner.Name.{name_len}
 use Rattle.wi_lexer.proofs.RunLemmas.{run_within, run_stops, run_more, run_all}
 use Rattle.wi_lexer.proofs.NumberLemmas.{decimal_none}
 use Rattle.wi_lexer.proofs.MarkLemmas.{mark_sound}

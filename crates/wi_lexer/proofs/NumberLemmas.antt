@@ -5,8 +5,9 @@ use Rattle.std.proofs.lemmas.Bool.{ltb-true, ltb-false, lt-ltb}
 use Rattle.std.proofs.lemmas.Bool.Decides.{nat_tests}
 use Rattle.std.proofs.Math.Seq.{take-add, drop-append_seam}
 use Rattle.std.specs.Char.{is_ascii_digit}
-use Rattle.wi_lexer.specs.Runs.{digits_len, one_more}
-use Rattle.wi_lexer.specs.Number.{IsDecimalText, IsExponent, unsigned, signed, IsNumberText, plain, scaled, is_exponent_letter, is_sign, decimals_len, decimal_len, signed_len, exponent_len, number_len}
+use Rattle.wi_lexer.specs.Inner.Runs.{digits_len, one_more}
+use Rattle.wi_lexer.specs.Number.{IsDecimalText, IsExponent, unsigned, signed, IsNumberText, plain, scaled, is_exponent_letter, is_sign}
+use Rattle.wi_lexer.specs.Inner.Number.{decimals_len, decimal_len, signed_len, exponent_len, number_len}
 use Rattle.wi_lexer.proofs.RunLemmas.{run_within, run_stops, run_more, one_more_some, one_more_back, one_more_within}
 use Rattle.wi_lexer.proofs.DecimalLemmas.{digits_front, decimal_some, decimal_more, decimal_within, decimal_sound, no_point, decimal_exact}
 

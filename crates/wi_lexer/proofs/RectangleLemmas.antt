@@ -8,10 +8,12 @@ use Rattle.std.proofs.lemmas.List.Folds.{list_all-append}
 use Rattle.std.proofs.Math.Seq.{drop-append_seam, take-append_seam}
 use Rattle.std.specs.List.{list_all}
 use Rattle.std.specs.Char.{is_ascii_digit, is_ascii_alphabetic}
-use Rattle.wi_lexer.specs.Runs.{is_inside, is_before_colon, before_colon_len}
-use Rattle.wi_lexer.specs.Cell.{Cell, IsCell, cell_text, cell_of}
-use Rattle.wi_lexer.specs.Reference.{inside, reference_of, reference_len}
-use Rattle.wi_lexer.specs.Rectangle.{rectangle_text, IsRectangle, two_cells, begins_second, both_cells, cells_beside, cells_of, rectangle_of, rectangle_len}
+use Rattle.wi_lexer.specs.Inner.Runs.{is_inside, is_before_colon, before_colon_len}
+use Rattle.wi_lexer.specs.Cell.{Cell, IsCell, cell_text}
+use Rattle.wi_lexer.specs.Inner.Cell.{cell_of}
+use Rattle.wi_lexer.specs.Inner.Reference.{inside, reference_of, reference_len}
+use Rattle.wi_lexer.specs.Rectangle.{rectangle_text, IsRectangle, two_cells}
+use Rattle.wi_lexer.specs.Inner.Rectangle.{begins_second, both_cells, cells_beside, cells_of, rectangle_of, rectangle_len}
 use Rattle.wi_lexer.proofs.RunLemmas.{both_are_true, run_more, all_append}
 use Rattle.wi_lexer.proofs.CellLemmas.{cell_sound, cell_complete, cell_all}
 use Rattle.wi_lexer.proofs.BracketLemmas.{bracketed, inside_read, read_back, some_item, closed_len, closed_front, closed_none, closed_bracket, cell_inside}

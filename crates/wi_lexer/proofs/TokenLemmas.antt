@@ -9,14 +9,21 @@ use Rattle.wi_lexer.specs.declared.token.Kind.{Kind}
 use Rattle.wi_lexer.specs.declared.token.Kind.TheVariants.{Number, Reference, Rectangle, Name, Text, Mark}
 use Rattle.wi_lexer.specs.declared.token.Mark as mark
 use Rattle.wi_lexer.specs.declared.token.Mark.TheVariants.{NotEqual, Less, LessOrEqual, Greater, GreaterOrEqual}
-use Rattle.wi_lexer.specs.Number.{IsNumberText, decimals_len, decimal_len, number_len}
-use Rattle.wi_lexer.specs.Reference.{IsReference, one_cell, reference_len}
-use Rattle.wi_lexer.specs.Rectangle.{IsRectangle, two_cells, rectangle_len}
+use Rattle.wi_lexer.specs.Number.{IsNumberText}
+use Rattle.wi_lexer.specs.Inner.Number.{decimals_len, decimal_len, number_len}
+use Rattle.wi_lexer.specs.Reference.{IsReference, one_cell}
+use Rattle.wi_lexer.specs.Inner.Reference.{reference_len}
+use Rattle.wi_lexer.specs.Rectangle.{IsRectangle, two_cells}
+use Rattle.wi_lexer.specs.Inner.Rectangle.{rectangle_len}
 use Rattle.wi_lexer.specs.Cell.{Cell, IsCell, cell_text}
-use Rattle.wi_lexer.specs.Name.{IsName, is_name_start, name_len}
-use Rattle.wi_lexer.specs.Text.{IsText, of_content, quoted, text_len}
-use Rattle.wi_lexer.specs.Mark.{mark_text, two_byte_mark, one_byte_mark, mark_at}
-use Rattle.wi_lexer.specs.Token.{IsToken, IsLongest, NoToken, of_length, mark_token, token_at}
+use Rattle.wi_lexer.specs.Name.{IsName, is_name_start}
+use Rattle.wi_lexer.specs.Inner.Name.{name_len}
+use Rattle.wi_lexer.specs.Text.{IsText, of_content, quoted}
+use Rattle.wi_lexer.specs.Inner.Text.{text_len}
+use Rattle.wi_lexer.specs.Mark.{mark_text}
+use Rattle.wi_lexer.specs.Inner.Mark.{two_byte_mark, one_byte_mark, mark_at}
+use Rattle.wi_lexer.specs.Token.{IsToken, IsLongest, NoToken}
+use Rattle.wi_lexer.specs.Inner.Token.{of_length, mark_token, token_at}
 use Rattle.wi_lexer.proofs.NumberLemmas.{number_some, number_more, number_within, number_sound}
 use Rattle.wi_lexer.proofs.BracketLemmas.{bracketed}
 use Rattle.wi_lexer.proofs.ReferenceLemmas.{reference_sound, reference_complete, no_reference}

@@ -7,7 +7,5 @@ pub mod Name
 pub mod Text
 pub mod Mark
 pub mod Token
-pub mod Inside
-pub mod Scan
 pub mod Tokens
-pub mod Ends
+pub mod Inner

@@ -1,20 +1,11 @@
 -- Runs of bytes of one class.
-use Rattle.std.specs.Prelude.{◌≡◌, ℕ, ◌+◌, ◌<◌, Bool, true, false, ◌||◌, ◌==◌, nat_lt, if◌then◌else◌, List, length}
+use Rattle.std.specs.Prelude.{◌≡◌, ℕ, ◌<◌, Bool, true, ◌||◌, ◌==◌, List, length}
 use Rattle.std.specs.List.{list_all, prefix_len}
-use Rattle.std.specs.Char.{is_ascii_digit, is_ascii_alphabetic}
 use Rattle.std.specs.Str.{byte}
 
 -- white space: space, tab, CR or LF
 abbrev pub is_blank : ℕ → Bool
 is_blank b = b == byte " " || b == byte "\t" || b == byte "\r" || b == byte "\n"
-
--- any byte but `]`
-abbrev pub is_inside : ℕ → Bool
-is_inside b = if b == byte "]" then false else true
-
--- any byte but `:`
-abbrev pub is_before_colon : ℕ → Bool
-is_before_colon b = if b == byte ":" then false else true
 
 -- some bytes, each of the class
 pub record IsRun (class : ℕ → Bool) (text : List ℕ) : Type 0 where
@@ -24,19 +15,3 @@ pub record IsRun (class : ℕ → Bool) (text : List ℕ) : Type 0 where
 -- how many bytes of the class stand at the front
 abbrev pub blanks_len : List ℕ → ℕ
 blanks_len bs = prefix_len is_blank bs
-
-abbrev pub digits_len : List ℕ → ℕ
-digits_len bs = prefix_len is_ascii_digit bs
-
-abbrev pub letters_len : List ℕ → ℕ
-letters_len bs = prefix_len is_ascii_alphabetic bs
-
-abbrev pub inside_len : List ℕ → ℕ
-inside_len bs = prefix_len is_inside bs
-
-abbrev pub before_colon_len : List ℕ → ℕ
-before_colon_len bs = prefix_len is_before_colon bs
-
--- a length and one byte before it, or 0 where the length is 0
-abbrev pub one_more : ℕ → ℕ
-one_more n = if nat_lt 0 n then 1 + n else 0

@@ -1,8 +1,7 @@
 -- Texts as a formula writes them (OpenFormula, "Constant Strings").
-use Rattle.std.specs.Prelude.{ℕ, ◌+◌, Bool, true, false, ◌==◌, if◌then◌else◌, List, [], ◌∷◌, ◌++◌, codes}
+use Rattle.std.specs.Prelude.{ℕ, ◌+◌, ◌==◌, if◌then◌else◌, List, [], ◌∷◌, ◌++◌, codes}
 use Rattle.std.specs.List.{flat_map}
 use Rattle.std.specs.Str.{byte}
-use Rattle.wi_lexer.specs.Runs.{one_more}
 
 -- a byte between the quotes: a quote is doubled
 abbrev pub doubled : ℕ → List ℕ
@@ -15,26 +14,3 @@ quoted content = codes "\"" ++ flat_map doubled content ++ codes "\""
 -- The text is some content in double quotes.
 pub data IsText : List ℕ → Type 0 where
   of_content : (content : List ℕ) → IsText (quoted content)
-
--- ---- where a reader finds it: it stands inside the quotes, or after a quote that may be the last
-
--- the length up to the last quote that may be the last of the text, or 0 where there is none
-unfoldable pub quoted_len : (inside : Bool) → List ℕ → ℕ
-quoted_len inside [] = 0
-quoted_len true (b ∷ bs) = if b == byte "\"" then 1 + quoted_len false bs else one_more (quoted_len true bs)
-quoted_len false (b ∷ bs) = if b == byte "\"" then one_more (quoted_len true bs) else 0
-
--- the length of the longest text in quotes at the front, or 0 where none stands there
-abbrev pub text_len : List ℕ → ℕ
-text_len bs = quoted_len false bs
-
--- what stands up to the quote that closes the text, a doubled quote once
-unfoldable pub content_from : (inside : Bool) → List ℕ → List ℕ
-content_from inside [] = []
-content_from true (b ∷ bs) = if b == byte "\"" then content_from false bs else b ∷ content_from true bs
-content_from false (b ∷ bs) = if b == byte "\"" then byte "\"" ∷ content_from true bs else []
-
--- the content of a text in double quotes, and nothing of a text that doesn't begin with one
-unfoldable pub text_content : List ℕ → List ℕ
-text_content [] = []
-text_content (b ∷ bs) = if b == byte "\"" then content_from true bs else []

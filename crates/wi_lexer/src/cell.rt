@@ -3,7 +3,7 @@
 ghost use Rattle.std.specs.Prelude.{◌≡◌, option_map};
 ghost use Rattle.std.specs.List.{list_all};
 ghost use Rattle.std.specs.Char.{is_ascii_digit};
-ghost use Rattle.wi_lexer.specs.Cell as spec;
+ghost use Rattle.wi_lexer.specs.Inner.Cell as spec;
 
 use crate::runs::{byte, letters_len};
 
@@ -42,7 +42,7 @@ fn is_row(digits: &[u8]) -> bool
 }
 
 /// The parts of a cell, as `$A1`. None where the text is no cell.
-#[tactic(auto, unfolding(crate::specs::Cell::cell_of))]
+#[tactic(auto, unfolding(crate::specs::Inner::Cell::cell_of))]
 pub fn cell_of(text: &[u8]) -> Option<CellText<'_>>
     ensures { option_map spec.parts result ≡ spec.cell_of text.now }
 {

@@ -1,13 +1,19 @@
 //! Laws of the tokens alone.
 
 ghost use Rattle.std.specs.Prelude.{◌≡◌, ◌↔◌, ℕ, true, List, [], ◌∷◌, ◌++◌, Some, None};
-ghost use Rattle.wi_lexer.specs.Cell.{Cell, IsCell, cell_text, cell_of};
-ghost use Rattle.wi_lexer.specs.Reference.{reference_text, reference_of};
-ghost use Rattle.wi_lexer.specs.Rectangle.{rectangle_text, rectangle_of};
-ghost use Rattle.wi_lexer.specs.Text.{quoted, text_content};
-ghost use Rattle.wi_lexer.specs.Token.{IsToken, token_at, IsLongest, NoToken};
-ghost use Rattle.wi_lexer.specs.Tokens.{Tokens, AreTokens, then_tokens, tokens};
-ghost use Rattle.wi_lexer.specs.Ends.{ends};
+ghost use Rattle.wi_lexer.specs.Cell.{Cell, IsCell, cell_text};
+ghost use Rattle.wi_lexer.specs.Inner.Cell.{cell_of};
+ghost use Rattle.wi_lexer.specs.Reference.{reference_text};
+ghost use Rattle.wi_lexer.specs.Inner.Reference.{reference_of};
+ghost use Rattle.wi_lexer.specs.Rectangle.{rectangle_text};
+ghost use Rattle.wi_lexer.specs.Inner.Rectangle.{rectangle_of};
+ghost use Rattle.wi_lexer.specs.Text.{quoted};
+ghost use Rattle.wi_lexer.specs.Inner.Text.{text_content};
+ghost use Rattle.wi_lexer.specs.Token.{IsToken, IsLongest, NoToken};
+ghost use Rattle.wi_lexer.specs.Inner.Token.{token_at};
+ghost use Rattle.wi_lexer.specs.Tokens.{Tokens, AreTokens, then_tokens};
+ghost use Rattle.wi_lexer.specs.Inner.Tokens.{tokens};
+ghost use Rattle.wi_lexer.specs.Inner.Ends.{ends};
 ghost use Rattle.wi_lexer.specs.declared.token.Kind.{Kind};
 
 /// What is found is the longest token.

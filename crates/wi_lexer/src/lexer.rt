@@ -1,7 +1,7 @@
 //! The tokens of a text, one after another.
 
 ghost use Rattle.std.specs.Prelude.{◌≡◌};
-ghost use Rattle.wi_lexer.specs.Scan.{Gives, start_of};
+ghost use Rattle.wi_lexer.specs.Inner.Scan.{Gives, start_of};
 
 use crate::runs::blanks_len;
 use crate::token::{Kind, token_at};
@@ -31,11 +31,11 @@ pub struct Lexer<'a> {
 }
 
 impl<'a> Model for Lexer<'a> {
-    ghost use Rattle.wi_lexer.specs.Inside.{Scan};
+    ghost use Rattle.wi_lexer.specs.Inner.Inside.{Scan};
 
     ghost Value = { Scan };
 
-    ghost use Rattle.wi_lexer.specs.Inside.{scan_of, IsSuffix};
+    ghost use Rattle.wi_lexer.specs.Inner.Inside.{scan_of, IsSuffix};
 
     ghost view = { scan_of };
 

@@ -1,12 +1,12 @@
 //! The marks at the front of a text.
 
 ghost use Rattle.std.specs.Prelude.{◌≡◌};
-ghost use Rattle.wi_lexer.specs.Mark as spec;
+ghost use Rattle.wi_lexer.specs.Inner.Mark as spec;
 
 use crate::runs::byte;
 use crate::token::Mark;
 
-#[tactic(auto, unfolding(crate::specs::Mark::two_byte_mark))]
+#[tactic(auto, unfolding(crate::specs::Inner::Mark::two_byte_mark))]
 fn two_byte_mark(first: u8, second: u8) -> Option<Mark>
     ensures { result ≡ spec.two_byte_mark first second }
 {
@@ -18,7 +18,7 @@ fn two_byte_mark(first: u8, second: u8) -> Option<Mark>
     }
 }
 
-#[tactic(auto, unfolding(crate::specs::Mark::one_byte_mark))]
+#[tactic(auto, unfolding(crate::specs::Inner::Mark::one_byte_mark))]
 fn one_byte_mark(b: u8) -> Option<Mark>
     ensures { result ≡ spec.one_byte_mark b }
 {
@@ -40,7 +40,7 @@ fn one_byte_mark(b: u8) -> Option<Mark>
     }
 }
 
-#[tactic(auto, unfolding(crate::specs::Mark::mark_at))]
+#[tactic(auto, unfolding(crate::specs::Inner::Mark::mark_at))]
 pub fn mark_at(text: &[u8]) -> Option<Mark>
     ensures { result ≡ spec.mark_at text.now }
 {

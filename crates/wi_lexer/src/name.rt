@@ -2,6 +2,7 @@
 
 ghost use Rattle.std.specs.Prelude.{◌≡◌};
 ghost use Rattle.wi_lexer.specs.Name as spec;
+ghost use Rattle.wi_lexer.specs.Inner.Name as reader;
 
 use crate::runs::byte;
 
@@ -18,14 +19,14 @@ fn is_name_part(b: u8) -> bool
 }
 
 fn name_parts_len(text: &[u8]) -> usize
-    ensures { result ≡ spec.name_parts_len text.now }
+    ensures { result ≡ reader.name_parts_len text.now }
 {
     text.iter().take_while(|b| is_name_part(**b)).count()
 }
 
-#[tactic(auto, unfolding(crate::specs::Name::name_len))]
+#[tactic(auto, unfolding(crate::specs::Inner::Name::name_len))]
 pub fn name_len(text: &[u8]) -> usize
-    ensures { result ≡ spec.name_len text.now }
+    ensures { result ≡ reader.name_len text.now }
 {
     if !is_name_start(byte(text, 0)) {
         return 0;

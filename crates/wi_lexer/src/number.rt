@@ -2,12 +2,13 @@
 
 ghost use Rattle.std.specs.Prelude.{◌≡◌, length, ◌≤◌};
 ghost use Rattle.wi_lexer.specs.Number as spec;
+ghost use Rattle.wi_lexer.specs.Inner.Number as reader;
 
 use crate::runs::{byte, digits_len};
 
-#[tactic(auto, unfolding(crate::specs::Number::decimals_len))]
+#[tactic(auto, unfolding(crate::specs::Inner::Number::decimals_len))]
 fn decimals_len(text: &[u8]) -> usize
-    ensures value { result ≡ spec.decimals_len text.now }
+    ensures value { result ≡ reader.decimals_len text.now }
     ensures within { result ≤ length text.now }
 {
     if byte(text, 0) != b'.' {
@@ -20,9 +21,9 @@ fn decimals_len(text: &[u8]) -> usize
     1 + digits
 }
 
-#[tactic(auto, unfolding(crate::specs::Number::decimal_len))]
+#[tactic(auto, unfolding(crate::specs::Inner::Number::decimal_len))]
 fn decimal_len(text: &[u8]) -> usize
-    ensures value { result ≡ spec.decimal_len text.now }
+    ensures value { result ≡ reader.decimal_len text.now }
     ensures within { result ≤ length text.now }
 {
     let digits = digits_len(text);
@@ -41,9 +42,9 @@ fn is_sign(b: u8) -> bool
     b == b'+' || b == b'-'
 }
 
-#[tactic(auto, unfolding(crate::specs::Number::signed_len))]
+#[tactic(auto, unfolding(crate::specs::Inner::Number::signed_len))]
 fn signed_len(text: &[u8]) -> usize
-    ensures value { result ≡ spec.signed_len text.now }
+    ensures value { result ≡ reader.signed_len text.now }
     ensures within { result ≤ length text.now }
 {
     if !is_sign(byte(text, 0)) {
@@ -53,9 +54,9 @@ fn signed_len(text: &[u8]) -> usize
     if digits > 0 { 1 + digits } else { 0 }
 }
 
-#[tactic(auto, unfolding(crate::specs::Number::exponent_len))]
+#[tactic(auto, unfolding(crate::specs::Inner::Number::exponent_len))]
 fn exponent_len(text: &[u8]) -> usize
-    ensures value { result ≡ spec.exponent_len text.now }
+    ensures value { result ≡ reader.exponent_len text.now }
     ensures within { result ≤ length text.now }
 {
     if !is_exponent_letter(byte(text, 0)) {
@@ -65,9 +66,9 @@ fn exponent_len(text: &[u8]) -> usize
     if signed > 0 { 1 + signed } else { 0 }
 }
 
-#[tactic(auto, unfolding(crate::specs::Number::number_len))]
+#[tactic(auto, unfolding(crate::specs::Inner::Number::number_len))]
 pub fn number_len(text: &[u8]) -> usize
-    ensures value { result ≡ spec.number_len text.now }
+    ensures value { result ≡ reader.number_len text.now }
     ensures within { result ≤ length text.now }
 {
     let decimal = decimal_len(text);

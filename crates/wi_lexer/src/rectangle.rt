@@ -1,14 +1,14 @@
 //! References to a rectangle.
 
 ghost use Rattle.std.specs.Prelude.{◌≡◌, option_map};
-ghost use Rattle.wi_lexer.specs.Rectangle as spec;
+ghost use Rattle.wi_lexer.specs.Inner.Rectangle as spec;
 
 use crate::cell::{CellText, cell_of};
 use crate::reference::is_bracketed;
 use crate::runs::{before_colon_len, byte, inside_len};
 
 // The cells on both sides of `:.`.
-#[tactic(auto, unfolding(crate::specs::Rectangle::cells_of))]
+#[tactic(auto, unfolding(crate::specs::Inner::Rectangle::cells_of))]
 fn cells_of(text: &[u8]) -> Option<(CellText<'_>, CellText<'_>)>
     ensures { option_map spec.parts_of_both result ≡ spec.cells_of text.now }
 {
@@ -20,7 +20,7 @@ fn cells_of(text: &[u8]) -> Option<(CellText<'_>, CellText<'_>)>
 }
 
 /// The cells of a reference to a rectangle, as `[.$A1:.B$2]`. None where the text is none.
-#[tactic(auto, unfolding(crate::specs::Rectangle::rectangle_of))]
+#[tactic(auto, unfolding(crate::specs::Inner::Rectangle::rectangle_of))]
 pub fn rectangle_of(text: &[u8]) -> Option<(CellText<'_>, CellText<'_>)>
     ensures { option_map spec.parts_of_both result ≡ spec.rectangle_of text.now }
 {
@@ -30,7 +30,7 @@ pub fn rectangle_of(text: &[u8]) -> Option<(CellText<'_>, CellText<'_>)>
     cells_of(&text[2..text.len() - 1])
 }
 
-#[tactic(auto, using(crate::proofs::RectangleLemmas::no_rectangle), unfolding(crate::specs::Rectangle::rectangle_len))]
+#[tactic(auto, using(crate::proofs::RectangleLemmas::no_rectangle), unfolding(crate::specs::Inner::Rectangle::rectangle_len))]
 pub fn rectangle_len(text: &[u8]) -> usize
     ensures { result ≡ spec.rectangle_len text.now }
 {

@@ -1,8 +1,8 @@
 //! References to one cell.
 
 ghost use Rattle.std.specs.Prelude.{◌≡◌, option_map};
-ghost use Rattle.wi_lexer.specs.Cell.{parts};
-ghost use Rattle.wi_lexer.specs.Reference as spec;
+ghost use Rattle.wi_lexer.specs.Inner.Cell.{parts};
+ghost use Rattle.wi_lexer.specs.Inner.Reference as spec;
 
 use crate::cell::{CellText, cell_of};
 use crate::runs::{byte, inside_len};
@@ -14,7 +14,7 @@ pub fn is_bracketed(text: &[u8]) -> bool
 }
 
 /// The cell of a reference, as `[.$A1]`. None where the text is no reference.
-#[tactic(auto, unfolding(crate::specs::Reference::reference_of))]
+#[tactic(auto, unfolding(crate::specs::Inner::Reference::reference_of))]
 pub fn reference_of(text: &[u8]) -> Option<CellText<'_>>
     ensures { option_map parts result ≡ spec.reference_of text.now }
 {
@@ -24,7 +24,7 @@ pub fn reference_of(text: &[u8]) -> Option<CellText<'_>>
     cell_of(&text[2..text.len() - 1])
 }
 
-#[tactic(auto, using(crate::proofs::ReferenceLemmas::no_reference), unfolding(crate::specs::Reference::reference_len))]
+#[tactic(auto, using(crate::proofs::ReferenceLemmas::no_reference), unfolding(crate::specs::Inner::Reference::reference_len))]
 pub fn reference_len(text: &[u8]) -> usize
     ensures { result ≡ spec.reference_len text.now }
 {

@@ -2,6 +2,7 @@
 
 ghost use Rattle.std.specs.Prelude.{◌≡◌, length, slice_index, ◌<◌, ◌≤◌};
 ghost use Rattle.wi_lexer.specs.Runs as spec;
+ghost use Rattle.wi_lexer.specs.Inner.Runs as reader;
 
 fn is_blank(b: u8) -> bool
     ensures { result ≡ spec.is_blank b }
@@ -19,7 +20,7 @@ pub fn blanks_len(text: &[u8]) -> usize
 
 #[tactic(auto, using(crate::proofs::RunLemmas::run_within))]
 pub fn digits_len(text: &[u8]) -> usize
-    ensures value { result ≡ spec.digits_len text.now }
+    ensures value { result ≡ reader.digits_len text.now }
     ensures within { result ≤ length text.now }
 {
     text.iter().take_while(|b| b.is_ascii_digit()).count()
@@ -27,7 +28,7 @@ pub fn digits_len(text: &[u8]) -> usize
 
 #[tactic(auto, using(crate::proofs::RunLemmas::run_within))]
 pub fn letters_len(text: &[u8]) -> usize
-    ensures value { result ≡ spec.letters_len text.now }
+    ensures value { result ≡ reader.letters_len text.now }
     ensures within { result ≤ length text.now }
 {
     text.iter().take_while(|b| b.is_ascii_alphabetic()).count()
@@ -35,7 +36,7 @@ pub fn letters_len(text: &[u8]) -> usize
 
 #[tactic(auto, using(crate::proofs::RunLemmas::run_within))]
 pub fn inside_len(text: &[u8]) -> usize
-    ensures value { result ≡ spec.inside_len text.now }
+    ensures value { result ≡ reader.inside_len text.now }
     ensures within { result ≤ length text.now }
 {
     text.iter().take_while(|b| **b != b']').count()
@@ -43,7 +44,7 @@ pub fn inside_len(text: &[u8]) -> usize
 
 #[tactic(auto, using(crate::proofs::RunLemmas::run_within))]
 pub fn before_colon_len(text: &[u8]) -> usize
-    ensures value { result ≡ spec.before_colon_len text.now }
+    ensures value { result ≡ reader.before_colon_len text.now }
     ensures within { result ≤ length text.now }
 {
     text.iter().take_while(|b| **b != b':').count()

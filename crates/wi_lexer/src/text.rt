@@ -1,13 +1,13 @@
 //! The texts that a formula writes in double quotes.
 
 ghost use Rattle.std.specs.Prelude.{◌≡◌, IfOk, string_bytes};
-ghost use Rattle.wi_lexer.specs.Text as spec;
+ghost use Rattle.wi_lexer.specs.Inner.Text as spec;
 
 use std::alloc::{AllocError, Global};
 
 /// The content of a text in double quotes: what stands between them, each doubled quote once. Nothing of a text that
 /// doesn't begin with a quote.
-#[tactic(auto, unfolding(crate::specs::Text::text_content))]
+#[tactic(auto, unfolding(crate::specs::Inner::Text::text_content))]
 pub fn text_content(alloc: Global, text: &str) -> Result<String, AllocError>
     ensures { IfOk result (λ content. string_bytes content ≡ spec.text_content text.now) }
 {

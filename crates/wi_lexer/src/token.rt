@@ -2,7 +2,7 @@
 
 ghost use Rattle.std.specs.Prelude.{◌≡◌};
 ghost use Rattle.wi_lexer.specs.Mark.{mark_text};
-ghost use Rattle.wi_lexer.specs.Token as spec;
+ghost use Rattle.wi_lexer.specs.Inner.Token as spec;
 
 use crate::mark::mark_at;
 use crate::name::name_len;
@@ -76,7 +76,7 @@ impl Mark {
 }
 
 /// The longest token at the front, and its length.
-#[tactic(auto, unfolding(crate::specs::Token::token_at))]
+#[tactic(auto, unfolding(crate::specs::Inner::Token::token_at))]
 pub fn token_at(text: &[u8]) -> Option<(Kind, usize)>
     ensures { result ≡ spec.token_at text.now }
 {

@@ -19,7 +19,7 @@ use Rattle.wi_lexer.proofs.RunLemmas.{both_are_true, run_stops, run_more}
 use Rattle.wi_parser.specs.declared.expr.Reference.{Reference}
 use Rattle.wi_parser.specs.Printing.{cell_named}
 use Rattle.wi_parser.specs.Shift.{in_sheet}
-use Rattle.wi_parser.specs.FormulaText.{reference_to}
+use Rattle.wi_parser.specs.Symbols.{reference_to}
 
 pub digits_run : (ds : List ℕ) → IsNumeral 10 ds → IsRun is_ascii_digit ds
 digits_run ds h = record { some = h.0; all = sym (digits_same ds) ∙ own.from ds h.1 }

@@ -2,15 +2,15 @@
 use Rattle.std.proofs.Common.{◌≡◌, ℕ, List, [], ◌∷◌, ◌++◌, length, ◌<◌, refl, sym, ap, ◌∙◌, arith}
 use Rattle.wi_lexer.specs.declared.lexer.Token.{Token}
 use Rattle.wi_lexer.specs.Token.{NoToken, after_blanks}
-use Rattle.wi_lexer.specs.Inside.{Scan}
-use Rattle.wi_lexer.specs.Scan.{ahead, IsNext, IsDone}
-use Rattle.wi_lexer.specs.Tokens.{tokens}
+use Rattle.wi_lexer.specs.Inner.Inside.{Scan}
+use Rattle.wi_lexer.specs.Inner.Scan.{ahead, IsNext, IsDone}
+use Rattle.wi_lexer.specs.Inner.Tokens.{tokens}
 use Rattle.wi_lexer.proofs.CallerLemmas.{tokens_next, tokens_bad, tokens_end}
 use Rattle.wi_parser.specs.declared.fault.ParseFault.TheVariants.{Syntax}
 use Rattle.wi_parser.specs.declared.word.Word.{Word}
 use Rattle.wi_parser.specs.Symbol.{Symbol, refused}
-use Rattle.wi_parser.specs.FormulaText.{symbol_of, symbols_of}
-use Rattle.wi_parser.specs.WordSymbols.{meant_by, all_meant}
+use Rattle.wi_parser.specs.Inner.FormulaText.{symbol_of, symbols_of}
+use Rattle.wi_parser.specs.Inner.WordSymbols.{meant_by, all_meant}
 
 -- what is left of the text's symbols
 abbrev pub left : Scan → List Symbol

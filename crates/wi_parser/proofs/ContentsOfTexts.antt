@@ -5,20 +5,22 @@ use Rattle.std.specs.List.{list_any}
 use Rattle.std.proofs.lemmas.Bool.Decides.{nat_tests}
 use Rattle.wi_values.specs.declared.value.Value.{Value}
 use Rattle.wi_values.specs.declared.value.Value.TheVariants.{Text}
-use Rattle.wi_values.specs.Import.{max_text, imported}
+use Rattle.wi_values.specs.Import.{max_text}
+use Rattle.wi_values.specs.Inner.Import.{imported}
 use Rattle.wi_values.specs.Imported.{IsImported}
 use Rattle.wi_values.proofs.Imports.{imported_exactly}
-use Rattle.wi_lexer.specs.Tokens.{tokens}
+use Rattle.wi_lexer.specs.Inner.Tokens.{tokens}
 use Rattle.wi_parser.specs.declared.content.Content.{Content}
 use Rattle.wi_parser.specs.declared.content.Content.TheVariants.{Constant}
 use Rattle.wi_parser.specs.declared.fault.ParseFault.{ParseFault}
 use Rattle.wi_parser.specs.declared.fault.ParseFault.TheVariants.{TooLong, OutOfSheet, NumberRange, TooDeep, Syntax}
 use Rattle.wi_parser.specs.Contents.{IsFormulaText, plain, prefixed, AreJudged, at_fault, a_tree, no_tree, IsParsed, too_long, as_judged, IsConstantText, IsContent, a_formula, no_formula, a_text, a_long_text, a_constant, no_constant}
-use Rattle.wi_parser.specs.FormulaText.{symbols_of, after, after_equals, formula_symbols}
+use Rattle.wi_parser.specs.Inner.FormulaText.{symbols_of, after, after_equals, formula_symbols}
 use Rattle.wi_parser.specs.Grammar.{Spells, loosest}
 use Rattle.wi_parser.specs.Nesting.{deepest, most_signs, max_depth, is_too_deep}
-use Rattle.wi_parser.specs.Reader.{whole}
-use Rattle.wi_parser.specs.Reading.{max_formula, refusal_of, unless_refused, judged, parsed, as_content, taken_as_text, constant_read, content_read}
+use Rattle.wi_parser.specs.Inner.Reader.{whole}
+use Rattle.wi_parser.specs.Limits.{max_formula, refusal_of}
+use Rattle.wi_parser.specs.Inner.Reading.{unless_refused, judged, parsed, as_content, taken_as_text, constant_read, content_read}
 use Rattle.wi_parser.specs.Symbol.{Symbol, is_outside, is_unfit}
 use Rattle.wi_parser.specs.Symbols.{AreSymbols}
 use Rattle.wi_parser.specs.Tree.{Tree}

@@ -6,11 +6,12 @@ use Rattle.std.proofs.lemmas.List.Elements.{All-map, All-weaker}
 use Rattle.wi_values.specs.Address.{columns, rows, place, row_of, column_of}
 use Rattle.wi_parser.specs.declared.expr.Expr.{Expr}
 use Rattle.wi_parser.specs.declared.expr.Reference.{Reference}
-use Rattle.wi_parser.specs.FormulaText.{formula_symbols}
+use Rattle.wi_parser.specs.Inner.FormulaText.{formula_symbols}
 use Rattle.wi_parser.specs.Grammar.{loosest, Spells, pair_symbols}
 use Rattle.wi_parser.specs.Nesting.{deepest, most_signs, max_depth, is_sign}
 use Rattle.wi_parser.specs.Printing.{printed}
-use Rattle.wi_parser.specs.Reading.{max_formula, parsed}
+use Rattle.wi_parser.specs.Limits.{max_formula}
+use Rattle.wi_parser.specs.Inner.Reading.{parsed}
 use Rattle.wi_parser.specs.Shift.{within, part, row_moved, column_moved, moved, in_sheet, map_references, map_references_in}
 use Rattle.wi_parser.specs.Spelling.{spelling, spelling_of_all, spelling_of_more}
 use Rattle.wi_parser.specs.Symbol.{Symbol, reference, corners, open_parenthesis, close_parenthesis, separator, infix_mark, sign_mark, percent_mark, what_if_name, name}

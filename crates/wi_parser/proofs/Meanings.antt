@@ -1,7 +1,7 @@
 -- A text means a symbol where it is a token that stands for it.
 use Rattle.std.proofs.Common.{◌≡◌, ◌↔◌, ℕ, ℤ, ◌⊎◌, inl, inr, List, Option, Some, None, refl, sym, ap, ap₂, ◌∙◌, subst}
 use Rattle.wi_fraction.specs.Number.{Number as Numbers}
-use Rattle.wi_fraction.specs.Text.{read_decimal}
+use Rattle.wi_fraction.specs.Inner.Reading.{read_decimal}
 use Rattle.wi_fraction.specs.Written.{Writes, written_value}
 use Rattle.wi_fraction.proofs.Written.{reads_what_is_written}
 use Rattle.wi_lexer.specs.declared.token.Kind.{Kind}
@@ -22,7 +22,8 @@ use Rattle.wi_parser.specs.declared.expr.Operator.{Operator}
 use Rattle.wi_parser.specs.declared.expr.Operator.TheVariants as operator
 use Rattle.wi_parser.specs.declared.expr.Reference as references
 use Rattle.wi_parser.specs.declared.fault.ParseFault.TheVariants.{OutOfSheet}
-use Rattle.wi_parser.specs.FormulaText.{number_symbol, reference_to, cell_symbol, reference_symbol, corners_symbol, rectangle_symbol, mark_symbol, symbol_of}
+use Rattle.wi_parser.specs.Inner.FormulaText.{number_symbol, cell_symbol, reference_symbol, corners_symbol, rectangle_symbol, mark_symbol, symbol_of}
+use Rattle.wi_parser.specs.Symbols.{reference_to}
 use Rattle.wi_parser.specs.Printing.{mark_of}
 use Rattle.wi_parser.specs.Symbol.{Symbol, text_literal, refused, infix_mark}
 use Rattle.wi_parser.specs.Symbols.{Means, a_number, an_unfit_number, a_text, a_reference, an_outside_reference, a_rectangle, an_outside_rectangle, a_name, an_opening_parenthesis, a_closing_parenthesis, a_separator, a_percent_mark, an_operator}

@@ -10,10 +10,11 @@ use Rattle.wi_parser.specs.Tree.{Tree, Trees}
 use Rattle.wi_parser.specs.Symbol.{Symbol, close_parenthesis, infix_mark, percent_mark, refused, is_outside, is_unfit}
 use Rattle.wi_parser.specs.Grammar.{loosest, Spells, a_number, a_cell, a_rectangle, in_parentheses, one_input, two_inputs, with_sign, with_percent, tighter, joined, SpellsAll, SpellsMore, a_text, a_call, no_parameter, parameters, last_parameter, another_parameter}
 use Rattle.wi_parser.specs.Nesting.{deepest, most_signs, max_depth, is_too_deep}
-use Rattle.wi_parser.specs.Reader.{whole}
-use Rattle.wi_parser.specs.Outcome.{Fails}
-use Rattle.wi_parser.specs.FormulaText.{formula_symbols}
-use Rattle.wi_parser.specs.Reading.{max_formula, refusal_of, unless_refused, judged, parsed, IsWithinLimits, ReadsAs}
+use Rattle.wi_parser.specs.Inner.Reader.{whole}
+use Rattle.wi_parser.specs.Inner.Outcome.{Fails}
+use Rattle.wi_parser.specs.Inner.FormulaText.{formula_symbols}
+use Rattle.wi_parser.specs.Limits.{max_formula, refusal_of}
+use Rattle.wi_parser.specs.Inner.Reading.{unless_refused, judged, parsed, IsWithinLimits, ReadsAs}
 use Rattle.wi_parser.proofs.Sound.{whole_sound}
 use Rattle.wi_parser.proofs.Complete.{whole_complete}
 use Rattle.wi_parser.proofs.Depth.{depth-deepest}

@@ -16,7 +16,7 @@ use Rattle.wi_parser.specs.Tree.{Tree, Trees, what_if, no_trees, more_trees}
 use Rattle.wi_parser.specs.Symbol.{Symbol, close_parenthesis}
 use Rattle.wi_parser.specs.View.{pair_of}
 use Rattle.wi_parser.specs.Printing.{cell_named, symbol_text, symbols_text, tree_text}
-use Rattle.wi_parser.specs.PrintedParts.{pairs_text}
+use Rattle.wi_parser.specs.Inner.PrintedParts.{pairs_text}
 
 fits : (xs front : List ℕ) → StartsWith xs front → length front ≤ length xs
 fits xs front h = omega (arith, ap length h, length-take (length front) xs)

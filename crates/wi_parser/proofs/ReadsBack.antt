@@ -2,7 +2,7 @@
 use Rattle.std.proofs.Common.{◌≡◌, ◌≤◌, List, [], ◌∷◌, length, Ok, refl, sym, ap, ap₂, ◌∙◌, subst}
 use Rattle.std.specs.List.{All}
 use Rattle.std.proofs.lemmas.List.Elements.{All-head, All-tail}
-use Rattle.wi_lexer.specs.Tokens.{tokens, tokens_within}
+use Rattle.wi_lexer.specs.Inner.Tokens.{tokens, tokens_within}
 use Rattle.wi_lexer.proofs.EndLemmas.{token_and_rest}
 use Rattle.wi_parser.specs.Tree.{Tree}
 use Rattle.wi_parser.specs.Symbol.{Symbol}
@@ -10,8 +10,9 @@ use Rattle.wi_parser.specs.Grammar.{loosest, Spells}
 use Rattle.wi_parser.specs.Nesting.{deepest, most_signs, max_depth}
 use Rattle.wi_parser.specs.Spelling.{spelling}
 use Rattle.wi_parser.specs.Printing.{symbol_text, symbols_text, printed}
-use Rattle.wi_parser.specs.FormulaText.{symbols_of, formula_symbols}
-use Rattle.wi_parser.specs.Reading.{max_formula, IsWithinLimits, parsed}
+use Rattle.wi_parser.specs.Inner.FormulaText.{symbols_of, formula_symbols}
+use Rattle.wi_parser.specs.Limits.{max_formula}
+use Rattle.wi_parser.specs.Inner.Reading.{IsWithinLimits, parsed}
 use Rattle.wi_parser.specs.Writable.{IsWritable, IsFormulaTree}
 use Rattle.wi_parser.proofs.Apart.{IsApart, spelled_apart}
 use Rattle.wi_parser.proofs.Parses.{spelled_parsed}

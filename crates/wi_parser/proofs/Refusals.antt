@@ -4,7 +4,7 @@ use Rattle.std.specs.List.{list_any}
 use Rattle.wi_parser.specs.declared.word.Word.{Word}
 use Rattle.wi_parser.specs.Symbol.{Symbol}
 use Rattle.wi_parser.specs.Nesting.{is_sign, most_signs}
-use Rattle.wi_parser.specs.WordSymbols.{meant_by, all_meant}
+use Rattle.wi_parser.specs.Inner.WordSymbols.{meant_by, all_meant}
 
 pub any_meant : (p : Symbol → Bool) (ws : List Word) → list_any p (all_meant ws) ≡ list_any (λ w. p (meant_by w)) ws
 any_meant p [] = refl

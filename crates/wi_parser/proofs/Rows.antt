@@ -3,23 +3,23 @@ use Rattle.std.specs.Prelude.{◌≡◌, ℕ, false, [], ◌∷◌, Ok, codes, r
 use Rattle.wi_fraction.specs.Number.{Number}
 use Rattle.wi_values.specs.Address.{place}
 use Rattle.wi_values.specs.AddressReading.{address_at}
-use Rattle.wi_lexer.specs.Number.{number_len, decimal_len, decimals_len, signed_len, exponent_len}
-use Rattle.wi_lexer.specs.Text.{quoted_len}
-use Rattle.wi_lexer.specs.Cell.{cell_of}
-use Rattle.wi_lexer.specs.Reference.{reference_of, reference_len}
-use Rattle.wi_lexer.specs.Rectangle.{rectangle_len, rectangle_of, cells_of}
-use Rattle.wi_lexer.specs.Mark.{mark_at, two_byte_mark, one_byte_mark}
-use Rattle.wi_lexer.specs.Name.{name_len}
-use Rattle.wi_lexer.specs.Token.{token_at}
-use Rattle.wi_lexer.specs.Tokens.{tokens, tokens_within}
+use Rattle.wi_lexer.specs.Inner.Number.{number_len, decimal_len, decimals_len, signed_len, exponent_len}
+use Rattle.wi_lexer.specs.Inner.Text.{quoted_len}
+use Rattle.wi_lexer.specs.Inner.Cell.{cell_of}
+use Rattle.wi_lexer.specs.Inner.Reference.{reference_of, reference_len}
+use Rattle.wi_lexer.specs.Inner.Rectangle.{rectangle_len, rectangle_of, cells_of}
+use Rattle.wi_lexer.specs.Inner.Mark.{mark_at, two_byte_mark, one_byte_mark}
+use Rattle.wi_lexer.specs.Inner.Name.{name_len}
+use Rattle.wi_lexer.specs.Inner.Token.{token_at}
+use Rattle.wi_lexer.specs.Inner.Tokens.{tokens, tokens_within}
 use Rattle.wi_parser.specs.declared.expr.Operator.TheVariants.{Power}
 use Rattle.wi_parser.specs.declared.expr.Sign.TheVariants.{Minus}
 use Rattle.wi_parser.specs.declared.expr.Reference.{Reference}
 use Rattle.wi_parser.specs.Tree.{number, signed, percent, binary, what_if}
 use Rattle.wi_parser.specs.Symbol.{numeral, infix_mark, sign_mark, percent_mark}
-use Rattle.wi_parser.specs.Reader.{pair_at, what_if_at, atom, chain, line, expression}
-use Rattle.wi_parser.specs.FormulaText.{formula_symbols}
-use Rattle.wi_parser.specs.Reading.{judged, parsed}
+use Rattle.wi_parser.specs.Inner.Reader.{pair_at, what_if_at, atom, chain, line, expression}
+use Rattle.wi_parser.specs.Inner.FormulaText.{formula_symbols}
+use Rattle.wi_parser.specs.Inner.Reading.{judged, parsed}
 
 sign_before_percent_before_power : (x y : Number) → judged (sign_mark Minus ∷ numeral x ∷ percent_mark ∷ infix_mark Power ∷ numeral y ∷ []) ≡ Ok (binary Power (percent (signed Minus (number x))) (number y))
 unfolding atom chain line expression

@@ -9,7 +9,7 @@ use Rattle.wi_lexer.specs.declared.token.Kind.TheVariants.{Number, Name, Text, M
 use Rattle.wi_lexer.specs.declared.token.Mark.TheVariants.{Less, Greater}
 use Rattle.wi_lexer.specs.Name.{IsName, is_name_start}
 use Rattle.wi_lexer.specs.Number.{IsDecimalText, whole, decimal}
-use Rattle.wi_lexer.specs.Ends.{goes_on, ends}
+use Rattle.wi_lexer.specs.Inner.Ends.{goes_on, ends}
 use Rattle.wi_lexer.proofs.RunLemmas.{both_are_true}
 use Rattle.wi_parser.specs.declared.expr.Operator.{Operator}
 use Rattle.wi_parser.specs.declared.expr.Operator.TheVariants as operator

@@ -9,7 +9,7 @@ use Rattle.std.specs.List.{list_all}
 use Rattle.std.specs.Str.Parse.{digits_value}
 use Rattle.std.specs.Str.{bytes_eq, str_to_ascii_lowercase, str_eq_ignore_ascii_case}
 use Rattle.wi_fraction.specs.Number.{Number as Numbers}
-use Rattle.wi_fraction.specs.Text.{read_decimal}
+use Rattle.wi_fraction.specs.Inner.Reading.{read_decimal}
 use Rattle.wi_fraction.specs.Decimal.{IsUnsignedDecimal}
 use Rattle.wi_fraction.proofs.Numerals.{read_decimal-numeral}
 use Rattle.wi_values.specs.Address.{columns, rows, place, letters_value}
@@ -20,15 +20,17 @@ use Rattle.wi_lexer.specs.declared.token.Mark as mark
 use Rattle.wi_lexer.specs.declared.token.Mark.TheVariants.{OpenParenthesis}
 use Rattle.wi_lexer.specs.Cell.{Cell}
 use Rattle.wi_lexer.specs.Name.{IsName, is_name_start, is_name_part}
-use Rattle.wi_lexer.specs.Reference.{reference_of}
-use Rattle.wi_lexer.specs.Rectangle.{rectangle_of}
+use Rattle.wi_lexer.specs.Inner.Reference.{reference_of}
+use Rattle.wi_lexer.specs.Inner.Rectangle.{rectangle_of}
 use Rattle.wi_lexer.specs.Token.{IsToken}
-use Rattle.wi_lexer.specs.Tokens.{Tokens, AreTokens, ended, bad, more, tokens}
+use Rattle.wi_lexer.specs.Tokens.{Tokens, AreTokens, ended, bad, more}
+use Rattle.wi_lexer.specs.Inner.Tokens.{tokens}
 use Rattle.wi_lexer.proofs.TextLemmas.{tokens_hold}
 use Rattle.wi_parser.specs.declared.expr.Reference as references
 use Rattle.wi_parser.specs.declared.fault.ParseFault.TheVariants.{Syntax}
 use Rattle.wi_parser.specs.Capitals.{in_capitals}
-use Rattle.wi_parser.specs.FormulaText.{number_symbol, reference_to, cell_symbol, reference_symbol, corners_symbol, rectangle_symbol, mark_symbol, name_symbol, symbol_of, symbols_of, after_prefix, after_equals, symbols_by, formula_symbols}
+use Rattle.wi_parser.specs.Inner.FormulaText.{number_symbol, cell_symbol, reference_symbol, corners_symbol, rectangle_symbol, mark_symbol, symbol_of, symbols_of, after_prefix, after_equals, symbols_by, formula_symbols}
+use Rattle.wi_parser.specs.Symbols.{reference_to, name_symbol}
 use Rattle.wi_parser.specs.Shift.{in_sheet}
 use Rattle.wi_parser.specs.Symbol.{refused, what_if_name, name}
 use Rattle.wi_parser.specs.Writable.{IsWritable}

@@ -6,8 +6,8 @@ use Rattle.wi_parser.specs.Tree.{Tree, percent, binary}
 use Rattle.wi_parser.specs.Symbol.{Symbol, percent_mark}
 use Rattle.wi_parser.specs.declared.fault.ParseFault.{ParseFault}
 use Rattle.wi_parser.specs.declared.fault.ParseFault.TheVariants.{TooLong, OutOfSheet, NumberRange, TooDeep, Syntax, Memory}
-use Rattle.wi_parser.specs.Outcome.{Fails}
-use Rattle.wi_parser.specs.Reader.{Parse, read_then, after_percent, sign_of, sign_at, operator_at, signed_read, prefix_step, prefixed, percents, chain, chain_step, line}
+use Rattle.wi_parser.specs.Inner.Outcome.{Fails}
+use Rattle.wi_parser.specs.Inner.Reader.{Parse, read_then, after_percent, sign_of, sign_at, operator_at, signed_read, prefix_step, prefixed, percents, chain, chain_step, line}
 use Rattle.wi_parser.proofs.Marks.{map_ok}
 
 -- ---- signs

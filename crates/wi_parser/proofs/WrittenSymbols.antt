@@ -27,7 +27,7 @@ use Rattle.wi_parser.specs.Symbol.{Symbol, numeral, text_literal, reference, cor
 use Rattle.wi_parser.specs.Capitals.{in_capitals}
 use Rattle.wi_parser.specs.Shift.{in_sheet}
 use Rattle.wi_parser.specs.Printing.{cell_named, mark_of, symbol_text}
-use Rattle.wi_parser.specs.FormulaText.{number_symbol, cell_symbol, reference_symbol, corners_symbol, rectangle_symbol, mark_symbol, symbol_of}
+use Rattle.wi_parser.specs.Inner.FormulaText.{number_symbol, cell_symbol, reference_symbol, corners_symbol, rectangle_symbol, mark_symbol, symbol_of}
 use Rattle.wi_parser.specs.Writable.{IsFunctionName, IsWritable}
 use Rattle.wi_parser.proofs.CellsOfSheet.{digits_run, cell_is, cell_means}
 use Rattle.wi_parser.proofs.Apart.{stands_before}

@@ -9,7 +9,7 @@ use Rattle.wi_parser.specs.declared.content.Content.TheVariants.{Constant, Formu
 use Rattle.wi_parser.specs.declared.fault.ParseFault.{ParseFault}
 use Rattle.wi_parser.specs.declared.fault.ParseFault.TheVariants.{TooLong, Syntax}
 use Rattle.wi_parser.specs.Grammar.{Spells, loosest}
-use Rattle.wi_parser.specs.Reading.{max_formula, refusal_of}
+use Rattle.wi_parser.specs.Limits.{max_formula, refusal_of}
 use Rattle.wi_parser.specs.Symbol.{Symbol}
 use Rattle.wi_parser.specs.Symbols.{AreSymbols}
 use Rattle.wi_parser.specs.Tree.{Tree}

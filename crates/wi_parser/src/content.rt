@@ -1,7 +1,7 @@
 //! What stands in a cell.
 
 ghost use Rattle.std.specs.Prelude.{◌≡◌, IfOk};
-ghost use Rattle.wi_parser.specs.Reading.{ReadsAs, content_read, taken_as_text};
+ghost use Rattle.wi_parser.specs.Inner.Reading.{ReadsAs, content_read, taken_as_text};
 
 use crate::fault::ParseFault;
 use crate::formula::Formula;
@@ -20,7 +20,7 @@ pub enum Content {
 impl Content {
     /// The content that a text stands for: a formula where it begins with `=` or `of:=`, the text after an apostrophe,
     /// and else a number, a truth value or a text.
-    #[tactic(auto, unfolding(crate::specs::Reading::content_read))]
+    #[tactic(auto, unfolding(crate::specs::Inner::Reading::content_read))]
     pub fn read(alloc: Global, text: &str) -> Result<Content, ParseFault>
         ensures { ReadsAs (content_read text.now) result }
     {

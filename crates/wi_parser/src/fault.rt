@@ -46,7 +46,7 @@ impl<T: Drop> From<AllocFailed<T>> for ParseFault {
 }
 
 impl From<FieldFault> for ParseFault {
-    ghost use Rattle.wi_parser.specs.Faults.{field_fault};
+    ghost use Rattle.wi_parser.specs.Inner.Faults.{field_fault};
 
     ghost from_gives = { λ fault e. e ≡ field_fault fault };
 

@@ -7,8 +7,9 @@ ghost use Rattle.wi_parser.specs.Writable.{IsFormulaTree};
 ghost use Rattle.wi_parser.specs.Shift.{shifted, ShiftsTo};
 ghost use Rattle.wi_parser.specs.Printing.{printed};
 ghost use Rattle.wi_parser.specs.Grammar.{Spells, loosest};
-ghost use Rattle.wi_parser.specs.FormulaText.{formula_symbols};
-ghost use Rattle.wi_parser.specs.Reading.{max_formula, parsed};
+ghost use Rattle.wi_parser.specs.Inner.FormulaText.{formula_symbols};
+ghost use Rattle.wi_parser.specs.Limits.{max_formula};
+ghost use Rattle.wi_parser.specs.Inner.Reading.{parsed};
 
 use crate::expr::{Expr, Pair};
 use crate::print;
@@ -29,7 +30,7 @@ pub struct Formula {
 
 impl Model for Formula {
     ghost use Rattle.wi_parser.specs.Tree.{Tree};
-    ghost use Rattle.wi_parser.specs.TreeCode.{tree_code};
+    ghost use Rattle.wi_parser.specs.Inner.TreeCode.{tree_code};
 
     ghost Value = { Tree };
 
@@ -39,7 +40,7 @@ impl Model for Formula {
 
     ghost view = { λ f. tree_of f.expr };
 
-    ghost use Rattle.wi_parser.specs.Inside.{IsFormula};
+    ghost use Rattle.wi_parser.specs.Inner.Inside.{IsFormula};
 
     ghost invariant = { IsFormula };
 }

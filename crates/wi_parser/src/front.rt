@@ -1,7 +1,7 @@
 //! How a text begins.
 
 ghost use Rattle.std.specs.Prelude.{◌≡◌, option_map, is_some};
-ghost use Rattle.wi_parser.specs.FormulaText as spec;
+ghost use Rattle.wi_parser.specs.Inner.FormulaText as spec;
 
 /// What follows the front, where the text begins with it.
 pub fn after<'a>(front: &str, text: &'a str) -> Option<&'a str>

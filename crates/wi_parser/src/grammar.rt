@@ -1,9 +1,9 @@
 //! The lines of the grammar, each over the function that reads what stands in parentheses.
 
 ghost use Rattle.std.specs.Prelude.{◌≡◌, ◌<◌, ◌≤◌, length, OnOk, IfOk};
-ghost use Rattle.wi_parser.specs.Reader as reader;
-ghost use Rattle.wi_parser.specs.Outcome.{Finds, FindsAll, FindsMore, put_before};
-ghost use Rattle.wi_parser.specs.Nests.{Nests};
+ghost use Rattle.wi_parser.specs.Inner.Reader as reader;
+ghost use Rattle.wi_parser.specs.Inner.Outcome.{Finds, FindsAll, FindsMore, put_before};
+ghost use Rattle.wi_parser.specs.Inner.Nests.{Nests};
 ghost use Rattle.wi_parser.specs.View.{tree_of, all_of};
 ghost use Rattle.wi_parser.specs.Tree as tree;
 
@@ -69,7 +69,7 @@ impl<F: Fn(Global, &mut Words<'_>, usize) -> Result<Expr, ParseFault>> Grammar<F
     }
 
     // A number, a text, a cell, a rectangle, an expression in parentheses, a what-if, or a call.
-    #[tactic(auto, unfolding(crate::specs::Reader::atom))]
+    #[tactic(auto, unfolding(crate::specs::Inner::Reader::atom))]
     fn atom(&self, words: &mut Words<'_>) -> Result<Expr, ParseFault>
         requires { Nests self.now.depth (F.pre self.now.expression) (F.post self.now.expression) }
         ensures finds { Finds (reader.atom (reader.expression self.now.depth) words.old) result words.new }

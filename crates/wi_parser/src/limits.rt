@@ -3,10 +3,10 @@
 ghost use Rattle.std.specs.Prelude.{◌≡◌, ◌<◌, ◌↔◌, IsTrue};
 ghost use Rattle.std.specs.List.{list_any};
 ghost use Rattle.wi_parser.specs.Symbol as symbol;
-ghost use Rattle.wi_parser.specs.WordSymbols.{meant_by, all_meant};
+ghost use Rattle.wi_parser.specs.Inner.WordSymbols.{meant_by, all_meant};
 ghost use Rattle.wi_parser.specs.Nesting as nesting;
 ghost use Rattle.wi_parser.specs.Nesting.{deepest, most_signs, max_depth};
-ghost use Rattle.wi_parser.specs.Reading as spec;
+ghost use Rattle.wi_parser.specs.Limits as spec;
 
 use crate::expr::Operator;
 use crate::fault::ParseFault;

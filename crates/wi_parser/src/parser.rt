@@ -1,13 +1,13 @@
 //! From a text to a formula.
 
 ghost use Rattle.std.specs.Prelude.{◌+◌, Ok, IfOk};
-ghost use Rattle.wi_parser.specs.WordSymbols.{all_meant};
+ghost use Rattle.wi_parser.specs.Inner.WordSymbols.{all_meant};
 ghost use Rattle.wi_parser.specs.Nesting.{max_depth};
 ghost use Rattle.wi_parser.specs.Grammar.{Spells, loosest};
-ghost use Rattle.wi_parser.specs.Reader as reader;
-ghost use Rattle.wi_parser.specs.Outcome.{FindsWhole};
-ghost use Rattle.wi_parser.specs.FormulaText.{formula_symbols};
-ghost use Rattle.wi_parser.specs.Reading.{ReadsAs, IsWithinLimits, parsed};
+ghost use Rattle.wi_parser.specs.Inner.Reader as reader;
+ghost use Rattle.wi_parser.specs.Inner.Outcome.{FindsWhole};
+ghost use Rattle.wi_parser.specs.Inner.FormulaText.{formula_symbols};
+ghost use Rattle.wi_parser.specs.Inner.Reading.{ReadsAs, IsWithinLimits, parsed};
 ghost use Rattle.wi_parser.specs.Tree.{Tree};
 
 use crate::expr::Expr;

@@ -14,7 +14,7 @@ ghost use Rattle.wi_parser.specs.Symbol.{written_as};
 ghost use Rattle.wi_parser.specs.Tree as tree;
 ghost use Rattle.wi_parser.specs.View.{tree_of, all_of, pair_of};
 ghost use Rattle.wi_parser.specs.Spelling.{spelling_of_all};
-ghost use Rattle.wi_parser.specs.PrintedParts.{pairs_text};
+ghost use Rattle.wi_parser.specs.Inner.PrintedParts.{pairs_text};
 
 use crate::expr::{Corners, Expr, Operator, Pair, Reference, Sign};
 use std::alloc::AllocError;

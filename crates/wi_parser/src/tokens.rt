@@ -1,9 +1,9 @@
 //! From a text to words.
 
 ghost use Rattle.std.specs.Prelude.{◌≡◌, ◌++◌, IfOk};
-ghost use Rattle.wi_lexer.specs.Tokens.{tokens};
-ghost use Rattle.wi_parser.specs.WordSymbols.{all_meant};
-ghost use Rattle.wi_parser.specs.FormulaText.{formula_symbols, symbols_of};
+ghost use Rattle.wi_lexer.specs.Inner.Tokens.{tokens};
+ghost use Rattle.wi_parser.specs.Inner.WordSymbols.{all_meant};
+ghost use Rattle.wi_parser.specs.Inner.FormulaText.{formula_symbols, symbols_of};
 
 use crate::fault::ParseFault;
 use crate::front::{after, after_prefix};
@@ -12,7 +12,7 @@ use std::alloc::{AllocError, Global};
 use wi_lexer::Lexer;
 
 /// The words of a formula's text after its `=`.
-#[tactic(auto, unfolding(crate::specs::FormulaText::formula_symbols))]
+#[tactic(auto, unfolding(crate::specs::Inner::FormulaText::formula_symbols))]
 pub fn words_of(alloc: Global, text: &str) -> Result<Vec<Word>, AllocError>
     ensures { IfOk result (λ words. all_meant words.items ≡ formula_symbols text.now) }
 {

@@ -1,8 +1,8 @@
 //! What-ifs: MULTIPLE.OPERATIONS and its parameters.
 
 ghost use Rattle.std.specs.Prelude.{◌≡◌, ◌<◌, length, OnOk, OnSome, Some, None, MatchOption, option_and_then};
-ghost use Rattle.wi_parser.specs.Reader.{after_open, reference_at, parameter_at, pair_at, what_if_at};
-ghost use Rattle.wi_parser.specs.Outcome.{Finds};
+ghost use Rattle.wi_parser.specs.Inner.Reader.{after_open, reference_at, parameter_at, pair_at, what_if_at};
+ghost use Rattle.wi_parser.specs.Inner.Outcome.{Finds};
 ghost use Rattle.wi_parser.specs.View.{pair_of};
 
 use crate::expr::{Expr, Pair, Reference};
@@ -12,7 +12,7 @@ use std::alloc::Global;
 
 /// What stands after the name of a what-if: in parentheses a formula cell, and one input or two, each with its
 /// replacement cell.
-#[tactic(auto, unfolding(crate::specs::Reader::what_if_at))]
+#[tactic(auto, unfolding(crate::specs::Inner::Reader::what_if_at))]
 pub fn what_if(alloc: Global, words: &mut Words<'_>) -> Result<Expr, ParseFault>
     ensures finds { Finds (what_if_at words.old) result words.new }
     ensures shorter { OnOk result (length words.new < length words.old) }
@@ -51,7 +51,7 @@ fn formula_cell(words: &mut Words<'_>) -> Option<Reference>
 }
 
 // An input, and its replacement cell.
-#[tactic(auto, unfolding(crate::specs::Reader::pair_at))]
+#[tactic(auto, unfolding(crate::specs::Inner::Reader::pair_at))]
 fn pair(words: &mut Words<'_>) -> Option<Pair>
     ensures finds { MatchOption result (pair_at words.old ≡ None) (λ p. pair_at words.old ≡ Some (pair_of p, words.new)) }
     ensures shorter { OnSome result (length words.new < length words.old) }

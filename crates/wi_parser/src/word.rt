@@ -1,9 +1,10 @@
 //! Tokens with their values.
 
 ghost use Rattle.std.specs.Prelude.{◌≡◌, IfOk};
-ghost use Rattle.wi_parser.specs.WordSymbols.{meant_by};
-ghost use Rattle.wi_parser.specs.FormulaText.{symbol_of, name_symbol, reference_to, reference_symbol, rectangle_symbol, mark_symbol};
-ghost use Rattle.wi_lexer.specs.Cell.{parts};
+ghost use Rattle.wi_parser.specs.Inner.WordSymbols.{meant_by};
+ghost use Rattle.wi_parser.specs.Inner.FormulaText.{symbol_of, reference_symbol, rectangle_symbol, mark_symbol};
+ghost use Rattle.wi_parser.specs.Symbols.{name_symbol, reference_to};
+ghost use Rattle.wi_lexer.specs.Inner.Cell.{parts};
 
 use crate::expr::{Corners, Operator, Reference};
 use crate::fault::ParseFault;

@@ -3,8 +3,8 @@
 ghost use Rattle.std.specs.Prelude.{◌≡◌, [], ◌∷◌, Some, None, MatchOption, IsTrue, ◌↔◌};
 ghost use Rattle.std.specs.Bool.{OnTrue, OnFalse};
 ghost use Rattle.wi_parser.specs.Grammar as grammar;
-ghost use Rattle.wi_parser.specs.Reader.{after_open, after_close, after_separator, after_percent, reference_at, sign_at, operator_at};
-ghost use Rattle.wi_parser.specs.WordSymbols.{meant_by, all_meant};
+ghost use Rattle.wi_parser.specs.Inner.Reader.{after_open, after_close, after_separator, after_percent, reference_at, sign_at, operator_at};
+ghost use Rattle.wi_parser.specs.Inner.WordSymbols.{meant_by, all_meant};
 
 use crate::expr::{Operator, Reference, Sign};
 use crate::word::Word;
@@ -19,7 +19,7 @@ pub struct Words<'a> {
 impl<'a> Model for Words<'a> {
     ghost use Rattle.std.specs.Prelude.{List};
     ghost use Rattle.wi_parser.specs.Symbol.{Symbol};
-    ghost use Rattle.wi_parser.specs.WordSymbols.{all_meant};
+    ghost use Rattle.wi_parser.specs.Inner.WordSymbols.{all_meant};
 
     ghost Value = { List Symbol };
 

@@ -9,13 +9,13 @@ use Rattle.wi_graph.specs.Circular.{circular}
 use Rattle.wi_sheet.specs.CellValue.{cell_value}
 use Rattle.wi_sheet.specs.Shown.{shown}
 use Rattle.wi_sheet.specs.Demand.{Case, case_of, puts_of, demand, different}
-use Rattle.wi_sheet.specs.Spending.{CountsAtMost, HasCase}
+use Rattle.wi_sheet.specs.Inner.Spending.{CountsAtMost, HasCase}
 use Rattle.wi_sheet.proofs.Steps.{shown_open}
 use Rattle.wi_sheet.proofs.SmallerWorlds.{content_below}
 use Rattle.wi_sheet.proofs.Cases.{different_closed, different_has_itself}
 use Rattle.wi_sheet.proofs.Counting.{left_of_nothing, sum_of_ones}
 use Rattle.wi_sheet.proofs.Overrides.{puts_entries}
-use Rattle.wi_engine.specs.Remembered.{OneQuestion, remembered, memory_of}
+use Rattle.wi_engine.specs.Inner.Remembered.{OneQuestion, remembered, memory_of}
 
 -- replacements in order, put in where there are none
 pub put_alone : (w base put : List Replacement) → IsInOrder put → base ≡ [] → entries w ≡ overridden (entries base) put → w ≡ put

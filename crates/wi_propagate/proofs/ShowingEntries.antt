@@ -11,14 +11,14 @@ use Rattle.wi_graph.specs.Circular.{circular}
 use Rattle.wi_graph.specs.Reach.{is_one_of}
 use Rattle.wi_sheet.specs.CellValue.{cell_value}
 use Rattle.wi_sheet.specs.Demand.{Case, with_what_if, different}
-use Rattle.wi_sheet.specs.Spending.{CountsAtMost, HasEntry}
+use Rattle.wi_sheet.specs.Inner.Spending.{CountsAtMost, HasEntry}
 use Rattle.wi_sheet.specs.TableEntry.{table_entry, table_demand}
 use Rattle.wi_sheet.proofs.Members.{IsIn, contains_in}
 use Rattle.wi_sheet.proofs.Overrides.{with_what_if_value}
 use Rattle.wi_sheet.proofs.Counting.{left_of_nothing, sum_of_ones}
 use Rattle.wi_sheet.proofs.TableEntries.{table_closed, table_has_replacing, table_has_formula_cell, test_of_cells, cells_open, entry_open}
-use Rattle.wi_engine.specs.Frames.{MayBeRead}
-use Rattle.wi_engine.specs.Remembered.{OneQuestion, remembered, memory_of}
+use Rattle.wi_engine.specs.Inner.Frames.{MayBeRead}
+use Rattle.wi_engine.specs.Inner.Remembered.{OneQuestion, remembered, memory_of}
 
 replacing_cell_read : (pairs : List (ℕ × ℕ)) (i : ℕ) (x : ℕ × ℕ) → i < length pairs → is_one_of (map (λ p. p.1) pairs) (get_or pairs i x).1 ≡ true
 replacing_cell_read [] i x less = absurd (omega arith)

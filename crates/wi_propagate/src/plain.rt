@@ -20,7 +20,7 @@ pub struct PlainCalculator {
 }
 
 impl PlainCalculator {
-    ghost use Rattle.wi_propagate.specs.Plain.{stored_of, counts_of};
+    ghost use Rattle.wi_propagate.specs.Inner.Plain.{stored_of, counts_of};
 
     /// An empty sheet within limits, with no edits yet. Takes no memory.
     pub fn new(alloc: Global, limits: Limits) -> PlainCalculator
@@ -36,7 +36,7 @@ impl PlainCalculator {
 }
 
 impl Calculator for PlainCalculator {
-    ghost use Rattle.wi_propagate.specs.Plain.{stored_of, counts_of};
+    ghost use Rattle.wi_propagate.specs.Inner.Plain.{stored_of, counts_of};
 
     ghost stored = { stored_of };
 

@@ -8,9 +8,9 @@ ghost use Rattle.wi_sheet.specs.CellValue as show;
 ghost use Rattle.wi_sheet.specs.TableEntry as table;
 ghost use Rattle.wi_sheet.specs.TableEntry.{entry_demanded};
 ghost use Rattle.wi_sheet.specs.Demand.{with_what_if, wants};
-ghost use Rattle.wi_sheet.specs.Spending.{CountsAtMost, CountsFound, HasReplacing, HasEntry, NeverFall};
-ghost use Rattle.wi_engine.specs.Memory.{IsMemoryOf};
-ghost use Rattle.wi_engine.specs.Frames.{MayBeRead};
+ghost use Rattle.wi_sheet.specs.Inner.Spending.{CountsAtMost, CountsFound, HasReplacing, HasEntry, NeverFall};
+ghost use Rattle.wi_engine.specs.Inner.Memory.{IsMemoryOf};
+ghost use Rattle.wi_engine.specs.Inner.Frames.{MayBeRead};
 
 use std::alloc::{AllocError, Global};
 use wi_engine::{Memo, Remembered, reached_from, value_under};

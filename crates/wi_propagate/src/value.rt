@@ -4,7 +4,7 @@ ghost use Rattle.std.specs.Prelude.{◌≡◌, ◌+◌, ◌≤◌, length, sum_b
 ghost use Rattle.wi_values.specs.Replacements.{IsInOrder};
 ghost use Rattle.wi_sheet.specs.Shown as show;
 ghost use Rattle.wi_sheet.specs.Demand.{demanded, wants};
-ghost use Rattle.wi_sheet.specs.Spending.{NeverFall};
+ghost use Rattle.wi_sheet.specs.Inner.Spending.{NeverFall};
 
 use std::alloc::{AllocError, Global};
 use wi_engine::{Remembered, reached, value_under};

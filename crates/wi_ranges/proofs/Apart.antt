@@ -6,7 +6,7 @@ use Rattle.std.proofs.lemmas.Bool.{and_parts, and_right, cases_Bool}
 use Rattle.wi_ranges.specs.declared.block.Block.{Block}
 use Rattle.wi_ranges.specs.declared.pair.Numbered.{Numbered}
 use Rattle.wi_ranges.specs.Blocks.{block, blocks_within, blocks_in, first_row, last_row}
-use Rattle.wi_ranges.specs.Index.{Piece, is_among, is_one, is_piece}
+use Rattle.wi_ranges.specs.Inner.Index.{Piece, is_among, is_one, is_piece}
 use Rattle.wi_ranges.proofs.LargestLemmas.{Whole, of_row, which}
 
 -- a block of a cut begins in the block that is cut

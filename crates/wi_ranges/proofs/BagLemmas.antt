@@ -20,7 +20,7 @@ use Rattle.wi_ranges.specs.declared.pair.Pair.{Pair}
 use Rattle.wi_ranges.specs.declared.pair.Numbered.{Numbered}
 use Rattle.wi_ranges.specs.Blocks.{block, blocks_in, blocks_of, first_row}
 use Rattle.wi_ranges.specs.Bag.{Bag, Sets, pair_cmp, is_same, count_of, HasOneMore, HasOneLess, pieces_of}
-use Rattle.wi_ranges.specs.Index.{Piece, piece_cmp, has_piece, is_among, is_one, is_piece, HasPieces, LacksPieces, IsIndexed, AreCounted, HasNoZero, KeepsOtherPieces}
+use Rattle.wi_ranges.specs.Inner.Index.{Piece, piece_cmp, has_piece, is_among, is_one, is_piece, HasPieces, LacksPieces, IsIndexed, AreCounted, HasNoZero, KeepsOtherPieces}
 use Rattle.wi_ranges.proofs.Found.{some_block}
 use Rattle.wi_ranges.proofs.Exact.{same_is, same_self, one_is, exact_piece, piece_total}
 

@@ -11,7 +11,7 @@ use Rattle.wi_ranges.specs.declared.block.Block.{Block}
 use Rattle.wi_ranges.specs.declared.pair.Pair.{Pair}
 use Rattle.wi_ranges.specs.declared.pair.Numbered.{Numbered}
 use Rattle.wi_ranges.specs.Bag.{pair_cmp, is_same}
-use Rattle.wi_ranges.specs.Index.{Piece, block_cmp, numbered_cmp, piece_cmp, is_one}
+use Rattle.wi_ranges.specs.Inner.Index.{Piece, block_cmp, numbered_cmp, piece_cmp, is_one}
 
 pub exact_pair : CmpEqualImpliesEq pair_cmp
 exact_pair p q h =

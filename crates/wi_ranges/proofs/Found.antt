@@ -11,7 +11,7 @@ use Rattle.wi_ranges.specs.declared.block.Block.{Block}
 use Rattle.wi_ranges.specs.declared.pair.Pair.{Pair}
 use Rattle.wi_ranges.specs.Blocks.{block, lies_within, meets, blocks_within, blocks_with, blocks_of, first_row, last_row}
 use Rattle.wi_ranges.specs.Bag.{Bag, area_of, count_of, IsReader}
-use Rattle.wi_ranges.specs.Index.{Piece, block_cmp, piece_cmp, has_piece, is_among, reads_here, reads_at, IsIndexed}
+use Rattle.wi_ranges.specs.Inner.Index.{Piece, block_cmp, piece_cmp, has_piece, is_among, reads_here, reads_at, IsIndexed}
 use Rattle.wi_ranges.proofs.BlockLemmas.{blocks_within-here}
 use Rattle.wi_ranges.proofs.Exact.{block_self, piece_self, same_piece}
 

@@ -8,7 +8,7 @@ use Rattle.std.proofs.lemmas.List.Folds.{list_any-append}
 use Rattle.std.proofs.lemmas.Map.Views.{tells_apart}
 use Rattle.wi_ranges.specs.declared.block.Block.{Block}
 use Rattle.wi_ranges.specs.Blocks.{block, lies_within, meets, blocks_within, first_row, last_row}
-use Rattle.wi_ranges.specs.Index.{block_cmp, is_among}
+use Rattle.wi_ranges.specs.Inner.Index.{block_cmp, is_among}
 use Rattle.wi_ranges.specs.Laws.{IsAligned, IsPartOf, BlocksAreLargest}
 use Rattle.wi_ranges.proofs.BlockLemmas.{blocks_within-here, blocks_within-apart, blocks_within-row}
 use Rattle.wi_ranges.proofs.Exact.{exact_block}

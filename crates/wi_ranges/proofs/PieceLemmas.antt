@@ -9,7 +9,7 @@ use Rattle.std.proofs.lemmas.List.Folds.{list_any-append}
 use Rattle.wi_ranges.specs.declared.block.Block.{Block}
 use Rattle.wi_ranges.specs.declared.pair.Numbered.{Numbered}
 use Rattle.wi_ranges.specs.Blocks.{blocks_in, first_row, last_row, lies_within}
-use Rattle.wi_ranges.specs.Index.{block_cmp, numbered_cmp, HasPieces, LacksPieces, is_one, Piece, piece_cmp, has_piece, is_piece}
+use Rattle.wi_ranges.specs.Inner.Index.{block_cmp, numbered_cmp, HasPieces, LacksPieces, is_one, Piece, piece_cmp, has_piece, is_piece}
 use Rattle.wi_ranges.proofs.BlockLemmas.{blocks_within-here}
 use Rattle.wi_ranges.proofs.Exact.{piece_self}
 

@@ -14,7 +14,7 @@ use Rattle.wi_ranges.specs.declared.pair.Pair.{Pair}
 use Rattle.wi_ranges.specs.declared.pair.Numbered.{Numbered}
 use Rattle.wi_ranges.specs.Blocks.{block}
 use Rattle.wi_ranges.specs.Bag.{pair_cmp, lowest_pair}
-use Rattle.wi_ranges.specs.Index.{block_cmp, numbered_cmp, lowest, Piece, piece_cmp, is_among, reads_here, reads_at}
+use Rattle.wi_ranges.specs.Inner.Index.{block_cmp, numbered_cmp, lowest, Piece, piece_cmp, is_among, reads_here, reads_at}
 
 -- ---- which pieces come from a block on, and before the next
 

@@ -4,7 +4,7 @@ use Rattle.wi_values.specs.Address.{rows}
 use Rattle.wi_ranges.specs.declared.block.Block.{Block}
 use Rattle.wi_ranges.specs.declared.pair.Pair.{Pair}
 use Rattle.wi_ranges.specs.Blocks.{lies_within, blocks_of, first_row, last_row}
-use Rattle.wi_ranges.specs.Index.{is_among}
+use Rattle.wi_ranges.specs.Inner.Index.{is_among}
 
 -- how many of the blocks hold the row r
 abbrev pub times_held : ℕ → List Block → ℕ

@@ -1,4 +1,4 @@
 pub mod Blocks
 pub mod Bag
-pub mod Index
 pub mod Laws
+pub mod Inner

@@ -5,7 +5,7 @@ ghost use Rattle.std.specs.List.Sorted.{IsStrictlySortedBy};
 ghost use Rattle.std.specs.Map.{lookup, set_value};
 ghost use Rattle.wi_ranges.specs.Blocks.{blocks_of};
 ghost use Rattle.wi_ranges.specs.Bag.{HasOneMore, HasOneLess, Sets, count_of, is_same, pieces_of};
-ghost use Rattle.wi_ranges.specs.Index.{AreCounted, piece_cmp, IsIndexed, HasNoZero, KeepsOtherPieces};
+ghost use Rattle.wi_ranges.specs.Inner.Index.{AreCounted, piece_cmp, IsIndexed, HasNoZero, KeepsOtherPieces};
 
 use crate::block::Block;
 use crate::pair::{Numbered, Pair};

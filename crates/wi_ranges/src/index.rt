@@ -26,7 +26,7 @@ pub struct RangeIndex {
 
 impl Model for RangeIndex {
     ghost use Rattle.wi_ranges.specs.Bag.{Bag};
-    ghost use Rattle.wi_ranges.specs.Index.{AreCounted, IsIndexed, HasNoZero};
+    ghost use Rattle.wi_ranges.specs.Inner.Index.{AreCounted, IsIndexed, HasNoZero};
 
     ghost Value = { Bag };
 

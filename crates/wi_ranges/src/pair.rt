@@ -4,7 +4,7 @@ ghost use Rattle.std.specs.Prelude.{◌≡◌, ◌<◌};
 ghost use Rattle.wi_values.specs.Address.{is_within, rows};
 ghost use Rattle.wi_ranges.specs.Bag.{pair_of, area_of, lowest_pair};
 ghost use Rattle.wi_ranges.specs.Blocks.{last_row};
-ghost use Rattle.wi_ranges.specs.Index.{lowest};
+ghost use Rattle.wi_ranges.specs.Inner.Index.{lowest};
 
 use wi_values::{Address, Rect};
 

@@ -4,7 +4,7 @@ ghost use Rattle.std.specs.Prelude.{◌≡◌, ◌+◌, ◌^◌, ◌≤◌, true
 ghost use Rattle.std.specs.List.Sorted.{IsStrictlySortedBy};
 ghost use Rattle.wi_values.specs.Address.{rows};
 ghost use Rattle.wi_ranges.specs.Blocks.{blocks_in};
-ghost use Rattle.wi_ranges.specs.Index.{Piece, HasPieces, LacksPieces, piece_cmp, has_piece, is_piece};
+ghost use Rattle.wi_ranges.specs.Inner.Index.{Piece, HasPieces, LacksPieces, piece_cmp, has_piece, is_piece};
 
 use crate::block::Block;
 use crate::pair::Numbered;

@@ -6,7 +6,7 @@ ghost use Rattle.std.specs.List.{list_any};
 ghost use Rattle.std.specs.BTreeSet.{contains, IsOrdered};
 ghost use Rattle.wi_values.specs.Address.{rows};
 ghost use Rattle.wi_ranges.specs.Blocks.{blocks_with};
-ghost use Rattle.wi_ranges.specs.Index.{reads_at};
+ghost use Rattle.wi_ranges.specs.Inner.Index.{reads_at};
 
 use crate::block::Block;
 use crate::pair::Numbered;

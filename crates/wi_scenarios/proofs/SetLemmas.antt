@@ -1,7 +1,7 @@
 -- What `set` answers.
 use Rattle.std.proofs.Common.{◌≡◌, ◌≢◌, ℕ, Bool, true, false, ◌==◌, List, [], ◌∷◌, length, Result, Ok, Err, if◌then◌else◌, refl, sym, ap, ◌∙◌, subst, arith}
 use Rattle.std.proofs.lemmas.Bool.Decides.{nat_tests}
-use Rattle.wi_parser.specs.Reading.{content_read}
+use Rattle.wi_parser.specs.Inner.Reading.{content_read}
 use Rattle.wi_parser.proofs.ContentsOfTexts.{content_is_one}
 use Rattle.wi_scenarios.specs.declared.refusal.Refusal.{Refusal}
 use Rattle.wi_scenarios.specs.declared.refusal.Refusal.TheVariants.{Memory, BadCommand}

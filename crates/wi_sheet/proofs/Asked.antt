@@ -20,7 +20,7 @@ use Rattle.wi_graph.specs.Circular.{circular}
 use Rattle.wi_graph.proofs.Layers.{is_one_of}
 use Rattle.wi_graph.proofs.Walks.{same_cell, formula_cell}
 use Rattle.wi_sheet.specs.Demand.{Case, reaching, case_of, with_what_if, what_ifs_of, what_ifs_in, reads_here, any_reads_here, formulas_read_here, rests_on}
-use Rattle.wi_sheet.specs.Spending.{RestsOn}
+use Rattle.wi_sheet.specs.Inner.Spending.{RestsOn}
 use Rattle.wi_sheet.proofs.Bounds.{put_formula}
 use Rattle.wi_sheet.proofs.Steps.{reads_not_circular}
 use Rattle.wi_sheet.proofs.Members.{IsIn, in_contained, contains_in, in_left, in_right, in_either, in_map, in_filter}

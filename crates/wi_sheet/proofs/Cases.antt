@@ -10,7 +10,7 @@ use Rattle.wi_values.proofs.Replacements.Same.{same_replacements_Decides}
 use Rattle.wi_parser.specs.Sheet.{Sheet, content_of, put_all, has_formula}
 use Rattle.wi_graph.specs.Circular.{circular}
 use Rattle.wi_sheet.specs.Demand.{Case, same_case, demand, different}
-use Rattle.wi_sheet.specs.Spending.{IsClosed}
+use Rattle.wi_sheet.specs.Inner.Spending.{IsClosed}
 use Rattle.wi_sheet.proofs.Members.{IsIn, in_contained, contains_in}
 use Rattle.wi_sheet.proofs.Demands.{demand_closed, demand_has_itself}
 

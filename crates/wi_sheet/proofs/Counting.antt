@@ -5,7 +5,7 @@ use Rattle.std.proofs.lemmas.List.Sums.{sum_by-cons}
 use Rattle.wi_values.specs.declared.replacement.Replacement.{Replacement}
 use Rattle.wi_sheet.specs.Demand.{Case, same_case}
 use Rattle.wi_functions.specs.Counts.{Counts}
-use Rattle.wi_sheet.specs.Spending.{NeverFall, left}
+use Rattle.wi_sheet.specs.Inner.Spending.{NeverFall, left}
 use Rattle.wi_sheet.proofs.Members.{IsIn, in_contained}
 use Rattle.wi_sheet.proofs.Cases.{same_case-refl}
 

@@ -11,7 +11,7 @@ use Rattle.wi_parser.specs.Reads.{reads, any_reads, content_reads}
 use Rattle.wi_graph.specs.Circular.{has_walk, circular}
 use Rattle.wi_graph.proofs.Ends.{ends_open}
 use Rattle.wi_sheet.specs.Demand.{Case, case_of, with_what_if, what_ifs_of, what_ifs_in, reads_here, any_reads_here, formulas_read_here, rests_on, of_formula, demand_within, demand}
-use Rattle.wi_sheet.specs.Spending.{RestsOn, IsClosed}
+use Rattle.wi_sheet.specs.Inner.Spending.{RestsOn, IsClosed}
 use Rattle.wi_sheet.proofs.Bounds.{read_walk, tree_reads, put_formula, put_reads}
 use Rattle.wi_sheet.proofs.Steps.{some_formula, no_walk}
 use Rattle.wi_sheet.proofs.Members.{IsIn, in_contained, contains_in, in_either, of_map, in_flat, of_flat, of_filter, flat_same}

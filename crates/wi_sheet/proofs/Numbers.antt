@@ -1,7 +1,8 @@
 -- A few numbers and what they make, for sheets worked by hand.
 use Rattle.std.proofs.Common.{◌≡◌, ℕ, ◌≤◌, pos, Some, refl, lit<, lit≤}
 use Rattle.wi_fraction.specs.Gcd.{gcd, gcd_within}
-use Rattle.wi_fraction.specs.Number.{Number, number_of, number_at-some, max_size}
+use Rattle.wi_fraction.specs.Number.{Number, number_of, max_size}
+use Rattle.wi_fraction.specs.Number.Laws.{number_at-some}
 use Rattle.wi_fraction.specs.Arithmetic.{sum_of, product_of, quotient_of, negated}
 use Rattle.wi_functions.specs.Convert.{zero_number}
 

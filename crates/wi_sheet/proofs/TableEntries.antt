@@ -9,7 +9,7 @@ use Rattle.wi_functions.specs.Meaning.{zero_for_empty}
 use Rattle.wi_graph.specs.Circular.{circular}
 use Rattle.wi_sheet.specs.CellValue.{what_if_value}
 use Rattle.wi_sheet.specs.Demand.{Case, case_of, with_what_if, demand, different}
-use Rattle.wi_sheet.specs.Spending.{IsClosed}
+use Rattle.wi_sheet.specs.Inner.Spending.{IsClosed}
 use Rattle.wi_sheet.specs.TableEntry.{table_entry, table_demand}
 use Rattle.wi_sheet.proofs.Members.{IsIn, in_contained, contains_in, in_left, in_right, in_either, in_flat, of_flat}
 use Rattle.wi_sheet.proofs.SmallerWorlds.{content_below}

@@ -2,7 +2,7 @@ pub mod CellValue
 pub mod Shown
 pub mod Demand
 pub mod TableEntry
-pub mod Spending
 pub mod Laws
 pub mod Locality
 pub mod DemandLaws
+pub mod Inner

@@ -8,7 +8,7 @@ use Rattle.wi_store.specs.declared.fault.StoreFault.{StoreFault}
 use Rattle.wi_store.specs.declared.fault.StoreFault.TheVariants.{Full, EditLimit, Memory}
 use Rattle.wi_store.specs.declared.limits.Limits.{Limits}
 use Rattle.wi_store.specs.Store.{Stored, edited, accepted, Applies}
-use Rattle.wi_store.specs.Exchange.{admitted}
+use Rattle.wi_store.specs.Inner.Exchange.{admitted}
 
 -- the sheet, the edits and the limits tell a store
 abbrev pub stored : Sheet → ℕ → Limits → Stored

@@ -10,8 +10,8 @@ use Rattle.std.proofs.lemmas.Bool.Decides.{nat_tests}
 use Rattle.wi_parser.specs.Sheet.{Sheet, content_of, without, with_content}
 use Rattle.wi_parser.specs.declared.content.Content.{Content}
 use Rattle.wi_store.specs.Store.{edited}
-use Rattle.wi_store.specs.Rooms.{Rooms, sheet_in, room_of}
-use Rattle.wi_store.specs.Exchange.{stood, restored}
+use Rattle.wi_store.specs.Inner.Rooms.{Rooms, sheet_in, room_of}
+use Rattle.wi_store.specs.Inner.Exchange.{stood, restored}
 use Rattle.wi_store.proofs.RoomLemmas.{ComeAfter, Ascends, cmp_before, come_after_earlier, is_at_same, is_at_earlier, lookup_after, ComeAfter-sheet_in, Ascends-sheet_in, content_of-sheet_in}
 
 -- ---- one content put into a sheet, by where its cell stands

@@ -6,7 +6,8 @@ use Rattle.std.specs.Map.{keys_of}
 use Rattle.std.proofs.Math.Bool.{and-false, and-true}
 use Rattle.std.proofs.lemmas.Bool.{and_parts, and_from, false_from_ne_true, le-leb, leb-true}
 use Rattle.wi_values.specs.Address.{Area, is_within}
-use Rattle.wi_store.specs.Rooms.{Rooms, is_ahead}
+use Rattle.wi_store.specs.Inner.Rooms.{Rooms}
+use Rattle.wi_store.specs.Store.{is_ahead}
 use Rattle.wi_store.proofs.RoomLemmas.{ComeAfter, Ascends}
 use Rattle.wi_store.proofs.Within.{range_of, same, within_between, is_between, is_between-means, is_between-from, cells_ahead}
 

@@ -12,7 +12,7 @@ use Rattle.std.proofs.lemmas.Bool.Decides.{nat_tests}
 use Rattle.std.proofs.lemmas.Map.Keys.{sorted_head, sorted_tail}
 use Rattle.wi_parser.specs.Sheet.{Sheet, content_of, cells_with_formula, has_formula}
 use Rattle.wi_parser.specs.declared.content.Content.{Content}
-use Rattle.wi_store.specs.Rooms.{Rooms, sheet_in, room_of, formula_rooms, HasNoVacancy}
+use Rattle.wi_store.specs.Inner.Rooms.{Rooms, sheet_in, room_of, formula_rooms, HasNoVacancy}
 
 -- ---- orders by numbers
 

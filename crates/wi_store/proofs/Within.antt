@@ -12,7 +12,8 @@ use Rattle.std.proofs.lemmas.List.Elements.{filter_agree}
 use Rattle.wi_values.specs.Address.{Area, row_of, column_of, is_within}
 use Rattle.wi_parser.specs.Sheet.{has_formula}
 use Rattle.wi_parser.specs.declared.content.Content.{Content}
-use Rattle.wi_store.specs.Rooms.{Rooms, formula_rooms, is_ahead}
+use Rattle.wi_store.specs.Inner.Rooms.{Rooms, formula_rooms}
+use Rattle.wi_store.specs.Store.{is_ahead}
 use Rattle.wi_store.proofs.RoomLemmas.{ComeAfter, Ascends}
 
 -- of the formula cells that have a property, those of the first room and of the others

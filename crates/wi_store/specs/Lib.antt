@@ -1,3 +1,2 @@
 pub mod Store
-pub mod Rooms
-pub mod Exchange
+pub mod Inner

@@ -1,11 +1,12 @@
 -- A sheet within limits, and what edits do to it.
-use Rattle.std.specs.Prelude.{◌≡◌, ℕ, ◌+◌, List, [], ◌∷◌, length, map, Option, Some, None, Result, Ok, Err, nat_lt, nat_le, if◌then◌else◌}
+use Rattle.std.specs.Prelude.{◌≡◌, ℕ, ◌+◌, List, [], ◌∷◌, length, map, Option, Some, None, Result, Ok, Err, nat_lt, nat_le, if◌then◌else◌, Bool, false, ◌&&◌}
 use Rattle.wi_parser.specs.Sheet.{Sheet, constant, with_content}
 use Rattle.wi_parser.specs.declared.content.Content.{Content}
 use Rattle.wi_parser.specs.declared.content.Content.TheVariants.{Constant, Formula}
 use Rattle.wi_store.specs.declared.limits.Limits.{Limits}
 use Rattle.wi_store.specs.declared.fault.StoreFault.{StoreFault}
 use Rattle.wi_store.specs.declared.fault.StoreFault.TheVariants.{Full, EditLimit, Memory}
+use Rattle.wi_values.specs.Address.{Area, is_within}
 
 -- a sheet, the count of accepted edits, and the limits of both
 pub record Stored : Type 0 where
@@ -44,3 +45,8 @@ Applies answer (Ok _) old new = answer ≡ Ok new
 Applies answer (Err Full) old new = (answer ≡ Err Full) × (new ≡ old)
 Applies answer (Err EditLimit) old new = (answer ≡ Err EditLimit) × (new ≡ old)
 Applies answer (Err Memory) old new = new ≡ old
+
+-- the cell lies in the rectangle, at this cell or after it; none does where there is no such cell
+abbrev pub is_ahead : Area → Option ℕ → ℕ → Bool
+is_ahead r None a = false
+is_ahead r (Some from) a = nat_le from a && is_within r a

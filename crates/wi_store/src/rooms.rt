@@ -5,8 +5,8 @@ ghost use Rattle.std.specs.Prelude.{◌≡◌, ◌≢◌, ◌+◌, ◌≤◌, �
 ghost use Rattle.std.specs.Map.{keys_of};
 ghost use Rattle.wi_parser.specs.Sheet.{content_of, with_content};
 ghost use Rattle.wi_store.specs.Store.{edited};
-ghost use Rattle.wi_store.specs.Rooms.{sheet_in, room_of, IsInOrder, HasNoVacancy, VacantOnlyAt, HasRoomFor};
-ghost use Rattle.wi_store.specs.Exchange.{stood, restored};
+ghost use Rattle.wi_store.specs.Inner.Rooms.{sheet_in, room_of, IsInOrder, HasNoVacancy, VacantOnlyAt, HasRoomFor};
+ghost use Rattle.wi_store.specs.Inner.Exchange.{stood, restored};
 
 use std::alloc::AllocError;
 use std::collections::BTreeMap;

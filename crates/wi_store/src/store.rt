@@ -8,8 +8,9 @@ ghost use Rattle.std.specs.Map.{keys_of};
 ghost use Rattle.wi_values.specs.Address.{is_within};
 ghost use Rattle.wi_parser.specs.Sheet.{content_of, has_formula, cells_with_formula};
 ghost use Rattle.wi_store.specs.Store.{edited, applied, Applies};
-ghost use Rattle.wi_store.specs.Rooms.{sheet_in, formula_rooms, is_ahead, IsInOrder, HasNoVacancy, VacantOnlyAt};
-ghost use Rattle.wi_store.specs.Exchange.{admitted};
+ghost use Rattle.wi_store.specs.Inner.Rooms.{sheet_in, formula_rooms, IsInOrder, HasNoVacancy, VacantOnlyAt};
+ghost use Rattle.wi_store.specs.Store.{is_ahead};
+ghost use Rattle.wi_store.specs.Inner.Exchange.{admitted};
 
 use crate::fault::StoreFault;
 use crate::limits::Limits;
@@ -42,7 +43,7 @@ impl Model for Store {
 
     ghost coded = { Prim.hlevel (codes, content.the_row.coded) };
 
-    ghost use Rattle.wi_store.specs.Rooms.{sheet_in, IsInOrder, HasNoVacancy};
+    ghost use Rattle.wi_store.specs.Inner.Rooms.{sheet_in, IsInOrder, HasNoVacancy};
 
     ghost view = { λ s. record { sheet = sheet_in s.rooms.entries; edits = s.edits; limits = s.limits } };
 

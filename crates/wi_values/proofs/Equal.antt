@@ -2,8 +2,8 @@
 use Rattle.std.proofs.Common.{◌≡◌, arith}
 use Rattle.std.specs.Prelude.{Decides}
 use Rattle.std.proofs.lemmas.Grind.{common_steps}
-use Rattle.wi_fraction.specs.Order.{numbers}
-use Rattle.wi_values.specs.Same.{texts}
+use Rattle.wi_fraction.specs.Order.Laws.{numbers}
+use Rattle.wi_values.specs.Inner.Same.{texts}
 use Rattle.wi_values.specs.declared.replacement.Replacement.{Replacement}
 use Rattle.wi_values.specs.contracts.replacement.ReplacementPartialEq.TheImpl as block
 

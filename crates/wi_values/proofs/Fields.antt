@@ -1,7 +1,7 @@
 -- Fields, and texts of numbers.
 use Rattle.std.proofs.Common.{◌≡◌, ℕ, List, [], ◌∷◌, length, refl}
 use Rattle.wi_fraction.proofs.ReadsBack.{reads_back}
-use Rattle.wi_values.specs.Import.{imported, field_value}
+use Rattle.wi_values.specs.Inner.Import.{imported, field_value}
 use Rattle.wi_values.specs.Laws.{NumbersReadBack}
 
 -- a field that is not empty is taken for the value of its text

@@ -2,7 +2,7 @@
 use Rattle.std.specs.Prelude.{◌≡◌, ℕ, ◌*◌, ◌<◌, true, Some, Ok}
 use Rattle.wi_values.specs.Address.{columns, rows, address_text, rect_of, is_within}
 use Rattle.wi_values.specs.AddressReading.{read_address}
-use Rattle.wi_values.specs.Import.{imported}
+use Rattle.wi_values.specs.Inner.Import.{imported}
 use Rattle.wi_values.specs.declared.value.Value.TheVariants.{Number}
 use Rattle.wi_fraction.specs.Number.{Number as Numbers}
 use Rattle.wi_fraction.specs.Text.{text_of}

@@ -5,5 +5,5 @@ pub mod Imported
 pub mod Laws
 pub mod Name
 pub mod Replacements
-pub mod Same
 pub mod Value
+pub mod Inner

@@ -1,7 +1,7 @@
 //! What a text that comes from outside a formula is taken for.
 
 ghost use Rattle.std.specs.Prelude.{◌≡◌, ◌↔◌, Some, None, IfOk, IsErrOf};
-ghost use Rattle.wi_values.specs.Import.{words_value, imported, field_value};
+ghost use Rattle.wi_values.specs.Inner.Import.{words_value, imported, field_value};
 ghost use Rattle.wi_values.specs.declared.import.FieldFault.TheVariants.{Memory};
 
 use crate::text::{MAX_TEXT, Text};
@@ -40,7 +40,7 @@ pub fn field_value(alloc: Global, text: &str) -> Result<Value, FieldFault>
 }
 
 /// The value of a text: a number or a truth value where it spells one, and else a text.
-#[tactic(auto, unfolding(crate::specs::Import::imported))]
+#[tactic(auto, unfolding(crate::specs::Inner::Import::imported))]
 pub fn imported_value(alloc: Global, text: &str) -> Result<Value, FieldFault>
     ensures value { IfOk result (λ v. imported text.now ≡ Some v) }
     ensures too_long { IsErrOf result FieldFault.TooLong ↔ (imported text.now ≡ None) }

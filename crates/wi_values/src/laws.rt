@@ -1,7 +1,7 @@
 //! Laws of the definitions and of equality. The contract of each function is the law.
 
 ghost use Rattle.std.specs.Prelude.{◌≡◌, ◌↔◌, ℕ, List, Option, IsTrue};
-ghost use Rattle.wi_values.specs.Import.{imported};
+ghost use Rattle.wi_values.specs.Inner.Import.{imported};
 ghost use Rattle.wi_values.specs.Imported.{IsImported};
 ghost use Rattle.wi_values.specs.Laws.{AddressesReadBack, CornersMayTurn, NumbersReadBack};
 ghost use Rattle.wi_values.specs.declared.value.Value.{Value};

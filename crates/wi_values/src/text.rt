@@ -3,7 +3,7 @@
 ghost use Rattle.std.specs.Prelude.{◌≡◌, IfOk, string_bytes};
 ghost use Rattle.std.specs.Hash as fed;
 ghost use Rattle.std.specs.Str.{bytes_eq};
-ghost use Rattle.wi_values.specs.Same.{same_text_equiv, same_text_hash, same_text_partial};
+ghost use Rattle.wi_values.specs.Inner.Same.{same_text_equiv, same_text_hash, same_text_partial};
 
 use std::alloc::{AllocError, Global};
 use std::hash::{Hash, Hasher};

@@ -1,2 +1,2 @@
 pub mod Reaching
-pub mod Compared
+pub mod Inner

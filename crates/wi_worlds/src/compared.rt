@@ -1,7 +1,7 @@
 //! Equality and hash of worlds.
 
 ghost use Rattle.wi_values.specs.Replacements.{same_replacements};
-ghost use Rattle.wi_worlds.specs.Compared.{same_world_equiv, same_world_hash, same_world_partial, world_input};
+ghost use Rattle.wi_worlds.specs.Inner.Compared.{same_world_equiv, same_world_hash, same_world_partial, world_input};
 
 use crate::world::World;
 use std::hash::{Hash, Hasher};

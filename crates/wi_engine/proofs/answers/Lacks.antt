@@ -19,8 +19,8 @@ use Rattle.wi_graph.proofs.Walks.{same_cell, found, formula_cell}
 use Rattle.wi_sheet.specs.Demand.{reads_here, formulas_read_here, what_ifs_of, what_ifs_in}
 use Rattle.wi_engine.specs.declared.findings.Findings.{Findings}
 use Rattle.wi_engine.specs.declared.findings.FoundWhatIf.{FoundWhatIf}
-use Rattle.wi_engine.specs.Findings.{same_pairs, pairs_of, first_for, cell_found, what_if_found, IsWithCell, IsWithWhatIf}
-use Rattle.wi_engine.specs.Answers.{lacking}
+use Rattle.wi_engine.specs.Inner.Findings.{same_pairs, pairs_of, first_for, cell_found, what_if_found, IsWithCell, IsWithWhatIf}
+use Rattle.wi_engine.specs.Inner.Answers.{lacking}
 use Rattle.wi_engine.proofs.answers.Filters.{PassesToo, at_most_all, all_pass, no_more, fewer}
 use Rattle.wi_engine.proofs.findings.FoundPairs.{same_lists, same_pairs-refl, first_for-push}
 

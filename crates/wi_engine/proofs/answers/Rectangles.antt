@@ -14,7 +14,7 @@ use Rattle.wi_graph.proofs.Layers.{list_any-both}
 use Rattle.wi_graph.proofs.Walks.{same_cell, found, finds, formula_cell}
 use Rattle.wi_sheet.specs.Demand.{reads_here, any_reads_here}
 use Rattle.wi_sheet.proofs.Members.{IsIn, in_contained}
-use Rattle.wi_engine.specs.Answers.{IsSmallestWith, AreOfRectangle}
+use Rattle.wi_engine.specs.Inner.Answers.{IsSmallestWith, AreOfRectangle}
 
 -- ---- a rectangle is of one cell, or each of its cells is read here
 

@@ -23,10 +23,10 @@ use Rattle.wi_sheet.proofs.Puts.{overlaid, content_of-put_all, plain}
 use Rattle.wi_sheet.proofs.Bounds.{put_formula}
 use Rattle.wi_sheet.proofs.Members.{IsIn, in_filter}
 use Rattle.wi_sheet.proofs.Asked.{asked_cell}
-use Rattle.wi_engine.specs.Memory.{Memory}
-use Rattle.wi_engine.specs.Findings.{pairs_of, cell_found, what_if_found, AreAllRight, IsWithCell, IsWithWhatIf}
-use Rattle.wi_engine.specs.Answers.{AsksAt, IsLacking, lacking}
-use Rattle.wi_engine.specs.Frames.{case_at, content_reads_here, AreReadHere, Awaits, IsUnvalued, IsFrame, lacks, waits}
+use Rattle.wi_engine.specs.Inner.Memory.{Memory}
+use Rattle.wi_engine.specs.Inner.Findings.{pairs_of, cell_found, what_if_found, AreAllRight, IsWithCell, IsWithWhatIf}
+use Rattle.wi_engine.specs.Inner.Answers.{AsksAt, IsLacking, lacking}
+use Rattle.wi_engine.specs.Inner.Frames.{case_at, content_reads_here, AreReadHere, Awaits, IsUnvalued, IsFrame, lacks, waits}
 use Rattle.wi_engine.specs.declared.findings.Findings.{Findings}
 use Rattle.wi_engine.specs.declared.findings.FoundWhatIf.{FoundWhatIf}
 use Rattle.wi_engine.specs.declared.frame.Frame.{Frame}

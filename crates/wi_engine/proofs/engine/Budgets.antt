@@ -7,12 +7,12 @@ use Rattle.wi_parser.specs.declared.content.Content.TheVariants.{Constant, Formu
 use Rattle.wi_parser.specs.Sheet.{Sheet, content_of, put_all}
 use Rattle.wi_cache.specs.declared.key.Key.{Key}
 use Rattle.wi_sheet.specs.Demand.{Case, same_case, of_formula, formulas_read_here, what_ifs_of, wants}
-use Rattle.wi_sheet.specs.Spending.{left}
+use Rattle.wi_sheet.specs.Inner.Spending.{left}
 use Rattle.wi_sheet.proofs.Counting.{Finds, left_falls, left_at_keep}
-use Rattle.wi_engine.specs.Rank.{rank}
-use Rattle.wi_engine.specs.Memory.{Memory}
-use Rattle.wi_engine.specs.Answers.{lacking}
-use Rattle.wi_engine.specs.Frames.{case_at, IsStack, taken, all_spare, at_most, spare, waits}
+use Rattle.wi_engine.specs.Inner.Rank.{rank}
+use Rattle.wi_engine.specs.Inner.Memory.{Memory}
+use Rattle.wi_engine.specs.Inner.Answers.{lacking}
+use Rattle.wi_engine.specs.Inner.Frames.{case_at, IsStack, taken, all_spare, at_most, spare, waits}
 use Rattle.wi_engine.specs.declared.frame.Frame.{Frame}
 use Rattle.wi_engine.specs.declared.frame.Waiting.TheVariants.{Nothing}
 use Rattle.wi_engine.proofs.answers.Lacks.{lacking_at_most}

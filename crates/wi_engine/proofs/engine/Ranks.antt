@@ -5,11 +5,11 @@ use Rattle.wi_parser.specs.Reads.{content_reads}
 use Rattle.wi_graph.specs.Circular.{has_walk, circular}
 use Rattle.wi_graph.proofs.Walks.{step, reader_formula}
 use Rattle.wi_sheet.specs.Demand.{Case, rests_on}
-use Rattle.wi_sheet.specs.Spending.{RestsOn}
+use Rattle.wi_sheet.specs.Inner.Spending.{RestsOn}
 use Rattle.wi_sheet.proofs.Bounds.{put_formula}
 use Rattle.wi_sheet.proofs.Members.{in_contained}
 use Rattle.wi_sheet.proofs.Demands.{rests_reads}
-use Rattle.wi_engine.specs.Rank.{lengths_below, rank}
+use Rattle.wi_engine.specs.Inner.Rank.{lengths_below, rank}
 
 one_if : (b c : Bool) → (b ≡ true → c ≡ true) → (if b then 1 else 0) ≤ (if c then 1 else 0)
 one_if true true f = omega arith

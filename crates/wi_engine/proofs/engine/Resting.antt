@@ -24,7 +24,7 @@ use Rattle.wi_graph.specs.Reach.{is_one_of}
 use Rattle.wi_graph.proofs.Walks.{formula_cell, circular_walks}
 use Rattle.wi_sheet.specs.CellValue.{value_of, cell_value}
 use Rattle.wi_sheet.specs.Demand.{Case, case_of, reaching, with_what_if, what_ifs_of, reads_here, any_reads_here, formulas_read_here, rests_on, of_formula}
-use Rattle.wi_sheet.specs.Spending.{RestsOn}
+use Rattle.wi_sheet.specs.Inner.Spending.{RestsOn}
 use Rattle.wi_sheet.proofs.Bounds.{put_formula, put_reads, tree_reads}
 use Rattle.wi_sheet.proofs.Steps.{value_plain, reads_not_circular}
 use Rattle.wi_sheet.proofs.Overrides.{reaching_suffices}
@@ -32,9 +32,9 @@ use Rattle.wi_sheet.proofs.Members.{IsIn, in_contained, contains_in, in_left, in
 use Rattle.wi_sheet.proofs.SmallerWorlds.{content_below}
 use Rattle.wi_sheet.proofs.Asked.{asked_what_if}
 use Rattle.wi_sheet.proofs.Demands.{here_reads, what_if_reads}
-use Rattle.wi_engine.specs.Memory.{Memory, IsMemoryOf}
-use Rattle.wi_engine.specs.Answers.{AsksAt}
-use Rattle.wi_engine.specs.Frames.{case_at, content_reads_here, MayBeRead, IsUnvalued, IsNext}
+use Rattle.wi_engine.specs.Inner.Memory.{Memory, IsMemoryOf}
+use Rattle.wi_engine.specs.Inner.Answers.{AsksAt}
+use Rattle.wi_engine.specs.Inner.Frames.{case_at, content_reads_here, MayBeRead, IsUnvalued, IsNext}
 
 -- ---- a cell without a formula, and one with a formula
 

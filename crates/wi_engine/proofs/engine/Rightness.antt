@@ -9,7 +9,7 @@ use Rattle.wi_values.specs.declared.value.Value.{Value}
 use Rattle.wi_graph.proofs.Walks.{same_cell}
 use Rattle.wi_engine.specs.declared.findings.Findings.{Findings}
 use Rattle.wi_engine.specs.declared.findings.FoundWhatIf.{FoundWhatIf}
-use Rattle.wi_engine.specs.Findings.{same_pairs, pairs_of, first_for, cell_found, AreAllRight, IsWithCell, IsWithWhatIf}
+use Rattle.wi_engine.specs.Inner.Findings.{same_pairs, pairs_of, first_for, cell_found, AreAllRight, IsWithCell, IsWithWhatIf}
 use Rattle.wi_engine.proofs.findings.FoundPairs.{same_lists, first_for-push}
 
 module _ (cells : ℕ → Value) (what_ifs : ℕ → List (ℕ × ℕ) → Value) where

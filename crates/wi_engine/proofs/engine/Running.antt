@@ -8,13 +8,13 @@ use Rattle.wi_cache.specs.declared.key.Key.{Key}
 use Rattle.wi_graph.specs.Circular.{circular}
 use Rattle.wi_sheet.specs.CellValue.{cell_value, what_if_value}
 use Rattle.wi_sheet.specs.Demand.{Case, same_case, case_of, reaching, demand, wants}
-use Rattle.wi_sheet.specs.Spending.{CountsAtMost, CountsFound, HasCase, IsClosed, NeverFall, left}
+use Rattle.wi_sheet.specs.Inner.Spending.{CountsAtMost, CountsFound, HasCase, IsClosed, NeverFall, left}
 use Rattle.wi_sheet.proofs.Overrides.{reaching_suffices}
 use Rattle.wi_sheet.proofs.Counting.{one_less_left, never_fall-same, never_fall-then}
 use Rattle.wi_sheet.proofs.Demands.{demand_closed, demand_has_itself}
-use Rattle.wi_engine.specs.Rank.{rank}
-use Rattle.wi_engine.specs.Memory.{Memory, IsMemoryOf}
-use Rattle.wi_engine.specs.Frames.{case_at, IsToValue, IsUnvalued, IsFrame, IsNext, IsBegun, IsStack, BottomIs, spare, at_most}
+use Rattle.wi_engine.specs.Inner.Rank.{rank}
+use Rattle.wi_engine.specs.Inner.Memory.{Memory, IsMemoryOf}
+use Rattle.wi_engine.specs.Inner.Frames.{case_at, IsToValue, IsUnvalued, IsFrame, IsNext, IsBegun, IsStack, BottomIs, spare, at_most}
 use Rattle.wi_engine.specs.declared.frame.Frame.{Frame}
 use Rattle.wi_engine.specs.declared.frame.Waiting.TheVariants.{Nothing}
 use Rattle.wi_engine.proofs.engine.Rightness.{right_none}

@@ -22,10 +22,10 @@ use Rattle.wi_sheet.specs.Demand.{Case, with_what_if}
 use Rattle.wi_sheet.proofs.Bounds.{put_formula}
 use Rattle.wi_sheet.proofs.Overrides.{with_what_if_value}
 use Rattle.wi_sheet.proofs.Asked.{asked_cell}
-use Rattle.wi_engine.specs.Memory.{Memory, IsMemoryOf}
-use Rattle.wi_engine.specs.Answers.{AsksAt, IsLacking, lacks_cell}
-use Rattle.wi_engine.specs.Findings.{IsWithCell, IsWithWhatIf, pairs_of, cell_found}
-use Rattle.wi_engine.specs.Frames.{case_at, content_reads_here, MayBeRead, IsToValue, IsUnvalued, IsNext, IsFrame, AreReadHere, Awaits, lacks, spare, waits}
+use Rattle.wi_engine.specs.Inner.Memory.{Memory, IsMemoryOf}
+use Rattle.wi_engine.specs.Inner.Answers.{AsksAt, IsLacking, lacks_cell}
+use Rattle.wi_engine.specs.Inner.Findings.{IsWithCell, IsWithWhatIf, pairs_of, cell_found}
+use Rattle.wi_engine.specs.Inner.Frames.{case_at, content_reads_here, MayBeRead, IsToValue, IsUnvalued, IsNext, IsFrame, AreReadHere, Awaits, lacks, spare, waits}
 use Rattle.wi_engine.specs.declared.findings.Findings.{Findings}
 use Rattle.wi_engine.specs.declared.findings.FoundWhatIf.{FoundWhatIf}
 use Rattle.wi_engine.specs.declared.frame.Frame.{Frame}

@@ -8,9 +8,9 @@ use Rattle.wi_parser.specs.Sheet.{Sheet, put_all}
 use Rattle.wi_cache.specs.declared.key.Key.{Key}
 use Rattle.wi_sheet.specs.CellValue.{cell_value}
 use Rattle.wi_sheet.specs.Demand.{Case, same_case}
-use Rattle.wi_engine.specs.Rank.{rank}
-use Rattle.wi_engine.specs.Memory.{Memory, IsMemoryOf, AreKnownRight, IsClosedUnderReads}
-use Rattle.wi_engine.specs.Frames.{case_at, IsFrame, IsBegun, IsNext, IsDemanded, AreBelow, IsStack, BottomIs}
+use Rattle.wi_engine.specs.Inner.Rank.{rank}
+use Rattle.wi_engine.specs.Inner.Memory.{Memory, IsMemoryOf, AreKnownRight, IsClosedUnderReads}
+use Rattle.wi_engine.specs.Inner.Frames.{case_at, IsFrame, IsBegun, IsNext, IsDemanded, AreBelow, IsStack, BottomIs}
 use Rattle.wi_engine.specs.declared.frame.Frame.{Frame}
 
 -- ---- ranks fall from the bottom to the top

@@ -4,7 +4,7 @@ use Rattle.std.proofs.lemmas.Bool.{and_from, and_parts}
 use Rattle.std.proofs.lemmas.Bool.Decides.{nat_tests}
 use Rattle.std.specs.Option.{option_or}
 use Rattle.wi_values.specs.declared.value.Value.{Value}
-use Rattle.wi_engine.specs.Findings.{same_pairs, pairs_of, first_for}
+use Rattle.wi_engine.specs.Inner.Findings.{same_pairs, pairs_of, first_for}
 use Rattle.wi_engine.specs.declared.findings.FoundWhatIf.{FoundWhatIf}
 
 same_number : (x y : ℕ) → (x == y) ≡ true → x ≡ y

@@ -12,7 +12,7 @@ use Rattle.wi_parser.specs.Reads.{content_reads, rectangles_of}
 use Rattle.wi_parser.proofs.Rectangles.{reads_within}
 use Rattle.wi_graph.proofs.Layers.{is_one_of}
 use Rattle.wi_graph.proofs.Walks.{same_cell, formula_cell}
-use Rattle.wi_engine.specs.ReadCells.{rectangles_in, occupied_within}
+use Rattle.wi_engine.specs.Inner.ReadCells.{rectangles_in, occupied_within}
 
 and_true : (b : Bool) → (b && true) ≡ b
 and_true true = refl

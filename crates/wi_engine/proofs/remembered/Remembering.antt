@@ -12,9 +12,9 @@ use Rattle.wi_cache.proofs.Keys.{same_key_Decides}
 use Rattle.wi_graph.specs.Reach.{is_one_of}
 use Rattle.wi_graph.proofs.Walks.{same_cell}
 use Rattle.wi_sheet.specs.CellValue.{cell_value}
-use Rattle.wi_engine.specs.Memory.{IsClosedUnderReads, IsMemoryOf}
-use Rattle.wi_engine.specs.ReadOrder.{IsReadOrder}
-use Rattle.wi_engine.specs.Remembered.{key_of, memory_of, remembered}
+use Rattle.wi_engine.specs.Inner.Memory.{IsClosedUnderReads, IsMemoryOf}
+use Rattle.wi_engine.specs.Inner.ReadOrder.{IsReadOrder}
+use Rattle.wi_engine.specs.Inner.Remembered.{key_of, memory_of, remembered}
 
 -- a list, cut before one of its cells
 cut_before : (xs : List ℕ) (c : ℕ) → is_one_of xs c ≡ true → (front back : List ℕ) × (xs ≡ front ++ c ∷ back)

@@ -9,8 +9,8 @@ use Rattle.std.proofs.lemmas.Bool.Decides.{nat_tests}
 use Rattle.std.proofs.lemmas.List.Kept.{AllPairs-from_increasing, IsStrictlyIncreasing-filter}
 use Rattle.wi_values.specs.Address.{Area, is_within}
 use Rattle.wi_parser.specs.Sheet.{Sheet, content_of}
-use Rattle.wi_engine.specs.ReadCells.{rectangles_in, occupied_within, is_after, cells_after}
-use Rattle.wi_engine.specs.Walk.{Task, Enter, Leave, cells_ahead, unread, begun, enters, tasks_at, tasks_in}
+use Rattle.wi_engine.specs.Inner.ReadCells.{rectangles_in, occupied_within, is_after, cells_after}
+use Rattle.wi_engine.specs.Inner.Walk.{Task, Enter, Leave, cells_ahead, unread, begun, enters, tasks_at, tasks_in}
 use Rattle.wi_engine.specs.declared.walk.Visit.{Visit}
 
 -- ---- a list in order

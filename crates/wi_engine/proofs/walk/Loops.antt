@@ -5,7 +5,7 @@ use Rattle.wi_parser.specs.Reads.{content_reads}
 use Rattle.wi_graph.specs.Circular.{has_walk, circular}
 use Rattle.wi_graph.specs.Reach.{Walks, Reaches}
 use Rattle.wi_graph.proofs.Walks.{step, one_less, circular_walks, walks_circular, reader_formula}
-use Rattle.wi_engine.specs.Walk.{LeadsTo}
+use Rattle.wi_engine.specs.Inner.Walk.{LeadsTo}
 
 -- as many steps as lead on from a cell lead on from each that reaches it
 kept : (n m : ℕ) (s : Sheet) (c d : ℕ) → Walks n s c d → has_walk m s d ≡ true → has_walk m s c ≡ true

@@ -8,8 +8,8 @@ use Rattle.std.specs.BTreeMap.{BTreeMap, get, is_at, Updates}
 use Rattle.wi_parser.specs.Sheet.{Sheet, content_of, has_formula, cells_with_formula}
 use Rattle.wi_graph.specs.Reach.{is_one_of}
 use Rattle.wi_graph.proofs.Walks.{same_cell, formula_cell}
-use Rattle.wi_engine.specs.Walk.{Task, Enter, Leave, enters, tasks_of, tasks_left}
-use Rattle.wi_engine.specs.ReadCells.{rectangles_in, occupied_within}
+use Rattle.wi_engine.specs.Inner.Walk.{Task, Enter, Leave, enters, tasks_of, tasks_left}
+use Rattle.wi_engine.specs.Inner.ReadCells.{rectangles_in, occupied_within}
 use Rattle.wi_engine.specs.declared.walk.Mark.TheVariants.{Open}
 use Rattle.wi_engine.specs.declared.walk.Mark.{Mark}
 

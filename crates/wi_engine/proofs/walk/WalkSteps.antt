@@ -12,9 +12,9 @@ use Rattle.wi_graph.specs.Circular.{circular}
 use Rattle.wi_graph.specs.Reach.{is_one_of, Reaches}
 use Rattle.wi_graph.proofs.Walks.{same_cell}
 use Rattle.wi_graph.proofs.Ends.{ends_open}
-use Rattle.wi_engine.specs.ReadCells.{rectangles_in, occupied_within}
-use Rattle.wi_engine.specs.ReadOrder.{MayFollow}
-use Rattle.wi_engine.specs.Walk.{Task, Enter, Leave, enters, cell_of, leaves, has_task, has_leave, LeadsTo, IsOpen, EachLeave, mark_of, IsWalk, IsBelow}
+use Rattle.wi_engine.specs.Inner.ReadCells.{rectangles_in, occupied_within}
+use Rattle.wi_engine.specs.Inner.ReadOrder.{MayFollow}
+use Rattle.wi_engine.specs.Inner.Walk.{Task, Enter, Leave, enters, cell_of, leaves, has_task, has_leave, LeadsTo, IsOpen, EachLeave, mark_of, IsWalk, IsBelow}
 use Rattle.wi_engine.specs.declared.walk.Mark.{Mark}
 use Rattle.wi_engine.specs.declared.walk.Mark.TheVariants.{Open, Done}
 use Rattle.wi_engine.proofs.walk.Loops.{loop_circular, reaches_circular, reaches-step}

@@ -1,5 +1,5 @@
 use Rattle.std.proofs.Common.{◌≡◌, ◌≤◌, true, false, vec_capacity}
-use Rattle.wi_cli.specs.Ahead.{budget}
+use Rattle.wi_cli.specs.Inner.Ahead.{budget}
 use Rattle.wi_cli.proofs.ReadingLemmas.{IsWithin}
 use Rattle.wi_cli.proofs.lines.read_line.Given as goal
 

@@ -1,7 +1,7 @@
 use Rattle.std.proofs.Common.{◌≤◌, ◌+◌, Ok, ap, ◌∙◌, refl, rules, arith}
 use Rattle.wi_functions.specs.Counts.{Counts}
 use Rattle.wi_sheet.proofs.Counting.{never_fall-then}
-use Rattle.wi_engine.specs.Frames.{IsFrame, spare}
+use Rattle.wi_engine.specs.Inner.Frames.{IsFrame, spare}
 use Rattle.wi_engine.proofs.engine.Awaiting.{frame_with}
 use Rattle.wi_engine.proofs.engine.Settling.{spare_waiting, round_counted, want_counted, round_smaller}
 use Rattle.wi_engine.proofs.engine.advance.Goals as goal

@@ -1,6 +1,6 @@
 use Rattle.std.proofs.Common.{◌≡◌, ◌+◌, ◌≤◌}
-use Rattle.wi_sheet.specs.Spending.{NeverFall}
-use Rattle.wi_engine.specs.Frames.{IsFrame, spare}
+use Rattle.wi_sheet.specs.Inner.Spending.{NeverFall}
+use Rattle.wi_engine.specs.Inner.Frames.{IsFrame, spare}
 use Rattle.wi_engine.proofs.engine.advance.Given as goal
 
 abbrev pub invariant-rounds : goal.invariant-rounds

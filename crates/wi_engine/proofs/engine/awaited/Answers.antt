@@ -1,7 +1,7 @@
 use Rattle.std.proofs.Common.{ap}
 use Rattle.wi_parser.specs.Sheet.{has_formula}
 use Rattle.wi_sheet.proofs.Bounds.{put_formula}
-use Rattle.wi_engine.specs.Frames.{case_at}
+use Rattle.wi_engine.specs.Inner.Frames.{case_at}
 use Rattle.wi_engine.proofs.engine.Awaiting.{cell_here, awaits_cells}
 use Rattle.wi_engine.proofs.engine.awaited.Goals as goal
 

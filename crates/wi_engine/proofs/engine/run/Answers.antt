@@ -1,5 +1,5 @@
 use Rattle.std.proofs.Common.{◌≤◌, ◌+◌, ◌∙◌, arith}
-use Rattle.wi_engine.specs.Frames.{case_at, spare}
+use Rattle.wi_engine.specs.Inner.Frames.{case_at, spare}
 use Rattle.wi_engine.proofs.engine.Running.{run_start, run_push, push_smaller, run_pop, pop_smaller}
 use Rattle.wi_engine.proofs.engine.run.Goals as goal
 

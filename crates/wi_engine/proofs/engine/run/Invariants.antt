@@ -1,9 +1,9 @@
 use Rattle.std.proofs.Common.{◌+◌, ◌*◌, length}
 use Rattle.wi_parser.specs.Sheet.{cells_with_formula}
 use Rattle.wi_sheet.specs.Demand.{demand}
-use Rattle.wi_sheet.specs.Spending.{left}
-use Rattle.wi_engine.specs.Rank.{rank}
-use Rattle.wi_engine.specs.Frames.{case_at}
+use Rattle.wi_sheet.specs.Inner.Spending.{left}
+use Rattle.wi_engine.specs.Inner.Rank.{rank}
+use Rattle.wi_engine.specs.Inner.Frames.{case_at}
 use Rattle.wi_engine.proofs.engine.Running.{IsRunning}
 use Rattle.wi_engine.proofs.engine.run.Given as goal
 

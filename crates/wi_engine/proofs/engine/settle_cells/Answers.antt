@@ -1,5 +1,5 @@
 use Rattle.std.proofs.Common.{refl, ◌∙◌, arith}
-use Rattle.wi_engine.specs.Frames.{case_at}
+use Rattle.wi_engine.specs.Inner.Frames.{case_at}
 use Rattle.wi_engine.specs.declared.frame.Waiting.TheVariants as states
 use Rattle.wi_engine.proofs.engine.Settling.{spare_waiting, spare_found, two_steps, may_read_here, next_here, cell_found_frame, awaits_next, lacks_less, lacked_next}
 use Rattle.wi_engine.proofs.engine.Awaiting.{cell_falls}

@@ -3,7 +3,7 @@ use Rattle.std.specs.Prelude.{unsigned_abs}
 use Rattle.std.specs.Int.{w128}
 use Rattle.std.proofs.lemmas.Int.{to_z-of_z}
 use Rattle.wi_fraction.specs.Number.{max_size}
-use Rattle.wi_fraction.specs.Rounding.{whole_is}
+use Rattle.wi_fraction.specs.Rounding.Laws.{whole_is}
 use Rattle.wi_fraction.proofs.Numbers.{abs-signed}
 use Rattle.wi_fraction.proofs.rounding.whole.Goals as goal
 

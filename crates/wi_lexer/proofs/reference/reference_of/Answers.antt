@@ -1,5 +1,5 @@
 use Rattle.std.proofs.Common.{rules}
-use Rattle.wi_lexer.specs.Reference.{reference_of}
+use Rattle.wi_lexer.specs.Inner.Reference.{reference_of}
 use Rattle.wi_lexer.proofs.reference.reference_of.Goals as goal
 
 pub returns : goal.returns

@@ -2,7 +2,7 @@ use Rattle.std.proofs.Common.{rules, tests, sym, ◌∙◌}
 use Rattle.std.proofs.lemmas.Iterator.{YieldsList-from_slice}
 use Rattle.std.proofs.lemmas.Iterator.Search.{any_from_yields_List}
 use Rattle.wi_parser.specs.Symbol.{is_unfit}
-use Rattle.wi_parser.specs.WordSymbols.{meant_by}
+use Rattle.wi_parser.specs.Inner.WordSymbols.{meant_by}
 use Rattle.wi_parser.proofs.Refusals.{any_meant}
 use Rattle.wi_parser.proofs.limits.has_unfit.Goals as goal
 

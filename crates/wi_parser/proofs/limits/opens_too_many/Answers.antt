@@ -1,5 +1,5 @@
 use Rattle.std.proofs.Common.{arith, ◌≡◌, suc, ◌∷◌, drop, drop-cons, refl, ap, sym, ◌∙◌}
-use Rattle.wi_parser.specs.WordSymbols.{all_meant}
+use Rattle.wi_parser.specs.Inner.WordSymbols.{all_meant}
 use Rattle.wi_parser.specs.Nesting.{deepest}
 use Rattle.wi_parser.proofs.Depth.{least}
 use Rattle.wi_parser.proofs.limits.opens_too_many.Goals as goal

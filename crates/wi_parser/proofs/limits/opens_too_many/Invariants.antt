@@ -1,6 +1,6 @@
 use Rattle.std.proofs.Common.{◌<◌, ◌≤◌, ◌↔◌, drop}
 use Rattle.wi_parser.specs.Nesting.{deepest, max_depth}
-use Rattle.wi_parser.specs.WordSymbols.{all_meant}
+use Rattle.wi_parser.specs.Inner.WordSymbols.{all_meant}
 use Rattle.wi_parser.proofs.limits.opens_too_many.Given as goal
 
 abbrev pub invariant-loop-word : goal.invariant-loop-word

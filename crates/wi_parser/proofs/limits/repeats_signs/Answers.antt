@@ -1,5 +1,5 @@
 use Rattle.std.proofs.Common.{arith, ◌≡◌, suc, ◌∷◌, max, drop, drop-cons, refl, ap, sym, ◌∙◌, if◌then◌else◌}
-use Rattle.wi_parser.specs.WordSymbols.{all_meant}
+use Rattle.wi_parser.specs.Inner.WordSymbols.{all_meant}
 use Rattle.wi_parser.specs.Nesting.{most_signs}
 use Rattle.wi_parser.proofs.Refusals.{least_signs}
 use Rattle.wi_parser.proofs.limits.repeats_signs.Goals as goal

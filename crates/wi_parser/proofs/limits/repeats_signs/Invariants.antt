@@ -1,6 +1,6 @@
 use Rattle.std.proofs.Common.{◌<◌, ◌≤◌, ◌↔◌, drop}
 use Rattle.wi_parser.specs.Nesting.{most_signs, max_depth}
-use Rattle.wi_parser.specs.WordSymbols.{all_meant}
+use Rattle.wi_parser.specs.Inner.WordSymbols.{all_meant}
 use Rattle.wi_parser.proofs.limits.repeats_signs.Given as goal
 
 abbrev pub invariant-loop-word : goal.invariant-loop-word

@@ -1,5 +1,5 @@
 use Rattle.std.proofs.Common.{◌∷◌, ◌++◌, append-nil, ap, sym, ◌∙◌}
-use Rattle.wi_parser.specs.WordSymbols.{all_meant}
+use Rattle.wi_parser.specs.Inner.WordSymbols.{all_meant}
 use Rattle.wi_parser.proofs.Collected.{left, left_next, left_bad, left_end, pushed}
 use Rattle.wi_lexer.proofs.CallerLemmas.{next_shortens}
 use Rattle.wi_parser.proofs.tokens.push_words.Goals as goal

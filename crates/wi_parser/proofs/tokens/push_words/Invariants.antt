@@ -1,7 +1,7 @@
 use Rattle.std.proofs.Common.{◌≡◌, ◌++◌, length}
-use Rattle.wi_lexer.specs.Tokens.{tokens}
-use Rattle.wi_parser.specs.FormulaText.{symbols_of}
-use Rattle.wi_parser.specs.WordSymbols.{all_meant}
+use Rattle.wi_lexer.specs.Inner.Tokens.{tokens}
+use Rattle.wi_parser.specs.Inner.FormulaText.{symbols_of}
+use Rattle.wi_parser.specs.Inner.WordSymbols.{all_meant}
 use Rattle.wi_parser.proofs.tokens.push_words.Given as goal
 
 abbrev pub invariant-loop-next : goal.invariant-loop-next

@@ -2,8 +2,8 @@ use Rattle.std.proofs.Common.{◌≡◌, take}
 use Rattle.wi_parser.specs.Sheet.{put_all}
 use Rattle.wi_sheet.specs.CellValue.{replacements, cell_value}
 use Rattle.wi_sheet.specs.Demand.{wants}
-use Rattle.wi_sheet.specs.Spending.{CountsFound, HasReplacing, NeverFall}
-use Rattle.wi_engine.specs.Memory.{IsMemoryOf}
+use Rattle.wi_sheet.specs.Inner.Spending.{CountsFound, HasReplacing, NeverFall}
+use Rattle.wi_engine.specs.Inner.Memory.{IsMemoryOf}
 use Rattle.wi_propagate.proofs.table_entry.with_inputs.Given as goal
 
 abbrev pub invariant-loop-pair : goal.invariant-loop-pair

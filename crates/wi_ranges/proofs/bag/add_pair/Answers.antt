@@ -1,6 +1,6 @@
 use Rattle.std.proofs.Common.{◌∙◌, subst, sym, rules}
 use Rattle.wi_ranges.specs.Bag.{Bag}
-use Rattle.wi_ranges.specs.Index.{AreCounted, IsIndexed}
+use Rattle.wi_ranges.specs.Inner.Index.{AreCounted, IsIndexed}
 use Rattle.wi_ranges.specs.declared.pair.Numbered.{Numbered}
 use Rattle.wi_ranges.proofs.BagLemmas.{at_error, indexed_back, counted_back, kept_back, lacks_all}
 use Rattle.wi_ranges.proofs.bag.add_pair.Goals as goal

@@ -4,7 +4,7 @@ use Rattle.std.specs.List.{list_any}
 use Rattle.std.specs.BTreeSet.{contains}
 use Rattle.wi_ranges.specs.declared.block.Block.{Block}
 use Rattle.wi_ranges.specs.Blocks.{blocks_with}
-use Rattle.wi_ranges.specs.Index.{reads_at}
+use Rattle.wi_ranges.specs.Inner.Index.{reads_at}
 use Rattle.wi_ranges.proofs.BlockLemmas.{half_of, blocks_with-row}
 use Rattle.wi_ranges.proofs.ReaderLemmas.{readers_more}
 use Rattle.wi_ranges.proofs.readers.+add_all_readers.Goals as goal

@@ -6,8 +6,8 @@ use Rattle.std.specs.declared.ops.Bound.TheVariants.{Included, Excluded}
 use Rattle.wi_ranges.specs.declared.block.Block.{Block}
 use Rattle.wi_ranges.specs.declared.pair.Numbered.{Numbered}
 use Rattle.wi_ranges.specs.Blocks.{block}
-use Rattle.wi_ranges.specs.Index.{lowest}
-use Rattle.wi_ranges.specs.Index.{piece_cmp}
+use Rattle.wi_ranges.specs.Inner.Index.{lowest}
+use Rattle.wi_ranges.specs.Inner.Index.{piece_cmp}
 use Rattle.wi_ranges.proofs.ReaderLemmas.{readers_found}
 use Rattle.wi_ranges.proofs.readers.add_readers.Goals as goal
 

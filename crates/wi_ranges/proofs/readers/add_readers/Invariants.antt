@@ -2,7 +2,7 @@ use Rattle.std.proofs.Common.{◌≡◌, ◌||◌, ℕ}
 use Rattle.std.specs.Ordering.{nat_cmp}
 use Rattle.std.specs.List.{list_any}
 use Rattle.std.specs.BTreeSet.{contains}
-use Rattle.wi_ranges.specs.Index.{reads_here}
+use Rattle.wi_ranges.specs.Inner.Index.{reads_here}
 use Rattle.wi_ranges.proofs.readers.add_readers.Given as goal
 
 -- the readers found, and those that are left to find

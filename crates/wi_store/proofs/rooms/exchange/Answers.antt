@@ -4,7 +4,7 @@ use Rattle.std.specs.Ordering.{nat_cmp}
 use Rattle.std.specs.Map.{set_value}
 use Rattle.std.specs.BTreeMap.{is_at}
 use Rattle.wi_parser.specs.declared.content.Content.{Content}
-use Rattle.wi_store.specs.Rooms.{Rooms, sheet_in, room_of}
+use Rattle.wi_store.specs.Inner.Rooms.{Rooms, sheet_in, room_of}
 use Rattle.wi_store.proofs.RoomLemmas.{Ascends-from_order, content_of-sheet_in}
 use Rattle.wi_store.proofs.ExchangeLemmas.{sheet_in-set_value, is_at_apart, none_kept, nothing_stands, nothing_put}
 use Rattle.wi_store.proofs.rooms.exchange.Goals as goal

@@ -1,7 +1,7 @@
 use Rattle.std.proofs.Common.{◌<◌, length, sym, ◌∙◌, arith}
 use Rattle.wi_store.specs.Store.{edited}
-use Rattle.wi_store.specs.Rooms.{sheet_in}
-use Rattle.wi_store.specs.Exchange.{stood}
+use Rattle.wi_store.specs.Inner.Rooms.{sheet_in}
+use Rattle.wi_store.specs.Inner.Exchange.{stood}
 use Rattle.wi_store.proofs.RoomLemmas.{Ascends-from_order, Ascends-sheet_in}
 use Rattle.wi_store.proofs.ChangeLemmas.{edited_more, stood_more, room_more, vacant_more, keys_of-set, count_fits, counted_more}
 use Rattle.wi_store.proofs.rooms.exchange_all.Goals as goal

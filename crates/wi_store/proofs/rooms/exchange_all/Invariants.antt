@@ -2,8 +2,8 @@ use Rattle.std.proofs.Common.{◌≡◌, ◌++◌, length, take, drop}
 use Rattle.std.specs.List.{All}
 use Rattle.std.specs.Map.{keys_of}
 use Rattle.wi_store.specs.Store.{edited}
-use Rattle.wi_store.specs.Rooms.{sheet_in, IsInOrder, VacantOnlyAt, HasRoomFor}
-use Rattle.wi_store.specs.Exchange.{stood}
+use Rattle.wi_store.specs.Inner.Rooms.{sheet_in, IsInOrder, VacantOnlyAt, HasRoomFor}
+use Rattle.wi_store.specs.Inner.Exchange.{stood}
 use Rattle.wi_store.proofs.rooms.exchange_all.Given as goal
 
 abbrev pub invariant-loop-change : goal.invariant-loop-change

@@ -1,8 +1,8 @@
 use Rattle.std.proofs.Common.{◌≡◌, take}
 use Rattle.std.specs.List.{All}
 use Rattle.std.specs.Map.{keys_of}
-use Rattle.wi_store.specs.Rooms.{sheet_in, IsInOrder, VacantOnlyAt, HasRoomFor}
-use Rattle.wi_store.specs.Exchange.{restored}
+use Rattle.wi_store.specs.Inner.Rooms.{sheet_in, IsInOrder, VacantOnlyAt, HasRoomFor}
+use Rattle.wi_store.specs.Inner.Exchange.{restored}
 use Rattle.wi_store.proofs.rooms.exchange_back.Given as goal
 
 abbrev pub invariant-loop-i : goal.invariant-loop-i

@@ -1,7 +1,7 @@
 use Rattle.std.proofs.Common.{None, sym, ap, ◌∙◌}
 use Rattle.std.specs.Ordering.{nat_cmp}
 use Rattle.std.specs.BTreeMap.{is_at}
-use Rattle.wi_store.specs.Rooms.{Rooms, sheet_in}
+use Rattle.wi_store.specs.Inner.Rooms.{Rooms, sheet_in}
 use Rattle.wi_store.proofs.ExchangeLemmas.{sheet_in-make, vacancy_made, none_kept, none_from}
 use Rattle.wi_store.proofs.rooms.make_one.Goals as goal
 

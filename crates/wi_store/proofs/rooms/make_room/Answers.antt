@@ -1,6 +1,6 @@
 use Rattle.std.proofs.Common.{◌≡◌, ◌<◌, length, refl, ap, ◌∙◌, arith}
 use Rattle.std.proofs.lemmas.Result.{IfOk-at_ok}
-use Rattle.wi_store.specs.Rooms.{sheet_in, HasRoomFor}
+use Rattle.wi_store.specs.Inner.Rooms.{sheet_in, HasRoomFor}
 use Rattle.wi_store.proofs.RoomLemmas.{Ascends-from_order, length-sheet_in}
 use Rattle.wi_store.proofs.ChangeLemmas.{vacant_none, vacant_more_made, room_more_made}
 use Rattle.wi_store.proofs.rooms.make_room.Goals as goal

@@ -1,7 +1,7 @@
 use Rattle.std.proofs.Common.{◌≡◌, ℕ, ◌+◌, ◌<◌, ◌≤◌, length, get_or, Option}
 use Rattle.std.specs.Map.{keys_of}
 use Rattle.wi_parser.specs.declared.content.Content.{Content}
-use Rattle.wi_store.specs.Rooms.{sheet_in, IsInOrder, VacantOnlyAt, HasRoomFor}
+use Rattle.wi_store.specs.Inner.Rooms.{sheet_in, IsInOrder, VacantOnlyAt, HasRoomFor}
 use Rattle.wi_store.proofs.rooms.make_room.Given as goal
 
 abbrev pub invariant-loop-at : goal.invariant-loop-at

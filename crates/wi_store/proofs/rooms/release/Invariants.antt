@@ -1,6 +1,6 @@
 use Rattle.std.proofs.Common.{◌≡◌, drop}
 use Rattle.std.specs.Map.{keys_of}
-use Rattle.wi_store.specs.Rooms.{sheet_in, IsInOrder, VacantOnlyAt}
+use Rattle.wi_store.specs.Inner.Rooms.{sheet_in, IsInOrder, VacantOnlyAt}
 use Rattle.wi_store.proofs.rooms.release.Given as goal
 
 abbrev pub invariant-loop-at : goal.invariant-loop-at

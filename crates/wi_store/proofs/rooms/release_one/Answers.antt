@@ -1,7 +1,7 @@
 use Rattle.std.proofs.Common.{ap, ◌∙◌}
 use Rattle.std.specs.Ordering.{nat_cmp}
 use Rattle.std.specs.BTreeMap.{is_at}
-use Rattle.wi_store.specs.Rooms.{Rooms, sheet_in}
+use Rattle.wi_store.specs.Inner.Rooms.{Rooms, sheet_in}
 use Rattle.wi_store.proofs.ExchangeLemmas.{sheet_in-release, vacancy_kept}
 use Rattle.wi_store.proofs.rooms.release_one.Goals as goal
 

@@ -2,8 +2,8 @@ use Rattle.std.proofs.Common.{ℕ, List, Option, Ok, Err, Result, OnErr, ap, ◌
 use Rattle.wi_parser.specs.Sheet.{Sheet}
 use Rattle.wi_parser.specs.declared.content.Content.{Content}
 use Rattle.wi_store.specs.Store.{edited}
-use Rattle.wi_store.specs.Rooms.{sheet_in}
-use Rattle.wi_store.specs.Exchange.{restored}
+use Rattle.wi_store.specs.Inner.Rooms.{sheet_in}
+use Rattle.wi_store.specs.Inner.Exchange.{restored}
 use Rattle.wi_store.proofs.RoomLemmas.{Ascends-from_order, Ascends-sheet_in}
 use Rattle.wi_store.proofs.ExchangeLemmas.{restored-stood}
 use Rattle.wi_store.proofs.store.edit.Goals as goal

@@ -1,7 +1,7 @@
 use Rattle.std.proofs.Common.{◌≡◌, ◌∙◌, ℕ, Option, Some, None, sym, ap}
 use Rattle.std.specs.List.{find}
 use Rattle.std.specs.Map.{keys_of}
-use Rattle.wi_store.specs.Rooms.{is_ahead}
+use Rattle.wi_store.specs.Store.{is_ahead}
 use Rattle.wi_store.proofs.RoomLemmas.{Ascends-from_order}
 use Rattle.wi_store.proofs.NextRoom.{spans, search_none, search_found, search_on, search_shorter, nothing_found, fewer_ahead}
 use Rattle.wi_store.proofs.store.next_room.Goals as goal

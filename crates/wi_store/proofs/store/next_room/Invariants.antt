@@ -1,7 +1,7 @@
 use Rattle.std.proofs.Common.{◌≡◌, Some}
 use Rattle.std.specs.List.{find}
 use Rattle.std.specs.Map.{keys_of}
-use Rattle.wi_store.specs.Rooms.{is_ahead}
+use Rattle.wi_store.specs.Store.{is_ahead}
 use Rattle.wi_store.proofs.Within.{cells_ahead}
 use Rattle.wi_store.proofs.store.next_room.Given as goal
 

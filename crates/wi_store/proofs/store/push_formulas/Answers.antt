@@ -1,6 +1,7 @@
 use Rattle.std.proofs.Common.{◌∙◌, ◌++◌, ℕ, List, Option, filter, sym, ap, append_assoc}
 use Rattle.wi_values.specs.Address.{is_within}
-use Rattle.wi_store.specs.Rooms.{formula_rooms, is_ahead}
+use Rattle.wi_store.specs.Inner.Rooms.{formula_rooms}
+use Rattle.wi_store.specs.Store.{is_ahead}
 use Rattle.wi_store.proofs.Within.{none_ahead, next_within}
 use Rattle.wi_store.proofs.store.push_formulas.Goals as goal
 

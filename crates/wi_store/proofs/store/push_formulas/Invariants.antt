@@ -1,6 +1,7 @@
 use Rattle.std.proofs.Common.{◌≡◌, ◌++◌, ◌≤◌, ℕ, List, filter, IfSome}
 use Rattle.wi_values.specs.Address.{is_within}
-use Rattle.wi_store.specs.Rooms.{formula_rooms, is_ahead}
+use Rattle.wi_store.specs.Inner.Rooms.{formula_rooms}
+use Rattle.wi_store.specs.Store.{is_ahead}
 use Rattle.wi_store.proofs.Within.{cells_ahead}
 use Rattle.wi_store.proofs.store.push_formulas.Given as goal
 

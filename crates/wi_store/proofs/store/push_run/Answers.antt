@@ -1,7 +1,7 @@
 use Rattle.std.proofs.Common.{◌≡◌, ◌∙◌, ◌++◌, ◌∷◌, [], ℕ, Option, true, sym, ap}
 use Rattle.wi_parser.specs.declared.content.Content.{Content}
 use Rattle.wi_values.specs.Address.{is_within}
-use Rattle.wi_store.specs.Rooms.{Rooms}
+use Rattle.wi_store.specs.Inner.Rooms.{Rooms}
 use Rattle.wi_store.proofs.RoomLemmas.{Ascends-from_order}
 use Rattle.wi_store.proofs.Within.{range_of, run_left, run_ended, run_more, run_same, passed}
 use Rattle.wi_store.proofs.store.push_run.Goals as goal

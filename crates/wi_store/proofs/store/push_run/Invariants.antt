@@ -1,6 +1,6 @@
 use Rattle.std.proofs.Common.{◌≡◌, ◌++◌, filter}
 use Rattle.wi_values.specs.Address.{is_within}
-use Rattle.wi_store.specs.Rooms.{Rooms, formula_rooms}
+use Rattle.wi_store.specs.Inner.Rooms.{Rooms, formula_rooms}
 use Rattle.wi_store.proofs.store.push_run.Given as goal
 
 -- of the rooms before, all formula cells of the rectangle were found

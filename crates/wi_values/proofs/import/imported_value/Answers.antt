@@ -1,5 +1,5 @@
 use Rattle.std.proofs.Common.{rules}
-use Rattle.wi_values.specs.Import.{imported}
+use Rattle.wi_values.specs.Inner.Import.{imported}
 use Rattle.wi_values.proofs.import.imported_value.Goals as goal
 
 pub returns-in-Some-clause-value : goal.returns-in-Some-clause-value

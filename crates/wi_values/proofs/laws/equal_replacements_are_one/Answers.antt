@@ -1,7 +1,7 @@
 use Rattle.std.proofs.Common.{arith}
 use Rattle.std.proofs.lemmas.Grind.{common_steps}
-use Rattle.wi_fraction.specs.Order.{numbers}
-use Rattle.wi_values.specs.Same.{texts}
+use Rattle.wi_fraction.specs.Order.Laws.{numbers}
+use Rattle.wi_values.specs.Inner.Same.{texts}
 use Rattle.wi_values.proofs.laws.equal_replacements_are_one.Goals as goal
 
 pub returns : goal.returns

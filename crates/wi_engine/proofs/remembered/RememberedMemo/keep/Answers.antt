@@ -1,5 +1,5 @@
 use Rattle.std.proofs.Common.{ap}
-use Rattle.wi_engine.specs.Remembered.{OneQuestion}
+use Rattle.wi_engine.specs.Inner.Remembered.{OneQuestion}
 use Rattle.wi_engine.proofs.remembered.Remembering.{known_kept}
 use Rattle.wi_engine.proofs.remembered.RememberedMemo.keep.Goals as goal
 

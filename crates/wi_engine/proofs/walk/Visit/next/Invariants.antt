@@ -1,5 +1,5 @@
 use Rattle.std.proofs.Common.{◌≡◌, ◌-◌, drop, length}
-use Rattle.wi_engine.specs.Walk.{cells_ahead, unread}
+use Rattle.wi_engine.specs.Inner.Walk.{cells_ahead, unread}
 use Rattle.wi_engine.proofs.walk.Visit.next.Given as goal
 
 abbrev pub invariant-loop-area : goal.invariant-loop-area

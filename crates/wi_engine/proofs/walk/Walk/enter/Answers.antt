@@ -1,7 +1,7 @@
 use Rattle.std.proofs.Common.{◌≡◌, Some, sym, ap, ◌∙◌}
 use Rattle.std.specs.Ordering.{nat_cmp}
 use Rattle.std.specs.BTreeMap.{get}
-use Rattle.wi_engine.specs.Walk.{tasks_in}
+use Rattle.wi_engine.specs.Inner.Walk.{tasks_in}
 use Rattle.wi_engine.specs.declared.walk.Mark.TheVariants.{Open, Done}
 use Rattle.wi_engine.specs.declared.walk.Mark.{Mark}
 use Rattle.wi_engine.proofs.walk.Cursors.{path-begun}

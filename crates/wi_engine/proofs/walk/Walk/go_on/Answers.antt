@@ -1,4 +1,4 @@
-use Rattle.wi_engine.specs.Walk.{tasks_in}
+use Rattle.wi_engine.specs.Inner.Walk.{tasks_in}
 use Rattle.wi_engine.specs.declared.walk.Mark.TheVariants.{Done}
 use Rattle.wi_engine.proofs.walk.Cursors.{path-on, path-done}
 use Rattle.wi_engine.proofs.walk.PathSteps.{path-left}

@@ -1,5 +1,5 @@
 use Rattle.std.proofs.Common.{[], ◌∷◌, arith}
-use Rattle.wi_engine.specs.Walk.{Enter}
+use Rattle.wi_engine.specs.Inner.Walk.{Enter}
 use Rattle.wi_engine.proofs.walk.PathSteps.{path-ended}
 use Rattle.wi_engine.proofs.walk.Walk.meets_cycle.Goals as goal
 

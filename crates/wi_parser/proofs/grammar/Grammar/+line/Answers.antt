@@ -1,8 +1,8 @@
 use Rattle.std.proofs.Common.{arith, ◌≡◌, ◌<◌, ◌-◌, length, Some, ap, ◌∙◌, sym, subst}
 use Rattle.std.proofs.lemmas.Result.{err_from_is_err_and}
-use Rattle.wi_parser.specs.Reader.{read_then, line, chain, expression}
+use Rattle.wi_parser.specs.Inner.Reader.{read_then, line, chain, expression}
 use Rattle.wi_parser.specs.View.{tree_of}
-use Rattle.wi_parser.specs.Outcome.{Finds}
+use Rattle.wi_parser.specs.Inner.Outcome.{Finds}
 use Rattle.wi_parser.proofs.Marks.{operator-length}
 use Rattle.wi_parser.proofs.Turns.{fails_as, line_more, chain_stop, chain_fail, chain_more}
 use Rattle.wi_parser.proofs.grammar.Grammar.+line.Goals as goal

@@ -1,7 +1,7 @@
 use Rattle.std.proofs.Common.{Some, ap, ◌∙◌, sym, subst}
 use Rattle.std.proofs.lemmas.Result.{err_from_is_err_and}
-use Rattle.wi_parser.specs.Reader.{signed_read, atom, line, expression}
-use Rattle.wi_parser.specs.Outcome.{Finds}
+use Rattle.wi_parser.specs.Inner.Reader.{signed_read, atom, line, expression}
+use Rattle.wi_parser.specs.Inner.Outcome.{Finds}
 use Rattle.wi_parser.proofs.Turns.{fails_as, prefix_stop, prefix_more}
 use Rattle.wi_parser.proofs.grammar.Grammar.+prefixed.Goals as goal
 

@@ -1,6 +1,6 @@
 use Rattle.std.proofs.Common.{Some, option_map, ap, ◌∙◌, sym}
 use Rattle.std.proofs.lemmas.Result.{err_from_is_err_and}
-use Rattle.wi_parser.specs.Reader.{read_then, then_close, as_call, called, atom, expression}
+use Rattle.wi_parser.specs.Inner.Reader.{read_then, then_close, as_call, called, atom, expression}
 use Rattle.wi_parser.specs.Tree.{parenthesized}
 use Rattle.wi_parser.specs.View.{tree_of}
 use Rattle.wi_parser.proofs.Turns.{fails_as}

@@ -1,7 +1,7 @@
 use Rattle.std.proofs.Common.{arith, ◌-◌, Some, ap, ◌∙◌, sym}
 use Rattle.std.proofs.lemmas.Result.{err_from_is_err_and}
-use Rattle.wi_parser.specs.Reader.{expression, more_parameters, after_separator}
-use Rattle.wi_parser.specs.Outcome.{put_before}
+use Rattle.wi_parser.specs.Inner.Reader.{expression, more_parameters, after_separator}
+use Rattle.wi_parser.specs.Inner.Outcome.{put_before}
 use Rattle.wi_parser.specs.View.{tree_of}
 use Rattle.wi_parser.proofs.Marks.{close-length, separator-length}
 use Rattle.wi_parser.proofs.Turns.{fails_as}

@@ -1,6 +1,6 @@
 use Rattle.std.proofs.Common.{◌≡◌, ◌≤◌, length, ℕ}
-use Rattle.wi_parser.specs.Reader.{more_parameters, expression}
-use Rattle.wi_parser.specs.Outcome.{put_before}
+use Rattle.wi_parser.specs.Inner.Reader.{more_parameters, expression}
+use Rattle.wi_parser.specs.Inner.Outcome.{put_before}
 use Rattle.wi_parser.proofs.grammar.Grammar.more_parameters.Given as goal
 
 abbrev pub invariant-loop-words : goal.invariant-loop-words

@@ -1,7 +1,7 @@
 use Rattle.std.proofs.Common.{◌≡◌, length, ◌∷◌, ◌++◌, [], Some, ap, ◌∙◌, sym}
 use Rattle.std.proofs.lemmas.Result.{err_from_is_err_and}
-use Rattle.wi_parser.specs.Reader.{expression, more_parameters, first_parameter, parameters_at}
-use Rattle.wi_parser.specs.Outcome.{put_before}
+use Rattle.wi_parser.specs.Inner.Reader.{expression, more_parameters, first_parameter, parameters_at}
+use Rattle.wi_parser.specs.Inner.Outcome.{put_before}
 use Rattle.wi_parser.specs.View.{tree_of, all_of}
 use Rattle.wi_parser.proofs.Turns.{fails_as}
 use Rattle.wi_parser.proofs.Parameters.{parameters_first, parameters_bad, put_first-before}

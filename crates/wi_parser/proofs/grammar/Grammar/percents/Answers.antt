@@ -1,6 +1,6 @@
 use Rattle.std.proofs.Common.{ap}
 use Rattle.std.proofs.lemmas.Result.{err_from_is_err_and}
-use Rattle.wi_parser.specs.Reader.{read_then, percents, line}
+use Rattle.wi_parser.specs.Inner.Reader.{read_then, percents, line}
 use Rattle.wi_parser.proofs.Turns.{fails_as}
 use Rattle.wi_parser.proofs.grammar.Grammar.percents.Goals as goal
 

@@ -12,7 +12,7 @@ use Rattle.std.specs.BTreeMap.{is_at}
 use Rattle.wi_ranges.specs.declared.block.Block.{Block}
 use Rattle.wi_ranges.specs.Blocks.{blocks_with}
 use Rattle.wi_ranges.specs.Bag.{Bag, IsReader}
-use Rattle.wi_ranges.specs.Index.{reads_at}
+use Rattle.wi_ranges.specs.Inner.Index.{reads_at}
 use Rattle.wi_ranges.proofs.Found.{reader_found, found_reader}
 use Rattle.wi_ranges.proofs.index.RangeIndex.readers_of.Goals as goal
 

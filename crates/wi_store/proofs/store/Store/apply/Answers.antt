@@ -2,7 +2,7 @@ use Rattle.std.proofs.Common.{◌≡◌, ◌∙◌, ◌++◌, ℕ, List, [], Opt
 use Rattle.std.proofs.lemmas.List.{take_all, drop_all, append-nil, length-map}
 use Rattle.std.proofs.lemmas.Result.{err_from_is_err_and}
 use Rattle.wi_parser.specs.declared.content.Content.{Content}
-use Rattle.wi_store.specs.Rooms.{sheet_in}
+use Rattle.wi_store.specs.Inner.Rooms.{sheet_in}
 use Rattle.wi_store.specs.Store.{settled_change}
 use Rattle.wi_store.proofs.EditLemmas.{applies_after_refusal, applies_after_acceptance}
 use Rattle.wi_store.proofs.store.Store.apply.Goals as goal

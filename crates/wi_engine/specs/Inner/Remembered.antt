@@ -8,7 +8,7 @@ use Rattle.wi_parser.specs.Sheet.{Sheet}
 use Rattle.wi_cache.specs.declared.key.Key.{Key}
 use Rattle.wi_cache.specs.Entries.{Entries, value_for}
 use Rattle.wi_graph.specs.Reach.{is_one_of, reaches}
-use Rattle.wi_engine.specs.Memory.{Memory}
+use Rattle.wi_engine.specs.Inner.Memory.{Memory}
 
 -- a sheet, some of its cells, and the values found of these
 pub record OneQuestion : Type 0 where

@@ -5,8 +5,8 @@ use denote.Ref.{MutBor}
 use Rattle.wi_parser.specs.declared.expr.Expr.{Expr}
 use Rattle.wi_parser.specs.declared.fault.ParseFault.{ParseFault}
 use Rattle.wi_parser.specs.Symbol.{Symbol}
-use Rattle.wi_parser.specs.Reader.{expression}
-use Rattle.wi_parser.specs.Outcome.{Finds}
+use Rattle.wi_parser.specs.Inner.Reader.{expression}
+use Rattle.wi_parser.specs.Inner.Outcome.{Finds}
 
 pub record Nests (depth : ℕ) (pre : Global → MutBor (List Symbol) → ℕ → Type 0)
     (post : Global → MutBor (List Symbol) → ℕ → Result Expr ParseFault → MutBor (List Symbol) → Type 0) : Type 0 where

@@ -1,35 +1,27 @@
--- The symbols of a formula's text.
-use Rattle.std.specs.Prelude.{ℕ, List, [], ◌∷◌, ◌++◌, map, codes, ◌==◌, if◌then◌else◌, Option, Some, None, option_map, unwrap_or}
-use Rattle.std.specs.Str.{str_eq_ignore_ascii_case}
+-- The symbols of a formula's text, as a reader finds them. Laws tie them to what texts mean.
+use Rattle.std.specs.Prelude.{ℕ, List, [], ◌∷◌, ◌++◌, map, codes, ◌==◌, if◌then◌else◌, Option, Some, None, unwrap_or}
 use Rattle.wi_fraction.specs.Number.{Number as Numbers}
-use Rattle.wi_fraction.specs.Text.{read_decimal}
-use Rattle.wi_values.specs.AddressReading.{address_at}
+use Rattle.wi_fraction.specs.Inner.Reading.{read_decimal}
 use Rattle.wi_lexer.specs.declared.token.Kind.{Kind}
 use Rattle.wi_lexer.specs.declared.token.Kind.TheVariants.{Number, Text, Reference, Rectangle, Mark, Name}
 use Rattle.wi_lexer.specs.declared.token.Mark as mark
 use Rattle.wi_lexer.specs.declared.token.Mark.TheVariants.{OpenParenthesis, CloseParenthesis, Semicolon, Plus, Minus, Asterisk, Slash, Caret, Percent, Ampersand, Equal, NotEqual, Less, LessOrEqual, Greater, GreaterOrEqual}
 use Rattle.wi_lexer.specs.Cell.{Cell}
-use Rattle.wi_lexer.specs.Reference.{reference_of}
-use Rattle.wi_lexer.specs.Rectangle.{rectangle_of}
-use Rattle.wi_lexer.specs.Text.{text_content}
-use Rattle.wi_lexer.specs.Tokens.{Tokens, tokens}
+use Rattle.wi_lexer.specs.Inner.Reference.{reference_of}
+use Rattle.wi_lexer.specs.Inner.Rectangle.{rectangle_of}
+use Rattle.wi_lexer.specs.Inner.Text.{text_content}
+use Rattle.wi_lexer.specs.Tokens.{Tokens}
+use Rattle.wi_lexer.specs.Inner.Tokens.{tokens}
 use Rattle.wi_parser.specs.declared.expr.Operator.TheVariants as operator
 use Rattle.wi_parser.specs.declared.expr.Reference as references
 use Rattle.wi_parser.specs.declared.fault.ParseFault.TheVariants.{OutOfSheet, NumberRange, Syntax}
-use Rattle.wi_parser.specs.Symbol.{Symbol, numeral, text_literal, reference, corners, open_parenthesis, close_parenthesis, separator, infix_mark, percent_mark, what_if_name, refused, name}
-use Rattle.wi_parser.specs.Capitals.{in_capitals}
-
--- ---- tokens
+use Rattle.wi_parser.specs.Symbol.{Symbol, numeral, text_literal, reference, corners, open_parenthesis, close_parenthesis, separator, infix_mark, percent_mark, refused}
+use Rattle.wi_parser.specs.Symbols.{name_symbol, reference_to}
 
 -- a number, if it fits
 abbrev pub number_symbol : Option Numbers → Symbol
 number_symbol None = refused NumberRange
 number_symbol (Some x) = numeral x
-
--- the reference to a cell as written, if the sheet has it
-abbrev pub reference_to : Cell → Option references.Reference
-reference_to c =
-    option_map (λ a. record { at = a; column_is_absolute = c.column_is_absolute; row_is_absolute = c.row_is_absolute }) (address_at c.letters c.digits)
 
 abbrev pub cell_symbol : Option references.Reference → Symbol
 cell_symbol None = refused OutOfSheet
@@ -68,10 +60,6 @@ mark_symbol LessOrEqual = infix_mark operator.LessOrEqual
 mark_symbol Greater = infix_mark operator.Greater
 mark_symbol GreaterOrEqual = infix_mark operator.GreaterOrEqual
 
--- the name of what-ifs, in letters of either case, or another name
-abbrev pub name_symbol : List ℕ → Symbol
-name_symbol bs = if str_eq_ignore_ascii_case bs (codes "MULTIPLE.OPERATIONS") then what_if_name else name (in_capitals bs)
-
 -- what a token of this kind with these bytes means
 abbrev pub symbol_of : Kind → List ℕ → Symbol
 symbol_of Number bs = number_symbol (read_decimal bs)
@@ -84,8 +72,6 @@ symbol_of Name bs = name_symbol bs
 -- what tokens mean; a bad one, which ends them, is refused
 abbrev pub symbols_of : Tokens → List Symbol
 symbols_of ts = map (λ t. symbol_of t.0 t.1) ts.found ++ (if ts.bad then refused Syntax ∷ [] else [])
-
--- ---- the text
 
 -- what follows the front, where the bytes begin with it
 abbrev pub after : List ℕ → List ℕ → Option (List ℕ)

@@ -5,10 +5,10 @@ use Rattle.std.specs.Io.KnownBytes.{Appends, IsAtEnd, prepend_known}
 use Rattle.wi_cli.specs.declared.fault.RunFault.{RunFault}
 use Rattle.wi_cli.specs.declared.fault.RunFault.TheVariants.{Memory, Read, Write, ScriptLimit}
 use Rattle.wi_scenarios.specs.State.{State}
-use Rattle.wi_cli.specs.Ahead.{Takes}
+use Rattle.wi_cli.specs.Inner.Ahead.{Takes}
 use Rattle.wi_cli.specs.Lines.{is_whole}
 use Rattle.wi_cli.specs.Script.{line_command}
-use Rattle.wi_cli.specs.Reading.{raw, Broke}
+use Rattle.wi_cli.specs.Inner.Reading.{raw, Broke}
 use Rattle.wi_cli.specs.Run.{Writes}
 
 -- a line was taken, whole or up to the end, and served

@@ -9,11 +9,11 @@ use Rattle.wi_graph.specs.Circular.{circular}
 use Rattle.wi_graph.specs.Reach.{is_one_of}
 use Rattle.wi_sheet.specs.CellValue.{cell_value, what_if_value}
 use Rattle.wi_sheet.specs.Demand.{Case, same_case, reaching, reads_here, of_formula}
-use Rattle.wi_sheet.specs.Spending.{RestsOn, IsClosed, left}
-use Rattle.wi_engine.specs.Rank.{rank}
-use Rattle.wi_engine.specs.Memory.{Memory}
-use Rattle.wi_engine.specs.Findings.{AreAllRight}
-use Rattle.wi_engine.specs.Answers.{AsksAt, IsLacking, lacking}
+use Rattle.wi_sheet.specs.Inner.Spending.{RestsOn, IsClosed, left}
+use Rattle.wi_engine.specs.Inner.Rank.{rank}
+use Rattle.wi_engine.specs.Inner.Memory.{Memory}
+use Rattle.wi_engine.specs.Inner.Findings.{AreAllRight}
+use Rattle.wi_engine.specs.Inner.Answers.{AsksAt, IsLacking, lacking}
 use Rattle.wi_engine.specs.declared.findings.Findings.{Findings}
 use Rattle.wi_engine.specs.declared.frame.Frame.{Frame}
 use Rattle.wi_engine.specs.declared.frame.Waiting.{Waiting}

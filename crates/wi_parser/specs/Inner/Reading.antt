@@ -1,28 +1,18 @@
--- What a text is taken for: a formula, or the content of a cell.
+-- What a text is taken for, as a reader finds it. Laws tie it to what texts stand for.
 use Rattle.std.specs.Prelude.{◌≡◌, ℕ, ◌+◌, ◌≤◌, List, length, nat_lt, if◌then◌else◌, codes, Option, Some, None, option_map, is_some, Result, Ok, Err, ok_or}
-use Rattle.std.specs.List.{list_any}
 use Rattle.wi_values.specs.declared.value.Value.TheVariants.{Text}
-use Rattle.wi_values.specs.Import.{max_text, imported}
+use Rattle.wi_values.specs.Import.{max_text}
+use Rattle.wi_values.specs.Inner.Import.{imported}
 use Rattle.wi_parser.specs.declared.content.Content.{Content}
 use Rattle.wi_parser.specs.declared.content.Content.TheVariants.{Constant, Formula}
 use Rattle.wi_parser.specs.declared.fault.ParseFault.{ParseFault}
-use Rattle.wi_parser.specs.declared.fault.ParseFault.TheVariants.{TooLong, OutOfSheet, NumberRange, TooDeep, Syntax, Memory}
+use Rattle.wi_parser.specs.declared.fault.ParseFault.TheVariants.{TooLong, Syntax, Memory}
 use Rattle.wi_parser.specs.Tree.{Tree}
-use Rattle.wi_parser.specs.Symbol.{Symbol, is_outside, is_unfit}
-use Rattle.wi_parser.specs.Nesting.{deepest, most_signs, max_depth, is_too_deep}
-use Rattle.wi_parser.specs.Reader.{whole}
-use Rattle.wi_parser.specs.FormulaText.{after, after_equals, formula_symbols}
-
--- the greatest length of a formula's text in bytes
-abbrev pub max_formula : ℕ
-max_formula = 4096
-
--- the first cause for which the symbols are refused before they are read
-abbrev pub refusal_of : List Symbol → Option ParseFault
-refusal_of ts =
-    if list_any is_outside ts then Some OutOfSheet
-    else (if list_any is_unfit ts then Some NumberRange
-    else (if is_too_deep ts then Some TooDeep else None))
+use Rattle.wi_parser.specs.Symbol.{Symbol}
+use Rattle.wi_parser.specs.Nesting.{deepest, most_signs, max_depth}
+use Rattle.wi_parser.specs.Inner.Reader.{whole}
+use Rattle.wi_parser.specs.Inner.FormulaText.{after, after_equals, formula_symbols}
+use Rattle.wi_parser.specs.Limits.{max_formula, refusal_of}
 
 abbrev pub unless_refused : Option ParseFault → Option Tree → Result Tree ParseFault
 unless_refused (Some e) found = Err e
@@ -59,8 +49,6 @@ unfoldable pub content_read : List ℕ → Result Content ParseFault
 content_read text =
     if is_some (after_equals text) then as_content (parsed text)
     else constant_read text (after (codes "'") text)
-
--- ---- what the calls answer
 
 -- what is answered is what is found, or Memory, which says nothing of it
 abbrev pub ReadsAs : {A : Type 0} → Result A ParseFault → Result A ParseFault → Type 0

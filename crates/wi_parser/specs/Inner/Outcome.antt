@@ -6,7 +6,7 @@ use Rattle.wi_parser.specs.declared.fault.ParseFault.{ParseFault}
 use Rattle.wi_parser.specs.declared.fault.ParseFault.TheVariants.{TooLong, OutOfSheet, NumberRange, TooDeep, Syntax, Memory}
 use Rattle.wi_parser.specs.Tree.{Tree, Trees, more_trees}
 use Rattle.wi_parser.specs.Symbol.{Symbol}
-use Rattle.wi_parser.specs.Reader.{Read, ReadAll}
+use Rattle.wi_parser.specs.Inner.Reader.{Read, ReadAll}
 use Rattle.wi_parser.specs.View.{tree_of, all_of}
 
 -- Syntax where nothing to be read is found, or Memory, which says nothing of that; no other fault

@@ -1,11 +1,10 @@
 -- The rooms of a store: cells that may have a content. A room is vacant only while an edit goes on.
-use Rattle.std.specs.Prelude.{◌≡◌, ◌==◌, ℕ, Bool, true, false, ◌&&◌, nat_le, List, filter, Option, Some, None, option_map}
+use Rattle.std.specs.Prelude.{◌≡◌, ◌==◌, ℕ, true, List, filter, Option, Some, None, option_map}
 use Rattle.std.specs.List.{filter_map, list_any}
 use Rattle.std.specs.Ordering.{nat_cmp}
 use Rattle.std.specs.Map.{lookup, keys_of}
 use Rattle.std.specs.BTreeMap.{is_at}
 use Rattle.std.specs.List.Sorted.{IsStrictlySortedBy}
-use Rattle.wi_values.specs.Address.{Area, is_within}
 use Rattle.wi_parser.specs.Sheet.{Sheet, has_formula}
 use Rattle.wi_parser.specs.declared.content.Content.{Content}
 
@@ -44,8 +43,3 @@ VacantOnlyAt cells rooms = (c : ℕ) → room_of rooms c ≡ Some None → list_
 -- the cell has a room, or gets no content
 abbrev pub HasRoomFor : Rooms → ℕ × Option Content → Type 0
 HasRoomFor rooms change = room_of rooms change.0 ≡ None → change.1 ≡ None
-
--- the cell lies in the rectangle, at this cell or after it; none does where there is no such cell
-abbrev pub is_ahead : Area → Option ℕ → ℕ → Bool
-is_ahead r None a = false
-is_ahead r (Some from) a = nat_le from a && is_within r a

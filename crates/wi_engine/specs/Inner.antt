@@ -1,0 +1,12 @@
+-- Words of the code's own contracts, and readers that laws tie to the definitions. Nothing here needs belief.
+pub mod Answers
+pub mod Findings
+pub mod Frames
+pub mod Memory
+pub mod Rank
+pub mod ReadCells
+pub mod ReadOrder
+pub mod Remembered
+pub mod Seen
+pub mod Steps
+pub mod Walk

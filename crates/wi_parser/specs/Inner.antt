@@ -1,0 +1,11 @@
+-- Words of the code's own contracts, and readers that laws tie to the definitions. Nothing here needs belief.
+pub mod Faults
+pub mod FormulaText
+pub mod Inside
+pub mod Nests
+pub mod Outcome
+pub mod PrintedParts
+pub mod Reader
+pub mod Reading
+pub mod TreeCode
+pub mod WordSymbols
