@@ -1,24 +1,24 @@
-//! Tests of stores, worlds, kept values, the range index, CSV, the calculator, workbooks and the command line by their public
-//! calls. They stand apart since a crate with tests is proved twice.
+//! Tests of what no stored run shows: calls of stores, worlds, kept values, the range index, the calculator, workbooks and
+//! devices. They stand apart since a crate with tests is proved twice.
 #![tactic(auto)]
 
 #[cfg(test)]
 mod calculator;
 #[cfg(test)]
-mod csv_records;
+mod devices;
 #[cfg(test)]
-mod formula_command;
+mod faults;
 #[cfg(test)]
 mod kept_values;
 #[cfg(test)]
 mod range_index;
 #[cfg(test)]
-mod scripts;
+mod refused_growths;
 #[cfg(test)]
 mod stores;
 #[cfg(test)]
-mod workbook;
+mod texts;
 #[cfg(test)]
-mod workbook_formulas;
+mod workbook;
 #[cfg(test)]
 mod worlds;

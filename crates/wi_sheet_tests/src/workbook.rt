@@ -1,73 +1,64 @@
-//! Commands on new workbooks, worked by hand.
+//! Workbooks, call by call.
 
 use std::alloc::Global;
+use std::process::Abort;
 use std::test::Fail;
 use wi_propagate::{Calculator, PlainCalculator};
 use wi_scenarios::{Refusal, Workbook};
 use wi_store::Limits;
 use wi_values::{Address, Rect};
 
-// A new workbook within limits.
-fn workbook(alloc: Global, limits: Limits) -> Result<Workbook<PlainCalculator>, Fail> {
-    Ok(Workbook::new(alloc, PlainCalculator::new(alloc, limits))?)
+fn workbook(alloc: Global) -> Result<Workbook<PlainCalculator>, Fail> {
+    Ok(Workbook::new(alloc, PlainCalculator::new(alloc, Limits::standard()))?)
 }
 
-// What is answered where a content is put into a cell.
-fn set(
-    book: &mut Workbook<PlainCalculator>,
-    at: &str,
-    content: &str,
-) -> Result<Result<(), Refusal>, Fail> {
-    Ok(book.set(Address::read(at.as_bytes())?, content))
-}
-
-#[test]
-fn shows_what_was_set(rt: HostRuntime) -> Result<(), Fail> {
-    let alloc = rt.alloc();
-    let mut book = workbook(alloc, Limits::standard())?;
-    assert_eq!(rt; set(&mut book, "A1", "10")?, Ok(()));
-    assert_eq!(rt; set(&mut book, "B1", "=[.A1]/4")?, Ok(()));
-    assert_eq!(rt; set(&mut book, "C1", "=[.B1]*[.A1]-1/3")?, Ok(()));
-    assert_eq!(rt; set(&mut book, "B2", "'say \"hi\"")?, Ok(()));
-    let mut out = Vec::from_slice(alloc, b"before ")?;
-    assert_eq!(rt; book.show(Rect::read(b"C2:A1")?, &mut out), Ok(()));
-    let written = "before \"10\",\"2.5\",\"74/3\"\r\n\"\",\"say \"\"hi\"\"\",\"\"\r\n";
-    assert_eq!(rt; str::from_utf8(&out)?, written);
-    assert!(rt; book.calculator().content(Address::read(b"B2")?).is_some());
+// What is answered where contents are put into A1, one after another.
+fn expect_answers(
+    rt: &impl Abort,
+    alloc: Global,
+    rows: &[(&str, Result<(), Refusal>)],
+) -> Result<(), Fail> {
+    let mut book = workbook(alloc)?;
+    for (content, answer) in rows {
+        assert_eq!(rt; book.set(Address::at(0, 0), content), *answer, "{content}");
+        let stands = book.calculator().content(Address::at(0, 0)).is_some();
+        assert_eq!(rt; stands, answer.is_ok(), "{content}");
+    }
     Ok(())
 }
 
 #[test]
-fn refuses_contents(rt: HostRuntime) -> Result<(), Fail> {
-    let mut book = workbook(rt.alloc(), Limits::standard())?;
-    assert_eq!(rt; set(&mut book, "A1", "=[.XFE1]")?, Err(Refusal::OutOfSheet));
-    assert_eq!(rt; set(&mut book, "A1", "=1+")?, Err(Refusal::Syntax));
-    assert_eq!(rt; set(&mut book, "A1", "")?, Err(Refusal::BadCommand));
-    assert_eq!(rt; Refusal::Syntax.code(), 5);
-    assert!(rt; book.calculator().content(Address::read(b"A1")?).is_none());
+fn takes_and_refuses_contents(rt: HostRuntime) -> Result<(), Fail> {
+    expect_answers(
+        &rt,
+        rt.alloc(),
+        &[
+            ("=[.XFE1]", Err(Refusal::OutOfSheet)),
+            ("=1+", Err(Refusal::Syntax)),
+            ("", Err(Refusal::BadCommand)),
+            ("10", Ok(())),
+        ],
+    )
+}
+
+#[test]
+fn records_go_behind_what_stands(rt: HostRuntime) -> Result<(), Fail> {
+    let mut book = workbook(rt.alloc())?;
+    let mut out = Vec::from_slice(rt.alloc(), b"before ")?;
+    book.set(Address::at(0, 0), "10")?;
+    book.show(Rect::read(b"A1")?, &mut out)?;
+    book.formula_text(Address::at(0, 0), &mut out)?;
+    assert_eq!(rt; str::from_utf8(&out)?, "before \"10\"\r\n\"A1\",\"10\"\r\n");
     Ok(())
 }
 
-// Two cells and three edits: a third cell, and a fourth edit, are refused.
+// 256 columns of 257 rows are too many cells.
 #[test]
-fn refuses_past_the_limits(rt: HostRuntime) -> Result<(), Fail> {
-    let mut book = workbook(rt.alloc(), Limits { cells: 2, edits: 3 })?;
-    assert_eq!(rt; set(&mut book, "A1", "1")?, Ok(()));
-    assert_eq!(rt; set(&mut book, "B1", "1")?, Ok(()));
-    assert_eq!(rt; set(&mut book, "C1", "1")?, Err(Refusal::Full));
-    assert_eq!(rt; set(&mut book, "B1", "2")?, Ok(()));
-    assert_eq!(rt; set(&mut book, "B1", "3")?, Err(Refusal::EditLimit));
-    Ok(())
-}
-
-// 256 columns of 257 rows are too many cells, and leave the bytes as they were.
-#[test]
-fn refuses_large_rectangles(rt: HostRuntime) -> Result<(), Fail> {
-    let alloc = rt.alloc();
-    let mut book = workbook(alloc, Limits::standard())?;
-    let mut out = Vec::new(alloc);
-    let area = Rect::read(b"A1:IV257")?;
-    assert_eq!(rt; book.show(area, &mut out), Err(Refusal::TooLarge));
-    assert!(rt; out.is_empty());
+fn a_refused_show_writes_nothing(rt: HostRuntime) -> Result<(), Fail> {
+    let mut book = workbook(rt.alloc())?;
+    let mut out = Vec::from_slice(rt.alloc(), b"before ")?;
+    let answer = book.show(Rect::read(b"A1:IV257")?, &mut out);
+    assert_eq!(rt; answer, Err(Refusal::TooLarge));
+    assert_eq!(rt; str::from_utf8(&out)?, "before ");
     Ok(())
 }

@@ -1,57 +1,116 @@
+//! Worlds.
+
 ghost use Rattle.std.specs.Prelude.{All, IsSome, IsTrue};
 ghost use Rattle.std.specs.BTreeMap.{get};
 ghost use Rattle.std.specs.Ordering.{nat_cmp};
 
+use crate::texts::{push_told, replacement};
 use std::alloc::{AllocError, Global};
 use std::collections::{BTreeMap, BTreeSet, HashMap};
+use std::process::Abort;
 use std::test::Fail;
-use wi_values::{Address, Replacement, Text, Value};
+use wi_values::{Address, Replacement};
 use wi_worlds::World;
 
-fn by(at: Address, value: Value) -> Replacement {
-    Replacement { at, value }
+type Texts<'a> = &'a [(&'a str, &'a str)];
+
+/// A world with these texts' values in the place of contents.
+fn with(alloc: Global, world: &World, texts: Texts<'_>) -> Result<World, Fail> {
+    let mut others: Vec<Replacement> = Vec::new(alloc);
+    for (at, text) in texts {
+        others.push(replacement(alloc, at, text)?)?;
+    }
+    Ok(world.with(&others)?)
 }
 
 /// A2 is TRUE and C3 is emptied.
-fn old(alloc: Global) -> Result<World, AllocError> {
-    World::new(alloc).with(&[
-        by(Address::at(2, 2), Value::Empty),
-        by(Address::at(1, 0), Value::Logical(true)),
-    ])
-}
+const OLD: [(&str, &str); 2] = [("C3", ""), ("A2", "TRUE")];
 
 /// C3 gets a text, A1 is TRUE, then emptied.
-fn newer(alloc: Global, world: &World) -> Result<World, AllocError> {
-    let text = Text::from_str(alloc, "three")?;
-    world.with(&[
-        by(Address::at(2, 2), Value::Text(text)),
-        by(Address::at(0, 0), Value::Logical(true)),
-        by(Address::at(0, 0), Value::Empty),
-    ])
+const NEWER: [(&str, &str); 3] = [("C3", "three"), ("A1", "TRUE"), ("A1", "")];
+
+fn old(alloc: Global) -> Result<World, Fail> {
+    with(alloc, &World::new(alloc), &OLD)
 }
 
-#[test]
-fn later_ones_count(rt: HostRuntime) -> Result<(), Fail> {
-    let text = Text::from_str(rt.alloc(), "three")?;
-    let expected = [
-        by(Address::at(0, 0), Value::Empty),
-        by(Address::at(1, 0), Value::Logical(true)),
-        by(Address::at(2, 2), Value::Text(text)),
-    ];
-    let world = newer(rt.alloc(), &old(rt.alloc())?)?;
-    assert_eq!(rt; world.replacements(), expected.as_slice());
-    assert!(rt; World::new(rt.alloc()).replacements().is_empty());
+/// The replacements of a world, in their order.
+fn told(alloc: Global, world: &World) -> Result<String, AllocError> {
+    let mut text = String::new(alloc);
+    for replacement in world.replacements() {
+        replacement.at.push_text(&mut text)?;
+        text.push('=')?;
+        push_told(&replacement.value, &mut text)?;
+        text.push(' ')?;
+    }
+    Ok(text)
+}
+
+fn expect(rt: &impl Abort, alloc: Global, rows: &[(&[Texts<'_>], &str)]) -> Result<(), Fail> {
+    for (texts, wanted) in rows {
+        let mut world = World::new(alloc);
+        for others in *texts {
+            world = with(alloc, &world, others)?;
+        }
+        assert_eq!(rt; told(alloc, &world)?.as_str(), *wanted);
+    }
     Ok(())
 }
 
 #[test]
-fn a_replacement_by_empty_is_one(rt: HostRuntime) -> Result<(), Fail> {
-    let expected = [
-        by(Address::at(1, 0), Value::Logical(true)),
-        by(Address::at(2, 2), Value::Empty),
-    ];
-    assert_eq!(rt; old(rt.alloc())?.replacements(), expected.as_slice());
+fn later_replacements_count(rt: HostRuntime) -> Result<(), Fail> {
+    expect(
+        &rt,
+        rt.alloc(),
+        &[
+            (&[], ""),
+            (&[&OLD], "A2=TRUE C3= "),
+            (&[&OLD, &NEWER], "A1= A2=TRUE C3='three "),
+        ],
+    )
+}
+
+/// What stands in the place of a cell's content, or a dash.
+fn replaced(alloc: Global, world: &World, at: &str) -> Result<String, Fail> {
+    let mut text = String::new(alloc);
+    match world.replacement(Address::read(at.as_bytes())?) {
+        Some(value) => push_told(value, &mut text)?,
+        None => text.push('-')?,
+    }
+    Ok(text)
+}
+
+fn expect_replaced(
+    rt: &impl Abort,
+    alloc: Global,
+    texts: Texts<'_>,
+    rows: &[(&str, &str)],
+) -> Result<(), Fail> {
+    let world = with(alloc, &World::new(alloc), texts)?;
+    for (at, wanted) in rows {
+        assert_eq!(rt; replaced(alloc, &world, at)?.as_str(), *wanted, "{at}");
+    }
     Ok(())
+}
+
+#[test]
+fn replacements_by_address(rt: HostRuntime) -> Result<(), Fail> {
+    expect_replaced(
+        &rt,
+        rt.alloc(),
+        &[("A2", "TRUE"), ("C3", "three"), ("A1", "")],
+        &[
+            ("A1", ""),
+            ("B1", "-"),
+            ("A2", "TRUE"),
+            ("C3", "'three"),
+            ("D3", "-"),
+        ],
+    )
+}
+
+#[test]
+fn a_new_world_replaces_nothing(rt: HostRuntime) -> Result<(), Fail> {
+    expect_replaced(&rt, rt.alloc(), &[], &[("A1", "-")])
 }
 
 /// A2 reaches itself and D4; C3 reaches itself, D4 and E5.
@@ -76,74 +135,43 @@ fn all_have_cones(world: &World, cones: &BTreeMap<Address, BTreeSet<Address>>) -
     true
 }
 
-/// The replaced addresses.
-fn text_of(alloc: Global, world: &World) -> Result<String, AllocError> {
-    let mut text = String::new(alloc);
-    for replacement in world.replacements() {
-        replacement.at.push_text(&mut text)?;
-        text.push(' ')?;
+fn expect_reaching(rt: &impl Abort, alloc: Global, rows: &[(&str, &str)]) -> Result<(), Fail> {
+    let world = old(alloc)?;
+    let cones = cones(alloc)?;
+    assert!(rt; all_have_cones(&world, &cones));
+    for (at, wanted) in rows {
+        let found = world.reaching(Address::read(at.as_bytes())?, &cones)?;
+        assert_eq!(rt; told(alloc, &found)?.as_str(), *wanted, "{at}");
     }
-    Ok(text)
+    Ok(())
 }
 
 #[test]
 fn cones_that_have_a_cell(rt: HostRuntime) -> Result<(), Fail> {
-    let world = old(rt.alloc())?;
-    let cones = cones(rt.alloc())?;
-    assert!(rt; all_have_cones(&world, &cones));
-    for (at, text) in [
-        (Address::at(0, 0), ""),
-        (Address::at(1, 0), "A2 "),
-        (Address::at(2, 2), "C3 "),
-        (Address::at(3, 3), "A2 C3 "),
-        (Address::at(4, 4), "C3 "),
-    ] {
-        let found = world.reaching(at, &cones)?;
-        assert_eq!(rt; text_of(rt.alloc(), &found)?.as_str(), text);
-    }
-    Ok(())
-}
-
-#[test]
-fn replacements_by_address(rt: HostRuntime) -> Result<(), Fail> {
-    let world = newer(rt.alloc(), &old(rt.alloc())?)?;
-    let text = Value::Text(Text::from_str(rt.alloc(), "three")?);
-    for (at, value) in [
-        (Address::at(0, 0), Some(&Value::Empty)),
-        (Address::at(0, 1), None),
-        (Address::at(1, 0), Some(&Value::Logical(true))),
-        (Address::at(2, 2), Some(&text)),
-        (Address::at(2, 3), None),
-    ] {
-        assert_eq!(rt; world.replacement(at), value);
-    }
-    assert_eq!(rt; World::new(rt.alloc()).replacement(Address::at(0, 0)), None);
-    Ok(())
+    expect_reaching(
+        &rt,
+        rt.alloc(),
+        &[
+            ("A1", ""),
+            ("A2", "A2=TRUE "),
+            ("C3", "C3= "),
+            ("D4", "A2=TRUE C3= "),
+            ("E5", "C3= "),
+        ],
+    )
 }
 
 #[test]
 fn equal_worlds_are_one_key(rt: HostRuntime) -> Result<(), Fail> {
     let old = old(rt.alloc())?;
-    let newer_once = newer(rt.alloc(), &old)?;
-    let newer_twice = newer(rt.alloc(), &newer_once)?;
+    let newer_once = with(rt.alloc(), &old, &NEWER)?;
+    let newer_twice = with(rt.alloc(), &newer_once, &NEWER)?;
     assert!(rt; newer_once == newer_twice && newer_once != old);
     let mut kept = HashMap::new(rt.alloc());
     kept.insert(newer_once, 1)?;
     kept.insert(newer_twice, 2)?;
     assert_eq!(rt; kept.len(), 1);
-    assert_eq!(rt; kept.get(&newer(rt.alloc(), &old)?), Some(&2));
+    assert_eq!(rt; kept.get(&with(rt.alloc(), &old, &NEWER)?), Some(&2));
     assert_eq!(rt; kept.get(&old), None);
     Ok(())
-}
-
-#[test]
-fn a_refused_growth_leaves_the_world(rt: HostRuntime) {
-    let (Ok(world), Ok(as_before)) = (old(rt.alloc()), old(rt.alloc())) else {
-        return;
-    };
-    match newer(rt.alloc(), &world) {
-        Ok(newer) => assert_eq!(rt; newer.replacements().len(), 3),
-        Err(AllocError) => {}
-    }
-    assert_eq!(rt; world, as_before);
 }
