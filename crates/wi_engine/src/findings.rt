@@ -12,7 +12,7 @@ use wi_parser::Pair;
 use wi_values::{Address, Value};
 
 /// A what-if's value.
-#[derive(Debug, Drop)]
+#[derive(Drop)]
 pub struct FoundWhatIf {
     pub at: Address,
     pub pairs: Vec<Pair>,
@@ -20,7 +20,7 @@ pub struct FoundWhatIf {
 }
 
 /// The values that were found for one formula: of cells, and of what-ifs, which are few.
-#[derive(Debug, Drop)]
+#[derive(Drop)]
 pub struct Findings {
     pub cells: BTreeMap<Address, Value>,
     pub what_ifs: Vec<FoundWhatIf>,

@@ -11,7 +11,7 @@ use wi_values::{Address, Value};
 use wi_worlds::World;
 
 /// What a frame waits for.
-#[derive(Debug, Drop)]
+#[derive(Drop)]
 pub enum Waiting {
     Nothing,
     /// The value of a cell, and then those of others that are to be found together with it.
@@ -21,7 +21,7 @@ pub enum Waiting {
 }
 
 /// A cell under the replacements that reach it, whose formula is being valued, with the values that were found for it.
-#[derive(Debug, Drop)]
+#[derive(Drop)]
 pub struct Frame {
     pub key: Key,
     pub found: Findings,
@@ -52,7 +52,7 @@ impl Frame {
 }
 
 /// What a cell shows under replacements, as far as it is there.
-#[derive(Debug, Drop)]
+#[derive(Drop)]
 pub enum Asked {
     Known(Value),
     /// The key under which a formula has to be valued.
@@ -60,7 +60,7 @@ pub enum Asked {
 }
 
 /// Replacements with those of a what-if put in, as far as its inputs' values are there.
-#[derive(Debug, Drop)]
+#[derive(Drop)]
 pub enum Inputs {
     Known(World),
     /// The key under which a formula has to be valued first.
@@ -68,7 +68,7 @@ pub enum Inputs {
 }
 
 /// How far a frame has come.
-#[derive(Debug, Drop)]
+#[derive(Drop)]
 pub enum Step {
     Done(Value),
     /// The key under which a formula has to be valued first.

@@ -10,7 +10,7 @@ use wi_values::{Address, Value};
 use wi_worlds::World;
 
 /// What stands in a cell.
-#[derive(Clone, Copy, Debug)]
+#[derive(Clone, Copy)]
 pub enum Seen<'a> {
     Nothing,
     Constant(&'a Value),

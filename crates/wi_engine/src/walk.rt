@@ -21,7 +21,7 @@ use wi_store::Store;
 use wi_values::Address;
 
 /// A cell that the walk is below, and how far it has come in what the cell's formula reads.
-#[derive(Clone, Copy, Debug)]
+#[derive(Clone, Copy)]
 struct Visit {
     cell: Address,
     // The rectangle of the formula that it has come to.
@@ -31,7 +31,7 @@ struct Visit {
 }
 
 /// How far a cell has come.
-#[derive(Clone, Copy, Debug)]
+#[derive(Clone, Copy)]
 enum Mark {
     /// It is on the path.
     Open,

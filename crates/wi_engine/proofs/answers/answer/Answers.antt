@@ -1,4 +1,4 @@
-use Rattle.std.proofs.Common.{ap, sym}
+use Rattle.std.proofs.Common.{ap, sym, rules}
 use Rattle.std.proofs.lemmas.Result.{IfOk-weaker}
 use Rattle.wi_engine.proofs.answers.Answering.{done_with}
 use Rattle.wi_engine.proofs.answers.answer.Goals as goal
@@ -11,3 +11,6 @@ returns-clause-done c =
     (λ o h. done_with c.args.store.now.sheet known.store.now.sheet c.args.world.now known.world.now c.args.found.now known.found.now c.args.at c.in-Formula.formula.now o
     (ap (λ k. k.sheet) stands.store) stands.world stands.found c.requires.open (sym c.in-Formula.ensures) c.requires.right h)
     c.evaluate.ensures.done
+
+pub returns-clause-counted : goal.returns-clause-counted
+returns-clause-counted c = search rules

@@ -1,0 +1,8 @@
+use Rattle.std.proofs.Common.{rules}
+use Rattle.wi_engine.proofs.remembered.RememberedMemo.look.Goals as goal
+
+pub returns-clause-value : goal.returns-clause-value
+returns-clause-value c = search rules
+
+pub returns-clause-missing : goal.returns-clause-missing
+returns-clause-missing c = search rules

@@ -1,0 +1,17 @@
+use Rattle.std.proofs.Common.{rules}
+use Rattle.wi_propagate.proofs.plain.PlainCalculatorCalculator.what_if_value.Goals as goal
+
+pub returns-clause-value : goal.returns-clause-value
+returns-clause-value c = search rules
+
+pub returns-clause-evaluations : goal.returns-clause-evaluations
+returns-clause-evaluations c = search rules
+
+pub returns-clause-restarts : goal.returns-clause-restarts
+returns-clause-restarts c = search rules
+
+pub returns-clause-evaluations_never_fall : goal.returns-clause-evaluations_never_fall
+returns-clause-evaluations_never_fall c = search rules
+
+pub returns-clause-restarts_never_fall : goal.returns-clause-restarts_never_fall
+returns-clause-restarts_never_fall c = search rules
