@@ -17,9 +17,16 @@ use Rattle.wi_parser.specs.Printing.{mark_of}
 use Rattle.wi_parser.specs.Symbol.{Symbol, numeral, text_literal, reference, corners, open_parenthesis, close_parenthesis, separator, infix_mark, percent_mark, refused, what_if_name, name}
 use Rattle.std.specs.Str.{str_eq_ignore_ascii_case}
 use Rattle.wi_values.specs.AddressReading.{address_at}
-use Rattle.wi_lexer.specs.declared.token.Kind.TheVariants.{Number, Reference}
-use Rattle.wi_parser.specs.declared.expr.Reference as references
 use Rattle.wi_parser.specs.Capitals.{in_capitals}
+
+-- the reference to a cell as written, if the sheet has it
+abbrev pub reference_to : Cell → Option Reference
+reference_to c =
+    option_map (λ a. record { at = a; column_is_absolute = c.column_is_absolute; row_is_absolute = c.row_is_absolute }) (address_at c.letters c.digits)
+
+-- the name of what-ifs, in letters of either case, or another name
+abbrev pub name_symbol : List ℕ → Symbol
+name_symbol bs = if str_eq_ignore_ascii_case bs (codes "MULTIPLE.OPERATIONS") then what_if_name else name (in_capitals bs)
 
 -- The text is a token, and means this symbol. A number that does not fit and a cell outside the sheet are refused.
 pub data Means : List ℕ → Symbol → Type 0 where
@@ -57,12 +64,3 @@ pub data AreSymbols : List ℕ → List Symbol → Type 0 where
   a_token : (token rest : List ℕ) (s : Symbol) (ts : List Symbol) → Means token s → NoneLonger token (token ++ rest) → AreSymbols rest ts
       → AreSymbols (token ++ rest) (s ∷ ts)
   no_token : (b : ℕ) (text : List ℕ) → is_blank b ≡ false → NoneBegins (b ∷ text) → AreSymbols (b ∷ text) (refused Syntax ∷ [])
-
--- the reference to a cell as written, if the sheet has it
-abbrev pub reference_to : Cell → Option references.Reference
-reference_to c =
-    option_map (λ a. record { at = a; column_is_absolute = c.column_is_absolute; row_is_absolute = c.row_is_absolute }) (address_at c.letters c.digits)
-
--- the name of what-ifs, in letters of either case, or another name
-abbrev pub name_symbol : List ℕ → Symbol
-name_symbol bs = if str_eq_ignore_ascii_case bs (codes "MULTIPLE.OPERATIONS") then what_if_name else name (in_capitals bs)
