@@ -2,6 +2,9 @@
 use Rattle.std.proofs.Common.{◌≡◌, ◌==◌, ℕ, zero, suc, ◌+◌, Bool, true, false, ◌&&◌, ◌||◌, cond, List, [], ◌∷◌, filter, Option, Some, None, length, refl, ap, sym, ◌∙◌, arith}
 use Rattle.std.proofs.lemmas.Bool.Decides.{nat_tests}
 use Rattle.std.proofs.lemmas.Map.Views.{any-filter_same}
+use Rattle.std.proofs.Math.Bool.{and-true, and-false}
+use Rattle.std.proofs.lemmas.Bool.{eqb-true}
+use Rattle.std.proofs.lemmas.List.Elements.{filter_agree}
 use Rattle.std.specs.List.{list_any}
 use Rattle.std.specs.Ordering.{nat_cmp}
 use Rattle.std.specs.Map.{keys_of}
@@ -12,15 +15,7 @@ use Rattle.wi_parser.specs.Sheet.{Sheet, content_of, has_formula, cells_with_for
 use Rattle.wi_parser.specs.Reads.{content_reads}
 use Rattle.wi_graph.specs.Circular.{has_walk, circular}
 pub use Rattle.wi_graph.specs.Reach.{is_one_of}
-use Rattle.wi_graph.proofs.Tests.{is_at-eq, filter_same}
-
-and_true : (a : Bool) → (a && true) ≡ a
-and_true true = refl
-and_true false = refl
-
-and_false : (a : Bool) → (a && false) ≡ false
-and_false true = refl
-and_false false = refl
+use Rattle.wi_graph.proofs.Tests.{is_at-eq}
 
 -- to find an element with two properties is to find one with the first among those with the second
 pub list_any-both : (p q : ℕ → Bool) (xs : List ℕ) → list_any (λ x. p x && q x) xs ≡ list_any p (filter q xs)
@@ -28,8 +23,8 @@ list_any-both p q [] = refl
 list_any-both p q (x ∷ xs) = at (q x) (list_any-both p q xs)
   where
     at : (b : Bool) → list_any (λ x. p x && q x) xs ≡ list_any p (filter q xs) → ((p x && b) || list_any (λ x. p x && q x) xs) ≡ list_any p (cond b (x ∷ filter q xs) (filter q xs))
-    at true ih = ap (λ (c : Bool). c || list_any (λ x. p x && q x) xs) (and_true (p x)) ∙ ap (λ (c : Bool). p x || c) ih
-    at false ih = ap (λ (c : Bool). c || list_any (λ x. p x && q x) xs) (and_false (p x)) ∙ ih
+    at true ih = ap (λ (c : Bool). c || list_any (λ x. p x && q x) xs) (and-true (p x)) ∙ ap (λ (c : Bool). p x || c) ih
+    at false ih = ap (λ (c : Bool). c || list_any (λ x. p x && q x) xs) (and-false (p x)) ∙ ih
 
 -- the cells with a formula from which n steps lead
 abbrev pub layer : ℕ → Sheet → List ℕ
@@ -55,7 +50,7 @@ layer_zero s = filter_twice (λ c. has_formula (content_of s c)) (keys_of s)
 pub layer_more : (n : ℕ) (s : Sheet) → layer (n + 1) s ≡ filter (λ c. list_any (content_reads (content_of s c)) (layer n s)) (cells_with_formula s)
 layer_more n s =
     let e : n + 1 ≡ suc n = omega arith in
-    ap (λ (m : ℕ). layer m s) e ∙ filter_same (has_walk (suc n) s) (λ c. list_any (content_reads (content_of s c)) (layer n s)) (has_walk_more n s) (cells_with_formula s)
+    ap (λ (m : ℕ). layer m s) e ∙ filter_agree (has_walk (suc n) s) (λ c. list_any (content_reads (content_of s c)) (layer n s)) (has_walk_more n s) (cells_with_formula s)
 
 none_reads : (w : ℕ → Bool) (xs : List ℕ) → list_any (λ d. false && w d) xs ≡ false
 none_reads w [] = refl
@@ -82,12 +77,9 @@ is_key (e ∷ es) a h = at (is_at (nat_cmp a) e.0) (is_at-eq a e.0) h (is_key es
     at true t h ih = ap (λ (c : Bool). c || list_any (λ k. k == a) (keys_of es)) (turn e.0 a ∙ sym t)
     at false t h ih = ap (λ (c : Bool). c || list_any (λ k. k == a) (keys_of es)) (turn e.0 a ∙ sym t) ∙ ih h
 
-same_key : (a k : ℕ) → (k == a) ≡ true → k ≡ a
-same_key a k h = grind (arith, nat_tests)
-
 -- a cell is found among those that pass a test exactly where it is one and passes
 among : (p : ℕ → Bool) (xs : List ℕ) (a : ℕ) → list_any (λ x. x == a) (filter p xs) ≡ (p a && list_any (λ x. x == a) xs)
-among p xs a = any-filter_same (λ x. x == a) p (p a) (λ k h. ap p (same_key a k h)) xs
+among p xs a = any-filter_same (λ x. x == a) p (p a) (λ k h. ap p (eqb-true k a h)) xs
 
 implied : (b c : Bool) → (b ≡ true → c ≡ true) → (b && c) ≡ b
 implied true c h = h refl

@@ -1,7 +1,6 @@
 -- When two cases are one, and each case once.
-use Rattle.std.proofs.Common.{◌≡◌, ◌==◌, ◌||◌, inl, inr, ℕ, Bool, true, false, cond, List, [], ◌∷◌, Contains, refl, ap, sym, ◌∙◌, subst, arith, eq-eqb}
-use Rattle.std.proofs.lemmas.Bool.{and_parts, and_from}
-use Rattle.std.proofs.lemmas.Bool.Decides.{nat_tests}
+use Rattle.std.proofs.Common.{◌≡◌, ◌==◌, ◌||◌, inl, inr, ℕ, Bool, true, false, cond, List, [], ◌∷◌, Contains, refl, ap, sym, ◌∙◌, subst, eq-eqb}
+use Rattle.std.proofs.lemmas.Bool.{and_parts, and_from, eqb-true}
 use Rattle.std.specs.Prelude.{Decides}
 use Rattle.std.specs.List.{list_any}
 use Rattle.wi_values.specs.declared.replacement.Replacement.{Replacement}
@@ -14,9 +13,6 @@ use Rattle.wi_sheet.specs.Inner.Spending.{IsClosed}
 use Rattle.wi_sheet.proofs.Members.{IsIn, in_contained, contains_in}
 use Rattle.wi_sheet.proofs.Demands.{demand_closed, demand_has_itself}
 
-same_number : (x y : ℕ) → (x == y) ≡ true → x ≡ y
-same_number x y h = grind (arith, nat_tests)
-
 case_path : (a b : ℕ) (v w : List Replacement) → a ≡ b → v ≡ w → ◌≡◌ {A = Case} (a, v) (b, w)
 case_path a b v w e f = ap (λ (n : ℕ). (n, v)) e ∙ ap (λ (x : List Replacement). (b, x)) f
 
@@ -24,7 +20,7 @@ case_path a b v w e f = ap (λ (n : ℕ). (n, v)) e ∙ ap (λ (x : List Replace
 pub one_case : (k j : Case) → same_case k j ≡ true → k ≡ j
 one_case k j h =
     let x = and_parts (k.0 == j.0) (same_replacements k.1 j.1) h in
-    case_path k.0 j.0 k.1 j.1 (same_number k.0 j.0 x.0) ((same_replacements_Decides k.1 j.1).0 x.1)
+    case_path k.0 j.0 k.1 j.1 (eqb-true k.0 j.0 x.0) ((same_replacements_Decides k.1 j.1).0 x.1)
 
 -- a case passes it with itself
 pub same_case-refl : (k : Case) → same_case k k ≡ true

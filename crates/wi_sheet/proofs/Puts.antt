@@ -1,6 +1,8 @@
 -- What replacements do to a sheet.
 use Rattle.std.proofs.Common.{◌≡◌, ◌==◌, ℕ, Bool, true, false, not, cond, List, [], ◌∷◌, ◌++◌, filter, Option, Some, None, refl, ap, sym, ◌∙◌, arith}
 use Rattle.std.proofs.lemmas.Bool.Decides.{nat_tests}
+use Rattle.std.proofs.lemmas.Bool.{eqb-true}
+use Rattle.std.proofs.lemmas.List.Elements.{filter_agree}
 use Rattle.std.specs.Ordering.{nat_cmp, match_ordering}
 use Rattle.std.specs.declared.cmp.Ordering.{Ordering}
 use Rattle.std.specs.declared.cmp.Ordering.TheVariants.{Less, Equal, Greater}
@@ -11,7 +13,7 @@ use Rattle.wi_values.specs.declared.value.Value.TheVariants.{Empty, Number, Text
 use Rattle.wi_values.specs.declared.replacement.Replacement.{Replacement}
 use Rattle.wi_parser.specs.declared.content.Content.{Content}
 use Rattle.wi_parser.specs.Sheet.{Sheet, constant, content_of, without, with_content, put, put_all, has_formula, cells_with_formula}
-use Rattle.wi_graph.proofs.Tests.{is_at-eq, filter_same}
+use Rattle.wi_graph.proofs.Tests.{is_at-eq}
 
 -- a content under replacements, of which the last for a cell stands
 abbrev pub overlaid : List Replacement → ℕ → Option Content → Option Content
@@ -58,14 +60,11 @@ gone false true y z r h e = cc
 apart_keys : (q c k : ℕ) → (k == c) ≡ false → (q == c) ≡ true → is_at (nat_cmp q) k ≡ true → ⊥
 apart_keys q c k h a b = grind (arith, nat_tests)
 
-same_key : (c k : ℕ) → (k == c) ≡ true → k ≡ c
-same_key c k h = grind (arith, nat_tests)
-
 -- a cell taken away, at one entry
 remove_at : (q c : ℕ) (e : ℕ × Content) (es : Sheet) (b : Bool) → (e.0 == c) ≡ b →
     content_of (without es c) q ≡ cond (q == c) None (content_of es q) →
     content_of (cond (not b) (e ∷ without es c) (without es c)) q ≡ cond (q == c) None (content_of (e ∷ es) q)
-remove_at q c e es true h ih = gone (q == c) (is_at (nat_cmp q) e.0) (Some e.1) (content_of es q) _ (is_at-eq q e.0 ∙ ap (λ (k : ℕ). q == k) (same_key c e.0 h)) ih
+remove_at q c e es true h ih = gone (q == c) (is_at (nat_cmp q) e.0) (Some e.1) (content_of es q) _ (is_at-eq q e.0 ∙ ap (λ (k : ℕ). q == k) (eqb-true e.0 c h)) ih
 remove_at q c e es false h ih = swap (q == c) (is_at (nat_cmp q) e.0) None (Some e.1) (content_of es q) _ (apart_keys q c e.0 h) ih
 
 content_of-remove : (s : Sheet) (c q : ℕ) → content_of (without s c) q ≡ cond (q == c) None (content_of s q)
@@ -138,7 +137,7 @@ filter-remove P (e ∷ es) c h = at_entry (e.0 == c) refl (filter-remove P es c 
   where
     at_entry : (b : Bool) → (e.0 == c) ≡ b → filter P (keys_of (without es c)) ≡ filter P (keys_of es) →
         filter P (keys_of (cond (not b) (e ∷ without es c) (without es c))) ≡ filter P (keys_of (e ∷ es))
-    at_entry true k ih = ih ∙ sym (ap (λ (b : Bool). cond b (e.0 ∷ filter P (keys_of es)) (filter P (keys_of es))) (ap P (same_key c e.0 k) ∙ h))
+    at_entry true k ih = ih ∙ sym (ap (λ (b : Bool). cond b (e.0 ∷ filter P (keys_of es)) (filter P (keys_of es))) (ap P (eqb-true e.0 c k) ∙ h))
     at_entry false k ih = ap (λ (ks : List ℕ). cond (P e.0) (e.0 ∷ ks) ks) ih
 
 filter-with : (P : ℕ → Bool) (s : Sheet) (c : ℕ) (o : Option Content) → P c ≡ false → filter P (keys_of (with_content s c o)) ≡ filter P (keys_of s)
@@ -155,4 +154,4 @@ formula_cells_put_all s p =
     let P : ℕ → Bool = λ c. has_formula (content_of (put_all s p) c) in
     let Q : ℕ → Bool = λ c. has_formula (overlaid p c (content_of s c)) in
     let same : (c : ℕ) → P c ≡ Q c = λ c. ap has_formula (content_of-put_all s p c) in
-    filter_same P Q same (keys_of (put_all s p)) ∙ filter-put_all Q p s (fails_at_replaced p (content_of s)) ∙ sym (filter_same P Q same (keys_of s))
+    filter_agree P Q same (keys_of (put_all s p)) ∙ filter-put_all Q p s (fails_at_replaced p (content_of s)) ∙ sym (filter_agree P Q same (keys_of s))

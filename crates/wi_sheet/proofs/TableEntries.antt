@@ -1,5 +1,6 @@
 -- What an entry of a data table demands.
 use Rattle.std.proofs.Common.{◌≡◌, inl, inr, ℕ, zero, suc, arith, All, Bool, true, false, ◌||◌, cond, List, [], ◌∷◌, ◌++◌, map, Contains, refl, ap, sym, ◌∙◌}
+use Rattle.std.proofs.lemmas.Bool.{or_parts}
 use Rattle.std.specs.List.{list_any, flat_map}
 use Rattle.wi_values.specs.declared.value.Value.TheVariants.{Fault}
 use Rattle.wi_values.specs.declared.value.ErrorKind.TheVariants.{Circular}
@@ -67,10 +68,6 @@ test_of_cells s f pairs cells e = ap (λ (b : Bool). circular s f || b) (of_pair
     of_pairs : (xs : List (ℕ × ℕ)) → list_any (λ x. circular s x.1) xs ≡ list_any (circular s) (map (λ x. x.1) xs)
     of_pairs [] = refl
     of_pairs (x ∷ xs) = ap (λ (b : Bool). circular s x.1 || b) (of_pairs xs)
-
-or_parts : (b d : Bool) → (b || d) ≡ false → (b ≡ false) × (d ≡ false)
-or_parts true d h = cc
-or_parts false d h = (refl, h)
 
 -- where no element passes a test, each fails it
 each_fails : {X : Type 0} (p : X → Bool) (xs : List X) → list_any p xs ≡ false → All (λ x. p x ≡ false) xs

@@ -7,11 +7,12 @@ use Rattle.wi_values.specs.Address.{Area, is_within}
 use Rattle.wi_parser.specs.declared.expr.Reference.{Reference}
 use Rattle.wi_parser.specs.Tree.{Tree, Trees, number, text, cell, rectangle, parenthesized, signed, percent, binary, what_if, call, no_trees, more_trees}
 use Rattle.wi_parser.specs.Sheet.{Sheet, content_of, has_formula, cells_with_formula}
-use Rattle.wi_parser.specs.Reads.{cell_area, reads, any_reads, rectangles_of, all_rectangles_of}
+use Rattle.wi_parser.specs.Reads.{cell_area, rectangles_of, all_rectangles_of}
 use Rattle.wi_parser.proofs.Rectangles.{one_cell, reads_within}
 use Rattle.wi_graph.specs.Reach.{is_one_of}
 use Rattle.wi_graph.proofs.Layers.{list_any-both}
 use Rattle.wi_graph.proofs.Walks.{same_cell, found, finds, formula_cell}
+use Rattle.wi_sheet.proofs.Demands.{here_reads}
 use Rattle.wi_sheet.specs.Demand.{reads_here, any_reads_here}
 use Rattle.wi_sheet.proofs.Members.{IsIn, in_contained}
 use Rattle.wi_engine.specs.Inner.Answers.{IsSmallestWith, AreOfRectangle}
@@ -67,32 +68,11 @@ mutual
       (all_more_pass (reads_here t) (any_reads_here (more_trees t ts)) (λ d m. or_left (reads_here t d) (any_reads_here ts d) m) (rectangles_of t) (wholes t))
       (all_more_pass (any_reads_here ts) (any_reads_here (more_trees t ts)) (λ d m. or_right (reads_here t d) (any_reads_here ts d) m) (all_rectangles_of ts) (all_wholes ts))
 
--- ---- what is read here is read
-
-either : (b c d e : Bool) → (b ≡ true → d ≡ true) → (c ≡ true → e ≡ true) → (b || c) ≡ true → (d || e) ≡ true
-either true c d e k l h = or_left d e (k refl)
-either false c d e k l h = or_right d e (l h)
-
-mutual
-  pub here_is_read : (t : Tree) (a : ℕ) → reads_here t a ≡ true → reads t a ≡ true
-  here_is_read (number x) a h = h
-  here_is_read (text s) a h = h
-  here_is_read (cell r) a h = h
-  here_is_read (rectangle c) a h = h
-  here_is_read (parenthesized t) a h = here_is_read t a h
-  here_is_read (signed s t) a h = here_is_read t a h
-  here_is_read (percent t) a h = here_is_read t a h
-  here_is_read (binary op t u) a h = either (reads_here t a) (reads_here u a) (reads t a) (reads u a) (here_is_read t a) (here_is_read u a) h
-  here_is_read (what_if f ps) a h = or_right (f.at == a) _ h
-  here_is_read (call f ts) a h = any_here_is_read ts a h
-
-  any_here_is_read : (ts : Trees) (a : ℕ) → any_reads_here ts a ≡ true → any_reads ts a ≡ true
-  any_here_is_read no_trees a h = h
-  any_here_is_read (more_trees t ts) a h = either (reads_here t a) (any_reads_here ts a) (reads t a) (any_reads ts a) (here_is_read t a) (any_here_is_read ts a) h
+-- ---- what is read here is in a rectangle
 
 -- a cell that is read here is in one of the rectangles
 pub in_one_of : (t : Tree) (rs : List Area) (a : ℕ) → rs ≡ rectangles_of t → reads_here t a ≡ true → list_any (λ (r : Area). is_within r a) rs ≡ true
-in_one_of t rs a e h = ap (λ (xs : List Area). list_any (λ (r : Area). is_within r a) xs) e ∙ sym (reads_within t a) ∙ here_is_read t a h
+in_one_of t rs a e h = ap (λ (xs : List Area). list_any (λ (r : Area). is_within r a) xs) e ∙ sym (reads_within t a) ∙ here_reads t a h
 
 -- a rectangle that holds the cell is of one cell, or each of its cells is read here
 smallest_whole : (t : Tree) (rs : List Area) (a : ℕ) (r : Area) → rs ≡ rectangles_of t → IsSmallestWith rs a r → IsWhole (reads_here t) r

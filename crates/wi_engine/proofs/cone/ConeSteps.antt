@@ -6,6 +6,7 @@ use Rattle.std.proofs.lemmas.Bool.Decides.{nat_tests}
 use Rattle.std.proofs.lemmas.List.{take-append-drop}
 use Rattle.std.proofs.lemmas.List.Elements.{All-head, All-tail, All-push}
 use Rattle.std.proofs.lemmas.List.Folds.{list_any-append}
+use Rattle.std.proofs.Math.Bool.{or-false}
 use Rattle.std.specs.List.{list_any}
 use Rattle.std.specs.Ordering.{nat_cmp}
 use Rattle.std.specs.BTreeMap.{BTreeMap, get, is_at}
@@ -22,6 +23,7 @@ use Rattle.wi_graph.specs.Reach.{is_one_of, reaches}
 use Rattle.wi_graph.proofs.Walks.{same_cell, same_tests, found}
 use Rattle.wi_graph.proofs.ReachTest.{finds_in}
 use Rattle.wi_graph.proofs.ReachSteps.{reaches_here, reaches_read, reaches_step, reaches_by_step}
+use Rattle.wi_graph.proofs.Tests.{is_at-eq}
 use Rattle.wi_sheet.specs.Demand.{reaching}
 use Rattle.wi_engine.specs.Inner.ReadCells.{rectangles_in, occupied_within}
 use Rattle.wi_engine.specs.Inner.ReadOrder.{IsReadOrder}
@@ -69,25 +71,18 @@ step_reaches s order i x a among o l e h = same_tests (steps_in s among x a) (re
 same_key : (q k : ℕ) → is_at (nat_cmp q) k ≡ true → q ≡ k
 same_key q k h = grind (arith, nat_tests)
 
-at_key : (q k : ℕ) → is_at (nat_cmp q) k ≡ (q == k)
-at_key q k = grind (arith, nat_tests)
-
-or_false : (b : Bool) → (b || false) ≡ b
-or_false true = refl
-or_false false = refl
-
 one_more : (order : List ℕ) (i x q : ℕ) → i < length order → x ≡ get_or order i x → is_one_of (take (i + 1) order) q ≡ (is_one_of (take i order) q || (x == q))
 one_more order i x q l e =
     ap (λ (n : ℕ). is_one_of (take n order) q) (add-one i)
     ∙ ap (λ (xs : List ℕ). is_one_of xs q) (take-suc order i x l)
     ∙ list_any-append (λ (y : ℕ). y == q) (take i order) (get_or order i x ∷ [])
     ∙ ap (λ (y : ℕ). is_one_of (take i order) q || ((y == q) || false)) (sym e)
-    ∙ ap (λ (b : Bool). is_one_of (take i order) q || b) (or_false (x == q))
+    ∙ ap (λ (b : Bool). is_one_of (take i order) q || b) (or-false (x == q))
 
 -- the cells passed that reach a cell, and one cell more
 pub cone_more : (s : Sheet) (order : List ℕ) (i x a : ℕ) (old new : ℕ → Bool) → i < length order → x ≡ get_or order i x → ((c : ℕ) → old c ≡ (is_one_of (take i order) c && reaches s c a)) →
     reaches s x a ≡ true → ((q : ℕ) → new q ≡ cond (is_at (nat_cmp x) q) true (old q)) → (c : ℕ) → new c ≡ (is_one_of (take (i + 1) order) c && reaches s c a)
-cone_more s order i x a old new l e h r u c = u c ∙ by (is_at (nat_cmp x) c) (x == c) (old c) (is_one_of (take i order) c) (is_one_of (take (i + 1) order) c) (at_key x c) (h c) (one_more order i x c l e) (λ k. ap (λ (y : ℕ). reaches s y a) (sym (same_cell c x k)) ∙ r)
+cone_more s order i x a old new l e h r u c = u c ∙ by (is_at (nat_cmp x) c) (x == c) (old c) (is_one_of (take i order) c) (is_one_of (take (i + 1) order) c) (is_at-eq x c) (h c) (one_more order i x c l e) (λ k. ap (λ (y : ℕ). reaches s y a) (sym (same_cell c x k)) ∙ r)
   where
     by : (t b o f g : Bool) → t ≡ b → o ≡ (f && reaches s c a) → g ≡ (f || b) → (b ≡ true → reaches s c a ≡ true) → cond t true o ≡ (g && reaches s c a)
     by t true o true g d m n k = rw (d, n) (sym (k refl))

@@ -1,5 +1,6 @@
 -- What is counted stays within what was left to find.
 use Rattle.std.proofs.Common.{◌≡◌, ◌<◌, ◌≤◌, ◌+◌, ◌||◌, ℕ, Bool, true, false, List, [], ◌∷◌, ◌++◌, length, Contains, Option, Some, None, refl, ap, sym, ◌∙◌, arith}
+use Rattle.std.proofs.lemmas.Bool.{or_from}
 use Rattle.wi_values.specs.declared.replacement.Replacement.{Replacement}
 use Rattle.wi_values.specs.Replacements.{same_replacements}
 use Rattle.wi_parser.specs.declared.content.Content.{Content}
@@ -16,7 +17,7 @@ use Rattle.wi_engine.specs.Inner.Frames.{case_at, IsStack, taken, all_spare, at_
 use Rattle.wi_engine.specs.declared.frame.Frame.{Frame}
 use Rattle.wi_engine.specs.declared.frame.Waiting.TheVariants.{Nothing}
 use Rattle.wi_engine.proofs.answers.Lacks.{lacking_at_most}
-use Rattle.wi_engine.proofs.engine.Stacks.{other_case, or_false}
+use Rattle.wi_engine.proofs.engine.Stacks.{other_case}
 
 -- ---- what is taken
 
@@ -53,13 +54,13 @@ stack_apart : (s : Sheet) (m : Memory) (root : Case) (fs : List Frame) (r : ℕ)
 stack_apart s m root [] r k st l u = u
 stack_apart s m root (f ∷ fs) r k st l u =
     let apart : f.key.cell ≡ k.cell → ⊥ = λ (h : f.key.cell ≡ k.cell). (let y = ap (rank s) h in absurd (omega (arith, y, l, st.1))) in
-    or_false (taken m.found fs k.cell k.world) _ (stack_apart s m root fs r k st.3 l u) (other_case f.key.cell k.cell (same_replacements f.key.world k.world) apart)
+    or_from (taken m.found fs k.cell k.world) _ (stack_apart s m root fs r k st.3 l u) (other_case f.key.cell k.cell (same_replacements f.key.world k.world) apart)
 
 pub not_taken : (s : Sheet) (m : Memory) (root : Case) (f : Frame) (fs : List Frame) (k : Key) → IsStack s m root fs (rank s f.key.cell) → rank s k.cell < rank s f.key.cell → m.found k.cell k.world ≡ false →
     taken m.found (f ∷ fs) k.cell k.world ≡ false
 not_taken s m root f fs k st l u =
     let apart : f.key.cell ≡ k.cell → ⊥ = λ (h : f.key.cell ≡ k.cell). (let y = ap (rank s) h in absurd (omega (arith, y, l))) in
-    or_false (taken m.found fs k.cell k.world) _ (stack_apart s m root fs (rank s f.key.cell) k st l u) (other_case f.key.cell k.cell (same_replacements f.key.world k.world) apart)
+    or_from (taken m.found fs k.cell k.world) _ (stack_apart s m root fs (rank s f.key.cell) k st l u) (other_case f.key.cell k.cell (same_replacements f.key.world k.world) apart)
 
 -- ---- what is counted
 

@@ -1,6 +1,7 @@
 -- The stack of frames, a push and a pop.
-use Rattle.std.proofs.Common.{◌≡◌, ◌==◌, ◌<◌, ◌⊎◌, inl, inr, ◌||◌, ◌&&◌, ℕ, Bool, true, false, List, [], ◌∷◌, ◌++◌, Contains, Option, Some, None, IfSome, refl, ap, sym, ◌∙◌, subst, arith}
+use Rattle.std.proofs.Common.{◌≡◌, ◌==◌, ◌<◌, ◌⊎◌, inl, inr, ◌||◌, ◌&&◌, ℕ, Bool, true, false, List, [], ◌∷◌, ◌++◌, Contains, Option, Some, None, IfSome, ap, sym, ◌∙◌, subst, arith}
 use Rattle.std.proofs.lemmas.Bool.Decides.{nat_tests}
+use Rattle.std.proofs.lemmas.Bool.{or_from}
 use Rattle.wi_values.specs.declared.value.Value.{Value}
 use Rattle.wi_values.specs.declared.replacement.Replacement.{Replacement}
 use Rattle.wi_values.specs.Replacements.{same_replacements}
@@ -56,9 +57,6 @@ pub other_case : (a b : ℕ) (t : Bool) → (a ≡ b → ⊥) → ((a == b) && t
 other_case a b true h = grind (arith, nat_tests)
 other_case a b false h = grind (arith, nat_tests)
 
-pub or_false : (a b : Bool) → a ≡ false → b ≡ false → (a || b) ≡ false
-or_false a b e f = rw (e, f) refl
-
 -- what is found or kept otherwise makes no difference to a frame
 pub same_frame : (s : Sheet) (m n : Memory) (f : Frame) → n.covers ≡ m.covers → n.generation ≡ m.generation → IsFrame s m f → IsFrame s n f
 same_frame s m n f ec eg h = record {
@@ -81,7 +79,7 @@ found_stack s m n k root (f ∷ fs) ec eg e st =
     let other = other_case k.cell f.key.cell (same_replacements k.world f.key.world) apart in (
       record {
         frame = same_frame s m n f ec eg st.0.frame;
-        unfound = e f.key.cell f.key.world ∙ or_false (m.found f.key.cell f.key.world) _ st.0.unfound other;
+        unfound = e f.key.cell f.key.world ∙ or_from (m.found f.key.cell f.key.world) _ st.0.unfound other;
         demanded = st.0.demanded;
       },
       st.1,

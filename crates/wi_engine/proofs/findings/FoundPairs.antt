@@ -1,14 +1,10 @@
 -- What-ifs that are found.
-use Rattle.std.proofs.Common.{◌≡◌, ◌==◌, ℕ, ◌++◌, ◌&&◌, Bool, true, false, cond, List, [], ◌∷◌, Option, Some, None, refl, ap, ◌∙◌, arith, eq-eqb}
-use Rattle.std.proofs.lemmas.Bool.{and_from, and_parts}
-use Rattle.std.proofs.lemmas.Bool.Decides.{nat_tests}
+use Rattle.std.proofs.Common.{◌≡◌, ◌==◌, ℕ, ◌++◌, ◌&&◌, Bool, true, false, cond, List, [], ◌∷◌, Option, Some, None, refl, ap, ◌∙◌, eq-eqb}
+use Rattle.std.proofs.lemmas.Bool.{and_from, and_parts, eqb-true}
 use Rattle.std.specs.Option.{option_or}
 use Rattle.wi_values.specs.declared.value.Value.{Value}
 use Rattle.wi_engine.specs.Inner.Findings.{same_pairs, pairs_of, first_for}
 use Rattle.wi_engine.specs.declared.findings.FoundWhatIf.{FoundWhatIf}
-
-same_number : (x y : ℕ) → (x == y) ≡ true → x ≡ y
-same_number x y h = grind (arith, nat_tests)
 
 pair_path : (a b c d : ℕ) → a ≡ b → c ≡ d → ◌≡◌ {A = ℕ × ℕ} (a, c) (b, d)
 pair_path a b c d e f = ap (λ (n : ℕ). (n, c)) e ∙ ap (λ (n : ℕ). (b, n)) f
@@ -20,7 +16,7 @@ same_lists (p ∷ ps) [] h = cc
 same_lists (p ∷ ps) (q ∷ qs) h =
     let x = and_parts (p.0 == q.0) _ h in
     let y = and_parts (p.1 == q.1) _ x.1 in
-    ap (λ (r : ℕ × ℕ). r ∷ ps) (pair_path p.0 q.0 p.1 q.1 (same_number p.0 q.0 x.0) (same_number p.1 q.1 y.0)) ∙ ap (λ (rs : List (ℕ × ℕ)). q ∷ rs) (same_lists ps qs y.1)
+    ap (λ (r : ℕ × ℕ). r ∷ ps) (pair_path p.0 q.0 p.1 q.1 (eqb-true p.0 q.0 x.0) (eqb-true p.1 q.1 y.0)) ∙ ap (λ (rs : List (ℕ × ℕ)). q ∷ rs) (same_lists ps qs y.1)
 
 pub same_pairs-refl : (ps : List (ℕ × ℕ)) → same_pairs ps ps ≡ true
 same_pairs-refl [] = refl

@@ -2,6 +2,7 @@
 use Rattle.std.proofs.Common.{◌≡◌, ◌==◌, ℕ, ◌||◌, ◌&&◌, Bool, true, false, cond, List, [], ◌∷◌, filter, Option, Some, None, refl, ap, sym, ◌∙◌}
 use Rattle.std.proofs.lemmas.Bool.{and_parts}
 use Rattle.std.proofs.lemmas.List.Folds.{list_any-append}
+use Rattle.std.proofs.Math.Bool.{and-true, and-false}
 use Rattle.std.specs.List.{list_any, flat_map}
 use Rattle.std.specs.Map.{keys_of}
 use Rattle.wi_values.specs.Address.{Area, is_within}
@@ -14,23 +15,15 @@ use Rattle.wi_graph.proofs.Layers.{is_one_of}
 use Rattle.wi_graph.proofs.Walks.{same_cell, formula_cell}
 use Rattle.wi_engine.specs.Inner.ReadCells.{rectangles_in, occupied_within}
 
-and_true : (b : Bool) → (b && true) ≡ b
-and_true true = refl
-and_true false = refl
-
-and_false : (b : Bool) → (b && false) ≡ false
-and_false true = refl
-and_false false = refl
-
 -- a cell is among those that pass a test exactly where it passes and is among all
 in_filter : (p : ℕ → Bool) (xs : List ℕ) (a : ℕ) → is_one_of (filter p xs) a ≡ (p a && is_one_of xs a)
-in_filter p [] a = sym (and_false (p a))
+in_filter p [] a = sym (and-false (p a))
 in_filter p (x ∷ xs) a = by (p x) (x == a) refl refl (in_filter p xs a)
   where
     by : (b d : Bool) → p x ≡ b → (x == a) ≡ d → is_one_of (filter p xs) a ≡ (p a && is_one_of xs a) → is_one_of (cond b (x ∷ filter p xs) (filter p xs)) a ≡ (p a && (d || is_one_of xs a))
     by true true e f ih =
         ap (λ (c : Bool). c || is_one_of (filter p xs) a) f
-        ∙ sym (and_true (p a) ∙ sym (ap p (same_cell a x f)) ∙ e)
+        ∙ sym (and-true (p a) ∙ sym (ap p (same_cell a x f)) ∙ e)
     by true false e f ih = ap (λ (c : Bool). c || is_one_of (filter p xs) a) f ∙ ih
     by false true e f ih =
         let no = sym (ap p (same_cell a x f)) ∙ e in
@@ -69,4 +62,4 @@ read_occupied s None d h f = h
 read_occupied s (Some (Constant v)) d h f = h
 read_occupied s (Some (Formula t)) d h f =
     let any = list_any (λ (r : Area). is_within r d) (rectangles_of t) in
-    in_rectangles (keys_of s) (rectangles_of t) d ∙ ap (λ (b : Bool). any && b) (occupied s d f) ∙ and_true any ∙ sym (reads_within t d) ∙ h
+    in_rectangles (keys_of s) (rectangles_of t) d ∙ ap (λ (b : Bool). any && b) (occupied s d f) ∙ and-true any ∙ sym (reads_within t d) ∙ h

@@ -7,6 +7,7 @@ use Rattle.std.specs.Map.{keys_of}
 use Rattle.std.proofs.Math.Seq.{drop-cons}
 use Rattle.std.proofs.lemmas.Bool.Decides.{nat_tests}
 use Rattle.std.proofs.lemmas.List.Kept.{AllPairs-from_increasing, IsStrictlyIncreasing-filter}
+use Rattle.std.proofs.lemmas.Bool.{leb-true}
 use Rattle.wi_values.specs.Address.{Area, is_within}
 use Rattle.wi_parser.specs.Sheet.{Sheet, content_of}
 use Rattle.wi_engine.specs.Inner.ReadCells.{rectangles_in, occupied_within, is_after, cells_after}
@@ -28,12 +29,6 @@ after_not a b h = grind (arith, nat_tests)
 
 after_is : (a b : ℕ) → a < b → nat_lt a b ≡ true
 after_is a b h = grind (arith, nat_tests)
-
-at_most : (a b : ℕ) → nat_le a b ≡ true → a ≤ b
-at_most a b h = grind (arith, nat_tests)
-
-more_than : (a b : ℕ) → nat_le a b ≡ false → b < a
-more_than a b h = grind (arith, nat_tests)
 
 from_is : (a b : ℕ) → a ≤ b → nat_le a b ≡ true
 from_is a b h = grind (arith, nat_tests)
@@ -64,7 +59,7 @@ from_first f c (x ∷ xs) p h = at (nat_le f x) refl h (from_first f c xs (λ i 
     at true e k ih =
         let same : x ≡ c = cc in
         subst (λ (n : ℕ). x ∷ filter (nat_le f) xs ≡ n ∷ cond (nat_lt n x) (x ∷ filter (nat_lt n) xs) (filter (nat_lt n) xs)) same
-        (rw (after_not x x (omega arith)) (ap (λ (zs : List ℕ). x ∷ zs) (both_pass f x xs (at_most f x e) above)))
+        (rw (after_not x x (omega arith)) (ap (λ (zs : List ℕ). x ∷ zs) (both_pass f x xs (leb-true f x e) above)))
     at false e k ih = rw (after_not c x (omega (arith, found_above f c x xs above k))) (ih k)
 
 none_pass : (p : ℕ → Bool) (xs : List ℕ) → find p xs ≡ None → filter p xs ≡ []

@@ -1,8 +1,9 @@
 -- Steps of a walk along references.
 use Rattle.std.proofs.Common.{◌≡◌, ◌==◌, ℕ, Bool, true, false, ◌||◌, cond, if◌then◌else◌, List, [], ◌∷◌, ◌++◌, length, Option, Some, None, refl, ap, sym, ◌∙◌, subst, append_assoc, append-nil, arith, inl, inr, ◌⊎◌, eq-eqb}
-use Rattle.std.proofs.lemmas.Bool.{or_cases, or_left, or_right}
+use Rattle.std.proofs.lemmas.Bool.{or_cases, or_left, or_right, or_parts}
 use Rattle.std.proofs.lemmas.Bool.Decides.{nat_tests}
 use Rattle.std.proofs.lemmas.List.Folds.{list_any-append}
+use Rattle.std.proofs.Math.Bool.{or-false}
 use Rattle.std.specs.List.{list_any}
 use Rattle.std.specs.Ordering.{nat_cmp}
 use Rattle.std.specs.BTreeMap.{BTreeMap, get, is_at, Updates, IsEmpty}
@@ -12,6 +13,7 @@ use Rattle.wi_graph.specs.Circular.{circular}
 use Rattle.wi_graph.specs.Reach.{is_one_of, Reaches}
 use Rattle.wi_graph.proofs.Walks.{same_cell}
 use Rattle.wi_graph.proofs.Ends.{ends_open}
+use Rattle.wi_graph.proofs.Tests.{is_at-eq}
 use Rattle.wi_engine.specs.Inner.ReadCells.{rectangles_in, occupied_within}
 use Rattle.wi_engine.specs.Inner.ReadOrder.{MayFollow}
 use Rattle.wi_engine.specs.Inner.Walk.{Task, Enter, Leave, enters, cell_of, leaves, has_task, has_leave, LeadsTo, IsOpen, EachLeave, mark_of, IsWalk, IsBelow}
@@ -106,17 +108,13 @@ without_passed s c order p ys d f h = at (or_cases (is_one_of order d) _ h)
     at (inl k) = or_left (is_one_of order d) _ k
     at (inr k) = before (task_split ys (Enter c ∷ []) d k)
 
-or_false : (b : Bool) → (b || false) ≡ b
-or_false true = refl
-or_false false = refl
-
 open-passed : (s : Sheet) (c : ℕ) (order : List ℕ) → (has_formula (content_of s c) ≡ true → is_one_of order c ≡ true) → (a : ℕ) (ys : List Task) → IsOpen s order a (ys ++ Enter c ∷ []) → IsOpen s order a ys
 open-passed s c order p a ys o = record {
   formula = o.formula;
   reads = λ d r f. without_passed s c order p ys d f (o.reads d r f);
   leads = λ d h. o.leads d (task_front ys (Enter c ∷ []) d h);
   fresh = o.fresh;
-  once = sym (leave_parts ys (Enter c ∷ []) a ∙ or_false (has_leave ys a)) ∙ o.once;
+  once = sym (leave_parts ys (Enter c ∷ []) a ∙ or-false (has_leave ys a)) ∙ o.once;
 }
 
 waiting-passed : (s : Sheet) (c : ℕ) (order : List ℕ) → (has_formula (content_of s c) ≡ true → is_one_of order c ≡ true) → (ts : List Task) → EachLeave (IsOpen s order) (ts ++ Enter c ∷ []) → EachLeave (IsOpen s order) ts
@@ -127,7 +125,7 @@ waiting-passed s c order p (Leave a ∷ ts) e = (open-passed s c order p a ts e.
 pub walk-passed : (s : Sheet) (roots : List ℕ) (c : ℕ) (ts : List Task) (marks : BTreeMap ℕ Mark) (order : List ℕ) → IsWalk s roots (ts ++ Enter c ∷ []) marks order → (has_formula (content_of s c) ≡ true → is_one_of order c ≡ true) → IsWalk s roots ts marks order
 walk-passed s roots c ts marks order w p = record {
   waiting = waiting-passed s c order p ts w.waiting;
-  marked = λ a. w.marked a ∙ ap (λ (b : Bool). if is_one_of order a then Some Done else (if b then Some Open else None)) (leave_parts ts (Enter c ∷ []) a ∙ or_false (has_leave ts a));
+  marked = λ a. w.marked a ∙ ap (λ (b : Bool). if is_one_of order a then Some Done else (if b then Some Open else None)) (leave_parts ts (Enter c ∷ []) a ∙ or-false (has_leave ts a));
   ordered = w.ordered;
   reached = λ d h. w.reached d (task_front ts (Enter c ∷ []) d h);
   below = w.below;
@@ -148,11 +146,8 @@ done_ordered ts order c marks m h = at (is_one_of order c) (has_leave ts c) refl
 same_key : (q k : ℕ) → is_at (nat_cmp q) k ≡ true → q ≡ k
 same_key q k h = grind (arith, nat_tests)
 
-at_key : (q k : ℕ) → is_at (nat_cmp q) k ≡ (q == k)
-at_key q k = grind (arith, nat_tests)
-
 order_parts : (order : List ℕ) (c a : ℕ) → is_one_of (order ++ c ∷ []) a ≡ (is_one_of order a || (c == a))
-order_parts order c a = list_any-append (λ (x : ℕ). x == a) order (c ∷ []) ∙ ap (λ (b : Bool). is_one_of order a || b) (or_false (c == a))
+order_parts order c a = list_any-append (λ (x : ℕ). x == a) order (c ∷ []) ∙ ap (λ (b : Bool). is_one_of order a || b) (or-false (c == a))
 
 -- the cell counts among the order in the place of its task
 moved : (order : List ℕ) (ys : List Task) (c d : ℕ) → (is_one_of order d || has_task (ys ++ Leave c ∷ []) d) ≡ true → (is_one_of (order ++ c ∷ []) d || has_task ys d) ≡ true
@@ -171,10 +166,6 @@ moved order ys c d h = at (or_cases (is_one_of order d) _ h)
     at : (is_one_of order d ≡ true) ⊎ (has_task (ys ++ Leave c ∷ []) d ≡ true) → (is_one_of (order ++ c ∷ []) d || has_task ys d) ≡ true
     at (inl k) = or_left (is_one_of (order ++ c ∷ []) d) _ (ordered k)
     at (inr k) = before (task_split ys (Leave c ∷ []) d k)
-
-or_parts : (b d : Bool) → (b || d) ≡ false → (b ≡ false) × (d ≡ false)
-or_parts true d h = cc
-or_parts false d h = (refl, h)
 
 turned : (a c : ℕ) → (c == a) ≡ (a == c)
 turned a c = grind (arith, nat_tests)
@@ -198,7 +189,7 @@ waiting-left s c order (Leave a ∷ ts) e = (open-left s c order a ts e.0, waiti
 
 -- a cell that is left when no task comes before it may follow the order
 may_follow : (s : Sheet) (order : List ℕ) (c : ℕ) → IsOpen s order c [] → MayFollow s order c
-may_follow s order c o = record { formula = o.formula; reads = λ d r f. sym (or_false (is_one_of order d)) ∙ o.reads d r f; once = o.fresh }
+may_follow s order c o = record { formula = o.formula; reads = λ d r f. sym (or-false (is_one_of order d)) ∙ o.reads d r f; once = o.fresh }
 
 mark_left : (i o h b d l : Bool) → i ≡ b → o ≡ (d || b) → h ≡ (l || (b || false)) →
     cond i (Some Done) (if d then Some Done else (if h then Some Open else None)) ≡ (if o then Some Done else (if l then Some Open else None))
@@ -210,7 +201,7 @@ mark_left i o h false false false e f g = rw (e, f, g) refl
 
 marks-left : (ts : List Task) (order : List ℕ) (c a : ℕ) → cond (is_at (nat_cmp c) a) (Some Done) (mark_of (ts ++ Leave c ∷ []) order a) ≡ mark_of ts (order ++ c ∷ []) a
 marks-left ts order c a =
-    mark_left (is_at (nat_cmp c) a) (is_one_of (order ++ c ∷ []) a) (has_leave (ts ++ Leave c ∷ []) a) (c == a) (is_one_of order a) (has_leave ts a) (at_key c a) (order_parts order c a) (leave_parts ts (Leave c ∷ []) a)
+    mark_left (is_at (nat_cmp c) a) (is_one_of (order ++ c ∷ []) a) (has_leave (ts ++ Leave c ∷ []) a) (c == a) (is_one_of order a) (has_leave ts a) (is_at-eq c a) (order_parts order c a) (leave_parts ts (Leave c ∷ []) a)
 
 pub walk-left : (s : Sheet) (roots : List ℕ) (c : ℕ) (ts : List Task) (old new : BTreeMap ℕ Mark) (order : List ℕ) → IsWalk s roots (ts ++ Leave c ∷ []) old order →
     ((q : ℕ) → get nat_cmp new q ≡ cond (is_at (nat_cmp c) q) (Some Done) (get nat_cmp old q)) → IsWalk s roots ts new (order ++ c ∷ [])
@@ -245,7 +236,7 @@ entered_task (c ∷ cs) d =
 
 entered_leave : (cells : List ℕ) (d : ℕ) → has_leave (enters cells) d ≡ false
 entered_leave [] d = refl
-entered_leave (c ∷ cs) d = leave_parts (enters cs) (Enter c ∷ []) d ∙ or_false (has_leave (enters cs) d) ∙ entered_leave cs d
+entered_leave (c ∷ cs) d = leave_parts (enters cs) (Enter c ∷ []) d ∙ or-false (has_leave (enters cs) d) ∙ entered_leave cs d
 
 entered_before : (P : ℕ → List Task → Type 0) (cells : List ℕ) (ts : List Task) → EachLeave P ts → EachLeave P (enters cells ++ ts)
 entered_before P [] ts e = e
@@ -285,7 +276,7 @@ open-entered s c order cells r a ys n o = record {
   reads = λ d h f. kept_or (is_one_of order d) ys c cells d (o.reads d h f);
   leads = λ d h. leads d (entered_cases ys c cells d h);
   fresh = o.fresh;
-  once = leave_parts ys (Leave c ∷ enters cells) a ∙ ap (λ (b : Bool). b || ((c == a) || has_leave (enters cells) a)) (sym (or_false (has_leave ys a)) ∙ sym (leave_parts ys (Enter c ∷ []) a) ∙ o.once) ∙ ap (λ (b : Bool). b || has_leave (enters cells) a) (turned a c ∙ n) ∙ entered_leave cells a;
+  once = leave_parts ys (Leave c ∷ enters cells) a ∙ ap (λ (b : Bool). b || ((c == a) || has_leave (enters cells) a)) (sym (or-false (has_leave ys a)) ∙ sym (leave_parts ys (Enter c ∷ []) a) ∙ o.once) ∙ ap (λ (b : Bool). b || has_leave (enters cells) a) (turned a c ∙ n) ∙ entered_leave cells a;
 }
   where
     here : LeadsTo s a c
@@ -316,7 +307,7 @@ mark_entered i h k false false false e f g j = rw (e, g, j) refl
 marks-entered : (ts : List Task) (order cells : List ℕ) (c a : ℕ) → is_one_of order c ≡ false → cond (is_at (nat_cmp c) a) (Some Open) (mark_of (ts ++ Enter c ∷ []) order a) ≡ mark_of (ts ++ Leave c ∷ enters cells) order a
 marks-entered ts order cells c a f =
     mark_entered (is_at (nat_cmp c) a) (has_leave (ts ++ Enter c ∷ []) a) (has_leave (ts ++ Leave c ∷ enters cells) a) (c == a) (is_one_of order a) (has_leave ts a)
-    (at_key c a)
+    (is_at-eq c a)
     (λ k. ap (is_one_of order) (sym (same_cell a c k)) ∙ f)
     (leave_parts ts (Enter c ∷ []) a)
     (leave_parts ts (Leave c ∷ enters cells) a ∙ ap (λ (b : Bool). has_leave ts a || ((c == a) || b)) (entered_leave cells a))
@@ -335,7 +326,7 @@ pub walk-entered : (s : Sheet) (roots : List ℕ) (c : ℕ) (ts : List Task) (ol
 walk-entered s roots c ts old new order w f n u =
     let cells = occupied_within s (rectangles_in (content_of s c)) in
     let none = unmarked (ts ++ Enter c ∷ []) order c (sym (w.marked c) ∙ n) in
-    let unleft = sym (leave_parts ts (Enter c ∷ []) c ∙ or_false (has_leave ts c)) ∙ none.1 in
+    let unleft = sym (leave_parts ts (Enter c ∷ []) c ∙ or-false (has_leave ts c)) ∙ none.1 in
     let here : IsOpen s order c (enters cells) = record {
       formula = f;
       reads = λ d r g. or_right (is_one_of order d) _ (entered_task cells d ∙ read_occupied s (content_of s c) d r g);
@@ -392,7 +383,7 @@ pub walk-ended : (s : Sheet) (roots : List ℕ) (ts : List Task) (marks : BTreeM
 walk-ended s roots [] marks order w z = none_circular s roots (λ c m. at c m (has_formula (content_of s c)) refl)
   where
     at : (c : ℕ) → is_one_of roots c ≡ true → (b : Bool) → has_formula (content_of s c) ≡ b → circular s c ≡ false
-    at c m true f = order_clear s order w.ordered c (sym (or_false (is_one_of order c)) ∙ w.rooted c m f)
+    at c m true f = order_clear s order w.ordered c (sym (or-false (is_one_of order c)) ∙ w.rooted c m f)
     at c m false f = ends_open 0 s c f
 walk-ended s roots (t ∷ ts) marks order w z = absurd (omega arith)
 
