@@ -68,7 +68,7 @@ fn replaced<M: Memo>(
     memo: &mut M,
 ) -> Result<Inputs, AllocError>
     requires memory { IsMemoryOf store.now.sheet (M.memory memo.old) }
-    requires read { All (λ p. MayBeRead store.now.sheet (M.memory memo.old) p.by.at) pairs.now }
+    requires read { All (λ p. MayBeRead store.now.sheet (M.memory memo.old) p.replacement.at) pairs.now }
     ensures known { IfOk result (λ i. IfReplaced i (λ w. w ≡ with_what_if store.now.sheet world.now (map addresses (map pair_of pairs.now)))) }
     ensures unknown { IfOk result (λ i. IfInputUnknown i (λ k. (list_any (λ p. p.1.at == k.cell) (map pair_of pairs.now) ≡ true) × IsUnvalued store.now.sheet (M.memory memo.old) world.now k.cell k)) }
     ensures order { IsInOrder world.now }
@@ -77,7 +77,7 @@ fn replaced<M: Memo>(
     let _ = world.replacements();
     let mut inputs = Vec::new(alloc);
     for pair in pairs {
-        match value_now(alloc, store, world, pair.by.at, memo)? {
+        match value_now(alloc, store, world, pair.replacement.at, memo)? {
             Asked::Known(value) => inputs.push(Replacement {
                 at: pair.input.at,
                 value,

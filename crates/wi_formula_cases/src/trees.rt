@@ -87,7 +87,7 @@ pub fn push_tree(tree: &Expr, text: &mut String) -> Result<(), AllocError> {
                 text.push(' ')?;
                 push_cell(pair.input, text)?;
                 text.push('=')?;
-                push_cell(pair.by, text)?;
+                push_cell(pair.replacement, text)?;
             }
             Ok(())
         }

@@ -8,7 +8,7 @@ use Rattle.wi_parser.specs.declared.expr.Reference.{Reference}
 
 -- an input and its replacement cell
 abbrev pub pair_of : Pair → Reference × Reference
-pair_of p = (p.input, p.by)
+pair_of p = (p.input, p.replacement)
 
 -- one level, with each part already seen as its tree
 abbrev pub layer_tree : Expr-F Tree → Tree

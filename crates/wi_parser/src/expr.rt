@@ -61,7 +61,7 @@ pub enum Sign {
 #[derive(Clone, Copy, Debug)]
 pub struct Pair {
     pub input: Reference,
-    pub by: Reference,
+    pub replacement: Reference,
 }
 
 /// The tree of a formula, which keeps parentheses.

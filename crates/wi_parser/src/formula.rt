@@ -232,7 +232,7 @@ fn push_replacement_cells(pairs: &[Pair], rectangles: &mut Vec<Rect>) -> Result<
     ensures { IfOk result (λ _. rectangles.new.items ≡ rectangles.old.items ++ map (λ p. cell_area p.1.at) (map pair_of pairs.now)) }
 {
     for pair in pairs {
-        rectangles.push(cell_area(pair.by.at))?;
+        rectangles.push(cell_area(pair.replacement.at))?;
     }
     Ok(())
 }

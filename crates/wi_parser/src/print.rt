@@ -224,7 +224,7 @@ fn push_pair(pair: Pair, out: &mut String) -> Result<(), AllocError>
     out.push_str(";")?;
     push_reference(pair.input, out)?;
     out.push_str(";")?;
-    push_reference(pair.by, out)
+    push_reference(pair.replacement, out)
 }
 
 // How an operator is written.

@@ -77,7 +77,7 @@ fn each_stays(exprs: &[Expr], rows: i64, columns: i64) -> bool
 fn pairs_stay(pairs: &[Pair], rows: i64, columns: i64) -> bool
     ensures { result ≡ list_all (λ q. shift.stays rows columns q.0 && shift.stays rows columns q.1) (map pair_of pairs.now) }
 {
-    pairs.iter().all(|p| stays(&p.input, rows, columns) && stays(&p.by, rows, columns))
+    pairs.iter().all(|p| stays(&p.input, rows, columns) && stays(&p.replacement, rows, columns))
 }
 
 /// The tree with each reference moved by so many rows and columns.
@@ -161,7 +161,7 @@ fn moved_pairs(
     for pair in pairs {
         all.push(Pair {
             input: moved(&pair.input, rows, columns),
-            by: moved(&pair.by, rows, columns),
+            replacement: moved(&pair.replacement, rows, columns),
         })?;
     }
     Ok(all)

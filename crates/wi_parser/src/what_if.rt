@@ -57,8 +57,8 @@ fn pair(words: &mut Words<'_>) -> Option<Pair>
     ensures shorter { OnSome result (length words.new < length words.old) }
 {
     let input = parameter(words)?;
-    let by = parameter(words)?;
-    Some(Pair { input, by })
+    let replacement = parameter(words)?;
+    Some(Pair { input, replacement })
 }
 
 // A reference after a separator.

@@ -159,11 +159,11 @@ mutual
     | inr k ↦ or_right (reads_here t a) (any_reads_here ts a) (any_replacing_read ts x a k h)
   ]
 
-all_replacing : (t : Tree) (pairs : List Pair) → ((a : ℕ) → list_any (λ (p : Reference × Reference). p.1.at == a) (map pair_of pairs) ≡ true → reads_here t a ≡ true) → All (λ p. reads_here t p.by.at ≡ true) pairs
-all_replacing t [] h = All-nil (λ (p : Pair). reads_here t p.by.at ≡ true)
+all_replacing : (t : Tree) (pairs : List Pair) → ((a : ℕ) → list_any (λ (p : Reference × Reference). p.1.at == a) (map pair_of pairs) ≡ true → reads_here t a ≡ true) → All (λ p. reads_here t p.replacement.at ≡ true) pairs
+all_replacing t [] h = All-nil (λ (p : Pair). reads_here t p.replacement.at ≡ true)
 all_replacing t (p ∷ ps) h =
-    All-cons (λ (q : Pair). reads_here t q.by.at ≡ true) p ps (h p.by.at (or_left (p.by.at == p.by.at) _ (eq-eqb p.by.at p.by.at refl)))
-    (all_replacing t ps (λ a m. h a (or_right (p.by.at == a) _ m)))
+    All-cons (λ (q : Pair). reads_here t q.replacement.at ≡ true) p ps (h p.replacement.at (or_left (p.replacement.at == p.replacement.at) _ (eq-eqb p.replacement.at p.replacement.at refl)))
+    (all_replacing t ps (λ a m. h a (or_right (p.replacement.at == a) _ m)))
 
 wanted_in : (t : Tree) (f : ℕ) (pairs : Vec Pair) → Asks t (WhatIf f pairs) → IsIn (what_ifs_of t) (named f (map pair_of pairs.items))
 wanted_in t f pairs h = asked_in t f (map pair_of pairs.items) (WhatIf f pairs) (refl, refl) h
@@ -173,7 +173,7 @@ pub asked_what_if : (t : Tree) (f : ℕ) (pairs : Vec Pair) → Asks t (WhatIf f
 asked_what_if t f pairs h = contains_in (what_ifs_of t) (named f (map pair_of pairs.items)) (wanted_in t f pairs h)
 
 -- and each of its replacement cells is read as the sheet stands
-pub asked_replacing : (t : Tree) (f : ℕ) (pairs : Vec Pair) → Asks t (WhatIf f pairs) → All (λ p. reads_here t p.by.at ≡ true) pairs.items
+pub asked_replacing : (t : Tree) (f : ℕ) (pairs : Vec Pair) → Asks t (WhatIf f pairs) → All (λ p. reads_here t p.replacement.at ≡ true) pairs.items
 asked_replacing t f pairs h =
     let x = named f (map pair_of pairs.items) in
     all_replacing t pairs.items (λ a m. replacing_read t x a (wanted_in t f pairs h) (replacing (map pair_of pairs.items) a ∙ m))

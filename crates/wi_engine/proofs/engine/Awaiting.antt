@@ -56,12 +56,12 @@ read_back s k xs ys h = λ d i. h d (in_back xs ys d i)
 -- ---- a what-if's inputs
 
 -- a pair of a list is found in it by its replacement cell
-pair_found : (pairs : List Pair) (i : ℕ) (x : Pair) → i < length pairs → x ≡ get_or pairs i x → list_any (λ p. p.1.at == x.by.at) (map pair_of pairs) ≡ true
+pair_found : (pairs : List Pair) (i : ℕ) (x : Pair) → i < length pairs → x ≡ get_or pairs i x → list_any (λ p. p.1.at == x.replacement.at) (map pair_of pairs) ≡ true
 pair_found [] i x h e = absurd (omega arith)
-pair_found (p ∷ ps) zero x h e = or_left (p.by.at == x.by.at) _ (eq-eqb p.by.at x.by.at (ap (λ (y : Pair). y.by.at) (sym e)))
-pair_found (p ∷ ps) (suc i) x h e = or_right (p.by.at == x.by.at) _ (pair_found ps i x (omega arith) e)
+pair_found (p ∷ ps) zero x h e = or_left (p.replacement.at == x.replacement.at) _ (eq-eqb p.replacement.at x.replacement.at (ap (λ (y : Pair). y.replacement.at) (sym e)))
+pair_found (p ∷ ps) (suc i) x h e = or_right (p.replacement.at == x.replacement.at) _ (pair_found ps i x (omega arith) e)
 
-pub input_unvalued : (s : Sheet) (m n : Memory) (w : List Replacement) (pairs : List Pair) (i : ℕ) (x : Pair) (k : Key) → i < length pairs → x ≡ get_or pairs i x → n ≡ m → IsUnvalued s n w x.by.at k →
+pub input_unvalued : (s : Sheet) (m n : Memory) (w : List Replacement) (pairs : List Pair) (i : ℕ) (x : Pair) (k : Key) → i < length pairs → x ≡ get_or pairs i x → n ≡ m → IsUnvalued s n w x.replacement.at k →
     (list_any (λ p. p.1.at == k.cell) (map pair_of pairs) ≡ true) × IsUnvalued s m w k.cell k
 input_unvalued s m n w pairs i x k h e en u =
     let same = rw en at u in

@@ -81,16 +81,16 @@ lacks_less s k f g a v others more h =
 pub may_read_what_if : (s : Sheet) (m n : Memory) (k : Key) (f : ℕ) (pairs : Vec Pair) → IsMemoryOf s m → n ≡ m → IsToValue s m k → AsksAt s k.world k.cell (wanted.WhatIf f pairs) → MayBeRead s n f
 may_read_what_if s m n k f pairs h en key asks = rw en (may_be_read s m k.cell f h key.open_cell key.covered (what_if_in_sheet s (case_at k) f pairs asks))
 
-found_at : (ps : List Pair) (i : ℕ) (d : Pair) → i < length ps → list_any (λ p. p.1.at == (get_or ps i d).by.at) (map pair_of ps) ≡ true
+found_at : (ps : List Pair) (i : ℕ) (d : Pair) → i < length ps → list_any (λ p. p.1.at == (get_or ps i d).replacement.at) (map pair_of ps) ≡ true
 found_at [] i d h = absurd (omega arith)
-found_at (p ∷ ps) zero d h = or_left (p.by.at == p.by.at) _ (eq-eqb p.by.at p.by.at refl)
-found_at (p ∷ ps) (suc i) d h = or_right (p.by.at == (get_or ps i d).by.at) _ (found_at ps i d (omega arith))
+found_at (p ∷ ps) zero d h = or_left (p.replacement.at == p.replacement.at) _ (eq-eqb p.replacement.at p.replacement.at refl)
+found_at (p ∷ ps) (suc i) d h = or_right (p.replacement.at == (get_or ps i d).replacement.at) _ (found_at ps i d (omega arith))
 
 pub may_read_inputs : (s : Sheet) (m : Memory) (k : Key) (f : ℕ) (pairs : Vec Pair) (ps : List Pair) → IsMemoryOf s m → IsToValue s m k → AsksAt s k.world k.cell (wanted.WhatIf f pairs) → ps ≡ pairs.items →
-    All (λ p. MayBeRead s m p.by.at) ps
+    All (λ p. MayBeRead s m p.replacement.at) ps
 may_read_inputs s m k f pairs ps h key asks e = λ i d l.
-    let here = replacing_reads s (case_at k) f pairs (get_or ps i d).by.at asks (ap (λ (qs : List Pair). list_any (λ p. p.1.at == (get_or ps i d).by.at) (map pair_of qs)) (sym e) ∙ found_at ps i d l) in
-    may_be_read s m k.cell (get_or ps i d).by.at h key.open_cell key.covered (here_in_sheet s (case_at k) (get_or ps i d).by.at here)
+    let here = replacing_reads s (case_at k) f pairs (get_or ps i d).replacement.at asks (ap (λ (qs : List Pair). list_any (λ p. p.1.at == (get_or ps i d).replacement.at) (map pair_of qs)) (sym e) ∙ found_at ps i d l) in
+    may_be_read s m k.cell (get_or ps i d).replacement.at h key.open_cell key.covered (here_in_sheet s (case_at k) (get_or ps i d).replacement.at here)
 
 pub next_input : (s : Sheet) (m : Memory) (below j : Key) (f : ℕ) (pairs : Vec Pair) (ps : List Pair) → AsksAt s below.world below.cell (wanted.WhatIf f pairs) → ps ≡ pairs.items →
     (list_any (λ p. p.1.at == j.cell) (map pair_of ps) ≡ true) × IsUnvalued s m below.world j.cell j → IsNext s m below j
