@@ -1,15 +1,20 @@
 -- The digits that a text begins with.
 use Rattle.std.specs.Prelude.{◌≡◌, ℕ, suc, ◌+◌, Bool, true, false, ◌&&◌, cond, nat_eq, List, [], ◌∷◌, length, take, refl}
 use Rattle.std.specs.Char.{is_ascii_digit}
-use Rattle.std.specs.List.{prefix_len}
+use Rattle.std.specs.List.{prefix_len, list_all}
 use Rattle.std.specs.Str.{all_ascii_digits}
 use Rattle.std.specs.Str.Parse.{AllDigits, digits_value}
-use Rattle.std.proofs.Common.{◌∙◌, sym, arith}
+use Rattle.std.proofs.Common.{◌∙◌, sym, ap, arith}
 use Rattle.std.proofs.lemmas.Bool.Decides.{nat_tests}
 use Rattle.std.proofs.lemmas.Str.Parse.{IsNumeralModel, numerals_by_value, tells_all_ascii_digits}
 
 pub own : IsNumeralModel (λ ds. all_ascii_digits ds ≡ true) (digits_value 10)
 own = numerals_by_value _ tells_all_ascii_digits
+
+-- two ways to say that bytes are digits
+pub digits_same : (ds : List ℕ) → all_ascii_digits ds ≡ list_all is_ascii_digit ds
+digits_same [] = refl
+digits_same (d ∷ ds) = ap (λ b. is_ascii_digit d && b) (digits_same ds)
 
 next_equal : (m n : ℕ) → nat_eq (1 + m) (suc n) ≡ nat_eq m n
 next_equal m n = grind (arith, nat_tests)

@@ -52,10 +52,10 @@ lowered_value n k p =
 
 -- ---- what is written is read
 
-letter_no_digit : (c : ℕ) → is_exponent_letter c ≡ true → is_ascii_digit c ≡ false
+pub letter_no_digit : (c : ℕ) → is_exponent_letter c ≡ true → is_ascii_digit c ≡ false
 letter_no_digit c h = grind (arith, nat_tests)
 
-letter_no_point : (c : ℕ) → is_exponent_letter c ≡ true → (c == 46) ≡ false
+pub letter_no_point : (c : ℕ) → is_exponent_letter c ≡ true → (c == 46) ≡ false
 letter_no_point c h = grind (arith, nat_tests)
 
 -- an exponent begins with no digit

@@ -1,18 +1,19 @@
 -- A text may be cut after white space and after a token.
-use Rattle.std.proofs.Common.{◌≡◌, ℕ, zero, suc, ◌+◌, ◌-◌, ◌<◌, ◌≤◌, true, List, [], ◌∷◌, ◌++◌, length, take, get_or, IsUtf8, sym, ap, ◌∙◌, subst, arith, length-append}
+use Rattle.std.proofs.Common.{◌≡◌, ℕ, zero, suc, ◌+◌, ◌-◌, ◌<◌, ◌≤◌, ℤ, true, List, [], ◌∷◌, ◌++◌, length, take, get_or, IsUtf8, sym, ap, ◌∙◌, subst, arith, length-append}
 use Rattle.std.specs.Str.{IsCharBoundary}
 use Rattle.std.specs.Char.{is_ascii_digit}
 use Rattle.std.specs.List.{flat_map}
+use Rattle.std.specs.Str.Parse.{IsNumeral}
 use Rattle.std.proofs.lemmas.Str.{IsCharBoundary-start, IsCharBoundary-after_ascii}
 use Rattle.std.proofs.lemmas.Bool.Decides.{nat_tests}
 use Rattle.std.proofs.lemmas.List.{get_or-append-add, get_or-take, length-take-le}
 use Rattle.std.proofs.lemmas.List.Sums.{AllPass-from_list_all, prefix_len_passes}
+use Rattle.wi_fraction.specs.Written.{WritesDigits, plain, point, WritesExponent, none, unsigned, plus, minus, IsWritten}
 use Rattle.wi_lexer.specs.declared.token.Kind.{Kind}
 use Rattle.wi_lexer.specs.declared.token.Kind.TheVariants.{Number, Reference, Rectangle, Name, Text, Mark}
 use Rattle.wi_lexer.specs.declared.token.Mark as mark
 use Rattle.wi_lexer.specs.declared.token.Mark.TheVariants.{NotEqual}
-use Rattle.wi_lexer.specs.Runs.{IsRun, is_blank, blanks_len}
-use Rattle.wi_lexer.specs.Number.{IsDecimalText, whole, decimal, IsExponent, unsigned, signed, IsNumberText, plain, scaled}
+use Rattle.wi_lexer.specs.Runs.{is_blank, blanks_len}
 use Rattle.wi_lexer.specs.Cell.{cell_text}
 use Rattle.wi_lexer.specs.Reference.{IsReference, one_cell}
 use Rattle.wi_lexer.specs.Rectangle.{IsRectangle, two_cells}
@@ -20,7 +21,8 @@ use Rattle.wi_lexer.specs.Name.{IsName, is_name_part}
 use Rattle.wi_lexer.specs.Text.{IsText, of_content, doubled}
 use Rattle.wi_lexer.specs.Mark.{mark_text}
 use Rattle.wi_lexer.specs.Token.{IsToken, IsLongest}
-use Rattle.wi_lexer.proofs.RunLemmas.{run_within}
+use Rattle.wi_lexer.proofs.RunLemmas.{run_within, digits_all}
+use Rattle.wi_lexer.proofs.NumberLemmas.{number_cases}
 use Rattle.wi_lexer.proofs.BracketLemmas.{bracketed}
 use Rattle.wi_lexer.proofs.RectangleLemmas.{beside, rectangle_is}
 use Rattle.wi_lexer.proofs.NameLemmas.{name_some}
@@ -48,30 +50,33 @@ last text = get_or text (length text - 1) 0
 digit_ascii : (b : ℕ) → is_ascii_digit b ≡ true → b < 128
 digit_ascii b h = grind (arith, nat_tests)
 
-digits_last : (ds : List ℕ) → IsRun is_ascii_digit ds → last ds < 128
-digits_last ds run = digit_ascii (last ds) (AllPass-from_list_all is_ascii_digit ds run.all (length ds - 1) 0 (omega (arith, run.some)))
+digits_last : (ds : List ℕ) → IsNumeral 10 ds → last ds < 128
+digits_last ds h = digit_ascii (last ds) (AllPass-from_list_all is_ascii_digit ds (digits_all ds h.1) (length ds - 1) 0 (omega (arith, h.0)))
 
 last_append : (xs ys : List ℕ) → 0 < length ys → last (xs ++ ys) ≡ last ys
 last_append xs ys some =
     let place : length (xs ++ ys) - 1 ≡ length xs + (length ys - 1) = omega (arith, length-append xs ys) in
     ap (λ i. get_or (xs ++ ys) i 0) place ∙ get_or-append-add xs ys (length ys - 1) 0
 
-decimal_last : (text : List ℕ) → IsDecimalText text → last text < 128
-decimal_last text (whole ds run) = digits_last ds run
-decimal_last text (decimal ds es all run) =
-    let a = last_append ds (46 ∷ es) (omega arith) in
-    let b = last_append (46 ∷ []) es run.some in
-    omega (arith, a, b, digits_last es run)
+-- digits after other bytes
+ends_in_digits : (xs ds : List ℕ) → IsNumeral 10 ds → last (xs ++ ds) < 128
+ends_in_digits xs ds h = omega (arith, last_append xs ds h.0, digits_last ds h)
 
-exponent_last : (text : List ℕ) → IsExponent text → (0 < length text) × (last text < 128)
-exponent_last text (unsigned e ds letter run) = (omega arith, omega (arith, last_append (e ∷ []) ds run.some, digits_last ds run))
-exponent_last text (signed e s ds letter sign run) = (omega arith, omega (arith, last_append (e ∷ s ∷ []) ds run.some, digits_last ds run))
+decimal_last : (text ds es : List ℕ) → WritesDigits text ds es → last text < 128
+decimal_last text _ _ (plain ds h) = digits_last ds h
+decimal_last text _ _ (point ds es h i) = omega (arith, last_append ds (46 ∷ es) (omega arith), ends_in_digits (46 ∷ []) es i)
 
-number_last : (text : List ℕ) → IsNumberText text → last text < 128
-number_last text (plain ds h) = decimal_last ds h
-number_last text (scaled ds es h k) =
-    let exponent = exponent_last es k in
-    omega (arith, last_append ds es exponent.0, exponent.1)
+exponent_last : (text : List ℕ) (k : ℤ) → WritesExponent text k → last text < 128
+exponent_last text k none = omega arith
+exponent_last text k (unsigned e ds letter h) = ends_in_digits (e ∷ []) ds h
+exponent_last text k (plus e ds letter h) = ends_in_digits (e ∷ 43 ∷ []) ds h
+exponent_last text k (minus e ds letter h) = ends_in_digits (e ∷ 45 ∷ []) ds h
+
+number_last : (text : List ℕ) → IsWritten text → last text < 128
+number_last = number_cases (λ text. last text < 128) record {
+  alone = decimal_last;
+  scaled = λ text ds es d exponent k e letter. omega (arith, last_append text exponent (omega (arith, ap length letter.is)), exponent_last exponent k e);
+}
 
 bracketed_last : (x : List ℕ) → last (bracketed x) < 128
 bracketed_last x =

@@ -4,13 +4,13 @@ use Rattle.std.specs.Prelude.{nat_lt}
 use Rattle.std.proofs.lemmas.Bool.{eqb-true, ltb-true, lt-ltb}
 use Rattle.std.proofs.lemmas.List.{take-append-drop, length-take-le}
 use Rattle.std.proofs.Math.Seq.{drop-append_seam, take-append-add}
-use Rattle.std.specs.List.{list_all}
 use Rattle.std.specs.Char.{is_ascii_digit}
-use Rattle.wi_lexer.specs.Runs.{IsRun}
+use Rattle.std.specs.Str.Parse.{AllDigits, IsNumeral}
+use Rattle.wi_fraction.specs.Written.{WritesDigits, plain, point}
+use Rattle.wi_fraction.proofs.Scanning.{digits_before}
 use Rattle.wi_lexer.specs.Inner.Runs.{digits_len}
-use Rattle.wi_lexer.specs.Number.{IsDecimalText, whole, decimal}
 use Rattle.wi_lexer.specs.Inner.Number.{decimals_len, decimal_len}
-use Rattle.wi_lexer.proofs.RunLemmas.{run_within, run_more, run_all}
+use Rattle.wi_lexer.proofs.RunLemmas.{run_within, run_more, digits_all}
 
 -- a point and digits stand at the front
 pub record HasDecimals (bs : List ℕ) : Type 0 where
@@ -19,8 +19,8 @@ pub record HasDecimals (bs : List ℕ) : Type 0 where
   pub some : 0 < digits_len tail
   pub len : decimals_len bs ≡ 1 + digits_len tail
 
-abbrev tested : (point digit : Bool) → ℕ → ℕ
-tested point digit n = cond (point && digit) (1 + n) 0
+abbrev tested : (dot digit : Bool) → ℕ → ℕ
+tested dot digit n = cond (dot && digit) (1 + n) 0
 
 by_tests : (b : ℕ) (tail : List ℕ) (p d : Bool) → (b == 46) ≡ p → nat_lt 0 (digits_len tail) ≡ d → decimals_len (b ∷ tail) ≡ tested p d (digits_len tail) → (decimals_len (b ∷ tail) ≡ 0) ⊎ HasDecimals (b ∷ tail)
 by_tests b tail false d e f h = inl h
@@ -37,17 +37,17 @@ unfolding decimals_len
 decimals_found tail some = ap (λ t. cond t (1 + digits_len tail) 0) (lt-ltb 0 (digits_len tail) some)
 
 -- a decimal at the front is no longer than what is found there
-pub decimal_more : (text : List ℕ) → IsDecimalText text → (rest : List ℕ) → length text ≤ decimal_len (text ++ rest)
+pub decimal_more : (text ds es : List ℕ) → WritesDigits text ds es → (rest : List ℕ) → length text ≤ decimal_len (text ++ rest)
 unfolding decimal_len
-decimal_more text (whole ds run) rest = omega (arith, run_more is_ascii_digit ds rest run.all)
-decimal_more text (decimal ds es all run) rest =
+decimal_more text _ _ (plain ds h) rest = omega (arith, run_more is_ascii_digit ds rest (digits_all ds h.1))
+decimal_more text _ _ (point ds es h i) rest =
     let front : (ds ++ 46 ∷ es) ++ rest ≡ ds ++ 46 ∷ (es ++ rest) = append_assoc ds (46 ∷ es) rest in
-    let n = run_more is_ascii_digit ds (46 ∷ (es ++ rest)) all in
-    let m = run_more is_ascii_digit es rest run.all in
+    let n = run_more is_ascii_digit ds (46 ∷ (es ++ rest)) (digits_all ds h) in
+    let m = run_more is_ascii_digit es rest (digits_all es i.1) in
     let size = length-append ds (46 ∷ es) in
     let digits : digits_len (ds ++ 46 ∷ (es ++ rest)) ≡ length ds = omega (arith, n) in
     let after : drop (digits_len (ds ++ 46 ∷ (es ++ rest))) (ds ++ 46 ∷ (es ++ rest)) ≡ 46 ∷ (es ++ rest) = ap (λ i. drop i (ds ++ 46 ∷ (es ++ rest))) digits ∙ drop-append_seam ds (46 ∷ (es ++ rest)) in
-    let found = decimals_found (es ++ rest) (omega (arith, m, run.some)) in
+    let found = decimals_found (es ++ rest) (omega (arith, m, i.0)) in
     subst (λ t. length (ds ++ 46 ∷ es) ≤ digits_len t + decimals_len (drop (digits_len t) t)) (sym front)
     (omega (arith, size, digits, m, ap decimals_len after ∙ found))
 
@@ -60,42 +60,43 @@ decimal_within bs = go (decimals_cases (drop (digits_len bs) bs))
     go (inr d) = omega (arith, d.len, run_within is_ascii_digit bs, run_within is_ascii_digit d.tail, ap length d.is, length-drop (digits_len bs) bs)
 
 -- the digits at the front
-pub digits_front : (bs : List ℕ) → 0 < digits_len bs → IsRun is_ascii_digit (take (digits_len bs) bs)
-digits_front bs some = record {
-  some = omega (arith, length-take-le (digits_len bs) bs (run_within is_ascii_digit bs), some);
-  all = run_all is_ascii_digit bs;
-}
+pub digits_front : (bs : List ℕ) → 0 < digits_len bs → IsNumeral 10 (take (digits_len bs) bs)
+digits_front bs some = (omega (arith, length-take-le (digits_len bs) bs (run_within is_ascii_digit bs), some), digits_before bs)
 
-whole_front : (bs : List ℕ) → 0 < digits_len bs → IsDecimalText (take (digits_len bs) bs)
-whole_front bs some = whole (take (digits_len bs) bs) (digits_front bs some)
+-- the text is some digits before a point and some after it
+abbrev pub SomeDigits : List ℕ → Type 0
+SomeDigits text = (ds : List ℕ) × (es : List ℕ) × WritesDigits text ds es
 
-decimal_front : (ds tail : List ℕ) → list_all is_ascii_digit ds ≡ true → 0 < digits_len tail → IsDecimalText (take (length ds + (1 + digits_len tail)) (ds ++ 46 ∷ tail))
+whole_front : (bs : List ℕ) → 0 < digits_len bs → SomeDigits (take (digits_len bs) bs)
+whole_front bs some = let ds = take (digits_len bs) bs in (ds, [], plain ds (digits_front bs some))
+
+decimal_front : (ds tail : List ℕ) → AllDigits 10 ds → 0 < digits_len tail → SomeDigits (take (length ds + (1 + digits_len tail)) (ds ++ 46 ∷ tail))
 decimal_front ds tail all some =
     let m = digits_len tail in
     let next : 1 + m ≡ suc m = omega arith in
     let front : take (length ds + (1 + m)) (ds ++ 46 ∷ tail) ≡ ds ++ 46 ∷ take m tail =
     take-append-add ds (46 ∷ tail) (1 + m) ∙ ap (λ i. ds ++ take i (46 ∷ tail)) next in
-    subst IsDecimalText (sym front) (decimal ds (take m tail) all (digits_front tail some))
+    subst SomeDigits (sym front) (ds, take m tail, point ds (take m tail) all (digits_front tail some))
 
-pub decimal_sound : (bs : List ℕ) → 0 < decimal_len bs → IsDecimalText (take (decimal_len bs) bs)
+pub decimal_sound : (bs : List ℕ) → 0 < decimal_len bs → SomeDigits (take (decimal_len bs) bs)
 unfolding decimal_len
 decimal_sound bs h = go (decimals_cases (drop (digits_len bs) bs))
   where
-    go : (decimals_len (drop (digits_len bs) bs) ≡ 0) ⊎ HasDecimals (drop (digits_len bs) bs) → IsDecimalText (take (digits_len bs + decimals_len (drop (digits_len bs) bs)) bs)
+    go : (decimals_len (drop (digits_len bs) bs) ≡ 0) ⊎ HasDecimals (drop (digits_len bs) bs) → SomeDigits (take (digits_len bs + decimals_len (drop (digits_len bs) bs)) bs)
     go (inl e) =
         let n : digits_len bs ≡ digits_len bs + decimals_len (drop (digits_len bs) bs) = omega (arith, e) in
-        subst (λ i. IsDecimalText (take i bs)) n (whole_front bs (omega (arith, n, h)))
+        subst (λ i. SomeDigits (take i bs)) n (whole_front bs (omega (arith, n, h)))
     go (inr d) =
         let ds = take (digits_len bs) bs in
         let size : length ds ≡ digits_len bs = length-take-le (digits_len bs) bs (run_within is_ascii_digit bs) in
         let back : ds ++ 46 ∷ d.tail ≡ bs = ap (λ r. ds ++ r) (sym d.is) ∙ take-append-drop (digits_len bs) bs in
         let n : length ds + (1 + digits_len d.tail) ≡ digits_len bs + decimals_len (drop (digits_len bs) bs) = omega (arith, size, d.len) in
-        let found = decimal_front ds d.tail (run_all is_ascii_digit bs) d.some in
-        subst (λ i. IsDecimalText (take i bs)) n (subst (λ t. IsDecimalText (take (length ds + (1 + digits_len d.tail)) t)) back found)
+        let found = decimal_front ds d.tail (digits_before bs) d.some in
+        subst (λ i. SomeDigits (take i bs)) n (subst (λ t. SomeDigits (take (length ds + (1 + digits_len d.tail)) t)) back found)
 
-pub decimal_some : (text : List ℕ) → IsDecimalText text → 0 < length text
-decimal_some text (whole ds run) = run.some
-decimal_some text (decimal ds es all run) = omega (arith, length-append ds (46 ∷ es))
+pub decimal_some : (text ds es : List ℕ) → WritesDigits text ds es → 0 < length text
+decimal_some text _ _ (plain ds h) = h.0
+decimal_some text _ _ (point ds es h i) = omega (arith, length-append ds (46 ∷ es))
 
 -- ---- a decimal is found whole where nothing goes on with it
 
@@ -103,8 +104,8 @@ pub no_point : (b : ℕ) (rest : List ℕ) → (b == 46) ≡ false → decimals_
 unfolding decimals_len
 no_point b rest e = ap (λ t. cond (t && nat_lt 0 (digits_len rest)) (1 + digits_len rest) 0) e
 
-digits_exact : (ds rest : List ℕ) → list_all is_ascii_digit ds ≡ true → digits_len rest ≡ 0 → digits_len (ds ++ rest) ≡ length ds
-digits_exact ds rest all none = omega (arith, run_more is_ascii_digit ds rest all, none)
+digits_exact : (ds rest : List ℕ) → AllDigits 10 ds → digits_len rest ≡ 0 → digits_len (ds ++ rest) ≡ length ds
+digits_exact ds rest all none = omega (arith, run_more is_ascii_digit ds rest (digits_all ds all), none)
 
 -- the digits before, and the decimals of what follows them
 after_digits : (ds tail : List ℕ) → digits_len (ds ++ tail) ≡ length ds → decimal_len (ds ++ tail) ≡ length ds + decimals_len tail
@@ -113,12 +114,12 @@ after_digits ds tail n =
     let after : drop (digits_len (ds ++ tail)) (ds ++ tail) ≡ tail = ap (λ i. drop i (ds ++ tail)) n ∙ drop-append_seam ds tail in
     omega (arith, n, ap decimals_len after)
 
-pub decimal_exact : (text : List ℕ) → IsDecimalText text → (rest : List ℕ) → digits_len rest ≡ 0 → decimals_len rest ≡ 0 → decimal_len (text ++ rest) ≡ length text
-decimal_exact text (whole ds run) rest digits decimals = omega (arith, after_digits ds rest (digits_exact ds rest run.all digits), decimals)
-decimal_exact text (decimal ds es all run) rest digits decimals =
+pub decimal_exact : (text ds es : List ℕ) → WritesDigits text ds es → (rest : List ℕ) → digits_len rest ≡ 0 → decimals_len rest ≡ 0 → decimal_len (text ++ rest) ≡ length text
+decimal_exact text _ _ (plain ds h) rest digits decimals = omega (arith, after_digits ds rest (digits_exact ds rest h.1 digits), decimals)
+decimal_exact text _ _ (point ds es h i) rest digits decimals =
     let tail = es ++ rest in
     let front : (ds ++ 46 ∷ es) ++ rest ≡ ds ++ 46 ∷ tail = append_assoc ds (46 ∷ es) rest in
-    let whole = after_digits ds (46 ∷ tail) (digits_exact ds (46 ∷ tail) all refl) in
-    let es_len = digits_exact es rest run.all digits in
-    let found = decimals_found tail (omega (arith, es_len, run.some)) in
+    let whole = after_digits ds (46 ∷ tail) (digits_exact ds (46 ∷ tail) h refl) in
+    let es_len = digits_exact es rest i.1 digits in
+    let found = decimals_found tail (omega (arith, es_len, i.0)) in
     omega (arith, ap decimal_len front, whole, found, es_len, length-append ds (46 ∷ es))

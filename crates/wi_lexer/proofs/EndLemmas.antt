@@ -4,13 +4,13 @@ use Rattle.std.specs.Prelude.{slice_index}
 use Rattle.std.proofs.lemmas.Bool.Decides.{nat_tests}
 use Rattle.std.specs.List.{list_all, prefix_len}
 use Rattle.std.specs.Char.{is_ascii_digit}
+use Rattle.wi_fraction.specs.Written.{WritesDigits, plain, point, is_exponent_letter, IsWritten}
 use Rattle.wi_lexer.specs.declared.token.Kind.{Kind}
 use Rattle.wi_lexer.specs.declared.token.Kind.TheVariants.{Number, Reference, Rectangle, Name, Text, Mark}
 use Rattle.wi_lexer.specs.declared.token.Mark as mark
 use Rattle.wi_lexer.specs.declared.token.Mark.TheVariants.{NotEqual, Less, Greater}
 use Rattle.wi_lexer.specs.Runs.{is_blank, IsRun}
 use Rattle.wi_lexer.specs.Inner.Runs.{one_more}
-use Rattle.wi_lexer.specs.Number.{IsDecimalText, whole, decimal, IsNumberText, plain, scaled, is_exponent_letter}
 use Rattle.wi_lexer.specs.Inner.Number.{decimals_len, decimal_len, signed_len, exponent_len, number_len}
 use Rattle.wi_lexer.specs.Cell.{Cell, IsCell, cell_text}
 use Rattle.wi_lexer.specs.Reference.{IsReference, one_cell}
@@ -25,9 +25,9 @@ use Rattle.wi_lexer.specs.Inner.Token.{token_at}
 use Rattle.wi_lexer.specs.Tokens.{then_tokens}
 use Rattle.wi_lexer.specs.Inner.Tokens.{tokens_ahead, tokens}
 use Rattle.wi_lexer.specs.Inner.Ends.{ends}
-use Rattle.wi_lexer.proofs.RunLemmas.{both_are_true, run_stops}
+use Rattle.wi_lexer.proofs.RunLemmas.{both_are_true, run_stops, digits_all, digits_run}
 use Rattle.wi_lexer.proofs.DecimalLemmas.{decimal_some, no_point}
-use Rattle.wi_lexer.proofs.NumberLemmas.{number_some, EndsNumber, number_exact}
+use Rattle.wi_lexer.proofs.NumberLemmas.{number_cases, number_some, EndsNumber, number_exact}
 use Rattle.wi_lexer.proofs.BracketLemmas.{bracketed}
 use Rattle.wi_lexer.proofs.ReferenceLemmas.{reference_complete}
 use Rattle.wi_lexer.proofs.RectangleLemmas.{beside, rectangle_is, rectangle_complete, no_reference_len}
@@ -54,14 +54,16 @@ pub first_of_both : (text rest : List ℕ) → 0 < length text → slice_index (
 first_of_both [] rest some = absurd (omega (arith, some))
 first_of_both (b ∷ text) rest some = refl
 
-decimal_start : (text : List ℕ) → IsDecimalText text → is_number_start (slice_index text 0) ≡ true
-decimal_start text (whole ds run) = digit_starts (slice_index ds 0) (run_start is_ascii_digit ds run)
-decimal_start text (decimal [] es all run) = refl
-decimal_start text (decimal (d ∷ ds) es all run) = digit_starts d (both_are_true (is_ascii_digit d) (list_all is_ascii_digit ds) all).0
+decimal_start : (text ds es : List ℕ) → WritesDigits text ds es → is_number_start (slice_index text 0) ≡ true
+decimal_start text _ _ (plain ds h) = digit_starts (slice_index ds 0) (run_start is_ascii_digit ds (digits_run ds h))
+decimal_start text _ _ (point [] es h i) = refl
+decimal_start text _ _ (point (d ∷ ds) es h i) = digit_starts d (both_are_true (is_ascii_digit d) (list_all is_ascii_digit ds) (digits_all (d ∷ ds) h)).0
 
-pub number_start : (text : List ℕ) → IsNumberText text → is_number_start (slice_index text 0) ≡ true
-number_start text (plain ds h) = decimal_start ds h
-number_start text (scaled ds es h k) = ap is_number_start (first_of_both ds es (decimal_some ds h)) ∙ decimal_start ds h
+pub number_start : (text : List ℕ) → IsWritten text → is_number_start (slice_index text 0) ≡ true
+number_start = number_cases (λ text. is_number_start (slice_index text 0) ≡ true) record {
+  alone = decimal_start;
+  scaled = λ text ds es d exponent k e letter. ap is_number_start (first_of_both text exponent (decimal_some text ds es d)) ∙ decimal_start text ds es d;
+}
 
 number_no_blank : (b : ℕ) → is_number_start b ≡ true → is_blank b ≡ false
 number_no_blank b h = grind (arith, nat_tests)
@@ -118,7 +120,7 @@ ends_number (b ∷ rest) h = record {
   exponent = ap (λ t. cond t (one_more (signed_len rest)) 0) (no_letter_on b h);
 }
 
-number_whole : (text rest : List ℕ) → IsNumberText text → ends Number rest ≡ true → FoundWhole Number text rest
+number_whole : (text rest : List ℕ) → IsWritten text → ends Number rest ≡ true → FoundWhole Number text rest
 number_whole text rest t h =
     let exact = number_exact text t rest (ends_number rest h) in
     number_found (text ++ rest) (omega (arith, exact, number_some text t)) ∙ ap (found_token Number) exact

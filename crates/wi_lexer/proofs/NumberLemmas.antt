@@ -1,23 +1,19 @@
 -- The number found at the front is one, and no number there is longer.
-use Rattle.std.proofs.Common.{◌≡◌, ℕ, suc, ◌+◌, ◌<◌, ◌≤◌, Bool, true, false, cond, ◌==◌, List, [], ◌∷◌, ◌++◌, length, take, drop, refl, sym, ap, ◌∙◌, subst, arith, append_assoc, length-append, length-drop}
+use Rattle.std.proofs.Common.{◌≡◌, ℕ, suc, ◌+◌, ◌<◌, ◌≤◌, ℤ, pos, Bool, true, false, cond, ◌||◌, ◌==◌, ◌⊎◌, inl, inr, List, [], ◌∷◌, ◌++◌, length, take, drop, refl, sym, ap, ◌∙◌, subst, arith, append_assoc, append-nil, length-append, length-drop}
 use Rattle.std.specs.Prelude.{nat_lt}
-use Rattle.std.proofs.lemmas.Bool.{ltb-true, ltb-false, lt-ltb}
+use Rattle.std.proofs.lemmas.Bool.{eqb-true, ltb-true, ltb-false, lt-ltb}
 use Rattle.std.proofs.lemmas.Bool.Decides.{nat_tests}
 use Rattle.std.proofs.Math.Seq.{take-add, drop-append_seam}
 use Rattle.std.specs.Char.{is_ascii_digit}
+use Rattle.std.specs.Str.Parse.{IsNumeral}
+use Rattle.wi_fraction.specs.Written.{WritesDigits, is_exponent_letter, WritesExponent, none as no_exponent, unsigned, plus, minus, Writes, writes, IsWritten}
+use Rattle.wi_fraction.proofs.Written.{letter_no_digit, letter_no_point}
 use Rattle.wi_lexer.specs.Inner.Runs.{digits_len, one_more}
-use Rattle.wi_lexer.specs.Number.{IsDecimalText, IsExponent, unsigned, signed, IsNumberText, plain, scaled, is_exponent_letter, is_sign}
-use Rattle.wi_lexer.specs.Inner.Number.{decimals_len, decimal_len, signed_len, exponent_len, number_len}
-use Rattle.wi_lexer.proofs.RunLemmas.{run_within, run_stops, run_more, one_more_some, one_more_back, one_more_within}
-use Rattle.wi_lexer.proofs.DecimalLemmas.{digits_front, decimal_some, decimal_more, decimal_within, decimal_sound, no_point, decimal_exact}
+use Rattle.wi_lexer.specs.Inner.Number.{is_sign, decimals_len, decimal_len, signed_len, exponent_len, number_len}
+use Rattle.wi_lexer.proofs.RunLemmas.{run_within, run_stops, run_more, digits_all, one_more_some, one_more_back, one_more_within}
+use Rattle.wi_lexer.proofs.DecimalLemmas.{digits_front, SomeDigits, decimal_some, decimal_more, decimal_within, decimal_sound, no_point, decimal_exact}
 
 -- ---- exponents
-
-letter_no_digit : (b : ℕ) → is_exponent_letter b ≡ true → is_ascii_digit b ≡ false
-letter_no_digit b h = grind (arith, nat_tests)
-
-letter_no_point : (b : ℕ) → is_exponent_letter b ≡ true → (b == 46) ≡ false
-letter_no_point b h = grind (arith, nat_tests)
 
 digit_no_sign : (b : ℕ) → is_ascii_digit b ≡ true → is_sign b ≡ false
 digit_no_sign b h = grind (arith, nat_tests)
@@ -31,7 +27,7 @@ signed_within (b ∷ bs) = go (is_sign b)
     go true = omega (arith, one_more_within (digits_len bs), run_within is_ascii_digit bs)
     go false = run_within is_ascii_digit (b ∷ bs)
 
-pub exponent_within : (bs : List ℕ) → exponent_len bs ≤ length bs
+exponent_within : (bs : List ℕ) → exponent_len bs ≤ length bs
 unfolding exponent_len
 exponent_within [] = omega arith
 exponent_within (b ∷ bs) = go (is_exponent_letter b)
@@ -40,34 +36,49 @@ exponent_within (b ∷ bs) = go (is_exponent_letter b)
     go true = omega (arith, one_more_within (signed_len bs), signed_within bs)
     go false = omega arith
 
+abbrev SomeExponent : List ℕ → Type 0
+SomeExponent text = (k : ℤ) × WritesExponent text k
+
+signed_writes : (e s : ℕ) (ds : List ℕ) → is_exponent_letter e ≡ true → is_sign s ≡ true → IsNumeral 10 ds → SomeExponent (e ∷ s ∷ ds)
+signed_writes e s ds letter sign digits = by_plus (s == 43) refl sign
+  where
+    by_plus : (b : Bool) → (s == 43) ≡ b → (b || s == 45) ≡ true → SomeExponent (e ∷ s ∷ ds)
+    by_plus true f g = subst (λ t. SomeExponent (e ∷ t ∷ ds)) (sym (eqb-true s 43 f)) (_, plus e ds letter digits)
+    by_plus false f g = subst (λ t. SomeExponent (e ∷ t ∷ ds)) (sym (eqb-true s 45 g)) (_, minus e ds letter digits)
+
 -- a letter and what is found after it
-signed_sound : (e : ℕ) → is_exponent_letter e ≡ true → (bs : List ℕ) → 0 < signed_len bs → IsExponent (e ∷ take (signed_len bs) bs)
+signed_sound : (e : ℕ) → is_exponent_letter e ≡ true → (bs : List ℕ) → 0 < signed_len bs → SomeExponent (e ∷ take (signed_len bs) bs)
 unfolding signed_len
 signed_sound e letter [] some = absurd (omega (arith, some))
 signed_sound e letter (b ∷ bs) some = go (is_sign b) refl some
   where
     found : ℕ → Type 0
-    found n = IsExponent (e ∷ take n (b ∷ bs))
+    found n = SomeExponent (e ∷ take n (b ∷ bs))
 
     go : (t : Bool) → is_sign b ≡ t → 0 < cond t (one_more (digits_len bs)) (digits_len (b ∷ bs)) → found (cond t (one_more (digits_len bs)) (digits_len (b ∷ bs)))
     go true is h =
         let digits = one_more_back (digits_len bs) h in
-        subst found (sym (one_more_some (digits_len bs) digits)) (signed e b (take (digits_len bs) bs) letter is (digits_front bs digits))
-    go false is h = unsigned e (take (digits_len (b ∷ bs)) (b ∷ bs)) letter (digits_front (b ∷ bs) h)
+        subst found (sym (one_more_some (digits_len bs) digits)) (signed_writes e b (take (digits_len bs) bs) letter is (digits_front bs digits))
+    go false is h = (_, unsigned e (take (digits_len (b ∷ bs)) (b ∷ bs)) letter (digits_front (b ∷ bs) h))
 
-pub exponent_sound : (bs : List ℕ) → 0 < exponent_len bs → IsExponent (take (exponent_len bs) bs)
+-- the exponent that is found, or none
+exponent_sound : (bs : List ℕ) → SomeExponent (take (exponent_len bs) bs)
 unfolding exponent_len
-exponent_sound [] some = absurd (omega (arith, some))
-exponent_sound (b ∷ bs) some = go (is_exponent_letter b) refl some
+exponent_sound [] = (pos 0, no_exponent)
+exponent_sound (b ∷ bs) = by_letter (is_exponent_letter b) refl
   where
     found : ℕ → Type 0
-    found n = IsExponent (take n (b ∷ bs))
+    found n = SomeExponent (take n (b ∷ bs))
 
-    go : (t : Bool) → is_exponent_letter b ≡ t → 0 < cond t (one_more (signed_len bs)) 0 → found (cond t (one_more (signed_len bs)) 0)
-    go true is h =
-        let digits = one_more_back (signed_len bs) h in
-        subst found (sym (one_more_some (signed_len bs) digits)) (signed_sound b is bs digits)
-    go false is h = absurd (omega (arith, h))
+    by_digits : is_exponent_letter b ≡ true → (t : Bool) → nat_lt 0 (signed_len bs) ≡ t → found (cond t (1 + signed_len bs) 0)
+    by_digits letter true e =
+        let next : 1 + signed_len bs ≡ suc (signed_len bs) = omega arith in
+        subst found (sym next) (signed_sound b letter bs (ltb-true 0 (signed_len bs) e))
+    by_digits letter false e = (pos 0, no_exponent)
+
+    by_letter : (t : Bool) → is_exponent_letter b ≡ t → found (cond t (one_more (signed_len bs)) 0)
+    by_letter true letter = by_digits letter (nat_lt 0 (signed_len bs)) refl
+    by_letter false letter = (pos 0, no_exponent)
 
 -- what follows a letter is found with it
 letter_found : (e : ℕ) (bs : List ℕ) → is_exponent_letter e ≡ true → 0 < signed_len bs → exponent_len (e ∷ bs) ≡ suc (signed_len bs)
@@ -88,48 +99,63 @@ digits_found (b ∷ bs) some = go (is_ascii_digit b) refl some
     go true is h = ap (λ t. cond t (one_more (digits_len bs)) (digits_len (b ∷ bs))) (digit_no_sign b is)
     go false is h = absurd (omega (arith, h))
 
--- an exponent at the front is no longer than what is found there
-exponent_more : (text : List ℕ) → IsExponent text → (rest : List ℕ) → length text ≤ exponent_len (text ++ rest)
-exponent_more text (unsigned e ds letter run) rest =
-    let m = run_more is_ascii_digit ds rest run.all in
-    let digits = digits_found (ds ++ rest) (omega (arith, m, run.some)) in
-    let found = letter_found e (ds ++ rest) letter (omega (arith, m, run.some, digits)) in
+unsigned_found : (e : ℕ) (ds rest : List ℕ) → is_exponent_letter e ≡ true → IsNumeral 10 ds → exponent_len (e ∷ ds ++ rest) ≡ length (e ∷ ds) + digits_len rest
+unsigned_found e ds rest letter h =
+    let m = run_more is_ascii_digit ds rest (digits_all ds h.1) in
+    let digits = digits_found (ds ++ rest) (omega (arith, m, h.0)) in
+    let found = letter_found e (ds ++ rest) letter (omega (arith, m, h.0, digits)) in
     omega (arith, m, digits, found)
-exponent_more text (signed e s ds letter sign run) rest =
-    let m = run_more is_ascii_digit ds rest run.all in
-    let digits = sign_found s (ds ++ rest) sign (omega (arith, m, run.some)) in
+
+signed_found : (e s : ℕ) (ds rest : List ℕ) → is_exponent_letter e ≡ true → is_sign s ≡ true → IsNumeral 10 ds → exponent_len (e ∷ s ∷ ds ++ rest) ≡ length (e ∷ s ∷ ds) + digits_len rest
+signed_found e s ds rest letter sign h =
+    let m = run_more is_ascii_digit ds rest (digits_all ds h.1) in
+    let digits = sign_found s (ds ++ rest) sign (omega (arith, m, h.0)) in
     let found = letter_found e (s ∷ ds ++ rest) letter (omega (arith, digits)) in
     omega (arith, m, digits, found)
 
--- an exponent is found whole where no digit follows
-exponent_exact : (text : List ℕ) → IsExponent text → (rest : List ℕ) → digits_len rest ≡ 0 → exponent_len (text ++ rest) ≡ length text
-exponent_exact text (unsigned e ds letter run) rest none =
-    let m = run_more is_ascii_digit ds rest run.all in
-    let digits = digits_found (ds ++ rest) (omega (arith, m, run.some)) in
-    let found = letter_found e (ds ++ rest) letter (omega (arith, m, run.some, digits)) in
-    omega (arith, m, digits, found, none)
-exponent_exact text (signed e s ds letter sign run) rest none =
-    let m = run_more is_ascii_digit ds rest run.all in
-    let digits = sign_found s (ds ++ rest) sign (omega (arith, m, run.some)) in
-    let found = letter_found e (s ∷ ds ++ rest) letter (omega (arith, digits)) in
-    omega (arith, m, digits, found, none)
+-- An exponent that begins with a letter is found with the digits that follow it.
+pub record HasLetter (text : List ℕ) : Type 0 where
+  pub letter : ℕ
+  pub after : List ℕ
+  pub is : text ≡ letter ∷ after
+  pub test : is_exponent_letter letter ≡ true
+  pub found : (rest : List ℕ) → exponent_len (text ++ rest) ≡ length text + digits_len rest
 
--- the letter and what follows it
-record HasLetter (text : List ℕ) : Type 0 where
-  letter : ℕ
-  after : List ℕ
-  is : text ≡ letter ∷ after
-  test : is_exponent_letter letter ≡ true
-
-has_letter : (text : List ℕ) → IsExponent text → HasLetter text
-has_letter text (unsigned e ds letter run) = record { letter = e; after = ds; is = refl; test = letter }
-has_letter text (signed e s ds letter sign run) = record { letter = e; after = s ∷ ds; is = refl; test = letter }
+has_letter : (text : List ℕ) (k : ℤ) → WritesExponent text k → (text ≡ []) ⊎ HasLetter text
+has_letter text k no_exponent = inl refl
+has_letter text k (unsigned e ds letter h) =
+    inr record { letter = e; after = ds; is = refl; test = letter; found = λ rest. unsigned_found e ds rest letter h }
+has_letter text k (plus e ds letter h) =
+    inr record { letter = e; after = 43 ∷ ds; is = refl; test = letter; found = λ rest. signed_found e 43 ds rest letter refl h }
+has_letter text k (minus e ds letter h) =
+    inr record { letter = e; after = 45 ∷ ds; is = refl; test = letter; found = λ rest. signed_found e 45 ds rest letter refl h }
 
 -- ---- numbers
 
-pub number_some : (text : List ℕ) → IsNumberText text → 0 < length text
-number_some text (plain ds h) = decimal_some ds h
-number_some text (scaled ds es h k) = omega (arith, decimal_some ds h, length-append ds es)
+-- A number is digits alone, or digits and an exponent that begins with a letter.
+pub record ByExponent (P : List ℕ → Type 0) : Type 0 where
+  pub alone : (text ds es : List ℕ) → WritesDigits text ds es → P text
+  pub scaled : (text ds es : List ℕ) → WritesDigits text ds es → (exponent : List ℕ) (k : ℤ) → WritesExponent exponent k → HasLetter exponent → P (text ++ exponent)
+
+with_exponent : (P : List ℕ → Type 0) → ByExponent P → (text ds es : List ℕ) → WritesDigits text ds es → (exponent : List ℕ) (k : ℤ) → WritesExponent exponent k → (exponent ≡ []) ⊎ HasLetter exponent → P (text ++ exponent)
+with_exponent P p text ds es d exponent k e (inl empty) = subst P (sym (ap (λ x. text ++ x) empty ∙ append-nil text)) (p.alone text ds es d)
+with_exponent P p text ds es d exponent k e (inr letter) = p.scaled text ds es d exponent k e letter
+
+by_exponent : (P : List ℕ → Type 0) → ByExponent P → (text ds es : List ℕ) (k : ℤ) → Writes text ds es k → P text
+by_exponent P p text _ _ _ (writes front exponent ds es k d e) = with_exponent P p front ds es d exponent k e (has_letter exponent k e)
+
+pub number_cases : (P : List ℕ → Type 0) → ByExponent P → (text : List ℕ) → IsWritten text → P text
+number_cases P p text w = by_exponent P p text w.0 w.1 w.2 w.3
+
+-- digits alone are a number
+pub digits_alone : (text : List ℕ) → SomeDigits text → IsWritten text
+digits_alone text d = subst IsWritten (append-nil text) (d.0, d.1, pos 0, writes text [] d.0 d.1 (pos 0) d.2 no_exponent)
+
+pub number_some : (text : List ℕ) → IsWritten text → 0 < length text
+number_some = number_cases (λ text. 0 < length text) record {
+  alone = decimal_some;
+  scaled = λ text ds es d exponent k e letter. omega (arith, decimal_some text ds es d, length-append text exponent);
+}
 
 -- a decimal that is found, and the exponent after it
 decimal_first : (bs : List ℕ) → 0 < decimal_len bs → number_len bs ≡ decimal_len bs + exponent_len (drop (decimal_len bs) bs)
@@ -140,25 +166,29 @@ pub decimal_none : (bs : List ℕ) → decimal_len bs ≡ 0 → number_len bs �
 unfolding number_len
 decimal_none bs none = ap (λ n. cond (nat_lt 0 n) (n + exponent_len (drop n bs)) 0) none
 
--- the decimal before an exponent, and the exponent
-scaled_len : (text exponent rest : List ℕ) → IsDecimalText text → IsExponent exponent → number_len ((text ++ exponent) ++ rest) ≡ length text + exponent_len (exponent ++ rest)
-scaled_len text exponent rest h k =
+-- the decimal before an exponent, the exponent, and the digits that follow it
+scaled_len : (text ds es : List ℕ) → WritesDigits text ds es → (exponent : List ℕ) → HasLetter exponent → (rest : List ℕ) → number_len ((text ++ exponent) ++ rest) ≡ length (text ++ exponent) + digits_len rest
+scaled_len text ds es d exponent begins rest =
     let bs = text ++ (exponent ++ rest) in
-    let begins = has_letter exponent k in
     let tail : exponent ++ rest ≡ begins.letter ∷ (begins.after ++ rest) = ap (λ x. x ++ rest) begins.is in
     let digits = ap digits_len tail ∙ run_stops is_ascii_digit begins.letter (begins.after ++ rest) (letter_no_digit begins.letter begins.test) in
     let decimals = ap decimals_len tail ∙ no_point begins.letter (begins.after ++ rest) (letter_no_point begins.letter begins.test) in
-    let exact = decimal_exact text h (exponent ++ rest) digits decimals in
-    let first = decimal_first bs (omega (arith, exact, decimal_some text h)) in
+    let exact = decimal_exact text ds es d (exponent ++ rest) digits decimals in
+    let first = decimal_first bs (omega (arith, exact, decimal_some text ds es d)) in
     let after : drop (decimal_len bs) bs ≡ exponent ++ rest = ap (λ i. drop i bs) exact ∙ drop-append_seam text (exponent ++ rest) in
-    omega (arith, ap number_len (append_assoc text exponent rest), first, exact, ap exponent_len after)
+    omega (arith, ap number_len (append_assoc text exponent rest), first, exact, ap exponent_len after, begins.found rest, length-append text exponent)
+
+decimal_covered : (text ds es : List ℕ) → WritesDigits text ds es → (rest : List ℕ) → length text ≤ number_len (text ++ rest)
+decimal_covered text ds es d rest =
+    let more = decimal_more text ds es d rest in
+    omega (arith, more, decimal_first (text ++ rest) (omega (arith, more, decimal_some text ds es d)))
 
 -- a number at the front is no longer than what is found there
-pub number_more : (text : List ℕ) → IsNumberText text → (rest : List ℕ) → length text ≤ number_len (text ++ rest)
-number_more text (plain ds h) rest =
-    let more = decimal_more ds h rest in
-    omega (arith, more, decimal_first (ds ++ rest) (omega (arith, more, decimal_some ds h)))
-number_more text (scaled ds es h k) rest = omega (arith, scaled_len ds es rest h k, exponent_more es k rest, length-append ds es)
+pub number_more : (text : List ℕ) → IsWritten text → (rest : List ℕ) → length text ≤ number_len (text ++ rest)
+number_more = number_cases (λ text. (rest : List ℕ) → length text ≤ number_len (text ++ rest)) record {
+  alone = decimal_covered;
+  scaled = λ text ds es d exponent k e letter rest. omega (arith, scaled_len text ds es d exponent letter rest);
+}
 
 -- What goes on with no number.
 pub record EndsNumber (rest : List ℕ) : Type 0 where
@@ -166,14 +196,19 @@ pub record EndsNumber (rest : List ℕ) : Type 0 where
   pub decimals : decimals_len rest ≡ 0
   pub exponent : exponent_len rest ≡ 0
 
--- a number is found whole where nothing goes on with it
-pub number_exact : (text : List ℕ) → IsNumberText text → (rest : List ℕ) → EndsNumber rest → number_len (text ++ rest) ≡ length text
-number_exact text (plain ds h) rest stops =
-    let exact = decimal_exact ds h rest stops.digits stops.decimals in
-    let first = decimal_first (ds ++ rest) (omega (arith, exact, decimal_some ds h)) in
-    let after : drop (decimal_len (ds ++ rest)) (ds ++ rest) ≡ rest = ap (λ i. drop i (ds ++ rest)) exact ∙ drop-append_seam ds rest in
+alone_exact : (text ds es : List ℕ) → WritesDigits text ds es → (rest : List ℕ) → EndsNumber rest → number_len (text ++ rest) ≡ length text
+alone_exact text ds es d rest stops =
+    let exact = decimal_exact text ds es d rest stops.digits stops.decimals in
+    let first = decimal_first (text ++ rest) (omega (arith, exact, decimal_some text ds es d)) in
+    let after : drop (decimal_len (text ++ rest)) (text ++ rest) ≡ rest = ap (λ i. drop i (text ++ rest)) exact ∙ drop-append_seam text rest in
     omega (arith, first, exact, ap exponent_len after, stops.exponent)
-number_exact text (scaled ds es h k) rest stops = omega (arith, scaled_len ds es rest h k, exponent_exact es k rest stops.digits, length-append ds es)
+
+-- a number is found whole where nothing goes on with it
+pub number_exact : (text : List ℕ) → IsWritten text → (rest : List ℕ) → EndsNumber rest → number_len (text ++ rest) ≡ length text
+number_exact = number_cases (λ text. (rest : List ℕ) → EndsNumber rest → number_len (text ++ rest) ≡ length text) record {
+  alone = alone_exact;
+  scaled = λ text ds es d exponent k e letter rest stops. omega (arith, scaled_len text ds es d exponent letter rest, stops.digits);
+}
 
 -- the cases in which a number is found
 number_by : (P : ℕ → Type 0) (bs : List ℕ) → (decimal_len bs ≡ 0 → P 0) → (0 < decimal_len bs → P (decimal_len bs + exponent_len (drop (decimal_len bs) bs))) → P (number_len bs)
@@ -190,20 +225,13 @@ number_within bs =
     (λ some. omega (arith, decimal_within bs, exponent_within (drop (decimal_len bs) bs), length-drop (decimal_len bs) bs))
 
 -- a decimal and the exponent after it, if one is found
-decimal_then : (bs : List ℕ) → 0 < decimal_len bs → IsNumberText (take (decimal_len bs + exponent_len (drop (decimal_len bs) bs)) bs)
-decimal_then bs some = go (nat_lt 0 x) refl
-  where
-    d : ℕ
-    d = decimal_len bs
+decimal_then : (bs : List ℕ) → 0 < decimal_len bs → IsWritten (take (decimal_len bs + exponent_len (drop (decimal_len bs) bs)) bs)
+decimal_then bs some =
+    let n = decimal_len bs in
+    let m = exponent_len (drop n bs) in
+    let d = decimal_sound bs some in
+    let e = exponent_sound (drop n bs) in
+    subst IsWritten (sym (take-add n m bs)) (d.0, d.1, e.0, writes (take n bs) (take m (drop n bs)) d.0 d.1 e.0 d.2 e.1)
 
-    x : ℕ
-    x = exponent_len (drop d bs)
-
-    go : (t : Bool) → nat_lt 0 x ≡ t → IsNumberText (take (d + x) bs)
-    go true e = subst IsNumberText (sym (take-add d x bs)) (scaled (take d bs) (take x (drop d bs)) (decimal_sound bs some) (exponent_sound (drop d bs) (ltb-true 0 x e)))
-    go false e =
-        let alone : d ≡ d + x = omega (arith, ltb-false 0 x e) in
-        subst (λ i. IsNumberText (take i bs)) alone (plain (take d bs) (decimal_sound bs some))
-
-pub number_sound : (bs : List ℕ) → 0 < number_len bs → IsNumberText (take (number_len bs) bs)
-number_sound bs = number_by (λ n. 0 < n → IsNumberText (take n bs)) bs (λ none some. absurd (omega (arith, some))) (λ some _. decimal_then bs some)
+pub number_sound : (bs : List ℕ) → 0 < number_len bs → IsWritten (take (number_len bs) bs)
+number_sound bs = number_by (λ n. 0 < n → IsWritten (take n bs)) bs (λ none some. absurd (omega (arith, some))) (λ some _. decimal_then bs some)

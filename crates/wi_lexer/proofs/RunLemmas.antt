@@ -4,6 +4,10 @@ use Rattle.std.specs.Prelude.{nat_lt}
 use Rattle.std.proofs.lemmas.Bool.{cases_Bool, ltb-true, lt-ltb}
 use Rattle.std.specs.List.{prefix_len, list_all}
 use Rattle.std.proofs.lemmas.List.Sums.{prefix_len-le-length}
+use Rattle.std.specs.Char.{is_ascii_digit}
+use Rattle.std.specs.Str.Parse.{AllDigits, IsNumeral}
+use Rattle.wi_fraction.proofs.Scanning.{own, digits_same}
+use Rattle.wi_lexer.specs.Runs.{IsRun}
 use Rattle.wi_lexer.specs.Inner.Runs.{one_more}
 
 pub both_are_true : (a b : Bool) → (a && b) ≡ true → (a ≡ true) × (b ≡ true)
@@ -51,6 +55,14 @@ all_wider class wider each [] h = refl
 all_wider class wider each (x ∷ xs) h =
     let p = both_are_true (class x) (list_all class xs) h in
     cc (each x p.0, all_wider class wider each xs p.1)
+
+-- ---- digits
+
+pub digits_all : (ds : List ℕ) → AllDigits 10 ds → list_all is_ascii_digit ds ≡ true
+digits_all ds h = sym (digits_same ds) ∙ own.from ds h
+
+pub digits_run : (ds : List ℕ) → IsNumeral 10 ds → IsRun is_ascii_digit ds
+digits_run ds h = record { some = h.0; all = digits_all ds h.1 }
 
 -- ---- a length and one byte before it
 

@@ -5,11 +5,11 @@ use Rattle.std.specs.Option.{option_or}
 use Rattle.std.proofs.lemmas.Bool.{ltb-true, lt-ltb}
 use Rattle.std.proofs.lemmas.List.{take-append-drop, length-take-le}
 use Rattle.std.proofs.Math.Seq.{take-append_seam}
+use Rattle.wi_fraction.specs.Written.{IsWritten}
 use Rattle.wi_lexer.specs.declared.token.Kind.{Kind}
 use Rattle.wi_lexer.specs.declared.token.Kind.TheVariants.{Number, Reference, Rectangle, Name, Text, Mark}
 use Rattle.wi_lexer.specs.declared.token.Mark as mark
 use Rattle.wi_lexer.specs.declared.token.Mark.TheVariants.{NotEqual, Less, LessOrEqual, Greater, GreaterOrEqual}
-use Rattle.wi_lexer.specs.Number.{IsNumberText}
 use Rattle.wi_lexer.specs.Inner.Number.{decimals_len, decimal_len, number_len}
 use Rattle.wi_lexer.specs.Reference.{IsReference, one_cell}
 use Rattle.wi_lexer.specs.Inner.Reference.{reference_len}
@@ -174,7 +174,7 @@ token_some Name text t = name_some text t
 token_some Text text t = text_some text t
 token_some (Mark m) text t = subst (λ x. 0 < length x) (sym t) (mark_some m)
 
-covered_number : (text : List ℕ) → IsNumberText text → (rest : List ℕ) → IsCovered Number text (text ++ rest)
+covered_number : (text : List ℕ) → IsWritten text → (rest : List ℕ) → IsCovered Number text (text ++ rest)
 covered_number text t rest =
     let more = number_more text t rest in
     record {

@@ -1,5 +1,4 @@
 pub mod Runs
-pub mod Number
 pub mod Cell
 pub mod Reference
 pub mod Rectangle

@@ -1,5 +1,5 @@
 -- References as a formula writes them (OpenFormula, "References").
-use Rattle.std.specs.Prelude.{ℕ, ◌+◌, ◌-◌, List, ◌++◌, codes}
+use Rattle.std.specs.Prelude.{ℕ, List, ◌++◌, codes}
 use Rattle.wi_lexer.specs.Cell.{Cell, IsCell, cell_text}
 
 -- the reference to a cell: `[.CELL]`

@@ -2,8 +2,8 @@
 use Rattle.std.specs.Prelude.{◌≡◌, ℕ, ◌≤◌, List, length, take, drop}
 use Rattle.wi_lexer.specs.declared.token.Kind.{Kind}
 use Rattle.wi_lexer.specs.declared.token.Kind.TheVariants.{Number, Reference, Rectangle, Name, Text, Mark}
+use Rattle.wi_fraction.specs.Written.{IsWritten}
 use Rattle.wi_lexer.specs.Runs.{blanks_len}
-use Rattle.wi_lexer.specs.Number.{IsNumberText}
 use Rattle.wi_lexer.specs.Reference.{IsReference}
 use Rattle.wi_lexer.specs.Rectangle.{IsRectangle}
 use Rattle.wi_lexer.specs.Name.{IsName}
@@ -12,7 +12,7 @@ use Rattle.wi_lexer.specs.Mark.{mark_text}
 
 -- the text is a token of this kind
 abbrev pub IsToken : Kind → List ℕ → Type 0
-IsToken Number text = IsNumberText text
+IsToken Number text = IsWritten text
 IsToken Reference text = IsReference text
 IsToken Rectangle text = IsRectangle text
 IsToken Name text = IsName text

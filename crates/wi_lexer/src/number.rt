@@ -1,7 +1,7 @@
 //! Where a number ends.
 
 ghost use Rattle.std.specs.Prelude.{◌≡◌, length, ◌≤◌};
-ghost use Rattle.wi_lexer.specs.Number as spec;
+ghost use Rattle.wi_fraction.specs.Written.{is_exponent_letter};
 ghost use Rattle.wi_lexer.specs.Inner.Number as reader;
 
 use crate::runs::{byte, digits_len};
@@ -31,13 +31,13 @@ fn decimal_len(text: &[u8]) -> usize
 }
 
 fn is_exponent_letter(b: u8) -> bool
-    ensures { result ≡ spec.is_exponent_letter b }
+    ensures { result ≡ is_exponent_letter b }
 {
     b == b'e' || b == b'E'
 }
 
 fn is_sign(b: u8) -> bool
-    ensures { result ≡ spec.is_sign b }
+    ensures { result ≡ reader.is_sign b }
 {
     b == b'+' || b == b'-'
 }

@@ -2,7 +2,7 @@
 use Rattle.std.proofs.Common.{◌≡◌, ◌↔◌, ℕ, ℤ, ◌⊎◌, inl, inr, List, Option, Some, None, refl, sym, ap, ap₂, ◌∙◌, subst}
 use Rattle.wi_fraction.specs.Number.{Number as Numbers}
 use Rattle.wi_fraction.specs.Inner.Reading.{read_decimal}
-use Rattle.wi_fraction.specs.Written.{Writes, written_value}
+use Rattle.wi_fraction.specs.Written.{Writes, IsWritten, written_value}
 use Rattle.wi_fraction.proofs.Written.{reads_what_is_written}
 use Rattle.wi_lexer.specs.declared.token.Kind.{Kind}
 use Rattle.wi_lexer.specs.declared.token.Kind.TheVariants.{Number, Text, Reference, Rectangle, Mark, Name}
@@ -10,7 +10,6 @@ use Rattle.wi_lexer.specs.declared.token.Mark as mark
 use Rattle.wi_lexer.specs.declared.token.Mark.TheVariants.{OpenParenthesis, CloseParenthesis, Semicolon, Plus, Minus, Asterisk, Slash, Caret, Percent, Ampersand, Equal, NotEqual, Less, LessOrEqual, Greater, GreaterOrEqual}
 use Rattle.wi_lexer.specs.Cell.{Cell, IsCell}
 use Rattle.wi_lexer.specs.Mark.{mark_text}
-use Rattle.wi_lexer.specs.Number.{IsNumberText}
 use Rattle.wi_lexer.specs.Rectangle.{IsRectangle, two_cells, rectangle_text}
 use Rattle.wi_lexer.specs.Reference.{IsReference, one_cell, reference_text}
 use Rattle.wi_lexer.specs.Text.{IsText, of_content, quoted}
@@ -27,7 +26,6 @@ use Rattle.wi_parser.specs.Symbols.{reference_to}
 use Rattle.wi_parser.specs.Printing.{mark_of}
 use Rattle.wi_parser.specs.Symbol.{Symbol, text_literal, refused, infix_mark}
 use Rattle.wi_parser.specs.Symbols.{Means, a_number, an_unfit_number, a_text, a_reference, an_outside_reference, a_rectangle, an_outside_rectangle, a_name, an_opening_parenthesis, a_closing_parenthesis, a_separator, a_percent_mark, an_operator}
-use Rattle.wi_parser.proofs.NumberTexts.{number_texts}
 
 -- ---- a token means what it stands for
 
@@ -35,10 +33,8 @@ value_means : (text whole parts : List ℕ) (k : ℤ) → Writes text whole part
 value_means text whole parts k w None e = an_unfit_number text whole parts k w e
 value_means text whole parts k w (Some x) e = a_number text whole parts k x w e
 
-number_means : (text : List ℕ) → IsNumberText text → Means text (number_symbol (read_decimal text))
-number_means text h =
-    let w = (number_texts text).0 h in
-    value_means text w.0 w.1 w.2 w.3 (read_decimal text) (sym (reads_what_is_written.value text w.0 w.1 w.2 w.3))
+number_means : (text : List ℕ) → IsWritten text → Means text (number_symbol (read_decimal text))
+number_means text w = value_means text w.0 w.1 w.2 w.3 (read_decimal text) (sym (reads_what_is_written.value text w.0 w.1 w.2 w.3))
 
 text_means : (text : List ℕ) → IsText text → Means text (symbol_of Text text)
 text_means text (of_content content) = subst (λ c. Means (quoted content) (text_literal c)) (sym (text_reads_back content)) (a_text content)
@@ -103,8 +99,8 @@ abbrev pub StandsFor : List ℕ → Symbol → Type 0
 StandsFor text s = (k : Kind) × IsToken k text × (symbol_of k text ≡ s)
 
 pub means_token : (text : List ℕ) (s : Symbol) → Means text s → StandsFor text s
-means_token text s (a_number bs whole parts k x w e) = (Number, (number_texts bs).1 (whole, parts, k, w), ap number_symbol (reads_what_is_written.value bs whole parts k w ∙ e))
-means_token text s (an_unfit_number bs whole parts k w e) = (Number, (number_texts bs).1 (whole, parts, k, w), ap number_symbol (reads_what_is_written.value bs whole parts k w ∙ e))
+means_token text s (a_number bs whole parts k x w e) = (Number, (whole, parts, k, w), ap number_symbol (reads_what_is_written.value bs whole parts k w ∙ e))
+means_token text s (an_unfit_number bs whole parts k w e) = (Number, (whole, parts, k, w), ap number_symbol (reads_what_is_written.value bs whole parts k w ∙ e))
 means_token text s (a_text content) = (Text, of_content content, ap text_literal (text_reads_back content))
 means_token text s (a_reference c r is e) = (Reference, one_cell c is, ap reference_symbol (reference_of_complete c is) ∙ ap cell_symbol e)
 means_token text s (an_outside_reference c is e) = (Reference, one_cell c is, ap reference_symbol (reference_of_complete c is) ∙ ap cell_symbol e)

@@ -3,14 +3,15 @@ use Rattle.std.proofs.Common.{◌≡◌, ℕ, true, false, not, List, [], ◌∷
 use Rattle.std.proofs.lemmas.Bool.Decides.{nat_tests}
 use Rattle.std.specs.Char.{is_ascii_digit}
 use Rattle.std.specs.List.{All, list_all}
+use Rattle.std.specs.Str.Parse.{AllDigits}
 use Rattle.std.proofs.lemmas.List.Elements.{All-head}
+use Rattle.wi_fraction.specs.Written.{WritesDigits, plain, point}
 use Rattle.wi_lexer.specs.declared.token.Kind.{Kind}
 use Rattle.wi_lexer.specs.declared.token.Kind.TheVariants.{Number, Name, Text, Mark}
 use Rattle.wi_lexer.specs.declared.token.Mark.TheVariants.{Less, Greater}
 use Rattle.wi_lexer.specs.Name.{IsName, is_name_start}
-use Rattle.wi_lexer.specs.Number.{IsDecimalText, whole, decimal}
 use Rattle.wi_lexer.specs.Inner.Ends.{goes_on, ends}
-use Rattle.wi_lexer.proofs.RunLemmas.{both_are_true}
+use Rattle.wi_lexer.proofs.RunLemmas.{both_are_true, digits_all}
 use Rattle.wi_parser.specs.declared.expr.Operator.{Operator}
 use Rattle.wi_parser.specs.declared.expr.Operator.TheVariants as operator
 use Rattle.wi_parser.specs.Symbol.{Symbol, numeral, text_literal, reference, corners, open_parenthesis, close_parenthesis, separator, infix_mark, percent_mark, what_if_name, name, refused}
@@ -30,18 +31,21 @@ digit_first d rest h = (grind (arith, nat_tests), grind (arith, nat_tests))
 name_first : (b : ℕ) (rest : List ℕ) → is_name_start b ≡ true → AfterMark (b ∷ rest)
 name_first b rest h = (grind (arith, nat_tests), grind (arith, nat_tests))
 
-number_first : (text rest : List ℕ) → IsDecimalText text → AfterMark (text ++ rest)
-number_first text rest (whole [] run) = absurd (omega (arith, run.some))
-number_first text rest (whole (d ∷ ds) run) = digit_first d (ds ++ rest) (both_are_true (is_ascii_digit d) (list_all is_ascii_digit ds) run.all).0
-number_first text rest (decimal [] es all run) = (refl, refl)
-number_first text rest (decimal (d ∷ ds) es all run) = digit_first d ((ds ++ 46 ∷ es) ++ rest) (both_are_true (is_ascii_digit d) (list_all is_ascii_digit ds) all).0
+digits_first : (d : ℕ) (ds : List ℕ) → AllDigits 10 (d ∷ ds) → is_ascii_digit d ≡ true
+digits_first d ds h = (both_are_true (is_ascii_digit d) (list_all is_ascii_digit ds) (digits_all (d ∷ ds) h)).0
+
+number_first : (text ds es rest : List ℕ) → WritesDigits text ds es → AfterMark (text ++ rest)
+number_first text _ _ rest (plain [] h) = absurd (omega (arith, h.0))
+number_first text _ _ rest (plain (d ∷ ds) h) = digit_first d (ds ++ rest) (digits_first d ds h.1)
+number_first text _ _ rest (point [] es h i) = (refl, refl)
+number_first text _ _ rest (point (d ∷ ds) es h i) = digit_first d ((ds ++ 46 ∷ es) ++ rest) (digits_first d ds h)
 
 function_first : (f rest : List ℕ) → IsName f → AfterMark (f ++ rest)
 function_first [] rest h = let no = h.start in cc
 function_first (b ∷ bs) rest h = name_first b (bs ++ rest) h.start
 
 operand_first : (s : Symbol) (rest : List ℕ) → IsWritable s → begins s ≡ true → AfterMark (symbol_text s ++ rest)
-operand_first (numeral x) rest w e = number_first (numeral_text x) rest (number_is x w)
+operand_first (numeral x) rest w e = let d = number_is x w in number_first (numeral_text x) d.0 d.1 rest d.2
 operand_first (text_literal s) rest w e = (refl, refl)
 operand_first (reference r) rest w e = (refl, refl)
 operand_first (corners c) rest w e = (refl, refl)

@@ -1,9 +1,10 @@
 -- The text of a symbol is a token that means the symbol.
-use Rattle.std.proofs.Common.{◌≡◌, ◌≢◌, ℕ, zero, suc, ◌*◌, ◌/◌, ◌%◌, ◌^◌, ◌<◌, ◌≤◌, true, List, ◌++◌, length, Option, Some, None, unsigned_abs, if◌then◌else◌, refl, sym, ap, ap₂, ◌∙◌, subst, arith}
+use Rattle.std.proofs.Common.{◌≡◌, ◌≢◌, ℕ, zero, suc, ◌*◌, ◌/◌, ◌%◌, ◌^◌, ◌<◌, ◌≤◌, true, List, [], ◌++◌, length, Option, Some, None, unsigned_abs, if◌then◌else◌, refl, sym, ap, ap₂, ◌∙◌, subst, arith}
 use Rattle.std.specs.Fmt.{decimal}
 use Rattle.wi_fraction.specs.Number.{Number as Numbers, max_size}
 use Rattle.wi_fraction.specs.Text.{padded, size_text, sign_text}
 use Rattle.wi_fraction.specs.Decimal.{all_places, decimal_text, IsUnsignedDecimal}
+use Rattle.wi_fraction.specs.Written.{plain, point}
 use Rattle.wi_fraction.proofs.Digits.{length-padded, digits_padded}
 use Rattle.wi_fraction.proofs.Places.{all_none}
 use Rattle.wi_fraction.proofs.ReadsBack.{numeral as decimal_digits, div_small}
@@ -11,11 +12,12 @@ use Rattle.wi_fraction.proofs.DecimalsReadBack.{decimal_few, decimals_read_back}
 use Rattle.wi_lexer.specs.declared.token.Kind.{Kind}
 use Rattle.wi_lexer.specs.declared.token.Kind.TheVariants.{Number, Text, Reference, Rectangle, Mark, Name}
 use Rattle.wi_lexer.specs.declared.token.Mark.TheVariants.{OpenParenthesis, CloseParenthesis, Semicolon, Percent}
-use Rattle.wi_lexer.specs.Number.{IsDecimalText, whole, decimal as with_point, plain}
 use Rattle.wi_lexer.specs.Reference.{one_cell}
 use Rattle.wi_lexer.specs.Rectangle.{two_cells}
 use Rattle.wi_lexer.specs.Text.{of_content}
 use Rattle.wi_lexer.specs.Token.{IsToken}
+use Rattle.wi_lexer.proofs.DecimalLemmas.{SomeDigits}
+use Rattle.wi_lexer.proofs.NumberLemmas.{digits_alone}
 use Rattle.wi_lexer.proofs.ReferenceLemmas.{reference_of_complete}
 use Rattle.wi_lexer.proofs.RectangleLemmas.{rectangle_of_complete}
 use Rattle.wi_lexer.proofs.QuoteLemmas.{text_reads_back}
@@ -29,7 +31,7 @@ use Rattle.wi_parser.specs.Shift.{in_sheet}
 use Rattle.wi_parser.specs.Printing.{cell_named, mark_of, symbol_text}
 use Rattle.wi_parser.specs.Inner.FormulaText.{number_symbol, cell_symbol, reference_symbol, corners_symbol, rectangle_symbol, mark_symbol, symbol_of}
 use Rattle.wi_parser.specs.Writable.{IsFunctionName, IsWritable}
-use Rattle.wi_parser.proofs.CellsOfSheet.{digits_run, cell_is, cell_means}
+use Rattle.wi_parser.proofs.CellsOfSheet.{cell_is, cell_means}
 use Rattle.wi_parser.proofs.Apart.{stands_before}
 
 -- the kind of the token that a symbol is written as; a refused one is not written
@@ -54,26 +56,26 @@ pub record IsWritten (s : Symbol) : Type 0 where
 
 -- ---- numbers
 
-size_is : (n d : ℕ) (p : Option ℕ) → p ≢ None → n ≤ max_size → IsDecimalText (size_text p n d)
+size_is : (n d : ℕ) (p : Option ℕ) → p ≢ None → n ≤ max_size → SomeDigits (size_text p n d)
 unfolding size_text
 size_is n d None some fits = absurd (some refl)
-size_is n d (Some zero) some fits = whole (decimal n) (digits_run (decimal n) (decimal_digits n fits))
+size_is n d (Some zero) some fits = (decimal n, [], plain (decimal n) (decimal_digits n fits))
 size_is n d (Some (suc k)) some fits =
     let digits = padded (suc k) (n % d * (10 ^ suc k / d)) in
-    let front = digits_run (decimal (n / d)) (decimal_digits (n / d) (div_small n d fits)) in
+    let front = decimal_digits (n / d) (div_small n d fits) in
     let long : 0 < length digits = omega (arith, length-padded (suc k) (n % d * (10 ^ suc k / d))) in
-    with_point (decimal (n / d)) digits front.all (digits_run digits (long, digits_padded (suc k) _))
+    (decimal (n / d), digits, point (decimal (n / d)) digits front.1 (long, digits_padded (suc k) _))
 
--- the exact decimal of a number without a sign is one
-pub number_is : (x : Numbers) → IsUnsignedDecimal x → IsDecimalText (decimal_text x)
+-- the exact decimal of a number without a sign is digits, and digits after a point or none
+pub number_is : (x : Numbers) → IsUnsignedDecimal x → SomeDigits (decimal_text x)
 unfolding decimal_text
 number_is x h =
     let divides = decimal_few h.decimal.0 x.den x.is_number.above_zero x.is_number.den_fits h.decimal.1 in
     let size = size_is (unsigned_abs x.num) x.den (all_places x.den) (λ none. all_none x.den none divides) x.is_number.num_fits in
-    subst (λ b. IsDecimalText (sign_text b ++ size_text (all_places x.den) (unsigned_abs x.num) x.den)) (sym h.unsigned) size
+    subst (λ b. SomeDigits (sign_text b ++ size_text (all_places x.den) (unsigned_abs x.num) x.den)) (sym h.unsigned) size
 
 number_written : (x : Numbers) → IsUnsignedDecimal x → IsWritten (numeral x)
-number_written x h = record { token = plain (decimal_text x) (number_is x h); means = ap number_symbol (decimals_read_back x h.decimal h.unsigned) }
+number_written x h = record { token = digits_alone (decimal_text x) (number_is x h); means = ap number_symbol (decimals_read_back x h.decimal h.unsigned) }
 
 -- ---- other symbols
 

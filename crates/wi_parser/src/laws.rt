@@ -3,8 +3,6 @@
 ghost use Rattle.std.specs.Prelude.{◌≡◌, ◌↔◌, ℕ, ◌≤◌, pos, true, List, length, Some, Result, Ok, suc};
 ghost use Rattle.std.specs.List.{list_any};
 ghost use Rattle.wi_values.specs.Address.{is_within};
-ghost use Rattle.wi_fraction.specs.Written.{IsWritten};
-ghost use Rattle.wi_lexer.specs.Number.{IsNumberText};
 ghost use Rattle.wi_lexer.specs.Token.{IsToken};
 ghost use Rattle.wi_lexer.specs.Inner.Tokens.{tokens};
 ghost use Rattle.wi_lexer.specs.declared.token.Kind.{Kind};
@@ -25,12 +23,6 @@ ghost use Rattle.wi_parser.specs.Printing.{printed};
 ghost use Rattle.wi_parser.specs.Writable.{IsFormulaTree};
 ghost use Rattle.wi_parser.specs.Reads.{reads, rectangles_of};
 ghost use Rattle.wi_parser.specs.Shift.{in_sheet, all_references, shifted};
-
-/// The text of a number token is one that writes a decimal, and each such text is one: of a token whose number isn't read
-/// it is the number that doesn't fit.
-pub fn number_tokens_write_decimals()
-    ensures { (text : List ℕ) → IsNumberText text ↔ IsWritten text }
-{}
 
 /// A text means a symbol exactly where it is a token of some kind that stands for it.
 pub fn what_tokens_mean()

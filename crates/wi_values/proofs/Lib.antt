@@ -1,5 +1,4 @@
 pub mod Corners
-pub mod Digits
 pub mod Equal
 pub mod Fields
 pub mod Imports

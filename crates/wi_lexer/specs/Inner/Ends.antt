@@ -2,10 +2,10 @@
 use Rattle.std.specs.Prelude.{ℕ, Bool, true, false, not, ◌||◌, ◌==◌, List, [], ◌∷◌}
 use Rattle.std.specs.Char.{is_ascii_digit}
 use Rattle.std.specs.Str.{byte}
+use Rattle.wi_fraction.specs.Written.{is_exponent_letter}
 use Rattle.wi_lexer.specs.declared.token.Kind.{Kind}
 use Rattle.wi_lexer.specs.declared.token.Kind.TheVariants.{Number, Name, Text, Mark}
 use Rattle.wi_lexer.specs.declared.token.Mark.TheVariants.{Less, Greater}
-use Rattle.wi_lexer.specs.Number.{is_exponent_letter}
 use Rattle.wi_lexer.specs.Name.{is_name_part}
 
 -- whether a token of this kind may go on with this byte

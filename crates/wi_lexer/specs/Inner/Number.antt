@@ -1,8 +1,8 @@
 -- Where a number ends, as a reader goes.
-use Rattle.std.specs.Prelude.{ℕ, ◌+◌, ◌&&◌, ◌==◌, nat_lt, if◌then◌else◌, List, drop, slice_index}
+use Rattle.std.specs.Prelude.{ℕ, ◌+◌, Bool, ◌&&◌, ◌||◌, ◌==◌, nat_lt, if◌then◌else◌, List, drop, slice_index}
 use Rattle.std.specs.Str.{byte}
+use Rattle.wi_fraction.specs.Written.{is_exponent_letter}
 use Rattle.wi_lexer.specs.Inner.Runs.{digits_len, one_more}
-use Rattle.wi_lexer.specs.Number.{is_exponent_letter, is_sign}
 
 -- the length of a point and the digits after it, or 0 where they don't stand at the front
 unfoldable pub decimals_len : List ℕ → ℕ
@@ -11,6 +11,9 @@ decimals_len bs = if (slice_index bs 0 == byte "." && nat_lt 0 (digits_len (drop
 -- the length of the longest decimal at the front, or 0 where none stands there
 unfoldable pub decimal_len : List ℕ → ℕ
 decimal_len bs = digits_len bs + decimals_len (drop (digits_len bs) bs)
+
+abbrev pub is_sign : ℕ → Bool
+is_sign b = b == byte "+" || b == byte "-"
 
 -- the length of digits at the front, with a sign before them or without, or 0 where none stand there
 unfoldable pub signed_len : List ℕ → ℕ
