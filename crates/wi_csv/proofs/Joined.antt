@@ -3,24 +3,25 @@ use Rattle.std.proofs.Common.{◌≡◌, ◌<◌, ◌≤◌, ◌+◌, cond, Resu
 use Rattle.std.specs.List.{flat_map, join_with_byte}
 use Rattle.std.proofs.lemmas.Grind.{flat_map-append}
 use Rattle.std.proofs.lemmas.List.{take_more, take_all, map-append, append-nil}
-use Rattle.wi_csv.specs.Row.{escaped, quoted, row}
+use Rattle.wi_quoting.specs.Quoted.{doubled, quoted}
+use Rattle.wi_csv.specs.Row.{row}
 
 -- one more byte of a field is there
-pub bytes_more : (field : List ℕ) (i : ℕ) (front out next : List ℕ) → i < length field → out ≡ front ++ flat_map escaped (take i field)
-    → next ≡ out ++ escaped (get_or field i 0) → next ≡ front ++ flat_map escaped (take (i + 1) field)
+pub bytes_more : (field : List ℕ) (i : ℕ) (front out next : List ℕ) → i < length field → out ≡ front ++ flat_map doubled (take i field)
+    → next ≡ out ++ doubled (get_or field i 0) → next ≡ front ++ flat_map doubled (take (i + 1) field)
 bytes_more field i front out next lt h e =
-    let cell = escaped (get_or field i 0) in
-    e ∙ ap (λ o. o ++ cell) h ∙ append_assoc front (flat_map escaped (take i field)) cell
+    let cell = doubled (get_or field i 0) in
+    e ∙ ap (λ o. o ++ cell) h ∙ append_assoc front (flat_map doubled (take i field)) cell
     ∙ ap (λ o. front ++ o)
-    (ap (λ o. flat_map escaped (take i field) ++ o) (sym (append-nil cell)) ∙ sym (flat_map-append escaped (take i field) (get_or field i 0 ∷ [])) ∙ ap (flat_map escaped) (sym (take_more field i 0 lt)))
+    (ap (λ o. flat_map doubled (take i field) ++ o) (sym (append-nil cell)) ∙ sym (flat_map-append doubled (take i field) (get_or field i 0 ∷ [])) ∙ ap (flat_map doubled) (sym (take_more field i 0 lt)))
 
 -- all bytes, and the last quote
-pub field_done : (field : List ℕ) (n : ℕ) (before sep out next : List ℕ) → length field ≤ n → out ≡ (before ++ sep ++ 34 ∷ []) ++ flat_map escaped (take n field)
+pub field_done : (field : List ℕ) (n : ℕ) (before sep out next : List ℕ) → length field ≤ n → out ≡ (before ++ sep ++ 34 ∷ []) ++ flat_map doubled (take n field)
     → next ≡ out ++ 34 ∷ [] → next ≡ before ++ sep ++ quoted field
 field_done field n before sep out next all h e =
-    e ∙ ap (λ o. o ++ 34 ∷ []) (h ∙ ap (λ xs. (before ++ sep ++ 34 ∷ []) ++ flat_map escaped xs) (take_all n field all))
-    ∙ append_assoc (before ++ sep ++ 34 ∷ []) (flat_map escaped field) (34 ∷ [])
-    ∙ append_assoc (before ++ sep) (34 ∷ []) (flat_map escaped field ++ 34 ∷ [])
+    e ∙ ap (λ o. o ++ 34 ∷ []) (h ∙ ap (λ xs. (before ++ sep ++ 34 ∷ []) ++ flat_map doubled xs) (take_all n field all))
+    ∙ append_assoc (before ++ sep ++ 34 ∷ []) (flat_map doubled field) (34 ∷ [])
+    ∙ append_assoc (before ++ sep) (34 ∷ []) (flat_map doubled field ++ 34 ∷ [])
 
 -- what stands before one more
 abbrev pub comma : List (List ℕ) → List ℕ

@@ -11,22 +11,23 @@ use Rattle.csv.specs.Writing.{default_writer}
 use Rattle.csv.specs.declared.parser.State.{State}
 use Rattle.csv.specs.declared.parser.State.TheVariants as st
 use Rattle.csv.proofs.RoundTrip.{quoted-run}
+use Rattle.wi_quoting.specs.Quoted.{doubled, quoted}
 use Rattle.wi_csv.specs.Laws.{ReadAgain}
-use Rattle.wi_csv.specs.Row.{escaped, quoted, row}
+use Rattle.wi_csv.specs.Row.{row}
 use Rattle.wi_csv.proofs.Counted.{all_read}
 
 -- quotes are doubled as `csv` doubles them
-same_escape : (field : List ℕ) → flat_map escaped field ≡ csv.escaped default_writer field
+same_escape : (field : List ℕ) → flat_map doubled field ≡ csv.escaped default_writer field
 unfolding csv.escaped
 same_escape [] = refl
-same_escape (b ∷ rest) = flat_map-cons escaped b rest ∙ elim (cases_Bool (b == 34)) [
+same_escape (b ∷ rest) = flat_map-cons doubled b rest ∙ elim (cases_Bool (b == 34)) [
   | inl same ↦
-      subst (λ (z : ℕ). escaped z ++ flat_map escaped rest ≡ csv.escaped default_writer (z ∷ rest)) (sym (eqb-true b 34 same)) (ap (λ t. 34 ∷ 34 ∷ t) (same_escape rest))
+      subst (λ (z : ℕ). doubled z ++ flat_map doubled rest ≡ csv.escaped default_writer (z ∷ rest)) (sym (eqb-true b 34 same)) (ap (λ t. 34 ∷ 34 ∷ t) (same_escape rest))
   | inr other ↦ rw other (ap (λ t. b ∷ t) (same_escape rest))
 ]
 
 quoted_text : (x tail : List ℕ) → quoted x ++ tail ≡ 34 ∷ (csv.escaped default_writer x ++ (34 ∷ tail))
-quoted_text x tail = ap (λ t. 34 ∷ t) (append_assoc (flat_map escaped x) (34 ∷ []) tail ∙ ap (λ t. t ++ 34 ∷ tail) (same_escape x))
+quoted_text x tail = ap (λ t. 34 ∷ t) (append_assoc (flat_map doubled x) (34 ∷ []) tail ∙ ap (λ t. t ++ 34 ∷ tail) (same_escape x))
 
 -- a field is read from quote to quote
 field_run : (fields : List (List ℕ)) (x tail : List ℕ)

@@ -2,7 +2,8 @@
 
 ghost use Rattle.std.specs.Prelude.{◌≡◌, ◌++◌, map, OnOk, OnErr};
 ghost use Rattle.std.specs.Io.{StartsWith};
-ghost use Rattle.wi_csv.specs.Row.{escaped, quoted, row};
+ghost use Rattle.wi_quoting.specs.Quoted.{doubled, quoted};
+ghost use Rattle.wi_csv.specs.Row.{row};
 
 use std::alloc::AllocError;
 use std::convert::AsSlice;
@@ -42,7 +43,7 @@ fn push_field(separator: &[u8], field: &[u8], out: &mut Vec<u8>) -> Result<(), A
     out.extend_from_slice(separator)?;
     out.push(b'"')?;
     for byte in field {
-        push_escaped(*byte, out)?;
+        push_doubled(*byte, out)?;
     }
     out.push(b'"')?;
     Ok(())
@@ -50,8 +51,8 @@ fn push_field(separator: &[u8], field: &[u8], out: &mut Vec<u8>) -> Result<(), A
 
 // Appends a byte of a field, twice where it is a quote.
 #[tactic(auto, using(crate::proofs::Growth::starts_more))]
-fn push_escaped(byte: u8, out: &mut Vec<u8>) -> Result<(), AllocError>
-    ensures ok { OnOk result (out.new.items ≡ out.old.items ++ escaped byte) }
+fn push_doubled(byte: u8, out: &mut Vec<u8>) -> Result<(), AllocError>
+    ensures ok { OnOk result (out.new.items ≡ out.old.items ++ doubled byte) }
     ensures kept { StartsWith out.new.items out.old.items }
 {
     if byte == b'"' {

@@ -9,6 +9,7 @@ use Rattle.std.proofs.lemmas.Bool.Decides.{nat_tests}
 use Rattle.std.proofs.lemmas.List.{get_or-append-add, get_or-take, length-take-le}
 use Rattle.std.proofs.lemmas.List.Sums.{AllPass-from_list_all, prefix_len_passes}
 use Rattle.wi_fraction.specs.Written.{WritesDigits, plain, point, WritesExponent, none, unsigned, plus, minus, IsWritten}
+use Rattle.wi_quoting.specs.Quoted.{doubled}
 use Rattle.wi_lexer.specs.declared.token.Kind.{Kind}
 use Rattle.wi_lexer.specs.declared.token.Kind.TheVariants.{Number, Reference, Rectangle, Name, Text, Mark}
 use Rattle.wi_lexer.specs.declared.token.Mark as mark
@@ -18,7 +19,7 @@ use Rattle.wi_lexer.specs.Cell.{cell_text}
 use Rattle.wi_lexer.specs.Reference.{IsReference, one_cell}
 use Rattle.wi_lexer.specs.Rectangle.{IsRectangle, two_cells}
 use Rattle.wi_lexer.specs.Name.{IsName, is_name_part}
-use Rattle.wi_lexer.specs.Text.{IsText, of_content, doubled}
+use Rattle.wi_lexer.specs.Text.{IsText, of_content}
 use Rattle.wi_lexer.specs.Mark.{mark_text}
 use Rattle.wi_lexer.specs.Token.{IsToken, IsLongest}
 use Rattle.wi_lexer.proofs.RunLemmas.{run_within, digits_all}

@@ -5,6 +5,7 @@ use Rattle.std.proofs.lemmas.Bool.Decides.{nat_tests}
 use Rattle.std.specs.List.{list_all, prefix_len}
 use Rattle.std.specs.Char.{is_ascii_digit}
 use Rattle.wi_fraction.specs.Written.{WritesDigits, plain, point, is_exponent_letter, IsWritten}
+use Rattle.wi_quoting.specs.Quoted.{quoted}
 use Rattle.wi_lexer.specs.declared.token.Kind.{Kind}
 use Rattle.wi_lexer.specs.declared.token.Kind.TheVariants.{Number, Reference, Rectangle, Name, Text, Mark}
 use Rattle.wi_lexer.specs.declared.token.Mark as mark
@@ -16,7 +17,7 @@ use Rattle.wi_lexer.specs.Cell.{Cell, IsCell, cell_text}
 use Rattle.wi_lexer.specs.Reference.{IsReference, one_cell}
 use Rattle.wi_lexer.specs.Rectangle.{IsRectangle, two_cells}
 use Rattle.wi_lexer.specs.Name.{IsName, is_name_start, is_name_part}
-use Rattle.wi_lexer.specs.Text.{IsText, of_content, quoted}
+use Rattle.wi_lexer.specs.Text.{IsText, of_content}
 use Rattle.wi_lexer.specs.Inner.Text.{quoted_len, text_len}
 use Rattle.wi_lexer.specs.Mark.{mark_text}
 use Rattle.wi_lexer.specs.Inner.Mark.{two_byte_mark, one_byte_mark, mark_at}

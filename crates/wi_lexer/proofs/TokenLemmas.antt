@@ -6,6 +6,7 @@ use Rattle.std.proofs.lemmas.Bool.{ltb-true, lt-ltb}
 use Rattle.std.proofs.lemmas.List.{take-append-drop, length-take-le}
 use Rattle.std.proofs.Math.Seq.{take-append_seam}
 use Rattle.wi_fraction.specs.Written.{IsWritten}
+use Rattle.wi_quoting.specs.Quoted.{quoted}
 use Rattle.wi_lexer.specs.declared.token.Kind.{Kind}
 use Rattle.wi_lexer.specs.declared.token.Kind.TheVariants.{Number, Reference, Rectangle, Name, Text, Mark}
 use Rattle.wi_lexer.specs.declared.token.Mark as mark
@@ -18,7 +19,7 @@ use Rattle.wi_lexer.specs.Inner.Rectangle.{rectangle_len}
 use Rattle.wi_lexer.specs.Cell.{Cell, IsCell, cell_text}
 use Rattle.wi_lexer.specs.Name.{IsName, is_name_start}
 use Rattle.wi_lexer.specs.Inner.Name.{name_len}
-use Rattle.wi_lexer.specs.Text.{IsText, of_content, quoted}
+use Rattle.wi_lexer.specs.Text.{IsText, of_content}
 use Rattle.wi_lexer.specs.Inner.Text.{text_len}
 use Rattle.wi_lexer.specs.Mark.{mark_text}
 use Rattle.wi_lexer.specs.Inner.Mark.{two_byte_mark, one_byte_mark, mark_at}

@@ -1,15 +1,6 @@
 -- Texts as a formula writes them (OpenFormula, "Constant Strings").
-use Rattle.std.specs.Prelude.{ℕ, ◌==◌, if◌then◌else◌, List, [], ◌∷◌, ◌++◌, codes}
-use Rattle.std.specs.List.{flat_map}
-use Rattle.std.specs.Str.{byte}
-
--- a byte between the quotes: a quote is doubled
-abbrev pub doubled : ℕ → List ℕ
-doubled b = if b == byte "\"" then codes "\"\"" else b ∷ []
-
--- a content in double quotes, a quote inside doubled
-abbrev pub quoted : List ℕ → List ℕ
-quoted content = codes "\"" ++ flat_map doubled content ++ codes "\""
+use Rattle.std.specs.Prelude.{ℕ, List}
+use Rattle.wi_quoting.specs.Quoted.{quoted}
 
 -- The text is some content in double quotes.
 pub data IsText : List ℕ → Type 0 where

@@ -1,13 +1,13 @@
 //! Laws of the tokens alone.
 
 ghost use Rattle.std.specs.Prelude.{◌≡◌, ◌↔◌, ℕ, true, List, [], ◌∷◌, ◌++◌, Some, None};
+ghost use Rattle.wi_quoting.specs.Quoted.{quoted};
 ghost use Rattle.wi_lexer.specs.Cell.{Cell, IsCell, cell_text};
 ghost use Rattle.wi_lexer.specs.Inner.Cell.{cell_of};
 ghost use Rattle.wi_lexer.specs.Reference.{reference_text};
 ghost use Rattle.wi_lexer.specs.Inner.Reference.{reference_of};
 ghost use Rattle.wi_lexer.specs.Rectangle.{rectangle_text};
 ghost use Rattle.wi_lexer.specs.Inner.Rectangle.{rectangle_of};
-ghost use Rattle.wi_lexer.specs.Text.{quoted};
 ghost use Rattle.wi_lexer.specs.Inner.Text.{text_content};
 ghost use Rattle.wi_lexer.specs.Token.{IsToken, IsLongest, NoToken};
 ghost use Rattle.wi_lexer.specs.Inner.Token.{token_at};

@@ -4,6 +4,7 @@ use Rattle.wi_fraction.specs.Number.{Number as Numbers}
 use Rattle.wi_fraction.specs.Inner.Reading.{read_decimal}
 use Rattle.wi_fraction.specs.Written.{Writes, IsWritten, written_value}
 use Rattle.wi_fraction.proofs.Written.{reads_what_is_written}
+use Rattle.wi_quoting.specs.Quoted.{quoted}
 use Rattle.wi_lexer.specs.declared.token.Kind.{Kind}
 use Rattle.wi_lexer.specs.declared.token.Kind.TheVariants.{Number, Text, Reference, Rectangle, Mark, Name}
 use Rattle.wi_lexer.specs.declared.token.Mark as mark
@@ -12,7 +13,7 @@ use Rattle.wi_lexer.specs.Cell.{Cell, IsCell}
 use Rattle.wi_lexer.specs.Mark.{mark_text}
 use Rattle.wi_lexer.specs.Rectangle.{IsRectangle, two_cells, rectangle_text}
 use Rattle.wi_lexer.specs.Reference.{IsReference, one_cell, reference_text}
-use Rattle.wi_lexer.specs.Text.{IsText, of_content, quoted}
+use Rattle.wi_lexer.specs.Text.{IsText, of_content}
 use Rattle.wi_lexer.specs.Token.{IsToken}
 use Rattle.wi_lexer.proofs.ReferenceLemmas.{reference_of_complete}
 use Rattle.wi_lexer.proofs.RectangleLemmas.{rectangle_of_complete}

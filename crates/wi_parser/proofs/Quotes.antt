@@ -2,7 +2,7 @@
 use Rattle.std.proofs.Common.{◌≡◌, ℕ, suc, ◌+◌, ◌<◌, Bool, true, false, cond, not, ◌==◌, List, [], ◌∷◌, ◌++◌, length, take, drop, refl, sym, ap, ◌∙◌, arith, append_assoc, Option, Some, None, Bor, Result, Ok, Err, is_ok, OnOk}
 use Rattle.std.specs.List.{flat_map, position_or_len, before_first, after_first}
 use Rattle.std.proofs.lemmas.Str.Pattern.{IsSplitOnceResult, split_once_first}
-use Rattle.wi_lexer.specs.Text.{doubled, quoted}
+use Rattle.wi_quoting.specs.Quoted.{doubled, quoted}
 
 abbrev is_quote : ℕ → Bool
 is_quote b = b == 34

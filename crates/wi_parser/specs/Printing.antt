@@ -5,11 +5,11 @@ use Rattle.std.specs.List.{flat_map}
 use Rattle.wi_fraction.specs.Number.{Number}
 use Rattle.wi_fraction.specs.Decimal.{decimal_text}
 use Rattle.wi_values.specs.Address.{row_of, column_of, column_letters}
+use Rattle.wi_quoting.specs.Quoted.{quoted}
 use Rattle.wi_lexer.specs.Cell.{Cell}
 use Rattle.wi_lexer.specs.Reference.{reference_text}
 use Rattle.wi_lexer.specs.Rectangle.{rectangle_text}
 use Rattle.wi_lexer.specs.Mark.{mark_text}
-use Rattle.wi_lexer.specs.Text.{quoted}
 use Rattle.wi_lexer.specs.declared.token.Mark.{Mark}
 use Rattle.wi_lexer.specs.declared.token.Mark.TheVariants as mark
 use Rattle.wi_parser.specs.declared.expr.Operator.{Operator}

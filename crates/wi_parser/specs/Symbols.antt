@@ -2,13 +2,13 @@
 use Rattle.std.specs.Prelude.{◌≡◌, ◌≢◌, ℕ, ◌≤◌, ℤ, true, false, List, [], ◌∷◌, ◌++◌, length, ◌⊎◌, Some, None, codes, if◌then◌else◌, Option, option_map}
 use Rattle.wi_fraction.specs.Number.{Number}
 use Rattle.wi_fraction.specs.Written.{Writes, written_value}
+use Rattle.wi_quoting.specs.Quoted.{quoted}
 use Rattle.wi_lexer.specs.Cell.{Cell, IsCell}
 use Rattle.wi_lexer.specs.Mark.{mark_text}
 use Rattle.wi_lexer.specs.Name.{IsName}
 use Rattle.wi_lexer.specs.Rectangle.{rectangle_text}
 use Rattle.wi_lexer.specs.Reference.{reference_text}
 use Rattle.wi_lexer.specs.Runs.{is_blank}
-use Rattle.wi_lexer.specs.Text.{quoted}
 use Rattle.wi_parser.specs.declared.expr.Corners.{Corners}
 use Rattle.wi_parser.specs.declared.expr.Operator.{Operator}
 use Rattle.wi_parser.specs.declared.expr.Reference.{Reference}

@@ -2,9 +2,9 @@
 
 ghost use Rattle.std.specs.Prelude.{◌≡◌, ◌++◌, map, OnOk, OnErr, string_bytes};
 ghost use Rattle.std.specs.Io.{StartsWith};
+ghost use Rattle.wi_quoting.specs.Quoted.{quoted};
 ghost use Rattle.wi_lexer.specs.Cell.{dollar, cell_text};
 ghost use Rattle.wi_lexer.specs.Mark.{mark_text};
-ghost use Rattle.wi_lexer.specs.Text.{quoted};
 ghost use Rattle.wi_lexer.specs.Reference.{reference_text};
 ghost use Rattle.wi_lexer.specs.Rectangle.{rectangle_text};
 ghost use Rattle.wi_parser.specs.Grammar.{pair_symbols};

@@ -6,12 +6,12 @@ pub loop-byte-preserved : goal.loop-byte-preserved
 loop-byte-preserved c =
     let old = c.loop-byte.invariant in
     record {
-      written = bytes_more c.args.field.now c.loop-byte.byte-index _ _ _ c.loop-byte-test.true old.written c.in_ok-push_escaped.ensures.ok;
-      kept = starts_trans _ _ _ c.push_escaped.ensures.kept old.kept;
+      written = bytes_more c.args.field.now c.loop-byte.byte-index _ _ _ c.loop-byte-test.true old.written c.in_ok-push_doubled.ensures.ok;
+      kept = starts_trans _ _ _ c.push_doubled.ensures.kept old.kept;
     }
 
-pub returns-in_err-push_escaped-clause-kept : goal.returns-in_err-push_escaped-clause-kept
-returns-in_err-push_escaped-clause-kept c = starts_trans _ _ _ c.push_escaped.ensures.kept c.loop-byte.invariant.kept
+pub returns-in_err-push_doubled-clause-kept : goal.returns-in_err-push_doubled-clause-kept
+returns-in_err-push_doubled-clause-kept c = starts_trans _ _ _ c.push_doubled.ensures.kept c.loop-byte.invariant.kept
 
 pub returns-clause-ok : goal.returns-clause-ok
 returns-clause-ok c =

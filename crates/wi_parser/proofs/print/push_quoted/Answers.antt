@@ -1,7 +1,7 @@
 use Rattle.std.proofs.Common.{rules, ap, sym, subst, ◌∙◌, ◌++◌, ◌∷◌, [], string_bytes}
 use Rattle.std.specs.Io.{StartsWith}
 use Rattle.std.specs.List.{flat_map}
-use Rattle.wi_lexer.specs.Text.{doubled}
+use Rattle.wi_quoting.specs.Quoted.{doubled}
 use Rattle.wi_parser.proofs.PrintLemmas.{starts_more}
 use Rattle.wi_parser.proofs.Quotes.{piece_doubled, rest_doubled, piece_written, last_written}
 use Rattle.wi_parser.proofs.print.push_quoted.Goals as goal
