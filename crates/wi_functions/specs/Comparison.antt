@@ -1,14 +1,13 @@
 -- How values compare (OpenFormula, "Infix Operator Ordered Comparison").
-use Rattle.std.specs.Prelude.{ℕ, [], Bool, false, Option, Some, None}
-use Rattle.std.specs.Option.{option_or}
+use Rattle.std.specs.Prelude.{ℕ, [], Bool, false}
 use Rattle.std.specs.declared.cmp.Ordering.{Ordering}
 use Rattle.std.specs.Ordering.{nat_cmp, bool_cmp}
 use Rattle.std.specs.Cmp.Lexicographic.{slice_cmp}
 use Rattle.wi_fraction.specs.Order.{cross_cmp}
-use Rattle.wi_values.specs.declared.value.ErrorKind.{ErrorKind}
 use Rattle.wi_values.specs.declared.value.Value.{Value}
-use Rattle.wi_values.specs.declared.value.Value.TheVariants.{Empty, Number, Text, Logical, Fault}
+use Rattle.wi_values.specs.declared.value.Value.TheVariants.{Empty, Number, Text, Logical}
 use Rattle.wi_functions.specs.Convert.{zero_number}
+use Rattle.wi_functions.specs.FirstError.{no_error, on_both}
 
 -- what Empty counts as beside a value: 0, the empty text or FALSE, as the value is
 abbrev pub empty_beside : Value → Value
@@ -34,20 +33,6 @@ order (Text s) (Text t) = slice_cmp nat_cmp s t
 order (Logical a) (Logical b) = bool_cmp a b
 order v w = nat_cmp (rank v) (rank w)
 
--- the error, where the value is one
-abbrev pub error_in : Value → Option ErrorKind
-error_in (Fault e) = Some e
-error_in v = None
-
--- the first error from the left
-abbrev pub first_error : Value → Value → Option ErrorKind
-first_error v w = option_or (error_in v) (error_in w)
-
--- the error, or else the value
-abbrev pub unless_error : Option ErrorKind → Value → Value
-unless_error (Some e) v = Fault e
-unless_error None v = v
-
--- whether the order of the two operands passes the test
+-- whether the order of the two operands passes the test, or the first error from the left
 abbrev pub compared : (Ordering → Bool) → Value → Value → Value
-compared test v w = unless_error (first_error v w) (Logical (test (order (beside w v) (beside v w))))
+compared test v w = on_both (λ x y. Logical (test (order (beside y x) (beside x y)))) (no_error v) (no_error w)

@@ -1,4 +1,5 @@
 pub mod Convert
+pub mod FirstError
 pub mod Comparison
 pub mod Operators
 pub mod Meaning

@@ -14,6 +14,7 @@ use Rattle.wi_parser.specs.declared.expr.Operator.TheVariants as op
 use Rattle.wi_parser.specs.declared.expr.Sign.{Sign}
 use Rattle.wi_parser.specs.declared.expr.Sign.TheVariants.{Plus, Minus}
 use Rattle.wi_functions.specs.Convert.{to_number, to_text, hundred_number}
+use Rattle.wi_functions.specs.FirstError.{on_both}
 use Rattle.wi_functions.specs.Comparison.{compared}
 
 -- a number, where it fits
@@ -43,12 +44,6 @@ raised x y =
 -- one text after the other, where that is not too long
 abbrev pub joined : List ℕ → List ℕ → Value
 joined s t = if nat_le (length (s ++ t)) max_text then Text (s ++ t) else Fault BadValue
-
--- what a function gives for both operands, or the first error from the left
-abbrev pub on_both : {A : Type 0} → (A → A → Value) → Result A ErrorKind → Result A ErrorKind → Value
-on_both f (Err e) y = Fault e
-on_both f (Ok x) (Err e) = Fault e
-on_both f (Ok x) (Ok y) = f x y
 
 -- what an operator gives for its two operands
 abbrev pub operate : Operator → Value → Value → Value

@@ -2,19 +2,12 @@
 
 ghost use Rattle.std.specs.Prelude.{◌≡◌};
 ghost use Rattle.wi_values.specs.declared.value.Value.{Value as Values};
-ghost use Rattle.wi_functions.specs.Comparison.{empty_beside, beside, rank, order, error_in, first_error};
+ghost use Rattle.wi_functions.specs.Comparison.{empty_beside, beside, rank, order};
 
 use crate::convert::zero;
 use std::alloc::Global;
 use std::cmp::Ordering;
-use wi_values::{ErrorKind, Text, Value};
-
-/// The first error from the left.
-pub(crate) fn first_error(left: &Value, right: &Value) -> Option<ErrorKind>
-    ensures { result ≡ first_error left.now right.now }
-{
-    error_in(left).or(error_in(right))
-}
+use wi_values::{Text, Value};
 
 /// The order of two values, in which Empty counts as 0, the empty text or FALSE, as the other is.
 pub(crate) fn compare(alloc: Global, left: &Value, right: &Value) -> Ordering
@@ -73,18 +66,5 @@ fn rank(value: &Value) -> u8
         Value::Text(_) => 1,
         Value::Logical(_) => 2,
         Value::Fault(_) => 0,
-    }
-}
-
-/// The error, where the value is one.
-fn error_in(value: &Value) -> Option<ErrorKind>
-    ensures { result ≡ error_in value.now }
-{
-    match value {
-        Value::Empty => None,
-        Value::Number(_) => None,
-        Value::Text(_) => None,
-        Value::Logical(_) => None,
-        Value::Fault(e) => Some(*e),
     }
 }

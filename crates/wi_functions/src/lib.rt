@@ -4,6 +4,7 @@
 mod comparison;
 mod convert;
 mod evaluation;
+mod first_error;
 mod lookup;
 mod meter;
 mod operators;

@@ -1,14 +1,17 @@
 //! The operators (OpenFormula, "Standard Operators").
 
-ghost use Rattle.std.specs.Prelude.{◌≡◌, IfOk};
+ghost use Rattle.std.specs.Prelude.{◌≡◌, Bool, IfOk};
 ghost use Rattle.wi_values.specs.Value.{shown_text};
-ghost use Rattle.wi_functions.specs.Comparison.{first_error, unless_error};
+ghost use Rattle.std.specs.declared.cmp.Ordering.{Ordering};
+ghost use Rattle.wi_functions.specs.Comparison.{beside, order, compared};
 ghost use Rattle.wi_functions.specs.Convert.{to_number, to_text};
+ghost use Rattle.wi_functions.specs.FirstError.{on_both};
 ghost use Rattle.wi_functions.specs.Inner.Fractions.{fraction_value, value_or_error};
-ghost use Rattle.wi_functions.specs.Operators.{operate, with_sign, hundredth, minus, on_both, added, subtracted, multiplied, divided, raised, joined};
+ghost use Rattle.wi_functions.specs.Operators.{operate, with_sign, hundredth, minus, added, subtracted, multiplied, divided, raised, joined};
 
-use crate::comparison::{compare, first_error};
+use crate::comparison::compare;
 use crate::convert::{hundred, to_number};
+use crate::first_error::{both, no_error};
 use std::alloc::{AllocError, Global};
 use wi_fraction::{Fraction, FractionError};
 use wi_parser::{Operator, Sign};
@@ -60,40 +63,35 @@ pub(crate) fn hundredth(value: &Value) -> Value
 fn add(left: &Value, right: &Value) -> Result<Value, ErrorKind>
     ensures { value_or_error result ≡ on_both added (to_number left.now) (to_number right.now) }
 {
-    let x = to_number(left)?;
-    let y = to_number(right)?;
+    let (x, y) = both(to_number(left), to_number(right))?;
     Ok(fraction_value(x.checked_add(y)))
 }
 
 fn subtract(left: &Value, right: &Value) -> Result<Value, ErrorKind>
     ensures { value_or_error result ≡ on_both subtracted (to_number left.now) (to_number right.now) }
 {
-    let x = to_number(left)?;
-    let y = to_number(right)?;
+    let (x, y) = both(to_number(left), to_number(right))?;
     Ok(fraction_value(x.checked_sub(y)))
 }
 
 fn multiply(left: &Value, right: &Value) -> Result<Value, ErrorKind>
     ensures { value_or_error result ≡ on_both multiplied (to_number left.now) (to_number right.now) }
 {
-    let x = to_number(left)?;
-    let y = to_number(right)?;
+    let (x, y) = both(to_number(left), to_number(right))?;
     Ok(fraction_value(x.checked_mul(y)))
 }
 
 fn divide(left: &Value, right: &Value) -> Result<Value, ErrorKind>
     ensures { value_or_error result ≡ on_both divided (to_number left.now) (to_number right.now) }
 {
-    let dividend = to_number(left)?;
-    let divisor = to_number(right)?;
+    let (dividend, divisor) = both(to_number(left), to_number(right))?;
     Ok(fraction_value(dividend.checked_div(divisor)))
 }
 
 fn raise(left: &Value, right: &Value) -> Result<Value, ErrorKind>
     ensures { value_or_error result ≡ on_both raised (to_number left.now) (to_number right.now) }
 {
-    let base = to_number(left)?;
-    let exponent = to_number(right)?;
+    let (base, exponent) = both(to_number(left), to_number(right))?;
     Ok(power(base, exponent))
 }
 
@@ -122,9 +120,9 @@ fn minus(number: Result<Fraction, ErrorKind>) -> Value
 fn join(alloc: Global, left: &Value, right: &Value) -> Result<Value, AllocError>
     ensures { IfOk result (λ v. v ≡ on_both joined (to_text left.now) (to_text right.now)) }
 {
-    match first_error(left, right) {
-        Some(e) => Ok(Value::Fault(e)),
-        None => join_shown(alloc, left, right),
+    match both(no_error(left), no_error(right)) {
+        Ok(_) => join_shown(alloc, left, right),
+        Err(e) => Ok(Value::Fault(e)),
     }
 }
 
@@ -142,13 +140,13 @@ fn join_shown(alloc: Global, left: &Value, right: &Value) -> Result<Value, Alloc
     }
 }
 
-/// Whether two values compare so, unless one is an error.
+/// Whether the order of two values passes a test, unless one is an error.
 fn truth(left: &Value, right: &Value, holds: bool) -> Value
-    ensures { result ≡ unless_error (first_error left.now right.now) (Value.Logical holds) }
+    ensures { (test : Ordering → Bool) → holds ≡ test (order (beside right.now left.now) (beside left.now right.now)) → result ≡ compared test left.now right.now }
 {
-    match first_error(left, right) {
-        Some(e) => Value::Fault(e),
-        None => Value::Logical(holds),
+    match both(no_error(left), no_error(right)) {
+        Ok(_) => Value::Logical(holds),
+        Err(e) => Value::Fault(e),
     }
 }
 
