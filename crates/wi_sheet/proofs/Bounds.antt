@@ -11,10 +11,10 @@ use Rattle.wi_parser.specs.declared.content.Content.{Content}
 use Rattle.wi_parser.specs.declared.content.Content.TheVariants.{Constant, Formula}
 use Rattle.wi_parser.specs.Sheet.{Sheet, constant, content_of, put_all, has_formula, cells_with_formula}
 use Rattle.wi_parser.specs.Reads.{reads, content_reads}
-use Rattle.wi_functions.specs.Meaning.{meaning, zero_for_empty}
+use Rattle.wi_functions.specs.Meaning.{zero_for_empty}
 use Rattle.wi_graph.specs.Circular.{has_walk, circular}
 use Rattle.wi_graph.proofs.Walks.{step, first_step}
-use Rattle.wi_sheet.specs.CellValue.{value_of, replacements, value_within, cell_value}
+use Rattle.wi_sheet.specs.CellValue.{value_of, replacements, what_if_in, value_within, cell_value}
 use Rattle.wi_sheet.proofs.Puts.{overlaid, plain, content_of-put_all, formula_cells_put_all}
 use Rattle.wi_sheet.proofs.Meanings.{meaning_same, replacements_same}
 
@@ -105,14 +105,6 @@ put_no_walk n s p c h = false_from_ne_true (has_walk n (put_all s p) c) (λ w. l
 pub tree_reads : (s : Sheet) (c : ℕ) (t : Tree) (a : ℕ) → content_of s c ≡ Some (Formula t) → reads t a ≡ true → content_reads (content_of s c) a ≡ true
 tree_reads s c t a e r = ap (λ (o : Option Content). content_reads o a) e ∙ r
 
--- a what-if's value, by at most k formulas one below the other
-abbrev pub what_if_within : ℕ → Sheet → ℕ → List (ℕ × ℕ) → Value
-what_if_within k s f pairs = value_within k (put_all s (replacements (value_within k s) pairs)) f
-
--- a formula's value, by at most k formulas one below the other
-abbrev pub formula_within : ℕ → Sheet → Tree → Value
-formula_within k s t = zero_for_empty (meaning t (value_within k s) (what_if_within k s))
-
 -- where no walk of n steps leads from a cell, every bound from n on gives it one value
 pub bound_same : (n j k : ℕ) (s : Sheet) (c : ℕ) → has_walk n s c ≡ false → n ≤ j → n ≤ k → value_within j s c ≡ value_within k s c
 unfolding value_within
@@ -121,7 +113,7 @@ bound_same (suc n) zero k s c h a b = absurd (omega arith)
 bound_same (suc n) (suc j) zero s c h a b = absurd (omega arith)
 bound_same (suc n) (suc j) (suc k) s c h a b =
     ap (λ (v : Value). cond (circular s c) (Fault Circular) v) (same_formula (content_of s c) _ _ (λ t e.
-    ap zero_for_empty (meaning_same t (value_within j s) (value_within k s) (what_if_within j s) (what_if_within k s)
+    ap zero_for_empty (meaning_same t (value_within j s) (value_within k s) (what_if_in (value_within j) s) (what_if_in (value_within k) s)
     (λ d r. bound_same n j k s d (read_walk n s c d h (tree_reads s c t d e r)) (omega arith) (omega arith))
     (λ f ps i.
     bound_same n j k (put_all s (replacements (value_within j s) ps)) f (put_no_walk n s (replacements (value_within j s) ps) f (read_walk n s c f h (tree_reads s c t f e i.0))) (omega arith) (omega arith)

@@ -11,11 +11,11 @@ use Rattle.wi_graph.specs.Circular.{circular}
 use Rattle.wi_graph.specs.Reach.{Reaches, AgreeFrom}
 use Rattle.wi_graph.proofs.Walks.{same_cell}
 use Rattle.wi_graph.proofs.Agreement.{agree_next, agree_here, circular_same}
-use Rattle.wi_sheet.specs.CellValue.{value_of, replacements, value_within, cell_value}
+use Rattle.wi_sheet.specs.CellValue.{value_of, replacements, what_if_in, formula_in, value_within, cell_value}
 use Rattle.wi_sheet.specs.Shown.{shown}
 use Rattle.wi_sheet.proofs.Puts.{overlaid, content_of-put_all}
 use Rattle.wi_sheet.proofs.Meanings.{meaning_same, replacements_same}
-use Rattle.wi_sheet.proofs.Bounds.{same_formula, bound_not_felt, tree_reads, what_if_within, formula_within}
+use Rattle.wi_sheet.proofs.Bounds.{same_formula, bound_not_felt, tree_reads}
 use Rattle.wi_sheet.proofs.Agreement.{agree_put_both, agree_put}
 
 -- two sheets that agree on all that c reaches give it one value, by one and the same bound
@@ -25,16 +25,16 @@ within_same zero s t c a =
     ap (λ (b : Bool). cond b (Fault Circular) (value_of (content_of s c) (λ x. Fault Circular))) (circular_same s t c a)
     ∙ ap (λ (o : Option Content). cond (circular t c) (Fault Circular) (value_of o (λ x. Fault Circular))) (agree_here s t c a)
 within_same (suc k) s t c a =
-    ap (λ (b : Bool). cond b (Fault Circular) (value_of (content_of s c) (formula_within k s))) (circular_same s t c a)
+    ap (λ (b : Bool). cond b (Fault Circular) (value_of (content_of s c) (formula_in (value_within k) s))) (circular_same s t c a)
     ∙ ap (λ (v : Value). cond (circular t c) (Fault Circular) v)
-    (same_formula (content_of s c) (formula_within k s) (formula_within k t) (λ x e.
-    ap zero_for_empty (meaning_same x (value_within k s) (value_within k t) (what_if_within k s) (what_if_within k t)
+    (same_formula (content_of s c) (formula_in (value_within k) s) (formula_in (value_within k) t) (λ x e.
+    ap zero_for_empty (meaning_same x (value_within k s) (value_within k t) (what_if_in (value_within k) s) (what_if_in (value_within k) t)
     (λ d r. within_same k s t d (agree_next s t c d a (tree_reads s c x d e r)))
     (λ f ps i.
     within_same k (put_all s (replacements (value_within k s) ps)) (put_all t (replacements (value_within k s) ps)) f (agree_put s t (replacements (value_within k s) ps) f (agree_next s t c f a (tree_reads s c x f e i.0)))
     ∙ ap (λ (rs : List Replacement). value_within k (put_all t rs) f)
     (replacements_same ps (value_within k s) (value_within k t) (λ d m. within_same k s t d (agree_next s t c d a (tree_reads s c x d e (i.1 d m))))))))
-    ∙ ap (λ (o : Option Content). value_of o (formula_within k t)) (agree_here s t c a))
+    ∙ ap (λ (o : Option Content). value_of o (formula_in (value_within k) t)) (agree_here s t c a))
 
 -- two sheets that agree on all that c reaches give it one value
 pub value_same : (s t : Sheet) (c : ℕ) → AgreeFrom s t c → cell_value s c ≡ cell_value t c

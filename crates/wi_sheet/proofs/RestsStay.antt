@@ -9,7 +9,7 @@ use Rattle.wi_parser.specs.Sheet.{Sheet, content_of, put_all, cells_with_formula
 use Rattle.wi_parser.specs.Reads.{reads}
 use Rattle.wi_graph.specs.Reach.{reaches}
 use Rattle.wi_graph.proofs.ReachSteps.{reaches_read}
-use Rattle.wi_sheet.specs.Demand.{Case, case_of, reaching, with_what_if, what_ifs_of, reads_here, formulas_read_here, rests_on}
+use Rattle.wi_sheet.specs.Demand.{Case, case_of, reaching, what_if_case, what_ifs_of, reads_here, formulas_read_here, rests_on}
 use Rattle.wi_sheet.proofs.Bounds.{put_reads, tree_reads}
 use Rattle.wi_sheet.proofs.SmallerWorlds.{reaching_below, content_below, what_if_below}
 use Rattle.wi_sheet.proofs.Members.{contains_in, of_filter, map_same}
@@ -19,10 +19,6 @@ use Rattle.wi_sheet.proofs.Asked.{replacing_read}
 -- a cell below has the same case
 case_below : (s : Sheet) (w : List Replacement) (c d : ℕ) → reaches s c d ≡ true → case_of s (reaching s c w) d ≡ case_of s w d
 case_below s w c d r = ap (λ (p : List Replacement). (d, p)) (reaching_below s c d w r)
-
--- the case of a what-if's formula cell
-abbrev what_if_case : Sheet → List Replacement → ℕ × List (ℕ × ℕ) → Case
-what_if_case s w x = case_of s (with_what_if s w x.1) x.0
 
 -- a what-if that reads cells below has the same one
 what_if_case_below : (s : Sheet) (w : List Replacement) (c : ℕ) (x : ℕ × List (ℕ × ℕ)) → IsInOrder w → reaches s c x.0 ≡ true →

@@ -12,10 +12,10 @@ use Rattle.wi_parser.specs.Reads.{content_reads}
 use Rattle.wi_functions.specs.Meaning.{meaning, zero_for_empty}
 use Rattle.wi_graph.specs.Circular.{has_walk, circular}
 use Rattle.wi_graph.proofs.Walks.{step, circular_walks, walks_circular, formula_cell, reader_formula}
-use Rattle.wi_sheet.specs.CellValue.{value_of, replacements, value_within, cell_value, what_if_value}
+use Rattle.wi_sheet.specs.CellValue.{value_of, replacements, what_if_in, formula_in, value_within, cell_value, what_if_value}
 use Rattle.wi_sheet.specs.Shown.{shown}
 use Rattle.wi_sheet.proofs.Meanings.{meaning_same, replacements_same}
-use Rattle.wi_sheet.proofs.Bounds.{put_walk, put_formulas, bound_not_felt, bound_same, what_if_within, formula_within, tree_reads, read_walk, put_no_walk, circular_value, plain_value}
+use Rattle.wi_sheet.proofs.Bounds.{put_walk, put_formulas, bound_not_felt, bound_same, tree_reads, read_walk, put_no_walk, circular_value, plain_value}
 
 -- a cell on or above a cycle under replacements is so without them
 pub put_circular_back : (s : Sheet) (p : List Replacement) (c : ℕ) → circular (put_all s p) c ≡ true → circular s c ≡ true
@@ -51,14 +51,14 @@ nested n s rs f l w =
     bound_same n n (suc n) (put_all s rs) f (put_no_walk n s rs f w) (omega arith) (omega arith)
     ∙ bound_not_felt (suc n) (put_all s rs) f (let x = put_formulas s rs in omega arith)
 
-by_formula : (n : ℕ) (s : Sheet) (c : ℕ) (t : Tree) → circular s c ≡ false → content_of s c ≡ Some (Formula t) → value_within (suc n) s c ≡ formula_within n s t
+by_formula : (n : ℕ) (s : Sheet) (c : ℕ) (t : Tree) → circular s c ≡ false → content_of s c ≡ Some (Formula t) → value_within (suc n) s c ≡ formula_in (value_within n) s t
 unfolding value_within
 by_formula n s c t h e = rw h (rw e refl)
 
 by_steps : (n : ℕ) (s : Sheet) (c : ℕ) (t : Tree) → length (cells_with_formula s) ≡ suc n → has_walk (suc n) s c ≡ false → content_of s c ≡ Some (Formula t) →
-    formula_within n s t ≡ zero_for_empty (meaning t (cell_value s) (what_if_value s))
+    formula_in (value_within n) s t ≡ zero_for_empty (meaning t (cell_value s) (what_if_value s))
 by_steps n s c t l w e =
-    ap zero_for_empty (meaning_same t (value_within n s) (cell_value s) (what_if_within n s) (what_if_value s)
+    ap zero_for_empty (meaning_same t (value_within n s) (cell_value s) (what_if_in (value_within n) s) (what_if_value s)
     (λ d r. near n s d l (read_walk n s c d w (tree_reads s c t d e r)))
     (λ f ps i.
     nested n s (replacements (value_within n s) ps) f l (read_walk n s c f w (tree_reads s c t f e i.0))

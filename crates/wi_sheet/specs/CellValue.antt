@@ -21,25 +21,32 @@ value_of (Some (Formula t)) of_formula = of_formula t
 abbrev pub replacements : (ℕ → Value) → List (ℕ × ℕ) → List Replacement
 replacements cells pairs = map (λ p. record { at = p.0; value = cells p.1 }) pairs
 
--- A cell's value, by at most k formulas one below the other. In a what-if the values of all replacement cells are taken in
--- the sheet as it stands, and its formula cell then has its value in the sheet with them put in.
+-- A what-if's value, where `value` gives that of each cell of a sheet: its formula cell's, in the sheet with
+-- each input replaced by the value that its replacement cell has in the sheet as it stands. The first pair's is
+-- put in first, so that of two for one input the second stands.
+abbrev pub what_if_in : (Sheet → ℕ → Value) → Sheet → ℕ → List (ℕ × ℕ) → Value
+what_if_in value s f pairs = value (put_all s (replacements (value s) pairs)) f
+
+-- a formula's value, likewise: the meaning of its tree, where each cell and each what-if stands for its value
+abbrev pub formula_in : (Sheet → ℕ → Value) → Sheet → Tree → Value
+formula_in value s t = zero_for_empty (meaning t (value s) (what_if_in value s))
+
+-- a cell's value, by at most k formulas one below the other
 unfoldable pub value_within : ℕ → Sheet → ℕ → Value
 value_within zero s c =
     if circular s c then Fault Circular else value_of (content_of s c) (λ t. Fault Circular)
 value_within (suc k) s c =
-    if circular s c then Fault Circular else value_of (content_of s c) (λ t.
-    zero_for_empty (meaning t (value_within k s) (λ f pairs. value_within k (put_all s (replacements (value_within k s) pairs)) f)))
+    if circular s c then Fault Circular else value_of (content_of s c) (formula_in (value_within k) s)
 
 -- a cell's value: as many formulas as the sheet has can stand one below the other
 unfoldable pub cell_value : Sheet → ℕ → Value
 cell_value s c = value_within (length (cells_with_formula s)) s c
 
--- A what-if: the value of its formula cell in the sheet with each input replaced by the value of its replacement cell, the
--- first pair's first, so that of two pairs for one input the second stands. It is only asked for where nothing that it
--- reads is circular in the sheet as it stands: by itself it would let a replacement cut a cycle.
+-- A what-if's value, which is only asked for where nothing that it reads is circular in the sheet as it stands:
+-- by itself it would let a replacement cut a cycle.
 abbrev pub what_if_value : Sheet → ℕ → List (ℕ × ℕ) → Value
-what_if_value s f pairs = cell_value (put_all s (replacements (cell_value s) pairs)) f
+what_if_value = what_if_in cell_value
 
--- a formula's value in a sheet: the meaning of its tree, where each cell stands for its value and each what-if for its own
+-- a formula's value
 abbrev pub formula_value : Sheet → Tree → Value
-formula_value s t = zero_for_empty (meaning t (cell_value s) (what_if_value s))
+formula_value = formula_in cell_value

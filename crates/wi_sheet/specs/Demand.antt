@@ -38,6 +38,10 @@ puts_of es = map (λ e. record { at = e.0; value = e.1 }) es
 abbrev pub with_what_if : Sheet → List Replacement → List (ℕ × ℕ) → List Replacement
 with_what_if s w pairs = puts_of (overridden (entries w) (replacements (cell_value (put_all s w)) pairs))
 
+-- the case of a what-if's formula cell, with the what-if's replacements put in
+abbrev pub what_if_case : Sheet → List Replacement → ℕ × List (ℕ × ℕ) → Case
+what_if_case s w x = case_of s (with_what_if s w x.1) x.0
+
 abbrev mutual
   -- the what-ifs in a tree, from the left: the formula cell, and each input with its replacement cell
   pub what_ifs_of : Tree → List (ℕ × List (ℕ × ℕ))
@@ -86,7 +90,7 @@ formulas_read_here s t = filter (reads_here t) (cells_with_formula s)
 
 -- the cases on which a tree's value under replacements rests
 abbrev pub rests_on : Sheet → List Replacement → Tree → List Case
-rests_on s w t = map (case_of s w) (formulas_read_here s t) ++ map (λ x. case_of s (with_what_if s w x.1) x.0) (what_ifs_of t)
+rests_on s w t = map (case_of s w) (formulas_read_here s t) ++ map (what_if_case s w) (what_ifs_of t)
 
 -- The cases that a case demands, by at most n formulas one below the other: itself, and what those demand on which its
 -- formula's value rests. One that is circular in the sheet, or has no formula under its replacements, demands nothing.

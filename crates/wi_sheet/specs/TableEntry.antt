@@ -9,7 +9,7 @@ use Rattle.wi_parser.specs.Sheet.{Sheet, put_all}
 use Rattle.wi_functions.specs.Meaning.{zero_for_empty}
 use Rattle.wi_graph.specs.Circular.{circular}
 use Rattle.wi_sheet.specs.CellValue.{what_if_value}
-use Rattle.wi_sheet.specs.Demand.{Case, case_of, with_what_if, demand, different}
+use Rattle.wi_sheet.specs.Demand.{Case, case_of, what_if_case, demand, different}
 
 -- What an entry shows under a scenario's replacements: the value of its formula cell with each input replaced by the value of
 -- its replacement cell. It is valued as a formula in a cell of its own that nothing reads, so Empty becomes 0. Cycles are
@@ -20,7 +20,7 @@ table_entry s p f pairs =
 
 -- the cases that an entry demands: those of its replacement cells, and of its formula cell with the inputs replaced
 abbrev pub table_demand : Sheet → List Replacement → ℕ → List (ℕ × ℕ) → List Case
-table_demand s w f pairs = flat_map (λ x. demand s (case_of s w x.1)) pairs ++ demand s (case_of s (with_what_if s w pairs) f)
+table_demand s w f pairs = flat_map (λ x. demand s (case_of s w x.1)) pairs ++ demand s (what_if_case s w (f, pairs))
 
 -- the different ones of these
 abbrev pub entry_demanded : Sheet → List Replacement → ℕ → List (ℕ × ℕ) → List Case
