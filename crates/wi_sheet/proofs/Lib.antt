@@ -16,8 +16,4 @@ pub mod Cases
 pub mod Counting
 pub mod Asked
 pub mod TableEntries
-pub mod Numbers
 mod Rows
-mod ReachRows
-mod DemandRows
-mod TableRows

@@ -1,22 +1,27 @@
 -- Sheets worked by hand.
-use Rattle.std.proofs.Common.{◌≡◌, ℕ, false, [], ◌∷◌, List, refl, ap, ◌∙◌, codes}
+use Rattle.std.proofs.Common.{◌≡◌, ℕ, true, false, [], ◌∷◌, List, refl, codes}
+use Rattle.std.specs.Prelude.{⊤}
 use Rattle.wi_values.specs.Address.{place}
-use Rattle.wi_values.specs.declared.value.Value as value
-use Rattle.wi_values.specs.declared.value.Value.TheVariants.{Number, Text, Fault}
-use Rattle.wi_values.specs.declared.value.ErrorKind.TheVariants.{Circular, BadValue}
+use Rattle.wi_values.specs.Value.{shown_text}
+use Rattle.wi_values.specs.declared.value.Value.TheVariants.{Text, Fault}
+use Rattle.wi_values.specs.declared.value.ErrorKind.TheVariants.{Circular}
 use Rattle.wi_values.specs.declared.replacement.Replacement.{Replacement}
 use Rattle.wi_parser.specs.declared.expr.Reference.{Reference}
-use Rattle.wi_parser.specs.declared.expr.Operator.TheVariants.{Add, Subtract, Multiply, Divide}
+use Rattle.wi_parser.specs.declared.expr.Operator.TheVariants.{Join}
 use Rattle.wi_parser.specs.declared.content.Content.TheVariants.{Constant, Formula}
-use Rattle.wi_parser.specs.Tree.{Tree, number, cell, rectangle, binary, what_if}
-use Rattle.wi_parser.specs.Sheet.{Sheet, put_all}
-use Rattle.wi_functions.specs.Meaning.{zero_for_empty}
-use Rattle.wi_functions.specs.Convert.{zero_number}
+use Rattle.wi_parser.specs.Tree.{Tree, text, cell, binary, what_if}
+use Rattle.wi_parser.specs.Sheet.{Sheet}
 use Rattle.wi_graph.specs.Circular.{circular}
+use Rattle.wi_graph.specs.Reach.{reaches, in_cone}
 use Rattle.wi_sheet.specs.CellValue.{value_within, cell_value}
 use Rattle.wi_sheet.specs.Shown.{shown}
-use Rattle.wi_sheet.proofs.Steps.{value_step, shown_open}
-use Rattle.wi_sheet.proofs.Numbers as n
+use Rattle.wi_sheet.specs.Demand.{reaching, with_what_if, demand_within, demand, different}
+use Rattle.wi_sheet.specs.TableEntry.{table_entry}
+
+-- what is unfolded to compute on a sheet that is written out
+unfoldable on_literals : ⊤
+unfolding shown_text circular reaches value_within cell_value shown demand_within demand table_entry
+on_literals = tt
 
 abbrev a1 : ℕ
 a1 = place 0 0
@@ -30,207 +35,108 @@ c1 = place 0 2
 abbrev d1 : ℕ
 d1 = place 0 3
 
+abbrev a2 : ℕ
+a2 = place 1 0
+
 abbrev b2 : ℕ
 b2 = place 1 1
-
-abbrev b3 : ℕ
-b3 = place 2 1
-
-abbrev a4 : ℕ
-a4 = place 3 0
-
-abbrev c4 : ℕ
-c4 = place 3 2
-
-abbrev d4 : ℕ
-d4 = place 3 3
-
-abbrev a5 : ℕ
-a5 = place 4 0
 
 abbrev a9 : ℕ
 a9 = place 8 0
 
--- a reference to a cell
 abbrev to : ℕ → Reference
 to c = record { at = c; column_is_absolute = false; row_is_absolute = false }
 
 abbrev at : ℕ → Tree
 at c = cell (to c)
 
-abbrev with : ℕ → value.Value → List Replacement
-with c v = (record { at = c; value = v }) ∷ []
+-- a cell's text with a mark behind it
+abbrev marked : ℕ → Tree
+marked c = binary Join (at c) (text (codes "!"))
 
--- ---- A1 10, B1 =[.A1]/4, C1 =[.B1]*[.A1]-1/3
+-- what a formula cell is with the value of another cell in the place of an input's
+abbrev given : ℕ → ℕ → ℕ → Tree
+given f input by = what_if (to f) ((to input, to by) ∷ [])
 
-abbrev first_script : Sheet
-first_script =
-    (a1, Constant (Number n.ten)) ∷ (b1, Formula (binary Divide (at a1) (number n.four)))
-    ∷ (c1, Formula (binary Subtract (binary Multiply (at b1) (at a1)) (binary Divide (number n.one) (number n.three)))) ∷ []
+abbrev by : ℕ → List ℕ → Replacement
+by c s = record { at = c; value = Text s }
 
-first_a1 : shown first_script [] a1 ≡ Number n.ten
-unfolding circular value_within cell_value shown
-first_a1 = refl
+-- ---- A1 x, B1 =[.A1]&"!", A2 y, C1 what B1 is with A2's value in A1, D1 what C1 is with A1's value in A2
 
-first_b1 : shown first_script [] b1 ≡ Number n.five_halves
-unfolding circular value_within cell_value shown
-first_b1 = rw n.ten_over_four refl
+abbrev sheet : Sheet
+sheet =
+    (a1, Constant (Text (codes "x"))) ∷ (b1, Formula (marked a1)) ∷ (a2, Constant (Text (codes "y")))
+    ∷ (c1, Formula (given b1 a1 a2)) ∷ (d1, Formula (given c1 a2 a1)) ∷ []
 
-first_c1 : shown first_script [] c1 ≡ Number n.seventy_four_thirds
-unfolding circular value_within cell_value shown
-first_c1 = rw (n.ten_over_four, n.five_halves_times_ten, n.one_over_three, n.less_one_third) refl
-
--- ---- B1 10, B2 =[.B1]*3, A4 7, C4 what B2 is with A4's value in B1, and then D4 what C4 is with B1's value in A4
-
-abbrev thrice : Tree
-thrice = binary Multiply (at b1) (number n.three)
-
-abbrev pair : ℕ → ℕ → Reference × Reference
-pair input by = (to input, to by)
-
-abbrev what_if_sheet : Sheet
-what_if_sheet =
-    (b1, Constant (Number n.ten)) ∷ (b2, Formula thrice) ∷ (a4, Constant (Number n.seven))
-    ∷ (c4, Formula (what_if (to b2) (pair b1 a4 ∷ []))) ∷ (d4, Formula (what_if (to c4) (pair a4 b1 ∷ []))) ∷ []
-
-base : shown what_if_sheet [] b2 ≡ Number n.thirty
-unfolding circular value_within cell_value shown
-base = rw n.ten_times_three refl
-
-one_what_if : shown what_if_sheet [] c4 ≡ Number n.twenty_one
-unfolding circular value_within cell_value shown
-one_what_if = rw n.seven_times_three refl
-
-nested_what_if : shown what_if_sheet [] d4 ≡ Number n.thirty
-unfolding circular value_within cell_value shown
-nested_what_if = rw n.ten_times_three refl
+-- a what-if of a what-if: the inner one takes A2's value where the outer one has put A1's
+nested_what_if : shown sheet [] d1 ≡ Text (codes "x!")
+unfolding on_literals
+nested_what_if = refl
 
 -- a scenario's replacement counts beneath a what-if that replaces another cell
-under_scenario : shown what_if_sheet (with a4 (Number n.four)) c4 ≡ Number n.twelve
-unfolding circular value_within cell_value shown
-under_scenario = rw n.four_times_three refl
+under_scenario : shown sheet (by a2 (codes "z") ∷ []) c1 ≡ Text (codes "z!")
+unfolding on_literals
+under_scenario = refl
 
--- a text is no number
-with_text : shown what_if_sheet (with b1 (Text (codes "x"))) b2 ≡ Fault BadValue
-unfolding circular value_within cell_value shown
-with_text = refl
+-- and beneath an entry of a data table
+entry_under_scenario : table_entry sheet (by a2 (codes "z") ∷ []) b1 ((a1, a2) ∷ []) ≡ Text (codes "z!")
+unfolding on_literals
+entry_under_scenario = refl
 
--- ---- then A4 =[.B1]+1
+-- a what-if's replacements override those around it, in the order of addresses
+overriding : with_what_if sheet (by a1 (codes "z") ∷ by a9 (codes "z") ∷ []) ((a9, a2) ∷ (b2, a1) ∷ []) ≡ by a1 (codes "z") ∷ by b2 (codes "z") ∷ by a9 (codes "y") ∷ []
+unfolding on_literals
+overriding = refl
 
-abbrev formula_sheet : Sheet
-formula_sheet =
-    (b1, Constant (Number n.ten)) ∷ (b2, Formula thrice) ∷ (a4, Formula (binary Add (at b1) (number n.one)))
-    ∷ (c4, Formula (what_if (to b2) (pair b1 a4 ∷ []))) ∷ (d4, Formula (what_if (to c4) (pair a4 b1 ∷ []))) ∷ []
+-- D1 asks for C1 with A1's value in A2, and that for B1 with it in A1: what is put into A2 doesn't reach B1
+demand_of_what_if : demand sheet (d1, []) ≡ (d1, []) ∷ (c1, by a2 (codes "x") ∷ []) ∷ (b1, by a1 (codes "x") ∷ []) ∷ []
+unfolding on_literals
+demand_of_what_if = refl
 
-input : cell_value formula_sheet a4 ≡ Number n.eleven
-unfolding circular value_within cell_value
-input = rw n.ten_and_one refl
+-- ---- A1 ="x", B1 =[.A1]&[.A1], C1 =[.A1]&[.B1]: A1 is asked for by both, and is one case
 
-replaced : cell_value (put_all formula_sheet (with b1 (Number n.eleven))) b2 ≡ Number n.thirty_three
-unfolding circular value_within cell_value
-replaced = rw n.eleven_times_three refl
+abbrev asked_twice : Sheet
+asked_twice = (a1, Formula (text (codes "x"))) ∷ (b1, Formula (binary Join (at a1) (at a1))) ∷ (c1, Formula (binary Join (at a1) (at b1))) ∷ []
 
-no_cycle : circular formula_sheet c4 ≡ false
-unfolding circular
-no_cycle = refl
+each_once : different (demand asked_twice (c1, [])) ≡ (c1, []) ∷ (b1, []) ∷ (a1, []) ∷ []
+unfolding on_literals
+each_once = refl
 
-by_formula : shown formula_sheet [] c4 ≡ Number n.thirty_three
-by_formula =
-    shown_open formula_sheet [] c4 no_cycle
-    ∙ value_step formula_sheet c4 (what_if (to b2) (pair b1 a4 ∷ [])) no_cycle refl
-    ∙ ap (λ (v : value.Value). zero_for_empty (cell_value (put_all formula_sheet (with b1 v)) b2)) input
-    ∙ ap zero_for_empty replaced
-
--- the inner what-if takes A4's value in the sheet that the outer one left, where A4 has B1's value
-nested_by_formula : shown formula_sheet [] d4 ≡ Number n.thirty
-unfolding circular value_within cell_value shown
-nested_by_formula = rw n.ten_times_three refl
-
--- ---- A1 =[.B3:.B1], B2 =[.C1], C1 =[.D1], D1 5
-
--- the rectangle between two cells
-abbrev between : ℕ → ℕ → Tree
-between c d = rectangle (record { one = to c; other = to d })
-
-abbrev no_cell_twice : Sheet
-no_cell_twice = (a1, Formula (between b3 b1)) ∷ (c1, Formula (at d1)) ∷ (d1, Constant (Number n.five)) ∷ (b2, Formula (at c1)) ∷ []
-
-larger_rectangle : shown no_cell_twice [] a1 ≡ Fault BadValue
-unfolding circular value_within cell_value shown
-larger_rectangle = refl
-
--- then C1 =[.A1]: A1 reads B2 between its corners, and is on a cycle though it would be #VALUE! without one
-abbrev through_rectangle : Sheet
-through_rectangle = (a1, Formula (between b3 b1)) ∷ (c1, Formula (at a1)) ∷ (d1, Constant (Number n.five)) ∷ (b2, Formula (at c1)) ∷ []
-
-cycle_through_rectangle : shown through_rectangle [] a1 ≡ Fault Circular
-unfolding circular value_within cell_value shown
-cycle_through_rectangle = refl
-
--- a cell in its own rectangle
-own_rectangle : shown ((b2, Formula (between c1 b3)) ∷ []) [] b2 ≡ Fault Circular
-unfolding circular value_within cell_value shown
-own_rectangle = refl
-
--- ---- A1 =[.B1], B1 =[.A1], C1 =[.A1]+1, D1 5
+-- ---- A1 =[.B1], B1 =[.A1], C1 =[.A1]&"!", D1 x
 
 abbrev cycle : Sheet
-cycle = (a1, Formula (at b1)) ∷ (b1, Formula (at a1)) ∷ (c1, Formula (binary Add (at a1) (number n.one))) ∷ (d1, Constant (Number n.five)) ∷ []
-
-on_cycle : shown cycle [] a1 ≡ Fault Circular
-unfolding circular value_within cell_value shown
-on_cycle = refl
+cycle = (a1, Formula (at b1)) ∷ (b1, Formula (at a1)) ∷ (c1, Formula (marked a1)) ∷ (d1, Constant (Text (codes "x"))) ∷ []
 
 above_cycle : shown cycle [] c1 ≡ Fault Circular
-unfolding circular value_within cell_value shown
+unfolding on_literals
 above_cycle = refl
 
-beside_cycle : shown cycle [] d1 ≡ Number n.five
-unfolding circular value_within cell_value shown
-beside_cycle = refl
-
--- no scenario cuts it
-replaced_on_cycle : shown cycle (with b1 (Number n.two)) a1 ≡ Fault Circular
-unfolding circular value_within cell_value shown
+-- no replacement cuts it
+replaced_on_cycle : shown cycle (by b1 (codes "y") ∷ []) a1 ≡ Fault Circular
+unfolding on_literals
 replaced_on_cycle = refl
 
-replaced_above_cycle : shown cycle (with b1 (Number n.two)) c1 ≡ Fault Circular
-unfolding circular value_within cell_value shown
-replaced_above_cycle = refl
+-- an entry whose replacement cell is circular is so too, though that cell's value would not be asked for
+entry_above_cycle : table_entry cycle [] d1 ((a9, c1) ∷ []) ≡ Fault Circular
+unfolding on_literals
+entry_above_cycle = refl
 
--- an edit does
-abbrev cut : Sheet
-cut = (a1, Formula (at b1)) ∷ (b1, Constant (Number n.two)) ∷ (c1, Formula (binary Add (at a1) (number n.one))) ∷ (d1, Constant (Number n.five)) ∷ []
+-- ---- A1 =[.B1], B1 what C1 is with D1's value in A9, C1 =[.A2], D1 x, A2 =[.B2], B2 =[.A2]
 
-cut_cycle : shown cut [] a1 ≡ Number n.two
-unfolding circular value_within cell_value shown
-cut_cycle = refl
+abbrev chain : Sheet
+chain =
+    (a1, Formula (at b1)) ∷ (b1, Formula (given c1 a9 d1)) ∷ (c1, Formula (at a2)) ∷ (d1, Constant (Text (codes "x")))
+    ∷ (a2, Formula (at b2)) ∷ (b2, Formula (at a2)) ∷ []
 
-above_cut : shown cut [] c1 ≡ Number n.three
-unfolding circular value_within cell_value shown
-above_cut = rw n.two_and_one refl
+-- A1 reaches the what-if's replacement cell, and what its formula cell reads, though on a cycle; its input is only named
+those_that_reach : reaching chain a1 (by d1 (codes "y") ∷ by a2 (codes "y") ∷ by a9 (codes "y") ∷ []) ≡ by d1 (codes "y") ∷ by a2 (codes "y") ∷ []
+unfolding on_literals
+those_that_reach = refl
 
--- ---- one input named twice: the second value stands. What reads an empty cell reads 0. Values are taken before any is put
+in_its_cone : in_cone chain (a9 ∷ d1 ∷ []) a1 ≡ true
+unfolding on_literals
+in_its_cone = refl
 
-abbrev named_twice : Sheet
-named_twice =
-    (b1, Constant (Number n.ten)) ∷ (b2, Formula thrice) ∷ (b3, Constant (Number n.two)) ∷ (a4, Constant (Number n.seven))
-    ∷ (a5, Constant (Number n.two)) ∷ (c4, Formula (what_if (to b2) (pair b1 a4 ∷ pair b1 a5 ∷ []))) ∷ (d4, Formula (what_if (to b2) (pair b1 a9 ∷ []))) ∷ []
-
-second_stands : shown named_twice [] c4 ≡ Number n.six
-unfolding circular value_within cell_value shown
-second_stands = rw n.two_times_three refl
-
-emptied : shown named_twice [] d4 ≡ Number zero_number
-unfolding circular value_within cell_value shown
-emptied = rw n.none_times_three refl
-
--- B1 10, B2 =[.B1]*[.B3], A4 7, C4 what B2 is with A4's value in B1 and B1's in B3
-abbrev swapped : Sheet
-swapped =
-    (b1, Constant (Number n.ten)) ∷ (b2, Formula (binary Multiply (at b1) (at b3))) ∷ (a4, Constant (Number n.seven))
-    ∷ (c4, Formula (what_if (to b2) (pair b1 a4 ∷ pair b3 b1 ∷ []))) ∷ []
-
-taken_before_put : shown swapped [] c4 ≡ Number n.seventy
-unfolding circular value_within cell_value shown
-taken_before_put = rw n.seven_times_ten refl
+beside_its_cone : in_cone chain (a9 ∷ d1 ∷ []) c1 ≡ false
+unfolding on_literals
+beside_its_cone = refl
