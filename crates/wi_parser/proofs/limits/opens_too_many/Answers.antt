@@ -1,8 +1,11 @@
-use Rattle.std.proofs.Common.{arith, ◌≡◌, suc, ◌∷◌, drop, drop-cons, refl, ap, sym, ◌∙◌}
+use Rattle.std.proofs.Common.{rules, arith, ◌≡◌, suc, ◌∷◌, drop, drop-cons, refl, ap, sym, ◌∙◌}
 use Rattle.wi_parser.specs.Inner.WordSymbols.{all_meant}
 use Rattle.wi_parser.specs.Nesting.{deepest}
 use Rattle.wi_parser.proofs.Depth.{least}
 use Rattle.wi_parser.proofs.limits.opens_too_many.Goals as goal
+
+pub loop-word-init : goal.loop-word-init
+loop-word-init c = search rules
 
 pub returns-then-open-eq-MAX_DEPTH : goal.returns-then-open-eq-MAX_DEPTH
 returns-then-open-eq-MAX_DEPTH c =
