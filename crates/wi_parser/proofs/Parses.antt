@@ -14,7 +14,7 @@ use Rattle.wi_parser.specs.Inner.Reader.{whole}
 use Rattle.wi_parser.specs.Inner.Outcome.{Fails}
 use Rattle.wi_parser.specs.Inner.FormulaText.{formula_symbols}
 use Rattle.wi_parser.specs.Limits.{max_formula, refusal_of}
-use Rattle.wi_parser.specs.Inner.Reading.{unless_refused, judged, parsed, IsWithinLimits, ReadsAs}
+use Rattle.wi_parser.specs.Inner.Reading.{unless_refused, judged, parsed, IsWithinLimits, is_too_long, ReadsAs}
 use Rattle.wi_parser.proofs.Sound.{whole_sound}
 use Rattle.wi_parser.proofs.Complete.{whole_complete}
 use Rattle.wi_parser.proofs.Depth.{depth-deepest}
@@ -161,13 +161,33 @@ parsed_exactly text t = (λ h. (within text t h, parsed_spells text t h), λ p. 
 
 -- ---- what is answered
 
+never_too_long : (outside unfit deep : Bool) (o : Option Tree)
+    → is_too_long (unless_refused (if outside then Some OutOfSheet else (if unfit then Some NumberRange else (if deep then Some TooDeep else None))) o) ≡ false
+never_too_long true unfit deep o = refl
+never_too_long false true deep o = refl
+never_too_long false false true o = refl
+never_too_long false false false (Some t) = refl
+never_too_long false false false None = refl
+
+-- of a text within the limit want of memory may be answered
+pub short_lacks : (text : List ℕ) (r : Result Tree ParseFault) → length text ≤ max_formula → r ≡ Err Memory → ReadsAs (parsed text) r
+short_lacks text r h e =
+    let ts = formula_symbols text in
+    let short : is_too_long (parsed text) ≡ false =
+        ap is_too_long (parsed_short text h) ∙ never_too_long (list_any is_outside ts) (list_any is_unfit ts) (is_too_deep ts) (whole (max_depth + 1) ts) in
+    subst (ReadsAs (parsed text)) (sym e) short
+
 pub reads_as : {A : Type 0} (found : Result A ParseFault) (e : ParseFault) → found ≡ Err e → ReadsAs found (Err e)
 reads_as found TooLong h = h
 reads_as found OutOfSheet h = h
 reads_as found NumberRange h = h
 reads_as found TooDeep h = h
 reads_as found Syntax h = h
-reads_as found Memory h = tt
+reads_as found Memory h = ap is_too_long h
+
+syntax_at_most : (o : Option Tree) → is_too_long (ok_or o Syntax) ≡ false
+syntax_at_most (Some t) = refl
+syntax_at_most None = refl
 
 -- a whole that could not be read
 pub reads_fault : (found : Result Tree ParseFault) (o : Option Tree) (e : ParseFault) → found ≡ ok_or o Syntax → Fails e o → ReadsAs found (Err e)
@@ -176,7 +196,7 @@ reads_fault found o OutOfSheet h f = absurd f
 reads_fault found o NumberRange h f = absurd f
 reads_fault found o TooDeep h f = absurd f
 reads_fault found o Syntax h f = h ∙ ap (λ o. ok_or o Syntax) f
-reads_fault found o Memory h f = tt
+reads_fault found o Memory h f = ap is_too_long h ∙ syntax_at_most o
 
 pub reads_spelled : (text : List ℕ) (r : Result Tree ParseFault) → ReadsAs (parsed text) r → IfOk r (λ t. Spells loosest t (formula_symbols text))
 reads_spelled text (Ok t) h = parsed_spells text t h

@@ -1,5 +1,5 @@
 -- What a text is taken for, as a reader finds it. Laws tie it to what texts stand for.
-use Rattle.std.specs.Prelude.{◌≡◌, ℕ, ◌+◌, ◌≤◌, List, length, nat_lt, if◌then◌else◌, codes, Option, Some, None, option_map, is_some, Result, Ok, Err, ok_or}
+use Rattle.std.specs.Prelude.{◌≡◌, ℕ, ◌+◌, ◌≤◌, Bool, true, false, List, length, nat_lt, if◌then◌else◌, codes, Option, Some, None, option_map, is_some, Result, Ok, Err, ok_or}
 use Rattle.wi_values.specs.declared.value.Value.TheVariants.{Text}
 use Rattle.wi_values.specs.Import.{max_text}
 use Rattle.wi_values.specs.Inner.Import.{imported}
@@ -50,7 +50,12 @@ content_read text =
     if is_some (after_equals text) then as_content (parsed text)
     else constant_read text (after (codes "'") text)
 
--- what is answered is what is found, or Memory, which says nothing of it
+-- a text that is too long, which is found before anything grows
+abbrev pub is_too_long : {A : Type 0} → Result A ParseFault → Bool
+is_too_long (Err TooLong) = true
+is_too_long found = false
+
+-- what is answered is what is found, or Memory, but not where the text is too long
 abbrev pub ReadsAs : {A : Type 0} → Result A ParseFault → Result A ParseFault → Type 0
-ReadsAs found (Err Memory) = Unit {0}
+ReadsAs found (Err Memory) = is_too_long found ≡ false
 ReadsAs found answer = found ≡ answer

@@ -1,10 +1,10 @@
-use Rattle.std.proofs.Common.{Ok, Err, ap, sym, ◌∙◌, ok_or}
+use Rattle.std.proofs.Common.{rules, Ok, Err, ap, sym, ◌∙◌, ok_or}
 use Rattle.std.proofs.lemmas.Result.{err_from_is_err_and}
 use Rattle.wi_parser.specs.declared.fault.ParseFault.TheVariants.{Syntax}
 use Rattle.wi_parser.specs.Inner.WordSymbols.{all_meant}
 use Rattle.wi_parser.specs.Limits.{refusal_of}
 use Rattle.wi_parser.proofs.FormulaTrees.{read_tree}
-use Rattle.wi_parser.proofs.Parses.{parsed_long, parsed_refused, parsed_whole, reads_as, reads_fault, reads_spelled, reads_only}
+use Rattle.wi_parser.proofs.Parses.{parsed_long, parsed_refused, parsed_whole, reads_as, reads_fault, reads_spelled, reads_only, short_lacks}
 use Rattle.wi_parser.proofs.parser.parse.Goals as goal
 
 pub returns-then-text-gt-MAX_FORMULA-clause-parsed : goal.returns-then-text-gt-MAX_FORMULA-clause-parsed
@@ -18,6 +18,9 @@ returns-in-Some-clause-parsed c =
 pub returns-in-Some-clause-only : goal.returns-in-Some-clause-only
 returns-in-Some-clause-only c = reads_only c.args.text.now (Err c.in-Some.fault) (returns-in-Some-clause-parsed c)
 
+pub returns-in_err-words-clause-parsed : goal.returns-in_err-words-clause-parsed
+returns-in_err-words-clause-parsed c = search (rules, short_lacks)
+
 pub returns-in_err-expr-clause-parsed : goal.returns-in_err-expr-clause-parsed
 returns-in_err-expr-clause-parsed c =
     let meant = ap all_meant c.deref.ensures.value ∙ c.in_ok-words.ensures in
@@ -28,6 +31,9 @@ returns-in_err-expr-clause-parsed c =
 
 pub returns-in_err-expr-clause-only : goal.returns-in_err-expr-clause-only
 returns-in_err-expr-clause-only c = reads_only c.args.text.now c.from_residual-in_err-expr.result (returns-in_err-expr-clause-parsed c)
+
+pub returns-in_err-new-clause-parsed : goal.returns-in_err-new-clause-parsed
+returns-in_err-new-clause-parsed c = search (rules, short_lacks)
 
 pub new-requires : goal.new-requires
 new-requires c =
