@@ -13,3 +13,6 @@ returns-clause-one_goes c = search (rules, keeping)
 
 pub returns-clause-len : goal.returns-clause-len
 returns-clause-len c = search (rules, keeping)
+
+pub returns-clause-err : goal.returns-clause-err
+returns-clause-err c = search (rules, keeping)
