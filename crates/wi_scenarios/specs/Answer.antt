@@ -59,6 +59,7 @@ abbrev pub is_found_before_growth : Refusal → Bool
 is_found_before_growth BadCommand = true
 is_found_before_growth BadLine = true
 is_found_before_growth TooLarge = true
+is_found_before_growth TooLong = true
 is_found_before_growth e = false
 
 -- whether anything may grow before this answer is found

@@ -10,7 +10,7 @@ use wi_values::AddressFault;
 
 /// Why a command is refused. All is then as before. The first cause of this order that holds is answered: `BadLine`,
 /// `BadCommand`, `OutOfSheet` of an operand, `TooLarge`, `TooLong`, `OutOfSheet` of a formula, `NumberRange`, `TooDeep`,
-/// `Syntax`, `Full`, `EditLimit`. `Memory` may stand in place of any answer but the first four refusals, which are found
+/// `Syntax`, `Full`, `EditLimit`. `Memory` may stand in place of any answer but the first five refusals, which are found
 /// before anything grows.
 #[derive(Clone, Copy, PartialEq, Debug, Error)]
 pub enum Refusal {
