@@ -1,6 +1,6 @@
 //! Runs a script.
 
-ghost use Rattle.std.specs.Prelude.{◌≡◌, ◌++◌, ◌+◌, ◌≤◌, [], List, ℕ, OnOk, OnErr, IfErr, MatchResult, Ok, Err, false, true, vec_capacity};
+ghost use Rattle.std.specs.Prelude.{◌≡◌, ◌++◌, ◌+◌, ◌≤◌, [], List, ℕ, OnOk, OnErr, IfErr, MatchResult, Ok, Err, false, true, nat_lt, vec_capacity};
 ghost use Rattle.std.specs.Io.KnownBytes.{Appends, Consumes, IsAtEnd, Keeps};
 ghost use Rattle.wi_scenarios.specs.Answer.{Serves};
 ghost use Rattle.wi_scenarios.specs.Step.{IsStep};
@@ -8,7 +8,7 @@ ghost use Rattle.wi_cli.specs.Script.{line_command};
 ghost use Rattle.wi_cli.specs.Inner.Spelling.{command_of};
 ghost use Rattle.wi_cli.specs.Inner.Told.{Told};
 ghost use Rattle.wi_cli.specs.Inner.Turn.{Turned, Stopped};
-ghost use Rattle.wi_cli.specs.Outcome.{Outcome};
+ghost use Rattle.wi_cli.specs.Outcome.{Outcome, max_lines};
 
 use crate::answer::{Answer, write_answer};
 use crate::chunk::Chunk;
@@ -104,6 +104,13 @@ fn send<W: Sink>(writer: &mut W) -> Result<(), RunFault>
     }
 }
 
+/// Whether a run that has served so many lines may take one more.
+fn may_go_on(lines: u32) -> bool
+    ensures { result ≡ nat_lt lines max_lines }
+{
+    lines < MAX_LINES
+}
+
 /// Runs a script on a workbook. It takes each line as it comes, serves it and writes its reply, then goes on to the
 /// next; the contract tells what is written, not when. On a fault the replies to the commands before it stand; where a
 /// write failed, the last of them may be cut short, and nothing is served after it.
@@ -143,7 +150,7 @@ pub fn run<R: Source, W: Sink, C: Calculator>(
         book,
         &mut line,
         &mut out,
-        lines < MAX_LINES,
+        may_go_on(lines),
     )? {
         lines += 1;
     }

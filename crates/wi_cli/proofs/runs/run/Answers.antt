@@ -15,7 +15,7 @@ loop-out-init g c =
 
 pub loop-out-preserved : goal.loop-out-preserved
 loop-out-preserved g c =
-    let turned = rw c.if-branch.true at c.in_ok-turn.ensures.done in
+    let turned = rw (c.if-branch.true, c.may_go_on.ensures) at c.in_ok-turn.ensures.done in
     let old = c.loop-out.invariant in
     record {
       going = going_on _ _ _ _ _ _ _ _ _ _ _ c.loop-out.lines _ old.going turned;
@@ -29,10 +29,11 @@ pub returns-in_err-turn-clause-replies : goal.returns-in_err-turn-clause-replies
 returns-in_err-turn-clause-replies g c =
     let p = err_from_is_err_and c.from_residual.result c.from_residual.ensures.1 in
     let old = c.loop-out.invariant in
-    rw (p.1, p.2) (ends_stopped _ _ _ _ _ _ _ _ _ _ _ _ c.loop-out.lines old.few old.going c.in_err-turn.ensures.done)
+    let stopped = rw c.may_go_on.ensures at c.in_err-turn.ensures.done in
+    rw (p.1, p.2) (ends_stopped _ _ _ _ _ _ _ _ _ _ _ _ c.loop-out.lines old.few old.going stopped)
 
 pub returns-clause-replies : goal.returns-clause-replies
 returns-clause-replies g c =
-    let turned = rw c.if-branch.false at c.in_ok-turn.ensures.done in
+    let turned = rw (c.if-branch.false, c.may_go_on.ensures) at c.in_ok-turn.ensures.done in
     let old = c.loop-out.invariant in
     ends_sent _ _ _ _ _ _ _ _ _ _ _ _ _ c.loop-out.lines old.few old.going turned c.send.ensures.bytes c.send.ensures.fault
