@@ -1,0 +1,5 @@
+use Rattle.std.proofs.Common.{rules}
+use Rattle.wi_parser.proofs.content.Content.taken_as_text.Goals as goal
+
+pub returns-then-text-gt-MAX_TEXT : goal.returns-then-text-gt-MAX_TEXT
+returns-then-text-gt-MAX_TEXT c = search rules
