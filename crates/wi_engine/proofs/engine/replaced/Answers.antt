@@ -9,6 +9,9 @@ use Rattle.wi_sheet.proofs.Overrides.{replaced_world}
 use Rattle.wi_engine.proofs.engine.Awaiting.{input_unvalued}
 use Rattle.wi_engine.proofs.engine.replaced.Goals as goal
 
+pub loop-pair-preserved : goal.loop-pair-preserved
+loop-pair-preserved g c = grind (arith, common_steps)
+
 pub returns-in-Unknown-clause-unknown : goal.returns-in-Unknown-clause-unknown
 returns-in-Unknown-clause-unknown g c =
     let unknown = rw c.in-Unknown.is at c.in_ok-value.ensures.unknown in
