@@ -14,6 +14,8 @@ pub struct Case {
     pub limits: Limits,
     /// How many bytes of replies can be written.
     pub room: usize,
+    /// How often each write is interrupted first.
+    pub interruptions: usize,
     /// Whether the read after the script fails.
     pub torn: bool,
     /// Whether the lines are told too, each before the replies to it.
@@ -32,6 +34,7 @@ impl Case {
             script: Vec::new(alloc),
             limits: Limits::standard(),
             room: usize::MAX,
+            interruptions: 0,
             torn: false,
             in_turns: false,
             evaluations: false,
@@ -54,6 +57,10 @@ impl Case {
             }
             Some(("@room", count)) => {
                 self.room = usize::try_from(number(count)?).unwrap_or(usize::MAX);
+                Ok(())
+            }
+            Some(("@interrupted", count)) => {
+                self.interruptions = usize::try_from(number(count)?).unwrap_or(usize::MAX);
                 Ok(())
             }
             _ => self.take_word(line),

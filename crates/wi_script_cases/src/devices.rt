@@ -47,13 +47,17 @@ impl Read for Lines<'_> {
     }
 }
 
-/// Takes so many bytes at a time, and fails where it has no room left.
+/// Takes so many bytes at a time, once it was interrupted so often, and fails where it has no room left.
 #[derive(Drop)]
 pub struct Taken<'a> {
     pub bytes: &'a RefCell<Vec<u8>>,
     pub piece: usize,
     /// How many bytes it still takes.
     pub room: usize,
+    /// How often it is interrupted before each write.
+    pub interruptions: usize,
+    /// How often it was since the last write.
+    pub interrupted: usize,
     /// Whether all that was written was flushed.
     pub flushed: bool,
 }
@@ -61,6 +65,11 @@ pub struct Taken<'a> {
 impl Write for Taken<'_> {
     fn write(&mut self, buf: &[u8]) -> io::Result<usize> {
         self.flushed = false;
+        if self.interrupted < self.interruptions {
+            self.interrupted += 1;
+            return Err(io::ErrorKind::Interrupted.into());
+        }
+        self.interrupted = 0;
         let taken = buf.len().min(self.piece).min(self.room);
         let Ok(mut bytes) = self.bytes.try_borrow_mut() else {
             return Err(io::ErrorKind::Other.into());

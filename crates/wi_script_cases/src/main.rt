@@ -41,6 +41,8 @@ fn run_from<R: Read + Drop>(
         bytes: replies,
         piece,
         room: case.room,
+        interruptions: case.interruptions,
+        interrupted: 0,
         flushed: false,
     };
     let outcome = run(alloc, &mut source, &mut WriteTo::new(&mut taken), &mut book);
