@@ -1,4 +1,4 @@
-//! What a program does with its devices.
+//! A run on a new workbook, and the status that it ends with.
 
 ghost use Rattle.std.specs.Prelude.{◌≡◌, ℕ, List, Err, IfOk, OnOk, true, false};
 ghost use Rattle.std.specs.Io.KnownBytes.{Appends, Consumes, IsAtEnd};

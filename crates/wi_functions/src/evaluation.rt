@@ -51,7 +51,8 @@ impl From<AllocError> for Stop {
     }
 }
 
-/// A formula's value, in which Empty becomes 0, or what is missing for it. Either is counted. Memory is needed for the
+/// A formula's value, in which Empty becomes 0, or what is missing for it. The first is counted as an evaluation, the second
+/// as a restart. Memory is needed for the
 /// texts that are copied and joined, and for what is missing; want of it counts nothing.
 pub fn evaluate<L: Lookup>(
     alloc: Global,

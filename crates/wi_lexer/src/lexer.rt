@@ -21,7 +21,7 @@ pub struct Token<'a> {
 #[error("no token begins here")]
 pub struct BadToken;
 
-/// A reader of the tokens of a text. White space may stand between them and after the last.
+/// A reader of the tokens of a text. White space may stand before, between and after them.
 ///
 /// Reading all tokens looks at each byte a fixed number of times at most.
 #[derive(Drop)]

@@ -1,4 +1,4 @@
--- How deep a formula nests.
+-- How deep a formula nests. The limit goes by its symbols, `deepest`; the depth of its tree serves laws alone.
 use Rattle.std.specs.Prelude.{ℕ, suc, ◌-◌, max, List, [], ◌∷◌, Bool, true, false, ◌||◌, nat_lt, if◌then◌else◌}
 use Rattle.wi_parser.specs.declared.expr.Operator.TheVariants.{Add, Subtract}
 use Rattle.wi_parser.specs.Tree.{Tree, Trees, number, text, cell, rectangle, parenthesized, signed, percent, binary, what_if, call, no_trees, more_trees}

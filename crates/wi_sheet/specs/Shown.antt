@@ -1,4 +1,4 @@
--- What a cell shows under a scenario's replacements.
+-- What a cell shows under replacements.
 use Rattle.std.specs.Prelude.{ℕ, List, if◌then◌else◌}
 use Rattle.wi_values.specs.declared.value.Value.{Value}
 use Rattle.wi_values.specs.declared.value.Value.TheVariants.{Fault}

@@ -11,9 +11,9 @@ use Rattle.wi_graph.specs.Circular.{circular}
 use Rattle.wi_sheet.specs.CellValue.{what_if_value}
 use Rattle.wi_sheet.specs.Demand.{Case, case_of, what_if_case, demand, different}
 
--- What an entry shows under a scenario's replacements: the value of its formula cell with each input replaced by the value of
--- its replacement cell. It is valued as a formula in a cell of its own that nothing reads, so Empty becomes 0. Cycles are
--- those of the sheet's own formulas: no replacement cuts one.
+-- What an entry shows under replacements: Circular where its formula cell or a replacement cell is circular in the sheet as
+-- it stands; else the what-if's value in the sheet with the replacements put in. It is valued as a formula in a cell of its
+-- own that nothing reads, so Empty becomes 0.
 unfoldable pub table_entry : Sheet → List Replacement → ℕ → List (ℕ × ℕ) → Value
 table_entry s p f pairs =
     if circular s f || list_any (λ x. circular s x.1) pairs then Fault Circular else zero_for_empty (what_if_value (put_all s p) f pairs)

@@ -1,4 +1,4 @@
--- Addresses and rectangles. A cell's address is its place in row-major order.
+-- Addresses and rectangles. A cell's address is its place in row-major order: row after row, in each from the left.
 use Rattle.std.specs.Prelude.{ℕ, zero, suc, ◌+◌, ◌-◌, ◌*◌, ◌/◌, ◌%◌, ◌≤◌, min, max, List, [], ◌∷◌, ◌++◌, Bool, ◌&&◌, not, ◌==◌, nat_lt, nat_le, length, slice_index, if◌then◌else◌, map, decimal}
 use Rattle.std.specs.List.{range_with_len, flat_map}
 use Rattle.std.specs.Char.{to_ascii_uppercase}

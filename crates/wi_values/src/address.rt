@@ -184,8 +184,8 @@ fn column_number(letters: &[u8]) -> u32
     number
 }
 
-/// The number of a row, counted from 1, or one too large for a sheet. A byte that is no digit counts as in base 36,
-/// and any other as 36.
+/// The number of a row, counted from 1, or one too large for a sheet. A letter counts as in base 36, and any other
+/// byte that is no digit as 36.
 fn row_number(digits: &[u8]) -> u32
     ensures { result ≡ min (digits_value 10 digits.now) (rows + 1) }
 {
