@@ -7,10 +7,10 @@ use Rattle.wi_lexer.specs.Inner.Scan.{ahead, IsNext, IsDone}
 use Rattle.wi_lexer.specs.Inner.Tokens.{tokens}
 use Rattle.wi_lexer.proofs.CallerLemmas.{tokens_next, tokens_bad, tokens_end}
 use Rattle.wi_parser.specs.declared.fault.ParseFault.TheVariants.{Syntax}
-use Rattle.wi_parser.specs.declared.word.Word.{Word}
+use Rattle.wi_parser.specs.declared.symbol.Symbol as code
 use Rattle.wi_parser.specs.Symbol.{Symbol, refused}
 use Rattle.wi_parser.specs.Inner.FormulaText.{symbol_of, symbols_of}
-use Rattle.wi_parser.specs.Inner.WordSymbols.{meant_by, all_meant}
+use Rattle.wi_parser.specs.Inner.SymbolCode.{meant_by, all_meant}
 
 -- what is left of the text's symbols
 abbrev pub left : Scan → List Symbol
@@ -33,7 +33,7 @@ shortens (b ∷ bs) new some none = omega (arith, ap length none)
 pub bad_shortens : (old new : Scan) → (ahead old ≡ [] → ⊥) → IsDone old new → length new.rest < length old.rest
 bad_shortens old new some done = shortens old.rest new.rest some done.rest
 
--- a word more is a symbol more
-pub pushed : (ws : List Word) (w : Word) (ts : List Symbol) → all_meant (ws ++ w ∷ []) ++ ts ≡ all_meant ws ++ meant_by w ∷ ts
+-- what one more symbol of the code means
+pub pushed : (ws : List code.Symbol) (w : code.Symbol) (ts : List Symbol) → all_meant (ws ++ w ∷ []) ++ ts ≡ all_meant ws ++ meant_by w ∷ ts
 pushed [] w ts = refl
 pushed (v ∷ ws) w ts = ap (λ us. meant_by v ∷ us) (pushed ws w ts)

@@ -7,5 +7,5 @@ pub mod Outcome
 pub mod PrintedParts
 pub mod Reader
 pub mod Reading
+pub mod SymbolCode
 pub mod TreeCode
-pub mod WordSymbols

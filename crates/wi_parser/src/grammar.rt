@@ -9,9 +9,9 @@ ghost use Rattle.wi_parser.specs.Tree as tree;
 
 use crate::expr::{Corners, Expr, Operator, Reference, Sign};
 use crate::fault::ParseFault;
+use crate::symbol::Symbol;
+use crate::symbols::Symbols;
 use crate::what_if::what_if;
-use crate::word::Word;
-use crate::words::Words;
 use std::alloc::{AllocError, Global};
 use wi_fraction::Fraction;
 use wi_values::Text;
@@ -24,127 +24,135 @@ struct Grammar<F> {
     expression: F,
 }
 
-impl<F: Fn(Global, &mut Words<'_>, usize) -> Result<Expr, ParseFault>> Grammar<F> {
+impl<F: Fn(Global, &mut Symbols<'_>, usize) -> Result<Expr, ParseFault>> Grammar<F> {
     // What stands in parentheses.
-    fn inner(&self, words: &mut Words<'_>) -> Result<Expr, ParseFault>
+    fn inner(&self, symbols: &mut Symbols<'_>) -> Result<Expr, ParseFault>
         requires { Nests self.now.depth (F.pre self.now.expression) (F.post self.now.expression) }
-        ensures finds { Finds (reader.expression self.now.depth words.old) result words.new }
-        ensures shorter { OnOk result (length words.new < length words.old) }
+        ensures finds { Finds (reader.expression self.now.depth symbols.old) result symbols.new }
+        ensures shorter { OnOk result (length symbols.new < length symbols.old) }
     {
-        (self.expression)(self.alloc, words, self.depth)
+        (self.expression)(self.alloc, symbols, self.depth)
     }
 
     // What follows a parameter: the others behind those found, and the parenthesis that closes.
     fn more_parameters(
         &self,
-        words: &mut Words<'_>,
+        symbols: &mut Symbols<'_>,
         found: &mut Vec<Expr>,
     ) -> Result<(), ParseFault>
         requires { Nests self.now.depth (F.pre self.now.expression) (F.post self.now.expression) }
-        ensures finds { FindsMore (put_before found.old.items (reader.more_parameters (reader.expression self.now.depth) (length words.old) words.old)) result found.new.items words.new }
-        ensures shorter { OnOk result (length words.new < length words.old) }
+        ensures finds { FindsMore
+            (put_before found.old.items
+            (reader.more_parameters (reader.expression self.now.depth) (length symbols.old) symbols.old))
+            result found.new.items symbols.new }
+        ensures shorter { OnOk result (length symbols.new < length symbols.old) }
     {
-        while !words.take_close() {
-            if !words.take_separator() {
+        while !symbols.take_close() {
+            if !symbols.take_separator() {
                 return Err(ParseFault::Syntax);
             }
-            found.push(self.inner(words)?)?;
+            found.push(self.inner(symbols)?)?;
         }
         Ok(())
     }
 
     // The parameters of a call, and the parenthesis that closes.
-    fn parameters(&self, words: &mut Words<'_>) -> Result<Vec<Expr>, ParseFault>
+    fn parameters(&self, symbols: &mut Symbols<'_>) -> Result<Vec<Expr>, ParseFault>
         requires { Nests self.now.depth (F.pre self.now.expression) (F.post self.now.expression) }
-        ensures finds { FindsAll (reader.parameters_at (reader.expression self.now.depth) words.old) result words.new }
-        ensures shorter { OnOk result (length words.new < length words.old) }
+        ensures finds { FindsAll (reader.parameters_at (reader.expression self.now.depth) symbols.old)
+            result symbols.new }
+        ensures shorter { OnOk result (length symbols.new < length symbols.old) }
     {
         let mut found = Vec::new(self.alloc);
-        if words.take_close() {
+        if symbols.take_close() {
             return Ok(found);
         }
-        found.push(self.inner(words)?)?;
-        self.more_parameters(words, &mut found)?;
+        found.push(self.inner(symbols)?)?;
+        self.more_parameters(symbols, &mut found)?;
         Ok(found)
     }
 
     // A number, a text, a cell, a rectangle, an expression in parentheses, a what-if, or a call.
     #[tactic(auto, unfolding(crate::specs::Inner::Reader::atom))]
-    fn atom(&self, words: &mut Words<'_>) -> Result<Expr, ParseFault>
+    fn atom(&self, symbols: &mut Symbols<'_>) -> Result<Expr, ParseFault>
         requires { Nests self.now.depth (F.pre self.now.expression) (F.post self.now.expression) }
-        ensures finds { Finds (reader.atom (reader.expression self.now.depth) words.old) result words.new }
-        ensures shorter { OnOk result (length words.new < length words.old) }
+        ensures finds { Finds (reader.atom (reader.expression self.now.depth) symbols.old)
+            result symbols.new }
+        ensures shorter { OnOk result (length symbols.new < length symbols.old) }
     {
-        let Some(word) = words.next() else {
+        let Some(symbol) = symbols.next() else {
             return Err(ParseFault::Syntax);
         };
-        match word {
-            Word::Number(x) => Ok(number(*x)),
-            Word::Text(content) => Ok(text(self.alloc, content)?),
-            Word::Cell(at) => Ok(cell(*at)),
-            Word::Rectangle(corners) => Ok(rectangle(*corners)),
-            Word::Open => {
-                let inner = self.inner(words)?;
-                if !words.take_close() {
+        match symbol {
+            Symbol::Number(x) => Ok(number(*x)),
+            Symbol::Text(content) => Ok(text(self.alloc, content)?),
+            Symbol::Cell(at) => Ok(cell(*at)),
+            Symbol::Rectangle(corners) => Ok(rectangle(*corners)),
+            Symbol::Open => {
+                let inner = self.inner(symbols)?;
+                if !symbols.take_close() {
                     return Err(ParseFault::Syntax);
                 }
                 Ok(parenthesized(self.alloc, inner)?)
             }
-            Word::WhatIf => what_if(self.alloc, words),
-            Word::Name(name) => {
-                if !words.take_open() {
+            Symbol::WhatIf => what_if(self.alloc, symbols),
+            Symbol::Name(name) => {
+                if !symbols.take_open() {
                     return Err(ParseFault::Syntax);
                 }
-                let parameters = self.parameters(words)?;
+                let parameters = self.parameters(symbols)?;
                 Ok(call(self.alloc, name, parameters)?)
             }
-            Word::Close => Err(ParseFault::Syntax),
-            Word::Separator => Err(ParseFault::Syntax),
-            Word::Infix(_) => Err(ParseFault::Syntax),
-            Word::Percent => Err(ParseFault::Syntax),
-            Word::Refused(_) => Err(ParseFault::Syntax),
+            Symbol::Close => Err(ParseFault::Syntax),
+            Symbol::Separator => Err(ParseFault::Syntax),
+            Symbol::Infix(_) => Err(ParseFault::Syntax),
+            Symbol::Percent => Err(ParseFault::Syntax),
+            Symbol::Refused(_) => Err(ParseFault::Syntax),
         }
     }
 
     // Any number of signs, and an atom.
-    fn prefixed(&self, words: &mut Words<'_>) -> Result<Expr, ParseFault>
+    fn prefixed(&self, symbols: &mut Symbols<'_>) -> Result<Expr, ParseFault>
         requires { Nests self.now.depth (F.pre self.now.expression) (F.post self.now.expression) }
-        ensures finds { Finds (reader.line (reader.expression self.now.depth) 1 words.old) result words.new }
-        ensures shorter { OnOk result (length words.new < length words.old) }
+        ensures finds { Finds (reader.line (reader.expression self.now.depth) 1 symbols.old)
+            result symbols.new }
+        ensures shorter { OnOk result (length symbols.new < length symbols.old) }
     {
-        let Some(sign) = words.take_sign() else {
-            return self.atom(words);
+        let Some(sign) = symbols.take_sign() else {
+            return self.atom(symbols);
         };
-        let operand = self.prefixed(words)?;
+        let operand = self.prefixed(symbols)?;
         Ok(signed(self.alloc, sign, operand)?)
     }
 
     // An operand with its signs, and any number of percent marks.
-    fn percents(&self, words: &mut Words<'_>) -> Result<Expr, ParseFault>
+    fn percents(&self, symbols: &mut Symbols<'_>) -> Result<Expr, ParseFault>
         requires { Nests self.now.depth (F.pre self.now.expression) (F.post self.now.expression) }
-        ensures finds { Finds (reader.line (reader.expression self.now.depth) 2 words.old) result words.new }
-        ensures shorter { OnOk result (length words.new < length words.old) }
+        ensures finds { Finds (reader.line (reader.expression self.now.depth) 2 symbols.old)
+            result symbols.new }
+        ensures shorter { OnOk result (length symbols.new < length symbols.old) }
     {
-        let mut operand = self.prefixed(words)?;
-        while words.take_percent() {
+        let mut operand = self.prefixed(symbols)?;
+        while symbols.take_percent() {
             operand = percent(self.alloc, operand)?;
         }
         Ok(operand)
     }
 
     // A line of the grammar from percents, which are line 2, to comparisons.
-    fn line(&self, words: &mut Words<'_>, line: u8) -> Result<Expr, ParseFault>
+    fn line(&self, symbols: &mut Symbols<'_>, line: u8) -> Result<Expr, ParseFault>
         requires nests { Nests self.now.depth (F.pre self.now.expression) (F.post self.now.expression) }
         requires from_percents { 2 ≤ line }
-        ensures finds { Finds (reader.line (reader.expression self.now.depth) line words.old) result words.new }
-        ensures shorter { OnOk result (length words.new < length words.old) }
+        ensures finds { Finds (reader.line (reader.expression self.now.depth) line symbols.old)
+            result symbols.new }
+        ensures shorter { OnOk result (length symbols.new < length symbols.old) }
     {
         if line == 2 {
-            return self.percents(words);
+            return self.percents(symbols);
         }
-        let mut left = self.line(words, line - 1)?;
-        while let Some(op) = words.take_operator(line) {
-            let right = self.line(words, line - 1)?;
+        let mut left = self.line(symbols, line - 1)?;
+        while let Some(op) = symbols.take_operator(line) {
+            let right = self.line(symbols, line - 1)?;
             left = binary(self.alloc, op, left, right)?;
         }
         Ok(left)
@@ -153,10 +161,14 @@ impl<F: Fn(Global, &mut Words<'_>, usize) -> Result<Expr, ParseFault>> Grammar<F
 
 const LOOSEST: u8 = 7;
 
-/// An expression at the front of the words, whose parentheses nest less deep than the depth.
-pub fn expression(alloc: Global, words: &mut Words<'_>, depth: usize) -> Result<Expr, ParseFault>
-    ensures finds { Finds (reader.expression depth words.old) result words.new }
-    ensures shorter { OnOk result (length words.new < length words.old) }
+/// An expression at the front of the symbols, whose parentheses nest less deep than the depth.
+pub fn expression(
+    alloc: Global,
+    symbols: &mut Symbols<'_>,
+    depth: usize,
+) -> Result<Expr, ParseFault>
+    ensures finds { Finds (reader.expression depth symbols.old) result symbols.new }
+    ensures shorter { OnOk result (length symbols.new < length symbols.old) }
 {
     if depth == 0 {
         return Err(ParseFault::Syntax);
@@ -166,7 +178,7 @@ pub fn expression(alloc: Global, words: &mut Words<'_>, depth: usize) -> Result<
         depth: depth - 1,
         expression,
     }
-    .line(words, LOOSEST)
+    .line(symbols, LOOSEST)
 }
 
 fn number(x: Fraction) -> Expr

@@ -12,10 +12,10 @@ mod limits;
 mod parser;
 mod print;
 mod shift;
+mod symbol;
+mod symbols;
 mod tokens;
 mod what_if;
-mod word;
-mod words;
 
 pub use content::Content;
 pub use expr::{Corners, Expr, Operator, Pair, Reference, Sign};

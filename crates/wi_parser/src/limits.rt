@@ -2,97 +2,97 @@
 
 ghost use Rattle.std.specs.Prelude.{◌≡◌, ◌<◌, ◌↔◌, IsTrue};
 ghost use Rattle.std.specs.List.{list_any};
-ghost use Rattle.wi_parser.specs.Symbol as symbol;
-ghost use Rattle.wi_parser.specs.Inner.WordSymbols.{meant_by, all_meant};
+ghost use Rattle.wi_parser.specs.Symbol.{is_outside, is_unfit};
+ghost use Rattle.wi_parser.specs.Inner.SymbolCode.{meant_by, all_meant};
 ghost use Rattle.wi_parser.specs.Nesting as nesting;
 ghost use Rattle.wi_parser.specs.Nesting.{deepest, most_signs, max_depth};
 ghost use Rattle.wi_parser.specs.Limits as spec;
 
 use crate::expr::Operator;
 use crate::fault::ParseFault;
-use crate::word::Word;
+use crate::symbol::Symbol;
 
 /// How many parentheses may be open at once, and how many signs may stand one after another.
 pub const MAX_DEPTH: usize = 64;
 
-/// The first cause for which the words are refused before they are read.
-pub fn refusal_of(words: &[Word]) -> Option<ParseFault>
-    ensures { result ≡ spec.refusal_of (all_meant words.now) }
+/// The first cause for which the symbols are refused before they are read.
+pub fn refusal_of(symbols: &[Symbol]) -> Option<ParseFault>
+    ensures { result ≡ spec.refusal_of (all_meant symbols.now) }
 {
-    if has_outside(words) {
+    if has_outside(symbols) {
         return Some(ParseFault::OutOfSheet);
     }
-    if has_unfit(words) {
+    if has_unfit(symbols) {
         return Some(ParseFault::NumberRange);
     }
-    if is_too_deep(words) {
+    if is_too_deep(symbols) {
         return Some(ParseFault::TooDeep);
     }
     None
 }
 
 #[tactic(auto, using(crate::proofs::Refusals::any_meant))]
-fn has_outside(words: &[Word]) -> bool
-    ensures { result ≡ list_any symbol.is_outside (all_meant words.now) }
+fn has_outside(symbols: &[Symbol]) -> bool
+    ensures { result ≡ list_any is_outside (all_meant symbols.now) }
 {
-    words.iter().any(|w| is_outside(w))
+    symbols.iter().any(|s| is_outside(s))
 }
 
 #[tactic(auto, using(crate::proofs::Refusals::any_meant))]
-fn has_unfit(words: &[Word]) -> bool
-    ensures { result ≡ list_any symbol.is_unfit (all_meant words.now) }
+fn has_unfit(symbols: &[Symbol]) -> bool
+    ensures { result ≡ list_any is_unfit (all_meant symbols.now) }
 {
-    words.iter().any(|w| is_unfit(w))
+    symbols.iter().any(|s| is_unfit(s))
 }
 
-fn is_outside(word: &Word) -> bool
-    ensures { result ≡ symbol.is_outside (meant_by word.now) }
+fn is_outside(symbol: &Symbol) -> bool
+    ensures { result ≡ is_outside (meant_by symbol.now) }
 {
-    match word {
-        Word::Refused(ParseFault::OutOfSheet) => true,
+    match symbol {
+        Symbol::Refused(ParseFault::OutOfSheet) => true,
         _ => false,
     }
 }
 
-fn is_unfit(word: &Word) -> bool
-    ensures { result ≡ symbol.is_unfit (meant_by word.now) }
+fn is_unfit(symbol: &Symbol) -> bool
+    ensures { result ≡ is_unfit (meant_by symbol.now) }
 {
-    match word {
-        Word::Refused(ParseFault::NumberRange) => true,
+    match symbol {
+        Symbol::Refused(ParseFault::NumberRange) => true,
         _ => false,
     }
 }
 
-fn is_sign(word: &Word) -> bool
-    ensures { result ≡ nesting.is_sign (meant_by word.now) }
+fn is_sign(symbol: &Symbol) -> bool
+    ensures { result ≡ nesting.is_sign (meant_by symbol.now) }
 {
-    match word {
-        Word::Infix(Operator::Add) => true,
-        Word::Infix(Operator::Subtract) => true,
+    match symbol {
+        Symbol::Infix(Operator::Add) => true,
+        Symbol::Infix(Operator::Subtract) => true,
         _ => false,
     }
 }
 
-fn is_too_deep(words: &[Word]) -> bool
-    ensures { result ≡ nesting.is_too_deep (all_meant words.now) }
+fn is_too_deep(symbols: &[Symbol]) -> bool
+    ensures { result ≡ nesting.is_too_deep (all_meant symbols.now) }
 {
-    opens_too_many(words) || repeats_signs(words)
+    opens_too_many(symbols) || repeats_signs(symbols)
 }
 
 // Whether more than 64 parentheses are open at once.
-fn opens_too_many(words: &[Word]) -> bool
-    ensures { IsTrue result ↔ (max_depth < deepest 0 (all_meant words.now)) }
+fn opens_too_many(symbols: &[Symbol]) -> bool
+    ensures { IsTrue result ↔ (max_depth < deepest 0 (all_meant symbols.now)) }
 {
     let mut open = 0;
-    for word in words {
-        match word {
-            Word::Open => {
+    for symbol in symbols {
+        match symbol {
+            Symbol::Open => {
                 if open == MAX_DEPTH {
                     return true;
                 }
                 open += 1;
             }
-            Word::Close => {
+            Symbol::Close => {
                 if open > 0 {
                     open -= 1;
                 }
@@ -104,12 +104,12 @@ fn opens_too_many(words: &[Word]) -> bool
 }
 
 // Whether more than 64 signs stand one after another.
-fn repeats_signs(words: &[Word]) -> bool
-    ensures { IsTrue result ↔ (max_depth < most_signs 0 (all_meant words.now)) }
+fn repeats_signs(symbols: &[Symbol]) -> bool
+    ensures { IsTrue result ↔ (max_depth < most_signs 0 (all_meant symbols.now)) }
 {
     let mut signs = 0;
-    for word in words {
-        if is_sign(word) {
+    for symbol in symbols {
+        if is_sign(symbol) {
             if signs == MAX_DEPTH {
                 return true;
             }

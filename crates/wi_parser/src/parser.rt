@@ -1,7 +1,7 @@
 //! From a text to a formula.
 
 ghost use Rattle.std.specs.Prelude.{◌+◌, Ok, IfOk};
-ghost use Rattle.wi_parser.specs.Inner.WordSymbols.{all_meant};
+ghost use Rattle.wi_parser.specs.Inner.SymbolCode.{all_meant};
 ghost use Rattle.wi_parser.specs.Nesting.{max_depth};
 ghost use Rattle.wi_parser.specs.Grammar.{Spells, loosest};
 ghost use Rattle.wi_parser.specs.Inner.Reader as reader;
@@ -15,9 +15,9 @@ use crate::fault::ParseFault;
 use crate::formula::Formula;
 use crate::grammar::expression;
 use crate::limits::{MAX_DEPTH, refusal_of};
-use crate::tokens::words_of;
-use crate::word::Word;
-use crate::words::Words;
+use crate::symbol::Symbol;
+use crate::symbols::Symbols;
+use crate::tokens::symbols_of;
 use std::alloc::Global;
 
 /// The greatest length of a formula in bytes, its prefix counted.
@@ -37,19 +37,19 @@ pub fn parse(alloc: Global, text: &str) -> Result<Formula, ParseFault>
     if text.len() > MAX_FORMULA {
         return Err(ParseFault::TooLong);
     }
-    let words = words_of(alloc, text)?;
-    if let Some(fault) = refusal_of(&words) {
+    let symbols = symbols_of(alloc, text)?;
+    if let Some(fault) = refusal_of(&symbols) {
         return Err(fault);
     }
-    let expr = whole(alloc, &words)?;
+    let expr = whole(alloc, &symbols)?;
     Ok(Formula::new(alloc, expr)?)
 }
 
-// The tree that all of the words are read as.
-fn whole(alloc: Global, words: &[Word]) -> Result<Expr, ParseFault>
-    ensures { FindsWhole (reader.whole (max_depth + 1) (all_meant words.now)) result }
+// The tree that all of the symbols are read as.
+fn whole(alloc: Global, symbols: &[Symbol]) -> Result<Expr, ParseFault>
+    ensures { FindsWhole (reader.whole (max_depth + 1) (all_meant symbols.now)) result }
 {
-    let mut rest = Words::new(words);
+    let mut rest = Symbols::new(symbols);
     let found = expression(alloc, &mut rest, MAX_DEPTH + 1)?;
     if !rest.is_empty() {
         return Err(ParseFault::Syntax);

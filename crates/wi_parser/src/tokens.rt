@@ -1,41 +1,42 @@
-//! From a text to words.
+//! From a text to symbols.
 
 ghost use Rattle.std.specs.Prelude.{◌≡◌, ◌++◌, IfOk};
 ghost use Rattle.wi_lexer.specs.Inner.Tokens.{tokens};
-ghost use Rattle.wi_parser.specs.Inner.WordSymbols.{all_meant};
+ghost use Rattle.wi_parser.specs.Inner.SymbolCode.{all_meant};
 ghost use Rattle.wi_parser.specs.Inner.FormulaText.{formula_symbols, symbols_of};
 
 use crate::fault::ParseFault;
 use crate::front::{after, after_prefix};
-use crate::word::Word;
+use crate::symbol::Symbol;
 use std::alloc::{AllocError, Global};
 use wi_lexer::Lexer;
 
-/// The words of a formula's text after its `=`.
+/// The symbols of a formula's text after its `=`.
 #[tactic(auto, unfolding(crate::specs::Inner::FormulaText::formula_symbols))]
-pub fn words_of(alloc: Global, text: &str) -> Result<Vec<Word>, AllocError>
-    ensures { IfOk result (λ words. all_meant words.items ≡ formula_symbols text.now) }
+pub fn symbols_of(alloc: Global, text: &str) -> Result<Vec<Symbol>, AllocError>
+    ensures { IfOk result (λ symbols. all_meant symbols.items ≡ formula_symbols text.now) }
 {
     let text = after_prefix(text);
-    let mut words = Vec::new(alloc);
+    let mut symbols = Vec::new(alloc);
     let Some(body) = after("=", text) else {
-        words.push(Word::Refused(ParseFault::Syntax))?;
-        push_words(alloc, text, &mut words)?;
-        return Ok(words);
+        symbols.push(Symbol::Refused(ParseFault::Syntax))?;
+        push_symbols(alloc, text, &mut symbols)?;
+        return Ok(symbols);
     };
-    push_words(alloc, body, &mut words)?;
-    Ok(words)
+    push_symbols(alloc, body, &mut symbols)?;
+    Ok(symbols)
 }
 
-// Appends the words of the tokens, up to the first bad one.
-fn push_words(alloc: Global, text: &str, words: &mut Vec<Word>) -> Result<(), AllocError>
-    ensures { IfOk result (λ _. all_meant words.new.items ≡ all_meant words.old.items ++ symbols_of (tokens text.now)) }
+// Appends the symbols of the tokens, up to the first bad one.
+fn push_symbols(alloc: Global, text: &str, symbols: &mut Vec<Symbol>) -> Result<(), AllocError>
+    ensures { IfOk result
+        (λ _. all_meant symbols.new.items ≡ all_meant symbols.old.items ++ symbols_of (tokens text.now)) }
 {
     let mut lexer = Lexer::new(text);
     while let Some(next) = lexer.next_token() {
         match next {
-            Ok(token) => words.push(Word::of_token(alloc, token)?)?,
-            Err(_) => words.push(Word::Refused(ParseFault::Syntax))?,
+            Ok(token) => symbols.push(Symbol::of_token(alloc, token)?)?,
+            Err(_) => symbols.push(Symbol::Refused(ParseFault::Syntax))?,
         }
     }
     Ok(())

@@ -7,10 +7,10 @@ pub returns-then-depth-eq0-clause-finds : goal.returns-then-depth-eq0-clause-fin
 unfolding expression
 returns-then-depth-eq0-clause-finds t c =
     let zeroth : c.args.depth ≡ 0 = omega arith in
-    ap (λ d. expression d c.args.words.now) zeroth
+    ap (λ d. expression d c.args.symbols.now) zeroth
 
 pub returns-clause-finds : goal.returns-clause-finds
 unfolding expression
 returns-clause-finds t c =
     let more : c.args.depth ≡ suc (c.args.depth - 1) = omega arith in
-    subst (λ d. Finds (expression d c.args.words.now) c.line.result c.line.new.words) (sym more) c.line.ensures.finds
+    subst (λ d. Finds (expression d c.args.symbols.now) c.line.result c.line.new.symbols) (sym more) c.line.ensures.finds

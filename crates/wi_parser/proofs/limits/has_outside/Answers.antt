@@ -2,11 +2,11 @@ use Rattle.std.proofs.Common.{rules, tests, sym, ◌∙◌}
 use Rattle.std.proofs.lemmas.Iterator.{YieldsList-from_slice}
 use Rattle.std.proofs.lemmas.Iterator.Search.{any_from_yields_List}
 use Rattle.wi_parser.specs.Symbol.{is_outside}
-use Rattle.wi_parser.specs.Inner.WordSymbols.{meant_by}
+use Rattle.wi_parser.specs.Inner.SymbolCode.{meant_by}
 use Rattle.wi_parser.proofs.Refusals.{any_meant}
 use Rattle.wi_parser.proofs.limits.has_outside.Goals as goal
 
 pub returns : goal.returns
 returns c =
-    any_from_yields_List (λ w. is_outside (meant_by w)) _ _ c.any.result c.any.ensures.ran (YieldsList-from_slice c.args.words.now (cc)) (λ x b q k. search (rules, tests))
-    ∙ sym (any_meant is_outside c.args.words.now)
+    any_from_yields_List (λ w. is_outside (meant_by w)) _ _ c.any.result c.any.ensures.ran (YieldsList-from_slice c.args.symbols.now (cc)) (λ x b q k. search (rules, tests))
+    ∙ sym (any_meant is_outside c.args.symbols.now)

@@ -12,7 +12,7 @@ unfolding line
 returns-then-line-eq2-clause-finds g t c =
     let i = expression c.args.self.now.depth in
     let second : c.args.line ≡ 2 = omega arith in
-    subst (λ k. Finds (line i k c.args.words.now) c.percents.result c.percents.new.words) (sym second) c.percents.ensures.finds
+    subst (λ k. Finds (line i k c.args.symbols.now) c.percents.result c.percents.new.symbols) (sym second) c.percents.ensures.finds
 
 pub returns-in_err-left-clause-finds : goal.returns-in_err-left-clause-finds
 returns-in_err-left-clause-finds g t c =
@@ -20,7 +20,7 @@ returns-in_err-left-clause-finds g t c =
     let k = c.args.line in
     let p = err_from_is_err_and c.from_residual.result c.from_residual.ensures.1 in
     rw (p.1, p.2) (fails_as c.in_err-left.field-0.0 _ _
-    (λ none. line_more i k c.args.words.now (omega arith) ∙ ap (read_then (λ t rest. chain (line i (k - 1)) k (length rest) t rest)) none)
+    (λ none. line_more i k c.args.symbols.now (omega arith) ∙ ap (read_then (λ t rest. chain (line i (k - 1)) k (length rest) t rest)) none)
     c.in_err-left.ensures.finds)
 
 pub loop-op-init : goal.loop-op-init
@@ -28,9 +28,9 @@ loop-op-init g t c =
     let i = expression c.args.self.now.depth in
     let k = c.args.line in
     let some : 2 < k = omega (arith, c.requires.from_percents) in (
-      length c.line.new.words,
+      length c.line.new.symbols,
       omega arith,
-      line_more i k c.args.words.now some ∙ ap (read_then (λ t rest. chain (line i (k - 1)) k (length rest) t rest)) c.in_ok-left.ensures.finds,
+      line_more i k c.args.symbols.now some ∙ ap (read_then (λ t rest. chain (line i (k - 1)) k (length rest) t rest)) c.in_ok-left.ensures.finds,
       c.in_ok-left.ensures.shorter,
       some,
     )
@@ -40,10 +40,10 @@ returns-in_err-right-clause-finds g t c =
     let i = expression c.args.self.now.depth in
     let k = c.args.line in
     let l = c.loop-op in
-    let taken = operator-length k l.words _ _ c.in-Some.ensures in
+    let taken = operator-length k l.symbols _ _ c.in-Some.ensures in
     let p = err_from_is_err_and c.from_residual-in_err-right.result c.from_residual-in_err-right.ensures.1 in
     rw (p.1, p.2) (fails_as c.in_err-right.field-0.0 _ _
-    (λ none. l.invariant.2 ∙ chain_fail (line i (k - 1)) k l.invariant.0 (tree_of l.left) l.words _ _ (omega arith) c.in-Some.ensures none)
+    (λ none. l.invariant.2 ∙ chain_fail (line i (k - 1)) k l.invariant.0 (tree_of l.left) l.symbols _ _ (omega arith) c.in-Some.ensures none)
     c.in_err-right.ensures.finds)
 
 pub loop-op-preserved : goal.loop-op-preserved
@@ -52,12 +52,12 @@ loop-op-preserved g t c =
     let k = c.args.line in
     let l = c.loop-op in
     let n = l.invariant.0 in
-    let taken = operator-length k l.words _ _ c.in-Some.ensures in
+    let taken = operator-length k l.symbols _ _ c.in-Some.ensures in
     let short = c.in_ok-right.ensures.shorter in
-    let again = chain_more (line i (k - 1)) k n (tree_of l.left) (tree_of c.in_ok-right.right) l.words _ _ _ (omega arith) c.in-Some.ensures c.in_ok-right.ensures.finds in (
+    let again = chain_more (line i (k - 1)) k n (tree_of l.left) (tree_of c.in_ok-right.right) l.symbols _ _ _ (omega arith) c.in-Some.ensures c.in_ok-right.ensures.finds in (
       n - 1,
       omega arith,
-      l.invariant.2 ∙ again ∙ ap (λ u. chain (line i (k - 1)) k (n - 1) u c.line-in-Some.new.words) (sym c.in_ok-left-2.ensures),
+      l.invariant.2 ∙ again ∙ ap (λ u. chain (line i (k - 1)) k (n - 1) u c.line-in-Some.new.symbols) (sym c.in_ok-left-2.ensures),
       omega arith,
       l.invariant.4,
     )
@@ -67,5 +67,5 @@ returns-clause-finds g t c =
     let i = expression c.args.self.now.depth in
     let k = c.args.line in
     let l = c.loop-op in
-    l.invariant.2 ∙ chain_stop (line i (k - 1)) k l.invariant.0 (tree_of l.left) l.words c.in_default.ensures.0
+    l.invariant.2 ∙ chain_stop (line i (k - 1)) k l.invariant.0 (tree_of l.left) l.symbols c.in_default.ensures.0
     ∙ ap (λ ws. Some (tree_of l.left, ws)) (sym c.in_default.ensures.1)

@@ -8,10 +8,10 @@ decreases-line g l = l.line
 
 abbrev pub invariant-loop-op : goal.invariant-loop-op
 invariant-loop-op g l =
-    (n : ℕ) × (length l.words ≤ n)
-    × (reader.line (reader.expression l.self.depth) l.line l.fn.words
-    ≡ reader.chain (reader.line (reader.expression l.self.depth) (l.line - 1)) l.line n (tree_of l.left) l.words)
-    × (length l.words < length l.fn.words) × (2 < l.line)
+    (n : ℕ) × (length l.symbols ≤ n)
+    × (reader.line (reader.expression l.self.depth) l.line l.fn.symbols
+    ≡ reader.chain (reader.line (reader.expression l.self.depth) (l.line - 1)) l.line n (tree_of l.left) l.symbols)
+    × (length l.symbols < length l.fn.symbols) × (2 < l.line)
 
 abbrev pub decreases-loop-op : goal.decreases-loop-op
-decreases-loop-op g l = length l.words
+decreases-loop-op g l = length l.symbols

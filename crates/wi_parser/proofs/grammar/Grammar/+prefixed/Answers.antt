@@ -9,8 +9,8 @@ pub returns-in_default-clause-finds : goal.returns-in_default-clause-finds
 unfolding line
 returns-in_default-clause-finds g t c =
     let next = atom (expression c.args.self.now.depth) in
-    let same = prefix_stop next c.args.words.now c.in_default.ensures.0 ∙ ap next (sym c.in_default.ensures.1) in
-    subst (λ found. Finds found c.atom.result c.atom.new.words) (sym same) c.atom.ensures.finds
+    let same = prefix_stop next c.args.symbols.now c.in_default.ensures.0 ∙ ap next (sym c.in_default.ensures.1) in
+    subst (λ found. Finds found c.atom.result c.atom.new.symbols) (sym same) c.atom.ensures.finds
 
 pub returns-in_err-operand-clause-finds : goal.returns-in_err-operand-clause-finds
 unfolding line
@@ -19,7 +19,7 @@ returns-in_err-operand-clause-finds g t c =
     let s = c.in-Some.sign in
     let p = err_from_is_err_and c.from_residual.result c.from_residual.ensures.1 in
     rw (p.1, p.2) (fails_as c.in_err-operand.field-0.0 _ _
-    (λ none. prefix_more next s c.args.words.now c.take_sign.new.self c.in-Some.ensures ∙ ap (signed_read s) none)
+    (λ none. prefix_more next s c.args.symbols.now c.take_sign.new.self c.in-Some.ensures ∙ ap (signed_read s) none)
     c.in_err-operand.ensures.finds)
 
 pub returns-clause-finds : goal.returns-clause-finds
@@ -27,5 +27,5 @@ unfolding line
 returns-clause-finds g t c =
     let next = atom (expression c.args.self.now.depth) in
     let s = c.in-Some.sign in
-    prefix_more next s c.args.words.now c.take_sign.new.self c.in-Some.ensures ∙ ap (signed_read s) c.in_ok-operand.ensures.finds
-    ∙ ap (λ t. Some (t, c.prefixed.new.words)) (sym c.in_ok-signed.ensures)
+    prefix_more next s c.args.symbols.now c.take_sign.new.self c.in-Some.ensures ∙ ap (signed_read s) c.in_ok-operand.ensures.finds
+    ∙ ap (λ t. Some (t, c.prefixed.new.symbols)) (sym c.in_ok-signed.ensures)

@@ -2,4 +2,4 @@ use Rattle.std.proofs.Common.{length}
 use Rattle.wi_parser.proofs.grammar.Grammar.+prefixed.Given as goal
 
 abbrev pub decreases-prefixed : goal.decreases-prefixed
-decreases-prefixed g l = length l.words.now
+decreases-prefixed g l = length l.symbols.now

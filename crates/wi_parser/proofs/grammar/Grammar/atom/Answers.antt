@@ -84,4 +84,4 @@ returns-in_ok-call-in-Name-clause-finds g c =
     let f = c.in-Name.name in
     let is = rw c.in-Name.is at c.in-Some.ensures in
     ap (atom i) is ∙ ap (called i f) c.if-not-take_open.ensures.yes ∙ ap (as_call f) c.in_ok-parameters-in-Name.ensures.finds
-    ∙ ap (λ t. Some (t, c.parameters.new.words)) (sym c.in_ok-call-in-Name.ensures)
+    ∙ ap (λ t. Some (t, c.parameters.new.symbols)) (sym c.in_ok-call-in-Name.ensures)

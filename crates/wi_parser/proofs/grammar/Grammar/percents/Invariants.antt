@@ -5,8 +5,8 @@ use Rattle.wi_parser.proofs.grammar.Grammar.percents.Given as goal
 
 abbrev pub invariant-loop-operand : goal.invariant-loop-operand
 invariant-loop-operand g l =
-    (reader.line (reader.expression l.self.depth) 2 l.fn.words ≡ reader.percents (tree_of l.operand) l.words)
-    × (length l.words < length l.fn.words)
+    (reader.line (reader.expression l.self.depth) 2 l.fn.symbols ≡ reader.percents (tree_of l.operand) l.symbols)
+    × (length l.symbols < length l.fn.symbols)
 
 abbrev pub decreases-loop-operand : goal.decreases-loop-operand
-decreases-loop-operand g l = length l.words
+decreases-loop-operand g l = length l.symbols

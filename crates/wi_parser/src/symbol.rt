@@ -1,7 +1,7 @@
 //! Tokens with their values.
 
 ghost use Rattle.std.specs.Prelude.{◌≡◌, IfOk};
-ghost use Rattle.wi_parser.specs.Inner.WordSymbols.{meant_by};
+ghost use Rattle.wi_parser.specs.Inner.SymbolCode.{meant_by};
 ghost use Rattle.wi_parser.specs.Inner.FormulaText.{symbol_of, reference_symbol, rectangle_symbol, mark_symbol};
 ghost use Rattle.wi_parser.specs.Symbols.{name_symbol, reference_to};
 ghost use Rattle.wi_lexer.specs.Inner.Cell.{parts};
@@ -15,7 +15,7 @@ use wi_values::{Address, Text};
 
 /// A token with its value.
 #[derive(Drop)]
-pub enum Word {
+pub enum Symbol {
     Number(Fraction),
     /// The content of a text in double quotes.
     Text(Text),
@@ -34,14 +34,14 @@ pub enum Word {
     Refused(ParseFault),
 }
 
-impl Word {
+impl Symbol {
     /// What a token means.
-    pub fn of_token(alloc: Global, token: Token<'_>) -> Result<Word, AllocError>
-        ensures { IfOk result (λ w. meant_by w ≡ symbol_of token.entry.kind token.entry.text.now) }
+    pub fn of_token(alloc: Global, token: Token<'_>) -> Result<Symbol, AllocError>
+        ensures { IfOk result (λ s. meant_by s ≡ symbol_of token.entry.kind token.entry.text.now) }
     {
         match token.kind {
             Kind::Number => Ok(number(token.text.as_bytes())),
-            Kind::Text => Ok(Word::Text(Text::new(text_content(alloc, token.text)?))),
+            Kind::Text => Ok(Symbol::Text(Text::new(text_content(alloc, token.text)?))),
             Kind::Reference => Ok(reference(token.text.as_bytes())),
             Kind::Rectangle => Ok(rectangle(token.text.as_bytes())),
             Kind::Mark(mark) => Ok(of_mark(mark)),
@@ -50,39 +50,39 @@ impl Word {
     }
 }
 
-fn number(text: &[u8]) -> Word
+fn number(text: &[u8]) -> Symbol
     ensures { meant_by result ≡ symbol_of Kind.Number text.now }
 {
     match Fraction::read_decimal(text) {
-        Some(x) => Word::Number(x),
-        None => Word::Refused(ParseFault::NumberRange),
+        Some(x) => Symbol::Number(x),
+        None => Symbol::Refused(ParseFault::NumberRange),
     }
 }
 
-fn reference(text: &[u8]) -> Word
+fn reference(text: &[u8]) -> Symbol
     ensures { meant_by result ≡ symbol_of Kind.Reference text.now }
 {
     match reference_of(text) {
         Some(cell) => cell_named(cell),
-        None => Word::Refused(ParseFault::Syntax),
+        None => Symbol::Refused(ParseFault::Syntax),
     }
 }
 
-fn name(alloc: Global, text: &str) -> Result<Word, AllocError>
-    ensures { IfOk result (λ w. meant_by w ≡ name_symbol text.now) }
+fn name(alloc: Global, text: &str) -> Result<Symbol, AllocError>
+    ensures { IfOk result (λ s. meant_by s ≡ name_symbol text.now) }
 {
     if text.eq_ignore_ascii_case("MULTIPLE.OPERATIONS") {
-        return Ok(Word::WhatIf);
+        return Ok(Symbol::WhatIf);
     }
-    Ok(Word::Name(Text::new(text.to_ascii_uppercase(alloc)?)))
+    Ok(Symbol::Name(Text::new(text.to_ascii_uppercase(alloc)?)))
 }
 
-fn cell_named(cell: CellText<'_>) -> Word
+fn cell_named(cell: CellText<'_>) -> Symbol
     ensures { meant_by result ≡ reference_symbol (Some (parts cell.entry)) }
 {
     match reference_to(cell) {
-        Some(at) => Word::Cell(at),
-        None => Word::Refused(ParseFault::OutOfSheet),
+        Some(at) => Symbol::Cell(at),
+        None => Symbol::Refused(ParseFault::OutOfSheet),
     }
 }
 
@@ -100,44 +100,44 @@ fn reference_to(cell: CellText<'_>) -> Option<Reference>
     }
 }
 
-fn rectangle(text: &[u8]) -> Word
+fn rectangle(text: &[u8]) -> Symbol
     ensures { meant_by result ≡ symbol_of Kind.Rectangle text.now }
 {
     match rectangle_of(text) {
         Some((one, other)) => between(one, other),
-        None => Word::Refused(ParseFault::Syntax),
+        None => Symbol::Refused(ParseFault::Syntax),
     }
 }
 
-fn between(one: CellText<'_>, other: CellText<'_>) -> Word
+fn between(one: CellText<'_>, other: CellText<'_>) -> Symbol
     ensures { meant_by result ≡ rectangle_symbol (Some (parts one.entry, parts other.entry)) }
 {
     match (reference_to(one), reference_to(other)) {
-        (Some(one), Some(other)) => Word::Rectangle(Corners { one, other }),
-        (Some(_), None) => Word::Refused(ParseFault::OutOfSheet),
-        (None, _) => Word::Refused(ParseFault::OutOfSheet),
+        (Some(one), Some(other)) => Symbol::Rectangle(Corners { one, other }),
+        (Some(_), None) => Symbol::Refused(ParseFault::OutOfSheet),
+        (None, _) => Symbol::Refused(ParseFault::OutOfSheet),
     }
 }
 
-fn of_mark(mark: Mark) -> Word
+fn of_mark(mark: Mark) -> Symbol
     ensures { meant_by result ≡ mark_symbol mark }
 {
     match mark {
-        Mark::OpenParenthesis => Word::Open,
-        Mark::CloseParenthesis => Word::Close,
-        Mark::Semicolon => Word::Separator,
-        Mark::Plus => Word::Infix(Operator::Add),
-        Mark::Minus => Word::Infix(Operator::Subtract),
-        Mark::Asterisk => Word::Infix(Operator::Multiply),
-        Mark::Slash => Word::Infix(Operator::Divide),
-        Mark::Caret => Word::Infix(Operator::Power),
-        Mark::Percent => Word::Percent,
-        Mark::Ampersand => Word::Infix(Operator::Join),
-        Mark::Equal => Word::Infix(Operator::Equal),
-        Mark::NotEqual => Word::Infix(Operator::NotEqual),
-        Mark::Less => Word::Infix(Operator::Less),
-        Mark::LessOrEqual => Word::Infix(Operator::LessOrEqual),
-        Mark::Greater => Word::Infix(Operator::Greater),
-        Mark::GreaterOrEqual => Word::Infix(Operator::GreaterOrEqual),
+        Mark::OpenParenthesis => Symbol::Open,
+        Mark::CloseParenthesis => Symbol::Close,
+        Mark::Semicolon => Symbol::Separator,
+        Mark::Plus => Symbol::Infix(Operator::Add),
+        Mark::Minus => Symbol::Infix(Operator::Subtract),
+        Mark::Asterisk => Symbol::Infix(Operator::Multiply),
+        Mark::Slash => Symbol::Infix(Operator::Divide),
+        Mark::Caret => Symbol::Infix(Operator::Power),
+        Mark::Percent => Symbol::Percent,
+        Mark::Ampersand => Symbol::Infix(Operator::Join),
+        Mark::Equal => Symbol::Infix(Operator::Equal),
+        Mark::NotEqual => Symbol::Infix(Operator::NotEqual),
+        Mark::Less => Symbol::Infix(Operator::Less),
+        Mark::LessOrEqual => Symbol::Infix(Operator::LessOrEqual),
+        Mark::Greater => Symbol::Infix(Operator::Greater),
+        Mark::GreaterOrEqual => Symbol::Infix(Operator::GreaterOrEqual),
     }
 }

@@ -1,11 +1,11 @@
 use Rattle.std.proofs.Common.{◌≡◌, ◌++◌, length}
 use Rattle.wi_lexer.specs.Inner.Tokens.{tokens}
 use Rattle.wi_parser.specs.Inner.FormulaText.{symbols_of}
-use Rattle.wi_parser.specs.Inner.WordSymbols.{all_meant}
-use Rattle.wi_parser.proofs.tokens.push_words.Given as goal
+use Rattle.wi_parser.specs.Inner.SymbolCode.{all_meant}
+use Rattle.wi_parser.proofs.tokens.push_symbols.Given as goal
 
 abbrev pub invariant-loop-next : goal.invariant-loop-next
-invariant-loop-next l = all_meant l.words.items ++ symbols_of (tokens l.lexer.rest) ≡ all_meant l.fn.words.items ++ symbols_of (tokens l.text)
+invariant-loop-next l = all_meant l.symbols.items ++ symbols_of (tokens l.lexer.rest) ≡ all_meant l.fn.symbols.items ++ symbols_of (tokens l.text)
 
 abbrev pub decreases-loop-next : goal.decreases-loop-next
 decreases-loop-next l = length l.lexer.rest

@@ -1,36 +1,36 @@
-//! The words that are left to read.
+//! The symbols that are left to read.
 
 ghost use Rattle.std.specs.Prelude.{◌≡◌, [], ◌∷◌, Some, None, MatchOption, IsTrue, ◌↔◌};
 ghost use Rattle.std.specs.Bool.{OnTrue, OnFalse};
 ghost use Rattle.wi_parser.specs.Grammar as grammar;
 ghost use Rattle.wi_parser.specs.Inner.Reader.{after_open, after_close, after_separator, after_percent, reference_at, sign_at, operator_at};
-ghost use Rattle.wi_parser.specs.Inner.WordSymbols.{meant_by, all_meant};
+ghost use Rattle.wi_parser.specs.Inner.SymbolCode.{meant_by, all_meant};
 
 use crate::expr::{Operator, Reference, Sign};
-use crate::word::Word;
+use crate::symbol::Symbol;
 use std::marker::Model;
 
-/// The words that are left. A contract sees them as the list of what they mean.
+/// The symbols that are left. A contract sees them as the list of what they mean.
 #[derive(Drop)]
-pub struct Words<'a> {
-    rest: &'a [Word],
+pub struct Symbols<'a> {
+    rest: &'a [Symbol],
 }
 
-impl<'a> Model for Words<'a> {
+impl<'a> Model for Symbols<'a> {
     ghost use Rattle.std.specs.Prelude.{List};
-    ghost use Rattle.wi_parser.specs.Symbol.{Symbol};
-    ghost use Rattle.wi_parser.specs.Inner.WordSymbols.{all_meant};
+    ghost use Rattle.wi_parser.specs.Symbol as spec;
+    ghost use Rattle.wi_parser.specs.Inner.SymbolCode.{all_meant};
 
-    ghost Value = { List Symbol };
+    ghost Value = { List spec.Symbol };
 
-    ghost view = { λ w. all_meant w.rest.now };
+    ghost view = { λ s. all_meant s.rest.now };
 }
 
-impl<'a> Words<'a> {
-    pub fn new(rest: &'a [Word]) -> Words<'a>
+impl<'a> Symbols<'a> {
+    pub fn new(rest: &'a [Symbol]) -> Symbols<'a>
         ensures { result ≡ all_meant rest.now }
     {
-        Words { rest }
+        Symbols { rest }
     }
 
     pub fn is_empty(&self) -> bool
@@ -39,9 +39,10 @@ impl<'a> Words<'a> {
         self.rest.is_empty()
     }
 
-    /// Takes the next word.
-    pub fn next(&mut self) -> Option<&'a Word>
-        ensures { MatchOption result ((self.old ≡ []) × (self.new ≡ [])) (λ w. self.old ≡ meant_by w.now ∷ self.new) }
+    /// Takes the next symbol.
+    pub fn next(&mut self) -> Option<&'a Symbol>
+        ensures { MatchOption result ((self.old ≡ []) × (self.new ≡ []))
+            (λ s. self.old ≡ meant_by s.now ∷ self.new) }
     {
         match self.rest {
             [first, rest @ ..] => {
@@ -52,13 +53,13 @@ impl<'a> Words<'a> {
         }
     }
 
-    /// Takes the next word, if it is the parenthesis that opens.
+    /// Takes the next symbol, if it is the parenthesis that opens.
     pub fn take_open(&mut self) -> bool
         ensures yes { OnTrue result (after_open self.old ≡ Some self.new) }
         ensures no { OnFalse result ((after_open self.old ≡ None) × (self.new ≡ self.old)) }
     {
         match self.rest {
-            [Word::Open, rest @ ..] => {
+            [Symbol::Open, rest @ ..] => {
                 self.rest = rest;
                 true
             }
@@ -66,13 +67,13 @@ impl<'a> Words<'a> {
         }
     }
 
-    /// Takes the next word, if it is the parenthesis that closes.
+    /// Takes the next symbol, if it is the parenthesis that closes.
     pub fn take_close(&mut self) -> bool
         ensures yes { OnTrue result (after_close self.old ≡ Some self.new) }
         ensures no { OnFalse result ((after_close self.old ≡ None) × (self.new ≡ self.old)) }
     {
         match self.rest {
-            [Word::Close, rest @ ..] => {
+            [Symbol::Close, rest @ ..] => {
                 self.rest = rest;
                 true
             }
@@ -80,13 +81,13 @@ impl<'a> Words<'a> {
         }
     }
 
-    /// Takes the next word, if it separates parameters.
+    /// Takes the next symbol, if it separates parameters.
     pub fn take_separator(&mut self) -> bool
         ensures yes { OnTrue result (after_separator self.old ≡ Some self.new) }
         ensures no { OnFalse result ((after_separator self.old ≡ None) × (self.new ≡ self.old)) }
     {
         match self.rest {
-            [Word::Separator, rest @ ..] => {
+            [Symbol::Separator, rest @ ..] => {
                 self.rest = rest;
                 true
             }
@@ -94,12 +95,13 @@ impl<'a> Words<'a> {
         }
     }
 
-    /// Takes the next word, if it is a reference.
+    /// Takes the next symbol, if it is a reference.
     pub fn take_reference(&mut self) -> Option<Reference>
-        ensures { MatchOption result ((reference_at self.old ≡ None) × (self.new ≡ self.old)) (λ r. reference_at self.old ≡ Some (r, self.new)) }
+        ensures { MatchOption result ((reference_at self.old ≡ None) × (self.new ≡ self.old))
+            (λ r. reference_at self.old ≡ Some (r, self.new)) }
     {
         match self.rest {
-            [Word::Cell(at), rest @ ..] => {
+            [Symbol::Cell(at), rest @ ..] => {
                 self.rest = rest;
                 Some(*at)
             }
@@ -107,13 +109,13 @@ impl<'a> Words<'a> {
         }
     }
 
-    /// Takes the next word, if it is a percent mark.
+    /// Takes the next symbol, if it is a percent mark.
     pub fn take_percent(&mut self) -> bool
         ensures yes { OnTrue result (after_percent self.old ≡ Some self.new) }
         ensures no { OnFalse result ((after_percent self.old ≡ None) × (self.new ≡ self.old)) }
     {
         match self.rest {
-            [Word::Percent, rest @ ..] => {
+            [Symbol::Percent, rest @ ..] => {
                 self.rest = rest;
                 true
             }
@@ -121,16 +123,17 @@ impl<'a> Words<'a> {
         }
     }
 
-    /// Takes the next word, if it is a sign.
+    /// Takes the next symbol, if it is a sign.
     pub fn take_sign(&mut self) -> Option<Sign>
-        ensures { MatchOption result ((sign_at self.old ≡ None) × (self.new ≡ self.old)) (λ s. sign_at self.old ≡ Some (s, self.new)) }
+        ensures { MatchOption result ((sign_at self.old ≡ None) × (self.new ≡ self.old))
+            (λ s. sign_at self.old ≡ Some (s, self.new)) }
     {
         match self.rest {
-            [Word::Infix(Operator::Add), rest @ ..] => {
+            [Symbol::Infix(Operator::Add), rest @ ..] => {
                 self.rest = rest;
                 Some(Sign::Plus)
             }
-            [Word::Infix(Operator::Subtract), rest @ ..] => {
+            [Symbol::Infix(Operator::Subtract), rest @ ..] => {
                 self.rest = rest;
                 Some(Sign::Minus)
             }
@@ -138,12 +141,13 @@ impl<'a> Words<'a> {
         }
     }
 
-    /// Takes the next word, if it is an operator of this line of the grammar.
+    /// Takes the next symbol, if it is an operator of this line of the grammar.
     pub fn take_operator(&mut self, line: u8) -> Option<Operator>
-        ensures { MatchOption result ((operator_at line self.old ≡ None) × (self.new ≡ self.old)) (λ op. operator_at line self.old ≡ Some (op, self.new)) }
+        ensures { MatchOption result ((operator_at line self.old ≡ None) × (self.new ≡ self.old))
+            (λ op. operator_at line self.old ≡ Some (op, self.new)) }
     {
         match self.rest {
-            [Word::Infix(op), rest @ ..] if line_of(*op) == line => {
+            [Symbol::Infix(op), rest @ ..] if line_of(*op) == line => {
                 self.rest = rest;
                 Some(*op)
             }
