@@ -3,11 +3,11 @@
 ghost use Rattle.std.specs.Prelude.{◌≡◌};
 ghost use Rattle.std.specs.Option.{option_copied};
 ghost use Rattle.wi_values.specs.declared.value.Value.TheVariants.{Empty};
-ghost use Rattle.wi_functions.specs.Assignment.{answered};
+ghost use Rattle.wi_functions.specs.Assignment.{value_if_known};
 
 use crate::findings::Findings;
 use crate::seen::{Seen, content_in};
-use wi_functions::{Answer, Lookup};
+use wi_functions::{LookedUp, Lookup};
 use wi_parser::Pair;
 use wi_store::Store;
 use wi_values::{Address, Value};
@@ -49,25 +49,25 @@ impl<'a> Lookup for Known<'a> {
 
     ghost known_what_if = { λ k. what_if_found k.found.now };
 
-    fn cell(&self, at: Address) -> Answer<'_> {
+    fn cell(&self, at: Address) -> LookedUp<'_> {
         match content_in(self.store, self.world, at) {
-            Seen::Nothing => Answer::Known(&self.empty),
-            Seen::Constant(value) => Answer::Known(value),
-            Seen::Formula(_) => answer_of(self.found.cell(at)),
+            Seen::Nothing => LookedUp::Known(&self.empty),
+            Seen::Constant(value) => LookedUp::Known(value),
+            Seen::Formula(_) => looked_up(self.found.cell(at)),
         }
     }
 
-    fn what_if(&self, formula_cell: Address, pairs: &[Pair]) -> Answer<'_> {
-        answer_of(self.found.what_if(formula_cell, pairs))
+    fn what_if(&self, formula_cell: Address, pairs: &[Pair]) -> LookedUp<'_> {
+        looked_up(self.found.what_if(formula_cell, pairs))
     }
 }
 
 /// A value that was found is known.
-fn answer_of(found: Option<&Value>) -> Answer<'_>
-    ensures { answered result ≡ option_copied found.entry }
+fn looked_up(found: Option<&Value>) -> LookedUp<'_>
+    ensures { value_if_known result ≡ option_copied found.entry }
 {
     match found {
-        Some(value) => Answer::Known(value),
-        None => Answer::Missing,
+        Some(value) => LookedUp::Known(value),
+        None => LookedUp::Missing,
     }
 }

@@ -4,7 +4,7 @@ use crate::spelled;
 use crate::values::{push_value, value};
 use anyhow::{Context, Result};
 use std::alloc::{AllocError, Global};
-use wi_functions::{Answer, Lookup, Meter, Outcome, Want, evaluate};
+use wi_functions::{LookedUp, Lookup, Meter, Outcome, Want, evaluate};
 use wi_parser::{Formula, Pair, parse};
 use wi_values::{Address, Value};
 
@@ -23,23 +23,23 @@ impl Lookup for Cells {
 
     ghost known_what_if = { λ k f _. if f == 0 then Some k.a1 else if f == 1 then Some k.empty else None };
 
-    fn cell(&self, at: Address) -> Answer<'_> {
+    fn cell(&self, at: Address) -> LookedUp<'_> {
         if at == Address::at(0, 0) {
-            Answer::Known(&self.a1)
+            LookedUp::Known(&self.a1)
         } else if at == Address::at(0, 1) {
-            Answer::Known(&self.b1)
+            LookedUp::Known(&self.b1)
         } else {
-            Answer::Missing
+            LookedUp::Missing
         }
     }
 
-    fn what_if(&self, formula_cell: Address, _pairs: &[Pair]) -> Answer<'_> {
+    fn what_if(&self, formula_cell: Address, _pairs: &[Pair]) -> LookedUp<'_> {
         if formula_cell == Address::at(0, 0) {
-            Answer::Known(&self.a1)
+            LookedUp::Known(&self.a1)
         } else if formula_cell == Address::at(0, 1) {
-            Answer::Known(&self.empty)
+            LookedUp::Known(&self.empty)
         } else {
-            Answer::Missing
+            LookedUp::Missing
         }
     }
 }

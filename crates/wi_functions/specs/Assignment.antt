@@ -1,13 +1,13 @@
 -- What is known, and what it says of all values.
 use Rattle.std.specs.Prelude.{◌≡◌, ℕ, List, Option, Some, None, IfSome}
 use Rattle.wi_values.specs.declared.value.Value.{Value}
-use Rattle.wi_functions.specs.declared.lookup.Answer.{Answer}
-use Rattle.wi_functions.specs.declared.lookup.Answer.TheVariants.{Known, Missing}
+use Rattle.wi_functions.specs.declared.lookup.LookedUp.{LookedUp}
+use Rattle.wi_functions.specs.declared.lookup.LookedUp.TheVariants.{Known, Missing}
 
 -- the value, where it is known
-abbrev pub answered : Answer → Option Value
-answered (Known v) = Some v.now
-answered Missing = None
+abbrev pub value_if_known : LookedUp → Option Value
+value_if_known (Known v) = Some v.now
+value_if_known Missing = None
 
 -- a value for each cell and for each what-if
 pub record Assignment : Type 0 where

@@ -10,7 +10,7 @@ ghost use Rattle.wi_functions.specs.Wants.{Asks, IsUnknown, IfNeeds, IfDone, IfW
 ghost use Rattle.wi_functions.specs.Counts.{counted};
 
 use crate::convert::zero_for_empty;
-use crate::lookup::{Answer, Lookup};
+use crate::lookup::{LookedUp, Lookup};
 use crate::meter::Meter;
 use crate::operators::{hundredth, operate, with_sign};
 use std::alloc::{AllocError, Global};
@@ -186,8 +186,8 @@ fn cell_value<L: Lookup>(alloc: Global, reference: Reference, lookup: &L) -> Res
     ensures unknown { IfErr result (λ s. IfNeeds s (IsUnknown (L.known_cell lookup.now) (L.known_what_if lookup.now))) }
 {
     match lookup.cell(reference.at) {
-        Answer::Known(value) => Ok(value.copy(alloc)?),
-        Answer::Missing => Err(Stop::Needs(Want::Cell(reference.at))),
+        LookedUp::Known(value) => Ok(value.copy(alloc)?),
+        LookedUp::Missing => Err(Stop::Needs(Want::Cell(reference.at))),
     }
 }
 
@@ -217,8 +217,8 @@ fn what_if_value<L: Lookup>(
     ensures unknown { IfErr result (λ s. IfNeeds s (IsUnknown (L.known_cell lookup.now) (L.known_what_if lookup.now))) }
 {
     match lookup.what_if(formula_cell.at, pairs) {
-        Answer::Known(value) => Ok(value.copy(alloc)?),
-        Answer::Missing => Err(Stop::Needs(Want::WhatIf(
+        LookedUp::Known(value) => Ok(value.copy(alloc)?),
+        LookedUp::Missing => Err(Stop::Needs(Want::WhatIf(
             formula_cell.at,
             Vec::from_slice(alloc, pairs)?,
         ))),

@@ -11,5 +11,5 @@ mod operators;
 
 pub use convert::zero_for_empty;
 pub use evaluation::{Outcome, Want, evaluate};
-pub use lookup::{Answer, Lookup};
+pub use lookup::{LookedUp, Lookup};
 pub use meter::Meter;

@@ -4,14 +4,14 @@ ghost use Rattle.std.specs.Prelude.{◌≡◌, ℕ, List, map, Option};
 ghost use Rattle.wi_values.specs.declared.value.Value.{Value as Values};
 ghost use Rattle.wi_parser.specs.View.{pair_of};
 ghost use Rattle.wi_functions.specs.Meaning.{addresses};
-ghost use Rattle.wi_functions.specs.Assignment.{answered};
+ghost use Rattle.wi_functions.specs.Assignment.{value_if_known};
 
 use wi_parser::Pair;
 use wi_values::{Address, Value};
 
 /// What is known of a cell or of a what-if.
 #[derive(Clone, Copy)]
-pub enum Answer<'a> {
+pub enum LookedUp<'a> {
     Known(&'a Value),
     Missing,
 }
@@ -25,10 +25,10 @@ pub trait Lookup {
     ghost known_what_if: { Self → ℕ → List (ℕ × ℕ) → Option Values };
 
     /// The value of a cell.
-    fn cell(&self, at: Address) -> Answer<'_>
-        ensures { answered result ≡ known_cell self.now at };
+    fn cell(&self, at: Address) -> LookedUp<'_>
+        ensures { value_if_known result ≡ known_cell self.now at };
 
     /// The value of a formula cell, if each input had the value of its replacement cell.
-    fn what_if(&self, formula_cell: Address, pairs: &[Pair]) -> Answer<'_>
-        ensures { answered result ≡ known_what_if self.now formula_cell (map addresses (map pair_of pairs.now)) };
+    fn what_if(&self, formula_cell: Address, pairs: &[Pair]) -> LookedUp<'_>
+        ensures { value_if_known result ≡ known_what_if self.now formula_cell (map addresses (map pair_of pairs.now)) };
 }
