@@ -7,8 +7,8 @@ use Rattle.wi_scenarios.specs.declared.refusal.Refusal.TheVariants.{Memory, BadC
 use Rattle.wi_cli.specs.Reply.{refused}
 use Rattle.wi_scenarios.specs.State.{State}
 use Rattle.wi_scenarios.specs.Step.{Command, IsStep}
-use Rattle.wi_cli.specs.declared.answer.Answer.{Answer}
-use Rattle.wi_cli.specs.declared.answer.Answer.TheVariants.{Passed, Done, Refused}
+use Rattle.wi_cli.specs.declared.reply.Reply.{Reply}
+use Rattle.wi_cli.specs.declared.reply.Reply.TheVariants.{Passed, Done, Refused}
 use Rattle.wi_cli.specs.Run.{MayAnswer, Runs, Writes}
 use Rattle.wi_cli.specs.Inner.Told.{Told, told_bytes, RefusedAs}
 
@@ -53,7 +53,7 @@ refused_is s c TooLarge t h k = answered_by s c TooLarge t h k
 refused_is s c EditLimit t h k = answered_by s c EditLimit t h k
 
 -- what is told of a line is a run of its command
-pub Writes-told : (o : Option Command) (a : Answer) (s t : State) (out : List ℕ) → Told o a s t out → Writes s (option_to_list o) (told_bytes a out) t
+pub Writes-told : (o : Option Command) (a : Reply) (s t : State) (out : List ℕ) → Told o a s t out → Writes s (option_to_list o) (told_bytes a out) t
 Writes-told None Passed s t out h = subst (λ (x : State). Writes s [] [] x) (sym h) (Writes-none s)
 Writes-told None Done s t out h = absurd h
 Writes-told None (Refused e) s t out h = absurd h

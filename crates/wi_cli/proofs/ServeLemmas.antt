@@ -6,7 +6,7 @@ use Rattle.wi_scenarios.specs.State.{State}
 use Rattle.wi_scenarios.specs.Answer as answer
 use Rattle.wi_scenarios.specs.Step.{Command, IsStep, MayLackMemory}
 use Rattle.wi_scenarios.specs.Step as spell
-use Rattle.wi_cli.specs.declared.answer.Answer.TheVariants.{Passed, Done, Refused}
+use Rattle.wi_cli.specs.declared.reply.Reply.TheVariants.{Passed, Done, Refused}
 use Rattle.wi_cli.specs.declared.command.Command.{Command as ReadCommand}
 use Rattle.wi_cli.specs.declared.command.Command.TheVariants as read
 use Rattle.wi_cli.specs.Inner.Spelling.{command_of}

@@ -1,4 +1,4 @@
--- A line served, and its answer written.
+-- A line served, and its reply written.
 use Rattle.std.proofs.Common.{◌≡◌, ℕ, ◌+◌, ◌<◌, ◌≤◌, Bool, ◌||◌, not, cond, ltb, ap, refl, ◌∙◌, ⊎_elim, Some, List, ◌++◌, length, take, drop, sym, subst, Option, length-append, arith}
 use Rattle.std.specs.Option.{option_to_list}
 use Rattle.std.specs.Io.KnownBytes.{Appends}
@@ -12,7 +12,7 @@ use Rattle.wi_cli.specs.Lines.{without_cr}
 use Rattle.std.proofs.Math.Seq.{take-append-add}
 use Rattle.wi_cli.specs.Inner.Front.{AppendsFront}
 use Rattle.wi_scenarios.specs.State.{State}
-use Rattle.wi_cli.specs.declared.answer.Answer.{Answer}
+use Rattle.wi_cli.specs.declared.reply.Reply.{Reply}
 use Rattle.wi_cli.specs.Inner.Told.{Told, told_bytes}
 use Rattle.wi_cli.specs.Script.{line_command, text_command}
 use Rattle.wi_cli.specs.Inner.Reading.{TookLine, front}
@@ -43,10 +43,10 @@ pub line_command-front : (content : List ℕ) → line_command (front content) �
 unfolding front line_command
 line_command-front content = same_at_front 65536 65537 (λ xs. text_command (without_cr xs)) (Some (Refused BadLine)) (λ xs. not (is_utf8 (without_cr xs))) content refl
 
-pub told_of_front : (line content : List ℕ) (a : Answer) (s t : State) (out : List ℕ) → line ≡ front content → Told (line_command line) a s t out → Told (line_command content) a s t out
+pub told_of_front : (line content : List ℕ) (a : Reply) (s t : State) (out : List ℕ) → line ≡ front content → Told (line_command line) a s t out → Told (line_command content) a s t out
 told_of_front line content a s t out e h = subst (λ o. Told o a s t out) (ap line_command e ∙ line_command-front content) h
 
-pub turned : (allowed whole : Bool) (b : List ℕ) (l : Option (List ℕ)) (b' : List ℕ) (l' : Option (List ℕ)) (s t : State) (w w' : Option (List ℕ)) (line : List ℕ) (a : Answer) (out : List ℕ)
+pub turned : (allowed whole : Bool) (b : List ℕ) (l : Option (List ℕ)) (b' : List ℕ) (l' : Option (List ℕ)) (s t : State) (w w' : Option (List ℕ)) (line : List ℕ) (a : Reply) (out : List ℕ)
     → (k : TookLine allowed whole b l b' l' line) → Told (line_command k.content) a s t out → Appends w w' (told_bytes a out)
     → Turned allowed whole b l b' l' s t w w'
 turned allowed whole b l b' l' s t w w' line a out k told h = record {
@@ -60,7 +60,7 @@ turned allowed whole b l b' l' s t w w' line a out k told h = record {
   writes = Writes-told (line_command k.content) a s t out told;
 }
 
-pub cut_short : (allowed whole : Bool) (b : List ℕ) (l : Option (List ℕ)) (b' : List ℕ) (l' : Option (List ℕ)) (s t : State) (w w' : Option (List ℕ)) (line : List ℕ) (a : Answer) (out : List ℕ)
+pub cut_short : (allowed whole : Bool) (b : List ℕ) (l : Option (List ℕ)) (b' : List ℕ) (l' : Option (List ℕ)) (s t : State) (w w' : Option (List ℕ)) (line : List ℕ) (a : Reply) (out : List ℕ)
     → (k : TookLine allowed whole b l b' l' line) → Told (line_command k.content) a s t out → AppendsFront w w' (told_bytes a out)
     → CutShort allowed b l b' l' s t w w'
 cut_short allowed whole b l b' l' s t w w' line a out k told h = record {

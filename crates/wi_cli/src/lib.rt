@@ -1,7 +1,6 @@
 //! The lines of a script and the commands that they spell, and the run of a script on a workbook.
 #![tactic(auto)]
 
-mod answer;
 mod chunk;
 mod command;
 mod device;
@@ -9,6 +8,7 @@ mod ending;
 mod fault;
 mod lines;
 mod read_from;
+mod reply;
 mod runs;
 mod words;
 mod write;

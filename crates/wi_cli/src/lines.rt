@@ -10,7 +10,7 @@ use crate::fault::RunFault;
 /// The greatest length of a line in bytes, without its LF.
 pub const MAX_LINE: usize = 65_536;
 
-/// Takes the next line, without its LF, and answers whether its LF came. Of a line over the limit
+/// Takes the next line, without its LF, and tells whether its LF came. Of a line over the limit
 /// the front is kept, one byte more than the limit. With no LF and no byte the input has ended.
 pub fn read_line<R: Source>(
     chunk: &mut Chunk,

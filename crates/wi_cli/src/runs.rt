@@ -10,12 +10,12 @@ ghost use Rattle.wi_cli.specs.Inner.Told.{Told};
 ghost use Rattle.wi_cli.specs.Inner.Turn.{Turned, Stopped};
 ghost use Rattle.wi_cli.specs.Outcome.{Outcome, max_lines};
 
-use crate::answer::{Answer, write_answer};
 use crate::chunk::Chunk;
 use crate::command::{Command, read_line_command};
 use crate::device::{Sink, Source};
 use crate::fault::RunFault;
 use crate::lines::{MAX_LINE, read_line};
+use crate::reply::{Reply, write_reply};
 use std::alloc::Global;
 use wi_propagate::Calculator;
 use wi_scenarios::{Refusal, Workbook};
@@ -41,21 +41,21 @@ fn execute<C: Calculator>(
 
 /// Serves a line, and leaves its records in `out`, which was empty.
 #[tactic(auto, using(crate::proofs::ServeLemmas::told_passed, crate::proofs::ServeLemmas::told_done, crate::proofs::ServeLemmas::told_refused, crate::proofs::ServeLemmas::told_bad))]
-fn serve<C: Calculator>(book: &mut Workbook<C>, line: &[u8], out: &mut Vec<u8>) -> Answer
+fn serve<C: Calculator>(book: &mut Workbook<C>, line: &[u8], out: &mut Vec<u8>) -> Reply
     requires { out.old.items ≡ [] }
     ensures { Told (line_command line.now) result book.old book.new out.new.items }
 {
     match read_line_command(line) {
-        Ok(None) => Answer::Passed,
+        Ok(None) => Reply::Passed,
         Ok(Some(command)) => match execute(command, book, out) {
-            Ok(()) => Answer::Done,
-            Err(refusal) => Answer::Refused(refusal),
+            Ok(()) => Reply::Done,
+            Err(refusal) => Reply::Refused(refusal),
         },
-        Err(refusal) => Answer::Refused(refusal),
+        Err(refusal) => Reply::Refused(refusal),
     }
 }
 
-/// Reads a line, serves it and writes its answer. Answers whether the line's LF came.
+/// Reads a line, serves it and writes its reply. Tells whether the line's LF came.
 fn turn<R: Source, W: Sink, C: Calculator>(
     chunk: &mut Chunk,
     reader: &mut R,
@@ -82,8 +82,8 @@ fn turn<R: Source, W: Sink, C: Calculator>(
 {
     let whole = read_line(chunk, reader, line, allowed)?;
     out.clear();
-    let answer = serve(book, line, out);
-    match write_answer(writer, answer, out) {
+    let reply = serve(book, line, out);
+    match write_reply(writer, reply, out) {
         Ok(()) => Ok(whole),
         Err(_) => Err(RunFault::Write),
     }

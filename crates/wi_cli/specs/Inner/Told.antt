@@ -4,8 +4,8 @@ use Rattle.wi_scenarios.specs.declared.refusal.Refusal.{Refusal}
 use Rattle.wi_scenarios.specs.declared.refusal.Refusal.TheVariants.{Memory}
 use Rattle.wi_scenarios.specs.State.{State}
 use Rattle.wi_scenarios.specs.Step.{Command, IsStep, MayLackMemory}
-use Rattle.wi_cli.specs.declared.answer.Answer.{Answer}
-use Rattle.wi_cli.specs.declared.answer.Answer.TheVariants.{Passed, Done, Refused}
+use Rattle.wi_cli.specs.declared.reply.Reply.{Reply}
+use Rattle.wi_cli.specs.declared.reply.Reply.TheVariants.{Passed, Done, Refused}
 use Rattle.wi_cli.specs.Reply.{refused, ok_line}
 
 -- want of memory may refuse some commands; another refusal is the step's
@@ -14,7 +14,7 @@ RefusedAs Memory s c = MayLackMemory s c
 RefusedAs e s c = IsStep s c (Err e)
 
 -- the line is passed over, or its command is answered by the step, or by want of memory
-abbrev pub Told : Option Command → Answer → State → State → List ℕ → Type 0
+abbrev pub Told : Option Command → Reply → State → State → List ℕ → Type 0
 Told None Passed s t out = t ≡ s
 Told None Done s t out = ⊥
 Told None (Refused e) s t out = ⊥
@@ -23,7 +23,7 @@ Told (Some c) Done s t out = IsStep s c (Ok (t, out))
 Told (Some c) (Refused e) s t out = (t ≡ s) × RefusedAs e s c
 
 -- the bytes that tell it
-abbrev pub told_bytes : Answer → List ℕ → List ℕ
+abbrev pub told_bytes : Reply → List ℕ → List ℕ
 told_bytes Passed out = []
 told_bytes Done out = out ++ ok_line
 told_bytes (Refused e) out = refused e

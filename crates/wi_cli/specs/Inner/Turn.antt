@@ -22,7 +22,7 @@ pub record Turned (allowed whole : Bool) (buffer : List ℕ) (left : Option (Lis
   pub written : Appends given given' out
   pub writes : Writes s (option_to_list (line_command content)) out t
 
--- a line was taken and served, and a front of its answer was written
+-- a line was taken and served, and a front of its reply was written
 pub record CutShort (allowed : Bool) (buffer : List ℕ) (left : Option (List ℕ)) (buffer' : List ℕ) (left' : Option (List ℕ)) (s t : State) (given given' : Option (List ℕ)) : Type 0 where
   pub whole : Bool
   pub content : List ℕ

@@ -1,5 +1,5 @@
 use Rattle.wi_cli.specs.Reply.{refused}
-use Rattle.wi_cli.proofs.answer.write_refusal.Goals as goal
+use Rattle.wi_cli.proofs.reply.write_refusal.Goals as goal
 
 pub returns-clause-ok : goal.returns-clause-ok
 unfolding refused

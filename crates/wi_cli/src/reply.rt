@@ -1,4 +1,4 @@
-//! What is answered to a line.
+//! The reply to a line.
 
 ghost use Rattle.std.specs.Prelude.{◌≡◌, false, is_err, OnOk, OnErr};
 ghost use Rattle.std.specs.Io.KnownBytes.{Appends};
@@ -10,10 +10,10 @@ use crate::device::{DeviceFault, Sink};
 use crate::write::write_all;
 use wi_scenarios::Refusal;
 
-/// What a line is answered.
+/// The reply to a line.
 #[derive(Clone, Copy)]
-pub enum Answer {
-    /// Nothing: the line was passed over.
+pub enum Reply {
+    /// None: the line was passed over.
     Passed,
     /// The records, and `ok`.
     Done,
@@ -36,23 +36,19 @@ fn write_refusal<W: Sink>(writer: &mut W, refusal: Refusal) -> Result<(), Device
     write_all(writer, &text)
 }
 
-/// Writes the answer to a line: its records and `ok`, or its refusal.
-pub fn write_answer<W: Sink>(
-    writer: &mut W,
-    answer: Answer,
-    records: &[u8],
-) -> Result<(), DeviceFault>
+/// Writes the reply to a line: its records and `ok`, or its refusal.
+pub fn write_reply<W: Sink>(writer: &mut W, reply: Reply, records: &[u8]) -> Result<(), DeviceFault>
     requires { W.has_failed writer.old ≡ false }
-    ensures ok { OnOk result (Appends (W.contents writer.old) (W.contents writer.new) (told_bytes answer records.now)) }
-    ensures err { OnErr result (AppendsFront (W.contents writer.old) (W.contents writer.new) (told_bytes answer records.now)) }
+    ensures ok { OnOk result (Appends (W.contents writer.old) (W.contents writer.new) (told_bytes reply records.now)) }
+    ensures err { OnErr result (AppendsFront (W.contents writer.old) (W.contents writer.new) (told_bytes reply records.now)) }
     ensures failed { W.has_failed writer.new ≡ is_err result }
 {
-    match answer {
-        Answer::Passed => Ok(()),
-        Answer::Done => {
+    match reply {
+        Reply::Passed => Ok(()),
+        Reply::Done => {
             write_all(writer, records)?;
             write_all(writer, b"ok\n")
         }
-        Answer::Refused(refusal) => write_refusal(writer, refusal),
+        Reply::Refused(refusal) => write_refusal(writer, refusal),
     }
 }

@@ -1,6 +1,6 @@
 use Rattle.std.proofs.lemmas.Result.{on_err_weaker}
 use Rattle.wi_cli.proofs.TurnLemmas.{AppendsFront-append}
-use Rattle.wi_cli.proofs.answer.write_answer.Goals as goal
+use Rattle.wi_cli.proofs.reply.write_reply.Goals as goal
 
 pub returns-in_ok-write_all-in-Done-clause-err : goal.returns-in_ok-write_all-in-Done-clause-err
 returns-in_ok-write_all-in-Done-clause-err g c =
