@@ -85,7 +85,9 @@ fn are_same(a: &[Pair], b: &[Pair]) -> bool
         [x, a_rest @ ..] => match b {
             [] => false,
             [y, b_rest @ ..] => {
-                x.input.at == y.input.at && x.replacement.at == y.replacement.at && are_same(a_rest, b_rest)
+                x.input.at == y.input.at
+                    && x.replacement.at == y.replacement.at
+                    && are_same(a_rest, b_rest)
             }
         },
     }
