@@ -2,7 +2,7 @@
 pub mod Answers
 pub mod Findings
 pub mod Frames
-pub mod Memory
+pub mod MemoState
 pub mod Rank
 pub mod ReadCells
 pub mod ReadOrder

@@ -1,4 +1,4 @@
-//! Values by a stack of frames.
+//! Recalculation: values by a stack of frames.
 
 ghost use Rattle.std.specs.Prelude.{◌≡◌, ◌==◌, ◌+◌, ◌≤◌, ◌∷◌, [], ◌⊎◌, ℕ, true, false, None, Ok, All, Contains, map, IfOk, IfSome, IfNone, OnOk, OnErr};
 ghost use Rattle.std.specs.List.{list_any};
@@ -11,7 +11,7 @@ ghost use Rattle.wi_graph.specs.Reach.{is_one_of};
 ghost use Rattle.wi_sheet.specs.CellValue as show;
 ghost use Rattle.wi_sheet.specs.Demand.{with_what_if, wants};
 ghost use Rattle.wi_sheet.specs.Inner.Spending.{CountsAtMost, CountsFound, HasCase, NeverFall};
-ghost use Rattle.wi_engine.specs.Inner.Memory.{IsMemoryOf};
+ghost use Rattle.wi_engine.specs.Inner.MemoState.{IsMemoOf};
 ghost use Rattle.wi_engine.specs.Inner.Answers.{AsksAt, IsLacking, lacks_cell};
 ghost use Rattle.wi_engine.specs.Inner.Frames.{MayBeRead, IsToValue, IsUnvalued, AreReadHere, Awaits, IsFrame, IsNext, case_at, spare, waits};
 ghost use Rattle.wi_engine.specs.Inner.Steps.{IfKnown, IfUnknown, IfReplaced, IfInputUnknown, IfDone, IfNeeds, evaluations_after};
@@ -40,11 +40,11 @@ fn value_now<M: Memo>(
     at: Address,
     memo: &mut M,
 ) -> Result<Asked, AllocError>
-    requires memory { IsMemoryOf store.now.sheet (M.memory memo.old) }
-    requires read { MayBeRead store.now.sheet (M.memory memo.old) at }
+    requires memo { IsMemoOf store.now.sheet (M.state memo.old) }
+    requires read { MayBeRead store.now.sheet (M.state memo.old) at }
     ensures known { IfOk result (λ a. IfKnown a (λ v. v ≡ show.cell_value (put_all store.now.sheet world.now) at)) }
-    ensures unknown { IfOk result (λ a. IfUnknown a (IsUnvalued store.now.sheet (M.memory memo.old) world.now at)) }
-    ensures same { M.memory memo.new ≡ M.memory memo.old }
+    ensures unknown { IfOk result (λ a. IfUnknown a (IsUnvalued store.now.sheet (M.state memo.old) world.now at)) }
+    ensures same { M.state memo.new ≡ M.state memo.old }
 {
     match content_in(store, world, at) {
         Seen::Nothing => Ok(Asked::Known(Value::Empty)),
@@ -67,12 +67,12 @@ fn replaced<M: Memo>(
     pairs: &[Pair],
     memo: &mut M,
 ) -> Result<Inputs, AllocError>
-    requires memory { IsMemoryOf store.now.sheet (M.memory memo.old) }
-    requires read { All (λ p. MayBeRead store.now.sheet (M.memory memo.old) p.replacement.at) pairs.now }
+    requires memo { IsMemoOf store.now.sheet (M.state memo.old) }
+    requires read { All (λ p. MayBeRead store.now.sheet (M.state memo.old) p.replacement.at) pairs.now }
     ensures known { IfOk result (λ i. IfReplaced i (λ w. w ≡ with_what_if store.now.sheet world.now (map addresses (map pair_of pairs.now)))) }
-    ensures unknown { IfOk result (λ i. IfInputUnknown i (λ k. (list_any (λ p. p.1.at == k.cell) (map pair_of pairs.now) ≡ true) × IsUnvalued store.now.sheet (M.memory memo.old) world.now k.cell k)) }
+    ensures unknown { IfOk result (λ i. IfInputUnknown i (λ k. (list_any (λ p. p.1.at == k.cell) (map pair_of pairs.now) ≡ true) × IsUnvalued store.now.sheet (M.state memo.old) world.now k.cell k)) }
     ensures order { IsInOrder world.now }
-    ensures same { M.memory memo.new ≡ M.memory memo.old }
+    ensures same { M.state memo.new ≡ M.state memo.old }
 {
     let _ = world.replacements();
     let mut inputs = Vec::new(alloc);
@@ -125,17 +125,17 @@ fn settle_cells<M: Memo>(
     others: Vec<Address>,
     memo: &mut M,
 ) -> Result<Option<Key>, AllocError>
-    requires memory { IsMemoryOf store.now.sheet (M.memory memo.old) }
-    requires frame { IsFrame store.now.sheet (M.memory memo.old) frame.old }
+    requires memo { IsMemoOf store.now.sheet (M.state memo.old) }
+    requires frame { IsFrame store.now.sheet (M.state memo.old) frame.old }
     requires waiting { frame.old.waiting ≡ waiting.Nothing }
     requires awaits { Awaits store.now.sheet (case_at frame.old.key) frame.old.found (waiting.Cells at others) }
     ensures key { frame.new.key ≡ frame.old.key }
-    ensures frame { OnOk result (IsFrame store.now.sheet (M.memory memo.old) frame.new) }
-    ensures next { IfOk result (λ o. IfSome o (IsNext store.now.sheet (M.memory memo.old) frame.old.key)) }
+    ensures frame { OnOk result (IsFrame store.now.sheet (M.state memo.old) frame.new) }
+    ensures next { IfOk result (λ o. IfSome o (IsNext store.now.sheet (M.state memo.old) frame.old.key)) }
     ensures settled { result ≡ Ok None → frame.new.waiting ≡ waiting.Nothing }
     ensures all { result ≡ Ok None → (d : ℕ) → is_one_of others.items d ≡ true → lacks_cell store.now.sheet frame.new.key.world frame.new.found d ≡ false }
     ensures spare { OnOk result (spare store.now.sheet frame.new + 1 ≤ spare store.now.sheet frame.old) }
-    ensures same { M.memory memo.new ≡ M.memory memo.old }
+    ensures same { M.state memo.new ≡ M.state memo.old }
 {
     let mut others = others;
     let mut at = at;
@@ -164,16 +164,16 @@ fn settle_what_if<M: Memo>(
     pairs: Vec<Pair>,
     memo: &mut M,
 ) -> Result<Option<Key>, AllocError>
-    requires memory { IsMemoryOf store.now.sheet (M.memory memo.old) }
-    requires frame { IsFrame store.now.sheet (M.memory memo.old) frame.old }
+    requires memo { IsMemoOf store.now.sheet (M.state memo.old) }
+    requires frame { IsFrame store.now.sheet (M.state memo.old) frame.old }
     requires waiting { frame.old.waiting ≡ waiting.Nothing }
     requires awaits { Awaits store.now.sheet (case_at frame.old.key) frame.old.found (waiting.WhatIf at pairs) }
     ensures key { frame.new.key ≡ frame.old.key }
-    ensures frame { OnOk result (IsFrame store.now.sheet (M.memory memo.old) frame.new) }
-    ensures next { IfOk result (λ o. IfSome o (IsNext store.now.sheet (M.memory memo.old) frame.old.key)) }
+    ensures frame { OnOk result (IsFrame store.now.sheet (M.state memo.old) frame.new) }
+    ensures next { IfOk result (λ o. IfSome o (IsNext store.now.sheet (M.state memo.old) frame.old.key)) }
     ensures settled { result ≡ Ok None → frame.new.waiting ≡ waiting.Nothing }
     ensures spare { OnOk result (spare store.now.sheet frame.new + 1 ≤ spare store.now.sheet frame.old) }
-    ensures same { M.memory memo.new ≡ M.memory memo.old }
+    ensures same { M.state memo.new ≡ M.state memo.old }
 {
     match replaced(alloc, store, &frame.key.world, &pairs, memo)? {
         Inputs::Unknown(key) => {
@@ -200,14 +200,14 @@ fn settle<M: Memo>(
     frame: &mut Frame,
     memo: &mut M,
 ) -> Result<Option<Key>, AllocError>
-    requires memory { IsMemoryOf store.now.sheet (M.memory memo.old) }
-    requires frame { IsFrame store.now.sheet (M.memory memo.old) frame.old }
+    requires memo { IsMemoOf store.now.sheet (M.state memo.old) }
+    requires frame { IsFrame store.now.sheet (M.state memo.old) frame.old }
     ensures key { frame.new.key ≡ frame.old.key }
-    ensures frame { OnOk result (IsFrame store.now.sheet (M.memory memo.old) frame.new) }
-    ensures next { IfOk result (λ o. IfSome o (IsNext store.now.sheet (M.memory memo.old) frame.old.key)) }
+    ensures frame { OnOk result (IsFrame store.now.sheet (M.state memo.old) frame.new) }
+    ensures next { IfOk result (λ o. IfSome o (IsNext store.now.sheet (M.state memo.old) frame.old.key)) }
     ensures settled { result ≡ Ok None → frame.new.waiting ≡ waiting.Nothing }
     ensures spare { OnOk result (spare store.now.sheet frame.new ≤ spare store.now.sheet frame.old) }
-    ensures same { M.memory memo.new ≡ M.memory memo.old }
+    ensures same { M.state memo.new ≡ M.state memo.old }
 {
     match mem::replace(&mut frame.waiting, Waiting::Nothing) {
         Waiting::Nothing => Ok(None),
@@ -242,18 +242,18 @@ fn advance<M: Memo>(
     memo: &mut M,
     meter: &mut Meter,
 ) -> Result<Step, AllocError>
-    requires memory { IsMemoryOf store.now.sheet (M.memory memo.old) }
-    requires frame { IsFrame store.now.sheet (M.memory memo.old) frame.old }
+    requires memo { IsMemoOf store.now.sheet (M.state memo.old) }
+    requires frame { IsFrame store.now.sheet (M.state memo.old) frame.old }
     ensures key { frame.new.key ≡ frame.old.key }
-    ensures frame { OnOk result (IsFrame store.now.sheet (M.memory memo.old) frame.new) }
+    ensures frame { OnOk result (IsFrame store.now.sheet (M.state memo.old) frame.new) }
     ensures done { IfOk result (λ s. IfDone s (λ v. v ≡ show.cell_value (put_all store.now.sheet frame.old.key.world) frame.old.key.cell)) }
-    ensures next { IfOk result (λ s. IfNeeds s (IsNext store.now.sheet (M.memory memo.old) frame.old.key)) }
+    ensures next { IfOk result (λ s. IfNeeds s (IsNext store.now.sheet (M.state memo.old) frame.old.key)) }
     ensures evaluations { IfOk result (λ s. meter.new.evaluations ≡ evaluations_after s meter.old.evaluations) }
     ensures restarts { OnOk result (meter.new.restarts + spare store.now.sheet frame.new ≤ meter.old.restarts + spare store.now.sheet frame.old) }
     ensures err_evaluations { OnErr result (meter.new.evaluations ≡ meter.old.evaluations) }
     ensures err_restarts { OnErr result (meter.new.restarts ≤ meter.old.restarts + spare store.now.sheet frame.old) }
     ensures counts { NeverFall meter.old meter.new }
-    ensures same { M.memory memo.new ≡ M.memory memo.old }
+    ensures same { M.state memo.new ≡ M.state memo.old }
 {
     'rounds: loop {
         if let Some(key) = settle(alloc, store, frame, memo)? {
@@ -282,19 +282,19 @@ fn run<M: Memo>(
     memo: &mut M,
     meter: &mut Meter,
 ) -> Result<Value, AllocError>
-    requires memory { IsMemoryOf store.now.sheet (M.memory memo.old) }
-    requires key { IsToValue store.now.sheet (M.memory memo.old) key }
-    requires unfound { (M.memory memo.old).found key.cell key.world ≡ false }
+    requires memo { IsMemoOf store.now.sheet (M.state memo.old) }
+    requires key { IsToValue store.now.sheet (M.state memo.old) key }
+    requires unfound { (M.state memo.old).found key.cell key.world ≡ false }
     ensures value { IfOk result (λ v. v ≡ show.cell_value (put_all store.now.sheet key.world) key.cell) }
-    ensures memory { IsMemoryOf store.now.sheet (M.memory memo.new) }
-    ensures same_cells { (M.memory memo.new).covers ≡ (M.memory memo.old).covers }
-    ensures same_generation { (M.memory memo.new).generation ≡ (M.memory memo.old).generation }
+    ensures memo { IsMemoOf store.now.sheet (M.state memo.new) }
+    ensures same_cells { (M.state memo.new).covers ≡ (M.state memo.old).covers }
+    ensures same_generation { (M.state memo.new).generation ≡ (M.state memo.old).generation }
 
-    ensures evaluations { CountsAtMost store.now.sheet (λ ks. Contains ks (case_at key)) (λ _. 1) (M.memory memo.old).found meter.old.evaluations meter.new.evaluations }
-    ensures evaluations_ok { OnOk result (CountsFound store.now.sheet (λ ks. Contains ks (case_at key)) (λ _. 1) (M.memory memo.old).found (M.memory memo.new).found meter.old.evaluations meter.new.evaluations) }
+    ensures evaluations { CountsAtMost store.now.sheet (λ ks. Contains ks (case_at key)) (λ _. 1) (M.state memo.old).found meter.old.evaluations meter.new.evaluations }
+    ensures evaluations_ok { OnOk result (CountsFound store.now.sheet (λ ks. Contains ks (case_at key)) (λ _. 1) (M.state memo.old).found (M.state memo.new).found meter.old.evaluations meter.new.evaluations) }
 
-    ensures restarts { CountsAtMost store.now.sheet (λ ks. Contains ks (case_at key)) (wants store.now.sheet) (M.memory memo.old).found meter.old.restarts meter.new.restarts }
-    ensures restarts_ok { OnOk result (CountsFound store.now.sheet (λ ks. Contains ks (case_at key)) (wants store.now.sheet) (M.memory memo.old).found (M.memory memo.new).found meter.old.restarts meter.new.restarts) }
+    ensures restarts { CountsAtMost store.now.sheet (λ ks. Contains ks (case_at key)) (wants store.now.sheet) (M.state memo.old).found meter.old.restarts meter.new.restarts }
+    ensures restarts_ok { OnOk result (CountsFound store.now.sheet (λ ks. Contains ks (case_at key)) (wants store.now.sheet) (M.state memo.old).found (M.state memo.new).found meter.old.restarts meter.new.restarts) }
 
     ensures counts { NeverFall meter.old meter.new }
 {
@@ -332,20 +332,20 @@ pub fn value_under<M: Memo>(
     memo: &mut M,
     meter: &mut Meter,
 ) -> Result<Value, AllocError>
-    requires memory { IsMemoryOf store.now.sheet (M.memory memo.old) }
-    requires read { MayBeRead store.now.sheet (M.memory memo.old) at }
+    requires memo { IsMemoOf store.now.sheet (M.state memo.old) }
+    requires read { MayBeRead store.now.sheet (M.state memo.old) at }
     ensures value { IfOk result (λ v. v ≡ show.cell_value (put_all store.now.sheet world.now) at) }
 
     // What is remembered then is right, also where memory runs out.
-    ensures memory { IsMemoryOf store.now.sheet (M.memory memo.new) }
-    ensures same_cells { (M.memory memo.new).covers ≡ (M.memory memo.old).covers }
-    ensures same_generation { (M.memory memo.new).generation ≡ (M.memory memo.old).generation }
+    ensures memo { IsMemoOf store.now.sheet (M.state memo.new) }
+    ensures same_cells { (M.state memo.new).covers ≡ (M.state memo.old).covers }
+    ensures same_generation { (M.state memo.new).generation ≡ (M.state memo.old).generation }
 
-    ensures evaluations { CountsAtMost store.now.sheet (HasCase store.now.sheet world.now at) (λ _. 1) (M.memory memo.old).found meter.old.evaluations meter.new.evaluations }
-    ensures evaluations_ok { OnOk result (CountsFound store.now.sheet (HasCase store.now.sheet world.now at) (λ _. 1) (M.memory memo.old).found (M.memory memo.new).found meter.old.evaluations meter.new.evaluations) }
+    ensures evaluations { CountsAtMost store.now.sheet (HasCase store.now.sheet world.now at) (λ _. 1) (M.state memo.old).found meter.old.evaluations meter.new.evaluations }
+    ensures evaluations_ok { OnOk result (CountsFound store.now.sheet (HasCase store.now.sheet world.now at) (λ _. 1) (M.state memo.old).found (M.state memo.new).found meter.old.evaluations meter.new.evaluations) }
 
-    ensures restarts { CountsAtMost store.now.sheet (HasCase store.now.sheet world.now at) (wants store.now.sheet) (M.memory memo.old).found meter.old.restarts meter.new.restarts }
-    ensures restarts_ok { OnOk result (CountsFound store.now.sheet (HasCase store.now.sheet world.now at) (wants store.now.sheet) (M.memory memo.old).found (M.memory memo.new).found meter.old.restarts meter.new.restarts) }
+    ensures restarts { CountsAtMost store.now.sheet (HasCase store.now.sheet world.now at) (wants store.now.sheet) (M.state memo.old).found meter.old.restarts meter.new.restarts }
+    ensures restarts_ok { OnOk result (CountsFound store.now.sheet (HasCase store.now.sheet world.now at) (wants store.now.sheet) (M.state memo.old).found (M.state memo.new).found meter.old.restarts meter.new.restarts) }
 
     ensures counts { NeverFall meter.old meter.new }
 {

@@ -4,7 +4,7 @@ ghost use Rattle.std.specs.Prelude.{◌≡◌, ◌⊎◌, ◌||◌, ℕ, true, f
 ghost use Rattle.std.specs.Option.{option_copied};
 ghost use Rattle.wi_values.specs.declared.replacement.Replacement.{Replacement as Replacements};
 ghost use Rattle.wi_sheet.specs.Demand.{reaching, same_case};
-ghost use Rattle.wi_engine.specs.Inner.Memory.{Memory};
+ghost use Rattle.wi_engine.specs.Inner.MemoState.{MemoState};
 
 use std::alloc::AllocError;
 use wi_cache::Key;
@@ -15,29 +15,29 @@ use wi_worlds::World;
 /// often that may have changed, and the replacements that reach it.
 pub trait Memo {
     /// The sheet, the cells for which keys are made, and what is remembered of them.
-    ghost memory: { Self → Memory };
+    ghost state: { Self → MemoState };
 
     /// The key for a cell under replacements.
     fn key(&mut self, at: Address, world: &World) -> Result<Key, AllocError>
-        requires covered { (memory self.old).covers at ≡ true }
+        requires covered { (state self.old).covers at ≡ true }
         ensures cell { IfOk result (λ k. k.cell ≡ at) }
-        ensures world { IfOk result (λ k. k.world ≡ reaching (memory self.old).sheet at world.now) }
-        ensures generation { IfOk result (λ k. k.generation ≡ (memory self.old).generation at) }
-        ensures same { memory self.new ≡ memory self.old };
+        ensures world { IfOk result (λ k. k.world ≡ reaching (state self.old).sheet at world.now) }
+        ensures generation { IfOk result (λ k. k.generation ≡ (state self.old).generation at) }
+        ensures same { state self.new ≡ state self.old };
 
     /// The value that is remembered for a key.
     fn look(&self, key: &Key) -> Option<&Value>
-        requires generation { key.now.generation ≡ (memory self.now).generation key.now.cell }
-        ensures value { option_copied result ≡ (memory self.now).known key.now.cell key.now.world }
-        ensures missing { result ≡ None → (memory self.now).found key.now.cell key.now.world ≡ false };
+        requires generation { key.now.generation ≡ (state self.now).generation key.now.cell }
+        ensures value { option_copied result ≡ (state self.now).known key.now.cell key.now.world }
+        ensures missing { result ≡ None → (state self.now).found key.now.cell key.now.world ≡ false };
 
     /// Remembers a value for a key.
     fn keep(&mut self, key: Key, value: Value) -> Result<(), AllocError>
-        requires generation { key.generation ≡ (memory self.old).generation key.cell }
-        ensures known { (c : ℕ) (w : List Replacements) → IfSome ((memory self.new).known c w) (λ v. ((memory self.old).known c w ≡ Some v) ⊎ ((c ≡ key.cell) × (w ≡ key.world) × (v ≡ value))) }
-        ensures stays { (c : ℕ) (w : List Replacements) → (memory self.old).found c w ≡ true → (memory self.new).found c w ≡ true }
-        ensures found { OnOk result ((c : ℕ) (w : List Replacements) → (memory self.new).found c w ≡ ((memory self.old).found c w || same_case (key.cell, key.world) (c, w))) }
-        ensures same_sheet { (memory self.new).sheet ≡ (memory self.old).sheet }
-        ensures same_cells { (memory self.new).covers ≡ (memory self.old).covers }
-        ensures same_generation { (memory self.new).generation ≡ (memory self.old).generation };
+        requires generation { key.generation ≡ (state self.old).generation key.cell }
+        ensures known { (c : ℕ) (w : List Replacements) → IfSome ((state self.new).known c w) (λ v. ((state self.old).known c w ≡ Some v) ⊎ ((c ≡ key.cell) × (w ≡ key.world) × (v ≡ value))) }
+        ensures stays { (c : ℕ) (w : List Replacements) → (state self.old).found c w ≡ true → (state self.new).found c w ≡ true }
+        ensures found { OnOk result ((c : ℕ) (w : List Replacements) → (state self.new).found c w ≡ ((state self.old).found c w || same_case (key.cell, key.world) (c, w))) }
+        ensures same_sheet { (state self.new).sheet ≡ (state self.old).sheet }
+        ensures same_cells { (state self.new).covers ≡ (state self.old).covers }
+        ensures same_generation { (state self.new).generation ≡ (state self.old).generation };
 }

@@ -9,7 +9,7 @@ ghost use Rattle.wi_sheet.specs.TableEntry as table;
 ghost use Rattle.wi_sheet.specs.TableEntry.{entry_demanded};
 ghost use Rattle.wi_sheet.specs.Demand.{with_what_if, wants};
 ghost use Rattle.wi_sheet.specs.Inner.Spending.{CountsAtMost, CountsFound, HasReplacing, HasEntry, NeverFall};
-ghost use Rattle.wi_engine.specs.Inner.Memory.{IsMemoryOf};
+ghost use Rattle.wi_engine.specs.Inner.MemoState.{IsMemoOf};
 ghost use Rattle.wi_engine.specs.Inner.Frames.{MayBeRead};
 
 use std::alloc::{AllocError, Global};
@@ -33,11 +33,14 @@ pub fn table_entry(
     meter: &mut Meter,
 ) -> Result<Value, AllocError>
     requires { IsInOrder put.now }
-    ensures value { IfOk result (λ v. v ≡ table.table_entry store.now.sheet put.now formula_cell pairs.now) }
+    ensures value { IfOk result
+        (λ v. v ≡ table.table_entry store.now.sheet put.now formula_cell pairs.now) }
 
     // No more than what the entry demands is valued, also where memory runs out.
-    ensures evaluations { meter.new.evaluations ≤ meter.old.evaluations + length (entry_demanded store.now.sheet put.now formula_cell pairs.now) }
-    ensures restarts { meter.new.restarts ≤ meter.old.restarts + sum_by (wants store.now.sheet) (entry_demanded store.now.sheet put.now formula_cell pairs.now) }
+    ensures evaluations { meter.new.evaluations ≤ meter.old.evaluations
+        + length (entry_demanded store.now.sheet put.now formula_cell pairs.now) }
+    ensures restarts { meter.new.restarts ≤ meter.old.restarts
+        + sum_by (wants store.now.sheet) (entry_demanded store.now.sheet put.now formula_cell pairs.now) }
     ensures counts { NeverFall meter.old meter.new }
 {
     let cells = valued_cells(alloc, formula_cell, pairs)?;
@@ -74,12 +77,15 @@ fn open_entry<M: Memo>(
     memo: &mut M,
     meter: &mut Meter,
 ) -> Result<Value, AllocError>
-    requires memory { IsMemoryOf store.now.sheet (M.memory memo.old) }
-    requires formula_cell { MayBeRead store.now.sheet (M.memory memo.old) formula_cell }
-    requires replacing { All (λ x. MayBeRead store.now.sheet (M.memory memo.old) x.1) pairs.now }
-    ensures value { IfOk result (λ v. v ≡ formulas.zero_for_empty (show.cell_value (put_all store.now.sheet (with_what_if store.now.sheet world.now pairs.now)) formula_cell)) }
-    ensures evaluations { CountsAtMost store.now.sheet (HasEntry store.now.sheet world.now formula_cell pairs.now) (λ _. 1) (M.memory memo.old).found meter.old.evaluations meter.new.evaluations }
-    ensures restarts { CountsAtMost store.now.sheet (HasEntry store.now.sheet world.now formula_cell pairs.now) (wants store.now.sheet) (M.memory memo.old).found meter.old.restarts meter.new.restarts }
+    requires memo { IsMemoOf store.now.sheet (M.state memo.old) }
+    requires formula_cell { MayBeRead store.now.sheet (M.state memo.old) formula_cell }
+    requires replacing { All (λ x. MayBeRead store.now.sheet (M.state memo.old) x.1) pairs.now }
+    ensures value { IfOk result (λ v. v ≡ formulas.zero_for_empty
+        (show.cell_value (put_all store.now.sheet (with_what_if store.now.sheet world.now pairs.now)) formula_cell)) }
+    ensures evaluations { CountsAtMost store.now.sheet (HasEntry store.now.sheet world.now formula_cell pairs.now)
+        (λ _. 1) (M.state memo.old).found meter.old.evaluations meter.new.evaluations }
+    ensures restarts { CountsAtMost store.now.sheet (HasEntry store.now.sheet world.now formula_cell pairs.now)
+        (wants store.now.sheet) (M.state memo.old).found meter.old.restarts meter.new.restarts }
     ensures counts { NeverFall meter.old meter.new }
 {
     let replaced = with_inputs(alloc, store, world, pairs, memo, meter)?;
@@ -97,17 +103,21 @@ fn with_inputs<M: Memo>(
     memo: &mut M,
     meter: &mut Meter,
 ) -> Result<World, AllocError>
-    requires memory { IsMemoryOf store.now.sheet (M.memory memo.old) }
-    requires replacing { All (λ x. MayBeRead store.now.sheet (M.memory memo.old) x.1) pairs.now }
+    requires memo { IsMemoOf store.now.sheet (M.state memo.old) }
+    requires replacing { All (λ x. MayBeRead store.now.sheet (M.state memo.old) x.1) pairs.now }
     ensures world { IfOk result (λ w. w ≡ with_what_if store.now.sheet world.now pairs.now) }
-    ensures memory { IsMemoryOf store.now.sheet (M.memory memo.new) }
-    ensures same_cells { (M.memory memo.new).covers ≡ (M.memory memo.old).covers }
+    ensures memo { IsMemoOf store.now.sheet (M.state memo.new) }
+    ensures same_cells { (M.state memo.new).covers ≡ (M.state memo.old).covers }
 
-    ensures evaluations { CountsAtMost store.now.sheet (HasReplacing store.now.sheet world.now pairs.now) (λ _. 1) (M.memory memo.old).found meter.old.evaluations meter.new.evaluations }
-    ensures evaluations_ok { OnOk result (CountsFound store.now.sheet (HasReplacing store.now.sheet world.now pairs.now) (λ _. 1) (M.memory memo.old).found (M.memory memo.new).found meter.old.evaluations meter.new.evaluations) }
+    ensures evaluations { CountsAtMost store.now.sheet (HasReplacing store.now.sheet world.now pairs.now)
+        (λ _. 1) (M.state memo.old).found meter.old.evaluations meter.new.evaluations }
+    ensures evaluations_ok { OnOk result (CountsFound store.now.sheet (HasReplacing store.now.sheet world.now pairs.now)
+        (λ _. 1) (M.state memo.old).found (M.state memo.new).found meter.old.evaluations meter.new.evaluations) }
 
-    ensures restarts { CountsAtMost store.now.sheet (HasReplacing store.now.sheet world.now pairs.now) (wants store.now.sheet) (M.memory memo.old).found meter.old.restarts meter.new.restarts }
-    ensures restarts_ok { OnOk result (CountsFound store.now.sheet (HasReplacing store.now.sheet world.now pairs.now) (wants store.now.sheet) (M.memory memo.old).found (M.memory memo.new).found meter.old.restarts meter.new.restarts) }
+    ensures restarts { CountsAtMost store.now.sheet (HasReplacing store.now.sheet world.now pairs.now)
+        (wants store.now.sheet) (M.state memo.old).found meter.old.restarts meter.new.restarts }
+    ensures restarts_ok { OnOk result (CountsFound store.now.sheet (HasReplacing store.now.sheet world.now pairs.now)
+        (wants store.now.sheet) (M.state memo.old).found (M.state memo.new).found meter.old.restarts meter.new.restarts) }
 
     ensures counts { NeverFall meter.old meter.new }
 {

@@ -23,7 +23,7 @@ use Rattle.wi_sheet.proofs.Puts.{overlaid, content_of-put_all, plain}
 use Rattle.wi_sheet.proofs.Bounds.{put_formula}
 use Rattle.wi_sheet.proofs.Members.{IsIn, in_filter}
 use Rattle.wi_sheet.proofs.Asked.{asked_cell}
-use Rattle.wi_engine.specs.Inner.Memory.{Memory}
+use Rattle.wi_engine.specs.Inner.MemoState.{MemoState}
 use Rattle.wi_engine.specs.Inner.Findings.{pairs_of, cell_found, what_if_found, AreAllRight, IsWithCell, IsWithWhatIf}
 use Rattle.wi_engine.specs.Inner.Answers.{AsksAt, IsLacking, lacking}
 use Rattle.wi_engine.specs.Inner.Frames.{case_at, content_reads_here, AreReadHere, Awaits, IsUnvalued, IsFrame, lacks, waits}
@@ -61,7 +61,7 @@ pair_found [] i x h e = absurd (omega arith)
 pair_found (p ∷ ps) zero x h e = or_left (p.replacement.at == x.replacement.at) _ (eq-eqb p.replacement.at x.replacement.at (ap (λ (y : Pair). y.replacement.at) (sym e)))
 pair_found (p ∷ ps) (suc i) x h e = or_right (p.replacement.at == x.replacement.at) _ (pair_found ps i x (omega arith) e)
 
-pub input_unvalued : (s : Sheet) (m n : Memory) (w : List Replacement) (pairs : List Pair) (i : ℕ) (x : Pair) (k : Key) → i < length pairs → x ≡ get_or pairs i x → n ≡ m → IsUnvalued s n w x.replacement.at k →
+pub input_unvalued : (s : Sheet) (m n : MemoState) (w : List Replacement) (pairs : List Pair) (i : ℕ) (x : Pair) (k : Key) → i < length pairs → x ≡ get_or pairs i x → n ≡ m → IsUnvalued s n w x.replacement.at k →
     (list_any (λ p. p.1.at == k.cell) (map pair_of pairs) ≡ true) × IsUnvalued s m w k.cell k
 input_unvalued s m n w pairs i x k h e en u =
     let same = rw en at u in
@@ -143,7 +143,7 @@ what_if_falls s k f g x more h l =
 
 -- ---- the same frame with other values or waiting for something else
 
-pub frame_with : (s : Sheet) (m : Memory) (f g : Frame) → IsFrame s m f → g.key ≡ f.key → AreAllRight (cell_value (put_all s f.key.world)) (what_if_value (put_all s f.key.world)) g.found →
+pub frame_with : (s : Sheet) (m : MemoState) (f g : Frame) → IsFrame s m f → g.key ≡ f.key → AreAllRight (cell_value (put_all s f.key.world)) (what_if_value (put_all s f.key.world)) g.found →
     Awaits s (case_at f.key) g.found g.waiting → IsFrame s m g
 frame_with s m f g h e r a = record {
   key = rw e h.key;

@@ -32,7 +32,7 @@ use Rattle.wi_sheet.proofs.Members.{IsIn, in_contained, contains_in, in_left, in
 use Rattle.wi_sheet.proofs.SmallerWorlds.{content_below}
 use Rattle.wi_sheet.proofs.Asked.{asked_what_if}
 use Rattle.wi_sheet.proofs.Demands.{here_reads, what_if_reads}
-use Rattle.wi_engine.specs.Inner.Memory.{Memory, IsMemoryOf}
+use Rattle.wi_engine.specs.Inner.MemoState.{MemoState, IsMemoOf}
 use Rattle.wi_engine.specs.Inner.Answers.{AsksAt}
 use Rattle.wi_engine.specs.Inner.Frames.{case_at, content_reads_here, MayBeRead, IsUnvalued, IsNext}
 
@@ -46,14 +46,14 @@ plain_cell s c o e h =
 
 -- ---- what is read
 
-pub may_be_read : (s : Sheet) (m : Memory) (c a : ℕ) → IsMemoryOf s m → circular s c ≡ false → m.covers c ≡ true → content_reads (content_of s c) a ≡ true → MayBeRead s m a
+pub may_be_read : (s : Sheet) (m : MemoState) (c a : ℕ) → IsMemoOf s m → circular s c ≡ false → m.covers c ≡ true → content_reads (content_of s c) a ≡ true → MayBeRead s m a
 may_be_read s m c a h o v r = record {
   open_cell = reads_not_circular s c a r o;
   covered = λ f. h.closed c a v r f;
 }
 
 -- the key of a cell with a formula, for which nothing is remembered
-pub unvalued : (s : Sheet) (m n : Memory) (w : List Replacement) (a : ℕ) (k : Key) → IsMemoryOf s m → MayBeRead s m a → has_formula (content_of (put_all s w) a) ≡ true → n ≡ m →
+pub unvalued : (s : Sheet) (m n : MemoState) (w : List Replacement) (a : ℕ) (k : Key) → IsMemoOf s m → MayBeRead s m a → has_formula (content_of (put_all s w) a) ≡ true → n ≡ m →
     k.cell ≡ a → k.world ≡ reaching m.sheet a w → k.generation ≡ m.generation a → n.found k.cell k.world ≡ false → IsUnvalued s m w a k
 unvalued s m n w a k h r f en ec ew eg u =
     let there : k.world ≡ reaching s a w = ew ∙ ap (λ (t : Sheet). reaching t a w) h.sheet in
@@ -71,7 +71,7 @@ unvalued s m n w a k h r f en ec ew eg u =
     }
 
 -- what is remembered under the key of a cell is its value
-pub known_value : (s : Sheet) (m n : Memory) (w : List Replacement) (a : ℕ) (k : Key) (v : Value) → IsMemoryOf s m → n ≡ m → k.cell ≡ a → k.world ≡ reaching m.sheet a w →
+pub known_value : (s : Sheet) (m n : MemoState) (w : List Replacement) (a : ℕ) (k : Key) (v : Value) → IsMemoOf s m → n ≡ m → k.cell ≡ a → k.world ≡ reaching m.sheet a w →
     Some v ≡ n.known k.cell k.world → v ≡ cell_value (put_all s w) a
 known_value s m n w a k v h en ec ew e =
     let there : k.world ≡ reaching s a w = ew ∙ ap (λ (t : Sheet). reaching t a w) h.sheet in
@@ -172,21 +172,21 @@ what_if_in_sheet s k f pairs h =
 pub key_path : (a b : ℕ) (v w : List Replacement) → a ≡ b → v ≡ w → ◌≡◌ {A = Case} (b, w) (a, v)
 key_path a b v w e f = ap (λ (n : ℕ). (n, w)) (sym e) ∙ ap (λ (x : List Replacement). (a, x)) (sym f)
 
-next_key : (s : Sheet) (m : Memory) (below k : Key) (w : List Replacement) (a : ℕ) → IsUnvalued s m w a k → RestsOn s (case_at below) (case_of s w a) → IsNext s m below k
+next_key : (s : Sheet) (m : MemoState) (below k : Key) (w : List Replacement) (a : ℕ) → IsUnvalued s m w a k → RestsOn s (case_at below) (case_of s w a) → IsNext s m below k
 next_key s m below k w a u r = record {
   rests = subst (λ (j : Case). RestsOn s (case_at below) j) (key_path k.cell a k.world (reaching s a w) u.cell u.world) r;
   key = u.key;
   unfound = u.unfound;
 }
 
-formula_there : (s : Sheet) (m : Memory) (w : List Replacement) (a : ℕ) (k : Key) → IsUnvalued s m w a k → has_formula (content_of (put_all s (reaching s a w)) a) ≡ true
+formula_there : (s : Sheet) (m : MemoState) (w : List Replacement) (a : ℕ) (k : Key) → IsUnvalued s m w a k → has_formula (content_of (put_all s (reaching s a w)) a) ≡ true
 formula_there s m w a k u = ap (λ (j : Case). has_formula (content_of (put_all s j.1) j.0)) (key_path k.cell a k.world (reaching s a w) u.cell u.world) ∙ u.key.formula
 
 -- the key of a cell that is read as the sheet stands
-pub next_cell : (s : Sheet) (m : Memory) (below k : Key) (a : ℕ) → IsUnvalued s m below.world a k → content_reads_here (content_of (put_all s below.world) below.cell) a ≡ true → IsNext s m below k
+pub next_cell : (s : Sheet) (m : MemoState) (below k : Key) (a : ℕ) → IsUnvalued s m below.world a k → content_reads_here (content_of (put_all s below.world) below.cell) a ≡ true → IsNext s m below k
 next_cell s m below k a u h = next_key s m below k below.world a u (rests_cell s (case_at below) a h (formula_there s m below.world a k u))
 
 -- the key of a what-if's formula cell
-pub next_what_if : (s : Sheet) (m : Memory) (below k : Key) (f : ℕ) (pairs : Vec Pair) (w : List Replacement) → IsUnvalued s m w f k → AsksAt s below.world below.cell (WhatIf f pairs) →
+pub next_what_if : (s : Sheet) (m : MemoState) (below k : Key) (f : ℕ) (pairs : Vec Pair) (w : List Replacement) → IsUnvalued s m w f k → AsksAt s below.world below.cell (WhatIf f pairs) →
     w ≡ with_what_if s below.world (named f pairs).1 → IsNext s m below k
 next_what_if s m below k f pairs w u h e = next_key s m below k w f u (rests_what_if s (case_at below) f pairs w h e (formula_there s m w f k u))

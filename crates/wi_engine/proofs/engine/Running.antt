@@ -13,7 +13,7 @@ use Rattle.wi_sheet.proofs.Overrides.{reaching_suffices}
 use Rattle.wi_sheet.proofs.Counting.{one_less_left, never_fall-same, never_fall-then}
 use Rattle.wi_sheet.proofs.Demands.{demand_closed, demand_has_itself}
 use Rattle.wi_engine.specs.Inner.Rank.{rank}
-use Rattle.wi_engine.specs.Inner.Memory.{Memory, IsMemoryOf}
+use Rattle.wi_engine.specs.Inner.MemoState.{MemoState, IsMemoOf}
 use Rattle.wi_engine.specs.Inner.Frames.{case_at, IsToValue, IsUnvalued, IsFrame, IsNext, IsBegun, IsStack, BottomIs, spare, at_most}
 use Rattle.wi_engine.specs.declared.frame.Frame.{Frame}
 use Rattle.wi_engine.specs.declared.frame.Waiting.TheVariants.{Nothing}
@@ -21,12 +21,12 @@ use Rattle.wi_engine.proofs.engine.Rightness.{right_none}
 use Rattle.wi_engine.proofs.engine.Ranks.{rests_rank, measure_falls_at_keep, measure_falls_at_push}
 use Rattle.wi_engine.proofs.engine.Resting.{key_path}
 use Rattle.wi_engine.proofs.engine.Settling.{one_more_at_most}
-use Rattle.wi_engine.proofs.engine.Stacks.{push_stack, pop_stack, push_bottom, pop_bottom, same_bottom, found_stack, kept_memory, begun_next, same_begun}
+use Rattle.wi_engine.proofs.engine.Stacks.{push_stack, pop_stack, push_bottom, pop_bottom, same_bottom, found_stack, kept_state, begun_next, same_begun}
 use Rattle.wi_engine.proofs.engine.Budgets.{budget_start, budget_push, budget_pop, budget_end, budget_kept, not_taken, spare_new}
 
 -- what is so of the frames, the one at the top apart
-pub record IsRunning (s : Sheet) (old m : Memory) (root : Case) (start now : Counts) (fs : List Frame) (f : Frame) : Type 0 where
-  pub memory : IsMemoryOf s m
+pub record IsRunning (s : Sheet) (old m : MemoState) (root : Case) (start now : Counts) (fs : List Frame) (f : Frame) : Type 0 where
+  pub memo : IsMemoOf s m
   pub covers : m.covers ≡ old.covers
   pub generation : m.generation ≡ old.generation
   pub begun : IsBegun s m root f
@@ -37,14 +37,14 @@ pub record IsRunning (s : Sheet) (old m : Memory) (root : Case) (start now : Cou
   pub restarts : (ks : List Case) → IsClosed s ks → Contains ks root → at_most (wants s) (spare s) m.found (f ∷ fs) now.restarts ks ≤ start.restarts + left (wants s) old.found ks
 
 -- a value is remembered for a key
-pub record Keeps (m n : Memory) (k : Key) (v : Value) : Type 0 where
+pub record Keeps (m n : MemoState) (k : Key) (v : Value) : Type 0 where
   pub sheet : n.sheet ≡ m.sheet
   pub covers : n.covers ≡ m.covers
   pub generation : n.generation ≡ m.generation
   pub known : (c : ℕ) (w : List Replacement) → IfSome (n.known c w) (λ x. (m.known c w ≡ Some x) ⊎ ((c ≡ k.cell) × (w ≡ k.world) × (x ≡ v)))
 
 -- and is found from then on
-abbrev pub Finds : Memory → Memory → Key → Type 0
+abbrev pub Finds : MemoState → MemoState → Key → Type 0
 Finds m n k = (c : ℕ) (w : List Replacement) → n.found c w ≡ (m.found c w || same_case (case_at k) (c, w))
 
 -- a frame with no values yet
@@ -54,7 +54,7 @@ pub record IsNew (f : Frame) (k : Key) : Type 0 where
   pub what_ifs : f.found.what_ifs.items ≡ []
   pub waiting : f.waiting ≡ Nothing
 
-new_frame : (s : Sheet) (m : Memory) (f : Frame) (k : Key) → IsNew f k → IsToValue s m k → IsFrame s m f
+new_frame : (s : Sheet) (m : MemoState) (f : Frame) (k : Key) → IsNew f k → IsToValue s m k → IsFrame s m f
 new_frame s m f k n h = record {
   key = rw n.key h;
   found = right_none (cell_value (put_all s f.key.world)) (what_if_value (put_all s f.key.world)) f.found n.cells n.what_ifs;
@@ -63,9 +63,9 @@ new_frame s m f k n h = record {
 
 -- ---- the start
 
-start_alone : (s : Sheet) (m : Memory) (k : Key) (f : Frame) (now : Counts) → IsMemoryOf s m → IsToValue s m k → m.found k.cell k.world ≡ false → IsNew f k → IsRunning s m m (case_at k) now now [] f
+start_alone : (s : Sheet) (m : MemoState) (k : Key) (f : Frame) (now : Counts) → IsMemoOf s m → IsToValue s m k → m.found k.cell k.world ≡ false → IsNew f k → IsRunning s m m (case_at k) now now [] f
 start_alone s m k f now h key u n = record {
-  memory = h;
+  memo = h;
   covers = refl;
   generation = refl;
   begun = record {
@@ -80,12 +80,12 @@ start_alone s m k f now h key u n = record {
   restarts = λ ks closed top. budget_start (wants s) (spare s) m.found ks f (case_at k) now.restarts (ap case_at n.key) (spare_new s k f n.key n.waiting) u top;
 }
 
-pub run_start : (s : Sheet) (m : Memory) (k : Key) (fs : List Frame) (f : Frame) (now : Counts) → IsMemoryOf s m → IsToValue s m k → m.found k.cell k.world ≡ false → IsNew f k → fs ≡ [] → IsRunning s m m (case_at k) now now fs f
+pub run_start : (s : Sheet) (m : MemoState) (k : Key) (fs : List Frame) (f : Frame) (now : Counts) → IsMemoOf s m → IsToValue s m k → m.found k.cell k.world ≡ false → IsNew f k → fs ≡ [] → IsRunning s m m (case_at k) now now fs f
 run_start s m k fs f now h key u n e = subst (λ (gs : List Frame). IsRunning s m m (case_at k) now now gs f) (sym e) (start_alone s m k f now h key u n)
 
 -- ---- a frame more
 
-push_alone : (s : Sheet) (old m : Memory) (root : Case) (start now next : Counts) (fs : List Frame) (f h g : Frame) (k : Key) → IsRunning s old m root start now fs f → h.key ≡ f.key → IsFrame s m h → IsNext s m f.key k →
+push_alone : (s : Sheet) (old m : MemoState) (root : Case) (start now next : Counts) (fs : List Frame) (f h g : Frame) (k : Key) → IsRunning s old m root start now fs f → h.key ≡ f.key → IsFrame s m h → IsNext s m f.key k →
     NeverFall now next → next.evaluations ≡ now.evaluations → next.restarts + spare s h ≤ now.restarts + spare s f → IsNew g k → IsRunning s old m root start next (fs ++ h ∷ []) g
 push_alone s old m root start now next fs f h g k i e frame n up ev re new =
     let lower = rests_rank s (case_at f.key) (case_at k) n.rests i.begun.frame.key.open_cell in
@@ -94,7 +94,7 @@ push_alone s old m root start now next fs f h g k i e frame n up ev re new =
     let below : rank s g.key.cell < rank s h.key.cell = rw (e, new.key) lower in
     let apart = not_taken s m root f fs k i.stack lower n.unfound in
     record {
-      memory = i.memory;
+      memo = i.memo;
       covers = i.covers;
       generation = i.generation;
       begun = begun_next s m root f k g i.begun.demanded n new.key (new_frame s m g k new n.key);
@@ -109,12 +109,12 @@ push_alone s old m root start now next fs f h g k i e frame n up ev re new =
           (closed (case_at f.key) (case_at k) (i.begun.demanded ks closed top) n.rests);
     }
 
-pub run_push : (s : Sheet) (old m n : Memory) (root : Case) (start now next : Counts) (fs gs : List Frame) (f h g : Frame) (k : Key) → IsRunning s old m root start now fs f → n ≡ m → h.key ≡ f.key → IsFrame s m h → IsNext s m f.key k →
+pub run_push : (s : Sheet) (old m n : MemoState) (root : Case) (start now next : Counts) (fs gs : List Frame) (f h g : Frame) (k : Key) → IsRunning s old m root start now fs f → n ≡ m → h.key ≡ f.key → IsFrame s m h → IsNext s m f.key k →
     NeverFall now next → next.evaluations ≡ now.evaluations → next.restarts + spare s h ≤ now.restarts + spare s f → IsNew g k → gs ≡ fs ++ h ∷ [] → IsRunning s old n root start next gs g
 run_push s old m n root start now next fs gs f h g k i en e frame x up ev re new eg =
-    subst (λ (xs : List Frame). IsRunning s old n root start next xs g) (sym eg) (subst (λ (y : Memory). IsRunning s old y root start next (fs ++ h ∷ []) g) (sym en) (push_alone s old m root start now next fs f h g k i e frame x up ev re new))
+    subst (λ (xs : List Frame). IsRunning s old n root start next xs g) (sym eg) (subst (λ (y : MemoState). IsRunning s old y root start next (fs ++ h ∷ []) g) (sym en) (push_alone s old m root start now next fs f h g k i e frame x up ev re new))
 
-pub push_smaller : (s : Sheet) (old m n : Memory) (root : Case) (start now : Counts) (fs : List Frame) (f g : Frame) (k : Key) → IsRunning s old m root start now fs f → n ≡ m → IsNext s m f.key k → g.key ≡ k →
+pub push_smaller : (s : Sheet) (old m n : MemoState) (root : Case) (start now : Counts) (fs : List Frame) (f g : Frame) (k : Key) → IsRunning s old m root start now fs f → n ≡ m → IsNext s m f.key k → g.key ≡ k →
     left (λ j. 1) n.found (demand s root) * (length (cells_with_formula s) + 2) + rank s g.key.cell < left (λ j. 1) m.found (demand s root) * (length (cells_with_formula s) + 2) + rank s f.key.cell
 push_smaller s old m n root start now fs f g k i en x e =
     let lower = rests_rank s (case_at f.key) (case_at k) x.rests i.begun.frame.key.open_cell in
@@ -122,19 +122,19 @@ push_smaller s old m n root start now fs f g k i en x e =
 
 -- ---- a frame less
 
-finds_key : (m n : Memory) (k j : Key) → k ≡ j → Finds m n k → Finds m n j
+finds_key : (m n : MemoState) (k j : Key) → k ≡ j → Finds m n k → Finds m n j
 finds_key m n k j e h = λ c w. h c w ∙ ap (λ (x : Key). m.found c w || same_case (case_at x) (c, w)) e
 
-pub run_keeps : (s : Sheet) (m n : Memory) (k j : Key) (v : Value) → IsMemoryOf s m → Keeps m n k v → k ≡ j → v ≡ cell_value (put_all s j.world) j.cell → IsMemoryOf s n
-run_keeps s m n k j v h keeps e is = kept_memory s m n k v h keeps.sheet keeps.covers keeps.known (rw e is)
+pub run_keeps : (s : Sheet) (m n : MemoState) (k j : Key) (v : Value) → IsMemoOf s m → Keeps m n k v → k ≡ j → v ≡ cell_value (put_all s j.world) j.cell → IsMemoOf s n
+run_keeps s m n k j v h keeps e is = kept_state s m n k v h keeps.sheet keeps.covers keeps.known (rw e is)
 
-pop_alone : (s : Sheet) (old m n : Memory) (root : Case) (start now next : Counts) (fs : List Frame) (f b : Frame) (v : Value) → IsRunning s old m root start now (fs ++ b ∷ []) f → Keeps m n f.key v → Finds m n f.key →
+pop_alone : (s : Sheet) (old m n : MemoState) (root : Case) (start now next : Counts) (fs : List Frame) (f b : Frame) (v : Value) → IsRunning s old m root start now (fs ++ b ∷ []) f → Keeps m n f.key v → Finds m n f.key →
     v ≡ cell_value (put_all s f.key.world) f.key.cell → NeverFall now next → next.evaluations ≤ now.evaluations + 1 → next.restarts ≤ now.restarts + spare s f → IsRunning s old n root start next fs b
 pop_alone s old m n root start now next fs f b v i keeps finds is up ev re =
     let stack = found_stack s m n f.key root (fs ++ b ∷ []) keeps.covers keeps.generation finds i.stack in
     let below = pop_stack s n root fs b (rank s f.key.cell) stack in
     record {
-      memory = run_keeps s m n f.key f.key v i.memory keeps refl is;
+      memo = run_keeps s m n f.key f.key v i.memo keeps refl is;
       covers = keeps.covers ∙ i.covers;
       generation = keeps.generation ∙ i.generation;
       begun = below.0;
@@ -145,75 +145,75 @@ pop_alone s old m n root start now next fs f b v i keeps finds is up ev re =
       restarts = λ ks closed top. budget_pop (wants s) (spare s) m.found ks n.found fs f b now.restarts next.restarts _ finds (i.restarts ks closed top) re;
     }
 
-keeps_key : (m n : Memory) (k j : Key) (v : Value) → k ≡ j → Keeps m n k v → Keeps m n j v
+keeps_key : (m n : MemoState) (k j : Key) (v : Value) → k ≡ j → Keeps m n k v → Keeps m n j v
 keeps_key m n k j v e h = subst (λ (x : Key). Keeps m n x v) e h
 
-pub run_pop : (s : Sheet) (old m a n : Memory) (root : Case) (start now next : Counts) (fs gs : List Frame) (f b : Frame) (k : Key) (v : Value) → IsRunning s old m root start now gs f → a ≡ m → gs ≡ fs ++ b ∷ [] → k ≡ f.key →
+pub run_pop : (s : Sheet) (old m a n : MemoState) (root : Case) (start now next : Counts) (fs gs : List Frame) (f b : Frame) (k : Key) (v : Value) → IsRunning s old m root start now gs f → a ≡ m → gs ≡ fs ++ b ∷ [] → k ≡ f.key →
     Keeps a n k v → Finds a n k → v ≡ cell_value (put_all s f.key.world) f.key.cell → NeverFall now next → next.evaluations ≡ one_more now.evaluations → next.restarts ≤ now.restarts + spare s f → IsRunning s old n root start next fs b
 run_pop s old m a n root start now next fs gs f b k v i ea eg ek keeps finds is up ev re =
-    let there = subst (λ (xs : List Frame). IsRunning s old a root start now xs f) eg (subst (λ (y : Memory). IsRunning s old y root start now gs f) (sym ea) i) in
+    let there = subst (λ (xs : List Frame). IsRunning s old a root start now xs f) eg (subst (λ (y : MemoState). IsRunning s old y root start now gs f) (sym ea) i) in
     pop_alone s old a n root start now next fs f b v there (keeps_key a n k f.key v ek keeps) (finds_key a n k f.key ek finds) is up (one_more_at_most now.evaluations next.evaluations ev) re
 
-pub pop_smaller : (s : Sheet) (old m a n : Memory) (root : Case) (start now : Counts) (fs : List Frame) (f b : Frame) (k : Key) → IsRunning s old m root start now fs f → a ≡ m → k ≡ f.key → Finds a n k →
+pub pop_smaller : (s : Sheet) (old m a n : MemoState) (root : Case) (start now : Counts) (fs : List Frame) (f b : Frame) (k : Key) → IsRunning s old m root start now fs f → a ≡ m → k ≡ f.key → Finds a n k →
     circular s root.0 ≡ false → has_formula (content_of (put_all s root.1) root.0) ≡ true →
     left (λ j. 1) n.found (demand s root) * (length (cells_with_formula s) + 2) + rank s b.key.cell < left (λ j. 1) m.found (demand s root) * (length (cells_with_formula s) + 2) + rank s f.key.cell
 pop_smaller s old m a n root start now fs f b k i ea ek finds o form =
-    let here : Finds m n f.key = subst (λ (x : Memory). Finds x n f.key) ea (finds_key a n k f.key ek finds) in
+    let here : Finds m n f.key = subst (λ (x : MemoState). Finds x n f.key) ea (finds_key a n k f.key ek finds) in
     let top = i.begun.demanded (demand s root) (demand_closed s root) (demand_has_itself s root o form) in
     measure_falls_at_keep s f.key.cell b.key.cell (left (λ j. 1) m.found (demand s root)) (left (λ j. 1) n.found (demand s root)) (one_less_left m.found n.found (case_at f.key) (demand s root) here i.begun.unfound top)
 
 -- ---- the end
 
-pub run_evaluations : (s : Sheet) (old m : Memory) (root : Case) (start now next : Counts) (fs : List Frame) (f : Frame) → IsRunning s old m root start now fs f → next.evaluations ≤ now.evaluations + 1 →
+pub run_evaluations : (s : Sheet) (old m : MemoState) (root : Case) (start now next : Counts) (fs : List Frame) (f : Frame) → IsRunning s old m root start now fs f → next.evaluations ≤ now.evaluations + 1 →
     CountsAtMost s (λ ks. Contains ks root) (λ k. 1) old.found start.evaluations next.evaluations
 run_evaluations s old m root start now next fs f i l = λ ks closed top. budget_kept (λ k. 1) (λ g. 1) m.found ks fs f now.evaluations next.evaluations _ (i.evaluations ks closed top) l
 
-pub run_restarts : (s : Sheet) (old m : Memory) (root : Case) (start now next : Counts) (fs : List Frame) (f : Frame) → IsRunning s old m root start now fs f → next.restarts ≤ now.restarts + spare s f →
+pub run_restarts : (s : Sheet) (old m : MemoState) (root : Case) (start now next : Counts) (fs : List Frame) (f : Frame) → IsRunning s old m root start now fs f → next.restarts ≤ now.restarts + spare s f →
     CountsAtMost s (λ ks. Contains ks root) (wants s) old.found start.restarts next.restarts
 run_restarts s old m root start now next fs f i l = λ ks closed top. budget_kept (wants s) (spare s) m.found ks fs f now.restarts next.restarts _ (i.restarts ks closed top) l
 
 -- the value of the lowest frame is the root's
-pub run_value : (s : Sheet) (old m : Memory) (k : Key) (start now : Counts) (fs : List Frame) (f : Frame) (v : Value) → IsRunning s old m (case_at k) start now fs f → fs ≡ [] → v ≡ cell_value (put_all s f.key.world) f.key.cell →
+pub run_value : (s : Sheet) (old m : MemoState) (k : Key) (start now : Counts) (fs : List Frame) (f : Frame) (v : Value) → IsRunning s old m (case_at k) start now fs f → fs ≡ [] → v ≡ cell_value (put_all s f.key.world) f.key.cell →
     v ≡ cell_value (put_all s k.world) k.cell
 run_value s old m k start now fs f v i e is =
     let bottom : case_at f.key ≡ case_at k = rw e at i.bottom in
     is ∙ ap (λ (j : Case). cell_value (put_all s j.1) j.0) bottom
 
-pub end_evaluations : (s : Sheet) (old m a n : Memory) (root : Case) (start now next : Counts) (fs : List Frame) (f : Frame) (k : Key) → IsRunning s old m root start now fs f → a ≡ m → fs ≡ [] → k ≡ f.key → Finds a n k →
+pub end_evaluations : (s : Sheet) (old m a n : MemoState) (root : Case) (start now next : Counts) (fs : List Frame) (f : Frame) (k : Key) → IsRunning s old m root start now fs f → a ≡ m → fs ≡ [] → k ≡ f.key → Finds a n k →
     next.evaluations ≡ one_more now.evaluations → CountsFound s (λ ks. Contains ks root) (λ j. 1) old.found n.found start.evaluations next.evaluations
 end_evaluations s old m a n root start now next fs f k i ea e ek finds ev = λ ks closed top.
-    let alone = subst (λ (xs : List Frame). IsRunning s old a root start now xs f) e (subst (λ (y : Memory). IsRunning s old y root start now fs f) (sym ea) i) in
+    let alone = subst (λ (xs : List Frame). IsRunning s old a root start now xs f) e (subst (λ (y : MemoState). IsRunning s old y root start now fs f) (sym ea) i) in
     budget_end (λ j. 1) (λ g. 1) a.found ks n.found f now.evaluations next.evaluations _ (finds_key a n k f.key ek finds) (alone.evaluations ks closed top) (one_more_at_most now.evaluations next.evaluations ev)
 
-pub end_restarts : (s : Sheet) (old m a n : Memory) (root : Case) (start now next : Counts) (fs : List Frame) (f : Frame) (k : Key) → IsRunning s old m root start now fs f → a ≡ m → fs ≡ [] → k ≡ f.key → Finds a n k →
+pub end_restarts : (s : Sheet) (old m a n : MemoState) (root : Case) (start now next : Counts) (fs : List Frame) (f : Frame) (k : Key) → IsRunning s old m root start now fs f → a ≡ m → fs ≡ [] → k ≡ f.key → Finds a n k →
     next.restarts ≤ now.restarts + spare s f → CountsFound s (λ ks. Contains ks root) (wants s) old.found n.found start.restarts next.restarts
 end_restarts s old m a n root start now next fs f k i ea e ek finds re = λ ks closed top.
-    let alone = subst (λ (xs : List Frame). IsRunning s old a root start now xs f) e (subst (λ (y : Memory). IsRunning s old y root start now fs f) (sym ea) i) in
+    let alone = subst (λ (xs : List Frame). IsRunning s old a root start now xs f) e (subst (λ (y : MemoState). IsRunning s old y root start now fs f) (sym ea) i) in
     budget_end (wants s) (spare s) a.found ks n.found f now.restarts next.restarts _ (finds_key a n k f.key ek finds) (alone.restarts ks closed top) re
 
 -- ---- a cell under any replacements
 
 -- a value under the key of a cell is the cell's
-pub unvalued_value : (s : Sheet) (m : Memory) (w : List Replacement) (a : ℕ) (k : Key) (v : Value) → IsUnvalued s m w a k → v ≡ cell_value (put_all s k.world) k.cell → v ≡ cell_value (put_all s w) a
+pub unvalued_value : (s : Sheet) (m : MemoState) (w : List Replacement) (a : ℕ) (k : Key) (v : Value) → IsUnvalued s m w a k → v ≡ cell_value (put_all s k.world) k.cell → v ≡ cell_value (put_all s w) a
 unvalued_value s m w a k v u is = is ∙ ap (λ (x : List Replacement). cell_value (put_all s x) k.cell) u.world ∙ ap (cell_value (put_all s (reaching s a w))) u.cell ∙ reaching_suffices s w a
 
-unvalued_in : (s : Sheet) (m : Memory) (w : List Replacement) (a : ℕ) (k : Key) (ks : List Case) → IsUnvalued s m w a k → (has_formula (content_of (put_all s w) a) ≡ true → Contains ks (case_of s w a)) → Contains ks (case_at k)
+unvalued_in : (s : Sheet) (m : MemoState) (w : List Replacement) (a : ℕ) (k : Key) (ks : List Case) → IsUnvalued s m w a k → (has_formula (content_of (put_all s w) a) ≡ true → Contains ks (case_of s w a)) → Contains ks (case_at k)
 unvalued_in s m w a k ks u h = subst (λ (j : Case). Contains ks j) (key_path k.cell a k.world (reaching s a w) u.cell u.world) (h u.formula)
 
-module _ (s : Sheet) (m : Memory) (w : List Replacement) (a : ℕ) (weight : Case → ℕ) (before after : ℕ) where
-  pub under_at_most : (n : Memory) (k : Key) → n ≡ m → IsUnvalued s m w a k → CountsAtMost s (λ ks. Contains ks (case_at k)) weight n.found before after → CountsAtMost s (HasCase s w a) weight m.found before after
+module _ (s : Sheet) (m : MemoState) (w : List Replacement) (a : ℕ) (weight : Case → ℕ) (before after : ℕ) where
+  pub under_at_most : (n : MemoState) (k : Key) → n ≡ m → IsUnvalued s m w a k → CountsAtMost s (λ ks. Contains ks (case_at k)) weight n.found before after → CountsAtMost s (HasCase s w a) weight m.found before after
   under_at_most n k e u h = λ ks closed top.
       let here = rw e at (h ks closed (unvalued_in s m w a k ks u top)) in
       here
 
-  pub under_found : (n l : Memory) (k : Key) → n ≡ m → IsUnvalued s m w a k → CountsFound s (λ ks. Contains ks (case_at k)) weight n.found l.found before after → CountsFound s (HasCase s w a) weight m.found l.found before after
+  pub under_found : (n l : MemoState) (k : Key) → n ≡ m → IsUnvalued s m w a k → CountsFound s (λ ks. Contains ks (case_at k)) weight n.found l.found before after → CountsFound s (HasCase s w a) weight m.found l.found before after
   under_found n l k e u h = λ ks closed top.
       let here = rw e at (h ks closed (unvalued_in s m w a k ks u top)) in
       here
 
 -- where nothing is counted and nothing found
-pub none_at_most : (s : Sheet) (Has : List Case → Type 0) (weight : Case → ℕ) (m : Memory) (n : ℕ) → CountsAtMost s Has weight m.found n n
+pub none_at_most : (s : Sheet) (Has : List Case → Type 0) (weight : Case → ℕ) (m : MemoState) (n : ℕ) → CountsAtMost s Has weight m.found n n
 none_at_most s Has weight m n = λ ks closed top. omega arith
 
-pub none_found : (s : Sheet) (Has : List Case → Type 0) (weight : Case → ℕ) (m l : Memory) (n : ℕ) → l ≡ m → CountsFound s Has weight m.found l.found n n
+pub none_found : (s : Sheet) (Has : List Case → Type 0) (weight : Case → ℕ) (m l : MemoState) (n : ℕ) → l ≡ m → CountsFound s Has weight m.found l.found n n
 none_found s Has weight m l n e = λ ks closed top. rw e (omega arith)

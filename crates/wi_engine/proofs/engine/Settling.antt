@@ -22,7 +22,7 @@ use Rattle.wi_sheet.specs.Demand.{Case, with_what_if}
 use Rattle.wi_sheet.proofs.Bounds.{put_formula}
 use Rattle.wi_sheet.proofs.Overrides.{with_what_if_value}
 use Rattle.wi_sheet.proofs.Asked.{asked_cell}
-use Rattle.wi_engine.specs.Inner.Memory.{Memory, IsMemoryOf}
+use Rattle.wi_engine.specs.Inner.MemoState.{MemoState, IsMemoOf}
 use Rattle.wi_engine.specs.Inner.Answers.{AsksAt, IsLacking, lacks_cell}
 use Rattle.wi_engine.specs.Inner.Findings.{IsWithCell, IsWithWhatIf, pairs_of, cell_found}
 use Rattle.wi_engine.specs.Inner.Frames.{case_at, content_reads_here, MayBeRead, IsToValue, IsUnvalued, IsNext, IsFrame, AreReadHere, Awaits, lacks, spare, waits}
@@ -54,15 +54,15 @@ two_steps a b c h k = omega (arith, h, k)
 
 -- ---- cells
 
-pub may_read_here : (s : Sheet) (m n : Memory) (k : Key) (a : ℕ) → IsMemoryOf s m → n ≡ m → IsToValue s m k → content_reads_here (content_of (put_all s k.world) k.cell) a ≡ true → MayBeRead s n a
+pub may_read_here : (s : Sheet) (m n : MemoState) (k : Key) (a : ℕ) → IsMemoOf s m → n ≡ m → IsToValue s m k → content_reads_here (content_of (put_all s k.world) k.cell) a ≡ true → MayBeRead s n a
 may_read_here s m n k a h en key r = rw en (may_be_read s m k.cell a h key.open_cell key.covered (here_in_sheet s (case_at k) a r))
 
-pub next_here : (s : Sheet) (m n : Memory) (k below j : Key) (a : ℕ) → n ≡ m → k ≡ below → IsUnvalued s n k.world a j → content_reads_here (content_of (put_all s k.world) k.cell) a ≡ true → IsNext s m below j
+pub next_here : (s : Sheet) (m n : MemoState) (k below j : Key) (a : ℕ) → n ≡ m → k ≡ below → IsUnvalued s n k.world a j → content_reads_here (content_of (put_all s k.world) k.cell) a ≡ true → IsNext s m below j
 next_here s m n k below j a en e u r =
     let same = rw en at u in
     subst (λ (b : Key). IsNext s m b j) e (next_cell s m k j a same r)
 
-pub cell_found_frame : (s : Sheet) (m : Memory) (f g : Frame) (a : ℕ) (v : Value) → IsFrame s m f → g.key ≡ f.key → g.waiting ≡ Nothing → IsWithCell f.found g.found a v → v ≡ cell_value (put_all s f.key.world) a → IsFrame s m g
+pub cell_found_frame : (s : Sheet) (m : MemoState) (f g : Frame) (a : ℕ) (v : Value) → IsFrame s m f → g.key ≡ f.key → g.waiting ≡ Nothing → IsWithCell f.found g.found a v → v ≡ cell_value (put_all s f.key.world) a → IsFrame s m g
 cell_found_frame s m f g a v h e n more is =
     frame_with s m f g h e (right_cell (cell_value (put_all s f.key.world)) (what_if_value (put_all s f.key.world)) f.found g.found a v more is h.found) (rw n tt)
 
@@ -78,7 +78,7 @@ lacks_less s k f g a v others more h =
 
 -- ---- a what-if
 
-pub may_read_what_if : (s : Sheet) (m n : Memory) (k : Key) (f : ℕ) (pairs : Vec Pair) → IsMemoryOf s m → n ≡ m → IsToValue s m k → AsksAt s k.world k.cell (wanted.WhatIf f pairs) → MayBeRead s n f
+pub may_read_what_if : (s : Sheet) (m n : MemoState) (k : Key) (f : ℕ) (pairs : Vec Pair) → IsMemoOf s m → n ≡ m → IsToValue s m k → AsksAt s k.world k.cell (wanted.WhatIf f pairs) → MayBeRead s n f
 may_read_what_if s m n k f pairs h en key asks = rw en (may_be_read s m k.cell f h key.open_cell key.covered (what_if_in_sheet s (case_at k) f pairs asks))
 
 found_at : (ps : List Pair) (i : ℕ) (d : Pair) → i < length ps → list_any (λ p. p.1.at == (get_or ps i d).replacement.at) (map pair_of ps) ≡ true
@@ -86,18 +86,18 @@ found_at [] i d h = absurd (omega arith)
 found_at (p ∷ ps) zero d h = or_left (p.replacement.at == p.replacement.at) _ (eq-eqb p.replacement.at p.replacement.at refl)
 found_at (p ∷ ps) (suc i) d h = or_right (p.replacement.at == (get_or ps i d).replacement.at) _ (found_at ps i d (omega arith))
 
-pub may_read_inputs : (s : Sheet) (m : Memory) (k : Key) (f : ℕ) (pairs : Vec Pair) (ps : List Pair) → IsMemoryOf s m → IsToValue s m k → AsksAt s k.world k.cell (wanted.WhatIf f pairs) → ps ≡ pairs.items →
+pub may_read_inputs : (s : Sheet) (m : MemoState) (k : Key) (f : ℕ) (pairs : Vec Pair) (ps : List Pair) → IsMemoOf s m → IsToValue s m k → AsksAt s k.world k.cell (wanted.WhatIf f pairs) → ps ≡ pairs.items →
     All (λ p. MayBeRead s m p.replacement.at) ps
 may_read_inputs s m k f pairs ps h key asks e = λ i d l.
     let here = replacing_reads s (case_at k) f pairs (get_or ps i d).replacement.at asks (ap (λ (qs : List Pair). list_any (λ p. p.1.at == (get_or ps i d).replacement.at) (map pair_of qs)) (sym e) ∙ found_at ps i d l) in
     may_be_read s m k.cell (get_or ps i d).replacement.at h key.open_cell key.covered (here_in_sheet s (case_at k) (get_or ps i d).replacement.at here)
 
-pub next_input : (s : Sheet) (m : Memory) (below j : Key) (f : ℕ) (pairs : Vec Pair) (ps : List Pair) → AsksAt s below.world below.cell (wanted.WhatIf f pairs) → ps ≡ pairs.items →
+pub next_input : (s : Sheet) (m : MemoState) (below j : Key) (f : ℕ) (pairs : Vec Pair) (ps : List Pair) → AsksAt s below.world below.cell (wanted.WhatIf f pairs) → ps ≡ pairs.items →
     (list_any (λ p. p.1.at == j.cell) (map pair_of ps) ≡ true) × IsUnvalued s m below.world j.cell j → IsNext s m below j
 next_input s m below j f pairs ps asks e u =
     next_cell s m below j j.cell u.1 (replacing_reads s (case_at below) f pairs j.cell asks (ap (λ (qs : List Pair). list_any (λ p. p.1.at == j.cell) (map pair_of qs)) (sym e) ∙ u.0))
 
-pub next_inner : (s : Sheet) (m n : Memory) (below j : Key) (f : ℕ) (pairs : Vec Pair) (ps : List Pair) (w : List Replacement) → n ≡ m → AsksAt s below.world below.cell (wanted.WhatIf f pairs) → ps ≡ pairs.items →
+pub next_inner : (s : Sheet) (m n : MemoState) (below j : Key) (f : ℕ) (pairs : Vec Pair) (ps : List Pair) (w : List Replacement) → n ≡ m → AsksAt s below.world below.cell (wanted.WhatIf f pairs) → ps ≡ pairs.items →
     w ≡ with_what_if s below.world (map addresses (map pair_of ps)) → IsUnvalued s n w f j → IsNext s m below j
 next_inner s m n below j f pairs ps w en asks e is u =
     let same = rw en at u in
@@ -108,7 +108,7 @@ pub what_if_right : (s : Sheet) (v w : List Replacement) (f : ℕ) (pairs ps : L
 what_if_right s v w f pairs ps x o e is h =
     h ∙ ap (λ (u : List Replacement). cell_value (put_all s u) f) (is ∙ ap (λ (qs : List Pair). with_what_if s w (map addresses (map pair_of qs))) e) ∙ with_what_if_value s w f (map addresses (map pair_of pairs)) o
 
-pub what_if_found_frame : (s : Sheet) (m : Memory) (f g : Frame) (x : FoundWhatIf) → IsFrame s m f → g.key ≡ f.key → g.waiting ≡ Nothing → IsWithWhatIf f.found g.found x →
+pub what_if_found_frame : (s : Sheet) (m : MemoState) (f g : Frame) (x : FoundWhatIf) → IsFrame s m f → g.key ≡ f.key → g.waiting ≡ Nothing → IsWithWhatIf f.found g.found x →
     x.value ≡ what_if_value (put_all s f.key.world) x.at (pairs_of x) → IsFrame s m g
 what_if_found_frame s m f g x h e n more is =
     frame_with s m f g h e (right_what_if (cell_value (put_all s f.key.world)) (what_if_value (put_all s f.key.world)) f.found g.found x more is h.found) (rw n tt)

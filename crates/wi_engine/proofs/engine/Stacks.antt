@@ -10,7 +10,7 @@ use Rattle.wi_cache.specs.declared.key.Key.{Key}
 use Rattle.wi_sheet.specs.CellValue.{cell_value}
 use Rattle.wi_sheet.specs.Demand.{Case, same_case}
 use Rattle.wi_engine.specs.Inner.Rank.{rank}
-use Rattle.wi_engine.specs.Inner.Memory.{Memory, IsMemoryOf, AreKnownRight, IsClosedUnderReads}
+use Rattle.wi_engine.specs.Inner.MemoState.{MemoState, IsMemoOf, AreKnownRight, IsClosedUnderReads}
 use Rattle.wi_engine.specs.Inner.Frames.{case_at, IsFrame, IsBegun, IsNext, IsDemanded, AreBelow, IsStack, BottomIs}
 use Rattle.wi_engine.specs.declared.frame.Frame.{Frame}
 
@@ -26,13 +26,13 @@ below_front s (f ∷ fs) g n h =
     let k = below_front s fs g n h.1 in
     (k.0, (h.0, k.1))
 
-pub push_stack : (s : Sheet) (m : Memory) (root : Case) (fs : List Frame) (g : Frame) (r : ℕ) → IsStack s m root fs (rank s g.key.cell) → IsBegun s m root g → r < rank s g.key.cell → IsStack s m root (fs ++ g ∷ []) r
+pub push_stack : (s : Sheet) (m : MemoState) (root : Case) (fs : List Frame) (g : Frame) (r : ℕ) → IsStack s m root fs (rank s g.key.cell) → IsBegun s m root g → r < rank s g.key.cell → IsStack s m root (fs ++ g ∷ []) r
 push_stack s m root [] g r st b h = (b, h, tt, tt)
 push_stack s m root (f ∷ fs) g r st b h =
     let lower : r < rank s f.key.cell = omega (arith, st.1, h) in
     (st.0, lower, below_push s fs g (rank s f.key.cell) st.2 st.1, push_stack s m root fs g r st.3 b h)
 
-pub pop_stack : (s : Sheet) (m : Memory) (root : Case) (fs : List Frame) (g : Frame) (r : ℕ) → IsStack s m root (fs ++ g ∷ []) r → IsBegun s m root g × IsStack s m root fs (rank s g.key.cell)
+pub pop_stack : (s : Sheet) (m : MemoState) (root : Case) (fs : List Frame) (g : Frame) (r : ℕ) → IsStack s m root (fs ++ g ∷ []) r → IsBegun s m root g × IsStack s m root fs (rank s g.key.cell)
 pop_stack s m root [] g r st = (st.0, tt)
 pop_stack s m root (f ∷ fs) g r st =
     let k = pop_stack s m root fs g r st.3 in
@@ -58,7 +58,7 @@ other_case a b true h = grind (arith, nat_tests)
 other_case a b false h = grind (arith, nat_tests)
 
 -- what is found or kept otherwise makes no difference to a frame
-pub same_frame : (s : Sheet) (m n : Memory) (f : Frame) → n.covers ≡ m.covers → n.generation ≡ m.generation → IsFrame s m f → IsFrame s n f
+pub same_frame : (s : Sheet) (m n : MemoState) (f : Frame) → n.covers ≡ m.covers → n.generation ≡ m.generation → IsFrame s m f → IsFrame s n f
 same_frame s m n f ec eg h = record {
   key = record {
     formula = h.key.formula;
@@ -71,7 +71,7 @@ same_frame s m n f ec eg h = record {
 }
 
 -- what is found next is none of the frames below
-pub found_stack : (s : Sheet) (m n : Memory) (k : Key) (root : Case) (fs : List Frame) → n.covers ≡ m.covers → n.generation ≡ m.generation →
+pub found_stack : (s : Sheet) (m n : MemoState) (k : Key) (root : Case) (fs : List Frame) → n.covers ≡ m.covers → n.generation ≡ m.generation →
     ((c : ℕ) (w : List Replacement) → n.found c w ≡ (m.found c w || same_case (case_at k) (c, w))) → IsStack s m root fs (rank s k.cell) → IsStack s n root fs (rank s k.cell)
 found_stack s m n k root [] ec eg e st = tt
 found_stack s m n k root (f ∷ fs) ec eg e st =
@@ -100,9 +100,9 @@ right_kept s known after k v e h r = λ c w. at c w (after c w) (e c w)
     at c w None g = tt
     at c w (Some x) g = of c w x g
 
-pub kept_memory : (s : Sheet) (m n : Memory) (k : Key) (v : Value) → IsMemoryOf s m → n.sheet ≡ m.sheet → n.covers ≡ m.covers →
-    ((c : ℕ) (w : List Replacement) → IfSome (n.known c w) (λ x. (m.known c w ≡ Some x) ⊎ ((c ≡ k.cell) × (w ≡ k.world) × (x ≡ v)))) → v ≡ cell_value (put_all s k.world) k.cell → IsMemoryOf s n
-kept_memory s m n k v h es ec e is = record {
+pub kept_state : (s : Sheet) (m n : MemoState) (k : Key) (v : Value) → IsMemoOf s m → n.sheet ≡ m.sheet → n.covers ≡ m.covers →
+    ((c : ℕ) (w : List Replacement) → IfSome (n.known c w) (λ x. (m.known c w ≡ Some x) ⊎ ((c ≡ k.cell) × (w ≡ k.world) × (x ≡ v)))) → v ≡ cell_value (put_all s k.world) k.cell → IsMemoOf s n
+kept_state s m n k v h es ec e is = record {
   sheet = es ∙ h.sheet;
   right = right_kept s m.known n.known k v e is h.right;
   closed = subst (λ (covers : ℕ → Bool). IsClosedUnderReads s covers) (sym ec) h.closed;
@@ -110,14 +110,14 @@ kept_memory s m n k v h es ec e is = record {
 
 -- ---- a new frame, and the same frame with more values
 
-pub begun_next : (s : Sheet) (m : Memory) (root : Case) (below : Frame) (k : Key) (f : Frame) → IsDemanded s root (case_at below.key) → IsNext s m below.key k → f.key ≡ k → IsFrame s m f → IsBegun s m root f
+pub begun_next : (s : Sheet) (m : MemoState) (root : Case) (below : Frame) (k : Key) (f : Frame) → IsDemanded s root (case_at below.key) → IsNext s m below.key k → f.key ≡ k → IsFrame s m f → IsBegun s m root f
 begun_next s m root below k f d n e h = record {
   frame = h;
   unfound = rw e n.unfound;
   demanded = λ ks closed top. subst (λ (j : Key). Contains ks (case_at j)) (sym e) (closed (case_at below.key) (case_at k) (d ks closed top) n.rests);
 }
 
-pub same_begun : (s : Sheet) (m : Memory) (root : Case) (f g : Frame) → g.key ≡ f.key → IsFrame s m g → IsBegun s m root f → IsBegun s m root g
+pub same_begun : (s : Sheet) (m : MemoState) (root : Case) (f g : Frame) → g.key ≡ f.key → IsFrame s m g → IsBegun s m root f → IsBegun s m root g
 same_begun s m root f g e h b = record {
   frame = h;
   unfound = rw e b.unfound;

@@ -12,9 +12,9 @@ use Rattle.wi_cache.proofs.Keys.{same_key_Decides}
 use Rattle.wi_graph.specs.Reach.{is_one_of}
 use Rattle.wi_graph.proofs.Walks.{same_cell}
 use Rattle.wi_sheet.specs.CellValue.{cell_value}
-use Rattle.wi_engine.specs.Inner.Memory.{IsClosedUnderReads, IsMemoryOf}
+use Rattle.wi_engine.specs.Inner.MemoState.{IsClosedUnderReads, IsMemoOf}
 use Rattle.wi_engine.specs.Inner.ReadOrder.{IsReadOrder}
-use Rattle.wi_engine.specs.Inner.Remembered.{key_of, memory_of, remembered}
+use Rattle.wi_engine.specs.Inner.Remembered.{key_of, state_of, remembered}
 
 -- a list, cut before one of its cells
 cut_before : (xs : List ℕ) (c : ℕ) → is_one_of xs c ≡ true → (front back : List ℕ) × (xs ≡ front ++ c ∷ back)
@@ -33,8 +33,8 @@ closed_order s order o c d m r f =
     ap (λ (xs : List ℕ). is_one_of xs d) k.2 ∙ list_any-append (λ (x : ℕ). x == d) k.0 (c ∷ k.1) ∙ or_left (is_one_of k.0 d) _ before
 
 -- nothing is remembered yet
-pub no_memory : (s : Sheet) (order : List ℕ) (values : Entries) → IsReadOrder s order → values ≡ [] → IsMemoryOf s (memory_of (remembered s order values))
-no_memory s order values o e = record {
+pub no_values : (s : Sheet) (order : List ℕ) (values : Entries) → IsReadOrder s order → values ≡ [] → IsMemoOf s (state_of (remembered s order values))
+no_values s order values o e = record {
   sheet = refl;
   right = λ c w. subst (λ (es : Entries). IfSome (value_for es (key_of c w)) (λ v. v ≡ cell_value (put_all s w) c)) (sym e) tt;
   closed = closed_order s order o;

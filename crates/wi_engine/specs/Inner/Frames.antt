@@ -11,7 +11,7 @@ use Rattle.wi_sheet.specs.CellValue.{cell_value, what_if_value}
 use Rattle.wi_sheet.specs.Demand.{Case, same_case, reaching, reads_here, of_formula}
 use Rattle.wi_sheet.specs.Inner.Spending.{RestsOn, IsClosed, left}
 use Rattle.wi_engine.specs.Inner.Rank.{rank}
-use Rattle.wi_engine.specs.Inner.Memory.{Memory}
+use Rattle.wi_engine.specs.Inner.MemoState.{MemoState}
 use Rattle.wi_engine.specs.Inner.Findings.{AreAllRight}
 use Rattle.wi_engine.specs.Inner.Answers.{AsksAt, IsLacking, lacking}
 use Rattle.wi_engine.specs.declared.findings.Findings.{Findings}
@@ -24,19 +24,19 @@ abbrev pub case_at : Key → Case
 case_at k = (k.cell, k.world)
 
 -- a cell that may be valued: it is not circular, and keys are made for it if it has a formula
-pub record MayBeRead (s : Sheet) (m : Memory) (a : ℕ) : Type 0 where
+pub record MayBeRead (s : Sheet) (m : MemoState) (a : ℕ) : Type 0 where
   pub open_cell : circular s a ≡ false
   pub covered : has_formula (content_of s a) ≡ true → m.covers a ≡ true
 
 -- a key for a formula under replacements
-pub record IsToValue (s : Sheet) (m : Memory) (k : Key) : Type 0 where
+pub record IsToValue (s : Sheet) (m : MemoState) (k : Key) : Type 0 where
   pub formula : has_formula (content_of (put_all s k.world) k.cell) ≡ true
   pub open_cell : circular s k.cell ≡ false
   pub covered : m.covers k.cell ≡ true
   pub generation : k.generation ≡ m.generation k.cell
 
 -- the key of a cell under replacements, whose formula has to be valued
-pub record IsUnvalued (s : Sheet) (m : Memory) (w : List Replacement) (a : ℕ) (k : Key) : Type 0 where
+pub record IsUnvalued (s : Sheet) (m : MemoState) (w : List Replacement) (a : ℕ) (k : Key) : Type 0 where
   pub formula : has_formula (content_of (put_all s w) a) ≡ true
   pub cell : k.cell ≡ a
   pub world : k.world ≡ reaching s a w
@@ -59,13 +59,13 @@ Awaits s k f (Cells a others) =
 Awaits s k f (WhatIf a pairs) = IsLacking s k.1 f (want.TheVariants.WhatIf a pairs) × AsksAt s k.1 k.0 (want.TheVariants.WhatIf a pairs)
 
 -- what is so of a frame by itself
-pub record IsFrame (s : Sheet) (m : Memory) (f : Frame) : Type 0 where
+pub record IsFrame (s : Sheet) (m : MemoState) (f : Frame) : Type 0 where
   pub key : IsToValue s m f.key
   pub found : AreAllRight (cell_value (put_all s f.key.world)) (what_if_value (put_all s f.key.world)) f.found
   pub waiting : Awaits s (case_at f.key) f.found f.waiting
 
 -- a key whose value has to be found before a frame's
-pub record IsNext (s : Sheet) (m : Memory) (below k : Key) : Type 0 where
+pub record IsNext (s : Sheet) (m : MemoState) (below k : Key) : Type 0 where
   pub rests : RestsOn s (case_at below) (case_at k)
   pub key : IsToValue s m k
   pub unfound : m.found k.cell k.world ≡ false
@@ -93,7 +93,7 @@ abbrev pub IsDemanded : Sheet → Case → Case → Type 0
 IsDemanded s root k = (ks : List Case) → IsClosed s ks → Contains ks root → Contains ks k
 
 -- what is so of a frame that was begun for the root
-pub record IsBegun (s : Sheet) (m : Memory) (root : Case) (f : Frame) : Type 0 where
+pub record IsBegun (s : Sheet) (m : MemoState) (root : Case) (f : Frame) : Type 0 where
   pub frame : IsFrame s m f
   pub unfound : m.found f.key.cell f.key.world ≡ false
   pub demanded : IsDemanded s root (case_at f.key)
@@ -104,7 +104,7 @@ AreBelow s [] n = Unit {0}
 AreBelow s (f ∷ fs) n = (rank s f.key.cell < n) × AreBelow s fs n
 
 -- the frames below one of rank r, the lowest first: ranks fall from each to those above it
-abbrev pub IsStack : Sheet → Memory → Case → List Frame → ℕ → Type 0
+abbrev pub IsStack : Sheet → MemoState → Case → List Frame → ℕ → Type 0
 IsStack s m root [] r = Unit {0}
 IsStack s m root (f ∷ fs) r = IsBegun s m root f × (r < rank s f.key.cell) × AreBelow s fs (rank s f.key.cell) × IsStack s m root fs r
 

@@ -8,7 +8,7 @@ use Rattle.wi_parser.specs.Sheet.{Sheet}
 use Rattle.wi_cache.specs.declared.key.Key.{Key}
 use Rattle.wi_cache.specs.Entries.{Entries, value_for}
 use Rattle.wi_graph.specs.Reach.{is_one_of, reaches}
-use Rattle.wi_engine.specs.Inner.Memory.{Memory}
+use Rattle.wi_engine.specs.Inner.MemoState.{MemoState}
 
 -- a sheet, some of its cells, and the values found of these
 pub record OneQuestion : Type 0 where
@@ -23,8 +23,8 @@ remembered s cells values = record { sheet = s; cells = cells; values = values }
 abbrev pub key_of : ℕ → List Replacement → Key
 key_of c w = record { cell = c; generation = 0; world = w }
 
-abbrev pub memory_of : OneQuestion → Memory
-memory_of q = record {
+abbrev pub state_of : OneQuestion → MemoState
+state_of q = record {
   sheet = q.sheet;
   covers = is_one_of q.cells;
   generation = λ c. 0;

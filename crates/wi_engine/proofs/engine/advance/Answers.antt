@@ -28,7 +28,7 @@ rounds-smaller g c =
 pub rounds-preserved : goal.rounds-preserved
 rounds-preserved g c =
     let s = c.args.store.now.sheet in
-    let m = g.M.Memo.memory c.args.memo.now in
+    let m = g.M.Memo.state c.args.memo.now in
     let i = c.rounds.invariant in
     let f = c.settle.new.frame in
     let w = c.in_ok-frame-in-Needs.field-0 in

@@ -6,11 +6,11 @@ use Rattle.wi_engine.proofs.engine.advance.Given as goal
 abbrev pub invariant-rounds : goal.invariant-rounds
 invariant-rounds g l = record {
   key : l.frame.key ≡ l.fn.frame.key;
-  frame : IsFrame l.store.sheet (g.M.Memo.memory l.fn.memo) l.frame;
+  frame : IsFrame l.store.sheet (g.M.Memo.state l.fn.memo) l.frame;
   evaluations : l.meter.evaluations ≡ l.fn.meter.evaluations;
   counts : NeverFall l.fn.meter l.meter;
   restarts : l.meter.restarts + spare l.store.sheet l.frame ≤ l.fn.meter.restarts + spare l.store.sheet l.fn.frame;
-  same : g.M.Memo.memory l.memo ≡ g.M.Memo.memory l.fn.memo;
+  same : g.M.Memo.state l.memo ≡ g.M.Memo.state l.fn.memo;
 }
 
 -- how often the formula may still be evaluated again

@@ -15,7 +15,7 @@ loop-pair-preserved g c = grind (arith, common_steps)
 pub returns-in-Unknown-clause-unknown : goal.returns-in-Unknown-clause-unknown
 returns-in-Unknown-clause-unknown g c =
     let unknown = rw c.in-Unknown.is at c.in_ok-value.ensures.unknown in
-    input_unvalued c.args.store.now.sheet (g.M.Memo.memory c.args.memo.now) (g.M.Memo.memory c.loop-pair.memo) c.args.world.now c.args.pairs.now c.loop-pair.pair-index c.pair-item.result c.in-Unknown.key
+    input_unvalued c.args.store.now.sheet (g.M.Memo.state c.args.memo.now) (g.M.Memo.state c.loop-pair.memo) c.args.world.now c.args.pairs.now c.loop-pair.pair-index c.pair-item.result c.in-Unknown.key
     c.loop-pair-test.true c.pair-item.is c.loop-pair.invariant.same unknown
 
 pub returns-clause-known : goal.returns-clause-known

@@ -8,5 +8,5 @@ use Rattle.wi_engine.proofs.engine.replaced.Given as goal
 abbrev pub invariant-loop-pair : goal.invariant-loop-pair
 invariant-loop-pair g l = record {
   inputs : l.inputs.items ≡ replacements (cell_value (put_all l.store.sheet l.world)) (map addresses (map pair_of (take l.pair-index l.pairs)));
-  same : g.M.Memo.memory l.memo ≡ g.M.Memo.memory l.fn.memo;
+  same : g.M.Memo.state l.memo ≡ g.M.Memo.state l.fn.memo;
 }

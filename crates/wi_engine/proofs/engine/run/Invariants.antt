@@ -8,10 +8,10 @@ use Rattle.wi_engine.proofs.engine.Running.{IsRunning}
 use Rattle.wi_engine.proofs.engine.run.Given as goal
 
 abbrev pub invariant-frames : goal.invariant-frames
-invariant-frames g l = IsRunning l.store.sheet (g.M.Memo.memory l.fn.memo) (g.M.Memo.memory l.memo) (case_at l.fn.key) l.fn.meter l.meter l.stack.items l.frame
+invariant-frames g l = IsRunning l.store.sheet (g.M.Memo.state l.fn.memo) (g.M.Memo.state l.memo) (case_at l.fn.key) l.fn.meter l.meter l.stack.items l.frame
 
 -- the cases of the demand that are not found, and the rank of the frame at the top
 abbrev pub decreases-frames : goal.decreases-frames
 decreases-frames g l =
-    left (λ k. 1) (g.M.Memo.memory l.memo).found (demand l.store.sheet (case_at l.fn.key)) * (length (cells_with_formula l.store.sheet) + 2)
+    left (λ k. 1) (g.M.Memo.state l.memo).found (demand l.store.sheet (case_at l.fn.key)) * (length (cells_with_formula l.store.sheet) + 2)
     + rank l.store.sheet l.frame.key.cell

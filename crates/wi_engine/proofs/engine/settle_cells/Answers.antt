@@ -8,13 +8,13 @@ use Rattle.wi_engine.proofs.engine.settle_cells.Goals as goal
 pub value_now-requires-clause-read : goal.value_now-requires-clause-read
 value_now-requires-clause-read g c =
     let i = c.cells.invariant in
-    may_read_here c.args.store.now.sheet (g.M.Memo.memory c.args.memo.now) (g.M.Memo.memory c.cells.memo) c.cells.frame.key c.cells.at c.requires.memory i.same i.frame.key i.awaits.1
+    may_read_here c.args.store.now.sheet (g.M.Memo.state c.args.memo.now) (g.M.Memo.state c.cells.memo) c.cells.frame.key c.cells.at c.requires.memo i.same i.frame.key i.awaits.1
 
 pub returns-in-Unknown-clause-next : goal.returns-in-Unknown-clause-next
 returns-in-Unknown-clause-next g c =
     let i = c.cells.invariant in
     let unknown = rw c.in-Unknown.is at c.in_ok-value.ensures.unknown in
-    next_here c.args.store.now.sheet (g.M.Memo.memory c.args.memo.now) (g.M.Memo.memory c.cells.memo) c.cells.frame.key c.args.frame.now.key c.in-Unknown.key c.cells.at i.same i.key unknown i.awaits.1
+    next_here c.args.store.now.sheet (g.M.Memo.state c.args.memo.now) (g.M.Memo.state c.cells.memo) c.cells.frame.key c.args.frame.now.key c.in-Unknown.key c.cells.at i.same i.key unknown i.awaits.1
 
 pub returns-in-Unknown-clause-spare : goal.returns-in-Unknown-clause-spare
 returns-in-Unknown-clause-spare g c =
@@ -34,7 +34,7 @@ cells-preserved g c =
     record {
       key = i.key;
       nothing = i.nothing;
-      frame = cell_found_frame s (g.M.Memo.memory c.args.memo.now) c.cells.frame _ c.cells.at c.in-Known.value i.frame refl i.nothing c.in_ok-add_cell-in-Known.ensures.ok known;
+      frame = cell_found_frame s (g.M.Memo.state c.args.memo.now) c.cells.frame _ c.cells.at c.in-Known.value i.frame refl i.nothing c.in_ok-add_cell-in-Known.ensures.ok known;
       awaits = awaits_next s (case_at c.cells.frame.key) c.add_cell.new.self c.in-Some.next c.next_lacking.new.cells c.in-Some.ensures.next c.in-Some.ensures.rest;
       fewer = omega (arith, less, i.fewer);
       lacked = lacked_next s c.cells.frame.key.world c.cells.frame.found c.add_cell.new.self c.cells.at c.in-Some.next c.in-Known.value c.args.others.items c.cells.others.items c.next_lacking.new.cells.items c.in_ok-add_cell-in-Known.ensures.ok i.lacked c.in-Some.ensures.passed;

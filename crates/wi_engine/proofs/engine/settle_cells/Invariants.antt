@@ -9,11 +9,11 @@ abbrev pub invariant-cells : goal.invariant-cells
 invariant-cells g l = record {
   key : l.frame.key ≡ l.fn.frame.key;
   nothing : l.frame.waiting ≡ states.Nothing;
-  frame : IsFrame l.store.sheet (g.M.Memo.memory l.fn.memo) l.frame;
+  frame : IsFrame l.store.sheet (g.M.Memo.state l.fn.memo) l.frame;
   awaits : Awaits l.store.sheet (case_at l.frame.key) l.frame.found (states.Cells l.at l.others);
   fewer : lacks l.store.sheet l.frame.key l.frame.found ≤ lacks l.store.sheet l.fn.frame.key l.fn.frame.found;
   lacked : (d : ℕ) → is_one_of l.fn.others.items d ≡ true → lacks_cell l.store.sheet l.frame.key.world l.frame.found d ≡ true → (is_one_of l.others.items d ≡ true) ⊎ (d ≡ l.at);
-  same : g.M.Memo.memory l.memo ≡ g.M.Memo.memory l.fn.memo;
+  same : g.M.Memo.state l.memo ≡ g.M.Memo.state l.fn.memo;
 }
 
 abbrev pub decreases-cells : goal.decreases-cells

@@ -7,12 +7,12 @@ use Rattle.wi_engine.proofs.engine.settle_what_if.Goals as goal
 
 pub replaced-requires-clause-read : goal.replaced-requires-clause-read
 replaced-requires-clause-read g c =
-    may_read_inputs c.args.store.now.sheet (g.M.Memo.memory c.args.memo.now) c.args.frame.now.key c.args.at c.args.pairs c.deref.result.now c.requires.memory c.requires.frame.key c.requires.awaits.1 c.deref.ensures.value
+    may_read_inputs c.args.store.now.sheet (g.M.Memo.state c.args.memo.now) c.args.frame.now.key c.args.at c.args.pairs c.deref.result.now c.requires.memo c.requires.frame.key c.requires.awaits.1 c.deref.ensures.value
 
 pub returns-in-Unknown-clause-next : goal.returns-in-Unknown-clause-next
 returns-in-Unknown-clause-next g c =
     let unknown = rw c.in-Unknown.is at c.in_ok-key.ensures.unknown in
-    next_input c.args.store.now.sheet (g.M.Memo.memory c.args.memo.now) c.args.frame.now.key c.in-Unknown.key c.args.at c.args.pairs c.deref.result.now c.requires.awaits.1 c.deref.ensures.value unknown
+    next_input c.args.store.now.sheet (g.M.Memo.state c.args.memo.now) c.args.frame.now.key c.in-Unknown.key c.args.at c.args.pairs c.deref.result.now c.requires.awaits.1 c.deref.ensures.value unknown
 
 pub returns-in-Unknown-clause-spare : goal.returns-in-Unknown-clause-spare
 returns-in-Unknown-clause-spare g c =
@@ -20,13 +20,13 @@ returns-in-Unknown-clause-spare g c =
 
 pub value_now-requires-clause-read : goal.value_now-requires-clause-read
 value_now-requires-clause-read g c =
-    may_read_what_if c.args.store.now.sheet (g.M.Memo.memory c.args.memo.now) (g.M.Memo.memory c.replaced.new.memo) c.args.frame.now.key c.args.at c.args.pairs c.requires.memory c.in_ok-key.ensures.same c.requires.frame.key c.requires.awaits.1
+    may_read_what_if c.args.store.now.sheet (g.M.Memo.state c.args.memo.now) (g.M.Memo.state c.replaced.new.memo) c.args.frame.now.key c.args.at c.args.pairs c.requires.memo c.in_ok-key.ensures.same c.requires.frame.key c.requires.awaits.1
 
 pub returns-in-Unknown-2-clause-next : goal.returns-in-Unknown-2-clause-next
 returns-in-Unknown-2-clause-next g c =
     let world = rw c.in-Known.is at c.in_ok-key.ensures.known in
     let unknown = rw c.in-Unknown-2.is at c.in_ok-key-in-Known.ensures.unknown in
-    next_inner c.args.store.now.sheet (g.M.Memo.memory c.args.memo.now) (g.M.Memo.memory c.replaced.new.memo) c.args.frame.now.key c.in-Unknown-2.key c.args.at c.args.pairs c.deref.result.now _
+    next_inner c.args.store.now.sheet (g.M.Memo.state c.args.memo.now) (g.M.Memo.state c.replaced.new.memo) c.args.frame.now.key c.in-Unknown-2.key c.args.at c.args.pairs c.deref.result.now _
     c.in_ok-key.ensures.same c.requires.awaits.1 c.deref.ensures.value world unknown
 
 pub returns-in-Unknown-2-clause-spare : goal.returns-in-Unknown-2-clause-spare
@@ -40,7 +40,7 @@ returns-clause-frame g c =
     let world = rw c.in-Known.is at c.in_ok-key.ensures.known in
     let known = rw c.in-Known-2.is at c.in_ok-key-in-Known.ensures.known in
     let x : FoundWhatIf = record { at = c.args.at; pairs = c.args.pairs; value = c.in-Known-2.value } in
-    what_if_found_frame s (g.M.Memo.memory c.args.memo.now) f _ x c.requires.frame refl c.requires.waiting c.in_ok-add_what_if-in-Known-2.ensures.ok
+    what_if_found_frame s (g.M.Memo.state c.args.memo.now) f _ x c.requires.frame refl c.requires.waiting c.in_ok-add_what_if-in-Known-2.ensures.ok
     (what_if_right s _ f.key.world c.args.at c.args.pairs.items c.deref.result.now c.in-Known-2.value c.in_ok-key.ensures.order c.deref.ensures.value world known)
 
 pub returns-clause-spare : goal.returns-clause-spare

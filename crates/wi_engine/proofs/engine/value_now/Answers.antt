@@ -19,10 +19,10 @@ pub returns-in_ok-copy-in-Some-clause-known : goal.returns-in_ok-copy-in-Some-cl
 returns-in_ok-copy-in-Some-clause-known g c =
     let k = c.in_ok-key-in-Formula.ensures in
     c.in_ok-copy-in-Some.ensures
-    ∙ known_value c.args.store.now.sheet (g.M.Memo.memory c.args.memo.now) (g.M.Memo.memory c.key.new.self) c.args.world.now c.args.at c.in_ok-key-in-Formula.key c.in-Some.value.now c.requires.memory k.same k.cell k.world c.in-Some.ensures.value
+    ∙ known_value c.args.store.now.sheet (g.M.Memo.state c.args.memo.now) (g.M.Memo.state c.key.new.self) c.args.world.now c.args.at c.in_ok-key-in-Formula.key c.in-Some.value.now c.requires.memo k.same k.cell k.world c.in-Some.ensures.value
 
 pub returns-in-None-clause-unknown : goal.returns-in-None-clause-unknown
 returns-in-None-clause-unknown g c =
     let k = c.in_ok-key-in-Formula.ensures in
-    unvalued c.args.store.now.sheet (g.M.Memo.memory c.args.memo.now) (g.M.Memo.memory c.key.new.self) c.args.world.now c.args.at c.in_ok-key-in-Formula.key c.requires.memory c.requires.read
+    unvalued c.args.store.now.sheet (g.M.Memo.state c.args.memo.now) (g.M.Memo.state c.key.new.self) c.args.world.now c.args.at c.in_ok-key-in-Formula.key c.requires.memo c.requires.read
     (ap has_formula (sym c.in-Formula.ensures)) k.same k.cell k.world k.generation (c.in-None.ensures.missing refl)

@@ -6,28 +6,28 @@ use Rattle.wi_engine.proofs.engine.value_under.Goals as goal
 pub returns-in-Unknown-clause-value : goal.returns-in-Unknown-clause-value
 returns-in-Unknown-clause-value g c =
     let u = rw c.in-Unknown.is at c.in_ok-value.ensures.unknown in
-    IfOk-weaker c.run.result _ _ (λ v h. unvalued_value c.args.store.now.sheet (g.M.Memo.memory c.args.memo.now) c.args.world.now c.args.at c.in-Unknown.key v u h) c.run.ensures.value
+    IfOk-weaker c.run.result _ _ (λ v h. unvalued_value c.args.store.now.sheet (g.M.Memo.state c.args.memo.now) c.args.world.now c.args.at c.in-Unknown.key v u h) c.run.ensures.value
 
 pub returns-in-Unknown-clause-evaluations : goal.returns-in-Unknown-clause-evaluations
 returns-in-Unknown-clause-evaluations g c =
     let u = rw c.in-Unknown.is at c.in_ok-value.ensures.unknown in
-    under_at_most c.args.store.now.sheet (g.M.Memo.memory c.args.memo.now) c.args.world.now c.args.at (λ k. 1) c.args.meter.now.evaluations c.run.new.meter.evaluations (g.M.Memo.memory c.value_now.new.memo) c.in-Unknown.key c.in_ok-value.ensures.same u c.run.ensures.evaluations
+    under_at_most c.args.store.now.sheet (g.M.Memo.state c.args.memo.now) c.args.world.now c.args.at (λ k. 1) c.args.meter.now.evaluations c.run.new.meter.evaluations (g.M.Memo.state c.value_now.new.memo) c.in-Unknown.key c.in_ok-value.ensures.same u c.run.ensures.evaluations
 
 pub returns-in-Unknown-clause-restarts : goal.returns-in-Unknown-clause-restarts
 returns-in-Unknown-clause-restarts g c =
     let u = rw c.in-Unknown.is at c.in_ok-value.ensures.unknown in
-    under_at_most c.args.store.now.sheet (g.M.Memo.memory c.args.memo.now) c.args.world.now c.args.at (wants c.args.store.now.sheet) c.args.meter.now.restarts c.run.new.meter.restarts (g.M.Memo.memory c.value_now.new.memo) c.in-Unknown.key c.in_ok-value.ensures.same u c.run.ensures.restarts
+    under_at_most c.args.store.now.sheet (g.M.Memo.state c.args.memo.now) c.args.world.now c.args.at (wants c.args.store.now.sheet) c.args.meter.now.restarts c.run.new.meter.restarts (g.M.Memo.state c.value_now.new.memo) c.in-Unknown.key c.in_ok-value.ensures.same u c.run.ensures.restarts
 
 pub returns-in-Unknown-clause-evaluations_ok : goal.returns-in-Unknown-clause-evaluations_ok
 returns-in-Unknown-clause-evaluations_ok g c =
     let u = rw c.in-Unknown.is at c.in_ok-value.ensures.unknown in
     IfOk-weaker c.run.result _ _
-    (λ v h. under_found c.args.store.now.sheet (g.M.Memo.memory c.args.memo.now) c.args.world.now c.args.at (λ k. 1) c.args.meter.now.evaluations c.run.new.meter.evaluations (g.M.Memo.memory c.value_now.new.memo) (g.M.Memo.memory c.run.new.memo) c.in-Unknown.key c.in_ok-value.ensures.same u h)
+    (λ v h. under_found c.args.store.now.sheet (g.M.Memo.state c.args.memo.now) c.args.world.now c.args.at (λ k. 1) c.args.meter.now.evaluations c.run.new.meter.evaluations (g.M.Memo.state c.value_now.new.memo) (g.M.Memo.state c.run.new.memo) c.in-Unknown.key c.in_ok-value.ensures.same u h)
     c.run.ensures.evaluations_ok
 
 pub returns-in-Unknown-clause-restarts_ok : goal.returns-in-Unknown-clause-restarts_ok
 returns-in-Unknown-clause-restarts_ok g c =
     let u = rw c.in-Unknown.is at c.in_ok-value.ensures.unknown in
     IfOk-weaker c.run.result _ _
-    (λ v h. under_found c.args.store.now.sheet (g.M.Memo.memory c.args.memo.now) c.args.world.now c.args.at (wants c.args.store.now.sheet) c.args.meter.now.restarts c.run.new.meter.restarts (g.M.Memo.memory c.value_now.new.memo) (g.M.Memo.memory c.run.new.memo) c.in-Unknown.key c.in_ok-value.ensures.same u h)
+    (λ v h. under_found c.args.store.now.sheet (g.M.Memo.state c.args.memo.now) c.args.world.now c.args.at (wants c.args.store.now.sheet) c.args.meter.now.restarts c.run.new.meter.restarts (g.M.Memo.state c.value_now.new.memo) (g.M.Memo.state c.run.new.memo) c.in-Unknown.key c.in_ok-value.ensures.same u h)
     c.run.ensures.restarts_ok

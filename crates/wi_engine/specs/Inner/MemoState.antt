@@ -6,7 +6,7 @@ use Rattle.wi_parser.specs.Sheet.{Sheet, content_of, put_all, has_formula}
 use Rattle.wi_parser.specs.Reads.{content_reads}
 use Rattle.wi_sheet.specs.CellValue.{cell_value}
 
-pub record Memory : Type 0 where
+pub record MemoState : Type 0 where
   -- the sheet whose values are remembered
   pub sheet : Sheet
   -- the cells for which keys are made
@@ -27,7 +27,7 @@ abbrev pub IsClosedUnderReads : Sheet → (ℕ → Bool) → Type 0
 IsClosedUnderReads s covers = (c d : ℕ) → covers c ≡ true → content_reads (content_of s c) d ≡ true → has_formula (content_of s d) ≡ true → covers d ≡ true
 
 -- what is remembered is so of this sheet
-pub record IsMemoryOf (s : Sheet) (m : Memory) : Type 0 where
+pub record IsMemoOf (s : Sheet) (m : MemoState) : Type 0 where
   pub sheet : m.sheet ≡ s
   pub right : AreKnownRight s m.known
   pub closed : IsClosedUnderReads s m.covers
