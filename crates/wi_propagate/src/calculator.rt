@@ -1,4 +1,4 @@
-//! What a calculator promises.
+//! What a calculator promises: values, and how much recalculation they take.
 
 ghost use Rattle.std.specs.Prelude.{◌≡◌, ◌+◌, ◌≤◌, ℕ, length, sum_by, IfOk};
 ghost use Rattle.std.specs.Option.{option_copied};
@@ -41,8 +41,11 @@ pub trait Calculator {
         ensures same { stored self.new ≡ stored self.old }
 
         // No more is evaluated than what the value demands, also where memory runs out.
-        ensures evaluations { evaluated self.new ≤ evaluated self.old + length (demanded (stored self.old).sheet put.now at) }
-        ensures restarts { restarted self.new ≤ restarted self.old + sum_by (wants (stored self.old).sheet) (demanded (stored self.old).sheet put.now at) }
+        ensures evaluations { let cases = demanded (stored self.old).sheet put.now at in
+            evaluated self.new ≤ evaluated self.old + length cases }
+        ensures restarts { let sheet = (stored self.old).sheet in
+            let cases = demanded sheet put.now at in
+            restarted self.new ≤ restarted self.old + sum_by (wants sheet) cases }
         ensures evaluations_never_fall { evaluated self.old ≤ evaluated self.new }
         ensures restarts_never_fall { restarted self.old ≤ restarted self.new };
 
@@ -56,12 +59,16 @@ pub trait Calculator {
         pairs: &[(Address, Address)],
     ) -> Result<Value, AllocError>
         requires { IsInOrder put.now }
-        ensures value { IfOk result (λ v. v ≡ table_entry (stored self.old).sheet put.now formula_cell pairs.now) }
+        ensures value { let sheet = (stored self.old).sheet in
+            IfOk result (λ v. v ≡ table_entry sheet put.now formula_cell pairs.now) }
         ensures same { stored self.new ≡ stored self.old }
 
         // No more is evaluated than what the entry demands, also where memory runs out.
-        ensures evaluations { evaluated self.new ≤ evaluated self.old + length (entry_demanded (stored self.old).sheet put.now formula_cell pairs.now) }
-        ensures restarts { restarted self.new ≤ restarted self.old + sum_by (wants (stored self.old).sheet) (entry_demanded (stored self.old).sheet put.now formula_cell pairs.now) }
+        ensures evaluations { let cases = entry_demanded (stored self.old).sheet put.now formula_cell pairs.now in
+            evaluated self.new ≤ evaluated self.old + length cases }
+        ensures restarts { let sheet = (stored self.old).sheet in
+            let cases = entry_demanded sheet put.now formula_cell pairs.now in
+            restarted self.new ≤ restarted self.old + sum_by (wants sheet) cases }
         ensures evaluations_never_fall { evaluated self.old ≤ evaluated self.new }
         ensures restarts_never_fall { restarted self.old ≤ restarted self.new };
 

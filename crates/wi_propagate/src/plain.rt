@@ -1,4 +1,4 @@
-//! A calculator that keeps nothing it has calculated.
+//! A calculator that keeps nothing it has calculated: each question is a recalculation from the contents.
 
 ghost use Rattle.std.specs.Prelude.{◌≡◌, []};
 

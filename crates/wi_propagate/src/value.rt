@@ -27,8 +27,10 @@ pub fn shown(
     ensures value { IfOk result (λ v. v ≡ show.shown store.now.sheet put.now at) }
 
     // No more than what the cell demands is valued, also where memory runs out.
-    ensures evaluations { meter.new.evaluations ≤ meter.old.evaluations + length (demanded store.now.sheet put.now at) }
-    ensures restarts { meter.new.restarts ≤ meter.old.restarts + sum_by (wants store.now.sheet) (demanded store.now.sheet put.now at) }
+    ensures evaluations { meter.new.evaluations
+        ≤ meter.old.evaluations + length (demanded store.now.sheet put.now at) }
+    ensures restarts { meter.new.restarts
+        ≤ meter.old.restarts + sum_by (wants store.now.sheet) (demanded store.now.sheet put.now at) }
     ensures counts { NeverFall meter.old meter.new }
 {
     let Some(order) = reached(alloc, store, at)? else {
