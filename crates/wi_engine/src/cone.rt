@@ -1,4 +1,4 @@
-//! Which cells reach a cell.
+//! The cone of a cell: its dependents at any remove, which reach it.
 
 ghost use Rattle.std.specs.Prelude.{◌≡◌, ◌==◌, ◌&&◌, ◌||◌, ℕ, filter, All, IsSome, IfOk, OnOk};
 ghost use Rattle.std.specs.BTreeMap.{get};
@@ -22,7 +22,7 @@ use wi_store::Store;
 use wi_values::{Address, Rect};
 use wi_worlds::World;
 
-/// Cells that reach a cell, by that cell.
+/// Dependents of a cell at any remove, itself among them, by that cell.
 pub type Cones = BTreeMap<Address, BTreeSet<Address>>;
 
 /// Adds the cones of the replaced addresses that have none yet. The work for each is that of `cone`. If memory runs out,

@@ -1,4 +1,4 @@
-//! Values of cells by a stack of frames, over what is remembered, and walks along references.
+//! Recalculation: values of cells by a stack of frames, over what is remembered, and walks along references.
 #![tactic(auto)]
 
 mod answers;

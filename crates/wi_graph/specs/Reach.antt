@@ -1,4 +1,4 @@
--- Which cells a cell rests on.
+-- Which cells a cell rests on: its precedents at any remove, and the cone of its dependents at any remove.
 use Rattle.std.specs.Prelude.{◌≡◌, ◌==◌, ℕ, zero, suc, Bool, true, false, ◌&&◌, ◌||◌, List, length}
 use Rattle.std.specs.List.{list_any}
 use Rattle.wi_parser.specs.Sheet.{Sheet, content_of, cells_with_formula}

@@ -24,7 +24,7 @@ pub struct Formula {
     expr: Expr,
     /// The inputs of its what-ifs.
     inputs: Vec<Address>,
-    /// The rectangles that it reads.
+    /// The rectangles of its precedents.
     rectangles: Vec<Rect>,
 }
 
@@ -76,8 +76,8 @@ impl Formula {
         &self.inputs
     }
 
-    /// The rectangles that it reads, from the left; a cell that it reads is the rectangle of that cell. The inputs of its
-    /// what-ifs are only named.
+    /// The rectangles of its precedents, the cells that it reads, from the left; one cell is a rectangle too. The inputs of
+    /// its what-ifs are only named, and are no precedents.
     pub fn rectangles(&self) -> &[Rect]
         ensures { result.now ≡ rectangles_of self.now }
     {

@@ -65,8 +65,9 @@ impl RangeIndex {
         remove_pair(&mut self.counts, &mut self.pieces, &pair);
     }
 
-    /// The cells that read a rectangle with the cell, in row-major order, each once. The work grows with the pairs, equal ones
-    /// too, at the 21 blocks that hold the cell's row, and with the logarithms of their count and of that of all pieces.
+    /// The dependents of the cell, which read a rectangle with it, in row-major order, each once. The work grows with the
+    /// pairs, equal ones too, at the 21 blocks that hold the cell's row, and with the logarithms of their count and of that
+    /// of all pieces.
     pub fn readers_of(&self, at: Address) -> Result<Vec<Address>, AllocError>
         ensures order { IfOk result (λ readers. IsStrictlyIncreasing readers.items) }
         ensures readers { IfOk result (λ readers. (r : ℕ) → Contains readers.items r ↔ IsReader self.now at r) }

@@ -1,4 +1,4 @@
-//! Which cells read a cell: pairs of a rectangle and a cell that reads it, found by blocks of rows.
+//! The dependents of a cell: pairs of a rectangle and a cell that reads it, found by blocks of rows.
 #![tactic(auto)]
 
 mod bag;

@@ -1,4 +1,4 @@
-//! Who reads a cell.
+//! The dependents of a cell: the cells that read it.
 
 ghost use Rattle.std.specs.Prelude.{◌≡◌, ◌+◌, ◌^◌, ◌≤◌, ◌||◌, ◌∷◌, ℕ, [], OnOk, IfOk};
 ghost use Rattle.std.specs.Ordering.{nat_cmp};
