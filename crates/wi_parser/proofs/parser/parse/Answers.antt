@@ -18,8 +18,8 @@ returns-in-Some-clause-parsed c =
 pub returns-in-Some-clause-only : goal.returns-in-Some-clause-only
 returns-in-Some-clause-only c = reads_only c.args.text.now (Err c.in-Some.fault) (returns-in-Some-clause-parsed c)
 
-pub returns-in_err-words-clause-parsed : goal.returns-in_err-words-clause-parsed
-returns-in_err-words-clause-parsed c = search (rules, short_lacks)
+pub returns-in_err-symbols-clause-parsed : goal.returns-in_err-symbols-clause-parsed
+returns-in_err-symbols-clause-parsed c = search (rules, short_lacks)
 
 pub returns-in_err-expr-clause-parsed : goal.returns-in_err-expr-clause-parsed
 returns-in_err-expr-clause-parsed c =
