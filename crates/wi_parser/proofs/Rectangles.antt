@@ -1,15 +1,16 @@
 -- A tree reads exactly the cells of its rectangles.
-use Rattle.std.proofs.Common.{◌≡◌, ◌==◌, ℕ, ◌||◌, ◌&&◌, Bool, true, false, List, [], ◌∷◌, map, min, max, refl, ap, sym, ◌∙◌, arith}
+use Rattle.std.proofs.Common.{◌≡◌, ◌==◌, ℕ, ◌||◌, ◌&&◌, Bool, true, false, List, [], ◌∷◌, map, min, max, refl, ap, ap₂, sym, ◌∙◌, arith}
 use Rattle.std.specs.Prelude.{nat_le}
-use Rattle.std.specs.List.{list_any}
+use Rattle.std.specs.List.{list_any, flat_map}
 use Rattle.std.proofs.Math.Bool.{or-false}
 use Rattle.std.proofs.lemmas.Bool.{false_from_ne_true, and_parts, leb-true, eqb-true}
 use Rattle.std.proofs.lemmas.Bool.Decides.{nat_tests}
 use Rattle.std.proofs.lemmas.List.Folds.{list_any-append}
 use Rattle.wi_values.specs.Address.{Area, place, row_of, column_of, is_within}
 use Rattle.wi_parser.specs.declared.expr.Reference.{Reference}
-use Rattle.wi_parser.specs.Tree.{Tree, Trees, number, text, cell, rectangle, parenthesized, signed, percent, binary, what_if, call, no_trees, more_trees}
-use Rattle.wi_parser.specs.Reads.{cell_area, area_of, reads, any_reads, rectangles_of, all_rectangles_of}
+use Rattle.wi_parser.specs.Tree.{Tree}
+use Rattle.wi_parser.specs.Leaves.{Leaf, cell_leaf, rectangle_leaf, what_if_leaf, leaves}
+use Rattle.wi_parser.specs.Reads.{cell_area, area_of, leaf_reads, reads, leaf_rectangles, rectangles_of}
 
 -- the area of two equal corners
 abbrev at_once : ℕ → Area
@@ -55,27 +56,19 @@ replacement_cells (p ∷ ps) a =
     ap (λ (b : Bool). b || list_any (λ (p : Reference × Reference). p.1.at == a) ps) (sym (one_cell p.1.at a))
     ∙ ap (λ (b : Bool). is_within (cell_area p.1.at) a || b) (replacement_cells ps a)
 
-mutual
-  pub reads_within : (t : Tree) (a : ℕ) → reads t a ≡ list_any (λ (r : Area). is_within r a) (rectangles_of t)
-  reads_within (number x) a = refl
-  reads_within (text s) a = refl
-  reads_within (cell r) a = sym (or-false (is_within (cell_area r.at) a) ∙ one_cell r.at a)
-  reads_within (rectangle c) a = sym (or-false (is_within (area_of c) a))
-  reads_within (parenthesized t) a = reads_within t a
-  reads_within (signed s t) a = reads_within t a
-  reads_within (percent t) a = reads_within t a
-  reads_within (binary op t u) a =
-      ap (λ (b : Bool). b || reads u a) (reads_within t a)
-      ∙ ap (λ (b : Bool). list_any (λ (r : Area). is_within r a) (rectangles_of t) || b) (reads_within u a)
-      ∙ sym (list_any-append (λ (r : Area). is_within r a) (rectangles_of t) (rectangles_of u))
-  reads_within (what_if f ps) a =
-      ap (λ (b : Bool). b || list_any (λ (p : Reference × Reference). p.1.at == a) ps) (sym (one_cell f.at a))
-      ∙ ap (λ (b : Bool). is_within (cell_area f.at) a || b) (replacement_cells ps a)
-  reads_within (call f ts) a = all_read_within ts a
+-- a leaf reads exactly the cells of its rectangles
+leaf_within : (l : Leaf) (a : ℕ) → leaf_reads l a ≡ list_any (λ (r : Area). is_within r a) (leaf_rectangles l)
+leaf_within (cell_leaf r) a = sym (or-false (is_within (cell_area r.at) a) ∙ one_cell r.at a)
+leaf_within (rectangle_leaf c) a = sym (or-false (is_within (area_of c) a))
+leaf_within (what_if_leaf f ps) a =
+    ap (λ (b : Bool). b || list_any (λ (p : Reference × Reference). p.1.at == a) ps) (sym (one_cell f.at a))
+    ∙ ap (λ (b : Bool). is_within (cell_area f.at) a || b) (replacement_cells ps a)
 
-  all_read_within : (ts : Trees) (a : ℕ) → any_reads ts a ≡ list_any (λ (r : Area). is_within r a) (all_rectangles_of ts)
-  all_read_within no_trees a = refl
-  all_read_within (more_trees t ts) a =
-      ap (λ (b : Bool). b || any_reads ts a) (reads_within t a)
-      ∙ ap (λ (b : Bool). list_any (λ (r : Area). is_within r a) (rectangles_of t) || b) (all_read_within ts a)
-      ∙ sym (list_any-append (λ (r : Area). is_within r a) (rectangles_of t) (all_rectangles_of ts))
+leaves_within : (ls : List Leaf) (a : ℕ) → list_any (λ l. leaf_reads l a) ls ≡ list_any (λ (r : Area). is_within r a) (flat_map leaf_rectangles ls)
+leaves_within [] a = refl
+leaves_within (l ∷ ls) a =
+    ap₂ (λ (b c : Bool). b || c) (leaf_within l a) (leaves_within ls a)
+    ∙ sym (list_any-append (λ (r : Area). is_within r a) (leaf_rectangles l) (flat_map leaf_rectangles ls))
+
+pub reads_within : (t : Tree) (a : ℕ) → reads t a ≡ list_any (λ (r : Area). is_within r a) (rectangles_of t)
+reads_within t a = leaves_within (leaves t) a

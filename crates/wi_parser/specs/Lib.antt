@@ -1,6 +1,7 @@
 pub mod Tree
 pub mod View
 pub mod Sheet
+pub mod Leaves
 pub mod Reads
 pub mod Symbol
 pub mod Capitals

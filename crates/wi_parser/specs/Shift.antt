@@ -1,11 +1,12 @@
 -- A formula filled into another cell: the relative parts of its references move with it.
-use Rattle.std.specs.Prelude.{◌≡◌, ℕ, ℤ, pos, negsuc, ◌+ℤ◌, ◌*◌, Bool, true, false, ◌&&◌, nat_lt, if◌then◌else◌, map, Option, Some, None, is_some, unwrap_or, Result, Ok, Err}
-use Rattle.std.specs.List.{list_all}
+use Rattle.std.specs.Prelude.{◌≡◌, ℕ, ℤ, pos, negsuc, ◌+ℤ◌, ◌*◌, Bool, true, false, ◌&&◌, nat_lt, if◌then◌else◌, List, [], ◌∷◌, map, Option, Some, None, is_some, unwrap_or, Result, Ok, Err}
+use Rattle.std.specs.List.{list_all, flat_map}
 use Rattle.wi_values.specs.Address.{columns, rows, place, row_of, column_of}
 use Rattle.wi_parser.specs.declared.expr.Reference.{Reference}
 use Rattle.wi_parser.specs.declared.shift.ShiftFault.{ShiftFault}
 use Rattle.wi_parser.specs.declared.shift.ShiftFault.TheVariants.{LeavesSheet, Memory}
 use Rattle.wi_parser.specs.Tree.{Tree, Trees, number, text, cell, rectangle, parenthesized, signed, percent, binary, what_if, call, no_trees, more_trees}
+use Rattle.wi_parser.specs.Leaves.{Leaf, cell_leaf, rectangle_leaf, what_if_leaf, leaves}
 
 -- ---- references
 
@@ -39,23 +40,15 @@ moved down right r = record r { at = place (unwrap_or (row_moved down r) 0) (unw
 
 -- ---- trees
 
-abbrev mutual
-  -- all references of the tree are such
-  pub all_references : (Reference → Bool) → Tree → Bool
-  all_references p (number x) = true
-  all_references p (text s) = true
-  all_references p (cell r) = p r
-  all_references p (rectangle c) = p c.one && p c.other
-  all_references p (parenthesized t) = all_references p t
-  all_references p (signed s t) = all_references p t
-  all_references p (percent t) = all_references p t
-  all_references p (binary op t u) = all_references p t && all_references p u
-  all_references p (what_if r pairs) = p r && list_all (λ q. p q.0 && p q.1) pairs
-  all_references p (call f ts) = all_references_in p ts
+-- the references of a leaf, as they are written
+abbrev pub leaf_references : Leaf → List Reference
+leaf_references (cell_leaf r) = r ∷ []
+leaf_references (rectangle_leaf c) = c.one ∷ c.other ∷ []
+leaf_references (what_if_leaf f pairs) = f ∷ flat_map (λ q. q.0 ∷ q.1 ∷ []) pairs
 
-  pub all_references_in : (Reference → Bool) → Trees → Bool
-  all_references_in p no_trees = true
-  all_references_in p (more_trees t ts) = all_references p t && all_references_in p ts
+-- all references of the tree are such
+abbrev pub all_references : (Reference → Bool) → Tree → Bool
+all_references p t = list_all p (flat_map leaf_references (leaves t))
 
 abbrev mutual
   -- the tree with another reference in place of each

@@ -1,8 +1,10 @@
 //! A formula.
 
 ghost use Rattle.std.specs.Prelude.{◌≡◌, ◌≤◌, ◌++◌, map, length, Ok, IfOk, OnOk, OnErr, string_bytes};
+ghost use Rattle.std.specs.List.{flat_map};
 ghost use Rattle.wi_parser.specs.View.{tree_of, all_of, pair_of};
-ghost use Rattle.wi_parser.specs.Reads.{inputs_of, all_inputs_of, cell_area, rectangles_of, all_rectangles_of};
+ghost use Rattle.wi_parser.specs.Leaves.{all_leaves};
+ghost use Rattle.wi_parser.specs.Reads.{cell_area, leaf_inputs, inputs_of, leaf_rectangles, rectangles_of};
 ghost use Rattle.wi_parser.specs.Writable.{IsFormulaTree};
 ghost use Rattle.wi_parser.specs.Shift.{shifted, ShiftsTo};
 ghost use Rattle.wi_parser.specs.Printing.{printed};
@@ -52,9 +54,8 @@ impl Formula {
         ensures { IfOk result (λ f. f ≡ tree_of expr) }
     {
         let mut inputs = Vec::new(alloc);
-        push_inputs(&expr, &mut inputs)?;
         let mut rectangles = Vec::new(alloc);
-        push_rectangles(&expr, &mut rectangles)?;
+        push_leaves(&expr, &mut inputs, &mut rectangles)?;
         Ok(Formula {
             expr,
             inputs,
@@ -133,62 +134,16 @@ impl Formula {
     }
 }
 
-// Appends the inputs of a tree's what-ifs.
-#[cycle(inputs)]
+// Appends the inputs of a tree's what-ifs, and the rectangles that it reads.
+#[cycle(leaves)]
 #[tactic(auto, using(crate::proofs::Appended::both_appended))]
-fn push_inputs(expr: &Expr, inputs: &mut Vec<Address>) -> Result<(), AllocError>
-    ensures { IfOk result (λ _. inputs.new.items ≡ inputs.old.items ++ inputs_of (tree_of expr.now)) }
-{
-    match expr {
-        Expr::Number(_) => Ok(()),
-        Expr::Text(_) => Ok(()),
-        Expr::Cell(_) => Ok(()),
-        Expr::Rectangle(_) => Ok(()),
-        Expr::Parenthesized(inner) => push_inputs(inner, inputs),
-        Expr::Signed(_, operand) => push_inputs(operand, inputs),
-        Expr::Percent(operand) => push_inputs(operand, inputs),
-        Expr::Binary(_, left, right) => {
-            push_inputs(left, inputs)?;
-            push_inputs(right, inputs)
-        }
-        Expr::WhatIf(_, pairs) => push_inputs_of(pairs, inputs),
-        Expr::Call(_, parameters) => push_all_inputs(parameters, inputs),
-    }
-}
-
-// Appends the inputs of the what-ifs of trees.
-#[cycle(inputs)]
-fn push_all_inputs(trees: &[Expr], inputs: &mut Vec<Address>) -> Result<(), AllocError>
-    ensures { IfOk result (λ _. inputs.new.items ≡ inputs.old.items ++ all_inputs_of (all_of trees.now)) }
-{
-    for tree in trees {
-        push_inputs(tree, inputs)?;
-    }
-    Ok(())
-}
-
-// Appends the inputs of pairs.
-fn push_inputs_of(pairs: &[Pair], inputs: &mut Vec<Address>) -> Result<(), AllocError>
-    ensures { IfOk result (λ _. inputs.new.items ≡ inputs.old.items ++ map (λ p. p.0.at) (map pair_of pairs.now)) }
-{
-    for pair in pairs {
-        inputs.push(pair.input.at)?;
-    }
-    Ok(())
-}
-
-// The rectangle of one cell.
-fn cell_area(at: Address) -> Rect
-    ensures { result ≡ cell_area at }
-{
-    Rect::new(at, at)
-}
-
-// Appends the rectangles that a tree reads.
-#[cycle(rectangles)]
-#[tactic(auto, using(crate::proofs::Appended::both_appended))]
-fn push_rectangles(expr: &Expr, rectangles: &mut Vec<Rect>) -> Result<(), AllocError>
-    ensures { IfOk result (λ _. rectangles.new.items ≡ rectangles.old.items ++ rectangles_of (tree_of expr.now)) }
+fn push_leaves(
+    expr: &Expr,
+    inputs: &mut Vec<Address>,
+    rectangles: &mut Vec<Rect>,
+) -> Result<(), AllocError>
+    ensures inputs { IfOk result (λ _. inputs.new.items ≡ inputs.old.items ++ inputs_of (tree_of expr.now)) }
+    ensures rectangles { IfOk result (λ _. rectangles.new.items ≡ rectangles.old.items ++ rectangles_of (tree_of expr.now)) }
 {
     match expr {
         Expr::Number(_) => Ok(()),
@@ -201,38 +156,56 @@ fn push_rectangles(expr: &Expr, rectangles: &mut Vec<Rect>) -> Result<(), AllocE
             rectangles.push(corners.area())?;
             Ok(())
         }
-        Expr::Parenthesized(inner) => push_rectangles(inner, rectangles),
-        Expr::Signed(_, operand) => push_rectangles(operand, rectangles),
-        Expr::Percent(operand) => push_rectangles(operand, rectangles),
+        Expr::Parenthesized(inner) => push_leaves(inner, inputs, rectangles),
+        Expr::Signed(_, operand) => push_leaves(operand, inputs, rectangles),
+        Expr::Percent(operand) => push_leaves(operand, inputs, rectangles),
         Expr::Binary(_, left, right) => {
-            push_rectangles(left, rectangles)?;
-            push_rectangles(right, rectangles)
+            push_leaves(left, inputs, rectangles)?;
+            push_leaves(right, inputs, rectangles)
         }
         Expr::WhatIf(formula_cell, pairs) => {
             rectangles.push(cell_area(formula_cell.at))?;
-            push_replacement_cells(pairs, rectangles)
+            push_pairs(pairs, inputs, rectangles)
         }
-        Expr::Call(_, parameters) => push_all_rectangles(parameters, rectangles),
+        Expr::Call(_, parameters) => push_all_leaves(parameters, inputs, rectangles),
     }
 }
 
-// Appends the rectangles that trees read.
-#[cycle(rectangles)]
-fn push_all_rectangles(trees: &[Expr], rectangles: &mut Vec<Rect>) -> Result<(), AllocError>
-    ensures { IfOk result (λ _. rectangles.new.items ≡ rectangles.old.items ++ all_rectangles_of (all_of trees.now)) }
+// Appends the same of trees.
+#[cycle(leaves)]
+fn push_all_leaves(
+    trees: &[Expr],
+    inputs: &mut Vec<Address>,
+    rectangles: &mut Vec<Rect>,
+) -> Result<(), AllocError>
+    ensures inputs { IfOk result (λ _. inputs.new.items ≡ inputs.old.items ++ flat_map leaf_inputs (all_leaves (all_of trees.now))) }
+    ensures rectangles { IfOk result (λ _. rectangles.new.items ≡ rectangles.old.items ++ flat_map leaf_rectangles (all_leaves (all_of trees.now))) }
 {
     for tree in trees {
-        push_rectangles(tree, rectangles)?;
+        push_leaves(tree, inputs, rectangles)?;
     }
     Ok(())
 }
 
-// Appends the rectangles of the replacement cells of pairs.
-fn push_replacement_cells(pairs: &[Pair], rectangles: &mut Vec<Rect>) -> Result<(), AllocError>
-    ensures { IfOk result (λ _. rectangles.new.items ≡ rectangles.old.items ++ map (λ p. cell_area p.1.at) (map pair_of pairs.now)) }
+// Appends the inputs of pairs, and the rectangles of their replacement cells.
+fn push_pairs(
+    pairs: &[Pair],
+    inputs: &mut Vec<Address>,
+    rectangles: &mut Vec<Rect>,
+) -> Result<(), AllocError>
+    ensures inputs { IfOk result (λ _. inputs.new.items ≡ inputs.old.items ++ map (λ p. p.0.at) (map pair_of pairs.now)) }
+    ensures rectangles { IfOk result (λ _. rectangles.new.items ≡ rectangles.old.items ++ map (λ p. cell_area p.1.at) (map pair_of pairs.now)) }
 {
     for pair in pairs {
+        inputs.push(pair.input.at)?;
         rectangles.push(cell_area(pair.replacement.at))?;
     }
     Ok(())
+}
+
+// The rectangle of one cell.
+fn cell_area(at: Address) -> Rect
+    ensures { result ≡ cell_area at }
+{
+    Rect::new(at, at)
 }

@@ -1,9 +1,10 @@
 //! Formulas filled into other cells.
 
-ghost use Rattle.std.specs.Prelude.{◌≡◌, ◌<◌, ◌&&◌, map, IfSome, IfOk};
-ghost use Rattle.std.specs.List.{list_all};
+ghost use Rattle.std.specs.Prelude.{◌≡◌, ◌<◌, [], ◌∷◌, map, IfSome, IfOk};
+ghost use Rattle.std.specs.List.{list_all, flat_map};
 ghost use Rattle.wi_values.specs.Address as spec;
 ghost use Rattle.wi_parser.specs.Tree as tree;
+ghost use Rattle.wi_parser.specs.Leaves.{all_leaves};
 ghost use Rattle.wi_parser.specs.View.{tree_of, all_of, pair_of};
 ghost use Rattle.wi_parser.specs.Shift as shift;
 
@@ -43,6 +44,7 @@ impl<T: Drop> From<AllocFailed<T>> for ShiftFault {
 
 /// Whether the relative parts of all references stay in the sheet where they move by so many rows and columns.
 #[cycle(staying)]
+#[tactic(auto, using(crate::proofs::Shifts::both_pass))]
 pub fn all_stay(expr: &Expr, rows: i64, columns: i64) -> bool
     ensures { result ≡ shift.all_references (shift.stays rows columns) (tree_of expr.now) }
 {
@@ -64,7 +66,7 @@ pub fn all_stay(expr: &Expr, rows: i64, columns: i64) -> bool
 
 #[cycle(staying)]
 fn each_stays(exprs: &[Expr], rows: i64, columns: i64) -> bool
-    ensures { result ≡ shift.all_references_in (shift.stays rows columns) (all_of exprs.now) }
+    ensures { result ≡ list_all (shift.stays rows columns) (flat_map shift.leaf_references (all_leaves (all_of exprs.now))) }
 {
     for expr in exprs {
         if !all_stay(expr, rows, columns) {
@@ -75,7 +77,7 @@ fn each_stays(exprs: &[Expr], rows: i64, columns: i64) -> bool
 }
 
 fn pairs_stay(pairs: &[Pair], rows: i64, columns: i64) -> bool
-    ensures { result ≡ list_all (λ q. shift.stays rows columns q.0 && shift.stays rows columns q.1) (map pair_of pairs.now) }
+    ensures { result ≡ list_all (shift.stays rows columns) (flat_map (λ q. q.0 ∷ q.1 ∷ []) (map pair_of pairs.now)) }
 {
     pairs.iter().all(|p| stays(&p.input, rows, columns) && stays(&p.replacement, rows, columns))
 }

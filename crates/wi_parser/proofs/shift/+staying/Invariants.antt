@@ -1,8 +1,11 @@
 use Rattle.std.proofs.Common.{◌≡◌, drop}
+use Rattle.std.specs.List.{list_all, flat_map}
+use Rattle.wi_parser.specs.Leaves.{all_leaves}
 use Rattle.wi_parser.specs.View.{all_of}
-use Rattle.wi_parser.specs.Shift.{stays, all_references_in}
+use Rattle.wi_parser.specs.Shift.{stays, leaf_references}
 use Rattle.wi_parser.proofs.shift.+staying.Given as goal
 
 abbrev pub invariant-each_stays-loop-expr : goal.invariant-each_stays-loop-expr
 invariant-each_stays-loop-expr l =
-    all_references_in (stays l.rows l.columns) (all_of (drop l.expr-index l.exprs)) ≡ all_references_in (stays l.rows l.columns) (all_of l.exprs)
+    list_all (stays l.rows l.columns) (flat_map leaf_references (all_leaves (all_of (drop l.expr-index l.exprs))))
+    ≡ list_all (stays l.rows l.columns) (flat_map leaf_references (all_leaves (all_of l.exprs)))

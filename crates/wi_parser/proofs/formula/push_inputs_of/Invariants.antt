@@ -1,7 +1,0 @@
-use Rattle.std.proofs.Common.{◌≡◌, ◌++◌, map, drop}
-use Rattle.wi_parser.specs.View.{pair_of}
-use Rattle.wi_parser.proofs.formula.push_inputs_of.Given as goal
-
-abbrev pub invariant-loop-pair : goal.invariant-loop-pair
-invariant-loop-pair l =
-    l.inputs.items ++ map (λ p. p.0.at) (map pair_of (drop l.pair-index l.pairs)) ≡ l.fn.inputs.items ++ map (λ p. p.0.at) (map pair_of l.pairs)
