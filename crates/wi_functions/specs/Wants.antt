@@ -1,8 +1,9 @@
 -- What an evaluation may ask for.
-use Rattle.std.specs.Prelude.{◌≡◌, ◌⊎◌, ℕ, true, List, map, Option, None}
+use Rattle.std.specs.Prelude.{◌≡◌, ℕ, true, List, map, Any, Option, None}
 use Rattle.wi_values.specs.declared.value.Value.{Value}
 use Rattle.wi_parser.specs.declared.expr.Reference.{Reference}
-use Rattle.wi_parser.specs.Tree.{Tree, Trees, number, text, cell, rectangle, parenthesized, signed, percent, binary, what_if, call, no_trees, more_trees}
+use Rattle.wi_parser.specs.Tree.{Tree}
+use Rattle.wi_parser.specs.Leaves.{Leaf, cell_leaf, rectangle_leaf, what_if_leaf, leaves}
 use Rattle.wi_parser.specs.View.{pair_of}
 use Rattle.wi_functions.specs.Meaning.{addresses, is_one_cell}
 use Rattle.wi_functions.specs.declared.evaluation.Want.{Want}
@@ -21,24 +22,15 @@ abbrev pub WantsWhatIf : Want → ℕ → List (Reference × Reference) → Type
 WantsWhatIf (Cell a) g qs = ⊥
 WantsWhatIf (WhatIf f pairs) g qs = (f ≡ g) × (map pair_of pairs.items ≡ qs)
 
-abbrev mutual
-  -- The tree asks for this: for one of its cells or what-ifs, and for the cell of a rectangle that has only one.
-  pub Asks : Tree → Want → Type 0
-  Asks (number x) w = ⊥
-  Asks (text s) w = ⊥
-  Asks (cell r) w = WantsCell w r.at
-  Asks (rectangle c) w = (is_one_cell c ≡ true) × WantsCell w c.one.at
-  Asks (parenthesized t) w = Asks t w
-  Asks (signed s t) w = Asks t w
-  Asks (percent t) w = Asks t w
-  Asks (binary op t u) w = Asks t w ⊎ Asks u w
-  Asks (what_if f pairs) w = WantsWhatIf w f.at pairs
-  Asks (call f ts) w = AnyAsks ts w
+-- The leaf asks for this: for its cell or its what-if, and for the cell of a rectangle that has only one.
+abbrev pub LeafAsks : Leaf → Want → Type 0
+LeafAsks (cell_leaf r) w = WantsCell w r.at
+LeafAsks (rectangle_leaf c) w = (is_one_cell c ≡ true) × WantsCell w c.one.at
+LeafAsks (what_if_leaf f pairs) w = WantsWhatIf w f.at pairs
 
-  -- a cell or a what-if of one of the trees
-  pub AnyAsks : Trees → Want → Type 0
-  AnyAsks no_trees w = ⊥
-  AnyAsks (more_trees t ts) w = Asks t w ⊎ AnyAsks ts w
+-- a leaf of the tree asks for this
+abbrev pub Asks : Tree → Want → Type 0
+Asks t w = Any (λ l. LeafAsks l w) (leaves t)
 
 -- what is wanted isn't known
 abbrev pub IsUnknown : (ℕ → Option Value) → (ℕ → List (ℕ × ℕ) → Option Value) → Want → Type 0

@@ -136,6 +136,7 @@ fn percent_value<L: Lookup>(alloc: Global, inner: &Expr, lookup: &L) -> Result<V
 /// The value of two expressions with an operator between them.
 #[cycle(evaluating)]
 #[inline(never)]
+#[tactic(auto, using(crate::proofs::Asking::left_asks, crate::proofs::Asking::right_asks))]
 fn binary_value<L: Lookup>(
     alloc: Global,
     operator: Operator,
@@ -180,6 +181,7 @@ fn text_value(alloc: Global, text: &Text) -> Result<Value, Stop>
 
 /// A cell's value.
 #[inline(never)]
+#[tactic(auto, using(crate::proofs::Asking::leaf_asks))]
 fn cell_value<L: Lookup>(alloc: Global, reference: Reference, lookup: &L) -> Result<Value, Stop>
     ensures done { IfOk result (λ v. (a : Assignment) → AgreesWith (L.known_cell lookup.now) (L.known_what_if lookup.now) a → v ≡ a.cells reference.at) }
     ensures asked { IfErr result (λ s. IfNeeds s (Asks (cell reference))) }
@@ -193,6 +195,7 @@ fn cell_value<L: Lookup>(alloc: Global, reference: Reference, lookup: &L) -> Res
 
 /// The value of a rectangle of one cell. A larger one has none, and none of its cells is asked for.
 #[inline(never)]
+#[tactic(auto, using(crate::proofs::Asking::corner_asks))]
 fn rectangle_value<L: Lookup>(alloc: Global, corners: Corners, lookup: &L) -> Result<Value, Stop>
     ensures done { IfOk result (λ v. (a : Assignment) → AgreesWith (L.known_cell lookup.now) (L.known_what_if lookup.now) a → v ≡ formulas.meaning (rectangle corners) a.cells a.what_ifs) }
     ensures asked { IfErr result (λ s. IfNeeds s (Asks (rectangle corners))) }
@@ -206,6 +209,7 @@ fn rectangle_value<L: Lookup>(alloc: Global, corners: Corners, lookup: &L) -> Re
 
 /// A what-if's value.
 #[inline(never)]
+#[tactic(auto, using(crate::proofs::Asking::leaf_asks))]
 fn what_if_value<L: Lookup>(
     alloc: Global,
     formula_cell: Reference,
