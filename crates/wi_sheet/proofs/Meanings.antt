@@ -1,15 +1,18 @@
 -- A formula's meaning rests on the cells that it reads alone.
-use Rattle.std.proofs.Common.{◌≡◌, ◌==◌, ℕ, Bool, true, ◌||◌, cond, List, [], ◌∷◌, map, refl, ap, sym, ◌∙◌, eq-eqb}
+use Rattle.std.proofs.Common.{◌≡◌, ◌==◌, ℕ, Bool, true, false, ◌||◌, cond, List, [], ◌∷◌, map, refl, ap, sym, ◌∙◌, eq-eqb}
 use Rattle.std.proofs.lemmas.Bool.{or_left, or_right}
+use Rattle.std.proofs.lemmas.List.Folds.{list_any-append}
 use Rattle.std.specs.List.{list_any}
 use Rattle.wi_values.proofs.Corners.{corners_may_turn}
 use Rattle.wi_values.specs.declared.value.ErrorKind.TheVariants.{BadValue}
 use Rattle.wi_values.specs.declared.value.Value.{Value}
 use Rattle.wi_values.specs.declared.value.Value.TheVariants.{Fault}
 use Rattle.wi_values.specs.declared.replacement.Replacement.{Replacement}
+use Rattle.wi_parser.specs.declared.expr.Operator.{Operator}
 use Rattle.wi_parser.specs.declared.expr.Reference.{Reference}
 use Rattle.wi_parser.specs.Tree.{Tree, number, text, cell, rectangle, parenthesized, signed, percent, binary, what_if, call}
-use Rattle.wi_parser.specs.Reads.{reads}
+use Rattle.wi_parser.specs.Leaves.{Leaf, cell_leaf, rectangle_leaf, what_if_leaf, leaves}
+use Rattle.wi_parser.specs.Reads.{leaf_reads, reads}
 use Rattle.wi_functions.specs.Operators.{operate, with_sign, hundredth}
 use Rattle.wi_functions.specs.Meaning.{meaning, addresses, is_one_cell}
 use Rattle.wi_sheet.specs.CellValue.{replacements}
@@ -18,27 +21,43 @@ use Rattle.wi_sheet.specs.CellValue.{replacements}
 abbrev pub ReadsNoMore : ℕ → List (ℕ × ℕ) → Tree → Type 0
 ReadsNoMore f pairs t = (reads t f ≡ true) × ((a : ℕ) → list_any (λ p. p.1 == a) pairs ≡ true → reads t a ≡ true)
 
-replacement_cells : (pairs : List (Reference × Reference)) (a : ℕ) → list_any (λ p. p.1 == a) (map addresses pairs) ≡ list_any (λ p. p.1.at == a) pairs
+-- a replacement cell, told by addresses and by references
+pub replacement_cells : (pairs : List (Reference × Reference)) (a : ℕ) → list_any (λ p. p.1 == a) (map addresses pairs) ≡ list_any (λ p. p.1.at == a) pairs
 replacement_cells [] a = refl
 replacement_cells (p ∷ ps) a = ap (λ (b : Bool). (p.1.at == a) || b) (replacement_cells ps a)
+
+-- what a leaf reads, a tree reads that is only that leaf
+leaf_alone : (l : Leaf) (a : ℕ) → leaf_reads l a ≡ true → list_any (λ k. leaf_reads k a) (l ∷ []) ≡ true
+leaf_alone l a h = or_left (leaf_reads l a) false h
+
+-- and what an operand reads, the operator reads
+left_reads : (op : Operator) (t u : Tree) (a : ℕ) → reads t a ≡ true → reads (binary op t u) a ≡ true
+left_reads op t u a h = list_any-append (λ l. leaf_reads l a) (leaves t) (leaves u) ∙ or_left (reads t a) (reads u a) h
+
+right_reads : (op : Operator) (t u : Tree) (a : ℕ) → reads u a ≡ true → reads (binary op t u) a ≡ true
+right_reads op t u a h = list_any-append (λ l. leaf_reads l a) (leaves t) (leaves u) ∙ or_right (reads t a) (reads u a) h
 
 -- assignments that agree on what a tree reads, and on what-ifs that read no more than it does, give it one meaning
 pub meaning_same : (t : Tree) (g h : ℕ → Value) (w v : ℕ → List (ℕ × ℕ) → Value) → ((a : ℕ) → reads t a ≡ true → g a ≡ h a) →
     ((f : ℕ) (ps : List (ℕ × ℕ)) → ReadsNoMore f ps t → w f ps ≡ v f ps) → meaning t g w ≡ meaning t h v
 meaning_same (number n) g h w v k l = refl
 meaning_same (text s) g h w v k l = refl
-meaning_same (cell r) g h w v k l = k r.at (eq-eqb r.at r.at refl)
-meaning_same (rectangle c) g h w v k l = ap (λ (x : Value). cond (is_one_cell c) x (Fault BadValue)) (k c.one.at (corners_may_turn c.one.at c.other.at).1)
+meaning_same (cell r) g h w v k l = k r.at (leaf_alone (cell_leaf r) r.at (eq-eqb r.at r.at refl))
+meaning_same (rectangle c) g h w v k l =
+    ap (λ (x : Value). cond (is_one_cell c) x (Fault BadValue)) (k c.one.at (leaf_alone (rectangle_leaf c) c.one.at (corners_may_turn c.one.at c.other.at).1))
 meaning_same (parenthesized t) g h w v k l = meaning_same t g h w v k l
 meaning_same (signed s t) g h w v k l = ap (with_sign s) (meaning_same t g h w v k l)
 meaning_same (percent t) g h w v k l = ap hundredth (meaning_same t g h w v k l)
 meaning_same (binary op t u) g h w v k l =
     ap (λ (x : Value). operate op x (meaning u g w))
-    (meaning_same t g h w v (λ a r. k a (or_left (reads t a) (reads u a) r)) (λ f ps i. l f ps (or_left (reads t f) (reads u f) i.0, λ a r. or_left (reads t a) (reads u a) (i.1 a r))))
+    (meaning_same t g h w v (λ a r. k a (left_reads op t u a r)) (λ f ps i. l f ps (left_reads op t u f i.0, λ a r. left_reads op t u a (i.1 a r))))
     ∙ ap (λ (x : Value). operate op (meaning t h v) x)
-    (meaning_same u g h w v (λ a r. k a (or_right (reads t a) (reads u a) r)) (λ f ps i. l f ps (or_right (reads t f) (reads u f) i.0, λ a r. or_right (reads t a) (reads u a) (i.1 a r))))
+    (meaning_same u g h w v (λ a r. k a (right_reads op t u a r)) (λ f ps i. l f ps (right_reads op t u f i.0, λ a r. right_reads op t u a (i.1 a r))))
 meaning_same (what_if f ps) g h w v k l =
-    l f.at (map addresses ps) (or_left (f.at == f.at) _ (eq-eqb f.at f.at refl), λ a r. or_right (f.at == a) _ (sym (replacement_cells ps a) ∙ r))
+    l f.at (map addresses ps) (
+      leaf_alone (what_if_leaf f ps) f.at (or_left (f.at == f.at) _ (eq-eqb f.at f.at refl)),
+      λ a r. leaf_alone (what_if_leaf f ps) a (or_right (f.at == a) _ (sym (replacement_cells ps a) ∙ r)),
+    )
 meaning_same (call f ts) g h w v k l = refl
 
 abbrev with : ℕ → Value → List Replacement → List Replacement

@@ -1,6 +1,7 @@
 -- What is in a list, and in lists made of it.
-use Rattle.std.proofs.Common.{◌≡◌, ◌<◌, ◌⊎◌, inl, inr, ℕ, zero, suc, Bool, true, false, cond, List, [], ◌∷◌, ◌++◌, filter, map, length, get_or, Contains, refl, ap, sym, ◌∙◌, subst, arith}
-use Rattle.std.specs.List.{flat_map}
+use Rattle.std.proofs.Common.{◌≡◌, ◌<◌, ◌⊎◌, inl, inr, ℕ, zero, suc, Bool, true, false, cond, List, [], ◌∷◌, ◌++◌, filter, map, length, get_or, Any, Contains, refl, ap, sym, ◌∙◌, subst, arith}
+use Rattle.std.specs.List.{list_any, flat_map}
+use Rattle.std.proofs.lemmas.List.Folds.{Any-from_list_any, list_any_at}
 
 -- by recursion on the list
 abbrev pub IsIn : {X : Type 0} → List X → X → Type 0
@@ -84,3 +85,17 @@ flat_same {Y} f g (x ∷ xs) h =
 pub map_same : {X Y : Type 0} (f g : X → Y) (xs : List X) → ((x : X) → IsIn xs x → f x ≡ g x) → map f xs ≡ map g xs
 map_same f g [] h = refl
 map_same {Y} f g (x ∷ xs) h = ap (λ (y : Y). y ∷ map f xs) (h x (inl refl)) ∙ ap (λ (ys : List Y). g x ∷ ys) (map_same f g xs (λ y i. h y (inr i)))
+
+-- what holds of some element holds of one that is in the list
+pub of_any : {X : Type 0} (P : X → Type 0) (xs : List X) → Any P xs → (x : X) × IsIn xs x × P x
+of_any P xs a = (a.1, in_contained xs a.1 (a.0, a.2, a.3), a.4)
+
+-- ---- tests of a list's elements
+
+-- one that passes is found
+pub found_in : {X : Type 0} (p : X → Bool) (xs : List X) (x : X) → IsIn xs x → p x ≡ true → list_any p xs ≡ true
+found_in p xs x i h = let c = contains_in xs x i in list_any_at p xs c.0 x c.1 (ap p c.2 ∙ h)
+
+-- what passes a stronger test
+pub more_pass : {X : Type 0} (p q : X → Bool) → ((x : X) → p x ≡ true → q x ≡ true) → (xs : List X) → list_any p xs ≡ true → list_any q xs ≡ true
+more_pass p q f xs h = let a = Any-from_list_any p xs h in list_any_at q xs a.0 a.1 a.2 (ap q a.3 ∙ f a.1 a.4)

@@ -1,15 +1,15 @@
 -- What the value of one cell demands.
-use Rattle.std.specs.Prelude.{◌==◌, ℕ, zero, suc, ◌+◌, Bool, false, ◌&&◌, ◌||◌, if◌then◌else◌, List, [], ◌∷◌, ◌++◌, map, filter, length, Option, Some, None}
+use Rattle.std.specs.Prelude.{◌==◌, ℕ, zero, suc, ◌+◌, Bool, ◌&&◌, if◌then◌else◌, List, [], ◌∷◌, ◌++◌, map, filter, length, Option, Some, None}
 use Rattle.std.specs.List.{list_any, flat_map}
-use Rattle.wi_values.specs.Address.{is_within}
 use Rattle.wi_values.specs.declared.value.Value.{Value}
 use Rattle.wi_values.specs.declared.replacement.Replacement.{Replacement}
 use Rattle.wi_values.specs.Replacements.{entries, overridden, same_replacements}
-use Rattle.wi_parser.specs.Tree.{Tree, Trees, number, text, cell, rectangle, parenthesized, signed, percent, binary, what_if, call, no_trees, more_trees}
+use Rattle.wi_parser.specs.Tree.{Tree}
+use Rattle.wi_parser.specs.Leaves.{Leaf, what_if_leaf, leaves}
 use Rattle.wi_parser.specs.declared.content.Content.{Content}
 use Rattle.wi_parser.specs.declared.content.Content.TheVariants.{Constant, Formula}
 use Rattle.wi_parser.specs.Sheet.{Sheet, content_of, put_all, cells_with_formula}
-use Rattle.wi_parser.specs.Reads.{area_of}
+use Rattle.wi_parser.specs.Reads.{leaf_reads}
 use Rattle.wi_functions.specs.Meaning.{addresses}
 use Rattle.wi_graph.specs.Circular.{circular}
 use Rattle.wi_graph.specs.Reach.{reaches}
@@ -42,41 +42,22 @@ with_what_if s w pairs = puts_of (overridden (entries w) (replacements (cell_val
 abbrev pub what_if_case : Sheet → List Replacement → ℕ × List (ℕ × ℕ) → Case
 what_if_case s w x = case_of s (with_what_if s w x.1) x.0
 
-abbrev mutual
-  -- the what-ifs in a tree, from the left: the formula cell, and each input with its replacement cell
-  pub what_ifs_of : Tree → List (ℕ × List (ℕ × ℕ))
-  what_ifs_of (number x) = []
-  what_ifs_of (text s) = []
-  what_ifs_of (cell r) = []
-  what_ifs_of (rectangle c) = []
-  what_ifs_of (parenthesized t) = what_ifs_of t
-  what_ifs_of (signed s t) = what_ifs_of t
-  what_ifs_of (percent t) = what_ifs_of t
-  what_ifs_of (binary op t u) = what_ifs_of t ++ what_ifs_of u
-  what_ifs_of (what_if f pairs) = (f.at, map addresses pairs) ∷ []
-  what_ifs_of (call f ts) = what_ifs_in ts
+abbrev pub leaf_what_ifs : Leaf → List (ℕ × List (ℕ × ℕ))
+leaf_what_ifs (what_if_leaf f pairs) = (f.at, map addresses pairs) ∷ []
+leaf_what_ifs l = []
 
-  pub what_ifs_in : Trees → List (ℕ × List (ℕ × ℕ))
-  what_ifs_in no_trees = []
-  what_ifs_in (more_trees t ts) = what_ifs_of t ++ what_ifs_in ts
+-- the what-ifs in a tree, from the left: the formula cell, and each input with its replacement cell
+abbrev pub what_ifs_of : Tree → List (ℕ × List (ℕ × ℕ))
+what_ifs_of t = flat_map leaf_what_ifs (leaves t)
 
-abbrev mutual
-  -- A tree reads this cell as the sheet stands: it reads it in another place than as the formula cell of a what-if.
-  pub reads_here : Tree → ℕ → Bool
-  reads_here (number x) a = false
-  reads_here (text s) a = false
-  reads_here (cell r) a = r.at == a
-  reads_here (rectangle c) a = is_within (area_of c) a
-  reads_here (parenthesized t) a = reads_here t a
-  reads_here (signed s t) a = reads_here t a
-  reads_here (percent t) a = reads_here t a
-  reads_here (binary op t u) a = reads_here t a || reads_here u a
-  reads_here (what_if f pairs) a = list_any (λ p. p.1.at == a) pairs
-  reads_here (call f ts) a = any_reads_here ts a
+-- A leaf reads this cell as the sheet stands: it reads it in another place than as the formula cell of a what-if.
+abbrev pub leaf_reads_here : Leaf → ℕ → Bool
+leaf_reads_here (what_if_leaf f pairs) a = list_any (λ p. p.1.at == a) pairs
+leaf_reads_here l a = leaf_reads l a
 
-  pub any_reads_here : Trees → ℕ → Bool
-  any_reads_here no_trees a = false
-  any_reads_here (more_trees t ts) a = reads_here t a || any_reads_here ts a
+-- a leaf of the tree reads this cell as the sheet stands
+abbrev pub reads_here : Tree → ℕ → Bool
+reads_here t a = list_any (λ l. leaf_reads_here l a) (leaves t)
 
 -- what f gives of a formula's tree, and x where no formula stands
 abbrev pub of_formula : {A : Type 0} → Option Content → A → (Tree → A) → A
