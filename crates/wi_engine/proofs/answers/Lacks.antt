@@ -1,22 +1,21 @@
 -- One value more is found, and fewer are lacking.
-use Rattle.std.proofs.Common.{◌≡◌, ◌==◌, ℕ, ◌+◌, ◌<◌, ◌≤◌, Bool, true, false, ◌&&◌, cond, List, [], map, filter, length, Option, Some, None, refl, ap, sym, ◌∙◌, arith, inl, inr, eq-eqb}
-use Rattle.std.proofs.lemmas.Bool.{and_from, and_parts, or_left, or_right}
-use Rattle.std.proofs.lemmas.List.Folds.{list_any-append}
+use Rattle.std.proofs.Common.{◌≡◌, ◌==◌, ℕ, ◌+◌, ◌<◌, ◌≤◌, Bool, true, false, ◌&&◌, cond, List, [], filter, length, Option, Some, None, refl, ap, sym, ◌∙◌, arith, eq-eqb}
+use Rattle.std.proofs.lemmas.Bool.{and_from, and_parts}
 use Rattle.std.specs.List.{list_any}
 use Rattle.std.specs.Option.{is_none, option_or}
 use Rattle.std.specs.Ordering.{nat_cmp}
 use Rattle.std.specs.Map.{lookup}
 use Rattle.std.specs.BTreeMap.{is_at}
 use Rattle.wi_values.specs.declared.value.Value.{Value}
-use Rattle.wi_parser.specs.declared.expr.Reference.{Reference}
-use Rattle.wi_parser.specs.Tree.{Tree, Trees, number, text, cell, rectangle, parenthesized, signed, percent, binary, what_if, call, no_trees, more_trees}
+use Rattle.wi_parser.specs.Tree.{Tree}
 use Rattle.wi_parser.specs.Sheet.{Sheet, content_of, has_formula, cells_with_formula}
-use Rattle.wi_functions.specs.Meaning.{addresses}
-use Rattle.wi_functions.specs.Wants.{Asks, AnyAsks}
+use Rattle.wi_functions.specs.Wants.{Asks}
 use Rattle.wi_functions.specs.declared.evaluation.Want.TheVariants.{WhatIf}
 use Rattle.wi_graph.proofs.Layers.{list_any-both}
 use Rattle.wi_graph.proofs.Walks.{same_cell, found, formula_cell}
-use Rattle.wi_sheet.specs.Demand.{reads_here, formulas_read_here, what_ifs_of, what_ifs_in}
+use Rattle.wi_sheet.specs.Demand.{reads_here, formulas_read_here, what_ifs_of}
+use Rattle.wi_sheet.proofs.Asked.{asked_what_if}
+use Rattle.wi_sheet.proofs.Members.{in_contained, found_in}
 use Rattle.wi_engine.specs.declared.findings.Findings.{Findings}
 use Rattle.wi_engine.specs.declared.findings.FoundWhatIf.{FoundWhatIf}
 use Rattle.wi_engine.specs.Inner.Findings.{same_pairs, pairs_of, first_for, cell_found, what_if_found, IsWithCell, IsWithWhatIf}
@@ -89,27 +88,10 @@ module _ (f g : Findings) (a : ℕ) (v : Value) (more : IsWithCell f g a v) wher
 abbrev is_what_if : FoundWhatIf → ℕ × List (ℕ × ℕ) → Bool
 is_what_if x y = x.at == y.0 && same_pairs (pairs_of x) y.1
 
-mutual
-  asked_what_if : (t : Tree) (x : FoundWhatIf) → Asks t (WhatIf x.at x.pairs) → list_any (is_what_if x) (what_ifs_of t) ≡ true
-  asked_what_if (number n) x h = absurd h
-  asked_what_if (text s) x h = absurd h
-  asked_what_if (cell r) x h = absurd h
-  asked_what_if (rectangle c) x h = absurd h.1
-  asked_what_if (parenthesized t) x h = asked_what_if t x h
-  asked_what_if (signed s t) x h = asked_what_if t x h
-  asked_what_if (percent t) x h = asked_what_if t x h
-  asked_what_if (binary op t u) x (inl h) = list_any-append (is_what_if x) (what_ifs_of t) (what_ifs_of u) ∙ or_left _ _ (asked_what_if t x h)
-  asked_what_if (binary op t u) x (inr h) = list_any-append (is_what_if x) (what_ifs_of t) (what_ifs_of u) ∙ or_right _ _ (asked_what_if u x h)
-  asked_what_if (what_if f ps) x h =
-      let at = ap (λ (n : ℕ). x.at == n) (sym h.0) ∙ eq-eqb x.at x.at refl in
-      let pairs = ap (λ (qs : List (Reference × Reference)). same_pairs (pairs_of x) (map addresses qs)) (sym h.1) ∙ same_pairs-refl (pairs_of x) in
-      or_left (is_what_if x (f.at, map addresses ps)) false (and_from (x.at == f.at) _ at pairs)
-  asked_what_if (call f ts) x h = any_asked_what_if ts x h
-
-  any_asked_what_if : (ts : Trees) (x : FoundWhatIf) → AnyAsks ts (WhatIf x.at x.pairs) → list_any (is_what_if x) (what_ifs_in ts) ≡ true
-  any_asked_what_if no_trees x h = absurd h
-  any_asked_what_if (more_trees t ts) x (inl h) = list_any-append (is_what_if x) (what_ifs_of t) (what_ifs_in ts) ∙ or_left _ _ (asked_what_if t x h)
-  any_asked_what_if (more_trees t ts) x (inr h) = list_any-append (is_what_if x) (what_ifs_of t) (what_ifs_in ts) ∙ or_right _ _ (any_asked_what_if ts x h)
+asked_found : (t : Tree) (x : FoundWhatIf) → Asks t (WhatIf x.at x.pairs) → list_any (is_what_if x) (what_ifs_of t) ≡ true
+asked_found t x h =
+    let same = and_from (x.at == x.at) _ (eq-eqb x.at x.at refl) (same_pairs-refl (pairs_of x)) in
+    found_in (is_what_if x) (what_ifs_of t) (x.at, pairs_of x) (in_contained (what_ifs_of t) (x.at, pairs_of x) (asked_what_if t x.at x.pairs h)) same
 
 module _ (f g : Findings) (x : FoundWhatIf) (more : IsWithWhatIf f g x) where
   what_if_lacked : PassesToo (lacks_what_if f) (lacks_what_if g)
@@ -143,5 +125,5 @@ module _ (f g : Findings) (x : FoundWhatIf) (more : IsWithWhatIf f g x) where
   pub what_if_lacks_fewer : (s : Sheet) (t : Tree) → Asks t (WhatIf x.at x.pairs) → what_if_found f x.at (pairs_of x) ≡ None → lacking s t g < lacking s t f
   what_if_lacks_fewer s t asks e =
       let cells = fewer_cells (formulas_read_here s t) in
-      let what_ifs = fewer (lacks_what_if f) (lacks_what_if g) what_if_lacked (is_what_if x) (what_if_gone e) (what_ifs_of t) (asked_what_if t x asks) in
+      let what_ifs = fewer (lacks_what_if f) (lacks_what_if g) what_if_lacked (is_what_if x) (what_if_gone e) (what_ifs_of t) (asked_found t x asks) in
       omega arith

@@ -1,20 +1,21 @@
 -- The cells of one rectangle that a formula reads.
-use Rattle.std.proofs.Common.{◌≡◌, ◌==◌, ℕ, ◌||◌, ◌&&◌, Bool, true, false, cond, List, [], ◌∷◌, ◌++◌, map, filter, refl, ap, sym, ◌∙◌, subst, inl, inr, ◌⊎◌, eq-eqb}
-use Rattle.std.proofs.lemmas.Bool.{and_from, and_parts, or_left, or_right}
-use Rattle.std.specs.List.{list_any, AllByRecursion}
+use Rattle.std.proofs.Common.{◌≡◌, ◌==◌, ℕ, ◌||◌, ◌&&◌, Bool, true, false, cond, List, [], ◌∷◌, filter, Contains, refl, ap, sym, ◌∙◌, subst, inl, inr, ◌⊎◌, eq-eqb}
+use Rattle.std.proofs.lemmas.Bool.{and_from, and_parts, or_right}
+use Rattle.std.specs.List.{list_any}
 use Rattle.std.specs.Map.{keys_of}
 use Rattle.wi_values.specs.Address.{Area, is_within}
 use Rattle.wi_parser.specs.declared.expr.Reference.{Reference}
-use Rattle.wi_parser.specs.Tree.{Tree, Trees, number, text, cell, rectangle, parenthesized, signed, percent, binary, what_if, call, no_trees, more_trees}
+use Rattle.wi_parser.specs.Tree.{Tree}
+use Rattle.wi_parser.specs.Leaves.{Leaf, cell_leaf, rectangle_leaf, what_if_leaf, leaves}
 use Rattle.wi_parser.specs.Sheet.{Sheet, content_of, has_formula, cells_with_formula}
-use Rattle.wi_parser.specs.Reads.{cell_area, rectangles_of, all_rectangles_of}
+use Rattle.wi_parser.specs.Reads.{cell_area, leaf_rectangles, rectangles_of}
 use Rattle.wi_parser.proofs.Rectangles.{one_cell, reads_within}
 use Rattle.wi_graph.specs.Reach.{is_one_of}
 use Rattle.wi_graph.proofs.Layers.{list_any-both}
 use Rattle.wi_graph.proofs.Walks.{same_cell, found, finds, formula_cell}
 use Rattle.wi_sheet.proofs.Demands.{here_reads}
-use Rattle.wi_sheet.specs.Demand.{reads_here, any_reads_here}
-use Rattle.wi_sheet.proofs.Members.{IsIn, in_contained}
+use Rattle.wi_sheet.specs.Demand.{leaf_reads_here, reads_here}
+use Rattle.wi_sheet.proofs.Members.{IsIn, in_contained, of_map, of_flat, found_in}
 use Rattle.wi_engine.specs.Inner.Answers.{IsSmallestWith, AreOfRectangle}
 
 -- ---- a rectangle is of one cell, or each of its cells is read here
@@ -33,40 +34,16 @@ more_pass : (p q : ℕ → Bool) → ((d : ℕ) → p d ≡ true → q d ≡ tru
 more_pass p q k r (inl h) = inl h
 more_pass p q k r (inr h) = inr (λ d m. k d (h d m))
 
-all_more_pass : (p q : ℕ → Bool) → ((d : ℕ) → p d ≡ true → q d ≡ true) → (rs : List Area) → AllByRecursion (IsWhole p) rs → AllByRecursion (IsWhole q) rs
-all_more_pass p q k [] h = tt
-all_more_pass p q k (r ∷ rs) h = (more_pass p q k r h.0, all_more_pass p q k rs h.1)
-
-joined : (p : ℕ → Bool) (rs ss : List Area) → AllByRecursion (IsWhole p) rs → AllByRecursion (IsWhole p) ss → AllByRecursion (IsWhole p) (rs ++ ss)
-joined p [] ss h k = k
-joined p (r ∷ rs) ss h k = (h.0, joined p rs ss h.1 k)
-
-singles : (p : ℕ → Bool) (ps : List (Reference × Reference)) → AllByRecursion (IsWhole p) (map (λ x. cell_area x.1.at) ps)
-singles p [] = tt
-singles p (x ∷ ps) = (inl (single x.1.at), singles p ps)
-
-mutual
-  wholes : (t : Tree) → AllByRecursion (IsWhole (reads_here t)) (rectangles_of t)
-  wholes (number x) = tt
-  wholes (text s) = tt
-  wholes (cell r) = (inl (single r.at), tt)
-  wholes (rectangle c) = (inr (λ d m. m), tt)
-  wholes (parenthesized t) = wholes t
-  wholes (signed s t) = wholes t
-  wholes (percent t) = wholes t
-  wholes (binary op t u) =
-      joined (reads_here (binary op t u)) (rectangles_of t) (rectangles_of u)
-      (all_more_pass (reads_here t) (reads_here (binary op t u)) (λ d m. or_left (reads_here t d) (reads_here u d) m) (rectangles_of t) (wholes t))
-      (all_more_pass (reads_here u) (reads_here (binary op t u)) (λ d m. or_right (reads_here t d) (reads_here u d) m) (rectangles_of u) (wholes u))
-  wholes (what_if f ps) = (inl (single f.at), singles (reads_here (what_if f ps)) ps)
-  wholes (call f ts) = all_wholes ts
-
-  all_wholes : (ts : Trees) → AllByRecursion (IsWhole (any_reads_here ts)) (all_rectangles_of ts)
-  all_wholes no_trees = tt
-  all_wholes (more_trees t ts) =
-      joined (any_reads_here (more_trees t ts)) (rectangles_of t) (all_rectangles_of ts)
-      (all_more_pass (reads_here t) (any_reads_here (more_trees t ts)) (λ d m. or_left (reads_here t d) (any_reads_here ts d) m) (rectangles_of t) (wholes t))
-      (all_more_pass (any_reads_here ts) (any_reads_here (more_trees t ts)) (λ d m. or_right (reads_here t d) (any_reads_here ts d) m) (all_rectangles_of ts) (all_wholes ts))
+-- of a leaf's rectangles
+leaf_whole : (l : Leaf) (r : Area) → IsIn (leaf_rectangles l) r → IsWhole (leaf_reads_here l) r
+leaf_whole (cell_leaf c) r (inl e) = inl (subst IsSingle e (single c.at))
+leaf_whole (cell_leaf c) r (inr i) = absurd i
+leaf_whole (rectangle_leaf c) r (inl e) = inr (λ d m. ap (λ (x : Area). is_within x d) e ∙ m)
+leaf_whole (rectangle_leaf c) r (inr i) = absurd i
+leaf_whole (what_if_leaf f ps) r (inl e) = inl (subst IsSingle e (single f.at))
+leaf_whole (what_if_leaf f ps) r (inr i) =
+    let x = of_map (λ (p : Reference × Reference). cell_area p.1.at) ps r i in
+    inl (subst IsSingle x.2 (single x.0.1.at))
 
 -- ---- what is read here is in a rectangle
 
@@ -76,12 +53,9 @@ in_one_of t rs a e h = ap (λ (xs : List Area). list_any (λ (r : Area). is_with
 
 -- a rectangle that holds the cell is of one cell, or each of its cells is read here
 smallest_whole : (t : Tree) (rs : List Area) (a : ℕ) (r : Area) → rs ≡ rectangles_of t → IsSmallestWith rs a r → IsWhole (reads_here t) r
-smallest_whole t rs a r e h = all_in (IsWhole (reads_here t)) rs r (subst (AllByRecursion (IsWhole (reads_here t))) (sym e) (wholes t)) (in_contained rs r h.one_of)
-  where
-    all_in : (P : Area → Type 0) (xs : List Area) (x : Area) → AllByRecursion P xs → IsIn xs x → P x
-    all_in P [] x h m = absurd m
-    all_in P (y ∷ xs) x h (inl same) = subst P same h.0
-    all_in P (y ∷ xs) x h (inr m) = all_in P xs x h.1 m
+smallest_whole t rs a r e h =
+    let l = of_flat leaf_rectangles (leaves t) r (in_contained (rectangles_of t) r (subst (λ (xs : List Area). Contains xs r) e h.one_of)) in
+    more_pass (leaf_reads_here l.0) (reads_here t) (λ d m. found_in (λ k. leaf_reads_here k d) (leaves t) l.0 l.1 m) r (leaf_whole l.0 r l.2)
 
 -- ---- the cells with a formula of a rectangle
 

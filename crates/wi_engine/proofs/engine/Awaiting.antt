@@ -22,7 +22,7 @@ use Rattle.wi_sheet.specs.Demand.{Case, what_ifs_of, reads_here, formulas_read_h
 use Rattle.wi_sheet.proofs.Puts.{overlaid, content_of-put_all, plain}
 use Rattle.wi_sheet.proofs.Bounds.{put_formula}
 use Rattle.wi_sheet.proofs.Members.{IsIn, in_filter}
-use Rattle.wi_sheet.proofs.Asked.{asked_cell}
+use Rattle.wi_sheet.proofs.Asked.{is_in, asked_cell}
 use Rattle.wi_engine.specs.Inner.MemoState.{MemoState}
 use Rattle.wi_engine.specs.Inner.Findings.{pairs_of, cell_found, what_if_found, AreAllRight, IsWithCell, IsWithWhatIf}
 use Rattle.wi_engine.specs.Inner.Answers.{AsksAt, IsLacking, lacking}
@@ -33,7 +33,7 @@ use Rattle.wi_engine.specs.declared.frame.Frame.{Frame}
 use Rattle.wi_engine.specs.declared.frame.Waiting.{Waiting}
 use Rattle.wi_engine.specs.declared.frame.Waiting.TheVariants.{Nothing, Cells, WhatIf}
 use Rattle.wi_engine.proofs.answers.Lacks.{cell_lacks_fewer, what_if_lacks_fewer}
-use Rattle.wi_engine.proofs.engine.Resting.{named, is_in, asked_in, tree_with}
+use Rattle.wi_engine.proofs.engine.Resting.{named, asked_in, tree_with}
 
 in_front : (xs ys : List ℕ) (d : ℕ) → is_one_of xs d ≡ true → is_one_of (xs ++ ys) d ≡ true
 in_front [] ys d h = cc

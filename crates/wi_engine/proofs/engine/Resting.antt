@@ -1,36 +1,33 @@
 -- On which cases the value of a case rests.
-use Rattle.std.proofs.Common.{◌≡◌, ◌==◌, ℕ, Bool, true, false, ◌||◌, List, [], ◌∷◌, map, Option, Some, None, refl, ap, sym, ◌∙◌, subst, inl, inr, arith}
-use Rattle.std.proofs.lemmas.Bool.{or_left, or_right, false_from_ne_true}
-use Rattle.std.proofs.lemmas.Bool.Decides.{nat_tests}
+use Rattle.std.proofs.Common.{◌≡◌, ◌==◌, ℕ, Bool, true, false, List, map, Option, Some, None, refl, ap, sym, ◌∙◌, subst}
+use Rattle.std.proofs.lemmas.Bool.{false_from_ne_true}
 use Rattle.std.specs.List.{list_any}
 use Rattle.std.specs.Global.{Vec}
 use Rattle.wi_values.specs.declared.value.Value.{Value}
 use Rattle.wi_values.specs.declared.value.Value.TheVariants.{Empty}
 use Rattle.wi_values.specs.declared.replacement.Replacement.{Replacement}
 use Rattle.wi_parser.specs.declared.expr.Pair.{Pair}
-use Rattle.wi_parser.specs.declared.expr.Reference.{Reference}
-use Rattle.wi_parser.specs.Tree.{Tree, Trees, number, text, cell, rectangle, parenthesized, signed, percent, binary, what_if, call, no_trees, more_trees}
+use Rattle.wi_parser.specs.Tree.{Tree}
 use Rattle.wi_parser.specs.View.{pair_of}
 use Rattle.wi_parser.specs.declared.content.Content.{Content}
 use Rattle.wi_parser.specs.declared.content.Content.TheVariants.{Constant, Formula}
-use Rattle.wi_parser.specs.Sheet.{Sheet, content_of, put_all, has_formula, cells_with_formula}
+use Rattle.wi_parser.specs.Sheet.{Sheet, content_of, put_all, has_formula}
 use Rattle.wi_parser.specs.Reads.{content_reads}
 use Rattle.wi_functions.specs.Meaning.{addresses}
-use Rattle.wi_functions.specs.Wants.{Asks, AnyAsks}
+use Rattle.wi_functions.specs.Wants.{Asks}
 use Rattle.wi_functions.specs.declared.evaluation.Want.TheVariants.{WhatIf}
 use Rattle.wi_cache.specs.declared.key.Key.{Key}
 use Rattle.wi_graph.specs.Circular.{circular}
-use Rattle.wi_graph.specs.Reach.{is_one_of}
-use Rattle.wi_graph.proofs.Walks.{formula_cell, circular_walks}
+use Rattle.wi_graph.proofs.Walks.{circular_walks}
 use Rattle.wi_sheet.specs.CellValue.{value_of, cell_value}
-use Rattle.wi_sheet.specs.Demand.{Case, case_of, reaching, with_what_if, what_ifs_of, reads_here, any_reads_here, formulas_read_here, rests_on, of_formula}
+use Rattle.wi_sheet.specs.Demand.{Case, case_of, reaching, with_what_if, what_ifs_of, reads_here, of_formula}
 use Rattle.wi_sheet.specs.Inner.Spending.{RestsOn}
 use Rattle.wi_sheet.proofs.Bounds.{put_formula, put_reads, tree_reads}
 use Rattle.wi_sheet.proofs.Steps.{value_plain, reads_not_circular}
 use Rattle.wi_sheet.proofs.Overrides.{reaching_suffices}
-use Rattle.wi_sheet.proofs.Members.{IsIn, in_contained, contains_in, in_left, in_right, in_map, in_filter}
+use Rattle.wi_sheet.proofs.Members.{IsIn, in_contained, contains_in}
 use Rattle.wi_sheet.proofs.SmallerWorlds.{content_below}
-use Rattle.wi_sheet.proofs.Asked.{asked_what_if}
+use Rattle.wi_sheet.proofs.Asked.{rests_on_read, rests_on_what_if, asked_what_if, asked_replacing}
 use Rattle.wi_sheet.proofs.Demands.{here_reads, what_if_reads}
 use Rattle.wi_engine.specs.Inner.MemoState.{MemoState, IsMemoOf}
 use Rattle.wi_engine.specs.Inner.Answers.{AsksAt}
@@ -80,26 +77,6 @@ known_value s m n w a k v h en ec ew e =
 
 -- ---- what is asked for
 
-mutual
-  -- the replacement cells of a what-if that is asked for are read as the sheet stands
-  pub replacing_here : (t : Tree) (f : ℕ) (pairs : Vec Pair) (a : ℕ) → Asks t (WhatIf f pairs) → list_any (λ p. p.1.at == a) (map pair_of pairs.items) ≡ true → reads_here t a ≡ true
-  replacing_here (number x) f pairs a h l = absurd h
-  replacing_here (text s) f pairs a h l = absurd h
-  replacing_here (cell r) f pairs a h l = absurd h
-  replacing_here (rectangle c) f pairs a h l = absurd h.1
-  replacing_here (parenthesized t) f pairs a h l = replacing_here t f pairs a h l
-  replacing_here (signed s t) f pairs a h l = replacing_here t f pairs a h l
-  replacing_here (percent t) f pairs a h l = replacing_here t f pairs a h l
-  replacing_here (binary op t u) f pairs a (inl h) l = or_left (reads_here t a) (reads_here u a) (replacing_here t f pairs a h l)
-  replacing_here (binary op t u) f pairs a (inr h) l = or_right (reads_here t a) (reads_here u a) (replacing_here u f pairs a h l)
-  replacing_here (what_if g ps) f pairs a h l = ap (λ (qs : List (Reference × Reference)). list_any (λ p. p.1.at == a) qs) (sym h.1) ∙ l
-  replacing_here (call g ts) f pairs a h l = any_replacing_here ts f pairs a h l
-
-  any_replacing_here : (ts : Trees) (f : ℕ) (pairs : Vec Pair) (a : ℕ) → AnyAsks ts (WhatIf f pairs) → list_any (λ p. p.1.at == a) (map pair_of pairs.items) ≡ true → any_reads_here ts a ≡ true
-  any_replacing_here no_trees f pairs a h l = absurd h
-  any_replacing_here (more_trees t ts) f pairs a (inl h) l = or_left (reads_here t a) (any_reads_here ts a) (replacing_here t f pairs a h l)
-  any_replacing_here (more_trees t ts) f pairs a (inr h) l = or_right (reads_here t a) (any_reads_here ts a) (any_replacing_here ts f pairs a h l)
-
 -- a what-if as a want names it
 abbrev pub named : ℕ → Vec Pair → ℕ × List (ℕ × ℕ)
 named f pairs = (f, map addresses (map pair_of pairs.items))
@@ -109,17 +86,6 @@ pub asked_in : (t : Tree) (f : ℕ) (pairs : Vec Pair) → Asks t (WhatIf f pair
 asked_in t f pairs h = in_contained (what_ifs_of t) (named f pairs) (asked_what_if t f pairs h)
 
 -- ---- the cases on which a case rests
-
-pub is_in : (xs : List ℕ) (a : ℕ) → is_one_of xs a ≡ true → IsIn xs a
-is_in [] a h = cc
-is_in (x ∷ xs) a h = at (x == a) refl h (is_in xs a)
-  where
-    same : (x == a) ≡ true → x ≡ a
-    same e = grind (arith, nat_tests)
-
-    at : (b : Bool) → (x == a) ≡ b → (b || list_any (λ y. y == a) xs) ≡ true → (is_one_of xs a ≡ true → IsIn xs a) → IsIn (x ∷ xs) a
-    at true e h ih = inl (same e)
-    at false e h ih = inr (ih h)
 
 -- a formula's tree, and what is so of it
 pub tree_with : (o : Option Content) (P : Tree → Bool) → of_formula o false P ≡ true → (t : Tree) × (o ≡ Some (Formula t)) × (P t ≡ true)
@@ -131,30 +97,19 @@ tree_with (Some (Formula t)) P h = (t, refl, h)
 pub rests_cell : (s : Sheet) (k : Case) (a : ℕ) → content_reads_here (content_of (put_all s k.1) k.0) a ≡ true → has_formula (content_of (put_all s (reaching s a k.1)) a) ≡ true → RestsOn s k (case_of s k.1 a)
 rests_cell s k a h f =
     let t = tree_with (content_of (put_all s k.1) k.0) (λ t. reads_here t a) h in
-    let i = is_in (cells_with_formula s) a (formula_cell s a (put_formula s (reaching s a k.1) a f)) in
-    record {
-      tree = t.0;
-      is = t.1;
-      asks = contains_in (rests_on s k.1 t.0) (case_of s k.1 a) (in_left (map (case_of s k.1) (formulas_read_here s t.0)) _ (case_of s k.1 a) (in_map (case_of s k.1) (formulas_read_here s t.0) a (in_filter (reads_here t.0) (cells_with_formula s) a i t.2)));
-      formula = f;
-    }
+    rests_on_read s k t.0 a t.1 t.2 f
 
 -- the formula cell of a what-if, under its replacements
 pub rests_what_if : (s : Sheet) (k : Case) (f : ℕ) (pairs : Vec Pair) (w : List Replacement) → AsksAt s k.1 k.0 (WhatIf f pairs) → w ≡ with_what_if s k.1 (named f pairs).1 →
     has_formula (content_of (put_all s (reaching s f w)) f) ≡ true → RestsOn s k (case_of s w f)
 rests_what_if s k f pairs w h e g =
-    let there = case_of s (with_what_if s k.1 (named f pairs).1) f in
-    let i = in_map (λ (x : ℕ × List (ℕ × ℕ)). case_of s (with_what_if s k.1 x.1) x.0) (what_ifs_of h.tree) (named f pairs) (asked_in h.tree f pairs h.asks) in
-    record {
-      tree = h.tree;
-      is = h.is;
-      asks = rw e (contains_in (rests_on s k.1 h.tree) there (in_right (map (case_of s k.1) (formulas_read_here s h.tree)) _ there i));
-      formula = g;
-    }
+    let there = subst (λ (v : List Replacement). has_formula (content_of (put_all s (reaching s f v)) f) ≡ true) e g in
+    subst (λ (v : List Replacement). RestsOn s k (case_of s v f)) (sym e)
+    (rests_on_what_if s k h.tree (named f pairs) h.is (asked_what_if h.tree f pairs h.asks) there)
 
 -- a replacement cell of a what-if that is asked for
 pub replacing_reads : (s : Sheet) (k : Case) (f : ℕ) (pairs : Vec Pair) (a : ℕ) → AsksAt s k.1 k.0 (WhatIf f pairs) → list_any (λ p. p.1.at == a) (map pair_of pairs.items) ≡ true → content_reads_here (content_of (put_all s k.1) k.0) a ≡ true
-replacing_reads s k f pairs a h l = ap (λ (o : Option Content). content_reads_here o a) h.is ∙ replacing_here h.tree f pairs a h.asks l
+replacing_reads s k f pairs a h l = ap (λ (o : Option Content). content_reads_here o a) h.is ∙ asked_replacing h.tree f pairs a h.asks l
 
 -- ---- ranks fall, and nothing on which a cell rests is circular
 
