@@ -7,3 +7,14 @@ pub mod ReachTest
 pub mod ReachSteps
 pub mod Agreement
 pub mod Cones
+pub mod CircularAfter
+pub mod StripSteps
+pub mod SearchSteps
+pub mod EdgeLemmas
+pub mod RoomSteps
+pub mod StagingSteps
+pub mod TurningSteps
+pub mod ChangeSteps
+pub mod GraphSteps
+pub mod GraphEnds
+pub mod StageEnds

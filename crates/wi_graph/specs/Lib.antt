@@ -1,2 +1,4 @@
 pub mod Circular
 pub mod Reach
+pub mod Edges
+pub mod Inner

@@ -1,2 +1,12 @@
-//! Cycles of references, and which cells a cell reaches: definitions and what is proved of them, no code.
+//! The graph of references: which cells are on or above a cycle, and which cells depend on a cell.
 #![tactic(auto)]
+
+mod changes;
+mod cone;
+mod graph;
+mod rooms;
+mod staging;
+mod stripping;
+mod turning;
+
+pub use graph::Graph;

@@ -1,0 +1,83 @@
+-- A graph of no formulas, and one after an edit.
+use Rattle.std.proofs.Common.{◌≡◌, ℕ, Bool, false, List, [], Option, Some, None, option_map, IfSome, IfNone, ap, sym, ◌∙◌, subst}
+use Rattle.std.proofs.lemmas.Bool.{false_from_ne_true}
+use Rattle.std.specs.List.{list_any}
+use Rattle.std.specs.Ordering.{nat_cmp}
+use Rattle.std.specs.Map.{lookup, keys_of}
+use Rattle.std.specs.Global.{Vec}
+use Rattle.std.specs.List.Sorted.{IsStrictlySortedBy}
+use Rattle.std.specs.BTreeMap.{IsOrdered, is_at}
+use Rattle.std.specs.BTreeSet.{BTreeSet, contains}
+use Rattle.wi_values.specs.Address.{Area}
+use Rattle.wi_ranges.specs.Bag.{Bag, count_of}
+use Rattle.wi_graph.specs.Circular.{circular}
+use Rattle.std.specs.Option.{unwrap_or}
+use Rattle.wi_graph.specs.Edges.{Edges, Staging, staging}
+use Rattle.wi_graph.specs.declared.graph.Staged.{Staged}
+use Rattle.wi_graph.specs.Inner.Rooms.{Rooms, in_room, room_at, room_over, edges_in, edges_over, areas_of, times, HasPairs, less_these, AreCircles, IsGraph, IsStaged}
+use Rattle.wi_graph.proofs.Walks.{circular_walks}
+
+no_circle : (c : ℕ) → circular [] c ≡ false
+no_circle c = false_from_ne_true (circular [] c) (λ h. let z = circular_walks [] c h 0 in cc)
+
+nothing_there : (rooms : Rooms) → rooms.entries ≡ [] → (c : ℕ) → room_at rooms c ≡ None
+nothing_there rooms e c = ap (λ (es : List (ℕ × Option (Vec Area))). in_room (lookup (is_at (nat_cmp c)) es)) e
+
+order_of_none : (rooms : Rooms) → rooms.entries ≡ [] → IsOrdered nat_cmp rooms
+unfolding IsStrictlySortedBy
+order_of_none rooms e = subst (λ (es : List (ℕ × Option (Vec Area))). IsStrictlySortedBy nat_cmp (keys_of es)) (sym e) tt
+
+pub empty_graph : (rooms : Rooms) (readers : Bag) (circles : BTreeSet ℕ) → rooms.entries ≡ [] → readers ≡ [] → circles.keys ≡ [] → IsGraph rooms readers circles
+empty_graph rooms readers circles e r n = record {
+  ordered = order_of_none rooms e;
+  pairs = λ p. ap (λ (b : Bag). count_of b p) r ∙ sym (ap (λ (o : Option (List Area)). times p.reader (areas_of o) p) (nothing_there rooms e p.reader));
+  circular = record {
+    sheet = [];
+    are = nothing_there rooms e;
+    circles = λ c. ap (λ (xs : List ℕ). list_any (is_at (nat_cmp c)) xs) n ∙ sym (no_circle c);
+  };
+}
+
+-- nothing is staged
+pub unstaged : (rooms : Rooms) (readers : Bag) (circles : BTreeSet ℕ) (staged : Option Staged) → option_map (λ x. edges_over (edges_in rooms.entries) x.next.entries) staged ≡ None → IfNone staged (IsGraph rooms readers circles) → IsGraph rooms readers circles
+unstaged rooms readers circles None e h = h
+unstaged rooms readers circles (Some x) e h = cc
+
+pub circles_over : (f g : ℕ → Option (List Area)) (p q : ℕ → Bool) → ((c : ℕ) → f c ≡ g c) → ((c : ℕ) → p c ≡ q c) → AreCircles g q → AreCircles f p
+circles_over f g p q e h a = record { sheet = a.sheet; are = λ c. e c ∙ a.are c; circles = λ c. h c ∙ a.circles c }
+
+pub taken_graph : (old new next : Rooms) (before after : Bag) (had has : BTreeSet ℕ) (came went : List ℕ) → IsStaged old next before had came went → IsOrdered nat_cmp new → ((c : ℕ) → room_at new c ≡ room_over next old c) → HasPairs after new →
+    ((c : ℕ) → contains nat_cmp has c ≡ less_these had went c) → IsGraph new after has
+taken_graph old new next before after had has came went s o e p h = record {
+  ordered = o;
+  pairs = p;
+  circular = circles_over (room_at new) (room_over next old) (contains nat_cmp has) (less_these had went) e h s.after;
+}
+
+pub taken_back_graph : (old new next : Rooms) (before after : Bag) (had has : BTreeSet ℕ) (came went : List ℕ) → IsStaged old next before had came went → IsOrdered nat_cmp new → ((c : ℕ) → room_at new c ≡ room_at old c) → HasPairs after new →
+    ((c : ℕ) → contains nat_cmp has c ≡ less_these had came c) → IsGraph new after has
+taken_back_graph old new next before after had has came went s o e p h = record {
+  ordered = o;
+  pairs = p;
+  circular = circles_over (room_at new) (room_at old) (contains nat_cmp has) (less_these had came) e h s.before;
+}
+
+-- ---- what it is seen as
+
+abbrev pub view_of : Rooms → Option Staged → Staging
+view_of rooms o = staging (edges_in rooms.entries) (option_map (λ x. edges_over (edges_in rooms.entries) x.next.entries) o)
+
+pub taken_view : (old new : Rooms) (o after : Option Staged) (now : Staging) (x : Staged) → o ≡ Some x → after ≡ None → view_of old o ≡ now → edges_in new.entries ≡ edges_over (edges_in old.entries) x.next.entries →
+    view_of new after ≡ staging (unwrap_or now.staged now.now) None
+taken_view old new None after now x e f v k = cc
+taken_view old new (Some y) (Some z) now x e f v k = cc
+taken_view old new (Some y) None now x e f v k =
+    let s : y ≡ x = cc in
+    ap (λ (z : Edges). staging z None) (k ∙ ap (λ (w : Staged). edges_over (edges_in old.entries) w.next.entries) (sym s)) ∙ ap (λ (n : Staging). staging (unwrap_or n.staged n.now) None) v
+
+pub taken_back_view : (old new : Rooms) (o after : Option Staged) (now : Staging) → after ≡ None → view_of old o ≡ now → edges_in new.entries ≡ edges_in old.entries → view_of new after ≡ staging now.now None
+taken_back_view old new o (Some z) now f v k = cc
+taken_back_view old new o None now f v k = ap (λ (z : Edges). staging z None) k ∙ ap (λ (n : Staging). staging n.now None) v
+
+pub staged_is : (rooms : Rooms) (readers : Bag) (circles : BTreeSet ℕ) (o : Option Staged) (x : Staged) → o ≡ Some x → IfSome o (λ y. IsStaged rooms y.next readers circles y.came.items y.went.items) → IsStaged rooms x.next readers circles x.came.items x.went.items
+staged_is rooms readers circles o x e h = rw e at h

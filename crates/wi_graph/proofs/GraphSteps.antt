@@ -1,0 +1,100 @@
+-- What a graph says of each sheet that has its edges.
+use Rattle.std.proofs.Common.{◌≡◌, ◌+◌, ◌<◌, ◌↔◌, ℕ, zero, suc, ◌⊎◌, inl, inr, Bool, true, false, ◌||◌, cond, List, [], ◌∷◌, Option, Some, None, refl, ap, sym, ◌∙◌, subst, arith}
+use Rattle.std.proofs.lemmas.Bool.{or_cases, or_left, or_right}
+use Rattle.std.specs.List.{list_any}
+use Rattle.std.specs.Ordering.{nat_cmp}
+use Rattle.std.specs.BTreeMap.{IsOrdered}
+use Rattle.std.specs.BTreeSet.{BTreeSet, contains}
+use Rattle.wi_values.specs.Address.{Area, is_within}
+use Rattle.wi_parser.specs.declared.content.Content.{Content}
+use Rattle.wi_parser.specs.declared.content.Content.TheVariants.{Constant, Formula}
+use Rattle.wi_parser.specs.Sheet.{Sheet, content_of, has_formula}
+use Rattle.wi_parser.specs.Reads.{content_reads}
+use Rattle.wi_parser.proofs.Rectangles.{reads_within}
+use Rattle.wi_ranges.specs.declared.pair.Pair.{Pair}
+use Rattle.wi_ranges.specs.Bag.{Bag, IsReader, pair_of, area_of, is_same}
+use Rattle.wi_ranges.proofs.Exact.{same_is, same_self}
+use Rattle.wi_graph.specs.Circular.{has_walk, circular}
+use Rattle.wi_graph.specs.Edges.{areas_in, AreEdgesOf}
+use Rattle.wi_graph.specs.Inner.Rooms.{Rooms, room_at, edges_in, areas_of, times, HasPairs, IsGraph}
+use Rattle.wi_graph.proofs.Walks.{same_tests, step, first_step, circular_walks, walks_circular}
+use Rattle.wi_graph.proofs.EdgeLemmas.{ascends, areas_rooms}
+
+-- ---- sheets that have the same edges
+
+pub reads_areas : (o : Option Content) (d : ℕ) → content_reads o d ≡ list_any (λ (r : Area). is_within r d) (areas_of (areas_in o))
+reads_areas None d = refl
+reads_areas (Some (Constant v)) d = refl
+reads_areas (Some (Formula t)) d = reads_within t d
+
+formula_areas : (o p : Option Content) → areas_in o ≡ areas_in p → has_formula o ≡ true → has_formula p ≡ true
+formula_areas None p e h = cc
+formula_areas (Some (Constant v)) p e h = cc
+formula_areas (Some (Formula t)) None e h = cc
+formula_areas (Some (Formula t)) (Some (Constant v)) e h = cc
+formula_areas (Some (Formula t)) (Some (Formula u)) e h = refl
+
+abbrev pub HaveSameEdges : Sheet → Sheet → Type 0
+HaveSameEdges s t = (c : ℕ) → areas_in (content_of s c) ≡ areas_in (content_of t c)
+
+pub same_reads : (s t : Sheet) → HaveSameEdges s t → (c d : ℕ) → content_reads (content_of s c) d ≡ content_reads (content_of t c) d
+same_reads s t e c d = reads_areas (content_of s c) d ∙ ap (λ (o : Option (List Area)). list_any (λ (r : Area). is_within r d) (areas_of o)) (e c) ∙ sym (reads_areas (content_of t c) d)
+
+walks_there : (n : ℕ) (s t : Sheet) → HaveSameEdges s t → (c : ℕ) → has_walk n s c ≡ true → has_walk n t c ≡ true
+walks_there zero s t e c h = formula_areas (content_of s c) (content_of t c) (e c) h
+walks_there (suc n) s t e c h =
+    let f = first_step n s c h in
+    step n t c f.0 (sym (same_reads s t e c f.0) ∙ f.1) (walks_there n s t e f.0 f.2)
+
+pub same_circular : (s t : Sheet) → HaveSameEdges s t → (c : ℕ) → circular s c ≡ circular t c
+same_circular s t e c = same_tests (circular s c) (circular t c) (λ h. walks_circular t c (λ n. walks_there n s t e c (circular_walks s c h n))) (λ h. walks_circular s c (λ n. walks_there n t s (λ d. sym (e d)) c (circular_walks t c h n)))
+
+-- ---- what the rooms say of a sheet
+
+pub rooms_areas : (rooms : Rooms) (s : Sheet) → IsOrdered nat_cmp rooms → AreEdgesOf (edges_in rooms.entries) s → (c : ℕ) → room_at rooms c ≡ areas_in (content_of s c)
+rooms_areas rooms s o e c = sym (areas_rooms rooms.entries (ascends rooms.entries o) c) ∙ e c
+
+pub graph_circular : (rooms : Rooms) (readers : Bag) (circles : BTreeSet ℕ) → IsGraph rooms readers circles → (s : Sheet) → AreEdgesOf (edges_in rooms.entries) s → (c : ℕ) → contains nat_cmp circles c ≡ circular s c
+graph_circular rooms readers circles g s e c =
+    g.circular.circles c ∙ same_circular g.circular.sheet s (λ d. sym (g.circular.are d) ∙ rooms_areas rooms s g.ordered e d) c
+
+-- ---- who reads a cell
+
+some_more : (a b : ℕ) → 0 < a → 0 < a + b
+some_more a b h = omega arith
+
+times_reads : (k : ℕ) (rs : List Area) (p : Pair) (d : ℕ) → 0 < times k rs p → is_within (area_of p) d ≡ true → list_any (λ r. is_within r d) rs ≡ true
+times_reads k [] p d h w = absurd (omega arith)
+times_reads k (r ∷ rs) p d h w = at (is_same (pair_of r k) p) refl h (times_reads k rs p d)
+  where
+    at : (b : Bool) → is_same (pair_of r k) p ≡ b → 0 < cond b 1 0 + times k rs p → (0 < times k rs p → is_within (area_of p) d ≡ true → list_any (λ r. is_within r d) rs ≡ true) → (is_within r d || list_any (λ r. is_within r d) rs) ≡ true
+    at true e l ih = or_left (is_within r d) _ (ap (λ (q : Pair). is_within (area_of q) d) (same_is (pair_of r k) p e) ∙ w)
+    at false e l ih = or_right (is_within r d) _ (ih (omega (arith, l)) w)
+
+-- a rectangle of the list that has the cell
+reads_times : (k : ℕ) (rs : List Area) (d : ℕ) → list_any (λ r. is_within r d) rs ≡ true → (r : Area) × (0 < times k rs (pair_of r k)) × (is_within r d ≡ true)
+reads_times k [] d h = cc
+reads_times k (r ∷ rs) d h = at (or_cases (is_within r d) _ h) (reads_times k rs d)
+  where
+    here : 0 < cond (is_same (pair_of r k) (pair_of r k)) 1 0 + times k rs (pair_of r k)
+    here = let e : cond {A = ℕ} (is_same (pair_of r k) (pair_of r k)) 1 0 ≡ 1 = ap {B = ℕ} (λ (b : Bool). cond b 1 0) (same_self (pair_of r k)) in omega (arith, e)
+
+    at : (is_within r d ≡ true) ⊎ (list_any (λ r. is_within r d) rs ≡ true) → (list_any (λ r. is_within r d) rs ≡ true → (q : Area) × (0 < times k rs (pair_of q k)) × (is_within q d ≡ true)) → (q : Area) × (0 < times k (r ∷ rs) (pair_of q k)) × (is_within q d ≡ true)
+    at (inl w) ih = (r, here, w)
+    at (inr w) ih = let i = ih w in (i.0, omega (arith, i.1), i.2)
+
+pub graph_readers : (rooms : Rooms) (readers : Bag) → IsOrdered nat_cmp rooms → HasPairs readers rooms → (s : Sheet) → AreEdgesOf (edges_in rooms.entries) s → (a r : ℕ) → (content_reads (content_of s r) a ≡ true) ↔ IsReader readers a r
+graph_readers rooms readers o h s e a r = (there, back)
+  where
+    here : content_reads (content_of s r) a ≡ list_any (λ x. is_within x a) (areas_of (room_at rooms r))
+    here = reads_areas (content_of s r) a ∙ ap (λ (x : Option (List Area)). list_any (λ (r : Area). is_within r a) (areas_of x)) (sym (rooms_areas rooms s o e r))
+
+    there : content_reads (content_of s r) a ≡ true → IsReader readers a r
+    there k =
+        let f = reads_times r (areas_of (room_at rooms r)) a (sym here ∙ k) in
+        (pair_of f.0 r, refl, subst (λ (n : ℕ). 0 < n) (sym (h (pair_of f.0 r))) f.1, f.2)
+
+    back : IsReader readers a r → content_reads (content_of s r) a ≡ true
+    back i =
+        let l : 0 < times r (areas_of (room_at rooms r)) i.0 = subst (λ (x : ℕ). 0 < times x (areas_of (room_at rooms x)) i.0) i.1 (subst (λ (n : ℕ). 0 < n) (h i.0) i.2) in
+        here ∙ times_reads r (areas_of (room_at rooms r)) i.0 a l i.3

@@ -1,0 +1,220 @@
+-- Steps of taking an edit, and of taking it back.
+use Rattle.std.proofs.Common.{◌≡◌, ◌==◌, ◌+◌, ◌-◌, ◌<◌, ℕ, zero, suc, Bool, true, false, ◌&&◌, ◌||◌, cond, not, List, [], ◌∷◌, take, get_or, length, Option, Some, None, refl, ap, sym, ◌∙◌, arith, add-one}
+use Rattle.std.specs.Prelude.{if◌then◌else◌}
+use Rattle.std.specs.Option.{is_none}
+use Rattle.std.specs.Ordering.{nat_cmp}
+use Rattle.std.specs.Map.{lookup}
+use Rattle.std.specs.Global.{Vec}
+use Rattle.std.specs.BTreeMap.{get, IsOrdered, is_at}
+use Rattle.std.specs.BTreeSet.{BTreeSet, contains}
+use Rattle.wi_values.specs.Address.{Area}
+use Rattle.wi_ranges.specs.declared.pair.Pair.{Pair}
+use Rattle.wi_ranges.specs.Bag.{Bag, pair_of, is_same, count_of, HasOneLess}
+use Rattle.wi_ranges.proofs.Exact.{same_is}
+use Rattle.wi_graph.specs.Reach.{is_one_of}
+use Rattle.wi_graph.specs.Inner.Rooms.{Rooms, items_of, in_room, room_at, put_over, room_over, areas_of, times, times_in, HasRooms, HasPairs, HasBoth, less_these}
+use Rattle.wi_graph.proofs.Tests.{is_at-eq}
+use Rattle.wi_graph.proofs.Walks.{same_cell}
+use Rattle.wi_graph.proofs.StripSteps.{is_itself}
+use Rattle.wi_graph.proofs.SearchSteps.{taken}
+
+-- ---- how often
+
+pub times_other : (k : ℕ) (rs : List Area) (p : Pair) → (k == p.reader) ≡ false → times k rs p ≡ 0
+times_other k [] p n = refl
+times_other k (r ∷ rs) p n = at (is_same (pair_of r k) p) refl (times_other k rs p n)
+  where
+    at : (b : Bool) → is_same (pair_of r k) p ≡ b → times k rs p ≡ 0 → cond b 1 0 + times k rs p ≡ 0
+    at true e ih = let z = ap (λ (q : Pair). k == q.reader) (same_is (pair_of r k) p e) in let y = is_itself k in cc
+    at false e ih = omega (arith, ih)
+
+pub times_more : (k : ℕ) (rs : List Area) (i : ℕ) (r : Area) (p : Pair) → i < length rs → r ≡ get_or rs i r → times k (take (i + 1) rs) p ≡ times k (take i rs) p + cond (is_same (pair_of r k) p) 1 0
+times_more k rs i r p h e = ap (λ (n : ℕ). times k (take n rs) p) (add-one i) ∙ at rs i h e
+  where
+    at : (xs : List Area) (j : ℕ) → j < length xs → r ≡ get_or xs j r → times k (take (suc j) xs) p ≡ times k (take j xs) p + cond (is_same (pair_of r k) p) 1 0
+    at [] j l f = absurd (omega arith)
+    at (x ∷ xs) zero l f = let z : cond {A = ℕ} (is_same (pair_of r k) p) 1 0 ≡ cond (is_same (pair_of x k) p) 1 0 = ap {B = ℕ} (λ (y : Area). cond (is_same (pair_of y k) p) 1 0) f in omega (arith, z)
+    at (x ∷ xs) (suc j) l f = let ih = at xs j (omega arith) f in omega (arith, ih)
+
+pub less_more : (k : ℕ) (rs : List Area) (i : ℕ) (r : Area) (first old new : Bag) → i < length rs → r ≡ get_or rs i r → HasOneLess (pair_of r k) old new → ((p : Pair) → count_of old p ≡ count_of first p - times k (take i rs) p) →
+    (p : Pair) → count_of new p ≡ count_of first p - times k (take (i + 1) rs) p
+less_more k rs i r first old new h e l u p = at (is_same (pair_of r k) p) (l p) (times_more k rs i r p h e)
+  where
+    at : (b : Bool) → count_of new p ≡ (if b then count_of old p - 1 else count_of old p) → times k (take (i + 1) rs) p ≡ times k (take i rs) p + cond b 1 0 → count_of new p ≡ count_of first p - times k (take (i + 1) rs) p
+    at true f g = omega (arith, f, g, u p)
+    at false f g = omega (arith, f, g, u p)
+
+-- ---- a room
+
+cond_same : {X : Type 0} (b : Bool) (x : X) → cond b x x ≡ x
+cond_same true x = refl
+cond_same false x = refl
+
+pub put_room : (old new : Rooms) (k : ℕ) (x : Option (Option (Vec Area))) (o : Option (List Area)) → in_room x ≡ o → ((q : ℕ) → get nat_cmp new q ≡ cond (is_at (nat_cmp k) q) x (get nat_cmp old q)) →
+    (c : ℕ) → room_at new c ≡ (if k == c then o else room_at old c)
+put_room old new k x o e u c = ap in_room (u c) ∙ at (is_at (nat_cmp k) c) (k == c) (is_at-eq k c)
+  where
+    at : (b d : Bool) → b ≡ d → in_room (cond b x (get nat_cmp old c)) ≡ cond d o (room_at old c)
+    at true true s = e
+    at false false s = refl
+    at true false s = cc
+    at false true s = cc
+
+pub put_others : (old new : Rooms) (k : ℕ) (x : Option (Option (Vec Area))) → ((q : ℕ) → get nat_cmp new q ≡ cond (is_at (nat_cmp k) q) x (get nat_cmp old q)) → (c : ℕ) → (k == c) ≡ false → get nat_cmp new c ≡ get nat_cmp old c
+put_others old new k x u c n = u c ∙ ap (λ (b : Bool). cond b x (get nat_cmp old c)) (is_at-eq k c ∙ n)
+
+-- nothing stands there, and nothing is put in
+pub put_nothing : (rooms : Rooms) (k : ℕ) (o : Option (List Area)) → o ≡ None → room_at rooms k ≡ None → (c : ℕ) → room_at rooms c ≡ (if k == c then o else room_at rooms c)
+put_nothing rooms k o e n c = at (k == c) refl
+  where
+    at : (b : Bool) → (k == c) ≡ b → room_at rooms c ≡ cond b o (room_at rooms c)
+    at true s = ap (room_at rooms) (sym (same_cell c k s)) ∙ n ∙ sym e
+    at false s = refl
+
+none_is : (o : Option (List Area)) → is_none o ≡ true → o ≡ None
+none_is None h = refl
+none_is (Some x) h = cc
+
+pub release_same : (old new : Rooms) (k : ℕ) → is_none (room_at old k) ≡ true → ((q : ℕ) → get nat_cmp new q ≡ cond (is_at (nat_cmp k) q) None (get nat_cmp old q)) → (c : ℕ) → room_at new c ≡ room_at old c
+release_same old new k n u c = put_room old new k None None refl u c ∙ sym (put_nothing old k None refl (none_is (room_at old k) n) c)
+
+-- ---- an edit is taken, cell by cell
+
+pub record IsTaking (first_next first next rooms : Rooms) (readers : Bag) : Type 0 where
+  pub ordered : IsOrdered nat_cmp rooms
+  pub has_rooms : HasRooms rooms next
+  pub pairs : HasBoth readers rooms next
+  pub over : (c : ℕ) → room_over next rooms c ≡ room_over first_next first c
+
+pub record IsTakingBack (first next rooms : Rooms) (readers : Bag) : Type 0 where
+  pub ordered : IsOrdered nat_cmp rooms
+  pub pairs : HasBoth readers rooms next
+  pub same : (c : ℕ) → room_at rooms c ≡ room_at first c
+
+-- the cell is no longer to come
+abbrev pub Popped : Rooms → Rooms → ℕ → Type 0
+Popped next later k = (q : ℕ) → get nat_cmp later q ≡ cond (is_at (nat_cmp k) q) None (get nat_cmp next q)
+
+pub popped_here : (next later : Rooms) (k : ℕ) → Popped next later k → get nat_cmp later k ≡ None
+popped_here next later k u = u k ∙ ap (λ (b : Bool). cond b None (get nat_cmp next k)) (is_at-eq k k ∙ is_itself k)
+
+pub popped_other : (next later : Rooms) (k : ℕ) → Popped next later k → (c : ℕ) → (k == c) ≡ false → get nat_cmp later c ≡ get nat_cmp next c
+popped_other next later k u c n = u c ∙ ap (λ (b : Bool). cond b None (get nat_cmp next c)) (is_at-eq k c ∙ n)
+
+abbrev pub Loses : ℕ → Option (List Area) → Bag → Bag → Type 0
+Loses k o old new = (p : Pair) → count_of new p ≡ count_of old p - times k (areas_of o) p
+
+pub times_room : (rooms : Rooms) (p : Pair) (o : Option (List Area)) → room_at rooms p.reader ≡ o → times_in rooms p ≡ times p.reader (areas_of o) p
+times_room rooms p o e = ap (λ (x : Option (List Area)). times p.reader (areas_of x) p) e
+
+pub taking_step : (first_next first next later rooms mid new : Rooms) (readers fewer : Bag) (k : ℕ) (o stood : Option (Vec Area)) → get nat_cmp next k ≡ Some o → Popped next later k →
+    ((c : ℕ) → room_at mid c ≡ (if k == c then items_of o else room_at rooms c)) → ((c : ℕ) → (k == c) ≡ false → get nat_cmp mid c ≡ get nat_cmp rooms c) → items_of stood ≡ room_at rooms k → Loses k (items_of stood) readers fewer →
+    IsOrdered nat_cmp new → ((c : ℕ) → room_at new c ≡ room_at mid c) → ((c : ℕ) → (k == c) ≡ false → get nat_cmp new c ≡ get nat_cmp mid c) → IsTaking first_next first next rooms readers → IsTaking first_next first later new fewer
+taking_step first_next first next later rooms mid new readers fewer k o stood g u m mo s l ord n nx t = record {
+  ordered = ord;
+  has_rooms = λ c h. room c h (k == c) refl;
+  pairs = λ p. counted p (k == p.reader) refl;
+  over = λ c. over c (k == c) refl ∙ t.over c;
+}
+  where
+    here : (c : ℕ) → (k == c) ≡ true → room_at new c ≡ items_of o
+    here c e = n c ∙ m c ∙ ap (λ (b : Bool). cond b (items_of o) (room_at rooms c)) e
+
+    there : (c : ℕ) → (k == c) ≡ false → room_at new c ≡ room_at rooms c
+    there c e = n c ∙ m c ∙ ap (λ (b : Bool). cond b (items_of o) (room_at rooms c)) e
+
+    no_more : (c : ℕ) → (k == c) ≡ true → get nat_cmp later c ≡ None
+    no_more c e = ap (λ (x : ℕ). get nat_cmp later x) (sym (same_cell c k e)) ∙ popped_here next later k u
+
+    was : (c : ℕ) → (k == c) ≡ true → get nat_cmp next c ≡ Some o
+    was c e = ap (λ (x : ℕ). get nat_cmp next x) (sym (same_cell c k e)) ∙ g
+
+    room : (c : ℕ) → get nat_cmp new c ≡ None → (b : Bool) → (k == c) ≡ b → room_at later c ≡ None
+    room c h true e = ap in_room (no_more c e)
+    room c h false e = ap in_room (popped_other next later k u c e) ∙ t.has_rooms c (sym (nx c e ∙ mo c e) ∙ h)
+
+    over : (c : ℕ) (b : Bool) → (k == c) ≡ b → room_over later new c ≡ room_over next rooms c
+    over c true e = ap (λ (x : Option (Option (Vec Area))). put_over x (room_at new c)) (no_more c e) ∙ here c e ∙ ap (λ (x : Option (Option (Vec Area))). put_over x (room_at rooms c)) (sym (was c e))
+    over c false e = ap (λ (x : Option (Option (Vec Area))). put_over x (room_at new c)) (popped_other next later k u c e) ∙ ap (λ (x : Option (List Area)). put_over (get nat_cmp next c) x) (there c e)
+
+    counted : (p : Pair) (b : Bool) → (k == p.reader) ≡ b → count_of fewer p ≡ times_in new p + times_in later p
+    counted p true e =
+        let r : k ≡ p.reader = same_cell p.reader k e in
+        let a = t.pairs p in
+        let d : times k (areas_of (items_of stood)) p ≡ times_in rooms p = ap (λ (x : Option (List Area)). times k (areas_of x) p) s ∙ ap (λ (x : ℕ). times x (areas_of (room_at rooms x)) p) r in
+        let f : times_in next p ≡ times p.reader (areas_of (items_of o)) p = times_room next p (items_of o) (ap in_room (was p.reader e)) in
+        let h : times_in new p ≡ times p.reader (areas_of (items_of o)) p = times_room new p (items_of o) (here p.reader e) in
+        let i : times_in later p ≡ 0 = times_room later p None (ap in_room (no_more p.reader e)) in
+        omega (arith, a, d, f, h, i, l p)
+    counted p false e =
+        let a = t.pairs p in
+        let d = times_other k (areas_of (items_of stood)) p e in
+        let f : times_in later p ≡ times_in next p = times_room later p (room_at next p.reader) (ap in_room (popped_other next later k u p.reader e)) in
+        let h : times_in new p ≡ times_in rooms p = times_room new p (room_at rooms p.reader) (there p.reader e) in
+        omega (arith, a, d, f, h, l p)
+
+pub taking_back_step : (first next later rooms new : Rooms) (readers fewer : Bag) (k : ℕ) (o : Option (Vec Area)) → get nat_cmp next k ≡ Some o → Popped next later k → Loses k (items_of o) readers fewer → IsOrdered nat_cmp new →
+    ((c : ℕ) → room_at new c ≡ room_at rooms c) → IsTakingBack first next rooms readers → IsTakingBack first later new fewer
+taking_back_step first next later rooms new readers fewer k o g u l ord n t = record {
+  ordered = ord;
+  pairs = λ p. counted p (k == p.reader) refl;
+  same = λ c. n c ∙ t.same c;
+}
+  where
+    counted : (p : Pair) (b : Bool) → (k == p.reader) ≡ b → count_of fewer p ≡ times_in new p + times_in later p
+    counted p true e =
+        let r : k ≡ p.reader = same_cell p.reader k e in
+        let a = t.pairs p in
+        let d : times k (areas_of (items_of o)) p ≡ times p.reader (areas_of (items_of o)) p = ap (λ (x : ℕ). times x (areas_of (items_of o)) p) r in
+        let f : times_in next p ≡ times p.reader (areas_of (items_of o)) p = times_room next p (items_of o) (ap in_room (ap (λ (x : ℕ). get nat_cmp next x) (sym r) ∙ g)) in
+        let h : times_in new p ≡ times_in rooms p = times_room new p (room_at rooms p.reader) (n p.reader) in
+        let i : times_in later p ≡ 0 = times_room later p None (ap in_room (ap (λ (x : ℕ). get nat_cmp later x) (sym r) ∙ popped_here next later k u)) in
+        omega (arith, a, d, f, h, i, l p)
+    counted p false e =
+        let a = t.pairs p in
+        let d = times_other k (areas_of (items_of o)) p e in
+        let f : times_in later p ≡ times_in next p = times_room later p (room_at next p.reader) (ap in_room (popped_other next later k u p.reader e)) in
+        let h : times_in new p ≡ times_in rooms p = times_room new p (room_at rooms p.reader) (n p.reader) in
+        omega (arith, a, d, f, h, l p)
+
+pub no_entries : (next : Rooms) → (0 < length next.entries → ⊥) → (c : ℕ) → get nat_cmp next c ≡ None
+no_entries next h c = at next.entries h
+  where
+    at : (es : List (ℕ × Option (Vec Area))) → (0 < length es → ⊥) → lookup (is_at (nat_cmp c)) es ≡ None
+    at [] k = refl
+    at (e ∷ es) k = absurd (k (omega arith))
+
+none_left : (next : Rooms) → (0 < length next.entries → ⊥) → (p : Pair) → times_in next p ≡ 0
+none_left next h p = times_room next p None (ap in_room (no_entries next h p.reader))
+
+pub taking_end : (first_next first next rooms : Rooms) (readers : Bag) → (0 < length next.entries → ⊥) → IsTaking first_next first next rooms readers → ((c : ℕ) → room_at rooms c ≡ room_over first_next first c) × HasPairs readers rooms
+taking_end first_next first next rooms readers h t = (
+  λ c. ap (λ (x : Option (Option (Vec Area))). put_over x (room_at rooms c)) (sym (no_entries next h c)) ∙ t.over c,
+  λ p. let a = t.pairs p in let b = none_left next h p in omega (arith, a, b),
+)
+
+pub taking_back_end : (first next rooms : Rooms) (readers : Bag) → (0 < length next.entries → ⊥) → IsTakingBack first next rooms readers → HasPairs readers rooms
+taking_back_end first next rooms readers h t = λ p. let a = t.pairs p in let b = none_left next h p in omega (arith, a, b)
+
+-- ---- cells are taken out of a set
+
+pub away_step : (cells : List ℕ) (i x : ℕ) (first old new : BTreeSet ℕ) → i < length cells → x ≡ get_or cells i x → ((q : ℕ) → contains nat_cmp new q ≡ cond (is_at (nat_cmp x) q) false (contains nat_cmp old q)) →
+    ((c : ℕ) → contains nat_cmp old c ≡ less_these first (take i cells) c) → (c : ℕ) → contains nat_cmp new c ≡ less_these first (take (i + 1) cells) c
+away_step cells i x first old new l e u h c =
+    u c ∙ ap (λ (b : Bool). cond (is_at (nat_cmp x) c) false b) (h c) ∙ ap (λ (b : Bool). cond b false (less_these first (take i cells) c)) (is_at-eq x c) ∙ by (x == c) (contains nat_cmp first c) (is_one_of (take i cells) c)
+    ∙ ap (λ (b : Bool). contains nat_cmp first c && not b) (sym (taken cells i x c l e))
+  where
+    by : (b f y : Bool) → cond b false (f && not y) ≡ (f && not (y || (b || false)))
+    by true true true = refl
+    by true true false = refl
+    by true false y = refl
+    by false true true = refl
+    by false true false = refl
+    by false false y = refl
+
+pub away_start : (first : BTreeSet ℕ) (c : ℕ) → contains nat_cmp first c ≡ less_these first [] c
+away_start first c = at (contains nat_cmp first c)
+  where
+    at : (b : Bool) → b ≡ (b && true)
+    at true = refl
+    at false = refl

@@ -1,0 +1,288 @@
+-- Steps of a search over readers.
+use Rattle.std.proofs.Common.{◌≡◌, ◌==◌, ◌||◌, ◌⊎◌, inl, inr, not, ℕ, zero, suc, ◌+◌, ◌<◌, ◌↔◌, Bool, true, false, cond, List, [], ◌∷◌, ◌++◌, map, length, take, get_or, Some, refl, ap, sym, ◌∙◌, subst, arith, add-one}
+use Rattle.std.proofs.Math.Seq.{take-suc}
+use Rattle.std.proofs.lemmas.Bool.{or_cases, or_left, or_right, cases_Bool}
+use Rattle.std.proofs.lemmas.List.{length-append}
+use Rattle.std.proofs.lemmas.List.Folds.{list_any-append}
+use Rattle.std.specs.List.{list_any, Contains}
+use Rattle.std.specs.Map.{lookup}
+use Rattle.std.specs.Option.{unwrap_or}
+use Rattle.std.specs.Ordering.{nat_cmp}
+use Rattle.std.specs.BTreeMap.{is_at}
+use Rattle.std.specs.BTreeSet.{BTreeSet, contains}
+use Rattle.wi_parser.specs.Sheet.{Sheet, content_of}
+use Rattle.wi_parser.specs.Reads.{content_reads}
+use Rattle.wi_ranges.specs.declared.pair.Pair.{Pair}
+use Rattle.wi_ranges.specs.Bag.{Bag, IsReader, is_same, count_of}
+use Rattle.wi_ranges.proofs.Exact.{same_is}
+use Rattle.wi_graph.specs.Reach.{is_one_of, in_cone}
+use Rattle.wi_graph.specs.Inner.Search.{HasAll, HasReaders, GoesToReaders, missing, AreNoted}
+use Rattle.wi_graph.proofs.Tests.{is_at-eq}
+use Rattle.std.proofs.lemmas.List.Elements.{filter_agree}
+use Rattle.wi_graph.proofs.Walks.{same_cell, same_tests, shrinks, Same}
+use Rattle.wi_graph.proofs.StripSteps.{clash, is_itself, in_last, in_front, in_back, turned}
+use Rattle.wi_graph.proofs.Cones.{cone_has, cone_closed, cone_least}
+
+-- ---- cells are noted
+
+pub noted_none : (s : BTreeSet ℕ) (work : List ℕ) → AreNoted [] s s work work
+noted_none s work = record {
+  found = λ c. sym (or_false (contains nat_cmp s c));
+  stays = λ c h. h;
+  fresh = λ c h n. clash (contains nat_cmp s c) h n;
+  within = λ c h. inl h;
+  fewer = λ all h. omega arith;
+}
+  where
+    or_false : (b : Bool) → (b || false) ≡ b
+    or_false true = refl
+    or_false false = refl
+
+-- the set has one cell more
+abbrev pub Gains : BTreeSet ℕ → BTreeSet ℕ → ℕ → Type 0
+Gains old new x = (q : ℕ) → contains nat_cmp new q ≡ cond (is_at (nat_cmp x) q) true (contains nat_cmp old q)
+
+gains : (old new : BTreeSet ℕ) (x : ℕ) → Gains old new x → (q : ℕ) → contains nat_cmp new q ≡ cond (x == q) true (contains nat_cmp old q)
+gains old new x g q = g q ∙ ap (λ (b : Bool). cond b true (contains nat_cmp old q)) (is_at-eq x q)
+
+pub gains_stays : (old new : BTreeSet ℕ) (x : ℕ) → Gains old new x → (c : ℕ) → contains nat_cmp old c ≡ true → contains nat_cmp new c ≡ true
+gains_stays old new x g c h = gains old new x g c ∙ at (x == c)
+  where
+    at : (b : Bool) → cond b true (contains nat_cmp old c) ≡ true
+    at true = refl
+    at false = h
+
+pub gains_one : (old new : BTreeSet ℕ) (x : ℕ) → Gains old new x → contains nat_cmp new x ≡ true
+gains_one old new x g = gains old new x g x ∙ ap (λ (b : Bool). cond b true (contains nat_cmp old x)) (is_itself x)
+
+pub gains_cases : (old new : BTreeSet ℕ) (x : ℕ) → Gains old new x → (c : ℕ) → contains nat_cmp new c ≡ true → (x ≡ c) ⊎ (contains nat_cmp old c ≡ true)
+gains_cases old new x g c h = at (x == c) refl (sym (gains old new x g c) ∙ h)
+  where
+    at : (b : Bool) → (x == c) ≡ b → cond b true (contains nat_cmp old c) ≡ true → (x ≡ c) ⊎ (contains nat_cmp old c ≡ true)
+    at true e k = inl (same_cell c x e)
+    at false e k = inr k
+
+pub taken : (cells : List ℕ) (i x c : ℕ) → i < length cells → x ≡ get_or cells i x → is_one_of (take (i + 1) cells) c ≡ (is_one_of (take i cells) c || ((x == c) || false))
+taken cells i x c l e =
+    ap (λ (n : ℕ). is_one_of (take n cells) c) (add-one i)
+    ∙ ap (λ (xs : List ℕ). is_one_of xs c) (take-suc cells i x l)
+    ∙ list_any-append (λ (y : ℕ). y == c) (take i cells) (get_or cells i x ∷ [])
+    ∙ ap (λ (y : ℕ). is_one_of (take i cells) c || ((y == c) || false)) (sym e)
+
+pub found_more : (cells : List ℕ) (i x : ℕ) (old mid new : BTreeSet ℕ) → i < length cells → x ≡ get_or cells i x → Gains mid new x → ((c : ℕ) → contains nat_cmp mid c ≡ (contains nat_cmp old c || is_one_of (take i cells) c)) →
+    (c : ℕ) → contains nat_cmp new c ≡ (contains nat_cmp old c || is_one_of (take (i + 1) cells) c)
+found_more cells i x old mid new l e g f c =
+    gains mid new x g c ∙ ap (λ (b : Bool). cond (x == c) true b) (f c) ∙ by (x == c) (contains nat_cmp old c) (is_one_of (take i cells) c) ∙ ap (λ (b : Bool). contains nat_cmp old c || b) (sym (taken cells i x c l e))
+  where
+    by : (b o y : Bool) → cond b true (o || y) ≡ (o || (y || (b || false)))
+    by true true y = refl
+    by true false true = refl
+    by true false false = refl
+    by false true y = refl
+    by false false true = refl
+    by false false false = refl
+
+taken_front : (cells : List ℕ) (i x c : ℕ) → i < length cells → x ≡ get_or cells i x → is_one_of (take i cells) c ≡ true → is_one_of (take (i + 1) cells) c ≡ true
+taken_front cells i x c l e h = taken cells i x c l e ∙ or_left (is_one_of (take i cells) c) _ h
+
+taken_last : (cells : List ℕ) (i x : ℕ) → i < length cells → x ≡ get_or cells i x → is_one_of (take (i + 1) cells) x ≡ true
+taken_last cells i x l e = taken cells i x x l e ∙ or_right (is_one_of (take i cells) x) _ (or_left (x == x) false (is_itself x))
+
+pub was_new : (b d : Bool) → b ≡ not d → b ≡ true → d ≡ false
+was_new b true e h = cc
+was_new b false e h = refl
+
+pub was_old : (b d : Bool) → b ≡ not d → b ≡ false → d ≡ true
+was_old b true e h = refl
+was_old b false e h = cc
+
+-- one that the set has already
+pub noted_old : (cells : List ℕ) (i x : ℕ) (old mid new : BTreeSet ℕ) (before work : List ℕ) → i < length cells → x ≡ get_or cells i x → contains nat_cmp mid x ≡ true → Gains mid new x →
+    AreNoted (take i cells) old mid before work → AreNoted (take (i + 1) cells) old new before work
+noted_old cells i x old mid new before work l e h g n = record {
+  found = found_more cells i x old mid new l e g n.found;
+  stays = n.stays;
+  fresh = λ c k u. n.fresh c (sym (same c) ∙ k) u;
+  within = λ c k. at c (n.within c k);
+  fewer = λ all k.
+      let f = n.fewer all (λ c m. k c (taken_front cells i x c l e m)) in
+      let s : length (missing new all) ≡ length (missing mid all) = ap (λ (xs : List ℕ). length xs) (filter_agree (λ c. not (contains nat_cmp new c)) (λ c. not (contains nat_cmp mid c)) (λ c. ap (λ (b : Bool). not b) (same c)) all) in
+      omega (arith, f, s);
+}
+  where
+    same : (c : ℕ) → contains nat_cmp new c ≡ contains nat_cmp mid c
+    same c = gains mid new x g c ∙ by (x == c) refl
+      where
+        by : (b : Bool) → (x == c) ≡ b → cond b true (contains nat_cmp mid c) ≡ contains nat_cmp mid c
+        by true f = sym h ∙ ap (λ (y : ℕ). contains nat_cmp mid y) (same_cell c x f)
+        by false f = refl
+
+    at : (c : ℕ) → (is_one_of before c ≡ true) ⊎ (contains nat_cmp mid c ≡ true) → (is_one_of before c ≡ true) ⊎ (contains nat_cmp new c ≡ true)
+    at c (inl k) = inl k
+    at c (inr k) = inr (same c ∙ k)
+
+not_false : (b : Bool) → b ≡ false → not b ≡ true
+not_false true h = cc
+not_false false h = refl
+
+false_not : (b : Bool) → not b ≡ true → b ≡ false
+false_not true h = cc
+false_not false h = refl
+
+fewer_missing : (all : List ℕ) (mid new : BTreeSet ℕ) (x : ℕ) → Gains mid new x → contains nat_cmp mid x ≡ false → is_one_of all x ≡ true → length (missing new all) < length (missing mid all)
+fewer_missing all mid new x g n m = at (shrinks (λ c. not (contains nat_cmp mid c)) (λ c. not (contains nat_cmp new c)) (λ c h. lacks c (contains nat_cmp mid c) refl (false_not (contains nat_cmp new c) h)) all)
+  where
+    lacks : (c : ℕ) (b : Bool) → contains nat_cmp mid c ≡ b → contains nat_cmp new c ≡ false → not b ≡ true
+    lacks c true e h = clash (contains nat_cmp new c) (gains_stays mid new x g c e) h
+    lacks c false e h = refl
+
+    at : (length (missing new all) < length (missing mid all)) ⊎ Same (λ c. not (contains nat_cmp mid c)) (λ c. not (contains nat_cmp new c)) all → length (missing new all) < length (missing mid all)
+    at (inl l) = l
+    at (inr s) = clash (contains nat_cmp new x) (gains_one mid new x g) (false_not (contains nat_cmp new x) (s.1 x m (not_false (contains nat_cmp mid x) n)))
+
+-- one that is new
+pub noted_new : (cells : List ℕ) (i x : ℕ) (old mid new : BTreeSet ℕ) (before work more : List ℕ) → i < length cells → x ≡ get_or cells i x → contains nat_cmp mid x ≡ false → Gains mid new x → more ≡ work ++ x ∷ [] →
+    AreNoted (take i cells) old mid before work → AreNoted (take (i + 1) cells) old new before more
+noted_new cells i x old mid new before work more l e h g w n = record {
+  found = found_more cells i x old mid new l e g n.found;
+  stays = λ c k. ap (λ (xs : List ℕ). is_one_of xs c) w ∙ in_front work (x ∷ []) c (n.stays c k);
+  fresh = λ c k u. ap (λ (xs : List ℕ). is_one_of xs c) w ∙ new_one c u (gains_cases mid new x g c k);
+  within = λ c k. at c (in_last work x c (ap (λ (xs : List ℕ). is_one_of xs c) (sym w) ∙ k));
+  fewer = λ all k.
+      let f = n.fewer all (λ c m. k c (taken_front cells i x c l e m)) in
+      let s = fewer_missing all mid new x g h (k x (taken_last cells i x l e)) in
+      let t : length more ≡ length work + 1 = ap (λ (xs : List ℕ). length xs) w ∙ length-append work (x ∷ []) in
+      omega (arith, f, s, t);
+}
+  where
+    new_one : (c : ℕ) → contains nat_cmp old c ≡ false → (x ≡ c) ⊎ (contains nat_cmp mid c ≡ true) → is_one_of (work ++ x ∷ []) c ≡ true
+    new_one c u (inl k) = in_back work (x ∷ []) c (or_left (x == c) false (ap (λ (y : ℕ). x == y) (sym k) ∙ is_itself x))
+    new_one c u (inr k) = in_front work (x ∷ []) c (n.fresh c k u)
+
+    on : (c : ℕ) → (is_one_of before c ≡ true) ⊎ (contains nat_cmp mid c ≡ true) → (is_one_of before c ≡ true) ⊎ (contains nat_cmp new c ≡ true)
+    on c (inl k) = inl k
+    on c (inr k) = inr (gains_stays mid new x g c k)
+
+    at : (c : ℕ) → (is_one_of work c ≡ true) ⊎ (x ≡ c) → (is_one_of before c ≡ true) ⊎ (contains nat_cmp new c ≡ true)
+    at c (inl k) = on c (n.within c k)
+    at c (inr k) = inr (ap (λ (y : ℕ). contains nat_cmp new y) (sym k) ∙ gains_one mid new x g)
+
+-- ---- the search
+
+pub record IsSearching (readers : Bag) (cells : List ℕ) (found : BTreeSet ℕ) (work : List ℕ) : Type 0 where
+  pub all : HasAll cells found
+  pub opened : (a r : ℕ) → contains nat_cmp found a ≡ true → IsReader readers a r → (is_one_of work a ≡ true) ⊎ (contains nat_cmp found r ≡ true)
+  pub within : (c : ℕ) → is_one_of work c ≡ true → contains nat_cmp found c ≡ true
+  pub least : (p : ℕ → Bool) → ((c : ℕ) → is_one_of cells c ≡ true → p c ≡ true) → GoesToReaders readers p → (c : ℕ) → contains nat_cmp found c ≡ true → p c ≡ true
+
+pub search_start : (readers : Bag) (cells : List ℕ) (none found : BTreeSet ℕ) (empty work : List ℕ) → none.keys ≡ [] → empty ≡ [] → AreNoted cells none found empty work → IsSearching readers cells found work
+search_start readers cells none found empty work e f n = record {
+  all = λ c h. n.found c ∙ or_right (contains nat_cmp none c) _ h;
+  opened = λ a r h i. inl (n.fresh a h (nothing a));
+  within = λ c h. at c (n.within c h);
+  least = λ p h k c m. first p h c (or_cases (contains nat_cmp none c) _ (sym (n.found c) ∙ m));
+}
+  where
+    nothing : (c : ℕ) → contains nat_cmp none c ≡ false
+    nothing c = ap (λ (xs : List ℕ). list_any (is_at (nat_cmp c)) xs) e
+
+    at : (c : ℕ) → (is_one_of empty c ≡ true) ⊎ (contains nat_cmp found c ≡ true) → contains nat_cmp found c ≡ true
+    at c (inl k) = clash (is_one_of empty c) k (ap (λ (xs : List ℕ). is_one_of xs c) f)
+    at c (inr k) = k
+
+    first : (p : ℕ → Bool) → ((c : ℕ) → is_one_of cells c ≡ true → p c ≡ true) → (c : ℕ) → (contains nat_cmp none c ≡ true) ⊎ (is_one_of cells c ≡ true) → p c ≡ true
+    first p h c (inl k) = clash (contains nat_cmp none c) k (nothing c)
+    first p h c (inr k) = h c k
+
+abbrev pub AreReaders : Bag → ℕ → List ℕ → Type 0
+AreReaders readers a next = (r : ℕ) → Contains next r ↔ IsReader readers a r
+
+listed_one : (xs : List ℕ) (c : ℕ) → Contains xs c → is_one_of xs c ≡ true
+listed_one xs c h = at xs h.0 h.1 h.2
+  where
+    at : (ys : List ℕ) (i : ℕ) → i < length ys → get_or ys i c ≡ c → is_one_of ys c ≡ true
+    at [] i l e = absurd (omega arith)
+    at (y ∷ ys) zero l e = or_left (y == c) _ (ap (λ (z : ℕ). z == c) e ∙ is_itself c)
+    at (y ∷ ys) (suc i) l e = or_right (y == c) _ (at ys i (omega arith) e)
+
+one_listed : (xs : List ℕ) (c : ℕ) → is_one_of xs c ≡ true → Contains xs c
+one_listed [] c h = cc
+one_listed (x ∷ xs) c h = at (or_cases (x == c) _ h) (one_listed xs c)
+  where
+    at : ((x == c) ≡ true) ⊎ (is_one_of xs c ≡ true) → (is_one_of xs c ≡ true → Contains xs c) → Contains (x ∷ xs) c
+    at (inl e) ih = (0, omega arith, same_cell c x e)
+    at (inr k) ih = let i = ih k in (suc i.0, omega (arith, i.1), i.2)
+
+pub search_step : (readers : Bag) (cells : List ℕ) (found more : BTreeSet ℕ) (work less after next : List ℕ) (cell : ℕ) → work ≡ less ++ cell ∷ [] → AreReaders readers cell next → AreNoted next found more less after →
+    IsSearching readers cells found work → IsSearching readers cells more after
+search_step readers cells found more work less after next cell e r n s = record {
+  all = λ c h. still c (s.all c h);
+  opened = λ a d h i. opened a d h i (cases_Bool (contains nat_cmp found a));
+  within = λ c h. within c (n.within c h);
+  least = λ p h k c m. first p h k c (or_cases (contains nat_cmp found c) _ (sym (n.found c) ∙ m));
+}
+  where
+    still : (c : ℕ) → contains nat_cmp found c ≡ true → contains nat_cmp more c ≡ true
+    still c h = n.found c ∙ or_left (contains nat_cmp found c) _ h
+
+    gone : (a d : ℕ) → IsReader readers a d → (is_one_of less a ≡ true) ⊎ (cell ≡ a) → (is_one_of after a ≡ true) ⊎ (contains nat_cmp more d ≡ true)
+    gone a d i (inl k) = inl (n.stays a k)
+    gone a d i (inr k) = inr (n.found d ∙ or_right (contains nat_cmp found d) _ (listed_one next d ((r d).1 (subst (λ (x : ℕ). IsReader readers x d) (sym k) i))))
+
+    known : (a d : ℕ) → IsReader readers a d → (is_one_of work a ≡ true) ⊎ (contains nat_cmp found d ≡ true) → (is_one_of after a ≡ true) ⊎ (contains nat_cmp more d ≡ true)
+    known a d i (inl k) = gone a d i (in_last less cell a (ap (λ (xs : List ℕ). is_one_of xs a) (sym e) ∙ k))
+    known a d i (inr k) = inr (still d k)
+
+    opened : (a d : ℕ) → contains nat_cmp more a ≡ true → IsReader readers a d → (contains nat_cmp found a ≡ true) ⊎ (contains nat_cmp found a ≡ false) → (is_one_of after a ≡ true) ⊎ (contains nat_cmp more d ≡ true)
+    opened a d h i (inl k) = known a d i (s.opened a d k i)
+    opened a d h i (inr k) = inl (n.fresh a h k)
+
+    within : (c : ℕ) → (is_one_of less c ≡ true) ⊎ (contains nat_cmp more c ≡ true) → contains nat_cmp more c ≡ true
+    within c (inl k) = still c (s.within c (ap (λ (xs : List ℕ). is_one_of xs c) e ∙ in_front less (cell ∷ []) c k))
+    within c (inr k) = k
+
+    here : contains nat_cmp found cell ≡ true
+    here = s.within cell (ap (λ (xs : List ℕ). is_one_of xs cell) e ∙ in_back less (cell ∷ []) cell (or_left (cell == cell) false (is_itself cell)))
+
+    first : (p : ℕ → Bool) → ((c : ℕ) → is_one_of cells c ≡ true → p c ≡ true) → GoesToReaders readers p → (c : ℕ) → (contains nat_cmp found c ≡ true) ⊎ (is_one_of next c ≡ true) → p c ≡ true
+    first p h k c (inl m) = s.least p h k c m
+    first p h k c (inr m) = k cell c (s.least p h k cell here) ((r c).0 (one_listed next c m))
+
+pub search_end : (readers : Bag) (cells : List ℕ) (found : BTreeSet ℕ) (work : List ℕ) → work ≡ [] → IsSearching readers cells found work → HasReaders readers found
+search_end readers cells found work e s a r h i = at (s.opened a r h i)
+  where
+    at : (is_one_of work a ≡ true) ⊎ (contains nat_cmp found r ≡ true) → contains nat_cmp found r ≡ true
+    at (inl k) = clash (is_one_of work a) k (ap (λ (xs : List ℕ). is_one_of xs a) e)
+    at (inr k) = k
+
+-- ---- it ends
+
+abbrev pub all_readers : Bag → List ℕ
+all_readers bag = map (λ e. e.0.reader) bag
+
+reader_there : (bag : Bag) (p : Pair) → 0 < count_of bag p → is_one_of (all_readers bag) p.reader ≡ true
+reader_there [] p h = absurd (omega arith)
+reader_there (e ∷ es) p h = at (is_same p e.0) refl h (reader_there es p)
+  where
+    at : (b : Bool) → is_same p e.0 ≡ b → 0 < unwrap_or (cond b (Some e.1) (lookup (is_same p) es)) 0 → (0 < count_of es p → is_one_of (all_readers es) p.reader ≡ true) → (e.0.reader == p.reader || is_one_of (all_readers es) p.reader) ≡ true
+    at true f k ih = or_left (e.0.reader == p.reader) _ (ap (λ (q : Pair). q.reader == p.reader) (sym (same_is p e.0 f)) ∙ is_itself p.reader)
+    at false f k ih = or_right (e.0.reader == p.reader) _ (ih k)
+
+readers_there : (bag : Bag) (a r : ℕ) → IsReader bag a r → is_one_of (all_readers bag) r ≡ true
+readers_there bag a r i = ap (λ (x : ℕ). is_one_of (all_readers bag) x) (sym i.1) ∙ reader_there bag i.0 i.2
+
+pub search_ends : (readers : Bag) (found more : BTreeSet ℕ) (work less after next : List ℕ) (cell : ℕ) → work ≡ less ++ cell ∷ [] → AreReaders readers cell next → AreNoted next found more less after →
+    length (missing more (all_readers readers)) + length after < length (missing found (all_readers readers)) + length work
+search_ends readers found more work less after next cell e r n =
+    let f = n.fewer (all_readers readers) (λ c h. readers_there readers cell c ((r c).0 (one_listed next c h))) in
+    let t : length work ≡ length less + 1 = ap (λ (xs : List ℕ). length xs) e ∙ length-append less (cell ∷ []) in
+    omega (arith, f, t)
+
+-- ---- what it finds is the cone
+
+pub found_cone : (s : Sheet) (readers : Bag) (cells : List ℕ) (found : BTreeSet ℕ) → ((a r : ℕ) → (content_reads (content_of s r) a ≡ true) ↔ IsReader readers a r) → HasAll cells found → HasReaders readers found →
+    ((p : ℕ → Bool) → ((c : ℕ) → is_one_of cells c ≡ true → p c ≡ true) → GoesToReaders readers p → (c : ℕ) → contains nat_cmp found c ≡ true → p c ≡ true) →
+    (c : ℕ) → is_one_of found.keys c ≡ in_cone s cells c
+found_cone s readers cells found i h k l c = sym (turned found.keys c) ∙ same_tests (contains nat_cmp found c) (in_cone s cells c)
+    (l (in_cone s cells) (cone_has s cells) (λ a r m u. cone_closed s cells r a ((i a r).1 u) m) c)
+    (cone_least s cells (contains nat_cmp found) h (λ d a r m. k a d m ((i a d).0 r)) c)

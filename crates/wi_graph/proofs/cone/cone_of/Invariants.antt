@@ -1,0 +1,10 @@
+use Rattle.std.proofs.Common.{◌+◌, length}
+use Rattle.wi_graph.specs.Inner.Search.{missing}
+use Rattle.wi_graph.proofs.SearchSteps.{IsSearching, all_readers}
+use Rattle.wi_graph.proofs.cone.cone_of.Given as goal
+
+abbrev pub invariant-cells : goal.invariant-cells
+invariant-cells l = IsSearching l.readers l.cells l.found l.work.items
+
+abbrev pub decreases-cells : goal.decreases-cells
+decreases-cells l = length (missing l.found (all_readers l.readers)) + length l.work.items

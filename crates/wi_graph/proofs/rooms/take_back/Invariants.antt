@@ -1,0 +1,9 @@
+use Rattle.std.proofs.Common.{length}
+use Rattle.wi_graph.proofs.RoomSteps.{IsTakingBack}
+use Rattle.wi_graph.proofs.rooms.take_back.Given as goal
+
+abbrev pub invariant-cells : goal.invariant-cells
+invariant-cells l = IsTakingBack l.fn.rooms l.next l.rooms l.readers
+
+abbrev pub decreases-cells : goal.decreases-cells
+decreases-cells l = length l.next.entries

@@ -1,0 +1,25 @@
+-- What an edit brings.
+use Rattle.std.specs.Prelude.{◌≡◌, ◌==◌, ◌&&◌, ℕ, cond, not, List, [], ◌∷◌, Option, filter}
+use Rattle.std.specs.Ordering.{nat_cmp}
+use Rattle.std.specs.BTreeMap.{get}
+use Rattle.std.specs.BTreeSet.{BTreeSet, contains}
+use Rattle.wi_values.specs.Address.{Area}
+use Rattle.wi_parser.specs.declared.content.Content.{Content}
+use Rattle.wi_graph.specs.Edges.{areas_in}
+use Rattle.wi_graph.specs.Inner.Rooms.{Rooms, put_over}
+
+-- what a cell reads after the changes, that read this before them
+abbrev pub areas_then : List (ℕ × Option Content) → ℕ → Option (List Area) → Option (List Area)
+areas_then [] c o = o
+areas_then (x ∷ xs) c o = areas_then xs c (cond (c == x.0) (areas_in x.1) o)
+
+abbrev pub cells_in : List (ℕ × Option Content) → List ℕ
+cells_in [] = []
+cells_in (x ∷ xs) = x.0 ∷ cells_in xs
+
+-- the rooms are what the changes bring
+abbrev pub Brings : Rooms → List (ℕ × Option Content) → Type 0
+Brings next changes = (c : ℕ) (o : Option (List Area)) → put_over (get nat_cmp next c) o ≡ areas_then changes c o
+
+abbrev pub went_from : BTreeSet ℕ → BTreeSet ℕ → BTreeSet ℕ → List ℕ
+went_from circles cells rest = filter (λ c. contains nat_cmp circles c && not (contains nat_cmp rest c)) cells.keys

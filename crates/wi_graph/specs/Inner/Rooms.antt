@@ -1,0 +1,95 @@
+-- Rooms for the rectangles that formulas read. A room is vacant only while an edit is staged.
+use Rattle.std.specs.Prelude.{◌≡◌, ◌+◌, ℕ, Bool, ◌&&◌, not, List, [], ◌∷◌, Option, Some, None, if◌then◌else◌}
+use Rattle.std.specs.Ordering.{nat_cmp}
+use Rattle.std.specs.Global.{Vec}
+use Rattle.std.specs.BTreeMap.{BTreeMap, get, IsOrdered}
+use Rattle.std.specs.BTreeSet.{BTreeSet, contains}
+use Rattle.wi_values.specs.Address.{Area}
+use Rattle.wi_parser.specs.Sheet.{Sheet, content_of}
+use Rattle.wi_ranges.specs.declared.pair.Pair.{Pair}
+use Rattle.wi_ranges.specs.Bag.{Bag, pair_of, is_same, count_of}
+use Rattle.wi_graph.specs.Circular.{circular}
+use Rattle.wi_graph.specs.Reach.{is_one_of}
+use Rattle.wi_graph.specs.Edges.{Edges, areas_in, with_areas}
+
+abbrev pub Rooms : Type 0
+Rooms = BTreeMap ℕ (Option (Vec Area))
+
+abbrev pub items_of : Option (Vec Area) → Option (List Area)
+items_of None = None
+items_of (Some v) = Some v.items
+
+abbrev pub in_room : Option (Option (Vec Area)) → Option (List Area)
+in_room None = None
+in_room (Some o) = items_of o
+
+-- what the formula of a cell reads, if it has one
+abbrev pub room_at : Rooms → ℕ → Option (List Area)
+room_at rooms c = in_room (get nat_cmp rooms c)
+
+abbrev pub put_over : Option (Option (Vec Area)) → Option (List Area) → Option (List Area)
+put_over None o = o
+put_over (Some x) o = items_of x
+
+-- and once the next are put in
+abbrev pub room_over : Rooms → Rooms → ℕ → Option (List Area)
+room_over next rooms c = put_over (get nat_cmp next c) (room_at rooms c)
+
+abbrev pub with_room : ℕ → Option (Vec Area) → Edges → Edges
+with_room c None es = es
+with_room c (Some v) es = (c, v.items) ∷ es
+
+abbrev pub edges_in : List (ℕ × Option (Vec Area)) → Edges
+edges_in [] = []
+edges_in (e ∷ es) = with_room e.0 e.1 (edges_in es)
+
+abbrev pub edges_over : Edges → List (ℕ × Option (Vec Area)) → Edges
+edges_over es [] = es
+edges_over es (x ∷ xs) = with_areas (edges_over es xs) x.0 (items_of x.1)
+
+abbrev pub areas_of : Option (List Area) → List Area
+areas_of None = []
+areas_of (Some rs) = rs
+
+-- how many of the rectangles make this pair with the cell
+abbrev pub times : ℕ → List Area → Pair → ℕ
+times c [] p = 0
+times c (r ∷ rs) p = (if is_same (pair_of r c) p then 1 else 0) + times c rs p
+
+-- how often the pair's cell reads its rectangle
+abbrev pub times_in : Rooms → Pair → ℕ
+times_in rooms p = times p.reader (areas_of (room_at rooms p.reader)) p
+
+-- each that is put in has a room
+abbrev pub HasRooms : Rooms → Rooms → Type 0
+HasRooms rooms next = (c : ℕ) → get nat_cmp rooms c ≡ None → room_at next c ≡ None
+
+-- the index has the pairs of the formulas
+abbrev pub HasPairs : Bag → Rooms → Type 0
+HasPairs readers rooms = (p : Pair) → count_of readers p ≡ times_in rooms p
+
+-- and those of the next
+abbrev pub HasBoth : Bag → Rooms → Rooms → Type 0
+HasBoth readers rooms next = (p : Pair) → count_of readers p ≡ times_in rooms p + times_in next p
+
+abbrev pub less_these : BTreeSet ℕ → List ℕ → ℕ → Bool
+less_these set xs c = contains nat_cmp set c && not (is_one_of xs c)
+
+-- the test finds the circular cells where formulas read this
+pub record AreCircles (f : ℕ → Option (List Area)) (test : ℕ → Bool) : Type 0 where
+  pub sheet : Sheet
+  pub are : (c : ℕ) → f c ≡ areas_in (content_of sheet c)
+  pub circles : (c : ℕ) → test c ≡ circular sheet c
+
+pub record IsGraph (rooms : Rooms) (readers : Bag) (circles : BTreeSet ℕ) : Type 0 where
+  pub ordered : IsOrdered nat_cmp rooms
+  pub pairs : HasPairs readers rooms
+  pub circular : AreCircles (room_at rooms) (contains nat_cmp circles)
+
+-- the set has the cells that are circular before or after; those that came with the edit, or go with it, are listed
+pub record IsStaged (rooms next : Rooms) (readers : Bag) (circles : BTreeSet ℕ) (came went : List ℕ) : Type 0 where
+  pub ordered : IsOrdered nat_cmp rooms
+  pub has_rooms : HasRooms rooms next
+  pub pairs : HasBoth readers rooms next
+  pub before : AreCircles (room_at rooms) (less_these circles came)
+  pub after : AreCircles (room_over next rooms) (less_these circles went)

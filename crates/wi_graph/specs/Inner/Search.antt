@@ -1,0 +1,30 @@
+-- A search over readers, from some cells on.
+use Rattle.std.specs.Prelude.{◌≡◌, ◌⊎◌, ℕ, ◌+◌, ◌≤◌, Bool, true, false, ◌||◌, not, List, filter, length}
+use Rattle.std.specs.Ordering.{nat_cmp}
+use Rattle.std.specs.BTreeSet.{BTreeSet, contains}
+use Rattle.wi_ranges.specs.Bag.{Bag, IsReader}
+use Rattle.wi_graph.specs.Reach.{is_one_of}
+
+-- the set has each of these cells
+abbrev pub HasAll : List ℕ → BTreeSet ℕ → Type 0
+HasAll cells found = (c : ℕ) → is_one_of cells c ≡ true → contains nat_cmp found c ≡ true
+
+-- the set has all that read one of it
+abbrev pub HasReaders : Bag → BTreeSet ℕ → Type 0
+HasReaders readers found = (a r : ℕ) → contains nat_cmp found a ≡ true → IsReader readers a r → contains nat_cmp found r ≡ true
+
+-- this goes over from a cell to all that read it
+abbrev pub GoesToReaders : Bag → (ℕ → Bool) → Type 0
+GoesToReaders readers p = (a r : ℕ) → p a ≡ true → IsReader readers a r → p r ≡ true
+
+-- those of the list that the set lacks
+abbrev pub missing : BTreeSet ℕ → List ℕ → List ℕ
+missing found cells = filter (λ c. not (contains nat_cmp found c)) cells
+
+-- cells were put into a set, and those that were new there at the end of a list
+pub record AreNoted (cells : List ℕ) (old new : BTreeSet ℕ) (before after : List ℕ) : Type 0 where
+  pub found : (c : ℕ) → contains nat_cmp new c ≡ (contains nat_cmp old c || is_one_of cells c)
+  pub stays : (c : ℕ) → is_one_of before c ≡ true → is_one_of after c ≡ true
+  pub fresh : (c : ℕ) → contains nat_cmp new c ≡ true → contains nat_cmp old c ≡ false → is_one_of after c ≡ true
+  pub within : (c : ℕ) → is_one_of after c ≡ true → (is_one_of before c ≡ true) ⊎ (contains nat_cmp new c ≡ true)
+  pub fewer : (all : List ℕ) → ((c : ℕ) → is_one_of cells c ≡ true → is_one_of all c ≡ true) → length (missing new all) + length after ≤ length (missing old all) + length before

@@ -1,0 +1,26 @@
+-- Which cells of a cone turn circular.
+use Rattle.std.specs.Prelude.{◌≡◌, ◌&&◌, ℕ, Bool, cond, not, List}
+use Rattle.std.specs.List.{list_any}
+use Rattle.std.specs.Ordering.{nat_cmp}
+use Rattle.std.specs.Global.{Vec}
+use Rattle.std.specs.BTreeMap.{BTreeMap, get}
+use Rattle.std.specs.BTreeSet.{BTreeSet, contains}
+use Rattle.wi_values.specs.Address.{Area, is_within}
+use Rattle.wi_parser.specs.Sheet.{Sheet, content_of}
+use Rattle.wi_graph.specs.Circular.{circular}
+use Rattle.wi_graph.specs.Reach.{SameOff, in_cone}
+use Rattle.wi_graph.specs.Edges.{areas_in}
+use Rattle.wi_graph.specs.Inner.Stripping.{listed}
+use Rattle.wi_graph.specs.Inner.Rooms.{Rooms, room_over}
+
+-- the rectangle has one of the circular cells outside the cone
+abbrev pub has_outside : BTreeSet ℕ → BTreeSet ℕ → Area → Bool
+has_outside circles cells r = list_any (λ d. is_within r d && not (contains nat_cmp cells d)) circles.keys
+
+abbrev pub reads_outside : BTreeMap ℕ (Vec Area) → BTreeSet ℕ → BTreeSet ℕ → ℕ → Bool
+reads_outside reads circles cells c = list_any (has_outside circles cells) (listed (get nat_cmp reads c))
+
+-- of each edit that brings what is next, the cells of the cone that are left are circular after it
+abbrev pub SettlesCone : Rooms → Rooms → BTreeSet ℕ → BTreeSet ℕ → BTreeSet ℕ → Type 0
+SettlesCone rooms next circles cells rest = (s t : Sheet) (xs : List ℕ) → SameOff s t xs → ((c : ℕ) → room_over next rooms c ≡ areas_in (content_of t c)) → ((c : ℕ) → contains nat_cmp circles c ≡ circular s c) →
+    ((c : ℕ) → contains nat_cmp cells c ≡ in_cone s xs c) → (c : ℕ) → circular t c ≡ cond (contains nat_cmp cells c) (contains nat_cmp rest c) (contains nat_cmp circles c)

@@ -1,0 +1,134 @@
+//! The graph of references.
+
+ghost use Rattle.std.specs.Prelude.{◌≡◌, [], ℕ, Some, None, IfOk, OnOk, OnErr};
+ghost use Rattle.std.specs.List.Sorted.{IsStrictlyIncreasing};
+ghost use Rattle.std.specs.Option.{unwrap_or};
+ghost use Rattle.wi_parser.specs.Sheet.{Sheet};
+ghost use Rattle.wi_graph.specs.Circular.{circular};
+ghost use Rattle.wi_graph.specs.Reach.{is_one_of, in_cone};
+ghost use Rattle.wi_graph.specs.Edges.{AreEdgesOf, edges_after, staging};
+
+use crate::changes::{cells_of, rooms_of, went_of};
+use crate::cone::{cone_of, listed};
+use crate::rooms::{Rooms, take_away, take_back, take_over};
+use crate::staging::bring_in;
+use crate::turning::{bring_circles, circular_in_cone};
+use std::alloc::{AllocError, Global};
+use std::collections::{BTreeMap, BTreeSet};
+use std::marker::Model;
+use wi_parser::Content;
+use wi_ranges::RangeIndex;
+use wi_values::Address;
+
+/// An edit that is neither taken nor taken back yet. Its rooms are made, its pairs are in the index, and what it makes
+/// circular is in the set.
+#[derive(Drop)]
+struct Staged {
+    next: Rooms,
+    // The cells that are circular after it alone, and before it alone.
+    came: Vec<Address>,
+    went: Vec<Address>,
+}
+
+/// Which cells the formulas of a sheet read. It is seen as their edges, and those of an edit that is staged.
+#[derive(Drop)]
+pub struct Graph {
+    rooms: Rooms,
+    readers: RangeIndex,
+    circles: BTreeSet<Address>,
+    staged: Option<Staged>,
+    alloc: Global,
+}
+
+impl Model for Graph {
+    ghost use Rattle.wi_graph.specs.Edges.{Staging, staging};
+
+    ghost Value = { Staging };
+
+    ghost use Rattle.std.specs.Prelude.{option_map, IfSome, IfNone};
+    ghost use Rattle.wi_graph.specs.Inner.Rooms.{edges_in, edges_over, IsGraph, IsStaged};
+
+    ghost view = { λ g. staging (edges_in g.rooms.entries) (option_map (λ x. edges_over (edges_in g.rooms.entries) x.next.entries) g.staged) };
+
+    ghost invariant = { λ g. IfNone g.staged (IsGraph g.rooms g.readers g.circles) × IfSome g.staged (λ x. IsStaged g.rooms x.next g.readers g.circles x.came.items x.went.items) };
+}
+
+impl Graph {
+    /// No formulas. Takes no memory.
+    pub fn new(alloc: Global) -> Graph
+        ensures { result ≡ staging [] None }
+    {
+        Graph {
+            rooms: BTreeMap::new(alloc),
+            readers: RangeIndex::new(alloc),
+            circles: BTreeSet::new(alloc),
+            staged: None,
+            alloc,
+        }
+    }
+
+    /// Makes ready an edit, which gives each named cell a content or none; of two for one cell the later counts. If memory
+    /// runs out, all is as before. The work grows with the cone of the edited cells, the readers of its cells, what its
+    /// cells read, and logarithms.
+    pub fn stage(&mut self, changes: &[(Address, Option<Content>)]) -> Result<(), AllocError>
+        requires { self.old.staged ≡ None }
+        ensures ok { OnOk result (self.new ≡ staging self.old.now (Some (edges_after self.old.now changes.now))) }
+        ensures err { OnErr result (self.new ≡ self.old) }
+    {
+        let cells = cells_of(self.alloc, changes)?;
+        let coming = rooms_of(self.alloc, changes)?;
+        let cone = cone_of(self.alloc, &self.readers, &cells)?;
+        let rest = circular_in_cone(self.alloc, &self.rooms, &coming, &self.circles, &cone)?;
+        let went = went_of(self.alloc, &self.circles, &cone, &rest)?;
+        let came = bring_circles(self.alloc, &mut self.circles, &rest)?;
+        match bring_in(self.alloc, &mut self.rooms, &mut self.readers, coming) {
+            Ok(next) => {
+                self.staged = Some(Staged { next, came, went });
+                Ok(())
+            }
+            Err(error) => {
+                take_away(&mut self.circles, &came);
+                Err(error)
+            }
+        }
+    }
+
+    /// Takes the edit that was staged, if one was. Takes no memory.
+    pub fn commit(&mut self)
+        ensures { self.new ≡ staging (unwrap_or self.old.staged self.old.now) None }
+    {
+        if let Some(mut staged) = self.staged.take() {
+            take_over(&mut self.rooms, &mut self.readers, &mut staged.next);
+            take_away(&mut self.circles, &staged.went);
+        }
+    }
+
+    /// Takes back the edit that was staged, if one was. Takes no memory.
+    pub fn rollback(&mut self)
+        ensures { self.new ≡ staging self.old.now None }
+    {
+        if let Some(mut staged) = self.staged.take() {
+            take_back(&mut self.rooms, &mut self.readers, &mut staged.next);
+            take_away(&mut self.circles, &staged.came);
+        }
+    }
+
+    /// Whether a cell is on or above a cycle of references. The work grows with the logarithm of the count of such cells.
+    pub fn is_circular(&self, at: Address) -> bool
+        requires { self.now.staged ≡ None }
+        ensures { (s : Sheet) → AreEdgesOf self.now.now s → result ≡ circular s at }
+    {
+        self.circles.contains(&at)
+    }
+
+    /// The cells that read one of these, at any remove, with themselves: each once, in row-major order. The work grows with
+    /// their count and that of their readers, times logarithms.
+    pub fn cone(&self, cells: &[Address]) -> Result<Vec<Address>, AllocError>
+        requires { self.now.staged ≡ None }
+        ensures order { IfOk result (λ cone. IsStrictlyIncreasing cone.items) }
+        ensures cells { IfOk result (λ cone. (s : Sheet) → AreEdgesOf self.now.now s → (c : ℕ) → is_one_of cone.items c ≡ in_cone s cells.now c) }
+    {
+        let found = cone_of(self.alloc, &self.readers, cells)?;
+        listed(self.alloc, &found)
+    }
+}

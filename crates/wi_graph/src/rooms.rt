@@ -1,0 +1,115 @@
+//! Rooms for the rectangles that formulas read. An edit first makes its rooms and puts its pairs into the index; to take it
+//! or to take it back then needs no memory.
+
+ghost use Rattle.std.specs.Prelude.{◌≡◌, ◌==◌, ◌-◌, ◌+◌, ◌&&◌, not, ℕ, None, false, OnOk, OnErr, if◌then◌else◌};
+ghost use Rattle.std.specs.Ordering.{nat_cmp};
+ghost use Rattle.std.specs.BTreeMap.{get, IsOrdered};
+ghost use Rattle.std.specs.BTreeSet.{contains};
+ghost use Rattle.std.specs.Option.{is_none};
+ghost use Rattle.wi_ranges.specs.declared.pair.Pair.{Pair};
+ghost use Rattle.wi_ranges.specs.Bag.{count_of};
+ghost use Rattle.wi_graph.specs.Inner.Rooms.{items_of, room_at, room_over, areas_of, times, HasRooms, HasPairs, HasBoth, less_these};
+
+use std::alloc::AllocError;
+use std::collections::{BTreeMap, BTreeSet};
+use std::mem;
+use wi_ranges::RangeIndex;
+use wi_values::{Address, Rect};
+
+/// The rectangles that formulas read, by their cells; a vacant room has none.
+pub(crate) type Rooms = BTreeMap<Address, Option<Vec<Rect>>>;
+
+/// Takes what is next: it goes into the rooms, and the pairs of what stood there leave the index.
+pub(crate) fn take_over(rooms: &mut Rooms, readers: &mut RangeIndex, next: &mut Rooms)
+    requires ordered { IsOrdered nat_cmp rooms.old }
+    requires has_rooms { HasRooms rooms.old next.old }
+    requires pairs { HasBoth readers.old rooms.old next.old }
+    ensures ordered { IsOrdered nat_cmp rooms.new }
+    ensures rooms { (c : ℕ) → room_at rooms.new c ≡ room_over next.old rooms.old c }
+    ensures pairs { HasPairs readers.new rooms.new }
+{
+    'cells: while let Some(entry) = next.pop_first() {
+        let (cell, mut room) = entry;
+        exchange(rooms, cell, &mut room);
+        remove_room(readers, cell, &room);
+        release(rooms, cell);
+    }
+}
+
+/// Takes back what is next: its pairs leave the index, and its vacant rooms go.
+pub(crate) fn take_back(rooms: &mut Rooms, readers: &mut RangeIndex, next: &mut Rooms)
+    requires ordered { IsOrdered nat_cmp rooms.old }
+    requires pairs { HasBoth readers.old rooms.old next.old }
+    ensures ordered { IsOrdered nat_cmp rooms.new }
+    ensures rooms { (c : ℕ) → room_at rooms.new c ≡ room_at rooms.old c }
+    ensures pairs { HasPairs readers.new rooms.new }
+{
+    'cells: while let Some(entry) = next.pop_first() {
+        let (cell, room) = entry;
+        remove_room(readers, cell, &room);
+        release(rooms, cell);
+    }
+}
+
+/// Exchanges rectangles, or none, with what stands in a cell.
+fn exchange(rooms: &mut Rooms, at: Address, room: &mut Option<Vec<Rect>>)
+    requires ordered { IsOrdered nat_cmp rooms.old }
+    requires room { get nat_cmp rooms.old at ≡ None → items_of room.old ≡ None }
+    ensures ordered { IsOrdered nat_cmp rooms.new }
+    ensures rooms { (c : ℕ) → room_at rooms.new c ≡ (if at == c then items_of room.old else room_at rooms.old c) }
+    ensures others { (c : ℕ) → (at == c) ≡ false → get nat_cmp rooms.new c ≡ get nat_cmp rooms.old c }
+    ensures stood { items_of room.new ≡ room_at rooms.old at }
+{
+    if let Some(stood) = rooms.get_mut(&at) {
+        mem::swap(stood, room);
+    }
+}
+
+/// Takes away the room of a cell if it is vacant.
+fn release(rooms: &mut Rooms, at: Address)
+    requires ordered { IsOrdered nat_cmp rooms.old }
+    ensures ordered { IsOrdered nat_cmp rooms.new }
+    ensures rooms { (c : ℕ) → room_at rooms.new c ≡ room_at rooms.old c }
+    ensures others { (c : ℕ) → (at == c) ≡ false → get nat_cmp rooms.new c ≡ get nat_cmp rooms.old c }
+{
+    if is_vacant(rooms, at) {
+        let _ = rooms.remove(&at);
+    }
+}
+
+/// Whether nothing stands in a cell.
+fn is_vacant(rooms: &Rooms, at: Address) -> bool
+    ensures { result ≡ is_none (room_at rooms.now at) }
+{
+    match rooms.get(&at) {
+        Some(room) => room.is_none(),
+        None => true,
+    }
+}
+
+/// Takes the pairs of what stood in a cell out of the index.
+pub(crate) fn remove_room(readers: &mut RangeIndex, cell: Address, room: &Option<Vec<Rect>>)
+    ensures { (p : Pair) → count_of readers.new p ≡ count_of readers.old p - times cell (areas_of (items_of room.now)) p }
+{
+    if let Some(areas) = room {
+        remove_pairs(readers, cell, areas);
+    }
+}
+
+/// Takes the pairs of some rectangles and a cell out of the index.
+pub(crate) fn remove_pairs(readers: &mut RangeIndex, cell: Address, areas: &[Rect])
+    ensures { (p : Pair) → count_of readers.new p ≡ count_of readers.old p - times cell areas.now p }
+{
+    for area in areas {
+        readers.remove(*area, cell);
+    }
+}
+
+/// Takes cells out of a set.
+pub(crate) fn take_away(set: &mut BTreeSet<Address>, cells: &[Address])
+    ensures { (c : ℕ) → contains nat_cmp set.new c ≡ less_these set.old cells.now c }
+{
+    for cell in cells {
+        set.remove(cell);
+    }
+}
