@@ -15,7 +15,8 @@ use Rattle.wi_values.specs.Address.{Area}
 use Rattle.wi_parser.specs.declared.content.Content.{Content}
 use Rattle.wi_graph.specs.Edges.{Edges, areas_in, areas_at, with_areas, edges_after}
 use Rattle.wi_graph.specs.Inner.Rooms.{Rooms, items_of, in_room, room_at, put_over, room_over, with_room, edges_in, edges_over}
-use Rattle.wi_graph.proofs.Tests.{is_at-eq}
+use Rattle.wi_graph.proofs.Tests.{is_at-eq, at_same, at_itself}
+use Rattle.wi_graph.proofs.Walks.{same_cell}
 
 -- ---- what is found
 
@@ -50,9 +51,6 @@ tied c k h = grind (arith, nat_tests)
 apart_keys : (q c k : ℕ) → (k == c) ≡ false → (q == c) ≡ true → is_at (nat_cmp q) k ≡ true → ⊥
 apart_keys q c k h a b = grind (arith, nat_tests)
 
-same_key : (c k : ℕ) → (k == c) ≡ true → k ≡ c
-same_key c k h = grind (arith, nat_tests)
-
 insert_at : (q c : ℕ) (x : List Area) (e : ℕ × List Area) (es : Edges) (o : Ordering) → nat_cmp c e.0 ≡ o → areas_at (insert_entry nat_cmp es c x) q ≡ cond (q == c) (Some x) (areas_at es q) →
     areas_at (match_ordering o ((c, x) ∷ e ∷ es) ((e.0, x) ∷ es) (e ∷ insert_entry nat_cmp es c x)) q ≡ cond (q == c) (Some x) (areas_at (e ∷ es) q)
 insert_at q c x e es Less h ih = ap (λ (b : Bool). cond b (Some x) (areas_at (e ∷ es) q)) (is_at-eq q c)
@@ -65,7 +63,7 @@ areas_insert (e ∷ es) c x q = insert_at q c x e es (nat_cmp c e.0) refl (areas
 
 remove_at : (q c : ℕ) (e : ℕ × List Area) (es : Edges) (b : Bool) → (e.0 == c) ≡ b → areas_at (filter (λ x. not (x.0 == c)) es) q ≡ cond (q == c) None (areas_at es q) →
     areas_at (cond (not b) (e ∷ filter (λ x. not (x.0 == c)) es) (filter (λ x. not (x.0 == c)) es)) q ≡ cond (q == c) None (areas_at (e ∷ es) q)
-remove_at q c e es true h ih = gone (q == c) (is_at (nat_cmp q) e.0) (Some e.1) (areas_at es q) _ (is_at-eq q e.0 ∙ ap (λ (k : ℕ). q == k) (same_key c e.0 h)) ih
+remove_at q c e es true h ih = gone (q == c) (is_at (nat_cmp q) e.0) (Some e.1) (areas_at es q) _ (is_at-eq q e.0 ∙ ap (λ (k : ℕ). q == k) (same_cell c e.0 h)) ih
 remove_at q c e es false h ih = swap (q == c) (is_at (nat_cmp q) e.0) None (Some e.1) (areas_at es q) _ (apart_keys q c e.0 h) ih
 
 areas_remove : (es : Edges) (c q : ℕ) → areas_at (filter (λ x. not (x.0 == c)) es) q ≡ cond (q == c) None (areas_at es q)
@@ -117,12 +115,6 @@ earlier a b (e ∷ es) l h = (omega (arith, h.0), earlier a b es l h.1)
 
 at_other : (a b : ℕ) → a < b → is_at (nat_cmp a) b ≡ false
 at_other a b h = grind (arith, nat_tests)
-
-at_itself : (a : ℕ) → is_at (nat_cmp a) a ≡ true
-at_itself a = grind (arith, nat_tests)
-
-at_same : (a x : ℕ) → is_at (nat_cmp a) x ≡ true → x ≡ a
-at_same a x h = grind (arith, nat_tests)
 
 lookup_after : {X : Type 0} (a : ℕ) (es : List (ℕ × X)) → ComeAfter a es → lookup (is_at (nat_cmp a)) es ≡ None
 lookup_after a [] h = refl

@@ -14,6 +14,7 @@ use Rattle.wi_graph.specs.Circular.{circular}
 use Rattle.std.specs.Option.{unwrap_or}
 use Rattle.wi_graph.specs.Edges.{Edges, Staging, staging}
 use Rattle.wi_graph.specs.declared.graph.Staged.{Staged}
+use Rattle.wi_graph.specs.declared.turning.Turns.{Turns}
 use Rattle.wi_graph.specs.Inner.Rooms.{Rooms, in_room, room_at, room_over, edges_in, edges_over, areas_of, times, HasPairs, less_these, AreCircles, IsGraph, IsStaged}
 use Rattle.wi_graph.proofs.Walks.{circular_walks}
 
@@ -46,20 +47,20 @@ unstaged rooms readers circles (Some x) e h = cc
 pub circles_over : (f g : ℕ → Option (List Area)) (p q : ℕ → Bool) → ((c : ℕ) → f c ≡ g c) → ((c : ℕ) → p c ≡ q c) → AreCircles g q → AreCircles f p
 circles_over f g p q e h a = record { sheet = a.sheet; are = λ c. e c ∙ a.are c; circles = λ c. h c ∙ a.circles c }
 
-pub taken_graph : (old new next : Rooms) (before after : Bag) (had has : BTreeSet ℕ) (came went : List ℕ) → IsStaged old next before had came went → IsOrdered nat_cmp new → ((c : ℕ) → room_at new c ≡ room_over next old c) → HasPairs after new →
-    ((c : ℕ) → contains nat_cmp has c ≡ less_these had went c) → IsGraph new after has
-taken_graph old new next before after had has came went s o e p h = record {
+pub taken_graph : (old new next : Rooms) (before after : Bag) (had has : BTreeSet ℕ) (turns : Turns) → IsStaged old next before had turns → IsOrdered nat_cmp new → ((c : ℕ) → room_at new c ≡ room_over next old c) → HasPairs after new →
+    ((c : ℕ) → contains nat_cmp has c ≡ less_these had turns.went.items c) → IsGraph new after has
+taken_graph old new next before after had has turns s o e p h = record {
   ordered = o;
   pairs = p;
-  circular = circles_over (room_at new) (room_over next old) (contains nat_cmp has) (less_these had went) e h s.after;
+  circular = circles_over (room_at new) (room_over next old) (contains nat_cmp has) (less_these had turns.went.items) e h s.after;
 }
 
-pub taken_back_graph : (old new next : Rooms) (before after : Bag) (had has : BTreeSet ℕ) (came went : List ℕ) → IsStaged old next before had came went → IsOrdered nat_cmp new → ((c : ℕ) → room_at new c ≡ room_at old c) → HasPairs after new →
-    ((c : ℕ) → contains nat_cmp has c ≡ less_these had came c) → IsGraph new after has
-taken_back_graph old new next before after had has came went s o e p h = record {
+pub taken_back_graph : (old new next : Rooms) (before after : Bag) (had has : BTreeSet ℕ) (turns : Turns) → IsStaged old next before had turns → IsOrdered nat_cmp new → ((c : ℕ) → room_at new c ≡ room_at old c) → HasPairs after new →
+    ((c : ℕ) → contains nat_cmp has c ≡ less_these had turns.came.items c) → IsGraph new after has
+taken_back_graph old new next before after had has turns s o e p h = record {
   ordered = o;
   pairs = p;
-  circular = circles_over (room_at new) (room_at old) (contains nat_cmp has) (less_these had came) e h s.before;
+  circular = circles_over (room_at new) (room_at old) (contains nat_cmp has) (less_these had turns.came.items) e h s.before;
 }
 
 -- ---- what it is seen as
@@ -79,5 +80,5 @@ pub taken_back_view : (old new : Rooms) (o after : Option Staged) (now : Staging
 taken_back_view old new o (Some z) now f v k = cc
 taken_back_view old new o None now f v k = ap (λ (z : Edges). staging z None) k ∙ ap (λ (n : Staging). staging n.now None) v
 
-pub staged_is : (rooms : Rooms) (readers : Bag) (circles : BTreeSet ℕ) (o : Option Staged) (x : Staged) → o ≡ Some x → IfSome o (λ y. IsStaged rooms y.next readers circles y.came.items y.went.items) → IsStaged rooms x.next readers circles x.came.items x.went.items
+pub staged_is : (rooms : Rooms) (readers : Bag) (circles : BTreeSet ℕ) (o : Option Staged) (x : Staged) → o ≡ Some x → IfSome o (λ y. IsStaged rooms y.next readers circles y.turns) → IsStaged rooms x.next readers circles x.turns
 staged_is rooms readers circles o x e h = rw e at h

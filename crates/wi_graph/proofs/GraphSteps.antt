@@ -60,9 +60,6 @@ graph_circular rooms readers circles g s e c =
 
 -- ---- who reads a cell
 
-some_more : (a b : ℕ) → 0 < a → 0 < a + b
-some_more a b h = omega arith
-
 times_reads : (k : ℕ) (rs : List Area) (p : Pair) (d : ℕ) → 0 < times k rs p → is_within (area_of p) d ≡ true → list_any (λ r. is_within r d) rs ≡ true
 times_reads k [] p d h w = absurd (omega arith)
 times_reads k (r ∷ rs) p d h w = at (is_same (pair_of r k) p) refl h (times_reads k rs p d)

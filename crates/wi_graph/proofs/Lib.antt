@@ -7,6 +7,9 @@ pub mod ReachTest
 pub mod ReachSteps
 pub mod Agreement
 pub mod Cones
+pub mod SetSteps
+pub mod WithinSteps
+pub mod HeldSteps
 pub mod CircularAfter
 pub mod StripSteps
 pub mod SearchSteps

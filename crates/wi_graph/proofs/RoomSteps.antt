@@ -1,22 +1,18 @@
 -- Steps of taking an edit, and of taking it back.
-use Rattle.std.proofs.Common.{◌≡◌, ◌==◌, ◌+◌, ◌-◌, ◌<◌, ℕ, zero, suc, Bool, true, false, ◌&&◌, ◌||◌, cond, not, List, [], ◌∷◌, take, get_or, length, Option, Some, None, refl, ap, sym, ◌∙◌, arith, add-one}
+use Rattle.std.proofs.Common.{◌≡◌, ◌==◌, ◌+◌, ◌-◌, ◌<◌, ℕ, zero, suc, Bool, true, false, cond, List, [], ◌∷◌, take, get_or, length, Option, Some, None, refl, ap, sym, ◌∙◌, arith, add-one}
 use Rattle.std.specs.Prelude.{if◌then◌else◌}
 use Rattle.std.specs.Option.{is_none}
 use Rattle.std.specs.Ordering.{nat_cmp}
 use Rattle.std.specs.Map.{lookup}
 use Rattle.std.specs.Global.{Vec}
 use Rattle.std.specs.BTreeMap.{get, IsOrdered, is_at}
-use Rattle.std.specs.BTreeSet.{BTreeSet, contains}
 use Rattle.wi_values.specs.Address.{Area}
 use Rattle.wi_ranges.specs.declared.pair.Pair.{Pair}
 use Rattle.wi_ranges.specs.Bag.{Bag, pair_of, is_same, count_of, HasOneLess}
 use Rattle.wi_ranges.proofs.Exact.{same_is}
-use Rattle.wi_graph.specs.Reach.{is_one_of}
-use Rattle.wi_graph.specs.Inner.Rooms.{Rooms, items_of, in_room, room_at, put_over, room_over, areas_of, times, times_in, HasRooms, HasPairs, HasBoth, less_these}
-use Rattle.wi_graph.proofs.Tests.{is_at-eq}
+use Rattle.wi_graph.specs.Inner.Rooms.{Rooms, items_of, in_room, room_at, put_over, room_over, areas_of, times, times_in, HasRooms, HasPairs, HasBoth}
+use Rattle.wi_graph.proofs.Tests.{is_at-eq, is_itself}
 use Rattle.wi_graph.proofs.Walks.{same_cell}
-use Rattle.wi_graph.proofs.StripSteps.{is_itself}
-use Rattle.wi_graph.proofs.SearchSteps.{taken}
 
 -- ---- how often
 
@@ -45,10 +41,6 @@ less_more k rs i r first old new h e l u p = at (is_same (pair_of r k) p) (l p) 
     at false f g = omega (arith, f, g, u p)
 
 -- ---- a room
-
-cond_same : {X : Type 0} (b : Bool) (x : X) → cond b x x ≡ x
-cond_same true x = refl
-cond_same false x = refl
 
 pub put_room : (old new : Rooms) (k : ℕ) (x : Option (Option (Vec Area))) (o : Option (List Area)) → in_room x ≡ o → ((q : ℕ) → get nat_cmp new q ≡ cond (is_at (nat_cmp k) q) x (get nat_cmp old q)) →
     (c : ℕ) → room_at new c ≡ (if k == c then o else room_at old c)
@@ -195,26 +187,3 @@ taking_end first_next first next rooms readers h t = (
 
 pub taking_back_end : (first next rooms : Rooms) (readers : Bag) → (0 < length next.entries → ⊥) → IsTakingBack first next rooms readers → HasPairs readers rooms
 taking_back_end first next rooms readers h t = λ p. let a = t.pairs p in let b = none_left next h p in omega (arith, a, b)
-
--- ---- cells are taken out of a set
-
-pub away_step : (cells : List ℕ) (i x : ℕ) (first old new : BTreeSet ℕ) → i < length cells → x ≡ get_or cells i x → ((q : ℕ) → contains nat_cmp new q ≡ cond (is_at (nat_cmp x) q) false (contains nat_cmp old q)) →
-    ((c : ℕ) → contains nat_cmp old c ≡ less_these first (take i cells) c) → (c : ℕ) → contains nat_cmp new c ≡ less_these first (take (i + 1) cells) c
-away_step cells i x first old new l e u h c =
-    u c ∙ ap (λ (b : Bool). cond (is_at (nat_cmp x) c) false b) (h c) ∙ ap (λ (b : Bool). cond b false (less_these first (take i cells) c)) (is_at-eq x c) ∙ by (x == c) (contains nat_cmp first c) (is_one_of (take i cells) c)
-    ∙ ap (λ (b : Bool). contains nat_cmp first c && not b) (sym (taken cells i x c l e))
-  where
-    by : (b f y : Bool) → cond b false (f && not y) ≡ (f && not (y || (b || false)))
-    by true true true = refl
-    by true true false = refl
-    by true false y = refl
-    by false true true = refl
-    by false true false = refl
-    by false false y = refl
-
-pub away_start : (first : BTreeSet ℕ) (c : ℕ) → contains nat_cmp first c ≡ less_these first [] c
-away_start first c = at (contains nat_cmp first c)
-  where
-    at : (b : Bool) → b ≡ (b && true)
-    at true = refl
-    at false = refl

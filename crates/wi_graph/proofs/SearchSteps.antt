@@ -1,9 +1,8 @@
 -- Steps of a search over readers.
-use Rattle.std.proofs.Common.{◌≡◌, ◌==◌, ◌||◌, ◌⊎◌, inl, inr, not, ℕ, zero, suc, ◌+◌, ◌<◌, ◌↔◌, Bool, true, false, cond, List, [], ◌∷◌, ◌++◌, map, length, take, get_or, Some, refl, ap, sym, ◌∙◌, subst, arith, add-one}
-use Rattle.std.proofs.Math.Seq.{take-suc}
-use Rattle.std.proofs.lemmas.Bool.{or_cases, or_left, or_right, cases_Bool}
+use Rattle.std.proofs.Common.{◌≡◌, ◌==◌, ◌||◌, ◌⊎◌, inl, inr, not, ℕ, zero, suc, ◌+◌, ◌<◌, ◌↔◌, Bool, true, false, cond, List, [], ◌∷◌, ◌++◌, map, length, take, get_or, Some, refl, ap, sym, ◌∙◌, subst, arith}
+use Rattle.std.proofs.Math.Bool.{or-false}
+use Rattle.std.proofs.lemmas.Bool.{or_cases, or_left, or_right, cases_Bool, not-true, not_from_false}
 use Rattle.std.proofs.lemmas.List.{length-append}
-use Rattle.std.proofs.lemmas.List.Folds.{list_any-append}
 use Rattle.std.specs.List.{list_any, Contains}
 use Rattle.std.specs.Map.{lookup}
 use Rattle.std.specs.Option.{unwrap_or}
@@ -16,71 +15,23 @@ use Rattle.wi_ranges.specs.declared.pair.Pair.{Pair}
 use Rattle.wi_ranges.specs.Bag.{Bag, IsReader, is_same, count_of}
 use Rattle.wi_ranges.proofs.Exact.{same_is}
 use Rattle.wi_graph.specs.Reach.{is_one_of, in_cone}
-use Rattle.wi_graph.specs.Inner.Search.{HasAll, HasReaders, GoesToReaders, missing, AreNoted}
-use Rattle.wi_graph.proofs.Tests.{is_at-eq}
+use Rattle.wi_graph.specs.Inner.Search.{HasAll, HasReaders, GoesToReaders, IsLeast, missing, AreNoted}
+use Rattle.wi_graph.proofs.Tests.{is_itself, clash, turned}
 use Rattle.std.proofs.lemmas.List.Elements.{filter_agree}
 use Rattle.wi_graph.proofs.Walks.{same_cell, same_tests, shrinks, Same}
-use Rattle.wi_graph.proofs.StripSteps.{clash, is_itself, in_last, in_front, in_back, turned}
+use Rattle.wi_graph.proofs.SetSteps.{in_last, in_front, in_back, Gains, gains, gains_stays, gains_one, gains_cases, taken, found_more}
 use Rattle.wi_graph.proofs.Cones.{cone_has, cone_closed, cone_least}
 
 -- ---- cells are noted
 
 pub noted_none : (s : BTreeSet ℕ) (work : List ℕ) → AreNoted [] s s work work
 noted_none s work = record {
-  found = λ c. sym (or_false (contains nat_cmp s c));
+  found = λ c. sym (or-false (contains nat_cmp s c));
   stays = λ c h. h;
   fresh = λ c h n. clash (contains nat_cmp s c) h n;
   within = λ c h. inl h;
   fewer = λ all h. omega arith;
 }
-  where
-    or_false : (b : Bool) → (b || false) ≡ b
-    or_false true = refl
-    or_false false = refl
-
--- the set has one cell more
-abbrev pub Gains : BTreeSet ℕ → BTreeSet ℕ → ℕ → Type 0
-Gains old new x = (q : ℕ) → contains nat_cmp new q ≡ cond (is_at (nat_cmp x) q) true (contains nat_cmp old q)
-
-gains : (old new : BTreeSet ℕ) (x : ℕ) → Gains old new x → (q : ℕ) → contains nat_cmp new q ≡ cond (x == q) true (contains nat_cmp old q)
-gains old new x g q = g q ∙ ap (λ (b : Bool). cond b true (contains nat_cmp old q)) (is_at-eq x q)
-
-pub gains_stays : (old new : BTreeSet ℕ) (x : ℕ) → Gains old new x → (c : ℕ) → contains nat_cmp old c ≡ true → contains nat_cmp new c ≡ true
-gains_stays old new x g c h = gains old new x g c ∙ at (x == c)
-  where
-    at : (b : Bool) → cond b true (contains nat_cmp old c) ≡ true
-    at true = refl
-    at false = h
-
-pub gains_one : (old new : BTreeSet ℕ) (x : ℕ) → Gains old new x → contains nat_cmp new x ≡ true
-gains_one old new x g = gains old new x g x ∙ ap (λ (b : Bool). cond b true (contains nat_cmp old x)) (is_itself x)
-
-pub gains_cases : (old new : BTreeSet ℕ) (x : ℕ) → Gains old new x → (c : ℕ) → contains nat_cmp new c ≡ true → (x ≡ c) ⊎ (contains nat_cmp old c ≡ true)
-gains_cases old new x g c h = at (x == c) refl (sym (gains old new x g c) ∙ h)
-  where
-    at : (b : Bool) → (x == c) ≡ b → cond b true (contains nat_cmp old c) ≡ true → (x ≡ c) ⊎ (contains nat_cmp old c ≡ true)
-    at true e k = inl (same_cell c x e)
-    at false e k = inr k
-
-pub taken : (cells : List ℕ) (i x c : ℕ) → i < length cells → x ≡ get_or cells i x → is_one_of (take (i + 1) cells) c ≡ (is_one_of (take i cells) c || ((x == c) || false))
-taken cells i x c l e =
-    ap (λ (n : ℕ). is_one_of (take n cells) c) (add-one i)
-    ∙ ap (λ (xs : List ℕ). is_one_of xs c) (take-suc cells i x l)
-    ∙ list_any-append (λ (y : ℕ). y == c) (take i cells) (get_or cells i x ∷ [])
-    ∙ ap (λ (y : ℕ). is_one_of (take i cells) c || ((y == c) || false)) (sym e)
-
-pub found_more : (cells : List ℕ) (i x : ℕ) (old mid new : BTreeSet ℕ) → i < length cells → x ≡ get_or cells i x → Gains mid new x → ((c : ℕ) → contains nat_cmp mid c ≡ (contains nat_cmp old c || is_one_of (take i cells) c)) →
-    (c : ℕ) → contains nat_cmp new c ≡ (contains nat_cmp old c || is_one_of (take (i + 1) cells) c)
-found_more cells i x old mid new l e g f c =
-    gains mid new x g c ∙ ap (λ (b : Bool). cond (x == c) true b) (f c) ∙ by (x == c) (contains nat_cmp old c) (is_one_of (take i cells) c) ∙ ap (λ (b : Bool). contains nat_cmp old c || b) (sym (taken cells i x c l e))
-  where
-    by : (b o y : Bool) → cond b true (o || y) ≡ (o || (y || (b || false)))
-    by true true y = refl
-    by true false true = refl
-    by true false false = refl
-    by false true y = refl
-    by false false true = refl
-    by false false false = refl
 
 taken_front : (cells : List ℕ) (i x c : ℕ) → i < length cells → x ≡ get_or cells i x → is_one_of (take i cells) c ≡ true → is_one_of (take (i + 1) cells) c ≡ true
 taken_front cells i x c l e h = taken cells i x c l e ∙ or_left (is_one_of (take i cells) c) _ h
@@ -121,16 +72,8 @@ noted_old cells i x old mid new before work l e h g n = record {
     at c (inl k) = inl k
     at c (inr k) = inr (same c ∙ k)
 
-not_false : (b : Bool) → b ≡ false → not b ≡ true
-not_false true h = cc
-not_false false h = refl
-
-false_not : (b : Bool) → not b ≡ true → b ≡ false
-false_not true h = cc
-false_not false h = refl
-
 fewer_missing : (all : List ℕ) (mid new : BTreeSet ℕ) (x : ℕ) → Gains mid new x → contains nat_cmp mid x ≡ false → is_one_of all x ≡ true → length (missing new all) < length (missing mid all)
-fewer_missing all mid new x g n m = at (shrinks (λ c. not (contains nat_cmp mid c)) (λ c. not (contains nat_cmp new c)) (λ c h. lacks c (contains nat_cmp mid c) refl (false_not (contains nat_cmp new c) h)) all)
+fewer_missing all mid new x g n m = at (shrinks (λ c. not (contains nat_cmp mid c)) (λ c. not (contains nat_cmp new c)) (λ c h. lacks c (contains nat_cmp mid c) refl (not-true (contains nat_cmp new c) h)) all)
   where
     lacks : (c : ℕ) (b : Bool) → contains nat_cmp mid c ≡ b → contains nat_cmp new c ≡ false → not b ≡ true
     lacks c true e h = clash (contains nat_cmp new c) (gains_stays mid new x g c e) h
@@ -138,7 +81,7 @@ fewer_missing all mid new x g n m = at (shrinks (λ c. not (contains nat_cmp mid
 
     at : (length (missing new all) < length (missing mid all)) ⊎ Same (λ c. not (contains nat_cmp mid c)) (λ c. not (contains nat_cmp new c)) all → length (missing new all) < length (missing mid all)
     at (inl l) = l
-    at (inr s) = clash (contains nat_cmp new x) (gains_one mid new x g) (false_not (contains nat_cmp new x) (s.1 x m (not_false (contains nat_cmp mid x) n)))
+    at (inr s) = clash (contains nat_cmp new x) (gains_one mid new x g) (not-true (contains nat_cmp new x) (s.1 x m (not_from_false (contains nat_cmp mid x) n)))
 
 -- one that is new
 pub noted_new : (cells : List ℕ) (i x : ℕ) (old mid new : BTreeSet ℕ) (before work more : List ℕ) → i < length cells → x ≡ get_or cells i x → contains nat_cmp mid x ≡ false → Gains mid new x → more ≡ work ++ x ∷ [] →
@@ -281,7 +224,7 @@ search_ends readers found more work less after next cell e r n =
 -- ---- what it finds is the cone
 
 pub found_cone : (s : Sheet) (readers : Bag) (cells : List ℕ) (found : BTreeSet ℕ) → ((a r : ℕ) → (content_reads (content_of s r) a ≡ true) ↔ IsReader readers a r) → HasAll cells found → HasReaders readers found →
-    ((p : ℕ → Bool) → ((c : ℕ) → is_one_of cells c ≡ true → p c ≡ true) → GoesToReaders readers p → (c : ℕ) → contains nat_cmp found c ≡ true → p c ≡ true) →
+    IsLeast readers cells found →
     (c : ℕ) → is_one_of found.keys c ≡ in_cone s cells c
 found_cone s readers cells found i h k l c = sym (turned found.keys c) ∙ same_tests (contains nat_cmp found c) (in_cone s cells c)
     (l (in_cone s cells) (cone_has s cells) (λ a r m u. cone_closed s cells r a ((i a r).1 u) m) c)

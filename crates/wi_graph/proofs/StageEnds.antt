@@ -1,40 +1,53 @@
 -- An edit is staged, or refused.
-use Rattle.std.proofs.Common.{◌≡◌, ℕ, Bool, true, ◌||◌, List, filter, not, Option, Some, None, option_map, IfSome, IfNone, ap, ◌∙◌}
+use Rattle.std.proofs.Common.{◌≡◌, ℕ, Bool, ◌&&◌, ◌||◌, List, not, Option, Some, None, option_map, IfSome, IfNone, refl, ap, ◌∙◌}
 use Rattle.std.specs.Ordering.{nat_cmp}
-use Rattle.std.specs.BTreeMap.{IsOrdered}
+use Rattle.std.specs.Global.{Vec}
+use Rattle.std.specs.BTreeMap.{IsOrdered, get}
 use Rattle.std.specs.BTreeSet.{BTreeSet, contains}
+use Rattle.wi_values.specs.Address.{Area}
 use Rattle.wi_parser.specs.declared.content.Content.{Content}
-use Rattle.wi_parser.specs.Sheet.{Sheet, content_of}
 use Rattle.wi_ranges.specs.Bag.{Bag}
-use Rattle.wi_graph.specs.Reach.{is_one_of, in_cone}
-use Rattle.wi_graph.specs.Edges.{Edges, Staging, staging, areas_in, edges_after}
+use Rattle.wi_graph.specs.Reach.{is_one_of}
+use Rattle.wi_graph.specs.Edges.{Edges, Staging, staging, edges_after}
 use Rattle.wi_graph.specs.declared.graph.Staged.{Staged}
-use Rattle.wi_graph.specs.Inner.Rooms.{Rooms, room_at, edges_in, edges_over, HasPairs, less_these, IsGraph, IsStaged}
-use Rattle.wi_graph.specs.Inner.Search.{HasAll, HasReaders, GoesToReaders}
-use Rattle.wi_graph.specs.Inner.Changes.{cells_in}
-use Rattle.wi_graph.proofs.StripSteps.{turned}
-use Rattle.wi_graph.proofs.SearchSteps.{found_cone}
-use Rattle.wi_graph.proofs.EdgeLemmas.{ascends, areas_rooms}
-use Rattle.wi_graph.proofs.GraphSteps.{graph_readers}
+use Rattle.wi_graph.specs.declared.turning.Turns.{Turns}
+use Rattle.wi_graph.specs.Inner.Rooms.{Rooms, room_at, put_over, room_over, edges_in, edges_over, HasRooms, HasPairs, HasBoth, less_these, IsGraph, IsStaged}
+use Rattle.wi_graph.specs.Inner.Turning.{turned_by, AreTurns}
+use Rattle.wi_graph.proofs.SetSteps.{AreNew, came_before}
 use Rattle.wi_graph.proofs.GraphEnds.{view_of, circles_over}
-use Rattle.wi_graph.proofs.ChangeSteps.{came_before}
 
-pub cone_is : (rooms : Rooms) (readers : Bag) (cone : BTreeSet ℕ) (ds : List ℕ) (xs : List (ℕ × Option Content)) → ds ≡ cells_in xs → IsOrdered nat_cmp rooms → HasPairs readers rooms → HasAll ds cone → HasReaders readers cone →
-    ((p : ℕ → Bool) → ((c : ℕ) → is_one_of ds c ≡ true → p c ≡ true) → GoesToReaders readers p → (c : ℕ) → contains nat_cmp cone c ≡ true → p c ≡ true) →
-    (s : Sheet) → ((c : ℕ) → room_at rooms c ≡ areas_in (content_of s c)) → (c : ℕ) → contains nat_cmp cone c ≡ in_cone s (cells_in xs) c
-cone_is rooms readers cone ds xs e o h a k l s are c =
-    turned cone.keys c ∙ found_cone s readers ds cone (graph_readers rooms readers o h s (λ d. areas_rooms rooms.entries (ascends rooms.entries o) d ∙ are d)) a k l c ∙ ap (λ (ys : List ℕ). in_cone s ys c) e
+-- the edit is staged
+pub staged_graph : (rooms new next later : Rooms) (readers more : Bag) (circles has : BTreeSet ℕ) (turns : Turns) → IsGraph rooms readers circles → IsOrdered nat_cmp new → HasRooms new later → HasBoth more new later →
+    ((c : ℕ) → room_at new c ≡ room_at rooms c) → ((c : ℕ) → get nat_cmp later c ≡ get nat_cmp next c) → AreTurns rooms next circles turns →
+    ((c : ℕ) → contains nat_cmp has c ≡ (contains nat_cmp circles c || is_one_of turns.came.items c)) → IsStaged new later more has turns
+staged_graph rooms new next later readers more circles has turns g o hr hb e f t h = record {
+  ordered = o;
+  has_rooms = hr;
+  pairs = hb;
+  before = circles_over (room_at new) (room_at rooms) (less_these has turns.came.items) (contains nat_cmp circles) e (came_before circles has turns.came.items t.fresh h) g.circular;
+  after = circles_over (room_over later new) (room_over next rooms) (less_these has turns.went.items) (turned_by circles turns)
+      (λ c. ap (λ (z : Option (Option (Vec Area))). put_over z (room_at new c)) (f c) ∙ ap (put_over (get nat_cmp next c)) (e c))
+      (λ c. ap (λ (b : Bool). b && not (is_one_of turns.went.items c)) (h c)) t.after;
+}
 
-pub refused_graph : (old new : Rooms) (before after : Bag) (circles mid has rest : BTreeSet ℕ) (came : List ℕ) → IsGraph old before circles → IsOrdered nat_cmp new → ((c : ℕ) → room_at new c ≡ room_at old c) → HasPairs after new →
-    came ≡ filter (λ c. not (contains nat_cmp circles c)) rest.keys → ((c : ℕ) → contains nat_cmp mid c ≡ (contains nat_cmp circles c || is_one_of came c)) → ((c : ℕ) → contains nat_cmp has c ≡ less_these mid came c) → IsGraph new after has
-refused_graph old new before after circles mid has rest came g o e p k m h = record {
+-- or refused
+pub same_graph : (rooms : Rooms) (readers : Bag) (circles has : BTreeSet ℕ) → IsGraph rooms readers circles → ((c : ℕ) → contains nat_cmp has c ≡ contains nat_cmp circles c) → IsGraph rooms readers has
+same_graph rooms readers circles has g h = record {
+  ordered = g.ordered;
+  pairs = g.pairs;
+  circular = circles_over (room_at rooms) (room_at rooms) (contains nat_cmp has) (contains nat_cmp circles) (λ c. refl) h g.circular;
+}
+
+pub refused_graph : (old new : Rooms) (before after : Bag) (circles mid has : BTreeSet ℕ) (came : List ℕ) → IsGraph old before circles → IsOrdered nat_cmp new → ((c : ℕ) → room_at new c ≡ room_at old c) → HasPairs after new →
+    AreNew came circles → ((c : ℕ) → contains nat_cmp mid c ≡ (contains nat_cmp circles c || is_one_of came c)) → ((c : ℕ) → contains nat_cmp has c ≡ less_these mid came c) → IsGraph new after has
+refused_graph old new before after circles mid has came g o e p k m h = record {
   ordered = o;
   pairs = p;
-  circular = circles_over (room_at new) (room_at old) (contains nat_cmp has) (contains nat_cmp circles) e (λ c. h c ∙ came_before circles mid rest came k m c) g.circular;
+  circular = circles_over (room_at new) (room_at old) (contains nat_cmp has) (contains nat_cmp circles) e (λ c. h c ∙ came_before circles mid came k m c) g.circular;
 }
 
 pub refused_invariant : (old new : Rooms) (readers : Bag) (circles : BTreeSet ℕ) (o : Option Staged) → option_map (λ x. edges_over (edges_in old.entries) x.next.entries) o ≡ None → IsGraph new readers circles →
-    IfNone o (IsGraph new readers circles) × IfSome o (λ x. IsStaged new x.next readers circles x.came.items x.went.items)
+    IfNone o (IsGraph new readers circles) × IfSome o (λ x. IsStaged new x.next readers circles x.turns)
 refused_invariant old new readers circles None e g = (g, tt)
 refused_invariant old new readers circles (Some x) e g = cc
 

@@ -10,9 +10,8 @@ use Rattle.wi_ranges.specs.declared.pair.Pair.{Pair}
 use Rattle.wi_ranges.specs.Bag.{Bag, pair_of, is_same, count_of, HasOneMore}
 use Rattle.wi_graph.specs.Inner.Rooms.{Rooms, items_of, in_room, room_at, areas_of, times, times_in, HasRooms, HasBoth}
 use Rattle.wi_graph.specs.Inner.Staging.{either, AreApart}
-use Rattle.wi_graph.proofs.Tests.{is_at-eq}
+use Rattle.wi_graph.proofs.Tests.{is_at-eq, is_itself}
 use Rattle.wi_graph.proofs.Walks.{same_cell}
-use Rattle.wi_graph.proofs.StripSteps.{is_itself}
 use Rattle.wi_graph.proofs.RoomSteps.{times_more, times_other, times_room, Popped, popped_here, popped_other, no_entries}
 
 pub one_more : (k : ℕ) (rs : List Area) (i : ℕ) (r : Area) (first old new : Bag) → i < length rs → r ≡ get_or rs i r → HasOneMore (pair_of r k) old new → ((p : Pair) → count_of old p ≡ count_of first p + times k (take i rs) p) →

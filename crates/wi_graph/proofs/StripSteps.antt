@@ -1,111 +1,39 @@
 -- Steps of stripping.
-use Rattle.std.proofs.Common.{◌≡◌, ◌==◌, ◌&&◌, ◌||◌, ◌⊎◌, inl, inr, not, ℕ, zero, suc, ◌+◌, ◌<◌, Bool, true, false, cond, List, [], ◌∷◌, ◌++◌, filter, length, take, get_or, Option, Some, None, refl, ap, sym, ◌∙◌, arith, add-one}
-use Rattle.std.proofs.lemmas.Bool.{or_cases, or_left, or_right}
+use Rattle.std.proofs.Common.{◌≡◌, ◌==◌, ◌&&◌, ◌||◌, ◌⊎◌, inl, inr, not, nat_le, ℕ, ◌≤◌, Bool, true, false, cond, List, [], ◌∷◌, ◌++◌, Option, Some, None, refl, ap, sym, ◌∙◌, arith}
+use Rattle.std.proofs.Math.Bool.{or-false}
+use Rattle.std.proofs.lemmas.Bool.{or_cases, or_left, or_right, and_parts, and_from, false_from_ne_true, not-true, not_from_false, le-leb}
 use Rattle.std.proofs.lemmas.Bool.Decides.{nat_tests}
 use Rattle.std.proofs.lemmas.List.Folds.{list_any-append}
-use Rattle.std.proofs.lemmas.Map.Views.{any-filter_same}
-use Rattle.std.specs.List.{list_any, find}
 use Rattle.std.specs.Map.{lookup}
 use Rattle.std.specs.Ordering.{nat_cmp}
 use Rattle.std.specs.Global.{Vec}
 use Rattle.std.specs.BTreeMap.{BTreeMap, get, is_at}
-use Rattle.std.specs.BTreeSet.{BTreeSet, contains}
-use Rattle.wi_values.specs.Address.{Area, is_within}
+use Rattle.std.specs.BTreeSet.{BTreeSet, contains, difference}
+use Rattle.wi_values.specs.Address.{Area, row_of, is_within}
 use Rattle.wi_graph.specs.Reach.{is_one_of}
-use Rattle.wi_graph.proofs.Tests.{is_at-eq}
-use Rattle.wi_graph.specs.Inner.Stripping.{listed, reads_in, waiting_for, waits_for, ReadsOne, EachReadsOne, AreStripped, IsWithin, Waits, IsTracking, IsFree}
-
-pub same_cell : (a x : ℕ) → (x == a) ≡ true → x ≡ a
-same_cell a x h = grind (arith, nat_tests)
-
-pub is_itself : (a : ℕ) → (a == a) ≡ true
-is_itself a = grind (arith, nat_tests)
-
-at_same : (a x : ℕ) → is_at (nat_cmp a) x ≡ true → x ≡ a
-at_same a x h = grind (arith, nat_tests)
-
-at_itself : (a : ℕ) → is_at (nat_cmp a) a ≡ true
-at_itself a = grind (arith, nat_tests)
-
-pub clash : {A : Type 0} (b : Bool) → b ≡ true → b ≡ false → A
-clash b h k = let z = h in let y = k in cc
-
--- ---- what is found
-
-pub find_passes : (p : ℕ → Bool) (xs : List ℕ) (d : ℕ) → find p xs ≡ Some d → (p d ≡ true) × (list_any (is_at (nat_cmp d)) xs ≡ true)
-find_passes p [] d h = cc
-find_passes p (x ∷ xs) d h = at (p x) refl h (find_passes p xs d)
-  where
-    at : (b : Bool) → p x ≡ b → cond b (Some x) (find p xs) ≡ Some d → (find p xs ≡ Some d → (p d ≡ true) × (list_any (is_at (nat_cmp d)) xs ≡ true)) → (p d ≡ true) × ((is_at (nat_cmp d) x || list_any (is_at (nat_cmp d)) xs) ≡ true)
-    at true e k ih = let s : x ≡ d = cc in (ap p (sym s) ∙ e, or_left (is_at (nat_cmp d) x) _ (ap (λ (y : ℕ). is_at (nat_cmp d) y) s ∙ at_itself d))
-    at false e k ih = let i = ih k in (i.0, or_right (is_at (nat_cmp d) x) _ i.1)
-
-pub find_none : (p : ℕ → Bool) (xs : List ℕ) (d : ℕ) → find p xs ≡ None → p d ≡ true → list_any (is_at (nat_cmp d)) xs ≡ false
-find_none p [] d h k = refl
-find_none p (x ∷ xs) d h k = at (p x) (is_at (nat_cmp d) x) refl refl h (λ g. find_none p xs d g k)
-  where
-    at : (b c : Bool) → p x ≡ b → is_at (nat_cmp d) x ≡ c → cond b (Some x) (find p xs) ≡ None → (find p xs ≡ None → list_any (is_at (nat_cmp d)) xs ≡ false) → (c || list_any (is_at (nat_cmp d)) xs) ≡ false
-    at true c e f g ih = cc
-    at false true e f g ih = clash (p d) k (ap p (sym (at_same d x f)) ∙ e)
-    at false false e f g ih = ih g
-
--- a rectangle of a list that has a cell
-pub area_reads : (areas : List Area) (i : ℕ) (a : Area) (d : ℕ) → i < length areas → a ≡ get_or areas i a → is_within a d ≡ true → list_any (λ r. is_within r d) areas ≡ true
-area_reads [] i a d h e w = absurd (omega arith)
-area_reads (x ∷ xs) zero a d h e w = or_left (is_within x d) _ (ap (λ (r : Area). is_within r d) (sym e) ∙ w)
-area_reads (x ∷ xs) (suc i) a d h e w = or_right (is_within x d) _ (area_reads xs i a d (omega arith) e w)
+use Rattle.wi_graph.specs.Inner.Within.{IsAhead, IsFoundBy}
+use Rattle.wi_graph.specs.Inner.Stripping.{listed, is_in, reads_in, waiting_for, waits_for, KeepsReads, ReadsOne, EachReadsOne, AreStripped, IsWithin, Waits, IsTracking, IsFree}
+use Rattle.wi_graph.proofs.Tests.{is_at-eq, is_itself, clash}
+use Rattle.wi_graph.proofs.Walks.{same_cell}
+use Rattle.wi_graph.proofs.SetSteps.{in_last, in_front, in_back, in_difference, Loses, loses_others, loses_one, keeps_others}
+use Rattle.wi_graph.proofs.WithinSteps.{within_between}
 
 -- ---- the start
-
-unheld_is : (held rest : BTreeSet ℕ) (c : ℕ) → is_one_of (filter (λ x. not (contains nat_cmp held x)) rest.keys) c ≡ (not (contains nat_cmp held c) && is_one_of rest.keys c)
-unheld_is held rest c = any-filter_same (λ x. x == c) (λ x. not (contains nat_cmp held x)) (not (contains nat_cmp held c)) (λ k h. ap (λ (y : ℕ). not (contains nat_cmp held y)) (same_cell c k h)) rest.keys
-
-pub turned : (xs : List ℕ) (c : ℕ) → list_any (is_at (nat_cmp c)) xs ≡ is_one_of xs c
-turned [] c = refl
-turned (x ∷ xs) c = ap (λ (b : Bool). b || list_any (is_at (nat_cmp c)) xs) (turn c x) ∙ ap (λ (b : Bool). (x == c) || b) (turned xs c)
-  where
-    turn : (a y : ℕ) → is_at (nat_cmp a) y ≡ (y == a)
-    turn a y = grind (arith, nat_tests)
-
-not_true : (b c : Bool) → (not b && c) ≡ true → b ≡ false
-not_true true c h = cc
-not_true false c h = refl
-
-both_true : (b c : Bool) → b ≡ false → c ≡ true → (not b && c) ≡ true
-both_true true c h k = cc
-both_true false c h k = k
 
 no_waiting : (waiting : BTreeMap ℕ (Vec ℕ)) (d c : ℕ) → waiting.entries ≡ [] → waits_for waiting d c ≡ true → ⊥
 no_waiting waiting d c e h =
     let z : is_one_of [] c ≡ true = ap (λ (es : List (ℕ × Vec ℕ)). is_one_of (listed (lookup (is_at (nat_cmp d)) es)) c) (sym e) ∙ h in
     cc
 
-pub track_start : (areas : BTreeMap ℕ (Vec Area)) (held rest : BTreeSet ℕ) (work : List ℕ) (waiting : BTreeMap ℕ (Vec ℕ)) → work ≡ filter (λ x. not (contains nat_cmp held x)) rest.keys → waiting.entries ≡ [] →
+pub track_start : (areas : BTreeMap ℕ (Vec Area)) (held rest : BTreeSet ℕ) (work : List ℕ) (waiting : BTreeMap ℕ (Vec ℕ)) → work ≡ difference nat_cmp rest held → waiting.entries ≡ [] →
     IsTracking areas held rest work waiting None
 track_start areas held rest work waiting e n = record {
-  each = λ c h u. inr (inl (ap (λ (xs : List ℕ). is_one_of xs c) e ∙ unheld_is held rest c ∙ both_true (contains nat_cmp held c) (is_one_of rest.keys c) u (sym (turned rest.keys c) ∙ h)));
-  work_unheld = λ c h. not_true (contains nat_cmp held c) (is_one_of rest.keys c) (sym (unheld_is held rest c) ∙ ap (λ (xs : List ℕ). is_one_of xs c) (sym e) ∙ h);
+  each = λ c h u. inr (inl (ap (λ (xs : List ℕ). is_one_of xs c) e ∙ in_difference rest held c ∙ and_from (not (contains nat_cmp held c)) _ (not_from_false (contains nat_cmp held c) u) h));
+  work_unheld = λ c h. not-true (contains nat_cmp held c) (and_parts (not (contains nat_cmp held c)) _ (sym (in_difference rest held c) ∙ ap (λ (xs : List ℕ). is_one_of xs c) (sym e) ∙ h)).0;
   waiting_unheld = λ d c h. absurd (no_waiting waiting d c n h);
 }
 
 -- ---- the next is taken
-
-pub in_last : (xs : List ℕ) (x a : ℕ) → is_one_of (xs ++ x ∷ []) a ≡ true → (is_one_of xs a ≡ true) ⊎ (x ≡ a)
-in_last xs x a h = at (or_cases (is_one_of xs a) ((x == a) || false) (sym (list_any-append (λ (y : ℕ). y == a) xs (x ∷ [])) ∙ h))
-  where
-    last : (b : Bool) → (x == a) ≡ b → (b || false) ≡ true → x ≡ a
-    last true e k = same_cell a x e
-    last false e k = cc
-
-    at : (is_one_of xs a ≡ true) ⊎ (((x == a) || false) ≡ true) → (is_one_of xs a ≡ true) ⊎ (x ≡ a)
-    at (inl k) = inl k
-    at (inr k) = inr (last (x == a) refl k)
-
-pub in_front : (xs ys : List ℕ) (a : ℕ) → is_one_of xs a ≡ true → is_one_of (xs ++ ys) a ≡ true
-in_front xs ys a h = list_any-append (λ (y : ℕ). y == a) xs ys ∙ or_left (is_one_of xs a) _ h
-
-pub in_back : (xs ys : List ℕ) (a : ℕ) → is_one_of ys a ≡ true → is_one_of (xs ++ ys) a ≡ true
-in_back xs ys a h = list_any-append (λ (y : ℕ). y == a) xs ys ∙ or_right (is_one_of xs a) _ h
 
 pub track_pop : (areas : BTreeMap ℕ (Vec Area)) (held rest : BTreeSet ℕ) (work less : List ℕ) (waiting : BTreeMap ℕ (Vec ℕ)) (cell : ℕ) → work ≡ less ++ cell ∷ [] → IsTracking areas held rest work waiting None →
     IsTracking areas held rest less waiting (Some cell) × (contains nat_cmp held cell ≡ false)
@@ -126,6 +54,19 @@ track_pop areas held rest work less waiting cell e t = (
     at c (inl k) = cc
     at c (inr (inl k)) = split c (in_last less cell c (ap (λ (xs : List ℕ). is_one_of xs c) (sym e) ∙ k))
     at c (inr (inr k)) = inr (inr k)
+
+-- some of what cells read is forgotten
+pub track_kept : (areas now : BTreeMap ℕ (Vec Area)) (held rest : BTreeSet ℕ) (work : List ℕ) (waiting : BTreeMap ℕ (Vec ℕ)) (o : Option ℕ) → KeepsReads rest areas now → IsTracking areas held rest work waiting o → IsTracking now held rest work waiting o
+track_kept areas now held rest work waiting o k t = record {
+  each = λ c h u. at c (t.each c h u);
+  work_unheld = t.work_unheld;
+  waiting_unheld = t.waiting_unheld;
+}
+  where
+    at : (c : ℕ) → (o ≡ Some c) ⊎ ((is_one_of work c ≡ true) ⊎ Waits areas rest waiting c) → (o ≡ Some c) ⊎ ((is_one_of work c ≡ true) ⊎ Waits now rest waiting c)
+    at c (inl i) = inl i
+    at c (inr (inl i)) = inr (inl i)
+    at c (inr (inr i)) = inr (inr (record { cell = i.cell; waits = i.waits; read = k c i.cell i.there ∙ i.read; there = i.there }))
 
 -- it is gone already
 pub track_gone : (areas : BTreeMap ℕ (Vec Area)) (held rest : BTreeSet ℕ) (work : List ℕ) (waiting : BTreeMap ℕ (Vec ℕ)) (cell : ℕ) → contains nat_cmp rest cell ≡ false → IsTracking areas held rest work waiting (Some cell) → IsTracking areas held rest work waiting None
@@ -177,42 +118,21 @@ track_park areas held rest work waiting next cell read p r there unheld t = reco
 
 -- ---- a cell goes
 
-pub record IsStripping (areas : BTreeMap ℕ (Vec Area)) (held all rest : BTreeSet ℕ) (work : List ℕ) (waiting : BTreeMap ℕ (Vec ℕ)) : Type 0 where
+-- what cells read at first, and what is left of that
+pub record IsStripping (first areas : BTreeMap ℕ (Vec Area)) (held all rest : BTreeSet ℕ) (work : List ℕ) (waiting : BTreeMap ℕ (Vec ℕ)) : Type 0 where
+  pub kept : KeepsReads rest first areas
   pub tracking : IsTracking areas held rest work waiting None
   pub within : IsWithin rest all
-  pub stripped : AreStripped areas held all rest
+  pub stripped : AreStripped first held all rest
 
-pub strip_start : (areas : BTreeMap ℕ (Vec Area)) (held rest : BTreeSet ℕ) (work : List ℕ) (waiting : BTreeMap ℕ (Vec ℕ)) → work ≡ filter (λ x. not (contains nat_cmp held x)) rest.keys → waiting.entries ≡ [] →
-    IsStripping areas held rest rest work waiting
+pub strip_start : (areas : BTreeMap ℕ (Vec Area)) (held rest : BTreeSet ℕ) (work : List ℕ) (waiting : BTreeMap ℕ (Vec ℕ)) → work ≡ difference nat_cmp rest held → waiting.entries ≡ [] →
+    IsStripping areas areas held rest rest work waiting
 strip_start areas held rest work waiting e n = record {
+  kept = λ c d h. refl;
   tracking = track_start areas held rest work waiting e n;
   within = λ c h. h;
   stripped = λ p up c h k. clash (contains nat_cmp rest c) h k;
 }
-
-abbrev pub Loses : BTreeSet ℕ → BTreeSet ℕ → ℕ → Type 0
-Loses rest less cell = (q : ℕ) → contains nat_cmp less q ≡ cond (is_at (nat_cmp cell) q) false (contains nat_cmp rest q)
-
-loses_others : (rest less : BTreeSet ℕ) (cell : ℕ) → Loses rest less cell → (c : ℕ) → contains nat_cmp less c ≡ true → (contains nat_cmp rest c ≡ true) × (cell ≡ c → ⊥)
-loses_others rest less cell l c h = at (is_at (nat_cmp cell) c) refl (sym (l c) ∙ h)
-  where
-    at : (b : Bool) → is_at (nat_cmp cell) c ≡ b → cond b false (contains nat_cmp rest c) ≡ true → (contains nat_cmp rest c ≡ true) × (cell ≡ c → ⊥)
-    at true e k = cc
-    at false e k = (k, λ s. clash (is_at (nat_cmp cell) c) (ap (λ (x : ℕ). is_at (nat_cmp cell) x) (sym s) ∙ at_itself cell) e)
-
-pub loses_one : (rest less : BTreeSet ℕ) (cell : ℕ) → Loses rest less cell → (c : ℕ) → contains nat_cmp less c ≡ false → (contains nat_cmp rest c ≡ false) ⊎ (cell ≡ c)
-loses_one rest less cell l c h = at (is_at (nat_cmp cell) c) refl (sym (l c) ∙ h)
-  where
-    at : (b : Bool) → is_at (nat_cmp cell) c ≡ b → cond b false (contains nat_cmp rest c) ≡ false → (contains nat_cmp rest c ≡ false) ⊎ (cell ≡ c)
-    at true e k = inr (sym (at_same cell c e))
-    at false e k = inl k
-
-keeps_others : (rest less : BTreeSet ℕ) (cell : ℕ) → Loses rest less cell → (c : ℕ) → (c == cell) ≡ false → contains nat_cmp rest c ≡ true → contains nat_cmp less c ≡ true
-keeps_others rest less cell l c n h = l c ∙ at (is_at (nat_cmp cell) c) refl
-  where
-    at : (b : Bool) → is_at (nat_cmp cell) c ≡ b → cond b false (contains nat_cmp rest c) ≡ true
-    at true e = clash (c == cell) (ap (λ (x : ℕ). x == cell) (at_same cell c e) ∙ is_itself cell) n
-    at false e = h
 
 pub track_strip : (areas : BTreeMap ℕ (Vec Area)) (held rest less : BTreeSet ℕ) (work more : List ℕ) (waiting next : BTreeMap ℕ (Vec ℕ)) (cell : ℕ) → Loses rest less cell → more ≡ work ++ waiting_for waiting cell →
     ((d : ℕ) → waiting_for next d ≡ cond (cell == d) [] (waiting_for waiting d)) → IsTracking areas held rest work waiting (Some cell) → IsTracking areas held less more next None
@@ -249,6 +169,14 @@ track_strip areas held rest less work more waiting next cell l m n t = record {
 pub loses_within : (rest less all : BTreeSet ℕ) (cell : ℕ) → Loses rest less cell → IsWithin rest all → IsWithin less all
 loses_within rest less all cell l w c h = w c (loses_others rest less cell l c h).0
 
+-- a cell that reads none of the set by what is left read none at first
+pub first_free : (first areas : BTreeMap ℕ (Vec Area)) (held rest : BTreeSet ℕ) (cell : ℕ) → KeepsReads rest first areas → IsFree areas held rest cell → IsFree first held rest cell
+first_free first areas held rest cell k f = record {
+  there = f.there;
+  unheld = f.unheld;
+  none = λ d r. false_from_ne_true (contains nat_cmp rest d) (λ i. clash (contains nat_cmp rest d) i (f.none d (k cell d i ∙ r)));
+}
+
 pub strip_gone : (areas : BTreeMap ℕ (Vec Area)) (held all rest less : BTreeSet ℕ) (cell : ℕ) → Loses rest less cell → IsFree areas held rest cell → AreStripped areas held all rest → AreStripped areas held all less
 strip_gone areas held all rest less cell l f s p up c h g = at (loses_one rest less cell l c g)
   where
@@ -257,51 +185,26 @@ strip_gone areas held all rest less cell l f s p up c h g = at (loses_one rest l
     at (inr k) =
         up c h (ap (λ (x : ℕ). contains nat_cmp held x) (sym k) ∙ f.unheld) (λ d r i. s p up d i (f.none d (ap (λ (x : ℕ). reads_in areas x d) k ∙ r)))
 
-pub strip_step : (areas : BTreeMap ℕ (Vec Area)) (held all rest less : BTreeSet ℕ) (work more : List ℕ) (waiting next : BTreeMap ℕ (Vec ℕ)) (cell : ℕ) → Loses rest less cell → more ≡ work ++ waiting_for waiting cell →
-    ((d : ℕ) → waiting_for next d ≡ cond (cell == d) [] (waiting_for waiting d)) → IsFree areas held rest cell → IsTracking areas held rest work waiting (Some cell) → IsWithin rest all → AreStripped areas held all rest →
-    IsStripping areas held all less more next
-strip_step areas held all rest less work more waiting next cell l m n f t w s = record {
-  tracking = track_strip areas held rest less work more waiting next cell l m n t;
+pub strip_step : (first areas now : BTreeMap ℕ (Vec Area)) (held all rest less : BTreeSet ℕ) (work more : List ℕ) (waiting next : BTreeMap ℕ (Vec ℕ)) (cell : ℕ) → Loses rest less cell → more ≡ work ++ waiting_for waiting cell →
+    ((d : ℕ) → waiting_for next d ≡ cond (cell == d) [] (waiting_for waiting d)) → IsFree areas held rest cell → KeepsReads rest first areas → KeepsReads rest areas now → IsTracking now held rest work waiting (Some cell) → IsWithin rest all →
+    AreStripped first held all rest → IsStripping first now held all less more next
+strip_step first areas now held all rest less work more waiting next cell l m n f k j t w s = record {
+  kept = λ c d h. let i = (loses_others rest less cell l d h).0 in j c d i ∙ k c d i;
+  tracking = track_strip now held rest less work more waiting next cell l m n t;
   within = loses_within rest less all cell l w;
-  stripped = strip_gone areas held all rest less cell l f s;
+  stripped = strip_gone first held all rest less cell l (first_free first areas held rest cell k f) s;
 }
 
 -- ---- the end
 
-pub strip_end : (areas : BTreeMap ℕ (Vec Area)) (held rest : BTreeSet ℕ) (work : List ℕ) (waiting : BTreeMap ℕ (Vec ℕ)) → IsTracking areas held rest work waiting None → work ≡ [] → EachReadsOne areas held rest
-strip_end areas held rest work waiting t e c h u = at (t.each c h u)
+pub strip_end : (first areas now : BTreeMap ℕ (Vec Area)) (held rest : BTreeSet ℕ) (work : List ℕ) (waiting : BTreeMap ℕ (Vec ℕ)) → KeepsReads rest first areas → KeepsReads rest areas now → IsTracking now held rest work waiting None → work ≡ [] →
+    EachReadsOne first held rest
+strip_end first areas now held rest work waiting k j t e c h u = at (t.each c h u)
   where
-    at : (None ≡ Some c) ⊎ ((is_one_of work c ≡ true) ⊎ Waits areas rest waiting c) → ReadsOne areas rest c
-    at (inl k) = cc
-    at (inr (inl k)) = let z : is_one_of [] c ≡ true = ap (λ (xs : List ℕ). is_one_of xs c) (sym e) ∙ k in cc
-    at (inr (inr k)) = record { cell = k.cell; read = k.read; there = k.there }
-
--- ---- a rectangle after another
-
-any_more : (p : Area → Bool) (xs : List Area) (i : ℕ) (x : Area) → i < length xs → x ≡ get_or xs i x → list_any p (take (suc i) xs) ≡ true → (list_any p (take i xs) ≡ true) ⊎ (p x ≡ true)
-any_more p [] i x h e k = absurd (omega arith)
-any_more p (y ∷ ys) zero x h e k = at (p y) refl k
-  where
-    at : (b : Bool) → p y ≡ b → (b || false) ≡ true → (false ≡ true) ⊎ (p x ≡ true)
-    at true f g = inr (ap p e ∙ f)
-    at false f g = cc
-any_more p (y ∷ ys) (suc i) x h e k = at (or_cases (p y) (list_any p (take (suc i) ys)) k) (any_more p ys i x (omega arith) e)
-  where
-    at : (p y ≡ true) ⊎ (list_any p (take (suc i) ys) ≡ true) → (list_any p (take (suc i) ys) ≡ true → (list_any p (take i ys) ≡ true) ⊎ (p x ≡ true)) → ((p y || list_any p (take i ys)) ≡ true) ⊎ (p x ≡ true)
-    at (inl f) ih = inl (or_left (p y) _ f)
-    at (inr f) ih = on (ih f)
-      where
-        on : (list_any p (take i ys) ≡ true) ⊎ (p x ≡ true) → ((p y || list_any p (take i ys)) ≡ true) ⊎ (p x ≡ true)
-        on (inl g) = inl (or_right (p y) _ g)
-        on (inr g) = inr g
-
-pub none_more : (rest : BTreeSet ℕ) (areas : List Area) (i : ℕ) (area : Area) → i < length areas → area ≡ get_or areas i area → find (is_within area) rest.keys ≡ None →
-    ((d : ℕ) → list_any (λ r. is_within r d) (take i areas) ≡ true → contains nat_cmp rest d ≡ false) → (d : ℕ) → list_any (λ r. is_within r d) (take (i + 1) areas) ≡ true → contains nat_cmp rest d ≡ false
-none_more rest areas i area h e n k d r = at (any_more (λ x. is_within x d) areas i area h e (ap (λ (j : ℕ). list_any (λ x. is_within x d) (take j areas)) (sym (add-one i)) ∙ r))
-  where
-    at : (list_any (λ x. is_within x d) (take i areas) ≡ true) ⊎ (is_within area d ≡ true) → contains nat_cmp rest d ≡ false
-    at (inl f) = k d f
-    at (inr f) = find_none (is_within area) rest.keys d n f
+    at : (None ≡ Some c) ⊎ ((is_one_of work c ≡ true) ⊎ Waits now rest waiting c) → ReadsOne first rest c
+    at (inl i) = cc
+    at (inr (inl i)) = let z : is_one_of [] c ≡ true = ap (λ (xs : List ℕ). is_one_of xs c) (sym e) ∙ i in cc
+    at (inr (inr i)) = record { cell = i.cell; read = sym (j c i.cell i.there ∙ k c i.cell i.there) ∙ i.read; there = i.there }
 
 -- ---- the first to wait for a cell
 
@@ -318,3 +221,51 @@ new_one waiting next read cell v n e u d = ap listed (u d) ∙ ap (λ (b : Bool)
 pub park_new : (waiting same next : BTreeMap ℕ (Vec ℕ)) (read cell : ℕ) (v : Vec ℕ) → same ≡ waiting → get nat_cmp waiting read ≡ None → v.items ≡ cell ∷ [] → ((q : ℕ) → get nat_cmp next q ≡ cond (is_at (nat_cmp read) q) (Some v) (get nat_cmp same q)) →
     (d : ℕ) → waiting_for next d ≡ cond (read == d) (waiting_for waiting d ++ cell ∷ []) (waiting_for waiting d)
 park_new waiting same next read cell v s n e u = new_one waiting next read cell v n e (λ q. u q ∙ ap (λ (m : BTreeMap ℕ (Vec ℕ)). cond (is_at (nat_cmp read) q) (Some v) (get nat_cmp m q)) s)
+
+-- ---- what a cell reads of the set
+
+-- the rectangles have the same cells of the set
+abbrev pub KeepsCells : BTreeSet ℕ → List Area → List Area → Type 0
+KeepsCells rest old new = (d : ℕ) → contains nat_cmp rest d ≡ true → is_in new d ≡ is_in old d
+
+last_area : (areas : List Area) (area : Area) (d : ℕ) → is_in (areas ++ area ∷ []) d ≡ (is_in areas d || is_within area d)
+last_area areas area d = list_any-append (λ r. is_within r d) areas (area ∷ []) ∙ ap (λ (b : Bool). is_in areas d || b) (or-false (is_within area d))
+
+-- the last has none of the set
+pub cells_dropped : (rest : BTreeSet ℕ) (first old new : List Area) (area : Area) → old ≡ new ++ area ∷ [] → ((c : ℕ) → IsAhead rest area area.first c → IsFoundBy None c) → KeepsCells rest first old → KeepsCells rest first new
+cells_dropped rest first old new area e n k d h = sym (ap (λ (rs : List Area). is_in rs d) e ∙ last_area new area d ∙ ap (λ (b : Bool). is_in new d || b) beside ∙ or-false (is_in new d)) ∙ k d h
+  where
+    beside : is_within area d ≡ false
+    beside = false_from_ne_true (is_within area d) (λ w. n d ((within_between area d w).0, w, h))
+
+-- or it is cut, from the row of the first that it has
+pub cells_cut : (rest : BTreeSet ℕ) (first old less new : List Area) (area cut : Area) (read : ℕ) → old ≡ less ++ area ∷ [] → new ≡ less ++ cut ∷ [] → ((a : ℕ) → is_within cut a ≡ (is_within area a && nat_le (row_of read) (row_of a))) →
+    ((c : ℕ) → IsAhead rest area area.first c → IsFoundBy (Some read) c) → KeepsCells rest first old → KeepsCells rest first new
+cells_cut rest first old less new area cut read e f w n k d h =
+    ap (λ (rs : List Area). is_in rs d) f ∙ last_area less cut d ∙ ap (λ (b : Bool). is_in less d || b) (w d ∙ at (is_within area d) refl)
+    ∙ sym (ap (λ (rs : List Area). is_in rs d) e ∙ last_area less area d) ∙ k d h
+  where
+    below : (a b : ℕ) → a ≤ b → nat_le (row_of a) (row_of b) ≡ true
+    below a b l = le-leb (row_of a) (row_of b) (omega (arith, l))
+
+    at : (b : Bool) → is_within area d ≡ b → (is_within area d && nat_le (row_of read) (row_of d)) ≡ is_within area d
+    at true i = ap (λ (x : Bool). x && nat_le (row_of read) (row_of d)) i ∙ below read d (n d ((within_between area d i).0, i, h)) ∙ sym i
+    at false i = ap (λ (x : Bool). x && nat_le (row_of read) (row_of d)) i ∙ sym i
+
+pub cells_read : (rest : BTreeSet ℕ) (first old less : List Area) (area : Area) (read : ℕ) → old ≡ less ++ area ∷ [] → IsAhead rest area area.first read → KeepsCells rest first old → is_in first read ≡ true
+cells_read rest first old less area read e a k =
+    sym (k read a.2) ∙ ap (λ (rs : List Area). is_in rs read) e ∙ last_area less area read ∙ or_right (is_in less read) _ a.1
+
+pub cells_none : (rest : BTreeSet ℕ) (first old : List Area) → old ≡ [] → KeepsCells rest first old → (d : ℕ) → is_in first d ≡ true → contains nat_cmp rest d ≡ false
+cells_none rest first old e k d i =
+    false_from_ne_true (contains nat_cmp rest d) (λ h.
+    let z : is_in [] d ≡ true = ap (λ (rs : List Area). is_in rs d) (sym e) ∙ k d h ∙ i in
+    cc)
+
+-- what one cell reads, among all
+pub kept_at : (rest : BTreeSet ℕ) (old new : BTreeMap ℕ (Vec Area)) (cell : ℕ) (v w : Vec Area) → get nat_cmp old cell ≡ Some v → ((q : ℕ) → get nat_cmp new q ≡ cond (is_at (nat_cmp cell) q) (Some w) (get nat_cmp old q)) → KeepsCells rest v.items w.items → KeepsReads rest old new
+kept_at rest old new cell v w e u k c d h = ap (λ (o : Option (Vec Area)). is_in (listed o) d) (u c ∙ ap (λ (b : Bool). cond b (Some w) (get nat_cmp old c)) (is_at-eq cell c)) ∙ at (cell == c) refl
+  where
+    at : (b : Bool) → (cell == c) ≡ b → is_in (listed (cond b (Some w) (get nat_cmp old c))) d ≡ is_in (listed (get nat_cmp old c)) d
+    at true s = k d h ∙ ap (λ (o : Option (Vec Area)). is_in (listed o) d) (sym e ∙ ap (get nat_cmp old) (same_cell c cell s))
+    at false s = refl

@@ -1,61 +1,43 @@
 -- Steps to the cells of a cone that are circular after an edit.
-use Rattle.std.proofs.Common.{◌≡◌, ◌==◌, ◌⊎◌, inl, inr, ◌+◌, ◌<◌, ℕ, zero, suc, Bool, true, false, ◌&&◌, ◌||◌, cond, not, List, [], ◌∷◌, filter, take, get_or, length, Some, refl, ap, sym, ◌∙◌}
-use Rattle.std.proofs.lemmas.Bool.{or_cases, or_left, or_right, and_parts, and_from}
+use Rattle.std.proofs.Common.{◌≡◌, ◌==◌, ◌+◌, ◌<◌, ℕ, Bool, true, false, ◌&&◌, ◌||◌, cond, not, List, [], filter, take, get_or, length, Option, Some, refl, ap, sym, ◌∙◌, subst}
+use Rattle.std.proofs.lemmas.Bool.{and_parts, and_from, not-true}
 use Rattle.std.proofs.lemmas.Map.Views.{any-filter_same}
 use Rattle.std.specs.List.{list_any}
+use Rattle.std.specs.Map.{keys_of}
 use Rattle.std.specs.Ordering.{nat_cmp}
 use Rattle.std.specs.Global.{Vec}
-use Rattle.std.specs.BTreeMap.{BTreeMap, get, is_at}
-use Rattle.std.specs.BTreeSet.{BTreeSet, contains, IsUnchanged}
+use Rattle.std.specs.BTreeMap.{BTreeMap, get, is_at, IsOrdered}
+use Rattle.std.specs.BTreeSet.{BTreeSet, contains, difference}
 use Rattle.wi_values.specs.Address.{Area, is_within}
-use Rattle.wi_parser.specs.Sheet.{content_of}
+use Rattle.wi_parser.specs.declared.content.Content.{Content}
+use Rattle.wi_parser.specs.Sheet.{Sheet, content_of}
 use Rattle.wi_parser.specs.Reads.{content_reads}
+use Rattle.wi_ranges.specs.Bag.{Bag}
 use Rattle.wi_graph.specs.Circular.{circular}
 use Rattle.wi_graph.specs.Reach.{is_one_of, in_cone}
-use Rattle.wi_graph.specs.Inner.Rooms.{Rooms, room_over, areas_of}
+use Rattle.wi_graph.specs.Edges.{areas_in}
+use Rattle.wi_graph.specs.declared.turning.Turns.{Turns}
+use Rattle.wi_graph.specs.Inner.Changes.{areas_then, Brings, ReadsStay, went_from}
+use Rattle.wi_graph.specs.Inner.Rooms.{Rooms, room_at, room_over, areas_of, HasPairs, IsGraph}
+use Rattle.wi_graph.specs.Inner.Search.{HasAll, HasReaders, IsLeast}
 use Rattle.wi_graph.specs.Inner.Stripping.{listed, reads_in, EachReadsOne, AreStripped, IsWithin}
-use Rattle.wi_graph.specs.Inner.Turning.{has_outside, reads_outside, SettlesCone}
-use Rattle.wi_graph.proofs.Tests.{is_at-eq}
-use Rattle.wi_graph.proofs.Walks.{same_cell, found}
-use Rattle.wi_graph.proofs.StripSteps.{clash, is_itself, turned}
-use Rattle.wi_graph.proofs.SearchSteps.{Gains, found_more, taken}
-use Rattle.wi_graph.proofs.GraphSteps.{reads_areas}
+use Rattle.wi_graph.specs.Inner.Turning.{reads_outside, turned_by, AreTurns, SettlesCone}
+use Rattle.wi_graph.proofs.Tests.{is_at-eq, clash, turned}
+use Rattle.wi_graph.proofs.Walks.{same_cell}
+use Rattle.wi_graph.proofs.SetSteps.{in_difference, taken}
+use Rattle.wi_graph.proofs.SearchSteps.{found_cone}
+use Rattle.wi_graph.proofs.HeldSteps.{held_finds, finds_held, held_test}
+use Rattle.wi_graph.proofs.EdgeLemmas.{ascends, areas_rooms}
+use Rattle.wi_graph.proofs.ChangeSteps.{all_stay, then_sheet, then_contents, then_same}
+use Rattle.wi_graph.proofs.GraphSteps.{reads_areas, graph_readers}
+use Rattle.wi_graph.proofs.GraphEnds.{circles_over}
 use Rattle.wi_graph.proofs.CircularAfter.{circular_after}
-
--- ---- cells are put in
-
-pub insert_step : (cells : List ℕ) (i x : ℕ) (first old new : BTreeSet ℕ) → i < length cells → x ≡ get_or cells i x → Gains old new x → ((c : ℕ) → contains nat_cmp old c ≡ (contains nat_cmp first c || is_one_of (take i cells) c)) →
-    (c : ℕ) → contains nat_cmp new c ≡ (contains nat_cmp first c || is_one_of (take (i + 1) cells) c)
-insert_step cells i x first old new l e g h c = found_more cells i x first old new l e g h c
-
-pub taken_one : (cells : List ℕ) (i c : ℕ) → is_one_of (take i cells) c ≡ true → is_one_of cells c ≡ true
-taken_one [] i c h = at i h
-  where
-    at : (j : ℕ) → is_one_of (take j []) c ≡ true → is_one_of [] c ≡ true
-    at zero k = k
-    at (suc j) k = k
-taken_one (x ∷ xs) zero c h = cc
-taken_one (x ∷ xs) (suc i) c h = at (or_cases (x == c) _ h) (taken_one xs i c)
-  where
-    at : ((x == c) ≡ true) ⊎ (is_one_of (take i xs) c ≡ true) → (is_one_of (take i xs) c ≡ true → is_one_of xs c ≡ true) → ((x == c) || is_one_of xs c) ≡ true
-    at (inl k) ih = or_left (x == c) _ k
-    at (inr k) ih = or_right (x == c) _ (ih k)
-
-pub insert_stays : (cells : List ℕ) (i : ℕ) (first old : BTreeSet ℕ) → ((c : ℕ) → contains nat_cmp old c ≡ (contains nat_cmp first c || is_one_of (take i cells) c)) → (c : ℕ) → contains nat_cmp first c ≡ true → contains nat_cmp old c ≡ true
-insert_stays cells i first old h c k = h c ∙ or_left (contains nat_cmp first c) _ k
-
-pub insert_only : (cells : List ℕ) (i : ℕ) (first old : BTreeSet ℕ) → ((c : ℕ) → contains nat_cmp old c ≡ (contains nat_cmp first c || is_one_of (take i cells) c)) → (c : ℕ) → contains nat_cmp old c ≡ true → (contains nat_cmp first c || is_one_of cells c) ≡ true
-insert_only cells i first old h c k = at (or_cases (contains nat_cmp first c) _ (sym (h c) ∙ k))
-  where
-    at : (contains nat_cmp first c ≡ true) ⊎ (is_one_of (take i cells) c ≡ true) → (contains nat_cmp first c || is_one_of cells c) ≡ true
-    at (inl m) = or_left (contains nat_cmp first c) _ m
-    at (inr m) = or_right (contains nat_cmp first c) _ (taken_one cells i c m)
 
 -- ---- what they read
 
-pub gather_step : (cells : List ℕ) (i x : ℕ) (f : ℕ → List Area) (old new : BTreeMap ℕ (Vec Area)) (v : Vec Area) → i < length cells → x ≡ get_or cells i x → v.items ≡ f x → ((q : ℕ) → get nat_cmp new q ≡ cond (is_at (nat_cmp x) q) (Some v) (get nat_cmp old q)) →
+pub reads_step : (cells : List ℕ) (i x : ℕ) (f : ℕ → List Area) (old new : BTreeMap ℕ (Vec Area)) (v : Vec Area) → i < length cells → x ≡ get_or cells i x → v.items ≡ f x → ((q : ℕ) → get nat_cmp new q ≡ cond (is_at (nat_cmp x) q) (Some v) (get nat_cmp old q)) →
     ((c : ℕ) → is_one_of (take i cells) c ≡ true → listed (get nat_cmp old c) ≡ f c) → (c : ℕ) → is_one_of (take (i + 1) cells) c ≡ true → listed (get nat_cmp new c) ≡ f c
-gather_step cells i x f old new v l e g u h c k = ap listed (u c ∙ ap (λ (b : Bool). cond b (Some v) (get nat_cmp old c)) (is_at-eq x c)) ∙ at (x == c) refl (sym (taken cells i x c l e) ∙ k)
+reads_step cells i x f old new v l e g u h c k = ap listed (u c ∙ ap (λ (b : Bool). cond b (Some v) (get nat_cmp old c)) (is_at-eq x c)) ∙ at (x == c) refl (sym (taken cells i x c l e) ∙ k)
   where
     last : (b : Bool) → (b || (false || false)) ≡ true → b ≡ true
     last true m = refl
@@ -64,50 +46,6 @@ gather_step cells i x f old new v l e g u h c k = ap listed (u c ∙ ap (λ (b :
     at : (b : Bool) → (x == c) ≡ b → (is_one_of (take i cells) c || ((x == c) || false)) ≡ true → listed (cond b (Some v) (get nat_cmp old c)) ≡ f c
     at true s m = g ∙ ap f (same_cell c x s)
     at false s m = h c (last (is_one_of (take i cells) c) (ap (λ (b : Bool). is_one_of (take i cells) c || (b || false)) (sym s) ∙ m))
-
--- ---- who is held
-
-outside_finds : (cells : BTreeSet ℕ) (ks : List ℕ) (r : Area) → list_any (λ d. is_within r d && not (contains nat_cmp cells d)) ks ≡ true → (d : ℕ) × (is_one_of ks d ≡ true) × (is_within r d ≡ true) × (contains nat_cmp cells d ≡ false)
-outside_finds cells [] r h = cc
-outside_finds cells (k ∷ ks) r h = at (or_cases (is_within r k && not (contains nat_cmp cells k)) _ h) (outside_finds cells ks r)
-  where
-    not_is : (b : Bool) → not b ≡ true → b ≡ false
-    not_is true m = cc
-    not_is false m = refl
-
-    at : ((is_within r k && not (contains nat_cmp cells k)) ≡ true) ⊎ (list_any (λ d. is_within r d && not (contains nat_cmp cells d)) ks ≡ true) →
-        (list_any (λ d. is_within r d && not (contains nat_cmp cells d)) ks ≡ true → (d : ℕ) × (is_one_of ks d ≡ true) × (is_within r d ≡ true) × (contains nat_cmp cells d ≡ false)) →
-        (d : ℕ) × (is_one_of (k ∷ ks) d ≡ true) × (is_within r d ≡ true) × (contains nat_cmp cells d ≡ false)
-    at (inl m) ih = let x = and_parts (is_within r k) (not (contains nat_cmp cells k)) m in (k, or_left (k == k) _ (is_itself k), x.0, not_is (contains nat_cmp cells k) x.1)
-    at (inr m) ih = let x = ih m in (x.0, or_right (k == x.0) _ x.1, x.2, x.3)
-
-held_finds : (circles cells : BTreeSet ℕ) (rs : List Area) → list_any (has_outside circles cells) rs ≡ true → (d : ℕ) × (is_one_of circles.keys d ≡ true) × (list_any (λ r. is_within r d) rs ≡ true) × (contains nat_cmp cells d ≡ false)
-held_finds circles cells [] h = cc
-held_finds circles cells (r ∷ rs) h = at (or_cases (has_outside circles cells r) _ h) (held_finds circles cells rs)
-  where
-    at : (has_outside circles cells r ≡ true) ⊎ (list_any (has_outside circles cells) rs ≡ true) → (list_any (has_outside circles cells) rs ≡ true → (d : ℕ) × (is_one_of circles.keys d ≡ true) × (list_any (λ r. is_within r d) rs ≡ true) × (contains nat_cmp cells d ≡ false)) →
-        (d : ℕ) × (is_one_of circles.keys d ≡ true) × (list_any (λ r. is_within r d) (r ∷ rs) ≡ true) × (contains nat_cmp cells d ≡ false)
-    at (inl m) ih = let x = outside_finds cells circles.keys r m in (x.0, x.1, or_left (is_within r x.0) _ x.2, x.3)
-    at (inr m) ih = let x = ih m in (x.0, x.1, or_right (is_within r x.0) _ x.2, x.3)
-
-finds_held : (circles cells : BTreeSet ℕ) (rs : List Area) (d : ℕ) → is_one_of circles.keys d ≡ true → list_any (λ r. is_within r d) rs ≡ true → contains nat_cmp cells d ≡ false → list_any (has_outside circles cells) rs ≡ true
-finds_held circles cells [] d m w n = cc
-finds_held circles cells (r ∷ rs) d m w n = at (or_cases (is_within r d) _ w) (λ k. finds_held circles cells rs d m k n)
-  where
-    is_not : (b : Bool) → b ≡ false → not b ≡ true
-    is_not true k = cc
-    is_not false k = refl
-
-    at : (is_within r d ≡ true) ⊎ (list_any (λ r. is_within r d) rs ≡ true) → (list_any (λ r. is_within r d) rs ≡ true → list_any (has_outside circles cells) rs ≡ true) → (has_outside circles cells r || list_any (has_outside circles cells) rs) ≡ true
-    at (inl k) ih = or_left (has_outside circles cells r) _ (found (λ x. is_within r x && not (contains nat_cmp cells x)) circles.keys d m (and_from (is_within r d) _ k (is_not (contains nat_cmp cells d) n)))
-    at (inr k) ih = or_right (has_outside circles cells r) _ (ih k)
-
-held_test : (reads : BTreeMap ℕ (Vec Area)) (circles cells : BTreeSet ℕ) (outer : List ℕ) (held : BTreeSet ℕ) → outer ≡ filter (reads_outside reads circles cells) cells.keys → ((c : ℕ) → contains nat_cmp held c ≡ is_one_of outer c) →
-    (c : ℕ) → contains nat_cmp held c ≡ (reads_outside reads circles cells c && contains nat_cmp cells c)
-held_test reads circles cells outer held e h c =
-    h c ∙ ap (λ (xs : List ℕ). is_one_of xs c) e
-    ∙ any-filter_same (λ x. x == c) (reads_outside reads circles cells) (reads_outside reads circles cells c) (λ k m. ap (reads_outside reads circles cells) (same_cell c k m)) cells.keys
-    ∙ ap (λ (b : Bool). reads_outside reads circles cells c && b) (sym (turned cells.keys c))
 
 -- ---- what stripping leaves
 
@@ -151,5 +89,71 @@ settles rooms next circles cells held all rest list outer reads e g o h a w st l
 pub rest_within : (cells all rest : BTreeSet ℕ) (list : List ℕ) → list ≡ cells.keys → ((c : ℕ) → contains nat_cmp all c ≡ is_one_of list c) → IsWithin rest all → IsWithin rest cells
 rest_within cells all rest list e a w c k = turned cells.keys c ∙ ap (λ (ys : List ℕ). is_one_of ys c) (sym e) ∙ sym (a c) ∙ w c k
 
-pub unchanged_test : (old new : BTreeSet ℕ) → IsUnchanged old new → (f : ℕ → Bool) → ((c : ℕ) → contains nat_cmp old c ≡ f c) → (c : ℕ) → contains nat_cmp new c ≡ f c
-unchanged_test old new e f h c = ap (λ (ks : List ℕ). list_any (is_at (nat_cmp c)) ks) e ∙ h c
+-- ---- the turns
+
+went_is : (circles cells rest : BTreeSet ℕ) (c : ℕ) → is_one_of (went_from circles cells rest) c ≡ ((contains nat_cmp circles c && not (contains nat_cmp rest c)) && contains nat_cmp cells c)
+went_is circles cells rest c =
+    any-filter_same (λ x. x == c) (λ x. contains nat_cmp circles x && not (contains nat_cmp rest x)) (contains nat_cmp circles c && not (contains nat_cmp rest c))
+    (λ k h. ap (λ (y : ℕ). contains nat_cmp circles y && not (contains nat_cmp rest y)) (same_cell c k h)) cells.keys
+    ∙ ap (λ (b : Bool). (contains nat_cmp circles c && not (contains nat_cmp rest c)) && b) (sym (turned cells.keys c))
+
+abbrev pub AreOf : BTreeSet ℕ → BTreeSet ℕ → BTreeSet ℕ → Turns → Type 0
+AreOf circles cells rest turns = (turns.came.items ≡ difference nat_cmp rest circles) × (turns.went.items ≡ went_from circles cells rest)
+
+turned_after : (circles cells rest : BTreeSet ℕ) (turns : Turns) → AreOf circles cells rest turns → IsWithin rest cells → (c : ℕ) → turned_by circles turns c ≡ cond (contains nat_cmp cells c) (contains nat_cmp rest c) (contains nat_cmp circles c)
+turned_after circles cells rest turns e w c =
+    ap (λ (xs : List ℕ). (contains nat_cmp circles c || is_one_of xs c) && not (is_one_of turns.went.items c)) e.0
+    ∙ ap (λ (b : Bool). (contains nat_cmp circles c || b) && not (is_one_of turns.went.items c)) (in_difference rest circles c)
+    ∙ ap (λ (xs : List ℕ). (contains nat_cmp circles c || (not (contains nat_cmp circles c) && contains nat_cmp rest c)) && not (is_one_of xs c)) e.1
+    ∙ ap (λ (b : Bool). (contains nat_cmp circles c || (not (contains nat_cmp circles c) && contains nat_cmp rest c)) && not b) (went_is circles cells rest c)
+    ∙ at (contains nat_cmp cells c) (contains nat_cmp rest c) (contains nat_cmp circles c) (w c)
+  where
+    at : (k r f : Bool) → (r ≡ true → k ≡ true) → ((f || (not f && r)) && not ((f && not r) && k)) ≡ cond k r f
+    at true true true w = refl
+    at true true false w = refl
+    at true false true w = refl
+    at true false false w = refl
+    at false true f w = let z = w refl in cc
+    at false false true w = refl
+    at false false false w = refl
+
+-- the cone of an edit
+pub cone_is : (rooms : Rooms) (readers : Bag) (cone : BTreeSet ℕ) (xs : List ℕ) → IsOrdered nat_cmp rooms → HasPairs readers rooms → HasAll xs cone → HasReaders readers cone → IsLeast readers xs cone →
+    (s : Sheet) → ((c : ℕ) → room_at rooms c ≡ areas_in (content_of s c)) → (c : ℕ) → contains nat_cmp cone c ≡ in_cone s xs c
+cone_is rooms readers cone xs o h a k l s are c =
+    turned cone.keys c ∙ found_cone s readers xs cone (graph_readers rooms readers o h s (λ d. areas_rooms rooms.entries (ascends rooms.entries o) d ∙ are d)) a k l c
+
+pub cone_turns : (rooms next : Rooms) (readers : Bag) (circles cells rest : BTreeSet ℕ) (turns : Turns) (ds : List ℕ) (xs : List (ℕ × Option Content)) → ds ≡ keys_of xs → IsGraph rooms readers circles → Brings next xs →
+    HasAll ds cells → HasReaders readers cells → IsLeast readers ds cells → SettlesCone rooms next circles cells rest → IsWithin rest cells → AreOf circles cells rest turns → AreTurns rooms next circles turns
+cone_turns rooms next readers circles cells rest turns ds xs m g b a k l st w e = record {
+  fresh = λ c h. not-true (contains nat_cmp circles c) (and_parts (not (contains nat_cmp circles c)) _ (sym (in_difference rest circles c) ∙ ap (λ (ys : List ℕ). is_one_of ys c) (sym e.0) ∙ h)).0;
+  after = record {
+    sheet = then_sheet g.circular.sheet xs;
+    are = brought;
+    circles = λ c. turned_after circles cells rest turns e w c
+        ∙ sym (st g.circular.sheet (then_sheet g.circular.sheet xs) (keys_of xs) (then_same g.circular.sheet xs) brought g.circular.circles cone c);
+  };
+}
+  where
+    brought : (c : ℕ) → room_over next rooms c ≡ areas_in (content_of (then_sheet g.circular.sheet xs) c)
+    brought c = b c (room_at rooms c) ∙ ap (areas_then xs c) (g.circular.are c) ∙ sym (then_contents g.circular.sheet xs c)
+
+    cone : (c : ℕ) → contains nat_cmp cells c ≡ in_cone g.circular.sheet (keys_of xs) c
+    cone c = cone_is rooms readers cells ds g.ordered g.pairs a k l g.circular.sheet g.circular.are c ∙ ap (λ (ys : List ℕ). in_cone g.circular.sheet ys c) m
+
+-- where each cell reads what it read before
+pub same_turns : (rooms next : Rooms) (readers : Bag) (circles : BTreeSet ℕ) (turns : Turns) (ds : List ℕ) (xs : List (ℕ × Option Content)) → ds ≡ keys_of xs → IsGraph rooms readers circles → Brings next xs → ReadsStay rooms next ds → turns.came.items ≡ [] → turns.went.items ≡ [] → AreTurns rooms next circles turns
+same_turns rooms next readers circles turns ds xs m g b e f h = record {
+  fresh = λ c k. let z : is_one_of [] c ≡ true = ap (λ (xs : List ℕ). is_one_of xs c) (sym f) ∙ k in cc;
+  after = circles_over (room_over next rooms) (room_at rooms) (turned_by circles turns) (contains nat_cmp circles) (all_stay rooms next xs b (subst (ReadsStay rooms next) m e)) same g.circular;
+}
+  where
+    at : (b : Bool) → ((b || false) && true) ≡ b
+    at true = refl
+    at false = refl
+
+    same : (c : ℕ) → turned_by circles turns c ≡ contains nat_cmp circles c
+    same c =
+        ap (λ (xs : List ℕ). (contains nat_cmp circles c || is_one_of xs c) && not (is_one_of turns.went.items c)) f
+        ∙ ap (λ (xs : List ℕ). (contains nat_cmp circles c || false) && not (is_one_of xs c)) h
+        ∙ at (contains nat_cmp circles c)

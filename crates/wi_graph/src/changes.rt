@@ -1,24 +1,23 @@
 //! What an edit brings, by its cells.
 
-ghost use Rattle.std.specs.Prelude.{◌≡◌, ◌&&◌, not, filter, ℕ, IfOk, OnOk};
-ghost use Rattle.std.specs.Ordering.{nat_cmp};
-ghost use Rattle.std.specs.BTreeSet.{contains};
+ghost use Rattle.std.specs.Prelude.{◌≡◌, ◌↔◌, IsTrue, IfOk};
+ghost use Rattle.std.specs.Map.{keys_of};
 ghost use Rattle.wi_graph.specs.Edges.{areas_in};
-ghost use Rattle.wi_graph.specs.Inner.Rooms.{items_of};
-ghost use Rattle.wi_graph.specs.Inner.Changes.{cells_in, went_from, Brings};
+ghost use Rattle.wi_graph.specs.Inner.Rooms.{items_of, room_at, room_over};
+ghost use Rattle.wi_graph.specs.Inner.Changes.{Brings, ReadsStay};
 
 use crate::rooms::Rooms;
 use std::alloc::{AllocError, Global};
-use std::collections::{BTreeMap, BTreeSet};
+use std::collections::BTreeMap;
 use wi_parser::Content;
 use wi_values::{Address, Rect};
 
+/// A cell, and the content that it gets, or none.
+pub(crate) type Change = (Address, Option<Content>);
+
 /// The cells of an edit.
-pub(crate) fn cells_of(
-    alloc: Global,
-    changes: &[(Address, Option<Content>)],
-) -> Result<Vec<Address>, AllocError>
-    ensures { IfOk result (λ v. v.items ≡ cells_in changes.now) }
+pub(crate) fn cells_of(alloc: Global, changes: &[Change]) -> Result<Vec<Address>, AllocError>
+    ensures { IfOk result (λ v. v.items ≡ keys_of changes.now) }
 {
     let mut cells = Vec::new(alloc);
     for change in changes {
@@ -28,10 +27,7 @@ pub(crate) fn cells_of(
 }
 
 /// What an edit brings; of two for one cell the later counts.
-pub(crate) fn rooms_of(
-    alloc: Global,
-    changes: &[(Address, Option<Content>)],
-) -> Result<Rooms, AllocError>
+pub(crate) fn rooms_of(alloc: Global, changes: &[Change]) -> Result<Rooms, AllocError>
     ensures { IfOk result (λ next. Brings next changes.now) }
 {
     let mut next = BTreeMap::new(alloc);
@@ -55,18 +51,34 @@ fn room_of(alloc: Global, content: &Option<Content>) -> Result<Option<Vec<Rect>>
     }
 }
 
-/// The cells of a cone that were circular and are not among the rest.
-pub(crate) fn went_of(
-    alloc: Global,
-    circles: &BTreeSet<Address>,
-    cells: &BTreeSet<Address>,
-    rest: &BTreeSet<Address>,
-) -> Result<Vec<Address>, AllocError>
-    ensures { IfOk result (λ v. v.items ≡ went_from circles.now cells.now rest.now) }
+/// Whether each of these cells reads what it read before once what is next is put in. The work grows with what they read.
+pub(crate) fn reads_stay(rooms: &Rooms, next: &Rooms, cells: &[Address]) -> bool
+    ensures { IsTrue result ↔ ReadsStay rooms.now next.now cells.now }
 {
-    cells
-        .iter()
-        .filter(|cell| circles.contains(*cell) && !rest.contains(*cell))
-        .copied()
-        .collect(alloc)
+    for cell in cells {
+        if !reads_same(rooms, next, *cell) {
+            return false;
+        }
+    }
+    true
+}
+
+/// Whether a cell reads what it read before once what is next is put in.
+fn reads_same(rooms: &Rooms, next: &Rooms, cell: Address) -> bool
+    ensures { IsTrue result ↔ (room_over next.now rooms.now cell ≡ room_at rooms.now cell) }
+{
+    match next.get(&cell) {
+        Some(room) => reads_this(rooms, cell, room),
+        None => true,
+    }
+}
+
+/// Whether these are the rectangles that a cell reads, if it has a formula.
+fn reads_this(rooms: &Rooms, cell: Address, room: &Option<Vec<Rect>>) -> bool
+    ensures { IsTrue result ↔ (items_of room.now ≡ room_at rooms.now cell) }
+{
+    match rooms.get(&cell) {
+        Some(stood) => room == stood,
+        None => room.is_none(),
+    }
 }

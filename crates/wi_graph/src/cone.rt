@@ -1,10 +1,7 @@
 //! The cells that read one of a list, at any remove.
 
-ghost use Rattle.std.specs.Prelude.{◌≡◌, ℕ, Bool, true, IfOk, OnOk};
-ghost use Rattle.std.specs.Ordering.{nat_cmp};
-ghost use Rattle.std.specs.BTreeSet.{contains, IsOrdered};
-ghost use Rattle.wi_graph.specs.Reach.{is_one_of};
-ghost use Rattle.wi_graph.specs.Inner.Search.{HasAll, HasReaders, GoesToReaders, AreNoted};
+ghost use Rattle.std.specs.Prelude.{IfOk, OnOk};
+ghost use Rattle.wi_graph.specs.Inner.Search.{HasAll, HasReaders, IsLeast, AreNoted};
 
 use std::alloc::{AllocError, Global};
 use std::collections::BTreeSet;
@@ -19,8 +16,7 @@ pub(crate) fn cone_of(
 ) -> Result<BTreeSet<Address>, AllocError>
     ensures all { IfOk result (HasAll cells.now) }
     ensures closed { IfOk result (HasReaders readers.now) }
-    ensures least { IfOk result (λ found. (p : ℕ → Bool) → ((c : ℕ) → is_one_of cells.now c ≡ true → p c ≡ true) → GoesToReaders readers.now p
-        → (c : ℕ) → contains nat_cmp found c ≡ true → p c ≡ true) }
+    ensures least { IfOk result (IsLeast readers.now cells.now) }
 {
     let mut found = BTreeSet::new(alloc);
     let mut work = Vec::new(alloc);
@@ -46,12 +42,4 @@ fn note(
         }
     }
     Ok(())
-}
-
-/// The cells of a set as a list.
-pub(crate) fn listed(alloc: Global, cells: &BTreeSet<Address>) -> Result<Vec<Address>, AllocError>
-    ensures items { IfOk result (λ list. list.items ≡ cells.now.keys) }
-    ensures order { IsOrdered nat_cmp cells.now }
-{
-    cells.iter().copied().collect(alloc)
 }

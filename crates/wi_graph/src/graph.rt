@@ -8,11 +8,12 @@ ghost use Rattle.wi_graph.specs.Circular.{circular};
 ghost use Rattle.wi_graph.specs.Reach.{is_one_of, in_cone};
 ghost use Rattle.wi_graph.specs.Edges.{AreEdgesOf, edges_after, staging};
 
-use crate::changes::{cells_of, rooms_of, went_of};
-use crate::cone::{cone_of, listed};
-use crate::rooms::{Rooms, take_away, take_back, take_over};
+use crate::changes::rooms_of;
+use crate::cone::cone_of;
+use crate::rooms::{Rooms, take_back, take_over};
+use crate::sets::{listed, take_away};
 use crate::staging::bring_in;
-use crate::turning::{bring_circles, circular_in_cone};
+use crate::turning::{Turns, bring_circles, turns_of};
 use std::alloc::{AllocError, Global};
 use std::collections::{BTreeMap, BTreeSet};
 use std::marker::Model;
@@ -25,9 +26,7 @@ use wi_values::Address;
 #[derive(Drop)]
 struct Staged {
     next: Rooms,
-    // The cells that are circular after it alone, and before it alone.
-    came: Vec<Address>,
-    went: Vec<Address>,
+    turns: Turns,
 }
 
 /// Which cells the formulas of a sheet read. It is seen as their edges, and those of an edit that is staged.
@@ -48,9 +47,11 @@ impl Model for Graph {
     ghost use Rattle.std.specs.Prelude.{option_map, IfSome, IfNone};
     ghost use Rattle.wi_graph.specs.Inner.Rooms.{edges_in, edges_over, IsGraph, IsStaged};
 
-    ghost view = { λ g. staging (edges_in g.rooms.entries) (option_map (λ x. edges_over (edges_in g.rooms.entries) x.next.entries) g.staged) };
+    ghost view = { λ g. staging (edges_in g.rooms.entries)
+        (option_map (λ x. edges_over (edges_in g.rooms.entries) x.next.entries) g.staged) };
 
-    ghost invariant = { λ g. IfNone g.staged (IsGraph g.rooms g.readers g.circles) × IfSome g.staged (λ x. IsStaged g.rooms x.next g.readers g.circles x.came.items x.went.items) };
+    ghost invariant = { λ g. IfNone g.staged (IsGraph g.rooms g.readers g.circles)
+        × IfSome g.staged (λ x. IsStaged g.rooms x.next g.readers g.circles x.turns) };
 }
 
 impl Graph {
@@ -68,26 +69,31 @@ impl Graph {
     }
 
     /// Makes ready an edit, which gives each named cell a content or none; of two for one cell the later counts. If memory
-    /// runs out, all is as before. The work grows with the cone of the edited cells, the readers of its cells, what its
-    /// cells read, and logarithms.
+    /// runs out, all is as before. The work grows with the cone of the edited cells, what its cells read and who reads
+    /// them, times logarithms. An edit after which each cell reads what it read costs what the edited cells read alone.
     pub fn stage(&mut self, changes: &[(Address, Option<Content>)]) -> Result<(), AllocError>
         requires { self.old.staged ≡ None }
-        ensures ok { OnOk result (self.new ≡ staging self.old.now (Some (edges_after self.old.now changes.now))) }
+        ensures ok { OnOk result (self.new
+            ≡ staging self.old.now (Some (edges_after self.old.now changes.now))) }
         ensures err { OnErr result (self.new ≡ self.old) }
     {
-        let cells = cells_of(self.alloc, changes)?;
         let coming = rooms_of(self.alloc, changes)?;
-        let cone = cone_of(self.alloc, &self.readers, &cells)?;
-        let rest = circular_in_cone(self.alloc, &self.rooms, &coming, &self.circles, &cone)?;
-        let went = went_of(self.alloc, &self.circles, &cone, &rest)?;
-        let came = bring_circles(self.alloc, &mut self.circles, &rest)?;
+        let turns = turns_of(
+            self.alloc,
+            &self.rooms,
+            &self.readers,
+            &self.circles,
+            changes,
+            &coming,
+        )?;
+        bring_circles(&mut self.circles, &turns.came)?;
         match bring_in(self.alloc, &mut self.rooms, &mut self.readers, coming) {
             Ok(next) => {
-                self.staged = Some(Staged { next, came, went });
+                self.staged = Some(Staged { next, turns });
                 Ok(())
             }
             Err(error) => {
-                take_away(&mut self.circles, &came);
+                take_away(&mut self.circles, &turns.came);
                 Err(error)
             }
         }
@@ -99,7 +105,7 @@ impl Graph {
     {
         if let Some(mut staged) = self.staged.take() {
             take_over(&mut self.rooms, &mut self.readers, &mut staged.next);
-            take_away(&mut self.circles, &staged.went);
+            take_away(&mut self.circles, &staged.turns.went);
         }
     }
 
@@ -109,7 +115,7 @@ impl Graph {
     {
         if let Some(mut staged) = self.staged.take() {
             take_back(&mut self.rooms, &mut self.readers, &mut staged.next);
-            take_away(&mut self.circles, &staged.came);
+            take_away(&mut self.circles, &staged.turns.came);
         }
     }
 
@@ -126,7 +132,8 @@ impl Graph {
     pub fn cone(&self, cells: &[Address]) -> Result<Vec<Address>, AllocError>
         requires { self.now.staged ≡ None }
         ensures order { IfOk result (λ cone. IsStrictlyIncreasing cone.items) }
-        ensures cells { IfOk result (λ cone. (s : Sheet) → AreEdgesOf self.now.now s → (c : ℕ) → is_one_of cone.items c ≡ in_cone s cells.now c) }
+        ensures cells { IfOk result (λ cone. (s : Sheet) → AreEdgesOf self.now.now s
+            → (c : ℕ) → is_one_of cone.items c ≡ in_cone s cells.now c) }
     {
         let found = cone_of(self.alloc, &self.readers, cells)?;
         listed(self.alloc, &found)

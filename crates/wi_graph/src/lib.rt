@@ -4,9 +4,13 @@
 mod changes;
 mod cone;
 mod graph;
+mod held;
+mod reads;
 mod rooms;
+mod sets;
 mod staging;
 mod stripping;
 mod turning;
+mod within;
 
 pub use graph::Graph;

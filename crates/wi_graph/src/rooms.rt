@@ -1,17 +1,15 @@
 //! Rooms for the rectangles that formulas read. An edit first makes its rooms and puts its pairs into the index; to take it
 //! or to take it back then needs no memory.
 
-ghost use Rattle.std.specs.Prelude.{◌≡◌, ◌==◌, ◌-◌, ◌+◌, ◌&&◌, not, ℕ, None, false, OnOk, OnErr, if◌then◌else◌};
+ghost use Rattle.std.specs.Prelude.{◌≡◌, ◌==◌, ◌-◌, ℕ, None, false, if◌then◌else◌};
 ghost use Rattle.std.specs.Ordering.{nat_cmp};
 ghost use Rattle.std.specs.BTreeMap.{get, IsOrdered};
-ghost use Rattle.std.specs.BTreeSet.{contains};
 ghost use Rattle.std.specs.Option.{is_none};
 ghost use Rattle.wi_ranges.specs.declared.pair.Pair.{Pair};
 ghost use Rattle.wi_ranges.specs.Bag.{count_of};
-ghost use Rattle.wi_graph.specs.Inner.Rooms.{items_of, room_at, room_over, areas_of, times, HasRooms, HasPairs, HasBoth, less_these};
+ghost use Rattle.wi_graph.specs.Inner.Rooms.{items_of, room_at, room_over, areas_of, times, HasRooms, HasPairs, HasBoth};
 
-use std::alloc::AllocError;
-use std::collections::{BTreeMap, BTreeSet};
+use std::collections::BTreeMap;
 use std::mem;
 use wi_ranges::RangeIndex;
 use wi_values::{Address, Rect};
@@ -56,8 +54,10 @@ fn exchange(rooms: &mut Rooms, at: Address, room: &mut Option<Vec<Rect>>)
     requires ordered { IsOrdered nat_cmp rooms.old }
     requires room { get nat_cmp rooms.old at ≡ None → items_of room.old ≡ None }
     ensures ordered { IsOrdered nat_cmp rooms.new }
-    ensures rooms { (c : ℕ) → room_at rooms.new c ≡ (if at == c then items_of room.old else room_at rooms.old c) }
-    ensures others { (c : ℕ) → (at == c) ≡ false → get nat_cmp rooms.new c ≡ get nat_cmp rooms.old c }
+    ensures rooms { (c : ℕ) → room_at rooms.new c
+        ≡ (if at == c then items_of room.old else room_at rooms.old c) }
+    ensures others { (c : ℕ) → (at == c) ≡ false
+        → get nat_cmp rooms.new c ≡ get nat_cmp rooms.old c }
     ensures stood { items_of room.new ≡ room_at rooms.old at }
 {
     if let Some(stood) = rooms.get_mut(&at) {
@@ -70,7 +70,8 @@ fn release(rooms: &mut Rooms, at: Address)
     requires ordered { IsOrdered nat_cmp rooms.old }
     ensures ordered { IsOrdered nat_cmp rooms.new }
     ensures rooms { (c : ℕ) → room_at rooms.new c ≡ room_at rooms.old c }
-    ensures others { (c : ℕ) → (at == c) ≡ false → get nat_cmp rooms.new c ≡ get nat_cmp rooms.old c }
+    ensures others { (c : ℕ) → (at == c) ≡ false
+        → get nat_cmp rooms.new c ≡ get nat_cmp rooms.old c }
 {
     if is_vacant(rooms, at) {
         let _ = rooms.remove(&at);
@@ -89,7 +90,8 @@ fn is_vacant(rooms: &Rooms, at: Address) -> bool
 
 /// Takes the pairs of what stood in a cell out of the index.
 pub(crate) fn remove_room(readers: &mut RangeIndex, cell: Address, room: &Option<Vec<Rect>>)
-    ensures { (p : Pair) → count_of readers.new p ≡ count_of readers.old p - times cell (areas_of (items_of room.now)) p }
+    ensures { (p : Pair) → count_of readers.new p
+        ≡ count_of readers.old p - times cell (areas_of (items_of room.now)) p }
 {
     if let Some(areas) = room {
         remove_pairs(readers, cell, areas);
@@ -98,18 +100,10 @@ pub(crate) fn remove_room(readers: &mut RangeIndex, cell: Address, room: &Option
 
 /// Takes the pairs of some rectangles and a cell out of the index.
 pub(crate) fn remove_pairs(readers: &mut RangeIndex, cell: Address, areas: &[Rect])
-    ensures { (p : Pair) → count_of readers.new p ≡ count_of readers.old p - times cell areas.now p }
+    ensures { (p : Pair) → count_of readers.new p
+        ≡ count_of readers.old p - times cell areas.now p }
 {
     for area in areas {
         readers.remove(*area, cell);
-    }
-}
-
-/// Takes cells out of a set.
-pub(crate) fn take_away(set: &mut BTreeSet<Address>, cells: &[Address])
-    ensures { (c : ℕ) → contains nat_cmp set.new c ≡ less_these set.old cells.now c }
-{
-    for cell in cells {
-        set.remove(cell);
     }
 }

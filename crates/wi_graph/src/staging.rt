@@ -55,7 +55,8 @@ fn bring_all(
     ensures rooms { (c : ℕ) → room_at rooms.new c ≡ room_at rooms.old c }
     ensures has_rooms { HasRooms rooms.new next.new }
     ensures pairs { HasBoth readers.new rooms.new next.new }
-    ensures all { OnOk result ((c : ℕ) → get nat_cmp next.new c ≡ either (get nat_cmp left.old c) (get nat_cmp next.old c)) }
+    ensures all { OnOk result ((c : ℕ) → get nat_cmp next.new c
+        ≡ either (get nat_cmp left.old c) (get nat_cmp next.old c)) }
 {
     'cells: while let Some(entry) = left.pop_first() {
         let (cell, room) = entry;
@@ -80,7 +81,8 @@ fn bring_one(
     ensures rooms { (c : ℕ) → room_at rooms.new c ≡ room_at rooms.old c }
     ensures has_rooms { HasRooms rooms.new next.new }
     ensures pairs { HasBoth readers.new rooms.new next.new }
-    ensures in_it { OnOk result ((c : ℕ) → get nat_cmp next.new c ≡ cond (is_at (nat_cmp cell) c) (Some room) (get nat_cmp next.old c)) }
+    ensures in_it { OnOk result ((c : ℕ) → get nat_cmp next.new c
+        ≡ cond (is_at (nat_cmp cell) c) (Some room) (get nat_cmp next.old c)) }
 {
     make_room(rooms, cell)?;
     add_room(readers, cell, &room)?;
@@ -115,7 +117,8 @@ fn add_room(
     cell: Address,
     room: &Option<Vec<Rect>>,
 ) -> Result<(), AllocError>
-    ensures ok { OnOk result ((p : Pair) → count_of readers.new p ≡ count_of readers.old p + times cell (areas_of (items_of room.now)) p) }
+    ensures ok { OnOk result ((p : Pair) → count_of readers.new p
+        ≡ count_of readers.old p + times cell (areas_of (items_of room.now)) p) }
     ensures err { OnErr result ((p : Pair) → count_of readers.new p ≡ count_of readers.old p) }
 {
     match room {
@@ -126,7 +129,8 @@ fn add_room(
 
 /// Puts the pairs of some rectangles and a cell into the index. On an error the index has those that it had.
 fn add_pairs(readers: &mut RangeIndex, cell: Address, areas: &[Rect]) -> Result<(), AllocError>
-    ensures ok { OnOk result ((p : Pair) → count_of readers.new p ≡ count_of readers.old p + times cell areas.now p) }
+    ensures ok { OnOk result ((p : Pair) → count_of readers.new p
+        ≡ count_of readers.old p + times cell areas.now p) }
     ensures err { OnErr result ((p : Pair) → count_of readers.new p ≡ count_of readers.old p) }
 {
     let mut added = 0;

@@ -1,25 +1,27 @@
 -- What an edit brings.
-use Rattle.std.specs.Prelude.{◌≡◌, ◌==◌, ◌&&◌, ℕ, cond, not, List, [], ◌∷◌, Option, filter}
+use Rattle.std.specs.Prelude.{◌≡◌, ◌==◌, ◌&&◌, ℕ, true, cond, not, List, [], ◌∷◌, Option, filter}
 use Rattle.std.specs.Ordering.{nat_cmp}
 use Rattle.std.specs.BTreeMap.{get}
 use Rattle.std.specs.BTreeSet.{BTreeSet, contains}
 use Rattle.wi_values.specs.Address.{Area}
 use Rattle.wi_parser.specs.declared.content.Content.{Content}
+use Rattle.wi_graph.specs.Reach.{is_one_of}
 use Rattle.wi_graph.specs.Edges.{areas_in}
-use Rattle.wi_graph.specs.Inner.Rooms.{Rooms, put_over}
+use Rattle.wi_graph.specs.Inner.Rooms.{Rooms, put_over, room_at, room_over}
 
 -- what a cell reads after the changes, that read this before them
 abbrev pub areas_then : List (ℕ × Option Content) → ℕ → Option (List Area) → Option (List Area)
 areas_then [] c o = o
 areas_then (x ∷ xs) c o = areas_then xs c (cond (c == x.0) (areas_in x.1) o)
 
-abbrev pub cells_in : List (ℕ × Option Content) → List ℕ
-cells_in [] = []
-cells_in (x ∷ xs) = x.0 ∷ cells_in xs
-
 -- the rooms are what the changes bring
 abbrev pub Brings : Rooms → List (ℕ × Option Content) → Type 0
 Brings next changes = (c : ℕ) (o : Option (List Area)) → put_over (get nat_cmp next c) o ≡ areas_then changes c o
 
+-- these cells read once the next are put in what they read before
+abbrev pub ReadsStay : Rooms → Rooms → List ℕ → Type 0
+ReadsStay rooms next cells = (c : ℕ) → is_one_of cells c ≡ true → room_over next rooms c ≡ room_at rooms c
+
+-- the circular cells of a cone that are not among the rest
 abbrev pub went_from : BTreeSet ℕ → BTreeSet ℕ → BTreeSet ℕ → List ℕ
 went_from circles cells rest = filter (λ c. contains nat_cmp circles c && not (contains nat_cmp rest c)) cells.keys

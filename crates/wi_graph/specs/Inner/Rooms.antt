@@ -11,6 +11,7 @@ use Rattle.wi_ranges.specs.Bag.{Bag, pair_of, is_same, count_of}
 use Rattle.wi_graph.specs.Circular.{circular}
 use Rattle.wi_graph.specs.Reach.{is_one_of}
 use Rattle.wi_graph.specs.Edges.{Edges, areas_in, with_areas}
+use Rattle.wi_graph.specs.declared.turning.Turns.{Turns}
 
 abbrev pub Rooms : Type 0
 Rooms = BTreeMap ℕ (Option (Vec Area))
@@ -86,10 +87,10 @@ pub record IsGraph (rooms : Rooms) (readers : Bag) (circles : BTreeSet ℕ) : Ty
   pub pairs : HasPairs readers rooms
   pub circular : AreCircles (room_at rooms) (contains nat_cmp circles)
 
--- the set has the cells that are circular before or after; those that came with the edit, or go with it, are listed
-pub record IsStaged (rooms next : Rooms) (readers : Bag) (circles : BTreeSet ℕ) (came went : List ℕ) : Type 0 where
+-- the set has the cells that are circular before or after
+pub record IsStaged (rooms next : Rooms) (readers : Bag) (circles : BTreeSet ℕ) (turns : Turns) : Type 0 where
   pub ordered : IsOrdered nat_cmp rooms
   pub has_rooms : HasRooms rooms next
   pub pairs : HasBoth readers rooms next
-  pub before : AreCircles (room_at rooms) (less_these circles came)
-  pub after : AreCircles (room_over next rooms) (less_these circles went)
+  pub before : AreCircles (room_at rooms) (less_these circles turns.came.items)
+  pub after : AreCircles (room_over next rooms) (less_these circles turns.went.items)

@@ -17,6 +17,11 @@ HasReaders readers found = (a r : ℕ) → contains nat_cmp found a ≡ true →
 abbrev pub GoesToReaders : Bag → (ℕ → Bool) → Type 0
 GoesToReaders readers p = (a r : ℕ) → p a ≡ true → IsReader readers a r → p r ≡ true
 
+-- what holds of these cells, and goes over to readers, holds of each in the set
+abbrev pub IsLeast : Bag → List ℕ → BTreeSet ℕ → Type 0
+IsLeast readers cells found = (p : ℕ → Bool) → ((c : ℕ) → is_one_of cells c ≡ true → p c ≡ true) → GoesToReaders readers p →
+    (c : ℕ) → contains nat_cmp found c ≡ true → p c ≡ true
+
 -- those of the list that the set lacks
 abbrev pub missing : BTreeSet ℕ → List ℕ → List ℕ
 missing found cells = filter (λ c. not (contains nat_cmp found c)) cells

@@ -8,13 +8,22 @@ use Rattle.std.specs.BTreeSet.{BTreeSet, contains}
 use Rattle.wi_values.specs.Address.{Area, is_within}
 use Rattle.wi_graph.specs.Reach.{is_one_of}
 
+-- what is there, or nothing
 abbrev pub listed : {X : Type 0} → Option (Vec X) → List X
 listed None = []
 listed (Some v) = v.items
 
+-- the cell is in one of the rectangles
+abbrev pub is_in : List Area → ℕ → Bool
+is_in areas d = list_any (λ r. is_within r d) areas
+
 -- the formula of c reads d
 abbrev pub reads_in : BTreeMap ℕ (Vec Area) → ℕ → ℕ → Bool
-reads_in areas c d = list_any (λ r. is_within r d) (listed (get nat_cmp areas c))
+reads_in areas c d = is_in (listed (get nat_cmp areas c)) d
+
+-- each formula reads the same cells of the set
+abbrev pub KeepsReads : BTreeSet ℕ → BTreeMap ℕ (Vec Area) → BTreeMap ℕ (Vec Area) → Type 0
+KeepsReads rest old new = (c d : ℕ) → contains nat_cmp rest d ≡ true → reads_in new c d ≡ reads_in old c d
 
 -- the cells that wait for d
 abbrev pub waiting_for : BTreeMap ℕ (Vec ℕ) → ℕ → List ℕ
@@ -47,6 +56,7 @@ GoesUp areas held all p = (c : ℕ) → contains nat_cmp all c ≡ true → cont
 abbrev pub AreStripped : BTreeMap ℕ (Vec Area) → BTreeSet ℕ → BTreeSet ℕ → BTreeSet ℕ → Type 0
 AreStripped areas held all rest = (p : ℕ → Bool) → GoesUp areas held all p → (c : ℕ) → contains nat_cmp all c ≡ true → contains nat_cmp rest c ≡ false → p c ≡ true
 
+-- each cell of rest is one of all
 abbrev pub IsWithin : BTreeSet ℕ → BTreeSet ℕ → Type 0
 IsWithin rest all = (c : ℕ) → contains nat_cmp rest c ≡ true → contains nat_cmp all c ≡ true
 

@@ -1,5 +1,5 @@
 -- Which cells of a cone turn circular.
-use Rattle.std.specs.Prelude.{◌≡◌, ◌&&◌, ℕ, Bool, cond, not, List}
+use Rattle.std.specs.Prelude.{◌≡◌, ◌&&◌, ◌||◌, ℕ, Bool, true, false, cond, not, List}
 use Rattle.std.specs.List.{list_any}
 use Rattle.std.specs.Ordering.{nat_cmp}
 use Rattle.std.specs.Global.{Vec}
@@ -8,17 +8,28 @@ use Rattle.std.specs.BTreeSet.{BTreeSet, contains}
 use Rattle.wi_values.specs.Address.{Area, is_within}
 use Rattle.wi_parser.specs.Sheet.{Sheet, content_of}
 use Rattle.wi_graph.specs.Circular.{circular}
-use Rattle.wi_graph.specs.Reach.{SameOff, in_cone}
+use Rattle.wi_graph.specs.Reach.{is_one_of, SameOff, in_cone}
 use Rattle.wi_graph.specs.Edges.{areas_in}
 use Rattle.wi_graph.specs.Inner.Stripping.{listed}
-use Rattle.wi_graph.specs.Inner.Rooms.{Rooms, room_over}
+use Rattle.wi_graph.specs.Inner.Rooms.{Rooms, room_over, AreCircles}
+use Rattle.wi_graph.specs.declared.turning.Turns.{Turns}
 
 -- the rectangle has one of the circular cells outside the cone
 abbrev pub has_outside : BTreeSet ℕ → BTreeSet ℕ → Area → Bool
 has_outside circles cells r = list_any (λ d. is_within r d && not (contains nat_cmp cells d)) circles.keys
 
+-- c reads one of the circular cells outside the cone
 abbrev pub reads_outside : BTreeMap ℕ (Vec Area) → BTreeSet ℕ → BTreeSet ℕ → ℕ → Bool
 reads_outside reads circles cells c = list_any (has_outside circles cells) (listed (get nat_cmp reads c))
+
+-- the cell was circular or came, and did not go
+abbrev pub turned_by : BTreeSet ℕ → Turns → ℕ → Bool
+turned_by circles turns c = (contains nat_cmp circles c || is_one_of turns.came.items c) && not (is_one_of turns.went.items c)
+
+-- with these turns the circular cells are those after what is next is put in
+pub record AreTurns (rooms next : Rooms) (circles : BTreeSet ℕ) (turns : Turns) : Type 0 where
+  pub fresh : (c : ℕ) → is_one_of turns.came.items c ≡ true → contains nat_cmp circles c ≡ false
+  pub after : AreCircles (room_over next rooms) (turned_by circles turns)
 
 -- of each edit that brings what is next, the cells of the cone that are left are circular after it
 abbrev pub SettlesCone : Rooms → Rooms → BTreeSet ℕ → BTreeSet ℕ → BTreeSet ℕ → Type 0

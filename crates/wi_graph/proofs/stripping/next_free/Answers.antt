@@ -1,10 +1,18 @@
-use Rattle.wi_graph.proofs.StripSteps.{track_pop, track_park}
+use Rattle.std.proofs.Common.{◌∙◌, Some}
+use Rattle.wi_graph.proofs.StripSteps.{track_kept, track_pop, track_park}
 use Rattle.wi_graph.proofs.stripping.next_free.Goals as goal
 
 pub cells-preserved : goal.cells-preserved
 cells-preserved c =
-    let areas = c.args.areas.now in
     let held = c.args.held.now in
     let rest = c.args.rest.now in
-    let popped = track_pop areas held rest c.cells.work.items c.pop.new.self.items c.cells.waiting c.in-Some.cell c.in-Some.ensures.items c.cells.invariant in
-    track_park areas held rest c.pop.new.self.items c.cells.waiting c.park.new.waiting c.in-Some.cell c.in-Some-open_read.read c.in_ok-park-in-Some-open_read.ensures c.in-Some-open_read.ensures.read c.in-Some-open_read.ensures.there popped.1 popped.0
+    let work = c.pop.new.self.items in
+    let areas = c.open_read.new.areas in
+    let kept = c.in_ok-open_read.ensures.kept in
+    let read = rw c.in-Some-2.is at c.in_ok-open_read.ensures.read in
+    let there = rw c.in-Some-2.is at c.in_ok-open_read.ensures.there in
+    let popped = track_pop c.cells.areas held rest c.cells.work.items work c.cells.waiting c.in-Some.cell c.in-Some.ensures.items c.cells.invariant.1 in
+    let tracked = track_kept c.cells.areas areas held rest work c.cells.waiting (Some c.in-Some.cell) kept popped.0 in (
+      λ d e h. kept d e h ∙ c.cells.invariant.0 d e h,
+      track_park areas held rest work c.cells.waiting c.park.new.waiting c.in-Some.cell c.in-Some-2.read c.in_ok-park-in-Some-2.ensures (kept c.in-Some.cell c.in-Some-2.read there ∙ read) there popped.1 tracked,
+    )

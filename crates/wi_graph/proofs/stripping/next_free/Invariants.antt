@@ -1,9 +1,9 @@
 use Rattle.std.proofs.Common.{None, length}
-use Rattle.wi_graph.specs.Inner.Stripping.{IsTracking}
+use Rattle.wi_graph.specs.Inner.Stripping.{KeepsReads, IsTracking}
 use Rattle.wi_graph.proofs.stripping.next_free.Given as goal
 
 abbrev pub invariant-cells : goal.invariant-cells
-invariant-cells l = IsTracking l.areas l.held l.rest l.work.items l.waiting None
+invariant-cells l = KeepsReads l.rest l.fn.areas l.areas × IsTracking l.areas l.held l.rest l.work.items l.waiting None
 
 abbrev pub decreases-cells : goal.decreases-cells
 decreases-cells l = length l.work.items

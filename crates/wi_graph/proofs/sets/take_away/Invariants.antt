@@ -2,7 +2,7 @@ use Rattle.std.proofs.Common.{◌≡◌, ℕ, take}
 use Rattle.std.specs.Ordering.{nat_cmp}
 use Rattle.std.specs.BTreeSet.{contains}
 use Rattle.wi_graph.specs.Inner.Rooms.{less_these}
-use Rattle.wi_graph.proofs.rooms.take_away.Given as goal
+use Rattle.wi_graph.proofs.sets.take_away.Given as goal
 
 abbrev pub invariant-loop-cell : goal.invariant-loop-cell
 invariant-loop-cell l = (c : ℕ) → contains nat_cmp l.set c ≡ less_these l.initial.set (take l.cell-index l.cells) c

@@ -2,7 +2,7 @@ use Rattle.std.proofs.Common.{◌≡◌, ◌||◌, ℕ, take}
 use Rattle.std.specs.Ordering.{nat_cmp}
 use Rattle.std.specs.BTreeSet.{contains}
 use Rattle.wi_graph.specs.Reach.{is_one_of}
-use Rattle.wi_graph.proofs.turning.insert_all.Given as goal
+use Rattle.wi_graph.proofs.sets.insert_all.Given as goal
 
 abbrev pub invariant-loop-cell : goal.invariant-loop-cell
 invariant-loop-cell l = (c : ℕ) → contains nat_cmp l.set c ≡ (contains nat_cmp l.initial.set c || is_one_of (take l.cell-index l.cells) c)

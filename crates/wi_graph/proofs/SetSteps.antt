@@ -1,0 +1,190 @@
+-- Cells that go into a set, and out of one.
+use Rattle.std.proofs.Common.{◌≡◌, ◌==◌, ◌&&◌, ◌||◌, ◌⊎◌, inl, inr, not, ℕ, zero, suc, ◌+◌, ◌<◌, Bool, true, false, cond, List, [], ◌∷◌, ◌++◌, length, take, get_or, refl, ap, sym, ◌∙◌, add-one}
+use Rattle.std.proofs.Math.Seq.{take-suc}
+use Rattle.std.proofs.lemmas.Bool.{or_cases, or_left, or_right}
+use Rattle.std.proofs.lemmas.List.Folds.{list_any-append}
+use Rattle.std.proofs.lemmas.Map.Views.{any-filter_same}
+use Rattle.std.specs.List.{list_any}
+use Rattle.std.specs.Ordering.{nat_cmp}
+use Rattle.std.specs.BTreeMap.{is_at}
+use Rattle.std.specs.BTreeSet.{BTreeSet, contains, difference, IsUnchanged}
+use Rattle.wi_graph.specs.Reach.{is_one_of}
+use Rattle.wi_graph.specs.Inner.Rooms.{less_these}
+use Rattle.wi_graph.proofs.Tests.{is_at-eq, is_itself, at_same, at_itself, clash, turned}
+use Rattle.wi_graph.proofs.Walks.{same_cell}
+
+-- ---- lists
+
+pub in_last : (xs : List ℕ) (x a : ℕ) → is_one_of (xs ++ x ∷ []) a ≡ true → (is_one_of xs a ≡ true) ⊎ (x ≡ a)
+in_last xs x a h = at (or_cases (is_one_of xs a) ((x == a) || false) (sym (list_any-append (λ (y : ℕ). y == a) xs (x ∷ [])) ∙ h))
+  where
+    last : (b : Bool) → (x == a) ≡ b → (b || false) ≡ true → x ≡ a
+    last true e k = same_cell a x e
+    last false e k = cc
+
+    at : (is_one_of xs a ≡ true) ⊎ (((x == a) || false) ≡ true) → (is_one_of xs a ≡ true) ⊎ (x ≡ a)
+    at (inl k) = inl k
+    at (inr k) = inr (last (x == a) refl k)
+
+pub in_front : (xs ys : List ℕ) (a : ℕ) → is_one_of xs a ≡ true → is_one_of (xs ++ ys) a ≡ true
+in_front xs ys a h = list_any-append (λ (y : ℕ). y == a) xs ys ∙ or_left (is_one_of xs a) _ h
+
+pub in_back : (xs ys : List ℕ) (a : ℕ) → is_one_of ys a ≡ true → is_one_of (xs ++ ys) a ≡ true
+in_back xs ys a h = list_any-append (λ (y : ℕ). y == a) xs ys ∙ or_right (is_one_of xs a) _ h
+
+-- the cells of a set that others are not
+pub in_difference : (set others : BTreeSet ℕ) (c : ℕ) → is_one_of (difference nat_cmp set others) c ≡ (not (contains nat_cmp others c) && contains nat_cmp set c)
+in_difference set others c =
+    any-filter_same (λ x. x == c) (λ x. not (contains nat_cmp others x)) (not (contains nat_cmp others c)) (λ k h. ap (λ (y : ℕ). not (contains nat_cmp others y)) (same_cell c k h)) set.keys
+    ∙ ap (λ (b : Bool). not (contains nat_cmp others c) && b) (sym (turned set.keys c))
+
+-- ---- cells are put in
+
+-- the set has one cell more
+abbrev pub Gains : BTreeSet ℕ → BTreeSet ℕ → ℕ → Type 0
+Gains old new x = (q : ℕ) → contains nat_cmp new q ≡ cond (is_at (nat_cmp x) q) true (contains nat_cmp old q)
+
+pub gains : (old new : BTreeSet ℕ) (x : ℕ) → Gains old new x → (q : ℕ) → contains nat_cmp new q ≡ cond (x == q) true (contains nat_cmp old q)
+gains old new x g q = g q ∙ ap (λ (b : Bool). cond b true (contains nat_cmp old q)) (is_at-eq x q)
+
+pub gains_stays : (old new : BTreeSet ℕ) (x : ℕ) → Gains old new x → (c : ℕ) → contains nat_cmp old c ≡ true → contains nat_cmp new c ≡ true
+gains_stays old new x g c h = gains old new x g c ∙ at (x == c)
+  where
+    at : (b : Bool) → cond b true (contains nat_cmp old c) ≡ true
+    at true = refl
+    at false = h
+
+pub gains_one : (old new : BTreeSet ℕ) (x : ℕ) → Gains old new x → contains nat_cmp new x ≡ true
+gains_one old new x g = gains old new x g x ∙ ap (λ (b : Bool). cond b true (contains nat_cmp old x)) (is_itself x)
+
+pub gains_cases : (old new : BTreeSet ℕ) (x : ℕ) → Gains old new x → (c : ℕ) → contains nat_cmp new c ≡ true → (x ≡ c) ⊎ (contains nat_cmp old c ≡ true)
+gains_cases old new x g c h = at (x == c) refl (sym (gains old new x g c) ∙ h)
+  where
+    at : (b : Bool) → (x == c) ≡ b → cond b true (contains nat_cmp old c) ≡ true → (x ≡ c) ⊎ (contains nat_cmp old c ≡ true)
+    at true e k = inl (same_cell c x e)
+    at false e k = inr k
+
+pub taken : (cells : List ℕ) (i x c : ℕ) → i < length cells → x ≡ get_or cells i x → is_one_of (take (i + 1) cells) c ≡ (is_one_of (take i cells) c || ((x == c) || false))
+taken cells i x c l e =
+    ap (λ (n : ℕ). is_one_of (take n cells) c) (add-one i)
+    ∙ ap (λ (xs : List ℕ). is_one_of xs c) (take-suc cells i x l)
+    ∙ list_any-append (λ (y : ℕ). y == c) (take i cells) (get_or cells i x ∷ [])
+    ∙ ap (λ (y : ℕ). is_one_of (take i cells) c || ((y == c) || false)) (sym e)
+
+pub found_more : (cells : List ℕ) (i x : ℕ) (old mid new : BTreeSet ℕ) → i < length cells → x ≡ get_or cells i x → Gains mid new x → ((c : ℕ) → contains nat_cmp mid c ≡ (contains nat_cmp old c || is_one_of (take i cells) c)) →
+    (c : ℕ) → contains nat_cmp new c ≡ (contains nat_cmp old c || is_one_of (take (i + 1) cells) c)
+found_more cells i x old mid new l e g f c =
+    gains mid new x g c ∙ ap (λ (b : Bool). cond (x == c) true b) (f c) ∙ by (x == c) (contains nat_cmp old c) (is_one_of (take i cells) c) ∙ ap (λ (b : Bool). contains nat_cmp old c || b) (sym (taken cells i x c l e))
+  where
+    by : (b o y : Bool) → cond b true (o || y) ≡ (o || (y || (b || false)))
+    by true true y = refl
+    by true false true = refl
+    by true false false = refl
+    by false true y = refl
+    by false false true = refl
+    by false false false = refl
+
+pub taken_one : (cells : List ℕ) (i c : ℕ) → is_one_of (take i cells) c ≡ true → is_one_of cells c ≡ true
+taken_one [] i c h = at i h
+  where
+    at : (j : ℕ) → is_one_of (take j []) c ≡ true → is_one_of [] c ≡ true
+    at zero k = k
+    at (suc j) k = k
+taken_one (x ∷ xs) zero c h = cc
+taken_one (x ∷ xs) (suc i) c h = at (or_cases (x == c) _ h) (taken_one xs i c)
+  where
+    at : ((x == c) ≡ true) ⊎ (is_one_of (take i xs) c ≡ true) → (is_one_of (take i xs) c ≡ true → is_one_of xs c ≡ true) → ((x == c) || is_one_of xs c) ≡ true
+    at (inl k) ih = or_left (x == c) _ k
+    at (inr k) ih = or_right (x == c) _ (ih k)
+
+pub insert_stays : (cells : List ℕ) (i : ℕ) (first old : BTreeSet ℕ) → ((c : ℕ) → contains nat_cmp old c ≡ (contains nat_cmp first c || is_one_of (take i cells) c)) → (c : ℕ) → contains nat_cmp first c ≡ true → contains nat_cmp old c ≡ true
+insert_stays cells i first old h c k = h c ∙ or_left (contains nat_cmp first c) _ k
+
+pub insert_only : (cells : List ℕ) (i : ℕ) (first old : BTreeSet ℕ) → ((c : ℕ) → contains nat_cmp old c ≡ (contains nat_cmp first c || is_one_of (take i cells) c)) → (c : ℕ) → contains nat_cmp old c ≡ true → (contains nat_cmp first c || is_one_of cells c) ≡ true
+insert_only cells i first old h c k = at (or_cases (contains nat_cmp first c) _ (sym (h c) ∙ k))
+  where
+    at : (contains nat_cmp first c ≡ true) ⊎ (is_one_of (take i cells) c ≡ true) → (contains nat_cmp first c || is_one_of cells c) ≡ true
+    at (inl m) = or_left (contains nat_cmp first c) _ m
+    at (inr m) = or_right (contains nat_cmp first c) _ (taken_one cells i c m)
+
+pub unchanged_test : (old new : BTreeSet ℕ) → IsUnchanged old new → (f : ℕ → Bool) → ((c : ℕ) → contains nat_cmp old c ≡ f c) → (c : ℕ) → contains nat_cmp new c ≡ f c
+unchanged_test old new e f h c = ap (λ (ks : List ℕ). list_any (is_at (nat_cmp c)) ks) e ∙ h c
+
+-- ---- cells are taken out
+
+abbrev pub Loses : BTreeSet ℕ → BTreeSet ℕ → ℕ → Type 0
+Loses rest less cell = (q : ℕ) → contains nat_cmp less q ≡ cond (is_at (nat_cmp cell) q) false (contains nat_cmp rest q)
+
+pub loses_others : (rest less : BTreeSet ℕ) (cell : ℕ) → Loses rest less cell → (c : ℕ) → contains nat_cmp less c ≡ true → (contains nat_cmp rest c ≡ true) × (cell ≡ c → ⊥)
+loses_others rest less cell l c h = at (is_at (nat_cmp cell) c) refl (sym (l c) ∙ h)
+  where
+    at : (b : Bool) → is_at (nat_cmp cell) c ≡ b → cond b false (contains nat_cmp rest c) ≡ true → (contains nat_cmp rest c ≡ true) × (cell ≡ c → ⊥)
+    at true e k = cc
+    at false e k = (k, λ s. clash (is_at (nat_cmp cell) c) (ap (λ (x : ℕ). is_at (nat_cmp cell) x) (sym s) ∙ at_itself cell) e)
+
+pub loses_one : (rest less : BTreeSet ℕ) (cell : ℕ) → Loses rest less cell → (c : ℕ) → contains nat_cmp less c ≡ false → (contains nat_cmp rest c ≡ false) ⊎ (cell ≡ c)
+loses_one rest less cell l c h = at (is_at (nat_cmp cell) c) refl (sym (l c) ∙ h)
+  where
+    at : (b : Bool) → is_at (nat_cmp cell) c ≡ b → cond b false (contains nat_cmp rest c) ≡ false → (contains nat_cmp rest c ≡ false) ⊎ (cell ≡ c)
+    at true e k = inr (sym (at_same cell c e))
+    at false e k = inl k
+
+pub keeps_others : (rest less : BTreeSet ℕ) (cell : ℕ) → Loses rest less cell → (c : ℕ) → (c == cell) ≡ false → contains nat_cmp rest c ≡ true → contains nat_cmp less c ≡ true
+keeps_others rest less cell l c n h = l c ∙ at (is_at (nat_cmp cell) c) refl
+  where
+    at : (b : Bool) → is_at (nat_cmp cell) c ≡ b → cond b false (contains nat_cmp rest c) ≡ true
+    at true e = clash (c == cell) (ap (λ (x : ℕ). x == cell) (at_same cell c e) ∙ is_itself cell) n
+    at false e = h
+
+pub away_step : (cells : List ℕ) (i x : ℕ) (first old new : BTreeSet ℕ) → i < length cells → x ≡ get_or cells i x → ((q : ℕ) → contains nat_cmp new q ≡ cond (is_at (nat_cmp x) q) false (contains nat_cmp old q)) →
+    ((c : ℕ) → contains nat_cmp old c ≡ less_these first (take i cells) c) → (c : ℕ) → contains nat_cmp new c ≡ less_these first (take (i + 1) cells) c
+away_step cells i x first old new l e u h c =
+    u c ∙ ap (λ (b : Bool). cond (is_at (nat_cmp x) c) false b) (h c) ∙ ap (λ (b : Bool). cond b false (less_these first (take i cells) c)) (is_at-eq x c) ∙ by (x == c) (contains nat_cmp first c) (is_one_of (take i cells) c)
+    ∙ ap (λ (b : Bool). contains nat_cmp first c && not b) (sym (taken cells i x c l e))
+  where
+    by : (b f y : Bool) → cond b false (f && not y) ≡ (f && not (y || (b || false)))
+    by true true true = refl
+    by true true false = refl
+    by true false y = refl
+    by false true true = refl
+    by false true false = refl
+    by false false y = refl
+
+pub away_start : (first : BTreeSet ℕ) (c : ℕ) → contains nat_cmp first c ≡ less_these first [] c
+away_start first c = at (contains nat_cmp first c)
+  where
+    at : (b : Bool) → b ≡ (b && true)
+    at true = refl
+    at false = refl
+
+-- ---- cells that are new in a set
+
+abbrev pub AreNew : List ℕ → BTreeSet ℕ → Type 0
+AreNew came set = (c : ℕ) → is_one_of came c ≡ true → contains nat_cmp set c ≡ false
+
+-- they are taken back, also where only some are in
+pub came_undone : (old new back : BTreeSet ℕ) (came : List ℕ) → AreNew came old → ((c : ℕ) → contains nat_cmp old c ≡ true → contains nat_cmp new c ≡ true) →
+    ((c : ℕ) → contains nat_cmp new c ≡ true → (contains nat_cmp old c || is_one_of came c) ≡ true) → ((c : ℕ) → contains nat_cmp back c ≡ less_these new came c) →
+    (c : ℕ) → contains nat_cmp back c ≡ contains nat_cmp old c
+came_undone old new back came e s o b c = b c ∙ at (contains nat_cmp new c) (is_one_of came c) (contains nat_cmp old c) (e c) (s c) (o c)
+  where
+    at : (n w f : Bool) → (w ≡ true → f ≡ false) → (f ≡ true → n ≡ true) → (n ≡ true → (f || w) ≡ true) → (n && not w) ≡ f
+    at true true true r s o = let z = r refl in cc
+    at true true false r s o = refl
+    at true false true r s o = refl
+    at true false false r s o = let z = o refl in cc
+    at false w true r s o = let z = s refl in cc
+    at false w false r s o = refl
+
+pub came_before : (old new : BTreeSet ℕ) (came : List ℕ) → AreNew came old → ((c : ℕ) → contains nat_cmp new c ≡ (contains nat_cmp old c || is_one_of came c)) →
+    (c : ℕ) → less_these new came c ≡ contains nat_cmp old c
+came_before old new came e n c = at (contains nat_cmp new c) (is_one_of came c) (contains nat_cmp old c) (e c) (n c)
+  where
+    at : (n w f : Bool) → (w ≡ true → f ≡ false) → n ≡ (f || w) → (n && not w) ≡ f
+    at n true true r m = let z = r refl in cc
+    at true true false r m = refl
+    at false true false r m = cc
+    at true false true r m = refl
+    at false false true r m = cc
+    at true false false r m = cc
+    at false false false r m = refl

@@ -1,0 +1,9 @@
+use Rattle.wi_graph.proofs.HeldSteps.{IsSearched}
+use Rattle.wi_graph.proofs.WithinSteps.{places_left}
+use Rattle.wi_graph.proofs.held.meets.Given as goal
+
+abbrev pub invariant-loop-ahead : goal.invariant-loop-ahead
+invariant-loop-ahead l = IsSearched l.circles l.cells l.area l.ahead
+
+abbrev pub decreases-loop-ahead : goal.decreases-loop-ahead
+decreases-loop-ahead l = places_left l.area l.ahead

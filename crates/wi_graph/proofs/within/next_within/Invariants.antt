@@ -1,0 +1,8 @@
+use Rattle.wi_graph.proofs.WithinSteps.{IsSeeking, places_left}
+use Rattle.wi_graph.proofs.within.next_within.Given as goal
+
+abbrev pub invariant-loop-ahead : goal.invariant-loop-ahead
+invariant-loop-ahead l = IsSeeking l.cells l.area l.fn.from l.ahead
+
+abbrev pub decreases-loop-ahead : goal.decreases-loop-ahead
+decreases-loop-ahead l = places_left l.area l.ahead

@@ -1,0 +1,60 @@
+//! What the cells of a cone read once an edit is in.
+
+ghost use Rattle.std.specs.Prelude.{◌≡◌, ℕ, true, IfOk};
+ghost use Rattle.std.specs.Ordering.{nat_cmp};
+ghost use Rattle.std.specs.BTreeMap.{get};
+ghost use Rattle.wi_graph.specs.Reach.{is_one_of};
+ghost use Rattle.wi_graph.specs.Inner.Rooms.{room_over, areas_of, items_of};
+ghost use Rattle.wi_graph.specs.Inner.Stripping.{listed};
+
+use crate::rooms::Rooms;
+use crate::stripping::Areas;
+use std::alloc::{AllocError, Global};
+use std::collections::BTreeMap;
+use wi_values::{Address, Rect};
+
+/// What some cells read once what is next is put in.
+pub(crate) fn reads_of(
+    alloc: Global,
+    rooms: &Rooms,
+    next: &Rooms,
+    cells: &[Address],
+) -> Result<Areas, AllocError>
+    ensures { IfOk result (λ reads. (c : ℕ) → is_one_of cells.now c ≡ true
+        → listed (get nat_cmp reads c) ≡ areas_of (room_over next.now rooms.now c)) }
+{
+    let mut reads = BTreeMap::new(alloc);
+    for cell in cells {
+        let areas = areas_after(alloc, rooms, next, *cell)?;
+        reads.insert(*cell, areas)?;
+    }
+    Ok(reads)
+}
+
+/// What a cell reads once what is next is put in.
+fn areas_after(
+    alloc: Global,
+    rooms: &Rooms,
+    next: &Rooms,
+    cell: Address,
+) -> Result<Vec<Rect>, AllocError>
+    ensures { IfOk result (λ v. v.items ≡ areas_of (room_over next.now rooms.now cell)) }
+{
+    match next.get(&cell) {
+        Some(room) => copy_of(alloc, room),
+        None => match rooms.get(&cell) {
+            Some(room) => copy_of(alloc, room),
+            None => Ok(Vec::new(alloc)),
+        },
+    }
+}
+
+/// The rectangles of a room once more.
+fn copy_of(alloc: Global, room: &Option<Vec<Rect>>) -> Result<Vec<Rect>, AllocError>
+    ensures { IfOk result (λ v. v.items ≡ areas_of (items_of room.now)) }
+{
+    match room {
+        Some(areas) => areas.iter().copied().collect(alloc),
+        None => Ok(Vec::new(alloc)),
+    }
+}

@@ -1,0 +1,81 @@
+//! The cells of a set in a rectangle, one after another.
+
+ghost use Rattle.std.specs.Prelude.{◌≡◌, ◌<◌, ◌≤◌, ◌+◌, ◌&&◌, ℕ, true, nat_le, IfSome};
+ghost use Rattle.std.specs.Ordering.{nat_cmp};
+ghost use Rattle.std.specs.BTreeSet.{contains};
+ghost use Rattle.wi_values.specs.Address.{row_of, is_within};
+ghost use Rattle.wi_graph.specs.Inner.Within.{IsAhead, IsBetween, IsFoundBy};
+
+use std::collections::BTreeSet;
+use std::ops::Bound;
+use wi_values::{Address, Rect};
+
+/// The first cell of a set in a rectangle, at a cell or after it, in row-major order. The work grows with the logarithm of
+/// the count of the set, once and for each row of the rectangle where a cell of the set beside it comes before the one found.
+pub(crate) fn next_within(cells: &BTreeSet<Address>, area: Rect, from: Address) -> Option<Address>
+    ensures found { IfSome result (IsAhead cells.now area from) }
+    ensures first { (c : ℕ) → IsAhead cells.now area from c → IsFoundBy result c }
+{
+    let mut ahead = Some(from);
+    while let Some(start) = ahead {
+        let cell = first_between(cells, start, area.last())?;
+        if area.contains(cell) {
+            return Some(cell);
+        }
+        ahead = place_after(area, cell);
+    }
+    None
+}
+
+/// The first cell of a set in a rectangle after one of the rectangle. The work is that of `next_within`.
+pub(crate) fn next_after(cells: &BTreeSet<Address>, area: Rect, cell: Address) -> Option<Address>
+    requires { cell ≤ area.last }
+    ensures found { IfSome result (IsAhead cells.now area (cell + 1)) }
+    ensures first { (c : ℕ) → IsAhead cells.now area (cell + 1) c → IsFoundBy result c }
+{
+    let from = place_after(area, cell)?;
+    next_within(cells, area, from)
+}
+
+/// The rows of a rectangle from the row of one of its cells on.
+pub(crate) fn rows_from(area: Rect, cell: Address) -> Rect
+    requires { is_within area cell ≡ true }
+    ensures { (a : ℕ) → is_within result a ≡ (is_within area a && nat_le (row_of cell) (row_of a)) }
+{
+    Rect::new(Address::at(cell.row(), area.first().column()), area.last())
+}
+
+/// The first cell of a set from one cell to another.
+fn first_between(cells: &BTreeSet<Address>, from: Address, to: Address) -> Option<Address>
+    ensures found { IfSome result (IsBetween cells.now from to) }
+    ensures first { (c : ℕ) → IsBetween cells.now from to c → IsFoundBy result c }
+{
+    if to < from {
+        return None;
+    }
+    match cells
+        .range((Bound::Included(from), Bound::Included(to)))
+        .next()
+    {
+        Some(cell) => Some(*cell),
+        None => None,
+    }
+}
+
+/// The first place of a rectangle after a cell, if one comes after it.
+fn place_after(area: Rect, cell: Address) -> Option<Address>
+    requires { cell ≤ area.last }
+    ensures after { IfSome result (λ a. (cell < a) × (a ≤ area.last)) }
+    ensures first { (a : ℕ) → is_within area a ≡ true → cell < a → IsFoundBy result a }
+{
+    let left = area.first().column();
+    if cell.column() < left {
+        Some(Address::at(cell.row(), left))
+    } else if cell.column() < area.last().column() {
+        Some(Address::at(cell.row(), cell.column() + 1))
+    } else if cell.row() < area.last().row() {
+        Some(Address::at(cell.row() + 1, left))
+    } else {
+        None
+    }
+}
