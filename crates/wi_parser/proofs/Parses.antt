@@ -174,7 +174,7 @@ pub short_lacks : (text : List ℕ) (r : Result Tree ParseFault) → length text
 short_lacks text r h e =
     let ts = formula_symbols text in
     let short : is_too_long (parsed text) ≡ false =
-        ap is_too_long (parsed_short text h) ∙ never_too_long (list_any is_outside ts) (list_any is_unfit ts) (is_too_deep ts) (whole (max_depth + 1) ts) in
+    ap is_too_long (parsed_short text h) ∙ never_too_long (list_any is_outside ts) (list_any is_unfit ts) (is_too_deep ts) (whole (max_depth + 1) ts) in
     subst (ReadsAs (parsed text)) (sym e) short
 
 pub reads_as : {A : Type 0} (found : Result A ParseFault) (e : ParseFault) → found ≡ Err e → ReadsAs found (Err e)
