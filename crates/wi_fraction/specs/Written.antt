@@ -1,4 +1,5 @@
--- What a number token writes, as facts about its bytes: digits before a point, digits after it, and an exponent.
+-- What a number token writes (OpenFormula, "Constant Numbers"), as facts about its bytes: digits before a
+-- point, digits after it, and an exponent.
 use Rattle.std.specs.Prelude.{◌≡◌, ℕ, suc, ◌*◌, ◌^◌, ℤ, pos, negsuc, neg_ℤ, ◌-ℤ◌, Bool, true, ◌==◌, ◌||◌, List, [], ◌∷◌, ◌++◌, length, Option}
 use Rattle.std.specs.Str.{byte}
 use Rattle.std.specs.Str.Parse.{AllDigits, IsNumeral, digits_value}
