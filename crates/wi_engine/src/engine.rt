@@ -12,12 +12,12 @@ ghost use Rattle.wi_sheet.specs.CellValue as show;
 ghost use Rattle.wi_sheet.specs.Demand.{with_what_if, wants};
 ghost use Rattle.wi_sheet.specs.Inner.Spending.{CountsAtMost, CountsFound, HasCase, NeverFall};
 ghost use Rattle.wi_engine.specs.Inner.MemoState.{IsMemoOf};
-ghost use Rattle.wi_engine.specs.Inner.Answers.{AsksAt, IsLacking, lacks_cell};
+ghost use Rattle.wi_engine.specs.Inner.Attempt.{AsksAt, IsLacking, lacks_cell};
 ghost use Rattle.wi_engine.specs.Inner.Frames.{MayBeRead, IsToValue, IsUnvalued, AreReadHere, Awaits, IsFrame, IsNext, case_at, spare, waits};
 ghost use Rattle.wi_engine.specs.Inner.Steps.{IfKnown, IfUnknown, IfReplaced, IfInputUnknown, IfDone, IfNeeds, evaluations_after};
 ghost use Rattle.wi_engine.specs.declared.frame.Waiting.TheVariants as waiting;
 
-use crate::answers::{answer, together};
+use crate::attempt::{attempt, together};
 use crate::findings::FoundWhatIf;
 use crate::frame::{Asked, Frame, Inputs, Step, Waiting};
 use crate::memo::Memo;
@@ -259,7 +259,7 @@ fn advance<M: Memo>(
         if let Some(key) = settle(alloc, store, frame, memo)? {
             return Ok(Step::Needs(key));
         }
-        match answer(
+        match attempt(
             alloc,
             store,
             frame.key.cell,

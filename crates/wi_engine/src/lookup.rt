@@ -43,7 +43,7 @@ impl<'a> Known<'a> {
 
 impl<'a> Lookup for Known<'a> {
     ghost use Rattle.wi_engine.specs.Inner.Findings.{what_if_found};
-    ghost use Rattle.wi_engine.specs.Inner.Answers.{cell_known};
+    ghost use Rattle.wi_engine.specs.Inner.Attempt.{cell_known};
 
     ghost known_cell = { λ k. cell_known k.store.now.sheet k.world.now k.found.now };
 

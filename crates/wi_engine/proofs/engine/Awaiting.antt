@@ -25,14 +25,14 @@ use Rattle.wi_sheet.proofs.Members.{IsIn, in_filter}
 use Rattle.wi_sheet.proofs.Asked.{is_in, asked_cell}
 use Rattle.wi_engine.specs.Inner.MemoState.{MemoState}
 use Rattle.wi_engine.specs.Inner.Findings.{pairs_of, cell_found, what_if_found, AreAllRight, IsWithCell, IsWithWhatIf}
-use Rattle.wi_engine.specs.Inner.Answers.{AsksAt, IsLacking, lacking}
+use Rattle.wi_engine.specs.Inner.Attempt.{AsksAt, IsLacking, lacking}
 use Rattle.wi_engine.specs.Inner.Frames.{case_at, content_reads_here, AreReadHere, Awaits, IsUnvalued, IsFrame, lacks, waits}
 use Rattle.wi_engine.specs.declared.findings.Findings.{Findings}
 use Rattle.wi_engine.specs.declared.findings.FoundWhatIf.{FoundWhatIf}
 use Rattle.wi_engine.specs.declared.frame.Frame.{Frame}
 use Rattle.wi_engine.specs.declared.frame.Waiting.{Waiting}
 use Rattle.wi_engine.specs.declared.frame.Waiting.TheVariants.{Nothing, Cells, WhatIf}
-use Rattle.wi_engine.proofs.answers.Lacks.{cell_lacks_fewer, what_if_lacks_fewer}
+use Rattle.wi_engine.proofs.attempt.Lacks.{cell_lacks_fewer, what_if_lacks_fewer}
 use Rattle.wi_engine.proofs.engine.Resting.{named, asked_in, tree_with}
 
 in_front : (xs ys : List ℕ) (d : ℕ) → is_one_of xs d ≡ true → is_one_of (xs ++ ys) d ≡ true

@@ -12,11 +12,11 @@ use Rattle.wi_sheet.specs.Inner.Spending.{left}
 use Rattle.wi_sheet.proofs.Counting.{Finds, left_falls, left_at_keep}
 use Rattle.wi_engine.specs.Inner.Rank.{rank}
 use Rattle.wi_engine.specs.Inner.MemoState.{MemoState}
-use Rattle.wi_engine.specs.Inner.Answers.{lacking}
+use Rattle.wi_engine.specs.Inner.Attempt.{lacking}
 use Rattle.wi_engine.specs.Inner.Frames.{case_at, IsStack, taken, all_spare, at_most, spare, waits}
 use Rattle.wi_engine.specs.declared.frame.Frame.{Frame}
 use Rattle.wi_engine.specs.declared.frame.Waiting.TheVariants.{Nothing}
-use Rattle.wi_engine.proofs.answers.Lacks.{lacking_at_most}
+use Rattle.wi_engine.proofs.attempt.Lacks.{lacking_at_most}
 use Rattle.wi_engine.proofs.engine.Stacks.{other_case}
 
 -- ---- what is taken

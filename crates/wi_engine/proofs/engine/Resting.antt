@@ -30,7 +30,7 @@ use Rattle.wi_sheet.proofs.SmallerWorlds.{content_below}
 use Rattle.wi_sheet.proofs.Asked.{rests_on_read, rests_on_what_if, asked_what_if, asked_replacing}
 use Rattle.wi_sheet.proofs.Demands.{here_reads, what_if_reads}
 use Rattle.wi_engine.specs.Inner.MemoState.{MemoState, IsMemoOf}
-use Rattle.wi_engine.specs.Inner.Answers.{AsksAt}
+use Rattle.wi_engine.specs.Inner.Attempt.{AsksAt}
 use Rattle.wi_engine.specs.Inner.Frames.{case_at, content_reads_here, MayBeRead, IsUnvalued, IsNext}
 
 -- ---- a cell without a formula, and one with a formula

@@ -13,7 +13,7 @@ use Rattle.wi_sheet.specs.Inner.Spending.{RestsOn, IsClosed, left}
 use Rattle.wi_engine.specs.Inner.Rank.{rank}
 use Rattle.wi_engine.specs.Inner.MemoState.{MemoState}
 use Rattle.wi_engine.specs.Inner.Findings.{AreAllRight}
-use Rattle.wi_engine.specs.Inner.Answers.{AsksAt, IsLacking, lacking}
+use Rattle.wi_engine.specs.Inner.Attempt.{AsksAt, IsLacking, lacking}
 use Rattle.wi_engine.specs.declared.findings.Findings.{Findings}
 use Rattle.wi_engine.specs.declared.frame.Frame.{Frame}
 use Rattle.wi_engine.specs.declared.frame.Waiting.{Waiting}

@@ -15,8 +15,8 @@ returns-in_err-frame-in-Needs-clause-err_restarts g c =
     let asked = rw c.in-Needs.is at c.in_ok-value.ensures.asked in
     let lacking = rw c.in-Needs.is at c.in_ok-value.ensures.lacking in
     let nothing = c.in_ok-key.ensures.settled (ap (λ o. Ok o) c.in_default.is) in
-    let within : c.answer.new.meter.restarts ≤ c.args.meter.now.restarts + spare s c.args.frame.now =
-    want_counted s f c.in-Needs.want c.rounds.meter.restarts c.answer.new.meter.restarts (spare s c.rounds.frame) (c.args.meter.now.restarts + spare s c.args.frame.now)
+    let within : c.attempt.new.meter.restarts ≤ c.args.meter.now.restarts + spare s c.args.frame.now =
+    want_counted s f c.in-Needs.want c.rounds.meter.restarts c.attempt.new.meter.restarts (spare s c.rounds.frame) (c.args.meter.now.restarts + spare s c.args.frame.now)
     asked lacking nothing (ap (λ (m : Counts). m.restarts) counted) c.in_ok-key.ensures.spare i.restarts in
     search (rules, within)
 
@@ -40,7 +40,7 @@ rounds-preserved g c =
       key = c.in_ok-key.ensures.key ∙ i.key;
       frame = frame_with s m f _ frame refl frame.found c.in_ok-frame-in-Needs.ensures.awaits;
       evaluations = ap (λ (n : Counts). n.evaluations) counted ∙ i.evaluations;
-      counts = never_fall-then _ _ _ i.counts c.answer.ensures.counts;
-      restarts = round_counted c.rounds.meter.restarts c.answer.new.meter.restarts _ (spare s f) (spare s c.rounds.frame) _ (ap (λ (n : Counts). n.restarts) counted) less c.in_ok-key.ensures.spare i.restarts;
+      counts = never_fall-then _ _ _ i.counts c.attempt.ensures.counts;
+      restarts = round_counted c.rounds.meter.restarts c.attempt.new.meter.restarts _ (spare s f) (spare s c.rounds.frame) _ (ap (λ (n : Counts). n.restarts) counted) less c.in_ok-key.ensures.spare i.restarts;
       same = c.in_ok-key.ensures.same ∙ i.same;
     }

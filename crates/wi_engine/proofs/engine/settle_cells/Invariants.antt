@@ -1,6 +1,6 @@
 use Rattle.std.proofs.Common.{◌≡◌, ◌≤◌, ℕ, true, ◌⊎◌}
 use Rattle.wi_graph.specs.Reach.{is_one_of}
-use Rattle.wi_engine.specs.Inner.Answers.{lacks_cell}
+use Rattle.wi_engine.specs.Inner.Attempt.{lacks_cell}
 use Rattle.wi_engine.specs.Inner.Frames.{Awaits, IsFrame, case_at, lacks}
 use Rattle.wi_engine.specs.declared.frame.Waiting.TheVariants as states
 use Rattle.wi_engine.proofs.engine.settle_cells.Given as goal

@@ -16,7 +16,7 @@ use Rattle.wi_graph.proofs.Walks.{same_cell, found, finds, formula_cell}
 use Rattle.wi_sheet.proofs.Demands.{here_reads}
 use Rattle.wi_sheet.specs.Demand.{leaf_reads_here, reads_here}
 use Rattle.wi_sheet.proofs.Members.{IsIn, in_contained, of_map, of_flat, found_in}
-use Rattle.wi_engine.specs.Inner.Answers.{IsSmallestWith, AreOfRectangle}
+use Rattle.wi_engine.specs.Inner.Attempt.{IsSmallestWith, AreOfRectangle}
 
 -- ---- a rectangle is of one cell, or each of its cells is read here
 

@@ -12,7 +12,7 @@ ghost use Rattle.wi_sheet.specs.CellValue as show;
 ghost use Rattle.wi_sheet.specs.Demand.{reads_here};
 ghost use Rattle.wi_sheet.specs.Inner.Spending.{NeverFall};
 ghost use Rattle.wi_engine.specs.Inner.Findings.{AreAllRight};
-ghost use Rattle.wi_engine.specs.Inner.Answers.{AsksAt, IsLacking, IsSmallestWith, AreOfRectangle};
+ghost use Rattle.wi_engine.specs.Inner.Attempt.{AsksAt, IsLacking, IsSmallestWith, AreOfRectangle};
 
 use crate::findings::Findings;
 use crate::lookup::Known;
@@ -27,7 +27,7 @@ use wi_worlds::World;
 /// A formula's value under replacements, where what is known suffices, or what is lacking. Either is counted; want of
 /// memory counts nothing. The work is one walk over the formula's tree, in which each cell costs the logarithms of the
 /// counts of replacements, of occupied cells and of cells found, and each what-if a look through those found.
-pub fn answer(
+pub fn attempt(
     alloc: Global,
     store: &Store,
     at: Address,

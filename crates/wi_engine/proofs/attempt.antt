@@ -1,5 +1,5 @@
 -- What the proofs about one evaluation use.
-pub mod Answering
+pub mod Attempting
 pub mod Filters
 pub mod Lacks
 pub mod Rectangles

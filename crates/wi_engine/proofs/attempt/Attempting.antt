@@ -18,7 +18,7 @@ use Rattle.wi_sheet.specs.CellValue.{value_of, cell_value, what_if_value}
 use Rattle.wi_sheet.proofs.Steps.{value_step, value_plain, put_not_circular}
 use Rattle.wi_engine.specs.declared.findings.Findings.{Findings}
 use Rattle.wi_engine.specs.Inner.Findings.{cell_found, what_if_found, AreAllRight}
-use Rattle.wi_engine.specs.Inner.Answers.{known_in, cell_known}
+use Rattle.wi_engine.specs.Inner.Attempt.{known_in, cell_known}
 
 -- the values of a sheet's cells and what-ifs
 abbrev pub values_in : Sheet → Assignment

@@ -1,7 +1,7 @@
 use Rattle.std.proofs.Common.{ap, sym, rules}
 use Rattle.std.proofs.lemmas.Result.{IfOk-weaker}
-use Rattle.wi_engine.proofs.answers.Answering.{done_with}
-use Rattle.wi_engine.proofs.answers.answer.Goals as goal
+use Rattle.wi_engine.proofs.attempt.Attempting.{done_with}
+use Rattle.wi_engine.proofs.attempt.attempt.Goals as goal
 
 pub returns-clause-done : goal.returns-clause-done
 returns-clause-done c =

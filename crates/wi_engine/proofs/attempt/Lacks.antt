@@ -19,8 +19,8 @@ use Rattle.wi_sheet.proofs.Members.{in_contained, found_in}
 use Rattle.wi_engine.specs.declared.findings.Findings.{Findings}
 use Rattle.wi_engine.specs.declared.findings.FoundWhatIf.{FoundWhatIf}
 use Rattle.wi_engine.specs.Inner.Findings.{same_pairs, pairs_of, first_for, cell_found, what_if_found, IsWithCell, IsWithWhatIf}
-use Rattle.wi_engine.specs.Inner.Answers.{lacking}
-use Rattle.wi_engine.proofs.answers.Filters.{PassesToo, at_most_all, all_pass, no_more, fewer}
+use Rattle.wi_engine.specs.Inner.Attempt.{lacking}
+use Rattle.wi_engine.proofs.attempt.Filters.{PassesToo, at_most_all, all_pass, no_more, fewer}
 use Rattle.wi_engine.proofs.findings.FoundPairs.{same_lists, same_pairs-refl, first_for-push}
 
 -- a cell of which no value was found

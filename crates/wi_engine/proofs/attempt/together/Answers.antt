@@ -1,6 +1,6 @@
 use Rattle.std.proofs.lemmas.Result.{IfOk-weaker}
-use Rattle.wi_engine.proofs.answers.Rectangles.{in_one_of, among_them, they_are_read, of_rectangle}
-use Rattle.wi_engine.proofs.answers.together.Goals as goal
+use Rattle.wi_engine.proofs.attempt.Rectangles.{in_one_of, among_them, they_are_read, of_rectangle}
+use Rattle.wi_engine.proofs.attempt.together.Goals as goal
 
 pub smallest_with-requires : goal.smallest_with-requires
 smallest_with-requires c = in_one_of c.args.formula.now c.rectangles.result.now c.args.at c.rectangles.ensures c.requires.read
