@@ -12,11 +12,13 @@ use Rattle.wi_values.specs.Address.{Area}
 use Rattle.wi_ranges.specs.Bag.{Bag, count_of}
 use Rattle.wi_graph.specs.Circular.{circular}
 use Rattle.std.specs.Option.{unwrap_or}
-use Rattle.wi_graph.specs.Edges.{Edges, Staging, staging}
+use Rattle.wi_parser.specs.Sheet.{Sheet}
+use Rattle.wi_graph.specs.Edges.{Edges, AreEdgesOf, Staging, staging}
 use Rattle.wi_graph.specs.declared.graph.Staged.{Staged}
 use Rattle.wi_graph.specs.declared.turning.Turns.{Turns}
 use Rattle.wi_graph.specs.Inner.Rooms.{Rooms, in_room, room_at, room_over, edges_in, edges_over, areas_of, times, HasPairs, less_these, AreCircles, IsGraph, IsStaged}
 use Rattle.wi_graph.proofs.Walks.{circular_walks}
+use Rattle.wi_graph.proofs.GraphSteps.{graph_circular}
 
 no_circle : (c : ℕ) → circular [] c ≡ false
 no_circle c = false_from_ne_true (circular [] c) (λ h. let z = circular_walks [] c h 0 in cc)
@@ -82,3 +84,10 @@ taken_back_view old new o None now f v k = ap (λ (z : Edges). staging z None) k
 
 pub staged_is : (rooms : Rooms) (readers : Bag) (circles : BTreeSet ℕ) (o : Option Staged) (x : Staged) → o ≡ Some x → IfSome o (λ y. IsStaged rooms y.next readers circles y.turns) → IsStaged rooms x.next readers circles x.turns
 staged_is rooms readers circles o x e h = rw e at h
+
+-- which cells it says are circular
+pub circular_is : (rooms : Rooms) (readers : Bag) (circles : BTreeSet ℕ) (o : Option Staged) (now : Staging) (at : ℕ) (r : Bool) → view_of rooms o ≡ now → now.staged ≡ None →
+    IfNone o (IsGraph rooms readers circles) × IfSome o (λ x. IsStaged rooms x.next readers circles x.turns) → r ≡ contains nat_cmp circles at → (s : Sheet) → AreEdgesOf now.now s → r ≡ circular s at
+circular_is rooms readers circles o now at r v n g e s h =
+    let graph = unstaged rooms readers circles o (ap (λ (x : Staging). x.staged) v ∙ n) g.0 in
+    e ∙ graph_circular rooms readers circles graph s (subst (λ (x : Staging). AreEdgesOf x.now s) (sym v) h) at

@@ -156,9 +156,9 @@ one_listed (x ∷ xs) c h = at (or_cases (x == c) _ h) (one_listed xs c)
     at (inl e) ih = (0, omega arith, same_cell c x e)
     at (inr k) ih = let i = ih k in (suc i.0, omega (arith, i.1), i.2)
 
-pub search_step : (readers : Bag) (cells : List ℕ) (found more : BTreeSet ℕ) (work less after next : List ℕ) (cell : ℕ) → work ≡ less ++ cell ∷ [] → AreReaders readers cell next → AreNoted next found more less after →
+step : (readers : Bag) (cells : List ℕ) (found more : BTreeSet ℕ) (work less after next : List ℕ) (cell : ℕ) → work ≡ less ++ cell ∷ [] → AreReaders readers cell next → AreNoted next found more less after →
     IsSearching readers cells found work → IsSearching readers cells more after
-search_step readers cells found more work less after next cell e r n s = record {
+step readers cells found more work less after next cell e r n s = record {
   all = λ c h. still c (s.all c h);
   opened = λ a d h i. opened a d h i (cases_Bool (contains nat_cmp found a));
   within = λ c h. within c (n.within c h);
@@ -191,6 +191,10 @@ search_step readers cells found more work less after next cell e r n s = record 
     first p h k c (inl m) = s.least p h k c m
     first p h k c (inr m) = k cell c (s.least p h k cell here) ((r c).0 (one_listed next c m))
 
+pub search_step : (readers : Bag) (cells : List ℕ) (found more : BTreeSet ℕ) (work less after next noted : List ℕ) (cell : ℕ) → work ≡ less ++ cell ∷ [] → AreReaders readers cell next → noted ≡ next → AreNoted noted found more less after →
+    IsSearching readers cells found work → IsSearching readers cells more after
+search_step readers cells found more work less after next noted cell e r k m s = step readers cells found more work less after next cell e r (subst (λ (xs : List ℕ). AreNoted xs found more less after) k m) s
+
 pub search_end : (readers : Bag) (cells : List ℕ) (found : BTreeSet ℕ) (work : List ℕ) → work ≡ [] → IsSearching readers cells found work → HasReaders readers found
 search_end readers cells found work e s a r h i = at (s.opened a r h i)
   where
@@ -214,9 +218,10 @@ reader_there (e ∷ es) p h = at (is_same p e.0) refl h (reader_there es p)
 readers_there : (bag : Bag) (a r : ℕ) → IsReader bag a r → is_one_of (all_readers bag) r ≡ true
 readers_there bag a r i = ap (λ (x : ℕ). is_one_of (all_readers bag) x) (sym i.1) ∙ reader_there bag i.0 i.2
 
-pub search_ends : (readers : Bag) (found more : BTreeSet ℕ) (work less after next : List ℕ) (cell : ℕ) → work ≡ less ++ cell ∷ [] → AreReaders readers cell next → AreNoted next found more less after →
+pub search_ends : (readers : Bag) (found more : BTreeSet ℕ) (work less after next noted : List ℕ) (cell : ℕ) → work ≡ less ++ cell ∷ [] → AreReaders readers cell next → noted ≡ next → AreNoted noted found more less after →
     length (missing more (all_readers readers)) + length after < length (missing found (all_readers readers)) + length work
-search_ends readers found more work less after next cell e r n =
+search_ends readers found more work less after next noted cell e r k m =
+    let n = subst (λ (xs : List ℕ). AreNoted xs found more less after) k m in
     let f = n.fewer (all_readers readers) (λ c h. readers_there readers cell c ((r c).0 (one_listed next c h))) in
     let t : length work ≡ length less + 1 = ap (λ (xs : List ℕ). length xs) e ∙ length-append less (cell ∷ []) in
     omega (arith, f, t)

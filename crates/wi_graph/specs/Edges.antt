@@ -19,6 +19,7 @@ areas_in None = None
 areas_in (Some (Constant v)) = None
 areas_in (Some (Formula t)) = Some (rectangles_of t)
 
+-- the rectangles that the formula of a cell reads, by the edges
 abbrev pub areas_at : Edges → ℕ → Option (List Area)
 areas_at es c = lookup (is_at (nat_cmp c)) es
 

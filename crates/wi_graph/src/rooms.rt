@@ -14,7 +14,7 @@ use std::mem;
 use wi_ranges::RangeIndex;
 use wi_values::{Address, Rect};
 
-/// The rectangles that formulas read, by their cells; a vacant room has none.
+/// The rectangles that formulas read, by their cells; a vacant room has no formula.
 pub(crate) type Rooms = BTreeMap<Address, Option<Vec<Rect>>>;
 
 /// Takes what is next: it goes into the rooms, and the pairs of what stood there leave the index.

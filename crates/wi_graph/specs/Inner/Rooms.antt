@@ -13,9 +13,11 @@ use Rattle.wi_graph.specs.Reach.{is_one_of}
 use Rattle.wi_graph.specs.Edges.{Edges, areas_in, with_areas}
 use Rattle.wi_graph.specs.declared.turning.Turns.{Turns}
 
+-- the rectangles that formulas read, by their cells; a vacant room has no formula
 abbrev pub Rooms : Type 0
 Rooms = BTreeMap ℕ (Option (Vec Area))
 
+-- the rectangles in a room, as a list
 abbrev pub items_of : Option (Vec Area) → Option (List Area)
 items_of None = None
 items_of (Some v) = Some v.items
@@ -28,6 +30,7 @@ in_room (Some o) = items_of o
 abbrev pub room_at : Rooms → ℕ → Option (List Area)
 room_at rooms c = in_room (get nat_cmp rooms c)
 
+-- what is put in counts, where something is
 abbrev pub put_over : Option (Option (Vec Area)) → Option (List Area) → Option (List Area)
 put_over None o = o
 put_over (Some x) o = items_of x
@@ -40,14 +43,17 @@ abbrev pub with_room : ℕ → Option (Vec Area) → Edges → Edges
 with_room c None es = es
 with_room c (Some v) es = (c, v.items) ∷ es
 
+-- what the rooms are seen as
 abbrev pub edges_in : List (ℕ × Option (Vec Area)) → Edges
 edges_in [] = []
 edges_in (e ∷ es) = with_room e.0 e.1 (edges_in es)
 
+-- the edges with what is put in
 abbrev pub edges_over : Edges → List (ℕ × Option (Vec Area)) → Edges
 edges_over es [] = es
 edges_over es (x ∷ xs) = with_areas (edges_over es xs) x.0 (items_of x.1)
 
+-- no rectangles where there is no formula
 abbrev pub areas_of : Option (List Area) → List Area
 areas_of None = []
 areas_of (Some rs) = rs
@@ -73,6 +79,7 @@ HasPairs readers rooms = (p : Pair) → count_of readers p ≡ times_in rooms p
 abbrev pub HasBoth : Bag → Rooms → Rooms → Type 0
 HasBoth readers rooms next = (p : Pair) → count_of readers p ≡ times_in rooms p + times_in next p
 
+-- one of the set and none of the list
 abbrev pub less_these : BTreeSet ℕ → List ℕ → ℕ → Bool
 less_these set xs c = contains nat_cmp set c && not (is_one_of xs c)
 
@@ -82,6 +89,7 @@ pub record AreCircles (f : ℕ → Option (List Area)) (test : ℕ → Bool) : T
   pub are : (c : ℕ) → f c ≡ areas_in (content_of sheet c)
   pub circles : (c : ℕ) → test c ≡ circular sheet c
 
+-- nothing is staged: the index has the pairs of the rooms, and the set their circular cells
 pub record IsGraph (rooms : Rooms) (readers : Bag) (circles : BTreeSet ℕ) : Type 0 where
   pub ordered : IsOrdered nat_cmp rooms
   pub pairs : HasPairs readers rooms

@@ -6,6 +6,7 @@ use Rattle.std.specs.BTreeMap.{get}
 use Rattle.wi_values.specs.Address.{Area}
 use Rattle.wi_graph.specs.Inner.Rooms.{Rooms}
 
+-- what stands in the one, or else in the other
 abbrev pub either : Option (Option (Vec Area)) → Option (Option (Vec Area)) → Option (Option (Vec Area))
 either None o = o
 either (Some x) o = Some x

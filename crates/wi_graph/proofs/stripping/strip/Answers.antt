@@ -1,8 +1,9 @@
+use Rattle.std.proofs.Common.{rules}
 use Rattle.wi_graph.proofs.StripSteps.{first_free, strip_start, strip_step, strip_end, strip_gone, loses_within}
 use Rattle.wi_graph.proofs.stripping.strip.Goals as goal
 
 pub cells-init : goal.cells-init
-cells-init c = strip_start c.args.areas c.args.held.now c.args.rest.now c.in_ok-work.work.items c.new-waiting.result c.in_ok-work.ensures c.new-waiting.ensures.empty
+cells-init c = search (rules, strip_start)
 
 pub cells-preserved : goal.cells-preserved
 cells-preserved c =
