@@ -38,12 +38,12 @@ same_graph rooms readers circles has g h = record {
   circular = circles_over (room_at rooms) (room_at rooms) (contains nat_cmp has) (contains nat_cmp circles) (λ c. refl) h g.circular;
 }
 
-pub refused_graph : (old new : Rooms) (before after : Bag) (circles mid has : BTreeSet ℕ) (came : List ℕ) → IsGraph old before circles → IsOrdered nat_cmp new → ((c : ℕ) → room_at new c ≡ room_at old c) → HasPairs after new →
-    AreNew came circles → ((c : ℕ) → contains nat_cmp mid c ≡ (contains nat_cmp circles c || is_one_of came c)) → ((c : ℕ) → contains nat_cmp has c ≡ less_these mid came c) → IsGraph new after has
-refused_graph old new before after circles mid has came g o e p k m h = record {
+pub refused_graph : (old new : Rooms) (before after : Bag) (circles mid has : BTreeSet ℕ) (came taken : List ℕ) → IsGraph old before circles → IsOrdered nat_cmp new → ((c : ℕ) → room_at new c ≡ room_at old c) → HasPairs after new →
+    AreNew came circles → ((c : ℕ) → contains nat_cmp mid c ≡ (contains nat_cmp circles c || is_one_of came c)) → taken ≡ came → ((c : ℕ) → contains nat_cmp has c ≡ less_these mid taken c) → IsGraph new after has
+refused_graph old new before after circles mid has came taken g o e p k m t h = record {
   ordered = o;
   pairs = p;
-  circular = circles_over (room_at new) (room_at old) (contains nat_cmp has) (contains nat_cmp circles) e (λ c. h c ∙ came_before circles mid came k m c) g.circular;
+  circular = circles_over (room_at new) (room_at old) (contains nat_cmp has) (contains nat_cmp circles) e (λ c. h c ∙ ap (λ (xs : List ℕ). less_these mid xs c) t ∙ came_before circles mid came k m c) g.circular;
 }
 
 pub refused_invariant : (old new : Rooms) (readers : Bag) (circles : BTreeSet ℕ) (o : Option Staged) → option_map (λ x. edges_over (edges_in old.entries) x.next.entries) o ≡ None → IsGraph new readers circles →

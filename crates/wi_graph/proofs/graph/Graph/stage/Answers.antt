@@ -1,4 +1,4 @@
-use Rattle.std.proofs.Common.{◌∙◌, ap}
+use Rattle.std.proofs.Common.{rules, ◌∙◌, ap}
 use Rattle.wi_graph.specs.Edges.{Staging}
 use Rattle.wi_graph.proofs.EdgeLemmas.{rooms_same}
 use Rattle.wi_graph.proofs.GraphEnds.{unstaged}
@@ -35,8 +35,8 @@ invariant_of-self-in-Err-1 c =
     let none = ap (λ (x : Staging). x.staged) c.self.view_is ∙ c.requires in
     let old = unstaged g.rooms g.readers g.circles g.staged none c.self.invariant.0 in
     refused_invariant g.rooms c.bring_in.new.rooms c.bring_in.new.readers c.take_away.new.set g.staged none
-    (refused_graph g.rooms c.bring_in.new.rooms g.readers c.bring_in.new.readers g.circles c.bring_circles.new.circles c.take_away.new.set c.in_ok-turns.turns.came.items old c.bring_in.ensures.ordered c.bring_in.ensures.rooms
-    c.in-Err.ensures.err c.in_ok-turns.ensures.fresh (rw c.deref.ensures.value at c.in_ok-bring_circles.ensures.ok) (rw c.deref-in-Err.ensures.value at c.take_away.ensures))
+    (refused_graph g.rooms c.bring_in.new.rooms g.readers c.bring_in.new.readers g.circles c.bring_circles.new.circles c.take_away.new.set c.in_ok-turns.turns.came.items c.deref-in-Err.result.now old c.bring_in.ensures.ordered
+    c.bring_in.ensures.rooms c.in-Err.ensures.err c.in_ok-turns.ensures.fresh (rw c.deref.ensures.value at c.in_ok-bring_circles.ensures.ok) (search rules) c.take_away.ensures)
 
 pub returns-in-Err-clause-err : goal.returns-in-Err-clause-err
 returns-in-Err-clause-err c =
