@@ -1,4 +1,4 @@
-//! Which cells a cell reaches, its precedents at any remove, by a walk along references.
+//! Which cells a cell reaches, its precedents at any remove, and whether one is circular, by a walk along references.
 
 ghost use Rattle.std.specs.Prelude.{◌≡◌, ◌<◌, ◌≤◌, ◌+◌, ◌++◌, ◌∷◌, [], ℕ, List, Some, None, true, false, IfOk, IfSome, IfNone, OnOk};
 ghost use Rattle.std.specs.BTreeMap.{Updates};

@@ -53,7 +53,7 @@ impl<'a> Lexer<'a> {
         }
     }
 
-    /// The next token. None at the end, and from the first bad token on.
+    /// The next token; an error at the first bad one. None at the end, and after a bad token.
     pub fn next_token(&mut self) -> Option<Result<Token<'a>, BadToken>>
         ensures { Gives self.old result self.new }
     {

@@ -1,4 +1,4 @@
-//! The texts of refusals, and their numbers.
+//! The texts of refusals, and the number of one.
 
 use std::test::Fail;
 use wi_csv::CsvFault;
