@@ -140,17 +140,7 @@ fn wake(waiting: &mut Waiting, cell: Address, work: &mut Vec<Address>) -> Result
         ≡ (if cell == d then [] else waiting_for waiting.old d) }
 {
     match waiting.remove(&cell) {
-        Some(cells) => append(work, &cells),
+        Some(cells) => work.extend_from_slice(&cells),
         None => Ok(()),
     }
-}
-
-/// Appends cells to a list.
-fn append(work: &mut Vec<Address>, cells: &[Address]) -> Result<(), AllocError>
-    ensures { OnOk result (work.new.items ≡ work.old.items ++ cells.now) }
-{
-    for cell in cells {
-        work.push(*cell)?;
-    }
-    Ok(())
 }

@@ -1,5 +1,5 @@
-use Rattle.std.proofs.Common.{◌∙◌, Some}
-use Rattle.wi_graph.proofs.StripSteps.{track_kept, track_pop, track_park}
+use Rattle.std.proofs.Common.{◌∙◌, sym, Some}
+use Rattle.wi_graph.proofs.StripSteps.{track_gone, track_kept, track_pop, track_park}
 use Rattle.wi_graph.proofs.stripping.next_free.Goals as goal
 
 pub cells-preserved : goal.cells-preserved
@@ -16,3 +16,11 @@ cells-preserved c =
       λ d e h. kept d e h ∙ c.cells.invariant.0 d e h,
       track_park areas held rest work c.cells.waiting c.park.new.waiting c.in-Some.cell c.in-Some-2.read c.in_ok-park-in-Some-2.ensures (kept c.in-Some.cell c.in-Some-2.read there ∙ read) there popped.1 tracked,
     )
+
+pub cells-preserved-then-not-contains : goal.cells-preserved-then-not-contains
+cells-preserved-then-not-contains c =
+    let held = c.args.held.now in
+    let rest = c.args.rest.now in
+    let work = c.pop.new.self.items in
+    let popped = track_pop c.cells.areas held rest c.cells.work.items work c.cells.waiting c.in-Some.cell c.in-Some.ensures.items c.cells.invariant.1 in
+    (c.cells.invariant.0, track_gone c.cells.areas held rest work c.cells.waiting c.in-Some.cell (sym c.contains.ensures ∙ c.if-not-contains.true) popped.0)
