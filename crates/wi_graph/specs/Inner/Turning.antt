@@ -33,5 +33,8 @@ pub record AreTurns (rooms next : Rooms) (circles : BTreeSet ℕ) (turns : Turns
 
 -- of each edit that brings what is next, the cells of the cone that are left are circular after it
 abbrev pub SettlesCone : Rooms → Rooms → BTreeSet ℕ → BTreeSet ℕ → BTreeSet ℕ → Type 0
-SettlesCone rooms next circles cells rest = (s t : Sheet) (xs : List ℕ) → SameOff s t xs → ((c : ℕ) → room_over next rooms c ≡ areas_in (content_of t c)) → ((c : ℕ) → contains nat_cmp circles c ≡ circular s c) →
-    ((c : ℕ) → contains nat_cmp cells c ≡ in_cone s xs c) → (c : ℕ) → circular t c ≡ cond (contains nat_cmp cells c) (contains nat_cmp rest c) (contains nat_cmp circles c)
+SettlesCone rooms next circles cells rest = (s t : Sheet) (xs : List ℕ) → SameOff s t xs →
+    ((c : ℕ) → room_over next rooms c ≡ areas_in (content_of t c)) →
+    ((c : ℕ) → contains nat_cmp circles c ≡ circular s c) →
+    ((c : ℕ) → contains nat_cmp cells c ≡ in_cone s xs c) →
+    (c : ℕ) → circular t c ≡ cond (contains nat_cmp cells c) (contains nat_cmp rest c) (contains nat_cmp circles c)
