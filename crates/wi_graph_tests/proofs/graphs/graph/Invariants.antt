@@ -1,0 +1,6 @@
+use Rattle.std.proofs.Common.{◌≡◌, None}
+use Rattle.wi_graph_tests.proofs.graphs.graph.Given as goal
+
+-- no edit is staged
+abbrev pub invariant-loop-each : goal.invariant-loop-each
+invariant-loop-each l = l.graph.staged ≡ None
