@@ -12,14 +12,14 @@ use Rattle.wi_fraction.specs.Rounding.Laws.{gcd-one}
 use Rattle.wi_fraction.specs.Gcd.{gcd}
 use Rattle.wi_fraction.specs.Gcd.Laws.{is_gcd, gcd_comm}
 use Rattle.wi_fraction.specs.Number.{Number, number_at, number_of, max_size}
-use Rattle.wi_fraction.specs.Arithmetic.{within}
+use Rattle.wi_fraction.specs.Arithmetic.{bounded}
 use Rattle.wi_fraction.specs.Inner.Reading.{decimal_value, raised, lowered}
 use Rattle.wi_fraction.proofs.Divisors.{gcd_pos}
 use Rattle.wi_fraction.proofs.Fineness.{IsTooFine, none_from_fine, fine_tenth, ten_pow_pos, step_value, number_of-multiplied, tail_from_none}
 use Rattle.wi_fraction.proofs.Numbers.{number_of-lowest, number_at-too_large}
 use Rattle.wi_fraction.proofs.Pieces.{cut_after, cut_before}
-use Rattle.wi_fraction.proofs.Reading.{within-too_large}
-use Rattle.wi_fraction.proofs.Steps.{within-some, within-none}
+use Rattle.wi_fraction.proofs.Reading.{bounded-too_large}
+use Rattle.wi_fraction.proofs.Steps.{bounded-some, bounded-none}
 
 -- ---- powers of ten
 
@@ -42,14 +42,14 @@ one_lowest k = gcd_comm 1 k ∙ gcd-one k
 pub zero_of : (d : ℕ) → 0 < d → number_of (pos 0) d ≡ number_of (pos 0) 1
 zero_of d h = rw (zero-mul d, one-mul d) at (number_of-multiplied false 0 1 d h)
 
-pub within-zero : (k : ℕ) → Some 0 ≡ within (0 * k)
-within-zero k = rw (zero-mul k) refl
+pub bounded-zero : (k : ℕ) → Some 0 ≡ bounded (0 * k)
+bounded-zero k = rw (zero-mul k) refl
 
 at_least : (n k : ℕ) → 0 < n → k ≤ n * k
 at_least n k h = let least : 1 * k ≤ n * k = mul-le-mul_right k h in omega (arith, least)
 
-pub within-raised : (n k : ℕ) → 0 < n → 38 < k → None ≡ within (n * 10 ^ k)
-within-raised n k some h = within-too_large (n * 10 ^ k) (omega (arith, ten_pow_large k h, at_least n (10 ^ k) some))
+pub bounded-raised : (n k : ℕ) → 0 < n → 38 < k → None ≡ bounded (n * 10 ^ k)
+bounded-raised n k some h = bounded-too_large (n * 10 ^ k) (omega (arith, ten_pow_large k h, at_least n (10 ^ k) some))
 
 -- what is below one and divided by a large number is too fine
 fine_small : (n m t : ℕ) → 0 < n → n ≤ m → max_size < t → IsTooFine n (m * t)
@@ -81,22 +81,22 @@ raised_whole whole parts k h =
 raised_too_large : (whole parts : List ℕ) (k : ℕ) → length parts ≤ k → max_size < digits_value 10 (whole ++ parts) * 10 ^ (k - length parts) → None ≡ raised whole parts k
 raised_too_large whole parts k h large = number_at-too_large false _ 1 (inl large) ∙ raised_whole whole parts k h
 
-pub raised_none_whole : (whole parts : List ℕ) (k : ℕ) → length parts ≤ k → None ≡ within (digits_value 10 (whole ++ parts)) → None ≡ raised whole parts k
+pub raised_none_whole : (whole parts : List ℕ) (k : ℕ) → length parts ≤ k → None ≡ bounded (digits_value 10 (whole ++ parts)) → None ≡ raised whole parts k
 raised_none_whole whole parts k h e =
     let v = digits_value 10 (whole ++ parts) in
-    let large : max_size < v = within-none v e in
+    let large : max_size < v = bounded-none v e in
     let more : v * 1 ≤ v * 10 ^ (k - length parts) = mul-le-mul_left v (ten_pow_pos (k - length parts)) in
     raised_too_large whole parts k h (omega (arith, large, more))
 
-pub raised_none : (whole parts : List ℕ) (k v : ℕ) → length parts ≤ k → Some v ≡ within (digits_value 10 (whole ++ parts)) → None ≡ within (v * 10 ^ (k - length parts)) → None ≡ raised whole parts k
+pub raised_none : (whole parts : List ℕ) (k v : ℕ) → length parts ≤ k → Some v ≡ bounded (digits_value 10 (whole ++ parts)) → None ≡ bounded (v * 10 ^ (k - length parts)) → None ≡ raised whole parts k
 raised_none whole parts k v h e f =
-    let large : max_size < v * 10 ^ (k - length parts) = within-none (v * 10 ^ (k - length parts)) f in
-    raised_too_large whole parts k h (rw (within-some (digits_value 10 (whole ++ parts)) v e).0 at large)
+    let large : max_size < v * 10 ^ (k - length parts) = bounded-none (v * 10 ^ (k - length parts)) f in
+    raised_too_large whole parts k h (rw (bounded-some (digits_value 10 (whole ++ parts)) v e).0 at large)
 
-pub raised_some : (whole parts : List ℕ) (k v u : ℕ) (r : Option Number) → length parts ≤ k → Some v ≡ within (digits_value 10 (whole ++ parts)) → Some u ≡ within (v * 10 ^ (k - length parts)) → r ≡ number_at (pos u) 1 → r ≡ raised whole parts k
+pub raised_some : (whole parts : List ℕ) (k v u : ℕ) (r : Option Number) → length parts ≤ k → Some v ≡ bounded (digits_value 10 (whole ++ parts)) → Some u ≡ bounded (v * 10 ^ (k - length parts)) → r ≡ number_at (pos u) 1 → r ≡ raised whole parts k
 raised_some whole parts k v u r h e f g =
-    let first : v ≡ digits_value 10 (whole ++ parts) = (within-some (digits_value 10 (whole ++ parts)) v e).0 in
-    let second : u ≡ v * 10 ^ (k - length parts) = (within-some (v * 10 ^ (k - length parts)) u f).0 in
+    let first : v ≡ digits_value 10 (whole ++ parts) = (bounded-some (digits_value 10 (whole ++ parts)) v e).0 in
+    let second : u ≡ v * 10 ^ (k - length parts) = (bounded-some (v * 10 ^ (k - length parts)) u f).0 in
     g ∙ rw (second, first) (raised_whole whole parts k h)
 
 raised_far : (whole parts : List ℕ) (k : ℕ) → 0 < digits_value 10 (whole ++ parts) → length parts + 38 < k → None ≡ raised whole parts k

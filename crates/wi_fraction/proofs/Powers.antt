@@ -8,7 +8,7 @@ use Rattle.std.specs.Ordering.{int_eq}
 use Rattle.wi_fraction.specs.Rounding.Laws.{gcd-one}
 use Rattle.wi_fraction.specs.Gcd.{gcd}
 use Rattle.wi_fraction.specs.Number.{Number, number_of, number_at, max_size, signed}
-use Rattle.wi_fraction.specs.Arithmetic.{fraction_of, within}
+use Rattle.wi_fraction.specs.Arithmetic.{fraction_of, bounded}
 use Rattle.wi_fraction.specs.Power.{power_of}
 use Rattle.wi_fraction.proofs.Divisors.{coprime_mul}
 use Rattle.wi_fraction.specs.Gcd.Laws.{gcd_comm}
@@ -37,15 +37,15 @@ zero_pow (suc k) h = rw (pow-suc 0 k) (omega arith)
 large_pow : (a k : ℕ) → 2 ≤ a → 2 ^ k ≤ a ^ k
 large_pow a k h = pow-le-pow_left h k
 
-pub pow_none : (a k : ℕ) → k ≡ 0 → Some 1 ≡ within (a ^ k)
+pub pow_none : (a k : ℕ) → k ≡ 0 → Some 1 ≡ bounded (a ^ k)
 pow_none a k h = rw (h, pow-zero a)
 
-pub pow_small : (a k : ℕ) → a ≤ 1 → 0 < k → Some a ≡ within (a ^ k)
+pub pow_small : (a k : ℕ) → a ≤ 1 → 0 < k → Some a ≡ bounded (a ^ k)
 pow_small zero k h f = rw (zero_pow k f)
 pow_small (suc zero) k h f = rw (one_pow k)
 pow_small (suc (suc a)) k h f = absurd (omega (arith, h))
 
-pub pow_too_large : (a k : ℕ) → 2 ≤ a → 127 ≤ k → None ≡ within (a ^ k)
+pub pow_too_large : (a k : ℕ) → 2 ≤ a → 127 ≤ k → None ≡ bounded (a ^ k)
 pow_too_large a k h f =
     let large : 2 ^ 127 ≤ a ^ k = le_trans (pow-le-pow_right (omega arith) f) (large_pow a k h) in
     let no : nat_le (a ^ k) max_size ≡ false = grind (arith, nat_tests, large) in

@@ -8,9 +8,9 @@ use Rattle.std.proofs.Math.Nat.{mul-le-mul_left}
 use Rattle.std.proofs.lemmas.Int.Digits.{digits_value_more}
 use Rattle.std.proofs.lemmas.Str.Parse.{digits_value-take-le}
 use Rattle.wi_fraction.specs.Number.{Number, number_at, number_of, signed, max_size}
-use Rattle.wi_fraction.specs.Arithmetic.{within}
+use Rattle.wi_fraction.specs.Arithmetic.{bounded}
 use Rattle.wi_fraction.specs.Inner.Reading.{decimal_value, read_quotient}
-use Rattle.wi_fraction.proofs.Steps.{within-some, within-none}
+use Rattle.wi_fraction.proofs.Steps.{bounded-some, bounded-none}
 use Rattle.wi_fraction.proofs.Fineness.{tail_more, tail_below_one, tail_from_none, tail_whole, fine_drop, none_from_tail, gcd_shifted}
 use Rattle.wi_fraction.proofs.Numbers.{number_of-lowest, number_at-too_large}
 use Rattle.wi_fraction.specs.Gcd.{gcd}
@@ -37,25 +37,25 @@ part_below_one ds i n d x all e f g = rw (f, g) (tail_below_one (drop i ds) x (d
 pub part_none : (ds : List ℕ) (i : ℕ) → AllDigits 10 ds → None ≡ decimal_value false [] (drop i ds) → None ≡ decimal_value false [] ds
 part_none ds i all e = none_from_tail false [] ds (fine_drop i ds (tail_from_none (drop i ds) (digits_drop i ds all) e))
 
-pub within-too_large : (n : ℕ) → max_size < n → None ≡ within n
-within-too_large n h = grind (arith, nat_tests)
+pub bounded-too_large : (n : ℕ) → max_size < n → None ≡ bounded n
+bounded-too_large n h = grind (arith, nat_tests)
 
-pub within-fits : (n : ℕ) → n ≤ max_size → Some n ≡ within n
-within-fits n h = grind (arith, nat_tests)
+pub bounded-small : (n : ℕ) → n ≤ max_size → Some n ≡ bounded n
+bounded-small n h = grind (arith, nat_tests)
 
 -- one more digit of a whole number, from its first to its last
-pub whole_next : (ds : List ℕ) (i v w u : ℕ) → v ≡ digits_value 10 (take i ds) → i < length ds → w ≡ digit_value (get_or ds i 0) → Some u ≡ within (v * 10 + w) → (u ≡ digits_value 10 (take (i + 1) ds)) × (u ≤ max_size)
+pub whole_next : (ds : List ℕ) (i v w u : ℕ) → v ≡ digits_value 10 (take i ds) → i < length ds → w ≡ digit_value (get_or ds i 0) → Some u ≡ bounded (v * 10 + w) → (u ≡ digits_value 10 (take (i + 1) ds)) × (u ≤ max_size)
 whole_next ds i v w u e h f k =
-    let s = within-some (v * 10 + w) u k in
+    let s = bounded-some (v * 10 + w) u k in
     let more : digits_value 10 (take (i + 1) ds) ≡ digits_value 10 (take i ds) * 10 + digit_value (get_or ds i 0) = digits_value_more 10 ds i h in
     (s.0 ∙ rw (e, f) (sym more), omega (arith, s.0, s.1))
 
-pub whole_none : (ds : List ℕ) (i v w : ℕ) → v ≡ digits_value 10 (take i ds) → i < length ds → w ≡ digit_value (get_or ds i 0) → None ≡ within (v * 10 + w) → None ≡ within (digits_value 10 ds)
+pub whole_none : (ds : List ℕ) (i v w : ℕ) → v ≡ digits_value 10 (take i ds) → i < length ds → w ≡ digit_value (get_or ds i 0) → None ≡ bounded (v * 10 + w) → None ≡ bounded (digits_value 10 ds)
 whole_none ds i v w e h f k =
-    let large : max_size < v * 10 + w = within-none (v * 10 + w) k in
+    let large : max_size < v * 10 + w = bounded-none (v * 10 + w) k in
     let more : digits_value 10 (take (i + 1) ds) ≡ v * 10 + w = digits_value_more 10 ds i h ∙ rw (e, f) refl in
     let less : digits_value 10 (take (i + 1) ds) ≤ digits_value 10 ds = digits_value-take-le 10 ds (i + 1) (omega arith) in
-    within-too_large (digits_value 10 ds) (omega (arith, large, more, less))
+    bounded-too_large (digits_value 10 ds) (omega (arith, large, more, less))
 
 -- ---- a whole part and a tail
 
@@ -66,21 +66,21 @@ decimal_at : (s : Bool) (whole ds : List ℕ) (x : Number) → Some x ≡ decima
 decimal_at s whole ds x e = sym (number_of-lowest s _ x.den (shifted_lowest (digits_value 10 whole) x)) ∙ tail_whole s whole ds x e
 
 -- with a whole part w the fraction is in lowest terms
-pub size_lowest : (w d n u : ℕ) (x : Number) → n ≡ unsigned_abs x.num → d ≡ x.den → Some u ≡ within (w * d + n) → gcd u d ≡ 1
-size_lowest w d n u x e f h = rw ((within-some (w * d + n) u h).0, e, f) (shifted_lowest w x)
+pub size_lowest : (w d n u : ℕ) (x : Number) → n ≡ unsigned_abs x.num → d ≡ x.den → Some u ≡ bounded (w * d + n) → gcd u d ≡ 1
+size_lowest w d n u x e f h = rw ((bounded-some (w * d + n) u h).0, e, f) (shifted_lowest w x)
 
-pub decimal_some : (s : Bool) (whole ds : List ℕ) (w d n u : ℕ) (x : Number) (r : Option Number) → Some x ≡ decimal_value false [] ds → w ≡ digits_value 10 whole → n ≡ unsigned_abs x.num → d ≡ x.den → Some u ≡ within (w * d + n) → r ≡ number_at (signed s u) d → r ≡ decimal_value s whole ds
-decimal_some s whole ds w d n u x r e f g h k m = m ∙ rw ((within-some (w * d + n) u k).0, f, g, h) (decimal_at s whole ds x e)
+pub decimal_some : (s : Bool) (whole ds : List ℕ) (w d n u : ℕ) (x : Number) (r : Option Number) → Some x ≡ decimal_value false [] ds → w ≡ digits_value 10 whole → n ≡ unsigned_abs x.num → d ≡ x.den → Some u ≡ bounded (w * d + n) → r ≡ number_at (signed s u) d → r ≡ decimal_value s whole ds
+decimal_some s whole ds w d n u x r e f g h k m = m ∙ rw ((bounded-some (w * d + n) u k).0, f, g, h) (decimal_at s whole ds x e)
 
 decimal_too_large : (s : Bool) (whole ds : List ℕ) (x : Number) → Some x ≡ decimal_value false [] ds → max_size < digits_value 10 whole * x.den + unsigned_abs x.num → None ≡ decimal_value s whole ds
 decimal_too_large s whole ds x e h = number_at-too_large s _ x.den (inl h) ∙ decimal_at s whole ds x e
 
-pub size_none : (s : Bool) (whole ds : List ℕ) (w d n : ℕ) (x : Number) → Some x ≡ decimal_value false [] ds → w ≡ digits_value 10 whole → n ≡ unsigned_abs x.num → d ≡ x.den → None ≡ within (w * d + n) → None ≡ decimal_value s whole ds
-size_none s whole ds w d n x e f g h k = decimal_too_large s whole ds x e (rw (← f, ← g, ← h) (within-none (w * d + n) k))
+pub size_none : (s : Bool) (whole ds : List ℕ) (w d n : ℕ) (x : Number) → Some x ≡ decimal_value false [] ds → w ≡ digits_value 10 whole → n ≡ unsigned_abs x.num → d ≡ x.den → None ≡ bounded (w * d + n) → None ≡ decimal_value s whole ds
+size_none s whole ds w d n x e f g h k = decimal_too_large s whole ds x e (rw (← f, ← g, ← h) (bounded-none (w * d + n) k))
 
-pub whole_part_none : (s : Bool) (whole ds : List ℕ) (x : Number) → Some x ≡ decimal_value false [] ds → None ≡ within (digits_value 10 whole) → None ≡ decimal_value s whole ds
+pub whole_part_none : (s : Bool) (whole ds : List ℕ) (x : Number) → Some x ≡ decimal_value false [] ds → None ≡ bounded (digits_value 10 whole) → None ≡ decimal_value s whole ds
 whole_part_none s whole ds x e h =
-    let large : max_size < digits_value 10 whole = within-none (digits_value 10 whole) h in
+    let large : max_size < digits_value 10 whole = bounded-none (digits_value 10 whole) h in
     let at_least : digits_value 10 whole * 1 ≤ digits_value 10 whole * x.den = mul-le-mul_left (digits_value 10 whole) x.is_number.above_zero in
     decimal_too_large s whole ds x e (omega (arith, large, at_least))
 

@@ -16,8 +16,8 @@ use Rattle.wi_fraction.proofs.Divisors.{gcd_pos, div_gcd_pos, coprime_divided}
 use Rattle.wi_fraction.proofs.Numbers.{abs-signed}
 use Rattle.wi_fraction.specs.Number.{Number, number_of, max_size}
 use Rattle.wi_fraction.specs.Number.Laws.{number_at-some, number_at-is}
-use Rattle.wi_fraction.specs.Arithmetic.{negated, within, int_within, sum_of, product_of, quotient_of, fraction_of}
-use Rattle.wi_fraction.proofs.Steps.{within-some, multiple_pos}
+use Rattle.wi_fraction.specs.Arithmetic.{negated, bounded, int_bounded, sum_of, product_of, quotient_of, fraction_of}
+use Rattle.wi_fraction.proofs.Steps.{bounded-some, multiple_pos}
 use Rattle.wi_fraction.specs.Order.Integers.{mul-mul, neg-pos-mul, mul_below, int_irrefl, by_rank, turn}
 
 mul-suc : (z : ℤ) (k : ℕ) → z *ℤ pos (suc k) ≡ z *ℤ pos k +ℤ z
@@ -51,8 +51,8 @@ value_of n d z e =
     let num_is : z.num *ℤ pos (gcd (unsigned_abs n) d) ≡ n = ap (λ k. k *ℤ pos (gcd (unsigned_abs n) d)) w.0 ∙ divided n (gcd (unsigned_abs n) d) i.0 in
     sym (ap (λ k. k *ℤ pos z.den) num_is) ∙ mul-mul z.num (gcd (unsigned_abs n) d) z.den ∙ ap (λ k. z.num *ℤ pos k) den_is
 
-within-is : (m n : ℕ) → within n ≡ Some m → m ≡ n
-within-is m n e = (within-some n m (sym e)).0
+bounded-is : (m n : ℕ) → bounded n ≡ Some m → m ≡ n
+bounded-is m n e = (bounded-some n m (sym e)).0
 
 same_from_mul : (p q : ℤ) (k : ℕ) → 0 < k → p *ℤ pos k ≡ q *ℤ pos k → p ≡ q
 same_from_mul p q k some e =
@@ -65,8 +65,8 @@ then_some : {A B : Type 0} (o : Option A) (f : A → Option B) (z : B) → optio
 then_some None f z e = cc
 then_some (Some a) f z e = (a, refl, e)
 
-int_within-is : (m n : ℤ) → int_within n ≡ Some m → m ≡ n
-int_within-is m n e = by_test (nat_le (unsigned_abs n) max_size) e
+int_bounded-is : (m n : ℤ) → int_bounded n ≡ Some m → m ≡ n
+int_bounded-is m n e = by_test (nat_le (unsigned_abs n) max_size) e
   where
     by_test : (b : Bool) → cond b (Some n) None ≡ Some m → m ≡ n
     by_test true e = cc
@@ -102,12 +102,12 @@ sum_value x y z e =
     let s2 = then_some _ _ z s1.2 in
     let s3 = then_some _ _ z s2.2 in
     let s4 = then_some _ _ z s3.2 in
-    let L_is = within-is s1.0 _ s1.1 in
+    let L_is = bounded-is s1.0 _ s1.1 in
     let g = is_gcd x.den y.den in
     let to_b : x.den ∣ s1.0 = subst (λ n. x.den ∣ n) (sym L_is) (dvd_lcm x.den y.den) in
     let to_d : y.den ∣ s1.0 = subst (λ n. y.den ∣ n) (sym L_is) (dvd-mul_left y.den (x.den / gcd x.den y.den)) in
     let some : 0 < s1.0 = multiple_pos x.den y.den _ s1.0 refl x.is_number.above_zero y.is_number.above_zero (sym s1.1) in
-    let total_is : s4.0 ≡ x.num *ℤ pos (s1.0 / x.den) +ℤ y.num *ℤ pos (s1.0 / y.den) = int_within-is s4.0 _ s4.1 ∙ ap (λ n. n +ℤ s3.0) (int_within-is s2.0 _ s2.1) ∙ ap (λ n. x.num *ℤ pos (s1.0 / x.den) +ℤ n) (int_within-is s3.0 _ s3.1) in
+    let total_is : s4.0 ≡ x.num *ℤ pos (s1.0 / x.den) +ℤ y.num *ℤ pos (s1.0 / y.den) = int_bounded-is s4.0 _ s4.1 ∙ ap (λ n. n +ℤ s3.0) (int_bounded-is s2.0 _ s2.1) ∙ ap (λ n. x.num *ℤ pos (s1.0 / x.den) +ℤ n) (int_bounded-is s3.0 _ s3.1) in
     over_multiple x.num y.num s4.0 z.num x.den y.den s1.0 z.den some to_b to_d total_is (value_of s4.0 s1.0 z s4.2)
 
 -- a product has the value of the exact product

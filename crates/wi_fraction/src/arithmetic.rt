@@ -4,7 +4,7 @@ ghost use Rattle.std.specs.Prelude.{◌≡◌, ◌≢◌, ◌*◌, ◌<◌, ◌�
 ghost use Rattle.std.specs.Ordering.{int_eq};
 ghost use Rattle.wi_fraction.specs.Gcd.{gcd};
 ghost use Rattle.wi_fraction.specs.Number.{max_size, number_of, signed};
-ghost use Rattle.wi_fraction.specs.Arithmetic.{within, int_within, sum_of, product_of, quotient_of, negated, IsValue};
+ghost use Rattle.wi_fraction.specs.Arithmetic.{bounded, int_bounded, sum_of, product_of, quotient_of, negated, IsValue};
 
 use crate::lowest_terms::{gcd, number_at, reduced};
 use crate::{Fraction, FractionError, MAX};
@@ -125,7 +125,7 @@ pub(crate) fn multiplied(negative: bool, a: u128, b: u128, c: u128, d: u128) -> 
 
 /// The product, where it is small enough.
 fn product(a: u128, b: u128) -> Option<u128>
-    ensures { result ≡ within (a * b) }
+    ensures { result ≡ bounded (a * b) }
 {
     let product = a.checked_mul(b)?;
     if product <= MAX { Some(product) } else { None }
@@ -134,21 +134,21 @@ fn product(a: u128, b: u128) -> Option<u128>
 /// The multiple of a numerator, where it is small enough.
 fn scaled(n: i128, by: u128) -> Option<i128>
     requires { by ≤ max_size }
-    ensures { result ≡ int_within (n *ℤ pos by) }
+    ensures { result ≡ int_bounded (n *ℤ pos by) }
 {
     bounded(n.checked_mul(by as i128)?)
 }
 
 /// The sum of two numerators, where it is small enough.
 fn total(a: i128, b: i128) -> Option<i128>
-    ensures { result ≡ int_within (a +ℤ b) }
+    ensures { result ≡ int_bounded (a +ℤ b) }
 {
     bounded(a.checked_add(b)?)
 }
 
 /// The number, where it is small enough.
 fn bounded(n: i128) -> Option<i128>
-    ensures { result ≡ int_within n }
+    ensures { result ≡ int_bounded n }
 {
     if n.unsigned_abs() <= MAX {
         Some(n)

@@ -13,7 +13,7 @@ use std::alloc::AllocError;
 
 /// A digit of a decimal, and what is left after it.
 #[derive(Clone, Copy)]
-struct Step {
+struct NextDigit {
     digit: u128,
     rest: u128,
 }
@@ -94,7 +94,7 @@ fn all_places(d: u128) -> Option<u32>
 }
 
 /// Ten times the rest, divided by d.
-fn tenfold(rest: u128, d: u128) -> Step
+fn tenfold(rest: u128, d: u128) -> NextDigit
     requires below { rest < d }
     requires fits { d ≤ max_size }
     ensures digit { result.digit ≡ rest * 10 / d }
@@ -104,14 +104,14 @@ fn tenfold(rest: u128, d: u128) -> Step
     let four = twofold(two.digit, two.rest, d);
     let sum = four.rest + rest;
     let ten = twofold(four.digit + sum / d, sum % d, d);
-    Step {
+    NextDigit {
         digit: ten.digit,
         rest: ten.rest,
     }
 }
 
 /// Twice the whole number and the rest over d.
-fn twofold(whole: u128, rest: u128, d: u128) -> Step
+fn twofold(whole: u128, rest: u128, d: u128) -> NextDigit
     requires below { rest < d }
     requires fits { d ≤ max_size }
     requires small { whole ≤ 4 }
@@ -120,7 +120,7 @@ fn twofold(whole: u128, rest: u128, d: u128) -> Step
     ensures small { result.digit ≤ 2 * whole + 1 }
 {
     let twice = 2 * rest;
-    Step {
+    NextDigit {
         digit: 2 * whole + twice / d,
         rest: twice % d,
     }

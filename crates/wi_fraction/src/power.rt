@@ -4,7 +4,7 @@ ghost use Rattle.std.specs.Prelude.{◌≡◌, ◌^◌, ◌%◌, ◌<◌, ◌==�
 ghost use Rattle.std.specs.Ordering.{int_eq};
 ghost use Rattle.wi_fraction.specs.Gcd.{gcd};
 ghost use Rattle.wi_fraction.specs.Number.{number_of, signed};
-ghost use Rattle.wi_fraction.specs.Arithmetic.{within};
+ghost use Rattle.wi_fraction.specs.Arithmetic.{bounded};
 ghost use Rattle.wi_fraction.specs.Power.{power_of};
 
 use crate::lowest_terms::number_at;
@@ -52,7 +52,7 @@ fn power(negative: bool, size: u128, denominator: u128, count: u128) -> Option<F
 /// The power, where it is small enough. From two on, each further factor takes a bit at least.
 #[tactic(auto, using(crate::proofs::Powers::pow_none, crate::proofs::Powers::pow_small, crate::proofs::Powers::pow_too_large))]
 fn size_power(base: u128, count: u128) -> Option<u128>
-    ensures { result ≡ within (base ^ count) }
+    ensures { result ≡ bounded (base ^ count) }
 {
     if count == 0 {
         return Some(1);

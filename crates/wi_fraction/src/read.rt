@@ -7,7 +7,7 @@ ghost use Rattle.std.specs.List.{prefix_len};
 ghost use Rattle.std.specs.Str.Parse.{AllDigits, digits_value};
 ghost use Rattle.wi_fraction.specs.Gcd.{gcd};
 ghost use Rattle.wi_fraction.specs.Number.{max_size, number_of};
-ghost use Rattle.wi_fraction.specs.Arithmetic.{within};
+ghost use Rattle.wi_fraction.specs.Arithmetic.{bounded};
 ghost use Rattle.wi_fraction.specs.Inner.Reading.{read, read_size, read_after, read_quotient, read_decimal, decimal_after, point_after, scaled_after, exponent_after, with_exponent, raised, lowered, decimal_value, is_numeral};
 
 use crate::arithmetic::multiplied;
@@ -188,7 +188,7 @@ fn raised(whole: &[u8], parts: &[u8], power: u128) -> Option<Fraction>
 /// The whole number times that power of ten, where it is small enough.
 fn raised_size(size: u128, power: u128) -> Option<u128>
     requires { size ≤ max_size }
-    ensures { result ≡ within (size * 10 ^ power) }
+    ensures { result ≡ bounded (size * 10 ^ power) }
 {
     if size == 0 {
         return Some(0);
@@ -306,7 +306,7 @@ fn tenth(digit: u128, n: u128, d: u128) -> Option<Fraction>
 /// The whole number that the digits write, where it is small enough.
 fn whole_number(first: &[u8], second: &[u8]) -> Option<u128>
     requires { AllDigits 10 (first.now ++ second.now) }
-    ensures { result ≡ within (digits_value 10 (first.now ++ second.now)) }
+    ensures { result ≡ bounded (digits_value 10 (first.now ++ second.now)) }
 {
     let mut value = 0;
     for i in 0..first.len() + second.len() {
@@ -331,7 +331,7 @@ fn digit_at(first: &[u8], second: &[u8], i: usize) -> u128
 
 /// The product and more, where it is small enough.
 fn mul_add(a: u128, b: u128, more: u128) -> Option<u128>
-    ensures { result ≡ within (a * b + more) }
+    ensures { result ≡ bounded (a * b + more) }
 {
     let sum = a.checked_mul(b)?.checked_add(more)?;
     if sum <= MAX { Some(sum) } else { None }

@@ -1,7 +1,7 @@
 use Rattle.std.proofs.Common.{◌∙◌, sym, ◌++◌}
 use Rattle.std.specs.Str.Parse.{digits_value}
 use Rattle.wi_fraction.proofs.Reading.{part_none_whole, whole_part_none, size_none, size_lowest, decimal_some}
-use Rattle.wi_fraction.proofs.Steps.{within-some}
+use Rattle.wi_fraction.proofs.Steps.{bounded-some}
 use Rattle.wi_fraction.proofs.read.decimal.Goals as goal
 
 pub returns-in_err-part : goal.returns-in_err-part
@@ -12,7 +12,7 @@ returns-in_err-whole c = c.from_residual-in_err-whole.ensures ∙ whole_part_non
 
 pub returns-in_err-size : goal.returns-in_err-size
 returns-in_err-size c =
-    let whole = within-some (digits_value 10 (c.args.first.now ++ c.args.second.now)) c.in_ok-whole.whole c.in_ok-whole.ensures in
+    let whole = bounded-some (digits_value 10 (c.args.first.now ++ c.args.second.now)) c.in_ok-whole.whole c.in_ok-whole.ensures in
     c.from_residual-in_err-size.ensures ∙ size_none c.args.negative (c.args.first.now ++ c.args.second.now) (c.args.third.now ++ c.args.fourth.now) _ _ _ c.in_ok-part.part c.in_ok-part.ensures whole.0 c.size.ensures c.denominator-denominator.ensures (sym c.in_err-size.was ∙ c.mul_add.ensures)
 
 pub number_at-requires-clause-lowest : goal.number_at-requires-clause-lowest
@@ -20,5 +20,5 @@ number_at-requires-clause-lowest c = size_lowest _ _ _ _ c.in_ok-part.part c.siz
 
 pub returns : goal.returns
 returns c =
-    let whole = within-some (digits_value 10 (c.args.first.now ++ c.args.second.now)) c.in_ok-whole.whole c.in_ok-whole.ensures in
+    let whole = bounded-some (digits_value 10 (c.args.first.now ++ c.args.second.now)) c.in_ok-whole.whole c.in_ok-whole.ensures in
     decimal_some c.args.negative (c.args.first.now ++ c.args.second.now) (c.args.third.now ++ c.args.fourth.now) _ _ _ _ c.in_ok-part.part _ c.in_ok-part.ensures whole.0 c.size.ensures c.denominator-denominator.ensures c.in_ok-size.ensures c.number_at.ensures
