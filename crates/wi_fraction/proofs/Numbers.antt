@@ -29,6 +29,10 @@ number_of-signed b n d = rw (abs-signed, div-signed)
 pub number_of-lowest : (s : Bool) (n d : ℕ) → gcd n d ≡ 1 → number_of (signed s n) d ≡ number_at (signed s n) d
 number_of-lowest s n d one = sym (number_of-signed s n d) ∙ rw (one, div-one n, div-one d)
 
+-- a whole number is in lowest terms
+pub number_of-whole : (s : Bool) (n : ℕ) → number_at (signed s n) 1 ≡ number_of (signed s n) 1
+number_of-whole s n = sym (number_of-lowest s n 1 (gcd-one n))
+
 -- a fraction with the common factor m
 pub number_of-scaled : (s : Bool) (n d m : ℕ) → 0 < m → gcd n d ≡ 1 → number_of (signed s (n * m)) (d * m) ≡ number_at (signed s n) d
 number_of-scaled s n d m some one =

@@ -1,11 +1,14 @@
 -- The order of two fractions by whole parts and rests.
-use Rattle.std.specs.Prelude.{◌≡◌, ◌≢◌, ◌⊎◌, ℕ, ◌+◌, ◌*◌, ◌/◌, ◌%◌, ◌<◌, ◌≤◌, refl}
+use Rattle.std.specs.Prelude.{◌≡◌, ◌≢◌, ◌⊎◌, ℕ, ◌+◌, ◌*◌, ◌/◌, ◌%◌, ◌<◌, ◌≤◌, ℤ, pos, ◌*ℤ◌, ◌<ℤ◌, refl}
 use Rattle.std.specs.declared.cmp.Ordering.{Ordering}
 use Rattle.std.specs.declared.cmp.Ordering.TheVariants.{Less, Equal, Greater}
-use Rattle.std.specs.Ordering.{nat_cmp, MatchOrdering}
-use Rattle.std.specs.Cmp.{ranks, nat_cmp_is}
+use Rattle.std.specs.Ordering.{nat_cmp, int_cmp, MatchOrdering}
+use Rattle.std.specs.Cmp.{ranks, nat_cmp_is, int_ranks, int_cmp_is}
 use Rattle.std.proofs.Common.{sym, ap, ◌∙◌, subst, arith, inl, inr}
 use Rattle.std.proofs.Math.Nat.{add-mul, mul_assoc, mul_comm, mul_right_comm, div-add-mod', lt-div-mul-add, div-mul-le_self, mul-lt-mul_of_pos_right, mul-le-mul_right, mul-pos, zero-mul, one-mul}
+use Rattle.wi_fraction.specs.Number.{Number}
+use Rattle.wi_fraction.specs.Order.{cross_cmp}
+use Rattle.wi_fraction.specs.Order.Integers.{mul_below}
 
 module _ (x y u v : ℕ) where
   carried : (x < y → u < v) → (x ≡ y → u ≡ v) → (y < x → v < u) → (r : Ordering) → MatchOrdering r (x < y) (x ≡ y) (y < x) → MatchOrdering r (u < v) (u ≡ v) (v < u)
@@ -57,3 +60,17 @@ cmp_at_zero r s b d bp dp (inl z) =
     same_nat_cmp r s (r * d) (s * b) (λ h. rw z (rw zero-mul (mul-pos (omega arith) bp))) (λ h. rw (sym h, z) (rw (zero-mul, zero-mul))) (λ h. absurd (omega arith))
 cmp_at_zero r s b d bp dp (inr z) =
     same_nat_cmp r s (r * d) (s * b) (λ h. absurd (omega arith)) (λ h. rw (h, z) (rw (zero-mul, zero-mul))) (λ h. rw z (rw zero-mul (mul-pos (omega arith) dp)))
+
+-- ---- like denominators
+
+same_int_cmp : (p q : ℤ) (k : ℕ) → 0 < k → int_cmp p q ≡ int_cmp (p *ℤ pos k) (q *ℤ pos k)
+same_int_cmp p q k some = int_cmp_is (p *ℤ pos k) (q *ℤ pos k) (int_cmp p q) (by_case (int_cmp p q) (int_ranks p q))
+  where
+    by_case : (o : Ordering) → MatchOrdering o (p <ℤ q) (p ≡ q) (q <ℤ p) → MatchOrdering o ((p *ℤ pos k) <ℤ (q *ℤ pos k)) (p *ℤ pos k ≡ q *ℤ pos k) ((q *ℤ pos k) <ℤ (p *ℤ pos k))
+    by_case Less m = mul_below p q k some m
+    by_case Equal m = ap (λ z. z *ℤ pos k) m
+    by_case Greater m = mul_below q p k some m
+
+-- numbers with one denominator are in the order of their numerators
+pub like_cmp : (x y : Number) → x.den ≡ y.den → int_cmp x.num y.num ≡ cross_cmp x y
+like_cmp x y same = same_int_cmp x.num y.num x.den x.is_number.above_zero ∙ ap (λ d. int_cmp (x.num *ℤ pos d) (y.num *ℤ pos x.den)) same

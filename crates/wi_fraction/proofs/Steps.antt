@@ -2,16 +2,18 @@
 use Rattle.std.specs.Prelude.{◌≡◌, ℕ, suc, ◌*◌, ◌/◌, ◌<◌, ◌≤◌, ℤ, pos, negsuc, ◌+ℤ◌, ◌*ℤ◌, neg_ℤ, unsigned_abs, Bool, false, Option, Some, None, refl}
 use Rattle.std.specs.Prelude.{zero, ◌-ℤ◌, int_lt, nat_lt}
 use Rattle.std.specs.Int.{w128, cast_signed as to_z, cast_unsigned as of_z}
-use Rattle.std.proofs.Common.{arith, ap, sym}
+use Rattle.std.proofs.Common.{arith, ap, sym, ◌∙◌}
 use Rattle.std.proofs.lemmas.Int.{ints}
 use Rattle.std.proofs.lemmas.Bool.Decides.{nat_tests}
-use Rattle.std.proofs.Math.Nat.{mul-pos}
+use Rattle.std.proofs.Math.Nat.{mul-pos, one-mul, div_self}
+use Rattle.std.proofs.lemmas.Nat.Gcd.{dvd_refl}
 use Rattle.wi_fraction.specs.Gcd.{gcd}
 use Rattle.wi_fraction.specs.Number.{Number, number_of, max_size, signed, number_at}
 use Rattle.wi_fraction.specs.Arithmetic.{bounded, int_bounded, sum_of}
 use Rattle.wi_fraction.proofs.Divisors.{gcd_pos, div_gcd_pos, coprime_cross, cross_numerator, cross_denominator}
-use Rattle.wi_fraction.specs.Gcd.Laws.{gcd_comm}
-use Rattle.wi_fraction.proofs.Numbers.{number_of-scaled}
+use Rattle.wi_fraction.specs.Gcd.Laws.{gcd_comm, gcd_from_IsGcd}
+use Rattle.wi_fraction.specs.Number.Laws.{number_at-some}
+use Rattle.wi_fraction.proofs.Numbers.{number_of-scaled, number_of-whole}
 
 pub bounded-some : (n m : ℕ) → Some m ≡ bounded n → (m ≡ n) × (n ≤ max_size)
 bounded-some n m e = (grind (arith, nat_tests), grind (arith, nat_tests))
@@ -43,3 +45,43 @@ cross_product s a b c d bp dp p q =
 
 pub bounded-none : (n : ℕ) → None ≡ bounded n → max_size < n
 bounded-none n e = grind (arith, nat_tests)
+
+-- ---- like denominators
+
+bounded-itself : (x : Number) → Some x.den ≡ bounded (x.den / gcd x.den x.den * x.den)
+bounded-itself x =
+    let same : x.den ≡ gcd x.den x.den = gcd_from_IsGcd x.den x.den x.den (dvd_refl x.den, dvd_refl x.den, λ d p q. p) in
+    let e : x.den / gcd x.den x.den * x.den ≡ x.den = rw (← same, div_self x.is_number.above_zero) (one-mul x.den) in
+    let fits = x.is_number.den_fits in
+    rw e (grind (arith, nat_tests, fits))
+
+mul-one-int : (z : ℤ) → z *ℤ pos 1 ≡ z
+mul-one-int (pos n) = omega (arith, ints)
+mul-one-int (negsuc n) = omega (arith, ints)
+
+scaled-itself : (x : Number) (d : ℕ) → 0 < d → Some x.num ≡ int_bounded (x.num *ℤ pos (d / d))
+scaled-itself x d some =
+    let fits = x.is_number.num_fits in
+    rw (div_self some, mul-one-int x.num) (grind (arith, nat_tests, fits))
+
+-- numbers with one denominator are added over it
+pub like_sum_some : (x y : Number) (total : ℤ) (r : Option Number) → x.den ≡ y.den → Some total ≡ int_bounded (x.num +ℤ y.num) → r ≡ number_of total x.den → r ≡ sum_of x y
+like_sum_some x y total r same e f =
+    sum_from_steps x y x.den x.num y.num total r
+    (rw (← same) (bounded-itself x))
+    (scaled-itself x x.den x.is_number.above_zero)
+    (rw (← same) (scaled-itself y x.den x.is_number.above_zero))
+    e f
+
+pub like_sum_none : (x y : Number) → x.den ≡ y.den → None ≡ int_bounded (x.num +ℤ y.num) → None ≡ sum_of x y
+unfolding sum_of
+like_sum_none x y same e =
+    let e1 : Some x.den ≡ bounded (x.den / gcd x.den y.den * y.den) = rw (← same) (bounded-itself x) in
+    let e2 = scaled-itself x x.den x.is_number.above_zero in
+    let e3 : Some y.num ≡ int_bounded (y.num *ℤ pos (x.den / y.den)) = rw (← same) (scaled-itself y x.den x.is_number.above_zero) in
+    rw (← e1, ← e2, ← e3, ← e) refl
+
+-- a whole number is its own lowest terms
+pub whole_number_of : (z : ℤ) (x : Number) → x.num ≡ z → x.den ≡ 1 → Some x ≡ number_of z 1
+whole_number_of z x e f =
+    sym (number_at-some z 1 x e f) ∙ ap (λ k. number_at k 1) (sym (signed-abs z)) ∙ number_of-whole (int_lt z (pos 0)) (unsigned_abs z) ∙ ap (λ k. number_of k 1) (signed-abs z)

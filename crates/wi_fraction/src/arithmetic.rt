@@ -6,7 +6,8 @@ ghost use Rattle.wi_fraction.specs.Gcd.{gcd};
 ghost use Rattle.wi_fraction.specs.Number.{max_size, number_of, signed};
 ghost use Rattle.wi_fraction.specs.Arithmetic.{bounded, int_bounded, sum_of, product_of, quotient_of, negated, IsValue};
 
-use crate::lowest_terms::{gcd, number_at, reduced};
+use crate::division::{divide, gcd};
+use crate::lowest_terms::{integer, number_at, reduced};
 use crate::{Fraction, FractionError, MAX};
 
 impl Fraction {
@@ -73,8 +74,31 @@ impl Fraction {
         }
     }
 
-    #[tactic(auto, unfolding(crate::specs::Arithmetic::sum_of))]
     fn sum(self, other: Fraction) -> Option<Fraction>
+        ensures { result ≡ sum_of self other }
+    {
+        if self.denominator == other.denominator {
+            self.like_sum(other)
+        } else {
+            self.unlike_sum(other)
+        }
+    }
+
+    /// The sum of two numbers with one denominator.
+    fn like_sum(self, other: Fraction) -> Option<Fraction>
+        requires { self.den ≡ other.den }
+        ensures { result ≡ sum_of self other }
+    {
+        let total = total(self.numerator, other.numerator)?;
+        if self.denominator == 1 {
+            return Some(integer(total));
+        }
+        reduced(total < 0, total.unsigned_abs(), self.denominator)
+    }
+
+    /// The sum over the least common multiple of the denominators.
+    #[tactic(auto, unfolding(crate::specs::Arithmetic::sum_of))]
+    fn unlike_sum(self, other: Fraction) -> Option<Fraction>
         ensures { result ≡ sum_of self other }
     {
         let Fraction {
@@ -85,9 +109,9 @@ impl Fraction {
             numerator: c,
             denominator: d,
         } = other;
-        let multiple = product(b / gcd(b, d), d)?;
-        let first = scaled(a, multiple / b)?;
-        let second = scaled(c, multiple / d)?;
+        let multiple = product(divide(b, gcd(b, d)), d)?;
+        let first = scaled(a, divide(multiple, b))?;
+        let second = scaled(c, divide(multiple, d))?;
         let total = total(first, second)?;
         reduced(total < 0, total.unsigned_abs(), multiple)
     }
@@ -116,10 +140,34 @@ pub(crate) fn multiplied(negative: bool, a: u128, b: u128, c: u128, d: u128) -> 
     requires second_lowest { gcd c d ≡ 1 }
     ensures { result ≡ number_of (signed negative (a * c)) (b * d) }
 {
+    if b == 1 && d == 1 {
+        return whole_product(negative, a, c);
+    }
+    if b == 1 && c == 1 {
+        return reduced(negative, a, d);
+    }
+    cancelled_product(negative, a, b, c, d)
+}
+
+/// The product of two whole numbers with that sign.
+fn whole_product(negative: bool, a: u128, b: u128) -> Option<Fraction>
+    ensures { result ≡ number_of (signed negative (a * b)) 1 }
+{
+    number_at(negative, product(a, b)?, 1)
+}
+
+/// The same product. Each numerator is divided by what it has in common with the other denominator.
+fn cancelled_product(negative: bool, a: u128, b: u128, c: u128, d: u128) -> Option<Fraction>
+    requires first_above_zero { 0 < b }
+    requires second_above_zero { 0 < d }
+    requires first_lowest { gcd a b ≡ 1 }
+    requires second_lowest { gcd c d ≡ 1 }
+    ensures { result ≡ number_of (signed negative (a * c)) (b * d) }
+{
     let outer = gcd(a, d);
     let inner = gcd(c, b);
-    let size = product(a / outer, c / inner)?;
-    let denominator = product(b / inner, d / outer)?;
+    let size = product(divide(a, outer), divide(c, inner))?;
+    let denominator = product(divide(b, inner), divide(d, outer))?;
     number_at(negative, size, denominator)
 }
 

@@ -1,25 +1,11 @@
 // Numbers made from a sign, a size and a denominator.
 
-ghost use Rattle.std.specs.Prelude.{◌≡◌, ◌<◌, ◌≤◌};
+ghost use Rattle.std.specs.Prelude.{◌≡◌, ◌<◌, ◌≤◌, unsigned_abs};
 ghost use Rattle.wi_fraction.specs.Gcd.{gcd};
 ghost use Rattle.wi_fraction.specs.Number.{max_size, number_at, number_of, signed};
 
+use crate::division::{divide, gcd};
 use crate::{Fraction, MAX};
-
-/// The greatest common divisor, by Euclid's algorithm.
-pub(crate) fn gcd(a: u128, b: u128) -> u128
-    ensures value { result ≡ gcd a b }
-    ensures above_zero { 0 < b → 0 < result }
-{
-    let mut x = a;
-    let mut y = b;
-    while y != 0 {
-        let rest = x % y;
-        x = y;
-        y = rest;
-    }
-    x
-}
 
 /// The number of that sign, size and denominator, in lowest terms.
 pub(crate) fn reduced(negative: bool, size: u128, denominator: u128) -> Option<Fraction>
@@ -27,7 +13,7 @@ pub(crate) fn reduced(negative: bool, size: u128, denominator: u128) -> Option<F
     ensures { result ≡ number_of (signed negative size) denominator }
 {
     let common = gcd(size, denominator);
-    number_at(negative, size / common, denominator / common)
+    number_at(negative, divide(size, common), divide(denominator, common))
 }
 
 /// The number of that sign, size and denominator, which have no common divisor.
@@ -43,6 +29,18 @@ pub(crate) fn number_at(negative: bool, size: u128, denominator: u128) -> Option
         numerator: signed(negative, size),
         denominator,
     })
+}
+
+/// The whole number as a fraction.
+pub(crate) fn integer(n: i128) -> Fraction
+    requires { unsigned_abs n ≤ max_size }
+    ensures numerator { result.num ≡ n }
+    ensures denominator { result.den ≡ 1 }
+{
+    Fraction {
+        numerator: n,
+        denominator: 1,
+    }
 }
 
 /// The whole number of that sign and size.

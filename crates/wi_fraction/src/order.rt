@@ -10,6 +10,7 @@ ghost use Rattle.wi_fraction.specs.Order.{cross_cmp, same_parts};
 ghost use Rattle.wi_fraction.specs.Order.Laws.{cross_total, cross_same_parts, same_parts_partial, same_parts_equiv, same_from_parts};
 
 use crate::Fraction;
+use crate::division::{divide, remainder};
 use std::cmp::Ordering;
 use std::hash::{Hash, Hasher};
 
@@ -49,6 +50,9 @@ impl Ord for Fraction {
     ghost matches_eq = { cross_same_parts };
 
     fn cmp(&self, other: &Fraction) -> Ordering {
+        if self.denominator == other.denominator {
+            return self.numerator.cmp(&other.numerator);
+        }
         let a = self.numerator.unsigned_abs();
         let c = other.numerator.unsigned_abs();
         match (self.numerator < 0, other.numerator < 0) {
@@ -76,10 +80,10 @@ fn compare_sizes(a: u128, b: u128, c: u128, d: u128) -> Ordering
     requires second_above_zero { 0 < d }
     ensures { result ≡ nat_cmp (a * d) (c * b) }
 {
-    match (a / b).cmp(&(c / d)) {
+    match divide(a, b).cmp(&divide(c, d)) {
         Ordering::Equal => {
-            let first = a % b;
-            let second = c % d;
+            let first = remainder(a, b);
+            let second = remainder(c, d);
             if first == 0 || second == 0 {
                 first.cmp(&second)
             } else {

@@ -6,7 +6,7 @@ ghost use Rattle.wi_fraction.specs.Rounding.{floored, rounded, round_to, times_t
 ghost use Rattle.wi_fraction.specs.Whole.{rounded_size};
 
 use crate::arithmetic::multiplied;
-use crate::lowest_terms::signed;
+use crate::lowest_terms::{integer, signed};
 use crate::{Fraction, FractionError};
 
 /// Which whole number a number is rounded to.
@@ -90,10 +90,7 @@ fn whole(negative: bool, size: u128) -> Fraction
     ensures numerator { result.num ≡ signed negative size }
     ensures denominator { result.den ≡ 1 }
 {
-    Fraction {
-        numerator: signed(negative, size),
-        denominator: 1,
-    }
+    integer(signed(negative, size))
 }
 
 /// The whole number for the size n/d.

@@ -1,0 +1,23 @@
+use Rattle.std.proofs.Common.{rules, ◌∙◌, FitsSigned}
+use Rattle.std.specs.Int.{w128}
+use Rattle.std.proofs.lemmas.Int.{to_z-of_z}
+use Rattle.wi_fraction.proofs.Steps.{multiple_pos, sum_from_steps, signed-abs}
+use Rattle.wi_fraction.proofs.Fraction.unlike_sum.Goals as goal
+
+pub reduced-requires : goal.reduced-requires
+reduced-requires c = multiple_pos _ _ _ _ c.gcd.ensures.value c.self.inside.is_number.above_zero c.other.inside.is_number.above_zero (rw c.divide.ensures at c.in_ok-multiple.ensures)
+
+pub returns : goal.returns
+returns c =
+    let fits1 : FitsSigned w128 c.self.inside.numerator = search rules in
+    let fits2 : FitsSigned w128 c.other.inside.numerator = search rules in
+    let fits3 : FitsSigned w128 c.in_ok-first.first = search rules in
+    let fits4 : FitsSigned w128 c.in_ok-second.second = search rules in
+    let fits5 : FitsSigned w128 c.in_ok-total.total = search rules in
+    rw (← c.self.view_is, ← c.other.view_is)
+    (sum_from_steps _ _ c.in_ok-multiple.multiple c.in_ok-first.first c.in_ok-second.second c.in_ok-total.total _
+    (rw (c.divide.ensures, c.gcd.ensures.value) at c.in_ok-multiple.ensures)
+    (simp to_z-of_z at (rw c.divide-2.ensures at c.in_ok-first.ensures))
+    (simp to_z-of_z at (rw c.divide-3.ensures at c.in_ok-second.ensures))
+    (simp to_z-of_z at c.in_ok-total.ensures)
+    (c.reduced.ensures ∙ rw c.unsigned_abs.ensures.value (simp (to_z-of_z, signed-abs))))

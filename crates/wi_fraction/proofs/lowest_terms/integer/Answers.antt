@@ -1,0 +1,10 @@
+use Rattle.std.proofs.Common.{rules, FitsSigned}
+use Rattle.std.specs.Int.{w128}
+use Rattle.std.proofs.lemmas.Int.{to_z-of_z}
+use Rattle.wi_fraction.specs.Rounding.Laws.{whole_is}
+use Rattle.wi_fraction.proofs.lowest_terms.integer.Goals as goal
+
+pub invariant_of-result : goal.invariant_of-result
+invariant_of-result c =
+    let fits : FitsSigned w128 c.args.n = search rules in
+    (simp to_z-of_z (whole_is c.args.n c.requires), tt)
