@@ -187,6 +187,13 @@ fn a_list_of_formulas(rt: HostRuntime) -> Result<(), Fail> {
     Ok(())
 }
 
+#[test]
+fn a_list_of_all_formulas(rt: HostRuntime) -> Result<(), Fail> {
+    let found = with_formulas(rt.alloc())?.formulas()?;
+    assert_eq!(rt; (found.len(), found.last()), (8, Some(&Address::at(3, 0))));
+    Ok(())
+}
+
 /// The next occupied cell of a rectangle from a cell on, or a dash.
 fn next(alloc: Global, store: &Store, area: &str, from: &str) -> Result<String, Fail> {
     let mut text = String::new(alloc);

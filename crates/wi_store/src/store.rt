@@ -119,6 +119,13 @@ impl Store {
         Ok(())
     }
 
+    /// The cells that have a formula, in row-major order. The work grows with the count of occupied cells.
+    pub fn formulas(&self) -> Result<Vec<Address>, AllocError>
+        ensures { IfOk result (λ found. found.items ≡ cells_with_formula self.now.sheet) }
+    {
+        formula_cells(self.alloc, &self.rooms)
+    }
+
     /// The cells of a rectangle that have a formula, in row-major order. The work is that of `push_formulas_within`.
     pub fn formulas_in(&self, area: Rect) -> Result<Vec<Address>, AllocError>
         ensures { IfOk result (λ found. found.items ≡ filter (is_within area) (cells_with_formula self.now.sheet)) }
@@ -154,6 +161,19 @@ impl Store {
     {
         next_room(&self.rooms, area, from)
     }
+}
+
+// The cells of the rooms that have a formula.
+fn formula_cells(alloc: Global, rooms: &Rooms) -> Result<Vec<Address>, AllocError>
+    ensures { IfOk result (λ found. found.items ≡ formula_rooms rooms.now.entries) }
+{
+    let mut found = Vec::new(alloc);
+    for (cell, room) in rooms {
+        if is_formula(room) {
+            found.push(*cell)?;
+        }
+    }
+    Ok(found)
 }
 
 // Appends the cells of a rectangle that have a formula. On an error some of them may be there.
