@@ -1,18 +1,23 @@
 //! What a calculator promises: values, and how much recalculation they take.
 
-ghost use Rattle.std.specs.Prelude.{◌≡◌, ◌+◌, ◌≤◌, ℕ, length, sum_by, IfOk};
+ghost use Rattle.std.specs.Prelude.{◌≡◌, ◌+◌, ◌≤◌, ℕ, Bool, false, nat_le, List, filter, length, sum_by, IfOk};
 ghost use Rattle.std.specs.Option.{option_copied};
+ghost use Rattle.std.specs.List.{find};
+ghost use Rattle.std.specs.Map.{keys_of};
+ghost use Rattle.wi_values.specs.Address.{is_within};
 ghost use Rattle.wi_values.specs.Replacements.{IsInOrder};
-ghost use Rattle.wi_parser.specs.Sheet.{content_of};
+ghost use Rattle.wi_parser.specs.Sheet.{Sheet, content_of};
 ghost use Rattle.wi_store.specs.Store.{Stored, applied, Applies};
+ghost use Rattle.wi_graph.specs.Reach.{is_one_of};
 ghost use Rattle.wi_sheet.specs.Shown as show;
 ghost use Rattle.wi_sheet.specs.Demand.{demanded, wants};
 ghost use Rattle.wi_sheet.specs.TableEntry.{table_entry, entry_demanded};
+ghost use Rattle.wi_sheet.specs.Unmoved.{IsUnmoved};
 
 use std::alloc::AllocError;
 use wi_parser::Content;
 use wi_store::StoreFault;
-use wi_values::{Address, Replacement, Value};
+use wi_values::{Address, Rect, Replacement, Value};
 
 /// A sheet that tells what its cells show. Its meaning is the plain sheet, its limits and its count of edits.
 pub trait Calculator {
@@ -25,9 +30,17 @@ pub trait Calculator {
     /// The count of evaluations begun again that it tells.
     ghost restarted: { Self → ℕ };
 
+    /// Which cells it marks where these cells of a sheet change.
+    ghost marked: { Sheet → List ℕ → ℕ → Bool };
+
     /// What stands in a cell.
     fn content(&self, at: Address) -> Option<&Content>
         ensures { option_copied result ≡ content_of (stored self.now).sheet at };
+
+    /// The first occupied cell of a rectangle, in row-major order, at a cell or after it.
+    fn next_occupied(&self, area: Rect, from: Address) -> Option<Address>
+        ensures { let occupied = keys_of (stored self.now).sheet in
+            result ≡ find (λ a. nat_le from a) (filter (is_within area) occupied) };
 
     /// One edit: puts contents in or takes them away, one after another, or refuses and leaves all as it was.
     fn apply(&mut self, changes: Vec<(Address, Option<Content>)>) -> Result<(), StoreFault>
@@ -71,6 +84,14 @@ pub trait Calculator {
             restarted self.new ≤ restarted self.old + sum_by (wants sheet) cases }
         ensures evaluations_never_fall { evaluated self.old ≤ evaluated self.new }
         ensures restarts_never_fall { restarted self.old ≤ restarted self.new };
+
+    /// Cells among which is each that can show another value, under whatever replacements, where the contents of these cells
+    /// change or the replacements of them. Some may be told twice.
+    fn mark(&self, cells: &[Address]) -> Result<Vec<Address>, AllocError>
+        ensures marked { let sheet = (stored self.now).sheet in
+            IfOk result (λ found. (c : ℕ) → is_one_of found.items c ≡ marked sheet cells.now c) }
+        ensures unmoved { let sheet = (stored self.now).sheet in
+            IfOk result (λ found. (c : ℕ) → is_one_of found.items c ≡ false → IsUnmoved sheet cells.now c) };
 
     fn evaluations(&self) -> u64
         ensures { result ≡ evaluated self.now };

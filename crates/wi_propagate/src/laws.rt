@@ -2,7 +2,7 @@
 
 ghost use Rattle.wi_sheet.specs.Laws.{BoundIsNeverFelt, ValueByStep, CircularIsAbove, CircularReadsCircular, PutsMakeNoCycle};
 ghost use Rattle.wi_sheet.specs.Locality.{RestsOnReach, OthersDoNotCount, SameForReached, ReachingSuffices, WhatIfIsOneList, OrderStays, RestsStay};
-ghost use Rattle.wi_sheet.specs.Locality.{ConeStays, OutsideStays, OutsideStaysUnderPuts, UnmarkedStays, ReachIsDecided, ConeIsDecided, ReachStays};
+ghost use Rattle.wi_sheet.specs.Locality.{ConeStays, OutsideStays, OutsideStaysUnderPuts, OutsideIsUnmoved, ReachIsDecided, ConeIsDecided, ReachStays};
 ghost use Rattle.wi_sheet.specs.DemandLaws.{DemandByStep, DemandUnderReplacements, CircularDemandsNothing, PlainDemandsNothing};
 
 /// How a cell's value follows from those of the cells that its formula reads.
@@ -41,7 +41,7 @@ pub fn edit_is_local()
     ensures outside { OutsideStays }
     ensures reach { ReachStays }
     ensures puts { OutsideStaysUnderPuts }
-    ensures unmarked { UnmarkedStays }
+    ensures unmoved { OutsideIsUnmoved }
 {}
 
 /// Whether a cell reaches another, or is in a cone, is told by a test.

@@ -9,7 +9,7 @@ use std::alloc::{AllocError, Global};
 use wi_functions::Meter;
 use wi_parser::Content;
 use wi_store::{Limits, Store, StoreFault};
-use wi_values::{Address, Replacement, Value};
+use wi_values::{Address, Rect, Replacement, Value};
 
 /// A calculator that keeps nothing it has calculated: each value is found from the contents alone.
 #[derive(Drop)]
@@ -36,7 +36,7 @@ impl PlainCalculator {
 }
 
 impl Calculator for PlainCalculator {
-    ghost use Rattle.wi_propagate.specs.Inner.Plain.{stored_of, counts_of};
+    ghost use Rattle.wi_propagate.specs.Inner.Plain.{stored_of, counts_of, has_formula_or_is_one_of};
 
     ghost stored = { stored_of };
 
@@ -44,8 +44,14 @@ impl Calculator for PlainCalculator {
 
     ghost restarted = { λ c. (counts_of c).restarts };
 
+    ghost marked = { has_formula_or_is_one_of };
+
     fn content(&self, at: Address) -> Option<&Content> {
         self.store.get(at)
+    }
+
+    fn next_occupied(&self, area: Rect, from: Address) -> Option<Address> {
+        self.store.next_occupied(area, from)
     }
 
     fn apply(&mut self, changes: Vec<(Address, Option<Content>)>) -> Result<(), StoreFault> {
@@ -76,6 +82,13 @@ impl Calculator for PlainCalculator {
             pairs,
             &mut self.meter,
         )
+    }
+
+    /// All cells with a formula, in row-major order, and then these.
+    fn mark(&self, cells: &[Address]) -> Result<Vec<Address>, AllocError> {
+        let mut marked = self.store.formulas()?;
+        marked.extend_from_slice(cells)?;
+        Ok(marked)
     }
 
     fn evaluations(&self) -> u64 {

@@ -5,10 +5,12 @@ use Rattle.wi_values.specs.declared.value.Value.{Value}
 use Rattle.wi_values.specs.declared.replacement.Replacement.{Replacement}
 use Rattle.wi_values.specs.Replacements.{last_for}
 use Rattle.wi_parser.specs.Sheet.{Sheet, content_of, put_all}
-use Rattle.wi_graph.specs.Reach.{is_one_of, IsInCone, SameOff, reaches}
+use Rattle.wi_graph.specs.Reach.{is_one_of, IsInCone, SameOff, reaches, in_cone}
+use Rattle.wi_graph.proofs.ReachTest.{not_in_cone}
 use Rattle.wi_graph.proofs.Cones.{cone_stays, agree_outside, outside_reaches}
 use Rattle.wi_sheet.specs.CellValue.{cell_value}
 use Rattle.wi_sheet.specs.Shown.{shown}
+use Rattle.wi_sheet.specs.Unmoved.{SayTheSameOff, IsUnmoved}
 use Rattle.wi_sheet.specs.Demand.{reaching}
 use Rattle.wi_sheet.proofs.Puts.{overlaid, content_of-put_all}
 use Rattle.wi_sheet.proofs.Last.{over, content_by_last}
@@ -41,13 +43,13 @@ outside_reaching s t xs c w same out = filter_alike (reaches s c) (reaches t c) 
 
 -- ---- two edits of the same cells, under replacements that agree in all others
 
-same_off_with : (s t : Sheet) (xs : List ℕ) (p q : List Replacement) → SameOff s t xs → ((d : ℕ) → is_one_of xs d ≡ false → last_for p d ≡ last_for q d) → SameOff (put_all s p) (put_all t q) xs
+same_off_with : (s t : Sheet) (xs : List ℕ) (p q : List Replacement) → SameOff s t xs → SayTheSameOff p q xs → SameOff (put_all s p) (put_all t q) xs
 same_off_with s t xs p q same puts d m =
     content_by_last s p d ∙ ap (over (last_for p d)) (same d m)
     ∙ ap (λ (v : Option Value). over v (content_of t d)) (puts d m) ∙ sym (content_by_last t q d)
 
-pub unmarked : (s t u : Sheet) (xs : List ℕ) (p q : List Replacement) (c : ℕ) → SameOff s t xs → SameOff s u xs → ((d : ℕ) → is_one_of xs d ≡ false → last_for p d ≡ last_for q d) →
-    (IsInCone s xs c → ⊥) → shown t p c ≡ shown u q c
-unmarked s t u xs p q c a b puts out =
+-- a cell outside the cone is unmoved
+pub outside_unmoved : (s : Sheet) (xs : List ℕ) (c : ℕ) → in_cone s xs c ≡ false → IsUnmoved s xs c
+outside_unmoved s xs c out t u p q a b puts =
     let same : SameOff t u xs = λ d m. sym (a d m) ∙ b d m in
-    outside_shown t u xs p q c same (same_off_with t u xs p q same puts) (λ i. out ((cone_stays s t xs c a).1 i))
+    outside_shown t u xs p q c same (same_off_with t u xs p q same puts) (λ i. not_in_cone s xs c out ((cone_stays s t xs c a).1 i))

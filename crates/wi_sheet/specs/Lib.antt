@@ -3,6 +3,7 @@ pub mod Shown
 pub mod Demand
 pub mod TableEntry
 pub mod Laws
+pub mod Unmoved
 pub mod Locality
 pub mod DemandLaws
 pub mod Inner

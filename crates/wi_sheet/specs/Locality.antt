@@ -6,9 +6,10 @@ use Rattle.wi_parser.specs.Tree.{Tree}
 use Rattle.wi_parser.specs.declared.content.Content.TheVariants.{Formula}
 use Rattle.wi_parser.specs.Sheet.{Sheet, content_of, put_all}
 use Rattle.wi_graph.specs.Circular.{circular}
-use Rattle.wi_graph.specs.Reach.{Reaches, AgreeFrom, is_one_of, IsInCone, SameOff, reaches, in_cone}
+use Rattle.wi_graph.specs.Reach.{Reaches, AgreeFrom, IsInCone, SameOff, reaches, in_cone}
 use Rattle.wi_sheet.specs.CellValue.{cell_value, what_if_value}
 use Rattle.wi_sheet.specs.Shown.{shown}
+use Rattle.wi_sheet.specs.Unmoved.{IsUnmoved}
 use Rattle.wi_sheet.specs.Demand.{reaching, with_what_if, rests_on}
 
 -- ---- values
@@ -67,11 +68,9 @@ abbrev pub OutsideStaysUnderPuts : Type 0
 OutsideStaysUnderPuts = (s t : Sheet) (edited : List ℕ) (p q : List Replacement) (c : ℕ) → SameOff s t edited →
     SameOff (put_all s p) (put_all t q) edited → (IsInCone s edited c → ⊥) → shown s p c ≡ shown t q c
 
--- A cell outside the cone of a list shows one value in all sheets that are s but for the list, under all replacements that
--- are the same but for the list.
-abbrev pub UnmarkedStays : Type 0
-UnmarkedStays = (s t u : Sheet) (edited : List ℕ) (p q : List Replacement) (c : ℕ) → SameOff s t edited → SameOff s u edited →
-    ((d : ℕ) → is_one_of edited d ≡ false → last_for p d ≡ last_for q d) → in_cone s edited c ≡ false → shown t p c ≡ shown u q c
+-- a cell outside it shows one value whatever stands in the edited cells, and whatever they are replaced by
+abbrev pub OutsideIsUnmoved : Type 0
+OutsideIsUnmoved = (s : Sheet) (edited : List ℕ) (c : ℕ) → in_cone s edited c ≡ false → IsUnmoved s edited c
 
 -- ---- tests
 

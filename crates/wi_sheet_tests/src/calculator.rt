@@ -7,7 +7,7 @@ use std::test::Fail;
 use wi_parser::Content;
 use wi_propagate::{Calculator, PlainCalculator};
 use wi_store::Limits;
-use wi_values::{Address, Value};
+use wi_values::{Address, Rect, Value};
 
 // A calculator whose cells have these contents, put in by one edit.
 fn sheet(alloc: Global, cells: &[(&str, &str)]) -> Result<PlainCalculator, Fail> {
@@ -192,6 +192,30 @@ fn cells_with_no_content(rt: HostRuntime) -> Result<(), Fail> {
     assert_eq!(rt; calculator.value(&[], Address::at(0, 3))?, Value::Empty);
     assert!(rt; calculator.content(Address::at(0, 2)).is_some());
     assert!(rt; calculator.content(Address::at(0, 3)).is_none());
+    Ok(())
+}
+
+// All cells with a formula, and the given one.
+#[test]
+fn marked_cells(rt: HostRuntime) -> Result<(), Fail> {
+    let cells = [("B1", "10"), ("B2", "=[.B1]*3"), ("C1", "=1")];
+    let marked = sheet(rt.alloc(), &cells)?.mark(&[Address::at(0, 1)])?;
+    let wanted = [Address::at(0, 2), Address::at(1, 1), Address::at(0, 1)];
+    assert_eq!(rt; marked.as_slice(), wanted.as_slice());
+    Ok(())
+}
+
+#[test]
+fn occupied_cells(rt: HostRuntime) -> Result<(), Fail> {
+    let calculator = sheet(rt.alloc(), &[("B1", "10"), ("B2", "=[.B1]*3")])?;
+    let area = Rect::read(b"A1:C3")?;
+    let (first, second) = (Address::at(0, 1), Address::at(1, 1));
+    assert_eq!(rt; calculator.next_occupied(area, first), Some(first));
+    assert_eq!(rt;
+        calculator.next_occupied(area, Address::at(0, 2)),
+        Some(second)
+    );
+    assert_eq!(rt; calculator.next_occupied(area, Address::at(1, 2)), None);
     Ok(())
 }
 

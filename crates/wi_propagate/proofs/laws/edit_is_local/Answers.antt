@@ -1,6 +1,5 @@
 use Rattle.wi_graph.proofs.Cones.{cone_stays, outside_content, outside_circular, outside_reaches}
-use Rattle.wi_graph.proofs.ReachTest.{not_in_cone}
-use Rattle.wi_sheet.proofs.Cones.{outside_shown_same, outside_shown, unmarked}
+use Rattle.wi_sheet.proofs.Cones.{outside_shown_same, outside_shown, outside_unmoved}
 use Rattle.wi_propagate.proofs.laws.edit_is_local.Goals as goal
 
 pub returns-clause-cone : goal.returns-clause-cone
@@ -15,5 +14,5 @@ returns-clause-reach c = outside_reaches
 pub returns-clause-puts : goal.returns-clause-puts
 returns-clause-puts c = outside_shown
 
-pub returns-clause-unmarked : goal.returns-clause-unmarked
-returns-clause-unmarked c = λ s t u edited p q a st su puts out. unmarked s t u edited p q a st su puts (not_in_cone s edited a out)
+pub returns-clause-unmoved : goal.returns-clause-unmoved
+returns-clause-unmoved c = outside_unmoved
