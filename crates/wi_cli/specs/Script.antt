@@ -9,7 +9,7 @@ use Rattle.wi_scenarios.specs.declared.refusal.Refusal.TheVariants.{BadCommand, 
 use Rattle.wi_scenarios.specs.Answer.{operand_refusal}
 use Rattle.wi_scenarios.specs.Step.{Command, Set, Show, Formula, Refused}
 use Rattle.wi_cli.specs.Lines.{raw_lines, without_lf, without_cr, is_whole}
-use Rattle.wi_cli.specs.Words.{first_word, after_word, is_blank}
+use Rattle.wi_cli.specs.Words.{first_word, after_word, is_all_spaces}
 
 -- ---- one command each
 
@@ -30,7 +30,7 @@ show_in (Err fault) = Refused (operand_refusal fault)
 -- `show RECT`
 abbrev pub show_command : List ℕ → Command
 show_command operands =
-    if is_blank (after_word operands) then show_in (read_rect (first_word operands))
+    if is_all_spaces (after_word operands) then show_in (read_rect (first_word operands))
     else Refused BadCommand
 
 abbrev pub formula_at : Result ℕ AddressFault → Command
@@ -40,7 +40,7 @@ formula_at (Err fault) = Refused (operand_refusal fault)
 -- `formula ADDR`
 abbrev pub formula_command : List ℕ → Command
 formula_command operands =
-    if is_blank (after_word operands) then formula_at (read_address (first_word operands))
+    if is_all_spaces (after_word operands) then formula_at (read_address (first_word operands))
     else Refused BadCommand
 
 -- the command with this name and these operands
@@ -67,7 +67,7 @@ is_comment (b ∷ bs) = b == byte "#"
 
 -- the command of a text that is a good line, or nothing where it is passed over
 abbrev pub text_command : List ℕ → Option Command
-text_command text = if is_blank text || is_comment text then None else Some (spelled_command text)
+text_command text = if is_all_spaces text || is_comment text then None else Some (spelled_command text)
 
 -- The command of a line without its LF. It is refused where it is too long, a CR counted, or not UTF-8, also where it
 -- would be passed over.

@@ -19,5 +19,5 @@ abbrev pub after_word : List ℕ → List ℕ
 after_word text = after_first is_space (skip_spaces text)
 
 -- no word is there
-abbrev pub is_blank : List ℕ → Bool
-is_blank text = list_all is_space text
+abbrev pub is_all_spaces : List ℕ → Bool
+is_all_spaces text = list_all is_space text

@@ -6,7 +6,7 @@ ghost use Rattle.wi_cli.specs.Script.{is_comment, set_command, show_command, for
 ghost use Rattle.wi_cli.specs.Inner.Spelling.{IsCommandOf, IsLineOf};
 
 use crate::lines::MAX_LINE;
-use crate::words::{is_blank, split_word};
+use crate::words::{is_all_spaces, split_word};
 use wi_scenarios::Refusal;
 use wi_values::{Address, Rect};
 
@@ -35,7 +35,7 @@ fn read_show(operands: &str) -> Result<Command<'_>, Refusal>
     ensures { IsCommandOf (show_command operands.now) result }
 {
     let (area, more) = split_word(operands);
-    if !is_blank(more) {
+    if !is_all_spaces(more) {
         return Err(Refusal::BadCommand);
     }
     let area = Rect::read(area.as_bytes())?;
@@ -47,7 +47,7 @@ fn read_formula(operands: &str) -> Result<Command<'_>, Refusal>
     ensures { IsCommandOf (formula_command operands.now) result }
 {
     let (address, others) = split_word(operands);
-    if !is_blank(others) {
+    if !is_all_spaces(others) {
         return Err(Refusal::BadCommand);
     }
     let at = Address::read(address.as_bytes())?;
@@ -89,7 +89,7 @@ fn is_comment(text: &str) -> bool
 fn read_text(text: &str) -> Result<Option<Command<'_>>, Refusal>
     ensures { IsLineOf (text_command text.now) result }
 {
-    if is_blank(text) || is_comment(text) {
+    if is_all_spaces(text) || is_comment(text) {
         return Ok(None);
     }
     match read_command(text) {

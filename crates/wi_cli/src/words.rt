@@ -1,7 +1,7 @@
 //! The words of a line.
 
 ghost use Rattle.std.specs.Prelude.{◌≡◌};
-ghost use Rattle.wi_cli.specs.Words.{first_word, after_word, is_blank, skip_spaces};
+ghost use Rattle.wi_cli.specs.Words.{first_word, after_word, is_all_spaces, skip_spaces};
 
 /// The text without the spaces that it begins with.
 fn skip_spaces(text: &str) -> &str
@@ -23,8 +23,8 @@ pub fn split_word(text: &str) -> (&str, &str)
 }
 
 /// Whether no word is there.
-pub fn is_blank(text: &str) -> bool
-    ensures { result ≡ is_blank text.now }
+pub fn is_all_spaces(text: &str) -> bool
+    ensures { result ≡ is_all_spaces text.now }
 {
     text.bytes().all(|byte| byte == b' ')
 }
