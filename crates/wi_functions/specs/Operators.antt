@@ -22,37 +22,37 @@ abbrev pub number_value : Option numbers.Number → Value
 number_value (Some x) = Number x
 number_value None = Fault BadNumber
 
-abbrev pub added : numbers.Number → numbers.Number → Value
-added x y = number_value (sum_of x y)
+abbrev pub addition : numbers.Number → numbers.Number → Value
+addition x y = number_value (sum_of x y)
 
-abbrev pub subtracted : numbers.Number → numbers.Number → Value
-subtracted x y = number_value (sum_of x (negated y))
+abbrev pub subtraction : numbers.Number → numbers.Number → Value
+subtraction x y = number_value (sum_of x (negated y))
 
-abbrev pub multiplied : numbers.Number → numbers.Number → Value
-multiplied x y = number_value (product_of x y)
+abbrev pub multiplication : numbers.Number → numbers.Number → Value
+multiplication x y = number_value (product_of x y)
 
-abbrev pub divided : numbers.Number → numbers.Number → Value
-divided x y = if int_eq y.num (pos 0) then Fault DivisionByZero else number_value (quotient_of x y)
+abbrev pub division : numbers.Number → numbers.Number → Value
+division x y = if int_eq y.num (pos 0) then Fault DivisionByZero else number_value (quotient_of x y)
 
 -- the exponent is whole, and zero has no negative power
-abbrev pub raised : numbers.Number → numbers.Number → Value
-raised x y =
+abbrev pub exponentiation : numbers.Number → numbers.Number → Value
+exponentiation x y =
     if y.den == 1 then
     (if int_eq x.num (pos 0) && int_lt y.num (pos 0) then Fault DivisionByZero else number_value (power_of x y.num))
     else Fault BadNumber
 
 -- one text after the other, where that is not too long
-abbrev pub joined : List ℕ → List ℕ → Value
-joined s t = if nat_le (length (s ++ t)) max_text then Text (s ++ t) else Fault BadValue
+abbrev pub concatenation : List ℕ → List ℕ → Value
+concatenation s t = if nat_le (length (s ++ t)) max_text then Text (s ++ t) else Fault BadValue
 
 -- what an operator gives for its two operands
 abbrev pub operate : Operator → Value → Value → Value
-operate op.Add v w = on_both added (to_number v) (to_number w)
-operate op.Subtract v w = on_both subtracted (to_number v) (to_number w)
-operate op.Multiply v w = on_both multiplied (to_number v) (to_number w)
-operate op.Divide v w = on_both divided (to_number v) (to_number w)
-operate op.Power v w = on_both raised (to_number v) (to_number w)
-operate op.Join v w = on_both joined (to_text v) (to_text w)
+operate op.Add v w = on_both addition (to_number v) (to_number w)
+operate op.Subtract v w = on_both subtraction (to_number v) (to_number w)
+operate op.Multiply v w = on_both multiplication (to_number v) (to_number w)
+operate op.Divide v w = on_both division (to_number v) (to_number w)
+operate op.Power v w = on_both exponentiation (to_number v) (to_number w)
+operate op.Join v w = on_both concatenation (to_text v) (to_text w)
 operate op.Equal v w = compared is_eq v w
 operate op.NotEqual v w = compared is_ne v w
 operate op.Less v w = compared is_lt v w

@@ -7,7 +7,7 @@ ghost use Rattle.wi_functions.specs.Comparison.{beside, order, compared};
 ghost use Rattle.wi_functions.specs.Convert.{to_number, to_text};
 ghost use Rattle.wi_functions.specs.FirstError.{on_both};
 ghost use Rattle.wi_functions.specs.Inner.Fractions.{fraction_value, value_or_error};
-ghost use Rattle.wi_functions.specs.Operators.{operate, with_sign, hundredth, minus, added, subtracted, multiplied, divided, raised, joined};
+ghost use Rattle.wi_functions.specs.Operators.{operate, with_sign, hundredth, minus, addition, subtraction, multiplication, division, exponentiation, concatenation};
 
 use crate::comparison::compare;
 use crate::convert::{hundred, to_number};
@@ -61,35 +61,35 @@ pub(crate) fn hundredth(value: &Value) -> Value
 }
 
 fn add(left: &Value, right: &Value) -> Result<Value, ErrorKind>
-    ensures { value_or_error result ≡ on_both added (to_number left.now) (to_number right.now) }
+    ensures { value_or_error result ≡ on_both addition (to_number left.now) (to_number right.now) }
 {
     let (x, y) = both(to_number(left), to_number(right))?;
     Ok(fraction_value(x.checked_add(y)))
 }
 
 fn subtract(left: &Value, right: &Value) -> Result<Value, ErrorKind>
-    ensures { value_or_error result ≡ on_both subtracted (to_number left.now) (to_number right.now) }
+    ensures { value_or_error result ≡ on_both subtraction (to_number left.now) (to_number right.now) }
 {
     let (x, y) = both(to_number(left), to_number(right))?;
     Ok(fraction_value(x.checked_sub(y)))
 }
 
 fn multiply(left: &Value, right: &Value) -> Result<Value, ErrorKind>
-    ensures { value_or_error result ≡ on_both multiplied (to_number left.now) (to_number right.now) }
+    ensures { value_or_error result ≡ on_both multiplication (to_number left.now) (to_number right.now) }
 {
     let (x, y) = both(to_number(left), to_number(right))?;
     Ok(fraction_value(x.checked_mul(y)))
 }
 
 fn divide(left: &Value, right: &Value) -> Result<Value, ErrorKind>
-    ensures { value_or_error result ≡ on_both divided (to_number left.now) (to_number right.now) }
+    ensures { value_or_error result ≡ on_both division (to_number left.now) (to_number right.now) }
 {
     let (dividend, divisor) = both(to_number(left), to_number(right))?;
     Ok(fraction_value(dividend.checked_div(divisor)))
 }
 
 fn raise(left: &Value, right: &Value) -> Result<Value, ErrorKind>
-    ensures { value_or_error result ≡ on_both raised (to_number left.now) (to_number right.now) }
+    ensures { value_or_error result ≡ on_both exponentiation (to_number left.now) (to_number right.now) }
 {
     let (base, exponent) = both(to_number(left), to_number(right))?;
     Ok(power(base, exponent))
@@ -97,7 +97,7 @@ fn raise(left: &Value, right: &Value) -> Result<Value, ErrorKind>
 
 /// The power of a number, whose exponent is whole.
 fn power(x: Fraction, y: Fraction) -> Value
-    ensures { result ≡ raised x y }
+    ensures { result ≡ exponentiation x y }
 {
     if y.denominator() == 1 {
         fraction_value(x.checked_pow(y.numerator()))
@@ -118,7 +118,7 @@ fn minus(number: Result<Fraction, ErrorKind>) -> Value
 
 /// Two values joined as texts.
 fn join(alloc: Global, left: &Value, right: &Value) -> Result<Value, AllocError>
-    ensures { IfOk result (λ v. v ≡ on_both joined (to_text left.now) (to_text right.now)) }
+    ensures { IfOk result (λ v. v ≡ on_both concatenation (to_text left.now) (to_text right.now)) }
 {
     match both(no_error(left), no_error(right)) {
         Ok(_) => join_shown(alloc, left, right),
@@ -128,7 +128,7 @@ fn join(alloc: Global, left: &Value, right: &Value) -> Result<Value, AllocError>
 
 /// The shown texts of two values, one after the other.
 fn join_shown(alloc: Global, left: &Value, right: &Value) -> Result<Value, AllocError>
-    ensures { IfOk result (λ v. v ≡ joined (shown_text left.now) (shown_text right.now)) }
+    ensures { IfOk result (λ v. v ≡ concatenation (shown_text left.now) (shown_text right.now)) }
 {
     let mut text = String::new(alloc);
     left.push_shown(&mut text)?;
