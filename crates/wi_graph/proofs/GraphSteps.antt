@@ -11,8 +11,8 @@ use Rattle.wi_parser.specs.declared.content.Content.TheVariants.{Constant, Formu
 use Rattle.wi_parser.specs.Sheet.{Sheet, content_of, has_formula}
 use Rattle.wi_parser.specs.Reads.{content_reads}
 use Rattle.wi_parser.proofs.Rectangles.{reads_within}
-use Rattle.wi_ranges.specs.declared.pair.Pair.{Pair}
-use Rattle.wi_ranges.specs.Bag.{Bag, IsReader, pair_of, area_of, is_same}
+use Rattle.wi_ranges.specs.declared.pair.RangePair.{RangePair}
+use Rattle.wi_ranges.specs.Bag.{Bag, IsReader, pair_for, pair_area, is_same}
 use Rattle.wi_ranges.proofs.Exact.{same_is, same_self}
 use Rattle.wi_graph.specs.Circular.{has_walk, circular}
 use Rattle.wi_graph.specs.Edges.{areas_in, AreEdgesOf}
@@ -60,23 +60,23 @@ graph_circular rooms readers circles g s e c =
 
 -- ---- who reads a cell
 
-times_reads : (k : ℕ) (rs : List Area) (p : Pair) (d : ℕ) → 0 < times k rs p → is_within (area_of p) d ≡ true → list_any (λ r. is_within r d) rs ≡ true
+times_reads : (k : ℕ) (rs : List Area) (p : RangePair) (d : ℕ) → 0 < times k rs p → is_within (pair_area p) d ≡ true → list_any (λ r. is_within r d) rs ≡ true
 times_reads k [] p d h w = absurd (omega arith)
-times_reads k (r ∷ rs) p d h w = at (is_same (pair_of r k) p) refl h (times_reads k rs p d)
+times_reads k (r ∷ rs) p d h w = at (is_same (pair_for r k) p) refl h (times_reads k rs p d)
   where
-    at : (b : Bool) → is_same (pair_of r k) p ≡ b → 0 < cond b 1 0 + times k rs p → (0 < times k rs p → is_within (area_of p) d ≡ true → list_any (λ r. is_within r d) rs ≡ true) → (is_within r d || list_any (λ r. is_within r d) rs) ≡ true
-    at true e l ih = or_left (is_within r d) _ (ap (λ (q : Pair). is_within (area_of q) d) (same_is (pair_of r k) p e) ∙ w)
+    at : (b : Bool) → is_same (pair_for r k) p ≡ b → 0 < cond b 1 0 + times k rs p → (0 < times k rs p → is_within (pair_area p) d ≡ true → list_any (λ r. is_within r d) rs ≡ true) → (is_within r d || list_any (λ r. is_within r d) rs) ≡ true
+    at true e l ih = or_left (is_within r d) _ (ap (λ (q : RangePair). is_within (pair_area q) d) (same_is (pair_for r k) p e) ∙ w)
     at false e l ih = or_right (is_within r d) _ (ih (omega (arith, l)) w)
 
 -- a rectangle of the list that has the cell
-reads_times : (k : ℕ) (rs : List Area) (d : ℕ) → list_any (λ r. is_within r d) rs ≡ true → (r : Area) × (0 < times k rs (pair_of r k)) × (is_within r d ≡ true)
+reads_times : (k : ℕ) (rs : List Area) (d : ℕ) → list_any (λ r. is_within r d) rs ≡ true → (r : Area) × (0 < times k rs (pair_for r k)) × (is_within r d ≡ true)
 reads_times k [] d h = cc
 reads_times k (r ∷ rs) d h = at (or_cases (is_within r d) _ h) (reads_times k rs d)
   where
-    here : 0 < cond (is_same (pair_of r k) (pair_of r k)) 1 0 + times k rs (pair_of r k)
-    here = let e : cond {A = ℕ} (is_same (pair_of r k) (pair_of r k)) 1 0 ≡ 1 = ap {B = ℕ} (λ (b : Bool). cond b 1 0) (same_self (pair_of r k)) in omega (arith, e)
+    here : 0 < cond (is_same (pair_for r k) (pair_for r k)) 1 0 + times k rs (pair_for r k)
+    here = let e : cond {A = ℕ} (is_same (pair_for r k) (pair_for r k)) 1 0 ≡ 1 = ap {B = ℕ} (λ (b : Bool). cond b 1 0) (same_self (pair_for r k)) in omega (arith, e)
 
-    at : (is_within r d ≡ true) ⊎ (list_any (λ r. is_within r d) rs ≡ true) → (list_any (λ r. is_within r d) rs ≡ true → (q : Area) × (0 < times k rs (pair_of q k)) × (is_within q d ≡ true)) → (q : Area) × (0 < times k (r ∷ rs) (pair_of q k)) × (is_within q d ≡ true)
+    at : (is_within r d ≡ true) ⊎ (list_any (λ r. is_within r d) rs ≡ true) → (list_any (λ r. is_within r d) rs ≡ true → (q : Area) × (0 < times k rs (pair_for q k)) × (is_within q d ≡ true)) → (q : Area) × (0 < times k (r ∷ rs) (pair_for q k)) × (is_within q d ≡ true)
     at (inl w) ih = (r, here, w)
     at (inr w) ih = let i = ih w in (i.0, omega (arith, i.1), i.2)
 
@@ -89,7 +89,7 @@ graph_readers rooms readers o h s e a r = (there, back)
     there : content_reads (content_of s r) a ≡ true → IsReader readers a r
     there k =
         let f = reads_times r (areas_of (room_at rooms r)) a (sym here ∙ k) in
-        (pair_of f.0 r, refl, subst (λ (n : ℕ). 0 < n) (sym (h (pair_of f.0 r))) f.1, f.2)
+        (pair_for f.0 r, refl, subst (λ (n : ℕ). 0 < n) (sym (h (pair_for f.0 r))) f.1, f.2)
 
     back : IsReader readers a r → content_reads (content_of s r) a ≡ true
     back i =

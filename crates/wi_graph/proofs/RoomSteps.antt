@@ -7,8 +7,8 @@ use Rattle.std.specs.Map.{lookup}
 use Rattle.std.specs.Global.{Vec}
 use Rattle.std.specs.BTreeMap.{get, IsOrdered, is_at}
 use Rattle.wi_values.specs.Address.{Area}
-use Rattle.wi_ranges.specs.declared.pair.Pair.{Pair}
-use Rattle.wi_ranges.specs.Bag.{Bag, pair_of, is_same, count_of, HasOneLess}
+use Rattle.wi_ranges.specs.declared.pair.RangePair.{RangePair}
+use Rattle.wi_ranges.specs.Bag.{Bag, pair_for, is_same, count_of, HasOneLess}
 use Rattle.wi_ranges.proofs.Exact.{same_is}
 use Rattle.wi_graph.specs.Inner.Rooms.{Rooms, items_of, in_room, room_at, put_over, room_over, areas_of, times, times_in, HasRooms, HasPairs, HasBoth}
 use Rattle.wi_graph.proofs.Tests.{is_at-eq, is_itself}
@@ -16,25 +16,25 @@ use Rattle.wi_graph.proofs.Walks.{same_cell}
 
 -- ---- how often
 
-pub times_other : (k : ℕ) (rs : List Area) (p : Pair) → (k == p.reader) ≡ false → times k rs p ≡ 0
+pub times_other : (k : ℕ) (rs : List Area) (p : RangePair) → (k == p.reader) ≡ false → times k rs p ≡ 0
 times_other k [] p n = refl
-times_other k (r ∷ rs) p n = at (is_same (pair_of r k) p) refl (times_other k rs p n)
+times_other k (r ∷ rs) p n = at (is_same (pair_for r k) p) refl (times_other k rs p n)
   where
-    at : (b : Bool) → is_same (pair_of r k) p ≡ b → times k rs p ≡ 0 → cond b 1 0 + times k rs p ≡ 0
-    at true e ih = let z = ap (λ (q : Pair). k == q.reader) (same_is (pair_of r k) p e) in let y = is_itself k in cc
+    at : (b : Bool) → is_same (pair_for r k) p ≡ b → times k rs p ≡ 0 → cond b 1 0 + times k rs p ≡ 0
+    at true e ih = let z = ap (λ (q : RangePair). k == q.reader) (same_is (pair_for r k) p e) in let y = is_itself k in cc
     at false e ih = omega (arith, ih)
 
-pub times_more : (k : ℕ) (rs : List Area) (i : ℕ) (r : Area) (p : Pair) → i < length rs → r ≡ get_or rs i r → times k (take (i + 1) rs) p ≡ times k (take i rs) p + cond (is_same (pair_of r k) p) 1 0
+pub times_more : (k : ℕ) (rs : List Area) (i : ℕ) (r : Area) (p : RangePair) → i < length rs → r ≡ get_or rs i r → times k (take (i + 1) rs) p ≡ times k (take i rs) p + cond (is_same (pair_for r k) p) 1 0
 times_more k rs i r p h e = ap (λ (n : ℕ). times k (take n rs) p) (add-one i) ∙ at rs i h e
   where
-    at : (xs : List Area) (j : ℕ) → j < length xs → r ≡ get_or xs j r → times k (take (suc j) xs) p ≡ times k (take j xs) p + cond (is_same (pair_of r k) p) 1 0
+    at : (xs : List Area) (j : ℕ) → j < length xs → r ≡ get_or xs j r → times k (take (suc j) xs) p ≡ times k (take j xs) p + cond (is_same (pair_for r k) p) 1 0
     at [] j l f = absurd (omega arith)
-    at (x ∷ xs) zero l f = let z : cond {A = ℕ} (is_same (pair_of r k) p) 1 0 ≡ cond (is_same (pair_of x k) p) 1 0 = ap {B = ℕ} (λ (y : Area). cond (is_same (pair_of y k) p) 1 0) f in omega (arith, z)
+    at (x ∷ xs) zero l f = let z : cond {A = ℕ} (is_same (pair_for r k) p) 1 0 ≡ cond (is_same (pair_for x k) p) 1 0 = ap {B = ℕ} (λ (y : Area). cond (is_same (pair_for y k) p) 1 0) f in omega (arith, z)
     at (x ∷ xs) (suc j) l f = let ih = at xs j (omega arith) f in omega (arith, ih)
 
-pub less_more : (k : ℕ) (rs : List Area) (i : ℕ) (r : Area) (first old new : Bag) → i < length rs → r ≡ get_or rs i r → HasOneLess (pair_of r k) old new → ((p : Pair) → count_of old p ≡ count_of first p - times k (take i rs) p) →
-    (p : Pair) → count_of new p ≡ count_of first p - times k (take (i + 1) rs) p
-less_more k rs i r first old new h e l u p = at (is_same (pair_of r k) p) (l p) (times_more k rs i r p h e)
+pub less_more : (k : ℕ) (rs : List Area) (i : ℕ) (r : Area) (first old new : Bag) → i < length rs → r ≡ get_or rs i r → HasOneLess (pair_for r k) old new → ((p : RangePair) → count_of old p ≡ count_of first p - times k (take i rs) p) →
+    (p : RangePair) → count_of new p ≡ count_of first p - times k (take (i + 1) rs) p
+less_more k rs i r first old new h e l u p = at (is_same (pair_for r k) p) (l p) (times_more k rs i r p h e)
   where
     at : (b : Bool) → count_of new p ≡ (if b then count_of old p - 1 else count_of old p) → times k (take (i + 1) rs) p ≡ times k (take i rs) p + cond b 1 0 → count_of new p ≡ count_of first p - times k (take (i + 1) rs) p
     at true f g = omega (arith, f, g, u p)
@@ -94,9 +94,9 @@ pub popped_other : (next later : Rooms) (k : ℕ) → Popped next later k → (c
 popped_other next later k u c n = u c ∙ ap (λ (b : Bool). cond b None (get nat_cmp next c)) (is_at-eq k c ∙ n)
 
 abbrev pub Loses : ℕ → Option (List Area) → Bag → Bag → Type 0
-Loses k o old new = (p : Pair) → count_of new p ≡ count_of old p - times k (areas_of o) p
+Loses k o old new = (p : RangePair) → count_of new p ≡ count_of old p - times k (areas_of o) p
 
-pub times_room : (rooms : Rooms) (p : Pair) (o : Option (List Area)) → room_at rooms p.reader ≡ o → times_in rooms p ≡ times p.reader (areas_of o) p
+pub times_room : (rooms : Rooms) (p : RangePair) (o : Option (List Area)) → room_at rooms p.reader ≡ o → times_in rooms p ≡ times p.reader (areas_of o) p
 times_room rooms p o e = ap (λ (x : Option (List Area)). times p.reader (areas_of x) p) e
 
 pub taking_step : (first_next first next later rooms mid new : Rooms) (readers fewer : Bag) (k : ℕ) (o stood : Option (Vec Area)) → get nat_cmp next k ≡ Some o → Popped next later k →
@@ -129,7 +129,7 @@ taking_step first_next first next later rooms mid new readers fewer k o stood g 
     over c true e = ap (λ (x : Option (Option (Vec Area))). put_over x (room_at new c)) (no_more c e) ∙ here c e ∙ ap (λ (x : Option (Option (Vec Area))). put_over x (room_at rooms c)) (sym (was c e))
     over c false e = ap (λ (x : Option (Option (Vec Area))). put_over x (room_at new c)) (popped_other next later k u c e) ∙ ap (λ (x : Option (List Area)). put_over (get nat_cmp next c) x) (there c e)
 
-    counted : (p : Pair) (b : Bool) → (k == p.reader) ≡ b → count_of fewer p ≡ times_in new p + times_in later p
+    counted : (p : RangePair) (b : Bool) → (k == p.reader) ≡ b → count_of fewer p ≡ times_in new p + times_in later p
     counted p true e =
         let r : k ≡ p.reader = same_cell p.reader k e in
         let a = t.pairs p in
@@ -153,7 +153,7 @@ taking_back_step first next later rooms new readers fewer k o g u l ord n t = re
   same = λ c. n c ∙ t.same c;
 }
   where
-    counted : (p : Pair) (b : Bool) → (k == p.reader) ≡ b → count_of fewer p ≡ times_in new p + times_in later p
+    counted : (p : RangePair) (b : Bool) → (k == p.reader) ≡ b → count_of fewer p ≡ times_in new p + times_in later p
     counted p true e =
         let r : k ≡ p.reader = same_cell p.reader k e in
         let a = t.pairs p in
@@ -176,7 +176,7 @@ no_entries next h c = at next.entries h
     at [] k = refl
     at (e ∷ es) k = absurd (k (omega arith))
 
-none_left : (next : Rooms) → (0 < length next.entries → ⊥) → (p : Pair) → times_in next p ≡ 0
+none_left : (next : Rooms) → (0 < length next.entries → ⊥) → (p : RangePair) → times_in next p ≡ 0
 none_left next h p = times_room next p None (ap in_room (no_entries next h p.reader))
 
 pub taking_end : (first_next first next rooms : Rooms) (readers : Bag) → (0 < length next.entries → ⊥) → IsTaking first_next first next rooms readers → ((c : ℕ) → room_at rooms c ≡ room_over first_next first c) × HasPairs readers rooms

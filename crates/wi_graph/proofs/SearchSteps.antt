@@ -11,7 +11,7 @@ use Rattle.std.specs.BTreeMap.{is_at}
 use Rattle.std.specs.BTreeSet.{BTreeSet, contains}
 use Rattle.wi_parser.specs.Sheet.{Sheet, content_of}
 use Rattle.wi_parser.specs.Reads.{content_reads}
-use Rattle.wi_ranges.specs.declared.pair.Pair.{Pair}
+use Rattle.wi_ranges.specs.declared.pair.RangePair.{RangePair}
 use Rattle.wi_ranges.specs.Bag.{Bag, IsReader, is_same, count_of}
 use Rattle.wi_ranges.proofs.Exact.{same_is}
 use Rattle.wi_graph.specs.Reach.{is_one_of, in_cone}
@@ -207,12 +207,12 @@ search_end readers cells found work e s a r h i = at (s.opened a r h i)
 abbrev pub all_readers : Bag → List ℕ
 all_readers bag = map (λ e. e.0.reader) bag
 
-reader_there : (bag : Bag) (p : Pair) → 0 < count_of bag p → is_one_of (all_readers bag) p.reader ≡ true
+reader_there : (bag : Bag) (p : RangePair) → 0 < count_of bag p → is_one_of (all_readers bag) p.reader ≡ true
 reader_there [] p h = absurd (omega arith)
 reader_there (e ∷ es) p h = at (is_same p e.0) refl h (reader_there es p)
   where
     at : (b : Bool) → is_same p e.0 ≡ b → 0 < unwrap_or (cond b (Some e.1) (lookup (is_same p) es)) 0 → (0 < count_of es p → is_one_of (all_readers es) p.reader ≡ true) → (e.0.reader == p.reader || is_one_of (all_readers es) p.reader) ≡ true
-    at true f k ih = or_left (e.0.reader == p.reader) _ (ap (λ (q : Pair). q.reader == p.reader) (sym (same_is p e.0 f)) ∙ is_itself p.reader)
+    at true f k ih = or_left (e.0.reader == p.reader) _ (ap (λ (q : RangePair). q.reader == p.reader) (sym (same_is p e.0 f)) ∙ is_itself p.reader)
     at false f k ih = or_right (e.0.reader == p.reader) _ (ih k)
 
 readers_there : (bag : Bag) (a r : ℕ) → IsReader bag a r → is_one_of (all_readers bag) r ≡ true

@@ -6,17 +6,17 @@ use Rattle.std.specs.Ordering.{nat_cmp}
 use Rattle.std.specs.Global.{Vec}
 use Rattle.std.specs.BTreeMap.{get, IsOrdered, is_at}
 use Rattle.wi_values.specs.Address.{Area}
-use Rattle.wi_ranges.specs.declared.pair.Pair.{Pair}
-use Rattle.wi_ranges.specs.Bag.{Bag, pair_of, is_same, count_of, HasOneMore}
+use Rattle.wi_ranges.specs.declared.pair.RangePair.{RangePair}
+use Rattle.wi_ranges.specs.Bag.{Bag, pair_for, is_same, count_of, HasOneMore}
 use Rattle.wi_graph.specs.Inner.Rooms.{Rooms, items_of, in_room, room_at, areas_of, times, times_in, HasRooms, HasBoth}
 use Rattle.wi_graph.specs.Inner.Staging.{either, AreApart}
 use Rattle.wi_graph.proofs.Tests.{is_at-eq, is_itself}
 use Rattle.wi_graph.proofs.Walks.{same_cell}
 use Rattle.wi_graph.proofs.RoomSteps.{times_more, times_other, times_room, Popped, popped_here, popped_other, no_entries}
 
-pub one_more : (k : ℕ) (rs : List Area) (i : ℕ) (r : Area) (first old new : Bag) → i < length rs → r ≡ get_or rs i r → HasOneMore (pair_of r k) old new → ((p : Pair) → count_of old p ≡ count_of first p + times k (take i rs) p) →
-    (p : Pair) → count_of new p ≡ count_of first p + times k (take (i + 1) rs) p
-one_more k rs i r first old new h e l u p = at (is_same (pair_of r k) p) (l p) (times_more k rs i r p h e)
+pub one_more : (k : ℕ) (rs : List Area) (i : ℕ) (r : Area) (first old new : Bag) → i < length rs → r ≡ get_or rs i r → HasOneMore (pair_for r k) old new → ((p : RangePair) → count_of old p ≡ count_of first p + times k (take i rs) p) →
+    (p : RangePair) → count_of new p ≡ count_of first p + times k (take (i + 1) rs) p
+one_more k rs i r first old new h e l u p = at (is_same (pair_for r k) p) (l p) (times_more k rs i r p h e)
   where
     at : (b : Bool) → count_of new p ≡ (if b then count_of old p + 1 else count_of old p) → times k (take (i + 1) rs) p ≡ times k (take i rs) p + cond b 1 0 → count_of new p ≡ count_of first p + times k (take (i + 1) rs) p
     at true f g = omega (arith, f, g, u p)
@@ -49,7 +49,7 @@ room_stays old new k o u c h = at (k == c) refl
 pub room_there : (old new : Rooms) (k : ℕ) (o : Option (Vec Area)) → Puts old new k o → get nat_cmp new k ≡ None → ⊥
 room_there old new k o u h = let z = put_here old new k o u k (is_itself k) in cc
 
-same_both : (rooms mid next : Rooms) (readers more : Bag) → ((c : ℕ) → room_at mid c ≡ room_at rooms c) → ((p : Pair) → count_of more p ≡ count_of readers p) → HasBoth readers rooms next → HasBoth more mid next
+same_both : (rooms mid next : Rooms) (readers more : Bag) → ((c : ℕ) → room_at mid c ≡ room_at rooms c) → ((p : RangePair) → count_of more p ≡ count_of readers p) → HasBoth readers rooms next → HasBoth more mid next
 same_both rooms mid next readers more e f h p =
     let a : times_in mid p ≡ times_in rooms p = times_room mid p (room_at rooms p.reader) (e p.reader) in
     omega (arith, a, f p, h p)
@@ -57,17 +57,17 @@ same_both rooms mid next readers more e f h p =
 pub rooms_both : (rooms mid next : Rooms) (readers : Bag) → ((c : ℕ) → room_at mid c ≡ room_at rooms c) → HasBoth readers rooms next → HasBoth readers mid next
 rooms_both rooms mid next readers e h = same_both rooms mid next readers readers e (λ p. refl) h
 
-pub refused_both : (rooms mid next : Rooms) (readers more : Bag) → ((c : ℕ) → room_at mid c ≡ room_at rooms c) → ((p : Pair) → count_of more p ≡ count_of readers p) → HasBoth readers rooms next → HasBoth more mid next
+pub refused_both : (rooms mid next : Rooms) (readers more : Bag) → ((c : ℕ) → room_at mid c ≡ room_at rooms c) → ((p : RangePair) → count_of more p ≡ count_of readers p) → HasBoth readers rooms next → HasBoth more mid next
 refused_both rooms mid next readers more e f h = same_both rooms mid next readers more e f h
 
-pub undone_both : (rooms mid next : Rooms) (readers more back : Bag) (k : ℕ) (o p' : Option (Vec Area)) → p' ≡ o → ((c : ℕ) → room_at mid c ≡ room_at rooms c) → ((p : Pair) → count_of more p ≡ count_of readers p + times k (areas_of (items_of o)) p) →
-    ((p : Pair) → count_of back p ≡ count_of more p - times k (areas_of (items_of p')) p) → HasBoth readers rooms next → HasBoth back mid next
+pub undone_both : (rooms mid next : Rooms) (readers more back : Bag) (k : ℕ) (o p' : Option (Vec Area)) → p' ≡ o → ((c : ℕ) → room_at mid c ≡ room_at rooms c) → ((p : RangePair) → count_of more p ≡ count_of readers p + times k (areas_of (items_of o)) p) →
+    ((p : RangePair) → count_of back p ≡ count_of more p - times k (areas_of (items_of p')) p) → HasBoth readers rooms next → HasBoth back mid next
 undone_both rooms mid next readers more back k o p' s e f g h = same_both rooms mid next readers back e (λ p.
     let a : times k (areas_of (items_of p')) p ≡ times k (areas_of (items_of o)) p = ap (λ (x : Option (Vec Area)). times k (areas_of (items_of x)) p) s in
     omega (arith, f p, g p, a)) h
 
 pub brought_both : (rooms mid next later : Rooms) (readers more : Bag) (k : ℕ) (o : Option (Vec Area)) → get nat_cmp next k ≡ None → ((c : ℕ) → room_at mid c ≡ room_at rooms c) →
-    ((p : Pair) → count_of more p ≡ count_of readers p + times k (areas_of (items_of o)) p) → Puts next later k o → HasBoth readers rooms next → HasBoth more mid later
+    ((p : RangePair) → count_of more p ≡ count_of readers p + times k (areas_of (items_of o)) p) → Puts next later k o → HasBoth readers rooms next → HasBoth more mid later
 brought_both rooms mid next later readers more k o n e f u h p = at (k == p.reader) refl
   where
     at : (b : Bool) → (k == p.reader) ≡ b → count_of more p ≡ times_in mid p + times_in later p

@@ -5,7 +5,7 @@ ghost use Rattle.std.specs.Prelude.{◌≡◌, ◌==◌, ◌-◌, ℕ, None, fal
 ghost use Rattle.std.specs.Ordering.{nat_cmp};
 ghost use Rattle.std.specs.BTreeMap.{get, IsOrdered};
 ghost use Rattle.std.specs.Option.{is_none};
-ghost use Rattle.wi_ranges.specs.declared.pair.Pair.{Pair};
+ghost use Rattle.wi_ranges.specs.declared.pair.RangePair.{RangePair};
 ghost use Rattle.wi_ranges.specs.Bag.{count_of};
 ghost use Rattle.wi_graph.specs.Inner.Rooms.{items_of, room_at, room_over, areas_of, times, HasRooms, HasPairs, HasBoth};
 
@@ -90,7 +90,7 @@ fn is_vacant(rooms: &Rooms, at: Address) -> bool
 
 /// Takes the pairs of what stood in a cell out of the index.
 pub(crate) fn remove_room(readers: &mut RangeIndex, cell: Address, room: &Option<Vec<Rect>>)
-    ensures { (p : Pair) → count_of readers.new p
+    ensures { (p : RangePair) → count_of readers.new p
         ≡ count_of readers.old p - times cell (areas_of (items_of room.now)) p }
 {
     if let Some(areas) = room {
@@ -100,7 +100,7 @@ pub(crate) fn remove_room(readers: &mut RangeIndex, cell: Address, room: &Option
 
 /// Takes the pairs of some rectangles and a cell out of the index.
 pub(crate) fn remove_pairs(readers: &mut RangeIndex, cell: Address, areas: &[Rect])
-    ensures { (p : Pair) → count_of readers.new p
+    ensures { (p : RangePair) → count_of readers.new p
         ≡ count_of readers.old p - times cell areas.now p }
 {
     for area in areas {

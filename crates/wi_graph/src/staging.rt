@@ -3,7 +3,7 @@
 ghost use Rattle.std.specs.Prelude.{◌≡◌, ◌+◌, ℕ, Some, None, cond, OnOk, OnErr, IfOk};
 ghost use Rattle.std.specs.Ordering.{nat_cmp};
 ghost use Rattle.std.specs.BTreeMap.{get, is_at, IsOrdered};
-ghost use Rattle.wi_ranges.specs.declared.pair.Pair.{Pair};
+ghost use Rattle.wi_ranges.specs.declared.pair.RangePair.{RangePair};
 ghost use Rattle.wi_ranges.specs.Bag.{count_of};
 ghost use Rattle.wi_graph.specs.Inner.Rooms.{items_of, room_at, areas_of, times, HasRooms, HasPairs, HasBoth};
 ghost use Rattle.wi_graph.specs.Inner.Staging.{either, AreApart};
@@ -117,9 +117,9 @@ fn add_room(
     cell: Address,
     room: &Option<Vec<Rect>>,
 ) -> Result<(), AllocError>
-    ensures ok { OnOk result ((p : Pair) → count_of readers.new p
+    ensures ok { OnOk result ((p : RangePair) → count_of readers.new p
         ≡ count_of readers.old p + times cell (areas_of (items_of room.now)) p) }
-    ensures err { OnErr result ((p : Pair) → count_of readers.new p ≡ count_of readers.old p) }
+    ensures err { OnErr result ((p : RangePair) → count_of readers.new p ≡ count_of readers.old p) }
 {
     match room {
         Some(areas) => add_pairs(readers, cell, areas),
@@ -129,9 +129,9 @@ fn add_room(
 
 /// Puts the pairs of some rectangles and a cell into the index. On an error the index has those that it had.
 fn add_pairs(readers: &mut RangeIndex, cell: Address, areas: &[Rect]) -> Result<(), AllocError>
-    ensures ok { OnOk result ((p : Pair) → count_of readers.new p
+    ensures ok { OnOk result ((p : RangePair) → count_of readers.new p
         ≡ count_of readers.old p + times cell areas.now p) }
-    ensures err { OnErr result ((p : Pair) → count_of readers.new p ≡ count_of readers.old p) }
+    ensures err { OnErr result ((p : RangePair) → count_of readers.new p ≡ count_of readers.old p) }
 {
     let mut added = 0;
     for area in areas {

@@ -16,7 +16,7 @@ use Rattle.std.proofs.lemmas.Bool.{true≢false, and_right, and_parts, cond-true
 use Rattle.std.proofs.lemmas.Bool.Decides.{nat_tests}
 use Rattle.std.proofs.lemmas.Map.Lookups.{btree_set_from_contains}
 use Rattle.wi_ranges.specs.declared.block.Block.{Block}
-use Rattle.wi_ranges.specs.declared.pair.Pair.{Pair}
+use Rattle.wi_ranges.specs.declared.pair.RangePair.{RangePair}
 use Rattle.wi_ranges.specs.declared.pair.Numbered.{Numbered}
 use Rattle.wi_ranges.specs.Blocks.{block, blocks_in, blocks_of, first_row}
 use Rattle.wi_ranges.specs.Bag.{Bag, Sets, pair_cmp, is_same, count_of, HasOneMore, HasOneLess, pieces_of}
@@ -26,41 +26,41 @@ use Rattle.wi_ranges.proofs.Exact.{same_is, same_self, one_is, exact_piece, piec
 
 -- ---- counts
 
-pub has_one_more : (p : Pair) (n : ℕ) (old new : Bag) → count_of old p ≡ n → Sets p (Some (n + 1)) old new → HasOneMore p old new
+pub has_one_more : (p : RangePair) (n : ℕ) (old new : Bag) → count_of old p ≡ n → Sets p (Some (n + 1)) old new → HasOneMore p old new
 has_one_more p n old new e u q = ap (λ o. unwrap_or o 0) (u q) ∙ by (is_same p q) refl
   where
     by : (b : Bool) → is_same p q ≡ b → unwrap_or (cond b (Some (n + 1)) (lookup (is_same q) old)) 0 ≡ (if b then count_of old q + 1 else count_of old q)
-    by true h = ap (λ m. m + 1) (sym e ∙ ap (λ (x : Pair). count_of old x) (same_is p q h))
+    by true h = ap (λ m. m + 1) (sym e ∙ ap (λ (x : RangePair). count_of old x) (same_is p q h))
     by false h = refl
 
-pub has_one_less : (p : Pair) (w : Option ℕ) (old new : Bag) → unwrap_or w 0 ≡ count_of old p - 1 → Sets p w old new → HasOneLess p old new
+pub has_one_less : (p : RangePair) (w : Option ℕ) (old new : Bag) → unwrap_or w 0 ≡ count_of old p - 1 → Sets p w old new → HasOneLess p old new
 has_one_less p w old new e u q = ap (λ o. unwrap_or o 0) (u q) ∙ by (is_same p q) refl
   where
     by : (b : Bool) → is_same p q ≡ b → unwrap_or (cond b w (lookup (is_same q) old)) 0 ≡ (if b then count_of old q - 1 else count_of old q)
-    by true h = e ∙ ap (λ (x : Pair). count_of old x - 1) (same_is p q h)
+    by true h = e ∙ ap (λ (x : RangePair). count_of old x - 1) (same_is p q h)
     by false h = refl
 
 -- nothing is there to take away
-pub has_none : (p : Pair) (bag : Bag) → lookup (is_same p) bag ≡ None → HasOneLess p bag bag
+pub has_none : (p : RangePair) (bag : Bag) → lookup (is_same p) bag ≡ None → HasOneLess p bag bag
 has_none p bag e q = by (is_same p q) refl
   where
     by : (b : Bool) → is_same p q ≡ b → count_of bag q ≡ (if b then count_of bag q - 1 else count_of bag q)
     by true h =
-        let z : count_of bag q ≡ 0 = ap (λ (x : Pair). count_of bag x) (sym (same_is p q h)) ∙ ap (λ o. unwrap_or o 0) e in
+        let z : count_of bag q ≡ 0 = ap (λ (x : RangePair). count_of bag x) (sym (same_is p q h)) ∙ ap (λ o. unwrap_or o 0) e in
         omega (arith, z)
     by false h = refl
 
 some_is : (m n : ℕ) → Some m ≡ Some n → m ≡ n
 some_is m n e = ap (λ o. unwrap_or o 0) e
 
-pub no_zero_set : (p : Pair) (m : ℕ) (old new : Bag) → 0 < m → HasNoZero old → Sets p (Some m) old new → HasNoZero new
+pub no_zero_set : (p : RangePair) (m : ℕ) (old new : Bag) → 0 < m → HasNoZero old → Sets p (Some m) old new → HasNoZero new
 no_zero_set p m old new l z u q k h = by (is_same p q) (sym (u q) ∙ h)
   where
     by : (b : Bool) → cond b (Some m) (lookup (is_same q) old) ≡ Some k → 0 < k
     by true e = subst (λ j. 0 < j) (some_is m k e) l
     by false e = z q k e
 
-pub no_zero_taken : (p : Pair) (old new : Bag) → HasNoZero old → Sets p None old new → HasNoZero new
+pub no_zero_taken : (p : RangePair) (old new : Bag) → HasNoZero old → Sets p None old new → HasNoZero new
 no_zero_taken p old new z u q k h = by (is_same p q) (sym (u q) ∙ h)
   where
     by : (b : Bool) → cond b None (lookup (is_same q) old) ≡ Some k → 0 < k
@@ -68,7 +68,7 @@ no_zero_taken p old new z u q k h = by (is_same p q) (sym (u q) ∙ h)
     by false e = z q k e
 
 -- where there is none of a pair, it has no entry
-pub none_of_zero : (p : Pair) (bag : Bag) → HasNoZero bag → count_of bag p ≡ 0 → lookup (is_same p) bag ≡ None
+pub none_of_zero : (p : RangePair) (bag : Bag) → HasNoZero bag → count_of bag p ≡ 0 → lookup (is_same p) bag ≡ None
 none_of_zero p bag z e = by (lookup (is_same p) bag) refl
   where
     by : (o : Option ℕ) → lookup (is_same p) bag ≡ o → o ≡ None
@@ -78,7 +78,7 @@ none_of_zero p bag z e = by (lookup (is_same p) bag) refl
         let zero : n ≡ 0 = sym (ap (λ o. unwrap_or o 0) h) ∙ e in
         absurd (omega (arith, pos, zero))
 
-pub some_of_more : (p : Pair) (n : ℕ) (bag : Bag) → 0 < n → count_of bag p ≡ n → lookup (is_same p) bag ≡ Some n
+pub some_of_more : (p : RangePair) (n : ℕ) (bag : Bag) → 0 < n → count_of bag p ≡ n → lookup (is_same p) bag ≡ Some n
 some_of_more p n bag l e = by (lookup (is_same p) bag) refl
   where
     by : (o : Option ℕ) → lookup (is_same p) bag ≡ o → o ≡ Some n
@@ -134,8 +134,8 @@ same_of_others m n a b h e f g = by (is_same m.pair n.pair) refl (sym (one_parts
         → nat_lt n.number (count_of b n.pair) ≡ nat_lt n.number (count_of a n.pair)
     by true s k =
         let p = same_is m.pair n.pair s in
-        ap (λ c. nat_lt n.number c) (ap (λ (x : Pair). count_of b x) (sym p) ∙ f) ∙ next_apart n.number m.number k
-        ∙ ap (λ c. nat_lt n.number c) (sym e ∙ ap (λ (x : Pair). count_of a x) p)
+        ap (λ c. nat_lt n.number c) (ap (λ (x : RangePair). count_of b x) (sym p) ∙ f) ∙ next_apart n.number m.number k
+        ∙ ap (λ c. nat_lt n.number c) (sym e ∙ ap (λ (x : RangePair). count_of a x) p)
     by false s k = ap (λ c. nat_lt n.number c) (g s)
 
 pub indexed_more : (m : Numbered) (old new : Bag) (ks ls : List Piece) → IsIndexed old ks → count_of old m.pair ≡ m.number → HasOneMore m.pair old new
@@ -178,7 +178,7 @@ same_pieces bag ks ls i j s t = btree_set_from_contains piece_total (record { ke
 
 -- ---- how many pieces
 
-pub pieces_set : (p : Pair) (n w : ℕ) (es : Bag) → lookup (is_same p) es ≡ Some n
+pub pieces_set : (p : RangePair) (n w : ℕ) (es : Bag) → lookup (is_same p) es ≡ Some n
     → pieces_of (set_value (is_same p) es w) + n * length (blocks_of p) ≡ pieces_of es + w * length (blocks_of p)
 pieces_set p n w [] h = cc
 pieces_set p n w (e ∷ es) h = by (is_same p e.0) refl h (pieces_set p n w es)
@@ -189,11 +189,11 @@ pieces_set p n w (e ∷ es) h = by (is_same p e.0) refl h (pieces_set p n w es)
         ≡ (e.1 * length (blocks_of e.0) + pieces_of es) + w * length (blocks_of p)
     by true s k r =
         let one : n ≡ e.1 = sym (some_is e.1 n k) in
-        let here : length (blocks_of p) ≡ length (blocks_of e.0) = ap (λ (x : Pair). length (blocks_of x)) (same_is p e.0 s) in
+        let here : length (blocks_of p) ≡ length (blocks_of e.0) = ap (λ (x : RangePair). length (blocks_of x)) (same_is p e.0 s) in
         rw (one, here) (omega arith)
     by false s k r = omega (arith, r k)
 
-pub pieces_taken : (p : Pair) (n : ℕ) (es : Bag) → lookup (is_same p) es ≡ Some n → pieces_of es ≡ pieces_of (remove_entry (is_same p) es) + n * length (blocks_of p)
+pub pieces_taken : (p : RangePair) (n : ℕ) (es : Bag) → lookup (is_same p) es ≡ Some n → pieces_of es ≡ pieces_of (remove_entry (is_same p) es) + n * length (blocks_of p)
 pieces_taken p n [] h = cc
 pieces_taken p n (e ∷ es) h = by (is_same p e.0) refl h (pieces_taken p n es)
   where
@@ -202,15 +202,15 @@ pieces_taken p n (e ∷ es) h = by (is_same p e.0) refl h (pieces_taken p n es)
         → e.1 * length (blocks_of e.0) + pieces_of es ≡ pieces_of (cond b es (e ∷ remove_entry (is_same p) es)) + n * length (blocks_of p)
     by true s k r =
         let one : n ≡ e.1 = sym (some_is e.1 n k) in
-        let here : length (blocks_of p) ≡ length (blocks_of e.0) = ap (λ (x : Pair). length (blocks_of x)) (same_is p e.0 s) in
+        let here : length (blocks_of p) ≡ length (blocks_of e.0) = ap (λ (x : RangePair). length (blocks_of x)) (same_is p e.0 s) in
         rw (one, here) (omega arith)
     by false s k r = omega (arith, r k)
 
-pub pieces_more : (p : Pair) (n : ℕ) (es : Bag) → lookup (is_same p) es ≡ Some n
+pub pieces_more : (p : RangePair) (n : ℕ) (es : Bag) → lookup (is_same p) es ≡ Some n
     → pieces_of (set_value (is_same p) es (n + 1)) ≡ pieces_of es + length (blocks_of p)
 pieces_more p n es h = omega (arith, pieces_set p n (n + 1) es h, add-mul n 1 (length (blocks_of p)))
 
-pub pieces_less : (p : Pair) (n : ℕ) (es : Bag) → 1 < n → lookup (is_same p) es ≡ Some n
+pub pieces_less : (p : RangePair) (n : ℕ) (es : Bag) → 1 < n → lookup (is_same p) es ≡ Some n
     → pieces_of es ≡ pieces_of (set_value (is_same p) es (n - 1)) + length (blocks_of p)
 pieces_less p n es l h =
     let one : n ≡ (n - 1) + 1 = omega (arith, l) in
@@ -218,7 +218,7 @@ pieces_less p n es l h =
     omega (arith, pieces_set p n (n - 1) es h, times)
 
 -- a new pair
-pub pieces_new : (p : Pair) (n : ℕ) (es : Bag) → lookup (is_same p) es ≡ None → pieces_of (insert_entry pair_cmp es p n) ≡ pieces_of es + n * length (blocks_of p)
+pub pieces_new : (p : RangePair) (n : ℕ) (es : Bag) → lookup (is_same p) es ≡ None → pieces_of (insert_entry pair_cmp es p n) ≡ pieces_of es + n * length (blocks_of p)
 pieces_new p n [] h = omega arith
 pieces_new p n (e ∷ es) h = by (pair_cmp p e.0) h (pieces_new p n es)
   where
@@ -230,14 +230,14 @@ pieces_new p n (e ∷ es) h = by (pair_cmp p e.0) h (pieces_new p n es)
     by Greater k r = omega (arith, r k)
 
 -- a pair that has a block is there no more often than there are pieces
-pub count_below : (p : Pair) (bag : Bag) → 0 < length (blocks_of p) → count_of bag p ≤ pieces_of bag
+pub count_below : (p : RangePair) (bag : Bag) → 0 < length (blocks_of p) → count_of bag p ≤ pieces_of bag
 count_below p [] l = omega arith
 count_below p (e ∷ es) l = by (is_same p e.0) refl (count_below p es l)
   where
     by : (b : Bool) → is_same p e.0 ≡ b → count_of es p ≤ pieces_of es
         → unwrap_or (cond b (Some e.1) (lookup (is_same p) es)) 0 ≤ e.1 * length (blocks_of e.0) + pieces_of es
     by true s k =
-        let here : length (blocks_of p) ≡ length (blocks_of e.0) = ap (λ (x : Pair). length (blocks_of x)) (same_is p e.0 s) in
+        let here : length (blocks_of p) ≡ length (blocks_of e.0) = ap (λ (x : RangePair). length (blocks_of x)) (same_is p e.0 s) in
         let times : e.1 * 1 ≤ e.1 * length (blocks_of e.0) = mul-le e.1 1 e.1 (length (blocks_of e.0)) (omega arith) (omega (arith, here, l)) in
         omega (arith, times)
     by false s k = omega (arith, k)
@@ -245,10 +245,10 @@ count_below p (e ∷ es) l = by (is_same p e.0) refl (count_below p es l)
 -- ---- one more pair, at the blocks of the sheet
 
 -- what is known of the blocks of the sheet's block is known of the pair's
-of_sheet : (p : Pair) (x : Block) → x ≡ block 20 0 → blocks_in p x ≡ blocks_of p
+of_sheet : (p : RangePair) (x : Block) → x ≡ block 20 0 → blocks_in p x ≡ blocks_of p
 of_sheet p x e = ap (λ (y : Block). blocks_in p y) e
 
-as_many : (p : Pair) (x : Block) → x ≡ block 20 0 → length (blocks_in p x) ≡ length (blocks_of p)
+as_many : (p : RangePair) (x : Block) → x ≡ block 20 0 → length (blocks_in p x) ≡ length (blocks_of p)
 as_many p x e = ap (λ (zs : List Block). length zs) (of_sheet p x e)
 
 pub number_below : (m : Numbered) (x : Block) (bag : Bag) (ks ls : List Piece) → x ≡ block 20 0 → first_row m.pair < 1048576 → IsIndexed bag ks → AreCounted bag ks

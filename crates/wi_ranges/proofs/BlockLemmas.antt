@@ -3,7 +3,7 @@ use Rattle.std.proofs.Common.{◌≡◌, ℕ, zero, suc, ◌+◌, ◌-◌, ◌^�
 use Rattle.std.proofs.lemmas.Bool.{cases_lt}
 use Rattle.std.proofs.lemmas.Nat.{pow_below}
 use Rattle.wi_ranges.specs.declared.block.Block.{Block}
-use Rattle.wi_ranges.specs.declared.pair.Pair.{Pair}
+use Rattle.wi_ranges.specs.declared.pair.RangePair.{RangePair}
 use Rattle.wi_ranges.specs.Blocks.{block, lies_within, meets, blocks_within, blocks_with, blocks_in, first_row, last_row, half_with}
 
 -- a level of the sheet
@@ -34,7 +34,7 @@ unfolding blocks_within
 blocks_within-row a b zero f h e = rw h
 blocks_within-row a b (suc k) f h e = absurd (omega (arith, e))
 
-pub halves_of : (p : Pair) (x u l : Block) → u ≡ block (x.level - 1) x.first → l ≡ block (x.level - 1) (x.first + 2 ^ (x.level - 1))
+pub halves_of : (p : RangePair) (x u l : Block) → u ≡ block (x.level - 1) x.first → l ≡ block (x.level - 1) (x.first + 2 ^ (x.level - 1))
     → lies_within (first_row p) (last_row p) x ≡ false → 0 < x.level → meets (first_row p) (last_row p) x ≡ true → blocks_in p x ≡ blocks_in p u ++ blocks_in p l
 halves_of p x u l e g h k m = rw (e, g) (blocks_within-halves (first_row p) (last_row p) x.level x.first h k m)
 

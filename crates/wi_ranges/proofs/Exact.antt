@@ -8,7 +8,7 @@ use Rattle.std.specs.BTreeMap.{is_at}
 use Rattle.std.proofs.lemmas.Map.Lookups.{CmpEqualImpliesEq, exact_unsigned, exact_pairs}
 use Rattle.std.proofs.lemmas.Map.Views.{tells_apart}
 use Rattle.wi_ranges.specs.declared.block.Block.{Block}
-use Rattle.wi_ranges.specs.declared.pair.Pair.{Pair}
+use Rattle.wi_ranges.specs.declared.pair.RangePair.{RangePair}
 use Rattle.wi_ranges.specs.declared.pair.Numbered.{Numbered}
 use Rattle.wi_ranges.specs.Bag.{pair_cmp, is_same}
 use Rattle.wi_ranges.specs.Inner.Index.{Piece, block_cmp, numbered_cmp, piece_cmp, is_one}
@@ -24,7 +24,7 @@ exact_block x y h =
     ap (λ (t : ℕ × ℕ). record { level = t.0; first = t.1 }) (exact_pairs nat_cmp nat_cmp exact_unsigned exact_unsigned (x.level, x.first) (y.level, y.first) h)
 
 exact_numbered : CmpEqualImpliesEq numbered_cmp
-exact_numbered m n h = ap (λ (t : Pair × ℕ). record { pair = t.0; number = t.1 }) (exact_pairs pair_cmp nat_cmp exact_pair exact_unsigned (m.pair, m.number) (n.pair, n.number) h)
+exact_numbered m n h = ap (λ (t : RangePair × ℕ). record { pair = t.0; number = t.1 }) (exact_pairs pair_cmp nat_cmp exact_pair exact_unsigned (m.pair, m.number) (n.pair, n.number) h)
 
 pub exact_piece : CmpEqualImpliesEq piece_cmp
 exact_piece = exact_pairs block_cmp numbered_cmp exact_block exact_numbered
@@ -32,7 +32,7 @@ exact_piece = exact_pairs block_cmp numbered_cmp exact_block exact_numbered
 pub one_is : (m n : Numbered) → is_one m n ≡ true → m ≡ n
 one_is m n h = tells_apart exact_numbered m n h
 
-pub same_is : (p q : Pair) → is_same p q ≡ true → p ≡ q
+pub same_is : (p q : RangePair) → is_same p q ≡ true → p ≡ q
 same_is p q h = tells_apart exact_pair p q h
 
 pub same_piece : (x y : Piece) → is_at (piece_cmp x) y ≡ true → x ≡ y
@@ -41,7 +41,7 @@ same_piece x y h = tells_apart exact_piece x y h
 nat_same : (a : ℕ) → nat_cmp a a ≡ Equal
 nat_same a = sym (nat_cmp_is a a Equal refl)
 
-pub same_self : (p : Pair) → is_same p p ≡ true
+pub same_self : (p : RangePair) → is_same p p ≡ true
 same_self p = rw (nat_same p.first, nat_same p.last, nat_same p.reader)
 
 pub block_self : (x : Block) → is_at (block_cmp x) x ≡ true
@@ -56,7 +56,7 @@ block_total : IsTotalOrder block_cmp
 block_total = then_total (on_total (λ (x : Block). x.level) nat_cmp_total) (on_total (λ (x : Block). x.first) nat_cmp_total)
 
 pair_total : IsTotalOrder pair_cmp
-pair_total = then_total (on_total (λ (p : Pair). p.first) nat_cmp_total) (then_total (on_total (λ (p : Pair). p.last) nat_cmp_total) (on_total (λ (p : Pair). p.reader) nat_cmp_total))
+pair_total = then_total (on_total (λ (p : RangePair). p.first) nat_cmp_total) (then_total (on_total (λ (p : RangePair). p.last) nat_cmp_total) (on_total (λ (p : RangePair). p.reader) nat_cmp_total))
 
 numbered_total : IsTotalOrder numbered_cmp
 numbered_total = then_total (on_total (λ (m : Numbered). m.pair) pair_total) (on_total (λ (m : Numbered). m.number) nat_cmp_total)

@@ -8,10 +8,10 @@ use Rattle.std.proofs.lemmas.Bool.{true≢false, and_parts, and_from, or_left, o
 use Rattle.std.proofs.lemmas.List.Folds.{list_any-append}
 use Rattle.wi_values.specs.Address.{row_of, is_within}
 use Rattle.wi_ranges.specs.declared.block.Block.{Block}
-use Rattle.wi_ranges.specs.declared.pair.Pair.{Pair}
+use Rattle.wi_ranges.specs.declared.pair.RangePair.{RangePair}
 use Rattle.wi_ranges.specs.Blocks.{block, lies_within, meets, blocks_within, blocks_with, blocks_of, first_row, last_row}
-use Rattle.wi_ranges.specs.Bag.{Bag, area_of, count_of, IsReader}
-use Rattle.wi_ranges.specs.Inner.Index.{Piece, block_cmp, piece_cmp, has_piece, is_among, reads_here, reads_at, IsIndexed}
+use Rattle.wi_ranges.specs.Bag.{Bag, pair_area, count_of, IsReader}
+use Rattle.wi_ranges.specs.Inner.Index.{Piece, block_cmp, piece_cmp, has_piece, is_among, piece_reads, reads_at, IsIndexed}
 use Rattle.wi_ranges.proofs.BlockLemmas.{blocks_within-here}
 use Rattle.wi_ranges.proofs.Exact.{block_self, piece_self, same_piece}
 
@@ -98,14 +98,14 @@ pub reader_found : (bag : Bag) (ks : List Piece) (xs : List Block) (a r : ℕ) �
 reader_found bag ks xs a r i h =
     let s = any_gives (reads_at xs a r) ks h in
     let q = s.0 in
-    let reads = (and_parts (is_among q.0 xs) (reads_here a r q) s.1).1 in
+    let reads = (and_parts (is_among q.0 xs) (piece_reads a r q) s.1).1 in
     let p = q.1.pair in
-    let parts = and_parts (is_within (area_of p) a) (p.reader == r) reads in
+    let parts = and_parts (is_within (pair_area p) a) (p.reader == r) reads in
     let there = (and_parts (nat_lt q.1.number (count_of bag p)) (is_among q.0 (blocks_of p)) (sym (i q) ∙ s.2)).0 in
     let below : q.1.number < count_of bag p = ltb-true q.1.number (count_of bag p) there in
     (p, eqb-true p.reader r parts.1, omega (arith, below), parts.0)
 
-last_at_least : (p : Pair) (r : ℕ) → r ≤ row_of p.last → r ≤ last_row p
+last_at_least : (p : RangePair) (r : ℕ) → r ≤ row_of p.last → r ≤ last_row p
 last_at_least p r h = by (nat_lt (row_of p.last) (row_of p.first)) refl
   where
     by : (b : Bool) → nat_lt (row_of p.last) (row_of p.first) ≡ b → r ≤ (if b then row_of p.first else row_of p.last)
@@ -113,12 +113,12 @@ last_at_least p r h = by (nat_lt (row_of p.last) (row_of p.first)) refl
     by false e = h
 
 -- each pair has a block
-pub some_block : (p : Pair) → first_row p < 1048576 → 0 < length (blocks_of p)
+pub some_block : (p : RangePair) → first_row p < 1048576 → 0 < length (blocks_of p)
 some_block p l =
     let s = covered (first_row p) (last_row p) (first_row p) 20 0 (omega arith) (first_at_most p) (omega arith) (omega (arith, l)) in
     not_none s.0 (blocks_of p) s.1
   where
-    first_at_most : (p : Pair) → first_row p ≤ last_row p
+    first_at_most : (p : RangePair) → first_row p ≤ last_row p
     first_at_most p = by (nat_lt (row_of p.last) (row_of p.first)) refl
       where
         by : (b : Bool) → nat_lt (row_of p.last) (row_of p.first) ≡ b → row_of p.first ≤ (if b then row_of p.first else row_of p.last)

@@ -10,11 +10,11 @@ use Rattle.std.specs.BTreeMap.Range.{range_contains}
 use Rattle.std.proofs.lemmas.Bool.{true≢false}
 use Rattle.std.proofs.lemmas.Bool.Decides.{nat_tests}
 use Rattle.wi_ranges.specs.declared.block.Block.{Block}
-use Rattle.wi_ranges.specs.declared.pair.Pair.{Pair}
+use Rattle.wi_ranges.specs.declared.pair.RangePair.{RangePair}
 use Rattle.wi_ranges.specs.declared.pair.Numbered.{Numbered}
 use Rattle.wi_ranges.specs.Blocks.{block}
 use Rattle.wi_ranges.specs.Bag.{pair_cmp, lowest_pair}
-use Rattle.wi_ranges.specs.Inner.Index.{block_cmp, numbered_cmp, lowest, Piece, piece_cmp, is_among, reads_here, reads_at}
+use Rattle.wi_ranges.specs.Inner.Index.{block_cmp, numbered_cmp, lowest, Piece, piece_cmp, is_among, piece_reads, reads_at}
 
 -- ---- which pieces come from a block on, and before the next
 
@@ -26,7 +26,7 @@ no_later_then Less p h k = refl
 no_later_then Equal p h k = k
 no_later_then Greater p h k = h
 
-lowest_first : (p : Pair) → is_le (pair_cmp lowest_pair p) ≡ true
+lowest_first : (p : RangePair) → is_le (pair_cmp lowest_pair p) ≡ true
 lowest_first p = no_later_then (nat_cmp 0 p.first) _ (no_later p.first) (no_later_then (nat_cmp 0 p.last) _ (no_later p.last) (no_later p.reader))
 
 lowest_numbered : (m : Numbered) → is_le (numbered_cmp lowest m) ≡ true
@@ -91,18 +91,18 @@ pub readers_more : (x : Block) (xs zs : List Block) (a r : ℕ) (ks : List Piece
     → new ≡ (old || list_any (reads_at zs a r) ks)
 readers_more x xs zs a r ks old mid new e f g =
     g ∙ ap (λ b. b || list_any (reads_at xs a r) ks) f ∙ or_assoc old _ _
-    ∙ ap (λ b. old || b) (sym (any_of_either (reads_at (x ∷ []) a r) (reads_at xs a r) (reads_at (x ∷ xs) a r) ks (λ q. one_more_block (is_at (block_cmp x) q.0) (is_among q.0 xs) (reads_here a r q))))
+    ∙ ap (λ b. old || b) (sym (any_of_either (reads_at (x ∷ []) a r) (reads_at xs a r) (reads_at (x ∷ xs) a r) ks (λ q. one_more_block (is_at (block_cmp x) q.0) (is_among q.0 xs) (piece_reads a r q))))
     ∙ ap (λ (us : List Block). old || list_any (reads_at us a r) ks) (sym e)
 
 -- the loop's end
 pub readers_found : (x : Block) (a r : ℕ) (rest all ks : List Piece) (old new : Bool) → rest ≡ []
     → all ≡ filter (range_contains piece_cmp (Included (x, lowest)) (Excluded (block x.level (x.first + 1), lowest))) ks
-    → (new || list_any (reads_here a r) rest) ≡ (old || list_any (reads_here a r) all)
+    → (new || list_any (piece_reads a r) rest) ≡ (old || list_any (piece_reads a r) all)
     → new ≡ (old || list_any (reads_at (x ∷ []) a r) ks)
 readers_found x a r rest all ks old new e f h =
-    sym (or_none new) ∙ ap (λ (us : List Piece). new || list_any (reads_here a r) us) (sym e) ∙ h
-    ∙ ap (λ (us : List Piece). old || list_any (reads_here a r) us) f
-    ∙ ap (λ b. old || b) (any_of_filter _ (λ q. is_among q.0 (x ∷ [])) (reads_here a r) ks (between_is_at_block x))
+    sym (or_none new) ∙ ap (λ (us : List Piece). new || list_any (piece_reads a r) us) (sym e) ∙ h
+    ∙ ap (λ (us : List Piece). old || list_any (piece_reads a r) us) f
+    ∙ ap (λ b. old || b) (any_of_filter _ (λ q. is_among q.0 (x ∷ [])) (piece_reads a r) ks (between_is_at_block x))
   where
     or_none : (b : Bool) → (b || false) ≡ b
     or_none true = refl

@@ -2,7 +2,7 @@
 use Rattle.std.specs.Prelude.{ℕ, zero, suc, ◌+◌, ◌-◌, ◌^◌, List, [], ◌∷◌, ◌++◌, Bool, ◌&&◌, nat_lt, nat_le, if◌then◌else◌}
 use Rattle.wi_values.specs.Address.{row_of}
 use Rattle.wi_ranges.specs.declared.block.Block.{Block}
-use Rattle.wi_ranges.specs.declared.pair.Pair.{Pair}
+use Rattle.wi_ranges.specs.declared.pair.RangePair.{RangePair}
 
 abbrev pub block : ℕ → ℕ → Block
 block level first = record { level = level; first = first }
@@ -22,19 +22,19 @@ blocks_within a b (suc k) f =
     if lies_within a b (block (suc k) f) then block (suc k) f ∷ []
     else (if meets a b (block (suc k) f) then blocks_within a b k f ++ blocks_within a b k (f + 2 ^ k) else [])
 
-abbrev pub first_row : Pair → ℕ
+abbrev pub first_row : RangePair → ℕ
 first_row p = row_of p.first
 
 -- the corners of a rectangle stand in order; with any others a pair has the row of the first
-abbrev pub last_row : Pair → ℕ
+abbrev pub last_row : RangePair → ℕ
 last_row p = if nat_lt (row_of p.last) (row_of p.first) then row_of p.first else row_of p.last
 
 -- the largest blocks that lie within the rows of the pair's rectangle, of one block
-abbrev pub blocks_in : Pair → Block → List Block
+abbrev pub blocks_in : RangePair → Block → List Block
 blocks_in p x = blocks_within (first_row p) (last_row p) x.level x.first
 
 -- the blocks of a pair: the largest that lie within the rows of its rectangle, from above
-abbrev pub blocks_of : Pair → List Block
+abbrev pub blocks_of : RangePair → List Block
 blocks_of p = blocks_within (first_row p) (last_row p) 20 0
 
 -- the half of a block that holds the row r of it

@@ -2,7 +2,7 @@
 use Rattle.std.specs.Prelude.{◌≡◌, ℕ, ◌+◌, ◌*◌, ◌^◌, ◌<◌, ◌≤◌, ◌⊎◌, List, [], ◌∷◌, ◌&&◌, true, false, nat_lt, nat_le, length, if◌then◌else◌}
 use Rattle.wi_values.specs.Address.{rows}
 use Rattle.wi_ranges.specs.declared.block.Block.{Block}
-use Rattle.wi_ranges.specs.declared.pair.Pair.{Pair}
+use Rattle.wi_ranges.specs.declared.pair.RangePair.{RangePair}
 use Rattle.wi_ranges.specs.Blocks.{lies_within, blocks_of, first_row, last_row}
 use Rattle.wi_ranges.specs.Inner.Index.{is_among}
 
@@ -13,13 +13,13 @@ times_held r (x ∷ xs) = (if nat_le x.first r && nat_lt r (x.first + 2 ^ x.leve
 
 -- each row of the rectangle is in one block of the pair and no more, and no other row of the sheet is in any
 abbrev pub RowsAreHeldOnce : Type 0
-RowsAreHeldOnce = (p : Pair) (r : ℕ) → r < rows
+RowsAreHeldOnce = (p : RangePair) (r : ℕ) → r < rows
     → (first_row p ≤ r → r ≤ last_row p → times_held r (blocks_of p) ≡ 1)
     × ((r < first_row p) ⊎ (last_row p < r) → times_held r (blocks_of p) ≡ 0)
 
 -- no pair has more than 38 blocks
 abbrev pub BlocksAreFew : Type 0
-BlocksAreFew = (p : Pair) → length (blocks_of p) ≤ 38
+BlocksAreFew = (p : RangePair) → length (blocks_of p) ≤ 38
 
 -- a block of 2^level rows begins at a multiple of 2^level
 abbrev pub IsAligned : Block → Type 0
@@ -31,6 +31,6 @@ IsPartOf x y = (y.first ≤ x.first) × (x.first + 2 ^ x.level ≤ y.first + 2 ^
 
 -- each block of a pair is one of the sheet's and lies within the rows of the rectangle, as no larger block of the sheet does that it is a part of
 abbrev pub BlocksAreLargest : Type 0
-BlocksAreLargest = (p : Pair) (x : Block) → is_among x (blocks_of p) ≡ true
+BlocksAreLargest = (p : RangePair) (x : Block) → is_among x (blocks_of p) ≡ true
     → IsAligned x × (lies_within (first_row p) (last_row p) x ≡ true)
     × ((y : Block) → IsAligned y → y.level ≤ 20 → x.level < y.level → IsPartOf x y → lies_within (first_row p) (last_row p) y ≡ false)

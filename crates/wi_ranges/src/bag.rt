@@ -8,16 +8,16 @@ ghost use Rattle.wi_ranges.specs.Bag.{HasOneMore, HasOneLess, Sets, count_of, is
 ghost use Rattle.wi_ranges.specs.Inner.Index.{AreCounted, piece_cmp, IsIndexed, HasNoZero, KeepsOtherPieces};
 
 use crate::block::Block;
-use crate::pair::{Numbered, Pair};
+use crate::pair::{Numbered, RangePair};
 use crate::pieces::{Pieces, put_in, take_out};
 use std::alloc::AllocError;
 use std::collections::BTreeMap;
 use wi_values::ROWS;
 
-pub(crate) type Counts = BTreeMap<Pair, u64>;
+pub(crate) type PairCounts = BTreeMap<RangePair, u64>;
 
 /// Says how many there are of a pair of which there are some.
-fn set_count(counts: &mut Counts, pair: &Pair, count: u64)
+fn set_count(counts: &mut PairCounts, pair: &RangePair, count: u64)
     requires { IsSome (lookup (is_same pair.now) counts.old.entries) }
     ensures entries { counts.new.entries ≡ set_value (is_same pair.now) counts.old.entries count }
     ensures counts { Sets pair.now (Some count) counts.old.entries counts.new.entries }
@@ -28,7 +28,7 @@ fn set_count(counts: &mut Counts, pair: &Pair, count: u64)
 }
 
 /// Counts one more of a pair of which there are so many. On an error all is as before.
-fn count_up(counts: &mut Counts, pair: &Pair, count: u64) -> Result<(), AllocError>
+fn count_up(counts: &mut PairCounts, pair: &RangePair, count: u64) -> Result<(), AllocError>
     requires count { count_of counts.old.entries pair.now ≡ count }
     requires no_zero { HasNoZero counts.old.entries }
     requires fits { count + 1 < 2 ^ 64 }
@@ -46,7 +46,7 @@ fn count_up(counts: &mut Counts, pair: &Pair, count: u64) -> Result<(), AllocErr
 }
 
 /// Counts one less of a pair of which there are so many, one at least.
-fn count_down(counts: &mut Counts, pair: &Pair, count: u64)
+fn count_down(counts: &mut PairCounts, pair: &RangePair, count: u64)
     requires some { lookup (is_same pair.now) counts.old.entries ≡ Some count }
     requires no_zero { HasNoZero counts.old.entries }
     ensures less { HasOneLess pair.now counts.old.entries counts.new.entries }
@@ -62,7 +62,11 @@ fn count_down(counts: &mut Counts, pair: &Pair, count: u64)
 
 /// Puts in one more of a pair of which there are as many as its number says. If memory runs out, some pieces of it may
 /// be in.
-fn put_one(counts: &mut Counts, pieces: &mut Pieces, numbered: &Numbered) -> Result<(), AllocError>
+fn put_one(
+    counts: &mut PairCounts,
+    pieces: &mut Pieces,
+    numbered: &Numbered,
+) -> Result<(), AllocError>
     requires number { count_of counts.old.entries numbered.now.pair ≡ numbered.now.number }
     requires indexed { IsIndexed counts.old.entries pieces.old.keys }
     requires counted { AreCounted counts.old.entries pieces.old.keys }
@@ -84,9 +88,9 @@ fn put_one(counts: &mut Counts, pieces: &mut Pieces, numbered: &Numbered) -> Res
 
 /// Adds a pair. On an error all is as before.
 pub(crate) fn add_pair(
-    counts: &mut Counts,
+    counts: &mut PairCounts,
     pieces: &mut Pieces,
-    pair: &Pair,
+    pair: &RangePair,
 ) -> Result<(), AllocError>
     requires indexed { IsIndexed counts.old.entries pieces.old.keys }
     requires counted { AreCounted counts.old.entries pieces.old.keys }
@@ -109,7 +113,7 @@ pub(crate) fn add_pair(
 }
 
 /// Takes away the last of the pairs that are equal to one, if there is one.
-pub(crate) fn remove_pair(counts: &mut Counts, pieces: &mut Pieces, pair: &Pair)
+pub(crate) fn remove_pair(counts: &mut PairCounts, pieces: &mut Pieces, pair: &RangePair)
     requires indexed { IsIndexed counts.old.entries pieces.old.keys }
     requires counted { AreCounted counts.old.entries pieces.old.keys }
     requires no_zero { HasNoZero counts.old.entries }

@@ -4,7 +4,7 @@ ghost use Rattle.std.specs.Prelude.{◌≡◌, ◌<◌, ◌+◌, ◌-◌, ◌^�
 ghost use Rattle.wi_values.specs.Address.{rows};
 ghost use Rattle.wi_ranges.specs.Blocks.{block, lies_within, meets, half_with, first_row, last_row};
 
-use crate::pair::Pair;
+use crate::pair::RangePair;
 
 /// 2^level rows.
 #[derive(Clone, Copy, PartialEq, Eq, PartialOrd, Ord)]
@@ -33,7 +33,7 @@ impl Block {
     }
 
     /// Whether all of its rows are rows of the rectangle.
-    pub(crate) fn lies_within(&self, pair: &Pair) -> bool
+    pub(crate) fn lies_within(&self, pair: &RangePair) -> bool
         requires { self.now.first + 2 ^ self.now.level ≤ rows }
         ensures { result ≡ lies_within (first_row pair.now) (last_row pair.now) self.now }
     {
@@ -41,7 +41,7 @@ impl Block {
     }
 
     /// Whether one of its rows is a row of the rectangle.
-    pub(crate) fn meets(&self, pair: &Pair) -> bool
+    pub(crate) fn meets(&self, pair: &RangePair) -> bool
         requires { self.now.first + 2 ^ self.now.level ≤ rows }
         ensures { result ≡ meets (first_row pair.now) (last_row pair.now) self.now }
     {

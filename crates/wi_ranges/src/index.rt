@@ -3,11 +3,11 @@
 ghost use Rattle.std.specs.Prelude.{◌≡◌, [], ℕ, ◌↔◌, IfOk, OnOk, OnErr};
 ghost use Rattle.std.specs.List.{Contains};
 ghost use Rattle.std.specs.List.Sorted.{IsStrictlyIncreasing};
-ghost use Rattle.wi_ranges.specs.Bag.{pair_of, pieces_of, HasOneMore, HasOneLess, IsReader};
+ghost use Rattle.wi_ranges.specs.Bag.{pair_for, pieces_of, HasOneMore, HasOneLess, IsReader};
 
-use crate::bag::{Counts, add_pair, remove_pair};
+use crate::bag::{PairCounts, add_pair, remove_pair};
 use crate::block::Block;
-use crate::pair::Pair;
+use crate::pair::RangePair;
 use crate::pieces::Pieces;
 use crate::readers::{add_all_readers, listed};
 use std::alloc::{AllocError, Global};
@@ -18,7 +18,7 @@ use wi_values::{Address, Rect};
 /// Pairs of a rectangle and a cell that reads it, any number of each.
 #[derive(Drop)]
 pub struct RangeIndex {
-    counts: Counts,
+    counts: PairCounts,
     // Each pair that there is, by number, at each of its blocks.
     pieces: Pieces,
     alloc: Global,
@@ -49,19 +49,19 @@ impl RangeIndex {
 
     /// Adds a pair. On an error all is as before. The work grows with the pair's blocks and the logarithm of the count of pieces.
     pub fn add(&mut self, area: Rect, reader: Address) -> Result<(), AllocError>
-        ensures ok { OnOk result (HasOneMore (pair_of area reader) self.old self.new) }
+        ensures ok { OnOk result (HasOneMore (pair_for area reader) self.old self.new) }
         ensures err { OnErr result (self.new ≡ self.old) }
     {
-        let pair = Pair::new(area, reader);
+        let pair = RangePair::new(area, reader);
         add_pair(&mut self.counts, &mut self.pieces, &pair)
     }
 
     /// Takes away one such pair if there is one. Takes no memory. The work grows with the pair's blocks and the logarithm of the
     /// count of pieces.
     pub fn remove(&mut self, area: Rect, reader: Address)
-        ensures { HasOneLess (pair_of area reader) self.old self.new }
+        ensures { HasOneLess (pair_for area reader) self.old self.new }
     {
-        let pair = Pair::new(area, reader);
+        let pair = RangePair::new(area, reader);
         remove_pair(&mut self.counts, &mut self.pieces, &pair);
     }
 

@@ -2,7 +2,7 @@
 
 ghost use Rattle.std.specs.Prelude.{◌≡◌, ◌<◌};
 ghost use Rattle.wi_values.specs.Address.{is_within, rows};
-ghost use Rattle.wi_ranges.specs.Bag.{pair_of, area_of, lowest_pair};
+ghost use Rattle.wi_ranges.specs.Bag.{pair_for, pair_area, lowest_pair};
 ghost use Rattle.wi_ranges.specs.Blocks.{last_row};
 ghost use Rattle.wi_ranges.specs.Inner.Index.{lowest};
 
@@ -10,7 +10,7 @@ use wi_values::{Address, Rect};
 
 /// A rectangle, by its corners, and a cell that reads it.
 #[derive(Clone, Copy, PartialEq, Eq, PartialOrd, Ord)]
-pub struct Pair {
+pub struct RangePair {
     pub(crate) first: Address,
     pub(crate) last: Address,
     pub(crate) reader: Address,
@@ -19,7 +19,7 @@ pub struct Pair {
 /// One of the pairs that are equal, by its number among them, which is counted from 0.
 #[derive(Clone, Copy, PartialEq, Eq, PartialOrd, Ord)]
 pub struct Numbered {
-    pub(crate) pair: Pair,
+    pub(crate) pair: RangePair,
     pub(crate) number: u64,
 }
 
@@ -29,17 +29,17 @@ impl Numbered {
         ensures { result ≡ lowest }
     {
         Numbered {
-            pair: Pair::lowest(),
+            pair: RangePair::lowest(),
             number: 0,
         }
     }
 }
 
-impl Pair {
-    pub(crate) fn new(area: Rect, reader: Address) -> Pair
-        ensures { result ≡ pair_of area reader }
+impl RangePair {
+    pub(crate) fn new(area: Rect, reader: Address) -> RangePair
+        ensures { result ≡ pair_for area reader }
     {
-        Pair {
+        RangePair {
             first: area.first(),
             last: area.last(),
             reader,
@@ -47,11 +47,11 @@ impl Pair {
     }
 
     /// The first pair in the order of pairs.
-    pub(crate) fn lowest() -> Pair
+    pub(crate) fn lowest() -> RangePair
         ensures { result ≡ lowest_pair }
     {
         let first = Address::at(0, 0);
-        Pair {
+        RangePair {
             first,
             last: first,
             reader: first,
@@ -68,7 +68,7 @@ impl Pair {
 
     /// Whether a cell lies in the rectangle.
     pub(crate) fn has(&self, at: Address) -> bool
-        ensures { result ≡ is_within (area_of self.now) at }
+        ensures { result ≡ is_within (pair_area self.now) at }
     {
         (self.first.row() <= at.row() && at.row() <= self.last.row())
             && (self.first.column() <= at.column() && at.column() <= self.last.column())

@@ -6,8 +6,8 @@ use Rattle.std.specs.BTreeMap.{BTreeMap, get, IsOrdered}
 use Rattle.std.specs.BTreeSet.{BTreeSet, contains}
 use Rattle.wi_values.specs.Address.{Area}
 use Rattle.wi_parser.specs.Sheet.{Sheet, content_of}
-use Rattle.wi_ranges.specs.declared.pair.Pair.{Pair}
-use Rattle.wi_ranges.specs.Bag.{Bag, pair_of, is_same, count_of}
+use Rattle.wi_ranges.specs.declared.pair.RangePair.{RangePair}
+use Rattle.wi_ranges.specs.Bag.{Bag, pair_for, is_same, count_of}
 use Rattle.wi_graph.specs.Circular.{circular}
 use Rattle.wi_graph.specs.Reach.{is_one_of}
 use Rattle.wi_graph.specs.Edges.{Edges, areas_in, with_areas}
@@ -59,12 +59,12 @@ areas_of None = []
 areas_of (Some rs) = rs
 
 -- how many of the rectangles make this pair with the cell
-abbrev pub times : ℕ → List Area → Pair → ℕ
+abbrev pub times : ℕ → List Area → RangePair → ℕ
 times c [] p = 0
-times c (r ∷ rs) p = (if is_same (pair_of r c) p then 1 else 0) + times c rs p
+times c (r ∷ rs) p = (if is_same (pair_for r c) p then 1 else 0) + times c rs p
 
 -- how often the pair's cell reads its rectangle
-abbrev pub times_in : Rooms → Pair → ℕ
+abbrev pub times_in : Rooms → RangePair → ℕ
 times_in rooms p = times p.reader (areas_of (room_at rooms p.reader)) p
 
 -- each that is put in has a room
@@ -73,11 +73,11 @@ HasRooms rooms next = (c : ℕ) → get nat_cmp rooms c ≡ None → room_at nex
 
 -- the index has the pairs of the formulas
 abbrev pub HasPairs : Bag → Rooms → Type 0
-HasPairs readers rooms = (p : Pair) → count_of readers p ≡ times_in rooms p
+HasPairs readers rooms = (p : RangePair) → count_of readers p ≡ times_in rooms p
 
 -- and those of the next
 abbrev pub HasBoth : Bag → Rooms → Rooms → Type 0
-HasBoth readers rooms next = (p : Pair) → count_of readers p ≡ times_in rooms p + times_in next p
+HasBoth readers rooms next = (p : RangePair) → count_of readers p ≡ times_in rooms p + times_in next p
 
 -- one of the set and none of the list
 abbrev pub less_these : BTreeSet ℕ → List ℕ → ℕ → Bool

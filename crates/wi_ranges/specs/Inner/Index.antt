@@ -8,9 +8,9 @@ use Rattle.std.specs.Map.{lookup}
 use Rattle.std.specs.BTreeMap.{is_at}
 use Rattle.wi_values.specs.Address.{is_within}
 use Rattle.wi_ranges.specs.Blocks.{blocks_of}
-use Rattle.wi_ranges.specs.Bag.{Bag, lowest_pair, pair_cmp, is_same, area_of, count_of, pieces_of}
+use Rattle.wi_ranges.specs.Bag.{Bag, lowest_pair, pair_cmp, is_same, pair_area, count_of, pieces_of}
 use Rattle.wi_ranges.specs.declared.block.Block.{Block}
-use Rattle.wi_ranges.specs.declared.pair.Pair.{Pair}
+use Rattle.wi_ranges.specs.declared.pair.RangePair.{RangePair}
 use Rattle.wi_ranges.specs.declared.pair.Numbered.{Numbered}
 
 abbrev pub block_cmp : Block → Block → Ordering
@@ -45,12 +45,12 @@ abbrev pub is_piece : List Block → Numbered → Piece → Bool
 is_piece xs m q = is_one m q.1 && is_among q.0 xs
 
 -- the cell r of the piece reads the cell a
-abbrev pub reads_here : ℕ → ℕ → Piece → Bool
-reads_here a r q = is_within (area_of q.1.pair) a && (q.1.pair.reader == r)
+abbrev pub piece_reads : ℕ → ℕ → Piece → Bool
+piece_reads a r q = is_within (pair_area q.1.pair) a && (q.1.pair.reader == r)
 
 -- the piece stands at one of the blocks, and its cell r reads the cell a
 abbrev pub reads_at : List Block → ℕ → ℕ → Piece → Bool
-reads_at xs a r q = is_among q.0 xs && reads_here a r q
+reads_at xs a r q = is_among q.0 xs && piece_reads a r q
 
 abbrev pub HasPieces : List Block → Numbered → List Piece → Type 0
 HasPieces xs m pieces = (q : Piece) → is_piece xs m q ≡ true → has_piece pieces q ≡ true
@@ -63,7 +63,7 @@ abbrev pub IsIndexed : Bag → List Piece → Type 0
 IsIndexed bag pieces = (q : Piece) → has_piece pieces q ≡ (nat_lt q.1.number (count_of bag q.1.pair) && is_among q.0 (blocks_of q.1.pair))
 
 abbrev pub HasNoZero : Bag → Type 0
-HasNoZero bag = (p : Pair) (n : ℕ) → lookup (is_same p) bag ≡ Some n → 0 < n
+HasNoZero bag = (p : RangePair) (n : ℕ) → lookup (is_same p) bag ≡ Some n → 0 < n
 
 -- pieces stand in order, each once, and are as many as the blocks of all pairs
 abbrev pub AreCounted : Bag → List Piece → Type 0

@@ -1,5 +1,5 @@
 use Rattle.std.proofs.Common.{rules}
-use Rattle.wi_ranges.proofs.pair.Pair.has.Goals as goal
+use Rattle.wi_ranges.proofs.pair.RangePair.has.Goals as goal
 
 pub returns-then-column : goal.returns-then-column
 returns-then-column c = search rules
