@@ -15,5 +15,5 @@ abbrev pub cone_has : BTreeMap ℕ (BTreeSet ℕ) → ℕ → ℕ → Bool
 cone_has cones a c = has_cell (get nat_cmp cones a) c
 
 -- the cone of the replaced address has the cell
-abbrev pub reaches : BTreeMap ℕ (BTreeSet ℕ) → ℕ → Replacement → Bool
-reaches cones c r = cone_has cones r.at c
+abbrev pub is_reached : BTreeMap ℕ (BTreeSet ℕ) → ℕ → Replacement → Bool
+is_reached cones c r = cone_has cones r.at c

@@ -5,7 +5,7 @@ ghost use Rattle.std.specs.BTreeMap.{get};
 ghost use Rattle.std.specs.Option.{option_copied, option_or};
 ghost use Rattle.std.specs.Ordering.{nat_cmp};
 ghost use Rattle.wi_values.specs.Replacements.{IsInOrder, entries, last_for, overridden, replaced};
-ghost use Rattle.wi_worlds.specs.Reaching.{cone_has, reaches};
+ghost use Rattle.wi_worlds.specs.Reaching.{cone_has, is_reached};
 
 use crate::entries::{copied, listed, put_in};
 use std::alloc::{AllocError, Global};
@@ -91,13 +91,13 @@ impl World {
         cones: &BTreeMap<Address, BTreeSet<Address>>,
     ) -> Result<World, AllocError>
         requires cones { All (λ r. IsSome (get nat_cmp cones.now r.at)) self.now }
-        ensures list { IfOk result (λ w. w ≡ filter (reaches cones.now at) self.now) }
+        ensures list { IfOk result (λ w. w ≡ filter (is_reached cones.now at) self.now) }
         ensures each { IfOk result (λ w. (a : ℕ) → replaced w a ≡ (if cone_has cones.now a at then replaced self.now a else None)) }
     {
         let alloc = *self.replacements.allocator();
         let mut replacements = Vec::new(alloc);
         for replacement in &self.replacements {
-            if reaches(replacement.at, at, cones) {
+            if is_reached(replacement.at, at, cones) {
                 replacements.push(copied(alloc, replacement)?)?;
             }
         }
@@ -106,7 +106,7 @@ impl World {
 }
 
 /// Whether the cone of a replaced address has a cell.
-fn reaches(replaced: Address, at: Address, cones: &BTreeMap<Address, BTreeSet<Address>>) -> bool
+fn is_reached(replaced: Address, at: Address, cones: &BTreeMap<Address, BTreeSet<Address>>) -> bool
     requires { IsSome (get nat_cmp cones.now replaced) }
     ensures { result ≡ cone_has cones.now replaced at }
 {

@@ -134,7 +134,7 @@ have_more old new w i r l e h stay there =
     subst (HaveCones new) (ap (λ (x : Replacement). take i w ++ x ∷ []) e ∙ sym (take-suc w i r l) ∙ ap (λ (n : ℕ). take n w) (sym (add-one i))) more
 
 -- replacements whose cones have a cell are those that it reaches
-pub worlds_same : (s : Sheet) (cells : List ℕ) (cs : BTreeMap ℕ (BTreeSet ℕ)) (c : ℕ) → AreCones s cells cs → is_one_of cells c ≡ true → (w : List Replacement) → All (λ r. IsSome (get nat_cmp cs r.at)) w → filter (cones.reaches cs c) w ≡ reaching s c w
+pub worlds_same : (s : Sheet) (cells : List ℕ) (cs : BTreeMap ℕ (BTreeSet ℕ)) (c : ℕ) → AreCones s cells cs → is_one_of cells c ≡ true → (w : List Replacement) → All (λ r. IsSome (get nat_cmp cs r.at)) w → filter (cones.is_reached cs c) w ≡ reaching s c w
 worlds_same s cells cs c h m [] k = refl
 worlds_same s cells cs c h m (r ∷ rs) k =
     filters (here (get nat_cmp cs r.at) (All-head (λ (x : Replacement). IsSome (get nat_cmp cs x.at)) r rs k) (h r.at c m)) (worlds_same s cells cs c h m rs (All-tail (λ (x : Replacement). IsSome (get nat_cmp cs x.at)) r rs k))
@@ -143,5 +143,5 @@ worlds_same s cells cs c h m (r ∷ rs) k =
     here None t i = cc
     here (Some cone) t i = i
 
-    filters : cones.reaches cs c r ≡ reaches s c r.at → filter (cones.reaches cs c) rs ≡ reaching s c rs → cond (cones.reaches cs c r) (r ∷ filter (cones.reaches cs c) rs) (filter (cones.reaches cs c) rs) ≡ cond (reaches s c r.at) (r ∷ reaching s c rs) (reaching s c rs)
-    filters e f = ap (λ (b : Bool). cond b (r ∷ filter (cones.reaches cs c) rs) (filter (cones.reaches cs c) rs)) e ∙ ap (λ (v : List Replacement). cond (reaches s c r.at) (r ∷ v) v) f
+    filters : cones.is_reached cs c r ≡ reaches s c r.at → filter (cones.is_reached cs c) rs ≡ reaching s c rs → cond (cones.is_reached cs c r) (r ∷ filter (cones.is_reached cs c) rs) (filter (cones.is_reached cs c) rs) ≡ cond (reaches s c r.at) (r ∷ reaching s c rs) (reaching s c rs)
+    filters e f = ap (λ (b : Bool). cond b (r ∷ filter (cones.is_reached cs c) rs) (filter (cones.is_reached cs c) rs)) e ∙ ap (λ (v : List Replacement). cond (reaches s c r.at) (r ∷ v) v) f

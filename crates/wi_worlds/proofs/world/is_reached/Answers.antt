@@ -1,5 +1,5 @@
 use Rattle.std.proofs.Common.{rules}
-use Rattle.wi_worlds.proofs.world.reaches.Goals as goal
+use Rattle.wi_worlds.proofs.world.is_reached.Goals as goal
 
 pub returns : goal.returns
 returns c = search rules
