@@ -7,6 +7,7 @@ ghost use Rattle.wi_fraction.specs.Text.{sign_text, size_text, padded};
 ghost use Rattle.wi_fraction.specs.Decimal.{all_places, decimal_text};
 
 use crate::Fraction;
+use crate::division::{divide, remainder};
 use crate::text::push_joined;
 use itoa::Buffer;
 use std::alloc::AllocError;
@@ -53,8 +54,8 @@ fn push_exact(negative: bool, n: u128, d: u128, text: &mut String) -> Result<(),
         None => push_joined(negative, first.format(n), "/", second.format(d), text),
         Some(0) => push_joined(negative, first.format(n), "", "", text),
         Some(k) => {
-            push_joined(negative, first.format(n / d), ".", "", text)?;
-            push_digits(n % d, d, k, text)
+            push_joined(negative, first.format(divide(n, d)), ".", "", text)?;
+            push_digits(remainder(n, d), d, k, text)
         }
     }
 }
@@ -83,7 +84,7 @@ fn all_places(d: u128) -> Option<u32>
     requires fits { d ≤ max_size }
     ensures { result ≡ all_places d }
 {
-    let mut rest = 1 % d;
+    let mut rest = remainder(1, d);
     for k in 0..127 {
         if rest == 0 {
             return Some(k);
@@ -103,7 +104,7 @@ fn tenfold(rest: u128, d: u128) -> NextDigit
     let two = twofold(0, rest, d);
     let four = twofold(two.digit, two.rest, d);
     let sum = four.rest + rest;
-    let ten = twofold(four.digit + sum / d, sum % d, d);
+    let ten = twofold(four.digit + divide(sum, d), remainder(sum, d), d);
     NextDigit {
         digit: ten.digit,
         rest: ten.rest,
@@ -121,7 +122,7 @@ fn twofold(whole: u128, rest: u128, d: u128) -> NextDigit
 {
     let twice = 2 * rest;
     NextDigit {
-        digit: 2 * whole + twice / d,
-        rest: twice % d,
+        digit: 2 * whole + divide(twice, d),
+        rest: remainder(twice, d),
     }
 }

@@ -6,6 +6,7 @@ ghost use Rattle.wi_fraction.specs.Rounding.{floored, rounded, round_to, times_t
 ghost use Rattle.wi_fraction.specs.Whole.{rounded_size};
 
 use crate::arithmetic::multiplied;
+use crate::division::{divide, remainder};
 use crate::lowest_terms::{integer, signed};
 use crate::{Fraction, FractionError};
 
@@ -31,9 +32,9 @@ impl Fraction {
         } = self;
         let size = n.unsigned_abs();
         if n >= 0 {
-            return whole(false, size / d);
+            return whole(false, divide(size, d));
         }
-        whole(true, (size - 1) / d + 1)
+        whole(true, divide(size - 1, d) + 1)
     }
 
     /// The number rounded at so many places after the point, or before it where they are negative. It overflows where
@@ -103,8 +104,8 @@ fn rounded_size(mode: Mode, n: u128, d: u128) -> u128
 {
     match mode {
         Mode::HalfAway => nearest(n, d),
-        Mode::Away => (n + (d - 1)) / d,
-        Mode::Toward => n / d,
+        Mode::Away => divide(n + (d - 1), d),
+        Mode::Toward => divide(n, d),
     }
 }
 
@@ -115,9 +116,9 @@ fn nearest(n: u128, d: u128) -> u128
     requires denominator { d ≤ max_size }
     ensures { result ≡ (2 * n + d) / (2 * d) }
 {
-    let rest = n % d;
+    let rest = remainder(n, d);
     if rest < d - rest {
-        return n / d;
+        return divide(n, d);
     }
-    n / d + 1
+    divide(n, d) + 1
 }

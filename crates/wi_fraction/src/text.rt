@@ -4,6 +4,7 @@ ghost use Rattle.std.specs.Prelude.{◌≡◌, ◌+◌, ◌<◌, ◌≤◌, ◌^
 ghost use Rattle.wi_fraction.specs.Text.{text_of, places, places_from, sign_text, size_text};
 
 use crate::Fraction;
+use crate::division::{divide, remainder};
 use itoa::Buffer;
 use std::alloc::AllocError;
 
@@ -44,7 +45,7 @@ fn places_from(tries: u32, k: u32, power: u128, d: u128) -> Option<u32>
     if tries == 0 {
         return None;
     }
-    if power % d == 0 {
+    if remainder(power, d) == 0 {
         return Some(k);
     }
     places_from(tries - 1, k + 1, power * 10, d)
@@ -60,12 +61,12 @@ fn push_parts(negative: bool, n: u128, d: u128, text: &mut String) -> Result<(),
     let mut second = Buffer::new();
     match places(d) {
         None => push_joined(negative, first.format(n), "/", second.format(d), text),
-        Some(0) => push_joined(negative, first.format(n / d), "", "", text),
+        Some(0) => push_joined(negative, first.format(divide(n, d)), "", "", text),
         Some(k) => {
             // The digits after the point are those of a number with a one in front, which keeps their zeros.
             let power = 10u128.pow(k);
-            let rest = second.format(power + n % d * (power / d));
-            push_joined(negative, first.format(n / d), ".", &rest[1..], text)
+            let rest = second.format(power + remainder(n, d) * divide(power, d));
+            push_joined(negative, first.format(divide(n, d)), ".", &rest[1..], text)
         }
     }
 }

@@ -1,10 +1,10 @@
-use Rattle.std.proofs.Common.{arith, refl}
+use Rattle.std.proofs.Common.{arith}
 use Rattle.std.proofs.Math.Nat.{mod-lt}
 use Rattle.wi_fraction.proofs.Decimals.{all_places_begin, all_found, all_next, all_end, next_power}
 use Rattle.wi_fraction.proofs.decimal.all_places.Goals as goal
 
 pub loop-k-init : goal.loop-k-init
-loop-k-init c = record { power = refl; below = mod-lt 1 c.requires.above_zero; left = all_places_begin c.args.d }
+loop-k-init c = record { power = c.remainder-rest.ensures; below = rw c.remainder-rest.ensures (mod-lt 1 c.requires.above_zero); left = all_places_begin c.args.d }
 
 pub returns-then-rest-eq0 : goal.returns-then-rest-eq0
 returns-then-rest-eq0 c = all_found c.loop-k.k c.args.d c.loop-k.rest (omega arith) c.loop-k.invariant.power c.if-rest-eq0.true c.loop-k.invariant.left

@@ -23,7 +23,7 @@ returns-in_ok-push_joined-in-Some-clause-ok c =
     let old = string_bytes c.args.text.now in
     let mid = string_bytes c.push_joined-in-Some.new.text in
     let digits = padded k (n % d * 10 ^ k / d) in
-    let front : mid ≡ old ++ (sign_text c.args.negative ++ (decimal (n / d) ++ (46 ∷ []))) = rw c.format-in-Some.ensures.text at c.in_ok-push_joined-in-Some.ensures.ok in
+    let front : mid ≡ old ++ (sign_text c.args.negative ++ (decimal (n / d) ++ (46 ∷ []))) = rw (c.format-in-Some.ensures.text, c.divide.ensures) at c.in_ok-push_joined-in-Some.ensures.ok in
     let text : size_text (all_places d) n d ≡ decimal (n / d) ++ 46 ∷ digits = exact_point n d k c.in-Some.ensures (omega (arith, c.in-Some.k-test)) c.requires.above_zero in
     let whole : mid ++ digits ≡ old ++ (sign_text c.args.negative ++ size_text (all_places d) n d) = exact_written old (sign_text c.args.negative) (decimal (n / d)) digits mid front ∙ ap (λ x. old ++ (sign_text c.args.negative ++ x)) (sym text) in
-    subst (λ x. OnOk c.push_digits.result (string_bytes c.push_digits.new.text ≡ x)) whole c.push_digits.ensures.ok
+    subst (λ x. OnOk c.push_digits.result (string_bytes c.push_digits.new.text ≡ x)) whole (rw c.remainder.ensures at c.push_digits.ensures.ok)
