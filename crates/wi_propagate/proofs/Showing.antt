@@ -2,7 +2,7 @@
 use Rattle.std.proofs.Common.{◌≡◌, ◌≤◌, ◌+◌, ℕ, false, List, [], length, sum_by, ap, sym, ◌∙◌, subst, arith}
 use Rattle.wi_values.specs.declared.value.Value.{Value}
 use Rattle.wi_values.specs.declared.replacement.Replacement.{Replacement}
-use Rattle.wi_values.specs.Replacements.{IsInOrder, entries, overridden}
+use Rattle.wi_values.specs.Replacements.{IsInOrder, as_map, overridden}
 use Rattle.wi_values.proofs.Replacements.Overriding.{overridden-nothing}
 use Rattle.wi_parser.specs.Sheet.{Sheet, put_all, has_formula}
 use Rattle.wi_graph.specs.Circular.{circular}
@@ -14,14 +14,14 @@ use Rattle.wi_sheet.proofs.Steps.{shown_open}
 use Rattle.wi_sheet.proofs.SmallerWorlds.{content_below}
 use Rattle.wi_sheet.proofs.Cases.{different_closed, different_has_itself}
 use Rattle.wi_sheet.proofs.Counting.{left_of_nothing, sum_of_ones}
-use Rattle.wi_sheet.proofs.Overrides.{puts_entries}
+use Rattle.wi_sheet.proofs.Overrides.{puts_as_map}
 use Rattle.wi_engine.specs.Inner.Remembered.{OneQuestion, remembered, state_of}
 
 -- replacements in order, put in where there are none
-pub put_alone : (w base put : List Replacement) → IsInOrder put → base ≡ [] → entries w ≡ overridden (entries base) put → w ≡ put
+pub put_alone : (w base put : List Replacement) → IsInOrder put → base ≡ [] → as_map w ≡ overridden (as_map base) put → w ≡ put
 put_alone w base put o b e =
-    let none = ap (λ (x : List Replacement). overridden (entries x) put) b in
-    sym (puts_entries w) ∙ ap puts_of (e ∙ none ∙ overridden-nothing put o) ∙ puts_entries put
+    let none = ap (λ (x : List Replacement). overridden (as_map x) put) b in
+    sym (puts_as_map w) ∙ ap puts_of (e ∙ none ∙ overridden-nothing put o) ∙ puts_as_map put
 
 pub shown_value : (s : Sheet) (w put : List Replacement) (a : ℕ) (v : Value) → circular s a ≡ false → w ≡ put → v ≡ cell_value (put_all s w) a → v ≡ shown s put a
 shown_value s w put a v o e is = is ∙ ap (λ (p : List Replacement). cell_value (put_all s p) a) e ∙ sym (shown_open s put a o)

@@ -11,7 +11,7 @@ use Rattle.std.specs.Map.{lookup, keys_of}
 use Rattle.std.specs.BTreeMap.{is_at, insert_entry}
 use Rattle.wi_values.specs.declared.value.Value.{Value}
 use Rattle.wi_values.specs.declared.replacement.Replacement.{Replacement}
-use Rattle.wi_values.specs.Replacements.{IsInOrder, entries, replaced, overridden, last_for}
+use Rattle.wi_values.specs.Replacements.{IsInOrder, as_map, replaced, overridden, last_for}
 use Rattle.wi_values.proofs.Replacements.InOrder.{sorted_from_order, order_from_entries}
 use Rattle.wi_values.proofs.Replacements.Filtering.{order_of_filter}
 use Rattle.wi_values.proofs.Replacements.Overriding.{overridden-nothing, lookup-overridden}
@@ -81,17 +81,17 @@ rises_overridden : (es : List (ℕ × Value)) (rs : List Replacement) → Rises 
 rises_overridden es [] h = h
 rises_overridden es (r ∷ rs) h = rises_overridden (insert_entry nat_cmp es r.at r.value) rs (rises_insert es r.at r.value h)
 
-entries_puts : (es : List (ℕ × Value)) → entries (puts_of es) ≡ es
-entries_puts [] = refl
-entries_puts (e ∷ es) = ap (λ (xs : List (ℕ × Value)). e ∷ xs) (entries_puts es)
+as_map_puts : (es : List (ℕ × Value)) → as_map (puts_of es) ≡ es
+as_map_puts [] = refl
+as_map_puts (e ∷ es) = ap (λ (xs : List (ℕ × Value)). e ∷ xs) (as_map_puts es)
 
-pub puts_entries : (w : List Replacement) → puts_of (entries w) ≡ w
-puts_entries [] = refl
-puts_entries (r ∷ rs) = ap (λ (xs : List Replacement). r ∷ xs) (puts_entries rs)
+pub puts_as_map : (w : List Replacement) → puts_of (as_map w) ≡ w
+puts_as_map [] = refl
+puts_as_map (r ∷ rs) = ap (λ (xs : List Replacement). r ∷ xs) (puts_as_map rs)
 
-pub override_in_order : (w rs : List Replacement) → IsInOrder w → IsInOrder (puts_of (overridden (entries w) rs))
+pub override_in_order : (w rs : List Replacement) → IsInOrder w → IsInOrder (puts_of (overridden (as_map w) rs))
 override_in_order w rs h =
-    order_from_entries (puts_of (overridden (entries w) rs)) (overridden (entries w) rs) (entries_puts (overridden (entries w) rs)) (rises_overridden (entries w) rs (sorted_from_order w h))
+    order_from_entries (puts_of (overridden (as_map w) rs)) (overridden (as_map w) rs) (as_map_puts (overridden (as_map w) rs)) (rises_overridden (as_map w) rs (sorted_from_order w h))
 
 pub what_if_in_order : (s : Sheet) (w : List Replacement) (pairs : List (ℕ × ℕ)) → IsInOrder w → IsInOrder (with_what_if s w pairs)
 what_if_in_order s w pairs h = override_in_order w (replacements (cell_value (put_all s w)) pairs) h
@@ -101,28 +101,28 @@ reaching_in_order s c w h = order_of_filter (λ r. reaches s c r.at) w h
 
 -- ---- what overrides, stands over what was there
 
-pub override_last : (w rs : List Replacement) → IsInOrder w → (a : ℕ) → last_for (puts_of (overridden (entries w) rs)) a ≡ option_or (last_for rs a) (last_for w a)
+pub override_last : (w rs : List Replacement) → IsInOrder w → (a : ℕ) → last_for (puts_of (overridden (as_map w) rs)) a ≡ option_or (last_for rs a) (last_for w a)
 override_last w rs h a =
-    last_in_order (puts_of (overridden (entries w) rs)) (override_in_order w rs h) a
-    ∙ ap (λ (es : List (ℕ × Value)). lookup (is_at (nat_cmp a)) es) (entries_puts (overridden (entries w) rs))
-    ∙ lookup-overridden a (entries w) rs ∙ ap (option_or (last_for rs a)) (sym (last_in_order w h a))
+    last_in_order (puts_of (overridden (as_map w) rs)) (override_in_order w rs h) a
+    ∙ ap (λ (es : List (ℕ × Value)). lookup (is_at (nat_cmp a)) es) (as_map_puts (overridden (as_map w) rs))
+    ∙ lookup-overridden a (as_map w) rs ∙ ap (option_or (last_for rs a)) (sym (last_in_order w h a))
 
-pub override_content : (s : Sheet) (w rs : List Replacement) → IsInOrder w → (a : ℕ) → content_of (put_all s (puts_of (overridden (entries w) rs))) a ≡ content_of (put_all (put_all s w) rs) a
+pub override_content : (s : Sheet) (w rs : List Replacement) → IsInOrder w → (a : ℕ) → content_of (put_all s (puts_of (overridden (as_map w) rs))) a ≡ content_of (put_all (put_all s w) rs) a
 override_content s w rs h a =
-    content_by_last s (puts_of (overridden (entries w) rs)) a
+    content_by_last s (puts_of (overridden (as_map w) rs)) a
     ∙ ap (λ (v : Option Value). over v (content_of s a)) (override_last w rs h a)
     ∙ over_both (last_for rs a) (last_for w a) (content_of s a)
     ∙ ap (over (last_for rs a)) (sym (content_by_last s w a)) ∙ sym (content_by_last (put_all s w) rs a)
 
 -- replacements whose entries are those of a what-if put in are those with the what-if
-pub replaced_world : (s : Sheet) (w v inputs : List Replacement) (pairs : List (ℕ × ℕ)) → inputs ≡ replacements (cell_value (put_all s w)) pairs → entries v ≡ overridden (entries w) inputs → v ≡ with_what_if s w pairs
-replaced_world s w v inputs pairs e k = sym (puts_entries v) ∙ ap puts_of (k ∙ ap (overridden (entries w)) e)
+pub replaced_world : (s : Sheet) (w v inputs : List Replacement) (pairs : List (ℕ × ℕ)) → inputs ≡ replacements (cell_value (put_all s w)) pairs → as_map v ≡ overridden (as_map w) inputs → v ≡ with_what_if s w pairs
+replaced_world s w v inputs pairs e k = sym (puts_as_map v) ∙ ap puts_of (k ∙ ap (overridden (as_map w)) e)
 
 -- a what-if under replacements is its formula cell under those of its world
 pub with_what_if_value : (s : Sheet) (w : List Replacement) (f : ℕ) (pairs : List (ℕ × ℕ)) → IsInOrder w → cell_value (put_all s (with_what_if s w pairs)) f ≡ what_if_value (put_all s w) f pairs
 with_what_if_value s w f pairs h =
     let rs = replacements (cell_value (put_all s w)) pairs in
-    value_same (put_all s (puts_of (overridden (entries w) rs))) (put_all (put_all s w) rs) f (λ d r. override_content s w rs h d)
+    value_same (put_all s (puts_of (overridden (as_map w) rs))) (put_all (put_all s w) rs) f (λ d r. override_content s w rs h d)
 
 -- a cell's value under replacements is the one under those alone that reach it
 pub reaching_suffices : (s : Sheet) (w : List Replacement) (c : ℕ) → cell_value (put_all s (reaching s c w)) c ≡ cell_value (put_all s w) c

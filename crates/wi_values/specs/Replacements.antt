@@ -15,12 +15,12 @@ abbrev pub IsInOrder : List Replacement → Type 0
 IsInOrder rs = IsStrictlyIncreasing (map (λ r. r.at) rs)
 
 -- replacements in the words of std's maps
-abbrev pub entries : List Replacement → List (ℕ × Value)
-entries rs = map (λ r. (r.at, r.value)) rs
+abbrev pub as_map : List Replacement → List (ℕ × Value)
+as_map rs = map (λ r. (r.at, r.value)) rs
 
 -- what stands in the place of an address's content, if anything does
 abbrev pub replaced : List Replacement → ℕ → Option Value
-replaced rs a = lookup (is_at (nat_cmp a)) (entries rs)
+replaced rs a = lookup (is_at (nat_cmp a)) (as_map rs)
 
 -- a map with replacements put in, one after another
 abbrev pub overridden : List (ℕ × Value) → List Replacement → List (ℕ × Value)

@@ -1,14 +1,14 @@
 //! Replacements as entries of a map, and back.
 
 ghost use Rattle.std.specs.Prelude.{◌≡◌, IfOk, OnOk};
-ghost use Rattle.wi_values.specs.Replacements.{IsInOrder, entries, overridden};
+ghost use Rattle.wi_values.specs.Replacements.{IsInOrder, as_map, overridden};
 
 use std::alloc::{AllocError, Global};
 use std::collections::BTreeMap;
 use wi_values::{Address, Replacement, Value};
 
 /// Values by addresses.
-type Entries = BTreeMap<Address, Value>;
+type ValueMap = BTreeMap<Address, Value>;
 
 /// The same replacement once more.
 pub(crate) fn copied(alloc: Global, replacement: &Replacement) -> Result<Replacement, AllocError>
@@ -24,7 +24,7 @@ pub(crate) fn copied(alloc: Global, replacement: &Replacement) -> Result<Replace
 /// Puts copies of replacements into a map, one after another. If memory runs out, those put in so far stay.
 pub(crate) fn put_in(
     alloc: Global,
-    map: &mut Entries,
+    map: &mut ValueMap,
     replacements: &[Replacement],
 ) -> Result<(), AllocError>
     ensures { OnOk result (map.new.entries ≡ overridden map.old.entries replacements.now) }
@@ -37,8 +37,8 @@ pub(crate) fn put_in(
 }
 
 /// The entries of a map as replacements, in row-major order.
-pub(crate) fn listed(alloc: Global, map: Entries) -> Result<Vec<Replacement>, AllocError>
-    ensures value { IfOk result (λ rs. entries rs.items ≡ map.entries) }
+pub(crate) fn listed(alloc: Global, map: ValueMap) -> Result<Vec<Replacement>, AllocError>
+    ensures value { IfOk result (λ rs. as_map rs.items ≡ map.entries) }
     ensures order { IfOk result (λ rs. IsInOrder rs.items) }
 {
     let mut replacements = Vec::with_capacity(alloc, map.len())?;

@@ -4,7 +4,7 @@ ghost use Rattle.std.specs.Prelude.{◌≡◌, ℕ, [], All, filter, None, IsSom
 ghost use Rattle.std.specs.BTreeMap.{get};
 ghost use Rattle.std.specs.Option.{option_copied, option_or};
 ghost use Rattle.std.specs.Ordering.{nat_cmp};
-ghost use Rattle.wi_values.specs.Replacements.{IsInOrder, entries, last_for, overridden, replaced};
+ghost use Rattle.wi_values.specs.Replacements.{IsInOrder, as_map, last_for, overridden, replaced};
 ghost use Rattle.wi_worlds.specs.Reaching.{cone_has, is_reached};
 
 use crate::entries::{copied, listed, put_in};
@@ -58,7 +58,7 @@ impl World {
     /// one address the later counts. The work for each replacement, the old ones too, grows with the logarithm of
     /// the count of all.
     pub fn with(&self, others: &[Replacement]) -> Result<World, AllocError>
-        ensures list { IfOk result (λ w. entries w ≡ overridden (entries self.now) others.now) }
+        ensures list { IfOk result (λ w. as_map w ≡ overridden (as_map self.now) others.now) }
         ensures each { IfOk result (λ w. (a : ℕ) → replaced w a ≡ option_or (last_for others.now a) (replaced self.now a)) }
     {
         let alloc = *self.replacements.allocator();

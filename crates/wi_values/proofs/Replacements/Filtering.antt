@@ -8,7 +8,7 @@ use Rattle.std.proofs.lemmas.Bool.Decides.{nat_tests}
 use Rattle.std.proofs.lemmas.Map.Entries.{lookup-filter-keys}
 use Rattle.wi_values.specs.declared.value.Value.{Value}
 use Rattle.wi_values.specs.declared.replacement.Replacement.{Replacement}
-use Rattle.wi_values.specs.Replacements.{IsInOrder, entries, replaced}
+use Rattle.wi_values.specs.Replacements.{IsInOrder, as_map, replaced}
 use Rattle.wi_values.proofs.Replacements.InOrder.{ComeAfter, sorted_from_order, order_from_sorted}
 
 after_filter : (a : ℕ) (p : Replacement → Bool) (rs : List Replacement) → ComeAfter a rs → ComeAfter a (filter p rs)
@@ -20,7 +20,7 @@ after_filter a p (r ∷ rs) h = by (p r) (after_filter a p rs h.1)
     by false k = k
 
 abbrev Rises : List Replacement → Type 0
-Rises rs = IsStrictlySortedBy nat_cmp (keys_of (entries rs))
+Rises rs = IsStrictlySortedBy nat_cmp (keys_of (as_map rs))
 
 sorted_filter : (p : Replacement → Bool) (rs : List Replacement) → Rises rs → Rises (filter p rs)
 unfolding IsStrictlySortedBy
@@ -36,12 +36,12 @@ order_of_filter p rs h = order_from_sorted (filter p rs) (sorted_filter p rs (so
 
 -- ---- what an address has among those that are left
 
-entries-filter : (p : ℕ → Bool) (rs : List Replacement) → entries (filter (λ r. p r.at) rs) ≡ filter (λ e. p e.0) (entries rs)
-entries-filter p [] = refl
-entries-filter p (r ∷ rs) = by (p r.at) (entries-filter p rs)
+as_map-filter : (p : ℕ → Bool) (rs : List Replacement) → as_map (filter (λ r. p r.at) rs) ≡ filter (λ e. p e.0) (as_map rs)
+as_map-filter p [] = refl
+as_map-filter p (r ∷ rs) = by (p r.at) (as_map-filter p rs)
   where
-    by : (b : Bool) → entries (filter (λ s. p s.at) rs) ≡ filter (λ e. p e.0) (entries rs)
-        → entries (cond b (r ∷ filter (λ s. p s.at) rs) (filter (λ s. p s.at) rs)) ≡ cond b ((r.at, r.value) ∷ filter (λ e. p e.0) (entries rs)) (filter (λ e. p e.0) (entries rs))
+    by : (b : Bool) → as_map (filter (λ s. p s.at) rs) ≡ filter (λ e. p e.0) (as_map rs)
+        → as_map (cond b (r ∷ filter (λ s. p s.at) rs) (filter (λ s. p s.at) rs)) ≡ cond b ((r.at, r.value) ∷ filter (λ e. p e.0) (as_map rs)) (filter (λ e. p e.0) (as_map rs))
     by true h = ap (λ (es : List (ℕ × Value)). (r.at, r.value) ∷ es) h
     by false h = h
 
@@ -50,5 +50,5 @@ found_key a k h = grind (arith, nat_tests)
 
 pub replaced-filter : (p : ℕ → Bool) (a : ℕ) (rs : List Replacement) → replaced (filter (λ r. p r.at) rs) a ≡ cond (p a) (replaced rs a) None
 replaced-filter p a rs =
-    ap (λ (es : List (ℕ × Value)). lookup (is_at (nat_cmp a)) es) (entries-filter p rs)
-    ∙ lookup-filter-keys (is_at (nat_cmp a)) p (p a) (λ k t. ap p (found_key a k t)) (entries rs)
+    ap (λ (es : List (ℕ × Value)). lookup (is_at (nat_cmp a)) es) (as_map-filter p rs)
+    ∙ lookup-filter-keys (is_at (nat_cmp a)) p (p a) (λ k t. ap p (found_key a k t)) (as_map rs)

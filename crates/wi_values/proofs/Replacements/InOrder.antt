@@ -11,27 +11,27 @@ use Rattle.std.proofs.lemmas.Bool.Decides.{nat_tests}
 use Rattle.std.proofs.lemmas.Map.Keys.{sorted_head, sorted_tail, sorted_from_strictly_increasing, IsStrictlyIncreasing-from_sorted}
 use Rattle.wi_values.specs.declared.value.Value.{Value}
 use Rattle.wi_values.specs.declared.replacement.Replacement.{Replacement}
-use Rattle.wi_values.specs.Replacements.{IsInOrder, entries, replaced}
+use Rattle.wi_values.specs.Replacements.{IsInOrder, as_map, replaced}
 
-keys_of-entries : (rs : List Replacement) → keys_of (entries rs) ≡ map (λ r. r.at) rs
-keys_of-entries [] = refl
-keys_of-entries (r ∷ rs) = ap (λ (ks : List ℕ). r.at ∷ ks) (keys_of-entries rs)
+keys_of-as_map : (rs : List Replacement) → keys_of (as_map rs) ≡ map (λ r. r.at) rs
+keys_of-as_map [] = refl
+keys_of-as_map (r ∷ rs) = ap (λ (ks : List ℕ). r.at ∷ ks) (keys_of-as_map rs)
 
-pub sorted_from_order : (rs : List Replacement) → IsInOrder rs → IsStrictlySortedBy nat_cmp (keys_of (entries rs))
-sorted_from_order rs h = subst (IsStrictlySortedBy nat_cmp) (sym (keys_of-entries rs)) (sorted_from_strictly_increasing _ h)
+pub sorted_from_order : (rs : List Replacement) → IsInOrder rs → IsStrictlySortedBy nat_cmp (keys_of (as_map rs))
+sorted_from_order rs h = subst (IsStrictlySortedBy nat_cmp) (sym (keys_of-as_map rs)) (sorted_from_strictly_increasing _ h)
 
-pub order_from_sorted : (rs : List Replacement) → IsStrictlySortedBy nat_cmp (keys_of (entries rs)) → IsInOrder rs
-order_from_sorted rs h = subst IsStrictlyIncreasing (keys_of-entries rs) (IsStrictlyIncreasing-from_sorted _ h)
+pub order_from_sorted : (rs : List Replacement) → IsStrictlySortedBy nat_cmp (keys_of (as_map rs)) → IsInOrder rs
+order_from_sorted rs h = subst IsStrictlyIncreasing (keys_of-as_map rs) (IsStrictlyIncreasing-from_sorted _ h)
 
 -- the entries of a map in order are those of replacements in order
-pub order_from_entries : (rs : List Replacement) (es : List (ℕ × Value)) → entries rs ≡ es → IsStrictlySortedBy nat_cmp (keys_of es) → IsInOrder rs
+pub order_from_entries : (rs : List Replacement) (es : List (ℕ × Value)) → as_map rs ≡ es → IsStrictlySortedBy nat_cmp (keys_of es) → IsInOrder rs
 order_from_entries rs es e h = order_from_sorted rs (subst (λ (xs : List (ℕ × Value)). IsStrictlySortedBy nat_cmp (keys_of xs)) (sym e) h)
 
 -- ---- worlds that have the same for each address
 
 -- each replaced address comes after a
 abbrev pub ComeAfter : ℕ → List Replacement → Type 0
-ComeAfter a rs = AllByRecursion (λ b. nat_cmp a b ≡ Less) (keys_of (entries rs))
+ComeAfter a rs = AllByRecursion (λ b. nat_cmp a b ≡ Less) (keys_of (as_map rs))
 
 none_after : (a : ℕ) (rs : List Replacement) → ComeAfter a rs → replaced rs a ≡ None
 none_after a [] h = refl
@@ -70,21 +70,21 @@ Less_from_below : (a b : ℕ) → a < b → nat_cmp a b ≡ Less
 Less_from_below a b h = grind (arith, nat_tests)
 
 abbrev Rises : List Replacement → Type 0
-Rises rs = IsStrictlySortedBy nat_cmp (keys_of (entries rs))
+Rises rs = IsStrictlySortedBy nat_cmp (keys_of (as_map rs))
 
 one_from_replaced : (v w : List Replacement) → Rises v → Rises w → ((a : ℕ) → replaced v a ≡ replaced w a) → v ≡ w
 one_from_replaced [] [] p q h = refl
 one_from_replaced [] (s ∷ ws) p q h = absurd (lacks s ws [] tt (λ a. sym (h a)))
 one_from_replaced (r ∷ vs) [] p q h = absurd (lacks r vs [] tt h)
 one_from_replaced (r ∷ vs) (s ∷ ws) p q h =
-    let after_r = sorted_head nat_cmp r.at (keys_of (entries vs)) p in
-    let after_s = sorted_head nat_cmp s.at (keys_of (entries ws)) q in
+    let after_r = sorted_head nat_cmp r.at (keys_of (as_map vs)) p in
+    let after_s = sorted_head nat_cmp s.at (keys_of (as_map ws)) q in
     ⊎_elim (λ e.
     let g : (a : ℕ) → cond (is_at (nat_cmp a) r.at) (Some r.value) (replaced vs a) ≡ cond (is_at (nat_cmp a) r.at) (Some s.value) (replaced ws a) =
     subst (λ (c : ℕ). (a : ℕ) → cond (is_at (nat_cmp a) r.at) (Some r.value) (replaced vs a) ≡ cond (is_at (nat_cmp a) c) (Some s.value) (replaced ws a)) (sym e) h in
     let after_r_too : ComeAfter r.at ws = subst (λ (c : ℕ). ComeAfter c ws) (sym e) after_s in
     let values = same_front r.at r.value s.value vs ws g in
-    let tails = one_from_replaced vs ws (sorted_tail nat_cmp r.at (keys_of (entries vs)) p) (sorted_tail nat_cmp s.at (keys_of (entries ws)) q)
+    let tails = one_from_replaced vs ws (sorted_tail nat_cmp r.at (keys_of (as_map vs)) p) (sorted_tail nat_cmp s.at (keys_of (as_map ws)) q)
     (same_behind r.at r.value s.value vs ws after_r after_r_too g) in
     λ i. (record { at = e i; value = values i }) ∷ tails i)
     (⊎_elim (λ l. absurd (lacks r vs (s ∷ ws) (Less_from_below r.at s.at l, come_after_earlier r.at s.at ws (Less_from_below r.at s.at l) after_s) h))

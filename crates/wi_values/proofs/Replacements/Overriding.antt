@@ -13,7 +13,7 @@ use Rattle.std.proofs.lemmas.Bool.Decides.{nat_tests}
 use Rattle.std.proofs.lemmas.Map.Keys.{sorted_head, sorted_tail}
 use Rattle.wi_values.specs.declared.value.Value.{Value}
 use Rattle.wi_values.specs.declared.replacement.Replacement.{Replacement}
-use Rattle.wi_values.specs.Replacements.{IsInOrder, entries, replaced, overridden, last_for}
+use Rattle.wi_values.specs.Replacements.{IsInOrder, as_map, replaced, overridden, last_for}
 use Rattle.wi_values.proofs.Replacements.InOrder.{sorted_from_order}
 
 abbrev Entries : Type 0
@@ -45,24 +45,24 @@ before_more k a v (e ∷ es) l h = (h.0, before_more k a v es l h.1)
 below_from_Less : (a b : ℕ) → nat_cmp a b ≡ Less → a < b
 below_from_Less a b h = grind (arith, nat_tests)
 
-all_before_more : (r : Replacement) (es : Entries) (rs : List Replacement) → AllByRecursion (λ b. nat_cmp r.at b ≡ Less) (keys_of (entries rs))
+all_before_more : (r : Replacement) (es : Entries) (rs : List Replacement) → AllByRecursion (λ b. nat_cmp r.at b ≡ Less) (keys_of (as_map rs))
     → AllBefore es rs → AllBefore (es ++ (r.at, r.value) ∷ []) rs
 all_before_more r es [] l h = tt
 all_before_more r es (s ∷ rs) l h = (before_more s.at r.at r.value es (below_from_Less r.at s.at l.0) h.0, all_before_more r es rs l.1 h.1)
 
-overridden-after : (es : Entries) (rs : List Replacement) → IsStrictlySortedBy nat_cmp (keys_of (entries rs)) → AllBefore es rs → overridden es rs ≡ es ++ entries rs
+overridden-after : (es : Entries) (rs : List Replacement) → IsStrictlySortedBy nat_cmp (keys_of (as_map rs)) → AllBefore es rs → overridden es rs ≡ es ++ as_map rs
 overridden-after es [] h b = sym (append-nil es)
 overridden-after es (r ∷ rs) h b =
     ap (λ (xs : Entries). overridden xs rs) (insert_last es r.at r.value b.0)
-    ∙ overridden-after (es ++ (r.at, r.value) ∷ []) rs (sorted_tail nat_cmp r.at (keys_of (entries rs)) h)
-    (all_before_more r es rs (sorted_head nat_cmp r.at (keys_of (entries rs)) h) b.1)
-    ∙ append_assoc es ((r.at, r.value) ∷ []) (entries rs)
+    ∙ overridden-after (es ++ (r.at, r.value) ∷ []) rs (sorted_tail nat_cmp r.at (keys_of (as_map rs)) h)
+    (all_before_more r es rs (sorted_head nat_cmp r.at (keys_of (as_map rs)) h) b.1)
+    ∙ append_assoc es ((r.at, r.value) ∷ []) (as_map rs)
 
 all_before_nothing : (rs : List Replacement) → AllBefore [] rs
 all_before_nothing [] = tt
 all_before_nothing (r ∷ rs) = (tt, all_before_nothing rs)
 
-pub overridden-nothing : (rs : List Replacement) → IsInOrder rs → overridden [] rs ≡ entries rs
+pub overridden-nothing : (rs : List Replacement) → IsInOrder rs → overridden [] rs ≡ as_map rs
 overridden-nothing rs h = overridden-after [] rs (sorted_from_order rs h) (all_before_nothing rs)
 
 -- ---- the last one counts
@@ -121,5 +121,5 @@ lookup-overridden a es (r ∷ rs) =
     ∙ ap (λ (o : Option Value). option_or (last_for rs a) o) (lookup-insert_entry a r.at r.value es)
     ∙ or_else (r.at == a) (last_for rs a) (lookup (is_at (nat_cmp a)) es) r.value
 
-pub replaced-overridden : (v w rs : List Replacement) → entries w ≡ overridden (entries v) rs → (a : ℕ) → replaced w a ≡ option_or (last_for rs a) (replaced v a)
-replaced-overridden v w rs e a = ap (λ (es : Entries). lookup (is_at (nat_cmp a)) es) e ∙ lookup-overridden a (entries v) rs
+pub replaced-overridden : (v w rs : List Replacement) → as_map w ≡ overridden (as_map v) rs → (a : ℕ) → replaced w a ≡ option_or (last_for rs a) (replaced v a)
+replaced-overridden v w rs e a = ap (λ (es : Entries). lookup (is_at (nat_cmp a)) es) e ∙ lookup-overridden a (as_map v) rs

@@ -4,7 +4,7 @@ use Rattle.wi_values.specs.Address.{place}
 use Rattle.wi_values.specs.declared.value.Value.TheVariants.{Empty, Logical}
 use Rattle.wi_values.specs.declared.value.Value.{Value}
 use Rattle.wi_values.specs.declared.replacement.Replacement.{Replacement}
-use Rattle.wi_values.specs.Replacements.{entries, replaced, overridden, last_for}
+use Rattle.wi_values.specs.Replacements.{as_map, replaced, overridden, last_for}
 
 abbrev by : ℕ → Value → Replacement
 by a v = record { at = a; value = v }
@@ -27,7 +27,7 @@ abbrev others : List Replacement
 others = by c3 (Logical false) ∷ by a1 (Logical true) ∷ by a1 Empty ∷ []
 
 -- put in, they stand in order, the later one of A1, and in the place of the old one of C3
-all_of_them : overridden (entries old) others ≡ entries (by a1 Empty ∷ by a2 (Logical true) ∷ by c3 (Logical false) ∷ [])
+all_of_them : overridden (as_map old) others ≡ as_map (by a1 Empty ∷ by a2 (Logical true) ∷ by c3 (Logical false) ∷ [])
 all_of_them = refl
 
 -- the last of A1 is Empty, and A2 has none
@@ -45,5 +45,5 @@ not_replaced : replaced old a1 ≡ None
 not_replaced = refl
 
 -- the same others, put in the other way round
-other_way : overridden (overridden [] others) old ≡ entries (by a1 Empty ∷ by a2 (Logical true) ∷ by c3 Empty ∷ [])
+other_way : overridden (overridden [] others) old ≡ as_map (by a1 Empty ∷ by a2 (Logical true) ∷ by c3 Empty ∷ [])
 other_way = refl
