@@ -17,10 +17,10 @@ use Rattle.wi_cli.specs.Lines.{raw_lines, onto_first, without_lf, is_whole}
 use Rattle.wi_cli.specs.Script.{line_command, commands, whole_lines, all_commands, complete_commands}
 use Rattle.wi_cli.specs.Inner.Reading.{raw, Broke}
 use Rattle.wi_cli.specs.Inner.Turn.{Turned, CutShort, Stopped}
-use Rattle.wi_cli.specs.Run.{Writes}
-use Rattle.wi_cli.specs.Outcome.{Outcome, WritesFront, limited}
+use Rattle.wi_cli.specs.Run.{WritesReplies}
+use Rattle.wi_cli.specs.Outcome.{Outcome, WritesFrontOfReplies, limited}
 use Rattle.wi_cli.proofs.ReadingLemmas.{Takes-trans, is_whole-append}
-use Rattle.wi_cli.proofs.RunLemmas.{Writes-append, Writes-none}
+use Rattle.wi_cli.proofs.RunLemmas.{WritesReplies-append, WritesReplies-none}
 use Rattle.wi_cli.proofs.LineLemmas.{AreWhole, AreWhole-none, AreWhole-push, raw_lines-last, without_lf-raw}
 use Rattle.wi_cli.proofs.ScriptLemmas.{AreServed, AreServed-none, AreServed-push}
 
@@ -54,7 +54,7 @@ pub record IsGoing (left : Option (List ℕ)) (buffer' : List ℕ) (left' : Opti
   pub counted : length lines ≡ count
   pub taken : Takes [] left buffer' left' (concat lines)
   pub written : Appends given given' out
-  pub writes : Writes s served out t
+  pub writes : WritesReplies s served out t
 
 Takes-none : (left : Option (List ℕ)) → Takes [] left [] left []
 Takes-none None = tt
@@ -71,7 +71,7 @@ going_none left s given = record {
   counted = refl;
   taken = Takes-none left;
   written = Appends-nil given;
-  writes = Writes-none s;
+  writes = WritesReplies-none s;
 }
 
 pub going_on : (left : Option (List ℕ)) (b : List ℕ) (p : Option (List ℕ)) (c : List ℕ) (q : Option (List ℕ)) (s m t : State) (w x y : Option (List ℕ)) (count : ℕ) (allowed : Bool)
@@ -89,7 +89,7 @@ going_on left b p c q s m t w x y count allowed h k =
       counted = length-append h.lines (line ∷ []) ∙ ap (λ n. n + 1) h.counted;
       taken = subst (Takes [] left c q) (sym (concat_push h.lines line)) (Takes-trans [] left b p c q _ _ h.taken k.taken);
       written = Appends-trans w x y _ _ h.written k.written;
-      writes = Writes-append s m t _ _ h.out k.out h.writes k.writes;
+      writes = WritesReplies-append s m t _ _ h.out k.out h.writes k.writes;
     }
 
 -- ---- from what was taken out of the buffer to what was taken from the source
@@ -169,7 +169,7 @@ record IsOver (left q : Option (List ℕ)) (s t : State) (given given' : Option 
   at_end : IsAtEnd q
   written : Appends given given' out
   few : length (raw_lines input) ≤ 1000000
-  writes : Writes s (all_commands input) out t
+  writes : WritesReplies s (all_commands input) out t
 
 over : (left : Option (List ℕ)) (b : List ℕ) (p : Option (List ℕ)) (c : List ℕ) (q : Option (List ℕ)) (s m t : State) (w x y : Option (List ℕ)) (count : ℕ) (allowed : Bool)
     → (allowed ≡ true → count < 1000000) → count ≤ 1000000
@@ -190,7 +190,7 @@ over left b p c q s m t w x y count allowed may most h k =
       at_end = at_end_of c q (k.at_end refl);
       written = Appends-trans w x y _ _ h.written k.written;
       few = omega (arith, ap length lines, length-append h.lines (raw_lines line), h.counted);
-      writes = subst (λ z. Writes s z (h.out ++ k.out) t) (sym said) (Writes-append s m t _ _ h.out k.out h.writes k.writes);
+      writes = subst (λ z. WritesReplies s z (h.out ++ k.out) t) (sym said) (WritesReplies-append s m t _ _ h.out k.out h.writes k.writes);
     }
 
 abbrev pub Ends : Result (Unit {0}) RunFault → Option (List ℕ) → Option (List ℕ) → State → State → Option (List ℕ) → Option (List ℕ) → Type 0
@@ -225,7 +225,7 @@ ends_flush left b p c q s m t w x y z count allowed may most h k e =
           whole = o.writes;
           front = [];
           unwritten = [];
-          cut = Writes-none t;
+          cut = WritesReplies-none t;
           written = sym (append-nil o.out);
         },
       ),
@@ -257,7 +257,7 @@ ends_read left b p c q s m t w x y count allowed may most h k same kept =
       subst (λ z. Appends w z h.out) (sym kept) h.written,
       (
         omega (arith, ap length lines, length-append h.lines (raw_lines line), h.counted, few),
-        subst (λ z. Writes s z h.out t) (sym said) (subst (λ z. Writes s h.served h.out z) (sym same) h.writes),
+        subst (λ z. WritesReplies s z h.out t) (sym said) (subst (λ z. WritesReplies s h.served h.out z) (sym same) h.writes),
       ),
     )
 
@@ -281,7 +281,7 @@ ends_limit left b p c q s m t w x y count allowed may most h k same kept =
       subst (λ z. Appends w z h.out) (sym kept) h.written,
       (
         omega (arith, ap length lines, length-append h.lines (raw_lines (byte ∷ c)), h.counted, full, some_line byte c),
-        subst (λ z. Writes s z h.out t) (sym said) (subst (λ z. Writes s h.served h.out z) (sym same) h.writes),
+        subst (λ z. WritesReplies s z h.out t) (sym said) (subst (λ z. WritesReplies s h.served h.out z) (sym same) h.writes),
       ),
     )
 
@@ -318,7 +318,7 @@ ends_write left b p c q s m t w x y count allowed may most h k = go k.whole k.ta
   written : Appends w y (h.out ++ k.out)
   written = Appends-trans w x y _ _ h.written k.written
 
-  front : (cs others : List Command) → cs ≡ (h.served ++ option_to_list (line_command k.content)) ++ others → WritesFront s cs (h.out ++ k.out) t
+  front : (cs others : List Command) → cs ≡ (h.served ++ option_to_list (line_command k.content)) ++ others → WritesFrontOfReplies s cs (h.out ++ k.out) t
   front cs others e = record {
     earlier = h.served;
     last = line_command k.content;

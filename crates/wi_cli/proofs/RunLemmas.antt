@@ -9,7 +9,7 @@ use Rattle.wi_scenarios.specs.State.{State}
 use Rattle.wi_scenarios.specs.Step.{Command, IsStep}
 use Rattle.wi_cli.specs.declared.reply.Reply.{Reply}
 use Rattle.wi_cli.specs.declared.reply.Reply.TheVariants.{Passed, Done, Refused}
-use Rattle.wi_cli.specs.Run.{MayAnswer, Runs, Writes}
+use Rattle.wi_cli.specs.Run.{MayAnswer, Runs, WritesReplies}
 use Rattle.wi_cli.specs.Inner.Told.{Told, told_bytes, RefusedAs}
 
 Runs-append : (s : State) (cs : List Command) (rs : List (List ℕ)) (m : State) (ds : List Command) (qs : List (List ℕ)) (t : State)
@@ -23,18 +23,18 @@ concat-append : (rs qs : List (List ℕ)) → concat (rs ++ qs) ≡ concat rs ++
 concat-append [] qs = refl
 concat-append (r ∷ rs) qs = ap (λ x. r ++ x) (concat-append rs qs) ∙ sym (append_assoc r (concat rs) (concat qs))
 
-pub Writes-append : (s m t : State) (cs ds : List Command) (out more : List ℕ) → Writes s cs out m → Writes m ds more t → Writes s (cs ++ ds) (out ++ more) t
-Writes-append s m t cs ds out more h k = record {
+pub WritesReplies-append : (s m t : State) (cs ds : List Command) (out more : List ℕ) → WritesReplies s cs out m → WritesReplies m ds more t → WritesReplies s (cs ++ ds) (out ++ more) t
+WritesReplies-append s m t cs ds out more h k = record {
   replies = h.replies ++ k.replies;
   run = Runs-append s cs h.replies m ds k.replies t h.run k.run;
   joined = ap (λ x. x ++ more) h.joined ∙ ap (λ x. concat h.replies ++ x) k.joined ∙ sym (concat-append h.replies k.replies);
 }
 
-pub Writes-none : (s : State) → Writes s [] [] s
-Writes-none s = record { replies = []; run = refl; joined = refl }
+pub WritesReplies-none : (s : State) → WritesReplies s [] [] s
+WritesReplies-none s = record { replies = []; run = refl; joined = refl }
 
-pub Writes-one : (s : State) (c : Command) (told : List ℕ) (t : State) → MayAnswer s c told t → Writes s (c ∷ []) told t
-Writes-one s c told t h = record { replies = told ∷ []; run = (t, h, refl); joined = sym (append-nil told) }
+pub WritesReplies-one : (s : State) (c : Command) (told : List ℕ) (t : State) → MayAnswer s c told t → WritesReplies s (c ∷ []) told t
+WritesReplies-one s c told t h = record { replies = told ∷ []; run = (t, h, refl); joined = sym (append-nil told) }
 
 answered_by : (s : State) (c : Command) (e : Refusal) (t : State) → t ≡ s → IsStep s c (Err e) → MayAnswer s c (refused e) t
 answered_by s c e t h k = inl (record { answer = Err e; is_step = k; reply_is = refl; state_is = h })
@@ -53,10 +53,10 @@ refused_is s c TooLarge t h k = answered_by s c TooLarge t h k
 refused_is s c EditLimit t h k = answered_by s c EditLimit t h k
 
 -- what is told of a line is a run of its command
-pub Writes-told : (o : Option Command) (a : Reply) (s t : State) (out : List ℕ) → Told o a s t out → Writes s (option_to_list o) (told_bytes a out) t
-Writes-told None Passed s t out h = subst (λ (x : State). Writes s [] [] x) (sym h) (Writes-none s)
-Writes-told None Done s t out h = absurd h
-Writes-told None (Refused e) s t out h = absurd h
-Writes-told (Some c) Passed s t out h = absurd h
-Writes-told (Some c) Done s t out h = Writes-one s c _ t (inl (record { answer = Ok (t, out); is_step = h; reply_is = refl; state_is = refl }))
-Writes-told (Some c) (Refused e) s t out h = Writes-one s c (refused e) t (refused_is s c e t h.0 h.1)
+pub WritesReplies-told : (o : Option Command) (a : Reply) (s t : State) (out : List ℕ) → Told o a s t out → WritesReplies s (option_to_list o) (told_bytes a out) t
+WritesReplies-told None Passed s t out h = subst (λ (x : State). WritesReplies s [] [] x) (sym h) (WritesReplies-none s)
+WritesReplies-told None Done s t out h = absurd h
+WritesReplies-told None (Refused e) s t out h = absurd h
+WritesReplies-told (Some c) Passed s t out h = absurd h
+WritesReplies-told (Some c) Done s t out h = WritesReplies-one s c _ t (inl (record { answer = Ok (t, out); is_step = h; reply_is = refl; state_is = refl }))
+WritesReplies-told (Some c) (Refused e) s t out h = WritesReplies-one s c (refused e) t (refused_is s c e t h.0 h.1)

@@ -17,8 +17,8 @@ use Rattle.wi_cli.specs.Inner.Told.{Told, told_bytes}
 use Rattle.wi_cli.specs.Script.{line_command, text_command}
 use Rattle.wi_cli.specs.Inner.Reading.{TookLine, front}
 use Rattle.wi_cli.specs.Inner.Turn.{Turned, CutShort}
-use Rattle.wi_cli.specs.Run.{Writes}
-use Rattle.wi_cli.proofs.RunLemmas.{Writes-told}
+use Rattle.wi_cli.specs.Run.{WritesReplies}
+use Rattle.wi_cli.proofs.RunLemmas.{WritesReplies-told}
 
 pub AppendsFront-append : (a b c : Option (List ℕ)) (xs ys : List ℕ) → Appends a b xs → AppendsFront b c ys → AppendsFront a c (xs ++ ys)
 AppendsFront-append a b c xs ys h k =
@@ -57,7 +57,7 @@ turned allowed whole b l b' l' s t w w' line a out k told h = record {
   may = k.may;
   out = told_bytes a out;
   written = h;
-  writes = Writes-told (line_command k.content) a s t out told;
+  writes = WritesReplies-told (line_command k.content) a s t out told;
 }
 
 pub cut_short : (allowed whole : Bool) (b : List ℕ) (l : Option (List ℕ)) (b' : List ℕ) (l' : Option (List ℕ)) (s t : State) (w w' : Option (List ℕ)) (line : List ℕ) (a : Reply) (out : List ℕ)
@@ -73,5 +73,5 @@ cut_short allowed whole b l b' l' s t w w' line a out k told h = record {
   out = take h.0 (told_bytes a out);
   unwritten = drop h.0 (told_bytes a out);
   written = h.2;
-  writes = subst (λ x. Writes s (option_to_list (line_command k.content)) x t) (sym (take-append-drop h.0 (told_bytes a out))) (Writes-told (line_command k.content) a s t out told);
+  writes = subst (λ x. WritesReplies s (option_to_list (line_command k.content)) x t) (sym (take-append-drop h.0 (told_bytes a out))) (WritesReplies-told (line_command k.content) a s t out told);
 }

@@ -8,21 +8,21 @@ use Rattle.wi_cli.specs.declared.fault.RunFault.{RunFault}
 use Rattle.wi_cli.specs.declared.fault.RunFault.TheVariants.{Memory, Read, Write, ScriptLimit}
 use Rattle.wi_cli.specs.Lines.{raw_lines}
 use Rattle.wi_cli.specs.Script.{commands, all_commands, complete_commands}
-use Rattle.wi_cli.specs.Run.{Writes}
+use Rattle.wi_cli.specs.Run.{WritesReplies}
 
 -- Each reply was written whole but the last, of which a front was, and no command was served after it. There is no
 -- last where the flush at the end failed.
-pub record WritesFront (s : State) (cs : List Command) (out : List ℕ) (t : State) : Type 0 where
+pub record WritesFrontOfReplies (s : State) (cs : List Command) (out : List ℕ) (t : State) : Type 0 where
   pub earlier : List Command
   pub last : Option Command
   pub others : List Command
   pub first : cs ≡ earlier ++ (option_to_list last ++ others)
   pub mid : State
   pub sent : List ℕ
-  pub whole : Writes s earlier sent mid
+  pub whole : WritesReplies s earlier sent mid
   pub front : List ℕ
   pub unwritten : List ℕ
-  pub cut : Writes mid (option_to_list last) (front ++ unwritten) t
+  pub cut : WritesReplies mid (option_to_list last) (front ++ unwritten) t
   pub written : out ≡ sent ++ front
 
 -- how many lines a run may have
@@ -37,12 +37,12 @@ limited ls = take max_lines ls
 -- were complete when the source failed, or before one line more than allowed; or, where the sink failed, those up to
 -- one whose reply may be cut short. There a last line that lacks its LF counts only where the source has nothing left.
 abbrev pub Outcome : Result (Unit {0}) RunFault → Option (List ℕ) → State → State → List ℕ → List ℕ → Type 0
-Outcome (Ok _) left s t input out = (length (raw_lines input) ≤ max_lines) × Writes s (all_commands input) out t
+Outcome (Ok _) left s t input out = (length (raw_lines input) ≤ max_lines) × WritesReplies s (all_commands input) out t
 Outcome (Err Memory) left s t input out = (input ≡ []) × (out ≡ []) × (t ≡ s)
 Outcome (Err Read) left s t input out =
-    (length (raw_lines input) ≤ max_lines) × Writes s (complete_commands (raw_lines input)) out t
+    (length (raw_lines input) ≤ max_lines) × WritesReplies s (complete_commands (raw_lines input)) out t
 Outcome (Err Write) left s t input out =
-    WritesFront s (complete_commands (limited (raw_lines input))) out t
-    ⊎ (IsAtEnd left × WritesFront s (commands (limited (raw_lines input))) out t)
+    WritesFrontOfReplies s (complete_commands (limited (raw_lines input))) out t
+    ⊎ (IsAtEnd left × WritesFrontOfReplies s (commands (limited (raw_lines input))) out t)
 Outcome (Err ScriptLimit) left s t input out =
-    (max_lines < length (raw_lines input)) × Writes s (complete_commands (limited (raw_lines input))) out t
+    (max_lines < length (raw_lines input)) × WritesReplies s (complete_commands (limited (raw_lines input))) out t

@@ -31,7 +31,7 @@ Runs s [] (r ∷ rs) t = ⊥
 Runs s (c ∷ cs) [] t = ⊥
 
 -- the commands may be answered by replies that, joined, are these bytes
-pub record Writes (s : State) (cs : List Command) (out : List ℕ) (t : State) : Type 0 where
+pub record WritesReplies (s : State) (cs : List Command) (out : List ℕ) (t : State) : Type 0 where
   pub replies : List (List ℕ)
   pub run : Runs s cs replies t
   pub joined : out ≡ concat replies

@@ -9,7 +9,7 @@ use Rattle.wi_cli.specs.Inner.Ahead.{Takes}
 use Rattle.wi_cli.specs.Lines.{is_whole}
 use Rattle.wi_cli.specs.Script.{line_command}
 use Rattle.wi_cli.specs.Inner.Reading.{raw, Broke}
-use Rattle.wi_cli.specs.Run.{Writes}
+use Rattle.wi_cli.specs.Run.{WritesReplies}
 
 -- a line was taken, whole or up to the end, and served
 pub record Turned (allowed whole : Bool) (buffer : List ℕ) (left : Option (List ℕ)) (buffer' : List ℕ) (left' : Option (List ℕ)) (s t : State) (given given' : Option (List ℕ)) : Type 0 where
@@ -20,7 +20,7 @@ pub record Turned (allowed whole : Bool) (buffer : List ℕ) (left : Option (Lis
   pub may : 0 < length (raw whole content) → allowed ≡ true
   pub out : List ℕ
   pub written : Appends given given' out
-  pub writes : Writes s (option_to_list (line_command content)) out t
+  pub writes : WritesReplies s (option_to_list (line_command content)) out t
 
 -- a line was taken and served, and a front of its reply was written
 pub record CutShort (allowed : Bool) (buffer : List ℕ) (left : Option (List ℕ)) (buffer' : List ℕ) (left' : Option (List ℕ)) (s t : State) (given given' : Option (List ℕ)) : Type 0 where
@@ -33,7 +33,7 @@ pub record CutShort (allowed : Bool) (buffer : List ℕ) (left : Option (List �
   pub out : List ℕ
   pub unwritten : List ℕ
   pub written : Appends given given' out
-  pub writes : Writes s (option_to_list (line_command content)) (out ++ unwritten) t
+  pub writes : WritesReplies s (option_to_list (line_command content)) (out ++ unwritten) t
 
 abbrev pub Stopped : RunFault → Bool → List ℕ → Option (List ℕ) → List ℕ → Option (List ℕ) → State → State → Option (List ℕ) → Option (List ℕ) → Type 0
 Stopped Memory allowed b l b' l' s t w w' = ⊥
