@@ -18,7 +18,7 @@ use Rattle.wi_cli.specs.Script.{line_command, commands, whole_lines, all_command
 use Rattle.wi_cli.specs.Inner.Reading.{raw, Broke}
 use Rattle.wi_cli.specs.Inner.Turn.{Turned, CutShort, Stopped}
 use Rattle.wi_cli.specs.Run.{WritesReplies}
-use Rattle.wi_cli.specs.Outcome.{Outcome, WritesFrontOfReplies, limited}
+use Rattle.wi_cli.specs.RunOutcome.{RunOutcome, WritesFrontOfReplies, limited}
 use Rattle.wi_cli.proofs.ReadingLemmas.{Takes-trans, is_whole-append}
 use Rattle.wi_cli.proofs.RunLemmas.{WritesReplies-append, WritesReplies-none}
 use Rattle.wi_cli.proofs.LineLemmas.{AreWhole, AreWhole-none, AreWhole-push, raw_lines-last, without_lf-raw}
@@ -194,7 +194,7 @@ over left b p c q s m t w x y count allowed may most h k =
     }
 
 abbrev pub Ends : Result (Unit {0}) RunFault → Option (List ℕ) → Option (List ℕ) → State → State → Option (List ℕ) → Option (List ℕ) → Type 0
-Ends r left q s t given given' = (input : List ℕ) × (out : List ℕ) × Consumes left q input × Appends given given' out × Outcome r q s t input out
+Ends r left q s t given given' = (input : List ℕ) × (out : List ℕ) × Consumes left q input × Appends given given' out × RunOutcome r q s t input out
 
 ends_ok : (left : Option (List ℕ)) (b : List ℕ) (p : Option (List ℕ)) (c : List ℕ) (q : Option (List ℕ)) (s m t : State) (w x y z : Option (List ℕ)) (count : ℕ) (allowed : Bool)
     → (allowed ≡ true → count < 1000000) → count ≤ 1000000

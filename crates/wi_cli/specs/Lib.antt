@@ -3,7 +3,7 @@ pub mod Words
 pub mod Script
 pub mod Reply
 pub mod Run
-pub mod Outcome
+pub mod RunOutcome
 pub mod Status
 pub mod Devices
 pub mod Inner

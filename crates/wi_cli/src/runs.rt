@@ -8,7 +8,7 @@ ghost use Rattle.wi_cli.specs.Script.{line_command};
 ghost use Rattle.wi_cli.specs.Inner.Spelling.{command_of};
 ghost use Rattle.wi_cli.specs.Inner.Told.{Told};
 ghost use Rattle.wi_cli.specs.Inner.Turn.{Turned, Stopped};
-ghost use Rattle.wi_cli.specs.Outcome.{Outcome, max_lines};
+ghost use Rattle.wi_cli.specs.RunOutcome.{RunOutcome, max_lines};
 
 use crate::chunk::Chunk;
 use crate::command::{Command, read_line_command};
@@ -127,7 +127,7 @@ pub fn run<R: Source, W: Sink, C: Calculator>(
     ensures replies { (input out : List ℕ)
         × Consumes (R.remaining reader.old) (R.remaining reader.new) input
         × Appends (W.contents writer.old) (W.contents writer.new) out
-        × Outcome result (R.remaining reader.new) book.old book.new input out }
+        × RunOutcome result (R.remaining reader.new) book.old book.new input out }
     ensures all_read { OnOk result (IsAtEnd (R.remaining reader.new)) }
     ensures reads { OnOk result (R.has_failed reader.new ≡ false) }
     ensures writes { OnOk result (W.has_failed writer.new ≡ false) }

@@ -36,13 +36,13 @@ limited ls = take max_lines ls
 -- From the bytes taken to the bytes written: all commands are answered; or none, as nothing was read; or those that
 -- were complete when the source failed, or before one line more than allowed; or, where the sink failed, those up to
 -- one whose reply may be cut short. There a last line that lacks its LF counts only where the source has nothing left.
-abbrev pub Outcome : Result (Unit {0}) RunFault → Option (List ℕ) → State → State → List ℕ → List ℕ → Type 0
-Outcome (Ok _) left s t input out = (length (raw_lines input) ≤ max_lines) × WritesReplies s (all_commands input) out t
-Outcome (Err Memory) left s t input out = (input ≡ []) × (out ≡ []) × (t ≡ s)
-Outcome (Err Read) left s t input out =
+abbrev pub RunOutcome : Result (Unit {0}) RunFault → Option (List ℕ) → State → State → List ℕ → List ℕ → Type 0
+RunOutcome (Ok _) left s t input out = (length (raw_lines input) ≤ max_lines) × WritesReplies s (all_commands input) out t
+RunOutcome (Err Memory) left s t input out = (input ≡ []) × (out ≡ []) × (t ≡ s)
+RunOutcome (Err Read) left s t input out =
     (length (raw_lines input) ≤ max_lines) × WritesReplies s (complete_commands (raw_lines input)) out t
-Outcome (Err Write) left s t input out =
+RunOutcome (Err Write) left s t input out =
     WritesFrontOfReplies s (complete_commands (limited (raw_lines input))) out t
     ⊎ (IsAtEnd left × WritesFrontOfReplies s (commands (limited (raw_lines input))) out t)
-Outcome (Err ScriptLimit) left s t input out =
+RunOutcome (Err ScriptLimit) left s t input out =
     (max_lines < length (raw_lines input)) × WritesReplies s (complete_commands (limited (raw_lines input))) out t
