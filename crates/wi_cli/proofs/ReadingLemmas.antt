@@ -7,13 +7,13 @@ use Rattle.std.proofs.lemmas.Bool.{false≢true, ne_eqb}
 use Rattle.wi_cli.specs.declared.fault.RunFault.TheVariants.{Read}
 use Rattle.wi_cli.specs.Inner.Ahead.{Takes}
 use Rattle.wi_cli.specs.Lines.{is_whole}
-use Rattle.wi_cli.specs.Inner.Reading.{front, TookLine, Broke}
+use Rattle.wi_cli.specs.Inner.Reading.{line_front, TookLine, Broke}
 
 -- the bytes before the last one taken, and that one
 pub record IsWithin (buffer : List ℕ) (left : Option (List ℕ)) (buffer' : List ℕ) (left' : Option (List ℕ)) (line : List ℕ) (byte : ℕ) : Type 0 where
   pub content : List ℕ
   pub no_lf : is_whole content ≡ false
-  pub kept : line ≡ front content
+  pub kept : line ≡ line_front content
   pub taken : Takes buffer left buffer' left' (content ++ byte ∷ [])
 
 pub Takes-trans : (a : List ℕ) (p : Option (List ℕ)) (b : List ℕ) (q : Option (List ℕ)) (c : List ℕ) (r : Option (List ℕ)) (xs ys : List ℕ) → Takes a p b q xs → Takes b q c r ys → Takes a p c r (xs ++ ys)
@@ -39,28 +39,28 @@ pub kept_full : (n : ℕ) (line line' content : List ℕ) (byte : ℕ) → line 
 kept_full n line line' content byte h l e =
     e ∙ h ∙ sym (take-append-le n content (byte ∷ []) (omega (arith, ap length h, length-take n content)))
 
-pub front_more : (line line' content : List ℕ) (byte : ℕ) → line ≡ front content → length line ≤ 65536 → line' ≡ line ++ byte ∷ [] → line' ≡ front (content ++ byte ∷ [])
-unfolding front
+pub front_more : (line line' content : List ℕ) (byte : ℕ) → line ≡ line_front content → length line ≤ 65536 → line' ≡ line ++ byte ∷ [] → line' ≡ line_front (content ++ byte ∷ [])
+unfolding line_front
 front_more line line' content byte h l e = let n : ℕ = 65537 in kept_more 65537 line line' content byte h (omega arith) e
 
-pub front_full : (line line' content : List ℕ) (byte : ℕ) → line ≡ front content → 65536 < length line → line' ≡ line → line' ≡ front (content ++ byte ∷ [])
-unfolding front
+pub front_full : (line line' content : List ℕ) (byte : ℕ) → line ≡ line_front content → 65536 < length line → line' ≡ line → line' ≡ line_front (content ++ byte ∷ [])
+unfolding line_front
 front_full line line' content byte h l e = kept_full 65537 line line' content byte h (omega arith) e
 
-pub front_nil : front [] ≡ []
-unfolding front
+pub front_nil : line_front [] ≡ []
+unfolding line_front
 front_nil = refl
 
 pub begun : (a : List ℕ) (p : Option (List ℕ)) (b : List ℕ) (q : Option (List ℕ)) (line : List ℕ) (byte : ℕ) → line ≡ [] → Takes a p b q (byte ∷ []) → IsWithin a p b q line byte
 begun a p b q line byte e h = record { content = []; no_lf = refl; kept = e ∙ sym front_nil; taken = h }
 
 pub went_on : (a : List ℕ) (p : Option (List ℕ)) (b : List ℕ) (q : Option (List ℕ)) (c : List ℕ) (r : Option (List ℕ)) (line line' : List ℕ) (byte next : ℕ)
-    → (w : IsWithin a p b q line byte) → (byte ≡ 10 → ⊥) → line' ≡ front (w.content ++ byte ∷ []) → Takes b q c r (next ∷ []) → IsWithin a p c r line' next
+    → (w : IsWithin a p b q line byte) → (byte ≡ 10 → ⊥) → line' ≡ line_front (w.content ++ byte ∷ []) → Takes b q c r (next ∷ []) → IsWithin a p c r line' next
 went_on a p b q c r line line' byte next w h k t =
     record { content = w.content ++ byte ∷ []; no_lf = more_no_lf w.content byte w.no_lf h; kept = k; taken = Takes-trans a p b q c r _ _ w.taken t }
 
 pub ended : (a : List ℕ) (p : Option (List ℕ)) (b : List ℕ) (q : Option (List ℕ)) (c : List ℕ) (r : Option (List ℕ)) (line line' : List ℕ) (byte : ℕ) (allowed : Bool)
-    → (w : IsWithin a p b q line byte) → (byte ≡ 10 → ⊥) → line' ≡ front (w.content ++ byte ∷ []) → allowed ≡ true → Takes b q c r [] → IsAtEnd (prepend_known c r) → TookLine allowed false a p c r line'
+    → (w : IsWithin a p b q line byte) → (byte ≡ 10 → ⊥) → line' ≡ line_front (w.content ++ byte ∷ []) → allowed ≡ true → Takes b q c r [] → IsAtEnd (prepend_known c r) → TookLine allowed false a p c r line'
 ended a p b q c r line line' byte allowed w h k may t e =
     record { content = w.content ++ byte ∷ []; no_lf = more_no_lf w.content byte w.no_lf h; kept = k; taken = Takes-trans a p b q c r _ _ w.taken t; at_end = λ _. e; may = λ _. may }
 

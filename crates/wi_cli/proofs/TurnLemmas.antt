@@ -15,7 +15,7 @@ use Rattle.wi_scenarios.specs.State.{State}
 use Rattle.wi_cli.specs.declared.reply.Reply.{Reply}
 use Rattle.wi_cli.specs.Inner.Told.{Told, told_bytes}
 use Rattle.wi_cli.specs.Script.{line_command, text_command}
-use Rattle.wi_cli.specs.Inner.Reading.{TookLine, front}
+use Rattle.wi_cli.specs.Inner.Reading.{TookLine, line_front}
 use Rattle.wi_cli.specs.Inner.Turn.{Turned, CutShort}
 use Rattle.wi_cli.specs.Run.{WritesReplies}
 use Rattle.wi_cli.proofs.RunLemmas.{WritesReplies-told}
@@ -39,11 +39,11 @@ same_at_front {X} limit n f long bad content e = ⊎_elim
     ap (λ xs. cond (ltb limit (length xs) || bad xs) long (f xs)) (take_all n content (omega arith)))
     (cases_lt limit (length content))
 
-pub line_command-front : (content : List ℕ) → line_command (front content) ≡ line_command content
-unfolding front line_command
+pub line_command-front : (content : List ℕ) → line_command (line_front content) ≡ line_command content
+unfolding line_front line_command
 line_command-front content = same_at_front 65536 65537 (λ xs. text_command (without_cr xs)) (Some (Refused BadLine)) (λ xs. not (is_utf8 (without_cr xs))) content refl
 
-pub told_of_front : (line content : List ℕ) (a : Reply) (s t : State) (out : List ℕ) → line ≡ front content → Told (line_command line) a s t out → Told (line_command content) a s t out
+pub told_of_front : (line content : List ℕ) (a : Reply) (s t : State) (out : List ℕ) → line ≡ line_front content → Told (line_command line) a s t out → Told (line_command content) a s t out
 told_of_front line content a s t out e h = subst (λ o. Told o a s t out) (ap line_command e ∙ line_command-front content) h
 
 pub turned : (allowed whole : Bool) (b : List ℕ) (l : Option (List ℕ)) (b' : List ℕ) (l' : Option (List ℕ)) (s t : State) (w w' : Option (List ℕ)) (line : List ℕ) (a : Reply) (out : List ℕ)

@@ -5,14 +5,14 @@ use Rattle.wi_scenarios.specs.declared.refusal.Refusal.TheVariants.{Memory}
 use Rattle.wi_scenarios.specs.State.{State}
 use Rattle.wi_scenarios.specs.Answer.{Answer}
 use Rattle.wi_scenarios.specs.Step.{Command, IsStep, MayLackMemory}
-use Rattle.wi_cli.specs.Reply.{refused, reply, after}
+use Rattle.wi_cli.specs.Reply.{refused, reply, state_after}
 
 -- the command is answered by its step
 pub record IsAnswered (s : State) (c : Command) (told : List ℕ) (t : State) : Type 0 where
   pub answer : Answer
   pub is_step : IsStep s c answer
   pub reply_is : told ≡ reply answer
-  pub state_is : t ≡ after s answer
+  pub state_is : t ≡ state_after s answer
 
 -- or refused for want of memory, with the state as it was
 pub record IsUnserved (s : State) (c : Command) (told : List ℕ) (t : State) : Type 0 where

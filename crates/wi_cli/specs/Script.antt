@@ -13,34 +13,34 @@ use Rattle.wi_cli.specs.Words.{first_word, after_word, is_all_spaces}
 
 -- ---- one command each
 
-abbrev pub set_at : Result ℕ AddressFault → List ℕ → Command
-set_at (Ok at) content = Set at content
-set_at (Err fault) content = Refused (operand_refusal fault)
+abbrev pub set_command_at : Result ℕ AddressFault → List ℕ → Command
+set_command_at (Ok at) content = Set at content
+set_command_at (Err fault) content = Refused (operand_refusal fault)
 
 -- `set ADDR CONTENT`; CONTENT is all after the one space that follows ADDR
 abbrev pub set_command : List ℕ → Command
 set_command operands =
     if length (after_word operands) == 0 then Refused BadCommand
-    else set_at (read_address (first_word operands)) (after_word operands)
+    else set_command_at (read_address (first_word operands)) (after_word operands)
 
-abbrev pub show_in : Result Area AddressFault → Command
-show_in (Ok area) = Show area
-show_in (Err fault) = Refused (operand_refusal fault)
+abbrev pub show_command_in : Result Area AddressFault → Command
+show_command_in (Ok area) = Show area
+show_command_in (Err fault) = Refused (operand_refusal fault)
 
 -- `show RECT`
 abbrev pub show_command : List ℕ → Command
 show_command operands =
-    if is_all_spaces (after_word operands) then show_in (read_rect (first_word operands))
+    if is_all_spaces (after_word operands) then show_command_in (read_rect (first_word operands))
     else Refused BadCommand
 
-abbrev pub formula_at : Result ℕ AddressFault → Command
-formula_at (Ok at) = Formula at
-formula_at (Err fault) = Refused (operand_refusal fault)
+abbrev pub formula_command_at : Result ℕ AddressFault → Command
+formula_command_at (Ok at) = Formula at
+formula_command_at (Err fault) = Refused (operand_refusal fault)
 
 -- `formula ADDR`
 abbrev pub formula_command : List ℕ → Command
 formula_command operands =
-    if is_all_spaces (after_word operands) then formula_at (read_address (first_word operands))
+    if is_all_spaces (after_word operands) then formula_command_at (read_address (first_word operands))
     else Refused BadCommand
 
 -- the command with this name and these operands

@@ -1,7 +1,7 @@
 //! The lines of a source.
 
 ghost use Rattle.std.specs.Prelude.{◌++◌, ◌∷◌, [], List, ℕ, ◌≡◌, ◌+◌, ◌<◌, ◌≤◌, false, true, MatchResult, vec_capacity, Err, OnOk};
-ghost use Rattle.wi_cli.specs.Inner.Reading.{TookLine, Broke, front};
+ghost use Rattle.wi_cli.specs.Inner.Reading.{TookLine, Broke, line_front};
 
 use crate::chunk::Chunk;
 use crate::device::Source;
@@ -50,7 +50,7 @@ pub fn read_line<R: Source>(
 /// Adds a byte to the front of a line, up to one byte more than the limit.
 fn keep(line: &mut Vec<u8>, byte: u8)
     requires { MAX_LINE + 1 ≤ vec_capacity line.old }
-    ensures kept { (content : List ℕ) → line.old.items ≡ front content → line.new.items ≡ front (content ++ byte ∷ []) }
+    ensures kept { (content : List ℕ) → line.old.items ≡ line_front content → line.new.items ≡ line_front (content ++ byte ∷ []) }
     ensures room { MAX_LINE + 1 ≤ vec_capacity line.new }
 {
     if line.len() <= MAX_LINE {

@@ -8,8 +8,8 @@ use Rattle.wi_cli.specs.Lines.{is_whole}
 use Rattle.wi_cli.specs.Script.{max_line}
 
 -- what is kept of a line: one byte more than the greatest length tells that it is too long
-unfoldable pub front : List ℕ → List ℕ
-front line = take (max_line + 1) line
+unfoldable pub line_front : List ℕ → List ℕ
+line_front line = take (max_line + 1) line
 
 -- the bytes of a line, with its LF if that came
 abbrev pub raw : Bool → List ℕ → List ℕ
@@ -19,7 +19,7 @@ raw whole content = content ++ (if whole then codes "\n" else [])
 pub record TookLine (allowed whole : Bool) (buffer : List ℕ) (left : Option (List ℕ)) (buffer' : List ℕ) (left' : Option (List ℕ)) (line : List ℕ) : Type 0 where
   pub content : List ℕ
   pub no_lf : is_whole content ≡ false
-  pub kept : line ≡ front content
+  pub kept : line ≡ line_front content
   pub taken : Takes buffer left buffer' left' (raw whole content)
   pub at_end : whole ≡ false → IsAtEnd (prepend_known buffer' left')
   pub may : 0 < length (raw whole content) → allowed ≡ true
