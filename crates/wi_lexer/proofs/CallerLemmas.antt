@@ -9,7 +9,7 @@ use Rattle.wi_lexer.specs.Runs.{blanks_len}
 use Rattle.wi_lexer.specs.Token.{NoToken, after_blanks}
 use Rattle.wi_lexer.specs.Inner.Token.{token_at}
 use Rattle.wi_lexer.specs.Inner.Inside.{Scan}
-use Rattle.wi_lexer.specs.Inner.Scan.{start_of, ahead, IsNext, IsDone, Gives}
+use Rattle.wi_lexer.specs.Inner.Scan.{start_of, ahead, IsNextToken, IsDone, Gives}
 use Rattle.wi_lexer.specs.Tokens.{Tokens, no_tokens, bad_token, then_tokens}
 use Rattle.wi_lexer.specs.Inner.Tokens.{tokens_from, tokens_ahead, tokens_within, tokens}
 use Rattle.wi_lexer.proofs.TokenLemmas.{token_some, token_sound, token_complete, none_found}
@@ -56,7 +56,7 @@ tokens_are (b ∷ bs) =
 -- ---- what each answer of `next_token` tells
 
 -- The answer in the form in which a `match` on it tells it.
-pub gives_token : (old new : Scan) (o : Option (Result Token BadToken)) (r : Result Token BadToken) (t : Token) → Gives old o new → o ≡ Some r → r ≡ Ok t → IsNext old t new
+pub gives_token : (old new : Scan) (o : Option (Result Token BadToken)) (r : Result Token BadToken) (t : Token) → Gives old o new → o ≡ Some r → r ≡ Ok t → IsNextToken old t new
 gives_token old new o r t h some ok = subst (λ x. Gives old (Some x) new) ok (subst (λ x. Gives old x new) some h)
 
 pub gives_bad : (old new : Scan) (o : Option (Result Token BadToken)) (r : Result Token BadToken) (b : BadToken) → Gives old o new → o ≡ Some r → r ≡ Err b → (ahead old ≡ [] → ⊥) × NoToken (ahead old) × IsDone old new
@@ -79,12 +79,12 @@ found_ahead f (b ∷ bs) k text rest front some h =
     ∙ ap (λ x. then_tokens ((k, x) ∷ []) (f (drop (length text) whole))) taken
     ∙ ap (λ x. then_tokens ((k, text) ∷ []) (f x)) left
 
-next_is_some : (old : Scan) (t : Token) (new : Scan) → IsNext old t new → 0 < length t.text.now
+next_is_some : (old : Scan) (t : Token) (new : Scan) → IsNextToken old t new → 0 < length t.text.now
 next_is_some old t new h =
     let s = token_some t.kind (take (length t.text.now) (ahead old)) h.longest.token in
     omega (arith, s, length-take-le (length t.text.now) (ahead old) h.longest.within)
 
-pub tokens_next : (old : Scan) (t : Token) (new : Scan) → IsNext old t new → tokens old.rest ≡ then_tokens (listed t ∷ []) (tokens new.rest)
+pub tokens_next : (old : Scan) (t : Token) (new : Scan) → IsNextToken old t new → tokens old.rest ≡ then_tokens (listed t ∷ []) (tokens new.rest)
 tokens_next old t new h =
     tokens_are old.rest
     ∙ found_ahead tokens (ahead old) t.kind t.text.now new.rest h.front (next_is_some old t new h) (token_complete (ahead old) t.kind (length t.text.now) h.longest)
@@ -100,7 +100,7 @@ pub tokens_end : (s : Scan) → ahead s ≡ [] → tokens s.rest ≡ no_tokens
 tokens_end s none = tokens_are s.rest ∙ ap (λ bs. tokens_ahead tokens bs) none
 
 -- each token leaves less
-pub next_shortens : (old : Scan) (t : Token) (new : Scan) → IsNext old t new → length new.rest < length old.rest
+pub next_shortens : (old : Scan) (t : Token) (new : Scan) → IsNextToken old t new → length new.rest < length old.rest
 next_shortens old t new h =
     omega (arith, next_is_some old t new h, ap length h.front, length-append t.text.now new.rest, after_blanks_within old.rest)
 
@@ -113,7 +113,7 @@ IsCollected text collected s = tokens text ≡ then_tokens collected (tokens s.r
 pub collected_start : (text : List ℕ) → IsCollected text [] (start_of text)
 collected_start text = refl
 
-pub collected_next : (text : List ℕ) (collected : List (Kind × List ℕ)) (old : Scan) (t : Token) (new : Scan) → IsCollected text collected old → IsNext old t new → IsCollected text (collected ++ listed t ∷ []) new
+pub collected_next : (text : List ℕ) (collected : List (Kind × List ℕ)) (old : Scan) (t : Token) (new : Scan) → IsCollected text collected old → IsNextToken old t new → IsCollected text (collected ++ listed t ∷ []) new
 collected_next text collected old t new so_far h =
     so_far
     ∙ ap (λ more. then_tokens collected more) (tokens_next old t new h)

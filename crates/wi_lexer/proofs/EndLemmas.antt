@@ -11,7 +11,7 @@ use Rattle.wi_lexer.specs.declared.token.Kind.TheVariants.{Number, Reference, Re
 use Rattle.wi_lexer.specs.declared.token.Mark as mark
 use Rattle.wi_lexer.specs.declared.token.Mark.TheVariants.{NotEqual, Less, Greater}
 use Rattle.wi_lexer.specs.Runs.{is_blank, IsRun}
-use Rattle.wi_lexer.specs.Inner.Runs.{one_more}
+use Rattle.wi_lexer.specs.Inner.Runs.{one_longer}
 use Rattle.wi_lexer.specs.Inner.Number.{decimals_len, decimal_len, signed_len, exponent_len, number_len}
 use Rattle.wi_lexer.specs.Cell.{Cell, IsCell, cell_text}
 use Rattle.wi_lexer.specs.Reference.{IsReference, one_cell}
@@ -118,7 +118,7 @@ ends_number [] h = record { digits = refl; decimals = refl; exponent = refl }
 ends_number (b ∷ rest) h = record {
   digits = run_stops is_ascii_digit b rest (no_digit_on b h);
   decimals = no_point b rest (no_point_on b h);
-  exponent = ap (λ t. cond t (one_more (signed_len rest)) 0) (no_letter_on b h);
+  exponent = ap (λ t. cond t (one_longer (signed_len rest)) 0) (no_letter_on b h);
 }
 
 number_whole : (text rest : List ℕ) → IsWritten text → ends Number rest ≡ true → FoundWhole Number text rest
@@ -156,7 +156,7 @@ name_whole (b ∷ text) rest t h =
 ends_text : (rest : List ℕ) → ends Text rest ≡ true → text_len rest ≡ 0
 unfolding quoted_len
 ends_text [] h = refl
-ends_text (b ∷ rest) h = ap (λ t. cond t (one_more (quoted_len true rest)) 0) (not_true (b == 34) h)
+ends_text (b ∷ rest) h = ap (λ t. cond t (one_longer (quoted_len true rest)) 0) (not_true (b == 34) h)
 
 text_whole : (text rest : List ℕ) → IsText text → ends Text rest ≡ true → FoundWhole Text text rest
 text_whole text rest (of_content content) h =

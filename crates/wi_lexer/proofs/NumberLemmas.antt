@@ -8,23 +8,23 @@ use Rattle.std.specs.Char.{is_ascii_digit}
 use Rattle.std.specs.Str.Parse.{IsNumeral}
 use Rattle.wi_fraction.specs.Written.{WritesDigits, is_exponent_letter, WritesExponent, none as no_exponent, unsigned, plus, minus, Writes, writes, IsWritten}
 use Rattle.wi_fraction.proofs.Written.{letter_no_digit, letter_no_point}
-use Rattle.wi_lexer.specs.Inner.Runs.{digits_len, one_more}
-use Rattle.wi_lexer.specs.Inner.Number.{is_sign, decimals_len, decimal_len, signed_len, exponent_len, number_len}
-use Rattle.wi_lexer.proofs.RunLemmas.{run_within, run_stops, run_more, digits_all, one_more_some, one_more_back, one_more_within}
+use Rattle.wi_lexer.specs.Inner.Runs.{digits_len, one_longer}
+use Rattle.wi_lexer.specs.Inner.Number.{is_sign_byte, decimals_len, decimal_len, signed_len, exponent_len, number_len}
+use Rattle.wi_lexer.proofs.RunLemmas.{run_within, run_stops, run_more, digits_all, one_longer_some, one_longer_back, one_longer_within}
 use Rattle.wi_lexer.proofs.DecimalLemmas.{digits_front, SomeDigits, decimal_some, decimal_more, decimal_within, decimal_sound, no_point, decimal_exact}
 
 -- ---- exponents
 
-digit_no_sign : (b : ℕ) → is_ascii_digit b ≡ true → is_sign b ≡ false
+digit_no_sign : (b : ℕ) → is_ascii_digit b ≡ true → is_sign_byte b ≡ false
 digit_no_sign b h = grind (arith, nat_tests)
 
 signed_within : (bs : List ℕ) → signed_len bs ≤ length bs
 unfolding signed_len
 signed_within [] = omega arith
-signed_within (b ∷ bs) = go (is_sign b)
+signed_within (b ∷ bs) = go (is_sign_byte b)
   where
-    go : (t : Bool) → cond t (one_more (digits_len bs)) (digits_len (b ∷ bs)) ≤ length (b ∷ bs)
-    go true = omega (arith, one_more_within (digits_len bs), run_within is_ascii_digit bs)
+    go : (t : Bool) → cond t (one_longer (digits_len bs)) (digits_len (b ∷ bs)) ≤ length (b ∷ bs)
+    go true = omega (arith, one_longer_within (digits_len bs), run_within is_ascii_digit bs)
     go false = run_within is_ascii_digit (b ∷ bs)
 
 exponent_within : (bs : List ℕ) → exponent_len bs ≤ length bs
@@ -32,14 +32,14 @@ unfolding exponent_len
 exponent_within [] = omega arith
 exponent_within (b ∷ bs) = go (is_exponent_letter b)
   where
-    go : (t : Bool) → cond t (one_more (signed_len bs)) 0 ≤ length (b ∷ bs)
-    go true = omega (arith, one_more_within (signed_len bs), signed_within bs)
+    go : (t : Bool) → cond t (one_longer (signed_len bs)) 0 ≤ length (b ∷ bs)
+    go true = omega (arith, one_longer_within (signed_len bs), signed_within bs)
     go false = omega arith
 
 abbrev SomeExponent : List ℕ → Type 0
 SomeExponent text = (k : ℤ) × WritesExponent text k
 
-signed_writes : (e s : ℕ) (ds : List ℕ) → is_exponent_letter e ≡ true → is_sign s ≡ true → IsNumeral 10 ds → SomeExponent (e ∷ s ∷ ds)
+signed_writes : (e s : ℕ) (ds : List ℕ) → is_exponent_letter e ≡ true → is_sign_byte s ≡ true → IsNumeral 10 ds → SomeExponent (e ∷ s ∷ ds)
 signed_writes e s ds letter sign digits = by_plus (s == 43) refl sign
   where
     by_plus : (b : Bool) → (s == 43) ≡ b → (b || s == 45) ≡ true → SomeExponent (e ∷ s ∷ ds)
@@ -50,15 +50,15 @@ signed_writes e s ds letter sign digits = by_plus (s == 43) refl sign
 signed_sound : (e : ℕ) → is_exponent_letter e ≡ true → (bs : List ℕ) → 0 < signed_len bs → SomeExponent (e ∷ take (signed_len bs) bs)
 unfolding signed_len
 signed_sound e letter [] some = absurd (omega (arith, some))
-signed_sound e letter (b ∷ bs) some = go (is_sign b) refl some
+signed_sound e letter (b ∷ bs) some = go (is_sign_byte b) refl some
   where
     found : ℕ → Type 0
     found n = SomeExponent (e ∷ take n (b ∷ bs))
 
-    go : (t : Bool) → is_sign b ≡ t → 0 < cond t (one_more (digits_len bs)) (digits_len (b ∷ bs)) → found (cond t (one_more (digits_len bs)) (digits_len (b ∷ bs)))
+    go : (t : Bool) → is_sign_byte b ≡ t → 0 < cond t (one_longer (digits_len bs)) (digits_len (b ∷ bs)) → found (cond t (one_longer (digits_len bs)) (digits_len (b ∷ bs)))
     go true is h =
-        let digits = one_more_back (digits_len bs) h in
-        subst found (sym (one_more_some (digits_len bs) digits)) (signed_writes e b (take (digits_len bs) bs) letter is (digits_front bs digits))
+        let digits = one_longer_back (digits_len bs) h in
+        subst found (sym (one_longer_some (digits_len bs) digits)) (signed_writes e b (take (digits_len bs) bs) letter is (digits_front bs digits))
     go false is h = (_, unsigned e (take (digits_len (b ∷ bs)) (b ∷ bs)) letter (digits_front (b ∷ bs) h))
 
 -- the exponent that is found, or none
@@ -76,18 +76,18 @@ exponent_sound (b ∷ bs) = by_letter (is_exponent_letter b) refl
         subst found (sym next) (signed_sound b letter bs (ltb-true 0 (signed_len bs) e))
     by_digits letter false e = (pos 0, no_exponent)
 
-    by_letter : (t : Bool) → is_exponent_letter b ≡ t → found (cond t (one_more (signed_len bs)) 0)
+    by_letter : (t : Bool) → is_exponent_letter b ≡ t → found (cond t (one_longer (signed_len bs)) 0)
     by_letter true letter = by_digits letter (nat_lt 0 (signed_len bs)) refl
     by_letter false letter = (pos 0, no_exponent)
 
 -- what follows a letter is found with it
 letter_found : (e : ℕ) (bs : List ℕ) → is_exponent_letter e ≡ true → 0 < signed_len bs → exponent_len (e ∷ bs) ≡ suc (signed_len bs)
 unfolding exponent_len
-letter_found e bs letter some = ap (λ t. cond t (one_more (signed_len bs)) 0) letter ∙ one_more_some (signed_len bs) some
+letter_found e bs letter some = ap (λ t. cond t (one_longer (signed_len bs)) 0) letter ∙ one_longer_some (signed_len bs) some
 
-sign_found : (s : ℕ) (bs : List ℕ) → is_sign s ≡ true → 0 < digits_len bs → signed_len (s ∷ bs) ≡ suc (digits_len bs)
+sign_found : (s : ℕ) (bs : List ℕ) → is_sign_byte s ≡ true → 0 < digits_len bs → signed_len (s ∷ bs) ≡ suc (digits_len bs)
 unfolding signed_len
-sign_found s bs sign some = ap (λ t. cond t (one_more (digits_len bs)) (digits_len (s ∷ bs))) sign ∙ one_more_some (digits_len bs) some
+sign_found s bs sign some = ap (λ t. cond t (one_longer (digits_len bs)) (digits_len (s ∷ bs))) sign ∙ one_longer_some (digits_len bs) some
 
 -- digits are found where no sign stands before them
 digits_found : (bs : List ℕ) → 0 < digits_len bs → signed_len bs ≡ digits_len bs
@@ -96,7 +96,7 @@ digits_found [] some = absurd (omega (arith, some))
 digits_found (b ∷ bs) some = go (is_ascii_digit b) refl some
   where
     go : (t : Bool) → is_ascii_digit b ≡ t → 0 < cond t (1 + digits_len bs) 0 → signed_len (b ∷ bs) ≡ digits_len (b ∷ bs)
-    go true is h = ap (λ t. cond t (one_more (digits_len bs)) (digits_len (b ∷ bs))) (digit_no_sign b is)
+    go true is h = ap (λ t. cond t (one_longer (digits_len bs)) (digits_len (b ∷ bs))) (digit_no_sign b is)
     go false is h = absurd (omega (arith, h))
 
 unsigned_found : (e : ℕ) (ds rest : List ℕ) → is_exponent_letter e ≡ true → IsNumeral 10 ds → exponent_len (e ∷ ds ++ rest) ≡ length (e ∷ ds) + digits_len rest
@@ -106,7 +106,7 @@ unsigned_found e ds rest letter h =
     let found = letter_found e (ds ++ rest) letter (omega (arith, m, h.0, digits)) in
     omega (arith, m, digits, found)
 
-signed_found : (e s : ℕ) (ds rest : List ℕ) → is_exponent_letter e ≡ true → is_sign s ≡ true → IsNumeral 10 ds → exponent_len (e ∷ s ∷ ds ++ rest) ≡ length (e ∷ s ∷ ds) + digits_len rest
+signed_found : (e s : ℕ) (ds rest : List ℕ) → is_exponent_letter e ≡ true → is_sign_byte s ≡ true → IsNumeral 10 ds → exponent_len (e ∷ s ∷ ds ++ rest) ≡ length (e ∷ s ∷ ds) + digits_len rest
 signed_found e s ds rest letter sign h =
     let m = run_more is_ascii_digit ds rest (digits_all ds h.1) in
     let digits = sign_found s (ds ++ rest) sign (omega (arith, m, h.0)) in

@@ -6,10 +6,10 @@ use Rattle.std.proofs.lemmas.Bool.{eqb-true, ne_eqb, ltb-true, ltb-false, lt-ltb
 use Rattle.std.proofs.lemmas.List.{at_drop_more, drop_all}
 use Rattle.std.proofs.lemmas.Str.Pattern.{IsSplitOnceResult, split_once_first}
 use Rattle.wi_quoting.specs.Quoted.{doubled, quoted}
-use Rattle.wi_lexer.specs.Inner.Runs.{one_more}
+use Rattle.wi_lexer.specs.Inner.Runs.{one_longer}
 use Rattle.wi_lexer.specs.Text.{IsText, of_content}
 use Rattle.wi_lexer.specs.Inner.Text.{quoted_len, text_len, content_from, text_content}
-use Rattle.wi_lexer.proofs.RunLemmas.{one_more_some, one_more_back, one_more_within}
+use Rattle.wi_lexer.proofs.RunLemmas.{one_longer_some, one_longer_back, one_longer_within}
 
 -- ---- a loop that looks for the last quote
 
@@ -20,10 +20,10 @@ longest len i n = cond (nat_lt 0 n) (i + n) len
 longest_some : (len i n : ℕ) → 0 < n → longest len i n ≡ i + n
 longest_some len i n h = ap (λ t. cond t (i + n) len) (lt-ltb 0 n h)
 
-longest_more : (len i n : ℕ) → longest len i (one_more n) ≡ longest len (i + 1) n
+longest_more : (len i n : ℕ) → longest len i (one_longer n) ≡ longest len (i + 1) n
 longest_more len i zero = refl
 longest_more len i (suc k) =
-    ap (longest len i) (one_more_some (suc k) (omega arith))
+    ap (longest len i) (one_longer_some (suc k) (omega arith))
     ∙ longest_some len i (suc (suc k)) (omega arith)
     ∙ omega arith
     ∙ sym (longest_some len (i + 1) (suc k) (omega arith))
@@ -55,7 +55,7 @@ pub reached_open : (len i : ℕ) (text : List ℕ) → i < length text → get_o
 unfolding quoted_len
 reached_open len i text h quote r =
     let rest = drop (i + 1) text in
-    let step : quoted_len false (drop i text) ≡ one_more (quoted_len true rest) = at_place false i text h ∙ ap (λ b. quoted_len false (b ∷ rest)) quote in
+    let step : quoted_len false (drop i text) ≡ one_longer (quoted_len true rest) = at_place false i text h ∙ ap (λ b. quoted_len false (b ∷ rest)) quote in
     sym (longest_more len i (quoted_len true rest)) ∙ ap (longest len i) (sym step) ∙ r
 
 -- any other byte inside the quotes
@@ -63,8 +63,8 @@ pub reached_more : (len i : ℕ) (text : List ℕ) → i < length text → (get_
 unfolding quoted_len
 reached_more len i text h other r =
     let rest = drop (i + 1) text in
-    let step : quoted_len true (drop i text) ≡ one_more (quoted_len true rest) =
-    at_place true i text h ∙ ap (λ t. cond t (1 + quoted_len false rest) (one_more (quoted_len true rest))) (ne_eqb (get_or text i 0) 34 other) in
+    let step : quoted_len true (drop i text) ≡ one_longer (quoted_len true rest) =
+    at_place true i text h ∙ ap (λ t. cond t (1 + quoted_len false rest) (one_longer (quoted_len true rest))) (ne_eqb (get_or text i 0) 34 other) in
     sym (longest_more len i (quoted_len true rest)) ∙ ap (longest len i) (sym step) ∙ r
 
 -- any other byte after a quote
@@ -72,7 +72,7 @@ pub reached_end : (len i : ℕ) (text : List ℕ) → i < length text → (get_o
 unfolding quoted_len
 reached_end len i text h other r =
     let rest = drop (i + 1) text in
-    let step : quoted_len false (drop i text) ≡ 0 = at_place false i text h ∙ ap (λ t. cond t (one_more (quoted_len true rest)) 0) (ne_eqb (get_or text i 0) 34 other) in
+    let step : quoted_len false (drop i text) ≡ 0 = at_place false i text h ∙ ap (λ t. cond t (one_longer (quoted_len true rest)) 0) (ne_eqb (get_or text i 0) 34 other) in
     ap (longest len i) (sym step) ∙ r
 
 -- the end of all bytes
@@ -181,12 +181,12 @@ inside_more (b ∷ content) rest = go (b == 34) refl (inside_more content rest)
     go true e more =
         let n = quoted_len true (inside_of content ++ rest) in
         let size = length-append later (34 ∷ []) in
-        omega (arith, more, size, one_more_some n (omega (arith, more, size)))
+        omega (arith, more, size, one_longer_some n (omega (arith, more, size)))
     go false e more =
         let n = quoted_len true (inside_of content ++ rest) in
         let size = length-append later (34 ∷ []) in
-        let step : quoted_len true (b ∷ inside_of content ++ rest) ≡ one_more n = ap (λ t. cond t (1 + quoted_len false (inside_of content ++ rest)) (one_more n)) e in
-        omega (arith, more, size, step, one_more_some n (omega (arith, more, size)))
+        let step : quoted_len true (b ∷ inside_of content ++ rest) ≡ one_longer n = ap (λ t. cond t (1 + quoted_len false (inside_of content ++ rest)) (one_longer n)) e in
+        omega (arith, more, size, step, one_longer_some n (omega (arith, more, size)))
 
 pub text_more : (text : List ℕ) → IsText text → (rest : List ℕ) → length text ≤ text_len (text ++ rest)
 unfolding quoted_len
@@ -194,7 +194,7 @@ text_more text (of_content content) rest =
     let n = quoted_len true (inside_of content ++ rest) in
     let more = inside_more content rest in
     let size = length-append (flat_map doubled content) (34 ∷ []) in
-    omega (arith, more, size, one_more_some n (omega (arith, more, size)))
+    omega (arith, more, size, one_longer_some n (omega (arith, more, size)))
 
 -- a text is found whole where no quote follows
 inside_exact : (content rest : List ℕ) → quoted_len false rest ≡ 0 → quoted_len true (inside_of content ++ rest) ≡ length (inside_of content)
@@ -209,12 +209,12 @@ inside_exact (b ∷ content) rest none = go (b == 34) refl (inside_exact content
     go true e exact =
         let n = quoted_len true (inside_of content ++ rest) in
         let size = length-append later (34 ∷ []) in
-        omega (arith, exact, size, one_more_some n (omega (arith, exact, size)))
+        omega (arith, exact, size, one_longer_some n (omega (arith, exact, size)))
     go false e exact =
         let n = quoted_len true (inside_of content ++ rest) in
         let size = length-append later (34 ∷ []) in
-        let step : quoted_len true (b ∷ inside_of content ++ rest) ≡ one_more n = ap (λ t. cond t (1 + quoted_len false (inside_of content ++ rest)) (one_more n)) e in
-        omega (arith, exact, size, step, one_more_some n (omega (arith, exact, size)))
+        let step : quoted_len true (b ∷ inside_of content ++ rest) ≡ one_longer n = ap (λ t. cond t (1 + quoted_len false (inside_of content ++ rest)) (one_longer n)) e in
+        omega (arith, exact, size, step, one_longer_some n (omega (arith, exact, size)))
 
 pub text_exact : (text : List ℕ) → IsText text → (rest : List ℕ) → text_len rest ≡ 0 → text_len (text ++ rest) ≡ length text
 unfolding quoted_len
@@ -222,20 +222,20 @@ text_exact text (of_content content) rest none =
     let n = quoted_len true (inside_of content ++ rest) in
     let exact = inside_exact content rest none in
     let size = length-append (flat_map doubled content) (34 ∷ []) in
-    omega (arith, exact, size, one_more_some n (omega (arith, exact, size)))
+    omega (arith, exact, size, one_longer_some n (omega (arith, exact, size)))
 
 quoted_within : (inside : Bool) (bs : List ℕ) → quoted_len inside bs ≤ length bs
 unfolding quoted_len
 quoted_within inside [] = omega arith
 quoted_within true (b ∷ bs) = go (b == 34) (quoted_within true bs) (quoted_within false bs)
   where
-    go : (t : Bool) → quoted_len true bs ≤ length bs → quoted_len false bs ≤ length bs → cond t (1 + quoted_len false bs) (one_more (quoted_len true bs)) ≤ suc (length bs)
+    go : (t : Bool) → quoted_len true bs ≤ length bs → quoted_len false bs ≤ length bs → cond t (1 + quoted_len false bs) (one_longer (quoted_len true bs)) ≤ suc (length bs)
     go true h k = omega arith
-    go false h k = omega (arith, one_more_within (quoted_len true bs))
+    go false h k = omega (arith, one_longer_within (quoted_len true bs))
 quoted_within false (b ∷ bs) = go (b == 34) (quoted_within true bs)
   where
-    go : (t : Bool) → quoted_len true bs ≤ length bs → cond t (one_more (quoted_len true bs)) 0 ≤ suc (length bs)
-    go true h = omega (arith, one_more_within (quoted_len true bs))
+    go : (t : Bool) → quoted_len true bs ≤ length bs → cond t (one_longer (quoted_len true bs)) 0 ≤ suc (length bs)
+    go true h = omega (arith, one_longer_within (quoted_len true bs))
     go false h = omega arith
 
 pub text_within : (bs : List ℕ) → text_len bs ≤ length bs
@@ -257,8 +257,8 @@ more_inside b bs e h = record {
   is = ap (λ x. b ∷ x) h.is ∙ ap (λ t. (cond t (34 ∷ 34 ∷ []) (b ∷ []) ++ flat_map doubled h.content) ++ 34 ∷ []) (sym e);
 }
 
-take_one : (b : ℕ) (bs : List ℕ) (n : ℕ) → 0 < n → take (one_more n) (b ∷ bs) ≡ b ∷ take n bs
-take_one b bs n h = ap (λ i. take i (b ∷ bs)) (one_more_some n h)
+take_one : (b : ℕ) (bs : List ℕ) (n : ℕ) → 0 < n → take (one_longer n) (b ∷ bs) ≡ b ∷ take n bs
+take_one b bs n h = ap (λ i. take i (b ∷ bs)) (one_longer_some n h)
 
 found_inside : (b : ℕ) (bs : List ℕ) → IsFound bs → 0 < quoted_len true (b ∷ bs) → IsInside (take (quoted_len true (b ∷ bs)) (b ∷ bs))
 unfolding quoted_len
@@ -282,10 +282,10 @@ found_inside b bs again some = go (b == 34) refl some
         let last : 1 + m ≡ 1 = omega (arith, ltb-false 0 m e) in
         record { content = []; is = ap (λ i. take i (b ∷ bs)) last ∙ ap (λ x. x ∷ []) is }
 
-    go : (t : Bool) → (b == 34) ≡ t → 0 < cond t (1 + m) (one_more n) → IsInside (take (cond t (1 + m) (one_more n)) (b ∷ bs))
+    go : (t : Bool) → (b == 34) ≡ t → 0 < cond t (1 + m) (one_longer n) → IsInside (take (cond t (1 + m) (one_longer n)) (b ∷ bs))
     go true e h = closes (eqb-true b 34 e) (nat_lt 0 m) refl
     go false e h =
-        let more = one_more_back n h in
+        let more = one_longer_back n h in
         subst IsInside (sym (take_one b bs n more)) (more_inside b (take n bs) e (again.inside more))
 
 found_closed : (b : ℕ) (bs : List ℕ) → IsFound bs → 0 < quoted_len false (b ∷ bs) → (rest : List ℕ) × (take (quoted_len false (b ∷ bs)) (b ∷ bs) ≡ 34 ∷ rest) × IsInside rest
@@ -295,9 +295,9 @@ found_closed b bs again some = go (b == 34) refl some
     n : ℕ
     n = quoted_len true bs
 
-    go : (t : Bool) → (b == 34) ≡ t → 0 < cond t (one_more n) 0 → (rest : List ℕ) × (take (cond t (one_more n) 0) (b ∷ bs) ≡ 34 ∷ rest) × IsInside rest
+    go : (t : Bool) → (b == 34) ≡ t → 0 < cond t (one_longer n) 0 → (rest : List ℕ) × (take (cond t (one_longer n) 0) (b ∷ bs) ≡ 34 ∷ rest) × IsInside rest
     go true e h =
-        let more = one_more_back n h in
+        let more = one_longer_back n h in
         (take n bs, take_one b bs n more ∙ ap (λ x. x ∷ take n bs) (eqb-true b 34 e), again.inside more)
     go false e h = absurd (omega (arith, h))
 

@@ -13,7 +13,7 @@ use Rattle.wi_lexer.specs.Cell.{Cell, IsCell, cell_text}
 use Rattle.wi_lexer.specs.Inner.Cell.{cell_of}
 use Rattle.wi_lexer.specs.Inner.Reference.{inside, reference_of, reference_len}
 use Rattle.wi_lexer.specs.Rectangle.{rectangle_text, IsRectangle, two_cells}
-use Rattle.wi_lexer.specs.Inner.Rectangle.{begins_second, both_cells, cells_beside, cells_of, rectangle_of, rectangle_len}
+use Rattle.wi_lexer.specs.Inner.Rectangle.{begins_second, both_cells, cells_beside, corner_cells, rectangle_of, rectangle_len}
 use Rattle.wi_lexer.proofs.RunLemmas.{both_are_true, run_more, all_append}
 use Rattle.wi_lexer.proofs.CellLemmas.{cell_sound, cell_complete, cell_all}
 use Rattle.wi_lexer.proofs.BracketLemmas.{bracketed, inside_read, read_back, some_item, closed_len, closed_front, closed_none, closed_bracket, cell_inside}
@@ -49,8 +49,8 @@ second_back [] h = cc
 second_back (a ∷ []) h = let p = both_are_true (a == 58) false h in cc
 second_back (a ∷ b ∷ bs) h = let p = both_are_true (a == 58) (b == 46) h in cc (eqb-true a 58 p.0, eqb-true b 46 p.1)
 
-cells_sound : (bs : List ℕ) (c d : Cell) → cells_of bs ≡ Some (c, d) → IsCell c × IsCell d × (beside c d ≡ bs)
-unfolding cells_of
+cells_sound : (bs : List ℕ) (c d : Cell) → corner_cells bs ≡ Some (c, d) → IsCell c × IsCell d × (beside c d ≡ bs)
+unfolding corner_cells
 cells_sound bs c d h = go (take (before_colon_len bs) bs) (drop (before_colon_len bs) bs) (begins_second (drop (before_colon_len bs) bs)) (take-append-drop (before_colon_len bs) bs) refl h
   where
     go : (first rest : List ℕ) (t : Bool) → first ++ rest ≡ bs → begins_second rest ≡ t → cond t (both_cells (cell_of first) (cell_of (drop 2 rest))) None ≡ Some (c, d) → IsCell c × IsCell d × (beside c d ≡ bs)
@@ -62,8 +62,8 @@ cells_sound bs c d h = go (take (before_colon_len bs) bs) (drop (before_colon_le
         (p.0, q.0, ap (λ x. cell_text c ++ x) tail ∙ ap (λ x. x ++ rest) p.1 ∙ whole)
     go first rest false whole e f = cc
 
-cells_complete : (c d : Cell) → IsCell c → IsCell d → cells_of (beside c d) ≡ Some (c, d)
-unfolding cells_of
+cells_complete : (c d : Cell) → IsCell c → IsCell d → corner_cells (beside c d) ≡ Some (c, d)
+unfolding corner_cells
 cells_complete c d h k =
     let x = cell_text c in
     let rest = 58 ∷ 46 ∷ cell_text d in
@@ -79,7 +79,7 @@ cells_complete c d h k =
 
 bracketed_complete : (c d : Cell) → IsCell c → IsCell d → rectangle_of (bracketed (beside c d)) ≡ Some (c, d)
 unfolding rectangle_of
-bracketed_complete c d h k = inside_read cells_of (beside c d) ∙ cells_complete c d h k
+bracketed_complete c d h k = inside_read corner_cells (beside c d) ∙ cells_complete c d h k
 
 pub rectangle_of_complete : (c d : Cell) → IsCell c → IsCell d → rectangle_of (rectangle_text c d) ≡ Some (c, d)
 rectangle_of_complete c d h k = ap rectangle_of (sym (rectangle_is c d)) ∙ bracketed_complete c d h k
@@ -87,7 +87,7 @@ rectangle_of_complete c d h k = ap rectangle_of (sym (rectangle_is c d)) ∙ bra
 pub rectangle_of_sound : (text : List ℕ) (c d : Cell) → rectangle_of text ≡ Some (c, d) → IsCell c × IsCell d × (rectangle_text c d ≡ text)
 unfolding rectangle_of
 rectangle_of_sound text c d h =
-    let r = read_back cells_of text (c, d) h in
+    let r = read_back corner_cells text (c, d) h in
     let p = cells_sound (inside text) c d r.0 in
     (p.0, p.1, sym (rectangle_is c d) ∙ ap bracketed p.2 ∙ r.1)
 

@@ -8,7 +8,7 @@ use Rattle.std.specs.Char.{is_ascii_digit}
 use Rattle.std.specs.Str.Parse.{AllDigits, IsNumeral}
 use Rattle.wi_fraction.proofs.Scanning.{own, digits_same}
 use Rattle.wi_lexer.specs.Runs.{IsRun}
-use Rattle.wi_lexer.specs.Inner.Runs.{one_more}
+use Rattle.wi_lexer.specs.Inner.Runs.{one_longer}
 
 pub both_are_true : (a b : Bool) → (a && b) ≡ true → (a ≡ true) × (b ≡ true)
 both_are_true true b e = (refl, e)
@@ -66,18 +66,18 @@ digits_run ds h = record { some = h.0; all = digits_all ds h.1 }
 
 -- ---- a length and one byte before it
 
-pub one_more_some : (n : ℕ) → 0 < n → one_more n ≡ suc n
-one_more_some n h = ap (λ t. cond t (1 + n) 0) (lt-ltb 0 n h) ∙ omega arith
+pub one_longer_some : (n : ℕ) → 0 < n → one_longer n ≡ suc n
+one_longer_some n h = ap (λ t. cond t (1 + n) 0) (lt-ltb 0 n h) ∙ omega arith
 
-pub one_more_back : (n : ℕ) → 0 < one_more n → 0 < n
-one_more_back n h = go (nat_lt 0 n) refl h
+pub one_longer_back : (n : ℕ) → 0 < one_longer n → 0 < n
+one_longer_back n h = go (nat_lt 0 n) refl h
   where
     go : (t : Bool) → nat_lt 0 n ≡ t → 0 < cond t (1 + n) 0 → 0 < n
     go true e f = ltb-true 0 n e
     go false e f = absurd (omega (arith, f))
 
-pub one_more_within : (n : ℕ) → one_more n ≤ suc n
-one_more_within n = go (nat_lt 0 n)
+pub one_longer_within : (n : ℕ) → one_longer n ≤ suc n
+one_longer_within n = go (nat_lt 0 n)
   where
     go : (t : Bool) → cond t (1 + n) 0 ≤ suc n
     go true = omega arith

@@ -36,8 +36,8 @@ fn is_exponent_letter(b: u8) -> bool
     b == b'e' || b == b'E'
 }
 
-fn is_sign(b: u8) -> bool
-    ensures { result ≡ reader.is_sign b }
+fn is_sign_byte(b: u8) -> bool
+    ensures { result ≡ reader.is_sign_byte b }
 {
     b == b'+' || b == b'-'
 }
@@ -47,7 +47,7 @@ fn signed_len(text: &[u8]) -> usize
     ensures value { result ≡ reader.signed_len text.now }
     ensures within { result ≤ length text.now }
 {
-    if !is_sign(byte(text, 0)) {
+    if !is_sign_byte(byte(text, 0)) {
         return digits_len(text);
     }
     let digits = digits_len(&text[1..]);

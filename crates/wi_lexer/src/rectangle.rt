@@ -8,9 +8,9 @@ use crate::reference::is_bracketed;
 use crate::runs::{before_colon_len, byte, inside_len};
 
 // The cells on both sides of `:.`.
-#[tactic(auto, unfolding(crate::specs::Inner::Rectangle::cells_of))]
-fn cells_of(text: &[u8]) -> Option<(CellText<'_>, CellText<'_>)>
-    ensures { option_map spec.parts_of_both result ≡ spec.cells_of text.now }
+#[tactic(auto, unfolding(crate::specs::Inner::Rectangle::corner_cells))]
+fn corner_cells(text: &[u8]) -> Option<(CellText<'_>, CellText<'_>)>
+    ensures { option_map spec.parts_of_both result ≡ spec.corner_cells text.now }
 {
     let (first, rest) = text.split_at(before_colon_len(text));
     if byte(rest, 0) != b':' || byte(rest, 1) != b'.' {
@@ -27,7 +27,7 @@ pub fn rectangle_of(text: &[u8]) -> Option<(CellText<'_>, CellText<'_>)>
     if !is_bracketed(text) {
         return None;
     }
-    cells_of(&text[2..text.len() - 1])
+    corner_cells(&text[2..text.len() - 1])
 }
 
 #[tactic(auto, using(crate::proofs::RectangleLemmas::no_rectangle), unfolding(crate::specs::Inner::Rectangle::rectangle_len))]

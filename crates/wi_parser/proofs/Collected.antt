@@ -3,7 +3,7 @@ use Rattle.std.proofs.Common.{◌≡◌, ℕ, List, [], ◌∷◌, ◌++◌, len
 use Rattle.wi_lexer.specs.declared.lexer.Token.{Token}
 use Rattle.wi_lexer.specs.Token.{NoToken, after_blanks}
 use Rattle.wi_lexer.specs.Inner.Inside.{Scan}
-use Rattle.wi_lexer.specs.Inner.Scan.{ahead, IsNext, IsDone}
+use Rattle.wi_lexer.specs.Inner.Scan.{ahead, IsNextToken, IsDone}
 use Rattle.wi_lexer.specs.Inner.Tokens.{tokens}
 use Rattle.wi_lexer.proofs.CallerLemmas.{tokens_next, tokens_bad, tokens_end}
 use Rattle.wi_parser.specs.declared.fault.ParseFault.TheVariants.{Syntax}
@@ -16,7 +16,7 @@ use Rattle.wi_parser.specs.Inner.SymbolCode.{meant_by, all_meant}
 abbrev pub left : Scan → List Symbol
 left s = symbols_of (tokens s.rest)
 
-pub left_next : (old : Scan) (t : Token) (new : Scan) → IsNext old t new → left old ≡ symbol_of t.kind t.text.now ∷ left new
+pub left_next : (old : Scan) (t : Token) (new : Scan) → IsNextToken old t new → left old ≡ symbol_of t.kind t.text.now ∷ left new
 left_next old t new h = ap symbols_of (tokens_next old t new h)
 
 pub left_end : (s : Scan) → ahead s ≡ [] → left s ≡ []

@@ -7,7 +7,7 @@ use Rattle.wi_lexer.specs.Inner.Number.{number_len, decimal_len, decimals_len, s
 use Rattle.wi_lexer.specs.Inner.Text.{quoted_len}
 use Rattle.wi_lexer.specs.Inner.Cell.{cell_of}
 use Rattle.wi_lexer.specs.Inner.Reference.{reference_of, reference_len}
-use Rattle.wi_lexer.specs.Inner.Rectangle.{rectangle_len, rectangle_of, cells_of}
+use Rattle.wi_lexer.specs.Inner.Rectangle.{rectangle_len, rectangle_of, corner_cells}
 use Rattle.wi_lexer.specs.Inner.Mark.{mark_at, two_byte_mark, one_byte_mark}
 use Rattle.wi_lexer.specs.Inner.Name.{name_len}
 use Rattle.wi_lexer.specs.Inner.Token.{token_at}
@@ -30,5 +30,5 @@ abbrev relative : ℕ → ℕ → Reference
 relative row column = record { at = place row column; column_is_absolute = false; row_is_absolute = false }
 
 two_inputs_read : parsed (codes "=MULTIPLE.OPERATIONS([.B2];[.B1];[.A4];[.C1];[.A5])") ≡ Ok (what_if (relative 1 1) ((relative 0 1, relative 3 0) ∷ (relative 0 2, relative 4 0) ∷ []))
-unfolding parsed formula_symbols tokens tokens_within token_at number_len decimal_len decimals_len signed_len exponent_len quoted_len mark_at two_byte_mark one_byte_mark reference_len reference_of cell_of rectangle_len rectangle_of cells_of name_len address_at pair_at what_if_at atom chain line expression
+unfolding parsed formula_symbols tokens tokens_within token_at number_len decimal_len decimals_len signed_len exponent_len quoted_len mark_at two_byte_mark one_byte_mark reference_len reference_of cell_of rectangle_len rectangle_of corner_cells name_len address_at pair_at what_if_at atom chain line expression
 two_inputs_read = refl

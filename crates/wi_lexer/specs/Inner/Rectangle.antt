@@ -22,12 +22,12 @@ abbrev pub cells_beside : List ℕ → List ℕ → Option (Cell × Cell)
 cells_beside first rest = if begins_second rest then both_cells (cell_of first) (cell_of (drop 2 rest)) else None
 
 -- the cells of `CELL:.CELL`
-unfoldable pub cells_of : List ℕ → Option (Cell × Cell)
-cells_of bs = cells_beside (take (before_colon_len bs) bs) (drop (before_colon_len bs) bs)
+unfoldable pub corner_cells : List ℕ → Option (Cell × Cell)
+corner_cells bs = cells_beside (take (before_colon_len bs) bs) (drop (before_colon_len bs) bs)
 
 -- the cells of a reference `[.CELL:.CELL]`
 unfoldable pub rectangle_of : List ℕ → Option (Cell × Cell)
-rectangle_of text = if is_bracketed text then cells_of (inside text) else None
+rectangle_of text = if is_bracketed text then corner_cells (inside text) else None
 
 -- the length of the reference to a rectangle at the front, or 0 where none stands there; it ends with the first `]`
 unfoldable pub rectangle_len : List ℕ → ℕ

@@ -25,5 +25,5 @@ abbrev pub before_colon_len : List ℕ → ℕ
 before_colon_len bs = prefix_len is_before_colon bs
 
 -- a length and one byte before it, or 0 where the length is 0
-abbrev pub one_more : ℕ → ℕ
-one_more n = if nat_lt 0 n then 1 + n else 0
+abbrev pub one_longer : ℕ → ℕ
+one_longer n = if nat_lt 0 n then 1 + n else 0

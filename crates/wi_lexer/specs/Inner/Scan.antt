@@ -14,7 +14,7 @@ abbrev pub ahead : Scan → List ℕ
 ahead s = after_blanks s.rest
 
 -- The token is the longest at the front of what is left after white space, and the slice of the source at its span.
-pub record IsNext (old : Scan) (t : Token) (new : Scan) : Type 0 where
+pub record IsNextToken (old : Scan) (t : Token) (new : Scan) : Type 0 where
   pub longest : IsLongest t.kind (length t.text.now) (ahead old)
   pub front : ahead old ≡ t.text.now ++ new.rest
   pub source : new.source ≡ old.source
@@ -28,5 +28,5 @@ pub record IsDone (old new : Scan) : Type 0 where
 
 abbrev pub Gives : Scan → Option (Result Token BadToken) → Scan → Type 0
 Gives old None new = (ahead old ≡ []) × IsDone old new
-Gives old (Some (Ok t)) new = IsNext old t new
+Gives old (Some (Ok t)) new = IsNextToken old t new
 Gives old (Some (Err e)) new = (ahead old ≢ []) × NoToken (ahead old) × IsDone old new

@@ -1,13 +1,13 @@
 -- Where a text ends, and what it holds, as a reader goes.
 use Rattle.std.specs.Prelude.{ℕ, ◌+◌, Bool, true, false, ◌==◌, if◌then◌else◌, List, [], ◌∷◌}
 use Rattle.std.specs.Str.{byte}
-use Rattle.wi_lexer.specs.Inner.Runs.{one_more}
+use Rattle.wi_lexer.specs.Inner.Runs.{one_longer}
 
 -- the length up to the last quote that may be the last of the text, or 0 where there is none
 unfoldable pub quoted_len : (inside : Bool) → List ℕ → ℕ
 quoted_len inside [] = 0
-quoted_len true (b ∷ bs) = if b == byte "\"" then 1 + quoted_len false bs else one_more (quoted_len true bs)
-quoted_len false (b ∷ bs) = if b == byte "\"" then one_more (quoted_len true bs) else 0
+quoted_len true (b ∷ bs) = if b == byte "\"" then 1 + quoted_len false bs else one_longer (quoted_len true bs)
+quoted_len false (b ∷ bs) = if b == byte "\"" then one_longer (quoted_len true bs) else 0
 
 -- the length of the longest text in quotes at the front, or 0 where none stands there
 abbrev pub text_len : List ℕ → ℕ
