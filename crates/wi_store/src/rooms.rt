@@ -5,7 +5,7 @@ ghost use Rattle.std.specs.Prelude.{◌≡◌, ◌≢◌, ◌+◌, ◌≤◌, �
 ghost use Rattle.std.specs.Map.{keys_of};
 ghost use Rattle.wi_parser.specs.Sheet.{content_of, with_content};
 ghost use Rattle.wi_store.specs.Store.{edited};
-ghost use Rattle.wi_store.specs.Inner.Rooms.{sheet_in, room_of, IsInOrder, HasNoVacancy, VacantOnlyAt, HasRoomFor};
+ghost use Rattle.wi_store.specs.Inner.Rooms.{sheet_in, room_of, RoomsAreInOrder, HasNoVacancy, VacantOnlyAt, HasRoomFor};
 ghost use Rattle.wi_store.specs.Inner.Exchange.{stood, restored};
 
 use std::alloc::AllocError;
@@ -23,7 +23,7 @@ pub(crate) type Change = (Address, Option<Content>);
 /// Makes a room for a cell that gets a content and has none, and answers how many it made.
 fn make_one(rooms: &mut Rooms, at: Address, content: &Option<Content>) -> Result<usize, AllocError>
     ensures sheet { sheet_in rooms.new.entries ≡ sheet_in rooms.old.entries }
-    ensures order { IsInOrder rooms.old.entries → IsInOrder rooms.new.entries }
+    ensures order { RoomsAreInOrder rooms.old.entries → RoomsAreInOrder rooms.new.entries }
     ensures vacant { (c : ℕ) → room_of rooms.new.entries c ≡ Some None
         → (c ≡ at) ⊎ (room_of rooms.old.entries c ≡ Some None) }
     ensures kept { (c : ℕ) → room_of rooms.new.entries c ≡ None → room_of rooms.old.entries c ≡ None }
@@ -40,10 +40,10 @@ fn make_one(rooms: &mut Rooms, at: Address, content: &Option<Content>) -> Result
 /// Makes a room for each cell that gets a content and has none, and answers how many it made.
 /// If memory runs out, the rooms made so far stay.
 pub(crate) fn make_room(rooms: &mut Rooms, changes: &[Change]) -> Result<usize, AllocError>
-    requires order { IsInOrder rooms.old.entries }
+    requires order { RoomsAreInOrder rooms.old.entries }
     requires full { HasNoVacancy rooms.old.entries }
     ensures sheet { sheet_in rooms.new.entries ≡ sheet_in rooms.old.entries }
-    ensures order { IsInOrder rooms.new.entries }
+    ensures order { RoomsAreInOrder rooms.new.entries }
     ensures vacant { VacantOnlyAt (keys_of changes.now) rooms.new.entries }
     ensures room { OnOk result (All (HasRoomFor rooms.new.entries) changes.now) }
     ensures made { IfOk result (λ made. length rooms.new.entries ≡ length (sheet_in rooms.new.entries) + made) }
@@ -57,11 +57,11 @@ pub(crate) fn make_room(rooms: &mut Rooms, changes: &[Change]) -> Result<usize, 
 
 /// Exchanges a content, or none, with what stands in a cell.
 fn exchange(rooms: &mut Rooms, at: Address, content: &mut Option<Content>)
-    requires order { IsInOrder rooms.old.entries }
+    requires order { RoomsAreInOrder rooms.old.entries }
     requires room { HasRoomFor rooms.old.entries (at, content.old) }
     ensures sheet { sheet_in rooms.new.entries ≡ with_content (sheet_in rooms.old.entries) at content.old }
     ensures stood { content.new ≡ content_of (sheet_in rooms.old.entries) at }
-    ensures order { IsInOrder rooms.new.entries }
+    ensures order { RoomsAreInOrder rooms.new.entries }
     ensures rooms { length rooms.new.entries ≡ length rooms.old.entries }
     ensures kept { (c : ℕ) → room_of rooms.new.entries c ≡ None → room_of rooms.old.entries c ≡ None }
     ensures others { (c : ℕ) → c ≢ at → room_of rooms.new.entries c ≡ room_of rooms.old.entries c }
@@ -74,14 +74,14 @@ fn exchange(rooms: &mut Rooms, at: Address, content: &mut Option<Content>)
 /// Exchanges the contents of the changes with what stands in their cells, one after another. Answers how many
 /// cells have a content then; `vacant` is how many rooms had none before.
 pub(crate) fn exchange_all(rooms: &mut Rooms, changes: &mut [Change], vacant: usize) -> usize
-    requires order { IsInOrder rooms.old.entries }
+    requires order { RoomsAreInOrder rooms.old.entries }
     requires room { All (HasRoomFor rooms.old.entries) changes.old }
     requires vacant { length rooms.old.entries ≡ length (sheet_in rooms.old.entries) + vacant }
     requires only { VacantOnlyAt (keys_of changes.old) rooms.old.entries }
     ensures sheet { sheet_in rooms.new.entries ≡ edited (sheet_in rooms.old.entries) changes.old }
     ensures stood { changes.new ≡ stood (sheet_in rooms.old.entries) changes.old }
     ensures occupied { result ≡ length (sheet_in rooms.new.entries) }
-    ensures order { IsInOrder rooms.new.entries }
+    ensures order { RoomsAreInOrder rooms.new.entries }
     ensures room { All (HasRoomFor rooms.new.entries) changes.new }
     ensures vacant { VacantOnlyAt (keys_of changes.new) rooms.new.entries }
 {
@@ -96,11 +96,11 @@ pub(crate) fn exchange_all(rooms: &mut Rooms, changes: &mut [Change], vacant: us
 
 /// Exchanges the contents of the changes with what stands in their cells, the last first.
 pub(crate) fn exchange_back(rooms: &mut Rooms, changes: &mut [Change])
-    requires order { IsInOrder rooms.old.entries }
+    requires order { RoomsAreInOrder rooms.old.entries }
     requires room { All (HasRoomFor rooms.old.entries) changes.old }
     requires only { VacantOnlyAt (keys_of changes.old) rooms.old.entries }
     ensures sheet { sheet_in rooms.new.entries ≡ restored (sheet_in rooms.old.entries) changes.old }
-    ensures order { IsInOrder rooms.new.entries }
+    ensures order { RoomsAreInOrder rooms.new.entries }
     ensures vacant { VacantOnlyAt (keys_of changes.new) rooms.new.entries }
 {
     for i in (0..changes.len()).rev() {
@@ -122,7 +122,7 @@ fn is_vacant(rooms: &Rooms, at: Address) -> bool
 /// Takes away the room of a cell if it is vacant.
 fn release_one(rooms: &mut Rooms, at: Address)
     ensures sheet { sheet_in rooms.new.entries ≡ sheet_in rooms.old.entries }
-    ensures order { IsInOrder rooms.old.entries → IsInOrder rooms.new.entries }
+    ensures order { RoomsAreInOrder rooms.old.entries → RoomsAreInOrder rooms.new.entries }
     ensures released { room_of rooms.new.entries at ≢ Some None }
     ensures vacant { (c : ℕ) → room_of rooms.new.entries c ≡ Some None → room_of rooms.old.entries c ≡ Some None }
 {
@@ -133,10 +133,10 @@ fn release_one(rooms: &mut Rooms, at: Address)
 
 /// Takes away the vacant rooms.
 pub(crate) fn release(rooms: &mut Rooms, changes: &[Change])
-    requires order { IsInOrder rooms.old.entries }
+    requires order { RoomsAreInOrder rooms.old.entries }
     requires vacant { VacantOnlyAt (keys_of changes.now) rooms.old.entries }
     ensures sheet { sheet_in rooms.new.entries ≡ sheet_in rooms.old.entries }
-    ensures order { IsInOrder rooms.new.entries }
+    ensures order { RoomsAreInOrder rooms.new.entries }
     ensures full { HasNoVacancy rooms.new.entries }
 {
     for (at, _) in changes {

@@ -8,7 +8,7 @@ ghost use Rattle.std.specs.Map.{keys_of};
 ghost use Rattle.wi_values.specs.Address.{is_within};
 ghost use Rattle.wi_parser.specs.Sheet.{content_of, has_formula, cells_with_formula};
 ghost use Rattle.wi_store.specs.Store.{edited, applied, Applies};
-ghost use Rattle.wi_store.specs.Inner.Rooms.{sheet_in, formula_rooms, IsInOrder, HasNoVacancy, VacantOnlyAt};
+ghost use Rattle.wi_store.specs.Inner.Rooms.{sheet_in, formula_rooms, RoomsAreInOrder, HasNoVacancy, VacantOnlyAt};
 ghost use Rattle.wi_store.specs.Store.{is_ahead};
 ghost use Rattle.wi_store.specs.Inner.Exchange.{admitted};
 
@@ -43,11 +43,11 @@ impl Model for Store {
 
     ghost coded = { Prim.hlevel (codes, content.the_row.coded) };
 
-    ghost use Rattle.wi_store.specs.Inner.Rooms.{sheet_in, IsInOrder, HasNoVacancy};
+    ghost use Rattle.wi_store.specs.Inner.Rooms.{sheet_in, RoomsAreInOrder, HasNoVacancy};
 
     ghost view = { λ s. record { sheet = sheet_in s.rooms.entries; edits = s.edits; limits = s.limits } };
 
-    ghost invariant = { λ s. IsInOrder s.rooms.entries × HasNoVacancy s.rooms.entries };
+    ghost invariant = { λ s. RoomsAreInOrder s.rooms.entries × HasNoVacancy s.rooms.entries };
 }
 
 impl Store {
@@ -234,7 +234,7 @@ fn next_inside(area: Rect, at: Address) -> Option<Address>
 
 // The first room of a rectangle, at a cell or after it.
 fn next_room(rooms: &Rooms, area: Rect, from: Address) -> Option<Address>
-    requires { IsInOrder rooms.now.entries }
+    requires { RoomsAreInOrder rooms.now.entries }
     ensures { result ≡ find (is_ahead area (Some from)) (keys_of rooms.now.entries) }
 {
     let mut ahead = Some(from);
@@ -278,13 +278,13 @@ fn edit(
     edits: u64,
     changes: &mut [Change],
 ) -> Result<(), StoreFault>
-    requires order { IsInOrder rooms.old.entries }
+    requires order { RoomsAreInOrder rooms.old.entries }
     requires full { HasNoVacancy rooms.old.entries }
     ensures done { OnOk result (sheet_in rooms.new.entries ≡ edited (sheet_in rooms.old.entries) changes.old) }
     ensures refused { OnErr result (sheet_in rooms.new.entries ≡ sheet_in rooms.old.entries) }
     ensures cause { (result ≡ Err StoreFault.Memory)
         ⊎ (result ≡ admitted limits.now (length (edited (sheet_in rooms.old.entries) changes.old)) edits) }
-    ensures order { IsInOrder rooms.new.entries }
+    ensures order { RoomsAreInOrder rooms.new.entries }
     ensures vacant { VacantOnlyAt (keys_of changes.new) rooms.new.entries }
 {
     let vacant = make_room(rooms, changes)?;

@@ -29,8 +29,8 @@ abbrev pub formula_rooms : Rooms → List ℕ
 formula_rooms rooms = keys_of (filter (λ e. has_formula e.1) rooms)
 
 -- each cell has at most one room, and the rooms stand in row-major order
-abbrev pub IsInOrder : Rooms → Type 0
-IsInOrder rooms = IsStrictlySortedBy nat_cmp (keys_of rooms)
+abbrev pub RoomsAreInOrder : Rooms → Type 0
+RoomsAreInOrder rooms = IsStrictlySortedBy nat_cmp (keys_of rooms)
 
 -- every room has a content
 abbrev pub HasNoVacancy : Rooms → Type 0

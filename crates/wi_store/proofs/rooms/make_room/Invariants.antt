@@ -1,13 +1,13 @@
 use Rattle.std.proofs.Common.{◌≡◌, ℕ, ◌+◌, ◌<◌, ◌≤◌, length, get_or, Option}
 use Rattle.std.specs.Map.{keys_of}
 use Rattle.wi_parser.specs.declared.content.Content.{Content}
-use Rattle.wi_store.specs.Inner.Rooms.{sheet_in, IsInOrder, VacantOnlyAt, HasRoomFor}
+use Rattle.wi_store.specs.Inner.Rooms.{sheet_in, RoomsAreInOrder, VacantOnlyAt, HasRoomFor}
 use Rattle.wi_store.proofs.rooms.make_room.Given as goal
 
 abbrev pub invariant-loop-at : goal.invariant-loop-at
 invariant-loop-at l = record {
   sheet : sheet_in l.rooms.entries ≡ sheet_in l.initial.rooms.entries;
-  order : IsInOrder l.rooms.entries;
+  order : RoomsAreInOrder l.rooms.entries;
   vacant : VacantOnlyAt (keys_of l.changes) l.rooms.entries;
   room : (k : ℕ) (d : ℕ × Option Content) → k < l.at-index → HasRoomFor l.rooms.entries (get_or l.changes k d);
   made : length l.rooms.entries ≡ length (sheet_in l.rooms.entries) + l.made;
