@@ -1,4 +1,4 @@
-use Rattle.std.proofs.Common.{ap, sym, subst, length, string_bytes}
+use Rattle.std.proofs.Common.{rules, ap, sym, subst, length, string_bytes}
 use Rattle.std.proofs.lemmas.Str.{IsUtf8-string_bytes}
 use Rattle.std.specs.Str.{IsCharBoundary}
 use Rattle.wi_parser.proofs.PrintLemmas.{cut_place}
@@ -10,3 +10,6 @@ truncate-requires c =
     let whole = cut_place new (string_bytes c.args.out.now) (IsUtf8-string_bytes c.args.out.now) c.push_formula-pushed.ensures.kept in
     let cut = subst (IsCharBoundary (string_bytes new)) (sym (ap length c.as_str-before.ensures.value)) whole in
     λ _. (cut.0, λ _. cut.1)
+
+pub returns-then-is_err-clause-err : goal.returns-then-is_err-clause-err
+returns-then-is_err-clause-err c = search rules
