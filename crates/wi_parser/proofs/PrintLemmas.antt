@@ -1,12 +1,8 @@
 -- What is appended to a text that must stay at the front.
-use Rattle.std.proofs.Common.{◌≡◌, refl, ℕ, ◌≤◌, List, ◌++◌, length, take, sym, ap, ◌∙◌, subst, arith, string_bytes, String, [], ◌∷◌, append_assoc, map, codes, cond, Result, Ok, Err, is_ok, OnOk}
-use Rattle.std.specs.declared.alloc.Global.{Global}
-use Rattle.std.specs.Str.{IsUtf8, IsCharBoundary}
-use Rattle.std.specs.Io.{StartsWith}
-use Rattle.std.proofs.lemmas.List.{take-append-le, take_all, length-take, take-take}
+use Rattle.std.proofs.Common.{◌≡◌, refl, ℕ, List, ◌++◌, sym, ap, ◌∙◌, [], ◌∷◌, append_assoc, map, codes, cond, Result, Ok, Err, is_ok, OnOk}
 use Rattle.std.proofs.lemmas.List.Concat.{flat_map-append}
-use Rattle.std.proofs.lemmas.Str.{IsCharBoundary-from_take, IsUtf8-string_bytes}
 use Rattle.std.specs.List.{flat_map}
+pub use Rattle.wi_fraction.proofs.Decimals.{starts_itself, starts_more, starts_trans, cut_place}
 use Rattle.wi_lexer.specs.Reference.{reference_text}
 use Rattle.wi_parser.specs.declared.expr.Pair.{Pair}
 use Rattle.wi_parser.specs.declared.expr.Reference.{Reference}
@@ -18,27 +14,9 @@ use Rattle.wi_parser.specs.View.{pair_of}
 use Rattle.wi_parser.specs.Printing.{cell_named, symbol_text, symbols_text, tree_text}
 use Rattle.wi_parser.specs.Inner.PrintedParts.{pairs_text}
 
-fits : (xs front : List ℕ) → StartsWith xs front → length front ≤ length xs
-fits xs front h = omega (arith, ap length h, length-take (length front) xs)
-
-pub starts_itself : (xs : List ℕ) → StartsWith xs xs
-starts_itself xs = take_all (length xs) xs (omega arith)
-
--- bytes that begin with others still do when more are appended
-pub starts_more : (xs more front : List ℕ) → StartsWith xs front → StartsWith (xs ++ more) front
-starts_more xs more front h = take-append-le (length front) xs more (fits xs front h) ∙ h
-
-pub starts_trans : (xs ys front : List ℕ) → StartsWith ys xs → StartsWith xs front → StartsWith ys front
-starts_trans xs ys front h k =
-    sym (take-take (length front) (length xs) ys (fits xs front k)) ∙ ap (take (length front)) h ∙ k
-
 -- the text of symbols and of others after them
 pub symbols_more : (xs ys : List Symbol) → symbols_text (xs ++ ys) ≡ symbols_text xs ++ symbols_text ys
 symbols_more xs ys = flat_map-append symbol_text xs ys
-
--- a text may be cut back to the one that it begins with
-pub cut_place : (s : String Global) (old : List ℕ) → IsUtf8 old → StartsWith (string_bytes s) old → IsCharBoundary (string_bytes s) (length old)
-cut_place s old u h = IsCharBoundary-from_take (string_bytes s) (length old) (IsUtf8-string_bytes s) (fits (string_bytes s) old h) (subst IsUtf8 (sym h) u)
 
 -- a what-if, written part by part
 pub what_if_written : {E : Type 0} (r : Result (Unit {0}) E) (f : Reference) (pairs : List Pair) (o a b c d : List ℕ)
