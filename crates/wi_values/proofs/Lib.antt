@@ -3,7 +3,10 @@ pub mod Equal
 pub mod Fields
 pub mod Imports
 pub mod Letters
+pub mod Lookups
+pub mod Order
 pub mod ReadsBack
 pub mod Replacements
 pub mod Rows
 pub mod Spelling
+pub mod Within

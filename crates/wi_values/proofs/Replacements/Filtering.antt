@@ -1,15 +1,15 @@
 -- Some of the replacements.
-use Rattle.std.proofs.Common.{◌≡◌, ℕ, Bool, true, false, cond, List, [], ◌∷◌, None, filter, refl, ap, ◌∙◌, arith}
+use Rattle.std.proofs.Common.{◌≡◌, ℕ, Bool, true, false, cond, List, [], ◌∷◌, None, filter, refl, ap, ◌∙◌}
 use Rattle.std.specs.Ordering.{nat_cmp}
 use Rattle.std.specs.List.Sorted.{IsStrictlySortedBy}
-use Rattle.std.specs.Map.{lookup, keys_of}
+use Rattle.std.specs.Map.{lookup}
 use Rattle.std.specs.BTreeMap.{is_at}
-use Rattle.std.proofs.lemmas.Bool.Decides.{nat_tests}
 use Rattle.std.proofs.lemmas.Map.Entries.{lookup-filter-keys}
 use Rattle.wi_values.specs.declared.value.Value.{Value}
 use Rattle.wi_values.specs.declared.replacement.Replacement.{Replacement}
 use Rattle.wi_values.specs.Replacements.{IsInOrder, as_map, replaced}
-use Rattle.wi_values.proofs.Replacements.InOrder.{ComeAfter, sorted_from_order, order_from_sorted}
+use Rattle.wi_values.proofs.Order.{at_same}
+use Rattle.wi_values.proofs.Replacements.InOrder.{ComeAfter, Rises, sorted_from_order, order_from_sorted}
 
 after_filter : (a : ℕ) (p : Replacement → Bool) (rs : List Replacement) → ComeAfter a rs → ComeAfter a (filter p rs)
 after_filter a p [] h = tt
@@ -18,9 +18,6 @@ after_filter a p (r ∷ rs) h = by (p r) (after_filter a p rs h.1)
     by : (b : Bool) → ComeAfter a (filter p rs) → ComeAfter a (cond b (r ∷ filter p rs) (filter p rs))
     by true k = (h.0, k)
     by false k = k
-
-abbrev Rises : List Replacement → Type 0
-Rises rs = IsStrictlySortedBy nat_cmp (keys_of (as_map rs))
 
 sorted_filter : (p : Replacement → Bool) (rs : List Replacement) → Rises rs → Rises (filter p rs)
 unfolding IsStrictlySortedBy
@@ -45,10 +42,7 @@ as_map-filter p (r ∷ rs) = by (p r.at) (as_map-filter p rs)
     by true h = ap (λ (es : List (ℕ × Value)). (r.at, r.value) ∷ es) h
     by false h = h
 
-found_key : (a k : ℕ) → is_at (nat_cmp a) k ≡ true → k ≡ a
-found_key a k h = grind (arith, nat_tests)
-
 pub replaced-filter : (p : ℕ → Bool) (a : ℕ) (rs : List Replacement) → replaced (filter (λ r. p r.at) rs) a ≡ cond (p a) (replaced rs a) None
 replaced-filter p a rs =
     ap (λ (es : List (ℕ × Value)). lookup (is_at (nat_cmp a)) es) (as_map-filter p rs)
-    ∙ lookup-filter-keys (is_at (nat_cmp a)) p (p a) (λ k t. ap p (found_key a k t)) (as_map rs)
+    ∙ lookup-filter-keys (is_at (nat_cmp a)) p (p a) (λ k t. ap p (at_same a k t)) (as_map rs)

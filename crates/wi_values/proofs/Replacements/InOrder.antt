@@ -1,5 +1,5 @@
 -- Replacements in order, their entries, and what their entries tell.
-use Rattle.std.proofs.Common.{◌≡◌, ◌<◌, ℕ, Bool, true, false, cond, List, [], ◌∷◌, map, Some, None, refl, sym, ap, ◌∙◌, subst, arith, ⊎_elim}
+use Rattle.std.proofs.Common.{◌≡◌, ℕ, Bool, true, false, cond, List, [], ◌∷◌, map, Some, None, refl, sym, ap, ◌∙◌, subst, ⊎_elim}
 use Rattle.std.specs.Ordering.{nat_cmp}
 use Rattle.std.specs.declared.cmp.Ordering.TheVariants.{Less}
 use Rattle.std.specs.List.{AllByRecursion}
@@ -7,11 +7,11 @@ use Rattle.std.specs.List.Sorted.{IsStrictlySortedBy, IsStrictlyIncreasing}
 use Rattle.std.specs.Map.{keys_of}
 use Rattle.std.specs.BTreeMap.{is_at}
 use Rattle.std.proofs.lemmas.Bool.{cases_order}
-use Rattle.std.proofs.lemmas.Bool.Decides.{nat_tests}
 use Rattle.std.proofs.lemmas.Map.Keys.{sorted_head, sorted_tail, sorted_from_strictly_increasing, IsStrictlyIncreasing-from_sorted}
 use Rattle.wi_values.specs.declared.value.Value.{Value}
 use Rattle.wi_values.specs.declared.replacement.Replacement.{Replacement}
 use Rattle.wi_values.specs.Replacements.{IsInOrder, as_map, replaced}
+use Rattle.wi_values.proofs.Order.{cmp_before, less_from_both, at_itself, at_same}
 
 keys_of-as_map : (rs : List Replacement) → keys_of (as_map rs) ≡ map (λ r. r.at) rs
 keys_of-as_map [] = refl
@@ -37,19 +37,13 @@ none_after : (a : ℕ) (rs : List Replacement) → ComeAfter a rs → replaced r
 none_after a [] h = refl
 none_after a (r ∷ rs) h = rw h.0 (none_after a rs h.1)
 
-less_from_both : (a b c : ℕ) → nat_cmp a b ≡ Less → nat_cmp b c ≡ Less → nat_cmp a c ≡ Less
-less_from_both a b c g h = grind (arith, nat_tests)
-
 come_after_earlier : (a b : ℕ) (rs : List Replacement) → nat_cmp a b ≡ Less → ComeAfter b rs → ComeAfter a rs
 come_after_earlier a b [] l h = tt
 come_after_earlier a b (r ∷ rs) l h = (less_from_both a b r.at l h.0, come_after_earlier a b rs l h.1)
 
-here : (a : ℕ) → is_at (nat_cmp a) a ≡ true
-here a = grind (arith, nat_tests)
-
 -- the first of two worlds has what the second lacks
 lacks : (r : Replacement) (vs ws : List Replacement) → ComeAfter r.at ws → ((a : ℕ) → replaced (r ∷ vs) a ≡ replaced ws a) → ⊥
-lacks r vs ws l h = let some : Some r.value ≡ replaced ws r.at = (rw (here r.at) refl) ∙ h r.at in let none = none_after r.at ws l in cc
+lacks r vs ws l h = let some : Some r.value ≡ replaced ws r.at = (rw (at_itself r.at) refl) ∙ h r.at in let none = none_after r.at ws l in cc
 
 -- behind the same address the worlds have the same
 same_behind : (c : ℕ) (x y : Value) (vs ws : List Replacement) → ComeAfter c vs → ComeAfter c ws
@@ -59,17 +53,13 @@ same_behind c x y vs ws k l h a = by (is_at (nat_cmp a) c) refl (h a)
   where
     by : (b : Bool) → is_at (nat_cmp a) c ≡ b → cond b (Some x) (replaced vs a) ≡ cond b (Some y) (replaced ws a) → replaced vs a ≡ replaced ws a
     by true e g =
-        let p : c ≡ a = grind (arith, nat_tests) in
-        subst (λ (q : ℕ). replaced vs q ≡ replaced ws q) p (none_after c vs k ∙ sym (none_after c ws l))
+        subst (λ (q : ℕ). replaced vs q ≡ replaced ws q) (at_same a c e) (none_after c vs k ∙ sym (none_after c ws l))
     by false e g = g
 
 same_front : (c : ℕ) (x y : Value) (vs ws : List Replacement) → ((a : ℕ) → cond (is_at (nat_cmp a) c) (Some x) (replaced vs a) ≡ cond (is_at (nat_cmp a) c) (Some y) (replaced ws a)) → x ≡ y
-same_front c x y vs ws h = let t = here c in let e = h c in let g : Some x ≡ Some y = rw t at e in cc
+same_front c x y vs ws h = let t = at_itself c in let e = h c in let g : Some x ≡ Some y = rw t at e in cc
 
-Less_from_below : (a b : ℕ) → a < b → nat_cmp a b ≡ Less
-Less_from_below a b h = grind (arith, nat_tests)
-
-abbrev Rises : List Replacement → Type 0
+abbrev pub Rises : List Replacement → Type 0
 Rises rs = IsStrictlySortedBy nat_cmp (keys_of (as_map rs))
 
 one_from_replaced : (v w : List Replacement) → Rises v → Rises w → ((a : ℕ) → replaced v a ≡ replaced w a) → v ≡ w
@@ -87,8 +77,8 @@ one_from_replaced (r ∷ vs) (s ∷ ws) p q h =
     let tails = one_from_replaced vs ws (sorted_tail nat_cmp r.at (keys_of (as_map vs)) p) (sorted_tail nat_cmp s.at (keys_of (as_map ws)) q)
     (same_behind r.at r.value s.value vs ws after_r after_r_too g) in
     λ i. (record { at = e i; value = values i }) ∷ tails i)
-    (⊎_elim (λ l. absurd (lacks r vs (s ∷ ws) (Less_from_below r.at s.at l, come_after_earlier r.at s.at ws (Less_from_below r.at s.at l) after_s) h))
-    (λ l. absurd (lacks s ws (r ∷ vs) (Less_from_below s.at r.at l, come_after_earlier s.at r.at vs (Less_from_below s.at r.at l) after_r) (λ a. sym (h a)))))
+    (⊎_elim (λ l. absurd (lacks r vs (s ∷ ws) (cmp_before r.at s.at l, come_after_earlier r.at s.at ws (cmp_before r.at s.at l) after_s) h))
+    (λ l. absurd (lacks s ws (r ∷ vs) (cmp_before s.at r.at l, come_after_earlier s.at r.at vs (cmp_before s.at r.at l) after_r) (λ a. sym (h a)))))
     (cases_order r.at s.at)
 
 -- two worlds that have the same for each address are one

@@ -1,0 +1,49 @@
+-- What is found under a number after an entry is put in or taken away.
+use Rattle.std.proofs.Common.{◌≡◌, ◌==◌, ℕ, Bool, true, false, cond, not, List, [], ◌∷◌, filter, Option, Some, None, refl, ap, sym, ◌∙◌, arith}
+use Rattle.std.proofs.lemmas.Bool.Decides.{nat_tests}
+use Rattle.std.proofs.lemmas.Map.Entries.{lookup-filter-keys}
+use Rattle.std.specs.Ordering.{nat_cmp, match_ordering}
+use Rattle.std.specs.declared.cmp.Ordering.{Ordering}
+use Rattle.std.specs.declared.cmp.Ordering.TheVariants.{Less, Equal, Greater}
+use Rattle.std.specs.Map.{lookup}
+use Rattle.std.specs.BTreeMap.{is_at, insert_entry}
+use Rattle.wi_values.proofs.Order.{same_from_Equal, is_at-eq, at_same}
+
+apart : (q c k : ℕ) → nat_cmp c k ≡ Greater → (q == c) ≡ true → is_at (nat_cmp q) k ≡ true → ⊥
+apart q c k h a b = grind (arith, nat_tests)
+
+module _ {X : Type 0} where
+  shadow : (b d : Bool) (x y z : Option X) → d ≡ b → cond d x z ≡ cond b x (cond d y z)
+  shadow true true x y z h = refl
+  shadow false false x y z h = refl
+  shadow true false x y z h = cc
+  shadow false true x y z h = cc
+
+  swap : (b d : Bool) (x y z r : Option X) → (b ≡ true → d ≡ true → ⊥) → r ≡ cond b x z → cond d y r ≡ cond b x (cond d y z)
+  swap true true x y z r h e = absurd (h refl refl)
+  swap true false x y z r h e = e
+  swap false true x y z r h e = refl
+  swap false false x y z r h e = e
+
+  -- an insertion at one place of the order
+  insert_at : (q c : ℕ) (x : X) (e : ℕ × X) (es : List (ℕ × X)) (o : Ordering) → nat_cmp c e.0 ≡ o →
+      lookup (is_at (nat_cmp q)) (insert_entry nat_cmp es c x) ≡ cond (q == c) (Some x) (lookup (is_at (nat_cmp q)) es) →
+      lookup (is_at (nat_cmp q)) (match_ordering o ((c, x) ∷ e ∷ es) ((e.0, x) ∷ es) (e ∷ insert_entry nat_cmp es c x)) ≡ cond (q == c) (Some x) (lookup (is_at (nat_cmp q)) (e ∷ es))
+  insert_at q c x e es Less h ih = ap (λ (b : Bool). cond b (Some x) (lookup (is_at (nat_cmp q)) (e ∷ es))) (is_at-eq q c)
+  insert_at q c x e es Equal h ih =
+      shadow (q == c) (is_at (nat_cmp q) e.0) (Some x) (Some e.1) (lookup (is_at (nat_cmp q)) es) (is_at-eq q e.0 ∙ ap (λ (k : ℕ). q == k) (sym (same_from_Equal c e.0 h)))
+  insert_at q c x e es Greater h ih =
+      swap (q == c) (is_at (nat_cmp q) e.0) (Some x) (Some e.1) (lookup (is_at (nat_cmp q)) es) _ (apart q c e.0 h) ih
+
+  pub found-insert : (es : List (ℕ × X)) (c : ℕ) (x : X) (q : ℕ) → lookup (is_at (nat_cmp q)) (insert_entry nat_cmp es c x) ≡ cond (q == c) (Some x) (lookup (is_at (nat_cmp q)) es)
+  found-insert [] c x q = ap (λ (b : Bool). cond b (Some x) None) (is_at-eq q c)
+  found-insert (e ∷ es) c x q = insert_at q c x e es (nat_cmp c e.0) refl (found-insert es c x q)
+
+  turned : (b : Bool) (o : Option X) → cond (not b) o None ≡ cond b None o
+  turned true o = refl
+  turned false o = refl
+
+  pub found-without : (es : List (ℕ × X)) (c q : ℕ) → lookup (is_at (nat_cmp q)) (filter (λ e. not (e.0 == c)) es) ≡ cond (q == c) None (lookup (is_at (nat_cmp q)) es)
+  found-without es c q =
+      lookup-filter-keys (is_at (nat_cmp q)) (λ k. not (k == c)) (not (q == c)) (λ k t. ap (λ (z : ℕ). not (z == c)) (at_same q k t)) es
+      ∙ turned (q == c) (lookup (is_at (nat_cmp q)) es)

@@ -1,0 +1,132 @@
+-- Numbers in order: their comparison, the test for a key, and entries whose keys ascend.
+use Rattle.std.proofs.Common.{◌≡◌, ◌==◌, ◌<◌, ℕ, Bool, true, false, cond, List, [], ◌∷◌, filter, None, refl, arith}
+use Rattle.std.proofs.lemmas.Bool.Decides.{nat_tests}
+use Rattle.std.proofs.lemmas.Map.Keys.{sorted_head, sorted_tail}
+use Rattle.std.specs.List.{AllByRecursion}
+use Rattle.std.specs.List.Sorted.{IsStrictlySortedBy}
+use Rattle.std.specs.Ordering.{nat_cmp, match_ordering}
+use Rattle.std.specs.declared.cmp.Ordering.{Ordering}
+use Rattle.std.specs.declared.cmp.Ordering.TheVariants.{Less, Equal, Greater}
+use Rattle.std.specs.Map.{lookup, keys_of}
+use Rattle.std.specs.BTreeMap.{is_at, insert_entry}
+
+-- ---- how two numbers compare
+
+pub cmp_before : (a b : ℕ) → a < b → nat_cmp a b ≡ Less
+cmp_before a b h = grind (arith, nat_tests)
+
+pub cmp_equal : (a b : ℕ) → a ≡ b → nat_cmp a b ≡ Equal
+cmp_equal a b h = grind (arith, nat_tests)
+
+pub cmp_after : (a b : ℕ) → b < a → nat_cmp a b ≡ Greater
+cmp_after a b h = grind (arith, nat_tests)
+
+pub below_from_Less : (a b : ℕ) → nat_cmp a b ≡ Less → a < b
+below_from_Less a b h = grind (arith, nat_tests)
+
+pub same_from_Equal : (a b : ℕ) → nat_cmp a b ≡ Equal → a ≡ b
+same_from_Equal a b h = grind (arith, nat_tests)
+
+pub above_from_Greater : (a b : ℕ) → nat_cmp a b ≡ Greater → b < a
+above_from_Greater a b h = grind (arith, nat_tests)
+
+pub less_from_both : (a b c : ℕ) → nat_cmp a b ≡ Less → nat_cmp b c ≡ Less → nat_cmp a c ≡ Less
+less_from_both a b c g h = grind (arith, nat_tests)
+
+-- ---- tests for a number
+
+pub is_itself : (a : ℕ) → (a == a) ≡ true
+is_itself a = grind (arith, nat_tests)
+
+pub turn_test : (x y : ℕ) → (x == y) ≡ (y == x)
+turn_test x y = grind (arith, nat_tests)
+
+pub is_at-eq : (q c : ℕ) → is_at (nat_cmp q) c ≡ (q == c)
+is_at-eq q c = grind (arith, nat_tests)
+
+pub at_same : (a x : ℕ) → is_at (nat_cmp a) x ≡ true → x ≡ a
+at_same a x h = grind (arith, nat_tests)
+
+pub at_itself : (a : ℕ) → is_at (nat_cmp a) a ≡ true
+at_itself a = grind (arith, nat_tests)
+
+pub at_later : (a b : ℕ) → a < b → is_at (nat_cmp a) b ≡ false
+at_later a b h = grind (arith, nat_tests)
+
+pub at_earlier : (a b : ℕ) → b < a → is_at (nat_cmp a) b ≡ false
+at_earlier a b h = grind (arith, nat_tests)
+
+-- ---- entries whose keys ascend
+
+module _ {X : Type 0} where
+  -- each key comes after a
+  abbrev pub ComeAfter : ℕ → List (ℕ × X) → Type 0
+  ComeAfter a [] = Unit {0}
+  ComeAfter a (e ∷ es) = (a < e.0) × ComeAfter a es
+
+  abbrev pub Ascends : List (ℕ × X) → Type 0
+  Ascends [] = Unit {0}
+  Ascends (e ∷ es) = ComeAfter e.0 es × Ascends es
+
+  ComeAfter-from_keys : (a : ℕ) (es : List (ℕ × X)) → AllByRecursion (λ b. nat_cmp a b ≡ Less) (keys_of es) → ComeAfter a es
+  ComeAfter-from_keys a [] h = tt
+  ComeAfter-from_keys a (e ∷ es) h = (below_from_Less a e.0 h.0, ComeAfter-from_keys a es h.1)
+
+  pub Ascends-from_order : (es : List (ℕ × X)) → IsStrictlySortedBy nat_cmp (keys_of es) → Ascends es
+  Ascends-from_order [] h = tt
+  Ascends-from_order (e ∷ es) h =
+      (ComeAfter-from_keys e.0 es (sorted_head nat_cmp e.0 (keys_of es) h), Ascends-from_order es (sorted_tail nat_cmp e.0 (keys_of es) h))
+
+  keys-from_ComeAfter : (a : ℕ) (es : List (ℕ × X)) → ComeAfter a es → AllByRecursion (λ b. nat_cmp a b ≡ Less) (keys_of es)
+  keys-from_ComeAfter a [] h = tt
+  keys-from_ComeAfter a (e ∷ es) h = (cmp_before a e.0 h.0, keys-from_ComeAfter a es h.1)
+
+  pub order-from_Ascends : (es : List (ℕ × X)) → Ascends es → IsStrictlySortedBy nat_cmp (keys_of es)
+  unfolding IsStrictlySortedBy
+  order-from_Ascends [] h = tt
+  order-from_Ascends (e ∷ es) h = (keys-from_ComeAfter e.0 es h.0, order-from_Ascends es h.1)
+
+  pub come_after_earlier : (a b : ℕ) (es : List (ℕ × X)) → a < b → ComeAfter b es → ComeAfter a es
+  come_after_earlier a b [] l h = tt
+  come_after_earlier a b (e ∷ es) l h = (omega (arith, h.0), come_after_earlier a b es l h.1)
+
+  -- before the first key nothing is found
+  pub lookup_after : (a : ℕ) (es : List (ℕ × X)) → ComeAfter a es → lookup (is_at (nat_cmp a)) es ≡ None
+  lookup_after a [] h = refl
+  lookup_after a (e ∷ es) h = rw (at_later a e.0 h.0) (lookup_after a es h.1)
+
+  -- ---- what stays in order
+
+  pub ComeAfter-filter : (p : ℕ × X → Bool) (a : ℕ) (es : List (ℕ × X)) → ComeAfter a es → ComeAfter a (filter p es)
+  ComeAfter-filter p a [] h = tt
+  ComeAfter-filter p a (e ∷ es) h = at (p e) (ComeAfter-filter p a es h.1)
+    where
+      at : (b : Bool) → ComeAfter a (filter p es) → ComeAfter a (cond b (e ∷ filter p es) (filter p es))
+      at true ih = (h.0, ih)
+      at false ih = ih
+
+  pub Ascends-filter : (p : ℕ × X → Bool) (es : List (ℕ × X)) → Ascends es → Ascends (filter p es)
+  Ascends-filter p [] h = tt
+  Ascends-filter p (e ∷ es) h = at (p e) (Ascends-filter p es h.1)
+    where
+      at : (b : Bool) → Ascends (filter p es) → Ascends (cond b (e ∷ filter p es) (filter p es))
+      at true ih = (ComeAfter-filter p e.0 es h.0, ih)
+      at false ih = ih
+
+  pub ComeAfter-insert : (a c : ℕ) (x : X) (es : List (ℕ × X)) → a < c → ComeAfter a es → ComeAfter a (insert_entry nat_cmp es c x)
+  ComeAfter-insert a c x [] l h = (l, tt)
+  ComeAfter-insert a c x (e ∷ es) l h = at (nat_cmp c e.0) (ComeAfter-insert a c x es l h.1)
+    where
+      at : (o : Ordering) → ComeAfter a (insert_entry nat_cmp es c x) → ComeAfter a (match_ordering o ((c, x) ∷ e ∷ es) ((e.0, x) ∷ es) (e ∷ insert_entry nat_cmp es c x))
+      at Less ih = (l, h)
+      at Equal ih = h
+      at Greater ih = (h.0, ih)
+
+  pub Ascends-insert : (c : ℕ) (x : X) (es : List (ℕ × X)) → Ascends es → Ascends (insert_entry nat_cmp es c x)
+  Ascends-insert c x [] h = (tt, tt)
+  Ascends-insert c x (e ∷ es) h = at (nat_cmp c e.0) refl (Ascends-insert c x es h.1)
+    where
+      at : (o : Ordering) → nat_cmp c e.0 ≡ o → Ascends (insert_entry nat_cmp es c x) → Ascends (match_ordering o ((c, x) ∷ e ∷ es) ((e.0, x) ∷ es) (e ∷ insert_entry nat_cmp es c x))
+      at Less k ih = let l = below_from_Less c e.0 k in ((l, come_after_earlier c e.0 es l h.0), h)
+      at Equal k ih = h
+      at Greater k ih = (ComeAfter-insert e.0 c x es (above_from_Greater c e.0 k) h.0, ih)

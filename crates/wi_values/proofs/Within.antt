@@ -1,0 +1,27 @@
+-- Where the cells of a rectangle stand in row-major order, and how many are left to search.
+use Rattle.std.proofs.Common.{◌≡◌, ◌&&◌, ℕ, ◌+◌, ◌-◌, ◌<◌, ◌≤◌, true, Option, Some, None, IfSome, arith}
+use Rattle.std.specs.Prelude.{nat_le}
+use Rattle.std.proofs.lemmas.Bool.{and_parts, leb-true}
+use Rattle.wi_values.specs.Address.{Area, row_of, column_of, is_within}
+
+-- the cells of a rectangle come at or after its first, and at or before its last
+pub within_between : (r : Area) (a : ℕ) → is_within r a ≡ true → (r.first ≤ a) × (a ≤ r.last)
+within_between r a h =
+    let p = and_parts (nat_le (row_of r.first) (row_of a) && nat_le (row_of a) (row_of r.last)) _ h in
+    let rows = and_parts (nat_le (row_of r.first) (row_of a)) _ p.0 in
+    let cols = and_parts (nat_le (column_of r.first) (column_of a)) _ p.1 in
+    let above = leb-true _ _ rows.0 in
+    let below = leb-true _ _ rows.1 in
+    let left = leb-true _ _ cols.0 in
+    let right = leb-true _ _ cols.1 in
+    (omega arith, omega arith)
+
+-- how many places there are from this one to the last
+abbrev pub places_left : Area → Option ℕ → ℕ
+places_left r None = 0
+places_left r (Some a) = (r.last + 1) - a
+
+-- a search that goes on after a cell has fewer places left
+pub fewer_places : (r : Area) (start cell : ℕ) (next : Option ℕ) → start ≤ cell → cell ≤ r.last → IfSome next (λ a. (cell < a) × (a ≤ r.last)) → places_left r next < places_left r (Some start)
+fewer_places r start cell None l m h = omega (arith, l, m)
+fewer_places r start cell (Some a) l m h = omega (arith, l, m, h.0, h.1)
