@@ -2,28 +2,22 @@
 use Rattle.std.proofs.Common.{◌≡◌, ℕ, ◌+◌, ◌<◌, ◌==◌, Bool, true, false, cond, List, [], ◌∷◌, length, not, Option, Some, None, refl, sym, ap, ◌∙◌, subst, arith, ⊎_elim, inl, inr, ◌⊎◌}
 use Rattle.std.specs.Option.{option_flatten, is_some}
 use Rattle.std.specs.Ordering.{nat_cmp}
-use Rattle.std.specs.declared.cmp.Ordering.TheVariants.{Equal, Greater}
 use Rattle.std.specs.Map.{set_value, remove_entry}
 use Rattle.std.specs.BTreeMap.{is_at, insert_entry}
 use Rattle.std.proofs.lemmas.Bool.{cases_order, cases_eq, eq-eqb}
 use Rattle.std.proofs.lemmas.Bool.Decides.{nat_tests}
+use Rattle.wi_values.proofs.Order.{ComeAfter, Ascends, Ascends-filter, Ascends-insert, cmp_before, cmp_equal, cmp_after, come_after_earlier, at_itself, at_earlier, lookup_after}
 use Rattle.wi_parser.specs.Sheet.{Sheet, content_of, without, with_content}
 use Rattle.wi_parser.specs.declared.content.Content.{Content}
 use Rattle.wi_store.specs.Store.{edited}
 use Rattle.wi_store.specs.Inner.Rooms.{Rooms, sheet_in, room_of}
 use Rattle.wi_store.specs.Inner.Exchange.{stood, restored}
-use Rattle.wi_store.proofs.RoomLemmas.{ComeAfter, Ascends, cmp_before, come_after_earlier, is_at_same, is_at_earlier, lookup_after, ComeAfter-sheet_in, Ascends-sheet_in, content_of-sheet_in}
+use Rattle.wi_store.proofs.RoomLemmas.{ComeAfter-sheet_in, Ascends-sheet_in, content_of-sheet_in}
 
 -- ---- one content put into a sheet, by where its cell stands
 
-cmp_equal : (a b : ℕ) → a ≡ b → nat_cmp a b ≡ Equal
-cmp_equal a b h = grind (arith, nat_tests)
-
 is_at_equal : (a b : ℕ) → a ≡ b → is_at (nat_cmp a) b ≡ true
 is_at_equal a b h = grind (arith, nat_tests)
-
-cmp_after : (a b : ℕ) → b < a → nat_cmp a b ≡ Greater
-cmp_after a b h = grind (arith, nat_tests)
 
 other_number : (a b : ℕ) → b < a → (b == a) ≡ false
 other_number a b h = grind (arith, nat_tests)
@@ -76,12 +70,12 @@ with_content-past a c (Some y) o s h = with_content-later a c y o s h
 
 exchanges_here : (c : ℕ) (p o : Option Content) (rooms : Rooms) → ComeAfter c rooms → Exchanges ((c, p) ∷ rooms) c o
 exchanges_here c p o rooms h =
-    rw (is_at_same c) (sheet_in-cons c o rooms ∙ sym (with_content-front c p o (sheet_in rooms) (ComeAfter-sheet_in c rooms h))
+    rw (at_itself c) (sheet_in-cons c o rooms ∙ sym (with_content-front c p o (sheet_in rooms) (ComeAfter-sheet_in c rooms h))
     ∙ ap (λ (s : Sheet). with_content s c o) (sym (sheet_in-cons c p rooms)))
 
 exchanges_later : (a c : ℕ) (p o : Option Content) (rooms : Rooms) → c < a → Exchanges rooms a o → Exchanges ((c, p) ∷ rooms) a o
 exchanges_later a c p o rooms l h =
-    rw (is_at_earlier a c l) (sheet_in-cons c p (set_value (is_at (nat_cmp a)) rooms o) ∙ ap (λ (s : Sheet). with_front c p s) h
+    rw (at_earlier a c l) (sheet_in-cons c p (set_value (is_at (nat_cmp a)) rooms o) ∙ ap (λ (s : Sheet). with_front c p s) h
     ∙ sym (with_content-past a c p o (sheet_in rooms) l) ∙ ap (λ (s : Sheet). with_content s a o) (sym (sheet_in-cons c p rooms)))
 
 -- a content put into a cell's room is put into the sheet
@@ -90,7 +84,7 @@ sheet_in-set_value a p o [] h r = cc
 sheet_in-set_value a p o (e ∷ es) h r =
     ⊎_elim (λ q. subst (λ (b : ℕ). Exchanges (e ∷ es) b o) (sym q) (exchanges_here e.0 e.1 o es h.0))
     (⊎_elim (λ l. let n : room_of (e ∷ es) a ≡ None = lookup_after a (e ∷ es) (l, come_after_earlier a e.0 es l h.0) in cc)
-    (λ l. exchanges_later a e.0 e.1 o es l (sheet_in-set_value a p o es h.1 (rw (is_at_earlier a e.0 l) at r))))
+    (λ l. exchanges_later a e.0 e.1 o es l (sheet_in-set_value a p o es h.1 (rw (at_earlier a e.0 l) at r))))
     (cases_order a e.0)
 
 -- a cell without a content, and none put into it
@@ -99,7 +93,7 @@ without-nothing a [] h r = refl
 without-nothing a (e ∷ es) h r =
     ⊎_elim (λ p. let n : content_of (e ∷ es) a ≡ Some e.1 = rw (is_at_equal a e.0 p) refl in cc)
     (⊎_elim (λ l. without_after a (e ∷ es) (l, come_after_earlier a e.0 es l h.0))
-    (λ l. rw (other_number a e.0 l) (ap (λ (t : Sheet). e ∷ t) (without-nothing a es h.1 (rw (is_at_earlier a e.0 l) at r)))))
+    (λ l. rw (other_number a e.0 l) (ap (λ (t : Sheet). e ∷ t) (without-nothing a es h.1 (rw (at_earlier a e.0 l) at r)))))
     (cases_order a e.0)
 
 -- ---- a room made and a room taken away
@@ -111,7 +105,7 @@ sheet_in-make a (e ∷ es) r =
     ⊎_elim (λ p. let n : room_of (e ∷ es) a ≡ Some e.1 = rw (is_at_equal a e.0 p) refl in cc)
     (⊎_elim (λ l. rw (cmp_before a e.0 l) refl)
     (λ l. rw (cmp_after a e.0 l) (sheet_in-cons e.0 e.1 (insert_entry nat_cmp es a None)
-    ∙ ap (λ (s : Sheet). with_front e.0 e.1 s) (sheet_in-make a es (rw (is_at_earlier a e.0 l) at r)) ∙ sym (sheet_in-cons e.0 e.1 es))))
+    ∙ ap (λ (s : Sheet). with_front e.0 e.1 s) (sheet_in-make a es (rw (at_earlier a e.0 l) at r)) ∙ sym (sheet_in-cons e.0 e.1 es))))
     (cases_order a e.0)
 
 -- a vacant room taken away takes nothing from the sheet
@@ -129,7 +123,7 @@ sheet_in-release a (e ∷ es) r = by (is_at (nat_cmp a) e.0) e.1 r (sheet_in-rel
 -- ---- what stood, put back
 
 content_of-front : (c : ℕ) (y : Content) (s : Sheet) → content_of ((c, y) ∷ s) c ≡ Some y
-content_of-front c y s = rw (is_at_same c) refl
+content_of-front c y s = rw (at_itself c) refl
 
 abbrev IsPutBack : Sheet → ℕ → Option Content → Type 0
 IsPutBack s a o = with_content (with_content s a o) a (content_of s a) ≡ s
@@ -144,7 +138,7 @@ put_back-before a o s h =
 
 put_back-later : (a c : ℕ) (y : Content) (o : Option Content) (s : Sheet) → c < a → IsPutBack s a o → IsPutBack ((c, y) ∷ s) a o
 put_back-later a c y o s l h =
-    rw (is_at_earlier a c l) (ap (λ (t : Sheet). with_content t a (content_of s a)) (with_content-later a c y o s l)
+    rw (at_earlier a c l) (ap (λ (t : Sheet). with_content t a (content_of s a)) (with_content-later a c y o s l)
     ∙ with_content-later a c y (content_of s a) (with_content s a o) l ∙ ap (λ (t : Sheet). (c, y) ∷ t) h)
 
 pub put_back : (a : ℕ) (o : Option Content) (s : Sheet) → Ascends s → with_content (with_content s a o) a (content_of s a) ≡ s
@@ -156,37 +150,9 @@ put_back a o (e ∷ es) h =
     (cases_order a e.0)
 
 -- a sheet stays in order
-ComeAfter-without : (b a : ℕ) (s : Sheet) → ComeAfter b s → ComeAfter b (without s a)
-ComeAfter-without b a [] h = tt
-ComeAfter-without b a (e ∷ es) h = by (not (e.0 == a)) (ComeAfter-without b a es h.1)
-  where
-    by : (t : Bool) → ComeAfter b (without es a) → ComeAfter b (cond t (e ∷ without es a) (without es a))
-    by true r = (h.0, r)
-    by false r = r
-
-ComeAfter-insert : (b a : ℕ) (x : Content) (s : Sheet) → b < a → ComeAfter b s → ComeAfter b (insert_entry nat_cmp s a x)
-ComeAfter-insert b a x [] l h = (l, tt)
-ComeAfter-insert b a x (e ∷ es) l h =
-    ⊎_elim (λ p. rw (cmp_equal a e.0 p) (h.0, h.1))
-    (⊎_elim (λ m. rw (cmp_before a e.0 m) (l, h)) (λ m. rw (cmp_after a e.0 m) (h.0, ComeAfter-insert b a x es l h.1)))
-    (cases_order a e.0)
-
-ComeAfter-with_content : (b a : ℕ) (o : Option Content) (s : Sheet) → b < a → ComeAfter b s → ComeAfter b (with_content s a o)
-ComeAfter-with_content b a None s l h = ComeAfter-without b a s h
-ComeAfter-with_content b a (Some x) s l h = ComeAfter-insert b a x s l h
-
-Ascends-front : (c : ℕ) (o : Option Content) (s : Sheet) → ComeAfter c s → Ascends s → Ascends (with_front c o s)
-Ascends-front c None s l h = h
-Ascends-front c (Some x) s l h = (l, h)
-
 pub Ascends-with_content : (a : ℕ) (o : Option Content) (s : Sheet) → Ascends s → Ascends (with_content s a o)
-Ascends-with_content a o [] h = rw (with_content-after a o [] tt) (Ascends-front a o [] tt tt)
-Ascends-with_content a o (e ∷ es) h =
-    ⊎_elim (λ p. subst (λ (b : ℕ). Ascends (with_content (e ∷ es) b o)) (sym p) (rw (with_content-here e.0 e.1 o es h.0) (Ascends-front e.0 o es h.0 h.1)))
-    (⊎_elim (λ l. let f : ComeAfter a (e ∷ es) = (l, come_after_earlier a e.0 es l h.0) in
-    rw (with_content-after a o (e ∷ es) f) (Ascends-front a o (e ∷ es) f h))
-    (λ l. rw (with_content-later a e.0 e.1 o es l) (ComeAfter-with_content e.0 a o es l h.0, Ascends-with_content a o es h.1)))
-    (cases_order a e.0)
+Ascends-with_content a None s h = Ascends-filter (λ e. not (e.0 == a)) s h
+Ascends-with_content a (Some x) s h = Ascends-insert a x s h
 
 -- what stood in each cell, put back the last first, gives the sheet as it was
 pub restored-stood : (s : Sheet) (es : List (ℕ × Option Content)) → Ascends s → restored (edited s es) (stood s es) ≡ s
@@ -216,7 +182,7 @@ counted_before : (a : ℕ) (o : Option Content) (s : Sheet) → ComeAfter a s �
 counted_before a o s h = rw (lookup_after a s h, with_content-after a o s h) (omega (arith, length-front a o s))
 
 counted_later : (a c : ℕ) (y : Content) (o : Option Content) (s : Sheet) → c < a → IsCounted s a o → IsCounted ((c, y) ∷ s) a o
-counted_later a c y o s l h = rw (is_at_earlier a c l, with_content-later a c y o s l) (omega (arith, h))
+counted_later a c y o s l h = rw (at_earlier a c l, with_content-later a c y o s l) (omega (arith, h))
 
 pub length-with_content : (a : ℕ) (o : Option Content) (s : Sheet) → Ascends s → length (with_content s a o) + count (content_of s a) ≡ length s + count o
 length-with_content a o [] h = counted_before a o [] tt

@@ -8,8 +8,9 @@ use Rattle.std.proofs.lemmas.Bool.{and_parts, and_from, false_from_ne_true, le-l
 use Rattle.wi_values.specs.Address.{Area, is_within}
 use Rattle.wi_store.specs.Inner.Rooms.{Rooms}
 use Rattle.wi_store.specs.Store.{is_ahead}
-use Rattle.wi_store.proofs.RoomLemmas.{ComeAfter, Ascends}
-use Rattle.wi_store.proofs.Within.{range_of, same, within_between, is_between, is_between-means, is_between-from, cells_ahead}
+use Rattle.wi_values.proofs.Order.{ComeAfter, Ascends}
+use Rattle.wi_values.proofs.Within.{within_between}
+use Rattle.wi_store.proofs.Within.{range_of, same, is_between, is_between-means, is_between-from}
 
 -- the cell comes at or after the one, and at or before the other
 abbrev pub spans : ℕ → ℕ → ℕ → Bool
@@ -158,7 +159,3 @@ find_ahead r from (x ∷ xs) = at (is_within r x) refl (find_ahead r from xs)
         ap (λ (b : Bool). cond (nat_le from x && b) (Some x) (find (is_ahead r (Some from)) xs)) h
         ∙ ap (λ (b : Bool). cond b (Some x) (find (is_ahead r (Some from)) xs)) (and-false (nat_le from x))
         ∙ ih
-
-pub fewer_ahead : (r : Area) (start c : ℕ) (next now : Option ℕ) → now ≡ Some start → (start ≤ c) × (c ≤ r.last) → IfSome next (λ n. (c < n) × (n ≤ r.last)) → cells_ahead r next < cells_ahead r now
-fewer_ahead r start c None now e l h = subst (λ (o : Option ℕ). cells_ahead r None < cells_ahead r o) (sym e) (omega (arith, l.0, l.1))
-fewer_ahead r start c (Some n) now e l h = subst (λ (o : Option ℕ). cells_ahead r (Some n) < cells_ahead r o) (sym e) (omega (arith, l.0, l.1, h.0, h.1))

@@ -2,70 +2,15 @@
 use Rattle.std.proofs.Common.{◌≡◌, ℕ, ◌+◌, ◌<◌, Bool, true, false, cond, List, [], ◌∷◌, filter, length, Option, Some, None, refl, sym, ap, ◌∙◌, subst, arith, ⊎_elim}
 use Rattle.std.specs.Option.{option_flatten}
 use Rattle.std.specs.List.{AllByRecursion}
-use Rattle.std.specs.List.Sorted.{IsStrictlySortedBy}
 use Rattle.std.specs.Ordering.{nat_cmp}
-use Rattle.std.specs.declared.cmp.Ordering.TheVariants.{Less}
 use Rattle.std.specs.Map.{lookup, keys_of}
 use Rattle.std.specs.BTreeMap.{is_at}
 use Rattle.std.proofs.lemmas.Bool.{cases_order}
-use Rattle.std.proofs.lemmas.Bool.Decides.{nat_tests}
-use Rattle.std.proofs.lemmas.Map.Keys.{sorted_head, sorted_tail}
+pub use Rattle.wi_values.proofs.Order.{ComeAfter, Ascends, Ascends-from_order, order-from_Ascends}
+use Rattle.wi_values.proofs.Order.{at_itself, at_later, at_earlier, lookup_after}
 use Rattle.wi_parser.specs.Sheet.{Sheet, content_of, cells_with_formula, has_formula}
 use Rattle.wi_parser.specs.declared.content.Content.{Content}
 use Rattle.wi_store.specs.Inner.Rooms.{Rooms, sheet_in, room_of, formula_rooms, HasNoVacancy}
-
--- ---- orders by numbers
-
--- each cell of the list comes after a
-abbrev pub ComeAfter : {X : Type 0} → ℕ → List (ℕ × X) → Type 0
-ComeAfter a [] = Unit {0}
-ComeAfter a (e ∷ es) = (a < e.0) × ComeAfter a es
-
-abbrev pub Ascends : {X : Type 0} → List (ℕ × X) → Type 0
-Ascends [] = Unit {0}
-Ascends (e ∷ es) = ComeAfter e.0 es × Ascends es
-
-below_from_Less : (a b : ℕ) → nat_cmp a b ≡ Less → a < b
-below_from_Less a b h = grind (arith, nat_tests)
-
-ComeAfter-from_keys : {X : Type 0} (a : ℕ) (es : List (ℕ × X)) → AllByRecursion (λ b. nat_cmp a b ≡ Less) (keys_of es) → ComeAfter a es
-ComeAfter-from_keys a [] h = tt
-ComeAfter-from_keys a (e ∷ es) h = (below_from_Less a e.0 h.0, ComeAfter-from_keys a es h.1)
-
-pub Ascends-from_order : {X : Type 0} (es : List (ℕ × X)) → IsStrictlySortedBy nat_cmp (keys_of es) → Ascends es
-Ascends-from_order [] h = tt
-Ascends-from_order (e ∷ es) h =
-    (ComeAfter-from_keys e.0 es (sorted_head nat_cmp e.0 (keys_of es) h), Ascends-from_order es (sorted_tail nat_cmp e.0 (keys_of es) h))
-
-pub cmp_before : (a b : ℕ) → a < b → nat_cmp a b ≡ Less
-cmp_before a b h = grind (arith, nat_tests)
-
-keys-from_ComeAfter : {X : Type 0} (a : ℕ) (es : List (ℕ × X)) → ComeAfter a es → AllByRecursion (λ b. nat_cmp a b ≡ Less) (keys_of es)
-keys-from_ComeAfter a [] h = tt
-keys-from_ComeAfter a (e ∷ es) h = (cmp_before a e.0 h.0, keys-from_ComeAfter a es h.1)
-
-pub order-from_Ascends : {X : Type 0} (es : List (ℕ × X)) → Ascends es → IsStrictlySortedBy nat_cmp (keys_of es)
-unfolding IsStrictlySortedBy
-order-from_Ascends [] h = tt
-order-from_Ascends (e ∷ es) h = (keys-from_ComeAfter e.0 es h.0, order-from_Ascends es h.1)
-
-pub come_after_earlier : {X : Type 0} (a b : ℕ) (es : List (ℕ × X)) → a < b → ComeAfter b es → ComeAfter a es
-come_after_earlier a b [] l h = tt
-come_after_earlier a b (e ∷ es) l h = (omega (arith, h.0), come_after_earlier a b es l h.1)
-
-pub is_at_same : (a : ℕ) → is_at (nat_cmp a) a ≡ true
-is_at_same a = grind (arith, nat_tests)
-
-pub is_at_other : (a b : ℕ) → a < b → is_at (nat_cmp a) b ≡ false
-is_at_other a b h = grind (arith, nat_tests)
-
-pub is_at_earlier : (a b : ℕ) → b < a → is_at (nat_cmp a) b ≡ false
-is_at_earlier a b h = grind (arith, nat_tests)
-
--- before the first cell nothing is found
-pub lookup_after : {X : Type 0} (a : ℕ) (es : List (ℕ × X)) → ComeAfter a es → lookup (is_at (nat_cmp a)) es ≡ None
-lookup_after a [] h = refl
-lookup_after a (e ∷ es) h = rw (is_at_other a e.0 h.0) (lookup_after a es h.1)
 
 -- ---- the sheet in rooms
 
@@ -88,7 +33,7 @@ Ascends-sheet_in (e ∷ es) h = Ascends-one_more e.0 e.1 es (ComeAfter-sheet_in 
 -- the first room is the cell's
 content_of-here : (c : ℕ) (o : Option Content) (es : Rooms) → ComeAfter c (sheet_in es) → content_of (sheet_in ((c, o) ∷ es)) c ≡ o
 content_of-here c None es l = lookup_after c (sheet_in es) l
-content_of-here c (Some x) es l = rw (is_at_same c)
+content_of-here c (Some x) es l = rw (at_itself c)
 
 -- the first room is another cell's
 content_of-later : (a c : ℕ) (o : Option Content) (es : Rooms) → is_at (nat_cmp a) c ≡ false → content_of (sheet_in ((c, o) ∷ es)) a ≡ content_of (sheet_in es) a
@@ -96,7 +41,7 @@ content_of-later a c None es t = refl
 content_of-later a c (Some x) es t = rw t
 
 room_of-here : (c : ℕ) (o : Option Content) (es : Rooms) → room_of ((c, o) ∷ es) c ≡ Some o
-room_of-here c o es = rw (is_at_same c)
+room_of-here c o es = rw (at_itself c)
 
 room_of-later : (a c : ℕ) (o : Option Content) (es : Rooms) → is_at (nat_cmp a) c ≡ false → room_of ((c, o) ∷ es) a ≡ room_of es a
 room_of-later a c o es t = rw t
@@ -115,8 +60,8 @@ pub content_of-sheet_in : (a : ℕ) (rooms : Rooms) → Ascends rooms → conten
 content_of-sheet_in a [] h = refl
 content_of-sheet_in a (e ∷ es) h =
     ⊎_elim (λ p. subst (λ (b : ℕ). Agrees (e ∷ es) b) (sym p) (agrees_here e.0 e.1 es (ComeAfter-sheet_in e.0 es h.0)))
-    (⊎_elim (λ l. agrees_later a e.0 e.1 es (is_at_other a e.0 l) (content_of-sheet_in a es h.1))
-    (λ l. agrees_later a e.0 e.1 es (is_at_earlier a e.0 l) (content_of-sheet_in a es h.1)))
+    (⊎_elim (λ l. agrees_later a e.0 e.1 es (at_later a e.0 l) (content_of-sheet_in a es h.1))
+    (λ l. agrees_later a e.0 e.1 es (at_earlier a e.0 l) (content_of-sheet_in a es h.1)))
     (cases_order a e.0)
 
 -- ---- where no room is vacant
@@ -129,7 +74,7 @@ length-one_more c (Some x) es n h = omega (arith, h)
 room_of-tail : (a c : ℕ) (o : Option Content) (es : Rooms) → ComeAfter c es → room_of es a ≡ Some None → room_of ((c, o) ∷ es) a ≡ Some None
 room_of-tail a c o es l h =
     ⊎_elim (λ p. let n : room_of es a ≡ None = lookup_after a es (subst (λ (b : ℕ). ComeAfter b es) (sym p) l) in cc)
-    (⊎_elim (λ l. room_of-later a c o es (is_at_other a c l) ∙ h) (λ l. room_of-later a c o es (is_at_earlier a c l) ∙ h))
+    (⊎_elim (λ l. room_of-later a c o es (at_later a c l) ∙ h) (λ l. room_of-later a c o es (at_earlier a c l) ∙ h))
     (cases_order a c)
 
 -- the sheet is as long as the rooms are
@@ -160,7 +105,7 @@ filter_same p q (c ∷ cs) h = rw (h.0, filter_same p q cs h.1)
 same_later : {X : Type 0} (f : Option X → Bool) (c : ℕ) (x : X) (all es : List (ℕ × X)) → ComeAfter c es
     → AllByRecursion (λ a. f (lookup (is_at (nat_cmp a)) ((c, x) ∷ all)) ≡ f (lookup (is_at (nat_cmp a)) all)) (keys_of es)
 same_later f c x all [] h = tt
-same_later f c x all (e ∷ es) h = (rw (is_at_earlier e.0 c h.0), same_later f c x all es h.1)
+same_later f c x all (e ∷ es) h = (rw (at_earlier e.0 c h.0), same_later f c x all es h.1)
 
 abbrev own_formulas : Sheet → List ℕ
 own_formulas s = keys_of (filter (λ e. has_formula (Some e.1)) s)
@@ -170,7 +115,7 @@ cells_with_formula-own [] h = refl
 cells_with_formula-own (e ∷ es) h =
     let later : filter (λ c. has_formula (content_of (e ∷ es) c)) (keys_of es) ≡ own_formulas es =
     filter_same _ _ (keys_of es) (same_later has_formula e.0 e.1 es es h.0) ∙ cells_with_formula-own es h.1 in
-    rw (is_at_same e.0, later) (by (has_formula (Some e.1)))
+    rw (at_itself e.0, later) (by (has_formula (Some e.1)))
   where
     by : (b : Bool) → cond b (e.0 ∷ own_formulas es) (own_formulas es) ≡ keys_of (cond b (e ∷ filter (λ e. has_formula (Some e.1)) es) (filter (λ e. has_formula (Some e.1)) es))
     by true = refl

@@ -1,5 +1,5 @@
 -- The formula cells of a rectangle, as a search over rooms finds them.
-use Rattle.std.proofs.Common.{◌≡◌, ℕ, ◌+◌, ◌-◌, ◌<◌, ◌≤◌, Bool, true, false, ◌&&◌, cond, List, [], ◌∷◌, ◌++◌, filter, Option, Some, None, IfSome, refl, sym, ap, ◌∙◌, subst, arith, append_assoc, append-nil}
+use Rattle.std.proofs.Common.{◌≡◌, ℕ, ◌<◌, ◌≤◌, Bool, true, false, ◌&&◌, cond, List, [], ◌∷◌, ◌++◌, filter, Option, Some, None, IfSome, refl, sym, ap, ◌∙◌, subst, arith, append_assoc, append-nil}
 use Rattle.std.specs.Prelude.{nat_le, not}
 use Rattle.std.specs.Ordering.{nat_cmp, is_le, is_lt}
 use Rattle.std.specs.Map.{keys_of}
@@ -9,12 +9,13 @@ use Rattle.std.proofs.Math.Bool.{and-false}
 use Rattle.std.proofs.lemmas.Bool.{and_parts, and_from, false_from_ne_true, le-leb, leb-true, lt-leb}
 use Rattle.std.proofs.lemmas.Bool.Decides.{nat_tests}
 use Rattle.std.proofs.lemmas.List.Elements.{filter_agree}
-use Rattle.wi_values.specs.Address.{Area, row_of, column_of, is_within}
+use Rattle.wi_values.specs.Address.{Area, is_within}
 use Rattle.wi_parser.specs.Sheet.{has_formula}
 use Rattle.wi_parser.specs.declared.content.Content.{Content}
 use Rattle.wi_store.specs.Inner.Rooms.{Rooms, formula_rooms}
 use Rattle.wi_store.specs.Store.{is_ahead}
-use Rattle.wi_store.proofs.RoomLemmas.{ComeAfter, Ascends}
+use Rattle.wi_values.proofs.Order.{ComeAfter, Ascends, Ascends-filter}
+use Rattle.wi_values.proofs.Within.{within_between}
 
 -- of the formula cells that have a property, those of the first room and of the others
 next_room : (w : ℕ → Bool) (c : ℕ) (o : Option Content) (es : Rooms) → filter w (formula_rooms ((c, o) ∷ es)) ≡ cond (has_formula o && w c) (c ∷ filter w (formula_rooms es)) (filter w (formula_rooms es))
@@ -57,18 +58,6 @@ is_not_lt-from a b h = grind (arith, nat_tests)
 is_not_lt-means : (a b : ℕ) → not (is_lt (nat_cmp a b)) ≡ true → b ≤ a
 is_not_lt-means a b h = grind (arith, nat_tests)
 
--- the cells of a rectangle come at or after its first, and at or before its last
-pub within_between : (r : Area) (a : ℕ) → is_within r a ≡ true → (r.first ≤ a) × (a ≤ r.last)
-within_between r a h =
-    let p = and_parts (nat_le (row_of r.first) (row_of a) && nat_le (row_of a) (row_of r.last)) _ h in
-    let rows = and_parts (nat_le (row_of r.first) (row_of a)) _ p.0 in
-    let cols = and_parts (nat_le (column_of r.first) (column_of a)) _ p.1 in
-    let above = leb-true _ _ rows.0 in
-    let below = leb-true _ _ rows.1 in
-    let left = leb-true _ _ cols.0 in
-    let right = leb-true _ _ cols.1 in
-    (omega arith, omega arith)
-
 abbrev pub is_between : ℕ → ℕ → ℕ → Bool
 is_between from last a = range_contains nat_cmp (Included from) (Included last) a
 
@@ -103,22 +92,6 @@ one_between a b c o (e ∷ before) es h = one_between a b c o before es h.1
 -- a room that the range has
 pub in_range : (from last c : ℕ) (o : Option Content) (rooms before es : Rooms) → range_of from last rooms ≡ before ++ (c, o) ∷ es → (from ≤ c) × (c ≤ last)
 in_range from last c o rooms before es h = one_between from last c o before es (subst (λ (x : Rooms). AreBetween from last x) h (range_between from last rooms))
-
-ComeAfter-kept : (p : ℕ × Option Content → Bool) (a : ℕ) (es : Rooms) → ComeAfter a es → ComeAfter a (filter p es)
-ComeAfter-kept p a [] h = tt
-ComeAfter-kept p a (e ∷ es) h = at (p e) (ComeAfter-kept p a es h.1)
-  where
-    at : (b : Bool) → ComeAfter a (filter p es) → ComeAfter a (cond b (e ∷ filter p es) (filter p es))
-    at true ih = (h.0, ih)
-    at false ih = ih
-
-Ascends-kept : (p : ℕ × Option Content → Bool) (es : Rooms) → Ascends es → Ascends (filter p es)
-Ascends-kept p [] h = tt
-Ascends-kept p (e ∷ es) h = at (p e) (Ascends-kept p es h.1)
-  where
-    at : (b : Bool) → Ascends (filter p es) → Ascends (cond b (e ∷ filter p es) (filter p es))
-    at true ih = (ComeAfter-kept p e.0 es h.0, ih)
-    at false ih = ih
 
 -- ---- properties that agree
 
@@ -232,7 +205,7 @@ run_left r from c o next rooms before es old new asc split after all found =
     let w = is_within r in
     let rest = (c, o) ∷ es in
     let reached = in_range from r.last c o rooms before es split in
-    let order = subst (λ (x : Rooms). Ascends x) split (Ascends-kept (λ e. is_between from r.last e.0) rooms asc) in
+    let order = subst (λ (x : Rooms). Ascends x) split (Ascends-filter (λ e. is_between from r.last e.0) rooms asc) in
     let left : filter (is_ahead r next) (formula_rooms rooms) ≡ filter w (formula_rooms rest) =
     sym (between_all (is_ahead r next) from r.last (ahead_between r from c next reached.0 after) rooms)
     ∙ ap (λ (x : Rooms). filter (is_ahead r next) (formula_rooms x)) split
@@ -269,8 +242,3 @@ run_same w before c o old found f k =
 pub next_within : (from last : ℕ) (next : Option ℕ) → IfSome next (λ n. (from < n) × (n ≤ last)) → IfSome next (λ n. n ≤ last)
 next_within from last None h = tt
 next_within from last (Some n) h = h.1
-
--- how many cells there are from this one to the last of the rectangle
-abbrev pub cells_ahead : Area → Option ℕ → ℕ
-cells_ahead r None = 0
-cells_ahead r (Some from) = (r.last + 1) - from

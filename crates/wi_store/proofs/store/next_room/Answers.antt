@@ -1,9 +1,10 @@
-use Rattle.std.proofs.Common.{◌≡◌, ◌∙◌, ℕ, Option, Some, None, sym, ap}
+use Rattle.std.proofs.Common.{◌≡◌, ◌<◌, ◌∙◌, ℕ, Option, Some, None, sym, ap, subst}
 use Rattle.std.specs.List.{find}
 use Rattle.std.specs.Map.{keys_of}
+use Rattle.wi_values.proofs.Within.{places_left, fewer_places}
 use Rattle.wi_store.specs.Store.{is_ahead}
 use Rattle.wi_store.proofs.RoomLemmas.{Ascends-from_order}
-use Rattle.wi_store.proofs.NextRoom.{spans, search_none, search_found, search_on, search_shorter, nothing_found, fewer_ahead}
+use Rattle.wi_store.proofs.NextRoom.{spans, search_none, search_found, search_on, search_shorter, nothing_found}
 use Rattle.wi_store.proofs.store.next_room.Goals as goal
 
 pub returns-in_err-cell : goal.returns-in_err-cell
@@ -32,8 +33,9 @@ pub loop-ahead-smaller : goal.loop-ahead-smaller
 loop-ahead-smaller c =
     let keys = keys_of c.args.rooms.now.entries in
     let found = ap (λ (b : ℕ). find (spans c.in-Some.start b) keys) (sym c.last.ensures) ∙ sym c.in_ok-cell.ensures in
-    fewer_ahead c.args.area c.in-Some.start c.in_ok-cell.cell c.next_inside-ahead.result c.loop-ahead.ahead c.in-Some.is
-    (search_shorter c.args.area c.in-Some.start c.in_ok-cell.cell keys found) c.next_inside-ahead.ensures.after
+    let reached = search_shorter c.args.area c.in-Some.start c.in_ok-cell.cell keys found in
+    subst (λ (o : Option ℕ). places_left c.args.area c.next_inside-ahead.result < places_left c.args.area o) (sym c.in-Some.is)
+    (fewer_places c.args.area c.in-Some.start c.in_ok-cell.cell c.next_inside-ahead.result reached.0 reached.1 c.next_inside-ahead.ensures.after)
 
 pub loop-ahead-preserved : goal.loop-ahead-preserved
 loop-ahead-preserved c =

@@ -2,11 +2,11 @@ use Rattle.std.proofs.Common.{◌≡◌, Some}
 use Rattle.std.specs.List.{find}
 use Rattle.std.specs.Map.{keys_of}
 use Rattle.wi_store.specs.Store.{is_ahead}
-use Rattle.wi_store.proofs.Within.{cells_ahead}
+use Rattle.wi_values.proofs.Within.{places_left}
 use Rattle.wi_store.proofs.store.next_room.Given as goal
 
 abbrev pub decreases-loop-ahead : goal.decreases-loop-ahead
-decreases-loop-ahead l = cells_ahead l.area l.ahead
+decreases-loop-ahead l = places_left l.area l.ahead
 
 -- what is sought is the first ahead
 abbrev pub invariant-loop-ahead : goal.invariant-loop-ahead

@@ -2,11 +2,11 @@ use Rattle.std.proofs.Common.{◌≡◌, ◌++◌, ◌≤◌, ℕ, List, filter,
 use Rattle.wi_values.specs.Address.{is_within}
 use Rattle.wi_store.specs.Inner.Rooms.{formula_rooms}
 use Rattle.wi_store.specs.Store.{is_ahead}
-use Rattle.wi_store.proofs.Within.{cells_ahead}
+use Rattle.wi_values.proofs.Within.{places_left}
 use Rattle.wi_store.proofs.store.push_formulas.Given as goal
 
 abbrev pub decreases-loop-ahead : goal.decreases-loop-ahead
-decreases-loop-ahead l = cells_ahead l.area l.ahead
+decreases-loop-ahead l = places_left l.area l.ahead
 
 -- what was found, and what is ahead
 abbrev pub invariant-loop-ahead : goal.invariant-loop-ahead
