@@ -8,7 +8,6 @@ use Rattle.std.specs.Bool.{Decides}
 use Rattle.std.specs.Option.{option_eq}
 use Rattle.std.specs.Cmp.Lexicographic.{pointwise}
 use Rattle.wi_values.specs.contracts.rect.RectPartialEq.TheImpl as rect
-use Rattle.std.proofs.lemmas.Bool.Decides.{nat_tests}
 use Rattle.std.specs.Ordering.{nat_cmp}
 use Rattle.std.specs.Map.{keys_of}
 use Rattle.std.specs.Global.{Vec}
@@ -22,10 +21,11 @@ use Rattle.wi_graph.specs.Reach.{is_one_of, SameOff}
 use Rattle.wi_graph.specs.Edges.{Edges, areas_in, areas_at, with_areas, edges_after}
 use Rattle.wi_graph.specs.Inner.Rooms.{Rooms, items_of, room_at, put_over, room_over, edges_in, edges_over}
 use Rattle.wi_graph.specs.Inner.Changes.{areas_then, Brings, ReadsStay}
-use Rattle.wi_graph.proofs.Tests.{is_at-eq}
+use Rattle.wi_graph.proofs.Tests.{turn_test, is_at-eq}
 use Rattle.wi_graph.proofs.Walks.{same_cell}
 use Rattle.wi_graph.proofs.SetSteps.{taken}
-use Rattle.wi_graph.proofs.EdgeLemmas.{ascends, same_edges, areas_with, areas_over, areas_rooms, ascends_over, ascends_after, ascends_rooms}
+use Rattle.wi_values.proofs.Order.{Ascends-from_order}
+use Rattle.wi_graph.proofs.EdgeLemmas.{same_edges, areas_with, areas_over, areas_rooms, ascends_over, ascends_after, ascends_rooms}
 
 then_more : (xs : List (ℕ × Option Content)) (x : ℕ × Option Content) (c : ℕ) (o : Option (List Area)) → areas_then (xs ++ x ∷ []) c o ≡ cond (c == x.0) (areas_in x.1) (areas_then xs c o)
 then_more [] x c o = refl
@@ -40,9 +40,6 @@ cells_more (y ∷ ys) x = ap (λ (zs : List ℕ). y.0 ∷ zs) (cells_more ys x)
 
 pub cells_step : (xs : List (ℕ × Option Content)) (i : ℕ) (x : ℕ × Option Content) (old new : List ℕ) → i < length xs → x ≡ get_or xs i x → new ≡ old ++ x.0 ∷ [] → old ≡ keys_of (take i xs) → new ≡ keys_of (take (i + 1) xs)
 cells_step xs i x old new l e n h = n ∙ ap (λ (ys : List ℕ). ys ++ x.0 ∷ []) h ∙ sym (cells_more (take i xs) x) ∙ ap keys_of (sym (took xs i x l e))
-
-turn_test : (x y : ℕ) → (x == y) ≡ (y == x)
-turn_test x y = grind (arith, nat_tests)
 
 pub brings_step : (xs : List (ℕ × Option Content)) (i : ℕ) (x : ℕ × Option Content) (old new : Rooms) (r : Option (Vec Area)) → i < length xs → x ≡ get_or xs i x → items_of r ≡ areas_in x.1 → ((q : ℕ) → get nat_cmp new q ≡ cond (is_at (nat_cmp x.0) q) (Some r) (get nat_cmp old q)) →
     Brings old (take i xs) → Brings new (take (i + 1) xs)
@@ -63,8 +60,8 @@ then_edges es (x ∷ xs) c = then_edges (with_areas es x.0 (areas_in x.1)) xs c 
 pub staged_edges : (rooms new next later : Rooms) (xs : List (ℕ × Option Content)) → IsOrdered nat_cmp rooms → IsOrdered nat_cmp new → Brings next xs → ((c : ℕ) → room_at new c ≡ room_at rooms c) → ((c : ℕ) → get nat_cmp later c ≡ get nat_cmp next c) →
     edges_over (edges_in new.entries) later.entries ≡ edges_after (edges_in rooms.entries) xs
 staged_edges rooms new next later xs o p b e f =
-    let s = ascends rooms.entries o in
-    let t = ascends new.entries p in
+    let s = Ascends-from_order rooms.entries o in
+    let t = Ascends-from_order new.entries p in
     same_edges (edges_over (edges_in new.entries) later.entries) (edges_after (edges_in rooms.entries) xs) (ascends_over (edges_in new.entries) later.entries (ascends_rooms new.entries t)) (ascends_after (edges_in rooms.entries) xs (ascends_rooms rooms.entries s))
     (λ q. areas_over (edges_in new.entries) later.entries q ∙ ap (λ (z : Option (Option (Vec Area))). put_over z (areas_at (edges_in new.entries) q)) (f q) ∙ b q (areas_at (edges_in new.entries) q)
     ∙ ap (areas_then xs q) (areas_rooms new.entries t q ∙ e q ∙ sym (areas_rooms rooms.entries s q)) ∙ sym (then_edges (edges_in rooms.entries) xs q))

@@ -1,24 +1,21 @@
 -- Which cells are circular after an edit: those in the cone of the edited cells that stripping leaves, and of the others those
 -- that were.
 use Rattle.std.proofs.Common.{◌≡◌, ◌⊎◌, inl, inr, ℕ, suc, Bool, true, false, not, ◌&&◌, ◌||◌, cond, List, length, Option, refl, ap, sym, ◌∙◌}
-use Rattle.std.proofs.lemmas.Bool.{or_cases, or_left, or_right, and_parts, and_from, true≢false}
+use Rattle.std.proofs.lemmas.Bool.{or_cases, or_left, or_right, and_parts, and_from, not-true, not_from_false}
 use Rattle.wi_parser.specs.declared.content.Content.{Content}
 use Rattle.wi_parser.specs.Sheet.{Sheet, content_of, cells_with_formula}
 use Rattle.wi_parser.specs.Reads.{content_reads}
 use Rattle.wi_graph.specs.Circular.{circular}
-use Rattle.wi_graph.specs.Reach.{IsInCone, SameOff, in_cone}
+use Rattle.wi_graph.specs.Reach.{SameOff, in_cone}
 use Rattle.wi_graph.proofs.Walks.{first_step, circular_walks}
 use Rattle.wi_graph.proofs.Graphs.{left_circular, stripped}
 use Rattle.wi_graph.proofs.Cones.{cone_closed, outside_circular, outside_content}
-use Rattle.wi_graph.proofs.ReachTest.{true_in_cone}
+use Rattle.wi_graph.proofs.ReachTest.{not_in_cone}
 
 -- a circular cell reads a circular one
 pub reads_circular : (s : Sheet) (c : ℕ) → circular s c ≡ true → (d : ℕ) × (content_reads (content_of s c) d ≡ true) × (circular s d ≡ true)
 unfolding circular
 reads_circular s c h = first_step (length (cells_with_formula s)) s c (circular_walks s c h (suc (length (cells_with_formula s))))
-
-out : (s : Sheet) (xs : List ℕ) (c : ℕ) → in_cone s xs c ≡ false → IsInCone s xs c → ⊥
-out s xs c n i = true≢false (sym (true_in_cone s xs c i) ∙ n)
 
 -- what stripping leaves of the cells in the cone: a cell is held where it reads a circular cell outside
 pub record IsLeft (s t : Sheet) (xs : List ℕ) (held rest : ℕ → Bool) : Type 0 where
@@ -30,15 +27,7 @@ pub record IsLeft (s t : Sheet) (xs : List ℕ) (held rest : ℕ → Bool) : Typ
   pub left : (c : ℕ) → rest c ≡ true → held c ≡ false → (d : ℕ) × (content_reads (content_of t c) d ≡ true) × (rest d ≡ true)
 
 outside : (s t : Sheet) (xs : List ℕ) (c : ℕ) → SameOff s t xs → in_cone s xs c ≡ false → circular t c ≡ circular s c
-outside s t xs c same n = sym (outside_circular s t xs c same (out s xs c n))
-
-not_is : (b : Bool) → not b ≡ true → b ≡ false
-not_is true h = cc
-not_is false h = refl
-
-is_not : (b : Bool) → b ≡ false → not b ≡ true
-is_not true h = cc
-is_not false h = refl
+outside s t xs c same n = sym (outside_circular s t xs c same (not_in_cone s xs c n))
 
 -- what is left is circular
 left_is : (s t : Sheet) (xs : List ℕ) (held rest : ℕ → Bool) → SameOff s t xs → IsLeft s t xs held rest → (c : ℕ) → rest c ≡ true → circular t c ≡ true
@@ -48,7 +37,7 @@ left_is s t xs held rest same l c h = left_circular t P (λ d k. at d (or_cases 
     P d = rest d || (not (in_cone s xs d) && circular s d)
 
     beside : (e : ℕ) → in_cone s xs e ≡ false → circular s e ≡ true → P e ≡ true
-    beside e n k = or_right (rest e) _ (and_from (not (in_cone s xs e)) (circular s e) (is_not (in_cone s xs e) n) k)
+    beside e n k = or_right (rest e) _ (and_from (not (in_cone s xs e)) (circular s e) (not_from_false (in_cone s xs e) n) k)
 
     by_held : (d : ℕ) → rest d ≡ true → (b : Bool) → held d ≡ b → (e : ℕ) × (content_reads (content_of t d) e ≡ true) × (P e ≡ true)
     by_held d r true k = let x = l.holds d (l.within d r) k in (x.0, x.1, beside x.0 x.2 x.3)
@@ -61,22 +50,22 @@ left_is s t xs held rest same l c h = left_circular t P (λ d k. at d (or_cases 
     by_cycle : (d : ℕ) → in_cone s xs d ≡ false → circular s d ≡ true → (e : ℕ) × (content_reads (content_of t d) e ≡ true) × (P e ≡ true)
     by_cycle d n k =
         let x = reads_circular s d k in
-        (x.0, ap (λ (o : Option Content). content_reads o x.0) (sym (outside_content s t xs d same (out s xs d n))) ∙ x.1, beside x.0 (apart d x.0 n x.1 (in_cone s xs x.0) refl) x.2)
+        (x.0, ap (λ (o : Option Content). content_reads o x.0) (sym (outside_content s t xs d same (not_in_cone s xs d n))) ∙ x.1, beside x.0 (apart d x.0 n x.1 (in_cone s xs x.0) refl) x.2)
 
     at : (d : ℕ) → (rest d ≡ true) ⊎ ((not (in_cone s xs d) && circular s d) ≡ true) → (e : ℕ) × (content_reads (content_of t d) e ≡ true) × (P e ≡ true)
     at d (inl k) = by_held d k (held d) refl
-    at d (inr k) = let x = and_parts (not (in_cone s xs d)) (circular s d) k in by_cycle d (not_is (in_cone s xs d) x.0) x.1
+    at d (inr k) = let x = and_parts (not (in_cone s xs d)) (circular s d) k in by_cycle d (not-true (in_cone s xs d) x.0) x.1
 
 -- what is gone is not
 gone_is : (s t : Sheet) (xs : List ℕ) (held rest : ℕ → Bool) → SameOff s t xs → IsLeft s t xs held rest → (c : ℕ) → in_cone s xs c ≡ true → rest c ≡ false → circular t c ≡ false
-gone_is s t xs held rest same l c i h = not_is (circular t c) (l.gone (λ d. not (circular t d)) up c i h)
+gone_is s t xs held rest same l c i h = not-true (circular t c) (l.gone (λ d. not (circular t d)) up c i h)
   where
     read : (d e : ℕ) → held d ≡ false → in_cone s xs d ≡ true → content_reads (content_of t d) e ≡ true → ((f : ℕ) → content_reads (content_of t d) f ≡ true → in_cone s xs f ≡ true → not (circular t f) ≡ true) → (b : Bool) → in_cone s xs e ≡ b → circular t e ≡ false
-    read d e n i r k true m = not_is (circular t e) (k e r m)
+    read d e n i r k true m = not-true (circular t e) (k e r m)
     read d e n i r k false m = outside s t xs e same m ∙ l.frees d i n e r m
 
     up : (d : ℕ) → in_cone s xs d ≡ true → held d ≡ false → ((e : ℕ) → content_reads (content_of t d) e ≡ true → in_cone s xs e ≡ true → not (circular t e) ≡ true) → not (circular t d) ≡ true
-    up d i n k = is_not (circular t d) (stripped t d (λ e r. read d e n i r k (in_cone s xs e) refl))
+    up d i n k = not_from_false (circular t d) (stripped t d (λ e r. read d e n i r k (in_cone s xs e) refl))
 
 pub circular_after : (s t : Sheet) (xs : List ℕ) (held rest : ℕ → Bool) → SameOff s t xs → IsLeft s t xs held rest → (c : ℕ) → circular t c ≡ cond (in_cone s xs c) (rest c) (circular s c)
 circular_after s t xs held rest same l c = at (in_cone s xs c) (rest c) refl refl

@@ -18,7 +18,8 @@ use Rattle.wi_graph.specs.Circular.{has_walk, circular}
 use Rattle.wi_graph.specs.Edges.{areas_in, AreEdgesOf}
 use Rattle.wi_graph.specs.Inner.Rooms.{Rooms, room_at, edges_in, areas_of, times, HasPairs, IsGraph}
 use Rattle.wi_graph.proofs.Walks.{same_tests, step, first_step, circular_walks, walks_circular}
-use Rattle.wi_graph.proofs.EdgeLemmas.{ascends, areas_rooms}
+use Rattle.wi_values.proofs.Order.{Ascends-from_order}
+use Rattle.wi_graph.proofs.EdgeLemmas.{areas_rooms}
 
 -- ---- sheets that have the same edges
 
@@ -52,7 +53,7 @@ same_circular s t e c = same_tests (circular s c) (circular t c) (λ h. walks_ci
 -- ---- what the rooms say of a sheet
 
 pub rooms_areas : (rooms : Rooms) (s : Sheet) → IsOrdered nat_cmp rooms → AreEdgesOf (edges_in rooms.entries) s → (c : ℕ) → room_at rooms c ≡ areas_in (content_of s c)
-rooms_areas rooms s o e c = sym (areas_rooms rooms.entries (ascends rooms.entries o) c) ∙ e c
+rooms_areas rooms s o e c = sym (areas_rooms rooms.entries (Ascends-from_order rooms.entries o) c) ∙ e c
 
 pub graph_circular : (rooms : Rooms) (readers : Bag) (circles : BTreeSet ℕ) → IsGraph rooms readers circles → (s : Sheet) → AreEdgesOf (edges_in rooms.entries) s → (c : ℕ) → contains nat_cmp circles c ≡ circular s c
 graph_circular rooms readers circles g s e c =

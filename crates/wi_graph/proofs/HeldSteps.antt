@@ -14,7 +14,7 @@ use Rattle.wi_graph.specs.Inner.Within.{IsAhead, IsFoundBy}
 use Rattle.wi_graph.specs.Inner.Turning.{has_outside, reads_outside}
 use Rattle.wi_graph.proofs.Tests.{is_itself, clash, turned}
 use Rattle.wi_graph.proofs.Walks.{same_cell, found}
-use Rattle.wi_graph.proofs.WithinSteps.{within_between, places_left}
+use Rattle.wi_values.proofs.Within.{within_between, places_left}
 
 pub outside_finds : (cells : BTreeSet ℕ) (ks : List ℕ) (r : Area) → list_any (λ d. is_within r d && not (contains nat_cmp cells d)) ks ≡ true → (d : ℕ) × (is_one_of ks d ≡ true) × (is_within r d ≡ true) × (contains nat_cmp cells d ≡ false)
 outside_finds cells [] r h = cc

@@ -1,6 +1,5 @@
 -- The cells from which so many steps lead, layer by layer.
 use Rattle.std.proofs.Common.{◌≡◌, ◌==◌, ℕ, zero, suc, ◌+◌, Bool, true, false, ◌&&◌, ◌||◌, cond, List, [], ◌∷◌, filter, Option, Some, None, length, refl, ap, sym, ◌∙◌, arith}
-use Rattle.std.proofs.lemmas.Bool.Decides.{nat_tests}
 use Rattle.std.proofs.lemmas.Map.Views.{any-filter_same}
 use Rattle.std.proofs.Math.Bool.{and-true, and-false}
 use Rattle.std.proofs.lemmas.Bool.{eqb-true}
@@ -15,7 +14,7 @@ use Rattle.wi_parser.specs.Sheet.{Sheet, content_of, has_formula, cells_with_for
 use Rattle.wi_parser.specs.Reads.{content_reads}
 use Rattle.wi_graph.specs.Circular.{has_walk, circular}
 pub use Rattle.wi_graph.specs.Reach.{is_one_of}
-use Rattle.wi_graph.proofs.Tests.{is_at-eq}
+use Rattle.wi_graph.proofs.Tests.{turn_test, is_at-eq}
 
 -- to find an element with two properties is to find one with the first among those with the second
 pub list_any-both : (p q : ℕ → Bool) (xs : List ℕ) → list_any (λ x. p x && q x) xs ≡ list_any p (filter q xs)
@@ -69,13 +68,10 @@ is_key : (s : Sheet) (a : ℕ) → has_formula (content_of s a) ≡ true → lis
 is_key [] a h = h
 is_key (e ∷ es) a h = at (is_at (nat_cmp a) e.0) (is_at-eq a e.0) h (is_key es a)
   where
-    turn : (x y : ℕ) → (x == y) ≡ (y == x)
-    turn x y = grind (arith, nat_tests)
-
     at : (b : Bool) → b ≡ (a == e.0) → has_formula (cond b (Some e.1) (content_of es a)) ≡ true → (has_formula (content_of es a) ≡ true → list_any (λ k. k == a) (keys_of es) ≡ true) →
         ((e.0 == a) || list_any (λ k. k == a) (keys_of es)) ≡ true
-    at true t h ih = ap (λ (c : Bool). c || list_any (λ k. k == a) (keys_of es)) (turn e.0 a ∙ sym t)
-    at false t h ih = ap (λ (c : Bool). c || list_any (λ k. k == a) (keys_of es)) (turn e.0 a ∙ sym t) ∙ ih h
+    at true t h ih = ap (λ (c : Bool). c || list_any (λ k. k == a) (keys_of es)) (turn_test e.0 a ∙ sym t)
+    at false t h ih = ap (λ (c : Bool). c || list_any (λ k. k == a) (keys_of es)) (turn_test e.0 a ∙ sym t) ∙ ih h
 
 -- a cell is found among those that pass a test exactly where it is one and passes
 among : (p : ℕ → Bool) (xs : List ℕ) (a : ℕ) → list_any (λ x. x == a) (filter p xs) ≡ (p a && list_any (λ x. x == a) xs)

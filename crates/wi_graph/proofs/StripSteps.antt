@@ -2,7 +2,6 @@
 use Rattle.std.proofs.Common.{◌≡◌, ◌==◌, ◌&&◌, ◌||◌, ◌⊎◌, inl, inr, not, nat_le, ℕ, ◌≤◌, Bool, true, false, cond, List, [], ◌∷◌, ◌++◌, Option, Some, None, refl, ap, sym, ◌∙◌, arith}
 use Rattle.std.proofs.Math.Bool.{or-false}
 use Rattle.std.proofs.lemmas.Bool.{or_cases, or_left, or_right, and_parts, and_from, false_from_ne_true, not-true, not_from_false, le-leb}
-use Rattle.std.proofs.lemmas.Bool.Decides.{nat_tests}
 use Rattle.std.proofs.lemmas.List.Folds.{list_any-append}
 use Rattle.std.specs.Map.{lookup}
 use Rattle.std.specs.Ordering.{nat_cmp}
@@ -13,10 +12,10 @@ use Rattle.wi_values.specs.Address.{Area, row_of, is_within}
 use Rattle.wi_graph.specs.Reach.{is_one_of}
 use Rattle.wi_graph.specs.Inner.Within.{IsAhead, IsFoundBy}
 use Rattle.wi_graph.specs.Inner.Stripping.{listed, is_in, reads_in, waiting_for, waits_for, KeepsReads, ReadsOne, EachReadsOne, AreStripped, IsWithin, Waits, IsTracking, IsFree}
-use Rattle.wi_graph.proofs.Tests.{is_at-eq, is_itself, clash}
+use Rattle.wi_graph.proofs.Tests.{turn_test, is_at-eq, is_itself, clash}
 use Rattle.wi_graph.proofs.Walks.{same_cell}
 use Rattle.wi_graph.proofs.SetSteps.{in_last, in_front, in_back, in_difference, Loses, loses_others, loses_one, keeps_others}
-use Rattle.wi_graph.proofs.WithinSteps.{within_between}
+use Rattle.wi_values.proofs.Within.{within_between}
 
 -- ---- the start
 
@@ -156,10 +155,7 @@ track_strip areas held rest less work more waiting next cell l m n t = record {
         inr (inl (ap (λ (xs : List ℕ). is_one_of xs c) m ∙ in_back work (waiting_for waiting cell) c s))
     goes_on c k false e =
         let w : waits_for next k.cell c ≡ true = ap (λ (xs : List ℕ). is_one_of xs c) (n k.cell ∙ ap (λ (b : Bool). cond b [] (waiting_for waiting k.cell)) e) ∙ k.waits in
-        inr (inr (record { cell = k.cell; waits = w; read = k.read; there = keeps_others rest less cell l k.cell (turn k.cell cell ∙ e) k.there }))
-      where
-        turn : (x y : ℕ) → (x == y) ≡ (y == x)
-        turn x y = grind (arith, nat_tests)
+        inr (inr (record { cell = k.cell; waits = w; read = k.read; there = keeps_others rest less cell l k.cell (turn_test k.cell cell ∙ e) k.there }))
 
     at : (c : ℕ) → (cell ≡ c → ⊥) → (Some cell ≡ Some c) ⊎ ((is_one_of work c ≡ true) ⊎ Waits areas rest waiting c) → (None ≡ Some c) ⊎ ((is_one_of more c ≡ true) ⊎ Waits areas less next c)
     at c o (inl k) = let s : cell ≡ c = cc in absurd (o s)

@@ -27,7 +27,8 @@ use Rattle.wi_graph.proofs.Walks.{same_cell}
 use Rattle.wi_graph.proofs.SetSteps.{in_difference, taken}
 use Rattle.wi_graph.proofs.SearchSteps.{found_cone}
 use Rattle.wi_graph.proofs.HeldSteps.{held_finds, finds_held, held_test}
-use Rattle.wi_graph.proofs.EdgeLemmas.{ascends, areas_rooms}
+use Rattle.wi_values.proofs.Order.{Ascends-from_order}
+use Rattle.wi_graph.proofs.EdgeLemmas.{areas_rooms}
 use Rattle.wi_graph.proofs.ChangeSteps.{all_stay, then_sheet, then_contents, then_same}
 use Rattle.wi_graph.proofs.GraphSteps.{reads_areas, graph_readers}
 use Rattle.wi_graph.proofs.GraphEnds.{circles_over}
@@ -121,7 +122,7 @@ turned_after circles cells rest turns e w c =
 pub cone_is : (rooms : Rooms) (readers : Bag) (cone : BTreeSet ℕ) (xs : List ℕ) → IsOrdered nat_cmp rooms → HasPairs readers rooms → HasAll xs cone → HasReaders readers cone → IsLeast readers xs cone →
     (s : Sheet) → ((c : ℕ) → room_at rooms c ≡ areas_in (content_of s c)) → (c : ℕ) → contains nat_cmp cone c ≡ in_cone s xs c
 cone_is rooms readers cone xs o h a k l s are c =
-    turned cone.keys c ∙ found_cone s readers xs cone (graph_readers rooms readers o h s (λ d. areas_rooms rooms.entries (ascends rooms.entries o) d ∙ are d)) a k l c
+    turned cone.keys c ∙ found_cone s readers xs cone (graph_readers rooms readers o h s (λ d. areas_rooms rooms.entries (Ascends-from_order rooms.entries o) d ∙ are d)) a k l c
 
 pub cone_turns : (rooms next : Rooms) (readers : Bag) (circles cells rest : BTreeSet ℕ) (turns : Turns) (ds : List ℕ) (xs : List (ℕ × Option Content)) → ds ≡ keys_of xs → IsGraph rooms readers circles → Brings next xs →
     HasAll ds cells → HasReaders readers cells → IsLeast readers ds cells → SettlesCone rooms next circles cells rest → IsWithin rest cells → AreOf circles cells rest turns → AreTurns rooms next circles turns

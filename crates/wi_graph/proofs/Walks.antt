@@ -1,7 +1,7 @@
 -- Walks between formulas: one that is as long as there are formulas has no end.
 use Rattle.std.proofs.Common.{◌≡◌, ◌==◌, ℕ, zero, suc, ◌+◌, ◌<◌, ◌≤◌, Bool, true, false, ◌&&◌, ◌||◌, cond, List, [], ◌∷◌, filter, Option, Some, None, length, refl, ap, sym, ◌∙◌, subst, arith, inl, inr, ◌⊎◌}
-use Rattle.std.proofs.lemmas.Bool.{and_parts, and_from, or_cases, cases_lt}
-use Rattle.std.proofs.lemmas.Bool.Decides.{nat_tests}
+use Rattle.std.proofs.lemmas.Bool.{and_parts, and_from, or_cases, cases_lt, eqb-true}
+use Rattle.std.proofs.lemmas.List.{nil_from_length}
 use Rattle.std.specs.List.{list_any}
 use Rattle.wi_parser.specs.declared.content.Content.{Content}
 use Rattle.wi_parser.specs.declared.content.Content.TheVariants.{Constant, Formula}
@@ -11,7 +11,7 @@ use Rattle.wi_graph.specs.Circular.{has_walk, circular}
 use Rattle.wi_graph.proofs.Layers.{is_one_of, layer, layer_zero, in_layer, walker_has_formula}
 
 pub same_cell : (a k : ℕ) → (k == a) ≡ true → k ≡ a
-same_cell a k h = grind (arith, nat_tests)
+same_cell a k h = eqb-true k a h
 
 pub same_tests : (a b : Bool) → (a ≡ true → b ≡ true) → (b ≡ true → a ≡ true) → a ≡ b
 same_tests true b h k = sym (h refl)
@@ -147,10 +147,6 @@ thins (suc n) s = at (thins n s)
     at (inl l) = inl (leads_on n s l)
     at (inr l) = at_less l (shrinks (has_walk n s) (has_walk (suc n) s) (λ c h. one_less n s c h) (cells_with_formula s))
 
-no_length : (xs : List ℕ) → length xs ≡ 0 → xs ≡ []
-no_length [] h = refl
-no_length (x ∷ xs) h = absurd (omega arith)
-
 -- the pigeonhole: as many steps as there are formulas lead on by one more
 pub all_lead : (s : Sheet) → Leads (length (cells_with_formula s)) s
 all_lead s = at (thins (length (cells_with_formula s)) s)
@@ -159,7 +155,7 @@ all_lead s = at (thins (length (cells_with_formula s)) s)
     at (inl l) = l
     at (inr l) = λ c h.
         let z : length (layer (length (cells_with_formula s)) s) ≡ 0 = omega arith in
-        let e = no_length (layer (length (cells_with_formula s)) s) z in
+        let e = nil_from_length (layer (length (cells_with_formula s)) s) z in
         let m = in_layer (length (cells_with_formula s)) s c in
         let i = ap (λ (xs : List ℕ). is_one_of xs c) e in
         cc

@@ -1,28 +1,15 @@
 -- A search for the cells of a set in a rectangle.
-use Rattle.std.proofs.Common.{◌≡◌, ◌&&◌, ℕ, ◌+◌, ◌<◌, ◌≤◌, true, false, List, [], ◌∷◌, Option, Some, None, IfSome, ap, sym, ◌∙◌, subst, arith}
-use Rattle.std.specs.Prelude.{nat_le, ◌-◌}
+use Rattle.std.proofs.Common.{◌≡◌, ℕ, ◌<◌, ◌≤◌, true, false, List, [], ◌∷◌, Option, Some, None, IfSome, ap, sym, ◌∙◌, subst, arith}
 use Rattle.std.proofs.Math.Arith.{lt_of_le-ne}
-use Rattle.std.proofs.lemmas.Bool.{and_parts, leb-true}
 use Rattle.std.proofs.lemmas.Bool.Decides.{nat_tests}
 use Rattle.std.specs.Ordering.{nat_cmp}
 use Rattle.std.specs.BTreeMap.Range.{IsLeBy}
 use Rattle.std.specs.BTreeSet.{BTreeSet, contains, IsKeyRangeOf}
 use Rattle.std.specs.declared.ops.Bound.TheVariants.{Included}
-use Rattle.wi_values.specs.Address.{Area, row_of, column_of, is_within}
+use Rattle.wi_values.specs.Address.{Area, is_within}
+use Rattle.wi_values.proofs.Within.{within_between}
 use Rattle.wi_graph.specs.Inner.Within.{IsAhead, IsBetween, IsFoundBy}
 use Rattle.wi_graph.proofs.Tests.{clash}
-
--- the cells of a rectangle come at or after its first, and at or before its last
-pub within_between : (r : Area) (a : ℕ) → is_within r a ≡ true → (r.first ≤ a) × (a ≤ r.last)
-within_between r a h =
-    let p = and_parts (nat_le (row_of r.first) (row_of a) && nat_le (row_of a) (row_of r.last)) _ h in
-    let rows = and_parts (nat_le (row_of r.first) (row_of a)) _ p.0 in
-    let cols = and_parts (nat_le (column_of r.first) (column_of a)) _ p.1 in
-    let above = leb-true _ _ rows.0 in
-    let below = leb-true _ _ rows.1 in
-    let left = leb-true _ _ cols.0 in
-    let right = leb-true _ _ cols.1 in
-    (omega arith, omega arith)
 
 -- ---- the first of a range
 
@@ -41,11 +28,6 @@ pub range_none : (cells : BTreeSet ℕ) (from to : ℕ) (r : List ℕ) → IsKey
 range_none cells from to r g e c h = clash (contains nat_cmp cells c) h.2 (g.5 e c (le_by from c h.0, le_by c to h.1))
 
 -- ---- the search
-
--- how many places there are from this one to the last
-abbrev pub places_left : Area → Option ℕ → ℕ
-places_left r None = 0
-places_left r (Some a) = (r.last + 1) - a
 
 -- the search is not past any cell ahead
 abbrev pub IsSeeking : BTreeSet ℕ → Area → ℕ → Option ℕ → Type 0
@@ -80,7 +62,3 @@ seek_on cells r from start cell next s b f n after first = (λ c h. first c h.1 
     on : (o : Option ℕ) → IfSome o (λ a. (cell < a) × (a ≤ r.last)) → IfSome o (λ a. from ≤ a)
     on None k = tt
     on (Some a) k = omega (arith, s.1, b.0, k.0)
-
-pub fewer_places : (r : Area) (start cell : ℕ) (next : Option ℕ) → start ≤ cell → cell ≤ r.last → IfSome next (λ a. (cell < a) × (a ≤ r.last)) → places_left r next < places_left r (Some start)
-fewer_places r start cell None l m h = omega (arith, l, m)
-fewer_places r start cell (Some a) l m h = omega (arith, l, m, h.0, h.1)

@@ -1,5 +1,5 @@
 use Rattle.wi_graph.proofs.HeldSteps.{IsSearched}
-use Rattle.wi_graph.proofs.WithinSteps.{places_left}
+use Rattle.wi_values.proofs.Within.{places_left}
 use Rattle.wi_graph.proofs.held.meets.Given as goal
 
 abbrev pub invariant-loop-ahead : goal.invariant-loop-ahead

@@ -1,4 +1,5 @@
-use Rattle.wi_graph.proofs.WithinSteps.{IsSeeking, places_left}
+use Rattle.wi_values.proofs.Within.{places_left}
+use Rattle.wi_graph.proofs.WithinSteps.{IsSeeking}
 use Rattle.wi_graph.proofs.within.next_within.Given as goal
 
 abbrev pub invariant-loop-ahead : goal.invariant-loop-ahead
