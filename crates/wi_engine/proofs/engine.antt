@@ -1,9 +1,12 @@
 -- What the proofs about the frames use.
 pub mod Awaiting
 pub mod Budgets
+pub mod FoundSettled
+pub mod FramesSettled
 pub mod Ranks
 pub mod Resting
 pub mod Rightness
 pub mod Running
+pub mod Saving
 pub mod Settling
 pub mod Stacks

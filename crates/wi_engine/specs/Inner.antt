@@ -7,6 +7,8 @@ pub mod Rank
 pub mod ReadCells
 pub mod ReadOrder
 pub mod Remembered
+pub mod Saving
 pub mod Seen
+pub mod SettledFrames
 pub mod Steps
 pub mod Walk

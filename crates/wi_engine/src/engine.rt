@@ -9,11 +9,14 @@ ghost use Rattle.wi_functions.specs.Meaning.{addresses};
 ghost use Rattle.wi_functions.specs.declared.evaluation.Want.TheVariants as wanted;
 ghost use Rattle.wi_graph.specs.Reach.{is_one_of};
 ghost use Rattle.wi_sheet.specs.CellValue as show;
-ghost use Rattle.wi_sheet.specs.Demand.{with_what_if, wants};
+ghost use Rattle.wi_sheet.specs.Demand.{with_what_if, wants, reaching};
+ghost use Rattle.wi_sheet.specs.Settled.{IsSettled, RestsOnKept};
 ghost use Rattle.wi_sheet.specs.Inner.Spending.{CountsAtMost, CountsFound, HasCase, NeverFall};
 ghost use Rattle.wi_engine.specs.Inner.MemoState.{IsMemoOf};
 ghost use Rattle.wi_engine.specs.Inner.Attempt.{AsksAt, IsLacking, lacks_cell};
 ghost use Rattle.wi_engine.specs.Inner.Frames.{MayBeRead, IsToValue, IsUnvalued, AreReadHere, Awaits, IsFrame, IsNext, case_at, spare, waits};
+ghost use Rattle.wi_engine.specs.Inner.SettledFrames.{IsFrameSettled};
+ghost use Rattle.wi_engine.specs.Inner.Saving.{KeepsFound, WhereRoom, CountsUnkept, SavesAll, TakesNoMore, NeedsNoEvaluation, IsValuedAnew};
 ghost use Rattle.wi_engine.specs.Inner.Steps.{IfKnown, IfUnknown, IfReplaced, IfInputUnknown, IfDone, IfNeeds, evaluations_after};
 ghost use Rattle.wi_engine.specs.declared.frame.Waiting.TheVariants as waiting;
 
@@ -44,6 +47,7 @@ fn value_now<M: Memo>(
     requires read { MayBeRead store.now.sheet (M.state memo.old) at }
     ensures known { IfOk result (λ a. IfKnown a (λ v. v ≡ show.cell_value (put_all store.now.sheet world.now) at)) }
     ensures unknown { IfOk result (λ a. IfUnknown a (IsUnvalued store.now.sheet (M.state memo.old) world.now at)) }
+    ensures there { IfOk result (λ a. IfKnown a (λ _. NeedsNoEvaluation store.now.sheet (M.state memo.old) world.now at)) }
     ensures same { M.state memo.new ≡ M.state memo.old }
 {
     match content_in(store, world, at) {
@@ -72,6 +76,7 @@ fn replaced<M: Memo>(
     ensures known { IfOk result (λ i. IfReplaced i (λ w. w ≡ with_what_if store.now.sheet world.now (map addresses (map pair_of pairs.now)))) }
     ensures unknown { IfOk result (λ i. IfInputUnknown i (λ k. (list_any (λ p. p.1.at == k.cell) (map pair_of pairs.now) ≡ true) × IsUnvalued store.now.sheet (M.state memo.old) world.now k.cell k)) }
     ensures order { IsInOrder world.now }
+    ensures settled { IfOk result (λ i. IfReplaced i (λ _. KeepsFound (M.state memo.old) → All (λ p. IsSettled store.now.sheet (M.state memo.old).kept world.now p.replacement.at) pairs.now)) }
     ensures same { M.state memo.new ≡ M.state memo.old }
 {
     let _ = world.replacements();
@@ -133,6 +138,7 @@ fn settle_cells<M: Memo>(
     ensures frame { OnOk result (IsFrame store.now.sheet (M.state memo.old) frame.new) }
     ensures next { IfOk result (λ o. IfSome o (IsNext store.now.sheet (M.state memo.old) frame.old.key)) }
     ensures settled { result ≡ Ok None → frame.new.waiting ≡ waiting.Nothing }
+    ensures found { OnOk result (KeepsFound (M.state memo.old) → IsFrameSettled store.now.sheet (M.state memo.old).kept frame.old → IsFrameSettled store.now.sheet (M.state memo.old).kept frame.new) }
     ensures all { result ≡ Ok None → (d : ℕ) → is_one_of others.items d ≡ true → lacks_cell store.now.sheet frame.new.key.world frame.new.found d ≡ false }
     ensures spare { OnOk result (spare store.now.sheet frame.new + 1 ≤ spare store.now.sheet frame.old) }
     ensures same { M.state memo.new ≡ M.state memo.old }
@@ -172,6 +178,7 @@ fn settle_what_if<M: Memo>(
     ensures frame { OnOk result (IsFrame store.now.sheet (M.state memo.old) frame.new) }
     ensures next { IfOk result (λ o. IfSome o (IsNext store.now.sheet (M.state memo.old) frame.old.key)) }
     ensures settled { result ≡ Ok None → frame.new.waiting ≡ waiting.Nothing }
+    ensures found { OnOk result (KeepsFound (M.state memo.old) → IsFrameSettled store.now.sheet (M.state memo.old).kept frame.old → IsFrameSettled store.now.sheet (M.state memo.old).kept frame.new) }
     ensures spare { OnOk result (spare store.now.sheet frame.new + 1 ≤ spare store.now.sheet frame.old) }
     ensures same { M.state memo.new ≡ M.state memo.old }
 {
@@ -206,6 +213,7 @@ fn settle<M: Memo>(
     ensures frame { OnOk result (IsFrame store.now.sheet (M.state memo.old) frame.new) }
     ensures next { IfOk result (λ o. IfSome o (IsNext store.now.sheet (M.state memo.old) frame.old.key)) }
     ensures settled { result ≡ Ok None → frame.new.waiting ≡ waiting.Nothing }
+    ensures found { OnOk result (KeepsFound (M.state memo.old) → IsFrameSettled store.now.sheet (M.state memo.old).kept frame.old → IsFrameSettled store.now.sheet (M.state memo.old).kept frame.new) }
     ensures spare { OnOk result (spare store.now.sheet frame.new ≤ spare store.now.sheet frame.old) }
     ensures same { M.state memo.new ≡ M.state memo.old }
 {
@@ -248,6 +256,8 @@ fn advance<M: Memo>(
     ensures frame { OnOk result (IsFrame store.now.sheet (M.state memo.old) frame.new) }
     ensures done { IfOk result (λ s. IfDone s (λ v. v ≡ show.cell_value (put_all store.now.sheet frame.old.key.world) frame.old.key.cell)) }
     ensures next { IfOk result (λ s. IfNeeds s (IsNext store.now.sheet (M.state memo.old) frame.old.key)) }
+    ensures found { OnOk result (KeepsFound (M.state memo.old) → IsFrameSettled store.now.sheet (M.state memo.old).kept frame.old → IsFrameSettled store.now.sheet (M.state memo.old).kept frame.new) }
+    ensures rests { IfOk result (λ s. IfDone s (λ _. KeepsFound (M.state memo.old) → IsFrameSettled store.now.sheet (M.state memo.old).kept frame.old → RestsOnKept store.now.sheet (M.state memo.old).kept (case_at frame.old.key))) }
     ensures evaluations { IfOk result (λ s. meter.new.evaluations ≡ evaluations_after s meter.old.evaluations) }
     ensures restarts { OnOk result (meter.new.restarts + spare store.now.sheet frame.new ≤ meter.old.restarts + spare store.now.sheet frame.old) }
     ensures err_evaluations { OnErr result (meter.new.evaluations ≡ meter.old.evaluations) }
@@ -285,10 +295,13 @@ fn run<M: Memo>(
     requires memo { IsMemoOf store.now.sheet (M.state memo.old) }
     requires key { IsToValue store.now.sheet (M.state memo.old) key }
     requires unfound { (M.state memo.old).found key.cell key.world ≡ false }
+    requires unkept { (M.state memo.old).kept key.cell key.world ≡ false }
     ensures value { IfOk result (λ v. v ≡ show.cell_value (put_all store.now.sheet key.world) key.cell) }
     ensures memo { IsMemoOf store.now.sheet (M.state memo.new) }
     ensures same_cells { (M.state memo.new).covers ≡ (M.state memo.old).covers }
     ensures same_generation { (M.state memo.new).generation ≡ (M.state memo.old).generation }
+    ensures same_capacity { (M.state memo.new).capacity ≡ (M.state memo.old).capacity }
+    ensures same_latest { (M.state memo.new).latest ≡ (M.state memo.old).latest }
 
     ensures evaluations { CountsAtMost store.now.sheet (λ ks. Contains ks (case_at key)) (λ _. 1) (M.state memo.old).found meter.old.evaluations meter.new.evaluations }
     ensures evaluations_ok { OnOk result (CountsFound store.now.sheet (λ ks. Contains ks (case_at key)) (λ _. 1) (M.state memo.old).found (M.state memo.new).found meter.old.evaluations meter.new.evaluations) }
@@ -297,6 +310,13 @@ fn run<M: Memo>(
     ensures restarts_ok { OnOk result (CountsFound store.now.sheet (λ ks. Contains ks (case_at key)) (wants store.now.sheet) (M.state memo.old).found (M.state memo.new).found meter.old.restarts meter.new.restarts) }
 
     ensures counts { NeverFall meter.old meter.new }
+
+    // What is kept for longer, and where there is room for all that is found.
+    ensures kept { OnOk result (1 ≤ (M.state memo.old).capacity → (M.state memo.new).kept key.cell key.world ≡ true) }
+    ensures takes { TakesNoMore (M.state memo.old) (M.state memo.new) meter.old.evaluations meter.new.evaluations }
+    ensures unkept_evaluations { CountsUnkept store.now.sheet (λ ks. Contains ks (case_at key)) (M.state memo.old) meter.old.evaluations meter.new.evaluations }
+    ensures saves { OnOk result (SavesAll store.now.sheet (λ ks. Contains ks (case_at key)) (M.state memo.old) (M.state memo.new) meter.old.evaluations meter.new.evaluations) }
+    ensures settled { OnOk result (WhereRoom store.now.sheet (λ ks. Contains ks (case_at key)) (M.state memo.old) (λ _. (M.state memo.new).kept key.cell key.world ≡ true)) }
 {
     let mut stack = Vec::new(alloc);
     let mut frame = Frame::new(alloc, key);
@@ -340,6 +360,8 @@ pub fn value_under<M: Memo>(
     ensures memo { IsMemoOf store.now.sheet (M.state memo.new) }
     ensures same_cells { (M.state memo.new).covers ≡ (M.state memo.old).covers }
     ensures same_generation { (M.state memo.new).generation ≡ (M.state memo.old).generation }
+    ensures same_capacity { (M.state memo.new).capacity ≡ (M.state memo.old).capacity }
+    ensures same_latest { (M.state memo.new).latest ≡ (M.state memo.old).latest }
 
     ensures evaluations { CountsAtMost store.now.sheet (HasCase store.now.sheet world.now at) (λ _. 1) (M.state memo.old).found meter.old.evaluations meter.new.evaluations }
     ensures evaluations_ok { OnOk result (CountsFound store.now.sheet (HasCase store.now.sheet world.now at) (λ _. 1) (M.state memo.old).found (M.state memo.new).found meter.old.evaluations meter.new.evaluations) }
@@ -348,6 +370,16 @@ pub fn value_under<M: Memo>(
     ensures restarts_ok { OnOk result (CountsFound store.now.sheet (HasCase store.now.sheet world.now at) (wants store.now.sheet) (M.state memo.old).found (M.state memo.new).found meter.old.restarts meter.new.restarts) }
 
     ensures counts { NeverFall meter.old meter.new }
+
+    // A value that is remembered, and one that no formula gives, is counted for nothing.
+    ensures uncounted { NeedsNoEvaluation store.now.sheet (M.state memo.old) world.now at → meter.new ≡ meter.old }
+
+    // What is kept for longer, and where there is room for all that is found.
+    ensures kept { OnOk result (IsValuedAnew store.now.sheet (M.state memo.old) world.now at → 1 ≤ (M.state memo.old).capacity → (M.state memo.new).kept at (reaching store.now.sheet at world.now) ≡ true) }
+    ensures takes { TakesNoMore (M.state memo.old) (M.state memo.new) meter.old.evaluations meter.new.evaluations }
+    ensures unkept_evaluations { CountsUnkept store.now.sheet (HasCase store.now.sheet world.now at) (M.state memo.old) meter.old.evaluations meter.new.evaluations }
+    ensures saves { OnOk result (SavesAll store.now.sheet (HasCase store.now.sheet world.now at) (M.state memo.old) (M.state memo.new) meter.old.evaluations meter.new.evaluations) }
+    ensures settled { OnOk result (WhereRoom store.now.sheet (HasCase store.now.sheet world.now at) (M.state memo.old) (λ _. IsSettled store.now.sheet (M.state memo.new).kept world.now at)) }
 {
     match value_now(alloc, store, world, at, memo)? {
         Asked::Known(value) => Ok(value),

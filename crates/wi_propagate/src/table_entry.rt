@@ -8,9 +8,11 @@ ghost use Rattle.wi_sheet.specs.CellValue as show;
 ghost use Rattle.wi_sheet.specs.TableEntry as table;
 ghost use Rattle.wi_sheet.specs.TableEntry.{entry_demanded};
 ghost use Rattle.wi_sheet.specs.Demand.{with_what_if, wants};
+ghost use Rattle.wi_sheet.specs.Settled.{IsSettled, IsWhatIfSettled};
 ghost use Rattle.wi_sheet.specs.Inner.Spending.{CountsAtMost, CountsFound, HasReplacing, HasEntry, NeverFall};
 ghost use Rattle.wi_engine.specs.Inner.MemoState.{IsMemoOf};
 ghost use Rattle.wi_engine.specs.Inner.Frames.{MayBeRead};
+ghost use Rattle.wi_engine.specs.Inner.Saving.{WhereRoom, CountsUnkept, SavesAll, TakesNoMore};
 
 use std::alloc::{AllocError, Global};
 use wi_engine::{Memo, Remembered, reached_from, value_under};
@@ -68,7 +70,7 @@ fn valued_cells(
 }
 
 /// What an entry of a data table shows where none of the cells is circular whose values are asked for.
-fn open_entry<M: Memo>(
+pub fn open_entry<M: Memo>(
     alloc: Global,
     store: &Store,
     world: &World,
@@ -82,11 +84,28 @@ fn open_entry<M: Memo>(
     requires replacing { All (λ x. MayBeRead store.now.sheet (M.state memo.old) x.1) pairs.now }
     ensures value { IfOk result (λ v. v ≡ formulas.zero_for_empty
         (show.cell_value (put_all store.now.sheet (with_what_if store.now.sheet world.now pairs.now)) formula_cell)) }
+
+    // What is remembered then is right, also where memory runs out.
+    ensures memo { IsMemoOf store.now.sheet (M.state memo.new) }
+    ensures same_cells { (M.state memo.new).covers ≡ (M.state memo.old).covers }
+    ensures same_generation { (M.state memo.new).generation ≡ (M.state memo.old).generation }
+    ensures same_capacity { (M.state memo.new).capacity ≡ (M.state memo.old).capacity }
+    ensures same_latest { (M.state memo.new).latest ≡ (M.state memo.old).latest }
+
     ensures evaluations { CountsAtMost store.now.sheet (HasEntry store.now.sheet world.now formula_cell pairs.now)
         (λ _. 1) (M.state memo.old).found meter.old.evaluations meter.new.evaluations }
     ensures restarts { CountsAtMost store.now.sheet (HasEntry store.now.sheet world.now formula_cell pairs.now)
         (wants store.now.sheet) (M.state memo.old).found meter.old.restarts meter.new.restarts }
     ensures counts { NeverFall meter.old meter.new }
+
+    // What is kept for longer, and where there is room for all that is found.
+    ensures takes { TakesNoMore (M.state memo.old) (M.state memo.new) meter.old.evaluations meter.new.evaluations }
+    ensures unkept_evaluations { CountsUnkept store.now.sheet (HasEntry store.now.sheet world.now formula_cell pairs.now)
+        (M.state memo.old) meter.old.evaluations meter.new.evaluations }
+    ensures saves { OnOk result (SavesAll store.now.sheet (HasEntry store.now.sheet world.now formula_cell pairs.now)
+        (M.state memo.old) (M.state memo.new) meter.old.evaluations meter.new.evaluations) }
+    ensures settled { OnOk result (WhereRoom store.now.sheet (HasEntry store.now.sheet world.now formula_cell pairs.now)
+        (M.state memo.old) (λ _. IsWhatIfSettled store.now.sheet (M.state memo.new).kept world.now (formula_cell, pairs.now))) }
 {
     let replaced = with_inputs(alloc, store, world, pairs, memo, meter)?;
     let value = value_under(alloc, store, &replaced, formula_cell, memo, meter)?;
@@ -108,6 +127,9 @@ fn with_inputs<M: Memo>(
     ensures world { IfOk result (λ w. w ≡ with_what_if store.now.sheet world.now pairs.now) }
     ensures memo { IsMemoOf store.now.sheet (M.state memo.new) }
     ensures same_cells { (M.state memo.new).covers ≡ (M.state memo.old).covers }
+    ensures same_generation { (M.state memo.new).generation ≡ (M.state memo.old).generation }
+    ensures same_capacity { (M.state memo.new).capacity ≡ (M.state memo.old).capacity }
+    ensures same_latest { (M.state memo.new).latest ≡ (M.state memo.old).latest }
 
     ensures evaluations { CountsAtMost store.now.sheet (HasReplacing store.now.sheet world.now pairs.now)
         (λ _. 1) (M.state memo.old).found meter.old.evaluations meter.new.evaluations }
@@ -120,6 +142,15 @@ fn with_inputs<M: Memo>(
         (wants store.now.sheet) (M.state memo.old).found (M.state memo.new).found meter.old.restarts meter.new.restarts) }
 
     ensures counts { NeverFall meter.old meter.new }
+
+    // What is kept for longer, and where there is room for all that is found.
+    ensures takes { TakesNoMore (M.state memo.old) (M.state memo.new) meter.old.evaluations meter.new.evaluations }
+    ensures unkept_evaluations { CountsUnkept store.now.sheet (HasReplacing store.now.sheet world.now pairs.now)
+        (M.state memo.old) meter.old.evaluations meter.new.evaluations }
+    ensures saves { OnOk result (SavesAll store.now.sheet (HasReplacing store.now.sheet world.now pairs.now)
+        (M.state memo.old) (M.state memo.new) meter.old.evaluations meter.new.evaluations) }
+    ensures settled { OnOk result (WhereRoom store.now.sheet (HasReplacing store.now.sheet world.now pairs.now)
+        (M.state memo.old) (λ _. All (λ x. IsSettled store.now.sheet (M.state memo.new).kept world.now x.1) pairs.now)) }
 {
     let mut inputs = Vec::new(alloc);
     for pair in pairs {

@@ -153,7 +153,7 @@ itself_within (suc n) s k w f = rw (ends_open (suc n) s k.0 w) (at (content_of (
     at (Some (Constant v)) e = cc
     at (Some (Formula t)) e = inl refl
 
-same_tree : (a b : Tree) (o : Option Content) → o ≡ Some (Formula a) → o ≡ Some (Formula b) → a ≡ b
+pub same_tree : (a b : Tree) (o : Option Content) → o ≡ Some (Formula a) → o ≡ Some (Formula b) → a ≡ b
 same_tree a b o e f = cc
 
 -- what a formula's value rests on is in the list of it

@@ -6,4 +6,5 @@ pub mod Laws
 pub mod Unmoved
 pub mod Locality
 pub mod DemandLaws
+pub mod Settled
 pub mod Inner

@@ -4,9 +4,9 @@ use Rattle.wi_values.specs.declared.value.Value.{Value}
 use Rattle.wi_values.specs.declared.value.Value.TheVariants.{Empty}
 use Rattle.wi_values.specs.declared.replacement.Replacement.{Replacement}
 use Rattle.wi_parser.specs.Tree.{Tree}
+use Rattle.wi_parser.specs.Sheet.{Sheet, content_of, put_all, has_formula}
 use Rattle.wi_parser.specs.declared.content.Content.{Content}
 use Rattle.wi_parser.specs.declared.content.Content.TheVariants.{Constant, Formula}
-use Rattle.wi_parser.specs.Sheet.{Sheet, content_of, put_all, has_formula}
 use Rattle.wi_functions.specs.Assignment.{Assignment, AgreesWith}
 use Rattle.wi_functions.specs.Meaning.{meaning, zero_for_empty}
 use Rattle.wi_functions.specs.Wants.{IfDone}
@@ -16,9 +16,11 @@ use Rattle.wi_graph.specs.Circular.{circular}
 use Rattle.wi_graph.proofs.Ends.{ends_open}
 use Rattle.wi_sheet.specs.CellValue.{value_of, cell_value, what_if_value}
 use Rattle.wi_sheet.proofs.Steps.{value_step, value_plain, put_not_circular}
-use Rattle.wi_engine.specs.declared.findings.Findings.{Findings}
+use Rattle.wi_sheet.proofs.Demands.{same_tree}
 use Rattle.wi_engine.specs.Inner.Findings.{cell_found, what_if_found, AreAllRight}
 use Rattle.wi_engine.specs.Inner.Attempt.{known_in, cell_known}
+use Rattle.wi_engine.specs.Inner.SettledFrames.{IsValueByKnown}
+use Rattle.wi_engine.specs.declared.findings.Findings.{Findings}
 
 -- the values of a sheet's cells and what-ifs
 abbrev pub values_in : Sheet → Assignment
@@ -56,3 +58,10 @@ done_with s q w v f g c t (Done x) d e h n is r k =
     k (values_in (put_all s w)) (known_as s q w v f g (values_in (put_all s w)) d e h (known_agrees s w f r))
     ∙ sym (value_step (put_all s w) c t (put_not_circular s w c n) is)
 done_with s q w v f g c t (Needs x) d e h n is r k = tt
+
+-- and it is the formula's meaning by all values that agree with what is known
+pub done_by_known : (s q : Sheet) (w v : List Replacement) (f g : Findings) (c : ℕ) (t : Tree) (o : Outcome) → q ≡ s → v ≡ w → g ≡ f → content_of (put_all s w) c ≡ Some (Formula t) →
+    IfDone o (λ x. (a : Assignment) → AgreesWith (cell_known q v g) (what_if_found g) a → x ≡ zero_for_empty (meaning t a.cells a.what_ifs)) → IfDone o (IsValueByKnown s w c f)
+done_by_known s q w v f g c t (Done x) d e h is k = λ u a i r.
+    k a (known_as s q w v f g a d e h r) ∙ ap (λ (y : Tree). zero_for_empty (meaning y a.cells a.what_ifs)) (same_tree t u (content_of (put_all s w) c) is i)
+done_by_known s q w v f g c t (Needs x) d e h is k = tt

@@ -51,8 +51,8 @@ may_be_read s m c a h o v r = record {
 
 -- the key of a cell with a formula, for which nothing is remembered
 pub unvalued : (s : Sheet) (m n : MemoState) (w : List Replacement) (a : ℕ) (k : Key) → IsMemoOf s m → MayBeRead s m a → has_formula (content_of (put_all s w) a) ≡ true → n ≡ m →
-    k.cell ≡ a → k.world ≡ reaching m.sheet a w → k.generation ≡ m.generation a → n.found k.cell k.world ≡ false → IsUnvalued s m w a k
-unvalued s m n w a k h r f en ec ew eg u =
+    k.cell ≡ a → k.world ≡ reaching m.sheet a w → k.generation ≡ m.generation a → n.found k.cell k.world ≡ false → n.kept k.cell k.world ≡ false → IsUnvalued s m w a k
+unvalued s m n w a k h r f en ec ew eg u x =
     let there : k.world ≡ reaching s a w = ew ∙ ap (λ (t : Sheet). reaching t a w) h.sheet in
     record {
       formula = f;
@@ -65,6 +65,7 @@ unvalued s m n w a k h r f en ec ew eg u =
         generation = rw ec eg;
       };
       unfound = rw en at u;
+      unkept = rw en at x;
     }
 
 -- what is remembered under the key of a cell is its value
@@ -132,6 +133,7 @@ next_key s m below k w a u r = record {
   rests = subst (λ (j : Case). RestsOn s (case_at below) j) (key_path k.cell a k.world (reaching s a w) u.cell u.world) r;
   key = u.key;
   unfound = u.unfound;
+  unkept = u.unkept;
 }
 
 formula_there : (s : Sheet) (m : MemoState) (w : List Replacement) (a : ℕ) (k : Key) → IsUnvalued s m w a k → has_formula (content_of (put_all s (reaching s a w)) a) ≡ true

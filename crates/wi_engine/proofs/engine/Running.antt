@@ -13,7 +13,7 @@ use Rattle.wi_sheet.proofs.Overrides.{reaching_suffices}
 use Rattle.wi_sheet.proofs.Counting.{one_less_left, never_fall-same, never_fall-then}
 use Rattle.wi_sheet.proofs.Demands.{demand_closed, demand_has_itself}
 use Rattle.wi_engine.specs.Inner.Rank.{rank}
-use Rattle.wi_engine.specs.Inner.MemoState.{MemoState, IsMemoOf}
+use Rattle.wi_engine.specs.Inner.MemoState.{MemoState, IsTold, IsMemoOf}
 use Rattle.wi_engine.specs.Inner.Frames.{case_at, IsToValue, IsUnvalued, IsFrame, IsNext, IsBegun, IsStack, BottomIs, spare, at_most}
 use Rattle.wi_engine.specs.declared.frame.Frame.{Frame}
 use Rattle.wi_engine.specs.declared.frame.Waiting.TheVariants.{Nothing}
@@ -42,6 +42,7 @@ pub record Keeps (m n : MemoState) (k : Key) (v : Value) : Type 0 where
   pub covers : n.covers ≡ m.covers
   pub generation : n.generation ≡ m.generation
   pub known : (c : ℕ) (w : List Replacement) → IfSome (n.known c w) (λ x. (m.known c w ≡ Some x) ⊎ ((c ≡ k.cell) × (w ≡ k.world) × (x ≡ v)))
+  pub told : IsTold n
 
 -- and is found from then on
 abbrev pub Finds : MemoState → MemoState → Key → Type 0
@@ -126,7 +127,7 @@ finds_key : (m n : MemoState) (k j : Key) → k ≡ j → Finds m n k → Finds 
 finds_key m n k j e h = λ c w. h c w ∙ ap (λ (x : Key). m.found c w || same_case (case_at x) (c, w)) e
 
 pub run_keeps : (s : Sheet) (m n : MemoState) (k j : Key) (v : Value) → IsMemoOf s m → Keeps m n k v → k ≡ j → v ≡ cell_value (put_all s j.world) j.cell → IsMemoOf s n
-run_keeps s m n k j v h keeps e is = kept_state s m n k v h keeps.sheet keeps.covers keeps.known (rw e is)
+run_keeps s m n k j v h keeps e is = kept_state s m n k v h keeps.sheet keeps.covers keeps.known (rw e is) keeps.told
 
 pop_alone : (s : Sheet) (old m n : MemoState) (root : Case) (start now next : Counts) (fs : List Frame) (f b : Frame) (v : Value) → IsRunning s old m root start now (fs ++ b ∷ []) f → Keeps m n f.key v → Finds m n f.key →
     v ≡ cell_value (put_all s f.key.world) f.key.cell → NeverFall now next → next.evaluations ≤ now.evaluations + 1 → next.restarts ≤ now.restarts + spare s f → IsRunning s old n root start next fs b
@@ -197,7 +198,7 @@ end_restarts s old m a n root start now next fs f k i ea e ek finds re = λ ks c
 pub unvalued_value : (s : Sheet) (m : MemoState) (w : List Replacement) (a : ℕ) (k : Key) (v : Value) → IsUnvalued s m w a k → v ≡ cell_value (put_all s k.world) k.cell → v ≡ cell_value (put_all s w) a
 unvalued_value s m w a k v u is = is ∙ ap (λ (x : List Replacement). cell_value (put_all s x) k.cell) u.world ∙ ap (cell_value (put_all s (reaching s a w))) u.cell ∙ reaching_suffices s w a
 
-unvalued_in : (s : Sheet) (m : MemoState) (w : List Replacement) (a : ℕ) (k : Key) (ks : List Case) → IsUnvalued s m w a k → (has_formula (content_of (put_all s w) a) ≡ true → Contains ks (case_of s w a)) → Contains ks (case_at k)
+pub unvalued_in : (s : Sheet) (m : MemoState) (w : List Replacement) (a : ℕ) (k : Key) (ks : List Case) → IsUnvalued s m w a k → (has_formula (content_of (put_all s w) a) ≡ true → Contains ks (case_of s w a)) → Contains ks (case_at k)
 unvalued_in s m w a k ks u h = subst (λ (j : Case). Contains ks j) (key_path k.cell a k.world (reaching s a w) u.cell u.world) (h u.formula)
 
 module _ (s : Sheet) (m : MemoState) (w : List Replacement) (a : ℕ) (weight : Case → ℕ) (before after : ℕ) where

@@ -1,7 +1,8 @@
 -- What is remembered in one question.
-use Rattle.std.proofs.Common.{◌≡◌, ◌==◌, ℕ, Bool, true, false, cond, List, [], ◌∷◌, ◌++◌, Option, Some, None, IfSome, Result, Ok, Err, OnOk, OnErr, refl, ap, sym, ◌∙◌, subst, inl, inr, ◌⊎◌}
+use Rattle.std.proofs.Common.{◌≡◌, ◌==◌, ℕ, Bool, true, false, is_some, cond, List, [], ◌∷◌, ◌++◌, Option, Some, None, IfSome, Result, Ok, Err, OnOk, OnErr, refl, ap, sym, ◌∙◌, subst, inl, inr, ◌⊎◌}
 use Rattle.std.proofs.lemmas.Bool.{or_cases, or_left}
 use Rattle.std.proofs.lemmas.List.Folds.{list_any-append}
+use Rattle.std.proofs.Math.Bool.{or-false}
 use Rattle.std.specs.declared.alloc.AllocError.{AllocError}
 use Rattle.wi_values.specs.declared.value.Value.{Value}
 use Rattle.wi_values.specs.declared.replacement.Replacement.{Replacement}
@@ -12,9 +13,9 @@ use Rattle.wi_cache.proofs.Keys.{same_key_Decides}
 use Rattle.wi_graph.specs.Reach.{is_one_of}
 use Rattle.wi_graph.proofs.Walks.{same_cell}
 use Rattle.wi_sheet.specs.CellValue.{cell_value}
-use Rattle.wi_engine.specs.Inner.MemoState.{IsClosedUnderReads, IsMemoOf}
+use Rattle.wi_engine.specs.Inner.MemoState.{IsClosedUnderReads, IsTold, IsMemoOf}
 use Rattle.wi_engine.specs.Inner.ReadOrder.{IsReadOrder}
-use Rattle.wi_engine.specs.Inner.Remembered.{key_of, state_of, remembered}
+use Rattle.wi_engine.specs.Inner.Remembered.{OneQuestion, key_of, state_of, remembered}
 
 -- a list, cut before one of its cells
 cut_before : (xs : List ℕ) (c : ℕ) → is_one_of xs c ≡ true → (front back : List ℕ) × (xs ≡ front ++ c ∷ back)
@@ -32,12 +33,17 @@ closed_order s order o c d m r f =
     let before = (o.each k.0 k.1 c k.2).reads d r f in
     ap (λ (xs : List ℕ). is_one_of xs d) k.2 ∙ list_any-append (λ (x : ℕ). x == d) k.0 (c ∷ k.1) ∙ or_left (is_one_of k.0 d) _ before
 
+-- all that is remembered was found
+pub all_found : (q : OneQuestion) → IsTold (state_of q)
+all_found q c w = sym (or-false (is_some (value_for q.values (key_of c w))))
+
 -- nothing is remembered yet
 pub no_values : (s : Sheet) (order : List ℕ) (values : Entries) → IsReadOrder s order → values ≡ [] → IsMemoOf s (state_of (remembered s order values))
 no_values s order values o e = record {
   sheet = refl;
   right = λ c w. subst (λ (es : Entries). IfSome (value_for es (key_of c w)) (λ v. v ≡ cell_value (put_all s w) c)) (sym e) tt;
   closed = closed_order s order o;
+  told = all_found (remembered s order values);
 }
 
 -- a value is remembered for a key that was put in, or was before

@@ -42,6 +42,7 @@ pub record IsUnvalued (s : Sheet) (m : MemoState) (w : List Replacement) (a : �
   pub world : k.world ≡ reaching s a w
   pub key : IsToValue s m k
   pub unfound : m.found k.cell k.world ≡ false
+  pub unkept : m.kept k.cell k.world ≡ false
 
 -- what stands in a cell reads this one as the sheet stands
 abbrev pub content_reads_here : Option Content → ℕ → Bool
@@ -69,6 +70,7 @@ pub record IsNext (s : Sheet) (m : MemoState) (below k : Key) : Type 0 where
   pub rests : RestsOn s (case_at below) (case_at k)
   pub key : IsToValue s m k
   pub unfound : m.found k.cell k.world ≡ false
+  pub unkept : m.kept k.cell k.world ≡ false
 
 -- ---- restarts
 

@@ -1,5 +1,5 @@
 -- What is remembered of the values of a sheet's cells.
-use Rattle.std.specs.Prelude.{◌≡◌, ℕ, Bool, true, List, Option, IfSome}
+use Rattle.std.specs.Prelude.{◌≡◌, ◌||◌, ℕ, Bool, true, List, Option, is_some, IfSome}
 use Rattle.wi_values.specs.declared.value.Value.{Value}
 use Rattle.wi_values.specs.declared.replacement.Replacement.{Replacement}
 use Rattle.wi_parser.specs.Sheet.{Sheet, content_of, put_all, has_formula}
@@ -17,6 +17,14 @@ pub record MemoState : Type 0 where
   pub known : ℕ → List Replacement → Option Value
   -- whether a value was found since this was made; that is never forgotten
   pub found : ℕ → List Replacement → Bool
+  -- whether a value is kept for longer; it may be given up where there is no room
+  pub kept : ℕ → List Replacement → Bool
+  -- for how many values more there is room
+  pub room : ℕ
+  -- and for how many in all
+  pub capacity : ℕ
+  -- no generation is past this
+  pub latest : ℕ
 
 -- each value that is remembered is the cell's
 abbrev pub AreKnownRight : Sheet → (ℕ → List Replacement → Option Value) → Type 0
@@ -26,8 +34,13 @@ AreKnownRight s known = (c : ℕ) (w : List Replacement) → IfSome (known c w) 
 abbrev pub IsClosedUnderReads : Sheet → (ℕ → Bool) → Type 0
 IsClosedUnderReads s covers = (c d : ℕ) → covers c ≡ true → content_reads (content_of s c) d ≡ true → has_formula (content_of s d) ≡ true → covers d ≡ true
 
+-- what is remembered is what was found and what is kept
+abbrev pub IsTold : MemoState → Type 0
+IsTold m = (c : ℕ) (w : List Replacement) → is_some (m.known c w) ≡ (m.found c w || m.kept c w)
+
 -- what is remembered is so of this sheet
 pub record IsMemoOf (s : Sheet) (m : MemoState) : Type 0 where
   pub sheet : m.sheet ≡ s
   pub right : AreKnownRight s m.known
   pub closed : IsClosedUnderReads s m.covers
+  pub told : IsTold m

@@ -1,5 +1,5 @@
 -- What is remembered in one question.
-use Rattle.std.specs.Prelude.{◌≡◌, ℕ, true, List, is_some, IfSome}
+use Rattle.std.specs.Prelude.{◌≡◌, ℕ, true, false, List, is_some, IfSome}
 use Rattle.std.specs.Ordering.{nat_cmp}
 use Rattle.std.specs.BTreeMap.{BTreeMap, get}
 use Rattle.std.specs.BTreeSet.{BTreeSet, contains}
@@ -30,6 +30,10 @@ state_of q = record {
   generation = λ c. 0;
   known = λ c w. value_for q.values (key_of c w);
   found = λ c w. is_some (value_for q.values (key_of c w));
+  kept = λ c w. false;
+  room = 0;
+  capacity = 0;
+  latest = 0;
 }
 
 -- each cone has, of these cells, those that reach its address

@@ -4,6 +4,7 @@ use Rattle.wi_sheet.proofs.Counting.{never_fall-then}
 use Rattle.wi_engine.specs.Inner.Frames.{IsFrame, spare}
 use Rattle.wi_engine.proofs.engine.Awaiting.{frame_with}
 use Rattle.wi_engine.proofs.engine.Settling.{spare_waiting, round_counted, want_counted, round_smaller}
+use Rattle.wi_engine.proofs.engine.FoundSettled.{round_settled, done_settled}
 use Rattle.wi_engine.proofs.engine.advance.Goals as goal
 
 pub returns-in_err-frame-in-Needs-clause-err_restarts : goal.returns-in_err-frame-in-Needs-clause-err_restarts
@@ -42,5 +43,24 @@ rounds-preserved g c =
       evaluations = ap (λ (n : Counts). n.evaluations) counted ∙ i.evaluations;
       counts = never_fall-then _ _ _ i.counts c.attempt.ensures.counts;
       restarts = round_counted c.rounds.meter.restarts c.attempt.new.meter.restarts _ (spare s f) (spare s c.rounds.frame) _ (ap (λ (n : Counts). n.restarts) counted) less c.in_ok-key.ensures.spare i.restarts;
+      settled = round_settled s m (g.M.Memo.state c.rounds.memo) c.args.frame.now c.rounds.frame f i.same i.settled c.in_ok-key.ensures.found;
       same = c.in_ok-key.ensures.same ∙ i.same;
     }
+
+pub returns-in-Some-clause-found : goal.returns-in-Some-clause-found
+returns-in-Some-clause-found g c =
+    let i = c.rounds.invariant in
+    round_settled c.args.store.now.sheet (g.M.Memo.state c.args.memo.now) (g.M.Memo.state c.rounds.memo) c.args.frame.now c.rounds.frame c.settle.new.frame i.same i.settled c.in_ok-key.ensures.found
+
+pub returns-in-Done-clause-found : goal.returns-in-Done-clause-found
+returns-in-Done-clause-found g c =
+    let i = c.rounds.invariant in
+    round_settled c.args.store.now.sheet (g.M.Memo.state c.args.memo.now) (g.M.Memo.state c.rounds.memo) c.args.frame.now c.rounds.frame c.settle.new.frame i.same i.settled c.in_ok-key.ensures.found
+
+pub returns-in-Done-clause-rests : goal.returns-in-Done-clause-rests
+returns-in-Done-clause-rests g c =
+    let i = c.rounds.invariant in
+    let done = rw c.in-Done.is at c.in_ok-value.ensures.done in
+    let all = rw c.in-Done.is at c.in_ok-value.ensures.by_known in
+    done_settled c.args.store.now.sheet (g.M.Memo.state c.args.memo.now) c.args.frame.now c.settle.new.frame c.in-Done.value (c.in_ok-key.ensures.key ∙ i.key) c.in_ok-key.ensures.frame.found done all
+    (round_settled c.args.store.now.sheet (g.M.Memo.state c.args.memo.now) (g.M.Memo.state c.rounds.memo) c.args.frame.now c.rounds.frame c.settle.new.frame i.same i.settled c.in_ok-key.ensures.found)

@@ -1,4 +1,5 @@
-use Rattle.std.proofs.Common.{◌≡◌, List, map, take, ap, ◌∙◌, arith}
+use Rattle.std.proofs.Common.{◌≡◌, All, List, map, take, ap, subst, ◌∙◌, arith}
+use Rattle.std.proofs.lemmas.List.Elements.{All-more}
 use Rattle.std.proofs.lemmas.Grind.{common_steps}
 use Rattle.wi_parser.specs.declared.expr.Pair.{Pair}
 use Rattle.wi_parser.specs.View.{pair_of}
@@ -7,10 +8,23 @@ use Rattle.wi_functions.specs.Meaning.{addresses}
 use Rattle.wi_sheet.specs.CellValue.{replacements, cell_value}
 use Rattle.wi_sheet.proofs.Overrides.{replaced_world}
 use Rattle.wi_engine.proofs.engine.Awaiting.{input_unvalued}
+use Rattle.wi_sheet.specs.Settled.{IsSettled}
+use Rattle.wi_engine.proofs.engine.FoundSettled.{settled_now}
 use Rattle.wi_engine.proofs.engine.replaced.Goals as goal
 
 pub loop-pair-preserved : goal.loop-pair-preserved
-loop-pair-preserved g c = grind (arith, common_steps)
+loop-pair-preserved g c =
+    let s = c.args.store.now.sheet in
+    let m = g.M.Memo.state c.args.memo.now in
+    let w = c.args.world.now in
+    let i = c.loop-pair.invariant in
+    let there = rw c.in-Known.is at c.in_ok-value.ensures.there in
+    let P : Pair → Type 0 = λ p. IsSettled s m.kept w p.replacement.at in
+    record {
+      inputs = grind (arith, common_steps);
+      settled = λ whole. All-more P c.args.pairs.now c.loop-pair.pair-index c.pair-item.result c.loop-pair-test.true (i.settled whole) (subst P c.pair-item.is (settled_now s m (g.M.Memo.state c.loop-pair.memo) w c.pair-item.result.replacement.at c.requires.memo i.same whole there));
+      same = c.in_ok-value.ensures.same ∙ i.same;
+    }
 
 pub returns-in-Unknown-clause-unknown : goal.returns-in-Unknown-clause-unknown
 returns-in-Unknown-clause-unknown g c =
@@ -25,3 +39,8 @@ returns-clause-known g c =
     let whole : take c.loop-pair.pair-index c.args.pairs.now ≡ c.args.pairs.now = grind (arith, common_steps) in
     let inputs = c.deref.ensures.value ∙ c.loop-pair.invariant.inputs ∙ ap (λ (ps : List Pair). replacements (cell_value (put_all s w)) (map addresses (map pair_of ps))) whole in
     replaced_world s w c.in_ok-with.field-0 c.deref.result.now (map addresses (map pair_of c.args.pairs.now)) inputs c.in_ok-with.ensures.list
+
+pub returns-clause-settled : goal.returns-clause-settled
+returns-clause-settled g c =
+    let all : take c.loop-pair.pair-index c.args.pairs.now ≡ c.args.pairs.now = grind (arith, common_steps) in
+    λ whole. subst (All (λ p. IsSettled c.args.store.now.sheet (g.M.Memo.state c.args.memo.now).kept c.args.world.now p.replacement.at)) all (c.loop-pair.invariant.settled whole)

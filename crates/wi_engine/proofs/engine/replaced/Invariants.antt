@@ -1,12 +1,15 @@
-use Rattle.std.proofs.Common.{◌≡◌, map, take}
+use Rattle.std.proofs.Common.{◌≡◌, All, map, take}
 use Rattle.wi_parser.specs.View.{pair_of}
 use Rattle.wi_parser.specs.Sheet.{put_all}
 use Rattle.wi_functions.specs.Meaning.{addresses}
 use Rattle.wi_sheet.specs.CellValue.{replacements, cell_value}
+use Rattle.wi_sheet.specs.Settled.{IsSettled}
+use Rattle.wi_engine.specs.Inner.Saving.{KeepsFound}
 use Rattle.wi_engine.proofs.engine.replaced.Given as goal
 
 abbrev pub invariant-loop-pair : goal.invariant-loop-pair
 invariant-loop-pair g l = record {
   inputs : l.inputs.items ≡ replacements (cell_value (put_all l.store.sheet l.world)) (map addresses (map pair_of (take l.pair-index l.pairs)));
+  settled : KeepsFound (g.M.Memo.state l.fn.memo) → All (λ p. IsSettled l.store.sheet (g.M.Memo.state l.fn.memo).kept l.world p.replacement.at) (take l.pair-index l.pairs);
   same : g.M.Memo.state l.memo ≡ g.M.Memo.state l.fn.memo;
 }

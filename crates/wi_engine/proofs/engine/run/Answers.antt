@@ -1,19 +1,31 @@
-use Rattle.std.proofs.Common.{◌≤◌, ◌+◌, ◌∙◌, arith}
+use Rattle.std.proofs.Common.{◌≤◌, ◌+◌, ◌∙◌, ap, refl, inl, arith, rules}
 use Rattle.wi_engine.specs.Inner.Frames.{case_at, spare}
-use Rattle.wi_engine.proofs.engine.Running.{run_start, run_push, push_smaller, run_pop, pop_smaller}
+use Rattle.wi_engine.specs.Inner.MemoState.{MemoState}
+use Rattle.wi_engine.proofs.engine.Running.{IsNew, Keeps, run_start, run_push, push_smaller, run_pop, pop_smaller}
+use Rattle.wi_engine.proofs.engine.Saving.{Takes, saving_start, saving_push, saving_pop, saving_end, settled_end, takes_more, push_takes}
 use Rattle.wi_engine.proofs.engine.run.Goals as goal
 
 pub frames-init : goal.frames-init
 frames-init g c =
     let n = c.new-frame.ensures in
-    run_start c.args.store.now.sheet (g.M.Memo.state c.args.memo.now) c.args.key c.new-stack.result.items c.new-frame.result c.args.meter.now c.requires.memo c.requires.key c.requires.unfound
-    (record { key = n.key; cells = n.cells; what_ifs = n.what_ifs; waiting = n.waiting }) c.new-stack.ensures.items
+    let new : IsNew c.new-frame.result c.args.key = record { key = n.key; cells = n.cells; what_ifs = n.what_ifs; waiting = n.waiting } in
+    let s = c.args.store.now.sheet in
+    let m = g.M.Memo.state c.args.memo.now in
+    let start = c.args.meter.now in
+    let empty = c.new-stack.ensures.items in
+    record {
+      running = run_start s m c.args.key c.new-stack.result.items c.new-frame.result start c.requires.memo c.requires.key c.requires.unfound new empty;
+      places = inl (omega arith);
+      capacity = refl;
+      latest = refl;
+      saving = λ ks closed top whole room. saving_start s m c.args.key c.new-stack.result.items c.new-frame.result start ks c.requires.memo c.requires.key c.requires.unkept new empty whole room;
+    }
 
 pub frames-smaller-in-Needs : goal.frames-smaller-in-Needs
 frames-smaller-in-Needs g c =
     let next = rw c.in-Needs.is at c.in_ok-next.ensures.next in
     push_smaller c.args.store.now.sheet (g.M.Memo.state c.args.memo.now) (g.M.Memo.state c.frames.memo) (g.M.Memo.state c.advance.new.memo) (case_at c.args.key) c.args.meter.now c.frames.meter c.frames.stack.items
-    c.frames.frame c.new-frame-in-Needs.result c.in-Needs.next c.frames.invariant c.in_ok-next.ensures.same next c.new-frame-in-Needs.ensures.key
+    c.frames.frame c.new-frame-in-Needs.result c.in-Needs.next c.frames.invariant.running c.in_ok-next.ensures.same next c.new-frame-in-Needs.ensures.key
 
 pub frames-preserved-in-Needs : goal.frames-preserved-in-Needs
 frames-preserved-in-Needs g c =
@@ -21,14 +33,29 @@ frames-preserved-in-Needs g c =
     let a = c.in_ok-next.ensures in
     let next = rw c.in-Needs.is at a.next in
     let counted = rw c.in-Needs.is at a.evaluations in
-    run_push c.args.store.now.sheet (g.M.Memo.state c.args.memo.now) (g.M.Memo.state c.frames.memo) (g.M.Memo.state c.advance.new.memo) (case_at c.args.key) c.args.meter.now c.frames.meter c.advance.new.meter
-    c.frames.stack.items c.push.new.self.items c.frames.frame c.advance.new.frame c.new-frame-in-Needs.result c.in-Needs.next c.frames.invariant a.same a.key a.frame next c.advance.ensures.counts counted a.restarts
-    (record { key = n.key; cells = n.cells; what_ifs = n.what_ifs; waiting = n.waiting }) c.in_ok-push-in-Needs.ensures.items
+    let new : IsNew c.new-frame-in-Needs.result c.in-Needs.next = record { key = n.key; cells = n.cells; what_ifs = n.what_ifs; waiting = n.waiting } in
+    let s = c.args.store.now.sheet in
+    let old = g.M.Memo.state c.args.memo.now in
+    let m = g.M.Memo.state c.frames.memo in
+    let after = g.M.Memo.state c.advance.new.memo in
+    let root = case_at c.args.key in
+    let start = c.args.meter.now in
+    let going = c.frames.invariant in
+    let pushed = c.in_ok-push-in-Needs.ensures.items in
+    record {
+      running = run_push s old m after root start c.frames.meter c.advance.new.meter c.frames.stack.items c.push.new.self.items c.frames.frame c.advance.new.frame c.new-frame-in-Needs.result c.in-Needs.next going.running a.same a.key a.frame next c.advance.ensures.counts counted a.restarts new pushed;
+      places = push_takes old m after start.evaluations c.frames.meter.evaluations c.advance.new.meter.evaluations going.places a.same counted;
+      capacity = ap (λ (x : MemoState). x.capacity) a.same ∙ going.capacity;
+      latest = ap (λ (x : MemoState). x.latest) a.same ∙ going.latest;
+      saving = λ ks closed top whole room.
+          saving_push s old m after root start c.frames.meter c.advance.new.meter c.frames.stack.items c.push.new.self.items c.frames.frame c.advance.new.frame c.new-frame-in-Needs.result c.in-Needs.next ks (going.saving ks closed top whole room) a.same a.key a.frame next
+          c.advance.ensures.counts counted a.restarts new pushed a.found;
+    }
 
 pub frames-smaller : goal.frames-smaller
 frames-smaller g c =
     pop_smaller c.args.store.now.sheet (g.M.Memo.state c.args.memo.now) (g.M.Memo.state c.frames.memo) (g.M.Memo.state c.advance.new.memo) (g.M.Memo.state c.keep-in-Some.new.self) (case_at c.args.key) c.args.meter.now c.frames.meter
-    c.frames.stack.items c.frames.frame c.in-Some.below c.into_key-in-Some.result c.frames.invariant c.in_ok-next.ensures.same (c.into_key-in-Some.ensures ∙ c.in_ok-next.ensures.key) c.in_ok-keep-in-Some.ensures.found
+    c.frames.stack.items c.frames.frame c.in-Some.below c.into_key-in-Some.result c.frames.invariant.running c.in_ok-next.ensures.same (c.into_key-in-Some.ensures ∙ c.in_ok-next.ensures.key) c.in_ok-keep-in-Some.ensures.found
     c.requires.key.open_cell c.requires.key.formula
 
 pub frames-preserved : goal.frames-preserved
@@ -38,8 +65,42 @@ frames-preserved g c =
     let k = c.in_ok-keep-in-Some.ensures in
     let value = rw c.in-Done.is at a.done in
     let counted = rw c.in-Done.is at a.evaluations in
+    let rests = rw c.in-Done.is at a.rests in
     let popped = c.in-Some.ensures.items in
     let restarts : c.advance.new.meter.restarts ≤ c.frames.meter.restarts + spare s c.frames.frame = omega (arith, a.restarts) in
-    run_pop s (g.M.Memo.state c.args.memo.now) (g.M.Memo.state c.frames.memo) (g.M.Memo.state c.advance.new.memo) (g.M.Memo.state c.keep-in-Some.new.self) (case_at c.args.key) c.args.meter.now c.frames.meter c.advance.new.meter
-    c.pop.new.self.items c.frames.stack.items c.frames.frame c.in-Some.below c.into_key-in-Some.result c.in-Done.value c.frames.invariant a.same popped (c.into_key-in-Some.ensures ∙ a.key)
-    (record { sheet = k.same_sheet; covers = k.same_cells; generation = k.same_generation; known = k.known }) k.found value c.advance.ensures.counts counted restarts
+    let old = g.M.Memo.state c.args.memo.now in
+    let m = g.M.Memo.state c.frames.memo in
+    let mid = g.M.Memo.state c.advance.new.memo in
+    let after = g.M.Memo.state c.keep-in-Some.new.self in
+    let root = case_at c.args.key in
+    let start = c.args.meter.now in
+    let going = c.frames.invariant in
+    let key = c.into_key-in-Some.ensures ∙ a.key in
+    let keeps : Keeps mid after c.into_key-in-Some.result c.in-Done.value = record { sheet = k.same_sheet; covers = k.same_cells; generation = k.same_generation; known = k.known; told = k.told } in
+    let takes : Takes mid after c.into_key-in-Some.result = record { kept = k.kept; room = k.room } in
+    record {
+      running = run_pop s old m mid after root start c.frames.meter c.advance.new.meter c.pop.new.self.items c.frames.stack.items c.frames.frame c.in-Some.below c.into_key-in-Some.result c.in-Done.value going.running a.same popped key keeps k.found value c.advance.ensures.counts counted restarts;
+      places = takes_more old m after start.evaluations c.frames.meter.evaluations c.advance.new.meter.evaluations going.places (rw (← a.same) k.one_place) counted;
+      capacity = k.same_capacity ∙ ap (λ (x : MemoState). x.capacity) a.same ∙ going.capacity;
+      latest = k.same_latest ∙ ap (λ (x : MemoState). x.latest) a.same ∙ going.latest;
+      saving = λ ks closed top whole room.
+          saving_pop s old m mid after root start c.frames.meter c.advance.new.meter c.pop.new.self.items c.frames.stack.items c.frames.frame c.in-Some.below c.into_key-in-Some.result c.in-Done.value ks closed top (going.saving ks closed top whole room) a.same popped key keeps
+          k.found takes value c.advance.ensures.counts counted restarts rests;
+    }
+
+pub returns-in-None-clause-saves : goal.returns-in-None-clause-saves
+returns-in-None-clause-saves g c =
+    let k = c.in_ok-keep-in-None.ensures in
+    let a = c.in_ok-next.ensures in
+    let counted = rw c.in-Done.is at a.evaluations in
+    let takes : Takes (g.M.Memo.state c.advance.new.memo) (g.M.Memo.state c.keep.new.self) c.into_key.result = record { kept = k.kept; room = k.room } in
+    saving_end c.args.store.now.sheet (g.M.Memo.state c.args.memo.now) (g.M.Memo.state c.frames.memo) (g.M.Memo.state c.advance.new.memo) (g.M.Memo.state c.keep.new.self) (case_at c.args.key) c.args.meter.now c.frames.meter c.advance.new.meter
+    c.frames.stack.items c.frames.frame c.into_key.result c.frames.invariant a.same (search rules) (c.into_key.ensures ∙ a.key) k.found takes counted (rw c.in-Done.is at a.rests)
+
+pub returns-in-None-clause-settled : goal.returns-in-None-clause-settled
+returns-in-None-clause-settled g c =
+    let k = c.in_ok-keep-in-None.ensures in
+    let a = c.in_ok-next.ensures in
+    let takes : Takes (g.M.Memo.state c.advance.new.memo) (g.M.Memo.state c.keep.new.self) c.into_key.result = record { kept = k.kept; room = k.room } in
+    settled_end c.args.store.now.sheet (g.M.Memo.state c.args.memo.now) (g.M.Memo.state c.frames.memo) (g.M.Memo.state c.advance.new.memo) (g.M.Memo.state c.keep.new.self) c.args.key c.args.meter.now c.frames.meter
+    c.frames.stack.items c.frames.frame c.into_key.result c.frames.invariant a.same (search rules) (c.into_key.ensures ∙ a.key) k.found takes

@@ -4,11 +4,11 @@ use Rattle.wi_sheet.specs.Demand.{demand}
 use Rattle.wi_sheet.specs.Inner.Spending.{left}
 use Rattle.wi_engine.specs.Inner.Rank.{rank}
 use Rattle.wi_engine.specs.Inner.Frames.{case_at}
-use Rattle.wi_engine.proofs.engine.Running.{IsRunning}
+use Rattle.wi_engine.proofs.engine.Saving.{IsGoing}
 use Rattle.wi_engine.proofs.engine.run.Given as goal
 
 abbrev pub invariant-frames : goal.invariant-frames
-invariant-frames g l = IsRunning l.store.sheet (g.M.Memo.state l.fn.memo) (g.M.Memo.state l.memo) (case_at l.fn.key) l.fn.meter l.meter l.stack.items l.frame
+invariant-frames g l = IsGoing l.store.sheet (g.M.Memo.state l.fn.memo) (g.M.Memo.state l.memo) (case_at l.fn.key) l.fn.meter l.meter l.stack.items l.frame
 
 -- the cases of the demand that are not found, and the rank of the frame at the top
 abbrev pub decreases-frames : goal.decreases-frames

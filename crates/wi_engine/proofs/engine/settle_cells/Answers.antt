@@ -3,6 +3,7 @@ use Rattle.wi_engine.specs.Inner.Frames.{case_at}
 use Rattle.wi_engine.specs.declared.frame.Waiting.TheVariants as states
 use Rattle.wi_engine.proofs.engine.Settling.{spare_waiting, spare_found, two_steps, may_read_here, next_here, cell_found_frame, awaits_next, lacks_less, lacked_next}
 use Rattle.wi_engine.proofs.engine.Awaiting.{cell_falls}
+use Rattle.wi_engine.proofs.engine.FoundSettled.{frame_cell, settled_now}
 use Rattle.wi_engine.proofs.engine.settle_cells.Goals as goal
 
 pub value_now-requires-clause-read : goal.value_now-requires-clause-read
@@ -30,6 +31,7 @@ cells-preserved g c =
     let s = c.args.store.now.sheet in
     let i = c.cells.invariant in
     let known = rw c.in-Known.is at c.in_ok-value.ensures.known in
+    let there = rw c.in-Known.is at c.in_ok-value.ensures.there in
     let less = cell_falls s c.cells.frame.key c.cells.frame.found c.add_cell.new.self c.cells.at c.in-Known.value c.in_ok-add_cell-in-Known.ensures.ok i.awaits.0.1 i.awaits.1 i.awaits.2 in
     record {
       key = i.key;
@@ -38,6 +40,9 @@ cells-preserved g c =
       awaits = awaits_next s (case_at c.cells.frame.key) c.add_cell.new.self c.in-Some.next c.next_lacking.new.cells c.in-Some.ensures.next c.in-Some.ensures.rest;
       fewer = omega (arith, less, i.fewer);
       lacked = lacked_next s c.cells.frame.key.world c.cells.frame.found c.add_cell.new.self c.cells.at c.in-Some.next c.in-Known.value c.args.others.items c.cells.others.items c.next_lacking.new.cells.items c.in_ok-add_cell-in-Known.ensures.ok i.lacked c.in-Some.ensures.passed;
+      settled = λ whole h.
+          frame_cell s (g.M.Memo.state c.args.memo.now).kept c.cells.frame c.add_cell.new.self c.cells.at c.in-Known.value c.in_ok-add_cell-in-Known.ensures.ok
+          (settled_now s (g.M.Memo.state c.args.memo.now) (g.M.Memo.state c.cells.memo) c.cells.frame.key.world c.cells.at c.requires.memo i.same whole there) (i.settled whole h);
       same = c.in_ok-value.ensures.same ∙ i.same;
     }
 
@@ -47,3 +52,15 @@ returns-in-None-clause-spare g c =
     let i = c.cells.invariant in
     let less = cell_falls s c.cells.frame.key c.cells.frame.found c.add_cell.new.self c.cells.at c.in-Known.value c.in_ok-add_cell-in-Known.ensures.ok i.awaits.0.1 i.awaits.1 i.awaits.2 in
     spare_found s c.cells.frame.key c.add_cell.new.self c.cells.frame.waiting c.args.frame.now (two_steps _ _ _ less i.fewer) c.requires.waiting
+
+pub returns-in-Unknown-clause-found : goal.returns-in-Unknown-clause-found
+returns-in-Unknown-clause-found g c = c.cells.invariant.settled
+
+pub returns-in-None-clause-found : goal.returns-in-None-clause-found
+returns-in-None-clause-found g c =
+    let s = c.args.store.now.sheet in
+    let i = c.cells.invariant in
+    let there = rw c.in-Known.is at c.in_ok-value.ensures.there in
+    λ whole h.
+    frame_cell s (g.M.Memo.state c.args.memo.now).kept c.cells.frame c.add_cell.new.self c.cells.at c.in-Known.value c.in_ok-add_cell-in-Known.ensures.ok
+    (settled_now s (g.M.Memo.state c.args.memo.now) (g.M.Memo.state c.cells.memo) c.cells.frame.key.world c.cells.at c.requires.memo i.same whole there) (i.settled whole h)

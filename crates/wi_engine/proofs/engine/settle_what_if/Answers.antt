@@ -3,6 +3,7 @@ use Rattle.wi_engine.specs.declared.findings.FoundWhatIf.{FoundWhatIf}
 use Rattle.wi_engine.specs.declared.frame.Waiting.TheVariants as states
 use Rattle.wi_engine.proofs.engine.Settling.{spare_waiting, spare_found, may_read_what_if, may_read_inputs, next_input, next_inner, what_if_right, what_if_found_frame}
 use Rattle.wi_engine.proofs.engine.Awaiting.{what_if_falls}
+use Rattle.wi_engine.proofs.engine.FoundSettled.{frame_what_if, settled_now}
 use Rattle.wi_engine.proofs.engine.settle_what_if.Goals as goal
 
 pub replaced-requires-clause-read : goal.replaced-requires-clause-read
@@ -50,3 +51,15 @@ returns-clause-spare g c =
     let x : FoundWhatIf = record { at = c.args.at; pairs = c.args.pairs; value = c.in-Known-2.value } in
     let less = what_if_falls s f.key f.found c.add_what_if.new.self x c.in_ok-add_what_if-in-Known-2.ensures.ok c.requires.awaits.1 c.requires.awaits.0 in
     spare_found s f.key c.add_what_if.new.self f.waiting f less c.requires.waiting
+
+pub returns-clause-found : goal.returns-clause-found
+returns-clause-found g c =
+    let s = c.args.store.now.sheet in
+    let m = g.M.Memo.state c.args.memo.now in
+    let f = c.args.frame.now in
+    let world = rw c.in-Known.is at c.in_ok-key.ensures.known in
+    let inputs = rw c.in-Known.is at c.in_ok-key.ensures.settled in
+    let there = rw c.in-Known-2.is at c.in_ok-key-in-Known.ensures.there in
+    let x : FoundWhatIf = record { at = c.args.at; pairs = c.args.pairs; value = c.in-Known-2.value } in
+    λ whole h. frame_what_if s m.kept f c.add_what_if.new.self x _ c.deref.result.now c.in_ok-add_what_if-in-Known-2.ensures.ok c.requires.awaits.1 c.deref.ensures.value world (inputs whole)
+    (settled_now s m (g.M.Memo.state c.replaced.new.memo) _ c.args.at c.requires.memo c.in_ok-key.ensures.same whole there) h

@@ -3,6 +3,7 @@ use Rattle.wi_parser.specs.declared.content.Content.TheVariants.{Constant}
 use Rattle.wi_parser.specs.Sheet.{has_formula, put_all}
 use Rattle.wi_sheet.proofs.Bounds.{put_formula}
 use Rattle.wi_engine.proofs.engine.Resting.{plain_cell, known_value, unvalued}
+use Rattle.wi_engine.proofs.engine.Saving.{found_easy}
 use Rattle.wi_engine.proofs.engine.value_now.Goals as goal
 
 pub key-requires : goal.key-requires
@@ -25,4 +26,9 @@ pub returns-in-None-clause-unknown : goal.returns-in-None-clause-unknown
 returns-in-None-clause-unknown g c =
     let k = c.in_ok-key-in-Formula.ensures in
     unvalued c.args.store.now.sheet (g.M.Memo.state c.args.memo.now) (g.M.Memo.state c.key.new.self) c.args.world.now c.args.at c.in_ok-key-in-Formula.key c.requires.memo c.requires.read
-    (ap has_formula (sym c.in-Formula.ensures)) k.same k.cell k.world k.generation (c.in-None.ensures.missing refl)
+    (ap has_formula (sym c.in-Formula.ensures)) k.same k.cell k.world k.generation (c.in-None.ensures.missing refl) (c.in-None.ensures.missing_kept refl)
+
+pub returns-in_ok-copy-in-Some-clause-there : goal.returns-in_ok-copy-in-Some-clause-there
+returns-in_ok-copy-in-Some-clause-there g c =
+    let k = c.in_ok-key-in-Formula.ensures in
+    found_easy c.args.store.now.sheet (g.M.Memo.state c.args.memo.now) (g.M.Memo.state c.key.new.self) c.args.world.now c.args.at c.in_ok-key-in-Formula.key c.in-Some.value.now c.requires.memo k.same k.cell k.world c.in-Some.ensures.value

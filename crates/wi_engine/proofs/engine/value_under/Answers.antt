@@ -1,6 +1,7 @@
 use Rattle.std.proofs.lemmas.Result.{IfOk-weaker}
 use Rattle.wi_sheet.specs.Demand.{wants}
 use Rattle.wi_engine.proofs.engine.Running.{unvalued_value, under_at_most, under_found}
+use Rattle.wi_engine.proofs.engine.Saving.{kept_before, not_easy, under_kept, under_unkept, under_saves, under_settled, settled_before}
 use Rattle.wi_engine.proofs.engine.value_under.Goals as goal
 
 pub returns-in-Unknown-clause-value : goal.returns-in-Unknown-clause-value
@@ -31,3 +32,44 @@ returns-in-Unknown-clause-restarts_ok g c =
     IfOk-weaker c.run.result _ _
     (λ v h. under_found c.args.store.now.sheet (g.M.Memo.state c.args.memo.now) c.args.world.now c.args.at (wants c.args.store.now.sheet) c.args.meter.now.restarts c.run.new.meter.restarts (g.M.Memo.state c.value_now.new.memo) (g.M.Memo.state c.run.new.memo) c.in-Unknown.key c.in_ok-value.ensures.same u h)
     c.run.ensures.restarts_ok
+
+pub returns-in-Known-clause-kept : goal.returns-in-Known-clause-kept
+returns-in-Known-clause-kept g c =
+    let there = rw c.in-Known.is at c.in_ok-value.ensures.there in
+    λ anew room. kept_before c.args.store.now.sheet (g.M.Memo.state c.args.memo.now) (g.M.Memo.state c.value_now.new.memo) c.args.world.now c.args.at c.requires.memo c.in_ok-value.ensures.same there anew
+
+pub returns-in-Known-clause-settled : goal.returns-in-Known-clause-settled
+returns-in-Known-clause-settled g c =
+    let there = rw c.in-Known.is at c.in_ok-value.ensures.there in
+    settled_before c.args.store.now.sheet (g.M.Memo.state c.args.memo.now) (g.M.Memo.state c.value_now.new.memo) c.args.world.now c.args.at _ c.requires.memo c.in_ok-value.ensures.same there
+
+pub returns-in-Unknown-clause-kept : goal.returns-in-Unknown-clause-kept
+returns-in-Unknown-clause-kept g c =
+    let u = rw c.in-Unknown.is at c.in_ok-value.ensures.unknown in
+    IfOk-weaker c.run.result _ _
+    (λ v h anew room. under_kept c.args.store.now.sheet (g.M.Memo.state c.args.memo.now) (g.M.Memo.state c.value_now.new.memo) (g.M.Memo.state c.run.new.memo) c.args.world.now c.args.at c.in-Unknown.key c.in_ok-value.ensures.same u h room)
+    c.run.ensures.kept
+
+pub returns-in-Unknown-clause-uncounted : goal.returns-in-Unknown-clause-uncounted
+returns-in-Unknown-clause-uncounted g c =
+    let u = rw c.in-Unknown.is at c.in_ok-value.ensures.unknown in
+    λ easy. absurd (not_easy c.args.store.now.sheet (g.M.Memo.state c.args.memo.now) c.args.world.now c.args.at c.in-Unknown.key c.requires.memo u easy)
+
+pub returns-in-Unknown-clause-unkept_evaluations : goal.returns-in-Unknown-clause-unkept_evaluations
+returns-in-Unknown-clause-unkept_evaluations g c =
+    let u = rw c.in-Unknown.is at c.in_ok-value.ensures.unknown in
+    under_unkept c.args.store.now.sheet (g.M.Memo.state c.args.memo.now) c.args.world.now c.args.at c.args.meter.now.evaluations c.run.new.meter.evaluations (g.M.Memo.state c.value_now.new.memo) c.in-Unknown.key c.in_ok-value.ensures.same u c.run.ensures.unkept_evaluations
+
+pub returns-in-Unknown-clause-saves : goal.returns-in-Unknown-clause-saves
+returns-in-Unknown-clause-saves g c =
+    let u = rw c.in-Unknown.is at c.in_ok-value.ensures.unknown in
+    IfOk-weaker c.run.result _ _
+    (λ v h. under_saves c.args.store.now.sheet (g.M.Memo.state c.args.memo.now) c.args.world.now c.args.at c.args.meter.now.evaluations c.run.new.meter.evaluations (g.M.Memo.state c.value_now.new.memo) (g.M.Memo.state c.run.new.memo) c.in-Unknown.key c.in_ok-value.ensures.same u h)
+    c.run.ensures.saves
+
+pub returns-in-Unknown-clause-settled : goal.returns-in-Unknown-clause-settled
+returns-in-Unknown-clause-settled g c =
+    let u = rw c.in-Unknown.is at c.in_ok-value.ensures.unknown in
+    IfOk-weaker c.run.result _ _
+    (λ v h. under_settled c.args.store.now.sheet (g.M.Memo.state c.args.memo.now) c.args.world.now c.args.at (g.M.Memo.state c.value_now.new.memo) (g.M.Memo.state c.run.new.memo) c.in-Unknown.key c.in_ok-value.ensures.same u h)
+    c.run.ensures.settled

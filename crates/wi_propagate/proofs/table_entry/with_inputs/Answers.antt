@@ -1,9 +1,16 @@
-use Rattle.std.proofs.Common.{◌≡◌, List, ℕ, take, ap, ◌∙◌, arith}
+use Rattle.std.proofs.Common.{◌≡◌, All, List, ℕ, take, ap, subst, ◌∙◌, arith}
 use Rattle.std.proofs.lemmas.Grind.{common_steps}
 use Rattle.std.proofs.lemmas.Result.{IfOk-weaker}
 use Rattle.wi_parser.specs.Sheet.{put_all}
 use Rattle.wi_sheet.specs.CellValue.{replacements, cell_value}
+use Rattle.wi_sheet.specs.Demand.{wants}
+use Rattle.wi_sheet.specs.Settled.{IsSettled}
+use Rattle.wi_sheet.specs.Inner.Spending.{HasReplacing}
+use Rattle.wi_sheet.proofs.Counting.{never_fall-then}
 use Rattle.wi_sheet.proofs.Overrides.{replaced_world}
+use Rattle.wi_engine.specs.Inner.Saving.{WhereRoom}
+use Rattle.wi_engine.proofs.Saved.{takes_then}
+use Rattle.wi_propagate.proofs.SavingEntries.{more_found, more_saves, more_settled}
 use Rattle.wi_propagate.proofs.table_entry.with_inputs.Goals as goal
 
 pub returns-clause-world : goal.returns-clause-world
@@ -13,3 +20,42 @@ returns-clause-world g c =
     let whole : take c.loop-pair.pair-index c.args.pairs.now ≡ c.args.pairs.now = grind (arith, common_steps) in
     let inputs = c.deref.ensures.value ∙ c.loop-pair.invariant.inputs ∙ ap (λ (ps : List (ℕ × ℕ)). replacements (cell_value (put_all s w)) ps) whole in
     IfOk-weaker c.with.result _ _ (λ v h. replaced_world s w v c.deref.result.now c.args.pairs.now inputs h) c.with.ensures.list
+
+pub loop-pair-preserved : goal.loop-pair-preserved
+loop-pair-preserved g c =
+    let s = c.args.store.now.sheet in
+    let w = c.args.world.now in
+    let pairs = c.args.pairs.now in
+    let old = g.M.Memo.state c.args.memo.now in
+    let mid = g.M.Memo.state c.loop-pair.memo in
+    let new = g.M.Memo.state c.value_under.new.memo in
+    let start = c.args.meter.now in
+    let before = c.loop-pair.meter in
+    let after = c.value_under.new.meter in
+    let i = c.loop-pair.invariant in
+    let v = c.in_ok-value.ensures in
+    let index = c.loop-pair.pair-index in
+    let pair = c.pair-item.result in
+    let less = c.loop-pair-test.true in
+    record {
+      inputs = grind (arith, common_steps);
+      memo = v.memo;
+      same_cells = v.same_cells ∙ i.same_cells;
+      same_generation = v.same_generation ∙ i.same_generation;
+      same_capacity = v.same_capacity ∙ i.same_capacity;
+      same_latest = v.same_latest ∙ i.same_latest;
+      evaluations = more_found s w pairs index pair less c.pair-item.is (λ k. 1) old.found mid.found new.found start.evaluations before.evaluations after.evaluations i.evaluations v.evaluations_ok;
+      counts = never_fall-then start before after i.counts v.counts;
+      restarts = more_found s w pairs index pair less c.pair-item.is (wants s) old.found mid.found new.found start.restarts before.restarts after.restarts i.restarts v.restarts_ok;
+      takes = takes_then old mid new start.evaluations before.evaluations after.evaluations i.takes v.takes v.counts.0;
+      saves = more_saves s w pairs index pair less c.pair-item.is old mid start.evaluations before.evaluations i.saves new after.evaluations v.saves;
+      settled = more_settled s w pairs index pair less c.pair-item.is old mid start.evaluations before.evaluations i.saves new after.evaluations v.saves i.settled v.settled;
+    }
+
+pub returns-clause-settled : goal.returns-clause-settled
+returns-clause-settled g c =
+    let s = c.args.store.now.sheet in
+    let w = c.args.world.now in
+    let whole : take c.loop-pair.pair-index c.args.pairs.now ≡ c.args.pairs.now = grind (arith, common_steps) in
+    let there = subst (λ (ps : List (ℕ × ℕ)). WhereRoom s (HasReplacing s w c.args.pairs.now) (g.M.Memo.state c.args.memo.now) (λ ks. All (λ p. IsSettled s (g.M.Memo.state c.loop-pair.memo).kept w p.1) ps)) whole c.loop-pair.invariant.settled in
+    IfOk-weaker c.with.result _ _ (λ v h. there) c.with.ensures.list

@@ -1,0 +1,62 @@
+-- What is kept for longer where one question follows another over the same memory.
+use Rattle.std.proofs.Common.{◌≡◌, ◌≤◌, inl, inr, ℕ, Bool, true, false, List, All, refl, arith}
+use Rattle.std.proofs.lemmas.List.Elements.{All-weaker}
+use Rattle.wi_values.specs.declared.replacement.Replacement.{Replacement}
+use Rattle.wi_parser.specs.Sheet.{Sheet}
+use Rattle.wi_sheet.specs.Demand.{Case, reaching, with_what_if}
+use Rattle.wi_sheet.specs.Settled.{IsSettled, IsWhatIfSettled, RestsOnKept}
+use Rattle.wi_engine.specs.Inner.MemoState.{MemoState}
+use Rattle.wi_engine.specs.Inner.Saving.{WhereRoom, Saves, SavesAll, TakesNoMore}
+
+-- ---- with more that is kept, what was settled is, and what rested on kept values does
+
+module _ (s : Sheet) (kept more : ℕ → List Replacement → Bool) (grows : (c : ℕ) (w : List Replacement) → kept c w ≡ true → more c w ≡ true) where
+  pub settled_more : (w : List Replacement) (c : ℕ) → IsSettled s kept w c → IsSettled s more w c
+  settled_more w c (inl h) = inl h
+  settled_more w c (inr h) = inr (grows c (reaching s c w) h)
+
+  pub all_more : (w : List Replacement) (xs : List (ℕ × ℕ)) → All (λ p. IsSettled s kept w p.1) xs → All (λ p. IsSettled s more w p.1) xs
+  all_more w xs h = All-weaker (λ p. IsSettled s kept w p.1) (λ p. IsSettled s more w p.1) (λ p k. settled_more w p.1 k) xs h
+
+  pub what_if_more : (w : List Replacement) (x : ℕ × List (ℕ × ℕ)) → IsWhatIfSettled s kept w x → IsWhatIfSettled s more w x
+  what_if_more w x h = record { replacing = all_more w x.1 h.replacing; formula_cell = settled_more (with_what_if s w x.1) x.0 h.formula_cell }
+
+  pub rests_more : (k : Case) → RestsOnKept s kept k → RestsOnKept s more k
+  rests_more k h = λ t a i g. h t a i (record { cells = λ d r e. g.cells d r (settled_more k.1 d e); what_ifs = λ f ps m e. g.what_ifs f ps m (what_if_more k.1 (f, ps) e) })
+
+-- ---- one question after another
+
+pub saves_then : (s : Sheet) (old mid new : MemoState) (ks : List Case) (a b c : ℕ) → Saves s old mid ks a b → Saves s mid new ks b c → Saves s old new ks a c
+saves_then s old mid new ks a b c h k =
+    let x = h.counted in
+    let y = k.counted in
+    let u = h.added in
+    let v = k.added in
+    record {
+      counted = omega (arith, x, y);
+      added = omega (arith, u, v);
+      room = k.room;
+      stays = λ d w i. k.stays d w (h.stays d w i);
+      found = k.found;
+      rests = λ d w i o. before d w i o (mid.kept d w) refl;
+    }
+  where
+    before : (d : ℕ) (w : List Replacement) → new.kept d w ≡ true → old.kept d w ≡ false → (t : Bool) → mid.kept d w ≡ t → RestsOnKept s new.kept (d, w)
+    before d w i o true e = rests_more s mid.kept new.kept k.stays (d, w) (h.rests d w e o)
+    before d w i o false e = k.rests d w i e
+
+pub takes_then : (old mid new : MemoState) (a b c : ℕ) → TakesNoMore old mid a b → TakesNoMore mid new b c → b ≤ c → TakesNoMore old new a c
+takes_then old mid new a b c (inl h) (inl k) l = inl (omega (arith, h, k))
+takes_then old mid new a b c (inl h) (inr k) l = inr k
+takes_then old mid new a b c (inr h) k l = inr (omega (arith, h, l))
+
+-- where the first call has saved its cases, there is room for those of the second
+module _ (s : Sheet) (Both First Second : List Case → Type 0) (first : (ks : List Case) → Both ks → First ks) (second : (ks : List Case) → Both ks → Second ks) (old mid : MemoState) (a b : ℕ) (saved : SavesAll s First old mid a b) where
+  pub where_both : (P : List Case → Type 0) → WhereRoom s Second mid P → WhereRoom s Both old P
+  where_both P h = λ ks closed top whole room.
+      let one = saved ks closed (first ks top) whole room in
+      h ks closed (second ks top) one.found one.room
+
+  pub saves_both : (new : MemoState) (c : ℕ) → SavesAll s Second mid new b c → SavesAll s Both old new a c
+  saves_both new c h = λ ks closed top whole room.
+      saves_then s old mid new ks a b c (saved ks closed (first ks top) whole room) (where_both (λ ks. Saves s mid new ks b c) h ks closed top whole room)

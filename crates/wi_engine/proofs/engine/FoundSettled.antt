@@ -1,0 +1,183 @@
+-- What is found for a formula is settled, and so its value rests on kept ones.
+use Rattle.std.proofs.Common.{◌≡◌, ◌==◌, ◌&&◌, ◌⊎◌, inl, inr, ℕ, Bool, true, false, cond, List, [], Option, Some, None, IfSome, All, Contains, map, is_some, refl, ap, sym, ◌∙◌, subst}
+use Rattle.std.proofs.lemmas.Bool.{and_parts, or_cases}
+use Rattle.std.proofs.lemmas.List.Elements.{All-map}
+use Rattle.std.specs.Option.{option_or}
+use Rattle.std.specs.Ordering.{nat_cmp}
+use Rattle.std.specs.Map.{lookup}
+use Rattle.std.specs.BTreeMap.{is_at}
+use Rattle.wi_values.specs.declared.value.Value.{Value}
+use Rattle.wi_values.specs.declared.replacement.Replacement.{Replacement}
+use Rattle.wi_parser.specs.Tree.{Tree}
+use Rattle.wi_parser.specs.Reads.{reads}
+use Rattle.wi_parser.specs.Sheet.{Sheet, content_of, put_all, has_formula}
+use Rattle.wi_parser.specs.View.{pair_of}
+use Rattle.wi_parser.specs.declared.content.Content.{Content}
+use Rattle.wi_parser.specs.declared.content.Content.TheVariants.{Constant, Formula}
+use Rattle.wi_parser.specs.declared.expr.Pair.{Pair}
+use Rattle.wi_functions.specs.Assignment.{Assignment, AgreesWith}
+use Rattle.wi_functions.specs.Meaning.{meaning, zero_for_empty}
+use Rattle.wi_functions.specs.Meaning.{addresses}
+use Rattle.wi_functions.specs.declared.evaluation.Want.TheVariants as wanted
+use Rattle.wi_cache.specs.declared.key.Key.{Key}
+use Rattle.wi_graph.proofs.Walks.{same_cell}
+use Rattle.wi_sheet.specs.CellValue.{cell_value, what_if_value}
+use Rattle.wi_sheet.specs.Demand.{reaching, with_what_if, what_ifs_of}
+use Rattle.wi_sheet.specs.Settled.{IsSettled, IsWhatIfSettled, AgreesWhereSettled, RestsOnKept}
+use Rattle.wi_sheet.proofs.Members.{contains_in}
+use Rattle.wi_sheet.proofs.Demands.{same_tree}
+use Rattle.wi_sheet.proofs.Meanings.{meaning_same}
+use Rattle.wi_engine.specs.Inner.Findings.{same_pairs, pairs_of, first_for, cell_found, what_if_found, AreAllRight, IsWithCell, IsWithWhatIf}
+use Rattle.wi_engine.specs.Inner.Attempt.{AsksAt, known_in, cell_known}
+use Rattle.wi_engine.specs.Inner.SettledFrames.{AreFoundSettled, IsFrameSettled, IsValueByKnown}
+use Rattle.wi_engine.specs.Inner.MemoState.{MemoState, IsMemoOf}
+use Rattle.wi_engine.specs.Inner.Saving.{KeepsFound, NeedsNoEvaluation}
+use Rattle.wi_engine.specs.Inner.Frames.{case_at}
+use Rattle.wi_engine.specs.declared.frame.Frame.{Frame}
+use Rattle.wi_engine.specs.declared.findings.Findings.{Findings}
+use Rattle.wi_engine.specs.declared.findings.FoundWhatIf.{FoundWhatIf}
+use Rattle.wi_engine.proofs.Saved.{settled_more, what_if_more}
+use Rattle.wi_engine.proofs.engine.Resting.{asked_in}
+use Rattle.wi_engine.proofs.attempt.Attempting.{known_agrees}
+use Rattle.wi_engine.proofs.findings.FoundPairs.{same_lists, first_for-push}
+
+-- ---- a value that was found by what is settled rests on it
+
+-- the values of another assignment in what a tree reads, and those of the sheet elsewhere
+abbrev mixed : Sheet → Tree → Assignment → Assignment
+mixed s t a = record { cells = λ d. cond (reads t d) (a.cells d) (cell_value s d); what_ifs = a.what_ifs }
+
+same_meaning : (s : Sheet) (t : Tree) (a : Assignment) → meaning t (mixed s t a).cells (mixed s t a).what_ifs ≡ meaning t a.cells a.what_ifs
+same_meaning s t a = meaning_same t (mixed s t a).cells a.cells a.what_ifs a.what_ifs (λ d r. ap (λ (b : Bool). cond b (a.cells d) (cell_value s d)) r) (λ f ps i. refl)
+
+plain_in : (o : Option Content) (found : Option Value) (v : Value) → known_in o found ≡ Some v → (has_formula o ≡ false) ⊎ (found ≡ Some v)
+plain_in None found v h = inl refl
+plain_in (Some (Constant x)) found v h = inl refl
+plain_in (Some (Formula t)) found v h = inr h
+
+settled_known : (s : Sheet) (kept : ℕ → List Replacement → Bool) (w : List Replacement) (t : Tree) (f : Findings) (d : ℕ) (v : Value) → AreFoundSettled s kept w t f → cell_known s w f d ≡ Some v → IsSettled s kept w d
+settled_known s kept w t f d v h e = at (plain_in (content_of (put_all s w) d) (cell_found f d) v e)
+  where
+    at : (has_formula (content_of (put_all s w) d) ≡ false) ⊎ (cell_found f d ≡ Some v) → IsSettled s kept w d
+    at (inl k) = inl k
+    at (inr k) = subst (λ (o : Option Value). IfSome o (λ x. IsSettled s kept w d)) k (h.cells d)
+
+mixed_agrees : (s : Sheet) (kept : ℕ → List Replacement → Bool) (w : List Replacement) (t : Tree) (f : Findings) (a : Assignment) → AreAllRight (cell_value (put_all s w)) (what_if_value (put_all s w)) f → AreFoundSettled s kept w t f →
+    AgreesWhereSettled s kept w t a → AgreesWith (cell_known s w f) (what_if_found f) (mixed (put_all s w) t a)
+mixed_agrees s kept w t f a r h g = record {
+  cells = λ d. cell d (cell_known s w f d) refl ((known_agrees s w f r).cells d);
+  what_ifs = λ c ps. what c ps (what_if_found f c ps) (r.what_ifs c ps) (h.what_ifs c ps);
+}
+  where
+    read : (d : ℕ) (v : Value) → cell_known s w f d ≡ Some v → v ≡ cell_value (put_all s w) d → (b : Bool) → reads t d ≡ b → v ≡ cond b (a.cells d) (cell_value (put_all s w) d)
+    read d v e is true i = is ∙ sym (g.cells d i (settled_known s kept w t f d v h e))
+    read d v e is false i = is
+
+    cell : (d : ℕ) (o : Option Value) → cell_known s w f d ≡ o → IfSome o (λ v. v ≡ cell_value (put_all s w) d) → IfSome o (λ v. v ≡ cond (reads t d) (a.cells d) (cell_value (put_all s w) d))
+    cell d None e is = tt
+    cell d (Some v) e is = read d v e is (reads t d) refl
+
+    what : (c : ℕ) (ps : List (ℕ × ℕ)) (o : Option Value) → IfSome o (λ v. v ≡ what_if_value (put_all s w) c ps) → IfSome o (λ v. Contains (what_ifs_of t) (c, ps) × IsWhatIfSettled s kept w (c, ps)) → IfSome o (λ v. v ≡ a.what_ifs c ps)
+    what c ps None is k = tt
+    what c ps (Some v) is k = is ∙ sym (g.what_ifs c ps k.0 k.1)
+
+pub done_rests : (s : Sheet) (kept : ℕ → List Replacement → Bool) (w : List Replacement) (c : ℕ) (t : Tree) (f : Findings) (v : Value) → content_of (put_all s w) c ≡ Some (Formula t) → AreAllRight (cell_value (put_all s w)) (what_if_value (put_all s w)) f → AreFoundSettled s kept w t f →
+    v ≡ cell_value (put_all s w) c → ((a : Assignment) → AgreesWith (cell_known s w f) (what_if_found f) a → v ≡ zero_for_empty (meaning t a.cells a.what_ifs)) → RestsOnKept s kept (c, w)
+done_rests s kept w c t f v is r h e k u a i g =
+    let same = same_tree t u (content_of (put_all s w) c) is i in
+    let here : AgreesWhereSettled s kept w t a = subst (λ (x : Tree). AgreesWhereSettled s kept w x a) (sym same) g in
+    ap (λ (x : Tree). zero_for_empty (meaning x a.cells a.what_ifs)) (sym same) ∙ ap zero_for_empty (sym (same_meaning (put_all s w) t a)) ∙ sym (k (mixed (put_all s w) t a) (mixed_agrees s kept w t f a r h here)) ∙ e
+
+-- ---- with more that is kept, what was found is settled still
+
+module _ (s : Sheet) (kept more : ℕ → List Replacement → Bool) (grows : (c : ℕ) (w : List Replacement) → kept c w ≡ true → more c w ≡ true) where
+  pub found_more : (w : List Replacement) (t : Tree) (f : Findings) → AreFoundSettled s kept w t f → AreFoundSettled s more w t f
+  found_more w t f h = record { cells = λ d. cell d (cell_found f d) (h.cells d); what_ifs = λ c ps. what c ps (what_if_found f c ps) (h.what_ifs c ps) }
+    where
+      cell : (d : ℕ) (o : Option Value) → IfSome o (λ v. IsSettled s kept w d) → IfSome o (λ v. IsSettled s more w d)
+      cell d None k = tt
+      cell d (Some v) k = settled_more s kept more grows w d k
+
+      what : (c : ℕ) (ps : List (ℕ × ℕ)) (o : Option Value) → IfSome o (λ v. Contains (what_ifs_of t) (c, ps) × IsWhatIfSettled s kept w (c, ps)) → IfSome o (λ v. Contains (what_ifs_of t) (c, ps) × IsWhatIfSettled s more w (c, ps))
+      what c ps None k = tt
+      what c ps (Some v) k = (k.0, what_if_more s kept more grows w (c, ps) k.1)
+
+-- ---- with one value more
+
+module _ (s : Sheet) (kept : ℕ → List Replacement → Bool) (w : List Replacement) (t : Tree) where
+  pub settled_none : (f : Findings) → f.cells.entries ≡ [] → f.what_ifs.items ≡ [] → AreFoundSettled s kept w t f
+  settled_none f e h = record {
+    cells = λ c. subst (λ (o : Option Value). IfSome o (λ v. IsSettled s kept w c)) (sym (ap (λ (es : List (ℕ × Value)). lookup (is_at (nat_cmp c)) es) e)) tt;
+    what_ifs = λ c ps. subst (λ (o : Option Value). IfSome o (λ v. Contains (what_ifs_of t) (c, ps) × IsWhatIfSettled s kept w (c, ps))) (sym (ap (λ (fs : List FoundWhatIf). first_for fs c ps) h)) tt;
+  }
+
+  pub settled_cell : (f g : Findings) (a : ℕ) (v : Value) → IsWithCell f g a v → IsSettled s kept w a → AreFoundSettled s kept w t f → AreFoundSettled s kept w t g
+  settled_cell f g a v more e r = record {
+    cells = λ c. subst (λ (o : Option Value). IfSome o (λ x. IsSettled s kept w c)) (sym (more.cells c)) (at c (a == c) refl);
+    what_ifs = λ c ps. subst (λ (o : Option Value). IfSome o (λ x. Contains (what_ifs_of t) (c, ps) × IsWhatIfSettled s kept w (c, ps))) (sym (ap (λ (fs : List FoundWhatIf). first_for fs c ps) more.what_ifs)) (r.what_ifs c ps);
+  }
+    where
+      at : (c : ℕ) (b : Bool) → (a == c) ≡ b → IfSome (cond b (Some v) (cell_found f c)) (λ x. IsSettled s kept w c)
+      at c true h = subst (λ (d : ℕ). IsSettled s kept w d) (same_cell c a h) e
+      at c false h = r.cells c
+
+  pub settled_what_if : (f g : Findings) (x : FoundWhatIf) → IsWithWhatIf f g x → Contains (what_ifs_of t) (x.at, pairs_of x) → IsWhatIfSettled s kept w (x.at, pairs_of x) → AreFoundSettled s kept w t f → AreFoundSettled s kept w t g
+  settled_what_if f g x more i e r = record {
+    cells = λ c. subst (λ (o : Option Value). IfSome o (λ v. IsSettled s kept w c)) (sym (more.cells c)) (r.cells c);
+    what_ifs = λ c ps.
+        subst (λ (o : Option Value). IfSome o (λ v. Contains (what_ifs_of t) (c, ps) × IsWhatIfSettled s kept w (c, ps))) (sym (ap (λ (fs : List FoundWhatIf). first_for fs c ps) more.what_ifs ∙ first_for-push f.what_ifs.items x c ps))
+        (at c ps (first_for f.what_ifs.items c ps) (x.at == c && same_pairs (pairs_of x) ps) (r.what_ifs c ps) refl);
+  }
+    where
+      Both : ℕ × List (ℕ × ℕ) → Type 0
+      Both y = Contains (what_ifs_of t) y × IsWhatIfSettled s kept w y
+
+      at : (c : ℕ) (ps : List (ℕ × ℕ)) (o : Option Value) (b : Bool) → IfSome o (λ v. Contains (what_ifs_of t) (c, ps) × IsWhatIfSettled s kept w (c, ps)) → (x.at == c && same_pairs (pairs_of x) ps) ≡ b → IfSome (option_or o (cond b (Some x.value) None)) (λ v. Contains (what_ifs_of t) (c, ps) × IsWhatIfSettled s kept w (c, ps))
+      at c ps (Some y) b k h = k
+      at c ps None true k h =
+          let parts = and_parts (x.at == c) _ h in
+          let key : (x.at, pairs_of x) ≡ (c, ps) = ap (λ (n : ℕ). (n, pairs_of x)) (same_cell c x.at parts.0) ∙ ap (λ (qs : List (ℕ × ℕ)). (c, qs)) (same_lists (pairs_of x) ps parts.1) in
+          subst Both key (i, e)
+      at c ps None false k h = tt
+
+-- ---- in a frame
+
+pub settled_now : (s : Sheet) (m n : MemoState) (w : List Replacement) (a : ℕ) → IsMemoOf s m → n ≡ m → KeepsFound m → NeedsNoEvaluation s n w a → IsSettled s m.kept w a
+settled_now s m n w a h e whole (inl k) = inl k
+settled_now s m n w a h e whole (inr k) = inr (at (or_cases (m.found a (reaching s a w)) (m.kept a (reaching s a w)) (sym (h.told a (reaching s a w)) ∙ ap (λ (x : MemoState). is_some (x.known a (reaching s a w))) (sym e) ∙ k)))
+  where
+    at : (m.found a (reaching s a w) ≡ true) ⊎ (m.kept a (reaching s a w) ≡ true) → m.kept a (reaching s a w) ≡ true
+    at (inl j) = whole a (reaching s a w) j
+    at (inr j) = j
+
+pub frame_cell : (s : Sheet) (kept : ℕ → List Replacement → Bool) (f : Frame) (g : Findings) (a : ℕ) (v : Value) → IsWithCell f.found g a v → IsSettled s kept f.key.world a → IsFrameSettled s kept f →
+    (t : Tree) → content_of (put_all s f.key.world) f.key.cell ≡ Some (Formula t) → AreFoundSettled s kept f.key.world t g
+frame_cell s kept f g a v more i h t k = settled_cell s kept f.key.world t f.found g a v more i (h t k)
+
+inputs_settled : (s : Sheet) (kept : ℕ → List Replacement → Bool) (w : List Replacement) (ps : List Pair) → All (λ p. IsSettled s kept w p.replacement.at) ps → All (λ p. IsSettled s kept w p.1) (map addresses (map pair_of ps))
+inputs_settled s kept w ps h = All-map (λ p. IsSettled s kept w p.1) addresses (map pair_of ps) (All-map (λ p. IsSettled s kept w (addresses p).1) pair_of ps h)
+
+pub frame_what_if : (s : Sheet) (kept : ℕ → List Replacement → Bool) (f : Frame) (g : Findings) (x : FoundWhatIf) (world : List Replacement) (ps : List Pair) → IsWithWhatIf f.found g x → AsksAt s f.key.world f.key.cell (wanted.WhatIf x.at x.pairs) → ps ≡ x.pairs.items →
+    world ≡ with_what_if s f.key.world (map addresses (map pair_of ps)) → All (λ p. IsSettled s kept f.key.world p.replacement.at) ps → IsSettled s kept world x.at → IsFrameSettled s kept f →
+    (t : Tree) → content_of (put_all s f.key.world) f.key.cell ≡ Some (Formula t) → AreFoundSettled s kept f.key.world t g
+frame_what_if s kept f g x world ps more asks ep ew inputs inner h t k =
+    let same = same_tree asks.tree t (content_of (put_all s f.key.world) f.key.cell) asks.is k in
+    let there : Contains (what_ifs_of t) (x.at, pairs_of x) = subst (λ (u : Tree). Contains (what_ifs_of u) (x.at, pairs_of x)) same (contains_in (what_ifs_of asks.tree) (x.at, pairs_of x) (asked_in asks.tree x.at x.pairs asks.asks)) in
+    let all : All (λ p. IsSettled s kept f.key.world p.1) (pairs_of x) = inputs_settled s kept f.key.world x.pairs.items (subst (λ (qs : List Pair). All (λ p. IsSettled s kept f.key.world p.replacement.at) qs) ep inputs) in
+    let under : world ≡ with_what_if s f.key.world (pairs_of x) = ew ∙ ap (λ (qs : List Pair). with_what_if s f.key.world (map addresses (map pair_of qs))) ep in
+    let cell : IsSettled s kept (with_what_if s f.key.world (pairs_of x)) x.at = subst (λ (v : List Replacement). IsSettled s kept v x.at) under inner in
+    settled_what_if s kept f.key.world t f.found g x more there (record { replacing = all; formula_cell = cell }) (h t k)
+
+-- a frame that is done rests on kept values
+pub frame_rests : (s : Sheet) (kept : ℕ → List Replacement → Bool) (f : Frame) (v : Value) → AreAllRight (cell_value (put_all s f.key.world)) (what_if_value (put_all s f.key.world)) f.found → IsFrameSettled s kept f → v ≡ cell_value (put_all s f.key.world) f.key.cell →
+    IsValueByKnown s f.key.world f.key.cell f.found v → RestsOnKept s kept (case_at f.key)
+frame_rests s kept f v r h e k t a i g = done_rests s kept f.key.world f.key.cell t f.found v i r (h t i) e (λ b j. k t b i j) t a i g
+
+pub round_settled : (s : Sheet) (m n : MemoState) (f g h : Frame) → n ≡ m → (KeepsFound m → IsFrameSettled s m.kept f → IsFrameSettled s m.kept g) → (KeepsFound n → IsFrameSettled s n.kept g → IsFrameSettled s n.kept h) → KeepsFound m → IsFrameSettled s m.kept f → IsFrameSettled s m.kept h
+round_settled s m n f g h e first next whole k =
+    let there : KeepsFound m → IsFrameSettled s m.kept g → IsFrameSettled s m.kept h = subst (λ (x : MemoState). KeepsFound x → IsFrameSettled s x.kept g → IsFrameSettled s x.kept h) e next in
+    there whole (first whole k)
+
+pub done_settled : (s : Sheet) (m : MemoState) (f h : Frame) (v : Value) → h.key ≡ f.key → AreAllRight (cell_value (put_all s h.key.world)) (what_if_value (put_all s h.key.world)) h.found → v ≡ cell_value (put_all s h.key.world) h.key.cell → IsValueByKnown s h.key.world h.key.cell h.found v →
+    (KeepsFound m → IsFrameSettled s m.kept f → IsFrameSettled s m.kept h) → KeepsFound m → IsFrameSettled s m.kept f → RestsOnKept s m.kept (case_at f.key)
+done_settled s m f h v e r is all grows whole k = subst (λ (x : Key). RestsOnKept s m.kept (case_at x)) e (frame_rests s m.kept h v r (grows whole k) is all)

@@ -1,0 +1,80 @@
+-- What comes to be kept in a run of frames rests on kept values.
+use Rattle.std.proofs.Common.{◌≡◌, ◌⊎◌, inl, inr, ◌||◌, ℕ, Bool, true, false, List, [], ◌∷◌, ◌++◌, sym, ◌∙◌, subst}
+use Rattle.std.proofs.lemmas.Bool.{or_cases, or_left, true≢false}
+use Rattle.wi_values.specs.declared.replacement.Replacement.{Replacement}
+use Rattle.wi_parser.specs.Sheet.{Sheet}
+use Rattle.wi_cache.specs.declared.key.Key.{Key}
+use Rattle.wi_sheet.specs.Demand.{Case, same_case}
+use Rattle.wi_sheet.specs.Settled.{RestsOnKept}
+use Rattle.wi_sheet.proofs.Cases.{one_case}
+use Rattle.wi_engine.specs.Inner.MemoState.{MemoState}
+use Rattle.wi_engine.specs.Inner.SettledFrames.{IsFrameSettled}
+use Rattle.wi_engine.specs.declared.frame.Frame.{Frame}
+use Rattle.wi_engine.proofs.engine.Running.{IsNew}
+use Rattle.wi_engine.proofs.Saved.{rests_more}
+use Rattle.wi_engine.proofs.engine.FoundSettled.{settled_none, found_more}
+
+abbrev pub AreFramesSettled : Sheet → (ℕ → List Replacement → Bool) → List Frame → Type 0
+AreFramesSettled s kept [] = Unit {0}
+AreFramesSettled s kept (f ∷ fs) = IsFrameSettled s kept f × AreFramesSettled s kept fs
+
+-- what came to be kept rests on kept values, and so will what the frames find
+pub record IsSettling (s : Sheet) (old m : MemoState) (fs : List Frame) (f : Frame) : Type 0 where
+  pub top : IsFrameSettled s m.kept f
+  pub below : AreFramesSettled s m.kept fs
+  pub rests : (c : ℕ) (w : List Replacement) → m.kept c w ≡ true → old.kept c w ≡ false → RestsOnKept s m.kept (c, w)
+
+new_settled : (s : Sheet) (kept : ℕ → List Replacement → Bool) (f : Frame) (k : Key) → IsNew f k → IsFrameSettled s kept f
+new_settled s kept f k n t e = settled_none s kept f.key.world t f.found n.cells n.what_ifs
+
+pub settling_start : (s : Sheet) (m : MemoState) (fs : List Frame) (f : Frame) (k : Key) → IsNew f k → fs ≡ [] → IsSettling s m m fs f
+settling_start s m fs f k n e = record {
+  top = new_settled s m.kept f k n;
+  below = rw e tt;
+  rests = λ c w h g. absurd (true≢false (sym h ∙ g));
+}
+
+one_more : (s : Sheet) (kept : ℕ → List Replacement → Bool) (fs : List Frame) (f : Frame) → AreFramesSettled s kept fs → IsFrameSettled s kept f → AreFramesSettled s kept (fs ++ f ∷ [])
+one_more s kept [] f h k = (k, tt)
+one_more s kept (g ∷ fs) f h k = (h.0, one_more s kept fs f h.1 k)
+
+pub settling_push : (s : Sheet) (old m n : MemoState) (fs gs : List Frame) (f h g : Frame) (k : Key) → IsSettling s old m fs f → n ≡ m → IsFrameSettled s m.kept h → IsNew g k → gs ≡ fs ++ h ∷ [] → IsSettling s old n gs g
+settling_push s old m n fs gs f h g k i e settled new there = subst (λ (x : MemoState). IsSettling s old x gs g) (sym e) (record {
+  top = new_settled s m.kept g k new;
+  below = rw there (one_more s m.kept fs h i.below settled);
+  rests = i.rests;
+})
+
+last_one : (s : Sheet) (kept : ℕ → List Replacement → Bool) (fs : List Frame) (f : Frame) → AreFramesSettled s kept (fs ++ f ∷ []) → AreFramesSettled s kept fs × IsFrameSettled s kept f
+last_one s kept [] f h = (tt, h.0)
+last_one s kept (g ∷ fs) f h = let i = last_one s kept fs f h.1 in ((h.0, i.0), i.1)
+
+module _ (s : Sheet) (m n : MemoState) (k : Case) (finds : (c : ℕ) (w : List Replacement) → n.kept c w ≡ (m.kept c w || same_case k (c, w))) where
+  grows : (c : ℕ) (w : List Replacement) → m.kept c w ≡ true → n.kept c w ≡ true
+  grows c w h = finds c w ∙ or_left (m.kept c w) _ h
+
+  frame_more : (f : Frame) → IsFrameSettled s m.kept f → IsFrameSettled s n.kept f
+  frame_more f h t e = found_more s m.kept n.kept grows f.key.world t f.found (h t e)
+
+  frames_more : (fs : List Frame) → AreFramesSettled s m.kept fs → AreFramesSettled s n.kept fs
+  frames_more [] h = tt
+  frames_more (f ∷ fs) h = (frame_more f h.0, frames_more fs h.1)
+
+  -- with one case more, which rests on kept values
+  pub rests_after : (old : MemoState) → RestsOnKept s m.kept k → ((c : ℕ) (w : List Replacement) → m.kept c w ≡ true → old.kept c w ≡ false → RestsOnKept s m.kept (c, w)) →
+      (c : ℕ) (w : List Replacement) → n.kept c w ≡ true → old.kept c w ≡ false → RestsOnKept s n.kept (c, w)
+  rests_after old r h c w i o = rests_more s m.kept n.kept grows (c, w) (at (or_cases (m.kept c w) (same_case k (c, w)) (sym (finds c w) ∙ i)))
+    where
+      at : (m.kept c w ≡ true) ⊎ (same_case k (c, w) ≡ true) → RestsOnKept s m.kept (c, w)
+      at (inl j) = h c w j o
+      at (inr j) = subst (λ (x : Case). RestsOnKept s m.kept x) (one_case k (c, w) j) r
+
+  pub settling_pop : (old : MemoState) (fs gs : List Frame) (f b : Frame) → IsSettling s old m gs f → gs ≡ fs ++ b ∷ [] → RestsOnKept s m.kept k → IsSettling s old n fs b
+  settling_pop old fs gs f b i e r =
+      let below : AreFramesSettled s m.kept (fs ++ b ∷ []) = subst (λ (xs : List Frame). AreFramesSettled s m.kept xs) e i.below in
+      let parts = last_one s m.kept fs b below in
+      record {
+        top = frame_more b parts.1;
+        below = frames_more fs parts.0;
+        rests = rests_after old r i.rests;
+      }

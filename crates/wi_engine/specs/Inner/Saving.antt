@@ -1,0 +1,52 @@
+-- What comes to be kept for longer while there is room.
+use Rattle.std.specs.Prelude.{◌≡◌, ◌⊎◌, ◌+◌, ◌-◌, ◌^◌, ◌≤◌, ℕ, true, false, List, is_some}
+use Rattle.wi_values.specs.declared.replacement.Replacement.{Replacement}
+use Rattle.wi_parser.specs.Sheet.{Sheet, content_of, put_all, has_formula}
+use Rattle.wi_sheet.specs.Demand.{Case, reaching}
+use Rattle.wi_sheet.specs.Settled.{RestsOnKept}
+use Rattle.wi_sheet.specs.Inner.Spending.{IsClosed, left}
+use Rattle.wi_engine.specs.Inner.MemoState.{MemoState}
+
+-- how many of these cases are not kept
+abbrev pub unkept : MemoState → List Case → ℕ
+unkept m ks = left (λ k. 1) m.kept ks
+
+-- all that was found is kept
+abbrev pub KeepsFound : MemoState → Type 0
+KeepsFound m = (c : ℕ) (w : List Replacement) → m.found c w ≡ true → m.kept c w ≡ true
+
+-- This holds of each closed list of cases that has what it is to have, where all that was found is kept and there is room
+-- for those of the list that are not.
+abbrev pub WhereRoom : Sheet → (List Case → Type 0) → MemoState → (List Case → Type 0) → Type 0
+WhereRoom s Has m P = (ks : List Case) → IsClosed s ks → Has ks → KeepsFound m → unkept m ks ≤ m.room → P ks
+
+-- for each such list no more was counted than its cases that were not kept
+abbrev pub CountsUnkept : Sheet → (List Case → Type 0) → MemoState → ℕ → ℕ → Type 0
+CountsUnkept s Has old before after = WhereRoom s Has old (λ ks. after ≤ before + unkept old ks)
+
+-- No more was counted than those of the cases that came to be kept, and as many values came to be kept as were counted. There
+-- is still room for the other cases, nothing was given up, and each that came rests on kept ones.
+pub record Saves (s : Sheet) (old new : MemoState) (ks : List Case) (before after : ℕ) : Type 0 where
+  pub counted : after + unkept new ks ≤ before + unkept old ks
+  pub added : after + new.room ≤ before + old.room
+  pub room : unkept new ks ≤ new.room
+  pub stays : (c : ℕ) (w : List Replacement) → old.kept c w ≡ true → new.kept c w ≡ true
+  pub found : KeepsFound new
+  pub rests : (c : ℕ) (w : List Replacement) → new.kept c w ≡ true → old.kept c w ≡ false → RestsOnKept s new.kept (c, w)
+
+-- so for each such list
+abbrev pub SavesAll : Sheet → (List Case → Type 0) → MemoState → MemoState → ℕ → ℕ → Type 0
+SavesAll s Has old new before after = WhereRoom s Has old (λ ks. Saves s old new ks before after)
+
+-- no more values came to be kept than were counted, short of the greatest count
+abbrev pub TakesNoMore : MemoState → MemoState → ℕ → ℕ → Type 0
+TakesNoMore old new before after = (old.room + before ≤ new.room + after) ⊎ (2 ^ 64 - 1 ≤ after)
+
+-- a cell's value needs no evaluation: it has no formula under the replacements, or its value is remembered
+abbrev pub NeedsNoEvaluation : Sheet → MemoState → List Replacement → ℕ → Type 0
+NeedsNoEvaluation s m w a = (has_formula (content_of (put_all s w) a) ≡ false) ⊎ (is_some (m.known a (reaching s a w)) ≡ true)
+
+-- a cell has a formula under the replacements, and no value was found for it since this was made
+pub record IsValuedAnew (s : Sheet) (m : MemoState) (w : List Replacement) (a : ℕ) : Type 0 where
+  pub formula : has_formula (content_of (put_all s w) a) ≡ true
+  pub unfound : m.found a (reaching s a w) ≡ false
