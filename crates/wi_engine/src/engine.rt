@@ -17,12 +17,12 @@ ghost use Rattle.wi_engine.specs.Inner.Attempt.{AsksAt, IsLacking, lacks_cell};
 ghost use Rattle.wi_engine.specs.Inner.Frames.{MayBeRead, IsToValue, IsUnvalued, AreReadHere, Awaits, IsFrame, IsNext, case_at, spare, waits};
 ghost use Rattle.wi_engine.specs.Inner.SettledFrames.{IsFrameSettled};
 ghost use Rattle.wi_engine.specs.Inner.Saving.{KeepsFound, WhereRoom, CountsUnkept, SavesAll, TakesNoMore, NeedsNoEvaluation, IsValuedAnew};
-ghost use Rattle.wi_engine.specs.Inner.Steps.{IfKnown, IfUnknown, IfReplaced, IfInputUnknown, IfDone, IfNeeds, evaluations_after};
+ghost use Rattle.wi_engine.specs.Inner.Steps.{IfKnown, IfUnknown, IfReplaced, IfInputUnknown, IfValued, IfNeedsKey, evaluations_after};
 ghost use Rattle.wi_engine.specs.declared.frame.Waiting.TheVariants as waiting;
 
 use crate::attempt::{attempt, together};
 use crate::findings::FoundWhatIf;
-use crate::frame::{Asked, Frame, Inputs, Step, Waiting};
+use crate::frame::{Advance, Asked, Frame, Inputs, Waiting};
 use crate::memo::Memo;
 use crate::seen::{Seen, content_in, formula_at};
 use std::alloc::{AllocError, Global};
@@ -249,15 +249,15 @@ fn advance<M: Memo>(
     frame: &mut Frame,
     memo: &mut M,
     meter: &mut Meter,
-) -> Result<Step, AllocError>
+) -> Result<Advance, AllocError>
     requires memo { IsMemoOf store.now.sheet (M.state memo.old) }
     requires frame { IsFrame store.now.sheet (M.state memo.old) frame.old }
     ensures key { frame.new.key ≡ frame.old.key }
     ensures frame { OnOk result (IsFrame store.now.sheet (M.state memo.old) frame.new) }
-    ensures done { IfOk result (λ s. IfDone s (λ v. v ≡ show.cell_value (put_all store.now.sheet frame.old.key.world) frame.old.key.cell)) }
-    ensures next { IfOk result (λ s. IfNeeds s (IsNext store.now.sheet (M.state memo.old) frame.old.key)) }
+    ensures done { IfOk result (λ s. IfValued s (λ v. v ≡ show.cell_value (put_all store.now.sheet frame.old.key.world) frame.old.key.cell)) }
+    ensures next { IfOk result (λ s. IfNeedsKey s (IsNext store.now.sheet (M.state memo.old) frame.old.key)) }
     ensures found { OnOk result (KeepsFound (M.state memo.old) → IsFrameSettled store.now.sheet (M.state memo.old).kept frame.old → IsFrameSettled store.now.sheet (M.state memo.old).kept frame.new) }
-    ensures rests { IfOk result (λ s. IfDone s (λ _. KeepsFound (M.state memo.old) → IsFrameSettled store.now.sheet (M.state memo.old).kept frame.old → RestsOnKept store.now.sheet (M.state memo.old).kept (case_at frame.old.key))) }
+    ensures rests { IfOk result (λ s. IfValued s (λ _. KeepsFound (M.state memo.old) → IsFrameSettled store.now.sheet (M.state memo.old).kept frame.old → RestsOnKept store.now.sheet (M.state memo.old).kept (case_at frame.old.key))) }
     ensures evaluations { IfOk result (λ s. meter.new.evaluations ≡ evaluations_after s meter.old.evaluations) }
     ensures restarts { OnOk result (meter.new.restarts + spare store.now.sheet frame.new ≤ meter.old.restarts + spare store.now.sheet frame.old) }
     ensures err_evaluations { OnErr result (meter.new.evaluations ≡ meter.old.evaluations) }
@@ -267,7 +267,7 @@ fn advance<M: Memo>(
 {
     'rounds: loop {
         if let Some(key) = settle(alloc, store, frame, memo)? {
-            return Ok(Step::Needs(key));
+            return Ok(Advance::Needs(key));
         }
         match attempt(
             alloc,
@@ -277,7 +277,7 @@ fn advance<M: Memo>(
             &frame.found,
             meter,
         )? {
-            Outcome::Done(value) => return Ok(Step::Done(value)),
+            Outcome::Done(value) => return Ok(Advance::Done(value)),
             Outcome::Needs(want) => frame.waiting = awaited(store, frame, want)?,
         }
     }
@@ -322,11 +322,11 @@ fn run<M: Memo>(
     let mut frame = Frame::new(alloc, key);
     'frames: loop {
         match advance(alloc, store, &mut frame, memo, meter)? {
-            Step::Needs(next) => {
+            Advance::Needs(next) => {
                 stack.push(frame)?;
                 frame = Frame::new(alloc, next);
             }
-            Step::Done(value) => match stack.pop() {
+            Advance::Done(value) => match stack.pop() {
                 None => {
                     let shown = value.copy(alloc)?;
                     memo.keep(frame.into_key(), value)?;

@@ -69,7 +69,7 @@ pub enum Inputs {
 
 /// How far a frame has come.
 #[derive(Drop)]
-pub enum Step {
+pub enum Advance {
     Done(Value),
     /// The key under which a formula has to be valued first.
     Needs(Key),

@@ -11,7 +11,7 @@ ghost use Rattle.wi_graph.specs.Circular as cycles;
 ghost use Rattle.wi_graph.specs.Reach.{is_one_of, Reaches};
 ghost use Rattle.wi_engine.specs.Inner.ReadOrder.{IsReadOrder};
 ghost use Rattle.wi_engine.specs.Inner.Walk.{IsBelow, Enter, GoesOn, HasCycle, begun, tasks_in, tasks_left, unread};
-ghost use Rattle.wi_engine.specs.declared.walk.Mark.TheVariants.{Open, Done};
+ghost use Rattle.wi_engine.specs.declared.walk.Progress.TheVariants.{Open, Done};
 
 use crate::occupied::next_within;
 use crate::seen::formula_at;
@@ -32,7 +32,7 @@ struct Visit {
 
 /// How far a cell has come.
 #[derive(Clone, Copy)]
-enum Mark {
+enum Progress {
     /// It is on the path.
     Open,
     /// It stands in the order.
@@ -44,7 +44,7 @@ enum Mark {
 struct Walk {
     // Each cell of it is read by the one before.
     path: Vec<Visit>,
-    marks: BTreeMap<Address, Mark>,
+    progress: BTreeMap<Address, Progress>,
     order: Vec<Address>,
 }
 
@@ -79,7 +79,7 @@ pub fn reached_from(
 {
     let mut walk = Walk {
         path: Vec::new(alloc),
-        marks: BTreeMap::new(alloc),
+        progress: BTreeMap::new(alloc),
         order: Vec::new(alloc),
     };
     for cell in cells {
@@ -94,8 +94,8 @@ impl Walk {
     /// Walks from a cell on to all that it reaches. Answers whether it came upon a cycle.
     fn meets_cycle(&mut self, store: &Store, root: Address) -> Result<bool, AllocError>
         requires { self.old.path.items ≡ [] }
-        ensures cycle { IfOk result (λ b. OnTrue b (HasCycle store.now.sheet (Enter root ∷ []) self.old.marks self.old.order.items)) }
-        ensures walk { IfOk result (λ b. OnFalse b (GoesOn store.now.sheet (Enter root ∷ []) self.old.marks self.old.order.items [] self.new.marks self.new.order.items)) }
+        ensures cycle { IfOk result (λ b. OnTrue b (HasCycle store.now.sheet (Enter root ∷ []) self.old.progress self.old.order.items)) }
+        ensures walk { IfOk result (λ b. OnFalse b (GoesOn store.now.sheet (Enter root ∷ []) self.old.progress self.old.order.items [] self.new.progress self.new.order.items)) }
         ensures path { IfOk result (λ b. OnFalse b (self.new.path.items ≡ [])) }
     {
         if self.enter(store, root)? {
@@ -112,9 +112,9 @@ impl Walk {
     /// Goes on from the last cell of the path, which was taken off: to the next cell that it reads, or back. Answers whether
     /// that closes a cycle.
     fn go_on(&mut self, store: &Store, visit: Visit) -> Result<bool, AllocError>
-        ensures cycle { IfOk result (λ b. OnTrue b (HasCycle store.now.sheet (tasks_in store.now.sheet (self.old.path.items ++ visit ∷ [])) self.old.marks self.old.order.items)) }
-        ensures walk { IfOk result (λ b. OnFalse b (GoesOn store.now.sheet (tasks_in store.now.sheet (self.old.path.items ++ visit ∷ [])) self.old.marks self.old.order.items (tasks_in store.now.sheet self.new.path.items) self.new.marks self.new.order.items)) }
-        ensures less { OnOk result (tasks_left store.now.sheet self.new.marks (tasks_in store.now.sheet self.new.path.items) < tasks_left store.now.sheet self.old.marks (tasks_in store.now.sheet (self.old.path.items ++ visit ∷ []))) }
+        ensures cycle { IfOk result (λ b. OnTrue b (HasCycle store.now.sheet (tasks_in store.now.sheet (self.old.path.items ++ visit ∷ [])) self.old.progress self.old.order.items)) }
+        ensures walk { IfOk result (λ b. OnFalse b (GoesOn store.now.sheet (tasks_in store.now.sheet (self.old.path.items ++ visit ∷ [])) self.old.progress self.old.order.items (tasks_in store.now.sheet self.new.path.items) self.new.progress self.new.order.items)) }
+        ensures less { OnOk result (tasks_left store.now.sheet self.new.progress (tasks_in store.now.sheet self.new.path.items) < tasks_left store.now.sheet self.old.progress (tasks_in store.now.sheet (self.old.path.items ++ visit ∷ []))) }
     {
         let current = visit.cell;
         match visit.next(store) {
@@ -131,13 +131,13 @@ impl Walk {
 
     /// Goes into a cell that the last one of the path reads. Answers whether it is on the path: then it is on a cycle.
     fn enter(&mut self, store: &Store, cell: Address) -> Result<bool, AllocError>
-        ensures cycle { IfOk result (λ b. OnTrue b (HasCycle store.now.sheet (tasks_in store.now.sheet self.old.path.items ++ Enter cell ∷ []) self.old.marks self.old.order.items)) }
-        ensures walk { IfOk result (λ b. OnFalse b (GoesOn store.now.sheet (tasks_in store.now.sheet self.old.path.items ++ Enter cell ∷ []) self.old.marks self.old.order.items (tasks_in store.now.sheet self.new.path.items) self.new.marks self.new.order.items)) }
-        ensures less { OnOk result (tasks_left store.now.sheet self.new.marks (tasks_in store.now.sheet self.new.path.items) ≤ tasks_left store.now.sheet self.old.marks (tasks_in store.now.sheet self.old.path.items)) }
+        ensures cycle { IfOk result (λ b. OnTrue b (HasCycle store.now.sheet (tasks_in store.now.sheet self.old.path.items ++ Enter cell ∷ []) self.old.progress self.old.order.items)) }
+        ensures walk { IfOk result (λ b. OnFalse b (GoesOn store.now.sheet (tasks_in store.now.sheet self.old.path.items ++ Enter cell ∷ []) self.old.progress self.old.order.items (tasks_in store.now.sheet self.new.path.items) self.new.progress self.new.order.items)) }
+        ensures less { OnOk result (tasks_left store.now.sheet self.new.progress (tasks_in store.now.sheet self.new.path.items) ≤ tasks_left store.now.sheet self.old.progress (tasks_in store.now.sheet self.old.path.items)) }
     {
-        match self.marks.get(&cell) {
-            Some(Mark::Open) => Ok(true),
-            Some(Mark::Done) => Ok(false),
+        match self.progress.get(&cell) {
+            Some(Progress::Open) => Ok(true),
+            Some(Progress::Done) => Ok(false),
             None => {
                 self.visit(store, cell)?;
                 Ok(false)
@@ -149,9 +149,9 @@ impl Walk {
     fn leave(&mut self, cell: Address) -> Result<(), AllocError>
         ensures path { self.new.path.items ≡ self.old.path.items }
         ensures order { OnOk result (self.new.order.items ≡ self.old.order.items ++ cell ∷ []) }
-        ensures marks { OnOk result (Updates nat_cmp self.old.marks self.new.marks cell (Some Done)) }
+        ensures progress { OnOk result (Updates nat_cmp self.old.progress self.new.progress cell (Some Done)) }
     {
-        self.marks.insert(cell, Mark::Done)?;
+        self.progress.insert(cell, Progress::Done)?;
         self.order.push(cell)?;
         Ok(())
     }
@@ -159,14 +159,14 @@ impl Walk {
     /// Looks at a cell. Where it has a formula, it comes onto the path.
     fn visit(&mut self, store: &Store, cell: Address) -> Result<(), AllocError>
         ensures order { self.new.order.items ≡ self.old.order.items }
-        ensures plain { has_formula (content_of store.now.sheet cell) ≡ false → (self.new.path.items ≡ self.old.path.items) × (self.new.marks ≡ self.old.marks) }
+        ensures plain { has_formula (content_of store.now.sheet cell) ≡ false → (self.new.path.items ≡ self.old.path.items) × (self.new.progress ≡ self.old.progress) }
         ensures path { OnOk result (has_formula (content_of store.now.sheet cell) ≡ true → self.new.path.items ≡ self.old.path.items ++ begun cell ∷ []) }
-        ensures marks { OnOk result (has_formula (content_of store.now.sheet cell) ≡ true → Updates nat_cmp self.old.marks self.new.marks cell (Some Open)) }
+        ensures progress { OnOk result (has_formula (content_of store.now.sheet cell) ≡ true → Updates nat_cmp self.old.progress self.new.progress cell (Some Open)) }
     {
         if formula_at(store, cell).is_none() {
             return Ok(());
         }
-        self.marks.insert(cell, Mark::Open)?;
+        self.progress.insert(cell, Progress::Open)?;
         self.path.push(Visit {
             cell,
             rectangle: 0,

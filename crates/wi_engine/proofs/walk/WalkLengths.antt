@@ -10,8 +10,8 @@ use Rattle.wi_graph.specs.Reach.{is_one_of}
 use Rattle.wi_graph.proofs.Walks.{same_cell, formula_cell}
 use Rattle.wi_engine.specs.Inner.Walk.{Task, Enter, Leave, enters, tasks_of, tasks_left}
 use Rattle.wi_engine.specs.Inner.ReadCells.{rectangles_in, occupied_within}
-use Rattle.wi_engine.specs.declared.walk.Mark.TheVariants.{Open}
-use Rattle.wi_engine.specs.declared.walk.Mark.{Mark}
+use Rattle.wi_engine.specs.declared.walk.Progress.TheVariants.{Open}
+use Rattle.wi_engine.specs.declared.walk.Progress.{Progress}
 
 -- one of them that comes to nothing
 sums_less : (f g : ℕ → ℕ) → ((x : ℕ) → g x ≤ f x) → (a : ℕ) → g a ≡ 0 → (xs : List ℕ) → is_one_of xs a ≡ true → sum_by g xs + f a ≤ sum_by f xs
@@ -25,11 +25,11 @@ sums_less f g l a z (x ∷ xs) m = at (or_cases (x == a) _ m) (sums_less f g l a
         omega (arith, sum_by-le-sum_by g f xs l)
     at (inr k) ih u v = omega (arith, l x, ih k)
 
-module _ (s : Sheet) (old new : BTreeMap ℕ Mark) (c : ℕ) (mark : Mark) (u : (q : ℕ) → get nat_cmp new q ≡ cond (is_at (nat_cmp c) q) (Some mark) (get nat_cmp old q)) where
+module _ (s : Sheet) (old new : BTreeMap ℕ Progress) (c : ℕ) (state : Progress) (u : (q : ℕ) → get nat_cmp new q ≡ cond (is_at (nat_cmp c) q) (Some state) (get nat_cmp old q)) where
   fewer_tasks : (q : ℕ) → tasks_of s new q ≤ tasks_of s old q
   fewer_tasks q = at (is_at (nat_cmp c) q) (get nat_cmp old q) (get nat_cmp new q) (u q)
     where
-      at : (b : Bool) (o n : Option Mark) → n ≡ cond b (Some mark) o → (if is_some n then 0 else length (occupied_within s (rectangles_in (content_of s q))) + 1) ≤ (if is_some o then 0 else length (occupied_within s (rectangles_in (content_of s q))) + 1)
+      at : (b : Bool) (o n : Option Progress) → n ≡ cond b (Some state) o → (if is_some n then 0 else length (occupied_within s (rectangles_in (content_of s q))) + 1) ≤ (if is_some o then 0 else length (occupied_within s (rectangles_in (content_of s q))) + 1)
       at true o n e = rw e (omega arith)
       at false o n e = rw e (omega arith)
 
@@ -42,7 +42,7 @@ module _ (s : Sheet) (old new : BTreeMap ℕ Mark) (c : ℕ) (mark : Mark) (u : 
   no_tasks : tasks_of s new c ≡ 0
   no_tasks = at (is_at (nat_cmp c) c) (get nat_cmp old c) (get nat_cmp new c) (grind (arith, nat_tests)) (u c)
     where
-      at : (b : Bool) (o n : Option Mark) → b ≡ true → n ≡ cond b (Some mark) o → (if is_some n then 0 else length (occupied_within s (rectangles_in (content_of s c))) + 1) ≡ 0
+      at : (b : Bool) (o n : Option Progress) → b ≡ true → n ≡ cond b (Some state) o → (if is_some n then 0 else length (occupied_within s (rectangles_in (content_of s c))) + 1) ≡ 0
       at true o n t e = rw e refl
       at false o n t e = cc
 
@@ -50,7 +50,7 @@ module _ (s : Sheet) (old new : BTreeMap ℕ Mark) (c : ℕ) (mark : Mark) (u : 
   less-entered ts f n =
       let cells = occupied_within s (rectangles_in (content_of s c)) in
       let less = sums_less (tasks_of s old) (tasks_of s new) fewer_tasks c no_tasks (cells_with_formula s) (formula_cell s c f) in
-      let brought : tasks_of s old c ≡ length cells + 1 = ap (λ (o : Option Mark). if is_some o then 0 else length cells + 1) n in
+      let brought : tasks_of s old c ≡ length cells + 1 = ap (λ (o : Option Progress). if is_some o then 0 else length cells + 1) n in
       let long = length-append ts (Leave c ∷ enters cells) in
       let same = entered_length cells in
       omega arith
@@ -60,10 +60,10 @@ module _ (s : Sheet) (old new : BTreeMap ℕ Mark) (c : ℕ) (mark : Mark) (u : 
       entered_length (x ∷ xs) = omega (arith, length-append (enters xs) (Enter x ∷ []), entered_length xs)
 
 -- a cell that is looked at for the first time: it has a formula or none
-pub less-taken : (s : Sheet) (old new : BTreeMap ℕ Mark) (c : ℕ) (ts more : List Task) → get nat_cmp old c ≡ None → (has_formula (content_of s c) ≡ false → (more ≡ ts) × (new ≡ old)) →
+pub less-taken : (s : Sheet) (old new : BTreeMap ℕ Progress) (c : ℕ) (ts more : List Task) → get nat_cmp old c ≡ None → (has_formula (content_of s c) ≡ false → (more ≡ ts) × (new ≡ old)) →
     (has_formula (content_of s c) ≡ true → more ≡ ts ++ Leave c ∷ enters (occupied_within s (rectangles_in (content_of s c)))) → (has_formula (content_of s c) ≡ true → Updates nat_cmp old new c (Some Open)) → tasks_left s new more ≤ tasks_left s old ts
-less-taken s old new c ts more n plain tasks marks = at (has_formula (content_of s c)) refl
+less-taken s old new c ts more n plain tasks progress = at (has_formula (content_of s c)) refl
   where
     at : (b : Bool) → has_formula (content_of s c) ≡ b → tasks_left s new more ≤ tasks_left s old ts
-    at true f = rw (tasks f) (less-entered s old new c Open (marks f).0 ts f n)
+    at true f = rw (tasks f) (less-entered s old new c Open (progress f).0 ts f n)
     at false f = rw ((plain f).0, (plain f).1) (omega arith)

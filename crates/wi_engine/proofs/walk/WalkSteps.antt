@@ -16,9 +16,9 @@ use Rattle.wi_graph.proofs.Ends.{ends_open}
 use Rattle.wi_graph.proofs.Tests.{is_at-eq}
 use Rattle.wi_engine.specs.Inner.ReadCells.{rectangles_in, occupied_within}
 use Rattle.wi_engine.specs.Inner.ReadOrder.{MayFollow}
-use Rattle.wi_engine.specs.Inner.Walk.{Task, Enter, Leave, enters, cell_of, leaves, has_task, has_leave, LeadsTo, IsOpen, EachLeave, mark_of, IsWalk, IsBelow}
-use Rattle.wi_engine.specs.declared.walk.Mark.{Mark}
-use Rattle.wi_engine.specs.declared.walk.Mark.TheVariants.{Open, Done}
+use Rattle.wi_engine.specs.Inner.Walk.{Task, Enter, Leave, enters, cell_of, leaves, has_task, has_leave, LeadsTo, IsOpen, EachLeave, progress_of, IsWalk, IsBelow}
+use Rattle.wi_engine.specs.declared.walk.Progress.{Progress}
+use Rattle.wi_engine.specs.declared.walk.Progress.TheVariants.{Open, Done}
 use Rattle.wi_engine.proofs.walk.Loops.{loop_circular, reaches_circular, reaches-step}
 use Rattle.wi_engine.proofs.occupied.ReadLists.{occupied_read, read_occupied}
 use Rattle.wi_engine.proofs.walk.ReadOrders.{order-push, order_clear, no_order}
@@ -75,9 +75,9 @@ some_circular s (x ∷ xs) c m h = at (or_cases (x == c) _ m) (some_circular s x
     at (inr k) ih = or_right (circular s x) _ (ih k h)
 
 -- a cell that is to be entered and still to be left leads to itself
-pub walk-cycle : (s : Sheet) (roots : List ℕ) (c : ℕ) (ts : List Task) (marks : BTreeMap ℕ Mark) (order : List ℕ) → IsWalk s roots (ts ++ Enter c ∷ []) marks order → get nat_cmp marks c ≡ Some Open → list_any (circular s) roots ≡ true
-walk-cycle s roots c ts marks order w m =
-    let left = some_leave (IsOpen s order) (Enter c) c ts w.waiting (is_open (is_one_of order c) (has_leave (ts ++ Enter c ∷ []) c) (leave_parts ts (Enter c ∷ []) c) (sym (w.marked c) ∙ m)) in
+pub walk-cycle : (s : Sheet) (roots : List ℕ) (c : ℕ) (ts : List Task) (progress : BTreeMap ℕ Progress) (order : List ℕ) → IsWalk s roots (ts ++ Enter c ∷ []) progress order → get nat_cmp progress c ≡ Some Open → list_any (circular s) roots ≡ true
+walk-cycle s roots c ts progress order w m =
+    let left = some_leave (IsOpen s order) (Enter c) c ts w.waiting (is_open (is_one_of order c) (has_leave (ts ++ Enter c ∷ []) c) (leave_parts ts (Enter c ∷ []) c) (sym (w.progressed c) ∙ m)) in
     let loop = left.1.leads c (task_back left.0 (Enter c ∷ []) c (is_of_one (Enter c))) in
     let from = w.reached c (task_back ts (Enter c ∷ []) c (is_of_one (Enter c))) in
     some_circular s roots from.0 from.1 (reaches_circular s from.0 c from.2 (loop_circular s c loop))
@@ -122,19 +122,19 @@ waiting-passed s c order p [] e = tt
 waiting-passed s c order p (Enter a ∷ ts) e = waiting-passed s c order p ts e
 waiting-passed s c order p (Leave a ∷ ts) e = (open-passed s c order p a ts e.0, waiting-passed s c order p ts e.1)
 
-pub walk-passed : (s : Sheet) (roots : List ℕ) (c : ℕ) (ts : List Task) (marks : BTreeMap ℕ Mark) (order : List ℕ) → IsWalk s roots (ts ++ Enter c ∷ []) marks order → (has_formula (content_of s c) ≡ true → is_one_of order c ≡ true) → IsWalk s roots ts marks order
-walk-passed s roots c ts marks order w p = record {
+pub walk-passed : (s : Sheet) (roots : List ℕ) (c : ℕ) (ts : List Task) (progress : BTreeMap ℕ Progress) (order : List ℕ) → IsWalk s roots (ts ++ Enter c ∷ []) progress order → (has_formula (content_of s c) ≡ true → is_one_of order c ≡ true) → IsWalk s roots ts progress order
+walk-passed s roots c ts progress order w p = record {
   waiting = waiting-passed s c order p ts w.waiting;
-  marked = λ a. w.marked a ∙ ap (λ (b : Bool). if is_one_of order a then Some Done else (if b then Some Open else None)) (leave_parts ts (Enter c ∷ []) a ∙ or-false (has_leave ts a));
+  progressed = λ a. w.progressed a ∙ ap (λ (b : Bool). if is_one_of order a then Some Done else (if b then Some Open else None)) (leave_parts ts (Enter c ∷ []) a ∙ or-false (has_leave ts a));
   ordered = w.ordered;
   reached = λ d h. w.reached d (task_front ts (Enter c ∷ []) d h);
   below = w.below;
   rooted = λ r m f. without_passed s c order p ts r f (w.rooted r m f);
 }
 
--- a cell whose mark says so stands in the order
-pub done_ordered : (ts : List Task) (order : List ℕ) (c : ℕ) (marks : BTreeMap ℕ Mark) → get nat_cmp marks c ≡ mark_of ts order c → get nat_cmp marks c ≡ Some Done → is_one_of order c ≡ true
-done_ordered ts order c marks m h = at (is_one_of order c) (has_leave ts c) refl (sym m ∙ h)
+-- a cell whose state says so stands in the order
+pub done_ordered : (ts : List Task) (order : List ℕ) (c : ℕ) (progress : BTreeMap ℕ Progress) → get nat_cmp progress c ≡ progress_of ts order c → get nat_cmp progress c ≡ Some Done → is_one_of order c ≡ true
+done_ordered ts order c progress m h = at (is_one_of order c) (has_leave ts c) refl (sym m ∙ h)
   where
     at : (b d : Bool) → is_one_of order c ≡ b → (if b then Some Done else (if d then Some Open else None)) ≡ Some Done → is_one_of order c ≡ true
     at true d e h = e
@@ -191,23 +191,23 @@ waiting-left s c order (Leave a ∷ ts) e = (open-left s c order a ts e.0, waiti
 may_follow : (s : Sheet) (order : List ℕ) (c : ℕ) → IsOpen s order c [] → MayFollow s order c
 may_follow s order c o = record { formula = o.formula; reads = λ d r f. sym (or-false (is_one_of order d)) ∙ o.reads d r f; once = o.fresh }
 
-mark_left : (i o h b d l : Bool) → i ≡ b → o ≡ (d || b) → h ≡ (l || (b || false)) →
+state_left : (i o h b d l : Bool) → i ≡ b → o ≡ (d || b) → h ≡ (l || (b || false)) →
     cond i (Some Done) (if d then Some Done else (if h then Some Open else None)) ≡ (if o then Some Done else (if l then Some Open else None))
-mark_left i o h true true l e f g = rw (e, f) refl
-mark_left i o h true false l e f g = rw (e, f) refl
-mark_left i o h false true l e f g = rw (e, f) refl
-mark_left i o h false false true e f g = rw (e, f, g) refl
-mark_left i o h false false false e f g = rw (e, f, g) refl
+state_left i o h true true l e f g = rw (e, f) refl
+state_left i o h true false l e f g = rw (e, f) refl
+state_left i o h false true l e f g = rw (e, f) refl
+state_left i o h false false true e f g = rw (e, f, g) refl
+state_left i o h false false false e f g = rw (e, f, g) refl
 
-marks-left : (ts : List Task) (order : List ℕ) (c a : ℕ) → cond (is_at (nat_cmp c) a) (Some Done) (mark_of (ts ++ Leave c ∷ []) order a) ≡ mark_of ts (order ++ c ∷ []) a
-marks-left ts order c a =
-    mark_left (is_at (nat_cmp c) a) (is_one_of (order ++ c ∷ []) a) (has_leave (ts ++ Leave c ∷ []) a) (c == a) (is_one_of order a) (has_leave ts a) (is_at-eq c a) (order_parts order c a) (leave_parts ts (Leave c ∷ []) a)
+progress-left : (ts : List Task) (order : List ℕ) (c a : ℕ) → cond (is_at (nat_cmp c) a) (Some Done) (progress_of (ts ++ Leave c ∷ []) order a) ≡ progress_of ts (order ++ c ∷ []) a
+progress-left ts order c a =
+    state_left (is_at (nat_cmp c) a) (is_one_of (order ++ c ∷ []) a) (has_leave (ts ++ Leave c ∷ []) a) (c == a) (is_one_of order a) (has_leave ts a) (is_at-eq c a) (order_parts order c a) (leave_parts ts (Leave c ∷ []) a)
 
-pub walk-left : (s : Sheet) (roots : List ℕ) (c : ℕ) (ts : List Task) (old new : BTreeMap ℕ Mark) (order : List ℕ) → IsWalk s roots (ts ++ Leave c ∷ []) old order →
+pub walk-left : (s : Sheet) (roots : List ℕ) (c : ℕ) (ts : List Task) (old new : BTreeMap ℕ Progress) (order : List ℕ) → IsWalk s roots (ts ++ Leave c ∷ []) old order →
     ((q : ℕ) → get nat_cmp new q ≡ cond (is_at (nat_cmp c) q) (Some Done) (get nat_cmp old q)) → IsWalk s roots ts new (order ++ c ∷ [])
 walk-left s roots c ts old new order w u = record {
   waiting = waiting-left s c order ts w.waiting;
-  marked = λ a. u a ∙ ap (λ (m : Option Mark). cond (is_at (nat_cmp c) a) (Some Done) m) (w.marked a) ∙ marks-left ts order c a;
+  progressed = λ a. u a ∙ ap (λ (m : Option Progress). cond (is_at (nat_cmp c) a) (Some Done) m) (w.progressed a) ∙ progress-left ts order c a;
   ordered = order-push s order c w.ordered (may_follow s order c (last_leave (IsOpen s order) c ts w.waiting));
   reached = λ d h. w.reached d (task_front ts (Leave c ∷ []) d h);
   below = λ d h. below d (or_cases (is_one_of order d) _ (sym (order_parts order c d) ∙ h));
@@ -295,37 +295,37 @@ waiting-entered s c order cells r o (Leave a ∷ ts) n e =
     let parts = or_parts (a == c) _ n in
     (open-entered s c order cells r a ts parts.0 e.0, waiting-entered s c order cells r o ts parts.1 e.1)
 
-mark_entered : (i h k b d l : Bool) → i ≡ b → (b ≡ true → d ≡ false) → h ≡ (l || false) → k ≡ (l || (b || false)) →
+state_entered : (i h k b d l : Bool) → i ≡ b → (b ≡ true → d ≡ false) → h ≡ (l || false) → k ≡ (l || (b || false)) →
     cond i (Some Open) (if d then Some Done else (if h then Some Open else None)) ≡ (if d then Some Done else (if k then Some Open else None))
-mark_entered i h k true true l e f g j = let z = f refl in cc
-mark_entered i h k true false true e f g j = rw (e, j) refl
-mark_entered i h k true false false e f g j = rw (e, j) refl
-mark_entered i h k false true l e f g j = rw e refl
-mark_entered i h k false false true e f g j = rw (e, g, j) refl
-mark_entered i h k false false false e f g j = rw (e, g, j) refl
+state_entered i h k true true l e f g j = let z = f refl in cc
+state_entered i h k true false true e f g j = rw (e, j) refl
+state_entered i h k true false false e f g j = rw (e, j) refl
+state_entered i h k false true l e f g j = rw e refl
+state_entered i h k false false true e f g j = rw (e, g, j) refl
+state_entered i h k false false false e f g j = rw (e, g, j) refl
 
-marks-entered : (ts : List Task) (order cells : List ℕ) (c a : ℕ) → is_one_of order c ≡ false → cond (is_at (nat_cmp c) a) (Some Open) (mark_of (ts ++ Enter c ∷ []) order a) ≡ mark_of (ts ++ Leave c ∷ enters cells) order a
-marks-entered ts order cells c a f =
-    mark_entered (is_at (nat_cmp c) a) (has_leave (ts ++ Enter c ∷ []) a) (has_leave (ts ++ Leave c ∷ enters cells) a) (c == a) (is_one_of order a) (has_leave ts a)
+progress-entered : (ts : List Task) (order cells : List ℕ) (c a : ℕ) → is_one_of order c ≡ false → cond (is_at (nat_cmp c) a) (Some Open) (progress_of (ts ++ Enter c ∷ []) order a) ≡ progress_of (ts ++ Leave c ∷ enters cells) order a
+progress-entered ts order cells c a f =
+    state_entered (is_at (nat_cmp c) a) (has_leave (ts ++ Enter c ∷ []) a) (has_leave (ts ++ Leave c ∷ enters cells) a) (c == a) (is_one_of order a) (has_leave ts a)
     (is_at-eq c a)
     (λ k. ap (is_one_of order) (sym (same_cell a c k)) ∙ f)
     (leave_parts ts (Enter c ∷ []) a)
     (leave_parts ts (Leave c ∷ enters cells) a ∙ ap (λ (b : Bool). has_leave ts a || ((c == a) || b)) (entered_leave cells a))
 
--- a cell without a mark is neither in the order nor to be left
-unmarked : (ts : List Task) (order : List ℕ) (c : ℕ) → mark_of ts order c ≡ None → (is_one_of order c ≡ false) × (has_leave ts c ≡ false)
-unmarked ts order c h = at (is_one_of order c) (has_leave ts c) refl refl h
+-- a cell without a state is neither in the order nor to be left
+unseen : (ts : List Task) (order : List ℕ) (c : ℕ) → progress_of ts order c ≡ None → (is_one_of order c ≡ false) × (has_leave ts c ≡ false)
+unseen ts order c h = at (is_one_of order c) (has_leave ts c) refl refl h
   where
     at : (b d : Bool) → is_one_of order c ≡ b → has_leave ts c ≡ d → (if b then Some Done else (if d then Some Open else None)) ≡ None → (is_one_of order c ≡ false) × (has_leave ts c ≡ false)
     at true d e f h = cc
     at false true e f h = cc
     at false false e f h = (e, f)
 
-pub walk-entered : (s : Sheet) (roots : List ℕ) (c : ℕ) (ts : List Task) (old new : BTreeMap ℕ Mark) (order : List ℕ) → IsWalk s roots (ts ++ Enter c ∷ []) old order → has_formula (content_of s c) ≡ true → get nat_cmp old c ≡ None →
+pub walk-entered : (s : Sheet) (roots : List ℕ) (c : ℕ) (ts : List Task) (old new : BTreeMap ℕ Progress) (order : List ℕ) → IsWalk s roots (ts ++ Enter c ∷ []) old order → has_formula (content_of s c) ≡ true → get nat_cmp old c ≡ None →
     ((q : ℕ) → get nat_cmp new q ≡ cond (is_at (nat_cmp c) q) (Some Open) (get nat_cmp old q)) → IsWalk s roots (ts ++ Leave c ∷ enters (occupied_within s (rectangles_in (content_of s c)))) new order
 walk-entered s roots c ts old new order w f n u =
     let cells = occupied_within s (rectangles_in (content_of s c)) in
-    let none = unmarked (ts ++ Enter c ∷ []) order c (sym (w.marked c) ∙ n) in
+    let none = unseen (ts ++ Enter c ∷ []) order c (sym (w.progressed c) ∙ n) in
     let unleft = sym (leave_parts ts (Enter c ∷ []) c ∙ or-false (has_leave ts c)) ∙ none.1 in
     let here : IsOpen s order c (enters cells) = record {
       formula = f;
@@ -336,7 +336,7 @@ walk-entered s roots c ts old new order w f n u =
     } in
     record {
       waiting = waiting-entered s c order cells (occupied_read s (content_of s c)) here ts unleft w.waiting;
-      marked = λ a. u a ∙ ap (λ (m : Option Mark). cond (is_at (nat_cmp c) a) (Some Open) m) (w.marked a) ∙ marks-entered ts order cells c a none.0;
+      progressed = λ a. u a ∙ ap (λ (m : Option Progress). cond (is_at (nat_cmp c) a) (Some Open) m) (w.progressed a) ∙ progress-entered ts order cells c a none.0;
       ordered = w.ordered;
       reached = λ d h. reached d (entered_cases ts c cells d h);
       below = w.below;
@@ -352,12 +352,12 @@ walk-entered s roots c ts old new order w f n u =
     reached d (inr (inr k)) = (here.0, here.1, reaches-step s here.0 c d here.2 (occupied_read s (content_of s c) d k))
 
 -- a cell that is looked at for the first time: it has a formula or none
-pub walk-taken : (s : Sheet) (roots : List ℕ) (c : ℕ) (ts more : List Task) (old new : BTreeMap ℕ Mark) (order : List ℕ) → IsWalk s roots (ts ++ Enter c ∷ []) old order → get nat_cmp old c ≡ None → (has_formula (content_of s c) ≡ false → (more ≡ ts) × (new ≡ old)) →
+pub walk-taken : (s : Sheet) (roots : List ℕ) (c : ℕ) (ts more : List Task) (old new : BTreeMap ℕ Progress) (order : List ℕ) → IsWalk s roots (ts ++ Enter c ∷ []) old order → get nat_cmp old c ≡ None → (has_formula (content_of s c) ≡ false → (more ≡ ts) × (new ≡ old)) →
     (has_formula (content_of s c) ≡ true → more ≡ ts ++ Leave c ∷ enters (occupied_within s (rectangles_in (content_of s c)))) → (has_formula (content_of s c) ≡ true → Updates nat_cmp old new c (Some Open)) → IsWalk s roots more new order
-walk-taken s roots c ts more old new order w n plain tasks marks = at (has_formula (content_of s c)) refl
+walk-taken s roots c ts more old new order w n plain tasks progress = at (has_formula (content_of s c)) refl
   where
     at : (b : Bool) → has_formula (content_of s c) ≡ b → IsWalk s roots more new order
-    at true f = rw (tasks f) (walk-entered s roots c ts old new order w f n (marks f).0)
+    at true f = rw (tasks f) (walk-entered s roots c ts old new order w f n (progress f).0)
     at false f = rw ((plain f).0, (plain f).1) (walk-passed s roots c ts old order w (λ g. let z = f in cc))
 
 -- what is below a single root
@@ -379,24 +379,24 @@ none_circular s (x ∷ xs) h =
     or_false_from false d h k = k
 
 -- a walk with nothing before it has met no cycle
-pub walk-ended : (s : Sheet) (roots : List ℕ) (ts : List Task) (marks : BTreeMap ℕ Mark) (order : List ℕ) → IsWalk s roots ts marks order → length ts ≡ 0 → list_any (circular s) roots ≡ false
-walk-ended s roots [] marks order w z = none_circular s roots (λ c m. at c m (has_formula (content_of s c)) refl)
+pub walk-ended : (s : Sheet) (roots : List ℕ) (ts : List Task) (progress : BTreeMap ℕ Progress) (order : List ℕ) → IsWalk s roots ts progress order → length ts ≡ 0 → list_any (circular s) roots ≡ false
+walk-ended s roots [] progress order w z = none_circular s roots (λ c m. at c m (has_formula (content_of s c)) refl)
   where
     at : (c : ℕ) → is_one_of roots c ≡ true → (b : Bool) → has_formula (content_of s c) ≡ b → circular s c ≡ false
     at c m true f = order_clear s order w.ordered c (sym (or-false (is_one_of order c)) ∙ w.rooted c m f)
     at c m false f = ends_open 0 s c f
-walk-ended s roots (t ∷ ts) marks order w z = absurd (omega arith)
+walk-ended s roots (t ∷ ts) progress order w z = absurd (omega arith)
 
 -- a walk that is to enter each of its roots, with nothing behind it
-pub walk-begun : (s : Sheet) (roots : List ℕ) (marks : BTreeMap ℕ Mark) → IsEmpty marks → IsWalk s roots (enters roots) marks []
-walk-begun s roots marks n = record {
+pub walk-begun : (s : Sheet) (roots : List ℕ) (progress : BTreeMap ℕ Progress) → IsEmpty progress → IsWalk s roots (enters roots) progress []
+walk-begun s roots progress n = record {
   waiting = entered_waiting (IsOpen s []) roots;
-  marked = λ c. no_mark c ∙ ap (λ (b : Bool). if b then Some Open else None) (sym (entered_leave roots c));
+  progressed = λ c. no_state c ∙ ap (λ (b : Bool). if b then Some Open else None) (sym (entered_leave roots c));
   ordered = no_order s;
   reached = λ d h. (d, sym (entered_task roots d) ∙ h, (0, refl));
   below = λ d h. cc;
   rooted = λ r m f. entered_task roots r ∙ m;
 }
   where
-    no_mark : (c : ℕ) → get nat_cmp marks c ≡ None
-    no_mark c = rw n refl
+    no_state : (c : ℕ) → get nat_cmp progress c ≡ None
+    no_state c = rw n refl

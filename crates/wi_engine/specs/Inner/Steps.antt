@@ -6,7 +6,7 @@ use Rattle.wi_functions.specs.Counts.{one_more}
 use Rattle.wi_cache.specs.declared.key.Key.{Key}
 use Rattle.wi_engine.specs.declared.frame.Asked as asked
 use Rattle.wi_engine.specs.declared.frame.Inputs as inputs
-use Rattle.wi_engine.specs.declared.frame.Step as step
+use Rattle.wi_engine.specs.declared.frame.Advance as advance
 
 -- a fact of a value that is there
 abbrev pub IfKnown : asked.Asked → (Value → Type 0) → Type 0
@@ -29,16 +29,16 @@ IfInputUnknown (inputs.TheVariants.Known w) P = Unit {0}
 IfInputUnknown (inputs.TheVariants.Unknown k) P = P k
 
 -- a fact of a frame's value
-abbrev pub IfDone : step.Step → (Value → Type 0) → Type 0
-IfDone (step.TheVariants.Done v) P = P v
-IfDone (step.TheVariants.Needs k) P = Unit {0}
+abbrev pub IfValued : advance.Advance → (Value → Type 0) → Type 0
+IfValued (advance.TheVariants.Done v) P = P v
+IfValued (advance.TheVariants.Needs k) P = Unit {0}
 
 -- a fact of a key that a frame needs
-abbrev pub IfNeeds : step.Step → (Key → Type 0) → Type 0
-IfNeeds (step.TheVariants.Done v) P = Unit {0}
-IfNeeds (step.TheVariants.Needs k) P = P k
+abbrev pub IfNeedsKey : advance.Advance → (Key → Type 0) → Type 0
+IfNeedsKey (advance.TheVariants.Done v) P = Unit {0}
+IfNeedsKey (advance.TheVariants.Needs k) P = P k
 
 -- an evaluation that is done counts one
-abbrev pub evaluations_after : step.Step → ℕ → ℕ
-evaluations_after (step.TheVariants.Done v) n = one_more n
-evaluations_after (step.TheVariants.Needs k) n = n
+abbrev pub evaluations_after : advance.Advance → ℕ → ℕ
+evaluations_after (advance.TheVariants.Done v) n = one_more n
+evaluations_after (advance.TheVariants.Needs k) n = n

@@ -10,8 +10,8 @@ use Rattle.wi_graph.specs.Circular.{circular}
 use Rattle.wi_graph.specs.Reach.{is_one_of, Reaches}
 use Rattle.wi_engine.specs.Inner.ReadCells.{rectangles_in, occupied_within, cells_after}
 use Rattle.wi_engine.specs.Inner.ReadOrder.{IsReadOrder}
-use Rattle.wi_engine.specs.declared.walk.Mark.{Mark}
-use Rattle.wi_engine.specs.declared.walk.Mark.TheVariants.{Open, Done}
+use Rattle.wi_engine.specs.declared.walk.Progress.{Progress}
+use Rattle.wi_engine.specs.declared.walk.Progress.TheVariants.{Open, Done}
 use Rattle.wi_engine.specs.declared.walk.Visit.{Visit}
 
 -- what is to be done with a cell: to look at it, or to put it into the order
@@ -53,29 +53,29 @@ EachLeave P [] = Unit {0}
 EachLeave P (Enter c ∷ ts) = EachLeave P ts
 EachLeave P (Leave c ∷ ts) = P c ts × EachLeave P ts
 
-abbrev pub mark_of : List Task → List ℕ → ℕ → Option Mark
-mark_of ts order c = if is_one_of order c then Some Done else (if has_leave ts c then Some Open else None)
+abbrev pub progress_of : List Task → List ℕ → ℕ → Option Progress
+progress_of ts order c = if is_one_of order c then Some Done else (if has_leave ts c then Some Open else None)
 
 -- one of the roots reaches d
 abbrev pub IsBelow : Sheet → List ℕ → ℕ → Type 0
 IsBelow s roots d = (root : ℕ) × (is_one_of roots root ≡ true) × Reaches s root d
 
 -- a walk from the roots that has these tasks before it, and this order behind it
-pub record IsWalk (s : Sheet) (roots : List ℕ) (ts : List Task) (marks : BTreeMap ℕ Mark) (order : List ℕ) : Type 0 where
+pub record IsWalk (s : Sheet) (roots : List ℕ) (ts : List Task) (progress : BTreeMap ℕ Progress) (order : List ℕ) : Type 0 where
   pub waiting : EachLeave (IsOpen s order) ts
-  pub marked : (c : ℕ) → get nat_cmp marks c ≡ mark_of ts order c
+  pub progressed : (c : ℕ) → get nat_cmp progress c ≡ progress_of ts order c
   pub ordered : IsReadOrder s order
   pub reached : (d : ℕ) → has_task ts d ≡ true → IsBelow s roots d
   pub below : (d : ℕ) → is_one_of order d ≡ true → IsBelow s roots d
   pub rooted : (root : ℕ) → is_one_of roots root ≡ true → has_formula (content_of s root) ≡ true → (is_one_of order root || has_task ts root) ≡ true
 
--- how many tasks a cell that has no mark brings
-abbrev pub tasks_of : Sheet → BTreeMap ℕ Mark → ℕ → ℕ
-tasks_of s marks c = if is_some (get nat_cmp marks c) then 0 else length (occupied_within s (rectangles_in (content_of s c))) + 1
+-- how many tasks a cell brings to which the walk has not come
+abbrev pub tasks_of : Sheet → BTreeMap ℕ Progress → ℕ → ℕ
+tasks_of s progress c = if is_some (get nat_cmp progress c) then 0 else length (occupied_within s (rectangles_in (content_of s c))) + 1
 
 -- how many tasks are still to be done, at the most
-abbrev pub tasks_left : Sheet → BTreeMap ℕ Mark → List Task → ℕ
-tasks_left s marks ts = length ts + sum_by (tasks_of s marks) (cells_with_formula s)
+abbrev pub tasks_left : Sheet → BTreeMap ℕ Progress → List Task → ℕ
+tasks_left s progress ts = length ts + sum_by (tasks_of s progress) (cells_with_formula s)
 
 -- ---- the tasks that a path stands for
 
@@ -103,10 +103,10 @@ tasks_at s v = Leave v.cell ∷ enters (unread s v)
 abbrev pub tasks_in : Sheet → List Visit → List Task
 tasks_in s path = flat_map (tasks_at s) path
 
--- in each walk these last tasks, marks and order may give way to those
-abbrev pub GoesOn : Sheet → List Task → BTreeMap ℕ Mark → List ℕ → List Task → BTreeMap ℕ Mark → List ℕ → Type 0
-GoesOn s ts marks order us new_marks new_order = (roots : List ℕ) (front : List Task) → IsWalk s roots (front ++ ts) marks order → IsWalk s roots (front ++ us) new_marks new_order
+-- in each walk these last tasks, progress and order may give way to those
+abbrev pub GoesOn : Sheet → List Task → BTreeMap ℕ Progress → List ℕ → List Task → BTreeMap ℕ Progress → List ℕ → Type 0
+GoesOn s ts progress order us new_progress new_order = (roots : List ℕ) (front : List Task) → IsWalk s roots (front ++ ts) progress order → IsWalk s roots (front ++ us) new_progress new_order
 
--- a walk with these last tasks, marks and order has a circular root
-abbrev pub HasCycle : Sheet → List Task → BTreeMap ℕ Mark → List ℕ → Type 0
-HasCycle s ts marks order = (roots : List ℕ) (front : List Task) → IsWalk s roots (front ++ ts) marks order → list_any (circular s) roots ≡ true
+-- a walk with these last tasks, progress and order has a circular root
+abbrev pub HasCycle : Sheet → List Task → BTreeMap ℕ Progress → List ℕ → Type 0
+HasCycle s ts progress order = (roots : List ℕ) (front : List Task) → IsWalk s roots (front ++ ts) progress order → list_any (circular s) roots ≡ true

@@ -16,11 +16,11 @@ loop-cell-preserved c =
     let walk = rw c.if-branch.false at c.in_ok-meets_cycle.ensures.walk in
     let path = rw c.if-branch.false at c.in_ok-meets_cycle.ensures.path in
     let one : suc i ≡ i + 1 = omega arith in
-    (subst (λ (n : ℕ). IsWalk s cells (enters (drop n cells)) c.meets_cycle.new.self.marks c.meets_cycle.new.self.order.items) one (root-walked s cells i c.cell-item.result c.loop-cell.walk.marks c.meets_cycle.new.self.marks c.loop-cell.walk.order.items c.meets_cycle.new.self.order.items c.loop-cell-test.true c.cell-item.is c.loop-cell.invariant.0 walk), path)
+    (subst (λ (n : ℕ). IsWalk s cells (enters (drop n cells)) c.meets_cycle.new.self.progress c.meets_cycle.new.self.order.items) one (root-walked s cells i c.cell-item.result c.loop-cell.walk.progress c.meets_cycle.new.self.progress c.loop-cell.walk.order.items c.meets_cycle.new.self.order.items c.loop-cell-test.true c.cell-item.is c.loop-cell.invariant.0 walk), path)
 
 pub returns-clause-circular : goal.returns-clause-circular
 returns-clause-circular c =
     let s = c.args.store.now.sheet in
     let cells = c.args.cells.now in
     let none : drop c.loop-cell.cell-index cells ≡ [] = drop_all c.loop-cell.cell-index cells (omega (arith, c.loop-cell-test.false)) in
-    sym (walk-ended s cells (enters (drop c.loop-cell.cell-index cells)) c.loop-cell.walk.marks c.loop-cell.walk.order.items c.loop-cell.invariant.0 (ap (λ (xs : List ℕ). length (enters xs)) none))
+    sym (walk-ended s cells (enters (drop c.loop-cell.cell-index cells)) c.loop-cell.walk.progress c.loop-cell.walk.order.items c.loop-cell.invariant.0 (ap (λ (xs : List ℕ). length (enters xs)) none))

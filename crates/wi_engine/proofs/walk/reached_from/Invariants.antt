@@ -3,4 +3,4 @@ use Rattle.wi_engine.specs.Inner.Walk.{IsWalk, enters}
 use Rattle.wi_engine.proofs.walk.reached_from.Given as goal
 
 abbrev pub invariant-loop-cell : goal.invariant-loop-cell
-invariant-loop-cell l = IsWalk l.store.sheet l.cells (enters (drop l.cell-index l.cells)) l.walk.marks l.walk.order.items × (l.walk.path.items ≡ [])
+invariant-loop-cell l = IsWalk l.store.sheet l.cells (enters (drop l.cell-index l.cells)) l.walk.progress l.walk.order.items × (l.walk.path.items ≡ [])

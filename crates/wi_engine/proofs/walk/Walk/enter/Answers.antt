@@ -2,8 +2,8 @@ use Rattle.std.proofs.Common.{◌≡◌, Some, sym, ap, ◌∙◌}
 use Rattle.std.specs.Ordering.{nat_cmp}
 use Rattle.std.specs.BTreeMap.{get}
 use Rattle.wi_engine.specs.Inner.Walk.{tasks_in}
-use Rattle.wi_engine.specs.declared.walk.Mark.TheVariants.{Open, Done}
-use Rattle.wi_engine.specs.declared.walk.Mark.{Mark}
+use Rattle.wi_engine.specs.declared.walk.Progress.TheVariants.{Open, Done}
+use Rattle.wi_engine.specs.declared.walk.Progress.{Progress}
 use Rattle.wi_engine.proofs.walk.Cursors.{path-begun}
 use Rattle.wi_engine.proofs.walk.PathSteps.{path-cycle, path-passed, path-taken}
 use Rattle.wi_engine.proofs.walk.WalkLengths.{less-taken}
@@ -11,13 +11,13 @@ use Rattle.wi_engine.proofs.walk.Walk.enter.Goals as goal
 
 pub returns-in-Some-Open-clause-cycle : goal.returns-in-Some-Open-clause-cycle
 returns-in-Some-Open-clause-cycle c =
-    let mark : get nat_cmp c.args.self.now.marks c.args.cell ≡ Some Open = sym c.in-Some-Open.ensures.value ∙ ap (λ (m : Mark). Some m) c.in-Some-Open.field-0-is in
-    path-cycle c.args.store.now.sheet c.args.cell (tasks_in c.args.store.now.sheet c.args.self.now.path.items) c.args.self.now.marks c.args.self.now.order.items mark
+    let state : get nat_cmp c.args.self.now.progress c.args.cell ≡ Some Open = sym c.in-Some-Open.ensures.value ∙ ap (λ (m : Progress). Some m) c.in-Some-Open.field-0-is in
+    path-cycle c.args.store.now.sheet c.args.cell (tasks_in c.args.store.now.sheet c.args.self.now.path.items) c.args.self.now.progress c.args.self.now.order.items state
 
 pub returns-in-Some-Done-clause-walk : goal.returns-in-Some-Done-clause-walk
 returns-in-Some-Done-clause-walk c =
-    let mark : get nat_cmp c.args.self.now.marks c.args.cell ≡ Some Done = sym c.in-Some-Done.ensures.value ∙ ap (λ (m : Mark). Some m) c.in-Some-Done.field-0-is in
-    path-passed c.args.store.now.sheet c.args.cell (tasks_in c.args.store.now.sheet c.args.self.now.path.items) c.args.self.now.marks c.args.self.now.order.items mark
+    let state : get nat_cmp c.args.self.now.progress c.args.cell ≡ Some Done = sym c.in-Some-Done.ensures.value ∙ ap (λ (m : Progress). Some m) c.in-Some-Done.field-0-is in
+    path-passed c.args.store.now.sheet c.args.cell (tasks_in c.args.store.now.sheet c.args.self.now.path.items) c.args.self.now.progress c.args.self.now.order.items state
 
 pub returns-in_ok-visit-in-None-clause-walk : goal.returns-in_ok-visit-in-None-clause-walk
 returns-in_ok-visit-in-None-clause-walk c =
@@ -25,13 +25,13 @@ returns-in_ok-visit-in-None-clause-walk c =
     let e = c.in_ok-visit-in-None.ensures in
     let path = c.args.self.now.path.items in
     rw e.order
-    (path-taken s c.args.cell (tasks_in s path) (tasks_in s c.visit.new.self.path.items) c.args.self.now.marks c.visit.new.self.marks c.args.self.now.order.items (sym c.in-None.ensures.value)
-    (λ f. (ap (tasks_in s) (e.plain f).0, (e.plain f).1)) (λ f. ap (tasks_in s) (e.path f) ∙ path-begun s path c.args.cell) e.marks)
+    (path-taken s c.args.cell (tasks_in s path) (tasks_in s c.visit.new.self.path.items) c.args.self.now.progress c.visit.new.self.progress c.args.self.now.order.items (sym c.in-None.ensures.value)
+    (λ f. (ap (tasks_in s) (e.plain f).0, (e.plain f).1)) (λ f. ap (tasks_in s) (e.path f) ∙ path-begun s path c.args.cell) e.progress)
 
 pub returns-in_ok-visit-in-None-clause-less : goal.returns-in_ok-visit-in-None-clause-less
 returns-in_ok-visit-in-None-clause-less c =
     let s = c.args.store.now.sheet in
     let e = c.in_ok-visit-in-None.ensures in
     let path = c.args.self.now.path.items in
-    less-taken s c.args.self.now.marks c.visit.new.self.marks c.args.cell (tasks_in s path) (tasks_in s c.visit.new.self.path.items) (sym c.in-None.ensures.value)
-    (λ f. (ap (tasks_in s) (e.plain f).0, (e.plain f).1)) (λ f. ap (tasks_in s) (e.path f) ∙ path-begun s path c.args.cell) e.marks
+    less-taken s c.args.self.now.progress c.visit.new.self.progress c.args.cell (tasks_in s path) (tasks_in s c.visit.new.self.path.items) (sym c.in-None.ensures.value)
+    (λ f. (ap (tasks_in s) (e.plain f).0, (e.plain f).1)) (λ f. ap (tasks_in s) (e.path f) ∙ path-begun s path c.args.cell) e.progress

@@ -1,5 +1,5 @@
 use Rattle.wi_engine.specs.Inner.Walk.{tasks_in}
-use Rattle.wi_engine.specs.declared.walk.Mark.TheVariants.{Done}
+use Rattle.wi_engine.specs.declared.walk.Progress.TheVariants.{Done}
 use Rattle.wi_engine.proofs.walk.Cursors.{path-on, path-done}
 use Rattle.wi_engine.proofs.walk.PathSteps.{path-left}
 use Rattle.wi_engine.proofs.walk.WalkLengths.{less-gone}
@@ -22,11 +22,11 @@ returns-in_ok-leave-in-None-clause-walk c =
     let s = c.args.store.now.sheet in
     let path = c.args.self.now.path.items in
     let e = c.in_ok-leave-in-None.ensures in
-    rw (e.path, e.order, path-done s path c.args.visit c.in-None.ensures.none) (path-left s c.args.visit.cell (tasks_in s path) c.args.self.now.marks c.leave.new.self.marks c.args.self.now.order.items e.marks.0)
+    rw (e.path, e.order, path-done s path c.args.visit c.in-None.ensures.none) (path-left s c.args.visit.cell (tasks_in s path) c.args.self.now.progress c.leave.new.self.progress c.args.self.now.order.items e.progress.0)
 
 pub returns-in_ok-leave-in-None-clause-less : goal.returns-in_ok-leave-in-None-clause-less
 returns-in_ok-leave-in-None-clause-less c =
     let s = c.args.store.now.sheet in
     let path = c.args.self.now.path.items in
     let e = c.in_ok-leave-in-None.ensures in
-    rw (e.path, path-done s path c.args.visit c.in-None.ensures.none) (less-gone s c.args.self.now.marks c.leave.new.self.marks c.args.visit.cell Done e.marks.0 (tasks_in s path) _)
+    rw (e.path, path-done s path c.args.visit c.in-None.ensures.none) (less-gone s c.args.self.now.progress c.leave.new.self.progress c.args.visit.cell Done e.progress.0 (tasks_in s path) _)

@@ -19,4 +19,4 @@ loop-visit-preserved c = λ roots front w.
 pub returns-clause-walk : goal.returns-clause-walk
 returns-clause-walk c =
     let cases = rw c.in_default.is at c.pop.ensures.cases in
-    path-ended c.args.store.now.sheet (Enter c.args.root ∷ []) c.args.self.now.marks c.loop-visit.self.marks c.args.self.now.order.items c.loop-visit.self.order.items c.loop-visit.self.path.items (omega (arith, c.loop-visit.self.path.ok, cases.0)) c.loop-visit.invariant
+    path-ended c.args.store.now.sheet (Enter c.args.root ∷ []) c.args.self.now.progress c.loop-visit.self.progress c.args.self.now.order.items c.loop-visit.self.order.items c.loop-visit.self.path.items (omega (arith, c.loop-visit.self.path.ok, cases.0)) c.loop-visit.invariant

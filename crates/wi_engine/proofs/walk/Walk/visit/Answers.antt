@@ -1,5 +1,5 @@
 use Rattle.std.proofs.Common.{rules}
 use Rattle.wi_engine.proofs.walk.Walk.visit.Goals as goal
 
-pub returns-clause-marks : goal.returns-clause-marks
-returns-clause-marks c = search rules
+pub returns-clause-progress : goal.returns-clause-progress
+returns-clause-progress c = search rules
