@@ -19,7 +19,7 @@ use wi_values::{Address, Rect};
 const MAX_AREA: u64 = 65_536;
 
 /// The text that a cell shows.
-fn shown_text<C: Calculator>(
+fn text_at<C: Calculator>(
     alloc: Global,
     calculator: &mut C,
     at: Address,
@@ -50,7 +50,7 @@ fn push_row<C: Calculator>(
     let mut texts = Vec::new(alloc);
     let first = area.first().column();
     for column in first..area.last().column() + 1 {
-        texts.push(shown_text(alloc, calculator, Address::at(row, column))?)?;
+        texts.push(text_at(alloc, calculator, Address::at(row, column))?)?;
     }
     push_record(&texts, out)
 }

@@ -10,9 +10,9 @@ loop-column-preserved g c =
     let column = c.loop-column.column in
     record {
       within = omega arith;
-      same = c.in_ok-shown_text.ensures.same ∙ old.same;
-      texts = texts_more string_bytes _ _ c.args.row first (column - first) (column + 1 - first) column c.at.result _ _ c.in_ok-shown_text.field-0 (omega arith) (omega arith) old.same c.at.ensures
-          old.texts c.in_ok-shown_text.ensures.text c.in_ok-push.ensures.items;
+      same = c.in_ok-text_at.ensures.same ∙ old.same;
+      texts = texts_more string_bytes _ _ c.args.row first (column - first) (column + 1 - first) column c.at.result _ _ c.in_ok-text_at.field-0 (omega arith) (omega arith) old.same c.at.ensures
+          old.texts c.in_ok-text_at.ensures.text c.in_ok-push.ensures.items;
     }
 
 pub returns-clause-ok : goal.returns-clause-ok
