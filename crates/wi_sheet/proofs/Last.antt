@@ -1,10 +1,10 @@
 -- The last replacement for a cell, and what the sheet then has there.
-use Rattle.std.proofs.Common.{◌≡◌, ◌==◌, ℕ, Bool, true, false, cond, List, [], ◌∷◌, Option, Some, None, refl, ap, sym, ◌∙◌, arith}
-use Rattle.std.proofs.lemmas.Bool.Decides.{nat_tests}
+use Rattle.std.proofs.Common.{◌≡◌, ◌==◌, ℕ, Bool, true, false, cond, List, [], ◌∷◌, Option, Some, None, refl, ap, sym, ◌∙◌}
 use Rattle.std.specs.Option.{option_or}
 use Rattle.wi_values.specs.declared.value.Value.{Value}
 use Rattle.wi_values.specs.declared.replacement.Replacement.{Replacement}
 use Rattle.wi_values.specs.Replacements.{last_for}
+use Rattle.wi_values.proofs.Order.{turn_test}
 use Rattle.wi_parser.specs.declared.content.Content.{Content}
 use Rattle.wi_parser.specs.Sheet.{Sheet, constant, content_of, put_all}
 use Rattle.wi_sheet.proofs.Puts.{overlaid, content_of-put_all}
@@ -13,9 +13,6 @@ use Rattle.wi_sheet.proofs.Puts.{overlaid, content_of-put_all}
 abbrev pub over : Option Value → Option Content → Option Content
 over None o = o
 over (Some v) o = constant v
-
-turn : (x y : ℕ) → (x == y) ≡ (y == x)
-turn x y = grind (arith, nat_tests)
 
 chosen : (b : Bool) (v : Value) (o : Option Content) → cond b (constant v) o ≡ over (cond b (Some v) None) o
 chosen true v o = refl
@@ -30,7 +27,7 @@ overlaid_last : (p : List Replacement) (q : ℕ) (o : Option Content) → overla
 overlaid_last [] q o = refl
 overlaid_last (r ∷ rs) q o =
     overlaid_last rs q (cond (q == r.at) (constant r.value) o)
-    ∙ ap (over (last_for rs q)) (ap (λ (b : Bool). cond b (constant r.value) o) (turn q r.at) ∙ chosen (r.at == q) r.value o)
+    ∙ ap (over (last_for rs q)) (ap (λ (b : Bool). cond b (constant r.value) o) (turn_test q r.at) ∙ chosen (r.at == q) r.value o)
     ∙ sym (over_both (last_for rs q) (cond (r.at == q) (Some r.value) None) o)
 
 -- what a sheet has in a cell under replacements

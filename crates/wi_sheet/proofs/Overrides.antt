@@ -1,17 +1,13 @@
 -- Replacements that others override.
-use Rattle.std.proofs.Common.{◌≡◌, ℕ, List, [], ◌∷◌, Option, Some, None, refl, ap, sym, ◌∙◌, arith}
-use Rattle.std.proofs.lemmas.Bool.Decides.{nat_tests}
+use Rattle.std.proofs.Common.{◌≡◌, ℕ, List, [], ◌∷◌, Option, Some, None, refl, ap, sym, ◌∙◌}
 use Rattle.std.specs.Option.{option_or}
-use Rattle.std.specs.Ordering.{nat_cmp, match_ordering}
-use Rattle.std.specs.declared.cmp.Ordering.{Ordering}
-use Rattle.std.specs.declared.cmp.Ordering.TheVariants.{Less, Equal, Greater}
-use Rattle.std.specs.List.{AllByRecursion}
-use Rattle.std.specs.List.Sorted.{IsStrictlySortedBy}
-use Rattle.std.specs.Map.{lookup, keys_of}
+use Rattle.std.specs.Ordering.{nat_cmp}
+use Rattle.std.specs.Map.{lookup}
 use Rattle.std.specs.BTreeMap.{is_at, insert_entry}
 use Rattle.wi_values.specs.declared.value.Value.{Value}
 use Rattle.wi_values.specs.declared.replacement.Replacement.{Replacement}
 use Rattle.wi_values.specs.Replacements.{IsInOrder, as_map, replaced, overridden, last_for}
+use Rattle.wi_values.proofs.Order.{Ascends, Ascends-insert, Ascends-from_order, order-from_Ascends}
 use Rattle.wi_values.proofs.Replacements.InOrder.{sorted_from_order, order_from_entries}
 use Rattle.wi_values.proofs.Replacements.Filtering.{order_of_filter}
 use Rattle.wi_values.proofs.Replacements.Overriding.{overridden-nothing, lookup-overridden}
@@ -41,45 +37,9 @@ content_in_order s w a h = content_by_last s w a ∙ ap (λ (o : Option Value). 
 
 -- ---- replacements put in keep the order
 
-abbrev Rises : List (ℕ × Value) → Type 0
-Rises es = IsStrictlySortedBy nat_cmp (keys_of es)
-
--- each key comes after a
-abbrev After : ℕ → List (ℕ × Value) → Type 0
-After a es = AllByRecursion (λ b. nat_cmp a b ≡ Less) (keys_of es)
-
-after_insert : (a k : ℕ) (v : Value) (es : List (ℕ × Value)) → nat_cmp a k ≡ Less → After a es → After a (insert_entry nat_cmp es k v)
-after_insert a k v [] l h = (l, tt)
-after_insert a k v (e ∷ es) l h = by (nat_cmp k e.0) (after_insert a k v es l h.1)
-  where
-    by : (o : Ordering) → After a (insert_entry nat_cmp es k v) → After a (match_ordering o ((k, v) ∷ e ∷ es) ((e.0, v) ∷ es) (e ∷ insert_entry nat_cmp es k v))
-    by Less ih = (l, h)
-    by Equal ih = h
-    by Greater ih = (h.0, ih)
-
-less_from_both : (a b c : ℕ) → nat_cmp a b ≡ Less → nat_cmp b c ≡ Less → nat_cmp a c ≡ Less
-less_from_both a b c g h = grind (arith, nat_tests)
-
-after_earlier : (a b : ℕ) (es : List (ℕ × Value)) → nat_cmp a b ≡ Less → After b es → After a es
-after_earlier a b [] l h = tt
-after_earlier a b (e ∷ es) l h = (less_from_both a b e.0 l h.0, after_earlier a b es l h.1)
-
-other_way : (a b : ℕ) → nat_cmp a b ≡ Greater → nat_cmp b a ≡ Less
-other_way a b h = grind (arith, nat_tests)
-
-rises_insert : (es : List (ℕ × Value)) (k : ℕ) (v : Value) → Rises es → Rises (insert_entry nat_cmp es k v)
-unfolding IsStrictlySortedBy
-rises_insert [] k v h = (tt, tt)
-rises_insert (e ∷ es) k v h = by (nat_cmp k e.0) refl (rises_insert es k v h.1)
-  where
-    by : (o : Ordering) → nat_cmp k e.0 ≡ o → Rises (insert_entry nat_cmp es k v) → Rises (match_ordering o ((k, v) ∷ e ∷ es) ((e.0, v) ∷ es) (e ∷ insert_entry nat_cmp es k v))
-    by Less q ih = ((q, after_earlier k e.0 es q h.0), h)
-    by Equal q ih = h
-    by Greater q ih = (after_insert e.0 k v es (other_way k e.0 q) h.0, ih)
-
-rises_overridden : (es : List (ℕ × Value)) (rs : List Replacement) → Rises es → Rises (overridden es rs)
-rises_overridden es [] h = h
-rises_overridden es (r ∷ rs) h = rises_overridden (insert_entry nat_cmp es r.at r.value) rs (rises_insert es r.at r.value h)
+ascends_overridden : (es : List (ℕ × Value)) (rs : List Replacement) → Ascends es → Ascends (overridden es rs)
+ascends_overridden es [] h = h
+ascends_overridden es (r ∷ rs) h = ascends_overridden (insert_entry nat_cmp es r.at r.value) rs (Ascends-insert r.at r.value es h)
 
 as_map_puts : (es : List (ℕ × Value)) → as_map (puts_of es) ≡ es
 as_map_puts [] = refl
@@ -91,7 +51,8 @@ puts_as_map (r ∷ rs) = ap (λ (xs : List Replacement). r ∷ xs) (puts_as_map 
 
 pub override_in_order : (w rs : List Replacement) → IsInOrder w → IsInOrder (puts_of (overridden (as_map w) rs))
 override_in_order w rs h =
-    order_from_entries (puts_of (overridden (as_map w) rs)) (overridden (as_map w) rs) (as_map_puts (overridden (as_map w) rs)) (rises_overridden (as_map w) rs (sorted_from_order w h))
+    order_from_entries (puts_of (overridden (as_map w) rs)) (overridden (as_map w) rs) (as_map_puts (overridden (as_map w) rs))
+    (order-from_Ascends (overridden (as_map w) rs) (ascends_overridden (as_map w) rs (Ascends-from_order (as_map w) (sorted_from_order w h))))
 
 pub what_if_in_order : (s : Sheet) (w : List Replacement) (pairs : List (ℕ × ℕ)) → IsInOrder w → IsInOrder (with_what_if s w pairs)
 what_if_in_order s w pairs h = override_in_order w (replacements (cell_value (put_all s w)) pairs) h

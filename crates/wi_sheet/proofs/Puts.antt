@@ -6,78 +6,23 @@ use Rattle.std.proofs.lemmas.List.Elements.{filter_agree}
 use Rattle.std.specs.Ordering.{nat_cmp, match_ordering}
 use Rattle.std.specs.declared.cmp.Ordering.{Ordering}
 use Rattle.std.specs.declared.cmp.Ordering.TheVariants.{Less, Equal, Greater}
-use Rattle.std.specs.Map.{lookup, keys_of}
-use Rattle.std.specs.BTreeMap.{is_at, insert_entry}
+use Rattle.std.specs.Map.{keys_of}
+use Rattle.std.specs.BTreeMap.{insert_entry}
 use Rattle.wi_values.specs.declared.value.Value.{Value}
 use Rattle.wi_values.specs.declared.value.Value.TheVariants.{Empty, Number, Text, Logical, Fault}
 use Rattle.wi_values.specs.declared.replacement.Replacement.{Replacement}
 use Rattle.wi_parser.specs.declared.content.Content.{Content}
 use Rattle.wi_parser.specs.Sheet.{Sheet, constant, content_of, without, with_content, put, put_all, has_formula, cells_with_formula}
-use Rattle.wi_graph.proofs.Tests.{is_at-eq}
+use Rattle.wi_values.proofs.Lookups.{found-insert, found-without}
 
 -- a content under replacements, of which the last for a cell stands
 abbrev pub overlaid : List Replacement → ℕ → Option Content → Option Content
 overlaid [] q o = o
 overlaid (r ∷ rs) q o = overlaid rs q (cond (q == r.at) (constant r.value) o)
 
-shadow : (b d : Bool) (x y z : Option Content) → d ≡ b → cond d x z ≡ cond b x (cond d y z)
-shadow true true x y z h = refl
-shadow false false x y z h = refl
-shadow true false x y z h = cc
-shadow false true x y z h = cc
-
-swap : (b d : Bool) (x y z r : Option Content) → (b ≡ true → d ≡ true → ⊥) → r ≡ cond b x z → cond d y r ≡ cond b x (cond d y z)
-swap true true x y z r h e = absurd (h refl refl)
-swap true false x y z r h e = e
-swap false true x y z r h e = refl
-swap false false x y z r h e = e
-
-apart : (q c k : ℕ) → nat_cmp c k ≡ Greater → (q == c) ≡ true → is_at (nat_cmp q) k ≡ true → ⊥
-apart q c k h a b = grind (arith, nat_tests)
-
-tied : (c k : ℕ) → nat_cmp c k ≡ Equal → c ≡ k
-tied c k h = grind (arith, nat_tests)
-
--- an insertion at one place of the order
-insert_at : (q c : ℕ) (x : Content) (e : ℕ × Content) (es : Sheet) (o : Ordering) → nat_cmp c e.0 ≡ o →
-    lookup (is_at (nat_cmp q)) (insert_entry nat_cmp es c x) ≡ cond (q == c) (Some x) (lookup (is_at (nat_cmp q)) es) →
-    lookup (is_at (nat_cmp q)) (match_ordering o ((c, x) ∷ e ∷ es) ((e.0, x) ∷ es) (e ∷ insert_entry nat_cmp es c x)) ≡ cond (q == c) (Some x) (lookup (is_at (nat_cmp q)) (e ∷ es))
-insert_at q c x e es Less h ih = ap (λ (b : Bool). cond b (Some x) (lookup (is_at (nat_cmp q)) (e ∷ es))) (is_at-eq q c)
-insert_at q c x e es Equal h ih =
-    shadow (q == c) (is_at (nat_cmp q) e.0) (Some x) (Some e.1) (lookup (is_at (nat_cmp q)) es) (is_at-eq q e.0 ∙ ap (λ (k : ℕ). q == k) (sym (tied c e.0 h)))
-insert_at q c x e es Greater h ih =
-    swap (q == c) (is_at (nat_cmp q) e.0) (Some x) (Some e.1) (lookup (is_at (nat_cmp q)) es) _ (apart q c e.0 h) ih
-
-pub content_of-insert : (s : Sheet) (c : ℕ) (x : Content) (q : ℕ) → content_of (insert_entry nat_cmp s c x) q ≡ cond (q == c) (Some x) (content_of s q)
-content_of-insert [] c x q = ap (λ (b : Bool). cond b (Some x) None) (is_at-eq q c)
-content_of-insert (e ∷ es) c x q = insert_at q c x e es (nat_cmp c e.0) refl (content_of-insert es c x q)
-
-gone : (b d : Bool) (y z r : Option Content) → d ≡ b → r ≡ cond b None z → r ≡ cond b None (cond d y z)
-gone true d y z r h e = e
-gone false false y z r h e = e
-gone false true y z r h e = cc
-
-apart_keys : (q c k : ℕ) → (k == c) ≡ false → (q == c) ≡ true → is_at (nat_cmp q) k ≡ true → ⊥
-apart_keys q c k h a b = grind (arith, nat_tests)
-
--- a cell taken away, at one entry
-remove_at : (q c : ℕ) (e : ℕ × Content) (es : Sheet) (b : Bool) → (e.0 == c) ≡ b →
-    content_of (without es c) q ≡ cond (q == c) None (content_of es q) →
-    content_of (cond (not b) (e ∷ without es c) (without es c)) q ≡ cond (q == c) None (content_of (e ∷ es) q)
-remove_at q c e es true h ih = gone (q == c) (is_at (nat_cmp q) e.0) (Some e.1) (content_of es q) _ (is_at-eq q e.0 ∙ ap (λ (k : ℕ). q == k) (eqb-true e.0 c h)) ih
-remove_at q c e es false h ih = swap (q == c) (is_at (nat_cmp q) e.0) None (Some e.1) (content_of es q) _ (apart_keys q c e.0 h) ih
-
-content_of-remove : (s : Sheet) (c q : ℕ) → content_of (without s c) q ≡ cond (q == c) None (content_of s q)
-content_of-remove [] c q = nothing (q == c)
-  where
-    nothing : (b : Bool) → ◌≡◌ {A = Option Content} None (cond b None None)
-    nothing true = refl
-    nothing false = refl
-content_of-remove (e ∷ es) c q = remove_at q c e es (e.0 == c) refl (content_of-remove es c q)
-
 pub content_of-with : (s : Sheet) (c : ℕ) (o : Option Content) (q : ℕ) → content_of (with_content s c o) q ≡ cond (q == c) o (content_of s q)
-content_of-with s c None q = content_of-remove s c q
-content_of-with s c (Some x) q = content_of-insert s c x q
+content_of-with s c None q = found-without s c q
+content_of-with s c (Some x) q = found-insert s c x q
 
 pub content_of-put : (s : Sheet) (c : ℕ) (v : Value) (q : ℕ) → content_of (put s c v) q ≡ cond (q == c) (constant v) (content_of s q)
 content_of-put s c v q = content_of-with s c (constant v) q
