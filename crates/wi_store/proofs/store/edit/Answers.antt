@@ -1,4 +1,4 @@
-use Rattle.std.proofs.Common.{ℕ, List, Option, Ok, Err, Result, OnErr, ap, ◌∙◌}
+use Rattle.std.proofs.Common.{ℕ, List, Option, Ok, Err, Result, OnErr, ap, ◌∙◌, rules}
 use Rattle.wi_parser.specs.Sheet.{Sheet}
 use Rattle.wi_parser.specs.declared.content.Content.{Content}
 use Rattle.wi_store.specs.Store.{edited}
@@ -21,3 +21,6 @@ returns-then-is_err-clause-refused c =
     ∙ restored-stood (sheet_in c.make_room.new.rooms.entries) c.args.changes.now
     (Ascends-sheet_in c.make_room.new.rooms.entries (Ascends-from_order c.make_room.new.rooms.entries c.make_room.ensures.order))
     ∙ c.make_room.ensures.sheet)
+
+pub exchange_back-requires-clause-only : goal.exchange_back-requires-clause-only
+exchange_back-requires-clause-only c = search rules
