@@ -4,7 +4,7 @@ use Rattle.std.specs.Prelude.{pos, Some}
 use Rattle.wi_fraction.specs.Number.{number_of}
 use Rattle.wi_fraction.specs.Number.Laws.{number_at-some}
 use Rattle.wi_fraction.specs.Gcd.{gcd, gcd_within}
-use Rattle.wi_functions.specs.Convert.{zero_number, one_number, hundred_number}
+use Rattle.wi_standard_functions.specs.Convert.{zero_number, one_number, hundred_number}
 
 pub number_of-zero : number_of (pos 0) 1 ≡ Some zero_number
 unfolding number_of gcd gcd_within

@@ -1,6 +1,3 @@
-pub mod Convert
-pub mod FirstError
-pub mod Comparison
 pub mod Operators
 pub mod Meaning
 pub mod Assignment

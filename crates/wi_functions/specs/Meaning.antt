@@ -7,7 +7,7 @@ use Rattle.wi_values.specs.declared.value.ErrorKind.TheVariants.{BadValue, Unkno
 use Rattle.wi_parser.specs.declared.expr.Corners.{Corners}
 use Rattle.wi_parser.specs.declared.expr.Reference.{Reference}
 use Rattle.wi_parser.specs.Tree.{Tree, number, text, cell, rectangle, parenthesized, signed, percent, binary, what_if, call}
-use Rattle.wi_functions.specs.Convert.{zero_number}
+use Rattle.wi_standard_functions.specs.Convert.{zero_number}
 use Rattle.wi_functions.specs.Operators.{operate, with_sign, hundredth}
 
 -- an input and its replacement cell, by their addresses

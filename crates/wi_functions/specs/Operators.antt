@@ -1,49 +1,19 @@
 -- What each operator gives for its operands (OpenFormula, "Standard Operators").
-use Rattle.std.specs.Prelude.{ℕ, pos, ◌++◌, List, length, nat_le, ◌==◌, ◌&&◌, int_lt, Option, Some, None, Result, Ok, Err, if◌then◌else◌}
-use Rattle.std.specs.Ordering.{int_eq, is_eq, is_ne, is_lt, is_le, is_gt, is_ge}
+use Rattle.std.specs.Prelude.{Result, Ok, Err}
+use Rattle.std.specs.Ordering.{is_eq, is_ne, is_lt, is_le, is_gt, is_ge}
 use Rattle.wi_fraction.specs.Number as numbers
-use Rattle.wi_fraction.specs.Arithmetic.{sum_of, product_of, quotient_of, negated}
-use Rattle.wi_fraction.specs.Power.{power_of}
-use Rattle.wi_values.specs.Import.{max_text}
+use Rattle.wi_fraction.specs.Arithmetic.{negated}
 use Rattle.wi_values.specs.declared.value.ErrorKind.{ErrorKind}
-use Rattle.wi_values.specs.declared.value.ErrorKind.TheVariants.{DivisionByZero, BadNumber, BadValue}
 use Rattle.wi_values.specs.declared.value.Value.{Value}
-use Rattle.wi_values.specs.declared.value.Value.TheVariants.{Number, Text, Fault}
+use Rattle.wi_values.specs.declared.value.Value.TheVariants.{Number, Fault}
 use Rattle.wi_parser.specs.declared.expr.Operator.{Operator}
 use Rattle.wi_parser.specs.declared.expr.Operator.TheVariants as op
 use Rattle.wi_parser.specs.declared.expr.Sign.{Sign}
 use Rattle.wi_parser.specs.declared.expr.Sign.TheVariants.{Plus, Minus}
-use Rattle.wi_functions.specs.Convert.{to_number, to_text, hundred_number}
-use Rattle.wi_functions.specs.FirstError.{on_both}
-use Rattle.wi_functions.specs.Comparison.{compared}
-
--- a number, where it fits
-abbrev pub number_value : Option numbers.Number → Value
-number_value (Some x) = Number x
-number_value None = Fault BadNumber
-
-abbrev pub addition : numbers.Number → numbers.Number → Value
-addition x y = number_value (sum_of x y)
-
-abbrev pub subtraction : numbers.Number → numbers.Number → Value
-subtraction x y = number_value (sum_of x (negated y))
-
-abbrev pub multiplication : numbers.Number → numbers.Number → Value
-multiplication x y = number_value (product_of x y)
-
-abbrev pub division : numbers.Number → numbers.Number → Value
-division x y = if int_eq y.num (pos 0) then Fault DivisionByZero else number_value (quotient_of x y)
-
--- the exponent is whole, and zero has no negative power
-abbrev pub exponentiation : numbers.Number → numbers.Number → Value
-exponentiation x y =
-    if y.den == 1 then
-    (if int_eq x.num (pos 0) && int_lt y.num (pos 0) then Fault DivisionByZero else number_value (power_of x y.num))
-    else Fault BadNumber
-
--- one text after the other, where that is not too long
-abbrev pub concatenation : List ℕ → List ℕ → Value
-concatenation s t = if nat_le (length (s ++ t)) max_text then Text (s ++ t) else Fault BadValue
+use Rattle.wi_standard_functions.specs.Arithmetic.{addition, subtraction, multiplication, division, exponentiation, concatenation}
+use Rattle.wi_standard_functions.specs.Comparison.{compared}
+use Rattle.wi_standard_functions.specs.Convert.{to_number, to_text, hundred_number}
+use Rattle.wi_standard_functions.specs.FirstError.{on_both}
 
 -- what an operator gives for its two operands
 abbrev pub operate : Operator → Value → Value → Value

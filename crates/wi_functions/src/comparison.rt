@@ -2,7 +2,7 @@
 
 ghost use Rattle.std.specs.Prelude.{◌≡◌};
 ghost use Rattle.wi_values.specs.declared.value.Value.{Value as Values};
-ghost use Rattle.wi_functions.specs.Comparison.{empty_beside, beside, rank, order};
+ghost use Rattle.wi_standard_functions.specs.Comparison.{empty_beside, beside, rank, order};
 
 use crate::convert::zero;
 use std::alloc::Global;

@@ -1,7 +1,7 @@
 //! Values taken for numbers (OpenFormula, "Implicit Conversion Operators").
 
 ghost use Rattle.std.specs.Prelude.{◌≡◌};
-ghost use Rattle.wi_functions.specs.Convert.{to_number, zero_number, one_number, hundred_number};
+ghost use Rattle.wi_standard_functions.specs.Convert.{to_number, zero_number, one_number, hundred_number};
 ghost use Rattle.wi_functions.specs.Meaning.{zero_for_empty};
 
 use wi_fraction::Fraction;

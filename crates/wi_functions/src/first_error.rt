@@ -1,7 +1,7 @@
 //! Of two operands the first error from the left.
 
 ghost use Rattle.std.specs.Prelude.{◌≡◌, Ok, Err, MatchResult};
-ghost use Rattle.wi_functions.specs.FirstError.{no_error};
+ghost use Rattle.wi_standard_functions.specs.FirstError.{no_error};
 ghost use Rattle.wi_functions.specs.Inner.Both.{both};
 
 use wi_values::{ErrorKind, Value};

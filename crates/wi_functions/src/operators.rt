@@ -3,11 +3,12 @@
 ghost use Rattle.std.specs.Prelude.{◌≡◌, Bool, IfOk};
 ghost use Rattle.wi_values.specs.Value.{shown_text};
 ghost use Rattle.std.specs.declared.cmp.Ordering.{Ordering};
-ghost use Rattle.wi_functions.specs.Comparison.{beside, order, compared};
-ghost use Rattle.wi_functions.specs.Convert.{to_number, to_text};
-ghost use Rattle.wi_functions.specs.FirstError.{on_both};
-ghost use Rattle.wi_functions.specs.Inner.Fractions.{fraction_value, value_or_error};
-ghost use Rattle.wi_functions.specs.Operators.{operate, with_sign, hundredth, minus, addition, subtraction, multiplication, division, exponentiation, concatenation};
+ghost use Rattle.wi_standard_functions.specs.Arithmetic.{addition, subtraction, multiplication, division, exponentiation, concatenation};
+ghost use Rattle.wi_standard_functions.specs.Comparison.{beside, order, compared};
+ghost use Rattle.wi_standard_functions.specs.Convert.{to_number, to_text};
+ghost use Rattle.wi_standard_functions.specs.FirstError.{on_both, value_or_error};
+ghost use Rattle.wi_functions.specs.Inner.Fractions.{fraction_value};
+ghost use Rattle.wi_functions.specs.Operators.{operate, with_sign, hundredth, minus};
 
 use crate::comparison::compare;
 use crate::convert::{hundred, to_number};

@@ -3,7 +3,6 @@ use Rattle.std.specs.Prelude.{Result, Ok, Err}
 use Rattle.wi_fraction.specs.Number as numbers
 use Rattle.wi_fraction.specs.declared.FractionError.{FractionError}
 use Rattle.wi_fraction.specs.declared.FractionError.TheVariants.{ZeroDenominator, Overflow}
-use Rattle.wi_values.specs.declared.value.ErrorKind.{ErrorKind}
 use Rattle.wi_values.specs.declared.value.ErrorKind.TheVariants.{DivisionByZero, BadNumber}
 use Rattle.wi_values.specs.declared.value.Value.{Value}
 use Rattle.wi_values.specs.declared.value.Value.TheVariants.{Number, Fault}
@@ -13,8 +12,3 @@ abbrev pub fraction_value : Result numbers.Number FractionError → Value
 fraction_value (Ok x) = Number x
 fraction_value (Err ZeroDenominator) = Fault DivisionByZero
 fraction_value (Err Overflow) = Fault BadNumber
-
--- the value, or else the error
-abbrev pub value_or_error : Result Value ErrorKind → Value
-value_or_error (Ok v) = v
-value_or_error (Err e) = Fault e

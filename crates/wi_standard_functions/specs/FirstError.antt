@@ -1,4 +1,4 @@
--- Of two operands the first error from the left.
+-- The first error from the left.
 use Rattle.std.specs.Prelude.{Result, Ok, Err}
 use Rattle.wi_values.specs.declared.value.ErrorKind.{ErrorKind}
 use Rattle.wi_values.specs.declared.value.Value.{Value}
@@ -14,3 +14,8 @@ abbrev pub on_both : {A B : Type 0} → (A → B → Value) → Result A ErrorKi
 on_both f (Err e) y = Fault e
 on_both f (Ok x) (Err e) = Fault e
 on_both f (Ok x) (Ok y) = f x y
+
+-- the value, or else the error
+abbrev pub value_or_error : Result Value ErrorKind → Value
+value_or_error (Ok v) = v
+value_or_error (Err e) = Fault e

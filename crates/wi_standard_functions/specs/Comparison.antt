@@ -6,8 +6,8 @@ use Rattle.std.specs.Cmp.Lexicographic.{slice_cmp}
 use Rattle.wi_fraction.specs.Order.{cross_cmp}
 use Rattle.wi_values.specs.declared.value.Value.{Value}
 use Rattle.wi_values.specs.declared.value.Value.TheVariants.{Empty, Number, Text, Logical}
-use Rattle.wi_functions.specs.Convert.{zero_number}
-use Rattle.wi_functions.specs.FirstError.{no_error, on_both}
+use Rattle.wi_standard_functions.specs.Convert.{zero_number}
+use Rattle.wi_standard_functions.specs.FirstError.{no_error, on_both}
 
 -- what Empty counts as beside a value: 0, the empty text or FALSE, as the value is
 abbrev pub empty_beside : Value → Value

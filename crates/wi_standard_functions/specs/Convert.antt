@@ -8,7 +8,7 @@ use Rattle.wi_values.specs.declared.value.ErrorKind.{ErrorKind}
 use Rattle.wi_values.specs.declared.value.ErrorKind.TheVariants.{BadValue}
 use Rattle.wi_values.specs.declared.value.Value as value
 use Rattle.wi_values.specs.declared.value.Value.TheVariants as v
-use Rattle.wi_functions.specs.Convert.Laws.{hundred_lowest, one_lowest, zero_lowest}
+use Rattle.wi_standard_functions.specs.Convert.Laws.{hundred_lowest, one_lowest, zero_lowest}
 
 abbrev pub zero_number : Number
 zero_number = record { num = pos 0; den = 1; is_number = record { above_zero = lit< tt; lowest = zero_lowest; num_fits = lit≤ tt; den_fits = lit≤ tt } }

@@ -1,0 +1,4 @@
+pub mod FirstError
+pub mod Convert
+pub mod Arithmetic
+pub mod Comparison
