@@ -2,6 +2,7 @@
 use Rattle.std.specs.Prelude.{ℕ, pos, ◌++◌, List, length, nat_le, ◌==◌, ◌&&◌, int_lt, Option, Some, None, if◌then◌else◌}
 use Rattle.std.specs.Ordering.{int_eq}
 use Rattle.wi_fraction.specs.Number as numbers
+use Rattle.wi_fraction.specs.Number.{number_of}
 use Rattle.wi_fraction.specs.Arithmetic.{sum_of, product_of, quotient_of, negated}
 use Rattle.wi_fraction.specs.Power.{power_of}
 use Rattle.wi_values.specs.Import.{max_text}
@@ -13,6 +14,10 @@ use Rattle.wi_values.specs.declared.value.Value.TheVariants.{Number, Text, Fault
 abbrev pub number_value : Option numbers.Number → Value
 number_value (Some x) = Number x
 number_value None = Fault BadNumber
+
+-- a count, or a place
+abbrev pub whole_value : ℕ → Value
+whole_value n = number_value (number_of (pos n) 1)
 
 abbrev pub addition : numbers.Number → numbers.Number → Value
 addition x y = number_value (sum_of x y)
@@ -33,6 +38,10 @@ exponentiation x y =
     (if int_eq x.num (pos 0) && int_lt y.num (pos 0) then Fault DivisionByZero else number_value (power_of x y.num))
     else Fault BadNumber
 
--- one text after the other, where that is not too long
+-- a text, where it is not too long
+abbrev pub limited_text : List ℕ → Value
+limited_text t = if nat_le (length t) max_text then Text t else Fault BadValue
+
+-- one text after the other
 abbrev pub concatenation : List ℕ → List ℕ → Value
-concatenation s t = if nat_le (length (s ++ t)) max_text then Text (s ++ t) else Fault BadValue
+concatenation s t = limited_text (s ++ t)

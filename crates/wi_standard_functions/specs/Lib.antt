@@ -1,4 +1,17 @@
 pub mod FirstError
+pub mod Steps
 pub mod Convert
 pub mod Arithmetic
 pub mod Comparison
+pub mod Arguments
+pub mod Sequence
+pub mod Matching
+pub mod Criterion
+pub mod Mathematical
+pub mod Rounding
+pub mod Statistical
+pub mod Logical
+pub mod Information
+pub mod Lookup
+pub mod Text
+pub mod Functions

@@ -1,0 +1,57 @@
+-- OpenFormula, "Logical Functions".
+use Rattle.std.specs.Prelude.{Bool, true, false, not, List, [], ◌∷◌, if◌then◌else◌}
+use Rattle.std.specs.List.{list_all, list_any}
+use Rattle.wi_values.specs.declared.value.ErrorKind.TheVariants.{BadValue, NotAvailable}
+use Rattle.wi_values.specs.declared.value.Value.{Value}
+use Rattle.wi_values.specs.declared.value.Value.TheVariants.{Logical, Fault}
+use Rattle.wi_standard_functions.specs.Arguments.{Argument}
+use Rattle.wi_standard_functions.specs.Convert.{to_logical}
+use Rattle.wi_standard_functions.specs.Sequence.{sequence_of, logicals_of}
+use Rattle.wi_standard_functions.specs.Steps.{◌>>=◌}
+
+-- TRUE
+abbrev pub true_value : Value
+true_value = Logical true
+
+-- FALSE
+abbrev pub false_value : Value
+false_value = Logical false
+
+-- NOT: the negation
+abbrev pub not_value : Value → Value
+not_value l = do
+  b ← to_logical l
+  Logical (not b)
+
+-- a test of the truth values that count; where there is none, it has no result
+abbrev pub tested : (List Bool → Bool) → List Bool → Value
+tested test [] = Fault BadValue
+tested test (b ∷ bs) = Logical (test (b ∷ bs))
+
+-- AND: all that count are TRUE
+abbrev pub and_value : List Argument → Value
+and_value args = do
+  bs ← logicals_of (sequence_of args)
+  tested (list_all (λ b. b)) bs
+
+-- OR: one that counts is TRUE
+abbrev pub or_value : List Argument → Value
+or_value args = do
+  bs ← logicals_of (sequence_of args)
+  tested (list_any (λ b. b)) bs
+
+-- IF: only the error of the branch that is chosen counts
+abbrev pub if_value : Value → Value → Value → Value
+if_value condition then_value else_value = do
+  b ← to_logical condition
+  (if b then then_value else else_value)
+
+-- IFERROR: the first unless it is an error, else the second
+abbrev pub if_error_value : Value → Value → Value
+if_error_value (Fault e) w = w
+if_error_value v w = v
+
+-- IFNA: the first unless it is #N/A, else the second
+abbrev pub if_na_value : Value → Value → Value
+if_na_value (Fault NotAvailable) w = w
+if_na_value v w = v

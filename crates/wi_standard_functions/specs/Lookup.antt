@@ -1,0 +1,123 @@
+-- OpenFormula, "Lookup Functions".
+use Rattle.std.specs.Prelude.{ℕ, ℤ, pos, ◌+◌, ◌*◌, ◌-◌, ◌==◌, ◌||◌, Bool, true, nat_lt, int_lt, unsigned_abs, nat_le, length, List, map, slice_get, unwrap_or, None, Result, Ok, Err, ok_or, if◌then◌else◌}
+use Rattle.std.specs.List.{range_with_len}
+use Rattle.wi_fraction.specs.Number as numbers
+use Rattle.wi_values.specs.declared.value.ErrorKind.{ErrorKind}
+use Rattle.wi_values.specs.declared.value.ErrorKind.TheVariants.{BadValue, BadReference, NotAvailable}
+use Rattle.wi_values.specs.declared.value.Value.{Value}
+use Rattle.wi_values.specs.declared.value.Value.TheVariants.{Number, Logical, Fault}
+use Rattle.wi_standard_functions.specs.Arguments.{Argument, Region, region_at, value_at, value_or}
+use Rattle.wi_standard_functions.specs.Arithmetic.{whole_value}
+use Rattle.wi_standard_functions.specs.Convert.{to_number, to_whole, to_logical, zero_number, one_number}
+use Rattle.wi_standard_functions.specs.FirstError.{no_error, on_both}
+use Rattle.wi_standard_functions.specs.Matching.{match_position, sought_for}
+use Rattle.wi_standard_functions.specs.Steps.{◌>>=◌}
+
+-- the k-th of the arguments after the first
+abbrev pub chosen : ℤ → List Argument → Result Argument ErrorKind
+chosen k args = ok_or (if int_lt k (pos 1) then None else slice_get args (unsigned_abs k)) BadValue
+
+-- CHOOSE: only the error of the argument that is chosen counts
+abbrev pub choose_value : List Argument → Value
+choose_value args = do
+  k ← to_whole (value_at args 0)
+  a ← chosen k args
+  a.value
+
+-- ---- places in a region
+
+-- the place, from 0, of the k-th of n: a k below 1 is a bad value, and one that is too large a bad reference
+abbrev pub place_among : ℕ → ℤ → Result ℕ ErrorKind
+place_among n k =
+    if int_lt k (pos 1) then Err BadValue else
+    if nat_lt n (unsigned_abs k) then Err BadReference else
+    Ok (unsigned_abs k - 1)
+
+-- the value of the cell at a row and a column, both from 0
+abbrev pub cell_in : Region → ℕ → ℕ → Value
+cell_in r row column = unwrap_or (slice_get r.values (row * r.width + column)) (Fault BadReference)
+
+-- the values of the first column, and of the first row
+abbrev pub first_column_of : Region → List Value
+first_column_of r = map (λ row. cell_in r row 0) (range_with_len 0 r.height)
+
+abbrev pub first_row_of : Region → List Value
+first_row_of r = map (λ column. cell_in r 0 column) (range_with_len 0 r.width)
+
+-- ---- INDEX
+
+-- the value of the j-th row's k-th cell: a number below 1 comes before one that is too large
+abbrev pub indexed : Region → ℤ → ℤ → Value
+indexed r j k =
+    if int_lt j (pos 1) || int_lt k (pos 1) then Fault BadValue else
+    on_both (cell_in r) (place_among r.height j) (place_among r.width k)
+
+-- the k-th value along a region that is one column or one row
+abbrev pub indexed_along : Region → ℤ → Value
+indexed_along r k =
+    if r.width == 1 then indexed r k (pos 1) else
+    if r.height == 1 then indexed r (pos 1) k else
+    Fault BadValue
+
+-- INDEX: with three arguments by row and column, with two along the region
+abbrev pub index_by_both : List Argument → Value
+index_by_both args = do
+  r ← region_at args 0
+  j ← to_whole (value_at args 1)
+  k ← to_whole (value_at args 2)
+  indexed r j k
+
+abbrev pub index_along : List Argument → Value
+index_along args = do
+  r ← region_at args 0
+  k ← to_whole (value_at args 1)
+  indexed_along r k
+
+abbrev pub index_value : List Argument → Value
+index_value args = if nat_le (length args) 2 then index_along args else index_by_both args
+
+-- ---- searches
+
+-- the place of the value sought in a list, from 0
+abbrev pub place_of : numbers.Number → Value → List Value → Result ℕ ErrorKind
+place_of match_type v vs = ok_or (match_position match_type (sought_for v) vs) NotAvailable
+
+-- the values along a region that is one row or one column
+abbrev pub values_along : Region → Result (List Value) ErrorKind
+values_along r = if (r.height == 1) || (r.width == 1) then Ok r.values else Err BadValue
+
+-- MATCH: the place that is found, counted from 1; without a type that is 1
+abbrev pub match_value : List Argument → Value
+match_value args = do
+  v ← no_error (value_at args 0)
+  r ← region_at args 1
+  match_type ← to_number (value_or (Number one_number) args 2)
+  vs ← values_along r
+  i ← place_of match_type v vs
+  whole_value (i + 1)
+
+-- the type of a match in values that are told to be in order, or not to be
+abbrev pub type_for : Bool → numbers.Number
+type_for in_order = if in_order then one_number else zero_number
+
+-- VLOOKUP: the cell in column k, in the row whose first cell is found; without a fourth argument they are in order
+abbrev pub v_lookup_value : List Argument → Value
+v_lookup_value args = do
+  v ← no_error (value_at args 0)
+  r ← region_at args 1
+  k ← to_whole (value_at args 2)
+  in_order ← to_logical (value_or (Logical true) args 3)
+  column ← place_among r.width k
+  row ← place_of (type_for in_order) v (first_column_of r)
+  cell_in r row column
+
+-- HLOOKUP: the cell in row k, in the column whose first cell is found
+abbrev pub h_lookup_value : List Argument → Value
+h_lookup_value args = do
+  v ← no_error (value_at args 0)
+  r ← region_at args 1
+  k ← to_whole (value_at args 2)
+  in_order ← to_logical (value_or (Logical true) args 3)
+  row ← place_among r.height k
+  column ← place_of (type_for in_order) v (first_row_of r)
+  cell_in r row column

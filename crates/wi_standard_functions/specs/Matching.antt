@@ -1,0 +1,41 @@
+-- Places of values in a region (OpenFormula, "MATCH").
+use Rattle.std.specs.Prelude.{ℕ, pos, ◌==◌, Bool, false, true, ◌&&◌, int_lt, List, map, filter, position, Option, None, if◌then◌else◌}
+use Rattle.std.specs.List.{enumerate_from, last_or}
+use Rattle.std.specs.Ordering.{int_eq, is_eq, is_le, is_ge}
+use Rattle.std.specs.declared.cmp.Ordering.{Ordering}
+use Rattle.wi_fraction.specs.Number as numbers
+use Rattle.wi_values.specs.declared.value.Value.{Value}
+use Rattle.wi_values.specs.declared.value.Value.TheVariants.{Empty, Number, Fault}
+use Rattle.wi_standard_functions.specs.Comparison.{rank, order}
+use Rattle.wi_standard_functions.specs.Convert.{zero_number}
+
+-- a value that can be found: Empty cells and errors match nothing
+abbrev pub is_comparable : Value → Bool
+is_comparable Empty = false
+is_comparable (Fault e) = false
+is_comparable v = true
+
+-- both can be found, and are of one kind
+abbrev pub same_kind : Value → Value → Bool
+same_kind v w = is_comparable v && is_comparable w && rank v == rank w
+
+-- an Empty sought is 0
+abbrev pub sought_for : Value → Value
+sought_for Empty = Number zero_number
+sought_for v = v
+
+-- the value has the kind of the one sought, and its order to that one passes the test
+abbrev pub is_match : (Ordering → Bool) → Value → Value → Bool
+is_match test sought v = same_kind v sought && test (order v sought)
+
+-- the last place, from 0, whose value passes
+abbrev pub last_position : (Value → Bool) → List Value → Option ℕ
+last_position test vs = last_or None (map (λ p. p.0) (filter (λ p. test p.1) (enumerate_from 0 vs)))
+
+-- The place that is found, from 0: for a match type of 0 the first that is equal; for one above 0 the last that is at most the
+-- one sought, and for one below 0 the last that is at least that, on every list, sorted or not.
+abbrev pub match_position : numbers.Number → Value → List Value → Option ℕ
+match_position match_type sought vs =
+    if int_eq match_type.num (pos 0) then position (is_match is_eq sought) vs else
+    if int_lt match_type.num (pos 0) then last_position (is_match is_ge sought) vs else
+    last_position (is_match is_le sought) vs

@@ -1,0 +1,130 @@
+-- OpenFormula, "Mathematical Functions".
+use Rattle.std.specs.Prelude.{ℕ, pos, ◌==◌, ◌&&◌, Bool, List, [], ◌∷◌, map, filter, zip, length, slice_get, Option, Some, Result, Ok, Err, int_lt, if◌then◌else◌}
+use Rattle.std.specs.List.{range_with_len, list_all}
+use Rattle.std.specs.Ordering.{int_eq}
+use Rattle.wi_fraction.specs.Number as numbers
+use Rattle.wi_fraction.specs.Arithmetic.{negated}
+use Rattle.wi_fraction.specs.Rounding.{floored, rounded}
+use Rattle.wi_fraction.specs.declared.rounding.Mode.TheVariants.{Toward}
+use Rattle.wi_values.specs.declared.value.ErrorKind.{ErrorKind}
+use Rattle.wi_values.specs.declared.value.ErrorKind.TheVariants.{BadValue}
+use Rattle.wi_values.specs.declared.value.Value.{Value}
+use Rattle.wi_values.specs.declared.value.Value.TheVariants.{Number, Fault}
+use Rattle.wi_standard_functions.specs.Arguments.{Argument, Region, region_referred, region_at, region_or, value_at}
+use Rattle.wi_standard_functions.specs.Arithmetic.{addition, subtraction, multiplication, division, exponentiation}
+use Rattle.wi_standard_functions.specs.Convert.{to_number, zero_number, one_number}
+use Rattle.wi_standard_functions.specs.Criterion.{meets_criterion}
+use Rattle.wi_standard_functions.specs.FirstError.{no_error, on_both}
+use Rattle.wi_standard_functions.specs.Sequence.{Item, from_cell, sequence_of, number_fold}
+use Rattle.wi_standard_functions.specs.Steps.{◌>>=◌, and_then, map_until_error, fold_until_error}
+
+-- ---- of one number, or of two
+
+-- ABS: the size
+abbrev pub abs_value : Value → Value
+abs_value n = do
+  x ← to_number n
+  Number (if int_lt x.num (pos 0) then negated x else x)
+
+-- SIGN: -1, 0 or 1
+abbrev pub sign_value : Value → Value
+sign_value n = do
+  x ← to_number n
+  Number (if int_lt x.num (pos 0) then negated one_number else if int_eq x.num (pos 0) then zero_number else one_number)
+
+-- QUOTIENT: the quotient cut toward zero
+abbrev pub quotient_value : Value → Value → Value
+quotient_value n m = do
+  x ← to_number n
+  y ← to_number m
+  q ← to_number (division x y)
+  Number (rounded Toward q)
+
+-- MOD: a - b * INT(a / b), step by step
+abbrev pub mod_value : Value → Value → Value
+mod_value n m = do
+  a ← to_number n
+  b ← to_number m
+  q ← to_number (division a b)
+  p ← to_number (multiplication b (floored q))
+  subtraction a p
+
+-- POWER: as the operator
+abbrev pub power_value : Value → Value → Value
+power_value n m = on_both exponentiation (to_number n) (to_number m)
+
+-- ---- of sequences
+
+-- the sum of the numbers that count, from 0 on
+abbrev pub sum_of_items : List Item → Result numbers.Number ErrorKind
+sum_of_items is = number_fold addition zero_number is
+
+-- SUM
+abbrev pub sum_value : List Argument → Value
+sum_value args = do
+  x ← sum_of_items (sequence_of args)
+  Number x
+
+-- PRODUCT: from 1 on
+abbrev pub product_value : List Argument → Value
+product_value args = do
+  x ← number_fold multiplication one_number (sequence_of args)
+  Number x
+
+-- ---- of regions
+
+-- as many rows and columns
+abbrev pub same_size : Region → Region → Bool
+same_size r s = (r.height == s.height) && (r.width == s.width)
+
+-- of the second region's cells, those at the places where the first's meet the criterion
+abbrev pub cells_where : Value → Region → Region → List Item
+cells_where criterion r s = map (λ p. from_cell p.1) (filter (λ p. meets_criterion criterion p.0) (zip r.values s.values))
+
+-- the cells to be added, where the two regions have one size
+abbrev pub chosen_cells : Value → Region → Region → Result (List Item) ErrorKind
+chosen_cells criterion r s = if same_size r s then Ok (cells_where criterion r s) else Err BadValue
+
+-- SUMIF: the sum of the third's cells where the first's meet the criterion; without a third it is the first
+abbrev pub sum_if_value : List Argument → Value
+sum_if_value args = do
+  r ← region_at args 0
+  criterion ← no_error (value_at args 1)
+  s ← region_or (Ok r) args 2
+  is ← chosen_cells criterion r s
+  x ← sum_of_items is
+  Number x
+
+-- the regions, where all have one size
+abbrev pub of_one_size : List Region → Result (List Region) ErrorKind
+of_one_size [] = Ok []
+of_one_size (r ∷ rs) = if list_all (same_size r) rs then Ok (r ∷ rs) else Err BadValue
+
+-- a cell as a factor: one that is no Number counts 0, and an error is one
+abbrev pub cell_factor : Option Value → Result numbers.Number ErrorKind
+cell_factor (Some (Number x)) = Ok x
+cell_factor (Some (Fault e)) = Err e
+cell_factor v = Ok zero_number
+
+-- the product across the regions at one place, from 1 on
+abbrev pub product_across : List Region → ℕ → Result numbers.Number ErrorKind
+product_across rs i =
+    fold_until_error (λ x r. and_then (λ y. to_number (multiplication x y)) (cell_factor (slice_get r.values i))) one_number rs
+
+-- how many places the first region has, and so all
+abbrev pub place_count : List Region → ℕ
+place_count [] = 0
+place_count (r ∷ rs) = length r.values
+
+-- the sum of the products across the regions, place after place, from 0 on
+abbrev pub sum_of_products : List Region → Result numbers.Number ErrorKind
+sum_of_products rs =
+    fold_until_error (λ x i. and_then (λ y. to_number (addition x y)) (product_across rs i)) zero_number (range_with_len 0 (place_count rs))
+
+-- SUMPRODUCT
+abbrev pub sum_product_value : List Argument → Value
+sum_product_value args = do
+  regions ← map_until_error region_referred args
+  rs ← of_one_size regions
+  x ← sum_of_products rs
+  Number x

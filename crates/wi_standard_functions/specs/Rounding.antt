@@ -1,0 +1,21 @@
+-- OpenFormula, "Rounding Functions".
+use Rattle.wi_fraction.specs.declared.rounding.Mode.{Mode}
+use Rattle.wi_fraction.specs.Rounding.{floored, round_to}
+use Rattle.wi_values.specs.declared.value.Value.{Value}
+use Rattle.wi_values.specs.declared.value.Value.TheVariants.{Number}
+use Rattle.wi_standard_functions.specs.Arithmetic.{number_value}
+use Rattle.wi_standard_functions.specs.Convert.{to_number, to_whole}
+use Rattle.wi_standard_functions.specs.Steps.{◌>>=◌}
+
+-- INT: the greatest whole number that is not above
+abbrev pub int_value : Value → Value
+int_value n = do
+  x ← to_number n
+  Number (floored x)
+
+-- ROUND, ROUNDUP, ROUNDDOWN and TRUNC: the number rounded at so many places, by the mode of each
+abbrev pub round_value : Mode → Value → Value → Value
+round_value mode n places = do
+  x ← to_number n
+  k ← to_whole places
+  number_value (round_to x k mode)

@@ -1,0 +1,70 @@
+-- Sequences of items, and what counts of them (OpenFormula, "NumberSequence" and "LogicalSequence").
+use Rattle.std.specs.Prelude.{ℕ, Bool, List, [], ◌∷◌, map, count_by, flat_map, Option, Some, None, option_to_list, Result, Ok, Err}
+use Rattle.wi_fraction.specs.Number as numbers
+use Rattle.wi_values.specs.declared.value.ErrorKind.{ErrorKind}
+use Rattle.wi_values.specs.declared.value.Value.{Value}
+use Rattle.wi_values.specs.declared.value.Value.TheVariants.{Empty, Number, Text, Fault}
+use Rattle.wi_standard_functions.specs.Arguments.{Argument, Region}
+use Rattle.wi_standard_functions.specs.Convert.{to_number, to_logical}
+use Rattle.wi_standard_functions.specs.Steps.{and_then, map_until_error, fold_until_error}
+
+-- an item of a sequence: the value of a cell of a reference, or a scalar
+pub data Item : Type 0 where
+  from_cell : Value → Item
+  scalar : Value → Item
+
+-- the items of one argument: the cells of a reference, also of one cell, in row-major order; of any other its value
+abbrev pub items_of_one : Value → Option Region → List Item
+items_of_one v None = scalar v ∷ []
+items_of_one v (Some r) = map from_cell r.values
+
+-- the items of all arguments, from the left
+abbrev pub sequence_of : List Argument → List Item
+sequence_of args = flat_map (λ (a : Argument). items_of_one a.value a.region) args
+
+abbrev pub value_of_item : Item → Value
+value_of_item (from_cell v) = v
+value_of_item (scalar v) = v
+
+-- how many items have a value that passes a test
+abbrev pub count_items : (Value → Bool) → List Item → ℕ
+count_items test is = count_by (λ i. test (value_of_item i)) is
+
+-- ---- what counts of an item
+
+-- its number: a scalar is converted; of cells the Numbers count, an error is one, and any other is passed over
+abbrev pub number_of_item : Item → Result (Option numbers.Number) ErrorKind
+number_of_item (from_cell (Number x)) = Ok (Some x)
+number_of_item (from_cell (Fault e)) = Err e
+number_of_item (from_cell v) = Ok None
+number_of_item (scalar v) = and_then (λ x. Ok (Some x)) (to_number v)
+
+-- its truth value: a scalar is converted; of cells the Numbers and Logicals count, an error is one, and any other is passed over
+abbrev pub logical_of_item : Item → Result (Option Bool) ErrorKind
+logical_of_item (from_cell Empty) = Ok None
+logical_of_item (from_cell (Text t)) = Ok None
+logical_of_item (from_cell v) = and_then (λ b. Ok (Some b)) (to_logical v)
+logical_of_item (scalar v) = and_then (λ b. Ok (Some b)) (to_logical v)
+
+-- all that counts of the items, or the first error met
+abbrev pub all_that_count : {B : Type 0} → (Item → Result (Option B) ErrorKind) → List Item → Result (List B) ErrorKind
+all_that_count counts is = and_then (λ os. Ok (flat_map option_to_list os)) (map_until_error counts is)
+
+abbrev pub numbers_of : List Item → Result (List numbers.Number) ErrorKind
+numbers_of is = all_that_count number_of_item is
+
+abbrev pub logicals_of : List Item → Result (List Bool) ErrorKind
+logicals_of is = all_that_count logical_of_item is
+
+-- ---- the fold of a sequence
+
+-- what is calculated so far, with one more number, or none
+abbrev pub with_number : (numbers.Number → numbers.Number → Value) → numbers.Number → Option numbers.Number → Result numbers.Number ErrorKind
+with_number calculate x None = Ok x
+with_number calculate x (Some y) = to_number (calculate x y)
+
+-- what is calculated with the numbers of the items, one after another: the first error met, of an item or of a step, is the
+-- result
+abbrev pub number_fold : (numbers.Number → numbers.Number → Value) → numbers.Number → List Item → Result numbers.Number ErrorKind
+number_fold calculate start is =
+    fold_until_error (λ x i. and_then (with_number calculate x) (number_of_item i)) start is
