@@ -1,7 +1,7 @@
 -- What stands between `[.` and the first `]`.
 use Rattle.std.proofs.Common.{◌≡◌, ℕ, suc, ◌+◌, ◌-◌, ◌<◌, ◌≤◌, Bool, true, false, cond, ◌&&◌, ◌==◌, List, [], ◌∷◌, ◌++◌, length, take, get_or, Option, Some, None, is_some, refl, sym, ap, ◌∙◌, arith, append_assoc, length-append}
 use Rattle.std.specs.Prelude.{nat_lt, slice_index}
-use Rattle.std.proofs.lemmas.Bool.{eqb-true, ltb-true, ltb-false, lt-ltb}
+use Rattle.std.proofs.lemmas.Bool.{eqb-true, ltb-true, ltb-false, lt-ltb, and_parts}
 use Rattle.std.proofs.lemmas.Bool.Decides.{nat_tests}
 use Rattle.std.proofs.lemmas.List.{take_more, get_or_push, get_or-take}
 use Rattle.std.proofs.Math.Seq.{take-length, take-append_seam}
@@ -10,7 +10,7 @@ use Rattle.std.specs.Char.{is_ascii_digit, is_ascii_alphabetic}
 use Rattle.wi_lexer.specs.Inner.Runs.{is_inside, inside_len}
 use Rattle.wi_lexer.specs.Cell.{Cell, IsCell, cell_text}
 use Rattle.wi_lexer.specs.Inner.Reference.{inside, is_bracketed}
-use Rattle.wi_lexer.proofs.RunLemmas.{both_are_true, run_more}
+use Rattle.wi_lexer.proofs.RunLemmas.{run_more}
 use Rattle.wi_lexer.proofs.CellLemmas.{cell_all}
 
 abbrev pub bracketed : List ℕ → List ℕ
@@ -49,9 +49,9 @@ bracketed_back [] h = cc
 bracketed_back (a ∷ []) h = cc
 bracketed_back (a ∷ b ∷ xs) h =
     let text = a ∷ b ∷ xs in
-    let p = both_are_true (nat_lt 2 (length text)) ((a == 91) && ((b == 46) && (slice_index text (length text - 1) == 93))) h in
-    let q = both_are_true (a == 91) ((b == 46) && (slice_index text (length text - 1) == 93)) p.1 in
-    let r = both_are_true (b == 46) (slice_index text (length text - 1) == 93) q.1 in
+    let p = and_parts (nat_lt 2 (length text)) ((a == 91) && ((b == 46) && (slice_index text (length text - 1) == 93))) h in
+    let q = and_parts (a == 91) ((b == 46) && (slice_index text (length text - 1) == 93)) p.1 in
+    let r = and_parts (b == 46) (slice_index text (length text - 1) == 93) q.1 in
     let long = ltb-true 2 (length text) p.0 in
     let place : length text - 1 ≡ suc (suc (length xs - 1)) = omega (arith, long) in
     let last : get_or xs (length xs - 1) 0 ≡ 93 = ap (λ i. get_or text i 0) (sym place) ∙ eqb-true (slice_index text (length text - 1)) 93 r.1 in
@@ -88,7 +88,7 @@ closed_front passes bs h = go (nat_lt (inside_len bs) (length bs) && passes (tak
   where
     go : (t : Bool) → (nat_lt (inside_len bs) (length bs) && passes (take (inside_len bs + 1) bs)) ≡ t → 0 < cond t (inside_len bs + 1) 0 → ClosedFront passes (cond t (inside_len bs + 1) 0) bs
     go true e f =
-        let p = both_are_true (nat_lt (inside_len bs) (length bs)) (passes (take (inside_len bs + 1) bs)) e in
+        let p = and_parts (nat_lt (inside_len bs) (length bs)) (passes (take (inside_len bs + 1) bs)) e in
         let short = ltb-true (inside_len bs) (length bs) p.0 in
         record { within = omega (arith, short); is = p.1 }
     go false e f = absurd (omega (arith, f))

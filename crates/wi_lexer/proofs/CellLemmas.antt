@@ -1,7 +1,7 @@
 -- The parts of a cell are found exactly where the bytes are the text of one.
 use Rattle.std.proofs.Common.{◌≡◌, ℕ, ◌<◌, Bool, true, false, cond, ◌&&◌, ◌==◌, List, [], ◌∷◌, ◌++◌, length, take, drop, Some, None, refl, sym, ap, ◌∙◌, subst, arith}
 use Rattle.std.specs.Prelude.{nat_lt, slice_index}
-use Rattle.std.proofs.lemmas.Bool.{eqb-true, ltb-true, lt-ltb}
+use Rattle.std.proofs.lemmas.Bool.{eqb-true, ltb-true, lt-ltb, and_parts}
 use Rattle.std.proofs.lemmas.Bool.Decides.{nat_tests}
 use Rattle.std.proofs.lemmas.List.{take-append-drop}
 use Rattle.std.proofs.Math.Seq.{drop-append_seam, take-append_seam}
@@ -11,7 +11,7 @@ use Rattle.wi_lexer.specs.Runs.{IsRun}
 use Rattle.wi_lexer.specs.Inner.Runs.{letters_len}
 use Rattle.wi_lexer.specs.Cell.{Cell, IsCell, dollar, cell_text}
 use Rattle.wi_lexer.specs.Inner.Cell.{begins_with_dollar, after_dollar, cut_row, cut_column, is_row, is_cell, if_cell, cell_of}
-use Rattle.wi_lexer.proofs.RunLemmas.{both_are_true, run_stops, run_more, run_all, all_append, all_wider}
+use Rattle.wi_lexer.proofs.RunLemmas.{run_stops, run_more, run_all, all_append, all_wider}
 
 -- the text before and after a `$` that may stand first
 dollar_back : (bs : List ℕ) → dollar (begins_with_dollar bs) ++ after_dollar bs ≡ bs
@@ -35,8 +35,8 @@ some_digit (d ∷ ds) h = omega arith
 
 is_cell_tells : (c : Cell) → is_cell c ≡ true → list_all is_ascii_alphabetic c.letters ≡ true → IsCell c
 is_cell_tells c h all =
-    let p = both_are_true (nat_lt 0 (length c.letters)) (is_row c.digits) h in
-    let q = both_are_true (nat_lt 48 (slice_index c.digits 0)) (list_all is_ascii_digit c.digits) p.1 in
+    let p = and_parts (nat_lt 0 (length c.letters)) (is_row c.digits) h in
+    let q = and_parts (nat_lt 48 (slice_index c.digits 0)) (list_all is_ascii_digit c.digits) p.1 in
     let first = ltb-true 48 (slice_index c.digits 0) q.0 in
     record {
       letters = record { some = ltb-true 0 (length c.letters) p.0; all = all };
@@ -68,17 +68,17 @@ dollar_found false xs h = (h, ap (λ t. cond t (drop 1 xs) xs) h)
 
 letter_no_dollar : (ls row : List ℕ) → IsRun is_ascii_alphabetic ls → begins_with_dollar (ls ++ row) ≡ false
 letter_no_dollar [] row run = absurd (omega (arith, run.some))
-letter_no_dollar (l ∷ ls) row run = let p = both_are_true (is_ascii_alphabetic l) (list_all is_ascii_alphabetic ls) run.all in grind (arith, nat_tests, p.0)
+letter_no_dollar (l ∷ ls) row run = let p = and_parts (is_ascii_alphabetic l) (list_all is_ascii_alphabetic ls) run.all in grind (arith, nat_tests, p.0)
 
 digit_no_dollar : (ds : List ℕ) → IsRun is_ascii_digit ds → begins_with_dollar ds ≡ false
 digit_no_dollar [] run = refl
-digit_no_dollar (d ∷ ds) run = let p = both_are_true (is_ascii_digit d) (list_all is_ascii_digit ds) run.all in grind (arith, nat_tests, p.0)
+digit_no_dollar (d ∷ ds) run = let p = and_parts (is_ascii_digit d) (list_all is_ascii_digit ds) run.all in grind (arith, nat_tests, p.0)
 
 no_letter_first : (absolute : Bool) (ds : List ℕ) → IsRun is_ascii_digit ds → letters_len (dollar absolute ++ ds) ≡ 0
 no_letter_first true ds run = refl
 no_letter_first false [] run = refl
 no_letter_first false (d ∷ ds) run =
-    let p = both_are_true (is_ascii_digit d) (list_all is_ascii_digit ds) run.all in
+    let p = and_parts (is_ascii_digit d) (list_all is_ascii_digit ds) run.all in
     let no : is_ascii_alphabetic d ≡ false = grind (arith, nat_tests, p.0) in
     run_stops is_ascii_alphabetic d ds no
 

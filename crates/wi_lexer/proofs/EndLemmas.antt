@@ -1,9 +1,10 @@
 -- A token stays one where what follows doesn't go on with it.
-use Rattle.std.proofs.Common.{◌≡◌, ℕ, ◌<◌, Bool, true, false, cond, ◌||◌, ◌==◌, not, List, [], ◌∷◌, ◌++◌, length, drop, refl, sym, ap, ◌∙◌, subst, arith}
+use Rattle.std.proofs.Common.{◌≡◌, ℕ, ◌<◌, Bool, true, false, cond, ◌||◌, ◌==◌, List, [], ◌∷◌, ◌++◌, length, drop, refl, sym, ap, ◌∙◌, subst, arith}
 use Rattle.std.specs.Prelude.{slice_index}
 use Rattle.std.proofs.lemmas.Bool.Decides.{nat_tests}
 use Rattle.std.specs.List.{list_all, prefix_len}
 use Rattle.std.specs.Char.{is_ascii_digit}
+use Rattle.std.proofs.lemmas.Bool.{and_parts, not-true}
 use Rattle.wi_fraction.specs.Written.{WritesDigits, plain, point, is_exponent_letter, IsWritten}
 use Rattle.wi_quoting.specs.Quoted.{quoted}
 use Rattle.wi_lexer.specs.declared.token.Kind.{Kind}
@@ -26,7 +27,7 @@ use Rattle.wi_lexer.specs.Inner.Token.{token_at}
 use Rattle.wi_lexer.specs.Tokens.{then_tokens}
 use Rattle.wi_lexer.specs.Inner.Tokens.{tokens_ahead, tokens}
 use Rattle.wi_lexer.specs.Inner.Ends.{ends}
-use Rattle.wi_lexer.proofs.RunLemmas.{both_are_true, run_stops, digits_all, digits_run}
+use Rattle.wi_lexer.proofs.RunLemmas.{run_stops, digits_all, digits_run}
 use Rattle.wi_lexer.proofs.DecimalLemmas.{decimal_some, no_point}
 use Rattle.wi_lexer.proofs.NumberLemmas.{number_cases, number_some, EndsNumber, number_exact}
 use Rattle.wi_lexer.proofs.BracketLemmas.{bracketed}
@@ -45,7 +46,7 @@ is_number_start b = is_ascii_digit b || b == 46
 
 run_start : (class : ℕ → Bool) (text : List ℕ) → IsRun class text → class (slice_index text 0) ≡ true
 run_start class [] run = absurd (omega (arith, run.some))
-run_start class (b ∷ text) run = (both_are_true (class b) (list_all class text) run.all).0
+run_start class (b ∷ text) run = (and_parts (class b) (list_all class text) run.all).0
 
 digit_starts : (b : ℕ) → is_ascii_digit b ≡ true → is_number_start b ≡ true
 digit_starts b h = grind (arith, nat_tests)
@@ -58,7 +59,7 @@ first_of_both (b ∷ text) rest some = refl
 decimal_start : (text ds es : List ℕ) → WritesDigits text ds es → is_number_start (slice_index text 0) ≡ true
 decimal_start text _ _ (plain ds h) = digit_starts (slice_index ds 0) (run_start is_ascii_digit ds (digits_run ds h))
 decimal_start text _ _ (point [] es h i) = refl
-decimal_start text _ _ (point (d ∷ ds) es h i) = digit_starts d (both_are_true (is_ascii_digit d) (list_all is_ascii_digit ds) (digits_all (d ∷ ds) h)).0
+decimal_start text _ _ (point (d ∷ ds) es h i) = digit_starts d (and_parts (is_ascii_digit d) (list_all is_ascii_digit ds) (digits_all (d ∷ ds) h)).0
 
 pub number_start : (text : List ℕ) → IsWritten text → is_number_start (slice_index text 0) ≡ true
 number_start = number_cases (λ text. is_number_start (slice_index text 0) ≡ true) record {
@@ -94,7 +95,8 @@ token_no_blank Name text t = name_no_blank (slice_index text 0) t.start
 token_no_blank Text text t = text_no_blank text t
 token_no_blank (Mark m) text t = subst (λ x. is_blank (slice_index x 0) ≡ false) (sym t) (mark_no_blank m)
 
-no_blanks : (text rest : List ℕ) → 0 < length text → is_blank (slice_index text 0) ≡ false → after_blanks (text ++ rest) ≡ text ++ rest
+-- before a token that begins with no blank there are none
+pub no_blanks : (text rest : List ℕ) → 0 < length text → is_blank (slice_index text 0) ≡ false → after_blanks (text ++ rest) ≡ text ++ rest
 no_blanks [] rest some first = absurd (omega (arith, some))
 no_blanks (b ∷ text) rest some first = ap (λ i. drop i (b ∷ text ++ rest)) (run_stops is_blank b (text ++ rest) first)
 
@@ -139,13 +141,9 @@ beside_whole c d rest h k =
 rectangle_whole : (text rest : List ℕ) → IsRectangle text → FoundWhole Rectangle text rest
 rectangle_whole text rest (two_cells c d h k) = subst (λ t. FoundWhole Rectangle t rest) (rectangle_is c d) (beside_whole c d rest h k)
 
-not_true : (t : Bool) → not t ≡ true → t ≡ false
-not_true true h = cc
-not_true false h = refl
-
 ends_name : (rest : List ℕ) → ends Name rest ≡ true → prefix_len is_name_part rest ≡ 0
 ends_name [] h = refl
-ends_name (b ∷ rest) h = run_stops is_name_part b rest (not_true (is_name_part b) h)
+ends_name (b ∷ rest) h = run_stops is_name_part b rest (not-true (is_name_part b) h)
 
 name_whole : (text rest : List ℕ) → IsName text → ends Name rest ≡ true → FoundWhole Name text rest
 name_whole [] rest t h = absurd (omega (arith, name_some [] t))
@@ -156,7 +154,7 @@ name_whole (b ∷ text) rest t h =
 ends_text : (rest : List ℕ) → ends Text rest ≡ true → text_len rest ≡ 0
 unfolding quoted_len
 ends_text [] h = refl
-ends_text (b ∷ rest) h = ap (λ t. cond t (one_longer (quoted_len true rest)) 0) (not_true (b == 34) h)
+ends_text (b ∷ rest) h = ap (λ t. cond t (one_longer (quoted_len true rest)) 0) (not-true (b == 34) h)
 
 text_whole : (text rest : List ℕ) → IsText text → ends Text rest ≡ true → FoundWhole Text text rest
 text_whole text rest (of_content content) h =
@@ -174,7 +172,7 @@ unfolding number_len decimal_len decimals_len mark_at two_byte_mark one_byte_mar
 mark_whole Less [] h = mark_found (60 ∷ []) Less refl refl
 mark_whole Less (b ∷ rest) h = mark_found (60 ∷ b ∷ rest) Less refl (cc (no_equal_on b h, no_greater_on b h))
 mark_whole Greater [] h = mark_found (62 ∷ []) Greater refl refl
-mark_whole Greater (b ∷ rest) h = mark_found (62 ∷ b ∷ rest) Greater refl (cc (not_true (b == 61) h))
+mark_whole Greater (b ∷ rest) h = mark_found (62 ∷ b ∷ rest) Greater refl (cc (not-true (b == 61) h))
 mark_whole m rest h = mark_found (mark_text m ++ rest) m refl refl
 
 pub found_whole : (k : Kind) (text rest : List ℕ) → IsToken k text → ends k rest ≡ true → token_at (text ++ rest) ≡ found_token k (length text)

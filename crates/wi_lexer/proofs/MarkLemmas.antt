@@ -1,12 +1,11 @@
 -- The mark found at the front stands there.
 use Rattle.std.proofs.Common.{◌≡◌, ℕ, Bool, true, false, cond, ◌&&◌, ◌==◌, List, [], ◌∷◌, ◌++◌, Option, Some, None, refl, sym, ap, ◌∙◌}
 use Rattle.std.specs.Option.{option_or}
-use Rattle.std.proofs.lemmas.Bool.{eqb-true}
+use Rattle.std.proofs.lemmas.Bool.{eqb-true, and_parts}
 use Rattle.wi_lexer.specs.declared.token.Mark.{Mark}
 use Rattle.wi_lexer.specs.declared.token.Mark.TheVariants.{OpenParenthesis, CloseParenthesis, Plus, Minus, Asterisk, Slash, Caret, Percent, Ampersand, Equal, NotEqual, Less, LessOrEqual, Greater, GreaterOrEqual, Semicolon}
 use Rattle.wi_lexer.specs.Mark.{mark_text}
 use Rattle.wi_lexer.specs.Inner.Mark.{two_byte_mark, one_byte_mark, mark_at}
-use Rattle.wi_lexer.proofs.RunLemmas.{both_are_true}
 
 same_mark : (m n : Mark) → Some m ≡ Some n → m ≡ n
 same_mark m n h = cc
@@ -41,7 +40,7 @@ choose_bytes : (a b n p : ℕ) (k m : Mark) (o : Option Mark) → n ∷ p ∷ []
 choose_bytes a b n p k m o is = choose (a ∷ b ∷ []) ((a == n) && (b == p)) k m o here
   where
     here : ((a == n) && (b == p)) ≡ true → a ∷ b ∷ [] ≡ mark_text k
-    here e = let q = both_are_true (a == n) (b == p) e in ap (λ x. x ∷ b ∷ []) (eqb-true a n q.0) ∙ ap (λ x. n ∷ x ∷ []) (eqb-true b p q.1) ∙ is
+    here e = let q = and_parts (a == n) (b == p) e in ap (λ x. x ∷ b ∷ []) (eqb-true a n q.0) ∙ ap (λ x. n ∷ x ∷ []) (eqb-true b p q.1) ∙ is
 
 two_bytes_are : (a b : ℕ) (m : Mark) → two_byte_mark a b ≡ Some m → a ∷ b ∷ [] ≡ mark_text m
 unfolding two_byte_mark

@@ -89,41 +89,57 @@ IsRead content rest text = content ++ content_from true rest ≡ text_content te
 abbrev is_quote : ℕ → Bool
 is_quote b = b == 34
 
-cut_at_quote : (bs : List ℕ) → position_or_len is_quote bs < length bs → content_from true bs ≡ before_first is_quote bs ++ content_from false (after_first is_quote bs)
+-- a function that gives each byte up to the first quote as it is, and goes on as another after that
+module _ (f g : List ℕ → List ℕ) (none : f [] ≡ []) (step : (b : ℕ) (bs : List ℕ) → f (b ∷ bs) ≡ cond (b == 34) (g bs) (b ∷ f bs)) where
+  cut_at_quote : (bs : List ℕ) → position_or_len is_quote bs < length bs → f bs ≡ before_first is_quote bs ++ g (after_first is_quote bs)
+  cut_at_quote [] h = absurd (omega (arith, h))
+  cut_at_quote (b ∷ bs) h = step b bs ∙ go (b == 34) (cut_at_quote bs) h
+    where
+      place : Bool → ℕ
+      place t = cond (not t) (1 + position_or_len is_quote bs) 0
+
+      go : (t : Bool) → (position_or_len is_quote bs < length bs → f bs ≡ before_first is_quote bs ++ g (after_first is_quote bs)) → place t < length (b ∷ bs)
+          → cond t (g bs) (b ∷ f bs) ≡ take (place t) (b ∷ bs) ++ g (drop (place t + 1) (b ∷ bs))
+      go true again k = refl
+      go false again k =
+          let n = position_or_len is_quote bs in
+          let next : suc n ≡ 1 + n = omega arith in
+          let after : suc (n + 1) ≡ 1 + n + 1 = omega arith in
+          ap (λ x. b ∷ x) (again (omega (arith, k)))
+          ∙ ap (λ i. take i (b ∷ bs) ++ g (drop (n + 1) bs)) next
+          ∙ ap (λ i. take (1 + n) (b ∷ bs) ++ g (drop i (b ∷ bs))) after
+
+  no_quote : (bs : List ℕ) → position_or_len is_quote bs ≡ length bs → f bs ≡ bs
+  no_quote [] h = none
+  no_quote (b ∷ bs) h = step b bs ∙ go (b == 34) (no_quote bs) h
+    where
+      go : (t : Bool) → (position_or_len is_quote bs ≡ length bs → f bs ≡ bs) → cond (not t) (1 + position_or_len is_quote bs) 0 ≡ length (b ∷ bs) → cond t (g bs) (b ∷ f bs) ≡ b ∷ bs
+      go true again k = absurd (omega (arith, k))
+      go false again k = ap (λ x. b ∷ x) (again (omega (arith, k)))
+
+  -- what `split_once` at a quote tells of it
+  pub piece_before : (bs : List ℕ) (r : Option (Bor (List ℕ) × Bor (List ℕ))) (x : Bor (List ℕ) × Bor (List ℕ)) → IsSplitOnceResult 34 bs r → r ≡ Some x → f bs ≡ x.0.now ++ g x.1.now
+  piece_before bs r x h is =
+      let (inside, front, back) = rw is at (split_once_first 34 bs r h (omega arith)) in
+      cut_at_quote bs inside ∙ ap (λ y. y ++ g (after_first is_quote bs)) (sym front) ∙ ap (λ y. x.0.now ++ g y) (sym back)
+
+  pub no_quote_left : (bs : List ℕ) (r : Option (Bor (List ℕ) × Bor (List ℕ))) → IsSplitOnceResult 34 bs r → r ≡ None → f bs ≡ bs
+  no_quote_left bs r h is = no_quote bs (rw is at (split_once_first 34 bs r h (omega arith)))
+
+content_step : (b : ℕ) (bs : List ℕ) → content_from true (b ∷ bs) ≡ cond (b == 34) (content_from false bs) (b ∷ content_from true bs)
 unfolding content_from
-cut_at_quote [] h = absurd (omega (arith, h))
-cut_at_quote (b ∷ bs) h = go (b == 34) (cut_at_quote bs) h
-  where
-    place : Bool → ℕ
-    place t = cond (not t) (1 + position_or_len is_quote bs) 0
+content_step b bs = refl
 
-    go : (t : Bool) → (position_or_len is_quote bs < length bs → content_from true bs ≡ before_first is_quote bs ++ content_from false (after_first is_quote bs)) → place t < length (b ∷ bs) → cond t (content_from false bs) (b ∷ content_from true bs) ≡ take (place t) (b ∷ bs) ++ content_from false (drop (place t + 1) (b ∷ bs))
-    go true again k = refl
-    go false again k =
-        let n = position_or_len is_quote bs in
-        let next : suc n ≡ 1 + n = omega arith in
-        let after : suc (n + 1) ≡ 1 + n + 1 = omega arith in
-        ap (λ x. b ∷ x) (again (omega (arith, k)))
-        ∙ ap (λ i. take i (b ∷ bs) ++ content_from false (drop (n + 1) bs)) next
-        ∙ ap (λ i. take (1 + n) (b ∷ bs) ++ content_from false (drop i (b ∷ bs))) after
-
-no_quote : (bs : List ℕ) → position_or_len is_quote bs ≡ length bs → content_from true bs ≡ bs
+no_content : content_from true [] ≡ []
 unfolding content_from
-no_quote [] h = refl
-no_quote (b ∷ bs) h = go (b == 34) (no_quote bs) h
-  where
-    go : (t : Bool) → (position_or_len is_quote bs ≡ length bs → content_from true bs ≡ bs) → cond (not t) (1 + position_or_len is_quote bs) 0 ≡ length (b ∷ bs) → cond t (content_from false bs) (b ∷ content_from true bs) ≡ b ∷ bs
-    go true again k = absurd (omega (arith, k))
-    go false again k = ap (λ x. b ∷ x) (again (omega (arith, k)))
+no_content = refl
 
--- what `split_once` at a quote tells
+-- what `split_once` at a quote tells of the content
 pub piece_is : (bs : List ℕ) (r : Option (Bor (List ℕ) × Bor (List ℕ))) (x : Bor (List ℕ) × Bor (List ℕ)) → IsSplitOnceResult 34 bs r → r ≡ Some x → content_from true bs ≡ x.0.now ++ content_from false x.1.now
-piece_is bs r x h is =
-    let (inside, front, back) = rw is at (split_once_first 34 bs r h (omega arith)) in
-    cut_at_quote bs inside ∙ ap (λ f. f ++ content_from false (after_first is_quote bs)) (sym front) ∙ ap (λ f. x.0.now ++ content_from false f) (sym back)
+piece_is = piece_before (content_from true) (content_from false) no_content content_step
 
 pub rest_is : (bs : List ℕ) (r : Option (Bor (List ℕ) × Bor (List ℕ))) → IsSplitOnceResult 34 bs r → r ≡ None → content_from true bs ≡ bs
-rest_is bs r h is = no_quote bs (rw is at (split_once_first 34 bs r h (omega arith)))
+rest_is = no_quote_left (content_from true) (content_from false) no_content content_step
 
 -- what `strip_prefix` of a quote tells
 abbrev pub IsStripped : List ℕ → Option (Bor (List ℕ)) → Type 0
@@ -168,61 +184,42 @@ inside_of content = flat_map doubled content ++ 34 ∷ []
 pub text_some : (text : List ℕ) → IsText text → 0 < length text
 text_some text (of_content content) = omega arith
 
--- a text at the front is no longer than what is found there
-inside_more : (content rest : List ℕ) → length (inside_of content) ≤ quoted_len true (inside_of content ++ rest)
+-- what follows the first quote is found up to its last one, and on where another follows that
+inside_len : (content rest : List ℕ) → quoted_len true (inside_of content ++ rest) ≡ length (inside_of content) + quoted_len false rest
 unfolding quoted_len
-inside_more [] rest = omega arith
-inside_more (b ∷ content) rest = go (b == 34) refl (inside_more content rest)
+inside_len [] rest = omega arith
+inside_len (b ∷ content) rest = go (b == 34) refl (inside_len content rest)
   where
     later : List ℕ
     later = flat_map doubled content
 
-    go : (t : Bool) → (b == 34) ≡ t → length (inside_of content) ≤ quoted_len true (inside_of content ++ rest) → length ((cond t (34 ∷ 34 ∷ []) (b ∷ []) ++ later) ++ 34 ∷ []) ≤ quoted_len true (((cond t (34 ∷ 34 ∷ []) (b ∷ []) ++ later) ++ 34 ∷ []) ++ rest)
-    go true e more =
+    go : (t : Bool) → (b == 34) ≡ t → quoted_len true (inside_of content ++ rest) ≡ length (inside_of content) + quoted_len false rest
+        → quoted_len true (((cond t (34 ∷ 34 ∷ []) (b ∷ []) ++ later) ++ 34 ∷ []) ++ rest) ≡ length ((cond t (34 ∷ 34 ∷ []) (b ∷ []) ++ later) ++ 34 ∷ []) + quoted_len false rest
+    go true e again =
         let n = quoted_len true (inside_of content ++ rest) in
         let size = length-append later (34 ∷ []) in
-        omega (arith, more, size, one_longer_some n (omega (arith, more, size)))
-    go false e more =
+        omega (arith, again, size, one_longer_some n (omega (arith, again, size)))
+    go false e again =
         let n = quoted_len true (inside_of content ++ rest) in
         let size = length-append later (34 ∷ []) in
         let step : quoted_len true (b ∷ inside_of content ++ rest) ≡ one_longer n = ap (λ t. cond t (1 + quoted_len false (inside_of content ++ rest)) (one_longer n)) e in
-        omega (arith, more, size, step, one_longer_some n (omega (arith, more, size)))
+        omega (arith, again, size, step, one_longer_some n (omega (arith, again, size)))
+
+-- a text at the front is found up to its end, and on where a quote follows
+text_found : (text : List ℕ) → IsText text → (rest : List ℕ) → text_len (text ++ rest) ≡ length text + text_len rest
+unfolding quoted_len
+text_found text (of_content content) rest =
+    let n = quoted_len true (inside_of content ++ rest) in
+    let inside = inside_len content rest in
+    let size = length-append (flat_map doubled content) (34 ∷ []) in
+    omega (arith, inside, size, one_longer_some n (omega (arith, inside, size)))
 
 pub text_more : (text : List ℕ) → IsText text → (rest : List ℕ) → length text ≤ text_len (text ++ rest)
-unfolding quoted_len
-text_more text (of_content content) rest =
-    let n = quoted_len true (inside_of content ++ rest) in
-    let more = inside_more content rest in
-    let size = length-append (flat_map doubled content) (34 ∷ []) in
-    omega (arith, more, size, one_longer_some n (omega (arith, more, size)))
+text_more text t rest = omega (arith, text_found text t rest)
 
--- a text is found whole where no quote follows
-inside_exact : (content rest : List ℕ) → quoted_len false rest ≡ 0 → quoted_len true (inside_of content ++ rest) ≡ length (inside_of content)
-unfolding quoted_len
-inside_exact [] rest none = omega (arith, none)
-inside_exact (b ∷ content) rest none = go (b == 34) refl (inside_exact content rest none)
-  where
-    later : List ℕ
-    later = flat_map doubled content
-
-    go : (t : Bool) → (b == 34) ≡ t → quoted_len true (inside_of content ++ rest) ≡ length (inside_of content) → quoted_len true (((cond t (34 ∷ 34 ∷ []) (b ∷ []) ++ later) ++ 34 ∷ []) ++ rest) ≡ length ((cond t (34 ∷ 34 ∷ []) (b ∷ []) ++ later) ++ 34 ∷ [])
-    go true e exact =
-        let n = quoted_len true (inside_of content ++ rest) in
-        let size = length-append later (34 ∷ []) in
-        omega (arith, exact, size, one_longer_some n (omega (arith, exact, size)))
-    go false e exact =
-        let n = quoted_len true (inside_of content ++ rest) in
-        let size = length-append later (34 ∷ []) in
-        let step : quoted_len true (b ∷ inside_of content ++ rest) ≡ one_longer n = ap (λ t. cond t (1 + quoted_len false (inside_of content ++ rest)) (one_longer n)) e in
-        omega (arith, exact, size, step, one_longer_some n (omega (arith, exact, size)))
-
+-- it is found whole where no quote follows
 pub text_exact : (text : List ℕ) → IsText text → (rest : List ℕ) → text_len rest ≡ 0 → text_len (text ++ rest) ≡ length text
-unfolding quoted_len
-text_exact text (of_content content) rest none =
-    let n = quoted_len true (inside_of content ++ rest) in
-    let exact = inside_exact content rest none in
-    let size = length-append (flat_map doubled content) (34 ∷ []) in
-    omega (arith, exact, size, one_longer_some n (omega (arith, exact, size)))
+text_exact text t rest none = omega (arith, text_found text t rest, none)
 
 quoted_within : (inside : Bool) (bs : List ℕ) → quoted_len inside bs ≤ length bs
 unfolding quoted_len

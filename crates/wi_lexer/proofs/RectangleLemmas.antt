@@ -1,7 +1,7 @@
 -- The reference to a rectangle found at the front is one, and each one there is found.
 use Rattle.std.proofs.Common.{◌≡◌, ℕ, ◌<◌, ◌≤◌, Bool, true, false, cond, ◌==◌, List, [], ◌∷◌, ◌++◌, length, take, drop, Option, Some, None, is_some, refl, sym, ap, ◌∙◌, subst, arith, append_assoc}
 use Rattle.std.specs.Prelude.{slice_index}
-use Rattle.std.proofs.lemmas.Bool.{eqb-true}
+use Rattle.std.proofs.lemmas.Bool.{eqb-true, and_parts}
 use Rattle.std.proofs.lemmas.Bool.Decides.{nat_tests}
 use Rattle.std.proofs.lemmas.List.{take-append-drop}
 use Rattle.std.proofs.lemmas.List.Folds.{list_all-append}
@@ -14,7 +14,7 @@ use Rattle.wi_lexer.specs.Inner.Cell.{cell_of}
 use Rattle.wi_lexer.specs.Inner.Reference.{inside, reference_of, reference_len}
 use Rattle.wi_lexer.specs.Rectangle.{rectangle_text, IsRectangle, two_cells}
 use Rattle.wi_lexer.specs.Inner.Rectangle.{begins_second, both_cells, cells_beside, corner_cells, rectangle_of, rectangle_len}
-use Rattle.wi_lexer.proofs.RunLemmas.{both_are_true, run_more, all_append}
+use Rattle.wi_lexer.proofs.RunLemmas.{run_more, all_append}
 use Rattle.wi_lexer.proofs.CellLemmas.{cell_sound, cell_complete, cell_all}
 use Rattle.wi_lexer.proofs.BracketLemmas.{bracketed, inside_read, read_back, some_item, closed_len, closed_front, closed_none, closed_bracket, cell_inside}
 use Rattle.wi_lexer.proofs.ReferenceLemmas.{is_reference}
@@ -46,8 +46,8 @@ both_found (Some a) (Some b) c d h = let e = same_cells (a, b) (c, d) h in (ap (
 
 second_back : (bs : List ℕ) → begins_second bs ≡ true → 58 ∷ 46 ∷ drop 2 bs ≡ bs
 second_back [] h = cc
-second_back (a ∷ []) h = let p = both_are_true (a == 58) false h in cc
-second_back (a ∷ b ∷ bs) h = let p = both_are_true (a == 58) (b == 46) h in cc (eqb-true a 58 p.0, eqb-true b 46 p.1)
+second_back (a ∷ []) h = let p = and_parts (a == 58) false h in cc
+second_back (a ∷ b ∷ bs) h = let p = and_parts (a == 58) (b == 46) h in cc (eqb-true a 58 p.0, eqb-true b 46 p.1)
 
 cells_sound : (bs : List ℕ) (c d : Cell) → corner_cells bs ≡ Some (c, d) → IsCell c × IsCell d × (beside c d ≡ bs)
 unfolding corner_cells
@@ -140,7 +140,7 @@ no_cell c d = go (cell_of (beside c d)) refl
         let p = cell_sound (beside c d) x e in
         let all : list_all is_before_colon (beside c d) ≡ true = ap (list_all is_before_colon) (sym p.1) ∙ cell_before_colon x p.0 in
         let parts = sym (list_all-append is_before_colon (cell_text c) (58 ∷ 46 ∷ cell_text d)) ∙ all in
-        let q = both_are_true (list_all is_before_colon (cell_text c)) false parts in
+        let q = and_parts (list_all is_before_colon (cell_text c)) false parts in
         cc
 
 no_reference_of : (c d : Cell) → reference_of (bracketed (beside c d)) ≡ None

@@ -1,7 +1,7 @@
 -- Runs of bytes of one class.
-use Rattle.std.proofs.Common.{◌≡◌, ℕ, suc, ◌+◌, ◌<◌, ◌≤◌, Bool, true, false, cond, ◌&&◌, ◌⊎◌, inl, inr, List, [], ◌∷◌, ◌++◌, length, take, refl, sym, ap, ◌∙◌, subst, arith}
+use Rattle.std.proofs.Common.{◌≡◌, ℕ, suc, ◌+◌, ◌<◌, ◌≤◌, Bool, true, false, cond, ◌⊎◌, inl, inr, List, [], ◌∷◌, ◌++◌, length, take, refl, sym, ap, ◌∙◌, subst, arith}
 use Rattle.std.specs.Prelude.{nat_lt}
-use Rattle.std.proofs.lemmas.Bool.{cases_Bool, ltb-true, lt-ltb}
+use Rattle.std.proofs.lemmas.Bool.{cases_Bool, ltb-true, lt-ltb, and_parts}
 use Rattle.std.specs.List.{prefix_len, list_all}
 use Rattle.std.proofs.lemmas.List.Sums.{prefix_len-le-length}
 use Rattle.std.specs.Char.{is_ascii_digit}
@@ -9,10 +9,6 @@ use Rattle.std.specs.Str.Parse.{AllDigits, IsNumeral}
 use Rattle.wi_fraction.proofs.Scanning.{own, digits_same}
 use Rattle.wi_lexer.specs.Runs.{IsRun}
 use Rattle.wi_lexer.specs.Inner.Runs.{one_longer}
-
-pub both_are_true : (a b : Bool) → (a && b) ≡ true → (a ≡ true) × (b ≡ true)
-both_are_true true b e = (refl, e)
-both_are_true false b e = cc
 
 pub run_within : (class : ℕ → Bool) (bs : List ℕ) → prefix_len class bs ≤ length bs
 run_within class bs = prefix_len-le-length class bs
@@ -25,7 +21,7 @@ run_stops class b bs e = ap (λ t. cond t (1 + prefix_len class bs) 0) e
 pub run_more : (class : ℕ → Bool) (xs bs : List ℕ) → list_all class xs ≡ true → prefix_len class (xs ++ bs) ≡ length xs + prefix_len class bs
 run_more class [] bs e = omega arith
 run_more class (x ∷ xs) bs e =
-    let p = both_are_true (class x) (list_all class xs) e in
+    let p = and_parts (class x) (list_all class xs) e in
     let more = run_more class xs bs p.1 in
     omega (arith, more, ap (λ t. cond t (1 + prefix_len class (xs ++ bs)) 0) p.0)
 
@@ -46,14 +42,14 @@ run_all class (b ∷ bs) = go (run_all class bs) (cases_Bool (class b))
 pub all_append : (class : ℕ → Bool) (xs ys : List ℕ) → list_all class xs ≡ true → list_all class ys ≡ true → list_all class (xs ++ ys) ≡ true
 all_append class [] ys h k = k
 all_append class (x ∷ xs) ys h k =
-    let p = both_are_true (class x) (list_all class xs) h in
+    let p = and_parts (class x) (list_all class xs) h in
     cc (p.0, all_append class xs ys p.1 k)
 
 -- a run of a class is one of a wider class
 pub all_wider : (class wider : ℕ → Bool) → ((b : ℕ) → class b ≡ true → wider b ≡ true) → (xs : List ℕ) → list_all class xs ≡ true → list_all wider xs ≡ true
 all_wider class wider each [] h = refl
 all_wider class wider each (x ∷ xs) h =
-    let p = both_are_true (class x) (list_all class xs) h in
+    let p = and_parts (class x) (list_all class xs) h in
     cc (each x p.0, all_wider class wider each xs p.1)
 
 -- ---- digits

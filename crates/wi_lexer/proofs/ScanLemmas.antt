@@ -1,5 +1,5 @@
 -- What a lexer cuts off is the next token, and the slice of the source at its span.
-use Rattle.std.proofs.Common.{Bool, false, ◌==◌, eq-eqb, ◌≡◌, ◌≢◌, ℕ, ◌+◌, ◌-◌, ◌≤◌, List, [], ◌∷◌, ◌++◌, length, take, drop, Some, None, refl, sym, ap, ◌∙◌, subst, arith, length-drop}
+use Rattle.std.proofs.Common.{Bool, false, ◌==◌, eq-eqb, ◌≡◌, ◌≢◌, ℕ, ◌+◌, ◌-◌, ◌≤◌, List, [], ◌++◌, length, take, drop, Some, None, sym, ap, ◌∙◌, subst, arith, length-drop}
 use Rattle.std.proofs.lemmas.List.{take-append-drop, drop-drop}
 use Rattle.std.proofs.lemmas.Bool.{true≢false}
 use Rattle.wi_lexer.specs.declared.token.Kind.{Kind}
@@ -28,10 +28,6 @@ front_is old a text after n here front back =
 
 pub none_is : (old : Scan) (a bytes : List ℕ) → token_at bytes ≡ None → bytes ≡ a → a ≡ ahead old → NoToken (ahead old)
 none_is old a bytes none same here = subst NoToken here (subst NoToken same (none_begins bytes none))
-
-pub no_bytes : (a : List ℕ) → length a ≡ 0 → a ≡ []
-no_bytes [] h = refl
-no_bytes (x ∷ xs) h = absurd (omega arith)
 
 -- the end of the source that is n bytes shorter
 pub tail_is : (source rest a : List ℕ) (n : ℕ) → length rest ≤ length source → drop (length source - length rest) source ≡ rest → a ≡ drop n rest → n ≤ length rest → drop (length source - length a) source ≡ a

@@ -48,12 +48,16 @@ text_holds text again = go (after_blanks text) refl
         let is = tokens_are text ∙ ahead_from tokens (after_blanks text) some in
         subst (AreTokens text) (sym is) (from_holds text some again (token_at (after_blanks text)) refl)
 
-holds_below : (n : ℕ) (text : List ℕ) → length text < n → Hold text
-holds_below zero text h = absurd (omega arith)
-holds_below (suc n) text h = text_holds text (λ ys shorter. holds_below n ys (omega arith))
+-- what holds of a text where it holds of each shorter one, holds of every text
+pub by_length : (P : List ℕ → Type 0) → ((text : List ℕ) → ((ys : List ℕ) → length ys < length text → P ys) → P text) → (text : List ℕ) → P text
+by_length P step text = below (suc (length text)) text (omega arith)
+  where
+    below : (n : ℕ) (xs : List ℕ) → length xs < n → P xs
+    below zero xs h = absurd (omega arith)
+    below (suc n) xs h = step xs (λ ys shorter. below n ys (omega arith))
 
 pub tokens_hold : (text : List ℕ) → Hold text
-tokens_hold text = holds_below (suc (length text)) text (omega arith)
+tokens_hold text = by_length Hold text_holds text
 
 pub tokens_of_text : (text : List ℕ) (ts : Tokens) → AreTokens text ts ↔ (ts ≡ tokens text)
 tokens_of_text text ts = (λ h. sym (tokens_found text ts h), λ e. subst (AreTokens text) (sym e) (tokens_hold text))

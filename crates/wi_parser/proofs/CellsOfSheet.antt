@@ -6,13 +6,14 @@ use Rattle.std.proofs.Math.Seq.{take-append_seam, drop-append_seam}
 use Rattle.std.specs.Char.{is_ascii_alphabetic, is_ascii_digit}
 use Rattle.std.specs.Fmt.{decimal}
 use Rattle.std.specs.List.{list_all, prefix_len}
+use Rattle.std.proofs.lemmas.Bool.{and_parts}
 use Rattle.wi_values.specs.Address.{columns, rows, row_of, column_of, column_letters, address_text, is_row_number}
 use Rattle.wi_values.specs.AddressReading.{address_at, read_address}
 use Rattle.wi_values.specs.declared.address.AddressFault.TheVariants.{Shape, Outside}
 use Rattle.wi_values.proofs.ReadsBack.{addresses_read_back, letters_are, letters_some}
 use Rattle.wi_lexer.specs.Runs.{IsRun}
 use Rattle.wi_lexer.specs.Cell.{IsCell}
-use Rattle.wi_lexer.proofs.RunLemmas.{both_are_true, run_stops, run_more, digits_run}
+use Rattle.wi_lexer.proofs.RunLemmas.{run_stops, run_more, digits_run}
 use Rattle.wi_parser.specs.declared.expr.Reference.{Reference}
 use Rattle.wi_parser.specs.Printing.{cell_named}
 use Rattle.wi_parser.specs.Shift.{in_sheet}
@@ -50,7 +51,7 @@ cell_is r e =
 no_letters : (ds : List ℕ) → IsRun is_ascii_digit ds → prefix_len is_ascii_alphabetic ds ≡ 0
 no_letters [] run = refl
 no_letters (d ∷ ds) run =
-    let first = (both_are_true (is_ascii_digit d) (list_all is_ascii_digit ds) run.all).0 in
+    let first = (and_parts (is_ascii_digit d) (list_all is_ascii_digit ds) run.all).0 in
     let other : is_ascii_alphabetic d ≡ false = grind (arith, nat_tests, first) in
     run_stops is_ascii_alphabetic d ds other
 

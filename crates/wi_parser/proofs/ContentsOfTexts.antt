@@ -1,7 +1,6 @@
 -- What a text is taken for, and nothing else: the tree that is parsed, the content that is read.
-use Rattle.std.proofs.Common.{◌≡◌, ◌↔◌, ℕ, ◌+◌, ◌≤◌, Bool, true, false, ◌||◌, nat_lt, List, ◌++◌, length, Option, Some, None, is_some, option_map, unwrap_or, Result, Ok, Err, ok_or, if◌then◌else◌, refl, sym, ap, ◌∙◌, subst, arith}
+use Rattle.std.proofs.Common.{◌≡◌, ◌↔◌, ℕ, ◌+◌, Bool, true, false, nat_lt, List, ◌++◌, length, Option, Some, None, is_some, option_map, unwrap_or, Result, Ok, Err, ok_or, if◌then◌else◌, refl, sym, ap, ◌∙◌, subst, arith}
 use Rattle.std.specs.Prelude.{codes}
-use Rattle.std.specs.List.{list_any}
 use Rattle.std.proofs.lemmas.Bool.Decides.{nat_tests}
 use Rattle.wi_values.specs.declared.value.Value.{Value}
 use Rattle.wi_values.specs.declared.value.Value.TheVariants.{Text}
@@ -13,43 +12,29 @@ use Rattle.wi_lexer.specs.Inner.Tokens.{tokens}
 use Rattle.wi_parser.specs.declared.content.Content.{Content}
 use Rattle.wi_parser.specs.declared.content.Content.TheVariants.{Constant}
 use Rattle.wi_parser.specs.declared.fault.ParseFault.{ParseFault}
-use Rattle.wi_parser.specs.declared.fault.ParseFault.TheVariants.{TooLong, OutOfSheet, NumberRange, TooDeep, Syntax}
+use Rattle.wi_parser.specs.declared.fault.ParseFault.TheVariants.{TooLong, Syntax}
 use Rattle.wi_parser.specs.Contents.{IsFormulaText, plain, prefixed, AreJudged, at_fault, a_tree, no_tree, IsParsed, too_long, as_judged, IsConstantText, IsContent, a_formula, no_formula, a_text, a_long_text, a_constant, no_constant}
 use Rattle.wi_parser.specs.Inner.FormulaText.{symbols_of, after, after_equals, formula_symbols}
 use Rattle.wi_parser.specs.Grammar.{Spells, loosest}
-use Rattle.wi_parser.specs.Nesting.{deepest, most_signs, max_depth, is_too_deep}
+use Rattle.wi_parser.specs.Nesting.{max_depth}
 use Rattle.wi_parser.specs.Inner.Reader.{whole}
 use Rattle.wi_parser.specs.Limits.{max_formula, refusal_of}
 use Rattle.wi_parser.specs.Inner.Reading.{unless_refused, judged, parsed, as_content, taken_as_text, constant_read, content_read}
-use Rattle.wi_parser.specs.Symbol.{Symbol, is_outside, is_unfit}
+use Rattle.wi_parser.specs.Symbol.{Symbol}
 use Rattle.wi_parser.specs.Symbols.{AreSymbols}
 use Rattle.wi_parser.specs.Tree.{Tree}
 use Rattle.wi_parser.proofs.Complete.{whole_complete}
 use Rattle.wi_parser.proofs.Depth.{depth-deepest}
 use Rattle.wi_parser.proofs.Fronts.{after-append, after-some}
-use Rattle.wi_parser.proofs.Parses.{parsed_long, parsed_short}
+use Rattle.wi_parser.proofs.Parses.{parsed_long, parsed_short, shallow}
 use Rattle.wi_parser.proofs.Sound.{whole_sound}
 use Rattle.wi_parser.proofs.SymbolsOfTexts.{symbols_exactly}
 
 -- ---- symbols
 
-not_chosen : (b : Bool) (e : ParseFault) (o : Option ParseFault) → (if b then Some e else o) ≡ None → (b ≡ false) × (o ≡ None)
-not_chosen true e o h = cc
-not_chosen false e o h = (refl, h)
-
-not_above : (most m n : ℕ) → (nat_lt most m || nat_lt most n) ≡ false → m ≤ most
-not_above most m n h = grind (arith, nat_tests)
-
-shallow : (ts : List Symbol) → refusal_of ts ≡ None → deepest 0 ts ≤ max_depth
-shallow ts h =
-    let a = not_chosen (list_any is_outside ts) OutOfSheet _ h in
-    let b = not_chosen (list_any is_unfit ts) NumberRange _ a.1 in
-    let c = not_chosen (is_too_deep ts) TooDeep None b.1 in
-    not_above max_depth (deepest 0 ts) (most_signs 0 ts) c.0
-
 -- what is spelled is read, where it is not refused
 spelled_read : (ts : List Symbol) (t : Tree) → refusal_of ts ≡ None → Spells loosest t ts → whole (max_depth + 1) ts ≡ Some t
-spelled_read ts t h s = whole_complete max_depth ts t s (omega (arith, depth-deepest t ts s, shallow ts h))
+spelled_read ts t h s = whole_complete max_depth ts t s (omega (arith, depth-deepest t ts s, (shallow ts h).0))
 
 nothing_read : (ts : List Symbol) → ((t : Tree) → Spells loosest t ts → ⊥) → (o : Option Tree) → whole (max_depth + 1) ts ≡ o → whole (max_depth + 1) ts ≡ None
 nothing_read ts none None e = e

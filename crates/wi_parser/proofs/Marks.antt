@@ -1,6 +1,7 @@
 -- What stands first, where one symbol is looked for.
-use Rattle.std.proofs.Common.{◌≡◌, ℕ, ◌+◌, true, false, Bool, cond, ◌==◌, List, [], ◌∷◌, ◌++◌, length, Option, Some, None, option_map, option_and_then, refl, sym, ap, ◌∙◌, arith}
+use Rattle.std.proofs.Common.{◌≡◌, ℕ, ◌+◌, ◌==◌, List, [], ◌∷◌, ◌++◌, length, Option, Some, None, option_map, option_and_then, refl, sym, ap, ◌∙◌, arith}
 use Rattle.std.proofs.lemmas.Bool.{eqb-true}
+use Rattle.std.proofs.lemmas.Option.{cond_some}
 use Rattle.wi_parser.specs.declared.expr.Operator.{Operator}
 use Rattle.wi_parser.specs.declared.expr.Operator.TheVariants.{Add, Subtract}
 use Rattle.wi_parser.specs.declared.expr.Reference.{Reference}
@@ -40,14 +41,10 @@ reference_is [] p h = cc
 reference_is (reference r ∷ ts) p h = cc
 reference_is (s ∷ ts) p h = cc
 
-passed : {A : Type 0} (b : Bool) (x y : A) → cond b (Some x) None ≡ Some y → (b ≡ true) × (x ≡ y)
-passed true x y h = (refl, cc)
-passed false x y h = cc
-
 pub operator_is : (k : ℕ) (ts us : List Symbol) (op : Operator) → operator_at k ts ≡ Some (op, us) → (line_of op ≡ k) × (ts ≡ infix_mark op ∷ us)
 operator_is k [] us op h = cc
 operator_is k (infix_mark o ∷ ts) us op h =
-    let p = passed (line_of o == k) (o, ts) (op, us) h in
+    let p = cond_some (line_of o == k) (o, ts) (op, us) h in
     let same : o ≡ op = ap (λ q. q.0) p.1 in
     let rest : ts ≡ us = ap (λ q. q.1) p.1 in
     (sym (ap line_of same) ∙ eqb-true (line_of o) k p.0, cc)

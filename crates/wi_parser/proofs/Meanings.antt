@@ -91,7 +91,7 @@ no_corners (Some r) None h = refl
 no_corners (Some r) (Some s) (inl e) = cc
 no_corners (Some r) (Some s) (inr e) = cc
 
-operator_means : (op : Operator) → mark_symbol (mark_of op) ≡ infix_mark op
+pub operator_means : (op : Operator) → mark_symbol (mark_of op) ≡ infix_mark op
 operator_means operator.Add = refl
 operator_means op = refl
 

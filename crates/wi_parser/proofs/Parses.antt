@@ -1,8 +1,7 @@
 -- What the tree of a text is, and why there is none.
 use Rattle.std.proofs.Common.{◌≡◌, ℕ, ◌+◌, ◌<◌, ◌≤◌, Bool, true, false, ◌||◌, nat_lt, List, [], ◌∷◌, ◌++◌, length, Option, Some, None, Result, Ok, Err, ok_or, if◌then◌else◌, IfOk, ◌↔◌, refl, sym, ap, ap₂, ◌∙◌, subst, arith}
-use Rattle.std.proofs.lemmas.Bool.{or_parts}
+use Rattle.std.proofs.lemmas.Bool.{or_parts, lt-ltb, le-ltb, ltb-false}
 use Rattle.std.proofs.lemmas.List.Folds.{list_any-append}
-use Rattle.std.proofs.lemmas.Bool.Decides.{nat_tests}
 use Rattle.std.specs.List.{list_any}
 use Rattle.wi_parser.specs.declared.fault.ParseFault.{ParseFault}
 use Rattle.wi_parser.specs.declared.fault.ParseFault.TheVariants.{TooLong, OutOfSheet, NumberRange, TooDeep, Syntax, Memory}
@@ -66,14 +65,8 @@ unfit_is_refused : (s : Symbol) → is_refused s ≡ false → is_unfit s ≡ fa
 unfit_is_refused (refused e) h = cc
 unfit_is_refused s h = refl
 
-not_below : (m n : ℕ) → m ≤ n → nat_lt n m ≡ false
-not_below m n h = grind (arith, nat_tests)
-
-below : (m n : ℕ) → m < n → nat_lt m n ≡ true
-below m n h = grind (arith, nat_tests)
-
 not_too_deep : (ts : List Symbol) → deepest 0 ts ≤ max_depth → most_signs 0 ts ≤ max_depth → is_too_deep ts ≡ false
-not_too_deep ts h e = ap (λ b. b || nat_lt max_depth (most_signs 0 ts)) (not_below _ max_depth h) ∙ not_below _ max_depth e
+not_too_deep ts h e = ap (λ b. b || nat_lt max_depth (most_signs 0 ts)) (le-ltb max_depth _ h) ∙ le-ltb max_depth _ e
 
 not_refused : (ts : List Symbol) → list_any is_outside ts ≡ false → list_any is_unfit ts ≡ false → is_too_deep ts ≡ false → refusal_of ts ≡ None
 not_refused ts o u d =
@@ -91,11 +84,11 @@ judged_spelled ts t s h e =
 
 pub parsed_long : (text : List ℕ) → max_formula < length text → parsed text ≡ Err TooLong
 unfolding parsed
-parsed_long text h = ap (λ b. if b then Err TooLong else judged (formula_symbols text)) (below _ _ h)
+parsed_long text h = ap (λ b. if b then Err TooLong else judged (formula_symbols text)) (lt-ltb _ _ h)
 
 pub parsed_short : (text : List ℕ) → length text ≤ max_formula → parsed text ≡ judged (formula_symbols text)
 unfolding parsed
-parsed_short text h = ap (λ b. if b then Err TooLong else judged (formula_symbols text)) (not_below _ _ h)
+parsed_short text h = ap (λ b. if b then Err TooLong else judged (formula_symbols text)) (le-ltb _ _ h)
 
 pub parsed_refused : (text : List ℕ) (ts : List Symbol) (e : ParseFault) → length text ≤ max_formula → ts ≡ formula_symbols text → refusal_of ts ≡ Some e → parsed text ≡ Err e
 parsed_refused text ts e h is r = parsed_short text h ∙ ap judged (sym is) ∙ ap (λ o. unless_refused o (whole (max_depth + 1) ts)) r
@@ -132,16 +125,13 @@ not_chosen : (b : Bool) (e : ParseFault) (o : Option ParseFault) → (if b then 
 not_chosen true e o h = cc
 not_chosen false e o h = (refl, h)
 
-at_most : (m n : ℕ) → nat_lt n m ≡ false → m ≤ n
-at_most m n h = grind (arith, nat_tests)
-
-shallow : (ts : List Symbol) → refusal_of ts ≡ None → (deepest 0 ts ≤ max_depth) × (most_signs 0 ts ≤ max_depth)
+pub shallow : (ts : List Symbol) → refusal_of ts ≡ None → (deepest 0 ts ≤ max_depth) × (most_signs 0 ts ≤ max_depth)
 shallow ts h =
     let a = not_chosen (list_any is_outside ts) OutOfSheet _ h in
     let b = not_chosen (list_any is_unfit ts) NumberRange _ a.1 in
     let c = not_chosen (is_too_deep ts) TooDeep None b.1 in
     let d = or_parts (nat_lt max_depth (deepest 0 ts)) (nat_lt max_depth (most_signs 0 ts)) c.0 in
-    (at_most _ max_depth d.0, at_most _ max_depth d.1)
+    (ltb-false max_depth _ d.0, ltb-false max_depth _ d.1)
 
 not_long : (b : Bool) (r : Result Tree ParseFault) (t : Tree) → (if b then Err TooLong else r) ≡ Ok t → b ≡ false
 not_long true r t h = cc
@@ -154,7 +144,7 @@ within text t h =
     let long = nat_lt max_formula (length text) in
     let inside : judged ts ≡ Ok t = length_or long (judged ts) t h in
     let nesting = shallow ts (none_refused (refusal_of ts) (whole (max_depth + 1) ts) t inside) in
-    record { short = at_most (length text) max_formula (not_long long (judged ts) t h); parentheses = nesting.0; signs = nesting.1 }
+    record { short = ltb-false max_formula (length text) (not_long long (judged ts) t h); parentheses = nesting.0; signs = nesting.1 }
 
 pub parsed_exactly : (text : List ℕ) (t : Tree) → (parsed text ≡ Ok t) ↔ (IsWithinLimits text × Spells loosest t (formula_symbols text))
 parsed_exactly text t = (λ h. (within text t h, parsed_spells text t h), λ p. spelled_parsed text t p.0 p.1)

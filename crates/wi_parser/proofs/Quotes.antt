@@ -1,50 +1,27 @@
 -- A content written piece by piece, its quotes doubled.
-use Rattle.std.proofs.Common.{◌≡◌, ℕ, suc, ◌+◌, ◌<◌, Bool, true, false, cond, not, ◌==◌, List, [], ◌∷◌, ◌++◌, length, take, drop, refl, sym, ap, ◌∙◌, arith, append_assoc, Option, Some, None, Bor, Result, Ok, Err, is_ok, OnOk}
-use Rattle.std.specs.List.{flat_map, position_or_len, before_first, after_first}
-use Rattle.std.proofs.lemmas.Str.Pattern.{IsSplitOnceResult, split_once_first}
+use Rattle.std.proofs.Common.{◌≡◌, ℕ, Bool, true, false, cond, ◌==◌, List, [], ◌∷◌, ◌++◌, refl, sym, ap, ◌∙◌, append_assoc, Option, Some, None, Bor, Result, Ok, Err, is_ok, OnOk}
+use Rattle.std.specs.List.{flat_map}
+use Rattle.std.proofs.lemmas.Str.Pattern.{IsSplitOnceResult}
 use Rattle.wi_quoting.specs.Quoted.{doubled, quoted}
-
-abbrev is_quote : ℕ → Bool
-is_quote b = b == 34
+use Rattle.wi_lexer.proofs.QuoteLemmas.{piece_before, no_quote_left}
 
 -- a quote twice, and the rest of the content
 abbrev quote_twice : List ℕ → List ℕ
 quote_twice bs = 34 ∷ 34 ∷ flat_map doubled bs
 
-cut_at_quote : (bs : List ℕ) → position_or_len is_quote bs < length bs → flat_map doubled bs ≡ before_first is_quote bs ++ quote_twice (after_first is_quote bs)
-cut_at_quote [] h = absurd (omega (arith, h))
-cut_at_quote (b ∷ bs) h = go (b == 34) (cut_at_quote bs) h
+doubled_step : (b : ℕ) (bs : List ℕ) → flat_map doubled (b ∷ bs) ≡ cond (b == 34) (quote_twice bs) (b ∷ flat_map doubled bs)
+doubled_step b bs = by (b == 34)
   where
-    place : Bool → ℕ
-    place t = cond (not t) (1 + position_or_len is_quote bs) 0
-
-    go : (t : Bool) → (position_or_len is_quote bs < length bs → flat_map doubled bs ≡ before_first is_quote bs ++ quote_twice (after_first is_quote bs)) → place t < length (b ∷ bs)
-        → cond t (34 ∷ 34 ∷ []) (b ∷ []) ++ flat_map doubled bs ≡ take (place t) (b ∷ bs) ++ quote_twice (drop (place t + 1) (b ∷ bs))
-    go true again k = refl
-    go false again k =
-        let n = position_or_len is_quote bs in
-        let next : suc n ≡ 1 + n = omega arith in
-        let after : suc (n + 1) ≡ 1 + n + 1 = omega arith in
-        ap (λ x. b ∷ x) (again (omega (arith, k)))
-        ∙ ap (λ i. take i (b ∷ bs) ++ quote_twice (drop (n + 1) bs)) next
-        ∙ ap (λ i. take (1 + n) (b ∷ bs) ++ quote_twice (drop i (b ∷ bs))) after
-
-no_quote : (bs : List ℕ) → position_or_len is_quote bs ≡ length bs → flat_map doubled bs ≡ bs
-no_quote [] h = refl
-no_quote (b ∷ bs) h = go (b == 34) (no_quote bs) h
-  where
-    go : (t : Bool) → (position_or_len is_quote bs ≡ length bs → flat_map doubled bs ≡ bs) → cond (not t) (1 + position_or_len is_quote bs) 0 ≡ length (b ∷ bs) → cond t (34 ∷ 34 ∷ []) (b ∷ []) ++ flat_map doubled bs ≡ b ∷ bs
-    go true again k = absurd (omega (arith, k))
-    go false again k = ap (λ x. b ∷ x) (again (omega (arith, k)))
+    by : (t : Bool) → cond t (34 ∷ 34 ∷ []) (b ∷ []) ++ flat_map doubled bs ≡ cond t (quote_twice bs) (b ∷ flat_map doubled bs)
+    by true = refl
+    by false = refl
 
 -- what `split_once` at a quote tells
 pub piece_doubled : (bs : List ℕ) (r : Option (Bor (List ℕ) × Bor (List ℕ))) (x : Bor (List ℕ) × Bor (List ℕ)) → IsSplitOnceResult 34 bs r → r ≡ Some x → flat_map doubled bs ≡ x.0.now ++ quote_twice x.1.now
-piece_doubled bs r x h is =
-    let (inside, front, back) = rw is at (split_once_first 34 bs r h (omega arith)) in
-    cut_at_quote bs inside ∙ ap (λ f. f ++ quote_twice (after_first is_quote bs)) (sym front) ∙ ap (λ f. x.0.now ++ quote_twice f) (sym back)
+piece_doubled = piece_before (flat_map doubled) quote_twice refl doubled_step
 
 pub rest_doubled : (bs : List ℕ) (r : Option (Bor (List ℕ) × Bor (List ℕ))) → IsSplitOnceResult 34 bs r → r ≡ None → flat_map doubled bs ≡ bs
-rest_doubled bs r h is = no_quote bs (rw is at (split_once_first 34 bs r h (omega arith)))
+rest_doubled = no_quote_left (flat_map doubled) quote_twice refl doubled_step
 
 -- one more piece and its quote are written
 pub piece_written : (out whole bs piece after : List ℕ) → out ++ flat_map doubled bs ≡ whole → flat_map doubled bs ≡ piece ++ quote_twice after → ((out ++ piece) ++ 34 ∷ 34 ∷ []) ++ flat_map doubled after ≡ whole

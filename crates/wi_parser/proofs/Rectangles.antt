@@ -1,12 +1,14 @@
 -- A tree reads exactly the cells of its rectangles.
-use Rattle.std.proofs.Common.{◌≡◌, ◌==◌, ℕ, ◌||◌, ◌&&◌, Bool, true, false, List, [], ◌∷◌, map, min, max, refl, ap, ap₂, sym, ◌∙◌, arith}
+use Rattle.std.proofs.Common.{◌≡◌, ◌==◌, ℕ, ◌||◌, Bool, true, false, List, [], ◌∷◌, map, min, max, refl, ap, ap₂, sym, ◌∙◌, arith}
 use Rattle.std.specs.Prelude.{nat_le}
 use Rattle.std.specs.List.{list_any, flat_map}
 use Rattle.std.proofs.Math.Bool.{or-false}
-use Rattle.std.proofs.lemmas.Bool.{false_from_ne_true, and_parts, leb-true, eqb-true}
+use Rattle.std.proofs.lemmas.Bool.{false_from_ne_true, eqb-true}
 use Rattle.std.proofs.lemmas.Bool.Decides.{nat_tests}
 use Rattle.std.proofs.lemmas.List.Folds.{list_any-append}
 use Rattle.wi_values.specs.Address.{Area, place, row_of, column_of, is_within}
+use Rattle.wi_values.proofs.Order.{is_itself}
+use Rattle.wi_values.proofs.Within.{within_between}
 use Rattle.wi_parser.specs.declared.expr.Reference.{Reference}
 use Rattle.wi_parser.specs.Tree.{Tree}
 use Rattle.wi_parser.specs.Leaves.{Leaf, cell_leaf, rectangle_leaf, what_if_leaf, leaves}
@@ -25,22 +27,11 @@ cell_at_once r =
 nat_le-same : (n : ℕ) → nat_le n n ≡ true
 nat_le-same n = grind (arith, nat_tests)
 
-cell_is_itself : (a : ℕ) → (a == a) ≡ true
-cell_is_itself a = grind (arith, nat_tests)
-
 within_itself : (a : ℕ) → is_within (at_once a) a ≡ true
 within_itself a = simp nat_le-same
 
 within_means : (r a : ℕ) → is_within (at_once r) a ≡ true → r ≡ a
-within_means r a h =
-    let p = and_parts (nat_le (row_of r) (row_of a) && nat_le (row_of a) (row_of r)) _ h in
-    let rows = and_parts (nat_le (row_of r) (row_of a)) _ p.0 in
-    let cols = and_parts (nat_le (column_of r) (column_of a)) _ p.1 in
-    let above = leb-true _ _ rows.0 in
-    let below = leb-true _ _ rows.1 in
-    let left = leb-true _ _ cols.0 in
-    let right = leb-true _ _ cols.1 in
-    omega arith
+within_means r a h = let between = within_between (at_once r) a h in omega (arith, between.0, between.1)
 
 -- in the rectangle of one cell is that cell alone
 pub one_cell : (r a : ℕ) → is_within (cell_area r) a ≡ (r == a)
@@ -48,7 +39,7 @@ one_cell r a = ap (λ (x : Area). is_within x a) (cell_at_once r) ∙ by (r == a
   where
     by : (b : Bool) → (r == a) ≡ b → is_within (at_once r) a ≡ b
     by true h = ap (λ (x : ℕ). is_within (at_once x) a) (eqb-true r a h) ∙ within_itself a
-    by false h = false_from_ne_true (is_within (at_once r) a) (λ w. let e = ap (λ (x : ℕ). x == a) (within_means r a w) ∙ cell_is_itself a in cc)
+    by false h = false_from_ne_true (is_within (at_once r) a) (λ w. let e = ap (λ (x : ℕ). x == a) (within_means r a w) ∙ is_itself a in cc)
 
 replacement_cells : (ps : List (Reference × Reference)) (a : ℕ) → list_any (λ (p : Reference × Reference). p.1.at == a) ps ≡ list_any (λ (r : Area). is_within r a) (map (λ (p : Reference × Reference). cell_area p.1.at) ps)
 replacement_cells [] a = refl

@@ -1,5 +1,6 @@
 -- What the reader finds is spelled so.
 use Rattle.std.proofs.Common.{◌≡◌, ℕ, zero, suc, List, [], ◌∷◌, ◌++◌, length, Option, Some, None, option_and_then, refl, sym, ap, ◌∙◌, subst, append_assoc, append-nil}
+use Rattle.std.proofs.lemmas.Option.{same_Some}
 use Rattle.wi_parser.specs.declared.expr.Operator.{Operator}
 use Rattle.wi_parser.specs.declared.expr.Reference.{Reference}
 use Rattle.wi_parser.specs.declared.expr.Sign.{Sign}
@@ -11,9 +12,6 @@ use Rattle.wi_parser.proofs.Marks.{open_is, close_is, reference_is, sign_is, ope
 
 -- ---- what an outcome came from
 
-inside : {A : Type 0} (p q : A) → Some p ≡ Some q → p ≡ q
-inside p q h = cc
-
 abbrev some_pair : {A B : Type 0} → A → B → Option (A × B)
 some_pair a b = Some (a, b)
 
@@ -21,7 +19,7 @@ pub parts : {A B : Type 0} (a c : A) (b d : B) → some_pair a b ≡ some_pair c
 parts {A} {B} a c b d h =
     let p : A × B = (a, b) in
     let q : A × B = (c, d) in
-    let e : p ≡ q = inside p q h in
+    let e : p ≡ q = same_Some p q h in
     (ap (λ r. r.0) e, ap (λ r. r.1) e)
 
 then_ok : (f : Tree → Parse) (r : Read) (q : Tree × List Symbol) → read_then f r ≡ Some q → (p : Tree × List Symbol) × (r ≡ Some p) × (f p.0 p.1 ≡ Some q)

@@ -1,6 +1,5 @@
 -- The symbols of a text are those of its tokens.
-use Rattle.std.proofs.Common.{◌≡◌, ◌↔◌, ℕ, zero, suc, ◌+◌, ◌<◌, ◌≤◌, Bool, true, false, cond, List, [], ◌∷◌, ◌++◌, length, take, drop, Option, Some, None, refl, sym, ap, ap₂, ◌∙◌, subst, arith, length-append}
-use Rattle.std.specs.Prelude.{slice_index}
+use Rattle.std.proofs.Common.{◌≡◌, ◌↔◌, ℕ, suc, ◌+◌, ◌<◌, ◌≤◌, Bool, true, false, cond, List, [], ◌∷◌, ◌++◌, length, take, drop, Option, Some, None, refl, sym, ap, ap₂, ◌∙◌, subst, arith, length-append}
 use Rattle.std.proofs.lemmas.List.{length-take-le, take-append-drop}
 use Rattle.std.proofs.Math.Seq.{take-append_seam}
 use Rattle.wi_lexer.specs.declared.token.Kind.{Kind}
@@ -9,9 +8,10 @@ use Rattle.wi_lexer.specs.Token.{IsToken, IsLongest, NoToken, after_blanks}
 use Rattle.wi_lexer.specs.Inner.Token.{token_at}
 use Rattle.wi_lexer.specs.Inner.Tokens.{tokens_from, tokens_ahead, tokens}
 use Rattle.wi_lexer.proofs.CallerLemmas.{tokens_are, token_shortens, found_ahead}
-use Rattle.wi_lexer.proofs.EndLemmas.{token_no_blank}
+use Rattle.wi_lexer.proofs.EndLemmas.{token_no_blank, no_blanks}
 use Rattle.wi_lexer.proofs.RunLemmas.{run_stops}
 use Rattle.wi_lexer.proofs.TokenLemmas.{token_some, token_sound, token_complete, none_begins, none_found}
+use Rattle.wi_lexer.proofs.TextLemmas.{by_length}
 use Rattle.wi_parser.specs.Inner.FormulaText.{symbol_of, symbols_of}
 use Rattle.wi_parser.specs.Symbol.{Symbol}
 use Rattle.wi_parser.specs.Symbols.{NoneLonger, NoneBegins, AreSymbols, at_the_end, white_space, a_token, no_token}
@@ -57,10 +57,6 @@ tokens_after_blank b text e = tokens_are (b ∷ text) ∙ ap (tokens_ahead token
 no_blank : (b : ℕ) (text : List ℕ) → is_blank b ≡ false → after_blanks (b ∷ text) ≡ b ∷ text
 no_blank b text e = ap (λ n. drop n (b ∷ text)) (run_stops is_blank b text e)
 
-no_blanks : (token rest : List ℕ) → 0 < length token → is_blank (slice_index token 0) ≡ false → after_blanks (token ++ rest) ≡ token ++ rest
-no_blanks [] rest some first = absurd (omega (arith, some))
-no_blanks (b ∷ token) rest some first = no_blank b (token ++ rest) first
-
 tokens_here : (b : ℕ) (text : List ℕ) → is_blank b ≡ false → tokens (b ∷ text) ≡ tokens_from tokens (b ∷ text) (token_at (b ∷ text))
 tokens_here b text e = tokens_are (b ∷ text) ∙ ap (tokens_ahead tokens) (no_blank b text e)
 
@@ -93,12 +89,8 @@ text_hold (b ∷ text) again = by_blank (is_blank b) refl
         subst (AreSymbols (b ∷ text)) (sym (ap symbols_of (tokens_here b text e)))
         (here_hold b text e again (token_at (b ∷ text)) refl)
 
-hold_below : (n : ℕ) (text : List ℕ) → length text < n → Hold text
-hold_below zero text h = absurd (omega arith)
-hold_below (suc n) text h = text_hold text (λ ys shorter. hold_below n ys (omega arith))
-
 pub symbols_hold : (text : List ℕ) → Hold text
-symbols_hold text = hold_below (suc (length text)) text (omega arith)
+symbols_hold text = by_length Hold text_hold text
 
 -- ---- and the text has no others
 

@@ -5,13 +5,14 @@ use Rattle.std.specs.Char.{is_ascii_digit}
 use Rattle.std.specs.List.{All, list_all}
 use Rattle.std.specs.Str.Parse.{AllDigits}
 use Rattle.std.proofs.lemmas.List.Elements.{All-head}
+use Rattle.std.proofs.lemmas.Bool.{and_parts}
 use Rattle.wi_fraction.specs.Written.{WritesDigits, plain, point}
 use Rattle.wi_lexer.specs.declared.token.Kind.{Kind}
 use Rattle.wi_lexer.specs.declared.token.Kind.TheVariants.{Number, Name, Text, Mark}
 use Rattle.wi_lexer.specs.declared.token.Mark.TheVariants.{Less, Greater}
 use Rattle.wi_lexer.specs.Name.{IsName, is_name_start}
 use Rattle.wi_lexer.specs.Inner.Ends.{goes_on, ends}
-use Rattle.wi_lexer.proofs.RunLemmas.{both_are_true, digits_all}
+use Rattle.wi_lexer.proofs.RunLemmas.{digits_all}
 use Rattle.wi_parser.specs.declared.expr.Operator.{Operator}
 use Rattle.wi_parser.specs.declared.expr.Operator.TheVariants as operator
 use Rattle.wi_parser.specs.Symbol.{Symbol, numeral, text_literal, reference, corners, open_parenthesis, close_parenthesis, separator, infix_mark, percent_mark, what_if_name, name, refused}
@@ -32,7 +33,7 @@ name_first : (b : ℕ) (rest : List ℕ) → is_name_start b ≡ true → AfterM
 name_first b rest h = (grind (arith, nat_tests), grind (arith, nat_tests))
 
 digits_first : (d : ℕ) (ds : List ℕ) → AllDigits 10 (d ∷ ds) → is_ascii_digit d ≡ true
-digits_first d ds h = (both_are_true (is_ascii_digit d) (list_all is_ascii_digit ds) (digits_all (d ∷ ds) h)).0
+digits_first d ds h = (and_parts (is_ascii_digit d) (list_all is_ascii_digit ds) (digits_all (d ∷ ds) h)).0
 
 number_first : (text ds es rest : List ℕ) → WritesDigits text ds es → AfterMark (text ++ rest)
 number_first text _ _ rest (plain [] h) = absurd (omega (arith, h.0))

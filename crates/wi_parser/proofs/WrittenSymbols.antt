@@ -22,17 +22,16 @@ use Rattle.wi_lexer.proofs.ReferenceLemmas.{reference_of_complete}
 use Rattle.wi_lexer.proofs.RectangleLemmas.{rectangle_of_complete}
 use Rattle.wi_lexer.proofs.QuoteLemmas.{text_reads_back}
 use Rattle.wi_parser.specs.declared.expr.Corners.{Corners}
-use Rattle.wi_parser.specs.declared.expr.Operator.{Operator}
-use Rattle.wi_parser.specs.declared.expr.Operator.TheVariants.{Add}
 use Rattle.wi_parser.specs.declared.expr.Reference as references
 use Rattle.wi_parser.specs.Symbol.{Symbol, numeral, text_literal, reference, corners, open_parenthesis, close_parenthesis, separator, infix_mark, percent_mark, what_if_name, name, refused}
 use Rattle.wi_parser.specs.Capitals.{in_capitals}
 use Rattle.wi_parser.specs.Shift.{in_sheet}
 use Rattle.wi_parser.specs.Printing.{cell_named, mark_of, symbol_text}
-use Rattle.wi_parser.specs.Inner.FormulaText.{number_symbol, cell_symbol, reference_symbol, corners_symbol, rectangle_symbol, mark_symbol, symbol_of}
+use Rattle.wi_parser.specs.Inner.FormulaText.{number_symbol, cell_symbol, reference_symbol, corners_symbol, rectangle_symbol, symbol_of}
 use Rattle.wi_parser.specs.Writable.{IsFunctionName, IsWritable}
 use Rattle.wi_parser.proofs.CellsOfSheet.{cell_is, cell_means}
 use Rattle.wi_parser.proofs.Apart.{stands_before}
+use Rattle.wi_parser.proofs.Meanings.{operator_means}
 
 -- the kind of the token that a symbol is written as; a refused one is not written
 abbrev pub kind_of : Symbol → Kind
@@ -95,10 +94,6 @@ corners_written c e f =
       token = two_cells (cell_named c.one) (cell_named c.other) one other;
       means = ap rectangle_symbol (rectangle_of_complete (cell_named c.one) (cell_named c.other) one other) ∙ ap₂ corners_symbol (cell_means c.one e) (cell_means c.other f);
     }
-
-operator_means : (op : Operator) → mark_symbol (mark_of op) ≡ infix_mark op
-operator_means Add = refl
-operator_means op = refl
 
 name_written : (f : List ℕ) → IsFunctionName f → IsWritten (name f)
 name_written f h = record { token = h.name; means = ap (λ b. if b then what_if_name else name (in_capitals f)) h.other ∙ ap name h.capitals }

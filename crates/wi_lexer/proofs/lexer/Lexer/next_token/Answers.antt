@@ -1,8 +1,9 @@
 use Rattle.std.proofs.Common.{◌-◌, length, sym, ap, ◌∙◌, subst, arith}
 use Rattle.std.specs.Str.{IsCharBoundary}
+use Rattle.std.proofs.lemmas.List.{nil_from_length}
 use Rattle.wi_lexer.proofs.CutLemmas.{blanks_cut, token_cut}
 use Rattle.wi_lexer.proofs.TokenLemmas.{token_sound}
-use Rattle.wi_lexer.proofs.ScanLemmas.{ahead_is, longest_is, front_is, none_is, no_bytes, tail_is, some_bytes, span_is, slice_is}
+use Rattle.wi_lexer.proofs.ScanLemmas.{ahead_is, longest_is, front_is, none_is, tail_is, some_bytes, span_is, slice_is}
 use Rattle.wi_lexer.proofs.lexer.Lexer.next_token.Goals as goal
 
 pub split_at-requires : goal.split_at-requires
@@ -14,7 +15,7 @@ pub returns-in_default : goal.returns-in_default
 returns-in_default c =
     let here = ahead_is c.args.self.now c.self.inside.source.now c.self.inside.rest.now c.as_bytes.result.now c.split_at.result.1.now c.blanks_len-blanks.result c.self.view_is c.as_bytes.ensures.value c.blanks_len-blanks.ensures.value c.split_at.ensures.back in
     let none = none_is c.args.self.now c.split_at.result.1.now c.as_bytes-2.result.now (sym c.token_at.ensures ∙ c.in_default.is) c.as_bytes-2.ensures.value here in
-    (some_bytes c.args.self.now c.split_at.result.1.now c.is_empty.result c.is_empty.ensures c.if-is_empty.false here, none, record { rest = no_bytes c.split_at-2.result.1.now (omega arith); source = ap (λ s. s.source) c.self.view_is })
+    (some_bytes c.args.self.now c.split_at.result.1.now c.is_empty.result c.is_empty.ensures c.if-is_empty.false here, none, record { rest = nil_from_length c.split_at-2.result.1.now (omega arith); source = ap (λ s. s.source) c.self.view_is })
 
 pub split_at-requires-3 : goal.split_at-requires-3
 split_at-requires-3 c =
