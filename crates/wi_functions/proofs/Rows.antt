@@ -5,6 +5,7 @@ use Rattle.wi_fraction.specs.Number as numbers
 use Rattle.wi_fraction.specs.Number.{max_size}
 use Rattle.wi_fraction.specs.Gcd.{gcd, gcd_within}
 use Rattle.wi_fraction.specs.Arithmetic.{sum_of}
+use Rattle.wi_fraction.specs.Rounding.Laws.{gcd-one}
 use Rattle.wi_values.specs.declared.value.ErrorKind.TheVariants.{DivisionByZero, BadNumber}
 use Rattle.wi_values.specs.declared.value.Value.{Value}
 use Rattle.wi_values.specs.declared.value.Value.TheVariants.{Empty, Number, Fault}
@@ -13,12 +14,8 @@ use Rattle.wi_parser.specs.declared.expr.Reference.{Reference}
 use Rattle.wi_parser.specs.Tree.{Tree, number, cell, binary, what_if}
 use Rattle.wi_functions.specs.Meaning.{meaning}
 
-lowest_over_one : (n : ℕ) → gcd n 1 ≡ 1
-unfolding gcd gcd_within
-lowest_over_one n = refl
-
 abbrev whole : (n : ℕ) → n ≤ max_size → numbers.Number
-whole n h = record { num = pos n; den = 1; is_number = record { above_zero = lit< tt; lowest = lowest_over_one n; num_fits = h; den_fits = lit≤ tt } }
+whole n h = record { num = pos n; den = 1; is_number = record { above_zero = lit< tt; lowest = gcd-one n; num_fits = h; den_fits = lit≤ tt } }
 
 abbrev one : numbers.Number
 one = whole 1 (lit≤ tt)

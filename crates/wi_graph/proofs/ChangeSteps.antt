@@ -126,13 +126,9 @@ then_contents s (x ∷ xs) c = then_contents ((x.0, given x.1) ∷ s) xs c ∙ a
     at true false e = cc
     at false true e = cc
 
-neither : (a b : Bool) → (a || b) ≡ false → (a ≡ false) × (b ≡ false)
-neither true b h = cc
-neither false b h = (refl, h)
-
 pub then_same : (s : Sheet) (xs : List (ℕ × Option Content)) → SameOff s (then_sheet s xs) (keys_of xs)
 then_same s [] d h = refl
 then_same s (x ∷ xs) d h =
-    let n = neither (x.0 == d) _ h in
+    let n = or_parts (x.0 == d) _ h in
     let k : is_at (nat_cmp d) x.0 ≡ false = is_at-eq d x.0 ∙ turn_test d x.0 ∙ n.0 in
     sym (ap (λ (b : Bool). cond b (Some (given x.1)) (content_of s d)) k) ∙ then_same ((x.0, given x.1) ∷ s) xs d n.1

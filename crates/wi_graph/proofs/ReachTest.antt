@@ -87,9 +87,9 @@ grows (suc n) s a = at (grows n s a) (shrinks (λ c. reaches_by (suc n) s c a) (
     at (inr l) (inl x) = inr (omega arith)
     at (inr l) (inr x) = inl (stands_on n s a (from_formulas n s a (λ c m h. x.1 c m h)))
 
-keeps_few : (p : ℕ → Bool) (xs : List ℕ) → length (filter p xs) ≤ length xs
+pub keeps_few : {A : Type 0} (p : A → Bool) (xs : List A) → length (filter p xs) ≤ length xs
 keeps_few p [] = omega arith
-keeps_few p (x ∷ xs) = at (p x) (keeps_few p xs)
+keeps_few {A} p (x ∷ xs) = at (p x) (keeps_few p xs)
   where
     at : (b : Bool) → length (filter p xs) ≤ length xs → length (cond b (x ∷ filter p xs) (filter p xs)) ≤ length (x ∷ xs)
     at true l = omega arith
@@ -100,7 +100,7 @@ all_kept : (p : ℕ → Bool) (xs : List ℕ) → length xs ≤ length (filter p
 all_kept p xs l a m = at (shrinks (λ x. true) p (λ x h. refl) xs)
   where
     at : (length (filter p xs) < length (filter (λ x. true) xs)) ⊎ Same (λ x. true) p xs → p a ≡ true
-    at (inl k) = let z = keeps_few (λ x. true) xs in absurd (omega arith)
+    at (inl k) = let z = keeps_few (λ (x : ℕ). true) xs in absurd (omega arith)
     at (inr k) = k.1 a m refl
 
 -- as many steps as there are formulas are enough

@@ -49,16 +49,14 @@ room_stays old new k o u c h = at (k == c) refl
 pub room_there : (old new : Rooms) (k : ℕ) (o : Option (Vec Area)) → Puts old new k o → get nat_cmp new k ≡ None → ⊥
 room_there old new k o u h = let z = put_here old new k o u k (is_itself k) in cc
 
-same_both : (rooms mid next : Rooms) (readers more : Bag) → ((c : ℕ) → room_at mid c ≡ room_at rooms c) → ((p : RangePair) → count_of more p ≡ count_of readers p) → HasBoth readers rooms next → HasBoth more mid next
+-- rooms and counts that say the same
+pub same_both : (rooms mid next : Rooms) (readers more : Bag) → ((c : ℕ) → room_at mid c ≡ room_at rooms c) → ((p : RangePair) → count_of more p ≡ count_of readers p) → HasBoth readers rooms next → HasBoth more mid next
 same_both rooms mid next readers more e f h p =
     let a : times_in mid p ≡ times_in rooms p = times_room mid p (room_at rooms p.reader) (e p.reader) in
     omega (arith, a, f p, h p)
 
 pub rooms_both : (rooms mid next : Rooms) (readers : Bag) → ((c : ℕ) → room_at mid c ≡ room_at rooms c) → HasBoth readers rooms next → HasBoth readers mid next
 rooms_both rooms mid next readers e h = same_both rooms mid next readers readers e (λ p. refl) h
-
-pub refused_both : (rooms mid next : Rooms) (readers more : Bag) → ((c : ℕ) → room_at mid c ≡ room_at rooms c) → ((p : RangePair) → count_of more p ≡ count_of readers p) → HasBoth readers rooms next → HasBoth more mid next
-refused_both rooms mid next readers more e f h = same_both rooms mid next readers more e f h
 
 pub undone_both : (rooms mid next : Rooms) (readers more back : Bag) (k : ℕ) (o p' : Option (Vec Area)) → p' ≡ o → ((c : ℕ) → room_at mid c ≡ room_at rooms c) → ((p : RangePair) → count_of more p ≡ count_of readers p + times k (areas_of (items_of o)) p) →
     ((p : RangePair) → count_of back p ≡ count_of more p - times k (areas_of (items_of p')) p) → HasBoth readers rooms next → HasBoth back mid next

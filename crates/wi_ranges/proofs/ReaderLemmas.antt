@@ -9,6 +9,7 @@ use Rattle.std.specs.BTreeMap.{is_at}
 use Rattle.std.specs.BTreeMap.Range.{range_contains}
 use Rattle.std.proofs.lemmas.Bool.{true≢false}
 use Rattle.std.proofs.lemmas.Bool.Decides.{nat_tests}
+use Rattle.std.proofs.Math.Bool.{or-false}
 use Rattle.wi_ranges.specs.declared.block.Block.{Block}
 use Rattle.wi_ranges.specs.declared.pair.RangePair.{RangePair}
 use Rattle.wi_ranges.specs.declared.pair.Numbered.{Numbered}
@@ -100,10 +101,6 @@ pub readers_found : (x : Block) (a r : ℕ) (rest all ks : List Piece) (old new 
     → (new || list_any (piece_reads a r) rest) ≡ (old || list_any (piece_reads a r) all)
     → new ≡ (old || list_any (reads_at (x ∷ []) a r) ks)
 readers_found x a r rest all ks old new e f h =
-    sym (or_none new) ∙ ap (λ (us : List Piece). new || list_any (piece_reads a r) us) (sym e) ∙ h
+    sym (or-false new) ∙ ap (λ (us : List Piece). new || list_any (piece_reads a r) us) (sym e) ∙ h
     ∙ ap (λ (us : List Piece). old || list_any (piece_reads a r) us) f
     ∙ ap (λ b. old || b) (any_of_filter _ (λ q. is_among q.0 (x ∷ [])) (piece_reads a r) ks (between_is_at_block x))
-  where
-    or_none : (b : Bool) → (b || false) ≡ b
-    or_none true = refl
-    or_none false = refl
