@@ -4,7 +4,7 @@ use Rattle.std.specs.List.{All, list_any}
 use Rattle.std.specs.Option.{is_some}
 use Rattle.std.specs.Int.{from_bool}
 use Rattle.std.specs.Map.{keys_of}
-use Rattle.std.proofs.lemmas.Bool.{cases_eq, or_left}
+use Rattle.std.proofs.lemmas.Bool.{cases_eq, or_left, eqb-true, or_right}
 use Rattle.std.proofs.lemmas.Bool.Decides.{nat_tests}
 use Rattle.std.proofs.lemmas.List.{append_assoc, drop-set-lt, take-set, take_more, take_more_set}
 use Rattle.std.proofs.lemmas.List.Elements.{All-set}
@@ -23,16 +23,9 @@ Changes = List (ℕ × Option Content)
 drop_at : (cs : Changes) (i : ℕ) (d : ℕ × Option Content) → i < length cs → drop i cs ≡ get_or cs i d ∷ drop (i + 1) cs
 drop_at cs i d l = rw add-one (drop-cons cs i d l)
 
-or_right : (b c : Bool) → c ≡ true → (b || c) ≡ true
-or_right true c h = refl
-or_right false c h = h
-
 right_of_or : (b c : Bool) → (b || c) ≡ true → (b ≡ true → ⊥) → c ≡ true
 right_of_or true c h n = absurd (n refl)
 right_of_or false c h n = h
-
-same_from_test : (a b : ℕ) → (a == b) ≡ true → a ≡ b
-same_from_test a b h = grind (arith, nat_tests)
 
 test_from_same : (a b : ℕ) → a ≡ b → (b == a) ≡ true
 test_from_same a b h = grind (arith, nat_tests)
@@ -73,7 +66,7 @@ pub vacant_less : (cs : Changes) (i : ℕ) (d : ℕ × Option Content) (old new 
 vacant_less cs i d old new l released kept h =
     λ q v. right_of_or ((get_or cs i d).0 == q) _
     (ap (λ (xs : Changes). list_any (λ a. a == q) (keys_of xs)) (sym (drop_at cs i d l)) ∙ h q (kept q v))
-    (λ t. released (ap (λ (a : ℕ). room_of new a) (same_from_test _ q t) ∙ v))
+    (λ t. released (ap (λ (a : ℕ). room_of new a) (eqb-true _ q t) ∙ v))
 
 -- ---- rooms for changes
 
