@@ -6,14 +6,6 @@ use Rattle.std.specs.List.{list_any}
 abbrev pub PassesToo : {A : Type 0} → (A → Bool) → (A → Bool) → Type 0
 PassesToo {A} p q = (x : A) → q x ≡ true → p x ≡ true
 
-pub at_most_all : {A : Type 0} (p : A → Bool) (xs : List A) → length (filter p xs) ≤ length xs
-at_most_all p [] = omega arith
-at_most_all {A} p (x ∷ xs) = by (p x) (at_most_all p xs)
-  where
-    by : (b : Bool) → length (filter p xs) ≤ length xs → length (cond b (x ∷ filter p xs) (filter p xs)) ≤ length (x ∷ xs)
-    by true ih = omega arith
-    by false ih = omega arith
-
 pub all_pass : {A : Type 0} (p : A → Bool) → ((x : A) → p x ≡ true) → (xs : List A) → length (filter p xs) ≡ length xs
 all_pass p k [] = refl
 all_pass p k (x ∷ xs) = by (p x) (k x) (all_pass p k xs)

@@ -13,6 +13,7 @@ use Rattle.wi_functions.specs.Wants.{Asks}
 use Rattle.wi_functions.specs.declared.evaluation.Want.TheVariants.{WhatIf}
 use Rattle.wi_graph.proofs.Layers.{list_any-both}
 use Rattle.wi_graph.proofs.Walks.{same_cell, found, formula_cell}
+use Rattle.wi_graph.proofs.ReachTest.{keeps_few}
 use Rattle.wi_sheet.specs.Demand.{reads_here, formulas_read_here, what_ifs_of}
 use Rattle.wi_sheet.proofs.Asked.{asked_what_if}
 use Rattle.wi_sheet.proofs.Members.{in_contained, found_in}
@@ -20,7 +21,7 @@ use Rattle.wi_engine.specs.declared.findings.Findings.{Findings}
 use Rattle.wi_engine.specs.declared.findings.FoundWhatIf.{FoundWhatIf}
 use Rattle.wi_engine.specs.Inner.Findings.{same_pairs, pairs_of, first_for, cell_found, what_if_found, IsWithCell, IsWithWhatIf}
 use Rattle.wi_engine.specs.Inner.Attempt.{lacking}
-use Rattle.wi_engine.proofs.attempt.Filters.{PassesToo, at_most_all, all_pass, no_more, fewer}
+use Rattle.wi_engine.proofs.attempt.Filters.{PassesToo, all_pass, no_more, fewer}
 use Rattle.wi_engine.proofs.findings.FoundPairs.{same_lists, same_pairs-refl, first_for-push}
 
 -- a cell of which no value was found
@@ -35,8 +36,8 @@ lacks_what_if f x = is_none (what_if_found f x.0 x.1)
 
 pub lacking_at_most : (s : Sheet) (t : Tree) (f : Findings) → lacking s t f ≤ length (formulas_read_here s t) + length (what_ifs_of t)
 lacking_at_most s t f =
-    let cells = at_most_all (lacks_cell f) (formulas_read_here s t) in
-    let what_ifs = at_most_all (lacks_what_if f) (what_ifs_of t) in
+    let cells = keeps_few (lacks_cell f) (formulas_read_here s t) in
+    let what_ifs = keeps_few (lacks_what_if f) (what_ifs_of t) in
     omega arith
 
 pub lacking_all : (s : Sheet) (t : Tree) (f : Findings) → f.cells.entries ≡ [] → f.what_ifs.items ≡ [] → lacking s t f ≡ length (formulas_read_here s t) + length (what_ifs_of t)

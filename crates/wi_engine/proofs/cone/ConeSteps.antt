@@ -1,8 +1,7 @@
 -- One pass over an order of reading finds the cells that reach a cell.
-use Rattle.std.proofs.Common.{◌≡◌, ◌==◌, ℕ, suc, ◌+◌, ◌<◌, Bool, true, false, ◌&&◌, ◌||◌, cond, List, [], ◌∷◌, ◌++◌, filter, take, drop, length, get_or, Option, Some, None, IsSome, IfSome, All, refl, ap, sym, ◌∙◌, subst, arith, inl, inr, ◌⊎◌, eq-eqb, add-one, drop-cons}
+use Rattle.std.proofs.Common.{◌≡◌, ◌==◌, ℕ, suc, ◌+◌, ◌<◌, Bool, true, false, ◌&&◌, ◌||◌, cond, List, [], ◌∷◌, ◌++◌, filter, take, drop, length, get_or, Option, Some, None, IsSome, IfSome, All, refl, ap, sym, ◌∙◌, subst, inl, inr, ◌⊎◌, eq-eqb, add-one, drop-cons}
 use Rattle.std.proofs.Math.Seq.{take-suc}
 use Rattle.std.proofs.lemmas.Bool.{and_parts, and_from, or_cases, or_left, or_right}
-use Rattle.std.proofs.lemmas.Bool.Decides.{nat_tests}
 use Rattle.std.proofs.lemmas.List.{take-append-drop}
 use Rattle.std.proofs.lemmas.List.Elements.{All-head, All-tail, All-push}
 use Rattle.std.proofs.lemmas.List.Folds.{list_any-append}
@@ -23,7 +22,7 @@ use Rattle.wi_graph.specs.Reach.{is_one_of, reaches}
 use Rattle.wi_graph.proofs.Walks.{same_cell, same_tests, found}
 use Rattle.wi_graph.proofs.ReachTest.{finds_in}
 use Rattle.wi_graph.proofs.ReachSteps.{reaches_here, reaches_read, reaches_step, reaches_by_step}
-use Rattle.wi_graph.proofs.Tests.{is_at-eq}
+use Rattle.wi_values.proofs.Order.{is_at-eq, at_same}
 use Rattle.wi_sheet.specs.Demand.{reaching}
 use Rattle.wi_engine.specs.Inner.ReadCells.{rectangles_in, occupied_within}
 use Rattle.wi_engine.specs.Inner.ReadOrder.{IsReadOrder}
@@ -68,9 +67,6 @@ step_reaches s order i x a among o l e h = same_tests (steps_in s among x a) (re
         let earlier = (o.each (take i order) (drop (suc i) order) x (cut order i x l e)).reads k.0 k.1 k.2 in
         or_right (x == a || content_reads (content_of s x) a) _ (found among (occupied_within s (rectangles_in (content_of s x))) k.0 (read_occupied s (content_of s x) k.0 k.1 k.2) (h k.0 ∙ and_from _ _ earlier k.3))
 
-same_key : (q k : ℕ) → is_at (nat_cmp q) k ≡ true → q ≡ k
-same_key q k h = grind (arith, nat_tests)
-
 one_more : (order : List ℕ) (i x q : ℕ) → i < length order → x ≡ get_or order i x → is_one_of (take (i + 1) order) q ≡ (is_one_of (take i order) q || (x == q))
 one_more order i x q l e =
     ap (λ (n : ℕ). is_one_of (take n order) q) (add-one i)
@@ -112,7 +108,7 @@ pub cones_more : (s : Sheet) (cells : List ℕ) (a : ℕ) (cone : BTreeSet ℕ) 
 cones_more s cells a cone old new h k u b c m = subst (λ (o : Option (BTreeSet ℕ)). IfSome o (λ d. contains nat_cmp d c ≡ reaches s c b)) (sym (u b)) (at (is_at (nat_cmp a) b) refl)
   where
     at : (t : Bool) → is_at (nat_cmp a) b ≡ t → IfSome (cond t (Some cone) (get nat_cmp old b)) (λ d. contains nat_cmp d c ≡ reaches s c b)
-    at true e = k c ∙ ap (λ (t : Bool). t && reaches s c a) m ∙ ap (reaches s c) (same_key a b e)
+    at true e = k c ∙ ap (λ (t : Bool). t && reaches s c a) m ∙ ap (reaches s c) (sym (at_same a b e))
     at false e = h b c m
 
 -- no cone goes

@@ -5,9 +5,8 @@ use Rattle.std.specs.List.{find, AllPairs}
 use Rattle.std.specs.List.Sorted.{IsStrictlyIncreasing}
 use Rattle.std.specs.Map.{keys_of}
 use Rattle.std.proofs.Math.Seq.{drop-cons}
-use Rattle.std.proofs.lemmas.Bool.Decides.{nat_tests}
 use Rattle.std.proofs.lemmas.List.Kept.{AllPairs-from_increasing, IsStrictlyIncreasing-filter}
-use Rattle.std.proofs.lemmas.Bool.{leb-true}
+use Rattle.std.proofs.lemmas.Bool.{leb-true, le-leb, lt-ltb, le-ltb}
 use Rattle.wi_values.specs.Address.{Area, is_within}
 use Rattle.wi_parser.specs.Sheet.{Sheet, content_of}
 use Rattle.wi_engine.specs.Inner.ReadCells.{rectangles_in, occupied_within, is_after, cells_after}
@@ -24,19 +23,10 @@ above_from : (x : ℕ) (ys : List ℕ) → ((k d : ℕ) → k < length ys → x 
 above_from x [] h = tt
 above_from x (y ∷ ys) h = (h 0 0 (omega arith), above_from x ys (λ k d w. h (suc k) d (omega arith)))
 
-after_not : (a b : ℕ) → b ≤ a → nat_lt a b ≡ false
-after_not a b h = grind (arith, nat_tests)
-
-after_is : (a b : ℕ) → a < b → nat_lt a b ≡ true
-after_is a b h = grind (arith, nat_tests)
-
-from_is : (a b : ℕ) → a ≤ b → nat_le a b ≡ true
-from_is a b h = grind (arith, nat_tests)
-
 -- all that come after x come at or after f, where x does
 both_pass : (f x : ℕ) (ys : List ℕ) → f ≤ x → Above x ys → filter (nat_le f) ys ≡ filter (nat_lt x) ys
 both_pass f x [] l h = refl
-both_pass f x (y ∷ ys) l h = rw (from_is f y (omega (arith, h.0)), after_is x y h.0, both_pass f x ys l h.1) refl
+both_pass f x (y ∷ ys) l h = rw (le-leb f y (omega (arith, h.0)), lt-ltb x y h.0, both_pass f x ys l h.1) refl
 
 found_above : (f c x : ℕ) (ys : List ℕ) → Above x ys → find (nat_le f) ys ≡ Some c → x < c
 found_above f c x [] h k = absurd (let z = k in cc)
@@ -59,8 +49,8 @@ from_first f c (x ∷ xs) p h = at (nat_le f x) refl h (from_first f c xs (λ i 
     at true e k ih =
         let same : x ≡ c = cc in
         subst (λ (n : ℕ). x ∷ filter (nat_le f) xs ≡ n ∷ cond (nat_lt n x) (x ∷ filter (nat_lt n) xs) (filter (nat_lt n) xs)) same
-        (rw (after_not x x (omega arith)) (ap (λ (zs : List ℕ). x ∷ zs) (both_pass f x xs (leb-true f x e) above)))
-    at false e k ih = rw (after_not c x (omega (arith, found_above f c x xs above k))) (ih k)
+        (rw (le-ltb x x (omega arith)) (ap (λ (zs : List ℕ). x ∷ zs) (both_pass f x xs (leb-true f x e) above)))
+    at false e k ih = rw (le-ltb c x (omega (arith, found_above f c x xs above k))) (ih k)
 
 none_pass : (p : ℕ → Bool) (xs : List ℕ) → find p xs ≡ None → filter p xs ≡ []
 none_pass p [] h = refl

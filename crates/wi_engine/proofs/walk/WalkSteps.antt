@@ -1,7 +1,6 @@
 -- Steps of a walk along references.
 use Rattle.std.proofs.Common.{◌≡◌, ◌==◌, ℕ, Bool, true, false, ◌||◌, cond, if◌then◌else◌, List, [], ◌∷◌, ◌++◌, length, Option, Some, None, refl, ap, sym, ◌∙◌, subst, append_assoc, append-nil, arith, inl, inr, ◌⊎◌, eq-eqb}
-use Rattle.std.proofs.lemmas.Bool.{or_cases, or_left, or_right, or_parts}
-use Rattle.std.proofs.lemmas.Bool.Decides.{nat_tests}
+use Rattle.std.proofs.lemmas.Bool.{or_cases, or_left, or_right, or_parts, or_from}
 use Rattle.std.proofs.lemmas.List.Folds.{list_any-append}
 use Rattle.std.proofs.Math.Bool.{or-false}
 use Rattle.std.specs.List.{list_any}
@@ -13,7 +12,7 @@ use Rattle.wi_graph.specs.Circular.{circular}
 use Rattle.wi_graph.specs.Reach.{is_one_of, Reaches}
 use Rattle.wi_graph.proofs.Walks.{same_cell}
 use Rattle.wi_graph.proofs.Ends.{ends_open}
-use Rattle.wi_graph.proofs.Tests.{is_at-eq}
+use Rattle.wi_values.proofs.Order.{turn_test, is_at-eq}
 use Rattle.wi_engine.specs.Inner.ReadCells.{rectangles_in, occupied_within}
 use Rattle.wi_engine.specs.Inner.ReadOrder.{MayFollow}
 use Rattle.wi_engine.specs.Inner.Walk.{Task, Enter, Leave, enters, cell_of, leaves, has_task, has_leave, LeadsTo, IsOpen, EachLeave, progress_of, IsWalk, IsBelow}
@@ -82,13 +81,9 @@ walk-cycle s roots c ts progress order w m =
     let from = w.reached c (task_back ts (Enter c ∷ []) c (is_of_one (Enter c))) in
     some_circular s roots from.0 from.1 (reaches_circular s from.0 c from.2 (loop_circular s c loop))
   where
-    either : (b : Bool) → (b || false) ≡ true → b ≡ true
-    either true h = refl
-    either false h = h
-
     is_open : (b d : Bool) → d ≡ (has_leave ts c || false) → (if b then Some Done else (if d then Some Open else None)) ≡ Some Open → has_leave ts c ≡ true
     is_open true d e h = cc
-    is_open false true e h = either (has_leave ts c) (sym e)
+    is_open false true e h = sym (or-false (has_leave ts c)) ∙ sym e
     is_open false false e h = cc
 
 -- ---- a cell that is passed: it stands in the order, or has no formula
@@ -143,9 +138,6 @@ done_ordered ts order c progress m h = at (is_one_of order c) (has_leave ts c) r
 
 -- ---- a cell that is left
 
-same_key : (q k : ℕ) → is_at (nat_cmp q) k ≡ true → q ≡ k
-same_key q k h = grind (arith, nat_tests)
-
 order_parts : (order : List ℕ) (c a : ℕ) → is_one_of (order ++ c ∷ []) a ≡ (is_one_of order a || (c == a))
 order_parts order c a = list_any-append (λ (x : ℕ). x == a) order (c ∷ []) ∙ ap (λ (b : Bool). is_one_of order a || b) (or-false (c == a))
 
@@ -166,9 +158,6 @@ moved order ys c d h = at (or_cases (is_one_of order d) _ h)
     at : (is_one_of order d ≡ true) ⊎ (has_task (ys ++ Leave c ∷ []) d ≡ true) → (is_one_of (order ++ c ∷ []) d || has_task ys d) ≡ true
     at (inl k) = or_left (is_one_of (order ++ c ∷ []) d) _ (ordered k)
     at (inr k) = before (task_split ys (Leave c ∷ []) d k)
-
-turned : (a c : ℕ) → (c == a) ≡ (a == c)
-turned a c = grind (arith, nat_tests)
 
 open-left : (s : Sheet) (c : ℕ) (order : List ℕ) (a : ℕ) (ys : List Task) → IsOpen s order a (ys ++ Leave c ∷ []) → IsOpen s (order ++ c ∷ []) a ys
 open-left s c order a ys o =
@@ -276,7 +265,7 @@ open-entered s c order cells r a ys n o = record {
   reads = λ d h f. kept_or (is_one_of order d) ys c cells d (o.reads d h f);
   leads = λ d h. leads d (entered_cases ys c cells d h);
   fresh = o.fresh;
-  once = leave_parts ys (Leave c ∷ enters cells) a ∙ ap (λ (b : Bool). b || ((c == a) || has_leave (enters cells) a)) (sym (or-false (has_leave ys a)) ∙ sym (leave_parts ys (Enter c ∷ []) a) ∙ o.once) ∙ ap (λ (b : Bool). b || has_leave (enters cells) a) (turned a c ∙ n) ∙ entered_leave cells a;
+  once = leave_parts ys (Leave c ∷ enters cells) a ∙ ap (λ (b : Bool). b || ((c == a) || has_leave (enters cells) a)) (sym (or-false (has_leave ys a)) ∙ sym (leave_parts ys (Enter c ∷ []) a) ∙ o.once) ∙ ap (λ (b : Bool). b || has_leave (enters cells) a) (turn_test c a ∙ n) ∙ entered_leave cells a;
 }
   where
     here : LeadsTo s a c
@@ -372,11 +361,7 @@ below_one s c d b = at (or_cases (c == b.0) false b.1)
 none_circular : (s : Sheet) (xs : List ℕ) → ((c : ℕ) → is_one_of xs c ≡ true → circular s c ≡ false) → list_any (circular s) xs ≡ false
 none_circular s [] h = refl
 none_circular s (x ∷ xs) h =
-    or_false_from (circular s x) _ (h x (or_left (x == x) _ (eq-eqb x x refl))) (none_circular s xs (λ c m. h c (or_right (x == c) _ m)))
-  where
-    or_false_from : (b d : Bool) → b ≡ false → d ≡ false → (b || d) ≡ false
-    or_false_from true d h k = h
-    or_false_from false d h k = k
+    or_from (circular s x) _ (h x (or_left (x == x) _ (eq-eqb x x refl))) (none_circular s xs (λ c m. h c (or_right (x == c) _ m)))
 
 -- a walk with nothing before it has met no cycle
 pub walk-ended : (s : Sheet) (roots : List ℕ) (ts : List Task) (progress : BTreeMap ℕ Progress) (order : List ℕ) → IsWalk s roots ts progress order → length ts ≡ 0 → list_any (circular s) roots ≡ false
