@@ -2,3 +2,9 @@ pub mod Marks
 pub mod SavingEntries
 pub mod Showing
 pub mod ShowingEntries
+pub mod ReplacedCones
+pub mod GenerationSteps
+pub mod KeptSteps
+pub mod KeepingSteps
+pub mod Editing
+pub mod Questions

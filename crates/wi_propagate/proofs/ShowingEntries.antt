@@ -25,7 +25,7 @@ replacing_cell_read [] i x less = absurd (omega arith)
 replacing_cell_read (p ∷ ps) zero x less = or_left (p.1 == p.1) (is_one_of (map (λ q. q.1) ps) p.1) (eq-eqb p.1 p.1 refl)
 replacing_cell_read (p ∷ ps) (suc i) x less = or_right (p.1 == (get_or ps i x).1) (is_one_of (map (λ q. q.1) ps) (get_or ps i x).1) (replacing_cell_read ps i x (omega arith))
 
-pair_in : (pairs : List (ℕ × ℕ)) (i : ℕ) (x : ℕ × ℕ) → i < length pairs → IsIn pairs (get_or pairs i x)
+pub pair_in : (pairs : List (ℕ × ℕ)) (i : ℕ) (x : ℕ × ℕ) → i < length pairs → IsIn pairs (get_or pairs i x)
 pair_in [] i x less = absurd (omega arith)
 pair_in (p ∷ ps) zero x less = inl refl
 pair_in (p ∷ ps) (suc i) x less = inr (pair_in ps i x (omega arith))

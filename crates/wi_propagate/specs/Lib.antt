@@ -1,1 +1,3 @@
+pub mod KeptSheet
+pub mod Right
 pub mod Inner

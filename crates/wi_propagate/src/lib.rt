@@ -2,10 +2,15 @@
 #![tactic(auto)]
 
 mod calculator;
+mod cones;
+mod generations;
+mod keeping;
+mod kept;
 pub mod laws;
 mod plain;
 mod table_entry;
 mod value;
 
 pub use calculator::Calculator;
+pub use kept::KeptCalculator;
 pub use plain::PlainCalculator;

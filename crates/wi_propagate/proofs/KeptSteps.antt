@@ -1,0 +1,91 @@
+-- Values that are kept stay right: over an edit, where one is kept, and where one goes.
+use Rattle.std.proofs.Common.{◌≡◌, ◌≤◌, ◌<◌, ◌+◌, ◌⊎◌, inl, inr, ℕ, Bool, true, false, List, [], length, Option, Some, None, IfSome, refl, sym, ◌∙◌, subst, arith}
+use Rattle.std.proofs.lemmas.Bool.{true≢false}
+use Rattle.wi_values.specs.declared.value.Value.{Value}
+use Rattle.wi_values.specs.declared.replacement.Replacement.{Replacement}
+use Rattle.wi_parser.specs.Sheet.{Sheet, put_all}
+use Rattle.wi_cache.specs.declared.key.Key.{Key}
+use Rattle.wi_cache.specs.Entries.{Entries, KeptValues, HasRoom, Puts, PutsForOne, value_for}
+use Rattle.wi_cache.proofs.Callers.{holds_after_keep}
+use Rattle.wi_graph.specs.Circular.{circular}
+use Rattle.wi_sheet.specs.CellValue.{cell_value}
+use Rattle.wi_graph.specs.Reach.{IsInCone, SameOff, in_cone}
+use Rattle.wi_propagate.specs.Right.{IsRight, IsKeptFor, AreRight}
+use Rattle.wi_propagate.specs.Inner.Keeping.{HasNoOther}
+use Rattle.wi_engine.specs.Inner.MemoState.{IsMemoOf}
+use Rattle.wi_propagate.specs.KeptSheet.{Generations, generation_in, key_in}
+use Rattle.wi_propagate.specs.Inner.Keeping.{keeping, state_in, IsKeepingRight}
+use Rattle.wi_sheet.proofs.Overrides.{same_for_reached}
+use Rattle.wi_graph.proofs.Cones.{outside_circular, outside_reaches}
+use Rattle.wi_sheet.proofs.Cones.{outside_value}
+use Rattle.wi_graph.proofs.ReachTest.{reaches_true, true_reaches, true_in_cone}
+
+-- a value found under the replacements that reach its cell
+pub made_right : (s : Sheet) (c : ℕ) (w : List Replacement) (v : Value) → circular s c ≡ false → v ≡ cell_value (put_all s w) c → IsRight s c w v
+made_right s c w v o e = record {
+  open_cell = o;
+  holds = λ p h. same_for_reached s p w c h ∙ sym e;
+}
+
+pub found_right : (s : Sheet) (c : ℕ) (w : List Replacement) (v : Value) → IsRight s c w v → v ≡ cell_value (put_all s w) c
+found_right s c w v r = sym (r.holds w (λ d h. refl))
+
+-- ---- an edit
+
+pub right_outside : (s t : Sheet) (xs : List ℕ) (c : ℕ) (w : List Replacement) (v : Value) → SameOff s t xs → (IsInCone s xs c → ⊥) → IsRight s c w v → IsRight t c w v
+right_outside s t xs c w v same out r = record {
+  open_cell = sym (outside_circular s t xs c same out) ∙ r.open_cell;
+  holds = λ p h. sym (outside_value s t xs c p same out) ∙ r.holds p (λ d k. h d (reaches_true t c d (sym (outside_reaches s t xs c d same out) ∙ true_reaches s c d k)));
+}
+
+-- generations are raised past the last edit in the cone, and stay elsewhere
+pub record AreRaised (s : Sheet) (xs : List ℕ) (edits : ℕ) (old new : ℕ → ℕ) : Type 0 where
+  pub inside : (c : ℕ) → in_cone s xs c ≡ true → edits < new c
+  pub beside : (c : ℕ) → in_cone s xs c ≡ false → new c ≡ old c
+
+pub kept_over_edit : (s t : Sheet) (xs : List ℕ) (edits : ℕ) (old new : ℕ → ℕ) (es : Entries) → SameOff s t xs → AreRaised s xs edits old new → AreRight s edits old es → AreRight t (edits + 1) new es
+kept_over_edit s t xs edits old new es same raised h k = at (value_for es k) (h k)
+  where
+    right : (v : Value) → IsKeptFor s edits old k v → k.generation ≡ new k.cell → (b : Bool) → in_cone s xs k.cell ≡ b → IsRight t k.cell k.world v
+    right v i g true e = let z = raised.inside k.cell e in let y = i.past in absurd (omega arith)
+    right v i g false e = right_outside s t xs k.cell k.world v same (λ j. true≢false (sym (true_in_cone s xs k.cell j) ∙ e)) (i.right (g ∙ raised.beside k.cell e))
+
+    at : (o : Option Value) → IfSome o (IsKeptFor s edits old k) → IfSome o (IsKeptFor t (edits + 1) new k)
+    at None i = tt
+    at (Some v) i = let y = i.past in record { past = omega arith; right = λ g. right v i g (in_cone s xs k.cell) refl }
+
+-- ---- a value is kept, and others may go
+
+pub no_other : (m n : KeptValues) (k : Key) (v : Value) → (HasRoom m k → Puts m.entries n.entries k v) → (value_for m.entries k ≡ None → m.capacity ≤ length m.entries → PutsForOne m.entries n.entries k v) → HasNoOther m.entries n.entries k v
+no_other m n k v stays goes =
+    holds_after_keep (λ q u. (value_for m.entries q ≡ Some u) ⊎ ((q ≡ k) × (u ≡ v))) k v (inr (refl, refl)) m n stays goes (λ q. itself q (value_for m.entries q) refl)
+  where
+    itself : (q : Key) (o : Option Value) → value_for m.entries q ≡ o → IfSome o (λ u. (value_for m.entries q ≡ Some u) ⊎ ((q ≡ k) × (u ≡ v)))
+    itself q None e = tt
+    itself q (Some u) e = inl e
+
+pub kept_over_keep : (s : Sheet) (edits : ℕ) (generation : ℕ → ℕ) (m n : KeptValues) (k : Key) (v : Value) → (HasRoom m k → Puts m.entries n.entries k v) → (value_for m.entries k ≡ None → m.capacity ≤ length m.entries → PutsForOne m.entries n.entries k v) →
+    IsKeptFor s edits generation k v → AreRight s edits generation m.entries → AreRight s edits generation n.entries
+kept_over_keep s edits generation m n k v stays goes i h = holds_after_keep (IsKeptFor s edits generation) k v i m n stays goes h
+
+-- what the engine finds is put in
+pub found_is_kept : (s : Sheet) (edits : ℕ) (generation : ℕ → ℕ) (k : Key) (v : Value) → ((c : ℕ) → generation c ≤ edits) → circular s k.cell ≡ false → k.generation ≡ generation k.cell → v ≡ cell_value (put_all s k.world) k.cell →
+    IsKeptFor s edits generation k v
+found_is_kept s edits generation k v past o g e = record {
+  past = let z = past k.cell in omega (arith, g);
+  right = λ h. made_right s k.cell k.world v o e;
+}
+
+-- ---- a question begins
+
+known_right : (s : Sheet) (n : ℕ) (g : ℕ → ℕ) (c : ℕ) (w : List Replacement) (o : Option Value) → IfSome o (IsKeptFor s n g (record { cell = c; generation = g c; world = w })) → IfSome o (λ v. v ≡ cell_value (put_all s w) c)
+known_right s n g c w None h = tt
+known_right s n g c w (Some v) h = found_right s c w v (h.right refl)
+
+pub begun_is_memo : (s : Sheet) (n : ℕ) (gs : Generations) (es : Entries) (k : KeptValues) → es ≡ [] → IsKeepingRight (keeping s n gs [] k) → IsMemoOf s (state_in (keeping s n gs es k))
+begun_is_memo s n gs es k e h = subst (λ (x : Entries). IsMemoOf s (state_in (keeping s n gs x k))) (sym e) (record {
+  sheet = refl;
+  right = λ c w. known_right s n (generation_in gs) c w (value_for k.entries (key_in gs c w)) (h.right (key_in gs c w));
+  closed = λ c d i r f. refl;
+  told = λ c w. refl;
+})

@@ -1,0 +1,223 @@
+-- A question asked of a calculator that keeps values.
+use Rattle.std.proofs.Common.{◌≡◌, ◌≤◌, ◌+◌, ◌||◌, inl, inr, length, sum_by, Contains, All, get_or, filter, not, is_some, ℕ, Bool, true, false, cond, List, [], ◌∷◌, Option, Some, refl, ap, sym, ◌∙◌, subst, arith}
+use Rattle.std.specs.List.{list_any}
+use Rattle.std.proofs.lemmas.List.Folds.{list_any_none}
+use Rattle.wi_values.specs.declared.value.Value.{Value}
+use Rattle.wi_values.specs.declared.value.Value.TheVariants.{Fault}
+use Rattle.wi_values.specs.declared.value.ErrorKind.TheVariants.{Circular}
+use Rattle.wi_values.specs.declared.replacement.Replacement.{Replacement}
+use Rattle.wi_values.specs.Replacements.{IsInOrder}
+use Rattle.wi_parser.specs.Sheet.{Sheet, content_of, put_all, has_formula}
+use Rattle.wi_functions.specs.Counts.{Counts}
+use Rattle.wi_functions.specs.Meaning.{zero_for_empty}
+use Rattle.wi_store.specs.Store.{Stored}
+use Rattle.wi_cache.specs.declared.key.Key.{Key}
+use Rattle.wi_cache.specs.Entries.{KeptValues, value_for}
+use Rattle.wi_graph.specs.Circular.{circular}
+use Rattle.wi_graph.proofs.Tests.{clash}
+use Rattle.wi_sheet.specs.CellValue.{cell_value}
+use Rattle.wi_sheet.specs.Demand.{Case, case_of, reaching, with_what_if, demanded}
+use Rattle.wi_sheet.specs.TableEntry.{table_entry, entry_demanded}
+use Rattle.wi_sheet.specs.Settled.{IsWhatIfSettled}
+use Rattle.wi_sheet.specs.Inner.Spending.{CountsAtMost, HasCase, HasEntry, IsClosed, left}
+use Rattle.wi_sheet.proofs.Cases.{different_has_itself}
+use Rattle.wi_sheet.proofs.Counting.{left_of_nothing, sum_of_ones}
+use Rattle.wi_sheet.proofs.Members.{contains_in}
+use Rattle.wi_sheet.proofs.SmallerWorlds.{content_below}
+use Rattle.wi_sheet.proofs.Overrides.{with_what_if_value}
+use Rattle.wi_sheet.proofs.TableEntries.{table_has_replacing, table_has_formula_cell, cells_open, entry_circular, entry_open}
+use Rattle.wi_engine.specs.Inner.MemoState.{MemoState}
+use Rattle.wi_engine.specs.Inner.Frames.{MayBeRead}
+use Rattle.wi_engine.specs.Inner.Saving as saving
+use Rattle.wi_engine.specs.Inner.Saving.{KeepsFound, WhereRoom, CountsUnkept, Saves, SavesAll, TakesNoMore, NeedsNoEvaluation, IsValuedAnew}
+use Rattle.wi_engine.proofs.Saved.{what_if_more, rests_more}
+use Rattle.wi_propagate.specs.KeptSheet.{Generations, generation_in, KeptSheet, key_in, is_kept, unkept, IsAtHand, HasRoomFor, KeepsAll, KeepsNoMore}
+use Rattle.wi_propagate.specs.Right.{AreRight, AreKeptRight}
+use Rattle.wi_propagate.specs.Inner.Keeping.{kept_sheet, values_in, Keeping, keeping, begun, state_in, IsKeepingRight}
+use Rattle.wi_propagate.proofs.ShowingEntries.{pair_in}
+
+-- the question begins with what was kept
+pub begun_is : (s : Stored) (gs : Generations) (o : Option KeptValues) (n : Counts) (v : KeptValues) (q : Keeping) → q ≡ keeping s.sheet s.edits gs [] v → Some v ≡ o → q ≡ begun (kept_sheet s gs o n)
+begun_is s gs o n v q e f = e ∙ ap (λ (x : Option KeptValues). keeping s.sheet s.edits gs [] (values_in x)) f
+
+-- and what was kept is right
+pub begun_right : (s : Stored) (gs : Generations) (o : Option KeptValues) (n : Counts) (v : KeptValues) → Some v ≡ o → AreKeptRight (kept_sheet s gs o n) → IsKeepingRight (keeping s.sheet s.edits gs [] v)
+begun_right s gs o n v f h = record {
+  past = h.past;
+  right = subst (λ (x : Option KeptValues). AreRight s.sheet s.edits (generation_in gs) (values_in x).entries) (sym f) h.right;
+}
+
+-- ---- how many cases are not kept
+
+left_is_unkept : (f : ℕ → List Replacement → Bool) (ks : List Case) → left (λ x. 1) f ks ≡ length (filter (λ x. not (f x.0 x.1)) ks)
+left_is_unkept f [] = refl
+left_is_unkept f (k ∷ ks) = at (f k.0 k.1) (left_is_unkept f ks)
+  where
+    rest : List Case
+    rest = filter (λ x. not (f x.0 x.1)) ks
+
+    at : (b : Bool) → left (λ x. 1) f ks ≡ length rest → cond b 0 1 + left (λ x. 1) f ks ≡ length (cond (not b) (k ∷ rest) rest)
+    at true h = omega (arith, h)
+    at false h = omega (arith, h)
+
+-- ---- a question, for each closed list of cases that has what it is to have
+
+module _ (k : KeptSheet) (q : Keeping) (e : q ≡ begun k) where
+  nothing_found : KeepsFound (state_in q)
+  nothing_found = subst (λ (x : Keeping). KeepsFound (state_in x)) (sym e) (λ c p h. let z = h in cc)
+
+  pub same_unkept : (ks : List Case) → saving.unkept (state_in q) ks ≡ unkept k ks
+  same_unkept ks = ap (λ (x : Keeping). saving.unkept (state_in x) ks) e ∙ left_is_unkept (is_kept k) ks
+
+  room_left : (ks : List Case) → HasRoomFor k ks → saving.unkept (state_in q) ks ≤ (state_in q).room
+  room_left ks h =
+      let z = same_unkept ks in
+      let y = ap (λ (x : Keeping). (state_in x).room) e in
+      omega (arith, h, z, y)
+
+  -- its cell may be valued
+  pub may_be_read : (a : ℕ) → circular k.stored.sheet a ≡ false → MayBeRead k.stored.sheet (state_in q) a
+  may_be_read a o = subst (λ (x : Keeping). MayBeRead k.stored.sheet (state_in x) a) (sym e) (record { open_cell = o; covered = λ h. refl })
+
+  module _ (Has : List Case → Type 0) (cases : List Case) (closed : IsClosed k.stored.sheet cases) (has : Has cases) where
+    pub asked_at_most : (weight : Case → ℕ) (n m : ℕ) → CountsAtMost k.stored.sheet Has weight (state_in q).found n m → m ≤ n + sum_by weight cases
+    asked_at_most weight n m h =
+        let here : CountsAtMost k.stored.sheet Has weight (λ c p. false) n m = subst (λ (x : Keeping). CountsAtMost k.stored.sheet Has weight (state_in x).found n m) e h in
+        let counted = here cases closed has in
+        let all = left_of_nothing weight cases in
+        omega (arith, counted, all)
+
+    pub asked_evaluations : (n m : ℕ) → CountsAtMost k.stored.sheet Has (λ c. 1) (state_in q).found n m → m ≤ n + length cases
+    asked_evaluations n m h =
+        let counted = asked_at_most (λ c. 1) n m h in
+        let all = sum_of_ones cases in
+        omega (arith, counted, all)
+
+    pub asked_unkept : (n m : ℕ) → CountsUnkept k.stored.sheet Has (state_in q) n m → HasRoomFor k cases → m ≤ n + unkept k cases
+    asked_unkept n m h room =
+        let counted = h cases closed has nothing_found (room_left cases room) in
+        let z = same_unkept cases in
+        omega (arith, counted, z)
+
+    pub asked_where : (P : Type 0) → WhereRoom k.stored.sheet Has (state_in q) (λ _. P) → HasRoomFor k cases → P
+    asked_where P h room = h cases closed has nothing_found (room_left cases room)
+
+    pub asked_saves : (x : MemoState) (n m : ℕ) → SavesAll k.stored.sheet Has (state_in q) x n m → HasRoomFor k cases → Saves k.stored.sheet (state_in q) x cases n m
+    asked_saves x n m h room = h cases closed has nothing_found (room_left cases room)
+
+-- ---- what is kept when it ends
+
+module _ (k : KeptSheet) (q last : Keeping) (values : KeptValues) (counts : Counts) (e : q ≡ begun k) (gens : (state_in last).generation ≡ (state_in q).generation)
+    (caps : (state_in last).capacity ≡ (state_in q).capacity) (same : values ≡ last.values) where
+  abbrev pub after : KeptSheet
+  after = record { stored = k.stored; generations = k.generations; values = values; counts = counts }
+
+  kept_before_is : (c : ℕ) (w : List Replacement) → is_kept k c w ≡ (state_in q).kept c w
+  kept_before_is c w = sym (ap (λ (x : Keeping). (state_in x).kept c w) e)
+
+  pub kept_after_is : (c : ℕ) (w : List Replacement) → is_kept after c w ≡ (state_in last).kept c w
+  kept_after_is c w =
+      let g : generation_in k.generations c ≡ generation_in last.generations c = sym (ap (λ (f : ℕ → ℕ). f c) (gens ∙ ap (λ (x : Keeping). generation_in x.generations) e)) in
+      ap (λ (v : KeptValues). is_some (value_for v.entries (key_in k.generations c w))) same ∙ ap (λ (n : ℕ). is_some (value_for last.values.entries (at n))) g
+    where
+      at : ℕ → Key
+      at n = record { cell = c; generation = n; world = w }
+
+  pub right_then : (state_in last).sheet ≡ k.stored.sheet → (state_in last).latest ≡ (state_in q).latest → AreKeptRight k → IsKeepingRight last → AreKeptRight after
+  right_then sheet latest before h =
+      let generations : generation_in last.generations ≡ generation_in k.generations = gens ∙ ap (λ (x : Keeping). generation_in x.generations) e in
+      let edits : last.edits ≡ k.stored.edits = latest ∙ ap (λ (x : Keeping). x.edits) e in
+      let here = subst (λ (t : Sheet). AreRight t last.edits (generation_in last.generations) last.values.entries) sheet h.right in
+      let now = subst (λ (m : ℕ). AreRight k.stored.sheet m (generation_in last.generations) last.values.entries) edits here in
+      let then = subst (λ (f : ℕ → ℕ). AreRight k.stored.sheet k.stored.edits f last.values.entries) generations now in
+      record {
+        room = let x = ap (λ (v : KeptValues). v.capacity) same in let z = ap (λ (y : Keeping). (state_in y).capacity) e in let one = before.room in omega (arith, x, z, caps, one);
+        past = before.past;
+        right = subst (λ (v : KeptValues). AreRight k.stored.sheet k.stored.edits (generation_in k.generations) v.entries) (sym same) then;
+      }
+
+  pub asked_keeps : (ks : List Case) → HasRoomFor k ks → Saves k.stored.sheet (state_in q) (state_in last) ks k.counts.evaluations counts.evaluations → KeepsAll k after
+  asked_keeps ks room h = record {
+    added =
+        let a = h.added in
+        let f = h.room in
+        let x = ap (λ (y : Keeping). (state_in y).room) e in
+        let y = ap (λ (v : KeptValues). v.capacity) same in
+        let z = ap (λ (v : KeptValues). length v.entries) same in
+        let u = ap (λ (y : Keeping). (state_in y).capacity) e in
+        omega (arith, a, x, y, z, u, caps, room);
+    stays = λ c w i. kept_after_is c w ∙ h.stays c w (sym (kept_before_is c w) ∙ i);
+    settled = λ c w i o. rests_more k.stored.sheet (state_in last).kept (is_kept after) (λ d v j. kept_after_is d v ∙ j) (c, w) (h.rests c w (sym (kept_after_is c w) ∙ i) (sym (kept_before_is c w) ∙ o));
+  }
+
+  pub asked_settled : (w put : List Replacement) (x : ℕ × List (ℕ × ℕ)) → w ≡ put → IsWhatIfSettled k.stored.sheet (state_in last).kept w x → IsWhatIfSettled k.stored.sheet (is_kept after) put x
+  asked_settled w put x f h = what_if_more k.stored.sheet (state_in last).kept (is_kept after) (λ d v j. kept_after_is d v ∙ j) put x (subst (λ (p : List Replacement). IsWhatIfSettled k.stored.sheet (state_in last).kept p x) f h)
+
+  -- as the room that is left tells
+  pub asked_no_more : length values.entries ≤ values.capacity → TakesNoMore (state_in q) (state_in last) k.counts.evaluations counts.evaluations → KeepsNoMore k after
+  asked_no_more within (inl h) =
+      let x = ap (λ (y : Keeping). (state_in y).room) e in
+      let y = ap (λ (v : KeptValues). v.capacity) same in
+      let z = ap (λ (v : KeptValues). length v.entries) same in
+      let u = ap (λ (y : Keeping). (state_in y).capacity) e in
+      inl (omega (arith, h, x, y, z, u, caps, within))
+  asked_no_more within (inr h) = inr h
+
+-- ---- the value of a cell
+
+module _ (k : KeptSheet) (q : Keeping) (w put : List Replacement) (a : ℕ) (e : q ≡ begun k) (o : circular k.stored.sheet a ≡ false) (same : w ≡ put) where
+  -- the cases that it demands have the cell's own
+  pub has_case : HasCase k.stored.sheet w a (demanded k.stored.sheet put a)
+  has_case f = subst (λ (p : List Replacement). Contains (demanded k.stored.sheet put a) (case_of k.stored.sheet p a)) (sym same)
+      (different_has_itself k.stored.sheet (case_of k.stored.sheet put a) o (ap has_formula (content_below k.stored.sheet a put) ∙ ap (λ (p : List Replacement). has_formula (content_of (put_all k.stored.sheet p) a)) (sym same) ∙ f))
+
+  -- what is at hand needs no evaluation
+  pub at_hand_is : IsAtHand k put a → NeedsNoEvaluation k.stored.sheet (state_in q) w a
+  at_hand_is (inl h) = let z = o in cc
+  at_hand_is (inr (inl h)) = inl (ap (λ (p : List Replacement). has_formula (content_of (put_all k.stored.sheet p) a)) same ∙ h)
+  at_hand_is (inr (inr h)) = inr (subst (λ (x : Keeping). is_some ((state_in x).known a (reaching k.stored.sheet a w)) ≡ true) (sym e) (ap (λ (p : List Replacement). is_kept k a (reaching k.stored.sheet a p)) same ∙ h))
+
+  formula_of : (b : Bool) → has_formula (content_of (put_all k.stored.sheet put) a) ≡ b → (IsAtHand k put a → ⊥) → has_formula (content_of (put_all k.stored.sheet put) a) ≡ true
+  formula_of true i h = i
+  formula_of false i h = absurd (h (inr (inl i)))
+
+  -- and any other is kept then
+  pub asked_kept : (last : Keeping) (values : KeptValues) (counts : Counts) (gens : (state_in last).generation ≡ (state_in q).generation) (caps : (state_in last).capacity ≡ (state_in q).capacity) (there : values ≡ last.values) → 1 ≤ k.values.capacity →
+      (IsValuedAnew k.stored.sheet (state_in q) w a → 1 ≤ (state_in q).capacity → (state_in last).kept a (reaching k.stored.sheet a w) ≡ true) → (IsAtHand k put a → ⊥) →
+      is_kept (record { stored = k.stored; generations = k.generations; values = values; counts = counts }) a (reaching k.stored.sheet a put) ≡ true
+  asked_kept last values counts gens caps there one h hard =
+      let f = formula_of (has_formula (content_of (put_all k.stored.sheet put) a)) refl hard in
+      let anew : IsValuedAnew k.stored.sheet (state_in q) w a = record {
+        formula = ap (λ (p : List Replacement). has_formula (content_of (put_all k.stored.sheet p) a)) same ∙ f;
+        unfound = ap (λ (x : Keeping). (state_in x).found a (reaching k.stored.sheet a w)) e;
+      } in
+      let room : 1 ≤ (state_in q).capacity = let x = ap (λ (y : Keeping). (state_in y).capacity) e in omega (arith, x, one) in
+      kept_after_is k q last values counts e gens caps there a (reaching k.stored.sheet a put) ∙ ap (λ (p : List Replacement). (state_in last).kept a (reaching k.stored.sheet a p)) (sym same) ∙ h anew room
+
+-- ---- an entry
+
+pub entry_has : (s : Sheet) (w put : List Replacement) (f : ℕ) (pairs : List (ℕ × ℕ)) → (circular s f ≡ false) × All (λ x. circular s x.1 ≡ false) pairs → w ≡ put → HasEntry s w f pairs (entry_demanded s put f pairs)
+entry_has s w put f pairs o same = subst (λ (p : List Replacement). HasEntry s p f pairs (entry_demanded s put f pairs)) (sym same)
+    (λ i x less. table_has_replacing s put f pairs (get_or pairs i x) (contains_in pairs (get_or pairs i x) (pair_in pairs i x less)) (o.1 i x less), table_has_formula_cell s put f pairs o.0)
+
+abbrev asks_circular : Sheet → ℕ → List (ℕ × ℕ) → Bool
+asks_circular s f pairs = circular s f || list_any (λ x. circular s x.1) pairs
+
+-- none of the cells is circular whose values are asked for
+pub open_cells : (s : Sheet) (f : ℕ) (pairs : List (ℕ × ℕ)) (b : Bool) → b ≡ asks_circular s f pairs → b ≡ false → (circular s f ≡ false) × All (λ x. circular s x.1 ≡ false) pairs
+open_cells s f pairs b e h = cells_open s f pairs (sym e ∙ h)
+
+pub circular_entry : (s t : Sheet) (p : List Replacement) (f : ℕ) (pairs : List (ℕ × ℕ)) (b : Bool) → s ≡ t → b ≡ asks_circular s f pairs → b ≡ true → Fault Circular ≡ table_entry t p f pairs
+circular_entry s t p f pairs b e x h = sym (entry_circular s p f pairs (sym x ∙ h)) ∙ ap (λ (r : Sheet). table_entry r p f pairs) e
+
+none_circular : (s : Sheet) (f : ℕ) (pairs : List (ℕ × ℕ)) → (circular s f ≡ false) × All (λ x. circular s x.1 ≡ false) pairs → (circular s f || list_any (λ x. circular s x.1) pairs) ≡ false
+none_circular s f pairs o = ap (λ (b : Bool). b || list_any (λ x. circular s x.1) pairs) o.0 ∙ list_any_none (λ x. circular s x.1) pairs o.1
+
+pub entry_shown : (s : Sheet) (w put : List Replacement) (f : ℕ) (pairs : List (ℕ × ℕ)) (v : Value) → (circular s f ≡ false) × All (λ x. circular s x.1 ≡ false) pairs → w ≡ put → IsInOrder put →
+    v ≡ zero_for_empty (cell_value (put_all s (with_what_if s w pairs)) f) → v ≡ table_entry s put f pairs
+entry_shown s w put f pairs v o same order is =
+    is ∙ ap (λ (p : List Replacement). zero_for_empty (cell_value (put_all s (with_what_if s p pairs)) f)) same ∙ ap (λ (x : Value). zero_for_empty x) (with_what_if_value s put f pairs order)
+    ∙ sym (entry_open s put f pairs (none_circular s f pairs o))
+
+pub circular_clash : {A : Type 0} (s t : Sheet) (f : ℕ) (pairs : List (ℕ × ℕ)) (b : Bool) → s ≡ t → b ≡ asks_circular s f pairs → b ≡ true → circular t f ≡ false → All (λ x. circular t x.1 ≡ false) pairs → A
+circular_clash s t f pairs b e x h one all = clash (asks_circular t f pairs) (ap (λ (r : Sheet). asks_circular r f pairs) (sym e) ∙ sym x ∙ h) (none_circular t f pairs (one, all))

@@ -1,0 +1,60 @@
+use Rattle.std.proofs.Common.{◌≡◌, ◌≤◌, ◌-◌, ◌⊎◌, ◌||◌, ◌∙◌, ℕ, false, List, length, Some, IfSome, OnOk, is_some, ap, sym, subst}
+use Rattle.std.specs.Option.{option_or}
+use Rattle.wi_values.specs.declared.replacement.Replacement.{Replacement}
+use Rattle.wi_parser.specs.Sheet.{put_all}
+use Rattle.wi_cache.specs.Entries.{Puts, value_for}
+use Rattle.wi_graph.specs.Circular.{circular}
+use Rattle.wi_sheet.specs.CellValue.{cell_value}
+use Rattle.wi_sheet.specs.Demand.{same_case}
+use Rattle.wi_propagate.specs.Right.{IsKeptFor}
+use Rattle.wi_propagate.specs.Inner.Keeping.{Keeping}
+use Rattle.wi_propagate.specs.KeptSheet.{generation_in, key_in}
+use Rattle.wi_propagate.proofs.KeptSteps.{found_is_kept}
+use Rattle.wi_propagate.proofs.KeepingSteps.{KeepsIn, right_after, put_found, found_after, kept_after, known_after}
+use Rattle.wi_propagate.proofs.keeping.KeepingMemo.keep.Goals as goal
+
+pub invariant_of-self-2 : goal.invariant_of-self-2
+invariant_of-self-2 c =
+    let i = c.self.inside in
+    let h = c.self.invariant in
+    let e = c.keep-2.ensures in
+    let keeps : KeepsIn c.keep-2.result i.kept c.keep-2.new.self c.args.key c.args.value = record { found = e.found; stays = e.stays; goes = e.one_goes; len = e.len; capacity = e.capacity; err = e.err } in
+    let generation : c.args.key.generation ≡ generation_in i.generations.now.entries c.args.key.cell = c.requires.generation ∙ ap (λ (q : Keeping). generation_in q.generations c.args.key.cell) (sym c.self.view_is) in
+    let leaf : circular i.store.now.sheet c.args.key.cell ≡ false = ap (λ (q : Keeping). circular q.sheet c.args.key.cell) c.self.view_is ∙ c.requires.open_cell in
+    let right : c.args.value ≡ cell_value (put_all i.store.now.sheet c.args.key.world) c.args.key.cell = c.requires.right ∙ ap (λ (q : Keeping). cell_value (put_all q.sheet c.args.key.world) c.args.key.cell) (sym c.self.view_is) in
+    let new : IsKeptFor i.store.now.sheet i.store.now.edits (generation_in i.generations.now.entries) c.args.key c.args.value = found_is_kept i.store.now.sheet i.store.now.edits (generation_in i.generations.now.entries) c.args.key c.args.value h.3.past leaf generation right in (
+      h.0,
+      h.1,
+      h.2,
+      record {
+        past = h.3.past;
+        right = right_after c.keep-2.result i.store.now.sheet i.store.now.edits (generation_in i.generations.now.entries) i.kept c.keep-2.new.self c.args.key c.args.value keeps new h.3.right;
+      },
+    )
+
+pub returns-clause-known : goal.returns-clause-known
+returns-clause-known c =
+    let i = c.self.inside in
+    let e = c.keep-2.ensures in
+    let keeps : KeepsIn c.keep-2.result i.kept c.keep-2.new.self c.args.key c.args.value = record { found = e.found; stays = e.stays; goes = e.one_goes; len = e.len; capacity = e.capacity; err = e.err } in
+    let puts : Puts i.table c.keep.new.self c.args.key c.args.value = put_found i.table c.keep.new.self c.in_ok-again.again c.args.key c.in_ok-shown.shown c.args.value c.in_ok-again.ensures c.in_ok-shown.ensures c.in_ok-keep.ensures.ok in
+    subst (λ (q : Keeping). (d : ℕ) (w : List Replacement) → IfSome (option_or (value_for c.keep.new.self (key_in i.generations.now.entries d w)) (value_for c.keep-2.new.self.entries (key_in i.generations.now.entries d w)))
+    (λ x. (option_or (value_for q.found (key_in q.generations d w)) (value_for q.values.entries (key_in q.generations d w)) ≡ Some x) ⊎ ((d ≡ c.args.key.cell) × (w ≡ c.args.key.world) × (x ≡ c.args.value)))) c.self.view_is
+    (known_after c.keep-2.result i.generations.now.entries i.table c.keep.new.self i.kept c.keep-2.new.self c.args.key c.args.value puts keeps)
+
+pub returns-clause-found : goal.returns-clause-found
+returns-clause-found c =
+    let i = c.self.inside in
+    let generation : c.args.key.generation ≡ generation_in i.generations.now.entries c.args.key.cell = c.requires.generation ∙ ap (λ (q : Keeping). generation_in q.generations c.args.key.cell) (sym c.self.view_is) in
+    let puts : Puts i.table c.keep.new.self c.args.key c.args.value = put_found i.table c.keep.new.self c.in_ok-again.again c.args.key c.in_ok-shown.shown c.args.value c.in_ok-again.ensures c.in_ok-shown.ensures c.in_ok-keep.ensures.ok in
+    subst (λ (q : Keeping). OnOk c.keep-2.result ((d : ℕ) (w : List Replacement) → is_some (value_for c.keep.new.self (key_in i.generations.now.entries d w)) ≡ (is_some (value_for q.found (key_in q.generations d w)) || same_case (c.args.key.cell, c.args.key.world) (d, w)))) c.self.view_is
+    (found_after c.keep-2.result i.generations.now.entries i.table c.keep.new.self c.args.key c.args.value generation puts)
+
+pub returns-clause-kept : goal.returns-clause-kept
+returns-clause-kept c =
+    let i = c.self.inside in
+    let e = c.keep-2.ensures in
+    let keeps : KeepsIn c.keep-2.result i.kept c.keep-2.new.self c.args.key c.args.value = record { found = e.found; stays = e.stays; goes = e.one_goes; len = e.len; capacity = e.capacity; err = e.err } in
+    let generation : c.args.key.generation ≡ generation_in i.generations.now.entries c.args.key.cell = c.requires.generation ∙ ap (λ (q : Keeping). generation_in q.generations c.args.key.cell) (sym c.self.view_is) in
+    subst (λ (q : Keeping). OnOk c.keep-2.result (1 ≤ q.values.capacity - length q.values.entries → (d : ℕ) (w : List Replacement) → is_some (value_for c.keep-2.new.self.entries (key_in i.generations.now.entries d w)) ≡ (is_some (value_for q.values.entries (key_in q.generations d w)) || same_case (c.args.key.cell, c.args.key.world) (d, w)))) c.self.view_is
+    (kept_after c.keep-2.result i.generations.now.entries i.kept c.keep-2.new.self c.args.key c.args.value keeps generation)

@@ -1,0 +1,12 @@
+use Rattle.std.proofs.Common.{◌∙◌, ap}
+use Rattle.wi_sheet.specs.Demand.{reaching}
+use Rattle.wi_propagate.specs.Inner.Keeping.{Keeping}
+use Rattle.wi_propagate.proofs.ReplacedCones.{worlds_all}
+use Rattle.wi_propagate.proofs.keeping.KeepingMemo.key.Goals as goal
+
+pub returns-clause-world : goal.returns-clause-world
+returns-clause-world c =
+    let s = c.self.inside.store.now.sheet in
+    let h = c.self.invariant in
+    c.in_ok-world.ensures.list ∙ worlds_all s c.add_cones.new.cones c.args.at (c.in_ok-add_cones.ensures.cones s h.0 h.2) c.args.world.now c.in_ok-add_cones.ensures.all
+    ∙ ap (λ (q : Keeping). reaching q.sheet c.args.at c.args.world.now) c.self.view_is

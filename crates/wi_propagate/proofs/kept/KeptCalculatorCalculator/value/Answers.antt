@@ -1,0 +1,146 @@
+use Rattle.std.proofs.Common.{◌≡◌, ◌≤◌, ◌+◌, ◌∙◌, IfOk, OnOk, false, true, length, sum_by, refl, ap, sym, subst}
+use Rattle.std.proofs.lemmas.Result.{IfOk-weaker}
+use Rattle.wi_graph.specs.Circular.{circular}
+use Rattle.wi_sheet.specs.Shown.{shown}
+use Rattle.wi_sheet.specs.Demand.{case_of, reaching, demanded, wants}
+use Rattle.wi_sheet.specs.Inner.Spending.{HasCase}
+use Rattle.wi_sheet.proofs.Cases.{different_closed}
+use Rattle.wi_sheet.proofs.Steps.{shown_circular}
+use Rattle.wi_propagate.specs.KeptSheet.{KeptSheet, unkept, IsAtHand, HasRoomFor, is_kept, KeepsAll, KeepsNoMore}
+use Rattle.wi_propagate.specs.Inner.Keeping.{kept_sheet, begun, state_in}
+use Rattle.wi_propagate.proofs.Showing.{put_alone, shown_value}
+use Rattle.wi_propagate.proofs.Questions.{begun_is, begun_right, may_be_read, right_then, asked_at_most, asked_evaluations, asked_unkept, asked_saves, asked_keeps, asked_no_more, asked_kept, at_hand_is, has_case}
+use Rattle.wi_propagate.proofs.kept.KeptCalculatorCalculator.value.Goals as goal
+
+pub returns-then-is_circular-clause-value : goal.returns-then-is_circular-clause-value
+returns-then-is_circular-clause-value c =
+    let is : circular c.self.inside.store.sheet c.args.at ≡ true = sym (c.is_circular.ensures c.self.inside.store.sheet c.self.invariant.1) ∙ c.if-is_circular.true in
+    sym (shown_circular c.args.self.now.stored.sheet c.args.put.now c.args.at (ap (λ (k : KeptSheet). circular k.stored.sheet c.args.at) (sym c.self.view_is) ∙ is))
+
+pub new-memo-requires-clause-right : goal.new-memo-requires-clause-right
+new-memo-requires-clause-right c =
+    let i = c.self.inside in
+    begun_right i.store i.generations.entries i.kept i.meter _ c.in-Some.ensures.value c.self.invariant.3
+
+pub value_under-result-requires-clause-read : goal.value_under-result-requires-clause-read
+value_under-result-requires-clause-read c =
+    let i = c.self.inside in
+    let k : KeptSheet = kept_sheet i.store i.generations.entries i.kept i.meter in
+    let o : circular i.store.sheet c.args.at ≡ false = sym (c.is_circular.ensures i.store.sheet c.self.invariant.1) ∙ c.if-is_circular.false in
+    let q : c.new-memo.result ≡ begun k = begun_is i.store i.generations.entries i.kept i.meter _ c.new-memo.result c.new-memo.ensures.value c.in-Some.ensures.value in
+    may_be_read k c.new-memo.result q c.args.at o
+
+pub invariant_of-self : goal.invariant_of-self
+invariant_of-self c =
+    let i = c.self.inside in
+    let k : KeptSheet = kept_sheet i.store i.generations.entries i.kept i.meter in
+    let q : c.new-memo.result ≡ begun k = begun_is i.store i.generations.entries i.kept i.meter _ c.new-memo.result c.new-memo.ensures.value c.in-Some.ensures.value in
+    let e = c.value_under-result.ensures in
+    let h = c.self.invariant in (
+      refl,
+      h.1,
+      h.2,
+      right_then k c.new-memo.result c.value_under-result.new.memo c.into_kept.result c.value_under-result.new.meter q e.same_generation e.same_capacity c.into_kept.ensures.kept e.memo.sheet e.same_latest h.3 c.into_kept.ensures.right,
+    )
+
+pub returns-clause-value : goal.returns-clause-value
+returns-clause-value c =
+    let i = c.self.inside in
+    let k : KeptSheet = kept_sheet i.store i.generations.entries i.kept i.meter in
+    let o : circular i.store.sheet c.args.at ≡ false = sym (c.is_circular.ensures i.store.sheet c.self.invariant.1) ∙ c.if-is_circular.false in
+    let same = put_alone c.in_ok-world.world c.new.result c.args.put.now c.requires c.new.ensures c.in_ok-world.ensures.list in
+    subst (λ (x : KeptSheet). IfOk c.value_under-result.result (λ v. v ≡ shown x.stored.sheet c.args.put.now c.args.at)) c.self.view_is
+    (IfOk-weaker c.value_under-result.result _ _ (λ v e. shown_value i.store.sheet c.in_ok-world.world c.args.put.now c.args.at v o same e) c.value_under-result.ensures.value)
+
+pub returns-clause-evaluations : goal.returns-clause-evaluations
+returns-clause-evaluations c =
+    let i = c.self.inside in
+    let k : KeptSheet = kept_sheet i.store i.generations.entries i.kept i.meter in
+    let o : circular i.store.sheet c.args.at ≡ false = sym (c.is_circular.ensures i.store.sheet c.self.invariant.1) ∙ c.if-is_circular.false in
+    let q : c.new-memo.result ≡ begun k = begun_is i.store i.generations.entries i.kept i.meter _ c.new-memo.result c.new-memo.ensures.value c.in-Some.ensures.value in
+    let same = put_alone c.in_ok-world.world c.new.result c.args.put.now c.requires c.new.ensures c.in_ok-world.ensures.list in
+    let cases = demanded i.store.sheet c.args.put.now c.args.at in
+    let has = has_case k c.new-memo.result c.in_ok-world.world c.args.put.now c.args.at q o same in
+    let closed = different_closed i.store.sheet (case_of i.store.sheet c.args.put.now c.args.at) in
+    let Has = HasCase i.store.sheet c.in_ok-world.world c.args.at in
+    subst (λ (x : KeptSheet). c.value_under-result.new.meter.evaluations ≤ x.counts.evaluations + length (demanded x.stored.sheet c.args.put.now c.args.at)) c.self.view_is
+    (asked_evaluations k c.new-memo.result q Has cases closed has i.meter.evaluations c.value_under-result.new.meter.evaluations c.value_under-result.ensures.evaluations)
+
+pub returns-clause-restarts : goal.returns-clause-restarts
+returns-clause-restarts c =
+    let i = c.self.inside in
+    let k : KeptSheet = kept_sheet i.store i.generations.entries i.kept i.meter in
+    let o : circular i.store.sheet c.args.at ≡ false = sym (c.is_circular.ensures i.store.sheet c.self.invariant.1) ∙ c.if-is_circular.false in
+    let q : c.new-memo.result ≡ begun k = begun_is i.store i.generations.entries i.kept i.meter _ c.new-memo.result c.new-memo.ensures.value c.in-Some.ensures.value in
+    let same = put_alone c.in_ok-world.world c.new.result c.args.put.now c.requires c.new.ensures c.in_ok-world.ensures.list in
+    let cases = demanded i.store.sheet c.args.put.now c.args.at in
+    let has = has_case k c.new-memo.result c.in_ok-world.world c.args.put.now c.args.at q o same in
+    let closed = different_closed i.store.sheet (case_of i.store.sheet c.args.put.now c.args.at) in
+    let Has = HasCase i.store.sheet c.in_ok-world.world c.args.at in
+    subst (λ (x : KeptSheet). c.value_under-result.new.meter.restarts ≤ x.counts.restarts + sum_by (wants x.stored.sheet) (demanded x.stored.sheet c.args.put.now c.args.at)) c.self.view_is
+    (asked_at_most k c.new-memo.result q Has cases closed has (wants i.store.sheet) i.meter.restarts c.value_under-result.new.meter.restarts c.value_under-result.ensures.restarts)
+
+pub returns-clause-unkept : goal.returns-clause-unkept
+returns-clause-unkept c =
+    let i = c.self.inside in
+    let k : KeptSheet = kept_sheet i.store i.generations.entries i.kept i.meter in
+    let o : circular i.store.sheet c.args.at ≡ false = sym (c.is_circular.ensures i.store.sheet c.self.invariant.1) ∙ c.if-is_circular.false in
+    let q : c.new-memo.result ≡ begun k = begun_is i.store i.generations.entries i.kept i.meter _ c.new-memo.result c.new-memo.ensures.value c.in-Some.ensures.value in
+    let same = put_alone c.in_ok-world.world c.new.result c.args.put.now c.requires c.new.ensures c.in_ok-world.ensures.list in
+    let cases = demanded i.store.sheet c.args.put.now c.args.at in
+    let has = has_case k c.new-memo.result c.in_ok-world.world c.args.put.now c.args.at q o same in
+    let closed = different_closed i.store.sheet (case_of i.store.sheet c.args.put.now c.args.at) in
+    let Has = HasCase i.store.sheet c.in_ok-world.world c.args.at in
+    let unkept_is = asked_unkept k c.new-memo.result q Has cases closed has i.meter.evaluations c.value_under-result.new.meter.evaluations c.value_under-result.ensures.unkept_evaluations in
+    subst (λ (x : KeptSheet). HasRoomFor x (demanded x.stored.sheet c.args.put.now c.args.at) → c.value_under-result.new.meter.evaluations ≤ x.counts.evaluations + unkept x (demanded x.stored.sheet c.args.put.now c.args.at)) c.self.view_is
+    unkept_is
+
+pub returns-clause-easy : goal.returns-clause-easy
+returns-clause-easy c =
+    let i = c.self.inside in
+    let k : KeptSheet = kept_sheet i.store i.generations.entries i.kept i.meter in
+    let o : circular i.store.sheet c.args.at ≡ false = sym (c.is_circular.ensures i.store.sheet c.self.invariant.1) ∙ c.if-is_circular.false in
+    let q : c.new-memo.result ≡ begun k = begun_is i.store i.generations.entries i.kept i.meter _ c.new-memo.result c.new-memo.ensures.value c.in-Some.ensures.value in
+    let same = put_alone c.in_ok-world.world c.new.result c.args.put.now c.requires c.new.ensures c.in_ok-world.ensures.list in
+    subst (λ (x : KeptSheet). IsAtHand x c.args.put.now c.args.at → c.value_under-result.new.meter ≡ x.counts) c.self.view_is
+    (λ h. c.value_under-result.ensures.uncounted (at_hand_is k c.new-memo.result c.in_ok-world.world c.args.put.now c.args.at q o same h))
+
+pub returns-clause-kept : goal.returns-clause-kept
+returns-clause-kept c =
+    let i = c.self.inside in
+    let k : KeptSheet = kept_sheet i.store i.generations.entries i.kept i.meter in
+    let o : circular i.store.sheet c.args.at ≡ false = sym (c.is_circular.ensures i.store.sheet c.self.invariant.1) ∙ c.if-is_circular.false in
+    let q : c.new-memo.result ≡ begun k = begun_is i.store i.generations.entries i.kept i.meter _ c.new-memo.result c.new-memo.ensures.value c.in-Some.ensures.value in
+    let same = put_alone c.in_ok-world.world c.new.result c.args.put.now c.requires c.new.ensures c.in_ok-world.ensures.list in
+    let new : KeptSheet = record { stored = i.store; generations = i.generations.entries; values = c.into_kept.result; counts = c.value_under-result.new.meter } in
+    let e = c.value_under-result.ensures in
+    subst (λ (x : KeptSheet). OnOk c.value_under-result.result ((IsAtHand x c.args.put.now c.args.at → ⊥) → is_kept new c.args.at (reaching x.stored.sheet c.args.at c.args.put.now) ≡ true)) c.self.view_is
+    (IfOk-weaker c.value_under-result.result _ _ (λ v h. asked_kept k c.new-memo.result c.in_ok-world.world c.args.put.now c.args.at q o same c.value_under-result.new.memo c.into_kept.result c.value_under-result.new.meter
+    e.same_generation e.same_capacity c.into_kept.ensures.kept c.self.invariant.3.room h) e.kept)
+
+pub returns-clause-keeps : goal.returns-clause-keeps
+returns-clause-keeps c =
+    let i = c.self.inside in
+    let k : KeptSheet = kept_sheet i.store i.generations.entries i.kept i.meter in
+    let o : circular i.store.sheet c.args.at ≡ false = sym (c.is_circular.ensures i.store.sheet c.self.invariant.1) ∙ c.if-is_circular.false in
+    let q : c.new-memo.result ≡ begun k = begun_is i.store i.generations.entries i.kept i.meter _ c.new-memo.result c.new-memo.ensures.value c.in-Some.ensures.value in
+    let same = put_alone c.in_ok-world.world c.new.result c.args.put.now c.requires c.new.ensures c.in_ok-world.ensures.list in
+    let cases = demanded i.store.sheet c.args.put.now c.args.at in
+    let has = has_case k c.new-memo.result c.in_ok-world.world c.args.put.now c.args.at q o same in
+    let closed = different_closed i.store.sheet (case_of i.store.sheet c.args.put.now c.args.at) in
+    let Has = HasCase i.store.sheet c.in_ok-world.world c.args.at in
+    let new : KeptSheet = record { stored = i.store; generations = i.generations.entries; values = c.into_kept.result; counts = c.value_under-result.new.meter } in
+    let e = c.value_under-result.ensures in
+    subst (λ (x : KeptSheet). OnOk c.value_under-result.result (HasRoomFor x (demanded x.stored.sheet c.args.put.now c.args.at) → KeepsAll x new)) c.self.view_is
+    (IfOk-weaker c.value_under-result.result _ _ (λ v h room. asked_keeps k c.new-memo.result c.value_under-result.new.memo c.into_kept.result c.value_under-result.new.meter q e.same_generation e.same_capacity c.into_kept.ensures.kept cases room
+    (asked_saves k c.new-memo.result q Has cases closed has (state_in c.value_under-result.new.memo) i.meter.evaluations c.value_under-result.new.meter.evaluations h room)) e.saves)
+
+pub returns-clause-no_more : goal.returns-clause-no_more
+returns-clause-no_more c =
+    let i = c.self.inside in
+    let k : KeptSheet = kept_sheet i.store i.generations.entries i.kept i.meter in
+    let q : c.new-memo.result ≡ begun k = begun_is i.store i.generations.entries i.kept i.meter _ c.new-memo.result c.new-memo.ensures.value c.in-Some.ensures.value in
+    let new : KeptSheet = record { stored = i.store; generations = i.generations.entries; values = c.into_kept.result; counts = c.value_under-result.new.meter } in
+    let e = c.value_under-result.ensures in
+    subst (λ (x : KeptSheet). KeepsNoMore x new) c.self.view_is
+    (asked_no_more k c.new-memo.result c.value_under-result.new.memo c.into_kept.result c.value_under-result.new.meter q e.same_generation e.same_capacity c.into_kept.ensures.kept c.into_kept.ensures.within e.takes)

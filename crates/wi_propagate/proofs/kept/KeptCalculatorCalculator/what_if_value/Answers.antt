@@ -1,0 +1,170 @@
+use Rattle.std.proofs.Common.{get_or, ◌≡◌, ◌≤◌, ◌+◌, All, IfOk, OnOk, false, length, sum_by, ℕ, List, refl, ap, subst}
+use Rattle.std.proofs.lemmas.Result.{IfOk-weaker}
+use Rattle.wi_graph.specs.Circular.{circular}
+use Rattle.wi_sheet.specs.Demand.{wants}
+use Rattle.wi_sheet.specs.Inner.Spending.{HasEntry}
+use Rattle.wi_sheet.specs.TableEntry.{table_entry, entry_demanded}
+use Rattle.wi_sheet.specs.Settled.{IsWhatIfSettled}
+use Rattle.wi_sheet.proofs.TableEntries.{table_closed}
+use Rattle.wi_propagate.specs.KeptSheet.{KeptSheet, unkept, HasRoomFor, is_kept, KeepsAll, KeepsNoMore}
+use Rattle.wi_propagate.specs.Inner.Keeping.{kept_sheet, begun, state_in}
+use Rattle.wi_propagate.proofs.Showing.{put_alone}
+use Rattle.wi_propagate.proofs.Questions.{begun_is, begun_right, may_be_read, right_then, asked_at_most, asked_evaluations, asked_unkept, asked_saves, asked_keeps, asked_no_more, asked_where, asked_settled, entry_has, circular_entry, circular_clash, open_cells, entry_shown}
+use Rattle.wi_propagate.proofs.kept.KeptCalculatorCalculator.what_if_value.Goals as goal
+
+pub returns-then-entry_is_circular-clause-value : goal.returns-then-entry_is_circular-clause-value
+returns-then-entry_is_circular-clause-value c =
+    let s = c.self.inside.store.sheet in
+    circular_entry s c.args.self.now.stored.sheet c.args.put.now c.args.formula_cell c.args.pairs.now c.entry_is_circular.result (ap (λ (x : KeptSheet). x.stored.sheet) c.self.view_is) (c.entry_is_circular.ensures s c.self.invariant.1) c.if-entry_is_circular.true
+
+pub returns-then-entry_is_circular-clause-settled : goal.returns-then-entry_is_circular-clause-settled
+returns-then-entry_is_circular-clause-settled c = λ room one all.
+    let s = c.self.inside.store.sheet in
+    circular_clash s c.args.self.now.stored.sheet c.args.formula_cell c.args.pairs.now c.entry_is_circular.result (ap (λ (x : KeptSheet). x.stored.sheet) c.self.view_is) (c.entry_is_circular.ensures s c.self.invariant.1) c.if-entry_is_circular.true one all
+
+pub new-memo-requires-clause-right : goal.new-memo-requires-clause-right
+new-memo-requires-clause-right c =
+    let i = c.self.inside in
+    begun_right i.store i.generations.entries i.kept i.meter _ c.in-Some.ensures.value c.self.invariant.3
+
+pub open_entry-result-requires-clause-formula_cell : goal.open_entry-result-requires-clause-formula_cell
+open_entry-result-requires-clause-formula_cell c =
+    let i = c.self.inside in
+    let k : KeptSheet = kept_sheet i.store i.generations.entries i.kept i.meter in
+    let q : c.new-memo.result ≡ begun k = begun_is i.store i.generations.entries i.kept i.meter _ c.new-memo.result c.new-memo.ensures.value c.in-Some.ensures.value in
+    let s = i.store.sheet in
+    let h = c.self.invariant in
+    let o = open_cells s c.args.formula_cell c.args.pairs.now c.entry_is_circular.result (c.entry_is_circular.ensures s h.1) c.if-entry_is_circular.false in
+    may_be_read k c.new-memo.result q c.args.formula_cell o.0
+
+pub open_entry-result-requires-clause-replacing : goal.open_entry-result-requires-clause-replacing
+open_entry-result-requires-clause-replacing c =
+    let i = c.self.inside in
+    let k : KeptSheet = kept_sheet i.store i.generations.entries i.kept i.meter in
+    let q : c.new-memo.result ≡ begun k = begun_is i.store i.generations.entries i.kept i.meter _ c.new-memo.result c.new-memo.ensures.value c.in-Some.ensures.value in
+    let s = i.store.sheet in
+    let h = c.self.invariant in
+    let o = open_cells s c.args.formula_cell c.args.pairs.now c.entry_is_circular.result (c.entry_is_circular.ensures s h.1) c.if-entry_is_circular.false in
+    λ j x less. may_be_read k c.new-memo.result q (get_or c.args.pairs.now j x).1 (o.1 j x less)
+
+pub invariant_of-self : goal.invariant_of-self
+invariant_of-self c =
+    let i = c.self.inside in
+    let k : KeptSheet = kept_sheet i.store i.generations.entries i.kept i.meter in
+    let q : c.new-memo.result ≡ begun k = begun_is i.store i.generations.entries i.kept i.meter _ c.new-memo.result c.new-memo.ensures.value c.in-Some.ensures.value in
+    let e = c.open_entry-result.ensures in
+    let h = c.self.invariant in (
+      refl,
+      h.1,
+      h.2,
+      right_then k c.new-memo.result c.open_entry-result.new.memo c.into_kept.result c.open_entry-result.new.meter q e.same_generation e.same_capacity c.into_kept.ensures.kept e.memo.sheet e.same_latest h.3 c.into_kept.ensures.right,
+    )
+
+pub returns-clause-value : goal.returns-clause-value
+returns-clause-value c =
+    let i = c.self.inside in
+    let k : KeptSheet = kept_sheet i.store i.generations.entries i.kept i.meter in
+    let s = i.store.sheet in
+    let h = c.self.invariant in
+    let o = open_cells s c.args.formula_cell c.args.pairs.now c.entry_is_circular.result (c.entry_is_circular.ensures s h.1) c.if-entry_is_circular.false in
+    let same = put_alone c.in_ok-world.world c.new.result c.args.put.now c.requires c.new.ensures c.in_ok-world.ensures.list in
+    subst (λ (x : KeptSheet). IfOk c.open_entry-result.result (λ v. v ≡ table_entry x.stored.sheet c.args.put.now c.args.formula_cell c.args.pairs.now)) c.self.view_is
+    (IfOk-weaker c.open_entry-result.result _ _ (λ v e. entry_shown s c.in_ok-world.world c.args.put.now c.args.formula_cell c.args.pairs.now v o same c.requires e) c.open_entry-result.ensures.value)
+
+pub returns-clause-evaluations : goal.returns-clause-evaluations
+returns-clause-evaluations c =
+    let i = c.self.inside in
+    let k : KeptSheet = kept_sheet i.store i.generations.entries i.kept i.meter in
+    let q : c.new-memo.result ≡ begun k = begun_is i.store i.generations.entries i.kept i.meter _ c.new-memo.result c.new-memo.ensures.value c.in-Some.ensures.value in
+    let s = i.store.sheet in
+    let h = c.self.invariant in
+    let o = open_cells s c.args.formula_cell c.args.pairs.now c.entry_is_circular.result (c.entry_is_circular.ensures s h.1) c.if-entry_is_circular.false in
+    let same = put_alone c.in_ok-world.world c.new.result c.args.put.now c.requires c.new.ensures c.in_ok-world.ensures.list in
+    let cases = entry_demanded s c.args.put.now c.args.formula_cell c.args.pairs.now in
+    let has = entry_has s c.in_ok-world.world c.args.put.now c.args.formula_cell c.args.pairs.now o same in
+    let closed = table_closed s c.args.put.now c.args.formula_cell c.args.pairs.now in
+    let Has = HasEntry s c.in_ok-world.world c.args.formula_cell c.args.pairs.now in
+    subst (λ (x : KeptSheet). c.open_entry-result.new.meter.evaluations ≤ x.counts.evaluations + length (entry_demanded x.stored.sheet c.args.put.now c.args.formula_cell c.args.pairs.now)) c.self.view_is
+    (asked_evaluations k c.new-memo.result q Has cases closed has i.meter.evaluations c.open_entry-result.new.meter.evaluations c.open_entry-result.ensures.evaluations)
+
+pub returns-clause-restarts : goal.returns-clause-restarts
+returns-clause-restarts c =
+    let i = c.self.inside in
+    let k : KeptSheet = kept_sheet i.store i.generations.entries i.kept i.meter in
+    let q : c.new-memo.result ≡ begun k = begun_is i.store i.generations.entries i.kept i.meter _ c.new-memo.result c.new-memo.ensures.value c.in-Some.ensures.value in
+    let s = i.store.sheet in
+    let h = c.self.invariant in
+    let o = open_cells s c.args.formula_cell c.args.pairs.now c.entry_is_circular.result (c.entry_is_circular.ensures s h.1) c.if-entry_is_circular.false in
+    let same = put_alone c.in_ok-world.world c.new.result c.args.put.now c.requires c.new.ensures c.in_ok-world.ensures.list in
+    let cases = entry_demanded s c.args.put.now c.args.formula_cell c.args.pairs.now in
+    let has = entry_has s c.in_ok-world.world c.args.put.now c.args.formula_cell c.args.pairs.now o same in
+    let closed = table_closed s c.args.put.now c.args.formula_cell c.args.pairs.now in
+    let Has = HasEntry s c.in_ok-world.world c.args.formula_cell c.args.pairs.now in
+    subst (λ (x : KeptSheet). c.open_entry-result.new.meter.restarts ≤ x.counts.restarts + sum_by (wants x.stored.sheet) (entry_demanded x.stored.sheet c.args.put.now c.args.formula_cell c.args.pairs.now)) c.self.view_is
+    (asked_at_most k c.new-memo.result q Has cases closed has (wants s) i.meter.restarts c.open_entry-result.new.meter.restarts c.open_entry-result.ensures.restarts)
+
+pub returns-clause-unkept : goal.returns-clause-unkept
+returns-clause-unkept c =
+    let i = c.self.inside in
+    let k : KeptSheet = kept_sheet i.store i.generations.entries i.kept i.meter in
+    let q : c.new-memo.result ≡ begun k = begun_is i.store i.generations.entries i.kept i.meter _ c.new-memo.result c.new-memo.ensures.value c.in-Some.ensures.value in
+    let s = i.store.sheet in
+    let h = c.self.invariant in
+    let o = open_cells s c.args.formula_cell c.args.pairs.now c.entry_is_circular.result (c.entry_is_circular.ensures s h.1) c.if-entry_is_circular.false in
+    let same = put_alone c.in_ok-world.world c.new.result c.args.put.now c.requires c.new.ensures c.in_ok-world.ensures.list in
+    let cases = entry_demanded s c.args.put.now c.args.formula_cell c.args.pairs.now in
+    let has = entry_has s c.in_ok-world.world c.args.put.now c.args.formula_cell c.args.pairs.now o same in
+    let closed = table_closed s c.args.put.now c.args.formula_cell c.args.pairs.now in
+    let Has = HasEntry s c.in_ok-world.world c.args.formula_cell c.args.pairs.now in
+    let unkept_is = asked_unkept k c.new-memo.result q Has cases closed has i.meter.evaluations c.open_entry-result.new.meter.evaluations c.open_entry-result.ensures.unkept_evaluations in
+    subst (λ (x : KeptSheet). HasRoomFor x (entry_demanded x.stored.sheet c.args.put.now c.args.formula_cell c.args.pairs.now) → c.open_entry-result.new.meter.evaluations ≤ x.counts.evaluations + unkept x (entry_demanded x.stored.sheet c.args.put.now c.args.formula_cell c.args.pairs.now)) c.self.view_is unkept_is
+
+pub returns-clause-keeps : goal.returns-clause-keeps
+returns-clause-keeps c =
+    let i = c.self.inside in
+    let k : KeptSheet = kept_sheet i.store i.generations.entries i.kept i.meter in
+    let q : c.new-memo.result ≡ begun k = begun_is i.store i.generations.entries i.kept i.meter _ c.new-memo.result c.new-memo.ensures.value c.in-Some.ensures.value in
+    let s = i.store.sheet in
+    let h = c.self.invariant in
+    let o = open_cells s c.args.formula_cell c.args.pairs.now c.entry_is_circular.result (c.entry_is_circular.ensures s h.1) c.if-entry_is_circular.false in
+    let same = put_alone c.in_ok-world.world c.new.result c.args.put.now c.requires c.new.ensures c.in_ok-world.ensures.list in
+    let cases = entry_demanded s c.args.put.now c.args.formula_cell c.args.pairs.now in
+    let has = entry_has s c.in_ok-world.world c.args.put.now c.args.formula_cell c.args.pairs.now o same in
+    let closed = table_closed s c.args.put.now c.args.formula_cell c.args.pairs.now in
+    let Has = HasEntry s c.in_ok-world.world c.args.formula_cell c.args.pairs.now in
+    let new : KeptSheet = record { stored = i.store; generations = i.generations.entries; values = c.into_kept.result; counts = c.open_entry-result.new.meter } in
+    let e = c.open_entry-result.ensures in
+    subst (λ (x : KeptSheet). OnOk c.open_entry-result.result (HasRoomFor x (entry_demanded x.stored.sheet c.args.put.now c.args.formula_cell c.args.pairs.now) → KeepsAll x new)) c.self.view_is
+    (IfOk-weaker c.open_entry-result.result _ _ (λ v g room. asked_keeps k c.new-memo.result c.open_entry-result.new.memo c.into_kept.result c.open_entry-result.new.meter q e.same_generation e.same_capacity c.into_kept.ensures.kept cases room
+    (asked_saves k c.new-memo.result q Has cases closed has (state_in c.open_entry-result.new.memo) i.meter.evaluations c.open_entry-result.new.meter.evaluations g room)) e.saves)
+
+pub returns-clause-settled : goal.returns-clause-settled
+returns-clause-settled c =
+    let i = c.self.inside in
+    let k : KeptSheet = kept_sheet i.store i.generations.entries i.kept i.meter in
+    let q : c.new-memo.result ≡ begun k = begun_is i.store i.generations.entries i.kept i.meter _ c.new-memo.result c.new-memo.ensures.value c.in-Some.ensures.value in
+    let s = i.store.sheet in
+    let h = c.self.invariant in
+    let o = open_cells s c.args.formula_cell c.args.pairs.now c.entry_is_circular.result (c.entry_is_circular.ensures s h.1) c.if-entry_is_circular.false in
+    let same = put_alone c.in_ok-world.world c.new.result c.args.put.now c.requires c.new.ensures c.in_ok-world.ensures.list in
+    let cases = entry_demanded s c.args.put.now c.args.formula_cell c.args.pairs.now in
+    let has = entry_has s c.in_ok-world.world c.args.put.now c.args.formula_cell c.args.pairs.now o same in
+    let closed = table_closed s c.args.put.now c.args.formula_cell c.args.pairs.now in
+    let Has = HasEntry s c.in_ok-world.world c.args.formula_cell c.args.pairs.now in
+    let new : KeptSheet = record { stored = i.store; generations = i.generations.entries; values = c.into_kept.result; counts = c.open_entry-result.new.meter } in
+    let e = c.open_entry-result.ensures in
+    let x : ℕ × List (ℕ × ℕ) = (c.args.formula_cell, c.args.pairs.now) in
+    subst (λ (y : KeptSheet). OnOk c.open_entry-result.result (HasRoomFor y (entry_demanded y.stored.sheet c.args.put.now c.args.formula_cell c.args.pairs.now) → circular y.stored.sheet c.args.formula_cell ≡ false → All (λ p. circular y.stored.sheet p.1 ≡ false) c.args.pairs.now
+    → IsWhatIfSettled y.stored.sheet (is_kept new) c.args.put.now x)) c.self.view_is
+    (IfOk-weaker c.open_entry-result.result _ _ (λ v g room a b. asked_settled k c.new-memo.result c.open_entry-result.new.memo c.into_kept.result c.open_entry-result.new.meter q e.same_generation e.same_capacity c.into_kept.ensures.kept c.in_ok-world.world c.args.put.now x same
+    (asked_where k c.new-memo.result q Has cases closed has _ g room)) e.settled)
+
+pub returns-clause-no_more : goal.returns-clause-no_more
+returns-clause-no_more c =
+    let i = c.self.inside in
+    let k : KeptSheet = kept_sheet i.store i.generations.entries i.kept i.meter in
+    let q : c.new-memo.result ≡ begun k = begun_is i.store i.generations.entries i.kept i.meter _ c.new-memo.result c.new-memo.ensures.value c.in-Some.ensures.value in
+    let new : KeptSheet = record { stored = i.store; generations = i.generations.entries; values = c.into_kept.result; counts = c.open_entry-result.new.meter } in
+    let e = c.open_entry-result.ensures in
+    subst (λ (x : KeptSheet). KeepsNoMore x new) c.self.view_is
+    (asked_no_more k c.new-memo.result c.open_entry-result.new.memo c.into_kept.result c.open_entry-result.new.meter q e.same_generation e.same_capacity c.into_kept.ensures.kept c.into_kept.ensures.within e.takes)

@@ -1,0 +1,66 @@
+-- A sheet whose values are kept from one question to the next, and what that saves.
+use Rattle.std.specs.Prelude.{◌≡◌, ◌⊎◌, ◌≤◌, ◌+◌, ◌-◌, ◌^◌, ℕ, Bool, true, false, not, List, filter, length, is_some}
+use Rattle.std.specs.Option.{unwrap_or}
+use Rattle.std.specs.Ordering.{nat_cmp}
+use Rattle.std.specs.Map.{lookup}
+use Rattle.std.specs.BTreeMap.{is_at}
+use Rattle.wi_values.specs.declared.replacement.Replacement.{Replacement}
+use Rattle.wi_parser.specs.Sheet.{content_of, put_all, has_formula}
+use Rattle.wi_functions.specs.Counts.{Counts}
+use Rattle.wi_store.specs.Store.{Stored}
+use Rattle.wi_cache.specs.declared.key.Key.{Key}
+use Rattle.wi_cache.specs.Entries.{KeptValues, value_for}
+use Rattle.wi_graph.specs.Circular.{circular}
+use Rattle.wi_sheet.specs.Demand.{Case, reaching}
+use Rattle.wi_sheet.specs.Settled.{RestsOnKept}
+
+-- ---- generations
+
+-- cells, each with the number of the last accepted edit in whose cone it was
+abbrev pub Generations : Type 0
+Generations = List (ℕ × ℕ)
+
+-- the generation of a cell: that number, and 0 where there was none
+abbrev pub generation_in : Generations → ℕ → ℕ
+generation_in gs c = unwrap_or (lookup (is_at (nat_cmp c)) gs) 0
+
+-- ---- what is kept
+
+-- a sheet, the generations of its cells, the values that are kept, and what was counted
+pub record KeptSheet : Type 0 where
+  pub stored : Stored
+  pub generations : Generations
+  pub values : KeptValues
+  pub counts : Counts
+
+-- the key of a case: its cell, the cell's generation, its replacements
+abbrev pub key_in : Generations → ℕ → List Replacement → Key
+key_in gs c w = record { cell = c; generation = generation_in gs c; world = w }
+
+-- the value of the case is kept
+abbrev pub is_kept : KeptSheet → ℕ → List Replacement → Bool
+is_kept k c w = is_some (value_for k.values.entries (key_in k.generations c w))
+
+-- how many of these cases are not kept
+abbrev pub unkept : KeptSheet → List Case → ℕ
+unkept k ks = length (filter (λ x. not (is_kept k x.0 x.1)) ks)
+
+-- ---- what a question counts, and what it keeps
+
+-- a cell's value is at hand: the cell is circular, has no formula under the replacements, or its value is kept
+abbrev pub IsAtHand : KeptSheet → List Replacement → ℕ → Type 0
+IsAtHand k w c = (circular k.stored.sheet c ≡ true) ⊎ ((has_formula (content_of (put_all k.stored.sheet w) c) ≡ false) ⊎ (is_kept k c (reaching k.stored.sheet c w) ≡ true))
+
+-- there is room for what is kept and these cases together
+abbrev pub HasRoomFor : KeptSheet → List Case → Type 0
+HasRoomFor k ks = length k.values.entries + unkept k ks ≤ k.values.capacity
+
+-- as many values came to be kept as were counted, none went, and each that came rests on kept ones
+pub record KeepsAll (old new : KeptSheet) : Type 0 where
+  pub added : new.counts.evaluations + length old.values.entries ≤ old.counts.evaluations + length new.values.entries
+  pub stays : (c : ℕ) (w : List Replacement) → is_kept old c w ≡ true → is_kept new c w ≡ true
+  pub settled : (c : ℕ) (w : List Replacement) → is_kept new c w ≡ true → is_kept old c w ≡ false → RestsOnKept old.stored.sheet (is_kept new) (c, w)
+
+-- no more values came to be kept than were counted, short of the greatest count
+abbrev pub KeepsNoMore : KeptSheet → KeptSheet → Type 0
+KeepsNoMore old new = (length new.values.entries + old.counts.evaluations ≤ length old.values.entries + new.counts.evaluations) ⊎ (2 ^ 64 - 1 ≤ new.counts.evaluations)

@@ -1,0 +1,66 @@
+//! Cones of replaced cells, by the graph.
+
+ghost use Rattle.std.specs.Prelude.{◌≡◌, ◌∷◌, ℕ, [], None, All, IsSome, IfOk, OnOk};
+ghost use Rattle.std.specs.Ordering.{nat_cmp};
+ghost use Rattle.std.specs.BTreeMap.{get};
+ghost use Rattle.std.specs.BTreeSet.{contains};
+ghost use Rattle.wi_parser.specs.Sheet.{Sheet};
+ghost use Rattle.wi_graph.specs.Edges.{AreEdgesOf};
+ghost use Rattle.wi_graph.specs.Reach.{in_cone};
+ghost use Rattle.wi_propagate.specs.Inner.Cones.{AreAllCones};
+
+use std::alloc::{AllocError, Global};
+use std::collections::{BTreeMap, BTreeSet};
+use wi_graph::Graph;
+use wi_values::Address;
+use wi_worlds::World;
+
+/// Dependents of a cell at any remove, itself among them, by that cell.
+pub type Cones = BTreeMap<Address, BTreeSet<Address>>;
+
+/// Adds the cones of the replaced cells that have none yet. The work for each is that of its cone. If memory runs out, those
+/// added so far stay.
+pub fn add_cones(
+    alloc: Global,
+    graph: &Graph,
+    world: &World,
+    cones: &mut Cones,
+) -> Result<(), AllocError>
+    requires { graph.now.staged ≡ None }
+    ensures cones { (s : Sheet) → AreEdgesOf graph.now.now s → AreAllCones s cones.old → AreAllCones s cones.new }
+    ensures all { OnOk result (All (λ r. IsSome (get nat_cmp cones.new r.at)) world.now) }
+{
+    for replacement in world.replacements() {
+        add_cone(alloc, graph, replacement.at, cones)?;
+    }
+    Ok(())
+}
+
+// Adds the cone of a cell that has none yet.
+fn add_cone(alloc: Global, graph: &Graph, at: Address, cones: &mut Cones) -> Result<(), AllocError>
+    requires { graph.now.staged ≡ None }
+    ensures cones { (s : Sheet) → AreEdgesOf graph.now.now s → AreAllCones s cones.old → AreAllCones s cones.new }
+    ensures there { OnOk result (IsSome (get nat_cmp cones.new at)) }
+    ensures stay { (a : ℕ) → IsSome (get nat_cmp cones.old a) → IsSome (get nat_cmp cones.new a) }
+{
+    if cones.contains_key(&at) {
+        return Ok(());
+    }
+    let cone = cone_of(alloc, graph, at)?;
+    cones.insert(at, cone)?;
+    Ok(())
+}
+
+// The cells that reach a cell.
+fn cone_of(alloc: Global, graph: &Graph, at: Address) -> Result<BTreeSet<Address>, AllocError>
+    requires { graph.now.staged ≡ None }
+    ensures { IfOk result (λ cone. (s : Sheet) → AreEdgesOf graph.now.now s
+        → (c : ℕ) → contains nat_cmp cone c ≡ in_cone s (at ∷ []) c) }
+{
+    let cells = graph.cone(&[at])?;
+    let mut cone = BTreeSet::new(alloc);
+    for cell in &cells {
+        cone.insert(*cell)?;
+    }
+    Ok(cone)
+}

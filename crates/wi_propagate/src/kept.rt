@@ -1,0 +1,314 @@
+//! A calculator that keeps what it has calculated.
+
+ghost use Rattle.std.specs.Prelude.{◌≡◌, ◌≤◌, ◌+◌, ◌||◌, [], ℕ, None, true, false, if◌then◌else◌, List, length, sum_by, All, IfOk, OnOk, OnErr};
+ghost use Rattle.std.specs.List.{list_any};
+ghost use Rattle.std.specs.Map.{keys_of};
+ghost use Rattle.wi_values.specs.Replacements.{IsInOrder};
+ghost use Rattle.wi_parser.specs.Sheet.{Sheet};
+ghost use Rattle.wi_store.specs.Store.{applied, Applies};
+ghost use Rattle.wi_cache.specs.Entries.{kept};
+ghost use Rattle.wi_graph.specs.Circular.{circular};
+ghost use Rattle.wi_graph.specs.Edges.{AreEdgesOf};
+ghost use Rattle.wi_graph.specs.Reach.{in_cone};
+ghost use Rattle.wi_sheet.specs.Shown as show;
+ghost use Rattle.wi_sheet.specs.TableEntry.{table_entry, entry_demanded};
+ghost use Rattle.wi_sheet.specs.Demand.{reaching, demanded, wants};
+ghost use Rattle.wi_sheet.specs.Settled.{IsWhatIfSettled};
+ghost use Rattle.wi_propagate.specs.KeptSheet.{generation_in, is_kept, unkept, IsAtHand, HasRoomFor, KeepsAll, KeepsNoMore};
+ghost use Rattle.wi_propagate.specs.Right.{AreKeptRight};
+
+use crate::calculator::Calculator;
+use crate::generations::{Generations, make_room, raise};
+use crate::keeping::Keeping;
+use crate::table_entry::open_entry;
+use std::alloc::{AllocError, Global};
+use std::collections::BTreeMap;
+use std::marker::Model;
+use wi_cache::Kept;
+use wi_engine::value_under;
+use wi_functions::Meter;
+use wi_graph::Graph;
+use wi_parser::Content;
+use wi_store::{Limits, Store, StoreFault};
+use wi_values::{Address, ErrorKind, Rect, Replacement, Value};
+use wi_worlds::World;
+
+/// A calculator that keeps values from one question to the next. It is seen as its sheet, the generations of cells, the values
+/// that are kept, and what was counted.
+#[derive(Drop)]
+pub struct KeptCalculator {
+    store: Store,
+    graph: Graph,
+    generations: Generations,
+    // There but while a question is answered.
+    kept: Option<Kept>,
+    meter: Meter,
+    alloc: Global,
+}
+
+impl Model for KeptCalculator {
+    ghost use Rattle.wi_propagate.specs.KeptSheet.{KeptSheet};
+
+    ghost Value = { KeptSheet };
+
+    ghost use Rattle.std.specs.Coded.{codes};
+    ghost use Rattle.wi_parser.specs.contracts.content.Content as content;
+    ghost use Rattle.wi_cache.specs.contracts.key.Key as key;
+    ghost use Rattle.wi_values.specs.contracts.value.Value as value;
+
+    ghost coded = { Prim.hlevel (codes, content.the_row.coded, key.the_row.coded, value.the_row.coded) };
+
+    ghost use Rattle.std.specs.Prelude.{◌≡◌, [], None, IsSome};
+    ghost use Rattle.wi_graph.specs.Edges.{AreEdgesOf};
+    ghost use Rattle.wi_propagate.specs.Right.{AreKeptRight};
+    ghost use Rattle.wi_propagate.specs.Inner.Keeping.{kept_sheet};
+
+    ghost view = { λ k. kept_sheet k.store k.generations.entries k.kept k.meter };
+
+    ghost invariant = { λ k. IsSome k.kept
+        × AreEdgesOf k.graph.now k.store.sheet
+        × (k.graph.staged ≡ None)
+        × AreKeptRight (kept_sheet k.store k.generations.entries k.kept k.meter) };
+}
+
+impl KeptCalculator {
+    /// An empty sheet within limits, with no edits yet, and room for so many kept values. Memory for them is taken as they
+    /// come.
+    pub fn new(alloc: Global, limits: Limits, keep: usize) -> Result<KeptCalculator, AllocError>
+        requires { 1 ≤ keep }
+        ensures stored { IfOk result (λ k. k.stored ≡ record { sheet = []; edits = 0; limits = limits }) }
+        ensures counts { IfOk result (λ k. k.counts ≡ record { evaluations = 0; restarts = 0 }) }
+        ensures generations { IfOk result (λ k. (c : ℕ) → generation_in k.generations c ≡ 0) }
+        ensures values { IfOk result (λ k. k.values ≡ kept [] keep) }
+    {
+        let kept = Kept::new(alloc, keep)?;
+        Ok(KeptCalculator {
+            store: Store::new(alloc, limits),
+            graph: Graph::new(alloc),
+            generations: BTreeMap::new(alloc),
+            kept: Some(kept),
+            meter: Meter::new(),
+            alloc,
+        })
+    }
+
+    /// Each kept value of a cell's present generation is its value under all replacements that say the same as its key of what
+    /// the cell reaches, and its cell is not circular. This is a law: the call does nothing.
+    pub fn kept_values_are_right(&self)
+        ensures { AreKeptRight self.now }
+    {
+        let _ = &self.store;
+    }
+}
+
+impl Calculator for KeptCalculator {
+    ghost use Rattle.wi_graph.specs.Reach.{in_cone};
+
+    ghost stored = { λ k. k.stored };
+
+    ghost evaluated = { λ k. k.counts.evaluations };
+
+    ghost restarted = { λ k. k.counts.restarts };
+
+    ghost marked = { in_cone };
+
+    fn content(&self, at: Address) -> Option<&Content> {
+        self.store.get(at)
+    }
+
+    fn next_occupied(&self, area: Rect, from: Address) -> Option<Address> {
+        self.store.next_occupied(area, from)
+    }
+
+    /// One edit. The work grows with the cone of the edited cells, what its cells read and who reads them, times logarithms. An
+    /// accepted edit is the new generation of each cell of the cone; what is kept stays.
+    fn apply(&mut self, changes: Vec<(Address, Option<Content>)>) -> Result<(), StoreFault>
+        ensures applied { Applies (applied self.old.stored changes.items) result self.old.stored self.new.stored }
+        ensures same_counts { self.new.counts ≡ self.old.counts }
+        ensures same_values { self.new.values ≡ self.old.values }
+        ensures generations { let cells = keys_of changes.items in OnOk result ((c : ℕ) → generation_in self.new.generations c
+            ≡ (if in_cone self.old.stored.sheet cells c then self.new.stored.edits else generation_in self.old.generations c)) }
+        ensures same_generations { OnErr result ((c : ℕ) → generation_in self.new.generations c ≡ generation_in self.old.generations c) }
+    {
+        let cells = edited_cells(self.alloc, &changes)?;
+        let cone = self.graph.cone(&cells)?;
+        make_room(&mut self.generations, &cone)?;
+        self.graph.stage(&changes)?;
+        match self.store.apply(changes) {
+            Ok(()) => {
+                self.graph.commit();
+                raise(&mut self.generations, &cone, self.store.edits());
+                Ok(())
+            }
+            Err(fault) => {
+                self.graph.rollback();
+                Err(fault)
+            }
+        }
+    }
+
+    /// What a cell shows under replacements. A formula is evaluated where its value is not kept, and its value is kept then.
+    fn value(&mut self, put: &[Replacement], at: Address) -> Result<Value, AllocError>
+        requires { IsInOrder put.now }
+        ensures value { IfOk result (λ v. v ≡ show.shown self.old.stored.sheet put.now at) }
+        ensures same { self.new.stored ≡ self.old.stored }
+
+        // No more is evaluated than what the value demands, and where there is room no more than what of that is not kept, also
+        // where memory runs out.
+        ensures evaluations { let cases = demanded self.old.stored.sheet put.now at in
+            self.new.counts.evaluations ≤ self.old.counts.evaluations + length cases }
+        ensures restarts { let sheet = self.old.stored.sheet in
+            let cases = demanded sheet put.now at in
+            self.new.counts.restarts ≤ self.old.counts.restarts + sum_by (wants sheet) cases }
+        ensures evaluations_never_fall { self.old.counts.evaluations ≤ self.new.counts.evaluations }
+        ensures restarts_never_fall { self.old.counts.restarts ≤ self.new.counts.restarts }
+        ensures unkept { let cases = demanded self.old.stored.sheet put.now at in
+            HasRoomFor self.old cases → self.new.counts.evaluations ≤ self.old.counts.evaluations + unkept self.old cases }
+
+        // What is kept, and what comes to be kept.
+        ensures easy { IsAtHand self.old put.now at → self.new.counts ≡ self.old.counts }
+        ensures kept { let sheet = self.old.stored.sheet in
+            OnOk result ((IsAtHand self.old put.now at → ⊥) → is_kept self.new at (reaching sheet at put.now) ≡ true) }
+        ensures no_more { KeepsNoMore self.old self.new }
+        ensures keeps { let cases = demanded self.old.stored.sheet put.now at in
+            OnOk result (HasRoomFor self.old cases → KeepsAll self.old self.new) }
+    {
+        if self.graph.is_circular(at) {
+            return Ok(Value::Fault(ErrorKind::Circular));
+        }
+        let world = World::new(self.alloc).with(put)?;
+        let Some(kept) = self.kept.take() else {
+            unreachable!()
+        };
+        let mut memo = Keeping::new(
+            self.alloc,
+            &self.store,
+            &self.graph,
+            &self.generations,
+            kept,
+        );
+        let result = value_under(
+            self.alloc,
+            &self.store,
+            &world,
+            at,
+            &mut memo,
+            &mut self.meter,
+        );
+        self.kept = Some(memo.into_kept());
+        result
+    }
+
+    /// What an entry of a data table shows under replacements. A formula is evaluated where its value is not kept, and its value
+    /// is kept then.
+    fn what_if_value(
+        &mut self,
+        put: &[Replacement],
+        formula_cell: Address,
+        pairs: &[(Address, Address)],
+    ) -> Result<Value, AllocError>
+        requires { IsInOrder put.now }
+        ensures value { let sheet = self.old.stored.sheet in
+            IfOk result (λ v. v ≡ table_entry sheet put.now formula_cell pairs.now) }
+        ensures same { self.new.stored ≡ self.old.stored }
+
+        // No more is evaluated than what the entry demands, and where there is room no more than what of that is not kept, also
+        // where memory runs out.
+        ensures evaluations { let cases = entry_demanded self.old.stored.sheet put.now formula_cell pairs.now in
+            self.new.counts.evaluations ≤ self.old.counts.evaluations + length cases }
+        ensures restarts { let sheet = self.old.stored.sheet in
+            let cases = entry_demanded sheet put.now formula_cell pairs.now in
+            self.new.counts.restarts ≤ self.old.counts.restarts + sum_by (wants sheet) cases }
+        ensures evaluations_never_fall { self.old.counts.evaluations ≤ self.new.counts.evaluations }
+        ensures restarts_never_fall { self.old.counts.restarts ≤ self.new.counts.restarts }
+        ensures unkept { let cases = entry_demanded self.old.stored.sheet put.now formula_cell pairs.now in
+            HasRoomFor self.old cases → self.new.counts.evaluations ≤ self.old.counts.evaluations + unkept self.old cases }
+
+        // What comes to be kept.
+        ensures no_more { KeepsNoMore self.old self.new }
+        ensures keeps { let cases = entry_demanded self.old.stored.sheet put.now formula_cell pairs.now in
+            OnOk result (HasRoomFor self.old cases → KeepsAll self.old self.new) }
+        ensures settled { let sheet = self.old.stored.sheet in
+            let cases = entry_demanded sheet put.now formula_cell pairs.now in
+            OnOk result (HasRoomFor self.old cases → circular sheet formula_cell ≡ false → All (λ x. circular sheet x.1 ≡ false) pairs.now
+            → IsWhatIfSettled sheet (is_kept self.new) put.now (formula_cell, pairs.now)) }
+    {
+        if entry_is_circular(&self.graph, formula_cell, pairs) {
+            return Ok(Value::Fault(ErrorKind::Circular));
+        }
+        let world = World::new(self.alloc).with(put)?;
+        let Some(kept) = self.kept.take() else {
+            unreachable!()
+        };
+        let mut memo = Keeping::new(
+            self.alloc,
+            &self.store,
+            &self.graph,
+            &self.generations,
+            kept,
+        );
+        let result = open_entry(
+            self.alloc,
+            &self.store,
+            &world,
+            formula_cell,
+            pairs,
+            &mut memo,
+            &mut self.meter,
+        );
+        self.kept = Some(memo.into_kept());
+        result
+    }
+
+    /// Exactly the cells that reach one of these, each once, in row-major order.
+    fn mark(&self, cells: &[Address]) -> Result<Vec<Address>, AllocError> {
+        self.graph.cone(cells)
+    }
+
+    fn evaluations(&self) -> u64 {
+        self.meter.evaluations()
+    }
+
+    fn restarts(&self) -> u64 {
+        self.meter.restarts()
+    }
+}
+
+// The cells that an edit names.
+fn edited_cells(
+    alloc: Global,
+    changes: &[(Address, Option<Content>)],
+) -> Result<Vec<Address>, AllocError>
+    ensures { IfOk result (λ cells. cells.items ≡ keys_of changes.now) }
+{
+    let mut cells = Vec::new(alloc);
+    for (cell, _) in changes {
+        cells.push(*cell)?;
+    }
+    Ok(cells)
+}
+
+// Whether one of the cells is circular whose values an entry asks for: its formula cell and its replacement cells.
+fn entry_is_circular(graph: &Graph, formula_cell: Address, pairs: &[(Address, Address)]) -> bool
+    requires { graph.now.staged ≡ None }
+    ensures { (s : Sheet) → AreEdgesOf graph.now.now s
+        → result ≡ (circular s formula_cell || list_any (λ x. circular s x.1) pairs.now) }
+{
+    if graph.is_circular(formula_cell) {
+        return true;
+    }
+    any_circular(graph, pairs)
+}
+
+// Whether one of the replacement cells is circular.
+fn any_circular(graph: &Graph, pairs: &[(Address, Address)]) -> bool
+    requires { graph.now.staged ≡ None }
+    ensures { (s : Sheet) → AreEdgesOf graph.now.now s → result ≡ list_any (λ x. circular s x.1) pairs.now }
+{
+    for pair in pairs {
+        if graph.is_circular(pair.1) {
+            return true;
+        }
+    }
+    false
+}
