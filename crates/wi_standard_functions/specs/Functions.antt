@@ -1,4 +1,4 @@
--- The functions by their names, and what a call of one gives (OpenFormula, "Standard Functions").
+-- The functions by their names, and what a call of one gives (OpenFormula, "Standard Operators and Functions").
 use Rattle.std.specs.Prelude.{ℕ, ◌&&◌, Bool, true, false, nat_le, List, [], ◌∷◌, length, find, codes, Option, Some, None, if◌then◌else◌}
 use Rattle.std.specs.Str.{bytes_eq}
 use Rattle.wi_fraction.specs.declared.rounding.Mode.TheVariants.{HalfAway, Away, Toward}
