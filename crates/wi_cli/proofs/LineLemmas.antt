@@ -2,6 +2,7 @@
 use Rattle.std.proofs.Common.{◌≡◌, ℕ, Bool, true, false, cond, eqb, List, [], ◌∷◌, ◌++◌, refl, sym, ap, ◌∙◌, append_assoc, append-nil}
 use Rattle.std.specs.List.{concat}
 use Rattle.std.proofs.lemmas.Bool.{false≢true}
+use Rattle.std.proofs.lemmas.List.Folds.{concat-append}
 use Rattle.wi_cli.specs.Lines.{raw_lines, onto_first, without_lf, is_whole}
 use Rattle.wi_cli.specs.Inner.Reading.{raw}
 
@@ -40,13 +41,13 @@ AreWhole ls = (rest : List ℕ) → raw_lines (concat ls ++ rest) ≡ ls ++ raw_
 pub AreWhole-none : AreWhole []
 AreWhole-none rest = refl
 
+pub concat_push : (ls : List (List ℕ)) (l : List ℕ) → concat (ls ++ l ∷ []) ≡ concat ls ++ l
+concat_push ls l = concat-append ls (l ∷ []) ∙ ap (λ x. concat ls ++ x) (append-nil l)
+
 pub AreWhole-push : (ls : List (List ℕ)) (content : List ℕ) → is_whole content ≡ false → AreWhole ls → AreWhole (ls ++ raw true content ∷ [])
 AreWhole-push ls content h k rest =
     ap (λ x. raw_lines (x ++ rest)) (concat_push ls (raw true content))
     ∙ ap raw_lines (append_assoc (concat ls) (raw true content) rest)
     ∙ k (raw true content ++ rest)
     ∙ ap (λ x. ls ++ x) (ap raw_lines (append_assoc content (10 ∷ []) rest) ∙ raw_lines-whole content rest h)
-    ∙ sym (append_assoc ls (raw true content ∷ []) (raw_lines rest)) where
-      concat_push : (ls : List (List ℕ)) (l : List ℕ) → concat (ls ++ l ∷ []) ≡ concat ls ++ l
-      concat_push [] l = append-nil l
-      concat_push (k ∷ ks) l = ap (λ x. k ++ x) (concat_push ks l) ∙ sym (append_assoc k (concat ks) l)
+    ∙ sym (append_assoc ls (raw true content ∷ []) (raw_lines rest))

@@ -21,7 +21,7 @@ use Rattle.wi_cli.specs.Run.{WritesReplies}
 use Rattle.wi_cli.specs.RunOutcome.{RunOutcome, WritesFrontOfReplies, limited}
 use Rattle.wi_cli.proofs.ReadingLemmas.{Takes-trans, is_whole-append}
 use Rattle.wi_cli.proofs.RunLemmas.{WritesReplies-append, WritesReplies-none}
-use Rattle.wi_cli.proofs.LineLemmas.{AreWhole, AreWhole-none, AreWhole-push, raw_lines-last, without_lf-raw}
+use Rattle.wi_cli.proofs.LineLemmas.{AreWhole, AreWhole-none, AreWhole-push, raw_lines-last, without_lf-raw, concat_push}
 use Rattle.wi_cli.proofs.ScriptLemmas.{AreServed, AreServed-none, AreServed-push}
 
 -- lines that all have their LF
@@ -32,10 +32,6 @@ AllWhole-push : (ls : List (List ℕ)) (l : List ℕ) → is_whole l ≡ true �
 AllWhole-push ls l h k more =
     ap whole_lines (append_assoc ls (l ∷ []) more) ∙ k (l ∷ more)
     ∙ ap (λ b. ls ++ cond b (l ∷ whole_lines more) []) h ∙ sym (append_assoc ls (l ∷ []) (whole_lines more))
-
-concat_push : (ls : List (List ℕ)) (l : List ℕ) → concat (ls ++ l ∷ []) ≡ concat ls ++ l
-concat_push [] l = append-nil l
-concat_push (k ∷ ks) l = ap (λ x. k ++ x) (concat_push ks l) ∙ sym (append_assoc k (concat ks) l)
 
 whole_raw : (content : List ℕ) → is_whole (raw true content) ≡ true
 whole_raw content = is_whole-append content (10 ∷ []) ∙ go (is_whole content) where

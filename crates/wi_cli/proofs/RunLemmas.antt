@@ -1,7 +1,8 @@
 -- Runs, one after another.
-use Rattle.std.proofs.Common.{◌≡◌, ℕ, List, [], ◌∷◌, ◌++◌, refl, sym, ap, ◌∙◌, subst, Option, None, Some, Ok, Err, append_assoc, append-nil, inl, inr}
+use Rattle.std.proofs.Common.{◌≡◌, ℕ, List, [], ◌∷◌, ◌++◌, refl, sym, ap, ◌∙◌, subst, Option, None, Some, Ok, Err, append-nil, inl, inr}
 use Rattle.std.specs.List.{concat}
 use Rattle.std.specs.Option.{option_to_list}
+use Rattle.std.proofs.lemmas.List.Folds.{concat-append}
 use Rattle.wi_scenarios.specs.declared.refusal.Refusal.{Refusal}
 use Rattle.wi_scenarios.specs.declared.refusal.Refusal.TheVariants.{Memory, BadCommand, BadLine, OutOfSheet, Syntax, TooDeep, NumberRange, TooLong, Full, TooLarge, EditLimit}
 use Rattle.wi_cli.specs.Reply.{refused}
@@ -18,10 +19,6 @@ Runs-append s [] [] m ds qs t h k = subst (λ (x : State). Runs x ds qs t) h k
 Runs-append s [] (r ∷ rs) m ds qs t h k = absurd h
 Runs-append s (c ∷ cs) [] m ds qs t h k = absurd h
 Runs-append s (c ∷ cs) (r ∷ rs) m ds qs t h k = (h.0, h.1, Runs-append h.0 cs rs m ds qs t h.2 k)
-
-concat-append : (rs qs : List (List ℕ)) → concat (rs ++ qs) ≡ concat rs ++ concat qs
-concat-append [] qs = refl
-concat-append (r ∷ rs) qs = ap (λ x. r ++ x) (concat-append rs qs) ∙ sym (append_assoc r (concat rs) (concat qs))
 
 pub WritesReplies-append : (s m t : State) (cs ds : List Command) (out more : List ℕ) → WritesReplies s cs out m → WritesReplies m ds more t → WritesReplies s (cs ++ ds) (out ++ more) t
 WritesReplies-append s m t cs ds out more h k = record {

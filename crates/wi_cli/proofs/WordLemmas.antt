@@ -4,7 +4,7 @@ use Rattle.std.specs.Cmp.Lexicographic.{pointwise}
 use Rattle.std.specs.Option.{IfSome}
 use Rattle.std.specs.Str.Pattern.{FindsCharPrefix, CutsPrefixes, IsTrimStartMatches}
 use Rattle.std.proofs.lemmas.Str.Pattern.{drop_at_char}
-use Rattle.std.proofs.lemmas.Bool.{false≢true, eqb-true, le-ltb}
+use Rattle.std.proofs.lemmas.Bool.{false≢true, eqb-true, le-ltb, false_from_ne_true}
 use Rattle.wi_cli.specs.Words.{skip_spaces}
 use Rattle.std.specs.Str.{IsUtf8, is_utf8}
 use Rattle.std.proofs.lemmas.Str.{encode_ascii, IsUtf8-from_is_utf8, is_utf8-from_IsUtf8}
@@ -88,9 +88,6 @@ no_text line bytes few e bad =
     let content = without_cr line in
     let short : ltb 65536 (length line) ≡ false = le-ltb 65536 (length line) few in (
       ap (λ b. cond (b || not (is_utf8 content)) (Some (Refused BadLine)) (text_command content)) short
-          ∙ ap (λ b. cond (not b) (Some (Refused BadLine)) (text_command content)) (untrue (is_utf8 content) (λ u. bad (subst IsUtf8 (sym e) (IsUtf8-from_is_utf8 content u)))),
+          ∙ ap (λ b. cond (not b) (Some (Refused BadLine)) (text_command content)) (false_from_ne_true (is_utf8 content) (λ u. bad (subst IsUtf8 (sym e) (IsUtf8-from_is_utf8 content u)))),
       λ p. cc,
-    ) where
-      untrue : (b : Bool) → (b ≡ true → ⊥) → b ≡ false
-      untrue true h = absurd (h refl)
-      untrue false h = refl
+    )
