@@ -23,7 +23,7 @@ one_number = record { num = pos 1; den = 1; is_number = record { above_zero = li
 abbrev pub hundred_number : Number
 hundred_number = record { num = pos 100; den = 1; is_number = record { above_zero = lit< tt; lowest = hundred_lowest; num_fits = lit≤ tt; den_fits = lit≤ tt } }
 
--- a value taken for a number: Empty is 0, TRUE 1 and FALSE 0, no text is one
+-- a value taken for a number: Empty is 0, TRUE 1 and FALSE 0, and a text is no number
 abbrev pub to_number : value.Value → Result Number ErrorKind
 to_number v.Empty = Ok zero_number
 to_number (v.Number x) = Ok x
@@ -36,7 +36,7 @@ to_number (v.Fault e) = Err e
 abbrev pub to_whole : value.Value → Result ℤ ErrorKind
 to_whole w = and_then (λ x. Ok (rounded Toward x).num) (to_number w)
 
--- a value taken for a truth value: Empty and 0 are FALSE, any other number is TRUE, no text is one
+-- a value taken for a truth value: Empty and 0 are FALSE, any other number is TRUE, and a text is no truth value
 abbrev pub to_logical : value.Value → Result Bool ErrorKind
 to_logical v.Empty = Ok false
 to_logical (v.Number x) = Ok (not (int_eq x.num (pos 0)))

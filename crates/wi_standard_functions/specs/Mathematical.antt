@@ -100,7 +100,7 @@ abbrev pub of_one_size : List Region → Result (List Region) ErrorKind
 of_one_size [] = Ok []
 of_one_size (r ∷ rs) = if list_all (same_size r) rs then Ok (r ∷ rs) else Err BadValue
 
--- a cell as a factor: one that is no Number counts 0, and an error is one
+-- a cell as a factor: one that is no Number counts 0, and an error is the result
 abbrev pub cell_factor : Option Value → Result numbers.Number ErrorKind
 cell_factor (Some (Number x)) = Ok x
 cell_factor (Some (Fault e)) = Err e

@@ -32,14 +32,14 @@ count_items test is = count_by (λ i. test (value_of_item i)) is
 
 -- ---- what counts of an item
 
--- its number: a scalar is converted; of cells the Numbers count, an error is one, and any other is passed over
+-- its number: a scalar is converted; of cells the Numbers count, an error is the result, and any other is passed over
 abbrev pub number_of_item : Item → Result (Option numbers.Number) ErrorKind
 number_of_item (from_cell (Number x)) = Ok (Some x)
 number_of_item (from_cell (Fault e)) = Err e
 number_of_item (from_cell v) = Ok None
 number_of_item (scalar v) = and_then (λ x. Ok (Some x)) (to_number v)
 
--- its truth value: a scalar is converted; of cells the Numbers and Logicals count, an error is one, and any other is passed over
+-- its truth value: a scalar is converted; of cells the Numbers and Logicals count, an error is the result, and any other is passed over
 abbrev pub logical_of_item : Item → Result (Option Bool) ErrorKind
 logical_of_item (from_cell Empty) = Ok None
 logical_of_item (from_cell (Text t)) = Ok None
