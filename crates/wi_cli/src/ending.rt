@@ -10,7 +10,7 @@ use crate::device::{Sink, Source};
 use crate::fault::{RunFault, fault_status};
 use crate::runs::run;
 use std::alloc::{AllocError, Global};
-use wi_propagate::PlainCalculator;
+use wi_propagate::KeptCalculator;
 use wi_scenarios::Workbook;
 use wi_store::Limits;
 
@@ -36,10 +36,14 @@ impl Ending {
     }
 }
 
-fn new_workbook(alloc: Global) -> Result<Workbook<PlainCalculator>, AllocError>
+/// How many values are kept from one question to the next.
+const KEEP: usize = 65_536;
+
+fn new_workbook(alloc: Global) -> Result<Workbook<KeptCalculator>, AllocError>
     ensures { IfOk result (λ book. book ≡ new_state) }
 {
-    Workbook::new(alloc, PlainCalculator::new(alloc, Limits::standard()))
+    let calculator = KeptCalculator::new(alloc, Limits::standard(), KEEP)?;
+    Workbook::new(alloc, calculator)
 }
 
 /// Runs a script on a new workbook, within the standard limits. The outcome is that of `run`.
