@@ -1,4 +1,4 @@
-use Rattle.std.proofs.Common.{◌≡◌, if◌then◌else◌, ◌∙◌, ℕ, List, Option, None, Ok, ap, sym, subst}
+use Rattle.std.proofs.Common.{rules, ◌≡◌, if◌then◌else◌, ◌∙◌, ℕ, List, Option, None, Ok, ap, sym, subst}
 use Rattle.std.specs.Map.{keys_of}
 use Rattle.std.specs.Option.{unwrap_or}
 use Rattle.wi_parser.specs.declared.content.Content.{Content}
@@ -25,3 +25,9 @@ invariant_of-self-in-Ok c =
       right_over_edit i.store c.apply.new.self ch c.in_ok-cone.cone.items c.edits.result i.generations.entries c.make_room.new.generations.entries c.raise.new.generations.entries _ i.meter i.meter accepted cone c.make_room.ensures.same
           (λ d. c.raise.ensures d ∙ ap (λ (xs : List ℕ). if is_one_of xs d then c.edits.result else generation_in c.make_room.new.generations.entries d) c.deref-in-Ok.ensures.value) c.edits.ensures h.3,
     )
+
+pub raise-requires : goal.raise-requires
+raise-requires c = search rules
+
+pub returns-in-Ok-clause-generations : goal.returns-in-Ok-clause-generations
+returns-in-Ok-clause-generations c = search rules
