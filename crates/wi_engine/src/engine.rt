@@ -64,7 +64,7 @@ fn value_now<M: Memo>(
 }
 
 /// Replacements with those of a what-if put in. All its inputs' values are taken before any is put.
-fn replaced<M: Memo>(
+fn world_of_what_if<M: Memo>(
     alloc: Global,
     store: &Store,
     world: &World,
@@ -182,7 +182,7 @@ fn settle_what_if<M: Memo>(
     ensures spare { OnOk result (spare store.now.sheet frame.new + 1 ≤ spare store.now.sheet frame.old) }
     ensures same { M.state memo.new ≡ M.state memo.old }
 {
-    match replaced(alloc, store, &frame.key.world, &pairs, memo)? {
+    match world_of_what_if(alloc, store, &frame.key.world, &pairs, memo)? {
         Inputs::Unknown(key) => {
             frame.waiting = Waiting::WhatIf(at, pairs);
             Ok(Some(key))

@@ -4,7 +4,7 @@ ghost use Rattle.std.specs.Prelude.{◌≡◌, [], map, OnOk, OnErr};
 ghost use Rattle.std.specs.Option.{option_copied};
 ghost use Rattle.wi_parser.specs.View.{pair_of};
 ghost use Rattle.wi_functions.specs.Meaning.{addresses};
-ghost use Rattle.wi_engine.specs.Inner.Findings.{same_pairs, cell_found, what_if_found, IsWithCell, IsWithWhatIf, IsSame};
+ghost use Rattle.wi_engine.specs.Inner.Findings.{same_pairs, found_value, what_if_found, IsWithCell, IsWithWhatIf, IsSame};
 
 use std::alloc::{AllocError, Global};
 use std::collections::BTreeMap;
@@ -40,7 +40,7 @@ impl Findings {
 
     /// The value found of a cell. The work grows with the logarithm of the count of cells found.
     pub fn cell(&self, at: Address) -> Option<&Value>
-        ensures { option_copied result ≡ cell_found self.now at }
+        ensures { option_copied result ≡ found_value self.now at }
     {
         self.cells.get(&at)
     }

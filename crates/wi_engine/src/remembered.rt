@@ -3,7 +3,7 @@
 ghost use Rattle.std.specs.Prelude.{◌≡◌, []};
 ghost use Rattle.wi_engine.specs.Inner.MemoState.{IsMemoOf};
 ghost use Rattle.wi_engine.specs.Inner.ReadOrder.{IsReadOrder};
-ghost use Rattle.wi_engine.specs.Inner.Remembered.{state_of, remembered};
+ghost use Rattle.wi_engine.specs.Inner.Remembered.{question_state, remembered};
 
 use crate::cone::{Cones, add_cones};
 use crate::memo::Memo;
@@ -52,7 +52,7 @@ impl<'a> Remembered<'a> {
     pub fn new(alloc: Global, store: &'a Store, order: Vec<Address>) -> Remembered<'a>
         requires order { IsReadOrder store.now.sheet order.items }
         ensures value { result ≡ remembered store.now.sheet order.items [] }
-        ensures right { IsMemoOf store.now.sheet (state_of result) }
+        ensures right { IsMemoOf store.now.sheet (question_state result) }
     {
         Remembered {
             alloc,
@@ -65,7 +65,7 @@ impl<'a> Remembered<'a> {
 }
 
 impl<'a> Memo for Remembered<'a> {
-    ghost state = { state_of };
+    ghost state = { question_state };
 
     /// The key for a cell under replacements. The work for an address that is replaced for the first time is one pass
     /// over what all the cells read; else it grows with the count of replacements, and with logarithms.

@@ -11,7 +11,7 @@ use Rattle.std.specs.BTreeSet.{BTreeSet, contains}
 use Rattle.wi_values.specs.Address.{Area, is_within}
 use Rattle.wi_graph.specs.Reach.{is_one_of}
 use Rattle.wi_graph.specs.Inner.Within.{IsAhead, IsFoundBy}
-use Rattle.wi_graph.specs.Inner.Turning.{has_outside, reads_outside}
+use Rattle.wi_graph.specs.Inner.Turning.{has_circle_outside, reads_outside}
 use Rattle.wi_graph.proofs.Tests.{is_itself, clash, turned}
 use Rattle.wi_graph.proofs.Walks.{same_cell, found}
 use Rattle.wi_values.proofs.Within.{within_between, places_left}
@@ -26,22 +26,22 @@ outside_finds cells (k ∷ ks) r h = at (or_cases (is_within r k && not (contain
     at (inl m) ih = let x = and_parts (is_within r k) (not (contains nat_cmp cells k)) m in (k, or_left (k == k) _ (is_itself k), x.0, not-true (contains nat_cmp cells k) x.1)
     at (inr m) ih = let x = ih m in (x.0, or_right (k == x.0) _ x.1, x.2, x.3)
 
-pub held_finds : (circles cells : BTreeSet ℕ) (rs : List Area) → list_any (has_outside circles cells) rs ≡ true → (d : ℕ) × (is_one_of circles.keys d ≡ true) × (list_any (λ r. is_within r d) rs ≡ true) × (contains nat_cmp cells d ≡ false)
+pub held_finds : (circles cells : BTreeSet ℕ) (rs : List Area) → list_any (has_circle_outside circles cells) rs ≡ true → (d : ℕ) × (is_one_of circles.keys d ≡ true) × (list_any (λ r. is_within r d) rs ≡ true) × (contains nat_cmp cells d ≡ false)
 held_finds circles cells [] h = cc
-held_finds circles cells (r ∷ rs) h = at (or_cases (has_outside circles cells r) _ h) (held_finds circles cells rs)
+held_finds circles cells (r ∷ rs) h = at (or_cases (has_circle_outside circles cells r) _ h) (held_finds circles cells rs)
   where
-    at : (has_outside circles cells r ≡ true) ⊎ (list_any (has_outside circles cells) rs ≡ true) → (list_any (has_outside circles cells) rs ≡ true → (d : ℕ) × (is_one_of circles.keys d ≡ true) × (list_any (λ r. is_within r d) rs ≡ true) × (contains nat_cmp cells d ≡ false)) →
+    at : (has_circle_outside circles cells r ≡ true) ⊎ (list_any (has_circle_outside circles cells) rs ≡ true) → (list_any (has_circle_outside circles cells) rs ≡ true → (d : ℕ) × (is_one_of circles.keys d ≡ true) × (list_any (λ r. is_within r d) rs ≡ true) × (contains nat_cmp cells d ≡ false)) →
         (d : ℕ) × (is_one_of circles.keys d ≡ true) × (list_any (λ r. is_within r d) (r ∷ rs) ≡ true) × (contains nat_cmp cells d ≡ false)
     at (inl m) ih = let x = outside_finds cells circles.keys r m in (x.0, x.1, or_left (is_within r x.0) _ x.2, x.3)
     at (inr m) ih = let x = ih m in (x.0, x.1, or_right (is_within r x.0) _ x.2, x.3)
 
-pub finds_held : (circles cells : BTreeSet ℕ) (rs : List Area) (d : ℕ) → is_one_of circles.keys d ≡ true → list_any (λ r. is_within r d) rs ≡ true → contains nat_cmp cells d ≡ false → list_any (has_outside circles cells) rs ≡ true
+pub finds_held : (circles cells : BTreeSet ℕ) (rs : List Area) (d : ℕ) → is_one_of circles.keys d ≡ true → list_any (λ r. is_within r d) rs ≡ true → contains nat_cmp cells d ≡ false → list_any (has_circle_outside circles cells) rs ≡ true
 finds_held circles cells [] d m w n = cc
 finds_held circles cells (r ∷ rs) d m w n = at (or_cases (is_within r d) _ w) (λ k. finds_held circles cells rs d m k n)
   where
-    at : (is_within r d ≡ true) ⊎ (list_any (λ r. is_within r d) rs ≡ true) → (list_any (λ r. is_within r d) rs ≡ true → list_any (has_outside circles cells) rs ≡ true) → (has_outside circles cells r || list_any (has_outside circles cells) rs) ≡ true
-    at (inl k) ih = or_left (has_outside circles cells r) _ (found (λ x. is_within r x && not (contains nat_cmp cells x)) circles.keys d m (and_from (is_within r d) _ k (not_from_false (contains nat_cmp cells d) n)))
-    at (inr k) ih = or_right (has_outside circles cells r) _ (ih k)
+    at : (is_within r d ≡ true) ⊎ (list_any (λ r. is_within r d) rs ≡ true) → (list_any (λ r. is_within r d) rs ≡ true → list_any (has_circle_outside circles cells) rs ≡ true) → (has_circle_outside circles cells r || list_any (has_circle_outside circles cells) rs) ≡ true
+    at (inl k) ih = or_left (has_circle_outside circles cells r) _ (found (λ x. is_within r x && not (contains nat_cmp cells x)) circles.keys d m (and_from (is_within r d) _ k (not_from_false (contains nat_cmp cells d) n)))
+    at (inr k) ih = or_right (has_circle_outside circles cells r) _ (ih k)
 
 pub held_test : (reads : BTreeMap ℕ (Vec Area)) (circles cells : BTreeSet ℕ) (outer : List ℕ) (held : BTreeSet ℕ) → outer ≡ filter (reads_outside reads circles cells) cells.keys → ((c : ℕ) → contains nat_cmp held c ≡ is_one_of outer c) →
     (c : ℕ) → contains nat_cmp held c ≡ (reads_outside reads circles cells c && contains nat_cmp cells c)
@@ -84,11 +84,11 @@ pub fewer_circles : (circles : BTreeSet ℕ) (r : Area) (circle : ℕ) (found : 
 fewer_circles circles r circle None w h = let l = (within_between r circle w).1 in omega (arith, l)
 fewer_circles circles r circle (Some d) w h = let l = (within_between r circle w).1 in let m = (within_between r d h.1).1 in omega (arith, l, m, h.0)
 
-pub searched_found : (circles cells : BTreeSet ℕ) (r : Area) (circle : ℕ) → contains nat_cmp cells circle ≡ false → IsSearched circles cells r (Some circle) → has_outside circles cells r ≡ true
+pub searched_found : (circles cells : BTreeSet ℕ) (r : Area) (circle : ℕ) → contains nat_cmp cells circle ≡ false → IsSearched circles cells r (Some circle) → has_circle_outside circles cells r ≡ true
 searched_found circles cells r circle n s =
     found (λ d. is_within r d && not (contains nat_cmp cells d)) circles.keys circle (sym (turned circles.keys circle) ∙ s.1.1) (and_from (is_within r circle) _ s.1.0 (not_from_false (contains nat_cmp cells circle) n))
 
-pub searched_none : (circles cells : BTreeSet ℕ) (r : Area) → IsSearched circles cells r None → has_outside circles cells r ≡ false
-searched_none circles cells r s = false_from_ne_true (has_outside circles cells r) (λ h.
+pub searched_none : (circles cells : BTreeSet ℕ) (r : Area) → IsSearched circles cells r None → has_circle_outside circles cells r ≡ false
+searched_none circles cells r s = false_from_ne_true (has_circle_outside circles cells r) (λ h.
     let x = outside_finds cells circles.keys r h in
     s.0 x.0 (x.2, turned circles.keys x.0 ∙ x.1, x.3))

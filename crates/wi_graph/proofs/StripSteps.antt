@@ -11,7 +11,7 @@ use Rattle.std.specs.BTreeSet.{BTreeSet, contains, difference}
 use Rattle.wi_values.specs.Address.{Area, row_of, is_within}
 use Rattle.wi_graph.specs.Reach.{is_one_of}
 use Rattle.wi_graph.specs.Inner.Within.{IsAhead, IsFoundBy}
-use Rattle.wi_graph.specs.Inner.Stripping.{listed, is_in, reads_in, waiting_for, waits_for, KeepsReads, ReadsOne, EachReadsOne, AreStripped, IsWithin, Waits, IsTracking, IsFree}
+use Rattle.wi_graph.specs.Inner.Stripping.{items_there, is_in, reads_in, waiting_for, waits_for, KeepsReads, ReadsOne, EachReadsOne, AreStripped, IsWithin, Waits, IsTracking, IsFree}
 use Rattle.wi_graph.proofs.Tests.{turn_test, is_at-eq, is_itself, clash}
 use Rattle.wi_graph.proofs.Walks.{same_cell}
 use Rattle.wi_graph.proofs.SetSteps.{in_last, in_front, in_back, in_difference, Loses, loses_others, loses_one, keeps_others}
@@ -21,7 +21,7 @@ use Rattle.wi_values.proofs.Within.{within_between}
 
 no_waiting : (waiting : BTreeMap ℕ (Vec ℕ)) (d c : ℕ) → waiting.entries ≡ [] → waits_for waiting d c ≡ true → ⊥
 no_waiting waiting d c e h =
-    let z : is_one_of [] c ≡ true = ap (λ (es : List (ℕ × Vec ℕ)). is_one_of (listed (lookup (is_at (nat_cmp d)) es)) c) (sym e) ∙ h in
+    let z : is_one_of [] c ≡ true = ap (λ (es : List (ℕ × Vec ℕ)). is_one_of (items_there (lookup (is_at (nat_cmp d)) es)) c) (sym e) ∙ h in
     cc
 
 pub track_start : (areas : BTreeMap ℕ (Vec Area)) (held rest : BTreeSet ℕ) (work : List ℕ) (waiting : BTreeMap ℕ (Vec ℕ)) → work ≡ difference nat_cmp rest held → waiting.entries ≡ [] →
@@ -206,12 +206,12 @@ strip_end first areas now held rest work waiting k j t e c h u = at (t.each c h 
 
 new_one : (waiting next : BTreeMap ℕ (Vec ℕ)) (read cell : ℕ) (v : Vec ℕ) → get nat_cmp waiting read ≡ None → v.items ≡ cell ∷ [] → ((q : ℕ) → get nat_cmp next q ≡ cond (is_at (nat_cmp read) q) (Some v) (get nat_cmp waiting q)) →
     (d : ℕ) → waiting_for next d ≡ cond (read == d) (waiting_for waiting d ++ cell ∷ []) (waiting_for waiting d)
-new_one waiting next read cell v n e u d = ap listed (u d) ∙ ap (λ (b : Bool). listed (cond b (Some v) (get nat_cmp waiting d))) (is_at-eq read d) ∙ at (read == d) refl
+new_one waiting next read cell v n e u d = ap items_there (u d) ∙ ap (λ (b : Bool). items_there (cond b (Some v) (get nat_cmp waiting d))) (is_at-eq read d) ∙ at (read == d) refl
   where
-    at : (b : Bool) → (read == d) ≡ b → listed (cond b (Some v) (get nat_cmp waiting d)) ≡ cond b (waiting_for waiting d ++ cell ∷ []) (waiting_for waiting d)
+    at : (b : Bool) → (read == d) ≡ b → items_there (cond b (Some v) (get nat_cmp waiting d)) ≡ cond b (waiting_for waiting d ++ cell ∷ []) (waiting_for waiting d)
     at true f =
         let none : get nat_cmp waiting d ≡ None = ap (λ (x : ℕ). get nat_cmp waiting x) (sym (same_cell d read f)) ∙ n in
-        e ∙ ap (λ (o : Option (Vec ℕ)). listed o ++ cell ∷ []) (sym none)
+        e ∙ ap (λ (o : Option (Vec ℕ)). items_there o ++ cell ∷ []) (sym none)
     at false f = refl
 
 pub park_new : (waiting same next : BTreeMap ℕ (Vec ℕ)) (read cell : ℕ) (v : Vec ℕ) → same ≡ waiting → get nat_cmp waiting read ≡ None → v.items ≡ cell ∷ [] → ((q : ℕ) → get nat_cmp next q ≡ cond (is_at (nat_cmp read) q) (Some v) (get nat_cmp same q)) →
@@ -260,8 +260,8 @@ cells_none rest first old e k d i =
 
 -- what one cell reads, among all
 pub kept_at : (rest : BTreeSet ℕ) (old new : BTreeMap ℕ (Vec Area)) (cell : ℕ) (v w : Vec Area) → get nat_cmp old cell ≡ Some v → ((q : ℕ) → get nat_cmp new q ≡ cond (is_at (nat_cmp cell) q) (Some w) (get nat_cmp old q)) → KeepsCells rest v.items w.items → KeepsReads rest old new
-kept_at rest old new cell v w e u k c d h = ap (λ (o : Option (Vec Area)). is_in (listed o) d) (u c ∙ ap (λ (b : Bool). cond b (Some w) (get nat_cmp old c)) (is_at-eq cell c)) ∙ at (cell == c) refl
+kept_at rest old new cell v w e u k c d h = ap (λ (o : Option (Vec Area)). is_in (items_there o) d) (u c ∙ ap (λ (b : Bool). cond b (Some w) (get nat_cmp old c)) (is_at-eq cell c)) ∙ at (cell == c) refl
   where
-    at : (b : Bool) → (cell == c) ≡ b → is_in (listed (cond b (Some w) (get nat_cmp old c))) d ≡ is_in (listed (get nat_cmp old c)) d
-    at true s = k d h ∙ ap (λ (o : Option (Vec Area)). is_in (listed o) d) (sym e ∙ ap (get nat_cmp old) (same_cell c cell s))
+    at : (b : Bool) → (cell == c) ≡ b → is_in (items_there (cond b (Some w) (get nat_cmp old c))) d ≡ is_in (items_there (get nat_cmp old c)) d
+    at true s = k d h ∙ ap (λ (o : Option (Vec Area)). is_in (items_there o) d) (sym e ∙ ap (get nat_cmp old) (same_cell c cell s))
     at false s = refl

@@ -20,7 +20,7 @@ use Rattle.wi_graph.specs.declared.turning.Turns.{Turns}
 use Rattle.wi_graph.specs.Inner.Changes.{areas_then, Brings, ReadsStay, went_from}
 use Rattle.wi_graph.specs.Inner.Rooms.{Rooms, room_at, room_over, areas_of, HasPairs, IsGraph}
 use Rattle.wi_graph.specs.Inner.Search.{HasAll, HasReaders, IsLeast}
-use Rattle.wi_graph.specs.Inner.Stripping.{listed, reads_in, EachReadsOne, AreStripped, IsWithin}
+use Rattle.wi_graph.specs.Inner.Stripping.{items_there, reads_in, EachReadsOne, AreStripped, IsWithin}
 use Rattle.wi_graph.specs.Inner.Turning.{reads_outside, turned_by, AreTurns, SettlesCone}
 use Rattle.wi_graph.proofs.Tests.{is_at-eq, clash, turned}
 use Rattle.wi_graph.proofs.Walks.{same_cell}
@@ -37,20 +37,20 @@ use Rattle.wi_graph.proofs.CircularAfter.{circular_after}
 -- ---- what they read
 
 pub reads_step : (cells : List ℕ) (i x : ℕ) (f : ℕ → List Area) (old new : BTreeMap ℕ (Vec Area)) (v : Vec Area) → i < length cells → x ≡ get_or cells i x → v.items ≡ f x → ((q : ℕ) → get nat_cmp new q ≡ cond (is_at (nat_cmp x) q) (Some v) (get nat_cmp old q)) →
-    ((c : ℕ) → is_one_of (take i cells) c ≡ true → listed (get nat_cmp old c) ≡ f c) → (c : ℕ) → is_one_of (take (i + 1) cells) c ≡ true → listed (get nat_cmp new c) ≡ f c
-reads_step cells i x f old new v l e g u h c k = ap listed (u c ∙ ap (λ (b : Bool). cond b (Some v) (get nat_cmp old c)) (is_at-eq x c)) ∙ at (x == c) refl (sym (taken cells i x c l e) ∙ k)
+    ((c : ℕ) → is_one_of (take i cells) c ≡ true → items_there (get nat_cmp old c) ≡ f c) → (c : ℕ) → is_one_of (take (i + 1) cells) c ≡ true → items_there (get nat_cmp new c) ≡ f c
+reads_step cells i x f old new v l e g u h c k = ap items_there (u c ∙ ap (λ (b : Bool). cond b (Some v) (get nat_cmp old c)) (is_at-eq x c)) ∙ at (x == c) refl (sym (taken cells i x c l e) ∙ k)
   where
     last : (b : Bool) → (b || (false || false)) ≡ true → b ≡ true
     last true m = refl
     last false m = cc
 
-    at : (b : Bool) → (x == c) ≡ b → (is_one_of (take i cells) c || ((x == c) || false)) ≡ true → listed (cond b (Some v) (get nat_cmp old c)) ≡ f c
+    at : (b : Bool) → (x == c) ≡ b → (is_one_of (take i cells) c || ((x == c) || false)) ≡ true → items_there (cond b (Some v) (get nat_cmp old c)) ≡ f c
     at true s m = g ∙ ap f (same_cell c x s)
     at false s m = h c (last (is_one_of (take i cells) c) (ap (λ (b : Bool). is_one_of (take i cells) c || (b || false)) (sym s) ∙ m))
 
 -- ---- what stripping leaves
 
-pub settles : (rooms next : Rooms) (circles cells held all rest : BTreeSet ℕ) (list outer : List ℕ) (reads : BTreeMap ℕ (Vec Area)) → list ≡ cells.keys → ((c : ℕ) → is_one_of list c ≡ true → listed (get nat_cmp reads c) ≡ areas_of (room_over next rooms c)) →
+pub settles : (rooms next : Rooms) (circles cells held all rest : BTreeSet ℕ) (list outer : List ℕ) (reads : BTreeMap ℕ (Vec Area)) → list ≡ cells.keys → ((c : ℕ) → is_one_of list c ≡ true → items_there (get nat_cmp reads c) ≡ areas_of (room_over next rooms c)) →
     outer ≡ filter (reads_outside reads circles cells) cells.keys → ((c : ℕ) → contains nat_cmp held c ≡ is_one_of outer c) → ((c : ℕ) → contains nat_cmp all c ≡ is_one_of list c) →
     IsWithin rest all → AreStripped reads held all rest → EachReadsOne reads held rest → SettlesCone rooms next circles cells rest
 settles rooms next circles cells held all rest list outer reads e g o h a w st left s t xs same are circ cone c =
@@ -78,12 +78,12 @@ settles rooms next circles cells held all rest list outer reads e g o h a w st l
     holds : (d : ℕ) → in_cone s xs d ≡ true → contains nat_cmp held d ≡ true → (f : ℕ) × (content_reads (content_of t d) f ≡ true) × (in_cone s xs f ≡ false) × (circular s f ≡ true)
     holds d i k =
         let p = and_parts (reads_outside reads circles cells d) _ (sym (held_test reads circles cells outer held o h d) ∙ k) in
-        let x = held_finds circles cells (listed (get nat_cmp reads d)) p.0 in
+        let x = held_finds circles cells (items_there (get nat_cmp reads d)) p.0 in
         (x.0, sym (as_read d (cone d ∙ i) x.0) ∙ x.2, sym (cone x.0) ∙ x.3, sym (circ x.0) ∙ turned circles.keys x.0 ∙ x.1)
 
     frees : (d : ℕ) → in_cone s xs d ≡ true → contains nat_cmp held d ≡ false → (f : ℕ) → content_reads (content_of t d) f ≡ true → in_cone s xs f ≡ false → (b : Bool) → contains nat_cmp circles f ≡ b → circular s f ≡ false
     frees d i k f r n true m =
-        let y = finds_held circles cells (listed (get nat_cmp reads d)) f (sym (turned circles.keys f) ∙ m) (as_read d (cone d ∙ i) f ∙ r) (cone f ∙ n) in
+        let y = finds_held circles cells (items_there (get nat_cmp reads d)) f (sym (turned circles.keys f) ∙ m) (as_read d (cone d ∙ i) f ∙ r) (cone f ∙ n) in
         clash (contains nat_cmp held d) (held_test reads circles cells outer held o h d ∙ and_from (reads_outside reads circles cells d) _ y (cone d ∙ i)) k
     frees d i k f r n false m = sym (circ f) ∙ m
 

@@ -16,7 +16,7 @@ use wi_values::{Address, Rect};
 pub(crate) type Change = (Address, Option<Content>);
 
 /// The cells of an edit.
-pub(crate) fn cells_of(alloc: Global, changes: &[Change]) -> Result<Vec<Address>, AllocError>
+pub(crate) fn changed_cells(alloc: Global, changes: &[Change]) -> Result<Vec<Address>, AllocError>
     ensures { IfOk result (λ v. v.items ≡ keys_of changes.now) }
 {
     let mut cells = Vec::new(alloc);
@@ -32,14 +32,14 @@ pub(crate) fn rooms_of(alloc: Global, changes: &[Change]) -> Result<Rooms, Alloc
 {
     let mut next = BTreeMap::new(alloc);
     for change in changes {
-        let room = room_of(alloc, &change.1)?;
+        let room = room_for(alloc, &change.1)?;
         next.insert(change.0, room)?;
     }
     Ok(next)
 }
 
 /// What a content reads.
-fn room_of(alloc: Global, content: &Option<Content>) -> Result<Option<Vec<Rect>>, AllocError>
+fn room_for(alloc: Global, content: &Option<Content>) -> Result<Option<Vec<Rect>>, AllocError>
     ensures { IfOk result (λ room. items_of room ≡ areas_in content.now) }
 {
     match content {

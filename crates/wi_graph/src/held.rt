@@ -1,7 +1,7 @@
 //! Which cells of a cone read a circular cell outside it.
 
 ghost use Rattle.std.specs.Prelude.{◌≡◌, filter, IfOk};
-ghost use Rattle.wi_graph.specs.Inner.Turning.{has_outside, reads_outside};
+ghost use Rattle.wi_graph.specs.Inner.Turning.{has_circle_outside, reads_outside};
 
 use crate::stripping::Areas;
 use crate::within::{next_after, next_within};
@@ -9,7 +9,7 @@ use std::alloc::{AllocError, Global};
 use std::collections::BTreeSet;
 use wi_values::{Address, Rect};
 
-/// The cells of a cone that read a circular cell outside it. The work is that of `meets` for each rectangle that they read.
+/// The cells of a cone that read a circular cell outside it. The work is that of `has_circle_outside` for each rectangle that they read.
 pub(crate) fn held_cells(
     alloc: Global,
     reads: &Areas,
@@ -36,15 +36,15 @@ fn is_held(
     ensures { result ≡ reads_outside reads.now circles.now cells.now cell }
 {
     match reads.get(&cell) {
-        Some(areas) => areas.iter().any(|area| meets(*area, circles, cells)),
+        Some(areas) => areas.iter().any(|area| has_circle_outside(*area, circles, cells)),
         None => false,
     }
 }
 
 /// Whether a rectangle has a circular cell outside the cone. The work is that of `next_within` for each circular cell of the
 /// cone in the rectangle, and once more.
-fn meets(area: Rect, circles: &BTreeSet<Address>, cells: &BTreeSet<Address>) -> bool
-    ensures { result ≡ has_outside circles.now cells.now area }
+fn has_circle_outside(area: Rect, circles: &BTreeSet<Address>, cells: &BTreeSet<Address>) -> bool
+    ensures { result ≡ has_circle_outside circles.now cells.now area }
 {
     let mut ahead = next_within(circles, area, area.first());
     while let Some(circle) = ahead {

@@ -5,7 +5,7 @@ ghost use Rattle.std.specs.Ordering.{nat_cmp};
 ghost use Rattle.std.specs.BTreeMap.{get};
 ghost use Rattle.wi_graph.specs.Reach.{is_one_of};
 ghost use Rattle.wi_graph.specs.Inner.Rooms.{room_over, areas_of, items_of};
-ghost use Rattle.wi_graph.specs.Inner.Stripping.{listed};
+ghost use Rattle.wi_graph.specs.Inner.Stripping.{items_there};
 
 use crate::rooms::Rooms;
 use crate::stripping::Areas;
@@ -21,7 +21,7 @@ pub(crate) fn reads_of(
     cells: &[Address],
 ) -> Result<Areas, AllocError>
     ensures { IfOk result (λ reads. (c : ℕ) → is_one_of cells.now c ≡ true
-        → listed (get nat_cmp reads c) ≡ areas_of (room_over next.now rooms.now c)) }
+        → items_there (get nat_cmp reads c) ≡ areas_of (room_over next.now rooms.now c)) }
 {
     let mut reads = BTreeMap::new(alloc);
     for cell in cells {

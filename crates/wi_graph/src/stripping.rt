@@ -15,7 +15,7 @@ use wi_values::{Address, Rect};
 pub(crate) type Areas = BTreeMap<Address, Vec<Rect>>;
 
 /// Cells that wait, by a cell that they read.
-type Waiting = BTreeMap<Address, Vec<Address>>;
+type Waiters = BTreeMap<Address, Vec<Address>>;
 
 /// Takes away from a set, again and again, each cell that reads none of the set; those that are held stay. The work grows
 /// with the count of the cells, of the rectangles that they read, of the cells of the set in each of these, and of its rows
@@ -53,7 +53,7 @@ fn next_free(
     held: &BTreeSet<Address>,
     rest: &BTreeSet<Address>,
     work: &mut Vec<Address>,
-    waiting: &mut Waiting,
+    waiting: &mut Waiters,
 ) -> Result<Option<Address>, AllocError>
     requires { IsTracking areas.old held.now rest.now work.old.items waiting.old None }
     ensures kept { OnOk result (KeepsReads rest.now areas.old areas.new) }
@@ -116,7 +116,7 @@ fn first_read(
 /// Lets a cell wait for one that it reads.
 fn park(
     alloc: Global,
-    waiting: &mut Waiting,
+    waiting: &mut Waiters,
     read: Address,
     cell: Address,
 ) -> Result<(), AllocError>
@@ -134,7 +134,7 @@ fn park(
 }
 
 /// Has the cells looked at again that wait for a cell.
-fn wake(waiting: &mut Waiting, cell: Address, work: &mut Vec<Address>) -> Result<(), AllocError>
+fn wake(waiting: &mut Waiters, cell: Address, work: &mut Vec<Address>) -> Result<(), AllocError>
     ensures woken { OnOk result (work.new.items ≡ work.old.items ++ waiting_for waiting.old cell) }
     ensures others { (d : ℕ) → waiting_for waiting.new d
         ≡ (if cell == d then [] else waiting_for waiting.old d) }

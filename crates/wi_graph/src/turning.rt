@@ -9,7 +9,7 @@ ghost use Rattle.wi_graph.specs.Inner.Rooms.{IsGraph};
 ghost use Rattle.wi_graph.specs.Inner.Stripping.{IsWithin};
 ghost use Rattle.wi_graph.specs.Inner.Turning.{AreTurns, SettlesCone};
 
-use crate::changes::{Change, cells_of, reads_stay};
+use crate::changes::{Change, changed_cells, reads_stay};
 use crate::cone::cone_of;
 use crate::held::held_cells;
 use crate::reads::reads_of;
@@ -42,7 +42,7 @@ pub(crate) fn turns_of(
     requires brings { Brings next.now changes.now }
     ensures { IfOk result (AreTurns rooms.now next.now circles.now) }
 {
-    let cells = cells_of(alloc, changes)?;
+    let cells = changed_cells(alloc, changes)?;
     if reads_stay(rooms, next, &cells) {
         return Ok(no_turns(alloc));
     }

@@ -66,10 +66,10 @@ module _ (k : KeptSheet) (q : Keeping) (e : q ≡ begun k) where
   nothing_found : KeepsFound (state_in q)
   nothing_found = subst (λ (x : Keeping). KeepsFound (state_in x)) (sym e) (λ c p h. let z = h in cc)
 
-  pub same_unkept : (ks : List Case) → saving.unkept (state_in q) ks ≡ unkept k ks
-  same_unkept ks = ap (λ (x : Keeping). saving.unkept (state_in x) ks) e ∙ left_is_unkept (is_kept k) ks
+  pub same_unkept : (ks : List Case) → saving.not_kept (state_in q) ks ≡ unkept k ks
+  same_unkept ks = ap (λ (x : Keeping). saving.not_kept (state_in x) ks) e ∙ left_is_unkept (is_kept k) ks
 
-  room_left : (ks : List Case) → HasRoomFor k ks → saving.unkept (state_in q) ks ≤ (state_in q).room
+  room_left : (ks : List Case) → HasRoomFor k ks → saving.not_kept (state_in q) ks ≤ (state_in q).room
   room_left ks h =
       let z = same_unkept ks in
       let y = ap (λ (x : Keeping). (state_in x).room) e in

@@ -15,7 +15,7 @@ use Rattle.wi_sheet.proofs.SmallerWorlds.{content_below}
 use Rattle.wi_sheet.proofs.Cases.{different_closed, different_has_itself}
 use Rattle.wi_sheet.proofs.Counting.{left_of_nothing, sum_of_ones}
 use Rattle.wi_sheet.proofs.Overrides.{puts_as_map}
-use Rattle.wi_engine.specs.Inner.Remembered.{OneQuestion, remembered, state_of}
+use Rattle.wi_engine.specs.Inner.Remembered.{OneQuestion, remembered, question_state}
 
 -- replacements in order, put in where there are none
 pub put_alone : (w base put : List Replacement) → IsInOrder put → base ≡ [] → as_map w ≡ overridden (as_map base) put → w ≡ put
@@ -45,6 +45,6 @@ shown_evaluations s w put a n m o e h =
 
 -- ---- with nothing remembered
 
-pub nothing_found : (s : Sheet) (order : List ℕ) (q : OneQuestion) (Has : List Case → Type 0) (weight : Case → ℕ) (n m : ℕ) → q ≡ remembered s order [] → CountsAtMost s Has weight (state_of q).found n m →
+pub nothing_found : (s : Sheet) (order : List ℕ) (q : OneQuestion) (Has : List Case → Type 0) (weight : Case → ℕ) (n m : ℕ) → q ≡ remembered s order [] → CountsAtMost s Has weight (question_state q).found n m →
     CountsAtMost s Has weight (λ c p. false) n m
-nothing_found s order q Has weight n m e h = subst (λ (x : OneQuestion). CountsAtMost s Has weight (state_of x).found n m) e h
+nothing_found s order q Has weight n m e h = subst (λ (x : OneQuestion). CountsAtMost s Has weight (question_state x).found n m) e h

@@ -18,7 +18,7 @@ use Rattle.wi_sheet.proofs.Overrides.{with_what_if_value}
 use Rattle.wi_sheet.proofs.Counting.{left_of_nothing, sum_of_ones}
 use Rattle.wi_sheet.proofs.TableEntries.{table_closed, table_has_replacing, table_has_formula_cell, test_of_cells, cells_open, entry_open}
 use Rattle.wi_engine.specs.Inner.Frames.{MayBeRead}
-use Rattle.wi_engine.specs.Inner.Remembered.{OneQuestion, remembered, state_of}
+use Rattle.wi_engine.specs.Inner.Remembered.{OneQuestion, remembered, question_state}
 
 replacing_cell_read : (pairs : List (ℕ × ℕ)) (i : ℕ) (x : ℕ × ℕ) → i < length pairs → is_one_of (map (λ p. p.1) pairs) (get_or pairs i x).1 ≡ true
 replacing_cell_read [] i x less = absurd (omega arith)
@@ -34,7 +34,7 @@ pair_in (p ∷ ps) (suc i) x less = inr (pair_in ps i x (omega arith))
 module _ (s : Sheet) (f : ℕ) (pairs : List (ℕ × ℕ)) (cells : List ℕ) (named : cells ≡ f ∷ map (λ p. p.1) pairs) (clear : list_any (circular s) cells ≡ false) where
   -- its replacement cells may be valued, where keys are made for all cells with a formula among them
   pub replacing_readable : (order : List ℕ) (q : OneQuestion) → q ≡ remembered s order [] → ((c : ℕ) → is_one_of cells c ≡ true → has_formula (content_of s c) ≡ true → is_one_of order c ≡ true) →
-      All (λ x. MayBeRead s (state_of q) x.1) pairs
+      All (λ x. MayBeRead s (question_state q) x.1) pairs
   replacing_readable order q e roots = λ i x less.
       let c = (get_or pairs i x).1 in
       let read = or_right (f == c) (is_one_of (map (λ p. p.1) pairs) c) (replacing_cell_read pairs i x less) in

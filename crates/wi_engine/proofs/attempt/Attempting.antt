@@ -17,7 +17,7 @@ use Rattle.wi_graph.proofs.Ends.{ends_open}
 use Rattle.wi_sheet.specs.CellValue.{value_of, cell_value, what_if_value}
 use Rattle.wi_sheet.proofs.Steps.{value_step, value_plain, put_not_circular}
 use Rattle.wi_sheet.proofs.Demands.{same_tree}
-use Rattle.wi_engine.specs.Inner.Findings.{cell_found, what_if_found, AreAllRight}
+use Rattle.wi_engine.specs.Inner.Findings.{found_value, what_if_found, AreAllRight}
 use Rattle.wi_engine.specs.Inner.Attempt.{known_in, cell_known}
 use Rattle.wi_engine.specs.Inner.SettledFrames.{IsValueByKnown}
 use Rattle.wi_engine.specs.declared.findings.Findings.{Findings}
@@ -38,7 +38,7 @@ known_cell_right s c (Some (Formula t)) found e r = r
 -- what is known agrees with the values, where what was found is right
 pub known_agrees : (s : Sheet) (w : List Replacement) (f : Findings) → AreAllRight (cell_value (put_all s w)) (what_if_value (put_all s w)) f → AgreesWith (cell_known s w f) (what_if_found f) (values_in (put_all s w))
 known_agrees s w f r = record {
-  cells = λ c. known_cell_right (put_all s w) c (content_of (put_all s w) c) (cell_found f c) refl (r.cells c);
+  cells = λ c. known_cell_right (put_all s w) c (content_of (put_all s w) c) (found_value f c) refl (r.cells c);
   what_ifs = r.what_ifs;
 }
 

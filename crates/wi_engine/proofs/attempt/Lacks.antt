@@ -19,14 +19,14 @@ use Rattle.wi_sheet.proofs.Asked.{asked_what_if}
 use Rattle.wi_sheet.proofs.Members.{in_contained, found_in}
 use Rattle.wi_engine.specs.declared.findings.Findings.{Findings}
 use Rattle.wi_engine.specs.declared.findings.FoundWhatIf.{FoundWhatIf}
-use Rattle.wi_engine.specs.Inner.Findings.{same_pairs, pairs_of, first_for, cell_found, what_if_found, IsWithCell, IsWithWhatIf}
+use Rattle.wi_engine.specs.Inner.Findings.{same_pairs, pairs_of, first_for, found_value, what_if_found, IsWithCell, IsWithWhatIf}
 use Rattle.wi_engine.specs.Inner.Attempt.{lacking}
 use Rattle.wi_engine.proofs.attempt.Filters.{PassesToo, all_pass, no_more, fewer}
 use Rattle.wi_engine.proofs.findings.FoundPairs.{same_lists, same_pairs-refl, first_for-push}
 
 -- a cell of which no value was found
 abbrev lacks_cell : Findings → ℕ → Bool
-lacks_cell f c = is_none (cell_found f c)
+lacks_cell f c = is_none (found_value f c)
 
 -- a what-if of which no value was found
 abbrev lacks_what_if : Findings → ℕ × List (ℕ × ℕ) → Bool
@@ -52,7 +52,7 @@ module _ (f g : Findings) (a : ℕ) (v : Value) (more : IsWithCell f g a v) wher
   cell_lacked : PassesToo (lacks_cell f) (lacks_cell g)
   cell_lacked c h = by (a == c) (sym (ap (λ (o : Option Value). is_none o) (more.cells c)) ∙ h)
     where
-      by : (b : Bool) → is_none (cond b (Some v) (cell_found f c)) ≡ true → is_none (cell_found f c) ≡ true
+      by : (b : Bool) → is_none (cond b (Some v) (found_value f c)) ≡ true → is_none (found_value f c) ≡ true
       by true k = cc
       by false k = k
 
@@ -66,15 +66,15 @@ module _ (f g : Findings) (a : ℕ) (v : Value) (more : IsWithCell f g a v) wher
       let what_ifs = same_what_ifs t in
       omega arith
 
-  cell_gone : cell_found f a ≡ None → (c : ℕ) → (c == a) ≡ true → (lacks_cell f c ≡ true) × (lacks_cell g c ≡ false)
+  cell_gone : found_value f a ≡ None → (c : ℕ) → (c == a) ≡ true → (lacks_cell f c ≡ true) × (lacks_cell g c ≡ false)
   cell_gone e c h =
       let is = same_cell a c h in (
         ap (lacks_cell f) is ∙ ap (λ (o : Option Value). is_none o) e,
-        ap (lacks_cell g) is ∙ ap (λ (o : Option Value). is_none o) (more.cells a) ∙ ap (λ (b : Bool). is_none (cond b (Some v) (cell_found f a))) (eq-eqb a a refl),
+        ap (lacks_cell g) is ∙ ap (λ (o : Option Value). is_none o) (more.cells a) ∙ ap (λ (b : Bool). is_none (cond b (Some v) (found_value f a))) (eq-eqb a a refl),
       )
 
   -- of a cell with a formula that the tree reads as the sheet stands, and that had none, fewer are lacking
-  pub cell_lacks_fewer : (s : Sheet) (t : Tree) → reads_here t a ≡ true → has_formula (content_of s a) ≡ true → cell_found f a ≡ None → lacking s t g < lacking s t f
+  pub cell_lacks_fewer : (s : Sheet) (t : Tree) → reads_here t a ≡ true → has_formula (content_of s a) ≡ true → found_value f a ≡ None → lacking s t g < lacking s t f
   cell_lacks_fewer s t r h e =
       let listed =
       sym (list_any-both (λ (x : ℕ). x == a) (reads_here t) (cells_with_formula s))

@@ -24,7 +24,7 @@ use Rattle.wi_sheet.proofs.Bounds.{put_formula}
 use Rattle.wi_sheet.proofs.Members.{IsIn, in_filter}
 use Rattle.wi_sheet.proofs.Asked.{is_in, asked_cell}
 use Rattle.wi_engine.specs.Inner.MemoState.{MemoState}
-use Rattle.wi_engine.specs.Inner.Findings.{pairs_of, cell_found, what_if_found, AreAllRight, IsWithCell, IsWithWhatIf}
+use Rattle.wi_engine.specs.Inner.Findings.{pairs_of, found_value, what_if_found, AreAllRight, IsWithCell, IsWithWhatIf}
 use Rattle.wi_engine.specs.Inner.Attempt.{AsksAt, IsLacking, lacking}
 use Rattle.wi_engine.specs.Inner.Frames.{case_at, content_reads_here, AreReadHere, Awaits, IsUnvalued, IsFrame, lacks, waits}
 use Rattle.wi_engine.specs.declared.findings.Findings.{Findings}
@@ -102,11 +102,11 @@ in_some : {X : Type 0} (xs : List X) (x : X) → IsIn xs x → 1 ≤ length xs
 in_some [] x h = absurd h
 in_some (y ∷ xs) x h = omega arith
 
-pub some_cell : (s : Sheet) (k : Key) (f : Findings) (a : ℕ) → cell_found f a ≡ None → content_reads_here (content_of (put_all s k.world) k.cell) a ≡ true → has_formula (content_of s a) ≡ true → 1 ≤ lacks s k f
+pub some_cell : (s : Sheet) (k : Key) (f : Findings) (a : ℕ) → found_value f a ≡ None → content_reads_here (content_of (put_all s k.world) k.cell) a ≡ true → has_formula (content_of s a) ≡ true → 1 ≤ lacks s k f
 some_cell s k f a l h g =
     let t = tree_with (content_of (put_all s k.world) k.cell) (λ t. reads_here t a) h in
     let read = in_filter (reads_here t.0) (cells_with_formula s) a (is_in (cells_with_formula s) a (formula_cell s a g)) t.2 in
-    let n = in_some (filter (λ c. is_none (cell_found f c)) (formulas_read_here s t.0)) a (in_filter (λ c. is_none (cell_found f c)) (formulas_read_here s t.0) a read (ap (λ (o : Option Value). is_none o) l)) in
+    let n = in_some (filter (λ c. is_none (found_value f c)) (formulas_read_here s t.0)) a (in_filter (λ c. is_none (found_value f c)) (formulas_read_here s t.0) a read (ap (λ (o : Option Value). is_none o) l)) in
     let e = lacks_at s k f t.0 t.1 in
     omega (arith, n, e)
 
@@ -124,7 +124,7 @@ some_lacks s k f (Cells a others) h = some_cell s k f a h.0.1 h.1 h.2
 some_lacks s k f (WhatIf a pairs) h = some_what_if s k f a pairs h.0 h.1
 
 -- with a cell's value that was lacking, less is lacking
-pub cell_falls : (s : Sheet) (k : Key) (f g : Findings) (a : ℕ) (v : Value) → IsWithCell f g a v → cell_found f a ≡ None → content_reads_here (content_of (put_all s k.world) k.cell) a ≡ true →
+pub cell_falls : (s : Sheet) (k : Key) (f g : Findings) (a : ℕ) (v : Value) → IsWithCell f g a v → found_value f a ≡ None → content_reads_here (content_of (put_all s k.world) k.cell) a ≡ true →
     has_formula (content_of s a) ≡ true → lacks s k g + 1 ≤ lacks s k f
 cell_falls s k f g a v more l h i =
     let t = tree_with (content_of (put_all s k.world) k.cell) (λ t. reads_here t a) h in

@@ -10,7 +10,7 @@ use Rattle.wi_cache.specs.declared.key.Key.{Key}
 use Rattle.wi_sheet.specs.Demand.{Case, same_case, of_formula, formulas_read_here, what_ifs_of, wants}
 use Rattle.wi_sheet.specs.Inner.Spending.{left}
 use Rattle.wi_sheet.proofs.Counting.{Finds, left_falls, left_at_keep}
-use Rattle.wi_engine.specs.Inner.Rank.{rank}
+use Rattle.wi_engine.specs.Inner.Rank.{reach_rank}
 use Rattle.wi_engine.specs.Inner.MemoState.{MemoState}
 use Rattle.wi_engine.specs.Inner.Attempt.{lacking}
 use Rattle.wi_engine.specs.Inner.Frames.{case_at, IsStack, taken, all_spare, at_most, spare, waits}
@@ -50,17 +50,17 @@ spare_push of [] g = refl
 spare_push of (f ∷ fs) g = let e = spare_push of fs g in omega (arith, e)
 
 -- a key of lower rank is none of a stack's
-stack_apart : (s : Sheet) (m : MemoState) (root : Case) (fs : List Frame) (r : ℕ) (k : Key) → IsStack s m root fs r → rank s k.cell < r → m.found k.cell k.world ≡ false → taken m.found fs k.cell k.world ≡ false
+stack_apart : (s : Sheet) (m : MemoState) (root : Case) (fs : List Frame) (r : ℕ) (k : Key) → IsStack s m root fs r → reach_rank s k.cell < r → m.found k.cell k.world ≡ false → taken m.found fs k.cell k.world ≡ false
 stack_apart s m root [] r k st l u = u
 stack_apart s m root (f ∷ fs) r k st l u =
-    let apart : f.key.cell ≡ k.cell → ⊥ = λ (h : f.key.cell ≡ k.cell). (let y = ap (rank s) h in absurd (omega (arith, y, l, st.1))) in
+    let apart : f.key.cell ≡ k.cell → ⊥ = λ (h : f.key.cell ≡ k.cell). (let y = ap (reach_rank s) h in absurd (omega (arith, y, l, st.1))) in
     or_from (taken m.found fs k.cell k.world) _ (stack_apart s m root fs r k st.3 l u) (other_case f.key.cell k.cell (same_replacements f.key.world k.world) apart)
 
-pub not_taken : (s : Sheet) (m : MemoState) (root : Case) (f : Frame) (fs : List Frame) (k : Key) → IsStack s m root fs (rank s f.key.cell) → rank s k.cell < rank s f.key.cell → m.found k.cell k.world ≡ false →
+pub not_taken : (s : Sheet) (m : MemoState) (root : Case) (f : Frame) (fs : List Frame) (k : Key) → IsStack s m root fs (reach_rank s f.key.cell) → reach_rank s k.cell < reach_rank s f.key.cell → m.found k.cell k.world ≡ false →
     taken m.found (f ∷ fs) k.cell k.world ≡ false
 not_taken s m root f fs k st l u =
-    let apart : f.key.cell ≡ k.cell → ⊥ = λ (h : f.key.cell ≡ k.cell). (let y = ap (rank s) h in absurd (omega (arith, y, l))) in
-    or_from (taken m.found fs k.cell k.world) _ (stack_apart s m root fs (rank s f.key.cell) k st l u) (other_case f.key.cell k.cell (same_replacements f.key.world k.world) apart)
+    let apart : f.key.cell ≡ k.cell → ⊥ = λ (h : f.key.cell ≡ k.cell). (let y = ap (reach_rank s) h in absurd (omega (arith, y, l))) in
+    or_from (taken m.found fs k.cell k.world) _ (stack_apart s m root fs (reach_rank s f.key.cell) k st l u) (other_case f.key.cell k.cell (same_replacements f.key.world k.world) apart)
 
 -- ---- what is counted
 

@@ -27,7 +27,7 @@ use Rattle.wi_sheet.specs.Settled.{IsSettled, IsWhatIfSettled, AgreesWhereSettle
 use Rattle.wi_sheet.proofs.Members.{contains_in}
 use Rattle.wi_sheet.proofs.Demands.{same_tree}
 use Rattle.wi_sheet.proofs.Meanings.{meaning_same}
-use Rattle.wi_engine.specs.Inner.Findings.{same_pairs, pairs_of, first_for, cell_found, what_if_found, AreAllRight, IsWithCell, IsWithWhatIf}
+use Rattle.wi_engine.specs.Inner.Findings.{same_pairs, pairs_of, first_for, found_value, what_if_found, AreAllRight, IsWithCell, IsWithWhatIf}
 use Rattle.wi_engine.specs.Inner.Attempt.{AsksAt, known_in, cell_known}
 use Rattle.wi_engine.specs.Inner.SettledFrames.{AreFoundSettled, IsFrameSettled, IsValueByKnown}
 use Rattle.wi_engine.specs.Inner.MemoState.{MemoState, IsMemoOf}
@@ -56,9 +56,9 @@ plain_in (Some (Constant x)) found v h = inl refl
 plain_in (Some (Formula t)) found v h = inr h
 
 settled_known : (s : Sheet) (kept : ℕ → List Replacement → Bool) (w : List Replacement) (t : Tree) (f : Findings) (d : ℕ) (v : Value) → AreFoundSettled s kept w t f → cell_known s w f d ≡ Some v → IsSettled s kept w d
-settled_known s kept w t f d v h e = at (plain_in (content_of (put_all s w) d) (cell_found f d) v e)
+settled_known s kept w t f d v h e = at (plain_in (content_of (put_all s w) d) (found_value f d) v e)
   where
-    at : (has_formula (content_of (put_all s w) d) ≡ false) ⊎ (cell_found f d ≡ Some v) → IsSettled s kept w d
+    at : (has_formula (content_of (put_all s w) d) ≡ false) ⊎ (found_value f d ≡ Some v) → IsSettled s kept w d
     at (inl k) = inl k
     at (inr k) = subst (λ (o : Option Value). IfSome o (λ x. IsSettled s kept w d)) k (h.cells d)
 
@@ -92,7 +92,7 @@ done_rests s kept w c t f v is r h e k u a i g =
 
 module _ (s : Sheet) (kept more : ℕ → List Replacement → Bool) (grows : (c : ℕ) (w : List Replacement) → kept c w ≡ true → more c w ≡ true) where
   pub found_more : (w : List Replacement) (t : Tree) (f : Findings) → AreFoundSettled s kept w t f → AreFoundSettled s more w t f
-  found_more w t f h = record { cells = λ d. cell d (cell_found f d) (h.cells d); what_ifs = λ c ps. what c ps (what_if_found f c ps) (h.what_ifs c ps) }
+  found_more w t f h = record { cells = λ d. cell d (found_value f d) (h.cells d); what_ifs = λ c ps. what c ps (what_if_found f c ps) (h.what_ifs c ps) }
     where
       cell : (d : ℕ) (o : Option Value) → IfSome o (λ v. IsSettled s kept w d) → IfSome o (λ v. IsSettled s more w d)
       cell d None k = tt
@@ -117,7 +117,7 @@ module _ (s : Sheet) (kept : ℕ → List Replacement → Bool) (w : List Replac
     what_ifs = λ c ps. subst (λ (o : Option Value). IfSome o (λ x. Contains (what_ifs_of t) (c, ps) × IsWhatIfSettled s kept w (c, ps))) (sym (ap (λ (fs : List FoundWhatIf). first_for fs c ps) more.what_ifs)) (r.what_ifs c ps);
   }
     where
-      at : (c : ℕ) (b : Bool) → (a == c) ≡ b → IfSome (cond b (Some v) (cell_found f c)) (λ x. IsSettled s kept w c)
+      at : (c : ℕ) (b : Bool) → (a == c) ≡ b → IfSome (cond b (Some v) (found_value f c)) (λ x. IsSettled s kept w c)
       at c true h = subst (λ (d : ℕ). IsSettled s kept w d) (same_cell c a h) e
       at c false h = r.cells c
 

@@ -9,7 +9,7 @@ use Rattle.wi_sheet.specs.Inner.Spending.{RestsOn}
 use Rattle.wi_sheet.proofs.Bounds.{put_formula}
 use Rattle.wi_sheet.proofs.Members.{in_contained}
 use Rattle.wi_sheet.proofs.Demands.{rests_reads}
-use Rattle.wi_engine.specs.Inner.Rank.{lengths_below, rank}
+use Rattle.wi_engine.specs.Inner.Rank.{lengths_below, reach_rank}
 
 one_if : (b c : Bool) → (b ≡ true → c ≡ true) → (if b then 1 else 0) ≤ (if c then 1 else 0)
 one_if true true f = omega arith
@@ -30,8 +30,8 @@ no_more : (n : ℕ) (s : Sheet) (c : ℕ) → has_walk n s c ≡ false → lengt
 no_more n s c h = rw h (omega arith)
 
 -- ranks fall from a cell that is not circular to each formula that it reads
-pub rank_falls : (s : Sheet) (c d : ℕ) → content_reads (content_of s c) d ≡ true → circular s c ≡ false → has_formula (content_of s d) ≡ true → rank s d < rank s c
-unfolding rank circular
+pub rank_falls : (s : Sheet) (c d : ℕ) → content_reads (content_of s c) d ≡ true → circular s c ≡ false → has_formula (content_of s d) ≡ true → reach_rank s d < reach_rank s c
+unfolding reach_rank circular
 rank_falls s c d r o f =
     let more = longer (length (cells_with_formula s)) s c d r in
     let same = no_more (length (cells_with_formula s)) s c o in
@@ -49,25 +49,25 @@ few_lengths (suc n) s c =
     omega (arith, one, rest)
 
 -- no rank is greater than the number of formulas
-pub rank_small : (s : Sheet) (c : ℕ) → rank s c ≤ length (cells_with_formula s)
-unfolding rank
+pub rank_small : (s : Sheet) (c : ℕ) → reach_rank s c ≤ length (cells_with_formula s)
+unfolding reach_rank
 rank_small s c = few_lengths (length (cells_with_formula s)) s c
 
 -- and so they do from a case to those on which it rests
-pub rests_rank : (s : Sheet) (k j : Case) → RestsOn s k j → circular s k.0 ≡ false → rank s j.0 < rank s k.0
+pub rests_rank : (s : Sheet) (k j : Case) → RestsOn s k j → circular s k.0 ≡ false → reach_rank s j.0 < reach_rank s k.0
 rests_rank s k j r o = rank_falls s k.0 j.0 (rests_reads s k j r.tree r.is (in_contained (rests_on s k.1 r.tree) j r.asks)) o (put_formula s j.1 j.0 r.formula)
 
 -- ---- how a calculation ends
 
 -- with one less to find, the work that is left falls to that of any cell
 pub measure_falls_at_keep : (s : Sheet) (c d before after : ℕ) → after + 1 ≤ before →
-    after * (length (cells_with_formula s) + 2) + rank s d < before * (length (cells_with_formula s) + 2) + rank s c
+    after * (length (cells_with_formula s) + 2) + reach_rank s d < before * (length (cells_with_formula s) + 2) + reach_rank s c
 measure_falls_at_keep s c d before after h =
     let small = rank_small s d in
     let less : (after + 1) * (length (cells_with_formula s) + 2) ≤ before * (length (cells_with_formula s) + 2) = grind (arith, h) in
     omega (arith, small, less)
 
 -- with as much to find, it falls to that of a cell of lower rank
-pub measure_falls_at_push : (s : Sheet) (c d unfound : ℕ) → rank s d < rank s c →
-    unfound * (length (cells_with_formula s) + 2) + rank s d < unfound * (length (cells_with_formula s) + 2) + rank s c
+pub measure_falls_at_push : (s : Sheet) (c d unfound : ℕ) → reach_rank s d < reach_rank s c →
+    unfound * (length (cells_with_formula s) + 2) + reach_rank s d < unfound * (length (cells_with_formula s) + 2) + reach_rank s c
 measure_falls_at_push s c d unfound h = omega (arith, h)

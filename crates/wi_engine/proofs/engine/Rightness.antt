@@ -9,7 +9,7 @@ use Rattle.wi_values.specs.declared.value.Value.{Value}
 use Rattle.wi_graph.proofs.Walks.{same_cell}
 use Rattle.wi_engine.specs.declared.findings.Findings.{Findings}
 use Rattle.wi_engine.specs.declared.findings.FoundWhatIf.{FoundWhatIf}
-use Rattle.wi_engine.specs.Inner.Findings.{same_pairs, pairs_of, first_for, cell_found, AreAllRight, IsWithCell, IsWithWhatIf}
+use Rattle.wi_engine.specs.Inner.Findings.{same_pairs, pairs_of, first_for, found_value, AreAllRight, IsWithCell, IsWithWhatIf}
 use Rattle.wi_engine.proofs.findings.FoundPairs.{same_lists, first_for-push}
 
 module _ (cells : ℕ → Value) (what_ifs : ℕ → List (ℕ × ℕ) → Value) where
@@ -27,7 +27,7 @@ module _ (cells : ℕ → Value) (what_ifs : ℕ → List (ℕ × ℕ) → Value
     what_ifs = λ c ps. subst (λ (o : Option Value). IfSome o (λ x. x ≡ what_ifs c ps)) (sym (ap (λ (fs : List FoundWhatIf). first_for fs c ps) more.what_ifs)) (r.what_ifs c ps);
   }
     where
-      at : (c : ℕ) (b : Bool) → (a == c) ≡ b → IfSome (cond b (Some v) (cell_found f c)) (λ x. x ≡ cells c)
+      at : (c : ℕ) (b : Bool) → (a == c) ≡ b → IfSome (cond b (Some v) (found_value f c)) (λ x. x ≡ cells c)
       at c true h = e ∙ ap cells (same_cell c a h)
       at c false h = r.cells c
 

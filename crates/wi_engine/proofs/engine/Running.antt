@@ -12,7 +12,7 @@ use Rattle.wi_sheet.specs.Inner.Spending.{CountsAtMost, CountsFound, HasCase, Is
 use Rattle.wi_sheet.proofs.Overrides.{reaching_suffices}
 use Rattle.wi_sheet.proofs.Counting.{one_less_left, never_fall-same, never_fall-then}
 use Rattle.wi_sheet.proofs.Demands.{demand_closed, demand_has_itself}
-use Rattle.wi_engine.specs.Inner.Rank.{rank}
+use Rattle.wi_engine.specs.Inner.Rank.{reach_rank}
 use Rattle.wi_engine.specs.Inner.MemoState.{MemoState, IsTold, IsMemoOf}
 use Rattle.wi_engine.specs.Inner.Frames.{case_at, IsToValue, IsUnvalued, IsFrame, IsNext, IsBegun, IsStack, BottomIs, spare, at_most}
 use Rattle.wi_engine.specs.declared.frame.Frame.{Frame}
@@ -30,7 +30,7 @@ pub record IsRunning (s : Sheet) (old m : MemoState) (root : Case) (start now : 
   pub covers : m.covers ≡ old.covers
   pub generation : m.generation ≡ old.generation
   pub begun : IsBegun s m root f
-  pub stack : IsStack s m root fs (rank s f.key.cell)
+  pub stack : IsStack s m root fs (reach_rank s f.key.cell)
   pub bottom : BottomIs root fs f
   pub counts : NeverFall start now
   pub evaluations : (ks : List Case) → IsClosed s ks → Contains ks root → at_most (λ k. 1) (λ g. 1) m.found (f ∷ fs) now.evaluations ks ≤ start.evaluations + left (λ k. 1) old.found ks
@@ -91,15 +91,15 @@ push_alone : (s : Sheet) (old m : MemoState) (root : Case) (start now next : Cou
 push_alone s old m root start now next fs f h g k i e frame n up ev re new =
     let lower = rests_rank s (case_at f.key) (case_at k) n.rests i.begun.frame.key.open_cell in
     let begun = same_begun s m root f h e frame i.begun in
-    let at_h : IsStack s m root fs (rank s h.key.cell) = rw e i.stack in
-    let below : rank s g.key.cell < rank s h.key.cell = rw (e, new.key) lower in
+    let at_h : IsStack s m root fs (reach_rank s h.key.cell) = rw e i.stack in
+    let below : reach_rank s g.key.cell < reach_rank s h.key.cell = rw (e, new.key) lower in
     let apart = not_taken s m root f fs k i.stack lower n.unfound in
     record {
       memo = i.memo;
       covers = i.covers;
       generation = i.generation;
       begun = begun_next s m root f k g i.begun.demanded n new.key (new_frame s m g k new n.key);
-      stack = push_stack s m root fs h (rank s g.key.cell) at_h begun below;
+      stack = push_stack s m root fs h (reach_rank s g.key.cell) at_h begun below;
       bottom = push_bottom root fs h g (same_bottom root fs f h e i.bottom);
       counts = never_fall-then start now next i.counts up;
       evaluations = λ ks closed top.
@@ -116,7 +116,7 @@ run_push s old m n root start now next fs gs f h g k i en e frame x up ev re new
     subst (λ (xs : List Frame). IsRunning s old n root start next xs g) (sym eg) (subst (λ (y : MemoState). IsRunning s old y root start next (fs ++ h ∷ []) g) (sym en) (push_alone s old m root start now next fs f h g k i e frame x up ev re new))
 
 pub push_smaller : (s : Sheet) (old m n : MemoState) (root : Case) (start now : Counts) (fs : List Frame) (f g : Frame) (k : Key) → IsRunning s old m root start now fs f → n ≡ m → IsNext s m f.key k → g.key ≡ k →
-    left (λ j. 1) n.found (demand s root) * (length (cells_with_formula s) + 2) + rank s g.key.cell < left (λ j. 1) m.found (demand s root) * (length (cells_with_formula s) + 2) + rank s f.key.cell
+    left (λ j. 1) n.found (demand s root) * (length (cells_with_formula s) + 2) + reach_rank s g.key.cell < left (λ j. 1) m.found (demand s root) * (length (cells_with_formula s) + 2) + reach_rank s f.key.cell
 push_smaller s old m n root start now fs f g k i en x e =
     let lower = rests_rank s (case_at f.key) (case_at k) x.rests i.begun.frame.key.open_cell in
     rw (en, e) (measure_falls_at_push s f.key.cell k.cell (left (λ j. 1) m.found (demand s root)) lower)
@@ -133,7 +133,7 @@ pop_alone : (s : Sheet) (old m n : MemoState) (root : Case) (start now next : Co
     v ≡ cell_value (put_all s f.key.world) f.key.cell → NeverFall now next → next.evaluations ≤ now.evaluations + 1 → next.restarts ≤ now.restarts + spare s f → IsRunning s old n root start next fs b
 pop_alone s old m n root start now next fs f b v i keeps finds is up ev re =
     let stack = found_stack s m n f.key root (fs ++ b ∷ []) keeps.covers keeps.generation finds i.stack in
-    let below = pop_stack s n root fs b (rank s f.key.cell) stack in
+    let below = pop_stack s n root fs b (reach_rank s f.key.cell) stack in
     record {
       memo = run_keeps s m n f.key f.key v i.memo keeps refl is;
       covers = keeps.covers ∙ i.covers;
@@ -157,7 +157,7 @@ run_pop s old m a n root start now next fs gs f b k v i ea eg ek keeps finds is 
 
 pub pop_smaller : (s : Sheet) (old m a n : MemoState) (root : Case) (start now : Counts) (fs : List Frame) (f b : Frame) (k : Key) → IsRunning s old m root start now fs f → a ≡ m → k ≡ f.key → Finds a n k →
     circular s root.0 ≡ false → has_formula (content_of (put_all s root.1) root.0) ≡ true →
-    left (λ j. 1) n.found (demand s root) * (length (cells_with_formula s) + 2) + rank s b.key.cell < left (λ j. 1) m.found (demand s root) * (length (cells_with_formula s) + 2) + rank s f.key.cell
+    left (λ j. 1) n.found (demand s root) * (length (cells_with_formula s) + 2) + reach_rank s b.key.cell < left (λ j. 1) m.found (demand s root) * (length (cells_with_formula s) + 2) + reach_rank s f.key.cell
 pop_smaller s old m a n root start now fs f b k i ea ek finds o form =
     let here : Finds m n f.key = subst (λ (x : MemoState). Finds x n f.key) ea (finds_key a n k f.key ek finds) in
     let top = i.begun.demanded (demand s root) (demand_closed s root) (demand_has_itself s root o form) in

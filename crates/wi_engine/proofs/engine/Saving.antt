@@ -14,7 +14,7 @@ use Rattle.wi_sheet.proofs.Cases.{same_case-refl}
 use Rattle.wi_sheet.proofs.Counting.{one_less_left}
 use Rattle.wi_engine.specs.Inner.MemoState.{MemoState, IsTold, IsMemoOf}
 use Rattle.wi_engine.specs.Inner.Frames.{case_at, IsToValue, IsUnvalued, IsFrame, IsNext, spare}
-use Rattle.wi_engine.specs.Inner.Saving.{unkept, KeepsFound, WhereRoom, Saves, SavesAll, TakesNoMore, CountsUnkept, NeedsNoEvaluation, IsValuedAnew}
+use Rattle.wi_engine.specs.Inner.Saving.{not_kept, KeepsFound, WhereRoom, Saves, SavesAll, TakesNoMore, CountsUnkept, NeedsNoEvaluation, IsValuedAnew}
 use Rattle.wi_engine.specs.Inner.SettledFrames.{IsFrameSettled}
 use Rattle.wi_engine.specs.declared.frame.Frame.{Frame}
 use Rattle.wi_engine.proofs.engine.Settling.{one_more_at_most}
@@ -64,7 +64,7 @@ pub record IsSaving (s : Sheet) (old m : MemoState) (root : Case) (start now : C
   pub running : IsRunning s (by_kept old) (by_kept m) root start now fs f
   pub whole : KeepsFound m
   pub added : now.evaluations + m.room ≤ start.evaluations + old.room
-  pub room : unkept m ks ≤ m.room
+  pub room : not_kept m ks ≤ m.room
   pub stays : (c : ℕ) (w : List Replacement) → old.kept c w ≡ true → m.kept c w ≡ true
   pub settling : IsSettling s old m fs f
 
@@ -84,9 +84,9 @@ pub record IsGoing (s : Sheet) (old m : MemoState) (root : Case) (start now : Co
   pub places : TakesNoMore old m start.evaluations now.evaluations
   pub capacity : m.capacity ≡ old.capacity
   pub latest : m.latest ≡ old.latest
-  pub saving : (ks : List Case) → IsClosed s ks → Contains ks root → KeepsFound old → unkept old ks ≤ old.room → IsSaving s old m root start now fs f ks
+  pub saving : (ks : List Case) → IsClosed s ks → Contains ks root → KeepsFound old → not_kept old ks ≤ old.room → IsSaving s old m root start now fs f ks
 
-pub saving_start : (s : Sheet) (m : MemoState) (k : Key) (fs : List Frame) (f : Frame) (now : Counts) (ks : List Case) → IsMemoOf s m → IsToValue s m k → m.kept k.cell k.world ≡ false → IsNew f k → fs ≡ [] → KeepsFound m → unkept m ks ≤ m.room →
+pub saving_start : (s : Sheet) (m : MemoState) (k : Key) (fs : List Frame) (f : Frame) (now : Counts) (ks : List Case) → IsMemoOf s m → IsToValue s m k → m.kept k.cell k.world ≡ false → IsNew f k → fs ≡ [] → KeepsFound m → not_kept m ks ≤ m.room →
     IsSaving s m m (case_at k) now now fs f ks
 saving_start s m k fs f now ks h key u n e w r = record {
   running = run_start s (by_kept m) k fs f now (kept_memory_of s m h w) (kept_to_value s m k key) u n e;
@@ -124,7 +124,7 @@ whole_after m n k f g h c w i = g c w ∙ at (or_cases (m.found c w) (same_case 
 
 -- where there is room for what is left, one value that is not kept yet takes one place of it
 pub saved_one : (s : Sheet) (old m : MemoState) (root : Case) (start now : Counts) (fs : List Frame) (f : Frame) (ks : List Case) (n : MemoState) → IsClosed s ks → Contains ks root → IsSaving s old m root start now fs f ks → Takes m n f.key → Finds m n f.key →
-    ((c : ℕ) (w : List Replacement) → n.kept c w ≡ (m.kept c w || same_case (case_at f.key) (c, w))) × (n.room + 1 ≡ m.room) × (unkept n ks ≤ n.room) × KeepsFound n
+    ((c : ℕ) (w : List Replacement) → n.kept c w ≡ (m.kept c w || same_case (case_at f.key) (c, w))) × (n.room + 1 ≡ m.room) × (not_kept n ks ≤ n.room) × KeepsFound n
 saved_one s old m root start now fs f ks n closed top i t finds =
     let there = i.running.begun.demanded ks closed top in
     let apart = i.running.begun.unfound in

@@ -24,7 +24,7 @@ use Rattle.wi_sheet.proofs.Overrides.{with_what_if_value}
 use Rattle.wi_sheet.proofs.Asked.{asked_cell}
 use Rattle.wi_engine.specs.Inner.MemoState.{MemoState, IsMemoOf}
 use Rattle.wi_engine.specs.Inner.Attempt.{AsksAt, IsLacking, lacks_cell}
-use Rattle.wi_engine.specs.Inner.Findings.{IsWithCell, IsWithWhatIf, pairs_of, cell_found}
+use Rattle.wi_engine.specs.Inner.Findings.{IsWithCell, IsWithWhatIf, pairs_of, found_value}
 use Rattle.wi_engine.specs.Inner.Frames.{case_at, content_reads_here, MayBeRead, IsToValue, IsUnvalued, IsNext, IsFrame, AreReadHere, Awaits, lacks, spare, waits}
 use Rattle.wi_engine.specs.declared.findings.Findings.{Findings}
 use Rattle.wi_engine.specs.declared.findings.FoundWhatIf.{FoundWhatIf}
@@ -161,6 +161,6 @@ lacked_next s w f g a next v all others rest k before passed d i l = at (a == d)
     left (inl m) n = passed d m l
     left (inr e) n = absurd (let z = sym (eq-eqb a d (sym e)) ∙ n in cc)
 
-    at : (b : Bool) → (a == d) ≡ b → cell_found g d ≡ (if b then Some v else cell_found f d) → (is_one_of rest d ≡ true) ⊎ (d ≡ next)
+    at : (b : Bool) → (a == d) ≡ b → found_value g d ≡ (if b then Some v else found_value f d) → (is_one_of rest d ≡ true) ⊎ (d ≡ next)
     at true n e = absurd (found formula (sym (ap (λ (o : Option Value). formula && is_none o) e) ∙ l))
     at false n e = left (before d i (sym (ap (λ (o : Option Value). formula && is_none o) e) ∙ l)) n

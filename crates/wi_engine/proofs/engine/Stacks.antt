@@ -9,34 +9,34 @@ use Rattle.wi_parser.specs.Sheet.{Sheet, put_all}
 use Rattle.wi_cache.specs.declared.key.Key.{Key}
 use Rattle.wi_sheet.specs.CellValue.{cell_value}
 use Rattle.wi_sheet.specs.Demand.{Case, same_case}
-use Rattle.wi_engine.specs.Inner.Rank.{rank}
+use Rattle.wi_engine.specs.Inner.Rank.{reach_rank}
 use Rattle.wi_engine.specs.Inner.MemoState.{MemoState, IsTold, IsMemoOf, AreKnownRight, IsClosedUnderReads}
 use Rattle.wi_engine.specs.Inner.Frames.{case_at, IsFrame, IsBegun, IsNext, IsDemanded, AreBelow, IsStack, BottomIs}
 use Rattle.wi_engine.specs.declared.frame.Frame.{Frame}
 
 -- ---- ranks fall from the bottom to the top
 
-below_push : (s : Sheet) (fs : List Frame) (g : Frame) (n : ℕ) → AreBelow s fs n → rank s g.key.cell < n → AreBelow s (fs ++ g ∷ []) n
+below_push : (s : Sheet) (fs : List Frame) (g : Frame) (n : ℕ) → AreBelow s fs n → reach_rank s g.key.cell < n → AreBelow s (fs ++ g ∷ []) n
 below_push s [] g n h k = (k, tt)
 below_push s (f ∷ fs) g n h k = (h.0, below_push s fs g n h.1 k)
 
-below_front : (s : Sheet) (fs : List Frame) (g : Frame) (n : ℕ) → AreBelow s (fs ++ g ∷ []) n → (rank s g.key.cell < n) × AreBelow s fs n
+below_front : (s : Sheet) (fs : List Frame) (g : Frame) (n : ℕ) → AreBelow s (fs ++ g ∷ []) n → (reach_rank s g.key.cell < n) × AreBelow s fs n
 below_front s [] g n h = (h.0, tt)
 below_front s (f ∷ fs) g n h =
     let k = below_front s fs g n h.1 in
     (k.0, (h.0, k.1))
 
-pub push_stack : (s : Sheet) (m : MemoState) (root : Case) (fs : List Frame) (g : Frame) (r : ℕ) → IsStack s m root fs (rank s g.key.cell) → IsBegun s m root g → r < rank s g.key.cell → IsStack s m root (fs ++ g ∷ []) r
+pub push_stack : (s : Sheet) (m : MemoState) (root : Case) (fs : List Frame) (g : Frame) (r : ℕ) → IsStack s m root fs (reach_rank s g.key.cell) → IsBegun s m root g → r < reach_rank s g.key.cell → IsStack s m root (fs ++ g ∷ []) r
 push_stack s m root [] g r st b h = (b, h, tt, tt)
 push_stack s m root (f ∷ fs) g r st b h =
-    let lower : r < rank s f.key.cell = omega (arith, st.1, h) in
-    (st.0, lower, below_push s fs g (rank s f.key.cell) st.2 st.1, push_stack s m root fs g r st.3 b h)
+    let lower : r < reach_rank s f.key.cell = omega (arith, st.1, h) in
+    (st.0, lower, below_push s fs g (reach_rank s f.key.cell) st.2 st.1, push_stack s m root fs g r st.3 b h)
 
-pub pop_stack : (s : Sheet) (m : MemoState) (root : Case) (fs : List Frame) (g : Frame) (r : ℕ) → IsStack s m root (fs ++ g ∷ []) r → IsBegun s m root g × IsStack s m root fs (rank s g.key.cell)
+pub pop_stack : (s : Sheet) (m : MemoState) (root : Case) (fs : List Frame) (g : Frame) (r : ℕ) → IsStack s m root (fs ++ g ∷ []) r → IsBegun s m root g × IsStack s m root fs (reach_rank s g.key.cell)
 pop_stack s m root [] g r st = (st.0, tt)
 pop_stack s m root (f ∷ fs) g r st =
     let k = pop_stack s m root fs g r st.3 in
-    let b = below_front s fs g (rank s f.key.cell) st.2 in
+    let b = below_front s fs g (reach_rank s f.key.cell) st.2 in
     (k.0, (st.0, b.0, b.1, k.1))
 
 pub push_bottom : (root : Case) (fs : List Frame) (f g : Frame) → BottomIs root fs f → BottomIs root (fs ++ f ∷ []) g
@@ -72,10 +72,10 @@ same_frame s m n f ec eg h = record {
 
 -- what is found next is none of the frames below
 pub found_stack : (s : Sheet) (m n : MemoState) (k : Key) (root : Case) (fs : List Frame) → n.covers ≡ m.covers → n.generation ≡ m.generation →
-    ((c : ℕ) (w : List Replacement) → n.found c w ≡ (m.found c w || same_case (case_at k) (c, w))) → IsStack s m root fs (rank s k.cell) → IsStack s n root fs (rank s k.cell)
+    ((c : ℕ) (w : List Replacement) → n.found c w ≡ (m.found c w || same_case (case_at k) (c, w))) → IsStack s m root fs (reach_rank s k.cell) → IsStack s n root fs (reach_rank s k.cell)
 found_stack s m n k root [] ec eg e st = tt
 found_stack s m n k root (f ∷ fs) ec eg e st =
-    let apart : k.cell ≡ f.key.cell → ⊥ = λ (h : k.cell ≡ f.key.cell). (let y = ap (rank s) h in absurd (omega (arith, y, st.1))) in
+    let apart : k.cell ≡ f.key.cell → ⊥ = λ (h : k.cell ≡ f.key.cell). (let y = ap (reach_rank s) h in absurd (omega (arith, y, st.1))) in
     let other = other_case k.cell f.key.cell (same_replacements k.world f.key.world) apart in (
       record {
         frame = same_frame s m n f ec eg st.0.frame;

@@ -15,7 +15,7 @@ use Rattle.wi_graph.proofs.Walks.{same_cell}
 use Rattle.wi_sheet.specs.CellValue.{cell_value}
 use Rattle.wi_engine.specs.Inner.MemoState.{IsClosedUnderReads, IsTold, IsMemoOf}
 use Rattle.wi_engine.specs.Inner.ReadOrder.{IsReadOrder}
-use Rattle.wi_engine.specs.Inner.Remembered.{OneQuestion, key_of, state_of, remembered}
+use Rattle.wi_engine.specs.Inner.Remembered.{OneQuestion, key_of, question_state, remembered}
 
 -- a list, cut before one of its cells
 cut_before : (xs : List ℕ) (c : ℕ) → is_one_of xs c ≡ true → (front back : List ℕ) × (xs ≡ front ++ c ∷ back)
@@ -34,11 +34,11 @@ closed_order s order o c d m r f =
     ap (λ (xs : List ℕ). is_one_of xs d) k.2 ∙ list_any-append (λ (x : ℕ). x == d) k.0 (c ∷ k.1) ∙ or_left (is_one_of k.0 d) _ before
 
 -- all that is remembered was found
-pub all_found : (q : OneQuestion) → IsTold (state_of q)
+pub all_found : (q : OneQuestion) → IsTold (question_state q)
 all_found q c w = sym (or-false (is_some (value_for q.values (key_of c w))))
 
 -- nothing is remembered yet
-pub no_values : (s : Sheet) (order : List ℕ) (values : Entries) → IsReadOrder s order → values ≡ [] → IsMemoOf s (state_of (remembered s order values))
+pub no_values : (s : Sheet) (order : List ℕ) (values : Entries) → IsReadOrder s order → values ≡ [] → IsMemoOf s (question_state (remembered s order values))
 no_values s order values o e = record {
   sheet = refl;
   right = λ c w. subst (λ (es : Entries). IfSome (value_for es (key_of c w)) (λ v. v ≡ cell_value (put_all s w) c)) (sym e) tt;

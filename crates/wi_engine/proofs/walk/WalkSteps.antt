@@ -15,7 +15,7 @@ use Rattle.wi_graph.proofs.Ends.{ends_open}
 use Rattle.wi_values.proofs.Order.{turn_test, is_at-eq}
 use Rattle.wi_engine.specs.Inner.ReadCells.{rectangles_in, occupied_within}
 use Rattle.wi_engine.specs.Inner.ReadOrder.{MayFollow}
-use Rattle.wi_engine.specs.Inner.Walk.{Task, Enter, Leave, enters, cell_of, leaves, has_task, has_leave, LeadsTo, IsOpen, EachLeave, progress_of, IsWalk, IsBelow}
+use Rattle.wi_engine.specs.Inner.Walk.{Task, Enter, Leave, enters, task_cell, leaves, has_task, has_leave, LeadsTo, IsOpen, EachLeave, progress_of, IsWalk, IsBelow}
 use Rattle.wi_engine.specs.declared.walk.Progress.{Progress}
 use Rattle.wi_engine.specs.declared.walk.Progress.TheVariants.{Open, Done}
 use Rattle.wi_engine.proofs.walk.Loops.{loop_circular, reaches_circular, reaches-step}
@@ -25,27 +25,27 @@ use Rattle.wi_engine.proofs.walk.ReadOrders.{order-push, order_clear, no_order}
 -- ---- tasks one after another
 
 task_split : (xs ys : List Task) (d : ℕ) → has_task (xs ++ ys) d ≡ true → (has_task xs d ≡ true) ⊎ (has_task ys d ≡ true)
-task_split xs ys d h = or_cases (has_task xs d) (has_task ys d) (sym (list_any-append (λ (t : Task). cell_of t == d) xs ys) ∙ h)
+task_split xs ys d h = or_cases (has_task xs d) (has_task ys d) (sym (list_any-append (λ (t : Task). task_cell t == d) xs ys) ∙ h)
 
 task_front : (xs ys : List Task) (d : ℕ) → has_task xs d ≡ true → has_task (xs ++ ys) d ≡ true
-task_front xs ys d h = list_any-append (λ (t : Task). cell_of t == d) xs ys ∙ or_left (has_task xs d) (has_task ys d) h
+task_front xs ys d h = list_any-append (λ (t : Task). task_cell t == d) xs ys ∙ or_left (has_task xs d) (has_task ys d) h
 
 task_back : (xs ys : List Task) (d : ℕ) → has_task ys d ≡ true → has_task (xs ++ ys) d ≡ true
-task_back xs ys d h = list_any-append (λ (t : Task). cell_of t == d) xs ys ∙ or_right (has_task xs d) (has_task ys d) h
+task_back xs ys d h = list_any-append (λ (t : Task). task_cell t == d) xs ys ∙ or_right (has_task xs d) (has_task ys d) h
 
 leave_parts : (xs ys : List Task) (d : ℕ) → has_leave (xs ++ ys) d ≡ (has_leave xs d || has_leave ys d)
 leave_parts xs ys d = list_any-append (λ (t : Task). leaves t d) xs ys
 
 -- the one task that is of this cell
-of_one : (t : Task) (d : ℕ) → has_task (t ∷ []) d ≡ true → cell_of t ≡ d
-of_one t d h = at (or_cases (cell_of t == d) false h)
+of_one : (t : Task) (d : ℕ) → has_task (t ∷ []) d ≡ true → task_cell t ≡ d
+of_one t d h = at (or_cases (task_cell t == d) false h)
   where
-    at : ((cell_of t == d) ≡ true) ⊎ (false ≡ true) → cell_of t ≡ d
-    at (inl k) = same_cell d (cell_of t) k
+    at : ((task_cell t == d) ≡ true) ⊎ (false ≡ true) → task_cell t ≡ d
+    at (inl k) = same_cell d (task_cell t) k
     at (inr k) = cc
 
-is_of_one : (t : Task) → has_task (t ∷ []) (cell_of t) ≡ true
-is_of_one t = or_left (cell_of t == cell_of t) false (eq-eqb (cell_of t) (cell_of t) refl)
+is_of_one : (t : Task) → has_task (t ∷ []) (task_cell t) ≡ true
+is_of_one t = or_left (task_cell t == task_cell t) false (eq-eqb (task_cell t) (task_cell t) refl)
 
 -- what holds of the last cell that is to be left
 last_leave : (P : ℕ → List Task → Type 0) (c : ℕ) (ts : List Task) → EachLeave P (ts ++ Leave c ∷ []) → P c []
@@ -221,7 +221,7 @@ other_way false false = refl
 entered_task : (cells : List ℕ) (d : ℕ) → has_task (enters cells) d ≡ is_one_of cells d
 entered_task [] d = refl
 entered_task (c ∷ cs) d =
-    list_any-append (λ (t : Task). cell_of t == d) (enters cs) (Enter c ∷ []) ∙ other_way (has_task (enters cs) d) (c == d) ∙ ap (λ (b : Bool). (c == d) || b) (entered_task cs d)
+    list_any-append (λ (t : Task). task_cell t == d) (enters cs) (Enter c ∷ []) ∙ other_way (has_task (enters cs) d) (c == d) ∙ ap (λ (b : Bool). (c == d) || b) (entered_task cs d)
 
 entered_leave : (cells : List ℕ) (d : ℕ) → has_leave (enters cells) d ≡ false
 entered_leave [] d = refl

@@ -16,7 +16,7 @@ use Rattle.wi_functions.specs.Wants.{Asks}
 use Rattle.wi_functions.specs.declared.evaluation.Want.{Want}
 use Rattle.wi_functions.specs.declared.evaluation.Want.TheVariants.{Cell, WhatIf}
 use Rattle.wi_sheet.specs.Demand.{formulas_read_here, what_ifs_of}
-use Rattle.wi_engine.specs.Inner.Findings.{cell_found, what_if_found}
+use Rattle.wi_engine.specs.Inner.Findings.{found_value, what_if_found}
 use Rattle.wi_engine.specs.declared.findings.Findings.{Findings}
 
 -- what is known of a cell with this content, of which this was found
@@ -27,7 +27,7 @@ known_in (Some (Formula t)) found = found
 
 -- what is known of a cell under replacements
 abbrev pub cell_known : Sheet → List Replacement → Findings → ℕ → Option Value
-cell_known s w f c = known_in (content_of (put_all s w) c) (cell_found f c)
+cell_known s w f c = known_in (content_of (put_all s w) c) (found_value f c)
 
 -- the formula that stands in a cell under replacements asks for this
 pub record AsksAt (s : Sheet) (w : List Replacement) (c : ℕ) (want : Want) : Type 0 where
@@ -37,18 +37,18 @@ pub record AsksAt (s : Sheet) (w : List Replacement) (c : ℕ) (want : Want) : T
 
 -- a value that was not found: of a cell that has a formula under replacements, or of a what-if
 abbrev pub IsLacking : Sheet → List Replacement → Findings → Want → Type 0
-IsLacking s w f (Cell a) = (has_formula (content_of (put_all s w) a) ≡ true) × (cell_found f a ≡ None)
+IsLacking s w f (Cell a) = (has_formula (content_of (put_all s w) a) ≡ true) × (found_value f a ≡ None)
 IsLacking s w f (WhatIf c pairs) = what_if_found f c (map addresses (map pair_of pairs.items)) ≡ None
 
 -- a cell has a formula under replacements, and its value was not found: as a test
 abbrev pub lacks_cell : Sheet → List Replacement → Findings → ℕ → Bool
-lacks_cell s w f a = has_formula (content_of (put_all s w) a) && is_none (cell_found f a)
+lacks_cell s w f a = has_formula (content_of (put_all s w) a) && is_none (found_value f a)
 
 -- how many of the values on which a tree's value rests were not found: of cells with a formula that it reads as the sheet
 -- stands, and of what-ifs
 abbrev pub lacking : Sheet → Tree → Findings → ℕ
 lacking s t f =
-    length (filter (λ c. is_none (cell_found f c)) (formulas_read_here s t))
+    length (filter (λ c. is_none (found_value f c)) (formulas_read_here s t))
     + length (filter (λ x. is_none (what_if_found f x.0 x.1)) (what_ifs_of t))
 
 -- the rectangle is one of these, it holds the cell, and none of these that holds it has fewer cells

@@ -26,8 +26,8 @@ first_for [] c pairs = None
 first_for (f ∷ fs) c pairs = if f.at == c && same_pairs (pairs_of f) pairs then Some f.value else first_for fs c pairs
 
 -- the value found of a cell
-abbrev pub cell_found : Findings → ℕ → Option Value
-cell_found f c = get nat_cmp f.cells c
+abbrev pub found_value : Findings → ℕ → Option Value
+found_value f c = get nat_cmp f.cells c
 
 -- the value found of a what-if
 abbrev pub what_if_found : Findings → ℕ → List (ℕ × ℕ) → Option Value
@@ -35,16 +35,16 @@ what_if_found f = first_for f.what_ifs.items
 
 -- each value found of a cell, and each of a what-if, is so
 abbrev pub AreAllRight : (ℕ → Value) → (ℕ → List (ℕ × ℕ) → Value) → Findings → Type 0
-AreAllRight cells what_ifs f = AgreesWith (cell_found f) (what_if_found f) (record { cells = cells; what_ifs = what_ifs })
+AreAllRight cells what_ifs f = AgreesWith (found_value f) (what_if_found f) (record { cells = cells; what_ifs = what_ifs })
 
 -- the second is the first with a cell's value, which stands in the place of an earlier one
 pub record IsWithCell (f g : Findings) (a : ℕ) (v : Value) : Type 0 where
-  pub cells : (c : ℕ) → cell_found g c ≡ (if a == c then Some v else cell_found f c)
+  pub cells : (c : ℕ) → found_value g c ≡ (if a == c then Some v else found_value f c)
   pub what_ifs : g.what_ifs.items ≡ f.what_ifs.items
 
 -- the second is the first with a what-if's value behind the others
 pub record IsWithWhatIf (f g : Findings) (x : FoundWhatIf) : Type 0 where
-  pub cells : (c : ℕ) → cell_found g c ≡ cell_found f c
+  pub cells : (c : ℕ) → found_value g c ≡ found_value f c
   pub what_ifs : g.what_ifs.items ≡ f.what_ifs.items ++ x ∷ []
 
 -- both have the same values

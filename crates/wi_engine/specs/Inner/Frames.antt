@@ -10,7 +10,7 @@ use Rattle.wi_graph.specs.Reach.{is_one_of}
 use Rattle.wi_sheet.specs.CellValue.{cell_value, what_if_value}
 use Rattle.wi_sheet.specs.Demand.{Case, same_case, reaching, reads_here, of_formula}
 use Rattle.wi_sheet.specs.Inner.Spending.{RestsOn, IsClosed, left}
-use Rattle.wi_engine.specs.Inner.Rank.{rank}
+use Rattle.wi_engine.specs.Inner.Rank.{reach_rank}
 use Rattle.wi_engine.specs.Inner.MemoState.{MemoState}
 use Rattle.wi_engine.specs.Inner.Findings.{AreAllRight}
 use Rattle.wi_engine.specs.Inner.Attempt.{AsksAt, IsLacking, lacking}
@@ -103,12 +103,12 @@ pub record IsBegun (s : Sheet) (m : MemoState) (root : Case) (f : Frame) : Type 
 -- the ranks of these are below a number
 abbrev pub AreBelow : Sheet → List Frame → ℕ → Type 0
 AreBelow s [] n = Unit {0}
-AreBelow s (f ∷ fs) n = (rank s f.key.cell < n) × AreBelow s fs n
+AreBelow s (f ∷ fs) n = (reach_rank s f.key.cell < n) × AreBelow s fs n
 
 -- the frames below one of rank r, the lowest first: ranks fall from each to those above it
 abbrev pub IsStack : Sheet → MemoState → Case → List Frame → ℕ → Type 0
 IsStack s m root [] r = Unit {0}
-IsStack s m root (f ∷ fs) r = IsBegun s m root f × (r < rank s f.key.cell) × AreBelow s fs (rank s f.key.cell) × IsStack s m root fs r
+IsStack s m root (f ∷ fs) r = IsBegun s m root f × (r < reach_rank s f.key.cell) × AreBelow s fs (reach_rank s f.key.cell) × IsStack s m root fs r
 
 -- the lowest frame is the root's
 abbrev pub BottomIs : Case → List Frame → Frame → Type 0

@@ -10,5 +10,5 @@ lengths_below (suc n) s c = (if has_walk n s c then 1 else 0) + lengths_below n 
 
 -- A cell's rank: how many lengths there are of walks from it, below the number of formulas. From a cell that is not
 -- circular it falls to each formula that the cell reads, so no calculation goes deeper than this.
-unfoldable pub rank : Sheet → ℕ → ℕ
-rank s c = lengths_below (length (cells_with_formula s)) s c
+unfoldable pub reach_rank : Sheet → ℕ → ℕ
+reach_rank s c = lengths_below (length (cells_with_formula s)) s c

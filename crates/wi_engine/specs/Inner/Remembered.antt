@@ -23,8 +23,8 @@ remembered s cells values = record { sheet = s; cells = cells; values = values }
 abbrev pub key_of : ℕ → List Replacement → Key
 key_of c w = record { cell = c; generation = 0; world = w }
 
-abbrev pub state_of : OneQuestion → MemoState
-state_of q = record {
+abbrev pub question_state : OneQuestion → MemoState
+question_state q = record {
   sheet = q.sheet;
   covers = is_one_of q.cells;
   generation = λ c. 0;

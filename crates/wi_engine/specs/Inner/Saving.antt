@@ -8,8 +8,8 @@ use Rattle.wi_sheet.specs.Inner.Spending.{IsClosed, left}
 use Rattle.wi_engine.specs.Inner.MemoState.{MemoState}
 
 -- how many of these cases are not kept
-abbrev pub unkept : MemoState → List Case → ℕ
-unkept m ks = left (λ k. 1) m.kept ks
+abbrev pub not_kept : MemoState → List Case → ℕ
+not_kept m ks = left (λ k. 1) m.kept ks
 
 -- all that was found is kept
 abbrev pub KeepsFound : MemoState → Type 0
@@ -18,18 +18,18 @@ KeepsFound m = (c : ℕ) (w : List Replacement) → m.found c w ≡ true → m.k
 -- This holds of each closed list of cases that has what it is to have, where all that was found is kept and there is room
 -- for those of the list that are not.
 abbrev pub WhereRoom : Sheet → (List Case → Type 0) → MemoState → (List Case → Type 0) → Type 0
-WhereRoom s Has m P = (ks : List Case) → IsClosed s ks → Has ks → KeepsFound m → unkept m ks ≤ m.room → P ks
+WhereRoom s Has m P = (ks : List Case) → IsClosed s ks → Has ks → KeepsFound m → not_kept m ks ≤ m.room → P ks
 
 -- for each such list no more was counted than its cases that were not kept
 abbrev pub CountsUnkept : Sheet → (List Case → Type 0) → MemoState → ℕ → ℕ → Type 0
-CountsUnkept s Has old before after = WhereRoom s Has old (λ ks. after ≤ before + unkept old ks)
+CountsUnkept s Has old before after = WhereRoom s Has old (λ ks. after ≤ before + not_kept old ks)
 
 -- No more was counted than those of the cases that came to be kept, and as many values came to be kept as were counted. There
 -- is still room for the other cases, nothing was given up, and each that came rests on kept ones.
 pub record Saves (s : Sheet) (old new : MemoState) (ks : List Case) (before after : ℕ) : Type 0 where
-  pub counted : after + unkept new ks ≤ before + unkept old ks
+  pub counted : after + not_kept new ks ≤ before + not_kept old ks
   pub added : after + new.room ≤ before + old.room
-  pub room : unkept new ks ≤ new.room
+  pub room : not_kept new ks ≤ new.room
   pub stays : (c : ℕ) (w : List Replacement) → old.kept c w ≡ true → new.kept c w ≡ true
   pub found : KeepsFound new
   pub rests : (c : ℕ) (w : List Replacement) → new.kept c w ≡ true → old.kept c w ≡ false → RestsOnKept s new.kept (c, w)

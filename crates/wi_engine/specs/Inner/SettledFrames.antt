@@ -10,13 +10,13 @@ use Rattle.wi_functions.specs.Meaning.{meaning, zero_for_empty}
 use Rattle.wi_sheet.specs.Demand.{what_ifs_of}
 use Rattle.wi_sheet.specs.Settled.{IsSettled, IsWhatIfSettled}
 use Rattle.wi_engine.specs.Inner.Attempt.{cell_known}
-use Rattle.wi_engine.specs.Inner.Findings.{cell_found, what_if_found}
+use Rattle.wi_engine.specs.Inner.Findings.{found_value, what_if_found}
 use Rattle.wi_engine.specs.declared.findings.Findings.{Findings}
 use Rattle.wi_engine.specs.declared.frame.Frame.{Frame}
 
 -- what was found for a formula is of settled cells and of its settled what-ifs
 pub record AreFoundSettled (s : Sheet) (kept : ℕ → List Replacement → Bool) (w : List Replacement) (t : Tree) (f : Findings) : Type 0 where
-  pub cells : (c : ℕ) → IfSome (cell_found f c) (λ v. IsSettled s kept w c)
+  pub cells : (c : ℕ) → IfSome (found_value f c) (λ v. IsSettled s kept w c)
   pub what_ifs : (c : ℕ) (pairs : List (ℕ × ℕ)) → IfSome (what_if_found f c pairs) (λ v. Contains (what_ifs_of t) (c, pairs) × IsWhatIfSettled s kept w (c, pairs))
 
 -- what was found for a frame is settled

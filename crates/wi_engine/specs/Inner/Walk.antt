@@ -19,9 +19,9 @@ pub data Task : Type 0 where
   Enter : ℕ → Task
   Leave : ℕ → Task
 
-abbrev pub cell_of : Task → ℕ
-cell_of (Enter c) = c
-cell_of (Leave c) = c
+abbrev pub task_cell : Task → ℕ
+task_cell (Enter c) = c
+task_cell (Leave c) = c
 
 abbrev pub leaves : Task → ℕ → Bool
 leaves (Enter c) a = false
@@ -29,7 +29,7 @@ leaves (Leave c) a = c == a
 
 -- one of the tasks is one of this cell
 abbrev pub has_task : List Task → ℕ → Bool
-has_task ts a = list_any (λ t. cell_of t == a) ts
+has_task ts a = list_any (λ t. task_cell t == a) ts
 
 -- one of the tasks is to leave this cell
 abbrev pub has_leave : List Task → ℕ → Bool

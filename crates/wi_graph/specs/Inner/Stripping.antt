@@ -9,9 +9,9 @@ use Rattle.wi_values.specs.Address.{Area, is_within}
 use Rattle.wi_graph.specs.Reach.{is_one_of}
 
 -- what is there, or nothing
-abbrev pub listed : {X : Type 0} → Option (Vec X) → List X
-listed None = []
-listed (Some v) = v.items
+abbrev pub items_there : {X : Type 0} → Option (Vec X) → List X
+items_there None = []
+items_there (Some v) = v.items
 
 -- the cell is in one of the rectangles
 abbrev pub is_in : List Area → ℕ → Bool
@@ -19,7 +19,7 @@ is_in areas d = list_any (λ r. is_within r d) areas
 
 -- the formula of c reads d
 abbrev pub reads_in : BTreeMap ℕ (Vec Area) → ℕ → ℕ → Bool
-reads_in areas c d = is_in (listed (get nat_cmp areas c)) d
+reads_in areas c d = is_in (items_there (get nat_cmp areas c)) d
 
 -- each formula reads the same cells of the set
 abbrev pub KeepsReads : BTreeSet ℕ → BTreeMap ℕ (Vec Area) → BTreeMap ℕ (Vec Area) → Type 0
@@ -27,7 +27,7 @@ KeepsReads rest old new = (c d : ℕ) → contains nat_cmp rest d ≡ true → r
 
 -- the cells that wait for d
 abbrev pub waiting_for : BTreeMap ℕ (Vec ℕ) → ℕ → List ℕ
-waiting_for waiting d = listed (get nat_cmp waiting d)
+waiting_for waiting d = items_there (get nat_cmp waiting d)
 
 -- c waits for d
 abbrev pub waits_for : BTreeMap ℕ (Vec ℕ) → ℕ → ℕ → Bool

@@ -10,17 +10,17 @@ use Rattle.wi_parser.specs.Sheet.{Sheet, content_of}
 use Rattle.wi_graph.specs.Circular.{circular}
 use Rattle.wi_graph.specs.Reach.{is_one_of, SameOff, in_cone}
 use Rattle.wi_graph.specs.Edges.{areas_in}
-use Rattle.wi_graph.specs.Inner.Stripping.{listed}
+use Rattle.wi_graph.specs.Inner.Stripping.{items_there}
 use Rattle.wi_graph.specs.Inner.Rooms.{Rooms, room_over, AreCircles}
 use Rattle.wi_graph.specs.declared.turning.Turns.{Turns}
 
 -- the rectangle has one of the circular cells outside the cone
-abbrev pub has_outside : BTreeSet ℕ → BTreeSet ℕ → Area → Bool
-has_outside circles cells r = list_any (λ d. is_within r d && not (contains nat_cmp cells d)) circles.keys
+abbrev pub has_circle_outside : BTreeSet ℕ → BTreeSet ℕ → Area → Bool
+has_circle_outside circles cells r = list_any (λ d. is_within r d && not (contains nat_cmp cells d)) circles.keys
 
 -- c reads one of the circular cells outside the cone
 abbrev pub reads_outside : BTreeMap ℕ (Vec Area) → BTreeSet ℕ → BTreeSet ℕ → ℕ → Bool
-reads_outside reads circles cells c = list_any (has_outside circles cells) (listed (get nat_cmp reads c))
+reads_outside reads circles cells c = list_any (has_circle_outside circles cells) (items_there (get nat_cmp reads c))
 
 -- the cell was circular or came, and did not go
 abbrev pub turned_by : BTreeSet ℕ → Turns → ℕ → Bool

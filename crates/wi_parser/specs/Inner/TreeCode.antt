@@ -12,8 +12,8 @@ use Rattle.wi_parser.specs.declared.expr.Sign.TheVariants.{Plus, Minus}
 use Rattle.wi_parser.specs.Tree.{Tree, Trees, number, text, cell, rectangle, parenthesized, signed, percent, binary, what_if, call, no_trees, more_trees, trees_of}
 
 -- a step: which form, of which kind, bytes, numbers and references
-abbrev pub Step : Type 0
-Step = ℕ × (ℕ × (List ℕ × (List Number × List (Reference × Reference))))
+abbrev pub TreeStep : Type 0
+TreeStep = ℕ × (ℕ × (List ℕ × (List Number × List (Reference × Reference))))
 
 abbrev pub reference_code : Coded Reference
 reference_code =
@@ -76,7 +76,7 @@ sign_at-code Plus = refl
 sign_at-code Minus = refl
 
 abbrev mutual
-  pub steps : Tree → List Step
+  pub steps : Tree → List TreeStep
   steps (number x) = (0, (0, ([], (x ∷ [], [])))) ∷ []
   steps (cell r) = (1, (0, ([], ([], (r, r) ∷ [])))) ∷ []
   steps (rectangle c) = (1, (1, ([], ([], (c.one, c.other) ∷ [])))) ∷ []
@@ -89,7 +89,7 @@ abbrev mutual
   steps (call f ts) = (8, (0, ([], ([], [])))) ∷ steps_of_all ts ++ (9, (0, (f, ([], [])))) ∷ []
 
   -- the last tree comes first
-  pub steps_of_all : Trees → List Step
+  pub steps_of_all : Trees → List TreeStep
   steps_of_all no_trees = []
   steps_of_all (more_trees t ts) = steps_of_all ts ++ steps t
 
@@ -150,7 +150,7 @@ build (suc (suc (suc (suc (suc (suc (suc (suc zero)))))))) k s xs ps b = put_asi
 build (suc (suc (suc (suc (suc (suc (suc (suc (suc form))))))))) k s xs ps b = add_call s b.0 b.1
 
 -- what is built from the steps
-abbrev run : List Step → Built → Built
+abbrev run : List TreeStep → Built → Built
 run [] b = b
 run (e ∷ es) b = run es (build e.0 e.1.0 e.1.1.0 e.1.1.1.0 e.1.1.1.1 b)
 
@@ -158,10 +158,10 @@ abbrev top : List Tree → Tree
 top [] = what_if (record { at = 0; column_is_absolute = false; row_is_absolute = false }) []
 top (t ∷ ts) = t
 
-abbrev tree_at_top : List Step → Tree
+abbrev tree_at_top : List TreeStep → Tree
 tree_at_top es = top (run es ([], [])).0
 
-run-append : (xs ys : List Step) (b : Built) → run (xs ++ ys) b ≡ run ys (run xs b)
+run-append : (xs ys : List TreeStep) (b : Built) → run (xs ++ ys) b ≡ run ys (run xs b)
 run-append [] ys b = refl
 run-append (x ∷ xs) ys b = run-append xs ys _
 
@@ -169,11 +169,11 @@ abbrev with_tree : Tree → Built → Built
 with_tree t b = (t ∷ b.0, b.1)
 
 -- the steps of one tree, and a step on it
-after-one : (xs : List Step) (e : Step) (t : Tree) (b : Built) → run xs b ≡ with_tree t b → run (xs ++ e ∷ []) b ≡ run (e ∷ []) (with_tree t b)
+after-one : (xs : List TreeStep) (e : TreeStep) (t : Tree) (b : Built) → run xs b ≡ with_tree t b → run (xs ++ e ∷ []) b ≡ run (e ∷ []) (with_tree t b)
 after-one xs e t b is = run-append xs (e ∷ []) b ∙ ap (run (e ∷ [])) is
 
 -- the steps of two trees, and a step on both
-after-two : (xs ys : List Step) (e : Step) (t u : Tree) (b : Built) →
+after-two : (xs ys : List TreeStep) (e : TreeStep) (t u : Tree) (b : Built) →
     run xs b ≡ with_tree t b → run ys (with_tree t b) ≡ with_tree u (with_tree t b) →
     run (xs ++ (ys ++ e ∷ [])) b ≡ run (e ∷ []) (with_tree u (with_tree t b))
 after-two xs ys e t u b is both =
@@ -218,5 +218,5 @@ tree_at_top-steps t = ap (λ b. top b.0) (run-steps t ([], []))
 -- a tree is stored as its steps
 abbrev pub tree_code : Coded Tree
 tree_code =
-    code_by (List Step) (coded_list (coded× coded_ℕ (coded× coded_ℕ (coded× (coded_list coded_ℕ) (coded× (coded_list number_code) (coded_list (coded× reference_code reference_code)))))))
+    code_by (List TreeStep) (coded_list (coded× coded_ℕ (coded× coded_ℕ (coded× (coded_list coded_ℕ) (coded× (coded_list number_code) (coded_list (coded× reference_code reference_code)))))))
     steps tree_at_top tree_at_top-steps

@@ -2,7 +2,7 @@ use Rattle.std.proofs.Common.{◌+◌, ◌*◌, length}
 use Rattle.wi_parser.specs.Sheet.{cells_with_formula}
 use Rattle.wi_sheet.specs.Demand.{demand}
 use Rattle.wi_sheet.specs.Inner.Spending.{left}
-use Rattle.wi_engine.specs.Inner.Rank.{rank}
+use Rattle.wi_engine.specs.Inner.Rank.{reach_rank}
 use Rattle.wi_engine.specs.Inner.Frames.{case_at}
 use Rattle.wi_engine.proofs.engine.Saving.{IsGoing}
 use Rattle.wi_engine.proofs.engine.run.Given as goal
@@ -14,4 +14,4 @@ invariant-frames g l = IsGoing l.store.sheet (g.M.Memo.state l.fn.memo) (g.M.Mem
 abbrev pub decreases-frames : goal.decreases-frames
 decreases-frames g l =
     left (λ k. 1) (g.M.Memo.state l.memo).found (demand l.store.sheet (case_at l.fn.key)) * (length (cells_with_formula l.store.sheet) + 2)
-    + rank l.store.sheet l.frame.key.cell
+    + reach_rank l.store.sheet l.frame.key.cell

@@ -6,8 +6,8 @@ use Rattle.wi_engine.proofs.engine.Awaiting.{what_if_falls}
 use Rattle.wi_engine.proofs.engine.FoundSettled.{frame_what_if, settled_now}
 use Rattle.wi_engine.proofs.engine.settle_what_if.Goals as goal
 
-pub replaced-requires-clause-read : goal.replaced-requires-clause-read
-replaced-requires-clause-read g c =
+pub world_of_what_if-requires-clause-read : goal.world_of_what_if-requires-clause-read
+world_of_what_if-requires-clause-read g c =
     may_read_inputs c.args.store.now.sheet (g.M.Memo.state c.args.memo.now) c.args.frame.now.key c.args.at c.args.pairs c.deref.result.now c.requires.memo c.requires.frame.key c.requires.awaits.1 c.deref.ensures.value
 
 pub returns-in-Unknown-clause-next : goal.returns-in-Unknown-clause-next
@@ -21,13 +21,13 @@ returns-in-Unknown-clause-spare g c =
 
 pub value_now-requires-clause-read : goal.value_now-requires-clause-read
 value_now-requires-clause-read g c =
-    may_read_what_if c.args.store.now.sheet (g.M.Memo.state c.args.memo.now) (g.M.Memo.state c.replaced.new.memo) c.args.frame.now.key c.args.at c.args.pairs c.requires.memo c.in_ok-key.ensures.same c.requires.frame.key c.requires.awaits.1
+    may_read_what_if c.args.store.now.sheet (g.M.Memo.state c.args.memo.now) (g.M.Memo.state c.world_of_what_if.new.memo) c.args.frame.now.key c.args.at c.args.pairs c.requires.memo c.in_ok-key.ensures.same c.requires.frame.key c.requires.awaits.1
 
 pub returns-in-Unknown-2-clause-next : goal.returns-in-Unknown-2-clause-next
 returns-in-Unknown-2-clause-next g c =
     let world = rw c.in-Known.is at c.in_ok-key.ensures.known in
     let unknown = rw c.in-Unknown-2.is at c.in_ok-key-in-Known.ensures.unknown in
-    next_inner c.args.store.now.sheet (g.M.Memo.state c.args.memo.now) (g.M.Memo.state c.replaced.new.memo) c.args.frame.now.key c.in-Unknown-2.key c.args.at c.args.pairs c.deref.result.now _
+    next_inner c.args.store.now.sheet (g.M.Memo.state c.args.memo.now) (g.M.Memo.state c.world_of_what_if.new.memo) c.args.frame.now.key c.in-Unknown-2.key c.args.at c.args.pairs c.deref.result.now _
     c.in_ok-key.ensures.same c.requires.awaits.1 c.deref.ensures.value world unknown
 
 pub returns-in-Unknown-2-clause-spare : goal.returns-in-Unknown-2-clause-spare
@@ -62,4 +62,4 @@ returns-clause-found g c =
     let there = rw c.in-Known-2.is at c.in_ok-key-in-Known.ensures.there in
     let x : FoundWhatIf = record { at = c.args.at; pairs = c.args.pairs; value = c.in-Known-2.value } in
     λ whole h. frame_what_if s m.kept f c.add_what_if.new.self x _ c.deref.result.now c.in_ok-add_what_if-in-Known-2.ensures.ok c.requires.awaits.1 c.deref.ensures.value world (inputs whole)
-    (settled_now s m (g.M.Memo.state c.replaced.new.memo) _ c.args.at c.requires.memo c.in_ok-key.ensures.same whole there) h
+    (settled_now s m (g.M.Memo.state c.world_of_what_if.new.memo) _ c.args.at c.requires.memo c.in_ok-key.ensures.same whole there) h

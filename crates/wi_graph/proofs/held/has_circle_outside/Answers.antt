@@ -1,6 +1,6 @@
 use Rattle.std.proofs.Common.{◌∙◌, sym}
 use Rattle.wi_graph.proofs.HeldSteps.{searched_found, searched_none}
-use Rattle.wi_graph.proofs.held.meets.Goals as goal
+use Rattle.wi_graph.proofs.held.has_circle_outside.Goals as goal
 
 pub returns-then-not-contains : goal.returns-then-not-contains
 returns-then-not-contains c =

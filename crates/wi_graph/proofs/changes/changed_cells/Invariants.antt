@@ -1,6 +1,6 @@
 use Rattle.std.proofs.Common.{◌≡◌, take}
 use Rattle.std.specs.Map.{keys_of}
-use Rattle.wi_graph.proofs.changes.cells_of.Given as goal
+use Rattle.wi_graph.proofs.changes.changed_cells.Given as goal
 
 abbrev pub invariant-loop-change : goal.invariant-loop-change
 invariant-loop-change l = l.cells.items ≡ keys_of (take l.change-index l.changes)

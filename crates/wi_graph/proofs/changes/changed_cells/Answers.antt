@@ -1,5 +1,5 @@
 use Rattle.wi_graph.proofs.ChangeSteps.{cells_step}
-use Rattle.wi_graph.proofs.changes.cells_of.Goals as goal
+use Rattle.wi_graph.proofs.changes.changed_cells.Goals as goal
 
 pub loop-change-preserved : goal.loop-change-preserved
 loop-change-preserved c =

@@ -5,7 +5,7 @@ use Rattle.wi_functions.specs.Meaning.{addresses}
 use Rattle.wi_sheet.specs.CellValue.{replacements, cell_value}
 use Rattle.wi_sheet.specs.Settled.{IsSettled}
 use Rattle.wi_engine.specs.Inner.Saving.{KeepsFound}
-use Rattle.wi_engine.proofs.engine.replaced.Given as goal
+use Rattle.wi_engine.proofs.engine.world_of_what_if.Given as goal
 
 abbrev pub invariant-loop-pair : goal.invariant-loop-pair
 invariant-loop-pair g l = record {
