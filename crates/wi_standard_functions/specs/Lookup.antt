@@ -46,17 +46,17 @@ first_row_of r = map (λ column. cell_in r 0 column) (range_with_len 0 r.width)
 
 -- ---- INDEX
 
--- the value of the j-th row's k-th cell: a number below 1 comes before one that is too large
-abbrev pub indexed : Region → ℤ → ℤ → Value
-indexed r j k =
+-- the value of the k-th cell of the j-th row, both counted from 1: a number below 1 comes before one that is too large
+abbrev pub nth_cell : Region → ℤ → ℤ → Value
+nth_cell r j k =
     if int_lt j (pos 1) || int_lt k (pos 1) then Fault BadValue else
     on_both (cell_in r) (place_among r.height j) (place_among r.width k)
 
--- the k-th value along a region that is one column or one row
-abbrev pub indexed_along : Region → ℤ → Value
-indexed_along r k =
-    if r.width == 1 then indexed r k (pos 1) else
-    if r.height == 1 then indexed r (pos 1) k else
+-- the value of the k-th cell along a region that is one column or one row
+abbrev pub nth_cell_along : Region → ℤ → Value
+nth_cell_along r k =
+    if r.width == 1 then nth_cell r k (pos 1) else
+    if r.height == 1 then nth_cell r (pos 1) k else
     Fault BadValue
 
 -- INDEX: with three arguments by row and column, with two along the region
@@ -65,13 +65,13 @@ index_by_both args = do
   r ← region_at args 0
   j ← to_whole (value_at args 1)
   k ← to_whole (value_at args 2)
-  indexed r j k
+  nth_cell r j k
 
 abbrev pub index_along : List Argument → Value
 index_along args = do
   r ← region_at args 0
   k ← to_whole (value_at args 1)
-  indexed_along r k
+  nth_cell_along r k
 
 abbrev pub index_value : List Argument → Value
 index_value args = if nat_le (length args) 2 then index_along args else index_by_both args
@@ -86,7 +86,7 @@ place_of match_type v vs = ok_or (match_position match_type (sought_for v) vs) N
 abbrev pub values_along : Region → Result (List Value) ErrorKind
 values_along r = if (r.height == 1) || (r.width == 1) then Ok r.values else Err BadValue
 
--- MATCH: the place that is found, counted from 1; without a type that is 1
+-- MATCH: the place that is found, counted from 1; a type that is not given is 1
 abbrev pub match_value : List Argument → Value
 match_value args = do
   v ← no_error (value_at args 0)
@@ -100,7 +100,7 @@ match_value args = do
 abbrev pub type_for : Bool → numbers.Number
 type_for in_order = if in_order then one_number else zero_number
 
--- VLOOKUP: the cell in column k, in the row whose first cell is found; without a fourth argument they are in order
+-- VLOOKUP: the cell in column k, in the row whose first cell is found; a fourth argument that is not given is TRUE
 abbrev pub v_lookup_value : List Argument → Value
 v_lookup_value args = do
   v ← no_error (value_at args 0)

@@ -1,4 +1,5 @@
--- Places of values in a region (OpenFormula, "MATCH").
+-- Which values are found, and where, as MATCH, the look-ups and criteria find them: on every list, sorted or not, by this project's
+-- rule.
 use Rattle.std.specs.Prelude.{ℕ, pos, ◌==◌, Bool, false, true, ◌&&◌, int_lt, List, map, filter, position, Option, None, if◌then◌else◌}
 use Rattle.std.specs.List.{enumerate_from, last_or}
 use Rattle.std.specs.Ordering.{int_eq, is_eq, is_le, is_ge}
@@ -10,14 +11,14 @@ use Rattle.wi_standard_functions.specs.Comparison.{rank, order}
 use Rattle.wi_standard_functions.specs.Convert.{zero_number}
 
 -- a value that can be found: Empty cells and errors match nothing
-abbrev pub is_comparable : Value → Bool
-is_comparable Empty = false
-is_comparable (Fault e) = false
-is_comparable v = true
+abbrev pub can_be_found : Value → Bool
+can_be_found Empty = false
+can_be_found (Fault e) = false
+can_be_found v = true
 
 -- both can be found, and are of one kind
 abbrev pub same_kind : Value → Value → Bool
-same_kind v w = is_comparable v && is_comparable w && rank v == rank w
+same_kind v w = can_be_found v && can_be_found w && rank v == rank w
 
 -- an Empty sought is 0
 abbrev pub sought_for : Value → Value

@@ -1,5 +1,5 @@
 -- OpenFormula, "Mathematical Functions".
-use Rattle.std.specs.Prelude.{ℕ, pos, ◌==◌, ◌&&◌, Bool, List, [], ◌∷◌, map, filter, zip, length, slice_get, Option, Some, Result, Ok, Err, int_lt, if◌then◌else◌}
+use Rattle.std.specs.Prelude.{ℕ, pos, ◌==◌, ◌&&◌, Bool, List, [], ◌∷◌, map, filter, zip, length, slice_get, unwrap_or, Result, Ok, Err, int_lt, if◌then◌else◌}
 use Rattle.std.specs.List.{range_with_len, list_all}
 use Rattle.std.specs.Ordering.{int_eq}
 use Rattle.wi_fraction.specs.Number as numbers
@@ -9,14 +9,14 @@ use Rattle.wi_fraction.specs.declared.rounding.Mode.TheVariants.{Toward}
 use Rattle.wi_values.specs.declared.value.ErrorKind.{ErrorKind}
 use Rattle.wi_values.specs.declared.value.ErrorKind.TheVariants.{BadValue}
 use Rattle.wi_values.specs.declared.value.Value.{Value}
-use Rattle.wi_values.specs.declared.value.Value.TheVariants.{Number, Fault}
+use Rattle.wi_values.specs.declared.value.Value.TheVariants.{Empty, Number, Fault}
 use Rattle.wi_standard_functions.specs.Arguments.{Argument, Region, region_referred, region_at, region_or, value_at}
 use Rattle.wi_standard_functions.specs.Arithmetic.{addition, subtraction, multiplication, division, exponentiation}
 use Rattle.wi_standard_functions.specs.Convert.{to_number, zero_number, one_number}
 use Rattle.wi_standard_functions.specs.Criterion.{meets_criterion}
 use Rattle.wi_standard_functions.specs.FirstError.{no_error, on_both}
-use Rattle.wi_standard_functions.specs.Sequence.{Item, from_cell, sequence_of, number_fold}
-use Rattle.wi_standard_functions.specs.Steps.{◌>>=◌, and_then, map_until_error, fold_until_error}
+use Rattle.wi_standard_functions.specs.Sequence.{Item, from_cell, scalar, sequence_of, number_fold}
+use Rattle.wi_standard_functions.specs.Steps.{◌>>=◌, map_until_error}
 
 -- ---- of one number, or of two
 
@@ -57,7 +57,11 @@ power_value n m = on_both exponentiation (to_number n) (to_number m)
 
 -- the sum of the numbers that count, from 0 on
 abbrev pub sum_of_items : List Item → Result numbers.Number ErrorKind
-sum_of_items is = number_fold addition zero_number is
+sum_of_items items = number_fold addition zero_number items
+
+-- their product, from 1 on
+abbrev pub product_of_items : List Item → Result numbers.Number ErrorKind
+product_of_items items = number_fold multiplication one_number items
 
 -- SUM
 abbrev pub sum_value : List Argument → Value
@@ -65,10 +69,10 @@ sum_value args = do
   x ← sum_of_items (sequence_of args)
   Number x
 
--- PRODUCT: from 1 on
+-- PRODUCT
 abbrev pub product_value : List Argument → Value
 product_value args = do
-  x ← number_fold multiplication one_number (sequence_of args)
+  x ← product_of_items (sequence_of args)
   Number x
 
 -- ---- of regions
@@ -91,8 +95,8 @@ sum_if_value args = do
   r ← region_at args 0
   criterion ← no_error (value_at args 1)
   s ← region_or (Ok r) args 2
-  is ← chosen_cells criterion r s
-  x ← sum_of_items is
+  cells ← chosen_cells criterion r s
+  x ← sum_of_items cells
   Number x
 
 -- the regions, where all have one size
@@ -101,30 +105,34 @@ of_one_size [] = Ok []
 of_one_size (r ∷ rs) = if list_all (same_size r) rs then Ok (r ∷ rs) else Err BadValue
 
 -- a cell as a factor: one that is no Number counts 0, and an error is the result
-abbrev pub cell_factor : Option Value → Result numbers.Number ErrorKind
-cell_factor (Some (Number x)) = Ok x
-cell_factor (Some (Fault e)) = Err e
-cell_factor v = Ok zero_number
+abbrev pub factor : Value → Item
+factor (Number x) = from_cell (Number x)
+factor (Fault e) = from_cell (Fault e)
+factor v = from_cell (Number zero_number)
 
--- the product across the regions at one place, from 1 on
-abbrev pub product_across : List Region → ℕ → Result numbers.Number ErrorKind
-product_across rs i =
-    fold_until_error (λ x r. and_then (λ y. to_number (multiplication x y)) (cell_factor (slice_get r.values i))) one_number rs
+-- the factors at one place, one of each region
+abbrev pub factors_at : List Region → ℕ → List Item
+factors_at rs i = map (λ r. factor (unwrap_or (slice_get r.values i) Empty)) rs
+
+-- their product, from 1 on
+abbrev pub product_at : List Region → ℕ → Value
+product_at rs i = do
+  x ← product_of_items (factors_at rs i)
+  Number x
 
 -- how many places the first region has, and so all
 abbrev pub place_count : List Region → ℕ
 place_count [] = 0
 place_count (r ∷ rs) = length r.values
 
--- the sum of the products across the regions, place after place, from 0 on
-abbrev pub sum_of_products : List Region → Result numbers.Number ErrorKind
-sum_of_products rs =
-    fold_until_error (λ x i. and_then (λ y. to_number (addition x y)) (product_across rs i)) zero_number (range_with_len 0 (place_count rs))
+-- the products at each place, in row-major order
+abbrev pub products : List Region → List Item
+products rs = map (λ i. scalar (product_at rs i)) (range_with_len 0 (place_count rs))
 
--- SUMPRODUCT
+-- SUMPRODUCT: the sum of the products
 abbrev pub sum_product_value : List Argument → Value
 sum_product_value args = do
   regions ← map_until_error region_referred args
   rs ← of_one_size regions
-  x ← sum_of_products rs
+  x ← sum_of_items (products rs)
   Number x

@@ -1,4 +1,4 @@
--- Sequences of items, and what counts of them (OpenFormula, "NumberSequence" and "LogicalSequence").
+-- Sequences of items, as OpenFormula's NumberSequence and LogicalSequence, and what counts of them by this project's rules.
 use Rattle.std.specs.Prelude.{ℕ, Bool, List, [], ◌∷◌, map, count_by, flat_map, Option, Some, None, option_to_list, Result, Ok, Err}
 use Rattle.wi_fraction.specs.Number as numbers
 use Rattle.wi_values.specs.declared.value.ErrorKind.{ErrorKind}
@@ -28,7 +28,7 @@ value_of_item (scalar v) = v
 
 -- how many items have a value that passes a test
 abbrev pub count_items : (Value → Bool) → List Item → ℕ
-count_items test is = count_by (λ i. test (value_of_item i)) is
+count_items test items = count_by (λ item. test (value_of_item item)) items
 
 -- ---- what counts of an item
 
@@ -48,13 +48,13 @@ logical_of_item (scalar v) = and_then (λ b. Ok (Some b)) (to_logical v)
 
 -- all that counts of the items, or the first error met
 abbrev pub all_that_count : {B : Type 0} → (Item → Result (Option B) ErrorKind) → List Item → Result (List B) ErrorKind
-all_that_count counts is = and_then (λ os. Ok (flat_map option_to_list os)) (map_until_error counts is)
+all_that_count counts items = and_then (λ found. Ok (flat_map option_to_list found)) (map_until_error counts items)
 
 abbrev pub numbers_of : List Item → Result (List numbers.Number) ErrorKind
-numbers_of is = all_that_count number_of_item is
+numbers_of items = all_that_count number_of_item items
 
 abbrev pub logicals_of : List Item → Result (List Bool) ErrorKind
-logicals_of is = all_that_count logical_of_item is
+logicals_of items = all_that_count logical_of_item items
 
 -- ---- the fold of a sequence
 
@@ -66,5 +66,5 @@ with_number calculate x (Some y) = to_number (calculate x y)
 -- what is calculated with the numbers of the items, one after another: the first error met, of an item or of a step, is the
 -- result
 abbrev pub number_fold : (numbers.Number → numbers.Number → Value) → numbers.Number → List Item → Result numbers.Number ErrorKind
-number_fold calculate start is =
-    fold_until_error (λ x i. and_then (with_number calculate x) (number_of_item i)) start is
+number_fold calculate start items =
+    fold_until_error (λ x item. and_then (with_number calculate x) (number_of_item item)) start items

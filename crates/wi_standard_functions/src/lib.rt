@@ -1,2 +1,4 @@
-//! What each function of OpenFormula gives for its arguments, and the words that the operators share: definitions, no code.
+//! What each function of OpenFormula gives for its arguments, and the words that the operators share: definitions and laws of them.
 #![tactic(auto)]
+
+pub mod laws;
