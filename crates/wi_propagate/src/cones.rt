@@ -11,12 +11,27 @@ ghost use Rattle.wi_propagate.specs.Inner.Cones.{AreAllCones};
 
 use std::alloc::{AllocError, Global};
 use std::collections::{BTreeMap, BTreeSet};
+use std::mem;
 use wi_graph::Graph;
 use wi_values::Address;
 use wi_worlds::World;
 
 /// Dependents of a cell at any remove, itself among them, by that cell.
 pub type Cones = BTreeMap<Address, BTreeSet<Address>>;
+
+// The greatest number of cones that one question leaves to the next.
+const MOST_CONES: usize = 64;
+
+/// Takes the cones out for a question: none where they are more than a question leaves to the next. Takes no memory.
+pub fn take_cones(alloc: Global, cones: &mut Cones) -> Cones
+    ensures { (s : Sheet) → AreAllCones s cones.old → AreAllCones s result }
+{
+    let taken = mem::replace(cones, BTreeMap::new(alloc));
+    if taken.len() > MOST_CONES {
+        return BTreeMap::new(alloc);
+    }
+    taken
+}
 
 /// Adds the cones of the replaced cells that have none yet. The work for each is that of its cone. If memory runs out, those
 /// added so far stay.

@@ -3,12 +3,12 @@
 ghost use Rattle.std.specs.Prelude.{◌≡◌, ◌≤◌, [], None, length, IfOk};
 ghost use Rattle.wi_graph.specs.Edges.{AreEdgesOf};
 ghost use Rattle.wi_engine.specs.Inner.MemoState.{IsMemoOf};
+ghost use Rattle.wi_propagate.specs.Inner.Cones.{AreAllCones};
 ghost use Rattle.wi_propagate.specs.Inner.Keeping.{keeping, state_in, IsKeepingRight};
 
 use crate::cones::{Cones, add_cones};
 use crate::generations::{Generations, generation_of};
 use std::alloc::{AllocError, Global};
-use std::collections::BTreeMap;
 use std::marker::Model;
 use wi_cache::{Kept, Key, RunTable};
 use wi_engine::Memo;
@@ -24,7 +24,7 @@ pub struct Keeping<'a> {
     store: &'a Store,
     graph: &'a Graph,
     generations: &'a Generations,
-    // Of the replaced cells so far: which cells reach them.
+    // Of the replaced cells so far, and of some before: which cells reach them.
     cones: Cones,
     table: RunTable,
     kept: Kept,
@@ -56,16 +56,18 @@ impl<'a> Model for Keeping<'a> {
 }
 
 impl<'a> Keeping<'a> {
-    /// Nothing found yet, over what is kept. Takes no memory.
+    /// Nothing found yet, over the cones that are known and what is kept. Takes no memory.
     pub fn new(
         alloc: Global,
         store: &'a Store,
         graph: &'a Graph,
         generations: &'a Generations,
+        cones: Cones,
         kept: Kept,
     ) -> Keeping<'a>
         requires edges { AreEdgesOf graph.now.now store.now.sheet }
         requires staged { graph.now.staged ≡ None }
+        requires cones { AreAllCones store.now.sheet cones }
         requires right { IsKeepingRight (keeping store.now.sheet store.now.edits generations.now.entries [] kept) }
         ensures value { result ≡ keeping store.now.sheet store.now.edits generations.now.entries [] kept }
         ensures memo { IsMemoOf store.now.sheet (state_in result) }
@@ -75,21 +77,22 @@ impl<'a> Keeping<'a> {
             store,
             graph,
             generations,
-            cones: BTreeMap::new(alloc),
+            cones,
             table: RunTable::new(alloc),
             kept,
         }
     }
 
-    /// What is kept for longer, which is no more than there is room for.
-    pub fn into_kept(self) -> Kept
-        ensures kept { result ≡ self.entry.values }
-        ensures within { length result.entries ≤ result.capacity }
+    /// What is kept for longer, which is no more than there is room for, and the cones that are known.
+    pub fn into_parts(self) -> (Kept, Cones)
+        ensures kept { result.0 ≡ self.entry.values }
+        ensures within { length result.0.entries ≤ result.0.capacity }
         ensures right { IsKeepingRight self.entry }
+        ensures cones { AreAllCones self.entry.sheet result.1 }
     {
         let _ = &self.store;
         let _ = self.kept.len();
-        self.kept
+        (self.kept, self.cones)
     }
 }
 

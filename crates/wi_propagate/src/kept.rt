@@ -18,6 +18,7 @@ ghost use Rattle.wi_propagate.specs.KeptSheet.{generation_in, is_kept, unkept, I
 ghost use Rattle.wi_propagate.specs.Right.{AreKeptRight};
 
 use crate::calculator::Calculator;
+use crate::cones::{Cones, take_cones};
 use crate::generations::{Generations, make_room, raise};
 use crate::keeping::Keeping;
 use crate::table_entry::open_entry;
@@ -40,6 +41,8 @@ pub struct KeptCalculator {
     store: Store,
     graph: Graph,
     generations: Generations,
+    // Of some cells that were replaced since the last accepted edit: which cells reach them.
+    cones: Cones,
     // There but while a question is answered.
     kept: Option<Kept>,
     meter: Meter,
@@ -61,6 +64,7 @@ impl Model for KeptCalculator {
     ghost use Rattle.std.specs.Prelude.{◌≡◌, [], None, IsSome};
     ghost use Rattle.wi_graph.specs.Edges.{AreEdgesOf};
     ghost use Rattle.wi_propagate.specs.Right.{AreKeptRight};
+    ghost use Rattle.wi_propagate.specs.Inner.Cones.{AreAllCones};
     ghost use Rattle.wi_propagate.specs.Inner.Keeping.{kept_sheet};
 
     ghost view = { λ k. kept_sheet k.store k.generations.entries k.kept k.meter };
@@ -68,7 +72,8 @@ impl Model for KeptCalculator {
     ghost invariant = { λ k. IsSome k.kept
         × AreEdgesOf k.graph.now k.store.sheet
         × (k.graph.staged ≡ None)
-        × AreKeptRight (kept_sheet k.store k.generations.entries k.kept k.meter) };
+        × AreKeptRight (kept_sheet k.store k.generations.entries k.kept k.meter)
+        × AreAllCones k.store.sheet k.cones };
 }
 
 impl KeptCalculator {
@@ -86,6 +91,7 @@ impl KeptCalculator {
             store: Store::new(alloc, limits),
             graph: Graph::new(alloc),
             generations: BTreeMap::new(alloc),
+            cones: BTreeMap::new(alloc),
             kept: Some(kept),
             meter: Meter::new(),
             alloc,
@@ -121,7 +127,7 @@ impl Calculator for KeptCalculator {
     }
 
     /// One edit. The work grows with the cone of the edited cells, what its cells read and who reads them, times logarithms. An
-    /// accepted edit is the new generation of each cell of the cone; what is kept stays.
+    /// accepted edit is the new generation of each cell of the cone. What is kept stays; the cones that are known go.
     fn apply(&mut self, changes: Vec<(Address, Option<Content>)>) -> Result<(), StoreFault>
         ensures applied { Applies (applied self.old.stored changes.items) result self.old.stored self.new.stored }
         ensures same_counts { self.new.counts ≡ self.old.counts }
@@ -138,6 +144,7 @@ impl Calculator for KeptCalculator {
             Ok(()) => {
                 self.graph.commit();
                 raise(&mut self.generations, &cone, self.store.edits());
+                self.cones = BTreeMap::new(self.alloc);
                 Ok(())
             }
             Err(fault) => {
@@ -180,11 +187,13 @@ impl Calculator for KeptCalculator {
         let Some(kept) = self.kept.take() else {
             unreachable!()
         };
+        let cones = take_cones(self.alloc, &mut self.cones);
         let mut memo = Keeping::new(
             self.alloc,
             &self.store,
             &self.graph,
             &self.generations,
+            cones,
             kept,
         );
         let result = value_under(
@@ -195,7 +204,9 @@ impl Calculator for KeptCalculator {
             &mut memo,
             &mut self.meter,
         );
-        self.kept = Some(memo.into_kept());
+        let (kept, cones) = memo.into_parts();
+        self.kept = Some(kept);
+        self.cones = cones;
         result
     }
 
@@ -240,11 +251,13 @@ impl Calculator for KeptCalculator {
         let Some(kept) = self.kept.take() else {
             unreachable!()
         };
+        let cones = take_cones(self.alloc, &mut self.cones);
         let mut memo = Keeping::new(
             self.alloc,
             &self.store,
             &self.graph,
             &self.generations,
+            cones,
             kept,
         );
         let result = open_entry(
@@ -256,7 +269,9 @@ impl Calculator for KeptCalculator {
             &mut memo,
             &mut self.meter,
         );
-        self.kept = Some(memo.into_kept());
+        let (kept, cones) = memo.into_parts();
+        self.kept = Some(kept);
+        self.cones = cones;
         result
     }
 

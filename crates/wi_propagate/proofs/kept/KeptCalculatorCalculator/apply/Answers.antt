@@ -24,6 +24,7 @@ invariant_of-self-in-Ok c =
       ap (λ (x : Staging). x.staged) graph_is,
       right_over_edit i.store c.apply.new.self ch c.in_ok-cone.cone.items c.edits.result i.generations.entries c.make_room.new.generations.entries c.raise.new.generations.entries _ i.meter i.meter accepted cone c.make_room.ensures.same
           (λ d. c.raise.ensures d ∙ ap (λ (xs : List ℕ). if is_one_of xs d then c.edits.result else generation_in c.make_room.new.generations.entries d) c.deref-in-Ok.ensures.value) c.edits.ensures h.3,
+      (search rules),
     )
 
 pub raise-requires : goal.raise-requires

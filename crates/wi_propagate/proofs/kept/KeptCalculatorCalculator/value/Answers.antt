@@ -1,5 +1,6 @@
 use Rattle.std.proofs.Common.{◌≡◌, ◌≤◌, ◌+◌, ◌∙◌, IfOk, OnOk, false, true, length, sum_by, refl, ap, sym, subst}
 use Rattle.std.proofs.lemmas.Result.{IfOk-weaker}
+use Rattle.wi_parser.specs.Sheet.{Sheet}
 use Rattle.wi_graph.specs.Circular.{circular}
 use Rattle.wi_sheet.specs.Shown.{shown}
 use Rattle.wi_sheet.specs.Demand.{case_of, reaching, demanded, wants}
@@ -7,6 +8,7 @@ use Rattle.wi_sheet.specs.Inner.Spending.{HasCase}
 use Rattle.wi_sheet.proofs.Cases.{different_closed}
 use Rattle.wi_sheet.proofs.Steps.{shown_circular}
 use Rattle.wi_propagate.specs.KeptSheet.{KeptSheet, unkept, IsAtHand, HasRoomFor, is_kept, KeepsAll, KeepsNoMore}
+use Rattle.wi_propagate.specs.Inner.Cones.{AreAllCones}
 use Rattle.wi_propagate.specs.Inner.Keeping.{kept_sheet, begun, state_in}
 use Rattle.wi_propagate.proofs.Showing.{put_alone, shown_value}
 use Rattle.wi_propagate.proofs.Questions.{begun_is, begun_right, may_be_read, right_then, asked_at_most, asked_evaluations, asked_unkept, asked_saves, asked_keeps, asked_no_more, asked_kept, at_hand_is, has_case}
@@ -40,7 +42,8 @@ invariant_of-self c =
       refl,
       h.1,
       h.2,
-      right_then k c.new-memo.result c.value_under-result.new.memo c.into_kept.result c.value_under-result.new.meter q e.same_generation e.same_capacity c.into_kept.ensures.kept e.memo.sheet e.same_latest h.3 c.into_kept.ensures.right,
+      right_then k c.new-memo.result c.value_under-result.new.memo c.into_parts-kept.result.0 c.value_under-result.new.meter q e.same_generation e.same_capacity c.into_parts-kept.ensures.kept e.memo.sheet e.same_latest h.3 c.into_parts-kept.ensures.right,
+      subst (λ (x : Sheet). AreAllCones x c.into_parts-kept.result.1) e.memo.sheet c.into_parts-kept.ensures.cones,
     )
 
 pub returns-clause-value : goal.returns-clause-value
@@ -112,11 +115,11 @@ returns-clause-kept c =
     let o : circular i.store.sheet c.args.at ≡ false = sym (c.is_circular.ensures i.store.sheet c.self.invariant.1) ∙ c.if-is_circular.false in
     let q : c.new-memo.result ≡ begun k = begun_is i.store i.generations.entries i.kept i.meter _ c.new-memo.result c.new-memo.ensures.value c.in-Some.ensures.value in
     let same = put_alone c.in_ok-world.world c.new.result c.args.put.now c.requires c.new.ensures c.in_ok-world.ensures.list in
-    let new : KeptSheet = record { stored = i.store; generations = i.generations.entries; values = c.into_kept.result; counts = c.value_under-result.new.meter } in
+    let new : KeptSheet = record { stored = i.store; generations = i.generations.entries; values = c.into_parts-kept.result.0; counts = c.value_under-result.new.meter } in
     let e = c.value_under-result.ensures in
     subst (λ (x : KeptSheet). OnOk c.value_under-result.result ((IsAtHand x c.args.put.now c.args.at → ⊥) → is_kept new c.args.at (reaching x.stored.sheet c.args.at c.args.put.now) ≡ true)) c.self.view_is
-    (IfOk-weaker c.value_under-result.result _ _ (λ v h. asked_kept k c.new-memo.result c.in_ok-world.world c.args.put.now c.args.at q o same c.value_under-result.new.memo c.into_kept.result c.value_under-result.new.meter
-    e.same_generation e.same_capacity c.into_kept.ensures.kept c.self.invariant.3.room h) e.kept)
+    (IfOk-weaker c.value_under-result.result _ _ (λ v h. asked_kept k c.new-memo.result c.in_ok-world.world c.args.put.now c.args.at q o same c.value_under-result.new.memo c.into_parts-kept.result.0 c.value_under-result.new.meter
+    e.same_generation e.same_capacity c.into_parts-kept.ensures.kept c.self.invariant.3.room h) e.kept)
 
 pub returns-clause-keeps : goal.returns-clause-keeps
 returns-clause-keeps c =
@@ -129,10 +132,10 @@ returns-clause-keeps c =
     let has = has_case k c.new-memo.result c.in_ok-world.world c.args.put.now c.args.at q o same in
     let closed = different_closed i.store.sheet (case_of i.store.sheet c.args.put.now c.args.at) in
     let Has = HasCase i.store.sheet c.in_ok-world.world c.args.at in
-    let new : KeptSheet = record { stored = i.store; generations = i.generations.entries; values = c.into_kept.result; counts = c.value_under-result.new.meter } in
+    let new : KeptSheet = record { stored = i.store; generations = i.generations.entries; values = c.into_parts-kept.result.0; counts = c.value_under-result.new.meter } in
     let e = c.value_under-result.ensures in
     subst (λ (x : KeptSheet). OnOk c.value_under-result.result (HasRoomFor x (demanded x.stored.sheet c.args.put.now c.args.at) → KeepsAll x new)) c.self.view_is
-    (IfOk-weaker c.value_under-result.result _ _ (λ v h room. asked_keeps k c.new-memo.result c.value_under-result.new.memo c.into_kept.result c.value_under-result.new.meter q e.same_generation e.same_capacity c.into_kept.ensures.kept cases room
+    (IfOk-weaker c.value_under-result.result _ _ (λ v h room. asked_keeps k c.new-memo.result c.value_under-result.new.memo c.into_parts-kept.result.0 c.value_under-result.new.meter q e.same_generation e.same_capacity c.into_parts-kept.ensures.kept cases room
     (asked_saves k c.new-memo.result q Has cases closed has (state_in c.value_under-result.new.memo) i.meter.evaluations c.value_under-result.new.meter.evaluations h room)) e.saves)
 
 pub returns-clause-no_more : goal.returns-clause-no_more
@@ -140,7 +143,7 @@ returns-clause-no_more c =
     let i = c.self.inside in
     let k : KeptSheet = kept_sheet i.store i.generations.entries i.kept i.meter in
     let q : c.new-memo.result ≡ begun k = begun_is i.store i.generations.entries i.kept i.meter _ c.new-memo.result c.new-memo.ensures.value c.in-Some.ensures.value in
-    let new : KeptSheet = record { stored = i.store; generations = i.generations.entries; values = c.into_kept.result; counts = c.value_under-result.new.meter } in
+    let new : KeptSheet = record { stored = i.store; generations = i.generations.entries; values = c.into_parts-kept.result.0; counts = c.value_under-result.new.meter } in
     let e = c.value_under-result.ensures in
     subst (λ (x : KeptSheet). KeepsNoMore x new) c.self.view_is
-    (asked_no_more k c.new-memo.result c.value_under-result.new.memo c.into_kept.result c.value_under-result.new.meter q e.same_generation e.same_capacity c.into_kept.ensures.kept c.into_kept.ensures.within e.takes)
+    (asked_no_more k c.new-memo.result c.value_under-result.new.memo c.into_parts-kept.result.0 c.value_under-result.new.meter q e.same_generation e.same_capacity c.into_parts-kept.ensures.kept c.into_parts-kept.ensures.within e.takes)

@@ -1,5 +1,6 @@
 use Rattle.std.proofs.Common.{get_or, ◌≡◌, ◌≤◌, ◌+◌, All, IfOk, OnOk, false, length, sum_by, ℕ, List, refl, ap, subst}
 use Rattle.std.proofs.lemmas.Result.{IfOk-weaker}
+use Rattle.wi_parser.specs.Sheet.{Sheet}
 use Rattle.wi_graph.specs.Circular.{circular}
 use Rattle.wi_sheet.specs.Demand.{wants}
 use Rattle.wi_sheet.specs.Inner.Spending.{HasEntry}
@@ -7,6 +8,7 @@ use Rattle.wi_sheet.specs.TableEntry.{table_entry, entry_demanded}
 use Rattle.wi_sheet.specs.Settled.{IsWhatIfSettled}
 use Rattle.wi_sheet.proofs.TableEntries.{table_closed}
 use Rattle.wi_propagate.specs.KeptSheet.{KeptSheet, unkept, HasRoomFor, is_kept, KeepsAll, KeepsNoMore}
+use Rattle.wi_propagate.specs.Inner.Cones.{AreAllCones}
 use Rattle.wi_propagate.specs.Inner.Keeping.{kept_sheet, begun, state_in}
 use Rattle.wi_propagate.proofs.Showing.{put_alone}
 use Rattle.wi_propagate.proofs.Questions.{begun_is, begun_right, may_be_read, right_then, asked_at_most, asked_evaluations, asked_unkept, asked_saves, asked_keeps, asked_no_more, asked_where, asked_settled, entry_has, circular_entry, circular_clash, open_cells, entry_shown}
@@ -57,7 +59,8 @@ invariant_of-self c =
       refl,
       h.1,
       h.2,
-      right_then k c.new-memo.result c.open_entry-result.new.memo c.into_kept.result c.open_entry-result.new.meter q e.same_generation e.same_capacity c.into_kept.ensures.kept e.memo.sheet e.same_latest h.3 c.into_kept.ensures.right,
+      right_then k c.new-memo.result c.open_entry-result.new.memo c.into_parts-kept.result.0 c.open_entry-result.new.meter q e.same_generation e.same_capacity c.into_parts-kept.ensures.kept e.memo.sheet e.same_latest h.3 c.into_parts-kept.ensures.right,
+      subst (λ (x : Sheet). AreAllCones x c.into_parts-kept.result.1) e.memo.sheet c.into_parts-kept.ensures.cones,
     )
 
 pub returns-clause-value : goal.returns-clause-value
@@ -132,10 +135,10 @@ returns-clause-keeps c =
     let has = entry_has s c.in_ok-world.world c.args.put.now c.args.formula_cell c.args.pairs.now o same in
     let closed = table_closed s c.args.put.now c.args.formula_cell c.args.pairs.now in
     let Has = HasEntry s c.in_ok-world.world c.args.formula_cell c.args.pairs.now in
-    let new : KeptSheet = record { stored = i.store; generations = i.generations.entries; values = c.into_kept.result; counts = c.open_entry-result.new.meter } in
+    let new : KeptSheet = record { stored = i.store; generations = i.generations.entries; values = c.into_parts-kept.result.0; counts = c.open_entry-result.new.meter } in
     let e = c.open_entry-result.ensures in
     subst (λ (x : KeptSheet). OnOk c.open_entry-result.result (HasRoomFor x (entry_demanded x.stored.sheet c.args.put.now c.args.formula_cell c.args.pairs.now) → KeepsAll x new)) c.self.view_is
-    (IfOk-weaker c.open_entry-result.result _ _ (λ v g room. asked_keeps k c.new-memo.result c.open_entry-result.new.memo c.into_kept.result c.open_entry-result.new.meter q e.same_generation e.same_capacity c.into_kept.ensures.kept cases room
+    (IfOk-weaker c.open_entry-result.result _ _ (λ v g room. asked_keeps k c.new-memo.result c.open_entry-result.new.memo c.into_parts-kept.result.0 c.open_entry-result.new.meter q e.same_generation e.same_capacity c.into_parts-kept.ensures.kept cases room
     (asked_saves k c.new-memo.result q Has cases closed has (state_in c.open_entry-result.new.memo) i.meter.evaluations c.open_entry-result.new.meter.evaluations g room)) e.saves)
 
 pub returns-clause-settled : goal.returns-clause-settled
@@ -151,12 +154,12 @@ returns-clause-settled c =
     let has = entry_has s c.in_ok-world.world c.args.put.now c.args.formula_cell c.args.pairs.now o same in
     let closed = table_closed s c.args.put.now c.args.formula_cell c.args.pairs.now in
     let Has = HasEntry s c.in_ok-world.world c.args.formula_cell c.args.pairs.now in
-    let new : KeptSheet = record { stored = i.store; generations = i.generations.entries; values = c.into_kept.result; counts = c.open_entry-result.new.meter } in
+    let new : KeptSheet = record { stored = i.store; generations = i.generations.entries; values = c.into_parts-kept.result.0; counts = c.open_entry-result.new.meter } in
     let e = c.open_entry-result.ensures in
     let x : ℕ × List (ℕ × ℕ) = (c.args.formula_cell, c.args.pairs.now) in
     subst (λ (y : KeptSheet). OnOk c.open_entry-result.result (HasRoomFor y (entry_demanded y.stored.sheet c.args.put.now c.args.formula_cell c.args.pairs.now) → circular y.stored.sheet c.args.formula_cell ≡ false → All (λ p. circular y.stored.sheet p.1 ≡ false) c.args.pairs.now
     → IsWhatIfSettled y.stored.sheet (is_kept new) c.args.put.now x)) c.self.view_is
-    (IfOk-weaker c.open_entry-result.result _ _ (λ v g room a b. asked_settled k c.new-memo.result c.open_entry-result.new.memo c.into_kept.result c.open_entry-result.new.meter q e.same_generation e.same_capacity c.into_kept.ensures.kept c.in_ok-world.world c.args.put.now x same
+    (IfOk-weaker c.open_entry-result.result _ _ (λ v g room a b. asked_settled k c.new-memo.result c.open_entry-result.new.memo c.into_parts-kept.result.0 c.open_entry-result.new.meter q e.same_generation e.same_capacity c.into_parts-kept.ensures.kept c.in_ok-world.world c.args.put.now x same
     (asked_where k c.new-memo.result q Has cases closed has _ g room)) e.settled)
 
 pub returns-clause-no_more : goal.returns-clause-no_more
@@ -164,7 +167,7 @@ returns-clause-no_more c =
     let i = c.self.inside in
     let k : KeptSheet = kept_sheet i.store i.generations.entries i.kept i.meter in
     let q : c.new-memo.result ≡ begun k = begun_is i.store i.generations.entries i.kept i.meter _ c.new-memo.result c.new-memo.ensures.value c.in-Some.ensures.value in
-    let new : KeptSheet = record { stored = i.store; generations = i.generations.entries; values = c.into_kept.result; counts = c.open_entry-result.new.meter } in
+    let new : KeptSheet = record { stored = i.store; generations = i.generations.entries; values = c.into_parts-kept.result.0; counts = c.open_entry-result.new.meter } in
     let e = c.open_entry-result.ensures in
     subst (λ (x : KeptSheet). KeepsNoMore x new) c.self.view_is
-    (asked_no_more k c.new-memo.result c.open_entry-result.new.memo c.into_kept.result c.open_entry-result.new.meter q e.same_generation e.same_capacity c.into_kept.ensures.kept c.into_kept.ensures.within e.takes)
+    (asked_no_more k c.new-memo.result c.open_entry-result.new.memo c.into_parts-kept.result.0 c.open_entry-result.new.meter q e.same_generation e.same_capacity c.into_parts-kept.ensures.kept c.into_parts-kept.ensures.within e.takes)
