@@ -159,6 +159,8 @@ impl Calculator for KeptCalculator {
         requires { IsInOrder put.now }
         ensures value { IfOk result (λ v. v ≡ show.shown self.old.stored.sheet put.now at) }
         ensures same { self.new.stored ≡ self.old.stored }
+        ensures same_generations { self.new.generations ≡ self.old.generations }
+        ensures same_room { self.new.values.capacity ≡ self.old.values.capacity }
 
         // No more is evaluated than what the value demands, and where there is room no more than what of that is not kept, also
         // where memory runs out.
@@ -222,6 +224,8 @@ impl Calculator for KeptCalculator {
         ensures value { let sheet = self.old.stored.sheet in
             IfOk result (λ v. v ≡ table_entry sheet put.now formula_cell pairs.now) }
         ensures same { self.new.stored ≡ self.old.stored }
+        ensures same_generations { self.new.generations ≡ self.old.generations }
+        ensures same_room { self.new.values.capacity ≡ self.old.values.capacity }
 
         // No more is evaluated than what the entry demands, and where there is room no more than what of that is not kept, also
         // where memory runs out.

@@ -1,4 +1,4 @@
-use Rattle.std.proofs.Common.{get_or, ◌≡◌, ◌≤◌, ◌+◌, All, IfOk, OnOk, false, length, sum_by, ℕ, List, refl, ap, subst}
+use Rattle.std.proofs.Common.{get_or, ◌≡◌, ◌∙◌, ◌≤◌, ◌+◌, All, IfOk, OnOk, false, length, sum_by, ℕ, List, refl, ap, subst}
 use Rattle.std.proofs.lemmas.Result.{IfOk-weaker}
 use Rattle.wi_parser.specs.Sheet.{Sheet}
 use Rattle.wi_graph.specs.Circular.{circular}
@@ -9,7 +9,8 @@ use Rattle.wi_sheet.specs.Settled.{IsWhatIfSettled}
 use Rattle.wi_sheet.proofs.TableEntries.{table_closed}
 use Rattle.wi_propagate.specs.KeptSheet.{KeptSheet, unkept, HasRoomFor, is_kept, KeepsAll, KeepsNoMore}
 use Rattle.wi_propagate.specs.Inner.Cones.{AreAllCones}
-use Rattle.wi_propagate.specs.Inner.Keeping.{kept_sheet, begun, state_in}
+use Rattle.wi_propagate.specs.Inner.Keeping.{Keeping, kept_sheet, begun, state_in}
+use Rattle.wi_cache.specs.Entries.{KeptValues}
 use Rattle.wi_propagate.proofs.Showing.{put_alone}
 use Rattle.wi_propagate.proofs.Questions.{begun_is, begun_right, may_be_read, right_then, asked_at_most, asked_evaluations, asked_unkept, asked_saves, asked_keeps, asked_no_more, asked_where, asked_settled, entry_has, circular_entry, circular_clash, open_cells, entry_shown}
 use Rattle.wi_propagate.proofs.kept.KeptCalculatorCalculator.what_if_value.Goals as goal
@@ -171,3 +172,11 @@ returns-clause-no_more c =
     let e = c.open_entry-result.ensures in
     subst (λ (x : KeptSheet). KeepsNoMore x new) c.self.view_is
     (asked_no_more k c.new-memo.result c.open_entry-result.new.memo c.into_parts-kept.result.0 c.open_entry-result.new.meter q e.same_generation e.same_capacity c.into_parts-kept.ensures.kept c.into_parts-kept.ensures.within e.takes)
+
+pub returns-clause-same_room : goal.returns-clause-same_room
+returns-clause-same_room c =
+    let i = c.self.inside in
+    let k : KeptSheet = kept_sheet i.store i.generations.entries i.kept i.meter in
+    let q : c.new-memo.result ≡ begun k = begun_is i.store i.generations.entries i.kept i.meter _ c.new-memo.result c.new-memo.ensures.value c.in-Some.ensures.value in
+    subst (λ (x : KeptSheet). c.into_parts-kept.result.0.capacity ≡ x.values.capacity) c.self.view_is
+    (ap (λ (v : KeptValues). v.capacity) c.into_parts-kept.ensures.kept ∙ c.open_entry-result.ensures.same_capacity ∙ ap (λ (x : Keeping). x.values.capacity) q)
