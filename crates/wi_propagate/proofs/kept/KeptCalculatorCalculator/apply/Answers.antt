@@ -32,3 +32,9 @@ raise-requires c = search rules
 
 pub returns-in-Ok-clause-generations : goal.returns-in-Ok-clause-generations
 returns-in-Ok-clause-generations c = search rules
+
+pub returns-clause-same_generations : goal.returns-clause-same_generations
+returns-clause-same_generations c = search rules
+
+pub invariant_of-self-in-Err : goal.invariant_of-self-in-Err
+invariant_of-self-in-Err c = search rules

@@ -1,0 +1,5 @@
+use Rattle.std.proofs.Common.{rules}
+use Rattle.wi_propagate.proofs.kept.KeptCalculatorCalculator.content.Goals as goal
+
+pub returns : goal.returns
+returns c = search rules
