@@ -1,8 +1,8 @@
 //! A case as standard input spells it.
 
 use std::alloc::{AllocError, Global};
-use std::io;
 use std::io::Write;
+use std::{io, mem};
 use wi_cases::{number, push_spelled};
 use wi_store::Limits;
 
@@ -10,6 +10,9 @@ use wi_store::Limits;
 #[derive(Drop)]
 pub struct Case {
     pub title: String,
+    /// The parts of the script that end with a count.
+    pub counted: Vec<Vec<u8>>,
+    /// The script, or what of it follows the last count.
     pub script: Vec<u8>,
     pub limits: Limits,
     /// How many bytes of replies can be written.
@@ -31,6 +34,7 @@ impl Case {
     pub fn new(alloc: Global, title: &str) -> Result<Case, AllocError> {
         Ok(Case {
             title: String::from_str(alloc, title)?,
+            counted: Vec::new(alloc),
             script: Vec::new(alloc),
             limits: Limits::standard(),
             room: usize::MAX,
@@ -43,7 +47,7 @@ impl Case {
     }
 
     /// Takes a line of the case.
-    pub fn take(&mut self, line: &str) -> io::Result<()> {
+    pub fn take(&mut self, alloc: Global, line: &str) -> io::Result<()> {
         match line.split_once(' ') {
             Some(("@bytes", text)) => push_spelled(text, &mut self.script),
             Some(("@rows", text)) => push_rows(text, &mut self.script),
@@ -63,15 +67,19 @@ impl Case {
                 self.interruptions = usize::try_from(number(count)?).unwrap_or(usize::MAX);
                 Ok(())
             }
-            _ => self.take_word(line),
+            _ => self.take_word(alloc, line),
         }
     }
 
     /// Takes a line that is a word of its own, or a line of the script.
-    fn take_word(&mut self, line: &str) -> io::Result<()> {
+    fn take_word(&mut self, alloc: Global, line: &str) -> io::Result<()> {
         match line {
             "@torn" => self.torn = true,
             "@turns" => self.in_turns = true,
+            "@count" => {
+                let part = mem::replace(&mut self.script, Vec::new(alloc));
+                self.counted.push(part)?;
+            }
             "@evaluations" => self.evaluations = true,
             "@restarts" => self.restarts = true,
             _ => {

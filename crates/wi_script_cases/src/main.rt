@@ -1,6 +1,8 @@
 //! Runs the scripts of the cases that standard input gives, each on a new workbook, and prints their replies.
 #![tactic(auto)]
 
+ghost use Rattle.std.specs.Prelude.{◌≤◌};
+
 mod case;
 mod devices;
 
@@ -9,63 +11,108 @@ use devices::{Lines, Pieces, Taken};
 use std::alloc::Global;
 use std::cell::RefCell;
 use std::io;
-use std::io::{BufRead, BufReader, Read, Write};
+use std::io::{BufRead, BufReader, Write};
 use wi_cases::push_spelling;
 use wi_cli::{ReadFrom, RunFault, WriteTo, run};
-use wi_propagate::{Calculator, PlainCalculator};
+use wi_propagate::{Calculator, KeptCalculator, PlainCalculator};
 use wi_scenarios::Workbook;
 
 /// How many equal lines of replies are printed one by one at most.
 const ONE_BY_ONE: usize = 9;
 
+/// How many values the program keeps.
+const KEEP: usize = 65_536;
+
 /// How a run ended, whether its replies were flushed, and how often formulas were evaluated and begun again.
-#[derive(Clone, Copy, PartialEq)]
+#[derive(Drop, PartialEq)]
 struct Ending {
     outcome: Result<(), RunFault>,
     flushed: bool,
+    /// The evaluations up to each count.
+    counted: Vec<u64>,
     evaluations: u64,
     restarts: u64,
 }
 
-/// Runs a case's script from a reader on a new workbook, with replies of at most so many bytes at a time.
-fn run_from<R: Read + Drop>(
+/// Runs a part of a case's script on devices that give and take at most so many bytes at a time.
+fn run_part<C: Calculator + Drop>(
     alloc: Global,
     case: &Case,
-    reader: R,
+    bytes: &[u8],
+    taken: &mut Taken<'_>,
+    book: &mut Workbook<C>,
+) -> Result<(), RunFault> {
+    let (notes, piece, torn) = (taken.bytes, taken.piece, case.torn);
+    let mut writer = WriteTo::new(taken);
+    if case.in_turns {
+        let mut source = ReadFrom::new(Lines { bytes, notes });
+        run(alloc, &mut source, &mut writer, book)
+    } else {
+        let mut source = ReadFrom::new(Pieces { bytes, piece, torn });
+        run(alloc, &mut source, &mut writer, book)
+    }
+}
+
+/// Runs a case's script part by part, and notes the evaluations after each that ends with a count.
+fn run_parts<C: Calculator + Drop>(
+    alloc: Global,
+    case: &Case,
+    taken: &mut Taken<'_>,
+    book: &mut Workbook<C>,
+    counted: &mut Vec<u64>,
+) -> io::Result<Result<(), RunFault>> {
+    for part in &case.counted {
+        let outcome = run_part(alloc, case, part, taken, book);
+        if outcome.is_err() {
+            return Ok(outcome);
+        }
+        counted.push(book.calculator().evaluations())?;
+    }
+    Ok(run_part(alloc, case, &case.script, taken, book))
+}
+
+/// Runs a case's script on an empty sheet, with devices that give and take at most so many bytes at a time. What was
+/// written comes second.
+fn run_case<C: Calculator + Drop>(
+    alloc: Global,
+    case: &Case,
+    calculator: C,
     piece: usize,
-    replies: &RefCell<Vec<u8>>,
-) -> io::Result<Ending> {
-    let mut book = Workbook::new(alloc, PlainCalculator::new(alloc, case.limits))?;
-    let mut source = ReadFrom::new(reader);
+) -> io::Result<(Ending, Vec<u8>)> {
+    let replies = RefCell::new(Vec::new(alloc));
+    let mut book = Workbook::new(alloc, calculator)?;
     let mut taken = Taken {
-        bytes: replies,
+        bytes: &replies,
         piece,
         room: case.room,
         interruptions: case.interruptions,
         interrupted: 0,
         flushed: false,
     };
-    let outcome = run(alloc, &mut source, &mut WriteTo::new(&mut taken), &mut book);
-    Ok(Ending {
+    let mut counted = Vec::new(alloc);
+    let outcome = run_parts(alloc, case, &mut taken, &mut book, &mut counted)?;
+    let ending = Ending {
         outcome,
         flushed: taken.flushed,
+        counted,
         evaluations: book.calculator().evaluations(),
         restarts: book.calculator().restarts(),
-    })
-}
-
-/// Runs a case's script on devices that give and take at most so many bytes at a time. What was written comes second.
-fn run_case(alloc: Global, case: &Case, piece: usize) -> io::Result<(Ending, Vec<u8>)> {
-    let replies = RefCell::new(Vec::new(alloc));
-    let bytes = case.script.as_slice();
-    let ending = if case.in_turns {
-        let notes = &replies;
-        run_from(alloc, case, Lines { bytes, notes }, piece, &replies)?
-    } else {
-        let torn = case.torn;
-        run_from(alloc, case, Pieces { bytes, piece, torn }, piece, &replies)?
     };
     Ok((ending, replies.into_inner()))
+}
+
+/// Runs a case's script on the plain calculator.
+fn run_plain(alloc: Global, case: &Case, piece: usize) -> io::Result<(Ending, Vec<u8>)> {
+    let calculator = PlainCalculator::new(alloc, case.limits);
+    run_case(alloc, case, calculator, piece)
+}
+
+/// Runs a case's script on the calculator that keeps so many values.
+fn run_kept(alloc: Global, case: &Case, keep: usize) -> io::Result<(Ending, Vec<u8>)>
+    requires { 1 ≤ keep }
+{
+    let calculator = KeptCalculator::new(alloc, case.limits, keep)?;
+    run_case(alloc, case, calculator, usize::MAX)
 }
 
 /// Appends lines; many equal ones are told once, with their number.
@@ -97,37 +144,104 @@ fn push_equal(alloc: Global, equal: &[&[u8]], text: &mut Vec<u8>) -> io::Result<
     Ok(())
 }
 
-/// Appends what is to be told of a run beside its replies.
-fn push_ending(case: &Case, ending: Ending, text: &mut Vec<u8>) -> io::Result<()> {
+/// Appends how a run ended, where it didn't end well.
+fn push_outcome(ending: &Ending, text: &mut Vec<u8>) -> io::Result<()> {
     match ending.outcome {
         Ok(()) if ending.flushed => {}
         Ok(()) => writeln!(text, "-- not flushed")?,
         Err(fault) => writeln!(text, "-- {fault}")?,
     }
+    Ok(())
+}
+
+/// Appends the evaluations from each count to the next, where there are counts.
+fn push_counted(ending: &Ending, calculator: &str, text: &mut Vec<u8>) -> io::Result<()> {
+    if ending.counted.is_empty() {
+        return Ok(());
+    }
+    write!(text, "-- counted{calculator}:")?;
+    let mut before = 0;
+    for evaluations in &ending.counted {
+        write!(text, " {}", evaluations.saturating_sub(before))?;
+        before = *evaluations;
+    }
+    writeln!(text)?;
+    Ok(())
+}
+
+/// Appends what is to be told of a run beside its replies.
+fn push_ending(case: &Case, ending: &Ending, text: &mut Vec<u8>) -> io::Result<()> {
+    push_outcome(ending, text)?;
     if case.evaluations {
         writeln!(text, "-- evaluations {}", ending.evaluations)?;
     }
     if case.restarts {
         writeln!(text, "-- restarts {}", ending.restarts)?;
     }
-    Ok(())
+    push_counted(ending, "", text)
 }
 
-/// The case's title, its replies and how its run ended, and whether it runs otherwise in pieces.
-fn told(alloc: Global, case: &Case) -> io::Result<Vec<u8>> {
-    let mut text = Vec::new(alloc);
-    writeln!(text, "== {}", case.title)?;
-    let whole = run_case(alloc, case, usize::MAX)?;
-    push_lines(alloc, &whole.1, &mut text)?;
-    if !text.ends_with(b"\n") {
-        text.push(b'\n')?;
-    }
-    push_ending(case, whole.0, &mut text)?;
+/// Appends in which pieces a run is another.
+fn push_pieces(
+    alloc: Global,
+    case: &Case,
+    whole: &(Ending, Vec<u8>),
+    text: &mut Vec<u8>,
+) -> io::Result<()> {
     for piece in [1usize, 2, 7] {
-        if run_case(alloc, case, piece)? != whole {
+        if run_plain(alloc, case, piece)? != *whole {
             writeln!(text, "-- otherwise in pieces of {piece}")?;
         }
     }
+    Ok(())
+}
+
+/// Appends how a run on the calculator that keeps so many values differs from that on the plain one, but for the counts.
+fn push_kept(
+    alloc: Global,
+    plain: &(Ending, Vec<u8>),
+    kept: &(Ending, Vec<u8>),
+    keep: usize,
+    text: &mut Vec<u8>,
+) -> io::Result<()> {
+    let same_ending = kept.0.outcome == plain.0.outcome && kept.0.flushed == plain.0.flushed;
+    if same_ending && kept.1 == plain.1 {
+        return Ok(());
+    }
+    writeln!(text, "-- otherwise keeping {keep}:")?;
+    push_lines(alloc, &kept.1, text)?;
+    push_outcome(&kept.0, text)
+}
+
+/// Appends what is to be told of the runs on calculators that keep values. With two kept values the contracts leave some
+/// counts open, so these aren't told.
+fn push_all_kept(
+    alloc: Global,
+    case: &Case,
+    plain: &(Ending, Vec<u8>),
+    text: &mut Vec<u8>,
+) -> io::Result<()> {
+    let (one, two) = (run_kept(alloc, case, 1)?, run_kept(alloc, case, 2)?);
+    let many = run_kept(alloc, case, KEEP)?;
+    push_kept(alloc, plain, &one, 1, text)?;
+    push_kept(alloc, plain, &two, 2, text)?;
+    push_kept(alloc, plain, &many, KEEP, text)?;
+    push_counted(&one.0, " keeping 1", text)?;
+    push_counted(&many.0, " keeping 65536", text)
+}
+
+/// The case's title, its replies and how its run ended, and whether it runs otherwise in pieces or where values are kept.
+fn told(alloc: Global, case: &Case) -> io::Result<Vec<u8>> {
+    let mut text = Vec::new(alloc);
+    writeln!(text, "== {}", case.title)?;
+    let plain = run_plain(alloc, case, usize::MAX)?;
+    push_lines(alloc, &plain.1, &mut text)?;
+    if !text.ends_with(b"\n") {
+        text.push(b'\n')?;
+    }
+    push_ending(case, &plain.0, &mut text)?;
+    push_pieces(alloc, case, &plain, &mut text)?;
+    push_all_kept(alloc, case, &plain, &mut text)?;
     Ok(text)
 }
 
@@ -139,7 +253,7 @@ fn read_cases(rt: &(impl AllocGlobal + Input)) -> io::Result<Vec<Case>> {
         if let Some(title) = line.strip_prefix("== ") {
             cases.push(Case::new(rt.alloc(), title)?)?;
         } else if let Some(case) = cases.last_mut() {
-            case.take(&line)?;
+            case.take(rt.alloc(), &line)?;
         }
     }
     Ok(cases)
