@@ -4,9 +4,9 @@ ghost use Rattle.std.specs.Prelude.{◌≡◌};
 ghost use Rattle.wi_values.specs.declared.value.Value.{Value as Values};
 ghost use Rattle.wi_standard_functions.specs.Comparison.{empty_beside, beside, rank, order};
 
-use crate::convert::zero;
 use std::alloc::Global;
 use std::cmp::Ordering;
+use wi_scalar_functions::zero;
 use wi_values::{Text, Value};
 
 /// The order of two values, in which Empty counts as 0, the empty text or FALSE, as the other is.

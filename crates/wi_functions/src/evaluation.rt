@@ -9,12 +9,12 @@ ghost use Rattle.wi_functions.specs.Assignment.{Assignment, AgreesWith};
 ghost use Rattle.wi_functions.specs.Wants.{Asks, IsUnknown, IfNeeds, IfDone, IfWanting};
 ghost use Rattle.wi_functions.specs.Counts.{counted};
 
-use crate::convert::zero_for_empty;
 use crate::lookup::{LookedUp, Lookup};
 use crate::meter::Meter;
 use crate::operators::{hundredth, operate, with_sign};
 use std::alloc::{AllocError, Global};
 use wi_parser::{Corners, Expr, Formula, Operator, Pair, Reference, Sign};
+use wi_scalar_functions::zero;
 use wi_values::{Address, ErrorKind, Text, Value};
 
 /// What an evaluation can't go on without.
@@ -77,6 +77,19 @@ pub fn evaluate<L: Lookup>(
             Ok(Outcome::Needs(want))
         }
         Err(Stop::Memory) => Err(AllocError),
+    }
+}
+
+/// A formula's result, in which Empty becomes 0.
+pub fn zero_for_empty(value: Value) -> Value
+    ensures { result ≡ formulas.zero_for_empty value }
+{
+    match value {
+        Value::Empty => Value::Number(zero()),
+        Value::Number(x) => Value::Number(x),
+        Value::Text(t) => Value::Text(t),
+        Value::Logical(b) => Value::Logical(b),
+        Value::Fault(e) => Value::Fault(e),
     }
 }
 

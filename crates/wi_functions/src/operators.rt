@@ -11,11 +11,10 @@ ghost use Rattle.wi_functions.specs.Inner.Fractions.{fraction_value};
 ghost use Rattle.wi_functions.specs.Operators.{operate, with_sign, hundredth, minus};
 
 use crate::comparison::compare;
-use crate::convert::{hundred, to_number};
-use crate::first_error::{both, no_error};
 use std::alloc::{AllocError, Global};
 use wi_fraction::{Fraction, FractionError};
 use wi_parser::{Operator, Sign};
+use wi_scalar_functions::{both, hundred, no_error, to_number};
 use wi_values::{ErrorKind, MAX_TEXT, Text, Value};
 
 /// What an operator gives for two values. Only a join needs memory.

@@ -1,5 +1,5 @@
-use Rattle.wi_functions.proofs.Constants.{number_of-zero}
-use Rattle.wi_functions.proofs.convert.zero.Goals as goal
+use Rattle.wi_scalar_functions.proofs.Constants.{number_of-zero}
+use Rattle.wi_scalar_functions.proofs.convert.zero.Goals as goal
 
 pub unreachable-requires : goal.unreachable-requires
 unreachable-requires c = let made = rw number_of-zero at c.new.ensures in cc

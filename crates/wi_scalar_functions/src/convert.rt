@@ -2,13 +2,12 @@
 
 ghost use Rattle.std.specs.Prelude.{◌≡◌};
 ghost use Rattle.wi_standard_functions.specs.Convert.{to_number, zero_number, one_number, hundred_number};
-ghost use Rattle.wi_functions.specs.Meaning.{zero_for_empty};
 
 use wi_fraction::Fraction;
 use wi_values::{ErrorKind, Value};
 
 /// The number 0.
-pub(crate) fn zero() -> Fraction
+pub fn zero() -> Fraction
     ensures { result ≡ zero_number }
 {
     match Fraction::new(0, 1) {
@@ -18,7 +17,7 @@ pub(crate) fn zero() -> Fraction
 }
 
 /// The number 1.
-pub(crate) fn one() -> Fraction
+pub fn one() -> Fraction
     ensures { result ≡ one_number }
 {
     match Fraction::new(1, 1) {
@@ -28,7 +27,7 @@ pub(crate) fn one() -> Fraction
 }
 
 /// The number 100.
-pub(crate) fn hundred() -> Fraction
+pub fn hundred() -> Fraction
     ensures { result ≡ hundred_number }
 {
     match Fraction::new(100, 1) {
@@ -38,7 +37,7 @@ pub(crate) fn hundred() -> Fraction
 }
 
 /// A value taken for a number.
-pub(crate) fn to_number(value: &Value) -> Result<Fraction, ErrorKind>
+pub fn to_number(value: &Value) -> Result<Fraction, ErrorKind>
     ensures { result ≡ to_number value.now }
 {
     match value {
@@ -48,18 +47,5 @@ pub(crate) fn to_number(value: &Value) -> Result<Fraction, ErrorKind>
         Value::Logical(true) => Ok(one()),
         Value::Logical(false) => Ok(zero()),
         Value::Fault(e) => Err(*e),
-    }
-}
-
-/// A formula's result, in which Empty becomes 0.
-pub fn zero_for_empty(value: Value) -> Value
-    ensures { result ≡ zero_for_empty value }
-{
-    match value {
-        Value::Empty => Value::Number(zero()),
-        Value::Number(x) => Value::Number(x),
-        Value::Text(t) => Value::Text(t),
-        Value::Logical(b) => Value::Logical(b),
-        Value::Fault(e) => Value::Fault(e),
     }
 }

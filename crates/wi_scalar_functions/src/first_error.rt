@@ -2,12 +2,12 @@
 
 ghost use Rattle.std.specs.Prelude.{◌≡◌, Ok, Err, MatchResult};
 ghost use Rattle.wi_standard_functions.specs.FirstError.{no_error};
-ghost use Rattle.wi_functions.specs.Inner.Both.{both};
+ghost use Rattle.wi_scalar_functions.specs.Inner.Both.{both};
 
 use wi_values::{ErrorKind, Value};
 
 /// The error, where the value is one.
-pub(crate) fn no_error(value: &Value) -> Result<(), ErrorKind>
+pub fn no_error(value: &Value) -> Result<(), ErrorKind>
     ensures { MatchResult result (λ _. no_error value.now ≡ Ok value.now) (λ e. no_error value.now ≡ Err e) }
 {
     match value {
@@ -20,7 +20,7 @@ pub(crate) fn no_error(value: &Value) -> Result<(), ErrorKind>
 }
 
 /// Both operands, or the first error from the left.
-pub(crate) fn both<T: Copy>(
+pub fn both<T: Copy>(
     left: Result<T, ErrorKind>,
     right: Result<T, ErrorKind>,
 ) -> Result<(T, T), ErrorKind>

@@ -1,5 +1,5 @@
-use Rattle.wi_functions.proofs.Constants.{number_of-one}
-use Rattle.wi_functions.proofs.convert.one.Goals as goal
+use Rattle.wi_scalar_functions.proofs.Constants.{number_of-one}
+use Rattle.wi_scalar_functions.proofs.convert.one.Goals as goal
 
 pub unreachable-requires : goal.unreachable-requires
 unreachable-requires c = let made = rw number_of-one at c.new.ensures in cc

@@ -1,5 +1,5 @@
 use Rattle.std.proofs.Common.{rules}
-use Rattle.wi_functions.proofs.convert.zero_for_empty.Goals as goal
+use Rattle.wi_functions.proofs.evaluation.zero_for_empty.Goals as goal
 
 pub returns-in-Empty : goal.returns-in-Empty
 returns-in-Empty c = search rules
