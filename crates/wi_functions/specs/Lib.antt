@@ -3,4 +3,3 @@ pub mod Meaning
 pub mod Assignment
 pub mod Counts
 pub mod Wants
-pub mod Inner

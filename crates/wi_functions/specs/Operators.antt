@@ -10,18 +10,18 @@ use Rattle.wi_parser.specs.declared.expr.Operator.{Operator}
 use Rattle.wi_parser.specs.declared.expr.Operator.TheVariants as op
 use Rattle.wi_parser.specs.declared.expr.Sign.{Sign}
 use Rattle.wi_parser.specs.declared.expr.Sign.TheVariants.{Plus, Minus}
-use Rattle.wi_standard_functions.specs.Arithmetic.{addition, subtraction, multiplication, division, exponentiation, concatenation}
+use Rattle.wi_standard_functions.specs.Arithmetic.{addition, subtraction, multiplication, division, exponentiation, calculated, concatenation}
 use Rattle.wi_standard_functions.specs.Comparison.{compared}
 use Rattle.wi_standard_functions.specs.Convert.{to_number, to_text, hundred_number}
 use Rattle.wi_standard_functions.specs.FirstError.{on_both}
 
 -- what an operator gives for its two operands
 abbrev pub operate : Operator → Value → Value → Value
-operate op.Add v w = on_both addition (to_number v) (to_number w)
-operate op.Subtract v w = on_both subtraction (to_number v) (to_number w)
-operate op.Multiply v w = on_both multiplication (to_number v) (to_number w)
-operate op.Divide v w = on_both division (to_number v) (to_number w)
-operate op.Power v w = on_both exponentiation (to_number v) (to_number w)
+operate op.Add v w = calculated addition v w
+operate op.Subtract v w = calculated subtraction v w
+operate op.Multiply v w = calculated multiplication v w
+operate op.Divide v w = calculated division v w
+operate op.Power v w = calculated exponentiation v w
 operate op.Join v w = on_both concatenation (to_text v) (to_text w)
 operate op.Equal v w = compared is_eq v w
 operate op.NotEqual v w = compared is_ne v w

@@ -3,18 +3,20 @@
 ghost use Rattle.std.specs.Prelude.{◌≡◌, Bool, IfOk};
 ghost use Rattle.wi_values.specs.Value.{shown_text};
 ghost use Rattle.std.specs.declared.cmp.Ordering.{Ordering};
-ghost use Rattle.wi_standard_functions.specs.Arithmetic.{addition, subtraction, multiplication, division, exponentiation, concatenation};
+ghost use Rattle.wi_standard_functions.specs.Arithmetic.{addition, subtraction, multiplication, division, calculated, concatenation};
 ghost use Rattle.wi_standard_functions.specs.Comparison.{beside, order, compared};
 ghost use Rattle.wi_standard_functions.specs.Convert.{to_number, to_text};
-ghost use Rattle.wi_standard_functions.specs.FirstError.{on_both, value_or_error};
-ghost use Rattle.wi_functions.specs.Inner.Fractions.{fraction_value};
+ghost use Rattle.wi_standard_functions.specs.FirstError.{on_both};
+ghost use Rattle.wi_scalar_functions.specs.Inner.Outcome.{number_value};
 ghost use Rattle.wi_functions.specs.Operators.{operate, with_sign, hundredth, minus};
 
 use crate::comparison::compare;
 use std::alloc::{AllocError, Global};
-use wi_fraction::{Fraction, FractionError};
+use wi_fraction::Fraction;
 use wi_parser::{Operator, Sign};
-use wi_scalar_functions::{both, hundred, no_error, to_number};
+use wi_scalar_functions::{
+    add, both, divide, hundred, multiply, no_error, number_value, power_value, subtract, to_number,
+};
 use wi_values::{ErrorKind, MAX_TEXT, Text, Value};
 
 /// What an operator gives for two values. Only a join needs memory.
@@ -28,11 +30,11 @@ pub(crate) fn operate(
     ensures { IfOk result (λ v. v ≡ operate operator left.now right.now) }
 {
     match operator {
-        Operator::Add => Ok(value_or_error(add(left, right))),
-        Operator::Subtract => Ok(value_or_error(subtract(left, right))),
-        Operator::Multiply => Ok(value_or_error(multiply(left, right))),
-        Operator::Divide => Ok(value_or_error(divide(left, right))),
-        Operator::Power => Ok(value_or_error(raise(left, right))),
+        Operator::Add => Ok(number_value(sum(left, right))),
+        Operator::Subtract => Ok(number_value(difference(left, right))),
+        Operator::Multiply => Ok(number_value(product(left, right))),
+        Operator::Divide => Ok(number_value(quotient(left, right))),
+        Operator::Power => Ok(power_value(left, right)),
         Operator::Join => join(alloc, left, right),
         Operator::Equal => Ok(truth(left, right, compare(alloc, left, right).is_eq())),
         Operator::NotEqual => Ok(truth(left, right, compare(alloc, left, right).is_ne())),
@@ -57,53 +59,35 @@ pub(crate) fn with_sign(sign: Sign, value: Value) -> Value
 pub(crate) fn hundredth(value: &Value) -> Value
     ensures { result ≡ hundredth value.now }
 {
-    value_or_error(divide(value, &Value::Number(hundred())))
+    number_value(quotient(value, &Value::Number(hundred())))
 }
 
-fn add(left: &Value, right: &Value) -> Result<Value, ErrorKind>
-    ensures { value_or_error result ≡ on_both addition (to_number left.now) (to_number right.now) }
+fn sum(left: &Value, right: &Value) -> Result<Fraction, ErrorKind>
+    ensures { number_value result ≡ calculated addition left.now right.now }
 {
     let (x, y) = both(to_number(left), to_number(right))?;
-    Ok(fraction_value(x.checked_add(y)))
+    add(x, y)
 }
 
-fn subtract(left: &Value, right: &Value) -> Result<Value, ErrorKind>
-    ensures { value_or_error result ≡ on_both subtraction (to_number left.now) (to_number right.now) }
+fn difference(left: &Value, right: &Value) -> Result<Fraction, ErrorKind>
+    ensures { number_value result ≡ calculated subtraction left.now right.now }
 {
     let (x, y) = both(to_number(left), to_number(right))?;
-    Ok(fraction_value(x.checked_sub(y)))
+    subtract(x, y)
 }
 
-fn multiply(left: &Value, right: &Value) -> Result<Value, ErrorKind>
-    ensures { value_or_error result ≡ on_both multiplication (to_number left.now) (to_number right.now) }
+fn product(left: &Value, right: &Value) -> Result<Fraction, ErrorKind>
+    ensures { number_value result ≡ calculated multiplication left.now right.now }
 {
     let (x, y) = both(to_number(left), to_number(right))?;
-    Ok(fraction_value(x.checked_mul(y)))
+    multiply(x, y)
 }
 
-fn divide(left: &Value, right: &Value) -> Result<Value, ErrorKind>
-    ensures { value_or_error result ≡ on_both division (to_number left.now) (to_number right.now) }
+fn quotient(left: &Value, right: &Value) -> Result<Fraction, ErrorKind>
+    ensures { number_value result ≡ calculated division left.now right.now }
 {
     let (dividend, divisor) = both(to_number(left), to_number(right))?;
-    Ok(fraction_value(dividend.checked_div(divisor)))
-}
-
-fn raise(left: &Value, right: &Value) -> Result<Value, ErrorKind>
-    ensures { value_or_error result ≡ on_both exponentiation (to_number left.now) (to_number right.now) }
-{
-    let (base, exponent) = both(to_number(left), to_number(right))?;
-    Ok(power(base, exponent))
-}
-
-/// The power of a number, whose exponent is whole.
-fn power(x: Fraction, y: Fraction) -> Value
-    ensures { result ≡ exponentiation x y }
-{
-    if y.denominator() == 1 {
-        fraction_value(x.checked_pow(y.numerator()))
-    } else {
-        Value::Fault(ErrorKind::BadNumber)
-    }
+    divide(dividend, divisor)
 }
 
 /// The number with the other sign.
@@ -146,27 +130,6 @@ fn truth(left: &Value, right: &Value, holds: bool) -> Value
 {
     match both(no_error(left), no_error(right)) {
         Ok(_) => Value::Logical(holds),
-        Err(e) => Value::Fault(e),
-    }
-}
-
-/// What an operation gave, as a value.
-fn fraction_value(outcome: Result<Fraction, FractionError>) -> Value
-    ensures { result ≡ fraction_value outcome }
-{
-    match outcome {
-        Ok(x) => Value::Number(x),
-        Err(FractionError::ZeroDenominator) => Value::Fault(ErrorKind::DivisionByZero),
-        Err(FractionError::Overflow) => Value::Fault(ErrorKind::BadNumber),
-    }
-}
-
-/// The value, or else the error.
-fn value_or_error(outcome: Result<Value, ErrorKind>) -> Value
-    ensures { result ≡ value_or_error outcome }
-{
-    match outcome {
-        Ok(value) => value,
         Err(e) => Value::Fault(e),
     }
 }

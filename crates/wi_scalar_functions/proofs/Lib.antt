@@ -1,1 +1,3 @@
 pub mod Constants
+pub mod Cutting
+pub mod Places

@@ -1,2 +1,4 @@
 -- Words of the code's own contracts. Nothing here needs belief.
 pub mod Both
+pub mod Fractions
+pub mod Outcome

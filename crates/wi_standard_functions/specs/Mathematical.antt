@@ -11,10 +11,10 @@ use Rattle.wi_values.specs.declared.value.ErrorKind.TheVariants.{BadValue}
 use Rattle.wi_values.specs.declared.value.Value.{Value}
 use Rattle.wi_values.specs.declared.value.Value.TheVariants.{Empty, Number, Fault}
 use Rattle.wi_standard_functions.specs.Arguments.{Argument, Region, region_referred, region_at, region_or, value_at}
-use Rattle.wi_standard_functions.specs.Arithmetic.{addition, subtraction, multiplication, division, exponentiation}
+use Rattle.wi_standard_functions.specs.Arithmetic.{addition, subtraction, multiplication, division, exponentiation, calculated}
 use Rattle.wi_standard_functions.specs.Convert.{to_number, zero_number, one_number}
 use Rattle.wi_standard_functions.specs.Criterion.{meets_criterion}
-use Rattle.wi_standard_functions.specs.FirstError.{no_error, on_both}
+use Rattle.wi_standard_functions.specs.FirstError.{no_error}
 use Rattle.wi_standard_functions.specs.Sequence.{Item, from_cell, scalar, sequence_of, number_fold}
 use Rattle.wi_standard_functions.specs.Steps.{◌>>=◌, map_until_error}
 
@@ -37,7 +37,7 @@ abbrev pub quotient_value : Value → Value → Value
 quotient_value n m = do
   x ← to_number n
   y ← to_number m
-  q ← to_number (division x y)
+  q ← division x y
   Number (rounded Toward q)
 
 -- MOD: a - b * INT(a / b), step by step
@@ -45,13 +45,14 @@ abbrev pub mod_value : Value → Value → Value
 mod_value n m = do
   a ← to_number n
   b ← to_number m
-  q ← to_number (division a b)
-  p ← to_number (multiplication b (floored q))
-  subtraction a p
+  q ← division a b
+  p ← multiplication b (floored q)
+  r ← subtraction a p
+  Number r
 
 -- POWER: as the operator
 abbrev pub power_value : Value → Value → Value
-power_value n m = on_both exponentiation (to_number n) (to_number m)
+power_value n m = calculated exponentiation n m
 
 -- ---- of sequences
 

@@ -3,7 +3,7 @@ use Rattle.wi_fraction.specs.declared.rounding.Mode.{Mode}
 use Rattle.wi_fraction.specs.Rounding.{floored, round_to}
 use Rattle.wi_values.specs.declared.value.Value.{Value}
 use Rattle.wi_values.specs.declared.value.Value.TheVariants.{Number}
-use Rattle.wi_standard_functions.specs.Arithmetic.{number_value}
+use Rattle.wi_standard_functions.specs.Arithmetic.{fitting}
 use Rattle.wi_standard_functions.specs.Convert.{to_number, to_whole}
 use Rattle.wi_standard_functions.specs.Steps.{◌>>=◌}
 
@@ -18,4 +18,5 @@ abbrev pub round_value : Mode → Value → Value → Value
 round_value mode n places = do
   x ← to_number n
   k ← to_whole places
-  number_value (round_to x k mode)
+  y ← fitting (round_to x k mode)
+  Number y

@@ -59,12 +59,12 @@ logicals_of items = all_that_count logical_of_item items
 -- ---- the fold of a sequence
 
 -- what is calculated so far, with one more number, or none
-abbrev pub with_number : (numbers.Number → numbers.Number → Value) → numbers.Number → Option numbers.Number → Result numbers.Number ErrorKind
+abbrev pub with_number : (numbers.Number → numbers.Number → Result numbers.Number ErrorKind) → numbers.Number → Option numbers.Number → Result numbers.Number ErrorKind
 with_number calculate x None = Ok x
-with_number calculate x (Some y) = to_number (calculate x y)
+with_number calculate x (Some y) = calculate x y
 
 -- what is calculated with the numbers of the items, one after another: the first error met, of an item or of a step, is the
 -- result
-abbrev pub number_fold : (numbers.Number → numbers.Number → Value) → numbers.Number → List Item → Result numbers.Number ErrorKind
+abbrev pub number_fold : (numbers.Number → numbers.Number → Result numbers.Number ErrorKind) → numbers.Number → List Item → Result numbers.Number ErrorKind
 number_fold calculate start items =
     fold_until_error (λ x item. and_then (with_number calculate x) (number_of_item item)) start items

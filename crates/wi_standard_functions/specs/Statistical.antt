@@ -1,16 +1,14 @@
 -- OpenFormula, "Statistical Functions".
-use Rattle.std.specs.Prelude.{ℕ, pos, List, length, unwrap_or, Result, ok_or, if◌then◌else◌}
+use Rattle.std.specs.Prelude.{List, length, unwrap_or, if◌then◌else◌}
 use Rattle.std.specs.List.{reduce}
 use Rattle.std.specs.Ordering.{is_lt, is_gt}
 use Rattle.wi_fraction.specs.Number as numbers
 use Rattle.wi_fraction.specs.Number.{number_of}
 use Rattle.wi_fraction.specs.Order.{cross_cmp}
-use Rattle.wi_values.specs.declared.value.ErrorKind.{ErrorKind}
-use Rattle.wi_values.specs.declared.value.ErrorKind.TheVariants.{BadNumber}
 use Rattle.wi_values.specs.declared.value.Value.{Value}
 use Rattle.wi_values.specs.declared.value.Value.TheVariants.{Number}
 use Rattle.wi_standard_functions.specs.Arguments.{Argument}
-use Rattle.wi_standard_functions.specs.Arithmetic.{division}
+use Rattle.wi_standard_functions.specs.Arithmetic.{division, whole_number}
 use Rattle.wi_standard_functions.specs.Convert.{zero_number}
 use Rattle.wi_standard_functions.specs.Mathematical.{sum_of_items}
 use Rattle.wi_standard_functions.specs.Sequence.{sequence_of, numbers_of}
@@ -35,14 +33,11 @@ max_value args = do
   xs ← numbers_of (sequence_of args)
   Number (unwrap_or (reduce greater_number xs) zero_number)
 
--- a count as a number, where it fits
-abbrev pub whole_number : ℕ → Result numbers.Number ErrorKind
-whole_number n = ok_or (number_of (pos n) 1) BadNumber
-
 -- AVERAGE: the sum divided by the count of the numbers
 abbrev pub average_value : List Argument → Value
 average_value args = do
   total ← sum_of_items (sequence_of args)
   xs ← numbers_of (sequence_of args)
   count ← whole_number (length xs)
-  division total count
+  mean ← division total count
+  Number mean
