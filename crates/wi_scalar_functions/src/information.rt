@@ -68,7 +68,7 @@ pub fn is_not_available(value: &Value) -> bool
     ensures { result ≡ is_not_available value.now }
 {
     match value {
-        Value::Fault(ErrorKind::NotAvailable) => true,
+        Value::Fault(kind) => *kind == ErrorKind::NotAvailable,
         _ => false,
     }
 }
