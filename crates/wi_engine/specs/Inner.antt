@@ -11,4 +11,5 @@ pub mod Saving
 pub mod Seen
 pub mod SettledFrames
 pub mod Steps
+pub mod Touched
 pub mod Walk

@@ -4,6 +4,7 @@
 mod attempt;
 mod cone;
 mod engine;
+mod filled;
 mod findings;
 mod frame;
 mod lookup;

@@ -5,12 +5,13 @@ ghost use Rattle.std.specs.Option.{option_copied};
 ghost use Rattle.wi_values.specs.declared.value.Value.TheVariants.{Empty};
 ghost use Rattle.wi_functions.specs.Assignment.{value_if_known};
 
+use crate::filled::next_touched;
 use crate::findings::Findings;
 use crate::seen::{Seen, content_in};
-use wi_functions::{LookedUp, Lookup};
+use wi_functions::{LookedUp, Lookup, successor};
 use wi_parser::Pair;
 use wi_store::Store;
-use wi_values::{Address, Value};
+use wi_values::{Address, Rect, Value};
 use wi_worlds::World;
 
 /// A cell without a formula under the replacements shows what stands there; the values of others, and of what-ifs, are
@@ -59,6 +60,18 @@ impl<'a> Lookup for Known<'a> {
 
     fn what_if(&self, formula_cell: Address, pairs: &[Pair]) -> LookedUp<'_> {
         looked_up(self.found.what_if(formula_cell, pairs))
+    }
+
+    fn next_filled(&self, area: Rect, from: Address) -> Option<Address> {
+        let mut ahead = Some(from);
+        while let Some(start) = ahead {
+            let at = next_touched(self.store, self.world, area, start)?;
+            if !self.cell(at).is_known_empty() {
+                return Some(at);
+            }
+            ahead = successor(at, area.last());
+        }
+        None
     }
 }
 

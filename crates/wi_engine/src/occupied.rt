@@ -1,11 +1,12 @@
 //! The occupied cells of a rectangle, one after another.
 
-ghost use Rattle.std.specs.Prelude.{◌≡◌, ◌≤◌, ◌+◌, ◌∷◌, [], ℕ, Some, true, false, IfSome, IfNone, nat_le};
+ghost use Rattle.std.specs.Prelude.{◌≡◌, ◌∷◌, [], ℕ, Some, true, false, IfSome, IfNone, nat_le};
 ghost use Rattle.wi_values.specs.Address.{is_within};
 ghost use Rattle.wi_engine.specs.Inner.ReadCells.{cells_after, is_after};
 
+use wi_functions::successor;
 use wi_store::Store;
-use wi_values::{Address, COLUMNS, Rect};
+use wi_values::{Address, Rect};
 
 /// The first occupied cell of a rectangle after the one looked at last. The work is that of `Store::next_occupied`.
 pub fn next_within(store: &Store, area: Rect, after: Option<Address>) -> Option<Address>
@@ -25,20 +26,5 @@ fn first_after(area: Rect, after: Option<Address>) -> Option<Address>
     match after {
         None => Some(area.first()),
         Some(cell) => successor(cell, area.last()),
-    }
-}
-
-/// The address after another in row-major order, unless that is the last one or comes later.
-fn successor(cell: Address, last: Address) -> Option<Address>
-    ensures some { IfSome result (λ next. next ≡ cell + 1) }
-    ensures none { IfNone result (last ≤ cell) }
-{
-    if last <= cell {
-        return None;
-    }
-    if cell.column() + 1 < COLUMNS {
-        Some(Address::at(cell.row(), cell.column() + 1))
-    } else {
-        Some(Address::at(cell.row() + 1, 0))
     }
 }

@@ -4,9 +4,9 @@ use crate::spelled;
 use crate::values::{push_value, value};
 use anyhow::{Context, Result};
 use std::alloc::{AllocError, Global};
-use wi_functions::{LookedUp, Lookup, Meter, Outcome, Want, evaluate};
+use wi_functions::{LookedUp, Lookup, Meter, Outcome, Want, evaluate, successor};
 use wi_parser::{Formula, Pair, parse};
-use wi_values::{Address, Value};
+use wi_values::{Address, Rect, Value};
 
 /// Knows the values of A1 and B1, and that each what-if of A1 has that of A1 and each of B1 is Empty.
 #[derive(Drop)]
@@ -41,6 +41,17 @@ impl Lookup for Cells {
         } else {
             LookedUp::Missing
         }
+    }
+
+    fn next_filled(&self, area: Rect, from: Address) -> Option<Address> {
+        let mut ahead = Some(from);
+        while let Some(at) = ahead {
+            if area.contains(at) && !self.cell(at).is_known_empty() {
+                return Some(at);
+            }
+            ahead = successor(at, area.last());
+        }
+        None
     }
 }
 

@@ -5,15 +5,29 @@ ghost use Rattle.wi_values.specs.declared.value.Value.{Value as Values};
 ghost use Rattle.wi_parser.specs.View.{pair_of};
 ghost use Rattle.wi_functions.specs.Meaning.{addresses};
 ghost use Rattle.wi_functions.specs.Assignment.{value_if_known};
+ghost use Rattle.wi_functions.specs.Filled.{IsNextFilled, is_known_empty};
 
 use wi_parser::Pair;
-use wi_values::{Address, Value};
+use wi_values::{Address, Rect, Value};
 
 /// What is known of a cell or of a what-if.
 #[derive(Clone, Copy)]
 pub enum LookedUp<'a> {
     Known(&'a Value),
     Missing,
+}
+
+impl<'a> LookedUp<'a> {
+    /// Whether it is known to be Empty.
+    pub fn is_known_empty(self) -> bool
+        ensures { result ≡ is_known_empty (value_if_known self.entry) }
+    {
+        match self {
+            LookedUp::Known(Value::Empty) => true,
+            LookedUp::Known(_) => false,
+            LookedUp::Missing => false,
+        }
+    }
 }
 
 /// Whatever knows some of the values of cells and what-ifs. Whether a reference is absolute makes no difference.
@@ -31,4 +45,10 @@ pub trait Lookup {
     /// The value of a formula cell, if each input had the value of its replacement cell.
     fn what_if(&self, formula_cell: Address, pairs: &[Pair]) -> LookedUp<'_>
         ensures { value_if_known result ≡ known_what_if self.now formula_cell (map addresses (map pair_of pairs.now)) };
+
+    /// The first cell of a rectangle in row-major order, at a cell or after it, that isn't known to be Empty. A replaced cell
+    /// is what its replacement says. The work grows with the counts of replaced cells and of filled ones that are passed
+    /// over, and never with the size of the rectangle.
+    fn next_filled(&self, area: Rect, from: Address) -> Option<Address>
+        ensures { IsNextFilled (known_cell self.now) area from result };
 }

@@ -1,0 +1,2 @@
+-- What the proofs about the filled cells of a rectangle use.
+pub mod Passing
