@@ -1,5 +1,5 @@
 -- The functions by their names, and what a call of one gives (OpenFormula, "Standard Operators and Functions").
-use Rattle.std.specs.Prelude.{ℕ, ◌&&◌, Bool, true, false, nat_le, List, [], ◌∷◌, length, find, codes, Option, Some, None, if◌then◌else◌}
+use Rattle.std.specs.Prelude.{ℕ, ◌&&◌, Bool, true, false, nat_le, List, [], ◌∷◌, length, map, find, codes, Option, Some, None, if◌then◌else◌}
 use Rattle.std.specs.Str.{bytes_eq}
 use Rattle.wi_fraction.specs.declared.rounding.Mode.TheVariants.{HalfAway, Away, Toward}
 use Rattle.wi_values.specs.declared.value.ErrorKind.TheVariants.{BadValue, UnknownName}
@@ -50,6 +50,10 @@ of_three f args = f (value_at args 0) (value_at args 1) (value_at args 2)
 abbrev pub of_three_or : Value → (Value → Value → Value → Value) → List Argument → Value
 of_three_or default f args = f (value_at args 0) (value_at args 1) (value_or default args 2)
 
+-- of the values of all
+abbrev pub of_values : (List Value → Value) → List Argument → Value
+of_values f args = f (map (λ (a : Argument). a.value) args)
+
 -- of one to three values, where a missing second is TRUE and a missing third FALSE
 abbrev pub of_condition : (Value → Value → Value → Value) → List Argument → Value
 of_condition f args = f (value_at args 0) (value_or (Logical true) args 1) (value_or (Logical false) args 2)
@@ -71,7 +75,7 @@ functions =
     ∷ variadic (codes "AND") 1 and_value
     ∷ variadic (codes "AVERAGE") 1 average_value
     ∷ variadic (codes "CHOOSE") 2 choose_value
-    ∷ variadic (codes "CONCATENATE") 1 concatenate_value
+    ∷ variadic (codes "CONCATENATE") 1 (of_values concatenate_value)
     ∷ variadic (codes "COUNT") 1 count_value
     ∷ variadic (codes "COUNTA") 1 count_a_value
     ∷ with_parameters (codes "COUNTIF") 2 2 count_if_value

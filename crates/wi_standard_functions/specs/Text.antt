@@ -1,11 +1,10 @@
 -- OpenFormula, "Text Functions". Characters are Unicode scalar values.
-use Rattle.std.specs.Prelude.{ℕ, ℤ, pos, ◌+◌, ◌-◌, nat_eq, int_lt, unsigned_abs, List, take, drop, length, find, replicate, chars, bytes_eq, encode_utf8_all, Option, Result, Ok, Err, ok_or, if◌then◌else◌}
-use Rattle.std.specs.List.{concat, starts_with, range_with_len}
+use Rattle.std.specs.Prelude.{ℕ, ℤ, pos, ◌+◌, ◌-◌, nat_eq, nat_le, int_lt, unsigned_abs, List, take, drop, length, find, chars, bytes_eq, encode_utf8_all, Option, None, option_map, Result, Ok, Err, ok_or, if◌then◌else◌}
+use Rattle.std.specs.List.{concat, repeat, starts_with, range_with_len}
 use Rattle.wi_values.specs.declared.value.ErrorKind.{ErrorKind}
 use Rattle.wi_values.specs.declared.value.ErrorKind.TheVariants.{BadValue}
 use Rattle.wi_values.specs.declared.value.Value.{Value}
 use Rattle.wi_values.specs.declared.value.Value.TheVariants.{Logical}
-use Rattle.wi_standard_functions.specs.Arguments.{Argument}
 use Rattle.wi_standard_functions.specs.Arithmetic.{whole_value, limited_text}
 use Rattle.wi_standard_functions.specs.Convert.{to_text, to_whole}
 use Rattle.wi_standard_functions.specs.FirstError.{on_both}
@@ -52,18 +51,22 @@ mid_value t place count = do
   of_chars (take n (drop (first - 1) (chars s)))
 
 -- CONCATENATE: the texts, joined
-abbrev pub concatenate_value : List Argument → Value
-concatenate_value args = do
-  ts ← map_until_error (λ (a : Argument). to_text a.value) args
+abbrev pub concatenate_value : List Value → Value
+concatenate_value vs = do
+  ts ← map_until_error to_text vs
   limited_text (concat ts)
 
 -- EXACT: equal byte for byte
 abbrev pub exact_value : Value → Value → Value
 exact_value t u = on_both (λ s r. Logical (bytes_eq s r)) (to_text t) (to_text u)
 
--- the first place from `from` on, both from 0, where the characters stand in others
-abbrev pub found_at : List ℕ → List ℕ → ℕ → Option ℕ
-found_at sought cs from = find (λ i. starts_with nat_eq (drop i cs) sought) (range_with_len from ((length cs + 1) - from))
+-- the first place, counted from 0, where the characters stand in others
+abbrev pub first_place : List ℕ → List ℕ → Option ℕ
+first_place sought cs = find (λ i. starts_with nat_eq (drop i cs) sought) (range_with_len 0 (length cs + 1))
+
+-- the first such place from a place on, at most the one behind the last character
+abbrev pub place_from : ℕ → List ℕ → List ℕ → Option ℕ
+place_from from sought cs = if nat_le from (length cs) then option_map (λ i. from + i) (first_place sought (drop from cs)) else None
 
 -- FIND: the first place at or after k, counted from 1, where the first text stands in the second
 abbrev pub find_value : Value → Value → Value → Value
@@ -72,7 +75,7 @@ find_value t u place = do
   s ← to_text u
   k ← to_whole place
   from ← at_least 1 k
-  i ← ok_or (found_at (chars sought) (chars s) (from - 1)) BadValue
+  i ← ok_or (place_from (from - 1) (chars sought) (chars s)) BadValue
   whole_value (i + 1)
 
 -- REPT: k times
@@ -81,4 +84,4 @@ rept_value t count = do
   s ← to_text t
   k ← to_whole count
   n ← at_least 0 k
-  limited_text (concat (replicate n s))
+  limited_text (repeat n s)
