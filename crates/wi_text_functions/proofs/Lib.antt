@@ -1,0 +1,5 @@
+mod Cutting
+mod Counting
+mod Texts
+mod Joining
+mod Taking
