@@ -3,3 +3,4 @@ mod Counting
 mod Texts
 mod Joining
 mod Taking
+mod Finding

@@ -11,4 +11,4 @@ mod stop;
 
 pub use joined::{concatenate_value, rept_value};
 pub use parts::{left_value, len_value, mid_value, right_value};
-pub use place::exact_value;
+pub use place::{exact_value, find_value};
