@@ -36,7 +36,9 @@ fn is_held(
     ensures { result ≡ reads_outside reads.now circles.now cells.now cell }
 {
     match reads.get(&cell) {
-        Some(areas) => areas.iter().any(|area| has_circle_outside(*area, circles, cells)),
+        Some(areas) => areas
+            .iter()
+            .any(|area| has_circle_outside(*area, circles, cells)),
         None => false,
     }
 }
