@@ -1,5 +1,5 @@
 -- One character after another comes off the front of a text.
-use Rattle.std.proofs.Common.{◌≡◌, refl, sym, ap, subst, ◌∙◌, ℕ, zero, suc, ◌+◌, ◌-◌, ◌≤◌, ◌<◌, List, [], ◌∷◌, ◌++◌, take, drop, length, length-append, chars, arith, ⊎_elim}
+use Rattle.std.proofs.Common.{◌≡◌, refl, sym, ap, subst, ◌∙◌, ℕ, zero, suc, ◌+◌, ◌-◌, ◌≤◌, List, [], ◌∷◌, ◌++◌, take, drop, length, length-append, chars, arith, ⊎_elim}
 use Rattle.std.proofs.lemmas.Bool.{cases_lt}
 use Rattle.std.proofs.lemmas.List.{append_assoc, append_cancel_right, take-append-drop}
 use Rattle.std.proofs.lemmas.Str.{IsUtf8-past_char, IsUtf8-take, chars_past_char, chars-nil, chars-append, length-le-encodes, encodes-chars, IsCharBoundary-at_seam}

@@ -1,6 +1,6 @@
 -- A number is cut toward zero by rounding it at no place.
 use Rattle.std.proofs.Common.{◌≡◌, refl, ap, ◌∙◌, sym}
-use Rattle.std.specs.Prelude.{ℤ, pos, negsuc, zero, suc, neg_ℤ, ◌*ℤ◌, ◌*◌, unsigned_abs, int_lt, Some}
+use Rattle.std.specs.Prelude.{ℤ, pos, negsuc, suc, neg_ℤ, ◌*ℤ◌, unsigned_abs, int_lt, Some}
 use Rattle.std.proofs.Math.IntN.{pos-*ℤ-pos, negsuc-*ℤ-pos}
 use Rattle.std.proofs.Math.Nat.{mul-one}
 use Rattle.wi_fraction.specs.Number.{Number, number_of}

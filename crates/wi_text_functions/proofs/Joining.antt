@@ -1,13 +1,11 @@
 -- Texts one after another, and one text many times.
-use Rattle.std.proofs.Common.{◌≡◌, refl, sym, ap, ◌∙◌, ℕ, suc, zero, ◌+◌, ◌*◌, ◌≤◌, ◌<◌, List, [], ◌∷◌, ◌++◌, drop, length, arith}
+use Rattle.std.proofs.Common.{◌≡◌, refl, sym, ap, ◌∙◌, ℕ, suc, zero, ◌+◌, ◌*◌, ◌≤◌, ◌<◌, List, [], ◌∷◌, ◌++◌, length, arith}
 use Rattle.std.proofs.lemmas.Bool.{le-leb, lt-leb}
 use Rattle.std.proofs.Math.Nat.{sub-add-min_cancel, mul-le-mul_right}
 use Rattle.wi_values.specs.declared.value.ErrorKind.TheVariants.{BadValue}
 use Rattle.std.specs.Prelude.{min, ◌^◌, ◌-◌, Result, Ok, Err}
 use Rattle.std.specs.List.{concat, repeat}
 use Rattle.std.proofs.lemmas.List.{append_assoc, append-nil, length-append}
-use Rattle.std.proofs.Math.ListN.{get_or}
-use Rattle.std.proofs.Math.Seq.{drop-cons}
 use Rattle.wi_standard_functions.specs.Arithmetic.{limited_text}
 use Rattle.wi_standard_functions.specs.Convert.{to_text}
 use Rattle.wi_standard_functions.specs.Steps.{◌>>=◌, and_then, map_until_error}

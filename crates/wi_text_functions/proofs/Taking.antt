@@ -1,6 +1,6 @@
 -- The parts of a text, once its characters and the numbers are found.
 use Rattle.std.proofs.Common.{◌≡◌, sym, ap, ◌∙◌, ℕ, ◌-◌, List, take, drop, length, chars}
-use Rattle.std.specs.Prelude.{ℤ, Result, Ok}
+use Rattle.std.specs.Prelude.{ℤ, Ok}
 use Rattle.std.specs.Str.{IsUtf8}
 use Rattle.wi_standard_functions.specs.Arithmetic.{limited_text}
 use Rattle.wi_standard_functions.specs.Convert.{to_text, to_whole}

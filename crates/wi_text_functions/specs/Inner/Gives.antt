@@ -1,6 +1,5 @@
 -- How the code's outcomes stand to the definitions.
 use Rattle.std.specs.Prelude.{◌≡◌, ℕ, ◌++◌, List, Result, Ok, Err, ⊤, string_bytes}
-use Rattle.wi_standard_functions.specs.Steps.{and_then}
 use Rattle.wi_text_functions.specs.declared.convert.Shown.{Shown}
 use Rattle.wi_text_functions.specs.declared.convert.Shown.TheVariants.{Lent, Written}
 use Rattle.wi_text_functions.specs.declared.stop.Stop.{Stop}

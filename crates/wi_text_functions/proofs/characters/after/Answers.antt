@@ -1,4 +1,4 @@
-use Rattle.std.proofs.Common.{◌∙◌, ap, sym, chars, arith}
+use Rattle.std.proofs.Common.{◌∙◌, ap, chars, arith}
 use Rattle.std.specs.Str.Iter.{chars_rest}
 use Rattle.wi_text_functions.proofs.Counting.{advance, at_end}
 use Rattle.wi_text_functions.proofs.characters.after.Goals as goal

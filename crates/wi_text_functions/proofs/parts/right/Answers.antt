@@ -1,4 +1,4 @@
-use Rattle.std.proofs.Common.{rules, FitsSigned, ◌∙◌, ap, sym, subst, ◌-◌, drop, length, chars}
+use Rattle.std.proofs.Common.{rules, FitsSigned, ◌∙◌, ap, sym, subst, ◌-◌, drop, chars}
 use Rattle.std.proofs.lemmas.Int.{to_z-of_z}
 use Rattle.std.specs.Int.{w128}
 use Rattle.std.specs.Prelude.{Ok}
