@@ -8,3 +8,4 @@ pub mod CutLemmas
 pub mod LargestLemmas
 pub mod Rows
 pub mod Apart
+mod Levels

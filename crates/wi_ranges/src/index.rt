@@ -9,7 +9,7 @@ use crate::bag::{PairCounts, add_pair, remove_pair};
 use crate::block::Block;
 use crate::pair::RangePair;
 use crate::pieces::Pieces;
-use crate::readers::{add_all_readers, listed};
+use crate::readers::{add_all_readers, highest_level, listed};
 use std::alloc::{AllocError, Global};
 use std::collections::{BTreeMap, BTreeSet};
 use std::marker::Model;
@@ -66,14 +66,22 @@ impl RangeIndex {
     }
 
     /// The dependents of the cell, which read a rectangle with it, in row-major order, each once. The work grows with the
-    /// pairs, equal ones too, at the 21 blocks that hold the cell's row, and with the logarithms of their count and of that
+    /// pairs, equal ones too, at the blocks that hold the cell's row, of which there is one for each level up to the highest that has a piece, at most 21, and with the logarithms of their count and of that
     /// of all pieces.
     pub fn readers_of(&self, at: Address) -> Result<Vec<Address>, AllocError>
         ensures order { IfOk result (λ readers. IsStrictlyIncreasing readers.items) }
         ensures readers { IfOk result (λ readers. (r : ℕ) → Contains readers.items r ↔ IsReader self.now at r) }
     {
         let mut readers = BTreeSet::new(self.alloc);
-        add_all_readers(&self.pieces, at, at.row(), &Block::sheet(), &mut readers)?;
+        let level = highest_level(&self.pieces);
+        add_all_readers(
+            &self.pieces,
+            at,
+            at.row(),
+            &Block::sheet(),
+            level,
+            &mut readers,
+        )?;
         listed(self.alloc, &readers)
     }
 

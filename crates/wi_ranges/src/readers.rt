@@ -6,7 +6,7 @@ ghost use Rattle.std.specs.List.{list_any};
 ghost use Rattle.std.specs.BTreeSet.{contains, IsOrdered};
 ghost use Rattle.wi_values.specs.Address.{rows};
 ghost use Rattle.wi_ranges.specs.Blocks.{blocks_with};
-ghost use Rattle.wi_ranges.specs.Inner.Index.{reads_at};
+ghost use Rattle.wi_ranges.specs.Inner.Index.{reads_at, AreUpTo};
 
 use crate::block::Block;
 use crate::pair::Numbered;
@@ -14,6 +14,16 @@ use crate::pieces::Pieces;
 use std::alloc::{AllocError, Global};
 use std::collections::BTreeSet;
 use wi_values::Address;
+
+/// The greatest level of a block at which a piece stands, or 0 where there is none.
+pub(crate) fn highest_level(pieces: &Pieces) -> u32
+    ensures { AreUpTo result pieces.now.keys }
+{
+    match pieces.last() {
+        Some((block, _)) => block.level,
+        None => 0,
+    }
+}
 
 /// Adds the readers of a cell that stand at a block. If memory runs out, some of them may be added.
 fn add_readers(
@@ -35,22 +45,43 @@ fn add_readers(
     Ok(())
 }
 
+/// Adds the readers of a cell that stand at a block. No piece stands at a block above a level, so above it there are none. If
+/// memory runs out, some of them may be added.
+fn add_readers_up_to(
+    pieces: &Pieces,
+    at: Address,
+    block: &Block,
+    level: u32,
+    readers: &mut BTreeSet<Address>,
+) -> Result<(), AllocError>
+    requires block { block.now.first + 2 ^ block.now.level ≤ rows }
+    requires level { AreUpTo level pieces.now.keys }
+    ensures { OnOk result ((r : ℕ) → contains nat_cmp readers.new r ≡ (contains nat_cmp readers.old r || list_any (reads_at (block.now ∷ []) at r) pieces.now.keys)) }
+{
+    if level < block.level {
+        return Ok(());
+    }
+    add_readers(pieces, at, block, readers)
+}
+
 /// Adds the readers of a cell that stand at a block that holds the row, or at one of the halves, quarters and so on that do.
-/// If memory runs out, some of them may be added.
+/// No piece stands at a block above a level. If memory runs out, some of them may be added.
 pub(crate) fn add_all_readers(
     pieces: &Pieces,
     at: Address,
     row: u32,
     block: &Block,
+    level: u32,
     readers: &mut BTreeSet<Address>,
 ) -> Result<(), AllocError>
-    requires { block.now.first + 2 ^ block.now.level ≤ rows }
+    requires block { block.now.first + 2 ^ block.now.level ≤ rows }
+    requires level { AreUpTo level pieces.now.keys }
     ensures { OnOk result ((r : ℕ) → contains nat_cmp readers.new r
         ≡ (contains nat_cmp readers.old r || list_any (reads_at (blocks_with row block.now.level block.now.first) at r) pieces.now.keys)) }
 {
-    add_readers(pieces, at, block, readers)?;
+    add_readers_up_to(pieces, at, block, level, readers)?;
     if block.level > 0 {
-        add_all_readers(pieces, at, row, &block.half_with(row), readers)?;
+        add_all_readers(pieces, at, row, &block.half_with(row), level, readers)?;
     }
     Ok(())
 }

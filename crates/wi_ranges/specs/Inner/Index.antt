@@ -1,5 +1,5 @@
 -- The index by blocks: each pair of the bag stands at each of its blocks, and equal ones by their numbers.
-use Rattle.std.specs.Prelude.{◌≡◌, ℕ, ◌<◌, ◌==◌, List, Some, Bool, true, false, ◌&&◌, nat_lt, length}
+use Rattle.std.specs.Prelude.{◌≡◌, ℕ, ◌<◌, ◌≤◌, All, ◌==◌, List, Some, Bool, true, false, ◌&&◌, nat_lt, length}
 use Rattle.std.specs.Ordering.{nat_cmp, ordering_then}
 use Rattle.std.specs.declared.cmp.Ordering.{Ordering}
 use Rattle.std.specs.List.{list_any}
@@ -57,6 +57,10 @@ HasPieces xs m pieces = (q : Piece) → is_piece xs m q ≡ true → has_piece p
 
 abbrev pub LacksPieces : List Block → Numbered → List Piece → Type 0
 LacksPieces xs m pieces = (q : Piece) → is_piece xs m q ≡ true → has_piece pieces q ≡ false
+
+-- no piece stands at a block above the level
+abbrev pub AreUpTo : ℕ → List Piece → Type 0
+AreUpTo level pieces = All (λ (q : Piece). q.0.level ≤ level) pieces
 
 -- each pair of the bag, by numbers from 0 on, is there at each of its blocks, and nothing else is
 abbrev pub IsIndexed : Bag → List Piece → Type 0

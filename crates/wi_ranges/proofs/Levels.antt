@@ -1,0 +1,35 @@
+-- Levels of blocks at which no piece stands.
+use Rattle.std.proofs.Common.{◌≡◌, ◌<◌, ◌≤◌, ◌||◌, ℕ, Bool, false, List, [], ◌∷◌, All, get_or, refl, sym, ap, ◌∙◌, arith}
+use Rattle.std.specs.Ordering.{nat_cmp, ordering_then, is_lt}
+use Rattle.std.specs.declared.cmp.Ordering.{Ordering}
+use Rattle.std.specs.declared.cmp.Ordering.TheVariants.{Less, Equal, Greater}
+use Rattle.std.specs.List.{list_any}
+use Rattle.std.proofs.lemmas.Bool.Decides.{nat_tests}
+use Rattle.std.proofs.lemmas.List.Folds.{list_any_none}
+use Rattle.std.proofs.Math.Bool.{or-false}
+use Rattle.wi_ranges.specs.declared.block.Block.{Block}
+use Rattle.wi_ranges.specs.Inner.Index.{Piece, piece_cmp, reads_at, AreUpTo}
+
+not_less : (a b : ℕ) (o p : Ordering) → is_lt (ordering_then (ordering_then (nat_cmp a b) o) p) ≡ false → b ≤ a
+not_less a b o p h = at (nat_cmp a b) refl h
+  where
+    at : (x : Ordering) → nat_cmp a b ≡ x → is_lt (ordering_then (ordering_then x o) p) ≡ false → b ≤ a
+    at Less e k = cc
+    at Equal e k = grind (arith, nat_tests)
+    at Greater e k = grind (arith, nat_tests)
+
+-- none is above the last in their order
+pub up_to_last : (pieces : List Piece) (k : Piece) → All (λ (q : Piece). is_lt (piece_cmp k q) ≡ false) pieces → AreUpTo k.0.level pieces
+up_to_last pieces k h i x less = not_less k.0.level _ _ _ (h i x less)
+
+greater : (a b : ℕ) → b < a → nat_cmp a b ≡ Greater
+greater a b h = grind (arith, nat_tests)
+
+apart : (x : Block) (a r : ℕ) (q : Piece) → q.0.level < x.level → reads_at (x ∷ []) a r q ≡ false
+apart x a r q h = rw (greater x.level q.0.level h) refl
+
+-- so at a block above the level no cell reads one
+pub none_above : (pieces : List Piece) (x : Block) (level a r : ℕ) (b : Bool) → AreUpTo level pieces → level < x.level
+    → b ≡ (b || list_any (reads_at (x ∷ []) a r) pieces)
+none_above pieces x level a r b h less =
+    sym (or-false b) ∙ ap (λ c. b || c) (sym (list_any_none (reads_at (x ∷ []) a r) pieces (λ i y k. apart x a r (get_or pieces i y) (omega (arith, h i y k, less)))))
