@@ -24,7 +24,7 @@ use Rattle.wi_sheet.proofs.Last.{over}
 use Rattle.wi_sheet.proofs.Overrides.{content_in_order}
 use Rattle.wi_engine.specs.Inner.Touched.{earlier}
 use Rattle.wi_engine.specs.Inner.Attempt.{cell_known, known_in}
-use Rattle.wi_engine.specs.Inner.Findings.{cell_found}
+use Rattle.wi_engine.specs.Inner.Findings.{found_value}
 use Rattle.wi_engine.specs.declared.findings.Findings.{Findings}
 
 found_passes : (p : ℕ → Bool) (xs : List ℕ) → IfSome (find p xs) (λ c. p c ≡ true)
@@ -91,4 +91,4 @@ untouched_before s w r from p q o asc order e f h a i l b =
 -- where nothing stands, it is known to be Empty
 pub empty_before : (s : Sheet) (w : List Replacement) (f : Findings) (r : Area) (from : ℕ) (found : Option ℕ) → ((a : ℕ) → is_within r a ≡ true → from ≤ a → ComesBefore a found → content_of (put_all s w) a ≡ None) →
     (a : ℕ) → is_within r a ≡ true → from ≤ a → ComesBefore a found → is_known_empty (cell_known s w f a) ≡ true
-empty_before s w f r from found h a i l b = ap (λ (o : Option Content). is_known_empty (known_in o (cell_found f a))) (h a i l b)
+empty_before s w f r from found h a i l b = ap (λ (o : Option Content). is_known_empty (known_in o (found_value f a))) (h a i l b)
