@@ -5,7 +5,7 @@ ghost use Rattle.std.specs.List.{list_any};
 ghost use Rattle.wi_values.specs.Replacements.{IsInOrder};
 ghost use Rattle.wi_parser.specs.View.{pair_of};
 ghost use Rattle.wi_parser.specs.Sheet.{put_all};
-ghost use Rattle.wi_functions.specs.Meaning.{addresses};
+ghost use Rattle.wi_lookup.specs.Assignment.{addresses};
 ghost use Rattle.wi_functions.specs.declared.evaluation.Want.TheVariants as wanted;
 ghost use Rattle.wi_graph.specs.Reach.{is_one_of};
 ghost use Rattle.wi_sheet.specs.CellValue as show;

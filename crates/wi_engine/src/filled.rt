@@ -7,7 +7,7 @@ ghost use Rattle.wi_values.specs.Address.{is_within};
 ghost use Rattle.wi_values.specs.Replacements.{as_map};
 ghost use Rattle.wi_parser.specs.Sheet.{content_of, put_all};
 ghost use Rattle.wi_store.specs.Store.{is_ahead};
-ghost use Rattle.wi_functions.specs.Filled.{ComesBefore};
+ghost use Rattle.wi_lookup.specs.Filled.{ComesBefore};
 ghost use Rattle.wi_engine.specs.Inner.Touched.{earlier};
 
 use wi_store::Store;

@@ -3,12 +3,12 @@
 ghost use Rattle.std.specs.Prelude.{◌≡◌};
 ghost use Rattle.std.specs.Option.{option_copied};
 ghost use Rattle.wi_values.specs.declared.value.Value.TheVariants.{Empty};
-ghost use Rattle.wi_functions.specs.Assignment.{value_if_known};
+ghost use Rattle.wi_lookup.specs.Assignment.{value_if_known};
 
 use crate::filled::next_touched;
 use crate::findings::Findings;
 use crate::seen::{Seen, content_in};
-use wi_functions::{LookedUp, Lookup, successor};
+use wi_lookup::{LookedUp, Lookup, successor};
 use wi_parser::Pair;
 use wi_store::Store;
 use wi_values::{Address, Rect, Value};

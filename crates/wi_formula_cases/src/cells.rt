@@ -4,7 +4,8 @@ use crate::spelled;
 use crate::values::{push_value, value};
 use anyhow::{Context, Result};
 use std::alloc::{AllocError, Global};
-use wi_functions::{LookedUp, Lookup, Meter, Outcome, Want, evaluate, successor};
+use wi_functions::{Meter, Outcome, Want, evaluate};
+use wi_lookup::{LookedUp, Lookup, successor};
 use wi_parser::{Formula, Pair, parse};
 use wi_values::{Address, Rect, Value};
 

@@ -10,10 +10,6 @@ use Rattle.wi_parser.specs.Tree.{Tree, number, text, cell, rectangle, parenthesi
 use Rattle.wi_standard_functions.specs.Convert.{zero_number}
 use Rattle.wi_functions.specs.Operators.{operate, with_sign, hundredth}
 
--- an input and its replacement cell, by their addresses
-abbrev pub addresses : Reference × Reference → ℕ × ℕ
-addresses p = (p.0.at, p.1.at)
-
 -- both corners are one cell
 abbrev pub is_one_cell : Corners → Bool
 is_one_cell c = c.one.at == c.other.at

@@ -5,7 +5,8 @@ use Rattle.wi_parser.specs.declared.expr.Reference.{Reference}
 use Rattle.wi_parser.specs.Tree.{Tree}
 use Rattle.wi_parser.specs.Leaves.{Leaf, cell_leaf, rectangle_leaf, what_if_leaf, leaves}
 use Rattle.wi_parser.specs.View.{pair_of}
-use Rattle.wi_functions.specs.Meaning.{addresses, is_one_cell}
+use Rattle.wi_functions.specs.Meaning.{is_one_cell}
+use Rattle.wi_lookup.specs.Assignment.{addresses}
 use Rattle.wi_functions.specs.declared.evaluation.Want.{Want}
 use Rattle.wi_functions.specs.declared.evaluation.Want.TheVariants.{Cell, WhatIf}
 use Rattle.wi_functions.specs.declared.evaluation.Outcome.{Outcome}

@@ -5,14 +5,14 @@ ghost use Rattle.wi_parser.specs.View.{tree_of, pair_of};
 ghost use Rattle.wi_parser.specs.Tree.{cell, rectangle, signed, percent, binary, what_if as what_if_tree};
 ghost use Rattle.wi_functions.specs.Meaning as formulas;
 ghost use Rattle.wi_functions.specs.Operators as operators;
-ghost use Rattle.wi_functions.specs.Assignment.{Assignment, AgreesWith};
+ghost use Rattle.wi_lookup.specs.Assignment.{Assignment, AgreesWith};
 ghost use Rattle.wi_functions.specs.Wants.{Asks, IsUnknown, IfNeeds, IfDone, IfWanting};
 ghost use Rattle.wi_functions.specs.Counts.{counted};
 
-use crate::lookup::{LookedUp, Lookup};
 use crate::meter::Meter;
 use crate::operators::{hundredth, operate, with_sign};
 use std::alloc::{AllocError, Global};
+use wi_lookup::{LookedUp, Lookup};
 use wi_parser::{Corners, Expr, Formula, Operator, Pair, Reference, Sign};
 use wi_scalar_functions::zero;
 use wi_values::{Address, ErrorKind, Text, Value};

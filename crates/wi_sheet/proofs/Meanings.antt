@@ -14,7 +14,8 @@ use Rattle.wi_parser.specs.Tree.{Tree, number, text, cell, rectangle, parenthesi
 use Rattle.wi_parser.specs.Leaves.{Leaf, cell_leaf, rectangle_leaf, what_if_leaf, leaves}
 use Rattle.wi_parser.specs.Reads.{leaf_reads, reads}
 use Rattle.wi_functions.specs.Operators.{operate, with_sign, hundredth}
-use Rattle.wi_functions.specs.Meaning.{meaning, addresses, is_one_cell}
+use Rattle.wi_functions.specs.Meaning.{meaning, is_one_cell}
+use Rattle.wi_lookup.specs.Assignment.{addresses}
 use Rattle.wi_sheet.specs.CellValue.{replacements}
 
 -- a what-if that reads no more than a tree does

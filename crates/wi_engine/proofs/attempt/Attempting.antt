@@ -7,7 +7,7 @@ use Rattle.wi_parser.specs.Tree.{Tree}
 use Rattle.wi_parser.specs.Sheet.{Sheet, content_of, put_all, has_formula}
 use Rattle.wi_parser.specs.declared.content.Content.{Content}
 use Rattle.wi_parser.specs.declared.content.Content.TheVariants.{Constant, Formula}
-use Rattle.wi_functions.specs.Assignment.{Assignment, AgreesWith}
+use Rattle.wi_lookup.specs.Assignment.{Assignment, AgreesWith}
 use Rattle.wi_functions.specs.Meaning.{meaning, zero_for_empty}
 use Rattle.wi_functions.specs.Wants.{IfDone}
 use Rattle.wi_functions.specs.declared.evaluation.Outcome.{Outcome}

@@ -15,9 +15,9 @@ use Rattle.wi_parser.specs.View.{pair_of}
 use Rattle.wi_parser.specs.declared.content.Content.{Content}
 use Rattle.wi_parser.specs.declared.content.Content.TheVariants.{Constant, Formula}
 use Rattle.wi_parser.specs.declared.expr.Pair.{Pair}
-use Rattle.wi_functions.specs.Assignment.{Assignment, AgreesWith}
+use Rattle.wi_lookup.specs.Assignment.{Assignment, AgreesWith}
 use Rattle.wi_functions.specs.Meaning.{meaning, zero_for_empty}
-use Rattle.wi_functions.specs.Meaning.{addresses}
+use Rattle.wi_lookup.specs.Assignment.{addresses}
 use Rattle.wi_functions.specs.declared.evaluation.Want.TheVariants as wanted
 use Rattle.wi_cache.specs.declared.key.Key.{Key}
 use Rattle.wi_graph.proofs.Walks.{same_cell}

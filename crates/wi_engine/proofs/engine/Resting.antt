@@ -13,7 +13,7 @@ use Rattle.wi_parser.specs.declared.content.Content.{Content}
 use Rattle.wi_parser.specs.declared.content.Content.TheVariants.{Constant, Formula}
 use Rattle.wi_parser.specs.Sheet.{Sheet, content_of, put_all, has_formula}
 use Rattle.wi_parser.specs.Reads.{content_reads}
-use Rattle.wi_functions.specs.Meaning.{addresses}
+use Rattle.wi_lookup.specs.Assignment.{addresses}
 use Rattle.wi_functions.specs.Wants.{Asks}
 use Rattle.wi_functions.specs.declared.evaluation.Want.TheVariants.{WhatIf}
 use Rattle.wi_cache.specs.declared.key.Key.{Key}

@@ -19,7 +19,7 @@ use Rattle.wi_parser.specs.declared.content.Content.{Content}
 use Rattle.wi_parser.specs.Sheet.{Sheet, content_of, put_all}
 use Rattle.wi_store.specs.Store.{is_ahead}
 use Rattle.wi_store.proofs.NextRoom.{find_ahead}
-use Rattle.wi_functions.specs.Filled.{ComesBefore, is_known_empty}
+use Rattle.wi_lookup.specs.Filled.{ComesBefore, is_known_empty}
 use Rattle.wi_sheet.proofs.Last.{over}
 use Rattle.wi_sheet.proofs.Overrides.{content_in_order}
 use Rattle.wi_engine.specs.Inner.Touched.{earlier}

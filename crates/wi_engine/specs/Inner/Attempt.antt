@@ -11,7 +11,7 @@ use Rattle.wi_parser.specs.declared.content.Content.{Content}
 use Rattle.wi_parser.specs.declared.content.Content.TheVariants.{Constant, Formula}
 use Rattle.wi_parser.specs.Sheet.{Sheet, content_of, put_all, has_formula, cells_with_formula}
 use Rattle.wi_parser.specs.Reads.{rectangles_of}
-use Rattle.wi_functions.specs.Meaning.{addresses}
+use Rattle.wi_lookup.specs.Assignment.{addresses}
 use Rattle.wi_functions.specs.Wants.{Asks}
 use Rattle.wi_functions.specs.declared.evaluation.Want.{Want}
 use Rattle.wi_functions.specs.declared.evaluation.Want.TheVariants.{Cell, WhatIf}

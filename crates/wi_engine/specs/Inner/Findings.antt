@@ -4,8 +4,8 @@ use Rattle.std.specs.Ordering.{nat_cmp}
 use Rattle.std.specs.BTreeMap.{get}
 use Rattle.wi_values.specs.declared.value.Value.{Value}
 use Rattle.wi_parser.specs.View.{pair_of}
-use Rattle.wi_functions.specs.Meaning.{addresses}
-use Rattle.wi_functions.specs.Assignment.{AgreesWith}
+use Rattle.wi_lookup.specs.Assignment.{addresses}
+use Rattle.wi_lookup.specs.Assignment.{AgreesWith}
 use Rattle.wi_engine.specs.declared.findings.Findings.{Findings}
 use Rattle.wi_engine.specs.declared.findings.FoundWhatIf.{FoundWhatIf}
 

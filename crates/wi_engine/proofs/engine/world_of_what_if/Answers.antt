@@ -4,7 +4,7 @@ use Rattle.std.proofs.lemmas.Grind.{common_steps}
 use Rattle.wi_parser.specs.declared.expr.Pair.{Pair}
 use Rattle.wi_parser.specs.View.{pair_of}
 use Rattle.wi_parser.specs.Sheet.{put_all}
-use Rattle.wi_functions.specs.Meaning.{addresses}
+use Rattle.wi_lookup.specs.Assignment.{addresses}
 use Rattle.wi_sheet.specs.CellValue.{replacements, cell_value}
 use Rattle.wi_sheet.proofs.Overrides.{replaced_world}
 use Rattle.wi_engine.proofs.engine.Awaiting.{input_unvalued}

@@ -1,7 +1,7 @@
 use Rattle.std.proofs.Common.{◌≡◌, All, map, take}
 use Rattle.wi_parser.specs.View.{pair_of}
 use Rattle.wi_parser.specs.Sheet.{put_all}
-use Rattle.wi_functions.specs.Meaning.{addresses}
+use Rattle.wi_lookup.specs.Assignment.{addresses}
 use Rattle.wi_sheet.specs.CellValue.{replacements, cell_value}
 use Rattle.wi_sheet.specs.Settled.{IsSettled}
 use Rattle.wi_engine.specs.Inner.Saving.{KeepsFound}

@@ -1,6 +1,6 @@
 use Rattle.std.proofs.Common.{rules, ◌≡◌, true, Some}
-use Rattle.wi_functions.specs.Filled.{is_known_empty}
-use Rattle.wi_functions.proofs.Passing.{passed_on}
+use Rattle.wi_lookup.specs.Filled.{is_known_empty}
+use Rattle.wi_lookup.proofs.Passing.{passed_on}
 use Rattle.wi_engine.specs.Inner.Attempt.{cell_known}
 use Rattle.wi_engine.proofs.filled.Passing.{empty_before}
 use Rattle.wi_engine.proofs.lookup.KnownLookup.next_filled.Goals as goal

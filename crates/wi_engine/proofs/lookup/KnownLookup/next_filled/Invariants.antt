@@ -1,6 +1,6 @@
 use Rattle.wi_values.proofs.Within.{places_left}
 use Rattle.wi_engine.specs.Inner.Attempt.{cell_known}
-use Rattle.wi_functions.proofs.Passing.{Passed}
+use Rattle.wi_lookup.proofs.Passing.{Passed}
 use Rattle.wi_engine.proofs.lookup.KnownLookup.next_filled.Given as goal
 
 abbrev pub invariant-loop-ahead : goal.invariant-loop-ahead

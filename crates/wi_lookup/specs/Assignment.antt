@@ -1,13 +1,18 @@
 -- What is known, and what it says of all values.
 use Rattle.std.specs.Prelude.{◌≡◌, ℕ, List, Option, Some, None, IfSome}
 use Rattle.wi_values.specs.declared.value.Value.{Value}
-use Rattle.wi_functions.specs.declared.lookup.LookedUp.{LookedUp}
-use Rattle.wi_functions.specs.declared.lookup.LookedUp.TheVariants.{Known, Missing}
+use Rattle.wi_parser.specs.declared.expr.Reference.{Reference}
+use Rattle.wi_lookup.specs.declared.lookup.LookedUp.{LookedUp}
+use Rattle.wi_lookup.specs.declared.lookup.LookedUp.TheVariants.{Known, Missing}
 
 -- the value, where it is known
 abbrev pub value_if_known : LookedUp → Option Value
 value_if_known (Known v) = Some v.now
 value_if_known Missing = None
+
+-- an input and its replacement cell, by their addresses
+abbrev pub addresses : Reference × Reference → ℕ × ℕ
+addresses p = (p.0.at, p.1.at)
 
 -- a value for each cell and for each what-if
 pub record Assignment : Type 0 where

@@ -1,11 +1,11 @@
-//! What an evaluation asks.
+//! What is known of cells and what-ifs.
 
 ghost use Rattle.std.specs.Prelude.{◌≡◌, ℕ, List, map, Option};
 ghost use Rattle.wi_values.specs.declared.value.Value.{Value as Values};
 ghost use Rattle.wi_parser.specs.View.{pair_of};
-ghost use Rattle.wi_functions.specs.Meaning.{addresses};
-ghost use Rattle.wi_functions.specs.Assignment.{value_if_known};
-ghost use Rattle.wi_functions.specs.Filled.{IsNextFilled, is_known_empty};
+ghost use Rattle.wi_lookup.specs.Assignment.{addresses};
+ghost use Rattle.wi_lookup.specs.Assignment.{value_if_known};
+ghost use Rattle.wi_lookup.specs.Filled.{IsNextFilled, is_known_empty};
 
 use wi_parser::Pair;
 use wi_values::{Address, Rect, Value};

@@ -6,7 +6,7 @@ use Rattle.std.proofs.lemmas.Bool.Decides.{nat_tests}
 use Rattle.wi_values.specs.Address.{Area, is_within}
 use Rattle.wi_values.specs.declared.value.Value.{Value}
 use Rattle.wi_values.proofs.Within.{within_between}
-use Rattle.wi_functions.specs.Filled.{ComesBefore, is_known_empty}
+use Rattle.wi_lookup.specs.Filled.{ComesBefore, is_known_empty}
 
 -- what is passed over so far is known to be Empty, and the walk goes on no earlier than it began
 abbrev pub Passed : (ℕ → Option Value) → Area → ℕ → Option ℕ → Type 0

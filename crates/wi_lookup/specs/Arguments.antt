@@ -1,0 +1,45 @@
+-- What the parameters that a function is given stand for, given a value for each cell.
+use Rattle.std.specs.Prelude.{◌≡◌, ◌==◌, ℕ, Bool, true, false, if◌then◌else◌, List, map, Option, None, Some, IfSome, Result, Ok, Err}
+use Rattle.std.specs.List.{list_any}
+use Rattle.wi_values.specs.Address.{Area, is_within}
+use Rattle.wi_values.specs.declared.value.ErrorKind.{ErrorKind}
+use Rattle.wi_values.specs.declared.value.ErrorKind.TheVariants.{BadValue}
+use Rattle.wi_values.specs.declared.value.Value.{Value}
+use Rattle.wi_values.specs.declared.value.Value.TheVariants.{Fault}
+use Rattle.wi_standard_functions.specs.Arguments.{Argument, argument_of}
+use Rattle.wi_lookup.specs.declared.argument.Argument as given
+use Rattle.wi_lookup.specs.declared.stop.Stop as stop
+
+-- the value of a reference, where one is asked for: of one cell what it holds, and of more an error
+abbrev pub value_of_area : (ℕ → Value) → Area → Value
+value_of_area cells r = if r.first == r.last then cells r.first else Fault BadValue
+
+-- the argument that a parameter is
+abbrev pub argument_in : (ℕ → Value) → given.Argument → Argument
+argument_in cells (given.TheVariants.Reference r) = argument_of cells (value_of_area cells r) (Some r)
+argument_in cells (given.TheVariants.Value v) = argument_of cells v None
+
+abbrev pub arguments_in : (ℕ → Value) → List given.Argument → List Argument
+arguments_in cells args = map (argument_in cells) args
+
+-- what is known of cells is so
+abbrev pub KnownAgrees : (ℕ → Option Value) → (ℕ → Value) → Type 0
+KnownAgrees known cells = (c : ℕ) → IfSome (known c) (λ v. v ≡ cells c)
+
+-- whatever the cells hold of which this is known, the function gives this value for the arguments
+abbrev pub IsOfArguments : (ℕ → Option Value) → (List Argument → Value) → List given.Argument → Value → Type 0
+IsOfArguments known f args v = (cells : ℕ → Value) → KnownAgrees known cells → v ≡ f (arguments_in cells args)
+
+-- one of the arguments refers to the cell
+abbrev pub refers_to : ℕ → given.Argument → Bool
+refers_to c (given.TheVariants.Reference r) = is_within r c
+refers_to c (given.TheVariants.Value v) = false
+
+-- the cell's value isn't known, and one of the arguments refers to it
+abbrev pub IsMissing : (ℕ → Option Value) → List given.Argument → ℕ → Type 0
+IsMissing known args c = (known c ≡ None) × (list_any (refers_to c) args ≡ true)
+
+-- a fact of the cell for whose value a function stops
+abbrev pub IfMissing : stop.Stop → (ℕ → Type 0) → Type 0
+IfMissing (stop.TheVariants.Missing c) P = P c
+IfMissing stop.TheVariants.Memory P = Unit {0}

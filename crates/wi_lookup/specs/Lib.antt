@@ -1,0 +1,4 @@
+pub mod Assignment
+pub mod Filled
+pub mod Arguments
+pub mod Walk
