@@ -1,7 +1,8 @@
 -- A walk over the cells of a rectangle passes over those that are known to be Empty.
-use Rattle.std.proofs.Common.{◌≡◌, ℕ, ◌<◌, ◌≤◌, ◌-◌, ◌+◌, ◌⊎◌, inl, inr, Bool, true, false, cond, List, [], ◌∷◌, filter, fold, Option, Some, None, IfSome, refl, sym, ap, ◌∙◌, subst, arith}
+use Rattle.std.proofs.Common.{◌≡◌, ℕ, ◌<◌, ◌≤◌, ◌-◌, ◌+◌, ◌⊎◌, inl, inr, Bool, true, false, cond, List, [], ◌∷◌, filter, Option, Some, None, IfSome, refl, sym, ap, ◌∙◌, subst, arith}
 use Rattle.std.specs.Prelude.{nat_le, nat_lt}
 use Rattle.std.specs.List.{AllByRecursion}
+use Rattle.std.proofs.lemmas.Bool.Decides.{nat_tests}
 use Rattle.wi_values.specs.Address.{Area, is_within, cells_of}
 use Rattle.wi_values.specs.declared.value.Value.{Value}
 use Rattle.wi_values.specs.declared.value.Value.TheVariants.{Empty}
@@ -23,7 +24,11 @@ abbrev pub cells_left : Area → Option ℕ → ℕ
 cells_left r None = 0
 cells_left r (Some a) = (r.last + 1) - a
 
-module _ {S : Type 0} (after : S → ℕ → Value → S) (passes_empty : (s : S) (c : ℕ) → after s c Empty ≡ s) where
+module _ {S : Type 0} (after : S → ℕ → Value → S) where
+  -- to which an Empty cell makes no difference
+  abbrev pub PassesEmpty : Type 0
+  PassesEmpty = (s : S) (c : ℕ) → after s c Empty ≡ s
+
   -- both tests say the same of a cell, or the second passes over it and it is Empty
   abbrev IsSkipped : (ℕ → Value) → (ℕ → Bool) → (ℕ → Bool) → ℕ → Type 0
   IsSkipped cells p q a = (p a ≡ q a) ⊎ ((q a ≡ false) × (cells a ≡ Empty))
@@ -32,8 +37,8 @@ module _ {S : Type 0} (after : S → ℕ → Value → S) (passes_empty : (s : S
   abbrev GoesOn : (ℕ → Value) → (ℕ → Bool) → (ℕ → Bool) → List ℕ → Type 0
   GoesOn cells p q xs = (t : S) → after_cells after cells t (filter p xs) ≡ after_cells after cells t (filter q xs)
 
-  skip_one : (cells : ℕ → Value) (p q : ℕ → Bool) (s : S) (x : ℕ) (xs : List ℕ) → IsSkipped cells p q x → GoesOn cells p q xs → after_cells after cells s (cond (p x) (x ∷ filter p xs) (filter p xs)) ≡ after_cells after cells s (cond (q x) (x ∷ filter q xs) (filter q xs))
-  skip_one cells p q s x xs h k = by_case h
+  skip_one : (passes_empty : PassesEmpty) (cells : ℕ → Value) (p q : ℕ → Bool) (s : S) (x : ℕ) (xs : List ℕ) → IsSkipped cells p q x → GoesOn cells p q xs → after_cells after cells s (cond (p x) (x ∷ filter p xs) (filter p xs)) ≡ after_cells after cells s (cond (q x) (x ∷ filter q xs) (filter q xs))
+  skip_one passes_empty cells p q s x xs h k = by_case h
     where
       same : (b : Bool) → after_cells after cells s (cond b (x ∷ filter p xs) (filter p xs)) ≡ after_cells after cells s (cond b (x ∷ filter q xs) (filter q xs))
       same true = k (after s x (cells x))
@@ -47,33 +52,35 @@ module _ {S : Type 0} (after : S → ℕ → Value → S) (passes_empty : (s : S
       by_case (inl e) = rw e (same (q x))
       by_case (inr e) = rw e.0 (passed (p x) e.1)
 
-  skip : (cells : ℕ → Value) (p q : ℕ → Bool) (s : S) (xs : List ℕ) → AllByRecursion (IsSkipped cells p q) xs → after_cells after cells s (filter p xs) ≡ after_cells after cells s (filter q xs)
-  skip cells p q s [] h = refl
-  skip cells p q s (x ∷ xs) h = skip_one cells p q s x xs h.0 (λ t. skip cells p q t xs h.1)
+  skip : (passes_empty : PassesEmpty) (cells : ℕ → Value) (p q : ℕ → Bool) (s : S) (xs : List ℕ) → AllByRecursion (IsSkipped cells p q) xs → after_cells after cells s (filter p xs) ≡ after_cells after cells s (filter q xs)
+  skip passes_empty cells p q s [] h = refl
+  skip passes_empty cells p q s (x ∷ xs) h = skip_one passes_empty cells p q s x xs h.0 (λ t. skip passes_empty cells p q t xs h.1)
 
   each : (P Q : ℕ → Type 0) → ((a : ℕ) → P a → Q a) → (xs : List ℕ) → AllByRecursion P xs → AllByRecursion Q xs
   each P Q f [] h = tt
   each P Q f (x ∷ xs) h = (f x h.0, each P Q f xs h.1)
 
   empty_there : (o : Option Value) (w : Value) → is_known_empty o ≡ true → IfSome o (λ v. v ≡ w) → w ≡ Empty
+  empty_there None w e h = cc
   empty_there (Some Empty) w e h = sym h
+  empty_there (Some v) w e h = cc
 
   none_passes : (cells : ℕ → Value) (s : S) (xs : List ℕ) → after_cells after cells s (filter (λ a. false) xs) ≡ s
   none_passes cells s [] = refl
   none_passes cells s (x ∷ xs) = none_passes cells s xs
 
   -- cells that are passed over change nothing
-  found_next : (known : ℕ → Option Value) (cells : ℕ → Value) (r : Area) (p : ℕ → Bool) (found : Option ℕ) (s : S) → KnownAgrees known cells →
+  found_next : (passes_empty : PassesEmpty) (known : ℕ → Option Value) (cells : ℕ → Value) (r : Area) (p : ℕ → Bool) (found : Option ℕ) (s : S) → KnownAgrees known cells →
       IfSome found (λ d. (a : ℕ) → d ≤ a → p a ≡ true) → ((a : ℕ) → is_within r a ≡ true → p a ≡ true → ComesBefore a found → is_known_empty (known a) ≡ true) →
       after_cells after cells s (filter p (cells_of r)) ≡ after_cells after cells s (to_come r found)
-  found_next known cells r p None s agrees m h =
-      skip cells p (λ a. false) s (cells_of r) (each (λ a. is_within r a ≡ true) (IsSkipped cells p (λ a. false)) (λ a w. at a w (p a) refl) (cells_of r) (cells_inside r)) ∙ none_passes cells s (cells_of r)
+  found_next passes_empty known cells r p None s agrees m h =
+      skip passes_empty cells p (λ a. false) s (cells_of r) (each (λ a. is_within r a ≡ true) (IsSkipped cells p (λ a. false)) (λ a w. at a w (p a) refl) (cells_of r) (cells_inside r)) ∙ none_passes cells s (cells_of r)
     where
       at : (a : ℕ) → is_within r a ≡ true → (b : Bool) → p a ≡ b → (b ≡ false) ⊎ ((false ≡ false) × (cells a ≡ Empty))
       at a w true e = inr (refl, empty_there (known a) (cells a) (h a w e tt) (agrees a))
       at a w false e = inl refl
-  found_next known cells r p (Some d) s agrees m h =
-      skip cells p (λ a. nat_le d a) s (cells_of r) (each (λ a. is_within r a ≡ true) (IsSkipped cells p (λ a. nat_le d a)) (λ a w. at a w (p a) (nat_le d a) refl refl) (cells_of r) (cells_inside r))
+  found_next passes_empty known cells r p (Some d) s agrees m h =
+      skip passes_empty cells p (λ a. nat_le d a) s (cells_of r) (each (λ a. is_within r a ≡ true) (IsSkipped cells p (λ a. nat_le d a)) (λ a w. at a w (p a) (nat_le d a) refl refl) (cells_of r) (cells_inside r))
     where
       at : (a : ℕ) → is_within r a ≡ true → (b k : Bool) → p a ≡ b → nat_le d a ≡ k → (b ≡ k) ⊎ ((k ≡ false) × (cells a ≡ Empty))
       at a w true true e f = inl refl
@@ -100,11 +107,13 @@ module _ {S : Type 0} (after : S → ℕ → Value → S) (passes_empty : (s : S
   any_is_reached (Some d) = λ a l. refl
 
   -- the walk begins with the first cell that is filled
-  pub begins : (known : ℕ → Option Value) (r : Area) (s : S) (from : ℕ) (found : Option ℕ) → from ≡ r.first → IsNextFilled known r from found → Rest known r s s found
-  begins known r s from found e h =
-      (first_of (λ c. is_within r c ≡ true) (λ c. from ≤ c) found h.inside, λ cells agrees.
-          sym (found_next known cells r (λ a. true) found s agrees (any_is_reached found) (λ a w t b. h.empty_before a w (omega (arith, e, (within_between r a w).0)) b))
-          ∙ ap (λ (xs : List ℕ). after_cells after cells s xs) (all_pass (cells_of r)))
+  pub begins : (passes_empty : PassesEmpty) (known : ℕ → Option Value) (r : Area) (s : S) (from : ℕ) (found : Option ℕ) → from ≡ r.first → IsNextFilled known r from found → Rest known r s s found
+  begins passes_empty known r s from found e h = (
+    first_of (λ c. is_within r c ≡ true) (λ c. from ≤ c) found h.inside,
+    λ cells agrees.
+        sym (found_next passes_empty known cells r (λ a. true) found s agrees (any_is_reached found) (λ a w t b. h.empty_before a w (omega (arith, e, (within_between r a w).0)) b))
+        ∙ ap (λ (xs : List ℕ). after_cells after cells s xs) (all_pass (cells_of r)),
+  )
 
   value_there : (o : Option Value) (v w : Value) → IfSome o (λ u. u ≡ w) → Some v ≡ o → v ≡ w
   value_there None v w h e = cc
@@ -123,11 +132,13 @@ module _ {S : Type 0} (after : S → ℕ → Value → S) (passes_empty : (s : S
   past_is_reached c P (Some d) h = λ a l. grind (arith, nat_tests, l, h.1)
 
   -- and the walk goes on after it
-  pub goes_on : (known : ℕ → Option Value) (r : Area) (whole s t : S) (ahead : Option ℕ) (c : ℕ) (v : Value) (found : Option ℕ) → Rest known r whole s ahead → ahead ≡ Some c → Some v ≡ known c → t ≡ after s c v → IsNextAfter known r c found → Rest known r whole t found
-  goes_on known r whole s t ahead c v found h a k e n =
-      (first_of (λ d. is_within r d ≡ true) (λ d. c < d) found n.inside, λ cells agrees.
-          sym (found_next known cells r (λ b. nat_lt c b) found t agrees (past_is_reached c (λ d. is_within r d ≡ true) found n.inside) (λ b w l m. n.empty_between b w (is_less c b l) m))
-          ∙ taken known r whole s t c v (subst (Rest known r whole s) a h) k e cells agrees)
+  pub goes_on : (passes_empty : PassesEmpty) (known : ℕ → Option Value) (r : Area) (whole s t : S) (ahead : Option ℕ) (c : ℕ) (v : Value) (found : Option ℕ) → Rest known r whole s ahead → ahead ≡ Some c → Some v ≡ known c → t ≡ after s c v → IsNextAfter known r c found → Rest known r whole t found
+  goes_on passes_empty known r whole s t ahead c v found h a k e n = (
+    first_of (λ d. is_within r d ≡ true) (λ d. c < d) found n.inside,
+    λ cells agrees.
+        sym (found_next passes_empty known cells r (λ b. nat_lt c b) found t agrees (past_is_reached c (λ d. is_within r d ≡ true) found n.inside) (λ b w l m. n.empty_between b w (is_less c b l) m))
+        ∙ taken known r whole s t c v (subst (Rest known r whole s) a h) k e cells agrees,
+  )
 
   unmoved : (t : S) → ((c : ℕ) (v : Value) → after t c v ≡ t) → (cells : ℕ → Value) (xs : List ℕ) → after_cells after cells t xs ≡ t
   unmoved t h cells [] = refl

@@ -1,6 +1,7 @@
 -- What the parameters that a function is given stand for, given a value for each cell.
 use Rattle.std.specs.Prelude.{◌≡◌, ◌==◌, ℕ, Bool, true, false, if◌then◌else◌, List, map, Option, None, Some, IfSome, Result, Ok, Err}
 use Rattle.std.specs.List.{list_any}
+use Rattle.std.specs.Borrow.{Bor}
 use Rattle.wi_values.specs.Address.{Area, is_within}
 use Rattle.wi_values.specs.declared.value.ErrorKind.{ErrorKind}
 use Rattle.wi_values.specs.declared.value.ErrorKind.TheVariants.{BadValue}
@@ -21,6 +22,11 @@ argument_in cells (given.TheVariants.Value v) = argument_of cells v None
 
 abbrev pub arguments_in : (ℕ → Value) → List given.Argument → List Argument
 arguments_in cells args = map (argument_in cells) args
+
+-- the value that is lent, or else the error
+abbrev pub value_lent : Result (Bor Value) ErrorKind → Value
+value_lent (Ok v) = v.now
+value_lent (Err e) = Fault e
 
 -- what is known of cells is so
 abbrev pub KnownAgrees : (ℕ → Option Value) → (ℕ → Value) → Type 0

@@ -2,8 +2,7 @@
 
 ghost use Rattle.std.specs.Prelude.{◌≡◌, ℕ, IfOk, IfErr, [], ◌∷◌};
 ghost use Rattle.wi_values.specs.declared.value.Value.{Value as Values};
-ghost use Rattle.wi_standard_functions.specs.FirstError.{value_or_error};
-ghost use Rattle.wi_lookup.specs.Arguments.{argument_in, KnownAgrees, IfMissing, IsMissing, lent_value};
+ghost use Rattle.wi_lookup.specs.Arguments.{argument_in, value_lent, KnownAgrees, IfMissing, IsMissing};
 
 use crate::lookup::{LookedUp, Lookup};
 use crate::stop::Stop;
@@ -19,8 +18,11 @@ pub enum Argument {
 
 impl Argument {
     /// Its value: of a reference to one cell what that cell holds, and of one to more an error.
-    pub fn value<'a, L: Lookup>(&'a self, lookup: &'a L) -> Result<Result<&'a Value, ErrorKind>, Stop>
-        ensures done { IfOk result (λ r. (cells : ℕ → Values) → KnownAgrees (L.known_cell lookup.now) cells → lent_value r ≡ (argument_in cells self.now).value) }
+    pub fn value<'a, L: Lookup>(
+        &'a self,
+        lookup: &'a L,
+    ) -> Result<Result<&'a Value, ErrorKind>, Stop>
+        ensures done { IfOk result (λ r. (cells : ℕ → Values) → KnownAgrees (L.known_cell lookup.now) cells → value_lent r ≡ (argument_in cells self.now).value) }
         ensures missing { IfErr result (λ s. IfMissing s (IsMissing (L.known_cell lookup.now) (self.now ∷ []))) }
     {
         match self {
