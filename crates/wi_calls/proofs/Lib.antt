@@ -1,0 +1,4 @@
+pub mod Searching
+pub mod Names
+pub mod Given
+pub mod ValuesAlone

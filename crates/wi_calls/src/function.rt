@@ -1,0 +1,91 @@
+//! The functions, by how a call of one is evaluated.
+
+use wi_fraction::Mode;
+
+/// A function.
+#[derive(Clone, Copy)]
+pub enum Function {
+    /// A function that values its first parameter, and then one that this chooses, and no other.
+    Lazy(LazyFunction),
+    /// A function that takes the values of its parameters, whether they are references or not.
+    Values(ValueFunction),
+    /// A function that takes also what its parameters refer to.
+    References(ReferenceFunction),
+}
+
+/// A function that values the parameter that counts, and no other.
+#[derive(Clone, Copy)]
+pub enum LazyFunction {
+    If,
+    IfError,
+    IfNa,
+    Choose,
+}
+
+/// A function of values alone.
+#[derive(Clone, Copy)]
+pub enum ValueFunction {
+    Abs,
+    False,
+    Int,
+    /// ISBLANK and the other tests of a value.
+    Is(Test),
+    Mod,
+    Na,
+    Not,
+    Power,
+    Quotient,
+    /// ROUND, ROUNDDOWN, ROUNDUP and TRUNC, by the mode of each.
+    Round(Mode),
+    Sign,
+    Text(TextFunction),
+    True,
+    Value,
+}
+
+/// What ISBLANK, ISERR and so on test of a value.
+#[derive(Clone, Copy)]
+pub enum Test {
+    Blank,
+    Err,
+    Error,
+    Logical,
+    Na,
+    NonText,
+    Number,
+    Text,
+}
+
+/// A function of texts.
+#[derive(Clone, Copy)]
+pub enum TextFunction {
+    Concatenate,
+    Exact,
+    Find,
+    Left,
+    Len,
+    Mid,
+    Rept,
+    Right,
+}
+
+/// A function that takes references.
+#[derive(Clone, Copy)]
+pub enum ReferenceFunction {
+    And,
+    Average,
+    Count,
+    CountA,
+    CountIf,
+    HLookup,
+    Index,
+    Match,
+    Max,
+    Min,
+    Or,
+    Product,
+    Sum,
+    SumIf,
+    SumProduct,
+    VLookup,
+}
