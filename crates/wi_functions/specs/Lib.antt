@@ -2,3 +2,4 @@ pub mod Operators
 pub mod Meaning
 pub mod Counts
 pub mod Wants
+pub mod Inner

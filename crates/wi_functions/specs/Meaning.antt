@@ -1,12 +1,16 @@
 -- What a formula's tree means, given a value for each cell and for each what-if (OpenFormula, "Standard Operators" and
 -- "MULTIPLE.OPERATIONS").
-use Rattle.std.specs.Prelude.{◌==◌, ℕ, Bool, if◌then◌else◌, List, map}
+use Rattle.std.specs.Prelude.{◌==◌, ℕ, Bool, if◌then◌else◌, List, [], ◌∷◌, map, Option, Some, None}
 use Rattle.wi_values.specs.declared.value.Value.{Value}
 use Rattle.wi_values.specs.declared.value.Value.TheVariants.{Empty, Number, Text, Fault}
-use Rattle.wi_values.specs.declared.value.ErrorKind.TheVariants.{BadValue, UnknownName}
+use Rattle.wi_values.specs.declared.value.ErrorKind.TheVariants.{BadValue}
 use Rattle.wi_parser.specs.declared.expr.Corners.{Corners}
-use Rattle.wi_parser.specs.declared.expr.Reference.{Reference}
-use Rattle.wi_parser.specs.Tree.{Tree, number, text, cell, rectangle, parenthesized, signed, percent, binary, what_if, call}
+use Rattle.wi_parser.specs.Tree.{Tree, Trees, number, text, cell, rectangle, parenthesized, signed, percent, binary, what_if, call, no_trees, more_trees}
+use Rattle.wi_parser.specs.Reads.{area_of, cell_area}
+use Rattle.wi_values.specs.Address.{Area}
+use Rattle.wi_lookup.specs.Assignment.{addresses}
+use Rattle.wi_standard_functions.specs.Arguments.{Argument, argument_of}
+use Rattle.wi_standard_functions.specs.Functions.{call_value}
 use Rattle.wi_standard_functions.specs.Convert.{zero_number}
 use Rattle.wi_functions.specs.Operators.{operate, with_sign, hundredth}
 
@@ -14,20 +18,32 @@ use Rattle.wi_functions.specs.Operators.{operate, with_sign, hundredth}
 abbrev pub is_one_cell : Corners → Bool
 is_one_cell c = c.one.at == c.other.at
 
--- The value of a tree, where `cells` gives the value of each cell, and `what_ifs` that of each what-if, told by its
--- formula cell and its pairs.
-abbrev pub meaning : Tree → (ℕ → Value) → (ℕ → List (ℕ × ℕ) → Value) → Value
-meaning (number x) cells what_ifs = Number x
-meaning (text s) cells what_ifs = Text s
-meaning (cell r) cells what_ifs = cells r.at
-meaning (rectangle c) cells what_ifs = if is_one_cell c then cells c.one.at else Fault BadValue
-meaning (parenthesized t) cells what_ifs = meaning t cells what_ifs
-meaning (signed s t) cells what_ifs = with_sign s (meaning t cells what_ifs)
-meaning (percent t) cells what_ifs = hundredth (meaning t cells what_ifs)
-meaning (binary op t u) cells what_ifs = operate op (meaning t cells what_ifs) (meaning u cells what_ifs)
-meaning (what_if f pairs) cells what_ifs = what_ifs f.at (map addresses pairs)
--- no function is known yet, whatever its parameters
-meaning (call f ts) cells what_ifs = Fault UnknownName
+-- the rectangle that a parameter refers to, where it is a reference, also in parentheses
+abbrev pub referred : Tree → Option Area
+referred (cell r) = Some (cell_area r.at)
+referred (rectangle c) = Some (area_of c)
+referred (parenthesized t) = referred t
+referred t = None
+
+abbrev mutual
+  -- The value of a tree, where `cells` gives the value of each cell, and `what_ifs` that of each what-if, told by its
+  -- formula cell and its pairs.
+  pub meaning : Tree → (ℕ → Value) → (ℕ → List (ℕ × ℕ) → Value) → Value
+  meaning (number x) cells what_ifs = Number x
+  meaning (text s) cells what_ifs = Text s
+  meaning (cell r) cells what_ifs = cells r.at
+  meaning (rectangle c) cells what_ifs = if is_one_cell c then cells c.one.at else Fault BadValue
+  meaning (parenthesized t) cells what_ifs = meaning t cells what_ifs
+  meaning (signed s t) cells what_ifs = with_sign s (meaning t cells what_ifs)
+  meaning (percent t) cells what_ifs = hundredth (meaning t cells what_ifs)
+  meaning (binary op t u) cells what_ifs = operate op (meaning t cells what_ifs) (meaning u cells what_ifs)
+  meaning (what_if f pairs) cells what_ifs = what_ifs f.at (map addresses pairs)
+  meaning (call f ts) cells what_ifs = call_value f (arguments ts cells what_ifs)
+
+  -- the arguments that the parameters of a call are
+  pub arguments : Trees → (ℕ → Value) → (ℕ → List (ℕ × ℕ) → Value) → List Argument
+  arguments no_trees cells what_ifs = []
+  arguments (more_trees t ts) cells what_ifs = argument_of cells (meaning t cells what_ifs) (referred t) ∷ arguments ts cells what_ifs
 
 -- a formula's result: Empty becomes 0
 abbrev pub zero_for_empty : Value → Value

@@ -2,16 +2,18 @@
 use Rattle.std.specs.Prelude.{◌≡◌, ℕ, true, List, map, Any, Option, None}
 use Rattle.wi_values.specs.declared.value.Value.{Value}
 use Rattle.wi_parser.specs.declared.expr.Reference.{Reference}
-use Rattle.wi_parser.specs.Tree.{Tree}
-use Rattle.wi_parser.specs.Leaves.{Leaf, cell_leaf, rectangle_leaf, what_if_leaf, leaves}
+use Rattle.wi_parser.specs.Tree.{Tree, Trees}
+use Rattle.wi_parser.specs.Leaves.{Leaf, cell_leaf, rectangle_leaf, what_if_leaf, leaves, all_leaves}
 use Rattle.wi_parser.specs.View.{pair_of}
-use Rattle.wi_functions.specs.Meaning.{is_one_cell}
+use Rattle.wi_parser.specs.Reads.{area_of}
+use Rattle.wi_values.specs.Address.{Area, is_within}
 use Rattle.wi_lookup.specs.Assignment.{addresses}
 use Rattle.wi_functions.specs.declared.evaluation.Want.{Want}
 use Rattle.wi_functions.specs.declared.evaluation.Want.TheVariants.{Cell, WhatIf}
 use Rattle.wi_functions.specs.declared.evaluation.Outcome.{Outcome}
 use Rattle.wi_functions.specs.declared.evaluation.Outcome.TheVariants.{Done, Needs}
 use Rattle.wi_functions.specs.declared.evaluation.Stop as stop
+use Rattle.wi_lookup.specs.declared.stop.Stop as lookup
 
 -- this cell is wanted
 abbrev pub WantsCell : Want → ℕ → Type 0
@@ -23,20 +25,34 @@ abbrev pub WantsWhatIf : Want → ℕ → List (Reference × Reference) → Type
 WantsWhatIf (Cell a) g qs = ⊥
 WantsWhatIf (WhatIf f pairs) g qs = (f ≡ g) × (map pair_of pairs.items ≡ qs)
 
--- The leaf asks for this: for its cell or its what-if, and for the cell of a rectangle that has only one.
+-- a cell of this rectangle is wanted
+abbrev pub WantsWithin : Want → Area → Type 0
+WantsWithin (Cell a) r = is_within r a ≡ true
+WantsWithin (WhatIf f pairs) r = ⊥
+
+-- the leaf asks for this: for its cell, for one of the cells of its rectangle, or for its what-if
 abbrev pub LeafAsks : Leaf → Want → Type 0
 LeafAsks (cell_leaf r) w = WantsCell w r.at
-LeafAsks (rectangle_leaf c) w = (is_one_cell c ≡ true) × WantsCell w c.one.at
+LeafAsks (rectangle_leaf c) w = WantsWithin w (area_of c)
 LeafAsks (what_if_leaf f pairs) w = WantsWhatIf w f.at pairs
 
 -- a leaf of the tree asks for this
 abbrev pub Asks : Tree → Want → Type 0
 Asks t w = Any (λ l. LeafAsks l w) (leaves t)
 
+-- a leaf of one of the trees asks for this
+abbrev pub AnyAsks : Trees → Want → Type 0
+AnyAsks ts w = Any (λ l. LeafAsks l w) (all_leaves ts)
+
 -- what is wanted isn't known
 abbrev pub IsUnknown : (ℕ → Option Value) → (ℕ → List (ℕ × ℕ) → Option Value) → Want → Type 0
 IsUnknown known_cell known_what_if (Cell a) = known_cell a ≡ None
 IsUnknown known_cell known_what_if (WhatIf f pairs) = known_what_if f (map addresses (map pair_of pairs.items)) ≡ None
+
+-- a function that stops at a cell whose value isn't known wants that cell
+abbrev pub stopped : lookup.Stop → stop.Stop
+stopped (lookup.TheVariants.Missing c) = stop.TheVariants.Needs (Cell c)
+stopped lookup.TheVariants.Memory = stop.TheVariants.Memory
 
 -- a fact of the want at which an evaluation stops
 abbrev pub IfNeeds : stop.Stop → (Want → Type 0) → Type 0

@@ -1,18 +1,26 @@
 //! One formula's value.
 
 ghost use Rattle.std.specs.Prelude.{◌≡◌, map, IfOk, IfErr, OnErr};
-ghost use Rattle.wi_parser.specs.View.{tree_of, pair_of};
-ghost use Rattle.wi_parser.specs.Tree.{cell, rectangle, signed, percent, binary, what_if as what_if_tree};
+ghost use Rattle.wi_parser.specs.View.{tree_of, all_of, pair_of};
+ghost use Rattle.wi_parser.specs.Tree.{cell, rectangle, signed, percent, binary, call, what_if as what_if_tree};
+ghost use Rattle.wi_standard_functions.specs.Arguments.{value_or};
+ghost use Rattle.wi_calls.specs.Applied.{applied};
+ghost use Rattle.wi_calls.specs.declared.function.Function.TheVariants.{Lazy};
+ghost use Rattle.wi_lookup.specs.Arguments.{arguments_in};
 ghost use Rattle.wi_functions.specs.Meaning as formulas;
 ghost use Rattle.wi_functions.specs.Operators as operators;
 ghost use Rattle.wi_lookup.specs.Assignment.{Assignment, AgreesWith};
-ghost use Rattle.wi_functions.specs.Wants.{Asks, IsUnknown, IfNeeds, IfDone, IfWanting};
+ghost use Rattle.wi_functions.specs.Wants.{Asks, AnyAsks, IsUnknown, IfNeeds, IfDone, IfWanting, stopped};
 ghost use Rattle.wi_functions.specs.Counts.{counted};
+ghost use Rattle.wi_functions.specs.Inner.Calls.{values_of, ReferInside};
 
+use crate::choice::{Choice, choose};
 use crate::meter::Meter;
 use crate::operators::{hundredth, operate, with_sign};
-use std::alloc::{AllocError, Global};
-use wi_lookup::{LookedUp, Lookup};
+use crate::references::{referred, value_of_references};
+use std::alloc::{AllocError, AllocFailed, Global};
+use wi_calls::{Function, LazyFunction, function_for, value_of_values};
+use wi_lookup::{Argument, LookedUp, Lookup, Stop as Missing};
 use wi_parser::{Corners, Expr, Formula, Operator, Pair, Reference, Sign};
 use wi_scalar_functions::zero;
 use wi_values::{Address, ErrorKind, Text, Value};
@@ -48,6 +56,28 @@ impl From<AllocError> for Stop {
 
     fn from(_: AllocError) -> Stop {
         Stop::Memory
+    }
+}
+
+impl<T: Drop> From<AllocFailed<T>> for Stop {
+    ghost use Rattle.wi_functions.specs.declared.evaluation.Stop.{Stop};
+    ghost use Rattle.wi_functions.specs.declared.evaluation.Stop.TheVariants.{Memory};
+    ghost use Rattle.std.specs.Prelude.{◌≡◌};
+
+    ghost from_gives = { λ _ s. s ≡ Memory };
+
+    fn from(_error: AllocFailed<T>) -> Stop {
+        Stop::Memory
+    }
+}
+
+/// A function that stops at a cell whose value isn't known wants that cell.
+fn stopped(stop: Missing) -> Stop
+    ensures { result ≡ stopped stop }
+{
+    match stop {
+        Missing::Missing(at) => Stop::Needs(Want::Cell(at)),
+        Missing::Memory => Stop::Memory,
     }
 }
 
@@ -112,8 +142,7 @@ fn value_of<L: Lookup>(alloc: Global, expr: &Expr, lookup: &L) -> Result<Value, 
         Expr::Percent(inner) => percent_value(alloc, inner, lookup),
         Expr::Binary(operator, left, right) => binary_value(alloc, *operator, left, right, lookup),
         Expr::WhatIf(formula_cell, pairs) => what_if_value(alloc, *formula_cell, pairs, lookup),
-        // No function is known yet.
-        Expr::Call(_, _) => Ok(Value::Fault(ErrorKind::UnknownName)),
+        Expr::Call(name, parameters) => call_value(alloc, name, parameters, lookup),
     }
 }
 
@@ -181,6 +210,121 @@ fn with_right_operand<L: Lookup>(
 {
     let y = value_of(alloc, right, lookup)?;
     Ok(operate(alloc, operator, left, &y)?)
+}
+
+/// A call's value. Which function it calls, and whether that takes so many parameters, comes before any of them.
+#[cycle(evaluating)]
+#[inline(never)]
+fn call_value<L: Lookup>(
+    alloc: Global,
+    name: &Text,
+    parameters: &[Expr],
+    lookup: &L,
+) -> Result<Value, Stop>
+    ensures done { IfOk result (λ v. (a : Assignment) → AgreesWith (L.known_cell lookup.now) (L.known_what_if lookup.now) a → v ≡ formulas.meaning (call name.now (all_of parameters.now)) a.cells a.what_ifs) }
+    ensures asked { IfErr result (λ s. IfNeeds s (AnyAsks (all_of parameters.now))) }
+    ensures unknown { IfErr result (λ s. IfNeeds s (IsUnknown (L.known_cell lookup.now) (L.known_what_if lookup.now))) }
+{
+    match function_for(name.as_str(), parameters.len()) {
+        Err(error) => Ok(Value::Fault(error)),
+        Ok(Function::Lazy(function)) => lazy_value(alloc, function, parameters, lookup),
+        Ok(Function::Values(function)) => {
+            let values = all_values(alloc, parameters, lookup)?;
+            Ok(value_of_values(alloc, function, &values)?)
+        }
+        Ok(Function::References(function)) => {
+            let arguments = all_arguments(alloc, parameters, lookup)?;
+            match value_of_references(alloc, function, &arguments, lookup) {
+                Ok(value) => Ok(value),
+                Err(stop) => Err(stopped(stop)),
+            }
+        }
+    }
+}
+
+/// What a function gives that values its first parameter, and then the one that this chooses and no other.
+#[cycle(evaluating)]
+#[inline(never)]
+fn lazy_value<L: Lookup>(
+    alloc: Global,
+    function: LazyFunction,
+    parameters: &[Expr],
+    lookup: &L,
+) -> Result<Value, Stop>
+    ensures done { IfOk result (λ v. (a : Assignment) → AgreesWith (L.known_cell lookup.now) (L.known_what_if lookup.now) a → v ≡ applied (Lazy function) (formulas.arguments (all_of parameters.now) a.cells a.what_ifs)) }
+    ensures asked { IfErr result (λ s. IfNeeds s (AnyAsks (all_of parameters.now))) }
+    ensures unknown { IfErr result (λ s. IfNeeds s (IsUnknown (L.known_cell lookup.now) (L.known_what_if lookup.now))) }
+{
+    let first = parameter_or(alloc, parameters, 0, Value::Empty, lookup)?;
+    match choose(function, first, parameters.len()) {
+        Choice::Value(value) => Ok(value),
+        Choice::Parameter(place, default) => {
+            parameter_or(alloc, parameters, place, default, lookup)
+        }
+    }
+}
+
+/// The value of the parameter at a place, counted from 0, or else the default.
+#[cycle(evaluating)]
+#[inline(never)]
+fn parameter_or<L: Lookup>(
+    alloc: Global,
+    parameters: &[Expr],
+    place: usize,
+    default: Value,
+    lookup: &L,
+) -> Result<Value, Stop>
+    ensures done { IfOk result (λ v. (a : Assignment) → AgreesWith (L.known_cell lookup.now) (L.known_what_if lookup.now) a → v ≡ value_or default (formulas.arguments (all_of parameters.now) a.cells a.what_ifs) place) }
+    ensures asked { IfErr result (λ s. IfNeeds s (AnyAsks (all_of parameters.now))) }
+    ensures unknown { IfErr result (λ s. IfNeeds s (IsUnknown (L.known_cell lookup.now) (L.known_what_if lookup.now))) }
+{
+    match parameters.get(place) {
+        Some(parameter) => value_of(alloc, parameter, lookup),
+        None => Ok(default),
+    }
+}
+
+/// The values of all parameters.
+#[cycle(evaluating)]
+#[inline(never)]
+fn all_values<L: Lookup>(
+    alloc: Global,
+    parameters: &[Expr],
+    lookup: &L,
+) -> Result<Vec<Value>, Stop>
+    ensures done { IfOk result (λ vs. (a : Assignment) → AgreesWith (L.known_cell lookup.now) (L.known_what_if lookup.now) a → vs.items ≡ values_of (formulas.arguments (all_of parameters.now) a.cells a.what_ifs)) }
+    ensures asked { IfErr result (λ s. IfNeeds s (AnyAsks (all_of parameters.now))) }
+    ensures unknown { IfErr result (λ s. IfNeeds s (IsUnknown (L.known_cell lookup.now) (L.known_what_if lookup.now))) }
+{
+    let mut values = Vec::new(alloc);
+    for parameter in parameters {
+        values.push(value_of(alloc, parameter, lookup)?)?;
+    }
+    Ok(values)
+}
+
+/// All parameters as arguments: those that are references as they are, and the values of the others.
+#[cycle(evaluating)]
+#[inline(never)]
+fn all_arguments<L: Lookup>(
+    alloc: Global,
+    parameters: &[Expr],
+    lookup: &L,
+) -> Result<Vec<Argument>, Stop>
+    ensures done { IfOk result (λ args. (a : Assignment) → AgreesWith (L.known_cell lookup.now) (L.known_what_if lookup.now) a → arguments_in a.cells args.items ≡ formulas.arguments (all_of parameters.now) a.cells a.what_ifs) }
+    ensures refers { IfOk result (λ args. ReferInside args.items (all_of parameters.now)) }
+    ensures asked { IfErr result (λ s. IfNeeds s (AnyAsks (all_of parameters.now))) }
+    ensures unknown { IfErr result (λ s. IfNeeds s (IsUnknown (L.known_cell lookup.now) (L.known_what_if lookup.now))) }
+{
+    let mut arguments = Vec::new(alloc);
+    for parameter in parameters {
+        let argument = match referred(parameter) {
+            Some(area) => Argument::Reference(area),
+            None => Argument::Value(value_of(alloc, parameter, lookup)?),
+        };
+        arguments.push(argument)?;
+    }
+    Ok(arguments)
 }
 
 /// A text's value.

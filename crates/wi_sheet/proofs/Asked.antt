@@ -2,7 +2,6 @@
 use Rattle.std.proofs.Common.{◌≡◌, ◌==◌, ◌||◌, inl, inr, ℕ, Bool, true, false, List, [], ◌∷◌, map, Some, Contains, refl, ap, sym, ◌∙◌, eq-eqb}
 use Rattle.std.specs.List.{list_any}
 use Rattle.std.specs.Global.{Vec}
-use Rattle.wi_values.proofs.Corners.{corners_may_turn}
 use Rattle.wi_values.specs.declared.replacement.Replacement.{Replacement}
 use Rattle.wi_parser.specs.declared.expr.Pair.{Pair}
 use Rattle.wi_parser.specs.declared.expr.Reference.{Reference}
@@ -71,7 +70,7 @@ wanted_cell b a e = eq-eqb b a (sym e)
 
 leaf_asked_cell : (l : Leaf) (a : ℕ) → LeafAsks l (Cell a) → leaf_reads_here l a ≡ true
 leaf_asked_cell (cell_leaf r) a h = wanted_cell r.at a h
-leaf_asked_cell (rectangle_leaf c) a h = ap (leaf_reads_here (rectangle_leaf c)) h.1 ∙ (corners_may_turn c.one.at c.other.at).1
+leaf_asked_cell (rectangle_leaf c) a h = h
 leaf_asked_cell (what_if_leaf f ps) a h = absurd h
 
 -- a cell that is asked for is read as the sheet stands
@@ -86,7 +85,7 @@ named f ps = (f, map addresses ps)
 
 leaf_asked : (l : Leaf) (f : ℕ) (pairs : Vec Pair) → LeafAsks l (WhatIf f pairs) → IsIn (leaf_what_ifs l) (named f (map pair_of pairs.items))
 leaf_asked (cell_leaf r) f pairs h = absurd h
-leaf_asked (rectangle_leaf c) f pairs h = absurd h.1
+leaf_asked (rectangle_leaf c) f pairs h = absurd h
 leaf_asked (what_if_leaf g qs) f pairs h = inl (ap (λ (n : ℕ). named n qs) (sym h.0) ∙ ap (named f) (sym h.1))
 
 wanted_in : (t : Tree) (f : ℕ) (pairs : Vec Pair) → Asks t (WhatIf f pairs) → IsIn (what_ifs_of t) (named f (map pair_of pairs.items))

@@ -1,5 +1,5 @@
 -- A formula's meaning rests on the cells that it reads alone.
-use Rattle.std.proofs.Common.{◌≡◌, ◌==◌, ℕ, Bool, true, false, ◌||◌, cond, List, [], ◌∷◌, map, refl, ap, sym, ◌∙◌, eq-eqb}
+use Rattle.std.proofs.Common.{◌≡◌, ◌==◌, ℕ, Bool, true, false, ◌||◌, cond, List, [], ◌∷◌, map, Option, Some, option_map, refl, ap, ap₂, sym, ◌∙◌, eq-eqb}
 use Rattle.std.proofs.lemmas.Bool.{or_left, or_right}
 use Rattle.std.proofs.lemmas.List.Folds.{list_any-append}
 use Rattle.std.specs.List.{list_any}
@@ -10,11 +10,15 @@ use Rattle.wi_values.specs.declared.value.Value.TheVariants.{Fault}
 use Rattle.wi_values.specs.declared.replacement.Replacement.{Replacement}
 use Rattle.wi_parser.specs.declared.expr.Operator.{Operator}
 use Rattle.wi_parser.specs.declared.expr.Reference.{Reference}
-use Rattle.wi_parser.specs.Tree.{Tree, number, text, cell, rectangle, parenthesized, signed, percent, binary, what_if, call}
-use Rattle.wi_parser.specs.Leaves.{Leaf, cell_leaf, rectangle_leaf, what_if_leaf, leaves}
-use Rattle.wi_parser.specs.Reads.{leaf_reads, reads}
+use Rattle.wi_parser.specs.Tree.{Tree, number, text, cell, rectangle, parenthesized, signed, percent, binary, what_if, call, Trees, no_trees, more_trees}
+use Rattle.wi_parser.specs.Leaves.{Leaf, cell_leaf, rectangle_leaf, what_if_leaf, leaves, all_leaves}
+use Rattle.wi_parser.specs.Reads.{cell_area, area_of, leaf_reads, reads}
+use Rattle.wi_parser.proofs.Rectangles.{one_cell}
 use Rattle.wi_functions.specs.Operators.{operate, with_sign, hundredth}
-use Rattle.wi_functions.specs.Meaning.{meaning, is_one_cell}
+use Rattle.wi_standard_functions.specs.Arguments.{Region, Argument, region_of}
+use Rattle.wi_standard_functions.specs.Functions.{call_value}
+use Rattle.wi_lookup.proofs.RowMajor.{region_same}
+use Rattle.wi_functions.specs.Meaning.{meaning, arguments, referred, is_one_cell}
 use Rattle.wi_lookup.specs.Assignment.{addresses}
 use Rattle.wi_sheet.specs.CellValue.{replacements}
 
@@ -38,28 +42,53 @@ left_reads op t u a h = list_any-append (λ l. leaf_reads l a) (leaves t) (leave
 right_reads : (op : Operator) (t u : Tree) (a : ℕ) → reads u a ≡ true → reads (binary op t u) a ≡ true
 right_reads op t u a h = list_any-append (λ l. leaf_reads l a) (leaves t) (leaves u) ∙ or_right (reads t a) (reads u a) h
 
+-- and what a parameter reads, the call reads
+first_reads : (f : List ℕ) (t : Tree) (ts : Trees) (a : ℕ) → reads t a ≡ true → reads (call f (more_trees t ts)) a ≡ true
+first_reads f t ts a h = list_any-append (λ l. leaf_reads l a) (leaves t) (all_leaves ts) ∙ or_left (reads t a) (reads (call f ts) a) h
+
+rest_reads : (f : List ℕ) (t : Tree) (ts : Trees) (a : ℕ) → reads (call f ts) a ≡ true → reads (call f (more_trees t ts)) a ≡ true
+rest_reads f t ts a h = list_any-append (λ l. leaf_reads l a) (leaves t) (all_leaves ts) ∙ or_right (reads t a) (reads (call f ts) a) h
+
+-- assignments that agree on what a tree reads make one region of what it refers to
+referred_same : (t : Tree) (g h : ℕ → Value) → ((a : ℕ) → reads t a ≡ true → g a ≡ h a) → option_map (region_of g) (referred t) ≡ option_map (region_of h) (referred t)
+referred_same (cell r) g h k = ap (λ (x : Region). Some x) (region_same g h (cell_area r.at) (λ a w. k a (leaf_alone (cell_leaf r) a (sym (one_cell r.at a) ∙ w))))
+referred_same (rectangle c) g h k = ap (λ (x : Region). Some x) (region_same g h (area_of c) (λ a w. k a (leaf_alone (rectangle_leaf c) a w)))
+referred_same (parenthesized t) g h k = referred_same t g h k
+referred_same t g h k = refl
+
 -- assignments that agree on what a tree reads, and on what-ifs that read no more than it does, give it one meaning
-pub meaning_same : (t : Tree) (g h : ℕ → Value) (w v : ℕ → List (ℕ × ℕ) → Value) → ((a : ℕ) → reads t a ≡ true → g a ≡ h a) →
-    ((f : ℕ) (ps : List (ℕ × ℕ)) → ReadsNoMore f ps t → w f ps ≡ v f ps) → meaning t g w ≡ meaning t h v
-meaning_same (number n) g h w v k l = refl
-meaning_same (text s) g h w v k l = refl
-meaning_same (cell r) g h w v k l = k r.at (leaf_alone (cell_leaf r) r.at (eq-eqb r.at r.at refl))
-meaning_same (rectangle c) g h w v k l =
-    ap (λ (x : Value). cond (is_one_cell c) x (Fault BadValue)) (k c.one.at (leaf_alone (rectangle_leaf c) c.one.at (corners_may_turn c.one.at c.other.at).1))
-meaning_same (parenthesized t) g h w v k l = meaning_same t g h w v k l
-meaning_same (signed s t) g h w v k l = ap (with_sign s) (meaning_same t g h w v k l)
-meaning_same (percent t) g h w v k l = ap hundredth (meaning_same t g h w v k l)
-meaning_same (binary op t u) g h w v k l =
-    ap (λ (x : Value). operate op x (meaning u g w))
-    (meaning_same t g h w v (λ a r. k a (left_reads op t u a r)) (λ f ps i. l f ps (left_reads op t u f i.0, λ a r. left_reads op t u a (i.1 a r))))
-    ∙ ap (λ (x : Value). operate op (meaning t h v) x)
-    (meaning_same u g h w v (λ a r. k a (right_reads op t u a r)) (λ f ps i. l f ps (right_reads op t u f i.0, λ a r. right_reads op t u a (i.1 a r))))
-meaning_same (what_if f ps) g h w v k l =
-    l f.at (map addresses ps) (
-      leaf_alone (what_if_leaf f ps) f.at (or_left (f.at == f.at) _ (eq-eqb f.at f.at refl)),
-      λ a r. leaf_alone (what_if_leaf f ps) a (or_right (f.at == a) _ (sym (replacement_cells ps a) ∙ r)),
-    )
-meaning_same (call f ts) g h w v k l = refl
+mutual
+  pub meaning_same : (t : Tree) (g h : ℕ → Value) (w v : ℕ → List (ℕ × ℕ) → Value) → ((a : ℕ) → reads t a ≡ true → g a ≡ h a) →
+      ((f : ℕ) (ps : List (ℕ × ℕ)) → ReadsNoMore f ps t → w f ps ≡ v f ps) → meaning t g w ≡ meaning t h v
+  meaning_same (number n) g h w v k l = refl
+  meaning_same (text s) g h w v k l = refl
+  meaning_same (cell r) g h w v k l = k r.at (leaf_alone (cell_leaf r) r.at (eq-eqb r.at r.at refl))
+  meaning_same (rectangle c) g h w v k l =
+      ap (λ (x : Value). cond (is_one_cell c) x (Fault BadValue)) (k c.one.at (leaf_alone (rectangle_leaf c) c.one.at (corners_may_turn c.one.at c.other.at).1))
+  meaning_same (parenthesized t) g h w v k l = meaning_same t g h w v k l
+  meaning_same (signed s t) g h w v k l = ap (with_sign s) (meaning_same t g h w v k l)
+  meaning_same (percent t) g h w v k l = ap hundredth (meaning_same t g h w v k l)
+  meaning_same (binary op t u) g h w v k l =
+      ap (λ (x : Value). operate op x (meaning u g w))
+      (meaning_same t g h w v (λ a r. k a (left_reads op t u a r)) (λ f ps i. l f ps (left_reads op t u f i.0, λ a r. left_reads op t u a (i.1 a r))))
+      ∙ ap (λ (x : Value). operate op (meaning t h v) x)
+      (meaning_same u g h w v (λ a r. k a (right_reads op t u a r)) (λ f ps i. l f ps (right_reads op t u f i.0, λ a r. right_reads op t u a (i.1 a r))))
+  meaning_same (what_if f ps) g h w v k l =
+      l f.at (map addresses ps) (
+        leaf_alone (what_if_leaf f ps) f.at (or_left (f.at == f.at) _ (eq-eqb f.at f.at refl)),
+        λ a r. leaf_alone (what_if_leaf f ps) a (or_right (f.at == a) _ (sym (replacement_cells ps a) ∙ r)),
+      )
+  meaning_same (call f ts) g h w v k l = ap (call_value f) (arguments_same f ts g h w v k l)
+
+  arguments_same : (f : List ℕ) (ts : Trees) (g h : ℕ → Value) (w v : ℕ → List (ℕ × ℕ) → Value) → ((a : ℕ) → reads (call f ts) a ≡ true → g a ≡ h a) →
+      ((c : ℕ) (ps : List (ℕ × ℕ)) → ReadsNoMore c ps (call f ts) → w c ps ≡ v c ps) → arguments ts g w ≡ arguments ts h v
+  arguments_same f no_trees g h w v k l = refl
+  arguments_same f (more_trees t ts) g h w v k l =
+      ap₂ (λ (x : Argument) (xs : List Argument). x ∷ xs)
+      (ap₂ (λ (x : Value) (r : Option Region). record { value = x; region = r })
+        (meaning_same t g h w v (λ a r. k a (first_reads f t ts a r)) (λ c ps i. l c ps (first_reads f t ts c i.0, λ a r. first_reads f t ts a (i.1 a r))))
+        (referred_same t g h (λ a r. k a (first_reads f t ts a r))))
+      (arguments_same f ts g h w v (λ a r. k a (rest_reads f t ts a r)) (λ c ps i. l c ps (rest_reads f t ts c i.0, λ a r. rest_reads f t ts a (i.1 a r))))
 
 abbrev with : ℕ → Value → List Replacement → List Replacement
 with a v rs = (record { at = a; value = v }) ∷ rs

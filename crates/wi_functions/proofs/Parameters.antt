@@ -1,0 +1,173 @@
+-- Parameters and the arguments that they are.
+use Rattle.std.proofs.Common.{◌≡◌, ◌==◌, ℕ, zero, suc, ◌<◌, ◌≤◌, ◌+◌, ◌*◌, min, max, Bool, true, false, cond, List, [], ◌∷◌, ◌++◌, map, length, slice_index_or, ◌||◌, drop, drop-cons, append_assoc, Option, Some, None, Any, Result, Ok, Err, IfOk, IfErr, refl, sym, ap, ap₂, ◌∙◌, subst, eq-eqb, arith}
+use Rattle.std.specs.List.{list_any}
+use Rattle.std.proofs.lemmas.List.{map-append}
+use Rattle.std.proofs.lemmas.List.Folds.{list_any-append}
+use Rattle.std.proofs.Math.Nat.{mod-lt, div-add-mod'}
+use Rattle.std.proofs.lemmas.Bool.{eqb-true, false_from_ne_true}
+use Rattle.wi_values.specs.Address.{Area, place, row_of, column_of, rect_of, is_within}
+use Rattle.wi_values.specs.declared.value.ErrorKind.TheVariants.{BadValue}
+use Rattle.wi_values.specs.declared.value.Value.{Value}
+use Rattle.wi_values.specs.declared.value.Value.TheVariants.{Fault}
+use Rattle.wi_parser.specs.declared.expr.Expr.{Expr}
+use Rattle.wi_parser.specs.Tree.{Tree, Trees, cell, rectangle, parenthesized}
+use Rattle.wi_parser.specs.Leaves.{cell_leaf, rectangle_leaf, leaves, all_leaves}
+use Rattle.wi_parser.proofs.Rectangles.{one_cell}
+use Rattle.wi_parser.specs.Reads.{area_of, cell_area}
+use Rattle.wi_parser.specs.View.{tree_of, all_of}
+use Rattle.wi_standard_functions.specs.Arguments.{Argument, argument_of, value_or}
+use Rattle.wi_lookup.specs.Arguments.{value_of_area, argument_in, arguments_in, refers_to, IsMissing, IfMissing}
+use Rattle.wi_lookup.specs.declared.argument.Argument as given
+use Rattle.wi_lookup.specs.declared.stop.Stop as lookup
+use Rattle.wi_functions.specs.Meaning.{meaning, arguments, referred, is_one_cell}
+use Rattle.wi_functions.specs.Wants.{Asks, AnyAsks, IsUnknown, IfNeeds, stopped}
+use Rattle.wi_functions.specs.Inner.Calls.{ReferInside}
+use Rattle.wi_functions.specs.declared.evaluation.Want.{Want}
+use Rattle.wi_functions.specs.declared.evaluation.Want.TheVariants.{Cell}
+use Rattle.wi_functions.specs.declared.evaluation.Stop.{Stop}
+use Rattle.wi_functions.specs.declared.evaluation.Stop.TheVariants.{Needs, Memory}
+use Rattle.wi_functions.proofs.Asking.{any_left, any_right, leaf_asks}
+
+-- ---- the parameter at a place
+
+-- its value is that of its tree
+pub value_there : (es : List Expr) (k : ℕ) (e : Expr) (d : Value) (cells : ℕ → Value) (what_ifs : ℕ → List (ℕ × ℕ) → Value) → k < length es → e ≡ slice_index_or es k e →
+    meaning (tree_of e) cells what_ifs ≡ value_or d (arguments (all_of es) cells what_ifs) k
+value_there [] k e d cells what_ifs l h = absurd (omega (arith, l))
+value_there (x ∷ es) zero e d cells what_ifs l h = ap (λ (y : Expr). meaning (tree_of y) cells what_ifs) h
+value_there (x ∷ es) (suc k) e d cells what_ifs l h = value_there es k e d cells what_ifs (omega (arith, l)) h
+
+-- and where there is none it is the default
+pub value_missing : (es : List Expr) (k : ℕ) (d : Value) (cells : ℕ → Value) (what_ifs : ℕ → List (ℕ × ℕ) → Value) → length es ≤ k →
+    d ≡ value_or d (arguments (all_of es) cells what_ifs) k
+value_missing [] k d cells what_ifs l = refl
+value_missing (x ∷ es) zero d cells what_ifs l = absurd (omega (arith, l))
+value_missing (x ∷ es) (suc k) d cells what_ifs l = value_missing es k d cells what_ifs (omega (arith, l))
+
+-- what it asks for, one of the parameters asks for
+pub asks_there : (es : List Expr) (k : ℕ) (e : Expr) (w : Want) → k < length es → e ≡ slice_index_or es k e → Asks (tree_of e) w → AnyAsks (all_of es) w
+asks_there [] k e w l h a = absurd (omega (arith, l))
+asks_there (x ∷ es) zero e w l h a = any_left _ (leaves (tree_of x)) (all_leaves (all_of es)) (subst (λ (y : Expr). Asks (tree_of y) w) h a)
+asks_there (x ∷ es) (suc k) e w l h a = any_right _ (leaves (tree_of x)) (all_leaves (all_of es)) (asks_there es k e w (omega (arith, l)) h a)
+
+-- the same of how an evaluation ended
+pub asked_there : (es : List Expr) (k : ℕ) (e : Expr) (s : Stop) → k < length es → e ≡ slice_index_or es k e → IfNeeds s (Asks (tree_of e)) → IfNeeds s (AnyAsks (all_of es))
+asked_there es k e (Needs w) l h a = asks_there es k e w l h a
+asked_there es k e Memory l h a = tt
+
+pub asked_of : (es : List Expr) (k : ℕ) (e : Expr) (r : Result Value Stop) → k < length es → e ≡ slice_index_or es k e → IfErr r (λ s. IfNeeds s (Asks (tree_of e))) → IfErr r (λ s. IfNeeds s (AnyAsks (all_of es)))
+asked_of es k e (Ok v) l h a = tt
+asked_of es k e (Err s) l h a = asked_there es k e s l h a
+
+pub ok_then : (P Q : Value → Type 0) (r : Result Value Stop) → ((v : Value) → P v → Q v) → IfOk r P → IfOk r Q
+ok_then P Q (Ok v) f h = f v h
+ok_then P Q (Err s) f h = tt
+
+pub length_arguments : (es : List Expr) (cells : ℕ → Value) (what_ifs : ℕ → List (ℕ × ℕ) → Value) → length (arguments (all_of es) cells what_ifs) ≡ length es
+length_arguments [] cells what_ifs = refl
+length_arguments (x ∷ es) cells what_ifs = ap (λ (n : ℕ). suc n) (length_arguments es cells what_ifs)
+
+-- ---- the value of a reference
+
+-- the rectangle of one cell begins and ends with it
+cell_is_first : (a : ℕ) → (cell_area a).first ≡ a
+cell_is_first a = omega arith
+
+cell_is_last : (a : ℕ) → (cell_area a).last ≡ a
+cell_is_last a = omega arith
+
+pub value_of_cell : (cells : ℕ → Value) (a : ℕ) → value_of_area cells (cell_area a) ≡ cells a
+value_of_cell cells a = by ((cell_area a).first == (cell_area a).last) (eq-eqb _ _ (cell_is_first a ∙ sym (cell_is_last a)))
+  where
+    by : (b : Bool) → b ≡ true → cond b (cells (cell_area a).first) (Fault BadValue) ≡ cells a
+    by true h = ap cells (cell_is_first a)
+    by false h = cc
+
+corners_meet : (a b : ℕ) → (rect_of a b).first ≡ (rect_of a b).last → a ≡ b
+corners_meet a b h =
+    let left : row_of a * 16384 + column_of a ≡ a = div-add-mod' a 16384 in
+    let right : row_of b * 16384 + column_of b ≡ b = div-add-mod' b 16384 in
+    let narrow : column_of a < 16384 = mod-lt a (omega arith) in
+    let thin : column_of b < 16384 = mod-lt b (omega arith) in
+    omega (arith, h, left, right, narrow, thin)
+
+pub value_of_rectangle : (cells : ℕ → Value) (a b : ℕ) → value_of_area cells (rect_of a b) ≡ cond (a == b) (cells a) (Fault BadValue)
+value_of_rectangle cells a b = by (a == b) refl
+  where
+    by : (t : Bool) → (a == b) ≡ t → value_of_area cells (rect_of a b) ≡ cond t (cells a) (Fault BadValue)
+    by true h = ap (λ (x : ℕ). value_of_area cells (rect_of a x)) (sym (eqb-true a b h)) ∙ value_of_cell cells a
+    by false h = apart ((rect_of a b).first == (rect_of a b).last) refl
+      where
+        apart : (t : Bool) → ((rect_of a b).first == (rect_of a b).last) ≡ t → cond t (cells (rect_of a b).first) (Fault BadValue) ≡ Fault BadValue
+        apart true m = let same : a ≡ b = corners_meet a b (eqb-true _ _ m) in let e : (a == b) ≡ true = eq-eqb a b same in cc
+        apart false m = refl
+
+-- what a parameter refers to has its value, where one is asked for
+pub value_of_referred : (t : Tree) (r : Area) (cells : ℕ → Value) (what_ifs : ℕ → List (ℕ × ℕ) → Value) → referred t ≡ Some r → value_of_area cells r ≡ meaning t cells what_ifs
+value_of_referred (cell a) r cells what_ifs h = let e : r ≡ cell_area a.at = cc in ap (value_of_area cells) e ∙ value_of_cell cells a.at
+value_of_referred (rectangle c) r cells what_ifs h = let e : r ≡ area_of c = cc in ap (value_of_area cells) e ∙ value_of_rectangle cells c.one.at c.other.at
+value_of_referred (parenthesized t) r cells what_ifs h = value_of_referred t r cells what_ifs h
+value_of_referred t r cells what_ifs h = cc
+
+-- ---- all parameters as arguments
+
+next_first : (es : List Expr) (i : ℕ) (e : Expr) → i < length es → e ≡ slice_index_or es i e → drop i es ≡ e ∷ drop (suc i) es
+next_first es i e l h = drop-cons es i e l ∙ ap (λ (x : Expr). x ∷ drop (suc i) es) (sym h)
+
+-- one more argument
+pub more_arguments : (es : List Expr) (i : ℕ) (e : Expr) (args more : List given.Argument) (arg : given.Argument) (cells : ℕ → Value) (what_ifs : ℕ → List (ℕ × ℕ) → Value) → i < length es → e ≡ slice_index_or es i e → more ≡ args ++ arg ∷ [] →
+    argument_in cells arg ≡ argument_of cells (meaning (tree_of e) cells what_ifs) (referred (tree_of e)) →
+    arguments_in cells args ++ arguments (all_of (drop i es)) cells what_ifs ≡ arguments (all_of es) cells what_ifs →
+    arguments_in cells more ++ arguments (all_of (drop (i + 1) es)) cells what_ifs ≡ arguments (all_of es) cells what_ifs
+more_arguments es i e args more arg cells what_ifs l h m k inv =
+    let rest = arguments (all_of (drop (suc i) es)) cells what_ifs in
+    let one : i + 1 ≡ suc i = omega arith in
+    ap (λ (n : ℕ). arguments_in cells more ++ arguments (all_of (drop n es)) cells what_ifs) one
+    ∙ ap (λ (xs : List given.Argument). arguments_in cells xs ++ rest) m
+    ∙ ap (λ (xs : List Argument). xs ++ rest) (map-append (argument_in cells) args (arg ∷ []))
+    ∙ append_assoc (arguments_in cells args) (argument_in cells arg ∷ []) rest
+    ∙ ap (λ (x : Argument). arguments_in cells args ++ x ∷ rest) k
+    ∙ ap (λ (xs : List Expr). arguments_in cells args ++ arguments (all_of xs) cells what_ifs) (sym (next_first es i e l h))
+    ∙ inv
+
+-- a reference is the argument that refers to its rectangle
+pub reference_is : (t : Tree) (r : Area) (cells : ℕ → Value) (what_ifs : ℕ → List (ℕ × ℕ) → Value) → referred t ≡ Some r → argument_in cells (given.TheVariants.Reference r) ≡ argument_of cells (meaning t cells what_ifs) (referred t)
+reference_is t r cells what_ifs h =
+    ap (λ (v : Value). argument_of cells v (Some r)) (value_of_referred t r cells what_ifs h) ∙ ap (argument_of cells (meaning t cells what_ifs)) (sym h)
+
+-- and any other its value
+pub value_is : (t : Tree) (v : Value) (cells : ℕ → Value) (what_ifs : ℕ → List (ℕ × ℕ) → Value) → referred t ≡ None → v ≡ meaning t cells what_ifs → argument_in cells (given.TheVariants.Value v) ≡ argument_of cells (meaning t cells what_ifs) (referred t)
+value_is t v cells what_ifs h e = ap (λ (x : Value). argument_of cells x None) e ∙ ap (argument_of cells (meaning t cells what_ifs)) (sym h)
+
+-- what a reference refers to, its parameter asks for
+pub reference_asks : (t : Tree) (r : Area) (c : ℕ) → referred t ≡ Some r → is_within r c ≡ true → Asks t (Cell c)
+reference_asks (cell a) r c h w =
+    let e : r ≡ cell_area a.at = cc in
+    let in_cell : is_within (cell_area a.at) c ≡ true = subst (λ (x : Area). is_within x c ≡ true) e w in
+    leaf_asks (cell_leaf a) (Cell c) (sym (eqb-true a.at c (sym (one_cell a.at c) ∙ in_cell)))
+reference_asks (rectangle a) r c h w = let e : r ≡ area_of a = cc in leaf_asks (rectangle_leaf a) (Cell c) (subst (λ (x : Area). is_within x c ≡ true) e w)
+reference_asks (parenthesized t) r c h w = reference_asks t r c h w
+reference_asks t r c h w = cc
+
+-- what one more argument refers to, a parameter asks for
+pub more_refer : (es : List Expr) (i : ℕ) (e : Expr) (args more : List given.Argument) (arg : given.Argument) → i < length es → e ≡ slice_index_or es i e → more ≡ args ++ arg ∷ [] →
+    ((c : ℕ) → refers_to c arg ≡ true → Asks (tree_of e) (Cell c)) → ReferInside args (all_of es) → ReferInside more (all_of es)
+more_refer es i e args more arg l h m k inv c r = by (list_any (refers_to c) args) refl (refers_to c arg) refl
+  where
+    split : (list_any (refers_to c) args || (refers_to c arg || false)) ≡ true
+    split = sym (list_any-append (refers_to c) args (arg ∷ [])) ∙ ap (list_any (refers_to c)) (sym m) ∙ r
+
+    by : (b : Bool) → list_any (refers_to c) args ≡ b → (d : Bool) → refers_to c arg ≡ d → AnyAsks (all_of es) (Cell c)
+    by true x d y = inv c x
+    by false x true y = asks_there es i e (Cell c) l h (k c y)
+    by false x false y = let no : (false || (false || false)) ≡ true = ap₂ (λ (p q : Bool). p || (q || false)) (sym x) (sym y) ∙ split in cc
+
+-- ---- a function that stops
+
+pub stop_asks : (s : lookup.Stop) (known : ℕ → Option Value) (args : List given.Argument) (ts : Trees) → IfMissing s (IsMissing known args) → ReferInside args ts → IfNeeds (stopped s) (AnyAsks ts)
+stop_asks (lookup.TheVariants.Missing c) known args ts m r = r c m.1
+stop_asks lookup.TheVariants.Memory known args ts m r = tt
+
+pub stop_unknown : (s : lookup.Stop) (known : ℕ → Option Value) (what_ifs : ℕ → List (ℕ × ℕ) → Option Value) (args : List given.Argument) → IfMissing s (IsMissing known args) → IfNeeds (stopped s) (IsUnknown known what_ifs)
+stop_unknown (lookup.TheVariants.Missing c) known what_ifs args m = m.0
+stop_unknown lookup.TheVariants.Memory known what_ifs args m = tt

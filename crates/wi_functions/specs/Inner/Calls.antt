@@ -1,0 +1,24 @@
+-- The parameters of a call as they are valued.
+use Rattle.std.specs.Prelude.{◌≡◌, ℕ, true, List, map}
+use Rattle.std.specs.List.{list_any}
+use Rattle.wi_values.specs.declared.value.Value.{Value}
+use Rattle.wi_parser.specs.Tree.{Trees}
+use Rattle.wi_standard_functions.specs.Arguments.{Argument, value_or}
+use Rattle.wi_lookup.specs.Arguments.{refers_to}
+use Rattle.wi_lookup.specs.declared.argument.Argument as given
+use Rattle.wi_functions.specs.Wants.{AnyAsks}
+use Rattle.wi_functions.specs.declared.choice.Choice as choice
+use Rattle.wi_functions.specs.declared.evaluation.Want.TheVariants.{Cell}
+
+-- the values of arguments
+abbrev pub values_of : List Argument → List Value
+values_of args = map (λ (a : Argument). a.value) args
+
+-- the cells to which arguments refer are those of leaves of these trees
+abbrev pub ReferInside : List given.Argument → Trees → Type 0
+ReferInside args ts = (c : ℕ) → list_any (refers_to c) args ≡ true → AnyAsks ts (Cell c)
+
+-- the value that is chosen of arguments
+abbrev pub chosen_of : choice.Choice → List Argument → Value
+chosen_of (choice.TheVariants.Value v) args = v
+chosen_of (choice.TheVariants.Parameter place default) args = value_or default args place
