@@ -2,7 +2,6 @@
 #![tactic(auto)]
 
 mod choice;
-mod comparison;
 mod evaluation;
 mod meter;
 mod operators;

@@ -10,9 +10,9 @@ ghost use Rattle.wi_standard_functions.specs.FirstError.{on_both};
 ghost use Rattle.wi_scalar_functions.specs.Inner.Outcome.{number_value};
 ghost use Rattle.wi_functions.specs.Operators.{operate, with_sign, hundredth, minus};
 
-use crate::comparison::compare;
 use std::alloc::{AllocError, Global};
 use wi_fraction::Fraction;
+use wi_matching::compare;
 use wi_parser::{Operator, Sign};
 use wi_scalar_functions::{
     add, both, divide, hundred, multiply, no_error, number_value, power_value, subtract, to_number,

@@ -9,8 +9,9 @@ use std::cmp::Ordering;
 use wi_scalar_functions::zero;
 use wi_values::{Text, Value};
 
-/// The order of two values, in which Empty counts as 0, the empty text or FALSE, as the other is.
-pub(crate) fn compare(alloc: Global, left: &Value, right: &Value) -> Ordering
+/// The order of two values, in which Empty counts as 0, the empty text or FALSE, as the other is. Linear in the shorter of two
+/// texts.
+pub fn compare(alloc: Global, left: &Value, right: &Value) -> Ordering
     ensures { result ≡ order (beside right.now left.now) (beside left.now right.now) }
 {
     let left_empty = empty_beside(alloc, right);
@@ -45,7 +46,7 @@ fn or_empty<'a>(value: &'a Value, empty: &'a Value) -> &'a Value
 }
 
 /// The order of two values, neither of them Empty.
-fn order(left: &Value, right: &Value) -> Ordering
+pub(crate) fn order(left: &Value, right: &Value) -> Ordering
     ensures { result ≡ order left.now right.now }
 {
     match (left, right) {
@@ -57,7 +58,7 @@ fn order(left: &Value, right: &Value) -> Ordering
 }
 
 /// Numbers come first, then Texts, then Logicals.
-fn rank(value: &Value) -> u8
+pub(crate) fn rank(value: &Value) -> u8
     ensures { result ≡ rank value.now }
 {
     match value {
