@@ -2,7 +2,10 @@
 #![tactic(auto)]
 
 mod comparison;
+mod criterion;
+pub mod laws;
 mod matching;
 
 pub use comparison::compare;
+pub use criterion::Criterion;
 pub use matching::match_order;
