@@ -1,12 +1,12 @@
 -- What is kept for longer where one question follows another over the same memory.
-use Rattle.std.proofs.Common.{◌≡◌, ◌≤◌, inl, inr, ℕ, Bool, true, false, List, All, refl, arith}
+use Rattle.std.proofs.Common.{◌≡◌, ◌≤◌, inl, inr, ℕ, Bool, true, false, List, All, refl, sym, subst, arith}
 use Rattle.std.proofs.lemmas.List.Elements.{All-weaker}
 use Rattle.wi_values.specs.declared.replacement.Replacement.{Replacement}
 use Rattle.wi_parser.specs.Sheet.{Sheet}
 use Rattle.wi_sheet.specs.Demand.{Case, reaching, with_what_if}
 use Rattle.wi_sheet.specs.Settled.{IsSettled, IsWhatIfSettled, RestsOnKept}
 use Rattle.wi_engine.specs.Inner.MemoState.{MemoState}
-use Rattle.wi_engine.specs.Inner.Saving.{WhereRoom, Saves, SavesAll, TakesNoMore}
+use Rattle.wi_engine.specs.Inner.Saving.{WhereRoom, Saves, SavesAll, TakesNoMore, GivesUpWhenFull}
 
 -- ---- with more that is kept, what was settled is, and what rested on kept values does
 
@@ -49,6 +49,19 @@ pub takes_then : (old mid new : MemoState) (a b c : ℕ) → TakesNoMore old mid
 takes_then old mid new a b c (inl h) (inl k) l = inl (omega (arith, h, k))
 takes_then old mid new a b c (inl h) (inr k) l = inr k
 takes_then old mid new a b c (inr h) k l = inr (omega (arith, h, l))
+
+pub gives_up_none : (m n : MemoState) → n ≡ m → GivesUpWhenFull m n
+gives_up_none m n e = subst (GivesUpWhenFull m) (sym e) (record { room = omega arith; stays = λ r c w i. i })
+
+-- where no room was left half way, none is left at the end
+pub gives_up_then : (old mid new : MemoState) → GivesUpWhenFull old mid → GivesUpWhenFull mid new → GivesUpWhenFull old new
+gives_up_then old mid new h k =
+    let x = h.room in
+    let y = k.room in
+    record {
+      room = omega (arith, x, y);
+      stays = λ r c w i. k.stays r c w (h.stays (omega (arith, y, r)) c w i);
+    }
 
 -- where the first call has saved its cases, there is room for those of the second
 module _ (s : Sheet) (Both First Second : List Case → Type 0) (first : (ks : List Case) → Both ks → First ks) (second : (ks : List Case) → Both ks → Second ks) (old mid : MemoState) (a b : ℕ) (saved : SavesAll s First old mid a b) where

@@ -16,7 +16,7 @@ ghost use Rattle.wi_engine.specs.Inner.MemoState.{IsMemoOf};
 ghost use Rattle.wi_engine.specs.Inner.Attempt.{AsksAt, IsLacking, lacks_cell};
 ghost use Rattle.wi_engine.specs.Inner.Frames.{MayBeRead, IsToValue, IsUnvalued, AreReadHere, Awaits, IsFrame, IsNext, case_at, spare, waits};
 ghost use Rattle.wi_engine.specs.Inner.SettledFrames.{IsFrameSettled};
-ghost use Rattle.wi_engine.specs.Inner.Saving.{KeepsFound, WhereRoom, CountsUnkept, SavesAll, TakesNoMore, NeedsNoEvaluation, IsValuedAnew};
+ghost use Rattle.wi_engine.specs.Inner.Saving.{KeepsFound, WhereRoom, CountsUnkept, SavesAll, TakesNoMore, GivesUpWhenFull, NeedsNoEvaluation, IsValuedAnew};
 ghost use Rattle.wi_engine.specs.Inner.Steps.{IfKnown, IfUnknown, IfReplaced, IfInputUnknown, IfValued, IfNeedsKey, evaluations_after};
 ghost use Rattle.wi_engine.specs.declared.frame.Waiting.TheVariants as waiting;
 
@@ -314,6 +314,7 @@ fn run<M: Memo>(
     // What is kept for longer, and where there is room for all that is found.
     ensures kept { OnOk result (1 ≤ (M.state memo.old).capacity → (M.state memo.new).kept key.cell key.world ≡ true) }
     ensures takes { TakesNoMore (M.state memo.old) (M.state memo.new) meter.old.evaluations meter.new.evaluations }
+    ensures gives_up { GivesUpWhenFull (M.state memo.old) (M.state memo.new) }
     ensures unkept_evaluations { CountsUnkept store.now.sheet (λ ks. Contains ks (case_at key)) (M.state memo.old) meter.old.evaluations meter.new.evaluations }
     ensures saves { OnOk result (SavesAll store.now.sheet (λ ks. Contains ks (case_at key)) (M.state memo.old) (M.state memo.new) meter.old.evaluations meter.new.evaluations) }
     ensures settled { OnOk result (WhereRoom store.now.sheet (λ ks. Contains ks (case_at key)) (M.state memo.old) (λ _. (M.state memo.new).kept key.cell key.world ≡ true)) }
@@ -377,6 +378,7 @@ pub fn value_under<M: Memo>(
     // What is kept for longer, and where there is room for all that is found.
     ensures kept { OnOk result (IsValuedAnew store.now.sheet (M.state memo.old) world.now at → 1 ≤ (M.state memo.old).capacity → (M.state memo.new).kept at (reaching store.now.sheet at world.now) ≡ true) }
     ensures takes { TakesNoMore (M.state memo.old) (M.state memo.new) meter.old.evaluations meter.new.evaluations }
+    ensures gives_up { GivesUpWhenFull (M.state memo.old) (M.state memo.new) }
     ensures unkept_evaluations { CountsUnkept store.now.sheet (HasCase store.now.sheet world.now at) (M.state memo.old) meter.old.evaluations meter.new.evaluations }
     ensures saves { OnOk result (SavesAll store.now.sheet (HasCase store.now.sheet world.now at) (M.state memo.old) (M.state memo.new) meter.old.evaluations meter.new.evaluations) }
     ensures settled { OnOk result (WhereRoom store.now.sheet (HasCase store.now.sheet world.now at) (M.state memo.old) (λ _. IsSettled store.now.sheet (M.state memo.new).kept world.now at)) }

@@ -8,6 +8,7 @@ ghost use Rattle.wi_graph.specs.Circular.{circular};
 ghost use Rattle.wi_sheet.specs.CellValue.{cell_value};
 ghost use Rattle.wi_sheet.specs.Demand.{reaching, same_case};
 ghost use Rattle.wi_engine.specs.Inner.MemoState.{MemoState, IsTold};
+ghost use Rattle.wi_engine.specs.Inner.Saving.{GivesUpWhenFull};
 
 use std::alloc::AllocError;
 use wi_cache::Key;
@@ -51,6 +52,7 @@ pub trait Memo {
         ensures kept { OnOk result (1 ≤ (state self.old).room → (c : ℕ) (w : List Replacements) → (state self.new).kept c w ≡ ((state self.old).kept c w || same_case (key.cell, key.world) (c, w))) }
         ensures room { OnOk result ((state self.old).kept key.cell key.world ≡ false → 1 ≤ (state self.old).room → (state self.new).room + 1 ≡ (state self.old).room) }
         ensures one_place { (state self.old).room ≤ (state self.new).room + 1 }
+        ensures gives_up { GivesUpWhenFull (state self.old) (state self.new) }
         ensures same_capacity { (state self.new).capacity ≡ (state self.old).capacity }
 
         ensures same_sheet { (state self.new).sheet ≡ (state self.old).sheet }

@@ -1,11 +1,8 @@
 -- One pass over an order of reading finds the cells that reach a cell.
-use Rattle.std.proofs.Common.{◌≡◌, ◌==◌, ℕ, suc, ◌+◌, ◌<◌, Bool, true, false, ◌&&◌, ◌||◌, cond, List, [], ◌∷◌, ◌++◌, filter, take, drop, length, get_or, Option, Some, None, IsSome, IfSome, All, refl, ap, sym, ◌∙◌, subst, inl, inr, ◌⊎◌, eq-eqb, add-one, drop-cons}
-use Rattle.std.proofs.Math.Seq.{take-suc}
+use Rattle.std.proofs.Common.{◌≡◌, ◌==◌, ℕ, suc, ◌+◌, ◌<◌, Bool, true, false, ◌&&◌, ◌||◌, cond, List, [], ◌∷◌, ◌++◌, filter, take, drop, length, get_or, Option, Some, None, IsSome, IfSome, All, refl, ap, sym, ◌∙◌, subst, inl, inr, ◌⊎◌, eq-eqb, drop-cons}
 use Rattle.std.proofs.lemmas.Bool.{and_parts, and_from, or_cases, or_left, or_right}
 use Rattle.std.proofs.lemmas.List.{take-append-drop}
-use Rattle.std.proofs.lemmas.List.Elements.{All-head, All-tail, All-push}
-use Rattle.std.proofs.lemmas.List.Folds.{list_any-append}
-use Rattle.std.proofs.Math.Bool.{or-false}
+use Rattle.std.proofs.lemmas.List.Elements.{All-head, All-tail}
 use Rattle.std.specs.List.{list_any}
 use Rattle.std.specs.Ordering.{nat_cmp}
 use Rattle.std.specs.BTreeMap.{BTreeMap, get, is_at}
@@ -28,6 +25,7 @@ use Rattle.wi_engine.specs.Inner.ReadCells.{rectangles_in, occupied_within}
 use Rattle.wi_engine.specs.Inner.ReadOrder.{IsReadOrder}
 use Rattle.wi_engine.specs.Inner.Remembered.{AreCones}
 use Rattle.wi_engine.proofs.occupied.ReadLists.{occupied_read, read_occupied}
+use Rattle.wi_engine.proofs.Passed.{one_more}
 
 -- a formula reads what lies in one of its rectangles
 pub reads_rectangles : (s : Sheet) (c : ℕ) (t : Tree) (a : ℕ) → content_of s c ≡ Some (Formula t) → content_reads (content_of s c) a ≡ list_any (λ (r : Area). is_within r a) (rectangles_of t)
@@ -67,14 +65,6 @@ step_reaches s order i x a among o l e h = same_tests (steps_in s among x a) (re
         let earlier = (o.each (take i order) (drop (suc i) order) x (cut order i x l e)).reads k.0 k.1 k.2 in
         or_right (x == a || content_reads (content_of s x) a) _ (found among (occupied_within s (rectangles_in (content_of s x))) k.0 (read_occupied s (content_of s x) k.0 k.1 k.2) (h k.0 ∙ and_from _ _ earlier k.3))
 
-one_more : (order : List ℕ) (i x q : ℕ) → i < length order → x ≡ get_or order i x → is_one_of (take (i + 1) order) q ≡ (is_one_of (take i order) q || (x == q))
-one_more order i x q l e =
-    ap (λ (n : ℕ). is_one_of (take n order) q) (add-one i)
-    ∙ ap (λ (xs : List ℕ). is_one_of xs q) (take-suc order i x l)
-    ∙ list_any-append (λ (y : ℕ). y == q) (take i order) (get_or order i x ∷ [])
-    ∙ ap (λ (y : ℕ). is_one_of (take i order) q || ((y == q) || false)) (sym e)
-    ∙ ap (λ (b : Bool). is_one_of (take i order) q || b) (or-false (x == q))
-
 -- the cells passed that reach a cell, and one cell more
 pub cone_more : (s : Sheet) (order : List ℕ) (i x a : ℕ) (old new : ℕ → Bool) → i < length order → x ≡ get_or order i x → ((c : ℕ) → old c ≡ (is_one_of (take i order) c && reaches s c a)) →
     reaches s x a ≡ true → ((q : ℕ) → new q ≡ cond (is_at (nat_cmp x) q) true (old q)) → (c : ℕ) → new c ≡ (is_one_of (take (i + 1) order) c && reaches s c a)
@@ -110,24 +100,6 @@ cones_more s cells a cone old new h k u b c m = subst (λ (o : Option (BTreeSet 
     at : (t : Bool) → is_at (nat_cmp a) b ≡ t → IfSome (cond t (Some cone) (get nat_cmp old b)) (λ d. contains nat_cmp d c ≡ reaches s c b)
     at true e = k c ∙ ap (λ (t : Bool). t && reaches s c a) m ∙ ap (reaches s c) (sym (at_same a b e))
     at false e = h b c m
-
--- no cone goes
-pub cones_stay : (a : ℕ) (cone : BTreeSet ℕ) (old new : BTreeMap ℕ (BTreeSet ℕ)) → ((q : ℕ) → get nat_cmp new q ≡ cond (is_at (nat_cmp a) q) (Some cone) (get nat_cmp old q)) → (b : ℕ) → IsSome (get nat_cmp old b) → IsSome (get nat_cmp new b)
-cones_stay a cone old new u b h = subst (λ (o : Option (BTreeSet ℕ)). IsSome o) (sym (u b)) (at (is_at (nat_cmp a) b))
-  where
-    at : (t : Bool) → IsSome (cond t (Some cone) (get nat_cmp old b))
-    at true = refl
-    at false = h
-
-abbrev pub HaveCones : BTreeMap ℕ (BTreeSet ℕ) → List Replacement → Type 0
-HaveCones cs w = All (λ r. IsSome (get nat_cmp cs r.at)) w
-
--- the replacements passed have cones, and one more
-pub have_more : (old new : BTreeMap ℕ (BTreeSet ℕ)) (w : List Replacement) (i : ℕ) (r : Replacement) → i < length w → r ≡ get_or w i r → HaveCones old (take i w) →
-    ((b : ℕ) → IsSome (get nat_cmp old b) → IsSome (get nat_cmp new b)) → IsSome (get nat_cmp new r.at) → HaveCones new (take (i + 1) w)
-have_more old new w i r l e h stay there =
-    let more = All-push (λ (x : Replacement). IsSome (get nat_cmp new x.at)) (take i w) r (λ k d g. stay (get_or (take i w) k d).at (h k d g)) there in
-    subst (HaveCones new) (ap (λ (x : Replacement). take i w ++ x ∷ []) e ∙ sym (take-suc w i r l) ∙ ap (λ (n : ℕ). take n w) (sym (add-one i))) more
 
 -- replacements whose cones have a cell are those that it reaches
 pub worlds_same : (s : Sheet) (cells : List ℕ) (cs : BTreeMap ℕ (BTreeSet ℕ)) (c : ℕ) → AreCones s cells cs → is_one_of cells c ≡ true → (w : List Replacement) → All (λ r. IsSome (get nat_cmp cs r.at)) w → filter (cones.is_reached cs c) w ≡ reaching s c w

@@ -1,5 +1,5 @@
 -- What a frame waits for, and what it gets.
-use Rattle.std.proofs.Common.{◌≡◌, ◌==◌, ◌+◌, ◌<◌, ◌≤◌, ℕ, zero, suc, Bool, true, false, ◌||◌, cond, List, [], ◌∷◌, ◌++◌, map, filter, length, get_or, Option, Some, None, refl, ap, sym, ◌∙◌, arith, eq-eqb}
+use Rattle.std.proofs.Common.{◌≡◌, ◌==◌, ◌+◌, ◌<◌, ◌≤◌, ℕ, zero, suc, Bool, true, false, cond, List, [], ◌∷◌, ◌++◌, map, filter, length, get_or, Option, Some, None, ap, sym, ◌∙◌, arith, eq-eqb}
 use Rattle.std.proofs.lemmas.Bool.{or_left, or_right}
 use Rattle.std.specs.List.{list_any}
 use Rattle.std.specs.Option.{is_none}
@@ -16,6 +16,7 @@ use Rattle.wi_functions.specs.declared.evaluation.Want.{Want}
 use Rattle.wi_functions.specs.declared.evaluation.Want.TheVariants as wanted
 use Rattle.wi_cache.specs.declared.key.Key.{Key}
 use Rattle.wi_graph.specs.Reach.{is_one_of}
+use Rattle.wi_graph.proofs.SetSteps.{in_front, in_back}
 use Rattle.wi_graph.proofs.Walks.{formula_cell}
 use Rattle.wi_sheet.specs.CellValue.{cell_value, what_if_value}
 use Rattle.wi_sheet.specs.Demand.{Case, what_ifs_of, reads_here, formulas_read_here, of_formula}
@@ -34,18 +35,6 @@ use Rattle.wi_engine.specs.declared.frame.Waiting.{Waiting}
 use Rattle.wi_engine.specs.declared.frame.Waiting.TheVariants.{Nothing, Cells, WhatIf}
 use Rattle.wi_engine.proofs.attempt.Lacks.{cell_lacks_fewer, what_if_lacks_fewer}
 use Rattle.wi_engine.proofs.engine.Resting.{named, asked_in, tree_with}
-
-in_front : (xs ys : List ℕ) (d : ℕ) → is_one_of xs d ≡ true → is_one_of (xs ++ ys) d ≡ true
-in_front [] ys d h = cc
-in_front (x ∷ xs) ys d h = at (x == d) h (in_front xs ys d)
-  where
-    at : (b : Bool) → (b || is_one_of xs d) ≡ true → (is_one_of xs d ≡ true → is_one_of (xs ++ ys) d ≡ true) → (b || is_one_of (xs ++ ys) d) ≡ true
-    at true h ih = refl
-    at false h ih = ih h
-
-in_back : (xs ys : List ℕ) (d : ℕ) → is_one_of ys d ≡ true → is_one_of (xs ++ ys) d ≡ true
-in_back [] ys d h = h
-in_back (x ∷ xs) ys d h = or_right (x == d) _ (in_back xs ys d h)
 
 pub read_front : (s : Sheet) (k : Case) (xs ys : List ℕ) → AreReadHere s k (xs ++ ys) → AreReadHere s k xs
 read_front s k xs ys h = λ d i. h d (in_front xs ys d i)

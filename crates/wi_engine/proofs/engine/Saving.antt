@@ -14,7 +14,7 @@ use Rattle.wi_sheet.proofs.Cases.{same_case-refl}
 use Rattle.wi_sheet.proofs.Counting.{one_less_left}
 use Rattle.wi_engine.specs.Inner.MemoState.{MemoState, IsTold, IsMemoOf}
 use Rattle.wi_engine.specs.Inner.Frames.{case_at, IsToValue, IsUnvalued, IsFrame, IsNext, spare}
-use Rattle.wi_engine.specs.Inner.Saving.{not_kept, KeepsFound, WhereRoom, Saves, SavesAll, TakesNoMore, CountsUnkept, NeedsNoEvaluation, IsValuedAnew}
+use Rattle.wi_engine.specs.Inner.Saving.{not_kept, KeepsFound, WhereRoom, Saves, SavesAll, TakesNoMore, GivesUpWhenFull, CountsUnkept, NeedsNoEvaluation, IsValuedAnew}
 use Rattle.wi_engine.specs.Inner.SettledFrames.{IsFrameSettled}
 use Rattle.wi_engine.specs.declared.frame.Frame.{Frame}
 use Rattle.wi_engine.proofs.engine.Settling.{one_more_at_most}
@@ -82,6 +82,7 @@ push_takes old m n before now next h e f = rw (e, f) h
 pub record IsGoing (s : Sheet) (old m : MemoState) (root : Case) (start now : Counts) (fs : List Frame) (f : Frame) : Type 0 where
   pub running : IsRunning s old m root start now fs f
   pub places : TakesNoMore old m start.evaluations now.evaluations
+  pub gives_up : GivesUpWhenFull old m
   pub capacity : m.capacity ≡ old.capacity
   pub latest : m.latest ≡ old.latest
   pub saving : (ks : List Case) → IsClosed s ks → Contains ks root → KeepsFound old → not_kept old ks ≤ old.room → IsSaving s old m root start now fs f ks

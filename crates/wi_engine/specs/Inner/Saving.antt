@@ -42,6 +42,11 @@ SavesAll s Has old new before after = WhereRoom s Has old (λ ks. Saves s old ne
 abbrev pub TakesNoMore : MemoState → MemoState → ℕ → ℕ → Type 0
 TakesNoMore old new before after = (old.room + before ≤ new.room + after) ⊎ (2 ^ 64 - 1 ≤ after)
 
+-- Nothing was given up while there was room: no more room is left than before, and where some is left, all that was kept is kept.
+pub record GivesUpWhenFull (old new : MemoState) : Type 0 where
+  pub room : new.room ≤ old.room
+  pub stays : 1 ≤ new.room → (c : ℕ) (w : List Replacement) → old.kept c w ≡ true → new.kept c w ≡ true
+
 -- a cell's value needs no evaluation: it has no formula under the replacements, or its value is remembered
 abbrev pub NeedsNoEvaluation : Sheet → MemoState → List Replacement → ℕ → Type 0
 NeedsNoEvaluation s m w a = (has_formula (content_of (put_all s w) a) ≡ false) ⊎ (is_some (m.known a (reaching s a w)) ≡ true)

@@ -3,6 +3,7 @@ use Rattle.wi_engine.specs.Inner.Frames.{case_at, spare}
 use Rattle.wi_engine.specs.Inner.MemoState.{MemoState}
 use Rattle.wi_engine.proofs.engine.Running.{IsNew, Keeps, run_start, run_push, push_smaller, run_pop, pop_smaller}
 use Rattle.wi_engine.proofs.engine.Saving.{Takes, saving_start, saving_push, saving_pop, saving_end, settled_end, takes_more, push_takes}
+use Rattle.wi_engine.proofs.Saved.{gives_up_none, gives_up_then}
 use Rattle.wi_engine.proofs.engine.run.Goals as goal
 
 pub frames-init : goal.frames-init
@@ -16,6 +17,7 @@ frames-init g c =
     record {
       running = run_start s m c.args.key c.new-stack.result.items c.new-frame.result start c.requires.memo c.requires.key c.requires.unfound new empty;
       places = inl (omega arith);
+      gives_up = gives_up_none m m refl;
       capacity = refl;
       latest = refl;
       saving = λ ks closed top whole room. saving_start s m c.args.key c.new-stack.result.items c.new-frame.result start ks c.requires.memo c.requires.key c.requires.unkept new empty whole room;
@@ -45,6 +47,7 @@ frames-preserved-in-Needs g c =
     record {
       running = run_push s old m after root start c.frames.meter c.advance.new.meter c.frames.stack.items c.push.new.self.items c.frames.frame c.advance.new.frame c.new-frame-in-Needs.result c.in-Needs.next going.running a.same a.key a.frame next c.advance.ensures.counts counted a.restarts new pushed;
       places = push_takes old m after start.evaluations c.frames.meter.evaluations c.advance.new.meter.evaluations going.places a.same counted;
+      gives_up = gives_up_then old m after going.gives_up (gives_up_none m after a.same);
       capacity = ap (λ (x : MemoState). x.capacity) a.same ∙ going.capacity;
       latest = ap (λ (x : MemoState). x.latest) a.same ∙ going.latest;
       saving = λ ks closed top whole room.
@@ -81,6 +84,7 @@ frames-preserved g c =
     record {
       running = run_pop s old m mid after root start c.frames.meter c.advance.new.meter c.pop.new.self.items c.frames.stack.items c.frames.frame c.in-Some.below c.into_key-in-Some.result c.in-Done.value going.running a.same popped key keeps k.found value c.advance.ensures.counts counted restarts;
       places = takes_more old m after start.evaluations c.frames.meter.evaluations c.advance.new.meter.evaluations going.places (rw (← a.same) k.one_place) counted;
+      gives_up = gives_up_then old m after going.gives_up (rw (← a.same) k.gives_up);
       capacity = k.same_capacity ∙ ap (λ (x : MemoState). x.capacity) a.same ∙ going.capacity;
       latest = k.same_latest ∙ ap (λ (x : MemoState). x.latest) a.same ∙ going.latest;
       saving = λ ks closed top whole room.

@@ -1,4 +1,4 @@
-use Rattle.std.proofs.Common.{ap, rules}
+use Rattle.std.proofs.Common.{ap, arith, rules}
 use Rattle.wi_engine.specs.Inner.Remembered.{OneQuestion}
 use Rattle.wi_engine.proofs.remembered.Remembering.{known_kept}
 use Rattle.wi_engine.proofs.remembered.RememberedMemo.keep.Goals as goal
@@ -10,3 +10,6 @@ returns-clause-known c =
 
 pub returns-clause-found : goal.returns-clause-found
 returns-clause-found c = search rules
+
+pub returns-clause-gives_up : goal.returns-clause-gives_up
+returns-clause-gives_up c = record { room = omega arith; stays = λ r d w i. i }
