@@ -6,29 +6,11 @@ use Rattle.std.specs.Option.{unwrap_or}
 use Rattle.std.specs.Ordering.{nat_cmp}
 use Rattle.std.specs.Map.{lookup}
 use Rattle.std.specs.BTreeMap.{is_at}
+use Rattle.wi_values.proofs.Order.{is_at-eq}
 use Rattle.wi_graph.specs.Reach.{is_one_of}
+use Rattle.wi_engine.proofs.Passed.{one_more}
 use Rattle.wi_propagate.specs.KeptSheet.{Generations, generation_in}
 use Rattle.wi_propagate.specs.Inner.Keeping.{HasGeneration}
-
--- of one cell more
-pub one_of_more : (xs : List ℕ) (i x : ℕ) (c : ℕ) → i < length xs → x ≡ get_or xs i x → is_one_of (take (i + 1) xs) c ≡ (is_one_of (take i xs) c || (x == c))
-one_of_more xs i x c h e = ap (λ (n : ℕ). is_one_of (take n xs) c) (add-one i) ∙ more xs i h e
-  where
-    none : (b : Bool) → (b || false) ≡ b
-    none true = refl
-    none false = refl
-
-    or_assoc : (a b d : Bool) → (a || (b || d)) ≡ ((a || b) || d)
-    or_assoc true b d = refl
-    or_assoc false b d = refl
-
-    more : (ys : List ℕ) (j : ℕ) → j < length ys → x ≡ get_or ys j x → is_one_of (take (suc j) ys) c ≡ (is_one_of (take j ys) c || (x == c))
-    more [] j k f = absurd (omega arith)
-    more (y ∷ ys) zero k f = none (y == c) ∙ ap (λ (z : ℕ). z == c) (sym f)
-    more (y ∷ ys) (suc j) k f = ap (λ (b : Bool). (y == c) || b) (more ys j (omega arith) f) ∙ or_assoc (y == c) (is_one_of (take j ys) c) (x == c)
-
-same_at : (a c : ℕ) → is_at (nat_cmp a) c ≡ (a == c)
-same_at a c = grind (arith, nat_tests)
 
 -- a generation 0 where there was none
 pub given : (old new : Generations) (a : ℕ) → lookup (is_at (nat_cmp a)) old ≡ None → ((q : ℕ) → lookup (is_at (nat_cmp q)) new ≡ cond (is_at (nat_cmp a) q) (Some 0) (lookup (is_at (nat_cmp q)) old)) → (c : ℕ) → generation_in new c ≡ generation_in old c
@@ -43,7 +25,7 @@ given old new a n u c = ap (λ (o : Option ℕ). unwrap_or o 0) (u c) ∙ at (is
 
 pub there_more : (old new : Generations) (xs : List ℕ) (i a : ℕ) → i < length xs → a ≡ get_or xs i a → HasGeneration new a → ((c : ℕ) → HasGeneration old c → HasGeneration new c) → ((c : ℕ) → is_one_of (take i xs) c ≡ true → HasGeneration old c) →
     (c : ℕ) → is_one_of (take (i + 1) xs) c ≡ true → HasGeneration new c
-there_more old new xs i a l e h stay k c m = at (or_cases (is_one_of (take i xs) c) (a == c) (sym (one_of_more xs i a c l e) ∙ m))
+there_more old new xs i a l e h stay k c m = at (or_cases (is_one_of (take i xs) c) (a == c) (sym (one_more xs i a c l e) ∙ m))
   where
     same : (a == c) ≡ true → a ≡ c
     same f = grind (arith, nat_tests)
@@ -82,8 +64,8 @@ given_stay old new a u c h = subst (λ (o : Option ℕ). IsSome o) (sym (u c)) (
 pub raised_more : (old new first : Generations) (xs : List ℕ) (i a edit : ℕ) → i < length xs → a ≡ get_or xs i a → ((q : ℕ) → lookup (is_at (nat_cmp q)) new ≡ cond (is_at (nat_cmp a) q) (Some edit) (lookup (is_at (nat_cmp q)) old)) →
     ((c : ℕ) → generation_in old c ≡ cond (is_one_of (take i xs) c) edit (generation_in first c)) → (c : ℕ) → generation_in new c ≡ cond (is_one_of (take (i + 1) xs) c) edit (generation_in first c)
 raised_more old new first xs i a edit l e u h c =
-    ap (λ (o : Option ℕ). unwrap_or o 0) (u c) ∙ ap (λ (b : Bool). unwrap_or (cond b (Some edit) (lookup (is_at (nat_cmp c)) old)) 0) (same_at a c) ∙ at (is_one_of (take i xs) c) (a == c) (h c)
-    ∙ ap (λ (b : Bool). cond b edit (generation_in first c)) (sym (one_of_more xs i a c l e))
+    ap (λ (o : Option ℕ). unwrap_or o 0) (u c) ∙ ap (λ (b : Bool). unwrap_or (cond b (Some edit) (lookup (is_at (nat_cmp c)) old)) 0) (is_at-eq a c) ∙ at (is_one_of (take i xs) c) (a == c) (h c)
+    ∙ ap (λ (b : Bool). cond b edit (generation_in first c)) (sym (one_more xs i a c l e))
   where
     at : (b d : Bool) → generation_in old c ≡ cond b edit (generation_in first c) → unwrap_or (cond d (Some edit) (lookup (is_at (nat_cmp c)) old)) 0 ≡ cond (b || d) edit (generation_in first c)
     at true true k = refl

@@ -1,5 +1,6 @@
 -- A value is kept in one question, and for longer.
-use Rattle.std.proofs.Common.{◌≡◌, ◌==◌, ◌≤◌, ◌-◌, ◌⊎◌, inl, inr, ◌||◌, ◌&&◌, ℕ, Bool, true, false, cond, List, length, Option, Some, None, IfSome, is_some, Result, Ok, Err, OnOk, OnErr, refl, ap, sym, ◌∙◌, subst, arith}
+use Rattle.std.proofs.Common.{◌≡◌, ◌==◌, ◌<◌, ◌≤◌, ◌-◌, ◌+◌, ◌⊎◌, inl, inr, ◌||◌, ◌&&◌, ℕ, Bool, true, false, cond, if◌then◌else◌, min, List, length, Option, Some, None, IfSome, IsSome, is_some, Result, Ok, Err, OnOk, OnErr, refl, ap, sym, ◌∙◌, subst, arith}
+use Rattle.std.proofs.lemmas.Bool.{or_left}
 use Rattle.std.proofs.lemmas.Bool.Decides.{nat_tests}
 use Rattle.std.specs.Option.{option_or}
 use Rattle.std.specs.declared.alloc.AllocError.{AllocError}
@@ -11,8 +12,10 @@ use Rattle.wi_cache.specs.Entries.{Entries, KeptValues, HasRoom, Puts, PutsForOn
 use Rattle.wi_cache.proofs.Keys.{same_key_Decides}
 use Rattle.wi_parser.specs.Sheet.{Sheet}
 use Rattle.wi_sheet.specs.Demand.{same_case}
+use Rattle.wi_engine.specs.Inner.Saving.{GivesUpWhenFull}
 use Rattle.wi_propagate.specs.Right.{IsKeptFor, AreRight}
 use Rattle.wi_propagate.specs.KeptSheet.{Generations, generation_in, key_in}
+use Rattle.wi_propagate.specs.Inner.Keeping.{keeping, state_in}
 use Rattle.wi_propagate.proofs.KeptSteps.{no_other, kept_over_keep}
 
 -- what an accepted `keep` of kept values ensures, and what a refused one does
@@ -62,6 +65,34 @@ pub kept_after : (r : Result (Unit {0}) AllocError) (g : Generations) (m n : Kep
     OnOk r (1 ≤ m.capacity - length m.entries → (c : ℕ) (w : List Replacement) → is_some (value_for n.entries (key_in g c w)) ≡ (is_some (value_for m.entries (key_in g c w)) || same_case (k.cell, k.world) (c, w)))
 kept_after (Ok x) g m n k v h e = λ l. put_is_some g m.entries n.entries k v e (h.stays (has_room m k l))
 kept_after (Err x) g m n k v h e = tt
+
+-- a key that was there is there
+stays_put : (es fs : Entries) (k q : Key) (v : Value) → Puts es fs k v → is_some (value_for es q) ≡ true → is_some (value_for fs q) ≡ true
+stays_put es fs k q v p h = ap (λ (o : Option Value). is_some o) (p q) ∙ is_some_cond (same_key k q) v (value_for es q) ∙ or_left (is_some (value_for es q)) (same_key k q) h
+
+-- none goes but for a key that comes to a full list
+pub gives_up_after : (r : Result (Unit {0}) AllocError) (s : Sheet) (edits : ℕ) (g : Generations) (es fs : Entries) (m n : KeptValues) (k : Key) (v : Value) → KeepsIn r m n k v → GivesUpWhenFull (state_in (keeping s edits g es m)) (state_in (keeping s edits g fs n))
+gives_up_after (Err x) s edits g es fs m n k v h = subst (λ (y : KeptValues). GivesUpWhenFull (state_in (keeping s edits g es m)) (state_in (keeping s edits g fs y))) (sym h.err) (record { room = omega arith; stays = λ l c w i. i })
+gives_up_after (Ok x) s edits g es fs m n k v h = by_old (value_for m.entries k) refl
+  where
+    Lens : Option Value → Type 0
+    Lens o = length n.entries ≡ (if is_some o then length m.entries else min (length m.entries + 1) m.capacity)
+
+    by_old : (o : Option Value) → value_for m.entries k ≡ o → GivesUpWhenFull (state_in (keeping s edits g es m)) (state_in (keeping s edits g fs n))
+    by_old (Some u) e =
+        let len : length n.entries ≡ length m.entries = subst Lens e h.len in
+        let cap = h.capacity in
+        record {
+          room = omega (arith, len, cap);
+          stays = λ l c w i. stays_put m.entries n.entries k (key_in g c w) v (h.stays (inl (subst (λ (y : Option Value). IsSome y) (sym e) refl))) i;
+        }
+    by_old None e =
+        let len : length n.entries ≡ min (length m.entries + 1) m.capacity = subst Lens e h.len in
+        let cap = h.capacity in
+        record {
+          room = omega (arith, len, cap);
+          stays = λ l c w i. let few : length m.entries < m.capacity = omega (arith, len, cap, l) in stays_put m.entries n.entries k (key_in g c w) v (h.stays (inr few)) i;
+        }
 
 -- what is known then was known before, or is the value that came
 pub known_after : (r : Result (Unit {0}) AllocError) (g : Generations) (es fs : Entries) (m n : KeptValues) (k : Key) (v : Value) → Puts es fs k v → KeepsIn r m n k v → (c : ℕ) (w : List Replacement) →

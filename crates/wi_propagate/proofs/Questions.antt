@@ -29,9 +29,9 @@ use Rattle.wi_sheet.proofs.TableEntries.{table_has_replacing, table_has_formula_
 use Rattle.wi_engine.specs.Inner.MemoState.{MemoState}
 use Rattle.wi_engine.specs.Inner.Frames.{MayBeRead}
 use Rattle.wi_engine.specs.Inner.Saving as saving
-use Rattle.wi_engine.specs.Inner.Saving.{KeepsFound, WhereRoom, CountsUnkept, Saves, SavesAll, TakesNoMore, NeedsNoEvaluation, IsValuedAnew}
+use Rattle.wi_engine.specs.Inner.Saving.{KeepsFound, WhereRoom, CountsUnkept, Saves, SavesAll, TakesNoMore, GivesUpWhenFull, NeedsNoEvaluation, IsValuedAnew}
 use Rattle.wi_engine.proofs.Saved.{what_if_more, rests_more}
-use Rattle.wi_propagate.specs.KeptSheet.{Generations, generation_in, KeptSheet, key_in, is_kept, unkept, IsAtHand, HasRoomFor, KeepsAll, KeepsNoMore}
+use Rattle.wi_propagate.specs.KeptSheet.{Generations, generation_in, KeptSheet, key_in, is_kept, unkept, IsAtHand, HasRoomFor, KeepsAll, KeepsNoMore, KeepsWhileRoom}
 use Rattle.wi_propagate.specs.Right.{AreRight, AreKeptRight}
 use Rattle.wi_propagate.specs.Inner.Keeping.{kept_sheet, values_in, Keeping, keeping, begun, state_in, IsKeepingRight}
 use Rattle.wi_propagate.proofs.ShowingEntries.{pair_in}
@@ -46,6 +46,10 @@ begun_right s gs o n v f h = record {
   past = h.past;
   right = subst (λ (x : Option KeptValues). AreRight s.sheet s.edits (generation_in gs) (values_in x).entries) (sym f) h.right;
 }
+
+-- and no more than there is room for
+pub begun_within : (o : Option KeptValues) (v : KeptValues) → Some v ≡ o → length v.entries ≤ v.capacity → length (values_in o).entries ≤ (values_in o).capacity
+begun_within o v e h = subst (λ (x : Option KeptValues). length (values_in x).entries ≤ (values_in x).capacity) e h
 
 -- ---- how many cases are not kept
 
@@ -162,6 +166,23 @@ module _ (k : KeptSheet) (q last : Keeping) (values : KeptValues) (counts : Coun
       let u = ap (λ (y : Keeping). (state_in y).capacity) e in
       inl (omega (arith, h, x, y, z, u, caps, within))
   asked_no_more within (inr h) = inr h
+
+  -- and nothing went while there was room
+  pub asked_while_room : length k.values.entries ≤ k.values.capacity → GivesUpWhenFull (state_in q) (state_in last) → KeepsWhileRoom k after
+  asked_while_room within h =
+      let a = h.room in
+      let x = ap (λ (y : Keeping). (state_in y).room) e in
+      let y = ap (λ (v : KeptValues). v.capacity) same in
+      let z = ap (λ (v : KeptValues). length v.entries) same in
+      let u = ap (λ (y : Keeping). (state_in y).capacity) e in
+      record {
+        count = omega (arith, a, x, y, z, u, caps, within);
+        stays = λ few c w i. kept_after_is c w ∙ h.stays (omega (arith, few, y, z)) c w (sym (kept_before_is c w) ∙ i);
+      }
+
+-- where nothing is asked
+pub none_while_room : (k n : KeptSheet) → n ≡ k → KeepsWhileRoom k n
+none_while_room k n e = subst (KeepsWhileRoom k) (sym e) (record { count = omega arith; stays = λ few c w i. i })
 
 -- ---- the value of a cell
 

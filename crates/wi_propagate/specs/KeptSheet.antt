@@ -1,5 +1,5 @@
 -- A sheet whose values are kept from one question to the next, and what that saves.
-use Rattle.std.specs.Prelude.{◌≡◌, ◌⊎◌, ◌≤◌, ◌+◌, ◌-◌, ◌^◌, ℕ, Bool, true, false, not, List, filter, length, is_some}
+use Rattle.std.specs.Prelude.{◌≡◌, ◌⊎◌, ◌<◌, ◌≤◌, ◌+◌, ◌-◌, ◌^◌, ℕ, Bool, true, false, not, List, filter, length, is_some}
 use Rattle.std.specs.Option.{unwrap_or}
 use Rattle.std.specs.Ordering.{nat_cmp}
 use Rattle.std.specs.Map.{lookup}
@@ -64,3 +64,8 @@ pub record KeepsAll (old new : KeptSheet) : Type 0 where
 -- no more values came to be kept than were counted, short of the greatest count
 abbrev pub KeepsNoMore : KeptSheet → KeptSheet → Type 0
 KeepsNoMore old new = (length new.values.entries + old.counts.evaluations ≤ length old.values.entries + new.counts.evaluations) ⊎ (2 ^ 64 - 1 ≤ new.counts.evaluations)
+
+-- No fewer values are kept than before, and where the list isn't full then, each that was kept is kept.
+pub record KeepsWhileRoom (old new : KeptSheet) : Type 0 where
+  pub count : length old.values.entries ≤ length new.values.entries
+  pub stays : length new.values.entries < new.values.capacity → (c : ℕ) (w : List Replacement) → is_kept old c w ≡ true → is_kept new c w ≡ true

@@ -71,7 +71,9 @@ impl<'a> Keeping<'a> {
         requires right { IsKeepingRight (keeping store.now.sheet store.now.edits generations.now.entries [] kept) }
         ensures value { result ≡ keeping store.now.sheet store.now.edits generations.now.entries [] kept }
         ensures memo { IsMemoOf store.now.sheet (state_in result) }
+        ensures within { length kept.entries ≤ kept.capacity }
     {
+        let _ = kept.len();
         Keeping {
             alloc,
             store,

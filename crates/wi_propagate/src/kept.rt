@@ -14,7 +14,7 @@ ghost use Rattle.wi_sheet.specs.Shown as show;
 ghost use Rattle.wi_sheet.specs.TableEntry.{table_entry, entry_demanded};
 ghost use Rattle.wi_sheet.specs.Demand.{reaching, demanded, wants};
 ghost use Rattle.wi_sheet.specs.Settled.{IsWhatIfSettled};
-ghost use Rattle.wi_propagate.specs.KeptSheet.{generation_in, is_kept, unkept, IsAtHand, HasRoomFor, KeepsAll, KeepsNoMore};
+ghost use Rattle.wi_propagate.specs.KeptSheet.{generation_in, is_kept, unkept, IsAtHand, HasRoomFor, KeepsAll, KeepsNoMore, KeepsWhileRoom};
 ghost use Rattle.wi_propagate.specs.Right.{AreKeptRight};
 
 use crate::calculator::Calculator;
@@ -174,11 +174,12 @@ impl Calculator for KeptCalculator {
         ensures unkept { let cases = demanded self.old.stored.sheet put.now at in
             HasRoomFor self.old cases → self.new.counts.evaluations ≤ self.old.counts.evaluations + unkept self.old cases }
 
-        // What is kept, and what comes to be kept.
+        // What is kept, what comes to be kept, and that nothing goes while there is room, also where memory runs out.
         ensures easy { IsAtHand self.old put.now at → self.new.counts ≡ self.old.counts }
         ensures kept { let sheet = self.old.stored.sheet in
             OnOk result ((IsAtHand self.old put.now at → ⊥) → is_kept self.new at (reaching sheet at put.now) ≡ true) }
         ensures no_more { KeepsNoMore self.old self.new }
+        ensures while_room { KeepsWhileRoom self.old self.new }
         ensures keeps { let cases = demanded self.old.stored.sheet put.now at in
             OnOk result (HasRoomFor self.old cases → KeepsAll self.old self.new) }
     {
@@ -239,8 +240,9 @@ impl Calculator for KeptCalculator {
         ensures unkept { let cases = entry_demanded self.old.stored.sheet put.now formula_cell pairs.now in
             HasRoomFor self.old cases → self.new.counts.evaluations ≤ self.old.counts.evaluations + unkept self.old cases }
 
-        // What comes to be kept.
+        // What comes to be kept, and that nothing goes while there is room, also where memory runs out.
         ensures no_more { KeepsNoMore self.old self.new }
+        ensures while_room { KeepsWhileRoom self.old self.new }
         ensures keeps { let cases = entry_demanded self.old.stored.sheet put.now formula_cell pairs.now in
             OnOk result (HasRoomFor self.old cases → KeepsAll self.old self.new) }
         ensures settled { let sheet = self.old.stored.sheet in

@@ -12,7 +12,7 @@ ghost use Rattle.wi_sheet.specs.Settled.{IsSettled, IsWhatIfSettled};
 ghost use Rattle.wi_sheet.specs.Inner.Spending.{CountsAtMost, CountsFound, HasReplacing, HasEntry, NeverFall};
 ghost use Rattle.wi_engine.specs.Inner.MemoState.{IsMemoOf};
 ghost use Rattle.wi_engine.specs.Inner.Frames.{MayBeRead};
-ghost use Rattle.wi_engine.specs.Inner.Saving.{WhereRoom, CountsUnkept, SavesAll, TakesNoMore};
+ghost use Rattle.wi_engine.specs.Inner.Saving.{WhereRoom, CountsUnkept, SavesAll, TakesNoMore, GivesUpWhenFull};
 
 use std::alloc::{AllocError, Global};
 use wi_engine::{Memo, Remembered, reached_from, value_under};
@@ -100,6 +100,7 @@ pub fn open_entry<M: Memo>(
 
     // What is kept for longer, and where there is room for all that is found.
     ensures takes { TakesNoMore (M.state memo.old) (M.state memo.new) meter.old.evaluations meter.new.evaluations }
+    ensures gives_up { GivesUpWhenFull (M.state memo.old) (M.state memo.new) }
     ensures unkept_evaluations { CountsUnkept store.now.sheet (HasEntry store.now.sheet world.now formula_cell pairs.now)
         (M.state memo.old) meter.old.evaluations meter.new.evaluations }
     ensures saves { OnOk result (SavesAll store.now.sheet (HasEntry store.now.sheet world.now formula_cell pairs.now)
@@ -145,6 +146,7 @@ fn with_inputs<M: Memo>(
 
     // What is kept for longer, and where there is room for all that is found.
     ensures takes { TakesNoMore (M.state memo.old) (M.state memo.new) meter.old.evaluations meter.new.evaluations }
+    ensures gives_up { GivesUpWhenFull (M.state memo.old) (M.state memo.new) }
     ensures unkept_evaluations { CountsUnkept store.now.sheet (HasReplacing store.now.sheet world.now pairs.now)
         (M.state memo.old) meter.old.evaluations meter.new.evaluations }
     ensures saves { OnOk result (SavesAll store.now.sheet (HasReplacing store.now.sheet world.now pairs.now)

@@ -1,4 +1,5 @@
-use Rattle.wi_propagate.proofs.ReplacedCones.{cone_more, cones_stay}
+use Rattle.wi_engine.proofs.Passed.{cones_stay}
+use Rattle.wi_propagate.proofs.ReplacedCones.{cone_more}
 use Rattle.wi_propagate.proofs.cones.add_cone.Goals as goal
 
 pub returns-clause-cones : goal.returns-clause-cones

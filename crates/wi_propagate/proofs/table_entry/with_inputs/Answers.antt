@@ -9,7 +9,7 @@ use Rattle.wi_sheet.specs.Inner.Spending.{HasReplacing}
 use Rattle.wi_sheet.proofs.Counting.{never_fall-then}
 use Rattle.wi_sheet.proofs.Overrides.{replaced_world}
 use Rattle.wi_engine.specs.Inner.Saving.{WhereRoom}
-use Rattle.wi_engine.proofs.Saved.{takes_then}
+use Rattle.wi_engine.proofs.Saved.{takes_then, gives_up_then}
 use Rattle.wi_propagate.proofs.SavingEntries.{more_found, more_saves, more_settled}
 use Rattle.wi_propagate.proofs.table_entry.with_inputs.Goals as goal
 
@@ -48,6 +48,7 @@ loop-pair-preserved g c =
       counts = never_fall-then start before after i.counts v.counts;
       restarts = more_found s w pairs index pair less c.pair-item.is (wants s) old.found mid.found new.found start.restarts before.restarts after.restarts i.restarts v.restarts_ok;
       takes = takes_then old mid new start.evaluations before.evaluations after.evaluations i.takes v.takes v.counts.0;
+      gives_up = gives_up_then old mid new i.gives_up v.gives_up;
       saves = more_saves s w pairs index pair less c.pair-item.is old mid start.evaluations before.evaluations i.saves new after.evaluations v.saves;
       settled = more_settled s w pairs index pair less c.pair-item.is old mid start.evaluations before.evaluations i.saves new after.evaluations v.saves i.settled v.settled;
     }

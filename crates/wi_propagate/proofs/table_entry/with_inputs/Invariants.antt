@@ -5,7 +5,7 @@ use Rattle.wi_sheet.specs.Demand.{wants}
 use Rattle.wi_sheet.specs.Settled.{IsSettled}
 use Rattle.wi_sheet.specs.Inner.Spending.{CountsFound, HasReplacing, NeverFall}
 use Rattle.wi_engine.specs.Inner.MemoState.{IsMemoOf}
-use Rattle.wi_engine.specs.Inner.Saving.{WhereRoom, SavesAll, TakesNoMore}
+use Rattle.wi_engine.specs.Inner.Saving.{WhereRoom, SavesAll, TakesNoMore, GivesUpWhenFull}
 use Rattle.wi_propagate.proofs.table_entry.with_inputs.Given as goal
 
 abbrev pub invariant-loop-pair : goal.invariant-loop-pair
@@ -20,6 +20,7 @@ invariant-loop-pair g l = record {
   counts : NeverFall l.fn.meter l.meter;
   restarts : CountsFound l.store.sheet (HasReplacing l.store.sheet l.world l.pairs) (wants l.store.sheet) (g.M.Memo.state l.fn.memo).found (g.M.Memo.state l.memo).found l.fn.meter.restarts l.meter.restarts;
   takes : TakesNoMore (g.M.Memo.state l.fn.memo) (g.M.Memo.state l.memo) l.fn.meter.evaluations l.meter.evaluations;
+  gives_up : GivesUpWhenFull (g.M.Memo.state l.fn.memo) (g.M.Memo.state l.memo);
   saves : SavesAll l.store.sheet (HasReplacing l.store.sheet l.world l.pairs) (g.M.Memo.state l.fn.memo) (g.M.Memo.state l.memo) l.fn.meter.evaluations l.meter.evaluations;
   settled : WhereRoom l.store.sheet (HasReplacing l.store.sheet l.world l.pairs) (g.M.Memo.state l.fn.memo) (λ ks. All (λ x. IsSettled l.store.sheet (g.M.Memo.state l.memo).kept l.world x.1) (take l.pair-index l.pairs));
 }

@@ -7,10 +7,11 @@ use Rattle.wi_graph.specs.Circular.{circular}
 use Rattle.wi_sheet.specs.CellValue.{cell_value}
 use Rattle.wi_sheet.specs.Demand.{same_case}
 use Rattle.wi_propagate.specs.Right.{IsKeptFor}
-use Rattle.wi_propagate.specs.Inner.Keeping.{Keeping}
+use Rattle.wi_engine.specs.Inner.Saving.{GivesUpWhenFull}
+use Rattle.wi_propagate.specs.Inner.Keeping.{Keeping, keeping, state_in}
 use Rattle.wi_propagate.specs.KeptSheet.{generation_in, key_in}
 use Rattle.wi_propagate.proofs.KeptSteps.{found_is_kept}
-use Rattle.wi_propagate.proofs.KeepingSteps.{KeepsIn, right_after, put_found, found_after, kept_after, known_after}
+use Rattle.wi_propagate.proofs.KeepingSteps.{KeepsIn, right_after, put_found, found_after, kept_after, known_after, gives_up_after}
 use Rattle.wi_propagate.proofs.keeping.KeepingMemo.keep.Goals as goal
 
 pub invariant_of-self-2 : goal.invariant_of-self-2
@@ -58,3 +59,13 @@ returns-clause-kept c =
     let generation : c.args.key.generation ≡ generation_in i.generations.now.entries c.args.key.cell = c.requires.generation ∙ ap (λ (q : Keeping). generation_in q.generations c.args.key.cell) (sym c.self.view_is) in
     subst (λ (q : Keeping). OnOk c.keep-2.result (1 ≤ q.values.capacity - length q.values.entries → (d : ℕ) (w : List Replacement) → is_some (value_for c.keep-2.new.self.entries (key_in i.generations.now.entries d w)) ≡ (is_some (value_for q.values.entries (key_in q.generations d w)) || same_case (c.args.key.cell, c.args.key.world) (d, w)))) c.self.view_is
     (kept_after c.keep-2.result i.generations.now.entries i.kept c.keep-2.new.self c.args.key c.args.value keeps generation)
+
+pub returns-clause-gives_up : goal.returns-clause-gives_up
+returns-clause-gives_up c =
+    let i = c.self.inside in
+    let s = i.store.now in
+    let gs = i.generations.now.entries in
+    let e = c.keep-2.ensures in
+    let keeps : KeepsIn c.keep-2.result i.kept c.keep-2.new.self c.args.key c.args.value = record { found = e.found; stays = e.stays; goes = e.one_goes; len = e.len; capacity = e.capacity; err = e.err } in
+    subst (λ (q : Keeping). GivesUpWhenFull (state_in q) (state_in (keeping s.sheet s.edits gs c.keep.new.self c.keep-2.new.self))) c.self.view_is
+    (gives_up_after c.keep-2.result s.sheet s.edits gs i.table c.keep.new.self i.kept c.keep-2.new.self c.args.key c.args.value keeps)

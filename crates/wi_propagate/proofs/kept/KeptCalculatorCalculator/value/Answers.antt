@@ -1,4 +1,4 @@
-use Rattle.std.proofs.Common.{◌≡◌, ◌≤◌, ◌+◌, ◌∙◌, IfOk, OnOk, false, true, length, sum_by, refl, ap, sym, subst}
+use Rattle.std.proofs.Common.{◌≡◌, ◌≤◌, ◌+◌, ◌∙◌, IfOk, OnOk, false, true, length, sum_by, refl, ap, sym, subst, rules}
 use Rattle.std.proofs.lemmas.Result.{IfOk-weaker}
 use Rattle.wi_parser.specs.Sheet.{Sheet}
 use Rattle.wi_graph.specs.Circular.{circular}
@@ -7,13 +7,19 @@ use Rattle.wi_sheet.specs.Demand.{case_of, reaching, demanded, wants}
 use Rattle.wi_sheet.specs.Inner.Spending.{HasCase}
 use Rattle.wi_sheet.proofs.Cases.{different_closed}
 use Rattle.wi_sheet.proofs.Steps.{shown_circular}
-use Rattle.wi_propagate.specs.KeptSheet.{KeptSheet, unkept, IsAtHand, HasRoomFor, is_kept, KeepsAll, KeepsNoMore}
+use Rattle.wi_propagate.specs.KeptSheet.{KeptSheet, unkept, IsAtHand, HasRoomFor, is_kept, KeepsAll, KeepsNoMore, KeepsWhileRoom}
 use Rattle.wi_propagate.specs.Inner.Cones.{AreAllCones}
 use Rattle.wi_propagate.specs.Inner.Keeping.{Keeping, kept_sheet, begun, state_in}
 use Rattle.wi_cache.specs.Entries.{KeptValues}
 use Rattle.wi_propagate.proofs.Showing.{put_alone, shown_value}
-use Rattle.wi_propagate.proofs.Questions.{begun_is, begun_right, may_be_read, right_then, asked_at_most, asked_evaluations, asked_unkept, asked_saves, asked_keeps, asked_no_more, asked_kept, at_hand_is, has_case}
+use Rattle.wi_propagate.proofs.Questions.{begun_is, begun_right, begun_within, may_be_read, right_then, asked_at_most, asked_evaluations, asked_unkept, asked_saves, asked_keeps, asked_no_more, asked_while_room, asked_kept, at_hand_is, has_case}
 use Rattle.wi_propagate.proofs.kept.KeptCalculatorCalculator.value.Goals as goal
+
+pub returns-clause-evaluations_never_fall : goal.returns-clause-evaluations_never_fall
+returns-clause-evaluations_never_fall c = search rules
+
+pub returns-clause-restarts_never_fall : goal.returns-clause-restarts_never_fall
+returns-clause-restarts_never_fall c = search rules
 
 pub returns-then-is_circular-clause-value : goal.returns-then-is_circular-clause-value
 returns-then-is_circular-clause-value c =
@@ -67,8 +73,8 @@ returns-clause-evaluations c =
     let has = has_case k c.new-memo.result c.in_ok-world.world c.args.put.now c.args.at q o same in
     let closed = different_closed i.store.sheet (case_of i.store.sheet c.args.put.now c.args.at) in
     let Has = HasCase i.store.sheet c.in_ok-world.world c.args.at in
-    subst (λ (x : KeptSheet). c.value_under-result.new.meter.evaluations ≤ x.counts.evaluations + length (demanded x.stored.sheet c.args.put.now c.args.at)) c.self.view_is
-    (asked_evaluations k c.new-memo.result q Has cases closed has i.meter.evaluations c.value_under-result.new.meter.evaluations c.value_under-result.ensures.evaluations)
+    let counted = asked_evaluations k c.new-memo.result q Has cases closed has in
+    subst (λ (x : KeptSheet). c.value_under-result.new.meter.evaluations ≤ x.counts.evaluations + length (demanded x.stored.sheet c.args.put.now c.args.at)) c.self.view_is (search (rules, counted))
 
 pub returns-clause-restarts : goal.returns-clause-restarts
 returns-clause-restarts c =
@@ -148,6 +154,17 @@ returns-clause-no_more c =
     let e = c.value_under-result.ensures in
     subst (λ (x : KeptSheet). KeepsNoMore x new) c.self.view_is
     (asked_no_more k c.new-memo.result c.value_under-result.new.memo c.into_parts-kept.result.0 c.value_under-result.new.meter q e.same_generation e.same_capacity c.into_parts-kept.ensures.kept c.into_parts-kept.ensures.within e.takes)
+
+pub returns-clause-while_room : goal.returns-clause-while_room
+returns-clause-while_room c =
+    let i = c.self.inside in
+    let k : KeptSheet = kept_sheet i.store i.generations.entries i.kept i.meter in
+    let q : c.new-memo.result ≡ begun k = begun_is i.store i.generations.entries i.kept i.meter _ c.new-memo.result c.new-memo.ensures.value c.in-Some.ensures.value in
+    let new : KeptSheet = record { stored = i.store; generations = i.generations.entries; values = c.into_parts-kept.result.0; counts = c.value_under-result.new.meter } in
+    let e = c.value_under-result.ensures in
+    let within = begun_within i.kept _ c.in-Some.ensures.value c.new-memo.ensures.within in
+    subst (λ (x : KeptSheet). KeepsWhileRoom x new) c.self.view_is
+    (asked_while_room k c.new-memo.result c.value_under-result.new.memo c.into_parts-kept.result.0 c.value_under-result.new.meter q e.same_generation e.same_capacity c.into_parts-kept.ensures.kept within e.gives_up)
 
 pub returns-clause-same_room : goal.returns-clause-same_room
 returns-clause-same_room c =

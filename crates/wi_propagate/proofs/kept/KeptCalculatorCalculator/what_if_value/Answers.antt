@@ -7,12 +7,12 @@ use Rattle.wi_sheet.specs.Inner.Spending.{HasEntry}
 use Rattle.wi_sheet.specs.TableEntry.{table_entry, entry_demanded}
 use Rattle.wi_sheet.specs.Settled.{IsWhatIfSettled}
 use Rattle.wi_sheet.proofs.TableEntries.{table_closed}
-use Rattle.wi_propagate.specs.KeptSheet.{KeptSheet, unkept, HasRoomFor, is_kept, KeepsAll, KeepsNoMore}
+use Rattle.wi_propagate.specs.KeptSheet.{KeptSheet, unkept, HasRoomFor, is_kept, KeepsAll, KeepsNoMore, KeepsWhileRoom}
 use Rattle.wi_propagate.specs.Inner.Cones.{AreAllCones}
 use Rattle.wi_propagate.specs.Inner.Keeping.{Keeping, kept_sheet, begun, state_in}
 use Rattle.wi_cache.specs.Entries.{KeptValues}
 use Rattle.wi_propagate.proofs.Showing.{put_alone}
-use Rattle.wi_propagate.proofs.Questions.{begun_is, begun_right, may_be_read, right_then, asked_at_most, asked_evaluations, asked_unkept, asked_saves, asked_keeps, asked_no_more, asked_where, asked_settled, entry_has, circular_entry, circular_clash, open_cells, entry_shown}
+use Rattle.wi_propagate.proofs.Questions.{begun_is, begun_right, begun_within, may_be_read, right_then, asked_at_most, asked_evaluations, asked_unkept, asked_saves, asked_keeps, asked_no_more, asked_while_room, asked_where, asked_settled, entry_has, circular_entry, circular_clash, open_cells, entry_shown}
 use Rattle.wi_propagate.proofs.kept.KeptCalculatorCalculator.what_if_value.Goals as goal
 
 pub returns-then-entry_is_circular-clause-value : goal.returns-then-entry_is_circular-clause-value
@@ -172,6 +172,17 @@ returns-clause-no_more c =
     let e = c.open_entry-result.ensures in
     subst (λ (x : KeptSheet). KeepsNoMore x new) c.self.view_is
     (asked_no_more k c.new-memo.result c.open_entry-result.new.memo c.into_parts-kept.result.0 c.open_entry-result.new.meter q e.same_generation e.same_capacity c.into_parts-kept.ensures.kept c.into_parts-kept.ensures.within e.takes)
+
+pub returns-clause-while_room : goal.returns-clause-while_room
+returns-clause-while_room c =
+    let i = c.self.inside in
+    let k : KeptSheet = kept_sheet i.store i.generations.entries i.kept i.meter in
+    let q : c.new-memo.result ≡ begun k = begun_is i.store i.generations.entries i.kept i.meter _ c.new-memo.result c.new-memo.ensures.value c.in-Some.ensures.value in
+    let new : KeptSheet = record { stored = i.store; generations = i.generations.entries; values = c.into_parts-kept.result.0; counts = c.open_entry-result.new.meter } in
+    let e = c.open_entry-result.ensures in
+    let within = begun_within i.kept _ c.in-Some.ensures.value c.new-memo.ensures.within in
+    subst (λ (x : KeptSheet). KeepsWhileRoom x new) c.self.view_is
+    (asked_while_room k c.new-memo.result c.open_entry-result.new.memo c.into_parts-kept.result.0 c.open_entry-result.new.meter q e.same_generation e.same_capacity c.into_parts-kept.ensures.kept within e.gives_up)
 
 pub returns-clause-same_room : goal.returns-clause-same_room
 returns-clause-same_room c =
