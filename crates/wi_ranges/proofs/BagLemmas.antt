@@ -18,7 +18,7 @@ use Rattle.std.proofs.lemmas.Map.Lookups.{btree_set_from_contains}
 use Rattle.wi_ranges.specs.declared.block.Block.{Block}
 use Rattle.wi_ranges.specs.declared.pair.RangePair.{RangePair}
 use Rattle.wi_ranges.specs.declared.pair.Numbered.{Numbered}
-use Rattle.wi_ranges.specs.Blocks.{block, blocks_in, blocks_of, first_row}
+use Rattle.wi_ranges.specs.Blocks.{blocks_in, blocks_of, first_row}
 use Rattle.wi_ranges.specs.Bag.{Bag, Sets, pair_cmp, is_same, count_of, HasOneMore, HasOneLess, pieces_of}
 use Rattle.wi_ranges.specs.Inner.Index.{Piece, piece_cmp, has_piece, is_among, is_one, is_piece, HasPieces, LacksPieces, IsIndexed, AreCounted, HasNoZero, KeepsOtherPieces}
 use Rattle.wi_ranges.proofs.Found.{some_block}
@@ -242,53 +242,49 @@ count_below p (e ∷ es) l = by (is_same p e.0) refl (count_below p es l)
         omega (arith, times)
     by false s k = omega (arith, k)
 
--- ---- one more pair, at the blocks of the sheet
+-- ---- one more pair, at its blocks, all of which a block has
 
--- what is known of the blocks of the sheet's block is known of the pair's
-of_sheet : (p : RangePair) (x : Block) → x ≡ block 20 0 → blocks_in p x ≡ blocks_of p
-of_sheet p x e = ap (λ (y : Block). blocks_in p y) e
+as_many : (p : RangePair) (x : Block) → blocks_in p x ≡ blocks_of p → length (blocks_in p x) ≡ length (blocks_of p)
+as_many p x e = ap (λ (zs : List Block). length zs) e
 
-as_many : (p : RangePair) (x : Block) → x ≡ block 20 0 → length (blocks_in p x) ≡ length (blocks_of p)
-as_many p x e = ap (λ (zs : List Block). length zs) (of_sheet p x e)
-
-pub number_below : (m : Numbered) (x : Block) (bag : Bag) (ks ls : List Piece) → x ≡ block 20 0 → first_row m.pair < 1048576 → IsIndexed bag ks → AreCounted bag ks
+pub number_below : (m : Numbered) (x : Block) (bag : Bag) (ks ls : List Piece) → blocks_in m.pair x ≡ blocks_of m.pair → first_row m.pair < 1048576 → IsIndexed bag ks → AreCounted bag ks
     → count_of bag m.pair ≡ m.number → (LacksPieces (blocks_in m.pair x) m ks → length ls ≡ length ks + length (blocks_in m.pair x)) → m.number < length ls
 number_below m x bag ks ls e l i k n more =
     let some : 0 < length (blocks_of m.pair) = some_block m.pair l in
-    let long = more (subst (λ (zs : List Block). LacksPieces zs m ks) (sym (of_sheet m.pair x e)) (lacks_next m bag ks i n)) in
+    let long = more (subst (λ (zs : List Block). LacksPieces zs m ks) (sym e) (lacks_next m bag ks i n)) in
     omega (arith, count_below m.pair bag some, n, k.1, long, as_many m.pair x e, some)
 
-pub others_kept : (m : Numbered) (x : Block) (ks ls : List Piece) → x ≡ block 20 0
+pub others_kept : (m : Numbered) (x : Block) (ks ls : List Piece) → blocks_in m.pair x ≡ blocks_of m.pair
     → ((q : Piece) → is_piece (blocks_in m.pair x) m q ≡ false → has_piece ls q ≡ has_piece ks q) → KeepsOtherPieces m ks ls
-others_kept m x ks ls e h = subst (λ (zs : List Block). (q : Piece) → is_piece zs m q ≡ false → has_piece ls q ≡ has_piece ks q) (of_sheet m.pair x e) h
+others_kept m x ks ls e h = subst (λ (zs : List Block). (q : Piece) → is_piece zs m q ≡ false → has_piece ls q ≡ has_piece ks q) e h
 
-pub lacks_all : (m : Numbered) (x : Block) (ls : List Piece) → x ≡ block 20 0 → LacksPieces (blocks_in m.pair x) m ls → LacksPieces (blocks_of m.pair) m ls
-lacks_all m x ls e h = subst (λ (zs : List Block). LacksPieces zs m ls) (of_sheet m.pair x e) h
+pub lacks_all : (m : Numbered) (x : Block) (ls : List Piece) → blocks_in m.pair x ≡ blocks_of m.pair → LacksPieces (blocks_in m.pair x) m ls → LacksPieces (blocks_of m.pair) m ls
+lacks_all m x ls e h = subst (λ (zs : List Block). LacksPieces zs m ls) e h
 
-pub has_all : (m : Numbered) (x : Block) (ls : List Piece) → x ≡ block 20 0 → HasPieces (blocks_in m.pair x) m ls → HasPieces (blocks_of m.pair) m ls
-has_all m x ls e h = subst (λ (zs : List Block). HasPieces zs m ls) (of_sheet m.pair x e) h
+pub has_all : (m : Numbered) (x : Block) (ls : List Piece) → blocks_in m.pair x ≡ blocks_of m.pair → HasPieces (blocks_in m.pair x) m ls → HasPieces (blocks_of m.pair) m ls
+has_all m x ls e h = subst (λ (zs : List Block). HasPieces zs m ls) e h
 
-pub counted_more : (m : Numbered) (x : Block) (old new : Bag) (ks ls : List Piece) → x ≡ block 20 0 → IsIndexed old ks → AreCounted old ks → count_of old m.pair ≡ m.number
+pub counted_more : (m : Numbered) (x : Block) (old new : Bag) (ks ls : List Piece) → blocks_in m.pair x ≡ blocks_of m.pair → IsIndexed old ks → AreCounted old ks → count_of old m.pair ≡ m.number
     → (IsStrictlySortedBy piece_cmp ks → IsStrictlySortedBy piece_cmp ls)
     → (LacksPieces (blocks_in m.pair x) m ks → length ls ≡ length ks + length (blocks_in m.pair x))
     → pieces_of new ≡ pieces_of old + length (blocks_of m.pair) → AreCounted new ls
 counted_more m x old new ks ls e i k n order more total =
-    let long = more (subst (λ (zs : List Block). LacksPieces zs m ks) (sym (of_sheet m.pair x e)) (lacks_next m old ks i n)) in
+    let long = more (subst (λ (zs : List Block). LacksPieces zs m ks) (sym e) (lacks_next m old ks i n)) in
     (order k.0, omega (arith, k.1, long, as_many m.pair x e, total))
 
-pub counted_less : (m : Numbered) (x : Block) (old new : Bag) (ks ls : List Piece) → x ≡ block 20 0 → IsIndexed old ks → AreCounted old ks → count_of old m.pair ≡ m.number + 1
+pub counted_less : (m : Numbered) (x : Block) (old new : Bag) (ks ls : List Piece) → blocks_in m.pair x ≡ blocks_of m.pair → IsIndexed old ks → AreCounted old ks → count_of old m.pair ≡ m.number + 1
     → (IsStrictlySortedBy piece_cmp ks → IsStrictlySortedBy piece_cmp ls)
     → (HasPieces (blocks_in m.pair x) m ks → length ks ≡ length ls + length (blocks_in m.pair x))
     → pieces_of old ≡ pieces_of new + length (blocks_of m.pair) → AreCounted new ls
 counted_less m x old new ks ls e i k n order less total =
-    let long = less (subst (λ (zs : List Block). HasPieces zs m ks) (sym (of_sheet m.pair x e)) (has_last m old ks i n)) in
+    let long = less (subst (λ (zs : List Block). HasPieces zs m ks) (sym e) (has_last m old ks i n)) in
     (order k.0, omega (arith, k.1, long, as_many m.pair x e, total))
 
 pub counted_back : (bag : Bag) (ks ls : List Piece) → IsIndexed bag ks → IsIndexed bag ls → AreCounted bag ks → IsStrictlySortedBy piece_cmp ls → AreCounted bag ls
 counted_back bag ks ls i j k t = (t, sym (ap (λ (us : List Piece). length us) (same_pieces bag ks ls i j k.0 t)) ∙ k.1)
 
 -- what is left once the pieces that were put in are taken out again
-pub kept_back : (m : Numbered) (x : Block) (ks ls us : List Piece) → x ≡ block 20 0 → KeepsOtherPieces m ks ls
+pub kept_back : (m : Numbered) (x : Block) (ks ls us : List Piece) → blocks_in m.pair x ≡ blocks_of m.pair → KeepsOtherPieces m ks ls
     → ((q : Piece) → is_piece (blocks_in m.pair x) m q ≡ false → has_piece us q ≡ has_piece ls q) → KeepsOtherPieces m ks us
 kept_back m x ks ls us e k h q t = others_kept m x ls us e h q t ∙ k q t
 

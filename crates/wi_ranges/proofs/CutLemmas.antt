@@ -1,10 +1,13 @@
 -- Laws of the cut of some rows into blocks.
-use Rattle.std.proofs.Common.{◌≡◌, ℕ, zero, suc, ◌+◌, ◌-◌, ◌*◌, ◌^◌, ◌<◌, ◌≤◌, Bool, true, false, cond, List, [], ◌∷◌, ◌++◌, length, ap, ◌∙◌, arith, ⊎_elim, ◌⊎◌, inl, inr, nat_le, length-append}
+use Rattle.std.proofs.Common.{◌≡◌, ℕ, zero, suc, ◌+◌, ◌-◌, ◌*◌, ◌^◌, ◌<◌, ◌≤◌, Bool, true, false, cond, List, [], ◌∷◌, ◌++◌, length, ap, sym, ◌∙◌, arith, ⊎_elim, ◌⊎◌, inl, inr, nat_le, length-append}
 use Rattle.std.proofs.Math.Nat.{pow-succ'}
+use Rattle.std.proofs.lemmas.List.{nil_from_length}
 use Rattle.std.proofs.lemmas.Nat.{pow_pos}
 use Rattle.std.proofs.lemmas.Bool.{and_parts, and_from, and_left, and_right, cases_Bool, cases_lt, lt-ltb, le-leb, le-ltb, lt-leb, leb-true}
+use Rattle.wi_values.specs.Address.{rows}
+use Rattle.wi_ranges.specs.declared.pair.RangePair.{RangePair}
 use Rattle.wi_ranges.specs.declared.block.Block.{Block}
-use Rattle.wi_ranges.specs.Blocks.{block, lies_within, meets, blocks_within, first_row, last_row}
+use Rattle.wi_ranges.specs.Blocks.{block, lies_within, meets, blocks_within, blocks_in, blocks_of, first_row, last_row}
 use Rattle.wi_ranges.specs.Laws.{times_held, RowsAreHeldOnce, BlocksAreFew}
 use Rattle.wi_ranges.proofs.BlockLemmas.{blocks_within-here, blocks_within-apart}
 use Rattle.wi_ranges.proofs.Found.{halves}
@@ -169,3 +172,28 @@ blocks_are_few p =
     (λ h. ⊎_elim (λ i. let few = in_the_midst a b 20 0 h i in omega (arith, few)) (λ i. let few = to_the_end a b 20 0 h i in omega (arith, few)) (cases_lt (b + 1) (0 + 2 ^ 20)))
     (λ h. ⊎_elim (λ i. let few = from_the_front a b 20 0 h i in omega (arith, few)) (λ i. let few = one_block a b 20 0 h i in omega (arith, few)) (cases_lt (b + 1) (0 + 2 ^ 20)))
     (cases_lt 0 a)
+
+-- ---- the blocks of one row
+
+one_row : (a k f : ℕ) → f ≤ a → a < f + 2 ^ k → blocks_within a a k f ≡ block 0 a ∷ []
+one_row a zero f h l =
+    let e : f ≡ a = omega (arith, h, l) in
+    blocks_within-here a a 0 f (bounds_within a a 0 f (omega (arith, e)) (omega (arith, e))) ∙ ap (λ (g : ℕ). block 0 g ∷ []) e
+one_row a (suc k) f h l =
+    let twice = pow-succ' 2 k in
+    let pos = pow_pos k in
+    let m : meets a a (block (suc k) f) ≡ true = and_from _ _ (lt-ltb a (f + 2 ^ suc k) l) (le-leb f a h) in
+    ⊎_elim (λ t. let w = within_bounds a a (suc k) f t in absurd (omega (arith, w.0, w.1, twice, pos)))
+    (λ t. ⊎_elim
+    (λ u. let none = nil_from_length (blocks_within a a k (f + 2 ^ k)) (no_blocks a a k (f + 2 ^ k) (inr u)) in
+    halves a a k f t m ∙ ap (λ (xs : List Block). blocks_within a a k f ++ xs) none ∙ ap (λ (xs : List Block). xs ++ []) (one_row a k f h u))
+    (λ u. let none = nil_from_length (blocks_within a a k f) (no_blocks a a k f (inl u)) in
+    halves a a k f t m ∙ ap (λ (xs : List Block). xs ++ blocks_within a a k (f + 2 ^ k)) none ∙ one_row a k (f + 2 ^ k) u (omega (arith, l, twice)))
+    (cases_lt a (f + 2 ^ k)))
+    (cases_Bool (lies_within a a (block (suc k) f)))
+
+-- so its block has all of them
+pub row_around : (p : RangePair) → last_row p ≡ first_row p → first_row p < rows → blocks_in p (block 0 (first_row p)) ≡ blocks_of p
+row_around p e l =
+    ap (λ (b : ℕ). blocks_within (first_row p) b 0 (first_row p)) e ∙ one_row (first_row p) 0 (first_row p) (omega arith) (omega arith)
+    ∙ sym (ap (λ (b : ℕ). blocks_within (first_row p) b 20 0) e ∙ one_row (first_row p) 20 0 (omega arith) (omega (arith, l)))

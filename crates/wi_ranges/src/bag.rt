@@ -79,7 +79,7 @@ fn put_one(
     ensures others { OnErr result (KeepsOtherPieces numbered.now pieces.old.keys pieces.new.keys) }
     ensures order { OnErr result (IsStrictlySortedBy piece_cmp pieces.new.keys) }
 {
-    put_in(pieces, numbered, &Block::sheet())?;
+    put_in(pieces, numbered, &Block::around(&numbered.pair))?;
     // Each of them has a block, so they are fewer than the pieces in memory.
     prove!(numbered.pair.first.row() < ROWS && numbered.number < pieces.len() as u64);
     count_up(counts, &numbered.pair, numbered.number)?;
@@ -107,7 +107,7 @@ pub(crate) fn add_pair(
     };
     let outcome = put_one(counts, pieces, &numbered);
     if outcome.is_err() {
-        take_out(pieces, &numbered, &Block::sheet());
+        take_out(pieces, &numbered, &Block::around(pair));
     }
     outcome
 }
@@ -130,5 +130,5 @@ pub(crate) fn remove_pair(counts: &mut PairCounts, pieces: &mut Pieces, pair: &R
         number: count - 1,
     };
     count_down(counts, pair, count);
-    take_out(pieces, &last, &Block::sheet());
+    take_out(pieces, &last, &Block::around(pair));
 }

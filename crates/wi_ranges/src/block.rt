@@ -2,7 +2,7 @@
 
 ghost use Rattle.std.specs.Prelude.{◌≡◌, ◌<◌, ◌+◌, ◌-◌, ◌^◌, ◌≤◌, ◌&&◌};
 ghost use Rattle.wi_values.specs.Address.{rows};
-ghost use Rattle.wi_ranges.specs.Blocks.{block, lies_within, meets, half_with, first_row, last_row};
+ghost use Rattle.wi_ranges.specs.Blocks.{block, lies_within, meets, blocks_in, blocks_of, half_with, first_row, last_row};
 
 use crate::pair::RangePair;
 
@@ -21,6 +21,22 @@ impl Block {
         Block {
             level: 20,
             first: 0,
+        }
+    }
+
+    /// A block that has all blocks of a pair: its row where it has one alone, and else the sheet.
+    pub(crate) fn around(pair: &RangePair) -> Block
+        ensures blocks { blocks_in pair.now result ≡ blocks_of pair.now }
+        ensures within { result.first + 2 ^ result.level ≤ rows }
+    {
+        let row = pair.first.row();
+        if pair.last_row() == row {
+            Block {
+                level: 0,
+                first: row,
+            }
+        } else {
+            Block::sheet()
         }
     }
 

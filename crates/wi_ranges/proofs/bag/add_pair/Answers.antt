@@ -9,14 +9,14 @@ pub returns-then-is_err-clause-indexed : goal.returns-then-is_err-clause-indexed
 returns-then-is_err-clause-indexed c =
     let failed = sym c.is_err.ensures.value ∙ c.if-is_err.true in
     let m : Numbered = record { pair = c.args.pair.now; number = c.unwrap_or.result } in
-    let x = c.sheet.result in
+    let x = c.around.result in
     let bag = c.args.counts.now.entries in
     let ks = c.args.pieces.now.keys in
     let ls = c.put_one-outcome.new.pieces.keys in
     let us = c.take_out.new.pieces.keys in
     subst (λ (b : Bag). IsIndexed b us) (sym (at_error c.put_one-outcome.result failed c.put_one-outcome.ensures.err))
-    (indexed_back m bag ks us c.requires.indexed (search rules) (lacks_all m x us c.sheet.ensures c.take_out.ensures.taken)
-    (kept_back m x ks ls us c.sheet.ensures (at_error c.put_one-outcome.result failed c.put_one-outcome.ensures.others) c.take_out.ensures.kept))
+    (indexed_back m bag ks us c.requires.indexed (search rules) (lacks_all m x us c.around.ensures.blocks c.take_out.ensures.taken)
+    (kept_back m x ks ls us c.around.ensures.blocks (at_error c.put_one-outcome.result failed c.put_one-outcome.ensures.others) c.take_out.ensures.kept))
 
 pub returns-then-is_err-clause-counted : goal.returns-then-is_err-clause-counted
 returns-then-is_err-clause-counted c =

@@ -12,7 +12,7 @@ prove-unreachable-requires c =
           let m = c.args.numbered.now in
           let row : first_row m.pair < 1048576 = omega (arith, c.row.ensures.value, c.row.ensures.within) in
           let below : m.number < length c.put_in.new.pieces.keys =
-          number_below m c.sheet.result c.args.counts.now.entries c.args.pieces.now.keys c.put_in.new.pieces.keys c.sheet.ensures row
+          number_below m c.around.result c.args.counts.now.entries c.args.pieces.now.keys c.put_in.new.pieces.keys c.around.ensures.blocks row
           c.requires.indexed c.requires.counted c.requires.number c.in_ok-put_in.ensures.count in
           let above : w.len.result ≤ m.number = ltb-false m.number w.len.result (sym w.prove-is ∙ c.if-prove.true) in
           omega (arith, below, above, w.len.ensures.len)
@@ -22,15 +22,15 @@ prove-unreachable-requires c =
 pub returns-clause-indexed : goal.returns-clause-indexed
 returns-clause-indexed c =
     let m = c.args.numbered.now in
-    let x = c.sheet.result in
+    let x = c.around.result in
     let old = c.args.counts.now.entries in
     let new = c.count_up.new.counts.entries in
     let ks = c.args.pieces.now.keys in
     let ls = c.put_in.new.pieces.keys in
     indexed_more m old new ks ls c.requires.indexed c.requires.number (has_one_more m.pair m.number old new c.requires.number c.in_ok-count_up.ensures.sets)
-    (has_all m x ls c.sheet.ensures c.in_ok-put_in.ensures.put) (others_kept m x ks ls c.sheet.ensures c.put_in.ensures.kept)
+    (has_all m x ls c.around.ensures.blocks c.in_ok-put_in.ensures.put) (others_kept m x ks ls c.around.ensures.blocks c.put_in.ensures.kept)
 
 pub returns-clause-counted : goal.returns-clause-counted
 returns-clause-counted c =
-    counted_more c.args.numbered.now c.sheet.result c.args.counts.now.entries c.count_up.new.counts.entries c.args.pieces.now.keys c.put_in.new.pieces.keys c.sheet.ensures
+    counted_more c.args.numbered.now c.around.result c.args.counts.now.entries c.count_up.new.counts.entries c.args.pieces.now.keys c.put_in.new.pieces.keys c.around.ensures.blocks
     c.requires.indexed c.requires.counted c.requires.number c.put_in.ensures.order c.in_ok-put_in.ensures.count c.in_ok-count_up.ensures.total

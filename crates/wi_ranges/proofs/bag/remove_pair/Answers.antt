@@ -23,7 +23,7 @@ returns-clause-indexed c =
     let pos : 0 < n = c.requires.no_zero p n some in
     let count : count_of bag p ≡ (n - 1) + 1 = ap (λ o. unwrap_or o 0) some ∙ omega (arith, pos) in
     indexed_less m bag c.count_down.new.counts.entries c.args.pieces.now.keys us c.requires.indexed count c.count_down.ensures.less
-    (lacks_all m c.sheet.result us c.sheet.ensures c.take_out.ensures.taken) (others_kept m c.sheet.result c.args.pieces.now.keys us c.sheet.ensures c.take_out.ensures.kept)
+    (lacks_all m c.around.result us c.around.ensures.blocks c.take_out.ensures.taken) (others_kept m c.around.result c.args.pieces.now.keys us c.around.ensures.blocks c.take_out.ensures.kept)
 
 pub returns-clause-counted : goal.returns-clause-counted
 returns-clause-counted c =
@@ -34,5 +34,5 @@ returns-clause-counted c =
     let some : lookup (is_same p) bag ≡ Some n = search rules in
     let pos : 0 < n = c.requires.no_zero p n some in
     let count : count_of bag p ≡ (n - 1) + 1 = ap (λ o. unwrap_or o 0) some ∙ omega (arith, pos) in
-    counted_less m c.sheet.result bag c.count_down.new.counts.entries c.args.pieces.now.keys c.take_out.new.pieces.keys c.sheet.ensures
+    counted_less m c.around.result bag c.count_down.new.counts.entries c.args.pieces.now.keys c.take_out.new.pieces.keys c.around.ensures.blocks
     c.requires.indexed c.requires.counted count c.take_out.ensures.order c.take_out.ensures.count c.count_down.ensures.total
