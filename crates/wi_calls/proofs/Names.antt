@@ -1,5 +1,5 @@
 -- A function is found by its name among rows in the order of `functions`.
-use Rattle.std.proofs.Common.{◌≡◌, ℕ, Bool, true, false, ◌&&◌, List, [], ◌∷◌, length, get_or, ◌<◌, ◌≤◌, Option, Some, None, Result, Ok, Err, if◌then◌else◌, refl, sym, ap, ◌∙◌, subst}
+use Rattle.std.proofs.Common.{◌≡◌, ℕ, Bool, true, false, ◌&&◌, List, [], ◌∷◌, length, get_or, ◌<◌, ◌≤◌, Some, None, Result, Ok, Err, if◌then◌else◌, refl, sym, ap, ◌∙◌, subst}
 use mathlib.Core.List.{map-map}
 use Rattle.std.specs.Prelude.{map, find, option_map}
 use Rattle.std.specs.Cmp.Lexicographic.{slice_cmp}

@@ -2,7 +2,7 @@
 use Rattle.std.proofs.Common.{◌≡◌, ℕ, zero, suc, List, [], ◌∷◌, refl, ap}
 use Rattle.std.specs.Prelude.{map}
 use Rattle.wi_standard_functions.specs.Arguments.{Argument, value_or}
-use Rattle.wi_standard_functions.specs.Functions.{of_one, of_two, of_two_or, of_three, of_three_or, of_values, zero_value, one_value}
+use Rattle.wi_standard_functions.specs.Functions.{of_one, of_two_or, of_three_or, zero_value, one_value}
 use Rattle.wi_standard_functions.specs.Logical.{not_value}
 use Rattle.wi_standard_functions.specs.Information.{value_value}
 use Rattle.wi_standard_functions.specs.Mathematical.{abs_value, sign_value, quotient_value, mod_value, power_value}

@@ -51,11 +51,7 @@ pub fn value_of_values(
     }
 }
 
-fn text_value(
-    alloc: Global,
-    function: TextFunction,
-    values: &[Value],
-) -> Result<Value, AllocError>
+fn text_value(alloc: Global, function: TextFunction, values: &[Value]) -> Result<Value, AllocError>
     ensures { IfOk result (λ v. v ≡ applied_to_values (ValueFunction.Text function) values.now) }
 {
     let empty = Value::Empty;
