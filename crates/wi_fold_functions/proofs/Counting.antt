@@ -1,0 +1,154 @@
+-- What COUNT, COUNTA and AVERAGE make of the items.
+use Rattle.std.proofs.Common.{◌≡◌, ℕ, suc, ◌+◌, ◌<◌, ◌≤◌, Bool, true, false, cond, not, List, [], ◌∷◌, length, fold, Option, Some, None, refl, sym, ap, ◌∙◌, inl, arith}
+use Rattle.std.specs.Prelude.{is_some, ◌^◌, ◌-◌, min, nat_le, pos, Result, Ok, Err}
+use Rattle.std.proofs.Math.Nat.{sub-add-min_cancel}
+use Rattle.std.proofs.lemmas.Bool.Decides.{nat_tests}
+use Rattle.std.specs.List.{flat_map}
+use Rattle.std.specs.Option.{option_to_list}
+use Rattle.wi_fraction.specs.Number as numbers
+use Rattle.wi_fraction.specs.Number.{number_of}
+use Rattle.wi_fraction.proofs.Numbers.{number_at-too_large, number_of-whole}
+use Rattle.wi_values.specs.declared.value.ErrorKind.{ErrorKind}
+use Rattle.wi_values.specs.declared.value.ErrorKind.TheVariants.{BadNumber}
+use Rattle.wi_values.specs.declared.value.Value.{Value}
+use Rattle.wi_values.specs.declared.value.Value.TheVariants.{Number, Fault}
+use Rattle.wi_standard_functions.specs.Arguments.{Argument}
+use Rattle.wi_standard_functions.specs.Arithmetic.{addition, division, fitting, whole_number, whole_value}
+use Rattle.wi_standard_functions.specs.Convert.{zero_number}
+use Rattle.wi_standard_functions.specs.Information.{is_number_value, is_empty_value, count_value, count_a_value}
+use Rattle.wi_standard_functions.specs.Sequence.{Item, sequence_of, value_of_item, number_of_item, numbers_of, number_fold, with_number, count_items}
+use Rattle.wi_standard_functions.specs.Statistical.{average_value}
+use Rattle.wi_standard_functions.specs.Steps.{◌>>=◌, and_then, map_until_error, fold_until_error}
+use Rattle.wi_fold_functions.specs.declared.information.FilledCount.{FilledCount}
+use Rattle.wi_fold_functions.specs.declared.information.NumberCount.{NumberCount}
+use Rattle.wi_fold_functions.specs.declared.statistical.Average.{Average}
+use Rattle.wi_fold_functions.specs.Inner.Items.{go_on_through}
+use Rattle.wi_fold_functions.specs.Inner.Made.{calculated_with, counted, numbers_with, filled_with, mean_with, mean_value}
+use Rattle.wi_fold_functions.proofs.Steps.{stays}
+
+-- ---- a count goes no higher than it fits, and no number is so great
+
+pub too_many : (n : ℕ) → 2 ^ 127 - 1 < n → whole_number n ≡ Err BadNumber
+too_many n h = ap fitting (sym (number_at-too_large false n 1 (inl h) ∙ number_of-whole false n))
+
+-- the count as far as it fits
+abbrev IsCut : ℕ → ℕ → Type 0
+IsCut c n = c ≡ min n (2 ^ 128 - 1)
+
+cut_number : (c n : ℕ) → IsCut c n → whole_number c ≡ whole_number n
+cut_number c n e = at (nat_le n (2 ^ 128 - 1)) refl
+  where
+    at : (b : Bool) → nat_le n (2 ^ 128 - 1) ≡ b → whole_number c ≡ whole_number n
+    at true h = let m = sub-add-min_cancel n (2 ^ 128 - 1) in let same : c ≡ n = grind (arith, nat_tests) in ap whole_number same
+    at false h = let m = sub-add-min_cancel n (2 ^ 128 - 1) in let great : 2 ^ 127 - 1 < n = grind (arith, nat_tests) in let great_cut : 2 ^ 127 - 1 < c = grind (arith, nat_tests) in too_many c great_cut ∙ sym (too_many n great)
+
+cut_more : (c n : ℕ) → IsCut c n → IsCut (min (c + 1) (2 ^ 128 - 1)) (n + 1)
+cut_more c n e =
+    let m = sub-add-min_cancel n (2 ^ 128 - 1) in
+    let k = sub-add-min_cancel (c + 1) (2 ^ 128 - 1) in
+    let l = sub-add-min_cancel (n + 1) (2 ^ 128 - 1) in
+    omega arith
+
+cut_counted : (b : Bool) (c n : ℕ) → IsCut c n → IsCut (counted b c) (n + cond b 1 0)
+cut_counted true c n e = cut_more c n e
+cut_counted false c n e = omega arith
+
+-- ---- COUNT and COUNTA
+
+cut_value : (c n : ℕ) → IsCut c n → whole_value c ≡ whole_value n
+cut_value c n e = ap (λ (r : Result numbers.Number ErrorKind). r >>= (λ x. Number x)) (cut_number c n e)
+
+-- a count from so many on
+abbrev count_from : (Value → Bool) → ℕ → List Item → ℕ
+count_from test n items = fold (λ k item. k + cond (test (value_of_item item)) 1 0) n items
+
+numbers_counted : (items : List Item) (s : NumberCount) (n : ℕ) → IsCut s.numbers n → (fold_until_error numbers_with s items >>= (λ t. whole_value t.numbers)) ≡ whole_value (count_from is_number_value n items)
+numbers_counted [] s n e = cut_value s.numbers n e
+numbers_counted (item ∷ items) s n e =
+    let test = is_number_value (value_of_item item) in
+    numbers_counted items (record { numbers = counted test s.numbers }) (n + cond test 1 0) (cut_counted test s.numbers n e)
+
+filled_counted : (items : List Item) (s : FilledCount) (n : ℕ) → IsCut s.filled n → (fold_until_error filled_with s items >>= (λ t. whole_value t.filled)) ≡ whole_value (count_from (λ v. not (is_empty_value v)) n items)
+filled_counted [] s n e = cut_value s.filled n e
+filled_counted (item ∷ items) s n e =
+    let test = not (is_empty_value (value_of_item item)) in
+    filled_counted items (record { filled = counted test s.filled }) (n + cond test 1 0) (cut_counted test s.filled n e)
+
+none_cut : (c : ℕ) → c ≡ 0 → IsCut c 0
+none_cut c e = let m = sub-add-min_cancel 0 (2 ^ 128 - 1) in omega arith
+
+pub count_is : (args : List Argument) (s : NumberCount) → s.numbers ≡ 0 → (fold_until_error numbers_with s (sequence_of args) >>= (λ t. whole_value t.numbers)) ≡ count_value args
+count_is args s e = numbers_counted (sequence_of args) s 0 (none_cut s.numbers e)
+
+pub count_a_is : (args : List Argument) (s : FilledCount) → s.filled ≡ 0 → (fold_until_error filled_with s (sequence_of args) >>= (λ t. whole_value t.filled)) ≡ count_a_value args
+count_a_is args s e = filled_counted (sequence_of args) s 0 (none_cut s.filled e)
+
+-- ---- AVERAGE
+
+-- what is shown, where the sum, the numbers and how many came before them are known
+abbrev average_of : Result numbers.Number ErrorKind → Result (List numbers.Number) ErrorKind → ℕ → Value
+average_of sum found n = sum >>= (λ total. found >>= (λ xs. whole_number (n + length xs) >>= (λ count. division total count >>= (λ mean. Number mean))))
+
+-- the numbers found among items
+abbrev numbers_found : Result (List (Option numbers.Number)) ErrorKind → Result (List numbers.Number) ErrorKind
+numbers_found r = and_then (λ os. Ok (flat_map option_to_list os)) r
+
+-- and with one more item before them
+abbrev found_before : Option numbers.Number → Result (List (Option numbers.Number)) ErrorKind → Result (List (Option numbers.Number)) ErrorKind
+found_before o r = and_then (λ os. Ok (o ∷ os)) r
+
+-- the average of the items and of what came before
+abbrev Averages : List Item → Average → ℕ → Type 0
+Averages items s n = (fold_until_error mean_with s items >>= mean_value) ≡ average_of (number_fold addition s.total items) (numbers_of items) n
+
+mean_shown : (x : numbers.Number) (r : Result numbers.Number ErrorKind) → (and_then (λ n. division x n) r >>= (λ y. Number y)) ≡ (r >>= (λ n. division x n >>= (λ y. Number y)))
+mean_shown x (Ok n) = refl
+mean_shown x (Err e) = refl
+
+none_found : (sum : Result numbers.Number ErrorKind) (r : Result (List (Option numbers.Number)) ErrorKind) (n : ℕ) → average_of sum (numbers_found r) n ≡ average_of sum (numbers_found (found_before None r)) n
+none_found sum (Ok os) n = refl
+none_found sum (Err e) n = refl
+
+one_found : (sum : Result numbers.Number ErrorKind) (x : numbers.Number) (r : Result (List (Option numbers.Number)) ErrorKind) (n : ℕ) → average_of sum (numbers_found r) (n + 1) ≡ average_of sum (numbers_found (found_before (Some x) r)) n
+one_found sum x (Err e) n = refl
+one_found sum x (Ok os) n =
+    let same : (n + 1) + length (flat_map option_to_list os) ≡ n + length (x ∷ flat_map option_to_list os) = omega arith in
+    ap (λ (k : ℕ). sum >>= (λ total. whole_number k >>= (λ count. division total count >>= (λ mean. Number mean)))) same
+
+failed : (e : ErrorKind) (items : List Item) (found : Result (List numbers.Number) ErrorKind) (n : ℕ) → (go_on_through mean_with (Err e) items >>= mean_value) ≡ average_of (go_on_through (calculated_with addition) (Err e) items) found n
+failed e items found n =
+    ap (λ (r : Result Average ErrorKind). r >>= mean_value) (stays mean_with e items)
+    ∙ sym (ap (λ (r : Result numbers.Number ErrorKind). average_of r found n) (stays (calculated_with addition) e items))
+
+one_number : (sum : Result numbers.Number ErrorKind) (x : numbers.Number) (items : List Item) (c n : ℕ) → IsCut c n → ((s : Average) (k : ℕ) → IsCut s.count k → Averages items s k) →
+    (go_on_through mean_with (and_then (λ y. Ok (record { total = y; count = counted true c })) sum) items >>= mean_value) ≡ average_of (go_on_through (calculated_with addition) sum items) (numbers_found (found_before (Some x) (map_until_error number_of_item items))) n
+one_number (Err e) x items c n h next = failed e items (numbers_found (found_before (Some x) (map_until_error number_of_item items))) n
+one_number (Ok y) x items c n h next =
+    next (record { total = y; count = counted true c }) (n + 1) (cut_more c n h)
+    ∙ one_found (number_fold addition y items) x (map_until_error number_of_item items) n
+
+one_item : (r : Result (Option numbers.Number) ErrorKind) (items : List Item) (s : Average) (n : ℕ) → IsCut s.count n → ((t : Average) (k : ℕ) → IsCut t.count k → Averages items t k) →
+    (go_on_through mean_with (and_then (λ found. and_then (λ x. Ok (record { total = x; count = counted (is_some found) s.count })) (with_number addition s.total found)) r) items >>= mean_value) ≡
+    average_of (go_on_through (calculated_with addition) (and_then (λ found. with_number addition s.total found) r) items) (numbers_found (and_then (λ found. found_before found (map_until_error number_of_item items)) r)) n
+one_item (Err e) items s n h next = failed e items (Err e) n
+one_item (Ok None) items s n h next = next s n h ∙ none_found (number_fold addition s.total items) (map_until_error number_of_item items) n
+one_item (Ok (Some x)) items s n h next = one_number (addition s.total x) x items s.count n h next
+
+averages : (items : List Item) (s : Average) (n : ℕ) → IsCut s.count n → Averages items s n
+averages [] s n h =
+    let same : n ≡ n + 0 = omega arith in
+    mean_shown s.total (whole_number s.count)
+    ∙ ap (λ (r : Result numbers.Number ErrorKind). r >>= (λ count. division s.total count >>= (λ mean. Number mean))) (cut_number s.count n h ∙ ap whole_number same)
+averages (item ∷ items) s n h = one_item (number_of_item item) items s n h (λ t k i. averages items t k i)
+
+pub average_is : (args : List Argument) (s : Average) → s.total ≡ zero_number → s.count ≡ 0 → (fold_until_error mean_with s (sequence_of args) >>= mean_value) ≡ average_value args
+average_is args s e f =
+    averages (sequence_of args) s 0 (none_cut s.count f)
+    ∙ ap (λ (x : numbers.Number). average_of (number_fold addition x (sequence_of args)) (numbers_of (sequence_of args)) 0) e
+    ∙ from_start (number_fold addition zero_number (sequence_of args)) (numbers_of (sequence_of args))
+  where
+    from_start : (sum : Result numbers.Number ErrorKind) (found : Result (List numbers.Number) ErrorKind) → average_of sum found 0 ≡ (sum >>= (λ total. found >>= (λ xs. whole_number (length xs) >>= (λ count. division total count >>= (λ mean. Number mean)))))
+    from_start sum (Err e) = refl
+    from_start sum (Ok xs) =
+        let same : 0 + length xs ≡ length xs = omega arith in
+        ap (λ (k : ℕ). sum >>= (λ total. whole_number k >>= (λ count. division total count >>= (λ mean. Number mean)))) same

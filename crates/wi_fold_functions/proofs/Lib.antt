@@ -1,0 +1,5 @@
+pub mod Arguments
+pub mod Choices
+pub mod Counting
+pub mod Steps
+pub mod Sums

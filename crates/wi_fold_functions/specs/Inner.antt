@@ -1,0 +1,3 @@
+-- Words of the code's own contracts. Nothing here needs belief.
+pub mod Items
+pub mod Made

@@ -1,0 +1,87 @@
+//! SUM and PRODUCT (OpenFormula, "Mathematical Functions").
+
+ghost use Rattle.std.specs.Prelude.{◌≡◌, IfOk, IfErr, refl};
+ghost use Rattle.wi_values.specs.declared.value.Value.TheVariants.{Number as number};
+ghost use Rattle.wi_lookup.specs.Arguments.{IsMissing, IsOfArguments};
+ghost use Rattle.wi_standard_functions.specs.Mathematical.{sum_value, product_value};
+ghost use Rattle.wi_fold_functions.specs.Inner.Made.{sum_with, product_with};
+
+use crate::fold::Fold;
+use crate::folding::fold_arguments;
+use crate::item::Item;
+use wi_fraction::Fraction;
+use wi_lookup::{Argument, Lookup};
+use wi_scalar_functions::{add, multiply, one, zero};
+use wi_values::{Address, ErrorKind, Value};
+
+/// SUM: the sum of the numbers that count, from the left, or the first error met; `BadNumber` where a sum doesn't fit. The cell
+/// that is missing is told.
+pub fn sum_value<L: Lookup>(arguments: &[Argument], lookup: &L) -> Result<Value, Address>
+    ensures done { IfOk result (IsOfArguments (L.known_cell lookup.now) sum_value arguments.now) }
+    ensures missing { IfErr result (IsMissing (L.known_cell lookup.now) arguments.now) }
+{
+    fold_arguments(arguments, lookup, Sum { total: zero() })
+}
+
+/// PRODUCT: the product of the numbers that count, from the left, or the first error met; `BadNumber` where a product doesn't fit.
+/// The cell that is missing is told.
+pub fn product_value<L: Lookup>(arguments: &[Argument], lookup: &L) -> Result<Value, Address>
+    ensures done { IfOk result (IsOfArguments (L.known_cell lookup.now) product_value arguments.now) }
+    ensures missing { IfErr result (IsMissing (L.known_cell lookup.now) arguments.now) }
+{
+    fold_arguments(arguments, lookup, Product { product: one() })
+}
+
+/// The sum of the numbers so far.
+#[derive(Clone, Copy)]
+struct Sum {
+    total: Fraction,
+}
+
+impl Fold for Sum {
+    ghost step = { sum_with };
+
+    ghost value = { λ s. number s.total };
+
+    fn step(self, item: Item<'_>) -> Result<Sum, ErrorKind> {
+        match item.number()? {
+            Some(x) => Ok(Sum {
+                total: add(self.total, x)?,
+            }),
+            None => Ok(self),
+        }
+    }
+
+    fn value(self) -> Value {
+        Value::Number(self.total)
+    }
+
+    ghost passes_empty = { λ _. refl };
+}
+
+/// The product of the numbers so far.
+#[derive(Clone, Copy)]
+struct Product {
+    product: Fraction,
+}
+
+impl Fold for Product {
+    ghost step = { product_with };
+
+    ghost value = { λ s. number s.product };
+
+    fn step(self, item: Item<'_>) -> Result<Product, ErrorKind> {
+        match item.number()? {
+            Some(x) => Ok(Product {
+                product: multiply(self.product, x)?,
+            }),
+            None => Ok(self),
+        }
+    }
+
+    fn value(self) -> Value {
+        Value::Number(self.product)
+    }
+
+    ghost passes_empty = { λ _. refl };
+}
