@@ -1,15 +1,15 @@
 -- What an edit brings, step by step, and a sheet that has it.
-use Rattle.std.proofs.Common.{◌≡◌, ◌==◌, ◌+◌, ◌<◌, ℕ, Bool, true, false, ◌||◌, cond, List, [], ◌∷◌, ◌++◌, take, get_or, length, Option, Some, None, ◌⊎◌, inl, inr, refl, ap, sym, ◌∙◌, arith, add-one}
+use Rattle.std.proofs.Common.{◌≡◌, ◌==◌, ◌+◌, ◌<◌, ℕ, Bool, true, false, cond, List, [], ◌∷◌, ◌++◌, take, get_or, length, Option, Some, None, IfSome, refl, ap, sym, ◌∙◌, subst, arith, add-one}
 use Rattle.std.proofs.Math.Seq.{take-suc}
 use Rattle.std.proofs.lemmas.Grind.{common_steps}
-use Rattle.std.proofs.lemmas.Bool.{or_cases, or_parts}
+use Rattle.std.proofs.lemmas.Bool.{or_parts}
 use Rattle.std.proofs.lemmas.Slice.Eq.{slice_eq-Decides}
 use Rattle.std.specs.Bool.{Decides}
 use Rattle.std.specs.Option.{option_eq}
 use Rattle.std.specs.Cmp.Lexicographic.{pointwise}
 use Rattle.wi_values.specs.contracts.rect.RectPartialEq.TheImpl as rect
 use Rattle.std.specs.Ordering.{nat_cmp}
-use Rattle.std.specs.Map.{keys_of}
+use Rattle.std.specs.Map.{keys_of, lookup}
 use Rattle.std.specs.Global.{Vec}
 use Rattle.std.specs.BTreeMap.{get, is_at, IsOrdered}
 use Rattle.wi_values.specs.Address.{Area}
@@ -17,13 +17,11 @@ use Rattle.wi_values.specs.declared.value.Value.TheVariants.{Empty}
 use Rattle.wi_parser.specs.declared.content.Content.{Content}
 use Rattle.wi_parser.specs.declared.content.Content.TheVariants.{Constant}
 use Rattle.wi_parser.specs.Sheet.{Sheet, content_of}
-use Rattle.wi_graph.specs.Reach.{is_one_of, SameOff}
+use Rattle.wi_graph.specs.Reach.{SameOff}
 use Rattle.wi_graph.specs.Edges.{Edges, areas_in, areas_at, with_areas, edges_after}
-use Rattle.wi_graph.specs.Inner.Rooms.{Rooms, items_of, room_at, put_over, room_over, edges_in, edges_over}
+use Rattle.wi_graph.specs.Inner.Rooms.{Rooms, items_of, room_at, put_over, edges_in, edges_over}
 use Rattle.wi_graph.specs.Inner.Changes.{areas_then, Brings, ReadsStay}
-use Rattle.wi_graph.proofs.Tests.{turn_test, is_at-eq}
-use Rattle.wi_graph.proofs.Walks.{same_cell}
-use Rattle.wi_graph.proofs.SetSteps.{taken}
+use Rattle.wi_graph.proofs.Tests.{at_same, turn_test, is_at-eq}
 use Rattle.wi_values.proofs.Order.{Ascends-from_order}
 use Rattle.wi_graph.proofs.EdgeLemmas.{same_edges, areas_with, areas_over, areas_rooms, ascends_over, ascends_after, ascends_rooms}
 
@@ -77,30 +75,39 @@ same_room r None (Some w) e = (λ h. cc, λ h. cc)
 same_room r (Some v) None e = (λ h. cc, λ h. cc)
 same_room r (Some v) (Some w) e = let d = slice_eq-Decides same_area v.items w.items r e in (λ h. ap (λ (xs : List Area). Some xs) (d.0 h), λ h. let k : v.items ≡ w.items = cc in d.1 k)
 
-pub stay_step : (rooms next : Rooms) (cells : List ℕ) (i x : ℕ) → i < length cells → x ≡ get_or cells i x → room_over next rooms x ≡ room_at rooms x → ReadsStay rooms next (take i cells) → ReadsStay rooms next (take (i + 1) cells)
-stay_step rooms next cells i x l e h s c k = at (or_cases (is_one_of (take i cells) c) _ (sym (taken cells i x c l e) ∙ k))
+-- these rooms are as those that stand
+abbrev pub AreAsBefore : Rooms → List (ℕ × Option (Vec Area)) → Type 0
+AreAsBefore rooms es = (c : ℕ) → IfSome (lookup (is_at (nat_cmp c)) es) (λ r. items_of r ≡ room_at rooms c)
+
+pub one_as_before : (rooms : Rooms) (x : ℕ × Option (Vec Area)) (es fs : List (ℕ × Option (Vec Area))) → es ≡ x ∷ fs → items_of x.1 ≡ room_at rooms x.0 → AreAsBefore rooms fs → AreAsBefore rooms es
+one_as_before rooms x es fs e k h c = subst (λ (gs : List (ℕ × Option (Vec Area))). IfSome (lookup (is_at (nat_cmp c)) gs) (λ r. items_of r ≡ room_at rooms c)) (sym e) (at (is_at (nat_cmp c) x.0) refl)
   where
-    last : (b : Bool) → (x == c) ≡ b → (b || false) ≡ true → room_over next rooms c ≡ room_at rooms c
-    last true m n = let f = same_cell c x m in ap (room_over next rooms) (sym f) ∙ h ∙ ap (room_at rooms) f
-    last false m n = cc
+    at : (b : Bool) → is_at (nat_cmp c) x.0 ≡ b → IfSome (cond b (Some x.1) (lookup (is_at (nat_cmp c)) fs)) (λ r. items_of r ≡ room_at rooms c)
+    at true f = k ∙ ap (room_at rooms) (at_same c x.0 f)
+    at false f = h c
 
-    at : (is_one_of (take i cells) c ≡ true) ⊎ (((x == c) || false) ≡ true) → room_over next rooms c ≡ room_at rooms c
-    at (inl m) = s c m
-    at (inr m) = last (x == c) refl m
-
--- what holds of the changed cells holds of all
-pub all_stay : (rooms next : Rooms) (xs : List (ℕ × Option Content)) → Brings next xs → ReadsStay rooms next (keys_of xs) → (c : ℕ) → room_over next rooms c ≡ room_at rooms c
-all_stay rooms next xs b s c = at (is_one_of (keys_of xs) c) refl
+pub all_as_before : (rooms next : Rooms) → AreAsBefore rooms next.entries → ReadsStay rooms next
+all_as_before rooms next h c = at (get nat_cmp next c) (h c)
   where
-    unchanged : (ys : List (ℕ × Option Content)) (o : Option (List Area)) → is_one_of (keys_of ys) c ≡ false → areas_then ys c o ≡ o
-    unchanged [] o h = refl
-    unchanged (y ∷ ys) o h =
-        let n = or_parts (y.0 == c) _ h in
-        ap (λ (b : Bool). areas_then ys c (cond b (areas_in y.1) o)) (turn_test c y.0 ∙ n.0) ∙ unchanged ys o n.1
+    at : (o : Option (Option (Vec Area))) → IfSome o (λ r. items_of r ≡ room_at rooms c) → put_over o (room_at rooms c) ≡ room_at rooms c
+    at None k = refl
+    at (Some r) k = k
 
-    at : (b : Bool) → is_one_of (keys_of xs) c ≡ b → room_over next rooms c ≡ room_at rooms c
-    at true h = s c h
-    at false h = b c (room_at rooms c) ∙ unchanged xs (room_at rooms c) h
+pub one_stays : (rooms next : Rooms) (c : ℕ) (r : Option (Vec Area)) → get nat_cmp next c ≡ Some r → ReadsStay rooms next → items_of r ≡ room_at rooms c
+one_stays rooms next c r e h = ap (λ (o : Option (Option (Vec Area))). put_over o (room_at rooms c)) (sym e) ∙ h c
+
+-- so are the edges
+pub stay_edges : (rooms next : Rooms) → IsOrdered nat_cmp rooms → ReadsStay rooms next → edges_over (edges_in rooms.entries) next.entries ≡ edges_in rooms.entries
+stay_edges rooms next o h =
+    let a = Ascends-from_order rooms.entries o in
+    let s = ascends_rooms rooms.entries a in
+    same_edges (edges_over (edges_in rooms.entries) next.entries) (edges_in rooms.entries) (ascends_over (edges_in rooms.entries) next.entries s) s
+    (λ q. areas_over (edges_in rooms.entries) next.entries q ∙ ap (put_over (get nat_cmp next q)) (areas_rooms rooms.entries a q) ∙ h q ∙ sym (areas_rooms rooms.entries a q))
+
+pub edges_stay : (rooms next : Rooms) → IsOrdered nat_cmp rooms → edges_over (edges_in rooms.entries) next.entries ≡ edges_in rooms.entries → ReadsStay rooms next
+edges_stay rooms next o e c =
+    let a = Ascends-from_order rooms.entries o in
+    ap (put_over (get nat_cmp next c)) (sym (areas_rooms rooms.entries a c)) ∙ sym (areas_over (edges_in rooms.entries) next.entries c) ∙ ap (λ (es : Edges). areas_at es c) e ∙ areas_rooms rooms.entries a c
 
 -- ---- a sheet after it
 

@@ -17,6 +17,7 @@ pub mod EdgeLemmas
 pub mod RoomSteps
 pub mod StagingSteps
 pub mod TurningSteps
+pub mod ClosingSteps
 pub mod ChangeSteps
 pub mod GraphSteps
 pub mod GraphEnds

@@ -1,5 +1,5 @@
 -- An edit is staged, or refused.
-use Rattle.std.proofs.Common.{◌≡◌, ℕ, Bool, ◌&&◌, ◌||◌, List, not, Option, Some, None, option_map, IfSome, IfNone, refl, ap, ◌∙◌}
+use Rattle.std.proofs.Common.{◌≡◌, ℕ, Bool, ◌&&◌, ◌||◌, List, not, Option, Some, None, option_map, IfSome, IfNone, refl, ap, sym, ◌∙◌}
 use Rattle.std.specs.Ordering.{nat_cmp}
 use Rattle.std.specs.Global.{Vec}
 use Rattle.std.specs.BTreeMap.{IsOrdered, get}
@@ -12,7 +12,9 @@ use Rattle.wi_graph.specs.Edges.{Edges, Staging, staging, edges_after}
 use Rattle.wi_graph.specs.declared.graph.Staged.{Staged}
 use Rattle.wi_graph.specs.declared.turning.Turns.{Turns}
 use Rattle.wi_graph.specs.Inner.Rooms.{Rooms, room_at, put_over, room_over, edges_in, edges_over, HasRooms, HasPairs, HasBoth, less_these, IsGraph, IsStaged}
+use Rattle.wi_graph.specs.Inner.Changes.{ReadsStay}
 use Rattle.wi_graph.specs.Inner.Turning.{turned_by, AreTurns}
+use Rattle.wi_graph.proofs.ChangeSteps.{stay_edges, edges_stay}
 use Rattle.wi_graph.proofs.SetSteps.{AreNew, came_before}
 use Rattle.wi_graph.proofs.GraphEnds.{view_of, circles_over}
 
@@ -59,3 +61,19 @@ pub staged_view : (old new later : Rooms) (o : Option Staged) (now : Staging) (x
 staged_view old new later o now xs v k m =
     ap (λ (es : Edges). staging es (Some (edges_over (edges_in new.entries) later.entries))) k ∙ ap (λ (es : Edges). staging (edges_in old.entries) (Some es)) m
     ∙ ap (λ (n : Staging). staging n.now (Some (edges_after n.now xs))) v
+
+-- ---- whether it changes what cells read
+
+pub stays_view : (rooms : Rooms) (o : Option Staged) (now : Staging) (x : Staged) → o ≡ Some x → view_of rooms o ≡ now → IsOrdered nat_cmp rooms → ReadsStay rooms x.next → now.staged ≡ Some now.now
+stays_view rooms None now x e v h s = cc
+stays_view rooms (Some y) now x e v h s =
+    let z : y ≡ x = cc in
+    ap (λ (n : Staging). n.staged) (sym v) ∙ ap (λ (es : Edges). Some es) (ap (λ (w : Staged). edges_over (edges_in rooms.entries) w.next.entries) z ∙ stay_edges rooms x.next h s) ∙ ap (λ (n : Staging). Some n.now) v
+
+pub view_stays : (rooms : Rooms) (o : Option Staged) (now : Staging) (x : Staged) → o ≡ Some x → view_of rooms o ≡ now → IsOrdered nat_cmp rooms → now.staged ≡ Some now.now → ReadsStay rooms x.next
+view_stays rooms None now x e v h k = cc
+view_stays rooms (Some y) now x e v h k =
+    let z : y ≡ x = cc in
+    let f : Some (edges_over (edges_in rooms.entries) y.next.entries) ≡ Some (edges_in rooms.entries) = ap (λ (n : Staging). n.staged) v ∙ k ∙ ap (λ (n : Staging). Some n.now) (sym v) in
+    let g : edges_over (edges_in rooms.entries) y.next.entries ≡ edges_in rooms.entries = cc in
+    edges_stay rooms x.next h (ap (λ (w : Staged). edges_over (edges_in rooms.entries) w.next.entries) (sym z) ∙ g)

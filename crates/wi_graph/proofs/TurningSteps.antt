@@ -1,5 +1,5 @@
 -- Steps to the cells of a cone that are circular after an edit.
-use Rattle.std.proofs.Common.{◌≡◌, ◌==◌, ◌+◌, ◌<◌, ℕ, Bool, true, false, ◌&&◌, ◌||◌, cond, not, List, [], filter, take, get_or, length, Option, Some, refl, ap, sym, ◌∙◌, subst}
+use Rattle.std.proofs.Common.{◌≡◌, ◌==◌, ◌+◌, ◌<◌, ℕ, Bool, true, false, ◌&&◌, ◌||◌, cond, not, List, [], filter, take, get_or, length, Option, Some, refl, ap, sym, ◌∙◌}
 use Rattle.std.proofs.lemmas.Bool.{and_parts, and_from, not-true}
 use Rattle.std.proofs.lemmas.Map.Views.{any-filter_same}
 use Rattle.std.specs.List.{list_any}
@@ -15,10 +15,10 @@ use Rattle.wi_parser.specs.Reads.{content_reads}
 use Rattle.wi_ranges.specs.Bag.{Bag}
 use Rattle.wi_graph.specs.Circular.{circular}
 use Rattle.wi_graph.specs.Reach.{is_one_of, in_cone}
-use Rattle.wi_graph.specs.Edges.{areas_in}
+use Rattle.wi_graph.specs.Edges.{AreEdgesOf, areas_in}
 use Rattle.wi_graph.specs.declared.turning.Turns.{Turns}
-use Rattle.wi_graph.specs.Inner.Changes.{areas_then, Brings, ReadsStay, went_from}
-use Rattle.wi_graph.specs.Inner.Rooms.{Rooms, room_at, room_over, areas_of, HasPairs, IsGraph}
+use Rattle.wi_graph.specs.Inner.Changes.{areas_then, Brings, ReadsStay, IsEditCone, went_from}
+use Rattle.wi_graph.specs.Inner.Rooms.{Rooms, room_at, room_over, edges_in, areas_of, HasPairs, AreCircles, IsGraph}
 use Rattle.wi_graph.specs.Inner.Search.{HasAll, HasReaders, IsLeast}
 use Rattle.wi_graph.specs.Inner.Stripping.{items_there, reads_in, EachReadsOne, AreStripped, IsWithin}
 use Rattle.wi_graph.specs.Inner.Turning.{reads_outside, turned_by, AreTurns, SettlesCone}
@@ -29,7 +29,7 @@ use Rattle.wi_graph.proofs.SearchSteps.{found_cone}
 use Rattle.wi_graph.proofs.HeldSteps.{held_finds, finds_held, held_test}
 use Rattle.wi_values.proofs.Order.{Ascends-from_order}
 use Rattle.wi_graph.proofs.EdgeLemmas.{areas_rooms}
-use Rattle.wi_graph.proofs.ChangeSteps.{all_stay, then_sheet, then_contents, then_same}
+use Rattle.wi_graph.proofs.ChangeSteps.{then_sheet, then_contents, then_same}
 use Rattle.wi_graph.proofs.GraphSteps.{reads_areas, graph_readers}
 use Rattle.wi_graph.proofs.GraphEnds.{circles_over}
 use Rattle.wi_graph.proofs.CircularAfter.{circular_after}
@@ -124,29 +124,45 @@ pub cone_is : (rooms : Rooms) (readers : Bag) (cone : BTreeSet ℕ) (xs : List �
 cone_is rooms readers cone xs o h a k l s are c =
     turned cone.keys c ∙ found_cone s readers xs cone (graph_readers rooms readers o h s (λ d. areas_rooms rooms.entries (Ascends-from_order rooms.entries o) d ∙ are d)) a k l c
 
-pub cone_turns : (rooms next : Rooms) (readers : Bag) (circles cells rest : BTreeSet ℕ) (turns : Turns) (ds : List ℕ) (xs : List (ℕ × Option Content)) → ds ≡ keys_of xs → IsGraph rooms readers circles → Brings next xs →
-    HasAll ds cells → HasReaders readers cells → IsLeast readers ds cells → SettlesCone rooms next circles cells rest → IsWithin rest cells → AreOf circles cells rest turns → AreTurns rooms next circles turns
-cone_turns rooms next readers circles cells rest turns ds xs m g b a k l st w e = record {
+pub edit_cone : (rooms next : Rooms) (readers : Bag) (circles cone : BTreeSet ℕ) (ds given : List ℕ) (xs : List (ℕ × Option Content)) → IsGraph rooms readers circles → given ≡ ds → ds ≡ keys_of xs → HasAll given cone → HasReaders readers cone → IsLeast readers given cone → Brings next xs →
+    IsEditCone rooms next cone
+edit_cone rooms next readers circles cone ds given xs g e m a k l b = record {
+  changes = xs;
+  brings = b;
+  is_cone = λ s are c. cone_is rooms readers cone given g.ordered g.pairs a k l s are c ∙ ap (λ (ys : List ℕ). in_cone s ys c) (e ∙ m);
+}
+
+-- as a list
+pub listed_cone : (rooms : Rooms) (readers : Bag) (circles cone : BTreeSet ℕ) (ds given list : List ℕ) (xs : List (ℕ × Option Content)) → IsGraph rooms readers circles → given ≡ ds → ds ≡ keys_of xs → HasAll given cone → HasReaders readers cone → IsLeast readers given cone → list ≡ cone.keys →
+    (s : Sheet) → AreEdgesOf (edges_in rooms.entries) s → (c : ℕ) → is_one_of list c ≡ in_cone s (keys_of xs) c
+listed_cone rooms readers circles cone ds given list xs g e m a k l f s h c =
+    ap (λ (ys : List ℕ). is_one_of ys c) f ∙ found_cone s readers given cone (graph_readers rooms readers g.ordered g.pairs s h) a k l c ∙ ap (λ (ys : List ℕ). in_cone s ys c) (e ∙ m)
+
+-- a sheet after the edit
+pub brought : (rooms next : Rooms) (circles cone : BTreeSet ℕ) (g : AreCircles (room_at rooms) (contains nat_cmp circles)) (k : IsEditCone rooms next cone) → (c : ℕ) → room_over next rooms c ≡ areas_in (content_of (then_sheet g.sheet k.changes) c)
+brought rooms next circles cone g k c = k.brings c (room_at rooms c) ∙ ap (areas_then k.changes c) (g.are c) ∙ sym (then_contents g.sheet k.changes c)
+
+pub cone_turns : (rooms next : Rooms) (circles cells rest : BTreeSet ℕ) (turns : Turns) → AreCircles (room_at rooms) (contains nat_cmp circles) → IsEditCone rooms next cells → SettlesCone rooms next circles cells rest → IsWithin rest cells → AreOf circles cells rest turns →
+    AreTurns rooms next circles turns
+cone_turns rooms next circles cells rest turns g k st w e = record {
   fresh = λ c h. not-true (contains nat_cmp circles c) (and_parts (not (contains nat_cmp circles c)) _ (sym (in_difference rest circles c) ∙ ap (λ (ys : List ℕ). is_one_of ys c) (sym e.0) ∙ h)).0;
   after = record {
-    sheet = then_sheet g.circular.sheet xs;
-    are = brought;
+    sheet = then_sheet g.sheet k.changes;
+    are = brought rooms next circles cells g k;
     circles = λ c. turned_after circles cells rest turns e w c
-        ∙ sym (st g.circular.sheet (then_sheet g.circular.sheet xs) (keys_of xs) (then_same g.circular.sheet xs) brought g.circular.circles cone c);
+        ∙ sym (st g.sheet (then_sheet g.sheet k.changes) (keys_of k.changes) (then_same g.sheet k.changes) (brought rooms next circles cells g k) g.circles (k.is_cone g.sheet g.are) c);
   };
 }
-  where
-    brought : (c : ℕ) → room_over next rooms c ≡ areas_in (content_of (then_sheet g.circular.sheet xs) c)
-    brought c = b c (room_at rooms c) ∙ ap (areas_then xs c) (g.circular.are c) ∙ sym (then_contents g.circular.sheet xs c)
 
-    cone : (c : ℕ) → contains nat_cmp cells c ≡ in_cone g.circular.sheet (keys_of xs) c
-    cone c = cone_is rooms readers cells ds g.ordered g.pairs a k l g.circular.sheet g.circular.are c ∙ ap (λ (ys : List ℕ). in_cone g.circular.sheet ys c) m
+-- none that turn
+pub none_came : (circles : BTreeSet ℕ) (turns : Turns) → turns.came.items ≡ [] → (c : ℕ) → is_one_of turns.came.items c ≡ true → contains nat_cmp circles c ≡ false
+none_came circles turns f c k = let z : is_one_of [] c ≡ true = ap (λ (xs : List ℕ). is_one_of xs c) (sym f) ∙ k in cc
 
 -- where each cell reads what it read before
-pub same_turns : (rooms next : Rooms) (readers : Bag) (circles : BTreeSet ℕ) (turns : Turns) (ds : List ℕ) (xs : List (ℕ × Option Content)) → ds ≡ keys_of xs → IsGraph rooms readers circles → Brings next xs → ReadsStay rooms next ds → turns.came.items ≡ [] → turns.went.items ≡ [] → AreTurns rooms next circles turns
-same_turns rooms next readers circles turns ds xs m g b e f h = record {
-  fresh = λ c k. let z : is_one_of [] c ≡ true = ap (λ (xs : List ℕ). is_one_of xs c) (sym f) ∙ k in cc;
-  after = circles_over (room_over next rooms) (room_at rooms) (turned_by circles turns) (contains nat_cmp circles) (all_stay rooms next xs b (subst (ReadsStay rooms next) m e)) same g.circular;
+pub same_turns : (rooms next : Rooms) (circles : BTreeSet ℕ) (turns : Turns) → AreCircles (room_at rooms) (contains nat_cmp circles) → ReadsStay rooms next → turns.came.items ≡ [] → turns.went.items ≡ [] → AreTurns rooms next circles turns
+same_turns rooms next circles turns g e f h = record {
+  fresh = none_came circles turns f;
+  after = circles_over (room_over next rooms) (room_at rooms) (turned_by circles turns) (contains nat_cmp circles) e same g;
 }
   where
     at : (b : Bool) → ((b || false) && true) ≡ b

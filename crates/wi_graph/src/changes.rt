@@ -3,7 +3,7 @@
 ghost use Rattle.std.specs.Prelude.{◌≡◌, ◌↔◌, IsTrue, IfOk};
 ghost use Rattle.std.specs.Map.{keys_of};
 ghost use Rattle.wi_graph.specs.Edges.{areas_in};
-ghost use Rattle.wi_graph.specs.Inner.Rooms.{items_of, room_at, room_over};
+ghost use Rattle.wi_graph.specs.Inner.Rooms.{items_of, room_at};
 ghost use Rattle.wi_graph.specs.Inner.Changes.{Brings, ReadsStay};
 
 use crate::rooms::Rooms;
@@ -51,26 +51,16 @@ fn room_for(alloc: Global, content: &Option<Content>) -> Result<Option<Vec<Rect>
     }
 }
 
-/// Whether each of these cells reads what it read before once what is next is put in. The work grows with what they read.
-pub(crate) fn reads_stay(rooms: &Rooms, next: &Rooms, cells: &[Address]) -> bool
-    ensures { IsTrue result ↔ ReadsStay rooms.now next.now cells.now }
+/// Whether each cell reads what it read before once what is next is put in. The work grows with what that reads.
+pub(crate) fn reads_stay(rooms: &Rooms, next: &Rooms) -> bool
+    ensures { IsTrue result ↔ ReadsStay rooms.now next.now }
 {
-    for cell in cells {
-        if !reads_same(rooms, next, *cell) {
+    for (cell, room) in next {
+        if !reads_this(rooms, *cell, room) {
             return false;
         }
     }
     true
-}
-
-/// Whether a cell reads what it read before once what is next is put in.
-fn reads_same(rooms: &Rooms, next: &Rooms, cell: Address) -> bool
-    ensures { IsTrue result ↔ (room_over next.now rooms.now cell ≡ room_at rooms.now cell) }
-{
-    match next.get(&cell) {
-        Some(room) => reads_this(rooms, cell, room),
-        None => true,
-    }
 }
 
 /// Whether these are the rectangles that a cell reads, if it has a formula.

@@ -1,14 +1,15 @@
 //! The graph of references.
 
-ghost use Rattle.std.specs.Prelude.{◌≡◌, [], ℕ, Some, None, IfOk, OnOk, OnErr};
+ghost use Rattle.std.specs.Prelude.{◌≡◌, ◌↔◌, [], ℕ, Some, None, IsTrue, IfOk, OnOk, OnErr};
 ghost use Rattle.std.specs.List.Sorted.{IsStrictlyIncreasing};
+ghost use Rattle.std.specs.Map.{keys_of};
 ghost use Rattle.std.specs.Option.{unwrap_or};
 ghost use Rattle.wi_parser.specs.Sheet.{Sheet};
 ghost use Rattle.wi_graph.specs.Circular.{circular};
 ghost use Rattle.wi_graph.specs.Reach.{is_one_of, in_cone};
 ghost use Rattle.wi_graph.specs.Edges.{AreEdgesOf, edges_after, staging};
 
-use crate::changes::rooms_of;
+use crate::changes::{changed_cells, reads_stay, rooms_of};
 use crate::cone::cone_of;
 use crate::rooms::{Rooms, take_back, take_over};
 use crate::sets::{listed, take_away};
@@ -68,34 +69,48 @@ impl Graph {
         }
     }
 
-    /// Makes ready an edit, which gives each named cell a content or none; of two for one cell the later counts. If memory
-    /// runs out, all is as before. The work grows with the cone of the edited cells, what its cells read and who reads
-    /// them, times logarithms. An edit after which each cell reads what it read costs what the edited cells read alone.
-    pub fn stage(&mut self, changes: &[(Address, Option<Content>)]) -> Result<(), AllocError>
+    /// Makes ready an edit, which gives each named cell a content or none; of two for one cell the later counts. Answers its
+    /// cone: the cells that read one of the edited cells, at any remove, with themselves, each once, in row-major order. If
+    /// memory runs out, all is as before. The work grows with the cone, what its cells read and who reads them, times
+    /// logarithms; where each cell reads what it read, what the cone reads costs nothing.
+    pub fn stage(
+        &mut self,
+        changes: &[(Address, Option<Content>)],
+    ) -> Result<Vec<Address>, AllocError>
         requires { self.old.staged ≡ None }
         ensures ok { OnOk result (self.new
             ≡ staging self.old.now (Some (edges_after self.old.now changes.now))) }
         ensures err { OnErr result (self.new ≡ self.old) }
+        ensures order { IfOk result (λ cone. IsStrictlyIncreasing cone.items) }
+        ensures cells { IfOk result (λ cone. (s : Sheet) → AreEdgesOf self.old.now s
+            → (c : ℕ) → is_one_of cone.items c ≡ in_cone s (keys_of changes.now) c) }
     {
+        let cells = changed_cells(self.alloc, changes)?;
+        let found = cone_of(self.alloc, &self.readers, &cells)?;
+        let cone = listed(self.alloc, &found)?;
         let coming = rooms_of(self.alloc, changes)?;
-        let turns = turns_of(
-            self.alloc,
-            &self.rooms,
-            &self.readers,
-            &self.circles,
-            changes,
-            &coming,
-        )?;
+        let turns = turns_of(self.alloc, &self.rooms, &self.circles, &coming, &found)?;
         bring_circles(&mut self.circles, &turns.came)?;
         match bring_in(self.alloc, &mut self.rooms, &mut self.readers, coming) {
             Ok(next) => {
                 self.staged = Some(Staged { next, turns });
-                Ok(())
+                Ok(cone)
             }
             Err(error) => {
                 take_away(&mut self.circles, &turns.came);
                 Err(error)
             }
+        }
+    }
+
+    /// Whether an edit is staged after which each cell reads what it read before. The work grows with what the edited cells
+    /// read.
+    pub fn reads_stay(&self) -> bool
+        ensures { IsTrue result ↔ (self.now.staged ≡ Some self.now.now) }
+    {
+        match &self.staged {
+            Some(staged) => reads_stay(&self.rooms, &staged.next),
+            None => false,
         }
     }
 

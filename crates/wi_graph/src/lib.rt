@@ -2,6 +2,7 @@
 #![tactic(auto)]
 
 mod changes;
+mod closing;
 mod cone;
 mod graph;
 mod held;

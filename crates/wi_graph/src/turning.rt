@@ -1,16 +1,16 @@
 //! Which cells an edit makes circular, and which it makes circular no longer.
 
-ghost use Rattle.std.specs.Prelude.{◌≡◌, ◌||◌, ℕ, [], true, false, IfOk, OnOk, OnErr};
+ghost use Rattle.std.specs.Prelude.{◌≡◌, ◌||◌, ◌⊎◌, ℕ, [], true, false, IsTrue, IfOk, OnOk, OnErr};
 ghost use Rattle.std.specs.Ordering.{nat_cmp};
-ghost use Rattle.std.specs.BTreeSet.{contains};
+ghost use Rattle.std.specs.BTreeSet.{btree_set_len, contains};
 ghost use Rattle.wi_graph.specs.Reach.{is_one_of};
-ghost use Rattle.wi_graph.specs.Inner.Changes.{Brings, went_from};
-ghost use Rattle.wi_graph.specs.Inner.Rooms.{IsGraph};
+ghost use Rattle.wi_graph.specs.Inner.Changes.{ReadsStay, IsEditCone, went_from};
+ghost use Rattle.wi_graph.specs.Inner.Rooms.{room_at, AreCircles};
 ghost use Rattle.wi_graph.specs.Inner.Stripping.{IsWithin};
-ghost use Rattle.wi_graph.specs.Inner.Turning.{AreTurns, SettlesCone};
+ghost use Rattle.wi_graph.specs.Inner.Turning.{reads_one_of, AreTurns, SettlesCone};
 
-use crate::changes::{Change, changed_cells, reads_stay};
-use crate::cone::cone_of;
+use crate::changes::reads_stay;
+use crate::closing::closes_cycle;
 use crate::held::held_cells;
 use crate::reads::reads_of;
 use crate::rooms::Rooms;
@@ -18,7 +18,6 @@ use crate::sets::{insert_all, listed, set_of, take_away, without};
 use crate::stripping::strip;
 use std::alloc::{AllocError, Global};
 use std::collections::BTreeSet;
-use wi_ranges::RangeIndex;
 use wi_values::Address;
 
 /// The cells that are circular after an edit alone, and those that are circular before it alone.
@@ -28,29 +27,40 @@ pub(crate) struct Turns {
     pub(crate) went: Vec<Address>,
 }
 
-/// The cells that turn once what is next is put in. Where each cell reads what it read before, the work grows with what the
-/// changed cells read; else with the cone of the changed cells, what its cells read and who reads them, times logarithms.
+/// The cells that turn once what is next is put in, of which the cone is given. Where each cell reads what it read before,
+/// or no cell is circular and no cycle is closed, the work grows with what is next; else with the cone and what its cells
+/// read, times logarithms.
 pub(crate) fn turns_of(
     alloc: Global,
     rooms: &Rooms,
-    readers: &RangeIndex,
     circles: &BTreeSet<Address>,
-    changes: &[Change],
     next: &Rooms,
+    cone: &BTreeSet<Address>,
 ) -> Result<Turns, AllocError>
-    requires graph { IsGraph rooms.now readers.now circles.now }
-    requires brings { Brings next.now changes.now }
+    requires circles { AreCircles (room_at rooms.now) (contains nat_cmp circles.now) }
+    requires cone { IsEditCone rooms.now next.now cone.now }
     ensures { IfOk result (AreTurns rooms.now next.now circles.now) }
 {
-    let cells = changed_cells(alloc, changes)?;
-    if reads_stay(rooms, next, &cells) {
+    if nothing_turns(rooms, circles, next, cone) {
         return Ok(no_turns(alloc));
     }
-    let cone = cone_of(alloc, readers, &cells)?;
-    let rest = circular_in_cone(alloc, rooms, next, circles, &cone)?;
+    let rest = circular_in_cone(alloc, rooms, next, circles, cone)?;
     let came = without(alloc, &rest, circles)?;
-    let went = went_of(alloc, circles, &cone, &rest)?;
+    let went = went_of(alloc, circles, cone, &rest)?;
     Ok(Turns { came, went })
+}
+
+/// Whether it is plain that no cell turns: each reads what it read before, or none is circular and no cycle is closed.
+fn nothing_turns(
+    rooms: &Rooms,
+    circles: &BTreeSet<Address>,
+    next: &Rooms,
+    cone: &BTreeSet<Address>,
+) -> bool
+    ensures { IsTrue result → ReadsStay rooms.now next.now
+        ⊎ ((btree_set_len circles.now ≡ 0) × (reads_one_of next.now.entries cone.now ≡ false)) }
+{
+    reads_stay(rooms, next) || (circles.is_empty() && !closes_cycle(next, cone))
 }
 
 /// No cells that turn.

@@ -1,11 +1,13 @@
 -- What an edit brings.
-use Rattle.std.specs.Prelude.{◌≡◌, ◌==◌, ◌&&◌, ℕ, true, cond, not, List, [], ◌∷◌, Option, filter}
+use Rattle.std.specs.Prelude.{◌≡◌, ◌==◌, ◌&&◌, ℕ, cond, not, List, [], ◌∷◌, Option, filter}
 use Rattle.std.specs.Ordering.{nat_cmp}
+use Rattle.std.specs.Map.{keys_of}
 use Rattle.std.specs.BTreeMap.{get}
 use Rattle.std.specs.BTreeSet.{BTreeSet, contains}
 use Rattle.wi_values.specs.Address.{Area}
 use Rattle.wi_parser.specs.declared.content.Content.{Content}
-use Rattle.wi_graph.specs.Reach.{is_one_of}
+use Rattle.wi_parser.specs.Sheet.{Sheet, content_of}
+use Rattle.wi_graph.specs.Reach.{in_cone}
 use Rattle.wi_graph.specs.Edges.{areas_in}
 use Rattle.wi_graph.specs.Inner.Rooms.{Rooms, put_over, room_at, room_over}
 
@@ -18,9 +20,15 @@ areas_then (x ∷ xs) c o = areas_then xs c (cond (c == x.0) (areas_in x.1) o)
 abbrev pub Brings : Rooms → List (ℕ × Option Content) → Type 0
 Brings next changes = (c : ℕ) (o : Option (List Area)) → put_over (get nat_cmp next c) o ≡ areas_then changes c o
 
--- these cells read once the next are put in what they read before
-abbrev pub ReadsStay : Rooms → Rooms → List ℕ → Type 0
-ReadsStay rooms next cells = (c : ℕ) → is_one_of cells c ≡ true → room_over next rooms c ≡ room_at rooms c
+-- each cell reads once the next are put in what it read before
+abbrev pub ReadsStay : Rooms → Rooms → Type 0
+ReadsStay rooms next = (c : ℕ) → room_over next rooms c ≡ room_at rooms c
+
+-- the set has the cone of an edit that brings the next
+pub record IsEditCone (rooms next : Rooms) (cone : BTreeSet ℕ) : Type 0 where
+  pub changes : List (ℕ × Option Content)
+  pub brings : Brings next changes
+  pub is_cone : (s : Sheet) → ((c : ℕ) → room_at rooms c ≡ areas_in (content_of s c)) → (c : ℕ) → contains nat_cmp cone c ≡ in_cone s (keys_of changes) c
 
 -- the circular cells of a cone that are not among the rest
 abbrev pub went_from : BTreeSet ℕ → BTreeSet ℕ → BTreeSet ℕ → List ℕ

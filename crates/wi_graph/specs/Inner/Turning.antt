@@ -1,5 +1,5 @@
 -- Which cells of a cone turn circular.
-use Rattle.std.specs.Prelude.{◌≡◌, ◌&&◌, ◌||◌, ℕ, Bool, true, false, cond, not, List}
+use Rattle.std.specs.Prelude.{◌≡◌, ◌&&◌, ◌||◌, ℕ, Bool, true, false, cond, not, List, Option}
 use Rattle.std.specs.List.{list_any}
 use Rattle.std.specs.Ordering.{nat_cmp}
 use Rattle.std.specs.Global.{Vec}
@@ -11,7 +11,7 @@ use Rattle.wi_graph.specs.Circular.{circular}
 use Rattle.wi_graph.specs.Reach.{is_one_of, SameOff, in_cone}
 use Rattle.wi_graph.specs.Edges.{areas_in}
 use Rattle.wi_graph.specs.Inner.Stripping.{items_there}
-use Rattle.wi_graph.specs.Inner.Rooms.{Rooms, room_over, AreCircles}
+use Rattle.wi_graph.specs.Inner.Rooms.{Rooms, items_of, areas_of, room_over, AreCircles}
 use Rattle.wi_graph.specs.declared.turning.Turns.{Turns}
 
 -- the rectangle has one of the circular cells outside the cone
@@ -21,6 +21,14 @@ has_circle_outside circles cells r = list_any (λ d. is_within r d && not (conta
 -- c reads one of the circular cells outside the cone
 abbrev pub reads_outside : BTreeMap ℕ (Vec Area) → BTreeSet ℕ → BTreeSet ℕ → ℕ → Bool
 reads_outside reads circles cells c = list_any (has_circle_outside circles cells) (items_there (get nat_cmp reads c))
+
+-- the rectangle has one of the cells
+abbrev pub has_one : BTreeSet ℕ → Area → Bool
+has_one cells r = list_any (is_within r) cells.keys
+
+-- what is next reads one of the cells
+abbrev pub reads_one_of : List (ℕ × Option (Vec Area)) → BTreeSet ℕ → Bool
+reads_one_of es cells = list_any (λ e. list_any (has_one cells) (areas_of (items_of e.1))) es
 
 -- the cell was circular or came, and did not go
 abbrev pub turned_by : BTreeSet ℕ → Turns → ℕ → Bool
