@@ -3,6 +3,7 @@ pub mod SavingEntries
 pub mod Showing
 pub mod ShowingEntries
 pub mod ReplacedCones
+pub mod KeptCones
 pub mod GenerationSteps
 pub mod KeptSteps
 pub mod KeepingSteps

@@ -1,6 +1,6 @@
 //! Cones of replaced cells, by the graph.
 
-ghost use Rattle.std.specs.Prelude.{◌≡◌, ◌∷◌, ℕ, [], None, All, IsSome, IfOk, OnOk};
+ghost use Rattle.std.specs.Prelude.{◌≡◌, ◌∷◌, ℕ, [], None, All, IsSome, IfSome, IfOk, OnOk};
 ghost use Rattle.std.specs.Ordering.{nat_cmp};
 ghost use Rattle.std.specs.BTreeMap.{get};
 ghost use Rattle.std.specs.BTreeSet.{contains};
@@ -31,6 +31,16 @@ pub fn take_cones(alloc: Global, cones: &mut Cones) -> Cones
         return BTreeMap::new(alloc);
     }
     taken
+}
+
+/// Lets the cones go over the edit that is staged if after it some cell reads other cells than before. Takes no memory.
+pub fn keep_over_edit(alloc: Global, graph: &Graph, cones: &mut Cones)
+    ensures { (s t : Sheet) → AreEdgesOf graph.now.now s → IfSome graph.now.staged (λ es. AreEdgesOf es t)
+        → AreAllCones s cones.old → AreAllCones t cones.new }
+{
+    if !graph.reads_stay() {
+        *cones = BTreeMap::new(alloc);
+    }
 }
 
 /// Adds the cones of the replaced cells that have none yet. The work for each is that of its cone. If memory runs out, those

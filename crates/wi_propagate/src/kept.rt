@@ -9,16 +9,17 @@ ghost use Rattle.wi_store.specs.Store.{applied, Applies};
 ghost use Rattle.wi_cache.specs.Entries.{kept};
 ghost use Rattle.wi_graph.specs.Circular.{circular};
 ghost use Rattle.wi_graph.specs.Edges.{AreEdgesOf};
-ghost use Rattle.wi_graph.specs.Reach.{in_cone};
+ghost use Rattle.wi_graph.specs.Reach.{is_one_of, in_cone};
 ghost use Rattle.wi_sheet.specs.Shown as show;
 ghost use Rattle.wi_sheet.specs.TableEntry.{table_entry, entry_demanded};
 ghost use Rattle.wi_sheet.specs.Demand.{reaching, demanded, wants};
 ghost use Rattle.wi_sheet.specs.Settled.{IsWhatIfSettled};
 ghost use Rattle.wi_propagate.specs.KeptSheet.{generation_in, is_kept, unkept, IsAtHand, HasRoomFor, KeepsAll, KeepsNoMore, KeepsWhileRoom};
 ghost use Rattle.wi_propagate.specs.Right.{AreKeptRight};
+ghost use Rattle.wi_propagate.specs.Inner.Keeping.{HasGeneration};
 
 use crate::calculator::Calculator;
-use crate::cones::{Cones, take_cones};
+use crate::cones::{Cones, keep_over_edit, take_cones};
 use crate::generations::{Generations, make_room, raise};
 use crate::keeping::Keeping;
 use crate::table_entry::open_entry;
@@ -127,7 +128,8 @@ impl Calculator for KeptCalculator {
     }
 
     /// One edit. The work grows with the cone of the edited cells, what its cells read and who reads them, times logarithms. An
-    /// accepted edit is the new generation of each cell of the cone. What is kept stays; the cones that are known go.
+    /// accepted edit is the new generation of each cell of the cone. What is kept stays; so do the cones that are known, if each
+    /// cell reads what it read before.
     fn apply(&mut self, changes: Vec<(Address, Option<Content>)>) -> Result<(), StoreFault>
         ensures applied { Applies (applied self.old.stored changes.items) result self.old.stored self.new.stored }
         ensures same_counts { self.new.counts ≡ self.old.counts }
@@ -136,15 +138,12 @@ impl Calculator for KeptCalculator {
             ≡ (if in_cone self.old.stored.sheet cells c then self.new.stored.edits else generation_in self.old.generations c)) }
         ensures same_generations { OnErr result ((c : ℕ) → generation_in self.new.generations c ≡ generation_in self.old.generations c) }
     {
-        let cells = edited_cells(self.alloc, &changes)?;
-        let cone = self.graph.cone(&cells)?;
-        make_room(&mut self.generations, &cone)?;
-        self.graph.stage(&changes)?;
-        match self.store.apply(changes) {
+        let cone = self.graph.stage(&changes)?;
+        match edit(&mut self.store, &mut self.generations, &cone, changes) {
             Ok(()) => {
+                keep_over_edit(self.alloc, &self.graph, &mut self.cones);
                 self.graph.commit();
                 raise(&mut self.generations, &cone, self.store.edits());
-                self.cones = BTreeMap::new(self.alloc);
                 Ok(())
             }
             Err(fault) => {
@@ -295,18 +294,19 @@ impl Calculator for KeptCalculator {
     }
 }
 
-// The cells that an edit names.
-fn edited_cells(
-    alloc: Global,
-    changes: &[(Address, Option<Content>)],
-) -> Result<Vec<Address>, AllocError>
-    ensures { IfOk result (λ cells. cells.items ≡ keys_of changes.now) }
+// Does an edit of a sheet, with room for the generations of its cone. After a refusal the sheet is as it was.
+fn edit(
+    store: &mut Store,
+    generations: &mut Generations,
+    cone: &[Address],
+    changes: Vec<(Address, Option<Content>)>,
+) -> Result<(), StoreFault>
+    ensures applied { Applies (applied store.old changes.items) result store.old store.new }
+    ensures same { (c : ℕ) → generation_in generations.new.entries c ≡ generation_in generations.old.entries c }
+    ensures there { OnOk result ((c : ℕ) → is_one_of cone.now c ≡ true → HasGeneration generations.new.entries c) }
 {
-    let mut cells = Vec::new(alloc);
-    for (cell, _) in changes {
-        cells.push(*cell)?;
-    }
-    Ok(cells)
+    make_room(generations, cone)?;
+    store.apply(changes)
 }
 
 // Whether one of the cells is circular whose values an entry asks for: its formula cell and its replacement cells.

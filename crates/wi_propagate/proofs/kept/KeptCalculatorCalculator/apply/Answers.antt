@@ -1,4 +1,4 @@
-use Rattle.std.proofs.Common.{rules, ◌≡◌, if◌then◌else◌, ◌∙◌, ℕ, List, Option, None, Ok, ap, sym, subst}
+use Rattle.std.proofs.Common.{rules, ◌≡◌, if◌then◌else◌, ◌∙◌, ℕ, List, Option, Some, None, Ok, IfSome, ap, sym, subst}
 use Rattle.std.specs.Map.{keys_of}
 use Rattle.std.specs.Option.{unwrap_or}
 use Rattle.wi_parser.specs.declared.content.Content.{Content}
@@ -14,17 +14,20 @@ invariant_of-self-in-Ok c =
     let i = c.self.inside in
     let h = c.self.invariant in
     let ch = c.args.changes.items in
-    let graph_is : c.commit.new.self ≡ staging (edges_after i.graph.now ch) None =
-    c.commit.ensures ∙ ap (λ (x : Staging). staging (unwrap_or x.staged x.now) None) c.in_ok-stage.ensures.ok ∙ ap (λ (xs : List (ℕ × Option Content)). staging (edges_after i.graph.now xs) None) c.deref-4.ensures.value in
-    let accepted : applied i.store ch ≡ Ok c.apply.new.self = c.in-Ok.ensures in
-    let cells = c.deref-2.ensures.value ∙ c.in_ok-cells.ensures ∙ ap (λ (xs : List (ℕ × Option Content)). keys_of xs) c.deref.ensures.value in
-    let cone : (d : ℕ) → is_one_of c.in_ok-cone.cone.items d ≡ in_cone i.store.sheet (keys_of ch) d = λ d. c.in_ok-cone.ensures.cells i.store.sheet h.1 d ∙ ap (λ (xs : List ℕ). in_cone i.store.sheet xs d) cells in (
+    let staged_is : c.stage.new.self ≡ staging i.graph.now (Some (edges_after i.graph.now ch)) =
+    c.in_ok-cone.ensures.ok ∙ ap (λ (xs : List (ℕ × Option Content)). staging i.graph.now (Some (edges_after i.graph.now xs))) c.deref.ensures.value in
+    let graph_is : c.commit.new.self ≡ staging (edges_after i.graph.now ch) None = c.commit.ensures ∙ ap (λ (x : Staging). staging (unwrap_or x.staged x.now) None) staged_is in
+    let accepted : applied i.store ch ≡ Ok c.edit.new.store = c.in-Ok.ensures.applied in
+    let edges = edges_applied i.graph.now i.store c.edit.new.store ch h.1 accepted in
+    let cone : (d : ℕ) → is_one_of c.in_ok-cone.cone.items d ≡ in_cone i.store.sheet (keys_of ch) d =
+    λ d. c.in_ok-cone.ensures.cells i.store.sheet h.1 d ∙ ap (λ (xs : List (ℕ × Option Content)). in_cone i.store.sheet (keys_of xs) d) c.deref.ensures.value in (
       h.0,
-      subst (λ (x : Staging). AreEdgesOf x.now c.apply.new.self.sheet) (sym graph_is) (edges_applied i.graph.now i.store c.apply.new.self ch h.1 accepted),
+      subst (λ (x : Staging). AreEdgesOf x.now c.edit.new.store.sheet) (sym graph_is) edges,
       ap (λ (x : Staging). x.staged) graph_is,
-      right_over_edit i.store c.apply.new.self ch c.in_ok-cone.cone.items c.edits.result i.generations.entries c.make_room.new.generations.entries c.raise.new.generations.entries _ i.meter i.meter accepted cone c.make_room.ensures.same
-          (λ d. c.raise.ensures d ∙ ap (λ (xs : List ℕ). if is_one_of xs d then c.edits.result else generation_in c.make_room.new.generations.entries d) c.deref-in-Ok.ensures.value) c.edits.ensures h.3,
-      (search rules),
+      right_over_edit i.store c.edit.new.store ch c.in_ok-cone.cone.items c.edits.result i.generations.entries c.edit.new.generations.entries c.raise.new.generations.entries _ i.meter i.meter accepted cone c.edit.ensures.same
+          (λ d. c.raise.ensures d ∙ ap (λ (xs : List ℕ). if is_one_of xs d then c.edits.result else generation_in c.edit.new.generations.entries d) c.deref-in-Ok.ensures.value) c.edits.ensures h.3,
+      c.keep_over_edit.ensures i.store.sheet c.edit.new.store.sheet (subst (λ (x : Staging). AreEdgesOf x.now i.store.sheet) (sym staged_is) h.1)
+          (subst (λ (x : Staging). IfSome x.staged (λ es. AreEdgesOf es c.edit.new.store.sheet)) (sym staged_is) edges) h.4,
     )
 
 pub raise-requires : goal.raise-requires
