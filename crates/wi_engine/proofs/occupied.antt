@@ -1,3 +1,4 @@
 -- What the proofs about the occupied cells of a rectangle use.
 pub mod NextCells
+pub mod NextFormulas
 pub mod ReadLists

@@ -1,6 +1,6 @@
 //! One evaluation over what is known, and what is to be found for it.
 
-ghost use Rattle.std.specs.Prelude.{◌≡◌, ℕ, true, false, nat_lt, if◌then◌else◌, IfOk, OnErr};
+ghost use Rattle.std.specs.Prelude.{◌≡◌, ℕ, true, false, length, nat_lt, if◌then◌else◌, IfOk, OnErr};
 ghost use Rattle.std.specs.List.{list_any};
 ghost use Rattle.wi_values.specs.Address.{is_within, size_of};
 ghost use Rattle.wi_parser.specs.Sheet.{content_of, has_formula, put_all};
@@ -12,11 +12,12 @@ ghost use Rattle.wi_sheet.specs.CellValue as show;
 ghost use Rattle.wi_sheet.specs.Demand.{reads_here};
 ghost use Rattle.wi_sheet.specs.Inner.Spending.{NeverFall};
 ghost use Rattle.wi_engine.specs.Inner.Findings.{AreAllRight};
-ghost use Rattle.wi_engine.specs.Inner.Attempt.{AsksAt, IsLacking, IsSmallestWith, AreOfRectangle};
+ghost use Rattle.wi_engine.specs.Inner.Attempt.{AsksAt, IsLacking, IsSmallestWith, AreTogether};
 ghost use Rattle.wi_engine.specs.Inner.SettledFrames.{IsValueByKnown};
 
 use crate::findings::Findings;
 use crate::lookup::Known;
+use crate::occupied::with_next_formulas;
 use crate::seen::{Seen, content_in};
 use std::alloc::{AllocError, Global};
 use wi_functions::{Meter, Outcome, evaluate};
@@ -57,17 +58,25 @@ pub fn attempt(
     evaluate(alloc, formula, &known, meter)
 }
 
-/// The cells with a formula that are to be found together with one that a formula lacks: those of the smallest of its
-/// rectangles that hold it, so that a large one is not found for the sake of a cell that is read alone. The work grows
-/// with the count of its rectangles, and as that of `Store::formulas_in`.
-pub fn together(store: &Store, formula: &Formula, at: Address) -> Result<Vec<Address>, AllocError>
+/// The cells with a formula that are to be found together with one that a formula lacks, that one first: those that follow it
+/// in the smallest of the formula's rectangles that hold it, as many as were found before. What is found of a rectangle that is
+/// read whole then doubles each time, and for a cell that is read alone no large one is found. The work grows with the count
+/// of the formula's rectangles, and as that of `with_next_formulas`.
+pub fn together(
+    alloc: Global,
+    store: &Store,
+    formula: &Formula,
+    at: Address,
+    found: &Findings,
+) -> Result<Vec<Address>, AllocError>
     requires read { reads_here formula.now at ≡ true }
     requires formula { has_formula (content_of store.now.sheet at) ≡ true }
     ensures read { IfOk result (λ v. (d : ℕ) → is_one_of v.items d ≡ true → (reads_here formula.now d ≡ true) × (has_formula (content_of store.now.sheet d) ≡ true)) }
     ensures wanted { IfOk result (λ v. is_one_of v.items at ≡ true) }
-    ensures whole { IfOk result (λ v. AreOfRectangle store.now.sheet formula.now at v.items) }
+    ensures following { IfOk result (λ v. AreTogether store.now.sheet formula.now at (length found.now.cells.entries) v.items) }
 {
-    store.formulas_in(smallest_with(formula.rectangles(), at))
+    let area = smallest_with(formula.rectangles(), at);
+    with_next_formulas(alloc, store, area, at, found.cells.len())
 }
 
 /// The one of rectangles that holds a cell and has the fewest cells, the first where more have as few. The work grows

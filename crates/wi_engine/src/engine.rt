@@ -225,7 +225,7 @@ fn settle<M: Memo>(
 }
 
 /// What a frame waits for where its formula lacks a value: for a cell, with those that are found together with it.
-fn awaited(store: &Store, frame: &Frame, want: Want) -> Result<Waiting, AllocError>
+fn awaited(alloc: Global, store: &Store, frame: &Frame, want: Want) -> Result<Waiting, AllocError>
     requires asks { AsksAt store.now.sheet frame.now.key.world frame.now.key.cell want }
     requires lacking { IsLacking store.now.sheet frame.now.key.world frame.now.found want }
     ensures awaits { IfOk result (Awaits store.now.sheet (case_at frame.now.key) frame.now.found) }
@@ -236,7 +236,8 @@ fn awaited(store: &Store, frame: &Frame, want: Want) -> Result<Waiting, AllocErr
             let Some(formula) = formula_at(store, frame.key.cell) else {
                 unreachable!()
             };
-            Ok(Waiting::Cells(at, together(store, formula, at)?))
+            let others = together(alloc, store, formula, at, &frame.found)?;
+            Ok(Waiting::Cells(at, others))
         }
         Want::WhatIf(at, pairs) => Ok(Waiting::WhatIf(at, pairs)),
     }
@@ -278,7 +279,7 @@ fn advance<M: Memo>(
             meter,
         )? {
             Outcome::Done(value) => return Ok(Advance::Done(value)),
-            Outcome::Needs(want) => frame.waiting = awaited(store, frame, want)?,
+            Outcome::Needs(want) => frame.waiting = awaited(alloc, store, frame, want)?,
         }
     }
 }

@@ -1,22 +1,23 @@
 -- The cells of one rectangle that a formula reads.
-use Rattle.std.proofs.Common.{◌≡◌, ◌==◌, ℕ, ◌||◌, ◌&&◌, Bool, true, false, cond, List, [], ◌∷◌, filter, Contains, refl, ap, sym, ◌∙◌, subst, inl, inr, ◌⊎◌, eq-eqb}
-use Rattle.std.proofs.lemmas.Bool.{and_from, and_parts, or_right}
+use Rattle.std.proofs.Common.{◌≡◌, ◌==◌, ℕ, zero, suc, ◌||◌, ◌&&◌, Bool, true, false, cond, List, [], ◌∷◌, filter, take, Some, Contains, refl, ap, sym, ◌∙◌, subst, inl, inr, ◌⊎◌, eq-eqb}
+use Rattle.std.proofs.lemmas.Bool.{and_parts, or_left, or_right}
 use Rattle.std.specs.List.{list_any}
 use Rattle.std.specs.Map.{keys_of}
 use Rattle.wi_values.specs.Address.{Area, is_within}
 use Rattle.wi_parser.specs.declared.expr.Reference.{Reference}
 use Rattle.wi_parser.specs.Tree.{Tree}
 use Rattle.wi_parser.specs.Leaves.{Leaf, cell_leaf, rectangle_leaf, what_if_leaf, leaves}
-use Rattle.wi_parser.specs.Sheet.{Sheet, content_of, has_formula, cells_with_formula}
+use Rattle.wi_parser.specs.Sheet.{Sheet, content_of, has_formula}
 use Rattle.wi_parser.specs.Reads.{cell_area, leaf_rectangles, rectangles_of}
 use Rattle.wi_parser.proofs.Rectangles.{one_cell, reads_within}
 use Rattle.wi_graph.specs.Reach.{is_one_of}
 use Rattle.wi_graph.proofs.Layers.{list_any-both}
-use Rattle.wi_graph.proofs.Walks.{same_cell, found, finds, formula_cell}
+use Rattle.wi_graph.proofs.Walks.{same_cell, finds}
 use Rattle.wi_sheet.proofs.Demands.{here_reads}
 use Rattle.wi_sheet.specs.Demand.{leaf_reads_here, reads_here}
 use Rattle.wi_sheet.proofs.Members.{IsIn, in_contained, of_map, of_flat, found_in}
-use Rattle.wi_engine.specs.Inner.Attempt.{IsSmallestWith, AreOfRectangle}
+use Rattle.wi_engine.specs.Inner.Attempt.{IsSmallestWith, AreTogether}
+use Rattle.wi_engine.specs.Inner.ReadCells.{cells_after, formulas_after, is_after}
 
 -- ---- a rectangle is of one cell, or each of its cells is read here
 
@@ -57,15 +58,7 @@ smallest_whole t rs a r e h =
     let l = of_flat leaf_rectangles (leaves t) r (in_contained (rectangles_of t) r (subst (λ (xs : List Area). Contains xs r) e h.one_of)) in
     more_pass (leaf_reads_here l.0) (reads_here t) (λ d m. found_in (λ k. leaf_reads_here k d) (leaves t) l.0 l.1 m) r (leaf_whole l.0 r l.2)
 
--- ---- the cells with a formula of a rectangle
-
--- a cell with a formula is among those of a rectangle that holds it
-pub among_them : (s : Sheet) (rs : List Area) (r : Area) (cells : List ℕ) (a : ℕ) → IsSmallestWith rs a r →
-    cells ≡ filter (is_within r) (cells_with_formula s) → has_formula (content_of s a) ≡ true → is_one_of cells a ≡ true
-among_them s rs r cells a k f h =
-    ap (λ (xs : List ℕ). is_one_of xs a) f
-    ∙ sym (list_any-both (λ (x : ℕ). x == a) (is_within r) (cells_with_formula s))
-    ∙ found (λ (x : ℕ). x == a && is_within r x) (cells_with_formula s) a (formula_cell s a h) (and_from (a == a) _ (eq-eqb a a refl) k.holds)
+-- ---- one of those that are listed
 
 -- one of those that pass a test passes it
 passes : (p : ℕ → Bool) (xs : List ℕ) (a : ℕ) → is_one_of (filter p xs) a ≡ true → p a ≡ true
@@ -87,22 +80,47 @@ wider p (x ∷ xs) a h = at (p x) h (wider p xs a)
     at true h ih = later (x == a) (is_one_of (filter p xs) a) (is_one_of xs a) ih h
     at false h ih = or_right (x == a) _ (ih h)
 
--- each of them has a formula, and is read here
-pub they_are_read : (s : Sheet) (t : Tree) (rs : List Area) (r : Area) (cells : List ℕ) (a : ℕ) → rs ≡ rectangles_of t → IsSmallestWith rs a r →
-    cells ≡ filter (is_within r) (cells_with_formula s) → reads_here t a ≡ true → (d : ℕ) → is_one_of cells d ≡ true → (reads_here t d ≡ true) × (has_formula (content_of s d) ≡ true)
-they_are_read s t rs r cells a e k f h d m =
-    let listed = ap (λ (xs : List ℕ). is_one_of xs d) (sym f) ∙ m in
-    (at (smallest_whole t rs a r e k) k.holds (passes (is_within r) (cells_with_formula s) d listed), passes (λ c. has_formula (content_of s c)) (keys_of s) d (wider (is_within r) (cells_with_formula s) d listed))
-  where
-    at : IsWhole (reads_here t) r → is_within r a ≡ true → is_within r d ≡ true → reads_here t d ≡ true
-    at (inl single) w inside = ap (reads_here t) (single d a inside w) ∙ h
-    at (inr whole) w inside = whole d inside
+-- one of the first is one of all
+first_of_all : (n : ℕ) (xs : List ℕ) (a : ℕ) → is_one_of (take n xs) a ≡ true → is_one_of xs a ≡ true
+first_of_all zero xs a h = absurd (let z = h in cc)
+first_of_all (suc n) [] a h = h
+first_of_all (suc n) (x ∷ xs) a h = later (x == a) (is_one_of (take n xs) a) (is_one_of xs a) (first_of_all n xs a) h
 
--- they are those of one rectangle
-pub of_rectangle : (s : Sheet) (t : Tree) (rs : List Area) (r : Area) (cells : List ℕ) (a : ℕ) → rs ≡ rectangles_of t → IsSmallestWith rs a r →
-    cells ≡ filter (is_within r) (cells_with_formula s) → AreOfRectangle s t a cells
-of_rectangle s t rs r cells a e k f = record {
+-- a cell that comes after one in a rectangle, and has a formula
+comes_after : (s : Sheet) (r : Area) (a d : ℕ) → is_one_of (formulas_after s r a) d ≡ true → (is_within r d ≡ true) × (has_formula (content_of s d) ≡ true)
+comes_after s r a d h =
+    let after = wider (λ c. has_formula (content_of s c)) (cells_after s r (Some a)) d h in
+    (passes (is_within r) (keys_of s) d (wider (is_after (Some a)) (filter (is_within r) (keys_of s)) d after), passes (λ c. has_formula (content_of s c)) (cells_after s r (Some a)) d h)
+
+-- ---- a cell, and those with a formula that follow it
+
+-- it is one of them
+pub among_them : (s : Sheet) (r : Area) (cells : List ℕ) (a more : ℕ) → cells ≡ a ∷ take more (formulas_after s r a) → is_one_of cells a ≡ true
+among_them s r cells a more f = ap (λ (xs : List ℕ). is_one_of xs a) f ∙ or_left (a == a) _ (eq-eqb a a refl)
+
+-- each of them has a formula, and is read here
+pub they_are_read : (s : Sheet) (t : Tree) (rs : List Area) (r : Area) (cells : List ℕ) (a more : ℕ) → rs ≡ rectangles_of t → IsSmallestWith rs a r →
+    cells ≡ a ∷ take more (formulas_after s r a) → reads_here t a ≡ true → has_formula (content_of s a) ≡ true → (d : ℕ) → is_one_of cells d ≡ true →
+    (reads_here t d ≡ true) × (has_formula (content_of s d) ≡ true)
+they_are_read s t rs r cells a more e k f h g d m = by (a == d) refl (sym (ap (λ (xs : List ℕ). is_one_of xs d) f) ∙ m)
+  where
+    beside : IsWhole (reads_here t) r → is_within r a ≡ true → is_within r d ≡ true → reads_here t d ≡ true
+    beside (inl single) w inside = ap (reads_here t) (single d a inside w) ∙ h
+    beside (inr whole) w inside = whole d inside
+
+    by : (b : Bool) → (a == d) ≡ b → (b || is_one_of (take more (formulas_after s r a)) d) ≡ true → (reads_here t d ≡ true) × (has_formula (content_of s d) ≡ true)
+    by true i l =
+        let same : a ≡ d = same_cell d a i in
+        (ap (reads_here t) (sym same) ∙ h, ap (λ (c : ℕ). has_formula (content_of s c)) (sym same) ∙ g)
+    by false i l =
+        let there = comes_after s r a d (first_of_all more (formulas_after s r a) d l) in
+        (beside (smallest_whole t rs a r e k) k.holds there.0, there.1)
+
+-- they are of one rectangle
+pub of_rectangle : (s : Sheet) (t : Tree) (rs : List Area) (r : Area) (cells : List ℕ) (a more found : ℕ) → more ≡ found → rs ≡ rectangles_of t → IsSmallestWith rs a r →
+    cells ≡ a ∷ take more (formulas_after s r a) → AreTogether s t a found cells
+of_rectangle s t rs r cells a more found m e k f = record {
   rectangle = r;
   smallest = subst (λ (xs : List Area). IsSmallestWith xs a r) e k;
-  cells = f;
+  cells = f ∙ ap (λ (n : ℕ). a ∷ take n (formulas_after s r a)) m;
 }

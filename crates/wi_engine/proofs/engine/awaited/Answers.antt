@@ -21,7 +21,7 @@ together-requires-clause-formula c =
     let lacking = rw c.in-Cell.is at c.requires.lacking in
     put_formula c.args.store.now.sheet c.args.frame.now.key.world c.in-Cell.at lacking.0
 
-pub returns-in_ok-together-in-Cell-clause-awaits : goal.returns-in_ok-together-in-Cell-clause-awaits
-returns-in_ok-together-in-Cell-clause-awaits c =
-    awaits_cells c.args.store.now.sheet c.args.frame.now.key c.args.frame.now.found c.args.want c.in-Some.formula.now c.in-Cell.at c.in_ok-together-in-Cell.field-0
-    c.requires.asks c.requires.lacking c.in-Cell.is c.in-Some.ensures.found c.in_ok-together-in-Cell.ensures.read
+pub returns-in_ok-others-in-Cell-clause-awaits : goal.returns-in_ok-others-in-Cell-clause-awaits
+returns-in_ok-others-in-Cell-clause-awaits c =
+    awaits_cells c.args.store.now.sheet c.args.frame.now.key c.args.frame.now.found c.args.want c.in-Some.formula.now c.in-Cell.at c.in_ok-others-in-Cell.others
+    c.requires.asks c.requires.lacking c.in-Cell.is c.in-Some.ensures.found c.in_ok-others-in-Cell.ensures.read
