@@ -1,4 +1,4 @@
-use Rattle.std.proofs.Common.{◌≡◌, ◌≤◌, ◌-◌, ◌⊎◌, ◌||◌, ◌∙◌, ℕ, false, List, length, Some, IfSome, OnOk, is_some, ap, sym, subst}
+use Rattle.std.proofs.Common.{◌≡◌, ◌≤◌, ◌-◌, ◌⊎◌, ◌||◌, ◌∙◌, ℕ, false, List, length, Some, IfSome, OnOk, is_some, ap, sym, subst, rules}
 use Rattle.std.specs.Option.{option_or}
 use Rattle.wi_values.specs.declared.replacement.Replacement.{Replacement}
 use Rattle.wi_parser.specs.Sheet.{put_all}
@@ -13,6 +13,9 @@ use Rattle.wi_propagate.specs.KeptSheet.{generation_in, key_in}
 use Rattle.wi_propagate.proofs.KeptSteps.{found_is_kept}
 use Rattle.wi_propagate.proofs.KeepingSteps.{KeepsIn, right_after, put_found, found_after, kept_after, known_after, gives_up_after}
 use Rattle.wi_propagate.proofs.keeping.KeepingMemo.keep.Goals as goal
+
+pub returns-clause-there : goal.returns-clause-there
+returns-clause-there c = search rules
 
 pub invariant_of-self-2 : goal.invariant_of-self-2
 invariant_of-self-2 c =
