@@ -10,8 +10,7 @@ ghost use Rattle.wi_calls.specs.Inner.Rows.{function_of};
 use crate::function::Function::{self, Lazy, References, Values};
 use crate::function::LazyFunction::{Choose, If, IfError, IfNa};
 use crate::function::ReferenceFunction::{
-    And, Average, Count, CountA, CountIf, HLookup, Index, Match, Max, Min, Or, Product, Sum, SumIf,
-    SumProduct, VLookup,
+    And, Average, Count, CountA, Max, Min, Or, Product, Sum,
 };
 use crate::function::Test;
 use crate::function::TextFunction::{Concatenate, Exact, Find, Left, Len, Mid, Rept, Right};
@@ -25,7 +24,7 @@ use wi_values::ErrorKind;
 /// function.
 type Row = (&'static str, usize, Option<usize>, Function);
 
-static ROWS: [Row; 51] = [
+static ROWS: [Row; 44] = [
     ("ABS", 1, Some(1), Values(Abs)),
     ("AND", 1, None, References(And)),
     ("AVERAGE", 1, None, References(Average)),
@@ -33,15 +32,12 @@ static ROWS: [Row; 51] = [
     ("CONCATENATE", 1, None, Values(Text(Concatenate))),
     ("COUNT", 1, None, References(Count)),
     ("COUNTA", 1, None, References(CountA)),
-    ("COUNTIF", 2, Some(2), References(CountIf)),
     ("EXACT", 2, Some(2), Values(Text(Exact))),
     ("FALSE", 0, Some(0), Values(False)),
     ("FIND", 2, Some(3), Values(Text(Find))),
-    ("HLOOKUP", 3, Some(4), References(HLookup)),
     ("IF", 1, Some(3), Lazy(If)),
     ("IFERROR", 2, Some(2), Lazy(IfError)),
     ("IFNA", 2, Some(2), Lazy(IfNa)),
-    ("INDEX", 2, Some(3), References(Index)),
     ("INT", 1, Some(1), Values(Int)),
     ("ISBLANK", 1, Some(1), Values(Is(Test::Blank))),
     ("ISERR", 1, Some(1), Values(Is(Test::Err))),
@@ -53,7 +49,6 @@ static ROWS: [Row; 51] = [
     ("ISTEXT", 1, Some(1), Values(Is(Test::Text))),
     ("LEFT", 1, Some(2), Values(Text(Left))),
     ("LEN", 1, Some(1), Values(Text(Len))),
-    ("MATCH", 2, Some(3), References(Match)),
     ("MAX", 1, None, References(Max)),
     ("MID", 3, Some(3), Values(Text(Mid))),
     ("MIN", 1, None, References(Min)),
@@ -71,16 +66,13 @@ static ROWS: [Row; 51] = [
     ("ROUNDUP", 1, Some(2), Values(Round(Mode::Away))),
     ("SIGN", 1, Some(1), Values(Sign)),
     ("SUM", 1, None, References(Sum)),
-    ("SUMIF", 2, Some(3), References(SumIf)),
-    ("SUMPRODUCT", 1, None, References(SumProduct)),
     ("TRUE", 0, Some(0), Values(True)),
     ("TRUNC", 1, Some(2), Values(Round(Mode::Toward))),
     ("VALUE", 1, Some(1), Values(Value)),
-    ("VLOOKUP", 3, Some(4), References(VLookup)),
 ];
 
 /// The function that a call with that name, in capitals, and so many parameters is a call of: `UnknownName` where none has
-/// the name, else `BadValue` where it doesn't take so many. Seven comparisons of names at most.
+/// the name, else `BadValue` where it doesn't take so many. Six comparisons of names at most.
 pub fn function_for(name: &str, count: usize) -> Result<Function, ErrorKind>
     ensures found { IfOk result (λ f. (args : List Argument) → length args ≡ count → call_value name.now args ≡ applied f args) }
     ensures refused { IfErr result (λ e. (args : List Argument) → length args ≡ count → call_value name.now args ≡ Fault e) }
