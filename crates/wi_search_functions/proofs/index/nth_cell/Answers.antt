@@ -1,0 +1,22 @@
+use Rattle.std.proofs.Common.{◌≡◌, ℕ, ◌<◌, ◌+◌, true, Ok, sym, ap, ◌∙◌, subst, arith, ℤ, FitsSigned, rules}
+use Rattle.std.proofs.lemmas.Int.{to_z-of_z}
+use Rattle.std.specs.Int.{w128}
+use Rattle.wi_values.specs.Address.{is_within}
+use Rattle.wi_standard_functions.specs.Lookup.{place_among}
+use Rattle.wi_search_functions.specs.Inner.Lines.{height, width}
+use Rattle.wi_search_functions.proofs.Endings.{nth_is, nth_within}
+use Rattle.wi_search_functions.proofs.index.nth_cell.Goals as goal
+
+pub returns : goal.returns
+returns c =
+    let fits_j : FitsSigned w128 c.args.j = search rules in
+    let same_j = to_z-of_z w128 c.args.j fits_j in
+    let fits_k : FitsSigned w128 c.args.k = search rules in
+    let same_k = to_z-of_z w128 c.args.k fits_k in
+    let r = c.args.area in
+    let row_is : Ok c.in_ok-row.row ≡ place_among (height r) c.args.j = c.in_ok-row.ensures.place ∙ ap (λ (z : ℤ). place_among c.height.result z) same_j ∙ ap (λ (n : ℕ). place_among n c.args.j) c.height.ensures in
+    let column_is : Ok c.in_ok-column.column ≡ place_among (width r) c.args.k = c.in_ok-column.ensures.place ∙ ap (λ (z : ℤ). place_among c.width.result z) same_k ∙ ap (λ (n : ℕ). place_among n c.args.k) c.width.ensures in
+    let row_within : c.in_ok-row.row < height r = subst (λ (n : ℕ). c.in_ok-row.row < n) c.height.ensures c.in_ok-row.ensures.within in
+    let column_within : c.in_ok-column.column < width r = subst (λ (n : ℕ). c.in_ok-column.column < n) c.width.ensures c.in_ok-column.ensures.within in
+    (λ cells. nth_is cells r c.args.j c.args.k c.in_ok-row.row c.in_ok-column.column row_is column_is row_within column_within ∙ ap cells (sym c.cell_at.ensures),
+    subst (λ (a : ℕ). is_within r a ≡ true) (sym c.cell_at.ensures) (nth_within r c.in_ok-row.row c.in_ok-column.column row_within column_within))

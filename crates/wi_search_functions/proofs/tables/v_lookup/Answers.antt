@@ -1,0 +1,120 @@
+use Rattle.std.specs.Borrow.{Bor}
+use Rattle.wi_values.specs.declared.value.Value.{Value}
+use Rattle.std.proofs.Common.{◌≡◌, ◌<◌, true, Ok, Err, Some, length, map, sym, ap, ◌∙◌, subst, arith, rules, ℕ, ℤ, Bool, FitsSigned}
+use Rattle.std.proofs.lemmas.Int.{to_z-of_z}
+use Rattle.std.specs.Int.{w128}
+use Rattle.std.specs.Prelude.{ok_or}
+use Rattle.wi_lookup.specs.Arguments.{arguments_in, IsMissing}
+use Rattle.wi_standard_functions.specs.Arguments.{region_of, value_at}
+use Rattle.wi_standard_functions.specs.Convert.{to_whole}
+use Rattle.wi_standard_functions.specs.Lookup.{place_among, first_column_of, v_lookup_value}
+use Rattle.wi_values.specs.Address.{cells_of, is_within}
+use Rattle.wi_values.specs.declared.value.ErrorKind.TheVariants.{NotAvailable}
+use Rattle.wi_search_functions.specs.declared.halt.Halt.TheVariants.{Error}
+use Rattle.wi_search_functions.specs.Inner.Gives.{IsMissingIn}
+use Rattle.wi_search_functions.specs.Inner.Lines.{first_column, height, width}
+use Rattle.wi_search_functions.specs.Inner.Search.{position_by}
+use Rattle.wi_search_functions.proofs.Asked.{no_region, refers_within, region_is}
+use Rattle.wi_search_functions.proofs.Chains.{IsAsked, sought_in, order_in, v_looks, v_no_area, v_no_number, v_no_order, v_no_sought, column_no_place, column_not_seen, column_seen, seen_along}
+use Rattle.wi_search_functions.proofs.Endings.{ended, finds_so, nth_within}
+use Rattle.wi_search_functions.proofs.FirstLines.{IsFirstLine, column_line}
+use Rattle.wi_search_functions.proofs.Places.{cell_at}
+use Rattle.wi_search_functions.proofs.tables.v_lookup.Goals as goal
+
+pub returns-in_err-sought : goal.returns-in_err-sought
+returns-in_err-sought g c =
+    let known = g.L.Lookup.known_cell c.args.lookup.now in
+    let args = c.args.arguments.now in
+    finds_so known args v_lookup_value c.from_residual.result c.in_err-sought.field-0.0 c.from_residual.ensures.1
+    (ended {A = Bor Value} {B = Value} known args v_lookup_value (IsMissing known args) (λ v. v.now) (λ cells. sought_in (arguments_in cells args)) c.in_err-sought.field-0.0 (λ a m. m)
+    (λ cells a e q. v_no_sought (arguments_in cells args) e q) c.in_err-sought.ensures)
+
+pub returns-in_err-area : goal.returns-in_err-area
+returns-in_err-area g c =
+    let known = g.L.Lookup.known_cell c.args.lookup.now in
+    let args = c.args.arguments.now in
+    finds_so known args v_lookup_value c.from_residual-in_err-area.result (Error c.in_err-area.field-0.0) c.from_residual-in_err-area.ensures.1
+    (λ cells a. v_no_area (arguments_in cells args) c.in_ok-sought.sought.now c.in_err-area.field-0.0 (c.in_ok-sought.ensures cells a) (no_region cells args 1 c.in_err-area.field-0.0 (sym c.in_err-area.ensures)))
+
+pub returns-in_err-k : goal.returns-in_err-k
+returns-in_err-k g c =
+    let known = g.L.Lookup.known_cell c.args.lookup.now in
+    let args = c.args.arguments.now in
+    let r = c.in_ok-area.area in
+    finds_so known args v_lookup_value c.from_residual-in_err-k.result c.in_err-k.field-0.0 c.from_residual-in_err-k.ensures.1
+    (ended {A = ℤ} {B = ℤ} known args v_lookup_value (IsMissing known args) (λ k. k) (λ cells. to_whole (value_at (arguments_in cells args) 2)) c.in_err-k.field-0.0 (λ a m. m)
+    (λ cells a e q. v_no_number (arguments_in cells args) c.in_ok-sought.sought.now (region_of cells r) e (c.in_ok-sought.ensures cells a) (region_is cells args 1 r (sym c.in_ok-area.ensures)) q) c.in_err-k.ensures)
+
+pub returns-in_err-in_order : goal.returns-in_err-in_order
+returns-in_err-in_order g c =
+    let known = g.L.Lookup.known_cell c.args.lookup.now in
+    let args = c.args.arguments.now in
+    let r = c.in_ok-area.area in
+    finds_so known args v_lookup_value c.from_residual-in_err-in_order.result c.in_err-in_order.field-0.0 c.from_residual-in_err-in_order.ensures.1
+    (ended {A = Bool} {B = Bool} known args v_lookup_value (IsMissing known args) (λ b. b) (λ cells. order_in (arguments_in cells args)) c.in_err-in_order.field-0.0 (λ a m. m)
+    (λ cells a e q. v_no_order (arguments_in cells args) c.in_ok-sought.sought.now (region_of cells r) c.in_ok-k.k e (c.in_ok-sought.ensures cells a) (region_is cells args 1 r (sym c.in_ok-area.ensures)) (c.in_ok-k.ensures cells a) q) c.in_err-in_order.ensures)
+
+pub returns-in_err-column : goal.returns-in_err-column
+returns-in_err-column g c =
+    let fits : FitsSigned w128 c.in_ok-k.k = search rules in
+    let same = to_z-of_z w128 c.in_ok-k.k fits in
+    let known = g.L.Lookup.known_cell c.args.lookup.now in
+    let args = c.args.arguments.now in
+    let r = c.in_ok-area.area in
+    let s = c.in_ok-sought.sought.now in
+    let e = c.in_err-column.field-0.0 in
+    finds_so known args v_lookup_value c.from_residual-in_err-column.result (Error c.in_err-column.field-0.0) c.from_residual-in_err-column.ensures.1
+    (λ cells a.
+        let asked : IsAsked (arguments_in cells args) s (region_of cells r) c.in_ok-k.k c.in_ok-in_order.in_order = record { sought_is = c.in_ok-sought.ensures cells a; region_is = region_is cells args 1 r (sym c.in_ok-area.ensures); number_is = c.in_ok-k.ensures cells a; order_is = c.in_ok-in_order.ensures cells a } in
+        v_looks (arguments_in cells args) s (region_of cells r) c.in_ok-k.k c.in_ok-in_order.in_order asked
+        ∙ column_no_place s (region_of cells r) c.in_ok-k.k c.in_ok-in_order.in_order c.in_err-column.field-0.0 (ap (λ (n : ℕ). place_among n c.in_ok-k.k) (sym c.width.ensures) ∙ ap (λ (z : ℤ). place_among c.width.result z) (sym same) ∙ sym c.in_err-column.ensures.place))
+
+pub returns-in_err-row : goal.returns-in_err-row
+returns-in_err-row g c =
+    let fits : FitsSigned w128 c.in_ok-k.k = search rules in
+    let same = to_z-of_z w128 c.in_ok-k.k fits in
+    let known = g.L.Lookup.known_cell c.args.lookup.now in
+    let args = c.args.arguments.now in
+    let r = c.in_ok-area.area in
+    let s = c.in_ok-sought.sought.now in
+    let l = c.in_ok-line.line in
+    let some : 0 < width r = omega (arith, c.in_ok-column.ensures.within, c.width.ensures) in
+    let line : IsFirstLine r l (λ cells. first_column_of (region_of cells r)) (height r) = column_line r l (sym c.first_column.ensures ∙ c.in_ok-line.ensures.ok_part) some in
+    finds_so known args v_lookup_value c.from_residual-in_err-row.result c.in_err-row.field-0.0 c.from_residual-in_err-row.ensures.1
+    (ended {A = ℕ} {B = ℕ} known args v_lookup_value (IsMissingIn known l) (λ i. i) (λ cells. ok_or (position_by c.in_order.result s (map cells (cells_of l))) NotAvailable) c.in_err-row.field-0.0
+    (λ b m. (m.0, refers_within args 1 r b (sym c.in_ok-area.ensures) (line.inside b m.1)))
+    (λ cells a e q.
+        let asked : IsAsked (arguments_in cells args) s (region_of cells r) c.in_ok-k.k c.in_ok-in_order.in_order = record { sought_is = c.in_ok-sought.ensures cells a; region_is = region_is cells args 1 r (sym c.in_ok-area.ensures); number_is = c.in_ok-k.ensures cells a; order_is = c.in_ok-in_order.ensures cells a } in
+        v_looks (arguments_in cells args) s (region_of cells r) c.in_ok-k.k c.in_ok-in_order.in_order asked
+        ∙ column_not_seen s (region_of cells r) c.in_ok-k.k c.in_ok-in_order.in_order c.in_ok-column.column e (ap (λ (n : ℕ). place_among n c.in_ok-k.k) (sym c.width.ensures) ∙ ap (λ (z : ℤ). place_among c.width.result z) (sym same) ∙ sym c.in_ok-column.ensures.place)
+        (seen_along c.in_order.result c.in_ok-in_order.in_order s (first_column_of (region_of cells r)) (map cells (cells_of l)) (line.values_are cells) c.in_order.ensures ∙ q))
+    c.in_err-row.ensures.place)
+
+pub cell_at-requires-clause-row_within : goal.cell_at-requires-clause-row_within
+cell_at-requires-clause-row_within g c =
+    let r = c.in_ok-area.area in
+    let l = c.in_ok-line.line in
+    let some : 0 < width r = omega (arith, c.in_ok-column.ensures.within, c.width.ensures) in
+    let line : IsFirstLine r l (λ cells. first_column_of (region_of cells r)) (height r) = column_line r l (sym c.first_column.ensures ∙ c.in_ok-line.ensures.ok_part) some in
+    subst (λ (n : ℕ). c.in_ok-row.row < n) line.count_is c.in_ok-row.ensures.within
+
+pub returns : goal.returns
+returns g c =
+    let fits : FitsSigned w128 c.in_ok-k.k = search rules in
+    let same = to_z-of_z w128 c.in_ok-k.k fits in
+    let known = g.L.Lookup.known_cell c.args.lookup.now in
+    let args = c.args.arguments.now in
+    let r = c.in_ok-area.area in
+    let s = c.in_ok-sought.sought.now in
+    let l = c.in_ok-line.line in
+    let some : 0 < width r = omega (arith, c.in_ok-column.ensures.within, c.width.ensures) in
+    let line : IsFirstLine r l (λ cells. first_column_of (region_of cells r)) (height r) = column_line r l (sym c.first_column.ensures ∙ c.in_ok-line.ensures.ok_part) some in
+    let row_within : c.in_ok-row.row < height r = subst (λ (n : ℕ). c.in_ok-row.row < n) line.count_is c.in_ok-row.ensures.within in
+    let column_within : c.in_ok-column.column < width r = subst (λ (n : ℕ). c.in_ok-column.column < n) c.width.ensures c.in_ok-column.ensures.within in
+    (λ cells a.
+        let asked : IsAsked (arguments_in cells args) s (region_of cells r) c.in_ok-k.k c.in_ok-in_order.in_order = record { sought_is = c.in_ok-sought.ensures cells a; region_is = region_is cells args 1 r (sym c.in_ok-area.ensures); number_is = c.in_ok-k.ensures cells a; order_is = c.in_ok-in_order.ensures cells a } in
+        v_looks (arguments_in cells args) s (region_of cells r) c.in_ok-k.k c.in_ok-in_order.in_order asked
+        ∙ column_seen s (region_of cells r) c.in_ok-k.k c.in_ok-in_order.in_order c.in_ok-column.column c.in_ok-row.row (ap (λ (n : ℕ). place_among n c.in_ok-k.k) (sym c.width.ensures) ∙ ap (λ (z : ℤ). place_among c.width.result z) (sym same) ∙ sym c.in_ok-column.ensures.place)
+        (seen_along c.in_order.result c.in_ok-in_order.in_order s (first_column_of (region_of cells r)) (map cells (cells_of l)) (line.values_are cells) c.in_order.ensures ∙ c.in_ok-row.ensures.place cells a)
+        ∙ cell_at cells r c.in_ok-row.row c.in_ok-column.column row_within column_within ∙ ap cells (sym c.cell_at.ensures),
+    refers_within args 1 r c.cell_at.result (sym c.in_ok-area.ensures) (subst (λ (b : ℕ). is_within r b ≡ true) (sym c.cell_at.ensures) (nth_within r c.in_ok-row.row c.in_ok-column.column row_within column_within)))

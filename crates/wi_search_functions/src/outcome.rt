@@ -1,0 +1,63 @@
+//! From what was found to the value of a function.
+
+ghost use Rattle.std.specs.Prelude.{◌≡◌, ℕ, ◌+◌, List, Option, IfOk, IfErr};
+ghost use Rattle.wi_lookup.specs.Arguments.{IfMissing, IsMissing, IsOfArguments};
+ghost use Rattle.wi_lookup.specs.declared.argument.Argument as given;
+ghost use Rattle.wi_standard_functions.specs.Arguments.{Argument};
+ghost use Rattle.wi_standard_functions.specs.Arithmetic.{whole_value};
+ghost use Rattle.wi_values.specs.declared.value.Value.{Value as Values};
+ghost use Rattle.wi_search_functions.specs.Inner.Gives.{Finds, Places};
+
+use crate::halt::Halt;
+use std::alloc::Global;
+use wi_fraction::Fraction;
+use wi_lookup::{LookedUp, Lookup, Stop};
+use wi_values::{Address, ErrorKind, Value};
+
+/// The value of the cell that was found, or the error. A text is copied.
+pub(crate) fn value_found<L: Lookup>(
+    alloc: Global,
+    found: Result<Address, Halt>,
+    lookup: &L,
+) -> Result<Value, Stop>
+    ensures done { (args : List given.Argument) → (f : List Argument → Values) → Finds (L.known_cell lookup.now) args f found → IfOk result (IsOfArguments (L.known_cell lookup.now) f args) }
+    ensures missing { (args : List given.Argument) → (f : List Argument → Values) → Finds (L.known_cell lookup.now) args f found → IfErr result (λ s. IfMissing s (IsMissing (L.known_cell lookup.now) args)) }
+{
+    match found {
+        Ok(cell) => match lookup.cell(cell) {
+            LookedUp::Known(value) => Ok(value.copy(alloc)?),
+            LookedUp::Missing => Err(Stop::Missing(cell)),
+        },
+        Err(Halt::Error(e)) => Ok(Value::Fault(e)),
+        Err(Halt::Stop(stop)) => Err(stop),
+    }
+}
+
+/// The place that was found, counted from 1, or the error.
+pub(crate) fn value_placed(found: Result<u32, Halt>) -> Result<Value, Stop>
+    ensures done { (known : ℕ → Option Values) → (args : List given.Argument) → (f : List Argument → Values) → Places known args f found → IfOk result (IsOfArguments known f args) }
+    ensures missing { (known : ℕ → Option Values) → (args : List given.Argument) → (f : List Argument → Values) → Places known args f found → IfErr result (λ s. IfMissing s (IsMissing known args)) }
+{
+    match found {
+        Ok(place) => Ok(counted_from_one(place)),
+        Err(Halt::Error(e)) => Ok(Value::Fault(e)),
+        Err(Halt::Stop(stop)) => Err(stop),
+    }
+}
+
+/// A place from 0, as a value counted from 1.
+fn counted_from_one(place: u32) -> Value
+    ensures { result ≡ whole_value (place + 1) }
+{
+    whole_value(u64::from(place) + 1)
+}
+
+/// A count, or a place.
+fn whole_value(n: u64) -> Value
+    ensures { result ≡ whole_value n }
+{
+    match Fraction::new(i128::from(n), 1) {
+        Ok(x) => Value::Number(x),
+        Err(_) => Value::Fault(ErrorKind::BadNumber),
+    }
+}

@@ -1,0 +1,71 @@
+//! VLOOKUP and HLOOKUP (OpenFormula, "Lookup Functions").
+
+ghost use Rattle.std.specs.Prelude.{◌≡◌, IfOk, IfErr};
+ghost use Rattle.wi_lookup.specs.Arguments.{IfMissing, IsMissing, IsOfArguments};
+ghost use Rattle.wi_standard_functions.specs.Lookup.{h_lookup_value, v_lookup_value};
+ghost use Rattle.wi_search_functions.specs.Inner.Gives.{Finds};
+
+use crate::arguments::{area_at, logical_or, sought_at, whole_at};
+use crate::halt::Halt;
+use crate::outcome::value_found;
+use crate::region::{cell_at, first_column, first_row, height, place_among, width};
+use crate::rule::Rule;
+use crate::search::place_along;
+use std::alloc::Global;
+use wi_lookup::{Argument, Lookup, Stop};
+use wi_scalar_functions::zero;
+use wi_values::{Address, ErrorKind, Value};
+
+/// The value in a column of a rectangle, in the row whose first cell is found. The filled cells of the first column are looked
+/// up one after another: where they aren't told to be in order up to the first that is equal, else all; and then one cell.
+pub fn v_lookup_value<L: Lookup>(
+    alloc: Global,
+    arguments: &[Argument],
+    lookup: &L,
+) -> Result<Value, Stop>
+    ensures done { IfOk result (IsOfArguments (L.known_cell lookup.now) v_lookup_value arguments.now) }
+    ensures missing { IfErr result (λ s. IfMissing s (IsMissing (L.known_cell lookup.now) arguments.now)) }
+{
+    value_found(alloc, v_lookup(arguments, lookup), lookup)
+}
+
+/// The value in a row of a rectangle, in the column whose first cell is found. The work is that of `v_lookup_value`, along the
+/// first row.
+pub fn h_lookup_value<L: Lookup>(
+    alloc: Global,
+    arguments: &[Argument],
+    lookup: &L,
+) -> Result<Value, Stop>
+    ensures done { IfOk result (IsOfArguments (L.known_cell lookup.now) h_lookup_value arguments.now) }
+    ensures missing { IfErr result (λ s. IfMissing s (IsMissing (L.known_cell lookup.now) arguments.now)) }
+{
+    value_found(alloc, h_lookup(arguments, lookup), lookup)
+}
+
+fn v_lookup<L: Lookup>(arguments: &[Argument], lookup: &L) -> Result<Address, Halt>
+    ensures { Finds (L.known_cell lookup.now) arguments.now v_lookup_value result }
+{
+    let zero = Value::Number(zero());
+    let sought = sought_at(&zero, arguments, 0, lookup)?;
+    let area = area_at(arguments, 1)?;
+    let k = whole_at(arguments, 2, lookup)?;
+    let in_order = logical_or(true, arguments, 3, lookup)?;
+    let column = place_among(width(area), k)?;
+    let line = first_column(area).ok_or(ErrorKind::NotAvailable)?;
+    let row = place_along(Rule::in_order(in_order), sought, line, lookup)?;
+    Ok(cell_at(area, row, column))
+}
+
+fn h_lookup<L: Lookup>(arguments: &[Argument], lookup: &L) -> Result<Address, Halt>
+    ensures { Finds (L.known_cell lookup.now) arguments.now h_lookup_value result }
+{
+    let zero = Value::Number(zero());
+    let sought = sought_at(&zero, arguments, 0, lookup)?;
+    let area = area_at(arguments, 1)?;
+    let k = whole_at(arguments, 2, lookup)?;
+    let in_order = logical_or(true, arguments, 3, lookup)?;
+    let row = place_among(height(area), k)?;
+    let line = first_row(area).ok_or(ErrorKind::NotAvailable)?;
+    let column = place_along(Rule::in_order(in_order), sought, line, lookup)?;
+    Ok(cell_at(area, row, column))
+}
