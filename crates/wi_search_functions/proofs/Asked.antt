@@ -1,6 +1,6 @@
 -- What the arguments of a call stand for.
-use Rattle.std.proofs.Common.{◌≡◌, ℕ, Bool, true, false, ◌||◌, List, [], ◌∷◌, map, Option, Some, None, Result, Ok, Err, refl, sym, ap, ◌∙◌}
-use Rattle.std.specs.Prelude.{slice_get, ok_or}
+use Rattle.std.proofs.Common.{◌≡◌, ℕ, Bool, true, false, ◌||◌, List, [], ◌∷◌, Option, Some, None, Ok, Err, refl, sym, ap, ◌∙◌}
+use Rattle.std.specs.Prelude.{slice_get}
 use Rattle.std.specs.Option.{option_map, option_map_or}
 use Rattle.std.specs.List.{list_any}
 use Rattle.std.proofs.lemmas.Option.{slice_get-map}
@@ -12,8 +12,8 @@ use Rattle.wi_values.specs.declared.value.Value.{Value}
 use Rattle.wi_values.specs.declared.value.Value.TheVariants.{Empty, Number, Text, Logical, Fault}
 use Rattle.wi_lookup.specs.declared.argument.Argument as given
 use Rattle.wi_lookup.specs.Arguments.{argument_in, arguments_in, refers_to}
-use Rattle.wi_standard_functions.specs.Arguments.{Argument, Region, region_of, region_at, region_referred, value_or, value_at}
-use Rattle.wi_standard_functions.specs.Convert.{zero_number, to_number, to_whole, to_logical}
+use Rattle.wi_standard_functions.specs.Arguments.{Argument, region_of, region_at, region_referred, value_or, value_at}
+use Rattle.wi_standard_functions.specs.Convert.{zero_number}
 use Rattle.wi_standard_functions.specs.FirstError.{no_error}
 use Rattle.wi_standard_functions.specs.Matching.{sought_for}
 use Rattle.wi_standard_functions.specs.Steps.{and_then}

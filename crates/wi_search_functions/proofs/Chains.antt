@@ -1,6 +1,6 @@
 -- The functions by their steps.
-use Rattle.std.proofs.Common.{◌≡◌, ℕ, ℤ, ◌+◌, Bool, true, false, cond, ◌||◌, List, map, Option, Some, None, Result, Ok, Err, refl, sym, ap, ◌∙◌}
-use Rattle.std.specs.Prelude.{pos, ok_or, int_lt}
+use Rattle.std.proofs.Common.{◌≡◌, ℕ, ℤ, ◌+◌, Bool, true, false, cond, List, map, Option, Result, Ok, Err, sym, ap, ◌∙◌}
+use Rattle.std.specs.Prelude.{ok_or}
 use Rattle.wi_fraction.specs.Number as numbers
 use Rattle.wi_values.specs.Address.{Area, cells_of}
 use Rattle.wi_values.specs.declared.value.ErrorKind.{ErrorKind}

@@ -1,29 +1,27 @@
 -- How a function ends at a step that fails, and from the parts of a function to the whole.
-use Rattle.std.proofs.Common.{◌≡◌, ℕ, ℤ, ◌+◌, ◌-◌, ◌<◌, ◌≤◌, ◌==◌, Bool, true, false, cond, ◌||◌, List, length, map, Option, Some, None, Result, Ok, Err, refl, sym, ap, ◌∙◌, subst, arith}
-use Rattle.std.specs.Prelude.{pos, ok_or, int_lt, nat_lt, nat_le, IsErrAnd, unsigned_abs}
+use Rattle.std.proofs.Common.{◌≡◌, ℕ, ℤ, ◌+◌, ◌-◌, ◌<◌, ◌≤◌, ◌==◌, Bool, true, false, cond, List, length, Option, Result, Ok, Err, refl, sym, ap, ◌∙◌, subst, arith}
+use Rattle.std.specs.Prelude.{pos, int_lt, nat_lt, IsErrAnd, unsigned_abs}
 use Rattle.std.specs.Borrow.{Bor}
-use Rattle.std.specs.List.{list_any}
 use Rattle.std.proofs.lemmas.Bool.{or_from, eq-eqb, le-leb, lt-leb}
 use Rattle.std.proofs.lemmas.List.{length-map}
-use Rattle.wi_fraction.specs.Number as numbers
-use Rattle.wi_values.specs.Address.{Area, cells_of, place, row_of, column_of, is_within}
+use Rattle.wi_values.specs.Address.{Area, place, row_of, column_of, is_within}
 use Rattle.wi_values.specs.declared.value.ErrorKind.{ErrorKind}
-use Rattle.wi_values.specs.declared.value.ErrorKind.TheVariants.{BadValue, BadReference, NotAvailable}
+use Rattle.wi_values.specs.declared.value.ErrorKind.TheVariants.{BadValue, BadReference}
 use Rattle.wi_values.specs.declared.value.Value.{Value}
-use Rattle.wi_values.specs.declared.value.Value.TheVariants.{Empty, Number, Logical, Fault}
+use Rattle.wi_values.specs.declared.value.Value.TheVariants.{Number, Fault}
 use Rattle.wi_lookup.specs.declared.argument.Argument as given
 use Rattle.wi_lookup.specs.declared.stop.Stop as stop
-use Rattle.wi_lookup.specs.Arguments.{argument_in, arguments_in, KnownAgrees, IfMissing, IsMissing, refers_to}
-use Rattle.wi_standard_functions.specs.Arguments.{Argument, Region, region_of, region_at, value_or, value_at}
+use Rattle.wi_lookup.specs.Arguments.{argument_in, arguments_in, KnownAgrees, IfMissing, IsMissing}
+use Rattle.wi_standard_functions.specs.Arguments.{Argument, Region, region_of, value_or, value_at}
 use Rattle.wi_standard_functions.specs.Arithmetic.{whole_value}
-use Rattle.wi_standard_functions.specs.Convert.{zero_number, one_number, to_number, to_whole, to_logical}
+use Rattle.wi_standard_functions.specs.Convert.{zero_number}
 use Rattle.wi_standard_functions.specs.FirstError.{no_error, on_both}
-use Rattle.wi_standard_functions.specs.Lookup.{cell_in, index_value, index_along, index_by_both, match_value, nth_cell, nth_cell_along, place_among, values_along}
-use Rattle.wi_standard_functions.specs.Matching.{match_position, sought_for}
+use Rattle.wi_standard_functions.specs.Lookup.{cell_in, index_value, index_along, index_by_both, nth_cell, nth_cell_along, place_among}
+use Rattle.wi_standard_functions.specs.Matching.{sought_for}
 use Rattle.wi_standard_functions.specs.Steps.{◌>>=◌, and_then}
 use Rattle.wi_search_functions.specs.declared.halt.Halt.{Halt}
 use Rattle.wi_search_functions.specs.declared.halt.Halt.TheVariants.{Error, Stop}
-use Rattle.wi_search_functions.specs.Inner.Gives.{WhateverHeld, Gives, Finds, Places, IsMissingIn, IsPlacedIn, area_at}
+use Rattle.wi_search_functions.specs.Inner.Gives.{WhateverHeld, Gives, Finds, Places, IsPlacedIn}
 use Rattle.wi_search_functions.specs.Inner.Lines.{height, width}
 use Rattle.wi_search_functions.proofs.Asked.{itself, fault, sought_or_zero}
 use Rattle.wi_search_functions.proofs.FirstLines.{within_from, narrow, row_of_place, column_of_place}

@@ -1,5 +1,5 @@
 -- What a walk along one row or one column has found is the place that is asked for.
-use Rattle.std.proofs.Common.{◌≡◌, ℕ, zero, suc, ◌<◌, ◌+◌, Bool, true, false, cond, List, [], ◌∷◌, map, filter, fold, length, Option, Some, None, IfSome, Result, Ok, Err, refl, sym, ap, ◌∙◌, subst, arith}
+use Rattle.std.proofs.Common.{◌≡◌, ℕ, suc, ◌<◌, ◌+◌, Bool, true, false, cond, List, [], ◌∷◌, map, filter, length, Option, Some, None, IfSome, Ok, Err, refl, sym, ap, ◌∙◌, subst, arith}
 use Rattle.std.specs.Prelude.{nat_lt, ok_or, unwrap_or}
 use Rattle.std.specs.Option.{option_map}
 use Rattle.std.specs.List.{position, position_or_len, enumerate_from, last_or}
@@ -7,12 +7,11 @@ use Rattle.std.specs.Ordering.{is_eq, is_le, is_ge}
 use Rattle.std.proofs.lemmas.Bool.{ltb-true}
 use Rattle.std.proofs.lemmas.List.{length-map}
 use Rattle.wi_values.specs.Address.{Area, cells_of}
-use Rattle.wi_values.specs.declared.value.ErrorKind.{ErrorKind}
 use Rattle.wi_values.specs.declared.value.ErrorKind.TheVariants.{NotAvailable}
 use Rattle.wi_values.specs.declared.value.Value.{Value}
 use Rattle.wi_values.specs.declared.value.Value.TheVariants.{Empty}
 use Rattle.wi_lookup.specs.Arguments.{KnownAgrees}
-use Rattle.wi_standard_functions.specs.Matching.{is_match, last_position}
+use Rattle.wi_standard_functions.specs.Matching.{is_match}
 use Rattle.wi_search_functions.specs.declared.rule.Rule.{Rule}
 use Rattle.wi_search_functions.specs.declared.rule.Rule.TheVariants.{FirstEqual, LastAtMost, LastAtLeast}
 use Rattle.wi_search_functions.specs.Inner.Gives.{WhateverHeld}

@@ -1,13 +1,12 @@
 -- The first column and the first row of a rectangle.
-use Rattle.std.proofs.Common.{◌≡◌, ℕ, zero, suc, ◌<◌, ◌≤◌, ◌-◌, ◌+◌, ◌==◌, ◌||◌, ◌&&◌, Bool, true, false, cond, List, length, map, min, max, Option, Some, None, refl, sym, ap, ◌∙◌, subst, arith}
+use Rattle.std.proofs.Common.{◌≡◌, ℕ, zero, suc, ◌<◌, ◌≤◌, ◌+◌, ◌==◌, ◌&&◌, Bool, true, false, cond, List, length, map, min, max, Some, None, refl, sym, ap, ◌∙◌, subst, arith}
 use Rattle.std.specs.Prelude.{nat_lt, nat_le}
-use Rattle.std.specs.List.{range_with_len}
 use Rattle.std.proofs.lemmas.Bool.{and_parts, and_from, ltb-false, ltb-true, leb-true, le-leb, or_left, or_right, eq-eqb}
 use Rattle.std.proofs.lemmas.List.FromFn.{length-map-range_with_len}
 use Rattle.std.proofs.Math.Nat.{mod-lt}
 use Rattle.wi_values.specs.Address.{Area, cells_of, place, row_of, column_of, is_within, rect_of}
 use Rattle.wi_values.specs.declared.value.Value.{Value}
-use Rattle.wi_standard_functions.specs.Arguments.{Region, region_of}
+use Rattle.wi_standard_functions.specs.Arguments.{region_of}
 use Rattle.wi_standard_functions.specs.Lookup.{cell_in, first_column_of, first_row_of}
 use Rattle.wi_search_functions.specs.Inner.Lines.{height, width, is_line, first_column, first_row}
 use Rattle.wi_search_functions.proofs.Places.{run, block, cell_at, column_cells, row_cells}

@@ -1,4 +1,4 @@
-use Rattle.std.proofs.Common.{◌≡◌, ℕ, ◌<◌, ◌+◌, true, Ok, sym, ap, ◌∙◌, subst, arith, ℤ, FitsSigned, rules}
+use Rattle.std.proofs.Common.{◌≡◌, ℕ, ◌<◌, true, Ok, sym, ap, ◌∙◌, subst, ℤ, FitsSigned, rules}
 use Rattle.std.proofs.lemmas.Int.{to_z-of_z}
 use Rattle.std.specs.Int.{w128}
 use Rattle.wi_values.specs.Address.{is_within}

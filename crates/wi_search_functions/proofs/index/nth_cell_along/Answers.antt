@@ -1,4 +1,4 @@
-use Rattle.std.proofs.Common.{◌≡◌, ◌==◌, false, pos, sym, ap, ◌∙◌, arith, ℤ, FitsSigned, rules, subst}
+use Rattle.std.proofs.Common.{◌≡◌, ◌==◌, false, pos, arith, ℤ, FitsSigned, rules, subst}
 use Rattle.std.proofs.lemmas.Int.{to_z-of_z}
 use Rattle.std.specs.Int.{w128}
 use Rattle.std.proofs.lemmas.Bool.Decides.{nat_tests}

@@ -1,6 +1,6 @@
 use Rattle.std.specs.Borrow.{Bor}
 use Rattle.wi_values.specs.declared.value.Value.{Value}
-use Rattle.std.proofs.Common.{◌≡◌, true, false, Ok, Err, map, sym, ap, ◌∙◌, subst}
+use Rattle.std.proofs.Common.{◌≡◌, true, false, Ok, Err, map, sym, subst}
 use Rattle.std.specs.Prelude.{ok_or}
 use Rattle.wi_fraction.specs.Number as numbers
 use Rattle.wi_lookup.specs.Arguments.{arguments_in, IsMissing}
@@ -8,7 +8,7 @@ use Rattle.wi_standard_functions.specs.Arguments.{region_of, value_or}
 use Rattle.wi_standard_functions.specs.Convert.{to_number}
 use Rattle.wi_standard_functions.specs.Lookup.{match_value}
 use Rattle.wi_values.specs.Address.{cells_of}
-use Rattle.wi_values.specs.declared.value.ErrorKind.TheVariants.{BadValue, NotAvailable}
+use Rattle.wi_values.specs.declared.value.ErrorKind.TheVariants.{NotAvailable}
 use Rattle.wi_values.specs.declared.value.Value.TheVariants.{Number}
 use Rattle.wi_search_functions.specs.declared.halt.Halt.TheVariants.{Error}
 use Rattle.wi_search_functions.specs.Inner.Gives.{IsMissingIn}

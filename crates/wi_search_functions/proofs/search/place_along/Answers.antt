@@ -1,4 +1,4 @@
-use Rattle.std.proofs.Common.{◌≡◌, ℕ, List, [], ◌∷◌, fold, Option, Ok, refl, sym, ap, ◌∙◌, subst, ◌<◌, length}
+use Rattle.std.proofs.Common.{◌≡◌, ℕ, List, [], ◌∷◌, fold, Ok, refl, sym, ap, ◌∙◌, subst, ◌<◌, length}
 use Rattle.wi_values.specs.Address.{cells_of}
 use Rattle.wi_values.specs.declared.value.Value.{Value}
 use Rattle.wi_search_functions.specs.declared.search.Search.{Search}

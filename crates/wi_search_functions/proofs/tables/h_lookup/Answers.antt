@@ -1,6 +1,6 @@
 use Rattle.std.specs.Borrow.{Bor}
 use Rattle.wi_values.specs.declared.value.Value.{Value}
-use Rattle.std.proofs.Common.{◌≡◌, ◌<◌, true, Ok, Err, Some, length, map, sym, ap, ◌∙◌, subst, arith, rules, ℕ, ℤ, Bool, FitsSigned}
+use Rattle.std.proofs.Common.{◌≡◌, ◌<◌, true, map, sym, ap, ◌∙◌, subst, arith, rules, ℕ, ℤ, Bool, FitsSigned}
 use Rattle.std.proofs.lemmas.Int.{to_z-of_z}
 use Rattle.std.specs.Int.{w128}
 use Rattle.std.specs.Prelude.{ok_or}
@@ -12,7 +12,7 @@ use Rattle.wi_values.specs.Address.{cells_of, is_within}
 use Rattle.wi_values.specs.declared.value.ErrorKind.TheVariants.{NotAvailable}
 use Rattle.wi_search_functions.specs.declared.halt.Halt.TheVariants.{Error}
 use Rattle.wi_search_functions.specs.Inner.Gives.{IsMissingIn}
-use Rattle.wi_search_functions.specs.Inner.Lines.{first_row, height, width}
+use Rattle.wi_search_functions.specs.Inner.Lines.{height, width}
 use Rattle.wi_search_functions.specs.Inner.Search.{position_by}
 use Rattle.wi_search_functions.proofs.Asked.{no_region, refers_within, region_is}
 use Rattle.wi_search_functions.proofs.Chains.{IsAsked, sought_in, order_in, h_looks, h_no_area, h_no_number, h_no_order, h_no_sought, row_no_place, row_not_seen, row_seen, seen_along}

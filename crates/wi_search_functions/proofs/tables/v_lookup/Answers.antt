@@ -1,6 +1,6 @@
 use Rattle.std.specs.Borrow.{Bor}
 use Rattle.wi_values.specs.declared.value.Value.{Value}
-use Rattle.std.proofs.Common.{◌≡◌, ◌<◌, true, Ok, Err, Some, length, map, sym, ap, ◌∙◌, subst, arith, rules, ℕ, ℤ, Bool, FitsSigned}
+use Rattle.std.proofs.Common.{◌≡◌, ◌<◌, true, map, sym, ap, ◌∙◌, subst, arith, rules, ℕ, ℤ, Bool, FitsSigned}
 use Rattle.std.proofs.lemmas.Int.{to_z-of_z}
 use Rattle.std.specs.Int.{w128}
 use Rattle.std.specs.Prelude.{ok_or}
@@ -12,7 +12,7 @@ use Rattle.wi_values.specs.Address.{cells_of, is_within}
 use Rattle.wi_values.specs.declared.value.ErrorKind.TheVariants.{NotAvailable}
 use Rattle.wi_search_functions.specs.declared.halt.Halt.TheVariants.{Error}
 use Rattle.wi_search_functions.specs.Inner.Gives.{IsMissingIn}
-use Rattle.wi_search_functions.specs.Inner.Lines.{first_column, height, width}
+use Rattle.wi_search_functions.specs.Inner.Lines.{height, width}
 use Rattle.wi_search_functions.specs.Inner.Search.{position_by}
 use Rattle.wi_search_functions.proofs.Asked.{no_region, refers_within, region_is}
 use Rattle.wi_search_functions.proofs.Chains.{IsAsked, sought_in, order_in, v_looks, v_no_area, v_no_number, v_no_order, v_no_sought, column_no_place, column_not_seen, column_seen, seen_along}
