@@ -1,0 +1,4 @@
+-- Words of the code's own contracts. Nothing here needs belief.
+pub mod Counts
+pub mod Giving
+pub mod Sums

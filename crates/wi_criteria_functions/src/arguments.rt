@@ -1,0 +1,97 @@
+//! What a function takes of its arguments.
+
+ghost use Rattle.std.specs.Prelude.{◌≡◌, ◌∷◌, [], ℕ, IfOk, slice_get};
+ghost use Rattle.std.specs.Option.{option_copied};
+ghost use Rattle.wi_values.specs.declared.value.Value.{Value as Values};
+ghost use Rattle.wi_standard_functions.specs.Arguments.{region_at, region_or, value_at};
+ghost use Rattle.wi_lookup.specs.Arguments.{argument_in, arguments_in, IsMissing};
+ghost use Rattle.wi_matching.specs.Inner.Meeting.{criterion_held};
+ghost use Rattle.wi_criteria_functions.specs.Inner.Giving.{area_of, criterion_argument, region_in, Agrees, IsCriterionOf, IsReferred};
+
+use crate::ending::Ending;
+use std::alloc::Global;
+use wi_lookup::{Argument, Lookup};
+use wi_matching::Criterion;
+use wi_scalar_functions::no_error;
+use wi_values::{ErrorKind, Rect, Value};
+
+/// The rectangle that the argument at a place refers to, counted from 0.
+pub(crate) fn area_at(arguments: &[Argument], place: usize) -> Result<Rect, ErrorKind>
+    ensures region { (cells : ℕ → Values) → region_at (arguments_in cells arguments.now) place ≡ region_in cells result }
+    ensures referred { IfOk result (IsReferred arguments.now) }
+{
+    match argument_at(arguments, place) {
+        Some(argument) => area_of(argument),
+        None => Err(ErrorKind::BadValue),
+    }
+}
+
+/// The same, or the default where there is no such argument.
+pub(crate) fn area_or(
+    default: Rect,
+    arguments: &[Argument],
+    place: usize,
+) -> Result<Rect, ErrorKind>
+    requires { IsReferred arguments.now default }
+    ensures region { (cells : ℕ → Values) → region_or (region_in cells (Ok default)) (arguments_in cells arguments.now) place ≡ region_in cells result }
+    ensures referred { IfOk result (IsReferred arguments.now) }
+{
+    match argument_at(arguments, place) {
+        Some(argument) => area_of(argument),
+        None => Ok(default),
+    }
+}
+
+/// The criterion that the argument at a place is, counted from 0.
+pub(crate) fn criterion_at<L: Lookup>(
+    alloc: Global,
+    arguments: &[Argument],
+    place: usize,
+    lookup: &L,
+) -> Result<Criterion, Ending>
+    ensures { Agrees (L.known_cell lookup.now) (IsMissing (L.known_cell lookup.now) arguments.now) criterion_held (λ cells. criterion_argument (value_at (arguments_in cells arguments.now) place)) result }
+{
+    match argument_at(arguments, place) {
+        Some(argument) => criterion_in(alloc, argument, lookup),
+        None => criterion_of(alloc, &Value::Empty),
+    }
+}
+
+/// The criterion that an argument is.
+fn criterion_in<L: Lookup>(
+    alloc: Global,
+    argument: &Argument,
+    lookup: &L,
+) -> Result<Criterion, Ending>
+    ensures { Agrees (L.known_cell lookup.now) (IsMissing (L.known_cell lookup.now) (argument.now ∷ [])) criterion_held (λ cells. criterion_argument (argument_in cells argument.now).value) result }
+{
+    let lent = argument.value(lookup)?;
+    let value = lent?;
+    criterion_of(alloc, value)
+}
+
+/// The criterion that a value is, unless that is an error.
+fn criterion_of(alloc: Global, value: &Value) -> Result<Criterion, Ending>
+    ensures { IsCriterionOf value.now result }
+{
+    no_error(value)?;
+    let criterion = Criterion::of(alloc, value)?;
+    Ok(criterion)
+}
+
+/// The rectangle that an argument refers to.
+fn area_of(argument: &Argument) -> Result<Rect, ErrorKind>
+    ensures { result ≡ area_of argument.now }
+{
+    match argument {
+        Argument::Reference(area) => Ok(*area),
+        Argument::Value(_) => Err(ErrorKind::BadValue),
+    }
+}
+
+/// The argument at a place, where there is one.
+fn argument_at(arguments: &[Argument], place: usize) -> Option<&Argument>
+    ensures { option_copied result ≡ slice_get arguments.now place }
+{
+    arguments.get(place)
+}

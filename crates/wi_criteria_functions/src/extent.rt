@@ -1,0 +1,39 @@
+//! Rectangles of one size, and the cells at the same places.
+
+ghost use Rattle.std.specs.Prelude.{◌≡◌, ◌+◌, ◌-◌, true};
+ghost use Rattle.wi_values.specs.Address.{column_of, is_within, row_of};
+ghost use Rattle.wi_criteria_functions.specs.Inner.Sums.{same_extent, same_place};
+
+use wi_values::{Address, Rect};
+
+/// Whether two rectangles have as many rows and columns.
+pub(crate) fn same_extent(one: Rect, other: Rect) -> bool
+    ensures { result ≡ same_extent one other }
+{
+    height(one) == height(other) && width(one) == width(other)
+}
+
+fn height(area: Rect) -> u32
+    ensures { result ≡ (row_of area.last + 1) - row_of area.first }
+{
+    (area.last().row() + 1).saturating_sub(area.first().row())
+}
+
+fn width(area: Rect) -> u32
+    ensures { result ≡ (column_of area.last + 1) - column_of area.first }
+{
+    (area.last().column() + 1).saturating_sub(area.first().column())
+}
+
+/// The cell of another rectangle at the place that a cell has in one.
+#[tactic(auto, using(crate::proofs::Extents::within_other))]
+pub(crate) fn same_place(at: Address, one: Rect, other: Rect) -> Address
+    requires within { is_within one at ≡ true }
+    requires size { same_extent one other ≡ true }
+    ensures { result ≡ same_place one other at }
+{
+    Address::at(
+        other.first().row() + (at.row() - one.first().row()),
+        other.first().column() + (at.column() - one.first().column()),
+    )
+}

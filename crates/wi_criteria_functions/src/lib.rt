@@ -1,0 +1,12 @@
+//! The functions of OpenFormula that go by criteria or by several rectangles side by side.
+#![tactic(auto)]
+
+mod arguments;
+mod count;
+mod counting;
+mod ending;
+mod extent;
+mod summing;
+
+pub use counting::count_if_value;
+pub use summing::sum_if_value;
