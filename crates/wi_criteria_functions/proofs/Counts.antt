@@ -1,5 +1,5 @@
 -- What COUNTIF counts.
-use Rattle.std.proofs.Common.{◌≡◌, ℕ, ◌+◌, ◌<◌, Bool, true, false, cond, List, [], ◌∷◌, map, Option, Some, None, refl, sym, ap, ◌∙◌, subst, inl, add_assoc, add-zero, zero-add, arith}
+use Rattle.std.proofs.Common.{◌≡◌, ℕ, ◌+◌, ◌<◌, Bool, true, false, cond, List, [], ◌∷◌, map, Option, refl, sym, ap, ◌∙◌, subst, inl, add_assoc, add-zero, zero-add, arith}
 use Rattle.std.specs.Prelude.{◌^◌, ◌-◌, min, nat_le, Result, Ok, Err, count_by}
 use Rattle.std.proofs.Math.Nat.{sub-add-min_cancel}
 use Rattle.std.proofs.lemmas.Bool.Decides.{nat_tests}
@@ -19,7 +19,7 @@ use Rattle.wi_standard_functions.specs.FirstError.{no_error}
 use Rattle.wi_standard_functions.specs.Information.{count_if_value}
 use Rattle.wi_standard_functions.specs.Steps.{◌>>=◌, and_then}
 use Rattle.wi_lookup.specs.declared.argument.Argument as given
-use Rattle.wi_lookup.specs.Arguments.{arguments_in, KnownAgrees, IsMissing}
+use Rattle.wi_lookup.specs.Arguments.{arguments_in, KnownAgrees}
 use Rattle.wi_lookup.specs.Walk.{after_cells}
 use Rattle.wi_matching.specs.declared.criterion.Criterion.{Criterion}
 use Rattle.wi_matching.specs.Inner.Meeting.{criterion_held, is_met}
@@ -27,7 +27,7 @@ use Rattle.wi_criteria_functions.specs.declared.counting.Counting.{Counting}
 use Rattle.wi_criteria_functions.specs.declared.ending.Ending.{Ending}
 use Rattle.wi_criteria_functions.specs.declared.ending.Ending.TheVariants.{Error, Stopped}
 use Rattle.wi_criteria_functions.specs.Inner.Counts.{counted, IsCut}
-use Rattle.wi_criteria_functions.specs.Inner.Giving.{region_in, criterion_argument, Agrees, Gives}
+use Rattle.wi_criteria_functions.specs.Inner.Giving.{region_in, criterion_argument, Gives}
 use Rattle.wi_criteria_functions.proofs.Referring.{IsCriterionAt}
 
 -- ---- a count goes no higher than it fits, and no number is so great

@@ -1,15 +1,14 @@
 -- What a function takes of its arguments.
-use Rattle.std.proofs.Common.{◌≡◌, ℕ, zero, suc, ◌<◌, ◌≤◌, Bool, true, false, ◌||◌, List, [], ◌∷◌, length, map, Option, Some, None, option_map, MatchOption, Bor, refl, sym, ap, ◌∙◌, subst}
+use Rattle.std.proofs.Common.{◌≡◌, ℕ, zero, suc, Bool, true, false, ◌||◌, List, [], ◌∷◌, length, Option, Some, None, option_map, Bor, refl, sym, ap, ◌∙◌, subst}
 use Rattle.std.specs.Prelude.{slice_get, Result, Ok, Err, IfOk}
 use Rattle.std.specs.List.{list_any}
 use Rattle.std.specs.Option.{option_copied, option_map_or}
 use Rattle.std.specs.Slice.{IsItemAt}
 use Rattle.std.proofs.lemmas.Option.{slice_get-map, slice_get_past, slice_get_read}
-use Rattle.wi_values.specs.Address.{Area, is_within}
+use Rattle.wi_values.specs.Address.{Area}
 use Rattle.wi_values.specs.declared.value.ErrorKind.{ErrorKind}
-use Rattle.wi_values.specs.declared.value.ErrorKind.TheVariants.{BadValue}
 use Rattle.wi_values.specs.declared.value.Value.{Value}
-use Rattle.wi_values.specs.declared.value.Value.TheVariants.{Empty, Fault}
+use Rattle.wi_values.specs.declared.value.Value.TheVariants.{Empty}
 use Rattle.wi_standard_functions.specs.Arguments.{Argument, Region, region_referred, region_or, value_at}
 use Rattle.wi_standard_functions.specs.Criterion.{criterion_of}
 use Rattle.wi_standard_functions.specs.FirstError.{no_error}

@@ -1,5 +1,5 @@
 -- What SUMIF adds.
-use Rattle.std.proofs.Common.{◌≡◌, ℕ, ◌+◌, Bool, true, false, cond, ◌||◌, List, [], ◌∷◌, map, filter, fold, Option, Some, None, IfSome, refl, sym, ap, ◌∙◌, subst, arith}
+use Rattle.std.proofs.Common.{◌≡◌, ℕ, Bool, true, false, cond, ◌||◌, List, [], ◌∷◌, map, filter, fold, Option, Some, None, IfSome, refl, sym, ap, ◌∙◌, subst}
 use Rattle.std.specs.Prelude.{Result, Ok, Err, zip, if◌then◌else◌}
 use Rattle.std.specs.List.{list_any}
 use Rattle.wi_fraction.specs.Number as numbers
@@ -7,7 +7,7 @@ use Rattle.wi_values.specs.Address.{Area, cells_of, is_within}
 use Rattle.wi_values.specs.declared.value.ErrorKind.{ErrorKind}
 use Rattle.wi_values.specs.declared.value.ErrorKind.TheVariants.{BadValue}
 use Rattle.wi_values.specs.declared.value.Value.{Value}
-use Rattle.wi_values.specs.declared.value.Value.TheVariants.{Empty, Number, Fault}
+use Rattle.wi_values.specs.declared.value.Value.TheVariants.{Empty, Number}
 use Rattle.wi_standard_functions.specs.Arguments.{Argument, Region, region_of, region_at, region_or, value_at}
 use Rattle.wi_standard_functions.specs.Arithmetic.{addition}
 use Rattle.wi_standard_functions.specs.Convert.{zero_number}
@@ -18,9 +18,8 @@ use Rattle.wi_standard_functions.specs.Mathematical.{same_size, chosen_cells, su
 use Rattle.wi_standard_functions.specs.Sequence.{Item, from_cell, number_of_item, with_number}
 use Rattle.wi_standard_functions.specs.Steps.{◌>>=◌, and_then}
 use Rattle.wi_lookup.specs.declared.argument.Argument as given
-use Rattle.wi_lookup.specs.declared.stop.Stop.{Stop}
 use Rattle.wi_lookup.specs.declared.stop.Stop.TheVariants.{Missing, Memory}
-use Rattle.wi_lookup.specs.Arguments.{arguments_in, refers_to, KnownAgrees, IsMissing, IfMissing}
+use Rattle.wi_lookup.specs.Arguments.{arguments_in, refers_to, KnownAgrees}
 use Rattle.wi_lookup.specs.Filled.{IsNextFilled}
 use Rattle.wi_lookup.specs.Walk.{after_cells, IsNextAfter}
 use Rattle.wi_lookup.proofs.Walking as walk

@@ -11,7 +11,7 @@ use Rattle.wi_standard_functions.specs.Comparison.{rank, order}
 use Rattle.wi_standard_functions.specs.Matching.{can_be_found, same_kind}
 use Rattle.wi_matching.specs.declared.criterion.Relation.{Relation}
 use Rattle.wi_matching.specs.declared.criterion.Relation.TheVariants.{Equal, Unequal, Less, AtMost, Greater, AtLeast}
-use Rattle.wi_matching.specs.Inner.Meeting.{relation_of, holds, holds_between_kinds, is_met, EmptyMeetsNone}
+use Rattle.wi_matching.specs.Inner.Meeting.{relation_of, holds, holds_between_kinds, EmptyMeetsNone}
 
 -- what is told by the order of a value to the operand, where they are of one kind
 abbrev pub told : Relation → Value → Option Ordering → Bool
