@@ -3,17 +3,18 @@ use Rattle.std.specs.Prelude.{Bool, List, map, None}
 use Rattle.wi_values.specs.declared.value.Value.{Value as AnyValue}
 use Rattle.wi_standard_functions.specs.Arguments.{Argument}
 use Rattle.wi_standard_functions.specs.Functions.{of_none, of_one, of_two, of_two_or, of_three, of_three_or, of_values, of_condition, of_test, zero_value, one_value}
-use Rattle.wi_standard_functions.specs.Information.{count_value, count_a_value, is_empty_value, is_number_value, is_text_value, is_no_text, is_logical_value, is_error_value, is_not_available, is_other_error, na_value, value_value}
+use Rattle.wi_standard_functions.specs.Information.{count_value, count_a_value, count_if_value, is_empty_value, is_number_value, is_text_value, is_no_text, is_logical_value, is_error_value, is_not_available, is_other_error, na_value, value_value}
 use Rattle.wi_standard_functions.specs.Logical.{and_value, or_value, not_value, if_value, if_error_value, if_na_value, true_value, false_value}
-use Rattle.wi_standard_functions.specs.Lookup.{choose_value}
-use Rattle.wi_standard_functions.specs.Mathematical.{abs_value, sign_value, quotient_value, mod_value, power_value, sum_value, product_value}
+use Rattle.wi_standard_functions.specs.Lookup.{choose_value, index_value, match_value, v_lookup_value, h_lookup_value}
+use Rattle.wi_standard_functions.specs.Mathematical.{abs_value, sign_value, quotient_value, mod_value, power_value, sum_value, product_value, sum_if_value}
 use Rattle.wi_standard_functions.specs.Rounding.{int_value, round_value}
 use Rattle.wi_standard_functions.specs.Statistical.{min_value, max_value, average_value}
 use Rattle.wi_standard_functions.specs.Text.{len_value, left_value, right_value, mid_value, concatenate_value, exact_value, find_value, rept_value}
 use Rattle.wi_calls.specs.declared.function.Function.{Function}
 use Rattle.wi_calls.specs.declared.function.Function.TheVariants.{Lazy, Values, References}
 use Rattle.wi_calls.specs.declared.function.LazyFunction.TheVariants.{If, IfError, IfNa, Choose}
-use Rattle.wi_calls.specs.declared.function.ReferenceFunction.TheVariants.{And, Average, Count, CountA, Max, Min, Or, Product, Sum}
+use Rattle.wi_calls.specs.declared.function.FoldFunction.TheVariants.{And, Average, Count, CountA, Max, Min, Or, Product, Sum}
+use Rattle.wi_calls.specs.declared.function.ReferenceFunction.TheVariants.{CountIf, Fold, HLookup, Index, Match, SumIf, VLookup}
 use Rattle.wi_calls.specs.declared.function.Test.{Test}
 use Rattle.wi_calls.specs.declared.function.Test.TheVariants as test
 use Rattle.wi_calls.specs.declared.function.TextFunction.TheVariants.{Concatenate, Exact, Find, Left, Len, Mid, Rept, Right}
@@ -58,15 +59,21 @@ applied (Values (Text Len)) args = of_one len_value args
 applied (Values (Text Mid)) args = of_three mid_value args
 applied (Values (Text Rept)) args = of_two rept_value args
 applied (Values (Text Right)) args = of_two_or one_value right_value args
-applied (References And) args = and_value args
-applied (References Average) args = average_value args
-applied (References Count) args = count_value args
-applied (References CountA) args = count_a_value args
-applied (References Max) args = max_value args
-applied (References Min) args = min_value args
-applied (References Or) args = or_value args
-applied (References Product) args = product_value args
-applied (References Sum) args = sum_value args
+applied (References (Fold And)) args = and_value args
+applied (References (Fold Average)) args = average_value args
+applied (References (Fold Count)) args = count_value args
+applied (References (Fold CountA)) args = count_a_value args
+applied (References CountIf) args = count_if_value args
+applied (References HLookup) args = h_lookup_value args
+applied (References Index) args = index_value args
+applied (References Match) args = match_value args
+applied (References (Fold Max)) args = max_value args
+applied (References (Fold Min)) args = min_value args
+applied (References (Fold Or)) args = or_value args
+applied (References (Fold Product)) args = product_value args
+applied (References (Fold Sum)) args = sum_value args
+applied (References SumIf) args = sum_if_value args
+applied (References VLookup) args = v_lookup_value args
 
 -- arguments with these values, none of which is a reference
 abbrev pub arguments_of : List AnyValue → List Argument

@@ -72,6 +72,18 @@ pub enum TextFunction {
 /// A function that takes references.
 #[derive(Clone, Copy)]
 pub enum ReferenceFunction {
+    CountIf,
+    Fold(FoldFunction),
+    HLookup,
+    Index,
+    Match,
+    SumIf,
+    VLookup,
+}
+
+/// A function that folds the items of its parameters, the cells of references among them.
+#[derive(Clone, Copy)]
+pub enum FoldFunction {
     And,
     Average,
     Count,

@@ -9,9 +9,8 @@ ghost use Rattle.wi_calls.specs.Inner.Rows.{function_of};
 
 use crate::function::Function::{self, Lazy, References, Values};
 use crate::function::LazyFunction::{Choose, If, IfError, IfNa};
-use crate::function::ReferenceFunction::{
-    And, Average, Count, CountA, Max, Min, Or, Product, Sum,
-};
+use crate::function::FoldFunction::{And, Average, Count, CountA, Max, Min, Or, Product, Sum};
+use crate::function::ReferenceFunction::{CountIf, Fold, HLookup, Index, Match, SumIf, VLookup};
 use crate::function::Test;
 use crate::function::TextFunction::{Concatenate, Exact, Find, Left, Len, Mid, Rept, Right};
 use crate::function::ValueFunction::{
@@ -24,20 +23,23 @@ use wi_values::ErrorKind;
 /// function.
 type Row = (&'static str, usize, Option<usize>, Function);
 
-static ROWS: [Row; 44] = [
+static ROWS: [Row; 50] = [
     ("ABS", 1, Some(1), Values(Abs)),
-    ("AND", 1, None, References(And)),
-    ("AVERAGE", 1, None, References(Average)),
+    ("AND", 1, None, References(Fold(And))),
+    ("AVERAGE", 1, None, References(Fold(Average))),
     ("CHOOSE", 2, None, Lazy(Choose)),
     ("CONCATENATE", 1, None, Values(Text(Concatenate))),
-    ("COUNT", 1, None, References(Count)),
-    ("COUNTA", 1, None, References(CountA)),
+    ("COUNT", 1, None, References(Fold(Count))),
+    ("COUNTA", 1, None, References(Fold(CountA))),
+    ("COUNTIF", 2, Some(2), References(CountIf)),
     ("EXACT", 2, Some(2), Values(Text(Exact))),
     ("FALSE", 0, Some(0), Values(False)),
     ("FIND", 2, Some(3), Values(Text(Find))),
+    ("HLOOKUP", 3, Some(4), References(HLookup)),
     ("IF", 1, Some(3), Lazy(If)),
     ("IFERROR", 2, Some(2), Lazy(IfError)),
     ("IFNA", 2, Some(2), Lazy(IfNa)),
+    ("INDEX", 2, Some(3), References(Index)),
     ("INT", 1, Some(1), Values(Int)),
     ("ISBLANK", 1, Some(1), Values(Is(Test::Blank))),
     ("ISERR", 1, Some(1), Values(Is(Test::Err))),
@@ -49,15 +51,16 @@ static ROWS: [Row; 44] = [
     ("ISTEXT", 1, Some(1), Values(Is(Test::Text))),
     ("LEFT", 1, Some(2), Values(Text(Left))),
     ("LEN", 1, Some(1), Values(Text(Len))),
-    ("MAX", 1, None, References(Max)),
+    ("MATCH", 2, Some(3), References(Match)),
+    ("MAX", 1, None, References(Fold(Max))),
     ("MID", 3, Some(3), Values(Text(Mid))),
-    ("MIN", 1, None, References(Min)),
+    ("MIN", 1, None, References(Fold(Min))),
     ("MOD", 2, Some(2), Values(Mod)),
     ("NA", 0, Some(0), Values(Na)),
     ("NOT", 1, Some(1), Values(Not)),
-    ("OR", 1, None, References(Or)),
+    ("OR", 1, None, References(Fold(Or))),
     ("POWER", 2, Some(2), Values(Power)),
-    ("PRODUCT", 1, None, References(Product)),
+    ("PRODUCT", 1, None, References(Fold(Product))),
     ("QUOTIENT", 2, Some(2), Values(Quotient)),
     ("REPT", 2, Some(2), Values(Text(Rept))),
     ("RIGHT", 1, Some(2), Values(Text(Right))),
@@ -65,10 +68,12 @@ static ROWS: [Row; 44] = [
     ("ROUNDDOWN", 1, Some(2), Values(Round(Mode::Toward))),
     ("ROUNDUP", 1, Some(2), Values(Round(Mode::Away))),
     ("SIGN", 1, Some(1), Values(Sign)),
-    ("SUM", 1, None, References(Sum)),
+    ("SUM", 1, None, References(Fold(Sum))),
+    ("SUMIF", 2, Some(3), References(SumIf)),
     ("TRUE", 0, Some(0), Values(True)),
     ("TRUNC", 1, Some(2), Values(Round(Mode::Toward))),
     ("VALUE", 1, Some(1), Values(Value)),
+    ("VLOOKUP", 3, Some(4), References(VLookup)),
 ];
 
 /// The function that a call with that name, in capitals, and so many parameters is a call of: `UnknownName` where none has

@@ -234,7 +234,7 @@ fn call_value<L: Lookup>(
         }
         Ok(Function::References(function)) => {
             let arguments = all_arguments(alloc, parameters, lookup)?;
-            match value_of_references(function, &arguments, lookup) {
+            match value_of_references(alloc, function, &arguments, lookup) {
                 Ok(value) => Ok(value),
                 Err(stop) => Err(stopped(stop)),
             }

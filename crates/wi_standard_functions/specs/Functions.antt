@@ -7,10 +7,10 @@ use Rattle.wi_values.specs.declared.value.Value.{Value}
 use Rattle.wi_values.specs.declared.value.Value.TheVariants.{Number, Logical, Fault}
 use Rattle.wi_standard_functions.specs.Arguments.{Argument, value_at, value_or}
 use Rattle.wi_standard_functions.specs.Convert.{zero_number, one_number}
-use Rattle.wi_standard_functions.specs.Information.{count_value, count_a_value, is_empty_value, is_number_value, is_text_value, is_no_text, is_logical_value, is_error_value, is_not_available, is_other_error, na_value, value_value}
+use Rattle.wi_standard_functions.specs.Information.{count_value, count_a_value, count_if_value, is_empty_value, is_number_value, is_text_value, is_no_text, is_logical_value, is_error_value, is_not_available, is_other_error, na_value, value_value}
 use Rattle.wi_standard_functions.specs.Logical.{and_value, or_value, not_value, if_value, if_error_value, if_na_value, true_value, false_value}
-use Rattle.wi_standard_functions.specs.Lookup.{choose_value}
-use Rattle.wi_standard_functions.specs.Mathematical.{abs_value, sign_value, quotient_value, mod_value, power_value, sum_value, product_value}
+use Rattle.wi_standard_functions.specs.Lookup.{choose_value, index_value, match_value, v_lookup_value, h_lookup_value}
+use Rattle.wi_standard_functions.specs.Mathematical.{abs_value, sign_value, quotient_value, mod_value, power_value, sum_value, product_value, sum_if_value}
 use Rattle.wi_standard_functions.specs.Rounding.{int_value, round_value}
 use Rattle.wi_standard_functions.specs.Statistical.{min_value, max_value, average_value}
 use Rattle.wi_standard_functions.specs.Text.{len_value, left_value, right_value, mid_value, concatenate_value, exact_value, find_value, rept_value}
@@ -78,12 +78,15 @@ functions =
     ∷ variadic (codes "CONCATENATE") 1 (of_values concatenate_value)
     ∷ variadic (codes "COUNT") 1 count_value
     ∷ variadic (codes "COUNTA") 1 count_a_value
+    ∷ with_parameters (codes "COUNTIF") 2 2 count_if_value
     ∷ with_parameters (codes "EXACT") 2 2 (of_two exact_value)
     ∷ with_parameters (codes "FALSE") 0 0 (of_none false_value)
     ∷ with_parameters (codes "FIND") 2 3 (of_three_or one_value find_value)
+    ∷ with_parameters (codes "HLOOKUP") 3 4 h_lookup_value
     ∷ with_parameters (codes "IF") 1 3 (of_condition if_value)
     ∷ with_parameters (codes "IFERROR") 2 2 (of_two if_error_value)
     ∷ with_parameters (codes "IFNA") 2 2 (of_two if_na_value)
+    ∷ with_parameters (codes "INDEX") 2 3 index_value
     ∷ with_parameters (codes "INT") 1 1 (of_one int_value)
     ∷ with_parameters (codes "ISBLANK") 1 1 (of_test is_empty_value)
     ∷ with_parameters (codes "ISERR") 1 1 (of_test is_other_error)
@@ -95,6 +98,7 @@ functions =
     ∷ with_parameters (codes "ISTEXT") 1 1 (of_test is_text_value)
     ∷ with_parameters (codes "LEFT") 1 2 (of_two_or one_value left_value)
     ∷ with_parameters (codes "LEN") 1 1 (of_one len_value)
+    ∷ with_parameters (codes "MATCH") 2 3 match_value
     ∷ variadic (codes "MAX") 1 max_value
     ∷ with_parameters (codes "MID") 3 3 (of_three mid_value)
     ∷ variadic (codes "MIN") 1 min_value
@@ -112,9 +116,11 @@ functions =
     ∷ with_parameters (codes "ROUNDUP") 1 2 (of_two_or zero_value (round_value Away))
     ∷ with_parameters (codes "SIGN") 1 1 (of_one sign_value)
     ∷ variadic (codes "SUM") 1 sum_value
+    ∷ with_parameters (codes "SUMIF") 2 3 sum_if_value
     ∷ with_parameters (codes "TRUE") 0 0 (of_none true_value)
     ∷ with_parameters (codes "TRUNC") 1 2 (of_two_or zero_value (round_value Toward))
     ∷ with_parameters (codes "VALUE") 1 1 (of_one value_value)
+    ∷ with_parameters (codes "VLOOKUP") 3 4 v_lookup_value
     ∷ []
 
 -- ---- calls
