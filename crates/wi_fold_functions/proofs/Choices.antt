@@ -1,5 +1,5 @@
 -- What MIN, MAX, AND and OR make of the items: of those that count, one is chosen.
-use Rattle.std.proofs.Common.{◌≡◌, Bool, true, false, ◌&&◌, List, [], ◌∷◌, fold, Option, Some, None, refl, sym, ap, ◌∙◌}
+use Rattle.std.proofs.Common.{◌≡◌, Bool, true, false, ◌&&◌, List, [], ◌∷◌, fold, Option, Some, None, refl, ap, ◌∙◌}
 use Rattle.std.specs.Prelude.{◌||◌, unwrap_or, Result, Ok, Err}
 use Rattle.std.specs.List.{flat_map, reduce, list_all, list_any}
 use Rattle.std.specs.Option.{option_to_list}
@@ -10,7 +10,7 @@ use Rattle.wi_values.specs.declared.value.Value.TheVariants.{Number, Logical}
 use Rattle.wi_standard_functions.specs.Arguments.{Argument}
 use Rattle.wi_standard_functions.specs.Convert.{zero_number}
 use Rattle.wi_standard_functions.specs.Logical.{tested, and_value, or_value}
-use Rattle.wi_standard_functions.specs.Sequence.{Item, sequence_of, number_of_item, logical_of_item, numbers_of, logicals_of, all_that_count}
+use Rattle.wi_standard_functions.specs.Sequence.{Item, sequence_of, number_of_item, logical_of_item, all_that_count}
 use Rattle.wi_standard_functions.specs.Statistical.{smaller_number, greater_number, min_value, max_value}
 use Rattle.wi_standard_functions.specs.Steps.{◌>>=◌, and_then, map_until_error, fold_until_error}
 use Rattle.wi_fold_functions.specs.declared.logical.AllTrue.{AllTrue}

@@ -1,6 +1,6 @@
 -- What COUNT, COUNTA and AVERAGE make of the items.
-use Rattle.std.proofs.Common.{◌≡◌, ℕ, suc, ◌+◌, ◌<◌, ◌≤◌, Bool, true, false, cond, not, List, [], ◌∷◌, length, fold, Option, Some, None, refl, sym, ap, ◌∙◌, inl, arith}
-use Rattle.std.specs.Prelude.{is_some, ◌^◌, ◌-◌, min, nat_le, pos, Result, Ok, Err}
+use Rattle.std.proofs.Common.{◌≡◌, ℕ, ◌+◌, ◌<◌, Bool, true, false, cond, not, List, [], ◌∷◌, length, fold, Option, Some, None, refl, sym, ap, ◌∙◌, inl, arith}
+use Rattle.std.specs.Prelude.{is_some, ◌^◌, ◌-◌, min, nat_le, Result, Ok, Err}
 use Rattle.std.proofs.Math.Nat.{sub-add-min_cancel}
 use Rattle.std.proofs.lemmas.Bool.Decides.{nat_tests}
 use Rattle.std.specs.List.{flat_map}
@@ -11,12 +11,12 @@ use Rattle.wi_fraction.proofs.Numbers.{number_at-too_large, number_of-whole}
 use Rattle.wi_values.specs.declared.value.ErrorKind.{ErrorKind}
 use Rattle.wi_values.specs.declared.value.ErrorKind.TheVariants.{BadNumber}
 use Rattle.wi_values.specs.declared.value.Value.{Value}
-use Rattle.wi_values.specs.declared.value.Value.TheVariants.{Number, Fault}
+use Rattle.wi_values.specs.declared.value.Value.TheVariants.{Number}
 use Rattle.wi_standard_functions.specs.Arguments.{Argument}
 use Rattle.wi_standard_functions.specs.Arithmetic.{addition, division, fitting, whole_number, whole_value}
 use Rattle.wi_standard_functions.specs.Convert.{zero_number}
 use Rattle.wi_standard_functions.specs.Information.{is_number_value, is_empty_value, count_value, count_a_value}
-use Rattle.wi_standard_functions.specs.Sequence.{Item, sequence_of, value_of_item, number_of_item, numbers_of, number_fold, with_number, count_items}
+use Rattle.wi_standard_functions.specs.Sequence.{Item, sequence_of, value_of_item, number_of_item, numbers_of, number_fold, with_number}
 use Rattle.wi_standard_functions.specs.Statistical.{average_value}
 use Rattle.wi_standard_functions.specs.Steps.{◌>>=◌, and_then, map_until_error, fold_until_error}
 use Rattle.wi_fold_functions.specs.declared.information.FilledCount.{FilledCount}
