@@ -1,4 +1,3 @@
-use Rattle.std.proofs.Common.{rules}
 use Rattle.wi_functions.proofs.references.folded.Goals as goal
 
 pub returns-in-Or-clause-done : goal.returns-in-Or-clause-done

@@ -1,0 +1,13 @@
+use Rattle.wi_functions.proofs.references.value_of_references.Goals as goal
+
+pub returns-in-Index-clause-done : goal.returns-in-Index-clause-done
+returns-in-Index-clause-done g c = rw c.in-Index.is c.index_value.ensures.done
+
+pub returns-in-Match-clause-done : goal.returns-in-Match-clause-done
+returns-in-Match-clause-done g c = rw c.in-Match.is c.match_value.ensures.done
+
+pub returns-in-SumIf-clause-done : goal.returns-in-SumIf-clause-done
+returns-in-SumIf-clause-done g c = rw c.in-SumIf.is c.sum_if_value.ensures.done
+
+pub returns-in-VLookup-clause-done : goal.returns-in-VLookup-clause-done
+returns-in-VLookup-clause-done g c = rw c.in-VLookup.is c.v_lookup_value.ensures.done
