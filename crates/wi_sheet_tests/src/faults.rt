@@ -1,8 +1,7 @@
-//! The texts of refusals, and the number of one.
+//! The texts of refusals.
 
 use std::test::Fail;
 use wi_csv::CsvFault;
-use wi_scenarios::Refusal;
 use wi_store::StoreFault;
 
 #[test]
@@ -27,9 +26,4 @@ fn faults_of_csv(rt: HostRuntime) -> Result<(), Fail> {
         "the records can't be read; there is no memory left"
     );
     Ok(())
-}
-
-#[test]
-fn numbers_of_refusals(rt: HostRuntime) {
-    assert_eq!(rt; Refusal::Syntax.code(), 5);
 }

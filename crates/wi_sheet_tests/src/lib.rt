@@ -1,11 +1,7 @@
-//! Tests of what no stored run shows: calls of stores, worlds, kept values, the range index, the calculator, workbooks and
-//! devices. They stand apart since a crate with tests is proved twice.
+//! Tests of what no stored run shows: calls of stores, worlds, kept values and the range index. They stand apart since a crate
+//! with tests is proved twice.
 #![tactic(auto)]
 
-#[cfg(test)]
-mod calculator;
-#[cfg(test)]
-mod devices;
 #[cfg(test)]
 mod faults;
 #[cfg(test)]
@@ -18,7 +14,5 @@ mod refused_growths;
 mod stores;
 #[cfg(test)]
 mod texts;
-#[cfg(test)]
-mod workbook;
 #[cfg(test)]
 mod worlds;
