@@ -5,6 +5,8 @@ mod function;
 mod table;
 mod value;
 
-pub use function::{FoldFunction, Function, LazyFunction, ReferenceFunction, Test, TextFunction, ValueFunction};
+pub use function::{
+    FoldFunction, Function, LazyFunction, ReferenceFunction, Test, TextFunction, ValueFunction,
+};
 pub use table::function_for;
 pub use value::value_of_values;

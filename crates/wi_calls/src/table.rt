@@ -7,9 +7,9 @@ ghost use Rattle.wi_values.specs.declared.value.Value.TheVariants.{Fault};
 ghost use Rattle.wi_calls.specs.Applied.{applied};
 ghost use Rattle.wi_calls.specs.Inner.Rows.{function_of};
 
+use crate::function::FoldFunction::{And, Average, Count, CountA, Max, Min, Or, Product, Sum};
 use crate::function::Function::{self, Lazy, References, Values};
 use crate::function::LazyFunction::{Choose, If, IfError, IfNa};
-use crate::function::FoldFunction::{And, Average, Count, CountA, Max, Min, Or, Product, Sum};
 use crate::function::ReferenceFunction::{CountIf, Fold, HLookup, Index, Match, SumIf, VLookup};
 use crate::function::Test;
 use crate::function::TextFunction::{Concatenate, Exact, Find, Left, Len, Mid, Rept, Right};

@@ -287,11 +287,7 @@ fn parameter_or<L: Lookup>(
 /// The values of all parameters.
 #[cycle(evaluating)]
 #[inline(never)]
-fn all_values<L: Lookup>(
-    alloc: Global,
-    parameters: &[Expr],
-    lookup: &L,
-) -> Result<Vec<Value>, Stop>
+fn all_values<L: Lookup>(alloc: Global, parameters: &[Expr], lookup: &L) -> Result<Vec<Value>, Stop>
     ensures done { IfOk result (λ vs. (a : Assignment) → AgreesWith (L.known_cell lookup.now) (L.known_what_if lookup.now) a → vs.items ≡ values_of (formulas.arguments (all_of parameters.now) a.cells a.what_ifs)) }
     ensures asked { IfErr result (λ s. IfNeeds s (AnyAsks (all_of parameters.now))) }
     ensures unknown { IfErr result (λ s. IfNeeds s (IsUnknown (L.known_cell lookup.now) (L.known_what_if lookup.now))) }

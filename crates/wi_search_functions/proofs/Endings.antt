@@ -103,9 +103,9 @@ sought_halts known args i zero r h z k g =
     gives_so {A = Bor Value} {B = Value} known (IsMissing known args) (λ v. v.now) (λ cells. and_then (λ v. Ok (sought_for v)) (no_error (value_at (arguments_in cells args) i))) r h k
     (passes_on {A = Bor Value} {B = Value} {C = Bor Value} {D = Value} known (IsMissing known args) (λ v. v.now) (λ v. v.now) (λ cells. no_error (value_or zero (arguments_in cells args) i)) (λ cells. and_then (λ v. Ok (sought_for v)) (no_error (value_at (arguments_in cells args) i))) h
     (λ cells e q.
-        sought_or_zero (arguments_in cells args) i
-        ∙ ap (λ (w : Value). and_then (λ (v : Value). Ok (sought_for v)) (no_error (value_or w (arguments_in cells args) i))) (sym z)
-        ∙ ap (λ (o : Result Value ErrorKind). and_then (λ (v : Value). Ok (sought_for v)) o) q) g)
+    sought_or_zero (arguments_in cells args) i
+    ∙ ap (λ (w : Value). and_then (λ (v : Value). Ok (sought_for v)) (no_error (value_or w (arguments_in cells args) i))) (sym z)
+    ∙ ap (λ (o : Result Value ErrorKind). and_then (λ (v : Value). Ok (sought_for v)) o) q) g)
 
 -- ---- INDEX
 

@@ -18,11 +18,7 @@ use wi_values::{ErrorKind, Value};
 
 /// The place, counted from 1, of a value in one row or one column. The filled cells of it are looked up one after another: for
 /// a match type of 0 up to the first that is equal, else all.
-pub fn match_value<L: Lookup>(
-    _: Global,
-    arguments: &[Argument],
-    lookup: &L,
-) -> Result<Value, Stop>
+pub fn match_value<L: Lookup>(_: Global, arguments: &[Argument], lookup: &L) -> Result<Value, Stop>
     ensures done { IfOk result (IsOfArguments (L.known_cell lookup.now) match_value arguments.now) }
     ensures missing { IfErr result (λ s. IfMissing s (IsMissing (L.known_cell lookup.now) arguments.now)) }
 {

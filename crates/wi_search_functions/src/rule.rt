@@ -32,7 +32,11 @@ impl Rule {
     pub(crate) fn in_order(in_order: bool) -> Rule
         ensures { result ≡ rule_in_order in_order }
     {
-        if in_order { Rule::LastAtMost } else { Rule::FirstEqual }
+        if in_order {
+            Rule::LastAtMost
+        } else {
+            Rule::FirstEqual
+        }
     }
 
     /// Whether a value with this order to the one sought is asked for.

@@ -86,8 +86,8 @@ mutual
   arguments_same f (more_trees t ts) g h w v k l =
       ap₂ (λ (x : Argument) (xs : List Argument). x ∷ xs)
       (ap₂ (λ (x : Value) (r : Option Region). record { value = x; region = r })
-        (meaning_same t g h w v (λ a r. k a (first_reads f t ts a r)) (λ c ps i. l c ps (first_reads f t ts c i.0, λ a r. first_reads f t ts a (i.1 a r))))
-        (referred_same t g h (λ a r. k a (first_reads f t ts a r))))
+      (meaning_same t g h w v (λ a r. k a (first_reads f t ts a r)) (λ c ps i. l c ps (first_reads f t ts c i.0, λ a r. first_reads f t ts a (i.1 a r))))
+      (referred_same t g h (λ a r. k a (first_reads f t ts a r))))
       (arguments_same f ts g h w v (λ a r. k a (rest_reads f t ts a r)) (λ c ps i. l c ps (rest_reads f t ts c i.0, λ a r. rest_reads f t ts a (i.1 a r))))
 
 abbrev with : ℕ → Value → List Replacement → List Replacement

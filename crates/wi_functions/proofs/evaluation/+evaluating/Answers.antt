@@ -31,14 +31,16 @@ all_arguments-loop-parameter-preserved g t c =
     elim c.match-referred.branch [
       | all_arguments-in-Some w ↦ (
         λ a agrees. more_arguments es i e c.loop-parameter.arguments.items c.push.new.self.items c.match-referred.argument a.cells a.what_ifs c.loop-parameter-test.true c.parameter-item.is c.in_ok-push.ensures.items
-          (rw w.argument-is (reference_is (tree_of e) w.in-Some.area a.cells a.what_ifs (sym c.referred.ensures ∙ w.in-Some.is))) (c.loop-parameter.invariant.0 a agrees),
+            (rw w.argument-is (reference_is (tree_of e) w.in-Some.area a.cells a.what_ifs (sym c.referred.ensures ∙ w.in-Some.is))) (c.loop-parameter.invariant.0 a agrees),
         more_refer es i e c.loop-parameter.arguments.items c.push.new.self.items c.match-referred.argument c.loop-parameter-test.true c.parameter-item.is c.in_ok-push.ensures.items
-          (rw w.argument-is (λ d r. reference_asks (tree_of e) w.in-Some.area d (sym c.referred.ensures ∙ w.in-Some.is) r)) c.loop-parameter.invariant.1)
+            (rw w.argument-is (λ d r. reference_asks (tree_of e) w.in-Some.area d (sym c.referred.ensures ∙ w.in-Some.is) r)) c.loop-parameter.invariant.1,
+      )
       | all_arguments-in-None+in_ok-value_of-in-None w ↦ (
         λ a agrees. more_arguments es i e c.loop-parameter.arguments.items c.push.new.self.items c.match-referred.argument a.cells a.what_ifs c.loop-parameter-test.true c.parameter-item.is c.in_ok-push.ensures.items
-          (rw w.argument-is (value_is (tree_of e) w.in_ok-value_of-in-None.field-0 a.cells a.what_ifs (sym c.referred.ensures ∙ w.in-None.is) (w.in_ok-value_of-in-None.ensures.done a agrees))) (c.loop-parameter.invariant.0 a agrees),
+            (rw w.argument-is (value_is (tree_of e) w.in_ok-value_of-in-None.field-0 a.cells a.what_ifs (sym c.referred.ensures ∙ w.in-None.is) (w.in_ok-value_of-in-None.ensures.done a agrees))) (c.loop-parameter.invariant.0 a agrees),
         more_refer es i e c.loop-parameter.arguments.items c.push.new.self.items c.match-referred.argument c.loop-parameter-test.true c.parameter-item.is c.in_ok-push.ensures.items
-          (rw w.argument-is (λ d r. cc)) c.loop-parameter.invariant.1)
+            (rw w.argument-is (λ d r. cc)) c.loop-parameter.invariant.1,
+      )
     ]
 
 pub all_values-returns-in_err-value_of-clause-asked : goal.all_values-returns-in_err-value_of-clause-asked
@@ -56,10 +58,10 @@ call_value-returns-in-Err-clause-done g t c =
 pub call_value-returns-in-Ok-Lazy-clause-done : goal.call_value-returns-in-Ok-Lazy-clause-done
 call_value-returns-in-Ok-Lazy-clause-done g t c =
     ok_then _ _ c.lazy_value.result (λ v h a agrees. let args = arguments (all_of c.args.parameters.now) a.cells a.what_ifs in
-      h a agrees
-      ∙ ap (λ (f : Function). applied f args) (sym c.in-Ok-Lazy.field-0-is)
-      ∙ sym (c.in-Ok-Lazy.ensures.found args (length_arguments c.args.parameters.now a.cells a.what_ifs))
-      ∙ ap (λ (n : List ℕ). call_value n args) c.as_str.ensures) c.lazy_value.ensures.done
+    h a agrees
+    ∙ ap (λ (f : Function). applied f args) (sym c.in-Ok-Lazy.field-0-is)
+    ∙ sym (c.in-Ok-Lazy.ensures.found args (length_arguments c.args.parameters.now a.cells a.what_ifs))
+    ∙ ap (λ (n : List ℕ). call_value n args) c.as_str.ensures) c.lazy_value.ensures.done
 
 pub call_value-returns-in-Ok-Values-clause-done : goal.call_value-returns-in-Ok-Values-clause-done
 call_value-returns-in-Ok-Values-clause-done g t c =
@@ -96,12 +98,12 @@ lazy_value-returns-in-Value-clause-done g t c =
 pub lazy_value-returns-in-Parameter-clause-done : goal.lazy_value-returns-in-Parameter-clause-done
 lazy_value-returns-in-Parameter-clause-done g t c =
     ok_then _ _ c.parameter_or-in-Parameter.result (λ v h a agrees.
-      h a agrees ∙ c.in-Parameter.ensures (arguments (all_of c.args.parameters.now) a.cells a.what_ifs) (length_arguments c.args.parameters.now a.cells a.what_ifs) (c.in_ok-first.ensures.done a agrees)) c.parameter_or-in-Parameter.ensures.done
+    h a agrees ∙ c.in-Parameter.ensures (arguments (all_of c.args.parameters.now) a.cells a.what_ifs) (length_arguments c.args.parameters.now a.cells a.what_ifs) (c.in_ok-first.ensures.done a agrees)) c.parameter_or-in-Parameter.ensures.done
 
 pub parameter_or-returns-in-Some-clause-done : goal.parameter_or-returns-in-Some-clause-done
 parameter_or-returns-in-Some-clause-done g t c =
     ok_then _ _ c.value_of.result (λ v h a agrees.
-      h a agrees ∙ value_there c.args.parameters.now c.args.place c.in-Some.parameter.now c.args.default a.cells a.what_ifs c.in-Some.ensures.lookup.3.0 c.in-Some.ensures.lookup.1) c.value_of.ensures.done
+    h a agrees ∙ value_there c.args.parameters.now c.args.place c.in-Some.parameter.now c.args.default a.cells a.what_ifs c.in-Some.ensures.lookup.3.0 c.in-Some.ensures.lookup.1) c.value_of.ensures.done
 
 pub parameter_or-returns-in-Some-clause-asked : goal.parameter_or-returns-in-Some-clause-asked
 parameter_or-returns-in-Some-clause-asked g t c =

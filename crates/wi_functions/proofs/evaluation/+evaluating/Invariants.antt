@@ -42,7 +42,7 @@ decreases-with_right_operand g l = 4 * the_size l.right.now + 1
 abbrev pub invariant-all_arguments-loop-parameter : goal.invariant-all_arguments-loop-parameter
 invariant-all_arguments-loop-parameter g l =
     ((a : Assignment) → AgreesWith (g.L.Lookup.known_cell l.lookup) (g.L.Lookup.known_what_if l.lookup) a →
-      arguments_in a.cells l.arguments.items ++ arguments (all_of (drop l.parameter-index l.parameters)) a.cells a.what_ifs ≡ arguments (all_of l.parameters) a.cells a.what_ifs)
+    arguments_in a.cells l.arguments.items ++ arguments (all_of (drop l.parameter-index l.parameters)) a.cells a.what_ifs ≡ arguments (all_of l.parameters) a.cells a.what_ifs)
     × ReferInside l.arguments.items (all_of l.parameters)
 
 -- the values so far and those of the parameters to come are all

@@ -35,6 +35,7 @@ returns g c =
     let fits : FitsSigned w128 c.in_ok-k.k = search rules in
     let same = to_z-of_z w128 c.in_ok-k.k fits in
     let args = c.args.arguments.now in
-    let r = c.in_ok-area.area in
-    (λ cells a. along (arguments_in cells args) (region_of cells r) c.in_ok-k.k (region_is cells args 0 r (sym c.in_ok-area.ensures)) (c.in_ok-k.ensures cells a) ∙ ap (nth_cell_along (region_of cells r)) (sym same) ∙ c.in_ok-nth_cell_along.ensures.0 cells,
-    refers_within args 0 r _ (sym c.in_ok-area.ensures) c.in_ok-nth_cell_along.ensures.1)
+    let r = c.in_ok-area.area in (
+      λ cells a. along (arguments_in cells args) (region_of cells r) c.in_ok-k.k (region_is cells args 0 r (sym c.in_ok-area.ensures)) (c.in_ok-k.ensures cells a) ∙ ap (nth_cell_along (region_of cells r)) (sym same) ∙ c.in_ok-nth_cell_along.ensures.0 cells,
+      refers_within args 0 r _ (sym c.in_ok-area.ensures) c.in_ok-nth_cell_along.ensures.1,
+    )

@@ -52,6 +52,7 @@ returns g c =
     let fits_k : FitsSigned w128 c.in_ok-k.k = search rules in
     let same_k = to_z-of_z w128 c.in_ok-k.k fits_k in
     let args = c.args.arguments.now in
-    let r = c.in_ok-area.area in
-    (λ cells a. both (arguments_in cells args) (region_of cells r) c.in_ok-j.j c.in_ok-k.k (region_is cells args 0 r (sym c.in_ok-area.ensures)) (c.in_ok-j.ensures cells a) (c.in_ok-k.ensures cells a) ∙ turned (nth_cell (region_of cells r)) c.in_ok-j.j _ c.in_ok-k.k _ same_j same_k ∙ c.in_ok-nth_cell.ensures.0 cells,
-    refers_within args 0 r _ (sym c.in_ok-area.ensures) c.in_ok-nth_cell.ensures.1)
+    let r = c.in_ok-area.area in (
+      λ cells a. both (arguments_in cells args) (region_of cells r) c.in_ok-j.j c.in_ok-k.k (region_is cells args 0 r (sym c.in_ok-area.ensures)) (c.in_ok-j.ensures cells a) (c.in_ok-k.ensures cells a) ∙ turned (nth_cell (region_of cells r)) c.in_ok-j.j _ c.in_ok-k.k _ same_j same_k ∙ c.in_ok-nth_cell.ensures.0 cells,
+      refers_within args 0 r _ (sym c.in_ok-area.ensures) c.in_ok-nth_cell.ensures.1,
+    )

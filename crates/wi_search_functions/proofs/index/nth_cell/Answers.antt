@@ -17,6 +17,7 @@ returns c =
     let row_is : Ok c.in_ok-row.row ≡ place_among (height r) c.args.j = c.in_ok-row.ensures.place ∙ ap (λ (z : ℤ). place_among c.height.result z) same_j ∙ ap (λ (n : ℕ). place_among n c.args.j) c.height.ensures in
     let column_is : Ok c.in_ok-column.column ≡ place_among (width r) c.args.k = c.in_ok-column.ensures.place ∙ ap (λ (z : ℤ). place_among c.width.result z) same_k ∙ ap (λ (n : ℕ). place_among n c.args.k) c.width.ensures in
     let row_within : c.in_ok-row.row < height r = subst (λ (n : ℕ). c.in_ok-row.row < n) c.height.ensures c.in_ok-row.ensures.within in
-    let column_within : c.in_ok-column.column < width r = subst (λ (n : ℕ). c.in_ok-column.column < n) c.width.ensures c.in_ok-column.ensures.within in
-    (λ cells. nth_is cells r c.args.j c.args.k c.in_ok-row.row c.in_ok-column.column row_is column_is row_within column_within ∙ ap cells (sym c.cell_at.ensures),
-    subst (λ (a : ℕ). is_within r a ≡ true) (sym c.cell_at.ensures) (nth_within r c.in_ok-row.row c.in_ok-column.column row_within column_within))
+    let column_within : c.in_ok-column.column < width r = subst (λ (n : ℕ). c.in_ok-column.column < n) c.width.ensures c.in_ok-column.ensures.within in (
+      λ cells. nth_is cells r c.args.j c.args.k c.in_ok-row.row c.in_ok-column.column row_is column_is row_within column_within ∙ ap cells (sym c.cell_at.ensures),
+      subst (λ (a : ℕ). is_within r a ≡ true) (sym c.cell_at.ensures) (nth_within r c.in_ok-row.row c.in_ok-column.column row_within column_within),
+    )

@@ -60,5 +60,5 @@ returns g c =
     placed known args match_value (IsMissingIn known r) (λ cells. ok_or (position_by c.of_match_type.result c.in_ok-sought.sought.now (map cells (cells_of r))) NotAvailable) c.place_along.result
     (λ b m. (m.0, refers_within args 1 r b (sym c.in_ok-area.ensures) m.1))
     (λ cells a. match_on_line (arguments_in cells args) cells c.in_ok-sought.sought.now r c.in_ok-match_type.match_type c.of_match_type.result (c.in_ok-sought.ensures cells a) (region_is cells args 1 r (sym c.in_ok-area.ensures))
-        (subst (λ (x : numbers.Number). to_number (value_or (Number x) (arguments_in cells args) 2) ≡ Ok c.in_ok-match_type.match_type) c.one.ensures (c.in_ok-match_type.ensures cells a)) on c.of_match_type.ensures)
+    (subst (λ (x : numbers.Number). to_number (value_or (Number x) (arguments_in cells args) 2) ≡ Ok c.in_ok-match_type.match_type) c.one.ensures (c.in_ok-match_type.ensures cells a)) on c.of_match_type.ensures)
     c.place_along.ensures.place

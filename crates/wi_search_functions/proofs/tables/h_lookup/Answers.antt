@@ -65,9 +65,9 @@ returns-in_err-row g c =
     let e = c.in_err-row.field-0.0 in
     finds_so known args h_lookup_value c.from_residual-in_err-row.result (Error c.in_err-row.field-0.0) c.from_residual-in_err-row.ensures.1
     (λ cells a.
-        let asked : IsAsked (arguments_in cells args) s (region_of cells r) c.in_ok-k.k c.in_ok-in_order.in_order = record { sought_is = c.in_ok-sought.ensures cells a; region_is = region_is cells args 1 r (sym c.in_ok-area.ensures); number_is = c.in_ok-k.ensures cells a; order_is = c.in_ok-in_order.ensures cells a } in
-        h_looks (arguments_in cells args) s (region_of cells r) c.in_ok-k.k c.in_ok-in_order.in_order asked
-        ∙ row_no_place s (region_of cells r) c.in_ok-k.k c.in_ok-in_order.in_order c.in_err-row.field-0.0 (ap (λ (n : ℕ). place_among n c.in_ok-k.k) (sym c.height.ensures) ∙ ap (λ (z : ℤ). place_among c.height.result z) (sym same) ∙ sym c.in_err-row.ensures.place))
+    let asked : IsAsked (arguments_in cells args) s (region_of cells r) c.in_ok-k.k c.in_ok-in_order.in_order = record { sought_is = c.in_ok-sought.ensures cells a; region_is = region_is cells args 1 r (sym c.in_ok-area.ensures); number_is = c.in_ok-k.ensures cells a; order_is = c.in_ok-in_order.ensures cells a } in
+    h_looks (arguments_in cells args) s (region_of cells r) c.in_ok-k.k c.in_ok-in_order.in_order asked
+    ∙ row_no_place s (region_of cells r) c.in_ok-k.k c.in_ok-in_order.in_order c.in_err-row.field-0.0 (ap (λ (n : ℕ). place_among n c.in_ok-k.k) (sym c.height.ensures) ∙ ap (λ (z : ℤ). place_among c.height.result z) (sym same) ∙ sym c.in_err-row.ensures.place))
 
 pub returns-in_err-column : goal.returns-in_err-column
 returns-in_err-column g c =
@@ -84,10 +84,10 @@ returns-in_err-column g c =
     (ended {A = ℕ} {B = ℕ} known args h_lookup_value (IsMissingIn known l) (λ i. i) (λ cells. ok_or (position_by c.in_order.result s (map cells (cells_of l))) NotAvailable) c.in_err-column.field-0.0
     (λ b m. (m.0, refers_within args 1 r b (sym c.in_ok-area.ensures) (line.inside b m.1)))
     (λ cells a e q.
-        let asked : IsAsked (arguments_in cells args) s (region_of cells r) c.in_ok-k.k c.in_ok-in_order.in_order = record { sought_is = c.in_ok-sought.ensures cells a; region_is = region_is cells args 1 r (sym c.in_ok-area.ensures); number_is = c.in_ok-k.ensures cells a; order_is = c.in_ok-in_order.ensures cells a } in
-        h_looks (arguments_in cells args) s (region_of cells r) c.in_ok-k.k c.in_ok-in_order.in_order asked
-        ∙ row_not_seen s (region_of cells r) c.in_ok-k.k c.in_ok-in_order.in_order c.in_ok-row.row e (ap (λ (n : ℕ). place_among n c.in_ok-k.k) (sym c.height.ensures) ∙ ap (λ (z : ℤ). place_among c.height.result z) (sym same) ∙ sym c.in_ok-row.ensures.place)
-        (seen_along c.in_order.result c.in_ok-in_order.in_order s (first_row_of (region_of cells r)) (map cells (cells_of l)) (line.values_are cells) c.in_order.ensures ∙ q))
+    let asked : IsAsked (arguments_in cells args) s (region_of cells r) c.in_ok-k.k c.in_ok-in_order.in_order = record { sought_is = c.in_ok-sought.ensures cells a; region_is = region_is cells args 1 r (sym c.in_ok-area.ensures); number_is = c.in_ok-k.ensures cells a; order_is = c.in_ok-in_order.ensures cells a } in
+    h_looks (arguments_in cells args) s (region_of cells r) c.in_ok-k.k c.in_ok-in_order.in_order asked
+    ∙ row_not_seen s (region_of cells r) c.in_ok-k.k c.in_ok-in_order.in_order c.in_ok-row.row e (ap (λ (n : ℕ). place_among n c.in_ok-k.k) (sym c.height.ensures) ∙ ap (λ (z : ℤ). place_among c.height.result z) (sym same) ∙ sym c.in_ok-row.ensures.place)
+    (seen_along c.in_order.result c.in_ok-in_order.in_order s (first_row_of (region_of cells r)) (map cells (cells_of l)) (line.values_are cells) c.in_order.ensures ∙ q))
     c.in_err-column.ensures.place)
 
 pub cell_at-requires-clause-column_within : goal.cell_at-requires-clause-column_within
@@ -110,11 +110,12 @@ returns g c =
     let some : 0 < height r = omega (arith, c.in_ok-row.ensures.within, c.height.ensures) in
     let line : IsFirstLine r l (λ cells. first_row_of (region_of cells r)) (width r) = row_line r l (sym c.first_row.ensures ∙ c.in_ok-line.ensures.ok_part) some in
     let column_within : c.in_ok-column.column < width r = subst (λ (n : ℕ). c.in_ok-column.column < n) line.count_is c.in_ok-column.ensures.within in
-    let row_within : c.in_ok-row.row < height r = subst (λ (n : ℕ). c.in_ok-row.row < n) c.height.ensures c.in_ok-row.ensures.within in
-    (λ cells a.
-        let asked : IsAsked (arguments_in cells args) s (region_of cells r) c.in_ok-k.k c.in_ok-in_order.in_order = record { sought_is = c.in_ok-sought.ensures cells a; region_is = region_is cells args 1 r (sym c.in_ok-area.ensures); number_is = c.in_ok-k.ensures cells a; order_is = c.in_ok-in_order.ensures cells a } in
-        h_looks (arguments_in cells args) s (region_of cells r) c.in_ok-k.k c.in_ok-in_order.in_order asked
-        ∙ row_seen s (region_of cells r) c.in_ok-k.k c.in_ok-in_order.in_order c.in_ok-row.row c.in_ok-column.column (ap (λ (n : ℕ). place_among n c.in_ok-k.k) (sym c.height.ensures) ∙ ap (λ (z : ℤ). place_among c.height.result z) (sym same) ∙ sym c.in_ok-row.ensures.place)
-        (seen_along c.in_order.result c.in_ok-in_order.in_order s (first_row_of (region_of cells r)) (map cells (cells_of l)) (line.values_are cells) c.in_order.ensures ∙ c.in_ok-column.ensures.place cells a)
-        ∙ cell_at cells r c.in_ok-row.row c.in_ok-column.column row_within column_within ∙ ap cells (sym c.cell_at.ensures),
-    refers_within args 1 r c.cell_at.result (sym c.in_ok-area.ensures) (subst (λ (b : ℕ). is_within r b ≡ true) (sym c.cell_at.ensures) (nth_within r c.in_ok-row.row c.in_ok-column.column row_within column_within)))
+    let row_within : c.in_ok-row.row < height r = subst (λ (n : ℕ). c.in_ok-row.row < n) c.height.ensures c.in_ok-row.ensures.within in (
+      λ cells a.
+          let asked : IsAsked (arguments_in cells args) s (region_of cells r) c.in_ok-k.k c.in_ok-in_order.in_order = record { sought_is = c.in_ok-sought.ensures cells a; region_is = region_is cells args 1 r (sym c.in_ok-area.ensures); number_is = c.in_ok-k.ensures cells a; order_is = c.in_ok-in_order.ensures cells a } in
+          h_looks (arguments_in cells args) s (region_of cells r) c.in_ok-k.k c.in_ok-in_order.in_order asked
+          ∙ row_seen s (region_of cells r) c.in_ok-k.k c.in_ok-in_order.in_order c.in_ok-row.row c.in_ok-column.column (ap (λ (n : ℕ). place_among n c.in_ok-k.k) (sym c.height.ensures) ∙ ap (λ (z : ℤ). place_among c.height.result z) (sym same) ∙ sym c.in_ok-row.ensures.place)
+          (seen_along c.in_order.result c.in_ok-in_order.in_order s (first_row_of (region_of cells r)) (map cells (cells_of l)) (line.values_are cells) c.in_order.ensures ∙ c.in_ok-column.ensures.place cells a)
+          ∙ cell_at cells r c.in_ok-row.row c.in_ok-column.column row_within column_within ∙ ap cells (sym c.cell_at.ensures),
+      refers_within args 1 r c.cell_at.result (sym c.in_ok-area.ensures) (subst (λ (b : ℕ). is_within r b ≡ true) (sym c.cell_at.ensures) (nth_within r c.in_ok-row.row c.in_ok-column.column row_within column_within)),
+    )

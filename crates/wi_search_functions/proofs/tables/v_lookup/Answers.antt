@@ -65,9 +65,9 @@ returns-in_err-column g c =
     let e = c.in_err-column.field-0.0 in
     finds_so known args v_lookup_value c.from_residual-in_err-column.result (Error c.in_err-column.field-0.0) c.from_residual-in_err-column.ensures.1
     (λ cells a.
-        let asked : IsAsked (arguments_in cells args) s (region_of cells r) c.in_ok-k.k c.in_ok-in_order.in_order = record { sought_is = c.in_ok-sought.ensures cells a; region_is = region_is cells args 1 r (sym c.in_ok-area.ensures); number_is = c.in_ok-k.ensures cells a; order_is = c.in_ok-in_order.ensures cells a } in
-        v_looks (arguments_in cells args) s (region_of cells r) c.in_ok-k.k c.in_ok-in_order.in_order asked
-        ∙ column_no_place s (region_of cells r) c.in_ok-k.k c.in_ok-in_order.in_order c.in_err-column.field-0.0 (ap (λ (n : ℕ). place_among n c.in_ok-k.k) (sym c.width.ensures) ∙ ap (λ (z : ℤ). place_among c.width.result z) (sym same) ∙ sym c.in_err-column.ensures.place))
+    let asked : IsAsked (arguments_in cells args) s (region_of cells r) c.in_ok-k.k c.in_ok-in_order.in_order = record { sought_is = c.in_ok-sought.ensures cells a; region_is = region_is cells args 1 r (sym c.in_ok-area.ensures); number_is = c.in_ok-k.ensures cells a; order_is = c.in_ok-in_order.ensures cells a } in
+    v_looks (arguments_in cells args) s (region_of cells r) c.in_ok-k.k c.in_ok-in_order.in_order asked
+    ∙ column_no_place s (region_of cells r) c.in_ok-k.k c.in_ok-in_order.in_order c.in_err-column.field-0.0 (ap (λ (n : ℕ). place_among n c.in_ok-k.k) (sym c.width.ensures) ∙ ap (λ (z : ℤ). place_among c.width.result z) (sym same) ∙ sym c.in_err-column.ensures.place))
 
 pub returns-in_err-row : goal.returns-in_err-row
 returns-in_err-row g c =
@@ -84,10 +84,10 @@ returns-in_err-row g c =
     (ended {A = ℕ} {B = ℕ} known args v_lookup_value (IsMissingIn known l) (λ i. i) (λ cells. ok_or (position_by c.in_order.result s (map cells (cells_of l))) NotAvailable) c.in_err-row.field-0.0
     (λ b m. (m.0, refers_within args 1 r b (sym c.in_ok-area.ensures) (line.inside b m.1)))
     (λ cells a e q.
-        let asked : IsAsked (arguments_in cells args) s (region_of cells r) c.in_ok-k.k c.in_ok-in_order.in_order = record { sought_is = c.in_ok-sought.ensures cells a; region_is = region_is cells args 1 r (sym c.in_ok-area.ensures); number_is = c.in_ok-k.ensures cells a; order_is = c.in_ok-in_order.ensures cells a } in
-        v_looks (arguments_in cells args) s (region_of cells r) c.in_ok-k.k c.in_ok-in_order.in_order asked
-        ∙ column_not_seen s (region_of cells r) c.in_ok-k.k c.in_ok-in_order.in_order c.in_ok-column.column e (ap (λ (n : ℕ). place_among n c.in_ok-k.k) (sym c.width.ensures) ∙ ap (λ (z : ℤ). place_among c.width.result z) (sym same) ∙ sym c.in_ok-column.ensures.place)
-        (seen_along c.in_order.result c.in_ok-in_order.in_order s (first_column_of (region_of cells r)) (map cells (cells_of l)) (line.values_are cells) c.in_order.ensures ∙ q))
+    let asked : IsAsked (arguments_in cells args) s (region_of cells r) c.in_ok-k.k c.in_ok-in_order.in_order = record { sought_is = c.in_ok-sought.ensures cells a; region_is = region_is cells args 1 r (sym c.in_ok-area.ensures); number_is = c.in_ok-k.ensures cells a; order_is = c.in_ok-in_order.ensures cells a } in
+    v_looks (arguments_in cells args) s (region_of cells r) c.in_ok-k.k c.in_ok-in_order.in_order asked
+    ∙ column_not_seen s (region_of cells r) c.in_ok-k.k c.in_ok-in_order.in_order c.in_ok-column.column e (ap (λ (n : ℕ). place_among n c.in_ok-k.k) (sym c.width.ensures) ∙ ap (λ (z : ℤ). place_among c.width.result z) (sym same) ∙ sym c.in_ok-column.ensures.place)
+    (seen_along c.in_order.result c.in_ok-in_order.in_order s (first_column_of (region_of cells r)) (map cells (cells_of l)) (line.values_are cells) c.in_order.ensures ∙ q))
     c.in_err-row.ensures.place)
 
 pub cell_at-requires-clause-row_within : goal.cell_at-requires-clause-row_within
@@ -110,11 +110,12 @@ returns g c =
     let some : 0 < width r = omega (arith, c.in_ok-column.ensures.within, c.width.ensures) in
     let line : IsFirstLine r l (λ cells. first_column_of (region_of cells r)) (height r) = column_line r l (sym c.first_column.ensures ∙ c.in_ok-line.ensures.ok_part) some in
     let row_within : c.in_ok-row.row < height r = subst (λ (n : ℕ). c.in_ok-row.row < n) line.count_is c.in_ok-row.ensures.within in
-    let column_within : c.in_ok-column.column < width r = subst (λ (n : ℕ). c.in_ok-column.column < n) c.width.ensures c.in_ok-column.ensures.within in
-    (λ cells a.
-        let asked : IsAsked (arguments_in cells args) s (region_of cells r) c.in_ok-k.k c.in_ok-in_order.in_order = record { sought_is = c.in_ok-sought.ensures cells a; region_is = region_is cells args 1 r (sym c.in_ok-area.ensures); number_is = c.in_ok-k.ensures cells a; order_is = c.in_ok-in_order.ensures cells a } in
-        v_looks (arguments_in cells args) s (region_of cells r) c.in_ok-k.k c.in_ok-in_order.in_order asked
-        ∙ column_seen s (region_of cells r) c.in_ok-k.k c.in_ok-in_order.in_order c.in_ok-column.column c.in_ok-row.row (ap (λ (n : ℕ). place_among n c.in_ok-k.k) (sym c.width.ensures) ∙ ap (λ (z : ℤ). place_among c.width.result z) (sym same) ∙ sym c.in_ok-column.ensures.place)
-        (seen_along c.in_order.result c.in_ok-in_order.in_order s (first_column_of (region_of cells r)) (map cells (cells_of l)) (line.values_are cells) c.in_order.ensures ∙ c.in_ok-row.ensures.place cells a)
-        ∙ cell_at cells r c.in_ok-row.row c.in_ok-column.column row_within column_within ∙ ap cells (sym c.cell_at.ensures),
-    refers_within args 1 r c.cell_at.result (sym c.in_ok-area.ensures) (subst (λ (b : ℕ). is_within r b ≡ true) (sym c.cell_at.ensures) (nth_within r c.in_ok-row.row c.in_ok-column.column row_within column_within)))
+    let column_within : c.in_ok-column.column < width r = subst (λ (n : ℕ). c.in_ok-column.column < n) c.width.ensures c.in_ok-column.ensures.within in (
+      λ cells a.
+          let asked : IsAsked (arguments_in cells args) s (region_of cells r) c.in_ok-k.k c.in_ok-in_order.in_order = record { sought_is = c.in_ok-sought.ensures cells a; region_is = region_is cells args 1 r (sym c.in_ok-area.ensures); number_is = c.in_ok-k.ensures cells a; order_is = c.in_ok-in_order.ensures cells a } in
+          v_looks (arguments_in cells args) s (region_of cells r) c.in_ok-k.k c.in_ok-in_order.in_order asked
+          ∙ column_seen s (region_of cells r) c.in_ok-k.k c.in_ok-in_order.in_order c.in_ok-column.column c.in_ok-row.row (ap (λ (n : ℕ). place_among n c.in_ok-k.k) (sym c.width.ensures) ∙ ap (λ (z : ℤ). place_among c.width.result z) (sym same) ∙ sym c.in_ok-column.ensures.place)
+          (seen_along c.in_order.result c.in_ok-in_order.in_order s (first_column_of (region_of cells r)) (map cells (cells_of l)) (line.values_are cells) c.in_order.ensures ∙ c.in_ok-row.ensures.place cells a)
+          ∙ cell_at cells r c.in_ok-row.row c.in_ok-column.column row_within column_within ∙ ap cells (sym c.cell_at.ensures),
+      refers_within args 1 r c.cell_at.result (sym c.in_ok-area.ensures) (subst (λ (b : ℕ). is_within r b ≡ true) (sym c.cell_at.ensures) (nth_within r c.in_ok-row.row c.in_ok-column.column row_within column_within)),
+    )
