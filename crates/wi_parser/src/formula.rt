@@ -23,6 +23,12 @@ use wi_values::{Address, Rect};
 /// A formula, seen as its tree, which is one that a text can have.
 #[derive(Debug, Drop)]
 pub struct Formula {
+    /// Behind a box, so that a content without a formula stays small.
+    parts: Box<Parts>,
+}
+
+#[derive(Debug, Drop)]
+struct Parts {
     expr: Expr,
     /// The inputs of its what-ifs.
     inputs: Vec<Address>,
@@ -40,7 +46,7 @@ impl Model for Formula {
 
     ghost use Rattle.wi_parser.specs.View.{tree_of};
 
-    ghost view = { λ f. tree_of f.expr };
+    ghost view = { λ f. tree_of f.parts.value.expr };
 
     ghost use Rattle.wi_parser.specs.Inner.Inside.{IsFormula};
 
@@ -56,10 +62,13 @@ impl Formula {
         let mut inputs = Vec::new(alloc);
         let mut rectangles = Vec::new(alloc);
         push_leaves(&expr, &mut inputs, &mut rectangles)?;
-        Ok(Formula {
+        let parts = Parts {
             expr,
             inputs,
             rectangles,
+        };
+        Ok(Formula {
+            parts: Box::new(alloc, parts)?,
         })
     }
 
@@ -67,14 +76,14 @@ impl Formula {
     pub fn tree(&self) -> &Expr
         ensures { tree_of result.now ≡ self.now }
     {
-        &self.expr
+        &self.parts.expr
     }
 
     /// The inputs of its what-ifs, from the left: the cells that it names and does not read.
     pub fn inputs(&self) -> &[Address]
         ensures { result.now ≡ inputs_of self.now }
     {
-        &self.inputs
+        &self.parts.inputs
     }
 
     /// The rectangles of its precedents, the cells that it reads, from the left; one cell is a rectangle too. The inputs of
@@ -82,20 +91,23 @@ impl Formula {
     pub fn rectangles(&self) -> &[Rect]
         ensures { result.now ≡ rectangles_of self.now }
     {
-        &self.rectangles
+        &self.parts.rectangles
     }
 
     /// The same formula once more.
     pub fn copy(&self, alloc: Global) -> Result<Formula, AllocError>
         ensures { IfOk result (λ f. f ≡ self.now) }
     {
-        let expr = self.expr.copy(alloc)?;
-        let inputs = Vec::from_slice(alloc, &self.inputs)?;
-        let rectangles = Vec::from_slice(alloc, &self.rectangles)?;
-        Ok(Formula {
+        let expr = self.parts.expr.copy(alloc)?;
+        let inputs = Vec::from_slice(alloc, &self.parts.inputs)?;
+        let rectangles = Vec::from_slice(alloc, &self.parts.rectangles)?;
+        let parts = Parts {
             expr,
             inputs,
             rectangles,
+        };
+        Ok(Formula {
+            parts: Box::new(alloc, parts)?,
         })
     }
 
@@ -105,11 +117,11 @@ impl Formula {
     pub fn shift(&self, rows: i64, columns: i64) -> Result<Formula, ShiftFault>
         ensures { ShiftsTo (shifted rows columns self.now) result }
     {
-        if !shift::all_stay(&self.expr, rows, columns) {
+        if !shift::all_stay(&self.parts.expr, rows, columns) {
             return Err(ShiftFault::LeavesSheet);
         }
-        let alloc = *self.inputs.allocator();
-        let expr = shift::shifted(alloc, &self.expr, rows, columns)?;
+        let alloc = *self.parts.inputs.allocator();
+        let expr = shift::shifted(alloc, &self.parts.expr, rows, columns)?;
         Ok(Formula::new(alloc, expr)?)
     }
 
@@ -126,7 +138,7 @@ impl Formula {
         ensures again { length (printed self.now) ≤ max_formula → parsed (printed self.now) ≡ Ok self.now }
     {
         let before = out.as_str().len();
-        let pushed = print::push_formula(&self.expr, out);
+        let pushed = print::push_formula(&self.parts.expr, out);
         if pushed.is_err() {
             out.truncate(before);
         }
