@@ -7,7 +7,7 @@ ghost use Rattle.std.specs.Ordering.{nat_cmp};
 ghost use Rattle.wi_values.specs.Replacements.{IsInOrder, as_map, last_for, overridden, replaced};
 ghost use Rattle.wi_worlds.specs.Reaching.{cone_has, is_reached};
 
-use crate::entries::{copied, listed, put_in};
+use crate::entries::{all_copied, copied, listed, put_in};
 use std::alloc::{AllocError, Global};
 use std::collections::{BTreeMap, BTreeSet};
 use std::marker::Model;
@@ -52,6 +52,15 @@ impl World {
         ensures order { IsInOrder self.now }
     {
         self.replacements.as_slice()
+    }
+
+    /// The same replacements once more. The work grows with their count.
+    pub fn copy(&self) -> Result<World, AllocError>
+        ensures { IfOk result (λ w. w ≡ self.now) }
+    {
+        let alloc = *self.replacements.allocator();
+        let replacements = all_copied(alloc, &self.replacements)?;
+        Ok(World { replacements })
     }
 
     /// The replacements with others put in, each in the place of an earlier one for its address. Of two others for
