@@ -6,7 +6,7 @@ use Rattle.wi_standard_functions.specs.Functions.{of_none, of_one, of_two, of_tw
 use Rattle.wi_standard_functions.specs.Information.{count_value, count_a_value, count_if_value, is_empty_value, is_number_value, is_text_value, is_no_text, is_logical_value, is_error_value, is_not_available, is_other_error, na_value, value_value}
 use Rattle.wi_standard_functions.specs.Logical.{and_value, or_value, not_value, if_value, if_error_value, if_na_value, true_value, false_value}
 use Rattle.wi_standard_functions.specs.Lookup.{choose_value, index_value, match_value, v_lookup_value, h_lookup_value}
-use Rattle.wi_standard_functions.specs.Mathematical.{abs_value, sign_value, quotient_value, mod_value, power_value, sum_value, product_value, sum_if_value}
+use Rattle.wi_standard_functions.specs.Mathematical.{abs_value, sign_value, quotient_value, mod_value, power_value, sum_value, product_value, sum_if_value, sum_product_value}
 use Rattle.wi_standard_functions.specs.Rounding.{int_value, round_value}
 use Rattle.wi_standard_functions.specs.Statistical.{min_value, max_value, average_value}
 use Rattle.wi_standard_functions.specs.Text.{len_value, left_value, right_value, mid_value, concatenate_value, exact_value, find_value, rept_value}
@@ -14,7 +14,7 @@ use Rattle.wi_calls.specs.declared.function.Function.{Function}
 use Rattle.wi_calls.specs.declared.function.Function.TheVariants.{Lazy, Values, References}
 use Rattle.wi_calls.specs.declared.function.LazyFunction.TheVariants.{If, IfError, IfNa, Choose}
 use Rattle.wi_calls.specs.declared.function.FoldFunction.TheVariants.{And, Average, Count, CountA, Max, Min, Or, Product, Sum}
-use Rattle.wi_calls.specs.declared.function.ReferenceFunction.TheVariants.{CountIf, Fold, HLookup, Index, Match, SumIf, VLookup}
+use Rattle.wi_calls.specs.declared.function.ReferenceFunction.TheVariants.{CountIf, Fold, HLookup, Index, Match, SumIf, SumProduct, VLookup}
 use Rattle.wi_calls.specs.declared.function.Test.{Test}
 use Rattle.wi_calls.specs.declared.function.Test.TheVariants as test
 use Rattle.wi_calls.specs.declared.function.TextFunction.TheVariants.{Concatenate, Exact, Find, Left, Len, Mid, Rept, Right}
@@ -73,6 +73,7 @@ applied (References (Fold Or)) args = or_value args
 applied (References (Fold Product)) args = product_value args
 applied (References (Fold Sum)) args = sum_value args
 applied (References SumIf) args = sum_if_value args
+applied (References SumProduct) args = sum_product_value args
 applied (References VLookup) args = v_lookup_value args
 
 -- arguments with these values, none of which is a reference

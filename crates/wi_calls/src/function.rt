@@ -78,6 +78,7 @@ pub enum ReferenceFunction {
     Index,
     Match,
     SumIf,
+    SumProduct,
     VLookup,
 }
 

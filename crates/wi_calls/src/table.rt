@@ -10,7 +10,9 @@ ghost use Rattle.wi_calls.specs.Inner.Rows.{function_of};
 use crate::function::FoldFunction::{And, Average, Count, CountA, Max, Min, Or, Product, Sum};
 use crate::function::Function::{self, Lazy, References, Values};
 use crate::function::LazyFunction::{Choose, If, IfError, IfNa};
-use crate::function::ReferenceFunction::{CountIf, Fold, HLookup, Index, Match, SumIf, VLookup};
+use crate::function::ReferenceFunction::{
+    CountIf, Fold, HLookup, Index, Match, SumIf, SumProduct, VLookup,
+};
 use crate::function::Test;
 use crate::function::TextFunction::{Concatenate, Exact, Find, Left, Len, Mid, Rept, Right};
 use crate::function::ValueFunction::{
@@ -23,7 +25,7 @@ use wi_values::ErrorKind;
 /// function.
 type Row = (&'static str, usize, Option<usize>, Function);
 
-static ROWS: [Row; 50] = [
+static ROWS: [Row; 51] = [
     ("ABS", 1, Some(1), Values(Abs)),
     ("AND", 1, None, References(Fold(And))),
     ("AVERAGE", 1, None, References(Fold(Average))),
@@ -70,6 +72,7 @@ static ROWS: [Row; 50] = [
     ("SIGN", 1, Some(1), Values(Sign)),
     ("SUM", 1, None, References(Fold(Sum))),
     ("SUMIF", 2, Some(3), References(SumIf)),
+    ("SUMPRODUCT", 1, None, References(SumProduct)),
     ("TRUE", 0, Some(0), Values(True)),
     ("TRUNC", 1, Some(2), Values(Round(Mode::Toward))),
     ("VALUE", 1, Some(1), Values(Value)),

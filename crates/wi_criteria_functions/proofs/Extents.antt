@@ -34,7 +34,7 @@ pub record SameExtent (r s : Area) : Type 0 where
   pub heights : (row_of r.last + 1) - row_of r.first ≡ (row_of s.last + 1) - row_of s.first
   pub widths : (column_of r.last + 1) - column_of r.first ≡ (column_of s.last + 1) - column_of s.first
 
-sizes : (r s : Area) → same_extent r s ≡ true → SameExtent r s
+pub sizes : (r s : Area) → same_extent r s ≡ true → SameExtent r s
 sizes r s h =
     let p = and_parts (((row_of r.last + 1) - row_of r.first) == ((row_of s.last + 1) - row_of s.first)) (((column_of r.last + 1) - column_of r.first) == ((column_of s.last + 1) - column_of s.first)) h in
     record { heights = eqb-true ((row_of r.last + 1) - row_of r.first) ((row_of s.last + 1) - row_of s.first) p.0; widths = eqb-true ((column_of r.last + 1) - column_of r.first) ((column_of s.last + 1) - column_of s.first) p.1 }

@@ -80,7 +80,7 @@ fn criterion_of(alloc: Global, value: &Value) -> Result<Criterion, Ending>
 }
 
 /// The rectangle that an argument refers to.
-fn area_of(argument: &Argument) -> Result<Rect, ErrorKind>
+pub(crate) fn area_of(argument: &Argument) -> Result<Rect, ErrorKind>
     ensures { result ≡ area_of argument.now }
 {
     match argument {

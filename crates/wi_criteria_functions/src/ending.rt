@@ -3,7 +3,7 @@
 ghost use Rattle.std.specs.Prelude.{◌≡◌};
 ghost use Rattle.wi_criteria_functions.specs.Inner.Giving.{settled};
 
-use std::alloc::AllocError;
+use std::alloc::{AllocError, AllocFailed};
 use wi_lookup::Stop;
 use wi_values::{Address, ErrorKind, Value};
 
@@ -52,6 +52,17 @@ impl From<AllocError> for Ending {
     ghost from_gives = { λ _ r. r ≡ Stopped Memory };
 
     fn from(_: AllocError) -> Ending {
+        Ending::Stopped(Stop::Memory)
+    }
+}
+
+impl<T: Drop> From<AllocFailed<T>> for Ending {
+    ghost use Rattle.wi_criteria_functions.specs.declared.ending.Ending.TheVariants.{Stopped};
+    ghost use Rattle.wi_lookup.specs.declared.stop.Stop.TheVariants.{Memory};
+
+    ghost from_gives = { λ _ r. r ≡ Stopped Memory };
+
+    fn from(_error: AllocFailed<T>) -> Ending {
         Ending::Stopped(Stop::Memory)
     }
 }

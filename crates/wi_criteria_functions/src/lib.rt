@@ -2,11 +2,15 @@
 #![tactic(auto)]
 
 mod arguments;
+mod cells;
 mod count;
 mod counting;
 mod ending;
 mod extent;
+mod places;
+mod products;
 mod summing;
 
 pub use counting::count_if_value;
+pub use products::sum_product_value;
 pub use summing::sum_if_value;

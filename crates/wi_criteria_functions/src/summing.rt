@@ -1,22 +1,22 @@
 //! SUMIF (OpenFormula, "Mathematical Functions").
 
-ghost use Rattle.std.specs.Prelude.{◌≡◌, true, None, Some, Ok, IfOk, IfErr, if◌then◌else◌};
+ghost use Rattle.std.specs.Prelude.{◌≡◌, true, None, Ok, IfOk, IfErr, if◌then◌else◌};
 ghost use Rattle.wi_values.specs.Address.{cells_of, is_within};
 ghost use Rattle.wi_values.specs.declared.value.Value.{Value as Values};
 ghost use Rattle.wi_standard_functions.specs.Arguments.{region_of};
 ghost use Rattle.wi_standard_functions.specs.Mathematical.{sum_if_value, sum_of_items};
 ghost use Rattle.wi_lookup.specs.Arguments.{IfMissing, IsMissing, IsOfArguments};
-ghost use Rattle.wi_lookup.specs.Walk.{IsNextAfter};
 ghost use Rattle.wi_matching.specs.Inner.Meeting.{is_met};
 ghost use Rattle.wi_criteria_functions.specs.Inner.Giving.{Agrees, Gives};
 ghost use Rattle.wi_criteria_functions.specs.Inner.Sums.{same_extent, same_place, values_where, with_cell, with_met, IsMissingIn};
 
 use crate::arguments::{area_at, area_or, criterion_at};
+use crate::cells::{next_after, value_of};
 use crate::ending::{Ending, settled};
 use crate::extent::{same_extent, same_place};
 use std::alloc::Global;
 use wi_fraction::Fraction;
-use wi_lookup::{Argument, LookedUp, Lookup, Stop, successor};
+use wi_lookup::{Argument, Lookup, Stop};
 use wi_matching::Criterion;
 use wi_scalar_functions::{add, zero};
 use wi_values::{Address, ErrorKind, Rect, Value};
@@ -97,24 +97,4 @@ fn with_cell(sum: Fraction, value: &Value) -> Result<Fraction, ErrorKind>
         Value::Logical(_) => Ok(sum),
         Value::Fault(e) => Err(*e),
     }
-}
-
-/// The value of a cell, or the cell where that is missing.
-fn value_of<L: Lookup>(at: Address, lookup: &L) -> Result<&Value, Address>
-    ensures known { IfOk result (λ v. Some v.now ≡ L.known_cell lookup.now at) }
-    ensures itself { IfErr result (λ c. c ≡ at) }
-    ensures missing { IfErr result (λ c. L.known_cell lookup.now c ≡ None) }
-{
-    match lookup.cell(at) {
-        LookedUp::Known(value) => Ok(value),
-        LookedUp::Missing => Err(at),
-    }
-}
-
-/// The next filled cell of a rectangle after one.
-fn next_after<L: Lookup>(area: Rect, at: Address, lookup: &L) -> Option<Address>
-    ensures { IsNextAfter (L.known_cell lookup.now) area at result }
-{
-    let next = successor(at, area.last())?;
-    lookup.next_filled(area, next)
 }

@@ -10,7 +10,7 @@ ghost use Rattle.wi_functions.specs.Meaning as formulas;
 
 use std::alloc::Global;
 use wi_calls::{FoldFunction, ReferenceFunction};
-use wi_criteria_functions::{count_if_value, sum_if_value};
+use wi_criteria_functions::{count_if_value, sum_if_value, sum_product_value};
 use wi_fold_functions::{
     and_value, average_value, count_a_value, count_value, max_value, min_value, or_value,
     product_value, sum_value,
@@ -53,6 +53,7 @@ pub(crate) fn value_of_references<L: Lookup>(
         ReferenceFunction::Index => index_value(alloc, arguments, lookup),
         ReferenceFunction::Match => match_value(alloc, arguments, lookup),
         ReferenceFunction::SumIf => sum_if_value(alloc, arguments, lookup),
+        ReferenceFunction::SumProduct => sum_product_value(alloc, arguments, lookup),
         ReferenceFunction::VLookup => v_lookup_value(alloc, arguments, lookup),
     }
 }

@@ -10,7 +10,7 @@ use Rattle.wi_standard_functions.specs.Convert.{zero_number, one_number}
 use Rattle.wi_standard_functions.specs.Information.{count_value, count_a_value, count_if_value, is_empty_value, is_number_value, is_text_value, is_no_text, is_logical_value, is_error_value, is_not_available, is_other_error, na_value, value_value}
 use Rattle.wi_standard_functions.specs.Logical.{and_value, or_value, not_value, if_value, if_error_value, if_na_value, true_value, false_value}
 use Rattle.wi_standard_functions.specs.Lookup.{choose_value, index_value, match_value, v_lookup_value, h_lookup_value}
-use Rattle.wi_standard_functions.specs.Mathematical.{abs_value, sign_value, quotient_value, mod_value, power_value, sum_value, product_value, sum_if_value}
+use Rattle.wi_standard_functions.specs.Mathematical.{abs_value, sign_value, quotient_value, mod_value, power_value, sum_value, product_value, sum_if_value, sum_product_value}
 use Rattle.wi_standard_functions.specs.Rounding.{int_value, round_value}
 use Rattle.wi_standard_functions.specs.Statistical.{min_value, max_value, average_value}
 use Rattle.wi_standard_functions.specs.Text.{len_value, left_value, right_value, mid_value, concatenate_value, exact_value, find_value, rept_value}
@@ -117,6 +117,7 @@ functions =
     ∷ with_parameters (codes "SIGN") 1 1 (of_one sign_value)
     ∷ variadic (codes "SUM") 1 sum_value
     ∷ with_parameters (codes "SUMIF") 2 3 sum_if_value
+    ∷ variadic (codes "SUMPRODUCT") 1 sum_product_value
     ∷ with_parameters (codes "TRUE") 0 0 (of_none true_value)
     ∷ with_parameters (codes "TRUNC") 1 2 (of_two_or zero_value (round_value Toward))
     ∷ with_parameters (codes "VALUE") 1 1 (of_one value_value)

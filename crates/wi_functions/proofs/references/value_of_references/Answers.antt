@@ -9,5 +9,8 @@ returns-in-Match-clause-done g c = rw c.in-Match.is c.match_value.ensures.done
 pub returns-in-SumIf-clause-done : goal.returns-in-SumIf-clause-done
 returns-in-SumIf-clause-done g c = rw c.in-SumIf.is c.sum_if_value.ensures.done
 
+pub returns-in-SumProduct-clause-done : goal.returns-in-SumProduct-clause-done
+returns-in-SumProduct-clause-done g c = rw c.in-SumProduct.is c.sum_product_value.ensures.done
+
 pub returns-in-VLookup-clause-done : goal.returns-in-VLookup-clause-done
 returns-in-VLookup-clause-done g c = rw c.in-VLookup.is c.v_lookup_value.ensures.done
