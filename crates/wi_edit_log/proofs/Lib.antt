@@ -1,0 +1,5 @@
+pub mod Below
+pub mod First
+pub mod Least
+pub mod Runs
+pub mod Shared

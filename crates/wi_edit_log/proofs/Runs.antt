@@ -1,0 +1,84 @@
+-- Runs of edits of one session, and what a step of the search from the last edit to earlier ones does.
+use Rattle.std.proofs.Common.{◌≡◌, ◌∙◌, ℕ, zero, suc, ◌+◌, ◌-◌, ◌==◌, ◌≤◌, ◌<◌, ◌⊎◌, inl, inr, Bool, true, false, not, ◌||◌, ◌&&◌, List, ◌∷◌, length, drop, get_or, max, Option, None, refl, ap, sym, subst, arith}
+use Rattle.std.proofs.lemmas.List.{drop_more, drop_all, get_or_default}
+use Rattle.std.proofs.lemmas.Bool.{cases_eq, eq-eqb, ne_eqb}
+use Rattle.wi_values.specs.Address.{Area}
+use Rattle.wi_edit_log.specs.EditLog.{have_cell}
+use Rattle.wi_edit_log.specs.Inner.First.{IsFirst, in_each, sooner}
+use Rattle.wi_edit_log.specs.Inner.Edits.{AreInRuns, IsInRun, is_named_by_others, is_wanted_of_others}
+use Rattle.wi_edit_log.specs.declared.edit.Edit.{Edit}
+use Rattle.wi_edit_log.proofs.First.{no_first, same_first, sooner_first}
+
+-- ---- the session's own edits
+
+-- an edit of the session names nothing for others
+own_names_none : (e : Edit) (es : List Edit) (s a : ℕ) → e.session ≡ s → is_named_by_others (e ∷ es) s a ≡ is_named_by_others es s a
+own_names_none e es s a h = ap (λ b. (not b && have_cell e.named a) || is_named_by_others es s a) (eq-eqb e.session s h)
+
+stepped_over : (es : List Edit) (d : Edit) (s a n j i : ℕ) → j + n ≡ i → i ≤ length es → ((k : ℕ) (d : Edit) → j ≤ k → k < i → (get_or es k d).session ≡ s)
+    → is_named_by_others (drop j es) s a ≡ is_named_by_others (drop i es) s a
+stepped_over es d s a zero j i e l h = let same : j ≡ i = omega (arith, e) in ap (λ k. is_named_by_others (drop k es) s a) same
+stepped_over es d s a (suc n) j i e l h =
+    let low : j < i = omega (arith, e) in
+    let within : j < length es = omega (arith, low, l) in
+    ap (λ ys. is_named_by_others ys s a) (drop_more es j d within)
+    ∙ own_names_none (get_or es j d) (drop (j + 1) es) s a (h j d (omega arith) low)
+    ∙ stepped_over es d s a n (j + 1) i (omega (arith, e)) l (λ k c m o. h k c (omega (arith, m)) o)
+
+-- the run of the edit before the place i
+run_before : (es : List Edit) (x : Edit) (s i : ℕ) → AreInRuns es → i < length es → x ≡ get_or es i x → x.session ≡ s → (x.run ≤ i) × ((k : ℕ) (d : Edit) → x.run ≤ k → k < i + 1 → (get_or es k d).session ≡ s)
+run_before es x s i runs l at own =
+    let r : IsInRun es i x = subst (IsInRun es i) (sym at) (runs i x l) in
+    (r.begins, λ k d m o. in_run r k d m o (cases_eq k i))
+  where
+    in_run : IsInRun es i x → (k : ℕ) (d : Edit) → x.run ≤ k → k < i + 1 → (k ≡ i) ⊎ (k ≡ i → Prim.⊥) → (get_or es k d).session ≡ s
+    in_run r k d m o (inl e) =
+        ap (λ n. (get_or es n d).session) e ∙ ap (λ (y : Edit). y.session) (get_or_default es i d x l ∙ sym at) ∙ own
+    in_run r k d m o (inr f) = r.one_session k d m (not_last k i o f) ∙ own
+      where
+        not_last : (k i : ℕ) → k < i + 1 → (k ≡ i → Prim.⊥) → k < i
+        not_last k i o f = omega (arith, o, f)
+
+pub own_stepped_over : (es : List Edit) (x : Edit) (s from place next : ℕ) (wanted : List Area) (o : Option ℕ) → AreInRuns es → from < place → place ≤ length es
+    → x ≡ get_or es (place - 1) x → x.session ≡ s → next ≡ max x.run from
+    → IsFirst (is_wanted_of_others (drop place es) s wanted) o → (next < place) × IsFirst (is_wanted_of_others (drop next es) s wanted) o
+own_stepped_over es x s from place next wanted o runs l m at own e h =
+    let r = run_before es x s (place - 1) runs (omega (arith, l, m)) at own in
+    let low : next < place = omega (arith, e, r.0, l) in (
+      low,
+      same_first (is_wanted_of_others (drop place es) s wanted) (is_wanted_of_others (drop next es) s wanted) o
+          (λ a. ap (λ b. have_cell wanted a && b) (sym (stepped_over es x s a (place - next) next place (omega (arith, low)) m (λ k d p q. r.1 k d (omega (arith, e, p)) (omega (arith, q, l))))))
+          h,
+    )
+
+-- ---- an edit of another session
+
+reordered : (w t n o : Bool) → t ≡ false → (w && ((not t && n) || o)) ≡ ((w && o) || (n && w))
+reordered true t true true h = rw h
+reordered true t true false h = rw h
+reordered true t false true h = rw h
+reordered true t false false h = rw h
+reordered false t true true h = refl
+reordered false t true false h = refl
+reordered false t false true h = refl
+reordered false t false false h = refl
+
+pub other_looked_at : (es : List Edit) (x : Edit) (s place next : ℕ) (wanted : List Area) (o p q : Option ℕ) → 0 < place → place ≤ length es
+    → x ≡ get_or es next x → next + 1 ≡ place → (x.session ≡ s → Prim.⊥) → q ≡ sooner o p
+    → IsFirst (is_wanted_of_others (drop place es) s wanted) o → IsFirst (in_each x.named wanted) p → IsFirst (is_wanted_of_others (drop next es) s wanted) q
+other_looked_at es x s place next wanted o p q l m at n other e h k =
+    let here : drop next es ≡ x ∷ drop place es = drop_more es next x (omega (arith, m, n)) ∙ ap (λ y. y ∷ drop (next + 1) es) (sym at) ∙ ap (λ i. x ∷ drop i es) n in
+    let more : (a : ℕ) → is_wanted_of_others (drop next es) s wanted a ≡ (is_wanted_of_others (drop place es) s wanted a || in_each x.named wanted a) =
+    λ a. ap (λ ys. is_wanted_of_others ys s wanted a) here
+    ∙ reordered (have_cell wanted a) (x.session == s) (have_cell x.named a) (is_named_by_others (drop place es) s a) (ne_eqb x.session s other) in
+    rw e (sooner_first (is_wanted_of_others (drop place es) s wanted) (in_each x.named wanted) (is_wanted_of_others (drop next es) s wanted) o p more h k)
+
+-- ---- the start of the search
+
+pub none_after_all : (es : List Edit) (s place : ℕ) (wanted : List Area) → length es ≤ place → IsFirst (is_wanted_of_others (drop place es) s wanted) None
+none_after_all es s place wanted l =
+    no_first (is_wanted_of_others (drop place es) s wanted) (λ a. ap (λ ys. is_wanted_of_others ys s wanted a) (drop_all place es l) ∙ right (have_cell wanted a))
+  where
+    right : (b : Bool) → (b && false) ≡ false
+    right true = refl
+    right false = refl

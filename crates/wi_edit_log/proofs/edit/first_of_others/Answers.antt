@@ -1,0 +1,37 @@
+use Rattle.std.proofs.Common.{◌<◌, ◌-◌, arith}
+use Rattle.wi_edit_log.proofs.Runs.{none_after_all, other_looked_at, own_stepped_over}
+use Rattle.wi_edit_log.proofs.edit.first_of_others.Goals as goal
+
+pub loop-place-init : goal.loop-place-init
+loop-place-init c = record {
+  begins = c.requires.from;
+  within = omega arith;
+  first = none_after_all c.args.edits.now c.args.session _ c.args.wanted.now (omega arith);
+}
+
+pub loop-place-smaller-then-edit-session : goal.loop-place-smaller-then-edit-session
+loop-place-smaller-then-edit-session c =
+    let i = c.loop-place.invariant in
+    let low : c.max-place.result < c.loop-place.place =
+    (own_stepped_over c.args.edits.now c.index-edits-place.result c.args.session c.args.from c.loop-place.place c.max-place.result c.args.wanted.now c.loop-place.first
+    c.requires.runs c.loop-place-test.true i.within c.index-edits-place.is c.if-edit-session.true c.max-place.ensures i.first).0 in
+    omega (arith, low, c.max-place.ensures, c.loop-place-test.true)
+
+pub loop-place-preserved-then-edit-session : goal.loop-place-preserved-then-edit-session
+loop-place-preserved-then-edit-session c =
+    let i = c.loop-place.invariant in
+    let next =
+    own_stepped_over c.args.edits.now c.index-edits-place.result c.args.session c.args.from c.loop-place.place c.max-place.result c.args.wanted.now c.loop-place.first
+    c.requires.runs c.loop-place-test.true i.within c.index-edits-place.is c.if-edit-session.true c.max-place.ensures i.first in
+    record { begins = omega (arith, c.max-place.ensures); within = omega (arith, next.0, i.within); first = next.1 }
+
+pub loop-place-preserved : goal.loop-place-preserved
+loop-place-preserved c =
+    let i = c.loop-place.invariant in
+    record {
+      begins = omega (arith, c.loop-place-test.true);
+      within = omega (arith, i.within);
+      first = other_looked_at c.args.edits.now c.index-edits-place.result c.args.session c.loop-place.place (c.loop-place.place - 1) c.args.wanted.now
+          c.loop-place.first c.first_shared.result c.sooner-first.result (omega (arith, c.loop-place-test.true)) i.within c.index-edits-place.is
+          (omega (arith, c.loop-place-test.true)) c.if-edit-session.false c.sooner-first.ensures i.first c.first_shared.ensures;
+    }

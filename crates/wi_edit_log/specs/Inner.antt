@@ -1,0 +1,5 @@
+-- Words of the code's own contracts. Nothing here needs belief.
+pub mod First
+pub mod Rising
+pub mod Named
+pub mod Edits

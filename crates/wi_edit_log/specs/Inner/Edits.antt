@@ -1,0 +1,30 @@
+-- What the code keeps of an edit.
+use Rattle.std.specs.Prelude.{◌≡◌, ℕ, ◌≤◌, ◌<◌, Bool, ◌==◌, ◌&&◌, not, List, length, map, slice_index_or}
+use Rattle.std.specs.List.{list_any}
+use Rattle.wi_values.specs.Address.{Area}
+use Rattle.wi_edit_log.specs.EditLog.{Entry, have_cell}
+use Rattle.wi_edit_log.specs.declared.edit.Edit.{Edit}
+
+-- the entry that is kept so
+abbrev pub entry_in : Edit → Entry
+entry_in e = record { session = e.session; cells = e.named }
+
+abbrev pub entries_in : List Edit → List Entry
+entries_in es = map entry_in es
+
+-- an edit of another session names the cell a
+abbrev pub is_named_by_others : List Edit → ℕ → ℕ → Bool
+is_named_by_others es session a = list_any (λ e. not (e.session == session) && have_cell e.cells a) (entries_in es)
+
+-- and the cell a is one of the wanted
+abbrev pub is_wanted_of_others : List Edit → ℕ → List Area → ℕ → Bool
+is_wanted_of_others es session wanted a = have_cell wanted a && is_named_by_others es session a
+
+-- the run begins at the edit's place i or before, and all from there on to it are its session's
+pub record IsInRun (es : List Edit) (i : ℕ) (e : Edit) : Type 0 where
+  pub begins : e.run ≤ i
+  pub one_session : (k : ℕ) (d : Edit) → e.run ≤ k → k < i → (slice_index_or es k d).session ≡ e.session
+
+-- each edit is in its run
+abbrev pub AreInRuns : List Edit → Type 0
+AreInRuns es = (i : ℕ) (d : Edit) → i < length es → IsInRun es i (slice_index_or es i d)

@@ -1,0 +1,32 @@
+-- The first cell that passes a test.
+use Rattle.std.specs.Prelude.{◌≡◌, ℕ, ◌≤◌, Bool, true, ◌&&◌, min, List, Option, Some, None, IfSome}
+use Rattle.wi_values.specs.Address.{Area, is_within}
+use Rattle.wi_edit_log.specs.EditLog.{have_cell}
+
+-- there is a cell, and it stands at a or before
+abbrev pub IsAtOrBefore : Option ℕ → ℕ → Type 0
+IsAtOrBefore None a = ⊥
+IsAtOrBefore (Some b) a = b ≤ a
+
+-- the cell passes the test, and none before it does; where there is none, none does
+pub record IsFirst (test : ℕ → Bool) (cell : Option ℕ) : Type 0 where
+  pub passes : IfSome cell (λ a. test a ≡ true)
+  pub least : (a : ℕ) → test a ≡ true → IsAtOrBefore cell a
+
+-- the cell a is in both rectangles
+abbrev pub in_both : Area → Area → ℕ → Bool
+in_both r s a = is_within r a && is_within s a
+
+-- the cell a is in the rectangle and in one of the others
+abbrev pub in_one : Area → List Area → ℕ → Bool
+in_one r areas a = is_within r a && have_cell areas a
+
+-- the cell a is in one rectangle of each list
+abbrev pub in_each : List Area → List Area → ℕ → Bool
+in_each areas others a = have_cell areas a && have_cell others a
+
+-- the sooner of two cells that may be there
+abbrev pub sooner : Option ℕ → Option ℕ → Option ℕ
+sooner None b = b
+sooner (Some a) None = Some a
+sooner (Some a) (Some b) = Some (min a b)

@@ -1,0 +1,17 @@
+-- What the rectangles of an edit are kept as.
+use Rattle.std.specs.Prelude.{◌≡◌, true, List}
+use Rattle.wi_values.specs.Address.{Area}
+use Rattle.wi_edit_log.specs.Inner.Rising.{are_rising}
+use Rattle.wi_edit_log.specs.declared.named.Areas.{Areas}
+use Rattle.wi_edit_log.specs.declared.named.Areas.TheVariants.{One, Rising, Any}
+
+abbrev pub areas_in : Areas → List Area
+areas_in (One areas) = areas
+areas_in (Rising areas) = areas.items
+areas_in (Any areas) = areas.items
+
+-- those that are said to rise do
+abbrev pub IsTold : Areas → Type 0
+IsTold (One areas) = Unit {0}
+IsTold (Rising areas) = are_rising areas.items ≡ true
+IsTold (Any areas) = Unit {0}

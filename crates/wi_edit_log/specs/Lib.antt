@@ -1,0 +1,2 @@
+pub mod EditLog
+pub mod Inner

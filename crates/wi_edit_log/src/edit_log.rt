@@ -1,0 +1,80 @@
+//! The log of edits.
+
+ghost use Rattle.std.specs.Prelude.{◌≡◌, ◌-◌, ◌<◌, ◌↔◌, ◌++◌, ◌∷◌, IsTrue, OnErr, OnOk, [], length, take};
+ghost use Rattle.wi_edit_log.specs.EditLog.{first_stale};
+
+use crate::edit::{Edit, first_of_others};
+use std::alloc::{AllocError, Global};
+use std::marker::Model;
+use wi_values::{Address, Rect};
+
+/// The edits in their order, each with its session, and the rectangles that it named as they were given. An edit takes 48
+/// bytes, and where it named another number of rectangles than one 16 more for each; what grows has room for twice as much
+/// at most.
+#[derive(Drop)]
+pub struct EditLog {
+    edits: Vec<Edit>,
+}
+
+impl Model for EditLog {
+    ghost use Rattle.std.specs.Prelude.{List};
+    ghost use Rattle.wi_edit_log.specs.EditLog.{Entry};
+
+    ghost Value = { List Entry };
+
+    ghost use Rattle.wi_edit_log.specs.Inner.Edits.{AreInRuns, entries_in};
+
+    ghost view = { λ log. entries_in log.edits.items };
+
+    ghost invariant = { λ log. AreInRuns log.edits.items };
+}
+
+impl EditLog {
+    /// No edits. Takes no memory.
+    pub fn new(alloc: Global) -> EditLog
+        ensures { result ≡ [] }
+    {
+        EditLog {
+            edits: Vec::new(alloc),
+        }
+    }
+
+    /// Puts an edit at the end. On an error all is as before. The work grows with the rectangles.
+    pub fn add(&mut self, session: u32, cells: Vec<Rect>) -> Result<(), AllocError>
+        ensures ok { OnOk result (self.new ≡ self.old ++ record { session = session; cells = cells.items } ∷ []) }
+        ensures err { OnErr result (self.new ≡ self.old) }
+    {
+        let edit = Edit::after(&self.edits, session, cells);
+        self.edits.push(edit)?;
+        Ok(())
+    }
+
+    /// Takes the last edit away if there is one, and tells whether there was. Takes no memory.
+    pub fn take_back(&mut self) -> bool
+        ensures was { IsTrue result ↔ (0 < length self.old) }
+        ensures rest { self.new ≡ take (length self.old - 1) self.old }
+    {
+        self.edits.pop().is_some()
+    }
+
+    /// How many edits there are.
+    pub fn len(&self) -> u64
+        ensures { result ≡ length self.now }
+    {
+        self.edits.len() as u64
+    }
+
+    /// The first of the cells, in row-major order, that an edit of another session names, not counting the first `since`
+    /// edits of the log. Takes no memory.
+    ///
+    /// The edits are gone through from the last on. Each run of the session's own is one step. For each edit of another
+    /// session every rectangle of the shorter of its list and `cells` is looked for in the longer one. Where the longer
+    /// rises, each rectangle below the one before, as an import names them, that takes the logarithm of its length, and a
+    /// step for each of its rectangles in the rows of the one that is looked for, at most; where it doesn't, a step for each.
+    pub fn first_stale(&self, session: u32, since: u64, cells: &[Rect]) -> Option<Address>
+        ensures { result ≡ first_stale self.now session since cells.now }
+    {
+        let since = (since as usize).min(self.edits.len());
+        first_of_others(&self.edits, session, since, cells)
+    }
+}

@@ -1,0 +1,10 @@
+//! The log of edits: who edited which cells.
+#![tactic(auto)]
+
+mod edit;
+mod edit_log;
+mod named;
+mod rising;
+mod search;
+
+pub use edit_log::EditLog;
