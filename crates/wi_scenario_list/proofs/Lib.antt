@@ -1,0 +1,5 @@
+mod Listed
+mod Held
+mod Own
+mod Chains
+mod Rows

@@ -1,0 +1,11 @@
+use Rattle.std.proofs.Common.{◌∙◌, ℕ, List, ap}
+use Rattle.wi_values.specs.declared.value.Value.{Value}
+use Rattle.wi_values.specs.Replacements.{overridden}
+use Rattle.wi_scenario_list.specs.Scenarios.{as_replacements}
+use Rattle.wi_scenario_list.proofs.Own.{put_into_nothing}
+use Rattle.wi_scenario_list.proofs.entries.copied.Goals as goal
+
+pub returns : goal.returns
+returns c =
+    c.in_ok-put_in.ensures.put ∙ ap (λ (es : List (ℕ × Value)). overridden es (as_replacements c.args.map.now.entries)) c.new-copy.ensures.empty
+    ∙ put_into_nothing c.args.map.now.entries c.in_ok-put_in.ensures.order

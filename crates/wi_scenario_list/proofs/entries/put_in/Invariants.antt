@@ -1,0 +1,8 @@
+use Rattle.std.proofs.Common.{◌≡◌}
+use Rattle.wi_values.specs.Replacements.{overridden}
+use Rattle.wi_scenario_list.specs.Scenarios.{as_replacements}
+use Rattle.wi_scenario_list.proofs.entries.put_in.Given as goal
+
+-- what is left to be put in leads to the whole
+abbrev pub invariant-loop-at : goal.invariant-loop-at
+invariant-loop-at l = overridden l.map.entries (as_replacements l.at-iterator) ≡ overridden l.initial.map.entries (as_replacements l.initial.others.entries)

@@ -1,0 +1,6 @@
+use Rattle.std.proofs.Common.{rules}
+use Rattle.wi_scenario_list.proofs.Held.{found-has}
+use Rattle.wi_scenario_list.proofs.scenarios.Scenarios.contains.Goals as goal
+
+pub returns : goal.returns
+returns c = found-has c.args.name.now c.self.inside.layers.entries c.args.self.now c.contains_key.result (search rules) c.self.view_is

@@ -1,0 +1,6 @@
+use Rattle.std.proofs.Common.{◌∙◌}
+use Rattle.wi_scenario_list.proofs.Held.{cloned}
+use Rattle.wi_scenario_list.proofs.scenarios.Scenarios.copy.Goals as goal
+
+pub returns : goal.returns
+returns c = cloned c.self.inside.layers.entries c.in_ok-layers.layers.entries c.in_ok-layers.ensures.cases ∙ c.self.view_is

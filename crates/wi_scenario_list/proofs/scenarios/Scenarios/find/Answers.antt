@@ -1,0 +1,13 @@
+use Rattle.std.proofs.Common.{◌∙◌, List, ap}
+use Rattle.std.specs.List.{find}
+use Rattle.std.specs.Option.{option_map}
+use Rattle.wi_scenario_list.specs.Scenarios.{Scenario, is_named}
+use Rattle.wi_scenario_list.specs.Inner.Held.{with_name}
+use Rattle.wi_scenario_list.proofs.Held.{behind, found-scenario}
+use Rattle.wi_scenario_list.proofs.scenarios.Scenarios.find.Goals as goal
+
+pub returns : goal.returns
+returns c =
+    behind (with_name c.args.name.now) c.get.result ∙ ap (option_map (with_name c.args.name.now)) c.get.ensures.value
+    ∙ found-scenario c.args.name.now c.self.inside.layers.entries
+    ∙ ap (λ (xs : List Scenario). find (is_named c.args.name.now) xs) c.self.view_is

@@ -1,0 +1,6 @@
+use Rattle.std.proofs.Common.{rules}
+use Rattle.wi_scenario_list.proofs.Held.{removed}
+use Rattle.wi_scenario_list.proofs.scenarios.Scenarios.remove.Goals as goal
+
+pub returns : goal.returns
+returns c = search (rules, removed)

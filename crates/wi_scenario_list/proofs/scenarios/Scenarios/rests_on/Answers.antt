@@ -1,0 +1,7 @@
+use Rattle.std.proofs.Common.{rules}
+use Rattle.wi_scenario_list.specs.Scenarios.{chain}
+use Rattle.wi_scenario_list.proofs.scenarios.Scenarios.rests_on.Goals as goal
+
+pub returns : goal.returns
+unfolding chain
+returns c = search rules

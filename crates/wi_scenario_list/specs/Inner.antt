@@ -1,0 +1,3 @@
+-- Words of the code's own contracts. Nothing here needs belief.
+pub mod Chains
+pub mod Held

@@ -1,0 +1,102 @@
+-- Scenarios by name, and the replacements that each puts in.
+use Rattle.std.specs.Prelude.{◌==◌, ◌&&◌, ◌||◌, ℕ, zero, suc, Bool, not, nat_le, List, [], ◌∷◌, filter, length, map, Option, Some, None, if◌then◌else◌}
+use Rattle.std.specs.List.{find, list_any}
+use Rattle.std.specs.Str.{bytes_eq}
+use Rattle.wi_values.specs.Replacements.{as_map, overridden}
+use Rattle.wi_values.specs.declared.value.Value.{Value}
+use Rattle.wi_values.specs.declared.replacement.Replacement.{Replacement}
+
+pub record Scenario : Type 0 where
+  pub name : List ℕ
+  -- its own replacements, in row-major order, one for each address
+  pub own : List Replacement
+  -- the name of the scenario that it is based on, its base scenario, if it has one
+  pub base : Option (List ℕ)
+
+abbrev pub is_named : List ℕ → Scenario → Bool
+is_named name x = bytes_eq name x.name
+
+-- the scenario of this name; where none is named, or none has the name, there is none
+abbrev pub scenario_of : List Scenario → Option (List ℕ) → Option Scenario
+scenario_of xs None = None
+scenario_of xs (Some name) = find (is_named name) xs
+
+abbrev pub has_scenario : List Scenario → List ℕ → Bool
+has_scenario xs name = list_any (is_named name) xs
+
+-- how many scenarios there may be, and how many replacements one may have of its own
+abbrev pub max_scenarios : ℕ
+max_scenarios = 64
+
+abbrev pub max_replacements : ℕ
+max_replacements = 256
+
+-- ---- what a scenario puts in
+
+-- a scenario, its base scenario, the base scenario of that one, and so on, so many at most
+abbrev pub chain_within : ℕ → List Scenario → Option Scenario → List Scenario
+chain_within zero xs o = []
+chain_within (suc k) xs None = []
+chain_within (suc k) xs (Some x) = x ∷ chain_within k xs (scenario_of xs x.base)
+
+-- the scenario of this name and those that it is based on, at any remove; there are never more than may be
+unfoldable pub chain : List Scenario → Option (List ℕ) → List Scenario
+chain xs name = chain_within max_scenarios xs (scenario_of xs name)
+
+-- the entries of a map as replacements
+abbrev pub as_replacements : List (ℕ × Value) → List Replacement
+as_replacements es = map (λ e. record { at = e.0; value = e.1 }) es
+
+-- replacements with others put in, each in the place of the one that its address had
+abbrev pub with_replacements : List Replacement → List Replacement → List Replacement
+with_replacements rs others = as_replacements (overridden (as_map rs) others)
+
+-- the replacements of several scenarios, where each overrides those after it
+abbrev pub layered : List Scenario → List Replacement
+layered [] = []
+layered (x ∷ xs) = with_replacements (layered xs) x.own
+
+-- what a scenario puts in: what its base scenario puts in, overridden by its own replacements; where none is named, nothing
+abbrev pub effective : List Scenario → Option (List ℕ) → List Replacement
+effective xs name = layered (chain xs name)
+
+-- ---- a scenario made or changed
+
+-- a scenario in the place of the one of its name, or at the end where there is none
+abbrev pub with_scenario : List Scenario → Scenario → List Scenario
+with_scenario [] x = x ∷ []
+with_scenario (y ∷ ys) x = if bytes_eq x.name y.name then x ∷ ys else y ∷ with_scenario ys x
+
+-- the scenarios without the one of this name
+abbrev pub without_scenario : List Scenario → List ℕ → List Scenario
+without_scenario xs name = filter (λ x. not (is_named name x)) xs
+
+-- the scenario that is there, or else a new one, which replaces nothing and is based on none
+abbrev pub scenario_or_new : List ℕ → Option Scenario → Scenario
+scenario_or_new name None = record { name = name; own = []; base = None }
+scenario_or_new name (Some x) = x
+
+abbrev pub scenario_for : List Scenario → List ℕ → Scenario
+scenario_for xs name = scenario_or_new name (scenario_of xs (Some name))
+
+-- whether an address has a replacement
+abbrev pub is_replaced : List Replacement → ℕ → Bool
+is_replaced rs a = list_any (λ r. r.at == a) rs
+
+-- replacements without the one for an address
+abbrev pub without_replacement : List Replacement → ℕ → List Replacement
+without_replacement rs a = filter (λ r. not (r.at == a)) rs
+
+-- a scenario with these put into its own replacements
+abbrev pub with_own : Scenario → List Replacement → Scenario
+with_own x rs = record x { own = with_replacements x.own rs }
+
+-- a scenario without its own replacement for an address; what its base scenario puts in there stays
+abbrev pub without_own : Scenario → ℕ → Scenario
+without_own x at = record x { own = without_replacement x.own at }
+
+-- a replacement put into this scenario would make a scenario too many, or one replacement of its own too many
+abbrev pub is_full : List Scenario → List ℕ → ℕ → Bool
+is_full xs name at =
+    (not (has_scenario xs name) && nat_le max_scenarios (length xs))
+    || (not (is_replaced (scenario_for xs name).own at) && nat_le max_replacements (length (scenario_for xs name).own))

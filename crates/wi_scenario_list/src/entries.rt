@@ -1,0 +1,59 @@
+//! Replacements as entries of a map.
+
+ghost use Rattle.std.specs.Prelude.{◌≡◌, IfOk, OnOk};
+ghost use Rattle.wi_values.specs.Replacements.{IsInOrder, as_map, overridden};
+ghost use Rattle.wi_scenario_list.specs.Scenarios.{as_replacements};
+
+use std::alloc::{AllocError, Global};
+use std::collections::BTreeMap;
+use wi_values::{Address, Replacement, Value};
+
+/// Values by addresses.
+pub(crate) type ValueMap = BTreeMap<Address, Value>;
+
+/// Puts copies of a map's entries into another, in the place of what it had at their addresses. If memory runs out, those put
+/// in so far stay.
+pub(crate) fn put_in(alloc: Global, map: &mut ValueMap, others: &ValueMap) -> Result<(), AllocError>
+    ensures put { OnOk result (map.new.entries ≡ overridden map.old.entries (as_replacements others.now.entries)) }
+    ensures order { OnOk result (IsInOrder (as_replacements others.now.entries)) }
+{
+    for (at, value) in others {
+        let value = value.copy(alloc)?;
+        map.insert(*at, value)?;
+    }
+    Ok(())
+}
+
+/// The same entries once more.
+pub(crate) fn copied(alloc: Global, map: &ValueMap) -> Result<ValueMap, AllocError>
+    ensures { IfOk result (λ m. m.entries ≡ map.now.entries) }
+{
+    let mut copy = BTreeMap::new(alloc);
+    put_in(alloc, &mut copy, map)?;
+    Ok(copy)
+}
+
+/// A map with another's entries put in, each in the place of the one that its address had.
+pub(crate) fn with_entries(
+    alloc: Global,
+    map: ValueMap,
+    others: &ValueMap,
+) -> Result<ValueMap, AllocError>
+    ensures { IfOk result (λ m. m.entries ≡ overridden map.entries (as_replacements others.now.entries)) }
+{
+    let mut all = map;
+    put_in(alloc, &mut all, others)?;
+    Ok(all)
+}
+
+/// The entries of a map as replacements, in row-major order.
+pub(crate) fn listed(alloc: Global, map: ValueMap) -> Result<Vec<Replacement>, AllocError>
+    ensures value { IfOk result (λ rs. as_map rs.items ≡ map.entries) }
+    ensures order { IfOk result (λ rs. IsInOrder rs.items) }
+{
+    let mut replacements = Vec::with_capacity(alloc, map.len())?;
+    for (at, value) in map {
+        replacements.push(Replacement { at, value })?;
+    }
+    Ok(replacements)
+}
