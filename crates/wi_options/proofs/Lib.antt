@@ -1,0 +1,4 @@
+pub mod EntryLemmas
+pub mod OptionLemmas
+pub mod KeptLemmas
+pub mod StatedLemmas

@@ -1,0 +1,4 @@
+pub mod Stated
+pub mod Refused
+pub mod Status
+pub mod Inner

@@ -1,0 +1,12 @@
+//! The words with which the program is called: `whatif [--load FILE] [--keep N]`.
+#![tactic(auto)]
+
+mod command;
+mod fault;
+mod help;
+mod settings;
+mod words;
+
+pub use fault::{OptionsFault, options_status};
+pub use settings::Options;
+pub use words::options;
