@@ -1,20 +1,21 @@
 -- Which words give no options, and why.
-use Rattle.std.specs.Prelude.{◌≡◌, ⊤, Bool, List}
-use Rattle.clap.specs.Words.{IsAmong, Kinds, Text, fault_of, kind_of, takes}
+use Rattle.std.specs.Prelude.{◌≡◌, ⊤, Bool, List, String}
+use Rattle.std.specs.Global.{Global}
+use Rattle.clap.specs.Words.{IsAmong, Kinds, fault_of, kind_of, takes}
 use Rattle.clap.specs.declared.error.Error.{Error}
 use Rattle.clap.specs.declared.error.kind.ErrorKind.{ErrorKind}
 use Rattle.clap.specs.declared.error.kind.ErrorKind.TheVariants.{DisplayHelp, OutOfMemory}
-use Rattle.wi_options.specs.Stated.{whatif}
+use Rattle.wi_options.specs.Stated.{spelled, whatif}
 use Rattle.wi_options.specs.declared.fault.OptionsFault.{OptionsFault}
 use Rattle.wi_options.specs.declared.fault.OptionsFault.TheVariants.{Help, Usage, Memory}
 
 -- whether clap takes the words
-unfoldable pub is_taken : List Text → Bool
-is_taken words = takes whatif words
+unfoldable pub is_taken : List (String Global) → Bool
+is_taken words = takes whatif (spelled words)
 
 -- what clap finds first in the words that it doesn't take, such as a call for help
-unfoldable pub found_amiss : List Text → Kinds
-found_amiss words = fault_of whatif words
+unfoldable pub found_amiss : List (String Global) → Kinds
+found_amiss words = fault_of whatif (spelled words)
 
 -- the fault by the kind of clap's error
 abbrev pub fault_by : ErrorKind → Error → OptionsFault
@@ -22,8 +23,9 @@ fault_by OutOfMemory error = Memory
 fault_by DisplayHelp error = Help error
 fault_by _ error = Usage error
 
--- a fault for these words: memory may always be short, and else it is what clap finds amiss, help where that is called for
-abbrev pub IsFault : List Text → OptionsFault → Type 0
+-- a fault for these words: memory may always be short, and else it is what clap finds amiss,
+-- Help where that is a call for help
+abbrev pub IsFault : List (String Global) → OptionsFault → Type 0
 IsFault words Memory = ⊤
 IsFault words (Help error) = (kind_of error ≡ DisplayHelp) × IsAmong (kind_of error) (found_amiss words)
 IsFault words (Usage error) = (kind_of error ≡ DisplayHelp → ⊥) × IsAmong (kind_of error) (found_amiss words)

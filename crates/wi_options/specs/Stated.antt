@@ -1,5 +1,5 @@
 -- What the words of the program state.
-use Rattle.std.specs.Prelude.{◌≡◌, ℕ, List, map, Option, Some, None, String, string_bytes, codes, pos}
+use Rattle.std.specs.Prelude.{ℕ, List, map, Option, Some, None, String, string_bytes, codes, pos}
 use Rattle.std.specs.Global.{Global}
 use Rattle.std.specs.Str.Parse.{digits_value, without_leading_plus}
 use Rattle.clap.specs.Words.{App, Row, Rule, Text, first_of, matches_of, new_app, new_rule}
@@ -37,22 +37,22 @@ whatif = with_rule (with_rule (new_app (codes "whatif")) load_option) keep_optio
 
 -- ---- what clap states
 
-unfoldable pub stated : List Text → List Row
-stated words = matches_of whatif words
+unfoldable pub stated : List (String Global) → List Row
+stated words = matches_of whatif (spelled words)
 
 -- the value of `--load`, if there is one
-abbrev pub stated_load : List Text → Option Text
+abbrev pub stated_load : List (String Global) → Option Text
 stated_load words = first_of (codes "load") (stated words)
 
 -- the value of `--keep`, if there is one
-abbrev pub stated_keep : List Text → Option Text
+abbrev pub stated_keep : List (String Global) → Option Text
 stated_keep words = first_of (codes "keep") (stated words)
 
 -- the number that a text spells
 abbrev pub number_of : Text → ℕ
 number_of text = digits_value 10 (without_leading_plus (without_minus text))
 
--- k is the number that is stated, or the usual one
-abbrev pub IsKept : Option Text → ℕ → Type 0
-IsKept None k = k ≡ usual_kept
-IsKept (Some text) k = k ≡ number_of text
+-- the number that is stated, or else the usual one
+abbrev pub number_or : ℕ → Option Text → ℕ
+number_or usual None = usual
+number_or usual (Some text) = number_of text

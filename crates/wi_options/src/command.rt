@@ -4,7 +4,8 @@ ghost use Rattle.std.specs.Prelude.{◌≡◌, ◌≤◌, IfOk, codes};
 ghost use Rattle.clap.specs.Built.{IsParsedFrom};
 ghost use Rattle.clap.specs.Words.{app_of, first_value, found_of};
 ghost use Rattle.clap.specs.declared.parser.matches.ArgMatches.{ArgMatches};
-ghost use Rattle.wi_options.specs.Stated.{IsKept, keep_option, load_option, most_kept, whatif};
+ghost use Rattle.wi_options.specs.Stated.{keep_option, load_option, most_kept, number_or};
+ghost use Rattle.wi_options.specs.Stated.{usual_kept, whatif};
 ghost use Rattle.wi_options.specs.Inner.Reads.{IsBare, IsPlainly, ReadsKeep};
 
 use crate::help::{ABOUT, COMMANDS_AND_REFUSALS, USAGE};
@@ -58,7 +59,7 @@ pub(crate) fn command<'a>(alloc: Global) -> Result<Command<'a>, AllocError>
 /// How many values are kept.
 pub(crate) fn kept(matches: &ArgMatches<'_>) -> usize
     requires { ReadsKeep matches.now }
-    ensures stated { IsKept (first_value (found_of matches.now) (codes "keep")) result }
+    ensures stated { result ≡ number_or usual_kept (first_value (found_of matches.now) (codes "keep")) }
     ensures range { (1 ≤ result) × (result ≤ most_kept) }
 {
     matches.get_one::<u32>("keep").unwrap_or(KEEP) as usize

@@ -1,8 +1,7 @@
-use Rattle.std.proofs.Common.{◌∙◌, ap, codes, subst, Option}
+use Rattle.std.proofs.Common.{◌∙◌, ap, codes}
 use Rattle.std.proofs.lemmas.Result.{err_from_is_err_and}
-use Rattle.clap.specs.Words.{Text}
 use Rattle.clap.specs.declared.error.kind.ErrorKind.{ErrorKind}
-use Rattle.wi_options.specs.Stated.{IsKept}
+use Rattle.wi_options.specs.Stated.{number_or, usual_kept}
 use Rattle.wi_options.specs.Refused.{fault_by}
 use Rattle.wi_options.proofs.StatedLemmas.{is_fault, taken_by, value_is_stated}
 use Rattle.wi_options.proofs.words.options.Goals as goal
@@ -24,8 +23,8 @@ returns-clause-load c =
 
 pub returns-clause-keep : goal.returns-clause-keep
 returns-clause-keep c =
-    let is = value_is_stated _ c.in_ok-matches.matches _ (codes "keep") c.in_ok-command.ensures.app c.in_ok-matches.ensures.matches in
-    subst (λ (x : Option Text). IsKept x c.kept.result) is c.kept.ensures.stated
+    c.kept.ensures.stated ∙ ap (number_or usual_kept)
+    (value_is_stated _ c.in_ok-matches.matches _ (codes "keep") c.in_ok-command.ensures.app c.in_ok-matches.ensures.matches)
 
 pub returns-clause-range : goal.returns-clause-range
 returns-clause-range c = c.kept.ensures.range
