@@ -21,7 +21,7 @@ fn expect_answers(
     let mut book = workbook(alloc)?;
     for (content, answer) in rows {
         assert!(rt;
-            book.set(Address::at(0, 0), content) == *answer,
+            book.set(Address::at(0, 0), content, false) == *answer,
             "{content}"
         );
         let stands = book.calculator().content(Address::at(0, 0)).is_some();
@@ -48,7 +48,7 @@ fn takes_and_refuses_contents(rt: HostRuntime) -> Result<(), Fail> {
 fn records_go_behind_what_stands(rt: HostRuntime) -> Result<(), Fail> {
     let mut book = workbook(rt.alloc())?;
     let mut out = Vec::from_slice(rt.alloc(), b"before ")?;
-    book.set(Address::at(0, 0), "10")?;
+    book.set(Address::at(0, 0), "10", false)?;
     book.show(Rect::read(b"A1")?, &mut out)?;
     book.formula_text(Address::at(0, 0), &mut out)?;
     assert_eq!(rt; str::from_utf8(&out)?, "before \"10\"\r\n\"A1\",\"10\"\r\n");

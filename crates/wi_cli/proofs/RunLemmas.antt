@@ -4,7 +4,7 @@ use Rattle.std.specs.List.{concat}
 use Rattle.std.specs.Option.{option_to_list}
 use Rattle.std.proofs.lemmas.List.Folds.{concat-append}
 use Rattle.wi_scenarios.specs.declared.refusal.Refusal.{Refusal}
-use Rattle.wi_scenarios.specs.declared.refusal.Refusal.TheVariants.{Memory, BadCommand, BadLine, OutOfSheet, Syntax, TooDeep, NumberRange, TooLong, Full, TooLarge, EditLimit}
+use Rattle.wi_scenarios.specs.declared.refusal.Refusal.TheVariants.{Memory, BadCommand, BadLine, OutOfSheet, Syntax, TooDeep, NumberRange, TooLong, Full, TooLarge, LeavesSheet, EditLimit}
 use Rattle.wi_cli.specs.Reply.{refused}
 use Rattle.wi_scenarios.specs.State.{State}
 use Rattle.wi_scenarios.specs.Step.{Command, IsStep}
@@ -47,6 +47,7 @@ refused_is s c NumberRange t h k = answered_by s c NumberRange t h k
 refused_is s c TooLong t h k = answered_by s c TooLong t h k
 refused_is s c Full t h k = answered_by s c Full t h k
 refused_is s c TooLarge t h k = answered_by s c TooLarge t h k
+refused_is s c LeavesSheet t h k = answered_by s c LeavesSheet t h k
 refused_is s c EditLimit t h k = answered_by s c EditLimit t h k
 
 -- what is told of a line is a run of its command

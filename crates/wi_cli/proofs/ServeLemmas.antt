@@ -1,7 +1,7 @@
 -- What is told of a line that was served.
 use Rattle.std.proofs.Common.{◌≡◌, ℕ, List, [], ◌++◌, refl, sym, ap, ◌∙◌, subst, Option, None, Some, Ok, Err}
 use Rattle.wi_scenarios.specs.declared.refusal.Refusal.{Refusal}
-use Rattle.wi_scenarios.specs.declared.refusal.Refusal.TheVariants.{Memory, BadCommand, BadLine, OutOfSheet, Syntax, TooDeep, NumberRange, TooLong, Full, TooLarge, EditLimit}
+use Rattle.wi_scenarios.specs.declared.refusal.Refusal.TheVariants.{Memory, BadCommand, BadLine, OutOfSheet, Syntax, TooDeep, NumberRange, TooLong, Full, TooLarge, LeavesSheet, EditLimit}
 use Rattle.wi_scenarios.specs.State.{State}
 use Rattle.wi_scenarios.specs.Answer as answer
 use Rattle.wi_scenarios.specs.Step.{Command, IsStep, MayLackMemory}
@@ -22,6 +22,8 @@ told_done o c s t out out' records e none grown h =
 
 may : (d : ReadCommand) (s : State) → answer.MayGrow (IsStep s (command_of d)) → MayLackMemory s (command_of d)
 may (read.Set at content) s h = h
+may (read.Clear area) s h = h
+may (read.Fill from area) s h = h
 may (read.Show area) s h = h
 may (read.Formula at) s h = h
 
@@ -36,6 +38,7 @@ refuses NumberRange d s h = h
 refuses TooLong d s h = h
 refuses Full d s h = h
 refuses TooLarge d s h = h
+refuses LeavesSheet d s h = h
 refuses EditLimit d s h = h
 
 pub told_refused : (o : Option Command) (d : ReadCommand) (e : Refusal) (s t : State) (out records : List ℕ) → o ≡ Some (command_of d)
@@ -53,6 +56,7 @@ bad NumberRange s h = refl
 bad TooLong s h = refl
 bad Full s h = refl
 bad TooLarge s h = refl
+bad LeavesSheet s h = refl
 bad EditLimit s h = refl
 
 pub told_bad : (o : Option Command) (e : Refusal) (s : State) (out : List ℕ) → o ≡ Some (spell.Refused e) → (e ≡ Memory → ⊥) → Told o (Refused e) s s out

@@ -5,16 +5,17 @@ use Rattle.std.specs.Str.{byte, bytes_eq, is_utf8}
 use Rattle.wi_values.specs.Address.{Area}
 use Rattle.wi_values.specs.AddressReading.{read_address, read_rect}
 use Rattle.wi_values.specs.declared.address.AddressFault.{AddressFault}
+use Rattle.wi_values.specs.declared.address.AddressFault.TheVariants.{Shape, Outside}
 use Rattle.wi_scenarios.specs.declared.refusal.Refusal.TheVariants.{BadCommand, BadLine}
 use Rattle.wi_scenarios.specs.Answer.{operand_refusal}
-use Rattle.wi_scenarios.specs.Step.{Command, Set, Show, Formula, Refused}
+use Rattle.wi_scenarios.specs.Step.{Command, Set, Clear, Fill, Show, Formula, Refused}
 use Rattle.wi_cli.specs.Lines.{raw_lines, without_lf, without_cr, is_whole}
 use Rattle.wi_cli.specs.Words.{first_word, after_word, is_all_spaces}
 
 -- ---- one command each
 
 abbrev pub set_command_at : Result ℕ AddressFault → List ℕ → Command
-set_command_at (Ok at) content = Set at content
+set_command_at (Ok at) content = Set false at content
 set_command_at (Err fault) content = Refused (operand_refusal fault)
 
 -- `set ADDR CONTENT`; CONTENT is all after the one space that follows ADDR
@@ -22,6 +23,30 @@ abbrev pub set_command : List ℕ → Command
 set_command operands =
     if length (after_word operands) == 0 then Refused BadCommand
     else set_command_at (read_address (first_word operands)) (after_word operands)
+
+abbrev pub clear_command_in : Result Area AddressFault → Command
+clear_command_in (Ok area) = Clear false area
+clear_command_in (Err fault) = Refused (operand_refusal fault)
+
+-- `clear RECT`
+abbrev pub clear_command : List ℕ → Command
+clear_command operands =
+    if is_all_spaces (after_word operands) then clear_command_in (read_rect (first_word operands))
+    else Refused BadCommand
+
+-- the wrong shape of either operand comes before a cell outside the sheet
+abbrev pub fill_command_of : Result ℕ AddressFault → Result Area AddressFault → Command
+fill_command_of (Ok from) (Ok area) = Fill false from area
+fill_command_of (Ok from) (Err fault) = Refused (operand_refusal fault)
+fill_command_of (Err Shape) area = Refused (operand_refusal Shape)
+fill_command_of (Err Outside) (Ok area) = Refused (operand_refusal Outside)
+fill_command_of (Err Outside) (Err fault) = Refused (operand_refusal fault)
+
+-- `fill ADDR RECT`
+abbrev pub fill_command : List ℕ → Command
+fill_command operands =
+    if is_all_spaces (after_word (after_word operands)) then fill_command_of (read_address (first_word operands)) (read_rect (first_word (after_word operands)))
+    else Refused BadCommand
 
 abbrev pub show_command_in : Result Area AddressFault → Command
 show_command_in (Ok area) = Show area
@@ -47,9 +72,11 @@ formula_command operands =
 abbrev pub named_command : List ℕ → List ℕ → Command
 named_command name operands =
     if bytes_eq name (codes "set") then set_command operands
+    else (if bytes_eq name (codes "clear") then clear_command operands
+    else (if bytes_eq name (codes "fill") then fill_command operands
     else (if bytes_eq name (codes "show") then show_command operands
     else (if bytes_eq name (codes "formula") then formula_command operands
-    else Refused BadCommand))
+    else Refused BadCommand))))
 
 -- the command that a text spells
 unfoldable pub spelled_command : List ℕ → Command

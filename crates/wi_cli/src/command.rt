@@ -2,18 +2,20 @@
 
 ghost use Rattle.std.specs.Prelude.{◌≡◌};
 ghost use Rattle.wi_cli.specs.Lines.{without_cr};
-ghost use Rattle.wi_cli.specs.Script.{is_comment, set_command, show_command, formula_command, spelled_command, text_command, line_command};
+ghost use Rattle.wi_cli.specs.Script.{is_comment, set_command, clear_command, fill_command, fill_command_of, show_command, formula_command, spelled_command, text_command, line_command};
 ghost use Rattle.wi_cli.specs.Inner.Spelling.{IsCommandOf, IsLineOf};
 
 use crate::lines::MAX_LINE;
 use crate::words::{is_all_spaces, split_word};
 use wi_scenarios::Refusal;
-use wi_values::{Address, Rect};
+use wi_values::{Address, AddressFault, Rect};
 
 /// A command with its operands.
 #[derive(Clone, Copy)]
 pub enum Command<'a> {
     Set { at: Address, content: &'a str },
+    Clear { area: Rect },
+    Fill { from: Address, area: Rect },
     Show { area: Rect },
     Formula { at: Address },
 }
@@ -28,6 +30,45 @@ fn read_set(operands: &str) -> Result<Command<'_>, Refusal>
     }
     let at = Address::read(address.as_bytes())?;
     Ok(Command::Set { at, content })
+}
+
+/// `clear RECT`.
+fn read_clear(operands: &str) -> Result<Command<'_>, Refusal>
+    ensures { IsCommandOf (clear_command operands.now) result }
+{
+    let (area, more) = split_word(operands);
+    if !is_all_spaces(more) {
+        return Err(Refusal::BadCommand);
+    }
+    let area = Rect::read(area.as_bytes())?;
+    Ok(Command::Clear { area })
+}
+
+/// `fill ADDR RECT`.
+fn read_fill(operands: &str) -> Result<Command<'_>, Refusal>
+    ensures { IsCommandOf (fill_command operands.now) result }
+{
+    let (from, others) = split_word(operands);
+    let (area, more) = split_word(others);
+    if !is_all_spaces(more) {
+        return Err(Refusal::BadCommand);
+    }
+    filled(Address::read(from.as_bytes()), Rect::read(area.as_bytes()))
+}
+
+/// `fill` of these operands. The wrong shape of either comes before a cell outside the sheet.
+fn filled<'a>(
+    from: Result<Address, AddressFault>,
+    area: Result<Rect, AddressFault>,
+) -> Result<Command<'a>, Refusal>
+    ensures { IsCommandOf (fill_command_of from area) result }
+{
+    match (from, area) {
+        (Ok(from), Ok(area)) => Ok(Command::Fill { from, area }),
+        (Err(AddressFault::Outside), Err(fault)) => Err(Refusal::from(fault)),
+        (Err(fault), _) => Err(Refusal::from(fault)),
+        (Ok(_), Err(fault)) => Err(Refusal::from(fault)),
+    }
 }
 
 /// `show RECT`.
@@ -62,6 +103,8 @@ pub fn read_command(text: &str) -> Result<Command<'_>, Refusal>
     let (name, operands) = split_word(text);
     match name {
         "set" => read_set(operands),
+        "clear" => read_clear(operands),
+        "fill" => read_fill(operands),
         "show" => read_show(operands),
         "formula" => read_formula(operands),
         _ => Err(Refusal::BadCommand),

@@ -33,7 +33,9 @@ fn execute<C: Calculator>(
         × Serves (IsStep book.old (command_of command.entry)) result book.old book.new records }
 {
     match command {
-        Command::Set { at, content } => book.set(at, content),
+        Command::Set { at, content } => book.set(at, content, false),
+        Command::Clear { area } => book.clear(area, false),
+        Command::Fill { from, area } => book.fill(from, area, false),
         Command::Show { area } => book.show(area, out),
         Command::Formula { at } => book.formula_text(at, out),
     }

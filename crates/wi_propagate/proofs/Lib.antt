@@ -1,3 +1,4 @@
+pub mod CellsAhead
 pub mod Marks
 pub mod SavingEntries
 pub mod Showing

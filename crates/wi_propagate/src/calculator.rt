@@ -3,6 +3,7 @@
 ghost use Rattle.std.specs.Prelude.{◌≡◌, ◌+◌, ◌≤◌, ℕ, Bool, false, nat_le, List, filter, length, sum_by, IfOk};
 ghost use Rattle.std.specs.Option.{option_copied};
 ghost use Rattle.std.specs.List.{find};
+ghost use Rattle.std.specs.List.Sorted.{IsStrictlyIncreasing};
 ghost use Rattle.std.specs.Map.{keys_of};
 ghost use Rattle.wi_values.specs.Address.{is_within};
 ghost use Rattle.wi_values.specs.Replacements.{IsInOrder};
@@ -39,8 +40,9 @@ pub trait Calculator {
 
     /// The first occupied cell of a rectangle, in row-major order, at a cell or after it.
     fn next_occupied(&self, area: Rect, from: Address) -> Option<Address>
-        ensures { let occupied = keys_of (stored self.now).sheet in
-            result ≡ find (λ a. nat_le from a) (filter (is_within area) occupied) };
+        ensures first { let occupied = keys_of (stored self.now).sheet in
+            result ≡ find (λ a. nat_le from a) (filter (is_within area) occupied) }
+        ensures order { IsStrictlyIncreasing (keys_of (stored self.now).sheet) };
 
     /// One edit: puts contents in or takes them away, one after another, or refuses and leaves all as it was.
     fn apply(&mut self, changes: Vec<(Address, Option<Content>)>) -> Result<(), StoreFault>

@@ -124,6 +124,7 @@ impl Calculator for KeptCalculator {
     }
 
     fn next_occupied(&self, area: Rect, from: Address) -> Option<Address> {
+        self.store.cells_stand_in_order();
         self.store.next_occupied(area, from)
     }
 

@@ -7,10 +7,12 @@ mod generations;
 mod keeping;
 mod kept;
 pub mod laws;
+mod occupied;
 mod plain;
 mod table_entry;
 mod value;
 
 pub use calculator::Calculator;
 pub use kept::KeptCalculator;
+pub use occupied::occupied_in;
 pub use plain::PlainCalculator;

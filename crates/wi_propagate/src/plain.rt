@@ -51,6 +51,7 @@ impl Calculator for PlainCalculator {
     }
 
     fn next_occupied(&self, area: Rect, from: Address) -> Option<Address> {
+        self.store.cells_stand_in_order();
         self.store.next_occupied(area, from)
     }
 

@@ -4,11 +4,8 @@ use Rattle.wi_values.specs.declared.address.AddressFault.{AddressFault}
 use Rattle.wi_values.specs.declared.address.AddressFault.TheVariants.{Shape, Outside}
 use Rattle.wi_parser.specs.declared.fault.ParseFault.{ParseFault}
 use Rattle.wi_parser.specs.declared.fault.ParseFault.TheVariants as parse
-use Rattle.wi_store.specs.declared.fault.StoreFault.{StoreFault}
-use Rattle.wi_store.specs.declared.fault.StoreFault.TheVariants as store
-use Rattle.wi_store.specs.Store.{Stored}
 use Rattle.wi_scenarios.specs.declared.refusal.Refusal.{Refusal}
-use Rattle.wi_scenarios.specs.declared.refusal.Refusal.TheVariants.{Memory, BadCommand, BadLine, OutOfSheet, Syntax, TooDeep, NumberRange, TooLong, Full, TooLarge, EditLimit}
+use Rattle.wi_scenarios.specs.declared.refusal.Refusal.TheVariants.{Memory, BadCommand, BadLine, OutOfSheet, Syntax, TooDeep, NumberRange, TooLong, Full, TooLarge, LeavesSheet, EditLimit}
 use Rattle.wi_scenarios.specs.State.{State}
 
 -- the new state and the records, or the first refusal that holds
@@ -27,6 +24,7 @@ code_of NumberRange = 7
 code_of TooLong = 8
 code_of Full = 9
 code_of TooLarge = 15
+code_of LeavesSheet = 16
 code_of EditLimit = 17
 
 -- the refusal of an operand that is no address or rectangle, or none of the sheet
@@ -42,17 +40,6 @@ parse_refusal parse.NumberRange = NumberRange
 parse_refusal parse.TooDeep = TooDeep
 parse_refusal parse.Syntax = Syntax
 parse_refusal parse.Memory = Memory
-
--- the refusal of an edit
-abbrev pub edit_refusal : StoreFault → Refusal
-edit_refusal store.Full = Full
-edit_refusal store.EditLimit = EditLimit
-edit_refusal store.Memory = Memory
-
--- the answer to an edit of the sheet
-abbrev pub edit_answer : State → Result Stored StoreFault → Answer
-edit_answer s (Ok stored) = Ok (record s { stored = stored }, [])
-edit_answer s (Err e) = Err (edit_refusal e)
 
 -- whether a refusal is found before anything grows
 abbrev pub is_found_before_growth : Refusal → Bool

@@ -1,6 +1,11 @@
 pub mod State
 pub mod Answer
+pub mod Causes
+pub mod Edits
 pub mod Set
+pub mod Clear
+pub mod Fill
 pub mod Show
 pub mod Formula
 pub mod Step
+pub mod Inner

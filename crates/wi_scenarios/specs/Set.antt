@@ -1,19 +1,33 @@
 -- The command `set`: puts a content into a cell.
-use Rattle.std.specs.Prelude.{◌≢◌, ℕ, List, [], ◌∷◌, Some, Result, Ok, Err}
+use Rattle.std.specs.Prelude.{◌≡◌, ◌==◌, ℕ, List, [], ◌∷◌, length, Option, Some, None, Result, Ok, Err}
 use Rattle.wi_parser.specs.declared.content.Content.{Content}
 use Rattle.wi_parser.specs.declared.fault.ParseFault.{ParseFault}
 use Rattle.wi_parser.specs.Contents.{IsContent}
-use Rattle.wi_store.specs.Store.{applied}
-use Rattle.wi_scenarios.specs.declared.refusal.Refusal.TheVariants.{BadCommand}
+use Rattle.wi_scenarios.specs.declared.refusal.Refusal.{Refusal}
 use Rattle.wi_scenarios.specs.State.{State}
-use Rattle.wi_scenarios.specs.Answer.{Answer, parse_refusal, edit_answer}
+use Rattle.wi_scenarios.specs.Answer.{Answer, parse_refusal}
+use Rattle.wi_scenarios.specs.Causes.{no_cause}
+use Rattle.wi_scenarios.specs.Edits.{Edit, edit_answer}
 
--- the answer to putting what was read into a cell
-abbrev pub put_answer : State → ℕ → Result Content ParseFault → Answer
-put_answer s at (Ok content) = edit_answer s (applied s.stored ((at, Some content) ∷ []))
-put_answer s at (Err e) = Err (parse_refusal e)
+abbrev pub fault_in : Result Content ParseFault → Option Refusal
+fault_in (Ok content) = None
+fault_in (Err e) = Some (parse_refusal e)
 
--- The answer to putting a text into a cell: an empty one is refused, and of any other is put what it stands for.
-pub data IsSetStep : State → ℕ → List ℕ → Answer → Type 0 where
-  empty : (s : State) (at : ℕ) → IsSetStep s at [] (Err BadCommand)
-  a_content : (s : State) (at : ℕ) (text : List ℕ) (r : Result Content ParseFault) → text ≢ [] → IsContent text r → IsSetStep s at text (put_answer s at r)
+abbrev pub content_in : Result Content ParseFault → Option Content
+content_in (Ok content) = Some content
+content_in (Err e) = None
+
+-- the content that was read, into the cell
+abbrev pub set_edit : ℕ → Result Content ParseFault → Edit
+set_edit at read = (at, content_in read) ∷ []
+
+-- the answer to putting a text into a cell that stands for this; an empty text is none
+abbrev pub set_answer : State → ℕ → List ℕ → Result Content ParseFault → Answer
+set_answer s at text read =
+    edit_answer s (record no_cause { bad_command = length text == 0; content = fault_in read }) (set_edit at read)
+
+-- The answer to putting a text into a cell: that of what the text stands for.
+pub record IsSetStep (s : State) (at : ℕ) (text : List ℕ) (a : Answer) : Type 0 where
+  pub read : Result Content ParseFault
+  pub is_read : IsContent text read
+  pub answered : set_answer s at text read ≡ a

@@ -1,11 +1,14 @@
 //! A workbook and its commands.
 #![tactic(auto)]
 
+mod clear;
+mod fill;
 mod formula;
 pub mod laws;
 mod refusal;
 mod set;
 mod show;
+mod texts;
 mod workbook;
 
 pub use refusal::Refusal;

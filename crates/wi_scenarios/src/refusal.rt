@@ -4,13 +4,13 @@ ghost use Rattle.std.specs.Prelude.{◌≡◌};
 
 use std::alloc::{AllocError, AllocFailed};
 use thiserror::Error;
-use wi_parser::ParseFault;
+use wi_parser::{ParseFault, ShiftFault};
 use wi_store::StoreFault;
 use wi_values::AddressFault;
 
 /// Why a command is refused. All is then as before. The first cause of this order that holds is answered: `BadLine`,
 /// `BadCommand`, `OutOfSheet` of an operand, `TooLarge`, `TooLong`, `OutOfSheet` of a formula, `NumberRange`, `TooDeep`,
-/// `Syntax`, `Full`, `EditLimit`. `Memory` may stand in place of any answer but the first five refusals, which are found
+/// `Syntax`, `LeavesSheet`, `Full`, `EditLimit`. `Memory` may stand in place of any answer but the first five refusals, which are found
 /// before anything grows.
 #[derive(Clone, Copy, PartialEq, Debug, Error)]
 pub enum Refusal {
@@ -44,6 +44,9 @@ pub enum Refusal {
     /// E15.
     #[error("the rectangle has too many cells")]
     TooLarge,
+    /// E16.
+    #[error("a filled reference would leave the sheet")]
+    LeavesSheet,
     /// E17.
     #[error("no more edits are accepted")]
     EditLimit,
@@ -67,6 +70,7 @@ impl Refusal {
             Refusal::TooLong => 8,
             Refusal::Full => 9,
             Refusal::TooLarge => 15,
+            Refusal::LeavesSheet => 16,
             Refusal::EditLimit => 17,
         }
     }
@@ -122,8 +126,21 @@ impl From<ParseFault> for Refusal {
     }
 }
 
+impl From<ShiftFault> for Refusal {
+    ghost use Rattle.wi_scenarios.specs.Fill.{shift_refusal};
+
+    ghost from_gives = { λ fault e. e ≡ shift_refusal fault };
+
+    fn from(fault: ShiftFault) -> Refusal {
+        match fault {
+            ShiftFault::LeavesSheet => Refusal::LeavesSheet,
+            ShiftFault::Memory => Refusal::Memory,
+        }
+    }
+}
+
 impl From<StoreFault> for Refusal {
-    ghost use Rattle.wi_scenarios.specs.Answer.{edit_refusal};
+    ghost use Rattle.wi_scenarios.specs.Edits.{edit_refusal};
 
     ghost from_gives = { λ fault e. e ≡ edit_refusal fault };
 

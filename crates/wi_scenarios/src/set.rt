@@ -3,7 +3,7 @@
 ghost use Rattle.std.specs.Prelude.{[]};
 ghost use Rattle.wi_scenarios.specs.State.{state_of};
 ghost use Rattle.wi_scenarios.specs.Answer.{Serves};
-ghost use Rattle.wi_scenarios.specs.Step.{Set, IsStep};
+ghost use Rattle.wi_scenarios.specs.Set.{IsSetStep};
 
 use crate::refusal::Refusal;
 use std::alloc::Global;
@@ -20,7 +20,7 @@ pub fn set<C: Calculator>(
     content: &str,
 ) -> Result<(), Refusal>
     ensures { let old = state_of (C.stored calculator.old) in
-        Serves (IsStep old (Set at content.now)) result old (state_of (C.stored calculator.new)) [] }
+        Serves (IsSetStep old at content.now) result old (state_of (C.stored calculator.new)) [] }
 {
     if content.is_empty() {
         return Err(Refusal::BadCommand);

@@ -3,8 +3,10 @@
 ghost use Rattle.std.specs.Prelude.{◌≡◌, ◌++◌, ℕ, List, [], IfOk};
 ghost use Rattle.wi_scenarios.specs.State.{state_of};
 ghost use Rattle.wi_scenarios.specs.Answer.{Serves};
-ghost use Rattle.wi_scenarios.specs.Step.{Set, Show, Formula, IsStep};
+ghost use Rattle.wi_scenarios.specs.Step.{Set, Clear, Fill, Show, Formula, IsStep};
 
+use crate::clear::clear;
+use crate::fill::fill;
 use crate::formula::formula;
 use crate::refusal::Refusal;
 use crate::set::set;
@@ -49,11 +51,31 @@ impl<C: Calculator> Workbook<C> {
         &self.calculator
     }
 
-    /// Puts a content into a cell. An empty one is refused as `BadCommand`.
-    pub fn set(&mut self, at: Address, content: &str) -> Result<(), Refusal>
-        ensures { Serves (IsStep self.old (Set at content.now)) result self.old self.new [] }
+    /// Puts a content into a cell. An empty one is refused as `BadCommand`. With one session no edit is stale, so it
+    /// counts for nothing whether this one is forced.
+    pub fn set(&mut self, at: Address, content: &str, force: bool) -> Result<(), Refusal>
+        ensures { Serves (IsStep self.old (Set force at content.now)) result self.old self.new [] }
     {
+        let _ = force;
         set(self.alloc, &mut self.calculator, at, content)
+    }
+
+    /// Empties the cells of a rectangle of any size. `force` is as of `set`. The work grows with the occupied cells.
+    pub fn clear(&mut self, area: Rect, force: bool) -> Result<(), Refusal>
+        ensures { Serves (IsStep self.old (Clear force area)) result self.old self.new [] }
+    {
+        let _ = force;
+        clear(self.alloc, &mut self.calculator, area)
+    }
+
+    /// Copies a cell's content to each cell of a rectangle, also where that cell lies in it. The relative parts of a formula's
+    /// references move by the distance; where one would leave the sheet, the whole command is refused. From an empty cell
+    /// the rectangle is emptied. `force` is as of `set`. The work grows with the cells of the rectangle.
+    pub fn fill(&mut self, from: Address, area: Rect, force: bool) -> Result<(), Refusal>
+        ensures { Serves (IsStep self.old (Fill force from area)) result self.old self.new [] }
+    {
+        let _ = force;
+        fill(self.alloc, &mut self.calculator, from, area)
     }
 
     /// Appends the shown texts of a rectangle's cells, a record for each row.

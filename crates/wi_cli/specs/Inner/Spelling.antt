@@ -1,14 +1,16 @@
 -- Commands as they are read.
-use Rattle.std.specs.Prelude.{◌≡◌, ◌≢◌, Option, Some, None, Result, Ok, Err}
+use Rattle.std.specs.Prelude.{false, ◌≡◌, ◌≢◌, Option, Some, None, Result, Ok, Err}
 use Rattle.wi_scenarios.specs.declared.refusal.Refusal.{Refusal}
 use Rattle.wi_scenarios.specs.declared.refusal.Refusal.TheVariants.{Memory}
-use Rattle.wi_scenarios.specs.Step.{Command, Set, Show, Formula, Refused}
+use Rattle.wi_scenarios.specs.Step.{Command, Set, Clear, Fill, Show, Formula, Refused}
 use Rattle.wi_cli.specs.declared.command.Command.TheVariants as read
 use Rattle.wi_cli.specs.declared.command.Command.{Command as ReadCommand}
 
 -- the command that was read
 abbrev pub command_of : ReadCommand → Command
-command_of (read.Set at content) = Set at content.now
+command_of (read.Set at content) = Set false at content.now
+command_of (read.Clear area) = Clear false area
+command_of (read.Fill from area) = Fill false from area
 command_of (read.Show area) = Show area
 command_of (read.Formula at) = Formula at
 

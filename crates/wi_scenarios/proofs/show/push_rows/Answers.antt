@@ -11,6 +11,6 @@ loop-row-preserved g c =
     record {
       within = omega arith;
       same = c.in_ok-push_row.ensures.same ∙ old.same;
-      written = rows_more _ _ c.args.area first (row - first) (row + 1 - first) row _ _ _ (omega arith) (omega arith) old.same old.written c.in_ok-push_row.ensures.ok;
+      written = rows_more c.args.put.now _ _ c.args.area first (row - first) (row + 1 - first) row _ _ _ (omega arith) (omega arith) old.same old.written c.in_ok-push_row.ensures.ok;
       kept = starts_trans _ _ _ c.in_ok-push_row.ensures.kept old.kept;
     }

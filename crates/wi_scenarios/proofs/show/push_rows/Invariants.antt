@@ -11,6 +11,6 @@ invariant-loop-row g l =
     record {
       within : l.row ≤ l.first + (l.row-end - l.first);
       same : stored l.calculator ≡ stored l.fn.calculator;
-      written : l.out.items ≡ l.fn.out.items ++ flat_map (row_shown (stored l.fn.calculator).sheet l.fn.area) (range_with_len l.first (l.row - l.first));
+      written : l.out.items ≡ l.fn.out.items ++ flat_map (row_shown (stored l.fn.calculator).sheet l.fn.put l.fn.area) (range_with_len l.first (l.row - l.first));
       kept : StartsWith l.out.items l.fn.out.items;
     }

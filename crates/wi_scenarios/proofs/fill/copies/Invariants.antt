@@ -1,0 +1,12 @@
+use Rattle.std.proofs.Common.{◌≤◌, ◌+◌, ◌-◌}
+use Rattle.std.specs.Option.{option_copied}
+use Rattle.wi_scenarios.specs.Inner.Copies.{AreCopies}
+use Rattle.wi_scenarios.proofs.FillLemmas.{rows_from}
+use Rattle.wi_scenarios.proofs.fill.copies.Given as goal
+
+-- the rows before this one have got their copies
+abbrev pub invariant-loop-row : goal.invariant-loop-row
+invariant-loop-row l = record {
+  within : l.row ≤ l.first + (l.row-end - l.first);
+  copied : AreCopies (option_copied l.content) l.from (rows_from l.area l.first (l.row - l.first)) l.changes.items;
+}

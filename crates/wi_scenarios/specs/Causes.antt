@@ -1,0 +1,52 @@
+-- The causes for which commands are refused, in the order in which they count.
+use Rattle.std.specs.Prelude.{ℕ, Bool, false, if◌then◌else◌, List, [], ◌∷◌, Option, Some, None, Err, Ok}
+use Rattle.std.specs.Option.{option_or}
+use Rattle.wi_scenarios.specs.declared.refusal.Refusal.{Refusal}
+use Rattle.wi_scenarios.specs.declared.refusal.Refusal.TheVariants.{BadCommand, TooLarge, LeavesSheet}
+use Rattle.wi_scenarios.specs.State.{State}
+use Rattle.wi_scenarios.specs.Answer.{Answer}
+
+-- Which causes hold; those that a command doesn't have stay as in `no_cause`. A line that is no command, or has an operand
+-- outside the sheet, is refused before any of them.
+pub record Causes : Type 0 where
+  pub bad_command : Bool
+  pub too_large : Bool
+  -- the first fault of what is to be put: too long, a cell outside the sheet, a number, the nesting, the syntax
+  pub content : Option Refusal
+  pub leaves_sheet : Bool
+  -- the first of the sheet's limits that would be passed: occupied cells, edits
+  pub limit : Option Refusal
+
+abbrev pub no_cause : Causes
+no_cause = record {
+  bad_command = false;
+  too_large = false;
+  content = None;
+  leaves_sheet = false;
+  limit = None;
+}
+
+abbrev pub when : Bool → Refusal → Option Refusal
+when holds e = if holds then Some e else None
+
+abbrev pub first_some : List (Option Refusal) → Option Refusal
+first_some [] = None
+first_some (o ∷ os) = option_or o (first_some os)
+
+-- the order
+abbrev pub first_cause : Causes → Option Refusal
+first_cause c = first_some (
+    when c.bad_command BadCommand  -- E02
+    ∷ when c.too_large TooLarge  -- E15
+    ∷ c.content  -- E08, E04, E07, E06, E05
+    ∷ when c.leaves_sheet LeavesSheet  -- E16
+    ∷ c.limit  -- E09, E17
+    ∷ [])
+
+abbrev pub unless : Option Refusal → State × List ℕ → Answer
+unless (Some e) done = Err e
+unless None done = Ok done
+
+-- the first cause that holds, or else the new state and the records
+abbrev pub answer : Causes → State × List ℕ → Answer
+answer c done = unless (first_cause c) done

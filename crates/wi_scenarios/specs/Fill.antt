@@ -1,0 +1,59 @@
+-- The command `fill`: copies a cell's content to each cell of a rectangle.
+use Rattle.std.specs.Prelude.{ℕ, ℤ, pos, ◌-ℤ◌, nat_lt, Bool, not, map, Option, Some, None, is_some, option_map}
+use Rattle.std.specs.List.{list_any}
+use Rattle.wi_values.specs.Address.{Area, size_of, cells_of, row_of, column_of}
+use Rattle.wi_parser.specs.declared.content.Content.{Content}
+use Rattle.wi_parser.specs.declared.content.Content.TheVariants.{Constant, Formula}
+use Rattle.wi_parser.specs.Sheet.{Sheet, content_of}
+use Rattle.wi_parser.specs.Shift.{shifted}
+use Rattle.wi_parser.specs.declared.shift.ShiftFault.{ShiftFault}
+use Rattle.wi_parser.specs.declared.shift.ShiftFault.TheVariants as shift
+use Rattle.wi_scenarios.specs.declared.refusal.Refusal.{Refusal}
+use Rattle.wi_scenarios.specs.declared.refusal.Refusal.TheVariants.{Memory, LeavesSheet}
+use Rattle.wi_scenarios.specs.State.{State}
+use Rattle.wi_scenarios.specs.Answer.{Answer}
+use Rattle.wi_scenarios.specs.Causes.{no_cause}
+use Rattle.wi_scenarios.specs.Edits.{Edit, edit_answer}
+use Rattle.wi_scenarios.specs.Show.{max_area}
+
+-- the refusal of a copy
+abbrev pub shift_refusal : ShiftFault → Refusal
+shift_refusal shift.LeavesSheet = LeavesSheet
+shift_refusal shift.Memory = Memory
+
+-- how far it is from one cell to another, down and to the right
+abbrev pub rows_between : ℕ → ℕ → ℤ
+rows_between from to = pos (row_of to) -ℤ pos (row_of from)
+
+abbrev pub columns_between : ℕ → ℕ → ℤ
+columns_between from to = pos (column_of to) -ℤ pos (column_of from)
+
+-- What a cell gets that stands so far from the one that is copied: its content, none too. The relative parts of a formula's
+-- references move; where one leaves the sheet, there is no copy.
+abbrev pub copied : ℤ → ℤ → Option Content → Option (Option Content)
+copied down right None = Some None
+copied down right (Some (Constant v)) = Some (Some (Constant v))
+copied down right (Some (Formula t)) = option_map (λ u. Some (Formula u)) (shifted down right t)
+
+-- the copy of a cell's content for another cell
+abbrev pub copy_for : Sheet → ℕ → ℕ → Option (Option Content)
+copy_for sheet from to = copied (rows_between from to) (columns_between from to) (content_of sheet from)
+
+abbrev pub has_no_copy : Sheet → ℕ → ℕ → Bool
+has_no_copy sheet from to = not (is_some (copy_for sheet from to))
+
+abbrev pub or_nothing : Option (Option Content) → Option Content
+or_nothing None = None
+or_nothing (Some o) = o
+
+-- each cell of the rectangle gets its copy
+abbrev pub fill_edit : Sheet → ℕ → Area → Edit
+fill_edit sheet from area = map (λ to. (to, or_nothing (copy_for sheet from to))) (cells_of area)
+
+abbrev pub fill_step : State → ℕ → Area → Answer
+fill_step s from area =
+    edit_answer s (record no_cause {
+      too_large = nat_lt max_area (size_of area);
+      leaves_sheet = list_any (has_no_copy s.stored.sheet from) (cells_of area);
+    })
+    (fill_edit s.stored.sheet from area)

@@ -1,0 +1,103 @@
+//! The command `fill`: copies a cell's content to each cell of a rectangle.
+
+ghost use Rattle.std.specs.Prelude.{◌≡◌, ◌<◌, ◌++◌, ℕ, List, [], MatchResult};
+ghost use Rattle.std.specs.Option.{option_copied};
+ghost use Rattle.wi_values.specs.Address.{rows, cells_of, cells_of_row};
+ghost use Rattle.wi_parser.specs.Sheet.{content_of};
+ghost use Rattle.wi_scenarios.specs.State.{state_of};
+ghost use Rattle.wi_scenarios.specs.Answer.{Serves};
+ghost use Rattle.wi_scenarios.specs.Fill.{rows_between, columns_between, copied, fill_step};
+ghost use Rattle.wi_scenarios.specs.Inner.Copies.{CopiesAs, AreCopies, HasNoCopies};
+
+use crate::refusal::Refusal;
+use crate::show::MAX_AREA;
+use std::alloc::Global;
+use wi_parser::{Content, ShiftFault};
+use wi_propagate::Calculator;
+use wi_values::{Address, Rect};
+
+/// What each cell gets.
+type Changes = Vec<(Address, Option<Content>)>;
+
+/// Copies a cell's content to each cell of a rectangle, all from the content that stands there before. The work grows with
+/// the cells of the rectangle and with the content.
+#[tactic(auto, using(crate::proofs::FillLemmas::fill_served))]
+pub fn fill<C: Calculator>(
+    alloc: Global,
+    calculator: &mut C,
+    from: Address,
+    area: Rect,
+) -> Result<(), Refusal>
+    ensures { let old = state_of (C.stored calculator.old) in
+        Serves (λ a. fill_step old from area ≡ a) result old (state_of (C.stored calculator.new)) [] }
+{
+    if area.size() > MAX_AREA {
+        return Err(Refusal::TooLarge);
+    }
+    let changes = copies(alloc, calculator.content(from), from, area)?;
+    calculator.apply(changes)?;
+    Ok(())
+}
+
+/// The copies of a cell's content for the cells of a rectangle.
+fn copies(
+    alloc: Global,
+    content: Option<&Content>,
+    from: Address,
+    area: Rect,
+) -> Result<Changes, ShiftFault>
+    ensures { MatchResult result
+        (λ changes. AreCopies (option_copied content.entry) from (cells_of area) changes.items)
+        (λ fault. HasNoCopies (option_copied content.entry) from (cells_of area) fault) }
+{
+    let mut changes = Vec::new(alloc);
+    let first = area.first().row();
+    for row in first..area.last().row() + 1 {
+        push_copies(alloc, content, from, area, row, &mut changes)?;
+    }
+    Ok(changes)
+}
+
+/// Appends the copies for one row of a rectangle.
+fn push_copies(
+    alloc: Global,
+    content: Option<&Content>,
+    from: Address,
+    area: Rect,
+    row: u32,
+    changes: &mut Changes,
+) -> Result<(), ShiftFault>
+    requires { row < rows }
+    ensures { MatchResult result
+        (λ done. (cells : List ℕ) → AreCopies (option_copied content.entry) from cells changes.old.items
+            → AreCopies (option_copied content.entry) from (cells ++ cells_of_row row area) changes.new.items)
+        (λ fault. HasNoCopies (option_copied content.entry) from (cells_of_row row area) fault) }
+{
+    let first = area.first().column();
+    for column in first..area.last().column() + 1 {
+        let to = Address::at(row, column);
+        let copy = copied(alloc, content, from, to)?;
+        changes.push((to, copy))?;
+    }
+    Ok(())
+}
+
+/// The copy of a cell's content for another cell.
+fn copied(
+    alloc: Global,
+    content: Option<&Content>,
+    from: Address,
+    to: Address,
+) -> Result<Option<Content>, ShiftFault>
+    ensures { CopiesAs (copied (rows_between from to) (columns_between from to) (option_copied content.entry)) result }
+{
+    match content {
+        None => Ok(None),
+        Some(Content::Constant(value)) => Ok(Some(Content::Constant(value.copy(alloc)?))),
+        Some(Content::Formula(formula)) => {
+            let down = i64::from(to.row()) - i64::from(from.row());
+            let right = i64::from(to.column()) - i64::from(from.column());
+            Ok(Some(Content::Formula(formula.shift(down, right)?)))
+        }
+    }
+}
