@@ -25,6 +25,7 @@ may (read.Set at content) s h = h
 may (read.Clear area) s h = h
 may (read.Fill from area) s h = h
 may (read.Show area) s h = h
+may (read.Export area) s h = h
 may (read.Formula at) s h = h
 
 refuses : (e : Refusal) (d : ReadCommand) (s : State) → answer.MayRefuse e (IsStep s (command_of d)) → RefusedAs e s (command_of d)

@@ -8,7 +8,7 @@ use Rattle.wi_values.specs.declared.address.AddressFault.{AddressFault}
 use Rattle.wi_values.specs.declared.address.AddressFault.TheVariants.{Shape, Outside}
 use Rattle.wi_scenarios.specs.declared.refusal.Refusal.TheVariants.{BadCommand, BadLine}
 use Rattle.wi_scenarios.specs.Answer.{operand_refusal}
-use Rattle.wi_scenarios.specs.Step.{Command, Set, Clear, Fill, Show, Formula, Refused}
+use Rattle.wi_scenarios.specs.Step.{Command, Set, Clear, Fill, Show, Export, Formula, Refused}
 use Rattle.wi_cli.specs.Lines.{raw_lines, without_lf, without_cr, is_whole}
 use Rattle.wi_cli.specs.Words.{first_word, after_word, is_all_spaces}
 
@@ -58,6 +58,16 @@ show_command operands =
     if is_all_spaces (after_word operands) then show_command_in (read_rect (first_word operands))
     else Refused BadCommand
 
+abbrev pub export_command_in : Result Area AddressFault → Command
+export_command_in (Ok area) = Export area
+export_command_in (Err fault) = Refused (operand_refusal fault)
+
+-- `export RECT`
+abbrev pub export_command : List ℕ → Command
+export_command operands =
+    if is_all_spaces (after_word operands) then export_command_in (read_rect (first_word operands))
+    else Refused BadCommand
+
 abbrev pub formula_command_at : Result ℕ AddressFault → Command
 formula_command_at (Ok at) = Formula at
 formula_command_at (Err fault) = Refused (operand_refusal fault)
@@ -75,8 +85,9 @@ named_command name operands =
     else (if bytes_eq name (codes "clear") then clear_command operands
     else (if bytes_eq name (codes "fill") then fill_command operands
     else (if bytes_eq name (codes "show") then show_command operands
+    else (if bytes_eq name (codes "export") then export_command operands
     else (if bytes_eq name (codes "formula") then formula_command operands
-    else Refused BadCommand))))
+    else Refused BadCommand)))))
 
 -- the command that a text spells
 unfoldable pub spelled_command : List ℕ → Command

@@ -2,7 +2,7 @@
 
 ghost use Rattle.std.specs.Prelude.{◌≡◌};
 ghost use Rattle.wi_cli.specs.Lines.{without_cr};
-ghost use Rattle.wi_cli.specs.Script.{is_comment, set_command, clear_command, fill_command, fill_command_of, show_command, formula_command, spelled_command, text_command, line_command};
+ghost use Rattle.wi_cli.specs.Script.{is_comment, set_command, clear_command, fill_command, fill_command_of, show_command, export_command, formula_command, spelled_command, text_command, line_command};
 ghost use Rattle.wi_cli.specs.Inner.Spelling.{IsCommandOf, IsLineOf};
 
 use crate::lines::MAX_LINE;
@@ -17,6 +17,7 @@ pub enum Command<'a> {
     Clear { area: Rect },
     Fill { from: Address, area: Rect },
     Show { area: Rect },
+    Export { area: Rect },
     Formula { at: Address },
 }
 
@@ -83,6 +84,18 @@ fn read_show(operands: &str) -> Result<Command<'_>, Refusal>
     Ok(Command::Show { area })
 }
 
+/// `export RECT`.
+fn read_export(operands: &str) -> Result<Command<'_>, Refusal>
+    ensures { IsCommandOf (export_command operands.now) result }
+{
+    let (area, more) = split_word(operands);
+    if !is_all_spaces(more) {
+        return Err(Refusal::BadCommand);
+    }
+    let area = Rect::read(area.as_bytes())?;
+    Ok(Command::Export { area })
+}
+
 /// `formula ADDR`.
 fn read_formula(operands: &str) -> Result<Command<'_>, Refusal>
     ensures { IsCommandOf (formula_command operands.now) result }
@@ -106,6 +119,7 @@ pub fn read_command(text: &str) -> Result<Command<'_>, Refusal>
         "clear" => read_clear(operands),
         "fill" => read_fill(operands),
         "show" => read_show(operands),
+        "export" => read_export(operands),
         "formula" => read_formula(operands),
         _ => Err(Refusal::BadCommand),
     }

@@ -37,6 +37,7 @@ fn execute<C: Calculator>(
         Command::Clear { area } => book.clear(area, false),
         Command::Fill { from, area } => book.fill(from, area, false),
         Command::Show { area } => book.show(area, out),
+        Command::Export { area } => book.export(area, out),
         Command::Formula { at } => book.formula_text(at, out),
     }
 }

@@ -4,4 +4,5 @@ pub mod ClearLemmas
 pub mod FillLemmas
 pub mod TextLemmas
 pub mod ShowLemmas
+pub mod ExportLemmas
 pub mod StepLemmas

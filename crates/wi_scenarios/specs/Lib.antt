@@ -6,6 +6,7 @@ pub mod Set
 pub mod Clear
 pub mod Fill
 pub mod Show
+pub mod Export
 pub mod Formula
 pub mod Step
 pub mod Inner

@@ -8,6 +8,7 @@ use Rattle.wi_scenarios.specs.Set.{IsSetStep}
 use Rattle.wi_scenarios.specs.Clear.{clear_step}
 use Rattle.wi_scenarios.specs.Fill.{fill_step}
 use Rattle.wi_scenarios.specs.Show.{show_step}
+use Rattle.wi_scenarios.specs.Export.{export_step}
 use Rattle.wi_scenarios.specs.Formula.{formula_step}
 
 -- A command, or a line that is refused whatever the state is. An edit says whether it is forced, which counts for nothing
@@ -17,6 +18,7 @@ pub data Command : Type 0 where
   Clear : Bool → Area → Command
   Fill : Bool → ℕ → Area → Command
   Show : Area → Command
+  Export : Area → Command
   Formula : ℕ → Command
   Refused : Refusal → Command
 
@@ -26,6 +28,7 @@ IsStep s (Set force at content) a = IsSetStep s at content a
 IsStep s (Clear force area) a = clear_step s area ≡ a
 IsStep s (Fill force from area) a = fill_step s from area ≡ a
 IsStep s (Show area) a = show_step s area ≡ a
+IsStep s (Export area) a = export_step s area ≡ a
 IsStep s (Formula at) a = formula_step s at ≡ a
 IsStep s (Refused e) a = Err e ≡ a
 

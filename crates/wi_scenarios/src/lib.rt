@@ -2,6 +2,7 @@
 #![tactic(auto)]
 
 mod clear;
+mod export;
 mod fill;
 mod formula;
 pub mod laws;

@@ -3,9 +3,10 @@
 ghost use Rattle.std.specs.Prelude.{◌≡◌, ◌++◌, ℕ, List, [], IfOk};
 ghost use Rattle.wi_scenarios.specs.State.{state_of};
 ghost use Rattle.wi_scenarios.specs.Answer.{Serves};
-ghost use Rattle.wi_scenarios.specs.Step.{Set, Clear, Fill, Show, Formula, IsStep};
+ghost use Rattle.wi_scenarios.specs.Step.{Set, Clear, Fill, Show, Export, Formula, IsStep};
 
 use crate::clear::clear;
+use crate::export::export;
 use crate::fill::fill;
 use crate::formula::formula;
 use crate::refusal::Refusal;
@@ -84,6 +85,15 @@ impl<C: Calculator> Workbook<C> {
             × Serves (IsStep self.old (Show area)) result self.old self.new records }
     {
         show(self.alloc, &mut self.calculator, area, out)
+    }
+
+    /// Appends the records of `show`, after a line that tells how many lines they are: `lines`, a space and the count of their
+    /// LF bytes.
+    pub fn export(&mut self, area: Rect, out: &mut Vec<u8>) -> Result<(), Refusal>
+        ensures { (records : List ℕ) × (out.new.items ≡ out.old.items ++ records)
+            × Serves (IsStep self.old (Export area)) result self.old self.new records }
+    {
+        export(self.alloc, &mut self.calculator, area, out)
     }
 
     /// Appends a record: a cell's address and its content, which is a formula as printed, a text after an apostrophe,
