@@ -121,7 +121,7 @@ impl<'a> Memo for Keeping<'a> {
     }
 
     fn keep(&mut self, key: Key, value: Value) -> Result<(), AllocError> {
-        let again = copied(self.alloc, &key)?;
+        let again = copied(&key)?;
         let shown = value.copy(self.alloc)?;
         self.table.keep(again, shown)?;
         self.kept.keep(key, value)
@@ -129,10 +129,10 @@ impl<'a> Memo for Keeping<'a> {
 }
 
 // The same key once more.
-fn copied(alloc: Global, key: &Key) -> Result<Key, AllocError>
+fn copied(key: &Key) -> Result<Key, AllocError>
     ensures { IfOk result (λ k. k ≡ key.now) }
 {
-    let world = World::new(alloc).with(key.world.replacements())?;
+    let world = key.world.copy()?;
     Ok(Key {
         cell: key.cell,
         generation: key.generation,
