@@ -1,5 +1,5 @@
 -- Scenarios that stand as entries of a map by their names.
-use Rattle.std.proofs.Common.{◌≡◌, ℕ, nat_eq, Bool, true, false, cond, ◌||◌, if◌then◌else◌, List, [], ◌∷◌, map, filter, not, Option, Some, None, is_some, refl, sym, ap, ◌∙◌, true≢false, Bor, length, nat_le, ◌&&◌}
+use Rattle.std.proofs.Common.{◌≡◌, ℕ, nat_eq, Bool, true, false, cond, ◌||◌, if◌then◌else◌, List, [], ◌∷◌, not, Option, Some, None, is_some, refl, sym, ap, ◌∙◌, true≢false, Bor, length, nat_le, ◌&&◌}
 use Rattle.std.specs.List.{AllZip, find, list_any}
 use Rattle.std.specs.Map.{lookup, remove_entry, values_of}
 use Rattle.std.specs.Option.{option_copied, option_map}

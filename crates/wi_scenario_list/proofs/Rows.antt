@@ -1,5 +1,5 @@
 -- Scenarios worked by hand.
-use Rattle.std.proofs.Common.{◌≡◌, ℕ, true, false, List, [], ◌∷◌, Option, Some, None, refl}
+use Rattle.std.proofs.Common.{◌≡◌, ℕ, true, false, [], ◌∷◌, Some, None, refl}
 use Rattle.std.specs.Prelude.{codes}
 use Rattle.wi_values.specs.Address.{place}
 use Rattle.wi_values.specs.declared.value.Value.{Value}

@@ -1,6 +1,6 @@
 //! What a scenario holds beside its name.
 
-ghost use Rattle.std.specs.Prelude.{◌≡◌, ◌&&◌, ℕ, [], ◌∷◌, not, nat_le, length, IfOk, None};
+ghost use Rattle.std.specs.Prelude.{◌≡◌, ◌&&◌, [], ◌∷◌, not, nat_le, length, IfOk, None};
 ghost use Rattle.std.specs.Option.{option_copied};
 ghost use Rattle.wi_scenario_list.specs.Scenarios.{is_replaced, max_replacements, with_replacements, without_replacement};
 ghost use Rattle.wi_scenario_list.specs.Bases.{is_name_of};

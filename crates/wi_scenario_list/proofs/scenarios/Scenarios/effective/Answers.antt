@@ -1,4 +1,3 @@
-use Rattle.std.proofs.Common.{Vec}
 use Rattle.std.specs.Option.{option_copied}
 use Rattle.wi_scenario_list.proofs.Own.{if_ok}
 use Rattle.wi_scenario_list.proofs.Chains.{effective_listed}
