@@ -131,9 +131,9 @@ pub one_cell : (content : Option Content) (from row first n m column to : ℕ) (
     → copy_to content from to ≡ Some copy → new ≡ changes ++ (to, copy) ∷ [] → AreCopies content from (cells ++ cells_in row first n) changes → AreCopies content from (cells ++ cells_in row first m) new
 one_cell content from row first n m column to cells changes new copy e more at found grown h =
     let same : cells ++ cells_in row first m ≡ (cells ++ cells_in row first n) ++ to ∷ [] =
-        ap (λ (k : ℕ). cells ++ cells_in row first k) more
-        ∙ ap (λ (xs : List ℕ). cells ++ xs) (map-range_with_len_more (place row) first n column e ∙ ap (λ (x : ℕ). cells_in row first n ++ x ∷ []) (sym at))
-        ∙ sym (append_assoc cells (cells_in row first n) (to ∷ [])) in
+    ap (λ (k : ℕ). cells ++ cells_in row first k) more
+    ∙ ap (λ (xs : List ℕ). cells ++ xs) (map-range_with_len_more (place row) first n column e ∙ ap (λ (x : ℕ). cells_in row first n ++ x ∷ []) (sym at))
+    ∙ sym (append_assoc cells (cells_in row first n) (to ∷ [])) in
     subst (λ (xs : List ℕ). AreCopies content from xs new) (sym same) (one_copy content from to (cells ++ cells_in row first n) changes new copy found grown h)
 
 -- a cell of a row has no copy
@@ -187,9 +187,9 @@ fill_leaves r s content from area fault at small k none =
     by : (e : Refusal) (f : ShiftFault) → e ≡ shift_refusal f → HasNoCopies content from (cells_of area) f → MayRefuseFound e (filled s from area)
     by e shift.LeavesSheet same outside =
         let leaves_it : list_any (has_no_copy s.stored.sheet from) (cells_of area) ≡ true =
-            subst (λ c. list_any (leaves c from) (cells_of area) ≡ true) at outside in
+        subst (λ c. list_any (leaves c from) (cells_of area) ≡ true) at outside in
         let found : filled s from area ≡ Err LeavesSheet =
-            ap (λ (b : Bool). filled_by s b (list_any (has_no_copy s.stored.sheet from) (cells_of area)) edit) small ∙ ap (λ (b : Bool). filled_by s false b edit) leaves_it in
+        ap (λ (b : Bool). filled_by s b (list_any (has_no_copy s.stored.sheet from) (cells_of area)) edit) small ∙ ap (λ (b : Bool). filled_by s false b edit) leaves_it in
         subst (λ x. MayRefuseFound x (filled s from area)) (sym same) found
     by e shift.Memory same u =
         subst (λ x. MayRefuseFound x (filled s from area)) (sym same)

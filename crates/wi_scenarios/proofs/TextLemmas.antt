@@ -18,8 +18,8 @@ one_text bytes f stored stored' before row first n m c at written next text e mo
     let cells = map (place row) (range_with_len first n) in
     let here : bytes text ≡ f stored (place row c) = shows ∙ ap (λ (s : Stored). f s at) same ∙ ap (f stored) place_is in
     let all : map (f stored) cells ++ f stored (place row c) ∷ [] ≡ texts (f stored) row first m =
-        sym (map-append (f stored) cells (place row c ∷ [])) ∙ ap (map (f stored)) (sym (map-range_with_len_more (place row) first n c e))
-        ∙ ap (λ k. texts (f stored) row first k) (sym more) in
+    sym (map-append (f stored) cells (place row c ∷ [])) ∙ ap (map (f stored)) (sym (map-range_with_len_more (place row) first n c e))
+    ∙ ap (λ k. texts (f stored) row first k) (sym more) in
     ap (map bytes) grown ∙ map-append bytes written (text ∷ []) ∙ ap (λ ts. ts ++ bytes text ∷ []) so_far ∙ ap (λ t. (before ++ map (f stored) cells) ++ t ∷ []) here
     ∙ append_assoc before (map (f stored) cells) (f stored (place row c) ∷ []) ∙ ap (λ ts. before ++ ts) all
 

@@ -13,11 +13,7 @@ use wi_values::{Address, Rect};
 
 /// Empties the cells of a rectangle. The work grows with its occupied cells.
 #[tactic(auto, using(crate::proofs::ClearLemmas::clear_served))]
-pub fn clear<C: Calculator>(
-    alloc: Global,
-    calculator: &mut C,
-    area: Rect,
-) -> Result<(), Refusal>
+pub fn clear<C: Calculator>(alloc: Global, calculator: &mut C, area: Rect) -> Result<(), Refusal>
     ensures { let old = state_of (C.stored calculator.old) in
         Serves (λ a. clear_step old area ≡ a) result old (state_of (C.stored calculator.new)) [] }
 {
@@ -28,10 +24,7 @@ pub fn clear<C: Calculator>(
 }
 
 /// No content for each of some cells.
-fn emptied(
-    alloc: Global,
-    cells: &[Address],
-) -> Result<Vec<(Address, Option<Content>)>, AllocError>
+fn emptied(alloc: Global, cells: &[Address]) -> Result<Vec<(Address, Option<Content>)>, AllocError>
     ensures { IfOk result (λ changes. changes.items ≡ map (λ a. (a, None)) cells.now) }
 {
     let mut changes = Vec::new(alloc);

@@ -70,7 +70,7 @@ fn push_copies(
     requires { row < rows }
     ensures { MatchResult result
         (λ done. (cells : List ℕ) → AreCopies (option_copied content.entry) from cells changes.old.items
-            → AreCopies (option_copied content.entry) from (cells ++ cells_of_row row area) changes.new.items)
+        → AreCopies (option_copied content.entry) from (cells ++ cells_of_row row area) changes.new.items)
         (λ fault. HasNoCopies (option_copied content.entry) from (cells_of_row row area) fault) }
 {
     let first = area.first().column();
