@@ -1,5 +1,5 @@
 -- The answer to a command, as a call finds it.
-use Rattle.std.proofs.Common.{◌≡◌, Bool, true, List, [], Option, Some, None, Result, Ok, Err, refl, sym, ap, ◌∙◌, subst}
+use Rattle.std.proofs.Common.{◌≡◌, true, List, [], Result, Ok, Err, refl, sym, ap, subst}
 use Rattle.std.specs.Prelude.{ℕ, MatchResult}
 use Rattle.std.specs.Result.{IsErrAnd}
 use Rattle.std.proofs.lemmas.Result.{err_from_is_err_and}
@@ -10,7 +10,7 @@ use Rattle.wi_scenarios.specs.declared.refusal.Refusal.{Refusal}
 use Rattle.wi_scenarios.specs.declared.refusal.Refusal.TheVariants.{Memory}
 use Rattle.wi_scenarios.specs.State.{State}
 use Rattle.wi_scenarios.specs.Answer.{Answer, may_grow, MayRefuse, Serves}
-use Rattle.wi_scenarios.specs.Causes.{Causes, no_cause, first_cause, answer, unless}
+use Rattle.wi_scenarios.specs.Causes.{no_cause, answer}
 use Rattle.wi_scenarios.specs.Edits.{edit_refusal, limit_of, after_edit}
 
 -- the answer to an edit that has no other cause

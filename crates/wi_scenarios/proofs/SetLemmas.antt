@@ -11,7 +11,7 @@ use Rattle.wi_scenarios.specs.State.{State}
 use Rattle.wi_scenarios.specs.Answer.{Answer, Serves, parse_refusal}
 use Rattle.wi_scenarios.specs.Causes.{no_cause}
 use Rattle.wi_scenarios.specs.Edits.{edit_answer}
-use Rattle.wi_scenarios.specs.Set.{IsSetStep, set_answer, set_edit, fault_in}
+use Rattle.wi_scenarios.specs.Set.{IsSetStep, set_edit, fault_in}
 use Rattle.wi_scenarios.proofs.AnswerLemmas.{stored_answer, stored_is, ServesFound, serves}
 
 -- the answer to putting what was read into a cell

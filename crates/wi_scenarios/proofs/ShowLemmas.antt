@@ -1,11 +1,9 @@
 -- The record of a row, and the records of rows, as they grow.
-use Rattle.std.proofs.Common.{◌≡◌, ℕ, zero, suc, add-one, ◌+◌, List, [], ◌∷◌, ◌++◌, map, sym, ap, ◌∙◌, arith, ◌-◌, Result, Ok, Err, OnOk, OnErr, refl, subst}
+use Rattle.std.proofs.Common.{◌≡◌, ℕ, zero, suc, add-one, ◌+◌, List, [], ◌∷◌, ◌++◌, map, sym, ap, ◌∙◌, arith, Result, Ok, Err, OnOk, OnErr, refl, subst}
 use Rattle.std.specs.Io.{StartsWith}
 use Rattle.std.specs.List.{flat_map, range_with_len}
-use Rattle.std.proofs.lemmas.List.{map-append, flat_map_more}
-use Rattle.std.proofs.lemmas.List.FromFn.{map-range_with_len_more}
-use Rattle.wi_values.specs.Address.{place, column_of, Area}
-use Rattle.wi_parser.specs.Sheet.{Sheet}
+use Rattle.std.proofs.lemmas.List.{flat_map_more}
+use Rattle.wi_values.specs.Address.{Area}
 use Rattle.wi_store.specs.Store.{Stored}
 use Rattle.wi_csv.specs.Row as csv
 use Rattle.wi_csv.proofs.Growth.{starts_itself, starts_more}
@@ -17,7 +15,7 @@ use Rattle.wi_scenarios.specs.declared.refusal.Refusal.TheVariants.{TooLarge}
 use Rattle.wi_scenarios.specs.State.{State}
 use Rattle.wi_scenarios.specs.Answer.{Answer, Serves}
 use Rattle.wi_scenarios.specs.Causes.{no_cause, answer}
-use Rattle.wi_scenarios.specs.Show.{text_under, row_shown, rows_shown, max_area, show_step}
+use Rattle.wi_scenarios.specs.Show.{row_shown, rows_shown, max_area, show_step}
 use Rattle.wi_scenarios.proofs.AnswerLemmas.{ServesFound, serves_step}
 
 -- what is appended, or nothing

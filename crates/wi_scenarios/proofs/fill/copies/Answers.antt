@@ -1,4 +1,4 @@
-use Rattle.std.proofs.Common.{◌≡◌, ◌+◌, ◌-◌, ◌∙◌, sym, ap, subst, arith}
+use Rattle.std.proofs.Common.{◌+◌, ◌-◌, sym, subst, arith}
 use Rattle.std.specs.Option.{option_copied}
 use Rattle.wi_values.specs.Address.{cells_of}
 use Rattle.wi_scenarios.specs.Inner.Copies.{AreCopies, HasNoCopies}

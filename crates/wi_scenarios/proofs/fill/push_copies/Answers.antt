@@ -1,9 +1,9 @@
-use Rattle.std.proofs.Common.{◌≡◌, ◌+◌, ◌-◌, ◌∙◌, sym, ap, subst, arith}
+use Rattle.std.proofs.Common.{◌+◌, ◌-◌, sym, subst, arith}
 use Rattle.std.specs.Option.{option_copied}
 use Rattle.wi_values.specs.Address.{cells_of_row}
 use Rattle.wi_scenarios.specs.Inner.Copies.{HasNoCopies}
 use Rattle.wi_scenarios.proofs.AnswerLemmas.{at_error}
-use Rattle.wi_scenarios.proofs.FillLemmas.{cells_in, row_is, one_cell, no_copy_in_row}
+use Rattle.wi_scenarios.proofs.FillLemmas.{row_is, one_cell, no_copy_in_row}
 use Rattle.wi_scenarios.proofs.fill.push_copies.Goals as goal
 
 pub returns-in_err-copy : goal.returns-in_err-copy

@@ -1,4 +1,4 @@
-use Rattle.std.proofs.Common.{◌+◌, ◌-◌, ◌∙◌, map, arith}
+use Rattle.std.proofs.Common.{◌+◌, ◌-◌, ◌∙◌, arith}
 use Rattle.std.specs.Prelude.{string_bytes}
 use Rattle.wi_scenarios.specs.Show.{text_under}
 use Rattle.wi_scenarios.proofs.TextLemmas.{one_text, all_texts}
