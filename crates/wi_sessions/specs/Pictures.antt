@@ -1,0 +1,46 @@
+-- Pictures of a sheet: the values that a session was last shown, and what has changed since.
+use Rattle.std.specs.Prelude.{ℕ, ◌*◌, Bool, not, ◌==◌, List, [], ◌∷◌, map, filter, unwrap_or}
+use Rattle.std.specs.List.{range_with_len}
+use Rattle.std.specs.Ordering.{nat_cmp}
+use Rattle.std.specs.Map.{lookup}
+use Rattle.std.specs.BTreeMap.{is_at, insert_entry}
+use Rattle.wi_values.specs.Address.{rows, columns}
+use Rattle.wi_values.specs.declared.value.Value.{Value}
+use Rattle.wi_values.specs.declared.value.Value.TheVariants.{Empty}
+use Rattle.wi_values.specs.contracts.value.ValuePartialEq.TheImpl as equality
+pub mod Laws
+
+-- two values are one: of the same kind, and with the same content
+abbrev pub same_value : Value → Value → Bool
+same_value = equality.ghosts.eq
+
+-- the value that a picture has at a cell; at one that it doesn't name, that is Empty
+abbrev pub value_in : List (ℕ × Value) → ℕ → Value
+value_in picture a = unwrap_or (lookup (is_at (nat_cmp a)) picture) Empty
+
+-- the picture with a value at a cell; Empty takes the cell out
+abbrev pub with_value : List (ℕ × Value) → ℕ → Value → List (ℕ × Value)
+with_value picture a Empty = filter (λ e. not (e.0 == a)) picture
+with_value picture a v = insert_entry nat_cmp picture a v
+
+-- the picture with a list of changes put in, one after another
+abbrev pub with_changes : List (ℕ × Value) → List (ℕ × Value) → List (ℕ × Value)
+with_changes picture [] = picture
+with_changes picture (e ∷ es) = with_changes (with_value picture e.0 e.1) es
+
+-- how many cells the sheet has
+unfoldable pub sheet_size : ℕ
+sheet_size = rows * columns
+
+-- the cells of the sheet, in row-major order
+abbrev pub every_cell : List ℕ
+every_cell = range_with_len 0 sheet_size
+
+-- those of the cells whose value isn't the picture's, each with its value
+abbrev pub changes_among : List ℕ → List (ℕ × Value) → (ℕ → Value) → List (ℕ × Value)
+changes_among cells picture shown =
+    map (λ a. (a, shown a)) (filter (λ a. not (same_value (value_in picture a) (shown a))) cells)
+
+-- what has changed since a picture: all cells of the sheet whose value isn't the picture's, in row-major order, each with its value
+abbrev pub changes_since : List (ℕ × Value) → (ℕ → Value) → List (ℕ × Value)
+changes_since picture shown = changes_among every_cell picture shown

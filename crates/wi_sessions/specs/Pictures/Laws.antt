@@ -1,0 +1,29 @@
+-- Laws of change lists, as statements.
+use Rattle.std.specs.Prelude.{◌≡◌, ℕ, ◌+◌, ◌<◌, ◌≤◌, ◌==◌, Bool, false, List, [], ◌∷◌}
+use Rattle.std.specs.List.{list_any}
+use Rattle.wi_values.specs.declared.value.Value.{Value}
+use Rattle.wi_sessions.specs.Pictures.{value_in, with_changes, sheet_size, changes_among, changes_since}
+
+-- the cell is one of these
+abbrev pub is_listed : List ℕ → ℕ → Bool
+is_listed cells a = list_any (λ c. c == a) cells
+
+-- the cells rise, from one number on, and stay below another
+abbrev pub Rises : ℕ → ℕ → List ℕ → Type 0
+Rises low high [] = Unit {0}
+Rises low high (a ∷ more) = (low ≤ a) × (a < high) × Rises (a + 1) high more
+
+-- the cells are in row-major order, and of all others the picture has the value
+abbrev pub Suffice : List ℕ → List (ℕ × Value) → (ℕ → Value) → Type 0
+Suffice cells picture shown =
+    Rises 0 sheet_size cells × ((a : ℕ) → is_listed cells a ≡ false → value_in picture a ≡ shown a)
+
+-- so whichever such cells are looked at, what has changed is the same
+abbrev pub AnyCells : Type 0
+AnyCells = (cells : List ℕ) (picture : List (ℕ × Value)) (shown : ℕ → Value) → Suffice cells picture shown →
+    changes_since picture shown ≡ changes_among cells picture shown
+
+-- once what has changed is put in, the picture has the value of each cell of the sheet
+abbrev pub PictureIsShown : Type 0
+PictureIsShown = (picture : List (ℕ × Value)) (shown : ℕ → Value) (a : ℕ) → a < sheet_size →
+    value_in (with_changes picture (changes_since picture shown)) a ≡ shown a

@@ -1,0 +1,4 @@
+//! Pictures of a sheet and what has changed since, for several sessions.
+#![tactic(auto)]
+
+pub mod laws;
