@@ -83,7 +83,7 @@ any_cells cells picture shown h =
     ap (map (λ a. (a, shown a))) (in_range p sheet_size 0 sheet_size cells (let e : 0 + sheet_size ≡ sheet_size = omega arith in e) h.0 found)
 
 -- the picture with a value at a cell has it there, and elsewhere what it had
-value_in-with : (picture : List (ℕ × Value)) (c : ℕ) (v : Value) (q : ℕ) → value_in (with_value picture c v) q ≡ cond (q == c) v (value_in picture q)
+pub value_in-with : (picture : List (ℕ × Value)) (c : ℕ) (v : Value) (q : ℕ) → value_in (with_value picture c v) q ≡ cond (q == c) v (value_in picture q)
 value_in-with picture c v q = by_value v
   where
     or_empty : (o r : Option Value) → r ≡ cond (q == c) o (lookup (is_at (nat_cmp q)) picture) → unwrap_or r Empty ≡ cond (q == c) (unwrap_or o Empty) (value_in picture q)

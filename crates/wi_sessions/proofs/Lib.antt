@@ -1,1 +1,3 @@
 pub mod ChangeLists
+pub mod RoomLemmas
+pub mod ChangeSteps

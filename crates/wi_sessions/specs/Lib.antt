@@ -1,2 +1,3 @@
 pub mod Pictures
 pub mod Sessions
+pub mod Inner

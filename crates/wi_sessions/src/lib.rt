@@ -2,3 +2,7 @@
 #![tactic(auto)]
 
 pub mod laws;
+mod picture;
+mod rooms;
+
+pub use picture::Picture;

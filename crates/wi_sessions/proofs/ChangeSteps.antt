@@ -1,0 +1,103 @@
+-- Laws of lists of changes, for one step of a loop over them.
+use Rattle.std.proofs.Common.{◌≡◌, ◌==◌, ◌<◌, ◌+◌, ◌||◌, ◌⊎◌, ℕ, zero, suc, Bool, true, false, cond, List, [], ◌∷◌, length, get_or, set, drop, Some, refl, sym, ap, subst, ◌∙◌, arith, ⊎_elim, add-one, drop-cons}
+use Rattle.std.specs.List.{All}
+use Rattle.std.specs.Map.{keys_of}
+use Rattle.std.proofs.lemmas.Bool.{cases_eq, or_left, or_right, eqb-true}
+use Rattle.std.proofs.lemmas.Bool.Decides.{nat_tests}
+use Rattle.std.proofs.lemmas.List.{drop-set-lt}
+use Rattle.std.proofs.lemmas.List.Elements.{All-set}
+use Rattle.std.proofs.Math.Seq.{map-set_same}
+use Rattle.wi_values.specs.declared.value.Value.{Value}
+use Rattle.wi_values.specs.declared.value.Value.TheVariants.{Empty}
+use Rattle.wi_sessions.specs.Pictures.{value_in, with_value, with_changes}
+use Rattle.wi_sessions.specs.Pictures.Laws.{is_listed}
+use Rattle.wi_sessions.specs.Inner.Rooms.{room_of, HasRoomFor, HasNoVacancy, VacantOnlyAt, SameValues}
+use Rattle.wi_sessions.proofs.ChangeLists.{value_in-with}
+use Rattle.wi_sessions.proofs.RoomLemmas.{same_after, room_by_keys}
+
+abbrev pub Entries : Type 0
+Entries = List (ℕ × Value)
+
+drop_at : (cs : Entries) (i : ℕ) (d : ℕ × Value) → i < length cs → drop i cs ≡ get_or cs i d ∷ drop (i + 1) cs
+drop_at cs i d l = rw add-one (drop-cons cs i d l)
+
+right_of_or : (b c : Bool) → (b || c) ≡ true → (b ≡ true → ⊥) → c ≡ true
+right_of_or true c h n = absurd (n refl)
+right_of_or false c h n = h
+
+test_from_same : (a b : ℕ) → a ≡ b → (b == a) ≡ true
+test_from_same a b h = grind (arith, nat_tests)
+
+-- the cell of the i-th change is one of the cells
+is_named : (q : ℕ) (cs : Entries) (i : ℕ) (d : ℕ × Value) → i < length cs → q ≡ (get_or cs i d).0 → is_listed (keys_of cs) q ≡ true
+is_named q [] i d l e = absurd (omega arith)
+is_named q (x ∷ xs) zero d l e = or_left (x.0 == q) _ (test_from_same q x.0 e)
+is_named q (x ∷ xs) (suc i) d l e = or_right (x.0 == q) _ (is_named q xs i d (omega arith) e)
+
+-- ---- rooms that are vacant
+
+pub vacant_none : (cells : List ℕ) (rooms : Entries) → HasNoVacancy rooms → VacantOnlyAt cells rooms
+vacant_none cells rooms h = λ q v. absurd (h q v)
+
+-- after a room was made for the i-th change, x
+pub vacant_more_made : (cs : Entries) (i : ℕ) (x : ℕ × Value) (old new : Entries) → i < length cs → x ≡ get_or cs i x
+    → ((q : ℕ) → room_of new q ≡ Some Empty → (q ≡ x.0) ⊎ (room_of old q ≡ Some Empty))
+    → VacantOnlyAt (keys_of cs) old → VacantOnlyAt (keys_of cs) new
+vacant_more_made cs i x old new l is made h =
+    λ q v. ⊎_elim (λ p. is_named q cs i x l (p ∙ ap (λ (e : ℕ × Value). e.0) is)) (λ w. h q w) (made q v)
+
+pub keys_of-set : (cs : Entries) (i : ℕ) (d : ℕ × Value) (v : Value) → keys_of (set cs i ((get_or cs i d).0, v)) ≡ keys_of cs
+keys_of-set cs i d v = map-set_same (λ (e : ℕ × Value). e.0) cs i ((get_or cs i d).0, v) d refl
+
+-- after the i-th change was exchanged
+pub vacant_more : (cs : Entries) (cells : List ℕ) (i : ℕ) (d : ℕ × Value) (old new : Entries) → i < length cs → keys_of cs ≡ cells
+    → ((q : ℕ) → (q ≡ (get_or cs i d).0 → ⊥) → room_of new q ≡ room_of old q)
+    → VacantOnlyAt cells old → VacantOnlyAt cells new
+vacant_more cs cells i d old new l same others h =
+    λ q v. ⊎_elim (λ p. ap (λ (ks : List ℕ). is_listed ks q) (sym same) ∙ is_named q cs i d l p) (λ apart. h q (sym (others q apart) ∙ v)) (cases_eq q (get_or cs i d).0)
+
+-- after the room of the i-th change was released
+pub vacant_less : (cs : Entries) (i : ℕ) (d : ℕ × Value) (old new : Entries) → i < length cs
+    → (room_of new (get_or cs i d).0 ≡ Some Empty → ⊥)
+    → ((q : ℕ) → room_of new q ≡ Some Empty → room_of old q ≡ Some Empty)
+    → VacantOnlyAt (keys_of (drop i cs)) old → VacantOnlyAt (keys_of (drop (i + 1) cs)) new
+vacant_less cs i d old new l released kept h =
+    λ q v. right_of_or ((get_or cs i d).0 == q) _
+    (ap (λ (xs : Entries). is_listed (keys_of xs) q) (sym (drop_at cs i d l)) ∙ h q (kept q v))
+    (λ t. released (ap (λ (a : ℕ). room_of new a) (eqb-true _ q t) ∙ v))
+
+-- ---- rooms for changes
+
+same_element : (cs : Entries) (i : ℕ) (d e : ℕ × Value) → i < length cs → get_or cs i d ≡ get_or cs i e
+same_element [] i d e l = absurd (omega arith)
+same_element (x ∷ xs) zero d e l = refl
+same_element (x ∷ xs) (suc i) d e l = same_element xs i d e (omega arith)
+
+-- after a room was made for the i-th change, x
+pub room_more_made : (cs : Entries) (i : ℕ) (x : ℕ × Value) (old new : Entries) → i < length cs → x ≡ get_or cs i x
+    → ((e : ℕ × Value) → HasRoomFor old e → HasRoomFor new e)
+    → HasRoomFor new x
+    → ((k : ℕ) (d : ℕ × Value) → k < i → HasRoomFor old (get_or cs k d))
+    → (k : ℕ) (d : ℕ × Value) → k < i + 1 → HasRoomFor new (get_or cs k d)
+room_more_made cs i x old new m is kept here h =
+    λ k d l. ⊎_elim (λ p. subst (λ (j : ℕ). HasRoomFor new (get_or cs j d)) (sym p) (subst (λ (y : ℕ × Value). HasRoomFor new y) (is ∙ same_element cs i x d m) here))
+    (λ apart. kept (get_or cs k d) (h k d (omega arith))) (cases_eq k i)
+
+-- after the i-th change was exchanged
+pub room_more : (cs : Entries) (i a : ℕ) (v w : Value) (old new : Entries) → keys_of new ≡ keys_of old
+    → HasRoomFor old (a, w)
+    → All (HasRoomFor old) cs → All (HasRoomFor new) (set cs i (a, v))
+room_more cs i a v w old new same room h =
+    All-set (HasRoomFor new) cs i (a, v) (room_by_keys (a, v) old new same room) (λ k d l. room_by_keys (get_or cs k d) old new same (h k d l))
+
+-- ---- the values
+
+-- what is left to be put in gives the whole
+pub values_more : (t old new cs : Entries) (i : ℕ) (d v : ℕ × Value) → i < length cs
+    → ((q : ℕ) → value_in new q ≡ cond (q == (get_or cs i d).0) (get_or cs i d).1 (value_in old q))
+    → SameValues t (with_changes old (drop i cs)) → SameValues t (with_changes new (drop (i + 1) (set cs i v)))
+values_more t old new cs i d v l put h =
+    let x = get_or cs i d in
+    λ q. ap (λ (xs : Entries). value_in (with_changes new xs) q) (drop-set-lt (i + 1) cs i v (omega arith))
+    ∙ same_after (drop (i + 1) cs) (with_value old x.0 x.1) new (λ c. put c ∙ sym (value_in-with old x.0 x.1 c)) q
+    ∙ ap (λ (xs : Entries). value_in (with_changes old xs) q) (sym (drop_at cs i d l)) ∙ h q
