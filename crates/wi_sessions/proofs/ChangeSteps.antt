@@ -11,9 +11,10 @@ use Rattle.wi_values.specs.declared.value.Value.{Value}
 use Rattle.wi_values.specs.declared.value.Value.TheVariants.{Empty}
 use Rattle.wi_sessions.specs.Pictures.{value_in, with_value, with_changes}
 use Rattle.wi_sessions.specs.Pictures.Laws.{is_listed}
-use Rattle.wi_sessions.specs.Inner.Rooms.{room_of, HasRoomFor, HasNoVacancy, VacantOnlyAt, SameValues}
+use Rattle.wi_sessions.specs.Inner.Rooms.{room_of, HasRoomFor, HasNoVacancy, VacantOnlyAt, HoldsTheSame}
 use Rattle.wi_sessions.proofs.ChangeLists.{value_in-with}
-use Rattle.wi_sessions.proofs.RoomLemmas.{same_after, room_by_keys}
+use Rattle.wi_sessions.proofs.RoomLemmas.{room_by_keys}
+use Rattle.wi_sessions.proofs.PictureLemmas.{same_after}
 
 abbrev pub Entries : Type 0
 Entries = List (ℕ × Value)
@@ -36,13 +37,13 @@ is_named q (x ∷ xs) (suc i) d l e = or_right (x.0 == q) _ (is_named q xs i d (
 
 -- ---- rooms that are vacant
 
-pub vacant_none : (cells : List ℕ) (rooms : Entries) → HasNoVacancy rooms → VacantOnlyAt cells rooms
+pub vacant_none : (cells : List ℕ) (rooms : Entries) → HasNoVacancy Empty rooms → VacantOnlyAt Empty cells rooms
 vacant_none cells rooms h = λ q v. absurd (h q v)
 
 -- after a room was made for the i-th change, x
 pub vacant_more_made : (cs : Entries) (i : ℕ) (x : ℕ × Value) (old new : Entries) → i < length cs → x ≡ get_or cs i x
     → ((q : ℕ) → room_of new q ≡ Some Empty → (q ≡ x.0) ⊎ (room_of old q ≡ Some Empty))
-    → VacantOnlyAt (keys_of cs) old → VacantOnlyAt (keys_of cs) new
+    → VacantOnlyAt Empty (keys_of cs) old → VacantOnlyAt Empty (keys_of cs) new
 vacant_more_made cs i x old new l is made h =
     λ q v. ⊎_elim (λ p. is_named q cs i x l (p ∙ ap (λ (e : ℕ × Value). e.0) is)) (λ w. h q w) (made q v)
 
@@ -52,7 +53,7 @@ keys_of-set cs i d v = map-set_same (λ (e : ℕ × Value). e.0) cs i ((get_or c
 -- after the i-th change was exchanged
 pub vacant_more : (cs : Entries) (cells : List ℕ) (i : ℕ) (d : ℕ × Value) (old new : Entries) → i < length cs → keys_of cs ≡ cells
     → ((q : ℕ) → (q ≡ (get_or cs i d).0 → ⊥) → room_of new q ≡ room_of old q)
-    → VacantOnlyAt cells old → VacantOnlyAt cells new
+    → VacantOnlyAt Empty cells old → VacantOnlyAt Empty cells new
 vacant_more cs cells i d old new l same others h =
     λ q v. ⊎_elim (λ p. ap (λ (ks : List ℕ). is_listed ks q) (sym same) ∙ is_named q cs i d l p) (λ apart. h q (sym (others q apart) ∙ v)) (cases_eq q (get_or cs i d).0)
 
@@ -60,7 +61,7 @@ vacant_more cs cells i d old new l same others h =
 pub vacant_less : (cs : Entries) (i : ℕ) (d : ℕ × Value) (old new : Entries) → i < length cs
     → (room_of new (get_or cs i d).0 ≡ Some Empty → ⊥)
     → ((q : ℕ) → room_of new q ≡ Some Empty → room_of old q ≡ Some Empty)
-    → VacantOnlyAt (keys_of (drop i cs)) old → VacantOnlyAt (keys_of (drop (i + 1) cs)) new
+    → VacantOnlyAt Empty (keys_of (drop i cs)) old → VacantOnlyAt Empty (keys_of (drop (i + 1) cs)) new
 vacant_less cs i d old new l released kept h =
     λ q v. right_of_or ((get_or cs i d).0 == q) _
     (ap (λ (xs : Entries). is_listed (keys_of xs) q) (sym (drop_at cs i d l)) ∙ h q (kept q v))
@@ -95,7 +96,7 @@ room_more cs i a v w old new same room h =
 -- what is left to be put in gives the whole
 pub values_more : (t old new cs : Entries) (i : ℕ) (d v : ℕ × Value) → i < length cs
     → ((q : ℕ) → value_in new q ≡ cond (q == (get_or cs i d).0) (get_or cs i d).1 (value_in old q))
-    → SameValues t (with_changes old (drop i cs)) → SameValues t (with_changes new (drop (i + 1) (set cs i v)))
+    → HoldsTheSame Empty t (with_changes old (drop i cs)) → HoldsTheSame Empty t (with_changes new (drop (i + 1) (set cs i v)))
 values_more t old new cs i d v l put h =
     let x = get_or cs i d in
     λ q. ap (λ (xs : Entries). value_in (with_changes new xs) q) (drop-set-lt (i + 1) cs i v (omega arith))

@@ -1,3 +1,4 @@
 pub mod ChangeLists
 pub mod RoomLemmas
+pub mod PictureLemmas
 pub mod ChangeSteps

@@ -1,3 +1,4 @@
 pub mod Pictures
+pub mod Pending
 pub mod Sessions
 pub mod Inner

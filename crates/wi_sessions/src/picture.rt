@@ -23,6 +23,7 @@ impl Model for Picture {
     ghost use Rattle.wi_values.specs.declared.value.Value.{Value as Shown};
     ghost use Rattle.std.specs.Coded.{codes};
     ghost use Rattle.wi_values.specs.contracts.value.Value as value;
+    ghost use Rattle.wi_values.specs.declared.value.Value.TheVariants.{Empty};
     ghost use Rattle.wi_sessions.specs.Inner.Rooms.{RoomsAreInOrder, HasNoVacancy};
 
     ghost Value = { List (ℕ × Shown) };
@@ -31,7 +32,7 @@ impl Model for Picture {
 
     ghost view = { λ p. p.values.entries };
 
-    ghost invariant = { λ p. RoomsAreInOrder p.values.entries × HasNoVacancy p.values.entries };
+    ghost invariant = { λ p. RoomsAreInOrder p.values.entries × HasNoVacancy Empty p.values.entries };
 }
 
 impl Picture {

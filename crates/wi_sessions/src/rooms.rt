@@ -5,7 +5,7 @@ ghost use Rattle.std.specs.Prelude.{◌≡◌, ◌≢◌, ◌==◌, ◌⊎◌, �
 ghost use Rattle.std.specs.Map.{keys_of};
 ghost use Rattle.wi_values.specs.declared.value.Value.TheVariants.{Empty};
 ghost use Rattle.wi_sessions.specs.Pictures.{value_in, with_changes};
-ghost use Rattle.wi_sessions.specs.Inner.Rooms.{room_of, HasRoomFor, RoomsAreInOrder, HasNoVacancy, VacantOnlyAt, SameValues};
+ghost use Rattle.wi_sessions.specs.Inner.Rooms.{room_of, HasRoomFor, RoomsAreInOrder, HasNoVacancy, VacantOnlyAt, HoldsTheSame};
 
 use std::alloc::AllocError;
 use std::collections::BTreeMap;
@@ -20,7 +20,7 @@ pub(crate) type Change = (Address, Value);
 
 /// Makes a room for a cell that has none.
 fn make_one(rooms: &mut Rooms, at: Address) -> Result<(), AllocError>
-    ensures values { SameValues rooms.old.entries rooms.new.entries }
+    ensures values { HoldsTheSame Empty rooms.old.entries rooms.new.entries }
     ensures order { RoomsAreInOrder rooms.old.entries → RoomsAreInOrder rooms.new.entries }
     ensures vacant { (c : ℕ) → room_of rooms.new.entries c ≡ Some Empty
         → (c ≡ at) ⊎ (room_of rooms.old.entries c ≡ Some Empty) }
@@ -36,10 +36,10 @@ fn make_one(rooms: &mut Rooms, at: Address) -> Result<(), AllocError>
 /// Makes a room for the cell of each change. If memory runs out, the rooms made so far stay.
 fn make_room(rooms: &mut Rooms, changes: &[Change]) -> Result<(), AllocError>
     requires order { RoomsAreInOrder rooms.old.entries }
-    requires full { HasNoVacancy rooms.old.entries }
-    ensures values { SameValues rooms.old.entries rooms.new.entries }
+    requires full { HasNoVacancy Empty rooms.old.entries }
+    ensures values { HoldsTheSame Empty rooms.old.entries rooms.new.entries }
     ensures order { RoomsAreInOrder rooms.new.entries }
-    ensures vacant { VacantOnlyAt (keys_of changes.now) rooms.new.entries }
+    ensures vacant { VacantOnlyAt Empty (keys_of changes.now) rooms.new.entries }
     ensures room { OnOk result (All (HasRoomFor rooms.new.entries) changes.now) }
 {
     for (at, _) in changes {
@@ -65,11 +65,11 @@ fn exchange(rooms: &mut Rooms, at: Address, value: &mut Value)
 fn exchange_all(rooms: &mut Rooms, changes: &mut [Change])
     requires order { RoomsAreInOrder rooms.old.entries }
     requires room { All (HasRoomFor rooms.old.entries) changes.old }
-    requires only { VacantOnlyAt (keys_of changes.old) rooms.old.entries }
-    ensures values { SameValues (with_changes rooms.old.entries changes.old) rooms.new.entries }
+    requires only { VacantOnlyAt Empty (keys_of changes.old) rooms.old.entries }
+    ensures values { HoldsTheSame Empty (with_changes rooms.old.entries changes.old) rooms.new.entries }
     ensures order { RoomsAreInOrder rooms.new.entries }
     ensures cells { keys_of changes.new ≡ keys_of changes.old }
-    ensures vacant { VacantOnlyAt (keys_of changes.old) rooms.new.entries }
+    ensures vacant { VacantOnlyAt Empty (keys_of changes.old) rooms.new.entries }
 {
     for change in changes.iter_mut() {
         exchange(rooms, change.0, &mut change.1);
@@ -85,7 +85,7 @@ fn is_vacant(rooms: &Rooms, at: Address) -> bool
 
 /// Takes away the room of a cell if it is vacant.
 fn release_one(rooms: &mut Rooms, at: Address)
-    ensures values { SameValues rooms.old.entries rooms.new.entries }
+    ensures values { HoldsTheSame Empty rooms.old.entries rooms.new.entries }
     ensures order { RoomsAreInOrder rooms.old.entries → RoomsAreInOrder rooms.new.entries }
     ensures released { room_of rooms.new.entries at ≢ Some Empty }
     ensures vacant { (c : ℕ) → room_of rooms.new.entries c ≡ Some Empty → room_of rooms.old.entries c ≡ Some Empty }
@@ -98,10 +98,10 @@ fn release_one(rooms: &mut Rooms, at: Address)
 /// Takes away the vacant rooms.
 fn release(rooms: &mut Rooms, changes: &[Change])
     requires order { RoomsAreInOrder rooms.old.entries }
-    requires vacant { VacantOnlyAt (keys_of changes.now) rooms.old.entries }
-    ensures values { SameValues rooms.old.entries rooms.new.entries }
+    requires vacant { VacantOnlyAt Empty (keys_of changes.now) rooms.old.entries }
+    ensures values { HoldsTheSame Empty rooms.old.entries rooms.new.entries }
     ensures order { RoomsAreInOrder rooms.new.entries }
-    ensures full { HasNoVacancy rooms.new.entries }
+    ensures full { HasNoVacancy Empty rooms.new.entries }
 {
     for (at, _) in changes {
         release_one(rooms, *at);
@@ -111,11 +111,11 @@ fn release(rooms: &mut Rooms, changes: &[Change])
 /// Puts changes in, one after another, or leaves the values as they were. Rooms of their cells may be vacant then.
 fn put_in(rooms: &mut Rooms, changes: &mut [Change]) -> Result<(), AllocError>
     requires order { RoomsAreInOrder rooms.old.entries }
-    requires full { HasNoVacancy rooms.old.entries }
-    ensures done { OnOk result (SameValues (with_changes rooms.old.entries changes.old) rooms.new.entries) }
-    ensures refused { OnErr result (SameValues rooms.old.entries rooms.new.entries) }
+    requires full { HasNoVacancy Empty rooms.old.entries }
+    ensures done { OnOk result (HoldsTheSame Empty (with_changes rooms.old.entries changes.old) rooms.new.entries) }
+    ensures refused { OnErr result (HoldsTheSame Empty rooms.old.entries rooms.new.entries) }
     ensures order { RoomsAreInOrder rooms.new.entries }
-    ensures vacant { VacantOnlyAt (keys_of changes.new) rooms.new.entries }
+    ensures vacant { VacantOnlyAt Empty (keys_of changes.new) rooms.new.entries }
 {
     make_room(rooms, changes)?;
     exchange_all(rooms, changes);
@@ -125,11 +125,11 @@ fn put_in(rooms: &mut Rooms, changes: &mut [Change]) -> Result<(), AllocError>
 /// Puts changes in, one after another. If memory runs out, all is as before.
 pub(crate) fn put_changes(rooms: &mut Rooms, changes: &mut [Change]) -> Result<(), AllocError>
     requires order { RoomsAreInOrder rooms.old.entries }
-    requires full { HasNoVacancy rooms.old.entries }
+    requires full { HasNoVacancy Empty rooms.old.entries }
     ensures done { OnOk result (rooms.new.entries ≡ with_changes rooms.old.entries changes.old) }
     ensures refused { OnErr result (rooms.new.entries ≡ rooms.old.entries) }
     ensures order { RoomsAreInOrder rooms.new.entries }
-    ensures full { HasNoVacancy rooms.new.entries }
+    ensures full { HasNoVacancy Empty rooms.new.entries }
 {
     let answer = put_in(rooms, changes);
     release(rooms, changes);

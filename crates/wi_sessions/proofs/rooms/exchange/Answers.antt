@@ -1,11 +1,12 @@
 use Rattle.std.proofs.Common.{sym, ap}
 use Rattle.std.specs.Option.{is_some}
-use Rattle.wi_sessions.proofs.RoomLemmas.{value_put, is_at_apart}
+use Rattle.wi_values.specs.declared.value.Value.TheVariants.{Empty}
+use Rattle.wi_sessions.proofs.RoomLemmas.{held_put, is_at_apart}
 use Rattle.wi_sessions.proofs.rooms.exchange.Goals as goal
 
 pub returns-in-Some-clause-values : goal.returns-in-Some-clause-values
 returns-in-Some-clause-values c =
-    λ q. value_put c.args.at q c.args.value.now c.swap.new.x c.args.rooms.now.entries _
+    λ q. held_put Empty c.args.at q c.args.value.now c.swap.new.x c.args.rooms.now.entries _
     (((c.get_mut.follows.holds c.swap.new.x).3 (ap is_some (sym c.in-Some.ensures.value))).0 q) c.swap.ensures.x_after
 
 pub returns-in-Some-clause-others : goal.returns-in-Some-clause-others

@@ -1,5 +1,5 @@
 use Rattle.std.proofs.Common.{◌∙◌}
-use Rattle.wi_sessions.proofs.RoomLemmas.{same_after}
+use Rattle.wi_sessions.proofs.PictureLemmas.{same_after}
 use Rattle.wi_sessions.proofs.rooms.put_in.Goals as goal
 
 pub returns-clause-done : goal.returns-clause-done
