@@ -2,3 +2,4 @@ pub mod ChangeLists
 pub mod RoomLemmas
 pub mod PictureLemmas
 pub mod ChangeSteps
+pub mod CellLemmas

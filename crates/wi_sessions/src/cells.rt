@@ -1,10 +1,10 @@
 //! Rooms for pending cells. A cell with true is pending; one with false has a vacant room, which it can take later without
 //! memory. Every cell with a vacant room is noted in a list beside the rooms, so that none is looked for among the others.
 
-ghost use Rattle.std.specs.Prelude.{◌≡◌, ◌≢◌, ◌==◌, ◌⊎◌, ◌↔◌, ◌<◌, ℕ, Bool, true, false, IsTrue, All, Some, None, IfOk, OnOk, OnErr, if◌then◌else◌, [], ◌∷◌, ◌||◌, ◌&&◌, not};
+ghost use Rattle.std.specs.Prelude.{◌≡◌, ◌≢◌, ◌==◌, ◌⊎◌, ◌↔◌, ◌<◌, ◌*◌, ℕ, Bool, true, false, IsTrue, All, Some, None, IfOk, OnOk, OnErr, if◌then◌else◌, [], ◌∷◌, ◌++◌, ◌||◌, ◌&&◌, not};
 ghost use Rattle.std.specs.Option.{option_or, is_some};
-ghost use Rattle.wi_sessions.specs.Pictures.{sheet_size};
-ghost use Rattle.wi_sessions.specs.Pictures.Laws.{is_listed, Rises};
+ghost use Rattle.wi_values.specs.Address.{rows, columns};
+ghost use Rattle.wi_sessions.specs.Pictures.Laws.{is_listed};
 ghost use Rattle.wi_sessions.specs.Inner.Rooms.{room_of, held_at, RoomsAreInOrder, HasNoVacancy, VacantOnlyAt, HoldsTheSame};
 ghost use Rattle.wi_sessions.specs.Inner.Cells.{cells_in, vacant_in, new_room};
 
@@ -121,11 +121,13 @@ pub(crate) fn make_room(
     ensures order { RoomsAreInOrder rooms.new.entries }
     ensures noted { VacantOnlyAt false noted.new.items rooms.new.entries }
 {
-    let answer = make_each(rooms, noted, cells);
-    if answer.is_err() {
-        release_each(rooms, noted);
+    match make_each(rooms, noted, cells) {
+        Ok(()) => Ok(()),
+        Err(error) => {
+            release_each(rooms, noted);
+            Err(error)
+        }
     }
-    answer
 }
 
 /// Lets the cells with a vacant room take it.
@@ -155,23 +157,40 @@ pub(crate) fn give_back(rooms: &mut Rooms, noted: &mut Vec<Address>)
     noted.clear();
 }
 
-/// Whether a cell is pending.
-pub(crate) fn has(rooms: &Rooms, at: Address) -> bool
+/// Whether a cell has a room that is not vacant.
+fn is_taken(rooms: &Rooms, at: Address) -> bool
     ensures { result ≡ held_at false rooms.now.entries at }
 {
     matches!(rooms.get(&at), Some(true))
+}
+
+/// Whether a cell is pending.
+pub(crate) fn has(rooms: &Rooms, at: Address) -> bool
+    requires { RoomsAreInOrder rooms.now.entries }
+    ensures { result ≡ is_listed (cells_in rooms.now.entries) at }
+{
+    is_taken(rooms, at)
+}
+
+/// Appends a cell, which is one of the sheet.
+fn push_cell(found: &mut Vec<Address>, cell: Address) -> Result<(), AllocError>
+    ensures items { OnOk result (found.new.items ≡ found.old.items ++ cell ∷ []) }
+    ensures within { cell < rows * columns }
+{
+    found.push(cell)?;
+    Ok(())
 }
 
 /// The pending cells.
 pub(crate) fn listed(alloc: Global, rooms: &Rooms) -> Result<Vec<Address>, AllocError>
     requires { RoomsAreInOrder rooms.now.entries }
     ensures cells { IfOk result (λ found. found.items ≡ cells_in rooms.now.entries) }
-    ensures within { IfOk result (λ found. All (λ a. a < sheet_size) found.items) }
+    ensures within { IfOk result (λ found. All (λ a. a < rows * columns) found.items) }
 {
     let mut found = Vec::new(alloc);
     for (cell, pending) in rooms {
         if *pending {
-            found.push(*cell)?;
+            push_cell(&mut found, *cell)?;
         }
     }
     Ok(found)

@@ -1,0 +1,14 @@
+use Rattle.std.proofs.Common.{◌<◌, ◌*◌}
+use Rattle.std.proofs.lemmas.List.Elements.{All-push, All-same}
+use Rattle.wi_values.specs.Address.{rows, columns}
+use Rattle.wi_sessions.proofs.CellLemmas.{listed_more}
+use Rattle.wi_sessions.proofs.cells.listed.Goals as goal
+
+pub loop-cell-preserved-in-Continue-1 : goal.loop-cell-preserved-in-Continue-1
+loop-cell-preserved-in-Continue-1 c =
+    record {
+      cells = listed_more c.loop-cell.found.items c.push_cell.new.found.items c.in-Some.cell.now c.in-Some.pending.now c.next.new.self c.loop-cell.cell-iterator
+          c.args.rooms.now.entries c.in_ok-push_cell.ensures.items c.in-Some.ensures.steps c.if-pending.true c.loop-cell.invariant.cells;
+      within = All-same (λ a. a < rows * columns) _ _ c.in_ok-push_cell.ensures.items
+          (All-push (λ a. a < rows * columns) c.loop-cell.found.items c.in-Some.cell.now c.loop-cell.invariant.within c.push_cell.ensures.within);
+    }
