@@ -1,4 +1,5 @@
 pub mod Pictures
 pub mod Pending
 pub mod Sessions
+pub mod Roster
 pub mod Inner

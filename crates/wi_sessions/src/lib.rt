@@ -2,10 +2,13 @@
 #![tactic(auto)]
 
 mod cells;
+mod held;
 pub mod laws;
 mod pending;
 mod picture;
 mod rooms;
+mod sessions;
 
 pub use pending::Pending;
 pub use picture::Picture;
+pub use sessions::{MAX_SESSIONS, Sessions};

@@ -1,0 +1,28 @@
+-- All sessions, with their pending cells.
+use Rattle.std.specs.Prelude.{◌≡◌, ℕ, List, []}
+use Rattle.std.specs.List.{slice_index_or}
+use Rattle.wi_sessions.specs.Pictures.Laws.{is_listed}
+use Rattle.wi_sessions.specs.Sessions.{Session, new_session}
+
+-- The sessions in order of making, and for each in the same order the cells that are pending, and those for which there is
+-- room only.
+pub record Roster : Type 0 where
+  pub sessions : List Session
+  pub pending : List (List ℕ)
+  pub vacant : List (List ℕ)
+
+-- the i-th session
+abbrev pub session_at : Roster → ℕ → Session
+session_at r i = slice_index_or r.sessions i (new_session [])
+
+-- the cells that are pending for the i-th session
+abbrev pub pending_of : Roster → ℕ → List ℕ
+pending_of r i = slice_index_or r.pending i []
+
+-- the cells for which there is room in the list of the i-th session
+abbrev pub vacant_of : Roster → ℕ → List ℕ
+vacant_of r i = slice_index_or r.vacant i []
+
+-- two lists have the same cells, in whatever order
+abbrev pub SameCells : List ℕ → List ℕ → Type 0
+SameCells xs ys = (a : ℕ) → is_listed xs a ≡ is_listed ys a

@@ -1,0 +1,225 @@
+//! All sessions.
+
+ghost use Rattle.std.specs.Prelude.{◌≡◌, ◌≢◌, ◌<◌, ◌||◌, ◌&&◌, ◌++◌, ◌∷◌, ℕ, List, not, length, [], IfOk, IfSome, OnOk, OnErr, string_bytes};
+ghost use Rattle.std.specs.Option.{is_some, option_map};
+ghost use Rattle.std.specs.List.{position, slice_set};
+ghost use Rattle.std.specs.Str.{bytes_eq};
+ghost use Rattle.wi_sessions.specs.Pictures.Laws.{is_listed};
+ghost use Rattle.wi_sessions.specs.Sessions.{new_session, told, using_scenario, has_session, place_of};
+ghost use Rattle.wi_sessions.specs.Roster.{session_at, pending_of, vacant_of, SameCells};
+ghost use Rattle.wi_sessions.specs.Inner.Held.{roster_in};
+
+use crate::held::Held;
+use crate::pending::Pending;
+use crate::picture::Picture;
+use std::alloc::{AllocError, Global};
+use std::marker::Model;
+use wi_values::{Address, Value};
+
+/// How many sessions there may be; this limit is the caller's to keep.
+pub const MAX_SESSIONS: usize = 64;
+
+/// Sessions in order of making. A session is named by its place in that order, which never changes.
+#[derive(Drop)]
+pub struct Sessions {
+    held: Vec<Held>,
+    alloc: Global,
+}
+
+impl Model for Sessions {
+    ghost use Rattle.wi_sessions.specs.Roster.{Roster};
+    ghost use Rattle.std.specs.Coded.{codes};
+    ghost use Rattle.wi_values.specs.contracts.value.Value as value;
+    ghost use Rattle.wi_sessions.specs.Inner.Held.{roster_in};
+
+    ghost Value = { Roster };
+
+    ghost coded = { Prim.hlevel (codes, value.the_row.coded) };
+
+    ghost view = { λ s. roster_in s.held.items };
+}
+
+impl Sessions {
+    /// One session, which uses the sheet as it stands and was shown nothing; these cells, the occupied ones, are pending.
+    pub fn new(alloc: Global, name: &str, cells: &[Address]) -> Result<Sessions, AllocError>
+        ensures sessions { IfOk result (λ s. s.sessions ≡ new_session name.now ∷ []) }
+        ensures pending { IfOk result (λ s. SameCells (pending_of s 0) cells.now) }
+    {
+        let mut sessions = Sessions {
+            held: Vec::new(alloc),
+            alloc,
+        };
+        sessions.push(name, cells)?;
+        Ok(sessions)
+    }
+
+    /// Adds a session at the end, as `new` makes one. On an error all is as before.
+    pub fn push(&mut self, name: &str, cells: &[Address]) -> Result<(), AllocError>
+        ensures sessions { OnOk result (self.new.sessions ≡ self.old.sessions ++ new_session name.now ∷ []) }
+        ensures pending { OnOk result ((new : List ℕ) × (self.new.pending ≡ self.old.pending ++ new ∷ []) × SameCells new cells.now) }
+        ensures vacant { OnOk result (self.new.vacant ≡ self.old.vacant ++ [] ∷ []) }
+        ensures refused { OnErr result (self.new ≡ self.old) }
+    {
+        let held = Held::new(self.alloc, name, cells)?;
+        self.held.push(held)?;
+        Ok(())
+    }
+
+    /// How many sessions there are.
+    pub fn len(&self) -> usize
+        ensures { result ≡ length self.now.sessions }
+    {
+        self.held.len()
+    }
+
+    /// The place of the session of this name, if there is one. Compares each name in turn.
+    pub fn find(&self, name: &str) -> Option<usize>
+        ensures found { is_some result ≡ has_session self.now.sessions name.now }
+        ensures place { IfSome result (λ i. i ≡ place_of self.now.sessions name.now) }
+        ensures within { IfSome result (λ i. i < length self.now.sessions) }
+    {
+        place(self.held.as_slice(), name)
+    }
+
+    /// The name of a session.
+    pub fn name(&self, i: usize) -> &str
+        requires { i < length self.now.sessions }
+        ensures { result.now ≡ (session_at self.now i).name }
+    {
+        self.held[i].name.as_str()
+    }
+
+    /// The name of the scenario that a session uses; none for the sheet as it stands.
+    pub fn scenario(&self, i: usize) -> Option<&str>
+        requires { i < length self.now.sessions }
+        ensures { option_map (λ s. s.now) result ≡ (session_at self.now i).scenario }
+    {
+        match &self.held[i].scenario {
+            Some(name) => Some(name.as_str()),
+            None => None,
+        }
+    }
+
+    /// What a session was last shown.
+    pub fn picture(&self, i: usize) -> &Picture
+        requires { i < length self.now.sessions }
+        ensures { result.now ≡ (session_at self.now i).picture }
+    {
+        &self.held[i].picture
+    }
+
+    /// How long the log was when a session was last shown what has changed; 0 before.
+    pub fn seen(&self, i: usize) -> u64
+        requires { i < length self.now.sessions }
+        ensures { result ≡ (session_at self.now i).seen }
+    {
+        self.held[i].seen
+    }
+
+    /// The cells that are pending for a session.
+    pub fn pending(&self, i: usize) -> &Pending
+        requires { i < length self.now.sessions }
+        ensures cells { result.now.cells ≡ pending_of self.now i }
+        ensures vacant { result.now.vacant ≡ vacant_of self.now i }
+    {
+        &self.held[i].pending
+    }
+
+    /// A session uses a scenario of this name, or the sheet as it stands. Takes no memory.
+    pub fn use_scenario(&mut self, i: usize, scenario: Option<String>)
+        requires { i < length self.old.sessions }
+        ensures sessions { self.new.sessions ≡ slice_set self.old.sessions i (using_scenario (session_at self.old i) (option_map string_bytes scenario)) }
+        ensures pending { self.new.pending ≡ self.old.pending }
+        ensures vacant { self.new.vacant ≡ self.old.vacant }
+    {
+        self.held[i].use_scenario(scenario);
+    }
+
+    /// Puts a change list into a session's picture, when the log has this length; no cell is pending for it then. On an error
+    /// all is as before. The work is that of `Picture::apply`, and of dropping the pending cells.
+    pub fn tell(
+        &mut self,
+        i: usize,
+        changes: Vec<(Address, Value)>,
+        seen: u64,
+    ) -> Result<(), AllocError>
+        requires { i < length self.old.sessions }
+        ensures sessions { OnOk result (self.new.sessions ≡ slice_set self.old.sessions i (told (session_at self.old i) changes.items seen)) }
+        ensures pending { OnOk result (self.new.pending ≡ slice_set self.old.pending i []) }
+        ensures vacant { OnOk result (self.new.vacant ≡ slice_set self.old.vacant i []) }
+        ensures refused { OnErr result (self.new ≡ self.old) }
+    {
+        self.held[i].tell(changes, seen)
+    }
+
+    /// Makes room for each of the cells that isn't pending for a session; none is pending yet. On an error its vacant rooms go.
+    /// The work is that of `Pending::make_room`.
+    pub fn make_room(&mut self, i: usize, cells: &[Address]) -> Result<(), AllocError>
+        requires { i < length self.old.sessions }
+        ensures sessions { self.new.sessions ≡ self.old.sessions }
+        ensures pending { self.new.pending ≡ self.old.pending }
+        ensures room { OnOk result ((a : ℕ) → is_listed (vacant_of self.new i) a
+            ≡ (is_listed (vacant_of self.old i) a || (is_listed cells.now a && not (is_listed (pending_of self.old i) a)))) }
+        ensures refused { OnErr result (vacant_of self.new i ≡ []) }
+        ensures others { (j : ℕ) → j ≢ i → vacant_of self.new j ≡ vacant_of self.old j }
+    {
+        self.held[i].pending.make_room(cells)
+    }
+
+    /// The cells for which there is room are pending now, for each session. Takes no memory. The work is that of `Pending::take`.
+    pub fn take_all(&mut self)
+        ensures sessions { self.new.sessions ≡ self.old.sessions }
+        ensures lists { length self.new.pending ≡ length self.old.pending }
+        ensures pending { (i a : ℕ) → is_listed (pending_of self.new i) a ≡ (is_listed (pending_of self.old i) a || is_listed (vacant_of self.old i) a) }
+        ensures vacant { (i : ℕ) → vacant_of self.new i ≡ [] }
+    {
+        take_each(&mut self.held);
+    }
+
+    /// The vacant rooms of all sessions go. Takes no memory. The work is that of `Pending::give_back`.
+    pub fn give_back_all(&mut self)
+        ensures sessions { self.new.sessions ≡ self.old.sessions }
+        ensures pending { self.new.pending ≡ self.old.pending }
+        ensures vacant { (i : ℕ) → vacant_of self.new i ≡ [] }
+    {
+        give_back_each(&mut self.held);
+    }
+
+    /// Each session has its pending cells. This is a law: the call does nothing.
+    pub fn each_has_pending_cells(&self)
+        ensures { length self.now.pending ≡ length self.now.sessions }
+    {
+        let _ = &self.held;
+    }
+}
+
+// The place of the session of this name.
+fn place(held: &[Held], name: &str) -> Option<usize>
+    ensures { result ≡ position (λ x. bytes_eq name.now (string_bytes x.name)) held.now }
+{
+    held.iter().position(|x| x.is_named(name))
+}
+
+// The cells for which there is room are pending now.
+fn take_each(held: &mut [Held])
+    ensures sessions { (roster_in held.new).sessions ≡ (roster_in held.old).sessions }
+    ensures lists { length held.new ≡ length held.old }
+    ensures pending { (i a : ℕ) → is_listed (pending_of (roster_in held.new) i) a
+        ≡ (is_listed (pending_of (roster_in held.old) i) a || is_listed (vacant_of (roster_in held.old) i) a) }
+    ensures vacant { (i : ℕ) → vacant_of (roster_in held.new) i ≡ [] }
+{
+    for x in held.iter_mut() {
+        x.pending.take();
+    }
+}
+
+// The vacant rooms go.
+fn give_back_each(held: &mut [Held])
+    ensures sessions { (roster_in held.new).sessions ≡ (roster_in held.old).sessions }
+    ensures pending { (roster_in held.new).pending ≡ (roster_in held.old).pending }
+    ensures vacant { (i : ℕ) → vacant_of (roster_in held.new) i ≡ [] }
+{
+    for x in held.iter_mut() {
+        x.pending.give_back();
+    }
+}
