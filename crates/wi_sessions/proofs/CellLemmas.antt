@@ -1,5 +1,5 @@
 -- Laws of the rooms of pending cells.
-use Rattle.std.proofs.Common.{◌≡◌, ◌==◌, ◌<◌, ◌≤◌, ◌+◌, ◌||◌, ◌&&◌, ℕ, Bool, true, false, cond, not, List, [], ◌∷◌, ◌++◌, length, get_or, drop, filter, Option, Some, None, refl, sym, ap, subst, ◌∙◌, arith, ◌*◌, Result, Ok, Err, IfOk, OnOk}
+use Rattle.std.proofs.Common.{◌≡◌, ◌==◌, ◌<◌, ◌≤◌, ◌+◌, ◌||◌, ◌&&◌, ℕ, Bool, true, false, cond, not, List, [], ◌∷◌, ◌++◌, length, get_or, drop, filter, Option, Some, None, refl, sym, ap, ◌∙◌, arith, ◌*◌, Result, Ok, Err, IfOk, OnOk}
 use Rattle.std.specs.Prelude.{unwrap_or}
 use Rattle.std.specs.Option.{is_some, option_or}
 use Rattle.std.specs.List.{All, list_any}

@@ -3,3 +3,4 @@ pub mod RoomLemmas
 pub mod PictureLemmas
 pub mod ChangeSteps
 pub mod CellLemmas
+pub mod RosterLemmas

@@ -4,7 +4,7 @@ use Rattle.wi_values.proofs.Lookups.{found-insert, found-without}
 use Rattle.wi_values.proofs.Order.{Ascends, Ascends-filter, Ascends-insert}
 use Rattle.wi_values.specs.declared.value.Value.{Value}
 use Rattle.wi_values.specs.declared.value.Value.TheVariants.{Empty, Number, Text, Logical, Fault}
-use Rattle.wi_sessions.specs.Pictures.{value_in, with_value, with_changes}
+use Rattle.wi_sessions.specs.Pictures.{with_value, with_changes}
 use Rattle.wi_sessions.specs.Inner.Rooms.{room_of, HasNoVacancy, HoldsTheSame}
 use Rattle.wi_sessions.proofs.ChangeLists.{value_in-with}
 use Rattle.wi_sessions.proofs.RoomLemmas.{same_rooms, filled}

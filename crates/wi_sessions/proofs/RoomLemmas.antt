@@ -1,17 +1,17 @@
 -- Laws of rooms, whatever stands in them.
-use Rattle.std.proofs.Common.{◌≡◌, ◌≢◌, ◌==◌, ◌<◌, ◌⊎◌, ℕ, Bool, true, false, cond, List, [], ◌∷◌, filter, Option, Some, None, refl, sym, ap, subst, ◌∙◌, arith, ⊎_elim, inl, inr}
+use Rattle.std.proofs.Common.{◌≡◌, ◌==◌, ◌<◌, ◌⊎◌, ℕ, Bool, true, false, cond, List, [], ◌∷◌, filter, Option, Some, None, refl, sym, ap, subst, ◌∙◌, arith, ⊎_elim, inl, inr}
 use Rattle.std.specs.Prelude.{unwrap_or}
 use Rattle.std.specs.Option.{is_some}
 use Rattle.std.specs.List.{list_any}
 use Rattle.std.specs.Ordering.{nat_cmp}
-use Rattle.std.specs.Map.{lookup, keys_of}
+use Rattle.std.specs.Map.{keys_of}
 use Rattle.std.specs.BTreeMap.{is_at}
 use Rattle.std.proofs.lemmas.Bool.{cases_eq, cases_order}
 use Rattle.std.proofs.lemmas.Bool.Decides.{nat_tests}
 use Rattle.std.proofs.lemmas.Map.Made.{is_some-lookup}
 pub use Rattle.wi_values.proofs.Order.{Ascends, Ascends-from_order}
 use Rattle.wi_values.proofs.Order.{ComeAfter, ComeAfter-filter, come_after_earlier, at_itself, at_same, is_at-eq, turn_test, lookup_after}
-use Rattle.wi_sessions.specs.Inner.Rooms.{room_of, HasRoomFor, held_at, HasNoVacancy, HoldsTheSame}
+use Rattle.wi_sessions.specs.Inner.Rooms.{room_of, HasRoomFor, held_at}
 
 pub is_at_apart : (a q : ℕ) → (q ≡ a → ⊥) → is_at (nat_cmp a) q ≡ false
 is_at_apart a q h = grind (arith, nat_tests)

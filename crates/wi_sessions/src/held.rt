@@ -55,7 +55,11 @@ impl Held {
     }
 
     /// Puts a change list into the picture, when the log has this length; no cell is pending then. On an error all is as before.
-    pub(crate) fn tell(&mut self, changes: Vec<(Address, Value)>, seen: u64) -> Result<(), AllocError>
+    pub(crate) fn tell(
+        &mut self,
+        changes: Vec<(Address, Value)>,
+        seen: u64,
+    ) -> Result<(), AllocError>
         ensures told { OnOk result (session_in self.new ≡ told (session_in self.old) changes.items seen) }
         ensures cells { OnOk result (self.new.pending.cells ≡ []) }
         ensures vacant { OnOk result (self.new.pending.vacant ≡ []) }

@@ -10,5 +10,5 @@ mod rooms;
 mod sessions;
 
 pub use pending::Pending;
-pub use picture::Picture;
+pub use picture::{Picture, same};
 pub use sessions::{MAX_SESSIONS, Sessions};

@@ -35,6 +35,13 @@ impl Model for Picture {
     ghost invariant = { λ p. RoomsAreInOrder p.values.entries × HasNoVacancy Empty p.values.entries };
 }
 
+/// Whether two values are one: of the same kind, and with the same content.
+pub fn same(a: &Value, b: &Value) -> bool
+    ensures { result ≡ same_value a.now b.now }
+{
+    *a == *b
+}
+
 impl Picture {
     /// The picture of an empty sheet. Takes no memory.
     pub fn new(alloc: Global) -> Picture
@@ -57,7 +64,7 @@ impl Picture {
         ensures { result ≡ same_value (value_in self.now at) value.now }
     {
         match self.value(at) {
-            Some(had) => *had == *value,
+            Some(had) => same(had, value),
             None => matches!(value, Value::Empty),
         }
     }

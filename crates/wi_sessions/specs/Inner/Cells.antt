@@ -1,5 +1,5 @@
 -- Rooms for pending cells: a cell with true is pending, one with false has a vacant room.
-use Rattle.std.specs.Prelude.{ℕ, Bool, true, false, not, List, filter, Option, Some, None, if◌then◌else◌}
+use Rattle.std.specs.Prelude.{ℕ, Bool, false, not, List, filter, Option, Some, None, if◌then◌else◌}
 use Rattle.std.specs.Map.{keys_of}
 use Rattle.wi_sessions.specs.Pending.{PendingCells}
 use Rattle.wi_sessions.specs.Pictures.Laws.{is_listed}

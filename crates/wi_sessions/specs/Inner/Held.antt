@@ -1,7 +1,6 @@
 -- What the fields of a session stand for.
-use Rattle.std.specs.Prelude.{◌≡◌, ℕ, ◌<◌, ◌==◌, List, map, length, string_bytes, if◌then◌else◌}
+use Rattle.std.specs.Prelude.{ℕ, List, map, string_bytes}
 use Rattle.std.specs.Option.{option_map}
-use Rattle.std.specs.List.{slice_index_or}
 use Rattle.wi_sessions.specs.Sessions.{Session}
 use Rattle.wi_sessions.specs.Roster.{Roster}
 use Rattle.wi_sessions.specs.declared.held.Held.{Held}
