@@ -1,10 +1,10 @@
 -- Laws of lists of changes, for one step of a loop over them.
-use Rattle.std.proofs.Common.{◌≡◌, ◌==◌, ◌<◌, ◌+◌, ◌||◌, ◌⊎◌, ℕ, zero, suc, Bool, true, false, cond, List, [], ◌∷◌, length, get_or, set, drop, Some, refl, sym, ap, subst, ◌∙◌, arith, ⊎_elim, add-one, drop-cons}
+use Rattle.std.proofs.Common.{◌≡◌, ◌==◌, ◌<◌, ◌+◌, ◌||◌, ◌⊎◌, ℕ, zero, suc, Bool, true, false, cond, List, [], ◌∷◌, length, get_or, set, drop, Some, refl, sym, ap, subst, ◌∙◌, arith, ⊎_elim}
 use Rattle.std.specs.List.{All}
 use Rattle.std.specs.Map.{keys_of}
 use Rattle.std.proofs.lemmas.Bool.{cases_eq, or_left, or_right, eqb-true}
 use Rattle.std.proofs.lemmas.Bool.Decides.{nat_tests}
-use Rattle.std.proofs.lemmas.List.{drop-set-lt}
+use Rattle.std.proofs.lemmas.List.{drop-set-lt, drop_more, get_or_default}
 use Rattle.std.proofs.lemmas.List.Elements.{All-set}
 use Rattle.std.proofs.Math.Seq.{map-set_same}
 use Rattle.wi_values.specs.declared.value.Value.{Value}
@@ -18,9 +18,6 @@ use Rattle.wi_sessions.proofs.PictureLemmas.{same_after}
 
 abbrev pub Entries : Type 0
 Entries = List (ℕ × Value)
-
-drop_at : (cs : Entries) (i : ℕ) (d : ℕ × Value) → i < length cs → drop i cs ≡ get_or cs i d ∷ drop (i + 1) cs
-drop_at cs i d l = rw add-one (drop-cons cs i d l)
 
 right_of_or : (b c : Bool) → (b || c) ≡ true → (b ≡ true → ⊥) → c ≡ true
 right_of_or true c h n = absurd (n refl)
@@ -64,15 +61,10 @@ pub vacant_less : (cs : Entries) (i : ℕ) (d : ℕ × Value) (old new : Entries
     → VacantOnlyAt Empty (keys_of (drop i cs)) old → VacantOnlyAt Empty (keys_of (drop (i + 1) cs)) new
 vacant_less cs i d old new l released kept h =
     λ q v. right_of_or ((get_or cs i d).0 == q) _
-    (ap (λ (xs : Entries). is_listed (keys_of xs) q) (sym (drop_at cs i d l)) ∙ h q (kept q v))
+    (ap (λ (xs : Entries). is_listed (keys_of xs) q) (sym (drop_more cs i d l)) ∙ h q (kept q v))
     (λ t. released (ap (λ (a : ℕ). room_of new a) (eqb-true _ q t) ∙ v))
 
 -- ---- rooms for changes
-
-same_element : (cs : Entries) (i : ℕ) (d e : ℕ × Value) → i < length cs → get_or cs i d ≡ get_or cs i e
-same_element [] i d e l = absurd (omega arith)
-same_element (x ∷ xs) zero d e l = refl
-same_element (x ∷ xs) (suc i) d e l = same_element xs i d e (omega arith)
 
 -- after a room was made for the i-th change, x
 pub room_more_made : (cs : Entries) (i : ℕ) (x : ℕ × Value) (old new : Entries) → i < length cs → x ≡ get_or cs i x
@@ -81,7 +73,7 @@ pub room_more_made : (cs : Entries) (i : ℕ) (x : ℕ × Value) (old new : Entr
     → ((k : ℕ) (d : ℕ × Value) → k < i → HasRoomFor old (get_or cs k d))
     → (k : ℕ) (d : ℕ × Value) → k < i + 1 → HasRoomFor new (get_or cs k d)
 room_more_made cs i x old new m is kept here h =
-    λ k d l. ⊎_elim (λ p. subst (λ (j : ℕ). HasRoomFor new (get_or cs j d)) (sym p) (subst (λ (y : ℕ × Value). HasRoomFor new y) (is ∙ same_element cs i x d m) here))
+    λ k d l. ⊎_elim (λ p. subst (λ (j : ℕ). HasRoomFor new (get_or cs j d)) (sym p) (subst (λ (y : ℕ × Value). HasRoomFor new y) (is ∙ get_or_default cs i x d m) here))
     (λ apart. kept (get_or cs k d) (h k d (omega arith))) (cases_eq k i)
 
 -- after the i-th change was exchanged
@@ -101,4 +93,4 @@ values_more t old new cs i d v l put h =
     let x = get_or cs i d in
     λ q. ap (λ (xs : Entries). value_in (with_changes new xs) q) (drop-set-lt (i + 1) cs i v (omega arith))
     ∙ same_after (drop (i + 1) cs) (with_value old x.0 x.1) new (λ c. put c ∙ sym (value_in-with old x.0 x.1 c)) q
-    ∙ ap (λ (xs : Entries). value_in (with_changes old xs) q) (sym (drop_at cs i d l)) ∙ h q
+    ∙ ap (λ (xs : Entries). value_in (with_changes old xs) q) (sym (drop_more cs i d l)) ∙ h q

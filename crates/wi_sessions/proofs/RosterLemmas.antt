@@ -1,5 +1,5 @@
 -- Laws of sessions and their pending cells, as lists of parts of each.
-use Rattle.std.proofs.Common.{◌≡◌, ◌≢◌, ◌<◌, ◌≤◌, ◌+◌, zero, suc, ⊎_elim, ◌||◌, ◌&&◌, ◌∙◌, ℕ, Bool, true, false, cond, not, List, [], ◌∷◌, map, length, get_or, set, Some, None, refl, sym, ap, subst, arith, string_bytes}
+use Rattle.std.proofs.Common.{◌≡◌, ◌≢◌, ◌<◌, ◌≤◌, ◌+◌, zero, suc, ⊎_elim, ◌||◌, ◌&&◌, ◌∙◌, ℕ, Bool, true, false, cond, not, List, [], ◌∷◌, ◌++◌, map, length, get_or, set, Some, None, refl, sym, ap, subst, arith, string_bytes}
 use Rattle.std.specs.Prelude.{IfSome, nat_lt}
 use Rattle.std.specs.Option.{is_some}
 use Rattle.std.specs.List.{AllZip, list_any, position, position_or_len, position_from}
@@ -101,6 +101,13 @@ module _ {Y : Type 0} (f : Held → Y) (xs : List Held) (i : ℕ) (x : Held) (ys
   pub part_other : (y : Held) (j : ℕ) (d : Y) → j ≢ i → get_or (map f (set xs i y)) j d ≡ get_or ys j d
   part_other y j d n =
       ap (λ (zs : List Y). get_or zs j d) (map-set f xs i y) ∙ get_or-set_other (map f xs) i j (f y) d n ∙ ap (λ (zs : List Y). get_or zs j d) v
+
+-- an empty list at the end is like none
+pub empty_after : (xs : List (List ℕ)) (i : ℕ) → get_or (xs ++ [] ∷ []) i [] ≡ get_or xs i []
+empty_after [] zero = refl
+empty_after [] (suc i) = refl
+empty_after (x ∷ xs) zero = refl
+empty_after (x ∷ xs) (suc i) = empty_after xs i
 
 -- ---- each session in turn
 

@@ -44,6 +44,7 @@ impl Sessions {
     pub fn new(alloc: Global, name: &str, cells: &[Address]) -> Result<Sessions, AllocError>
         ensures sessions { IfOk result (λ s. s.sessions ≡ new_session name.now ∷ []) }
         ensures pending { IfOk result (λ s. SameCells (pending_of s 0) cells.now) }
+        ensures vacant { IfOk result (λ s. (i : ℕ) → vacant_of s i ≡ []) }
     {
         let mut sessions = Sessions {
             held: Vec::new(alloc),
@@ -57,7 +58,7 @@ impl Sessions {
     pub fn push(&mut self, name: &str, cells: &[Address]) -> Result<(), AllocError>
         ensures sessions { OnOk result (self.new.sessions ≡ self.old.sessions ++ new_session name.now ∷ []) }
         ensures pending { OnOk result ((new : List ℕ) × (self.new.pending ≡ self.old.pending ++ new ∷ []) × SameCells new cells.now) }
-        ensures vacant { OnOk result (self.new.vacant ≡ self.old.vacant ++ [] ∷ []) }
+        ensures vacant { OnOk result ((i : ℕ) → vacant_of self.new i ≡ vacant_of self.old i) }
         ensures refused { OnErr result (self.new ≡ self.old) }
     {
         let held = Held::new(self.alloc, name, cells)?;
