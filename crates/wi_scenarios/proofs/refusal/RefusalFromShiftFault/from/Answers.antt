@@ -1,0 +1,5 @@
+use Rattle.std.proofs.Common.{rules}
+use Rattle.wi_scenarios.proofs.refusal.RefusalFromShiftFault.from.Goals as goal
+
+pub returns-in-LeavesSheet : goal.returns-in-LeavesSheet
+returns-in-LeavesSheet c = search rules
