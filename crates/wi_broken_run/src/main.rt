@@ -1,11 +1,11 @@
 //! A program for tests: runs the script that standard input gives, by a reader that is interrupted before each read and
-//! fails at the end of the input.
+//! fails at the end of the input, and would then run another script.
 #![tactic(auto)]
 
 use std::io;
 use std::io::{ErrorKind, Read};
 use std::process::ExitCode;
-use wi_cli::{ReadFrom, WriteTo, run_new};
+use wi_cli::{ReadFrom, WriteTo, run_new_in_turn};
 
 /// A reader that is interrupted before each read, and fails at the end.
 #[derive(Drop)]
@@ -28,10 +28,12 @@ impl<R: Read> Read for Broken<R> {
 }
 
 fn main(rt: HostRuntime) -> ExitCode {
-    let mut reader = ReadFrom::new(Broken {
+    let mut load = ReadFrom::new(Broken {
         inner: rt.reader(),
         interrupted: false,
     });
+    let mut reader = ReadFrom::new(b"show A1:C1\n".as_slice());
     let mut writer = WriteTo::new(io::writer(&rt));
-    ExitCode::from(run_new(rt.alloc(), &mut reader, &mut writer).status)
+    let ending = run_new_in_turn(rt.alloc(), 1, &mut load, &mut reader, &mut writer);
+    ExitCode::from(ending.status)
 }

@@ -20,6 +20,10 @@ is_new (Ok book) stored limits b s cells edits =
     b ∙ ap (λ (x : Stored). record { stored = x }) s ∙ ap (λ n. empty_within n limits.edits) cells ∙ ap (empty_within 200000) edits
 is_new (Err e) stored limits b s cells edits = tt
 
+-- what `run` says of what it reads and writes
+abbrev pub Replies : Result (Unit {0}) RunFault → Option (List ℕ) → Option (List ℕ) → State → State → Option (List ℕ) → Option (List ℕ) → Type 0
+Replies r left left' s t given given' = (input : List ℕ) × (out : List ℕ) × Consumes left left' input × Appends given given' out × RunOutcome r left' s t input out
+
 abbrev pub EndsNew : Result (Unit {0}) RunFault → Option (List ℕ) → Option (List ℕ) → Option (List ℕ) → Option (List ℕ) → Type 0
 EndsNew r left left' given given' = (last : State) × (input : List ℕ) × (out : List ℕ) × Consumes left left' input × Appends given given' out × RunOutcome r left' new_state last input out
 
@@ -27,6 +31,6 @@ pub not_begun : (r : Result (Unit {0}) RunFault) (left given : Option (List ℕ)
 not_begun r left given e = rw e (new_state, [], [], Consumes-nil left, Appends-nil given, (refl, refl, refl))
 
 pub ends_new : (r r' : Result (Unit {0}) RunFault) (left left' given given' : Option (List ℕ)) (first last : State) → r' ≡ r → first ≡ new_state
-    → (input : List ℕ) × (out : List ℕ) × Consumes left left' input × Appends given given' out × RunOutcome r left' first last input out → EndsNew r' left left' given given'
+    → Replies r left left' first last given given' → EndsNew r' left left' given given'
 ends_new r r' left left' given given' first last e f h =
     rw e (last, h.0, h.1, h.2, h.3, subst (λ (s : State). RunOutcome r left' s last h.0 h.1) f h.4)

@@ -4,6 +4,7 @@ pub mod Script
 pub mod Reply
 pub mod Run
 pub mod RunOutcome
+pub mod InTurn
 pub mod Status
 pub mod Devices
 pub mod Inner

@@ -1,6 +1,6 @@
 //! A run on a new workbook, and the status that it ends with.
 
-ghost use Rattle.std.specs.Prelude.{◌≡◌, ℕ, List, Err, IfOk, OnOk, true, false};
+ghost use Rattle.std.specs.Prelude.{◌≡◌, ◌≤◌, ℕ, List, Err, IfOk, OnOk, true, false};
 ghost use Rattle.std.specs.Io.KnownBytes.{Appends, Consumes, IsAtEnd};
 ghost use Rattle.wi_scenarios.specs.State.{State, new_state};
 ghost use Rattle.wi_cli.specs.RunOutcome.{RunOutcome};
@@ -24,7 +24,7 @@ pub struct Ending {
 }
 
 impl Ending {
-    fn new(outcome: Result<(), RunFault>) -> Ending
+    pub(crate) fn new(outcome: Result<(), RunFault>) -> Ending
         ensures outcome { result.outcome ≡ outcome }
         ensures status { result.status ≡ ending_status outcome }
     {
@@ -36,18 +36,26 @@ impl Ending {
     }
 }
 
-/// How many values are kept from one question to the next.
-const KEEP: usize = 65_536;
-
-fn new_workbook(alloc: Global) -> Result<Workbook<KeptCalculator>, AllocError>
+/// A new workbook, within the standard limits, that keeps so many values from one question to the next.
+pub(crate) fn new_workbook(
+    alloc: Global,
+    keep: usize,
+) -> Result<Workbook<KeptCalculator>, AllocError>
+    requires { 1 ≤ keep }
     ensures { IfOk result (λ book. book ≡ new_state) }
 {
-    let calculator = KeptCalculator::new(alloc, Limits::standard(), KEEP)?;
+    let calculator = KeptCalculator::new(alloc, Limits::standard(), keep)?;
     Workbook::new(alloc, calculator)
 }
 
-/// Runs a script on a new workbook, within the standard limits. The outcome is that of `run`.
-pub fn run_new<R: Source, W: Sink>(alloc: Global, reader: &mut R, writer: &mut W) -> Ending
+/// Runs a script on a new workbook, within the standard limits, that keeps so many values. The outcome is that of `run`.
+pub fn run_new<R: Source, W: Sink>(
+    alloc: Global,
+    keep: usize,
+    reader: &mut R,
+    writer: &mut W,
+) -> Ending
+    requires keep { 1 ≤ keep }
     requires reads { R.has_failed reader.old ≡ false }
     requires writes { W.has_failed writer.old ≡ false }
 
@@ -66,7 +74,7 @@ pub fn run_new<R: Source, W: Sink>(alloc: Global, reader: &mut R, writer: &mut W
     ensures unwritten { result.outcome ≡ Err RunFault.Memory → writer.new ≡ writer.old }
     ensures status { result.status ≡ ending_status result.outcome }
 {
-    let Ok(mut book) = new_workbook(alloc) else {
+    let Ok(mut book) = new_workbook(alloc, keep) else {
         return Ending::new(Err(RunFault::Memory));
     };
     Ending::new(run(alloc, reader, writer, &mut book))

@@ -1,0 +1,69 @@
+//! Two scripts that are run in turn on one workbook: one that is loaded, and then another.
+
+ghost use Rattle.std.specs.Prelude.{◌≡◌, ◌≤◌, Err, OnOk, true, false};
+ghost use Rattle.wi_scenarios.specs.State.{State, new_state};
+ghost use Rattle.wi_cli.specs.InTurn.{RunInTurn};
+ghost use Rattle.wi_cli.specs.Status.{ending_status};
+
+use crate::device::{Sink, Source};
+use crate::ending::{Ending, new_workbook};
+use crate::fault::RunFault;
+use crate::runs::run;
+use std::alloc::Global;
+use wi_propagate::Calculator;
+use wi_scenarios::Workbook;
+
+/// Runs the script that is loaded, and then the other one, on one workbook. After a fault in the first nothing is read of the
+/// second. The limit of lines counts for each of them apart.
+pub fn run_in_turn<L: Source, R: Source, W: Sink, C: Calculator>(
+    alloc: Global,
+    load: &mut L,
+    reader: &mut R,
+    writer: &mut W,
+    book: &mut Workbook<C>,
+) -> Result<(), RunFault>
+    requires loads { L.has_failed load.old ≡ false }
+    requires reads { R.has_failed reader.old ≡ false }
+    requires writes { W.has_failed writer.old ≡ false }
+
+    // The bytes written are the replies to the commands of the one, and then to those of the other.
+    ensures replies { RunInTurn L.remaining L.has_failed R.remaining R.has_failed result
+        load.old load.new reader.old reader.new book.old book.new
+        (W.contents writer.old) (W.contents writer.new) }
+    ensures writes { OnOk result (W.has_failed writer.new ≡ false) }
+    ensures all_sent { OnOk result (W.flushed writer.new ≡ true) }
+    ensures write_fault { result ≡ Err RunFault.Write → W.has_failed writer.new ≡ true }
+{
+    run(alloc, load, writer, book)?;
+    run(alloc, reader, writer, book)
+}
+
+/// Runs two scripts in turn on a new workbook, within the standard limits, that keeps so many values. The outcome is that of
+/// `run_in_turn`.
+pub fn run_new_in_turn<L: Source, R: Source, W: Sink>(
+    alloc: Global,
+    keep: usize,
+    load: &mut L,
+    reader: &mut R,
+    writer: &mut W,
+) -> Ending
+    requires keep { 1 ≤ keep }
+    requires loads { L.has_failed load.old ≡ false }
+    requires reads { R.has_failed reader.old ≡ false }
+    requires writes { W.has_failed writer.old ≡ false }
+
+    // The bytes written are the replies to the commands of the one, from an empty sheet on, and then to those of the other.
+    ensures replies { (last : State)
+        × RunInTurn L.remaining L.has_failed R.remaining R.has_failed result.outcome
+        load.old load.new reader.old reader.new new_state last
+        (W.contents writer.old) (W.contents writer.new) }
+    ensures writes { OnOk result.outcome (W.has_failed writer.new ≡ false) }
+    ensures all_sent { OnOk result.outcome (W.flushed writer.new ≡ true) }
+    ensures write_fault { result.outcome ≡ Err RunFault.Write → W.has_failed writer.new ≡ true }
+    ensures status { result.status ≡ ending_status result.outcome }
+{
+    let Ok(mut book) = new_workbook(alloc, keep) else {
+        return Ending::new(Err(RunFault::Memory));
+    };
+    Ending::new(run_in_turn(alloc, load, reader, writer, &mut book))
+}
