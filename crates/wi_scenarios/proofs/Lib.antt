@@ -5,4 +5,5 @@ pub mod FillLemmas
 pub mod TextLemmas
 pub mod ShowLemmas
 pub mod ExportLemmas
+pub mod TableLemmas
 pub mod StepLemmas

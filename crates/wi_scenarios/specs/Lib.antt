@@ -7,6 +7,7 @@ pub mod Clear
 pub mod Fill
 pub mod Show
 pub mod Export
+pub mod Table
 pub mod Formula
 pub mod Step
 pub mod Inner

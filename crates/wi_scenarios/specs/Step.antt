@@ -1,5 +1,5 @@
 -- What one command does.
-use Rattle.std.specs.Prelude.{◌≡◌, ℕ, Bool, List, Err}
+use Rattle.std.specs.Prelude.{◌≡◌, ℕ, Bool, List, Option, Err}
 use Rattle.wi_values.specs.Address.{Area}
 use Rattle.wi_scenarios.specs.declared.refusal.Refusal.{Refusal}
 use Rattle.wi_scenarios.specs.State.{State}
@@ -9,6 +9,7 @@ use Rattle.wi_scenarios.specs.Clear.{clear_step}
 use Rattle.wi_scenarios.specs.Fill.{fill_step}
 use Rattle.wi_scenarios.specs.Show.{show_step}
 use Rattle.wi_scenarios.specs.Export.{export_step}
+use Rattle.wi_scenarios.specs.Table.{table_step}
 use Rattle.wi_scenarios.specs.Formula.{formula_step}
 
 -- A command, or a line that is refused whatever the state is. An edit says whether it is forced, which counts for nothing
@@ -19,6 +20,7 @@ pub data Command : Type 0 where
   Fill : Bool → ℕ → Area → Command
   Show : Area → Command
   Export : Area → Command
+  Table : ℕ → ℕ → Area → Option (ℕ × Area) → Command
   Formula : ℕ → Command
   Refused : Refusal → Command
 
@@ -29,6 +31,7 @@ IsStep s (Clear force area) a = clear_step s area ≡ a
 IsStep s (Fill force from area) a = fill_step s from area ≡ a
 IsStep s (Show area) a = show_step s area ≡ a
 IsStep s (Export area) a = export_step s area ≡ a
+IsStep s (Table f r xs second) a = table_step s f r xs second ≡ a
 IsStep s (Formula at) a = formula_step s at ≡ a
 IsStep s (Refused e) a = Err e ≡ a
 

@@ -9,6 +9,7 @@ pub mod laws;
 mod refusal;
 mod set;
 mod show;
+mod table;
 mod texts;
 mod workbook;
 

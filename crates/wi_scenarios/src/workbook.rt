@@ -3,7 +3,7 @@
 ghost use Rattle.std.specs.Prelude.{◌≡◌, ◌++◌, ℕ, List, [], IfOk};
 ghost use Rattle.wi_scenarios.specs.State.{state_of};
 ghost use Rattle.wi_scenarios.specs.Answer.{Serves};
-ghost use Rattle.wi_scenarios.specs.Step.{Set, Clear, Fill, Show, Export, Formula, IsStep};
+ghost use Rattle.wi_scenarios.specs.Step.{Set, Clear, Fill, Show, Export, Table, Formula, IsStep};
 
 use crate::clear::clear;
 use crate::export::export;
@@ -12,6 +12,7 @@ use crate::formula::formula;
 use crate::refusal::Refusal;
 use crate::set::set;
 use crate::show::show;
+use crate::table::{DataTable, table};
 use std::alloc::{AllocError, Global};
 use std::marker::Model;
 use wi_propagate::Calculator;
@@ -94,6 +95,31 @@ impl<C: Calculator> Workbook<C> {
             × Serves (IsStep self.old (Export area)) result self.old self.new records }
     {
         export(self.alloc, &mut self.calculator, area, out)
+    }
+
+    /// Appends the records of a table: for each cell X of a column its shown text, and what the formula cell shows if the
+    /// input had the value of X. With a second input, and a row of cells, one entry for each cell Y of the row, beside X, if
+    /// the second input had the value of Y too; above them stands a record with an empty field and the shown texts of the row.
+    /// A column or a row that is none is refused as `BadCommand`. Each entry costs as much as the formulas that depend on the
+    /// inputs, as far as the formula cell reads them.
+    pub fn table(
+        &mut self,
+        formula_cell: Address,
+        input: Address,
+        column: Rect,
+        second: Option<(Address, Rect)>,
+        out: &mut Vec<u8>,
+    ) -> Result<(), Refusal>
+        ensures { (records : List ℕ) × (out.new.items ≡ out.old.items ++ records)
+            × Serves (IsStep self.old (Table formula_cell input column second)) result self.old self.new records }
+    {
+        let asked = DataTable {
+            formula_cell,
+            input,
+            column,
+            second,
+        };
+        table(self.alloc, &mut self.calculator, &asked, out)
     }
 
     /// Appends a record: a cell's address and its content, which is a formula as printed, a text after an apostrophe,
