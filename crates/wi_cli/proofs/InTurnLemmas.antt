@@ -69,8 +69,11 @@ pub in_turn_not_begun : {L R : Type 0} (left₁ : L → Option (List ℕ)) (fail
     → r ≡ Err Memory → (last : State) × RunInTurn left₁ failed₁ left₂ failed₂ r one one two two new_state last given given
 unfolding is_read
 in_turn_not_begun left₁ failed₁ left₂ failed₂ r one two given e =
-    rw e (new_state, in_turn_stopped left₁ failed₁ left₂ failed₂ Memory one one two new_state new_state given given
-        ([], [], Consumes-nil (left₁ one), Appends-nil given, (refl, refl, refl)) (λ i. absurd (false≢true (ap is_read i))) (λ i. refl))
+    rw e (
+      new_state,
+      in_turn_stopped left₁ failed₁ left₂ failed₂ Memory one one two new_state new_state given given
+          ([], [], Consumes-nil (left₁ one), Appends-nil given, (refl, refl, refl)) (λ i. absurd (false≢true (ap is_read i))) (λ i. refl),
+    )
 
 -- on a new workbook
 pub in_turn_new : {L R : Type 0} (left₁ : L → Option (List ℕ)) (failed₁ : L → Bool) (left₂ : R → Option (List ℕ)) (failed₂ : R → Bool) (r r' : Result (Unit {0}) RunFault) (one one' : L) (two two' : R) (s t : State) (given given' : Option (List ℕ))

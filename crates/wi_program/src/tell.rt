@@ -28,7 +28,10 @@ pub fn tell_ending<R: Eprint>(rt: &R, ending: Ending) -> u8 {
 /// Tells why a file can't be opened.
 pub fn tell_unopened<R: Eprint>(rt: &R, path: &str, error: &io::Error) -> u8 {
     let fault = RunFault::Read;
-    let _ = eprintln!(rt; "whatif: {path} can't be opened, {error}; {}", advice(&fault));
+    let _ = eprintln!(rt;
+        "whatif: {path} can't be opened, {error}; {}",
+        advice(&fault)
+    );
     fault_status(&fault)
 }
 
@@ -46,6 +49,8 @@ pub fn tell_unread<R: Print + Eprint>(rt: &R, error: &io::Error) -> u8 {
     if error.kind() == ErrorKind::OutOfMemory {
         return tell_fault(rt, &OptionsFault::Memory);
     }
-    let _ = eprintln!(rt; "whatif: a word is no UTF-8; name the file in UTF-8, or give it as standard input");
+    let _ = eprintln!(rt;
+        "whatif: a word is no UTF-8; name the file in UTF-8, or give it as standard input"
+    );
     USAGE
 }
