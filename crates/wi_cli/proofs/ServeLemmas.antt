@@ -26,6 +26,8 @@ may (read.Clear area) s h = h
 may (read.Fill from area) s h = h
 may (read.Show area) s h = h
 may (read.Export area) s h = h
+may (read.Table f r xs) s h = h
+may (read.TableOfTwo f r xs c ys) s h = h
 may (read.Formula at) s h = h
 
 refuses : (e : Refusal) (d : ReadCommand) (s : State) → answer.MayRefuse e (IsStep s (command_of d)) → RefusedAs e s (command_of d)

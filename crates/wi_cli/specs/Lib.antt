@@ -1,5 +1,7 @@
 pub mod Lines
 pub mod Words
+pub mod Operands
+pub mod TableCommand
 pub mod Script
 pub mod Reply
 pub mod Run

@@ -11,6 +11,7 @@ use Rattle.wi_scenarios.specs.Answer.{operand_refusal}
 use Rattle.wi_scenarios.specs.Step.{Command, Set, Clear, Fill, Show, Export, Formula, Refused}
 use Rattle.wi_cli.specs.Lines.{raw_lines, without_lf, without_cr, is_whole}
 use Rattle.wi_cli.specs.Words.{first_word, after_word, is_all_spaces}
+use Rattle.wi_cli.specs.TableCommand.{table_command}
 
 -- ---- one command each
 
@@ -86,8 +87,9 @@ named_command name operands =
     else (if bytes_eq name (codes "fill") then fill_command operands
     else (if bytes_eq name (codes "show") then show_command operands
     else (if bytes_eq name (codes "export") then export_command operands
+    else (if bytes_eq name (codes "table") then table_command operands
     else (if bytes_eq name (codes "formula") then formula_command operands
-    else Refused BadCommand)))))
+    else Refused BadCommand))))))
 
 -- the command that a text spells
 unfoldable pub spelled_command : List ℕ → Command

@@ -6,6 +6,7 @@ ghost use Rattle.wi_cli.specs.Script.{is_comment, set_command, clear_command, fi
 ghost use Rattle.wi_cli.specs.Inner.Spelling.{IsCommandOf, IsLineOf};
 
 use crate::lines::MAX_LINE;
+use crate::table_command::read_table;
 use crate::words::{is_all_spaces, split_word};
 use wi_scenarios::Refusal;
 use wi_values::{Address, AddressFault, Rect};
@@ -13,12 +14,38 @@ use wi_values::{Address, AddressFault, Rect};
 /// A command with its operands.
 #[derive(Clone, Copy)]
 pub enum Command<'a> {
-    Set { at: Address, content: &'a str },
-    Clear { area: Rect },
-    Fill { from: Address, area: Rect },
-    Show { area: Rect },
-    Export { area: Rect },
-    Formula { at: Address },
+    Set {
+        at: Address,
+        content: &'a str,
+    },
+    Clear {
+        area: Rect,
+    },
+    Fill {
+        from: Address,
+        area: Rect,
+    },
+    Show {
+        area: Rect,
+    },
+    Export {
+        area: Rect,
+    },
+    Table {
+        formula_cell: Address,
+        input: Address,
+        column: Rect,
+    },
+    TableOfTwo {
+        formula_cell: Address,
+        input: Address,
+        column: Rect,
+        second: Address,
+        row: Rect,
+    },
+    Formula {
+        at: Address,
+    },
 }
 
 /// `set ADDR CONTENT`, where CONTENT is all after the one space that follows ADDR.
@@ -120,6 +147,7 @@ pub fn read_command(text: &str) -> Result<Command<'_>, Refusal>
         "fill" => read_fill(operands),
         "show" => read_show(operands),
         "export" => read_export(operands),
+        "table" => read_table(operands),
         "formula" => read_formula(operands),
         _ => Err(Refusal::BadCommand),
     }

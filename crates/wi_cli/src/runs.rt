@@ -38,6 +38,18 @@ fn execute<C: Calculator>(
         Command::Fill { from, area } => book.fill(from, area, false),
         Command::Show { area } => book.show(area, out),
         Command::Export { area } => book.export(area, out),
+        Command::Table {
+            formula_cell,
+            input,
+            column,
+        } => book.table(formula_cell, input, column, None, out),
+        Command::TableOfTwo {
+            formula_cell,
+            input,
+            column,
+            second,
+            row,
+        } => book.table(formula_cell, input, column, Some((second, row)), out),
         Command::Formula { at } => book.formula_text(at, out),
     }
 }

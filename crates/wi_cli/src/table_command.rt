@@ -1,0 +1,99 @@
+//! The command `table`, as it is read.
+
+ghost use Rattle.std.specs.Prelude.{◌≡◌};
+ghost use Rattle.wi_cli.specs.TableCommand.{table_of_one, table_of_two, table_behind, table_command};
+ghost use Rattle.wi_cli.specs.Inner.Spelling.{IsCommandOf};
+
+use crate::command::Command;
+use crate::operands::{column_fault, row_fault, worse};
+use crate::words::{is_all_spaces, split_word};
+use wi_scenarios::Refusal;
+use wi_values::{Address, AddressFault, Rect};
+
+type OneCell = Result<Address, AddressFault>;
+
+type Cells = Result<Rect, AddressFault>;
+
+/// `table F R XCOLUMN` and `table F R XCOLUMN C YROW`.
+pub fn read_table(operands: &str) -> Result<Command<'_>, Refusal>
+    ensures { IsCommandOf (table_command operands.now) result }
+{
+    let (formula_cell, others) = split_word(operands);
+    let (input, others) = split_word(others);
+    let (column, more) = split_word(others);
+    table_behind(
+        Address::read(formula_cell.as_bytes()),
+        Address::read(input.as_bytes()),
+        Rect::read(column.as_bytes()),
+        more,
+    )
+}
+
+/// The table of these operands and of what stands behind them: nothing, or a second input and a row.
+fn table_behind(
+    formula_cell: OneCell,
+    input: OneCell,
+    column: Cells,
+    more: &str,
+) -> Result<Command<'_>, Refusal>
+    ensures { IsCommandOf (table_behind formula_cell input column more.now) result }
+{
+    if is_all_spaces(more) {
+        return table_of_one(formula_cell, input, column);
+    }
+    let (second, others) = split_word(more);
+    let (row, others) = split_word(others);
+    if !is_all_spaces(others) {
+        return Err(Refusal::BadCommand);
+    }
+    table_of_two(
+        formula_cell,
+        input,
+        column,
+        Address::read(second.as_bytes()),
+        Rect::read(row.as_bytes()),
+    )
+}
+
+/// The table of one input.
+fn table_of_one<'a>(
+    formula_cell: OneCell,
+    input: OneCell,
+    column: Cells,
+) -> Result<Command<'a>, Refusal>
+    ensures { IsCommandOf (table_of_one formula_cell input column) result }
+{
+    let fault = worse(formula_cell.err(), worse(input.err(), column_fault(column)));
+    if let Some(fault) = fault {
+        return Err(Refusal::from(fault));
+    }
+    Ok(Command::Table {
+        formula_cell: formula_cell?,
+        input: input?,
+        column: column?,
+    })
+}
+
+/// The table of two inputs.
+fn table_of_two<'a>(
+    formula_cell: OneCell,
+    input: OneCell,
+    column: Cells,
+    second: OneCell,
+    row: Cells,
+) -> Result<Command<'a>, Refusal>
+    ensures { IsCommandOf (table_of_two formula_cell input column second row) result }
+{
+    let others = worse(column_fault(column), worse(second.err(), row_fault(row)));
+    let fault = worse(formula_cell.err(), worse(input.err(), others));
+    if let Some(fault) = fault {
+        return Err(Refusal::from(fault));
+    }
+    Ok(Command::TableOfTwo {
+        formula_cell: formula_cell?,
+        input: input?,
+        column: column?,
+        second: second?,
+        row: row?,
+    })
+}
