@@ -1,0 +1,3 @@
+pub mod RowLemmas
+pub mod TextLemmas
+pub mod TableLemmas

@@ -1,0 +1,51 @@
+-- The record of a row, and the records of rows, as they grow.
+use Rattle.std.proofs.Common.{◌≡◌, ℕ, zero, suc, add-one, ◌+◌, ◌-◌, List, [], ◌∷◌, ◌++◌, map, sym, ap, ◌∙◌, arith, Result, Ok, Err, OnOk, OnErr, subst}
+use Rattle.std.specs.Io.{StartsWith}
+use Rattle.std.specs.List.{flat_map, range_with_len}
+use Rattle.std.proofs.lemmas.List.{flat_map_more}
+use Rattle.wi_values.specs.Address.{Area, cells_of_row}
+use Rattle.wi_values.specs.declared.replacement.Replacement.{Replacement}
+use Rattle.wi_store.specs.Store.{Stored}
+use Rattle.wi_csv.specs.Row as csv
+use Rattle.wi_csv.proofs.Growth.{starts_itself, starts_more}
+use Rattle.wi_reports.specs.Rows.{row_shown}
+
+-- what is appended, or nothing
+pub grown : {E : Type 0} (r : Result (Unit {0}) E) (before more next : List ℕ) → OnOk r (next ≡ before ++ more) → OnErr r (next ≡ before) → StartsWith next before
+grown (Ok u) before more next h k = subst (λ xs. StartsWith xs before) (sym h) (starts_more before more before (starts_itself before))
+grown (Err e) before more next h k = subst (λ xs. StartsWith xs before) (sym k) (starts_itself before)
+
+-- one more number of a range
+range_more : (a n j : ℕ) → a + n ≡ j → range_with_len a (suc n) ≡ range_with_len a n ++ j ∷ []
+range_more a zero j e = let same : a ≡ j = omega arith in ap (λ x. x ∷ []) same
+range_more a (suc n) j e = ap (λ xs. a ∷ xs) (range_more (a + 1) n j (omega arith))
+
+-- the record of a row
+pub row_done : {X E : Type 0} (bytes : X → List ℕ) (r : Result (Unit {0}) E) (f : ℕ → List ℕ) (cells : List ℕ) (none lent written : List X) (before next : List ℕ)
+    → none ≡ [] → lent ≡ written → map bytes written ≡ map bytes none ++ map f cells → OnOk r (next ≡ before ++ csv.row (map bytes lent)) → OnOk r (next ≡ before ++ csv.row (map f cells))
+row_done bytes (Ok u) f cells none lent written before next e same h k =
+    k ∙ ap (λ ts. before ++ csv.row ts) (ap (map bytes) same ∙ h ∙ ap (λ xs. map bytes xs ++ map f cells) e)
+row_done bytes (Err x) f cells none lent written before next e same h k = tt
+
+-- one more row
+pub rows_more : (put : List Replacement) (stored stored' : Stored) (area : Area) (first n m r : ℕ) (out before next : List ℕ) → first + n ≡ r → m ≡ n + 1 → stored' ≡ stored
+    → out ≡ before ++ flat_map (row_shown stored.sheet put area) (range_with_len first n) → next ≡ out ++ row_shown stored'.sheet put area r
+    → next ≡ before ++ flat_map (row_shown stored.sheet put area) (range_with_len first m)
+rows_more put stored stored' area first n m r out before next e more_is same h k =
+    let f = row_shown stored.sheet put area in
+    let more : range_with_len first (n + 1) ≡ range_with_len first n ++ r ∷ [] = ap (range_with_len first) (add-one n) ∙ range_more first n r e in
+    k ∙ ap (λ (x : Stored). out ++ row_shown x.sheet put area r) same ∙ ap (λ x. x ++ f r) h ∙ flat_map_more f before (range_with_len first n) r
+    ∙ ap (λ xs. before ++ flat_map f xs) (sym more) ∙ ap (λ x. before ++ flat_map f (range_with_len first x)) (sym more_is)
+
+-- ---- the cells of a rectangle, row after row
+
+-- the cells of the first rows
+abbrev pub rows_from : Area → ℕ → ℕ → List ℕ
+rows_from area first n = flat_map (λ r. cells_of_row r area) (range_with_len first n)
+
+-- one more row
+pub one_row : (area : Area) (first n m row : ℕ) → first + n ≡ row → m ≡ n + 1 → rows_from area first m ≡ rows_from area first n ++ cells_of_row row area
+one_row area first n m row e more =
+    let g : ℕ → List ℕ = λ r. cells_of_row r area in
+    ap (λ (k : ℕ). flat_map g (range_with_len first k)) (more ∙ add-one n)
+    ∙ ap (flat_map g) (range_more first n row e) ∙ sym (flat_map_more g [] (range_with_len first n) row)

@@ -1,0 +1,55 @@
+-- The records of a table, as they grow.
+use Rattle.std.proofs.Common.{◌≡◌, ℕ, ◌+◌, ◌-◌, true, List, [], ◌∷◌, ◌++◌, map, Option, Result, Ok, Err, OnOk, refl, sym, ap, ◌∙◌, arith}
+use Rattle.std.specs.List.{flat_map, range_with_len}
+use Rattle.std.proofs.lemmas.List.{append-nil, flat_map_more}
+use Rattle.std.proofs.lemmas.Bool.{eqb-true}
+use Rattle.wi_values.specs.Address.{Area, place, row_of, column_of, cells_of, cells_of_row}
+use Rattle.wi_values.specs.declared.replacement.Replacement.{Replacement}
+use Rattle.wi_store.specs.Store.{Stored}
+use Rattle.wi_csv.specs.Row.{row}
+use Rattle.wi_reports.specs.Table.{table_row, is_column, is_row}
+use Rattle.wi_reports.proofs.RowLemmas.{rows_from, one_row}
+
+-- ---- rectangles of one row
+
+row_alone : (area : Area) (r : ℕ) → row_of area.last ≡ r → row_of area.first ≡ r → cells_of area ≡ cells_of_row r area
+row_alone area r last first =
+    ap (λ x. flat_map (λ row. cells_of_row row area) (range_with_len (row_of area.first) ((x + 1) - row_of area.first))) last
+    ∙ ap (λ x. flat_map (λ row. cells_of_row row area) (range_with_len x ((r + 1) - x))) first
+    ∙ ap (λ n. flat_map (λ row. cells_of_row row area) (range_with_len r n)) (let one : (r + 1) - r ≡ 1 = omega arith in one)
+    ∙ append-nil (cells_of_row r area)
+
+pub only_row : (area : Area) → is_row area ≡ true → cells_of area ≡ cells_of_row (row_of area.first) area
+only_row area h = row_alone area (row_of area.first) (sym (eqb-true (row_of area.first) (row_of area.last) h)) refl
+
+-- ---- records
+
+-- the first text and those after it
+pub after_first : {X : Type 0} (bytes : X → List ℕ) (none firsts written : List X) (text : X) (one : List ℕ) (more : List (List ℕ)) → none ≡ [] → firsts ≡ none ++ text ∷ [] → bytes text ≡ one
+    → map bytes written ≡ map bytes firsts ++ more → map bytes written ≡ one ∷ more
+after_first bytes none firsts written text one more empty first is all =
+    let begun : map bytes firsts ≡ one ∷ [] = ap (map bytes) (first ∙ ap (λ xs. xs ++ text ∷ []) empty) ∙ ap (λ t. t ∷ []) is in
+    all ∙ ap (λ ts. ts ++ more) begun
+
+-- the record of texts
+pub written_as : {X E : Type 0} (bytes : X → List ℕ) (r : Result (Unit {0}) E) (fields : List (List ℕ)) (lent written : List X) (before next : List ℕ)
+    → lent ≡ written → map bytes written ≡ fields → OnOk r (next ≡ before ++ row (map bytes lent)) → OnOk r (next ≡ before ++ row fields)
+written_as bytes (Ok u) fields lent written before next same h k = k ∙ ap (λ ts. before ++ row ts) (ap (map bytes) same ∙ h)
+written_as bytes (Err x) fields lent written before next same h k = tt
+
+-- one more cell of a column
+column_more : (area : Area) (first n m r c at : ℕ) → is_column area ≡ true → c ≡ column_of area.first → first + n ≡ r → m ≡ n + 1 → at ≡ place r c → rows_from area first m ≡ rows_from area first n ++ at ∷ []
+column_more area first n m r c at one is e more place_is =
+    let same : column_of area.last ≡ column_of area.first = sym (eqb-true (column_of area.first) (column_of area.last) one) in
+    let width : (column_of area.last + 1) - column_of area.first ≡ 1 = omega (arith, same) in
+    let cells : cells_of_row r area ≡ at ∷ [] =
+    ap (λ k. map (place r) (range_with_len (column_of area.first) k)) width ∙ ap (λ x. place r x ∷ []) (sym is) ∙ ap (λ x. x ∷ []) (sym place_is) in
+    one_row area first n m r e more ∙ ap (λ xs. rows_from area first n ++ xs) cells
+
+pub rows_more : (put : List Replacement) (stored stored' : Stored) (f input : ℕ) (second : Option (ℕ × Area)) (area : Area) (first n m r c at : ℕ) (out before next : List ℕ) → is_column area ≡ true → c ≡ column_of area.first
+    → first + n ≡ r → m ≡ n + 1 → at ≡ place r c → stored' ≡ stored → out ≡ before ++ flat_map (table_row stored.sheet put f input second) (rows_from area first n)
+    → next ≡ out ++ table_row stored'.sheet put f input second at → next ≡ before ++ flat_map (table_row stored.sheet put f input second) (rows_from area first m)
+rows_more put stored stored' f input second area first n m r c at out before next one is e more place_is same h k =
+    let g = table_row stored.sheet put f input second in
+    k ∙ ap (λ (x : Stored). out ++ table_row x.sheet put f input second at) same ∙ ap (λ x. x ++ g at) h ∙ flat_map_more g before (rows_from area first n) at
+    ∙ ap (λ xs. before ++ flat_map g xs) (sym (column_more area first n m r c at one is e more place_is))

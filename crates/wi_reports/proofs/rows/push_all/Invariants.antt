@@ -1,0 +1,16 @@
+use Rattle.std.proofs.Common.{◌≡◌, ◌≤◌, ◌+◌, ◌-◌, ◌++◌}
+use Rattle.std.specs.Io.{StartsWith}
+use Rattle.std.specs.List.{flat_map, range_with_len}
+use Rattle.wi_reports.specs.Rows.{row_shown}
+use Rattle.wi_reports.proofs.rows.push_all.Given as goal
+
+-- the records before this row are written
+abbrev pub invariant-loop-row : goal.invariant-loop-row
+invariant-loop-row g l =
+    let stored = g.C.Calculator.stored in
+    record {
+      within : l.row ≤ l.first + (l.row-end - l.first);
+      same : stored l.calculator ≡ stored l.fn.calculator;
+      written : l.out.items ≡ l.fn.out.items ++ flat_map (row_shown (stored l.fn.calculator).sheet l.fn.put l.fn.area) (range_with_len l.first (l.row - l.first));
+      kept : StartsWith l.out.items l.fn.out.items;
+    }

@@ -1,0 +1,16 @@
+use Rattle.std.proofs.Common.{◌≡◌, ◌≤◌, ◌+◌, ◌-◌, ◌++◌, map}
+use Rattle.std.specs.Prelude.{string_bytes}
+use Rattle.wi_reports.specs.Table.{entry_text, pairs_at}
+use Rattle.wi_reports.proofs.TextLemmas.{texts}
+use Rattle.wi_reports.proofs.table.push_row_entries.Given as goal
+
+-- the texts of the entries before this column are there
+abbrev pub invariant-loop-column : goal.invariant-loop-column
+invariant-loop-column g l =
+    let stored = g.C.Calculator.stored in
+    record {
+      within : l.column ≤ l.first + (l.column-end - l.first);
+      same : stored l.calculator ≡ stored l.fn.calculator;
+      texts : map string_bytes l.texts.items ≡ map string_bytes l.fn.texts.items
+          ++ texts (λ y. entry_text (stored l.fn.calculator).sheet l.fn.put l.fn.table.formula_cell (pairs_at l.fn.table.input l.fn.x l.fn.second y)) l.row l.first (l.column - l.first);
+    }

@@ -1,0 +1,18 @@
+use Rattle.std.proofs.Common.{◌≡◌, ◌≤◌, ◌+◌, ◌-◌, ◌++◌}
+use Rattle.std.specs.Io.{StartsWith}
+use Rattle.std.specs.List.{flat_map}
+use Rattle.wi_reports.specs.Table.{table_row}
+use Rattle.wi_reports.proofs.RowLemmas.{rows_from}
+use Rattle.wi_reports.proofs.table.push_rows.Given as goal
+
+-- the records before this row are written
+abbrev pub invariant-loop-row : goal.invariant-loop-row
+invariant-loop-row g l =
+    let stored = g.C.Calculator.stored in
+    let table = l.fn.table in
+    record {
+      within : l.row ≤ l.first + (l.row-end - l.first);
+      same : stored l.calculator ≡ stored l.fn.calculator;
+      written : l.out.items ≡ l.fn.out.items ++ flat_map (table_row (stored l.fn.calculator).sheet l.fn.put table.formula_cell table.input table.second) (rows_from table.column l.first (l.row - l.first));
+      kept : StartsWith l.out.items l.fn.out.items;
+    }

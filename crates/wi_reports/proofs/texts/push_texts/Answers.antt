@@ -1,0 +1,25 @@
+use Rattle.std.proofs.Common.{◌+◌, ◌-◌, ◌∙◌, arith}
+use Rattle.std.specs.Prelude.{string_bytes}
+use Rattle.wi_reports.specs.Rows.{text_under}
+use Rattle.wi_reports.proofs.TextLemmas.{one_text, all_texts}
+use Rattle.wi_reports.proofs.texts.push_texts.Goals as goal
+
+pub loop-column-preserved : goal.loop-column-preserved
+loop-column-preserved g c =
+    let old = c.loop-column.invariant in
+    let first = c.column-first.result in
+    let column = c.loop-column.column in
+    record {
+      within = omega arith;
+      same = c.in_ok-text_under.ensures.same ∙ old.same;
+      texts = one_text string_bytes (λ s. text_under s.sheet c.args.put.now) _ _ _ c.args.row first (column - first) (column + 1 - first) column c.at.result _ _ c.in_ok-text_under.field-0 (omega arith) (omega arith) old.same c.at.ensures
+          old.texts c.in_ok-text_under.ensures.text c.in_ok-push.ensures.items;
+    }
+
+pub returns-clause-texts : goal.returns-clause-texts
+returns-clause-texts g c =
+    let first = c.column-first.result in
+    let last = c.column-column-end.result in
+    let column = c.loop-column.column in
+    all_texts (text_under (g.C.Calculator.stored c.args.calculator.now).sheet c.args.put.now) c.args.area c.args.row _ first _ last (column - first) _ _
+    c.first.ensures c.column-first.ensures.value c.last.ensures c.column-column-end.ensures.value (omega arith) c.loop-column.invariant.texts

@@ -1,0 +1,15 @@
+use Rattle.std.proofs.Common.{◌≡◌, ◌≤◌, ◌+◌, ◌-◌, ◌++◌, map}
+use Rattle.std.specs.Prelude.{string_bytes}
+use Rattle.wi_reports.specs.Rows.{text_under}
+use Rattle.wi_reports.proofs.TextLemmas.{texts}
+use Rattle.wi_reports.proofs.texts.push_texts.Given as goal
+
+-- the texts before this column are there
+abbrev pub invariant-loop-column : goal.invariant-loop-column
+invariant-loop-column g l =
+    let stored = g.C.Calculator.stored in
+    record {
+      within : l.column ≤ l.first + (l.column-end - l.first);
+      same : stored l.calculator ≡ stored l.fn.calculator;
+      texts : map string_bytes l.texts.items ≡ map string_bytes l.fn.texts.items ++ texts (text_under (stored l.fn.calculator).sheet l.fn.put) l.row l.first (l.column - l.first);
+    }

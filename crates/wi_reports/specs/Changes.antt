@@ -1,0 +1,23 @@
+-- What has changed, a record for each cell: its address, and the kind and the text of the value that it has now.
+use Rattle.std.specs.Prelude.{ℕ, List, [], ◌∷◌, codes}
+use Rattle.std.specs.List.{flat_map}
+use Rattle.wi_values.specs.Address.{address_text}
+use Rattle.wi_values.specs.Value.{shown_text}
+use Rattle.wi_values.specs.declared.value.Value.{Value}
+use Rattle.wi_values.specs.declared.value.Value.TheVariants.{Empty, Number, Text, Logical, Fault}
+use Rattle.wi_csv.specs.Row.{row}
+
+-- the letter of a value's kind: N a number, T a text, L a truth value, E an error; and a minus for Empty
+abbrev pub kind_text : Value → List ℕ
+kind_text Empty = codes "-"
+kind_text (Number x) = codes "N"
+kind_text (Text t) = codes "T"
+kind_text (Logical b) = codes "L"
+kind_text (Fault e) = codes "E"
+
+abbrev pub change_record : ℕ × Value → List ℕ
+change_record e = row (address_text e.0 ∷ kind_text e.1 ∷ shown_text e.1 ∷ [])
+
+-- the records of a list of changes
+abbrev pub change_records : List (ℕ × Value) → List ℕ
+change_records es = flat_map change_record es

@@ -1,0 +1,39 @@
+-- The cells of a rectangle whose values under two lists of replacements differ, a record for each.
+use Rattle.std.specs.Prelude.{ℕ, if◌then◌else◌, List, [], ◌∷◌, Option, Some, None}
+use Rattle.std.specs.List.{flat_map}
+use Rattle.wi_fraction.specs.Number.{Number as Numbers}
+use Rattle.wi_fraction.specs.Arithmetic.{sum_of, negated}
+use Rattle.wi_fraction.specs.Text.{text_of}
+use Rattle.wi_values.specs.Address.{Area, cells_of, address_text}
+use Rattle.wi_values.specs.Value.{shown_text, error_name}
+use Rattle.wi_values.specs.declared.value.Value.{Value}
+use Rattle.wi_values.specs.declared.value.Value.TheVariants.{Number}
+use Rattle.wi_values.specs.declared.value.ErrorKind.TheVariants.{BadNumber}
+use Rattle.wi_values.specs.declared.replacement.Replacement.{Replacement}
+use Rattle.wi_parser.specs.Sheet.{Sheet}
+use Rattle.wi_sheet.specs.Shown.{shown}
+use Rattle.wi_sessions.specs.Pictures.{same_value}
+use Rattle.wi_csv.specs.Row.{row}
+
+-- a number's text, or the error's name where there is none
+abbrev pub number_text : Option Numbers → List ℕ
+number_text None = error_name BadNumber
+number_text (Some x) = text_of x
+
+-- the second less the first, where both are numbers, else an empty text
+abbrev pub difference_text : Value → Value → List ℕ
+difference_text (Number x) (Number y) = number_text (sum_of y (negated x))
+difference_text v w = []
+
+-- a cell's address, the first value, the second, and their difference; nothing where the values are one
+abbrev pub difference_record : ℕ → Value → Value → List ℕ
+difference_record a v w =
+    if same_value v w then [] else row (address_text a ∷ shown_text v ∷ shown_text w ∷ difference_text v w ∷ [])
+
+-- the record of a cell
+abbrev pub cell_compared : Sheet → List Replacement → List Replacement → ℕ → List ℕ
+cell_compared sheet p q a = difference_record a (shown sheet p a) (shown sheet q a)
+
+-- the records of a rectangle, in row-major order
+abbrev pub cells_compared : Sheet → List Replacement → List Replacement → Area → List ℕ
+cells_compared sheet p q area = flat_map (cell_compared sheet p q) (cells_of area)

@@ -1,0 +1,6 @@
+pub mod Rows
+pub mod Export
+pub mod Table
+pub mod Contents
+pub mod Compare
+pub mod Changes

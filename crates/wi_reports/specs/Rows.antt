@@ -1,0 +1,21 @@
+-- The shown texts of a rectangle, a record for each row.
+use Rattle.std.specs.Prelude.{ℕ, List, map}
+use Rattle.std.specs.List.{flat_map}
+use Rattle.wi_values.specs.Address.{Area, rows_in, cells_of_row}
+use Rattle.wi_values.specs.Value as value
+use Rattle.wi_values.specs.declared.replacement.Replacement.{Replacement}
+use Rattle.wi_parser.specs.Sheet.{Sheet}
+use Rattle.wi_sheet.specs.Shown as cell
+use Rattle.wi_csv.specs.Row.{row}
+
+-- the text that a cell shows under replacements
+abbrev pub text_under : Sheet → List Replacement → ℕ → List ℕ
+text_under sheet put c = value.shown_text (cell.shown sheet put c)
+
+-- the record of one row of a rectangle
+abbrev pub row_shown : Sheet → List Replacement → Area → ℕ → List ℕ
+row_shown sheet put area r = row (map (text_under sheet put) (cells_of_row r area))
+
+-- the records of a rectangle
+abbrev pub rows_shown : Sheet → List Replacement → Area → List ℕ
+rows_shown sheet put area = flat_map (row_shown sheet put area) (rows_in area)

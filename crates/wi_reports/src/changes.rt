@@ -1,0 +1,104 @@
+//! What has changed since a picture, and a record for each change.
+
+ghost use Rattle.std.specs.Prelude.{◌≡◌, ◌++◌, [], IfOk, OnOk, OnErr};
+ghost use Rattle.std.specs.Io.{StartsWith};
+ghost use Rattle.wi_values.specs.Replacements.{IsInOrder};
+ghost use Rattle.wi_sheet.specs.Shown as show;
+ghost use Rattle.wi_sessions.specs.Pictures.{changes_among};
+ghost use Rattle.wi_reports.specs.Changes.{kind_text, change_record, change_records};
+
+use crate::texts::{address_text, shown_text};
+use std::alloc::{AllocError, Global};
+use wi_csv::push_record;
+use wi_propagate::Calculator;
+use wi_sessions::Picture;
+use wi_values::{Address, Replacement, Value};
+
+/// Those of some cells whose value under replacements isn't the picture's, each with its value, in the order in which they are
+/// given. The replacements stand in the order of their addresses, one for each. Each cell is valued once, by the calculator;
+/// where there is none nothing is.
+pub fn find_changes<C: Calculator>(
+    alloc: Global,
+    calculator: &mut C,
+    put: &[Replacement],
+    picture: &Picture,
+    cells: &[Address],
+) -> Result<Vec<(Address, Value)>, AllocError>
+    requires { IsInOrder put.now }
+    ensures found { let shown = show.shown (C.stored calculator.old).sheet put.now in
+        IfOk result (λ found. found.items ≡ changes_among cells.now picture.now shown) }
+    ensures same { C.stored calculator.new ≡ C.stored calculator.old }
+    ensures quiet { cells.now ≡ []
+        → (C.evaluated calculator.new ≡ C.evaluated calculator.old) × (C.restarted calculator.new ≡ C.restarted calculator.old) }
+{
+    let mut found = Vec::new(alloc);
+    for at in cells {
+        let value = calculator.value(put, *at)?;
+        if !picture.has(*at, &value) {
+            found.push((*at, value))?;
+        }
+    }
+    Ok(found)
+}
+
+/// Appends the records of changes, in their order: the address, the letter of the value's kind, and the text that it shows. On
+/// an error the bytes are as before. The work grows with the length of the records.
+pub fn push_changes(
+    alloc: Global,
+    changes: &[(Address, Value)],
+    out: &mut Vec<u8>,
+) -> Result<(), AllocError>
+    ensures ok { OnOk result (out.new.items ≡ out.old.items ++ change_records changes.now) }
+    ensures err { OnErr result (out.new.items ≡ out.old.items) }
+{
+    let before = out.len();
+    let pushed = push_all(alloc, changes, out);
+    if pushed.is_err() {
+        out.truncate(before);
+    }
+    pushed
+}
+
+/// Appends the records of changes. On an error a part of them may be there.
+fn push_all(
+    alloc: Global,
+    changes: &[(Address, Value)],
+    out: &mut Vec<u8>,
+) -> Result<(), AllocError>
+    ensures ok { OnOk result (out.new.items ≡ out.old.items ++ change_records changes.now) }
+    ensures kept { StartsWith out.new.items out.old.items }
+{
+    for change in changes {
+        push_change(alloc, change, out)?;
+    }
+    Ok(())
+}
+
+/// Appends the record of a change. On an error the bytes are as before.
+#[tactic(auto, using(crate::proofs::RowLemmas::grown))]
+fn push_change(
+    alloc: Global,
+    change: &(Address, Value),
+    out: &mut Vec<u8>,
+) -> Result<(), AllocError>
+    ensures ok { OnOk result (out.new.items ≡ out.old.items ++ change_record change.now) }
+    ensures kept { StartsWith out.new.items out.old.items }
+{
+    let (at, value) = change;
+    let address = address_text(alloc, *at)?;
+    let text = shown_text(alloc, value)?;
+    push_record(&[address.as_str(), kind_text(value), text.as_str()], out)
+}
+
+/// The letter of a value's kind.
+fn kind_text(value: &Value) -> &'static str
+    ensures { result.now ≡ kind_text value.now }
+{
+    match value {
+        Value::Empty => "-",
+        Value::Number(_) => "N",
+        Value::Text(_) => "T",
+        Value::Logical(_) => "L",
+        Value::Fault(_) => "E",
+    }
+}

@@ -1,0 +1,157 @@
+//! The cells of a rectangle whose values under two lists of replacements differ, a record for each.
+
+ghost use Rattle.std.specs.Prelude.{◌≡◌, ◌++◌, ◌<◌, IfOk, OnOk, OnErr, string_bytes};
+ghost use Rattle.std.specs.List.{flat_map};
+ghost use Rattle.std.specs.Io.{StartsWith};
+ghost use Rattle.wi_values.specs.Address.{rows, cells_of_row};
+ghost use Rattle.wi_values.specs.Replacements.{IsInOrder};
+ghost use Rattle.wi_values.specs.Value.{shown_text};
+ghost use Rattle.wi_fraction.specs.Arithmetic.{sum_of, negated};
+ghost use Rattle.wi_reports.specs.Compare.{number_text, difference_text, difference_record, cell_compared, cells_compared};
+
+use crate::texts::{address_text, shown_text};
+use std::alloc::{AllocError, Global};
+use wi_csv::push_record;
+use wi_fraction::Fraction;
+use wi_propagate::Calculator;
+use wi_sessions::same;
+use wi_values::{Address, ErrorKind, Rect, Replacement, Value};
+
+/// Appends a record for each cell of a rectangle whose values under two lists of replacements differ, in row-major order: the
+/// address, the first value, the second, and the second less the first where both are numbers. Each list stands in the order of
+/// its addresses, one for each. On an error the bytes are as before. Each cell is valued twice, by the calculator; beside that
+/// the work grows with the length of the two texts of each cell.
+pub fn push_comparison<C: Calculator>(
+    alloc: Global,
+    calculator: &mut C,
+    first: &[Replacement],
+    second: &[Replacement],
+    area: Rect,
+    out: &mut Vec<u8>,
+) -> Result<(), AllocError>
+    requires first { IsInOrder first.now }
+    requires second { IsInOrder second.now }
+    ensures ok { let records = cells_compared (C.stored calculator.old).sheet first.now second.now area in
+        OnOk result (out.new.items ≡ out.old.items ++ records) }
+    ensures err { OnErr result (out.new.items ≡ out.old.items) }
+    ensures same { C.stored calculator.new ≡ C.stored calculator.old }
+{
+    let before = out.len();
+    let pushed = push_all(alloc, calculator, first, second, area, out);
+    if pushed.is_err() {
+        out.truncate(before);
+    }
+    pushed
+}
+
+/// Appends the records of a rectangle. On an error a part of them may be there.
+fn push_all<C: Calculator>(
+    alloc: Global,
+    calculator: &mut C,
+    first: &[Replacement],
+    second: &[Replacement],
+    area: Rect,
+    out: &mut Vec<u8>,
+) -> Result<(), AllocError>
+    requires first { IsInOrder first.now }
+    requires second { IsInOrder second.now }
+    ensures ok { let records = cells_compared (C.stored calculator.old).sheet first.now second.now area in
+        OnOk result (out.new.items ≡ out.old.items ++ records) }
+    ensures kept { StartsWith out.new.items out.old.items }
+    ensures same { C.stored calculator.new ≡ C.stored calculator.old }
+{
+    let top = area.first().row();
+    for row in top..area.last().row() + 1 {
+        push_row(alloc, calculator, first, second, row, area, out)?;
+    }
+    Ok(())
+}
+
+/// Appends the records of one row of a rectangle. On an error a part of them may be there.
+fn push_row<C: Calculator>(
+    alloc: Global,
+    calculator: &mut C,
+    first: &[Replacement],
+    second: &[Replacement],
+    row: u32,
+    area: Rect,
+    out: &mut Vec<u8>,
+) -> Result<(), AllocError>
+    requires first { IsInOrder first.now }
+    requires second { IsInOrder second.now }
+    requires within { row < rows }
+    ensures ok { let compared = cell_compared (C.stored calculator.old).sheet first.now second.now in
+        OnOk result (out.new.items ≡ out.old.items ++ flat_map compared (cells_of_row row area)) }
+    ensures kept { StartsWith out.new.items out.old.items }
+    ensures same { C.stored calculator.new ≡ C.stored calculator.old }
+{
+    let left = area.first().column();
+    for column in left..area.last().column() + 1 {
+        let at = Address::at(row, column);
+        push_cell(alloc, calculator, first, second, at, out)?;
+    }
+    Ok(())
+}
+
+/// Appends the record of a cell; nothing where its two values are one. On an error the bytes are as before.
+#[tactic(auto, using(crate::proofs::RowLemmas::grown))]
+fn push_cell<C: Calculator>(
+    alloc: Global,
+    calculator: &mut C,
+    first: &[Replacement],
+    second: &[Replacement],
+    at: Address,
+    out: &mut Vec<u8>,
+) -> Result<(), AllocError>
+    requires first { IsInOrder first.now }
+    requires second { IsInOrder second.now }
+    ensures ok { let compared = cell_compared (C.stored calculator.old).sheet first.now second.now at in
+        OnOk result (out.new.items ≡ out.old.items ++ compared) }
+    ensures kept { StartsWith out.new.items out.old.items }
+    ensures same { C.stored calculator.new ≡ C.stored calculator.old }
+{
+    let before = calculator.value(first, at)?;
+    let after = calculator.value(second, at)?;
+    push_difference(alloc, at, &before, &after, out)
+}
+
+/// Appends the record of a cell with these two values; nothing where they are one. On an error the bytes are as before.
+fn push_difference(
+    alloc: Global,
+    at: Address,
+    first: &Value,
+    second: &Value,
+    out: &mut Vec<u8>,
+) -> Result<(), AllocError>
+    ensures ok { OnOk result (out.new.items ≡ out.old.items ++ difference_record at first.now second.now) }
+    ensures err { OnErr result (out.new.items ≡ out.old.items) }
+{
+    if same(first, second) {
+        return Ok(());
+    }
+    let address = address_text(alloc, at)?;
+    let before = shown_text(alloc, first)?;
+    let after = shown_text(alloc, second)?;
+    let difference = difference_text(alloc, first, second)?;
+    push_record(&[address, before, after, difference], out)
+}
+
+/// The text of the second value less the first, where both are numbers; else an empty one.
+fn difference_text(alloc: Global, first: &Value, second: &Value) -> Result<String, AllocError>
+    ensures { IfOk result (λ text. string_bytes text ≡ difference_text first.now second.now) }
+{
+    match (first, second) {
+        (Value::Number(x), Value::Number(y)) => shown_text(alloc, &difference(*x, *y)),
+        _ => Ok(String::new(alloc)),
+    }
+}
+
+/// The second number less the first, or `BadNumber` where it doesn't fit.
+fn difference(first: Fraction, second: Fraction) -> Value
+    ensures { shown_text result ≡ number_text (sum_of second (negated first)) }
+{
+    match second.checked_sub(first) {
+        Ok(number) => Value::Number(number),
+        Err(_) => Value::Fault(ErrorKind::BadNumber),
+    }
+}

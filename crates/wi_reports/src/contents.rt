@@ -1,0 +1,69 @@
+//! A cell's address, and its content as a text.
+
+ghost use Rattle.std.specs.Prelude.{◌≡◌, ◌++◌, Some, OnOk, OnErr, string_bytes};
+ghost use Rattle.wi_parser.specs.Sheet.{content_of};
+ghost use Rattle.wi_reports.specs.Contents.{constant_text, content_text, content_record};
+
+use crate::texts::address_text;
+use std::alloc::{AllocError, Global};
+use wi_csv::push_record;
+use wi_parser::Content;
+use wi_propagate::Calculator;
+use wi_values::{Address, Value};
+
+/// Appends the record of a cell: its address and its content, as it would be typed. On an error the bytes are as before.
+/// The work is that of a look at the sheet, and grows with the length of the record.
+pub fn push_content<C: Calculator>(
+    alloc: Global,
+    calculator: &C,
+    at: Address,
+    out: &mut Vec<u8>,
+) -> Result<(), AllocError>
+    ensures ok { OnOk result (out.new.items ≡ out.old.items ++ content_record (C.stored calculator.now).sheet at) }
+    ensures err { OnErr result (out.new.items ≡ out.old.items) }
+{
+    let address = address_text(alloc, at)?;
+    let mut content = String::new(alloc);
+    push_content_of(calculator, at, &mut content)?;
+    push_record(&[address.as_str(), content.as_str()], out)
+}
+
+/// Appends what stands in a cell.
+fn push_content_of<C: Calculator>(
+    calculator: &C,
+    at: Address,
+    text: &mut String,
+) -> Result<(), AllocError>
+    ensures { OnOk result (string_bytes text.new ≡ string_bytes text.old ++ content_text (content_of (C.stored calculator.now).sheet at)) }
+{
+    match calculator.content(at) {
+        Some(content) => push_content_text(content, text),
+        None => Ok(()),
+    }
+}
+
+/// Appends a content.
+fn push_content_text(content: &Content, text: &mut String) -> Result<(), AllocError>
+    ensures { OnOk result (string_bytes text.new ≡ string_bytes text.old ++ content_text (Some content.now)) }
+{
+    match content {
+        Content::Constant(value) => push_constant(value, text),
+        Content::Formula(formula) => formula.print(text),
+    }
+}
+
+/// Appends a constant.
+fn push_constant(value: &Value, text: &mut String) -> Result<(), AllocError>
+    ensures { OnOk result (string_bytes text.new ≡ string_bytes text.old ++ constant_text value.now) }
+{
+    match value {
+        Value::Text(bytes) => {
+            text.push_str("'")?;
+            text.push_str(bytes.as_str())
+        }
+        Value::Empty => value.push_shown(text),
+        Value::Number(_) => value.push_shown(text),
+        Value::Logical(_) => value.push_shown(text),
+        Value::Fault(_) => value.push_shown(text),
+    }
+}

@@ -1,0 +1,77 @@
+//! The shown texts of a rectangle, a record for each row.
+
+ghost use Rattle.std.specs.Prelude.{◌≡◌, ◌++◌, ◌<◌, OnOk, OnErr};
+ghost use Rattle.std.specs.Io.{StartsWith};
+ghost use Rattle.wi_values.specs.Address.{rows};
+ghost use Rattle.wi_values.specs.Replacements.{IsInOrder};
+ghost use Rattle.wi_reports.specs.Rows.{row_shown, rows_shown};
+
+use crate::texts::push_texts;
+use std::alloc::{AllocError, Global};
+use wi_csv::push_record;
+use wi_propagate::Calculator;
+use wi_values::{Rect, Replacement};
+
+/// Appends the texts that a rectangle shows under replacements, which stand in the order of their addresses, one for each:
+/// a record for each row. On an error the bytes are as before. Each cell is valued once, by the calculator; beside that the
+/// work grows with the length of the records.
+pub fn push_rows<C: Calculator>(
+    alloc: Global,
+    calculator: &mut C,
+    put: &[Replacement],
+    area: Rect,
+    out: &mut Vec<u8>,
+) -> Result<(), AllocError>
+    requires { IsInOrder put.now }
+    ensures ok { OnOk result (out.new.items ≡ out.old.items ++ rows_shown (C.stored calculator.old).sheet put.now area) }
+    ensures err { OnErr result (out.new.items ≡ out.old.items) }
+    ensures same { C.stored calculator.new ≡ C.stored calculator.old }
+{
+    let before = out.len();
+    let pushed = push_all(alloc, calculator, put, area, out);
+    if pushed.is_err() {
+        out.truncate(before);
+    }
+    pushed
+}
+
+/// Appends the records of all rows of a rectangle. On an error a part of them may be there.
+fn push_all<C: Calculator>(
+    alloc: Global,
+    calculator: &mut C,
+    put: &[Replacement],
+    area: Rect,
+    out: &mut Vec<u8>,
+) -> Result<(), AllocError>
+    requires { IsInOrder put.now }
+    ensures ok { OnOk result (out.new.items ≡ out.old.items ++ rows_shown (C.stored calculator.old).sheet put.now area) }
+    ensures kept { StartsWith out.new.items out.old.items }
+    ensures same { C.stored calculator.new ≡ C.stored calculator.old }
+{
+    let first = area.first().row();
+    for row in first..area.last().row() + 1 {
+        push_row(alloc, calculator, put, row, area, out)?;
+    }
+    Ok(())
+}
+
+/// Appends the record of one row of a rectangle. On an error the bytes are as before.
+#[tactic(auto, using(crate::proofs::RowLemmas::grown))]
+fn push_row<C: Calculator>(
+    alloc: Global,
+    calculator: &mut C,
+    put: &[Replacement],
+    row: u32,
+    area: Rect,
+    out: &mut Vec<u8>,
+) -> Result<(), AllocError>
+    requires order { IsInOrder put.now }
+    requires within { row < rows }
+    ensures ok { OnOk result (out.new.items ≡ out.old.items ++ row_shown (C.stored calculator.old).sheet put.now area row) }
+    ensures kept { StartsWith out.new.items out.old.items }
+    ensures same { C.stored calculator.new ≡ C.stored calculator.old }
+{
+    let mut texts = Vec::new(alloc);
+    push_texts(alloc, calculator, put, row, area, &mut texts)?;
+    push_record(&texts, out)
+}

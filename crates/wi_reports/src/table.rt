@@ -1,0 +1,293 @@
+//! A data table: the value of a formula cell for each cell of a column, or of a column and a row, in the place of inputs.
+
+ghost use Rattle.std.specs.Prelude.{◌≡◌, ◌++◌, ◌∷◌, ◌&&◌, ℕ, true, [], map, nat_le, IfOk, OnOk, OnErr, string_bytes};
+ghost use Rattle.std.specs.List.{flat_map};
+ghost use Rattle.std.specs.Io.{StartsWith};
+ghost use Rattle.wi_values.specs.Address.{row_of, cells_of, cells_of_row};
+ghost use Rattle.wi_values.specs.Replacements.{IsInOrder};
+ghost use Rattle.wi_csv.specs.Row.{row};
+ghost use Rattle.wi_reports.specs.Rows.{text_under};
+ghost use Rattle.wi_reports.specs.Table as spec;
+
+use crate::texts::{push_texts, shown_text, text_under};
+use std::alloc::{AllocError, Global};
+use wi_csv::push_record;
+use wi_propagate::Calculator;
+use wi_values::{Address, Rect, Replacement};
+
+/// What a data table is made of.
+#[derive(Clone, Copy)]
+pub struct DataTable {
+    /// The cell whose value stands in each entry, as it is with the inputs replaced.
+    pub formula_cell: Address,
+    /// The cell whose place those of the column take.
+    pub input: Address,
+    /// The cells whose values take the input's place, one below the other.
+    pub column: Rect,
+    /// A second input, and the cells whose values take its place, side by side.
+    pub second: Option<(Address, Rect)>,
+}
+
+impl DataTable {
+    /// Whether the column is one, and the row too, where there is one.
+    pub fn is_shaped(&self) -> bool
+        ensures { result ≡ (spec.is_column self.now.column && spec.has_row self.now.second) }
+    {
+        is_column(self.column) && self.has_row()
+    }
+
+    /// Whether there are at most so many entries. The head and the texts of the column don't count.
+    pub fn is_within(&self, most: u64) -> bool
+        ensures { result ≡ nat_le (spec.entries self.now.column self.now.second) most }
+    {
+        match self.column.size().checked_mul(self.width()) {
+            Some(entries) => entries <= most,
+            None => false,
+        }
+    }
+
+    /// Whether the cells for a second input stand in one row, where there is one.
+    fn has_row(&self) -> bool
+        ensures { result ≡ spec.has_row self.now.second }
+    {
+        match self.second {
+            None => true,
+            Some((_, cells)) => is_row(cells),
+        }
+    }
+
+    /// How many entries stand beside a cell of the column.
+    fn width(&self) -> u64
+        ensures { result ≡ spec.width self.now.second }
+    {
+        match self.second {
+            None => 1,
+            Some((_, cells)) => cells.size(),
+        }
+    }
+}
+
+/// Whether all cells of a rectangle stand in one column.
+fn is_column(area: Rect) -> bool
+    ensures { result ≡ spec.is_column area }
+{
+    area.first().column() == area.last().column()
+}
+
+/// Whether all cells of a rectangle stand in one row.
+fn is_row(area: Rect) -> bool
+    ensures { result ≡ spec.is_row area }
+{
+    area.first().row() == area.last().row()
+}
+
+/// Appends the records of a data table under replacements, which stand in the order of their addresses, one for each: one for
+/// each cell of the column, its text and the entries beside it, under a head with the texts of the row where there is one.
+/// On an error the bytes are as before. Each cell of the column and of the row is valued once, and each entry once, by the
+/// calculator; beside that the work grows with the length of the records.
+pub fn push_table<C: Calculator>(
+    alloc: Global,
+    calculator: &mut C,
+    put: &[Replacement],
+    table: &DataTable,
+    out: &mut Vec<u8>,
+) -> Result<(), AllocError>
+    requires order { IsInOrder put.now }
+    requires shaped { (spec.is_column table.now.column && spec.has_row table.now.second) ≡ true }
+    ensures ok { let sheet = (C.stored calculator.old).sheet in
+        let records = spec.table_of sheet put.now table.now.formula_cell table.now.input table.now.column table.now.second in
+        OnOk result (out.new.items ≡ out.old.items ++ records) }
+    ensures err { OnErr result (out.new.items ≡ out.old.items) }
+    ensures same { C.stored calculator.new ≡ C.stored calculator.old }
+{
+    let before = out.len();
+    let pushed = push_all(alloc, calculator, put, table, out);
+    if pushed.is_err() {
+        out.truncate(before);
+    }
+    pushed
+}
+
+/// Appends the records of a table. On an error a part of them may be there.
+fn push_all<C: Calculator>(
+    alloc: Global,
+    calculator: &mut C,
+    put: &[Replacement],
+    table: &DataTable,
+    out: &mut Vec<u8>,
+) -> Result<(), AllocError>
+    requires order { IsInOrder put.now }
+    requires shaped { (spec.is_column table.now.column && spec.has_row table.now.second) ≡ true }
+    ensures ok { let sheet = (C.stored calculator.old).sheet in
+        let records = spec.table_of sheet put.now table.now.formula_cell table.now.input table.now.column table.now.second in
+        OnOk result (out.new.items ≡ out.old.items ++ records) }
+    ensures kept { StartsWith out.new.items out.old.items }
+    ensures same { C.stored calculator.new ≡ C.stored calculator.old }
+{
+    if let Some((_, cells)) = table.second {
+        push_head(alloc, calculator, put, cells, out)?;
+    }
+    push_rows(alloc, calculator, put, table, out)
+}
+
+/// Appends the record above a table of two inputs: an empty field, and the texts of the row. On an error the bytes are as
+/// before.
+fn push_head<C: Calculator>(
+    alloc: Global,
+    calculator: &mut C,
+    put: &[Replacement],
+    cells: Rect,
+    out: &mut Vec<u8>,
+) -> Result<(), AllocError>
+    requires { IsInOrder put.now }
+    ensures ok { let text = text_under (C.stored calculator.old).sheet put.now in
+        OnOk result (out.new.items ≡ out.old.items ++ row ([] ∷ map text (cells_of_row (row_of cells.first) cells))) }
+    ensures kept { StartsWith out.new.items out.old.items }
+    ensures same { C.stored calculator.new ≡ C.stored calculator.old }
+{
+    let row = cells.first().row();
+    let mut texts = Vec::new(alloc);
+    texts.push(String::new(alloc))?;
+    push_texts(alloc, calculator, put, row, cells, &mut texts)?;
+    push_record(&texts, out)
+}
+
+/// Appends the records of all cells of the column. On an error a part of them may be there.
+fn push_rows<C: Calculator>(
+    alloc: Global,
+    calculator: &mut C,
+    put: &[Replacement],
+    table: &DataTable,
+    out: &mut Vec<u8>,
+) -> Result<(), AllocError>
+    requires order { IsInOrder put.now }
+    requires column { spec.is_column table.now.column ≡ true }
+    requires row { spec.has_row table.now.second ≡ true }
+    ensures ok { let sheet = (C.stored calculator.old).sheet in
+        let row = spec.table_row sheet put.now table.now.formula_cell table.now.input table.now.second in
+        OnOk result (out.new.items ≡ out.old.items ++ flat_map row (cells_of table.now.column)) }
+    ensures kept { StartsWith out.new.items out.old.items }
+    ensures same { C.stored calculator.new ≡ C.stored calculator.old }
+{
+    let column = table.column.first().column();
+    let first = table.column.first().row();
+    for row in first..table.column.last().row() + 1 {
+        push_row(alloc, calculator, put, table, Address::at(row, column), out)?;
+    }
+    Ok(())
+}
+
+/// Appends the record of a cell of the column: its text, and the entries beside it. On an error the bytes are as before.
+fn push_row<C: Calculator>(
+    alloc: Global,
+    calculator: &mut C,
+    put: &[Replacement],
+    table: &DataTable,
+    x: Address,
+    out: &mut Vec<u8>,
+) -> Result<(), AllocError>
+    requires order { IsInOrder put.now }
+    requires row { spec.has_row table.now.second ≡ true }
+    ensures ok { let sheet = (C.stored calculator.old).sheet in
+        OnOk result (out.new.items ≡ out.old.items
+        ++ spec.table_row sheet put.now table.now.formula_cell table.now.input table.now.second x) }
+    ensures kept { StartsWith out.new.items out.old.items }
+    ensures same { C.stored calculator.new ≡ C.stored calculator.old }
+{
+    let mut texts = Vec::new(alloc);
+    texts.push(text_under(alloc, calculator, put, x)?)?;
+    push_entries(alloc, calculator, put, table, x, &mut texts)?;
+    push_record(&texts, out)
+}
+
+/// Appends the texts of the entries beside a cell of the column.
+fn push_entries<C: Calculator>(
+    alloc: Global,
+    calculator: &mut C,
+    put: &[Replacement],
+    table: &DataTable,
+    x: Address,
+    texts: &mut Vec<String>,
+) -> Result<(), AllocError>
+    requires order { IsInOrder put.now }
+    requires row { spec.has_row table.now.second ≡ true }
+    ensures texts { let sheet = (C.stored calculator.old).sheet in
+        let entries = spec.entries_beside sheet put.now table.now.formula_cell table.now.input table.now.second x in
+        OnOk result (map string_bytes texts.new.items ≡ map string_bytes texts.old.items ++ entries) }
+    ensures same { C.stored calculator.new ≡ C.stored calculator.old }
+{
+    match table.second {
+        None => {
+            let pairs = [(table.input, x)];
+            texts.push(entry_text(alloc, calculator, put, table.formula_cell, &pairs)?)?;
+            Ok(())
+        }
+        Some((second, cells)) => {
+            push_row_entries(alloc, calculator, put, table, x, second, cells, texts)
+        }
+    }
+}
+
+/// Appends the texts of the entries beside a cell of the column, for each cell of a row.
+fn push_row_entries<C: Calculator>(
+    alloc: Global,
+    calculator: &mut C,
+    put: &[Replacement],
+    table: &DataTable,
+    x: Address,
+    second: Address,
+    cells: Rect,
+    texts: &mut Vec<String>,
+) -> Result<(), AllocError>
+    requires { IsInOrder put.now }
+    ensures texts { let sheet = (C.stored calculator.old).sheet in
+        let text = λ (y : ℕ). spec.entry_text sheet put.now table.now.formula_cell (spec.pairs_at table.now.input x second y) in
+        OnOk result (map string_bytes texts.new.items
+        ≡ map string_bytes texts.old.items ++ map text (cells_of_row (row_of cells.first) cells)) }
+    ensures same { C.stored calculator.new ≡ C.stored calculator.old }
+{
+    let row = cells.first().row();
+    let first = cells.first().column();
+    for column in first..cells.last().column() + 1 {
+        let y = Address::at(row, column);
+        texts.push(text_at(alloc, calculator, put, table, x, second, y)?)?;
+    }
+    Ok(())
+}
+
+/// The text of the entry for a cell of the column and one of the row.
+fn text_at<C: Calculator>(
+    alloc: Global,
+    calculator: &mut C,
+    put: &[Replacement],
+    table: &DataTable,
+    x: Address,
+    second: Address,
+    y: Address,
+) -> Result<String, AllocError>
+    requires { IsInOrder put.now }
+    ensures text { let sheet = (C.stored calculator.old).sheet in
+        IfOk result (λ text. string_bytes text
+        ≡ spec.entry_text sheet put.now table.now.formula_cell (spec.pairs_at table.now.input x second y)) }
+    ensures same { C.stored calculator.new ≡ C.stored calculator.old }
+{
+    let pairs = [(table.input, x), (second, y)];
+    entry_text(alloc, calculator, put, table.formula_cell, &pairs)
+}
+
+/// The text of an entry, for pairs of an input and the cell whose value takes its place.
+fn entry_text<C: Calculator>(
+    alloc: Global,
+    calculator: &mut C,
+    put: &[Replacement],
+    formula_cell: Address,
+    pairs: &[(Address, Address)],
+) -> Result<String, AllocError>
+    requires { IsInOrder put.now }
+    ensures text { let sheet = (C.stored calculator.old).sheet in
+        IfOk result (λ text. string_bytes text ≡ spec.entry_text sheet put.now formula_cell pairs.now) }
+    ensures same { C.stored calculator.new ≡ C.stored calculator.old }
+{
+    let value = calculator.what_if_value(put, formula_cell, pairs)?;
+    shown_text(alloc, &value)
+}

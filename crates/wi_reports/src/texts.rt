@@ -1,0 +1,66 @@
+//! The texts of values, cells and addresses.
+
+ghost use Rattle.std.specs.Prelude.{◌≡◌, ◌++◌, ◌∷◌, ◌<◌, [], map, IfOk, OnOk, string_bytes};
+ghost use Rattle.wi_values.specs.Address.{rows, cells_of_row, address_text};
+ghost use Rattle.wi_values.specs.Value.{shown_text};
+ghost use Rattle.wi_values.specs.Replacements.{IsInOrder};
+ghost use Rattle.wi_reports.specs.Rows.{text_under};
+
+use std::alloc::{AllocError, Global};
+use wi_propagate::Calculator;
+use wi_values::{Address, Rect, Replacement, Value};
+
+/// The text that is shown for a value.
+pub fn shown_text(alloc: Global, value: &Value) -> Result<String, AllocError>
+    ensures { IfOk result (λ text. string_bytes text ≡ shown_text value.now) }
+{
+    let mut text = String::new(alloc);
+    value.push_shown(&mut text)?;
+    Ok(text)
+}
+
+/// The text of an address.
+pub fn address_text(alloc: Global, at: Address) -> Result<String, AllocError>
+    ensures { IfOk result (λ text. string_bytes text ≡ address_text at) }
+{
+    let mut text = String::new(alloc);
+    at.push_text(&mut text)?;
+    Ok(text)
+}
+
+/// The text that a cell shows under replacements.
+pub fn text_under<C: Calculator>(
+    alloc: Global,
+    calculator: &mut C,
+    put: &[Replacement],
+    at: Address,
+) -> Result<String, AllocError>
+    requires { IsInOrder put.now }
+    ensures text { IfOk result (λ text. string_bytes text ≡ text_under (C.stored calculator.old).sheet put.now at) }
+    ensures same { C.stored calculator.new ≡ C.stored calculator.old }
+{
+    let value = calculator.value(put, at)?;
+    shown_text(alloc, &value)
+}
+
+/// Appends the texts that the cells of one row of a rectangle show under replacements.
+pub fn push_texts<C: Calculator>(
+    alloc: Global,
+    calculator: &mut C,
+    put: &[Replacement],
+    row: u32,
+    area: Rect,
+    texts: &mut Vec<String>,
+) -> Result<(), AllocError>
+    requires order { IsInOrder put.now }
+    requires within { row < rows }
+    ensures texts { OnOk result (map string_bytes texts.new.items ≡ map string_bytes texts.old.items
+        ++ map (text_under (C.stored calculator.old).sheet put.now) (cells_of_row row area)) }
+    ensures same { C.stored calculator.new ≡ C.stored calculator.old }
+{
+    let first = area.first().column();
+    for column in first..area.last().column() + 1 {
+        texts.push(text_under(alloc, calculator, put, Address::at(row, column))?)?;
+    }
+    Ok(())
+}
