@@ -1,0 +1,4 @@
+pub mod Fields
+pub mod Areas
+pub mod Imports
+pub mod Inner
