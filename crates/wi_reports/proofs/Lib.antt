@@ -1,3 +1,5 @@
 pub mod RowLemmas
 pub mod TextLemmas
 pub mod TableLemmas
+pub mod CompareLemmas
+pub mod Differences

@@ -1,0 +1,17 @@
+use Rattle.std.proofs.Common.{◌≡◌, ◌++◌, [], drop}
+use Rattle.wi_sheet.specs.Shown.{shown}
+use Rattle.wi_sessions.specs.Pictures.{changes_among}
+use Rattle.wi_reports.proofs.changes.find_changes.Given as goal
+
+-- what was found, with what is still to come, is all
+abbrev pub invariant-loop-at : goal.invariant-loop-at
+invariant-loop-at g l =
+    let stored = g.C.Calculator.stored in
+    let evaluated = g.C.Calculator.evaluated in
+    let restarted = g.C.Calculator.restarted in
+    let shown_now = shown (stored l.fn.calculator).sheet l.put in
+    record {
+      same : stored l.calculator ≡ stored l.fn.calculator;
+      found : l.found.items ++ changes_among (drop l.at-index l.cells) l.picture shown_now ≡ changes_among l.cells l.picture shown_now;
+      quiet : l.cells ≡ [] → (evaluated l.calculator ≡ evaluated l.fn.calculator) × (restarted l.calculator ≡ restarted l.fn.calculator);
+    }

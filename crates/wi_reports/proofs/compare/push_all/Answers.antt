@@ -1,0 +1,17 @@
+use Rattle.std.proofs.Common.{◌+◌, ◌-◌, ◌∙◌, arith}
+use Rattle.wi_csv.proofs.Growth.{starts_trans}
+use Rattle.wi_reports.specs.Compare.{cell_compared}
+use Rattle.wi_reports.proofs.CompareLemmas.{one_more_row}
+use Rattle.wi_reports.proofs.compare.push_all.Goals as goal
+
+pub loop-row-preserved : goal.loop-row-preserved
+loop-row-preserved g c =
+    let old = c.loop-row.invariant in
+    let top = c.row-top.result in
+    let row = c.loop-row.row in
+    record {
+      within = omega arith;
+      same = c.in_ok-push_row.ensures.same ∙ old.same;
+      written = one_more_row (λ s. cell_compared s.sheet c.args.first.now c.args.second.now) _ _ c.args.area top (row - top) (row + 1 - top) row _ _ _ (omega arith) (omega arith) old.same old.written c.in_ok-push_row.ensures.ok;
+      kept = starts_trans _ _ _ c.in_ok-push_row.ensures.kept old.kept;
+    }

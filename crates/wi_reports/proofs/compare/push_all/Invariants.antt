@@ -1,0 +1,17 @@
+use Rattle.std.proofs.Common.{◌≡◌, ◌≤◌, ◌+◌, ◌-◌, ◌++◌}
+use Rattle.std.specs.Io.{StartsWith}
+use Rattle.std.specs.List.{flat_map}
+use Rattle.wi_reports.specs.Compare.{cell_compared}
+use Rattle.wi_reports.proofs.RowLemmas.{rows_from}
+use Rattle.wi_reports.proofs.compare.push_all.Given as goal
+
+-- the records before this row are written
+abbrev pub invariant-loop-row : goal.invariant-loop-row
+invariant-loop-row g l =
+    let stored = g.C.Calculator.stored in
+    record {
+      within : l.row ≤ l.top + (l.row-end - l.top);
+      same : stored l.calculator ≡ stored l.fn.calculator;
+      written : l.out.items ≡ l.fn.out.items ++ flat_map (cell_compared (stored l.fn.calculator).sheet l.fn.first l.fn.second) (rows_from l.area l.top (l.row - l.top));
+      kept : StartsWith l.out.items l.fn.out.items;
+    }

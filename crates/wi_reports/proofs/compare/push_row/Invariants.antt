@@ -1,0 +1,17 @@
+use Rattle.std.proofs.Common.{◌≡◌, ◌≤◌, ◌+◌, ◌-◌, ◌++◌}
+use Rattle.std.specs.Io.{StartsWith}
+use Rattle.std.specs.List.{flat_map}
+use Rattle.wi_reports.specs.Compare.{cell_compared}
+use Rattle.wi_reports.proofs.CompareLemmas.{cells_in}
+use Rattle.wi_reports.proofs.compare.push_row.Given as goal
+
+-- the records before this column are written
+abbrev pub invariant-loop-column : goal.invariant-loop-column
+invariant-loop-column g l =
+    let stored = g.C.Calculator.stored in
+    record {
+      within : l.column ≤ l.left + (l.column-end - l.left);
+      same : stored l.calculator ≡ stored l.fn.calculator;
+      written : l.out.items ≡ l.fn.out.items ++ flat_map (cell_compared (stored l.fn.calculator).sheet l.fn.first l.fn.second) (cells_in l.row l.left (l.column - l.left));
+      kept : StartsWith l.out.items l.fn.out.items;
+    }
