@@ -1,5 +1,5 @@
 -- The text of a difference.
-use Rattle.std.proofs.Common.{◌≡◌, Option, Some, None, Result, Ok, Err, refl, ap}
+use Rattle.std.proofs.Common.{◌≡◌, Option, Some, None, Ok, Err, refl, ap}
 use Rattle.std.specs.Prelude.{ok_or}
 use Rattle.wi_fraction.specs.Number.{Number as Numbers}
 use Rattle.wi_fraction.specs.Text.{text_of}
