@@ -1,1 +1,3 @@
+pub mod AreaLemmas
+pub mod FieldLemmas
 pub mod ImportLemmas

@@ -19,7 +19,7 @@ pub enum ImportFault {
     /// A field is for a cell outside the sheet.
     #[error("a field is for a cell outside the sheet")]
     OutOfSheet,
-    /// A growth was refused.
+    /// A growth was refused, or `csv` refused for another cause, of which it has none over bytes in memory.
     #[error("there is no memory left")]
     Memory,
 }
@@ -41,5 +41,17 @@ impl<T: Drop> From<AllocFailed<T>> for ImportFault {
 
     fn from(_error: AllocFailed<T>) -> ImportFault {
         ImportFault::Memory
+    }
+}
+
+impl From<CsvFault> for ImportFault {
+    ghost use Rattle.wi_import.specs.declared.fault.ImportFault.TheVariants.{Memory};
+
+    ghost from_gives = { λ _ e. e ≡ Memory };
+
+    fn from(fault: CsvFault) -> ImportFault {
+        match fault {
+            CsvFault::Read | CsvFault::Memory => ImportFault::Memory,
+        }
     }
 }

@@ -6,9 +6,13 @@ ghost use Rattle.wi_import.specs.Fields.{fields_at};
 ghost use Rattle.wi_import.specs.Imports.{AreChanges, IsFault};
 ghost use Rattle.wi_import.specs.declared.fault.ImportFault.TheVariants.{Memory};
 
+use crate::areas::areas;
+use crate::changes::changes;
+use crate::checking::first_fault;
 use crate::fault::ImportFault;
 use crate::imported::Import;
 use std::alloc::Global;
+use wi_csv::records;
 use wi_values::Address;
 
 /// What an import of a CSV text puts into which cells, the first field of its first record into this cell: each record into
@@ -20,5 +24,11 @@ pub fn import(alloc: Global, at: Address, text: &[u8]) -> Result<Import, ImportF
     ensures named { IfOk result (λ i. i.named.items ≡ areas_at at text.now) }
     ensures fault { IfErr result (λ fault. fault ≢ Memory → IsFault (fields_at at text.now) fault) }
 {
-    Err(ImportFault::Memory)
+    let records = records(alloc, text)?;
+    if let Some(fault) = first_fault(at, &records) {
+        return Err(fault);
+    }
+    let changes = changes(alloc, at, &records)?;
+    let named = areas(alloc, at, &records)?;
+    Ok(Import { changes, named })
 }

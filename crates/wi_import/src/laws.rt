@@ -14,7 +14,6 @@ pub fn what_an_import_is()
 {}
 
 /// Fields are imported with some changes, or refused for some fault, and nothing else.
-#[tactic(auto, using(crate::proofs::ImportLemmas::some_import, crate::proofs::ImportLemmas::no_other))]
 pub fn one_import()
     ensures some { (fields : List Field) → (r : Result (List (ℕ × Option Content)) ImportFault) × IsImport fields r }
     ensures no_other { (fields : List Field) (r s : Result (List (ℕ × Option Content)) ImportFault) → IsImport fields r → IsImport fields s → r ≡ s }

@@ -1,9 +1,12 @@
 //! What an import of CSV text puts into which cells.
 #![tactic(auto)]
 
+mod areas;
+mod changes;
+mod checking;
 mod fault;
-mod importing;
 mod imported;
+mod importing;
 pub mod laws;
 
 pub use fault::ImportFault;

@@ -31,12 +31,13 @@ content_of bytes = content_for (field_value bytes)
 abbrev pub change_of : Field → ℕ × Option Content
 change_of f = (cell_of f, content_of f.bytes)
 
--- the first fault in order
+abbrev pub first_fault : Bool → Bool → Bool → Option ImportFault
+first_fault bad long outside = if bad then Some BadField else (if long then Some TooLong else (if outside then Some OutOfSheet else None))
+
+-- the first fault, in their order, that a field has
 abbrev pub fault_among : List Field → Option ImportFault
 fault_among fields =
-    if list_any (λ f. is_bad f.bytes) fields then Some BadField
-    else (if list_any (λ f. is_too_long f.bytes) fields then Some TooLong
-    else (if list_any is_outside fields then Some OutOfSheet else None))
+    first_fault (list_any (λ f. is_bad f.bytes) fields) (list_any (λ f. is_too_long f.bytes) fields) (list_any is_outside fields)
 
 abbrev pub unless_fault : Option ImportFault → List (ℕ × Option Content) → Result (List (ℕ × Option Content)) ImportFault
 unless_fault None changes = Ok changes

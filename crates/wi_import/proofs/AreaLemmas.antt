@@ -1,0 +1,58 @@
+-- The rectangles of records, as the code goes through them.
+use Rattle.std.proofs.Common.{◌≡◌, ◌==◌, ℕ, ◌+◌, ◌-◌, ◌<◌, ◌≤◌, min, max, List, [], ◌∷◌, ◌++◌, length, drop, get_or, Option, Some, None, false, refl, sym, ap, ◌∙◌, arith, Vec}
+use Rattle.std.specs.declared.alloc.Global.{Global}
+use Rattle.std.proofs.lemmas.List.{at_drop_more, length-map}
+use Rattle.wi_values.specs.Address.{Area, rows, columns, place, row_of, column_of, rect_of}
+use Rattle.wi_import.specs.Areas.{areas_from}
+use Rattle.wi_import.specs.Inner.Records.{bytes_of, all_bytes, area_of}
+
+abbrev pub area_before : Option Area → List Area → List Area
+area_before None areas = areas
+area_before (Some area) areas = area ∷ areas
+
+area_first : (row column : ℕ) (fields : List (List ℕ)) (more : List (List (List ℕ)))
+    → areas_from row column (fields ∷ more) ≡ area_before (area_of row column fields) (areas_from (row + 1) column more)
+area_first row column [] more = refl
+area_first row column (field ∷ others) more = refl
+
+-- the rectangles of what is left of the records
+abbrev pub areas_left : ℕ → ℕ → ℕ → List (Vec (Vec ℕ Global) Global) → List Area
+areas_left row column i records = areas_from (row + i) column (all_bytes (drop i records))
+
+pub next_area : (row column i : ℕ) (records : List (Vec (Vec ℕ Global) Global)) (fields : Vec (Vec ℕ Global) Global) → i < length records → fields ≡ get_or records i fields
+    → areas_left row column i records ≡ area_before (area_of (row + i) column (bytes_of fields.items)) (areas_left row column (i + 1) records)
+next_area row column i records r l e =
+    at_drop_more (λ rs. areas_from (row + i) column (all_bytes rs)) records i r l
+    ∙ ap (λ x. areas_from (row + i) column (bytes_of x.items ∷ all_bytes (drop (i + 1) records))) (sym e)
+    ∙ area_first (row + i) column (bytes_of r.items) (all_bytes (drop (i + 1) records))
+    ∙ ap (λ n. area_before (area_of (row + i) column (bytes_of r.items)) (areas_from n column (all_bytes (drop (i + 1) records)))) same
+  where
+    same : row + i + 1 ≡ row + (i + 1)
+    same = omega arith
+
+-- a part of a row, as a rectangle
+pub row_part : (row first more : ℕ) → first + more < columns
+    → rect_of (place row first) (place row (first + more)) ≡ record { first = place row first; last = place row (first + more) }
+row_part row first more h =
+    let a : row_of (place row first) ≡ row = omega (arith, h) in
+    let b : row_of (place row (first + more)) ≡ row = omega (arith, h) in
+    let c : column_of (place row first) ≡ first = omega (arith, h) in
+    let d : column_of (place row (first + more)) ≡ first + more = omega (arith, h) in
+    let least_row : min row row ≡ row = omega arith in
+    let most_row : max row row ≡ row = omega arith in
+    let least : min first (first + more) ≡ first = omega arith in
+    let most : max first (first + more) ≡ first + more = omega arith in
+    rw (a, b, c, d, least_row, most_row, least, most)
+
+abbrev area_to : ℕ → ℕ → ℕ → Area
+area_to row column more = record { first = place row column; last = place row (column + more) }
+
+-- the rectangle of a record of the code
+pub record_area : (row column : ℕ) (fields : List (Vec ℕ Global)) (first last : ℕ) (r : Area) → (length fields == 0) ≡ false → column + length fields ≤ columns
+    → first ≡ place row column → last ≡ place row (column + length fields - 1) → r ≡ rect_of first last → Some r ≡ area_of row column (bytes_of fields)
+record_area row column [] first last r some fits a b e = cc some
+record_area row column (f ∷ fs) first last r some fits a b e =
+    let sizes : column + length (f ∷ fs) - 1 ≡ column + length fs = omega arith in
+    let part = row_part row column (length fs) (omega (arith, fits)) in
+    ap Some (e ∙ ap (λ n. rect_of n last) a ∙ ap (rect_of (place row column)) (b ∙ ap (place row) sizes) ∙ part)
+    ∙ ap (λ n. Some (area_to row column n)) (sym (length-map fs (λ x. x.items)))

@@ -1,0 +1,258 @@
+-- The fields of records, as the code goes through them.
+use Rattle.std.proofs.Common.{◌≡◌, ◌==◌, ℕ, zero, suc, ◌+◌, ◌-◌, ◌<◌, ◌≤◌, nat_le, nat_lt, Bool, true, false, not, ◌||◌, if◌then◌else◌, List, [], ◌∷◌, ◌++◌, map, length, drop, get_or, Option, Some, None, is_some, Result, Ok, Err, MatchResult, is_ok, is_err, IsOk, refl, sym, ap, ◌∙◌, subst, arith, Vec, IsUtf8, codes}
+use Rattle.std.specs.declared.alloc.Global.{Global}
+use Rattle.std.specs.List.{list_any}
+use Rattle.std.specs.Str.{bytes_eq, is_utf8}
+use Rattle.std.proofs.lemmas.Bool.Decides.{nat_tests}
+use Rattle.std.proofs.lemmas.List.{map-append, at_drop_more, at_drop_all, length-map}
+use Rattle.std.proofs.lemmas.List.Folds.{list_any-append}
+use Rattle.std.proofs.lemmas.Slice.Eq.{bytes_eq-Decides}
+use Rattle.std.proofs.lemmas.Str.{IsUtf8-from_is_utf8, is_utf8-from_IsUtf8}
+use Rattle.wi_fraction.specs.Number.{Number as Numbers}
+use Rattle.wi_fraction.specs.Inner.Reading.{read}
+use Rattle.wi_values.specs.Address.{rows, columns}
+use Rattle.wi_values.specs.Import.{max_text}
+use Rattle.wi_values.specs.Inner.Import.{imported, number_or, words_value}
+use Rattle.wi_values.specs.declared.value.Value.{Value}
+use Rattle.wi_values.specs.declared.value.Value.TheVariants.{Text, Logical}
+use Rattle.wi_import.specs.Fields.{Field, fields_of, fields_from}
+use Rattle.wi_import.specs.Inner.Reading.{is_bad, is_too_long, is_outside, first_fault, fault_among}
+use Rattle.wi_import.specs.Inner.Records.{bytes_of, all_bytes, is_faulty}
+
+-- ---- tests of bytes alone
+
+pub any_map : {X Y : Type 0} (p : Y → Bool) (h : X → Y) (xs : List X) → list_any p (map h xs) ≡ list_any (λ x. p (h x)) xs
+any_map p h [] = refl
+any_map p h (x ∷ xs) = ap (λ b. p (h x) || b) (any_map p h xs)
+
+any_of_record : (q : List ℕ → Bool) (row column : ℕ) (fields : List (List ℕ)) → list_any (λ f. q f.bytes) (fields_of row column fields) ≡ list_any q fields
+any_of_record q row column [] = refl
+any_of_record q row column (x ∷ xs) = ap (λ b. q x || b) (any_of_record q row (column + 1) xs)
+
+pub any_of_records : (q : List ℕ → Bool) (row column : ℕ) (records : List (List (List ℕ)))
+    → list_any (λ f. q f.bytes) (fields_from row column records) ≡ list_any (λ fields. list_any q fields) records
+any_of_records q row column [] = refl
+any_of_records q row column (x ∷ xs) =
+    list_any-append (λ f. q f.bytes) (fields_of row column x) (fields_from (row + 1) column xs)
+    ∙ ap (λ b. b || list_any (λ f. q f.bytes) (fields_from (row + 1) column xs)) (any_of_record q row column x)
+    ∙ ap (λ b. list_any q x || b) (any_of_records q (row + 1) column xs)
+
+-- ---- outside the sheet
+
+last_outside : (column : ℕ) → nat_le columns column ≡ nat_lt columns (column + 1)
+last_outside column = grind (arith, nat_tests)
+
+or_false : (b : Bool) → (b || false) ≡ b
+or_false true = refl
+or_false false = refl
+
+either_outside : (a b c : Bool) (more : Bool) → more ≡ (a || c) → (b ≡ true → c ≡ true) → ((a || b) || more) ≡ (a || c)
+either_outside true b c more e f = refl
+either_outside false true c more e f = sym (f refl)
+either_outside false false c more e f = e
+
+-- a record of fields is outside where its row is, or its last column
+pub record_outside : (row column : ℕ) (field : List ℕ) (others : List (List ℕ))
+    → list_any is_outside (fields_of row column (field ∷ others)) ≡ (nat_le rows row || nat_lt columns (column + length (field ∷ others)))
+record_outside row column field [] =
+    or_false (nat_le rows row || nat_le columns column) ∙ ap (λ b. nat_le rows row || b) (last_outside column)
+record_outside row column field (x ∷ xs) =
+    let sizes : column + 1 + length (x ∷ xs) ≡ column + length (field ∷ x ∷ xs) = omega arith in
+    either_outside (nat_le rows row) (nat_le columns column) (nat_lt columns (column + length (field ∷ x ∷ xs)))
+        (list_any is_outside (fields_of row (column + 1) (x ∷ xs)))
+        (record_outside row (column + 1) x xs ∙ ap (λ n. nat_le rows row || nat_lt columns n) sizes)
+        (λ e. grind (arith, nat_tests, e))
+
+-- ---- no fault
+
+or_parts : (a b : Bool) → (a || b) ≡ false → (a ≡ false) × (b ≡ false)
+or_parts true b e = cc e
+or_parts false b e = (refl, e)
+
+or_both : (a b c d : Bool) → (a || b) ≡ false → (c || d) ≡ false → ((a || c) || (b || d)) ≡ false
+or_both true b c d e f = cc e
+or_both false true c d e f = cc e
+or_both false false true d e f = cc f
+or_both false false false true e f = cc f
+or_both false false false false e f = refl
+
+any_or : {X : Type 0} (p q : X → Bool) (xs : List X) → list_any p xs ≡ false → list_any q xs ≡ false → list_any (λ x. p x || q x) xs ≡ false
+any_or p q [] e f = refl
+any_or p q (x ∷ xs) e f =
+    let a = or_parts (p x) (list_any p xs) e in
+    let b = or_parts (q x) (list_any q xs) f in
+    ap (λ c. (c || q x) || list_any (λ y. p y || q y) xs) a.0 ∙ ap (λ c. c || list_any (λ y. p y || q y) xs) b.0 ∙ any_or p q xs a.1 b.1
+
+no_first : (a b c : Bool) → first_fault a b c ≡ None → (a ≡ false) × (b ≡ false) × (c ≡ false)
+no_first true b c e = cc e
+no_first false true c e = cc e
+no_first false false true e = cc e
+no_first false false false e = (refl, refl, refl)
+
+-- where there is no first fault, no field has one
+pub none_faulty : (fields : List Field) → fault_among fields ≡ None → list_any is_faulty fields ≡ false
+none_faulty fields e =
+    let h = no_first (list_any (λ f. is_bad f.bytes) fields) (list_any (λ f. is_too_long f.bytes) fields) (list_any is_outside fields) e in
+    any_or (λ f. is_bad f.bytes) (λ f. is_too_long f.bytes || is_outside f) fields h.0
+        (any_or (λ f. is_too_long f.bytes) is_outside fields h.1 h.2)
+
+pub none_outside : (fields : List Field) → fault_among fields ≡ None → list_any is_outside fields ≡ false
+none_outside fields e =
+    (no_first (list_any (λ f. is_bad f.bytes) fields) (list_any (λ f. is_too_long f.bytes) fields) (list_any is_outside fields) e).2
+
+pub not_faulty : (f : Field) → is_faulty f ≡ false → (is_bad f.bytes ≡ false) × (is_too_long f.bytes ≡ false) × (is_outside f ≡ false)
+not_faulty f e =
+    let h = or_parts (is_bad f.bytes) (is_too_long f.bytes || is_outside f) e in
+    let k = or_parts (is_too_long f.bytes) (is_outside f) h.1 in
+    (h.0, k.0, k.1)
+
+-- ---- one record, one field more
+
+-- the first fields fail a test, and the rest
+pub apart : (p : Field → Bool) (xs ys : List Field) → list_any p (xs ++ ys) ≡ false → (list_any p xs ≡ false) × (list_any p ys ≡ false)
+apart p xs ys e = or_parts (list_any p xs) (list_any p ys) (sym (list_any-append p xs ys) ∙ e)
+
+-- the fields of what is left of the records, from this one on
+abbrev pub fields_left : ℕ → ℕ → ℕ → List (Vec (Vec ℕ Global) Global) → List Field
+fields_left row column i records = fields_from (row + i) column (all_bytes (drop i records))
+
+pub next_record : (row column i : ℕ) (records : List (Vec (Vec ℕ Global) Global)) (fields : Vec (Vec ℕ Global) Global) → i < length records → fields ≡ get_or records i fields
+    → fields_left row column i records ≡ fields_of (row + i) column (bytes_of fields.items) ++ fields_left row column (i + 1) records
+next_record row column i records r l e =
+    at_drop_more (λ rs. fields_from (row + i) column (all_bytes rs)) records i r l
+    ∙ ap (λ x. fields_of (row + i) column (bytes_of x.items) ++ fields_from (row + i + 1) column (all_bytes (drop (i + 1) records))) (sym e)
+    ∙ ap (λ n. fields_of (row + i) column (bytes_of r.items) ++ fields_from n column (all_bytes (drop (i + 1) records))) same
+  where
+    same : row + i + 1 ≡ row + (i + 1)
+    same = omega arith
+
+-- the fields of what is left of a record, from this one on
+abbrev pub cells_left : ℕ → ℕ → ℕ → List (Vec ℕ Global) → List Field
+cells_left row column j fields = fields_of row (column + j) (bytes_of (drop j fields))
+
+-- a field of the code, in this row and column
+abbrev pub field_at : ℕ → ℕ → Vec ℕ Global → Field
+field_at row column field = record { row = row; column = column; bytes = field.items }
+
+pub next_field : (row column j : ℕ) (fields : List (Vec ℕ Global)) (field : Vec ℕ Global) → j < length fields → field ≡ get_or fields j field
+    → cells_left row column j fields ≡ field_at row (column + j) field ∷ cells_left row column (j + 1) fields
+next_field row column j fields f l e =
+    at_drop_more (λ fs. fields_of row (column + j) (bytes_of fs)) fields j f l
+    ∙ ap (λ x. field_at row (column + j) x ∷ fields_of row (column + j + 1) (bytes_of (drop (j + 1) fields))) (sym e)
+    ∙ ap (λ n. field_at row (column + j) f ∷ fields_of row n (bytes_of (drop (j + 1) fields))) same
+  where
+    same : column + j + 1 ≡ column + (j + 1)
+    same = omega arith
+
+-- ---- what the code finds of one field
+
+-- a field is bad where it isn't read as UTF-8
+pub utf8_found : {S E : Type 0} (bytes : List ℕ) (r : Result S E) (P : S → Type 0) (Q : E → Type 0) → MatchResult r P Q
+    → ((s : S) → P s → IsUtf8 bytes) → ((e : E) → Q e → IsUtf8 bytes → ⊥) → is_bad bytes ≡ not (is_ok r)
+utf8_found bytes (Ok s) P Q h f g = ap not (is_utf8-from_IsUtf8 bytes (f s h))
+utf8_found bytes (Err e) P Q h f g = unread (is_utf8 bytes) refl
+  where
+    unread : (b : Bool) → is_utf8 bytes ≡ b → not (is_utf8 bytes) ≡ true
+    unread true same = absurd (g e h (IsUtf8-from_is_utf8 bytes same))
+    unread false same = ap not same
+
+not_named : (text name : List ℕ) → length name < length text → (b : Bool) → bytes_eq text name ≡ b → bytes_eq text name ≡ false
+not_named text name longer true e = let sizes = ap length ((bytes_eq-Decides text name).0 e) in absurd (omega (arith, longer, sizes))
+not_named text name longer false e = e
+
+no_word : (a b c : Bool) (x y z : Value) → a ≡ false → b ≡ false → c ≡ true
+    → (if a then Some x else (if b then Some y else (if c then None else Some z))) ≡ None
+no_word a b c x y z e f g = rw (e, f, g)
+
+some_word : (a b c : Bool) (x y z : Value) → c ≡ false → is_some (if a then Some x else (if b then Some y else (if c then None else Some z))) ≡ true
+some_word true b c x y z e = refl
+some_word false true c x y z e = refl
+some_word false false true x y z e = cc e
+some_word false false false x y z e = refl
+
+words_long : (text : List ℕ) → max_text < length text → words_value text ≡ None
+words_long text long =
+    no_word (bytes_eq text (codes "TRUE")) (bytes_eq text (codes "FALSE")) (nat_lt max_text (length text)) (Logical true) (Logical false) (Text text)
+        (not_named text (codes "TRUE") (omega (arith, long)) (bytes_eq text (codes "TRUE")) refl)
+        (not_named text (codes "FALSE") (omega (arith, long)) (bytes_eq text (codes "FALSE")) refl)
+        (grind (arith, nat_tests, long))
+
+words_short : (text : List ℕ) → length text ≤ max_text → is_some (words_value text) ≡ true
+words_short text short =
+    some_word (bytes_eq text (codes "TRUE")) (bytes_eq text (codes "FALSE")) (nat_lt max_text (length text)) (Logical true) (Logical false) (Text text)
+        (grind (arith, nat_tests, short))
+
+number_or_none : (o : Option Numbers) (w : Option Value) → w ≡ None → is_some (number_or o w) ≡ is_some o
+number_or_none (Some x) w e = refl
+number_or_none None w e = ap is_some e
+
+number_or_some : (o : Option Numbers) (w : Option Value) → is_some w ≡ true → is_some (number_or o w) ≡ true
+number_or_some (Some x) w e = refl
+number_or_some None w e = e
+
+-- a field of many bytes is too long where it is no number
+pub long_unread : (text : List ℕ) → max_text < length text → is_too_long text ≡ not (is_some (read text))
+unfolding imported
+long_unread [] long = absurd (omega (arith, long))
+long_unread (b ∷ bs) long = ap not (number_or_none (read (b ∷ bs)) (words_value (b ∷ bs)) (words_long (b ∷ bs) long))
+
+pub short_fits : (text : List ℕ) → length text ≤ max_text → is_too_long text ≡ false
+unfolding imported
+short_fits [] short = refl
+short_fits (b ∷ bs) short = ap not (number_or_some (read (b ∷ bs)) (words_value (b ∷ bs)) (words_short (b ∷ bs) short))
+
+-- ---- what the code finds of all fields
+
+pub any_in_records : (q : List ℕ → Bool) (row column : ℕ) (records : List (Vec (Vec ℕ Global) Global))
+    → list_any (λ f. q f.bytes) (fields_from row column (all_bytes records)) ≡ list_any (λ fields. list_any (λ f. q f.items) fields.items) records
+any_in_records q row column records = any_of_records q row column (all_bytes records) ∙ each records
+  where
+    each : (rs : List (Vec (Vec ℕ Global) Global)) → list_any (λ fields. list_any q fields) (all_bytes rs) ≡ list_any (λ fields. list_any (λ f. q f.items) fields.items) rs
+    each [] = refl
+    each (r ∷ rs) = ap (λ b. b || list_any (λ fields. list_any q fields) (all_bytes rs)) (any_map q (λ f. f.items) r.items) ∙ ap (λ b. list_any (λ f. q f.items) r.items || b) (each rs)
+
+pub fields_outside : (row column : ℕ) (fields : List (Vec ℕ Global)) → (length fields == 0) ≡ false
+    → list_any is_outside (fields_of row column (bytes_of fields)) ≡ (nat_le rows row || nat_lt columns (column + length fields))
+fields_outside row column [] some = cc some
+fields_outside row column (f ∷ fs) some =
+    record_outside row column f.items (bytes_of fs)
+    ∙ ap (λ n. nat_le rows row || nat_lt columns (column + suc n)) (length-map fs (λ f. f.items))
+
+pub fields_inside : (row column : ℕ) (fields : List (Vec ℕ Global)) → (length fields == 0) ≡ false
+    → list_any is_outside (fields_of row column (bytes_of fields)) ≡ false → (row < rows) × (column + length fields ≤ columns)
+fields_inside row column fields some inside =
+    let p = or_parts (nat_le rows row) (nat_lt columns (column + length fields)) (sym (fields_outside row column fields some) ∙ inside) in
+    let a = p.0 in
+    let b = p.1 in
+    (grind (arith, nat_tests, a), grind (arith, nat_tests, b))
+
+-- a test of what is left of the records is one of this record, or of what is left behind it
+pub any_left : (p : Field → Bool) (row column i : ℕ) (records : List (Vec (Vec ℕ Global) Global)) (fields : Vec (Vec ℕ Global) Global) → i < length records → fields ≡ get_or records i fields
+    → list_any p (fields_left row column i records) ≡ (list_any p (fields_of (row + i) column (bytes_of fields.items)) || list_any p (fields_left row column (i + 1) records))
+any_left p row column i records fields l e =
+    ap (list_any p) (next_record row column i records fields l e)
+    ∙ list_any-append p (fields_of (row + i) column (bytes_of fields.items)) (fields_left row column (i + 1) records)
+
+not_false : (b : Bool) → not b ≡ false → b ≡ true
+not_false true e = refl
+not_false false e = cc e
+
+err_not_ok : {S E : Type 0} (r : Result S E) → is_err r ≡ not (is_ok r)
+err_not_ok (Ok s) = refl
+err_not_ok (Err e) = refl
+
+-- a field that isn't bad is read as UTF-8
+pub read_ok : {S E : Type 0} (bytes : List ℕ) (r : Result S E) → is_bad bytes ≡ not (is_ok r) → is_bad bytes ≡ false → IsOk r
+read_ok bytes r found text = not_false (is_ok r) (sym found ∙ text)
+
+pub read_err : {S E : Type 0} (bytes : List ℕ) (r : Result S E) (b : Bool) → is_bad bytes ≡ not (is_ok r) → b ≡ is_err r → b ≡ is_bad bytes
+read_err bytes r b found is = is ∙ err_not_ok r ∙ sym found
+
+pub none_found : {X : Type 0} (b : Bool) (o : Option X) → is_some o ≡ not b → b ≡ not (is_some o)
+none_found true o e = ap not (sym e)
+none_found false o e = ap not (sym e)
+
+-- the first fault goes by three tests
+pub first_found : (fields : List Field) (a b c : Bool) → list_any (λ f. is_bad f.bytes) fields ≡ a → list_any (λ f. is_too_long f.bytes) fields ≡ b
+    → list_any is_outside fields ≡ c → first_fault a b c ≡ fault_among fields
+first_found fields a b c e f g = rw (e, f, g)
