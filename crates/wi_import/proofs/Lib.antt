@@ -1,3 +1,4 @@
 pub mod AreaLemmas
 pub mod FieldLemmas
 pub mod ImportLemmas
+pub mod Rows

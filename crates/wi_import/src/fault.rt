@@ -49,9 +49,7 @@ impl From<CsvFault> for ImportFault {
 
     ghost from_gives = { λ _ e. e ≡ Memory };
 
-    fn from(fault: CsvFault) -> ImportFault {
-        match fault {
-            CsvFault::Read | CsvFault::Memory => ImportFault::Memory,
-        }
+    fn from(_fault: CsvFault) -> ImportFault {
+        ImportFault::Memory
     }
 }
