@@ -60,7 +60,7 @@ fn is_one_too_long(fields: &[Vec<u8>]) -> bool
     fields.iter().any(|field| is_too_long(field))
 }
 
-// Only a field of more bytes than a text may have is read: none of its bytes is looked at twice otherwise.
+// Whether a field is too long for a text, and no number: only one of more bytes than a text may have is read.
 fn is_too_long(field: &[u8]) -> bool
     ensures { result ≡ is_too_long field.now }
 {
