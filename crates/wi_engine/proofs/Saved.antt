@@ -3,6 +3,7 @@ use Rattle.std.proofs.Common.{◌≡◌, ◌≤◌, inl, inr, ℕ, Bool, true, f
 use Rattle.std.proofs.lemmas.List.Elements.{All-weaker}
 use Rattle.wi_values.specs.declared.replacement.Replacement.{Replacement}
 use Rattle.wi_parser.specs.Sheet.{Sheet}
+use Rattle.wi_functions.specs.Counts.{Counts}
 use Rattle.wi_sheet.specs.Demand.{Case, reaching, with_what_if}
 use Rattle.wi_sheet.specs.Settled.{IsSettled, IsWhatIfSettled, RestsOnKept}
 use Rattle.wi_engine.specs.Inner.MemoState.{MemoState}
@@ -26,14 +27,17 @@ module _ (s : Sheet) (kept more : ℕ → List Replacement → Bool) (grows : (c
 
 -- ---- one question after another
 
-pub saves_then : (s : Sheet) (old mid new : MemoState) (ks : List Case) (a b c : ℕ) → Saves s old mid ks a b → Saves s mid new ks b c → Saves s old new ks a c
+pub saves_then : (s : Sheet) (old mid new : MemoState) (ks : List Case) (a b c : Counts) → Saves s old mid ks a b → Saves s mid new ks b c → Saves s old new ks a c
 saves_then s old mid new ks a b c h k =
     let x = h.counted in
     let y = k.counted in
+    let p = h.restarted in
+    let q = k.restarted in
     let u = h.added in
     let v = k.added in
     record {
       counted = omega (arith, x, y);
+      restarted = omega (arith, p, q);
       added = omega (arith, u, v);
       room = k.room;
       stays = λ d w i. k.stays d w (h.stays d w i);
@@ -46,9 +50,12 @@ saves_then s old mid new ks a b c h k =
     before d w i o false e = k.rests d w i e
 
 pub takes_then : (old mid new : MemoState) (a b c : ℕ) → TakesNoMore old mid a b → TakesNoMore mid new b c → b ≤ c → TakesNoMore old new a c
-takes_then old mid new a b c (inl h) (inl k) l = inl (omega (arith, h, k))
+takes_then old mid new a b c (inl h) (inl k) l = inl (λ ks d. let x = h ks d in let y = k ks d in omega (arith, x, y))
 takes_then old mid new a b c (inl h) (inr k) l = inr k
 takes_then old mid new a b c (inr h) k l = inr (omega (arith, h, l))
+
+pub takes_none : (m n : MemoState) (a : ℕ) → n ≡ m → TakesNoMore m n a a
+takes_none m n a e = subst (λ (x : MemoState). TakesNoMore m x a a) (sym e) (inl (λ ks d. omega arith))
 
 pub gives_up_none : (m n : MemoState) → n ≡ m → GivesUpWhenFull m n
 gives_up_none m n e = subst (GivesUpWhenFull m) (sym e) (record { room = omega arith; stays = λ r c w i. i })
@@ -64,12 +71,12 @@ gives_up_then old mid new h k =
     }
 
 -- where the first call has saved its cases, there is room for those of the second
-module _ (s : Sheet) (Both First Second : List Case → Type 0) (first : (ks : List Case) → Both ks → First ks) (second : (ks : List Case) → Both ks → Second ks) (old mid : MemoState) (a b : ℕ) (saved : SavesAll s First old mid a b) where
+module _ (s : Sheet) (Both First Second : List Case → Type 0) (first : (ks : List Case) → Both ks → First ks) (second : (ks : List Case) → Both ks → Second ks) (old mid : MemoState) (a b : Counts) (saved : SavesAll s First old mid a b) where
   pub where_both : (P : List Case → Type 0) → WhereRoom s Second mid P → WhereRoom s Both old P
   where_both P h = λ ks closed top whole room.
       let one = saved ks closed (first ks top) whole room in
       h ks closed (second ks top) one.found one.room
 
-  pub saves_both : (new : MemoState) (c : ℕ) → SavesAll s Second mid new b c → SavesAll s Both old new a c
+  pub saves_both : (new : MemoState) (c : Counts) → SavesAll s Second mid new b c → SavesAll s Both old new a c
   saves_both new c h = λ ks closed top whole room.
       saves_then s old mid new ks a b c (saved ks closed (first ks top) whole room) (where_both (λ ks. Saves s mid new ks b c) h ks closed top whole room)

@@ -316,8 +316,9 @@ fn run<M: Memo>(
     ensures kept { OnOk result (1 ≤ (M.state memo.old).capacity → (M.state memo.new).kept key.cell key.world ≡ true) }
     ensures takes { TakesNoMore (M.state memo.old) (M.state memo.new) meter.old.evaluations meter.new.evaluations }
     ensures gives_up { GivesUpWhenFull (M.state memo.old) (M.state memo.new) }
-    ensures unkept_evaluations { CountsUnkept store.now.sheet (λ ks. Contains ks (case_at key)) (M.state memo.old) meter.old.evaluations meter.new.evaluations }
-    ensures saves { OnOk result (SavesAll store.now.sheet (λ ks. Contains ks (case_at key)) (M.state memo.old) (M.state memo.new) meter.old.evaluations meter.new.evaluations) }
+    ensures unkept_evaluations { CountsUnkept store.now.sheet (λ ks. Contains ks (case_at key)) (λ _. 1) (M.state memo.old) meter.old.evaluations meter.new.evaluations }
+    ensures unkept_restarts { CountsUnkept store.now.sheet (λ ks. Contains ks (case_at key)) (wants store.now.sheet) (M.state memo.old) meter.old.restarts meter.new.restarts }
+    ensures saves { OnOk result (SavesAll store.now.sheet (λ ks. Contains ks (case_at key)) (M.state memo.old) (M.state memo.new) meter.old meter.new) }
     ensures settled { OnOk result (WhereRoom store.now.sheet (λ ks. Contains ks (case_at key)) (M.state memo.old) (λ _. (M.state memo.new).kept key.cell key.world ≡ true)) }
 {
     let mut stack = Vec::new(alloc);
@@ -380,8 +381,9 @@ pub fn value_under<M: Memo>(
     ensures kept { OnOk result (IsValuedAnew store.now.sheet (M.state memo.old) world.now at → 1 ≤ (M.state memo.old).capacity → (M.state memo.new).kept at (reaching store.now.sheet at world.now) ≡ true) }
     ensures takes { TakesNoMore (M.state memo.old) (M.state memo.new) meter.old.evaluations meter.new.evaluations }
     ensures gives_up { GivesUpWhenFull (M.state memo.old) (M.state memo.new) }
-    ensures unkept_evaluations { CountsUnkept store.now.sheet (HasCase store.now.sheet world.now at) (M.state memo.old) meter.old.evaluations meter.new.evaluations }
-    ensures saves { OnOk result (SavesAll store.now.sheet (HasCase store.now.sheet world.now at) (M.state memo.old) (M.state memo.new) meter.old.evaluations meter.new.evaluations) }
+    ensures unkept_evaluations { CountsUnkept store.now.sheet (HasCase store.now.sheet world.now at) (λ _. 1) (M.state memo.old) meter.old.evaluations meter.new.evaluations }
+    ensures unkept_restarts { CountsUnkept store.now.sheet (HasCase store.now.sheet world.now at) (wants store.now.sheet) (M.state memo.old) meter.old.restarts meter.new.restarts }
+    ensures saves { OnOk result (SavesAll store.now.sheet (HasCase store.now.sheet world.now at) (M.state memo.old) (M.state memo.new) meter.old meter.new) }
     ensures settled { OnOk result (WhereRoom store.now.sheet (HasCase store.now.sheet world.now at) (M.state memo.old) (λ _. IsSettled store.now.sheet (M.state memo.new).kept world.now at)) }
 {
     match value_now(alloc, store, world, at, memo)? {

@@ -8,7 +8,7 @@ ghost use Rattle.wi_graph.specs.Circular.{circular};
 ghost use Rattle.wi_sheet.specs.CellValue.{cell_value};
 ghost use Rattle.wi_sheet.specs.Demand.{reaching, same_case};
 ghost use Rattle.wi_engine.specs.Inner.MemoState.{MemoState, IsTold};
-ghost use Rattle.wi_engine.specs.Inner.Saving.{GivesUpWhenFull};
+ghost use Rattle.wi_engine.specs.Inner.Saving.{TakesPlaces, GivesUpWhenFull};
 
 use std::alloc::AllocError;
 use wi_cache::Key;
@@ -51,7 +51,7 @@ pub trait Memo {
         ensures there { OnOk result (1 ≤ (state self.old).capacity → (state self.new).kept key.cell key.world ≡ true) }
         ensures kept { OnOk result (1 ≤ (state self.old).room → (c : ℕ) (w : List Replacements) → (state self.new).kept c w ≡ ((state self.old).kept c w || same_case (key.cell, key.world) (c, w))) }
         ensures room { OnOk result ((state self.old).kept key.cell key.world ≡ false → 1 ≤ (state self.old).room → (state self.new).room + 1 ≡ (state self.old).room) }
-        ensures one_place { (state self.old).room ≤ (state self.new).room + 1 }
+        ensures one_place { TakesPlaces (state self.old) (state self.new) 0 1 }
         ensures gives_up { GivesUpWhenFull (state self.old) (state self.new) }
         ensures same_capacity { (state self.new).capacity ≡ (state self.old).capacity }
 

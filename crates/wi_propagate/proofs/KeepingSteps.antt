@@ -67,7 +67,7 @@ kept_after (Ok x) g m n k v h e = λ l. put_is_some g m.entries n.entries k v e 
 kept_after (Err x) g m n k v h e = tt
 
 -- a key that was there is there
-stays_put : (es fs : Entries) (k q : Key) (v : Value) → Puts es fs k v → is_some (value_for es q) ≡ true → is_some (value_for fs q) ≡ true
+pub stays_put : (es fs : Entries) (k q : Key) (v : Value) → Puts es fs k v → is_some (value_for es q) ≡ true → is_some (value_for fs q) ≡ true
 stays_put es fs k q v p h = ap (λ (o : Option Value). is_some o) (p q) ∙ is_some_cond (same_key k q) v (value_for es q) ∙ or_left (is_some (value_for es q)) (same_key k q) h
 
 -- none goes but for a key that comes to a full list

@@ -8,5 +8,6 @@ pub mod KeptCones
 pub mod GenerationSteps
 pub mod KeptSteps
 pub mod KeepingSteps
+pub mod PlacesTaken
 pub mod Editing
 pub mod Questions

@@ -1,7 +1,9 @@
 -- A question asked of a calculator that keeps values.
-use Rattle.std.proofs.Common.{◌≡◌, ◌≤◌, ◌+◌, ◌||◌, inl, inr, length, sum_by, Contains, All, get_or, filter, not, is_some, ℕ, Bool, true, false, cond, List, [], ◌∷◌, Option, Some, refl, ap, sym, ◌∙◌, subst, arith}
+use Rattle.std.proofs.Common.{◌≡◌, ◌≤◌, ◌<◌, ◌+◌, ◌-◌, ◌^◌, ◌||◌, inl, inr, length, sum_by, Contains, All, get_or, filter, not, is_some, ℕ, Bool, true, false, cond, List, [], ◌∷◌, Option, Some, refl, ap, sym, ◌∙◌, subst, arith}
 use Rattle.std.specs.List.{list_any}
+use Rattle.std.proofs.lemmas.Bool.{cases_lt}
 use Rattle.std.proofs.lemmas.List.Folds.{list_any_none}
+use Rattle.std.proofs.lemmas.List.Sums.{sum_by-cons}
 use Rattle.wi_values.specs.declared.value.Value.{Value}
 use Rattle.wi_values.specs.declared.value.Value.TheVariants.{Fault}
 use Rattle.wi_values.specs.declared.value.ErrorKind.TheVariants.{Circular}
@@ -12,7 +14,7 @@ use Rattle.wi_functions.specs.Counts.{Counts}
 use Rattle.wi_functions.specs.Meaning.{zero_for_empty}
 use Rattle.wi_store.specs.Store.{Stored}
 use Rattle.wi_cache.specs.declared.key.Key.{Key}
-use Rattle.wi_cache.specs.Entries.{KeptValues, value_for}
+use Rattle.wi_cache.specs.Entries.{KeptValues, HasOneEach, value_for}
 use Rattle.wi_graph.specs.Circular.{circular}
 use Rattle.wi_graph.proofs.Tests.{clash}
 use Rattle.wi_sheet.specs.CellValue.{cell_value}
@@ -21,7 +23,7 @@ use Rattle.wi_sheet.specs.TableEntry.{table_entry, entry_demanded}
 use Rattle.wi_sheet.specs.Settled.{IsWhatIfSettled}
 use Rattle.wi_sheet.specs.Inner.Spending.{CountsAtMost, HasCase, HasEntry, IsClosed, left}
 use Rattle.wi_sheet.proofs.Cases.{different_has_itself}
-use Rattle.wi_sheet.proofs.Counting.{left_of_nothing, sum_of_ones}
+use Rattle.wi_sheet.proofs.Counting.{left_of_nothing, left_falls, sum_of_ones}
 use Rattle.wi_sheet.proofs.Members.{contains_in}
 use Rattle.wi_sheet.proofs.SmallerWorlds.{content_below}
 use Rattle.wi_sheet.proofs.Overrides.{with_what_if_value}
@@ -31,9 +33,10 @@ use Rattle.wi_engine.specs.Inner.Frames.{MayBeRead}
 use Rattle.wi_engine.specs.Inner.Saving as saving
 use Rattle.wi_engine.specs.Inner.Saving.{KeepsFound, WhereRoom, CountsUnkept, Saves, SavesAll, TakesNoMore, GivesUpWhenFull, NeedsNoEvaluation, IsValuedAnew}
 use Rattle.wi_engine.proofs.Saved.{what_if_more, rests_more}
-use Rattle.wi_propagate.specs.KeptSheet.{Generations, generation_in, KeptSheet, key_in, is_kept, unkept, IsAtHand, HasRoomFor, KeepsAll, KeepsNoMore, KeepsWhileRoom}
+use Rattle.wi_propagate.specs.KeptSheet.{Generations, generation_in, KeptSheet, key_in, is_kept, unkept, kept_cases, gone, IsAtHand, HasRoomFor, KeepsAll, KeepsNoMore, KeepsOld, KeepsWhileRoom}
 use Rattle.wi_propagate.specs.Right.{AreRight, AreKeptRight}
 use Rattle.wi_propagate.specs.Inner.Keeping.{kept_sheet, values_in, Keeping, keeping, begun, state_in, IsKeepingRight}
+use Rattle.wi_propagate.proofs.PlacesTaken.{all_kept, cases_differ, one_differs}
 use Rattle.wi_propagate.proofs.ShowingEntries.{pair_in}
 
 -- the question begins with what was kept
@@ -51,18 +54,22 @@ begun_right s gs o n v f h = record {
 pub begun_within : (o : Option KeptValues) (v : KeptValues) → Some v ≡ o → length v.entries ≤ v.capacity → length (values_in o).entries ≤ (values_in o).capacity
 begun_within o v e h = subst (λ (x : Option KeptValues). length (values_in x).entries ≤ (values_in x).capacity) e h
 
--- ---- how many cases are not kept
+-- each under a key of its own
+pub begun_one_each : (o : Option KeptValues) (v : KeptValues) → Some v ≡ o → HasOneEach v.entries → HasOneEach (values_in o).entries
+begun_one_each o v e h = subst (λ (x : Option KeptValues). HasOneEach (values_in x).entries) e h
 
-left_is_unkept : (f : ℕ → List Replacement → Bool) (ks : List Case) → left (λ x. 1) f ks ≡ length (filter (λ x. not (f x.0 x.1)) ks)
-left_is_unkept f [] = refl
-left_is_unkept f (k ∷ ks) = at (f k.0 k.1) (left_is_unkept f ks)
+-- ---- what the cases weigh that are not kept
+
+pub left_is_unkept : (weight : Case → ℕ) (f : ℕ → List Replacement → Bool) (ks : List Case) → left weight f ks ≡ sum_by weight (filter (λ x. not (f x.0 x.1)) ks)
+left_is_unkept weight f [] = refl
+left_is_unkept weight f (k ∷ ks) = at (f k.0 k.1) (left_is_unkept weight f ks)
   where
     rest : List Case
     rest = filter (λ x. not (f x.0 x.1)) ks
 
-    at : (b : Bool) → left (λ x. 1) f ks ≡ length rest → cond b 0 1 + left (λ x. 1) f ks ≡ length (cond (not b) (k ∷ rest) rest)
+    at : (b : Bool) → left weight f ks ≡ sum_by weight rest → cond b 0 (weight k) + left weight f ks ≡ sum_by weight (cond (not b) (k ∷ rest) rest)
     at true h = omega (arith, h)
-    at false h = omega (arith, h)
+    at false h = let more = sum_by-cons weight k rest in omega (arith, h, more)
 
 -- ---- a question, for each closed list of cases that has what it is to have
 
@@ -70,8 +77,11 @@ module _ (k : KeptSheet) (q : Keeping) (e : q ≡ begun k) where
   nothing_found : KeepsFound (state_in q)
   nothing_found = subst (λ (x : Keeping). KeepsFound (state_in x)) (sym e) (λ c p h. let z = h in cc)
 
-  pub same_unkept : (ks : List Case) → saving.not_kept (state_in q) ks ≡ unkept k ks
-  same_unkept ks = ap (λ (x : Keeping). saving.not_kept (state_in x) ks) e ∙ left_is_unkept (is_kept k) ks
+  unkept_left : (weight : Case → ℕ) (ks : List Case) → left weight (state_in q).kept ks ≡ sum_by weight (unkept k ks)
+  unkept_left weight ks = ap (λ (x : Keeping). left weight (state_in x).kept ks) e ∙ left_is_unkept weight (is_kept k) ks
+
+  pub same_unkept : (ks : List Case) → saving.not_kept (state_in q) ks ≡ length (unkept k ks)
+  same_unkept ks = unkept_left (λ c. 1) ks ∙ sum_of_ones (unkept k ks)
 
   room_left : (ks : List Case) → HasRoomFor k ks → saving.not_kept (state_in q) ks ≤ (state_in q).room
   room_left ks h =
@@ -97,16 +107,22 @@ module _ (k : KeptSheet) (q : Keeping) (e : q ≡ begun k) where
         let all = sum_of_ones cases in
         omega (arith, counted, all)
 
-    pub asked_unkept : (n m : ℕ) → CountsUnkept k.stored.sheet Has (state_in q) n m → HasRoomFor k cases → m ≤ n + unkept k cases
-    asked_unkept n m h room =
+    pub asked_unkept : (weight : Case → ℕ) (n m : ℕ) → CountsUnkept k.stored.sheet Has weight (state_in q) n m → HasRoomFor k cases → m ≤ n + sum_by weight (unkept k cases)
+    asked_unkept weight n m h room =
         let counted = h cases closed has nothing_found (room_left cases room) in
-        let z = same_unkept cases in
+        let z = unkept_left weight cases in
         omega (arith, counted, z)
+
+    pub asked_unkept_evaluations : (n m : ℕ) → CountsUnkept k.stored.sheet Has (λ c. 1) (state_in q) n m → HasRoomFor k cases → m ≤ n + length (unkept k cases)
+    asked_unkept_evaluations n m h room =
+        let counted = asked_unkept (λ c. 1) n m h room in
+        let all = sum_of_ones (unkept k cases) in
+        omega (arith, counted, all)
 
     pub asked_where : (P : Type 0) → WhereRoom k.stored.sheet Has (state_in q) (λ _. P) → HasRoomFor k cases → P
     asked_where P h room = h cases closed has nothing_found (room_left cases room)
 
-    pub asked_saves : (x : MemoState) (n m : ℕ) → SavesAll k.stored.sheet Has (state_in q) x n m → HasRoomFor k cases → Saves k.stored.sheet (state_in q) x cases n m
+    pub asked_saves : (x : MemoState) (n m : Counts) → SavesAll k.stored.sheet Has (state_in q) x n m → HasRoomFor k cases → Saves k.stored.sheet (state_in q) x cases n m
     asked_saves x n m h room = h cases closed has nothing_found (room_left cases room)
 
 -- ---- what is kept when it ends
@@ -140,7 +156,7 @@ module _ (k : KeptSheet) (q last : Keeping) (values : KeptValues) (counts : Coun
         right = subst (λ (v : KeptValues). AreRight k.stored.sheet k.stored.edits (generation_in k.generations) v.entries) (sym same) then;
       }
 
-  pub asked_keeps : (ks : List Case) → HasRoomFor k ks → Saves k.stored.sheet (state_in q) (state_in last) ks k.counts.evaluations counts.evaluations → KeepsAll k after
+  pub asked_keeps : (ks : List Case) → HasRoomFor k ks → Saves k.stored.sheet (state_in q) (state_in last) ks k.counts counts → KeepsAll k after
   asked_keeps ks room h = record {
     added =
         let a = h.added in
@@ -157,19 +173,53 @@ module _ (k : KeptSheet) (q last : Keeping) (values : KeptValues) (counts : Coun
   pub asked_settled : (w put : List Replacement) (x : ℕ × List (ℕ × ℕ)) → w ≡ put → IsWhatIfSettled k.stored.sheet (state_in last).kept w x → IsWhatIfSettled k.stored.sheet (is_kept after) put x
   asked_settled w put x f h = what_if_more k.stored.sheet (state_in last).kept (is_kept after) (λ d v j. kept_after_is d v ∙ j) put x (subst (λ (p : List Replacement). IsWhatIfSettled k.stored.sheet (state_in last).kept p x) f h)
 
-  -- as the room that is left tells
-  pub asked_no_more : length values.entries ≤ values.capacity → TakesNoMore (state_in q) (state_in last) k.counts.evaluations counts.evaluations → KeepsNoMore k after
-  asked_no_more within (inl h) =
+  -- as the places that are taken tell
+  gone_is : left (λ c. 1) (state_in last).kept (kept_cases k) ≡ length (gone k after)
+  gone_is =
+      let one = left_falls (λ c. 1) (state_in last).kept (is_kept after) (kept_cases k) (λ c w i. kept_after_is c w ∙ i) in
+      let other = left_falls (λ c. 1) (is_kept after) (state_in last).kept (kept_cases k) (λ c w i. sym (kept_after_is c w) ∙ i) in
+      let went = left_is_unkept (λ c. 1) (is_kept after) (kept_cases k) ∙ sum_of_ones (gone k after) in
+      omega (arith, one, other, went)
+
+  none_gone_before : left (λ c. 1) (state_in q).kept (kept_cases k) ≡ 0
+  none_gone_before = ap (λ (x : Keeping). left (λ c. 1) (state_in x).kept (kept_cases k)) e ∙ all_kept k.generations k.values.entries
+
+  pub asked_no_more : length values.entries ≤ values.capacity → HasOneEach k.values.entries → TakesNoMore (state_in q) (state_in last) k.counts.evaluations counts.evaluations → KeepsNoMore k after
+  asked_no_more within one_each (inl h) =
+      let counted = h (kept_cases k) (cases_differ k.generations k.values.entries one_each) in
+      let went = gone_is in
+      let none = none_gone_before in
       let x = ap (λ (y : Keeping). (state_in y).room) e in
       let y = ap (λ (v : KeptValues). v.capacity) same in
       let z = ap (λ (v : KeptValues). length v.entries) same in
       let u = ap (λ (y : Keeping). (state_in y).capacity) e in
-      inl (omega (arith, h, x, y, z, u, caps, within))
-  asked_no_more within (inr h) = inr h
+      inl (omega (arith, counted, went, none, x, y, z, u, caps, within))
+  asked_no_more within one_each (inr h) = inr h
 
   -- and nothing went while there was room
-  pub asked_while_room : length k.values.entries ≤ k.values.capacity → GivesUpWhenFull (state_in q) (state_in last) → KeepsWhileRoom k after
-  asked_while_room within h =
+  stays_with_room : GivesUpWhenFull (state_in q) (state_in last) → 1 ≤ (state_in last).room → KeepsOld k after
+  stays_with_room h room c w i = kept_after_is c w ∙ h.stays room c w (sym (kept_before_is c w) ∙ i)
+
+  one_stays : (c : ℕ) (w : List Replacement) (b : Bool) → (state_in last).kept c w ≡ b → left (λ x. 1) (state_in last).kept ((c, w) ∷ []) ≡ 0 → is_kept after c w ≡ true
+  one_stays c w true f n = kept_after_is c w ∙ f
+  one_stays c w false f n = let z = ap (λ (t : Bool). cond t 0 1 + 0) f in absurd (omega (arith, n, z))
+
+  fits_places : length k.values.entries ≤ k.values.capacity → GivesUpWhenFull (state_in q) (state_in last) → TakesNoMore (state_in q) (state_in last) k.counts.evaluations counts.evaluations →
+      length k.values.entries + counts.evaluations ≤ k.counts.evaluations + values.capacity → counts.evaluations < 2 ^ 64 - 1 → KeepsOld k after
+  fits_places within gives (inr t) few short c w i = absurd (omega (arith, t, short))
+  fits_places within gives (inl t) few short c w i = elim (cases_lt 0 (state_in last).room) [
+    | inl room ↦ stays_with_room gives room c w i
+    | inr full ↦ (
+        let counted = t ((c, w) ∷ []) (one_differs (c, w)) in
+        let before : left (λ x. 1) (state_in q).kept ((c, w) ∷ []) ≡ 0 = ap (λ (b : Bool). cond b 0 1 + 0) (sym (kept_before_is c w) ∙ i) in
+        let x = ap (λ (y : Keeping). (state_in y).room) e in
+        let y = ap (λ (v : KeptValues). v.capacity) same in
+        let u = ap (λ (y : Keeping). (state_in y).capacity) e in
+        one_stays c w ((state_in last).kept c w) refl (omega (arith, counted, before, full, x, y, u, caps, within, few)))
+  ]
+
+  pub asked_while_room : length k.values.entries ≤ k.values.capacity → GivesUpWhenFull (state_in q) (state_in last) → TakesNoMore (state_in q) (state_in last) k.counts.evaluations counts.evaluations → KeepsWhileRoom k after
+  asked_while_room within h t =
       let a = h.room in
       let x = ap (λ (y : Keeping). (state_in y).room) e in
       let y = ap (λ (v : KeptValues). v.capacity) same in
@@ -177,12 +227,19 @@ module _ (k : KeptSheet) (q last : Keeping) (values : KeptValues) (counts : Coun
       let u = ap (λ (y : Keeping). (state_in y).capacity) e in
       record {
         count = omega (arith, a, x, y, z, u, caps, within);
-        stays = λ few c w i. kept_after_is c w ∙ h.stays (omega (arith, few, y, z)) c w (sym (kept_before_is c w) ∙ i);
+        stays = λ few. stays_with_room h (omega (arith, few, y, z));
+        fits = fits_places within h t;
       }
 
 -- where nothing is asked
+pub none_no_more : (k : KeptSheet) → KeepsNoMore k k
+none_no_more k =
+    let none = all_kept k.generations k.values.entries in
+    let went = left_is_unkept (λ c. 1) (is_kept k) (kept_cases k) ∙ sum_of_ones (gone k k) in
+    inl (omega (arith, none, went))
+
 pub none_while_room : (k n : KeptSheet) → n ≡ k → KeepsWhileRoom k n
-none_while_room k n e = subst (KeepsWhileRoom k) (sym e) (record { count = omega arith; stays = λ few c w i. i })
+none_while_room k n e = subst (KeepsWhileRoom k) (sym e) (record { count = omega arith; stays = λ few c w i. i; fits = λ few short c w i. i })
 
 -- ---- the value of a cell
 

@@ -3,6 +3,7 @@ use Rattle.std.proofs.Common.{◌≡◌, ◌<◌, ◌+◌, ℕ, Bool, List, All,
 use Rattle.std.proofs.lemmas.List.Elements.{All-more}
 use Rattle.wi_values.specs.declared.replacement.Replacement.{Replacement}
 use Rattle.wi_parser.specs.Sheet.{Sheet}
+use Rattle.wi_functions.specs.Counts.{Counts}
 use Rattle.wi_sheet.specs.Demand.{Case, with_what_if}
 use Rattle.wi_sheet.specs.Settled.{IsSettled, IsWhatIfSettled}
 use Rattle.wi_sheet.specs.Inner.Spending.{CountsFound, HasCase, HasReplacing, HasEntry}
@@ -22,11 +23,11 @@ module _ (s : Sheet) (w : List Replacement) (pairs : List (ℕ × ℕ)) (i : ℕ
       let two = k ks closed (has_pair ks top) in
       omega (arith, one, two)
 
-  module _ (old mid : MemoState) (a b : ℕ) (saved : SavesAll s (HasReplacing s w pairs) old mid a b) where
-    pub more_saves : (new : MemoState) (c : ℕ) → SavesAll s (HasCase s w x.1) mid new b c → SavesAll s (HasReplacing s w pairs) old new a c
+  module _ (old mid : MemoState) (a b : Counts) (saved : SavesAll s (HasReplacing s w pairs) old mid a b) where
+    pub more_saves : (new : MemoState) (c : Counts) → SavesAll s (HasCase s w x.1) mid new b c → SavesAll s (HasReplacing s w pairs) old new a c
     more_saves = saves_both s (HasReplacing s w pairs) (HasReplacing s w pairs) (HasCase s w x.1) (λ ks h. h) has_pair old mid a b saved
 
-    pub more_settled : (new : MemoState) (c : ℕ) → SavesAll s (HasCase s w x.1) mid new b c → WhereRoom s (HasReplacing s w pairs) old (λ ks. All (λ p. IsSettled s mid.kept w p.1) (take i pairs)) →
+    pub more_settled : (new : MemoState) (c : Counts) → SavesAll s (HasCase s w x.1) mid new b c → WhereRoom s (HasReplacing s w pairs) old (λ ks. All (λ p. IsSettled s mid.kept w p.1) (take i pairs)) →
         WhereRoom s (HasCase s w x.1) mid (λ ks. IsSettled s new.kept w x.1) → WhereRoom s (HasReplacing s w pairs) old (λ ks. All (λ p. IsSettled s new.kept w p.1) (take (i + 1) pairs))
     more_settled new c saves before there = λ ks closed top whole room.
         let both = where_both s (HasReplacing s w pairs) (HasReplacing s w pairs) (HasCase s w x.1) (λ qs h. h) has_pair old mid a b saved in
@@ -41,11 +42,11 @@ module _ (s : Sheet) (w : List Replacement) (f : ℕ) (pairs : List (ℕ × ℕ)
   has_formula_cell : (ks : List Case) → HasEntry s w f pairs ks → HasCase s r f ks
   has_formula_cell ks h = subst (λ (v : List Replacement). HasCase s v f ks) (sym is) h.1
 
-  module _ (old mid : MemoState) (a b : ℕ) (saved : SavesAll s (HasReplacing s w pairs) old mid a b) where
-    pub entry_saves : (new : MemoState) (c : ℕ) → SavesAll s (HasCase s r f) mid new b c → SavesAll s (HasEntry s w f pairs) old new a c
+  module _ (old mid : MemoState) (a b : Counts) (saved : SavesAll s (HasReplacing s w pairs) old mid a b) where
+    pub entry_saves : (new : MemoState) (c : Counts) → SavesAll s (HasCase s r f) mid new b c → SavesAll s (HasEntry s w f pairs) old new a c
     entry_saves = saves_both s (HasEntry s w f pairs) (HasReplacing s w pairs) (HasCase s r f) (λ ks h. h.0) has_formula_cell old mid a b saved
 
-    pub entry_settled : (new : MemoState) (c : ℕ) → SavesAll s (HasCase s r f) mid new b c → WhereRoom s (HasReplacing s w pairs) old (λ ks. All (λ p. IsSettled s mid.kept w p.1) pairs) →
+    pub entry_settled : (new : MemoState) (c : Counts) → SavesAll s (HasCase s r f) mid new b c → WhereRoom s (HasReplacing s w pairs) old (λ ks. All (λ p. IsSettled s mid.kept w p.1) pairs) →
         WhereRoom s (HasCase s r f) mid (λ ks. IsSettled s new.kept r f) → WhereRoom s (HasEntry s w f pairs) old (λ ks. IsWhatIfSettled s new.kept w (f, pairs))
     entry_settled new c saves before there = λ ks closed top whole room.
         let both = where_both s (HasEntry s w f pairs) (HasReplacing s w pairs) (HasCase s r f) (λ qs h. h.0) has_formula_cell old mid a b saved in

@@ -1,5 +1,5 @@
 -- A sheet whose values are kept from one question to the next, and what that saves.
-use Rattle.std.specs.Prelude.{◌≡◌, ◌⊎◌, ◌<◌, ◌≤◌, ◌+◌, ◌-◌, ◌^◌, ℕ, Bool, true, false, not, List, filter, length, is_some}
+use Rattle.std.specs.Prelude.{◌≡◌, ◌==◌, ◌⊎◌, ◌<◌, ◌≤◌, ◌+◌, ◌-◌, ◌^◌, ℕ, Bool, true, false, not, List, filter, map, length, is_some}
 use Rattle.std.specs.Option.{unwrap_or}
 use Rattle.std.specs.Ordering.{nat_cmp}
 use Rattle.std.specs.Map.{lookup}
@@ -41,9 +41,17 @@ key_in gs c w = record { cell = c; generation = generation_in gs c; world = w }
 abbrev pub is_kept : KeptSheet → ℕ → List Replacement → Bool
 is_kept k c w = is_some (value_for k.values.entries (key_in k.generations c w))
 
--- how many of these cases are not kept
-abbrev pub unkept : KeptSheet → List Case → ℕ
-unkept k ks = length (filter (λ x. not (is_kept k x.0 x.1)) ks)
+-- those of these cases whose values are not kept
+abbrev pub unkept : KeptSheet → List Case → List Case
+unkept k ks = filter (λ x. not (is_kept k x.0 x.1)) ks
+
+-- the cases whose values are kept, of cells as they are now
+abbrev pub kept_cases : KeptSheet → List Case
+kept_cases k = map (λ e. (e.0.cell, e.0.world)) (filter (λ e. e.0.generation == generation_in k.generations e.0.cell) k.values.entries)
+
+-- those of them whose values went
+abbrev pub gone : KeptSheet → KeptSheet → List Case
+gone old new = unkept new (kept_cases old)
 
 -- ---- what a question counts, and what it keeps
 
@@ -53,7 +61,7 @@ IsAtHand k w c = (circular k.stored.sheet c ≡ true) ⊎ ((has_formula (content
 
 -- there is room for what is kept and these cases together
 abbrev pub HasRoomFor : KeptSheet → List Case → Type 0
-HasRoomFor k ks = length k.values.entries + unkept k ks ≤ k.values.capacity
+HasRoomFor k ks = length k.values.entries + length (unkept k ks) ≤ k.values.capacity
 
 -- as many values came to be kept as were counted, none went, and each that came rests on kept ones
 pub record KeepsAll (old new : KeptSheet) : Type 0 where
@@ -61,11 +69,18 @@ pub record KeepsAll (old new : KeptSheet) : Type 0 where
   pub stays : (c : ℕ) (w : List Replacement) → is_kept old c w ≡ true → is_kept new c w ≡ true
   pub settled : (c : ℕ) (w : List Replacement) → is_kept new c w ≡ true → is_kept old c w ≡ false → RestsOnKept old.stored.sheet (is_kept new) (c, w)
 
--- no more values came to be kept than were counted, short of the greatest count
+-- Each evaluation that was counted brought one value at most, and that took one place: a free one, or that of one that went. So no
+-- more came to be kept than were counted, and no more went than came to a full list, short of the greatest count.
 abbrev pub KeepsNoMore : KeptSheet → KeptSheet → Type 0
-KeepsNoMore old new = (length new.values.entries + old.counts.evaluations ≤ length old.values.entries + new.counts.evaluations) ⊎ (2 ^ 64 - 1 ≤ new.counts.evaluations)
+KeepsNoMore old new = (length new.values.entries + (length (gone old new) + old.counts.evaluations) ≤ length old.values.entries + new.counts.evaluations) ⊎ (2 ^ 64 - 1 ≤ new.counts.evaluations)
 
--- No fewer values are kept than before, and where the list isn't full then, each that was kept is kept.
+-- each value that was kept is kept
+abbrev pub KeepsOld : KeptSheet → KeptSheet → Type 0
+KeepsOld old new = (c : ℕ) (w : List Replacement) → is_kept old c w ≡ true → is_kept new c w ≡ true
+
+-- No fewer values are kept than before. Each that was kept is kept where the list isn't full then, and where what was kept and what
+-- was evaluated fill it at most, short of the greatest count.
 pub record KeepsWhileRoom (old new : KeptSheet) : Type 0 where
   pub count : length old.values.entries ≤ length new.values.entries
-  pub stays : length new.values.entries < new.values.capacity → (c : ℕ) (w : List Replacement) → is_kept old c w ≡ true → is_kept new c w ≡ true
+  pub stays : length new.values.entries < new.values.capacity → KeepsOld old new
+  pub fits : length old.values.entries + new.counts.evaluations ≤ old.counts.evaluations + new.values.capacity → new.counts.evaluations < 2 ^ 64 - 1 → KeepsOld old new

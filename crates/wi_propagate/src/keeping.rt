@@ -2,6 +2,7 @@
 
 ghost use Rattle.std.specs.Prelude.{◌≡◌, ◌≤◌, [], None, length, IfOk};
 ghost use Rattle.wi_graph.specs.Edges.{AreEdgesOf};
+ghost use Rattle.wi_cache.specs.Entries.{HasOneEach};
 ghost use Rattle.wi_engine.specs.Inner.MemoState.{IsMemoOf};
 ghost use Rattle.wi_propagate.specs.Inner.Cones.{AreAllCones};
 ghost use Rattle.wi_propagate.specs.Inner.Keeping.{keeping, state_in, IsKeepingRight};
@@ -72,6 +73,7 @@ impl<'a> Keeping<'a> {
         ensures value { result ≡ keeping store.now.sheet store.now.edits generations.now.entries [] kept }
         ensures memo { IsMemoOf store.now.sheet (state_in result) }
         ensures within { length kept.entries ≤ kept.capacity }
+        ensures one_each { HasOneEach kept.entries }
     {
         let _ = kept.len();
         Keeping {

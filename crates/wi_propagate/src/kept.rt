@@ -171,8 +171,11 @@ impl Calculator for KeptCalculator {
             self.new.counts.restarts ≤ self.old.counts.restarts + sum_by (wants sheet) cases }
         ensures evaluations_never_fall { self.old.counts.evaluations ≤ self.new.counts.evaluations }
         ensures restarts_never_fall { self.old.counts.restarts ≤ self.new.counts.restarts }
-        ensures unkept { let cases = demanded self.old.stored.sheet put.now at in
-            HasRoomFor self.old cases → self.new.counts.evaluations ≤ self.old.counts.evaluations + unkept self.old cases }
+        ensures unkept_evaluations { let cases = demanded self.old.stored.sheet put.now at in
+            HasRoomFor self.old cases → self.new.counts.evaluations ≤ self.old.counts.evaluations + length (unkept self.old cases) }
+        ensures unkept_restarts { let sheet = self.old.stored.sheet in
+            let cases = demanded sheet put.now at in
+            HasRoomFor self.old cases → self.new.counts.restarts ≤ self.old.counts.restarts + sum_by (wants sheet) (unkept self.old cases) }
 
         // What is kept, what comes to be kept, and that nothing goes while there is room, also where memory runs out.
         ensures easy { IsAtHand self.old put.now at → self.new.counts ≡ self.old.counts }
@@ -237,8 +240,11 @@ impl Calculator for KeptCalculator {
             self.new.counts.restarts ≤ self.old.counts.restarts + sum_by (wants sheet) cases }
         ensures evaluations_never_fall { self.old.counts.evaluations ≤ self.new.counts.evaluations }
         ensures restarts_never_fall { self.old.counts.restarts ≤ self.new.counts.restarts }
-        ensures unkept { let cases = entry_demanded self.old.stored.sheet put.now formula_cell pairs.now in
-            HasRoomFor self.old cases → self.new.counts.evaluations ≤ self.old.counts.evaluations + unkept self.old cases }
+        ensures unkept_evaluations { let cases = entry_demanded self.old.stored.sheet put.now formula_cell pairs.now in
+            HasRoomFor self.old cases → self.new.counts.evaluations ≤ self.old.counts.evaluations + length (unkept self.old cases) }
+        ensures unkept_restarts { let sheet = self.old.stored.sheet in
+            let cases = entry_demanded sheet put.now formula_cell pairs.now in
+            HasRoomFor self.old cases → self.new.counts.restarts ≤ self.old.counts.restarts + sum_by (wants sheet) (unkept self.old cases) }
 
         // What comes to be kept, and that nothing goes while there is room, also where memory runs out.
         ensures no_more { KeepsNoMore self.old self.new }

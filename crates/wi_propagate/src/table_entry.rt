@@ -102,9 +102,11 @@ pub fn open_entry<M: Memo>(
     ensures takes { TakesNoMore (M.state memo.old) (M.state memo.new) meter.old.evaluations meter.new.evaluations }
     ensures gives_up { GivesUpWhenFull (M.state memo.old) (M.state memo.new) }
     ensures unkept_evaluations { CountsUnkept store.now.sheet (HasEntry store.now.sheet world.now formula_cell pairs.now)
-        (M.state memo.old) meter.old.evaluations meter.new.evaluations }
+        (λ _. 1) (M.state memo.old) meter.old.evaluations meter.new.evaluations }
+    ensures unkept_restarts { CountsUnkept store.now.sheet (HasEntry store.now.sheet world.now formula_cell pairs.now)
+        (wants store.now.sheet) (M.state memo.old) meter.old.restarts meter.new.restarts }
     ensures saves { OnOk result (SavesAll store.now.sheet (HasEntry store.now.sheet world.now formula_cell pairs.now)
-        (M.state memo.old) (M.state memo.new) meter.old.evaluations meter.new.evaluations) }
+        (M.state memo.old) (M.state memo.new) meter.old meter.new) }
     ensures settled { OnOk result (WhereRoom store.now.sheet (HasEntry store.now.sheet world.now formula_cell pairs.now)
         (M.state memo.old) (λ _. IsWhatIfSettled store.now.sheet (M.state memo.new).kept world.now (formula_cell, pairs.now))) }
 {
@@ -148,9 +150,11 @@ fn with_inputs<M: Memo>(
     ensures takes { TakesNoMore (M.state memo.old) (M.state memo.new) meter.old.evaluations meter.new.evaluations }
     ensures gives_up { GivesUpWhenFull (M.state memo.old) (M.state memo.new) }
     ensures unkept_evaluations { CountsUnkept store.now.sheet (HasReplacing store.now.sheet world.now pairs.now)
-        (M.state memo.old) meter.old.evaluations meter.new.evaluations }
+        (λ _. 1) (M.state memo.old) meter.old.evaluations meter.new.evaluations }
+    ensures unkept_restarts { CountsUnkept store.now.sheet (HasReplacing store.now.sheet world.now pairs.now)
+        (wants store.now.sheet) (M.state memo.old) meter.old.restarts meter.new.restarts }
     ensures saves { OnOk result (SavesAll store.now.sheet (HasReplacing store.now.sheet world.now pairs.now)
-        (M.state memo.old) (M.state memo.new) meter.old.evaluations meter.new.evaluations) }
+        (M.state memo.old) (M.state memo.new) meter.old meter.new) }
     ensures settled { OnOk result (WhereRoom store.now.sheet (HasReplacing store.now.sheet world.now pairs.now)
         (M.state memo.old) (λ _. All (λ x. IsSettled store.now.sheet (M.state memo.new).kept world.now x.1) pairs.now)) }
 {

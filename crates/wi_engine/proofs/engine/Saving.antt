@@ -7,21 +7,21 @@ use Rattle.wi_parser.specs.Sheet.{Sheet, put_all}
 use Rattle.wi_functions.specs.Counts.{Counts, one_more}
 use Rattle.wi_cache.specs.declared.key.Key.{Key}
 use Rattle.wi_sheet.specs.CellValue.{cell_value}
-use Rattle.wi_sheet.specs.Demand.{Case, reaching, same_case}
+use Rattle.wi_sheet.specs.Demand.{Case, reaching, same_case, wants}
 use Rattle.wi_sheet.specs.Inner.Spending.{IsClosed, HasCase, NeverFall}
 use Rattle.wi_sheet.specs.Settled.{IsSettled, RestsOnKept}
 use Rattle.wi_sheet.proofs.Cases.{same_case-refl}
 use Rattle.wi_sheet.proofs.Counting.{one_less_left}
 use Rattle.wi_engine.specs.Inner.MemoState.{MemoState, IsTold, IsMemoOf}
 use Rattle.wi_engine.specs.Inner.Frames.{case_at, IsToValue, IsUnvalued, IsFrame, IsNext, spare}
-use Rattle.wi_engine.specs.Inner.Saving.{not_kept, KeepsFound, WhereRoom, Saves, SavesAll, TakesNoMore, GivesUpWhenFull, CountsUnkept, NeedsNoEvaluation, IsValuedAnew}
+use Rattle.wi_engine.specs.Inner.Saving.{not_kept, KeepsFound, WhereRoom, Saves, SavesAll, TakesPlaces, TakesNoMore, GivesUpWhenFull, CountsUnkept, NeedsNoEvaluation, IsValuedAnew}
 use Rattle.wi_engine.specs.Inner.SettledFrames.{IsFrameSettled}
 use Rattle.wi_engine.specs.declared.frame.Frame.{Frame}
 use Rattle.wi_engine.proofs.engine.Settling.{one_more_at_most}
 use Rattle.wi_engine.proofs.engine.FoundSettled.{settled_now}
 use Rattle.wi_engine.proofs.engine.FramesSettled.{IsSettling, settling_start, settling_push, settling_pop, rests_after}
 use Rattle.wi_engine.proofs.engine.Stacks.{same_frame}
-use Rattle.wi_engine.proofs.engine.Running.{unvalued_in, IsRunning, IsNew, Keeps, Finds, run_start, run_push, run_pop, run_evaluations, end_evaluations}
+use Rattle.wi_engine.proofs.engine.Running.{unvalued_in, IsRunning, IsNew, Keeps, Finds, run_start, run_push, run_pop, run_evaluations, run_restarts, end_evaluations, end_restarts}
 
 -- a memory, seen as if what is kept were what was found
 abbrev pub by_kept : MemoState → MemoState
@@ -68,11 +68,11 @@ pub record IsSaving (s : Sheet) (old m : MemoState) (root : Case) (start now : C
   pub stays : (c : ℕ) (w : List Replacement) → old.kept c w ≡ true → m.kept c w ≡ true
   pub settling : IsSettling s old m fs f
 
-pub takes_more : (old m n : MemoState) (before now next : ℕ) → TakesNoMore old m before now → m.room ≤ n.room + 1 → next ≡ one_more now → TakesNoMore old n before next
+pub takes_more : (old m n : MemoState) (before now next : ℕ) → TakesNoMore old m before now → TakesPlaces m n 0 1 → next ≡ one_more now → TakesNoMore old n before next
 takes_more old m n before now next h l e = at h (cases_lt now (2 ^ 64 - 1))
   where
-    at : (old.room + before ≤ m.room + now) ⊎ (2 ^ 64 - 1 ≤ now) → (now < 2 ^ 64 - 1) ⊎ (2 ^ 64 - 1 ≤ now) → (old.room + before ≤ n.room + next) ⊎ (2 ^ 64 - 1 ≤ next)
-    at (inl k) (inl f) = inl (omega (arith, k, f, l, e))
+    at : TakesNoMore old m before now → (now < 2 ^ 64 - 1) ⊎ (2 ^ 64 - 1 ≤ now) → TakesNoMore old n before next
+    at (inl k) (inl f) = inl (λ ks d. let a = k ks d in let b = l ks d in omega (arith, a, b, f, e))
     at (inl k) (inr f) = inr (omega (arith, f, e))
     at (inr k) f = inr (omega (arith, k, e))
 
@@ -165,12 +165,15 @@ saving_pop s old m a n root start now next fs gs f b k v ks closed top i ea eg e
 
 -- ---- the end
 
-pub saving_counts : (s : Sheet) (old m : MemoState) (root : Case) (start now next : Counts) (fs : List Frame) (f : Frame) → IsGoing s old m root start now fs f → next.evaluations ≤ now.evaluations + 1 → CountsUnkept s (λ ks. Contains ks root) old start.evaluations next.evaluations
+pub saving_counts : (s : Sheet) (old m : MemoState) (root : Case) (start now next : Counts) (fs : List Frame) (f : Frame) → IsGoing s old m root start now fs f → next.evaluations ≤ now.evaluations + 1 → CountsUnkept s (λ ks. Contains ks root) (λ k. 1) old start.evaluations next.evaluations
 saving_counts s old m root start now next fs f i l = λ ks closed top whole room. run_evaluations s (by_kept old) (by_kept m) root start now next fs f (i.saving ks closed top whole room).running l ks closed top
 
-pub saving_end : (s : Sheet) (old m a n : MemoState) (root : Case) (start now next : Counts) (fs : List Frame) (f : Frame) (k : Key) → IsGoing s old m root start now fs f → a ≡ m → fs ≡ [] → k ≡ f.key → Finds a n k → Takes a n k → next.evaluations ≡ one_more now.evaluations → (KeepsFound m → IsFrameSettled s m.kept f → RestsOnKept s m.kept (case_at f.key)) →
-    SavesAll s (λ ks. Contains ks root) old n start.evaluations next.evaluations
-saving_end s old m a n root start now next fs f k g ea e ek finds takes ev rests = λ ks closed top whole room.
+pub saving_restarts : (s : Sheet) (old m : MemoState) (root : Case) (start now next : Counts) (fs : List Frame) (f : Frame) → IsGoing s old m root start now fs f → next.restarts ≤ now.restarts + spare s f → CountsUnkept s (λ ks. Contains ks root) (wants s) old start.restarts next.restarts
+saving_restarts s old m root start now next fs f i l = λ ks closed top whole room. run_restarts s (by_kept old) (by_kept m) root start now next fs f (i.saving ks closed top whole room).running l ks closed top
+
+pub saving_end : (s : Sheet) (old m a n : MemoState) (root : Case) (start now next : Counts) (fs : List Frame) (f : Frame) (k : Key) → IsGoing s old m root start now fs f → a ≡ m → fs ≡ [] → k ≡ f.key → Finds a n k → Takes a n k → next.evaluations ≡ one_more now.evaluations → next.restarts ≤ now.restarts + spare s f →
+    (KeepsFound m → IsFrameSettled s m.kept f → RestsOnKept s m.kept (case_at f.key)) → SavesAll s (λ ks. Contains ks root) old n start next
+saving_end s old m a n root start now next fs f k g ea e ek finds takes ev re rests = λ ks closed top whole room.
     let i = g.saving ks closed top whole room in
     let finds_m : Finds m n f.key = finds_key m n k f.key ek (subst (λ (y : MemoState). Finds y n k) ea finds) in
     let takes_m : Takes m n f.key = takes_key m n k f.key ek (subst (λ (y : MemoState). Takes y n k) ea takes) in
@@ -181,6 +184,7 @@ saving_end s old m a n root start now next fs f k g ea e ek finds takes ev rests
     let more = one_more_at_most now.evaluations next.evaluations ev in
     record {
       counted = end_evaluations s (by_kept old) (by_kept m) (by_kept m) (by_kept n) root start now next fs f k i.running refl e ek kept_k ev ks closed top;
+      restarted = end_restarts s (by_kept old) (by_kept m) (by_kept m) (by_kept n) root start now next fs f k i.running refl e ek kept_k re ks closed top;
       added = omega (arith, added, places, more);
       room = one.2;
       stays = λ c w h. one.0 c w ∙ or_left (m.kept c w) _ (i.stays c w h);
@@ -231,12 +235,12 @@ found_easy s m n w a k v h en ec ew e =
     inr (ap (λ (u : List Replacement). is_some (m.known a u)) (sym world) ∙ ap (λ (c : ℕ). is_some (m.known c k.world)) (sym ec) ∙ ap (λ (o : Option Value). is_some o) (sym there))
 
 module _ (s : Sheet) (m : MemoState) (w : List Replacement) (a : ℕ) where
-  pub under_unkept : (before after : ℕ) (n : MemoState) (k : Key) → n ≡ m → IsUnvalued s m w a k → CountsUnkept s (λ ks. Contains ks (case_at k)) n before after → CountsUnkept s (HasCase s w a) m before after
-  under_unkept before after n k e u h = λ ks closed top.
-      let here : CountsUnkept s (λ ks. Contains ks (case_at k)) m before after = rw e at h in
+  pub under_unkept : (weight : Case → ℕ) (before after : ℕ) (n : MemoState) (k : Key) → n ≡ m → IsUnvalued s m w a k → CountsUnkept s (λ ks. Contains ks (case_at k)) weight n before after → CountsUnkept s (HasCase s w a) weight m before after
+  under_unkept weight before after n k e u h = λ ks closed top.
+      let here : CountsUnkept s (λ ks. Contains ks (case_at k)) weight m before after = rw e at h in
       here ks closed (unvalued_in s m w a k ks u top)
 
-  pub under_saves : (before after : ℕ) (n l : MemoState) (k : Key) → n ≡ m → IsUnvalued s m w a k → SavesAll s (λ ks. Contains ks (case_at k)) n l before after → SavesAll s (HasCase s w a) m l before after
+  pub under_saves : (before after : Counts) (n l : MemoState) (k : Key) → n ≡ m → IsUnvalued s m w a k → SavesAll s (λ ks. Contains ks (case_at k)) n l before after → SavesAll s (HasCase s w a) m l before after
   under_saves before after n l k e u h = λ ks closed top.
       let here : SavesAll s (λ ks. Contains ks (case_at k)) m l before after = rw e at h in
       here ks closed (unvalued_in s m w a k ks u top)
@@ -254,5 +258,5 @@ pub under_kept : (s : Sheet) (m n l : MemoState) (w : List Replacement) (a : ℕ
 under_kept s m n l w a k e u h r =
     ap (l.kept a) (sym u.world) ∙ ap (λ (c : ℕ). l.kept c k.world) (sym u.cell) ∙ h (let z = ap (λ (x : MemoState). x.capacity) e in omega (arith, r, z))
 
-pub none_saves : (s : Sheet) (Has : List Case → Type 0) (m l : MemoState) (n : ℕ) → l ≡ m → SavesAll s Has m l n n
-none_saves s Has m l n e = λ ks closed top whole room. subst (λ (x : MemoState). Saves s m x ks n n) (sym e) (record { counted = omega arith; added = omega arith; room = room; stays = λ c v i. i; found = whole; rests = λ c v i o. absurd (true≢false (sym i ∙ o)) })
+pub none_saves : (s : Sheet) (Has : List Case → Type 0) (m l : MemoState) (n : Counts) → l ≡ m → SavesAll s Has m l n n
+none_saves s Has m l n e = λ ks closed top whole room. subst (λ (x : MemoState). Saves s m x ks n n) (sym e) (record { counted = omega arith; restarted = omega arith; added = omega arith; room = room; stays = λ c v i. i; found = whole; rests = λ c v i o. absurd (true≢false (sym i ∙ o)) })

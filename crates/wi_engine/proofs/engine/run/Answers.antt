@@ -16,7 +16,7 @@ frames-init g c =
     let empty = c.new-stack.ensures.items in
     record {
       running = run_start s m c.args.key c.new-stack.result.items c.new-frame.result start c.requires.memo c.requires.key c.requires.unfound new empty;
-      places = inl (omega arith);
+      places = inl (λ ks d. omega arith);
       gives_up = gives_up_none m m refl;
       capacity = refl;
       latest = refl;
@@ -92,14 +92,33 @@ frames-preserved g c =
           k.found takes value c.advance.ensures.counts counted restarts rests;
     }
 
+pub returns-in_err-keep-in-Some-clause-takes : goal.returns-in_err-keep-in-Some-clause-takes
+returns-in_err-keep-in-Some-clause-takes g c =
+    let a = c.in_ok-next.ensures in
+    let counted = rw c.in-Done.is at a.evaluations in
+    takes_more (g.M.Memo.state c.args.memo.now) (g.M.Memo.state c.frames.memo) (g.M.Memo.state c.keep-in-Some.new.self) c.args.meter.now.evaluations c.frames.meter.evaluations c.advance.new.meter.evaluations c.frames.invariant.places (rw (← a.same) c.keep-in-Some.ensures.one_place) counted
+
+pub returns-in_err-keep-in-None-clause-takes : goal.returns-in_err-keep-in-None-clause-takes
+returns-in_err-keep-in-None-clause-takes g c =
+    let a = c.in_ok-next.ensures in
+    let counted = rw c.in-Done.is at a.evaluations in
+    takes_more (g.M.Memo.state c.args.memo.now) (g.M.Memo.state c.frames.memo) (g.M.Memo.state c.keep.new.self) c.args.meter.now.evaluations c.frames.meter.evaluations c.advance.new.meter.evaluations c.frames.invariant.places (rw (← a.same) c.keep.ensures.one_place) counted
+
+pub returns-in-None-clause-takes : goal.returns-in-None-clause-takes
+returns-in-None-clause-takes g c =
+    let a = c.in_ok-next.ensures in
+    let counted = rw c.in-Done.is at a.evaluations in
+    takes_more (g.M.Memo.state c.args.memo.now) (g.M.Memo.state c.frames.memo) (g.M.Memo.state c.keep.new.self) c.args.meter.now.evaluations c.frames.meter.evaluations c.advance.new.meter.evaluations c.frames.invariant.places (rw (← a.same) c.keep.ensures.one_place) counted
+
 pub returns-in-None-clause-saves : goal.returns-in-None-clause-saves
 returns-in-None-clause-saves g c =
     let k = c.in_ok-keep-in-None.ensures in
     let a = c.in_ok-next.ensures in
     let counted = rw c.in-Done.is at a.evaluations in
+    let restarts : c.advance.new.meter.restarts ≤ c.frames.meter.restarts + spare c.args.store.now.sheet c.frames.frame = omega (arith, a.restarts) in
     let takes : Takes (g.M.Memo.state c.advance.new.memo) (g.M.Memo.state c.keep.new.self) c.into_key.result = record { kept = k.kept; room = k.room } in
     saving_end c.args.store.now.sheet (g.M.Memo.state c.args.memo.now) (g.M.Memo.state c.frames.memo) (g.M.Memo.state c.advance.new.memo) (g.M.Memo.state c.keep.new.self) (case_at c.args.key) c.args.meter.now c.frames.meter c.advance.new.meter
-    c.frames.stack.items c.frames.frame c.into_key.result c.frames.invariant a.same (search rules) (c.into_key.ensures ∙ a.key) k.found takes counted (rw c.in-Done.is at a.rests)
+    c.frames.stack.items c.frames.frame c.into_key.result c.frames.invariant a.same (search rules) (c.into_key.ensures ∙ a.key) k.found takes counted restarts (rw c.in-Done.is at a.rests)
 
 pub returns-in-None-clause-settled : goal.returns-in-None-clause-settled
 returns-in-None-clause-settled g c =

@@ -58,13 +58,18 @@ returns-in-Unknown-clause-uncounted g c =
 pub returns-in-Unknown-clause-unkept_evaluations : goal.returns-in-Unknown-clause-unkept_evaluations
 returns-in-Unknown-clause-unkept_evaluations g c =
     let u = rw c.in-Unknown.is at c.in_ok-value.ensures.unknown in
-    under_unkept c.args.store.now.sheet (g.M.Memo.state c.args.memo.now) c.args.world.now c.args.at c.args.meter.now.evaluations c.run.new.meter.evaluations (g.M.Memo.state c.value_now.new.memo) c.in-Unknown.key c.in_ok-value.ensures.same u c.run.ensures.unkept_evaluations
+    under_unkept c.args.store.now.sheet (g.M.Memo.state c.args.memo.now) c.args.world.now c.args.at (λ k. 1) c.args.meter.now.evaluations c.run.new.meter.evaluations (g.M.Memo.state c.value_now.new.memo) c.in-Unknown.key c.in_ok-value.ensures.same u c.run.ensures.unkept_evaluations
+
+pub returns-in-Unknown-clause-unkept_restarts : goal.returns-in-Unknown-clause-unkept_restarts
+returns-in-Unknown-clause-unkept_restarts g c =
+    let u = rw c.in-Unknown.is at c.in_ok-value.ensures.unknown in
+    under_unkept c.args.store.now.sheet (g.M.Memo.state c.args.memo.now) c.args.world.now c.args.at (wants c.args.store.now.sheet) c.args.meter.now.restarts c.run.new.meter.restarts (g.M.Memo.state c.value_now.new.memo) c.in-Unknown.key c.in_ok-value.ensures.same u c.run.ensures.unkept_restarts
 
 pub returns-in-Unknown-clause-saves : goal.returns-in-Unknown-clause-saves
 returns-in-Unknown-clause-saves g c =
     let u = rw c.in-Unknown.is at c.in_ok-value.ensures.unknown in
     IfOk-weaker c.run.result _ _
-    (λ v h. under_saves c.args.store.now.sheet (g.M.Memo.state c.args.memo.now) c.args.world.now c.args.at c.args.meter.now.evaluations c.run.new.meter.evaluations (g.M.Memo.state c.value_now.new.memo) (g.M.Memo.state c.run.new.memo) c.in-Unknown.key c.in_ok-value.ensures.same u h)
+    (λ v h. under_saves c.args.store.now.sheet (g.M.Memo.state c.args.memo.now) c.args.world.now c.args.at c.args.meter.now c.run.new.meter (g.M.Memo.state c.value_now.new.memo) (g.M.Memo.state c.run.new.memo) c.in-Unknown.key c.in_ok-value.ensures.same u h)
     c.run.ensures.saves
 
 pub returns-in-Unknown-clause-settled : goal.returns-in-Unknown-clause-settled

@@ -49,9 +49,14 @@ loop-pair-preserved g c =
       restarts = more_found s w pairs index pair less c.pair-item.is (wants s) old.found mid.found new.found start.restarts before.restarts after.restarts i.restarts v.restarts_ok;
       takes = takes_then old mid new start.evaluations before.evaluations after.evaluations i.takes v.takes v.counts.0;
       gives_up = gives_up_then old mid new i.gives_up v.gives_up;
-      saves = more_saves s w pairs index pair less c.pair-item.is old mid start.evaluations before.evaluations i.saves new after.evaluations v.saves;
-      settled = more_settled s w pairs index pair less c.pair-item.is old mid start.evaluations before.evaluations i.saves new after.evaluations v.saves i.settled v.settled;
+      saves = more_saves s w pairs index pair less c.pair-item.is old mid start before i.saves new after v.saves;
+      settled = more_settled s w pairs index pair less c.pair-item.is old mid start before i.saves new after v.saves i.settled v.settled;
     }
+
+pub returns-in_err-push-clause-takes : goal.returns-in_err-push-clause-takes
+returns-in_err-push-clause-takes g c =
+    let v = c.in_ok-value.ensures in
+    takes_then (g.M.Memo.state c.args.memo.now) (g.M.Memo.state c.loop-pair.memo) (g.M.Memo.state c.value_under.new.memo) c.args.meter.now.evaluations c.loop-pair.meter.evaluations c.value_under.new.meter.evaluations c.loop-pair.invariant.takes v.takes v.counts.0
 
 pub returns-clause-settled : goal.returns-clause-settled
 returns-clause-settled g c =

@@ -21,6 +21,6 @@ invariant-loop-pair g l = record {
   restarts : CountsFound l.store.sheet (HasReplacing l.store.sheet l.world l.pairs) (wants l.store.sheet) (g.M.Memo.state l.fn.memo).found (g.M.Memo.state l.memo).found l.fn.meter.restarts l.meter.restarts;
   takes : TakesNoMore (g.M.Memo.state l.fn.memo) (g.M.Memo.state l.memo) l.fn.meter.evaluations l.meter.evaluations;
   gives_up : GivesUpWhenFull (g.M.Memo.state l.fn.memo) (g.M.Memo.state l.memo);
-  saves : SavesAll l.store.sheet (HasReplacing l.store.sheet l.world l.pairs) (g.M.Memo.state l.fn.memo) (g.M.Memo.state l.memo) l.fn.meter.evaluations l.meter.evaluations;
+  saves : SavesAll l.store.sheet (HasReplacing l.store.sheet l.world l.pairs) (g.M.Memo.state l.fn.memo) (g.M.Memo.state l.memo) l.fn.meter l.meter;
   settled : WhereRoom l.store.sheet (HasReplacing l.store.sheet l.world l.pairs) (g.M.Memo.state l.fn.memo) (λ ks. All (λ x. IsSettled l.store.sheet (g.M.Memo.state l.memo).kept l.world x.1) (take l.pair-index l.pairs));
 }

@@ -7,11 +7,12 @@ use Rattle.wi_graph.specs.Circular.{circular}
 use Rattle.wi_sheet.specs.CellValue.{cell_value}
 use Rattle.wi_sheet.specs.Demand.{same_case}
 use Rattle.wi_propagate.specs.Right.{IsKeptFor}
-use Rattle.wi_engine.specs.Inner.Saving.{GivesUpWhenFull}
+use Rattle.wi_engine.specs.Inner.Saving.{TakesPlaces, GivesUpWhenFull}
 use Rattle.wi_propagate.specs.Inner.Keeping.{Keeping, keeping, state_in}
 use Rattle.wi_propagate.specs.KeptSheet.{generation_in, key_in}
 use Rattle.wi_propagate.proofs.KeptSteps.{found_is_kept}
 use Rattle.wi_propagate.proofs.KeepingSteps.{KeepsIn, right_after, put_found, found_after, kept_after, known_after, gives_up_after}
+use Rattle.wi_propagate.proofs.PlacesTaken.{one_place_after}
 use Rattle.wi_propagate.proofs.keeping.KeepingMemo.keep.Goals as goal
 
 pub returns-clause-there : goal.returns-clause-there
@@ -72,3 +73,13 @@ returns-clause-gives_up c =
     let keeps : KeepsIn c.keep-2.result i.kept c.keep-2.new.self c.args.key c.args.value = record { found = e.found; stays = e.stays; goes = e.one_goes; len = e.len; capacity = e.capacity; err = e.err } in
     subst (λ (q : Keeping). GivesUpWhenFull (state_in q) (state_in (keeping s.sheet s.edits gs c.keep.new.self c.keep-2.new.self))) c.self.view_is
     (gives_up_after c.keep-2.result s.sheet s.edits gs i.table c.keep.new.self i.kept c.keep-2.new.self c.args.key c.args.value keeps)
+
+pub returns-clause-one_place : goal.returns-clause-one_place
+returns-clause-one_place c =
+    let i = c.self.inside in
+    let s = i.store.now in
+    let gs = i.generations.now.entries in
+    let e = c.keep-2.ensures in
+    let keeps : KeepsIn c.keep-2.result i.kept c.keep-2.new.self c.args.key c.args.value = record { found = e.found; stays = e.stays; goes = e.one_goes; len = e.len; capacity = e.capacity; err = e.err } in
+    subst (λ (q : Keeping). TakesPlaces (state_in q) (state_in (keeping s.sheet s.edits gs c.keep.new.self c.keep-2.new.self)) 0 1) c.self.view_is
+    (one_place_after c.keep-2.result s.sheet s.edits gs i.table c.keep.new.self i.kept c.keep-2.new.self c.args.key c.args.value keeps)

@@ -12,7 +12,7 @@ use Rattle.wi_propagate.specs.Inner.Cones.{AreAllCones}
 use Rattle.wi_propagate.specs.Inner.Keeping.{Keeping, kept_sheet, begun, state_in}
 use Rattle.wi_cache.specs.Entries.{KeptValues}
 use Rattle.wi_propagate.proofs.Showing.{put_alone, shown_value}
-use Rattle.wi_propagate.proofs.Questions.{begun_is, begun_right, begun_within, may_be_read, right_then, asked_at_most, asked_evaluations, asked_unkept, asked_saves, asked_keeps, asked_no_more, asked_while_room, asked_kept, at_hand_is, has_case}
+use Rattle.wi_propagate.proofs.Questions.{begun_is, begun_right, begun_within, begun_one_each, may_be_read, right_then, asked_at_most, asked_evaluations, asked_unkept, asked_unkept_evaluations, asked_saves, asked_keeps, asked_no_more, none_no_more, asked_while_room, asked_kept, at_hand_is, has_case}
 use Rattle.wi_propagate.proofs.kept.KeptCalculatorCalculator.value.Goals as goal
 
 pub returns-clause-evaluations_never_fall : goal.returns-clause-evaluations_never_fall
@@ -90,8 +90,8 @@ returns-clause-restarts c =
     subst (λ (x : KeptSheet). c.value_under-result.new.meter.restarts ≤ x.counts.restarts + sum_by (wants x.stored.sheet) (demanded x.stored.sheet c.args.put.now c.args.at)) c.self.view_is
     (asked_at_most k c.new-memo.result q Has cases closed has (wants i.store.sheet) i.meter.restarts c.value_under-result.new.meter.restarts c.value_under-result.ensures.restarts)
 
-pub returns-clause-unkept : goal.returns-clause-unkept
-returns-clause-unkept c =
+pub returns-clause-unkept_evaluations : goal.returns-clause-unkept_evaluations
+returns-clause-unkept_evaluations c =
     let i = c.self.inside in
     let k : KeptSheet = kept_sheet i.store i.generations.entries i.kept i.meter in
     let o : circular i.store.sheet c.args.at ≡ false = sym (c.is_circular.ensures i.store.sheet c.self.invariant.1) ∙ c.if-is_circular.false in
@@ -101,9 +101,22 @@ returns-clause-unkept c =
     let has = has_case k c.new-memo.result c.in_ok-world.world c.args.put.now c.args.at q o same in
     let closed = different_closed i.store.sheet (case_of i.store.sheet c.args.put.now c.args.at) in
     let Has = HasCase i.store.sheet c.in_ok-world.world c.args.at in
-    let unkept_is = asked_unkept k c.new-memo.result q Has cases closed has i.meter.evaluations c.value_under-result.new.meter.evaluations c.value_under-result.ensures.unkept_evaluations in
-    subst (λ (x : KeptSheet). HasRoomFor x (demanded x.stored.sheet c.args.put.now c.args.at) → c.value_under-result.new.meter.evaluations ≤ x.counts.evaluations + unkept x (demanded x.stored.sheet c.args.put.now c.args.at)) c.self.view_is
-    unkept_is
+    subst (λ (x : KeptSheet). HasRoomFor x (demanded x.stored.sheet c.args.put.now c.args.at) → c.value_under-result.new.meter.evaluations ≤ x.counts.evaluations + length (unkept x (demanded x.stored.sheet c.args.put.now c.args.at))) c.self.view_is
+    (asked_unkept_evaluations k c.new-memo.result q Has cases closed has i.meter.evaluations c.value_under-result.new.meter.evaluations c.value_under-result.ensures.unkept_evaluations)
+
+pub returns-clause-unkept_restarts : goal.returns-clause-unkept_restarts
+returns-clause-unkept_restarts c =
+    let i = c.self.inside in
+    let k : KeptSheet = kept_sheet i.store i.generations.entries i.kept i.meter in
+    let o : circular i.store.sheet c.args.at ≡ false = sym (c.is_circular.ensures i.store.sheet c.self.invariant.1) ∙ c.if-is_circular.false in
+    let q : c.new-memo.result ≡ begun k = begun_is i.store i.generations.entries i.kept i.meter _ c.new-memo.result c.new-memo.ensures.value c.in-Some.ensures.value in
+    let same = put_alone c.in_ok-world.world c.new.result c.args.put.now c.requires c.new.ensures c.in_ok-world.ensures.list in
+    let cases = demanded i.store.sheet c.args.put.now c.args.at in
+    let has = has_case k c.new-memo.result c.in_ok-world.world c.args.put.now c.args.at q o same in
+    let closed = different_closed i.store.sheet (case_of i.store.sheet c.args.put.now c.args.at) in
+    let Has = HasCase i.store.sheet c.in_ok-world.world c.args.at in
+    subst (λ (x : KeptSheet). HasRoomFor x (demanded x.stored.sheet c.args.put.now c.args.at) → c.value_under-result.new.meter.restarts ≤ x.counts.restarts + sum_by (wants x.stored.sheet) (unkept x (demanded x.stored.sheet c.args.put.now c.args.at))) c.self.view_is
+    (asked_unkept k c.new-memo.result q Has cases closed has (wants i.store.sheet) i.meter.restarts c.value_under-result.new.meter.restarts c.value_under-result.ensures.unkept_restarts)
 
 pub returns-clause-easy : goal.returns-clause-easy
 returns-clause-easy c =
@@ -143,7 +156,13 @@ returns-clause-keeps c =
     let e = c.value_under-result.ensures in
     subst (λ (x : KeptSheet). OnOk c.value_under-result.result (HasRoomFor x (demanded x.stored.sheet c.args.put.now c.args.at) → KeepsAll x new)) c.self.view_is
     (IfOk-weaker c.value_under-result.result _ _ (λ v h room. asked_keeps k c.new-memo.result c.value_under-result.new.memo c.into_parts-kept.result.0 c.value_under-result.new.meter q e.same_generation e.same_capacity c.into_parts-kept.ensures.kept cases room
-    (asked_saves k c.new-memo.result q Has cases closed has (state_in c.value_under-result.new.memo) i.meter.evaluations c.value_under-result.new.meter.evaluations h room)) e.saves)
+    (asked_saves k c.new-memo.result q Has cases closed has (state_in c.value_under-result.new.memo) i.meter c.value_under-result.new.meter h room)) e.saves)
+
+pub returns-then-is_circular-clause-no_more : goal.returns-then-is_circular-clause-no_more
+returns-then-is_circular-clause-no_more c = none_no_more c.args.self.now
+
+pub returns-in_err-world-clause-no_more : goal.returns-in_err-world-clause-no_more
+returns-in_err-world-clause-no_more c = none_no_more c.args.self.now
 
 pub returns-clause-no_more : goal.returns-clause-no_more
 returns-clause-no_more c =
@@ -153,7 +172,7 @@ returns-clause-no_more c =
     let new : KeptSheet = record { stored = i.store; generations = i.generations.entries; values = c.into_parts-kept.result.0; counts = c.value_under-result.new.meter } in
     let e = c.value_under-result.ensures in
     subst (λ (x : KeptSheet). KeepsNoMore x new) c.self.view_is
-    (asked_no_more k c.new-memo.result c.value_under-result.new.memo c.into_parts-kept.result.0 c.value_under-result.new.meter q e.same_generation e.same_capacity c.into_parts-kept.ensures.kept c.into_parts-kept.ensures.within e.takes)
+    (asked_no_more k c.new-memo.result c.value_under-result.new.memo c.into_parts-kept.result.0 c.value_under-result.new.meter q e.same_generation e.same_capacity c.into_parts-kept.ensures.kept c.into_parts-kept.ensures.within (begun_one_each i.kept _ c.in-Some.ensures.value c.new-memo.ensures.one_each) e.takes)
 
 pub returns-clause-while_room : goal.returns-clause-while_room
 returns-clause-while_room c =
@@ -164,7 +183,7 @@ returns-clause-while_room c =
     let e = c.value_under-result.ensures in
     let within = begun_within i.kept _ c.in-Some.ensures.value c.new-memo.ensures.within in
     subst (λ (x : KeptSheet). KeepsWhileRoom x new) c.self.view_is
-    (asked_while_room k c.new-memo.result c.value_under-result.new.memo c.into_parts-kept.result.0 c.value_under-result.new.meter q e.same_generation e.same_capacity c.into_parts-kept.ensures.kept within e.gives_up)
+    (asked_while_room k c.new-memo.result c.value_under-result.new.memo c.into_parts-kept.result.0 c.value_under-result.new.meter q e.same_generation e.same_capacity c.into_parts-kept.ensures.kept within e.gives_up e.takes)
 
 pub returns-clause-same_room : goal.returns-clause-same_room
 returns-clause-same_room c =

@@ -12,7 +12,7 @@ use Rattle.wi_propagate.specs.Inner.Cones.{AreAllCones}
 use Rattle.wi_propagate.specs.Inner.Keeping.{Keeping, kept_sheet, begun, state_in}
 use Rattle.wi_cache.specs.Entries.{KeptValues}
 use Rattle.wi_propagate.proofs.Showing.{put_alone}
-use Rattle.wi_propagate.proofs.Questions.{begun_is, begun_right, begun_within, may_be_read, right_then, asked_at_most, asked_evaluations, asked_unkept, asked_saves, asked_keeps, asked_no_more, asked_while_room, asked_where, asked_settled, entry_has, circular_entry, circular_clash, open_cells, entry_shown}
+use Rattle.wi_propagate.proofs.Questions.{begun_is, begun_right, begun_within, begun_one_each, may_be_read, right_then, asked_at_most, asked_evaluations, asked_unkept, asked_unkept_evaluations, asked_saves, asked_keeps, asked_no_more, none_no_more, asked_while_room, asked_where, asked_settled, entry_has, circular_entry, circular_clash, open_cells, entry_shown}
 use Rattle.wi_propagate.proofs.kept.KeptCalculatorCalculator.what_if_value.Goals as goal
 
 pub returns-then-entry_is_circular-clause-value : goal.returns-then-entry_is_circular-clause-value
@@ -107,8 +107,8 @@ returns-clause-restarts c =
     subst (λ (x : KeptSheet). c.open_entry-result.new.meter.restarts ≤ x.counts.restarts + sum_by (wants x.stored.sheet) (entry_demanded x.stored.sheet c.args.put.now c.args.formula_cell c.args.pairs.now)) c.self.view_is
     (asked_at_most k c.new-memo.result q Has cases closed has (wants s) i.meter.restarts c.open_entry-result.new.meter.restarts c.open_entry-result.ensures.restarts)
 
-pub returns-clause-unkept : goal.returns-clause-unkept
-returns-clause-unkept c =
+pub returns-clause-unkept_evaluations : goal.returns-clause-unkept_evaluations
+returns-clause-unkept_evaluations c =
     let i = c.self.inside in
     let k : KeptSheet = kept_sheet i.store i.generations.entries i.kept i.meter in
     let q : c.new-memo.result ≡ begun k = begun_is i.store i.generations.entries i.kept i.meter _ c.new-memo.result c.new-memo.ensures.value c.in-Some.ensures.value in
@@ -120,8 +120,24 @@ returns-clause-unkept c =
     let has = entry_has s c.in_ok-world.world c.args.put.now c.args.formula_cell c.args.pairs.now o same in
     let closed = table_closed s c.args.put.now c.args.formula_cell c.args.pairs.now in
     let Has = HasEntry s c.in_ok-world.world c.args.formula_cell c.args.pairs.now in
-    let unkept_is = asked_unkept k c.new-memo.result q Has cases closed has i.meter.evaluations c.open_entry-result.new.meter.evaluations c.open_entry-result.ensures.unkept_evaluations in
-    subst (λ (x : KeptSheet). HasRoomFor x (entry_demanded x.stored.sheet c.args.put.now c.args.formula_cell c.args.pairs.now) → c.open_entry-result.new.meter.evaluations ≤ x.counts.evaluations + unkept x (entry_demanded x.stored.sheet c.args.put.now c.args.formula_cell c.args.pairs.now)) c.self.view_is unkept_is
+    subst (λ (x : KeptSheet). HasRoomFor x (entry_demanded x.stored.sheet c.args.put.now c.args.formula_cell c.args.pairs.now) → c.open_entry-result.new.meter.evaluations ≤ x.counts.evaluations + length (unkept x (entry_demanded x.stored.sheet c.args.put.now c.args.formula_cell c.args.pairs.now))) c.self.view_is
+    (asked_unkept_evaluations k c.new-memo.result q Has cases closed has i.meter.evaluations c.open_entry-result.new.meter.evaluations c.open_entry-result.ensures.unkept_evaluations)
+
+pub returns-clause-unkept_restarts : goal.returns-clause-unkept_restarts
+returns-clause-unkept_restarts c =
+    let i = c.self.inside in
+    let k : KeptSheet = kept_sheet i.store i.generations.entries i.kept i.meter in
+    let q : c.new-memo.result ≡ begun k = begun_is i.store i.generations.entries i.kept i.meter _ c.new-memo.result c.new-memo.ensures.value c.in-Some.ensures.value in
+    let s = i.store.sheet in
+    let h = c.self.invariant in
+    let o = open_cells s c.args.formula_cell c.args.pairs.now c.entry_is_circular.result (c.entry_is_circular.ensures s h.1) c.if-entry_is_circular.false in
+    let same = put_alone c.in_ok-world.world c.new.result c.args.put.now c.requires c.new.ensures c.in_ok-world.ensures.list in
+    let cases = entry_demanded s c.args.put.now c.args.formula_cell c.args.pairs.now in
+    let has = entry_has s c.in_ok-world.world c.args.put.now c.args.formula_cell c.args.pairs.now o same in
+    let closed = table_closed s c.args.put.now c.args.formula_cell c.args.pairs.now in
+    let Has = HasEntry s c.in_ok-world.world c.args.formula_cell c.args.pairs.now in
+    subst (λ (x : KeptSheet). HasRoomFor x (entry_demanded x.stored.sheet c.args.put.now c.args.formula_cell c.args.pairs.now) → c.open_entry-result.new.meter.restarts ≤ x.counts.restarts + sum_by (wants x.stored.sheet) (unkept x (entry_demanded x.stored.sheet c.args.put.now c.args.formula_cell c.args.pairs.now))) c.self.view_is
+    (asked_unkept k c.new-memo.result q Has cases closed has (wants s) i.meter.restarts c.open_entry-result.new.meter.restarts c.open_entry-result.ensures.unkept_restarts)
 
 pub returns-clause-keeps : goal.returns-clause-keeps
 returns-clause-keeps c =
@@ -140,7 +156,7 @@ returns-clause-keeps c =
     let e = c.open_entry-result.ensures in
     subst (λ (x : KeptSheet). OnOk c.open_entry-result.result (HasRoomFor x (entry_demanded x.stored.sheet c.args.put.now c.args.formula_cell c.args.pairs.now) → KeepsAll x new)) c.self.view_is
     (IfOk-weaker c.open_entry-result.result _ _ (λ v g room. asked_keeps k c.new-memo.result c.open_entry-result.new.memo c.into_parts-kept.result.0 c.open_entry-result.new.meter q e.same_generation e.same_capacity c.into_parts-kept.ensures.kept cases room
-    (asked_saves k c.new-memo.result q Has cases closed has (state_in c.open_entry-result.new.memo) i.meter.evaluations c.open_entry-result.new.meter.evaluations g room)) e.saves)
+    (asked_saves k c.new-memo.result q Has cases closed has (state_in c.open_entry-result.new.memo) i.meter c.open_entry-result.new.meter g room)) e.saves)
 
 pub returns-clause-settled : goal.returns-clause-settled
 returns-clause-settled c =
@@ -163,6 +179,12 @@ returns-clause-settled c =
     (IfOk-weaker c.open_entry-result.result _ _ (λ v g room a b. asked_settled k c.new-memo.result c.open_entry-result.new.memo c.into_parts-kept.result.0 c.open_entry-result.new.meter q e.same_generation e.same_capacity c.into_parts-kept.ensures.kept c.in_ok-world.world c.args.put.now x same
     (asked_where k c.new-memo.result q Has cases closed has _ g room)) e.settled)
 
+pub returns-then-entry_is_circular-clause-no_more : goal.returns-then-entry_is_circular-clause-no_more
+returns-then-entry_is_circular-clause-no_more c = none_no_more c.args.self.now
+
+pub returns-in_err-world-clause-no_more : goal.returns-in_err-world-clause-no_more
+returns-in_err-world-clause-no_more c = none_no_more c.args.self.now
+
 pub returns-clause-no_more : goal.returns-clause-no_more
 returns-clause-no_more c =
     let i = c.self.inside in
@@ -171,7 +193,7 @@ returns-clause-no_more c =
     let new : KeptSheet = record { stored = i.store; generations = i.generations.entries; values = c.into_parts-kept.result.0; counts = c.open_entry-result.new.meter } in
     let e = c.open_entry-result.ensures in
     subst (λ (x : KeptSheet). KeepsNoMore x new) c.self.view_is
-    (asked_no_more k c.new-memo.result c.open_entry-result.new.memo c.into_parts-kept.result.0 c.open_entry-result.new.meter q e.same_generation e.same_capacity c.into_parts-kept.ensures.kept c.into_parts-kept.ensures.within e.takes)
+    (asked_no_more k c.new-memo.result c.open_entry-result.new.memo c.into_parts-kept.result.0 c.open_entry-result.new.meter q e.same_generation e.same_capacity c.into_parts-kept.ensures.kept c.into_parts-kept.ensures.within (begun_one_each i.kept _ c.in-Some.ensures.value c.new-memo.ensures.one_each) e.takes)
 
 pub returns-clause-while_room : goal.returns-clause-while_room
 returns-clause-while_room c =
@@ -182,7 +204,7 @@ returns-clause-while_room c =
     let e = c.open_entry-result.ensures in
     let within = begun_within i.kept _ c.in-Some.ensures.value c.new-memo.ensures.within in
     subst (λ (x : KeptSheet). KeepsWhileRoom x new) c.self.view_is
-    (asked_while_room k c.new-memo.result c.open_entry-result.new.memo c.into_parts-kept.result.0 c.open_entry-result.new.meter q e.same_generation e.same_capacity c.into_parts-kept.ensures.kept within e.gives_up)
+    (asked_while_room k c.new-memo.result c.open_entry-result.new.memo c.into_parts-kept.result.0 c.open_entry-result.new.meter q e.same_generation e.same_capacity c.into_parts-kept.ensures.kept within e.gives_up e.takes)
 
 pub returns-clause-same_room : goal.returns-clause-same_room
 returns-clause-same_room c =
