@@ -1,8 +1,8 @@
 -- The rectangles of records, as the code goes through them.
-use Rattle.std.proofs.Common.{◌≡◌, ◌==◌, ℕ, ◌+◌, ◌-◌, ◌<◌, ◌≤◌, min, max, List, [], ◌∷◌, ◌++◌, length, drop, get_or, Option, Some, None, false, refl, sym, ap, ◌∙◌, arith, Vec}
+use Rattle.std.proofs.Common.{◌≡◌, ◌==◌, ℕ, ◌+◌, ◌-◌, ◌<◌, ◌≤◌, min, max, List, [], ◌∷◌, length, drop, get_or, Option, Some, None, false, refl, sym, ap, ◌∙◌, arith, Vec}
 use Rattle.std.specs.declared.alloc.Global.{Global}
 use Rattle.std.proofs.lemmas.List.{at_drop_more, length-map}
-use Rattle.wi_values.specs.Address.{Area, rows, columns, place, row_of, column_of, rect_of}
+use Rattle.wi_values.specs.Address.{Area, columns, place, row_of, column_of, rect_of}
 use Rattle.wi_import.specs.Areas.{areas_from}
 use Rattle.wi_import.specs.Inner.Records.{bytes_of, all_bytes, area_of}
 

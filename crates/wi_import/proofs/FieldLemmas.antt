@@ -1,10 +1,10 @@
 -- The fields of records, as the code goes through them.
-use Rattle.std.proofs.Common.{◌≡◌, ◌==◌, ℕ, zero, suc, ◌+◌, ◌-◌, ◌<◌, ◌≤◌, nat_le, nat_lt, Bool, true, false, not, ◌||◌, if◌then◌else◌, List, [], ◌∷◌, ◌++◌, map, length, drop, get_or, Option, Some, None, is_some, Result, Ok, Err, MatchResult, is_ok, is_err, IsOk, refl, sym, ap, ◌∙◌, subst, arith, Vec, IsUtf8, codes}
+use Rattle.std.proofs.Common.{◌≡◌, ◌==◌, ℕ, suc, ◌+◌, ◌<◌, ◌≤◌, nat_le, nat_lt, Bool, true, false, not, ◌||◌, if◌then◌else◌, List, [], ◌∷◌, ◌++◌, map, length, drop, get_or, Option, Some, None, is_some, Result, Ok, Err, MatchResult, is_ok, is_err, IsOk, refl, sym, ap, ◌∙◌, arith, Vec, IsUtf8, codes}
 use Rattle.std.specs.declared.alloc.Global.{Global}
 use Rattle.std.specs.List.{list_any}
 use Rattle.std.specs.Str.{bytes_eq, is_utf8}
 use Rattle.std.proofs.lemmas.Bool.Decides.{nat_tests}
-use Rattle.std.proofs.lemmas.List.{map-append, at_drop_more, at_drop_all, length-map}
+use Rattle.std.proofs.lemmas.List.{at_drop_more, length-map}
 use Rattle.std.proofs.lemmas.List.Folds.{list_any-append}
 use Rattle.std.proofs.lemmas.Slice.Eq.{bytes_eq-Decides}
 use Rattle.std.proofs.lemmas.Str.{IsUtf8-from_is_utf8, is_utf8-from_IsUtf8}
@@ -59,9 +59,9 @@ record_outside row column field [] =
 record_outside row column field (x ∷ xs) =
     let sizes : column + 1 + length (x ∷ xs) ≡ column + length (field ∷ x ∷ xs) = omega arith in
     either_outside (nat_le rows row) (nat_le columns column) (nat_lt columns (column + length (field ∷ x ∷ xs)))
-        (list_any is_outside (fields_of row (column + 1) (x ∷ xs)))
-        (record_outside row (column + 1) x xs ∙ ap (λ n. nat_le rows row || nat_lt columns n) sizes)
-        (λ e. grind (arith, nat_tests, e))
+    (list_any is_outside (fields_of row (column + 1) (x ∷ xs)))
+    (record_outside row (column + 1) x xs ∙ ap (λ n. nat_le rows row || nat_lt columns n) sizes)
+    (λ e. grind (arith, nat_tests, e))
 
 -- ---- no fault
 
@@ -94,7 +94,7 @@ pub none_faulty : (fields : List Field) → fault_among fields ≡ None → list
 none_faulty fields e =
     let h = no_first (list_any (λ f. is_bad f.bytes) fields) (list_any (λ f. is_too_long f.bytes) fields) (list_any is_outside fields) e in
     any_or (λ f. is_bad f.bytes) (λ f. is_too_long f.bytes || is_outside f) fields h.0
-        (any_or (λ f. is_too_long f.bytes) is_outside fields h.1 h.2)
+    (any_or (λ f. is_too_long f.bytes) is_outside fields h.1 h.2)
 
 pub none_outside : (fields : List Field) → fault_among fields ≡ None → list_any is_outside fields ≡ false
 none_outside fields e =
@@ -173,14 +173,14 @@ some_word false false false x y z e = refl
 words_long : (text : List ℕ) → max_text < length text → words_value text ≡ None
 words_long text long =
     no_word (bytes_eq text (codes "TRUE")) (bytes_eq text (codes "FALSE")) (nat_lt max_text (length text)) (Logical true) (Logical false) (Text text)
-        (not_named text (codes "TRUE") (omega (arith, long)) (bytes_eq text (codes "TRUE")) refl)
-        (not_named text (codes "FALSE") (omega (arith, long)) (bytes_eq text (codes "FALSE")) refl)
-        (grind (arith, nat_tests, long))
+    (not_named text (codes "TRUE") (omega (arith, long)) (bytes_eq text (codes "TRUE")) refl)
+    (not_named text (codes "FALSE") (omega (arith, long)) (bytes_eq text (codes "FALSE")) refl)
+    (grind (arith, nat_tests, long))
 
 words_short : (text : List ℕ) → length text ≤ max_text → is_some (words_value text) ≡ true
 words_short text short =
     some_word (bytes_eq text (codes "TRUE")) (bytes_eq text (codes "FALSE")) (nat_lt max_text (length text)) (Logical true) (Logical false) (Text text)
-        (grind (arith, nat_tests, short))
+    (grind (arith, nat_tests, short))
 
 number_or_none : (o : Option Numbers) (w : Option Value) → w ≡ None → is_some (number_or o w) ≡ is_some o
 number_or_none (Some x) w e = refl

@@ -1,5 +1,5 @@
 -- What imports of fields come to: what the function finds, and nothing else.
-use Rattle.std.proofs.Common.{◌≡◌, ◌≢◌, ◌↔◌, ℕ, ◌<◌, nat_le, Bool, true, false, not, ◌||◌, if◌then◌else◌, List, [], ◌∷◌, map, length, get_or, Option, Some, None, is_some, option_map, Result, Ok, Err, refl, sym, ap, ◌∙◌, subst, arith, IsUtf8, All}
+use Rattle.std.proofs.Common.{◌≡◌, ◌↔◌, ℕ, ◌<◌, nat_le, Bool, true, false, not, ◌||◌, List, [], ◌∷◌, map, length, get_or, Option, Some, None, is_some, option_map, Result, Ok, Err, refl, sym, ap, ◌∙◌, subst, arith, IsUtf8, All}
 use Rattle.std.specs.List.{Any, AllZip, list_any}
 use Rattle.std.specs.Str.{is_utf8}
 use Rattle.std.proofs.lemmas.Bool.Decides.{nat_tests}
@@ -9,15 +9,14 @@ use Rattle.wi_fraction.specs.Number.{Number as Numbers}
 use Rattle.wi_fraction.specs.Inner.Reading.{read}
 use Rattle.wi_values.specs.Address.{rows, columns}
 use Rattle.wi_values.specs.Imported.{IsImported, a_number, a_truth_value, a_text, too_long as too_long_text}
-use Rattle.wi_values.specs.Inner.Import.{imported, field_value, number_or, words_value}
+use Rattle.wi_values.specs.Inner.Import.{imported, field_value, number_or}
 use Rattle.wi_values.proofs.Imports.{imported_exactly}
 use Rattle.wi_values.specs.declared.value.Value.{Value}
 use Rattle.wi_parser.specs.declared.content.Content.{Content}
 use Rattle.wi_parser.specs.declared.content.Content.TheVariants.{Constant}
 use Rattle.wi_import.specs.declared.fault.ImportFault.{ImportFault}
-use Rattle.wi_import.specs.declared.fault.ImportFault.TheVariants.{BadField, TooLong, OutOfSheet}
 use Rattle.wi_import.specs.Fields.{Field, cell_of, IsInside, IsText}
-use Rattle.wi_import.specs.Imports.{IsFieldContent, no_content, a_constant, IsChange, AreChanges, IsTooLong, IsFault, bad_field, too_long, out_of_sheet, IsImport}
+use Rattle.wi_import.specs.Imports.{IsFieldContent, no_content, a_constant, IsChange, AreChanges, IsFault, bad_field, too_long, out_of_sheet, IsImport}
 use Rattle.wi_import.specs.Inner.Reading.{is_bad, is_too_long, is_outside, content_for, content_of, change_of, first_fault, fault_among, unless_fault, import_of}
 
 abbrev Outcome : Type 0
@@ -189,7 +188,7 @@ found fields false true c e f g =
     too_long fields (none_texts fields e) (any_so fields (λ x. true_long x.bytes) (Any-from_list_any (λ x. is_too_long x.bytes) fields f))
 found fields false false true e f g =
     out_of_sheet fields (none_texts fields e) (all_so fields (λ x. false_short x.bytes) (none_pass (λ x. is_too_long x.bytes) fields f))
-        (any_so fields true_outside (Any-from_list_any is_outside fields g))
+    (any_so fields true_outside (Any-from_list_any is_outside fields g))
 found fields false false false e f g = record {
   texts = none_texts fields e;
   inside = all_so fields false_inside (none_pass is_outside fields g);

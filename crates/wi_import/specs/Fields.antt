@@ -1,5 +1,5 @@
 -- The fields of a CSV text, each with the cell for which it is.
-use Rattle.std.specs.Prelude.{◌≡◌, ℕ, ◌+◌, ◌<◌, List, [], ◌∷◌, ◌++◌, IsUtf8}
+use Rattle.std.specs.Prelude.{ℕ, ◌+◌, ◌<◌, List, [], ◌∷◌, ◌++◌, IsUtf8}
 use Rattle.wi_values.specs.Address.{rows, columns, place, row_of, column_of}
 use Rattle.wi_csv.specs.Records.{recs}
 

@@ -23,7 +23,13 @@ pub fn changes(
 {
     let mut changes = Vec::new(alloc);
     for (i, fields) in records.iter().enumerate() {
-        push_record(alloc, at.row() as usize + i, at.column() as usize, fields, &mut changes)?;
+        push_record(
+            alloc,
+            at.row() as usize + i,
+            at.column() as usize,
+            fields,
+            &mut changes,
+        )?;
     }
     Ok(changes)
 }

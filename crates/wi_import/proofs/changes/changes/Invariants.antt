@@ -11,6 +11,6 @@ use Rattle.wi_import.proofs.changes.changes.Given as goal
 abbrev pub invariant-loop-i : goal.invariant-loop-i
 invariant-loop-i l = record {
   whole : l.changes.items ++ map change_of (fields_left (row_of l.at) (column_of l.at) l.i l.records)
-    ≡ map change_of (fields_from (row_of l.at) (column_of l.at) (all_bytes l.records));
+      ≡ map change_of (fields_from (row_of l.at) (column_of l.at) (all_bytes l.records));
   sound : list_any is_faulty (fields_left (row_of l.at) (column_of l.at) l.i l.records) ≡ false;
 }
