@@ -104,9 +104,20 @@ impl Scenarios {
         listed(self.alloc, all)
     }
 
+    /// Whether a replacement put into this scenario, which is made if need be, would make a scenario too many, or one replacement of
+    /// its own too many.
+    pub fn is_full(&self, name: &str, at: Address) -> bool
+        ensures { result ≡ is_full self.now name.now at }
+    {
+        match self.find(name) {
+            Some(layer) => layer.is_full(at),
+            None => self.layers.len() >= MAX_SCENARIOS,
+        }
+    }
+
     /// Puts a replacement into a scenario, in the place of the one that it has for the address; a scenario that isn't there is made.
-    /// `TooMany` where there would be more than `MAX_SCENARIOS`, or more than `MAX_REPLACEMENTS` of the scenario's own, and there
-    /// alone; `Memory` if memory runs out. After each all is as before. The work grows with the count of the scenario's own replacements.
+    /// `TooMany` where there would be more than `MAX_SCENARIOS`, or more than `MAX_REPLACEMENTS` of the scenario's own, as `is_full`
+    /// tells, and there alone; `Memory` if memory runs out. After each all is as before. The work grows with the count of the scenario's own replacements.
     pub fn put(&mut self, name: &str, at: Address, value: Value) -> Result<(), ScenarioFault>
         ensures ok { OnOk result (self.new ≡ with_scenario self.old (with_own (scenario_for self.old name.now) (record { at = at; value = value } ∷ []))) }
         ensures too_many { (result ≡ Err TooMany) ↔ (is_full self.old name.now at ≡ true) }
@@ -193,16 +204,6 @@ impl Scenarios {
                 with_entries(self.alloc, below, &layer.own)
             }
             None => Ok(BTreeMap::new(self.alloc)),
-        }
-    }
-
-    /// Whether a replacement put into this scenario would make one too many.
-    fn is_full(&self, name: &str, at: Address) -> bool
-        ensures { result ≡ is_full self.now name.now at }
-    {
-        match self.find(name) {
-            Some(layer) => layer.is_full(at),
-            None => self.layers.len() >= MAX_SCENARIOS,
         }
     }
 
