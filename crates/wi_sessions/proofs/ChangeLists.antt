@@ -44,15 +44,15 @@ another c q cs h t =
     let other : (c == q) ≡ false = grind (arith, nat_tests) in
     ap (λ b. b || is_listed cs q) (sym other) ∙ t
 
-pub in_range : (p : ℕ → Bool) (n a high : ℕ) (cs : List ℕ) → a + n ≡ high → Rises a high cs → ((q : ℕ) → a ≤ q → p q ≡ true → is_listed cs q ≡ true)
+pub in_range : (p : ℕ → Bool) (n a high : ℕ) (cs : List ℕ) → a + n ≡ high → Rises a high cs → ((q : ℕ) → a ≤ q → q < high → p q ≡ true → is_listed cs q ≡ true)
     → filter p (range_with_len a n) ≡ filter p cs
 in_range p zero a high [] e r all = refl
 in_range p zero a high (c ∷ cs) e r all =
     let low : a ≤ c = r.0 in let top : c < high = r.1 in let none : ⊥ = omega (arith, e, low, top) in absurd none
 in_range p (suc n) a high [] e r all =
     let e' : (a + 1) + n ≡ high = omega (arith, e) in
-    skipped p a (range_with_len (a + 1) n) (fails p a [] (all a (let h : a ≤ a = omega arith in h)) refl)
-    ∙ in_range p n (a + 1) high [] e' tt (λ q h t. all q (omega (arith, h)) t)
+    skipped p a (range_with_len (a + 1) n) (fails p a [] (all a (let h : a ≤ a = omega arith in h) (let h : a < high = omega (arith, e) in h)) refl)
+    ∙ in_range p n (a + 1) high [] e' tt (λ q h l t. all q (omega (arith, h)) l t)
 in_range p (suc n) a high (c ∷ cs) e r all =
     let e' : (a + 1) + n ≡ high = omega (arith, e) in
     elim (nat_eq a c) as (λ b. nat_eq a c ≡ b → filter p (a ∷ range_with_len (a + 1) n) ≡ filter p (c ∷ cs)) [
@@ -60,13 +60,13 @@ in_range p (suc n) a high (c ∷ cs) e r all =
           let same : a ≡ c = equal a c t in
           let rest : filter p (range_with_len (a + 1) n) ≡ filter p cs = in_range p n (a + 1) high cs e'
           (subst (λ x. Rises (x + 1) high cs) (sym same) r.2)
-          (λ q h u. another c q cs (omega (arith, h, same)) (all q (omega (arith, h)) u)) in
+          (λ q h l u. another c q cs (omega (arith, h, same)) (all q (omega (arith, h)) l u)) in
           ap (λ xs. cond (p a) (a ∷ xs) xs) rest ∙ ap (λ x. filter p (x ∷ cs)) same
       | false ↦ λ t.
           let up : a + 1 ≤ c = above a c r.0 t in
           let here : Rises (a + 1) high (c ∷ cs) = (up, r.1, r.2) in
-          skipped p a (range_with_len (a + 1) n) (fails p a (c ∷ cs) (all a (let h : a ≤ a = omega arith in h)) (not_below a (a + 1) high (c ∷ cs) here (let h : a < a + 1 = omega arith in h)))
-          ∙ in_range p n (a + 1) high (c ∷ cs) e' here (λ q h u. all q (omega (arith, h)) u)
+          skipped p a (range_with_len (a + 1) n) (fails p a (c ∷ cs) (all a (let h : a ≤ a = omega arith in h) (let h : a < high = omega (arith, e) in h)) (not_below a (a + 1) high (c ∷ cs) here (let h : a < a + 1 = omega arith in h)))
+          ∙ in_range p n (a + 1) high (c ∷ cs) e' here (λ q h l u. all q (omega (arith, h)) l u)
     ] refl
 
 same_itself : (v : Value) → same_value v v ≡ true
@@ -75,10 +75,10 @@ same_itself v = grind (arith, common_steps, numbers, texts)
 pub any_cells : AnyCells
 any_cells cells picture shown h =
     let p : ℕ → Bool = λ a. not (same_value (value_in picture a) (shown a)) in
-    let found : (q : ℕ) → 0 ≤ q → p q ≡ true → is_listed cells q ≡ true =
-    λ q low t. elim (is_listed cells q) as (λ b. is_listed cells q ≡ b → b ≡ true) [
+    let found : (q : ℕ) → 0 ≤ q → q < sheet_size → p q ≡ true → is_listed cells q ≡ true =
+    λ q low within t. elim (is_listed cells q) as (λ b. is_listed cells q ≡ b → b ≡ true) [
       | true ↦ λ u. refl
-      | false ↦ λ u. absurd (false≢true (sym (ap not (ap (λ v. same_value v (shown q)) (h.1 q u) ∙ same_itself (shown q))) ∙ t))
+      | false ↦ λ u. absurd (false≢true (sym (ap not (ap (λ v. same_value v (shown q)) (h.1 q within u) ∙ same_itself (shown q))) ∙ t))
     ] refl in
     ap (map (λ a. (a, shown a))) (in_range p sheet_size 0 sheet_size cells (let e : 0 + sheet_size ≡ sheet_size = omega arith in e) h.0 found)
 

@@ -13,10 +13,10 @@ abbrev pub Rises : ℕ → ℕ → List ℕ → Type 0
 Rises low high [] = Unit {0}
 Rises low high (a ∷ more) = (low ≤ a) × (a < high) × Rises (a + 1) high more
 
--- the cells are in row-major order, and of all others the picture has the value
+-- the cells are in row-major order, and of all others of the sheet the picture has the value
 abbrev pub Suffice : List ℕ → List (ℕ × Value) → (ℕ → Value) → Type 0
 Suffice cells picture shown =
-    Rises 0 sheet_size cells × ((a : ℕ) → is_listed cells a ≡ false → value_in picture a ≡ shown a)
+    Rises 0 sheet_size cells × ((a : ℕ) → a < sheet_size → is_listed cells a ≡ false → value_in picture a ≡ shown a)
 
 -- so whichever such cells are looked at, what has changed is the same
 abbrev pub AnyCells : Type 0
