@@ -181,3 +181,11 @@ round_settled s m n f g h e first next whole k =
 pub done_settled : (s : Sheet) (m : MemoState) (f h : Frame) (v : Value) → h.key ≡ f.key → AreAllRight (cell_value (put_all s h.key.world)) (what_if_value (put_all s h.key.world)) h.found → v ≡ cell_value (put_all s h.key.world) h.key.cell → IsValueByKnown s h.key.world h.key.cell h.found v →
     (KeepsFound m → IsFrameSettled s m.kept f → IsFrameSettled s m.kept h) → KeepsFound m → IsFrameSettled s m.kept f → RestsOnKept s m.kept (case_at f.key)
 done_settled s m f h v e r is all grows whole k = subst (λ (x : Key). RestsOnKept s m.kept (case_at x)) e (frame_rests s m.kept h v r (grows whole k) is all)
+
+-- the same values, found for the same frame
+abbrev IsSettledFor : Sheet → (ℕ → List Replacement → Bool) → Key → Findings → Type 0
+IsSettledFor s kept k f = (t : Tree) → content_of (put_all s k.world) k.cell ≡ Some (Formula t) → AreFoundSettled s kept k.world t f
+
+pub settled_again : (s : Sheet) (kept : ℕ → List Replacement → Bool) (f h : Frame) → h.key ≡ f.key → h.found ≡ f.found → IsFrameSettled s kept f → IsFrameSettled s kept h
+settled_again s kept f h k e is =
+    subst (λ (x : Key). IsSettledFor s kept x h.found) (sym k) (subst (λ (x : Findings). IsSettledFor s kept f.key x) (sym e) is)

@@ -3,7 +3,7 @@ use Rattle.wi_parser.specs.Sheet.{has_formula}
 use Rattle.wi_sheet.proofs.Bounds.{put_formula}
 use Rattle.wi_engine.specs.Inner.Frames.{case_at}
 use Rattle.wi_engine.proofs.engine.Awaiting.{cell_here, awaits_cells}
-use Rattle.wi_engine.proofs.engine.awaited.Goals as goal
+use Rattle.wi_engine.proofs.engine.wait_for.Goals as goal
 
 pub unreachable-requires : goal.unreachable-requires
 unreachable-requires c =
@@ -21,7 +21,7 @@ together-requires-clause-formula c =
     let lacking = rw c.in-Cell.is at c.requires.lacking in
     put_formula c.args.store.now.sheet c.args.frame.now.key.world c.in-Cell.at lacking.0
 
-pub returns-in_ok-others-in-Cell-clause-awaits : goal.returns-in_ok-others-in-Cell-clause-awaits
-returns-in_ok-others-in-Cell-clause-awaits c =
-    awaits_cells c.args.store.now.sheet c.args.frame.now.key c.args.frame.now.found c.args.want c.in-Some.formula.now c.in-Cell.at c.in_ok-others-in-Cell.others
-    c.requires.asks c.requires.lacking c.in-Cell.is c.in-Some.ensures.found c.in_ok-others-in-Cell.ensures.read
+pub returns-in_ok-keep_course-in-Cell-clause-awaits : goal.returns-in_ok-keep_course-in-Cell-clause-awaits
+returns-in_ok-keep_course-in-Cell-clause-awaits c =
+    awaits_cells c.args.store.now.sheet c.args.frame.now.key c.args.frame.now.found c.args.want c.in-Some.formula.now c.in-Cell.at c.in_ok-batch-in-Cell.batch.cells
+    c.requires.asks c.requires.lacking c.in-Cell.is c.in-Some.ensures.found c.in_ok-batch-in-Cell.ensures.read

@@ -1,7 +1,7 @@
 use Rattle.std.proofs.Common.{◌≡◌, drop, None}
 use Rattle.wi_values.specs.Address.{Area, is_within, size_of}
-use Rattle.wi_engine.proofs.attempt.Smallest.{least_from}
-use Rattle.wi_engine.proofs.attempt.smallest_with.Given as goal
+use Rattle.wi_engine.proofs.together.Smallest.{least_from}
+use Rattle.wi_engine.proofs.together.smallest_with.Given as goal
 
 -- the smallest of what is kept and those that are left is that of all
 abbrev pub invariant-loop-rectangle : goal.invariant-loop-rectangle

@@ -1,7 +1,7 @@
 use Rattle.std.proofs.Common.{◌∙◌}
 use Rattle.wi_values.specs.Address.{Area, is_within, size_of}
-use Rattle.wi_engine.proofs.attempt.Smallest.{smallest, some_least, after_all}
-use Rattle.wi_engine.proofs.attempt.smallest_with.Goals as goal
+use Rattle.wi_engine.proofs.together.Smallest.{smallest, some_least, after_all}
+use Rattle.wi_engine.proofs.together.smallest_with.Goals as goal
 
 pub unreachable-requires : goal.unreachable-requires
 unreachable-requires c =

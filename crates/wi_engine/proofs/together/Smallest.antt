@@ -6,7 +6,7 @@ use Rattle.std.proofs.Math.ListN.{drop_of_length-le}
 use Rattle.std.proofs.lemmas.Bool.{ltb-true, ltb-false}
 use Rattle.wi_values.specs.Address.{Area, is_within, size_of}
 use Rattle.wi_sheet.proofs.Members.{IsIn, in_contained, contains_in}
-use Rattle.wi_engine.specs.Inner.Attempt.{IsSmallestWith}
+use Rattle.wi_engine.specs.Inner.Courses.{IsSmallestWith}
 
 -- the smaller of what is kept and another, the kept one where they are equal
 abbrev lesser : (Area → ℕ) → Option Area → Area → Area
