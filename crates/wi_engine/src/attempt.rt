@@ -13,7 +13,7 @@ ghost use Rattle.wi_sheet.specs.Demand.{reads_here};
 ghost use Rattle.wi_sheet.specs.Inner.Spending.{NeverFall};
 ghost use Rattle.wi_engine.specs.Inner.Findings.{AreAllRight};
 ghost use Rattle.wi_engine.specs.Inner.Attempt.{AsksAt, IsLacking, IsSmallestWith, AreTogether};
-ghost use Rattle.wi_engine.specs.Inner.SettledFrames.{IsValueByKnown};
+ghost use Rattle.wi_engine.specs.Inner.SettledFrames.{HasOneMeaning};
 
 use crate::findings::Findings;
 use crate::lookup::Known;
@@ -41,7 +41,7 @@ pub fn attempt(
     requires formula { has_formula (content_of (put_all store.now.sheet world.now) at) ≡ true }
     requires right { AreAllRight (show.cell_value (put_all store.now.sheet world.now)) (show.what_if_value (put_all store.now.sheet world.now)) found.now }
     ensures done { IfOk result (λ o. IfDone o (λ v. v ≡ show.cell_value (put_all store.now.sheet world.now) at)) }
-    ensures by_known { IfOk result (λ o. IfDone o (IsValueByKnown store.now.sheet world.now at found.now)) }
+    ensures one_meaning { IfOk result (λ o. IfDone o (λ _. HasOneMeaning store.now.sheet world.now at found.now)) }
     ensures asked { IfOk result (λ o. IfWanting o (AsksAt store.now.sheet world.now at)) }
     ensures lacking { IfOk result (λ o. IfWanting o (IsLacking store.now.sheet world.now found.now)) }
     ensures counted { IfOk result (λ o. meter.new ≡ counted o meter.old) }

@@ -60,9 +60,8 @@ returns-in-Done-clause-found g c =
 pub returns-in-Done-clause-rests : goal.returns-in-Done-clause-rests
 returns-in-Done-clause-rests g c =
     let i = c.rounds.invariant in
-    let done = rw c.in-Done.is at c.in_ok-value.ensures.done in
-    let all = rw c.in-Done.is at c.in_ok-value.ensures.by_known in
-    done_settled c.args.store.now.sheet (g.M.Memo.state c.args.memo.now) c.args.frame.now c.settle.new.frame c.in-Done.value (c.in_ok-key.ensures.key ∙ i.key) c.in_ok-key.ensures.frame.found done all
+    let one = rw c.in-Done.is at c.in_ok-value.ensures.one_meaning in
+    done_settled c.args.store.now.sheet (g.M.Memo.state c.args.memo.now) c.args.frame.now c.settle.new.frame (c.in_ok-key.ensures.key ∙ i.key) c.in_ok-key.ensures.frame.found one
     (round_settled c.args.store.now.sheet (g.M.Memo.state c.args.memo.now) (g.M.Memo.state c.rounds.memo) c.args.frame.now c.rounds.frame c.settle.new.frame i.same i.settled c.in_ok-key.ensures.found)
 
 pub returns-in-Done-clause-evaluations : goal.returns-in-Done-clause-evaluations
