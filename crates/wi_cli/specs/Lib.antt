@@ -1,6 +1,9 @@
 pub mod Lines
 pub mod Words
 pub mod Operands
+pub mod EditCommands
+pub mod ScenarioCommands
+pub mod LookCommands
 pub mod TableCommand
 pub mod Script
 pub mod Reply

@@ -4,17 +4,23 @@
 mod chunk;
 mod command;
 mod device;
+mod edit_commands;
 mod ending;
 mod fault;
 mod in_turn;
 mod lines;
+mod look_commands;
+mod names;
 mod operands;
 mod read_from;
 mod reply;
 mod runs;
+mod scenario_commands;
+mod serve;
 mod table_command;
 mod words;
 mod write;
+mod write_address;
 mod write_to;
 
 pub use device::{DeviceFault, Sink, Source};

@@ -7,4 +7,4 @@ returns-in_default-clause-replies g c =
 
 pub returns-clause-replies : goal.returns-clause-replies
 returns-clause-replies g c =
-    in_turn_new g.L.Source.remaining g.L.Source.has_failed g.R.Source.remaining g.R.Source.has_failed _ _ _ _ _ _ c.in-Ok.book _ _ _ c.new-2.ensures.outcome c.in-Ok.ensures c.run_in_turn.ensures.replies
+    in_turn_new g.L.Source.remaining g.L.Source.has_failed g.R.Source.remaining g.R.Source.has_failed _ _ _ _ _ _ c.in-Ok.book.state _ _ _ c.new-2.ensures.outcome c.in-Ok.ensures c.run_in_turn.ensures.replies
