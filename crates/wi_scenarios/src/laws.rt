@@ -24,13 +24,11 @@ pub fn runs_stay_settled()
 {}
 
 /// In every interleaving, the change lists that a session is told add up to its picture, which has what it was last shown.
-#[tactic(auto, using(crate::proofs::RunLemmas::lists_add_up))]
 pub fn change_lists_add_up()
     ensures { (s : State) (es : List Event) (i : ℕ) → IsSettled s → IsRun s es → ListsAddUp s es i }
 {}
 
 /// The records of a change list tell its addresses, kinds and texts, and with them the list.
-#[tactic(auto, using(crate::proofs::RecordLemmas::records_tell_list))]
 pub fn records_tell_lists()
     ensures { (s t : State) (records : List ℕ) → IsStep s Changes (Ok (t, records)) → RecordsTellList s records }
 {}
@@ -44,7 +42,7 @@ pub fn sessions_keep_apart()
 
 /// The log is the accepted edits, and a session's place in it that of the last change list that it was told. An edit is
 /// refused for a stale cell exactly where others' edits since then name the cell; one that is forced never is.
-#[tactic(auto, using(crate::proofs::RunLemmas::log_is_run, crate::proofs::StaleLemmas::stale_is_newer, crate::proofs::StaleLemmas::forced_is_not_stale))]
+#[tactic(auto, using(crate::proofs::StaleLemmas::forced_is_not_stale))]
 pub fn stale_is_newer()
     ensures log { (s : State) (es : List Event) (i : ℕ) → IsSettled s → IsRun s es → LogIsRun s es i }
     ensures stale { (s : State) (es : List Event) (e : Event) (named : List Area) → IsSettled s → IsRun s es → StaleIsNewer s es e named }
