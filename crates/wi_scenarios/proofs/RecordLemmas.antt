@@ -1,14 +1,11 @@
 -- The records of a change list tell it.
-use Rattle.std.specs.Prelude.{All}
-use Rattle.std.proofs.Common.{◌≡◌, ◌≢◌, ◌∙◌, ℕ, zero, suc, ◌+◌, ◌<◌, ◌≤◌, ◌==◌, Bool, true, false, not, cond, List, [], ◌∷◌, map, filter, get_or, Option, Some, None, Result, Ok, Err, refl, sym, ap, subst, arith}
+use Rattle.std.proofs.Common.{◌≡◌, ◌≢◌, ◌∙◌, ℕ, zero, suc, ◌+◌, ◌<◌, ◌≤◌, Bool, true, false, not, cond, List, [], ◌∷◌, map, filter, get_or, Some, Result, Ok, Err, refl, sym, ap, arith}
 use Rattle.std.specs.Str.{bytes_eq}
 use Rattle.std.proofs.lemmas.Bool.{both_ways}
 use Rattle.std.proofs.lemmas.Slice.Eq.{bytes_eq-Decides}
-use Rattle.std.specs.List.{AllByRecursion, flat_map, range_with_len}
+use Rattle.std.specs.List.{AllByRecursion, range_with_len}
 use Rattle.std.proofs.lemmas.List.Elements.{All-map}
 use Rattle.std.proofs.lemmas.List.Folds.{flat_map-map}
-use Rattle.wi_fraction.specs.Text.{text_of}
-use Rattle.wi_fraction.specs.Number.{Number as Numbers}
 use Rattle.wi_values.specs.Address.{address_text}
 use Rattle.wi_values.specs.AddressReading.{read_address}
 use Rattle.wi_values.specs.Inner.Import.{imported}
@@ -24,11 +21,11 @@ use Rattle.wi_csv.specs.Records.{recs}
 use Rattle.wi_csv.specs.Row.{row}
 use Rattle.wi_csv.proofs.ReadAgain.{read_again}
 use Rattle.wi_sessions.specs.Pictures.{sheet_size, value_in, same_value}
-use Rattle.wi_reports.specs.Changes.{kind_text, change_record, change_records}
+use Rattle.wi_reports.specs.Changes.{kind_text, change_records}
 use Rattle.wi_scenarios.specs.State.{State}
 use Rattle.wi_scenarios.specs.Views.{current_session, shown_to}
 use Rattle.wi_scenarios.specs.Answer.{Answer}
-use Rattle.wi_scenarios.specs.Changes.{change_list, changes_step}
+use Rattle.wi_scenarios.specs.Changes.{change_list}
 use Rattle.wi_scenarios.specs.Step.{Changes, IsStep}
 use Rattle.wi_scenarios.specs.Laws.{change_fields, RecordsTellList}
 

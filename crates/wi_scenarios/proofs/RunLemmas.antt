@@ -1,22 +1,21 @@
 -- What a run does to the sessions and to the log.
-use Rattle.std.proofs.Common.{◌≡◌, ◌≢◌, ◌∙◌, ℕ, zero, suc, ◌+◌, ◌<◌, ◌≤◌, ◌==◌, ◌⊎◌, inl, inr, Bool, true, false, not, ◌&&◌, ◌||◌, cond, List, [], ◌∷◌, ◌++◌, length, get_or, set, drop, Option, Some, None, Ok, Err, refl, sym, ap, subst, append-nil, append_assoc, arith, eqb}
+use Rattle.std.proofs.Common.{◌≡◌, ◌≢◌, ◌∙◌, ℕ, zero, suc, ◌+◌, ◌<◌, ◌≤◌, ◌==◌, ◌⊎◌, inl, inr, Bool, true, false, not, ◌&&◌, ◌||◌, cond, List, [], ◌∷◌, ◌++◌, length, get_or, drop, Ok, Err, refl, sym, ap, subst, append-nil, append_assoc, arith}
 use Rattle.std.specs.List.{list_any, position_or_len}
 use Rattle.std.specs.Str.{bytes_eq}
-use Rattle.std.proofs.lemmas.Bool.{cases_eq, eqb-true, eqb-false, eq-eqb, ne_eqb, false≢true}
+use Rattle.std.proofs.lemmas.Bool.{eqb-true, eqb-false, ne_eqb, false≢true}
 use Rattle.std.proofs.lemmas.List.{length-set, length-append, get_or-set_same, get_or-set_other, drop-append-le, drop_all}
 use Rattle.wi_values.specs.declared.value.Value.{Value}
-use Rattle.wi_values.specs.Address.{Area}
 use Rattle.wi_store.specs.Store.{Stored}
 use Rattle.wi_edit_log.specs.EditLog.{Entry}
 use Rattle.wi_sessions.specs.Pictures.{value_in, with_changes, sheet_size}
-use Rattle.wi_sessions.specs.Sessions.{Session, new_session, max_sessions, has_session, with_session, place_of, using_scenario, told}
+use Rattle.wi_sessions.specs.Sessions.{Session, new_session, has_session, with_session, place_of, using_scenario, told}
 use Rattle.wi_sessions.proofs.ChangeLists.{picture_is_shown}
 use Rattle.wi_scenarios.specs.State.{State, state_over}
 use Rattle.wi_scenarios.specs.Views.{session_at, current_session, with_current, shown_to}
 use Rattle.wi_scenarios.specs.Answer.{Answer}
 use Rattle.wi_scenarios.specs.Changes.{change_list}
-use Rattle.wi_scenarios.specs.Step.{Command, Set, Clear, Fill, Csv, Scenario, Drop, Base, Use, As, Show, Export, Changes, Compare, Table, Formula, Refused, RefusedData}
-use Rattle.wi_scenarios.specs.Laws.{Event, MayHappen, left_by, IsRun, state_after, IsSettled, IsEdited, HasScenarioChanged, Leaves, KeepsApart, tells, is_told, lists_told, with_lists, last_shown, ListsAddUp, named_by, logged, logged_by, edits_in, edits_since, unseen, LogIsRun}
+use Rattle.wi_scenarios.specs.Step.{Command, Set, Clear, Fill, Csv, Scenario, Drop, Base, Use, As, Changes}
+use Rattle.wi_scenarios.specs.Laws.{Event, MayHappen, left_by, IsRun, state_after, IsSettled, KeepsApart, tells, is_told, lists_told, with_lists, last_shown, ListsAddUp, named_by, logged, logged_by, edits_in, edits_since, unseen, LogIsRun}
 use Rattle.wi_scenarios.proofs.OutcomeLemmas.{Outcome, what_happens}
 
 -- ---- the log after a command

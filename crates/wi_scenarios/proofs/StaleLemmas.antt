@@ -1,6 +1,6 @@
 -- When an edit is refused for a stale cell.
-use Rattle.std.specs.Prelude.{◌↔◌, IfSome, nat_lt, option_map}
-use Rattle.std.proofs.Common.{◌≡◌, ◌≢◌, ◌∙◌, ℕ, zero, suc, ◌+◌, ◌<◌, ◌≤◌, ◌==◌, ◌⊎◌, inl, inr, Bool, true, false, not, ◌&&◌, ◌||◌, cond, List, [], ◌∷◌, length, map, min, max, Option, Some, None, Result, Ok, Err, refl, sym, ap, subst, arith}
+use Rattle.std.specs.Prelude.{◌↔◌, IfSome, nat_lt}
+use Rattle.std.proofs.Common.{◌≡◌, ◌∙◌, ℕ, zero, suc, ◌+◌, ◌<◌, ◌≤◌, ◌==◌, ◌⊎◌, inl, inr, Bool, true, false, ◌&&◌, List, [], ◌∷◌, length, map, max, Option, Some, None, Result, Ok, Err, refl, sym, ap, subst, arith}
 use Rattle.std.specs.List.{list_any}
 use Rattle.std.proofs.lemmas.Bool.{and_parts, and_from, both_ways, cases_eq, cases_lt, or_cases, false≢true}
 use Rattle.std.proofs.lemmas.Option.{none-some, same_Some}
@@ -23,7 +23,6 @@ use Rattle.wi_edit_log.proofs.Least.{stale_is_first}
 use Rattle.wi_scenarios.specs.declared.refusal.Refusal.{Refusal}
 use Rattle.wi_scenarios.specs.declared.refusal.Refusal.TheVariants.{Memory, BadCommand, TooLarge, BadField, LeavesSheet, Stale}
 use Rattle.wi_scenarios.specs.State.{State}
-use Rattle.wi_scenarios.specs.Views.{current_session}
 use Rattle.wi_scenarios.specs.Areas.{max_area}
 use Rattle.wi_scenarios.specs.Answer.{Answer}
 use Rattle.wi_scenarios.specs.Causes.{when, unless}

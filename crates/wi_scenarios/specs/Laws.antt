@@ -1,7 +1,6 @@
 -- Runs of commands, and what holds of every run.
 use Rattle.std.specs.Prelude.{◌≡◌, ◌≢◌, ◌↔◌, ◌⊎◌, ◌==◌, ◌&&◌, ℕ, ◌<◌, ◌≤◌, Bool, true, false, not, if◌then◌else◌, List, [], ◌∷◌, ◌++◌, length, drop, map, Option, Some, None, Ok, Err}
 use Rattle.std.specs.List.{list_any}
-use Rattle.std.specs.Str.{bytes_eq}
 use Rattle.wi_values.specs.Address.{Area, address_text}
 use Rattle.wi_values.specs.Value.{shown_text}
 use Rattle.wi_values.specs.declared.value.Value.{Value}
