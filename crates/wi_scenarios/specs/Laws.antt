@@ -114,7 +114,8 @@ last_shown i a v s [] = v
 last_shown i a v s (e ∷ es) = last_shown i a (if is_told i s e then shown_to s (session_at s i) a else v) (left_by s e.answer) es
 
 -- Put into the picture that a session has at the start, the lists that it is told make the picture that it has at the end, and
--- that has in each cell of the sheet the value that the session was shown at the last of them.
+-- that has in each cell of the sheet the value that the session was shown at the last of them. A session that is made on the
+-- way begins with an empty picture.
 pub record ListsAddUp (s : State) (es : List Event) (i : ℕ) : Type 0 where
   pub picture : (session_at (state_after s es) i).picture ≡ with_lists (session_at s i).picture (lists_told i s es)
   pub shown : (a : ℕ) → a < sheet_size
@@ -166,7 +167,7 @@ abbrev pub edits_since : ℕ → List Entry → State → List Event → List En
 edits_since i earlier s [] = earlier
 edits_since i earlier s (e ∷ es) = edits_since i (if is_told i s e then [] else earlier ++ logged_by s e) (left_by s e.answer) es
 
--- the edits that the i-th session hasn't seen: those behind its place in the log
+-- the edits that the i-th session hasn't seen: those behind its place in the log; one that isn't made yet has seen none
 abbrev pub unseen : State → ℕ → List Entry
 unseen s i = drop (session_at s i).seen s.log
 
