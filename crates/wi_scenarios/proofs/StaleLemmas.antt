@@ -94,10 +94,13 @@ some_first edits i named = by (search_below (is_wanted edits i named) (bound nam
     by : FirstBelow (is_wanted edits i named) (bound named) ⊎ ((b : ℕ) → b < bound named → is_wanted edits i named b ≡ false)
         → (o : Option ℕ) × IsFirst (is_wanted edits i named) o
     by (inl f) = (Some f.0, record { passes = f.1; least = f.2 })
-    by (inr none) = (None, record {
-      passes = tt;
-      least = λ a t. both_ways (is_wanted edits i named a) (none a (is_below named a (and_parts (have_cell named a) (is_newer edits i a) t).0)) t;
-    })
+    by (inr none) = (
+      None,
+      record {
+        passes = tt;
+        least = λ a t. both_ways (is_wanted edits i named a) (none a (is_below named a (and_parts (have_cell named a) (is_newer edits i a) t).0)) t;
+      },
+    )
 
 least_stale : (edits : List Entry) (i : ℕ) (named : List Area) → IsFirst (is_wanted edits i named) (first_stale edits i 0 named)
 least_stale edits i named =

@@ -27,7 +27,7 @@ pub record Event : Type 0 where
   pub command : Command
   pub answer : Answer
 
--- the command has this answer, or was refused for want of memory
+-- the command has this answer, or is refused for want of memory
 abbrev pub MayHappen : State → Event → Type 0
 MayHappen s e = IsStep s e.command e.answer ⊎ (e.answer ≡ Err Memory)
 
@@ -82,19 +82,19 @@ Leaves (As name) old new = new ≡ record old { sessions = with_session old.sess
 Leaves Changes old new = new ≡ with_current old (told (current_session old) (change_list old) (length old.log))
 Leaves c old new = new ≡ old
 
--- so the i-th session is as it was, unless it is the current one
+-- the i-th session is as it was, name, scenario, picture and place in the log, if it isn't the current one
 abbrev pub KeepsApart : State → Event → ℕ → Type 0
 KeepsApart s e i = i < length s.sessions → i ≢ s.current → session_at (left_by s e.answer) i ≡ session_at s i
 
 -- ---- change lists
 
--- whether the answer is a change list that is told
+-- whether this is `changes`, and accepted
 abbrev pub tells : Answer → Command → Bool
 tells (Err e) c = false
 tells (Ok done) Changes = true
 tells (Ok done) c = false
 
--- whether it is told to the i-th session
+-- whether the i-th session is told a change list: it is current, and its `changes` is accepted
 abbrev pub is_told : ℕ → State → Event → Bool
 is_told i s e = tells e.answer e.command && (s.current == i)
 
@@ -114,7 +114,8 @@ last_shown i a v s [] = v
 last_shown i a v s (e ∷ es) = last_shown i a (if is_told i s e then shown_to s (session_at s i) a else v) (left_by s e.answer) es
 
 -- Put into the picture that a session has at the start, the lists that it is told make the picture that it has at the end, and
--- that has in each cell of the sheet the value that the session was shown at the last of them.
+-- that has in each cell of the sheet the value that the session was shown at the last of them. A session that is made on the
+-- way begins with an empty picture.
 pub record ListsAddUp (s : State) (es : List Event) (i : ℕ) : Type 0 where
   pub picture : (session_at (state_after s es) i).picture ≡ with_lists (session_at s i).picture (lists_told i s es)
   pub shown : (a : ℕ) → a < sheet_size
@@ -166,7 +167,7 @@ abbrev pub edits_since : ℕ → List Entry → State → List Event → List En
 edits_since i earlier s [] = earlier
 edits_since i earlier s (e ∷ es) = edits_since i (if is_told i s e then [] else earlier ++ logged_by s e) (left_by s e.answer) es
 
--- the edits that the i-th session hasn't seen: those behind its place in the log
+-- the edits that the i-th session hasn't seen: those behind its place in the log; one that isn't made yet has seen none
 abbrev pub unseen : State → ℕ → List Entry
 unseen s i = drop (session_at s i).seen s.log
 
@@ -197,15 +198,15 @@ abbrev pub is_refused_before : Answer → Bool
 is_refused_before (Ok done) = false
 is_refused_before (Err e) = counts_before e
 
--- After a run, an edit that isn't forced, and is refused for no cause that counts before, is refused for a stale cell exactly
--- where that is the first that it names and that other sessions' edits name, which were accepted since its session was last told
--- a list.
+-- What an edit is answered at the end of a run, if it isn't forced and no cause that counts before holds: it is refused for a
+-- stale cell exactly where this is the first of the cells it names that other sessions' edits name, of those accepted since its
+-- session was last told a list.
 abbrev pub StaleIsNewer : State → List Event → Event → List Area → Type 0
 StaleIsNewer s es e named =
     let t = state_after s es in
     MayHappen t e → named_by e.command ≡ Some named → is_forced e.command ≡ false → is_refused_before e.answer ≡ false → (a : ℕ)
     → (e.answer ≡ Err (Stale a)) ↔ IsFirstNewer (edits_since t.current (unseen s t.current) s es) t.current named a
 
--- an edit that is forced never is
+-- an edit that is forced is never refused so
 abbrev pub ForcedIsNotStale : State → Event → Type 0
 ForcedIsNotStale s e = MayHappen s e → is_forced e.command ≡ true → (a : ℕ) → e.answer ≢ Err (Stale a)
