@@ -27,7 +27,7 @@ abbrev pub drop_by : State → List ℕ → Bool → Bool → Answer
 drop_by s name there used =
     if there then (if used then Err InUse else Ok (record s { scenarios = without_scenario s.scenarios name }, [])) else Err NoScenario
 
-step_by : State → List ℕ → Bool → Bool → Answer
+abbrev step_by : State → List ℕ → Bool → Bool → Answer
 step_by s name there used =
     answer (record no_cause { no_scenario = not there; in_use = used }) (record s { scenarios = without_scenario s.scenarios name }, [])
 
