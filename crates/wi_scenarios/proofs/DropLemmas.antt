@@ -27,7 +27,7 @@ abbrev pub drop_by : State → List ℕ → Bool → Bool → Answer
 drop_by s name there used =
     if there then (if used then Err InUse else Ok (record s { scenarios = without_scenario s.scenarios name }, [])) else Err NoScenario
 
-step_by : State → List ℕ → Bool → Bool → Answer
+abbrev step_by : State → List ℕ → Bool → Bool → Answer
 step_by s name there used =
     answer (record no_cause { no_scenario = not there; in_use = used }) (record s { scenarios = without_scenario s.scenarios name }, [])
 
@@ -68,38 +68,40 @@ same_name name other x h k =
 -- another scenario is found all the same
 find_other : (xs : List Scenario) (name other : List ℕ) → bytes_eq name other ≡ false → find (is_named other) (without_scenario xs name) ≡ find (is_named other) xs
 find_other [] name other h = refl
-find_other (x ∷ xs) name other h = by (is_named name x) (is_named other x) refl refl
+find_other (x ∷ xs) name other h = by (is_named name x) (is_named other x) refl refl (find_other xs name other h)
   where
-    by : (b c : Bool) → is_named name x ≡ b → is_named other x ≡ c → find (is_named other) (without_scenario (x ∷ xs) name) ≡ find (is_named other) (x ∷ xs)
-    by true true e f = absurd (let k = sym (same_name name other x e f) ∙ h in cc)
-    by true false e f = rw e (rw f (find_other xs name other h))
-    by false true e f = rw e (rw f refl)
-    by false false e f = rw e (rw f (find_other xs name other h))
+    by : (b c : Bool) → is_named name x ≡ b → is_named other x ≡ c → find (is_named other) (without_scenario xs name) ≡ find (is_named other) xs
+        → find (is_named other) (without_scenario (x ∷ xs) name) ≡ find (is_named other) (x ∷ xs)
+    by true true e f rest = absurd (let k = sym (same_name name other x e f) ∙ h in cc)
+    by true false e f rest = rw e (rw f rest)
+    by false true e f rest = rw e (rw f refl)
+    by false false e f rest = rw e (rw f rest)
 
 of_other : (xs : List Scenario) (name : List ℕ) (o : Option (List ℕ)) → is_name_of name o ≡ false → scenario_of (without_scenario xs name) o ≡ scenario_of xs o
 of_other xs name None h = refl
 of_other xs name (Some other) h = find_other xs name other h
 
+-- the first is found, or what the others have
+find_at : (p : Scenario → Bool) (y : Scenario) (ys : List Scenario) → p y ≡ true → find p (y ∷ ys) ≡ Some y
+find_at p y ys f = rw f refl
+
+find_past : (p : Scenario → Bool) (y : Scenario) (ys : List Scenario) → p y ≡ false → find p (y ∷ ys) ≡ find p ys
+find_past p y ys f = rw f refl
+
+some_is : (x y : Scenario) → Some x ≡ Some y → x ≡ y
+some_is x y e = cc
+
 -- what is found isn't based on a scenario that is nobody's base
 base_of_found : (xs : List Scenario) (name other : List ℕ) (x : Scenario) → is_base xs name ≡ false → find (is_named other) xs ≡ Some x → is_name_of name x.base ≡ false
 base_of_found [] name other x h e = absurd (let k = e in cc)
-base_of_found (y ∷ ys) name other x h e = by (is_named other y) refl
+base_of_found (y ∷ ys) name other x h e = by (is_named other y) refl (base_of_found ys name other x)
   where
     apart : (is_name_of name y.base ≡ false) × (is_base ys name ≡ false)
     apart = neither (is_name_of name y.base) (is_base ys name) h
 
-    by : (b : Bool) → is_named other y ≡ b → is_name_of name x.base ≡ false
-    by true f = subst (λ (z : Scenario). is_name_of name z.base ≡ false) (some_is (sym (find_at y ys f) ∙ e)) apart.0
-      where
-        find_at : (y : Scenario) (ys : List Scenario) → is_named other y ≡ true → find (is_named other) (y ∷ ys) ≡ Some y
-        find_at y ys f = rw f refl
-
-        some_is : {A : Type 0} {a b : A} → Some a ≡ Some b → a ≡ b
-        some_is refl = refl
-    by false f = base_of_found ys name other x apart.1 (sym (find_past y ys f) ∙ e)
-      where
-        find_past : (y : Scenario) (ys : List Scenario) → is_named other y ≡ false → find (is_named other) (y ∷ ys) ≡ find (is_named other) ys
-        find_past y ys f = rw f refl
+    by : (b : Bool) → is_named other y ≡ b → (is_base ys name ≡ false → find (is_named other) ys ≡ Some x → is_name_of name x.base ≡ false) → is_name_of name x.base ≡ false
+    by true f rest = subst (λ (z : Scenario). is_name_of name z.base ≡ false) (some_is y x (sym (find_at (is_named other) y ys f) ∙ e)) apart.0
+    by false f rest = rest apart.1 (sym (find_past (is_named other) y ys f) ∙ e)
 
 base_of : (xs : List Scenario) (name : List ℕ) (o : Option (List ℕ)) (x : Scenario) → is_base xs name ≡ false → scenario_of xs o ≡ Some x → is_name_of name x.base ≡ false
 base_of xs name None x h e = absurd (let k = e in cc)
@@ -108,11 +110,13 @@ base_of xs name (Some other) x h e = base_of_found xs name other x h e
 chain_stays : (k : ℕ) (xs : List Scenario) (name : List ℕ) (o : Option (List ℕ)) → is_base xs name ≡ false → is_name_of name o ≡ false
     → chain_within k (without_scenario xs name) (scenario_of (without_scenario xs name) o) ≡ chain_within k xs (scenario_of xs o)
 chain_stays zero xs name o h n = refl
-chain_stays (suc k) xs name o h n = ap (chain_within (suc k) (without_scenario xs name)) (of_other xs name o n) ∙ by (scenario_of xs o) refl
+chain_stays (suc k) xs name o h n = ap (chain_within (suc k) (without_scenario xs name)) (of_other xs name o n) ∙ by (scenario_of xs o) refl (λ x e. chain_stays k xs name x.base h (base_of xs name o x h e))
   where
-    by : (found : Option Scenario) → scenario_of xs o ≡ found → chain_within (suc k) (without_scenario xs name) found ≡ chain_within (suc k) xs found
-    by None e = refl
-    by (Some x) e = ap (λ ys. x ∷ ys) (chain_stays k xs name x.base h (base_of xs name o x h e))
+    by : (found : Option Scenario) → scenario_of xs o ≡ found
+        → ((x : Scenario) → scenario_of xs o ≡ Some x → chain_within k (without_scenario xs name) (scenario_of (without_scenario xs name) x.base) ≡ chain_within k xs (scenario_of xs x.base))
+        → chain_within (suc k) (without_scenario xs name) found ≡ chain_within (suc k) xs found
+    by None e rest = refl
+    by (Some x) e rest = ap (λ ys. x ∷ ys) (rest x e)
 
 effective_stays : (xs : List Scenario) (name : List ℕ) (o : Option (List ℕ)) → is_base xs name ≡ false → is_name_of name o ≡ false → effective (without_scenario xs name) o ≡ effective xs o
 unfolding chain

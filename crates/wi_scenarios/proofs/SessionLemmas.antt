@@ -74,19 +74,22 @@ size_is = refl
 -- each cell of the sheet is in the whole of it
 whole_has : (a : ℕ) → a < sheet_size → is_within (record { first = 0; last = sheet_size - 1 }) a ≡ true
 whole_has a l =
-    let up : row_of a < 1048576 = (div-lt_iff_lt-mul {16384} {a} {1048576} (omega arith)).1 (subst (λ n. a < n) size_is l) in
-    let right : column_of a < 16384 = mod-lt a {16384} (omega arith) in
+    let up : row_of a < 1048576 = (div-lt_iff_lt-mul {k = 16384} {x = a} {y = 1048576} (omega arith)).1 (subst (λ n. a < n) size_is l) in
+    let right : column_of a < 16384 = mod-lt a (omega arith) in
     let low : row_of a ≤ row_of (sheet_size - 1) = subst (λ n. row_of a ≤ n) (sym last_row) (omega (arith, up)) in
     let near : column_of a ≤ column_of (sheet_size - 1) = subst (λ n. column_of a ≤ n) (sym last_column) (omega (arith, right)) in
-    all_four (le-leb 0 (row_of a) (omega arith)) (le-leb (row_of a) (row_of (sheet_size - 1)) low) (le-leb 0 (column_of a) (omega arith)) (le-leb (column_of a) (column_of (sheet_size - 1)) near)
+    all_four _ _ _ _ (le-leb 0 (row_of a) (omega arith)) (le-leb (row_of a) (row_of (sheet_size - 1)) low) (le-leb 0 (column_of a) (omega arith)) (le-leb (column_of a) (column_of (sheet_size - 1)) near)
   where
-    all_four : {p q r s : Bool} → p ≡ true → q ≡ true → r ≡ true → s ≡ true → ((p && q) && (r && s)) ≡ true
-    all_four refl refl refl refl = refl
+    all_four : (p q r s : Bool) → p ≡ true → q ≡ true → r ≡ true → s ≡ true → ((p && q) && (r && s)) ≡ true
+    all_four true true true s e f g h = h
+    all_four true true false s e f g h = g
+    all_four true false r s e f g h = f
+    all_four false q r s e f g h = e
 
 -- a cell that isn't among the occupied ones has no content
 pub unoccupied : (s : Sheet) (a : ℕ) → a < sheet_size → is_listed (occupied_cells s) a ≡ false → content_of s a ≡ None
 unoccupied s a l h =
-    let whole = record { first = 0; last = sheet_size - 1 } in
+    let whole : Area = record { first = 0; last = sheet_size - 1 } in
     let there : list_any (λ c. c == a) (keys_of s) ≡ false =
     sym (any-filter_same (λ c. c == a) (is_within whole) true (λ k e. subst (λ x. is_within whole x ≡ true) (sym (eqb-true k a e)) (whole_has a l)) (keys_of s)) ∙ h in
     none (content_of s a) (is_some-lookup (is_at (nat_cmp a)) s ∙ turned (keys_of s) a ∙ there)
@@ -98,7 +101,7 @@ unoccupied s a l h =
 -- ---- what `session` answers
 
 -- the step, where the session is there or not, and there are as many as may be or not
-step_by : State → List ℕ → Bool → Bool → Answer
+abbrev step_by : State → List ℕ → Bool → Bool → Answer
 step_by s name there full =
     answer (record no_cause { too_many = not there && full })
     (record s { sessions = if there then s.sessions else s.sessions ++ new_session name ∷ []; current = place_of s.sessions name }, [])
@@ -137,11 +140,13 @@ full_answer s name h l =
 -- a session that is none has the place behind all
 no_place : (p : Session → Bool) (xs : List Session) → list_any p xs ≡ false → position_or_len p xs ≡ length xs
 no_place p [] h = refl
-no_place p (x ∷ xs) h = by (p x) refl
+no_place p (x ∷ xs) h = by (p x) refl (no_place p xs)
   where
-    by : (b : Bool) → p x ≡ b → position_or_len p (x ∷ xs) ≡ suc (length xs)
-    by true e = absurd (let k = sym (ap (λ (c : Bool). c || list_any p xs) e) ∙ h in cc)
-    by false e = rw e (ap suc (no_place p xs (sym (ap (λ (c : Bool). c || list_any p xs) e) ∙ h)))
+    by : (b : Bool) → p x ≡ b → (list_any p xs ≡ false → position_or_len p xs ≡ length xs) → position_or_len p (x ∷ xs) ≡ suc (length xs)
+    by true e rest = absurd (let k = sym (ap (λ (c : Bool). c || list_any p xs) e) ∙ h in cc)
+    by false e rest =
+        let m : position_or_len p xs ≡ length xs = rest (sym (ap (λ (c : Bool). c || list_any p xs) e) ∙ h) in
+        rw e (omega (arith, m))
 
 -- a new one
 pub new_answer : (s : State) (name : List ℕ) (place : ℕ) → has_session s.sessions name ≡ false → length s.sessions < max_sessions → place ≡ length s.sessions
@@ -212,6 +217,14 @@ sound_new stored d r place name cells new few at grown more same are vacant h =
         → value_in (slice_index_or r.sessions i (new_session [])).picture a ≡ shown stored.sheet (effective d.scenarios (slice_index_or r.sessions i (new_session [])).scenario) a
     by i a m (inl l) n k = before i a m l k
     by i a m (inr g) n k = last i a m (omega (arith, g, n)) k
+
+pub there_step : (s : State) (name : List ℕ) (place : ℕ) → has_session s.sessions name ≡ true → place ≡ place_of s.sessions name → as_step s name ≡ Ok (record s { current = place }, [])
+there_step s name place h e =
+    step_is s name (has_session s.sessions name) (nat_le max_sessions (length s.sessions)) ∙ there_answer s name place h e
+
+pub full_step : (s : State) (name : List ℕ) → has_session s.sessions name ≡ false → max_sessions ≤ length s.sessions → as_step s name ≡ Err TooMany
+full_step s name h l =
+    step_is s name (has_session s.sessions name) (nat_le max_sessions (length s.sessions)) ∙ full_answer s name h l
 
 pub new_step : (s t : State) (name : List ℕ) → has_session s.sessions name ≡ false → length s.sessions < max_sessions
     → t ≡ record s { sessions = s.sessions ++ new_session name ∷ []; current = length s.sessions } → as_step s name ≡ Ok (t, [])
