@@ -1,6 +1,6 @@
 //! The data lines behind a line that asks for them.
 
-ghost use Rattle.std.specs.Prelude.{◌≡◌, ◌+◌, ◌<◌, ◌≤◌, ◌++◌, ◌∷◌, ◌&&◌, ◌||◌, nat_lt, [], List, ℕ, false, true, length, MatchResult, OnOk, Err, vec_capacity};
+ghost use Rattle.std.specs.Prelude.{◌≡◌, ◌+◌, ◌<◌, ◌≤◌, ◌++◌, ◌∷◌, ◌&&◌, ◌||◌, nat_lt, [], List, ℕ, false, true, length, MatchResult, IfOk, OnOk, Err, vec_capacity};
 ghost use Rattle.std.specs.Io.KnownBytes.{IsAtEnd, prepend_known};
 ghost use Rattle.wi_cli.specs.Lines.{raw_lines, is_whole};
 ghost use Rattle.wi_cli.specs.RunOutcome.{max_lines};
@@ -140,7 +140,8 @@ pub fn read_data<R: Source>(
     requires at_end { whole ≡ false → IsAtEnd (prepend_known chunk.old (R.remaining source.old)) }
     ensures took { MatchResult result
         (λ end. TookData csv.now.lines data_lines.new whole end chunk.old (R.remaining source.old) chunk.new (R.remaining source.new) lines.old lines.new)
-        (λ e. BrokeData csv.now.lines e chunk.old (R.remaining source.old) chunk.new (R.remaining source.new) lines.old) }
+        (λ e. BrokeData csv.now.lines whole e chunk.old (R.remaining source.old) chunk.new (R.remaining source.new) lines.old) }
+    ensures all { IfOk result (λ end. end ≡ true → data_lines.new.missing ≡ 0) }
     ensures wanted { OnOk result (data_lines.new.wanted ≡ wants csv.now) }
     ensures room { MAX_LINE + 1 ≤ vec_capacity line.new }
     ensures works { OnOk result (R.has_failed source.new ≡ false) }

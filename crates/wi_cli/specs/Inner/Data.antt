@@ -48,16 +48,16 @@ pub record AddedTo (d d' : DataLines) (lines : List (List ℕ)) : Type 0 where
   pub missing : d'.missing + length lines ≡ d.missing
   pub held : (before : List (List ℕ)) → HoldsLines d before → HoldsLines d' (before ++ lines)
 
--- Of the data lines that are asked for all were taken, or all up to the end of the source: none, where that stood before them.
+-- Of the data lines that are asked for some were taken: none, where the source had nothing left before them.
 pub record TookData (asked : ℕ) (d : DataLines) (before whole : Bool) (buffer : List ℕ) (left : Option (List ℕ)) (buffer' : List ℕ) (left' : Option (List ℕ)) (count count' : ℕ) : Type 0 where
   pub took : TookLines whole buffer left buffer' left' count count'
-  pub none_taken : before ≡ false → (took.lines ≡ []) × (took.last ≡ [])
-  pub none_missing : whole ≡ true → d.missing ≡ 0
+  pub none_taken : before ≡ false → (whole ≡ false) × (took.lines ≡ []) × (took.last ≡ [])
   pub missing : length (took.lines ++ raw_lines took.last) + d.missing ≡ asked
   pub held : HoldsLines d (took.lines ++ raw_lines took.last)
 
--- fewer than those were taken
-pub record BrokeData (asked : ℕ) (fault : RunFault) (buffer : List ℕ) (left : Option (List ℕ)) (buffer' : List ℕ) (left' : Option (List ℕ)) (count : ℕ) : Type 0 where
+-- fewer than those were taken, and no more
+pub record BrokeData (asked : ℕ) (before : Bool) (fault : RunFault) (buffer : List ℕ) (left : Option (List ℕ)) (buffer' : List ℕ) (left' : Option (List ℕ)) (count : ℕ) : Type 0 where
+  pub came : before ≡ true
   pub broke : BrokeLines fault buffer left buffer' left' count
   pub some_missing : length broke.lines < asked
 

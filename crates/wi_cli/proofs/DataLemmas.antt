@@ -1,0 +1,2 @@
+-- Data lines, as they are held.
+use Rattle.std.proofs.Common.{◌≡◌, ℕ, List}
