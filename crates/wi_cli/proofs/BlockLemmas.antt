@@ -1,13 +1,14 @@
 -- The blocks of lines.
-use Rattle.std.proofs.Common.{◌≡◌, ℕ, ◌+◌, ◌-◌, ◌<◌, Bool, true, false, cond, eqb, nat_eq, List, [], ◌∷◌, ◌++◌, length, refl, sym, ap, ◌∙◌, subst, append_assoc, append-nil, arith, nat_tests}
+use Rattle.std.proofs.Common.{◌≡◌, ℕ, ◌+◌, ◌-◌, ◌<◌, Bool, true, false, cond, eqb, nat_eq, List, [], ◌∷◌, ◌++◌, length, refl, sym, ap, ◌∙◌, subst, append_assoc, append-nil, arith}
 use Rattle.std.specs.List.{filter}
+use Rattle.std.proofs.lemmas.Bool.{ne_eqb}
 use Rattle.std.proofs.lemmas.List.Elements.{filter-append}
 use Rattle.wi_cli.specs.Lines.{without_lf}
 use Rattle.wi_cli.specs.CsvCommand.{csv_line}
 use Rattle.wi_cli.specs.Blocks.{Block, lines_of, begun, with_data, is_complete, blocks_from, blocks}
 use Rattle.wi_cli.specs.Inner.Taken.{AreBlocks, AreBlocksOf}
 
-pub block_of : List ℕ → List (List ℕ) → ℕ → Block
+abbrev pub block_of : List ℕ → List (List ℕ) → ℕ → Block
 block_of line data_lines missing = record { line = line; data_lines = data_lines; missing = missing }
 
 -- data lines that a block was waiting for
@@ -16,7 +17,7 @@ filled line xs [] more m n e =
     let same : n ≡ m = omega arith in
     ap (λ k. blocks_from (block_of line xs k) more) same ∙ ap (λ ys. blocks_from (block_of line ys m) more) (sym (append-nil xs))
 filled line xs (d ∷ ds) more m n e =
-    let some : nat_eq n 0 ≡ false = grind (arith, nat_tests) in
+    let some : nat_eq n 0 ≡ false = ne_eqb n 0 (λ z. absurd (omega arith)) in
     ap (λ b. cond b (block_of line xs n ∷ blocks_from (begun d) (ds ++ more)) (blocks_from (block_of line (xs ++ d ∷ []) (n - 1)) (ds ++ more))) some
     ∙ filled line (xs ++ d ∷ []) ds more m (n - 1) (omega arith)
     ∙ ap (λ ys. blocks_from (block_of line ys m) more) (append_assoc xs (d ∷ []) ds)
@@ -46,7 +47,7 @@ block_at false line ds m e h = one_block line ds m e
 pub block_lacks : (line : List ℕ) (ds : List (List ℕ)) (asked : ℕ) → lines_of (csv_line (without_lf line)) ≡ asked → length ds < asked → filter is_complete (blocks (line ∷ ds)) ≡ []
 block_lacks line ds asked e l =
     let m : ℕ = asked - length ds in
-    let some : nat_eq (asked - length ds) 0 ≡ false = grind (arith, nat_tests) in
+    let some : nat_eq (asked - length ds) 0 ≡ false = ne_eqb (asked - length ds) 0 (λ z. absurd (omega arith)) in
     ap (filter is_complete) (one_block line ds m (e ∙ omega arith)) ∙ ap (λ b. cond b (block_of line ds m ∷ []) []) some
 
 -- ---- one after another

@@ -69,6 +69,9 @@ AreWhole-append ls ms h k = record {
       ∙ sym (append_assoc ls ms (whole_lines more));
 }
 
+pub concat_push : (ls : List (List ℕ)) (l : List ℕ) → concat (ls ++ l ∷ []) ≡ concat ls ++ l
+concat_push ls l = concat-append ls (l ∷ []) ∙ ap (λ x. concat ls ++ x) (append-nil l)
+
 -- the lines of one line's bytes
 pub raw_lines-raw : (content : List ℕ) → is_whole content ≡ false → raw_lines (raw true content) ≡ raw true content ∷ []
 raw_lines-raw content h = raw_lines-whole content [] h

@@ -16,7 +16,7 @@ use Rattle.wi_cli.specs.declared.csv_line.CsvLine.{CsvLine as ReadCsv}
 use Rattle.wi_cli.specs.declared.data_lines.DataLines.{DataLines}
 use Rattle.wi_cli.specs.Lines.{raw_lines, without_lf, without_cr, is_whole}
 use Rattle.wi_cli.specs.CsvCommand.{CsvLine, csv_line, csv_command}
-use Rattle.wi_cli.specs.Blocks.{Block, lines_of, is_complete, blocks}
+use Rattle.wi_cli.specs.Blocks.{Block, lines_of, begun, is_complete, blocks}
 use Rattle.wi_cli.specs.Script.{line_command, command_with, block_command}
 use Rattle.wi_cli.specs.Inner.Ahead.{Takes}
 use Rattle.wi_cli.specs.Inner.Reading.{raw, TookLine, Broke}
@@ -27,12 +27,12 @@ use Rattle.wi_cli.proofs.ReadingLemmas.{Takes-trans}
 use Rattle.wi_cli.proofs.LineLemmas.{AreWhole-none, AreWhole-one, AreWhole-append, raw_lines-last, raw_lines-raw, without_lf-raw, few_last}
 use Rattle.wi_cli.proofs.BlockLemmas.{block_of, block_at, block_lacks}
 
-Takes-nil : (b : List ℕ) (l : Option (List ℕ)) → Takes b l b l []
+pub Takes-nil : (b : List ℕ) (l : Option (List ℕ)) → Takes b l b l []
 Takes-nil b l = Consumes-nil (prepend_known b l)
 
 -- ---- lines one after another
 
-pub none_taken : (whole : Bool) (b : List ℕ) (l : Option (List ℕ)) (count : ℕ) → count ≤ 1000000 → (whole ≡ false → IsAtEnd (prepend_known b l)) → TookLines whole b l b l count count
+abbrev pub none_taken : (whole : Bool) (b : List ℕ) (l : Option (List ℕ)) (count : ℕ) → count ≤ 1000000 → (whole ≡ false → IsAtEnd (prepend_known b l)) → TookLines whole b l b l count count
 none_taken whole b l count most e = record {
   lines = [];
   last = [];
@@ -50,7 +50,7 @@ abbrev pub IsCounted : Bool → ℕ → ℕ → Type 0
 IsCounted whole count count' = count' ≡ count + cond whole 1 0
 
 -- one line, or none
-pub one_taken : (whole : Bool) (b : List ℕ) (l : Option (List ℕ)) (b' : List ℕ) (l' : Option (List ℕ)) (line : List ℕ) (count count' : ℕ) → count ≤ 1000000
+abbrev pub one_taken : (whole : Bool) (b : List ℕ) (l : Option (List ℕ)) (b' : List ℕ) (l' : Option (List ℕ)) (line : List ℕ) (count count' : ℕ) → count ≤ 1000000
     → (k : TookLine (ltb count 1000000) whole b l b' l' line) → IsCounted whole count count' → TookLines whole b l b' l' count count'
 one_taken true b l b' l' line count count' most k e = record {
   lines = raw true k.content ∷ [];
@@ -86,10 +86,10 @@ pub taken_lines : (whole : Bool) (b : List ℕ) (l : Option (List ℕ)) (b' : Li
 taken_lines true b l b' l' line count count' most k e = sym (raw_lines-raw k.content k.no_lf)
 taken_lines false b l b' l' line count count' most k e = ap raw_lines (sym (append-nil k.content))
 
-no_last : (xs ys : List ℕ) → ys ≡ [] → xs ++ ys ≡ xs
+pub no_last : (xs ys : List ℕ) → ys ≡ [] → xs ++ ys ≡ xs
 no_last xs ys e = ap (λ z. xs ++ z) e ∙ append-nil xs
 
-pub TookLines-trans : (whole : Bool) (a : List ℕ) (p : Option (List ℕ)) (b : List ℕ) (q : Option (List ℕ)) (c : List ℕ) (r : Option (List ℕ)) (m n o : ℕ)
+abbrev pub TookLines-trans : (whole : Bool) (a : List ℕ) (p : Option (List ℕ)) (b : List ℕ) (q : Option (List ℕ)) (c : List ℕ) (r : Option (List ℕ)) (m n o : ℕ)
     → TookLines true a p b q m n → TookLines whole b q c r n o → TookLines whole a p c r m o
 TookLines-trans whole a p b q c r m n o h k = record {
   lines = h.lines ++ k.lines;
@@ -109,30 +109,36 @@ TookLines-trans whole a p b q c r m n o h k = record {
 -- ---- and no more
 
 pub one_broke : (fault : RunFault) (a : List ℕ) (p : Option (List ℕ)) (b : List ℕ) (q : Option (List ℕ)) (c : List ℕ) (r : Option (List ℕ)) (m n : ℕ)
-    → TookLines true a p b q m n → Broke fault (ltb n 1000000) b q c r → n ≤ 1000000 → BrokeLines fault a p c r m
+    → (h : TookLines true a p b q m n) → Broke fault (ltb n 1000000) b q c r → n ≤ 1000000 → (d : BrokeLines fault a p c r m) × (d.lines ≡ h.lines)
 one_broke fault a p b q c r m n h k most = go fault k where
   front : (ys : List ℕ) → Takes b q c r ys → Takes a p c r (concat h.lines ++ ys)
   front ys t = subst (λ z. Takes a p c r (z ++ ys)) (no_last (concat h.lines) h.last (h.none_last refl)) (Takes-trans a p b q c r _ _ h.taken t)
 
-  go : (fault : RunFault) → Broke fault (ltb n 1000000) b q c r → BrokeLines fault a p c r m
+  go : (fault : RunFault) → Broke fault (ltb n 1000000) b q c r → (d : BrokeLines fault a p c r m) × (d.lines ≡ h.lines)
   go Memory k = absurd k
   go Write k = absurd k
-  go Read k = record {
-    lines = h.lines;
-    are_whole = h.are_whole;
-    cause = (
-      k.0,
-      k.1,
-      k.2,
-      front k.0 k.3,
-      let few = few_last k.0 n k.1 (λ l. ltb-true n 1000000 (k.4 l)) most in omega (arith, h.counted, few),
-    );
-  }
-  go ScriptLimit k = record {
-    lines = h.lines;
-    are_whole = h.are_whole;
-    cause = (k.0, front (k.0 ∷ []) k.2, let full : 1000000 ≤ n = ltb-false n 1000000 k.1 in omega (arith, h.counted));
-  }
+  go Read k = (
+    record {
+      lines = h.lines;
+      are_whole = h.are_whole;
+      cause = (
+        k.0,
+        k.1,
+        k.2,
+        front k.0 k.3,
+        let few = few_last k.0 n k.1 (λ l. ltb-true n 1000000 (k.4 l)) most in omega (arith, h.counted, few),
+      );
+    },
+    refl,
+  )
+  go ScriptLimit k = (
+    record {
+      lines = h.lines;
+      are_whole = h.are_whole;
+      cause = (k.0, front (k.0 ∷ []) k.2, let full : 1000000 ≤ n = ltb-false n 1000000 k.1 in omega (arith, h.counted));
+    },
+    refl,
+  )
 
 BrokeLines-behind : (fault : RunFault) (a : List ℕ) (p : Option (List ℕ)) (b : List ℕ) (q : Option (List ℕ)) (c : List ℕ) (r : Option (List ℕ)) (m n : ℕ)
     → (h : TookLines true a p b q m n) → (k : BrokeLines fault b q c r n) → (d : BrokeLines fault a p c r m) × (d.lines ≡ h.lines ++ k.lines)
@@ -200,7 +206,7 @@ plain_block true b l b' l' line count count' most k e none =
       took = one_taken true b l b' l' line count count' most k e;
       taken = block_of (raw true k.content) [] 0 ∷ [];
       are_blocks = block_at true (raw true k.content) [] 0 (ap lines_of (ap csv_line same ∙ none)) (λ _. refl);
-      is_command = one_command _ _ (plain_command (raw true k.content) k.content [] 0 same none);
+      is_command = one_command (block_of (raw true k.content) [] 0) (line_command k.content) (plain_command (raw true k.content) k.content [] 0 same none);
     }
 plain_block false b l b' l' line count count' most k e none = record {
   took = one_taken false b l b' l' line count count' most k e;
@@ -213,7 +219,7 @@ plain_block false b l b' l' line count count' most k e none = record {
   go (x ∷ xs) h none =
       let same : without_lf (x ∷ xs) ≡ x ∷ xs = ap without_lf (sym (append-nil (x ∷ xs))) ∙ without_lf-raw false (x ∷ xs) h in
       ap (λ ls. filter_map block_command (blocks ls)) (raw_lines-last x xs h)
-      ∙ one_command _ _ (plain_command (x ∷ xs) (x ∷ xs) [] _ same none)
+      ∙ one_command (begun (x ∷ xs)) (line_command (x ∷ xs)) (plain_command (x ∷ xs) (x ∷ xs) [] _ same none)
 
 -- ---- a line that asks for data lines
 
@@ -250,7 +256,7 @@ csv_block true whole a p b q c r line m n o most k e csv is d h all =
       took = TookLines-trans whole a p b q c r m n o (one_taken true a p b q line m n most k e) h.took;
       taken = block_of (raw true k.content) (data_of h.took) d.missing ∷ [];
       are_blocks = block_at whole (raw true k.content) (data_of h.took) d.missing (asked_of (raw true k.content) k.content csv same is ∙ sym h.missing) all;
-      is_command = one_command _ _ (csv_block_command (raw true k.content) k.content csv (data_of h.took) d.missing same is);
+      is_command = one_command (block_of (raw true k.content) (data_of h.took) d.missing) (Some (command_of_csv csv (data_of h.took) d.missing)) (csv_block_command (raw true k.content) k.content csv (data_of h.took) d.missing same is);
     }
 csv_block false whole a p b q c r line m n o most k e csv is d h all = go whole (h.none_taken refl).0 h where
   go : (whole : Bool) → whole ≡ false → (h : TookData csv.lines d false whole b q c r n o) → TookBlock (Some (command_of_csv csv (data_of h.took) d.missing)) whole a p c r m o
@@ -281,25 +287,19 @@ csv_block false whole a p b q c r line m n o most k e csv is d h all = go whole 
           };
           taken = block_of (x ∷ xs) [] d.missing ∷ [];
           are_blocks = ap blocks one ∙ block_at false (x ∷ xs) [] d.missing (asked ∙ ap (λ z. length z + d.missing) none) (λ t. absurd (false≢true t));
-          is_command = one_command _ _ (csv_block_command (x ∷ xs) k.content csv [] d.missing same is) ∙ ap (λ z. option_to_list (Some (command_of_csv csv z d.missing))) (sym none);
+          is_command = one_command (block_of (x ∷ xs) [] d.missing) (Some (command_of_csv csv [] d.missing)) (csv_block_command (x ∷ xs) k.content csv [] d.missing same is) ∙ ap (λ z. option_to_list (Some (command_of_csv csv z d.missing))) (sym none);
         }
 
 -- ---- no block
 
-nothing_before : (b : List ℕ) (l : Option (List ℕ)) (count : ℕ) → count ≤ 1000000 → TookLines true b l b l count count
+abbrev nothing_before : (b : List ℕ) (l : Option (List ℕ)) (count : ℕ) → count ≤ 1000000 → TookLines true b l b l count count
 nothing_before b l count most = none_taken true b l count most (λ h. absurd (false≢true (sym h)))
 
 pub first_broke : (fault : RunFault) (b : List ℕ) (l : Option (List ℕ)) (b' : List ℕ) (l' : Option (List ℕ)) (count : ℕ) → count ≤ 1000000
     → Broke fault (ltb count 1000000) b l b' l' → BrokeBlock fault b l b' l' count
-first_broke fault b l b' l' count most k = go fault k where
-  before : TookLines true b l b l count count
-  before = nothing_before b l count most
-
-  go : (fault : RunFault) → Broke fault (ltb count 1000000) b l b' l' → BrokeBlock fault b l b' l' count
-  go Memory k = absurd k
-  go Write k = absurd k
-  go Read k = record { broke = one_broke Read b l b l b' l' count count before k most; none_complete = refl }
-  go ScriptLimit k = record { broke = one_broke ScriptLimit b l b l b' l' count count before k most; none_complete = refl }
+first_broke fault b l b' l' count most k =
+    let d = one_broke fault b l b l b' l' count count (nothing_before b l count most) k most in
+    record { broke = d.0; none_complete = ap (λ ls. filter is_complete (blocks ls)) d.1 }
 
 pub data_broke : (before : Bool) (fault : RunFault) (a : List ℕ) (p : Option (List ℕ)) (b : List ℕ) (q : Option (List ℕ)) (c : List ℕ) (r : Option (List ℕ)) (line : List ℕ) (m n : ℕ)
     → m ≤ 1000000 → (k : TookLine (ltb m 1000000) before a p b q line) → IsCounted before m n → (csv : ReadCsv) → IsCsvOf k.content csv

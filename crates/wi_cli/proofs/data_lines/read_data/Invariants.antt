@@ -2,8 +2,8 @@ use Rattle.std.proofs.Common.{◌≡◌, ◌+◌, ◌≤◌, cond, false, vec_ca
 use Rattle.wi_cli.specs.Inner.Data.{wants, TookData}
 use Rattle.wi_cli.proofs.data_lines.read_data.Given as goal
 
-abbrev pub invariant-loop-whole : goal.invariant-loop-whole
-invariant-loop-whole g l =
+abbrev pub invariant-loop-chunk : goal.invariant-loop-chunk
+invariant-loop-chunk g l =
     let left = g.R.Source.remaining in
     record {
       taken : TookData l.csv.lines l.data_lines l.fn.whole l.whole l.fn.chunk (left l.fn.source) l.chunk (left l.source) l.fn.lines l.lines;
@@ -13,5 +13,5 @@ invariant-loop-whole g l =
       room : 65537 ≤ vec_capacity l.line;
     }
 
-abbrev pub decreases-loop-whole : goal.decreases-loop-whole
-decreases-loop-whole g l = cond l.whole (l.data_lines.missing + 1) 0
+abbrev pub decreases-loop-chunk : goal.decreases-loop-chunk
+decreases-loop-chunk g l = cond l.whole (l.data_lines.missing + 1) 0
