@@ -1,22 +1,23 @@
 -- Data lines, as they are taken and held.
-use Rattle.std.proofs.Common.{◌≡◌, ℕ, ◌+◌, ◌-◌, ◌<◌, ◌≤◌, Bool, true, false, ◌||◌, ◌&&◌, cond, ltb, List, [], ◌∷◌, ◌++◌, length, take, refl, sym, ap, ◌∙◌, subst, Option, append_assoc, append-nil, length-append, arith}
+use Rattle.std.proofs.Common.{◌≡◌, ℕ, ◌+◌, ◌-◌, ◌<◌, ◌≤◌, Bool, true, false, ◌||◌, ◌&&◌, cond, ltb, List, [], ◌∷◌, ◌++◌, length, take, refl, sym, ap, ◌∙◌, subst, ⊎_elim, Option, None, Some, append_assoc, append-nil, length-append, arith}
 use Rattle.std.specs.List.{concat, list_any}
+use Rattle.std.specs.Str.{is_utf8}
 use Rattle.std.specs.Io.KnownBytes.{IsAtEnd, prepend_known}
 use Rattle.std.proofs.lemmas.List.{take_all, length-take}
 use Rattle.std.proofs.lemmas.List.Folds.{concat-append, list_any-append}
-use Rattle.std.proofs.lemmas.Bool.{false≢true, lt-ltb, le-ltb, ltb-true}
+use Rattle.std.proofs.lemmas.Bool.{false≢true, lt-ltb, le-ltb, ltb-true, cases_lt}
 use Rattle.wi_cli.specs.declared.fault.RunFault.{RunFault}
 use Rattle.wi_cli.specs.declared.csv_line.CsvLine.{CsvLine as ReadCsv}
 use Rattle.wi_cli.specs.declared.data_lines.Held.{Held}
 use Rattle.wi_cli.specs.declared.data_lines.Held.TheVariants.{All, Lacking, TooLong}
 use Rattle.wi_cli.specs.declared.data_lines.DataLines.{DataLines}
-use Rattle.wi_cli.specs.Lines.{raw_lines, without_lf, is_whole}
-use Rattle.wi_cli.specs.CsvCommand.{is_long}
+use Rattle.wi_cli.specs.Lines.{raw_lines, without_lf, without_cr, is_whole}
+use Rattle.wi_cli.specs.CsvCommand.{CsvLine, csv_text, csv_line, is_long}
 use Rattle.wi_cli.specs.Inner.Reading.{raw, line_front, TookLine, Broke}
 use Rattle.wi_cli.specs.Inner.Taken.{TookLines}
-use Rattle.wi_cli.specs.Inner.Data.{Holds, HoldsLines, AddedTo, TookData, BrokeData}
+use Rattle.wi_cli.specs.Inner.Data.{IsCsv, Holds, HoldsLines, AddedTo, TookData, BrokeData}
 use Rattle.wi_cli.proofs.LineLemmas.{raw_lines-last, raw_lines-raw, without_lf-raw, concat_push}
-use Rattle.wi_cli.proofs.TakenLemmas.{IsCounted, none_taken, one_taken, taken_lines, TookLines-trans, one_broke}
+use Rattle.wi_cli.proofs.TakenLemmas.{IsCsvOf, IsCounted, none_taken, one_taken, taken_lines, TookLines-trans, one_broke}
 
 -- ---- a line by its front
 
@@ -39,10 +40,38 @@ front_none : (content : List ℕ) → line_front content ≡ [] → content ≡ 
 unfolding line_front
 front_none content e = none_of_front 65537 content (omega arith) e
 
-is_long_raw : (whole : Bool) (content : List ℕ) → is_whole content ≡ false → is_long (raw whole content) ≡ ltb 65536 (length content)
-is_long_raw whole content h = ap (λ x. ltb 65536 (length x)) (without_lf-raw whole content h)
+-- ---- a line that asks for data lines, by its front
+
+csv_short : (line : List ℕ) (x : CsvLine) → csv_line line ≡ Some x → length line ≤ 65536
+unfolding csv_line
+csv_short line x e = ⊎_elim
+    (λ (l : 65536 < length line). let none = sym (ap (λ b. cond b None (csv_text (without_cr line))) (lt-ltb 65536 (length line) l)) ∙ e in absurd cc)
+    (λ (l : length line ≤ 65536). l)
+    (cases_lt 65536 (length line))
+
+csv_none : (content : List ℕ) → 65536 < length content → csv_line content ≡ None
+unfolding csv_line
+csv_none content l = ap (λ b. cond b None (csv_text (without_cr content))) (lt-ltb 65536 (length content) l)
+
+front_all : (line content : List ℕ) → line ≡ line_front content → length content ≤ 65536 → line ≡ content
+unfolding line_front
+front_all line content e l = e ∙ take_all 65537 content (omega arith)
+
+pub csv_read : (line content : List ℕ) → line ≡ line_front content → (csv : ReadCsv) → IsCsv (csv_line line) (Some csv) → csv.is_text ≡ is_utf8 (without_cr line) → IsCsvOf content csv
+csv_read line content e csv h t =
+    let same : line ≡ content = front_short line content e (csv_short line _ h.1) in
+    record { word = h.0; asked = ap csv_line (sym same) ∙ h.1; at = h.2; text = t ∙ ap (λ x. is_utf8 (without_cr x)) same }
+
+pub no_csv : (line content : List ℕ) → line ≡ line_front content → csv_line line ≡ None → csv_line content ≡ None
+no_csv line content e h = ⊎_elim
+    (λ (l : 65536 < length content). csv_none content l)
+    (λ (l : length content ≤ 65536). ap csv_line (sym (front_all line content e l)) ∙ h)
+    (cases_lt 65536 (length content))
 
 -- ---- one line more
+
+is_long_raw : (whole : Bool) (content : List ℕ) → is_whole content ≡ false → is_long (raw whole content) ≡ ltb 65536 (length content)
+is_long_raw whole content h = ap (λ x. ltb 65536 (length x)) (without_lf-raw whole content h)
 
 or_true : (b : Bool) → (b || true) ≡ true
 or_true true = refl

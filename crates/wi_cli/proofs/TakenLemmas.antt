@@ -207,12 +207,14 @@ plain_block true b l b' l' line count count' most k e none =
       taken = block_of (raw true k.content) [] 0 ∷ [];
       are_blocks = block_at true (raw true k.content) [] 0 (ap lines_of (ap csv_line same ∙ none)) (λ _. refl);
       is_command = one_command (block_of (raw true k.content) [] 0) (line_command k.content) (plain_command (raw true k.content) k.content [] 0 same none);
+      grows = λ _. omega (arith, e);
     }
 plain_block false b l b' l' line count count' most k e none = record {
   took = one_taken false b l b' l' line count count' most k e;
   taken = blocks (raw_lines k.content);
   are_blocks = refl;
   is_command = go k.content k.no_lf none;
+  grows = λ h. absurd (false≢true h);
 } where
   go : (content : List ℕ) → is_whole content ≡ false → csv_line content ≡ None → filter_map block_command (blocks (raw_lines content)) ≡ option_to_list (line_command content)
   go [] h none = ap option_to_list (sym nothing_said)
@@ -257,6 +259,7 @@ csv_block true whole a p b q c r line m n o most k e csv is d h all =
       taken = block_of (raw true k.content) (data_of h.took) d.missing ∷ [];
       are_blocks = block_at whole (raw true k.content) (data_of h.took) d.missing (asked_of (raw true k.content) k.content csv same is ∙ sym h.missing) all;
       is_command = one_command (block_of (raw true k.content) (data_of h.took) d.missing) (Some (command_of_csv csv (data_of h.took) d.missing)) (csv_block_command (raw true k.content) k.content csv (data_of h.took) d.missing same is);
+      grows = λ _. omega (arith, e, h.took.counted);
     }
 csv_block false whole a p b q c r line m n o most k e csv is d h all = go whole (h.none_taken refl).0 h where
   go : (whole : Bool) → whole ≡ false → (h : TookData csv.lines d false whole b q c r n o) → TookBlock (Some (command_of_csv csv (data_of h.took) d.missing)) whole a p c r m o
@@ -288,6 +291,7 @@ csv_block false whole a p b q c r line m n o most k e csv is d h all = go whole 
           taken = block_of (x ∷ xs) [] d.missing ∷ [];
           are_blocks = ap blocks one ∙ block_at false (x ∷ xs) [] d.missing (asked ∙ ap (λ z. length z + d.missing) none) (λ t. absurd (false≢true t));
           is_command = one_command (block_of (x ∷ xs) [] d.missing) (Some (command_of_csv csv [] d.missing)) (csv_block_command (x ∷ xs) k.content csv [] d.missing same is) ∙ ap (λ z. option_to_list (Some (command_of_csv csv z d.missing))) (sym none);
+          grows = λ t. absurd (false≢true t);
         }
 
 -- ---- no block

@@ -1,5 +1,5 @@
 -- What one turn of a run does.
-use Rattle.std.specs.Prelude.{◌≡◌, ℕ, Bool, List, [], ◌++◌, filter, filter_map, Option, Some, None}
+use Rattle.std.specs.Prelude.{◌≡◌, ℕ, ◌<◌, Bool, true, List, [], ◌++◌, filter, filter_map, Option, Some, None}
 use Rattle.std.specs.Option.{option_to_list}
 use Rattle.std.specs.Io.KnownBytes.{Appends}
 use Rattle.wi_cli.specs.declared.fault.RunFault.{RunFault}
@@ -21,6 +21,7 @@ pub record TookBlock (command : Option Command) (whole : Bool) (buffer : List �
   pub taken : List Block
   pub are_blocks : AreBlocksOf whole (took.lines ++ raw_lines took.last) taken
   pub is_command : filter_map block_command taken ≡ option_to_list command
+  pub grows : whole ≡ true → count < count'
 
 -- the command of a line and its data lines, as they are read
 abbrev pub IsRead : Option Command → Option ReadCsv → List ℕ → DataLines → Type 0
