@@ -1,5 +1,5 @@
 -- A run of a script so far, and how it may end.
-use Rattle.std.proofs.Common.{◌≡◌, ℕ, ◌+◌, ◌-◌, ◌<◌, ◌≤◌, Bool, true, false, ltb, List, [], ◌∷◌, ◌++◌, length, take, refl, sym, ap, ◌∙◌, subst, Option, None, Some, Result, Ok, Err, IfErr, append_assoc, append-nil, length-append, inl, inr, arith}
+use Rattle.std.proofs.Common.{◌≡◌, ℕ, ◌+◌, ◌-◌, ◌<◌, ◌≤◌, Bool, true, false, ltb, List, [], ◌∷◌, ◌++◌, length, take, refl, sym, ap, ◌∙◌, subst, Option, None, Some, Result, Ok, Err, IfErr, OnOk, append_assoc, append-nil, length-append, inl, inr, arith}
 use Rattle.std.specs.List.{concat, filter, filter_map}
 use Rattle.std.specs.Option.{option_to_list}
 use Rattle.std.specs.Io.KnownBytes.{Appends, Keeps, Consumes, IsAtEnd, prepend_known}
@@ -334,3 +334,7 @@ still_few k = let few = k.block.took.few in omega arith
 
 pub one_more : {b : List ℕ} {p : Option (List ℕ)} {c : List ℕ} {q : Option (List ℕ)} {count count' : ℕ} {m t : State} {x y : Option (List ℕ)} → Turned true b p c q count count' m t x y → count < count'
 one_more k = k.block.grows refl
+
+pub all_read : (r : Result (Unit {0}) RunFault) (b : List ℕ) (p : Option (List ℕ)) (c : List ℕ) (q : Option (List ℕ)) (count count' : ℕ) (m t : State) (x y : Option (List ℕ)) → Turned false b p c q count count' m t x y → OnOk r (IsAtEnd q)
+all_read (Ok u) b p c q count count' m t x y k = at_end_of c q (k.block.took.at_end refl)
+all_read (Err e) b p c q count count' m t x y k = tt

@@ -1,6 +1,6 @@
 use Rattle.std.proofs.Common.{rules, arith}
 use Rattle.std.proofs.lemmas.Result.{err_from_is_err_and}
-use Rattle.wi_cli.proofs.OutcomeLemmas.{going_none, going_on, ends_sent, ends_stopped, still_few, one_more}
+use Rattle.wi_cli.proofs.OutcomeLemmas.{going_none, going_on, ends_sent, ends_stopped, still_few, one_more, all_read}
 use Rattle.wi_cli.proofs.runs.run.Goals as goal
 
 pub loop-out-init : goal.loop-out-init
@@ -44,3 +44,8 @@ returns-clause-replies g c =
     let turned = rw c.if-branch.false at c.in_ok-turn.ensures.done in
     let old = c.loop-out.invariant in
     ends_sent _ _ _ _ _ _ _ _ _ _ _ _ _ c.loop-out.lines _ old.going turned c.send.ensures.bytes c.send.ensures.fault
+
+pub returns-clause-all_read : goal.returns-clause-all_read
+returns-clause-all_read g c =
+    let turned = rw c.if-branch.false at c.in_ok-turn.ensures.done in
+    all_read _ _ _ _ _ _ _ _ _ _ _ turned
