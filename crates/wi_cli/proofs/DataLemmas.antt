@@ -4,14 +4,14 @@ use Rattle.std.specs.List.{concat, list_any}
 use Rattle.std.specs.Str.{is_utf8}
 use Rattle.std.specs.Io.KnownBytes.{IsAtEnd, prepend_known}
 use Rattle.std.proofs.lemmas.List.{take_all, length-take}
-use Rattle.std.proofs.lemmas.List.Folds.{concat-append, list_any-append}
+use Rattle.std.proofs.lemmas.List.Folds.{list_any-append}
 use Rattle.std.proofs.lemmas.Bool.{false≢true, lt-ltb, le-ltb, ltb-true, cases_lt}
 use Rattle.wi_cli.specs.declared.fault.RunFault.{RunFault}
 use Rattle.wi_cli.specs.declared.csv_line.CsvLine.{CsvLine as ReadCsv}
 use Rattle.wi_cli.specs.declared.data_lines.Held.{Held}
 use Rattle.wi_cli.specs.declared.data_lines.Held.TheVariants.{All, Lacking, TooLong}
 use Rattle.wi_cli.specs.declared.data_lines.DataLines.{DataLines}
-use Rattle.wi_cli.specs.Lines.{raw_lines, without_lf, without_cr, is_whole}
+use Rattle.wi_cli.specs.Lines.{raw_lines, without_cr, is_whole}
 use Rattle.wi_cli.specs.CsvCommand.{CsvLine, csv_text, csv_line, is_long}
 use Rattle.wi_cli.specs.Inner.Reading.{raw, line_front, TookLine, Broke}
 use Rattle.wi_cli.specs.Inner.Taken.{TookLines}
@@ -172,9 +172,9 @@ data_stopped asked d before fault a p b q c r m n most h some k =
       broke = broke.0;
       some_missing = omega (arith, h.missing, ap length (no_last h.took refl), ap length broke.1);
     } where
-  go : (v : Bool) → (v ≡ false → true ≡ false) → v ≡ true
-  go true f = refl
-  go false f = absurd (false≢true (sym (f refl)))
+      go : (v : Bool) → (v ≡ false → true ≡ false) → v ≡ true
+      go true f = refl
+      go false f = absurd (false≢true (sym (f refl)))
 
 -- ---- the loop
 

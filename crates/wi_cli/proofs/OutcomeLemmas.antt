@@ -1,5 +1,5 @@
 -- A run of a script so far, and how it may end.
-use Rattle.std.proofs.Common.{◌≡◌, ℕ, ◌+◌, ◌-◌, ◌<◌, ◌≤◌, Bool, true, false, ltb, List, [], ◌∷◌, ◌++◌, length, take, refl, sym, ap, ◌∙◌, subst, Option, None, Some, Result, Ok, Err, IfErr, OnOk, append_assoc, append-nil, length-append, inl, inr, arith}
+use Rattle.std.proofs.Common.{◌≡◌, ℕ, ◌+◌, ◌-◌, ◌<◌, ◌≤◌, Bool, true, false, List, [], ◌∷◌, ◌++◌, length, take, refl, sym, ap, ◌∙◌, subst, Option, None, Some, Result, Ok, Err, IfErr, OnOk, append_assoc, append-nil, length-append, inl, inr, arith}
 use Rattle.std.specs.List.{concat, filter, filter_map}
 use Rattle.std.specs.Option.{option_to_list}
 use Rattle.std.specs.Io.KnownBytes.{Appends, Keeps, Consumes, IsAtEnd, prepend_known}
@@ -16,7 +16,7 @@ use Rattle.wi_cli.specs.Inner.Ahead.{Takes}
 use Rattle.wi_cli.specs.Lines.{raw_lines}
 use Rattle.wi_cli.specs.Blocks.{Block, blocks, is_complete}
 use Rattle.wi_cli.specs.Script.{block_command, commands, whole_lines, all_commands, complete_commands}
-use Rattle.wi_cli.specs.Inner.Taken.{AreWhole, AreBlocks, BrokeLines}
+use Rattle.wi_cli.specs.Inner.Taken.{AreWhole, AreBlocks}
 use Rattle.wi_cli.specs.Inner.Turn.{TookBlock, BrokeBlock, Turned, CutShort, Stopped}
 use Rattle.wi_cli.specs.Run.{WritesReplies}
 use Rattle.wi_cli.specs.RunOutcome.{RunOutcome, WritesFrontOfReplies, limited}

@@ -15,13 +15,13 @@ use Rattle.wi_cli.specs.declared.fault.RunFault.TheVariants.{Memory, Read, Write
 use Rattle.wi_cli.specs.declared.csv_line.CsvLine.{CsvLine as ReadCsv}
 use Rattle.wi_cli.specs.declared.data_lines.DataLines.{DataLines}
 use Rattle.wi_cli.specs.Lines.{raw_lines, without_lf, without_cr, is_whole}
-use Rattle.wi_cli.specs.CsvCommand.{CsvLine, csv_line, csv_command}
+use Rattle.wi_cli.specs.CsvCommand.{csv_line, csv_command}
 use Rattle.wi_cli.specs.Blocks.{Block, lines_of, begun, is_complete, blocks}
 use Rattle.wi_cli.specs.Script.{line_command, command_with, block_command}
 use Rattle.wi_cli.specs.Inner.Ahead.{Takes}
 use Rattle.wi_cli.specs.Inner.Reading.{raw, TookLine, Broke}
-use Rattle.wi_cli.specs.Inner.Taken.{AreWhole, TookLines, BrokeLines}
-use Rattle.wi_cli.specs.Inner.Data.{IsCsv, command_of_csv, TookData, BrokeData}
+use Rattle.wi_cli.specs.Inner.Taken.{TookLines, BrokeLines}
+use Rattle.wi_cli.specs.Inner.Data.{command_of_csv, TookData, BrokeData}
 use Rattle.wi_cli.specs.Inner.Turn.{TookBlock, BrokeBlock}
 use Rattle.wi_cli.proofs.ReadingLemmas.{Takes-trans}
 use Rattle.wi_cli.proofs.LineLemmas.{AreWhole-none, AreWhole-one, AreWhole-append, raw_lines-last, raw_lines-raw, without_lf-raw, few_last}

@@ -93,7 +93,11 @@ fn read_lines(word: &[u8]) -> Option<u32>
         return None;
     }
     let lines = number_of(word);
-    if lines <= MAX_LINES { Some(lines) } else { None }
+    if lines <= MAX_LINES {
+        Some(lines)
+    } else {
+        None
+    }
 }
 
 /// `ADDR LINES`.
