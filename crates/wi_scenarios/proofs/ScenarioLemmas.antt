@@ -1,5 +1,5 @@
 -- What commands about scenarios answer.
-use Rattle.std.proofs.Common.{◌≡◌, ◌↔◌, ℕ, Bool, true, false, not, ◌||◌, List, [], ◌∷◌, length, Option, Some, None, Result, Ok, Err, refl, sym, ap, ◌∙◌, subst, if◌then◌else◌, arith}
+use Rattle.std.proofs.Common.{◌≡◌, ◌↔◌, ℕ, Bool, true, false, not, ◌||◌, List, [], ◌∷◌, length, Option, Some, None, Result, Ok, Err, refl, sym, ap, ◌∙◌, subst, arith}
 use Rattle.std.specs.Prelude.{IsErrOf, is_some}
 use Rattle.std.specs.Result.{IsErrAnd}
 use Rattle.std.proofs.lemmas.Result.{err_from_is_err_and}
@@ -8,7 +8,7 @@ use Rattle.wi_values.specs.declared.import.FieldFault.{FieldFault}
 use Rattle.wi_values.specs.declared.import.FieldFault.TheVariants as field
 use Rattle.wi_values.specs.Inner.Import.{imported}
 use Rattle.wi_values.proofs.Imports.{imported_exactly}
-use Rattle.wi_scenario_list.specs.Scenarios.{Scenario, has_scenario, scenario_for, with_scenario, with_own, without_own, is_full}
+use Rattle.wi_scenario_list.specs.Scenarios.{has_scenario, scenario_for, with_scenario, with_own, without_own, is_full}
 use Rattle.wi_scenario_list.specs.Bases.{lacks, would_loop, based_on}
 use Rattle.wi_scenarios.specs.declared.refusal.Refusal.{Refusal}
 use Rattle.wi_scenarios.specs.declared.refusal.Refusal.TheVariants.{Memory, NoScenario, TooMany, TooLong, Loop}
@@ -17,7 +17,7 @@ use Rattle.wi_scenarios.specs.State.{State}
 use Rattle.wi_scenarios.specs.Views.{current_session, with_current}
 use Rattle.wi_scenarios.specs.Answer.{Answer, MayRefuse, Serves, field_refusal}
 use Rattle.wi_scenarios.specs.Causes.{no_cause, when, answer}
-use Rattle.wi_scenarios.specs.Scenario.{replacement_by, put_answer, take_away_step, IsPutStep, IsScenarioStep}
+use Rattle.wi_scenarios.specs.Scenario.{replacement_by, put_answer, take_away_step, IsScenarioStep}
 use Rattle.wi_scenarios.specs.Base.{base_step}
 use Rattle.wi_scenarios.specs.Use.{use_step}
 

@@ -1,22 +1,20 @@
 -- Room for the cells that may show something else, and what is then shown.
-use Rattle.std.proofs.Common.{◌≡◌, ◌≢◌, ◌==◌, ℕ, zero, suc, ◌+◌, ◌<◌, ◌≤◌, Bool, true, false, not, cond, ◌||◌, ◌&&◌, List, [], ◌∷◌, length, get_or, map, Option, Some, None, Result, Ok, Err, OnOk, OnErr, refl, sym, ap, ◌∙◌, subst, arith}
-use Rattle.std.specs.Ordering.{nat_cmp}
+use Rattle.std.proofs.Common.{◌≡◌, ◌==◌, ℕ, ◌<◌, Bool, true, false, not, ◌||◌, ◌&&◌, List, [], ◌∷◌, length, get_or, Option, refl, sym, ap, ◌∙◌, subst, arith}
 use Rattle.std.proofs.lemmas.Bool.{false≢true}
 use Rattle.std.proofs.lemmas.Bool.Decides.{nat_tests}
 use Rattle.std.proofs.lemmas.List.Folds.{list_any_at}
 use Rattle.wi_values.specs.declared.replacement.Replacement.{Replacement}
-use Rattle.wi_values.specs.Replacements.{IsInOrder, as_map, replaced, overridden, last_for}
+use Rattle.wi_values.specs.Replacements.{IsInOrder, replaced}
 use Rattle.wi_parser.specs.Sheet.{Sheet}
 use Rattle.wi_sheet.specs.Shown.{shown}
 use Rattle.wi_sheet.specs.Unmoved.{IsUnmoved}
 use Rattle.wi_sheet.proofs.Cones.{outside_unmoved}
-use Rattle.wi_sheet.proofs.Overrides.{last_in_order, override_in_order, same_for_reached}
-use Rattle.wi_scenario_list.specs.Scenarios.{Scenario, layered, chain, effective, scenario_of, chain_within}
+use Rattle.wi_sheet.proofs.Overrides.{last_in_order, override_in_order}
+use Rattle.wi_scenario_list.specs.Scenarios.{Scenario, layered, chain, effective}
 use Rattle.wi_sessions.specs.Pictures.Laws.{is_listed}
 use Rattle.std.specs.List.{slice_index_or}
 use Rattle.wi_sessions.specs.Sessions.{Session, new_session}
 use Rattle.wi_sessions.specs.Roster.{Roster, session_at, pending_of, vacant_of}
-use Rattle.wi_scenarios.specs.Pending.{IsMarked}
 use Rattle.wi_scenarios.specs.Inner.Switch.{Differs, AreDiffering, HasRoom, HasRoomFor}
 
 -- what scenarios put in is in order

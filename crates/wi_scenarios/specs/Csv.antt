@@ -11,7 +11,7 @@ use Rattle.wi_scenarios.specs.declared.refusal.Refusal.TheVariants.{TooLong, Out
 use Rattle.wi_scenarios.specs.State.{State}
 use Rattle.wi_scenarios.specs.Answer.{Answer}
 use Rattle.wi_scenarios.specs.Causes.{no_cause}
-use Rattle.wi_scenarios.specs.Edits.{Edit, edit_answer}
+use Rattle.wi_scenarios.specs.Edits.{edit_answer}
 
 -- what an import comes to: what cells get, or a fault
 abbrev pub Imported : Type 0

@@ -9,7 +9,7 @@ use Rattle.wi_scenarios.specs.Set.{IsSetStep}
 use Rattle.wi_scenarios.specs.Clear.{clear_step}
 use Rattle.wi_scenarios.specs.Fill.{fill_step}
 use Rattle.wi_scenarios.specs.Csv.{IsCsvStep}
-use Rattle.wi_scenarios.specs.Scenario.{IsScenarioStep, take_away_step}
+use Rattle.wi_scenarios.specs.Scenario.{IsScenarioStep}
 use Rattle.wi_scenarios.specs.Drop.{drop_step}
 use Rattle.wi_scenarios.specs.Base.{base_step}
 use Rattle.wi_scenarios.specs.Use.{use_step}

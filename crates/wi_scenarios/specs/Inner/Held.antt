@@ -1,5 +1,5 @@
 -- What the fields of a workbook stand for, and what holds of them between commands.
-use Rattle.std.specs.Prelude.{◌≡◌, ℕ, ◌<◌, ◌≤◌, Bool, false, List, [], length}
+use Rattle.std.specs.Prelude.{◌≡◌, ℕ, ◌<◌, ◌≤◌, false, List, [], length}
 use Rattle.wi_store.specs.Store.{Stored}
 use Rattle.wi_sessions.specs.Pictures.{value_in, sheet_size}
 use Rattle.wi_sessions.specs.Roster.{vacant_of}

@@ -1,4 +1,4 @@
-use Rattle.std.proofs.Common.{◌≡◌, ℕ, length, arith}
+use Rattle.std.proofs.Common.{◌≡◌, length, arith}
 use Rattle.std.proofs.lemmas.Grind.{common_steps}
 use Rattle.wi_scenarios.specs.Inner.Held.{state_of}
 use Rattle.wi_scenarios.proofs.ScenarioLemmas.{put_served, taken_served}

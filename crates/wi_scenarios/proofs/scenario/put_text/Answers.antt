@@ -1,4 +1,4 @@
-use Rattle.std.proofs.Common.{◌≡◌, ◌∙◌, List, [], Some, Ok, refl, sym, ap}
+use Rattle.std.proofs.Common.{◌∙◌, List, [], Ok, refl, sym, ap}
 use Rattle.wi_scenario_list.specs.Scenarios.{Scenario}
 use Rattle.wi_values.specs.Inner.Import.{imported}
 use Rattle.wi_scenarios.specs.State.{State}

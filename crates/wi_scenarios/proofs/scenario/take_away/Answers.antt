@@ -1,4 +1,4 @@
-use Rattle.std.proofs.Common.{◌≡◌, ◌∙◌, List, [], Ok, refl, sym, ap, rules}
+use Rattle.std.proofs.Common.{◌∙◌, List, [], Ok, refl, sym, ap}
 use Rattle.wi_scenario_list.specs.Scenarios.{Scenario}
 use Rattle.wi_scenarios.specs.State.{State}
 use Rattle.wi_scenarios.specs.Inner.Held.{state_of}

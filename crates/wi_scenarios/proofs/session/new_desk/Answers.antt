@@ -6,10 +6,11 @@ use Rattle.wi_scenarios.proofs.SessionLemmas.{one_list, sound_first}
 use Rattle.wi_scenarios.proofs.session.new_desk.Goals as goal
 
 pub returns-clause-pending : goal.returns-clause-pending
-returns-clause-pending g c =
-    (slice_index_or c.in_ok-sessions.sessions.pending 0 [],
-    one_list c.in_ok-sessions.sessions.pending (c.each_has_pending_cells.ensures ∙ ap length c.in_ok-sessions.ensures.sessions),
-    λ a. c.in_ok-sessions.ensures.pending a ∙ ap (λ (xs : List ℕ). is_listed xs a) (c.deref.ensures.value ∙ c.in_ok-cells.ensures))
+returns-clause-pending g c = (
+  slice_index_or c.in_ok-sessions.sessions.pending 0 [],
+  one_list c.in_ok-sessions.sessions.pending (c.each_has_pending_cells.ensures ∙ ap length c.in_ok-sessions.ensures.sessions),
+  λ a. c.in_ok-sessions.ensures.pending a ∙ ap (λ (xs : List ℕ). is_listed xs a) (c.deref.ensures.value ∙ c.in_ok-cells.ensures),
+)
 
 pub returns-clause-sound : goal.returns-clause-sound
 returns-clause-sound g c =

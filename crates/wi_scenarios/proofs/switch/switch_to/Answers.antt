@@ -1,4 +1,4 @@
-use Rattle.std.proofs.Common.{◌≡◌, ◌∙◌, List, refl, sym, ap}
+use Rattle.std.proofs.Common.{◌∙◌, List, refl, ap}
 use Rattle.wi_sessions.specs.Sessions.{Session}
 use Rattle.wi_sessions.specs.Roster.{vacant_of}
 use Rattle.wi_scenarios.specs.Inner.Held.{state_of}

@@ -1,4 +1,4 @@
-use Rattle.std.proofs.Common.{◌≡◌, ◌∙◌, List, ap}
+use Rattle.std.proofs.Common.{◌∙◌, List, ap}
 use Rattle.std.specs.List.{slice_set}
 use Rattle.std.specs.Option.{option_copied}
 use Rattle.wi_sessions.specs.Sessions.{Session, using_scenario}

@@ -1,4 +1,4 @@
-use Rattle.std.proofs.Common.{◌≡◌, ◌∙◌, [], Ok, refl, sym, ap}
+use Rattle.std.proofs.Common.{◌∙◌, [], Ok, refl, sym, ap}
 use Rattle.std.specs.Option.{option_copied}
 use Rattle.wi_scenarios.specs.State.{State}
 use Rattle.wi_scenarios.specs.Inner.Held.{state_of}
