@@ -5,6 +5,8 @@ pub mod EditCommands
 pub mod ScenarioCommands
 pub mod LookCommands
 pub mod TableCommand
+pub mod CsvCommand
+pub mod Blocks
 pub mod Script
 pub mod Reply
 pub mod Run

@@ -1,15 +1,17 @@
 -- The commands that a script spells.
-use Rattle.std.specs.Prelude.{ℕ, Bool, true, false, ◌||◌, ◌==◌, not, List, [], ◌∷◌, ◌++◌, length, Option, Some, None, nat_lt, if◌then◌else◌, codes}
-use Rattle.std.specs.Option.{option_to_list}
+use Rattle.std.specs.Prelude.{ℕ, Bool, true, false, ◌||◌, ◌==◌, not, List, [], ◌∷◌, length, filter, filter_map, Option, Some, None, nat_lt, if◌then◌else◌, codes}
 use Rattle.std.specs.Str.{byte, bytes_eq, is_utf8}
+use Rattle.wi_values.specs.AddressReading.{read_address}
 use Rattle.wi_scenarios.specs.declared.refusal.Refusal.TheVariants.{BadLine}
 use Rattle.wi_scenarios.specs.Step.{Command, Refused}
-use Rattle.wi_cli.specs.Lines.{raw_lines, without_lf, without_cr, is_whole}
+use Rattle.wi_cli.specs.Lines.{raw_lines, without_lf, without_cr, is_whole, max_line}
 use Rattle.wi_cli.specs.Words.{first_word, after_word, is_all_spaces}
 use Rattle.wi_cli.specs.EditCommands.{edit_command}
 use Rattle.wi_cli.specs.ScenarioCommands.{scenario_command, drop_command, base_command, use_command, as_command}
 use Rattle.wi_cli.specs.LookCommands.{show_command, export_command, changes_command, compare_command, formula_command}
 use Rattle.wi_cli.specs.TableCommand.{table_command}
+use Rattle.wi_cli.specs.CsvCommand.{CsvLine, csv_line, csv_command}
+use Rattle.wi_cli.specs.Blocks.{Block, blocks, is_complete}
 
 -- ---- commands
 
@@ -36,10 +38,6 @@ spelled_command text = named_command (first_word text) (after_word text)
 
 -- ---- lines
 
--- the greatest length of a line without its LF
-abbrev pub max_line : ℕ
-max_line = 65536
-
 abbrev pub is_comment : List ℕ → Bool
 is_comment [] = false
 is_comment (b ∷ bs) = b == byte "#"
@@ -55,12 +53,22 @@ line_command content =
     if nat_lt max_line (length content) || not (is_utf8 (without_cr content)) then Some (Refused BadLine)
     else text_command (without_cr content)
 
+-- ---- blocks
+
+abbrev pub command_with : Option CsvLine → Block → Option Command
+command_with None b = line_command (without_lf b.line)
+command_with (Some csv) b =
+    Some (if is_utf8 (without_cr (without_lf b.line)) then csv_command csv.force (read_address csv.address) b.data_lines b.missing else Refused BadLine)
+
+-- The command of a line with its data lines. One that asks for data lines is refused where it is not UTF-8.
+abbrev pub block_command : Block → Option Command
+block_command b = command_with (csv_line (without_lf b.line)) b
+
 -- ---- scripts
 
 -- the commands of lines, each given with its LF
 abbrev pub commands : List (List ℕ) → List Command
-commands [] = []
-commands (l ∷ ls) = option_to_list (line_command (without_lf l)) ++ commands ls
+commands ls = filter_map block_command (blocks ls)
 
 -- the lines up to the first that lacks its LF
 abbrev pub whole_lines : List (List ℕ) → List (List ℕ)
@@ -71,6 +79,6 @@ whole_lines (l ∷ ls) = if is_whole l then l ∷ whole_lines ls else []
 unfoldable pub all_commands : List ℕ → List Command
 all_commands script = commands (raw_lines script)
 
--- the commands of those lines that are complete, where the end of the script has not come
+-- the commands of those lines that are complete, with all their data lines, where the end of the script has not come
 unfoldable pub complete_commands : List (List ℕ) → List Command
-complete_commands ls = commands (whole_lines ls)
+complete_commands ls = filter_map block_command (filter is_complete (blocks (whole_lines ls)))

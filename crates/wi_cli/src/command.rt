@@ -102,7 +102,7 @@ pub fn read_command(text: &str) -> Result<Command<'_>, Refusal>
 }
 
 /// Without the CR at the end, if there is one.
-fn without_cr(line: &[u8]) -> &[u8]
+pub fn without_cr(line: &[u8]) -> &[u8]
     ensures { result.now ≡ without_cr line.now }
 {
     match line.strip_suffix(b"\r") {

@@ -1,40 +1,40 @@
 //! Runs a script.
 
-ghost use Rattle.std.specs.Prelude.{◌≡◌, ◌+◌, ◌≤◌, List, ℕ, OnOk, OnErr, IfErr, MatchResult, Ok, Err, false, true, nat_lt, vec_capacity};
+ghost use Rattle.std.specs.Prelude.{◌≡◌, ◌+◌, ◌≤◌, List, ℕ, OnOk, OnErr, IfErr, MatchResult, Ok, Err, false, true, vec_capacity};
 ghost use Rattle.std.specs.Io.KnownBytes.{Appends, Consumes, IsAtEnd, Keeps};
 ghost use Rattle.wi_cli.specs.Inner.Turn.{Turned, Stopped};
 ghost use Rattle.wi_cli.specs.RunOutcome.{RunOutcome, max_lines};
 
+use crate::blocks::{read_block, serve_block};
 use crate::chunk::Chunk;
+use crate::data_lines::DataLines;
 use crate::device::{Sink, Source};
 use crate::fault::RunFault;
-use crate::lines::{MAX_LINE, read_line};
+use crate::lines::MAX_LINE;
 use crate::reply::write_reply;
-use crate::serve::serve;
 use std::alloc::Global;
 use wi_propagate::Calculator;
 use wi_scenarios::Workbook;
 
-/// How many lines a script may have.
-pub const MAX_LINES: u32 = 1_000_000;
-
-/// Reads a line, serves it and writes its reply. Tells whether the line's LF came.
+/// Reads a line with its data lines, serves it and writes its reply. Tells whether the last LF came.
 fn turn<R: Source, W: Sink, C: Calculator>(
     chunk: &mut Chunk,
     reader: &mut R,
     writer: &mut W,
     book: &mut Workbook<C>,
     line: &mut Vec<u8>,
+    lines: &mut u32,
+    data_lines: &mut DataLines,
     out: &mut Vec<u8>,
-    allowed: bool,
 ) -> Result<bool, RunFault>
     requires reads { R.has_failed reader.old ≡ false }
     requires writes { W.has_failed writer.old ≡ false }
     requires room { MAX_LINE + 1 ≤ vec_capacity line.old }
+    requires few { lines.old ≤ max_lines }
     ensures done { MatchResult result
-        (λ whole. Turned allowed whole chunk.old (R.remaining reader.old) chunk.new (R.remaining reader.new)
+        (λ whole. Turned whole chunk.old (R.remaining reader.old) chunk.new (R.remaining reader.new) lines.old lines.new
         book.old.state book.new.state (W.contents writer.old) (W.contents writer.new))
-        (λ e. Stopped e allowed chunk.old (R.remaining reader.old) chunk.new (R.remaining reader.new)
+        (λ e. Stopped e chunk.old (R.remaining reader.old) chunk.new (R.remaining reader.new) lines.old
         book.old.state book.new.state (W.contents writer.old) (W.contents writer.new)) }
     ensures reads { OnOk result (R.has_failed reader.new ≡ false) }
     ensures writes { OnOk result (W.has_failed writer.new ≡ false) }
@@ -43,11 +43,11 @@ fn turn<R: Source, W: Sink, C: Calculator>(
     ensures no_memory { result ≡ Err RunFault.Memory → ⊥ }
     ensures room { MAX_LINE + 1 ≤ vec_capacity line.new }
 {
-    let whole = read_line(chunk, reader, line, allowed)?;
+    let block = read_block(chunk, reader, line, lines, data_lines)?;
     out.clear();
-    let reply = serve(book, line, out);
+    let reply = serve_block(book, &block.csv, line, data_lines, out);
     match write_reply(writer, reply, out) {
-        Ok(()) => Ok(whole),
+        Ok(()) => Ok(block.whole),
         Err(_) => Err(RunFault::Write),
     }
 }
@@ -67,15 +67,8 @@ fn send<W: Sink>(writer: &mut W) -> Result<(), RunFault>
     }
 }
 
-/// Whether a run that has served so many lines may take one more.
-fn may_go_on(lines: u32) -> bool
-    ensures { result ≡ nat_lt lines max_lines }
-{
-    lines < MAX_LINES
-}
-
-/// Runs a script on a workbook. It takes each line as it comes, serves it and writes its reply, then goes on to the
-/// next; the contract tells what is written, not when. On a fault the replies to the commands before it stand; where a
+/// Runs a script on a workbook. It takes each line as it comes, with its data lines, serves it and writes its reply, then
+/// goes on to the next; the contract tells what is written, not when. On a fault the replies to the commands before it stand; where a
 /// write failed, the last of them may be cut short, and nothing is served after it.
 pub fn run<R: Source, W: Sink, C: Calculator>(
     alloc: Global,
@@ -103,6 +96,7 @@ pub fn run<R: Source, W: Sink, C: Calculator>(
     let Ok(mut line) = Vec::with_capacity(alloc, MAX_LINE + 1) else {
         return Err(RunFault::Memory);
     };
+    let mut data_lines = DataLines::new(alloc);
     let mut out = Vec::new(alloc);
     let mut chunk = Chunk::new();
     let mut lines = 0;
@@ -112,10 +106,9 @@ pub fn run<R: Source, W: Sink, C: Calculator>(
         writer,
         book,
         &mut line,
+        &mut lines,
+        &mut data_lines,
         &mut out,
-        may_go_on(lines),
-    )? {
-        lines += 1;
-    }
+    )? {}
     send(writer)
 }

@@ -1,5 +1,5 @@
 -- What `changes` answers, and that pictures are right after it.
-use Rattle.std.proofs.Common.{◌≡◌, ◌≢◌, ◌<◌, ◌≤◌, ℕ, zero, suc, List, [], ◌∷◌, length, get_or, set, Result, Ok, Err, IfOk, refl, sym, ap, subst, ◌∙◌, ⊎_elim}
+use Rattle.std.proofs.Common.{◌≡◌, ◌≢◌, ◌<◌, ◌≤◌, ◌+◌, ◌⊎◌, ℕ, zero, suc, Bool, false, List, [], ◌∷◌, ◌++◌, length, get_or, set, Result, Ok, Err, IfOk, refl, sym, ap, subst, ◌∙◌, arith, ⊎_elim}
 use Rattle.std.proofs.lemmas.Bool.{cases_eq}
 use Rattle.std.proofs.lemmas.List.{get_or-set_same, get_or-set_other, length-set}
 use Rattle.wi_values.specs.declared.value.Value.{Value}
@@ -8,16 +8,19 @@ use Rattle.wi_store.specs.Store.{Stored}
 use Rattle.wi_sheet.specs.Shown.{shown}
 use Rattle.wi_scenario_list.specs.Scenarios.{effective}
 use Rattle.wi_edit_log.specs.EditLog.{Entry}
-use Rattle.wi_sessions.specs.Pictures.{value_in, sheet_size, changes_among}
+use Rattle.wi_sessions.specs.Pictures.{value_in, sheet_size, changes_among, changes_since}
 use Rattle.wi_sessions.specs.Pictures.Laws.{is_listed, Rises}
 use Rattle.wi_sessions.specs.Sessions.{Session, new_session, told}
 use Rattle.wi_sessions.specs.Roster.{session_at, pending_of}
 use Rattle.wi_sessions.proofs.ChangeLists.{any_cells, picture_is_shown}
 use Rattle.wi_scenario_list.specs.Scenarios.{Scenario}
+use Rattle.wi_reports.specs.Looks.{evaluations_for, restarts_for}
 use Rattle.wi_reports.specs.Changes.{change_records}
 use Rattle.wi_scenarios.specs.State.{State}
+use Rattle.wi_scenarios.specs.Views as views
 use Rattle.wi_scenarios.specs.Views.{current_session, with_current, shown_to}
 use Rattle.wi_scenarios.specs.Changes.{change_list, changes_step}
+use Rattle.wi_scenarios.specs.Pending.{is_pending, pending_evaluations, pending_restarts}
 use Rattle.wi_scenarios.specs.declared.desk.Desk.{Desk}
 use Rattle.wi_scenarios.specs.Inner.Held.{state_of, pending_in, IsUpToDate, AreCovered, IsSound}
 use Rattle.wi_scenarios.specs.Inner.Told.{IsTold}
@@ -35,6 +38,22 @@ changes_found stored d own cells put picture found sound rises own_is cells_is p
     ∙ ap (λ (p : List (ℕ × Value)). changes_among (pending_of d.sessions d.current) p (shown stored.sheet put)) picture_is
     ∙ ap (λ (rs : List Replacement). changes_among (pending_of d.sessions d.current) x.picture (shown stored.sheet rs)) put_is
     ∙ sym (any_cells (pending_of d.sessions d.current) x.picture (shown_to s x) (risen, sound.covered d.current sound.within))
+
+-- no more is evaluated, or begun again, than what these cells demand
+pub no_more : (x n : ℕ) → x ≤ x + n
+no_more x n = omega arith
+
+pub looked : (stored : Stored) (d : Desk) (own cells : List ℕ) (put : List Replacement) (x y : ℕ) → own ≡ pending_of d.sessions d.current → cells ≡ own
+    → put ≡ effective d.scenarios (session_at d.sessions d.current).scenario → x ≤ y + evaluations_for stored.sheet put cells → x ≤ y + pending_evaluations (state_of stored d) (pending_in d)
+looked stored d own cells put x y own_is cells_is put_is h =
+    subst (λ (rs : List Replacement). x ≤ y + evaluations_for stored.sheet rs (pending_of d.sessions d.current)) put_is
+    (subst (λ (cs : List ℕ). x ≤ y + evaluations_for stored.sheet put cs) (cells_is ∙ own_is) h)
+
+pub begun_again : (stored : Stored) (d : Desk) (own cells : List ℕ) (put : List Replacement) (x y : ℕ) → own ≡ pending_of d.sessions d.current → cells ≡ own
+    → put ≡ effective d.scenarios (session_at d.sessions d.current).scenario → x ≤ y + restarts_for stored.sheet put cells → x ≤ y + pending_restarts (state_of stored d) (pending_in d)
+begun_again stored d own cells put x y own_is cells_is put_is h =
+    subst (λ (rs : List Replacement). x ≤ y + restarts_for stored.sheet rs (pending_of d.sessions d.current)) put_is
+    (subst (λ (cs : List ℕ). x ≤ y + restarts_for stored.sheet put cs) (cells_is ∙ own_is) h)
 
 pub if_ok : {X E : Type 0} (P Q : X → Type 0) (r : Result X E) → ((x : X) → P x → Q x) → IfOk r P → IfOk r Q
 if_ok P Q (Ok x) f h = f x h

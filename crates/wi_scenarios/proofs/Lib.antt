@@ -14,3 +14,7 @@ pub mod SwitchedLemmas
 pub mod ScenarioLemmas
 pub mod SessionLemmas
 pub mod DropLemmas
+pub mod OutcomeLemmas
+pub mod RunLemmas
+pub mod RecordLemmas
+pub mod StaleLemmas

@@ -1,5 +1,5 @@
 -- What holds after a session was switched: the pending cells that were added are marked, and of all others the picture is right.
-use Rattle.std.proofs.Common.{◌≡◌, ◌≢◌, ◌==◌, arith, ◌⊎◌, inl, inr, ℕ, ◌<◌, ◌≤◌, Bool, true, false, ◌||◌, List, [], length, Option, refl, sym, ap, ◌∙◌, subst}
+use Rattle.std.proofs.Common.{◌≡◌, ◌≢◌, ◌==◌, arith, ◌⊎◌, inl, inr, ℕ, ◌<◌, ◌≤◌, Bool, true, false, ◌||◌, List, [], ◌∷◌, length, Option, refl, sym, ap, ◌∙◌, subst}
 use Rattle.std.specs.List.{slice_index_or, slice_set}
 use Rattle.std.proofs.lemmas.Bool.{false≢true}
 use Rattle.std.proofs.lemmas.Bool.Decides.{nat_tests}
@@ -14,7 +14,7 @@ use Rattle.wi_sessions.specs.Pictures.Laws.{is_listed}
 use Rattle.wi_sessions.specs.Sessions.{Session, new_session, max_sessions, using_scenario}
 use Rattle.wi_sessions.specs.Roster.{Roster, session_at, pending_of, vacant_of}
 use Rattle.wi_scenarios.specs.State.{State}
-use Rattle.wi_scenarios.specs.Pending.{IsMarked, IsTouched, AddsOnly}
+use Rattle.wi_scenarios.specs.Pending.{IsMarked, IsTouched, IsSwitched, AddsOnly, SameForOthers}
 use Rattle.wi_scenarios.specs.declared.desk.Desk.{Desk}
 use Rattle.wi_scenarios.specs.Inner.Held.{state_of, pending_in, AreCovered, IsSound}
 use Rattle.wi_scenarios.specs.Inner.Switch.{Differs, HasRoom, HasRoomFor}
@@ -87,6 +87,21 @@ module _ (marked : Sheet → List ℕ → ℕ → Bool) (stored : Stored) (d e :
         | inl there ↦ inl there
         | inr new ↦ inr (marked_there i a ((w.room i l).marks a new))
       ]
+
+or_none : (x : Bool) → (x || false) ≡ x
+or_none true = refl
+or_none false = refl
+
+-- where there is room for one session alone
+pub switched_others : (marked : Sheet → List ℕ → ℕ → Bool) (stored : Stored) (d e : Desk) (vacant : ℕ → List ℕ) → IsSwitch marked stored d e vacant
+    → ((j : ℕ) → j ≢ d.current → vacant j ≡ []) → SameForOthers d.current (pending_in d) (pending_in e)
+switched_others marked stored d e vacant w none = λ j a n.
+    w.pending j a
+    ∙ ap (λ (xs : List ℕ). is_listed (pending_of d.sessions j) a || is_listed xs a) (none j n)
+    ∙ or_none (is_listed (pending_of d.sessions j) a)
+
+pub others_none : (i : ℕ) (before after : List (List ℕ)) → after ≡ before → SameForOthers i before after
+others_none i before after same = λ j a n. ap (λ (cs : List (List ℕ)). is_listed (slice_index_or cs j []) a) same
 
 -- ---- other scenarios take the place of all
 

@@ -20,5 +20,6 @@ pub mod Compare
 pub mod Table
 pub mod Formula
 pub mod Step
+pub mod Laws
 pub mod Pending
 pub mod Inner

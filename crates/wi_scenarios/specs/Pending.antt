@@ -9,7 +9,8 @@ use Rattle.wi_sessions.specs.Pictures.{sheet_size}
 use Rattle.wi_sessions.specs.Pictures.Laws.{is_listed}
 use Rattle.wi_sessions.specs.Roster.{SameCells}
 use Rattle.wi_scenarios.specs.State.{State}
-use Rattle.wi_scenarios.specs.Views.{session_at, replacements_for}
+use Rattle.wi_reports.specs.Looks.{evaluations_for, restarts_for}
+use Rattle.wi_scenarios.specs.Views.{session_at, replacements_for, current_replacements}
 
 -- The state, the pending cells of each session in the order of making, and the counts that the calculator tells.
 pub record Book : Type 0 where
@@ -55,6 +56,18 @@ SameCounts old new = (new.evaluated ≡ old.evaluated) × (new.restarted ≡ old
 -- the pending cells of a session are gone, those of the others are as they were
 abbrev pub Emptied : ℕ → List (List ℕ) → List (List ℕ) → Type 0
 Emptied i before after = after ≡ slice_set before i []
+
+-- each session but the i-th has the pending cells that it had
+abbrev pub SameForOthers : ℕ → List (List ℕ) → List (List ℕ) → Type 0
+SameForOthers i before after = (j a : ℕ) → j ≢ i → is_pending after j a ≡ is_pending before j a
+
+-- how often a formula may be evaluated, and how often one may be begun again, where each cell is valued once that is pending for the
+-- current session
+abbrev pub pending_evaluations : State → List (List ℕ) → ℕ
+pending_evaluations s pending = evaluations_for s.stored.sheet (current_replacements s) (pending_for pending s.current)
+
+abbrev pub pending_restarts : State → List (List ℕ) → ℕ
+pending_restarts s pending = restarts_for s.stored.sheet (current_replacements s) (pending_for pending s.current)
 
 -- the occupied cells of a sheet
 abbrev pub occupied_cells : Sheet → List ℕ

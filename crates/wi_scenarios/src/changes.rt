@@ -1,10 +1,10 @@
 //! The command `changes`: what has changed since the current session was last shown it.
 
-ghost use Rattle.std.specs.Prelude.{◌≡◌, ◌<◌, ◌++◌, ℕ, List, [], length, IfOk, OnOk, OnErr};
+ghost use Rattle.std.specs.Prelude.{◌≡◌, ◌<◌, ◌≤◌, ◌+◌, ◌++◌, ℕ, List, [], length, IfOk, OnOk, OnErr};
 ghost use Rattle.wi_reports.specs.Changes.{change_records};
 ghost use Rattle.wi_scenarios.specs.Answer.{Serves};
 ghost use Rattle.wi_scenarios.specs.Changes.{change_list, changes_step};
-ghost use Rattle.wi_scenarios.specs.Pending.{Emptied, pending_for};
+ghost use Rattle.wi_scenarios.specs.Pending.{Emptied, pending_for, pending_evaluations, pending_restarts};
 ghost use Rattle.wi_scenarios.specs.Inner.Held.{state_of, pending_in, IsSound};
 ghost use Rattle.wi_scenarios.specs.Inner.Told.{IsTold};
 
@@ -34,6 +34,12 @@ pub fn changes<C: Calculator>(
     ensures quiet { pending_for (pending_in desk.old) desk.old.current ≡ []
         → (C.evaluated calculator.new ≡ C.evaluated calculator.old) × (C.restarted calculator.new ≡ C.restarted calculator.old)
         × (out.new.items ≡ out.old.items) }
+
+    // No more is evaluated than what its pending cells demand, also where memory runs out.
+    ensures evaluations { let old = state_of (C.stored calculator.old) desk.old in
+        C.evaluated calculator.new ≤ C.evaluated calculator.old + pending_evaluations old (pending_in desk.old) }
+    ensures restarts { let old = state_of (C.stored calculator.old) desk.old in
+        C.restarted calculator.new ≤ C.restarted calculator.old + pending_restarts old (pending_in desk.old) }
     ensures sound { IsSound (C.stored calculator.new) desk.new }
 {
     let found = find(alloc, calculator, desk)?;
@@ -52,6 +58,10 @@ fn find<C: Calculator>(
     ensures same { C.stored calculator.new ≡ C.stored calculator.old }
     ensures quiet { pending_for (pending_in desk.now) desk.now.current ≡ []
         → (C.evaluated calculator.new ≡ C.evaluated calculator.old) × (C.restarted calculator.new ≡ C.restarted calculator.old) }
+    ensures evaluations { let state = state_of (C.stored calculator.old) desk.now in
+        C.evaluated calculator.new ≤ C.evaluated calculator.old + pending_evaluations state (pending_in desk.now) }
+    ensures restarts { let state = state_of (C.stored calculator.old) desk.now in
+        C.restarted calculator.new ≤ C.restarted calculator.old + pending_restarts state (pending_in desk.now) }
     ensures none { pending_for (pending_in desk.now) desk.now.current ≡ [] → IfOk result (λ found. found.items ≡ []) }
 {
     let cells = desk.sessions.pending(desk.current).cells()?;

@@ -7,7 +7,7 @@ ghost use Rattle.wi_sessions.specs.Sessions.{using_scenario};
 ghost use Rattle.wi_sessions.specs.Roster.{pending_of, vacant_of};
 ghost use Rattle.wi_scenarios.specs.Answer.{Serves};
 ghost use Rattle.wi_scenarios.specs.Use.{use_step};
-ghost use Rattle.wi_scenarios.specs.Pending.{AddsOnly};
+ghost use Rattle.wi_scenarios.specs.Pending.{AddsOnly, SameForOthers};
 ghost use Rattle.wi_scenarios.specs.Views.{current_session, current_replacements, with_current};
 ghost use Rattle.wi_scenarios.specs.Inner.Held.{state_of, pending_in, IsSound};
 ghost use Rattle.wi_scenarios.specs.Inner.Switch.{HasRoom};
@@ -32,6 +32,7 @@ pub fn use_scenario<C: Calculator>(
         Serves (λ a. use_step old (option_copied name.entry) ≡ a) result old (state_of (C.stored calculator.now) desk.new) [] }
     ensures adds { AddsOnly C.marked ([]) (state_of (C.stored calculator.now) desk.old)
         (state_of (C.stored calculator.now) desk.new) (pending_in desk.old) (pending_in desk.new) }
+    ensures others { SameForOthers desk.old.current (pending_in desk.old) (pending_in desk.new) }
     ensures refused { OnErr result (pending_in desk.new ≡ pending_in desk.old) }
     ensures sound { IsSound (C.stored calculator.now) desk.new }
 {
@@ -58,6 +59,7 @@ fn use_in_current<C: Calculator>(
     ensures kept { OnErr result (state_of (C.stored calculator.now) desk.new ≡ state_of (C.stored calculator.now) desk.old) }
     ensures adds { AddsOnly C.marked ([]) (state_of (C.stored calculator.now) desk.old)
         (state_of (C.stored calculator.now) desk.new) (pending_in desk.old) (pending_in desk.new) }
+    ensures others { SameForOthers desk.old.current (pending_in desk.old) (pending_in desk.new) }
     ensures refused { OnErr result (pending_in desk.new ≡ pending_in desk.old) }
     ensures sound { IsSound (C.stored calculator.now) desk.new }
 {

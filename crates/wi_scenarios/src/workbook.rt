@@ -1,6 +1,6 @@
 //! A workbook.
 
-ghost use Rattle.std.specs.Prelude.{◌≡◌, ◌≢◌, ◌++◌, ◌∷◌, ℕ, List, [], true, false, option_map, Err, IfOk, OnOk, OnErr};
+ghost use Rattle.std.specs.Prelude.{◌≡◌, ◌≢◌, ◌≤◌, ◌+◌, ◌++◌, ◌∷◌, ℕ, List, [], true, false, option_map, Err, IfOk, OnOk, OnErr};
 ghost use Rattle.std.specs.Option.{option_copied};
 ghost use Rattle.std.specs.Map.{keys_of};
 ghost use Rattle.wi_values.specs.Address.{cells_of};
@@ -15,7 +15,7 @@ ghost use Rattle.wi_scenarios.specs.Csv.{imported_cells};
 ghost use Rattle.wi_scenarios.specs.Scenario.{take_away_step};
 ghost use Rattle.wi_scenarios.specs.Step as command;
 ghost use Rattle.wi_scenarios.specs.Step.{IsStep};
-ghost use Rattle.wi_scenarios.specs.Pending.{AddsOnly, SameCounts, Emptied, HasNewSession, pending_for, occupied_cells};
+ghost use Rattle.wi_scenarios.specs.Pending.{AddsOnly, SameForOthers, SameCounts, Emptied, HasNewSession, pending_for, pending_evaluations, pending_restarts, occupied_cells};
 
 use crate::base::base;
 use crate::changes::changes;
@@ -240,6 +240,7 @@ impl<C: Calculator> Workbook<C> {
     pub fn use_scenario(&mut self, name: Option<Name<'_>>) -> Result<(), Refusal>
         ensures step { Serves (IsStep self.old.state (command.Use (option_map bytes_of name.entry))) result self.old.state self.new.state [] }
         ensures adds { AddsOnly C.marked ([]) self.old.state self.new.state self.old.pending self.new.pending }
+        ensures others { SameForOthers self.old.state.current self.old.pending self.new.pending }
         ensures refused { OnErr result (self.new.pending ≡ self.old.pending) }
     {
         use_scenario(self.alloc, &self.calculator, &mut self.desk, as_text(name))
@@ -286,6 +287,8 @@ impl<C: Calculator> Workbook<C> {
         ensures refused { OnErr result (self.new.pending ≡ self.old.pending) }
         ensures quiet { pending_for self.old.pending self.old.state.current ≡ []
             → SameCounts self.old self.new × (out.new.items ≡ out.old.items) }
+        ensures evaluations { self.new.evaluated ≤ self.old.evaluated + pending_evaluations self.old.state self.old.pending }
+        ensures restarts { self.new.restarted ≤ self.old.restarted + pending_restarts self.old.state self.old.pending }
     {
         changes(self.alloc, &mut self.calculator, &mut self.desk, out)
     }

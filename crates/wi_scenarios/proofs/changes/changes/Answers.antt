@@ -1,6 +1,9 @@
-use Rattle.std.proofs.Common.{rules}
+use Rattle.std.proofs.Common.{refl, rules}
 use Rattle.wi_scenarios.proofs.ChangesLemmas.{sound_after}
 use Rattle.wi_scenarios.proofs.changes.changes.Goals as goal
+
+pub returns-in_err-found-clause-quiet : goal.returns-in_err-found-clause-quiet
+returns-in_err-found-clause-quiet g c = λ none. let same = c.find.ensures.quiet none in (same.0, same.1, refl)
 
 pub returns-in_err-tell-clause-quiet : goal.returns-in_err-tell-clause-quiet
 returns-in_err-tell-clause-quiet g c = search rules
