@@ -1,5 +1,5 @@
 -- What `changes` answers, and that pictures are right after it.
-use Rattle.std.proofs.Common.{◌≡◌, ◌≢◌, ◌<◌, ◌≤◌, ◌+◌, ◌⊎◌, ℕ, zero, suc, Bool, false, List, [], ◌∷◌, ◌++◌, length, get_or, set, Result, Ok, Err, IfOk, refl, sym, ap, subst, ◌∙◌, arith, ⊎_elim}
+use Rattle.std.proofs.Common.{◌≡◌, ◌≢◌, ◌<◌, ◌≤◌, ◌+◌, ℕ, zero, suc, List, [], ◌∷◌, length, get_or, set, Result, Ok, Err, IfOk, refl, sym, ap, subst, ◌∙◌, arith, ⊎_elim}
 use Rattle.std.proofs.lemmas.Bool.{cases_eq}
 use Rattle.std.proofs.lemmas.List.{get_or-set_same, get_or-set_other, length-set}
 use Rattle.wi_values.specs.declared.value.Value.{Value}
@@ -8,7 +8,7 @@ use Rattle.wi_store.specs.Store.{Stored}
 use Rattle.wi_sheet.specs.Shown.{shown}
 use Rattle.wi_scenario_list.specs.Scenarios.{effective}
 use Rattle.wi_edit_log.specs.EditLog.{Entry}
-use Rattle.wi_sessions.specs.Pictures.{value_in, sheet_size, changes_among, changes_since}
+use Rattle.wi_sessions.specs.Pictures.{value_in, sheet_size, changes_among}
 use Rattle.wi_sessions.specs.Pictures.Laws.{is_listed, Rises}
 use Rattle.wi_sessions.specs.Sessions.{Session, new_session, told}
 use Rattle.wi_sessions.specs.Roster.{session_at, pending_of}
@@ -17,10 +17,9 @@ use Rattle.wi_scenario_list.specs.Scenarios.{Scenario}
 use Rattle.wi_reports.specs.Looks.{evaluations_for, restarts_for}
 use Rattle.wi_reports.specs.Changes.{change_records}
 use Rattle.wi_scenarios.specs.State.{State}
-use Rattle.wi_scenarios.specs.Views as views
 use Rattle.wi_scenarios.specs.Views.{current_session, with_current, shown_to}
 use Rattle.wi_scenarios.specs.Changes.{change_list, changes_step}
-use Rattle.wi_scenarios.specs.Pending.{is_pending, pending_evaluations, pending_restarts}
+use Rattle.wi_scenarios.specs.Pending.{pending_evaluations, pending_restarts}
 use Rattle.wi_scenarios.specs.declared.desk.Desk.{Desk}
 use Rattle.wi_scenarios.specs.Inner.Held.{state_of, pending_in, IsUpToDate, AreCovered, IsSound}
 use Rattle.wi_scenarios.specs.Inner.Told.{IsTold}

@@ -1,5 +1,5 @@
 -- What holds after a session was switched: the pending cells that were added are marked, and of all others the picture is right.
-use Rattle.std.proofs.Common.{◌≡◌, ◌≢◌, ◌==◌, arith, ◌⊎◌, inl, inr, ℕ, ◌<◌, ◌≤◌, Bool, true, false, ◌||◌, List, [], ◌∷◌, length, Option, refl, sym, ap, ◌∙◌, subst}
+use Rattle.std.proofs.Common.{◌≡◌, ◌≢◌, ◌==◌, arith, ◌⊎◌, inl, inr, ℕ, ◌<◌, ◌≤◌, Bool, true, false, ◌||◌, List, [], length, Option, refl, sym, ap, ◌∙◌, subst}
 use Rattle.std.specs.List.{slice_index_or, slice_set}
 use Rattle.std.proofs.lemmas.Bool.{false≢true}
 use Rattle.std.proofs.lemmas.Bool.Decides.{nat_tests}
@@ -14,7 +14,7 @@ use Rattle.wi_sessions.specs.Pictures.Laws.{is_listed}
 use Rattle.wi_sessions.specs.Sessions.{Session, new_session, max_sessions, using_scenario}
 use Rattle.wi_sessions.specs.Roster.{Roster, session_at, pending_of, vacant_of}
 use Rattle.wi_scenarios.specs.State.{State}
-use Rattle.wi_scenarios.specs.Pending.{IsMarked, IsTouched, IsSwitched, AddsOnly, SameForOthers}
+use Rattle.wi_scenarios.specs.Pending.{IsMarked, IsTouched, AddsOnly, SameForOthers}
 use Rattle.wi_scenarios.specs.declared.desk.Desk.{Desk}
 use Rattle.wi_scenarios.specs.Inner.Held.{state_of, pending_in, AreCovered, IsSound}
 use Rattle.wi_scenarios.specs.Inner.Switch.{Differs, HasRoom, HasRoomFor}

@@ -1,6 +1,6 @@
-use Rattle.std.proofs.Common.{◌≡◌, rules}
+use Rattle.std.proofs.Common.{◌≡◌}
 use Rattle.wi_scenario_list.specs.Scenarios.{effective}
-use Rattle.wi_sessions.specs.Roster.{session_at, pending_of}
+use Rattle.wi_sessions.specs.Roster.{session_at}
 use Rattle.wi_scenarios.proofs.ChangesLemmas.{changes_found, looked, begun_again, no_more, if_ok}
 use Rattle.wi_scenarios.proofs.changes.find.Goals as goal
 
