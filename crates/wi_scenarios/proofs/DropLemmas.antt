@@ -1,5 +1,5 @@
 -- What `drop` answers, and that no session is shown anything else after it.
-use Rattle.std.proofs.Common.{◌≡◌, ℕ, zero, suc, ◌<◌, Bool, true, false, not, ◌||◌, List, [], ◌∷◌, length, Option, Some, None, Result, Ok, Err, if◌then◌else◌, refl, sym, ap, ◌∙◌, subst}
+use Rattle.std.proofs.Common.{◌≡◌, ℕ, zero, suc, ◌<◌, Bool, true, false, not, ◌||◌, List, [], ◌∷◌, length, Option, Some, None, Ok, Err, if◌then◌else◌, refl, sym, ap, ◌∙◌, subst}
 use Rattle.std.specs.List.{find, list_any, slice_index_or}
 use Rattle.std.specs.Str.{bytes_eq}
 use Rattle.std.proofs.lemmas.Slice.Eq.{bytes_eq-Decides}
@@ -10,15 +10,13 @@ use Rattle.wi_store.specs.Store.{Stored}
 use Rattle.wi_scenario_list.specs.Scenarios.{Scenario, is_named, scenario_of, has_scenario, effective, layered, chain, chain_within, max_scenarios, without_scenario}
 use Rattle.wi_scenario_list.specs.Bases.{is_name_of, is_base}
 use Rattle.wi_sessions.specs.Sessions.{Session, new_session}
-use Rattle.wi_scenarios.specs.declared.refusal.Refusal.{Refusal}
 use Rattle.wi_scenarios.specs.declared.refusal.Refusal.TheVariants.{NoScenario, InUse}
 use Rattle.wi_scenarios.specs.declared.desk.Desk.{Desk}
 use Rattle.wi_scenarios.specs.State.{State}
-use Rattle.wi_scenarios.specs.Answer.{Answer, Serves}
+use Rattle.wi_scenarios.specs.Answer.{Answer}
 use Rattle.wi_scenarios.specs.Causes.{no_cause, answer}
-use Rattle.wi_scenarios.specs.Drop.{is_in_use, drop_step}
+use Rattle.wi_scenarios.specs.Drop.{is_in_use}
 use Rattle.wi_scenarios.specs.Inner.Held.{IsSound}
-use Rattle.wi_scenarios.proofs.AnswerLemmas.{ServesFound, serves_step}
 
 -- ---- the answer that is found
 
@@ -37,9 +35,6 @@ step_is s name false used = refl
 
 abbrev pub drop_found : State → List ℕ → Answer
 drop_found s name = drop_by s name (has_scenario s.scenarios name) (is_in_use s name)
-
-pub drop_served : (r : Result (Unit {0}) Refusal) (s t : State) (name records : List ℕ) → ServesFound (drop_found s name) r s t records → Serves (λ a. drop_step s name ≡ a) r s t records
-drop_served r s t name records h = serves_step (drop_step s name) (drop_found s name) (step_is s name (has_scenario s.scenarios name) (is_in_use s name)) r s t records h
 
 pub missing_answer : (s : State) (name : List ℕ) → has_scenario s.scenarios name ≡ false → drop_found s name ≡ Err NoScenario
 missing_answer s name h = ap (λ b. drop_by s name b (is_in_use s name)) h

@@ -1,5 +1,5 @@
 -- What `session` answers, and cells that show nothing.
-use Rattle.std.proofs.Common.{◌≡◌, ℕ, suc, ◌+◌, ◌-◌, ◌*◌, ◌/◌, ◌%◌, ◌<◌, ◌≤◌, Bool, true, false, not, ◌&&◌, ◌||◌, ◌==◌, List, [], ◌∷◌, ◌++◌, length, Option, Some, None, Result, Ok, Err, if◌then◌else◌, refl, sym, ap, ◌∙◌, subst, arith, ◌⊎◌, inl, inr}
+use Rattle.std.proofs.Common.{◌≡◌, ℕ, suc, ◌+◌, ◌-◌, ◌*◌, ◌/◌, ◌%◌, ◌<◌, ◌≤◌, Bool, true, false, not, ◌&&◌, ◌||◌, ◌==◌, List, [], ◌∷◌, ◌++◌, length, Option, Some, None, Ok, Err, if◌then◌else◌, refl, sym, ap, ◌∙◌, subst, arith, ◌⊎◌, inl, inr}
 use Rattle.std.specs.Prelude.{nat_le, is_some}
 use Rattle.std.specs.List.{list_any, slice_index_or, position_or_len}
 use Rattle.std.specs.Str.{bytes_eq}
@@ -29,16 +29,14 @@ use Rattle.wi_values.specs.declared.replacement.Replacement.{Replacement}
 use Rattle.wi_scenario_list.specs.Scenarios.{Scenario, effective, chain}
 use Rattle.wi_sessions.specs.Sessions.{Session, new_session, max_sessions, has_session, place_of}
 use Rattle.wi_sessions.specs.Roster.{Roster, vacant_of, SameCells}
-use Rattle.wi_scenarios.specs.declared.refusal.Refusal.{Refusal}
 use Rattle.wi_scenarios.specs.declared.refusal.Refusal.TheVariants.{TooMany}
 use Rattle.wi_scenarios.specs.declared.desk.Desk.{Desk}
 use Rattle.wi_scenarios.specs.State.{State}
-use Rattle.wi_scenarios.specs.Answer.{Answer, Serves}
+use Rattle.wi_scenarios.specs.Answer.{Answer}
 use Rattle.wi_scenarios.specs.Causes.{no_cause, answer}
 use Rattle.wi_scenarios.specs.As.{as_step}
 use Rattle.wi_scenarios.specs.Pending.{occupied_cells}
 use Rattle.wi_scenarios.specs.Inner.Held.{IsSound}
-use Rattle.wi_scenarios.proofs.AnswerLemmas.{ServesFound, serves_step}
 
 -- ---- cells that show nothing
 
@@ -118,10 +116,6 @@ step_is : (s : State) (name : List ℕ) (there full : Bool) → step_by s name t
 step_is s name true full = refl
 step_is s name false true = refl
 step_is s name false false = refl
-
-pub session_served : (r : Result (Unit {0}) Refusal) (s t : State) (name records : List ℕ) → ServesFound (session_found s name) r s t records → Serves (λ a. as_step s name ≡ a) r s t records
-session_served r s t name records h =
-    serves_step (as_step s name) (session_found s name) (step_is s name (has_session s.sessions name) (nat_le max_sessions (length s.sessions))) r s t records h
 
 -- a session that is there
 pub there_answer : (s : State) (name : List ℕ) (place : ℕ) → has_session s.sessions name ≡ true → place ≡ place_of s.sessions name → session_found s name ≡ Ok (record s { current = place }, [])
