@@ -4,20 +4,21 @@ use Rattle.std.specs.Io.KnownBytes.{Appends, Consumes}
 use Rattle.std.proofs.KnownBytes.{Consumes-nil, Appends-nil}
 use Rattle.wi_store.specs.declared.limits.Limits.{Limits}
 use Rattle.wi_store.specs.Store.{Stored}
-use Rattle.wi_scenarios.specs.State.{State, new_state}
+use Rattle.wi_scenarios.specs.State.{State, state_over, new_state}
+use Rattle.wi_scenarios.specs.Pending.{Book}
 use Rattle.wi_cli.specs.declared.fault.RunFault.{RunFault}
 use Rattle.wi_cli.specs.declared.fault.RunFault.TheVariants.{Memory}
 use Rattle.wi_cli.specs.RunOutcome.{RunOutcome}
 
--- a workbook with these limits
+-- a new workbook with these limits
 empty_within : ℕ → ℕ → State
-empty_within cells edits = record { stored = record { sheet = []; edits = 0; limits = record { cells = cells; edits = edits } } }
+empty_within cells edits = state_over (record { sheet = []; edits = 0; limits = record { cells = cells; edits = edits } })
 
-pub is_new : {E : Type 0} (r : Result State E) (stored : Stored) (limits : Limits) → IfOk r (λ (book : State). book ≡ record { stored = stored })
-    → stored ≡ record { sheet = []; edits = 0; limits = limits } → limits.cells ≡ 200000 → limits.edits ≡ 1000000000 → IfOk r (λ (book : State). book ≡ new_state)
+pub is_new : {E : Type 0} (r : Result Book E) (stored : Stored) (limits : Limits) → IfOk r (λ (book : Book). book.state ≡ state_over stored)
+    → stored ≡ record { sheet = []; edits = 0; limits = limits } → limits.cells ≡ 200000 → limits.edits ≡ 1000000000 → IfOk r (λ (book : Book). book.state ≡ new_state)
 unfolding empty_within
 is_new (Ok book) stored limits b s cells edits =
-    b ∙ ap (λ (x : Stored). record { stored = x }) s ∙ ap (λ n. empty_within n limits.edits) cells ∙ ap (empty_within 200000) edits
+    b ∙ ap state_over s ∙ ap (λ n. empty_within n limits.edits) cells ∙ ap (empty_within 200000) edits
 is_new (Err e) stored limits b s cells edits = tt
 
 -- what `run` says of what it reads and writes

@@ -1,12 +1,11 @@
 -- Two runs in turn.
-use Rattle.std.proofs.Common.{◌≡◌, ℕ, Bool, true, false, List, [], ◌++◌, refl, sym, ap, subst, Option, Result, Ok, Err, OnOk, is_err, append-nil}
+use Rattle.std.proofs.Common.{◌≡◌, ℕ, Bool, true, false, List, [], refl, sym, ap, subst, Option, Result, Ok, Err, OnOk, is_err, append-nil}
 use Rattle.std.proofs.lemmas.Bool.{false≢true}
-use Rattle.std.specs.Io.KnownBytes.{Appends, Consumes, IsAtEnd}
+use Rattle.std.specs.Io.KnownBytes.{Appends, IsAtEnd}
 use Rattle.std.proofs.KnownBytes.{Consumes-nil, Appends-nil, Appends-trans}
 use Rattle.wi_scenarios.specs.State.{State, new_state}
 use Rattle.wi_cli.specs.declared.fault.RunFault.{RunFault}
 use Rattle.wi_cli.specs.declared.fault.RunFault.TheVariants.{Memory, Read, Write, ScriptLimit}
-use Rattle.wi_cli.specs.RunOutcome.{RunOutcome}
 use Rattle.wi_cli.specs.InTurn.{IsRun, RunInTurn}
 use Rattle.wi_cli.proofs.EndingLemmas.{Replies}
 
@@ -36,16 +35,16 @@ abbrev pub faulted : RunFault → Result (Unit {0}) RunFault
 faulted e = Err e
 
 -- a fault in the first run
-pub in_turn_stopped : {L R : Type 0} (left₁ : L → Option (List ℕ)) (failed₁ : L → Bool) (left₂ : R → Option (List ℕ)) (failed₂ : R → Bool) (e : RunFault) (one one' : L) (two : R) (s t : State) (given given' : Option (List ℕ))
-    → Replies (faulted e) (left₁ one) (left₁ one') s t given given' → (faulted e ≡ faulted Read → failed₁ one' ≡ true) → (faulted e ≡ faulted Memory → one' ≡ one)
-    → RunInTurn left₁ failed₁ left₂ failed₂ (faulted e) one one' two two s t given given'
-in_turn_stopped left₁ failed₁ left₂ failed₂ e one one' two s t given given' h read_fault unread = record {
+pub in_turn_stopped : {L R : Type 0} (left₁ : L → Option (List ℕ)) (failed₁ : L → Bool) (left₂ : R → Option (List ℕ)) (failed₂ : R → Bool) (e : RunFault) (one one' : L) (two two' : R) (s t : State) (given given' : Option (List ℕ))
+    → two' ≡ two → Replies (faulted e) (left₁ one) (left₁ one') s t given given' → (faulted e ≡ faulted Read → failed₁ one' ≡ true) → (faulted e ≡ faulted Memory → one' ≡ one)
+    → RunInTurn left₁ failed₁ left₂ failed₂ (faulted e) one one' two two' s t given given'
+in_turn_stopped left₁ failed₁ left₂ failed₂ e one one' two two' s t given given' same h read_fault unread = record {
   first = Err e;
   mid = t;
   sent = h.1;
   is_run = run_is left₁ failed₁ (Err e) one one' s t given given' h tt tt read_fault unread;
   rest = [];
-  goes_on = (refl, refl, refl, refl);
+  goes_on = (refl, same, refl, refl);
   written = subst (λ (out : List ℕ). Appends given given' out) (sym (append-nil h.1)) h.3;
 }
 
@@ -71,7 +70,7 @@ unfolding is_read
 in_turn_not_begun left₁ failed₁ left₂ failed₂ r one two given e =
     rw e (
       new_state,
-      in_turn_stopped left₁ failed₁ left₂ failed₂ Memory one one two new_state new_state given given
+      in_turn_stopped left₁ failed₁ left₂ failed₂ Memory one one two two new_state new_state given given refl
           ([], [], Consumes-nil (left₁ one), Appends-nil given, (refl, refl, refl)) (λ i. absurd (false≢true (ap is_read i))) (λ i. refl),
     )
 

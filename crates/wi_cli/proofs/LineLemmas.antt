@@ -1,10 +1,12 @@
 -- The lines of bytes that are taken a line at a time.
-use Rattle.std.proofs.Common.{◌≡◌, ℕ, Bool, true, false, cond, eqb, List, [], ◌∷◌, ◌++◌, refl, sym, ap, ◌∙◌, append_assoc, append-nil}
+use Rattle.std.proofs.Common.{◌≡◌, ℕ, ◌+◌, ◌<◌, ◌≤◌, Bool, true, false, ◌||◌, cond, eqb, List, [], ◌∷◌, ◌++◌, length, refl, sym, ap, ◌∙◌, append_assoc, append-nil, arith}
 use Rattle.std.specs.List.{concat}
 use Rattle.std.proofs.lemmas.Bool.{false≢true}
 use Rattle.std.proofs.lemmas.List.Folds.{concat-append}
 use Rattle.wi_cli.specs.Lines.{raw_lines, onto_first, without_lf, is_whole}
+use Rattle.wi_cli.specs.Script.{whole_lines}
 use Rattle.wi_cli.specs.Inner.Reading.{raw}
+use Rattle.wi_cli.specs.Inner.Taken.{AreWhole}
 
 -- a byte that is no LF, by the test of a line that begins with it
 not_lf : (b : ℕ) (bs : List ℕ) → is_whole (b ∷ bs) ≡ false → (eqb b 10 ≡ false) × (is_whole bs ≡ false)
@@ -34,20 +36,57 @@ without_lf-raw whole (b ∷ bs) h =
     let p = not_lf b bs h in
     ap (λ x. cond x [] (b ∷ without_lf (raw whole bs))) p.0 ∙ ap (λ x. b ∷ x) (without_lf-raw whole bs p.1)
 
--- Lines that end with their LF: whatever comes after them, they are the first lines.
-abbrev pub AreWhole : List (List ℕ) → Type 0
-AreWhole ls = (rest : List ℕ) → raw_lines (concat ls ++ rest) ≡ ls ++ raw_lines rest
+pub is_whole-append : (xs ys : List ℕ) → is_whole (xs ++ ys) ≡ (is_whole xs || is_whole ys)
+is_whole-append [] ys = refl
+is_whole-append (x ∷ xs) ys = elim (eqb x 10) as (λ b. cond b true (is_whole (xs ++ ys)) ≡ (cond b true (is_whole xs) || is_whole ys)) [ true ↦ refl | false ↦ is_whole-append xs ys ]
+
+whole_raw : (content : List ℕ) → is_whole (raw true content) ≡ true
+whole_raw content = is_whole-append content (10 ∷ []) ∙ go (is_whole content) where
+  go : (b : Bool) → (b || is_whole (10 ∷ [])) ≡ true
+  go true = refl
+  go false = refl
+
+-- ---- lines that end with their LF
 
 pub AreWhole-none : AreWhole []
-AreWhole-none rest = refl
+AreWhole-none = record { first = λ rest. refl; whole = λ more. refl }
+
+pub AreWhole-one : (content : List ℕ) → is_whole content ≡ false → AreWhole (raw true content ∷ [])
+AreWhole-one content h = record {
+  first = λ rest.
+      ap (λ x. raw_lines (x ++ rest)) (append-nil (raw true content)) ∙ ap raw_lines (append_assoc content (10 ∷ []) rest)
+      ∙ raw_lines-whole content rest h;
+  whole = λ more. ap (λ b. cond b (raw true content ∷ whole_lines more) []) (whole_raw content);
+}
+
+pub AreWhole-append : (ls ms : List (List ℕ)) → AreWhole ls → AreWhole ms → AreWhole (ls ++ ms)
+AreWhole-append ls ms h k = record {
+  first = λ rest.
+      ap (λ x. raw_lines (x ++ rest)) (concat-append ls ms) ∙ ap raw_lines (append_assoc (concat ls) (concat ms) rest)
+      ∙ h.first (concat ms ++ rest) ∙ ap (λ x. ls ++ x) (k.first rest) ∙ sym (append_assoc ls ms (raw_lines rest));
+  whole = λ more.
+      ap whole_lines (append_assoc ls ms more) ∙ h.whole (ms ++ more) ∙ ap (λ x. ls ++ x) (k.whole more)
+      ∙ sym (append_assoc ls ms (whole_lines more));
+}
 
 pub concat_push : (ls : List (List ℕ)) (l : List ℕ) → concat (ls ++ l ∷ []) ≡ concat ls ++ l
 concat_push ls l = concat-append ls (l ∷ []) ∙ ap (λ x. concat ls ++ x) (append-nil l)
 
-pub AreWhole-push : (ls : List (List ℕ)) (content : List ℕ) → is_whole content ≡ false → AreWhole ls → AreWhole (ls ++ raw true content ∷ [])
-AreWhole-push ls content h k rest =
-    ap (λ x. raw_lines (x ++ rest)) (concat_push ls (raw true content))
-    ∙ ap raw_lines (append_assoc (concat ls) (raw true content) rest)
-    ∙ k (raw true content ++ rest)
-    ∙ ap (λ x. ls ++ x) (ap raw_lines (append_assoc content (10 ∷ []) rest) ∙ raw_lines-whole content rest h)
-    ∙ sym (append_assoc ls (raw true content ∷ []) (raw_lines rest))
+-- the lines of one line's bytes
+pub raw_lines-raw : (content : List ℕ) → is_whole content ≡ false → raw_lines (raw true content) ≡ raw true content ∷ []
+raw_lines-raw content h = raw_lines-whole content [] h
+
+pub last_whole : (content : List ℕ) → is_whole content ≡ false → whole_lines (raw_lines content) ≡ []
+last_whole [] h = refl
+last_whole (b ∷ bs) h = ap whole_lines (raw_lines-last b bs h) ∙ ap (λ z. cond z ((b ∷ bs) ∷ []) []) h
+
+pub few_last : (content : List ℕ) (n : ℕ) → is_whole content ≡ false → (0 < length content → n < 1000000) → n ≤ 1000000 → n + length (raw_lines content) ≤ 1000000
+few_last [] n h k l = let e : length (raw_lines []) ≡ 0 = refl in omega arith
+few_last (b ∷ bs) n h k l = let e : length (raw_lines (b ∷ bs)) ≡ 1 = ap length (raw_lines-last b bs h) in let m : n < 1000000 = k (omega arith) in omega arith
+
+pub some_line : (b : ℕ) (bs : List ℕ) → 0 < length (raw_lines (b ∷ bs))
+some_line b bs = go (eqb b 10) (raw_lines bs) where
+  go : (x : Bool) (ls : List (List ℕ)) → 0 < length (cond x ((10 ∷ []) ∷ ls) (onto_first b ls))
+  go true ls = omega arith
+  go false [] = omega arith
+  go false (l ∷ ls) = omega arith

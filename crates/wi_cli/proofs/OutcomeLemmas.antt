@@ -1,56 +1,41 @@
 -- A run of a script so far, and how it may end.
-use Rattle.std.proofs.Common.{◌≡◌, ℕ, ◌+◌, ◌-◌, ◌<◌, ◌≤◌, Bool, true, false, ◌||◌, cond, eqb, ltb, List, [], ◌∷◌, ◌++◌, length, take, refl, sym, ap, ◌∙◌, subst, Option, None, Some, Result, Ok, Err, IfErr, append_assoc, append-nil, length-append, inl, inr, arith}
-use Rattle.std.specs.List.{concat}
+use Rattle.std.proofs.Common.{◌≡◌, ℕ, ◌+◌, ◌-◌, ◌<◌, ◌≤◌, Bool, true, false, List, [], ◌∷◌, ◌++◌, length, take, refl, sym, ap, ◌∙◌, subst, Option, None, Some, Result, Ok, Err, IfErr, OnOk, append_assoc, append-nil, length-append, inl, inr, arith}
+use Rattle.std.specs.List.{concat, filter, filter_map}
 use Rattle.std.specs.Option.{option_to_list}
 use Rattle.std.specs.Io.KnownBytes.{Appends, Keeps, Consumes, IsAtEnd, prepend_known}
 use Rattle.std.proofs.KnownBytes.{Appends-trans, Appends-nil}
-use Rattle.std.specs.Str.{is_utf8, chars}
 use Rattle.std.proofs.lemmas.List.{take_at, take_all}
+use Rattle.std.proofs.lemmas.List.Elements.{filter_map-append, filter-append}
+use Rattle.std.proofs.lemmas.List.Folds.{concat-append}
 use Rattle.std.proofs.Math.Seq.{take-append-add}
-use Rattle.std.proofs.lemmas.Bool.{ltb-true, ltb-false}
 use Rattle.wi_cli.specs.declared.fault.RunFault.{RunFault}
 use Rattle.wi_cli.specs.declared.fault.RunFault.TheVariants.{Memory, Read, Write, ScriptLimit}
 use Rattle.wi_scenarios.specs.State.{State}
 use Rattle.wi_scenarios.specs.Step.{Command}
 use Rattle.wi_cli.specs.Inner.Ahead.{Takes}
-use Rattle.wi_cli.specs.Lines.{raw_lines, onto_first, without_lf, is_whole}
-use Rattle.wi_cli.specs.Script.{line_command, commands, whole_lines, all_commands, complete_commands}
-use Rattle.wi_cli.specs.Inner.Reading.{raw, Broke}
-use Rattle.wi_cli.specs.Inner.Turn.{Turned, CutShort, Stopped}
+use Rattle.wi_cli.specs.Lines.{raw_lines}
+use Rattle.wi_cli.specs.Blocks.{Block, blocks, is_complete}
+use Rattle.wi_cli.specs.Script.{block_command, commands, whole_lines, all_commands, complete_commands}
+use Rattle.wi_cli.specs.Inner.Taken.{AreWhole, AreBlocks}
+use Rattle.wi_cli.specs.Inner.Turn.{TookBlock, BrokeBlock, Turned, CutShort, Stopped}
 use Rattle.wi_cli.specs.Run.{WritesReplies}
 use Rattle.wi_cli.specs.RunOutcome.{RunOutcome, WritesFrontOfReplies, limited}
-use Rattle.wi_cli.proofs.ReadingLemmas.{Takes-trans, is_whole-append}
+use Rattle.wi_cli.proofs.ReadingLemmas.{Takes-trans}
 use Rattle.wi_cli.proofs.RunLemmas.{WritesReplies-append, WritesReplies-none}
-use Rattle.wi_cli.proofs.LineLemmas.{AreWhole, AreWhole-none, AreWhole-push, raw_lines-last, without_lf-raw, concat_push}
-use Rattle.wi_cli.proofs.ScriptLemmas.{AreServed, AreServed-none, AreServed-push}
+use Rattle.wi_cli.proofs.LineLemmas.{AreWhole-none, AreWhole-append, last_whole, some_line}
+use Rattle.wi_cli.proofs.BlockLemmas.{AreBlocks-none, AreBlocks-append}
 
--- lines that all have their LF
-abbrev pub AllWhole : List (List ℕ) → Type 0
-AllWhole ls = (more : List (List ℕ)) → whole_lines (ls ++ more) ≡ ls ++ whole_lines more
-
-AllWhole-push : (ls : List (List ℕ)) (l : List ℕ) → is_whole l ≡ true → AllWhole ls → AllWhole (ls ++ l ∷ [])
-AllWhole-push ls l h k more =
-    ap whole_lines (append_assoc ls (l ∷ []) more) ∙ k (l ∷ more)
-    ∙ ap (λ b. ls ++ cond b (l ∷ whole_lines more) []) h ∙ sym (append_assoc ls (l ∷ []) (whole_lines more))
-
-whole_raw : (content : List ℕ) → is_whole (raw true content) ≡ true
-whole_raw content = is_whole-append content (10 ∷ []) ∙ go (is_whole content) where
-  go : (b : Bool) → (b || is_whole (10 ∷ [])) ≡ true
-  go true = refl
-  go false = refl
-
--- the whole lines so far, and the replies to them
+-- the complete blocks so far, and the replies to them
 pub record IsGoing (left : Option (List ℕ)) (buffer' : List ℕ) (left' : Option (List ℕ)) (s t : State) (given given' : Option (List ℕ)) (count : ℕ) : Type 0 where
   pub lines : List (List ℕ)
-  pub served : List Command
+  pub done : List Block
   pub out : List ℕ
-  pub are_lines : AreWhole lines
-  pub all_whole : AllWhole lines
-  pub are_served : AreServed lines served
+  pub are_whole : AreWhole lines
+  pub are_blocks : AreBlocks lines done
   pub counted : length lines ≡ count
   pub taken : Takes [] left buffer' left' (concat lines)
   pub written : Appends given given' out
-  pub writes : WritesReplies s served out t
+  pub writes : WritesReplies s (filter_map block_command done) out t
 
 Takes-none : (left : Option (List ℕ)) → Takes [] left [] left []
 Takes-none None = tt
@@ -59,33 +44,43 @@ Takes-none (Some xs) = refl
 pub going_none : (left : Option (List ℕ)) (s : State) (given : Option (List ℕ)) → IsGoing left [] left s s given given 0
 going_none left s given = record {
   lines = [];
-  served = [];
+  done = [];
   out = [];
-  are_lines = AreWhole-none;
-  all_whole = λ more. refl;
-  are_served = AreServed-none;
+  are_whole = AreWhole-none;
+  are_blocks = AreBlocks-none;
   counted = refl;
   taken = Takes-none left;
   written = Appends-nil given;
   writes = WritesReplies-none s;
 }
 
-pub going_on : (left : Option (List ℕ)) (b : List ℕ) (p : Option (List ℕ)) (c : List ℕ) (q : Option (List ℕ)) (s m t : State) (w x y : Option (List ℕ)) (count : ℕ) (allowed : Bool)
-    → IsGoing left b p s m w x count → Turned allowed true b p c q m t x y → IsGoing left c q s t w y (count + 1)
-going_on left b p c q s m t w x y count allowed h k =
-    let line = raw true k.content in
-    record {
-      lines = h.lines ++ line ∷ [];
-      served = h.served ++ option_to_list (line_command k.content);
+-- the commands of blocks, and of one more
+with_command : (done taken : List Block) (command : Option Command) → filter_map block_command taken ≡ option_to_list command
+    → filter_map block_command (done ++ taken) ≡ filter_map block_command done ++ option_to_list command
+with_command done taken command e = filter_map-append block_command done taken ∙ ap (λ x. filter_map block_command done ++ x) e
+
+-- a whole block's lines are all that was taken
+no_last : (ls : List (List ℕ)) (last : List ℕ) → last ≡ [] → ls ++ raw_lines last ≡ ls
+no_last ls last e = ap (λ x. ls ++ raw_lines x) e ∙ append-nil ls
+
+all_bytes : (ls ms : List (List ℕ)) (last : List ℕ) → last ≡ [] → concat ls ++ (concat ms ++ last) ≡ concat (ls ++ ms)
+all_bytes ls ms last e = ap (λ x. concat ls ++ (concat ms ++ x)) e ∙ ap (λ x. concat ls ++ x) (append-nil (concat ms)) ∙ sym (concat-append ls ms)
+
+pub going_on : (left : Option (List ℕ)) (b : List ℕ) (p : Option (List ℕ)) (c : List ℕ) (q : Option (List ℕ)) (s m t : State) (w x y : Option (List ℕ)) (count count' : ℕ)
+    → IsGoing left b p s m w x count → Turned true b p c q count count' m t x y → IsGoing left c q s t w y count'
+going_on left b p c q s m t w x y count count' h k =
+    let took = k.block.took in
+    let none = took.none_last refl in record {
+      lines = h.lines ++ took.lines;
+      done = h.done ++ k.block.taken;
       out = h.out ++ k.out;
-      are_lines = AreWhole-push h.lines k.content k.no_lf h.are_lines;
-      all_whole = AllWhole-push h.lines line (whole_raw k.content) h.all_whole;
-      are_served = subst (λ z. AreServed (h.lines ++ line ∷ []) (h.served ++ option_to_list (line_command z))) (without_lf-raw true k.content k.no_lf)
-          (AreServed-push h.lines h.served line h.are_served);
-      counted = length-append h.lines (line ∷ []) ∙ ap (λ n. n + 1) h.counted;
-      taken = subst (Takes [] left c q) (sym (concat_push h.lines line)) (Takes-trans [] left b p c q _ _ h.taken k.taken);
+      are_whole = AreWhole-append h.lines took.lines h.are_whole took.are_whole;
+      are_blocks = AreBlocks-append h.lines took.lines h.done k.block.taken h.are_blocks (subst (λ z. AreBlocks z k.block.taken) (no_last took.lines took.last none) k.block.are_blocks);
+      counted = omega (arith, length-append h.lines took.lines, h.counted, took.counted);
+      taken = subst (Takes [] left c q) (all_bytes h.lines took.lines took.last none) (Takes-trans [] left b p c q _ _ h.taken took.taken);
       written = Appends-trans w x y _ _ h.written k.written;
-      writes = WritesReplies-append s m t _ _ h.out k.out h.writes k.writes;
+      writes = subst (λ z. WritesReplies s z (h.out ++ k.out) t) (sym (with_command h.done k.block.taken k.command k.block.is_command))
+          (WritesReplies-append s m t _ _ h.out k.out h.writes k.writes);
     }
 
 -- ---- from what was taken out of the buffer to what was taken from the source
@@ -108,33 +103,7 @@ at_end_of : (c : List ℕ) (q : Option (List ℕ)) → IsAtEnd (prepend_known c 
 at_end_of c None e = tt
 at_end_of c (Some r) e = no_more c r e
 
--- ---- the line at the end
-
-nothing_said : line_command [] ≡ None
-unfolding line_command is_utf8 chars
-nothing_said = refl
-
-last_commands : (content : List ℕ) → is_whole content ≡ false → commands (raw_lines content) ≡ option_to_list (line_command content)
-last_commands [] h = sym (ap option_to_list nothing_said)
-last_commands (b ∷ bs) h =
-    ap commands (raw_lines-last b bs h)
-    ∙ append-nil (option_to_list (line_command (without_lf (b ∷ bs))))
-    ∙ ap (λ z. option_to_list (line_command z)) (ap without_lf (sym (append-nil (b ∷ bs))) ∙ without_lf-raw false (b ∷ bs) h)
-
-last_whole : (content : List ℕ) → is_whole content ≡ false → whole_lines (raw_lines content) ≡ []
-last_whole [] h = refl
-last_whole (b ∷ bs) h = ap whole_lines (raw_lines-last b bs h) ∙ ap (λ z. cond z ((b ∷ bs) ∷ []) []) h
-
-few_last : (content : List ℕ) (n : ℕ) → is_whole content ≡ false → (0 < length content → n < 1000000) → n ≤ 1000000 → n + length (raw_lines content) ≤ 1000000
-few_last [] n h k l = let e : length (raw_lines []) ≡ 0 = refl in omega arith
-few_last (b ∷ bs) n h k l = let e : length (raw_lines (b ∷ bs)) ≡ 1 = ap length (raw_lines-last b bs h) in let m : n < 1000000 = k (omega arith) in omega arith
-
-some_line : (b : ℕ) (bs : List ℕ) → 0 < length (raw_lines (b ∷ bs))
-some_line b bs = go (eqb b 10) (raw_lines bs) where
-  go : (x : Bool) (ls : List (List ℕ)) → 0 < length (cond x ((10 ∷ []) ∷ ls) (onto_first b ls))
-  go true ls = omega arith
-  go false [] = omega arith
-  go false (l ∷ ls) = omega arith
+-- ---- lines within the limit
 
 limited_at : (ls more : List (List ℕ)) → length ls ≡ 1000000 → limited (ls ++ more) ≡ ls
 unfolding limited
@@ -167,159 +136,156 @@ record IsOver (left q : Option (List ℕ)) (s t : State) (given given' : Option 
   few : length (raw_lines input) ≤ 1000000
   writes : WritesReplies s (all_commands input) out t
 
-over : (left : Option (List ℕ)) (b : List ℕ) (p : Option (List ℕ)) (c : List ℕ) (q : Option (List ℕ)) (s m t : State) (w x y : Option (List ℕ)) (count : ℕ) (allowed : Bool)
-    → (allowed ≡ true → count < 1000000) → count ≤ 1000000
-    → IsGoing left b p s m w x count → Turned allowed false b p c q m t x y → IsOver left q s t w y
-unfolding all_commands
-over left b p c q s m t w x y count allowed may most h k =
-    let line = k.content in
-    let input = concat h.lines ++ line in
-    let taken : Takes [] left c q input = subst (λ z. Takes [] left c q (concat h.lines ++ z)) (append-nil line) (Takes-trans [] left b p c q _ _ h.taken k.taken) in
-    let lines : raw_lines input ≡ h.lines ++ raw_lines line = h.are_lines line in
-    let said : all_commands input ≡ h.served ++ option_to_list (line_command line) =
-    ap commands lines ∙ h.are_served (raw_lines line) ∙ ap (λ z. h.served ++ z) (last_commands line k.no_lf) in
-    let few = few_last line count k.no_lf (λ l. may (k.may (omega (arith, length-append line [])))) most in
-    record {
-      input = input;
-      out = h.out ++ k.out;
-      taken = consumed_all left c q input taken (k.at_end refl);
-      at_end = at_end_of c q (k.at_end refl);
-      written = Appends-trans w x y _ _ h.written k.written;
-      few = omega (arith, ap length lines, length-append h.lines (raw_lines line), h.counted);
-      writes = subst (λ z. WritesReplies s z (h.out ++ k.out) t) (sym said) (WritesReplies-append s m t _ _ h.out k.out h.writes k.writes);
-    }
+-- the lines so far, those taken behind them, and what has no LF
+module _ (left : Option (List ℕ)) (b : List ℕ) (p : Option (List ℕ)) (s m : State) (w x : Option (List ℕ)) (count : ℕ) (h : IsGoing left b p s m w x count) where
+  lines_behind : (ls : List (List ℕ)) (last : List ℕ) → AreWhole ls → raw_lines (concat h.lines ++ (concat ls ++ last)) ≡ h.lines ++ (ls ++ raw_lines last)
+  lines_behind ls last k = h.are_whole.first (concat ls ++ last) ∙ ap (λ z. h.lines ++ z) (k.first last)
+
+  few_behind : (ls : List (List ℕ)) (last : List ℕ) (count' : ℕ) → count' ≡ count + length ls → count' + length (raw_lines last) ≤ 1000000 → length (h.lines ++ (ls ++ raw_lines last)) ≤ 1000000
+  few_behind ls last count' e few = omega (arith, length-append h.lines (ls ++ raw_lines last), length-append ls (raw_lines last), h.counted)
+
+  -- the commands of all, where those behind are one block
+  commands_behind : (ls : List (List ℕ)) (taken : List Block) (command : Option Command) → blocks ls ≡ taken → filter_map block_command taken ≡ option_to_list command
+      → commands (h.lines ++ ls) ≡ filter_map block_command h.done ++ option_to_list command
+  commands_behind ls taken command e f =
+      ap (filter_map block_command) (h.are_blocks.first ls ∙ ap (λ z. h.done ++ z) e) ∙ with_command h.done taken command f
+
+  -- or where none of them is complete
+  none_behind : (ls : List (List ℕ)) → filter is_complete (blocks ls) ≡ [] → filter_map block_command (filter is_complete (blocks (h.lines ++ ls))) ≡ filter_map block_command h.done
+  none_behind ls e =
+      ap (filter_map block_command)
+      (ap (filter is_complete) (h.are_blocks.first ls) ∙ filter-append is_complete h.done (blocks ls)
+      ∙ ap (λ z. z ++ filter is_complete (blocks ls)) h.are_blocks.complete ∙ ap (λ z. h.done ++ z) e ∙ append-nil h.done)
+
+  over : (c : List ℕ) (q : Option (List ℕ)) (t : State) (y : Option (List ℕ)) (count' : ℕ) → Turned false b p c q count count' m t x y → IsOver left q s t w y
+  unfolding all_commands
+  over c q t y count' k =
+      let took = k.block.took in
+      let input = concat h.lines ++ (concat took.lines ++ took.last) in
+      let lines = lines_behind took.lines took.last took.are_whole in
+      let said : all_commands input ≡ filter_map block_command h.done ++ option_to_list k.command =
+      ap commands lines ∙ commands_behind (took.lines ++ raw_lines took.last) k.block.taken k.command k.block.are_blocks k.block.is_command in
+      record {
+        input = input;
+        out = h.out ++ k.out;
+        taken = consumed_all left c q input (Takes-trans [] left b p c q _ _ h.taken took.taken) (took.at_end refl);
+        at_end = at_end_of c q (took.at_end refl);
+        written = Appends-trans w x y _ _ h.written k.written;
+        few = subst (λ z. length z ≤ 1000000) (sym lines) (few_behind took.lines took.last count' took.counted took.few);
+        writes = subst (λ z. WritesReplies s z (h.out ++ k.out) t) (sym said) (WritesReplies-append s m t _ _ h.out k.out h.writes k.writes);
+      }
 
 abbrev pub Ends : Result (Unit {0}) RunFault → Option (List ℕ) → Option (List ℕ) → State → State → Option (List ℕ) → Option (List ℕ) → Type 0
 Ends r left q s t given given' = (input : List ℕ) × (out : List ℕ) × Consumes left q input × Appends given given' out × RunOutcome r q s t input out
 
-ends_ok : (left : Option (List ℕ)) (b : List ℕ) (p : Option (List ℕ)) (c : List ℕ) (q : Option (List ℕ)) (s m t : State) (w x y z : Option (List ℕ)) (count : ℕ) (allowed : Bool)
-    → (allowed ≡ true → count < 1000000) → count ≤ 1000000
-    → IsGoing left b p s m w x count → Turned allowed false b p c q m t x y → Keeps y z → (u : Unit {0}) → Ends (Ok u) left q s t w z
-ends_ok left b p c q s m t w x y z count allowed may most h k e u =
-    let o = over left b p c q s m t w x y count allowed may most h k in
-    (o.input, o.out, o.taken, Appends-kept w y z o.out o.written e, (o.few, o.writes))
+ends_ok : (left q : Option (List ℕ)) (s t : State) (w y z : Option (List ℕ)) → IsOver left q s t w y → Keeps y z → (u : Unit {0}) → Ends (Ok u) left q s t w z
+ends_ok left q s t w y z o e u = (o.input, o.out, o.taken, Appends-kept w y z o.out o.written e, (o.few, o.writes))
 
-ends_flush : (left : Option (List ℕ)) (b : List ℕ) (p : Option (List ℕ)) (c : List ℕ) (q : Option (List ℕ)) (s m t : State) (w x y z : Option (List ℕ)) (count : ℕ) (allowed : Bool)
-    → (allowed ≡ true → count < 1000000) → count ≤ 1000000
-    → IsGoing left b p s m w x count → Turned allowed false b p c q m t x y → Keeps y z → Ends (Err Write) left q s t w z
+ends_flush : (left q : Option (List ℕ)) (s t : State) (w y z : Option (List ℕ)) → IsOver left q s t w y → Keeps y z → Ends (Err Write) left q s t w z
 unfolding all_commands
-ends_flush left b p c q s m t w x y z count allowed may most h k e =
-    let o = over left b p c q s m t w x y count allowed may most h k in (
-      o.input,
-      o.out,
-      o.taken,
-      Appends-kept w y z o.out o.written e,
-      inr (
-        o.at_end,
-        record {
-          earlier = all_commands o.input;
-          last = None;
-          others = [];
-          first = ap commands (limited_all (raw_lines o.input) o.few) ∙ sym (append-nil (all_commands o.input));
-          mid = t;
-          sent = o.out;
-          whole = o.writes;
-          front = [];
-          unwritten = [];
-          cut = WritesReplies-none t;
-          written = sym (append-nil o.out);
-        },
-      ),
-    )
+ends_flush left q s t w y z o e = (
+  o.input,
+  o.out,
+  o.taken,
+  Appends-kept w y z o.out o.written e,
+  inr (
+    o.at_end,
+    record {
+      earlier = all_commands o.input;
+      last = None;
+      others = [];
+      first = ap commands (limited_all (raw_lines o.input) o.few) ∙ sym (append-nil (all_commands o.input));
+      mid = t;
+      sent = o.out;
+      whole = o.writes;
+      front = [];
+      unwritten = [];
+      cut = WritesReplies-none t;
+      written = sym (append-nil o.out);
+    },
+  ),
+)
 
 -- the flush at the end succeeded or failed
-pub ends_sent : (r : Result (Unit {0}) RunFault) (left : Option (List ℕ)) (b : List ℕ) (p : Option (List ℕ)) (c : List ℕ) (q : Option (List ℕ)) (s m t : State) (w x y z : Option (List ℕ)) (count : ℕ)
-    → count ≤ 1000000 → IsGoing left b p s m w x count → Turned (ltb count 1000000) false b p c q m t x y → Keeps y z → IfErr r (λ fault. fault ≡ Write) → Ends r left q s t w z
-ends_sent (Ok u) left b p c q s m t w x y z count most h k e f = ends_ok left b p c q s m t w x y z count (ltb count 1000000) (ltb-true count 1000000) most h k e u
-ends_sent (Err fault) left b p c q s m t w x y z count most h k e f =
-    subst (λ (x : RunFault). Ends (Err x) left q s t w z) (sym f) (ends_flush left b p c q s m t w x y z count (ltb count 1000000) (ltb-true count 1000000) most h k e)
+pub ends_sent : (r : Result (Unit {0}) RunFault) (left : Option (List ℕ)) (b : List ℕ) (p : Option (List ℕ)) (c : List ℕ) (q : Option (List ℕ)) (s m t : State) (w x y z : Option (List ℕ)) (count count' : ℕ)
+    → IsGoing left b p s m w x count → Turned false b p c q count count' m t x y → Keeps y z → IfErr r (λ fault. fault ≡ Write) → Ends r left q s t w z
+ends_sent (Ok u) left b p c q s m t w x y z count count' h k e f = ends_ok left q s t w y z (over left b p s m w x count h c q t y count' k) e u
+ends_sent (Err fault) left b p c q s m t w x y z count count' h k e f =
+    subst (λ (x : RunFault). Ends (Err x) left q s t w z) (sym f) (ends_flush left q s t w y z (over left b p s m w x count h c q t y count' k) e)
 
-pub ends_read : (left : Option (List ℕ)) (b : List ℕ) (p : Option (List ℕ)) (c : List ℕ) (q : Option (List ℕ)) (s m t : State) (w x y : Option (List ℕ)) (count : ℕ) (allowed : Bool)
-    → (allowed ≡ true → count < 1000000) → count ≤ 1000000
-    → IsGoing left b p s m w x count → Broke Read allowed b p c q → t ≡ m → y ≡ x → Ends (Err Read) left q s t w y
+ends_read : (left : Option (List ℕ)) (b : List ℕ) (p : Option (List ℕ)) (c : List ℕ) (q : Option (List ℕ)) (s m t : State) (w x y : Option (List ℕ)) (count : ℕ)
+    → IsGoing left b p s m w x count → BrokeBlock Read b p c q count → t ≡ m → y ≡ x → Ends (Err Read) left q s t w y
 unfolding complete_commands
-ends_read left b p c q s m t w x y count allowed may most h k same kept =
-    let line = k.0 in
-    let input = concat h.lines ++ line in
-    let taken : Takes [] left c q input = Takes-trans [] left b p c q _ _ h.taken k.3 in
-    let lines : raw_lines input ≡ h.lines ++ raw_lines line = h.are_lines line in
-    let whole : whole_lines (raw_lines input) ≡ h.lines = ap whole_lines lines ∙ h.all_whole (raw_lines line) ∙ ap (λ z. h.lines ++ z) (last_whole line k.1) ∙ append-nil h.lines in
-    let served : commands h.lines ≡ h.served = ap commands (sym (append-nil h.lines)) ∙ h.are_served [] ∙ append-nil h.served in
-    let said : complete_commands (raw_lines input) ≡ h.served = ap commands whole ∙ served in
-    let few = few_last line count k.1 (λ l. may (k.4 l)) most in (
+ends_read left b p c q s m t w x y count h k same kept =
+    let ls = k.broke.lines in
+    let last = k.broke.cause.0 in
+    let input = concat h.lines ++ (concat ls ++ last) in
+    let lines = lines_behind left b p s m w x count h ls last k.broke.are_whole in
+    let whole : whole_lines (raw_lines input) ≡ h.lines ++ ls =
+    ap whole_lines lines ∙ h.are_whole.whole (ls ++ raw_lines last) ∙ ap (λ z. h.lines ++ z) (k.broke.are_whole.whole (raw_lines last) ∙ ap (λ z. ls ++ z) (last_whole last k.broke.cause.1) ∙ append-nil ls) in
+    let said : complete_commands (raw_lines input) ≡ filter_map block_command h.done =
+    ap (λ z. filter_map block_command (filter is_complete (blocks z))) whole ∙ none_behind left b p s m w x count h ls k.none_complete in (
       input,
       h.out,
-      subst (λ z. Consumes left q z) (ap (λ z. input ++ z) k.2 ∙ append-nil input) (consumed left c q input taken),
+      subst (λ z. Consumes left q z) (ap (λ z. input ++ z) k.broke.cause.2 ∙ append-nil input) (consumed left c q input (Takes-trans [] left b p c q _ _ h.taken k.broke.cause.3)),
       subst (λ z. Appends w z h.out) (sym kept) h.written,
       (
-        omega (arith, ap length lines, length-append h.lines (raw_lines line), h.counted, few),
-        subst (λ z. WritesReplies s z h.out t) (sym said) (subst (λ z. WritesReplies s h.served h.out z) (sym same) h.writes),
+        subst (λ z. length z ≤ 1000000) (sym lines) (few_behind left b p s m w x count h ls last (count + length ls) refl k.broke.cause.4),
+        subst (λ z. WritesReplies s z h.out t) (sym said) (subst (λ z. WritesReplies s (filter_map block_command h.done) h.out z) (sym same) h.writes),
       ),
     )
 
-pub ends_limit : (left : Option (List ℕ)) (b : List ℕ) (p : Option (List ℕ)) (c : List ℕ) (q : Option (List ℕ)) (s m t : State) (w x y : Option (List ℕ)) (count : ℕ) (allowed : Bool)
-    → (allowed ≡ false → 1000000 ≤ count) → count ≤ 1000000
-    → IsGoing left b p s m w x count → Broke ScriptLimit allowed b p c q → t ≡ m → y ≡ x → Ends (Err ScriptLimit) left q s t w y
+ends_limit : (left : Option (List ℕ)) (b : List ℕ) (p : Option (List ℕ)) (c : List ℕ) (q : Option (List ℕ)) (s m t : State) (w x y : Option (List ℕ)) (count : ℕ)
+    → IsGoing left b p s m w x count → BrokeBlock ScriptLimit b p c q count → t ≡ m → y ≡ x → Ends (Err ScriptLimit) left q s t w y
 unfolding complete_commands
-ends_limit left b p c q s m t w x y count allowed may most h k same kept =
-    let byte = k.0 in
-    let full : count ≡ 1000000 = let l = may k.1 in omega arith in
-    let taken : Takes [] left c q (concat h.lines ++ byte ∷ []) = Takes-trans [] left b p c q _ _ h.taken k.2 in
-    let input = (concat h.lines ++ byte ∷ []) ++ c in
-    let lines : raw_lines input ≡ h.lines ++ raw_lines (byte ∷ c) = ap raw_lines (append_assoc (concat h.lines) (byte ∷ []) c) ∙ h.are_lines (byte ∷ c) in
-    let firsts : limited (raw_lines input) ≡ h.lines = ap limited lines ∙ limited_at h.lines (raw_lines (byte ∷ c)) (h.counted ∙ full) in
-    let whole : whole_lines h.lines ≡ h.lines = ap whole_lines (sym (append-nil h.lines)) ∙ h.all_whole [] ∙ append-nil h.lines in
-    let served : commands h.lines ≡ h.served = ap commands (sym (append-nil h.lines)) ∙ h.are_served [] ∙ append-nil h.served in
-    let said : complete_commands (limited (raw_lines input)) ≡ h.served = ap (λ z. commands (whole_lines z)) firsts ∙ ap commands whole ∙ served in (
+ends_limit left b p c q s m t w x y count h k same kept =
+    let ls = k.broke.lines in
+    let byte = k.broke.cause.0 in
+    let all : List (List ℕ) = h.lines ++ ls in
+    let are_whole = AreWhole-append h.lines ls h.are_whole k.broke.are_whole in
+    let full : length (h.lines ++ ls) ≡ 1000000 = omega (arith, length-append h.lines ls, h.counted, k.broke.cause.2) in
+    let bytes : concat h.lines ++ (concat ls ++ byte ∷ []) ≡ concat (h.lines ++ ls) ++ byte ∷ [] = sym (append_assoc (concat h.lines) (concat ls) (byte ∷ [])) ∙ ap (λ z. z ++ byte ∷ []) (sym (concat-append h.lines ls)) in
+    let taken : Takes [] left c q (concat (h.lines ++ ls) ++ byte ∷ []) = subst (Takes [] left c q) bytes (Takes-trans [] left b p c q _ _ h.taken k.broke.cause.1) in
+    let input = (concat (h.lines ++ ls) ++ byte ∷ []) ++ c in
+    let lines : raw_lines input ≡ (h.lines ++ ls) ++ raw_lines (byte ∷ c) = ap raw_lines (append_assoc (concat (h.lines ++ ls)) (byte ∷ []) c) ∙ are_whole.first (byte ∷ c) in
+    let firsts : limited (raw_lines input) ≡ h.lines ++ ls = ap limited lines ∙ limited_at (h.lines ++ ls) (raw_lines (byte ∷ c)) full in
+    let whole : whole_lines (h.lines ++ ls) ≡ h.lines ++ ls = ap whole_lines (sym (append-nil (h.lines ++ ls))) ∙ are_whole.whole [] ∙ append-nil (h.lines ++ ls) in
+    let said : complete_commands (limited (raw_lines input)) ≡ filter_map block_command h.done =
+    ap (λ z. filter_map block_command (filter is_complete (blocks z))) (ap whole_lines firsts ∙ whole) ∙ none_behind left b p s m w x count h ls k.none_complete in (
       input,
       h.out,
       consumed left c q _ taken,
       subst (λ z. Appends w z h.out) (sym kept) h.written,
       (
-        omega (arith, ap length lines, length-append h.lines (raw_lines (byte ∷ c)), h.counted, full, some_line byte c),
-        subst (λ z. WritesReplies s z h.out t) (sym said) (subst (λ z. WritesReplies s h.served h.out z) (sym same) h.writes),
+        omega (arith, ap length lines, length-append (h.lines ++ ls) (raw_lines (byte ∷ c)), full, some_line byte c),
+        subst (λ z. WritesReplies s z h.out t) (sym said) (subst (λ z. WritesReplies s (filter_map block_command h.done) h.out z) (sym same) h.writes),
       ),
     )
 
 -- the complete commands of what was taken begin with those served
-cut_said : (left : Option (List ℕ)) (b : List ℕ) (p : Option (List ℕ)) (c : List ℕ) (q : Option (List ℕ)) (s m : State) (w x : Option (List ℕ)) (count k : ℕ) (content : List ℕ)
-    → (h : IsGoing left b p s m w x count) → is_whole content ≡ false → (count + 1) + k ≡ 1000000
-    → complete_commands (limited (raw_lines ((concat h.lines ++ raw true content) ++ c))) ≡ (h.served ++ option_to_list (line_command content)) ++ complete_commands (take k (raw_lines c))
+cut_said : (ls : List (List ℕ)) (bs : List Block) (c : List ℕ) (k : ℕ) → AreWhole ls → AreBlocks ls bs → length ls + k ≡ 1000000
+    → complete_commands (limited (raw_lines (concat ls ++ c))) ≡ filter_map block_command bs ++ complete_commands (take k (raw_lines c))
 unfolding complete_commands
-cut_said left b p c q s m w x count k content h no_lf room =
-    let line = raw true content in
-    let lines : List (List ℕ) = h.lines ++ line ∷ [] in
-    let served = subst (λ z. AreServed (h.lines ++ line ∷ []) (h.served ++ option_to_list (line_command z))) (without_lf-raw true content no_lf)
-    (AreServed-push h.lines h.served line h.are_served) in
-    let counted : length lines + k ≡ 1000000 = omega (arith, length-append h.lines (line ∷ []), h.counted) in
-    ap (λ z. commands (whole_lines (limited (raw_lines (z ++ c))))) (sym (concat_push h.lines line))
-    ∙ ap (λ z. commands (whole_lines (limited z))) (AreWhole-push h.lines content no_lf h.are_lines c)
-    ∙ ap (λ z. commands (whole_lines z)) (limited_more lines (raw_lines c) k counted)
-    ∙ ap commands (AllWhole-push h.lines line (whole_raw content) h.all_whole (take k (raw_lines c)))
-    ∙ served (whole_lines (take k (raw_lines c)))
+cut_said ls bs c k are_whole are_blocks room =
+    let more = take k (raw_lines c) in
+    ap (λ z. filter_map block_command (filter is_complete (blocks z)))
+    (ap (λ z. whole_lines (limited z)) (are_whole.first c) ∙ ap whole_lines (limited_more ls (raw_lines c) k room) ∙ are_whole.whole more)
+    ∙ ap (λ z. filter_map block_command (filter is_complete z)) (are_blocks.first (whole_lines more))
+    ∙ ap (filter_map block_command) (filter-append is_complete bs (blocks (whole_lines more)) ∙ ap (λ z. z ++ filter is_complete (blocks (whole_lines more))) are_blocks.complete)
+    ∙ filter_map-append block_command bs (filter is_complete (blocks (whole_lines more)))
 
-cut_end_said : (left : Option (List ℕ)) (b : List ℕ) (p : Option (List ℕ)) (s m : State) (w x : Option (List ℕ)) (count : ℕ) (content : List ℕ)
-    → (h : IsGoing left b p s m w x count) → is_whole content ≡ false → count + length (raw_lines content) ≤ 1000000
-    → commands (limited (raw_lines (concat h.lines ++ content))) ≡ (h.served ++ option_to_list (line_command content)) ++ []
-cut_end_said left b p s m w x count content h no_lf few =
-    let all : length (h.lines ++ raw_lines content) ≤ 1000000 = omega (arith, length-append h.lines (raw_lines content), h.counted) in
-    ap (λ z. commands (limited z)) (h.are_lines content) ∙ ap commands (limited_all (h.lines ++ raw_lines content) all)
-    ∙ h.are_served (raw_lines content) ∙ ap (λ z. h.served ++ z) (last_commands content no_lf)
-    ∙ sym (append-nil (h.served ++ option_to_list (line_command content)))
-
-pub ends_write : (left : Option (List ℕ)) (b : List ℕ) (p : Option (List ℕ)) (c : List ℕ) (q : Option (List ℕ)) (s m t : State) (w x y : Option (List ℕ)) (count : ℕ) (allowed : Bool)
-    → (allowed ≡ true → count < 1000000) → count ≤ 1000000
-    → IsGoing left b p s m w x count → CutShort allowed b p c q m t x y → Ends (Err Write) left q s t w y
-ends_write left b p c q s m t w x y count allowed may most h k = go k.whole k.taken k.at_end k.may where
+pub ends_write : (left : Option (List ℕ)) (b : List ℕ) (p : Option (List ℕ)) (c : List ℕ) (q : Option (List ℕ)) (s m t : State) (w x y : Option (List ℕ)) (count : ℕ)
+    → IsGoing left b p s m w x count → CutShort b p c q count m t x y → Ends (Err Write) left q s t w y
+ends_write left b p c q s m t w x y count h k = go k.whole k.block where
   written : Appends w y (h.out ++ k.out)
   written = Appends-trans w x y _ _ h.written k.written
 
-  front : (cs others : List Command) → cs ≡ (h.served ++ option_to_list (line_command k.content)) ++ others → WritesFrontOfReplies s cs (h.out ++ k.out) t
+  front : (cs others : List Command) → cs ≡ (filter_map block_command h.done ++ option_to_list k.command) ++ others → WritesFrontOfReplies s cs (h.out ++ k.out) t
   front cs others e = record {
-    earlier = h.served;
-    last = line_command k.content;
+    earlier = filter_map block_command h.done;
+    last = k.command;
     others = others;
-    first = e ∙ append_assoc h.served (option_to_list (line_command k.content)) others;
+    first = e ∙ append_assoc (filter_map block_command h.done) (option_to_list k.command) others;
     mid = m;
     sent = h.out;
     whole = h.writes;
@@ -329,28 +295,46 @@ ends_write left b p c q s m t w x y count allowed may most h k = go k.whole k.ta
     written = refl;
   }
 
-  go : (whole : Bool) → Takes b p c q (raw whole k.content) → (whole ≡ false → IsAtEnd (prepend_known c q)) → (0 < length (raw whole k.content) → allowed ≡ true) → Ends (Err Write) left q s t w y
-  go true taken at_end allows = let room : count < 1000000 = may (allows (omega (arith, length-append k.content (10 ∷ [])))) in (
-    (concat h.lines ++ raw true k.content) ++ c,
-    h.out ++ k.out,
-    consumed left c q _ (Takes-trans [] left b p c q _ _ h.taken taken),
-    written,
-    inl (front _ (complete_commands (take (1000000 - (count + 1)) (raw_lines c))) (cut_said left b p c q s m w x count (1000000 - (count + 1)) k.content h k.no_lf (omega arith))),
-  )
-  go false taken at_end allows = let few = few_last k.content count k.no_lf (λ l. may (allows (omega (arith, length-append k.content [])))) most in (
-    concat h.lines ++ k.content,
-    h.out ++ k.out,
-    consumed_all left c q _ (subst (λ z. Takes [] left c q (concat h.lines ++ z)) (append-nil k.content) (Takes-trans [] left b p c q _ _ h.taken taken)) (at_end refl),
-    written,
-    inr (at_end_of c q (at_end refl), front _ [] (cut_end_said left b p s m w x count k.content h k.no_lf few)),
-  )
+  go : (whole : Bool) → TookBlock k.command whole b p c q count k.count' → Ends (Err Write) left q s t w y
+  go true block =
+      let took = block.took in
+      let none = took.none_last refl in
+      let ls : List (List ℕ) = h.lines ++ took.lines in
+      let room : ℕ = 1000000 - k.count' in
+      let are_blocks = AreBlocks-append h.lines took.lines h.done block.taken h.are_blocks (subst (λ z. AreBlocks z block.taken) (no_last took.lines took.last none) block.are_blocks) in
+      let said = cut_said (h.lines ++ took.lines) (h.done ++ block.taken) c (1000000 - k.count') (AreWhole-append h.lines took.lines h.are_whole took.are_whole) are_blocks
+      (let few = took.few in omega (arith, few, length-append h.lines took.lines, h.counted, took.counted)) in (
+        concat (h.lines ++ took.lines) ++ c,
+        h.out ++ k.out,
+        consumed left c q _ (subst (Takes [] left c q) (all_bytes h.lines took.lines took.last none) (Takes-trans [] left b p c q _ _ h.taken took.taken)),
+        written,
+        inl (front _ (complete_commands (take (1000000 - k.count') (raw_lines c))) (said ∙ ap (λ z. z ++ complete_commands (take (1000000 - k.count') (raw_lines c))) (with_command h.done block.taken k.command block.is_command))),
+      )
+  go false block =
+      let took = block.took in
+      let lines = lines_behind left b p s m w x count h took.lines took.last took.are_whole in
+      let few = few_behind left b p s m w x count h took.lines took.last k.count' took.counted took.few in
+      let said = ap commands (ap limited lines ∙ limited_all _ few) ∙ commands_behind left b p s m w x count h (took.lines ++ raw_lines took.last) block.taken k.command block.are_blocks block.is_command in (
+        concat h.lines ++ (concat took.lines ++ took.last),
+        h.out ++ k.out,
+        consumed_all left c q _ (Takes-trans [] left b p c q _ _ h.taken took.taken) (took.at_end refl),
+        written,
+        inr (at_end_of c q (took.at_end refl), front _ [] (said ∙ sym (append-nil (filter_map block_command h.done ++ option_to_list k.command)))),
+      )
 
 pub ends_stopped : (e : RunFault) (left : Option (List ℕ)) (b : List ℕ) (p : Option (List ℕ)) (c : List ℕ) (q : Option (List ℕ)) (s m t : State) (w x y : Option (List ℕ)) (count : ℕ)
-    → count ≤ 1000000 → IsGoing left b p s m w x count → Stopped e (ltb count 1000000) b p c q m t x y → Ends (Err e) left q s t w y
-ends_stopped Memory left b p c q s m t w x y count few h k = absurd k
-ends_stopped Read left b p c q s m t w x y count few h k = ends_read left b p c q s m t w x y count (ltb count 1000000) (ltb-true count 1000000) few h k.0 k.1 k.2
-ends_stopped Write left b p c q s m t w x y count few h k = ends_write left b p c q s m t w x y count (ltb count 1000000) (ltb-true count 1000000) few h k
-ends_stopped ScriptLimit left b p c q s m t w x y count few h k = ends_limit left b p c q s m t w x y count (ltb count 1000000) (ltb-false count 1000000) few h k.0 k.1 k.2
+    → IsGoing left b p s m w x count → Stopped e b p c q count m t x y → Ends (Err e) left q s t w y
+ends_stopped Memory left b p c q s m t w x y count h k = absurd k
+ends_stopped Read left b p c q s m t w x y count h k = ends_read left b p c q s m t w x y count h k.0 k.1 k.2
+ends_stopped Write left b p c q s m t w x y count h k = ends_write left b p c q s m t w x y count h k
+ends_stopped ScriptLimit left b p c q s m t w x y count h k = ends_limit left b p c q s m t w x y count h k.0 k.1 k.2
 
-pub one_more_fits : (b : List ℕ) (p : Option (List ℕ)) (c : List ℕ) (q : Option (List ℕ)) (m t : State) (x y : Option (List ℕ)) (count : ℕ) → Turned (ltb count 1000000) true b p c q m t x y → count < 1000000
-one_more_fits b p c q m t x y count k = ltb-true count 1000000 (k.may (omega (arith, length-append k.content (10 ∷ []))))
+pub still_few : {whole : Bool} {b : List ℕ} {p : Option (List ℕ)} {c : List ℕ} {q : Option (List ℕ)} {count count' : ℕ} {m t : State} {x y : Option (List ℕ)} → Turned whole b p c q count count' m t x y → count' ≤ 1000000
+still_few k = let few = k.block.took.few in omega arith
+
+pub one_more : {b : List ℕ} {p : Option (List ℕ)} {c : List ℕ} {q : Option (List ℕ)} {count count' : ℕ} {m t : State} {x y : Option (List ℕ)} → Turned true b p c q count count' m t x y → count < count'
+one_more k = k.block.grows refl
+
+pub all_read : (r : Result (Unit {0}) RunFault) (b : List ℕ) (p : Option (List ℕ)) (c : List ℕ) (q : Option (List ℕ)) (count count' : ℕ) (m t : State) (x y : Option (List ℕ)) → Turned false b p c q count count' m t x y → OnOk r (IsAtEnd q)
+all_read (Ok u) b p c q count count' m t x y k = at_end_of c q (k.block.took.at_end refl)
+all_read (Err e) b p c q count count' m t x y k = tt

@@ -1,5 +1,5 @@
 -- A line that is being read.
-use Rattle.std.proofs.Common.{◌≡◌, ℕ, ◌<◌, ◌≤◌, Bool, true, false, ◌||◌, cond, eqb, List, [], ◌∷◌, ◌++◌, length, take, refl, sym, ap, ◌∙◌, subst, arith, Option, append-nil, length-append}
+use Rattle.std.proofs.Common.{◌≡◌, ℕ, ◌<◌, ◌≤◌, Bool, true, false, ◌||◌, cond, List, [], ◌∷◌, ◌++◌, length, take, refl, sym, ap, ◌∙◌, subst, arith, Option, append-nil, length-append}
 use Rattle.std.specs.Io.KnownBytes.{IsAtEnd, prepend_known}
 use Rattle.std.proofs.KnownBytes.{Consumes-trans}
 use Rattle.std.proofs.lemmas.List.{take_all, take-append-le, length-take}
@@ -8,6 +8,7 @@ use Rattle.wi_cli.specs.declared.fault.RunFault.TheVariants.{Read}
 use Rattle.wi_cli.specs.Inner.Ahead.{Takes}
 use Rattle.wi_cli.specs.Lines.{is_whole}
 use Rattle.wi_cli.specs.Inner.Reading.{line_front, TookLine, Broke}
+use Rattle.wi_cli.proofs.LineLemmas.{is_whole-append}
 
 -- the bytes before the last one taken, and that one
 pub record IsWithin (buffer : List ℕ) (left : Option (List ℕ)) (buffer' : List ℕ) (left' : Option (List ℕ)) (line : List ℕ) (byte : ℕ) : Type 0 where
@@ -18,10 +19,6 @@ pub record IsWithin (buffer : List ℕ) (left : Option (List ℕ)) (buffer' : Li
 
 pub Takes-trans : (a : List ℕ) (p : Option (List ℕ)) (b : List ℕ) (q : Option (List ℕ)) (c : List ℕ) (r : Option (List ℕ)) (xs ys : List ℕ) → Takes a p b q xs → Takes b q c r ys → Takes a p c r (xs ++ ys)
 Takes-trans a p b q c r xs ys h k = Consumes-trans (prepend_known a p) (prepend_known b q) (prepend_known c r) xs ys h k
-
-pub is_whole-append : (xs ys : List ℕ) → is_whole (xs ++ ys) ≡ (is_whole xs || is_whole ys)
-is_whole-append [] ys = refl
-is_whole-append (x ∷ xs) ys = elim (eqb x 10) as (λ b. cond b true (is_whole (xs ++ ys)) ≡ (cond b true (is_whole xs) || is_whole ys)) [ true ↦ refl | false ↦ is_whole-append xs ys ]
 
 one_no_lf : (byte : ℕ) → (byte ≡ 10 → ⊥) → is_whole (byte ∷ []) ≡ false
 one_no_lf byte h = ap (λ b. cond b true false) (ne_eqb byte 10 h)

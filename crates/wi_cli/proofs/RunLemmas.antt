@@ -4,7 +4,7 @@ use Rattle.std.specs.List.{concat}
 use Rattle.std.specs.Option.{option_to_list}
 use Rattle.std.proofs.lemmas.List.Folds.{concat-append}
 use Rattle.wi_scenarios.specs.declared.refusal.Refusal.{Refusal}
-use Rattle.wi_scenarios.specs.declared.refusal.Refusal.TheVariants.{Memory, BadCommand, BadLine, OutOfSheet, Syntax, TooDeep, NumberRange, TooLong, Full, TooLarge, LeavesSheet, EditLimit}
+use Rattle.wi_scenarios.specs.declared.refusal.Refusal.TheVariants.{Memory}
 use Rattle.wi_cli.specs.Reply.{refused}
 use Rattle.wi_scenarios.specs.State.{State}
 use Rattle.wi_scenarios.specs.Step.{Command, IsStep}
@@ -38,17 +38,7 @@ answered_by s c e t h k = inl (record { answer = Err e; is_step = k; reply_is = 
 
 refused_is : (s : State) (c : Command) (e : Refusal) (t : State) → t ≡ s → RefusedAs e s c → MayAnswer s c (refused e) t
 refused_is s c Memory t h k = inr (record { reply_is = refl; state_is = h; may = k })
-refused_is s c BadCommand t h k = answered_by s c BadCommand t h k
-refused_is s c BadLine t h k = answered_by s c BadLine t h k
-refused_is s c OutOfSheet t h k = answered_by s c OutOfSheet t h k
-refused_is s c Syntax t h k = answered_by s c Syntax t h k
-refused_is s c TooDeep t h k = answered_by s c TooDeep t h k
-refused_is s c NumberRange t h k = answered_by s c NumberRange t h k
-refused_is s c TooLong t h k = answered_by s c TooLong t h k
-refused_is s c Full t h k = answered_by s c Full t h k
-refused_is s c TooLarge t h k = answered_by s c TooLarge t h k
-refused_is s c LeavesSheet t h k = answered_by s c LeavesSheet t h k
-refused_is s c EditLimit t h k = answered_by s c EditLimit t h k
+refused_is s c e t h k = answered_by s c e t h k
 
 -- what is told of a line is a run of its command
 pub WritesReplies-told : (o : Option Command) (a : Reply) (s t : State) (out : List ℕ) → Told o a s t out → WritesReplies s (option_to_list o) (told_bytes a out) t

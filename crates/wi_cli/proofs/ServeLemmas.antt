@@ -1,7 +1,9 @@
 -- What is told of a line that was served.
-use Rattle.std.proofs.Common.{◌≡◌, ℕ, List, [], ◌++◌, refl, sym, ap, ◌∙◌, subst, Option, None, Some, Ok, Err}
+use Rattle.std.proofs.Common.{◌≡◌, ℕ, Bool, true, false, List, [], ◌++◌, refl, sym, ap, ◌∙◌, subst, Option, None, Some, Result, Ok, Err, append-nil}
+use Rattle.wi_sessions.specs.Sessions.{has_session}
+use Rattle.wi_values.specs.Name.{bytes_of}
 use Rattle.wi_scenarios.specs.declared.refusal.Refusal.{Refusal}
-use Rattle.wi_scenarios.specs.declared.refusal.Refusal.TheVariants.{Memory, BadCommand, BadLine, OutOfSheet, Syntax, TooDeep, NumberRange, TooLong, Full, TooLarge, LeavesSheet, EditLimit}
+use Rattle.wi_scenarios.specs.declared.refusal.Refusal.TheVariants.{Memory}
 use Rattle.wi_scenarios.specs.State.{State}
 use Rattle.wi_scenarios.specs.Answer as answer
 use Rattle.wi_scenarios.specs.Step.{Command, IsStep, MayLackMemory}
@@ -10,57 +12,68 @@ use Rattle.wi_cli.specs.declared.reply.Reply.TheVariants.{Passed, Done, Refused}
 use Rattle.wi_cli.specs.declared.command.Command.{Command as ReadCommand}
 use Rattle.wi_cli.specs.declared.command.Command.TheVariants as read
 use Rattle.wi_cli.specs.Inner.Spelling.{command_of}
-use Rattle.wi_cli.specs.Inner.Told.{Told, RefusedAs}
+use Rattle.wi_cli.specs.Inner.Told.{Told, IsServed, RefusedAs}
+
+-- how a call ended
+abbrev pub Ended : Type 0
+Ended = Result (Unit {0}) Refusal
+
+-- where a call of the workbook is never refused for want of memory
+abbrev pub KeepsMemory : ReadCommand → Ended → State → Type 0
+KeepsMemory (read.Drop name) r s = r ≡ Err Memory → ⊥
+KeepsMemory (read.As name) r s = has_session s.sessions (bytes_of name) ≡ true → (r ≡ Err Memory → ⊥)
+KeepsMemory d r s = Unit {0}
+
+lacks : (d : ReadCommand) (s : State) → answer.MayGrow (IsStep s (command_of d)) → KeepsMemory d (Err Memory) s → MayLackMemory s (command_of d)
+lacks (read.Drop name) s h k = absurd (k refl)
+lacks (read.As name) s h k = (go (has_session s.sessions (bytes_of name)) (λ e. k e refl), h) where
+  go : (b : Bool) → (b ≡ true → ⊥) → b ≡ false
+  go true f = absurd (f refl)
+  go false f = refl
+lacks (read.Set force at content) s h k = h
+lacks (read.Clear force area) s h k = h
+lacks (read.Fill force from area) s h k = h
+lacks (read.Scenario name at content) s h k = h
+lacks (read.Base name other) s h k = h
+lacks (read.Use name) s h k = h
+lacks (read.Show area) s h k = h
+lacks (read.Export area) s h k = h
+lacks read.Changes s h k = h
+lacks (read.Compare first second area) s h k = h
+lacks (read.Table f r xs) s h k = h
+lacks (read.TableOfTwo f r xs c ys) s h k = h
+lacks (read.Formula at) s h k = h
+
+refuses : (e : Refusal) (d : ReadCommand) (s : State) → answer.MayRefuse e (IsStep s (command_of d)) → KeepsMemory d (Err e) s → RefusedAs e s (command_of d)
+refuses Memory d s h k = lacks d s h k
+refuses e d s h k = h
+
+-- a command that was done or refused by a call of the workbook
+pub served : (d : ReadCommand) (r : Ended) (s t : State) (records : List ℕ) → answer.Serves (IsStep s (command_of d)) r s t records → KeepsMemory d r s
+    → IsServed (command_of d) r s t records
+served d (Ok _) s t records h k = h
+served d (Err e) s t records h k = (h.1, refuses e d s h.0 k)
+
+-- the same of a call that writes no records
+pub served_alone : (d e : ReadCommand) (r : Ended) (s t : State) (out : List ℕ) → d ≡ e → answer.Serves (IsStep s (command_of e)) r s t [] → KeepsMemory e r s
+    → (records : List ℕ) × (out ≡ out ++ records) × IsServed (command_of d) r s t records
+served_alone d e r s t out same h k = ([], sym (append-nil out), subst (λ (x : ReadCommand). IsServed (command_of x) r s t []) (sym same) (served e r s t [] h k))
 
 pub told_passed : (o : Option Command) (s : State) (out : List ℕ) → o ≡ None → Told o Passed s s out
 told_passed o s out e = subst (λ x. Told x Passed s s out) (sym e) refl
 
 pub told_done : (o : Option Command) (c : Command) (s t : State) (out out' records : List ℕ) → o ≡ Some c → out ≡ [] → out' ≡ out ++ records
-    → answer.Serves (IsStep s c) (Ok tt) s t records → Told o Done s t out'
+    → IsServed c (Ok tt) s t records → Told o Done s t out'
 told_done o c s t out out' records e none grown h =
     subst (λ x. Told x Done s t out') (sym e) (subst (λ x. IsStep s c (Ok (t, x))) (sym (grown ∙ ap (λ x. x ++ records) none)) h)
 
-may : (d : ReadCommand) (s : State) → answer.MayGrow (IsStep s (command_of d)) → MayLackMemory s (command_of d)
-may (read.Set at content) s h = h
-may (read.Clear area) s h = h
-may (read.Fill from area) s h = h
-may (read.Show area) s h = h
-may (read.Export area) s h = h
-may (read.Table f r xs) s h = h
-may (read.TableOfTwo f r xs c ys) s h = h
-may (read.Formula at) s h = h
-
-refuses : (e : Refusal) (d : ReadCommand) (s : State) → answer.MayRefuse e (IsStep s (command_of d)) → RefusedAs e s (command_of d)
-refuses Memory d s h = may d s h
-refuses BadCommand d s h = h
-refuses BadLine d s h = h
-refuses OutOfSheet d s h = h
-refuses Syntax d s h = h
-refuses TooDeep d s h = h
-refuses NumberRange d s h = h
-refuses TooLong d s h = h
-refuses Full d s h = h
-refuses TooLarge d s h = h
-refuses LeavesSheet d s h = h
-refuses EditLimit d s h = h
-
-pub told_refused : (o : Option Command) (d : ReadCommand) (e : Refusal) (s t : State) (out records : List ℕ) → o ≡ Some (command_of d)
-    → answer.Serves (IsStep s (command_of d)) (Err e) s t records → Told o (Refused e) s t out
-told_refused o d e s t out records same h = subst (λ x. Told x (Refused e) s t out) (sym same) (h.1, refuses e d s h.0)
+pub told_refused : (o : Option Command) (c : Command) (e : Refusal) (s t : State) (out records : List ℕ) → o ≡ Some c
+    → IsServed c (Err e) s t records → Told o (Refused e) s t out
+told_refused o c e s t out records same h = subst (λ x. Told x (Refused e) s t out) (sym same) h
 
 bad : (e : Refusal) (s : State) → (e ≡ Memory → ⊥) → RefusedAs e s (spell.Refused e)
 bad Memory s h = absurd (h refl)
-bad BadCommand s h = refl
-bad BadLine s h = refl
-bad OutOfSheet s h = refl
-bad Syntax s h = refl
-bad TooDeep s h = refl
-bad NumberRange s h = refl
-bad TooLong s h = refl
-bad Full s h = refl
-bad TooLarge s h = refl
-bad LeavesSheet s h = refl
-bad EditLimit s h = refl
+bad e s h = refl
 
 pub told_bad : (o : Option Command) (e : Refusal) (s : State) (out : List ℕ) → o ≡ Some (spell.Refused e) → (e ≡ Memory → ⊥) → Told o (Refused e) s s out
 told_bad o e s out same h = subst (λ x. Told x (Refused e) s s out) (sym same) (refl, bad e s h)

@@ -6,7 +6,7 @@ use Rattle.std.proofs.KnownBytes.{Appends-trans}
 use Rattle.std.proofs.lemmas.List.{take-append-drop, take-append-le, length-take, take_all}
 use Rattle.std.proofs.lemmas.Bool.{lt-ltb, cases_lt}
 use Rattle.std.specs.Str.{is_utf8}
-use Rattle.wi_scenarios.specs.Step.{Refused}
+use Rattle.wi_scenarios.specs.Step.{Command, Refused}
 use Rattle.wi_scenarios.specs.declared.refusal.Refusal.TheVariants.{BadLine}
 use Rattle.wi_cli.specs.Lines.{without_cr}
 use Rattle.std.proofs.Math.Seq.{take-append-add}
@@ -15,8 +15,8 @@ use Rattle.wi_scenarios.specs.State.{State}
 use Rattle.wi_cli.specs.declared.reply.Reply.{Reply}
 use Rattle.wi_cli.specs.Inner.Told.{Told, told_bytes}
 use Rattle.wi_cli.specs.Script.{line_command, text_command}
-use Rattle.wi_cli.specs.Inner.Reading.{TookLine, line_front}
-use Rattle.wi_cli.specs.Inner.Turn.{Turned, CutShort}
+use Rattle.wi_cli.specs.Inner.Reading.{line_front}
+use Rattle.wi_cli.specs.Inner.Turn.{TookBlock, Turned, CutShort}
 use Rattle.wi_cli.specs.Run.{WritesReplies}
 use Rattle.wi_cli.proofs.RunLemmas.{WritesReplies-told}
 
@@ -43,35 +43,20 @@ pub line_command-front : (content : List ℕ) → line_command (line_front conte
 unfolding line_front line_command
 line_command-front content = same_at_front 65536 65537 (λ xs. text_command (without_cr xs)) (Some (Refused BadLine)) (λ xs. not (is_utf8 (without_cr xs))) content refl
 
-pub told_of_front : (line content : List ℕ) (a : Reply) (s t : State) (out : List ℕ) → line ≡ line_front content → Told (line_command line) a s t out → Told (line_command content) a s t out
-told_of_front line content a s t out e h = subst (λ o. Told o a s t out) (ap line_command e ∙ line_command-front content) h
+pub turned : (whole : Bool) (b : List ℕ) (l : Option (List ℕ)) (b' : List ℕ) (l' : Option (List ℕ)) (count count' : ℕ) (s t : State) (w w' : Option (List ℕ)) (command : Option Command) (a : Reply) (out : List ℕ)
+    → TookBlock command whole b l b' l' count count' → Told command a s t out → Appends w w' (told_bytes a out) → Turned whole b l b' l' count count' s t w w'
+turned whole b l b' l' count count' s t w w' command a out k told h =
+    record { command = command; block = k; out = told_bytes a out; written = h; writes = WritesReplies-told command a s t out told }
 
-pub turned : (allowed whole : Bool) (b : List ℕ) (l : Option (List ℕ)) (b' : List ℕ) (l' : Option (List ℕ)) (s t : State) (w w' : Option (List ℕ)) (line : List ℕ) (a : Reply) (out : List ℕ)
-    → (k : TookLine allowed whole b l b' l' line) → Told (line_command k.content) a s t out → Appends w w' (told_bytes a out)
-    → Turned allowed whole b l b' l' s t w w'
-turned allowed whole b l b' l' s t w w' line a out k told h = record {
-  content = k.content;
-  no_lf = k.no_lf;
-  taken = k.taken;
-  at_end = k.at_end;
-  may = k.may;
-  out = told_bytes a out;
-  written = h;
-  writes = WritesReplies-told (line_command k.content) a s t out told;
-}
-
-pub cut_short : (allowed whole : Bool) (b : List ℕ) (l : Option (List ℕ)) (b' : List ℕ) (l' : Option (List ℕ)) (s t : State) (w w' : Option (List ℕ)) (line : List ℕ) (a : Reply) (out : List ℕ)
-    → (k : TookLine allowed whole b l b' l' line) → Told (line_command k.content) a s t out → AppendsFront w w' (told_bytes a out)
-    → CutShort allowed b l b' l' s t w w'
-cut_short allowed whole b l b' l' s t w w' line a out k told h = record {
+pub cut_short : (whole : Bool) (b : List ℕ) (l : Option (List ℕ)) (b' : List ℕ) (l' : Option (List ℕ)) (count count' : ℕ) (s t : State) (w w' : Option (List ℕ)) (command : Option Command) (a : Reply) (out : List ℕ)
+    → TookBlock command whole b l b' l' count count' → Told command a s t out → AppendsFront w w' (told_bytes a out) → CutShort b l b' l' count s t w w'
+cut_short whole b l b' l' count count' s t w w' command a out k told h = record {
   whole = whole;
-  content = k.content;
-  no_lf = k.no_lf;
-  taken = k.taken;
-  at_end = k.at_end;
-  may = k.may;
+  count' = count';
+  command = command;
+  block = k;
   out = take h.0 (told_bytes a out);
   unwritten = drop h.0 (told_bytes a out);
   written = h.2;
-  writes = subst (λ x. WritesReplies s (option_to_list (line_command k.content)) x t) (sym (take-append-drop h.0 (told_bytes a out))) (WritesReplies-told (line_command k.content) a s t out told);
+  writes = subst (λ x. WritesReplies s (option_to_list command) x t) (sym (take-append-drop h.0 (told_bytes a out))) (WritesReplies-told command a s t out told);
 }

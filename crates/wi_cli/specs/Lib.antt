@@ -1,7 +1,12 @@
 pub mod Lines
 pub mod Words
 pub mod Operands
+pub mod EditCommands
+pub mod ScenarioCommands
+pub mod LookCommands
 pub mod TableCommand
+pub mod CsvCommand
+pub mod Blocks
 pub mod Script
 pub mod Reply
 pub mod Run

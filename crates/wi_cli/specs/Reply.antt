@@ -1,7 +1,9 @@
 -- The reply to a command.
-use Rattle.std.specs.Prelude.{ℕ, ◌+◌, ◌/◌, ◌%◌, List, ◌∷◌, ◌++◌, Ok, Err, codes}
+use Rattle.std.specs.Prelude.{ℕ, ◌+◌, ◌/◌, ◌%◌, List, [], ◌∷◌, ◌++◌, Ok, Err, codes}
 use Rattle.std.specs.Str.{byte}
+use Rattle.wi_values.specs.Address.{address_text}
 use Rattle.wi_scenarios.specs.declared.refusal.Refusal.{Refusal}
+use Rattle.wi_scenarios.specs.declared.refusal.Refusal.TheVariants.{Stale}
 use Rattle.wi_scenarios.specs.State.{State}
 use Rattle.wi_scenarios.specs.Answer.{Answer, code_of}
 
@@ -9,9 +11,18 @@ use Rattle.wi_scenarios.specs.Answer.{Answer, code_of}
 abbrev pub digit_byte : ℕ → ℕ
 digit_byte n = byte "0" + n
 
--- the line `refused E` with the code in two digits
+-- `refused E`, and a code in two digits
+abbrev pub refused_code : ℕ → List ℕ
+refused_code code = codes "refused E" ++ digit_byte (code / 10) ∷ digit_byte (code % 10) ∷ []
+
+-- behind the code of a stale cell a space, and its address
+abbrev pub told_cell : Refusal → List ℕ
+told_cell (Stale at) = codes " " ++ address_text at
+told_cell e = []
+
+-- the line of a refusal
 unfoldable pub refused : Refusal → List ℕ
-refused e = codes "refused E" ++ digit_byte (code_of e / 10) ∷ digit_byte (code_of e % 10) ∷ codes "\n"
+refused e = refused_code (code_of e) ++ told_cell e ++ codes "\n"
 
 -- the line `ok`
 abbrev pub ok_line : List ℕ

@@ -1,105 +1,42 @@
 -- The commands that a script spells.
-use Rattle.std.specs.Prelude.{ℕ, Bool, false, ◌||◌, ◌==◌, not, List, [], ◌∷◌, ◌++◌, length, Option, Some, None, Result, Ok, Err, nat_lt, if◌then◌else◌, codes}
-use Rattle.std.specs.Option.{option_to_list}
+use Rattle.std.specs.Prelude.{ℕ, Bool, true, false, ◌||◌, ◌==◌, not, List, [], ◌∷◌, length, filter, filter_map, Option, Some, None, nat_lt, if◌then◌else◌, codes}
 use Rattle.std.specs.Str.{byte, bytes_eq, is_utf8}
-use Rattle.wi_values.specs.Address.{Area}
-use Rattle.wi_values.specs.AddressReading.{read_address, read_rect}
-use Rattle.wi_values.specs.declared.address.AddressFault.{AddressFault}
-use Rattle.wi_values.specs.declared.address.AddressFault.TheVariants.{Shape, Outside}
-use Rattle.wi_scenarios.specs.declared.refusal.Refusal.TheVariants.{BadCommand, BadLine}
-use Rattle.wi_scenarios.specs.Answer.{operand_refusal}
-use Rattle.wi_scenarios.specs.Step.{Command, Set, Clear, Fill, Show, Export, Formula, Refused}
-use Rattle.wi_cli.specs.Lines.{raw_lines, without_lf, without_cr, is_whole}
+use Rattle.wi_values.specs.AddressReading.{read_address}
+use Rattle.wi_scenarios.specs.declared.refusal.Refusal.TheVariants.{BadLine}
+use Rattle.wi_scenarios.specs.Step.{Command, Refused}
+use Rattle.wi_cli.specs.Lines.{raw_lines, without_lf, without_cr, is_whole, max_line}
 use Rattle.wi_cli.specs.Words.{first_word, after_word, is_all_spaces}
+use Rattle.wi_cli.specs.EditCommands.{edit_command}
+use Rattle.wi_cli.specs.ScenarioCommands.{scenario_command, drop_command, base_command, use_command, as_command}
+use Rattle.wi_cli.specs.LookCommands.{show_command, export_command, changes_command, compare_command, formula_command}
 use Rattle.wi_cli.specs.TableCommand.{table_command}
+use Rattle.wi_cli.specs.CsvCommand.{CsvLine, csv_line, csv_command}
+use Rattle.wi_cli.specs.Blocks.{Block, blocks, is_complete}
 
--- ---- one command each
+-- ---- commands
 
-abbrev pub set_command_at : Result ℕ AddressFault → List ℕ → Command
-set_command_at (Ok at) content = Set false at content
-set_command_at (Err fault) content = Refused (operand_refusal fault)
-
--- `set ADDR CONTENT`; CONTENT is all after the one space that follows ADDR
-abbrev pub set_command : List ℕ → Command
-set_command operands =
-    if length (after_word operands) == 0 then Refused BadCommand
-    else set_command_at (read_address (first_word operands)) (after_word operands)
-
-abbrev pub clear_command_in : Result Area AddressFault → Command
-clear_command_in (Ok area) = Clear false area
-clear_command_in (Err fault) = Refused (operand_refusal fault)
-
--- `clear RECT`
-abbrev pub clear_command : List ℕ → Command
-clear_command operands =
-    if is_all_spaces (after_word operands) then clear_command_in (read_rect (first_word operands))
-    else Refused BadCommand
-
--- the wrong shape of either operand comes before a cell outside the sheet
-abbrev pub fill_command_of : Result ℕ AddressFault → Result Area AddressFault → Command
-fill_command_of (Ok from) (Ok area) = Fill false from area
-fill_command_of (Ok from) (Err fault) = Refused (operand_refusal fault)
-fill_command_of (Err Shape) area = Refused (operand_refusal Shape)
-fill_command_of (Err Outside) (Ok area) = Refused (operand_refusal Outside)
-fill_command_of (Err Outside) (Err fault) = Refused (operand_refusal fault)
-
--- `fill ADDR RECT`
-abbrev pub fill_command : List ℕ → Command
-fill_command operands =
-    if is_all_spaces (after_word (after_word operands)) then fill_command_of (read_address (first_word operands)) (read_rect (first_word (after_word operands)))
-    else Refused BadCommand
-
-abbrev pub show_command_in : Result Area AddressFault → Command
-show_command_in (Ok area) = Show area
-show_command_in (Err fault) = Refused (operand_refusal fault)
-
--- `show RECT`
-abbrev pub show_command : List ℕ → Command
-show_command operands =
-    if is_all_spaces (after_word operands) then show_command_in (read_rect (first_word operands))
-    else Refused BadCommand
-
-abbrev pub export_command_in : Result Area AddressFault → Command
-export_command_in (Ok area) = Export area
-export_command_in (Err fault) = Refused (operand_refusal fault)
-
--- `export RECT`
-abbrev pub export_command : List ℕ → Command
-export_command operands =
-    if is_all_spaces (after_word operands) then export_command_in (read_rect (first_word operands))
-    else Refused BadCommand
-
-abbrev pub formula_command_at : Result ℕ AddressFault → Command
-formula_command_at (Ok at) = Formula at
-formula_command_at (Err fault) = Refused (operand_refusal fault)
-
--- `formula ADDR`
-abbrev pub formula_command : List ℕ → Command
-formula_command operands =
-    if is_all_spaces (after_word operands) then formula_command_at (read_address (first_word operands))
-    else Refused BadCommand
-
--- the command with this name and these operands
+-- The command of this name. `force` stands before the name of an edit.
 abbrev pub named_command : List ℕ → List ℕ → Command
 named_command name operands =
-    if bytes_eq name (codes "set") then set_command operands
-    else (if bytes_eq name (codes "clear") then clear_command operands
-    else (if bytes_eq name (codes "fill") then fill_command operands
+    if bytes_eq name (codes "force") then edit_command true (first_word operands) (after_word operands)
+    else (if bytes_eq name (codes "scenario") then scenario_command operands
+    else (if bytes_eq name (codes "drop") then drop_command operands
+    else (if bytes_eq name (codes "base") then base_command operands
+    else (if bytes_eq name (codes "use") then use_command operands
+    else (if bytes_eq name (codes "as") then as_command operands
     else (if bytes_eq name (codes "show") then show_command operands
     else (if bytes_eq name (codes "export") then export_command operands
+    else (if bytes_eq name (codes "changes") then changes_command operands
+    else (if bytes_eq name (codes "compare") then compare_command operands
     else (if bytes_eq name (codes "table") then table_command operands
     else (if bytes_eq name (codes "formula") then formula_command operands
-    else Refused BadCommand))))))
+    else edit_command false name operands)))))))))))
 
 -- the command that a text spells
 unfoldable pub spelled_command : List ℕ → Command
 spelled_command text = named_command (first_word text) (after_word text)
 
 -- ---- lines
-
--- the greatest length of a line without its LF
-abbrev pub max_line : ℕ
-max_line = 65536
 
 abbrev pub is_comment : List ℕ → Bool
 is_comment [] = false
@@ -116,12 +53,22 @@ line_command content =
     if nat_lt max_line (length content) || not (is_utf8 (without_cr content)) then Some (Refused BadLine)
     else text_command (without_cr content)
 
+-- ---- blocks
+
+abbrev pub command_with : Option CsvLine → Block → Option Command
+command_with None b = line_command (without_lf b.line)
+command_with (Some csv) b =
+    Some (if is_utf8 (without_cr (without_lf b.line)) then csv_command csv.force (read_address csv.address) b.data_lines b.missing else Refused BadLine)
+
+-- The command of a line with its data lines. One that asks for data lines is refused where it is not UTF-8.
+abbrev pub block_command : Block → Option Command
+block_command b = command_with (csv_line (without_lf b.line)) b
+
 -- ---- scripts
 
 -- the commands of lines, each given with its LF
 abbrev pub commands : List (List ℕ) → List Command
-commands [] = []
-commands (l ∷ ls) = option_to_list (line_command (without_lf l)) ++ commands ls
+commands ls = filter_map block_command (blocks ls)
 
 -- the lines up to the first that lacks its LF
 abbrev pub whole_lines : List (List ℕ) → List (List ℕ)
@@ -132,6 +79,6 @@ whole_lines (l ∷ ls) = if is_whole l then l ∷ whole_lines ls else []
 unfoldable pub all_commands : List ℕ → List Command
 all_commands script = commands (raw_lines script)
 
--- the commands of those lines that are complete, where the end of the script has not come
+-- the commands of those lines that are complete, with all their data lines, where the end of the script has not come
 unfoldable pub complete_commands : List (List ℕ) → List Command
-complete_commands ls = commands (whole_lines ls)
+complete_commands ls = filter_map block_command (filter is_complete (blocks (whole_lines ls)))

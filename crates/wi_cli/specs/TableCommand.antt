@@ -1,24 +1,18 @@
 -- The command `table`.
-use Rattle.std.specs.Prelude.{ℕ, List, Option, Some, None, Result, Ok, Err, if◌then◌else◌}
+use Rattle.std.specs.Prelude.{ℕ, List, Option, Some, None, Result, if◌then◌else◌}
 use Rattle.std.specs.Result.{result_err}
 use Rattle.wi_values.specs.Address.{Area}
 use Rattle.wi_values.specs.AddressReading.{read_address, read_rect}
 use Rattle.wi_values.specs.declared.address.AddressFault.{AddressFault}
-use Rattle.wi_scenarios.specs.declared.refusal.Refusal.TheVariants.{BadCommand}
 use Rattle.wi_scenarios.specs.Answer.{operand_refusal}
 use Rattle.wi_scenarios.specs.Step.{Command, Table, Refused}
 use Rattle.wi_cli.specs.Words.{first_word, after_word, is_all_spaces}
-use Rattle.wi_cli.specs.Operands.{column_fault, row_fault, worse}
+use Rattle.wi_cli.specs.Operands.{at_end, of_operand, column_fault, row_fault, worse}
 
 -- the command, unless an operand is refused
 abbrev pub unless_refused : Option AddressFault → Command → Command
 unless_refused None command = command
 unless_refused (Some fault) command = Refused (operand_refusal fault)
-
--- a command of an operand
-abbrev pub of_operand : {X : Type 0} → Result X AddressFault → (X → Command) → Command
-of_operand (Ok x) command = command x
-of_operand (Err fault) command = Refused (operand_refusal fault)
 
 abbrev pub table_of_one : Result ℕ AddressFault → Result ℕ AddressFault → Result Area AddressFault → Command
 table_of_one f r xs =
@@ -34,8 +28,7 @@ table_of_two f r xs c ys =
 abbrev pub table_behind : Result ℕ AddressFault → Result ℕ AddressFault → Result Area AddressFault → List ℕ → Command
 table_behind f r xs more =
     if is_all_spaces more then table_of_one f r xs
-    else (if is_all_spaces (after_word (after_word more)) then table_of_two f r xs (read_address (first_word more)) (read_rect (first_word (after_word more)))
-    else Refused BadCommand)
+    else at_end (after_word (after_word more)) (table_of_two f r xs (read_address (first_word more)) (read_rect (first_word (after_word more))))
 
 -- `table F R XCOLUMN`, and `table F R XCOLUMN C YROW`
 abbrev pub table_command : List ℕ → Command

@@ -2,33 +2,63 @@
 
 ghost use Rattle.std.specs.Prelude.{◌≡◌};
 ghost use Rattle.wi_cli.specs.Lines.{without_cr};
-ghost use Rattle.wi_cli.specs.Script.{is_comment, set_command, clear_command, fill_command, fill_command_of, show_command, export_command, formula_command, spelled_command, text_command, line_command};
+ghost use Rattle.wi_cli.specs.Script.{is_comment, spelled_command, text_command, line_command};
 ghost use Rattle.wi_cli.specs.Inner.Spelling.{IsCommandOf, IsLineOf};
 
+use crate::edit_commands::read_edit;
 use crate::lines::MAX_LINE;
+use crate::look_commands::{read_changes, read_compare, read_export, read_formula, read_show};
+use crate::scenario_commands::{read_as, read_base, read_drop, read_scenario, read_use};
 use crate::table_command::read_table;
 use crate::words::{is_all_spaces, split_word};
 use wi_scenarios::Refusal;
-use wi_values::{Address, AddressFault, Rect};
+use wi_values::{Address, Name, Rect};
 
-/// A command with its operands.
+/// A command with its operands. No name is the sheet as it stands.
 #[derive(Clone, Copy)]
 pub enum Command<'a> {
     Set {
+        force: bool,
         at: Address,
         content: &'a str,
     },
     Clear {
+        force: bool,
         area: Rect,
     },
     Fill {
+        force: bool,
         from: Address,
         area: Rect,
+    },
+    Scenario {
+        name: Name<'a>,
+        at: Address,
+        content: &'a str,
+    },
+    Drop {
+        name: Name<'a>,
+    },
+    Base {
+        name: Name<'a>,
+        other: Option<Name<'a>>,
+    },
+    Use {
+        name: Option<Name<'a>>,
+    },
+    As {
+        name: Name<'a>,
     },
     Show {
         area: Rect,
     },
     Export {
+        area: Rect,
+    },
+    Changes,
+    Compare {
+        first: Option<Name<'a>>,
+        second: Option<Name<'a>>,
         area: Rect,
     },
     Table {
@@ -48,93 +78,6 @@ pub enum Command<'a> {
     },
 }
 
-/// `set ADDR CONTENT`, where CONTENT is all after the one space that follows ADDR.
-fn read_set(operands: &str) -> Result<Command<'_>, Refusal>
-    ensures { IsCommandOf (set_command operands.now) result }
-{
-    let (address, content) = split_word(operands);
-    if content.is_empty() {
-        return Err(Refusal::BadCommand);
-    }
-    let at = Address::read(address.as_bytes())?;
-    Ok(Command::Set { at, content })
-}
-
-/// `clear RECT`.
-fn read_clear(operands: &str) -> Result<Command<'_>, Refusal>
-    ensures { IsCommandOf (clear_command operands.now) result }
-{
-    let (area, more) = split_word(operands);
-    if !is_all_spaces(more) {
-        return Err(Refusal::BadCommand);
-    }
-    let area = Rect::read(area.as_bytes())?;
-    Ok(Command::Clear { area })
-}
-
-/// `fill ADDR RECT`.
-fn read_fill(operands: &str) -> Result<Command<'_>, Refusal>
-    ensures { IsCommandOf (fill_command operands.now) result }
-{
-    let (from, others) = split_word(operands);
-    let (area, more) = split_word(others);
-    if !is_all_spaces(more) {
-        return Err(Refusal::BadCommand);
-    }
-    filled(Address::read(from.as_bytes()), Rect::read(area.as_bytes()))
-}
-
-/// `fill` of these operands. The wrong shape of either comes before a cell outside the sheet.
-fn filled<'a>(
-    from: Result<Address, AddressFault>,
-    area: Result<Rect, AddressFault>,
-) -> Result<Command<'a>, Refusal>
-    ensures { IsCommandOf (fill_command_of from area) result }
-{
-    match (from, area) {
-        (Ok(from), Ok(area)) => Ok(Command::Fill { from, area }),
-        (Err(AddressFault::Outside), Err(fault)) => Err(Refusal::from(fault)),
-        (Err(fault), _) => Err(Refusal::from(fault)),
-        (Ok(_), Err(fault)) => Err(Refusal::from(fault)),
-    }
-}
-
-/// `show RECT`.
-fn read_show(operands: &str) -> Result<Command<'_>, Refusal>
-    ensures { IsCommandOf (show_command operands.now) result }
-{
-    let (area, more) = split_word(operands);
-    if !is_all_spaces(more) {
-        return Err(Refusal::BadCommand);
-    }
-    let area = Rect::read(area.as_bytes())?;
-    Ok(Command::Show { area })
-}
-
-/// `export RECT`.
-fn read_export(operands: &str) -> Result<Command<'_>, Refusal>
-    ensures { IsCommandOf (export_command operands.now) result }
-{
-    let (area, more) = split_word(operands);
-    if !is_all_spaces(more) {
-        return Err(Refusal::BadCommand);
-    }
-    let area = Rect::read(area.as_bytes())?;
-    Ok(Command::Export { area })
-}
-
-/// `formula ADDR`.
-fn read_formula(operands: &str) -> Result<Command<'_>, Refusal>
-    ensures { IsCommandOf (formula_command operands.now) result }
-{
-    let (address, others) = split_word(operands);
-    if !is_all_spaces(others) {
-        return Err(Refusal::BadCommand);
-    }
-    let at = Address::read(address.as_bytes())?;
-    Ok(Command::Formula { at })
-}
-
 /// The command that a text spells.
 #[tactic(auto, unfolding(crate::specs::Script::spelled_command))]
 pub fn read_command(text: &str) -> Result<Command<'_>, Refusal>
@@ -142,19 +85,24 @@ pub fn read_command(text: &str) -> Result<Command<'_>, Refusal>
 {
     let (name, operands) = split_word(text);
     match name {
-        "set" => read_set(operands),
-        "clear" => read_clear(operands),
-        "fill" => read_fill(operands),
+        "force" => read_edit(true, operands),
+        "scenario" => read_scenario(operands),
+        "drop" => read_drop(operands),
+        "base" => read_base(operands),
+        "use" => read_use(operands),
+        "as" => read_as(operands),
         "show" => read_show(operands),
         "export" => read_export(operands),
+        "changes" => read_changes(operands),
+        "compare" => read_compare(operands),
         "table" => read_table(operands),
         "formula" => read_formula(operands),
-        _ => Err(Refusal::BadCommand),
+        _ => read_edit(false, text),
     }
 }
 
 /// Without the CR at the end, if there is one.
-fn without_cr(line: &[u8]) -> &[u8]
+pub fn without_cr(line: &[u8]) -> &[u8]
     ensures { result.now ≡ without_cr line.now }
 {
     match line.strip_suffix(b"\r") {

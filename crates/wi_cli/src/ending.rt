@@ -42,7 +42,7 @@ pub(crate) fn new_workbook(
     keep: usize,
 ) -> Result<Workbook<KeptCalculator>, AllocError>
     requires { 1 ≤ keep }
-    ensures { IfOk result (λ book. book ≡ new_state) }
+    ensures { IfOk result (λ book. book.state ≡ new_state) }
 {
     let calculator = KeptCalculator::new(alloc, Limits::standard(), keep)?;
     Workbook::new(alloc, calculator)

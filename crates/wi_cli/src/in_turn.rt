@@ -28,7 +28,7 @@ pub fn run_in_turn<L: Source, R: Source, W: Sink, C: Calculator>(
 
     // The bytes written are the replies to the commands of the one, and then to those of the other.
     ensures replies { RunInTurn L.remaining L.has_failed R.remaining R.has_failed result
-        load.old load.new reader.old reader.new book.old book.new
+        load.old load.new reader.old reader.new book.old.state book.new.state
         (W.contents writer.old) (W.contents writer.new) }
     ensures writes { OnOk result (W.has_failed writer.new ≡ false) }
     ensures all_sent { OnOk result (W.flushed writer.new ≡ true) }

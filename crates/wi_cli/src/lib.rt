@@ -1,27 +1,38 @@
 //! The lines of a script and the commands that they spell, and the run of a script on a workbook.
 #![tactic(auto)]
 
+mod blocks;
 mod chunk;
 mod command;
+mod csv_line;
+mod data_lines;
 mod device;
+mod edit_commands;
 mod ending;
 mod fault;
 mod in_turn;
 mod lines;
+mod look_commands;
+mod names;
 mod operands;
 mod read_from;
 mod reply;
 mod runs;
+mod scenario_commands;
+mod serve;
+mod serve_csv;
 mod table_command;
 mod words;
 mod write;
+mod write_address;
 mod write_to;
 
 pub use device::{DeviceFault, Sink, Source};
 pub use ending::{Ending, run_new};
 pub use fault::{RunFault, fault_status};
 pub use in_turn::{run_in_turn, run_new_in_turn};
+pub use lines::MAX_LINES;
 pub use read_from::{READS, ReadFrom};
-pub use runs::{MAX_LINES, run};
+pub use runs::run;
 pub use wi_options::{Options, OptionsFault, options, options_status};
 pub use write_to::WriteTo;

@@ -1,13 +1,14 @@
 //! The reply to a line.
 
-ghost use Rattle.std.specs.Prelude.{◌≡◌, false, is_err, OnOk, OnErr};
+ghost use Rattle.std.specs.Prelude.{◌≡◌, ◌<◌, false, is_err, OnOk, OnErr};
 ghost use Rattle.std.specs.Io.KnownBytes.{Appends};
 ghost use Rattle.wi_cli.specs.Inner.Front.{AppendsFront};
-ghost use Rattle.wi_cli.specs.Reply.{refused};
+ghost use Rattle.wi_cli.specs.Reply.{refused, refused_code, told_cell};
 ghost use Rattle.wi_cli.specs.Inner.Told.{told_bytes};
 
 use crate::device::{DeviceFault, Sink};
 use crate::write::write_all;
+use crate::write_address::write_address;
 use wi_scenarios::Refusal;
 
 /// The reply to a line.
@@ -20,20 +21,48 @@ pub enum Reply {
     Refused(Refusal),
 }
 
-/// Writes the line of a refusal.
-fn write_refusal<W: Sink>(writer: &mut W, refusal: Refusal) -> Result<(), DeviceFault>
+/// Writes a space and the address of the cell that a refusal tells, if it tells one.
+fn write_cell<W: Sink>(writer: &mut W, refusal: &Refusal) -> Result<(), DeviceFault>
     requires { W.has_failed writer.old ≡ false }
-    ensures ok { OnOk result (Appends (W.contents writer.old) (W.contents writer.new) (refused refusal)) }
-    ensures err { OnErr result (AppendsFront (W.contents writer.old) (W.contents writer.new) (refused refusal)) }
+    ensures ok { OnOk result (Appends (W.contents writer.old) (W.contents writer.new) (told_cell refusal.now)) }
+    ensures err { OnErr result (AppendsFront (W.contents writer.old) (W.contents writer.new) (told_cell refusal.now)) }
     ensures failed { W.has_failed writer.new ≡ is_err result }
 {
-    let code = refusal.code();
+    match refusal {
+        Refusal::Stale(at) => {
+            write_all(writer, b" ")?;
+            write_address(writer, *at)
+        }
+        _ => Ok(()),
+    }
+}
+
+/// Writes `refused E`, and a code in two digits.
+fn write_code<W: Sink>(writer: &mut W, code: u8) -> Result<(), DeviceFault>
+    requires works { W.has_failed writer.old ≡ false }
+    requires digits { code < 100 }
+    ensures ok { OnOk result (Appends (W.contents writer.old) (W.contents writer.new) (refused_code code)) }
+    ensures err { OnErr result (AppendsFront (W.contents writer.old) (W.contents writer.new) (refused_code code)) }
+    ensures failed { W.has_failed writer.new ≡ is_err result }
+{
     let tens = b'0' + code / 10;
     let ones = b'0' + code % 10;
     let text = [
-        b'r', b'e', b'f', b'u', b's', b'e', b'd', b' ', b'E', tens, ones, b'\n',
+        b'r', b'e', b'f', b'u', b's', b'e', b'd', b' ', b'E', tens, ones,
     ];
     write_all(writer, &text)
+}
+
+/// Writes the line of a refusal.
+fn write_refusal<W: Sink>(writer: &mut W, refusal: &Refusal) -> Result<(), DeviceFault>
+    requires { W.has_failed writer.old ≡ false }
+    ensures ok { OnOk result (Appends (W.contents writer.old) (W.contents writer.new) (refused refusal.now)) }
+    ensures err { OnErr result (AppendsFront (W.contents writer.old) (W.contents writer.new) (refused refusal.now)) }
+    ensures failed { W.has_failed writer.new ≡ is_err result }
+{
+    write_code(writer, refusal.code())?;
+    write_cell(writer, refusal)?;
+    write_all(writer, b"\n")
 }
 
 /// Writes the reply to a line: its records and `ok`, or its refusal.
@@ -49,6 +78,6 @@ pub fn write_reply<W: Sink>(writer: &mut W, reply: Reply, records: &[u8]) -> Res
             write_all(writer, records)?;
             write_all(writer, b"ok\n")
         }
-        Reply::Refused(refusal) => write_refusal(writer, refusal),
+        Reply::Refused(refusal) => write_refusal(writer, &refusal),
     }
 }

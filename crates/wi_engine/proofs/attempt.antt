@@ -2,5 +2,3 @@
 pub mod Attempting
 pub mod Filters
 pub mod Lacks
-pub mod Rectangles
-pub mod Smallest

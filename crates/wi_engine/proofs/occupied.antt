@@ -1,4 +1,3 @@
 -- What the proofs about the occupied cells of a rectangle use.
 pub mod NextCells
-pub mod NextFormulas
 pub mod ReadLists

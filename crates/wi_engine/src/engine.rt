@@ -20,11 +20,13 @@ ghost use Rattle.wi_engine.specs.Inner.Saving.{KeepsFound, WhereRoom, CountsUnke
 ghost use Rattle.wi_engine.specs.Inner.Steps.{IfKnown, IfUnknown, IfReplaced, IfInputUnknown, IfValued, IfNeedsKey, evaluations_after};
 ghost use Rattle.wi_engine.specs.declared.frame.Waiting.TheVariants as waiting;
 
-use crate::attempt::{attempt, together};
+use crate::attempt::attempt;
 use crate::findings::FoundWhatIf;
 use crate::frame::{Advance, Asked, Frame, Inputs, Waiting};
+use crate::lacking::is_lacking;
 use crate::memo::Memo;
 use crate::seen::{Seen, content_in, formula_at};
+use crate::together::together;
 use std::alloc::{AllocError, Global};
 use std::mem;
 use wi_cache::Key;
@@ -107,17 +109,6 @@ fn next_lacking(store: &Store, frame: &Frame, cells: &mut Vec<Address>) -> Optio
         }
     }
     None
-}
-
-/// Whether a frame lacks the value of a cell: it has a formula under the frame's replacements, and was not found.
-fn is_lacking(store: &Store, frame: &Frame, at: Address) -> bool
-    ensures { result ≡ lacks_cell store.now.sheet frame.now.key.world frame.now.found at }
-{
-    match content_in(store, &frame.key.world, at) {
-        Seen::Nothing => false,
-        Seen::Constant(_) => false,
-        Seen::Formula(_) => frame.found.cell(at).is_none(),
-    }
 }
 
 /// Finds the values of cells for a frame that waits for nothing else, so that it lacks none of them, or gives the key of one
@@ -224,22 +215,29 @@ fn settle<M: Memo>(
     }
 }
 
-/// What a frame waits for where its formula lacks a value: for a cell, with those that are found together with it.
-fn awaited(alloc: Global, store: &Store, frame: &Frame, want: Want) -> Result<Waiting, AllocError>
-    requires asks { AsksAt store.now.sheet frame.now.key.world frame.now.key.cell want }
-    requires lacking { IsLacking store.now.sheet frame.now.key.world frame.now.found want }
-    ensures awaits { IfOk result (Awaits store.now.sheet (case_at frame.now.key) frame.now.found) }
-    ensures waits { IfOk result (λ w. waits w ≡ 1) }
+/// Lets a frame wait for what its formula lacks: for a cell, with those that are found together with it.
+fn wait_for(alloc: Global, store: &Store, frame: &mut Frame, want: Want) -> Result<(), AllocError>
+    requires asks { AsksAt store.now.sheet frame.old.key.world frame.old.key.cell want }
+    requires lacking { IsLacking store.now.sheet frame.old.key.world frame.old.found want }
+    ensures key { frame.new.key ≡ frame.old.key }
+    ensures found { frame.new.found ≡ frame.old.found }
+    ensures awaits { OnOk result (Awaits store.now.sheet (case_at frame.old.key) frame.old.found frame.new.waiting) }
+    ensures waits { OnOk result (waits frame.new.waiting ≡ 1) }
 {
     match want {
         Want::Cell(at) => {
             let Some(formula) = formula_at(store, frame.key.cell) else {
                 unreachable!()
             };
-            let others = together(alloc, store, formula, at, &frame.found)?;
-            Ok(Waiting::Cells(at, others))
+            let batch = together(alloc, store, frame, formula, at)?;
+            frame.keep_course(batch.course)?;
+            frame.waiting = Waiting::Cells(at, batch.cells);
+            Ok(())
         }
-        Want::WhatIf(at, pairs) => Ok(Waiting::WhatIf(at, pairs)),
+        Want::WhatIf(at, pairs) => {
+            frame.waiting = Waiting::WhatIf(at, pairs);
+            Ok(())
+        }
     }
 }
 
@@ -279,7 +277,7 @@ fn advance<M: Memo>(
             meter,
         )? {
             Outcome::Done(value) => return Ok(Advance::Done(value)),
-            Outcome::Needs(want) => frame.waiting = awaited(alloc, store, frame, want)?,
+            Outcome::Needs(want) => wait_for(alloc, store, frame, want)?,
         }
     }
 }

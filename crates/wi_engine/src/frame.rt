@@ -1,13 +1,14 @@
 //! A cell whose value is being found.
 
-ghost use Rattle.std.specs.Prelude.{◌≡◌, []};
+ghost use Rattle.std.specs.Prelude.{◌≡◌, [], Contains, IfSome};
 ghost use Rattle.wi_engine.specs.declared.frame.Waiting.TheVariants.{Nothing};
 
+use crate::course::Course;
 use crate::findings::Findings;
-use std::alloc::Global;
+use std::alloc::{AllocError, Global};
 use wi_cache::Key;
 use wi_parser::Pair;
-use wi_values::{Address, Value};
+use wi_values::{Address, Rect, Value};
 use wi_worlds::World;
 
 /// What a frame waits for.
@@ -26,6 +27,8 @@ pub struct Frame {
     pub key: Key,
     pub found: Findings,
     pub waiting: Waiting,
+    /// One for each of the formula's rectangles from which a cell was wanted.
+    pub courses: Vec<Course>,
 }
 
 impl Frame {
@@ -40,7 +43,35 @@ impl Frame {
             key,
             found: Findings::new(alloc),
             waiting: Waiting::Nothing,
+            courses: Vec::new(alloc),
         }
+    }
+
+    /// The course through a rectangle. The work grows with the count of courses.
+    pub fn course_through(&self, rectangle: Rect) -> Option<Course>
+        ensures { IfSome result (λ c. Contains self.now.courses.items c × (c.rectangle ≡ rectangle)) }
+    {
+        for course in &self.courses {
+            if course.rectangle == rectangle {
+                return Some(*course);
+            }
+        }
+        None
+    }
+
+    /// Keeps a course, in the place of an earlier one through its rectangle. The work grows with the count of courses.
+    pub fn keep_course(&mut self, course: Course) -> Result<(), AllocError>
+        ensures key { self.new.key ≡ self.old.key }
+        ensures found { self.new.found ≡ self.old.found }
+    {
+        for kept in self.courses.iter_mut() {
+            if kept.rectangle == course.rectangle {
+                *kept = course;
+                return Ok(());
+            }
+        }
+        self.courses.push(course)?;
+        Ok(())
     }
 
     /// The key, where the rest is no longer of use.

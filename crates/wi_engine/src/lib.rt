@@ -3,15 +3,18 @@
 
 mod attempt;
 mod cone;
+mod course;
 mod engine;
 mod filled;
 mod findings;
 mod frame;
+mod lacking;
 mod lookup;
 mod memo;
 mod occupied;
 mod remembered;
 mod seen;
+mod together;
 mod walk;
 
 pub use engine::value_under;

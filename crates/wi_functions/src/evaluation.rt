@@ -90,8 +90,10 @@ pub fn evaluate<L: Lookup>(
     lookup: &L,
     meter: &mut Meter,
 ) -> Result<Outcome, AllocError>
-    // Where it is done, the value is that of each assignment of which what is known is a part.
+    // Where it is done, the value is that of each assignment of which what is known is a part,
     ensures done { IfOk result (λ o. IfDone o (λ v. (a : Assignment) → AgreesWith (L.known_cell lookup.now) (L.known_what_if lookup.now) a → v ≡ formulas.zero_for_empty (formulas.meaning formula.now a.cells a.what_ifs))) }
+    // and the formula means one value by all of these.
+    ensures one_meaning { IfOk result (λ o. IfDone o (λ _. (a b : Assignment) → AgreesWith (L.known_cell lookup.now) (L.known_what_if lookup.now) a → AgreesWith (L.known_cell lookup.now) (L.known_what_if lookup.now) b → formulas.meaning formula.now a.cells a.what_ifs ≡ formulas.meaning formula.now b.cells b.what_ifs)) }
     ensures asked { IfOk result (λ o. IfWanting o (Asks formula.now)) }
     ensures unknown { IfOk result (λ o. IfWanting o (IsUnknown (L.known_cell lookup.now) (L.known_what_if lookup.now))) }
     ensures counted { IfOk result (λ o. meter.new ≡ counted o meter.old) }

@@ -3,4 +3,5 @@ pub mod Export
 pub mod Table
 pub mod Contents
 pub mod Compare
+pub mod Looks
 pub mod Changes

@@ -1,10 +1,11 @@
 //! What has changed since a picture, and a record for each change.
 
-ghost use Rattle.std.specs.Prelude.{◌≡◌, ◌++◌, [], IfOk, OnOk, OnErr};
+ghost use Rattle.std.specs.Prelude.{◌≡◌, ◌≤◌, ◌+◌, ◌++◌, [], IfOk, OnOk, OnErr};
 ghost use Rattle.std.specs.Io.{StartsWith};
 ghost use Rattle.wi_values.specs.Replacements.{IsInOrder};
 ghost use Rattle.wi_sheet.specs.Shown as show;
 ghost use Rattle.wi_sessions.specs.Pictures.{changes_among};
+ghost use Rattle.wi_reports.specs.Looks.{evaluations_for, restarts_for};
 ghost use Rattle.wi_reports.specs.Changes.{kind_text, change_record, change_records};
 
 use crate::texts::{address_text, shown_text};
@@ -30,6 +31,12 @@ pub fn find_changes<C: Calculator>(
     ensures same { C.stored calculator.new ≡ C.stored calculator.old }
     ensures quiet { cells.now ≡ []
         → (C.evaluated calculator.new ≡ C.evaluated calculator.old) × (C.restarted calculator.new ≡ C.restarted calculator.old) }
+
+    // No more is evaluated than what these cells demand, also where memory runs out.
+    ensures evaluations { let sheet = (C.stored calculator.old).sheet in
+        C.evaluated calculator.new ≤ C.evaluated calculator.old + evaluations_for sheet put.now cells.now }
+    ensures restarts { let sheet = (C.stored calculator.old).sheet in
+        C.restarted calculator.new ≤ C.restarted calculator.old + restarts_for sheet put.now cells.now }
 {
     let mut found = Vec::new(alloc);
     for at in cells {

@@ -1,18 +1,25 @@
 -- What `clear` answers.
-use Rattle.std.proofs.Common.{◌≡◌, List, Result}
-use Rattle.std.specs.Prelude.{ℕ}
-use Rattle.wi_values.specs.Address.{Area}
-use Rattle.wi_store.specs.Store.{applied}
+use Rattle.std.proofs.Common.{◌≡◌, ℕ, Bool, List, [], ◌∷◌, map, Option, None, Result, ap, ◌∙◌, subst}
+use Rattle.std.specs.Prelude.{filter}
+use Rattle.std.specs.Map.{keys_of}
+use Rattle.wi_values.specs.Address.{Area, is_within}
+use Rattle.wi_parser.specs.declared.content.Content.{Content}
+use Rattle.wi_parser.specs.Sheet.{Sheet}
 use Rattle.wi_scenarios.specs.declared.refusal.Refusal.{Refusal}
 use Rattle.wi_scenarios.specs.State.{State}
-use Rattle.wi_scenarios.specs.Answer.{Answer, Serves}
+use Rattle.wi_scenarios.specs.Answer.{Serves}
+use Rattle.wi_scenarios.specs.Causes.{no_cause}
+use Rattle.wi_scenarios.specs.Edits.{Edit, edit_answer}
 use Rattle.wi_scenarios.specs.Clear.{clear_edit, clear_step}
-use Rattle.wi_scenarios.proofs.AnswerLemmas.{stored_answer, stored_is, ServesFound, serves_step}
+use Rattle.wi_scenarios.proofs.EditLemmas.{same_edit}
 
--- the answer that is found
-abbrev pub cleared : State → Area → Answer
-cleared s area = stored_answer s (applied s.stored (clear_edit s.stored.sheet area))
+-- the edit that is made is that of the definition
+pub emptied_are : (sheet : Sheet) (area : Area) (cells : List ℕ) (contents : List (ℕ × Option Content)) → cells ≡ filter (is_within area) (keys_of sheet) → contents ≡ map (λ a. (a, None)) cells →
+    contents ≡ (clear_edit sheet area).contents
+emptied_are sheet area cells contents c e = e ∙ ap (map (λ (a : ℕ). let x : ℕ × Option Content = (a, None) in x)) c
 
-pub clear_served : (r : Result (Unit {0}) Refusal) (s t : State) (area : Area) (records : List ℕ) → ServesFound (cleared s area) r s t records → Serves (λ a. clear_step s area ≡ a) r s t records
-clear_served r s t area records h =
-    serves_step (clear_step s area) (cleared s area) (stored_is s (applied s.stored (clear_edit s.stored.sheet area))) r s t records h
+pub clear_edited : (r : Result (Unit {0}) Refusal) (s t : State) (force : Bool) (area : Area) (named : List Area) (contents : List (ℕ × Option Content)) → named ≡ area ∷ [] → contents ≡ (clear_edit s.stored.sheet area).contents →
+    Serves (λ a. edit_answer s force no_cause (record { named = named; contents = contents }) ≡ a) r s t [] → Serves (λ a. clear_step s force area ≡ a) r s t []
+clear_edited r s t force area named contents n c =
+    subst (λ (e : Edit). Serves (λ a. edit_answer s force no_cause e ≡ a) r s t [])
+    (same_edit named (area ∷ []) contents (clear_edit s.stored.sheet area).contents n c)

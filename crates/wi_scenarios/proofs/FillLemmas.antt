@@ -1,6 +1,7 @@
 -- What `fill` answers, and the copies that it makes.
 use Rattle.std.proofs.Common.{◌≡◌, ℕ, zero, suc, add-one, ◌+◌, ◌-◌, Bool, true, false, not, ◌||◌, if◌then◌else◌, List, [], ◌∷◌, ◌++◌, map, Option, Some, None, Result, Err, refl, sym, ap, ◌∙◌, subst, arith, ◌≤◌, ◌<◌, ◌⊎◌, inl, inr, append_assoc}
 use Rattle.std.specs.Prelude.{nat_lt, is_some}
+use Rattle.std.specs.Map.{keys_of}
 use Rattle.std.specs.List.{list_any, flat_map, range_with_len}
 use Rattle.std.proofs.lemmas.List.{map-append, flat_map_more}
 use Rattle.std.proofs.lemmas.List.FromFn.{map-range_with_len_more}
@@ -10,45 +11,49 @@ use Rattle.wi_parser.specs.declared.content.Content.{Content}
 use Rattle.wi_parser.specs.Sheet.{content_of}
 use Rattle.std.specs.Result.{IsErrAnd}
 use Rattle.std.proofs.lemmas.Result.{err_from_is_err_and}
-use Rattle.wi_store.specs.declared.fault.StoreFault.{StoreFault}
-use Rattle.wi_store.specs.Store.{applied, Applies}
 use Rattle.wi_scenarios.specs.declared.refusal.Refusal.{Refusal}
-use Rattle.wi_scenarios.specs.declared.refusal.Refusal.TheVariants.{TooLarge, LeavesSheet}
+use Rattle.wi_scenarios.specs.declared.refusal.Refusal.TheVariants.{Memory, TooLarge, LeavesSheet}
 use Rattle.wi_scenarios.specs.State.{State}
-use Rattle.wi_scenarios.specs.Answer.{Answer, may_grow, Serves}
+use Rattle.wi_scenarios.specs.Answer.{Answer, may_grow, MayRefuse, Serves}
 use Rattle.wi_scenarios.specs.Causes.{no_cause}
-use Rattle.wi_scenarios.specs.Edits.{Edit, edit_answer, edit_refusal}
+use Rattle.wi_scenarios.specs.Edits.{Edit, edit_answer}
 use Rattle.wi_scenarios.specs.Fill.{fill_edit, fill_step, shift_refusal, has_no_copy, or_nothing}
-use Rattle.wi_scenarios.specs.Show.{max_area}
+use Rattle.wi_scenarios.specs.Areas.{max_area}
 use Rattle.wi_parser.specs.declared.shift.ShiftFault.{ShiftFault}
 use Rattle.wi_parser.specs.declared.shift.ShiftFault.TheVariants as shift
 use Rattle.wi_scenarios.specs.Inner.Copies.{copy_to, leaves, AreCopies, CopiesAs, HasNoCopies}
 use Rattle.std.proofs.lemmas.Bool.{false≢true, cases_lt}
-use Rattle.wi_scenarios.proofs.AnswerLemmas.{stored_answer, stored_is, stored_grows, MayRefuseFound, ServesFound, serves_step, edit_faulted}
+use Rattle.wi_scenarios.proofs.EditLemmas.{edit_grows, same_edit}
 
 -- the answer that is found, where the rectangle is too large or not, and a copy leaves the sheet or not
-abbrev pub filled_by : State → Bool → Bool → Edit → Answer
-filled_by s large outside e = if large then Err TooLarge else (if outside then Err LeavesSheet else stored_answer s (applied s.stored e))
+abbrev pub filled_by : State → Bool → Bool → Bool → Edit → Answer
+filled_by s force large outside e = if large then Err TooLarge else (if outside then Err LeavesSheet else edit_answer s force no_cause e)
 
-abbrev pub filled : State → ℕ → Area → Answer
-filled s from area =
-    filled_by s (nat_lt max_area (size_of area)) (list_any (has_no_copy s.stored.sheet from) (cells_of area)) (fill_edit s.stored.sheet from area)
+by_causes : (s : State) (force large outside : Bool) (e : Edit) → edit_answer s force (record no_cause { too_large = large; leaves_sheet = outside }) e ≡ filled_by s force large outside e
+by_causes s force true outside e = refl
+by_causes s force false true e = refl
+by_causes s force false false e = refl
 
-by_causes : (s : State) (large outside : Bool) (e : Edit) → edit_answer s (record no_cause { too_large = large; leaves_sheet = outside }) e ≡ filled_by s large outside e
-by_causes s true outside e = refl
-by_causes s false true e = refl
-by_causes s false false e = stored_is s (applied s.stored e)
+-- a rectangle that is too large, or not
+step_is : (s : State) (force : Bool) (from : ℕ) (area : Area) (large outside : Bool) → nat_lt max_area (size_of area) ≡ large → list_any (has_no_copy s.stored.sheet from) (cells_of area) ≡ outside →
+    fill_step s force from area ≡ filled_by s force large outside (fill_edit s.stored.sheet from area)
+step_is s force from area large outside l o =
+    by_causes s force (nat_lt max_area (size_of area)) (list_any (has_no_copy s.stored.sheet from) (cells_of area)) (fill_edit s.stored.sheet from area)
+    ∙ ap (λ (b : Bool). filled_by s force b (list_any (has_no_copy s.stored.sheet from) (cells_of area)) (fill_edit s.stored.sheet from area)) l
+    ∙ ap (λ (b : Bool). filled_by s force large b (fill_edit s.stored.sheet from area)) o
 
-pub fill_served : (r : Result (Unit {0}) Refusal) (s t : State) (from : ℕ) (area : Area) (records : List ℕ) → ServesFound (filled s from area) r s t records → Serves (λ a. fill_step s from area ≡ a) r s t records
-fill_served r s t from area records h =
-    serves_step (fill_step s from area) (filled s from area)
-    (by_causes s (nat_lt max_area (size_of area)) (list_any (has_no_copy s.stored.sheet from) (cells_of area)) (fill_edit s.stored.sheet from area)) r s t records h
+pub fill_too_large : (s : State) (force : Bool) (from : ℕ) (area : Area) → nat_lt max_area (size_of area) ≡ true → Serves (λ a. fill_step s force from area ≡ a) (Err TooLarge) s s []
+fill_too_large s force from area l = (step_is s force from area true _ l refl, refl, refl)
 
 -- of a rectangle that isn't too large something may grow before the answer
-pub filled_grows : (s : State) (large outside : Bool) (e : Edit) → large ≡ false → may_grow (filled_by s large outside e) ≡ true
-filled_grows s true outside e h = absurd (let z = h in cc)
-filled_grows s false true e h = refl
-filled_grows s false false e h = stored_grows s (applied s.stored e)
+filled_grows : (s : State) (force outside : Bool) (e : Edit) → may_grow (filled_by s force false outside e) ≡ true
+filled_grows s force true e = refl
+filled_grows s force false e = edit_grows s force e
+
+fill_grows : (s : State) (force : Bool) (from : ℕ) (area : Area) → nat_lt max_area (size_of area) ≡ false → may_grow (fill_step s force from area) ≡ true
+fill_grows s force from area l =
+    let outside = list_any (has_no_copy s.stored.sheet from) (cells_of area) in
+    ap may_grow (step_is s force from area false outside l refl) ∙ filled_grows s force outside (fill_edit s.stored.sheet from area)
 
 -- ---- copies, one after another
 
@@ -56,7 +61,7 @@ pub no_copies : (content : Option Content) (from : ℕ) → AreCopies content fr
 no_copies content from = record { all = refl; each = refl }
 
 -- one more copy
-pub one_copy : (content : Option Content) (from to : ℕ) (cells : List ℕ) (changes new : Edit) (copy : Option Content) → copy_to content from to ≡ Some copy → new ≡ changes ++ (to, copy) ∷ []
+pub one_copy : (content : Option Content) (from to : ℕ) (cells : List ℕ) (changes new : List (ℕ × Option Content)) (copy : Option Content) → copy_to content from to ≡ Some copy → new ≡ changes ++ (to, copy) ∷ []
     → AreCopies content from cells changes → AreCopies content from (cells ++ to ∷ []) new
 one_copy content from to cells changes new copy e grown h = record {
   all =
@@ -64,7 +69,7 @@ one_copy content from to cells changes new copy e grown h = record {
       ∙ ap (λ (b : Bool). b || list_any (leaves content from) (to ∷ [])) h.all
       ∙ ap (λ o. not (is_some o) || false) e;
   each =
-      grown ∙ ap (λ (xs : Edit). xs ++ (to, copy) ∷ []) h.each
+      grown ∙ ap (λ (xs : List (ℕ × Option Content)). xs ++ (to, copy) ∷ []) h.each
       ∙ ap (λ o. map (λ to. (to, or_nothing (copy_to content from to))) cells ++ (to, or_nothing o) ∷ []) (sym e)
       ∙ sym (map-append (λ to. (to, or_nothing (copy_to content from to))) cells (to ∷ []));
 }
@@ -127,7 +132,7 @@ row_is area row upper first lower last n u_is first_is l_is last_is e =
     ap (λ x. cells_in row x n) a ∙ ap (cells_in row (column_of area.first)) all
 
 -- one more cell of a row gets its copy
-pub one_cell : (content : Option Content) (from row first n m column to : ℕ) (cells : List ℕ) (changes new : Edit) (copy : Option Content) → first + n ≡ column → m ≡ n + 1 → to ≡ place row column
+pub one_cell : (content : Option Content) (from row first n m column to : ℕ) (cells : List ℕ) (changes new : List (ℕ × Option Content)) (copy : Option Content) → first + n ≡ column → m ≡ n + 1 → to ≡ place row column
     → copy_to content from to ≡ Some copy → new ≡ changes ++ (to, copy) ∷ [] → AreCopies content from (cells ++ cells_in row first n) changes → AreCopies content from (cells ++ cells_in row first m) new
 one_cell content from row first n m column to cells changes new copy e more at found grown h =
     let same : cells ++ cells_in row first m ≡ (cells ++ cells_in row first n) ++ to ∷ [] =
@@ -175,42 +180,48 @@ one_row area first n m row e more =
 
 -- ---- a fill that is refused
 
-pub fill_leaves : (r : Result (Unit {0}) Refusal) (s : State) (content : Option Content) (from : ℕ) (area : Area) (fault : ShiftFault) → content ≡ content_of s.stored.sheet from
-    → nat_lt max_area (size_of area) ≡ false → IsErrAnd r (λ e. e ≡ shift_refusal fault) → HasNoCopies content from (cells_of area) fault → Serves (λ a. fill_step s from area ≡ a) r s s []
-fill_leaves r s content from area fault at small k none =
+pub fill_leaves : (r : Result (Unit {0}) Refusal) (s : State) (force : Bool) (content : Option Content) (from : ℕ) (area : Area) (fault : ShiftFault) → content ≡ content_of s.stored.sheet from
+    → nat_lt max_area (size_of area) ≡ false → IsErrAnd r (λ e. e ≡ shift_refusal fault) → HasNoCopies content from (cells_of area) fault → Serves (λ a. fill_step s force from area ≡ a) r s s []
+fill_leaves r s force content from area fault at small k none =
     let p = err_from_is_err_and r k in
-    subst (λ x. Serves (λ a. fill_step s from area ≡ a) x s s []) (sym p.1) (fill_served (Err p.0) s s from area [] (by p.0 fault p.2 none, refl, refl))
+    subst (λ x. Serves (λ a. fill_step s force from area ≡ a) x s s []) (sym p.1) (by p.0 fault p.2 none, refl, refl)
   where
-    edit : Edit
-    edit = fill_edit s.stored.sheet from area
-
-    by : (e : Refusal) (f : ShiftFault) → e ≡ shift_refusal f → HasNoCopies content from (cells_of area) f → MayRefuseFound e (filled s from area)
+    by : (e : Refusal) (f : ShiftFault) → e ≡ shift_refusal f → HasNoCopies content from (cells_of area) f → MayRefuse e (λ a. fill_step s force from area ≡ a)
     by e shift.LeavesSheet same outside =
         let leaves_it : list_any (has_no_copy s.stored.sheet from) (cells_of area) ≡ true =
         subst (λ c. list_any (leaves c from) (cells_of area) ≡ true) at outside in
-        let found : filled s from area ≡ Err LeavesSheet =
-        ap (λ (b : Bool). filled_by s b (list_any (has_no_copy s.stored.sheet from) (cells_of area)) edit) small ∙ ap (λ (b : Bool). filled_by s false b edit) leaves_it in
-        subst (λ x. MayRefuseFound x (filled s from area)) (sym same) found
+        subst (λ (x : Refusal). MayRefuse x (λ a. fill_step s force from area ≡ a)) (sym same) (step_is s force from area false true small leaves_it)
     by e shift.Memory same u =
-        subst (λ x. MayRefuseFound x (filled s from area)) (sym same)
-        (filled_grows s (nat_lt max_area (size_of area)) (list_any (has_no_copy s.stored.sheet from) (cells_of area)) edit small)
+        subst (λ (x : Refusal). MayRefuse x (λ a. fill_step s force from area ≡ a)) (sym same)
+        (record { answer = fill_step s force from area; is_answer = refl; grows = fill_grows s force from area small })
 
-pub fill_faulted : (r : Result (Unit {0}) Refusal) (s t : State) (content : Option Content) (from : ℕ) (area : Area) (changes : Edit) (fault : StoreFault) → content ≡ content_of s.stored.sheet from
-    → nat_lt max_area (size_of area) ≡ false → AreCopies content from (cells_of area) changes → IsErrAnd r (λ e. e ≡ edit_refusal fault)
-    → Applies (applied s.stored changes) (Err fault) s.stored t.stored → Serves (λ a. fill_step s from area ≡ a) r s t []
-fill_faulted r s t content from area changes fault at small copied k applies =
+pub fill_lacks : (r : Result (Unit {0}) Refusal) (s : State) (force : Bool) (from : ℕ) (area : Area) → nat_lt max_area (size_of area) ≡ false → IsErrAnd r (λ e. e ≡ Memory)
+    → Serves (λ a. fill_step s force from area ≡ a) r s s []
+fill_lacks r s force from area small k =
     let p = err_from_is_err_and r k in
-    subst (λ x. Serves (λ a. fill_step s from area ≡ a) x s t []) (sym p.1)
-    (fill_served (Err p.0) s t from area [] (subst (λ a. ServesFound a (Err p.0) s t []) (sym found) (edit_faulted s t (applied s.stored changes) fault p.0 p.2 applies)))
-  where
-    all : list_any (has_no_copy s.stored.sheet from) (cells_of area) ≡ false
-    all = subst (λ c. list_any (leaves c from) (cells_of area) ≡ false) at copied.all
+    let same : r ≡ Err Memory = p.1 ∙ ap (λ (x : Refusal). let y : Result (Unit {0}) Refusal = Err x in y) p.2 in
+    subst (λ (x : Result (Unit {0}) Refusal). Serves (λ a. fill_step s force from area ≡ a) x s s []) (sym same)
+    (record { answer = fill_step s force from area; is_answer = refl; grows = fill_grows s force from area small }, refl, refl)
 
-    each : changes ≡ fill_edit s.stored.sheet from area
-    each = subst (λ c. changes ≡ map (λ to. (to, or_nothing (copy_to c from to))) (cells_of area)) at copied.each
+-- ---- a fill with copies
 
-    found : filled s from area ≡ stored_answer s (applied s.stored changes)
-    found =
-        ap (λ (b : Bool). filled_by s b (list_any (has_no_copy s.stored.sheet from) (cells_of area)) (fill_edit s.stored.sheet from area)) small
-        ∙ ap (λ (b : Bool). filled_by s false b (fill_edit s.stored.sheet from area)) all
-        ∙ ap (λ (x : Edit). stored_answer s (applied s.stored x)) (sym each)
+module _ (s t : State) (force : Bool) (content : Option Content) (from : ℕ) (area : Area) (named : List Area) (contents : List (ℕ × Option Content))
+    (at : content ≡ content_of s.stored.sheet from) (copies : AreCopies content from (cells_of area) contents) where
+  copies_are : contents ≡ (fill_edit s.stored.sheet from area).contents
+  copies_are = subst (λ c. contents ≡ map (λ to. (to, or_nothing (copy_to c from to))) (cells_of area)) at copies.each
+
+  pub fill_edited : (r : Result (Unit {0}) Refusal) → nat_lt max_area (size_of area) ≡ false → named ≡ area ∷ []
+      → Serves (λ a. edit_answer s force no_cause (record { named = named; contents = contents }) ≡ a) r s t [] → Serves (λ a. fill_step s force from area ≡ a) r s t []
+  fill_edited r small n h =
+      let all : list_any (has_no_copy s.stored.sheet from) (cells_of area) ≡ false = subst (λ c. list_any (leaves c from) (cells_of area) ≡ false) at copies.all in
+      let same : ◌≡◌ {A = Edit} (record { named = named; contents = contents }) (fill_edit s.stored.sheet from area) =
+      same_edit named (area ∷ []) contents (fill_edit s.stored.sheet from area).contents n copies_are in
+      subst (λ (x : Answer). Serves (λ a. x ≡ a) r s t []) (ap (edit_answer s force no_cause) same ∙ sym (step_is s force from area false false small all)) h
+
+keys_of_copies : (f : ℕ → Option Content) (cells : List ℕ) → keys_of (map (λ to. (to, f to)) cells) ≡ cells
+keys_of_copies f [] = refl
+keys_of_copies f (c ∷ cells) = ap (λ (xs : List ℕ). c ∷ xs) (keys_of_copies f cells)
+
+-- the cells that get them
+pub copied_cells : (content : Option Content) (from : ℕ) (cells : List ℕ) (contents : List (ℕ × Option Content)) → AreCopies content from cells contents → keys_of contents ≡ cells
+copied_cells content from cells contents h = ap keys_of h.each ∙ keys_of_copies (λ to. or_nothing (copy_to content from to)) cells

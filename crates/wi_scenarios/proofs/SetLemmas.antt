@@ -1,48 +1,114 @@
 -- What `set` answers.
-use Rattle.std.proofs.Common.{◌≡◌, ℕ, Bool, true, false, ◌==◌, List, [], ◌∷◌, length, Some, Result, Ok, Err, if◌then◌else◌, refl, sym, ap, ◌∙◌, subst}
+use Rattle.std.proofs.Common.{◌≡◌, ℕ, Bool, true, false, ◌==◌, min, max, List, [], ◌∷◌, length, Option, Some, Result, Ok, Err, if◌then◌else◌, refl, sym, ap, ◌∙◌, subst, arith}
+use Rattle.std.specs.Result.{IsErrAnd}
+use Rattle.std.proofs.lemmas.Result.{err_from_is_err_and}
+use Rattle.wi_values.specs.Address.{Area, place, row_of, column_of, rect_of}
 use Rattle.wi_parser.specs.declared.content.Content.{Content}
 use Rattle.wi_parser.specs.declared.fault.ParseFault.{ParseFault}
-use Rattle.wi_parser.specs.Inner.Reading.{content_read}
+use Rattle.wi_parser.specs.declared.fault.ParseFault.TheVariants as parse
+use Rattle.wi_parser.specs.Inner.Reading.{content_read, is_too_long, ReadsAs}
 use Rattle.wi_parser.proofs.ContentsOfTexts.{content_is_one}
-use Rattle.wi_store.specs.Store.{applied}
 use Rattle.wi_scenarios.specs.declared.refusal.Refusal.{Refusal}
-use Rattle.wi_scenarios.specs.declared.refusal.Refusal.TheVariants.{BadCommand}
+use Rattle.wi_scenarios.specs.declared.refusal.Refusal.TheVariants.{Memory, BadCommand}
 use Rattle.wi_scenarios.specs.State.{State}
-use Rattle.wi_scenarios.specs.Answer.{Answer, Serves, parse_refusal}
+use Rattle.wi_scenarios.specs.Answer.{Answer, may_grow, Serves, parse_refusal}
 use Rattle.wi_scenarios.specs.Causes.{no_cause}
-use Rattle.wi_scenarios.specs.Edits.{edit_answer}
-use Rattle.wi_scenarios.specs.Set.{IsSetStep, set_edit, fault_in}
-use Rattle.wi_scenarios.proofs.AnswerLemmas.{stored_answer, stored_is, ServesFound, serves}
+use Rattle.wi_scenarios.specs.Edits.{Edit, edit_answer}
+use Rattle.wi_scenarios.specs.Set.{IsSetStep, set_edit, cell_area, fault_in}
+use Rattle.wi_scenarios.proofs.AnswerLemmas.{MayRefuseFound, ServesFound, serves, serves_as}
+use Rattle.wi_scenarios.proofs.EditLemmas.{edit_grows, same_edit}
 
 -- the answer to putting what was read into a cell
-abbrev pub put_answer : State → ℕ → Result Content ParseFault → Answer
-put_answer s at (Ok content) = stored_answer s (applied s.stored ((at, Some content) ∷ []))
-put_answer s at (Err e) = Err (parse_refusal e)
+abbrev pub put_answer : State → Bool → ℕ → Result Content ParseFault → Answer
+put_answer s force at (Ok content) = edit_answer s force no_cause (set_edit at (Ok content))
+put_answer s force at (Err e) = Err (parse_refusal e)
 
 -- the same, where the text is empty or not
-abbrev pub answer_by : State → ℕ → Bool → Result Content ParseFault → Answer
-answer_by s at none r = if none then Err BadCommand else put_answer s at r
+abbrev pub answer_by : State → Bool → ℕ → Bool → Result Content ParseFault → Answer
+answer_by s force at none r = if none then Err BadCommand else put_answer s force at r
 
 -- the answer that is found
-abbrev pub found : State → ℕ → List ℕ → Answer
-found s at text = answer_by s at (length text == 0) (content_read text)
+abbrev pub found : State → Bool → ℕ → List ℕ → Answer
+found s force at text = answer_by s force at (length text == 0) (content_read text)
 
-by_causes : (s : State) (at : ℕ) (none : Bool) (r : Result Content ParseFault) → edit_answer s (record no_cause { bad_command = none; content = fault_in r }) (set_edit at r) ≡ answer_by s at none r
-by_causes s at true r = refl
-by_causes s at false (Ok content) = stored_is s (applied s.stored ((at, Some content) ∷ []))
-by_causes s at false (Err e) = refl
+by_causes : (s : State) (force : Bool) (at : ℕ) (none : Bool) (r : Result Content ParseFault) →
+    edit_answer s force (record no_cause { bad_command = none; content = fault_in r }) (set_edit at r) ≡ answer_by s force at none r
+by_causes s force at true r = refl
+by_causes s force at false (Ok content) = refl
+by_causes s force at false (Err e) = refl
 
-pub set_found : (s : State) (at : ℕ) (text : List ℕ) → IsSetStep s at text (found s at text)
-set_found s at text =
+pub set_found : (s : State) (force : Bool) (at : ℕ) (text : List ℕ) → IsSetStep s force at text (found s force at text)
+set_found s force at text =
     let r = content_read text in
-    record { read = r; is_read = (content_is_one text r).1 refl; answered = by_causes s at (length text == 0) r }
+    record { read = r; is_read = (content_is_one text r).1 refl; answered = by_causes s force at (length text == 0) r }
 
-pub set_answered : (s : State) (at : ℕ) (text : List ℕ) (a : Answer) → found s at text ≡ a → IsSetStep s at text a
-set_answered s at text a e = subst (IsSetStep s at text) e (set_found s at text)
+pub set_only : (s : State) (force : Bool) (at : ℕ) (text : List ℕ) (a : Answer) → IsSetStep s force at text a → found s force at text ≡ a
+set_only s force at text a h =
+    ap (answer_by s force at (length text == 0)) ((content_is_one text h.read).0 h.is_read) ∙ sym (by_causes s force at (length text == 0) h.read) ∙ h.answered
 
-pub set_only : (s : State) (at : ℕ) (text : List ℕ) (a : Answer) → IsSetStep s at text a → found s at text ≡ a
-set_only s at text a h =
-    ap (answer_by s at (length text == 0)) ((content_is_one text h.read).0 h.is_read) ∙ sym (by_causes s at (length text == 0) h.read) ∙ h.answered
+pub set_served : (r : Result (Unit {0}) Refusal) (s t : State) (force : Bool) (at : ℕ) (text records : List ℕ) → ServesFound (found s force at text) r s t records → Serves (IsSetStep s force at text) r s t records
+set_served r s t force at text records h = serves (IsSetStep s force at text) (found s force at text) (set_found s force at text) r s t records h
 
-pub set_served : (r : Result (Unit {0}) Refusal) (s t : State) (at : ℕ) (text records : List ℕ) → ServesFound (found s at text) r s t records → Serves (IsSetStep s at text) r s t records
-set_served r s t at text records h = serves (IsSetStep s at text) (found s at text) (set_found s at text) r s t records h
+-- an empty text
+pub set_empty : (s : State) (force : Bool) (at : ℕ) (text : List ℕ) → (length text == 0) ≡ true → IsSetStep s force at text (Err BadCommand)
+set_empty s force at text e = subst (IsSetStep s force at text) (ap (λ (none : Bool). answer_by s force at none (content_read text)) e) (set_found s force at text)
+
+-- ---- a text that is not empty
+
+module _ (s : State) (force : Bool) (at : ℕ) (text : List ℕ) (some : (length text == 0) ≡ false) where
+  found_is : (r : Result Content ParseFault) → content_read text ≡ r → found s force at text ≡ put_answer s force at r
+  found_is r e =
+      ap (λ (none : Bool). answer_by s force at none (content_read text)) some ∙ ap (put_answer s force at) e
+
+  put_grows : (r : Result Content ParseFault) → is_too_long r ≡ false → may_grow (put_answer s force at r) ≡ true
+  put_grows (Ok content) h = edit_grows s force (set_edit at (Ok content))
+  put_grows (Err parse.TooLong) h = cc
+  put_grows (Err parse.OutOfSheet) h = refl
+  put_grows (Err parse.NumberRange) h = refl
+  put_grows (Err parse.TooDeep) h = refl
+  put_grows (Err parse.Syntax) h = refl
+  put_grows (Err parse.Memory) h = refl
+
+  at_fault : (e : Refusal) (fault : ParseFault) → e ≡ parse_refusal fault → ReadsAs (content_read text) (Err fault) → MayRefuseFound e (found s force at text)
+  at_fault e parse.Memory same h =
+      subst (λ (x : Refusal). MayRefuseFound x (found s force at text)) (sym same) (ap may_grow (found_is (content_read text) refl) ∙ put_grows (content_read text) h)
+  at_fault e parse.TooLong same h = subst (λ (x : Refusal). MayRefuseFound x (found s force at text)) (sym same) (found_is (Err parse.TooLong) h)
+  at_fault e parse.OutOfSheet same h = subst (λ (x : Refusal). MayRefuseFound x (found s force at text)) (sym same) (found_is (Err parse.OutOfSheet) h)
+  at_fault e parse.NumberRange same h = subst (λ (x : Refusal). MayRefuseFound x (found s force at text)) (sym same) (found_is (Err parse.NumberRange) h)
+  at_fault e parse.TooDeep same h = subst (λ (x : Refusal). MayRefuseFound x (found s force at text)) (sym same) (found_is (Err parse.TooDeep) h)
+  at_fault e parse.Syntax same h = subst (λ (x : Refusal). MayRefuseFound x (found s force at text)) (sym same) (found_is (Err parse.Syntax) h)
+
+  -- it can't be read
+  pub set_refused : (r : Result (Unit {0}) Refusal) (fault : ParseFault) → IsErrAnd r (λ e. e ≡ parse_refusal fault) → ReadsAs (content_read text) (Err fault) → Serves (IsSetStep s force at text) r s s []
+  set_refused r fault k h =
+      let p = err_from_is_err_and r k in
+      subst (λ (x : Result (Unit {0}) Refusal). Serves (IsSetStep s force at text) x s s []) (sym p.1)
+      (set_served (Err p.0) s s force at text [] (at_fault p.0 fault p.2 h, refl, refl))
+
+  -- it is read, and memory runs out then
+  pub set_lacks : (r : Result (Unit {0}) Refusal) (content : Content) → IsErrAnd r (λ e. e ≡ Memory) → content_read text ≡ Ok content → Serves (IsSetStep s force at text) r s s []
+  set_lacks r content k h =
+      let p = err_from_is_err_and r k in
+      let e : r ≡ Err Memory = p.1 ∙ ap (λ (x : Refusal). let y : Result (Unit {0}) Refusal = Err x in y) p.2 in
+      subst (λ (x : Result (Unit {0}) Refusal). Serves (IsSetStep s force at text) x s s []) (sym e)
+      (set_served (Err Memory) s s force at text [] (ap may_grow (found_is (Ok content) h) ∙ edit_grows s force (set_edit at (Ok content)), refl, refl))
+
+  -- it is read, and put into the cell
+  pub set_edited : (r : Result (Unit {0}) Refusal) (t : State) (content : Content) (e : Edit) → content_read text ≡ Ok content → e ≡ set_edit at (Ok content)
+      → Serves (λ a. edit_answer s force no_cause e ≡ a) r s t [] → Serves (IsSetStep s force at text) r s t []
+  set_edited r t content e h same =
+      serves_as (λ a. edit_answer s force no_cause e ≡ a) (IsSetStep s force at text)
+      (λ a k. subst (IsSetStep s force at text) (found_is (Ok content) h ∙ ap (edit_answer s force no_cause) (sym same) ∙ k) (set_found s force at text)) r s t []
+
+-- ---- the edit
+
+rect_cell : (at : ℕ) → rect_of at at ≡ cell_area at
+rect_cell at =
+    let first : place (min (row_of at) (row_of at)) (min (column_of at) (column_of at)) ≡ at = omega arith in
+    let last : place (max (row_of at) (row_of at)) (max (column_of at) (column_of at)) ≡ at = omega arith in
+    cc
+
+pub one_cell_edit : (at : ℕ) (content : Content) (area : Area) (named : List Area) (contents : List (ℕ × Option Content)) → area ≡ rect_of at at → named ≡ area ∷ [] → contents ≡ (at, Some content) ∷ [] →
+    ◌≡◌ {A = Edit} (record { named = named; contents = contents }) (set_edit at (Ok content))
+one_cell_edit at content area named contents a n c =
+    same_edit named (cell_area at ∷ []) contents ((at, Some content) ∷ []) (n ∙ ap (λ (x : Area). x ∷ []) (a ∙ rect_cell at)) c

@@ -1,19 +1,26 @@
 -- The causes for which commands are refused, in the order in which they count.
-use Rattle.std.specs.Prelude.{ℕ, Bool, false, if◌then◌else◌, List, [], ◌∷◌, Option, Some, None, Err, Ok}
+use Rattle.std.specs.Prelude.{ℕ, Bool, false, if◌then◌else◌, List, [], ◌∷◌, Option, Some, None, option_map, Err, Ok}
 use Rattle.std.specs.Option.{option_or}
 use Rattle.wi_scenarios.specs.declared.refusal.Refusal.{Refusal}
-use Rattle.wi_scenarios.specs.declared.refusal.Refusal.TheVariants.{BadCommand, TooLarge, LeavesSheet}
+use Rattle.wi_scenarios.specs.declared.refusal.Refusal.TheVariants.{BadCommand, NoScenario, InUse, TooMany, BadField, TooLarge, LeavesSheet, Stale, Loop}
 use Rattle.wi_scenarios.specs.State.{State}
 use Rattle.wi_scenarios.specs.Answer.{Answer}
 
--- Which causes hold; those that a command doesn't have stay as in `no_cause`. A line that is no command, or has an operand
--- outside the sheet, is refused before any of them.
+-- Which causes hold; those that a command doesn't have stay as in `no_cause`. A line that is no command, has an operand
+-- outside the sheet, or lacks data lines is refused before any of them.
 pub record Causes : Type 0 where
   pub bad_command : Bool
   pub too_large : Bool
+  pub no_scenario : Bool
+  pub in_use : Bool
+  pub too_many : Bool
+  pub bad_field : Bool
   -- the first fault of what is to be put: too long, a cell outside the sheet, a number, the nesting, the syntax
   pub content : Option Refusal
   pub leaves_sheet : Bool
+  -- the first cell that is stale
+  pub stale : Option ℕ
+  pub loop : Bool
   -- the first of the sheet's limits that would be passed: occupied cells, edits
   pub limit : Option Refusal
 
@@ -21,8 +28,14 @@ abbrev pub no_cause : Causes
 no_cause = record {
   bad_command = false;
   too_large = false;
+  no_scenario = false;
+  in_use = false;
+  too_many = false;
+  bad_field = false;
   content = None;
   leaves_sheet = false;
+  stale = None;
+  loop = false;
   limit = None;
 }
 
@@ -38,8 +51,14 @@ abbrev pub first_cause : Causes → Option Refusal
 first_cause c = first_some (
     when c.bad_command BadCommand  -- E02
     ∷ when c.too_large TooLarge  -- E15
+    ∷ when c.no_scenario NoScenario  -- E10
+    ∷ when c.in_use InUse  -- E12
+    ∷ when c.too_many TooMany  -- E11
+    ∷ when c.bad_field BadField  -- E14
     ∷ c.content  -- E08, E04, E07, E06, E05
     ∷ when c.leaves_sheet LeavesSheet  -- E16
+    ∷ option_map Stale c.stale  -- E18
+    ∷ when c.loop Loop  -- E19
     ∷ c.limit  -- E09, E17
     ∷ [])
 

@@ -1,5 +1,5 @@
 -- The command `fill`: copies a cell's content to each cell of a rectangle.
-use Rattle.std.specs.Prelude.{ℕ, ℤ, pos, ◌-ℤ◌, nat_lt, Bool, not, map, Option, Some, None, is_some, option_map}
+use Rattle.std.specs.Prelude.{ℕ, ℤ, pos, ◌-ℤ◌, nat_lt, Bool, not, [], ◌∷◌, map, Option, Some, None, is_some, option_map}
 use Rattle.std.specs.List.{list_any}
 use Rattle.wi_values.specs.Address.{Area, size_of, cells_of, row_of, column_of}
 use Rattle.wi_parser.specs.declared.content.Content.{Content}
@@ -14,7 +14,7 @@ use Rattle.wi_scenarios.specs.State.{State}
 use Rattle.wi_scenarios.specs.Answer.{Answer}
 use Rattle.wi_scenarios.specs.Causes.{no_cause}
 use Rattle.wi_scenarios.specs.Edits.{Edit, edit_answer}
-use Rattle.wi_scenarios.specs.Show.{max_area}
+use Rattle.wi_scenarios.specs.Areas.{max_area}
 
 -- the refusal of a copy
 abbrev pub shift_refusal : ShiftFault → Refusal
@@ -48,11 +48,12 @@ or_nothing (Some o) = o
 
 -- each cell of the rectangle gets its copy
 abbrev pub fill_edit : Sheet → ℕ → Area → Edit
-fill_edit sheet from area = map (λ to. (to, or_nothing (copy_for sheet from to))) (cells_of area)
+fill_edit sheet from area =
+    record { named = area ∷ []; contents = map (λ to. (to, or_nothing (copy_for sheet from to))) (cells_of area) }
 
-abbrev pub fill_step : State → ℕ → Area → Answer
-fill_step s from area =
-    edit_answer s (record no_cause {
+abbrev pub fill_step : State → Bool → ℕ → Area → Answer
+fill_step s force from area =
+    edit_answer s force (record no_cause {
       too_large = nat_lt max_area (size_of area);
       leaves_sheet = list_any (has_no_copy s.stored.sheet from) (cells_of area);
     })

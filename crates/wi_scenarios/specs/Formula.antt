@@ -1,31 +1,8 @@
 -- The command `formula`: a cell's address, and its content as a text.
-use Rattle.std.specs.Prelude.{ℕ, List, [], ◌∷◌, ◌++◌, codes, Option, Some, None, Ok}
-use Rattle.wi_values.specs.Address.{address_text}
-use Rattle.wi_values.specs.Value.{shown_text}
-use Rattle.wi_values.specs.declared.value.Value.{Value}
-use Rattle.wi_values.specs.declared.value.Value.TheVariants.{Text}
-use Rattle.wi_parser.specs.declared.content.Content.{Content}
-use Rattle.wi_parser.specs.declared.content.Content.TheVariants.{Constant, Formula}
-use Rattle.wi_parser.specs.Printing.{printed}
-use Rattle.wi_parser.specs.Sheet.{Sheet, content_of}
+use Rattle.std.specs.Prelude.{ℕ, Ok}
+use Rattle.wi_reports.specs.Contents.{content_record}
 use Rattle.wi_scenarios.specs.State.{State}
 use Rattle.wi_scenarios.specs.Answer.{Answer}
-use Rattle.wi_csv.specs.Row.{row}
-
--- a text after an apostrophe, another constant as it is shown
-abbrev pub constant_text : Value → List ℕ
-constant_text (Text bytes) = codes "'" ++ bytes
-constant_text v = shown_text v
-
--- a formula as it is printed, and nothing where there is no content
-abbrev pub content_text : Option Content → List ℕ
-content_text None = []
-content_text (Some (Constant v)) = constant_text v
-content_text (Some (Formula t)) = printed t
-
--- the record of a cell
-abbrev pub content_record : Sheet → ℕ → List ℕ
-content_record sheet at = row (address_text at ∷ content_text (content_of sheet at) ∷ [])
 
 abbrev pub formula_step : State → ℕ → Answer
 formula_step s at = Ok (s, content_record s.stored.sheet at)

@@ -1,32 +1,14 @@
 -- The command `show`: the shown texts of a rectangle, a record for each row.
-use Rattle.std.specs.Prelude.{ℕ, List, [], map, nat_lt}
-use Rattle.std.specs.List.{flat_map}
-use Rattle.wi_values.specs.Address.{Area, size_of, rows_in, cells_of_row}
-use Rattle.wi_values.specs.Value as value
-use Rattle.wi_values.specs.declared.replacement.Replacement.{Replacement}
-use Rattle.wi_parser.specs.Sheet.{Sheet}
-use Rattle.wi_sheet.specs.Shown as cell
+use Rattle.std.specs.Prelude.{nat_lt}
+use Rattle.wi_values.specs.Address.{Area, size_of}
+use Rattle.wi_reports.specs.Rows.{rows_shown}
 use Rattle.wi_scenarios.specs.State.{State}
+use Rattle.wi_scenarios.specs.Views.{current_replacements}
+use Rattle.wi_scenarios.specs.Areas.{max_area}
 use Rattle.wi_scenarios.specs.Answer.{Answer}
 use Rattle.wi_scenarios.specs.Causes.{no_cause, answer}
-use Rattle.wi_csv.specs.Row.{row}
-
--- the text that a cell shows under replacements
-abbrev pub text_under : Sheet → List Replacement → ℕ → List ℕ
-text_under sheet put c = value.shown_text (cell.shown sheet put c)
-
--- the record of one row of a rectangle
-abbrev pub row_shown : Sheet → List Replacement → Area → ℕ → List ℕ
-row_shown sheet put area r = row (map (text_under sheet put) (cells_of_row r area))
-
--- the records of a rectangle
-abbrev pub rows_shown : Sheet → List Replacement → Area → List ℕ
-rows_shown sheet put area = flat_map (row_shown sheet put area) (rows_in area)
-
--- how many cells may be asked for at once
-abbrev pub max_area : ℕ
-max_area = 65536
 
 abbrev pub show_step : State → Area → Answer
 show_step s area =
-    answer (record no_cause { too_large = nat_lt max_area (size_of area) }) (s, rows_shown s.stored.sheet [] area)
+    answer (record no_cause { too_large = nat_lt max_area (size_of area) })
+    (s, rows_shown s.stored.sheet (current_replacements s) area)

@@ -1,26 +1,40 @@
 //! The command `clear`: empties the cells of a rectangle.
 
-ghost use Rattle.std.specs.Prelude.{◌≡◌, [], map, None, IfOk};
-ghost use Rattle.wi_scenarios.specs.State.{state_of};
+ghost use Rattle.std.specs.Prelude.{◌≡◌, [], map, None, IfOk, OnErr};
+ghost use Rattle.std.specs.Map.{keys_of};
 ghost use Rattle.wi_scenarios.specs.Answer.{Serves};
-ghost use Rattle.wi_scenarios.specs.Clear.{clear_step};
+ghost use Rattle.wi_scenarios.specs.Clear.{clear_edit, clear_step};
+ghost use Rattle.wi_scenarios.specs.Pending.{AddsOnly};
+ghost use Rattle.wi_scenarios.specs.Inner.Held.{state_of, pending_in, IsSound};
 
+use crate::desk::Desk;
+use crate::edit::{Edit, apply_edit};
 use crate::refusal::Refusal;
 use std::alloc::{AllocError, Global};
 use wi_parser::Content;
 use wi_propagate::{Calculator, occupied_in};
 use wi_values::{Address, Rect};
 
-/// Empties the cells of a rectangle. The work grows with its occupied cells.
-#[tactic(auto, using(crate::proofs::ClearLemmas::clear_served))]
-pub fn clear<C: Calculator>(alloc: Global, calculator: &mut C, area: Rect) -> Result<(), Refusal>
-    ensures { let old = state_of (C.stored calculator.old) in
-        Serves (λ a. clear_step old area ≡ a) result old (state_of (C.stored calculator.new)) [] }
+/// Empties the cells of a rectangle. The work grows with its occupied cells, and is that of `apply_edit` for them.
+pub fn clear<C: Calculator>(
+    alloc: Global,
+    calculator: &mut C,
+    desk: &mut Desk,
+    area: Rect,
+    force: bool,
+) -> Result<(), Refusal>
+    requires { IsSound (C.stored calculator.old) desk.old }
+    ensures step { let old = state_of (C.stored calculator.old) desk.old in
+        Serves (λ a. clear_step old force area ≡ a) result old (state_of (C.stored calculator.new) desk.new) [] }
+    ensures adds { AddsOnly C.marked (keys_of (clear_edit (C.stored calculator.old).sheet area).contents) (state_of (C.stored calculator.old) desk.old)
+        (state_of (C.stored calculator.new) desk.new) (pending_in desk.old) (pending_in desk.new) }
+    ensures refused { OnErr result (pending_in desk.new ≡ pending_in desk.old) }
+    ensures sound { IsSound (C.stored calculator.new) desk.new }
 {
     let cells = occupied_in(alloc, calculator, area)?;
-    let changes = emptied(alloc, &cells)?;
-    calculator.apply(changes)?;
-    Ok(())
+    let contents = emptied(alloc, &cells)?;
+    let named = vec![in alloc; area]?;
+    apply_edit(alloc, calculator, desk, Edit { named, contents }, force)
 }
 
 /// No content for each of some cells.

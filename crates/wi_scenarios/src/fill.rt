@@ -1,16 +1,18 @@
 //! The command `fill`: copies a cell's content to each cell of a rectangle.
 
-ghost use Rattle.std.specs.Prelude.{◌≡◌, ◌<◌, ◌++◌, ℕ, List, [], MatchResult};
+ghost use Rattle.std.specs.Prelude.{◌≡◌, ◌<◌, ◌++◌, ℕ, List, [], MatchResult, OnErr};
 ghost use Rattle.std.specs.Option.{option_copied};
 ghost use Rattle.wi_values.specs.Address.{rows, cells_of, cells_of_row};
-ghost use Rattle.wi_parser.specs.Sheet.{content_of};
-ghost use Rattle.wi_scenarios.specs.State.{state_of};
 ghost use Rattle.wi_scenarios.specs.Answer.{Serves};
 ghost use Rattle.wi_scenarios.specs.Fill.{rows_between, columns_between, copied, fill_step};
+ghost use Rattle.wi_scenarios.specs.Pending.{AddsOnly};
 ghost use Rattle.wi_scenarios.specs.Inner.Copies.{CopiesAs, AreCopies, HasNoCopies};
+ghost use Rattle.wi_scenarios.specs.Inner.Held.{state_of, pending_in, IsSound};
 
+use crate::areas::MAX_AREA;
+use crate::desk::Desk;
+use crate::edit::{Edit, apply_edit};
 use crate::refusal::Refusal;
-use crate::show::MAX_AREA;
 use std::alloc::Global;
 use wi_parser::{Content, ShiftFault};
 use wi_propagate::Calculator;
@@ -20,23 +22,29 @@ use wi_values::{Address, Rect};
 type Changes = Vec<(Address, Option<Content>)>;
 
 /// Copies a cell's content to each cell of a rectangle, all from the content that stands there before. The work grows with
-/// the cells of the rectangle and with the content.
-#[tactic(auto, using(crate::proofs::FillLemmas::fill_served))]
+/// the cells of the rectangle and with the content, and is that of `apply_edit` for them.
 pub fn fill<C: Calculator>(
     alloc: Global,
     calculator: &mut C,
+    desk: &mut Desk,
     from: Address,
     area: Rect,
+    force: bool,
 ) -> Result<(), Refusal>
-    ensures { let old = state_of (C.stored calculator.old) in
-        Serves (λ a. fill_step old from area ≡ a) result old (state_of (C.stored calculator.new)) [] }
+    requires { IsSound (C.stored calculator.old) desk.old }
+    ensures step { let old = state_of (C.stored calculator.old) desk.old in
+        Serves (λ a. fill_step old force from area ≡ a) result old (state_of (C.stored calculator.new) desk.new) [] }
+    ensures adds { AddsOnly C.marked (cells_of area) (state_of (C.stored calculator.old) desk.old)
+        (state_of (C.stored calculator.new) desk.new) (pending_in desk.old) (pending_in desk.new) }
+    ensures refused { OnErr result (pending_in desk.new ≡ pending_in desk.old) }
+    ensures sound { IsSound (C.stored calculator.new) desk.new }
 {
     if area.size() > MAX_AREA {
         return Err(Refusal::TooLarge);
     }
-    let changes = copies(alloc, calculator.content(from), from, area)?;
-    calculator.apply(changes)?;
-    Ok(())
+    let contents = copies(alloc, calculator.content(from), from, area)?;
+    let named = vec![in alloc; area]?;
+    apply_edit(alloc, calculator, desk, Edit { named, contents }, force)
 }
 
 /// The copies of a cell's content for the cells of a rectangle.

@@ -1,74 +1,30 @@
 //! The command `formula`: a cell's address, and its content as a text.
 
-ghost use Rattle.std.specs.Prelude.{◌≡◌, ◌++◌, ℕ, List, Some, OnOk, string_bytes};
-ghost use Rattle.wi_parser.specs.Sheet.{content_of};
-ghost use Rattle.wi_scenarios.specs.State.{state_of};
+ghost use Rattle.std.specs.Prelude.{◌≡◌, ◌++◌, ℕ, List};
 ghost use Rattle.wi_scenarios.specs.Answer.{Serves};
-ghost use Rattle.wi_scenarios.specs.Formula.{constant_text, content_text};
-ghost use Rattle.wi_scenarios.specs.Step.{Formula, IsStep};
+ghost use Rattle.wi_scenarios.specs.Formula.{formula_step};
+ghost use Rattle.wi_scenarios.specs.Inner.Held.{state_of};
 
+use crate::desk::Desk;
 use crate::refusal::Refusal;
-use std::alloc::{AllocError, Global};
-use wi_csv::push_record;
-use wi_parser::Content;
+use std::alloc::Global;
 use wi_propagate::Calculator;
-use wi_values::{Address, Value};
-
-// Appends what stands in a cell.
-fn push_content_of<C: Calculator>(
-    calculator: &C,
-    at: Address,
-    text: &mut String,
-) -> Result<(), AllocError>
-    ensures { OnOk result (string_bytes text.new ≡ string_bytes text.old ++ content_text (content_of (C.stored calculator.now).sheet at)) }
-{
-    match calculator.content(at) {
-        Some(content) => push_content(content, text),
-        None => Ok(()),
-    }
-}
-
-// Appends a content.
-fn push_content(content: &Content, text: &mut String) -> Result<(), AllocError>
-    ensures { OnOk result (string_bytes text.new ≡ string_bytes text.old ++ content_text (Some content.now)) }
-{
-    match content {
-        Content::Constant(value) => push_constant(value, text),
-        Content::Formula(formula) => formula.print(text),
-    }
-}
-
-// Appends a constant.
-fn push_constant(value: &Value, text: &mut String) -> Result<(), AllocError>
-    ensures { OnOk result (string_bytes text.new ≡ string_bytes text.old ++ constant_text value.now) }
-{
-    match value {
-        Value::Text(bytes) => {
-            text.push_str("'")?;
-            text.push_str(bytes.as_str())
-        }
-        Value::Empty => value.push_shown(text),
-        Value::Number(_) => value.push_shown(text),
-        Value::Logical(_) => value.push_shown(text),
-        Value::Fault(_) => value.push_shown(text),
-    }
-}
+use wi_reports::push_content;
+use wi_values::Address;
 
 /// Appends the record of a cell: its address and its content.
 pub fn formula<C: Calculator>(
     alloc: Global,
     calculator: &C,
+    desk: &Desk,
     at: Address,
     out: &mut Vec<u8>,
 ) -> Result<(), Refusal>
-    ensures { let state = state_of (C.stored calculator.now) in
+    ensures { let state = state_of (C.stored calculator.now) desk.now in
         (records : List ℕ) × (out.new.items ≡ out.old.items ++ records)
-        × Serves (IsStep state (Formula at)) result state state records }
+        × Serves (λ a. formula_step state at ≡ a) result state state records }
 {
-    let mut address = String::new(alloc);
-    at.push_text(&mut address)?;
-    let mut content = String::new(alloc);
-    push_content_of(calculator, at, &mut content)?;
-    push_record(&[address.as_str(), content.as_str()], out)?;
+    let _ = desk;
+    push_content(alloc, calculator, at, out)?;
     Ok(())
 }

@@ -4,14 +4,15 @@ ghost use Rattle.std.specs.Prelude.{◌≡◌};
 
 use std::alloc::{AllocError, AllocFailed};
 use thiserror::Error;
+use wi_import::ImportFault;
 use wi_parser::{ParseFault, ShiftFault};
 use wi_store::StoreFault;
-use wi_values::AddressFault;
+use wi_values::{Address, AddressFault, FieldFault};
 
 /// Why a command is refused. All is then as before. The first cause of this order that holds is answered: `BadLine`,
-/// `BadCommand`, `OutOfSheet` of an operand, `TooLarge`, `TooLong`, `OutOfSheet` of a formula, `NumberRange`, `TooDeep`,
-/// `Syntax`, `LeavesSheet`, `Full`, `EditLimit`. `Memory` may stand in place of any answer but the first five refusals, which are found
-/// before anything grows.
+/// `BadCommand`, `CutShort`, `OutOfSheet` of an operand, `TooLarge`, `NoScenario`, `InUse`, `TooMany`, `BadField`, `TooLong`,
+/// `OutOfSheet` of a formula or a field, `NumberRange`, `TooDeep`, `Syntax`, `LeavesSheet`, `Stale`, `Loop`, `Full`, `EditLimit`.
+/// `Memory` may stand in place of most answers, but of none that is found before anything grows.
 #[derive(Clone, Copy, PartialEq, Debug, Error)]
 pub enum Refusal {
     /// E01.
@@ -41,6 +42,21 @@ pub enum Refusal {
     /// E09.
     #[error("the sheet would have too many occupied cells")]
     Full,
+    /// E10.
+    #[error("no such scenario")]
+    NoScenario,
+    /// E11.
+    #[error("too many scenarios, replacements or sessions")]
+    TooMany,
+    /// E12.
+    #[error("the scenario is in use by a session, or as a base scenario")]
+    InUse,
+    /// E13.
+    #[error("the input ends before the last data line")]
+    CutShort,
+    /// E14.
+    #[error("a field is not UTF-8")]
+    BadField,
     /// E15.
     #[error("the rectangle has too many cells")]
     TooLarge,
@@ -50,6 +66,12 @@ pub enum Refusal {
     /// E17.
     #[error("no more edits are accepted")]
     EditLimit,
+    /// E18, with the first such cell.
+    #[error("another session has edited the cell since")]
+    Stale(Address),
+    /// E19.
+    #[error("the scenario would be based on itself")]
+    Loop,
 }
 
 impl Refusal {
@@ -69,9 +91,16 @@ impl Refusal {
             Refusal::NumberRange => 7,
             Refusal::TooLong => 8,
             Refusal::Full => 9,
+            Refusal::NoScenario => 10,
+            Refusal::TooMany => 11,
+            Refusal::InUse => 12,
+            Refusal::CutShort => 13,
+            Refusal::BadField => 14,
             Refusal::TooLarge => 15,
             Refusal::LeavesSheet => 16,
             Refusal::EditLimit => 17,
+            Refusal::Stale(_) => 18,
+            Refusal::Loop => 19,
         }
     }
 }
@@ -149,6 +178,34 @@ impl From<StoreFault> for Refusal {
             StoreFault::Full => Refusal::Full,
             StoreFault::EditLimit => Refusal::EditLimit,
             StoreFault::Memory => Refusal::Memory,
+        }
+    }
+}
+
+impl From<ImportFault> for Refusal {
+    ghost use Rattle.wi_scenarios.specs.Answer.{import_refusal};
+
+    ghost from_gives = { λ fault e. e ≡ import_refusal fault };
+
+    fn from(fault: ImportFault) -> Refusal {
+        match fault {
+            ImportFault::BadField => Refusal::BadField,
+            ImportFault::TooLong => Refusal::TooLong,
+            ImportFault::OutOfSheet => Refusal::OutOfSheet,
+            ImportFault::Memory => Refusal::Memory,
+        }
+    }
+}
+
+impl From<FieldFault> for Refusal {
+    ghost use Rattle.wi_scenarios.specs.Answer.{field_refusal};
+
+    ghost from_gives = { λ fault e. e ≡ field_refusal fault };
+
+    fn from(fault: FieldFault) -> Refusal {
+        match fault {
+            FieldFault::TooLong => Refusal::TooLong,
+            FieldFault::Memory => Refusal::Memory,
         }
     }
 }

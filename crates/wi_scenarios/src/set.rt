@@ -1,32 +1,41 @@
 //! The command `set`: puts a content into a cell.
 
-ghost use Rattle.std.specs.Prelude.{[]};
-ghost use Rattle.wi_scenarios.specs.State.{state_of};
+ghost use Rattle.std.specs.Prelude.{◌≡◌, [], ◌∷◌, OnErr};
 ghost use Rattle.wi_scenarios.specs.Answer.{Serves};
 ghost use Rattle.wi_scenarios.specs.Set.{IsSetStep};
+ghost use Rattle.wi_scenarios.specs.Pending.{AddsOnly};
+ghost use Rattle.wi_scenarios.specs.Inner.Held.{state_of, pending_in, IsSound};
 
+use crate::desk::Desk;
+use crate::edit::{Edit, apply_edit};
 use crate::refusal::Refusal;
 use std::alloc::Global;
 use wi_parser::Content;
 use wi_propagate::Calculator;
-use wi_values::Address;
+use wi_values::{Address, Rect};
 
 /// Puts a content into a cell.
-#[tactic(auto, using(crate::proofs::SetLemmas::set_answered, crate::proofs::SetLemmas::set_served))]
 pub fn set<C: Calculator>(
     alloc: Global,
     calculator: &mut C,
+    desk: &mut Desk,
     at: Address,
     content: &str,
+    force: bool,
 ) -> Result<(), Refusal>
-    ensures { let old = state_of (C.stored calculator.old) in
-        Serves (IsSetStep old at content.now) result old (state_of (C.stored calculator.new)) [] }
+    requires { IsSound (C.stored calculator.old) desk.old }
+    ensures step { let old = state_of (C.stored calculator.old) desk.old in
+        Serves (IsSetStep old force at content.now) result old (state_of (C.stored calculator.new) desk.new) [] }
+    ensures adds { AddsOnly C.marked (at ∷ []) (state_of (C.stored calculator.old) desk.old)
+        (state_of (C.stored calculator.new) desk.new) (pending_in desk.old) (pending_in desk.new) }
+    ensures refused { OnErr result (pending_in desk.new ≡ pending_in desk.old) }
+    ensures sound { IsSound (C.stored calculator.new) desk.new }
 {
     if content.is_empty() {
         return Err(Refusal::BadCommand);
     }
     let content = Content::read(alloc, content)?;
-    let changes = vec![in alloc; (at, Some(content))]?;
-    calculator.apply(changes)?;
-    Ok(())
+    let named = vec![in alloc; Rect::new(at, at)]?;
+    let contents = vec![in alloc; (at, Some(content))]?;
+    apply_edit(alloc, calculator, desk, Edit { named, contents }, force)
 }

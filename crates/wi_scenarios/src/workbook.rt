@@ -1,100 +1,320 @@
 //! A workbook.
 
-ghost use Rattle.std.specs.Prelude.{◌≡◌, ◌++◌, ℕ, List, [], IfOk};
-ghost use Rattle.wi_scenarios.specs.State.{state_of};
-ghost use Rattle.wi_scenarios.specs.Answer.{Serves};
-ghost use Rattle.wi_scenarios.specs.Step.{Set, Clear, Fill, Show, Export, Table, Formula, IsStep};
+ghost use Rattle.std.specs.Prelude.{◌≡◌, ◌≢◌, ◌≤◌, ◌+◌, ◌++◌, ◌∷◌, ℕ, List, [], true, false, option_map, Err, IfOk, OnOk, OnErr};
+ghost use Rattle.std.specs.Option.{option_copied};
+ghost use Rattle.std.specs.Map.{keys_of};
+ghost use Rattle.wi_values.specs.Address.{cells_of};
+ghost use Rattle.wi_values.specs.Name.{bytes_of};
+ghost use Rattle.wi_sessions.specs.Sessions.{has_session};
+ghost use Rattle.wi_sessions.specs.Roster.{SameCells};
+ghost use Rattle.wi_scenarios.specs.declared.refusal.Refusal.TheVariants.{Memory};
+ghost use Rattle.wi_scenarios.specs.State.{state_over};
+ghost use Rattle.wi_scenarios.specs.Answer.{Serves, ServesData};
+ghost use Rattle.wi_scenarios.specs.Clear.{clear_edit};
+ghost use Rattle.wi_scenarios.specs.Csv.{imported_cells};
+ghost use Rattle.wi_scenarios.specs.Scenario.{take_away_step};
+ghost use Rattle.wi_scenarios.specs.Step as command;
+ghost use Rattle.wi_scenarios.specs.Step.{IsStep};
+ghost use Rattle.wi_scenarios.specs.Pending.{AddsOnly, SameForOthers, SameCounts, Emptied, HasNewSession, pending_for, pending_evaluations, pending_restarts, occupied_cells};
 
+use crate::base::base;
+use crate::changes::changes;
 use crate::clear::clear;
+use crate::compare::compare;
+use crate::csv::import;
+use crate::desk::Desk;
+use crate::drop::drop;
 use crate::export::export;
 use crate::fill::fill;
 use crate::formula::formula;
 use crate::refusal::Refusal;
+use crate::scenario::{put, take_away};
+use crate::session::{new_desk, session};
 use crate::set::set;
 use crate::show::show;
-use crate::table::{DataTable, table};
+use crate::table::table;
+use crate::use_scenario::use_scenario;
 use std::alloc::{AllocError, Global};
 use std::marker::Model;
 use wi_propagate::Calculator;
-use wi_values::{Address, Rect};
+use wi_reports::DataTable;
+use wi_values::{Address, Name, Rect};
 
-/// A sheet and what else is kept of it, seen as the definition's state.
+/// A sheet, and what is kept beside it: scenarios, sessions and the log of edits. It is seen as the definition's state, the cells
+/// that are pending for each session, and the counts that the calculator tells.
 #[derive(Drop)]
 pub struct Workbook<C: Calculator> {
-    alloc: Global,
     calculator: C,
+    desk: Desk,
+    alloc: Global,
 }
 
 impl<C: Calculator> Model for Workbook<C> {
-    ghost use Rattle.wi_scenarios.specs.State.{State, state_of};
+    ghost use Rattle.wi_scenarios.specs.Pending.{Book};
+    ghost use Rattle.wi_scenarios.specs.Inner.Held.{book_of, IsSound};
 
-    ghost Value = { State };
+    ghost Value = { Book };
 
     ghost use Rattle.wi_parser.specs.contracts.content.Content as content;
+    ghost use Rattle.wi_values.specs.contracts.value.Value as value;
+    ghost use Rattle.wi_values.specs.contracts.replacement.Replacement as replacement;
     ghost use Rattle.std.specs.Coded.{codes};
 
-    ghost coded = { Prim.hlevel (codes, content.the_row.coded) };
+    ghost coded = { Prim.hlevel (codes, content.the_row.coded, value.the_row.coded, replacement.the_row.coded) };
 
-    ghost view = { λ w. state_of (C.stored w.calculator) };
+    ghost view = { λ w. book_of (C.stored w.calculator) (C.evaluated w.calculator) (C.restarted w.calculator) w.desk };
+
+    ghost invariant = { λ w. IsSound (C.stored w.calculator) w.desk };
+}
+
+/// The texts of names.
+fn as_text<'a>(name: Option<Name<'a>>) -> Option<&'a str>
+    ensures { option_copied result ≡ option_map bytes_of name.entry }
+{
+    match name {
+        Some(name) => Some(name.as_str()),
+        None => None,
+    }
 }
 
 impl<C: Calculator> Workbook<C> {
-    /// A workbook over a calculator, whose sheet it takes over.
+    /// A workbook over a calculator, whose sheet it takes over, with the one session `main`, for which the occupied cells are
+    /// pending. The calculator is dropped if memory runs out. The work grows with the occupied cells.
     pub fn new(alloc: Global, calculator: C) -> Result<Workbook<C>, AllocError>
-        ensures { IfOk result (λ w. w ≡ state_of (C.stored calculator)) }
+    where
+        C: Drop,
+        ensures state { IfOk result (λ w. w.state ≡ state_over (C.stored calculator)) }
+        ensures pending { IfOk result (λ w. (cells : List ℕ) × (w.pending ≡ cells ∷ []) × SameCells cells (occupied_cells (C.stored calculator).sheet)) }
     {
-        Ok(Workbook { alloc, calculator })
+        let desk = new_desk(alloc, &calculator)?;
+        Ok(Workbook {
+            calculator,
+            desk,
+            alloc,
+        })
     }
 
     /// The calculator that it uses.
     pub fn calculator(&self) -> &C
-        ensures { C.stored result.now ≡ self.now.stored }
+        ensures stored { C.stored result.now ≡ self.now.state.stored }
+        ensures evaluated { C.evaluated result.now ≡ self.now.evaluated }
+        ensures restarted { C.restarted result.now ≡ self.now.restarted }
     {
         &self.calculator
     }
 
-    /// Puts a content into a cell. An empty one is refused as `BadCommand`. With one session no edit is stale, so it
-    /// counts for nothing whether this one is forced.
+    /// Puts a content into a cell. An empty one is refused as `BadCommand`. An edit of a cell that another session has edited since
+    /// the current one was last shown what has changed is refused as `Stale`, but not where it is forced. The work of this and
+    /// the other edits grows with the cells that depend on the edited ones, and for each session with those of them that aren't pending.
     pub fn set(&mut self, at: Address, content: &str, force: bool) -> Result<(), Refusal>
-        ensures { Serves (IsStep self.old (Set force at content.now)) result self.old self.new [] }
+        ensures step { Serves (IsStep self.old.state (command.Set force at content.now)) result self.old.state self.new.state [] }
+        ensures adds { AddsOnly C.marked (at ∷ []) self.old.state self.new.state self.old.pending self.new.pending }
+        ensures refused { OnErr result (self.new.pending ≡ self.old.pending) }
     {
-        let _ = force;
-        set(self.alloc, &mut self.calculator, at, content)
+        set(
+            self.alloc,
+            &mut self.calculator,
+            &mut self.desk,
+            at,
+            content,
+            force,
+        )
     }
 
     /// Empties the cells of a rectangle of any size. `force` is as of `set`. The work grows with the occupied cells.
     pub fn clear(&mut self, area: Rect, force: bool) -> Result<(), Refusal>
-        ensures { Serves (IsStep self.old (Clear force area)) result self.old self.new [] }
+        ensures step { Serves (IsStep self.old.state (command.Clear force area)) result self.old.state self.new.state [] }
+        ensures adds { AddsOnly C.marked (keys_of (clear_edit self.old.state.stored.sheet area).contents) self.old.state self.new.state self.old.pending self.new.pending }
+        ensures refused { OnErr result (self.new.pending ≡ self.old.pending) }
     {
-        let _ = force;
-        clear(self.alloc, &mut self.calculator, area)
+        clear(
+            self.alloc,
+            &mut self.calculator,
+            &mut self.desk,
+            area,
+            force,
+        )
     }
 
     /// Copies a cell's content to each cell of a rectangle, also where that cell lies in it. The relative parts of a formula's
     /// references move by the distance; where one would leave the sheet, the whole command is refused. From an empty cell
     /// the rectangle is emptied. `force` is as of `set`. The work grows with the cells of the rectangle.
     pub fn fill(&mut self, from: Address, area: Rect, force: bool) -> Result<(), Refusal>
-        ensures { Serves (IsStep self.old (Fill force from area)) result self.old self.new [] }
+        ensures step { Serves (IsStep self.old.state (command.Fill force from area)) result self.old.state self.new.state [] }
+        ensures adds { AddsOnly C.marked (cells_of area) self.old.state self.new.state self.old.pending self.new.pending }
+        ensures refused { OnErr result (self.new.pending ≡ self.old.pending) }
     {
-        let _ = force;
-        fill(self.alloc, &mut self.calculator, from, area)
+        fill(
+            self.alloc,
+            &mut self.calculator,
+            &mut self.desk,
+            from,
+            area,
+            force,
+        )
     }
 
-    /// Appends the shown texts of a rectangle's cells, a record for each row.
-    pub fn show(&mut self, area: Rect, out: &mut Vec<u8>) -> Result<(), Refusal>
-        ensures { (records : List ℕ) × (out.new.items ≡ out.old.items ++ records)
-            × Serves (IsStep self.old (Show area)) result self.old self.new records }
+    /// Puts the fields of a CSV text into cells by the rule of imported fields: field j of record i goes i - 1 below and j - 1 right
+    /// of the cell. An empty field empties its cell; cells without a field stay. It is one edit, done whole or not at all. `force` is as of
+    /// `set`. The work grows with the text.
+    pub fn import(&mut self, at: Address, text: &[u8], force: bool) -> Result<(), Refusal>
+        ensures step { ServesData (IsStep self.old.state (command.Csv force at text.now)) result self.old.state self.new.state }
+        ensures adds { AddsOnly C.marked (imported_cells at text.now) self.old.state self.new.state self.old.pending self.new.pending }
+        ensures refused { OnErr result (self.new.pending ≡ self.old.pending) }
     {
-        show(self.alloc, &mut self.calculator, area, out)
+        import(
+            self.alloc,
+            &mut self.calculator,
+            &mut self.desk,
+            at,
+            text,
+            force,
+        )
+    }
+
+    /// Puts a replacement into a scenario, which is made if need be, by the rule of imported fields; an empty content takes the scenario's
+    /// own replacement away. The work is that of the sessions whose scenario then puts in something else: for each what
+    /// depends on the cell.
+    pub fn scenario_set(
+        &mut self,
+        name: Name<'_>,
+        at: Address,
+        content: &str,
+    ) -> Result<(), Refusal>
+        ensures step { Serves (IsStep self.old.state (command.Scenario (bytes_of name.entry) at content.now)) result self.old.state self.new.state [] }
+        ensures adds { AddsOnly C.marked ([]) self.old.state self.new.state self.old.pending self.new.pending }
+        ensures refused { OnErr result (self.new.pending ≡ self.old.pending) }
+    {
+        put(
+            self.alloc,
+            &self.calculator,
+            &mut self.desk,
+            name.as_str(),
+            at,
+            content,
+        )
+    }
+
+    /// Takes a scenario's own replacement away, if there is one; the scenario stays.
+    pub fn scenario_clear(&mut self, name: Name<'_>, at: Address) -> Result<(), Refusal>
+        ensures step { Serves (λ a. take_away_step self.old.state (bytes_of name.entry) at ≡ a) result self.old.state self.new.state [] }
+        ensures adds { AddsOnly C.marked ([]) self.old.state self.new.state self.old.pending self.new.pending }
+        ensures refused { OnErr result (self.new.pending ≡ self.old.pending) }
+    {
+        take_away(
+            self.alloc,
+            &self.calculator,
+            &mut self.desk,
+            name.as_str(),
+            at,
+        )
+    }
+
+    /// Bases a scenario on another, whose replacements it then puts in too unless it has its own, or on none.
+    pub fn scenario_base(&mut self, name: Name<'_>, other: Option<Name<'_>>) -> Result<(), Refusal>
+        ensures step { Serves (IsStep self.old.state (command.Base (bytes_of name.entry) (option_map bytes_of other.entry))) result self.old.state self.new.state [] }
+        ensures adds { AddsOnly C.marked ([]) self.old.state self.new.state self.old.pending self.new.pending }
+        ensures refused { OnErr result (self.new.pending ≡ self.old.pending) }
+    {
+        base(
+            self.alloc,
+            &self.calculator,
+            &mut self.desk,
+            name.as_str(),
+            as_text(other),
+        )
+    }
+
+    /// Removes a scenario that no session uses, and on which none is based. Takes no memory. The work grows with the counts of
+    /// scenarios and sessions.
+    pub fn scenario_drop(&mut self, name: Name<'_>) -> Result<(), Refusal>
+        ensures step { Serves (IsStep self.old.state (command.Drop (bytes_of name.entry))) result self.old.state self.new.state [] }
+        ensures pending { self.new.pending ≡ self.old.pending }
+        ensures no_memory { result ≢ Err Memory }
+    {
+        drop(&self.calculator, &mut self.desk, name.as_str())
+    }
+
+    /// The current session uses a scenario, or the sheet as it stands. The work grows with what depends on the cells whose
+    /// replacement changes.
+    pub fn use_scenario(&mut self, name: Option<Name<'_>>) -> Result<(), Refusal>
+        ensures step { Serves (IsStep self.old.state (command.Use (option_map bytes_of name.entry))) result self.old.state self.new.state [] }
+        ensures adds { AddsOnly C.marked ([]) self.old.state self.new.state self.old.pending self.new.pending }
+        ensures others { SameForOthers self.old.state.current self.old.pending self.new.pending }
+        ensures refused { OnErr result (self.new.pending ≡ self.old.pending) }
+    {
+        use_scenario(self.alloc, &self.calculator, &mut self.desk, as_text(name))
+    }
+
+    /// Makes a session current, a new one if need be, which uses the sheet as it stands and was shown nothing. Takes no memory
+    /// where the session is there; for a new one the work grows with the occupied cells.
+    pub fn session(&mut self, name: Name<'_>) -> Result<(), Refusal>
+        ensures step { Serves (IsStep self.old.state (command.As (bytes_of name.entry))) result self.old.state self.new.state [] }
+        ensures there { has_session self.old.state.sessions (bytes_of name.entry) ≡ true → self.new.pending ≡ self.old.pending }
+        ensures made { has_session self.old.state.sessions (bytes_of name.entry) ≡ false
+            → OnOk result (HasNewSession self.old.state.stored.sheet self.old.pending self.new.pending) }
+        ensures refused { OnErr result (self.new.pending ≡ self.old.pending) }
+        ensures no_memory { has_session self.old.state.sessions (bytes_of name.entry) ≡ true → result ≢ Err Memory }
+    {
+        session(self.alloc, &self.calculator, &mut self.desk, name.as_str())
+    }
+
+    /// Appends the texts that a rectangle's cells show to the current session, a record for each row.
+    pub fn show(&mut self, area: Rect, out: &mut Vec<u8>) -> Result<(), Refusal>
+        ensures step { (records : List ℕ) × (out.new.items ≡ out.old.items ++ records)
+            × Serves (IsStep self.old.state (command.Show area)) result self.old.state self.new.state records }
+        ensures pending { self.new.pending ≡ self.old.pending }
+    {
+        show(self.alloc, &mut self.calculator, &self.desk, area, out)
     }
 
     /// Appends the records of `show`, after a line that tells how many lines they are: `lines`, a space and the count of their
     /// LF bytes.
     pub fn export(&mut self, area: Rect, out: &mut Vec<u8>) -> Result<(), Refusal>
-        ensures { (records : List ℕ) × (out.new.items ≡ out.old.items ++ records)
-            × Serves (IsStep self.old (Export area)) result self.old self.new records }
+        ensures step { (records : List ℕ) × (out.new.items ≡ out.old.items ++ records)
+            × Serves (IsStep self.old.state (command.Export area)) result self.old.state self.new.state records }
+        ensures pending { self.new.pending ≡ self.old.pending }
     {
-        export(self.alloc, &mut self.calculator, area, out)
+        export(self.alloc, &mut self.calculator, &self.desk, area, out)
+    }
+
+    /// Appends a record for each cell whose value isn't what the current session was last shown: address, kind and shown text.
+    /// The session has been shown them then. Only its pending cells are looked at.
+    pub fn changes(&mut self, out: &mut Vec<u8>) -> Result<(), Refusal>
+        ensures step { (records : List ℕ) × (out.new.items ≡ out.old.items ++ records)
+            × Serves (IsStep self.old.state command.Changes) result self.old.state self.new.state records }
+        ensures emptied { OnOk result (Emptied self.old.state.current self.old.pending self.new.pending) }
+        ensures refused { OnErr result (self.new.pending ≡ self.old.pending) }
+        ensures quiet { pending_for self.old.pending self.old.state.current ≡ []
+            → SameCounts self.old self.new × (out.new.items ≡ out.old.items) }
+        ensures evaluations { self.new.evaluated ≤ self.old.evaluated + pending_evaluations self.old.state self.old.pending }
+        ensures restarts { self.new.restarted ≤ self.old.restarted + pending_restarts self.old.state self.old.pending }
+    {
+        changes(self.alloc, &mut self.calculator, &mut self.desk, out)
+    }
+
+    /// Appends a record for each cell of a rectangle whose values under two scenarios differ: address, both texts, and the text of
+    /// the second less the first where both are numbers. No name is the sheet as it stands.
+    pub fn compare(
+        &mut self,
+        first: Option<Name<'_>>,
+        second: Option<Name<'_>>,
+        area: Rect,
+        out: &mut Vec<u8>,
+    ) -> Result<(), Refusal>
+        ensures step { (records : List ℕ) × (out.new.items ≡ out.old.items ++ records)
+            × Serves (IsStep self.old.state (command.Compare (option_map bytes_of first.entry) (option_map bytes_of second.entry) area)) result self.old.state self.new.state records }
+        ensures pending { self.new.pending ≡ self.old.pending }
+    {
+        compare(
+            self.alloc,
+            &mut self.calculator,
+            &self.desk,
+            as_text(first),
+            as_text(second),
+            area,
+            out,
+        )
     }
 
     /// Appends the records of a table: for each cell X of a column its shown text, and what the formula cell shows if the
@@ -110,8 +330,9 @@ impl<C: Calculator> Workbook<C> {
         second: Option<(Address, Rect)>,
         out: &mut Vec<u8>,
     ) -> Result<(), Refusal>
-        ensures { (records : List ℕ) × (out.new.items ≡ out.old.items ++ records)
-            × Serves (IsStep self.old (Table formula_cell input column second)) result self.old self.new records }
+        ensures step { (records : List ℕ) × (out.new.items ≡ out.old.items ++ records)
+            × Serves (IsStep self.old.state (command.Table formula_cell input column second)) result self.old.state self.new.state records }
+        ensures pending { self.new.pending ≡ self.old.pending }
     {
         let asked = DataTable {
             formula_cell,
@@ -119,15 +340,15 @@ impl<C: Calculator> Workbook<C> {
             column,
             second,
         };
-        table(self.alloc, &mut self.calculator, &asked, out)
+        table(self.alloc, &mut self.calculator, &self.desk, &asked, out)
     }
 
     /// Appends a record: a cell's address and its content, which is a formula as printed, a text after an apostrophe,
     /// another constant as shown, and empty where there is none.
     pub fn formula_text(&self, at: Address, out: &mut Vec<u8>) -> Result<(), Refusal>
         ensures { (records : List ℕ) × (out.new.items ≡ out.old.items ++ records)
-            × Serves (IsStep self.now (Formula at)) result self.now self.now records }
+            × Serves (IsStep self.now.state (command.Formula at)) result self.now.state self.now.state records }
     {
-        formula(self.alloc, &self.calculator, at, out)
+        formula(self.alloc, &self.calculator, &self.desk, at, out)
     }
 }

@@ -27,6 +27,8 @@ pub struct Case {
     pub evaluations: bool,
     /// Whether the number of restarts is told.
     pub restarts: bool,
+    /// Whether the calculator that keeps nothing is left out, and pieces are.
+    pub keeping: bool,
 }
 
 impl Case {
@@ -43,6 +45,7 @@ impl Case {
             in_turns: false,
             evaluations: false,
             restarts: false,
+            keeping: false,
         })
     }
 
@@ -82,6 +85,7 @@ impl Case {
             }
             "@evaluations" => self.evaluations = true,
             "@restarts" => self.restarts = true,
+            "@keeping" => self.keeping = true,
             _ => {
                 self.script.extend_from_slice(line.as_bytes())?;
                 self.script.push(b'\n')?;

@@ -115,6 +115,15 @@ fn run_kept(alloc: Global, case: &Case, keep: usize) -> io::Result<(Ending, Vec<
     run_case(alloc, case, calculator, usize::MAX)
 }
 
+/// Runs a case's script on the plain calculator, or where that is left out on the one that keeps as much as the program.
+fn run_first(alloc: Global, case: &Case) -> io::Result<(Ending, Vec<u8>)> {
+    if case.keeping {
+        run_kept(alloc, case, KEEP)
+    } else {
+        run_plain(alloc, case, usize::MAX)
+    }
+}
+
 /// Appends lines; many equal ones are told once, with their number.
 fn push_lines(alloc: Global, lines: &[u8], text: &mut Vec<u8>) -> io::Result<()> {
     let mut each = Vec::new(alloc);
@@ -188,6 +197,9 @@ fn push_pieces(
     whole: &(Ending, Vec<u8>),
     text: &mut Vec<u8>,
 ) -> io::Result<()> {
+    if case.keeping {
+        return Ok(());
+    }
     for piece in [1usize, 2, 7] {
         if run_plain(alloc, case, piece)? != *whole {
             writeln!(text, "-- otherwise in pieces of {piece}")?;
@@ -196,16 +208,16 @@ fn push_pieces(
     Ok(())
 }
 
-/// Appends how a run on the calculator that keeps so many values differs from that on the plain one, but for the counts.
+/// Appends how a run on the calculator that keeps so many values differs from the first one, but for the counts.
 fn push_kept(
     alloc: Global,
-    plain: &(Ending, Vec<u8>),
+    first: &(Ending, Vec<u8>),
     kept: &(Ending, Vec<u8>),
     keep: usize,
     text: &mut Vec<u8>,
 ) -> io::Result<()> {
-    let same_ending = kept.0.outcome == plain.0.outcome && kept.0.flushed == plain.0.flushed;
-    if same_ending && kept.1 == plain.1 {
+    let same_ending = kept.0.outcome == first.0.outcome && kept.0.flushed == first.0.flushed;
+    if same_ending && kept.1 == first.1 {
         return Ok(());
     }
     writeln!(text, "-- otherwise keeping {keep}:")?;
@@ -218,14 +230,14 @@ fn push_kept(
 fn push_all_kept(
     alloc: Global,
     case: &Case,
-    plain: &(Ending, Vec<u8>),
+    first: &(Ending, Vec<u8>),
     text: &mut Vec<u8>,
 ) -> io::Result<()> {
     let (one, two) = (run_kept(alloc, case, 1)?, run_kept(alloc, case, 2)?);
     let many = run_kept(alloc, case, KEEP)?;
-    push_kept(alloc, plain, &one, 1, text)?;
-    push_kept(alloc, plain, &two, 2, text)?;
-    push_kept(alloc, plain, &many, KEEP, text)?;
+    push_kept(alloc, first, &one, 1, text)?;
+    push_kept(alloc, first, &two, 2, text)?;
+    push_kept(alloc, first, &many, KEEP, text)?;
     push_counted(&one.0, " keeping 1", text)?;
     push_counted(&many.0, " keeping 65536", text)
 }
@@ -234,14 +246,14 @@ fn push_all_kept(
 fn told(alloc: Global, case: &Case) -> io::Result<Vec<u8>> {
     let mut text = Vec::new(alloc);
     writeln!(text, "== {}", case.title)?;
-    let plain = run_plain(alloc, case, usize::MAX)?;
-    push_lines(alloc, &plain.1, &mut text)?;
+    let first = run_first(alloc, case)?;
+    push_lines(alloc, &first.1, &mut text)?;
     if !text.ends_with(b"\n") {
         text.push(b'\n')?;
     }
-    push_ending(case, &plain.0, &mut text)?;
-    push_pieces(alloc, case, &plain, &mut text)?;
-    push_all_kept(alloc, case, &plain, &mut text)?;
+    push_ending(case, &first.0, &mut text)?;
+    push_pieces(alloc, case, &first, &mut text)?;
+    push_all_kept(alloc, case, &first, &mut text)?;
     Ok(text)
 }
 

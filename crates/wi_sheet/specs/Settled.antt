@@ -6,7 +6,7 @@ use Rattle.wi_parser.specs.declared.content.Content.TheVariants.{Formula}
 use Rattle.wi_parser.specs.Sheet.{Sheet, content_of, put_all, has_formula}
 use Rattle.wi_parser.specs.Reads.{reads}
 use Rattle.wi_lookup.specs.Assignment.{Assignment}
-use Rattle.wi_functions.specs.Meaning.{meaning, zero_for_empty}
+use Rattle.wi_functions.specs.Meaning.{meaning}
 use Rattle.wi_sheet.specs.CellValue.{cell_value, what_if_value}
 use Rattle.wi_sheet.specs.Demand.{Case, reaching, with_what_if, what_ifs_of}
 
@@ -26,8 +26,8 @@ pub record AgreesWhereSettled (s : Sheet) (kept : ℕ → List Replacement → B
   pub cells : (c : ℕ) → reads t c ≡ true → IsSettled s kept w c → a.cells c ≡ cell_value (put_all s w) c
   pub what_ifs : (f : ℕ) (pairs : List (ℕ × ℕ)) → Contains (what_ifs_of t) (f, pairs) → IsWhatIfSettled s kept w (f, pairs) → a.what_ifs f pairs ≡ what_if_value (put_all s w) f pairs
 
--- A case rests on kept values where its formula gives the case's value by any such values: what isn't settled makes no
--- difference to it.
+-- A case rests on kept values where its formula means by any such values what it means by the sheet's own: what isn't settled
+-- makes no difference to it.
 abbrev pub RestsOnKept : Sheet → (ℕ → List Replacement → Bool) → Case → Type 0
 RestsOnKept s kept k = (t : Tree) (a : Assignment) → content_of (put_all s k.1) k.0 ≡ Some (Formula t) → AgreesWhereSettled s kept k.1 t a →
-    zero_for_empty (meaning t a.cells a.what_ifs) ≡ cell_value (put_all s k.1) k.0
+    meaning t a.cells a.what_ifs ≡ meaning t (cell_value (put_all s k.1)) (what_if_value (put_all s k.1))

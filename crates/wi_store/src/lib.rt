@@ -1,4 +1,4 @@
-//! The contents of a sheet, within limits.
+//! The contents of a sheet, within limits, and the log of edits.
 #![tactic(auto)]
 
 mod fault;
@@ -10,3 +10,4 @@ mod store;
 pub use fault::StoreFault;
 pub use limits::Limits;
 pub use store::Store;
+pub use wi_edit_log::EditLog;

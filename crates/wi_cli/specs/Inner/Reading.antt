@@ -4,8 +4,7 @@ use Rattle.std.specs.Io.KnownBytes.{IsAtEnd, prepend_known}
 use Rattle.wi_cli.specs.declared.fault.RunFault.{RunFault}
 use Rattle.wi_cli.specs.declared.fault.RunFault.TheVariants.{Memory, Read, Write, ScriptLimit}
 use Rattle.wi_cli.specs.Inner.Ahead.{Takes}
-use Rattle.wi_cli.specs.Lines.{is_whole}
-use Rattle.wi_cli.specs.Script.{max_line}
+use Rattle.wi_cli.specs.Lines.{is_whole, max_line}
 
 -- what is kept of a line: one byte more than the greatest length tells that it is too long
 unfoldable pub line_front : List ℕ → List ℕ

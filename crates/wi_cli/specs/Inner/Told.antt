@@ -1,5 +1,5 @@
 -- What is told of one line.
-use Rattle.std.specs.Prelude.{◌≡◌, ℕ, List, [], ◌++◌, Option, Some, None, Ok, Err}
+use Rattle.std.specs.Prelude.{◌≡◌, ℕ, List, [], ◌++◌, Option, Some, None, Result, Ok, Err}
 use Rattle.wi_scenarios.specs.declared.refusal.Refusal.{Refusal}
 use Rattle.wi_scenarios.specs.declared.refusal.Refusal.TheVariants.{Memory}
 use Rattle.wi_scenarios.specs.State.{State}
@@ -12,6 +12,11 @@ use Rattle.wi_cli.specs.Reply.{refused, ok_line}
 abbrev pub RefusedAs : Refusal → State → Command → Type 0
 RefusedAs Memory s c = MayLackMemory s c
 RefusedAs e s c = IsStep s c (Err e)
+
+-- the command is answered by the step, or by want of memory
+abbrev pub IsServed : Command → Result (Unit {0}) Refusal → State → State → List ℕ → Type 0
+IsServed c (Ok _) s t records = IsStep s c (Ok (t, records))
+IsServed c (Err e) s t records = (t ≡ s) × RefusedAs e s c
 
 -- the line is passed over, or its command is answered by the step, or by want of memory
 abbrev pub Told : Option Command → Reply → State → State → List ℕ → Type 0

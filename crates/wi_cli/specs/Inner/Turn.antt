@@ -1,42 +1,60 @@
 -- What one turn of a run does.
-use Rattle.std.specs.Prelude.{◌≡◌, ℕ, ◌<◌, Bool, true, false, List, ◌++◌, length, Option}
+use Rattle.std.specs.Prelude.{◌≡◌, ℕ, ◌<◌, Bool, true, List, [], ◌++◌, filter, filter_map, Option, Some, None}
 use Rattle.std.specs.Option.{option_to_list}
-use Rattle.std.specs.Io.KnownBytes.{Appends, IsAtEnd, prepend_known}
+use Rattle.std.specs.Io.KnownBytes.{Appends}
 use Rattle.wi_cli.specs.declared.fault.RunFault.{RunFault}
 use Rattle.wi_cli.specs.declared.fault.RunFault.TheVariants.{Memory, Read, Write, ScriptLimit}
+use Rattle.wi_cli.specs.declared.csv_line.CsvLine.{CsvLine as ReadCsv}
+use Rattle.wi_cli.specs.declared.data_lines.DataLines.{DataLines}
 use Rattle.wi_scenarios.specs.State.{State}
-use Rattle.wi_cli.specs.Inner.Ahead.{Takes}
-use Rattle.wi_cli.specs.Lines.{is_whole}
-use Rattle.wi_cli.specs.Script.{line_command}
-use Rattle.wi_cli.specs.Inner.Reading.{raw, Broke}
+use Rattle.wi_scenarios.specs.Step.{Command}
+use Rattle.wi_cli.specs.Lines.{raw_lines}
+use Rattle.wi_cli.specs.Blocks.{Block, blocks, is_complete}
+use Rattle.wi_cli.specs.Script.{line_command, block_command}
 use Rattle.wi_cli.specs.Run.{WritesReplies}
+use Rattle.wi_cli.specs.Inner.Taken.{AreBlocksOf, TookLines, BrokeLines}
+use Rattle.wi_cli.specs.Inner.Data.{command_of_csv, wants, HoldsLines}
 
--- a line was taken, whole or up to the end, and served
-pub record Turned (allowed whole : Bool) (buffer : List ℕ) (left : Option (List ℕ)) (buffer' : List ℕ) (left' : Option (List ℕ)) (s t : State) (given given' : Option (List ℕ)) : Type 0 where
-  pub content : List ℕ
-  pub no_lf : is_whole content ≡ false
-  pub taken : Takes buffer left buffer' left' (raw whole content)
-  pub at_end : whole ≡ false → IsAtEnd (prepend_known buffer' left')
-  pub may : 0 < length (raw whole content) → allowed ≡ true
+-- a block was taken, or nothing was there; this is its command, if it has one
+pub record TookBlock (command : Option Command) (whole : Bool) (buffer : List ℕ) (left : Option (List ℕ)) (buffer' : List ℕ) (left' : Option (List ℕ)) (count count' : ℕ) : Type 0 where
+  pub took : TookLines whole buffer left buffer' left' count count'
+  pub taken : List Block
+  pub are_blocks : AreBlocksOf whole (took.lines ++ raw_lines took.last) taken
+  pub is_command : filter_map block_command taken ≡ option_to_list command
+  pub grows : whole ≡ true → count < count'
+
+-- the command of a line and its data lines, as they are read
+abbrev pub IsRead : Option Command → Option ReadCsv → List ℕ → DataLines → Type 0
+IsRead command None line d = command ≡ line_command line
+IsRead command (Some csv) line d =
+    (lines : List (List ℕ)) × (command ≡ Some (command_of_csv csv lines d.missing)) × (d.wanted ≡ wants csv) × HoldsLines d lines
+
+-- no block was taken, but maybe lines of one that isn't complete
+pub record BrokeBlock (fault : RunFault) (buffer : List ℕ) (left : Option (List ℕ)) (buffer' : List ℕ) (left' : Option (List ℕ)) (count : ℕ) : Type 0 where
+  pub broke : BrokeLines fault buffer left buffer' left' count
+  pub none_complete : filter is_complete (blocks broke.lines) ≡ []
+
+-- a block was taken, whole or up to the end, and served
+pub record Turned (whole : Bool) (buffer : List ℕ) (left : Option (List ℕ)) (buffer' : List ℕ) (left' : Option (List ℕ)) (count count' : ℕ) (s t : State) (given given' : Option (List ℕ)) : Type 0 where
+  pub command : Option Command
+  pub block : TookBlock command whole buffer left buffer' left' count count'
   pub out : List ℕ
   pub written : Appends given given' out
-  pub writes : WritesReplies s (option_to_list (line_command content)) out t
+  pub writes : WritesReplies s (option_to_list command) out t
 
--- a line was taken and served, and a front of its reply was written
-pub record CutShort (allowed : Bool) (buffer : List ℕ) (left : Option (List ℕ)) (buffer' : List ℕ) (left' : Option (List ℕ)) (s t : State) (given given' : Option (List ℕ)) : Type 0 where
+-- a block was taken and served, and a front of its reply was written
+pub record CutShort (buffer : List ℕ) (left : Option (List ℕ)) (buffer' : List ℕ) (left' : Option (List ℕ)) (count : ℕ) (s t : State) (given given' : Option (List ℕ)) : Type 0 where
   pub whole : Bool
-  pub content : List ℕ
-  pub no_lf : is_whole content ≡ false
-  pub taken : Takes buffer left buffer' left' (raw whole content)
-  pub at_end : whole ≡ false → IsAtEnd (prepend_known buffer' left')
-  pub may : 0 < length (raw whole content) → allowed ≡ true
+  pub count' : ℕ
+  pub command : Option Command
+  pub block : TookBlock command whole buffer left buffer' left' count count'
   pub out : List ℕ
   pub unwritten : List ℕ
   pub written : Appends given given' out
-  pub writes : WritesReplies s (option_to_list (line_command content)) (out ++ unwritten) t
+  pub writes : WritesReplies s (option_to_list command) (out ++ unwritten) t
 
-abbrev pub Stopped : RunFault → Bool → List ℕ → Option (List ℕ) → List ℕ → Option (List ℕ) → State → State → Option (List ℕ) → Option (List ℕ) → Type 0
-Stopped Memory allowed b l b' l' s t w w' = ⊥
-Stopped Read allowed b l b' l' s t w w' = Broke Read allowed b l b' l' × (t ≡ s) × (w' ≡ w)
-Stopped Write allowed b l b' l' s t w w' = CutShort allowed b l b' l' s t w w'
-Stopped ScriptLimit allowed b l b' l' s t w w' = Broke ScriptLimit allowed b l b' l' × (t ≡ s) × (w' ≡ w)
+abbrev pub Stopped : RunFault → List ℕ → Option (List ℕ) → List ℕ → Option (List ℕ) → ℕ → State → State → Option (List ℕ) → Option (List ℕ) → Type 0
+Stopped Memory b l b' l' count s t w w' = ⊥
+Stopped Read b l b' l' count s t w w' = BrokeBlock Read b l b' l' count × (t ≡ s) × (w' ≡ w)
+Stopped Write b l b' l' count s t w w' = CutShort b l b' l' count s t w w'
+Stopped ScriptLimit b l b' l' count s t w w' = BrokeBlock ScriptLimit b l b' l' count × (t ≡ s) × (w' ≡ w)

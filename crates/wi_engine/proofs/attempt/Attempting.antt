@@ -19,7 +19,7 @@ use Rattle.wi_sheet.proofs.Steps.{value_step, value_plain, put_not_circular}
 use Rattle.wi_sheet.proofs.Demands.{same_tree}
 use Rattle.wi_engine.specs.Inner.Findings.{found_value, what_if_found, AreAllRight}
 use Rattle.wi_engine.specs.Inner.Attempt.{known_in, cell_known}
-use Rattle.wi_engine.specs.Inner.SettledFrames.{IsValueByKnown}
+use Rattle.wi_engine.specs.Inner.SettledFrames.{HasOneMeaning}
 use Rattle.wi_engine.specs.declared.findings.Findings.{Findings}
 
 -- the values of a sheet's cells and what-ifs
@@ -59,9 +59,9 @@ done_with s q w v f g c t (Done x) d e h n is r k =
     ∙ sym (value_step (put_all s w) c t (put_not_circular s w c n) is)
 done_with s q w v f g c t (Needs x) d e h n is r k = tt
 
--- and it is the formula's meaning by all values that agree with what is known
-pub done_by_known : (s q : Sheet) (w v : List Replacement) (f g : Findings) (c : ℕ) (t : Tree) (o : Outcome) → q ≡ s → v ≡ w → g ≡ f → content_of (put_all s w) c ≡ Some (Formula t) →
-    IfDone o (λ x. (a : Assignment) → AgreesWith (cell_known q v g) (what_if_found g) a → x ≡ zero_for_empty (meaning t a.cells a.what_ifs)) → IfDone o (IsValueByKnown s w c f)
-done_by_known s q w v f g c t (Done x) d e h is k = λ u a i r.
-    k a (known_as s q w v f g a d e h r) ∙ ap (λ (y : Tree). zero_for_empty (meaning y a.cells a.what_ifs)) (same_tree t u (content_of (put_all s w) c) is i)
-done_by_known s q w v f g c t (Needs x) d e h is k = tt
+-- and it means one value by all values that agree with what is known
+pub one_meaning_by_known : (s q : Sheet) (w v : List Replacement) (f g : Findings) (c : ℕ) (t : Tree) (o : Outcome) → q ≡ s → v ≡ w → g ≡ f → content_of (put_all s w) c ≡ Some (Formula t) →
+    IfDone o (λ x. (a b : Assignment) → AgreesWith (cell_known q v g) (what_if_found g) a → AgreesWith (cell_known q v g) (what_if_found g) b → meaning t a.cells a.what_ifs ≡ meaning t b.cells b.what_ifs) → IfDone o (λ x. HasOneMeaning s w c f)
+one_meaning_by_known s q w v f g c t (Done x) d e h is k = λ u a b i r l.
+    subst (λ (y : Tree). meaning y a.cells a.what_ifs ≡ meaning y b.cells b.what_ifs) (same_tree t u (content_of (put_all s w) c) is i) (k a b (known_as s q w v f g a d e h r) (known_as s q w v f g b d e h l))
+one_meaning_by_known s q w v f g c t (Needs x) d e h is k = tt

@@ -16,7 +16,7 @@ use Rattle.wi_parser.specs.declared.content.Content.{Content}
 use Rattle.wi_parser.specs.declared.content.Content.TheVariants.{Constant, Formula}
 use Rattle.wi_parser.specs.declared.expr.Pair.{Pair}
 use Rattle.wi_lookup.specs.Assignment.{Assignment, AgreesWith}
-use Rattle.wi_functions.specs.Meaning.{meaning, zero_for_empty}
+use Rattle.wi_functions.specs.Meaning.{meaning}
 use Rattle.wi_lookup.specs.Assignment.{addresses}
 use Rattle.wi_functions.specs.declared.evaluation.Want.TheVariants as wanted
 use Rattle.wi_cache.specs.declared.key.Key.{Key}
@@ -29,7 +29,7 @@ use Rattle.wi_sheet.proofs.Demands.{same_tree}
 use Rattle.wi_sheet.proofs.Meanings.{meaning_same}
 use Rattle.wi_engine.specs.Inner.Findings.{same_pairs, pairs_of, first_for, found_value, what_if_found, AreAllRight, IsWithCell, IsWithWhatIf}
 use Rattle.wi_engine.specs.Inner.Attempt.{AsksAt, known_in, cell_known}
-use Rattle.wi_engine.specs.Inner.SettledFrames.{AreFoundSettled, IsFrameSettled, IsValueByKnown}
+use Rattle.wi_engine.specs.Inner.SettledFrames.{AreFoundSettled, IsFrameSettled, HasOneMeaning}
 use Rattle.wi_engine.specs.Inner.MemoState.{MemoState, IsMemoOf}
 use Rattle.wi_engine.specs.Inner.Saving.{KeepsFound, NeedsNoEvaluation}
 use Rattle.wi_engine.specs.Inner.Frames.{case_at}
@@ -38,7 +38,7 @@ use Rattle.wi_engine.specs.declared.findings.Findings.{Findings}
 use Rattle.wi_engine.specs.declared.findings.FoundWhatIf.{FoundWhatIf}
 use Rattle.wi_engine.proofs.Saved.{settled_more, what_if_more}
 use Rattle.wi_engine.proofs.engine.Resting.{asked_in}
-use Rattle.wi_engine.proofs.attempt.Attempting.{known_agrees}
+use Rattle.wi_engine.proofs.attempt.Attempting.{known_agrees, values_in}
 use Rattle.wi_engine.proofs.findings.FoundPairs.{same_lists, first_for-push}
 
 -- ---- a value that was found by what is settled rests on it
@@ -81,12 +81,14 @@ mixed_agrees s kept w t f a r h g = record {
     what c ps None is k = tt
     what c ps (Some v) is k = is ∙ sym (g.what_ifs c ps k.0 k.1)
 
-pub done_rests : (s : Sheet) (kept : ℕ → List Replacement → Bool) (w : List Replacement) (c : ℕ) (t : Tree) (f : Findings) (v : Value) → content_of (put_all s w) c ≡ Some (Formula t) → AreAllRight (cell_value (put_all s w)) (what_if_value (put_all s w)) f → AreFoundSettled s kept w t f →
-    v ≡ cell_value (put_all s w) c → ((a : Assignment) → AgreesWith (cell_known s w f) (what_if_found f) a → v ≡ zero_for_empty (meaning t a.cells a.what_ifs)) → RestsOnKept s kept (c, w)
-done_rests s kept w c t f v is r h e k u a i g =
+pub done_rests : (s : Sheet) (kept : ℕ → List Replacement → Bool) (w : List Replacement) (c : ℕ) (t : Tree) (f : Findings) → content_of (put_all s w) c ≡ Some (Formula t) → AreAllRight (cell_value (put_all s w)) (what_if_value (put_all s w)) f → AreFoundSettled s kept w t f →
+    HasOneMeaning s w c f → RestsOnKept s kept (c, w)
+done_rests s kept w c t f is r h one u a i g =
     let same = same_tree t u (content_of (put_all s w) c) is i in
     let here : AgreesWhereSettled s kept w t a = subst (λ (x : Tree). AgreesWhereSettled s kept w x a) (sym same) g in
-    ap (λ (x : Tree). zero_for_empty (meaning x a.cells a.what_ifs)) (sym same) ∙ ap zero_for_empty (sym (same_meaning (put_all s w) t a)) ∙ sym (k (mixed (put_all s w) t a) (mixed_agrees s kept w t f a r h here)) ∙ e
+    let own = values_in (put_all s w) in
+    let meant = sym (same_meaning (put_all s w) t a) ∙ one t (mixed (put_all s w) t a) own is (mixed_agrees s kept w t f a r h here) (known_agrees s w f r) in
+    subst (λ (x : Tree). meaning x a.cells a.what_ifs ≡ meaning x own.cells own.what_ifs) same meant
 
 -- ---- with more that is kept, what was found is settled still
 
@@ -169,15 +171,22 @@ frame_what_if s kept f g x world ps more asks ep ew inputs inner h t k =
     settled_what_if s kept f.key.world t f.found g x more there (record { replacing = all; formula_cell = cell }) (h t k)
 
 -- a frame that is done rests on kept values
-pub frame_rests : (s : Sheet) (kept : ℕ → List Replacement → Bool) (f : Frame) (v : Value) → AreAllRight (cell_value (put_all s f.key.world)) (what_if_value (put_all s f.key.world)) f.found → IsFrameSettled s kept f → v ≡ cell_value (put_all s f.key.world) f.key.cell →
-    IsValueByKnown s f.key.world f.key.cell f.found v → RestsOnKept s kept (case_at f.key)
-frame_rests s kept f v r h e k t a i g = done_rests s kept f.key.world f.key.cell t f.found v i r (h t i) e (λ b j. k t b i j) t a i g
+pub frame_rests : (s : Sheet) (kept : ℕ → List Replacement → Bool) (f : Frame) → AreAllRight (cell_value (put_all s f.key.world)) (what_if_value (put_all s f.key.world)) f.found → IsFrameSettled s kept f → HasOneMeaning s f.key.world f.key.cell f.found → RestsOnKept s kept (case_at f.key)
+frame_rests s kept f r h one t a i g = done_rests s kept f.key.world f.key.cell t f.found i r (h t i) one t a i g
 
 pub round_settled : (s : Sheet) (m n : MemoState) (f g h : Frame) → n ≡ m → (KeepsFound m → IsFrameSettled s m.kept f → IsFrameSettled s m.kept g) → (KeepsFound n → IsFrameSettled s n.kept g → IsFrameSettled s n.kept h) → KeepsFound m → IsFrameSettled s m.kept f → IsFrameSettled s m.kept h
 round_settled s m n f g h e first next whole k =
     let there : KeepsFound m → IsFrameSettled s m.kept g → IsFrameSettled s m.kept h = subst (λ (x : MemoState). KeepsFound x → IsFrameSettled s x.kept g → IsFrameSettled s x.kept h) e next in
     there whole (first whole k)
 
-pub done_settled : (s : Sheet) (m : MemoState) (f h : Frame) (v : Value) → h.key ≡ f.key → AreAllRight (cell_value (put_all s h.key.world)) (what_if_value (put_all s h.key.world)) h.found → v ≡ cell_value (put_all s h.key.world) h.key.cell → IsValueByKnown s h.key.world h.key.cell h.found v →
+pub done_settled : (s : Sheet) (m : MemoState) (f h : Frame) → h.key ≡ f.key → AreAllRight (cell_value (put_all s h.key.world)) (what_if_value (put_all s h.key.world)) h.found → HasOneMeaning s h.key.world h.key.cell h.found →
     (KeepsFound m → IsFrameSettled s m.kept f → IsFrameSettled s m.kept h) → KeepsFound m → IsFrameSettled s m.kept f → RestsOnKept s m.kept (case_at f.key)
-done_settled s m f h v e r is all grows whole k = subst (λ (x : Key). RestsOnKept s m.kept (case_at x)) e (frame_rests s m.kept h v r (grows whole k) is all)
+done_settled s m f h e r one grows whole k = subst (λ (x : Key). RestsOnKept s m.kept (case_at x)) e (frame_rests s m.kept h r (grows whole k) one)
+
+-- the same values, found for the same frame
+abbrev IsSettledFor : Sheet → (ℕ → List Replacement → Bool) → Key → Findings → Type 0
+IsSettledFor s kept k f = (t : Tree) → content_of (put_all s k.world) k.cell ≡ Some (Formula t) → AreFoundSettled s kept k.world t f
+
+pub settled_again : (s : Sheet) (kept : ℕ → List Replacement → Bool) (f h : Frame) → h.key ≡ f.key → h.found ≡ f.found → IsFrameSettled s kept f → IsFrameSettled s kept h
+settled_again s kept f h k e is =
+    subst (λ (x : Key). IsSettledFor s kept x h.found) (sym k) (subst (λ (x : Findings). IsSettledFor s kept f.key x) (sym e) is)

@@ -1,5 +1,5 @@
 -- What a frame waits for is found, or a key is next.
-use Rattle.std.proofs.Common.{◌≡◌, ◌==◌, ◌+◌, ◌<◌, ◌≤◌, ℕ, zero, suc, Bool, true, false, ◌&&◌, if◌then◌else◌, List, [], ◌∷◌, map, length, get_or, All, Option, Some, inl, inr, ◌⊎◌, refl, ap, sym, ◌∙◌, subst, arith, eq-eqb}
+use Rattle.std.proofs.Common.{◌≡◌, ◌==◌, ◌+◌, ◌-◌, ◌<◌, ◌≤◌, ℕ, zero, suc, Bool, true, false, ◌&&◌, if◌then◌else◌, List, [], ◌∷◌, map, length, get_or, All, Option, Some, inl, inr, ◌⊎◌, refl, ap, sym, ◌∙◌, subst, arith, eq-eqb}
 use Rattle.std.proofs.lemmas.Bool.{or_left, or_right}
 use Rattle.std.specs.List.{list_any}
 use Rattle.std.specs.Option.{is_none}
@@ -38,13 +38,13 @@ use Rattle.wi_engine.proofs.engine.Awaiting.{some_cell, some_what_if, some_lacks
 -- ---- how often a formula may still be evaluated again
 
 pub spare_waiting : (s : Sheet) (k : Key) (f : Findings) (w : Waiting) (g : Frame) → Awaits s (case_at k) f w → waits w ≡ 1 → lacks s k f ≤ lacks s g.key g.found → g.waiting ≡ Nothing →
-    spare s (record { key = k; found = f; waiting = w }) + 1 ≤ spare s g
+    (lacks s k f - waits w) + 1 ≤ spare s g
 spare_waiting s k f w g a e l n =
     let some = some_lacks s k f w a in
     let z = ap waits n in
     omega (arith, some, e, l, z)
 
-pub spare_found : (s : Sheet) (k : Key) (f : Findings) (w : Waiting) (g : Frame) → lacks s k f + 1 ≤ lacks s g.key g.found → g.waiting ≡ Nothing → spare s (record { key = k; found = f; waiting = w }) + 1 ≤ spare s g
+pub spare_found : (s : Sheet) (k : Key) (f : Findings) (w : Waiting) (g : Frame) → lacks s k f + 1 ≤ lacks s g.key g.found → g.waiting ≡ Nothing → (lacks s k f - waits w) + 1 ≤ spare s g
 spare_found s k f w g l n =
     let z = ap waits n in
     omega (arith, l, z)
@@ -138,10 +138,19 @@ want_counted s f want n m start bound h l e is k b =
     let one = one_more_at_most n m is in
     omega (arith, some, z, one, k, b)
 
-pub round_smaller : (s : Sheet) (w : Waiting) (f g : Frame) → Awaits s (case_at f.key) f.found w → waits w ≡ 1 → f.waiting ≡ Nothing → spare s f ≤ spare s g → spare s (record { key = f.key; found = f.found; waiting = w }) < spare s g
-round_smaller s w f g a e n l =
-    let less = spare_waiting s f.key f.found w f a e (omega arith) n in
-    omega (arith, less, l)
+-- the same frame, which waits for what it lacks
+module _ (s : Sheet) (f h : Frame) (k : h.key ≡ f.key) (e : h.found ≡ f.found) (awaits : Awaits s (case_at f.key) f.found h.waiting) where
+  pub frame_waits : (m : MemoState) → IsFrame s m f → IsFrame s m h
+  frame_waits m is = frame_with s m f h is k (rw e is.found) (rw e awaits)
+
+  pub spare_falls : waits h.waiting ≡ 1 → f.waiting ≡ Nothing → spare s h + 1 ≤ spare s f
+  spare_falls w n =
+      let less = spare_waiting s f.key f.found h.waiting f awaits w (omega arith) n in
+      let same : lacks s h.key h.found ≡ lacks s f.key f.found = ap (λ (x : Key). lacks s x h.found) k ∙ ap (lacks s f.key) e in
+      omega (arith, less, same)
+
+pub round_smaller : (s : Sheet) (f g h : Frame) → spare s h + 1 ≤ spare s f → spare s f ≤ spare s g → spare s h < spare s g
+round_smaller s f g h less l = omega (arith, less, l)
 
 -- of some cells none is lacked but those that are left and the next one, once the value of the one before was found
 pub lacked_next : (s : Sheet) (w : List Replacement) (f g : Findings) (a next : ℕ) (v : Value) (all others rest : List ℕ) → IsWithCell f g a v →

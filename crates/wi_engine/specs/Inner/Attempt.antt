@@ -1,7 +1,7 @@
 -- What is known while one formula is valued, what it lacks, and what it asks for.
-use Rattle.std.specs.Prelude.{◌≡◌, ◌≤◌, ℕ, ◌+◌, Bool, ◌&&◌, true, List, ◌∷◌, map, filter, take, length, Contains, Option, Some, None}
+use Rattle.std.specs.Prelude.{◌≡◌, ℕ, ◌+◌, Bool, ◌&&◌, true, List, map, filter, length, Option, Some, None}
 use Rattle.std.specs.Option.{is_none}
-use Rattle.wi_values.specs.Address.{Area, is_within, size_of}
+use Rattle.wi_values.specs.Address.{Area}
 use Rattle.wi_values.specs.declared.value.Value.{Value}
 use Rattle.wi_values.specs.declared.value.Value.TheVariants.{Empty}
 use Rattle.wi_values.specs.declared.replacement.Replacement.{Replacement}
@@ -10,14 +10,13 @@ use Rattle.wi_parser.specs.View.{pair_of}
 use Rattle.wi_parser.specs.declared.content.Content.{Content}
 use Rattle.wi_parser.specs.declared.content.Content.TheVariants.{Constant, Formula}
 use Rattle.wi_parser.specs.Sheet.{Sheet, content_of, put_all, has_formula}
-use Rattle.wi_parser.specs.Reads.{rectangles_of}
 use Rattle.wi_lookup.specs.Assignment.{addresses}
 use Rattle.wi_functions.specs.Wants.{Asks}
 use Rattle.wi_functions.specs.declared.evaluation.Want.{Want}
 use Rattle.wi_functions.specs.declared.evaluation.Want.TheVariants.{Cell, WhatIf}
 use Rattle.wi_sheet.specs.Demand.{formulas_read_here, what_ifs_of}
 use Rattle.wi_engine.specs.Inner.Findings.{found_value, what_if_found}
-use Rattle.wi_engine.specs.Inner.ReadCells.{formulas_after}
+use Rattle.wi_engine.specs.Inner.ReadCells.{cells_after}
 use Rattle.wi_engine.specs.declared.findings.Findings.{Findings}
 
 -- what is known of a cell with this content, of which this was found
@@ -52,15 +51,6 @@ lacking s t f =
     length (filter (λ c. is_none (found_value f c)) (formulas_read_here s t))
     + length (filter (λ x. is_none (what_if_found f x.0 x.1)) (what_ifs_of t))
 
--- the rectangle is one of these, it holds the cell, and none of these that holds it has fewer cells
-pub record IsSmallestWith (rs : List Area) (a : ℕ) (r : Area) : Type 0 where
-  pub one_of : Contains rs r
-  pub holds : is_within r a ≡ true
-  pub least : (o : Area) → Contains rs o → is_within o a ≡ true → size_of r ≤ size_of o
-
--- the cells are this one and the next so many with a formula, or all that there are, of one rectangle that the formula reads,
--- a smallest that holds the cell
-pub record AreTogether (s : Sheet) (t : Tree) (a more : ℕ) (xs : List ℕ) : Type 0 where
-  pub rectangle : Area
-  pub smallest : IsSmallestWith (rectangles_of t) a rectangle
-  pub cells : xs ≡ a ∷ take more (formulas_after s rectangle a)
+-- the cells of a rectangle after this one whose values are lacking
+abbrev pub lacking_after : Sheet → List Replacement → Findings → Area → ℕ → List ℕ
+lacking_after s w f r a = filter (lacks_cell s w f) (cells_after s r (Some a))

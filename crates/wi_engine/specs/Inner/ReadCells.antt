@@ -5,7 +5,7 @@ use Rattle.std.specs.Map.{keys_of}
 use Rattle.wi_values.specs.Address.{Area, is_within}
 use Rattle.wi_parser.specs.declared.content.Content.{Content}
 use Rattle.wi_parser.specs.declared.content.Content.TheVariants.{Constant, Formula}
-use Rattle.wi_parser.specs.Sheet.{Sheet, content_of, has_formula}
+use Rattle.wi_parser.specs.Sheet.{Sheet}
 use Rattle.wi_parser.specs.Reads.{rectangles_of}
 
 -- the rectangles that a content reads
@@ -26,7 +26,3 @@ is_after (Some c) a = nat_lt c a
 -- the occupied cells of a rectangle after the one last looked at
 abbrev pub cells_after : Sheet → Area → Option ℕ → List ℕ
 cells_after s r o = filter (is_after o) (filter (is_within r) (keys_of s))
-
--- the cells of a rectangle after this one that have a formula
-abbrev pub formulas_after : Sheet → Area → ℕ → List ℕ
-formulas_after s r a = filter (λ c. has_formula (content_of s c)) (cells_after s r (Some a))

@@ -1,10 +1,9 @@
 -- Copies of a content that are made one after another.
 use Rattle.std.specs.Prelude.{◌≡◌, ℕ, Bool, true, false, not, List, map, Option, Some, None, is_some, Result, Ok, Err}
 use Rattle.std.specs.List.{list_any}
-use Rattle.wi_parser.specs.declared.content.Content.{Content}
 use Rattle.wi_parser.specs.declared.shift.ShiftFault.{ShiftFault}
 use Rattle.wi_parser.specs.declared.shift.ShiftFault.TheVariants.{LeavesSheet, Memory}
-use Rattle.wi_scenarios.specs.Edits.{Edit}
+use Rattle.wi_parser.specs.declared.content.Content.{Content}
 use Rattle.wi_scenarios.specs.Fill.{rows_between, columns_between, copied, or_nothing}
 
 -- the copy of a content that stands in a cell for another cell
@@ -21,7 +20,7 @@ CopiesAs found (Err LeavesSheet) = found ≡ None
 CopiesAs found (Err Memory) = Unit {0}
 
 -- each of some cells has a copy, and gets it
-pub record AreCopies (content : Option Content) (from : ℕ) (cells : List ℕ) (changes : Edit) : Type 0 where
+pub record AreCopies (content : Option Content) (from : ℕ) (cells : List ℕ) (changes : List (ℕ × Option Content)) : Type 0 where
   pub all : list_any (leaves content from) cells ≡ false
   pub each : changes ≡ map (λ to. (to, or_nothing (copy_to content from to))) cells
 

@@ -22,7 +22,11 @@ returns-in-Ok-None-next_byte-clause-took g c =
 pub returns-in-Err-next_byte-clause-took : goal.returns-in-Err-next_byte-clause-took
 returns-in-Err-next_byte-clause-took g c =
     let old = c.loop-byte.invariant in
-    failed _ _ _ _ _ _ c.loop-byte.line.items c.loop-byte.byte c.args.allowed old.within c.loop-byte-test.true old.may c.in-Err-next_byte.ensures.empty c.in-Err-next_byte.ensures.err
+    let broke = failed _ _ _ _ _ _ c.loop-byte.line.items c.loop-byte.byte c.args.allowed old.within c.loop-byte-test.true old.may c.in-Err-next_byte.ensures.empty c.in-Err-next_byte.ensures.err in
+    search rules
+
+pub returns-in-Err-next_byte-clause-works : goal.returns-in-Err-next_byte-clause-works
+returns-in-Err-next_byte-clause-works g c = search rules
 
 pub returns-in-Ok-None-clause-took : goal.returns-in-Ok-None-clause-took
 returns-in-Ok-None-clause-took g c =

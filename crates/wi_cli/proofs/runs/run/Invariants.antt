@@ -7,7 +7,7 @@ invariant-loop-out g l =
     let left = g.R.Source.remaining in
     let given = g.W.Sink.contents in
     record {
-      going : IsGoing (left l.fn.reader) l.chunk (left l.reader) l.fn.book l.book (given l.fn.writer) (given l.writer) l.lines;
+      going : IsGoing (left l.fn.reader) l.chunk (left l.reader) l.fn.book.state l.book.state (given l.fn.writer) (given l.writer) l.lines;
       few : l.lines ≤ 1000000;
       reads : g.R.Source.has_failed l.reader ≡ false;
       writes : g.W.Sink.has_failed l.writer ≡ false;

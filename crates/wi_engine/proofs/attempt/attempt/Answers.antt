@@ -1,6 +1,6 @@
 use Rattle.std.proofs.Common.{ap, sym, rules}
 use Rattle.std.proofs.lemmas.Result.{IfOk-weaker}
-use Rattle.wi_engine.proofs.attempt.Attempting.{done_with, done_by_known}
+use Rattle.wi_engine.proofs.attempt.Attempting.{done_with, one_meaning_by_known}
 use Rattle.wi_engine.proofs.attempt.attempt.Goals as goal
 
 pub returns-clause-done : goal.returns-clause-done
@@ -15,11 +15,11 @@ returns-clause-done c =
 pub returns-clause-counted : goal.returns-clause-counted
 returns-clause-counted c = search rules
 
-pub returns-clause-by_known : goal.returns-clause-by_known
-returns-clause-by_known c =
+pub returns-clause-one_meaning : goal.returns-clause-one_meaning
+returns-clause-one_meaning c =
     let known = c.new-known.result in
     let stands = c.new-known.ensures in
     IfOk-weaker c.evaluate.result _ _
-    (λ o h. done_by_known c.args.store.now.sheet known.store.now.sheet c.args.world.now known.world.now c.args.found.now known.found.now c.args.at c.in-Formula.formula.now o
+    (λ o h. one_meaning_by_known c.args.store.now.sheet known.store.now.sheet c.args.world.now known.world.now c.args.found.now known.found.now c.args.at c.in-Formula.formula.now o
     (ap (λ k. k.sheet) stands.store) stands.world stands.found (sym c.in-Formula.ensures) h)
-    c.evaluate.ensures.done
+    c.evaluate.ensures.one_meaning

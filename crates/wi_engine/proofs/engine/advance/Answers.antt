@@ -1,14 +1,13 @@
-use Rattle.std.proofs.Common.{◌≤◌, ◌+◌, Ok, ap, ◌∙◌, refl, rules, arith}
+use Rattle.std.proofs.Common.{◌≤◌, ◌+◌, Ok, ap, ◌∙◌, rules}
 use Rattle.wi_functions.specs.Counts.{Counts}
 use Rattle.wi_sheet.proofs.Counting.{never_fall-then}
 use Rattle.wi_engine.specs.Inner.Frames.{IsFrame, spare}
-use Rattle.wi_engine.proofs.engine.Awaiting.{frame_with}
-use Rattle.wi_engine.proofs.engine.Settling.{spare_waiting, round_counted, want_counted, round_smaller}
-use Rattle.wi_engine.proofs.engine.FoundSettled.{round_settled, done_settled}
+use Rattle.wi_engine.proofs.engine.Settling.{frame_waits, spare_falls, round_counted, want_counted, round_smaller}
+use Rattle.wi_engine.proofs.engine.FoundSettled.{round_settled, done_settled, settled_again}
 use Rattle.wi_engine.proofs.engine.advance.Goals as goal
 
-pub returns-in_err-frame-in-Needs-clause-err_restarts : goal.returns-in_err-frame-in-Needs-clause-err_restarts
-returns-in_err-frame-in-Needs-clause-err_restarts g c =
+pub returns-in_err-wait_for-in-Needs-clause-err_restarts : goal.returns-in_err-wait_for-in-Needs-clause-err_restarts
+returns-in_err-wait_for-in-Needs-clause-err_restarts g c =
     let s = c.args.store.now.sheet in
     let i = c.rounds.invariant in
     let f = c.settle.new.frame in
@@ -23,8 +22,12 @@ returns-in_err-frame-in-Needs-clause-err_restarts g c =
 
 pub rounds-smaller : goal.rounds-smaller
 rounds-smaller g c =
+    let s = c.args.store.now.sheet in
+    let f = c.settle.new.frame in
+    let h = c.wait_for.new.frame in
+    let w = c.in_ok-wait_for-in-Needs.ensures in
     let nothing = c.in_ok-key.ensures.settled (ap (λ o. Ok o) c.in_default.is) in
-    round_smaller c.args.store.now.sheet c.in_ok-frame-in-Needs.field-0 c.settle.new.frame c.rounds.frame c.in_ok-frame-in-Needs.ensures.awaits c.in_ok-frame-in-Needs.ensures.waits nothing c.in_ok-key.ensures.spare
+    round_smaller s f c.rounds.frame h (spare_falls s f h c.wait_for.ensures.key c.wait_for.ensures.found w.awaits w.waits nothing) c.in_ok-key.ensures.spare
 
 pub rounds-preserved : goal.rounds-preserved
 rounds-preserved g c =
@@ -32,18 +35,20 @@ rounds-preserved g c =
     let m = g.M.Memo.state c.args.memo.now in
     let i = c.rounds.invariant in
     let f = c.settle.new.frame in
-    let w = c.in_ok-frame-in-Needs.field-0 in
+    let h = c.wait_for.new.frame in
+    let w = c.in_ok-wait_for-in-Needs.ensures in
+    let same = c.wait_for.ensures in
     let nothing = c.in_ok-key.ensures.settled (ap (λ o. Ok o) c.in_default.is) in
     let counted = rw c.in-Needs.is at c.in_ok-value.ensures.counted in
     let frame : IsFrame s m f = rw i.same at c.in_ok-key.ensures.frame in
-    let less = spare_waiting s f.key f.found w f c.in_ok-frame-in-Needs.ensures.awaits c.in_ok-frame-in-Needs.ensures.waits (omega arith) nothing in
+    let less = spare_falls s f h same.key same.found w.awaits w.waits nothing in
     record {
-      key = c.in_ok-key.ensures.key ∙ i.key;
-      frame = frame_with s m f _ frame refl frame.found c.in_ok-frame-in-Needs.ensures.awaits;
+      key = same.key ∙ c.in_ok-key.ensures.key ∙ i.key;
+      frame = frame_waits s f h same.key same.found w.awaits m frame;
       evaluations = ap (λ (n : Counts). n.evaluations) counted ∙ i.evaluations;
       counts = never_fall-then _ _ _ i.counts c.attempt.ensures.counts;
       restarts = round_counted c.rounds.meter.restarts c.attempt.new.meter.restarts _ (spare s f) (spare s c.rounds.frame) _ (ap (λ (n : Counts). n.restarts) counted) less c.in_ok-key.ensures.spare i.restarts;
-      settled = round_settled s m (g.M.Memo.state c.rounds.memo) c.args.frame.now c.rounds.frame f i.same i.settled c.in_ok-key.ensures.found;
+      settled = λ whole k. settled_again s m.kept f h same.key same.found (round_settled s m (g.M.Memo.state c.rounds.memo) c.args.frame.now c.rounds.frame f i.same i.settled c.in_ok-key.ensures.found whole k);
       same = c.in_ok-key.ensures.same ∙ i.same;
     }
 
@@ -60,9 +65,8 @@ returns-in-Done-clause-found g c =
 pub returns-in-Done-clause-rests : goal.returns-in-Done-clause-rests
 returns-in-Done-clause-rests g c =
     let i = c.rounds.invariant in
-    let done = rw c.in-Done.is at c.in_ok-value.ensures.done in
-    let all = rw c.in-Done.is at c.in_ok-value.ensures.by_known in
-    done_settled c.args.store.now.sheet (g.M.Memo.state c.args.memo.now) c.args.frame.now c.settle.new.frame c.in-Done.value (c.in_ok-key.ensures.key ∙ i.key) c.in_ok-key.ensures.frame.found done all
+    let one = rw c.in-Done.is at c.in_ok-value.ensures.one_meaning in
+    done_settled c.args.store.now.sheet (g.M.Memo.state c.args.memo.now) c.args.frame.now c.settle.new.frame (c.in_ok-key.ensures.key ∙ i.key) c.in_ok-key.ensures.frame.found one
     (round_settled c.args.store.now.sheet (g.M.Memo.state c.args.memo.now) (g.M.Memo.state c.rounds.memo) c.args.frame.now c.rounds.frame c.settle.new.frame i.same i.settled c.in_ok-key.ensures.found)
 
 pub returns-in-Done-clause-evaluations : goal.returns-in-Done-clause-evaluations

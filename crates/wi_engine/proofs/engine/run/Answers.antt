@@ -92,6 +92,12 @@ frames-preserved g c =
           k.found takes value c.advance.ensures.counts counted restarts rests;
     }
 
+pub returns-in_err-push-in-Needs-clause-takes : goal.returns-in_err-push-in-Needs-clause-takes
+returns-in_err-push-in-Needs-clause-takes g c =
+    let a = c.in_ok-next.ensures in
+    let counted = rw c.in-Needs.is at a.evaluations in
+    push_takes (g.M.Memo.state c.args.memo.now) (g.M.Memo.state c.frames.memo) (g.M.Memo.state c.advance.new.memo) c.args.meter.now.evaluations c.frames.meter.evaluations c.advance.new.meter.evaluations c.frames.invariant.places a.same counted
+
 pub returns-in_err-keep-in-Some-clause-takes : goal.returns-in_err-keep-in-Some-clause-takes
 returns-in_err-keep-in-Some-clause-takes g c =
     let a = c.in_ok-next.ensures in

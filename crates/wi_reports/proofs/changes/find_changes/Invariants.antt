@@ -1,6 +1,7 @@
-use Rattle.std.proofs.Common.{◌≡◌, ◌++◌, [], drop}
+use Rattle.std.proofs.Common.{◌≡◌, ◌≤◌, ◌+◌, ◌++◌, [], drop}
 use Rattle.wi_sheet.specs.Shown.{shown}
 use Rattle.wi_sessions.specs.Pictures.{changes_among}
+use Rattle.wi_reports.specs.Looks.{evaluations_for, restarts_for}
 use Rattle.wi_reports.proofs.changes.find_changes.Given as goal
 
 -- what was found, with what is still to come, is all
@@ -9,9 +10,12 @@ invariant-loop-at g l =
     let stored = g.C.Calculator.stored in
     let evaluated = g.C.Calculator.evaluated in
     let restarted = g.C.Calculator.restarted in
-    let shown_now = shown (stored l.fn.calculator).sheet l.put in
+    let sheet = (stored l.fn.calculator).sheet in
+    let shown_now = shown sheet l.put in
     record {
       same : stored l.calculator ≡ stored l.fn.calculator;
       found : l.found.items ++ changes_among (drop l.at-index l.cells) l.picture shown_now ≡ changes_among l.cells l.picture shown_now;
       quiet : l.cells ≡ [] → (evaluated l.calculator ≡ evaluated l.fn.calculator) × (restarted l.calculator ≡ restarted l.fn.calculator);
+      evaluations : evaluated l.calculator + evaluations_for sheet l.put (drop l.at-index l.cells) ≤ evaluated l.fn.calculator + evaluations_for sheet l.put l.cells;
+      restarts : restarted l.calculator + restarts_for sheet l.put (drop l.at-index l.cells) ≤ restarted l.fn.calculator + restarts_for sheet l.put l.cells;
     }

@@ -1,9 +1,13 @@
-use Rattle.std.proofs.Common.{rules}
-use Rattle.wi_scenarios.proofs.ClearLemmas.{clear_served}
+use Rattle.std.proofs.Common.{◌≡◌, ◌∙◌, [], ◌∷◌, rules}
+use Rattle.wi_scenarios.specs.Inner.Held.{state_of}
+use Rattle.wi_scenarios.proofs.ClearLemmas.{emptied_are, clear_edited}
 use Rattle.wi_scenarios.proofs.clear.clear.Goals as goal
 
-pub returns : goal.returns
-returns g c = search (rules, clear_served)
-
-pub returns-in_err-apply : goal.returns-in_err-apply
-returns-in_err-apply g c = search (rules, clear_served)
+pub returns-clause-step : goal.returns-clause-step
+returns-clause-step g c =
+    let old = g.C.Calculator.stored c.args.calculator.now in
+    let named : c.in_ok-named.named.items ≡ c.args.area ∷ [] = search rules in
+    clear_edited c.apply_edit.result (state_of old c.args.desk.now) (state_of (g.C.Calculator.stored c.apply_edit.new.calculator) c.apply_edit.new.desk) c.args.force c.args.area
+    c.in_ok-named.named.items c.in_ok-contents.contents.items named
+    (emptied_are old.sheet c.args.area c.deref.result.now c.in_ok-contents.contents.items (c.deref.ensures.value ∙ c.in_ok-cells.ensures) c.in_ok-contents.ensures)
+    c.apply_edit.ensures.step

@@ -1,9 +1,8 @@
-use Rattle.std.proofs.Common.{arith, rules}
-use Rattle.std.proofs.lemmas.Grind.{common_steps}
+use Rattle.std.proofs.Common.{rules}
 use Rattle.wi_scenarios.proofs.show.show.Goals as goal
 
-pub returns-then-size-gt-MAX_AREA : goal.returns-then-size-gt-MAX_AREA
-returns-then-size-gt-MAX_AREA g c = search rules
+pub returns-then-is_too_large-clause-step : goal.returns-then-is_too_large-clause-step
+returns-then-is_too_large-clause-step g c = search rules
 
-pub returns-in_err-pushed : goal.returns-in_err-pushed
-returns-in_err-pushed g c = grind (arith, common_steps)
+pub returns-clause-step : goal.returns-clause-step
+returns-clause-step g c = search rules

@@ -1,5 +1,5 @@
 use Rattle.std.proofs.Common.{rules}
 use Rattle.wi_scenarios.proofs.workbook.Workbook.new.Goals as goal
 
-pub returns : goal.returns
-returns g c = search rules
+pub returns-clause-state : goal.returns-clause-state
+returns-clause-state g c = search rules

@@ -1,0 +1,5 @@
+use Rattle.std.proofs.Common.{rules}
+use Rattle.wi_cli.proofs.csv_line.read_operands.Goals as goal
+
+pub returns : goal.returns
+returns c = search rules

@@ -1,0 +1,5 @@
+use Rattle.std.proofs.Common.{rules}
+use Rattle.wi_cli.proofs.lines.may_go_on.Goals as goal
+
+pub returns : goal.returns
+returns c = search rules

@@ -1,0 +1,73 @@
+-- Data lines, as they are read and held.
+use Rattle.std.specs.Prelude.{◌≡◌, ℕ, ◌+◌, ◌<◌, Bool, true, false, ◌&&◌, ◌==◌, List, [], ◌++◌, length, Option, Some, None, Result, Ok, Err, is_ok, if◌then◌else◌}
+use Rattle.std.specs.List.{list_any, concat}
+use Rattle.wi_values.specs.AddressReading.{read_address}
+use Rattle.wi_values.specs.declared.address.AddressFault.{AddressFault}
+use Rattle.wi_values.specs.declared.address.AddressFault.TheVariants.{Shape, Outside}
+use Rattle.wi_scenarios.specs.declared.refusal.Refusal.{Refusal}
+use Rattle.wi_scenarios.specs.declared.refusal.Refusal.TheVariants.{BadCommand, BadLine, OutOfSheet, CutShort}
+use Rattle.wi_scenarios.specs.State.{State}
+use Rattle.wi_scenarios.specs.Step.{Command, Csv}
+use Rattle.wi_scenarios.specs.Step as spell
+use Rattle.wi_cli.specs.declared.csv_line.CsvLine.{CsvLine as ReadCsv}
+use Rattle.wi_cli.specs.declared.data_lines.Held.{Held}
+use Rattle.wi_cli.specs.declared.data_lines.Held.TheVariants.{All, Lacking, TooLong}
+use Rattle.wi_cli.specs.declared.data_lines.DataLines.{DataLines}
+use Rattle.wi_cli.specs.declared.fault.RunFault.{RunFault}
+use Rattle.wi_cli.specs.Lines.{raw_lines}
+use Rattle.wi_cli.specs.CsvCommand.{CsvLine, is_long, csv_command}
+use Rattle.wi_cli.specs.Inner.Told.{RefusedAs}
+use Rattle.wi_cli.specs.Inner.Taken.{TookLines, BrokeLines}
+
+-- a line that asks for data lines, as it was read
+abbrev pub IsCsv : Option CsvLine → Option ReadCsv → Type 0
+IsCsv o None = o ≡ None
+IsCsv o (Some csv) =
+    (word : List ℕ) × (o ≡ Some (record { force = csv.force; address = word; lines = csv.lines })) × (csv.at ≡ read_address word)
+
+-- what it is as a command, with its data lines and how many of them are missing
+abbrev pub command_of_csv : ReadCsv → List (List ℕ) → ℕ → Command
+command_of_csv csv lines missing = if csv.is_text then csv_command csv.force csv.at lines missing else spell.Refused BadLine
+
+-- its data lines are to be held
+abbrev pub wants : ReadCsv → Bool
+wants csv = csv.is_text && is_ok csv.at
+
+-- what became of the data lines that were taken
+abbrev pub Holds : Bool → Held → List ℕ → List (List ℕ) → Type 0
+Holds wanted All bytes lines = (list_any is_long lines ≡ false) × (wanted ≡ true → bytes ≡ concat lines)
+Holds wanted Lacking bytes lines = wanted ≡ true
+Holds wanted TooLong bytes lines = list_any is_long lines ≡ true
+
+abbrev pub HoldsLines : DataLines → List (List ℕ) → Type 0
+HoldsLines d lines = Holds d.wanted d.held d.bytes.items lines
+
+-- lines were added
+pub record AddedTo (d d' : DataLines) (lines : List (List ℕ)) : Type 0 where
+  pub wanted : d'.wanted ≡ d.wanted
+  pub missing : d'.missing + length lines ≡ d.missing
+  pub held : (before : List (List ℕ)) → HoldsLines d before → HoldsLines d' (before ++ lines)
+
+-- Of the data lines that are asked for some were taken: none, where the source had nothing left before them.
+pub record TookData (asked : ℕ) (d : DataLines) (before whole : Bool) (buffer : List ℕ) (left : Option (List ℕ)) (buffer' : List ℕ) (left' : Option (List ℕ)) (count count' : ℕ) : Type 0 where
+  pub took : TookLines whole buffer left buffer' left' count count'
+  pub none_taken : before ≡ false → (whole ≡ false) × (took.lines ≡ []) × (took.last ≡ [])
+  pub missing : length (took.lines ++ raw_lines took.last) + d.missing ≡ asked
+  pub held : HoldsLines d (took.lines ++ raw_lines took.last)
+
+-- fewer than those were taken, and no more
+pub record BrokeData (asked : ℕ) (before : Bool) (fault : RunFault) (buffer : List ℕ) (left : Option (List ℕ)) (buffer' : List ℕ) (left' : Option (List ℕ)) (count : ℕ) : Type 0 where
+  pub came : before ≡ true
+  pub broke : BrokeLines fault buffer left buffer' left' count
+  pub some_missing : length broke.lines < asked
+
+-- where the data lines of a line go that are not too long, or why they are refused
+abbrev pub target_of : Result ℕ AddressFault → ℕ → Result ℕ Refusal
+target_of (Ok at) missing = if missing == 0 then Ok at else Err CutShort
+target_of (Err Shape) missing = Err BadCommand
+target_of (Err Outside) missing = if missing == 0 then Err OutOfSheet else Err CutShort
+
+-- the command puts these bytes there, or is refused whatever the state is
+abbrev pub IsTarget : Command → Bool → List ℕ → Result ℕ Refusal → Type 0
+IsTarget c force bytes (Ok at) = c ≡ Csv force at bytes
+IsTarget c force bytes (Err e) = (s : State) → RefusedAs e s c

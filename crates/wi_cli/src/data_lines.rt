@@ -1,0 +1,156 @@
+//! The data lines behind a line that asks for them.
+
+ghost use Rattle.std.specs.Prelude.{◌≡◌, ◌+◌, ◌<◌, ◌≤◌, ◌++◌, ◌∷◌, ◌&&◌, ◌||◌, nat_lt, [], List, ℕ, false, true, length, MatchResult, IfOk, OnOk, Err, vec_capacity};
+ghost use Rattle.std.specs.Io.KnownBytes.{IsAtEnd, prepend_known};
+ghost use Rattle.wi_cli.specs.Lines.{raw_lines, is_whole};
+ghost use Rattle.wi_cli.specs.RunOutcome.{max_lines};
+ghost use Rattle.wi_cli.specs.Inner.Reading.{raw, line_front};
+ghost use Rattle.wi_cli.specs.Inner.Data.{wants, Holds, HoldsLines, AddedTo, TookData, BrokeData};
+
+use crate::chunk::Chunk;
+use crate::csv_line::CsvLine;
+use crate::device::Source;
+use crate::fault::RunFault;
+use crate::lines::{MAX_LINE, next_line};
+use std::alloc::{AllocError, Global};
+
+/// What became of the data lines that were taken.
+#[derive(Clone, Copy)]
+pub enum Held {
+    /// All are held, where they are wanted.
+    All,
+    /// Memory ran out.
+    Lacking,
+    /// One is too long.
+    TooLong,
+}
+
+/// The data lines of a line, as they are taken.
+#[derive(Drop)]
+pub struct DataLines {
+    pub wanted: bool,
+    pub missing: u32,
+    pub held: Held,
+    pub bytes: Vec<u8>,
+}
+
+/// Whether the data lines are wanted. They aren't where the line is refused whatever they are.
+fn wants(csv: &CsvLine) -> bool
+    ensures { result ≡ wants csv.now }
+{
+    csv.is_text && csv.at.is_ok()
+}
+
+/// Appends the bytes of a line.
+fn append(bytes: &mut Vec<u8>, line: &[u8], whole: bool) -> Result<(), AllocError>
+    ensures { OnOk result (bytes.new.items ≡ bytes.old.items ++ raw whole line.now) }
+{
+    bytes.extend_from_slice(line)?;
+    if whole {
+        bytes.push(b'\n')?;
+    }
+    Ok(())
+}
+
+/// Holds one more line, if lines are wanted and it is not too long.
+fn hold(bytes: &mut Vec<u8>, wanted: bool, line: &[u8], whole: bool) -> Held
+    ensures { (content : List ℕ) → is_whole content ≡ false → line.now ≡ line_front content
+        → (before : List (List ℕ)) → Holds wanted Held.All bytes.old.items before
+        → Holds wanted result bytes.new.items (before ++ raw whole content ∷ []) }
+{
+    if line.len() > MAX_LINE {
+        return Held::TooLong;
+    }
+    if !wanted {
+        return Held::All;
+    }
+    match append(bytes, line, whole) {
+        Ok(()) => Held::All,
+        Err(_) => Held::Lacking,
+    }
+}
+
+/// Whether these are the bytes of a line. Behind the last LF there may be none.
+fn is_line(line: &[u8], whole: bool) -> bool
+    ensures { result ≡ (whole || nat_lt 0 (length line.now)) }
+{
+    whole || !line.is_empty()
+}
+
+impl DataLines {
+    /// Those of no line.
+    pub fn new(alloc: Global) -> Self {
+        DataLines {
+            wanted: false,
+            missing: 0,
+            held: Held::All,
+            bytes: Vec::new(alloc),
+        }
+    }
+
+    /// Makes ready for the data lines of this line.
+    fn begin(&mut self, csv: &CsvLine)
+        ensures wanted { self.new.wanted ≡ wants csv.now }
+        ensures missing { self.new.missing ≡ csv.now.lines }
+        ensures held { HoldsLines self.new [] }
+    {
+        self.wanted = wants(csv);
+        self.missing = csv.lines;
+        self.held = Held::All;
+        self.bytes.clear();
+    }
+
+    /// Adds a line, if these are the bytes of one.
+    fn add(&mut self, line: &[u8], whole: bool)
+        requires { 0 < self.old.missing }
+        ensures { (content : List ℕ) → is_whole content ≡ false → line.now ≡ line_front content
+            → AddedTo self.old self.new (raw_lines (raw whole content)) }
+    {
+        if !is_line(line, whole) {
+            return;
+        }
+        self.missing -= 1;
+        if let Held::All = self.held {
+            self.held = hold(&mut self.bytes, self.wanted, line, whole);
+        }
+    }
+
+    /// Whether a line is missing that may still come.
+    fn goes_on(&self, whole: bool) -> bool
+        ensures { result ≡ (whole && nat_lt 0 self.now.missing) }
+    {
+        whole && self.missing > 0
+    }
+}
+
+/// Takes the data lines that a line asks for, as far as there are any, and tells whether the last LF came. The line's own is
+/// told by `whole`.
+pub fn read_data<R: Source>(
+    chunk: &mut Chunk,
+    source: &mut R,
+    line: &mut Vec<u8>,
+    lines: &mut u32,
+    data_lines: &mut DataLines,
+    csv: &CsvLine,
+    mut whole: bool,
+) -> Result<bool, RunFault>
+    requires works { R.has_failed source.old ≡ false }
+    requires room { MAX_LINE + 1 ≤ vec_capacity line.old }
+    requires few { lines.old ≤ max_lines }
+    requires at_end { whole ≡ false → IsAtEnd (prepend_known chunk.old (R.remaining source.old)) }
+    ensures took { MatchResult result
+        (λ end. TookData csv.now.lines data_lines.new whole end chunk.old (R.remaining source.old) chunk.new (R.remaining source.new) lines.old lines.new)
+        (λ e. BrokeData csv.now.lines whole e chunk.old (R.remaining source.old) chunk.new (R.remaining source.new) lines.old) }
+    ensures all { IfOk result (λ end. end ≡ true → data_lines.new.missing ≡ 0) }
+    ensures wanted { OnOk result (data_lines.new.wanted ≡ wants csv.now) }
+    ensures room { MAX_LINE + 1 ≤ vec_capacity line.new }
+    ensures works { OnOk result (R.has_failed source.new ≡ false) }
+    ensures failed { result ≡ Err RunFault.Read → R.has_failed source.new ≡ true }
+{
+    data_lines.begin(csv);
+    while data_lines.goes_on(whole) {
+        whole = next_line(chunk, source, line, lines)?;
+        data_lines.add(line, whole);
+    }
+    Ok(whole)
+}

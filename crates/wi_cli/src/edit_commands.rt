@@ -1,0 +1,79 @@
+//! The commands that edit the sheet, as they are read. They may be forced.
+
+ghost use Rattle.wi_cli.specs.Words.{first_word, after_word};
+ghost use Rattle.wi_cli.specs.EditCommands.{set_command, clear_command, fill_command, fill_command_of, edit_command};
+ghost use Rattle.wi_cli.specs.Inner.Spelling.{IsCommandOf};
+
+use crate::command::Command;
+use crate::words::{is_all_spaces, split_word};
+use wi_scenarios::Refusal;
+use wi_values::{Address, AddressFault, Rect};
+
+/// The edit that a text spells.
+pub fn read_edit(force: bool, text: &str) -> Result<Command<'_>, Refusal>
+    ensures { IsCommandOf (edit_command force (first_word text.now) (after_word text.now)) result }
+{
+    let (name, operands) = split_word(text);
+    match name {
+        "set" => read_set(force, operands),
+        "clear" => read_clear(force, operands),
+        "fill" => read_fill(force, operands),
+        _ => Err(Refusal::BadCommand),
+    }
+}
+
+/// `set ADDR CONTENT`, where CONTENT is all after the one space that follows ADDR.
+fn read_set(force: bool, operands: &str) -> Result<Command<'_>, Refusal>
+    ensures { IsCommandOf (set_command force operands.now) result }
+{
+    let (address, content) = split_word(operands);
+    if content.is_empty() {
+        return Err(Refusal::BadCommand);
+    }
+    let at = Address::read(address.as_bytes())?;
+    Ok(Command::Set { force, at, content })
+}
+
+/// `clear RECT`.
+fn read_clear(force: bool, operands: &str) -> Result<Command<'_>, Refusal>
+    ensures { IsCommandOf (clear_command force operands.now) result }
+{
+    let (area, more) = split_word(operands);
+    if !is_all_spaces(more) {
+        return Err(Refusal::BadCommand);
+    }
+    let area = Rect::read(area.as_bytes())?;
+    Ok(Command::Clear { force, area })
+}
+
+/// `fill ADDR RECT`.
+fn read_fill(force: bool, operands: &str) -> Result<Command<'_>, Refusal>
+    ensures { IsCommandOf (fill_command force operands.now) result }
+{
+    let (from, others) = split_word(operands);
+    let (area, more) = split_word(others);
+    if !is_all_spaces(more) {
+        return Err(Refusal::BadCommand);
+    }
+    filled(
+        force,
+        Address::read(from.as_bytes()),
+        Rect::read(area.as_bytes()),
+    )
+}
+
+/// `fill` of these operands. The wrong shape of either comes before a cell outside the sheet.
+fn filled<'a>(
+    force: bool,
+    from: Result<Address, AddressFault>,
+    area: Result<Rect, AddressFault>,
+) -> Result<Command<'a>, Refusal>
+    ensures { IsCommandOf (fill_command_of force from area) result }
+{
+    match (from, area) {
+        (Ok(from), Ok(area)) => Ok(Command::Fill { force, from, area }),
+        (Err(AddressFault::Outside), Err(fault)) => Err(Refusal::from(fault)),
+        (Err(fault), _) => Err(Refusal::from(fault)),
+        (Ok(_), Err(fault)) => Err(Refusal::from(fault)),
+    }
+}

@@ -1,0 +1,76 @@
+//! The commands that show what a workbook holds, as they are read.
+
+ghost use Rattle.wi_cli.specs.LookCommands.{show_command, export_command, changes_command, compare_command, formula_command};
+ghost use Rattle.wi_cli.specs.Inner.Spelling.{IsCommandOf};
+
+use crate::command::Command;
+use crate::names::read_side;
+use crate::words::{is_all_spaces, split_word};
+use wi_scenarios::Refusal;
+use wi_values::{Address, Rect};
+
+/// `show RECT`.
+pub fn read_show(operands: &str) -> Result<Command<'_>, Refusal>
+    ensures { IsCommandOf (show_command operands.now) result }
+{
+    let (area, more) = split_word(operands);
+    if !is_all_spaces(more) {
+        return Err(Refusal::BadCommand);
+    }
+    let area = Rect::read(area.as_bytes())?;
+    Ok(Command::Show { area })
+}
+
+/// `export RECT`.
+pub fn read_export(operands: &str) -> Result<Command<'_>, Refusal>
+    ensures { IsCommandOf (export_command operands.now) result }
+{
+    let (area, more) = split_word(operands);
+    if !is_all_spaces(more) {
+        return Err(Refusal::BadCommand);
+    }
+    let area = Rect::read(area.as_bytes())?;
+    Ok(Command::Export { area })
+}
+
+/// `changes`.
+pub fn read_changes(operands: &str) -> Result<Command<'_>, Refusal>
+    ensures { IsCommandOf (changes_command operands.now) result }
+{
+    if !is_all_spaces(operands) {
+        return Err(Refusal::BadCommand);
+    }
+    Ok(Command::Changes)
+}
+
+/// `compare S T RECT`, where S and T are names of scenarios, or `-`.
+pub fn read_compare(operands: &str) -> Result<Command<'_>, Refusal>
+    ensures { IsCommandOf (compare_command operands.now) result }
+{
+    let (first, others) = split_word(operands);
+    let (second, others) = split_word(others);
+    let (area, more) = split_word(others);
+    if !is_all_spaces(more) {
+        return Err(Refusal::BadCommand);
+    }
+    let first = read_side(first)?;
+    let second = read_side(second)?;
+    let area = Rect::read(area.as_bytes())?;
+    Ok(Command::Compare {
+        first,
+        second,
+        area,
+    })
+}
+
+/// `formula ADDR`.
+pub fn read_formula(operands: &str) -> Result<Command<'_>, Refusal>
+    ensures { IsCommandOf (formula_command operands.now) result }
+{
+    let (address, others) = split_word(operands);
+    if !is_all_spaces(others) {
+        return Err(Refusal::BadCommand);
+    }
+    let at = Address::read(address.as_bytes())?;
+    Ok(Command::Formula { at })
+}

@@ -1,0 +1,52 @@
+//! Names among the operands of commands.
+
+ghost use Rattle.wi_values.specs.Name.{read_name};
+ghost use Rattle.wi_cli.specs.Operands.{only_name, name_or_none, read_side};
+ghost use Rattle.wi_cli.specs.Inner.Spelling.{IsNameOf, IsNameOrNoneOf};
+
+use crate::words::{is_all_spaces, split_word};
+use wi_scenarios::Refusal;
+use wi_values::Name;
+
+/// The name that a word spells.
+pub fn read_name(word: &str) -> Result<Name<'_>, Refusal>
+    ensures { IsNameOf (read_name word.now) result }
+{
+    match Name::read(word) {
+        Some(name) => Ok(name),
+        None => Err(Refusal::BadCommand),
+    }
+}
+
+/// The name that is the only word.
+pub fn only_name(words: &str) -> Result<Name<'_>, Refusal>
+    ensures { IsNameOf (only_name words.now) result }
+{
+    let (word, more) = split_word(words);
+    if !is_all_spaces(more) {
+        return Err(Refusal::BadCommand);
+    }
+    read_name(word)
+}
+
+/// The name that is the only word, or none where there is no word.
+pub fn name_or_none(words: &str) -> Result<Option<Name<'_>>, Refusal>
+    ensures { IsNameOrNoneOf (name_or_none words.now) result }
+{
+    if is_all_spaces(words) {
+        return Ok(None);
+    }
+    let name = only_name(words)?;
+    Ok(Some(name))
+}
+
+/// The scenario that a word names, or none for `-`, the sheet as it stands.
+pub fn read_side(word: &str) -> Result<Option<Name<'_>>, Refusal>
+    ensures { IsNameOrNoneOf (read_side word.now) result }
+{
+    if word == "-" {
+        return Ok(None);
+    }
+    let name = read_name(word)?;
+    Ok(Some(name))
+}

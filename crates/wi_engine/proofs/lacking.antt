@@ -1,0 +1,2 @@
+-- What the proofs about the cells that a frame lacks use.
+pub mod NextLacking

@@ -1,0 +1,64 @@
+//! The cells whose values a frame lacks.
+
+ghost use Rattle.std.specs.Prelude.{◌≡◌, ◌∷◌, [], ◌-◌, IfOk, IfSome, IfNone, take};
+ghost use Rattle.wi_engine.specs.Inner.Attempt.{lacks_cell, lacking_after};
+
+use crate::frame::Frame;
+use crate::occupied::next_within;
+use crate::seen::{Seen, content_in};
+use std::alloc::{AllocError, Global};
+use wi_store::Store;
+use wi_values::{Address, Rect};
+
+/// Whether a frame lacks the value of a cell: it has a formula under the frame's replacements, and was not found.
+pub fn is_lacking(store: &Store, frame: &Frame, at: Address) -> bool
+    ensures { result ≡ lacks_cell store.now.sheet frame.now.key.world frame.now.found at }
+{
+    match content_in(store, &frame.key.world, at) {
+        Seen::Nothing => false,
+        Seen::Constant(_) => false,
+        Seen::Formula(_) => frame.found.cell(at).is_none(),
+    }
+}
+
+/// The first cell of a rectangle after another whose value a frame lacks. The work is that of `next_within` for each occupied
+/// cell passed.
+pub fn next_lacking_in(store: &Store, frame: &Frame, area: Rect, after: Address) -> Option<Address>
+    ensures some { IfSome result (λ c. lacking_after store.now.sheet frame.now.key.world frame.now.found area after ≡ c ∷ lacking_after store.now.sheet frame.now.key.world frame.now.found area c) }
+    ensures none { IfNone result (lacking_after store.now.sheet frame.now.key.world frame.now.found area after ≡ []) }
+{
+    let mut ahead = next_within(store, area, Some(after));
+    while let Some(cell) = ahead {
+        if is_lacking(store, frame, cell) {
+            return Some(cell);
+        }
+        ahead = next_within(store, area, Some(cell));
+    }
+    None
+}
+
+/// A cell, and behind it the next cells of a rectangle whose values a frame lacks: so many in all, or as many as there are. The
+/// work is that of `next_within` for each occupied cell of the rectangle from this one to the last that is listed, and to the
+/// end where fewer are left.
+pub fn with_next_lacking(
+    alloc: Global,
+    store: &Store,
+    frame: &Frame,
+    area: Rect,
+    at: Address,
+    count: usize,
+) -> Result<Vec<Address>, AllocError>
+    ensures { IfOk result (λ v. v.items ≡ at ∷ take (count - 1) (lacking_after store.now.sheet frame.now.key.world frame.now.found area at)) }
+{
+    let mut listed = Vec::new(alloc);
+    listed.push(at)?;
+    let mut last = at;
+    for _ in 1..count {
+        let Some(next) = next_lacking_in(store, frame, area, last) else {
+            return Ok(listed);
+        };
+        listed.push(next)?;
+        last = next;
+    }
+    Ok(listed)
+}

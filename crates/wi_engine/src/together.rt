@@ -1,0 +1,140 @@
+//! Which cells are found together with one that a formula lacks.
+//!
+//! A formula is valued anew each time that it lacks a value. A fold over a thousand formulas would be begun a thousand times
+//! if one of them were found each time; and of a table from which INDEX reads one cell the others aren't wanted. So how many
+//! are found goes by what was wanted of the same rectangle before. A cell is found alone, and where the next one that is wanted
+//! follows, in its row, its column or the whole rectangle, twice as many are found each time, as far as that reaches.
+
+ghost use Rattle.std.specs.Prelude.{◌≡◌, ℕ, true, nat_lt, if◌then◌else◌, IfOk, IfSome};
+ghost use Rattle.std.specs.List.{list_any};
+ghost use Rattle.wi_values.specs.Address.{is_within, size_of};
+ghost use Rattle.wi_parser.specs.Sheet.{content_of, has_formula};
+ghost use Rattle.wi_graph.specs.Reach.{is_one_of};
+ghost use Rattle.wi_sheet.specs.Demand.{reads_here};
+ghost use Rattle.wi_engine.specs.Inner.Courses.{AreTogether, IsCourseTo, IsSmallestWith, is_next};
+
+use crate::course::{Course, Way, part};
+use crate::frame::Frame;
+use crate::lacking::{next_lacking_in, with_next_lacking};
+use std::alloc::{AllocError, Global};
+use wi_parser::Formula;
+use wi_store::Store;
+use wi_values::{Address, Rect};
+
+/// Cells that are to be found together, and the course that they take.
+#[derive(Drop)]
+pub struct Batch {
+    pub cells: Vec<Address>,
+    pub course: Course,
+}
+
+/// The cells that are to be found together with one that a frame's formula lacks, that one first. They lie in the smallest of
+/// the formula's rectangles that hold it. The work grows with the count of the formula's rectangles, and as that of
+/// `next_lacking_in` and of `with_next_lacking`.
+pub fn together(
+    alloc: Global,
+    store: &Store,
+    frame: &Frame,
+    formula: &Formula,
+    at: Address,
+) -> Result<Batch, AllocError>
+    requires read { reads_here formula.now at ≡ true }
+    requires formula { has_formula (content_of store.now.sheet at) ≡ true }
+    ensures read { IfOk result (λ b. (d : ℕ) → is_one_of b.cells.items d ≡ true → (reads_here formula.now d ≡ true) × (has_formula (content_of store.now.sheet d) ≡ true)) }
+    ensures wanted { IfOk result (λ b. is_one_of b.cells.items at ≡ true) }
+    ensures following { IfOk result (λ b. AreTogether store.now.sheet frame.now formula.now at b.course b.cells.items) }
+{
+    let rectangle = smallest_with(formula.rectangles(), at);
+    let course = course_to(store, frame, rectangle, at);
+    let area = part(rectangle, course.way, at);
+    let cells = with_next_lacking(alloc, store, frame, area, at, course.count)?;
+    let last = *cells.last().unwrap_or(&at);
+    Ok(Batch {
+        cells,
+        course: Course { last, ..course },
+    })
+}
+
+/// The course through a rectangle with one more cell that is wanted.
+fn course_to(store: &Store, frame: &Frame, rectangle: Rect, at: Address) -> Course
+    ensures rectangle { result.rectangle ≡ rectangle }
+    ensures count { IsCourseTo store.now.sheet frame.now at result }
+{
+    match frame.course_through(rectangle) {
+        None => Course::begun(rectangle, at),
+        Some(course) => match way_on(store, frame, &course, at) {
+            Some(way) => course.led_on(way),
+            None => course.broken(),
+        },
+    }
+}
+
+/// The way in which a cell follows the last one of a course.
+fn way_on(store: &Store, frame: &Frame, course: &Course, at: Address) -> Option<Way>
+    ensures { IfSome result (λ way. is_next store.now.sheet frame.now course.now way at ≡ true) }
+{
+    if leads_to(store, frame, course, Way::Row, at) {
+        return Some(Way::Row);
+    }
+    if leads_to(store, frame, course, Way::Column, at) {
+        return Some(Way::Column);
+    }
+    if leads_to(store, frame, course, Way::Whole, at) {
+        return Some(Way::Whole);
+    }
+    None
+}
+
+/// Whether a course goes on to a cell in this way.
+fn leads_to(store: &Store, frame: &Frame, course: &Course, way: Way, at: Address) -> bool
+    ensures { result ≡ true → is_next store.now.sheet frame.now course.now way at ≡ true }
+{
+    course.way.may_become(way) && is_next(store, frame, course, way, at)
+}
+
+/// Whether a cell is the next one that is lacking after the last one of a course, in the part of its rectangle through which this
+/// way leads.
+fn is_next(store: &Store, frame: &Frame, course: &Course, way: Way, at: Address) -> bool
+    ensures { result ≡ is_next store.now.sheet frame.now course.now way at }
+{
+    let area = part(course.rectangle, way, at);
+    if !area.contains(course.last) || at <= course.last {
+        return false;
+    }
+    match next_lacking_in(store, frame, area, course.last) {
+        Some(next) => next == at,
+        None => false,
+    }
+}
+
+/// The one of rectangles that holds a cell and has the fewest cells, the first where more have as few. The work grows
+/// with their count.
+pub fn smallest_with(rectangles: &[Rect], at: Address) -> Rect
+    requires { list_any (λ r. is_within r at) rectangles.now ≡ true }
+    ensures { IsSmallestWith rectangles.now at result }
+{
+    let mut smallest = None;
+    for rectangle in rectangles {
+        if rectangle.contains(at) {
+            smallest = Some(match smallest {
+                Some(kept) => smaller(kept, *rectangle),
+                None => *rectangle,
+            });
+        }
+    }
+    let Some(smallest) = smallest else {
+        unreachable!()
+    };
+    smallest
+}
+
+/// The one of two rectangles with fewer cells, the first where they have as many.
+fn smaller(first: Rect, second: Rect) -> Rect
+    ensures { result ≡ if nat_lt (size_of second) (size_of first) then second else first }
+{
+    if second.size() < first.size() {
+        second
+    } else {
+        first
+    }
+}

@@ -1,0 +1,141 @@
+-- What `changes` answers, and that pictures are right after it.
+use Rattle.std.proofs.Common.{◌≡◌, ◌≢◌, ◌<◌, ◌≤◌, ◌+◌, ℕ, zero, suc, List, [], ◌∷◌, length, get_or, set, Result, Ok, Err, IfOk, refl, sym, ap, subst, ◌∙◌, arith, ⊎_elim}
+use Rattle.std.proofs.lemmas.Bool.{cases_eq}
+use Rattle.std.proofs.lemmas.List.{get_or-set_same, get_or-set_other, length-set}
+use Rattle.wi_values.specs.declared.value.Value.{Value}
+use Rattle.wi_values.specs.declared.replacement.Replacement.{Replacement}
+use Rattle.wi_store.specs.Store.{Stored}
+use Rattle.wi_sheet.specs.Shown.{shown}
+use Rattle.wi_scenario_list.specs.Scenarios.{effective}
+use Rattle.wi_edit_log.specs.EditLog.{Entry}
+use Rattle.wi_sessions.specs.Pictures.{value_in, sheet_size, changes_among}
+use Rattle.wi_sessions.specs.Pictures.Laws.{is_listed, Rises}
+use Rattle.wi_sessions.specs.Sessions.{Session, new_session, told}
+use Rattle.wi_sessions.specs.Roster.{session_at, pending_of}
+use Rattle.wi_sessions.proofs.ChangeLists.{any_cells, picture_is_shown}
+use Rattle.wi_scenario_list.specs.Scenarios.{Scenario}
+use Rattle.wi_reports.specs.Looks.{evaluations_for, restarts_for}
+use Rattle.wi_reports.specs.Changes.{change_records}
+use Rattle.wi_scenarios.specs.State.{State}
+use Rattle.wi_scenarios.specs.Views.{current_session, with_current, shown_to}
+use Rattle.wi_scenarios.specs.Changes.{change_list, changes_step}
+use Rattle.wi_scenarios.specs.Pending.{pending_evaluations, pending_restarts}
+use Rattle.wi_scenarios.specs.declared.desk.Desk.{Desk}
+use Rattle.wi_scenarios.specs.Inner.Held.{state_of, pending_in, IsUpToDate, AreCovered, IsSound}
+use Rattle.wi_scenarios.specs.Inner.Told.{IsTold}
+
+-- what has changed is found among the pending cells
+pub changes_found : (stored : Stored) (d : Desk) (own cells : List ℕ) (put : List Replacement) (picture found : List (ℕ × Value)) → IsSound stored d → Rises 0 sheet_size own
+    → own ≡ pending_of d.sessions d.current → cells ≡ own → put ≡ effective d.scenarios (session_at d.sessions d.current).scenario → picture ≡ (session_at d.sessions d.current).picture
+    → found ≡ changes_among cells picture (shown stored.sheet put) → found ≡ change_list (state_of stored d)
+changes_found stored d own cells put picture found sound rises own_is cells_is put_is picture_is is =
+    let x = session_at d.sessions d.current in
+    let s = state_of stored d in
+    let risen : Rises 0 sheet_size (pending_of d.sessions d.current) = subst (Rises 0 sheet_size) own_is rises in
+    is
+    ∙ ap (λ (cs : List ℕ). changes_among cs picture (shown stored.sheet put)) (cells_is ∙ own_is)
+    ∙ ap (λ (p : List (ℕ × Value)). changes_among (pending_of d.sessions d.current) p (shown stored.sheet put)) picture_is
+    ∙ ap (λ (rs : List Replacement). changes_among (pending_of d.sessions d.current) x.picture (shown stored.sheet rs)) put_is
+    ∙ sym (any_cells (pending_of d.sessions d.current) x.picture (shown_to s x) (risen, sound.covered d.current sound.within))
+
+-- no more is evaluated, or begun again, than what these cells demand
+pub no_more : (x n : ℕ) → x ≤ x + n
+no_more x n = omega arith
+
+pub looked : (stored : Stored) (d : Desk) (own cells : List ℕ) (put : List Replacement) (x y : ℕ) → own ≡ pending_of d.sessions d.current → cells ≡ own
+    → put ≡ effective d.scenarios (session_at d.sessions d.current).scenario → x ≤ y + evaluations_for stored.sheet put cells → x ≤ y + pending_evaluations (state_of stored d) (pending_in d)
+looked stored d own cells put x y own_is cells_is put_is h =
+    subst (λ (rs : List Replacement). x ≤ y + evaluations_for stored.sheet rs (pending_of d.sessions d.current)) put_is
+    (subst (λ (cs : List ℕ). x ≤ y + evaluations_for stored.sheet put cs) (cells_is ∙ own_is) h)
+
+pub begun_again : (stored : Stored) (d : Desk) (own cells : List ℕ) (put : List Replacement) (x y : ℕ) → own ≡ pending_of d.sessions d.current → cells ≡ own
+    → put ≡ effective d.scenarios (session_at d.sessions d.current).scenario → x ≤ y + restarts_for stored.sheet put cells → x ≤ y + pending_restarts (state_of stored d) (pending_in d)
+begun_again stored d own cells put x y own_is cells_is put_is h =
+    subst (λ (rs : List Replacement). x ≤ y + restarts_for stored.sheet rs (pending_of d.sessions d.current)) put_is
+    (subst (λ (cs : List ℕ). x ≤ y + restarts_for stored.sheet put cs) (cells_is ∙ own_is) h)
+
+pub if_ok : {X E : Type 0} (P Q : X → Type 0) (r : Result X E) → ((x : X) → P x → Q x) → IfOk r P → IfOk r Q
+if_ok P Q (Ok x) f h = f x h
+if_ok P Q (Err e) f h = tt
+
+-- ---- lists with another element
+
+set_nothing : (xs : List (List ℕ)) (i j : ℕ) → get_or xs j [] ≡ [] → get_or (set xs i []) j [] ≡ []
+set_nothing [] i j h = h
+set_nothing (x ∷ xs) zero zero h = refl
+set_nothing (x ∷ xs) zero (suc j) h = h
+set_nothing (x ∷ xs) (suc i) zero h = h
+set_nothing (x ∷ xs) (suc i) (suc j) h = set_nothing xs i j h
+
+-- ---- after a change list was told
+
+abbrev made : Stored → List Scenario → List Session → ℕ → List Entry → State
+made stored xs ys i log = record { stored = stored; scenarios = xs; sessions = ys; current = i; log = log }
+
+state_after : (stored stored' : Stored) (xs xs' : List Scenario) (ys ys' : List Session) (i i' : ℕ) (log log' : List Entry) → stored' ≡ stored → xs' ≡ xs → ys' ≡ ys → i' ≡ i → log' ≡ log
+    → made stored xs ys i log ≡ made stored' xs' ys' i' log'
+state_after stored stored' xs xs' ys ys' i i' log log' a b c d e =
+    ap (λ (v : Stored). made v xs ys i log) (sym a) ∙ ap (λ (v : List Scenario). made stored' v ys i log) (sym b) ∙ ap (λ (v : List Session). made stored' xs' v i log) (sym c)
+    ∙ ap (λ (v : ℕ). made stored' xs' ys' v log) (sym d) ∙ ap (λ (v : List Entry). made stored' xs' ys' i' v) (sym e)
+
+pub told_state : (stored stored' : Stored) (d d' : Desk) (changes : List (ℕ × Value)) → stored' ≡ stored → IsTold d changes d'
+    → with_current (state_of stored d) (told (current_session (state_of stored d)) changes (length d.log)) ≡ state_of stored' d'
+told_state stored stored' d d' changes same h =
+    state_after stored stored' d.scenarios d'.scenarios (set d.sessions.sessions d.current (told (session_at d.sessions d.current) changes (length d.log))) d'.sessions.sessions d.current d'.current d.log d'.log
+    same h.scenarios h.sessions h.current h.log
+
+pub told_step : (stored stored' : Stored) (d d' : Desk) (changes : List (ℕ × Value)) → stored' ≡ stored → changes ≡ change_list (state_of stored d) → IsTold d changes d'
+    → changes_step (state_of stored d) ≡ Ok (state_of stored' d', change_records changes)
+told_step stored stored' d d' changes same is h =
+    ap (λ cs. Ok (with_current (state_of stored d) (told (current_session (state_of stored d)) cs (length d.log)), change_records cs)) (sym is)
+    ∙ ap (λ s. Ok (s, change_records changes)) (told_state stored stored' d d' changes same h)
+
+-- the current session's picture has what it is shown
+current_up_to_date : (stored : Stored) (d d' : Desk) (changes : List (ℕ × Value)) → changes ≡ change_list (state_of stored d) → d.current < length d.sessions.sessions → IsTold d changes d'
+    → IsUpToDate (state_of stored d') (pending_in d') d.current
+current_up_to_date stored d d' changes is within h a l none =
+    let s = state_of stored d in
+    let x = session_at d.sessions d.current in
+    let y = told x changes (length d.log) in
+    let here : session_at d'.sessions d.current ≡ y =
+    ap (λ xs. get_or xs d.current (new_session [])) h.sessions ∙ get_or-set_same d.sessions.sessions d.current y (new_session []) within in
+    let now : value_in y.picture a ≡ shown_to s x a = ap (λ cs. value_in (told x cs (length d.log)).picture a) is ∙ picture_is_shown x.picture (shown_to s x) a l in
+    ap (λ (z : Session). value_in z.picture a) here ∙ now
+    ∙ ap (λ (xs : List Scenario). shown stored.sheet (effective xs x.scenario) a) (sym h.scenarios)
+    ∙ ap (λ (z : Session). shown stored.sheet (effective d'.scenarios z.scenario) a) (sym here)
+
+-- of another session nothing has changed
+other_up_to_date : (stored : Stored) (d d' : Desk) (changes : List (ℕ × Value)) (i : ℕ) → i ≢ d.current → IsTold d changes d' → IsUpToDate (state_of stored d) (pending_in d) i
+    → IsUpToDate (state_of stored d') (pending_in d') i
+other_up_to_date stored d d' changes i other h before a l none =
+    let y = told (session_at d.sessions d.current) changes (length d.log) in
+    let x = session_at d.sessions i in
+    let here : session_at d'.sessions i ≡ x =
+    ap (λ xs. get_or xs i (new_session [])) h.sessions ∙ get_or-set_other d.sessions.sessions d.current i y (new_session []) other in
+    let cells : get_or d'.sessions.pending i [] ≡ get_or d.sessions.pending i [] =
+    ap (λ xs. get_or xs i []) h.pending ∙ get_or-set_other d.sessions.pending d.current i [] [] other in
+    ap (λ (z : Session). value_in z.picture a) here
+    ∙ before a l (ap (λ cs. is_listed cs a) (sym cells) ∙ none)
+    ∙ ap (λ (xs : List Scenario). shown stored.sheet (effective xs x.scenario) a) (sym h.scenarios)
+    ∙ ap (λ (z : Session). shown stored.sheet (effective d'.scenarios z.scenario) a) (sym here)
+
+covered_after : (stored : Stored) (d d' : Desk) (changes : List (ℕ × Value)) → changes ≡ change_list (state_of stored d) → IsSound stored d → IsTold d changes d'
+    → AreCovered (state_of stored d') (pending_in d')
+covered_after stored d d' changes is sound h i l =
+    let below : i < length d.sessions.sessions =
+    subst (λ (n : ℕ). i < n) (ap length h.sessions ∙ length-set d.sessions.sessions d.current (told (session_at d.sessions d.current) changes (length d.log))) l in
+    ⊎_elim (λ same. subst (IsUpToDate (state_of stored d') (pending_in d')) (sym same) (current_up_to_date stored d d' changes is sound.within h))
+    (λ other. other_up_to_date stored d d' changes i other h (sound.covered i below)) (cases_eq i d.current)
+
+pub sound_after : (stored stored' : Stored) (d d' : Desk) (changes : List (ℕ × Value)) → stored' ≡ stored → changes ≡ change_list (state_of stored d) → IsSound stored d → IsTold d changes d' → IsSound stored' d'
+sound_after stored stored' d d' changes same is sound h =
+    let y = told (session_at d.sessions d.current) changes (length d.log) in
+    let sessions : length d'.sessions.sessions ≡ length d.sessions.sessions = ap length h.sessions ∙ length-set d.sessions.sessions d.current y in
+    let lists : length d'.sessions.pending ≡ length d.sessions.pending = ap length h.pending ∙ length-set d.sessions.pending d.current [] in
+    subst (λ x. IsSound x d') (sym same) (record {
+      within = subst (λ (n : ℕ). d'.current < n) (sym sessions) (subst (λ (i : ℕ). i < length d.sessions.sessions) (sym h.current) sound.within);
+      few = subst (λ (n : ℕ). n ≤ 64) (sym sessions) sound.few;
+      each = lists ∙ sound.each ∙ sym sessions;
+      full = λ i. ap (λ xs. get_or xs i []) h.vacant ∙ set_nothing d.sessions.vacant d.current i (sound.full i);
+      covered = covered_after stored d d' changes is sound h;
+    })

@@ -1,0 +1,67 @@
+-- What `csv` answers.
+use Rattle.std.proofs.Common.{◌≡◌, ◌≢◌, ℕ, Bool, List, [], ◌∷◌, map, Option, Result, Ok, Err, refl, sym, ap, ◌∙◌, subst}
+use Rattle.std.specs.List.{AllZip}
+use Rattle.std.specs.Map.{keys_of}
+use Rattle.std.specs.Result.{IsErrAnd}
+use Rattle.std.proofs.lemmas.Result.{err_from_is_err_and}
+use Rattle.wi_values.specs.Address.{Area}
+use Rattle.wi_parser.specs.declared.content.Content.{Content}
+use Rattle.wi_import.specs.declared.fault.ImportFault.{ImportFault}
+use Rattle.wi_import.specs.declared.fault.ImportFault.TheVariants as import
+use Rattle.wi_import.specs.Areas.{areas_at}
+use Rattle.wi_import.specs.Fields.{Field, cell_of, fields_at}
+use Rattle.wi_import.specs.Imports.{IsChange, AreChanges, IsFault}
+use Rattle.wi_scenarios.specs.declared.refusal.Refusal.{Refusal}
+use Rattle.wi_scenarios.specs.declared.refusal.Refusal.TheVariants.{Memory}
+use Rattle.wi_scenarios.specs.State.{State}
+use Rattle.wi_scenarios.specs.Answer.{Answer, import_refusal, MayRefuse, Serves, MayRefuseData, ServesData}
+use Rattle.wi_scenarios.specs.Causes.{no_cause}
+use Rattle.wi_scenarios.specs.Edits.{edit_answer}
+use Rattle.wi_scenarios.specs.Csv.{IsCsvStep, imported_cells}
+
+-- ---- an import that is refused
+
+faulted : (s : State) (force : Bool) (at : ℕ) (text : List ℕ) (fault : ImportFault) → (fault ≢ import.Memory → IsFault (fields_at at text) fault) → MayRefuseData (import_refusal fault) (IsCsvStep s force at text)
+faulted s force at text import.BadField h = record { read = Err import.BadField; is_read = h (λ e. let n : ⊥ = cc in n); answered = refl }
+faulted s force at text import.TooLong h = record { read = Err import.TooLong; is_read = h (λ e. let n : ⊥ = cc in n); answered = refl }
+faulted s force at text import.OutOfSheet h = record { read = Err import.OutOfSheet; is_read = h (λ e. let n : ⊥ = cc in n); answered = refl }
+faulted s force at text import.Memory h = tt
+
+pub csv_refused : (r : Result (Unit {0}) Refusal) (s : State) (force : Bool) (at : ℕ) (text : List ℕ) (fault : ImportFault) → IsErrAnd r (λ e. e ≡ import_refusal fault) →
+    (fault ≢ import.Memory → IsFault (fields_at at text) fault) → ServesData (IsCsvStep s force at text) r s s
+csv_refused r s force at text fault k h =
+    let p = err_from_is_err_and r k in
+    subst (λ (x : Result (Unit {0}) Refusal). ServesData (IsCsvStep s force at text) x s s) (sym p.1)
+    (subst (λ (e : Refusal). MayRefuseData e (IsCsvStep s force at text)) (sym p.2) (faulted s force at text fault h), refl)
+
+-- ---- an import that is made
+
+may_refuse_data : (e : Refusal) (IsOne IsOther : Answer → Type 0) → ((a : Answer) → IsOne a → IsOther a) → MayRefuse e IsOne → MayRefuseData e IsOther
+may_refuse_data Memory IsOne IsOther f h = tt
+may_refuse_data e IsOne IsOther f h = f (Err e) h
+
+serves_data : (IsOne IsOther : Answer → Type 0) → ((a : Answer) → IsOne a → IsOther a) → (r : Result (Unit {0}) Refusal) (s t : State) → Serves IsOne r s t [] → ServesData IsOther r s t
+serves_data IsOne IsOther f (Ok u) s t h = f (Ok (t, [])) h
+serves_data IsOne IsOther f (Err e) s t h = (may_refuse_data e IsOne IsOther f h.0, h.1)
+
+pub csv_edited : (r : Result (Unit {0}) Refusal) (s t : State) (force : Bool) (at : ℕ) (text : List ℕ) (named : List Area) (contents : List (ℕ × Option Content)) →
+    named ≡ areas_at at text → AreChanges (fields_at at text) contents →
+    Serves (λ a. edit_answer s force no_cause (record { named = named; contents = contents }) ≡ a) r s t [] → ServesData (IsCsvStep s force at text) r s t
+csv_edited r s t force at text named contents n c =
+    serves_data (λ a. edit_answer s force no_cause (record { named = named; contents = contents }) ≡ a) (IsCsvStep s force at text)
+    (λ a h. record {
+      read = Ok contents;
+      is_read = c;
+      answered = ap (λ (areas : List Area). edit_answer s force no_cause (record { named = areas; contents = contents })) (sym n) ∙ h;
+    })
+    r s t
+
+-- the cells that get something are those of the fields
+each_cell : (fields : List Field) (contents : List (ℕ × Option Content)) → AllZip IsChange fields contents → keys_of contents ≡ map cell_of fields
+each_cell [] [] h = refl
+each_cell [] (x ∷ xs) h = absurd h
+each_cell (f ∷ fs) [] h = absurd h
+each_cell (f ∷ fs) (x ∷ xs) h = ap (λ (c : ℕ). c ∷ keys_of xs) (h.0).0 ∙ ap (λ (cells : List ℕ). cell_of f ∷ cells) (each_cell fs xs h.1)
+
+pub imported_are : (at : ℕ) (text : List ℕ) (contents : List (ℕ × Option Content)) → AreChanges (fields_at at text) contents → keys_of contents ≡ imported_cells at text
+imported_are at text contents h = each_cell (fields_at at text) contents h.each

@@ -1,0 +1,123 @@
+-- The cells whose replacement is another, as two walks collect them.
+use Rattle.std.proofs.Common.{◌≡◌, ◌==◌, ℕ, ◌+◌, ◌<◌, ◌≤◌, Bool, true, false, not, cond, ◌||◌, ◌&&◌, List, [], ◌∷◌, ◌++◌, map, filter, length, drop, get_or, Option, Some, None, refl, sym, ap, ◌∙◌, subst, add-one, drop-cons, arith}
+use Rattle.std.proofs.lemmas.Bool.{false≢true}
+use Rattle.std.proofs.lemmas.Bool.Decides.{nat_tests}
+use Rattle.std.proofs.lemmas.Grind.{common_steps}
+use Rattle.std.proofs.lemmas.List.{append_assoc, append-nil, drop_all}
+use Rattle.std.proofs.lemmas.List.Folds.{list_any-append}
+use Rattle.wi_fraction.specs.Order.Laws.{numbers}
+use Rattle.wi_values.specs.Inner.Same.{texts}
+use Rattle.wi_values.specs.declared.value.Value.{Value}
+use Rattle.wi_values.specs.declared.replacement.Replacement.{Replacement}
+use Rattle.wi_values.specs.Replacements.{replaced}
+use Rattle.wi_sessions.specs.Pictures.{same_value}
+use Rattle.wi_sessions.specs.Pictures.Laws.{is_listed}
+use Rattle.wi_scenarios.specs.Inner.Switch.{same_option, differing, AreDiffering}
+
+-- ---- a walk
+
+module _ (before after : List Replacement) where
+  abbrev same_at : ℕ → Bool
+  same_at a = same_option (replaced before a) (replaced after a)
+
+  drop_at : (rs : List Replacement) (i : ℕ) (r : Replacement) → i < length rs → r ≡ get_or rs i r → drop i rs ≡ r ∷ drop (i + 1) rs
+  drop_at rs i r l e = (rw add-one (drop-cons rs i r l)) ∙ ap (λ (x : Replacement). x ∷ drop (i + 1) rs) (sym e)
+
+  walk_on : (rs : List Replacement) (i : ℕ) (r : Replacement) (b : Bool) → i < length rs → r ≡ get_or rs i r → b ≡ same_at r.at
+      → differing before after (drop i rs) ≡ cond (not b) (r.at ∷ differing before after (drop (i + 1) rs)) (differing before after (drop (i + 1) rs))
+  walk_on rs i r b l e t =
+      let rest = differing before after (drop (i + 1) rs) in
+      ap (differing before after) (drop_at rs i r l e) ∙ ap (λ (c : Bool). cond (not c) (r.at ∷ rest) rest) (sym t)
+
+  pub pushed : (cells cells' whole : List ℕ) (rs : List Replacement) (i : ℕ) (r : Replacement) (b : Bool) → i < length rs → r ≡ get_or rs i r → b ≡ same_at r.at
+      → b ≡ false → cells' ≡ cells ++ r.at ∷ [] → cells ++ differing before after (drop i rs) ≡ whole
+      → cells' ++ differing before after (drop (i + 1) rs) ≡ whole
+  pushed cells cells' whole rs i r b l e t n k h =
+      let rest = differing before after (drop (i + 1) rs) in
+      ap (λ (xs : List ℕ). xs ++ rest) k ∙ append_assoc cells (r.at ∷ []) rest
+      ∙ ap (λ (xs : List ℕ). cells ++ xs) (sym (walk_on rs i r b l e t ∙ ap (λ (c : Bool). cond (not c) (r.at ∷ rest) rest) n)) ∙ h
+
+  pub passed : (cells cells' whole : List ℕ) (rs : List Replacement) (i : ℕ) (r : Replacement) (b : Bool) → i < length rs → r ≡ get_or rs i r → b ≡ same_at r.at
+      → b ≡ true → cells' ≡ cells → cells ++ differing before after (drop i rs) ≡ whole
+      → cells' ++ differing before after (drop (i + 1) rs) ≡ whole
+  passed cells cells' whole rs i r b l e t n k h =
+      let rest = differing before after (drop (i + 1) rs) in
+      ap (λ (xs : List ℕ). xs ++ rest) k
+      ∙ ap (λ (xs : List ℕ). cells ++ xs) (sym (walk_on rs i r b l e t ∙ ap (λ (c : Bool). cond (not c) (r.at ∷ rest) rest) n)) ∙ h
+
+  -- at the end nothing is left
+  pub walked : (cells : List ℕ) (rs : List Replacement) (i : ℕ) (whole : List ℕ) → length rs ≤ i → cells ++ differing before after (drop i rs) ≡ whole → cells ≡ whole
+  walked cells rs i whole l h =
+      sym (append-nil cells) ∙ ap (λ (xs : List Replacement). cells ++ differing before after xs) (sym (drop_all i rs l)) ∙ h
+
+  -- ---- what both walks tell
+
+  same_means : (o p : Option Value) → same_option o p ≡ true → o ≡ p
+  same_means None None e = refl
+  same_means None (Some w) e = absurd (false≢true e)
+  same_means (Some v) None e = absurd (false≢true e)
+  same_means (Some v) (Some w) e = ap Some (let same : same_value v w ≡ true = e in grind (arith, common_steps, numbers, texts))
+
+  other_means : (o p : Option Value) → same_option o p ≡ false → o ≡ p → ⊥
+  other_means None None e same = absurd (false≢true (sym e))
+  other_means None (Some w) e same = cc
+  other_means (Some v) None e same = cc
+  other_means (Some v) (Some w) e same =
+      let one : v ≡ w = cc in let differ : same_value v w ≡ false = e in grind (arith, common_steps, numbers, texts)
+
+  listed-filter : (p : ℕ → Bool) (xs : List ℕ) (a : ℕ) → is_listed (filter p xs) a ≡ (is_listed xs a && p a)
+  listed-filter p [] a = refl
+  listed-filter p (x ∷ xs) a = by (p x) refl (x == a) refl (listed-filter p xs a)
+    where
+      by : (b : Bool) → p x ≡ b → (t : Bool) → (x == a) ≡ t → is_listed (filter p xs) a ≡ (is_listed xs a && p a)
+          → is_listed (cond b (x ∷ filter p xs) (filter p xs)) a ≡ ((t || is_listed xs a) && p a)
+      by true e true u h = let one : x ≡ a = grind (arith, nat_tests, u) in ap (λ (c : Bool). c || is_listed (filter p xs) a) u ∙ sym e ∙ ap p one
+      by true e false u h = ap (λ (c : Bool). c || is_listed (filter p xs) a) u ∙ h
+      by false e true u h =
+          let one : x ≡ a = grind (arith, nat_tests, u) in
+          h ∙ none (is_listed xs a) (p a) (sym (ap p one) ∙ e) ∙ sym e ∙ ap p one
+        where
+          none : (c d : Bool) → d ≡ false → (c && d) ≡ false
+          none true d e = e
+          none false d e = refl
+      by false e false u h = h
+
+  -- a cell for which no replacement stands is replaced by none
+  not_among : (rs : List Replacement) (a : ℕ) → is_listed (map (λ (r : Replacement). r.at) rs) a ≡ false → replaced rs a ≡ None
+  not_among [] a h = refl
+  not_among (r ∷ rs) a h = grind (arith, nat_tests, not_among rs a)
+
+  abbrev both : List ℕ
+  both = differing before after before ++ differing before after after
+
+  in_both : (a : ℕ) → is_listed both a
+      ≡ ((is_listed (map (λ (r : Replacement). r.at) before) a && not (same_at a)) || (is_listed (map (λ (r : Replacement). r.at) after) a && not (same_at a)))
+  in_both a =
+      list_any-append (λ x. x == a) (differing before after before) (differing before after after)
+      ∙ ap (λ (b : Bool). b || is_listed (differing before after after) a) (listed-filter (λ x. not (same_at x)) (map (λ (r : Replacement). r.at) before) a)
+      ∙ ap (λ (b : Bool). (is_listed (map (λ (r : Replacement). r.at) before) a && not (same_at a)) || b) (listed-filter (λ x. not (same_at x)) (map (λ (r : Replacement). r.at) after) a)
+
+  found_in_both : AreDiffering before after both
+  found_in_both = record {
+    each = λ a h. other_means (replaced before a) (replaced after a) (differs (is_listed (map (λ (r : Replacement). r.at) before) a) (is_listed (map (λ (r : Replacement). r.at) after) a) (same_at a) (sym (in_both a) ∙ h));
+    others = λ a h. by_places a (is_listed (map (λ (r : Replacement). r.at) before) a) refl (is_listed (map (λ (r : Replacement). r.at) after) a) refl (same_at a) refl (sym (in_both a) ∙ h);
+  }
+    where
+      differs : (x y b : Bool) → ((x && not b) || (y && not b)) ≡ true → b ≡ false
+      differs true true true h = cc
+      differs true false true h = cc
+      differs false true true h = cc
+      differs false false true h = cc
+      differs x y false h = refl
+
+      by_places : (a : ℕ) (x : Bool) → is_listed (map (λ (r : Replacement). r.at) before) a ≡ x → (y : Bool) → is_listed (map (λ (r : Replacement). r.at) after) a ≡ y → (b : Bool) → same_at a ≡ b
+          → ((x && not b) || (y && not b)) ≡ false → replaced before a ≡ replaced after a
+      by_places a x p y q true s h = same_means (replaced before a) (replaced after a) s
+      by_places a false p false q false s h = not_among before a p ∙ sym (not_among after a q)
+      by_places a true p y q false s h = absurd (false≢true (sym h))
+      by_places a false p true q false s h = absurd (false≢true (sym h))
+
+  pub both_found : (none first second : List ℕ) → none ≡ [] → first ≡ none ++ differing before after before → second ≡ first ++ differing before after after
+      → AreDiffering before after second
+  both_found none first second empty h k =
+      subst (AreDiffering before after) (sym (k ∙ ap (λ (xs : List ℕ). xs ++ differing before after after) (h ∙ ap (λ (xs : List ℕ). xs ++ differing before after before) empty))) found_in_both

@@ -1,0 +1,298 @@
+-- What an edit is answered, and what is pending after it.
+use Rattle.std.proofs.Common.{◌≡◌, ◌==◌, ◌<◌, ◌≤◌, ◌+◌, ◌-◌, ℕ, zero, suc, Bool, true, false, not, ◌&&◌, ◌||◌, ◌⊎◌, inl, inr, List, [], ◌∷◌, ◌++◌, length, map, take, ◌≢◌, ⊎_elim, Option, Some, None, Result, Ok, Err, refl, sym, ap, ◌∙◌, subst, arith}
+use Rattle.std.specs.List.{slice_index_or}
+use Rattle.std.specs.Prelude.{MatchResult, IfOk}
+use Rattle.std.specs.Result.{IsErrAnd}
+use Rattle.std.proofs.lemmas.Result.{err_from_is_err_and}
+use Rattle.std.specs.Map.{keys_of}
+use Rattle.std.proofs.Math.Seq.{take-append_seam}
+use Rattle.std.proofs.lemmas.List.{length-append}
+use Rattle.std.proofs.lemmas.Bool.{cases_eq}
+use Rattle.std.proofs.lemmas.Map.Entries.{length-keys_of}
+use Rattle.std.proofs.lemmas.Bool.Decides.{nat_tests}
+use Rattle.wi_values.specs.Address.{Area}
+use Rattle.wi_values.specs.declared.replacement.Replacement.{Replacement}
+use Rattle.wi_parser.specs.declared.content.Content.{Content}
+use Rattle.wi_parser.specs.Sheet.{Sheet}
+use Rattle.wi_store.specs.declared.fault.StoreFault.{StoreFault}
+use Rattle.wi_store.specs.declared.fault.StoreFault.TheVariants as store
+use Rattle.wi_store.specs.Store.{Stored, edited, settled_change, applied, Applies}
+use Rattle.wi_sheet.specs.Shown.{shown}
+use Rattle.wi_sheet.specs.Unmoved.{IsUnmoved}
+use Rattle.wi_propagate.proofs.Editing.{same_off_edited, accepted_is}
+use Rattle.wi_edit_log.specs.EditLog.{Entry}
+use Rattle.wi_scenario_list.specs.Scenarios.{Scenario, effective}
+use Rattle.wi_sessions.specs.Pictures.{value_in, sheet_size}
+use Rattle.wi_sessions.specs.Pictures.Laws.{is_listed}
+use Rattle.wi_sessions.specs.Sessions.{Session, new_session}
+use Rattle.wi_sessions.specs.Roster.{Roster, pending_of, vacant_of}
+use Rattle.wi_scenarios.specs.declared.refusal.Refusal.{Refusal}
+use Rattle.wi_scenarios.specs.declared.refusal.Refusal.TheVariants.{Memory, Stale}
+use Rattle.wi_scenarios.specs.declared.desk.Desk.{Desk}
+use Rattle.wi_scenarios.specs.State.{State}
+use Rattle.wi_scenarios.specs.Answer.{Answer, may_grow, MayRefuse, Serves}
+use Rattle.wi_scenarios.specs.Causes.{no_cause, answer}
+use Rattle.wi_scenarios.specs.Edits.{Edit, edit_refusal, limit_of, stale_in, after_edit, edit_answer}
+use Rattle.wi_scenarios.specs.Pending.{is_pending, AddsOnly}
+use Rattle.wi_scenarios.specs.Inner.Held.{state_of, AreCovered, IsSound}
+use Rattle.wi_scenarios.specs.Inner.Editing.{AreMarked, HasRooms, SameBeside, MayFail, Commits}
+
+-- an edit of these
+pub same_edit : (named areas : List Area) (contents changes : List (ℕ × Option Content)) → named ≡ areas → contents ≡ changes →
+    ◌≡◌ {A = Edit} (record { named = named; contents = contents }) (record { named = areas; contents = changes })
+same_edit named areas contents changes n c = cc
+
+-- ---- the answer
+
+-- the answer that is found, where a cell is stale or none is
+abbrev pub found_by : State → Option ℕ → List Area → Result Stored StoreFault → Answer
+found_by s (Some at) named r = Err (Stale at)
+found_by s None named (Ok stored) = Ok (after_edit s named (Ok stored), [])
+found_by s None named (Err e) = Err (edit_refusal e)
+
+by_causes : (s : State) (o : Option ℕ) (named : List Area) (r : Result Stored StoreFault) → answer (record no_cause { stale = o; limit = limit_of r }) (after_edit s named r, []) ≡ found_by s o named r
+by_causes s (Some at) named r = refl
+by_causes s None named (Ok stored) = refl
+by_causes s None named (Err e) = refl
+
+edit_found : (s : State) (force : Bool) (e : Edit) → edit_answer s force no_cause e ≡ found_by s (stale_in s force e.named) e.named (applied s.stored e.contents)
+edit_found s force e = by_causes s (stale_in s force e.named) e.named (applied s.stored e.contents)
+
+-- where no cell is stale
+edit_fresh : (s : State) (force : Bool) (e : Edit) → stale_in s force e.named ≡ None → edit_answer s force no_cause e ≡ found_by s None e.named (applied s.stored e.contents)
+edit_fresh s force e h = edit_found s force e ∙ ap (λ (o : Option ℕ). found_by s o e.named (applied s.stored e.contents)) h
+
+fresh_grows : (s : State) (named : List Area) (r : Result Stored StoreFault) → may_grow (found_by s None named r) ≡ true
+fresh_grows s named (Ok stored) = refl
+fresh_grows s named (Err store.Full) = refl
+fresh_grows s named (Err store.EditLimit) = refl
+fresh_grows s named (Err store.Memory) = refl
+
+pub edit_grows : (s : State) (force : Bool) (e : Edit) → may_grow (edit_answer s force no_cause e) ≡ true
+edit_grows s force e = ap may_grow (edit_found s force e) ∙ by (stale_in s force e.named)
+  where
+    by : (o : Option ℕ) → may_grow (found_by s o e.named (applied s.stored e.contents)) ≡ true
+    by (Some at) = refl
+    by None = fresh_grows s e.named (applied s.stored e.contents)
+
+fresh_limit : (s : State) (named : List Area) (r : Result Stored StoreFault) (e : Refusal) → limit_of r ≡ Some e → found_by s None named r ≡ Err e
+fresh_limit s named (Ok stored) e h = cc
+fresh_limit s named (Err f) e h = cc
+
+pub stale_served : (s : State) (force : Bool) (e : Edit) (at : ℕ) → stale_in s force e.named ≡ Some at → Serves (λ a. edit_answer s force no_cause e ≡ a) (Err (Stale at)) s s []
+stale_served s force e at h =
+    (edit_found s force e ∙ ap (λ (o : Option ℕ). found_by s o e.named (applied s.stored e.contents)) h, refl, refl)
+
+may_fail : (s : State) (force : Bool) (e : Edit) (refusal : Refusal) → stale_in s force e.named ≡ None → MayFail refusal (applied s.stored e.contents) → MayRefuse refusal (λ a. edit_answer s force no_cause e ≡ a)
+may_fail s force e Memory fresh h =
+    record { answer = edit_answer s force no_cause e; is_answer = refl; grows = edit_grows s force e }
+may_fail s force e refusal fresh h = edit_fresh s force e fresh ∙ fresh_limit s e.named (applied s.stored e.contents) refusal h
+
+-- memory ran out on the way
+pub edit_lacks : (r : Result (Unit {0}) Refusal) (s : State) (force : Bool) (e : Edit) → IsErrAnd r (λ x. x ≡ Memory) → Serves (λ a. edit_answer s force no_cause e ≡ a) r s s []
+edit_lacks r s force e k =
+    let p = err_from_is_err_and r k in
+    let same : r ≡ Err Memory = p.1 ∙ ap (λ (x : Refusal). let y : Result (Unit {0}) Refusal = Err x in y) p.2 in
+    subst (λ (x : Result (Unit {0}) Refusal). Serves (λ a. edit_answer s force no_cause e ≡ a) x s s []) (sym same)
+    (record { answer = edit_answer s force no_cause e; is_answer = refl; grows = edit_grows s force e }, refl, refl)
+
+made : (s : State) (stored : Stored) (named : List Area) (scenarios : List Scenario) (sessions : List Session) (current : ℕ) (log : List Entry) →
+    scenarios ≡ s.scenarios → sessions ≡ s.sessions → current ≡ s.current → log ≡ s.log ++ record { session = s.current; cells = named } ∷ [] →
+    after_edit s named (Ok stored) ≡ record { stored = stored; scenarios = scenarios; sessions = sessions; current = current; log = log }
+made s stored named scenarios sessions current log a b c d = cc
+
+kept : (s : State) (stored : Stored) (scenarios : List Scenario) (sessions : List Session) (current : ℕ) (log : List Entry) →
+    stored ≡ s.stored → scenarios ≡ s.scenarios → sessions ≡ s.sessions → current ≡ s.current → log ≡ s.log →
+    ◌≡◌ {A = State} (record { stored = stored; scenarios = scenarios; sessions = sessions; current = current; log = log })
+    (record { stored = s.stored; scenarios = s.scenarios; sessions = s.sessions; current = s.current; log = s.log })
+kept s stored scenarios sessions current log a b c d e = cc
+
+-- an edit that was made, or that left sheet and log as they were
+pub edit_served : (r : Result (Unit {0}) Refusal) (s t : State) (force : Bool) (e : Edit) → stale_in s force e.named ≡ None →
+    t.scenarios ≡ s.scenarios → t.sessions ≡ s.sessions → t.current ≡ s.current →
+    Commits (applied s.stored e.contents) (record { session = s.current; cells = e.named }) r s.stored t.stored s.log t.log →
+    Serves (λ a. edit_answer s force no_cause e ≡ a) r s t []
+edit_served (Ok u) s t force e fresh a b c h =
+    edit_fresh s force e fresh ∙ ap (found_by s None e.named) h.0
+    ∙ ap (λ (x : State). let a : Answer = Ok (x, []) in a) (made s t.stored e.named t.scenarios t.sessions t.current t.log a b c h.1)
+edit_served (Err refusal) s t force e fresh a b c h =
+    (may_fail s force e refusal fresh h.0, kept s t.stored t.scenarios t.sessions t.current t.log h.1 a b c h.2, refl)
+
+-- ---- the log
+
+-- an edit that was put at the end is taken back
+pub taken_back : (log more : List Entry) (x : Entry) → more ≡ log ++ x ∷ [] → take (length more - 1) more ≡ log
+taken_back log more x e = ap (λ (es : List Entry). take (length es - 1) es) e ∙ by log
+  where
+    by : (es : List Entry) → take (length (es ++ x ∷ []) - 1) (es ++ x ∷ []) ≡ es
+    by es = ap (λ (n : ℕ). take n (es ++ x ∷ [])) (omega (arith, length-append es (x ∷ []))) ∙ take-append_seam es (x ∷ [])
+
+-- an edit that the calculator made or refused
+pub applied_as : (a : Result Stored StoreFault) (entry : Entry) (done : Result (Unit {0}) StoreFault) (s t : Stored) (log : List Entry) → Applies a done s t →
+    MatchResult done (λ _. Commits a entry (Ok tt) s t log (log ++ entry ∷ [])) (λ fault. Commits a entry (Err (edit_refusal fault)) s t log log)
+applied_as a entry (Ok u) s t log h = (h, refl)
+applied_as a entry (Err store.Full) s t log h = (ap limit_of h.0, h.1, refl)
+applied_as a entry (Err store.EditLimit) s t log h = (ap limit_of h.0, h.1, refl)
+applied_as a entry (Err store.Memory) s t log h = (tt, h, refl)
+
+-- ---- which cells are marked
+
+-- with no cell the sheet stays as it is
+pub none_marked : (marked : Sheet → List ℕ → ℕ → Bool) (sheet : Sheet) (contents : List (ℕ × Option Content)) → length contents ≡ 0 → AreMarked marked sheet contents []
+none_marked marked sheet [] e = record { only = λ a h. cc; unmoved = λ a p h. refl }
+none_marked marked sheet (x ∷ xs) e = absurd (omega (arith, e))
+
+pub if_ok_both : {X E : Type 0} (A B C : X → Type 0) (r : Result X E) → ((x : X) → A x → B x → C x) → IfOk r A → IfOk r B → IfOk r C
+if_ok_both A B C (Ok x) f a b = f x a b
+if_ok_both A B C (Err e) f a b = tt
+
+pub some_marked : (marked : Sheet → List ℕ → ℕ → Bool) (sheet : Sheet) (contents : List (ℕ × Option Content)) (cells found : List ℕ) → 0 < length contents → cells ≡ keys_of contents →
+    ((a : ℕ) → is_listed found a ≡ marked sheet cells a) → ((a : ℕ) → is_listed found a ≡ false → IsUnmoved sheet cells a) → AreMarked marked sheet contents found
+some_marked marked sheet contents cells found l e m u = record {
+  only = λ a h. (l, ap (λ (xs : List ℕ). marked sheet xs a) (sym e) ∙ sym (m a) ∙ h);
+  unmoved = λ a p h. u a h (edited sheet (map settled_change contents)) sheet p p
+      (λ d n. same_off_edited sheet contents d (ap (λ (xs : List ℕ). is_listed xs d) (sym e) ∙ n)) (λ d n. refl) (λ d n. refl);
+}
+
+pub is_none : (b : Bool) (n : ℕ) → b ≡ (n == 0) → b ≡ true → n ≡ 0
+is_none b n e h = grind (arith, nat_tests)
+
+pub is_one : (b : Bool) (n : ℕ) → b ≡ (n == 0) → b ≡ false → 0 < n
+is_one b n e h = grind (arith, nat_tests)
+
+pub marked_as : (marked : Sheet → List ℕ → ℕ → Bool) (sheet : Sheet) (contents changes : List (ℕ × Option Content)) (found cells : List ℕ) → changes ≡ contents → cells ≡ found → AreMarked marked sheet changes found → AreMarked marked sheet contents cells
+marked_as marked sheet contents changes found cells c f h =
+    subst (λ (xs : List ℕ). AreMarked marked sheet contents xs) (sym f) (subst (λ (es : List (ℕ × Option Content)). AreMarked marked sheet es found) c h)
+
+-- ---- rooms for them
+
+-- the sessions before the i-th have rooms, and those from it on have none
+pub record HaveRooms (cells : List ℕ) (r : Roster) (i : ℕ) : Type 0 where
+  pub done : (j a : ℕ) → j < i → is_listed (vacant_of r j) a ≡ (is_listed cells a && not (is_listed (pending_of r j) a))
+  pub left : (j : ℕ) → i ≤ j → vacant_of r j ≡ []
+
+pub rooms_more : (cells : List ℕ) (r q : Roster) (i : ℕ) → q.pending ≡ r.pending
+    → ((a : ℕ) → is_listed (vacant_of q i) a ≡ (is_listed (vacant_of r i) a || (is_listed cells a && not (is_listed (pending_of r i) a))))
+    → ((j : ℕ) → j ≢ i → vacant_of q j ≡ vacant_of r j) → HaveRooms cells r i → HaveRooms cells q (i + 1)
+rooms_more cells r q i same room others h = record {
+  done = λ j a l. ⊎_elim
+      (λ (e : j ≡ i). ap (λ (k : ℕ). is_listed (vacant_of q k) a) e ∙ room a ∙ ap (λ (xs : List ℕ). is_listed xs a || (is_listed cells a && not (is_listed (pending_of r i) a))) (h.left i (omega arith))
+      ∙ ap (λ (k : ℕ). is_listed cells a && not (is_listed (pending_of r k) a)) (sym e) ∙ pending j a)
+      (λ (n : j ≢ i). ap (λ (xs : List ℕ). is_listed xs a) (others j n) ∙ h.done j a (omega (arith, l, n)) ∙ pending j a)
+      (cases_eq j i);
+  left = λ j l. others j (λ e. let n : ⊥ = omega (arith, l, e) in n) ∙ h.left j (omega (arith, l));
+}
+  where
+    pending : (j a : ℕ) → (is_listed cells a && not (is_listed (pending_of r j) a)) ≡ (is_listed cells a && not (is_listed (pending_of q j) a))
+    pending j a = ap (λ (xss : List (List ℕ)). is_listed cells a && not (is_listed (slice_index_or xss j []) a)) (sym same)
+
+-- ---- what is pending after it
+
+-- rooms were taken or given back
+pub record AreTaken (old new : Roster) : Type 0 where
+  pub sessions : new.sessions ≡ old.sessions
+  pub lists : length new.pending ≡ length old.pending
+  pub pending : (i a : ℕ) → is_listed (pending_of new i) a ≡ (is_listed (pending_of old i) a || is_listed (vacant_of old i) a)
+  pub vacant : (i : ℕ) → vacant_of new i ≡ []
+
+pub record AreGivenBack (old new : Roster) : Type 0 where
+  pub sessions : new.sessions ≡ old.sessions
+  pub pending : new.pending ≡ old.pending
+  pub vacant : (i : ℕ) → vacant_of new i ≡ []
+
+neither : (a b : Bool) → (a || b) ≡ false → (a ≡ false) × (b ≡ false)
+neither true b h = cc
+neither false b h = (refl, h)
+
+either : (a b : Bool) → (a || b) ≡ true → (a ≡ true) ⊎ (b ≡ true)
+either true b h = inl refl
+either false b h = inr h
+
+not_found : (v f p : Bool) → v ≡ (f && not p) → p ≡ false → v ≡ false → f ≡ false
+not_found v true true e k h = cc
+not_found v true false e k h = sym e ∙ h
+not_found v false p e k h = refl
+
+is_found : (v f p : Bool) → v ≡ (f && not p) → v ≡ true → f ≡ true
+is_found v true p e h = refl
+is_found v false p e h = sym e ∙ h
+
+is_itself : (a : ℕ) → (a == a) ≡ true
+is_itself a = grind (arith, nat_tests)
+
+listed_at : (xs : List ℕ) (k d : ℕ) → k < length xs → is_listed xs (slice_index_or xs k d) ≡ true
+listed_at [] k d l = absurd (omega (arith, l))
+listed_at (x ∷ xs) zero d l = ap (λ (b : Bool). b || is_listed xs x) (is_itself x)
+listed_at (x ∷ xs) (suc k) d l = by (x == slice_index_or xs k d) (listed_at xs k d (omega (arith, l)))
+  where
+    by : (b : Bool) → is_listed xs (slice_index_or xs k d) ≡ true → (b || is_listed xs (slice_index_or xs k d)) ≡ true
+    by true h = refl
+    by false h = h
+
+module _ (marked : Sheet → List ℕ → ℕ → Bool) (s t : Stored) (d n : Desk) (r : Roster) (contents : List (ℕ × Option Content)) (found : List ℕ)
+    (sound : IsSound s d) (beside : SameBeside d n) (are : AreMarked marked s.sheet contents found) where
+  pending_then : (i a : ℕ) → is_listed (pending_of n.sessions i) a ≡ is_listed (pending_of d.sessions i) a
+  pending_then i a = ap (λ (xss : List (List ℕ)). is_listed (slice_index_or xss i []) a) beside.pending
+
+  module _ (rooms : HasRooms found n.sessions) (taken : AreTaken n.sessions r) where
+    room_at : (i a : ℕ) → i < length d.sessions.sessions → is_listed (vacant_of n.sessions i) a ≡ (is_listed found a && not (is_listed (pending_of d.sessions i) a))
+    room_at i a l =
+        rooms i a (subst (λ (xs : List Session). i < length xs) (sym beside.sessions) l) ∙ ap (λ (b : Bool). is_listed found a && not b) (pending_then i a)
+
+    -- a cell that isn't pending then was neither pending nor marked
+    quiet : (i a : ℕ) → i < length d.sessions.sessions → is_listed (pending_of r i) a ≡ false → (is_listed (pending_of d.sessions i) a ≡ false) × (is_listed found a ≡ false)
+    quiet i a l h =
+        let both = neither (is_listed (pending_of n.sessions i) a) (is_listed (vacant_of n.sessions i) a) (sym (taken.pending i a) ∙ h) in
+        let before : is_listed (pending_of d.sessions i) a ≡ false = sym (pending_then i a) ∙ both.0 in
+        (before, not_found _ _ _ (room_at i a l) before both.1)
+
+    -- the picture of a session, of the old sheet and of the new one
+    abbrev RightAt : List Session → List Scenario → Type 0
+    RightAt xs scenarios =
+        (i : ℕ) → i < length xs → (a : ℕ) → a < sheet_size → is_pending r.pending i a ≡ false → value_in (slice_index_or xs i (new_session [])).picture a ≡ shown t.sheet (effective scenarios (slice_index_or xs i (new_session [])).scenario) a
+
+    covered_taken : applied s contents ≡ Ok t → AreCovered (state_of t (record n { sessions = r })) r.pending
+    covered_taken made =
+        subst (λ (scenarios : List Scenario). RightAt r.sessions scenarios) (sym beside.scenarios)
+        (subst (λ (xs : List Session). RightAt xs d.scenarios) (sym (taken.sessions ∙ beside.sessions))
+        (λ i l a w h. let both = quiet i a l h in
+        let put : List Replacement = effective d.scenarios (slice_index_or d.sessions.sessions i (new_session [])).scenario in
+        sound.covered i l a w both.0 ∙ sym (are.unmoved a put both.1)
+        ∙ ap (λ (x : Sheet). shown x put a) (sym ((accepted_is s t (map settled_change contents) made).0))))
+
+    pub sound_taken : applied s contents ≡ Ok t → IsSound t (record n { sessions = r })
+    sound_taken made =
+        let same : r.sessions ≡ d.sessions.sessions = taken.sessions ∙ beside.sessions in
+        let lists : length r.pending ≡ length d.sessions.pending = taken.lists ∙ ap (λ (xss : List (List ℕ)). length xss) beside.pending in
+        let many : length r.sessions ≡ length d.sessions.sessions = ap (λ (xs : List Session). length xs) same in
+        let at : n.current ≡ d.current = beside.current in
+        record {
+          within = omega (arith, many, at, sound.within);
+          few = omega (arith, many, sound.few);
+          each = lists ∙ sound.each ∙ sym many;
+          full = taken.vacant;
+          covered = covered_taken made;
+        }
+
+    pub adds_taken : AddsOnly marked (keys_of contents) (state_of s d) (state_of t (record n { sessions = r })) d.sessions.pending r.pending
+    adds_taken i a l h =
+        ⊎_elim
+        (λ (p : is_listed (pending_of n.sessions i) a ≡ true). inl (sym (pending_then i a) ∙ p))
+        (λ (v : is_listed (vacant_of n.sessions i) a ≡ true). let o = are.only a (is_found _ _ _ (room_at i a l) v) in
+        inr (record { cells = keys_of contents; some = omega (arith, o.0, length-keys_of contents); touched = λ k e m. inl (listed_at (keys_of contents) k e m); has = o.1 }))
+        (either _ _ (sym (taken.pending i a) ∙ h))
+
+module _ (s t : Stored) (d n : Desk) (r : Roster) (sound : IsSound s d) (beside : SameBeside d n) (given : AreGivenBack n.sessions r) where
+  pub sound_given_back : t ≡ s → IsSound t (record n { sessions = r })
+  sound_given_back same =
+      let sessions : r.sessions ≡ d.sessions.sessions = given.sessions ∙ beside.sessions in
+      let pending : r.pending ≡ d.sessions.pending = given.pending ∙ beside.pending in
+      let many : length r.sessions ≡ length d.sessions.sessions = ap (λ (xs : List Session). length xs) sessions in
+      let at : n.current ≡ d.current = beside.current in
+      record {
+        within = omega (arith, many, at, sound.within);
+        few = omega (arith, many, sound.few);
+        each = ap (λ (xss : List (List ℕ)). length xss) pending ∙ sound.each ∙ sym many;
+        full = given.vacant;
+        covered = rw (same, sessions, pending, beside.scenarios) sound.covered;
+      }

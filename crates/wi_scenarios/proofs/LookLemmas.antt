@@ -1,0 +1,51 @@
+-- What commands that only look answer, and what they write.
+use Rattle.std.proofs.Common.{◌≡◌, ℕ, Bool, true, false, not, ◌||◌, ◌&&◌, List, [], ◌++◌, Option, Result, Err, refl, sym, ap, ◌∙◌, subst, arith}
+use Rattle.std.specs.Prelude.{nat_le, nat_lt}
+use Rattle.std.specs.Result.{IsErrAnd}
+use Rattle.std.proofs.lemmas.Result.{err_from_is_err_and}
+use Rattle.std.proofs.lemmas.List.{append-nil}
+use Rattle.std.proofs.lemmas.Bool.Decides.{nat_tests}
+use Rattle.wi_values.specs.Address.{Area}
+use Rattle.wi_reports.specs.Table.{table_of, is_column, has_row, entries}
+use Rattle.wi_scenarios.specs.declared.refusal.Refusal.{Refusal}
+use Rattle.wi_scenarios.specs.declared.refusal.Refusal.TheVariants.{Memory}
+use Rattle.wi_scenarios.specs.State.{State}
+use Rattle.wi_scenarios.specs.Views.{current_replacements}
+use Rattle.wi_scenarios.specs.Areas.{max_area}
+use Rattle.wi_scenarios.specs.Answer.{Answer, may_grow, Serves}
+use Rattle.wi_scenarios.specs.Causes.{no_cause, answer}
+use Rattle.wi_scenarios.specs.Table.{table_step}
+
+-- the call wrote some records, and did as the answer says
+abbrev pub Looked : Answer → Result (Unit {0}) Refusal → State → State → List ℕ → List ℕ → Type 0
+Looked step r old new before after = (records : List ℕ) × (after ≡ before ++ records) × Serves (λ a. step ≡ a) r old new records
+
+-- it refused for want of memory
+lacked : (step : Answer) (r : Result (Unit {0}) Refusal) (s t : State) (before after : List ℕ) → may_grow step ≡ true → IsErrAnd r (λ e. e ≡ Memory) → t ≡ s → after ≡ before → Looked step r s t before after
+lacked step r s t before after grows k same kept =
+    let p = err_from_is_err_and r k in
+    subst (λ x. Looked step x s t before after) (sym (p.1 ∙ ap Err p.2))
+    ([], kept ∙ sym (append-nil before), (record { answer = step; is_answer = refl; grows = grows }, same, refl))
+
+-- ---- a table whose column and row are such, and that isn't too large
+
+not_misshaped : (column row shaped : Bool) → shaped ≡ (column && row) → shaped ≡ true → (not column || not row) ≡ false
+not_misshaped true row shaped e h = ap not (sym e ∙ h)
+not_misshaped false row shaped e h = ap not (sym e ∙ h)
+
+not_too_large : (n most : ℕ) (within : Bool) → within ≡ nat_le n most → within ≡ true → nat_lt most n ≡ false
+not_too_large n most within e h = grind (arith, nat_tests)
+
+tabled_grows : (s : State) (records : List ℕ) (bad large : Bool) → bad ≡ false → large ≡ false → may_grow (answer (record no_cause { bad_command = bad; too_large = large }) (s, records)) ≡ true
+tabled_grows s records true large e f = absurd (let z = e in cc)
+tabled_grows s records false true e f = absurd (let z = f in cc)
+tabled_grows s records false false e f = refl
+
+pub table_lacked : (s t : State) (f input : ℕ) (xs : Area) (second : Option (ℕ × Area)) (shaped within : Bool) (before after : List ℕ) (r : Result (Unit {0}) Refusal)
+    → shaped ≡ (is_column xs && has_row second) → shaped ≡ true → within ≡ nat_le (entries xs second) max_area → within ≡ true
+    → IsErrAnd r (λ e. e ≡ Memory) → t ≡ s → after ≡ before → Looked (table_step s f input xs second) r s t before after
+table_lacked s t f input xs second shaped within before after r shape is_shaped size is_within k same kept =
+    lacked (table_step s f input xs second) r s t before after
+    (tabled_grows s (table_of s.stored.sheet (current_replacements s) f input xs second) (not (is_column xs) || not (has_row second)) (nat_lt max_area (entries xs second))
+    (not_misshaped (is_column xs) (has_row second) shaped shape is_shaped) (not_too_large (entries xs second) max_area within size is_within))
+    k same kept

@@ -1,0 +1,215 @@
+-- What each command leaves.
+use Rattle.std.specs.Prelude.{nat_le, nat_lt, option_map}
+use Rattle.std.proofs.Common.{◌≡◌, ◌≢◌, ◌∙◌, ℕ, ◌==◌, inl, inr, Bool, true, false, not, ◌&&◌, ◌||◌, cond, List, [], ◌∷◌, length, Option, Some, None, is_some, Result, Ok, Err, refl, sym, ap, subst}
+use Rattle.std.specs.List.{list_any, find}
+use Rattle.std.specs.Option.{option_or}
+use Rattle.std.specs.Str.{bytes_eq}
+use Rattle.std.proofs.lemmas.Slice.Eq.{bytes_eq-Decides}
+use Rattle.wi_values.specs.Address.{Area, size_of, cells_of}
+use Rattle.wi_store.specs.Store.{Stored, applied}
+use Rattle.wi_store.specs.declared.fault.StoreFault.{StoreFault}
+use Rattle.wi_import.specs.Areas.{areas_at}
+use Rattle.wi_scenario_list.specs.Scenarios as list
+use Rattle.wi_scenario_list.specs.Scenarios.{is_named, has_scenario, scenario_of, scenario_or_new, scenario_for, with_scenario, without_scenario, with_own, without_own, is_full}
+use Rattle.wi_scenario_list.specs.Bases.{lacks, would_loop, based_on}
+use Rattle.wi_sessions.specs.Sessions.{max_sessions, has_session, with_session, place_of, using_scenario, told}
+use Rattle.wi_reports.specs.Table.{is_column, has_row, entries, table_of}
+use Rattle.wi_reports.specs.Rows.{rows_shown}
+use Rattle.wi_reports.specs.Export.{export_of}
+use Rattle.wi_reports.specs.Compare.{cells_compared}
+use Rattle.wi_reports.specs.Changes.{change_records}
+use Rattle.wi_reports.specs.Contents.{content_record}
+use Rattle.wi_scenario_list.specs.Scenarios.{effective}
+use Rattle.wi_scenarios.specs.declared.refusal.Refusal.{Refusal}
+use Rattle.wi_scenarios.specs.declared.refusal.Refusal.TheVariants.{Memory, BadCommand, TooLarge, NoScenario, InUse, TooMany, BadField, LeavesSheet, Stale, TooLong}
+use Rattle.wi_scenarios.specs.declared.refusal.Refusal.TheVariants as refusal
+use Rattle.wi_scenarios.specs.State.{State}
+use Rattle.wi_scenarios.specs.Views.{current_session, with_current, current_replacements}
+use Rattle.wi_scenarios.specs.Areas.{max_area}
+use Rattle.wi_scenarios.specs.Answer.{Answer}
+use Rattle.wi_scenarios.specs.Causes.{when, unless, no_cause, first_cause}
+use Rattle.wi_scenarios.specs.Edits.{limit_of, edit_refusal, stale_in, after_edit}
+use Rattle.wi_scenarios.specs.Changes.{change_list}
+use Rattle.wi_scenarios.specs.Set.{cell_area, fault_in, content_in}
+use Rattle.wi_scenarios.specs.Clear.{clear_edit}
+use Rattle.wi_scenarios.specs.Fill.{fill_edit, has_no_copy}
+use Rattle.wi_scenarios.specs.Csv.{has_bad_field, field_fault, contents_in}
+use Rattle.wi_scenarios.specs.Scenario.{replacement_by}
+use Rattle.wi_scenarios.specs.Drop.{is_in_use}
+use Rattle.wi_scenarios.specs.Step.{Command, Set, Clear, Fill, Csv, Scenario, Drop, Base, Use, As, Show, Export, Changes, Compare, Table, Formula, Refused, RefusedData, IsStep}
+use Rattle.wi_scenarios.specs.Laws.{Event, MayHappen, IsEdited, HasScenarioChanged, Leaves}
+
+-- what an answer says of the state that it leaves
+abbrev pub Outcome : State → Command → Answer → Type 0
+Outcome s c (Ok done) = Leaves c s done.0
+Outcome s c (Err e) = Unit {0}
+
+-- ---- answers
+
+-- where a refusal would have held of it, or not
+refused : (s : State) (c : Command) (e : Refusal) (a : Answer) → Err e ≡ a → Outcome s c a
+refused s c e a h = subst (Outcome s c) h tt
+
+done_so : (s : State) (c : Command) (o : Option Refusal) (done : State × List ℕ) (a : Answer) → unless o done ≡ a → Leaves c s done.0 → Outcome s c a
+done_so s c (Some e) done a h k = refused s c e a h
+done_so s c None done a h k = subst (Outcome s c) h k
+
+-- ---- edits
+
+-- the order of the causes of an edit: two of the command's own, a stale cell, a limit
+abbrev pub edit_cause : Option Refusal → Option Refusal → Option ℕ → Option Refusal → Option Refusal
+edit_cause o p stale limit = option_or o (option_or p (option_or (option_map Stale stale) (option_or limit None)))
+
+-- an edit of these rectangles
+abbrev pub EditOutcome : List Area → State → Answer → Type 0
+EditOutcome named s (Ok done) = IsEdited named s done.0
+EditOutcome named s (Err e) = Unit {0}
+
+edit_refused : (named : List Area) (s : State) (e : Refusal) (a : Answer) → Err e ≡ a → EditOutcome named s a
+edit_refused named s e a h = subst (EditOutcome named s) h tt
+
+edited : (named : List Area) (s : State) (o p : Option Refusal) (stale : Option ℕ) (r : Result Stored StoreFault) (a : Answer)
+    → unless (edit_cause o p stale (limit_of r)) (after_edit s named r, []) ≡ a → EditOutcome named s a
+edited named s (Some e) p stale r a h = edit_refused named s e a h
+edited named s None (Some e) stale r a h = edit_refused named s e a h
+edited named s None None (Some c) r a h = edit_refused named s (Stale c) a h
+edited named s None None None (Err e) a h = edit_refused named s (edit_refusal e) a h
+edited named s None None None (Ok stored) a h =
+    subst (EditOutcome named s) h (record { scenarios = refl; sessions = refl; current = refl; log = refl })
+
+-- ---- scenarios
+
+-- where the first that has a name is looked for, others that don't have it make no difference
+other_name : (other name : List ℕ) → other ≢ name → bytes_eq other name ≡ false
+other_name other name n = by (bytes_eq other name) refl
+  where
+    by : (b : Bool) → bytes_eq other name ≡ b → bytes_eq other name ≡ false
+    by true h = absurd (n ((bytes_eq-Decides other name).0 h))
+    by false h = h
+
+found_with : (other : List ℕ) (x : list.Scenario) (ys : List list.Scenario) → other ≢ x.name → find (is_named other) (with_scenario ys x) ≡ find (is_named other) ys
+found_with other x [] n = ap (λ (b : Bool). cond b (Some x) None) (other_name other x.name n)
+found_with other x (y ∷ ys) n = by (bytes_eq x.name y.name) refl (found_with other x ys n)
+  where
+    by : (b : Bool) → bytes_eq x.name y.name ≡ b → find (is_named other) (with_scenario ys x) ≡ find (is_named other) ys
+        → find (is_named other) (cond b (x ∷ ys) (y ∷ with_scenario ys x)) ≡ find (is_named other) (y ∷ ys)
+    by true h rest =
+        ap (λ (c : Bool). cond c (Some x) (find (is_named other) ys)) (other_name other x.name n)
+        ∙ sym (ap (λ (c : Bool). cond c (Some y) (find (is_named other) ys)) (ap (bytes_eq other) (sym ((bytes_eq-Decides x.name y.name).0 h)) ∙ other_name other x.name n))
+    by false h rest = ap (cond (is_named other y) (Some y)) rest
+
+found_without : (other name : List ℕ) (ys : List list.Scenario) → other ≢ name → find (is_named other) (without_scenario ys name) ≡ find (is_named other) ys
+found_without other name [] n = refl
+found_without other name (y ∷ ys) n = by (bytes_eq name y.name) refl (found_without other name ys n)
+  where
+    by : (b : Bool) → bytes_eq name y.name ≡ b → find (is_named other) (without_scenario ys name) ≡ find (is_named other) ys
+        → find (is_named other) (cond (not b) (y ∷ without_scenario ys name) (without_scenario ys name)) ≡ find (is_named other) (y ∷ ys)
+    by true h rest =
+        rest
+        ∙ sym (ap (λ (c : Bool). cond c (Some y) (find (is_named other) ys)) (ap (bytes_eq other) (sym ((bytes_eq-Decides name y.name).0 h)) ∙ other_name other name n))
+    by false h rest = ap (cond (is_named other y) (Some y)) rest
+
+-- the scenario that is found by a name, or made for it, has that name
+name_found : (name : List ℕ) (ys : List list.Scenario) → (scenario_or_new name (find (is_named name) ys)).name ≡ name
+name_found name [] = refl
+name_found name (y ∷ ys) = by (bytes_eq name y.name) refl (name_found name ys)
+  where
+    by : (b : Bool) → bytes_eq name y.name ≡ b → (scenario_or_new name (find (is_named name) ys)).name ≡ name → (scenario_or_new name (cond b (Some y) (find (is_named name) ys))).name ≡ name
+    by true h rest = sym ((bytes_eq-Decides name y.name).0 h)
+    by false h rest = rest
+
+-- a scenario of the name is put in, or the one of the name is taken out
+put_in : (s : State) (name : List ℕ) (x : list.Scenario) → x.name ≡ name → HasScenarioChanged name s (record s { scenarios = with_scenario s.scenarios x })
+put_in s name x e = record {
+  stored = refl;
+  others = λ other n. found_with other x s.scenarios (λ m. n (m ∙ e));
+  sessions = refl;
+  current = refl;
+  log = refl;
+}
+
+taken_out : (s : State) (name : List ℕ) → HasScenarioChanged name s (record s { scenarios = without_scenario s.scenarios name })
+taken_out s name = record {
+  stored = refl;
+  others = λ other n. found_without other name s.scenarios n;
+  sessions = refl;
+  current = refl;
+  log = refl;
+}
+
+-- ---- each command
+
+pub outcome : (s : State) (c : Command) (a : Answer) → IsStep s c a → Outcome s c a
+outcome s (Set force at text) a h =
+    as_edit a (edited (cell_area at ∷ []) s (when (length text == 0) BadCommand) (fault_in h.read) (stale_in s force (cell_area at ∷ [])) (applied s.stored ((at, content_in h.read) ∷ [])) a h.answered)
+  where
+    as_edit : (b : Answer) → EditOutcome (cell_area at ∷ []) s b → Outcome s (Set force at text) b
+    as_edit (Ok done) k = k
+    as_edit (Err e) k = tt
+outcome s (Clear force area) a h =
+    as_edit a (edited (area ∷ []) s None None (stale_in s force (area ∷ [])) (applied s.stored (clear_edit s.stored.sheet area).contents) a h)
+  where
+    as_edit : (b : Answer) → EditOutcome (area ∷ []) s b → Outcome s (Clear force area) b
+    as_edit (Ok done) k = k
+    as_edit (Err e) k = tt
+outcome s (Fill force from area) a h =
+    as_edit a (edited (area ∷ []) s (when (nat_lt max_area (size_of area)) TooLarge) (when (list_any (has_no_copy s.stored.sheet from) (cells_of area)) LeavesSheet)
+    (stale_in s force (area ∷ [])) (applied s.stored (fill_edit s.stored.sheet from area).contents) a h)
+  where
+    as_edit : (b : Answer) → EditOutcome (area ∷ []) s b → Outcome s (Fill force from area) b
+    as_edit (Ok done) k = k
+    as_edit (Err e) k = tt
+outcome s (Csv force at text) a h =
+    as_edit a (edited (areas_at at text) s (when (has_bad_field h.read) BadField) (field_fault h.read) (stale_in s force (areas_at at text)) (applied s.stored (contents_in h.read)) a h.answered)
+  where
+    as_edit : (b : Answer) → EditOutcome (areas_at at text) s b → Outcome s (Csv force at text) b
+    as_edit (Ok done) k = k
+    as_edit (Err e) k = tt
+outcome s (Scenario name at []) a h =
+    done_so s (Scenario name at []) (option_or (when (not (has_scenario s.scenarios name)) NoScenario) None)
+    (record s { scenarios = with_scenario s.scenarios (without_own (scenario_for s.scenarios name) at) }, []) a h
+    (put_in s name (without_own (scenario_for s.scenarios name) at) (name_found name s.scenarios))
+outcome s (Scenario name at (b ∷ bs)) a h =
+    done_so s (Scenario name at (b ∷ bs))
+    (option_or (when (is_full s.scenarios name at) TooMany) (option_or (when (not (is_some h.value)) TooLong) None))
+    (record s { scenarios = with_scenario s.scenarios (with_own (scenario_for s.scenarios name) (replacement_by at h.value)) }, []) a h.answered
+    (put_in s name (with_own (scenario_for s.scenarios name) (replacement_by at h.value)) (name_found name s.scenarios))
+outcome s (Drop name) a h =
+    done_so s (Drop name) (option_or (when (not (has_scenario s.scenarios name)) NoScenario) (option_or (when (is_in_use s name) InUse) None))
+    (record s { scenarios = without_scenario s.scenarios name }, []) a h
+    (taken_out s name)
+outcome s (Base name other) a h =
+    done_so s (Base name other)
+    (option_or (when (not (has_scenario s.scenarios name) || lacks s.scenarios other) NoScenario) (option_or (when (would_loop s.scenarios name other) refusal.Loop) None))
+    (record s { scenarios = with_scenario s.scenarios (based_on (scenario_for s.scenarios name) other) }, []) a h
+    (put_in s name (based_on (scenario_for s.scenarios name) other) (name_found name s.scenarios))
+outcome s (Use name) a h =
+    done_so s (Use name) (option_or (when (lacks s.scenarios name) NoScenario) None) (with_current s (using_scenario (current_session s) name), []) a h refl
+outcome s (As name) a h =
+    done_so s (As name)
+    (first_cause (record no_cause { too_many = not (has_session s.sessions name) && nat_le max_sessions (length s.sessions) }))
+    (record s { sessions = with_session s.sessions name; current = place_of s.sessions name }, []) a h refl
+outcome s (Show area) a h =
+    done_so s (Show area) (option_or (when (nat_lt max_area (size_of area)) TooLarge) None) (s, rows_shown s.stored.sheet (current_replacements s) area) a h refl
+outcome s (Export area) a h =
+    done_so s (Export area) (option_or (when (nat_lt max_area (size_of area)) TooLarge) None) (s, export_of (rows_shown s.stored.sheet (current_replacements s) area)) a h refl
+outcome s Changes a h =
+    done_so s Changes None (with_current s (told (current_session s) (change_list s) (length s.log)), change_records (change_list s)) a h refl
+outcome s (Compare first second area) a h =
+    done_so s (Compare first second area)
+    (option_or (when (nat_lt max_area (size_of area)) TooLarge) (option_or (when (lacks s.scenarios first || lacks s.scenarios second) NoScenario) None))
+    (s, cells_compared s.stored.sheet (effective s.scenarios first) (effective s.scenarios second) area) a h refl
+outcome s (Table f r xs second) a h =
+    done_so s (Table f r xs second)
+    (option_or (when (not (is_column xs) || not (has_row second)) BadCommand) (option_or (when (nat_lt max_area (entries xs second)) TooLarge) None))
+    (s, table_of s.stored.sheet (current_replacements s) f r xs second) a h refl
+outcome s (Formula at) a h = done_so s (Formula at) None (s, content_record s.stored.sheet at) a h refl
+outcome s (Refused e) a h = refused s (Refused e) e a h
+outcome s (RefusedData e) a h = refused s (RefusedData e) e a h
+
+pub what_happens : (s : State) (e : Event) → MayHappen s e → Outcome s e.command e.answer
+what_happens s e (inl h) = outcome s e.command e.answer h
+what_happens s e (inr h) = subst (Outcome s e.command) (sym h) tt
+
+pub leaves : (s t : State) (c : Command) (records : List ℕ) → IsStep s c (Ok (t, records)) → Leaves c s t
+leaves s t c records h = outcome s c (Ok (t, records)) h

@@ -1,0 +1,158 @@
+-- What commands about scenarios answer.
+use Rattle.std.proofs.Common.{◌≡◌, ◌↔◌, ℕ, Bool, true, false, not, ◌||◌, List, [], ◌∷◌, length, Option, Some, None, Result, Ok, Err, refl, sym, ap, ◌∙◌, subst, arith}
+use Rattle.std.specs.Prelude.{IsErrOf, is_some}
+use Rattle.std.specs.Result.{IsErrAnd}
+use Rattle.std.proofs.lemmas.Result.{err_from_is_err_and}
+use Rattle.wi_values.specs.declared.value.Value.{Value}
+use Rattle.wi_values.specs.declared.import.FieldFault.{FieldFault}
+use Rattle.wi_values.specs.declared.import.FieldFault.TheVariants as field
+use Rattle.wi_values.specs.Inner.Import.{imported}
+use Rattle.wi_values.proofs.Imports.{imported_exactly}
+use Rattle.wi_scenario_list.specs.Scenarios.{has_scenario, scenario_for, with_scenario, with_own, without_own, is_full}
+use Rattle.wi_scenario_list.specs.Bases.{lacks, would_loop, based_on}
+use Rattle.wi_scenarios.specs.declared.refusal.Refusal.{Refusal}
+use Rattle.wi_scenarios.specs.declared.refusal.Refusal.TheVariants.{Memory, NoScenario, TooMany, TooLong, Loop}
+use Rattle.wi_sessions.specs.Sessions.{using_scenario}
+use Rattle.wi_scenarios.specs.State.{State}
+use Rattle.wi_scenarios.specs.Views.{current_session, with_current}
+use Rattle.wi_scenarios.specs.Answer.{Answer, MayRefuse, Serves, field_refusal}
+use Rattle.wi_scenarios.specs.Causes.{no_cause, when, answer}
+use Rattle.wi_scenarios.specs.Scenario.{replacement_by, put_answer, take_away_step, IsScenarioStep}
+use Rattle.wi_scenarios.specs.Base.{base_step}
+use Rattle.wi_scenarios.specs.Use.{use_step}
+
+-- ---- calls that end at a want of memory
+
+-- it may stand in place of an answer that does something
+pub lacked : (step : Answer) (done : State × List ℕ) (r : Result (Unit {0}) Refusal) (s t : State) → step ≡ Ok done → IsErrAnd r (λ e. e ≡ Memory) → t ≡ s
+    → Serves (λ a. step ≡ a) r s t []
+lacked step done r s t e k same =
+    let found = err_from_is_err_and r k in
+    subst (λ (x : Result (Unit {0}) Refusal). Serves (λ a. step ≡ a) x s t []) (sym found.1)
+    (subst (λ (x : Refusal). Serves (λ a. step ≡ a) (Err x) s t []) (sym found.2) (record { answer = Ok done; is_answer = e; grows = refl }, same, refl))
+
+-- ---- answers, by their causes
+
+taken_by : (t : State) (there : Bool) → there ≡ true → answer (record no_cause { no_scenario = not there }) (t, []) ≡ Ok (t, [])
+taken_by t there e = ap (λ (b : Bool). answer (record no_cause { no_scenario = not b }) (t, [])) e
+
+pub taken : (s : State) (name : List ℕ) (at : ℕ) → has_scenario s.scenarios name ≡ true
+    → take_away_step s name at ≡ Ok (record s { scenarios = with_scenario s.scenarios (without_own (scenario_for s.scenarios name) at) }, [])
+taken s name at e = taken_by (record s { scenarios = with_scenario s.scenarios (without_own (scenario_for s.scenarios name) at) }) (has_scenario s.scenarios name) e
+
+pub not_taken : (s : State) (name : List ℕ) (at : ℕ) → has_scenario s.scenarios name ≡ false → take_away_step s name at ≡ Err NoScenario
+not_taken s name at e =
+    ap (λ (b : Bool). answer (record no_cause { no_scenario = not b }) (record s { scenarios = with_scenario s.scenarios (without_own (scenario_for s.scenarios name) at) }, [])) e
+
+pub put_there : (s : State) (name : List ℕ) (at : ℕ) (value : Option Value) (v : Value) → is_full s.scenarios name at ≡ false → value ≡ Some v
+    → put_answer s name at value ≡ Ok (record s { scenarios = with_scenario s.scenarios (with_own (scenario_for s.scenarios name) (replacement_by at (Some v))) }, [])
+put_there s name at value v e f =
+    ap (put_answer s name at) f
+    ∙ ap (λ (b : Bool). answer (record no_cause { too_many = b }) (record s { scenarios = with_scenario s.scenarios (with_own (scenario_for s.scenarios name) (replacement_by at (Some v))) }, [])) e
+
+by_full : (value : Option Value) (b : Bool) (t : State) → b ≡ true → answer (record no_cause { too_many = b; content = when (not (is_some value)) TooLong }) (t, []) ≡ Err TooMany
+by_full value true t e = refl
+by_full value false t e = cc
+
+pub put_full : (s : State) (name : List ℕ) (at : ℕ) (value : Option Value) → is_full s.scenarios name at ≡ true → put_answer s name at value ≡ Err TooMany
+put_full s name at value e =
+    by_full value (is_full s.scenarios name at) (record s { scenarios = with_scenario s.scenarios (with_own (scenario_for s.scenarios name) (replacement_by at value)) }) e
+
+by_length : (value : Option Value) (b : Bool) (t : State) → b ≡ false → value ≡ None → answer (record no_cause { too_many = b; content = when (not (is_some value)) TooLong }) (t, []) ≡ Err TooLong
+by_length None false t e f = refl
+by_length None true t e f = cc
+by_length (Some v) b t e f = cc
+
+pub put_long : (s : State) (name : List ℕ) (at : ℕ) (value : Option Value) → is_full s.scenarios name at ≡ false → value ≡ None → put_answer s name at value ≡ Err TooLong
+put_long s name at value e f =
+    by_length value (is_full s.scenarios name at) (record s { scenarios = with_scenario s.scenarios (with_own (scenario_for s.scenarios name) (replacement_by at value)) }) e f
+
+-- ---- a text that isn't read
+
+pub unread : (s t : State) (name : List ℕ) (at : ℕ) (text : List ℕ) (got : Result Value FieldFault) (fault : FieldFault) (r : Result (Unit {0}) Refusal) → is_full s.scenarios name at ≡ false
+    → got ≡ Err fault → (IsErrOf got field.TooLong ↔ (imported text ≡ None)) → IsErrAnd r (λ e. e ≡ field_refusal fault) → t ≡ s
+    → Serves (λ a. put_answer s name at (imported text) ≡ a) r s t []
+unread s t name at text got fault r e was long k same =
+    let found = err_from_is_err_and r k in
+    subst (λ (x : Result (Unit {0}) Refusal). Serves (λ a. put_answer s name at (imported text) ≡ a) x s t []) (sym found.1)
+    (subst (λ (x : Refusal). Serves (λ a. put_answer s name at (imported text) ≡ a) (Err x) s t []) (sym found.2) (by fault was (imported text) refl))
+  where
+    by : (fault : FieldFault) → got ≡ Err fault → (o : Option Value) → imported text ≡ o
+        → Serves (λ a. put_answer s name at (imported text) ≡ a) (Err (field_refusal fault)) s t []
+    by field.TooLong h o f = (put_long s name at (imported text) e (long.0 h), same, refl)
+    by field.Memory h None f = let other : got ≡ Err field.TooLong = long.1 f in cc
+    by field.Memory h (Some v) f =
+        (record { answer = Ok (record s { scenarios = with_scenario s.scenarios (with_own (scenario_for s.scenarios name) (replacement_by at (Some v))) }, []); is_answer = put_there s name at (imported text) v e f; grows = refl }, same, refl)
+
+-- ---- a text that isn't empty
+
+put_step : (s : State) (name : List ℕ) (at : ℕ) (text : List ℕ) (a : Answer) → (length text ≡ 0 → ⊥) → put_answer s name at (imported text) ≡ a → IsScenarioStep s name at text a
+put_step s name at [] a h e = absurd (h refl)
+put_step s name at (b ∷ bs) a h e = record { value = imported (b ∷ bs); is_value = (imported_exactly (b ∷ bs) (imported (b ∷ bs))).1 refl; answered = e }
+
+empty_step : (s : State) (name : List ℕ) (at : ℕ) (text : List ℕ) (a : Answer) → length text ≡ 0 → take_away_step s name at ≡ a → IsScenarioStep s name at text a
+empty_step s name at [] a h e = e
+empty_step s name at (b ∷ bs) a h e = absurd (omega (arith, h))
+
+refuses_more : (e : Refusal) (A B : Answer → Type 0) → ((a : Answer) → A a → B a) → MayRefuse e A → MayRefuse e B
+refuses_more Memory A B f h = record { answer = h.answer; is_answer = f h.answer h.is_answer; grows = h.grows }
+refuses_more e A B f h = f (Err e) h
+
+pub serves_more : (A B : Answer → Type 0) (r : Result (Unit {0}) Refusal) (s t : State) (records : List ℕ) → ((a : Answer) → A a → B a) → Serves A r s t records → Serves B r s t records
+serves_more A B (Ok u) s t records f h = f (Ok (t, records)) h
+serves_more A B (Err e) s t records f h = (refuses_more e A B f h.0, h.1, h.2)
+
+pub put_served : (s t : State) (name : List ℕ) (at : ℕ) (text : List ℕ) (r : Result (Unit {0}) Refusal) → (length text ≡ 0 → ⊥)
+    → Serves (λ a. put_answer s name at (imported text) ≡ a) r s t [] → Serves (IsScenarioStep s name at text) r s t []
+put_served s t name at text r h k =
+    serves_more (λ a. put_answer s name at (imported text) ≡ a) (IsScenarioStep s name at text) r s t [] (λ a e. put_step s name at text a h e) k
+
+pub taken_served : (s t : State) (name : List ℕ) (at : ℕ) (text : List ℕ) (r : Result (Unit {0}) Refusal) → length text ≡ 0
+    → Serves (λ a. take_away_step s name at ≡ a) r s t [] → Serves (IsScenarioStep s name at text) r s t []
+taken_served s t name at text r h k =
+    serves_more (λ a. take_away_step s name at ≡ a) (IsScenarioStep s name at text) r s t [] (λ a e. empty_step s name at text a h e) k
+
+-- ---- bases, and which scenario is used
+
+base_by : (missing loop : Bool) (done : State × List ℕ) → missing ≡ false → loop ≡ false → answer (record no_cause { no_scenario = missing; loop = loop }) done ≡ Ok done
+base_by missing loop done e f = ap (λ (b : Bool). answer (record no_cause { no_scenario = b; loop = loop }) done) e ∙ ap (λ (b : Bool). answer (record no_cause { loop = b }) done) f
+
+abbrev pub rebased : State → List ℕ → Option (List ℕ) → State
+rebased s name other = record s { scenarios = with_scenario s.scenarios (based_on (scenario_for s.scenarios name) other) }
+
+pub base_done : (s : State) (name : List ℕ) (other : Option (List ℕ)) → (not (has_scenario s.scenarios name) || lacks s.scenarios other) ≡ false
+    → would_loop s.scenarios name other ≡ false → base_step s name other ≡ Ok (rebased s name other, [])
+base_done s name other e f =
+    base_by (not (has_scenario s.scenarios name) || lacks s.scenarios other) (would_loop s.scenarios name other) (rebased s name other, []) e f
+
+base_missing_by : (missing loop : Bool) (done : State × List ℕ) → missing ≡ true → answer (record no_cause { no_scenario = missing; loop = loop }) done ≡ Err NoScenario
+base_missing_by missing loop done e = ap (λ (b : Bool). answer (record no_cause { no_scenario = b; loop = loop }) done) e
+
+pub base_missing : (s : State) (name : List ℕ) (other : Option (List ℕ)) → (not (has_scenario s.scenarios name) || lacks s.scenarios other) ≡ true
+    → base_step s name other ≡ Err NoScenario
+base_missing s name other e =
+    base_missing_by (not (has_scenario s.scenarios name) || lacks s.scenarios other) (would_loop s.scenarios name other) (rebased s name other, []) e
+
+base_loop_by : (missing loop : Bool) (done : State × List ℕ) → missing ≡ false → loop ≡ true → answer (record no_cause { no_scenario = missing; loop = loop }) done ≡ Err Loop
+base_loop_by missing loop done e f = ap (λ (b : Bool). answer (record no_cause { no_scenario = b; loop = loop }) done) e ∙ ap (λ (b : Bool). answer (record no_cause { loop = b }) done) f
+
+pub base_loop : (s : State) (name : List ℕ) (other : Option (List ℕ)) → (not (has_scenario s.scenarios name) || lacks s.scenarios other) ≡ false
+    → would_loop s.scenarios name other ≡ true → base_step s name other ≡ Err Loop
+base_loop s name other e f =
+    base_loop_by (not (has_scenario s.scenarios name) || lacks s.scenarios other) (would_loop s.scenarios name other) (rebased s name other, []) e f
+
+there_left : (b c : Bool) → (not b || c) ≡ false → b ≡ true
+there_left true c h = refl
+there_left false c h = cc
+
+pub is_there : (s : State) (name : List ℕ) (other : Option (List ℕ)) → (not (has_scenario s.scenarios name) || lacks s.scenarios other) ≡ false → has_scenario s.scenarios name ≡ true
+is_there s name other e = there_left (has_scenario s.scenarios name) (lacks s.scenarios other) e
+
+abbrev pub used : State → Option (List ℕ) → State
+used s name = with_current s (using_scenario (current_session s) name)
+
+pub use_done : (s : State) (name : Option (List ℕ)) → lacks s.scenarios name ≡ false → use_step s name ≡ Ok (used s name, [])
+use_done s name e = ap (λ (b : Bool). answer (record no_cause { no_scenario = b }) (used s name, [])) e
+
+pub use_missing : (s : State) (name : Option (List ℕ)) → lacks s.scenarios name ≡ true → use_step s name ≡ Err NoScenario
+use_missing s name e = ap (λ (b : Bool). answer (record no_cause { no_scenario = b }) (used s name, [])) e

@@ -1,0 +1,260 @@
+-- What `session` answers, and cells that show nothing.
+use Rattle.std.proofs.Common.{◌≡◌, ℕ, suc, ◌+◌, ◌-◌, ◌*◌, ◌/◌, ◌%◌, ◌<◌, ◌≤◌, Bool, true, false, not, ◌&&◌, ◌||◌, ◌==◌, List, [], ◌∷◌, ◌++◌, length, Option, Some, None, Ok, Err, if◌then◌else◌, refl, sym, ap, ◌∙◌, subst, arith, ◌⊎◌, inl, inr}
+use Rattle.std.specs.Prelude.{nat_le, is_some}
+use Rattle.std.specs.List.{list_any, slice_index_or, position_or_len}
+use Rattle.std.specs.Str.{bytes_eq}
+use Rattle.std.specs.Map.{keys_of}
+use Rattle.std.specs.BTreeMap.{is_at}
+use Rattle.std.specs.Ordering.{nat_cmp}
+use Rattle.std.proofs.Math.Nat.{div-lt_iff_lt-mul, mod-lt}
+use Rattle.std.proofs.lemmas.Bool.{eqb-true, leb-true, le-leb, cases_lt}
+use Rattle.std.proofs.lemmas.List.{get_or_append_left, length-append}
+use Rattle.std.proofs.Math.Seq.{get_or-append_seam}
+use Rattle.std.proofs.lemmas.Map.Views.{any-filter_same}
+use Rattle.std.proofs.lemmas.Map.Made.{is_some-lookup}
+use Rattle.wi_values.specs.Address.{Area, is_within, row_of, column_of, rect_of}
+use Rattle.wi_values.specs.declared.value.Value.TheVariants.{Empty}
+use Rattle.wi_parser.specs.declared.content.Content.{Content}
+use Rattle.wi_parser.specs.Sheet.{Sheet, content_of, has_formula, cells_with_formula}
+use Rattle.wi_graph.specs.Circular.{circular, has_walk}
+use Rattle.wi_graph.proofs.Layers.{walker_has_formula}
+use Rattle.wi_graph.proofs.Tests.{turned}
+use Rattle.wi_sheet.specs.CellValue.{value_of}
+use Rattle.wi_sheet.specs.Shown.{shown}
+use Rattle.wi_sheet.proofs.Steps.{value_plain, shown_open}
+use Rattle.wi_store.specs.Store.{Stored}
+use Rattle.wi_sessions.specs.Pictures.{sheet_size, value_in}
+use Rattle.wi_sessions.specs.Pictures.Laws.{is_listed}
+use Rattle.wi_values.specs.declared.replacement.Replacement.{Replacement}
+use Rattle.wi_scenario_list.specs.Scenarios.{Scenario, effective, chain}
+use Rattle.wi_sessions.specs.Sessions.{Session, new_session, max_sessions, has_session, place_of}
+use Rattle.wi_sessions.specs.Roster.{Roster, vacant_of, SameCells}
+use Rattle.wi_scenarios.specs.declared.refusal.Refusal.TheVariants.{TooMany}
+use Rattle.wi_scenarios.specs.declared.desk.Desk.{Desk}
+use Rattle.wi_scenarios.specs.State.{State}
+use Rattle.wi_scenarios.specs.Answer.{Answer}
+use Rattle.wi_scenarios.specs.Causes.{no_cause, answer}
+use Rattle.wi_scenarios.specs.As.{as_step}
+use Rattle.wi_scenarios.specs.Pending.{occupied_cells}
+use Rattle.wi_scenarios.specs.Inner.Held.{IsSound}
+
+-- ---- cells that show nothing
+
+-- a cell without a content is on no cycle and above none
+open_at : (s : Sheet) (a : ℕ) → content_of s a ≡ None → circular s a ≡ false
+unfolding circular
+open_at s a e = by (has_walk (length (cells_with_formula s)) s a) refl
+  where
+    by : (b : Bool) → has_walk (length (cells_with_formula s)) s a ≡ b → b ≡ false
+    by false h = refl
+    by true h = absurd (let k = sym (walker_has_formula (length (cells_with_formula s)) s a h) ∙ ap has_formula e in cc)
+
+-- it shows nothing
+pub shows_nothing : (s : Sheet) (a : ℕ) → content_of s a ≡ None → shown s [] a ≡ Empty
+shows_nothing s a e =
+    let h = open_at s a e in
+    shown_open s [] a h ∙ value_plain s a h (ap has_formula e) ∙ ap (λ o. value_of o (λ t. Empty)) e
+
+-- the last cell of the sheet
+last_row : (sheet_size - 1) / 16384 ≡ 1048575
+unfolding sheet_size
+last_row = refl
+
+last_column : (sheet_size - 1) % 16384 ≡ 16383
+unfolding sheet_size
+last_column = refl
+
+size_is : sheet_size ≡ 1048576 * 16384
+unfolding sheet_size
+size_is = refl
+
+-- each cell of the sheet is in the whole of it
+whole_has : (a : ℕ) → a < sheet_size → is_within (record { first = 0; last = sheet_size - 1 }) a ≡ true
+whole_has a l =
+    let up : row_of a < 1048576 = (div-lt_iff_lt-mul {k = 16384} {x = a} {y = 1048576} (omega arith)).1 (subst (λ n. a < n) size_is l) in
+    let right : column_of a < 16384 = mod-lt a (omega arith) in
+    let low : row_of a ≤ row_of (sheet_size - 1) = subst (λ n. row_of a ≤ n) (sym last_row) (omega (arith, up)) in
+    let near : column_of a ≤ column_of (sheet_size - 1) = subst (λ n. column_of a ≤ n) (sym last_column) (omega (arith, right)) in
+    all_four _ _ _ _ (le-leb 0 (row_of a) (omega arith)) (le-leb (row_of a) (row_of (sheet_size - 1)) low) (le-leb 0 (column_of a) (omega arith)) (le-leb (column_of a) (column_of (sheet_size - 1)) near)
+  where
+    all_four : (p q r s : Bool) → p ≡ true → q ≡ true → r ≡ true → s ≡ true → ((p && q) && (r && s)) ≡ true
+    all_four true true true s e f g h = h
+    all_four true true false s e f g h = g
+    all_four true false r s e f g h = f
+    all_four false q r s e f g h = e
+
+-- a cell that isn't among the occupied ones has no content
+pub unoccupied : (s : Sheet) (a : ℕ) → a < sheet_size → is_listed (occupied_cells s) a ≡ false → content_of s a ≡ None
+unoccupied s a l h =
+    let whole : Area = record { first = 0; last = sheet_size - 1 } in
+    let there : list_any (λ c. c == a) (keys_of s) ≡ false =
+    sym (any-filter_same (λ c. c == a) (is_within whole) true (λ k e. subst (λ x. is_within whole x ≡ true) (sym (eqb-true k a e)) (whole_has a l)) (keys_of s)) ∙ h in
+    none (content_of s a) (is_some-lookup (is_at (nat_cmp a)) s ∙ turned (keys_of s) a ∙ there)
+  where
+    none : (o : Option Content) → is_some o ≡ false → o ≡ None
+    none None e = refl
+    none (Some x) e = absurd (let k = e in cc)
+
+-- ---- what `session` answers
+
+-- the step, where the session is there or not, and there are as many as may be or not
+abbrev step_by : State → List ℕ → Bool → Bool → Answer
+step_by s name there full =
+    answer (record no_cause { too_many = not there && full })
+    (record s { sessions = if there then s.sessions else s.sessions ++ new_session name ∷ []; current = place_of s.sessions name }, [])
+
+-- the answer that is found
+abbrev pub session_by : State → List ℕ → Bool → Bool → Answer
+session_by s name there full =
+    if there then Ok (record s { current = place_of s.sessions name }, [])
+    else (if full then Err TooMany else Ok (record s { sessions = s.sessions ++ new_session name ∷ []; current = place_of s.sessions name }, []))
+
+abbrev pub session_found : State → List ℕ → Answer
+session_found s name = session_by s name (has_session s.sessions name) (nat_le max_sessions (length s.sessions))
+
+step_is : (s : State) (name : List ℕ) (there full : Bool) → step_by s name there full ≡ session_by s name there full
+step_is s name true full = refl
+step_is s name false true = refl
+step_is s name false false = refl
+
+-- a session that is there
+pub there_answer : (s : State) (name : List ℕ) (place : ℕ) → has_session s.sessions name ≡ true → place ≡ place_of s.sessions name → session_found s name ≡ Ok (record s { current = place }, [])
+there_answer s name place h e =
+    ap (λ b. session_by s name b (nat_le max_sessions (length s.sessions))) h ∙ ap (λ (p : ℕ). ok_of s p) (sym e)
+  where
+    ok_of : State → ℕ → Answer
+    ok_of s p = Ok (record s { current = p }, [])
+
+-- one too many
+pub full_answer : (s : State) (name : List ℕ) → has_session s.sessions name ≡ false → max_sessions ≤ length s.sessions → session_found s name ≡ Err TooMany
+full_answer s name h l =
+    ap (λ b. session_by s name b (nat_le max_sessions (length s.sessions))) h ∙ ap (λ b. session_by s name false b) (le-leb max_sessions (length s.sessions) l)
+
+-- a session that is none has the place behind all
+no_place : (p : Session → Bool) (xs : List Session) → list_any p xs ≡ false → position_or_len p xs ≡ length xs
+no_place p [] h = refl
+no_place p (x ∷ xs) h = by (p x) refl (no_place p xs)
+  where
+    by : (b : Bool) → p x ≡ b → (list_any p xs ≡ false → position_or_len p xs ≡ length xs) → position_or_len p (x ∷ xs) ≡ suc (length xs)
+    by true e rest = absurd (let k = sym (ap (λ (c : Bool). c || list_any p xs) e) ∙ h in cc)
+    by false e rest =
+        let m : position_or_len p xs ≡ length xs = rest (sym (ap (λ (c : Bool). c || list_any p xs) e) ∙ h) in
+        rw e (omega (arith, m))
+
+-- a new one
+pub new_answer : (s : State) (name : List ℕ) (place : ℕ) → has_session s.sessions name ≡ false → length s.sessions < max_sessions → place ≡ length s.sessions
+    → session_found s name ≡ Ok (record s { sessions = s.sessions ++ new_session name ∷ []; current = place }, [])
+new_answer s name place h l e =
+    ap (λ b. session_by s name b (nat_le max_sessions (length s.sessions))) h ∙ ap (λ b. session_by s name false b) (not_below (length s.sessions) l)
+    ∙ ap (λ (p : ℕ). ok_of p) (no_place (λ x. bytes_eq name x.name) s.sessions h ∙ sym e)
+  where
+    ok_of : ℕ → Answer
+    ok_of p = Ok (record s { sessions = s.sessions ++ new_session name ∷ []; current = p }, [])
+
+    not_below : (n : ℕ) → n < max_sessions → nat_le max_sessions n ≡ false
+    not_below n l = by (nat_le max_sessions n) refl
+      where
+        by : (b : Bool) → nat_le max_sessions n ≡ b → b ≡ false
+        by false k = refl
+        by true k = absurd (let m = leb-true max_sessions n k in omega (arith, l, m))
+
+-- ---- what holds of the desk
+
+pub sound_there : (stored : Stored) (d : Desk) (place : ℕ) → place < length d.sessions.sessions → IsSound stored d → IsSound stored (record d { current = place })
+sound_there stored d place l h = record { within = l; few = h.few; each = h.each; full = h.full; covered = h.covered }
+
+-- what a scenario that is none puts in
+none_put : (xs : List Scenario) → effective xs None ≡ []
+unfolding chain
+none_put xs = refl
+
+pub sound_new : (stored : Stored) (d : Desk) (r : Roster) (place : ℕ) (name cells new : List ℕ) → length d.sessions.sessions < max_sessions → place ≡ length d.sessions.sessions
+    → r.sessions ≡ d.sessions.sessions ++ new_session name ∷ [] → r.pending ≡ d.sessions.pending ++ new ∷ [] → SameCells new cells → cells ≡ occupied_cells stored.sheet
+    → ((i : ℕ) → vacant_of r i ≡ vacant_of d.sessions i) → IsSound stored d → IsSound stored (record d { sessions = r; current = place })
+sound_new stored d r place name cells new few at grown more same are vacant h =
+    let count : length r.sessions ≡ length d.sessions.sessions + 1 = ap length grown ∙ length-append d.sessions.sessions (new_session name ∷ []) in
+    record {
+      within = subst (λ n. place < n) (sym count) (omega (arith, at));
+      few = subst (λ n. n ≤ max_sessions) (sym count) (omega (arith, few));
+      each = ap length more ∙ length-append d.sessions.pending (new ∷ []) ∙ ap (λ n. n + 1) h.each ∙ sym count;
+      full = λ i. vacant i ∙ h.full i;
+      covered = λ i l a m k. by i a m (cases_lt i (length d.sessions.sessions)) (subst (λ n. i < n) count l) k;
+    }
+  where
+    before : (i a : ℕ) → a < sheet_size → i < length d.sessions.sessions → is_listed (slice_index_or r.pending i []) a ≡ false
+        → value_in (slice_index_or r.sessions i (new_session [])).picture a ≡ shown stored.sheet (effective d.scenarios (slice_index_or r.sessions i (new_session [])).scenario) a
+    before i a m l k =
+        let here : slice_index_or r.sessions i (new_session []) ≡ slice_index_or d.sessions.sessions i (new_session []) =
+        ap (λ xs. slice_index_or xs i (new_session [])) grown ∙ get_or_append_left d.sessions.sessions (new_session name ∷ []) (new_session []) i l in
+        let listed : slice_index_or r.pending i [] ≡ slice_index_or d.sessions.pending i [] =
+        ap (λ xs. slice_index_or xs i []) more ∙ get_or_append_left d.sessions.pending (new ∷ []) [] i (subst (λ n. i < n) (sym h.each) l) in
+        ap (λ (x : Session). value_in x.picture a) here
+        ∙ h.covered i l a m (sym (ap (λ xs. is_listed xs a) listed) ∙ k)
+        ∙ ap (λ (x : Session). shown stored.sheet (effective d.scenarios x.scenario) a) (sym here)
+
+    last : (i a : ℕ) → a < sheet_size → i ≡ length d.sessions.sessions → is_listed (slice_index_or r.pending i []) a ≡ false
+        → value_in (slice_index_or r.sessions i (new_session [])).picture a ≡ shown stored.sheet (effective d.scenarios (slice_index_or r.sessions i (new_session [])).scenario) a
+    last i a m e k =
+        let here : slice_index_or r.sessions i (new_session []) ≡ new_session name =
+        ap (λ xs. slice_index_or xs i (new_session [])) grown ∙ ap (λ n. slice_index_or (d.sessions.sessions ++ new_session name ∷ []) n (new_session [])) e
+        ∙ get_or-append_seam d.sessions.sessions (new_session name) [] (new_session []) in
+        let listed : slice_index_or r.pending i [] ≡ new =
+        ap (λ xs. slice_index_or xs i []) more ∙ ap (λ n. slice_index_or (d.sessions.pending ++ new ∷ []) n []) (e ∙ sym h.each) ∙ get_or-append_seam d.sessions.pending new [] [] in
+        let free : is_listed (occupied_cells stored.sheet) a ≡ false =
+        sym (ap (λ xs. is_listed xs a) are) ∙ sym (same a) ∙ sym (ap (λ xs. is_listed xs a) listed) ∙ k in
+        ap (λ (x : Session). value_in x.picture a) here ∙ sym (shows_nothing stored.sheet a (unoccupied stored.sheet a m free))
+        ∙ ap (λ (p : List Replacement). shown stored.sheet p a) (sym (none_put d.scenarios))
+        ∙ ap (λ (x : Session). shown stored.sheet (effective d.scenarios x.scenario) a) (sym here)
+
+    by : (i a : ℕ) → a < sheet_size → (i < length d.sessions.sessions) ⊎ (length d.sessions.sessions ≤ i) → i < length d.sessions.sessions + 1 → is_listed (slice_index_or r.pending i []) a ≡ false
+        → value_in (slice_index_or r.sessions i (new_session [])).picture a ≡ shown stored.sheet (effective d.scenarios (slice_index_or r.sessions i (new_session [])).scenario) a
+    by i a m (inl l) n k = before i a m l k
+    by i a m (inr g) n k = last i a m (omega (arith, g, n)) k
+
+pub there_step : (s : State) (name : List ℕ) (place : ℕ) → has_session s.sessions name ≡ true → place ≡ place_of s.sessions name → as_step s name ≡ Ok (record s { current = place }, [])
+there_step s name place h e =
+    step_is s name (has_session s.sessions name) (nat_le max_sessions (length s.sessions)) ∙ there_answer s name place h e
+
+pub full_step : (s : State) (name : List ℕ) → has_session s.sessions name ≡ false → max_sessions ≤ length s.sessions → as_step s name ≡ Err TooMany
+full_step s name h l =
+    step_is s name (has_session s.sessions name) (nat_le max_sessions (length s.sessions)) ∙ full_answer s name h l
+
+pub new_step : (s t : State) (name : List ℕ) → has_session s.sessions name ≡ false → length s.sessions < max_sessions
+    → t ≡ record s { sessions = s.sessions ++ new_session name ∷ []; current = length s.sessions } → as_step s name ≡ Ok (t, [])
+new_step s t name h l e =
+    step_is s name (has_session s.sessions name) (nat_le max_sessions (length s.sessions)) ∙ new_answer s name (length s.sessions) h l refl ∙ ap (λ (x : State). Ok (x, [])) (sym e)
+
+-- the whole sheet as a rectangle
+pub whole_area : (first last : ℕ) (r : Area) → first ≡ 0 → last ≡ 17179869183 → r ≡ rect_of first last → r ≡ record { first = 0; last = sheet_size - 1 }
+unfolding sheet_size
+whole_area first last r f l e = e ∙ ap (λ x. rect_of x last) f ∙ ap (rect_of 0) l
+
+-- the pending cells of one session
+pub one_list : (ps : List (List ℕ)) → length ps ≡ 1 → ps ≡ slice_index_or ps 0 [] ∷ []
+one_list [] h = absurd (omega (arith, h))
+one_list (p ∷ []) h = refl
+one_list (p ∷ q ∷ ps) h = absurd (omega (arith, h))
+
+-- the first session
+pub sound_first : (stored : Stored) (d : Desk) (name cells : List ℕ) → d.scenarios ≡ [] → d.current ≡ 0 → d.sessions.sessions ≡ new_session name ∷ [] → length d.sessions.pending ≡ length d.sessions.sessions
+    → SameCells (slice_index_or d.sessions.pending 0 []) cells → cells ≡ occupied_cells stored.sheet → ((i : ℕ) → vacant_of d.sessions i ≡ []) → IsSound stored d
+sound_first stored d name cells none zeroth is each same are vacant =
+    let one : length d.sessions.sessions ≡ 1 = ap length is in
+    record {
+      within = subst (λ n. d.current < n) (sym one) (omega (arith, zeroth));
+      few = subst (λ n. n ≤ max_sessions) (sym one) (omega arith);
+      each = each;
+      full = vacant;
+      covered = λ i l a m k. by i a m (omega (arith, subst (λ n. i < n) one l)) k;
+    }
+  where
+    by : (i a : ℕ) → a < sheet_size → i ≡ 0 → is_listed (slice_index_or d.sessions.pending i []) a ≡ false
+        → value_in (slice_index_or d.sessions.sessions i (new_session [])).picture a ≡ shown stored.sheet (effective d.scenarios (slice_index_or d.sessions.sessions i (new_session [])).scenario) a
+    by i a m e k =
+        let here : slice_index_or d.sessions.sessions i (new_session []) ≡ new_session name =
+        ap (λ xs. slice_index_or xs i (new_session [])) is ∙ ap (λ n. slice_index_or (new_session name ∷ []) n (new_session [])) e in
+        let free : is_listed (occupied_cells stored.sheet) a ≡ false =
+        sym (ap (λ xs. is_listed xs a) are) ∙ sym (same a) ∙ sym (ap (λ n. is_listed (slice_index_or d.sessions.pending n []) a) e) ∙ k in
+        ap (λ (x : Session). value_in x.picture a) here ∙ sym (shows_nothing stored.sheet a (unoccupied stored.sheet a m free))
+        ∙ ap (λ (p : List Replacement). shown stored.sheet p a) (sym (none_put d.scenarios))
+        ∙ ap (λ (x : Session). shown stored.sheet (effective d.scenarios x.scenario) a) (sym here)

@@ -1,0 +1,107 @@
+-- Room for the cells that may show something else, and what is then shown.
+use Rattle.std.proofs.Common.{◌≡◌, ◌==◌, ℕ, ◌<◌, Bool, true, false, not, ◌||◌, ◌&&◌, List, [], ◌∷◌, length, get_or, Option, refl, sym, ap, ◌∙◌, subst, arith}
+use Rattle.std.proofs.lemmas.Bool.{false≢true}
+use Rattle.std.proofs.lemmas.Bool.Decides.{nat_tests}
+use Rattle.std.proofs.lemmas.List.Folds.{list_any_at}
+use Rattle.wi_values.specs.declared.replacement.Replacement.{Replacement}
+use Rattle.wi_values.specs.Replacements.{IsInOrder, replaced}
+use Rattle.wi_parser.specs.Sheet.{Sheet}
+use Rattle.wi_sheet.specs.Shown.{shown}
+use Rattle.wi_sheet.specs.Unmoved.{IsUnmoved}
+use Rattle.wi_sheet.proofs.Cones.{outside_unmoved}
+use Rattle.wi_sheet.proofs.Overrides.{last_in_order, override_in_order}
+use Rattle.wi_scenario_list.specs.Scenarios.{Scenario, layered, chain, effective}
+use Rattle.wi_sessions.specs.Pictures.Laws.{is_listed}
+use Rattle.std.specs.List.{slice_index_or}
+use Rattle.wi_sessions.specs.Sessions.{Session, new_session}
+use Rattle.wi_sessions.specs.Roster.{Roster, session_at, pending_of, vacant_of}
+use Rattle.wi_scenarios.specs.Inner.Switch.{Differs, AreDiffering, HasRoom, HasRoomFor}
+
+-- what scenarios put in is in order
+layered_in_order : (xs : List Scenario) → IsInOrder (layered xs)
+layered_in_order [] = λ k l. absurd (omega (arith, l))
+layered_in_order (x ∷ xs) = override_in_order (layered xs) x.own (layered_in_order xs)
+
+pub effective_in_order : (xs : List Scenario) (name : Option (List ℕ)) → IsInOrder (effective xs name)
+effective_in_order xs name = layered_in_order (chain xs name)
+
+-- ---- no replacement is another
+
+-- replacements that are in order and the same of each cell show the same
+pub shown_alike : (s : Sheet) (p q : List Replacement) (c : ℕ) → IsInOrder p → IsInOrder q → ((a : ℕ) → replaced p a ≡ replaced q a) → shown s p c ≡ shown s q c
+shown_alike s p q c h k e =
+    outside_unmoved s [] c refl s s p q (λ d n. refl) (λ d n. refl) (λ d n. last_in_order p h d ∙ e d ∙ sym (last_in_order q k d))
+
+none_listed : (xs : List ℕ) → length xs ≡ 0 → (a : ℕ) → is_listed xs a ≡ false
+none_listed [] e a = refl
+none_listed (x ∷ xs) e a = absurd (omega (arith, e))
+
+pub none_differs : (marked : Sheet → List ℕ → ℕ → Bool) (sheet : Sheet) (before after : List Replacement) (cells pending vacant : List ℕ)
+    → IsInOrder before → IsInOrder after → AreDiffering before after cells → length cells ≡ 0 → vacant ≡ [] → HasRoom marked sheet before after pending vacant
+none_differs marked sheet before after cells pending vacant first second found none empty = record {
+  marks = λ a h. absurd (false≢true (sym (ap (λ (xs : List ℕ). is_listed xs a) empty) ∙ h));
+  others = λ a h k. shown_alike sheet before after a first second (λ d. found.others d (none_listed cells none d));
+}
+
+-- ---- some are
+
+both_true : (x y : Bool) → (false || (x && y)) ≡ true → x ≡ true
+both_true true y h = refl
+both_true false y h = h
+
+left_false : (x y : Bool) → (false || (x && not y)) ≡ false → y ≡ false → x ≡ false
+left_false true true h e = cc
+left_false true false h e = cc
+left_false false y h e = refl
+
+all_differ : (before after : List Replacement) (cells : List ℕ) → AreDiffering before after cells → (k d : ℕ) → k < length cells → Differs before after (get_or cells k d)
+all_differ before after cells found k d l =
+    let a : ℕ = get_or cells k d in
+    let itself : (a == a) ≡ true = grind (arith, nat_tests) in
+    found.each a (list_any_at (λ (c : ℕ). c == a) cells k d l itself)
+
+pub some_differ : (marked : Sheet → List ℕ → ℕ → Bool) (sheet : Sheet) (before after : List Replacement) (cells told pending vacant vacant' : List ℕ)
+    → IsInOrder before → IsInOrder after → AreDiffering before after cells → 0 < length cells → vacant ≡ []
+    → ((c : ℕ) → is_listed told c ≡ marked sheet cells c) → ((c : ℕ) → is_listed told c ≡ false → IsUnmoved sheet cells c)
+    → ((a : ℕ) → is_listed vacant' a ≡ (is_listed vacant a || (is_listed told a && not (is_listed pending a))))
+    → HasRoom marked sheet before after pending vacant'
+some_differ marked sheet before after cells told pending vacant vacant' first second found some empty marks unmoved room = record {
+  marks = λ a h. record {
+    cells = cells;
+    some = some;
+    touched = λ k d l. all_differ before after cells found k d l;
+    has = sym (marks a) ∙ both_true (is_listed told a) (not (is_listed pending a)) (sym (now a) ∙ h);
+  };
+  others = λ a h k.
+      unmoved a (left_false (is_listed told a) (is_listed pending a) (sym (now a) ∙ k) h) sheet sheet before after (λ d n. refl) (λ d n. refl)
+      (λ d n. last_in_order before first d ∙ found.others d n ∙ sym (last_in_order after second d));
+}
+  where
+    now : (a : ℕ) → is_listed vacant' a ≡ (false || (is_listed told a && not (is_listed pending a)))
+    now a = room a ∙ ap (λ (xs : List ℕ). is_listed xs a || (is_listed told a && not (is_listed pending a))) empty
+
+-- the same of lists as they are lent
+pub room_marked : (marked : Sheet → List ℕ → ℕ → Bool) (sheet : Sheet) (before after : List Replacement) (cells lent found told pending vacant vacant' : List ℕ)
+    → IsInOrder before → IsInOrder after → AreDiffering before after cells → lent ≡ cells → 0 < length cells → vacant ≡ []
+    → ((c : ℕ) → is_listed found c ≡ marked sheet lent c) → ((c : ℕ) → is_listed found c ≡ false → IsUnmoved sheet lent c) → told ≡ found
+    → ((a : ℕ) → is_listed vacant' a ≡ (is_listed vacant a || (is_listed told a && not (is_listed pending a))))
+    → HasRoom marked sheet before after pending vacant'
+room_marked marked sheet before after cells lent found told pending vacant vacant' first second differ e some empty marks unmoved t room =
+    some_differ marked sheet before after lent told pending vacant vacant' first second
+    (subst (AreDiffering before after) (sym e) differ) (subst (λ (xs : List ℕ). 0 < length xs) (sym e) some) empty
+    (λ c. ap (λ (xs : List ℕ). is_listed xs c) t ∙ marks c)
+    (λ c n. unmoved c (sym (ap (λ (xs : List ℕ). is_listed xs c) t) ∙ n)) room
+
+-- ---- each session in turn
+
+module _ (marked : Sheet → List ℕ → ℕ → Bool) (sheet : Sheet) (before after : List Scenario) where
+  abbrev HasRoomBy : Session → List ℕ → List ℕ → Type 0
+  HasRoomBy x pending vacant = HasRoom marked sheet (effective before x.scenario) (effective after x.scenario) pending vacant
+
+  -- room stays as long as nothing of its session is changed
+  pub room_stays : (r s : Roster) (j : ℕ) → s.sessions ≡ r.sessions → s.pending ≡ r.pending → vacant_of s j ≡ vacant_of r j
+      → HasRoomFor marked sheet before after r j → HasRoomFor marked sheet before after s j
+  room_stays r s j e f g h =
+      subst (λ (x : Session). HasRoomBy x (pending_of s j) (vacant_of s j)) (sym (ap (λ (xs : List Session). slice_index_or xs j (new_session [])) e))
+      (subst (λ (cs : List ℕ). HasRoomBy (session_at r j) cs (vacant_of s j)) (sym (ap (λ (xs : List (List ℕ)). slice_index_or xs j []) f))
+      (subst (λ (cs : List ℕ). HasRoomBy (session_at r j) (pending_of r j) cs) (sym g) h))

@@ -1,0 +1,38 @@
+use Rattle.std.proofs.Common.{◌∙◌, List, [], Ok, refl, sym, ap}
+use Rattle.std.specs.Option.{option_copied}
+use Rattle.wi_scenario_list.specs.Scenarios.{Scenario}
+use Rattle.wi_scenarios.specs.State.{State}
+use Rattle.wi_scenarios.specs.Inner.Held.{state_of}
+use Rattle.wi_scenarios.proofs.ScenarioLemmas.{lacked, base_done, base_missing, base_loop, is_there}
+use Rattle.wi_scenarios.proofs.base.base.Goals as goal
+
+pub returns-then-is_any_missing-clause-step : goal.returns-then-is_any_missing-clause-step
+returns-then-is_any_missing-clause-step g c =
+    let s = state_of (g.C.Calculator.stored c.args.calculator.now) c.args.desk.now in
+    (base_missing s c.args.name.now (option_copied c.args.other) (sym c.is_any_missing.ensures ∙ c.if-is_any_missing.true), refl, refl)
+
+pub returns-then-is_loop-clause-step : goal.returns-then-is_loop-clause-step
+returns-then-is_loop-clause-step g c =
+    let s = state_of (g.C.Calculator.stored c.args.calculator.now) c.args.desk.now in
+    (base_loop s c.args.name.now (option_copied c.args.other) (sym c.is_any_missing.ensures ∙ c.if-is_any_missing.false) (sym c.is_loop.ensures ∙ c.if-is_loop.true), refl, refl)
+
+pub with_base-requires : goal.with_base-requires
+with_base-requires g c =
+    let s = state_of (g.C.Calculator.stored c.args.calculator.now) c.args.desk.now in
+    is_there s c.args.name.now (option_copied c.args.other) (sym c.is_any_missing.ensures ∙ c.if-is_any_missing.false)
+
+pub returns-in_err-next-clause-step : goal.returns-in_err-next-clause-step
+returns-in_err-next-clause-step g c =
+    let s = state_of (g.C.Calculator.stored c.args.calculator.now) c.args.desk.now in
+    lacked _ _ c.from_residual.result s s (base_done s c.args.name.now (option_copied c.args.other) (sym c.is_any_missing.ensures ∙ c.if-is_any_missing.false) (sym c.is_loop.ensures ∙ c.if-is_loop.false)) c.from_residual.ensures.1 refl
+
+pub returns-in_err-switch_to-clause-step : goal.returns-in_err-switch_to-clause-step
+returns-in_err-switch_to-clause-step g c =
+    let s = state_of (g.C.Calculator.stored c.args.calculator.now) c.args.desk.now in
+    lacked _ _ c.from_residual-in_err-switch_to.result s _ (base_done s c.args.name.now (option_copied c.args.other) (sym c.is_any_missing.ensures ∙ c.if-is_any_missing.false) (sym c.is_loop.ensures ∙ c.if-is_loop.false)) c.from_residual-in_err-switch_to.ensures.1 c.in_err-switch_to.ensures.kept
+
+pub returns-clause-step : goal.returns-clause-step
+returns-clause-step g c =
+    let s = state_of (g.C.Calculator.stored c.args.calculator.now) c.args.desk.now in
+    base_done s c.args.name.now (option_copied c.args.other) (sym c.is_any_missing.ensures ∙ c.if-is_any_missing.false) (sym c.is_loop.ensures ∙ c.if-is_loop.false)
+    ∙ ap (λ (t : State). Ok (t, [])) (sym (c.in_ok-switch_to.ensures.state ∙ ap (λ (xs : List Scenario). record s { scenarios = xs }) c.in_ok-next.ensures))

@@ -1,0 +1,17 @@
+use Rattle.std.proofs.Common.{refl, rules}
+use Rattle.wi_scenarios.proofs.ChangesLemmas.{sound_after}
+use Rattle.wi_scenarios.proofs.changes.changes.Goals as goal
+
+pub returns-in_err-found-clause-quiet : goal.returns-in_err-found-clause-quiet
+returns-in_err-found-clause-quiet g c = λ none. let same = c.find.ensures.quiet none in (same.0, same.1, refl)
+
+pub returns-in_err-tell-clause-quiet : goal.returns-in_err-tell-clause-quiet
+returns-in_err-tell-clause-quiet g c = search rules
+
+pub returns-clause-quiet : goal.returns-clause-quiet
+returns-clause-quiet g c = search rules
+
+pub returns-clause-sound : goal.returns-clause-sound
+returns-clause-sound g c =
+    sound_after (g.C.Calculator.stored c.args.calculator.now) _ c.args.desk.now c.tell.new.desk c.in_ok-found.found.items
+    (search rules) c.in_ok-found.ensures.list c.requires c.in_ok-tell.ensures.told

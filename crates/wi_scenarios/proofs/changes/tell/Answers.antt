@@ -1,0 +1,11 @@
+use Rattle.std.proofs.Common.{rules}
+use Rattle.wi_scenarios.proofs.changes.tell.Goals as goal
+
+pub returns-in_err-push_changes-clause-refused : goal.returns-in_err-push_changes-clause-refused
+returns-in_err-push_changes-clause-refused c = search rules
+
+pub returns-else-is_err-clause-told : goal.returns-else-is_err-clause-told
+returns-else-is_err-clause-told c = search rules
+
+pub returns-then-is_err-clause-refused : goal.returns-then-is_err-clause-refused
+returns-then-is_err-clause-refused c = search rules

@@ -1,0 +1,9 @@
+use Rattle.std.proofs.Common.{◌≡◌, false}
+use Rattle.std.specs.Prelude.{take}
+use Rattle.std.specs.List.{list_any}
+use Rattle.wi_scenario_list.specs.Bases.{is_name_of}
+use Rattle.wi_scenarios.proofs.drop.is_used.Given as goal
+
+-- none before this one uses it
+abbrev pub invariant-loop-i : goal.invariant-loop-i
+invariant-loop-i l = list_any (λ x. is_name_of l.name x.scenario) (take l.i l.sessions.sessions) ≡ false

@@ -1,0 +1,37 @@
+use Rattle.std.proofs.Common.{rules}
+use Rattle.wi_scenarios.specs.Inner.Editing.{AreMarked}
+use Rattle.wi_scenarios.proofs.EditLemmas.{marked_as, AreTaken, edit_served, sound_taken, adds_taken}
+use Rattle.wi_scenarios.proofs.edit.apply_edit.Goals as goal
+
+pub returns-in-Ok-clause-step : goal.returns-in-Ok-clause-step
+returns-in-Ok-clause-step g c = search (rules, edit_served)
+
+pub returns-in-Ok-clause-adds : goal.returns-in-Ok-clause-adds
+returns-in-Ok-clause-adds g c =
+    let old = g.C.Calculator.stored c.args.calculator.now in
+    let new = g.C.Calculator.stored c.edit_with_rooms.new.calculator in
+    let taken : AreTaken c.edit_with_rooms.new.desk.sessions c.take_all.new.self = record {
+      sessions = c.take_all.ensures.sessions;
+      lists = c.take_all.ensures.lists;
+      pending = c.take_all.ensures.pending;
+      vacant = c.take_all.ensures.vacant;
+    } in
+    let are : AreMarked g.C.Calculator.marked old.sheet c.args.edit.contents.items c.deref-3.result.now =
+    marked_as g.C.Calculator.marked old.sheet c.args.edit.contents.items c.deref-2.result.now c.in_ok-marked.marked.items c.deref-3.result.now c.deref-2.ensures.value c.deref-3.ensures.value c.in_ok-marked.ensures in
+    adds_taken g.C.Calculator.marked old new c.args.desk.now c.edit_with_rooms.new.desk c.take_all.new.self c.args.edit.contents.items c.deref-3.result.now
+    c.requires c.in-Ok.ensures.beside are c.in-Ok.ensures.rooms taken
+
+pub returns-in-Ok-clause-sound : goal.returns-in-Ok-clause-sound
+returns-in-Ok-clause-sound g c =
+    let old = g.C.Calculator.stored c.args.calculator.now in
+    let new = g.C.Calculator.stored c.edit_with_rooms.new.calculator in
+    let taken : AreTaken c.edit_with_rooms.new.desk.sessions c.take_all.new.self = record {
+      sessions = c.take_all.ensures.sessions;
+      lists = c.take_all.ensures.lists;
+      pending = c.take_all.ensures.pending;
+      vacant = c.take_all.ensures.vacant;
+    } in
+    let are : AreMarked g.C.Calculator.marked old.sheet c.args.edit.contents.items c.deref-3.result.now =
+    marked_as g.C.Calculator.marked old.sheet c.args.edit.contents.items c.deref-2.result.now c.in_ok-marked.marked.items c.deref-3.result.now c.deref-2.ensures.value c.deref-3.ensures.value c.in_ok-marked.ensures in
+    sound_taken g.C.Calculator.marked old new c.args.desk.now c.edit_with_rooms.new.desk c.take_all.new.self c.args.edit.contents.items c.deref-3.result.now
+    c.requires c.in-Ok.ensures.beside are c.in-Ok.ensures.rooms taken c.in-Ok.ensures.edit.0

@@ -1,0 +1,5 @@
+use Rattle.std.proofs.Common.{rules}
+use Rattle.wi_scenarios.proofs.formula.formula.Goals as goal
+
+pub returns : goal.returns
+returns g c = search rules

@@ -1,6 +1,0 @@
-use Rattle.std.proofs.Common.{arith}
-use Rattle.std.proofs.lemmas.Grind.{common_steps}
-use Rattle.wi_scenarios.proofs.formula.push_constant.Goals as goal
-
-pub returns-in_ok-push_str-in-Text : goal.returns-in_ok-push_str-in-Text
-returns-in_ok-push_str-in-Text c = grind (arith, common_steps)

@@ -1,0 +1,34 @@
+use Rattle.std.proofs.Common.{◌∙◌, List, [], Ok, refl, sym, ap}
+use Rattle.wi_scenario_list.specs.Scenarios.{Scenario}
+use Rattle.wi_values.specs.Inner.Import.{imported}
+use Rattle.wi_scenarios.specs.State.{State}
+use Rattle.wi_scenarios.specs.Inner.Held.{state_of}
+use Rattle.wi_scenarios.proofs.ScenarioLemmas.{lacked, put_there, put_full, unread}
+use Rattle.wi_scenarios.proofs.scenario.put_text.Goals as goal
+
+pub returns-then-is_full-clause-step : goal.returns-then-is_full-clause-step
+returns-then-is_full-clause-step g c =
+    let s = state_of (g.C.Calculator.stored c.args.calculator.now) c.args.desk.now in
+    (put_full s c.args.name.now c.args.at (imported c.args.text.now) (sym c.is_full.ensures ∙ c.if-is_full.true), refl, refl)
+
+pub returns-in_err-value-clause-step : goal.returns-in_err-value-clause-step
+returns-in_err-value-clause-step g c =
+    let s = state_of (g.C.Calculator.stored c.args.calculator.now) c.args.desk.now in
+    unread s s c.args.name.now c.args.at c.args.text.now c.imported_value.result _ c.from_residual.result (sym c.is_full.ensures ∙ c.if-is_full.false)
+    c.in_err-value.was c.imported_value.ensures.too_long c.from_residual.ensures.1 refl
+
+pub returns-in_err-next-clause-step : goal.returns-in_err-next-clause-step
+returns-in_err-next-clause-step g c =
+    let s = state_of (g.C.Calculator.stored c.args.calculator.now) c.args.desk.now in
+    lacked _ _ c.from_residual-in_err-next.result s s (put_there s c.args.name.now c.args.at (imported c.args.text.now) c.in_ok-value.value (sym c.is_full.ensures ∙ c.if-is_full.false) c.in_ok-value.ensures.value) c.from_residual-in_err-next.ensures.1 refl
+
+pub returns-in_err-switch_to-clause-step : goal.returns-in_err-switch_to-clause-step
+returns-in_err-switch_to-clause-step g c =
+    let s = state_of (g.C.Calculator.stored c.args.calculator.now) c.args.desk.now in
+    lacked _ _ c.from_residual-in_err-switch_to.result s _ (put_there s c.args.name.now c.args.at (imported c.args.text.now) c.in_ok-value.value (sym c.is_full.ensures ∙ c.if-is_full.false) c.in_ok-value.ensures.value) c.from_residual-in_err-switch_to.ensures.1 c.in_err-switch_to.ensures.kept
+
+pub returns-clause-step : goal.returns-clause-step
+returns-clause-step g c =
+    let s = state_of (g.C.Calculator.stored c.args.calculator.now) c.args.desk.now in
+    put_there s c.args.name.now c.args.at (imported c.args.text.now) c.in_ok-value.value (sym c.is_full.ensures ∙ c.if-is_full.false) c.in_ok-value.ensures.value
+    ∙ ap (λ (t : State). Ok (t, [])) (sym (c.in_ok-switch_to.ensures.state ∙ ap (λ (xs : List Scenario). record s { scenarios = xs }) c.in_ok-next.ensures))

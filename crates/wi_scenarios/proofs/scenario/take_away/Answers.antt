@@ -1,0 +1,26 @@
+use Rattle.std.proofs.Common.{◌∙◌, List, [], Ok, refl, sym, ap}
+use Rattle.wi_scenario_list.specs.Scenarios.{Scenario}
+use Rattle.wi_scenarios.specs.State.{State}
+use Rattle.wi_scenarios.specs.Inner.Held.{state_of}
+use Rattle.wi_scenarios.proofs.ScenarioLemmas.{lacked, taken, not_taken}
+use Rattle.wi_scenarios.proofs.scenario.take_away.Goals as goal
+
+pub returns-then-not-contains-clause-step : goal.returns-then-not-contains-clause-step
+returns-then-not-contains-clause-step g c =
+    (not_taken (state_of (g.C.Calculator.stored c.args.calculator.now) c.args.desk.now) c.args.name.now c.args.at (sym c.contains.ensures ∙ c.if-not-contains.true), refl, refl)
+
+pub returns-in_err-next-clause-step : goal.returns-in_err-next-clause-step
+returns-in_err-next-clause-step g c =
+    let s = state_of (g.C.Calculator.stored c.args.calculator.now) c.args.desk.now in
+    lacked _ _ c.from_residual.result s s (taken s c.args.name.now c.args.at (sym c.contains.ensures ∙ c.if-not-contains.false)) c.from_residual.ensures.1 refl
+
+pub returns-in_err-switch_to-clause-step : goal.returns-in_err-switch_to-clause-step
+returns-in_err-switch_to-clause-step g c =
+    let s = state_of (g.C.Calculator.stored c.args.calculator.now) c.args.desk.now in
+    lacked _ _ c.from_residual-in_err-switch_to.result s _ (taken s c.args.name.now c.args.at (sym c.contains.ensures ∙ c.if-not-contains.false)) c.from_residual-in_err-switch_to.ensures.1 c.in_err-switch_to.ensures.kept
+
+pub returns-clause-step : goal.returns-clause-step
+returns-clause-step g c =
+    let s = state_of (g.C.Calculator.stored c.args.calculator.now) c.args.desk.now in
+    taken s c.args.name.now c.args.at (sym c.contains.ensures ∙ c.if-not-contains.false)
+    ∙ ap (λ (t : State). Ok (t, [])) (sym (c.in_ok-switch_to.ensures.state ∙ ap (λ (xs : List Scenario). record s { scenarios = xs }) c.in_ok-next.ensures))

@@ -1,0 +1,18 @@
+use Rattle.std.proofs.Common.{◌∙◌, ℕ, List, [], length, refl, ap}
+use Rattle.std.specs.Prelude.{codes}
+use Rattle.std.specs.List.{slice_index_or}
+use Rattle.wi_sessions.specs.Pictures.Laws.{is_listed}
+use Rattle.wi_scenarios.proofs.SessionLemmas.{one_list, sound_first}
+use Rattle.wi_scenarios.proofs.session.new_desk.Goals as goal
+
+pub returns-clause-pending : goal.returns-clause-pending
+returns-clause-pending g c = (
+  slice_index_or c.in_ok-sessions.sessions.pending 0 [],
+  one_list c.in_ok-sessions.sessions.pending (c.each_has_pending_cells.ensures ∙ ap length c.in_ok-sessions.ensures.sessions),
+  λ a. c.in_ok-sessions.ensures.pending a ∙ ap (λ (xs : List ℕ). is_listed xs a) (c.deref.ensures.value ∙ c.in_ok-cells.ensures),
+)
+
+pub returns-clause-sound : goal.returns-clause-sound
+returns-clause-sound g c =
+    sound_first (g.C.Calculator.stored c.args.calculator.now) (record { scenarios = c.new-2.result; sessions = c.in_ok-sessions.sessions; current = 0; log = c.new-3.result }) (codes "main") c.deref.result.now
+    c.new-2.ensures refl c.in_ok-sessions.ensures.sessions c.each_has_pending_cells.ensures c.in_ok-sessions.ensures.pending (c.deref.ensures.value ∙ c.in_ok-cells.ensures) c.in_ok-sessions.ensures.vacant

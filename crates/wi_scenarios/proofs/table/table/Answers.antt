@@ -1,0 +1,23 @@
+use Rattle.std.proofs.Common.{refl, ap, rules}
+use Rattle.wi_scenarios.specs.Inner.Held.{state_of}
+use Rattle.wi_scenarios.proofs.LookLemmas.{table_lacked}
+use Rattle.wi_scenarios.proofs.table.table.Goals as goal
+
+pub returns-then-not-is_shaped-clause-step : goal.returns-then-not-is_shaped-clause-step
+returns-then-not-is_shaped-clause-step g c = search rules
+
+pub returns-in_err-put-clause-step : goal.returns-in_err-put-clause-step
+returns-in_err-put-clause-step g c =
+    let s = state_of (g.C.Calculator.stored c.args.calculator.now) c.args.desk.now in
+    let t = c.args.table.now in
+    table_lacked s s t.formula_cell t.input t.column t.second c.is_shaped.result c.is_within.result c.args.out.now.items c.args.out.now.items c.from_residual.result
+    c.is_shaped.ensures (search rules) c.is_within.ensures (search rules) c.from_residual.ensures.1 refl refl
+
+pub returns-in_err-push_table-clause-step : goal.returns-in_err-push_table-clause-step
+returns-in_err-push_table-clause-step g c =
+    let s = state_of (g.C.Calculator.stored c.args.calculator.now) c.args.desk.now in
+    let t = c.args.table.now in
+    table_lacked s (state_of (g.C.Calculator.stored c.push_table.new.calculator) c.args.desk.now) t.formula_cell t.input t.column t.second c.is_shaped.result c.is_within.result
+    c.args.out.now.items c.push_table.new.out.items c.from_residual-in_err-push_table.result
+    c.is_shaped.ensures (search rules) c.is_within.ensures (search rules) c.from_residual-in_err-push_table.ensures.1
+    (ap (λ x. state_of x c.args.desk.now) c.in_err-push_table.ensures.same) c.in_err-push_table.ensures.err

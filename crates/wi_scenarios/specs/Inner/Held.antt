@@ -1,0 +1,45 @@
+-- What the fields of a workbook stand for, and what holds of them between commands.
+use Rattle.std.specs.Prelude.{◌≡◌, ℕ, ◌<◌, ◌≤◌, false, List, [], length}
+use Rattle.wi_store.specs.Store.{Stored}
+use Rattle.wi_sessions.specs.Pictures.{value_in, sheet_size}
+use Rattle.wi_sessions.specs.Roster.{vacant_of}
+use Rattle.wi_sessions.specs.Sessions.{max_sessions}
+use Rattle.wi_scenarios.specs.State.{State}
+use Rattle.wi_scenarios.specs.Views.{session_at, shown_to}
+use Rattle.wi_scenarios.specs.Pending.{Book, is_pending}
+use Rattle.wi_scenarios.specs.Edits.{Edit}
+use Rattle.wi_scenarios.specs.declared.desk.Desk.{Desk}
+use Rattle.wi_scenarios.specs.declared.edit.Edit.{Edit as HeldEdit}
+
+-- the state of a sheet and of what is kept beside it
+abbrev pub state_of : Stored → Desk → State
+state_of stored d =
+    record { stored = stored; scenarios = d.scenarios; sessions = d.sessions.sessions; current = d.current; log = d.log }
+
+abbrev pub pending_in : Desk → List (List ℕ)
+pending_in d = d.sessions.pending
+
+abbrev pub book_of : Stored → ℕ → ℕ → Desk → Book
+book_of stored evaluated restarted d =
+    record { state = state_of stored d; pending = pending_in d; evaluated = evaluated; restarted = restarted }
+
+-- of each cell that isn't pending for it, the i-th session's picture has the value that it is shown
+abbrev pub IsUpToDate : State → List (List ℕ) → ℕ → Type 0
+IsUpToDate s pending i =
+    (a : ℕ) → a < sheet_size → is_pending pending i a ≡ false → value_in (session_at s i).picture a ≡ shown_to s (session_at s i) a
+
+abbrev pub AreCovered : State → List (List ℕ) → Type 0
+AreCovered s pending = (i : ℕ) → i < length s.sessions → IsUpToDate s pending i
+
+-- The current session is one of the sessions, of which there are no more than may be; each has its pending cells, no vacant room,
+-- and a picture that is right in all other cells.
+pub record IsSound (stored : Stored) (d : Desk) : Type 0 where
+  pub within : d.current < length d.sessions.sessions
+  pub few : length d.sessions.sessions ≤ max_sessions
+  pub each : length d.sessions.pending ≡ length d.sessions.sessions
+  pub full : (i : ℕ) → vacant_of d.sessions i ≡ []
+  pub covered : AreCovered (state_of stored d) (pending_in d)
+
+-- an edit, as the definitions see it
+abbrev pub edit_in : HeldEdit → Edit
+edit_in e = record { named = e.named.items; contents = e.contents.items }

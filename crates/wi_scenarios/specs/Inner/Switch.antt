@@ -1,0 +1,44 @@
+-- What there is room for where a scenario that puts in something else takes the place of one.
+use Rattle.std.specs.Prelude.{◌≡◌, ◌≢◌, ℕ, Bool, true, false, List, not, filter, map, Option, Some, None}
+use Rattle.wi_values.specs.declared.value.Value.{Value}
+use Rattle.wi_values.specs.declared.replacement.Replacement.{Replacement}
+use Rattle.wi_values.specs.Replacements.{replaced}
+use Rattle.wi_parser.specs.Sheet.{Sheet}
+use Rattle.wi_sheet.specs.Shown.{shown}
+use Rattle.wi_scenario_list.specs.Scenarios.{Scenario, effective}
+use Rattle.wi_sessions.specs.Pictures.{same_value}
+use Rattle.wi_sessions.specs.Pictures.Laws.{is_listed}
+use Rattle.wi_sessions.specs.Roster.{Roster, session_at, pending_of, vacant_of}
+use Rattle.wi_scenarios.specs.Pending.{IsMarked}
+
+-- both are none, or one value
+abbrev pub same_option : Option Value → Option Value → Bool
+same_option None None = true
+same_option (Some v) (Some w) = same_value v w
+same_option v w = false
+
+-- of these replacements, the cells whose replacement isn't the same in two lists
+abbrev pub differing : List Replacement → List Replacement → List Replacement → List ℕ
+differing before after among =
+    filter (λ a. not (same_option (replaced before a) (replaced after a))) (map (λ r. r.at) among)
+
+-- the replacement of a cell is another
+abbrev pub Differs : List Replacement → List Replacement → ℕ → Type 0
+Differs before after a = replaced before a ≢ replaced after a
+
+-- The cells whose replacement is another are these.
+pub record AreDiffering (before after : List Replacement) (cells : List ℕ) : Type 0 where
+  pub each : (a : ℕ) → is_listed cells a ≡ true → Differs before after a
+  pub others : (a : ℕ) → is_listed cells a ≡ false → replaced before a ≡ replaced after a
+
+-- There is room for cells alone that are marked for some whose replacement is another. A cell that is neither one of them nor
+-- pending shows the same.
+pub record HasRoom (marked : Sheet → List ℕ → ℕ → Bool) (sheet : Sheet) (before after : List Replacement) (pending vacant : List ℕ) : Type 0 where
+  pub marks : (a : ℕ) → is_listed vacant a ≡ true → IsMarked marked sheet (Differs before after) a
+  pub others : (a : ℕ) → is_listed pending a ≡ false → is_listed vacant a ≡ false → shown sheet before a ≡ shown sheet after a
+
+-- the same of the i-th session, where other scenarios take the place of all
+abbrev pub HasRoomFor : (Sheet → List ℕ → ℕ → Bool) → Sheet → List Scenario → List Scenario → Roster → ℕ → Type 0
+HasRoomFor marked sheet before after r i =
+    let name = (session_at r i).scenario in
+    HasRoom marked sheet (effective before name) (effective after name) (pending_of r i) (vacant_of r i)

@@ -1,0 +1,79 @@
+-- What a workbook is seen as, and which cells may be pending for its sessions: those that may differ from what they were shown.
+use Rattle.std.specs.Prelude.{◌≡◌, ◌≢◌, ℕ, ◌<◌, ◌⊎◌, ◌++◌, ◌∷◌, Bool, true, ◌-◌, List, [], All, filter, length}
+use Rattle.std.specs.List.{slice_index_or, slice_set}
+use Rattle.std.specs.Map.{keys_of}
+use Rattle.wi_values.specs.Address.{is_within}
+use Rattle.wi_values.specs.Replacements.{replaced}
+use Rattle.wi_parser.specs.Sheet.{Sheet}
+use Rattle.wi_sessions.specs.Pictures.{sheet_size}
+use Rattle.wi_sessions.specs.Pictures.Laws.{is_listed}
+use Rattle.wi_sessions.specs.Roster.{SameCells}
+use Rattle.wi_scenarios.specs.State.{State}
+use Rattle.wi_reports.specs.Looks.{evaluations_for, restarts_for}
+use Rattle.wi_scenarios.specs.Views.{session_at, replacements_for, current_replacements}
+
+-- The state, the pending cells of each session in the order of making, and the counts that the calculator tells.
+pub record Book : Type 0 where
+  pub state : State
+  pub pending : List (List ℕ)
+  pub evaluated : ℕ
+  pub restarted : ℕ
+
+-- the cells that are pending for the i-th session
+abbrev pub pending_for : List (List ℕ) → ℕ → List ℕ
+pending_for pending i = slice_index_or pending i []
+
+-- a cell is pending for the i-th session
+abbrev pub is_pending : List (List ℕ) → ℕ → ℕ → Bool
+is_pending pending i a = is_listed (pending_for pending i) a
+
+-- the i-th session's replacement for a cell was set, removed or switched
+abbrev pub IsSwitched : State → State → ℕ → ℕ → Type 0
+IsSwitched old new i a =
+    replaced (replacements_for old (session_at old i)) a ≢ replaced (replacements_for new (session_at new i)) a
+
+-- a cell that the command edits, or whose replacement for the i-th session it sets, removes or switches
+abbrev pub IsTouched : List ℕ → State → State → ℕ → ℕ → Type 0
+IsTouched edited old new i a = (is_listed edited a ≡ true) ⊎ IsSwitched old new i a
+
+-- a cell that is marked for some cells that were touched, one at least: a calculator may mark cells for none
+pub record IsMarked (marked : Sheet → List ℕ → ℕ → Bool) (sheet : Sheet) (Touched : ℕ → Type 0) (a : ℕ) : Type 0 where
+  pub cells : List ℕ
+  pub some : 0 < length cells
+  pub touched : All Touched cells
+  pub has : marked sheet cells a ≡ true
+
+-- what a command adds to the pending cells of the sessions that were there: cells that are marked for touched ones
+abbrev pub AddsOnly : (Sheet → List ℕ → ℕ → Bool) → List ℕ → State → State → List (List ℕ) → List (List ℕ) → Type 0
+AddsOnly marked edited old new before after =
+    (i a : ℕ) → i < length old.sessions → is_pending after i a ≡ true →
+    (is_pending before i a ≡ true) ⊎ IsMarked marked old.stored.sheet (IsTouched edited old new i) a
+
+-- neither count was raised
+abbrev pub SameCounts : Book → Book → Type 0
+SameCounts old new = (new.evaluated ≡ old.evaluated) × (new.restarted ≡ old.restarted)
+
+-- the pending cells of a session are gone, those of the others are as they were
+abbrev pub Emptied : ℕ → List (List ℕ) → List (List ℕ) → Type 0
+Emptied i before after = after ≡ slice_set before i []
+
+-- each session but the i-th has the pending cells that it had
+abbrev pub SameForOthers : ℕ → List (List ℕ) → List (List ℕ) → Type 0
+SameForOthers i before after = (j a : ℕ) → j ≢ i → is_pending after j a ≡ is_pending before j a
+
+-- how often a formula may be evaluated, and how often one may be begun again, where each cell is valued once that is pending for the
+-- current session
+abbrev pub pending_evaluations : State → List (List ℕ) → ℕ
+pending_evaluations s pending = evaluations_for s.stored.sheet (current_replacements s) (pending_for pending s.current)
+
+abbrev pub pending_restarts : State → List (List ℕ) → ℕ
+pending_restarts s pending = restarts_for s.stored.sheet (current_replacements s) (pending_for pending s.current)
+
+-- the occupied cells of a sheet
+abbrev pub occupied_cells : Sheet → List ℕ
+occupied_cells sheet = filter (is_within (record { first = 0; last = sheet_size - 1 })) (keys_of sheet)
+
+-- the pending cells are as they were, and those of a new session are the occupied cells
+abbrev pub HasNewSession : Sheet → List (List ℕ) → List (List ℕ) → Type 0
+HasNewSession sheet before after =
+    (cells : List ℕ) × (after ≡ before ++ cells ∷ []) × SameCells cells (occupied_cells sheet)

@@ -1,0 +1,31 @@
+-- What each session is shown.
+use Rattle.std.specs.Prelude.{ℕ, List, []}
+use Rattle.std.specs.List.{slice_index_or, slice_set}
+use Rattle.wi_values.specs.declared.value.Value.{Value}
+use Rattle.wi_values.specs.declared.replacement.Replacement.{Replacement}
+use Rattle.wi_sheet.specs.Shown as cell
+use Rattle.wi_scenario_list.specs.Scenarios.{effective}
+use Rattle.wi_sessions.specs.Sessions.{Session, new_session}
+use Rattle.wi_scenarios.specs.State.{State}
+
+-- the i-th session
+abbrev pub session_at : State → ℕ → Session
+session_at s i = slice_index_or s.sessions i (new_session [])
+
+abbrev pub current_session : State → Session
+current_session s = session_at s s.current
+
+-- the state with another in the place of the current session
+abbrev pub with_current : State → Session → State
+with_current s x = record s { sessions = slice_set s.sessions s.current x }
+
+-- the replacements that a session's scenario puts in
+abbrev pub replacements_for : State → Session → List Replacement
+replacements_for s x = effective s.scenarios x.scenario
+
+abbrev pub current_replacements : State → List Replacement
+current_replacements s = replacements_for s (current_session s)
+
+-- the value that a session is shown at a cell
+abbrev pub shown_to : State → Session → ℕ → Value
+shown_to s x a = cell.shown s.stored.sheet (replacements_for s x) a

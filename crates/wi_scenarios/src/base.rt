@@ -1,0 +1,76 @@
+//! The command `base`: bases a scenario on another, or on none.
+
+ghost use Rattle.std.specs.Prelude.{◌≡◌, ◌||◌, true, not, [], IfOk, OnErr};
+ghost use Rattle.std.specs.Option.{option_copied};
+ghost use Rattle.wi_scenario_list.specs.Scenarios.{has_scenario, scenario_for, with_scenario};
+ghost use Rattle.wi_scenario_list.specs.Bases.{lacks, would_loop, based_on};
+ghost use Rattle.wi_scenarios.specs.Answer.{Serves};
+ghost use Rattle.wi_scenarios.specs.Base.{base_step};
+ghost use Rattle.wi_scenarios.specs.Pending.{AddsOnly};
+ghost use Rattle.wi_scenarios.specs.Inner.Held.{state_of, pending_in, IsSound};
+
+use crate::desk::Desk;
+use crate::refusal::Refusal;
+use crate::switch::switch_to;
+use crate::views::is_missing;
+use std::alloc::{AllocError, Global};
+use wi_propagate::Calculator;
+use wi_scenario_list::Scenarios;
+
+/// Bases a scenario on another, or on none. The work is as of `put`.
+pub fn base<C: Calculator>(
+    alloc: Global,
+    calculator: &C,
+    desk: &mut Desk,
+    name: &str,
+    other: Option<&str>,
+) -> Result<(), Refusal>
+    requires { IsSound (C.stored calculator.now) desk.old }
+    ensures step { let old = state_of (C.stored calculator.now) desk.old in
+        Serves (λ a. base_step old name.now (option_copied other.entry) ≡ a) result old (state_of (C.stored calculator.now) desk.new) [] }
+    ensures adds { AddsOnly C.marked ([]) (state_of (C.stored calculator.now) desk.old)
+        (state_of (C.stored calculator.now) desk.new) (pending_in desk.old) (pending_in desk.new) }
+    ensures refused { OnErr result (pending_in desk.new ≡ pending_in desk.old) }
+    ensures sound { IsSound (C.stored calculator.now) desk.new }
+{
+    if is_any_missing(&desk.scenarios, name, other) {
+        return Err(Refusal::NoScenario);
+    }
+    if is_loop(&desk.scenarios, name, other) {
+        return Err(Refusal::Loop);
+    }
+    let next = with_base(&desk.scenarios, name, other)?;
+    switch_to(alloc, calculator, desk, next)?;
+    Ok(())
+}
+
+/// The scenarios with one that is there based on another, or on none.
+fn with_base(
+    scenarios: &Scenarios,
+    name: &str,
+    other: Option<&str>,
+) -> Result<Scenarios, AllocError>
+    requires { has_scenario scenarios.now name.now ≡ true }
+    ensures { IfOk result (λ next. next ≡ with_scenario scenarios.now (based_on (scenario_for scenarios.now name.now) (option_copied other.entry))) }
+{
+    let mut next = scenarios.copy()?;
+    next.set_base(name, other)?;
+    Ok(next)
+}
+
+/// Whether a scenario isn't there, or another is named that isn't.
+fn is_any_missing(scenarios: &Scenarios, name: &str, other: Option<&str>) -> bool
+    ensures { result ≡ (not (has_scenario scenarios.now name.now) || lacks scenarios.now (option_copied other.entry)) }
+{
+    is_missing(scenarios, Some(name)) || is_missing(scenarios, other)
+}
+
+/// Whether a scenario that is based on this other would be based on itself.
+fn is_loop(scenarios: &Scenarios, name: &str, other: Option<&str>) -> bool
+    ensures { result ≡ would_loop scenarios.now name.now (option_copied other.entry) }
+{
+    match other {
+        Some(other) => scenarios.rests_on(other, name),
+        None => false,
+    }
+}

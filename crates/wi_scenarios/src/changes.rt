@@ -1,0 +1,93 @@
+//! The command `changes`: what has changed since the current session was last shown it.
+
+ghost use Rattle.std.specs.Prelude.{◌≡◌, ◌<◌, ◌≤◌, ◌+◌, ◌++◌, ℕ, List, [], length, IfOk, OnOk, OnErr};
+ghost use Rattle.wi_reports.specs.Changes.{change_records};
+ghost use Rattle.wi_scenarios.specs.Answer.{Serves};
+ghost use Rattle.wi_scenarios.specs.Changes.{change_list, changes_step};
+ghost use Rattle.wi_scenarios.specs.Pending.{Emptied, pending_for, pending_evaluations, pending_restarts};
+ghost use Rattle.wi_scenarios.specs.Inner.Held.{state_of, pending_in, IsSound};
+ghost use Rattle.wi_scenarios.specs.Inner.Told.{IsTold};
+
+use crate::desk::Desk;
+use crate::refusal::Refusal;
+use crate::views::replacements_for;
+use std::alloc::{AllocError, Global};
+use wi_propagate::Calculator;
+use wi_reports::{find_changes, push_changes};
+use wi_values::{Address, Value};
+
+/// Appends a record for each cell that has changed since the current session was last shown what has. Only its pending cells
+/// are looked at. The work is that of `value` for each of them, and of `Picture::apply` for those that have changed.
+pub fn changes<C: Calculator>(
+    alloc: Global,
+    calculator: &mut C,
+    desk: &mut Desk,
+    out: &mut Vec<u8>,
+) -> Result<(), Refusal>
+    requires { IsSound (C.stored calculator.old) desk.old }
+    ensures step { let old = state_of (C.stored calculator.old) desk.old in
+        (records : List ℕ) × (out.new.items ≡ out.old.items ++ records)
+        × Serves (λ a. changes_step old ≡ a) result old (state_of (C.stored calculator.new) desk.new) records }
+    ensures same { C.stored calculator.new ≡ C.stored calculator.old }
+    ensures emptied { OnOk result (Emptied desk.old.current (pending_in desk.old) (pending_in desk.new)) }
+    ensures refused { OnErr result (pending_in desk.new ≡ pending_in desk.old) }
+    ensures quiet { pending_for (pending_in desk.old) desk.old.current ≡ []
+        → (C.evaluated calculator.new ≡ C.evaluated calculator.old) × (C.restarted calculator.new ≡ C.restarted calculator.old)
+        × (out.new.items ≡ out.old.items) }
+
+    // No more is evaluated than what its pending cells demand, also where memory runs out.
+    ensures evaluations { let old = state_of (C.stored calculator.old) desk.old in
+        C.evaluated calculator.new ≤ C.evaluated calculator.old + pending_evaluations old (pending_in desk.old) }
+    ensures restarts { let old = state_of (C.stored calculator.old) desk.old in
+        C.restarted calculator.new ≤ C.restarted calculator.old + pending_restarts old (pending_in desk.old) }
+    ensures sound { IsSound (C.stored calculator.new) desk.new }
+{
+    let found = find(alloc, calculator, desk)?;
+    tell(alloc, desk, found, out)?;
+    Ok(())
+}
+
+/// What has changed since the current session was last shown it. The calculator is asked for its pending cells alone.
+fn find<C: Calculator>(
+    alloc: Global,
+    calculator: &mut C,
+    desk: &Desk,
+) -> Result<Vec<(Address, Value)>, AllocError>
+    requires { IsSound (C.stored calculator.old) desk.now }
+    ensures list { let state = state_of (C.stored calculator.old) desk.now in IfOk result (λ found. found.items ≡ change_list state) }
+    ensures same { C.stored calculator.new ≡ C.stored calculator.old }
+    ensures quiet { pending_for (pending_in desk.now) desk.now.current ≡ []
+        → (C.evaluated calculator.new ≡ C.evaluated calculator.old) × (C.restarted calculator.new ≡ C.restarted calculator.old) }
+    ensures evaluations { let state = state_of (C.stored calculator.old) desk.now in
+        C.evaluated calculator.new ≤ C.evaluated calculator.old + pending_evaluations state (pending_in desk.now) }
+    ensures restarts { let state = state_of (C.stored calculator.old) desk.now in
+        C.restarted calculator.new ≤ C.restarted calculator.old + pending_restarts state (pending_in desk.now) }
+    ensures none { pending_for (pending_in desk.now) desk.now.current ≡ [] → IfOk result (λ found. found.items ≡ []) }
+{
+    let cells = desk.sessions.pending(desk.current).cells()?;
+    let put = replacements_for(desk, desk.current)?;
+    let picture = desk.sessions.picture(desk.current);
+    find_changes(alloc, calculator, &put, picture, &cells)
+}
+
+/// Appends the records of changes, and puts them into the picture of the current session, or leaves all as it was.
+fn tell(
+    alloc: Global,
+    desk: &mut Desk,
+    changes: Vec<(Address, Value)>,
+    out: &mut Vec<u8>,
+) -> Result<(), AllocError>
+    requires { desk.old.current < length desk.old.sessions.sessions }
+    ensures told { OnOk result (IsTold desk.old changes.items desk.new) }
+    ensures records { OnOk result (out.new.items ≡ out.old.items ++ change_records changes.items) }
+    ensures refused { OnErr result (desk.new ≡ desk.old) }
+    ensures unwritten { OnErr result (out.new.items ≡ out.old.items) }
+{
+    let before = out.len();
+    push_changes(alloc, &changes, out)?;
+    let told = desk.sessions.tell(desk.current, changes, desk.log.len());
+    if told.is_err() {
+        out.truncate(before);
+    }
+    told
+}

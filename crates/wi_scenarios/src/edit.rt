@@ -1,0 +1,155 @@
+//! One edit of the sheet, by whichever command.
+
+ghost use Rattle.std.specs.Prelude.{◌≡◌, ◌<◌, ◌≤◌, ℕ, [], length, IfOk, OnOk, OnErr};
+ghost use Rattle.std.specs.Map.{keys_of};
+ghost use Rattle.wi_store.specs.Store.{applied};
+ghost use Rattle.wi_sessions.specs.Roster.{vacant_of};
+ghost use Rattle.wi_sessions.specs.Sessions.{max_sessions};
+ghost use Rattle.wi_scenarios.specs.Answer.{Serves};
+ghost use Rattle.wi_scenarios.specs.Causes.{no_cause};
+ghost use Rattle.wi_scenarios.specs.Edits.{edit_answer};
+ghost use Rattle.wi_scenarios.specs.Pending.{AddsOnly};
+ghost use Rattle.wi_scenarios.specs.Inner.Held.{state_of, pending_in, edit_in, IsSound};
+ghost use Rattle.wi_scenarios.specs.Inner.Editing.{stale_on, AreMarked, HasRooms, SameBeside, Commits};
+
+use crate::desk::Desk;
+use crate::refusal::Refusal;
+use std::alloc::{AllocError, Global};
+use wi_edit_log::EditLog;
+use wi_parser::Content;
+use wi_propagate::Calculator;
+use wi_sessions::Sessions;
+use wi_values::{Address, Rect};
+
+/// The rectangles that an edit names, and what each of some cells gets: a content, or none.
+#[derive(Drop)]
+pub struct Edit {
+    pub named: Vec<Rect>,
+    pub contents: Vec<(Address, Option<Content>)>,
+}
+
+/// Edits the sheet and notes it in the log; the cells that may show something else then are pending for each session. An edit
+/// that isn't forced is refused as `Stale` where it names a cell that another session has edited since the current one was last
+/// shown what has changed. The work is that of `first_stale`, of `mark`, of `apply`, and for each session of the rooms for marked cells.
+pub fn apply_edit<C: Calculator>(
+    alloc: Global,
+    calculator: &mut C,
+    desk: &mut Desk,
+    edit: Edit,
+    force: bool,
+) -> Result<(), Refusal>
+    requires { IsSound (C.stored calculator.old) desk.old }
+    ensures step { let old = state_of (C.stored calculator.old) desk.old in
+        Serves (λ a. edit_answer old force no_cause (edit_in edit) ≡ a) result old (state_of (C.stored calculator.new) desk.new) [] }
+    ensures adds { AddsOnly C.marked (keys_of edit.contents.items) (state_of (C.stored calculator.old) desk.old)
+        (state_of (C.stored calculator.new) desk.new) (pending_in desk.old) (pending_in desk.new) }
+    ensures refused { OnErr result (pending_in desk.new ≡ pending_in desk.old) }
+    ensures sound { IsSound (C.stored calculator.new) desk.new }
+{
+    if let Some(at) = first_stale(desk, &edit.named, force) {
+        return Err(Refusal::Stale(at));
+    }
+    let marked = marked_by(alloc, calculator, &edit.contents)?;
+    match edit_with_rooms(calculator, desk, edit, &marked) {
+        Ok(()) => {
+            desk.sessions.take_all();
+            Ok(())
+        }
+        Err(refusal) => {
+            desk.sessions.give_back_all();
+            Err(refusal)
+        }
+    }
+}
+
+/// The first cell named that is stale for the current session; none for an edit that is forced.
+fn first_stale(desk: &Desk, named: &[Rect], force: bool) -> Option<Address>
+    requires within { desk.now.current < length desk.now.sessions.sessions }
+    requires few { length desk.now.sessions.sessions ≤ max_sessions }
+    ensures { result ≡ stale_on desk.now force named.now }
+{
+    if force {
+        return None;
+    }
+    let seen = desk.sessions.seen(desk.current);
+    desk.log.first_stale(desk.current as u32, seen, named)
+}
+
+/// The cells that may show something else once some cells get these contents; for no cell there is none.
+fn marked_by<C: Calculator>(
+    alloc: Global,
+    calculator: &C,
+    contents: &[(Address, Option<Content>)],
+) -> Result<Vec<Address>, AllocError>
+    ensures { IfOk result (λ found. AreMarked C.marked (C.stored calculator.now).sheet contents.now found.items) }
+{
+    if contents.is_empty() {
+        return Ok(Vec::new(alloc));
+    }
+    let cells = addresses(alloc, contents)?;
+    calculator.mark(&cells)
+}
+
+/// The cells that get contents.
+fn addresses(
+    alloc: Global,
+    contents: &[(Address, Option<Content>)],
+) -> Result<Vec<Address>, AllocError>
+    ensures { IfOk result (λ cells. cells.items ≡ keys_of contents.now) }
+{
+    let mut cells = Vec::new(alloc);
+    for (at, _) in contents {
+        cells.push(*at)?;
+    }
+    Ok(cells)
+}
+
+/// Makes room for marked cells and edits the sheet. On an error there may be rooms that are vacant still.
+fn edit_with_rooms<C: Calculator>(
+    calculator: &mut C,
+    desk: &mut Desk,
+    edit: Edit,
+    marked: &[Address],
+) -> Result<(), Refusal>
+    requires within { desk.old.current < length desk.old.sessions.sessions }
+    requires few { length desk.old.sessions.sessions ≤ max_sessions }
+    requires full { (i : ℕ) → vacant_of desk.old.sessions i ≡ [] }
+    ensures beside { SameBeside desk.old desk.new }
+    ensures rooms { OnOk result (HasRooms marked.now desk.new.sessions) }
+    ensures edit { Commits (applied (C.stored calculator.old) edit.contents.items) (record { session = desk.old.current; cells = edit.named.items })
+        result (C.stored calculator.old) (C.stored calculator.new) desk.old.log desk.new.log }
+{
+    make_rooms(&mut desk.sessions, marked)?;
+    commit(calculator, &mut desk.log, desk.current as u32, edit)
+}
+
+/// Makes room for cells in the list of each session for which they aren't pending. On an error a part of the rooms may be there.
+fn make_rooms(sessions: &mut Sessions, cells: &[Address]) -> Result<(), AllocError>
+    requires { (i : ℕ) → vacant_of sessions.old i ≡ [] }
+    ensures sessions { sessions.new.sessions ≡ sessions.old.sessions }
+    ensures pending { sessions.new.pending ≡ sessions.old.pending }
+    ensures rooms { OnOk result (HasRooms cells.now sessions.new) }
+{
+    for i in 0..sessions.len() {
+        sessions.make_room(i, cells)?;
+    }
+    Ok(())
+}
+
+/// Edits the sheet and notes it in the log. On an error both are as before.
+fn commit<C: Calculator>(
+    calculator: &mut C,
+    log: &mut EditLog,
+    session: u32,
+    edit: Edit,
+) -> Result<(), Refusal>
+    ensures { Commits (applied (C.stored calculator.old) edit.contents.items) (record { session = session; cells = edit.named.items })
+        result (C.stored calculator.old) (C.stored calculator.new) log.old log.new }
+{
+    log.add(session, edit.named)?;
+    let done = calculator.apply(edit.contents);
+    if done.is_err() {
+        log.take_back();
+    }
+    Ok(done?)
+}

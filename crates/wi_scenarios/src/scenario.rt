@@ -1,0 +1,123 @@
+//! The command `scenario`: puts a replacement into a scenario, or takes it away.
+
+ghost use Rattle.std.specs.Prelude.{◌≡◌, true, false, [], Some, IfOk, OnErr};
+ghost use Rattle.wi_values.specs.Inner.Import.{imported};
+ghost use Rattle.wi_scenario_list.specs.Scenarios.{has_scenario, scenario_for, with_scenario, with_own, without_own, is_full};
+ghost use Rattle.wi_scenarios.specs.Answer.{Serves};
+ghost use Rattle.wi_scenarios.specs.Scenario.{IsScenarioStep, replacement_by, put_answer, take_away_step};
+ghost use Rattle.wi_scenarios.specs.Pending.{AddsOnly};
+ghost use Rattle.wi_scenarios.specs.Inner.Held.{state_of, pending_in, IsSound};
+
+use crate::desk::Desk;
+use crate::refusal::Refusal;
+use crate::switch::switch_to;
+use std::alloc::{AllocError, Global};
+use wi_propagate::Calculator;
+use wi_scenario_list::{ScenarioFault, Scenarios};
+use wi_values::{Address, Value, imported_value};
+
+/// Puts a replacement into a scenario, which is made if need be. The work is that of `Scenarios::put`, and for each session
+/// whose scenario then puts in something else that of `make_room_between`.
+pub fn put<C: Calculator>(
+    alloc: Global,
+    calculator: &C,
+    desk: &mut Desk,
+    name: &str,
+    at: Address,
+    content: &str,
+) -> Result<(), Refusal>
+    requires { IsSound (C.stored calculator.now) desk.old }
+    ensures step { let old = state_of (C.stored calculator.now) desk.old in
+        Serves (IsScenarioStep old name.now at content.now) result old (state_of (C.stored calculator.now) desk.new) [] }
+    ensures adds { AddsOnly C.marked ([]) (state_of (C.stored calculator.now) desk.old)
+        (state_of (C.stored calculator.now) desk.new) (pending_in desk.old) (pending_in desk.new) }
+    ensures refused { OnErr result (pending_in desk.new ≡ pending_in desk.old) }
+    ensures sound { IsSound (C.stored calculator.now) desk.new }
+{
+    if content.is_empty() {
+        return take_away(alloc, calculator, desk, name, at);
+    }
+    put_text(alloc, calculator, desk, name, at, content)
+}
+
+/// Puts the value for which a text is taken into a scenario.
+fn put_text<C: Calculator>(
+    alloc: Global,
+    calculator: &C,
+    desk: &mut Desk,
+    name: &str,
+    at: Address,
+    text: &str,
+) -> Result<(), Refusal>
+    requires { IsSound (C.stored calculator.now) desk.old }
+    ensures step { let old = state_of (C.stored calculator.now) desk.old in
+        Serves (λ a. put_answer old name.now at (imported text.now) ≡ a) result old (state_of (C.stored calculator.now) desk.new) [] }
+    ensures adds { AddsOnly C.marked ([]) (state_of (C.stored calculator.now) desk.old)
+        (state_of (C.stored calculator.now) desk.new) (pending_in desk.old) (pending_in desk.new) }
+    ensures refused { OnErr result (pending_in desk.new ≡ pending_in desk.old) }
+    ensures sound { IsSound (C.stored calculator.now) desk.new }
+{
+    if desk.scenarios.is_full(name, at) {
+        return Err(Refusal::TooMany);
+    }
+    let value = imported_value(alloc, text)?;
+    let next = with_replacement(&desk.scenarios, name, at, value)?;
+    switch_to(alloc, calculator, desk, next)?;
+    Ok(())
+}
+
+/// Takes a scenario's own replacement away, if there is one; the scenario stays. The work is as of `put`.
+pub fn take_away<C: Calculator>(
+    alloc: Global,
+    calculator: &C,
+    desk: &mut Desk,
+    name: &str,
+    at: Address,
+) -> Result<(), Refusal>
+    requires { IsSound (C.stored calculator.now) desk.old }
+    ensures step { let old = state_of (C.stored calculator.now) desk.old in
+        Serves (λ a. take_away_step old name.now at ≡ a) result old (state_of (C.stored calculator.now) desk.new) [] }
+    ensures adds { AddsOnly C.marked ([]) (state_of (C.stored calculator.now) desk.old)
+        (state_of (C.stored calculator.now) desk.new) (pending_in desk.old) (pending_in desk.new) }
+    ensures refused { OnErr result (pending_in desk.new ≡ pending_in desk.old) }
+    ensures sound { IsSound (C.stored calculator.now) desk.new }
+{
+    if !desk.scenarios.contains(name) {
+        return Err(Refusal::NoScenario);
+    }
+    let next = without_replacement(&desk.scenarios, name, at)?;
+    switch_to(alloc, calculator, desk, next)?;
+    Ok(())
+}
+
+/// The scenarios with a replacement put into one, which takes one more.
+fn with_replacement(
+    scenarios: &Scenarios,
+    name: &str,
+    at: Address,
+    value: Value,
+) -> Result<Scenarios, AllocError>
+    requires { is_full scenarios.now name.now at ≡ false }
+    ensures { IfOk result (λ next. next ≡ with_scenario scenarios.now (with_own (scenario_for scenarios.now name.now) (replacement_by at (Some value)))) }
+{
+    let mut next = scenarios.copy()?;
+    match next.put(name, at, value) {
+        Ok(()) => Ok(next),
+        Err(ScenarioFault::TooMany) => unreachable!(),
+        Err(ScenarioFault::Memory) => Err(AllocError),
+    }
+}
+
+/// The scenarios without the own replacement of one that is there.
+fn without_replacement(
+    scenarios: &Scenarios,
+    name: &str,
+    at: Address,
+) -> Result<Scenarios, AllocError>
+    requires { has_scenario scenarios.now name.now ≡ true }
+    ensures { IfOk result (λ next. next ≡ with_scenario scenarios.now (without_own (scenario_for scenarios.now name.now) at)) }
+{
+    let mut next = scenarios.copy()?;
+    next.take_away(name, at)?;
+    Ok(next)
+}
