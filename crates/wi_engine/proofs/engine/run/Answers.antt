@@ -1,8 +1,9 @@
 use Rattle.std.proofs.Common.{◌≤◌, ◌+◌, ◌∙◌, ap, refl, inl, arith, rules}
+use Rattle.wi_engine.proofs.engine.Settling.{one_more_at_most}
 use Rattle.wi_engine.specs.Inner.Frames.{case_at, spare}
 use Rattle.wi_engine.specs.Inner.MemoState.{MemoState}
-use Rattle.wi_engine.proofs.engine.Running.{IsNew, Keeps, run_start, run_push, push_smaller, run_pop, pop_smaller}
-use Rattle.wi_engine.proofs.engine.Saving.{Takes, saving_start, saving_push, saving_pop, saving_end, settled_end, takes_more, push_takes}
+use Rattle.wi_engine.proofs.engine.Running.{IsNew, Keeps, run_start, run_push, push_smaller, run_pop, pop_smaller, run_evaluations, run_restarts, end_evaluations, end_restarts}
+use Rattle.wi_engine.proofs.engine.Saving.{Takes, saving_start, saving_push, saving_pop, saving_end, settled_end, takes_more, push_takes, saving_counts, saving_restarts}
 use Rattle.wi_engine.proofs.Saved.{gives_up_none, gives_up_then}
 use Rattle.wi_engine.proofs.engine.run.Goals as goal
 
@@ -133,3 +134,131 @@ returns-in-None-clause-settled g c =
     let takes : Takes (g.M.Memo.state c.advance.new.memo) (g.M.Memo.state c.keep.new.self) c.into_key.result = record { kept = k.kept; room = k.room } in
     settled_end c.args.store.now.sheet (g.M.Memo.state c.args.memo.now) (g.M.Memo.state c.frames.memo) (g.M.Memo.state c.advance.new.memo) (g.M.Memo.state c.keep.new.self) c.args.key c.args.meter.now c.frames.meter
     c.frames.stack.items c.frames.frame c.into_key.result c.frames.invariant a.same (search rules) (c.into_key.ensures ∙ a.key) k.found takes
+
+pub returns-in_err-push-in-Needs-clause-evaluations : goal.returns-in_err-push-in-Needs-clause-evaluations
+returns-in_err-push-in-Needs-clause-evaluations g c =
+    let counted = rw c.in-Needs.is at c.in_ok-next.ensures.evaluations in
+    run_evaluations c.args.store.now.sheet (g.M.Memo.state c.args.memo.now) (g.M.Memo.state c.frames.memo) (case_at c.args.key) c.args.meter.now c.frames.meter c.advance.new.meter c.frames.stack.items c.frames.frame c.frames.invariant.running (omega (arith, counted))
+
+pub returns-in_err-push-in-Needs-clause-restarts : goal.returns-in_err-push-in-Needs-clause-restarts
+returns-in_err-push-in-Needs-clause-restarts g c =
+    let restarts : c.advance.new.meter.restarts ≤ c.frames.meter.restarts + spare c.args.store.now.sheet c.frames.frame = omega (arith, c.in_ok-next.ensures.restarts) in
+    run_restarts c.args.store.now.sheet (g.M.Memo.state c.args.memo.now) (g.M.Memo.state c.frames.memo) (case_at c.args.key) c.args.meter.now c.frames.meter c.advance.new.meter c.frames.stack.items c.frames.frame c.frames.invariant.running restarts
+
+pub returns-in_err-push-in-Needs-clause-unkept_evaluations : goal.returns-in_err-push-in-Needs-clause-unkept_evaluations
+returns-in_err-push-in-Needs-clause-unkept_evaluations g c =
+    let counted = rw c.in-Needs.is at c.in_ok-next.ensures.evaluations in
+    saving_counts c.args.store.now.sheet (g.M.Memo.state c.args.memo.now) (g.M.Memo.state c.frames.memo) (case_at c.args.key) c.args.meter.now c.frames.meter c.advance.new.meter c.frames.stack.items c.frames.frame c.frames.invariant (omega (arith, counted))
+
+pub returns-in_err-push-in-Needs-clause-unkept_restarts : goal.returns-in_err-push-in-Needs-clause-unkept_restarts
+returns-in_err-push-in-Needs-clause-unkept_restarts g c =
+    let restarts : c.advance.new.meter.restarts ≤ c.frames.meter.restarts + spare c.args.store.now.sheet c.frames.frame = omega (arith, c.in_ok-next.ensures.restarts) in
+    saving_restarts c.args.store.now.sheet (g.M.Memo.state c.args.memo.now) (g.M.Memo.state c.frames.memo) (case_at c.args.key) c.args.meter.now c.frames.meter c.advance.new.meter c.frames.stack.items c.frames.frame c.frames.invariant restarts
+
+pub returns-in_err-keep-in-Some-clause-evaluations : goal.returns-in_err-keep-in-Some-clause-evaluations
+returns-in_err-keep-in-Some-clause-evaluations g c =
+    let counted = rw c.in-Done.is at c.in_ok-next.ensures.evaluations in
+    run_evaluations c.args.store.now.sheet (g.M.Memo.state c.args.memo.now) (g.M.Memo.state c.frames.memo) (case_at c.args.key) c.args.meter.now c.frames.meter c.advance.new.meter c.frames.stack.items c.frames.frame c.frames.invariant.running (one_more_at_most c.frames.meter.evaluations c.advance.new.meter.evaluations counted)
+
+pub returns-in_err-keep-in-Some-clause-restarts : goal.returns-in_err-keep-in-Some-clause-restarts
+returns-in_err-keep-in-Some-clause-restarts g c =
+    let restarts : c.advance.new.meter.restarts ≤ c.frames.meter.restarts + spare c.args.store.now.sheet c.frames.frame = omega (arith, c.in_ok-next.ensures.restarts) in
+    run_restarts c.args.store.now.sheet (g.M.Memo.state c.args.memo.now) (g.M.Memo.state c.frames.memo) (case_at c.args.key) c.args.meter.now c.frames.meter c.advance.new.meter c.frames.stack.items c.frames.frame c.frames.invariant.running restarts
+
+pub returns-in_err-keep-in-Some-clause-unkept_evaluations : goal.returns-in_err-keep-in-Some-clause-unkept_evaluations
+returns-in_err-keep-in-Some-clause-unkept_evaluations g c =
+    let counted = rw c.in-Done.is at c.in_ok-next.ensures.evaluations in
+    saving_counts c.args.store.now.sheet (g.M.Memo.state c.args.memo.now) (g.M.Memo.state c.frames.memo) (case_at c.args.key) c.args.meter.now c.frames.meter c.advance.new.meter c.frames.stack.items c.frames.frame c.frames.invariant (one_more_at_most c.frames.meter.evaluations c.advance.new.meter.evaluations counted)
+
+pub returns-in_err-keep-in-Some-clause-unkept_restarts : goal.returns-in_err-keep-in-Some-clause-unkept_restarts
+returns-in_err-keep-in-Some-clause-unkept_restarts g c =
+    let restarts : c.advance.new.meter.restarts ≤ c.frames.meter.restarts + spare c.args.store.now.sheet c.frames.frame = omega (arith, c.in_ok-next.ensures.restarts) in
+    saving_restarts c.args.store.now.sheet (g.M.Memo.state c.args.memo.now) (g.M.Memo.state c.frames.memo) (case_at c.args.key) c.args.meter.now c.frames.meter c.advance.new.meter c.frames.stack.items c.frames.frame c.frames.invariant restarts
+
+pub returns-in_err-keep-in-None-clause-evaluations : goal.returns-in_err-keep-in-None-clause-evaluations
+returns-in_err-keep-in-None-clause-evaluations g c =
+    let counted = rw c.in-Done.is at c.in_ok-next.ensures.evaluations in
+    run_evaluations c.args.store.now.sheet (g.M.Memo.state c.args.memo.now) (g.M.Memo.state c.frames.memo) (case_at c.args.key) c.args.meter.now c.frames.meter c.advance.new.meter c.frames.stack.items c.frames.frame c.frames.invariant.running (one_more_at_most c.frames.meter.evaluations c.advance.new.meter.evaluations counted)
+
+pub returns-in_err-keep-in-None-clause-restarts : goal.returns-in_err-keep-in-None-clause-restarts
+returns-in_err-keep-in-None-clause-restarts g c =
+    let restarts : c.advance.new.meter.restarts ≤ c.frames.meter.restarts + spare c.args.store.now.sheet c.frames.frame = omega (arith, c.in_ok-next.ensures.restarts) in
+    run_restarts c.args.store.now.sheet (g.M.Memo.state c.args.memo.now) (g.M.Memo.state c.frames.memo) (case_at c.args.key) c.args.meter.now c.frames.meter c.advance.new.meter c.frames.stack.items c.frames.frame c.frames.invariant.running restarts
+
+pub returns-in_err-keep-in-None-clause-unkept_evaluations : goal.returns-in_err-keep-in-None-clause-unkept_evaluations
+returns-in_err-keep-in-None-clause-unkept_evaluations g c =
+    let counted = rw c.in-Done.is at c.in_ok-next.ensures.evaluations in
+    saving_counts c.args.store.now.sheet (g.M.Memo.state c.args.memo.now) (g.M.Memo.state c.frames.memo) (case_at c.args.key) c.args.meter.now c.frames.meter c.advance.new.meter c.frames.stack.items c.frames.frame c.frames.invariant (one_more_at_most c.frames.meter.evaluations c.advance.new.meter.evaluations counted)
+
+pub returns-in_err-keep-in-None-clause-unkept_restarts : goal.returns-in_err-keep-in-None-clause-unkept_restarts
+returns-in_err-keep-in-None-clause-unkept_restarts g c =
+    let restarts : c.advance.new.meter.restarts ≤ c.frames.meter.restarts + spare c.args.store.now.sheet c.frames.frame = omega (arith, c.in_ok-next.ensures.restarts) in
+    saving_restarts c.args.store.now.sheet (g.M.Memo.state c.args.memo.now) (g.M.Memo.state c.frames.memo) (case_at c.args.key) c.args.meter.now c.frames.meter c.advance.new.meter c.frames.stack.items c.frames.frame c.frames.invariant restarts
+
+pub returns-in-None-clause-evaluations : goal.returns-in-None-clause-evaluations
+returns-in-None-clause-evaluations g c =
+    let counted = rw c.in-Done.is at c.in_ok-next.ensures.evaluations in
+    run_evaluations c.args.store.now.sheet (g.M.Memo.state c.args.memo.now) (g.M.Memo.state c.frames.memo) (case_at c.args.key) c.args.meter.now c.frames.meter c.advance.new.meter c.frames.stack.items c.frames.frame c.frames.invariant.running (one_more_at_most c.frames.meter.evaluations c.advance.new.meter.evaluations counted)
+
+pub returns-in-None-clause-restarts : goal.returns-in-None-clause-restarts
+returns-in-None-clause-restarts g c =
+    let restarts : c.advance.new.meter.restarts ≤ c.frames.meter.restarts + spare c.args.store.now.sheet c.frames.frame = omega (arith, c.in_ok-next.ensures.restarts) in
+    run_restarts c.args.store.now.sheet (g.M.Memo.state c.args.memo.now) (g.M.Memo.state c.frames.memo) (case_at c.args.key) c.args.meter.now c.frames.meter c.advance.new.meter c.frames.stack.items c.frames.frame c.frames.invariant.running restarts
+
+pub returns-in-None-clause-unkept_evaluations : goal.returns-in-None-clause-unkept_evaluations
+returns-in-None-clause-unkept_evaluations g c =
+    let counted = rw c.in-Done.is at c.in_ok-next.ensures.evaluations in
+    saving_counts c.args.store.now.sheet (g.M.Memo.state c.args.memo.now) (g.M.Memo.state c.frames.memo) (case_at c.args.key) c.args.meter.now c.frames.meter c.advance.new.meter c.frames.stack.items c.frames.frame c.frames.invariant (one_more_at_most c.frames.meter.evaluations c.advance.new.meter.evaluations counted)
+
+pub returns-in-None-clause-unkept_restarts : goal.returns-in-None-clause-unkept_restarts
+returns-in-None-clause-unkept_restarts g c =
+    let restarts : c.advance.new.meter.restarts ≤ c.frames.meter.restarts + spare c.args.store.now.sheet c.frames.frame = omega (arith, c.in_ok-next.ensures.restarts) in
+    saving_restarts c.args.store.now.sheet (g.M.Memo.state c.args.memo.now) (g.M.Memo.state c.frames.memo) (case_at c.args.key) c.args.meter.now c.frames.meter c.advance.new.meter c.frames.stack.items c.frames.frame c.frames.invariant restarts
+
+pub returns-in-None-clause-evaluations_ok : goal.returns-in-None-clause-evaluations_ok
+returns-in-None-clause-evaluations_ok g c =
+    let counted = rw c.in-Done.is at c.in_ok-next.ensures.evaluations in
+    end_evaluations c.args.store.now.sheet (g.M.Memo.state c.args.memo.now) (g.M.Memo.state c.frames.memo) (g.M.Memo.state c.advance.new.memo) (g.M.Memo.state c.keep.new.self) (case_at c.args.key) c.args.meter.now c.frames.meter c.advance.new.meter c.frames.stack.items c.frames.frame c.into_key.result c.frames.invariant.running c.in_ok-next.ensures.same (search rules) (c.into_key.ensures ∙ c.in_ok-next.ensures.key) c.in_ok-keep-in-None.ensures.found counted
+
+pub returns-in-None-clause-restarts_ok : goal.returns-in-None-clause-restarts_ok
+returns-in-None-clause-restarts_ok g c =
+    let restarts : c.advance.new.meter.restarts ≤ c.frames.meter.restarts + spare c.args.store.now.sheet c.frames.frame = omega (arith, c.in_ok-next.ensures.restarts) in
+    end_restarts c.args.store.now.sheet (g.M.Memo.state c.args.memo.now) (g.M.Memo.state c.frames.memo) (g.M.Memo.state c.advance.new.memo) (g.M.Memo.state c.keep.new.self) (case_at c.args.key) c.args.meter.now c.frames.meter c.advance.new.meter c.frames.stack.items c.frames.frame c.into_key.result c.frames.invariant.running c.in_ok-next.ensures.same (search rules) (c.into_key.ensures ∙ c.in_ok-next.ensures.key) c.in_ok-keep-in-None.ensures.found restarts
+
+pub returns-in_err-shown-in-None-clause-evaluations : goal.returns-in_err-shown-in-None-clause-evaluations
+returns-in_err-shown-in-None-clause-evaluations g c =
+    let counted = rw c.in-Done.is at c.in_ok-next.ensures.evaluations in
+    run_evaluations c.args.store.now.sheet (g.M.Memo.state c.args.memo.now) (g.M.Memo.state c.frames.memo) (case_at c.args.key) c.args.meter.now c.frames.meter c.advance.new.meter c.frames.stack.items c.frames.frame c.frames.invariant.running (one_more_at_most c.frames.meter.evaluations c.advance.new.meter.evaluations counted)
+
+pub returns-in_err-shown-in-None-clause-restarts : goal.returns-in_err-shown-in-None-clause-restarts
+returns-in_err-shown-in-None-clause-restarts g c =
+    let restarts : c.advance.new.meter.restarts ≤ c.frames.meter.restarts + spare c.args.store.now.sheet c.frames.frame = omega (arith, c.in_ok-next.ensures.restarts) in
+    run_restarts c.args.store.now.sheet (g.M.Memo.state c.args.memo.now) (g.M.Memo.state c.frames.memo) (case_at c.args.key) c.args.meter.now c.frames.meter c.advance.new.meter c.frames.stack.items c.frames.frame c.frames.invariant.running restarts
+
+pub returns-in_err-shown-in-None-clause-unkept_evaluations : goal.returns-in_err-shown-in-None-clause-unkept_evaluations
+returns-in_err-shown-in-None-clause-unkept_evaluations g c =
+    let counted = rw c.in-Done.is at c.in_ok-next.ensures.evaluations in
+    saving_counts c.args.store.now.sheet (g.M.Memo.state c.args.memo.now) (g.M.Memo.state c.frames.memo) (case_at c.args.key) c.args.meter.now c.frames.meter c.advance.new.meter c.frames.stack.items c.frames.frame c.frames.invariant (one_more_at_most c.frames.meter.evaluations c.advance.new.meter.evaluations counted)
+
+pub returns-in_err-shown-in-None-clause-unkept_restarts : goal.returns-in_err-shown-in-None-clause-unkept_restarts
+returns-in_err-shown-in-None-clause-unkept_restarts g c =
+    let restarts : c.advance.new.meter.restarts ≤ c.frames.meter.restarts + spare c.args.store.now.sheet c.frames.frame = omega (arith, c.in_ok-next.ensures.restarts) in
+    saving_restarts c.args.store.now.sheet (g.M.Memo.state c.args.memo.now) (g.M.Memo.state c.frames.memo) (case_at c.args.key) c.args.meter.now c.frames.meter c.advance.new.meter c.frames.stack.items c.frames.frame c.frames.invariant restarts
+
+pub returns-in_err-next-clause-evaluations : goal.returns-in_err-next-clause-evaluations
+returns-in_err-next-clause-evaluations g c =
+    let within : c.advance.new.meter.evaluations ≤ c.frames.meter.evaluations + 1 = omega (arith, c.in_err-next.ensures.err_evaluations) in
+    run_evaluations c.args.store.now.sheet (g.M.Memo.state c.args.memo.now) (g.M.Memo.state c.frames.memo) (case_at c.args.key) c.args.meter.now c.frames.meter c.advance.new.meter c.frames.stack.items c.frames.frame c.frames.invariant.running within
+
+pub returns-in_err-next-clause-restarts : goal.returns-in_err-next-clause-restarts
+returns-in_err-next-clause-restarts g c =
+    run_restarts c.args.store.now.sheet (g.M.Memo.state c.args.memo.now) (g.M.Memo.state c.frames.memo) (case_at c.args.key) c.args.meter.now c.frames.meter c.advance.new.meter c.frames.stack.items c.frames.frame c.frames.invariant.running c.in_err-next.ensures.err_restarts
+
+pub returns-in_err-next-clause-unkept_evaluations : goal.returns-in_err-next-clause-unkept_evaluations
+returns-in_err-next-clause-unkept_evaluations g c =
+    let within : c.advance.new.meter.evaluations ≤ c.frames.meter.evaluations + 1 = omega (arith, c.in_err-next.ensures.err_evaluations) in
+    saving_counts c.args.store.now.sheet (g.M.Memo.state c.args.memo.now) (g.M.Memo.state c.frames.memo) (case_at c.args.key) c.args.meter.now c.frames.meter c.advance.new.meter c.frames.stack.items c.frames.frame c.frames.invariant within
+
+pub returns-in_err-next-clause-unkept_restarts : goal.returns-in_err-next-clause-unkept_restarts
+returns-in_err-next-clause-unkept_restarts g c =
+    saving_restarts c.args.store.now.sheet (g.M.Memo.state c.args.memo.now) (g.M.Memo.state c.frames.memo) (case_at c.args.key) c.args.meter.now c.frames.meter c.advance.new.meter c.frames.stack.items c.frames.frame c.frames.invariant c.in_err-next.ensures.err_restarts
