@@ -78,9 +78,27 @@ module _ (s : Sheet) (w : List Replacement) (f : ℕ) (pairs : List (ℕ × ℕ)
   has_formula_cell : (ks : List Case) → HasEntry s w f pairs ks → HasCase s r f ks
   has_formula_cell ks h = subst (λ (v : List Replacement). HasCase s v f ks) (sym is) h.1
 
+  pub entry_at_most : (weight : Case → ℕ) (old mid : ℕ → List Replacement → Bool) (a b c : ℕ) → CountsFound s (HasReplacing s w pairs) weight old mid a b → CountsAtMost s (HasCase s r f) weight mid b c → CountsAtMost s (HasEntry s w f pairs) weight old a c
+  entry_at_most weight old mid a b c h k = λ ks closed top.
+      let one = h ks closed top.0 in
+      let two = k ks closed (has_formula_cell ks top) in
+      omega (arith, one, two)
+
   module _ (old mid : MemoState) (a b : Counts) (saved : SavesAll s (HasReplacing s w pairs) old mid a b) where
     pub entry_saves : (new : MemoState) (c : Counts) → SavesAll s (HasCase s r f) mid new b c → SavesAll s (HasEntry s w f pairs) old new a c
     entry_saves = saves_both s (HasEntry s w f pairs) (HasReplacing s w pairs) (HasCase s r f) (λ ks h. h.0) has_formula_cell old mid a b saved
+
+    pub entry_evaluations : (c : ℕ) → CountsUnkept s (HasCase s r f) (λ k. 1) mid b.evaluations c → CountsUnkept s (HasEntry s w f pairs) (λ k. 1) old a.evaluations c
+    entry_evaluations c h = λ ks closed top whole room.
+        let one = (saved ks closed top.0 whole room).counted in
+        let two = where_both s (HasEntry s w f pairs) (HasReplacing s w pairs) (HasCase s r f) (λ qs q. q.0) has_formula_cell old mid a b saved (λ qs. c ≤ b.evaluations + left (λ k. 1) mid.kept qs) h ks closed top whole room in
+        omega (arith, one, two)
+
+    pub entry_restarts : (c : ℕ) → CountsUnkept s (HasCase s r f) (wants s) mid b.restarts c → CountsUnkept s (HasEntry s w f pairs) (wants s) old a.restarts c
+    entry_restarts c h = λ ks closed top whole room.
+        let one = (saved ks closed top.0 whole room).restarted in
+        let two = where_both s (HasEntry s w f pairs) (HasReplacing s w pairs) (HasCase s r f) (λ qs q. q.0) has_formula_cell old mid a b saved (λ qs. c ≤ b.restarts + left (wants s) mid.kept qs) h ks closed top whole room in
+        omega (arith, one, two)
 
     pub entry_settled : (new : MemoState) (c : Counts) → SavesAll s (HasCase s r f) mid new b c → WhereRoom s (HasReplacing s w pairs) old (λ ks. All (λ p. IsSettled s mid.kept w p.1) pairs) →
         WhereRoom s (HasCase s r f) mid (λ ks. IsSettled s new.kept r f) → WhereRoom s (HasEntry s w f pairs) old (λ ks. IsWhatIfSettled s new.kept w (f, pairs))
