@@ -3,8 +3,23 @@
 use std::alloc::Global;
 use std::process::Abort;
 use std::test::Fail;
+use wi_parser::Content;
 use wi_propagate::Calculator;
 use wi_values::{Address, Rect};
+
+/// Puts contents into cells by one edit, which is accepted.
+pub fn edit<C: Calculator>(
+    alloc: Global,
+    calculator: &mut C,
+    cells: &[(&str, &str)],
+) -> Result<(), Fail> {
+    let mut changes = Vec::new(alloc);
+    for (at, text) in cells {
+        let content = Content::read(alloc, text)?;
+        changes.push((Address::read(at.as_bytes())?, Some(content)))?;
+    }
+    Ok(calculator.apply(changes)?)
+}
 
 /// Cells in words: `A1 B2 `.
 fn told(alloc: Global, cells: &[Address]) -> Result<String, Fail> {

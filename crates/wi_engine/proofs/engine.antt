@@ -3,6 +3,7 @@ pub mod Awaiting
 pub mod Budgets
 pub mod FoundSettled
 pub mod FramesSettled
+pub mod Inputs
 pub mod Ranks
 pub mod Resting
 pub mod Rightness

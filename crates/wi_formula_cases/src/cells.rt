@@ -107,16 +107,30 @@ fn push_counts(
     line.push_str("end")
 }
 
+/// The value that a part of a case spells.
+fn spelled_value(alloc: Global, part: &str) -> Result<Value> {
+    value(alloc, &spelled(alloc, part)?)
+}
+
+/// What is known where parts of a case spell the values of A1 and B1.
+fn spelled_cells(alloc: Global, left: &str, right: &str) -> Result<Cells> {
+    let a1 = spelled_value(alloc, left)?;
+    Ok(known(a1, spelled_value(alloc, right)?))
+}
+
+/// The formula that a part of a case spells.
+fn spelled_formula(alloc: Global, part: &str) -> Result<Formula> {
+    Ok(parse(alloc, &spelled(alloc, part)?)?)
+}
+
 /// Appends what the evaluation of a formula gives, or what it counts, after the values of A1 and B1.
 pub fn push(alloc: Global, operation: &str, operands: &str, line: &mut String) -> Result<()> {
     let (left, others) = operands.split_once(' ').context("no values")?;
     let (right, text) = others.split_once(' ').context("no formula")?;
-    let a1 = value(alloc, &spelled(alloc, left)?)?;
-    let b1 = value(alloc, &spelled(alloc, right)?)?;
-    let formula = parse(alloc, &spelled(alloc, text)?)?;
-    if operation == "count" {
-        Ok(push_counts(alloc, &formula, &known(a1, b1), line)?)
-    } else {
-        Ok(push_value_of(alloc, &formula, &known(a1, b1), line)?)
-    }
+    let known = spelled_cells(alloc, left, right)?;
+    let formula = spelled_formula(alloc, text)?;
+    Ok(match operation {
+        "count" => push_counts(alloc, &formula, &known, line),
+        _ => push_value_of(alloc, &formula, &known, line),
+    }?)
 }

@@ -2,7 +2,7 @@
 
 use crate::spelled;
 use crate::trees::push_tree;
-use anyhow::{Context, Result, bail};
+use anyhow::{Context, Result, bail, ensure};
 use std::alloc::{AllocError, Global};
 use wi_parser::{Expr, Formula, MAX_FORMULA, parse};
 use wi_values::Rect;
@@ -35,48 +35,70 @@ fn push_area(area: Rect, line: &mut String) -> Result<(), AllocError> {
     area.last().push_text(line)
 }
 
+/// Appends the rectangles that a formula reads, a bar behind each.
+fn push_rectangles(formula: &Formula, line: &mut String) -> Result<(), AllocError> {
+    for area in formula.rectangles() {
+        push_area(*area, line)?;
+        line.push_str(" | ")?;
+    }
+    line.push_str("end")
+}
+
+/// Appends the inputs of a formula's what-ifs, a bar behind each.
+fn push_inputs(formula: &Formula, line: &mut String) -> Result<(), AllocError> {
+    for at in formula.inputs() {
+        at.push_text(line)?;
+        line.push_str(" | ")?;
+    }
+    line.push_str("end")
+}
+
+/// Appends the area of the rectangle that is all of a formula.
+fn push_only_area(formula: &Formula, line: &mut String) -> Result<()> {
+    let Expr::Rectangle(corners) = formula.tree() else {
+        bail!("no rectangle")
+    };
+    Ok(push_area(corners.area(), line)?)
+}
+
 /// Appends a part of what a formula tells.
 fn push_part(part: &str, formula: &Formula, line: &mut String) -> Result<()> {
-    match part {
-        "fault" => line.push_str("none")?,
-        "tree" => push_tree(formula.tree(), line)?,
-        "print" => formula.print(line)?,
-        "rectangles" => {
-            for area in formula.rectangles() {
-                push_area(*area, line)?;
-                line.push_str(" | ")?;
-            }
-            line.push_str("end")?;
-        }
-        "inputs" => {
-            for at in formula.inputs() {
-                at.push_text(line)?;
-                line.push_str(" | ")?;
-            }
-            line.push_str("end")?;
-        }
-        "area" => {
-            let Expr::Rectangle(corners) = formula.tree() else {
-                bail!("no rectangle")
-            };
-            push_area(corners.area(), line)?;
-        }
+    Ok(match part {
+        "fault" => line.push_str("none"),
+        "tree" => push_tree(formula.tree(), line),
+        "print" => formula.print(line),
+        "rectangles" => push_rectangles(formula, line),
+        "inputs" => push_inputs(formula, line),
+        "area" => return push_only_area(formula, line),
         _ => bail!("no operation"),
-    }
-    Ok(())
+    }?)
+}
+
+/// Whether a formula is like its copy.
+fn is_like_its_copy(alloc: Global, formula: &Formula) -> Result<bool, AllocError> {
+    are_same(alloc, formula, &formula.copy(alloc)?)
+}
+
+/// Whether a formula is like the one that is read from a text.
+fn is_read_from(alloc: Global, formula: &Formula, text: &str) -> Result<bool> {
+    Ok(are_same(alloc, formula, &parse(alloc, text)?)?)
+}
+
+/// Whether a formula is like the one that is read from its text, where that isn't too long.
+fn is_read_back(alloc: Global, formula: &Formula) -> Result<bool> {
+    let text = printed(alloc, formula)?;
+    Ok(text.len() > MAX_FORMULA || is_read_from(alloc, formula, &text)?)
 }
 
 /// Appends a part of what a formula tells. Its copy tells the same, and so does what is read from its text, where that isn't
 /// too long.
 fn push_told(alloc: Global, part: &str, formula: &Formula, line: &mut String) -> Result<()> {
     push_part(part, formula, line)?;
-    if !are_same(alloc, formula, &formula.copy(alloc)?)? {
-        bail!("unlike its copy");
-    }
-    let text = printed(alloc, formula)?;
-    if text.len() <= MAX_FORMULA && !are_same(alloc, formula, &parse(alloc, &text)?)? {
-        bail!("unlike what it is printed as");
-    }
+    ensure!(is_like_its_copy(alloc, formula)?, "unlike its copy");
+    ensure!(
+        is_read_back(alloc, formula)?,
+        "unlike what it is printed as"
+    );
     Ok(())
 }
 
@@ -85,15 +107,19 @@ pub fn push(alloc: Global, part: &str, text: &str, line: &mut String) -> Result<
     push_told(alloc, part, &parse(alloc, text)?, line)
 }
 
-/// Appends a formula moved by rows and columns. The one that was moved stays as it is.
+/// The formula of a text moved by rows and columns. The one that was moved stays as it is.
+fn moved(alloc: Global, text: &str, rows: i64, columns: i64) -> Result<Formula> {
+    let formula = parse(alloc, text)?;
+    let moved = formula.shift(rows, columns)?;
+    ensure!(is_read_from(alloc, &formula, text)?, "moved itself");
+    Ok(moved)
+}
+
+/// Appends a formula moved by rows and columns.
 pub fn push_moved(alloc: Global, operands: &str, line: &mut String) -> Result<()> {
     let (rows, others) = operands.split_once(' ').context("no rows")?;
-    let (columns, text) = others.split_once(' ').context("no columns")?;
-    let text = spelled(alloc, text)?;
-    let formula = parse(alloc, &text)?;
-    let moved = formula.shift(rows.parse::<i64>()?, columns.parse::<i64>()?);
-    if !are_same(alloc, &formula, &parse(alloc, &text)?)? {
-        bail!("moved itself");
-    }
-    push_told(alloc, "print", &moved?, line)
+    let (columns, part) = others.split_once(' ').context("no columns")?;
+    let (rows, columns) = (rows.parse::<i64>()?, columns.parse::<i64>()?);
+    let text = spelled(alloc, part)?;
+    push_told(alloc, "print", &moved(alloc, &text, rows, columns)?, line)
 }

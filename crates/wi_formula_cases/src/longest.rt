@@ -28,18 +28,32 @@ fn prints(alloc: Global, formula: &Formula, text: &str) -> Result<bool> {
     )
 }
 
+/// A formula moved by as many rows as columns, which is printed as this text.
+fn moved(alloc: Global, formula: &Formula, by: i64, text: &str) -> Result<Formula> {
+    let moved = formula.shift(by, by)?;
+    ensure!(prints(alloc, &moved, text)?, "moved elsewhere");
+    Ok(moved)
+}
+
+/// The formula of a text, moved and moved back.
+fn moved_and_back(alloc: Global, formula: &Formula, text: &str) -> Result<Formula> {
+    let there = text.replace(alloc, "[.A1]", "[.B2]")?;
+    let moved_there = moved(alloc, formula, 1, &there)?;
+    moved(alloc, &moved_there, -1, text)
+}
+
+/// Appends the value of a formula where A1 has the value 2.
+fn push_value_at_two(alloc: Global, formula: &Formula, line: &mut String) -> Result<()> {
+    let two = Value::Number(Fraction::new(2, 1)?);
+    Ok(push_value_of(alloc, formula, &known(two, Value::Empty), line)?)
+}
+
 /// Reads, copies, prints, moves and moves back a formula, and appends its value where A1 has the value 2.
 fn push_all_of(alloc: Global, text: &str, line: &mut String) -> Result<()> {
     ensure!(text.len() == MAX_FORMULA, "not as long as may be");
     let formula = parse(alloc, text)?;
     ensure!(prints(alloc, &formula, text)?, "printed otherwise");
-    let moved = formula.shift(1, 1)?;
-    let there = text.replace(alloc, "[.A1]", "[.B2]")?;
-    ensure!(prints(alloc, &moved, &there)?, "moved elsewhere");
-    let back = moved.shift(-1, -1)?;
-    ensure!(prints(alloc, &back, text)?, "not moved back");
-    let two = Value::Number(Fraction::new(2, 1)?);
-    Ok(push_value_of(alloc, &back, &known(two, Value::Empty), line)?)
+    push_value_at_two(alloc, &moved_and_back(alloc, &formula, text)?, line)
 }
 
 /// As `push_all_of`, while an array takes half of the usual stack.

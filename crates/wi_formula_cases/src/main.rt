@@ -19,25 +19,47 @@ fn character(digits: &str) -> Result<char> {
     char::from_u32(number).context("no character")
 }
 
+/// Appends what stands in braces stands for.
+fn push_short(short: &str, text: &mut String) -> Result<()> {
+    let Some((count, repeated)) = short.split_once('*') else {
+        return Ok(text.push(character(short)?)?);
+    };
+    for _ in 0..count.parse::<u32>()? {
+        text.push_str(repeated)?;
+    }
+    Ok(())
+}
+
+/// Appends what a piece of a part stands for, which began with a brace where it has one that closes.
+fn push_piece(piece: &str, text: &mut String) -> Result<()> {
+    let Some((short, rest)) = piece.split_once('}') else {
+        return Ok(text.push_str(piece)?);
+    };
+    push_short(short, text)?;
+    Ok(text.push_str(rest)?)
+}
+
 /// The text that a part of a case stands for.
 fn spelled(alloc: Global, part: &str) -> Result<String> {
     let mut text = String::new(alloc);
     for piece in part.split('{') {
-        let Some((short, rest)) = piece.split_once('}') else {
-            text.push_str(piece)?;
-            continue;
-        };
-        match short.split_once('*') {
-            Some((count, repeated)) => {
-                for _ in 0..count.parse::<u32>()? {
-                    text.push_str(repeated)?;
-                }
-            }
-            None => text.push(character(short)?)?,
-        }
-        text.push_str(rest)?;
+        push_piece(piece, &mut text)?;
     }
     Ok(text)
+}
+
+/// Appends the answer to a case whose operand is one text.
+fn push_text_answer(alloc: Global, operation: &str, text: &str, line: &mut String) -> Result<()> {
+    match operation {
+        "longest" => longest::push(alloc, text, line),
+        "tokens" | "cell" | "reference" | "corners" | "unquoted" => {
+            tokens::push(alloc, operation, text, line)
+        }
+        "content" | "constant" | "field" | "imported" | "shown" => {
+            values::push(alloc, operation, text, line)
+        }
+        _ => formulas::push(alloc, operation, text, line),
+    }
 }
 
 fn push_answer(alloc: Global, case: &str, line: &mut String) -> Result<()> {
@@ -45,19 +67,7 @@ fn push_answer(alloc: Global, case: &str, line: &mut String) -> Result<()> {
     match operation {
         "value" | "count" => cells::push(alloc, operation, operands, line),
         "move" => formulas::push_moved(alloc, operands, line),
-        _ => {
-            let text = spelled(alloc, operands)?;
-            match operation {
-                "longest" => longest::push(alloc, &text, line),
-                "tokens" | "cell" | "reference" | "corners" | "unquoted" => {
-                    tokens::push(alloc, operation, &text, line)
-                }
-                "content" | "constant" | "field" | "imported" | "shown" => {
-                    values::push(alloc, operation, &text, line)
-                }
-                _ => formulas::push(alloc, operation, &text, line),
-            }
-        }
+        _ => push_text_answer(alloc, operation, &spelled(alloc, operands)?, line),
     }
 }
 

@@ -48,15 +48,18 @@ fn push_corners(text: &str, line: &mut String) -> Result<()> {
     push_cell(other, line)
 }
 
+fn push_unquoted(alloc: Global, text: &str, line: &mut String) -> Result<(), AllocError> {
+    push_quoted(&text_content(alloc, text)?, line)
+}
+
 /// Appends the tokens of a text, or what stands in a token.
 pub fn push(alloc: Global, operation: &str, text: &str, line: &mut String) -> Result<()> {
     match operation {
-        "tokens" => push_tokens(alloc, text, line)?,
-        "cell" => push_cell(cell_of(text.as_bytes()).context("none")?, line)?,
-        "reference" => push_cell(reference_of(text.as_bytes()).context("none")?, line)?,
-        "corners" => push_corners(text, line)?,
-        "unquoted" => push_quoted(&text_content(alloc, text)?, line)?,
+        "tokens" => Ok(push_tokens(alloc, text, line)?),
+        "cell" => push_cell(cell_of(text.as_bytes()).context("none")?, line),
+        "reference" => push_cell(reference_of(text.as_bytes()).context("none")?, line),
+        "corners" => push_corners(text, line),
+        "unquoted" => Ok(push_unquoted(alloc, text, line)?),
         _ => bail!("no operation"),
     }
-    Ok(())
 }

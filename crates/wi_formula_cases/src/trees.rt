@@ -1,7 +1,8 @@
 //! Trees as texts.
 
 use std::alloc::AllocError;
-use wi_parser::{Expr, Operator, Reference, Sign};
+use wi_parser::{Corners, Expr, Operator, Pair, Reference, Sign};
+use wi_values::Text;
 
 fn mark_of(operator: Operator) -> &'static str {
     match operator {
@@ -31,65 +32,77 @@ fn push_cell(reference: Reference, text: &mut String) -> Result<(), AllocError> 
     text.push_str(if reference.row_is_absolute { "$" } else { "" })
 }
 
+fn push_rectangle(corners: Corners, text: &mut String) -> Result<(), AllocError> {
+    push_cell(corners.one, text)?;
+    text.push(':')?;
+    push_cell(corners.other, text)
+}
+
+/// Appends a tree between two texts.
+#[cycle(tree)]
+fn push_between(
+    before: &str,
+    inner: &Expr,
+    after: &str,
+    text: &mut String,
+) -> Result<(), AllocError> {
+    text.push_str(before)?;
+    push_tree(inner, text)?;
+    text.push_str(after)
+}
+
+#[cycle(tree)]
+fn push_call(name: &Text, parameters: &[Expr], text: &mut String) -> Result<(), AllocError> {
+    text.push_str(name.as_str())?;
+    for parameter in parameters {
+        push_between("<", parameter, ">", text)?;
+    }
+    Ok(())
+}
+
+fn push_content(content: &Text, text: &mut String) -> Result<(), AllocError> {
+    text.push('\'')?;
+    text.push_str(content.as_str())?;
+    text.push('\'')
+}
+
+fn push_pair(pair: &Pair, text: &mut String) -> Result<(), AllocError> {
+    text.push(' ')?;
+    push_cell(pair.input, text)?;
+    text.push('=')?;
+    push_cell(pair.replacement, text)
+}
+
+fn push_what_if(
+    formula_cell: Reference,
+    pairs: &[Pair],
+    text: &mut String,
+) -> Result<(), AllocError> {
+    push_cell(formula_cell, text)?;
+    for pair in pairs {
+        push_pair(pair, text)?;
+    }
+    Ok(())
+}
+
 /// Appends a tree, with braces around each operation, brackets for parentheses, a call's parameters each in `<>`, and a
 /// what-if's pairs after its cell.
+#[cycle(tree)]
 pub fn push_tree(tree: &Expr, text: &mut String) -> Result<(), AllocError> {
     match tree {
         Expr::Number(number) => number.push_text(text),
         Expr::Cell(reference) => push_cell(*reference, text),
-        Expr::Rectangle(corners) => {
-            push_cell(corners.one, text)?;
-            text.push(':')?;
-            push_cell(corners.other, text)
-        }
-        Expr::Parenthesized(inner) => {
-            text.push('[')?;
-            push_tree(inner, text)?;
-            text.push(']')
-        }
-        Expr::Signed(sign, operand) => {
-            text.push_str(match sign {
-                Sign::Plus => "{+",
-                Sign::Minus => "{-",
-            })?;
-            push_tree(operand, text)?;
-            text.push('}')
-        }
-        Expr::Percent(operand) => {
-            text.push('{')?;
-            push_tree(operand, text)?;
-            text.push_str("%}")
-        }
+        Expr::Rectangle(corners) => push_rectangle(*corners, text),
+        Expr::Parenthesized(inner) => push_between("[", inner, "]", text),
+        Expr::Signed(Sign::Plus, operand) => push_between("{+", operand, "}", text),
+        Expr::Signed(Sign::Minus, operand) => push_between("{-", operand, "}", text),
+        Expr::Percent(operand) => push_between("{", operand, "%}", text),
         Expr::Binary(operator, left, right) => {
-            text.push('{')?;
-            push_tree(left, text)?;
-            text.push_str(mark_of(*operator))?;
-            push_tree(right, text)?;
-            text.push('}')
+            push_between("{", left, mark_of(*operator), text)?;
+            push_between("", right, "}", text)
         }
-        Expr::Call(name, parameters) => {
-            text.push_str(name.as_str())?;
-            for parameter in parameters {
-                text.push('<')?;
-                push_tree(parameter, text)?;
-                text.push('>')?;
-            }
-            Ok(())
-        }
-        Expr::Text(content) => {
-            text.push('\'')?;
-            text.push_str(content.as_str())?;
-            text.push('\'')
-        }
-        Expr::WhatIf(formula_cell, pairs) => {
-            push_cell(*formula_cell, text)?;
-            for pair in pairs {
-                text.push(' ')?;
-                push_cell(pair.input, text)?;
-                text.push('=')?;
-                push_cell(pair.replacement, text)?;
-            }
-            Ok(())
-        }
+        Expr::Call(name, parameters) => push_call(name, parameters, text),
+        Expr::Text(content) => push_content(content, text),
+        Expr::WhatIf(formula_cell, pairs) => push_what_if(*formula_cell, pairs, text),
     }
 }

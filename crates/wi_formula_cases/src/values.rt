@@ -64,21 +64,41 @@ fn push_copied(alloc: Global, content: &Content, line: &mut String) -> Result<()
     }
 }
 
-fn push_shown(alloc: Global, value: &Value, line: &mut String) -> Result<(), AllocError> {
+fn push_shown(value: &Value, line: &mut String) -> Result<(), AllocError> {
     line.push('"')?;
     value.push_shown(line)?;
     line.push('"')
 }
 
+fn push_field(alloc: Global, text: &str, line: &mut String) -> Result<()> {
+    Ok(push_value(&field_value(alloc, text)?, line)?)
+}
+
+fn push_imported(alloc: Global, text: &str, line: &mut String) -> Result<()> {
+    Ok(push_value(&imported_value(alloc, text)?, line)?)
+}
+
+fn push_content(alloc: Global, text: &str, line: &mut String) -> Result<()> {
+    Ok(push_copied(alloc, &Content::read(alloc, text)?, line)?)
+}
+
+fn push_constant(alloc: Global, text: &str, line: &mut String) -> Result<()> {
+    let constant = Content::Constant(value(alloc, text)?);
+    Ok(push_copied(alloc, &constant, line)?)
+}
+
+fn push_value_shown(alloc: Global, text: &str, line: &mut String) -> Result<()> {
+    Ok(push_shown(&value(alloc, text)?, line)?)
+}
+
 /// Appends what a text is as a field, as a content, or as a value.
 pub fn push(alloc: Global, operation: &str, text: &str, line: &mut String) -> Result<()> {
     match operation {
-        "field" => push_value(&field_value(alloc, text)?, line)?,
-        "imported" => push_value(&imported_value(alloc, text)?, line)?,
-        "content" => push_copied(alloc, &Content::read(alloc, text)?, line)?,
-        "constant" => push_copied(alloc, &Content::Constant(value(alloc, text)?), line)?,
-        "shown" => push_shown(alloc, &value(alloc, text)?, line)?,
+        "field" => push_field(alloc, text, line),
+        "imported" => push_imported(alloc, text, line),
+        "content" => push_content(alloc, text, line),
+        "constant" => push_constant(alloc, text, line),
+        "shown" => push_value_shown(alloc, text, line),
         _ => bail!("no operation"),
     }
-    Ok(())
 }

@@ -1,58 +1,50 @@
 //! The range index.
 
+use crate::texts::{addresses, expect_text};
 use std::alloc::Global;
 use std::process::Abort;
 use std::test::Fail;
 use wi_ranges::RangeIndex;
 use wi_values::{Address, Rect};
 
-/// A rectangle and a reader, which are added or taken away.
-#[derive(Clone, Copy)]
-enum Step<'a> {
-    Add(&'a str, &'a str),
-    Remove(&'a str, &'a str),
+/// Adds the pair that a text names, as `A2:A3 C1`, or takes it away, as `-A2:A3 C1`.
+fn take(index: &mut RangeIndex, step: &str) -> Result<(), Fail> {
+    let Some((area, reader)) = step.split_once(' ') else {
+        return Ok(());
+    };
+    let reader = Address::read(reader.as_bytes())?;
+    match area.strip_prefix("-") {
+        Some(area) => index.remove(Rect::read(area.as_bytes())?, reader),
+        None => index.add(Rect::read(area.as_bytes())?, reader)?,
+    }
+    Ok(())
 }
 
-use Step::{Add, Remove};
-
-fn index(alloc: Global, steps: &[Step<'_>]) -> Result<RangeIndex, Fail> {
+fn index(alloc: Global, steps: &str) -> Result<RangeIndex, Fail> {
     let mut index = RangeIndex::new(alloc);
-    for step in steps {
-        match *step {
-            Add(area, reader) => {
-                index.add(
-                    Rect::read(area.as_bytes())?,
-                    Address::read(reader.as_bytes())?,
-                )?;
-            }
-            Remove(area, reader) => {
-                index.remove(
-                    Rect::read(area.as_bytes())?,
-                    Address::read(reader.as_bytes())?,
-                );
-            }
-        }
+    for step in steps.split(", ") {
+        take(&mut index, step)?;
     }
     Ok(index)
 }
 
+fn pieces(alloc: Global, steps: &str) -> Result<u64, Fail> {
+    Ok(index(alloc, steps)?.pieces())
+}
+
 /// How many blocks there are after each of these steps.
-fn expect_pieces(rt: &impl Abort, alloc: Global, rows: &[(&[Step<'_>], u64)]) -> Result<(), Fail> {
-    for (steps, pieces) in rows {
-        let pieces_now = index(alloc, steps)?.pieces();
-        assert_eq!(rt; pieces_now, *pieces, "after {} steps", steps.len());
+fn expect_pieces(rt: &impl Abort, alloc: Global, rows: &[(&str, u64)]) -> Result<(), Fail> {
+    for (steps, wanted) in rows {
+        let found = pieces(alloc, steps)?;
+        assert_eq!(rt; found, *wanted, "{steps}");
     }
     Ok(())
 }
 
 /// The readers of a cell, a space behind each.
 fn readers(alloc: Global, index: &RangeIndex, at: &str) -> Result<String, Fail> {
-    let mut text = String::new(alloc);
-    for reader in &index.readers_of(Address::read(at.as_bytes())?)? {
-        reader.push_text(&mut text)?;
-        text.push(' ')?;
-    }
-    Ok(text)
+    let found = index.readers_of(Address::read(at.as_bytes())?)?;
+    Ok(addresses(alloc, &found)?)
 }
 
 fn expect_readers(
@@ -62,7 +54,7 @@ fn expect_readers(
     rows: &[(&str, &str)],
 ) -> Result<(), Fail> {
     for (at, wanted) in rows {
-        assert_eq!(rt; readers(alloc, index, at)?.as_str(), *wanted, "{at}");
+        expect_text(rt, at, &readers(alloc, index, at)?, wanted);
     }
     Ok(())
 }
@@ -73,29 +65,18 @@ fn rectangles_have_few_pieces(rt: HostRuntime) -> Result<(), Fail> {
         &rt,
         rt.alloc(),
         &[
-            (&[], 0),
-            (&[Add("A1:A1048576", "C1")], 1),
-            (&[Add("A1:A1048576", "C1"), Remove("A1:A1048576", "C1")], 0),
-            (&[Add("A2:A1048575", "C1")], 38),
-            (&[Add("A2:A1048575", "C1"), Remove("A2:A1048575", "C1")], 0),
-            (&[Add("A1:XFD1048575", "C1")], 20),
-            (
-                &[Add("A1:XFD1048575", "C1"), Remove("A1:XFD1048575", "C1")],
-                0,
-            ),
-            (&[Add("B3", "C1")], 1),
-            (&[Add("B3", "C1"), Remove("B3", "C1")], 0),
+            ("", 0),
+            ("A1:A1048576 C1", 1),
+            ("A1:A1048576 C1, -A1:A1048576 C1", 0),
+            ("A2:A1048575 C1", 38),
+            ("A2:A1048575 C1, -A2:A1048575 C1", 0),
+            ("A1:XFD1048575 C1", 20),
+            ("A1:XFD1048575 C1, -A1:XFD1048575 C1", 0),
+            ("B3 C1", 1),
+            ("B3 C1, -B3 C1", 0),
         ],
     )
 }
-
-const TWICE: [Step<'static>; 5] = [
-    Add("A2:A3", "C1"),
-    Add("A2:A3", "C1"),
-    Remove("A2:A3", "C1"),
-    Remove("A2:A3", "C1"),
-    Remove("A2:A3", "C1"),
-];
 
 #[test]
 fn equal_pairs_count(rt: HostRuntime) -> Result<(), Fail> {
@@ -103,42 +84,44 @@ fn equal_pairs_count(rt: HostRuntime) -> Result<(), Fail> {
         &rt,
         rt.alloc(),
         &[
-            (&TWICE[..2], 4),
-            (&TWICE[..3], 2),
-            (&TWICE[..4], 0),
-            (&TWICE[..5], 0),
+            ("A2:A3 C1, A2:A3 C1", 4),
+            ("A2:A3 C1, A2:A3 C1, -A2:A3 C1", 2),
+            ("A2:A3 C1, A2:A3 C1, -A2:A3 C1, -A2:A3 C1", 0),
+            ("A2:A3 C1, A2:A3 C1, -A2:A3 C1, -A2:A3 C1, -A2:A3 C1", 0),
         ],
     )
 }
 
+/// The readers of cells after these steps.
+fn expect_readers_after(
+    rt: &impl Abort,
+    alloc: Global,
+    steps: &str,
+    rows: &[(&str, &str)],
+) -> Result<(), Fail> {
+    let index = index(alloc, steps)?;
+    expect_readers(rt, alloc, &index, rows)
+}
+
 #[test]
 fn one_of_two_equal_pairs_is_left(rt: HostRuntime) -> Result<(), Fail> {
-    let index = index(rt.alloc(), &TWICE[..3])?;
-    expect_readers(&rt, rt.alloc(), &index, &[("A3", "C1 ")])
+    let steps = "A2:A3 C1, A2:A3 C1, -A2:A3 C1";
+    expect_readers_after(&rt, rt.alloc(), steps, &[("A3", "C1 ")])
 }
 
 #[test]
 fn none_of_two_equal_pairs_is_left(rt: HostRuntime) -> Result<(), Fail> {
-    let index = index(rt.alloc(), &TWICE)?;
-    expect_readers(&rt, rt.alloc(), &index, &[("A3", "")])
+    let steps = "A2:A3 C1, A2:A3 C1, -A2:A3 C1, -A2:A3 C1, -A2:A3 C1";
+    expect_readers_after(&rt, rt.alloc(), steps, &[("A3", "")])
 }
 
 // Pairs of which some differ in the reader alone, some in the rectangle alone.
 #[test]
 fn readers_stand_in_order(rt: HostRuntime) -> Result<(), Fail> {
-    let steps = [
-        Add("B2:C9", "E5"),
-        Add("B2:C9", "D1"),
-        Add("B2:C9", "A9"),
-        Add("C9", "A9"),
-        Add("A1:XFD1048576", "F7"),
-        Add("A1:A9", "A1"),
-    ];
-    let index = index(rt.alloc(), &steps)?;
-    expect_readers(
+    expect_readers_after(
         &rt,
         rt.alloc(),
-        &index,
+        "B2:C9 E5, B2:C9 D1, B2:C9 A9, C9 A9, A1:XFD1048576 F7, A1:A9 A1",
         &[
             ("C9", "D1 E5 F7 A9 "),
             ("B2", "D1 E5 F7 A9 "),
@@ -183,14 +166,21 @@ const READ: [(&str, &str); 5] = [
     ("A510", ""),
 ];
 
+/// The index of a thousand pairs is read, and again when five hundred of them are taken away. Gives how many blocks are left
+/// when none is left.
+fn thousand_pairs(rt: &impl Abort, alloc: Global, index: &mut RangeIndex) -> Result<u64, Fail> {
+    add_many(index, 1_000)?;
+    expect_readers(rt, alloc, index, &READ)?;
+    remove_many(index, 500);
+    expect_readers(rt, alloc, index, &READ)?;
+    remove_many(index, 500);
+    Ok(index.pieces())
+}
+
 #[test]
 fn a_thousand_pairs(rt: HostRuntime) -> Result<(), Fail> {
     let mut index = RangeIndex::new(rt.alloc());
-    add_many(&mut index, 1_000)?;
-    expect_readers(&rt, rt.alloc(), &index, &READ)?;
-    remove_many(&mut index, 500);
-    expect_readers(&rt, rt.alloc(), &index, &READ)?;
-    remove_many(&mut index, 500);
-    assert_eq!(rt; index.pieces(), 0);
+    let left = thousand_pairs(&rt, rt.alloc(), &mut index)?;
+    assert_eq!(rt; left, 0);
     Ok(())
 }

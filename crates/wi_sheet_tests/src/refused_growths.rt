@@ -3,6 +3,7 @@
 ghost use Rattle.std.specs.Prelude.{◌<◌};
 
 use std::alloc::{AllocError, Global};
+use std::process::Abort;
 use wi_cache::{Kept, Key, RunTable};
 use wi_csv::{CsvFault, push_record, records};
 use wi_parser::Content;
@@ -16,18 +17,35 @@ fn before(alloc: Global) -> Result<Vec<u8>, AllocError> {
     Vec::from_slice(alloc, b"before")
 }
 
+// A record was appended, or what stood before is all.
+fn is_right(was_pushed: bool, text: &[u8]) -> bool {
+    if was_pushed {
+        text.len() == 43
+    } else {
+        text == b"before".as_slice()
+    }
+}
+
+fn count_records(alloc: Global) -> Result<usize, CsvFault> {
+    Ok(records(alloc, b"1,2\n3\n")?.len())
+}
+
 #[test]
 fn of_records(rt: HostRuntime) {
-    let Ok(mut text) = before(rt.alloc()) else {
-        return;
-    };
-    match push_record(&["a long field", "another long field"], &mut text) {
-        Ok(()) => assert_eq!(rt; text.len(), 43),
-        Err(_) => assert!(rt; text.as_slice() == b"before".as_slice()),
+    if let Ok(mut text) = before(rt.alloc()) {
+        let was_pushed = push_record(&["a long field", "another long field"], &mut text).is_ok();
+        assert!(rt; is_right(was_pushed, &text));
     }
-    match records(rt.alloc(), b"1,2\n3\n") {
-        Ok(rows) => assert_eq!(rt; rows.len(), 2),
+    match count_records(rt.alloc()) {
+        Ok(count) => assert_eq!(rt; count, 2),
         Err(fault) => assert_eq!(rt; fault, CsvFault::Memory),
+    }
+}
+
+fn is_logical(value: Option<&Value>, sign: bool) -> bool {
+    match value {
+        Some(Value::Logical(found)) => *found == sign,
+        _ => false,
     }
 }
 
@@ -39,7 +57,7 @@ fn logical(sign: bool) -> Option<Content> {
 
 fn has(store: &Store, at: Address, sign: bool) -> bool {
     match store.get(at) {
-        Some(Content::Constant(value)) => *value == Value::Logical(sign),
+        Some(Content::Constant(value)) => is_logical(Some(value), sign),
         _ => false,
     }
 }
@@ -61,61 +79,77 @@ fn forty(alloc: Global) -> Result<Changes, AllocError> {
     Ok(forty)
 }
 
-// A store with TRUE in A1, and an edit of it.
-fn one_and_forty(alloc: Global) -> Result<(Store, Changes), StoreFault> {
+// A store with TRUE in A1.
+fn store_of_one(alloc: Global) -> Result<Store, StoreFault> {
+    let one = one(alloc)?;
     let mut store = Store::new(alloc, Limits::standard());
-    store.apply(one(alloc)?)?;
-    Ok((store, forty(alloc)?))
+    store.apply(one)?;
+    Ok(store)
+}
+
+fn apply_forty(alloc: Global, store: &mut Store) -> Result<(), StoreFault> {
+    store.apply(forty(alloc)?)
+}
+
+fn expect_forty(rt: &impl Abort, store: &Store) {
+    assert_eq!(rt; (store.occupied(), store.edits()), (40, 2));
+    assert!(rt; store.get(Address::at(0, 0)).is_none());
+}
+
+fn expect_one(rt: &impl Abort, store: &Store) {
+    assert_eq!(rt; (store.occupied(), store.edits()), (1, 1));
+    assert!(rt; has(store, Address::at(0, 0), true));
+    for row in 1..41 {
+        assert!(rt; store.get(Address::at(row, 0)).is_none());
+    }
 }
 
 #[test]
 fn of_stores(rt: HostRuntime) {
-    let first = Address::at(0, 0);
-    let Ok((mut store, forty)) = one_and_forty(rt.alloc()) else {
+    let Ok(mut store) = store_of_one(rt.alloc()) else {
         return;
     };
-    match store.apply(forty) {
-        Ok(()) => {
-            assert_eq!(rt; (store.occupied(), store.edits()), (40, 2));
-            assert!(rt; store.get(first).is_none());
-        }
+    match apply_forty(rt.alloc(), &mut store) {
+        Ok(()) => expect_forty(&rt, &store),
         Err(refusal) => {
             assert_eq!(rt; refusal, StoreFault::Memory);
-            assert_eq!(rt; (store.occupied(), store.edits()), (1, 1));
-            assert!(rt; has(&store, first, true));
-            for row in 1..41 {
-                assert!(rt; store.get(Address::at(row, 0)).is_none());
-            }
+            expect_one(&rt, &store);
         }
     }
 }
 
 // An index with the pair of A1:A10 and C1.
 fn index_of_one(alloc: Global) -> Result<RangeIndex, AllocError> {
+    let area = Rect::new(Address::at(0, 0), Address::at(9, 0));
+    let reader = Address::at(0, 2);
     let mut index = RangeIndex::new(alloc);
-    index.add(
-        Rect::new(Address::at(0, 0), Address::at(9, 0)),
-        Address::at(0, 2),
-    )?;
+    index.add(area, reader)?;
     Ok(index)
 }
 
-#[test]
-fn of_the_range_index(rt: HostRuntime) {
+// So many readers are listed, where there is memory for the list.
+fn expect_readers(rt: &impl Abort, index: &RangeIndex, at: Address, wanted: usize) {
+    if let Ok(readers) = index.readers_of(at) {
+        assert_eq!(rt; readers.len(), wanted);
+    }
+}
+
+// A pair of 38 blocks is added to an index of one, and once again.
+fn expect_added(rt: &impl Abort, index: &mut RangeIndex) {
     let (top, bottom) = (Address::at(1, 0), Address::at(1_048_574, 0));
     let reader = Address::at(0, 3);
-    let Ok(mut index) = index_of_one(rt.alloc()) else {
-        return;
-    };
     let added = index.add(Rect::new(top, bottom), reader).is_ok();
     let added_again = index.add(Rect::new(top, bottom), reader).is_ok();
     let times = u64::from(added) + u64::from(added_again);
     assert_eq!(rt; index.pieces(), 2 + 38 * times);
-    if let Ok(readers) = index.readers_of(bottom) {
-        assert_eq!(rt; readers.len(), usize::from(times > 0));
-    }
-    if let Ok(readers) = index.readers_of(top) {
-        assert_eq!(rt; readers.len(), 1 + usize::from(times > 0));
+    expect_readers(rt, index, bottom, usize::from(times > 0));
+    expect_readers(rt, index, top, 1 + usize::from(times > 0));
+}
+
+#[test]
+fn of_the_range_index(rt: HostRuntime) {
+    if let Ok(mut index) = index_of_one(rt.alloc()) {
+        expect_added(&rt, &mut index);
     }
 }
 
@@ -137,34 +171,58 @@ fn list_of_one(alloc: Global) -> Result<Kept, AllocError> {
     Ok(kept)
 }
 
+fn look(alloc: Global, kept: &Kept, column: u32) -> Option<&Value>
+    requires { column < 16384 }
+{
+    kept.look(&key(alloc, column))
+}
+
+// One more value is kept in a list of one, or only that one is there.
+fn expect_second(rt: &impl Abort, alloc: Global, kept: &mut Kept) {
+    let added = kept.keep(key(alloc, 1), Value::Empty).is_ok();
+    let has_first = is_logical(look(alloc, kept, 0), true);
+    let has_second = look(alloc, kept, 1).is_some();
+    assert_eq!(rt;
+        (kept.len(), has_first, has_second),
+        (1 + usize::from(added), true, added)
+    );
+}
+
 #[test]
 fn of_kept_values(rt: HostRuntime) {
-    let alloc = rt.alloc();
-    let Ok(mut kept) = list_of_one(alloc) else {
-        return;
-    };
-    let added = kept.keep(key(alloc, 1), Value::Empty).is_ok();
-    assert_eq!(rt; kept.len(), 1 + usize::from(added));
-    assert_eq!(rt; kept.look(&key(alloc, 0)), Some(&Value::Logical(true)));
-    assert_eq!(rt; kept.look(&key(alloc, 1)).is_some(), added);
+    if let Ok(mut kept) = list_of_one(rt.alloc()) {
+        expect_second(&rt, rt.alloc(), &mut kept);
+    }
+}
+
+fn look_up(alloc: Global, table: &RunTable, column: u32) -> Option<&Value>
+    requires { column < 16384 }
+{
+    table.look(&key(alloc, column))
+}
+
+fn keep_empty(alloc: Global, table: &mut RunTable, column: u32) -> bool
+    requires { column < 16384 }
+{
+    table.keep(key(alloc, column), Value::Empty).is_ok()
+}
+
+// Nineteen more values are kept, each of which is found if it was kept.
+fn expect_more(rt: &impl Abort, alloc: Global, table: &mut RunTable) {
+    for column in 1..20 {
+        let added = keep_empty(alloc, table, column);
+        let is_found = matches!(look_up(alloc, table, column), Some(Value::Empty));
+        assert_eq!(rt; is_found, added);
+    }
 }
 
 #[test]
 fn of_run_tables(rt: HostRuntime) {
-    let alloc = rt.alloc();
-    let mut table = RunTable::new(alloc);
-    let first = table.keep(key(alloc, 0), Value::Logical(true)).is_ok();
-    for column in 1..20 {
-        let added = table.keep(key(alloc, column), Value::Empty).is_ok();
-        assert_eq!(rt;
-            table.look(&key(alloc, column)) == Some(&Value::Empty),
-            added
-        );
-    }
-    assert_eq!(rt;
-        table.look(&key(alloc, 0)) == Some(&Value::Logical(true)),
-        first
-    );
+    let mut table = RunTable::new(rt.alloc());
+    let added = table.keep(key(rt.alloc(), 0), Value::Logical(true)).is_ok();
+    expect_more(&rt, rt.alloc(), &mut table);
+    let is_found = is_logical(look_up(rt.alloc(), &table, 0), true);
+    assert_eq!(rt; is_found, added);
 }
 
 // A world in which A2 is TRUE and C3 is emptied.
@@ -183,10 +241,11 @@ fn old(alloc: Global) -> Result<World, AllocError> {
 
 // In C3 a text then, and A1 emptied.
 fn newer(alloc: Global, world: &World) -> Result<World, AllocError> {
+    let three = Value::Text(Text::from_str(alloc, "three")?);
     world.with(&[
         Replacement {
             at: Address::at(2, 2),
-            value: Value::Text(Text::from_str(alloc, "three")?),
+            value: three,
         },
         Replacement {
             at: Address::at(0, 0),
@@ -195,13 +254,17 @@ fn newer(alloc: Global, world: &World) -> Result<World, AllocError> {
     ])
 }
 
+fn expect_newer(rt: &impl Abort, alloc: Global, world: &World) {
+    if let Ok(newer) = newer(alloc, world) {
+        assert_eq!(rt; newer.replacements().len(), 3);
+    }
+}
+
 #[test]
 fn of_worlds(rt: HostRuntime) {
     let (Ok(world), Ok(as_before)) = (old(rt.alloc()), old(rt.alloc())) else {
         return;
     };
-    if let Ok(newer) = newer(rt.alloc(), &world) {
-        assert_eq!(rt; newer.replacements().len(), 3);
-    }
+    expect_newer(&rt, rt.alloc(), &world);
     assert_eq!(rt; world, as_before);
 }

@@ -1,6 +1,6 @@
 //! Stores.
 
-use crate::texts::content;
+use crate::texts::{addresses, content, expect_text};
 use std::alloc::Global;
 use std::process::Abort;
 use std::test::Fail;
@@ -10,13 +10,19 @@ use wi_values::{Address, Rect, Value};
 
 type Changes = Vec<(Address, Option<Content>)>;
 
+fn push_change(alloc: Global, change: &str, changes: &mut Changes) -> Result<(), Fail> {
+    if let Some((at, text)) = change.split_once(' ') {
+        let at = Address::read(at.as_bytes())?;
+        changes.push((at, change_to(alloc, text)?))?;
+    }
+    Ok(())
+}
+
 /// Changes, one after another: `A1 5` puts what the text stands for into a cell, `A1 -` takes its content away.
 fn changes(alloc: Global, text: &str) -> Result<Changes, Fail> {
     let mut changes = Vec::new(alloc);
     for change in text.split(", ") {
-        if let Some((at, text)) = change.split_once(' ') {
-            changes.push((Address::read(at.as_bytes())?, change_to(alloc, text)?))?;
-        }
+        push_change(alloc, change, &mut changes)?;
     }
     Ok(changes)
 }
@@ -42,13 +48,44 @@ fn told(alloc: Global, store: &Store, at: &str) -> Result<String, Fail> {
 /// An edit, what is answered, how many cells are occupied and edits made then, and what stands in some cells.
 type Edit<'a> = (&'a str, Result<(), StoreFault>, (u64, u64), &'a str);
 
-fn expect_cells(rt: &impl Abort, alloc: Global, store: &Store, cells: &str) -> Result<(), Fail> {
-    for cell in cells.split(", ") {
-        if let Some((at, wanted)) = cell.split_once(' ') {
-            assert_eq!(rt; told(alloc, store, at)?.as_str(), wanted, "{at}");
-        }
+fn expect_cell(rt: &impl Abort, alloc: Global, store: &Store, cell: &str) -> Result<(), Fail> {
+    if let Some((at, wanted)) = cell.split_once(' ') {
+        expect_text(rt, at, &told(alloc, store, at)?, wanted);
     }
     Ok(())
+}
+
+fn expect_cells(rt: &impl Abort, alloc: Global, store: &Store, cells: &str) -> Result<(), Fail> {
+    for cell in cells.split(", ") {
+        expect_cell(rt, alloc, store, cell)?;
+    }
+    Ok(())
+}
+
+fn expect_counts(rt: &impl Abort, store: &Store, wanted: (u64, u64)) {
+    assert_eq!(rt; (store.occupied(), store.edits()), wanted);
+}
+
+/// Makes an edit, and gives what is answered.
+fn apply(alloc: Global, store: &mut Store, edit: &str) -> Result<Result<(), StoreFault>, Fail> {
+    Ok(store.apply(changes(alloc, edit)?))
+}
+
+fn expect_edit(
+    rt: &impl Abort,
+    alloc: Global,
+    store: &mut Store,
+    edit: &Edit<'_>,
+) -> Result<(), Fail> {
+    let (edit, wanted, counts, cells) = *edit;
+    let answer = apply(alloc, store, edit)?;
+    assert_eq!(rt; answer, wanted, "{edit}");
+    expect_counts(rt, store, counts);
+    expect_cells(rt, alloc, store, cells)
+}
+
+fn expect_limits(rt: &impl Abort, store: &Store, wanted: Limits) {
+    assert_eq!(rt; store.limits(), wanted);
 }
 
 fn expect_edits(
@@ -58,12 +95,10 @@ fn expect_edits(
     edits: &[Edit<'_>],
 ) -> Result<(), Fail> {
     let mut store = Store::new(alloc, limits);
-    assert_eq!(rt; store.limits(), limits);
-    assert_eq!(rt; (store.occupied(), store.edits()), (0, 0));
-    for (edit, answer, counts, cells) in edits {
-        assert_eq!(rt; store.apply(changes(alloc, edit)?), *answer, "{edit}");
-        assert_eq!(rt; (store.occupied(), store.edits()), *counts, "{edit}");
-        expect_cells(rt, alloc, &store, cells)?;
+    expect_limits(rt, &store, limits);
+    expect_counts(rt, &store, (0, 0));
+    for edit in edits {
+        expect_edit(rt, alloc, &mut store, edit)?;
     }
     Ok(())
 }
@@ -137,25 +172,17 @@ fn with_formulas(alloc: Global) -> Result<Store, Fail> {
 
 /// The formulas of a rectangle, behind a cell that stood there before, a space behind each.
 fn formulas_within(alloc: Global, store: &Store, area: &str) -> Result<String, Fail> {
+    let area = Rect::read(area.as_bytes())?;
     let mut found = Vec::new(alloc);
     found.push(Address::at(8, 8))?;
-    store.push_formulas_within(Rect::read(area.as_bytes())?, &mut found)?;
-    let mut text = String::new(alloc);
-    for at in &found {
-        at.push_text(&mut text)?;
-        text.push(' ')?;
-    }
-    Ok(text)
+    store.push_formulas_within(area, &mut found)?;
+    Ok(addresses(alloc, &found)?)
 }
 
 fn expect_formulas(rt: &impl Abort, alloc: Global, rows: &[(&str, &str)]) -> Result<(), Fail> {
     let store = with_formulas(alloc)?;
     for (area, wanted) in rows {
-        assert_eq!(rt;
-            formulas_within(alloc, &store, area)?.as_str(),
-            *wanted,
-            "{area}"
-        );
+        expect_text(rt, area, &formulas_within(alloc, &store, area)?, wanted);
     }
     Ok(())
 }
@@ -179,18 +206,28 @@ fn formulas_within_rectangles(rt: HostRuntime) -> Result<(), Fail> {
     )
 }
 
+fn formulas_in(alloc: Global, area: Rect) -> Result<String, Fail> {
+    let found = with_formulas(alloc)?.formulas_in(area)?;
+    Ok(addresses(alloc, &found)?)
+}
+
 #[test]
 fn a_list_of_formulas(rt: HostRuntime) -> Result<(), Fail> {
-    let found = with_formulas(rt.alloc())?.formulas_in(Rect::read(b"A1:B2")?)?;
-    let wanted = [Address::at(0, 1), Address::at(1, 0), Address::at(1, 1)];
-    assert_eq!(rt; found.as_slice(), wanted.as_slice());
+    let area = Rect::new(Address::at(0, 0), Address::at(1, 1));
+    let found = formulas_in(rt.alloc(), area)?;
+    expect_text(&rt, "A1:B2", &found, "B1 A2 B2 ");
     Ok(())
+}
+
+fn all_formulas(alloc: Global) -> Result<String, Fail> {
+    let found = with_formulas(alloc)?.formulas()?;
+    Ok(addresses(alloc, &found)?)
 }
 
 #[test]
 fn a_list_of_all_formulas(rt: HostRuntime) -> Result<(), Fail> {
-    let found = with_formulas(rt.alloc())?.formulas()?;
-    assert_eq!(rt; (found.len(), found.last()), (8, Some(&Address::at(3, 0))));
+    let found = all_formulas(rt.alloc())?;
+    expect_text(&rt, "all", &found, "B1 D1 A2 B2 C2 D2 C3 A4 ");
     Ok(())
 }
 
@@ -210,8 +247,7 @@ fn next(alloc: Global, store: &Store, area: &str, from: &str) -> Result<String, 
 fn expect_next(rt: &impl Abort, alloc: Global, rows: &[(&str, &str, &str)]) -> Result<(), Fail> {
     let store = with_formulas(alloc)?;
     for (area, from, wanted) in rows {
-        let found = next(alloc, &store, area, from)?;
-        assert_eq!(rt; found.as_str(), *wanted, "{area} from {from}");
+        expect_text(rt, from, &next(alloc, &store, area, from)?, wanted);
     }
     Ok(())
 }
@@ -246,15 +282,29 @@ fn many(alloc: Global, count: u32) -> Result<Changes, Fail> {
     Ok(changes)
 }
 
+/// Fills so many rows of a store, and gives what is answered.
+fn fill(alloc: Global, store: &mut Store, count: u32) -> Result<Result<(), StoreFault>, Fail> {
+    Ok(store.apply(many(alloc, count)?))
+}
+
+/// Fills so many rows of a store: this is answered, and then 200,000 cells are occupied after one edit.
+fn expect_filled(
+    rt: &impl Abort,
+    alloc: Global,
+    store: &mut Store,
+    count: u32,
+    wanted: Result<(), StoreFault>,
+) -> Result<(), Fail> {
+    let answer = fill(alloc, store, count)?;
+    assert_eq!(rt; answer, wanted);
+    expect_counts(rt, store, (200_000, 1));
+    Ok(())
+}
+
 #[test]
 fn an_edit_of_many_cells(rt: HostRuntime) -> Result<(), Fail> {
     let mut store = Store::new(rt.alloc(), Limits::standard());
-    store.apply(many(rt.alloc(), 200_000)?)?;
-    assert_eq!(rt; (store.occupied(), store.edits()), (200_000, 1));
-    assert_eq!(rt;
-        store.apply(many(rt.alloc(), 200_001)?),
-        Err(StoreFault::Full)
-    );
-    assert_eq!(rt; (store.occupied(), store.edits()), (200_000, 1));
-    Ok(())
+    expect_filled(&rt, rt.alloc(), &mut store, 200_000, Ok(()))?;
+    let refused = Err(StoreFault::Full);
+    expect_filled(&rt, rt.alloc(), &mut store, 200_001, refused)
 }

@@ -1,6 +1,8 @@
-//! Values and replacements as texts.
+//! Values and replacements as texts, and the one comparison of texts. A function that compares has as many ways out as it has
+//! comparisons, and each is a branch over all it holds: so what is compared is told by one function, and compared by another.
 
 use std::alloc::{AllocError, Global};
+use std::process::Abort;
 use std::test::Fail;
 use wi_parser::Content;
 use wi_values::{Address, Replacement, Value};
@@ -42,4 +44,25 @@ pub fn told(alloc: Global, value: &Value) -> Result<String, AllocError> {
     let mut text = String::new(alloc);
     push_told(value, &mut text)?;
     Ok(text)
+}
+
+/// Appends addresses, a space behind each.
+fn push_addresses(addresses: &[Address], text: &mut String) -> Result<(), AllocError> {
+    for at in addresses {
+        at.push_text(text)?;
+        text.push(' ')?;
+    }
+    Ok(())
+}
+
+/// Addresses, a space behind each.
+pub fn addresses(alloc: Global, addresses: &[Address]) -> Result<String, AllocError> {
+    let mut text = String::new(alloc);
+    push_addresses(addresses, &mut text)?;
+    Ok(text)
+}
+
+/// Of something a text is told, and this is wanted.
+pub fn expect_text(rt: &impl Abort, of: &str, told: &str, wanted: &str) {
+    assert_eq!(rt; told, wanted, "{of}");
 }

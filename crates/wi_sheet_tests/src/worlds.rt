@@ -4,7 +4,7 @@ ghost use Rattle.std.specs.Prelude.{All, IsSome, IsTrue};
 ghost use Rattle.std.specs.BTreeMap.{get};
 ghost use Rattle.std.specs.Ordering.{nat_cmp};
 
-use crate::texts::{push_told, replacement};
+use crate::texts::{expect_text, push_told, replacement};
 use std::alloc::{AllocError, Global};
 use std::collections::{BTreeMap, BTreeSet, HashMap};
 use std::process::Abort;
@@ -45,13 +45,22 @@ fn told(alloc: Global, world: &World) -> Result<String, AllocError> {
     Ok(text)
 }
 
+/// The world after these changes, one after another.
+fn after(alloc: Global, texts: &[Texts<'_>]) -> Result<World, Fail> {
+    let mut world = World::new(alloc);
+    for others in texts {
+        world = with(alloc, &world, others)?;
+    }
+    Ok(world)
+}
+
+fn told_after(alloc: Global, texts: &[Texts<'_>]) -> Result<String, Fail> {
+    Ok(told(alloc, &after(alloc, texts)?)?)
+}
+
 fn expect(rt: &impl Abort, alloc: Global, rows: &[(&[Texts<'_>], &str)]) -> Result<(), Fail> {
     for (texts, wanted) in rows {
-        let mut world = World::new(alloc);
-        for others in *texts {
-            world = with(alloc, &world, others)?;
-        }
-        assert_eq!(rt; told(alloc, &world)?.as_str(), *wanted);
+        expect_text(rt, "world", &told_after(alloc, texts)?, wanted);
     }
     Ok(())
 }
@@ -87,7 +96,7 @@ fn expect_replaced(
 ) -> Result<(), Fail> {
     let world = with(alloc, &World::new(alloc), texts)?;
     for (at, wanted) in rows {
-        assert_eq!(rt; replaced(alloc, &world, at)?.as_str(), *wanted, "{at}");
+        expect_text(rt, at, &replaced(alloc, &world, at)?, wanted);
     }
     Ok(())
 }
@@ -135,15 +144,34 @@ fn all_have_cones(world: &World, cones: &BTreeMap<Address, BTreeSet<Address>>) -
     true
 }
 
+type Cones = BTreeMap<Address, BTreeSet<Address>>;
+
+/// The replacements of a world whose cone has a cell.
+fn reaching(alloc: Global, world: &World, cones: &Cones, at: &str) -> Result<String, Fail>
+    requires { All (λ r. IsSome (get nat_cmp cones.now r.at)) world.now }
+{
+    let found = world.reaching(Address::read(at.as_bytes())?, cones)?;
+    Ok(told(alloc, &found)?)
+}
+
+fn expect_each(
+    rt: &impl Abort,
+    alloc: Global,
+    world: &World,
+    cones: &Cones,
+    rows: &[(&str, &str)],
+) -> Result<(), Fail> {
+    assert!(rt; all_have_cones(world, cones));
+    for (at, wanted) in rows {
+        expect_text(rt, at, &reaching(alloc, world, cones, at)?, wanted);
+    }
+    Ok(())
+}
+
 fn expect_reaching(rt: &impl Abort, alloc: Global, rows: &[(&str, &str)]) -> Result<(), Fail> {
     let world = old(alloc)?;
     let cones = cones(alloc)?;
-    assert!(rt; all_have_cones(&world, &cones));
-    for (at, wanted) in rows {
-        let found = world.reaching(Address::read(at.as_bytes())?, &cones)?;
-        assert_eq!(rt; told(alloc, &found)?.as_str(), *wanted, "{at}");
-    }
-    Ok(())
+    expect_each(rt, alloc, &world, &cones, rows)
 }
 
 #[test]
@@ -161,17 +189,51 @@ fn cones_that_have_a_cell(rt: HostRuntime) -> Result<(), Fail> {
     )
 }
 
+type Numbers = HashMap<World, u32>;
+
+/// Keeps a number for the old world, changed by the newer texts so many times.
+fn keep_newer(alloc: Global, times: u32, kept: &mut Numbers) -> Result<(), Fail> {
+    let mut world = old(alloc)?;
+    for _ in 0..times {
+        world = with(alloc, &world, &NEWER)?;
+    }
+    kept.insert(world, times)?;
+    Ok(())
+}
+
+/// The numbers that are kept for the old world changed once and changed twice.
+fn numbers(alloc: Global) -> Result<Numbers, Fail> {
+    let mut kept = HashMap::new(alloc);
+    keep_newer(alloc, 1, &mut kept)?;
+    keep_newer(alloc, 2, &mut kept)?;
+    Ok(kept)
+}
+
+/// How many numbers are kept, and those for two worlds.
+fn looked_up(kept: &Numbers, newer: &World, old: &World) -> (usize, Option<u32>, Option<u32>) {
+    (kept.len(), kept.get(newer).copied(), kept.get(old).copied())
+}
+
 #[test]
 fn equal_worlds_are_one_key(rt: HostRuntime) -> Result<(), Fail> {
+    let kept = numbers(rt.alloc())?;
     let old = old(rt.alloc())?;
-    let newer_once = with(rt.alloc(), &old, &NEWER)?;
-    let newer_twice = with(rt.alloc(), &newer_once, &NEWER)?;
-    assert!(rt; newer_once == newer_twice && newer_once != old);
-    let mut kept = HashMap::new(rt.alloc());
-    kept.insert(newer_once, 1)?;
-    kept.insert(newer_twice, 2)?;
-    assert_eq!(rt; kept.len(), 1);
-    assert_eq!(rt; kept.get(&with(rt.alloc(), &old, &NEWER)?), Some(&2));
-    assert_eq!(rt; kept.get(&old), None);
+    let newer = with(rt.alloc(), &old, &NEWER)?;
+    assert_eq!(rt; looked_up(&kept, &newer, &old), (1, Some(2), None));
+    Ok(())
+}
+
+/// Whether the old world changed twice is the old world changed once, and another than the old one.
+fn is_one_when_newer(alloc: Global, old: &World) -> Result<bool, Fail> {
+    let newer_once = with(alloc, old, &NEWER)?;
+    let newer_twice = with(alloc, &newer_once, &NEWER)?;
+    Ok(newer_once == newer_twice && newer_once != *old)
+}
+
+#[test]
+fn a_change_made_again_changes_nothing(rt: HostRuntime) -> Result<(), Fail> {
+    let old = old(rt.alloc())?;
+    let is_one = is_one_when_newer(rt.alloc(), &old)?;
+    assert!(rt; is_one);
     Ok(())
 }

@@ -1,8 +1,10 @@
-use Rattle.std.proofs.Common.{◌≤◌, ◌+◌, ◌∙◌, ap, refl, inl, arith, rules}
+use Rattle.std.proofs.Common.{◌≤◌, ◌+◌, ◌∙◌, ap, refl, inl, arith, rules, subst, sym}
+use Rattle.wi_engine.proofs.engine.Settling.{one_more_at_most}
+use Rattle.wi_sheet.proofs.Counting.{never_fall-then}
 use Rattle.wi_engine.specs.Inner.Frames.{case_at, spare}
-use Rattle.wi_engine.specs.Inner.MemoState.{MemoState}
-use Rattle.wi_engine.proofs.engine.Running.{IsNew, Keeps, run_start, run_push, push_smaller, run_pop, pop_smaller}
-use Rattle.wi_engine.proofs.engine.Saving.{Takes, saving_start, saving_push, saving_pop, saving_end, settled_end, takes_more, push_takes}
+use Rattle.wi_engine.specs.Inner.MemoState.{MemoState, IsMemoOf}
+use Rattle.wi_engine.proofs.engine.Running.{IsNew, Keeps, run_start, run_push, push_smaller, run_pop, pop_smaller, run_evaluations, run_restarts, end_evaluations, end_restarts, run_keeps}
+use Rattle.wi_engine.proofs.engine.Saving.{Takes, saving_start, saving_push, saving_pop, saving_end, settled_end, takes_more, push_takes, saving_counts, saving_restarts}
 use Rattle.wi_engine.proofs.Saved.{gives_up_none, gives_up_then}
 use Rattle.wi_engine.proofs.engine.run.Goals as goal
 
@@ -133,3 +135,308 @@ returns-in-None-clause-settled g c =
     let takes : Takes (g.M.Memo.state c.advance.new.memo) (g.M.Memo.state c.keep.new.self) c.into_key.result = record { kept = k.kept; room = k.room } in
     settled_end c.args.store.now.sheet (g.M.Memo.state c.args.memo.now) (g.M.Memo.state c.frames.memo) (g.M.Memo.state c.advance.new.memo) (g.M.Memo.state c.keep.new.self) c.args.key c.args.meter.now c.frames.meter
     c.frames.stack.items c.frames.frame c.into_key.result c.frames.invariant a.same (search rules) (c.into_key.ensures ∙ a.key) k.found takes
+
+pub returns-in_err-push-in-Needs-clause-evaluations : goal.returns-in_err-push-in-Needs-clause-evaluations
+returns-in_err-push-in-Needs-clause-evaluations g c =
+    let counted = rw c.in-Needs.is at c.in_ok-next.ensures.evaluations in
+    run_evaluations c.args.store.now.sheet (g.M.Memo.state c.args.memo.now) (g.M.Memo.state c.frames.memo) (case_at c.args.key) c.args.meter.now c.frames.meter c.advance.new.meter c.frames.stack.items c.frames.frame c.frames.invariant.running (omega (arith, counted))
+
+pub returns-in_err-push-in-Needs-clause-restarts : goal.returns-in_err-push-in-Needs-clause-restarts
+returns-in_err-push-in-Needs-clause-restarts g c =
+    let restarts : c.advance.new.meter.restarts ≤ c.frames.meter.restarts + spare c.args.store.now.sheet c.frames.frame = omega (arith, c.in_ok-next.ensures.restarts) in
+    run_restarts c.args.store.now.sheet (g.M.Memo.state c.args.memo.now) (g.M.Memo.state c.frames.memo) (case_at c.args.key) c.args.meter.now c.frames.meter c.advance.new.meter c.frames.stack.items c.frames.frame c.frames.invariant.running restarts
+
+pub returns-in_err-push-in-Needs-clause-unkept_evaluations : goal.returns-in_err-push-in-Needs-clause-unkept_evaluations
+returns-in_err-push-in-Needs-clause-unkept_evaluations g c =
+    let counted = rw c.in-Needs.is at c.in_ok-next.ensures.evaluations in
+    saving_counts c.args.store.now.sheet (g.M.Memo.state c.args.memo.now) (g.M.Memo.state c.frames.memo) (case_at c.args.key) c.args.meter.now c.frames.meter c.advance.new.meter c.frames.stack.items c.frames.frame c.frames.invariant (omega (arith, counted))
+
+pub returns-in_err-push-in-Needs-clause-unkept_restarts : goal.returns-in_err-push-in-Needs-clause-unkept_restarts
+returns-in_err-push-in-Needs-clause-unkept_restarts g c =
+    let restarts : c.advance.new.meter.restarts ≤ c.frames.meter.restarts + spare c.args.store.now.sheet c.frames.frame = omega (arith, c.in_ok-next.ensures.restarts) in
+    saving_restarts c.args.store.now.sheet (g.M.Memo.state c.args.memo.now) (g.M.Memo.state c.frames.memo) (case_at c.args.key) c.args.meter.now c.frames.meter c.advance.new.meter c.frames.stack.items c.frames.frame c.frames.invariant restarts
+
+pub returns-in_err-keep-in-Some-clause-evaluations : goal.returns-in_err-keep-in-Some-clause-evaluations
+returns-in_err-keep-in-Some-clause-evaluations g c =
+    let counted = rw c.in-Done.is at c.in_ok-next.ensures.evaluations in
+    run_evaluations c.args.store.now.sheet (g.M.Memo.state c.args.memo.now) (g.M.Memo.state c.frames.memo) (case_at c.args.key) c.args.meter.now c.frames.meter c.advance.new.meter c.frames.stack.items c.frames.frame c.frames.invariant.running (one_more_at_most c.frames.meter.evaluations c.advance.new.meter.evaluations counted)
+
+pub returns-in_err-keep-in-Some-clause-restarts : goal.returns-in_err-keep-in-Some-clause-restarts
+returns-in_err-keep-in-Some-clause-restarts g c =
+    let restarts : c.advance.new.meter.restarts ≤ c.frames.meter.restarts + spare c.args.store.now.sheet c.frames.frame = omega (arith, c.in_ok-next.ensures.restarts) in
+    run_restarts c.args.store.now.sheet (g.M.Memo.state c.args.memo.now) (g.M.Memo.state c.frames.memo) (case_at c.args.key) c.args.meter.now c.frames.meter c.advance.new.meter c.frames.stack.items c.frames.frame c.frames.invariant.running restarts
+
+pub returns-in_err-keep-in-Some-clause-unkept_evaluations : goal.returns-in_err-keep-in-Some-clause-unkept_evaluations
+returns-in_err-keep-in-Some-clause-unkept_evaluations g c =
+    let counted = rw c.in-Done.is at c.in_ok-next.ensures.evaluations in
+    saving_counts c.args.store.now.sheet (g.M.Memo.state c.args.memo.now) (g.M.Memo.state c.frames.memo) (case_at c.args.key) c.args.meter.now c.frames.meter c.advance.new.meter c.frames.stack.items c.frames.frame c.frames.invariant (one_more_at_most c.frames.meter.evaluations c.advance.new.meter.evaluations counted)
+
+pub returns-in_err-keep-in-Some-clause-unkept_restarts : goal.returns-in_err-keep-in-Some-clause-unkept_restarts
+returns-in_err-keep-in-Some-clause-unkept_restarts g c =
+    let restarts : c.advance.new.meter.restarts ≤ c.frames.meter.restarts + spare c.args.store.now.sheet c.frames.frame = omega (arith, c.in_ok-next.ensures.restarts) in
+    saving_restarts c.args.store.now.sheet (g.M.Memo.state c.args.memo.now) (g.M.Memo.state c.frames.memo) (case_at c.args.key) c.args.meter.now c.frames.meter c.advance.new.meter c.frames.stack.items c.frames.frame c.frames.invariant restarts
+
+pub returns-in_err-keep-in-None-clause-evaluations : goal.returns-in_err-keep-in-None-clause-evaluations
+returns-in_err-keep-in-None-clause-evaluations g c =
+    let counted = rw c.in-Done.is at c.in_ok-next.ensures.evaluations in
+    run_evaluations c.args.store.now.sheet (g.M.Memo.state c.args.memo.now) (g.M.Memo.state c.frames.memo) (case_at c.args.key) c.args.meter.now c.frames.meter c.advance.new.meter c.frames.stack.items c.frames.frame c.frames.invariant.running (one_more_at_most c.frames.meter.evaluations c.advance.new.meter.evaluations counted)
+
+pub returns-in_err-keep-in-None-clause-restarts : goal.returns-in_err-keep-in-None-clause-restarts
+returns-in_err-keep-in-None-clause-restarts g c =
+    let restarts : c.advance.new.meter.restarts ≤ c.frames.meter.restarts + spare c.args.store.now.sheet c.frames.frame = omega (arith, c.in_ok-next.ensures.restarts) in
+    run_restarts c.args.store.now.sheet (g.M.Memo.state c.args.memo.now) (g.M.Memo.state c.frames.memo) (case_at c.args.key) c.args.meter.now c.frames.meter c.advance.new.meter c.frames.stack.items c.frames.frame c.frames.invariant.running restarts
+
+pub returns-in_err-keep-in-None-clause-unkept_evaluations : goal.returns-in_err-keep-in-None-clause-unkept_evaluations
+returns-in_err-keep-in-None-clause-unkept_evaluations g c =
+    let counted = rw c.in-Done.is at c.in_ok-next.ensures.evaluations in
+    saving_counts c.args.store.now.sheet (g.M.Memo.state c.args.memo.now) (g.M.Memo.state c.frames.memo) (case_at c.args.key) c.args.meter.now c.frames.meter c.advance.new.meter c.frames.stack.items c.frames.frame c.frames.invariant (one_more_at_most c.frames.meter.evaluations c.advance.new.meter.evaluations counted)
+
+pub returns-in_err-keep-in-None-clause-unkept_restarts : goal.returns-in_err-keep-in-None-clause-unkept_restarts
+returns-in_err-keep-in-None-clause-unkept_restarts g c =
+    let restarts : c.advance.new.meter.restarts ≤ c.frames.meter.restarts + spare c.args.store.now.sheet c.frames.frame = omega (arith, c.in_ok-next.ensures.restarts) in
+    saving_restarts c.args.store.now.sheet (g.M.Memo.state c.args.memo.now) (g.M.Memo.state c.frames.memo) (case_at c.args.key) c.args.meter.now c.frames.meter c.advance.new.meter c.frames.stack.items c.frames.frame c.frames.invariant restarts
+
+pub returns-in-None-clause-evaluations : goal.returns-in-None-clause-evaluations
+returns-in-None-clause-evaluations g c =
+    let counted = rw c.in-Done.is at c.in_ok-next.ensures.evaluations in
+    run_evaluations c.args.store.now.sheet (g.M.Memo.state c.args.memo.now) (g.M.Memo.state c.frames.memo) (case_at c.args.key) c.args.meter.now c.frames.meter c.advance.new.meter c.frames.stack.items c.frames.frame c.frames.invariant.running (one_more_at_most c.frames.meter.evaluations c.advance.new.meter.evaluations counted)
+
+pub returns-in-None-clause-restarts : goal.returns-in-None-clause-restarts
+returns-in-None-clause-restarts g c =
+    let restarts : c.advance.new.meter.restarts ≤ c.frames.meter.restarts + spare c.args.store.now.sheet c.frames.frame = omega (arith, c.in_ok-next.ensures.restarts) in
+    run_restarts c.args.store.now.sheet (g.M.Memo.state c.args.memo.now) (g.M.Memo.state c.frames.memo) (case_at c.args.key) c.args.meter.now c.frames.meter c.advance.new.meter c.frames.stack.items c.frames.frame c.frames.invariant.running restarts
+
+pub returns-in-None-clause-unkept_evaluations : goal.returns-in-None-clause-unkept_evaluations
+returns-in-None-clause-unkept_evaluations g c =
+    let counted = rw c.in-Done.is at c.in_ok-next.ensures.evaluations in
+    saving_counts c.args.store.now.sheet (g.M.Memo.state c.args.memo.now) (g.M.Memo.state c.frames.memo) (case_at c.args.key) c.args.meter.now c.frames.meter c.advance.new.meter c.frames.stack.items c.frames.frame c.frames.invariant (one_more_at_most c.frames.meter.evaluations c.advance.new.meter.evaluations counted)
+
+pub returns-in-None-clause-unkept_restarts : goal.returns-in-None-clause-unkept_restarts
+returns-in-None-clause-unkept_restarts g c =
+    let restarts : c.advance.new.meter.restarts ≤ c.frames.meter.restarts + spare c.args.store.now.sheet c.frames.frame = omega (arith, c.in_ok-next.ensures.restarts) in
+    saving_restarts c.args.store.now.sheet (g.M.Memo.state c.args.memo.now) (g.M.Memo.state c.frames.memo) (case_at c.args.key) c.args.meter.now c.frames.meter c.advance.new.meter c.frames.stack.items c.frames.frame c.frames.invariant restarts
+
+pub returns-in-None-clause-evaluations_ok : goal.returns-in-None-clause-evaluations_ok
+returns-in-None-clause-evaluations_ok g c =
+    let counted = rw c.in-Done.is at c.in_ok-next.ensures.evaluations in
+    end_evaluations c.args.store.now.sheet (g.M.Memo.state c.args.memo.now) (g.M.Memo.state c.frames.memo) (g.M.Memo.state c.advance.new.memo) (g.M.Memo.state c.keep.new.self) (case_at c.args.key) c.args.meter.now c.frames.meter c.advance.new.meter c.frames.stack.items c.frames.frame c.into_key.result c.frames.invariant.running c.in_ok-next.ensures.same (search rules) (c.into_key.ensures ∙ c.in_ok-next.ensures.key) c.in_ok-keep-in-None.ensures.found counted
+
+pub returns-in-None-clause-restarts_ok : goal.returns-in-None-clause-restarts_ok
+returns-in-None-clause-restarts_ok g c =
+    let restarts : c.advance.new.meter.restarts ≤ c.frames.meter.restarts + spare c.args.store.now.sheet c.frames.frame = omega (arith, c.in_ok-next.ensures.restarts) in
+    end_restarts c.args.store.now.sheet (g.M.Memo.state c.args.memo.now) (g.M.Memo.state c.frames.memo) (g.M.Memo.state c.advance.new.memo) (g.M.Memo.state c.keep.new.self) (case_at c.args.key) c.args.meter.now c.frames.meter c.advance.new.meter c.frames.stack.items c.frames.frame c.into_key.result c.frames.invariant.running c.in_ok-next.ensures.same (search rules) (c.into_key.ensures ∙ c.in_ok-next.ensures.key) c.in_ok-keep-in-None.ensures.found restarts
+
+pub returns-in_err-shown-in-None-clause-evaluations : goal.returns-in_err-shown-in-None-clause-evaluations
+returns-in_err-shown-in-None-clause-evaluations g c =
+    let counted = rw c.in-Done.is at c.in_ok-next.ensures.evaluations in
+    run_evaluations c.args.store.now.sheet (g.M.Memo.state c.args.memo.now) (g.M.Memo.state c.frames.memo) (case_at c.args.key) c.args.meter.now c.frames.meter c.advance.new.meter c.frames.stack.items c.frames.frame c.frames.invariant.running (one_more_at_most c.frames.meter.evaluations c.advance.new.meter.evaluations counted)
+
+pub returns-in_err-shown-in-None-clause-restarts : goal.returns-in_err-shown-in-None-clause-restarts
+returns-in_err-shown-in-None-clause-restarts g c =
+    let restarts : c.advance.new.meter.restarts ≤ c.frames.meter.restarts + spare c.args.store.now.sheet c.frames.frame = omega (arith, c.in_ok-next.ensures.restarts) in
+    run_restarts c.args.store.now.sheet (g.M.Memo.state c.args.memo.now) (g.M.Memo.state c.frames.memo) (case_at c.args.key) c.args.meter.now c.frames.meter c.advance.new.meter c.frames.stack.items c.frames.frame c.frames.invariant.running restarts
+
+pub returns-in_err-shown-in-None-clause-unkept_evaluations : goal.returns-in_err-shown-in-None-clause-unkept_evaluations
+returns-in_err-shown-in-None-clause-unkept_evaluations g c =
+    let counted = rw c.in-Done.is at c.in_ok-next.ensures.evaluations in
+    saving_counts c.args.store.now.sheet (g.M.Memo.state c.args.memo.now) (g.M.Memo.state c.frames.memo) (case_at c.args.key) c.args.meter.now c.frames.meter c.advance.new.meter c.frames.stack.items c.frames.frame c.frames.invariant (one_more_at_most c.frames.meter.evaluations c.advance.new.meter.evaluations counted)
+
+pub returns-in_err-shown-in-None-clause-unkept_restarts : goal.returns-in_err-shown-in-None-clause-unkept_restarts
+returns-in_err-shown-in-None-clause-unkept_restarts g c =
+    let restarts : c.advance.new.meter.restarts ≤ c.frames.meter.restarts + spare c.args.store.now.sheet c.frames.frame = omega (arith, c.in_ok-next.ensures.restarts) in
+    saving_restarts c.args.store.now.sheet (g.M.Memo.state c.args.memo.now) (g.M.Memo.state c.frames.memo) (case_at c.args.key) c.args.meter.now c.frames.meter c.advance.new.meter c.frames.stack.items c.frames.frame c.frames.invariant restarts
+
+pub returns-in_err-next-clause-evaluations : goal.returns-in_err-next-clause-evaluations
+returns-in_err-next-clause-evaluations g c =
+    let within : c.advance.new.meter.evaluations ≤ c.frames.meter.evaluations + 1 = omega (arith, c.in_err-next.ensures.err_evaluations) in
+    run_evaluations c.args.store.now.sheet (g.M.Memo.state c.args.memo.now) (g.M.Memo.state c.frames.memo) (case_at c.args.key) c.args.meter.now c.frames.meter c.advance.new.meter c.frames.stack.items c.frames.frame c.frames.invariant.running within
+
+pub returns-in_err-next-clause-restarts : goal.returns-in_err-next-clause-restarts
+returns-in_err-next-clause-restarts g c =
+    run_restarts c.args.store.now.sheet (g.M.Memo.state c.args.memo.now) (g.M.Memo.state c.frames.memo) (case_at c.args.key) c.args.meter.now c.frames.meter c.advance.new.meter c.frames.stack.items c.frames.frame c.frames.invariant.running c.in_err-next.ensures.err_restarts
+
+pub returns-in_err-next-clause-unkept_evaluations : goal.returns-in_err-next-clause-unkept_evaluations
+returns-in_err-next-clause-unkept_evaluations g c =
+    let within : c.advance.new.meter.evaluations ≤ c.frames.meter.evaluations + 1 = omega (arith, c.in_err-next.ensures.err_evaluations) in
+    saving_counts c.args.store.now.sheet (g.M.Memo.state c.args.memo.now) (g.M.Memo.state c.frames.memo) (case_at c.args.key) c.args.meter.now c.frames.meter c.advance.new.meter c.frames.stack.items c.frames.frame c.frames.invariant within
+
+pub returns-in_err-next-clause-unkept_restarts : goal.returns-in_err-next-clause-unkept_restarts
+returns-in_err-next-clause-unkept_restarts g c =
+    saving_restarts c.args.store.now.sheet (g.M.Memo.state c.args.memo.now) (g.M.Memo.state c.frames.memo) (case_at c.args.key) c.args.meter.now c.frames.meter c.advance.new.meter c.frames.stack.items c.frames.frame c.frames.invariant c.in_err-next.ensures.err_restarts
+
+pub returns-in_err-push-in-Needs-clause-counts : goal.returns-in_err-push-in-Needs-clause-counts
+returns-in_err-push-in-Needs-clause-counts g c =
+    never_fall-then c.args.meter.now c.frames.meter c.advance.new.meter c.frames.invariant.running.counts c.advance.ensures.counts
+
+pub returns-in_err-push-in-Needs-clause-memo : goal.returns-in_err-push-in-Needs-clause-memo
+returns-in_err-push-in-Needs-clause-memo g c =
+    subst (λ (x : MemoState). IsMemoOf c.args.store.now.sheet x) (sym c.advance.ensures.same) c.frames.invariant.running.memo
+
+pub returns-in_err-push-in-Needs-clause-same_cells : goal.returns-in_err-push-in-Needs-clause-same_cells
+returns-in_err-push-in-Needs-clause-same_cells g c =
+    ap (λ (x : MemoState). x.covers) c.advance.ensures.same ∙ c.frames.invariant.running.covers
+
+pub returns-in_err-push-in-Needs-clause-same_generation : goal.returns-in_err-push-in-Needs-clause-same_generation
+returns-in_err-push-in-Needs-clause-same_generation g c =
+    ap (λ (x : MemoState). x.generation) c.advance.ensures.same ∙ c.frames.invariant.running.generation
+
+pub returns-in_err-push-in-Needs-clause-same_capacity : goal.returns-in_err-push-in-Needs-clause-same_capacity
+returns-in_err-push-in-Needs-clause-same_capacity g c =
+    ap (λ (x : MemoState). x.capacity) c.advance.ensures.same ∙ c.frames.invariant.capacity
+
+pub returns-in_err-push-in-Needs-clause-same_latest : goal.returns-in_err-push-in-Needs-clause-same_latest
+returns-in_err-push-in-Needs-clause-same_latest g c =
+    ap (λ (x : MemoState). x.latest) c.advance.ensures.same ∙ c.frames.invariant.latest
+
+pub returns-in_err-push-in-Needs-clause-gives_up : goal.returns-in_err-push-in-Needs-clause-gives_up
+returns-in_err-push-in-Needs-clause-gives_up g c =
+    gives_up_then (g.M.Memo.state c.args.memo.now) (g.M.Memo.state c.frames.memo) (g.M.Memo.state c.advance.new.memo) c.frames.invariant.gives_up (gives_up_none (g.M.Memo.state c.frames.memo) (g.M.Memo.state c.advance.new.memo) c.advance.ensures.same)
+
+pub returns-in_err-keep-in-Some-clause-counts : goal.returns-in_err-keep-in-Some-clause-counts
+returns-in_err-keep-in-Some-clause-counts g c =
+    never_fall-then c.args.meter.now c.frames.meter c.advance.new.meter c.frames.invariant.running.counts c.advance.ensures.counts
+
+pub returns-in_err-keep-in-Some-clause-memo : goal.returns-in_err-keep-in-Some-clause-memo
+returns-in_err-keep-in-Some-clause-memo g c =
+    let value = rw c.in-Done.is at c.in_ok-next.ensures.done in
+    let there = subst (λ (x : MemoState). IsMemoOf c.args.store.now.sheet x) (sym c.advance.ensures.same) c.frames.invariant.running.memo in
+    let keeps : Keeps (g.M.Memo.state c.advance.new.memo) (g.M.Memo.state c.keep-in-Some.new.self) c.into_key-in-Some.result c.in-Done.value = record { sheet = c.keep-in-Some.ensures.same_sheet; covers = c.keep-in-Some.ensures.same_cells; generation = c.keep-in-Some.ensures.same_generation; known = c.keep-in-Some.ensures.known; told = c.keep-in-Some.ensures.told } in
+    run_keeps c.args.store.now.sheet (g.M.Memo.state c.advance.new.memo) (g.M.Memo.state c.keep-in-Some.new.self) c.into_key-in-Some.result c.frames.frame.key c.in-Done.value there keeps (c.into_key-in-Some.ensures ∙ c.in_ok-next.ensures.key) value
+
+pub returns-in_err-keep-in-Some-clause-same_cells : goal.returns-in_err-keep-in-Some-clause-same_cells
+returns-in_err-keep-in-Some-clause-same_cells g c =
+    c.keep-in-Some.ensures.same_cells ∙ ap (λ (x : MemoState). x.covers) c.advance.ensures.same ∙ c.frames.invariant.running.covers
+
+pub returns-in_err-keep-in-Some-clause-same_generation : goal.returns-in_err-keep-in-Some-clause-same_generation
+returns-in_err-keep-in-Some-clause-same_generation g c =
+    c.keep-in-Some.ensures.same_generation ∙ ap (λ (x : MemoState). x.generation) c.advance.ensures.same ∙ c.frames.invariant.running.generation
+
+pub returns-in_err-keep-in-Some-clause-same_capacity : goal.returns-in_err-keep-in-Some-clause-same_capacity
+returns-in_err-keep-in-Some-clause-same_capacity g c =
+    c.keep-in-Some.ensures.same_capacity ∙ ap (λ (x : MemoState). x.capacity) c.advance.ensures.same ∙ c.frames.invariant.capacity
+
+pub returns-in_err-keep-in-Some-clause-same_latest : goal.returns-in_err-keep-in-Some-clause-same_latest
+returns-in_err-keep-in-Some-clause-same_latest g c =
+    c.keep-in-Some.ensures.same_latest ∙ ap (λ (x : MemoState). x.latest) c.advance.ensures.same ∙ c.frames.invariant.latest
+
+pub returns-in_err-keep-in-Some-clause-gives_up : goal.returns-in_err-keep-in-Some-clause-gives_up
+returns-in_err-keep-in-Some-clause-gives_up g c =
+    gives_up_then (g.M.Memo.state c.args.memo.now) (g.M.Memo.state c.frames.memo) (g.M.Memo.state c.keep-in-Some.new.self) c.frames.invariant.gives_up (rw (← c.advance.ensures.same) c.keep-in-Some.ensures.gives_up)
+
+pub returns-in_err-keep-in-None-clause-counts : goal.returns-in_err-keep-in-None-clause-counts
+returns-in_err-keep-in-None-clause-counts g c =
+    never_fall-then c.args.meter.now c.frames.meter c.advance.new.meter c.frames.invariant.running.counts c.advance.ensures.counts
+
+pub returns-in_err-keep-in-None-clause-memo : goal.returns-in_err-keep-in-None-clause-memo
+returns-in_err-keep-in-None-clause-memo g c =
+    let value = rw c.in-Done.is at c.in_ok-next.ensures.done in
+    let there = subst (λ (x : MemoState). IsMemoOf c.args.store.now.sheet x) (sym c.advance.ensures.same) c.frames.invariant.running.memo in
+    let keeps : Keeps (g.M.Memo.state c.advance.new.memo) (g.M.Memo.state c.keep.new.self) c.into_key.result c.in-Done.value = record { sheet = c.keep.ensures.same_sheet; covers = c.keep.ensures.same_cells; generation = c.keep.ensures.same_generation; known = c.keep.ensures.known; told = c.keep.ensures.told } in
+    run_keeps c.args.store.now.sheet (g.M.Memo.state c.advance.new.memo) (g.M.Memo.state c.keep.new.self) c.into_key.result c.frames.frame.key c.in-Done.value there keeps (c.into_key.ensures ∙ c.in_ok-next.ensures.key) value
+
+pub returns-in_err-keep-in-None-clause-same_cells : goal.returns-in_err-keep-in-None-clause-same_cells
+returns-in_err-keep-in-None-clause-same_cells g c =
+    c.keep.ensures.same_cells ∙ ap (λ (x : MemoState). x.covers) c.advance.ensures.same ∙ c.frames.invariant.running.covers
+
+pub returns-in_err-keep-in-None-clause-same_generation : goal.returns-in_err-keep-in-None-clause-same_generation
+returns-in_err-keep-in-None-clause-same_generation g c =
+    c.keep.ensures.same_generation ∙ ap (λ (x : MemoState). x.generation) c.advance.ensures.same ∙ c.frames.invariant.running.generation
+
+pub returns-in_err-keep-in-None-clause-same_capacity : goal.returns-in_err-keep-in-None-clause-same_capacity
+returns-in_err-keep-in-None-clause-same_capacity g c =
+    c.keep.ensures.same_capacity ∙ ap (λ (x : MemoState). x.capacity) c.advance.ensures.same ∙ c.frames.invariant.capacity
+
+pub returns-in_err-keep-in-None-clause-same_latest : goal.returns-in_err-keep-in-None-clause-same_latest
+returns-in_err-keep-in-None-clause-same_latest g c =
+    c.keep.ensures.same_latest ∙ ap (λ (x : MemoState). x.latest) c.advance.ensures.same ∙ c.frames.invariant.latest
+
+pub returns-in_err-keep-in-None-clause-gives_up : goal.returns-in_err-keep-in-None-clause-gives_up
+returns-in_err-keep-in-None-clause-gives_up g c =
+    gives_up_then (g.M.Memo.state c.args.memo.now) (g.M.Memo.state c.frames.memo) (g.M.Memo.state c.keep.new.self) c.frames.invariant.gives_up (rw (← c.advance.ensures.same) c.keep.ensures.gives_up)
+
+pub returns-in-None-clause-counts : goal.returns-in-None-clause-counts
+returns-in-None-clause-counts g c =
+    never_fall-then c.args.meter.now c.frames.meter c.advance.new.meter c.frames.invariant.running.counts c.advance.ensures.counts
+
+pub returns-in-None-clause-memo : goal.returns-in-None-clause-memo
+returns-in-None-clause-memo g c =
+    let value = rw c.in-Done.is at c.in_ok-next.ensures.done in
+    let there = subst (λ (x : MemoState). IsMemoOf c.args.store.now.sheet x) (sym c.advance.ensures.same) c.frames.invariant.running.memo in
+    let keeps : Keeps (g.M.Memo.state c.advance.new.memo) (g.M.Memo.state c.keep.new.self) c.into_key.result c.in-Done.value = record { sheet = c.keep.ensures.same_sheet; covers = c.keep.ensures.same_cells; generation = c.keep.ensures.same_generation; known = c.keep.ensures.known; told = c.keep.ensures.told } in
+    run_keeps c.args.store.now.sheet (g.M.Memo.state c.advance.new.memo) (g.M.Memo.state c.keep.new.self) c.into_key.result c.frames.frame.key c.in-Done.value there keeps (c.into_key.ensures ∙ c.in_ok-next.ensures.key) value
+
+pub returns-in-None-clause-same_cells : goal.returns-in-None-clause-same_cells
+returns-in-None-clause-same_cells g c =
+    c.keep.ensures.same_cells ∙ ap (λ (x : MemoState). x.covers) c.advance.ensures.same ∙ c.frames.invariant.running.covers
+
+pub returns-in-None-clause-same_generation : goal.returns-in-None-clause-same_generation
+returns-in-None-clause-same_generation g c =
+    c.keep.ensures.same_generation ∙ ap (λ (x : MemoState). x.generation) c.advance.ensures.same ∙ c.frames.invariant.running.generation
+
+pub returns-in-None-clause-same_capacity : goal.returns-in-None-clause-same_capacity
+returns-in-None-clause-same_capacity g c =
+    c.keep.ensures.same_capacity ∙ ap (λ (x : MemoState). x.capacity) c.advance.ensures.same ∙ c.frames.invariant.capacity
+
+pub returns-in-None-clause-same_latest : goal.returns-in-None-clause-same_latest
+returns-in-None-clause-same_latest g c =
+    c.keep.ensures.same_latest ∙ ap (λ (x : MemoState). x.latest) c.advance.ensures.same ∙ c.frames.invariant.latest
+
+pub returns-in-None-clause-gives_up : goal.returns-in-None-clause-gives_up
+returns-in-None-clause-gives_up g c =
+    gives_up_then (g.M.Memo.state c.args.memo.now) (g.M.Memo.state c.frames.memo) (g.M.Memo.state c.keep.new.self) c.frames.invariant.gives_up (rw (← c.advance.ensures.same) c.keep.ensures.gives_up)
+
+pub returns-in_err-shown-in-None-clause-counts : goal.returns-in_err-shown-in-None-clause-counts
+returns-in_err-shown-in-None-clause-counts g c =
+    never_fall-then c.args.meter.now c.frames.meter c.advance.new.meter c.frames.invariant.running.counts c.advance.ensures.counts
+
+pub returns-in_err-shown-in-None-clause-memo : goal.returns-in_err-shown-in-None-clause-memo
+returns-in_err-shown-in-None-clause-memo g c =
+    subst (λ (x : MemoState). IsMemoOf c.args.store.now.sheet x) (sym c.advance.ensures.same) c.frames.invariant.running.memo
+
+pub returns-in_err-shown-in-None-clause-same_cells : goal.returns-in_err-shown-in-None-clause-same_cells
+returns-in_err-shown-in-None-clause-same_cells g c =
+    ap (λ (x : MemoState). x.covers) c.advance.ensures.same ∙ c.frames.invariant.running.covers
+
+pub returns-in_err-shown-in-None-clause-same_generation : goal.returns-in_err-shown-in-None-clause-same_generation
+returns-in_err-shown-in-None-clause-same_generation g c =
+    ap (λ (x : MemoState). x.generation) c.advance.ensures.same ∙ c.frames.invariant.running.generation
+
+pub returns-in_err-shown-in-None-clause-same_capacity : goal.returns-in_err-shown-in-None-clause-same_capacity
+returns-in_err-shown-in-None-clause-same_capacity g c =
+    ap (λ (x : MemoState). x.capacity) c.advance.ensures.same ∙ c.frames.invariant.capacity
+
+pub returns-in_err-shown-in-None-clause-same_latest : goal.returns-in_err-shown-in-None-clause-same_latest
+returns-in_err-shown-in-None-clause-same_latest g c =
+    ap (λ (x : MemoState). x.latest) c.advance.ensures.same ∙ c.frames.invariant.latest
+
+pub returns-in_err-shown-in-None-clause-gives_up : goal.returns-in_err-shown-in-None-clause-gives_up
+returns-in_err-shown-in-None-clause-gives_up g c =
+    gives_up_then (g.M.Memo.state c.args.memo.now) (g.M.Memo.state c.frames.memo) (g.M.Memo.state c.advance.new.memo) c.frames.invariant.gives_up (gives_up_none (g.M.Memo.state c.frames.memo) (g.M.Memo.state c.advance.new.memo) c.advance.ensures.same)
+
+pub returns-in_err-next-clause-counts : goal.returns-in_err-next-clause-counts
+returns-in_err-next-clause-counts g c =
+    never_fall-then c.args.meter.now c.frames.meter c.advance.new.meter c.frames.invariant.running.counts c.advance.ensures.counts
+
+pub returns-in_err-next-clause-memo : goal.returns-in_err-next-clause-memo
+returns-in_err-next-clause-memo g c =
+    subst (λ (x : MemoState). IsMemoOf c.args.store.now.sheet x) (sym c.advance.ensures.same) c.frames.invariant.running.memo
+
+pub returns-in_err-next-clause-same_cells : goal.returns-in_err-next-clause-same_cells
+returns-in_err-next-clause-same_cells g c =
+    ap (λ (x : MemoState). x.covers) c.advance.ensures.same ∙ c.frames.invariant.running.covers
+
+pub returns-in_err-next-clause-same_generation : goal.returns-in_err-next-clause-same_generation
+returns-in_err-next-clause-same_generation g c =
+    ap (λ (x : MemoState). x.generation) c.advance.ensures.same ∙ c.frames.invariant.running.generation
+
+pub returns-in_err-next-clause-same_capacity : goal.returns-in_err-next-clause-same_capacity
+returns-in_err-next-clause-same_capacity g c =
+    ap (λ (x : MemoState). x.capacity) c.advance.ensures.same ∙ c.frames.invariant.capacity
+
+pub returns-in_err-next-clause-same_latest : goal.returns-in_err-next-clause-same_latest
+returns-in_err-next-clause-same_latest g c =
+    ap (λ (x : MemoState). x.latest) c.advance.ensures.same ∙ c.frames.invariant.latest
+
+pub returns-in_err-next-clause-gives_up : goal.returns-in_err-next-clause-gives_up
+returns-in_err-next-clause-gives_up g c =
+    gives_up_then (g.M.Memo.state c.args.memo.now) (g.M.Memo.state c.frames.memo) (g.M.Memo.state c.advance.new.memo) c.frames.invariant.gives_up (gives_up_none (g.M.Memo.state c.frames.memo) (g.M.Memo.state c.advance.new.memo) c.advance.ensures.same)

@@ -1,7 +1,11 @@
 use Rattle.std.proofs.lemmas.Result.{IfOk-weaker}
 use Rattle.wi_sheet.specs.Demand.{wants}
-use Rattle.wi_engine.proofs.engine.Running.{unvalued_value, under_at_most, under_found}
-use Rattle.wi_engine.proofs.engine.Saving.{kept_before, not_easy, under_kept, under_unkept, under_saves, under_settled, settled_before}
+use Rattle.std.proofs.Common.{subst, sym, arith}
+use Rattle.wi_sheet.specs.Inner.Spending.{HasCase}
+use Rattle.wi_engine.specs.Inner.MemoState.{MemoState, IsMemoOf}
+use Rattle.wi_engine.proofs.Saved.{takes_none, gives_up_none}
+use Rattle.wi_engine.proofs.engine.Running.{unvalued_value, under_at_most, under_found, none_at_most, none_found}
+use Rattle.wi_engine.proofs.engine.Saving.{kept_before, not_easy, under_kept, under_unkept, under_saves, under_settled, settled_before, none_saves}
 use Rattle.wi_engine.proofs.engine.value_under.Goals as goal
 
 pub returns-in-Unknown-clause-value : goal.returns-in-Unknown-clause-value
@@ -78,3 +82,54 @@ returns-in-Unknown-clause-settled g c =
     IfOk-weaker c.run.result _ _
     (λ v h. under_settled c.args.store.now.sheet (g.M.Memo.state c.args.memo.now) c.args.world.now c.args.at (g.M.Memo.state c.value_now.new.memo) (g.M.Memo.state c.run.new.memo) c.in-Unknown.key c.in_ok-value.ensures.same u h)
     c.run.ensures.settled
+
+pub returns-in-Known-clause-evaluations : goal.returns-in-Known-clause-evaluations
+returns-in-Known-clause-evaluations g c = none_at_most c.args.store.now.sheet (HasCase c.args.store.now.sheet c.args.world.now c.args.at) (λ k. 1) (g.M.Memo.state c.args.memo.now) c.args.meter.now.evaluations
+
+pub returns-in-Known-clause-restarts : goal.returns-in-Known-clause-restarts
+returns-in-Known-clause-restarts g c = none_at_most c.args.store.now.sheet (HasCase c.args.store.now.sheet c.args.world.now c.args.at) (wants c.args.store.now.sheet) (g.M.Memo.state c.args.memo.now) c.args.meter.now.restarts
+
+pub returns-in-Known-clause-unkept_evaluations : goal.returns-in-Known-clause-unkept_evaluations
+returns-in-Known-clause-unkept_evaluations g c = λ ks closed top whole room. omega arith
+
+pub returns-in-Known-clause-unkept_restarts : goal.returns-in-Known-clause-unkept_restarts
+returns-in-Known-clause-unkept_restarts g c = λ ks closed top whole room. omega arith
+
+pub returns-in-Known-clause-takes : goal.returns-in-Known-clause-takes
+returns-in-Known-clause-takes g c = takes_none (g.M.Memo.state c.args.memo.now) (g.M.Memo.state c.value_now.new.memo) c.args.meter.now.evaluations c.in_ok-value.ensures.same
+
+pub returns-in-Known-clause-gives_up : goal.returns-in-Known-clause-gives_up
+returns-in-Known-clause-gives_up g c = gives_up_none (g.M.Memo.state c.args.memo.now) (g.M.Memo.state c.value_now.new.memo) c.in_ok-value.ensures.same
+
+pub returns-in-Known-clause-memo : goal.returns-in-Known-clause-memo
+returns-in-Known-clause-memo g c = subst (λ (x : MemoState). IsMemoOf c.args.store.now.sheet x) (sym c.in_ok-value.ensures.same) c.requires.memo
+
+pub returns-in_err-value-clause-evaluations : goal.returns-in_err-value-clause-evaluations
+returns-in_err-value-clause-evaluations g c = none_at_most c.args.store.now.sheet (HasCase c.args.store.now.sheet c.args.world.now c.args.at) (λ k. 1) (g.M.Memo.state c.args.memo.now) c.args.meter.now.evaluations
+
+pub returns-in_err-value-clause-restarts : goal.returns-in_err-value-clause-restarts
+returns-in_err-value-clause-restarts g c = none_at_most c.args.store.now.sheet (HasCase c.args.store.now.sheet c.args.world.now c.args.at) (wants c.args.store.now.sheet) (g.M.Memo.state c.args.memo.now) c.args.meter.now.restarts
+
+pub returns-in_err-value-clause-unkept_evaluations : goal.returns-in_err-value-clause-unkept_evaluations
+returns-in_err-value-clause-unkept_evaluations g c = λ ks closed top whole room. omega arith
+
+pub returns-in_err-value-clause-unkept_restarts : goal.returns-in_err-value-clause-unkept_restarts
+returns-in_err-value-clause-unkept_restarts g c = λ ks closed top whole room. omega arith
+
+pub returns-in_err-value-clause-takes : goal.returns-in_err-value-clause-takes
+returns-in_err-value-clause-takes g c = takes_none (g.M.Memo.state c.args.memo.now) (g.M.Memo.state c.value_now.new.memo) c.args.meter.now.evaluations c.value_now.ensures.same
+
+pub returns-in_err-value-clause-gives_up : goal.returns-in_err-value-clause-gives_up
+returns-in_err-value-clause-gives_up g c = gives_up_none (g.M.Memo.state c.args.memo.now) (g.M.Memo.state c.value_now.new.memo) c.value_now.ensures.same
+
+pub returns-in_err-value-clause-memo : goal.returns-in_err-value-clause-memo
+returns-in_err-value-clause-memo g c = subst (λ (x : MemoState). IsMemoOf c.args.store.now.sheet x) (sym c.value_now.ensures.same) c.requires.memo
+
+pub returns-in-Known-clause-evaluations_ok : goal.returns-in-Known-clause-evaluations_ok
+returns-in-Known-clause-evaluations_ok g c = none_found c.args.store.now.sheet (HasCase c.args.store.now.sheet c.args.world.now c.args.at) (λ k. 1) (g.M.Memo.state c.args.memo.now) (g.M.Memo.state c.value_now.new.memo) c.args.meter.now.evaluations c.in_ok-value.ensures.same
+
+pub returns-in-Known-clause-restarts_ok : goal.returns-in-Known-clause-restarts_ok
+returns-in-Known-clause-restarts_ok g c = none_found c.args.store.now.sheet (HasCase c.args.store.now.sheet c.args.world.now c.args.at) (wants c.args.store.now.sheet) (g.M.Memo.state c.args.memo.now) (g.M.Memo.state c.value_now.new.memo) c.args.meter.now.restarts c.in_ok-value.ensures.same
+
+pub returns-in-Known-clause-saves : goal.returns-in-Known-clause-saves
+returns-in-Known-clause-saves g c = none_saves c.args.store.now.sheet (HasCase c.args.store.now.sheet c.args.world.now c.args.at) (g.M.Memo.state c.args.memo.now) (g.M.Memo.state c.value_now.new.memo) c.args.meter.now c.in_ok-value.ensures.same

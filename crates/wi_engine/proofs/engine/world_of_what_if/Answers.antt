@@ -1,4 +1,4 @@
-use Rattle.std.proofs.Common.{◌≡◌, All, List, map, take, ap, subst, ◌∙◌, arith}
+use Rattle.std.proofs.Common.{◌≡◌, All, List, map, take, ap, subst, ◌∙◌, arith, rules}
 use Rattle.std.proofs.lemmas.List.Elements.{All-more}
 use Rattle.std.proofs.lemmas.Grind.{common_steps}
 use Rattle.wi_parser.specs.declared.expr.Pair.{Pair}
@@ -10,6 +10,7 @@ use Rattle.wi_sheet.proofs.Overrides.{replaced_world}
 use Rattle.wi_engine.proofs.engine.Awaiting.{input_unvalued}
 use Rattle.wi_sheet.specs.Settled.{IsSettled}
 use Rattle.wi_engine.proofs.engine.FoundSettled.{settled_now}
+use Rattle.wi_engine.proofs.engine.Inputs.{one_more_input}
 use Rattle.wi_engine.proofs.engine.world_of_what_if.Goals as goal
 
 pub loop-pair-preserved : goal.loop-pair-preserved
@@ -21,7 +22,7 @@ loop-pair-preserved g c =
     let there = rw c.in-Known.is at c.in_ok-value.ensures.there in
     let P : Pair → Type 0 = λ p. IsSettled s m.kept w p.replacement.at in
     record {
-      inputs = grind (arith, common_steps);
+      inputs = one_more_input s w c.args.pairs.now c.loop-pair.pair-index c.pair-item.result c.in-Known.value c.loop-pair.inputs.items _ c.loop-pair-test.true c.pair-item.is i.inputs (search rules) (search rules);
       settled = λ whole. All-more P c.args.pairs.now c.loop-pair.pair-index c.pair-item.result c.loop-pair-test.true (i.settled whole) (subst P c.pair-item.is (settled_now s m (g.M.Memo.state c.loop-pair.memo) w c.pair-item.result.replacement.at c.requires.memo i.same whole there));
       same = c.in_ok-value.ensures.same ∙ i.same;
     }

@@ -1,4 +1,5 @@
-use Rattle.wi_propagate.proofs.SavingEntries.{entry_saves, entry_settled}
+use Rattle.wi_sheet.specs.Demand.{wants}
+use Rattle.wi_propagate.proofs.SavingEntries.{entry_at_most, entry_saves, entry_evaluations, entry_restarts, entry_settled}
 use Rattle.wi_propagate.proofs.table_entry.open_entry.Goals as goal
 
 pub returns-clause-saves : goal.returns-clause-saves
@@ -13,3 +14,123 @@ returns-clause-settled g c =
     let v = c.in_ok-value.ensures in
     entry_settled c.args.store.now.sheet c.args.world.now c.args.formula_cell c.args.pairs.now c.in_ok-replaced.replaced w.world (g.M.Memo.state c.args.memo.now) (g.M.Memo.state c.with_inputs.new.memo) c.args.meter.now c.with_inputs.new.meter w.saves
     (g.M.Memo.state c.value_under.new.memo) c.value_under.new.meter v.saves w.settled v.settled
+
+pub returns-in_err-value-clause-evaluations : goal.returns-in_err-value-clause-evaluations
+returns-in_err-value-clause-evaluations g c =
+    let s = c.args.store.now.sheet in
+    let w = c.args.world.now in
+    let f = c.args.formula_cell in
+    let pairs = c.args.pairs.now in
+    let old = g.M.Memo.state c.args.memo.now in
+    let mid = g.M.Memo.state c.with_inputs.new.memo in
+    let start = c.args.meter.now in
+    let before = c.with_inputs.new.meter in
+    let after = c.value_under.new.meter in
+    let i = c.in_ok-replaced.ensures in
+    let v = c.in_err-value.ensures in
+    entry_at_most s w f pairs c.in_ok-replaced.replaced i.world (λ k. 1) old.found mid.found start.evaluations before.evaluations after.evaluations i.evaluations_ok v.evaluations
+
+pub returns-in_err-value-clause-restarts : goal.returns-in_err-value-clause-restarts
+returns-in_err-value-clause-restarts g c =
+    let s = c.args.store.now.sheet in
+    let w = c.args.world.now in
+    let f = c.args.formula_cell in
+    let pairs = c.args.pairs.now in
+    let old = g.M.Memo.state c.args.memo.now in
+    let mid = g.M.Memo.state c.with_inputs.new.memo in
+    let start = c.args.meter.now in
+    let before = c.with_inputs.new.meter in
+    let after = c.value_under.new.meter in
+    let i = c.in_ok-replaced.ensures in
+    let v = c.in_err-value.ensures in
+    entry_at_most s w f pairs c.in_ok-replaced.replaced i.world (wants s) old.found mid.found start.restarts before.restarts after.restarts i.restarts_ok v.restarts
+
+pub returns-in_err-value-clause-unkept_evaluations : goal.returns-in_err-value-clause-unkept_evaluations
+returns-in_err-value-clause-unkept_evaluations g c =
+    let s = c.args.store.now.sheet in
+    let w = c.args.world.now in
+    let f = c.args.formula_cell in
+    let pairs = c.args.pairs.now in
+    let old = g.M.Memo.state c.args.memo.now in
+    let mid = g.M.Memo.state c.with_inputs.new.memo in
+    let start = c.args.meter.now in
+    let before = c.with_inputs.new.meter in
+    let after = c.value_under.new.meter in
+    let i = c.in_ok-replaced.ensures in
+    let v = c.in_err-value.ensures in
+    entry_evaluations s w f pairs c.in_ok-replaced.replaced i.world old mid start before i.saves after.evaluations v.unkept_evaluations
+
+pub returns-in_err-value-clause-unkept_restarts : goal.returns-in_err-value-clause-unkept_restarts
+returns-in_err-value-clause-unkept_restarts g c =
+    let s = c.args.store.now.sheet in
+    let w = c.args.world.now in
+    let f = c.args.formula_cell in
+    let pairs = c.args.pairs.now in
+    let old = g.M.Memo.state c.args.memo.now in
+    let mid = g.M.Memo.state c.with_inputs.new.memo in
+    let start = c.args.meter.now in
+    let before = c.with_inputs.new.meter in
+    let after = c.value_under.new.meter in
+    let i = c.in_ok-replaced.ensures in
+    let v = c.in_err-value.ensures in
+    entry_restarts s w f pairs c.in_ok-replaced.replaced i.world old mid start before i.saves after.restarts v.unkept_restarts
+
+pub returns-clause-evaluations : goal.returns-clause-evaluations
+returns-clause-evaluations g c =
+    let s = c.args.store.now.sheet in
+    let w = c.args.world.now in
+    let f = c.args.formula_cell in
+    let pairs = c.args.pairs.now in
+    let old = g.M.Memo.state c.args.memo.now in
+    let mid = g.M.Memo.state c.with_inputs.new.memo in
+    let start = c.args.meter.now in
+    let before = c.with_inputs.new.meter in
+    let after = c.value_under.new.meter in
+    let i = c.in_ok-replaced.ensures in
+    let v = c.in_ok-value.ensures in
+    entry_at_most s w f pairs c.in_ok-replaced.replaced i.world (λ k. 1) old.found mid.found start.evaluations before.evaluations after.evaluations i.evaluations_ok v.evaluations
+
+pub returns-clause-restarts : goal.returns-clause-restarts
+returns-clause-restarts g c =
+    let s = c.args.store.now.sheet in
+    let w = c.args.world.now in
+    let f = c.args.formula_cell in
+    let pairs = c.args.pairs.now in
+    let old = g.M.Memo.state c.args.memo.now in
+    let mid = g.M.Memo.state c.with_inputs.new.memo in
+    let start = c.args.meter.now in
+    let before = c.with_inputs.new.meter in
+    let after = c.value_under.new.meter in
+    let i = c.in_ok-replaced.ensures in
+    let v = c.in_ok-value.ensures in
+    entry_at_most s w f pairs c.in_ok-replaced.replaced i.world (wants s) old.found mid.found start.restarts before.restarts after.restarts i.restarts_ok v.restarts
+
+pub returns-clause-unkept_evaluations : goal.returns-clause-unkept_evaluations
+returns-clause-unkept_evaluations g c =
+    let s = c.args.store.now.sheet in
+    let w = c.args.world.now in
+    let f = c.args.formula_cell in
+    let pairs = c.args.pairs.now in
+    let old = g.M.Memo.state c.args.memo.now in
+    let mid = g.M.Memo.state c.with_inputs.new.memo in
+    let start = c.args.meter.now in
+    let before = c.with_inputs.new.meter in
+    let after = c.value_under.new.meter in
+    let i = c.in_ok-replaced.ensures in
+    let v = c.in_ok-value.ensures in
+    entry_evaluations s w f pairs c.in_ok-replaced.replaced i.world old mid start before i.saves after.evaluations v.unkept_evaluations
+
+pub returns-clause-unkept_restarts : goal.returns-clause-unkept_restarts
+returns-clause-unkept_restarts g c =
+    let s = c.args.store.now.sheet in
+    let w = c.args.world.now in
+    let f = c.args.formula_cell in
+    let pairs = c.args.pairs.now in
+    let old = g.M.Memo.state c.args.memo.now in
+    let mid = g.M.Memo.state c.with_inputs.new.memo in
+    let start = c.args.meter.now in
+    let before = c.with_inputs.new.meter in
+    let after = c.value_under.new.meter in
+    let i = c.in_ok-replaced.ensures in
+    let v = c.in_ok-value.ensures in
+    entry_restarts s w f pairs c.in_ok-replaced.replaced i.world old mid start before i.saves after.restarts v.unkept_restarts

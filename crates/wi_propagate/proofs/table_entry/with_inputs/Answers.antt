@@ -10,7 +10,7 @@ use Rattle.wi_sheet.proofs.Counting.{never_fall-then}
 use Rattle.wi_sheet.proofs.Overrides.{replaced_world}
 use Rattle.wi_engine.specs.Inner.Saving.{WhereRoom}
 use Rattle.wi_engine.proofs.Saved.{takes_then, gives_up_then}
-use Rattle.wi_propagate.proofs.SavingEntries.{more_found, more_saves, more_settled}
+use Rattle.wi_propagate.proofs.SavingEntries.{at_most_found, evaluations_saved, restarts_saved, more_found, more_at_most, more_saves, more_evaluations, more_restarts, more_settled}
 use Rattle.wi_propagate.proofs.table_entry.with_inputs.Goals as goal
 
 pub returns-clause-world : goal.returns-clause-world
@@ -65,3 +65,167 @@ returns-clause-settled g c =
     let whole : take c.loop-pair.pair-index c.args.pairs.now ≡ c.args.pairs.now = grind (arith, common_steps) in
     let there = subst (λ (ps : List (ℕ × ℕ)). WhereRoom s (HasReplacing s w c.args.pairs.now) (g.M.Memo.state c.args.memo.now) (λ ks. All (λ p. IsSettled s (g.M.Memo.state c.loop-pair.memo).kept w p.1) ps)) whole c.loop-pair.invariant.settled in
     IfOk-weaker c.with.result _ _ (λ v h. there) c.with.ensures.list
+
+pub returns-in_err-value-clause-evaluations : goal.returns-in_err-value-clause-evaluations
+returns-in_err-value-clause-evaluations g c =
+    let s = c.args.store.now.sheet in
+    let w = c.args.world.now in
+    let pairs = c.args.pairs.now in
+    let old = g.M.Memo.state c.args.memo.now in
+    let mid = g.M.Memo.state c.loop-pair.memo in
+    let new = g.M.Memo.state c.value_under.new.memo in
+    let start = c.args.meter.now in
+    let before = c.loop-pair.meter in
+    let after = c.value_under.new.meter in
+    let i = c.loop-pair.invariant in
+    let v = c.in_err-value.ensures in
+    more_at_most s w pairs c.loop-pair.pair-index c.pair-item.result c.loop-pair-test.true c.pair-item.is (λ k. 1) old.found mid.found start.evaluations before.evaluations after.evaluations i.evaluations v.evaluations
+
+pub returns-in_err-value-clause-restarts : goal.returns-in_err-value-clause-restarts
+returns-in_err-value-clause-restarts g c =
+    let s = c.args.store.now.sheet in
+    let w = c.args.world.now in
+    let pairs = c.args.pairs.now in
+    let old = g.M.Memo.state c.args.memo.now in
+    let mid = g.M.Memo.state c.loop-pair.memo in
+    let new = g.M.Memo.state c.value_under.new.memo in
+    let start = c.args.meter.now in
+    let before = c.loop-pair.meter in
+    let after = c.value_under.new.meter in
+    let i = c.loop-pair.invariant in
+    let v = c.in_err-value.ensures in
+    more_at_most s w pairs c.loop-pair.pair-index c.pair-item.result c.loop-pair-test.true c.pair-item.is (wants s) old.found mid.found start.restarts before.restarts after.restarts i.restarts v.restarts
+
+pub returns-in_err-value-clause-unkept_evaluations : goal.returns-in_err-value-clause-unkept_evaluations
+returns-in_err-value-clause-unkept_evaluations g c =
+    let s = c.args.store.now.sheet in
+    let w = c.args.world.now in
+    let pairs = c.args.pairs.now in
+    let old = g.M.Memo.state c.args.memo.now in
+    let mid = g.M.Memo.state c.loop-pair.memo in
+    let new = g.M.Memo.state c.value_under.new.memo in
+    let start = c.args.meter.now in
+    let before = c.loop-pair.meter in
+    let after = c.value_under.new.meter in
+    let i = c.loop-pair.invariant in
+    let v = c.in_err-value.ensures in
+    more_evaluations s w pairs c.loop-pair.pair-index c.pair-item.result c.loop-pair-test.true c.pair-item.is old mid start before i.saves after.evaluations v.unkept_evaluations
+
+pub returns-in_err-value-clause-unkept_restarts : goal.returns-in_err-value-clause-unkept_restarts
+returns-in_err-value-clause-unkept_restarts g c =
+    let s = c.args.store.now.sheet in
+    let w = c.args.world.now in
+    let pairs = c.args.pairs.now in
+    let old = g.M.Memo.state c.args.memo.now in
+    let mid = g.M.Memo.state c.loop-pair.memo in
+    let new = g.M.Memo.state c.value_under.new.memo in
+    let start = c.args.meter.now in
+    let before = c.loop-pair.meter in
+    let after = c.value_under.new.meter in
+    let i = c.loop-pair.invariant in
+    let v = c.in_err-value.ensures in
+    more_restarts s w pairs c.loop-pair.pair-index c.pair-item.result c.loop-pair-test.true c.pair-item.is old mid start before i.saves after.restarts v.unkept_restarts
+
+pub returns-in_err-push-clause-evaluations : goal.returns-in_err-push-clause-evaluations
+returns-in_err-push-clause-evaluations g c =
+    let s = c.args.store.now.sheet in
+    let w = c.args.world.now in
+    let pairs = c.args.pairs.now in
+    let old = g.M.Memo.state c.args.memo.now in
+    let mid = g.M.Memo.state c.loop-pair.memo in
+    let new = g.M.Memo.state c.value_under.new.memo in
+    let start = c.args.meter.now in
+    let before = c.loop-pair.meter in
+    let after = c.value_under.new.meter in
+    let i = c.loop-pair.invariant in
+    let v = c.in_ok-value.ensures in
+    at_most_found s (HasReplacing s w pairs) (λ k. 1) old.found new.found start.evaluations after.evaluations (more_found s w pairs c.loop-pair.pair-index c.pair-item.result c.loop-pair-test.true c.pair-item.is (λ k. 1) old.found mid.found new.found start.evaluations before.evaluations after.evaluations i.evaluations v.evaluations_ok)
+
+pub returns-in_err-push-clause-restarts : goal.returns-in_err-push-clause-restarts
+returns-in_err-push-clause-restarts g c =
+    let s = c.args.store.now.sheet in
+    let w = c.args.world.now in
+    let pairs = c.args.pairs.now in
+    let old = g.M.Memo.state c.args.memo.now in
+    let mid = g.M.Memo.state c.loop-pair.memo in
+    let new = g.M.Memo.state c.value_under.new.memo in
+    let start = c.args.meter.now in
+    let before = c.loop-pair.meter in
+    let after = c.value_under.new.meter in
+    let i = c.loop-pair.invariant in
+    let v = c.in_ok-value.ensures in
+    at_most_found s (HasReplacing s w pairs) (wants s) old.found new.found start.restarts after.restarts (more_found s w pairs c.loop-pair.pair-index c.pair-item.result c.loop-pair-test.true c.pair-item.is (wants s) old.found mid.found new.found start.restarts before.restarts after.restarts i.restarts v.restarts_ok)
+
+pub returns-in_err-push-clause-unkept_evaluations : goal.returns-in_err-push-clause-unkept_evaluations
+returns-in_err-push-clause-unkept_evaluations g c =
+    let s = c.args.store.now.sheet in
+    let w = c.args.world.now in
+    let pairs = c.args.pairs.now in
+    let old = g.M.Memo.state c.args.memo.now in
+    let mid = g.M.Memo.state c.loop-pair.memo in
+    let new = g.M.Memo.state c.value_under.new.memo in
+    let start = c.args.meter.now in
+    let before = c.loop-pair.meter in
+    let after = c.value_under.new.meter in
+    let i = c.loop-pair.invariant in
+    let v = c.in_ok-value.ensures in
+    evaluations_saved s (HasReplacing s w pairs) old new start after (more_saves s w pairs c.loop-pair.pair-index c.pair-item.result c.loop-pair-test.true c.pair-item.is old mid start before i.saves new after v.saves)
+
+pub returns-in_err-push-clause-unkept_restarts : goal.returns-in_err-push-clause-unkept_restarts
+returns-in_err-push-clause-unkept_restarts g c =
+    let s = c.args.store.now.sheet in
+    let w = c.args.world.now in
+    let pairs = c.args.pairs.now in
+    let old = g.M.Memo.state c.args.memo.now in
+    let mid = g.M.Memo.state c.loop-pair.memo in
+    let new = g.M.Memo.state c.value_under.new.memo in
+    let start = c.args.meter.now in
+    let before = c.loop-pair.meter in
+    let after = c.value_under.new.meter in
+    let i = c.loop-pair.invariant in
+    let v = c.in_ok-value.ensures in
+    restarts_saved s (HasReplacing s w pairs) old new start after (more_saves s w pairs c.loop-pair.pair-index c.pair-item.result c.loop-pair-test.true c.pair-item.is old mid start before i.saves new after v.saves)
+
+pub returns-clause-evaluations : goal.returns-clause-evaluations
+returns-clause-evaluations g c =
+    let s = c.args.store.now.sheet in
+    let Has = HasReplacing s c.args.world.now c.args.pairs.now in
+    let old = g.M.Memo.state c.args.memo.now in
+    let new = g.M.Memo.state c.loop-pair.memo in
+    let start = c.args.meter.now in
+    let after = c.loop-pair.meter in
+    let i = c.loop-pair.invariant in
+    at_most_found s Has (λ k. 1) old.found new.found start.evaluations after.evaluations i.evaluations
+
+pub returns-clause-restarts : goal.returns-clause-restarts
+returns-clause-restarts g c =
+    let s = c.args.store.now.sheet in
+    let Has = HasReplacing s c.args.world.now c.args.pairs.now in
+    let old = g.M.Memo.state c.args.memo.now in
+    let new = g.M.Memo.state c.loop-pair.memo in
+    let start = c.args.meter.now in
+    let after = c.loop-pair.meter in
+    let i = c.loop-pair.invariant in
+    at_most_found s Has (wants s) old.found new.found start.restarts after.restarts i.restarts
+
+pub returns-clause-unkept_evaluations : goal.returns-clause-unkept_evaluations
+returns-clause-unkept_evaluations g c =
+    let s = c.args.store.now.sheet in
+    let Has = HasReplacing s c.args.world.now c.args.pairs.now in
+    let old = g.M.Memo.state c.args.memo.now in
+    let new = g.M.Memo.state c.loop-pair.memo in
+    let start = c.args.meter.now in
+    let after = c.loop-pair.meter in
+    let i = c.loop-pair.invariant in
+    evaluations_saved s Has old new start after i.saves
+
+pub returns-clause-unkept_restarts : goal.returns-clause-unkept_restarts
+returns-clause-unkept_restarts g c =
+    let s = c.args.store.now.sheet in
+    let Has = HasReplacing s c.args.world.now c.args.pairs.now in
+    let old = g.M.Memo.state c.args.memo.now in
+    let new = g.M.Memo.state c.loop-pair.memo in
+    let start = c.args.meter.now in
+    let after = c.loop-pair.meter in
+    let i = c.loop-pair.invariant in
+    restarts_saved s Has old new start after i.saves
