@@ -1,83 +1,46 @@
-//! Cells that have a content, and cells that an edit may change.
+//! Cells by their names, and the contents that an edit puts into them.
 
 use std::alloc::Global;
 use std::process::Abort;
-use std::test::Fail;
 use wi_parser::Content;
 use wi_propagate::Calculator;
-use wi_values::{Address, Rect};
+use wi_store::StoreFault;
+use wi_values::Address;
 
-/// Puts contents into cells by one edit, which is accepted.
+/// Contents for cells, or cells with none.
+pub type Texts<'a> = &'a [(&'a str, &'a str)];
+
+type Changes = Vec<(Address, Option<Content>)>;
+
+/// The cell with this name.
+pub fn cell(rt: &impl Abort, name: &str) -> Address {
+    Address::read(name.as_bytes()).expect(rt, name)
+}
+
+/// The cells with these names, where there is memory.
+pub fn cells(rt: &impl Abort, alloc: Global, names: &[&str]) -> Option<Vec<Address>> {
+    let mut cells = Vec::new(alloc);
+    for name in names {
+        cells.push(cell(rt, name)).ok()?;
+    }
+    Some(cells)
+}
+
+fn changes(rt: &impl Abort, alloc: Global, texts: Texts<'_>) -> Option<Changes> {
+    let mut changes = Vec::new(alloc);
+    for (name, text) in texts {
+        let content = Content::read(alloc, text).ok()?;
+        changes.push((cell(rt, name), Some(content))).ok()?;
+    }
+    Some(changes)
+}
+
+/// Puts contents into cells by one edit, where there is memory for them.
 pub fn edit<C: Calculator>(
+    rt: &impl Abort,
     alloc: Global,
     calculator: &mut C,
-    cells: &[(&str, &str)],
-) -> Result<(), Fail> {
-    let mut changes = Vec::new(alloc);
-    for (at, text) in cells {
-        let content = Content::read(alloc, text)?;
-        changes.push((Address::read(at.as_bytes())?, Some(content)))?;
-    }
-    Ok(calculator.apply(changes)?)
-}
-
-/// Cells in words: `A1 B2 `.
-fn told(alloc: Global, cells: &[Address]) -> Result<String, Fail> {
-    let mut text = String::new(alloc);
-    for cell in cells {
-        cell.push_text(&mut text)?;
-        text.push(' ')?;
-    }
-    Ok(text)
-}
-
-/// Which cells are marked where some change.
-pub fn expect_marked<C: Calculator>(
-    rt: &impl Abort,
-    alloc: Global,
-    calculator: &C,
-    rows: &[(&[&str], &str)],
-) -> Result<(), Fail> {
-    for (edited, wanted) in rows {
-        let mut cells = Vec::new(alloc);
-        for cell in *edited {
-            cells.push(Address::read(cell.as_bytes())?)?;
-        }
-        let marked = calculator.mark(&cells)?;
-        assert_eq!(rt; told(alloc, &marked)?.as_str(), *wanted);
-    }
-    Ok(())
-}
-
-/// The next occupied cell of a rectangle from a cell on.
-pub fn expect_next<C: Calculator>(
-    rt: &impl Abort,
-    calculator: &C,
-    rows: &[(&str, &str, Option<&str>)],
-) -> Result<(), Fail> {
-    for (area, from, wanted) in rows {
-        let next = calculator.next_occupied(
-            Rect::read(area.as_bytes())?,
-            Address::read(from.as_bytes())?,
-        );
-        let wanted = match wanted {
-            Some(at) => Some(Address::read(at.as_bytes())?),
-            None => None,
-        };
-        assert!(rt; next == wanted, "{area} from {from}");
-    }
-    Ok(())
-}
-
-/// Which cells have a content.
-pub fn expect_occupied<C: Calculator>(
-    rt: &impl Abort,
-    calculator: &C,
-    rows: &[(&str, bool)],
-) -> Result<(), Fail> {
-    for (at, wanted) in rows {
-        let content = calculator.content(Address::read(at.as_bytes())?);
-        assert!(rt; content.is_some() == *wanted, "{at}");
-    }
-    Ok(())
+    texts: Texts<'_>,
+) -> Option<Result<(), StoreFault>> {
+    Some(calculator.apply(changes(rt, alloc, texts)?))
 }

@@ -1,16 +1,26 @@
 //! The calculator that keeps values.
 
-use crate::cells::{edit, expect_marked, expect_next, expect_occupied};
+ghost use Rattle.std.specs.Prelude.{◌≤◌};
+
+use crate::cells::Texts;
+use crate::steps::{Step, take};
 use std::alloc::Global;
-use std::test::Fail;
+use std::process::Abort;
 use wi_propagate::KeptCalculator;
 use wi_store::Limits;
 
-/// A sheet that keeps 50 values, and whose cells have these contents, put in by one edit.
-fn sheet(alloc: Global, cells: &[(&str, &str)]) -> Result<KeptCalculator, Fail> {
-    let mut calculator = KeptCalculator::new(alloc, Limits::standard(), 50)?;
-    edit(alloc, &mut calculator, cells)?;
-    Ok(calculator)
+/// Takes steps over a sheet that keeps so many values, and whose cells have these contents.
+pub fn take_kept(
+    rt: &impl Abort,
+    alloc: Global,
+    keep: usize,
+    texts: Texts<'_>,
+    steps: &[Step<'_>],
+) -> Option<()>
+    requires { 1 ≤ keep }
+{
+    let mut calculator = KeptCalculator::new(alloc, Limits::standard(), keep).ok()?;
+    take(rt, alloc, &mut calculator, texts, steps)
 }
 
 const WHAT_IF: [(&str, &str); 4] = [
@@ -20,40 +30,36 @@ const WHAT_IF: [(&str, &str); 4] = [
     ("C4", "=MULTIPLE.OPERATIONS([.B2];[.B1];[.A4])"),
 ];
 
+fn expect(rt: &impl Abort, alloc: Global, texts: Texts<'_>, steps: &[Step<'_>]) {
+    assert!(rt; take_kept(rt, alloc, 50, texts, steps).is_some());
+}
+
 #[test]
-fn cells_with_no_content(rt: HostRuntime) -> Result<(), Fail> {
-    let calculator = sheet(rt.alloc(), &[("C1", "=1")])?;
-    expect_occupied(&rt, &calculator, &[("C1", true), ("D1", false)])
+fn cells_with_no_content(rt: HostRuntime) {
+    let steps = [Step::Occupied("C1", true), Step::Occupied("D1", false)];
+    expect(&rt, rt.alloc(), &[("C1", "=1")], &steps);
 }
 
 // Those that read one of the given at any remove, and the given.
 #[test]
-fn marked_cells(rt: HostRuntime) -> Result<(), Fail> {
-    let calculator = sheet(rt.alloc(), &WHAT_IF)?;
-    expect_marked(
-        &rt,
-        rt.alloc(),
-        &calculator,
-        &[
-            (&[], ""),
-            (&["B1"], "B1 B2 C4 "),
-            (&["A4"], "A4 C4 "),
-            (&["C4", "A4", "C4"], "A4 C4 "),
-            (&["B3"], "B3 "),
-        ],
-    )
+fn marked_cells(rt: HostRuntime) {
+    let steps = [
+        Step::Marked(&[], &[]),
+        Step::Marked(&["B1"], &["B1", "B2", "C4"]),
+        Step::Marked(&["A4"], &["A4", "C4"]),
+        Step::Marked(&["C4", "A4", "C4"], &["A4", "C4"]),
+        Step::Marked(&["B3"], &["B3"]),
+    ];
+    expect(&rt, rt.alloc(), &WHAT_IF, &steps);
 }
 
 #[test]
-fn occupied_cells(rt: HostRuntime) -> Result<(), Fail> {
-    expect_next(
-        &rt,
-        &sheet(rt.alloc(), &WHAT_IF)?,
-        &[
-            ("A1:C3", "A1", Some("B1")),
-            ("A1:C3", "C1", Some("B2")),
-            ("A1:C3", "C2", None),
-            ("A4:C9", "A1", Some("A4")),
-        ],
-    )
+fn occupied_cells(rt: HostRuntime) {
+    let steps = [
+        Step::Next("A1:C3", "A1", "B1"),
+        Step::Next("A1:C3", "C1", "B2"),
+        Step::Next("A1:C3", "C2", "-"),
+        Step::Next("A4:C9", "A1", "A4"),
+    ];
+    expect(&rt, rt.alloc(), &WHAT_IF, &steps);
 }

@@ -14,4 +14,6 @@ mod plain;
 #[cfg(test)]
 mod refused_growths;
 #[cfg(test)]
+mod steps;
+#[cfg(test)]
 mod workbook;

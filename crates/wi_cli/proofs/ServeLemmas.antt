@@ -49,7 +49,7 @@ refuses Memory d s h k = lacks d s h k
 refuses e d s h k = h
 
 -- a command that was done or refused by a call of the workbook
-pub served : (d : ReadCommand) (r : Ended) (s t : State) (records : List ℕ) → answer.Serves (IsStep s (command_of d)) r s t records → KeepsMemory d r s
+served : (d : ReadCommand) (r : Ended) (s t : State) (records : List ℕ) → answer.Serves (IsStep s (command_of d)) r s t records → KeepsMemory d r s
     → IsServed (command_of d) r s t records
 served d (Ok _) s t records h k = h
 served d (Err e) s t records h k = (h.1, refuses e d s h.0 k)
@@ -58,6 +58,13 @@ served d (Err e) s t records h k = (h.1, refuses e d s h.0 k)
 pub served_alone : (d e : ReadCommand) (r : Ended) (s t : State) (out : List ℕ) → d ≡ e → answer.Serves (IsStep s (command_of e)) r s t [] → KeepsMemory e r s
     → (records : List ℕ) × (out ≡ out ++ records) × IsServed (command_of d) r s t records
 served_alone d e r s t out same h k = ([], sym (append-nil out), subst (λ (x : ReadCommand). IsServed (command_of x) r s t []) (sym same) (served e r s t [] h k))
+
+-- the same of a call that writes some
+pub served_with : (d e : ReadCommand) (r : Ended) (s t : State) (out out' : List ℕ) → d ≡ e
+    → (records : List ℕ) × (out' ≡ out ++ records) × answer.Serves (IsStep s (command_of e)) r s t records → KeepsMemory e r s
+    → (records : List ℕ) × (out' ≡ out ++ records) × IsServed (command_of d) r s t records
+served_with d e r s t out out' same h k =
+    (h.0, h.1, subst (λ (x : ReadCommand). IsServed (command_of x) r s t h.0) (sym same) (served e r s t h.0 h.2 k))
 
 pub told_passed : (o : Option Command) (s : State) (out : List ℕ) → o ≡ None → Told o Passed s s out
 told_passed o s out e = subst (λ x. Told x Passed s s out) (sym e) refl

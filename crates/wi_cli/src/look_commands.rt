@@ -1,5 +1,8 @@
 //! The commands that show what a workbook holds, as they are read.
 
+ghost use Rattle.wi_values.specs.AddressReading.{read_rect};
+ghost use Rattle.wi_scenarios.specs.Step.{Compare};
+ghost use Rattle.wi_cli.specs.Operands.{of_name, of_operand, read_side};
 ghost use Rattle.wi_cli.specs.LookCommands.{show_command, export_command, changes_command, compare_command, formula_command};
 ghost use Rattle.wi_cli.specs.Inner.Spelling.{IsCommandOf};
 
@@ -53,6 +56,14 @@ pub fn read_compare(operands: &str) -> Result<Command<'_>, Refusal>
     if !is_all_spaces(more) {
         return Err(Refusal::BadCommand);
     }
+    compare_of(first, second, area)
+}
+
+/// `compare` of these words.
+fn compare_of<'a>(first: &'a str, second: &'a str, area: &str) -> Result<Command<'a>, Refusal>
+    ensures { IsCommandOf (of_name (read_side first.now) (λ s. of_name (read_side second.now) (λ t.
+        of_operand (read_rect area.now) (λ cells. Compare s t cells)))) result }
+{
     let first = read_side(first)?;
     let second = read_side(second)?;
     let area = Rect::read(area.as_bytes())?;

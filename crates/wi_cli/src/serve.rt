@@ -11,7 +11,6 @@ use wi_propagate::Calculator;
 use wi_scenarios::{Refusal, Workbook};
 
 /// Does a command, and appends its records.
-#[tactic(auto, using(crate::proofs::ServeLemmas::served))]
 fn execute<C: Calculator>(
     command: &Command<'_>,
     book: &mut Workbook<C>,
@@ -20,36 +19,36 @@ fn execute<C: Calculator>(
     ensures { (records : List ℕ) × (out.new.items ≡ out.old.items ++ records)
         × IsServed (command_of command.now) result book.old.state book.new.state records }
 {
-    match command {
-        Command::Set { force, at, content } => book.set(*at, content, *force),
-        Command::Clear { force, area } => book.clear(*area, *force),
-        Command::Fill { force, from, area } => book.fill(*from, *area, *force),
-        Command::Scenario { name, at, content } => book.scenario_set(*name, *at, content),
-        Command::Drop { name } => book.scenario_drop(*name),
-        Command::Base { name, other } => book.scenario_base(*name, *other),
-        Command::Use { name } => book.use_scenario(*name),
-        Command::As { name } => book.session(*name),
-        Command::Show { area } => book.show(*area, out),
-        Command::Export { area } => book.export(*area, out),
+    match *command {
+        Command::Set { force, at, content } => book.set(at, content, force),
+        Command::Clear { force, area } => book.clear(area, force),
+        Command::Fill { force, from, area } => book.fill(from, area, force),
+        Command::Scenario { name, at, content } => book.scenario_set(name, at, content),
+        Command::Drop { name } => book.scenario_drop(name),
+        Command::Base { name, other } => book.scenario_base(name, other),
+        Command::Use { name } => book.use_scenario(name),
+        Command::As { name } => book.session(name),
+        Command::Show { area } => book.show(area, out),
+        Command::Export { area } => book.export(area, out),
         Command::Changes => book.changes(out),
         Command::Compare {
             first,
             second,
             area,
-        } => book.compare(*first, *second, *area, out),
+        } => book.compare(first, second, area, out),
         Command::Table {
             formula_cell,
             input,
             column,
-        } => book.table(*formula_cell, *input, *column, None, out),
+        } => book.table(formula_cell, input, column, None, out),
         Command::TableOfTwo {
             formula_cell,
             input,
             column,
             second,
             row,
-        } => book.table(*formula_cell, *input, *column, Some((*second, *row)), out),
-        Command::Formula { at } => book.formula_text(*at, out),
+        } => book.table(formula_cell, input, column, Some((second, row)), out),
+        Command::Formula { at } => book.formula_text(at, out),
     }
 }
 

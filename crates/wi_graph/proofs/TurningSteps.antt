@@ -124,19 +124,17 @@ pub cone_is : (rooms : Rooms) (readers : Bag) (cone : BTreeSet ℕ) (xs : List �
 cone_is rooms readers cone xs o h a k l s are c =
     turned cone.keys c ∙ found_cone s readers xs cone (graph_readers rooms readers o h s (λ d. areas_rooms rooms.entries (Ascends-from_order rooms.entries o) d ∙ are d)) a k l c
 
-pub edit_cone : (rooms next : Rooms) (readers : Bag) (circles cone : BTreeSet ℕ) (ds given : List ℕ) (xs : List (ℕ × Option Content)) → IsGraph rooms readers circles → given ≡ ds → ds ≡ keys_of xs → HasAll given cone → HasReaders readers cone → IsLeast readers given cone → Brings next xs →
-    IsEditCone rooms next cone
-edit_cone rooms next readers circles cone ds given xs g e m a k l b = record {
+pub edit_cone : (rooms next : Rooms) (readers : Bag) (circles cone : BTreeSet ℕ) (xs : List (ℕ × Option Content)) → IsGraph rooms readers circles → HasAll (keys_of xs) cone → HasReaders readers cone → IsLeast readers (keys_of xs) cone → Brings next xs → IsEditCone rooms next cone
+edit_cone rooms next readers circles cone xs g a k l b = record {
   changes = xs;
   brings = b;
-  is_cone = λ s are c. cone_is rooms readers cone given g.ordered g.pairs a k l s are c ∙ ap (λ (ys : List ℕ). in_cone s ys c) (e ∙ m);
+  is_cone = λ s are c. cone_is rooms readers cone (keys_of xs) g.ordered g.pairs a k l s are c;
 }
 
 -- as a list
-pub listed_cone : (rooms : Rooms) (readers : Bag) (circles cone : BTreeSet ℕ) (ds given list : List ℕ) (xs : List (ℕ × Option Content)) → IsGraph rooms readers circles → given ≡ ds → ds ≡ keys_of xs → HasAll given cone → HasReaders readers cone → IsLeast readers given cone → list ≡ cone.keys →
+pub listed_cone : (rooms : Rooms) (readers : Bag) (circles cone : BTreeSet ℕ) (list : List ℕ) (xs : List (ℕ × Option Content)) → IsGraph rooms readers circles → HasAll (keys_of xs) cone → HasReaders readers cone → IsLeast readers (keys_of xs) cone → list ≡ cone.keys →
     (s : Sheet) → AreEdgesOf (edges_in rooms.entries) s → (c : ℕ) → is_one_of list c ≡ in_cone s (keys_of xs) c
-listed_cone rooms readers circles cone ds given list xs g e m a k l f s h c =
-    ap (λ (ys : List ℕ). is_one_of ys c) f ∙ found_cone s readers given cone (graph_readers rooms readers g.ordered g.pairs s h) a k l c ∙ ap (λ (ys : List ℕ). in_cone s ys c) (e ∙ m)
+listed_cone rooms readers circles cone list xs g a k l f s h c = ap (λ (ys : List ℕ). is_one_of ys c) f ∙ found_cone s readers (keys_of xs) cone (graph_readers rooms readers g.ordered g.pairs s h) a k l c
 
 -- a sheet after the edit
 pub brought : (rooms next : Rooms) (circles cone : BTreeSet ℕ) (g : AreCircles (room_at rooms) (contains nat_cmp circles)) (k : IsEditCone rooms next cone) → (c : ℕ) → room_over next rooms c ≡ areas_in (content_of (then_sheet g.sheet k.changes) c)

@@ -9,8 +9,8 @@ ghost use Rattle.wi_graph.specs.Circular.{circular};
 ghost use Rattle.wi_graph.specs.Reach.{is_one_of, in_cone};
 ghost use Rattle.wi_graph.specs.Edges.{AreEdgesOf, edges_after, staging};
 
-use crate::changes::{changed_cells, reads_stay, rooms_of};
-use crate::cone::cone_of;
+use crate::changes::{reads_stay, rooms_of};
+use crate::cone::{cone_of, edit_cone};
 use crate::rooms::{Rooms, take_back, take_over};
 use crate::sets::{listed, take_away};
 use crate::staging::bring_in;
@@ -85,8 +85,7 @@ impl Graph {
         ensures cells { IfOk result (λ cone. (s : Sheet) → AreEdgesOf self.old.now s
             → (c : ℕ) → is_one_of cone.items c ≡ in_cone s (keys_of changes.now) c) }
     {
-        let cells = changed_cells(self.alloc, changes)?;
-        let found = cone_of(self.alloc, &self.readers, &cells)?;
+        let found = edit_cone(self.alloc, &self.readers, changes)?;
         let cone = listed(self.alloc, &found)?;
         let coming = rooms_of(self.alloc, changes)?;
         let turns = turns_of(self.alloc, &self.rooms, &self.circles, &coming, &found)?;

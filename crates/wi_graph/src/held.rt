@@ -1,8 +1,12 @@
 //! Which cells of a cone read a circular cell outside it.
 
-ghost use Rattle.std.specs.Prelude.{◌≡◌, filter, IfOk};
+ghost use Rattle.std.specs.Prelude.{◌≡◌, ℕ, filter, IfOk};
+ghost use Rattle.std.specs.Ordering.{nat_cmp};
+ghost use Rattle.std.specs.BTreeSet.{contains};
+ghost use Rattle.wi_graph.specs.Reach.{is_one_of};
 ghost use Rattle.wi_graph.specs.Inner.Turning.{has_circle_outside, reads_outside};
 
+use crate::sets::set_of;
 use crate::stripping::Areas;
 use crate::within::{next_after, next_within};
 use std::alloc::{AllocError, Global};
@@ -10,7 +14,21 @@ use std::collections::BTreeSet;
 use wi_values::{Address, Rect};
 
 /// The cells of a cone that read a circular cell outside it. The work is that of `has_circle_outside` for each rectangle that they read.
-pub(crate) fn held_cells(
+pub(crate) fn held_set(
+    alloc: Global,
+    reads: &Areas,
+    circles: &BTreeSet<Address>,
+    cells: &BTreeSet<Address>,
+) -> Result<BTreeSet<Address>, AllocError>
+    ensures { IfOk result (λ held. (c : ℕ) → contains nat_cmp held c
+        ≡ is_one_of (filter (reads_outside reads.now circles.now cells.now) cells.now.keys) c) }
+{
+    let held = held_cells(alloc, reads, circles, cells)?;
+    set_of(alloc, &held)
+}
+
+/// The same as a list.
+fn held_cells(
     alloc: Global,
     reads: &Areas,
     circles: &BTreeSet<Address>,

@@ -11,7 +11,7 @@ ghost use Rattle.wi_graph.specs.Inner.Turning.{reads_one_of, AreTurns, SettlesCo
 
 use crate::changes::reads_stay;
 use crate::closing::closes_cycle;
-use crate::held::held_cells;
+use crate::held::held_set;
 use crate::reads::reads_of;
 use crate::rooms::Rooms;
 use crate::sets::{insert_all, listed, set_of, take_away, without};
@@ -103,8 +103,7 @@ fn circular_in_cone(
 {
     let list = listed(alloc, cells)?;
     let reads = reads_of(alloc, rooms, next, &list)?;
-    let outer = held_cells(alloc, &reads, circles, cells)?;
-    let held = set_of(alloc, &outer)?;
+    let held = held_set(alloc, &reads, circles, cells)?;
     let mut rest = set_of(alloc, &list)?;
     strip(alloc, reads, &held, &mut rest)?;
     Ok(rest)

@@ -2,44 +2,53 @@
 
 ghost use Rattle.std.specs.Prelude.{◌≡◌, None, IfOk, OnOk};
 
-use std::alloc::Global;
+use std::alloc::{AllocError, Global};
 use std::process::Abort;
 use std::test::Fail;
 use wi_graph::Graph;
 use wi_parser::Content;
 use wi_values::Address;
 
-/// The contents of cells; an empty text empties its cell.
-type Edit<'a> = &'a [(&'a str, &'a str)];
+type Changes = Vec<(Address, Option<Content>)>;
 
-fn changes(alloc: Global, edit: Edit<'_>) -> Result<Vec<(Address, Option<Content>)>, Fail> {
+/// Whether it is kept or taken back, and the contents of cells; an empty text empties its cell.
+type Edit<'a> = (bool, &'a [(&'a str, &'a str)]);
+
+fn content(alloc: Global, text: &str) -> Result<Option<Content>, Fail> {
+    if text.is_empty() {
+        return Ok(None);
+    }
+    Ok(Some(Content::read(alloc, text)?))
+}
+
+fn changes(alloc: Global, cells: &[(&str, &str)]) -> Result<Changes, Fail> {
     let mut changes = Vec::new(alloc);
-    for (at, text) in edit {
-        let content = if text.is_empty() {
-            None
-        } else {
-            Some(Content::read(alloc, text)?)
-        };
-        changes.push((Address::read(at.as_bytes())?, content))?;
+    for (at, text) in cells {
+        let at = Address::read(at.as_bytes())?;
+        changes.push((at, content(alloc, text)?))?;
     }
     Ok(changes)
 }
 
-fn addresses(alloc: Global, cells: &[&str]) -> Result<Vec<Address>, Fail> {
-    let mut addresses = Vec::new(alloc);
-    for cell in cells {
-        addresses.push(Address::read(cell.as_bytes())?)?;
-    }
-    Ok(addresses)
+fn stage(alloc: Global, graph: &mut Graph, cells: &[(&str, &str)]) -> Result<(), Fail>
+    requires { graph.old.staged ≡ None }
+{
+    graph.stage(&changes(alloc, cells)?)?;
+    Ok(())
 }
 
 /// Takes an edit.
-fn edit(alloc: Global, graph: &mut Graph, edit: Edit<'_>) -> Result<(), Fail>
+fn edit(alloc: Global, graph: &mut Graph, edit: &Edit<'_>) -> Result<(), Fail>
     requires { graph.old.staged ≡ None }
     ensures { OnOk result (graph.new.staged ≡ None) }
 {
-    graph.stage(&changes(alloc, edit)?)?;
-    graph.commit();
+    let (is_kept, cells) = *edit;
+    stage(alloc, graph, cells)?;
+    if is_kept {
+        graph.commit();
+    } else {
+        graph.rollback();
+    }
     Ok(())
 }
 
@@ -54,16 +63,36 @@ fn graph(alloc: Global, edits: &[Edit<'_>]) -> Result<Graph, Fail>
     Ok(graph)
 }
 
+fn addresses(alloc: Global, cells: &[&str]) -> Result<Vec<Address>, Fail> {
+    let mut addresses = Vec::new(alloc);
+    for cell in cells {
+        addresses.push(Address::read(cell.as_bytes())?)?;
+    }
+    Ok(addresses)
+}
+
+/// Appends addresses, a space behind each.
+fn push_addresses(addresses: &[Address], text: &mut String) -> Result<(), AllocError> {
+    for at in addresses {
+        at.push_text(text)?;
+        text.push(' ')?;
+    }
+    Ok(())
+}
+
 /// The cone of some cells, a space behind each.
 fn cone(alloc: Global, graph: &Graph, cells: &[&str]) -> Result<String, Fail>
     requires { graph.now.staged ≡ None }
 {
+    let cone = graph.cone(&addresses(alloc, cells)?)?;
     let mut text = String::new(alloc);
-    for cell in &graph.cone(&addresses(alloc, cells)?)? {
-        cell.push_text(&mut text)?;
-        text.push(' ')?;
-    }
+    push_addresses(&cone, &mut text)?;
     Ok(text)
+}
+
+/// Of something a text is told, and this is wanted.
+fn expect_text(rt: &impl Abort, of: &str, told: &str, wanted: &str) {
+    assert_eq!(rt; told, wanted, "{of}");
 }
 
 fn expect_cones(
@@ -75,40 +104,60 @@ fn expect_cones(
     requires { graph.now.staged ≡ None }
 {
     for (cells, wanted) in rows {
-        assert_eq!(rt; cone(alloc, graph, cells)?.as_str(), *wanted);
+        expect_text(rt, "cone", &cone(alloc, graph, cells)?, wanted);
     }
     Ok(())
+}
+
+fn word(is_circular: bool) -> &'static str {
+    if is_circular {
+        "circular"
+    } else {
+        "not circular"
+    }
 }
 
 fn expect_circular(rt: &impl Abort, graph: &Graph, rows: &[(&str, bool)]) -> Result<(), Fail>
     requires { graph.now.staged ≡ None }
 {
     for (at, wanted) in rows {
-        assert_eq!(rt;
-            graph.is_circular(Address::read(at.as_bytes())?),
-            *wanted,
-            "{at}"
-        );
+        let is_circular = graph.is_circular(Address::read(at.as_bytes())?);
+        expect_text(rt, at, word(is_circular), word(*wanted));
     }
     Ok(())
 }
 
-const READING: Edit<'static> = &[
-    ("A1", "2"),
-    ("B1", "=[.A1]*2"),
-    ("C1", "=[.A2:.A1048576]&[.B1]"),
-    ("D1", "=MULTIPLE.OPERATIONS([.C1];[.E5];[.F6])"),
-    ("E1", "=1+1"),
-    ("F1", "=[.D1]+[.B1]"),
-];
+/// Cones, and cells that are circular or not, after these edits.
+fn expect(
+    rt: &impl Abort,
+    alloc: Global,
+    edits: &[Edit<'_>],
+    cones: &[(&[&str], &str)],
+    circular: &[(&str, bool)],
+) -> Result<(), Fail> {
+    let graph = graph(alloc, edits)?;
+    expect_circular(rt, &graph, circular)?;
+    expect_cones(rt, alloc, &graph, cones)
+}
+
+const READING: Edit<'static> = (
+    true,
+    &[
+        ("A1", "2"),
+        ("B1", "=[.A1]*2"),
+        ("C1", "=[.A2:.A1048576]&[.B1]"),
+        ("D1", "=MULTIPLE.OPERATIONS([.C1];[.E5];[.F6])"),
+        ("E1", "=1+1"),
+        ("F1", "=[.D1]+[.B1]"),
+    ],
+);
 
 #[test]
 fn cones_have_readers_at_any_remove(rt: HostRuntime) -> Result<(), Fail> {
-    let graph = graph(rt.alloc(), &[READING])?;
-    expect_cones(
+    expect(
         &rt,
         rt.alloc(),
-        &graph,
+        &[READING],
         &[
             (&[], ""),
             (&["A1"], "A1 B1 C1 D1 F1 "),
@@ -119,41 +168,49 @@ fn cones_have_readers_at_any_remove(rt: HostRuntime) -> Result<(), Fail> {
             (&["F1", "B1"], "B1 C1 D1 F1 "),
             (&["XFD1048576"], "XFD1048576 "),
         ],
+        &[],
     )
 }
 
-const LATER: Edit<'static> = &[("C1", ""), ("D1", "7"), ("E1", "=[.A9]"), ("E1", "=[.A1]")];
+const LATER: Edit<'static> = (
+    true,
+    &[("C1", ""), ("D1", "7"), ("E1", "=[.A9]"), ("E1", "=[.A1]")],
+);
 
 #[test]
 fn an_edit_gives_other_readers(rt: HostRuntime) -> Result<(), Fail> {
-    let graph = graph(rt.alloc(), &[READING, LATER])?;
-    expect_cones(
+    expect(
         &rt,
         rt.alloc(),
-        &graph,
+        &[READING, LATER],
         &[
             (&["A1"], "A1 B1 E1 F1 "),
             (&["A9"], "A9 "),
             (&["D1"], "D1 F1 "),
         ],
+        &[],
     )
 }
 
-const CYCLE: Edit<'static> = &[
-    ("A1", "=[.C1]"),
-    ("B1", "=[.A1]+1"),
-    ("C1", "=[.B1]+[.A9]"),
-    ("D1", "=[.B1:.C9]"),
-    ("E1", "=[.A9]"),
-    ("F1", "=[.F1]"),
-];
+const CYCLE: Edit<'static> = (
+    true,
+    &[
+        ("A1", "=[.C1]"),
+        ("B1", "=[.A1]+1"),
+        ("C1", "=[.B1]+[.A9]"),
+        ("D1", "=[.B1:.C9]"),
+        ("E1", "=[.A9]"),
+        ("F1", "=[.F1]"),
+    ],
+);
 
 #[test]
 fn cells_on_and_above_a_cycle_are_circular(rt: HostRuntime) -> Result<(), Fail> {
-    let graph = graph(rt.alloc(), &[CYCLE])?;
-    expect_circular(
+    expect(
         &rt,
-        &graph,
+        rt.alloc(),
+        &[CYCLE],
+        &[],
         &[
             ("A1", true),
             ("B1", true),
@@ -166,12 +223,15 @@ fn cells_on_and_above_a_cycle_are_circular(rt: HostRuntime) -> Result<(), Fail> 
     )
 }
 
+const OPENED: Edit<'static> = (true, &[("B1", "5")]);
+
 #[test]
 fn an_opened_cycle_is_none(rt: HostRuntime) -> Result<(), Fail> {
-    let graph = graph(rt.alloc(), &[CYCLE, &[("B1", "5")]])?;
-    expect_circular(
+    expect(
         &rt,
-        &graph,
+        rt.alloc(),
+        &[CYCLE, OPENED],
+        &[],
         &[
             ("A1", false),
             ("B1", false),
@@ -182,47 +242,78 @@ fn an_opened_cycle_is_none(rt: HostRuntime) -> Result<(), Fail> {
     )
 }
 
+const TAKEN_BACK: Edit<'static> = (false, &[("A1", "=[.F1]"), ("B1", ""), ("E1", "=[.A1]")]);
+
 #[test]
 fn what_is_rolled_back_was_not(rt: HostRuntime) -> Result<(), Fail> {
-    let mut graph = graph(rt.alloc(), &[READING])?;
-    graph.stage(&changes(
-        rt.alloc(),
-        &[("A1", "=[.F1]"), ("B1", ""), ("E1", "=[.A1]")],
-    )?)?;
-    graph.rollback();
-    expect_circular(&rt, &graph, &[("A1", false), ("F1", false)])?;
-    expect_cones(
+    expect(
         &rt,
         rt.alloc(),
-        &graph,
+        &[READING, TAKEN_BACK],
         &[(&["A1"], "A1 B1 C1 D1 F1 "), (&["F1"], "F1 ")],
+        &[("A1", false), ("F1", false)],
     )
 }
 
+/// Appends a formula of one more than a cell.
+fn push_one_more(above: Address, text: &mut String) -> Result<(), AllocError> {
+    text.push_str("=[.")?;
+    above.push_text(text)?;
+    text.push_str("]+1")
+}
+
+fn one_more(alloc: Global, above: Address) -> Result<Content, Fail> {
+    let mut text = String::new(alloc);
+    push_one_more(above, &mut text)?;
+    Ok(Content::read(alloc, text.as_str())?)
+}
+
 /// Below A1 a thousand cells, each one more than the cell above.
-fn chain(alloc: Global) -> Result<Vec<(Address, Option<Content>)>, Fail> {
+fn chain(alloc: Global) -> Result<Changes, Fail> {
     let mut changes = Vec::new(alloc);
     for row in 0..1_000 {
-        let mut text = String::new(alloc);
-        text.push_str("=[.")?;
-        Address::at(row, 0).push_text(&mut text)?;
-        text.push_str("]+1")?;
-        let content = Content::read(alloc, text.as_str())?;
+        let content = one_more(alloc, Address::at(row, 0))?;
         changes.push((Address::at(row + 1, 0), Some(content)))?;
     }
     Ok(changes)
 }
 
+/// Takes the edit that makes the chain.
+fn take_chain(alloc: Global, graph: &mut Graph) -> Result<(), Fail>
+    requires { graph.old.staged ≡ None }
+    ensures { OnOk result (graph.new.staged ≡ None) }
+{
+    graph.stage(&chain(alloc)?)?;
+    graph.commit();
+    Ok(())
+}
+
+/// How many cells depend on the first.
+fn count_chain(graph: &Graph) -> Result<usize, AllocError>
+    requires { graph.now.staged ≡ None }
+{
+    Ok(graph.cone(&[Address::at(0, 0)])?.len())
+}
+
+const CLOSED: Edit<'static> = (true, &[("A1", "=[.A1001]")]);
+
+const LEFT_OPEN: Edit<'static> = (true, &[("A1", "=[.B1]")]);
+
+/// The chain is counted, closed and opened again.
+fn expect_chain(rt: &impl Abort, alloc: Global, graph: &mut Graph) -> Result<(), Fail>
+    requires { graph.old.staged ≡ None }
+{
+    take_chain(alloc, graph)?;
+    let count = count_chain(graph)?;
+    edit(alloc, graph, &CLOSED)?;
+    let is_closed = graph.is_circular(Address::at(500, 0));
+    edit(alloc, graph, &LEFT_OPEN)?;
+    let is_left = graph.is_circular(Address::at(500, 0));
+    assert_eq!(rt; (count, is_closed, is_left), (1_001, true, false));
+    Ok(())
+}
+
 #[test]
 fn a_thousand_cells_depend_on_the_first(rt: HostRuntime) -> Result<(), Fail> {
-    let mut graph = Graph::new(rt.alloc());
-    graph.stage(&chain(rt.alloc())?)?;
-    graph.commit();
-    let first = Address::at(0, 0);
-    assert_eq!(rt; graph.cone(&[first])?.len(), 1_001);
-    edit(rt.alloc(), &mut graph, &[("A1", "=[.A1001]")])?;
-    assert!(rt; graph.is_circular(Address::at(500, 0)));
-    edit(rt.alloc(), &mut graph, &[("A1", "=[.B1]")])?;
-    assert!(rt; !graph.is_circular(Address::at(500, 0)));
-    Ok(())
+    expect_chain(&rt, rt.alloc(), &mut Graph::new(rt.alloc()))
 }

@@ -45,7 +45,7 @@ Refusals, after which all is as before:
   E11  too many scenarios, replacements or sessions
   E12  the scenario is in use
   E13  the script ends before the last line of CSV
-  E14  the lines are no CSV, or a field is no UTF-8
+  E14  a field is no UTF-8
   E15  the area is too large
   E16  a reference would leave the sheet
   E17  too many edits

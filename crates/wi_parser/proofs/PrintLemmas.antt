@@ -1,8 +1,9 @@
 -- What is appended to a text that must stay at the front.
-use Rattle.std.proofs.Common.{◌≡◌, refl, ℕ, List, ◌++◌, sym, ap, ◌∙◌, [], ◌∷◌, append_assoc, map, codes, cond, Result, Ok, Err, is_ok, OnOk}
+use Rattle.std.proofs.Common.{◌≡◌, refl, ℕ, List, ◌++◌, sym, ap, ◌∙◌, [], ◌∷◌, append_assoc, map, codes, cond, Result, Ok, Err, is_ok, OnOk, subst}
 use Rattle.std.proofs.lemmas.List.Concat.{flat_map-append}
 use Rattle.std.specs.List.{flat_map}
-pub use Rattle.wi_fraction.proofs.Decimals.{starts_itself, starts_more, starts_trans, cut_place}
+use Rattle.std.specs.Io.{StartsWith}
+pub use Rattle.wi_fraction.proofs.Decimals.{starts_itself, starts_more, starts_trans, starts_with, cut_place}
 use Rattle.wi_lexer.specs.Reference.{reference_text}
 use Rattle.wi_parser.specs.declared.expr.Pair.{Pair}
 use Rattle.wi_parser.specs.declared.expr.Reference.{Reference}
@@ -13,6 +14,23 @@ use Rattle.wi_parser.specs.Symbol.{Symbol, close_parenthesis}
 use Rattle.wi_parser.specs.View.{pair_of}
 use Rattle.wi_parser.specs.Printing.{cell_named, symbol_text, symbols_text, tree_text}
 use Rattle.wi_parser.specs.Inner.PrintedParts.{pairs_text}
+
+-- what a text begins with, a text that is the same begins with
+pub starts_same : (o d front : List ℕ) → d ≡ o → StartsWith o front → StartsWith d front
+starts_same o d front h k = subst (λ x. StartsWith x front) (sym h) k
+
+-- where nothing was appended
+pub starts_kept : (o d : List ℕ) → d ≡ o → StartsWith d o
+starts_kept o d h = starts_same o d o h (starts_itself o)
+
+-- what begins with a longer text begins with that one's front
+pub starts_on : (o a d more : List ℕ) → a ≡ o ++ more → StartsWith d a → StartsWith d o
+starts_on o a d more h k = starts_trans a d o k (starts_with a o more h)
+
+-- where more was appended or memory ended
+pub starts_still : {E : Type 0} (r : Result (Unit {0}) E) (o d front more : List ℕ) → d ≡ cond (is_ok r) (o ++ more) o → StartsWith o front → StartsWith d front
+starts_still (Ok u) o d front more h k = starts_same (o ++ more) d front h (starts_more o more front k)
+starts_still (Err e) o d front more h k = starts_same o d front h k
 
 -- the text of symbols and of others after them
 pub symbols_more : (xs ys : List Symbol) → symbols_text (xs ++ ys) ≡ symbols_text xs ++ symbols_text ys

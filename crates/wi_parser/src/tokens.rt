@@ -1,9 +1,10 @@
 //! From a text to symbols.
 
-ghost use Rattle.std.specs.Prelude.{◌≡◌, ◌++◌, IfOk};
+ghost use Rattle.std.specs.Prelude.{◌≡◌, ◌++◌, IfOk, codes};
 ghost use Rattle.wi_lexer.specs.Inner.Tokens.{tokens};
 ghost use Rattle.wi_parser.specs.Inner.SymbolCode.{all_meant};
-ghost use Rattle.wi_parser.specs.Inner.FormulaText.{formula_symbols, symbols_of};
+ghost use Rattle.wi_parser.specs.Inner.FormulaText as spec;
+ghost use Rattle.wi_parser.specs.Inner.FormulaText.{formula_symbols, symbols_by, symbols_of};
 
 use crate::fault::ParseFault;
 use crate::front::{after, after_prefix};
@@ -16,15 +17,22 @@ use wi_lexer::Lexer;
 pub fn symbols_of(alloc: Global, text: &str) -> Result<Vec<Symbol>, AllocError>
     ensures { IfOk result (λ symbols. all_meant symbols.items ≡ formula_symbols text.now) }
 {
-    let text = after_prefix(text);
     let mut symbols = Vec::new(alloc);
+    push_all(alloc, after_prefix(text), &mut symbols)?;
+    Ok(symbols)
+}
+
+// Appends the symbols of a formula's text without its prefix. Where it does not begin with `=`, a refused one is the first.
+#[tactic(auto, using(crate::proofs::Collected::pushed))]
+fn push_all(alloc: Global, text: &str, symbols: &mut Vec<Symbol>) -> Result<(), AllocError>
+    ensures { IfOk result
+        (λ _. all_meant symbols.new.items ≡ all_meant symbols.old.items ++ symbols_by text.now (spec.after (codes "=") text.now)) }
+{
     let Some(body) = after("=", text) else {
         symbols.push(Symbol::Refused(ParseFault::Syntax))?;
-        push_symbols(alloc, text, &mut symbols)?;
-        return Ok(symbols);
+        return push_symbols(alloc, text, symbols);
     };
-    push_symbols(alloc, body, &mut symbols)?;
-    Ok(symbols)
+    push_symbols(alloc, body, symbols)
 }
 
 // Appends the symbols of the tokens, up to the first bad one.

@@ -4,10 +4,11 @@ ghost use Rattle.std.specs.Prelude.{◌≡◌, ◌↔◌, ◌∷◌, [], true, f
 ghost use Rattle.std.specs.List.{list_any};
 ghost use Rattle.indexmap.specs.IndexMap.{values};
 ghost use Rattle.std.specs.Option.{option_copied, option_map};
+ghost use Rattle.std.specs.Rc.{rc_str_bytes};
 ghost use Rattle.wi_values.specs.Replacements.{IsInOrder, as_map};
 ghost use Rattle.wi_scenario_list.specs.Scenarios.{scenario_of, has_scenario, chain_within, layered, effective, with_scenario, without_scenario, scenario_for, with_own, without_own, is_full};
 ghost use Rattle.wi_scenario_list.specs.Bases.{rests_on, is_base, is_name_of, based_on};
-ghost use Rattle.wi_scenario_list.specs.Inner.Held.{base_of, with_name};
+ghost use Rattle.wi_scenario_list.specs.Inner.Held.{base_of, held, with_name};
 ghost use Rattle.wi_scenario_list.specs.Inner.Chains.{is_in_chain};
 ghost use Rattle.wi_scenario_list.specs.declared.fault.ScenarioFault.TheVariants.{TooMany};
 
@@ -126,8 +127,7 @@ impl Scenarios {
         if self.is_full(name, at) {
             return Err(ScenarioFault::TooMany);
         }
-        let layer = self.layer_for(name)?.with(self.alloc, at, value)?;
-        self.set(name, layer)?;
+        self.put_in(name, at, value)?;
         Ok(())
     }
 
@@ -207,6 +207,22 @@ impl Scenarios {
         }
     }
 
+    /// Puts a replacement into a scenario, however many there are. If memory runs out, all is as before.
+    fn put_in(&mut self, name: &str, at: Address, value: Value) -> Result<(), AllocError>
+        ensures ok { OnOk result (self.new ≡ with_scenario self.old (with_own (scenario_for self.old name.now) (record { at = at; value = value } ∷ []))) }
+        ensures err { OnErr result (self.new ≡ self.old) }
+    {
+        let layer = self.layer_with(name, at, value)?;
+        self.set(name, layer)
+    }
+
+    /// What the scenario of this name, or else a new one, holds once a replacement is put in.
+    fn layer_with(&self, name: &str, at: Address, value: Value) -> Result<Layer, AllocError>
+        ensures { IfOk result (λ l. with_name name.now l ≡ with_own (scenario_for self.now name.now) (record { at = at; value = value } ∷ [])) }
+    {
+        self.layer_for(name)?.with(self.alloc, at, value)
+    }
+
     /// What the scenario of this name holds, or else what a new one holds.
     fn layer_for(&self, name: &str) -> Result<Layer, AllocError>
         ensures { IfOk result (λ l. with_name name.now l ≡ scenario_for self.now name.now) }
@@ -223,9 +239,17 @@ impl Scenarios {
         ensures err { OnErr result (self.new ≡ self.old) }
     {
         let name = RcStr::from_str(self.alloc, name)?;
-        self.layers.insert(name, layer)?;
-        Ok(())
+        insert(&mut self.layers, name, layer)
     }
+}
+
+/// Puts a layer in the place of the one of its name, or at the end.
+fn insert(layers: &mut IndexMap<RcStr, Layer>, name: RcStr, layer: Layer) -> Result<(), AllocError>
+    ensures ok { OnOk result (held layers.new.entries ≡ with_scenario (held layers.old.entries) (with_name (rc_str_bytes name) layer)) }
+    ensures err { OnErr result (layers.new.entries ≡ layers.old.entries) }
+{
+    layers.insert(name, layer)?;
+    Ok(())
 }
 
 /// Whether some layer has a base scenario of this name.

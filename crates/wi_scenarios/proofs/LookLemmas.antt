@@ -5,7 +5,12 @@ use Rattle.std.specs.Result.{IsErrAnd}
 use Rattle.std.proofs.lemmas.Result.{err_from_is_err_and}
 use Rattle.std.proofs.lemmas.List.{append-nil}
 use Rattle.std.proofs.lemmas.Bool.Decides.{nat_tests}
-use Rattle.wi_values.specs.Address.{Area}
+use Rattle.wi_values.specs.Address.{Area, size_of}
+use Rattle.wi_scenario_list.specs.Scenarios.{effective}
+use Rattle.wi_scenario_list.specs.Bases.{lacks}
+use Rattle.wi_reports.specs.Rows.{rows_shown}
+use Rattle.wi_reports.specs.Export.{export_of}
+use Rattle.wi_reports.specs.Compare.{cells_compared}
 use Rattle.wi_reports.specs.Table.{table_of, is_column, has_row, entries}
 use Rattle.wi_scenarios.specs.declared.refusal.Refusal.{Refusal}
 use Rattle.wi_scenarios.specs.declared.refusal.Refusal.TheVariants.{Memory}
@@ -14,6 +19,9 @@ use Rattle.wi_scenarios.specs.Views.{current_replacements}
 use Rattle.wi_scenarios.specs.Areas.{max_area}
 use Rattle.wi_scenarios.specs.Answer.{Answer, may_grow, Serves}
 use Rattle.wi_scenarios.specs.Causes.{no_cause, answer}
+use Rattle.wi_scenarios.specs.Show.{show_step}
+use Rattle.wi_scenarios.specs.Export.{export_step}
+use Rattle.wi_scenarios.specs.Compare.{compare_step}
 use Rattle.wi_scenarios.specs.Table.{table_step}
 
 -- the call wrote some records, and did as the answer says
@@ -26,6 +34,36 @@ lacked step r s t before after grows k same kept =
     let p = err_from_is_err_and r k in
     subst (λ x. Looked step x s t before after) (sym (p.1 ∙ ap Err p.2))
     ([], kept ∙ sym (append-nil before), (record { answer = step; is_answer = refl; grows = grows }, same, refl))
+
+-- ---- a rectangle that isn't too large, and scenarios that are there
+
+looked_grows : (s : State) (records : List ℕ) (large lacking : Bool) → large ≡ false → lacking ≡ false → may_grow (answer (record no_cause { too_large = large; no_scenario = lacking }) (s, records)) ≡ true
+looked_grows s records true lacking e f = absurd (let z = e in cc)
+looked_grows s records false true e f = absurd (let z = f in cc)
+looked_grows s records false false e f = refl
+
+pub show_lacked : (s t : State) (area : Area) (large : Bool) (before after : List ℕ) (r : Result (Unit {0}) Refusal)
+    → large ≡ nat_lt max_area (size_of area) → large ≡ false → IsErrAnd r (λ e. e ≡ Memory) → t ≡ s → after ≡ before → Looked (show_step s area) r s t before after
+show_lacked s t area large before after r size fits k same kept =
+    lacked (show_step s area) r s t before after
+    (looked_grows s (rows_shown s.stored.sheet (current_replacements s) area) (nat_lt max_area (size_of area)) false (sym size ∙ fits) refl)
+    k same kept
+
+pub export_lacked : (s t : State) (area : Area) (large : Bool) (before after : List ℕ) (r : Result (Unit {0}) Refusal)
+    → large ≡ nat_lt max_area (size_of area) → large ≡ false → IsErrAnd r (λ e. e ≡ Memory) → t ≡ s → after ≡ before → Looked (export_step s area) r s t before after
+export_lacked s t area large before after r size fits k same kept =
+    lacked (export_step s area) r s t before after
+    (looked_grows s (export_of (rows_shown s.stored.sheet (current_replacements s) area)) (nat_lt max_area (size_of area)) false (sym size ∙ fits) refl)
+    k same kept
+
+pub compare_lacked : (s t : State) (first second : Option (List ℕ)) (area : Area) (large lacking : Bool) (before after : List ℕ) (r : Result (Unit {0}) Refusal)
+    → large ≡ nat_lt max_area (size_of area) → large ≡ false → lacking ≡ (lacks s.scenarios first || lacks s.scenarios second) → lacking ≡ false
+    → IsErrAnd r (λ e. e ≡ Memory) → t ≡ s → after ≡ before → Looked (compare_step s first second area) r s t before after
+compare_lacked s t first second area large lacking before after r size fits named there k same kept =
+    lacked (compare_step s first second area) r s t before after
+    (looked_grows s (cells_compared s.stored.sheet (effective s.scenarios first) (effective s.scenarios second) area)
+    (nat_lt max_area (size_of area)) (lacks s.scenarios first || lacks s.scenarios second) (sym size ∙ fits) (sym named ∙ there))
+    k same kept
 
 -- ---- a table whose column and row are such, and that isn't too large
 

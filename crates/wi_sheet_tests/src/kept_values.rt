@@ -2,52 +2,29 @@
 
 ghost use Rattle.std.specs.Prelude.{◌≤◌};
 
-use crate::texts::{expect_text, replacement, told, value};
-use std::alloc::Global;
+use crate::keys::{is_logical, keep, keep_in_table, look, look_in_table};
+use crate::texts::{expect_text, value, word};
+use crate::worlds::after;
+use std::alloc::{AllocError, Global};
 use std::process::Abort;
 use std::test::Fail;
 use wi_cache::{Kept, Key, RunTable};
 use wi_values::{Address, Value};
 use wi_worlds::World;
 
-/// The key of a cell, with no replacements.
-fn key(alloc: Global, cell: Address) -> Key {
-    Key {
-        cell,
-        generation: 0,
-        world: World::new(alloc),
-    }
-}
-
-/// Keeps a value under the key of a cell.
-fn keep(alloc: Global, kept: &mut Kept, at: &str, text: &str) -> Result<(), Fail> {
+/// Keeps the value of a word for a cell.
+fn keep_word(alloc: Global, kept: &mut Kept, at: &str, word: &str) -> Result<(), Fail> {
     let cell = Address::read(at.as_bytes())?;
-    let value = value(alloc, text)?;
-    kept.keep(key(alloc, cell), value)?;
+    let value = value(alloc, word)?;
+    keep(alloc, kept, cell, value)?;
     Ok(())
 }
 
-/// The list that keeps values one after another, with room for so many.
-fn list(alloc: Global, room: usize, values: &[(&str, &str)]) -> Result<Kept, Fail>
-    requires { 1 ≤ room }
-{
-    let mut kept = Kept::new(alloc, room)?;
-    for (at, text) in values {
-        keep(alloc, &mut kept, at, text)?;
+fn keep_words(alloc: Global, kept: &mut Kept, values: &[(&str, &str)]) -> Result<(), Fail> {
+    for (at, word) in values {
+        keep_word(alloc, kept, at, word)?;
     }
-    Ok(kept)
-}
-
-fn look(alloc: Global, kept: &Kept, cell: Address) -> Option<&Value> {
-    kept.look(&key(alloc, cell))
-}
-
-/// The value that is found for a cell as it is told, and where none is found a dash.
-fn found(alloc: Global, kept: &Kept, at: &str) -> Result<String, Fail> {
-    match look(alloc, kept, Address::read(at.as_bytes())?) {
-        Some(value) => Ok(told(alloc, value)?),
-        None => Ok(String::from_str(alloc, "-")?),
-    }
+    Ok(())
 }
 
 /// These values are found, and this is how many there are.
@@ -59,7 +36,8 @@ fn expect_found(
     len: usize,
 ) -> Result<(), Fail> {
     for (at, wanted) in wanted {
-        expect_text(rt, at, &found(alloc, kept, at)?, wanted);
+        let cell = Address::read(at.as_bytes())?;
+        expect_text(rt, at, word(look(alloc, kept, cell)), wanted);
     }
     assert_eq!(rt; kept.len(), len);
     Ok(())
@@ -76,7 +54,8 @@ fn expect_kept(
 ) -> Result<(), Fail>
     requires { 1 ≤ room }
 {
-    let kept = list(alloc, room, values)?;
+    let mut kept = Kept::new(alloc, room)?;
+    keep_words(alloc, &mut kept, values)?;
     expect_found(rt, alloc, &kept, wanted, len)
 }
 
@@ -87,22 +66,38 @@ fn an_empty_list_has_none(rt: HostRuntime) -> Result<(), Fail> {
 
 #[test]
 fn a_full_list_of_one_keeps_the_new_key(rt: HostRuntime) -> Result<(), Fail> {
-    let values = [("A1", "TRUE"), ("B1", "")];
-    let wanted = [("A1", "-"), ("B1", "")];
-    expect_kept(&rt, rt.alloc(), 1, &values, &wanted, 1)
+    expect_kept(
+        &rt,
+        rt.alloc(),
+        1,
+        &[("A1", "TRUE"), ("B1", "")],
+        &[("A1", "-"), ("B1", "")],
+        1,
+    )
 }
 
 #[test]
 fn a_known_key_drops_none(rt: HostRuntime) -> Result<(), Fail> {
-    let values = [("A1", "TRUE"), ("B1", ""), ("A1", "FALSE")];
-    let wanted = [("A1", "FALSE"), ("B1", "")];
-    expect_kept(&rt, rt.alloc(), 2, &values, &wanted, 2)
+    expect_kept(
+        &rt,
+        rt.alloc(),
+        2,
+        &[("A1", "TRUE"), ("B1", ""), ("A1", "FALSE")],
+        &[("A1", "FALSE"), ("B1", "")],
+        2,
+    )
 }
 
 #[test]
 fn a_full_list_of_two_drops_one(rt: HostRuntime) -> Result<(), Fail> {
-    let values = [("A1", ""), ("B1", ""), ("C1", "")];
-    expect_kept(&rt, rt.alloc(), 2, &values, &[("C1", "")], 2)
+    expect_kept(
+        &rt,
+        rt.alloc(),
+        2,
+        &[("A1", ""), ("B1", ""), ("C1", "")],
+        &[("C1", "")],
+        2,
+    )
 }
 
 /// Whether a value is found for A1 in a generation and a world.
@@ -116,19 +111,13 @@ fn knows_a1(kept: &Kept, generation: u64, world: World) -> bool {
     .is_some()
 }
 
-/// The world in which A5 is emptied.
-fn elsewhere(alloc: Global) -> Result<World, Fail> {
-    let others = [replacement(alloc, "A5", "")?];
-    Ok(World::new(alloc).with(&others)?)
-}
-
 #[test]
 fn a_key_is_of_one_generation_and_one_world(rt: HostRuntime) -> Result<(), Fail> {
+    let elsewhere = after(rt.alloc(), &["A5="])?;
     let mut kept = Kept::new(rt.alloc(), 2)?;
-    keep(rt.alloc(), &mut kept, "A1", "")?;
-    let elsewhere = elsewhere(rt.alloc())?;
-    let known_later = knows_a1(&kept, 1, World::new(rt.alloc()));
+    keep(rt.alloc(), &mut kept, Address::at(0, 0), Value::Empty)?;
     let known_elsewhere = knows_a1(&kept, 0, elsewhere);
+    let known_later = knows_a1(&kept, 1, World::new(rt.alloc()));
     assert_eq!(rt; (known_later, known_elsewhere), (false, false));
     Ok(())
 }
@@ -136,21 +125,12 @@ fn a_key_is_of_one_generation_and_one_world(rt: HostRuntime) -> Result<(), Fail>
 const MANY: u32 = 2_000;
 
 /// Keeps a value for each of many rows of column A.
-fn keep_many(alloc: Global, kept: &mut Kept) -> Result<(), Fail> {
+fn keep_many(alloc: Global, kept: &mut Kept) -> Result<(), AllocError> {
     for row in 0..MANY {
-        kept.keep(
-            key(alloc, Address::at(row, 0)),
-            Value::Logical(row % 2 == 0),
-        )?;
+        let value = Value::Logical(row % 2 == 0);
+        keep(alloc, kept, Address::at(row, 0), value)?;
     }
     Ok(())
-}
-
-fn is_logical(value: Option<&Value>, sign: bool) -> bool {
-    match value {
-        Some(Value::Logical(found)) => *found == sign,
-        _ => false,
-    }
 }
 
 /// The first of many rows for which another value is found.
@@ -172,22 +152,16 @@ fn a_list_keeps_as_many_as_it_has_room_for(rt: HostRuntime) -> Result<(), Fail> 
     Ok(())
 }
 
-/// A table with a value for each of many rows of column A.
-fn table_many(alloc: Global, table: &mut RunTable) -> Result<(), Fail> {
+/// Keeps a value for each of many rows of column A, and then replaces that of row 39 by Empty.
+fn table_many(alloc: Global, table: &mut RunTable) -> Result<(), AllocError> {
     for row in 0..MANY {
-        table.keep(
-            key(alloc, Address::at(row, 0)),
-            Value::Logical(row % 2 == 0),
-        )?;
+        let value = Value::Logical(row % 2 == 0);
+        keep_in_table(alloc, table, Address::at(row, 0), value)?;
     }
-    Ok(())
+    keep_in_table(alloc, table, Address::at(39, 0), Value::Empty)
 }
 
-fn look_up(alloc: Global, table: &RunTable, cell: Address) -> Option<&Value> {
-    table.look(&key(alloc, cell))
-}
-
-/// Whether this is the value of a row: that of row 39 was replaced by Empty.
+/// Whether this is the value of a row.
 fn is_of_row(value: Option<&Value>, row: u32) -> bool {
     if row == 39 {
         return matches!(value, Some(Value::Empty));
@@ -198,7 +172,7 @@ fn is_of_row(value: Option<&Value>, row: u32) -> bool {
 /// The first of many rows for which another value is found in a table.
 fn first_other_in_table(alloc: Global, table: &RunTable) -> Option<u32> {
     for row in 0..MANY {
-        if !is_of_row(look_up(alloc, table, Address::at(row, 0)), row) {
+        if !is_of_row(look_in_table(alloc, table, Address::at(row, 0)), row) {
             return Some(row);
         }
     }
@@ -209,9 +183,8 @@ fn first_other_in_table(alloc: Global, table: &RunTable) -> Option<u32> {
 fn a_run_table_drops_none(rt: HostRuntime) -> Result<(), Fail> {
     let mut table = RunTable::new(rt.alloc());
     table_many(rt.alloc(), &mut table)?;
-    table.keep(key(rt.alloc(), Address::at(39, 0)), Value::Empty)?;
     let other = first_other_in_table(rt.alloc(), &table);
-    let beyond = look_up(rt.alloc(), &table, Address::at(MANY, 0)).is_some();
+    let beyond = look_in_table(rt.alloc(), &table, Address::at(MANY, 0)).is_some();
     assert_eq!(rt; (other, beyond), (None, false));
     Ok(())
 }

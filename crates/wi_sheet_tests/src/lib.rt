@@ -7,6 +7,8 @@ mod faults;
 #[cfg(test)]
 mod kept_values;
 #[cfg(test)]
+mod keys;
+#[cfg(test)]
 mod range_index;
 #[cfg(test)]
 mod refused_growths;

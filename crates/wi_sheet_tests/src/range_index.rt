@@ -28,15 +28,14 @@ fn index(alloc: Global, steps: &str) -> Result<RangeIndex, Fail> {
     Ok(index)
 }
 
-fn pieces(alloc: Global, steps: &str) -> Result<u64, Fail> {
-    Ok(index(alloc, steps)?.pieces())
+fn expect_count(rt: &impl Abort, steps: &str, found: u64, wanted: u64) {
+    assert_eq!(rt; found, wanted, "{steps}");
 }
 
 /// How many blocks there are after each of these steps.
 fn expect_pieces(rt: &impl Abort, alloc: Global, rows: &[(&str, u64)]) -> Result<(), Fail> {
     for (steps, wanted) in rows {
-        let found = pieces(alloc, steps)?;
-        assert_eq!(rt; found, *wanted, "{steps}");
+        expect_count(rt, steps, index(alloc, steps)?.pieces(), *wanted);
     }
     Ok(())
 }
@@ -166,21 +165,19 @@ const READ: [(&str, &str); 5] = [
     ("A510", ""),
 ];
 
-/// The index of a thousand pairs is read, and again when five hundred of them are taken away. Gives how many blocks are left
-/// when none is left.
-fn thousand_pairs(rt: &impl Abort, alloc: Global, index: &mut RangeIndex) -> Result<u64, Fail> {
+/// The index of a thousand pairs is read, and again when five hundred of them are taken away. No block is left when none is left.
+fn expect_thousand(rt: &impl Abort, alloc: Global, index: &mut RangeIndex) -> Result<(), Fail> {
     add_many(index, 1_000)?;
     expect_readers(rt, alloc, index, &READ)?;
     remove_many(index, 500);
     expect_readers(rt, alloc, index, &READ)?;
     remove_many(index, 500);
-    Ok(index.pieces())
+    expect_count(rt, "none is left", index.pieces(), 0);
+    Ok(())
 }
 
 #[test]
 fn a_thousand_pairs(rt: HostRuntime) -> Result<(), Fail> {
     let mut index = RangeIndex::new(rt.alloc());
-    let left = thousand_pairs(&rt, rt.alloc(), &mut index)?;
-    assert_eq!(rt; left, 0);
-    Ok(())
+    expect_thousand(&rt, rt.alloc(), &mut index)
 }

@@ -1,7 +1,7 @@
 //! Stores.
 
-use crate::texts::{addresses, content, expect_text};
-use std::alloc::Global;
+use crate::texts::{addresses, expect_text, word};
+use std::alloc::{AllocError, Global};
 use std::process::Abort;
 use std::test::Fail;
 use wi_parser::Content;
@@ -10,10 +10,19 @@ use wi_values::{Address, Rect, Value};
 
 type Changes = Vec<(Address, Option<Content>)>;
 
+/// The content that a text stands for: a dash for none, the empty text for the constant Empty.
+fn content(alloc: Global, text: &str) -> Result<Option<Content>, Fail> {
+    match text {
+        "-" => Ok(None),
+        "" => Ok(Some(Content::Constant(Value::Empty))),
+        _ => Ok(Some(Content::read(alloc, text)?)),
+    }
+}
+
 fn push_change(alloc: Global, change: &str, changes: &mut Changes) -> Result<(), Fail> {
     if let Some((at, text)) = change.split_once(' ') {
         let at = Address::read(at.as_bytes())?;
-        changes.push((at, change_to(alloc, text)?))?;
+        changes.push((at, content(alloc, text)?))?;
     }
     Ok(())
 }
@@ -27,21 +36,20 @@ fn changes(alloc: Global, text: &str) -> Result<Changes, Fail> {
     Ok(changes)
 }
 
-fn change_to(alloc: Global, text: &str) -> Result<Option<Content>, Fail> {
-    if text == "-" {
-        return Ok(None);
+/// Appends a constant as a word, the text of a formula, or a dash.
+fn push_told(content: Option<&Content>, text: &mut String) -> Result<(), AllocError> {
+    match content {
+        Some(Content::Constant(value)) => text.push_str(word(Some(value))),
+        Some(Content::Formula(formula)) => formula.print(text),
+        None => text.push('-'),
     }
-    Ok(Some(content(alloc, text)?))
 }
 
-/// What stands in a cell: a constant as it is shown, the text of a formula, or a dash.
+/// What stands in a cell.
 fn told(alloc: Global, store: &Store, at: &str) -> Result<String, Fail> {
+    let content = store.get(Address::read(at.as_bytes())?);
     let mut text = String::new(alloc);
-    match store.get(Address::read(at.as_bytes())?) {
-        Some(Content::Constant(value)) => value.push_shown(&mut text)?,
-        Some(Content::Formula(formula)) => formula.print(&mut text)?,
-        None => text.push('-')?,
-    }
+    push_told(content, &mut text)?;
     Ok(text)
 }
 
@@ -170,104 +178,111 @@ fn with_formulas(alloc: Global) -> Result<Store, Fail> {
     Ok(store)
 }
 
-/// The formulas of a rectangle, behind a cell that stood there before, a space behind each.
-fn formulas_within(alloc: Global, store: &Store, area: &str) -> Result<String, Fail> {
-    let area = Rect::read(area.as_bytes())?;
+/// The formulas of a rectangle, behind a cell that stood there before.
+fn within(alloc: Global, store: &Store, area: Rect) -> Result<Vec<Address>, Fail> {
     let mut found = Vec::new(alloc);
     found.push(Address::at(8, 8))?;
     store.push_formulas_within(area, &mut found)?;
-    Ok(addresses(alloc, &found)?)
+    Ok(found)
 }
 
-fn expect_formulas(rt: &impl Abort, alloc: Global, rows: &[(&str, &str)]) -> Result<(), Fail> {
-    let store = with_formulas(alloc)?;
-    for (area, wanted) in rows {
-        expect_text(rt, area, &formulas_within(alloc, &store, area)?, wanted);
+/// The next occupied cell, if there is one, as `B1:C3 A1` asks: of a rectangle, from a cell on.
+fn next_occupied(store: &Store, place: &str) -> Result<Option<Address>, Fail> {
+    let Some((area, from)) = place.split_once(' ') else {
+        return Err(Fail::from("no cell to begin with"));
+    };
+    let area = Rect::read(area.as_bytes())?;
+    Ok(store.next_occupied(area, Address::read(from.as_bytes())?))
+}
+
+fn next(alloc: Global, store: &Store, place: &str) -> Result<Vec<Address>, Fail> {
+    let mut found = Vec::new(alloc);
+    if let Some(at) = next_occupied(store, place)? {
+        found.push(at)?;
+    }
+    Ok(found)
+}
+
+/// The cells that are asked for.
+fn found(alloc: Global, store: &Store, asked: &str) -> Result<Vec<Address>, Fail> {
+    let Some((question, place)) = asked.split_once(' ') else {
+        return Ok(store.formulas()?);
+    };
+    match question {
+        "within" => within(alloc, store, Rect::read(place.as_bytes())?),
+        "in" => Ok(store.formulas_in(Rect::read(place.as_bytes())?)?),
+        _ => next(alloc, store, place),
+    }
+}
+
+/// The cells that are asked for, a space behind each.
+fn answer(alloc: Global, store: &Store, asked: &str) -> Result<String, Fail> {
+    Ok(addresses(alloc, &found(alloc, store, asked)?)?)
+}
+
+fn expect_each(
+    rt: &impl Abort,
+    alloc: Global,
+    store: &Store,
+    rows: &[(&str, &str)],
+) -> Result<(), Fail> {
+    for (asked, wanted) in rows {
+        expect_text(rt, asked, &answer(alloc, store, asked)?, wanted);
     }
     Ok(())
+}
+
+/// What is asked of the sheet with formulas is answered so.
+fn expect_answers(rt: &impl Abort, alloc: Global, rows: &[(&str, &str)]) -> Result<(), Fail> {
+    let store = with_formulas(alloc)?;
+    expect_each(rt, alloc, &store, rows)
 }
 
 #[test]
 fn formulas_within_rectangles(rt: HostRuntime) -> Result<(), Fail> {
-    expect_formulas(
+    expect_answers(
         &rt,
         rt.alloc(),
         &[
-            ("B1:C3", "I9 B1 B2 C2 C3 "),
-            ("C3:B2", "I9 B2 C2 C3 "),
-            ("A1:A4", "I9 A2 A4 "),
-            ("D1:D9", "I9 D1 D2 "),
-            ("C1:C3", "I9 C2 C3 "),
-            ("D2", "I9 D2 "),
-            ("B3", "I9 "),
-            ("A5:XFD9", "I9 "),
-            ("A1:XFD1048576", "I9 B1 D1 A2 B2 C2 D2 C3 A4 "),
+            ("within B1:C3", "I9 B1 B2 C2 C3 "),
+            ("within C3:B2", "I9 B2 C2 C3 "),
+            ("within A1:A4", "I9 A2 A4 "),
+            ("within D1:D9", "I9 D1 D2 "),
+            ("within C1:C3", "I9 C2 C3 "),
+            ("within D2", "I9 D2 "),
+            ("within B3", "I9 "),
+            ("within A5:XFD9", "I9 "),
+            ("within A1:XFD1048576", "I9 B1 D1 A2 B2 C2 D2 C3 A4 "),
         ],
     )
 }
 
-fn formulas_in(alloc: Global, area: Rect) -> Result<String, Fail> {
-    let found = with_formulas(alloc)?.formulas_in(area)?;
-    Ok(addresses(alloc, &found)?)
-}
-
 #[test]
 fn a_list_of_formulas(rt: HostRuntime) -> Result<(), Fail> {
-    let area = Rect::new(Address::at(0, 0), Address::at(1, 1));
-    let found = formulas_in(rt.alloc(), area)?;
-    expect_text(&rt, "A1:B2", &found, "B1 A2 B2 ");
-    Ok(())
-}
-
-fn all_formulas(alloc: Global) -> Result<String, Fail> {
-    let found = with_formulas(alloc)?.formulas()?;
-    Ok(addresses(alloc, &found)?)
+    expect_answers(&rt, rt.alloc(), &[("in A1:B2", "B1 A2 B2 ")])
 }
 
 #[test]
 fn a_list_of_all_formulas(rt: HostRuntime) -> Result<(), Fail> {
-    let found = all_formulas(rt.alloc())?;
-    expect_text(&rt, "all", &found, "B1 D1 A2 B2 C2 D2 C3 A4 ");
-    Ok(())
-}
-
-/// The next occupied cell of a rectangle from a cell on, or a dash.
-fn next(alloc: Global, store: &Store, area: &str, from: &str) -> Result<String, Fail> {
-    let mut text = String::new(alloc);
-    match store.next_occupied(
-        Rect::read(area.as_bytes())?,
-        Address::read(from.as_bytes())?,
-    ) {
-        Some(at) => at.push_text(&mut text)?,
-        None => text.push('-')?,
-    }
-    Ok(text)
-}
-
-fn expect_next(rt: &impl Abort, alloc: Global, rows: &[(&str, &str, &str)]) -> Result<(), Fail> {
-    let store = with_formulas(alloc)?;
-    for (area, from, wanted) in rows {
-        expect_text(rt, from, &next(alloc, &store, area, from)?, wanted);
-    }
-    Ok(())
+    expect_answers(&rt, rt.alloc(), &[("all", "B1 D1 A2 B2 C2 D2 C3 A4 ")])
 }
 
 #[test]
 fn the_next_occupied_cell(rt: HostRuntime) -> Result<(), Fail> {
-    expect_next(
+    expect_answers(
         &rt,
         rt.alloc(),
         &[
-            ("B1:C3", "A1", "B1"),
-            ("B1:C3", "B1", "B1"),
-            ("B1:C3", "C1", "B2"),
-            ("B1:C3", "D2", "B3"),
-            ("A1:A9", "A3", "A4"),
-            ("C1:C3", "A1", "C2"),
-            ("A1:XFD1048576", "C1", "D1"),
-            ("B1:C3", "D3", "-"),
-            ("E1:E9", "A1", "-"),
-            ("A1:A2", "A4", "-"),
+            ("next B1:C3 A1", "B1 "),
+            ("next B1:C3 B1", "B1 "),
+            ("next B1:C3 C1", "B2 "),
+            ("next B1:C3 D2", "B3 "),
+            ("next A1:A9 A3", "A4 "),
+            ("next C1:C3 A1", "C2 "),
+            ("next A1:XFD1048576 C1", "D1 "),
+            ("next B1:C3 D3", ""),
+            ("next E1:E9 A1", ""),
+            ("next A1:A2 A4", ""),
         ],
     )
 }

@@ -4,7 +4,7 @@ ghost use Rattle.std.specs.Prelude.{All, IsSome, IsTrue};
 ghost use Rattle.std.specs.BTreeMap.{get};
 ghost use Rattle.std.specs.Ordering.{nat_cmp};
 
-use crate::texts::{expect_text, push_told, replacement};
+use crate::texts::{expect_text, value, word};
 use std::alloc::{AllocError, Global};
 use std::collections::{BTreeMap, BTreeSet, HashMap};
 use std::process::Abort;
@@ -12,55 +12,68 @@ use std::test::Fail;
 use wi_values::{Address, Replacement};
 use wi_worlds::World;
 
-type Texts<'a> = &'a [(&'a str, &'a str)];
+fn push_replacement(
+    alloc: Global,
+    at: &str,
+    word: &str,
+    others: &mut Vec<Replacement>,
+) -> Result<(), Fail> {
+    let at = Address::read(at.as_bytes())?;
+    let value = value(alloc, word)?;
+    others.push(Replacement { at, value })?;
+    Ok(())
+}
 
-/// A world with these texts' values in the place of contents.
-fn with(alloc: Global, world: &World, texts: Texts<'_>) -> Result<World, Fail> {
+/// A world with the values of these words in the place of contents, as `A2=TRUE, C3=`.
+fn with(alloc: Global, world: &World, words: &str) -> Result<World, Fail> {
     let mut others: Vec<Replacement> = Vec::new(alloc);
-    for (at, text) in texts {
-        others.push(replacement(alloc, at, text)?)?;
+    for text in words.split(", ") {
+        if let Some((at, word)) = text.split_once('=') {
+            push_replacement(alloc, at, word, &mut others)?;
+        }
     }
     Ok(world.with(&others)?)
 }
 
+/// The world after these changes, one after another.
+pub fn after(alloc: Global, changes: &[&str]) -> Result<World, Fail> {
+    let mut world = World::new(alloc);
+    for words in changes {
+        world = with(alloc, &world, words)?;
+    }
+    Ok(world)
+}
+
 /// A2 is TRUE and C3 is emptied.
-const OLD: [(&str, &str); 2] = [("C3", ""), ("A2", "TRUE")];
+const OLD: &str = "C3=, A2=TRUE";
 
 /// C3 gets a text, A1 is TRUE, then emptied.
-const NEWER: [(&str, &str); 3] = [("C3", "three"), ("A1", "TRUE"), ("A1", "")];
+const NEWER: &str = "C3=three, A1=TRUE, A1=";
 
-fn old(alloc: Global) -> Result<World, Fail> {
-    with(alloc, &World::new(alloc), &OLD)
+fn push_replacements(world: &World, text: &mut String) -> Result<(), AllocError> {
+    for replacement in world.replacements() {
+        replacement.at.push_text(text)?;
+        text.push('=')?;
+        text.push_str(word(Some(&replacement.value)))?;
+        text.push(' ')?;
+    }
+    Ok(())
 }
 
 /// The replacements of a world, in their order.
 fn told(alloc: Global, world: &World) -> Result<String, AllocError> {
     let mut text = String::new(alloc);
-    for replacement in world.replacements() {
-        replacement.at.push_text(&mut text)?;
-        text.push('=')?;
-        push_told(&replacement.value, &mut text)?;
-        text.push(' ')?;
-    }
+    push_replacements(world, &mut text)?;
     Ok(text)
 }
 
-/// The world after these changes, one after another.
-fn after(alloc: Global, texts: &[Texts<'_>]) -> Result<World, Fail> {
-    let mut world = World::new(alloc);
-    for others in texts {
-        world = with(alloc, &world, others)?;
-    }
-    Ok(world)
+fn told_after(alloc: Global, changes: &[&str]) -> Result<String, Fail> {
+    Ok(told(alloc, &after(alloc, changes)?)?)
 }
 
-fn told_after(alloc: Global, texts: &[Texts<'_>]) -> Result<String, Fail> {
-    Ok(told(alloc, &after(alloc, texts)?)?)
-}
-
-fn expect(rt: &impl Abort, alloc: Global, rows: &[(&[Texts<'_>], &str)]) -> Result<(), Fail> {
-    for (texts, wanted) in rows {
-        expect_text(rt, "world", &told_after(alloc, texts)?, wanted);
+fn expect(rt: &impl Abort, alloc: Global, rows: &[(&[&str], &str)]) -> Result<(), Fail> {
+    for (changes, wanted) in rows {
+        expect_text(rt, "world", &told_after(alloc, changes)?, wanted);
     }
     Ok(())
 }
@@ -72,33 +85,29 @@ fn later_replacements_count(rt: HostRuntime) -> Result<(), Fail> {
         rt.alloc(),
         &[
             (&[], ""),
-            (&[&OLD], "A2=TRUE C3= "),
-            (&[&OLD, &NEWER], "A1= A2=TRUE C3='three "),
+            (&[OLD], "A2=TRUE C3= "),
+            (&[OLD, NEWER], "A1= A2=TRUE C3='three "),
         ],
     )
 }
 
-/// What stands in the place of a cell's content, or a dash.
-fn replaced(alloc: Global, world: &World, at: &str) -> Result<String, Fail> {
-    let mut text = String::new(alloc);
-    match world.replacement(Address::read(at.as_bytes())?) {
-        Some(value) => push_told(value, &mut text)?,
-        None => text.push('-')?,
+/// What stands in the place of cells' contents.
+fn expect_each(rt: &impl Abort, world: &World, rows: &[(&str, &str)]) -> Result<(), Fail> {
+    for (at, wanted) in rows {
+        let cell = Address::read(at.as_bytes())?;
+        expect_text(rt, at, word(world.replacement(cell)), wanted);
     }
-    Ok(text)
+    Ok(())
 }
 
 fn expect_replaced(
     rt: &impl Abort,
     alloc: Global,
-    texts: Texts<'_>,
+    words: &str,
     rows: &[(&str, &str)],
 ) -> Result<(), Fail> {
-    let world = with(alloc, &World::new(alloc), texts)?;
-    for (at, wanted) in rows {
-        expect_text(rt, at, &replaced(alloc, &world, at)?, wanted);
-    }
-    Ok(())
+    let world = with(alloc, &World::new(alloc), words)?;
+    expect_each(rt, &world, rows)
 }
 
 #[test]
@@ -106,7 +115,7 @@ fn replacements_by_address(rt: HostRuntime) -> Result<(), Fail> {
     expect_replaced(
         &rt,
         rt.alloc(),
-        &[("A2", "TRUE"), ("C3", "three"), ("A1", "")],
+        "A2=TRUE, C3=three, A1=",
         &[
             ("A1", ""),
             ("B1", "-"),
@@ -119,11 +128,13 @@ fn replacements_by_address(rt: HostRuntime) -> Result<(), Fail> {
 
 #[test]
 fn a_new_world_replaces_nothing(rt: HostRuntime) -> Result<(), Fail> {
-    expect_replaced(&rt, rt.alloc(), &[], &[("A1", "-")])
+    expect_replaced(&rt, rt.alloc(), "", &[("A1", "-")])
 }
 
+type Cones = BTreeMap<Address, BTreeSet<Address>>;
+
 /// A2 reaches itself and D4; C3 reaches itself, D4 and E5.
-fn cones(alloc: Global) -> Result<BTreeMap<Address, BTreeSet<Address>>, Fail> {
+fn cones(alloc: Global) -> Result<Cones, Fail> {
     let (a2, c3) = (Address::at(1, 0), Address::at(2, 2));
     let (d4, e5) = (Address::at(3, 3), Address::at(4, 4));
     let mut cones = BTreeMap::new(alloc);
@@ -144,34 +155,25 @@ fn all_have_cones(world: &World, cones: &BTreeMap<Address, BTreeSet<Address>>) -
     true
 }
 
-type Cones = BTreeMap<Address, BTreeSet<Address>>;
-
 /// The replacements of a world whose cone has a cell.
-fn reaching(alloc: Global, world: &World, cones: &Cones, at: &str) -> Result<String, Fail>
-    requires { All (λ r. IsSome (get nat_cmp cones.now r.at)) world.now }
-{
+fn reaching(alloc: Global, world: &World, cones: &Cones, at: &str) -> Result<String, Fail> {
+    if !all_have_cones(world, cones) {
+        return Err(Fail::from("a replacement has no cone"));
+    }
     let found = world.reaching(Address::read(at.as_bytes())?, cones)?;
     Ok(told(alloc, &found)?)
 }
 
-fn expect_each(
-    rt: &impl Abort,
-    alloc: Global,
-    world: &World,
-    cones: &Cones,
-    rows: &[(&str, &str)],
-) -> Result<(), Fail> {
-    assert!(rt; all_have_cones(world, cones));
-    for (at, wanted) in rows {
-        expect_text(rt, at, &reaching(alloc, world, cones, at)?, wanted);
-    }
-    Ok(())
+/// The replacements of the old world whose cone has a cell.
+fn old_reaching(alloc: Global, at: &str) -> Result<String, Fail> {
+    reaching(alloc, &after(alloc, &[OLD])?, &cones(alloc)?, at)
 }
 
 fn expect_reaching(rt: &impl Abort, alloc: Global, rows: &[(&str, &str)]) -> Result<(), Fail> {
-    let world = old(alloc)?;
-    let cones = cones(alloc)?;
-    expect_each(rt, alloc, &world, &cones, rows)
+    for (at, wanted) in rows {
+        expect_text(rt, at, &old_reaching(alloc, at)?, wanted);
+    }
+    Ok(())
 }
 
 #[test]
@@ -191,49 +193,44 @@ fn cones_that_have_a_cell(rt: HostRuntime) -> Result<(), Fail> {
 
 type Numbers = HashMap<World, u32>;
 
-/// Keeps a number for the old world, changed by the newer texts so many times.
-fn keep_newer(alloc: Global, times: u32, kept: &mut Numbers) -> Result<(), Fail> {
-    let mut world = old(alloc)?;
-    for _ in 0..times {
-        world = with(alloc, &world, &NEWER)?;
-    }
-    kept.insert(world, times)?;
+/// Keeps a number for the world after these changes.
+fn keep(alloc: Global, kept: &mut Numbers, changes: &[&str], number: u32) -> Result<(), Fail> {
+    let world = after(alloc, changes)?;
+    kept.insert(world, number)?;
     Ok(())
 }
 
-/// The numbers that are kept for the old world changed once and changed twice.
-fn numbers(alloc: Global) -> Result<Numbers, Fail> {
-    let mut kept = HashMap::new(alloc);
-    keep_newer(alloc, 1, &mut kept)?;
-    keep_newer(alloc, 2, &mut kept)?;
-    Ok(kept)
+/// The number that is kept for the world after these changes.
+fn number(alloc: Global, kept: &Numbers, changes: &[&str]) -> Result<Option<u32>, Fail> {
+    Ok(kept.get(&after(alloc, changes)?).copied())
 }
 
-/// How many numbers are kept, and those for two worlds.
-fn looked_up(kept: &Numbers, newer: &World, old: &World) -> (usize, Option<u32>, Option<u32>) {
-    (kept.len(), kept.get(newer).copied(), kept.get(old).copied())
+/// How many numbers are kept, and those for the newer world and the old one, when the newer world was made once and twice.
+fn looked_up(alloc: Global, kept: &mut Numbers) -> Result<(usize, Option<u32>, Option<u32>), Fail> {
+    keep(alloc, kept, &[OLD, NEWER], 1)?;
+    keep(alloc, kept, &[OLD, NEWER, NEWER], 2)?;
+    let newer = number(alloc, kept, &[OLD, NEWER])?;
+    let old = number(alloc, kept, &[OLD])?;
+    Ok((kept.len(), newer, old))
 }
 
 #[test]
 fn equal_worlds_are_one_key(rt: HostRuntime) -> Result<(), Fail> {
-    let kept = numbers(rt.alloc())?;
-    let old = old(rt.alloc())?;
-    let newer = with(rt.alloc(), &old, &NEWER)?;
-    assert_eq!(rt; looked_up(&kept, &newer, &old), (1, Some(2), None));
+    let mut kept = HashMap::new(rt.alloc());
+    let found = looked_up(rt.alloc(), &mut kept)?;
+    assert_eq!(rt; found, (1, Some(2), None));
     Ok(())
 }
 
-/// Whether the old world changed twice is the old world changed once, and another than the old one.
-fn is_one_when_newer(alloc: Global, old: &World) -> Result<bool, Fail> {
-    let newer_once = with(alloc, old, &NEWER)?;
-    let newer_twice = with(alloc, &newer_once, &NEWER)?;
-    Ok(newer_once == newer_twice && newer_once != *old)
+/// Whether the worlds after these changes are equal.
+fn is_one(alloc: Global, changes: &[&str], others: &[&str]) -> Result<bool, Fail> {
+    Ok(after(alloc, changes)? == after(alloc, others)?)
 }
 
 #[test]
 fn a_change_made_again_changes_nothing(rt: HostRuntime) -> Result<(), Fail> {
-    let old = old(rt.alloc())?;
-    let is_one = is_one_when_newer(rt.alloc(), &old)?;
-    assert!(rt; is_one);
+    let is_same = is_one(rt.alloc(), &[OLD, NEWER], &[OLD, NEWER, NEWER])?;
+    let is_old = is_one(rt.alloc(), &[OLD, NEWER], &[OLD])?;
+    assert_eq!(rt; (is_same, is_old), (true, false));
     Ok(())
 }

@@ -1,6 +1,7 @@
-use Rattle.std.proofs.Common.{◌≤◌, ◌+◌, Ok, ap, ◌∙◌, rules}
+use Rattle.std.proofs.Common.{◌≤◌, ◌+◌, Ok, ap, refl, sym, subst, arith, ◌∙◌, rules}
 use Rattle.wi_functions.specs.Counts.{Counts}
-use Rattle.wi_sheet.proofs.Counting.{never_fall-then}
+use Rattle.wi_sheet.proofs.Counting.{never_fall-same, never_fall-then}
+use Rattle.wi_engine.specs.Inner.MemoState.{MemoState, IsMemoOf}
 use Rattle.wi_engine.specs.Inner.Frames.{IsFrame, spare}
 use Rattle.wi_engine.proofs.engine.Settling.{frame_waits, spare_falls, round_counted, want_counted, round_smaller}
 use Rattle.wi_engine.proofs.engine.FoundSettled.{round_settled, done_settled, settled_again}
@@ -74,3 +75,66 @@ returns-in-Done-clause-evaluations g c = search rules
 
 pub returns-in-Done-clause-restarts : goal.returns-in-Done-clause-restarts
 returns-in-Done-clause-restarts g c = search rules
+
+pub settle-requires-clause-memo : goal.settle-requires-clause-memo
+settle-requires-clause-memo g c = subst (λ (x : MemoState). IsMemoOf c.args.store.now.sheet x) (sym c.rounds.invariant.same) c.requires.memo
+
+pub settle-requires-clause-frame : goal.settle-requires-clause-frame
+settle-requires-clause-frame g c = subst (λ (x : MemoState). IsFrame c.args.store.now.sheet x c.rounds.frame) (sym c.rounds.invariant.same) c.rounds.invariant.frame
+
+pub rounds-init : goal.rounds-init
+rounds-init g c = record { key = refl; frame = c.requires.frame; evaluations = refl; counts = never_fall-same c.args.meter.now; restarts = omega arith; settled = λ whole h. h; same = refl }
+
+pub returns-in-Some-clause-frame : goal.returns-in-Some-clause-frame
+returns-in-Some-clause-frame g c = subst (λ (x : MemoState). IsFrame c.args.store.now.sheet x c.settle.new.frame) c.rounds.invariant.same c.in_ok-key.ensures.frame
+
+pub returns-in-Done-clause-frame : goal.returns-in-Done-clause-frame
+returns-in-Done-clause-frame g c = subst (λ (x : MemoState). IsFrame c.args.store.now.sheet x c.settle.new.frame) c.rounds.invariant.same c.in_ok-key.ensures.frame
+
+pub returns-in-Some-clause-key : goal.returns-in-Some-clause-key
+returns-in-Some-clause-key g c = c.in_ok-key.ensures.key ∙ c.rounds.invariant.key
+
+pub returns-in-Done-clause-key : goal.returns-in-Done-clause-key
+returns-in-Done-clause-key g c = c.in_ok-key.ensures.key ∙ c.rounds.invariant.key
+
+pub returns-in_err-value-clause-key : goal.returns-in_err-value-clause-key
+returns-in_err-value-clause-key g c = c.in_ok-key.ensures.key ∙ c.rounds.invariant.key
+
+pub returns-in-Some-clause-same : goal.returns-in-Some-clause-same
+returns-in-Some-clause-same g c = c.in_ok-key.ensures.same ∙ c.rounds.invariant.same
+
+pub returns-in-Done-clause-same : goal.returns-in-Done-clause-same
+returns-in-Done-clause-same g c = c.in_ok-key.ensures.same ∙ c.rounds.invariant.same
+
+pub returns-in_err-value-clause-same : goal.returns-in_err-value-clause-same
+returns-in_err-value-clause-same g c = c.in_ok-key.ensures.same ∙ c.rounds.invariant.same
+
+pub returns-in_err-wait_for-in-Needs-clause-same : goal.returns-in_err-wait_for-in-Needs-clause-same
+returns-in_err-wait_for-in-Needs-clause-same g c = c.in_ok-key.ensures.same ∙ c.rounds.invariant.same
+
+pub returns-in_err-wait_for-in-Needs-clause-key : goal.returns-in_err-wait_for-in-Needs-clause-key
+returns-in_err-wait_for-in-Needs-clause-key g c = c.wait_for.ensures.key ∙ c.in_ok-key.ensures.key ∙ c.rounds.invariant.key
+
+pub returns-in-Some-clause-counts : goal.returns-in-Some-clause-counts
+returns-in-Some-clause-counts g c = c.rounds.invariant.counts
+
+pub returns-in-Some-clause-evaluations : goal.returns-in-Some-clause-evaluations
+returns-in-Some-clause-evaluations g c = c.rounds.invariant.evaluations
+
+pub returns-in-Some-clause-restarts : goal.returns-in-Some-clause-restarts
+returns-in-Some-clause-restarts g c = omega (arith, c.in_ok-key.ensures.spare, c.rounds.invariant.restarts)
+
+pub returns-in_err-key-clause-key : goal.returns-in_err-key-clause-key
+returns-in_err-key-clause-key g c = c.settle.ensures.key ∙ c.rounds.invariant.key
+
+pub returns-in_err-key-clause-same : goal.returns-in_err-key-clause-same
+returns-in_err-key-clause-same g c = c.settle.ensures.same ∙ c.rounds.invariant.same
+
+pub returns-in_err-key-clause-counts : goal.returns-in_err-key-clause-counts
+returns-in_err-key-clause-counts g c = c.rounds.invariant.counts
+
+pub returns-in_err-value-clause-counts : goal.returns-in_err-value-clause-counts
+returns-in_err-value-clause-counts g c = never_fall-then _ _ _ c.rounds.invariant.counts c.attempt.ensures.counts
+
+pub returns-in_err-wait_for-in-Needs-clause-counts : goal.returns-in_err-wait_for-in-Needs-clause-counts
+returns-in_err-wait_for-in-Needs-clause-counts g c = never_fall-then _ _ _ c.rounds.invariant.counts c.attempt.ensures.counts

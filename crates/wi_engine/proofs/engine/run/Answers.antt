@@ -1,9 +1,11 @@
-use Rattle.std.proofs.Common.{◌≤◌, ◌+◌, ◌∙◌, ap, refl, inl, arith, rules, subst, sym}
+use Rattle.std.proofs.Common.{◌≡◌, ◌≤◌, ◌+◌, ◌∙◌, true, [], ap, refl, inl, arith, rules, subst, sym}
 use Rattle.wi_engine.proofs.engine.Settling.{one_more_at_most}
+use Rattle.wi_sheet.specs.Demand.{Case}
 use Rattle.wi_sheet.proofs.Counting.{never_fall-then}
 use Rattle.wi_engine.specs.Inner.Frames.{case_at, spare}
 use Rattle.wi_engine.specs.Inner.MemoState.{MemoState, IsMemoOf}
-use Rattle.wi_engine.proofs.engine.Running.{IsNew, Keeps, run_start, run_push, push_smaller, run_pop, pop_smaller, run_evaluations, run_restarts, end_evaluations, end_restarts, run_keeps}
+use Rattle.wi_engine.specs.Inner.Saving.{TakesPlaces}
+use Rattle.wi_engine.proofs.engine.Running.{IsNew, Keeps, run_start, run_push, push_smaller, run_pop, pop_smaller, run_evaluations, run_restarts, run_value, end_evaluations, end_restarts, run_keeps}
 use Rattle.wi_engine.proofs.engine.Saving.{Takes, saving_start, saving_push, saving_pop, saving_end, settled_end, takes_more, push_takes, saving_counts, saving_restarts}
 use Rattle.wi_engine.proofs.Saved.{gives_up_none, gives_up_then}
 use Rattle.wi_engine.proofs.engine.run.Goals as goal
@@ -440,3 +442,65 @@ returns-in_err-next-clause-same_latest g c =
 pub returns-in_err-next-clause-gives_up : goal.returns-in_err-next-clause-gives_up
 returns-in_err-next-clause-gives_up g c =
     gives_up_then (g.M.Memo.state c.args.memo.now) (g.M.Memo.state c.frames.memo) (g.M.Memo.state c.advance.new.memo) c.frames.invariant.gives_up (gives_up_none (g.M.Memo.state c.frames.memo) (g.M.Memo.state c.advance.new.memo) c.advance.ensures.same)
+
+pub advance-requires-clause-memo : goal.advance-requires-clause-memo
+advance-requires-clause-memo g c = c.frames.invariant.running.memo
+
+pub advance-requires-clause-frame : goal.advance-requires-clause-frame
+advance-requires-clause-frame g c = c.frames.invariant.running.begun.frame
+
+pub keep-requires-clause-generation : goal.keep-requires-clause-generation
+keep-requires-clause-generation g c =
+    let a = c.in_ok-next.ensures in
+    rw (c.into_key.ensures, a.same) a.frame.key.generation
+
+pub keep-requires-clause-open_cell : goal.keep-requires-clause-open_cell
+keep-requires-clause-open_cell g c =
+    let a = c.in_ok-next.ensures in
+    rw (c.into_key.ensures, a.same, c.frames.invariant.running.memo.sheet) a.frame.key.open_cell
+
+pub keep-requires-clause-right : goal.keep-requires-clause-right
+keep-requires-clause-right g c =
+    let a = c.in_ok-next.ensures in
+    rw (c.into_key.ensures, a.key, a.same, c.frames.invariant.running.memo.sheet) (rw c.in-Done.is at a.done)
+
+pub keep-requires-in-Some-clause-generation : goal.keep-requires-in-Some-clause-generation
+keep-requires-in-Some-clause-generation g c =
+    let a = c.in_ok-next.ensures in
+    rw (c.into_key-in-Some.ensures, a.same) a.frame.key.generation
+
+pub keep-requires-in-Some-clause-open_cell : goal.keep-requires-in-Some-clause-open_cell
+keep-requires-in-Some-clause-open_cell g c =
+    let a = c.in_ok-next.ensures in
+    rw (c.into_key-in-Some.ensures, a.same, c.frames.invariant.running.memo.sheet) a.frame.key.open_cell
+
+pub keep-requires-in-Some-clause-right : goal.keep-requires-in-Some-clause-right
+keep-requires-in-Some-clause-right g c =
+    let a = c.in_ok-next.ensures in
+    rw (c.into_key-in-Some.ensures, a.key, a.same, c.frames.invariant.running.memo.sheet) (rw c.in-Done.is at a.done)
+
+pub returns-in-None-clause-value : goal.returns-in-None-clause-value
+returns-in-None-clause-value g c =
+    let value = rw c.in-Done.is at c.in_ok-next.ensures.done in
+    run_value c.args.store.now.sheet (g.M.Memo.state c.args.memo.now) (g.M.Memo.state c.frames.memo) c.args.key c.args.meter.now c.frames.meter c.frames.stack.items c.frames.frame c.in_ok-shown-in-None.shown c.frames.invariant.running (search rules) (c.in_ok-shown-in-None.ensures ∙ value)
+
+pub returns-in-None-clause-kept : goal.returns-in-None-clause-kept
+returns-in-None-clause-kept g c =
+    let a = c.in_ok-next.ensures in
+    let empty : c.frames.stack.items ≡ [] = search rules in
+    let bottom : case_at c.frames.frame.key ≡ case_at c.args.key = rw empty at c.frames.invariant.running.bottom in
+    let same : case_at c.into_key.result ≡ case_at c.args.key = ap case_at (c.into_key.ensures ∙ a.key) ∙ bottom in
+    let capacity = ap (λ (x : MemoState). x.capacity) a.same ∙ c.frames.invariant.capacity in
+    λ room. subst (λ (j : Case). (g.M.Memo.state c.keep.new.self).kept j.0 j.1 ≡ true) same (c.in_ok-keep-in-None.ensures.there (rw capacity room))
+
+pub returns-in_err-next-clause-takes : goal.returns-in_err-next-clause-takes
+returns-in_err-next-clause-takes g c =
+    push_takes (g.M.Memo.state c.args.memo.now) (g.M.Memo.state c.frames.memo) (g.M.Memo.state c.advance.new.memo) c.args.meter.now.evaluations c.frames.meter.evaluations c.advance.new.meter.evaluations c.frames.invariant.places c.advance.ensures.same c.in_err-next.ensures.err_evaluations
+
+pub returns-in_err-shown-in-None-clause-takes : goal.returns-in_err-shown-in-None-clause-takes
+returns-in_err-shown-in-None-clause-takes g c =
+    let a = c.in_ok-next.ensures in
+    let m = g.M.Memo.state c.frames.memo in
+    let counted = rw c.in-Done.is at a.evaluations in
+    let none : TakesPlaces m m 0 1 = λ ks d. omega arith in
+    takes_more (g.M.Memo.state c.args.memo.now) m (g.M.Memo.state c.advance.new.memo) c.args.meter.now.evaluations c.frames.meter.evaluations c.advance.new.meter.evaluations c.frames.invariant.places (subst (λ (x : MemoState). TakesPlaces m x 0 1) (sym a.same) none) counted

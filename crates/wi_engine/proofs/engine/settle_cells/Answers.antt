@@ -1,4 +1,5 @@
-use Rattle.std.proofs.Common.{refl, ◌∙◌, arith}
+use Rattle.std.proofs.Common.{refl, sym, subst, ◌∙◌, arith}
+use Rattle.wi_engine.specs.Inner.MemoState.{MemoState, IsMemoOf}
 use Rattle.wi_engine.specs.Inner.Frames.{case_at}
 use Rattle.wi_engine.specs.declared.frame.Waiting.TheVariants as states
 use Rattle.wi_engine.proofs.engine.Settling.{spare_waiting, spare_found, two_steps, may_read_here, next_here, cell_found_frame, awaits_next, lacks_less, lacked_next}
@@ -64,3 +65,41 @@ returns-in-None-clause-found g c =
     λ whole h.
     frame_cell s (g.M.Memo.state c.args.memo.now).kept c.cells.frame c.add_cell.new.self c.cells.at c.in-Known.value c.in_ok-add_cell-in-Known.ensures.ok
     (settled_now s (g.M.Memo.state c.args.memo.now) (g.M.Memo.state c.cells.memo) c.cells.frame.key.world c.cells.at c.requires.memo i.same whole there) (i.settled whole h)
+
+pub value_now-requires-clause-memo : goal.value_now-requires-clause-memo
+value_now-requires-clause-memo g c = subst (λ (x : MemoState). IsMemoOf c.args.store.now.sheet x) (sym c.cells.invariant.same) c.requires.memo
+
+pub returns-in-None-clause-frame : goal.returns-in-None-clause-frame
+returns-in-None-clause-frame g c =
+    let i = c.cells.invariant in
+    let known = rw c.in-Known.is at c.in_ok-value.ensures.known in
+    cell_found_frame c.args.store.now.sheet (g.M.Memo.state c.args.memo.now) c.cells.frame _ c.cells.at c.in-Known.value i.frame refl i.nothing c.in_ok-add_cell-in-Known.ensures.ok known
+
+pub returns-in-Unknown-clause-frame : goal.returns-in-Unknown-clause-frame
+returns-in-Unknown-clause-frame g c =
+    let i = c.cells.invariant in
+    record { key = i.frame.key; found = i.frame.found; waiting = i.awaits }
+
+pub returns-in-None-clause-key : goal.returns-in-None-clause-key
+returns-in-None-clause-key g c = c.cells.invariant.key
+
+pub returns-in-None-clause-same : goal.returns-in-None-clause-same
+returns-in-None-clause-same g c = c.in_ok-value.ensures.same ∙ c.cells.invariant.same
+
+pub returns-in-Unknown-clause-key : goal.returns-in-Unknown-clause-key
+returns-in-Unknown-clause-key g c = c.cells.invariant.key
+
+pub returns-in-Unknown-clause-same : goal.returns-in-Unknown-clause-same
+returns-in-Unknown-clause-same g c = c.in_ok-value.ensures.same ∙ c.cells.invariant.same
+
+pub returns-in_err-value-clause-key : goal.returns-in_err-value-clause-key
+returns-in_err-value-clause-key g c = c.cells.invariant.key
+
+pub returns-in_err-value-clause-same : goal.returns-in_err-value-clause-same
+returns-in_err-value-clause-same g c = c.value_now.ensures.same ∙ c.cells.invariant.same
+
+pub returns-in_err-add_cell-in-Known-clause-key : goal.returns-in_err-add_cell-in-Known-clause-key
+returns-in_err-add_cell-in-Known-clause-key g c = c.cells.invariant.key
+
+pub returns-in_err-add_cell-in-Known-clause-same : goal.returns-in_err-add_cell-in-Known-clause-same
+returns-in_err-add_cell-in-Known-clause-same g c = c.in_ok-value.ensures.same ∙ c.cells.invariant.same

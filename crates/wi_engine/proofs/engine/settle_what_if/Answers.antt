@@ -1,4 +1,5 @@
-use Rattle.std.proofs.Common.{refl, arith}
+use Rattle.std.proofs.Common.{refl, sym, subst, ◌∙◌, arith}
+use Rattle.wi_engine.specs.Inner.MemoState.{MemoState, IsMemoOf}
 use Rattle.wi_engine.specs.declared.findings.FoundWhatIf.{FoundWhatIf}
 use Rattle.wi_engine.specs.declared.frame.Waiting.TheVariants as states
 use Rattle.wi_engine.proofs.engine.Settling.{spare_waiting, spare_found, may_read_what_if, may_read_inputs, next_input, next_inner, what_if_right, what_if_found_frame}
@@ -63,3 +64,57 @@ returns-clause-found g c =
     let x : FoundWhatIf = record { at = c.args.at; pairs = c.args.pairs; value = c.in-Known-2.value } in
     λ whole h. frame_what_if s m.kept f c.add_what_if.new.self x _ c.deref.result.now c.in_ok-add_what_if-in-Known-2.ensures.ok c.requires.awaits.1 c.deref.ensures.value world (inputs whole)
     (settled_now s m (g.M.Memo.state c.world_of_what_if.new.memo) _ c.args.at c.requires.memo c.in_ok-key.ensures.same whole there) h
+
+pub world_of_what_if-requires-clause-memo : goal.world_of_what_if-requires-clause-memo
+world_of_what_if-requires-clause-memo g c = c.requires.memo
+
+pub value_now-requires-clause-memo : goal.value_now-requires-clause-memo
+value_now-requires-clause-memo g c = subst (λ (x : MemoState). IsMemoOf c.args.store.now.sheet x) (sym c.in_ok-key.ensures.same) c.requires.memo
+
+pub returns-in-Unknown-clause-frame : goal.returns-in-Unknown-clause-frame
+returns-in-Unknown-clause-frame g c = record { key = c.requires.frame.key; found = c.requires.frame.found; waiting = c.requires.awaits }
+
+pub returns-in-Unknown-clause-found : goal.returns-in-Unknown-clause-found
+returns-in-Unknown-clause-found g c = λ whole h. h
+
+pub returns-in-Unknown-2-clause-frame : goal.returns-in-Unknown-2-clause-frame
+returns-in-Unknown-2-clause-frame g c = record { key = c.requires.frame.key; found = c.requires.frame.found; waiting = c.requires.awaits }
+
+pub returns-in-Unknown-2-clause-found : goal.returns-in-Unknown-2-clause-found
+returns-in-Unknown-2-clause-found g c = λ whole h. h
+
+pub returns-in-Unknown-clause-key : goal.returns-in-Unknown-clause-key
+returns-in-Unknown-clause-key g c = refl
+
+pub returns-in-Unknown-clause-same : goal.returns-in-Unknown-clause-same
+returns-in-Unknown-clause-same g c = c.in_ok-key.ensures.same
+
+pub returns-in-Unknown-2-clause-key : goal.returns-in-Unknown-2-clause-key
+returns-in-Unknown-2-clause-key g c = refl
+
+pub returns-in-Unknown-2-clause-same : goal.returns-in-Unknown-2-clause-same
+returns-in-Unknown-2-clause-same g c = c.in_ok-key-in-Known.ensures.same ∙ c.in_ok-key.ensures.same
+
+pub returns-clause-key : goal.returns-clause-key
+returns-clause-key g c = refl
+
+pub returns-clause-same : goal.returns-clause-same
+returns-clause-same g c = c.in_ok-key-in-Known.ensures.same ∙ c.in_ok-key.ensures.same
+
+pub returns-in_err-key-clause-key : goal.returns-in_err-key-clause-key
+returns-in_err-key-clause-key g c = refl
+
+pub returns-in_err-key-clause-same : goal.returns-in_err-key-clause-same
+returns-in_err-key-clause-same g c = c.world_of_what_if.ensures.same
+
+pub returns-in_err-key-in-Known-clause-key : goal.returns-in_err-key-in-Known-clause-key
+returns-in_err-key-in-Known-clause-key g c = refl
+
+pub returns-in_err-key-in-Known-clause-same : goal.returns-in_err-key-in-Known-clause-same
+returns-in_err-key-in-Known-clause-same g c = c.value_now.ensures.same ∙ c.in_ok-key.ensures.same
+
+pub returns-in_err-add_what_if-in-Known-2-clause-key : goal.returns-in_err-add_what_if-in-Known-2-clause-key
+returns-in_err-add_what_if-in-Known-2-clause-key g c = refl
+
+pub returns-in_err-add_what_if-in-Known-2-clause-same : goal.returns-in_err-add_what_if-in-Known-2-clause-same
+returns-in_err-add_what_if-in-Known-2-clause-same g c = c.in_ok-key-in-Known.ensures.same ∙ c.in_ok-key.ensures.same

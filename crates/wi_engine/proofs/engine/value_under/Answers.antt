@@ -1,8 +1,11 @@
 use Rattle.std.proofs.lemmas.Result.{IfOk-weaker}
 use Rattle.wi_sheet.specs.Demand.{wants}
-use Rattle.std.proofs.Common.{subst, sym, arith}
+use Rattle.std.proofs.Common.{◌≡◌, ◌∙◌, false, ap, refl, subst, sym, arith}
 use Rattle.wi_sheet.specs.Inner.Spending.{HasCase}
+use Rattle.wi_sheet.proofs.Counting.{never_fall-same}
 use Rattle.wi_engine.specs.Inner.MemoState.{MemoState, IsMemoOf}
+use Rattle.wi_engine.specs.Inner.Frames.{IsToValue}
+use Rattle.wi_engine.specs.Inner.Saving.{TakesNoMore, GivesUpWhenFull}
 use Rattle.wi_engine.proofs.Saved.{takes_none, gives_up_none}
 use Rattle.wi_engine.proofs.engine.Running.{unvalued_value, under_at_most, under_found, none_at_most, none_found}
 use Rattle.wi_engine.proofs.engine.Saving.{kept_before, not_easy, under_kept, under_unkept, under_saves, under_settled, settled_before, none_saves}
@@ -133,3 +136,90 @@ returns-in-Known-clause-restarts_ok g c = none_found c.args.store.now.sheet (Has
 
 pub returns-in-Known-clause-saves : goal.returns-in-Known-clause-saves
 returns-in-Known-clause-saves g c = none_saves c.args.store.now.sheet (HasCase c.args.store.now.sheet c.args.world.now c.args.at) (g.M.Memo.state c.args.memo.now) (g.M.Memo.state c.value_now.new.memo) c.args.meter.now c.in_ok-value.ensures.same
+
+pub value_now-requires-clause-memo : goal.value_now-requires-clause-memo
+value_now-requires-clause-memo g c = c.requires.memo
+
+pub value_now-requires-clause-read : goal.value_now-requires-clause-read
+value_now-requires-clause-read g c = c.requires.read
+
+pub run-requires-clause-memo : goal.run-requires-clause-memo
+run-requires-clause-memo g c = subst (λ (x : MemoState). IsMemoOf c.args.store.now.sheet x) (sym c.in_ok-value.ensures.same) c.requires.memo
+
+pub run-requires-clause-key : goal.run-requires-clause-key
+run-requires-clause-key g c =
+    let u = rw c.in-Unknown.is at c.in_ok-value.ensures.unknown in
+    subst (λ (x : MemoState). IsToValue c.args.store.now.sheet x c.in-Unknown.key) (sym c.in_ok-value.ensures.same) u.key
+
+pub run-requires-clause-unfound : goal.run-requires-clause-unfound
+run-requires-clause-unfound g c =
+    let u = rw c.in-Unknown.is at c.in_ok-value.ensures.unknown in
+    subst (λ (x : MemoState). x.found c.in-Unknown.key.cell c.in-Unknown.key.world ≡ false) (sym c.in_ok-value.ensures.same) u.unfound
+
+pub run-requires-clause-unkept : goal.run-requires-clause-unkept
+run-requires-clause-unkept g c =
+    let u = rw c.in-Unknown.is at c.in_ok-value.ensures.unknown in
+    subst (λ (x : MemoState). x.kept c.in-Unknown.key.cell c.in-Unknown.key.world ≡ false) (sym c.in_ok-value.ensures.same) u.unkept
+
+pub returns-in-Known-clause-value : goal.returns-in-Known-clause-value
+returns-in-Known-clause-value g c = rw c.in-Known.is at c.in_ok-value.ensures.known
+
+pub returns-in-Known-clause-counts : goal.returns-in-Known-clause-counts
+returns-in-Known-clause-counts g c = never_fall-same c.args.meter.now
+
+pub returns-in-Known-clause-uncounted : goal.returns-in-Known-clause-uncounted
+returns-in-Known-clause-uncounted g c = λ easy. refl
+
+pub returns-in-Known-clause-same_cells : goal.returns-in-Known-clause-same_cells
+returns-in-Known-clause-same_cells g c = ap (λ (x : MemoState). x.covers) c.in_ok-value.ensures.same
+
+pub returns-in-Known-clause-same_generation : goal.returns-in-Known-clause-same_generation
+returns-in-Known-clause-same_generation g c = ap (λ (x : MemoState). x.generation) c.in_ok-value.ensures.same
+
+pub returns-in-Known-clause-same_capacity : goal.returns-in-Known-clause-same_capacity
+returns-in-Known-clause-same_capacity g c = ap (λ (x : MemoState). x.capacity) c.in_ok-value.ensures.same
+
+pub returns-in-Known-clause-same_latest : goal.returns-in-Known-clause-same_latest
+returns-in-Known-clause-same_latest g c = ap (λ (x : MemoState). x.latest) c.in_ok-value.ensures.same
+
+pub returns-in_err-value-clause-counts : goal.returns-in_err-value-clause-counts
+returns-in_err-value-clause-counts g c = never_fall-same c.args.meter.now
+
+pub returns-in_err-value-clause-uncounted : goal.returns-in_err-value-clause-uncounted
+returns-in_err-value-clause-uncounted g c = λ easy. refl
+
+pub returns-in_err-value-clause-same_cells : goal.returns-in_err-value-clause-same_cells
+returns-in_err-value-clause-same_cells g c = ap (λ (x : MemoState). x.covers) c.value_now.ensures.same
+
+pub returns-in_err-value-clause-same_generation : goal.returns-in_err-value-clause-same_generation
+returns-in_err-value-clause-same_generation g c = ap (λ (x : MemoState). x.generation) c.value_now.ensures.same
+
+pub returns-in_err-value-clause-same_capacity : goal.returns-in_err-value-clause-same_capacity
+returns-in_err-value-clause-same_capacity g c = ap (λ (x : MemoState). x.capacity) c.value_now.ensures.same
+
+pub returns-in_err-value-clause-same_latest : goal.returns-in_err-value-clause-same_latest
+returns-in_err-value-clause-same_latest g c = ap (λ (x : MemoState). x.latest) c.value_now.ensures.same
+
+pub returns-in-Unknown-clause-counts : goal.returns-in-Unknown-clause-counts
+returns-in-Unknown-clause-counts g c = c.run.ensures.counts
+
+pub returns-in-Unknown-clause-memo : goal.returns-in-Unknown-clause-memo
+returns-in-Unknown-clause-memo g c = c.run.ensures.memo
+
+pub returns-in-Unknown-clause-same_cells : goal.returns-in-Unknown-clause-same_cells
+returns-in-Unknown-clause-same_cells g c = c.run.ensures.same_cells ∙ ap (λ (x : MemoState). x.covers) c.in_ok-value.ensures.same
+
+pub returns-in-Unknown-clause-same_generation : goal.returns-in-Unknown-clause-same_generation
+returns-in-Unknown-clause-same_generation g c = c.run.ensures.same_generation ∙ ap (λ (x : MemoState). x.generation) c.in_ok-value.ensures.same
+
+pub returns-in-Unknown-clause-same_capacity : goal.returns-in-Unknown-clause-same_capacity
+returns-in-Unknown-clause-same_capacity g c = c.run.ensures.same_capacity ∙ ap (λ (x : MemoState). x.capacity) c.in_ok-value.ensures.same
+
+pub returns-in-Unknown-clause-same_latest : goal.returns-in-Unknown-clause-same_latest
+returns-in-Unknown-clause-same_latest g c = c.run.ensures.same_latest ∙ ap (λ (x : MemoState). x.latest) c.in_ok-value.ensures.same
+
+pub returns-in-Unknown-clause-takes : goal.returns-in-Unknown-clause-takes
+returns-in-Unknown-clause-takes g c = subst (λ (x : MemoState). TakesNoMore x (g.M.Memo.state c.run.new.memo) c.args.meter.now.evaluations c.run.new.meter.evaluations) c.in_ok-value.ensures.same c.run.ensures.takes
+
+pub returns-in-Unknown-clause-gives_up : goal.returns-in-Unknown-clause-gives_up
+returns-in-Unknown-clause-gives_up g c = subst (λ (x : MemoState). GivesUpWhenFull x (g.M.Memo.state c.run.new.memo)) c.in_ok-value.ensures.same c.run.ensures.gives_up

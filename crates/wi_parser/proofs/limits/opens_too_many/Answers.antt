@@ -1,4 +1,5 @@
 use Rattle.std.proofs.Common.{rules, arith, ◌≡◌, suc, ◌∷◌, drop, drop-cons, refl, ap, sym, ◌∙◌}
+use Rattle.std.proofs.lemmas.Grind.{common_steps}
 use Rattle.wi_parser.specs.Inner.SymbolCode.{all_meant}
 use Rattle.wi_parser.specs.Nesting.{deepest}
 use Rattle.wi_parser.proofs.Depth.{least}
@@ -15,3 +16,6 @@ returns-then-open-eq-MAX_DEPTH c =
     let next = drop-cons symbols l.symbol-index c.symbol-item.result c.loop-symbol-test.true ∙ ap (λ w. w ∷ after) (sym c.symbol-item.is ∙ c.in-Open.is) in
     let step : deepest l.open (all_meant (drop l.symbol-index symbols)) ≡ deepest (suc l.open) (all_meant after) = ap (λ ws. deepest l.open (all_meant ws)) next in
     (λ _. l.invariant.1.1 (omega (arith, step, least (suc l.open) (all_meant after))), λ _. refl)
+
+pub returns : goal.returns
+returns c = grind (arith, common_steps)

@@ -1,4 +1,5 @@
 use Rattle.std.proofs.Common.{arith, ◌≡◌, suc, ◌∷◌, max, drop, drop-cons, refl, ap, sym, ◌∙◌, if◌then◌else◌}
+use Rattle.std.proofs.lemmas.Grind.{common_steps}
 use Rattle.wi_parser.specs.Inner.SymbolCode.{all_meant}
 use Rattle.wi_parser.specs.Nesting.{most_signs}
 use Rattle.wi_parser.proofs.Refusals.{least_signs}
@@ -15,3 +16,6 @@ returns-then-signs-eq-MAX_DEPTH c =
     ap (λ ws. most_signs l.signs (all_meant ws)) next
     ∙ ap (λ b. if b then most_signs (suc l.signs) (all_meant after) else max l.signs (most_signs 0 (all_meant after))) is in
     (λ _. l.invariant.1.1 (omega (arith, step, least_signs (suc l.signs) (all_meant after))), λ _. refl)
+
+pub returns : goal.returns
+returns c = grind (arith, common_steps)

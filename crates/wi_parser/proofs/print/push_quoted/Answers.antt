@@ -1,8 +1,9 @@
-use Rattle.std.proofs.Common.{rules, ap, sym, subst, ◌∙◌, ◌++◌, ◌∷◌, [], string_bytes}
+use Rattle.std.proofs.Common.{rules, ap, sym, subst, ◌∙◌, ◌++◌, ◌∷◌, [], string_bytes, arith}
+use Rattle.std.proofs.lemmas.Grind.{common_steps}
 use Rattle.std.specs.Io.{StartsWith}
 use Rattle.std.specs.List.{flat_map}
 use Rattle.wi_quoting.specs.Quoted.{doubled}
-use Rattle.wi_parser.proofs.PrintLemmas.{starts_more}
+use Rattle.wi_parser.proofs.PrintLemmas.{starts_kept, starts_same, starts_more, starts_still}
 use Rattle.wi_parser.proofs.Quotes.{piece_doubled, rest_doubled, piece_written, last_written}
 use Rattle.wi_parser.proofs.print.push_quoted.Goals as goal
 
@@ -26,3 +27,18 @@ returns-clause-ok c =
     let l = c.loop-piece in
     let plain = rest_doubled l.rest.now c.split_once.result c.split_once.ensures.cases c.in_default.is in
     last_written c.push_str-3.result (string_bytes c.args.out.now) c.args.content.now l.rest.now _ _ _ l.invariant.written plain c.in_ok-push_str-4.ensures.bytes c.push_str-3.ensures.bytes
+
+pub returns-in_err-push_str-clause-kept : goal.returns-in_err-push_str-clause-kept
+returns-in_err-push_str-clause-kept c = starts_kept _ _ c.in_err-push_str.ensures.bytes
+
+pub returns-in_err-push_str-3-clause-kept : goal.returns-in_err-push_str-3-clause-kept
+returns-in_err-push_str-3-clause-kept c =
+    starts_same _ _ _ c.in_err-push_str-3.ensures.bytes (starts_same _ _ _ c.in_ok-push_str-2.ensures.bytes (starts_more _ _ _ c.loop-piece.invariant.kept))
+
+pub returns-clause-kept : goal.returns-clause-kept
+returns-clause-kept c =
+    starts_still c.push_str-3.result _ _ _ _ c.push_str-3.ensures.bytes
+    (starts_same _ _ _ c.in_ok-push_str-4.ensures.bytes (starts_more _ _ _ c.loop-piece.invariant.kept))
+
+pub loop-piece-init : goal.loop-piece-init
+loop-piece-init c = grind (arith, common_steps)

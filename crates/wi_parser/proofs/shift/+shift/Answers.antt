@@ -1,4 +1,5 @@
 use Rattle.std.proofs.Common.{List, map, ap, sym, ◌∙◌, arith, rules, w64}
+use Rattle.std.proofs.lemmas.Grind.{common_steps}
 use mir.Val.{SFits}
 use Rattle.std.proofs.lemmas.Int.{to_z-of_z}
 use Rattle.std.proofs.lemmas.List.{take_all}
@@ -18,3 +19,6 @@ each_shifted-returns t c =
     let f = map_references (moved c.args.rows c.args.columns) in
     let whole = take_all l.expr-index c.args.exprs.now (omega arith) in
     ap trees_of (kept ∙ ap (λ (es : List Expr). map f (map tree_of es)) whole) ∙ sym (mapped (moved c.args.rows c.args.columns) (map tree_of c.args.exprs.now))
+
+pub each_shifted-loop-expr-preserved : goal.each_shifted-loop-expr-preserved
+each_shifted-loop-expr-preserved t c = grind (arith, common_steps)

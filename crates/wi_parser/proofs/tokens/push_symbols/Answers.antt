@@ -1,4 +1,5 @@
-use Rattle.std.proofs.Common.{◌∷◌, ◌++◌, append-nil, ap, sym, ◌∙◌}
+use Rattle.std.proofs.Common.{◌∷◌, ◌++◌, append-nil, ap, sym, ◌∙◌, arith}
+use Rattle.std.proofs.lemmas.Grind.{common_steps}
 use Rattle.wi_parser.specs.Inner.SymbolCode.{all_meant}
 use Rattle.wi_parser.proofs.Collected.{left, left_next, left_bad, left_end, pushed}
 use Rattle.wi_lexer.proofs.CallerLemmas.{next_shortens}
@@ -30,3 +31,6 @@ returns c =
     let l = c.loop-next in
     let symbols = all_meant l.symbols.items in
     sym (append-nil symbols) ∙ ap (λ x. symbols ++ x) (sym (left_end l.lexer c.in_default.ensures.0)) ∙ l.invariant
+
+pub loop-next-smaller : goal.loop-next-smaller
+loop-next-smaller c = grind (arith, common_steps)

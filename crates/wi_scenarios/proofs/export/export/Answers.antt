@@ -1,8 +1,16 @@
-use Rattle.std.proofs.Common.{rules}
+use Rattle.std.proofs.Common.{refl, rules}
+use Rattle.wi_scenarios.specs.Inner.Held.{state_of}
+use Rattle.wi_scenarios.proofs.LookLemmas.{export_lacked}
 use Rattle.wi_scenarios.proofs.export.export.Goals as goal
 
 pub returns-then-is_too_large-clause-step : goal.returns-then-is_too_large-clause-step
 returns-then-is_too_large-clause-step g c = search rules
+
+pub returns-in_err-put-clause-step : goal.returns-in_err-put-clause-step
+returns-in_err-put-clause-step g c =
+    let s = state_of (g.C.Calculator.stored c.args.calculator.now) c.args.desk.now in
+    export_lacked s s c.args.area c.is_too_large.result c.args.out.now.items c.args.out.now.items c.from_residual.result
+    c.is_too_large.ensures c.if-is_too_large.false c.from_residual.ensures.1 refl refl
 
 pub returns-clause-step : goal.returns-clause-step
 returns-clause-step g c = search rules

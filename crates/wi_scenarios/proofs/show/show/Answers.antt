@@ -1,8 +1,24 @@
-use Rattle.std.proofs.Common.{rules}
+use Rattle.std.proofs.Common.{refl, ap, rules}
+use Rattle.wi_scenarios.specs.Inner.Held.{state_of}
+use Rattle.wi_scenarios.proofs.LookLemmas.{show_lacked}
 use Rattle.wi_scenarios.proofs.show.show.Goals as goal
 
 pub returns-then-is_too_large-clause-step : goal.returns-then-is_too_large-clause-step
 returns-then-is_too_large-clause-step g c = search rules
+
+pub returns-in_err-put-clause-step : goal.returns-in_err-put-clause-step
+returns-in_err-put-clause-step g c =
+    let s = state_of (g.C.Calculator.stored c.args.calculator.now) c.args.desk.now in
+    show_lacked s s c.args.area c.is_too_large.result c.args.out.now.items c.args.out.now.items c.from_residual.result
+    c.is_too_large.ensures c.if-is_too_large.false c.from_residual.ensures.1 refl refl
+
+pub returns-in_err-push_rows-clause-step : goal.returns-in_err-push_rows-clause-step
+returns-in_err-push_rows-clause-step g c =
+    let s = state_of (g.C.Calculator.stored c.args.calculator.now) c.args.desk.now in
+    show_lacked s (state_of (g.C.Calculator.stored c.push_rows.new.calculator) c.args.desk.now) c.args.area c.is_too_large.result
+    c.args.out.now.items c.push_rows.new.out.items c.from_residual-in_err-push_rows.result
+    c.is_too_large.ensures c.if-is_too_large.false c.from_residual-in_err-push_rows.ensures.1
+    (ap (λ x. state_of x c.args.desk.now) c.in_err-push_rows.ensures.same) c.in_err-push_rows.ensures.err
 
 pub returns-clause-step : goal.returns-clause-step
 returns-clause-step g c = search rules

@@ -18,8 +18,7 @@ pub turns_of-requires-clause-cone : goal.turns_of-requires-clause-cone
 turns_of-requires-clause-cone c =
     let g = c.self.inside in
     let old = unstaged g.rooms g.readers g.circles g.staged (ap (λ (x : Staging). x.staged) c.self.view_is ∙ c.requires) c.self.invariant.0 in
-    edit_cone g.rooms c.in_ok-coming.coming g.readers g.circles c.in_ok-found.found c.in_ok-cells.cells.items c.deref.result.now c.args.changes.now old c.deref.ensures.value c.in_ok-cells.ensures
-    c.in_ok-found.ensures.all c.in_ok-found.ensures.closed c.in_ok-found.ensures.least c.in_ok-coming.ensures
+    edit_cone g.rooms c.in_ok-coming.coming g.readers g.circles c.in_ok-found.found c.args.changes.now old c.in_ok-found.ensures.all c.in_ok-found.ensures.closed c.in_ok-found.ensures.least c.in_ok-coming.ensures
 
 pub returns-in-Ok-clause-order : goal.returns-in-Ok-clause-order
 returns-in-Ok-clause-order c = subst IsStrictlyIncreasing (sym c.in_ok-cone.ensures.items) (IsStrictlyIncreasing-from_sorted c.in_ok-found.found.keys c.listed.ensures.order)
@@ -28,8 +27,7 @@ pub returns-in-Ok-clause-cells : goal.returns-in-Ok-clause-cells
 returns-in-Ok-clause-cells c =
     let g = c.self.inside in
     let old = unstaged g.rooms g.readers g.circles g.staged (ap (λ (x : Staging). x.staged) c.self.view_is ∙ c.requires) c.self.invariant.0 in
-    λ s h. listed_cone g.rooms g.readers g.circles c.in_ok-found.found c.in_ok-cells.cells.items c.deref.result.now c.in_ok-cone.cone.items c.args.changes.now old c.deref.ensures.value c.in_ok-cells.ensures
-    c.in_ok-found.ensures.all c.in_ok-found.ensures.closed c.in_ok-found.ensures.least c.in_ok-cone.ensures.items s (subst (λ (x : Staging). AreEdgesOf x.now s) (sym c.self.view_is) h)
+    λ s h. listed_cone g.rooms g.readers g.circles c.in_ok-found.found c.in_ok-cone.cone.items c.args.changes.now old c.in_ok-found.ensures.all c.in_ok-found.ensures.closed c.in_ok-found.ensures.least c.in_ok-cone.ensures.items s (subst (λ (x : Staging). AreEdgesOf x.now s) (sym c.self.view_is) h)
 
 pub invariant_of-self-in-Ok : goal.invariant_of-self-in-Ok
 invariant_of-self-in-Ok c =
@@ -37,7 +35,7 @@ invariant_of-self-in-Ok c =
     let old = unstaged g.rooms g.readers g.circles g.staged (ap (λ (x : Staging). x.staged) c.self.view_is ∙ c.requires) c.self.invariant.0 in (
       tt,
       staged_graph g.rooms c.bring_in.new.rooms c.in_ok-coming.coming c.in-Ok.next g.readers c.bring_in.new.readers g.circles c.bring_circles.new.circles c.in_ok-turns.turns old c.bring_in.ensures.ordered c.in-Ok.ensures.has_rooms
-          c.in-Ok.ensures.pairs c.bring_in.ensures.rooms c.in-Ok.ensures.all c.in_ok-turns.ensures (rw c.deref-2.ensures.value at c.in_ok-bring_circles.ensures.ok),
+          c.in-Ok.ensures.pairs c.bring_in.ensures.rooms c.in-Ok.ensures.all c.in_ok-turns.ensures (rw c.deref.ensures.value at c.in_ok-bring_circles.ensures.ok),
     )
 
 pub returns-in-Ok-clause-ok : goal.returns-in-Ok-clause-ok
@@ -61,7 +59,7 @@ invariant_of-self-in-Err c =
     let old = unstaged g.rooms g.readers g.circles g.staged none c.self.invariant.0 in
     refused_invariant g.rooms c.bring_in.new.rooms c.bring_in.new.readers c.take_away.new.set g.staged none
     (refused_graph g.rooms c.bring_in.new.rooms g.readers c.bring_in.new.readers g.circles c.bring_circles.new.circles c.take_away.new.set c.in_ok-turns.turns.came.items c.deref-in-Err.result.now old c.bring_in.ensures.ordered
-    c.bring_in.ensures.rooms c.in-Err.ensures.err c.in_ok-turns.ensures.fresh (rw c.deref-2.ensures.value at c.in_ok-bring_circles.ensures.ok) (search rules) c.take_away.ensures)
+    c.bring_in.ensures.rooms c.in-Err.ensures.err c.in_ok-turns.ensures.fresh (rw c.deref.ensures.value at c.in_ok-bring_circles.ensures.ok) (search rules) c.take_away.ensures)
 
 pub returns-clause-err : goal.returns-clause-err
 returns-clause-err c =

@@ -85,3 +85,23 @@ returns-in_ok-call-in-Name-clause-finds g c =
     let is = rw c.in-Name.is at c.in-Some.ensures in
     ap (atom i) is ∙ ap (called i f) c.if-not-take_open.ensures.yes ∙ ap (as_call f) c.in_ok-parameters-in-Name.ensures.finds
     ∙ ap (λ t. Some (t, c.parameters.new.symbols)) (sym c.in_ok-call-in-Name.ensures)
+
+pub returns-in-Close-clause-finds : goal.returns-in-Close-clause-finds
+unfolding atom
+returns-in-Close-clause-finds g c = ap (atom (expression c.args.self.now.depth)) (rw c.in-Close.is at c.in-Some.ensures)
+
+pub returns-in-Separator-clause-finds : goal.returns-in-Separator-clause-finds
+unfolding atom
+returns-in-Separator-clause-finds g c = ap (atom (expression c.args.self.now.depth)) (rw c.in-Separator.is at c.in-Some.ensures)
+
+pub returns-in-Infix-clause-finds : goal.returns-in-Infix-clause-finds
+unfolding atom
+returns-in-Infix-clause-finds g c = ap (atom (expression c.args.self.now.depth)) (rw c.in-Infix.is at c.in-Some.ensures)
+
+pub returns-in-Percent-clause-finds : goal.returns-in-Percent-clause-finds
+unfolding atom
+returns-in-Percent-clause-finds g c = ap (atom (expression c.args.self.now.depth)) (rw c.in-Percent.is at c.in-Some.ensures)
+
+pub returns-in-Refused-clause-finds : goal.returns-in-Refused-clause-finds
+unfolding atom
+returns-in-Refused-clause-finds g c = ap (atom (expression c.args.self.now.depth)) (rw c.in-Refused.is at c.in-Some.ensures)

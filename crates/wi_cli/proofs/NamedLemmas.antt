@@ -1,0 +1,34 @@
+-- A command by its name and its words.
+use Rattle.std.proofs.Common.{◌≡◌, ℕ, Bool, true, cond, List, sym, ap, ◌∙◌, subst, Result}
+use Rattle.wi_values.specs.AddressReading.{read_rect}
+use Rattle.wi_scenarios.specs.declared.refusal.Refusal.{Refusal}
+use Rattle.wi_scenarios.specs.declared.refusal.Refusal.TheVariants.{BadCommand}
+use Rattle.wi_scenarios.specs.Step.{Command, Compare, Refused}
+use Rattle.wi_cli.specs.declared.command.Command.{Command as ReadCommand}
+use Rattle.wi_cli.specs.Words.{first_word, after_word, is_all_spaces}
+use Rattle.wi_cli.specs.Operands.{of_name, of_operand, read_side}
+use Rattle.wi_cli.specs.LookCommands.{compare_command}
+use Rattle.wi_cli.specs.Inner.Spelling.{IsCommandOf}
+
+-- the first word of a text is this name, and what is behind it is what the command is read from
+pub named : (by_name : List ℕ → List ℕ → Command) (text word operands name : List ℕ) (r : Result ReadCommand Refusal) → word ≡ first_word text → operands ≡ after_word text
+    → word ≡ name → IsCommandOf (by_name name operands) r → IsCommandOf (by_name (first_word text) (after_word text)) r
+named by_name text word operands name r first behind is h =
+    subst (λ (c : Command). IsCommandOf c r) (ap (λ x. by_name x operands) (sym is ∙ first) ∙ ap (by_name (first_word text)) behind) h
+
+abbrev pub compare_words : List ℕ → List ℕ → List ℕ → Command
+compare_words one two area = of_name (read_side one) (λ s. of_name (read_side two) (λ t. of_operand (read_rect area) (λ cells. Compare s t cells)))
+
+-- its three words are the operands, and none is left
+pub compared : (text one behind two behind' area more : List ℕ) (ended : Bool) (r : Result ReadCommand Refusal) → one ≡ first_word text → behind ≡ after_word text
+    → two ≡ first_word behind → behind' ≡ after_word behind → area ≡ first_word behind' → more ≡ after_word behind' → ended ≡ is_all_spaces more → ended ≡ true
+    → IsCommandOf (compare_words one two area) r → IsCommandOf (compare_command text) r
+compared text one behind two behind' area more ended r o b t b' a m e is h =
+    let b'' : behind' ≡ after_word (after_word text) = b' ∙ ap after_word b in
+    let none : is_all_spaces (after_word (after_word (after_word text))) ≡ true = sym (ap is_all_spaces (m ∙ ap after_word b'')) ∙ sym e ∙ is in
+    let words : compare_words one two area ≡ compare_words (first_word text) (first_word (after_word text)) (first_word (after_word (after_word text))) =
+    ap (λ x. compare_words x two area) o ∙ ap (λ x. compare_words (first_word text) x area) (t ∙ ap first_word b)
+    ∙ ap (compare_words (first_word text) (first_word (after_word text))) (a ∙ ap first_word b'') in
+    let said : compare_command text ≡ compare_words (first_word text) (first_word (after_word text)) (first_word (after_word (after_word text))) =
+    ap (λ v. cond v (compare_words (first_word text) (first_word (after_word text)) (first_word (after_word (after_word text)))) (Refused BadCommand)) none in
+    subst (λ (c : Command). IsCommandOf c r) (words ∙ sym said) h

@@ -1,0 +1,13 @@
+use Rattle.std.proofs.Common.{◌≡◌, ◌∙◌, ℕ, List, filter, ap}
+use Rattle.std.proofs.lemmas.Result.{IfOk-weaker}
+use Rattle.std.specs.Ordering.{nat_cmp}
+use Rattle.std.specs.BTreeSet.{contains}
+use Rattle.wi_graph.specs.Reach.{is_one_of}
+use Rattle.wi_graph.specs.Inner.Turning.{reads_outside}
+use Rattle.wi_graph.proofs.held.held_set.Goals as goal
+
+pub returns : goal.returns
+returns c =
+    let keys = filter (reads_outside c.args.reads.now c.args.circles.now c.args.cells.now) c.args.cells.now.keys in
+    IfOk-weaker c.set_of.result (λ set. (d : ℕ) → contains nat_cmp set d ≡ is_one_of c.deref.result.now d) (λ set. (d : ℕ) → contains nat_cmp set d ≡ is_one_of keys d)
+    (λ set h d. h d ∙ ap (λ (xs : List ℕ). is_one_of xs d) (c.deref.ensures.value ∙ c.in_ok-held.ensures)) c.set_of.ensures

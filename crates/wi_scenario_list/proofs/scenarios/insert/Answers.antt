@@ -1,0 +1,9 @@
+use Rattle.std.proofs.Common.{◌∙◌, List, ap, Global}
+use Rattle.std.specs.declared.rc.RcStr.{RcStr}
+use Rattle.wi_scenario_list.specs.Inner.Held.{held}
+use Rattle.wi_scenario_list.specs.declared.layer.Layer.{Layer}
+use Rattle.wi_scenario_list.proofs.Held.{inserted}
+use Rattle.wi_scenario_list.proofs.scenarios.insert.Goals as goal
+
+pub returns-clause-ok : goal.returns-clause-ok
+returns-clause-ok c = ap (λ (es : List (RcStr Global × Layer)). held es) c.in_ok-insert.ensures.entries ∙ inserted c.args.name c.args.layer c.args.layers.now.entries
