@@ -1,9 +1,13 @@
-//! Tests of what no stored run shows: calls of stores, worlds, kept values and the range index. They stand apart since a crate
-//! with tests is proved twice.
+//! Tests of what no stored run shows: laws, hashes, equality, and calls of stores, worlds, kept values, the range index and
+//! graphs. They stand apart since a crate with tests is proved twice.
 #![tactic(auto)]
 
 #[cfg(test)]
 mod faults;
+#[cfg(test)]
+mod fractions;
+#[cfg(test)]
+mod graphs;
 #[cfg(test)]
 mod kept_values;
 #[cfg(test)]
@@ -16,5 +20,7 @@ mod refused_growths;
 mod stores;
 #[cfg(test)]
 mod texts;
+#[cfg(test)]
+mod values;
 #[cfg(test)]
 mod worlds;

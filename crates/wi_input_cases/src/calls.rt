@@ -1,10 +1,7 @@
-//! Reads the words that standard input gives, a line for each call of the program, and prints the options that they give,
-//! or why they give none and with which status the program then ends.
-#![tactic(auto)]
+//! Words of calls of the program: the options that they give, or why they give none and with which status the program then
+//! ends.
 
 use std::alloc::{AllocError, Global};
-use std::io;
-use std::io::{BufRead, BufReader};
 use wi_options::{Options, OptionsFault, options, options_status};
 
 /// The words of a line, between spaces; two quotes are the empty word.
@@ -47,7 +44,7 @@ fn push_text(alloc: Global, fault: &OptionsFault, out: &mut String) -> Result<()
 }
 
 /// The words, and what they give; with the text of a fault where the line begins with a question mark.
-fn told(alloc: Global, line: &str) -> Result<String, AllocError> {
+pub fn told(alloc: Global, line: &str) -> Result<String, AllocError> {
     let mut out = format!(in alloc; "< {line}\n")?;
     let asked = line.strip_prefix("? ");
     let words = words_of(alloc, asked.unwrap_or(line))?;
@@ -63,16 +60,4 @@ fn told(alloc: Global, line: &str) -> Result<String, AllocError> {
         }
     }
     Ok(out)
-}
-
-fn main(rt: HostRuntime) -> io::Result<()> {
-    for line in BufReader::new(rt.alloc(), rt.reader())?.lines(rt.alloc()) {
-        let line = line?;
-        if line.starts_with("==") {
-            println!(rt; "{line}")?;
-        } else if !line.starts_with('#') {
-            rt.print(told(rt.alloc(), &line)?)?;
-        }
-    }
-    Ok(())
 }

@@ -1,10 +1,7 @@
-//! Reads the CSV texts that standard input spells, a line each, and prints their records, and these as a text that must be
-//! read again as the same.
-#![tactic(auto)]
+//! CSV texts: their records, and these as a text that must be read again as the same.
 
 use std::alloc::Global;
 use std::io;
-use std::io::{BufRead, BufReader};
 use wi_cases::{push_spelled, push_spelling};
 use wi_csv::{CsvFault, push_record, records};
 
@@ -32,7 +29,7 @@ fn push_records(rows: &Records, out: &mut String) -> io::Result<()> {
 }
 
 /// The spelling of a text, its records and the text that they are written as, or what is amiss.
-fn told(alloc: Global, spelling: &str) -> io::Result<String> {
+pub fn told(alloc: Global, spelling: &str) -> io::Result<String> {
     let mut bytes = Vec::new(alloc);
     push_spelled(spelling, &mut bytes)?;
     let mut out = format!(in alloc; "< {spelling}\n")?;
@@ -58,18 +55,6 @@ fn push_written(alloc: Global, rows: &Records, out: &mut String) -> io::Result<(
             }
         }
         Err(fault) => writeln!(out, "-- {fault}")?,
-    }
-    Ok(())
-}
-
-fn main(rt: HostRuntime) -> io::Result<()> {
-    for line in BufReader::new(rt.alloc(), rt.reader())?.lines(rt.alloc()) {
-        let line = line?;
-        if line.starts_with("==") {
-            println!(rt; "{line}")?;
-        } else if !line.starts_with('#') {
-            rt.print(told(rt.alloc(), &line)?)?;
-        }
     }
     Ok(())
 }
