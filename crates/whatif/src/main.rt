@@ -2,9 +2,11 @@
 //! the replies to standard output.
 #![tactic(auto)]
 
+mod program;
+mod tell;
+
 use std::process::ExitCode;
-use wi_program::whatif;
 
 fn main(rt: HostRuntime) -> ExitCode {
-    ExitCode::from(whatif(&rt))
+    ExitCode::from(program::run(&rt))
 }

@@ -13,5 +13,4 @@ pub mod Run
 pub mod RunOutcome
 pub mod InTurn
 pub mod Status
-pub mod Devices
 pub mod Inner

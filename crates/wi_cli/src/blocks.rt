@@ -9,12 +9,12 @@ ghost use Rattle.wi_cli.specs.Inner.Told.{Told};
 use crate::chunk::Chunk;
 use crate::csv_line::{CsvLine, read_csv_line};
 use crate::data_lines::{DataLines, read_data};
-use crate::device::Source;
 use crate::fault::RunFault;
 use crate::lines::{MAX_LINE, next_line};
 use crate::reply::Reply;
 use crate::serve::serve;
 use crate::serve_csv::serve_csv;
+use wi_devices::Source;
 use wi_propagate::Calculator;
 use wi_scenarios::Workbook;
 

@@ -4,8 +4,8 @@ ghost use Rattle.std.specs.Prelude.{◌≡◌, ◌<◌, ◌≤◌, [], ◌∷◌
 ghost use Rattle.std.specs.Io.KnownBytes.{IsAtEnd, prepend_known};
 ghost use Rattle.wi_cli.specs.Inner.Ahead.{Takes, budget};
 
-use crate::device::{DeviceFault, Source};
 use std::marker::Model;
+use wi_devices::{DeviceFault, Source};
 
 /// The bytes that are read at once.
 const SIZE: usize = 4096;

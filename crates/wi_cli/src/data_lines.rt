@@ -9,10 +9,10 @@ ghost use Rattle.wi_cli.specs.Inner.Data.{wants, Holds, HoldsLines, AddedTo, Too
 
 use crate::chunk::Chunk;
 use crate::csv_line::CsvLine;
-use crate::device::Source;
 use crate::fault::RunFault;
 use crate::lines::{MAX_LINE, next_line};
 use std::alloc::{AllocError, Global};
+use wi_devices::Source;
 
 /// What became of the data lines that were taken.
 #[derive(Clone, Copy)]

@@ -6,10 +6,10 @@ ghost use Rattle.wi_scenarios.specs.State.{State, new_state};
 ghost use Rattle.wi_cli.specs.RunOutcome.{RunOutcome};
 ghost use Rattle.wi_cli.specs.Status.{ending_status};
 
-use crate::device::{Sink, Source};
 use crate::fault::{RunFault, fault_status};
 use crate::runs::run;
 use std::alloc::{AllocError, Global};
+use wi_devices::{Sink, Source};
 use wi_propagate::KeptCalculator;
 use wi_scenarios::Workbook;
 use wi_store::Limits;
@@ -77,5 +77,7 @@ pub fn run_new<R: Source, W: Sink>(
     let Ok(mut book) = new_workbook(alloc, keep) else {
         return Ending::new(Err(RunFault::Memory));
     };
-    Ending::new(run(alloc, reader, writer, &mut book))
+    let outcome = run(alloc, reader, writer, &mut book);
+    drop(book);
+    Ending::new(outcome)
 }

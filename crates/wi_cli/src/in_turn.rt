@@ -5,11 +5,11 @@ ghost use Rattle.wi_scenarios.specs.State.{State, new_state};
 ghost use Rattle.wi_cli.specs.InTurn.{RunInTurn};
 ghost use Rattle.wi_cli.specs.Status.{ending_status};
 
-use crate::device::{Sink, Source};
 use crate::ending::{Ending, new_workbook};
 use crate::fault::RunFault;
 use crate::runs::run;
 use std::alloc::Global;
+use wi_devices::{Sink, Source};
 use wi_propagate::Calculator;
 use wi_scenarios::Workbook;
 
@@ -65,5 +65,7 @@ pub fn run_new_in_turn<L: Source, R: Source, W: Sink>(
     let Ok(mut book) = new_workbook(alloc, keep) else {
         return Ending::new(Err(RunFault::Memory));
     };
-    Ending::new(run_in_turn(alloc, load, reader, writer, &mut book))
+    let outcome = run_in_turn(alloc, load, reader, writer, &mut book);
+    drop(book);
+    Ending::new(outcome)
 }

@@ -5,8 +5,8 @@ ghost use Rattle.wi_cli.specs.RunOutcome.{max_lines};
 ghost use Rattle.wi_cli.specs.Inner.Reading.{TookLine, Broke, line_front};
 
 use crate::chunk::Chunk;
-use crate::device::Source;
 use crate::fault::RunFault;
+use wi_devices::Source;
 
 /// The greatest length of a line in bytes, without its LF.
 pub const MAX_LINE: usize = 65_536;

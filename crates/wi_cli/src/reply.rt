@@ -6,9 +6,9 @@ ghost use Rattle.wi_cli.specs.Inner.Front.{AppendsFront};
 ghost use Rattle.wi_cli.specs.Reply.{refused, refused_code, told_cell};
 ghost use Rattle.wi_cli.specs.Inner.Told.{told_bytes};
 
-use crate::device::{DeviceFault, Sink};
 use crate::write::write_all;
 use crate::write_address::write_address;
+use wi_devices::{DeviceFault, Sink};
 use wi_scenarios::Refusal;
 
 /// The reply to a line.

@@ -8,11 +8,11 @@ ghost use Rattle.wi_cli.specs.RunOutcome.{RunOutcome, max_lines};
 use crate::blocks::{read_block, serve_block};
 use crate::chunk::Chunk;
 use crate::data_lines::DataLines;
-use crate::device::{Sink, Source};
 use crate::fault::RunFault;
 use crate::lines::MAX_LINE;
 use crate::reply::write_reply;
 use std::alloc::Global;
+use wi_devices::{Sink, Source};
 use wi_propagate::Calculator;
 use wi_scenarios::Workbook;
 

@@ -4,7 +4,7 @@ ghost use Rattle.std.specs.Prelude.{◌≡◌, false, is_err, OnOk, OnErr};
 ghost use Rattle.std.specs.Io.KnownBytes.{Appends};
 ghost use Rattle.wi_cli.specs.Inner.Front.{AppendsFront};
 
-use crate::device::{DeviceFault, Sink};
+use wi_devices::{DeviceFault, Sink};
 
 /// Writes all the bytes, or fails and has written a front of them.
 pub fn write_all<W: Sink>(writer: &mut W, bytes: &[u8]) -> Result<(), DeviceFault>

@@ -5,9 +5,9 @@ ghost use Rattle.std.specs.Io.KnownBytes.{Appends};
 ghost use Rattle.wi_values.specs.Address.{address_text, letters_within};
 ghost use Rattle.wi_cli.specs.Inner.Front.{AppendsFront};
 
-use crate::device::{DeviceFault, Sink};
 use crate::write::write_all;
 use itoa::Buffer;
+use wi_devices::{DeviceFault, Sink};
 use wi_values::Address;
 
 /// Writes the text of an address. Takes no memory.

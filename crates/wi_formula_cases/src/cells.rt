@@ -1,8 +1,7 @@
 //! Values of formulas over two cells and their what-ifs.
 
-use crate::spelled;
-use crate::values::{push_value, value};
-use anyhow::{Context, Result};
+use crate::spelling::spelled;
+use crate::values::{push_value, spelled_value};
 use std::alloc::{AllocError, Global};
 use wi_functions::{Meter, Outcome, Want, evaluate};
 use wi_lookup::{LookedUp, Lookup, successor};
@@ -90,6 +89,20 @@ pub fn push_value_of(
     }
 }
 
+/// Evaluates a formula, and appends what is counted then.
+fn push_count(
+    alloc: Global,
+    formula: &Formula,
+    known: &Cells,
+    meter: &mut Meter,
+    line: &mut String,
+) -> Result<(), AllocError> {
+    drop(evaluate(alloc, formula, known, meter)?);
+    let evaluations = meter.evaluations();
+    let restarts = meter.restarts();
+    write!(line, "evaluations {evaluations}, restarts {restarts} | ")
+}
+
 /// Appends what is counted after each of two evaluations of a formula.
 fn push_counts(
     alloc: Global,
@@ -99,38 +112,62 @@ fn push_counts(
 ) -> Result<(), AllocError> {
     let mut meter = Meter::new();
     for _ in 0..2u32 {
-        let _outcome = evaluate(alloc, formula, known, &mut meter)?;
-        let evaluations = meter.evaluations();
-        let restarts = meter.restarts();
-        write!(line, "evaluations {evaluations}, restarts {restarts} | ")?;
+        push_count(alloc, formula, known, &mut meter, line)?;
     }
     line.push_str("end")
 }
 
-/// The value that a part of a case spells.
-fn spelled_value(alloc: Global, part: &str) -> Result<Value> {
-    value(alloc, &spelled(alloc, part)?)
+/// Appends the value of a formula, or what its evaluations count.
+fn push_evaluated(
+    alloc: Global,
+    operation: &str,
+    formula: &Formula,
+    known: &Cells,
+    line: &mut String,
+) -> Result<(), AllocError> {
+    match operation {
+        "count" => push_counts(alloc, formula, known, line),
+        _ => push_value_of(alloc, formula, known, line),
+    }
+}
+
+/// Appends what the evaluation of the formula of a text gives, or why the text is none.
+fn push_of_text(
+    alloc: Global,
+    operation: &str,
+    text: &str,
+    known: &Cells,
+    line: &mut String,
+) -> Result<(), AllocError> {
+    match parse(alloc, text) {
+        Ok(formula) => push_evaluated(alloc, operation, &formula, known, line),
+        Err(fault) => write!(line, "{fault}"),
+    }
 }
 
 /// What is known where parts of a case spell the values of A1 and B1.
-fn spelled_cells(alloc: Global, left: &str, right: &str) -> Result<Cells> {
+fn spelled_cells(alloc: Global, left: &str, right: &str) -> Option<Cells> {
     let a1 = spelled_value(alloc, left)?;
-    Ok(known(a1, spelled_value(alloc, right)?))
+    Some(known(a1, spelled_value(alloc, right)?))
 }
 
-/// The formula that a part of a case spells.
-fn spelled_formula(alloc: Global, part: &str) -> Result<Formula> {
-    Ok(parse(alloc, &spelled(alloc, part)?)?)
+/// Appends what the evaluation of the formula that a part of a case spells gives, or why it spells none.
+fn push_spelled(
+    alloc: Global,
+    operation: &str,
+    part: &str,
+    known: &Cells,
+    line: &mut String,
+) -> Option<()> {
+    push_of_text(alloc, operation, &spelled(alloc, part)?, known, line).ok()
 }
 
 /// Appends what the evaluation of a formula gives, or what it counts, after the values of A1 and B1.
-pub fn push(alloc: Global, operation: &str, operands: &str, line: &mut String) -> Result<()> {
-    let (left, others) = operands.split_once(' ').context("no values")?;
-    let (right, text) = others.split_once(' ').context("no formula")?;
+pub fn push(alloc: Global, operation: &str, operands: &str, line: &mut String) -> Option<()> {
+    let (left, others) = operands.split_once(' ')?;
+    let (right, part) = others.split_once(' ')?;
     let known = spelled_cells(alloc, left, right)?;
-    let formula = spelled_formula(alloc, text)?;
-    Ok(match operation {
-        "count" => push_counts(alloc, &formula, &known, line),
-        _ => push_value_of(alloc, &formula, &known, line),
-    }?)
+    let pushed = push_spelled(alloc, operation, part, &known, line);
+    drop(known);
+    pushed
 }

@@ -56,3 +56,8 @@ left_asks op t u s h = asked_too (Asks t) (Asks (binary op t u)) s (λ w a. any_
 
 pub right_asks : (op : Operator) (t u : Tree) (r : Result Value Stop) → IfErr r (λ s. IfNeeds s (Asks u)) → IfErr r (λ s. IfNeeds s (Asks (binary op t u)))
 right_asks op t u r h = asked_by (Asks u) (Asks (binary op t u)) r (λ w a. any_right (λ l. LeafAsks l w) (leaves t) (leaves u) a) h
+
+-- what stops for want of memory asks for nothing
+pub memory_asks : (P : Want → Type 0) (r : Result Value Stop) → IfErr r (λ s. s ≡ Memory) → IfErr r (λ s. IfNeeds s P)
+memory_asks P (Ok v) h = tt
+memory_asks P (Err s) h = subst (λ (x : Stop). IfNeeds x P) (sym h) tt

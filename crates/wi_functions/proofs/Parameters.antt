@@ -1,7 +1,7 @@
 -- Parameters and the arguments that they are.
 use Rattle.std.proofs.Common.{◌≡◌, ◌==◌, ℕ, zero, suc, ◌<◌, ◌≤◌, ◌+◌, ◌*◌, min, max, Bool, true, false, cond, List, [], ◌∷◌, ◌++◌, map, length, slice_index_or, ◌||◌, drop, drop-cons, append_assoc, Option, Some, None, Any, Result, Ok, Err, IfOk, IfErr, refl, sym, ap, ap₂, ◌∙◌, subst, eq-eqb, arith}
 use Rattle.std.specs.List.{list_any}
-use Rattle.std.proofs.lemmas.List.{map-append}
+use Rattle.std.proofs.lemmas.List.{map-append, append-nil, drop_all}
 use Rattle.std.proofs.lemmas.List.Folds.{list_any-append}
 use Rattle.std.proofs.Math.Nat.{mod-lt, div-add-mod'}
 use Rattle.std.proofs.lemmas.Bool.{eqb-true, false_from_ne_true}
@@ -21,7 +21,7 @@ use Rattle.wi_lookup.specs.declared.argument.Argument as given
 use Rattle.wi_lookup.specs.declared.stop.Stop as lookup
 use Rattle.wi_functions.specs.Meaning.{meaning, arguments, referred, is_one_cell}
 use Rattle.wi_functions.specs.Wants.{Asks, AnyAsks, IsUnknown, IfNeeds, stopped}
-use Rattle.wi_functions.specs.Inner.Calls.{ReferInside}
+use Rattle.wi_functions.specs.Inner.Calls.{values_of, ReferInside}
 use Rattle.wi_functions.specs.declared.evaluation.Want.{Want}
 use Rattle.wi_functions.specs.declared.evaluation.Want.TheVariants.{Cell}
 use Rattle.wi_functions.specs.declared.evaluation.Stop.{Stop}
@@ -130,6 +130,25 @@ more_arguments es i e args more arg cells what_ifs l h m k inv =
     ∙ ap (λ (xs : List Expr). arguments_in cells args ++ arguments (all_of xs) cells what_ifs) (sym (next_first es i e l h))
     ∙ inv
 
+-- one more value
+pub more_values : (es : List Expr) (i : ℕ) (e : Expr) (vs more : List Value) (v : Value) (cells : ℕ → Value) (what_ifs : ℕ → List (ℕ × ℕ) → Value) → i < length es → e ≡ slice_index_or es i e → more ≡ vs ++ v ∷ [] →
+    v ≡ meaning (tree_of e) cells what_ifs →
+    vs ++ values_of (arguments (all_of (drop i es)) cells what_ifs) ≡ values_of (arguments (all_of es) cells what_ifs) →
+    more ++ values_of (arguments (all_of (drop (i + 1) es)) cells what_ifs) ≡ values_of (arguments (all_of es) cells what_ifs)
+more_values es i e vs more v cells what_ifs l h m k inv =
+    let rest = values_of (arguments (all_of (drop (suc i) es)) cells what_ifs) in
+    let one : i + 1 ≡ suc i = omega arith in
+    ap (λ (n : ℕ). more ++ values_of (arguments (all_of (drop n es)) cells what_ifs)) one
+    ∙ ap (λ (xs : List Value). xs ++ rest) m
+    ∙ append_assoc vs (v ∷ []) rest
+    ∙ ap (λ (x : Value). vs ++ x ∷ rest) k
+    ∙ ap (λ (xs : List Expr). vs ++ values_of (arguments (all_of xs) cells what_ifs)) (sym (next_first es i e l h))
+    ∙ inv
+
+-- where no parameter is left, what was made is all
+pub none_left : {X : Type 0} (made_of : List Expr → List X) (es : List Expr) (i : ℕ) (xs all : List X) → made_of [] ≡ [] → length es ≤ i → xs ++ made_of (drop i es) ≡ all → xs ≡ all
+none_left made_of es i xs all k l h = sym (append-nil xs) ∙ ap (λ (ys : List _). xs ++ ys) (sym k) ∙ ap (λ (fs : List Expr). xs ++ made_of fs) (sym (drop_all i es l)) ∙ h
+
 -- a reference is the argument that refers to its rectangle
 pub reference_is : (t : Tree) (r : Area) (cells : ℕ → Value) (what_ifs : ℕ → List (ℕ × ℕ) → Value) → referred t ≡ Some r → argument_in cells (given.TheVariants.Reference r) ≡ argument_of cells (meaning t cells what_ifs) (referred t)
 reference_is t r cells what_ifs h =
@@ -148,6 +167,10 @@ reference_asks (cell a) r c h w =
 reference_asks (rectangle a) r c h w = let e : r ≡ area_of a = cc in leaf_asks (rectangle_leaf a) (Cell c) (subst (λ (x : Area). is_within x c ≡ true) e w)
 reference_asks (parenthesized t) r c h w = reference_asks t r c h w
 reference_asks t r c h w = cc
+
+-- and a value refers to nothing
+pub value_asks : (t : Tree) (v : Value) (c : ℕ) → refers_to c (given.TheVariants.Value v) ≡ true → Asks t (Cell c)
+value_asks t v c h = cc
 
 -- what one more argument refers to, a parameter asks for
 pub more_refer : (es : List Expr) (i : ℕ) (e : Expr) (args more : List given.Argument) (arg : given.Argument) → i < length es → e ≡ slice_index_or es i e → more ≡ args ++ arg ∷ [] →

@@ -180,7 +180,6 @@ fn percent_value<L: Lookup>(alloc: Global, inner: &Expr, lookup: &L) -> Result<V
 /// The value of two expressions with an operator between them.
 #[cycle(evaluating)]
 #[inline(never)]
-#[tactic(auto, using(crate::proofs::Asking::left_asks, crate::proofs::Asking::right_asks))]
 fn binary_value<L: Lookup>(
     alloc: Global,
     operator: Operator,

@@ -5,7 +5,7 @@ use Rattle.std.proofs.lemmas.Grind.{common_steps}
 use Rattle.std.proofs.lemmas.Bool.{or_parts}
 use Rattle.std.proofs.lemmas.Slice.Eq.{slice_eq-Decides}
 use Rattle.std.specs.Bool.{Decides}
-use Rattle.std.specs.Option.{option_eq}
+use Rattle.std.specs.Option.{option_eq, is_none}
 use Rattle.std.specs.Cmp.Lexicographic.{pointwise}
 use Rattle.wi_values.specs.contracts.rect.RectPartialEq.TheImpl as rect
 use Rattle.std.specs.Ordering.{nat_cmp}
@@ -19,7 +19,7 @@ use Rattle.wi_parser.specs.declared.content.Content.TheVariants.{Constant}
 use Rattle.wi_parser.specs.Sheet.{Sheet, content_of}
 use Rattle.wi_graph.specs.Reach.{SameOff}
 use Rattle.wi_graph.specs.Edges.{Edges, areas_in, areas_at, with_areas, edges_after}
-use Rattle.wi_graph.specs.Inner.Rooms.{Rooms, items_of, room_at, put_over, edges_in, edges_over}
+use Rattle.wi_graph.specs.Inner.Rooms.{Rooms, items_of, in_room, room_at, put_over, edges_in, edges_over}
 use Rattle.wi_graph.specs.Inner.Changes.{areas_then, Brings, ReadsStay}
 use Rattle.wi_graph.proofs.Tests.{at_same, turn_test, is_at-eq}
 use Rattle.wi_values.proofs.Order.{Ascends-from_order}
@@ -74,6 +74,10 @@ same_room r None None e = (λ h. refl, λ h. e)
 same_room r None (Some w) e = (λ h. cc, λ h. cc)
 same_room r (Some v) None e = (λ h. cc, λ h. cc)
 same_room r (Some v) (Some w) e = let d = slice_eq-Decides same_area v.items w.items r e in (λ h. ap (λ (xs : List Area). Some xs) (d.0 h), λ h. let k : v.items ≡ w.items = cc in d.1 k)
+
+pub no_room : (rooms : Rooms) (c : ℕ) (r : Bool) (o : Option (Vec Area)) → get nat_cmp rooms c ≡ None → r ≡ is_none o → Decides r (items_of o ≡ room_at rooms c)
+no_room rooms c r None e f = (λ h. sym (ap in_room e), λ h. f)
+no_room rooms c r (Some v) e f = (λ h. cc, λ h. let z : Some v.items ≡ None = h ∙ ap in_room e in cc)
 
 -- these rooms are as those that stand
 abbrev pub AreAsBefore : Rooms → List (ℕ × Option (Vec Area)) → Type 0

@@ -17,7 +17,7 @@ use Rattle.wi_graph.specs.Circular.{circular}
 use Rattle.wi_graph.specs.Reach.{is_one_of, in_cone}
 use Rattle.wi_graph.specs.Edges.{AreEdgesOf, areas_in}
 use Rattle.wi_graph.specs.declared.turning.Turns.{Turns}
-use Rattle.wi_graph.specs.Inner.Changes.{areas_then, Brings, ReadsStay, IsEditCone, went_from}
+use Rattle.wi_graph.specs.Inner.Changes.{areas_then, ReadsStay, IsEditCone, went_from}
 use Rattle.wi_graph.specs.Inner.Rooms.{Rooms, room_at, room_over, edges_in, areas_of, HasPairs, AreCircles, IsGraph}
 use Rattle.wi_graph.specs.Inner.Search.{HasAll, HasReaders, IsLeast}
 use Rattle.wi_graph.specs.Inner.Stripping.{items_there, reads_in, EachReadsOne, AreStripped, IsWithin}
@@ -123,13 +123,6 @@ pub cone_is : (rooms : Rooms) (readers : Bag) (cone : BTreeSet ℕ) (xs : List �
     (s : Sheet) → ((c : ℕ) → room_at rooms c ≡ areas_in (content_of s c)) → (c : ℕ) → contains nat_cmp cone c ≡ in_cone s xs c
 cone_is rooms readers cone xs o h a k l s are c =
     turned cone.keys c ∙ found_cone s readers xs cone (graph_readers rooms readers o h s (λ d. areas_rooms rooms.entries (Ascends-from_order rooms.entries o) d ∙ are d)) a k l c
-
-pub edit_cone : (rooms next : Rooms) (readers : Bag) (circles cone : BTreeSet ℕ) (xs : List (ℕ × Option Content)) → IsGraph rooms readers circles → HasAll (keys_of xs) cone → HasReaders readers cone → IsLeast readers (keys_of xs) cone → Brings next xs → IsEditCone rooms next cone
-edit_cone rooms next readers circles cone xs g a k l b = record {
-  changes = xs;
-  brings = b;
-  is_cone = λ s are c. cone_is rooms readers cone (keys_of xs) g.ordered g.pairs a k l s are c;
-}
 
 -- as a list
 pub listed_cone : (rooms : Rooms) (readers : Bag) (circles cone : BTreeSet ℕ) (list : List ℕ) (xs : List (ℕ × Option Content)) → IsGraph rooms readers circles → HasAll (keys_of xs) cone → HasReaders readers cone → IsLeast readers (keys_of xs) cone → list ≡ cone.keys →

@@ -4,12 +4,17 @@ ghost use Rattle.std.specs.Prelude.{◌≡◌, ◌↔◌, [], ℕ, Some, None, I
 ghost use Rattle.std.specs.List.Sorted.{IsStrictlyIncreasing};
 ghost use Rattle.std.specs.Map.{keys_of};
 ghost use Rattle.std.specs.Option.{unwrap_or};
-ghost use Rattle.wi_parser.specs.Sheet.{Sheet};
+ghost use Rattle.std.specs.Ordering.{nat_cmp};
+ghost use Rattle.std.specs.BTreeMap.{IsOrdered};
+ghost use Rattle.std.specs.BTreeSet.{contains};
+ghost use Rattle.wi_parser.specs.Sheet.{Sheet, content_of};
 ghost use Rattle.wi_graph.specs.Circular.{circular};
 ghost use Rattle.wi_graph.specs.Reach.{is_one_of, in_cone};
-ghost use Rattle.wi_graph.specs.Edges.{AreEdgesOf, edges_after, staging};
+ghost use Rattle.wi_graph.specs.Edges.{AreEdgesOf, areas_in, edges_after, staging};
+ghost use Rattle.wi_graph.specs.Inner.Changes.{Brings};
+ghost use Rattle.wi_graph.specs.Inner.Rooms.{room_at, IsGraph, IsStaged};
 
-use crate::changes::{reads_stay, rooms_of};
+use crate::changes::{Change, reads_stay, rooms_of};
 use crate::cone::{cone_of, edit_cone};
 use crate::rooms::{Rooms, take_back, take_over};
 use crate::sets::{listed, take_away};
@@ -87,19 +92,16 @@ impl Graph {
     {
         let found = edit_cone(self.alloc, &self.readers, changes)?;
         let cone = listed(self.alloc, &found)?;
-        let coming = rooms_of(self.alloc, changes)?;
-        let turns = turns_of(self.alloc, &self.rooms, &self.circles, &coming, &found)?;
-        bring_circles(&mut self.circles, &turns.came)?;
-        match bring_in(self.alloc, &mut self.rooms, &mut self.readers, coming) {
-            Ok(next) => {
-                self.staged = Some(Staged { next, turns });
-                Ok(cone)
-            }
-            Err(error) => {
-                take_away(&mut self.circles, &turns.came);
-                Err(error)
-            }
-        }
+        let staged = make_ready(
+            self.alloc,
+            &mut self.rooms,
+            &mut self.readers,
+            &mut self.circles,
+            changes,
+            &found,
+        )?;
+        self.staged = Some(staged);
+        Ok(cone)
     }
 
     /// Whether an edit is staged after which each cell reads what it read before. The work grows with what the edited cells
@@ -151,5 +153,36 @@ impl Graph {
     {
         let found = cone_of(self.alloc, &self.readers, cells)?;
         listed(self.alloc, &found)
+    }
+}
+
+/// Makes ready an edit of which the cone is given. If memory runs out, all is as before.
+fn make_ready(
+    alloc: Global,
+    rooms: &mut Rooms,
+    readers: &mut RangeIndex,
+    circles: &mut BTreeSet<Address>,
+    changes: &[Change],
+    cone: &BTreeSet<Address>,
+) -> Result<Staged, AllocError>
+    requires graph { IsGraph rooms.old readers.old circles.old }
+    requires cone { (s : Sheet) → ((c : ℕ) → room_at rooms.old c ≡ areas_in (content_of s c))
+        → (c : ℕ) → contains nat_cmp cone.now c ≡ in_cone s (keys_of changes.now) c }
+    ensures ordered { IsOrdered nat_cmp rooms.new }
+    ensures rooms { (c : ℕ) → room_at rooms.new c ≡ room_at rooms.old c }
+    ensures brings { IfOk result (λ staged. Brings staged.next changes.now) }
+    ensures staged { IfOk result (λ staged.
+        IsStaged rooms.new staged.next readers.new circles.new staged.turns) }
+    ensures err { OnErr result (IsGraph rooms.new readers.new circles.new) }
+{
+    let coming = rooms_of(alloc, changes)?;
+    let turns = turns_of(alloc, rooms, circles, &coming, cone)?;
+    bring_circles(circles, &turns.came)?;
+    match bring_in(alloc, rooms, readers, coming) {
+        Ok(next) => Ok(Staged { next, turns }),
+        Err(error) => {
+            take_away(circles, &turns.came);
+            Err(error)
+        }
     }
 }

@@ -60,7 +60,7 @@ pub put_before-first : (es : List Expr) (e : Expr) (r : ReadAll) → put_before 
 put_before-first es e None = refl
 put_before-first es e (Some p) = ap (λ ts. Some (ts, p.1)) (sym (before-push es e p.0))
 
--- the first was found
-pub put_first-before : (e : Expr) (r : ReadAll) → put_first (tree_of e) r ≡ put_before (e ∷ []) r
-put_first-before e None = refl
-put_first-before e (Some p) = refl
+-- nothing was found before
+pub put_before-nothing : (r : ReadAll) → put_before [] r ≡ r
+put_before-nothing None = refl
+put_before-nothing (Some p) = refl

@@ -1,15 +1,16 @@
 //! The tree of a formula.
 
-ghost use Rattle.std.specs.Prelude.{◌≡◌, IfOk};
-ghost use Rattle.wi_parser.specs.View.{tree_of, all_of};
+ghost use Rattle.std.specs.Prelude.{◌≡◌, map, IfOk};
+ghost use Rattle.wi_parser.specs.View.{tree_of, all_of, pair_of};
 ghost use Rattle.wi_parser.specs.Reads.{area_of};
+ghost use Rattle.wi_parser.specs.Tree as tree;
 
 use std::alloc::{AllocError, Global};
 use wi_fraction::Fraction;
 use wi_values::{Address, Rect, Text};
 
 /// A reference to one cell. What is absolute stays where a formula is filled into other cells.
-#[derive(Clone, Copy, Debug)]
+#[derive(Clone, Copy)]
 pub struct Reference {
     pub at: Address,
     pub column_is_absolute: bool,
@@ -17,7 +18,7 @@ pub struct Reference {
 }
 
 /// Two opposite corners of a rectangle, in the order in which they are written.
-#[derive(Clone, Copy, Debug)]
+#[derive(Clone, Copy)]
 pub struct Corners {
     pub one: Reference,
     pub other: Reference,
@@ -33,7 +34,7 @@ impl Corners {
 }
 
 /// An operator between two operands.
-#[derive(Clone, Copy, Debug)]
+#[derive(Clone, Copy)]
 pub enum Operator {
     Add,
     Subtract,
@@ -51,21 +52,21 @@ pub enum Operator {
 }
 
 /// A sign before an operand.
-#[derive(Clone, Copy, Debug)]
+#[derive(Clone, Copy)]
 pub enum Sign {
     Plus,
     Minus,
 }
 
 /// An input cell of a what-if, and its replacement cell, whose value it gets.
-#[derive(Clone, Copy, Debug)]
+#[derive(Clone, Copy)]
 pub struct Pair {
     pub input: Reference,
     pub replacement: Reference,
 }
 
 /// The tree of a formula, which keeps parentheses.
-#[derive(Debug, Drop)]
+#[derive(Drop)]
 pub enum Expr {
     Number(Fraction),
     Text(Text),
@@ -90,7 +91,7 @@ impl Expr {
     {
         match self {
             Expr::Number(x) => Ok(Expr::Number(*x)),
-            Expr::Text(s) => Ok(Expr::Text(s.copy(alloc)?)),
+            Expr::Text(s) => text(alloc, s),
             Expr::Cell(r) => Ok(Expr::Cell(*r)),
             Expr::Rectangle(corners) => Ok(Expr::Rectangle(*corners)),
             Expr::Parenthesized(t) => Ok(Expr::Parenthesized(copied(alloc, t)?)),
@@ -99,8 +100,8 @@ impl Expr {
             Expr::Binary(op, t, u) => {
                 Ok(Expr::Binary(*op, copied(alloc, t)?, copied(alloc, u)?))
             }
-            Expr::WhatIf(f, pairs) => Ok(Expr::WhatIf(*f, Vec::from_slice(alloc, pairs)?)),
-            Expr::Call(f, trees) => Ok(Expr::Call(f.copy(alloc)?, all_copied(alloc, trees)?)),
+            Expr::WhatIf(f, pairs) => what_if(alloc, *f, pairs),
+            Expr::Call(f, trees) => call(alloc, f, all_copied(alloc, trees)?),
         }
     }
 }
@@ -122,4 +123,25 @@ fn all_copied(alloc: Global, exprs: &[Expr]) -> Result<Vec<Expr>, AllocError>
         copies.push(expr.copy(alloc)?)?;
     }
     Ok(copies)
+}
+
+/// The tree of a text.
+pub fn text(alloc: Global, content: &Text) -> Result<Expr, AllocError>
+    ensures { IfOk result (λ e. tree_of e ≡ tree.text content.now) }
+{
+    Ok(Expr::Text(content.copy(alloc)?))
+}
+
+/// The tree of a what-if.
+pub fn what_if(alloc: Global, formula_cell: Reference, pairs: &[Pair]) -> Result<Expr, AllocError>
+    ensures { IfOk result (λ e. tree_of e ≡ tree.what_if formula_cell (map pair_of pairs.now)) }
+{
+    Ok(Expr::WhatIf(formula_cell, Vec::from_slice(alloc, pairs)?))
+}
+
+/// The tree of a call of the function with this name.
+pub fn call(alloc: Global, name: &Text, parameters: Vec<Expr>) -> Result<Expr, AllocError>
+    ensures { IfOk result (λ e. tree_of e ≡ tree.call name.now (all_of parameters.items)) }
+{
+    Ok(Expr::Call(name.copy(alloc)?, parameters))
 }

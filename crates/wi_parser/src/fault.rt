@@ -7,7 +7,7 @@ use thiserror::Error;
 use wi_values::FieldFault;
 
 /// Why a text is no formula, or no content of a cell.
-#[derive(Clone, Copy, PartialEq, Eq, Debug, Error)]
+#[derive(Clone, Copy, Debug, Error)]
 pub enum ParseFault {
     /// A formula of more than 4,096 bytes, or a text of more than 32,767.
     #[error("the text is too long")]

@@ -21,19 +21,37 @@ use std::marker::Model;
 use wi_values::{Address, Rect};
 
 /// A formula, seen as its tree, which is one that a text can have.
-#[derive(Debug, Drop)]
+#[derive(Drop)]
 pub struct Formula {
     /// Behind a box, so that a content without a formula stays small.
     parts: Box<Parts>,
 }
 
-#[derive(Debug, Drop)]
+#[derive(Drop)]
 struct Parts {
     expr: Expr,
     /// The inputs of its what-ifs.
     inputs: Vec<Address>,
     /// The rectangles of its precedents.
     rectangles: Vec<Rect>,
+}
+
+impl Parts {
+    // The same parts once more.
+    fn copy(&self, alloc: Global) -> Result<Parts, AllocError>
+        ensures expr { IfOk result (λ p. tree_of p.expr ≡ tree_of self.now.expr) }
+        ensures inputs { IfOk result (λ p. p.inputs.items ≡ self.now.inputs.items) }
+        ensures rectangles { IfOk result (λ p. p.rectangles.items ≡ self.now.rectangles.items) }
+    {
+        let expr = self.expr.copy(alloc)?;
+        let inputs = Vec::from_slice(alloc, &self.inputs)?;
+        let rectangles = Vec::from_slice(alloc, &self.rectangles)?;
+        Ok(Parts {
+            expr,
+            inputs,
+            rectangles,
+        })
+    }
 }
 
 impl Model for Formula {
@@ -98,14 +116,7 @@ impl Formula {
     pub fn copy(&self, alloc: Global) -> Result<Formula, AllocError>
         ensures { IfOk result (λ f. f ≡ self.now) }
     {
-        let expr = self.parts.expr.copy(alloc)?;
-        let inputs = Vec::from_slice(alloc, &self.parts.inputs)?;
-        let rectangles = Vec::from_slice(alloc, &self.parts.rectangles)?;
-        let parts = Parts {
-            expr,
-            inputs,
-            rectangles,
-        };
+        let parts = self.parts.copy(alloc)?;
         Ok(Formula {
             parts: Box::new(alloc, parts)?,
         })

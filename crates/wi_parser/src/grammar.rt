@@ -2,12 +2,12 @@
 
 ghost use Rattle.std.specs.Prelude.{◌≡◌, ◌<◌, ◌≤◌, length, OnOk, IfOk};
 ghost use Rattle.wi_parser.specs.Inner.Reader as reader;
-ghost use Rattle.wi_parser.specs.Inner.Outcome.{Finds, FindsAll, FindsMore, put_before};
+ghost use Rattle.wi_parser.specs.Inner.Outcome.{Finds, FindsMore, put_before};
 ghost use Rattle.wi_parser.specs.Inner.Nests.{Nests};
 ghost use Rattle.wi_parser.specs.View.{tree_of, all_of};
 ghost use Rattle.wi_parser.specs.Tree as tree;
 
-use crate::expr::{Corners, Expr, Operator, Reference, Sign};
+use crate::expr::{Corners, Expr, Operator, Reference, Sign, call, text};
 use crate::fault::ParseFault;
 use crate::symbol::Symbol;
 use crate::symbols::Symbols;
@@ -56,20 +56,49 @@ impl<F: Fn(Global, &mut Symbols<'_>, usize) -> Result<Expr, ParseFault>> Grammar
         Ok(())
     }
 
-    // The parameters of a call, and the parenthesis that closes.
-    fn parameters(&self, symbols: &mut Symbols<'_>) -> Result<Vec<Expr>, ParseFault>
+    // The parameters of a call, behind those found, and the parenthesis that closes.
+    fn parameters(&self, symbols: &mut Symbols<'_>, found: &mut Vec<Expr>) -> Result<(), ParseFault>
         requires { Nests self.now.depth (F.pre self.now.expression) (F.post self.now.expression) }
-        ensures finds { FindsAll (reader.parameters_at (reader.expression self.now.depth) symbols.old)
+        ensures finds { FindsMore
+            (put_before found.old.items (reader.parameters_at (reader.expression self.now.depth) symbols.old))
+            result found.new.items symbols.new }
+        ensures shorter { OnOk result (length symbols.new < length symbols.old) }
+    {
+        if symbols.take_close() {
+            return Ok(());
+        }
+        found.push(self.inner(symbols)?)?;
+        self.more_parameters(symbols, found)
+    }
+
+    // An expression after the parenthesis that opens, and the one that closes.
+    fn enclosed(&self, symbols: &mut Symbols<'_>) -> Result<Expr, ParseFault>
+        requires { Nests self.now.depth (F.pre self.now.expression) (F.post self.now.expression) }
+        ensures finds { Finds
+            (reader.read_then (λ t. reader.then_close (tree.parenthesized t)) (reader.expression self.now.depth symbols.old))
             result symbols.new }
         ensures shorter { OnOk result (length symbols.new < length symbols.old) }
     {
-        let mut found = Vec::new(self.alloc);
-        if symbols.take_close() {
-            return Ok(found);
+        let inner = self.inner(symbols)?;
+        if !symbols.take_close() {
+            return Err(ParseFault::Syntax);
         }
-        found.push(self.inner(symbols)?)?;
-        self.more_parameters(symbols, &mut found)?;
-        Ok(found)
+        Ok(parenthesized(self.alloc, inner)?)
+    }
+
+    // The call of the function with this name, whose parameters follow.
+    fn called(&self, name: &Text, symbols: &mut Symbols<'_>) -> Result<Expr, ParseFault>
+        requires { Nests self.now.depth (F.pre self.now.expression) (F.post self.now.expression) }
+        ensures finds { Finds (reader.called (reader.expression self.now.depth) name.now (reader.after_open symbols.old))
+            result symbols.new }
+        ensures shorter { OnOk result (length symbols.new < length symbols.old) }
+    {
+        if !symbols.take_open() {
+            return Err(ParseFault::Syntax);
+        }
+        let mut parameters = Vec::new(self.alloc);
+        self.parameters(symbols, &mut parameters)?;
+        Ok(call(self.alloc, name, parameters)?)
     }
 
     // A number, a text, a cell, a rectangle, an expression in parentheses, a what-if, or a call.
@@ -88,21 +117,9 @@ impl<F: Fn(Global, &mut Symbols<'_>, usize) -> Result<Expr, ParseFault>> Grammar
             Symbol::Text(content) => Ok(text(self.alloc, content)?),
             Symbol::Cell(at) => Ok(cell(*at)),
             Symbol::Rectangle(corners) => Ok(rectangle(*corners)),
-            Symbol::Open => {
-                let inner = self.inner(symbols)?;
-                if !symbols.take_close() {
-                    return Err(ParseFault::Syntax);
-                }
-                Ok(parenthesized(self.alloc, inner)?)
-            }
+            Symbol::Open => self.enclosed(symbols),
             Symbol::WhatIf => what_if(self.alloc, symbols),
-            Symbol::Name(name) => {
-                if !symbols.take_open() {
-                    return Err(ParseFault::Syntax);
-                }
-                let parameters = self.parameters(symbols)?;
-                Ok(call(self.alloc, name, parameters)?)
-            }
+            Symbol::Name(name) => self.called(name, symbols),
             Symbol::Close => Err(ParseFault::Syntax),
             Symbol::Separator => Err(ParseFault::Syntax),
             Symbol::Infix(_) => Err(ParseFault::Syntax),
@@ -187,12 +204,6 @@ fn number(x: Fraction) -> Expr
     Expr::Number(x)
 }
 
-fn text(alloc: Global, content: &Text) -> Result<Expr, AllocError>
-    ensures { IfOk result (λ e. tree_of e ≡ tree.text content.now) }
-{
-    Ok(Expr::Text(content.copy(alloc)?))
-}
-
 fn cell(at: Reference) -> Expr
     ensures { tree_of result ≡ tree.cell at }
 {
@@ -229,10 +240,4 @@ fn binary(alloc: Global, op: Operator, left: Expr, right: Expr) -> Result<Expr, 
     let left = Box::new(alloc, left)?;
     let right = Box::new(alloc, right)?;
     Ok(Expr::Binary(op, left, right))
-}
-
-fn call(alloc: Global, name: &Text, parameters: Vec<Expr>) -> Result<Expr, AllocError>
-    ensures { IfOk result (λ e. tree_of e ≡ tree.call name.now (all_of parameters.items)) }
-{
-    Ok(Expr::Call(name.copy(alloc)?, parameters))
 }

@@ -8,13 +8,13 @@ ghost use Rattle.wi_parser.specs.Leaves.{all_leaves};
 ghost use Rattle.wi_parser.specs.View.{tree_of, all_of, pair_of};
 ghost use Rattle.wi_parser.specs.Shift as shift;
 
-use crate::expr::{Corners, Expr, Pair, Reference};
+use crate::expr::{Corners, Expr, Pair, Reference, call, text};
 use std::alloc::{AllocError, AllocFailed, Global};
 use thiserror::Error;
 use wi_values::{Address, COLUMNS, ROWS};
 
 /// Why a formula is not filled into another cell.
-#[derive(Clone, Copy, PartialEq, Eq, Debug, Error)]
+#[derive(Clone, Copy, Debug, Error)]
 pub enum ShiftFault {
     #[error("a reference leaves the sheet")]
     LeavesSheet,
@@ -89,7 +89,7 @@ pub fn shifted(alloc: Global, expr: &Expr, rows: i64, columns: i64) -> Result<Ex
 {
     match expr {
         Expr::Number(x) => Ok(Expr::Number(*x)),
-        Expr::Text(s) => Ok(Expr::Text(s.copy(alloc)?)),
+        Expr::Text(s) => text(alloc, s),
         Expr::Cell(r) => Ok(Expr::Cell(moved(r, rows, columns))),
         Expr::Rectangle(corners) => Ok(Expr::Rectangle(Corners {
             one: moved(&corners.one, rows, columns),
@@ -105,8 +105,7 @@ pub fn shifted(alloc: Global, expr: &Expr, rows: i64, columns: i64) -> Result<Ex
         )),
         Expr::WhatIf(f, pairs) => what_if(alloc, f, pairs, rows, columns),
         Expr::Call(f, parameters) => {
-            let parameters = each_shifted(alloc, parameters, rows, columns)?;
-            Ok(Expr::Call(f.copy(alloc)?, parameters))
+            call(alloc, f, each_shifted(alloc, parameters, rows, columns)?)
         }
     }
 }

@@ -5,7 +5,7 @@ ghost use Rattle.wi_parser.specs.Inner.Reader.{after_open, reference_at, paramet
 ghost use Rattle.wi_parser.specs.Inner.Outcome.{Finds};
 ghost use Rattle.wi_parser.specs.View.{pair_of};
 
-use crate::expr::{Expr, Pair, Reference};
+use crate::expr::{self, Expr, Pair, Reference};
 use crate::fault::ParseFault;
 use crate::symbols::Symbols;
 use std::alloc::Global;
@@ -23,19 +23,16 @@ pub fn what_if(alloc: Global, symbols: &mut Symbols<'_>) -> Result<Expr, ParseFa
     let Some(first) = pair(symbols) else {
         return Err(ParseFault::Syntax);
     };
-    let mut pairs = Vec::new(alloc);
-    pairs.push(first)?;
     if symbols.take_close() {
-        return Ok(Expr::WhatIf(formula_cell, pairs));
+        return Ok(expr::what_if(alloc, formula_cell, &[first])?);
     }
     let Some(second) = pair(symbols) else {
         return Err(ParseFault::Syntax);
     };
-    pairs.push(second)?;
     if !symbols.take_close() {
         return Err(ParseFault::Syntax);
     }
-    Ok(Expr::WhatIf(formula_cell, pairs))
+    Ok(expr::what_if(alloc, formula_cell, &[first, second])?)
 }
 
 // The reference after the parenthesis that opens.

@@ -66,6 +66,22 @@ pub kept_after : (r : Result (Unit {0}) AllocError) (g : Generations) (m n : Kep
 kept_after (Ok x) g m n k v h e = λ l. put_is_some g m.entries n.entries k v e (h.stays (has_room m k l))
 kept_after (Err x) g m n k v h e = tt
 
+-- the key that is put in is there
+pub there_after : (r : Result (Unit {0}) AllocError) (g : Generations) (n : KeptValues) (k : Key) (v : Value) → k.generation ≡ generation_in g k.cell → OnOk r (value_for n.entries k ≡ Some v) →
+    OnOk r (is_some (value_for n.entries (key_in g k.cell k.world)) ≡ true)
+there_after (Ok x) g n k v e h = ap (λ (y : ℕ). is_some (value_for n.entries (record { cell = k.cell; generation = y; world = k.world }))) (sym e) ∙ ap (λ (o : Option Value). is_some o) h
+there_after (Err x) g n k v e h = tt
+
+-- and takes one place if it wasn't there
+pub room_after : (r : Result (Unit {0}) AllocError) (g : Generations) (m n : KeptValues) (k : Key) (v : Value) → KeepsIn r m n k v → k.generation ≡ generation_in g k.cell →
+    OnOk r (is_some (value_for m.entries (key_in g k.cell k.world)) ≡ false → 1 ≤ m.capacity - length m.entries → (n.capacity - length n.entries) + 1 ≡ m.capacity - length m.entries)
+room_after (Ok x) g m n k v h e = λ a l.
+    let missing : is_some (value_for m.entries k) ≡ false = ap (λ (y : ℕ). is_some (value_for m.entries (record { cell = k.cell; generation = y; world = k.world }))) e ∙ a in
+    let len : length n.entries ≡ min (length m.entries + 1) m.capacity = h.len ∙ ap (λ (b : Bool). if b then length m.entries else min (length m.entries + 1) m.capacity) missing in
+    let cap = h.capacity in
+    omega (arith, len, cap, l)
+room_after (Err x) g m n k v h e = tt
+
 -- a key that was there is there
 pub stays_put : (es fs : Entries) (k q : Key) (v : Value) → Puts es fs k v → is_some (value_for es q) ≡ true → is_some (value_for fs q) ≡ true
 stays_put es fs k q v p h = ap (λ (o : Option Value). is_some o) (p q) ∙ is_some_cond (same_key k q) v (value_for es q) ∙ or_left (is_some (value_for es q)) (same_key k q) h

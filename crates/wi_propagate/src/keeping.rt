@@ -1,8 +1,8 @@
 //! What is remembered in one question, and what is kept for longer.
 
-ghost use Rattle.std.specs.Prelude.{◌≡◌, ◌≤◌, [], None, length, IfOk};
+ghost use Rattle.std.specs.Prelude.{◌≡◌, ◌≤◌, [], None, length, IfOk, OnOk, OnErr};
 ghost use Rattle.wi_graph.specs.Edges.{AreEdgesOf};
-ghost use Rattle.wi_cache.specs.Entries.{HasOneEach};
+ghost use Rattle.wi_cache.specs.Entries.{HasOneEach, Puts};
 ghost use Rattle.wi_engine.specs.Inner.MemoState.{IsMemoOf};
 ghost use Rattle.wi_propagate.specs.Inner.Cones.{AreAllCones};
 ghost use Rattle.wi_propagate.specs.Inner.Keeping.{keeping, state_in, IsKeepingRight};
@@ -123,11 +123,24 @@ impl<'a> Memo for Keeping<'a> {
     }
 
     fn keep(&mut self, key: Key, value: Value) -> Result<(), AllocError> {
-        let again = copied(&key)?;
-        let shown = value.copy(self.alloc)?;
-        self.table.keep(again, shown)?;
+        keep_copy(self.alloc, &mut self.table, &key, &value)?;
         self.kept.keep(key, value)
     }
+}
+
+// Keeps a copy of a value in the table of a question, for a copy of its key. If memory runs out, the table stays as it was.
+fn keep_copy(
+    alloc: Global,
+    table: &mut RunTable,
+    key: &Key,
+    value: &Value,
+) -> Result<(), AllocError>
+    ensures ok { OnOk result (Puts table.old table.new key.now value.now) }
+    ensures err { OnErr result (table.new ≡ table.old) }
+{
+    let key = copied(key)?;
+    let value = value.copy(alloc)?;
+    table.keep(key, value)
 }
 
 // The same key once more.

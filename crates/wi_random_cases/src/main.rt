@@ -27,10 +27,12 @@ fn replies<C: Calculator + Drop>(
     script: &[u8],
     calculator: C,
 ) -> io::Result<Vec<u8>> {
-    let mut book = Workbook::new(alloc, calculator)?;
     let mut out = Vec::new(alloc);
     let mut source = ReadFrom::new(script);
-    match run(alloc, &mut source, &mut WriteTo::new(&mut out), &mut book) {
+    let mut book = Workbook::new(alloc, calculator)?;
+    let outcome = run(alloc, &mut source, &mut WriteTo::new(&mut out), &mut book);
+    drop(book);
+    match outcome {
         Ok(()) => Ok(out),
         Err(_) => Err(io::ErrorKind::Other.into()),
     }
@@ -48,6 +50,44 @@ fn keep_of(number: u64) -> usize
     }
 }
 
+/// The replies of the calculator that keeps nothing.
+fn plain_replies(alloc: Global, script: &[u8]) -> io::Result<Vec<u8>> {
+    replies(
+        alloc,
+        script,
+        PlainCalculator::new(alloc, Limits::standard()),
+    )
+}
+
+/// The replies of one that keeps so many values.
+fn kept_replies(alloc: Global, script: &[u8], keep: usize) -> io::Result<Vec<u8>>
+    requires { 1 ≤ keep }
+{
+    let calculator = KeptCalculator::new(alloc, Limits::standard(), keep)?;
+    replies(alloc, script, calculator)
+}
+
+/// Whether both calculators give the same replies to a script; takes what it met. Where they differ, tells how.
+fn agree_on<W: Write>(
+    alloc: Global,
+    script: &[u8],
+    keep: usize,
+    tally: &mut Tally,
+    out: &mut W,
+) -> io::Result<bool>
+    requires { 1 ≤ keep }
+{
+    let plain = plain_replies(alloc, script)?;
+    let kept = kept_replies(alloc, script, keep)?;
+    tally.take(&plain);
+    if plain == kept {
+        return Ok(true);
+    }
+    out.write_all(&plain)?;
+    out.write_all(&kept)?;
+    Ok(false)
+}
+
 /// Runs a script on both calculators, and takes what it met. Where the replies differ, tells how and answers false.
 fn agrees<W: Write>(
     alloc: Global,
@@ -57,22 +97,21 @@ fn agrees<W: Write>(
 ) -> io::Result<bool> {
     let script = made_script(alloc, number)?;
     let keep = keep_of(number);
-    let plain = replies(
-        alloc,
-        &script,
-        PlainCalculator::new(alloc, Limits::standard()),
-    )?;
-    let calculator = KeptCalculator::new(alloc, Limits::standard(), keep)?;
-    let kept = replies(alloc, &script, calculator)?;
-    tally.take(&plain);
-    if plain == kept {
-        return Ok(true);
+    let agrees = agree_on(alloc, &script, keep, tally, out)?;
+    if !agrees {
+        writeln!(out, "script {number} differs where {keep} are kept")?;
+        out.write_all(&script)?;
     }
-    writeln!(out, "script {number} differs where {keep} are kept")?;
-    for text in [&script, &plain, &kept] {
-        out.write_all(text)?;
-    }
-    Ok(false)
+    Ok(agrees)
+}
+
+fn tell<W: Write>(tally: &Tally, out: &mut W) -> io::Result<()> {
+    writeln!(out, "{SCRIPTS} scripts")?;
+    writeln!(out, "{} values shown", tally.shown)?;
+    writeln!(out, "{} of them circular", tally.circular)?;
+    writeln!(out, "{} lines refused", tally.refused)?;
+    writeln!(out, "all agree")?;
+    out.flush()
 }
 
 fn main(rt: HostRuntime) -> io::Result<()> {
@@ -83,10 +122,5 @@ fn main(rt: HostRuntime) -> io::Result<()> {
             return out.flush();
         }
     }
-    writeln!(out, "{SCRIPTS} scripts")?;
-    writeln!(out, "{} values shown", tally.shown)?;
-    writeln!(out, "{} of them circular", tally.circular)?;
-    writeln!(out, "{} lines refused", tally.refused)?;
-    writeln!(out, "all agree")?;
-    out.flush()
+    tell(&tally, &mut out)
 }

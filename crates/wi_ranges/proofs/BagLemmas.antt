@@ -1,5 +1,5 @@
 -- Laws of counts, and of the index that goes with them.
-use Rattle.std.proofs.Common.{◌≡◌, ℕ, ◌+◌, ◌-◌, ◌*◌, ◌<◌, ◌≤◌, Bool, true, false, ◌&&◌, cond, List, [], ◌∷◌, length, Option, Some, None, Result, Ok, Err, OnErr, refl, sym, ap, subst, ◌∙◌, arith, nat_lt}
+use Rattle.std.proofs.Common.{◌≡◌, ℕ, ◌+◌, ◌-◌, ◌*◌, ◌<◌, ◌≤◌, Bool, true, false, ◌&&◌, cond, List, [], ◌∷◌, length, Option, Some, None, Result, Ok, Err, OnOk, OnErr, refl, sym, ap, subst, ◌∙◌, arith, nat_lt}
 use Rattle.std.specs.Prelude.{if◌then◌else◌}
 use Rattle.std.specs.Option.{unwrap_or}
 use Rattle.std.specs.Result.{is_err}
@@ -291,3 +291,11 @@ kept_back m x ks ls us e k h q t = others_kept m x ls us e h q t ∙ k q t
 pub at_error : {T E P : Type 0} (r : Result T E) → is_err r ≡ true → OnErr r P → P
 at_error (Ok v) e h = absurd (true≢false (sym e))
 at_error (Err v) e h = h
+
+pub at_success : {T E P : Type 0} (r : Result T E) → is_err r ≡ false → OnOk r P → P
+at_success (Ok v) e h = h
+at_success (Err v) e h = absurd (true≢false e)
+
+pub on_error : {T E P : Type 0} (r : Result T E) → P → OnErr r P
+on_error (Ok v) h = tt
+on_error (Err v) h = h

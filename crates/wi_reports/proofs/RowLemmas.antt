@@ -1,5 +1,5 @@
 -- The record of a row, and the records of rows, as they grow.
-use Rattle.std.proofs.Common.{◌≡◌, ℕ, zero, suc, add-one, ◌+◌, List, [], ◌∷◌, ◌++◌, map, sym, ap, ◌∙◌, arith, Result, Ok, Err, OnOk, OnErr, subst}
+use Rattle.std.proofs.Common.{◌≡◌, ℕ, zero, suc, add-one, ◌+◌, List, [], ◌∷◌, ◌++◌, map, sym, ap, ◌∙◌, arith, Result, Ok, Err, OnOk, OnErr, is_ok, subst, if◌then◌else◌}
 use Rattle.std.specs.Io.{StartsWith}
 use Rattle.std.specs.List.{flat_map, range_with_len}
 use Rattle.std.proofs.lemmas.List.{flat_map_more}
@@ -14,6 +14,18 @@ use Rattle.wi_reports.specs.Rows.{row_shown}
 pub grown : {E : Type 0} (r : Result (Unit {0}) E) (before more next : List ℕ) → OnOk r (next ≡ before ++ more) → OnErr r (next ≡ before) → StartsWith next before
 grown (Ok u) before more next h k = subst (λ xs. StartsWith xs before) (sym h) (starts_more before more before (starts_itself before))
 grown (Err e) before more next h k = subst (λ xs. StartsWith xs before) (sym k) (starts_itself before)
+
+-- what begins with something still does after more, after nothing, and after either
+pub starts_on : (next out more before : List ℕ) → next ≡ out ++ more → StartsWith out before → StartsWith next before
+starts_on next out more before h k = subst (λ xs. StartsWith xs before) (sym h) (starts_more out more before k)
+
+pub starts_kept : (next out before : List ℕ) → next ≡ out → StartsWith out before → StartsWith next before
+starts_kept next out before h k = subst (λ xs. StartsWith xs before) (sym h) k
+
+pub starts_either : {E : Type 0} (r : Result (Unit {0}) E) (next out more before : List ℕ) → next ≡ (if is_ok r then out ++ more else out)
+    → StartsWith out before → StartsWith next before
+starts_either (Ok u) next out more before h k = starts_on next out more before h k
+starts_either (Err e) next out more before h k = starts_kept next out before h k
 
 -- one more number of a range
 range_more : (a n j : ℕ) → a + n ≡ j → range_with_len a (suc n) ≡ range_with_len a n ++ j ∷ []

@@ -82,7 +82,6 @@ fn push_all(
 }
 
 /// Appends the record of a change. On an error the bytes are as before.
-#[tactic(auto, using(crate::proofs::RowLemmas::grown))]
 fn push_change(
     alloc: Global,
     change: &(Address, Value),

@@ -7,6 +7,7 @@ ghost use Rattle.wi_values.specs.Address.{rows, cells_of_row};
 ghost use Rattle.wi_values.specs.Replacements.{IsInOrder};
 ghost use Rattle.wi_values.specs.Value.{shown_text};
 ghost use Rattle.wi_fraction.specs.Arithmetic.{sum_of, negated};
+ghost use Rattle.wi_sheet.specs.Shown as show;
 ghost use Rattle.wi_reports.specs.Compare.{number_text, difference_text, difference_record, cell_compared, cells_compared};
 
 use crate::texts::{address_text, shown_text};
@@ -94,7 +95,6 @@ fn push_row<C: Calculator>(
 }
 
 /// Appends the record of a cell; nothing where its two values are one. On an error the bytes are as before.
-#[tactic(auto, using(crate::proofs::RowLemmas::grown))]
 fn push_cell<C: Calculator>(
     alloc: Global,
     calculator: &mut C,
@@ -111,8 +111,27 @@ fn push_cell<C: Calculator>(
     ensures same { C.stored calculator.new ≡ C.stored calculator.old }
 {
     let before = calculator.value(first, at)?;
+    push_compared(alloc, calculator, &before, second, at, out)
+}
+
+/// Appends the record of a cell with this first value; nothing where its second value is the same. On an error the bytes are
+/// as before.
+fn push_compared<C: Calculator>(
+    alloc: Global,
+    calculator: &mut C,
+    before: &Value,
+    second: &[Replacement],
+    at: Address,
+    out: &mut Vec<u8>,
+) -> Result<(), AllocError>
+    requires { IsInOrder second.now }
+    ensures ok { let after = show.shown (C.stored calculator.old).sheet second.now at in
+        OnOk result (out.new.items ≡ out.old.items ++ difference_record at before.now after) }
+    ensures err { OnErr result (out.new.items ≡ out.old.items) }
+    ensures same { C.stored calculator.new ≡ C.stored calculator.old }
+{
     let after = calculator.value(second, at)?;
-    push_difference(alloc, at, &before, &after, out)
+    push_difference(alloc, at, before, &after, out)
 }
 
 /// Appends the record of a cell with these two values; nothing where they are one. On an error the bytes are as before.

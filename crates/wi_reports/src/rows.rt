@@ -56,7 +56,6 @@ fn push_all<C: Calculator>(
 }
 
 /// Appends the record of one row of a rectangle. On an error the bytes are as before.
-#[tactic(auto, using(crate::proofs::RowLemmas::grown))]
 fn push_row<C: Calculator>(
     alloc: Global,
     calculator: &mut C,

@@ -1,11 +1,12 @@
 -- What commands that only look answer, and what they write.
-use Rattle.std.proofs.Common.{◌≡◌, ℕ, Bool, true, false, not, ◌||◌, ◌&&◌, List, [], ◌++◌, Option, Result, Err, refl, sym, ap, ◌∙◌, subst, arith}
+use Rattle.std.proofs.Common.{◌≡◌, ℕ, Bool, true, false, not, ◌||◌, ◌&&◌, List, [], ◌++◌, Option, Result, Ok, Err, refl, sym, ap, ◌∙◌, subst, arith}
 use Rattle.std.specs.Prelude.{nat_le, nat_lt}
 use Rattle.std.specs.Result.{IsErrAnd}
 use Rattle.std.proofs.lemmas.Result.{err_from_is_err_and}
 use Rattle.std.proofs.lemmas.List.{append-nil}
 use Rattle.std.proofs.lemmas.Bool.Decides.{nat_tests}
 use Rattle.wi_values.specs.Address.{Area, size_of}
+use Rattle.wi_values.specs.declared.replacement.Replacement.{Replacement}
 use Rattle.wi_scenario_list.specs.Scenarios.{effective}
 use Rattle.wi_scenario_list.specs.Bases.{lacks}
 use Rattle.wi_reports.specs.Rows.{rows_shown}
@@ -64,6 +65,25 @@ compare_lacked s t first second area large lacking before after r size fits name
     (looked_grows s (cells_compared s.stored.sheet (effective s.scenarios first) (effective s.scenarios second) area)
     (nat_lt max_area (size_of area)) (lacks s.scenarios first || lacks s.scenarios second) (sym size ∙ fits) (sym named ∙ there))
     k same kept
+
+-- it wrote the cells that differ under two lists of replacements
+pub compare_done : (s t : State) (first second : Option (List ℕ)) (area : Area) (large lacking : Bool) (before after : List ℕ) (p q : List Replacement)
+    → large ≡ nat_lt max_area (size_of area) → large ≡ false → lacking ≡ (lacks s.scenarios first || lacks s.scenarios second) → lacking ≡ false
+    → p ≡ effective s.scenarios first → q ≡ effective s.scenarios second → after ≡ before ++ cells_compared s.stored.sheet p q area → t ≡ s
+    → Looked (compare_step s first second area) (Ok tt) s t before after
+compare_done s t first second area large lacking before after p q size fits named there is_p is_q wrote same =
+    let records = cells_compared s.stored.sheet (effective s.scenarios first) (effective s.scenarios second) area in (
+      records,
+      wrote ∙ ap (λ (rs : List Replacement). before ++ cells_compared s.stored.sheet rs q area) is_p
+          ∙ ap (λ (rs : List Replacement). before ++ cells_compared s.stored.sheet (effective s.scenarios first) rs area) is_q,
+      looked_at s records (nat_lt max_area (size_of area)) (lacks s.scenarios first || lacks s.scenarios second) (sym size ∙ fits) (sym named ∙ there)
+          ∙ ap (λ (x : State). let a : Answer = Ok (x, records) in a) (sym same),
+    )
+  where
+    looked_at : (s : State) (records : List ℕ) (large lacking : Bool) → large ≡ false → lacking ≡ false → answer (record no_cause { too_large = large; no_scenario = lacking }) (s, records) ≡ Ok (s, records)
+    looked_at s records true lacking e f = absurd (let z = e in cc)
+    looked_at s records false true e f = absurd (let z = f in cc)
+    looked_at s records false false e f = refl
 
 -- ---- a table whose column and row are such, and that isn't too large
 

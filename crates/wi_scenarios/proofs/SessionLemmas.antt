@@ -1,6 +1,6 @@
 -- What `session` answers, and cells that show nothing.
 use Rattle.std.proofs.Common.{◌≡◌, ℕ, suc, ◌+◌, ◌-◌, ◌*◌, ◌/◌, ◌%◌, ◌<◌, ◌≤◌, Bool, true, false, not, ◌&&◌, ◌||◌, ◌==◌, List, [], ◌∷◌, ◌++◌, length, Option, Some, None, Ok, Err, if◌then◌else◌, refl, sym, ap, ◌∙◌, subst, arith, ◌⊎◌, inl, inr}
-use Rattle.std.specs.Prelude.{nat_le, is_some}
+use Rattle.std.specs.Prelude.{nat_le, is_some, codes}
 use Rattle.std.specs.List.{list_any, slice_index_or, position_or_len}
 use Rattle.std.specs.Str.{bytes_eq}
 use Rattle.std.specs.Map.{keys_of}
@@ -29,14 +29,15 @@ use Rattle.wi_values.specs.declared.replacement.Replacement.{Replacement}
 use Rattle.wi_scenario_list.specs.Scenarios.{Scenario, effective, chain}
 use Rattle.wi_sessions.specs.Sessions.{Session, new_session, max_sessions, has_session, place_of}
 use Rattle.wi_sessions.specs.Roster.{Roster, vacant_of, SameCells}
+use Rattle.wi_edit_log.specs.EditLog.{Entry}
 use Rattle.wi_scenarios.specs.declared.refusal.Refusal.TheVariants.{TooMany}
 use Rattle.wi_scenarios.specs.declared.desk.Desk.{Desk}
-use Rattle.wi_scenarios.specs.State.{State}
+use Rattle.wi_scenarios.specs.State.{State, state_over}
 use Rattle.wi_scenarios.specs.Answer.{Answer}
 use Rattle.wi_scenarios.specs.Causes.{no_cause, answer}
 use Rattle.wi_scenarios.specs.As.{as_step}
 use Rattle.wi_scenarios.specs.Pending.{occupied_cells}
-use Rattle.wi_scenarios.specs.Inner.Held.{IsSound}
+use Rattle.wi_scenarios.specs.Inner.Held.{IsSound, state_of}
 
 -- ---- cells that show nothing
 
@@ -234,6 +235,21 @@ pub one_list : (ps : List (List ℕ)) → length ps ≡ 1 → ps ≡ slice_index
 one_list [] h = absurd (omega (arith, h))
 one_list (p ∷ []) h = refl
 one_list (p ∷ q ∷ ps) h = absurd (omega (arith, h))
+
+-- a desk that begins
+pub first_state : (stored : Stored) (d : Desk) → d.scenarios ≡ [] → d.current ≡ 0 → d.sessions.sessions ≡ new_session (codes "main") ∷ [] → d.log ≡ [] → state_of stored d ≡ state_over stored
+first_state stored d none zeroth is empty =
+    ap (λ (xs : List Scenario). record (state_of stored d) { scenarios = xs }) none
+    ∙ ap (λ (xs : List Session). record (state_of stored d) { scenarios = []; sessions = xs }) is
+    ∙ ap (λ (n : ℕ). record (state_over stored) { current = n; log = d.log }) zeroth
+    ∙ ap (λ (es : List Entry). record (state_over stored) { log = es }) empty
+
+-- one session more, which is the current one
+pub grown_state : (s : State) (name : List ℕ) (after : List Session) (place : ℕ) → after ≡ s.sessions ++ new_session name ∷ [] → place ≡ length s.sessions
+    → record s { sessions = after; current = place } ≡ record s { sessions = s.sessions ++ new_session name ∷ []; current = length s.sessions }
+grown_state s name after place more at =
+    ap (λ (xs : List Session). record s { sessions = xs; current = place }) more
+    ∙ ap (λ (n : ℕ). record s { sessions = s.sessions ++ new_session name ∷ []; current = n }) at
 
 -- the first session
 pub sound_first : (stored : Stored) (d : Desk) (name cells : List ℕ) → d.scenarios ≡ [] → d.current ≡ 0 → d.sessions.sessions ≡ new_session name ∷ [] → length d.sessions.pending ≡ length d.sessions.sessions

@@ -1,9 +1,9 @@
 //! A case as standard input spells it.
 
+use crate::spelling::{misspelled, number, parts, push_spelled};
 use std::alloc::{AllocError, Global};
 use std::io::Write;
 use std::{io, mem};
-use wi_cases::{number, push_spelled};
 use wi_store::Limits;
 
 /// A script, and what it is run on.
@@ -54,24 +54,21 @@ impl Case {
         match line.split_once(' ') {
             Some(("@bytes", text)) => push_spelled(text, &mut self.script),
             Some(("@rows", text)) => push_rows(text, &mut self.script),
-            Some(("@cells", count)) => {
-                self.limits.cells = number(count)?;
-                Ok(())
-            }
-            Some(("@edits", count)) => {
-                self.limits.edits = number(count)?;
-                Ok(())
-            }
-            Some(("@room", count)) => {
-                self.room = usize::try_from(number(count)?).unwrap_or(usize::MAX);
-                Ok(())
-            }
-            Some(("@interrupted", count)) => {
-                self.interruptions = usize::try_from(number(count)?).unwrap_or(usize::MAX);
-                Ok(())
-            }
+            Some((word, count)) if word.starts_with('@') => self.set(word, number(count)?),
             _ => self.take_word(alloc, line),
         }
+    }
+
+    /// Sets what a word names to a number.
+    fn set(&mut self, word: &str, count: u64) -> io::Result<()> {
+        match word {
+            "@cells" => self.limits.cells = count,
+            "@edits" => self.limits.edits = count,
+            "@room" => self.room = size(count),
+            "@interrupted" => self.interruptions = size(count),
+            _ => return Err(misspelled()),
+        }
+        Ok(())
     }
 
     /// Takes a line that is a word of its own, or a line of the script.
@@ -95,14 +92,14 @@ impl Case {
     }
 }
 
+fn size(count: u64) -> usize {
+    usize::try_from(count).unwrap_or(usize::MAX)
+}
+
 /// Appends a line for each of some numbers: `2..4 set A# =[.A#-1]` for A2 to A4.
 fn push_rows(text: &str, script: &mut Vec<u8>) -> io::Result<()> {
-    let Some((numbers, line)) = text.split_once(' ') else {
-        return Err(io::ErrorKind::InvalidData.into());
-    };
-    let Some((first, last)) = numbers.split_once("..") else {
-        return Err(io::ErrorKind::InvalidData.into());
-    };
+    let (numbers, line) = parts(text, " ")?;
+    let (first, last) = parts(numbers, "..")?;
     for row in number(first)?..=number(last)? {
         push_row(line, row, script)?;
     }
@@ -115,14 +112,20 @@ fn push_row(line: &str, row: u64, script: &mut Vec<u8>) -> io::Result<()> {
         script.extend_from_slice(front.as_bytes())?;
     }
     for piece in pieces {
-        if let Some(rest) = piece.strip_prefix("-1") {
-            write!(script, "{}{rest}", row.saturating_sub(1))?;
-        } else if let Some(rest) = piece.strip_prefix("+1") {
-            write!(script, "{}{rest}", row.saturating_add(1))?;
-        } else {
-            write!(script, "{row}{piece}")?;
-        }
+        let (number, rest) = numbered(piece, row);
+        write!(script, "{number}{rest}")?;
     }
     script.push(b'\n')?;
     Ok(())
+}
+
+/// The number that stands in the place of # in a row's line, and what follows it.
+fn numbered(text: &str, row: u64) -> (u64, &str) {
+    if let Some(rest) = text.strip_prefix("-1") {
+        (row.saturating_sub(1), rest)
+    } else if let Some(rest) = text.strip_prefix("+1") {
+        (row.saturating_add(1), rest)
+    } else {
+        (row, text)
+    }
 }

@@ -4,6 +4,15 @@ use std::cell::RefCell;
 use std::io;
 use std::io::{Read, Write};
 
+/// Appends bytes to some that are lent.
+fn push(to: &RefCell<Vec<u8>>, bytes: &[u8]) -> io::Result<()> {
+    let Ok(mut lent) = to.try_borrow_mut() else {
+        return Err(io::ErrorKind::Other.into());
+    };
+    lent.extend_from_slice(bytes)?;
+    Ok(())
+}
+
 /// Gives its bytes so many at a time, and then ends or fails.
 #[derive(Drop)]
 pub struct Pieces<'a> {
@@ -32,19 +41,25 @@ pub struct Lines<'a> {
 
 impl Read for Lines<'_> {
     fn read(&mut self, buf: &mut [u8]) -> io::Result<usize> {
-        let end = self.bytes.iter().position(|byte| *byte == b'\n');
-        let line_len = end.unwrap_or(self.bytes.len()).saturating_add(1);
-        let wanted = buf.len().min(line_len);
+        let wanted = buf.len().min(line_len(self.bytes));
         let given = self.bytes.read(&mut buf[..wanted])?;
-        let Ok(mut notes) = self.notes.try_borrow_mut() else {
-            return Err(io::ErrorKind::Other.into());
-        };
         if given > 0 {
-            notes.extend_from_slice(b"> ")?;
-            notes.extend_from_slice(&buf[..given])?;
+            note(self.notes, &buf[..given])?;
         }
         Ok(given)
     }
+}
+
+/// How long the first line is, with its end.
+fn line_len(bytes: &[u8]) -> usize {
+    let end = bytes.iter().position(|byte| *byte == b'\n');
+    end.unwrap_or(bytes.len()).saturating_add(1)
+}
+
+/// Notes a line.
+fn note(notes: &RefCell<Vec<u8>>, line: &[u8]) -> io::Result<()> {
+    push(notes, b"> ")?;
+    push(notes, line)
 }
 
 /// Takes so many bytes at a time, once it was interrupted so often, and fails where it has no room left.
@@ -71,10 +86,7 @@ impl Write for Taken<'_> {
         }
         self.interrupted = 0;
         let taken = buf.len().min(self.piece).min(self.room);
-        let Ok(mut bytes) = self.bytes.try_borrow_mut() else {
-            return Err(io::ErrorKind::Other.into());
-        };
-        bytes.extend_from_slice(&buf[..taken])?;
+        push(self.bytes, &buf[..taken])?;
         self.room -= taken;
         Ok(taken)
     }

@@ -41,7 +41,7 @@ pub places_so : (known : ℕ → Option Value) (args : List given.Argument) (f :
 places_so known args f (Ok x) h k g = absurd k
 places_so known args f (Err y) h k g = subst (λ (z : Halt). Places known args f (Err z)) (sym k) g
 
-missing_too : (P Q : ℕ → Type 0) → ((c : ℕ) → P c → Q c) → (s : stop.Stop) → IfMissing s P → IfMissing s Q
+pub missing_too : (P Q : ℕ → Type 0) → ((c : ℕ) → P c → Q c) → (s : stop.Stop) → IfMissing s P → IfMissing s Q
 missing_too P Q f (stop.TheVariants.Missing c) h = f c h
 missing_too P Q f stop.TheVariants.Memory h = tt
 

@@ -1,8 +1,10 @@
 //! MATCH (OpenFormula, "Lookup Functions").
 
-ghost use Rattle.std.specs.Prelude.{IfOk, IfErr};
+ghost use Rattle.std.specs.Prelude.{◌≡◌, IfOk, IfErr};
 ghost use Rattle.wi_lookup.specs.Arguments.{IfMissing, IsMissing, IsOfArguments};
+ghost use Rattle.wi_standard_functions.specs.Convert.{zero_number};
 ghost use Rattle.wi_standard_functions.specs.Lookup.{match_value};
+ghost use Rattle.wi_values.specs.declared.value.Value.TheVariants.{Number};
 ghost use Rattle.wi_search_functions.specs.Inner.Gives.{Places};
 
 use crate::arguments::{area_at, number_or, sought_at};
@@ -22,15 +24,16 @@ pub fn match_value<L: Lookup>(_: Global, arguments: &[Argument], lookup: &L) -> 
     ensures done { IfOk result (IsOfArguments (L.known_cell lookup.now) match_value arguments.now) }
     ensures missing { IfErr result (λ s. IfMissing s (IsMissing (L.known_cell lookup.now) arguments.now)) }
 {
-    value_placed(match_place(arguments, lookup))
+    let zero = Value::Number(zero());
+    value_placed(match_place(&zero, arguments, lookup))
 }
 
-/// The place, counted from 0.
-fn match_place<L: Lookup>(arguments: &[Argument], lookup: &L) -> Result<u32, Halt>
+/// The place, counted from 0. The zero is what an Empty value is sought as.
+fn match_place<L: Lookup>(zero: &Value, arguments: &[Argument], lookup: &L) -> Result<u32, Halt>
+    requires { zero.now ≡ Number zero_number }
     ensures { Places (L.known_cell lookup.now) arguments.now match_value result }
 {
-    let zero = Value::Number(zero());
-    let sought = sought_at(&zero, arguments, 0, lookup)?;
+    let sought = sought_at(zero, arguments, 0, lookup)?;
     let area = area_at(arguments, 1)?;
     let match_type = number_or(one(), arguments, 2, lookup)?;
     if !is_line(area) {

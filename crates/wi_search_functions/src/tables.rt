@@ -2,7 +2,9 @@
 
 ghost use Rattle.std.specs.Prelude.{◌≡◌, IfOk, IfErr};
 ghost use Rattle.wi_lookup.specs.Arguments.{IfMissing, IsMissing, IsOfArguments};
+ghost use Rattle.wi_standard_functions.specs.Convert.{zero_number};
 ghost use Rattle.wi_standard_functions.specs.Lookup.{h_lookup_value, v_lookup_value};
+ghost use Rattle.wi_values.specs.declared.value.Value.TheVariants.{Number};
 ghost use Rattle.wi_search_functions.specs.Inner.Gives.{Finds};
 
 use crate::arguments::{area_at, logical_or, sought_at, whole_at};
@@ -26,7 +28,8 @@ pub fn v_lookup_value<L: Lookup>(
     ensures done { IfOk result (IsOfArguments (L.known_cell lookup.now) v_lookup_value arguments.now) }
     ensures missing { IfErr result (λ s. IfMissing s (IsMissing (L.known_cell lookup.now) arguments.now)) }
 {
-    value_found(alloc, v_lookup(arguments, lookup), lookup)
+    let zero = Value::Number(zero());
+    value_found(alloc, v_lookup(&zero, arguments, lookup), lookup)
 }
 
 /// The value in a row of a rectangle, in the column whose first cell is found. The work is that of `v_lookup_value`, along the
@@ -39,14 +42,16 @@ pub fn h_lookup_value<L: Lookup>(
     ensures done { IfOk result (IsOfArguments (L.known_cell lookup.now) h_lookup_value arguments.now) }
     ensures missing { IfErr result (λ s. IfMissing s (IsMissing (L.known_cell lookup.now) arguments.now)) }
 {
-    value_found(alloc, h_lookup(arguments, lookup), lookup)
+    let zero = Value::Number(zero());
+    value_found(alloc, h_lookup(&zero, arguments, lookup), lookup)
 }
 
-fn v_lookup<L: Lookup>(arguments: &[Argument], lookup: &L) -> Result<Address, Halt>
+/// The cell in a column of a rectangle. The zero is what an Empty value is sought as.
+fn v_lookup<L: Lookup>(zero: &Value, arguments: &[Argument], lookup: &L) -> Result<Address, Halt>
+    requires { zero.now ≡ Number zero_number }
     ensures { Finds (L.known_cell lookup.now) arguments.now v_lookup_value result }
 {
-    let zero = Value::Number(zero());
-    let sought = sought_at(&zero, arguments, 0, lookup)?;
+    let sought = sought_at(zero, arguments, 0, lookup)?;
     let area = area_at(arguments, 1)?;
     let k = whole_at(arguments, 2, lookup)?;
     let in_order = logical_or(true, arguments, 3, lookup)?;
@@ -56,11 +61,12 @@ fn v_lookup<L: Lookup>(arguments: &[Argument], lookup: &L) -> Result<Address, Ha
     Ok(cell_at(area, row, column))
 }
 
-fn h_lookup<L: Lookup>(arguments: &[Argument], lookup: &L) -> Result<Address, Halt>
+/// The cell in a row of a rectangle. The zero is what an Empty value is sought as.
+fn h_lookup<L: Lookup>(zero: &Value, arguments: &[Argument], lookup: &L) -> Result<Address, Halt>
+    requires { zero.now ≡ Number zero_number }
     ensures { Finds (L.known_cell lookup.now) arguments.now h_lookup_value result }
 {
-    let zero = Value::Number(zero());
-    let sought = sought_at(&zero, arguments, 0, lookup)?;
+    let sought = sought_at(zero, arguments, 0, lookup)?;
     let area = area_at(arguments, 1)?;
     let k = whole_at(arguments, 2, lookup)?;
     let in_order = logical_or(true, arguments, 3, lookup)?;

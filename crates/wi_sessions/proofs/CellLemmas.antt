@@ -1,5 +1,5 @@
 -- Laws of the rooms of pending cells.
-use Rattle.std.proofs.Common.{◌≡◌, ◌==◌, ◌<◌, ◌≤◌, ◌+◌, ◌||◌, ◌&&◌, ℕ, Bool, true, false, cond, not, List, [], ◌∷◌, ◌++◌, length, get_or, drop, filter, Option, Some, None, refl, sym, ap, ◌∙◌, arith, ◌*◌, Result, Ok, Err, IfOk, OnOk}
+use Rattle.std.proofs.Common.{◌≡◌, ◌==◌, ◌<◌, ◌≤◌, ◌+◌, ◌||◌, ◌&&◌, ℕ, Bool, true, false, cond, not, List, [], ◌∷◌, ◌++◌, length, get_or, drop, filter, Option, Some, None, refl, sym, ap, ◌∙◌, arith, ◌*◌, Result, Ok, Err, IfOk, OnOk, subst, ⊎_elim}
 use Rattle.std.specs.Prelude.{unwrap_or}
 use Rattle.std.specs.Option.{is_some, option_or}
 use Rattle.std.specs.List.{All, list_any}
@@ -7,16 +7,17 @@ use Rattle.std.specs.Ordering.{nat_cmp}
 use Rattle.std.specs.Map.{keys_of}
 use Rattle.std.specs.BTreeMap.{is_at}
 use Rattle.std.proofs.lemmas.Bool.{eqb-true}
-use Rattle.std.proofs.lemmas.List.{drop_more, drop_all, append_assoc}
+use Rattle.std.proofs.lemmas.List.{drop_more, drop_all, append_assoc, append-nil}
 use Rattle.std.proofs.lemmas.List.Elements.{All-head, All-tail, All-same}
+use Rattle.std.proofs.lemmas.List.Folds.{list_any-append}
 use Rattle.std.proofs.lemmas.Map.Made.{is_some-lookup}
-use Rattle.wi_values.proofs.Order.{ComeAfter, Ascends, Ascends-filter, at_same, is_at-eq, turn_test}
+use Rattle.wi_values.proofs.Order.{ComeAfter, Ascends, Ascends-filter, at_same, at_itself, is_at-eq, turn_test}
 use Rattle.wi_values.specs.Address.{rows, columns}
 use Rattle.wi_sessions.specs.Pictures.{sheet_size}
 use Rattle.wi_sessions.specs.Pictures.Laws.{is_listed, Rises}
 use Rattle.wi_sessions.specs.Inner.Rooms.{room_of, held_at, HasNoVacancy, VacantOnlyAt, HoldsTheSame}
 use Rattle.wi_sessions.specs.Inner.Cells.{cells_in, vacant_in, new_room}
-use Rattle.wi_sessions.proofs.RoomLemmas.{same_rooms, passing, room_of-filter}
+use Rattle.wi_sessions.proofs.RoomLemmas.{same_rooms, passing, room_of-filter, vacancy_made}
 
 -- ---- one step of a loop over cells
 
@@ -62,6 +63,31 @@ vacant_less cells i x old new l is gone kept h =
 pub none_left : (cells : List ℕ) (i : ℕ) (rooms : List (ℕ × Bool)) → length cells ≤ i → VacantOnlyAt false (drop i cells) rooms → HasNoVacancy false rooms
 none_left cells i rooms l h =
     λ q v. let e : is_listed [] q ≡ true = ap (λ (xs : List ℕ). is_listed xs q) (sym (drop_all i cells l)) ∙ h q v in cc
+
+-- ---- one more cell noted
+
+or_true : (b : Bool) → (b || true) ≡ true
+or_true true = refl
+or_true false = refl
+
+last_noted : (noted new : List ℕ) (a : ℕ) → new ≡ noted ++ a ∷ [] → is_listed new a ≡ true
+last_noted noted new a e =
+    ap (λ (xs : List ℕ). is_listed xs a) e ∙ list_any-append (λ (c : ℕ). c == a) noted (a ∷ [])
+    ∙ ap (λ (b : Bool). is_listed noted a || (b || false)) (sym (is_at-eq a a) ∙ at_itself a) ∙ or_true (is_listed noted a)
+
+noted_more : (noted new : List ℕ) (a q : ℕ) → new ≡ noted ++ a ∷ [] → is_listed noted q ≡ true → is_listed new q ≡ true
+noted_more noted new a q e h =
+    ap (λ (xs : List ℕ). is_listed xs q) e ∙ list_any-append (λ (c : ℕ). c == q) noted (a ∷ []) ∙ ap (λ (b : Bool). b || is_listed (a ∷ []) q) h
+
+-- all vacant rooms are noted after one was made and noted
+pub noted_made : (noted new : List ℕ) (a : ℕ) (old made : List (ℕ × Bool)) → new ≡ noted ++ a ∷ []
+    → ((q : ℕ) → room_of made q ≡ cond (is_at (nat_cmp a) q) (Some false) (room_of old q))
+    → VacantOnlyAt false noted old → VacantOnlyAt false new made
+noted_made noted new a old made e put h =
+    λ q v. ⊎_elim
+    (λ (p : q ≡ a). subst (λ (x : ℕ). is_listed new x ≡ true) (sym p) (last_noted noted new a e))
+    (λ (was : room_of old q ≡ Some false). noted_more noted new a q e (h q was))
+    (vacancy_made false a q _ _ (put q) v)
 
 -- ---- one room taken
 
@@ -196,6 +222,10 @@ listed_more found new k b rest it all e i t h =
     by : (d : Bool) → d ≡ true → k ∷ cells_in rest ≡ cells_in ((k, d) ∷ rest)
     by true u = refl
     by false u = cc
+
+-- once all were looked at, the cells found are all
+pub listed_all : (found : List ℕ) (it all : List (ℕ × Bool)) → it ≡ [] → found ++ cells_in it ≡ cells_in all → found ≡ cells_in all
+listed_all found it all e h = sym (append-nil found) ∙ ap (λ (xs : List (ℕ × Bool)). found ++ cells_in xs) (sym e) ∙ h
 
 -- so the list of them that is told is in order
 pub told_in_order : {V E : Type 0} (r : Result V E) (items : V → List ℕ) (rooms : List (ℕ × Bool)) → Ascends rooms

@@ -10,7 +10,7 @@ use crate::address::{Address, AddressFault};
 use std::marker::Model;
 
 /// A rectangle of cells, seen as its upper left and its lower right.
-#[derive(Clone, Copy, PartialEq, Eq, Debug)]
+#[derive(Clone, Copy, PartialEq, Eq)]
 pub struct Rect {
     first: Address,
     last: Address,

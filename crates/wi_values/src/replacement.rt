@@ -4,7 +4,7 @@ use crate::address::Address;
 use crate::value::Value;
 
 /// A constant that stands in for a cell's content; Empty takes the content away.
-#[derive(PartialEq, Eq, Hash, Debug, Drop)]
+#[derive(PartialEq, Eq, Hash, Drop)]
 pub struct Replacement {
     pub at: Address,
     pub value: Value,

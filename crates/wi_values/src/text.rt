@@ -13,7 +13,7 @@ use std::marker::Model;
 pub const MAX_TEXT: usize = 32_767;
 
 /// The text of a value, seen as its bytes.
-#[derive(Debug, Drop)]
+#[derive(Drop)]
 pub struct Text {
     content: String,
 }

@@ -9,7 +9,7 @@ use wi_fraction::Fraction;
 
 /// Why there is no other value. The names are those of OpenFormula (OpenDocument 1.3, part 4, "Constant Errors"),
 /// but for `Circular`, which this project adds.
-#[derive(Clone, Copy, PartialEq, Eq, Hash, Debug)]
+#[derive(Clone, Copy, PartialEq, Eq, Hash)]
 pub enum ErrorKind {
     /// `#N/A`
     NotAvailable,
@@ -45,7 +45,7 @@ impl ErrorKind {
 }
 
 /// A value.
-#[derive(PartialEq, Eq, Hash, Debug, Drop)]
+#[derive(PartialEq, Eq, Hash, Drop)]
 pub enum Value {
     Empty,
     Number(Fraction),

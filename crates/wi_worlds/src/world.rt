@@ -14,7 +14,7 @@ use std::marker::Model;
 use wi_values::{Address, Replacement, Value};
 
 /// Replacements, one for each address, in row-major order. A replacement by Empty is one like others.
-#[derive(Debug, Drop)]
+#[derive(Drop)]
 pub struct World {
     replacements: Vec<Replacement>,
 }

@@ -363,12 +363,17 @@ none_circular s [] h = refl
 none_circular s (x ∷ xs) h =
     or_from (circular s x) _ (h x (or_left (x == x) _ (eq-eqb x x refl))) (none_circular s xs (λ c m. h c (or_right (x == c) _ m)))
 
--- a walk with nothing before it has met no cycle
+-- a walk with nothing before it has each of its roots that has a formula in its order
+pub walk-roots : (s : Sheet) (roots : List ℕ) (ts : List Task) (progress : BTreeMap ℕ Progress) (order : List ℕ) → IsWalk s roots ts progress order → length ts ≡ 0 → (c : ℕ) → is_one_of roots c ≡ true → has_formula (content_of s c) ≡ true → is_one_of order c ≡ true
+walk-roots s roots [] progress order w z c m f = sym (or-false (is_one_of order c)) ∙ w.rooted c m f
+walk-roots s roots (t ∷ ts) progress order w z c m f = absurd (omega arith)
+
+-- and has met no cycle
 pub walk-ended : (s : Sheet) (roots : List ℕ) (ts : List Task) (progress : BTreeMap ℕ Progress) (order : List ℕ) → IsWalk s roots ts progress order → length ts ≡ 0 → list_any (circular s) roots ≡ false
 walk-ended s roots [] progress order w z = none_circular s roots (λ c m. at c m (has_formula (content_of s c)) refl)
   where
     at : (c : ℕ) → is_one_of roots c ≡ true → (b : Bool) → has_formula (content_of s c) ≡ b → circular s c ≡ false
-    at c m true f = order_clear s order w.ordered c (sym (or-false (is_one_of order c)) ∙ w.rooted c m f)
+    at c m true f = order_clear s order w.ordered c (walk-roots s roots [] progress order w z c m f)
     at c m false f = ends_open 0 s c f
 walk-ended s roots (t ∷ ts) progress order w z = absurd (omega arith)
 

@@ -1,6 +1,5 @@
 -- What the functions of the parser answer.
-use Rattle.std.specs.Prelude.{◌≡◌, List, [], ◌∷◌, Option, Some, None, option_map, Result, Ok, Err, Vec}
-use Rattle.std.specs.declared.alloc.Global.{Global}
+use Rattle.std.specs.Prelude.{◌≡◌, List, [], ◌∷◌, Option, Some, None, option_map, Result, Ok, Err}
 use Rattle.wi_parser.specs.declared.expr.Expr.{Expr}
 use Rattle.wi_parser.specs.declared.fault.ParseFault.{ParseFault}
 use Rattle.wi_parser.specs.declared.fault.ParseFault.TheVariants.{TooLong, OutOfSheet, NumberRange, TooDeep, Syntax, Memory}
@@ -23,12 +22,7 @@ abbrev pub Finds : Read → Result Expr ParseFault → List Symbol → Type 0
 Finds found (Ok e) new = found ≡ Some (tree_of e, new)
 Finds found (Err e) new = Fails e found
 
--- what a function that reads the parameters of a call answers and leaves
-abbrev pub FindsAll : ReadAll → Result (Vec Expr Global) ParseFault → List Symbol → Type 0
-FindsAll found (Ok v) new = found ≡ Some (all_of v.items, new)
-FindsAll found (Err e) new = Fails e found
-
--- what a function that reads more parameters behind others answers and leaves
+-- what a function that reads the parameters of a call behind others answers and leaves
 abbrev pub FindsMore : ReadAll → Result (Unit {0}) ParseFault → List Expr → List Symbol → Type 0
 FindsMore found (Ok u) all new = found ≡ Some (all_of all, new)
 FindsMore found (Err e) all new = Fails e found

@@ -8,4 +8,4 @@ returns-in_default-clause-replies g c =
 
 pub returns-clause-replies : goal.returns-clause-replies
 returns-clause-replies g c =
-    in_turn_new g.L.Source.remaining g.L.Source.has_failed g.R.Source.remaining g.R.Source.has_failed c.run_in_turn.result _ _ _ _ _ c.in-Ok.book.state _ _ _ (search rules) c.in-Ok.ensures c.run_in_turn.ensures.replies
+    in_turn_new g.L.Source.remaining g.L.Source.has_failed g.R.Source.remaining g.R.Source.has_failed c.run_in_turn-outcome.result _ _ _ _ _ c.in-Ok.book.state _ _ _ (search rules) c.in-Ok.ensures c.run_in_turn-outcome.ensures.replies

@@ -1,4 +1,4 @@
-use Rattle.std.proofs.Common.{ap, sym, rules}
+use Rattle.std.proofs.Common.{ap, sym}
 use Rattle.std.proofs.lemmas.Result.{IfOk-weaker}
 use Rattle.wi_engine.proofs.attempt.Attempting.{done_with, one_meaning_by_known}
 use Rattle.wi_engine.proofs.attempt.attempt.Goals as goal
@@ -13,7 +13,7 @@ returns-clause-done c =
     c.evaluate.ensures.done
 
 pub returns-clause-counted : goal.returns-clause-counted
-returns-clause-counted c = search rules
+returns-clause-counted c = search c.evaluate.ensures.counted
 
 pub returns-clause-one_meaning : goal.returns-clause-one_meaning
 returns-clause-one_meaning c =

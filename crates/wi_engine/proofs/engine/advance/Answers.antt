@@ -1,5 +1,5 @@
 use Rattle.std.proofs.Common.{◌≤◌, ◌+◌, Ok, ap, refl, sym, subst, arith, ◌∙◌, rules}
-use Rattle.wi_functions.specs.Counts.{Counts}
+use Rattle.wi_functions.specs.Counts.{Counts, one_more}
 use Rattle.wi_sheet.proofs.Counting.{never_fall-same, never_fall-then}
 use Rattle.wi_engine.specs.Inner.MemoState.{MemoState, IsMemoOf}
 use Rattle.wi_engine.specs.Inner.Frames.{IsFrame, spare}
@@ -71,10 +71,14 @@ returns-in-Done-clause-rests g c =
     (round_settled c.args.store.now.sheet (g.M.Memo.state c.args.memo.now) (g.M.Memo.state c.rounds.memo) c.args.frame.now c.rounds.frame c.settle.new.frame i.same i.settled c.in_ok-key.ensures.found)
 
 pub returns-in-Done-clause-evaluations : goal.returns-in-Done-clause-evaluations
-returns-in-Done-clause-evaluations g c = search rules
+returns-in-Done-clause-evaluations g c =
+    let counted = rw c.in-Done.is at c.in_ok-value.ensures.counted in
+    search (ap (λ (m : Counts). m.evaluations) counted ∙ ap one_more c.rounds.invariant.evaluations)
 
 pub returns-in-Done-clause-restarts : goal.returns-in-Done-clause-restarts
-returns-in-Done-clause-restarts g c = search rules
+returns-in-Done-clause-restarts g c =
+    let counted = rw c.in-Done.is at c.in_ok-value.ensures.counted in
+    omega (arith, ap (λ (m : Counts). m.restarts) counted, c.in_ok-key.ensures.spare, c.rounds.invariant.restarts)
 
 pub settle-requires-clause-memo : goal.settle-requires-clause-memo
 settle-requires-clause-memo g c = subst (λ (x : MemoState). IsMemoOf c.args.store.now.sheet x) (sym c.rounds.invariant.same) c.requires.memo

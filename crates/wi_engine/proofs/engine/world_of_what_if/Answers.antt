@@ -19,10 +19,11 @@ loop-pair-preserved g c =
     let m = g.M.Memo.state c.args.memo.now in
     let w = c.args.world.now in
     let i = c.loop-pair.invariant in
+    let known = rw c.in-Known.is at c.in_ok-value.ensures.known in
     let there = rw c.in-Known.is at c.in_ok-value.ensures.there in
     let P : Pair → Type 0 = λ p. IsSettled s m.kept w p.replacement.at in
     record {
-      inputs = one_more_input s w c.args.pairs.now c.loop-pair.pair-index c.pair-item.result c.in-Known.value c.loop-pair.inputs.items _ c.loop-pair-test.true c.pair-item.is i.inputs (search rules) (search rules);
+      inputs = one_more_input s w c.args.pairs.now c.loop-pair.pair-index c.pair-item.result c.in-Known.value c.loop-pair.inputs.items _ c.loop-pair-test.true c.pair-item.is i.inputs (search known) (search rules);
       settled = λ whole. All-more P c.args.pairs.now c.loop-pair.pair-index c.pair-item.result c.loop-pair-test.true (i.settled whole) (subst P c.pair-item.is (settled_now s m (g.M.Memo.state c.loop-pair.memo) w c.pair-item.result.replacement.at c.requires.memo i.same whole there));
       same = c.in_ok-value.ensures.same ∙ i.same;
     }

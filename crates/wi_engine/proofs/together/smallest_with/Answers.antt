@@ -1,4 +1,5 @@
-use Rattle.std.proofs.Common.{◌∙◌}
+use Rattle.std.proofs.Common.{◌∙◌, arith}
+use Rattle.std.proofs.lemmas.Grind.{common_steps}
 use Rattle.wi_values.specs.Address.{Area, is_within, size_of}
 use Rattle.wi_engine.proofs.together.Smallest.{smallest, some_least, after_all}
 use Rattle.wi_engine.proofs.together.smallest_with.Goals as goal
@@ -16,3 +17,6 @@ returns c =
     let l = c.loop-rectangle in
     smallest c.args.rectangles.now c.args.at c.in-Some-smallest.smallest
     (after_all p size_of c.args.rectangles.now l.rectangle-index l.smallest c.loop-rectangle-test.false l.invariant ∙ c.in-Some-smallest.is)
+
+pub loop-rectangle-preserved : goal.loop-rectangle-preserved
+loop-rectangle-preserved c = grind (arith, common_steps)

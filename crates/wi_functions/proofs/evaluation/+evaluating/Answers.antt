@@ -1,4 +1,6 @@
-use Rattle.std.proofs.Common.{rules, ◌≡◌, ℕ, List, length, refl, sym, ap, ◌∙◌, subst}
+use Rattle.std.proofs.Common.{◌≡◌, ℕ, List, length, refl, sym, ap, ◌∙◌, subst, arith}
+use Rattle.std.proofs.lemmas.Result.{err_from_is_err_and}
+use Rattle.wi_parser.specs.declared.expr.Expr.{Expr}
 use Rattle.wi_parser.specs.View.{tree_of, all_of}
 use Rattle.wi_standard_functions.specs.Arguments.{Argument}
 use Rattle.wi_standard_functions.specs.Functions.{call_value}
@@ -9,19 +11,41 @@ use Rattle.wi_calls.proofs.ValuesAlone.{values_alone}
 use Rattle.wi_lookup.specs.Arguments.{arguments_in}
 use Rattle.wi_lookup.specs.declared.argument.Argument as given
 use Rattle.wi_functions.specs.Meaning.{arguments}
-use Rattle.wi_functions.specs.Wants.{AnyAsks, IfNeeds}
-use Rattle.wi_functions.specs.Inner.Calls.{ReferInside}
+use Rattle.wi_functions.specs.Wants.{AnyAsks, IsUnknown, IfNeeds}
+use Rattle.wi_functions.specs.Inner.Calls.{values_of, ReferInside}
 use Rattle.wi_functions.specs.declared.evaluation.Stop.{Stop}
-use Rattle.wi_functions.proofs.Parameters.{value_there, value_missing, asked_there, asked_of, ok_then, length_arguments, more_arguments, reference_is, value_is, reference_asks, more_refer, stop_asks, stop_unknown}
+use Rattle.wi_functions.proofs.Asking.{left_asks, right_asks, memory_asks}
+use Rattle.wi_functions.proofs.Parameters.{value_there, value_missing, asked_there, asked_of, ok_then, length_arguments, more_arguments, more_values, none_left, reference_is, value_is, reference_asks, value_asks, more_refer, stop_asks, stop_unknown}
 use Rattle.wi_functions.proofs.evaluation.+evaluating.Goals as goal
 use Rattle.wi_functions.proofs.evaluation.+evaluating.Goals.{all_arguments-in-Some, all_arguments-in-None+in_ok-value_of-in-None}
+
+-- ---- an expression, by its kind
+
+pub value_of-returns-in-Text-clause-asked : goal.value_of-returns-in-Text-clause-asked
+value_of-returns-in-Text-clause-asked g t c =
+    memory_asks _ c.text_value.result c.text_value.ensures.memory
+
+pub value_of-returns-in-Text-clause-unknown : goal.value_of-returns-in-Text-clause-unknown
+value_of-returns-in-Text-clause-unknown g t c =
+    memory_asks _ c.text_value.result c.text_value.ensures.memory
+
+-- ---- two operands
+
+pub binary_value-returns-in_err-x-clause-asked : goal.binary_value-returns-in_err-x-clause-asked
+binary_value-returns-in_err-x-clause-asked g t c =
+    let p = err_from_is_err_and c.from_residual.result c.from_residual.ensures.1 in
+    rw (p.1, p.2) (left_asks c.args.operator (tree_of c.args.left.now) (tree_of c.args.right.now) c.in_err-x.field-0.0 c.in_err-x.ensures.asked)
+
+pub binary_value-returns-clause-asked : goal.binary_value-returns-clause-asked
+binary_value-returns-clause-asked g t c =
+    right_asks c.args.operator (tree_of c.args.left.now) (tree_of c.args.right.now) c.with_right_operand.result c.with_right_operand.ensures.asked
 
 -- ---- all parameters
 
 pub all_arguments-returns-in_err-value_of-in-None-clause-asked : goal.all_arguments-returns-in_err-value_of-in-None-clause-asked
 all_arguments-returns-in_err-value_of-in-None-clause-asked g t c =
-    let asks = asked_there c.args.parameters.now c.loop-parameter.parameter-index c.parameter-item.result _ c.loop-parameter-test.true c.parameter-item.is c.in_err-value_of-in-None.ensures.asked in
-    search rules
+    let p = err_from_is_err_and c.from_residual.result c.from_residual.ensures.1 in
+    rw (p.1, p.2) (asked_there c.args.parameters.now c.loop-parameter.parameter-index c.parameter-item.result c.in_err-value_of-in-None.field-0.0 c.loop-parameter-test.true c.parameter-item.is c.in_err-value_of-in-None.ensures.asked)
 
 pub all_arguments-loop-parameter-preserved : goal.all_arguments-loop-parameter-preserved
 all_arguments-loop-parameter-preserved g t c =
@@ -39,14 +63,31 @@ all_arguments-loop-parameter-preserved g t c =
         λ a agrees. more_arguments es i e c.loop-parameter.arguments.items c.push.new.self.items c.match-referred.argument a.cells a.what_ifs c.loop-parameter-test.true c.parameter-item.is c.in_ok-push.ensures.items
             (rw w.argument-is (value_is (tree_of e) w.in_ok-value_of-in-None.field-0 a.cells a.what_ifs (sym c.referred.ensures ∙ w.in-None.is) (w.in_ok-value_of-in-None.ensures.done a agrees))) (c.loop-parameter.invariant.0 a agrees),
         more_refer es i e c.loop-parameter.arguments.items c.push.new.self.items c.match-referred.argument c.loop-parameter-test.true c.parameter-item.is c.in_ok-push.ensures.items
-            (rw w.argument-is (λ d r. cc)) c.loop-parameter.invariant.1,
+            (rw w.argument-is (λ d r. value_asks (tree_of e) w.in_ok-value_of-in-None.field-0 d r)) c.loop-parameter.invariant.1,
       )
     ]
 
 pub all_values-returns-in_err-value_of-clause-asked : goal.all_values-returns-in_err-value_of-clause-asked
 all_values-returns-in_err-value_of-clause-asked g t c =
-    let asks = asked_there c.args.parameters.now c.loop-parameter.parameter-index c.parameter-item.result _ c.loop-parameter-test.true c.parameter-item.is c.in_err-value_of.ensures.asked in
-    search rules
+    let p = err_from_is_err_and c.from_residual.result c.from_residual.ensures.1 in
+    rw (p.1, p.2) (asked_there c.args.parameters.now c.loop-parameter.parameter-index c.parameter-item.result c.in_err-value_of.field-0.0 c.loop-parameter-test.true c.parameter-item.is c.in_err-value_of.ensures.asked)
+
+pub all_arguments-loop-parameter-init : goal.all_arguments-loop-parameter-init
+all_arguments-loop-parameter-init g t c =
+    rw c.new-arguments.ensures.items (λ a agrees. refl, λ d r. cc)
+
+pub all_arguments-returns-clause-done : goal.all_arguments-returns-clause-done
+all_arguments-returns-clause-done g t c =
+    λ a agrees. none_left (λ (es : List Expr). arguments (all_of es) a.cells a.what_ifs) c.args.parameters.now c.loop-parameter.parameter-index (arguments_in a.cells c.loop-parameter.arguments.items) _ refl (omega (arith, c.loop-parameter-test.false)) (c.loop-parameter.invariant.0 a agrees)
+
+pub all_values-loop-parameter-preserved : goal.all_values-loop-parameter-preserved
+all_values-loop-parameter-preserved g t c =
+    λ a agrees. more_values c.args.parameters.now c.loop-parameter.parameter-index c.parameter-item.result c.loop-parameter.values.items c.push.new.self.items c.in_ok-value_of.field-0 a.cells a.what_ifs c.loop-parameter-test.true c.parameter-item.is c.in_ok-push.ensures.items
+    (c.in_ok-value_of.ensures.done a agrees) (c.loop-parameter.invariant a agrees)
+
+pub all_values-returns-clause-done : goal.all_values-returns-clause-done
+all_values-returns-clause-done g t c =
+    λ a agrees. none_left (λ (es : List Expr). values_of (arguments (all_of es) a.cells a.what_ifs)) c.args.parameters.now c.loop-parameter.parameter-index c.loop-parameter.values.items _ refl (omega (arith, c.loop-parameter-test.false)) (c.loop-parameter.invariant a agrees)
 
 -- ---- a call
 
@@ -88,6 +129,11 @@ call_value-returns-clause-asked g t c =
     let inside = subst (λ (xs : List given.Argument). ReferInside xs (all_of c.args.parameters.now)) (sym c.deref-in-Ok-References.ensures.value) c.in_ok-arguments-in-Ok-References.ensures.refers in
     subst (λ (s : Stop). IfNeeds s (AnyAsks (all_of c.args.parameters.now))) (sym c.stopped.ensures)
     (stop_asks c.in-Err-value_of_references.stop (g.L.Lookup.known_cell c.args.lookup.now) c.deref-in-Ok-References.result.now (all_of c.args.parameters.now) c.in-Err-value_of_references.ensures.missing inside)
+
+pub call_value-returns-clause-unknown : goal.call_value-returns-clause-unknown
+call_value-returns-clause-unknown g t c =
+    subst (λ (s : Stop). IfNeeds s (IsUnknown (g.L.Lookup.known_cell c.args.lookup.now) (g.L.Lookup.known_what_if c.args.lookup.now))) (sym c.stopped.ensures)
+    (stop_unknown c.in-Err-value_of_references.stop (g.L.Lookup.known_cell c.args.lookup.now) (g.L.Lookup.known_what_if c.args.lookup.now) c.deref-in-Ok-References.result.now c.in-Err-value_of_references.ensures.missing)
 
 -- ---- a function that chooses
 

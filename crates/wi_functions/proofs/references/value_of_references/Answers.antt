@@ -1,5 +1,11 @@
 use Rattle.wi_functions.proofs.references.value_of_references.Goals as goal
 
+pub returns-in-CountIf-clause-done : goal.returns-in-CountIf-clause-done
+returns-in-CountIf-clause-done g c = rw c.in-CountIf.is c.count_if_value.ensures.done
+
+pub returns-in-HLookup-clause-done : goal.returns-in-HLookup-clause-done
+returns-in-HLookup-clause-done g c = rw c.in-HLookup.is c.h_lookup_value.ensures.done
+
 pub returns-in-Index-clause-done : goal.returns-in-Index-clause-done
 returns-in-Index-clause-done g c = rw c.in-Index.is c.index_value.ensures.done
 
@@ -14,3 +20,6 @@ returns-in-SumProduct-clause-done g c = rw c.in-SumProduct.is c.sum_product_valu
 
 pub returns-in-VLookup-clause-done : goal.returns-in-VLookup-clause-done
 returns-in-VLookup-clause-done g c = rw c.in-VLookup.is c.v_lookup_value.ensures.done
+
+pub returns-in-Ok-clause-done : goal.returns-in-Ok-clause-done
+returns-in-Ok-clause-done g c = rw c.in-Fold.is c.in-Ok.ensures.done

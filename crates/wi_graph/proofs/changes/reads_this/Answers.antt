@@ -1,9 +1,12 @@
-use Rattle.std.proofs.Common.{◌≡◌, List, Option, ap, subst}
+use Rattle.std.proofs.Common.{◌≡◌, List, Option, rules, ap, sym, subst}
 use Rattle.std.specs.Bool.{Decides}
 use Rattle.wi_values.specs.Address.{Area}
 use Rattle.wi_graph.specs.Inner.Rooms.{items_of, in_room}
-use Rattle.wi_graph.proofs.ChangeSteps.{same_room}
+use Rattle.wi_graph.proofs.ChangeSteps.{no_room, same_room}
 use Rattle.wi_graph.proofs.changes.reads_this.Goals as goal
 
 pub returns-in-Some : goal.returns-in-Some
 returns-in-Some c = subst (λ (o : Option (List Area)). Decides c.eq.result (items_of c.args.room.now ≡ o)) (ap in_room c.in-Some.ensures.value) (same_room c.eq.result c.args.room.now c.in-Some.stood.now c.eq.ensures)
+
+pub returns-in-None : goal.returns-in-None
+returns-in-None c = no_room c.args.rooms.now c.args.cell _ c.args.room.now (sym c.in-None.ensures.value) (search rules)

@@ -1,4 +1,5 @@
-use Rattle.std.proofs.Common.{◌∙◌, ap, ℕ}
+use Rattle.std.proofs.Common.{◌∙◌, ap, ℕ, arith}
+use Rattle.std.proofs.lemmas.Grind.{common_steps}
 use Rattle.std.specs.Global.{Vec}
 use Rattle.std.specs.Ordering.{nat_cmp}
 use Rattle.std.specs.BTreeSet.{contains}
@@ -22,3 +23,6 @@ loop-cell-preserved c =
       | else-branch w ↦ rw w.work-is (noted_old cells i x old mid new c.args.work.now.items c.loop-cell.work.items c.loop-cell-test.true c.cell-item.is
           (was_old c.in_ok-insert.field-0 (contains nat_cmp mid x) added w.if-branch.false) c.in_ok-insert.ensures.updates.0 c.loop-cell.invariant)
     ]
+
+pub returns : goal.returns
+returns c = grind (arith, common_steps)

@@ -1,4 +1,5 @@
-use Rattle.std.proofs.Common.{◌∙◌, sym, Some}
+use Rattle.std.proofs.Common.{◌∙◌, sym, Some, arith}
+use Rattle.std.proofs.lemmas.Grind.{common_steps}
 use Rattle.wi_graph.proofs.StripSteps.{track_gone, track_kept, track_pop, track_park}
 use Rattle.wi_graph.proofs.stripping.next_free.Goals as goal
 
@@ -24,3 +25,9 @@ cells-preserved-then-not-contains c =
     let work = c.pop.new.self.items in
     let popped = track_pop c.cells.areas held rest c.cells.work.items work c.cells.waiting c.in-Some.cell c.in-Some.ensures.items c.cells.invariant.1 in
     (c.cells.invariant.0, track_gone c.cells.areas held rest work c.cells.waiting c.in-Some.cell (sym c.contains.ensures ∙ c.if-not-contains.true) popped.0)
+
+pub returns-in-None-clause-tracking : goal.returns-in-None-clause-tracking
+returns-in-None-clause-tracking c = grind (arith, common_steps)
+
+pub returns-in-None-clause-some : goal.returns-in-None-clause-some
+returns-in-None-clause-some c = grind (arith, common_steps)

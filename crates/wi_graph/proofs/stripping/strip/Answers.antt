@@ -3,7 +3,7 @@ use Rattle.wi_graph.proofs.StripSteps.{first_free, strip_start, strip_step, stri
 use Rattle.wi_graph.proofs.stripping.strip.Goals as goal
 
 pub cells-init : goal.cells-init
-cells-init c = search (rules, strip_start)
+cells-init c = strip_start c.args.areas c.args.held.now c.args.rest.now _ _ (search c.in_ok-work.ensures) (search rules)
 
 pub cells-preserved : goal.cells-preserved
 cells-preserved c =

@@ -1,5 +1,4 @@
-use Rattle.std.proofs.Common.{rules}
 use Rattle.wi_parser.proofs.expr.+copying.Goals as goal
 
 pub Expr::copy-returns-in-Rectangle : goal.Expr::copy-returns-in-Rectangle
-Expr::copy-returns-in-Rectangle t c = search rules
+Expr::copy-returns-in-Rectangle t c = cc

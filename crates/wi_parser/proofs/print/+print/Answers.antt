@@ -1,4 +1,5 @@
 use Rattle.std.proofs.Common.{rules, arith, ◌≡◌, suc, ◌+◌, ◌∷◌, ◌++◌, drop, drop-cons, codes, string_bytes, ap, sym, ◌∙◌}
+use Rattle.std.proofs.lemmas.Grind.{common_steps}
 use Rattle.wi_parser.specs.View.{tree_of, all_of}
 use Rattle.wi_parser.specs.Printing.{tree_text}
 use Rattle.wi_parser.proofs.PrintLemmas.{parameter_written, parameters_from, starts_kept, starts_same, starts_with, starts_on, starts_trans, starts_still}
@@ -67,3 +68,24 @@ push_parameters-loop-parameter-preserved t c =
           ∙ l.invariant.written;
       kept = starts_trans _ _ _ (starts_on _ _ _ _ c.in_ok-push_str.ensures.bytes c.in_ok-push_tree.ensures.kept) l.invariant.kept;
     }
+
+pub push_call-returns-clause-ok : goal.push_call-returns-clause-ok
+push_call-returns-clause-ok t c = grind (arith, common_steps)
+
+pub push_parenthesized-returns-clause-ok : goal.push_parenthesized-returns-clause-ok
+push_parenthesized-returns-clause-ok t c = grind (arith, common_steps)
+
+pub push_operation-returns-clause-ok : goal.push_operation-returns-clause-ok
+push_operation-returns-clause-ok t c = grind (arith, common_steps)
+
+pub push_signed-returns-clause-ok : goal.push_signed-returns-clause-ok
+push_signed-returns-clause-ok t c = grind (arith, common_steps)
+
+pub push_parameters-returns-clause-kept : goal.push_parameters-returns-clause-kept
+push_parameters-returns-clause-kept t c = grind (arith, common_steps)
+
+pub push_parameters-loop-parameter-init : goal.push_parameters-loop-parameter-init
+push_parameters-loop-parameter-init t c = grind (arith, common_steps)
+
+pub push_tree-returns-in-Number-clause-kept : goal.push_tree-returns-in-Number-clause-kept
+push_tree-returns-in-Number-clause-kept t c = grind (arith, common_steps)

@@ -1,5 +1,4 @@
-use Rattle.std.proofs.Common.{rules}
 use Rattle.wi_parser.proofs.print.dollar.Goals as goal
 
 pub returns-then-is_absolute : goal.returns-then-is_absolute
-returns-then-is_absolute c = search rules
+returns-then-is_absolute c = cc

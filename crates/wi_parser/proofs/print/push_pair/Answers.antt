@@ -1,3 +1,5 @@
+use Rattle.std.proofs.Common.{arith}
+use Rattle.std.proofs.lemmas.Grind.{common_steps}
 use Rattle.wi_parser.proofs.PrintLemmas.{starts_kept, starts_same, starts_on, starts_trans}
 use Rattle.wi_parser.proofs.print.push_pair.Goals as goal
 
@@ -14,3 +16,6 @@ returns-clause-kept c =
 
 pub returns-in_err-push_str-clause-kept : goal.returns-in_err-push_str-clause-kept
 returns-in_err-push_str-clause-kept c = starts_kept _ _ c.in_err-push_str.ensures.bytes
+
+pub returns-clause-ok : goal.returns-clause-ok
+returns-clause-ok c = grind (arith, common_steps)

@@ -1,3 +1,5 @@
+use Rattle.std.proofs.Common.{arith}
+use Rattle.std.proofs.lemmas.Grind.{common_steps}
 use Rattle.wi_parser.proofs.PrintLemmas.{starts_kept, starts_same, starts_on, starts_trans, starts_still}
 use Rattle.wi_parser.proofs.print.push_rectangle.Goals as goal
 
@@ -20,3 +22,6 @@ returns-clause-kept c =
     starts_still c.push_str-3.result _ _ _ _ c.push_str-3.ensures.bytes
     (starts_on _ _ _ _ c.in_ok-push_str.ensures.bytes
     (starts_trans _ _ _ (starts_on _ _ _ _ c.in_ok-push_str-2.ensures.bytes c.in_ok-push_cell-2.ensures.kept) c.in_ok-push_cell.ensures.kept))
+
+pub returns-clause-ok : goal.returns-clause-ok
+returns-clause-ok c = grind (arith, common_steps)

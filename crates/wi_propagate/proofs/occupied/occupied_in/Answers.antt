@@ -1,4 +1,4 @@
-use Rattle.std.proofs.Common.{rules, ◌++◌, sym, ◌∙◌, ap, Some}
+use Rattle.std.proofs.Common.{◌++◌, sym, ◌∙◌, ap, Some}
 use Rattle.wi_propagate.proofs.CellsAhead.{cells_ahead, all_ahead, none_ahead, one_ahead, fewer}
 use Rattle.wi_propagate.proofs.occupied.occupied_in.Goals as goal
 
@@ -22,5 +22,5 @@ pub loop-ahead-preserved : goal.loop-ahead-preserved
 loop-ahead-preserved g c =
     let sheet = (g.C.Calculator.stored c.args.calculator.now).sheet in
     one_ahead sheet c.args.area c.loop-ahead.found.items c.push.new.self.items c.loop-ahead.ahead c.successor-ahead.result c.in-Some.from c.in-Some-next_occupied.cell c.last.result
-    c.next_occupied.ensures.order c.in-Some.is (sym c.in-Some-next_occupied.is ∙ c.next_occupied.ensures.first) (search rules) c.last.ensures
+    c.next_occupied.ensures.order c.in-Some.is (sym c.in-Some-next_occupied.is ∙ c.next_occupied.ensures.first) c.in_ok-push.ensures.items c.last.ensures
     c.successor-ahead.ensures.some c.successor-ahead.ensures.none c.loop-ahead.invariant

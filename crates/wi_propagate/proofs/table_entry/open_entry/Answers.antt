@@ -1,4 +1,5 @@
 use Rattle.wi_sheet.specs.Demand.{wants}
+use Rattle.wi_engine.proofs.Saved.{takes_then, gives_up_then}
 use Rattle.wi_propagate.proofs.SavingEntries.{entry_at_most, entry_saves, entry_evaluations, entry_restarts, entry_settled}
 use Rattle.wi_propagate.proofs.table_entry.open_entry.Goals as goal
 
@@ -134,3 +135,21 @@ returns-clause-unkept_restarts g c =
     let i = c.in_ok-replaced.ensures in
     let v = c.in_ok-value.ensures in
     entry_restarts s w f pairs c.in_ok-replaced.replaced i.world old mid start before i.saves after.restarts v.unkept_restarts
+
+pub returns-in_err-value-clause-takes : goal.returns-in_err-value-clause-takes
+returns-in_err-value-clause-takes g c =
+    let v = c.in_err-value.ensures in
+    takes_then (g.M.Memo.state c.args.memo.now) (g.M.Memo.state c.with_inputs.new.memo) (g.M.Memo.state c.value_under.new.memo) c.args.meter.now.evaluations c.with_inputs.new.meter.evaluations c.value_under.new.meter.evaluations c.in_ok-replaced.ensures.takes v.takes v.counts.0
+
+pub returns-in_err-value-clause-gives_up : goal.returns-in_err-value-clause-gives_up
+returns-in_err-value-clause-gives_up g c =
+    gives_up_then (g.M.Memo.state c.args.memo.now) (g.M.Memo.state c.with_inputs.new.memo) (g.M.Memo.state c.value_under.new.memo) c.in_ok-replaced.ensures.gives_up c.in_err-value.ensures.gives_up
+
+pub returns-clause-takes : goal.returns-clause-takes
+returns-clause-takes g c =
+    let v = c.in_ok-value.ensures in
+    takes_then (g.M.Memo.state c.args.memo.now) (g.M.Memo.state c.with_inputs.new.memo) (g.M.Memo.state c.value_under.new.memo) c.args.meter.now.evaluations c.with_inputs.new.meter.evaluations c.value_under.new.meter.evaluations c.in_ok-replaced.ensures.takes v.takes v.counts.0
+
+pub returns-clause-gives_up : goal.returns-clause-gives_up
+returns-clause-gives_up g c =
+    gives_up_then (g.M.Memo.state c.args.memo.now) (g.M.Memo.state c.with_inputs.new.memo) (g.M.Memo.state c.value_under.new.memo) c.in_ok-replaced.ensures.gives_up c.in_ok-value.ensures.gives_up

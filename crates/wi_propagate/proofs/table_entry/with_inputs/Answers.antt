@@ -229,3 +229,29 @@ returns-clause-unkept_restarts g c =
     let after = c.loop-pair.meter in
     let i = c.loop-pair.invariant in
     restarts_saved s Has old new start after i.saves
+
+pub returns-in_err-value-clause-takes : goal.returns-in_err-value-clause-takes
+returns-in_err-value-clause-takes g c =
+    let v = c.in_err-value.ensures in
+    takes_then (g.M.Memo.state c.args.memo.now) (g.M.Memo.state c.loop-pair.memo) (g.M.Memo.state c.value_under.new.memo) c.args.meter.now.evaluations c.loop-pair.meter.evaluations c.value_under.new.meter.evaluations c.loop-pair.invariant.takes v.takes v.counts.0
+
+pub returns-in_err-value-clause-gives_up : goal.returns-in_err-value-clause-gives_up
+returns-in_err-value-clause-gives_up g c =
+    gives_up_then (g.M.Memo.state c.args.memo.now) (g.M.Memo.state c.loop-pair.memo) (g.M.Memo.state c.value_under.new.memo) c.loop-pair.invariant.gives_up c.in_err-value.ensures.gives_up
+
+pub returns-in_err-push-clause-gives_up : goal.returns-in_err-push-clause-gives_up
+returns-in_err-push-clause-gives_up g c =
+    gives_up_then (g.M.Memo.state c.args.memo.now) (g.M.Memo.state c.loop-pair.memo) (g.M.Memo.state c.value_under.new.memo) c.loop-pair.invariant.gives_up c.in_ok-value.ensures.gives_up
+
+pub returns-in_err-push-clause-counts : goal.returns-in_err-push-clause-counts
+returns-in_err-push-clause-counts g c =
+    never_fall-then c.args.meter.now c.loop-pair.meter c.value_under.new.meter c.loop-pair.invariant.counts c.in_ok-value.ensures.counts
+
+pub returns-clause-evaluations_ok : goal.returns-clause-evaluations_ok
+returns-clause-evaluations_ok g c = IfOk-weaker c.with.result _ _ (λ v h. c.loop-pair.invariant.evaluations) c.with.ensures.list
+
+pub returns-clause-restarts_ok : goal.returns-clause-restarts_ok
+returns-clause-restarts_ok g c = IfOk-weaker c.with.result _ _ (λ v h. c.loop-pair.invariant.restarts) c.with.ensures.list
+
+pub returns-clause-saves : goal.returns-clause-saves
+returns-clause-saves g c = IfOk-weaker c.with.result _ _ (λ v h. c.loop-pair.invariant.saves) c.with.ensures.list

@@ -2,7 +2,7 @@ use Rattle.std.proofs.Common.{◌∙◌, subst, sym, rules}
 use Rattle.wi_ranges.specs.Bag.{Bag}
 use Rattle.wi_ranges.specs.Inner.Index.{AreCounted, IsIndexed}
 use Rattle.wi_ranges.specs.declared.pair.Numbered.{Numbered}
-use Rattle.wi_ranges.proofs.BagLemmas.{at_error, indexed_back, counted_back, kept_back, lacks_all}
+use Rattle.wi_ranges.proofs.BagLemmas.{at_error, at_success, indexed_back, counted_back, kept_back, lacks_all}
 use Rattle.wi_ranges.proofs.bag.add_pair.Goals as goal
 
 pub returns-then-is_err-clause-indexed : goal.returns-then-is_err-clause-indexed
@@ -28,3 +28,15 @@ returns-then-is_err-clause-counted c =
     (counted_back bag c.args.pieces.now.keys us c.requires.indexed
     (subst (λ (b : Bag). IsIndexed b us) same (returns-then-is_err-clause-indexed c)) c.requires.counted
     (c.take_out.ensures.order (at_error c.put_one-outcome.result failed c.put_one-outcome.ensures.order)))
+
+pub returns-then-is_err-clause-no_zero : goal.returns-then-is_err-clause-no_zero
+returns-then-is_err-clause-no_zero c = c.put_one-outcome.ensures.no_zero
+
+pub returns-else-is_err-clause-indexed : goal.returns-else-is_err-clause-indexed
+returns-else-is_err-clause-indexed c = at_success c.put_one-outcome.result (sym c.is_err.ensures.value ∙ c.if-is_err.false) c.put_one-outcome.ensures.indexed
+
+pub returns-else-is_err-clause-counted : goal.returns-else-is_err-clause-counted
+returns-else-is_err-clause-counted c = at_success c.put_one-outcome.result (sym c.is_err.ensures.value ∙ c.if-is_err.false) c.put_one-outcome.ensures.counted
+
+pub returns-else-is_err-clause-no_zero : goal.returns-else-is_err-clause-no_zero
+returns-else-is_err-clause-no_zero c = c.put_one-outcome.ensures.no_zero

@@ -22,3 +22,7 @@ returns-else-count-eq0-clause-total c =
     let p = c.args.pair.now in
     let n = c.args.count in
     ap (λ (b : Bag). pieces_of b) c.set_count.ensures.entries ∙ pieces_more p n es (some_of_more p n es (omega (arith, c.if-count-eq0.false)) c.requires.count)
+
+pub returns-else-count-eq0-clause-no_zero : goal.returns-else-count-eq0-clause-no_zero
+returns-else-count-eq0-clause-no_zero c =
+    no_zero_set c.args.pair.now (c.args.count + 1) c.args.counts.now.entries c.set_count.new.counts.entries (omega arith) c.requires.no_zero c.set_count.ensures.counts

@@ -1,7 +1,7 @@
 use Rattle.std.proofs.Common.{◌<◌, ◌≤◌, ◌∙◌, length, sym, arith}
 use Rattle.std.proofs.lemmas.Bool.{ltb-false}
 use Rattle.wi_ranges.specs.Blocks.{first_row}
-use Rattle.wi_ranges.proofs.BagLemmas.{has_one_more, indexed_more, counted_more, number_below, others_kept, has_all}
+use Rattle.wi_ranges.proofs.BagLemmas.{has_one_more, indexed_more, counted_more, number_below, others_kept, has_all, on_error}
 use Rattle.wi_ranges.proofs.bag.put_one.Goals.{then-row-lt-ROWS, else-row-lt-ROWS}
 use Rattle.wi_ranges.proofs.bag.put_one.Goals as goal
 
@@ -34,3 +34,14 @@ pub returns-clause-counted : goal.returns-clause-counted
 returns-clause-counted c =
     counted_more c.args.numbered.now c.around.result c.args.counts.now.entries c.count_up.new.counts.entries c.args.pieces.now.keys c.put_in.new.pieces.keys c.around.ensures.blocks
     c.requires.indexed c.requires.counted c.requires.number c.put_in.ensures.order c.in_ok-put_in.ensures.count c.in_ok-count_up.ensures.total
+
+pub returns-clause-more : goal.returns-clause-more
+returns-clause-more c =
+    let m = c.args.numbered.now in
+    has_one_more m.pair m.number c.args.counts.now.entries c.count_up.new.counts.entries c.requires.number c.in_ok-count_up.ensures.sets
+
+pub returns-clause-no_zero : goal.returns-clause-no_zero
+returns-clause-no_zero c = c.count_up.ensures.no_zero
+
+pub returns-in_err-count_up-clause-order : goal.returns-in_err-count_up-clause-order
+returns-in_err-count_up-clause-order c = on_error _ (c.put_in.ensures.order c.requires.counted.0)

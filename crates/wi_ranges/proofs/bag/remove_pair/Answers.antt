@@ -36,3 +36,9 @@ returns-clause-counted c =
     let count : count_of bag p ≡ (n - 1) + 1 = ap (λ o. unwrap_or o 0) some ∙ omega (arith, pos) in
     counted_less m c.around.result bag c.count_down.new.counts.entries c.args.pieces.now.keys c.take_out.new.pieces.keys c.around.ensures.blocks
     c.requires.indexed c.requires.counted count c.take_out.ensures.order c.take_out.ensures.count c.count_down.ensures.total
+
+pub returns-clause-less : goal.returns-clause-less
+returns-clause-less c = c.count_down.ensures.less
+
+pub returns-clause-no_zero : goal.returns-clause-no_zero
+returns-clause-no_zero c = c.count_down.ensures.no_zero

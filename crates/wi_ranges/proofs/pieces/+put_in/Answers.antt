@@ -77,3 +77,15 @@ returns-else-block-gt0-clause-count t c =
       | else-block-gt0-via-else-block-gt0 w ↦ blocks_within-row (first_row p) (last_row p) x.level x.first apart (omega (arith, w.if-block-gt0.false))
     ] in
     λ h. count_none (blocks_in p x) c.args.pieces.now.keys none
+
+pub returns-in_err-put_in-2-clause-stays : goal.returns-in_err-put_in-2-clause-stays
+returns-in_err-put_in-2-clause-stays t c = λ q h. c.put_in-then-meets.ensures.stays q (c.put_in.ensures.stays q h)
+
+pub returns-in_err-put_in-2-clause-order : goal.returns-in_err-put_in-2-clause-order
+returns-in_err-put_in-2-clause-order t c = λ h. c.put_in-then-meets.ensures.order (c.put_in.ensures.order h)
+
+pub returns-in_ok-put_in-2-clause-stays : goal.returns-in_ok-put_in-2-clause-stays
+returns-in_ok-put_in-2-clause-stays t c = λ q h. c.put_in-then-meets.ensures.stays q (c.put_in.ensures.stays q h)
+
+pub returns-in_ok-put_in-2-clause-order : goal.returns-in_ok-put_in-2-clause-order
+returns-in_ok-put_in-2-clause-order t c = λ h. c.put_in-then-meets.ensures.order (c.put_in.ensures.order h)

@@ -62,3 +62,9 @@ returns-else-block-gt0-clause-count t c =
       | else-block-gt0-via-else-block-gt0 w ↦ blocks_within-row (first_row p) (last_row p) x.level x.first apart (omega (arith, w.if-block-gt0.false))
     ] in
     λ h. count_none (blocks_in p x) c.args.pieces.now.keys none
+
+pub returns-then-meets-clause-gone : goal.returns-then-meets-clause-gone
+returns-then-meets-clause-gone t c = λ q h. c.take_out-then-meets.ensures.gone q (c.take_out.ensures.gone q h)
+
+pub returns-then-meets-clause-order : goal.returns-then-meets-clause-order
+returns-then-meets-clause-order t c = λ h. c.take_out-then-meets.ensures.order (c.take_out.ensures.order h)

@@ -10,3 +10,18 @@ loop-at-preserved g c = record {
   evaluations = grind (arith, common_steps);
   restarts = grind (arith, common_steps);
 }
+
+pub returns-clause-found : goal.returns-clause-found
+returns-clause-found g c = grind (arith, common_steps)
+
+pub returns-in_err-value-clause-evaluations : goal.returns-in_err-value-clause-evaluations
+returns-in_err-value-clause-evaluations g c = grind (arith, common_steps)
+
+pub returns-in_err-value-clause-restarts : goal.returns-in_err-value-clause-restarts
+returns-in_err-value-clause-restarts g c = grind (arith, common_steps)
+
+pub returns-in_err-push-clause-evaluations : goal.returns-in_err-push-clause-evaluations
+returns-in_err-push-clause-evaluations g c = grind (arith, common_steps)
+
+pub returns-in_err-push-clause-restarts : goal.returns-in_err-push-clause-restarts
+returns-in_err-push-clause-restarts g c = grind (arith, common_steps)

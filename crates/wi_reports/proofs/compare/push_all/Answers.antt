@@ -1,4 +1,5 @@
 use Rattle.std.proofs.Common.{◌+◌, ◌-◌, ◌∙◌, arith}
+use Rattle.std.proofs.lemmas.Grind.{common_steps}
 use Rattle.wi_csv.proofs.Growth.{starts_trans}
 use Rattle.wi_reports.specs.Compare.{cell_compared}
 use Rattle.wi_reports.proofs.CompareLemmas.{one_more_row}
@@ -15,3 +16,15 @@ loop-row-preserved g c =
       written = one_more_row (λ s. cell_compared s.sheet c.args.first.now c.args.second.now) _ _ c.args.area top (row - top) (row + 1 - top) row _ _ _ (omega arith) (omega arith) old.same old.written c.in_ok-push_row.ensures.ok;
       kept = starts_trans _ _ _ c.in_ok-push_row.ensures.kept old.kept;
     }
+
+pub loop-row-init : goal.loop-row-init
+loop-row-init g c = grind (arith, common_steps)
+
+pub push_row-requires-clause-first : goal.push_row-requires-clause-first
+push_row-requires-clause-first g c = c.requires.first
+
+pub push_row-requires-clause-second : goal.push_row-requires-clause-second
+push_row-requires-clause-second g c = c.requires.second
+
+pub returns-in_err-push_row-clause-kept : goal.returns-in_err-push_row-clause-kept
+returns-in_err-push_row-clause-kept g c = starts_trans _ _ _ c.in_err-push_row.ensures.kept c.loop-row.invariant.kept

@@ -1,4 +1,5 @@
 use Rattle.std.proofs.Common.{◌+◌, ◌-◌, ◌∙◌, arith}
+use Rattle.std.proofs.lemmas.Grind.{common_steps}
 use Rattle.wi_csv.proofs.Growth.{starts_trans}
 use Rattle.wi_reports.specs.Compare.{cell_compared}
 use Rattle.wi_reports.proofs.CompareLemmas.{one_cell, all_cells}
@@ -23,3 +24,15 @@ returns-clause-ok g c =
     let column = c.loop-column.column in
     all_cells (cell_compared (g.C.Calculator.stored c.args.calculator.now).sheet c.args.first.now c.args.second.now) c.args.area c.args.row _ left _ last (column - left) _ _
     c.first.ensures c.column-left.ensures.value c.last.ensures c.column-column-end.ensures.value (omega arith) c.loop-column.invariant.written
+
+pub loop-column-init : goal.loop-column-init
+loop-column-init g c = grind (arith, common_steps)
+
+pub push_cell-requires-clause-first : goal.push_cell-requires-clause-first
+push_cell-requires-clause-first g c = c.requires.first
+
+pub push_cell-requires-clause-second : goal.push_cell-requires-clause-second
+push_cell-requires-clause-second g c = c.requires.second
+
+pub returns-in_err-push_cell-clause-kept : goal.returns-in_err-push_cell-clause-kept
+returns-in_err-push_cell-clause-kept g c = starts_trans _ _ _ c.in_err-push_cell.ensures.kept c.loop-column.invariant.kept

@@ -1,4 +1,5 @@
 use Rattle.std.proofs.Common.{◌+◌, ◌-◌, ◌∙◌, arith}
+use Rattle.std.proofs.lemmas.Grind.{common_steps}
 use Rattle.wi_csv.proofs.Growth.{starts_trans}
 use Rattle.wi_reports.proofs.RowLemmas.{rows_more}
 use Rattle.wi_reports.proofs.rows.push_all.Goals as goal
@@ -14,3 +15,12 @@ loop-row-preserved g c =
       written = rows_more c.args.put.now _ _ c.args.area first (row - first) (row + 1 - first) row _ _ _ (omega arith) (omega arith) old.same old.written c.in_ok-push_row.ensures.ok;
       kept = starts_trans _ _ _ c.in_ok-push_row.ensures.kept old.kept;
     }
+
+pub loop-row-init : goal.loop-row-init
+loop-row-init g c = grind (arith, common_steps)
+
+pub push_row-requires-clause-order : goal.push_row-requires-clause-order
+push_row-requires-clause-order g c = c.requires
+
+pub returns-in_err-push_row-clause-kept : goal.returns-in_err-push_row-clause-kept
+returns-in_err-push_row-clause-kept g c = starts_trans _ _ _ c.in_err-push_row.ensures.kept c.loop-row.invariant.kept

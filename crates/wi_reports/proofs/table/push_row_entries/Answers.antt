@@ -15,3 +15,6 @@ loop-column-preserved g c =
       texts = one_text string_bytes (λ s y. entry_text s.sheet c.args.put.now c.args.table.now.formula_cell (pairs_at c.args.table.now.input c.args.x c.args.second y)) _ _ _ c.row-row.result first (column - first) (column + 1 - first) column c.at-y.result _ _ c.in_ok-text_at.field-0 (omega arith) (omega arith) old.same c.at-y.ensures
           old.texts c.in_ok-text_at.ensures.text c.in_ok-push.ensures.items;
     }
+
+pub text_at-requires : goal.text_at-requires
+text_at-requires g c = c.requires

@@ -1,5 +1,4 @@
-use Rattle.std.proofs.Common.{rules}
 use Rattle.wi_reports.proofs.table.text_at.Goals as goal
 
 pub returns-clause-text : goal.returns-clause-text
-returns-clause-text g c = search rules
+returns-clause-text g c = c.entry_text.ensures.text

@@ -23,3 +23,6 @@ returns-clause-texts g c =
     let column = c.loop-column.column in
     all_texts (text_under (g.C.Calculator.stored c.args.calculator.now).sheet c.args.put.now) c.args.area c.args.row _ first _ last (column - first) _ _
     c.first.ensures c.column-first.ensures.value c.last.ensures c.column-column-end.ensures.value (omega arith) c.loop-column.invariant.texts
+
+pub text_under-requires : goal.text_under-requires
+text_under-requires g c = c.requires.order

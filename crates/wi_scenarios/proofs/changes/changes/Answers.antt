@@ -1,6 +1,10 @@
-use Rattle.std.proofs.Common.{refl, rules}
+use Rattle.std.proofs.Common.{refl, rules, arith}
+use Rattle.std.proofs.lemmas.Grind.{common_steps}
 use Rattle.wi_scenarios.proofs.ChangesLemmas.{sound_after}
 use Rattle.wi_scenarios.proofs.changes.changes.Goals as goal
+
+pub returns-in_err-tell-clause-step : goal.returns-in_err-tell-clause-step
+returns-in_err-tell-clause-step g c = grind (arith, common_steps)
 
 pub returns-in_err-found-clause-quiet : goal.returns-in_err-found-clause-quiet
 returns-in_err-found-clause-quiet g c = λ none. let same = c.find.ensures.quiet none in (same.0, same.1, refl)

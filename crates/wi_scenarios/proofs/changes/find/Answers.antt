@@ -1,4 +1,4 @@
-use Rattle.std.proofs.Common.{◌≡◌}
+use Rattle.std.proofs.Common.{◌≡◌, ◌∙◌}
 use Rattle.wi_scenario_list.specs.Scenarios.{effective}
 use Rattle.wi_sessions.specs.Roster.{session_at}
 use Rattle.wi_scenarios.proofs.ChangesLemmas.{changes_found, looked, begun_again, no_more, if_ok}
@@ -8,8 +8,8 @@ pub returns-clause-list : goal.returns-clause-list
 returns-clause-list g c =
     let stored = g.C.Calculator.stored c.args.calculator.now in
     let d = c.args.desk.now in
-    let cells : c.deref-2.result.now ≡ c.pending.result.now.cells = cc (c.deref-2.ensures.value, c.in_ok-cells.ensures.list) in
-    let put : c.deref.result.now ≡ effective d.scenarios (session_at d.sessions d.current).scenario = cc (c.deref.ensures.value, c.in_ok-put.ensures.value) in
+    let cells : c.deref-2.result.now ≡ c.pending.result.now.cells = c.deref-2.ensures.value ∙ c.in_ok-cells.ensures.list in
+    let put : c.deref.result.now ≡ effective d.scenarios (session_at d.sessions d.current).scenario = c.deref.ensures.value ∙ c.in_ok-put.ensures.value in
     if_ok _ _ c.find_changes.result
     (λ found is. changes_found stored d c.pending.result.now.cells c.deref-2.result.now c.deref.result.now c.picture-picture.result.now found.items
     c.requires c.in_ok-cells.ensures.order c.pending.ensures.cells cells put c.picture-picture.ensures is)
@@ -29,12 +29,12 @@ returns-in_err-put-clause-restarts g c = no_more _ _
 
 pub returns-clause-evaluations : goal.returns-clause-evaluations
 returns-clause-evaluations g c =
-    let cells : c.deref-2.result.now ≡ c.pending.result.now.cells = cc (c.deref-2.ensures.value, c.in_ok-cells.ensures.list) in
-    let put : c.deref.result.now ≡ effective c.args.desk.now.scenarios (session_at c.args.desk.now.sessions c.args.desk.now.current).scenario = cc (c.deref.ensures.value, c.in_ok-put.ensures.value) in
+    let cells : c.deref-2.result.now ≡ c.pending.result.now.cells = c.deref-2.ensures.value ∙ c.in_ok-cells.ensures.list in
+    let put : c.deref.result.now ≡ effective c.args.desk.now.scenarios (session_at c.args.desk.now.sessions c.args.desk.now.current).scenario = c.deref.ensures.value ∙ c.in_ok-put.ensures.value in
     looked (g.C.Calculator.stored c.args.calculator.now) c.args.desk.now c.pending.result.now.cells c.deref-2.result.now c.deref.result.now _ _ c.pending.ensures.cells cells put c.find_changes.ensures.evaluations
 
 pub returns-clause-restarts : goal.returns-clause-restarts
 returns-clause-restarts g c =
-    let cells : c.deref-2.result.now ≡ c.pending.result.now.cells = cc (c.deref-2.ensures.value, c.in_ok-cells.ensures.list) in
-    let put : c.deref.result.now ≡ effective c.args.desk.now.scenarios (session_at c.args.desk.now.sessions c.args.desk.now.current).scenario = cc (c.deref.ensures.value, c.in_ok-put.ensures.value) in
+    let cells : c.deref-2.result.now ≡ c.pending.result.now.cells = c.deref-2.ensures.value ∙ c.in_ok-cells.ensures.list in
+    let put : c.deref.result.now ≡ effective c.args.desk.now.scenarios (session_at c.args.desk.now.sessions c.args.desk.now.current).scenario = c.deref.ensures.value ∙ c.in_ok-put.ensures.value in
     begun_again (g.C.Calculator.stored c.args.calculator.now) c.args.desk.now c.pending.result.now.cells c.deref-2.result.now c.deref.result.now _ _ c.pending.ensures.cells cells put c.find_changes.ensures.restarts

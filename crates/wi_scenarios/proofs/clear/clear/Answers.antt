@@ -1,5 +1,8 @@
-use Rattle.std.proofs.Common.{◌≡◌, ◌∙◌, [], ◌∷◌, rules}
-use Rattle.wi_scenarios.specs.Inner.Held.{state_of}
+use Rattle.std.proofs.Common.{◌≡◌, ◌∙◌, List, ℕ, [], ◌∷◌, Option, subst, rules}
+use Rattle.std.specs.Map.{keys_of}
+use Rattle.wi_parser.specs.declared.content.Content.{Content}
+use Rattle.wi_scenarios.specs.Pending.{AddsOnly}
+use Rattle.wi_scenarios.specs.Inner.Held.{state_of, pending_in}
 use Rattle.wi_scenarios.proofs.ClearLemmas.{emptied_are, clear_edited}
 use Rattle.wi_scenarios.proofs.clear.clear.Goals as goal
 
@@ -11,3 +14,10 @@ returns-clause-step g c =
     c.in_ok-named.named.items c.in_ok-contents.contents.items named
     (emptied_are old.sheet c.args.area c.deref.result.now c.in_ok-contents.contents.items (c.deref.ensures.value ∙ c.in_ok-cells.ensures) c.in_ok-contents.ensures)
     c.apply_edit.ensures.step
+
+pub returns-clause-adds : goal.returns-clause-adds
+returns-clause-adds g c =
+    let old = g.C.Calculator.stored c.args.calculator.now in
+    subst (λ (contents : List (ℕ × Option Content)). AddsOnly g.C.Calculator.marked (keys_of contents) (state_of old c.args.desk.now)
+    (state_of (g.C.Calculator.stored c.apply_edit.new.calculator) c.apply_edit.new.desk) (pending_in c.args.desk.now) (pending_in c.apply_edit.new.desk))
+    (emptied_are old.sheet c.args.area c.deref.result.now c.in_ok-contents.contents.items (search rules) c.in_ok-contents.ensures) c.apply_edit.ensures.adds

@@ -2,5 +2,8 @@ use Rattle.std.proofs.Common.{arith}
 use Rattle.std.proofs.lemmas.Grind.{common_steps}
 use Rattle.wi_scenarios.proofs.clear.emptied.Goals as goal
 
+pub loop-cell-preserved : goal.loop-cell-preserved
+loop-cell-preserved c = grind (arith, common_steps)
+
 pub returns : goal.returns
 returns c = grind (arith, common_steps)

@@ -1,7 +1,7 @@
-use Rattle.std.proofs.Common.{refl, ap, rules}
+use Rattle.std.proofs.Common.{◌∙◌, refl, ap, rules}
 use Rattle.std.specs.Option.{option_copied}
 use Rattle.wi_scenarios.specs.Inner.Held.{state_of}
-use Rattle.wi_scenarios.proofs.LookLemmas.{compare_lacked}
+use Rattle.wi_scenarios.proofs.LookLemmas.{compare_lacked, compare_done}
 use Rattle.wi_scenarios.proofs.compare.compare.Goals as goal
 
 pub returns-then-lacks_either-clause-step : goal.returns-then-lacks_either-clause-step
@@ -29,4 +29,10 @@ returns-in_err-push_comparison-clause-step g c =
     c.is_too_large.ensures c.if-is_too_large.false c.lacks_either.ensures c.if-lacks_either.false c.from_residual-in_err-push_comparison.ensures.1 (ap (λ x. state_of x c.args.desk.now) c.in_err-push_comparison.ensures.same) c.in_err-push_comparison.ensures.err
 
 pub returns-clause-step : goal.returns-clause-step
-returns-clause-step g c = search rules
+returns-clause-step g c =
+    let s = state_of (g.C.Calculator.stored c.args.calculator.now) c.args.desk.now in
+    compare_done s (state_of (g.C.Calculator.stored c.push_comparison.new.calculator) c.args.desk.now) (option_copied c.args.first) (option_copied c.args.second) c.args.area c.is_too_large.result c.lacks_either.result
+    c.args.out.now.items c.push_comparison.new.out.items c.deref.result.now c.deref-2.result.now
+    c.is_too_large.ensures c.if-is_too_large.false c.lacks_either.ensures c.if-lacks_either.false
+    (c.deref.ensures.value ∙ c.in_ok-before.ensures.value) (search rules)
+    c.in_ok-push_comparison.ensures.ok (ap (λ x. state_of x c.args.desk.now) c.in_ok-push_comparison.ensures.same)

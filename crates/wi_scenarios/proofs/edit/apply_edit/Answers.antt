@@ -1,10 +1,16 @@
-use Rattle.std.proofs.Common.{rules}
+use Rattle.std.proofs.Common.{◌∙◌, Ok, rules}
+use Rattle.wi_scenarios.specs.Inner.Held.{state_of, edit_in}
 use Rattle.wi_scenarios.specs.Inner.Editing.{AreMarked}
 use Rattle.wi_scenarios.proofs.EditLemmas.{marked_as, AreTaken, edit_served, sound_taken, adds_taken}
 use Rattle.wi_scenarios.proofs.edit.apply_edit.Goals as goal
 
 pub returns-in-Ok-clause-step : goal.returns-in-Ok-clause-step
-returns-in-Ok-clause-step g c = search (rules, edit_served)
+returns-in-Ok-clause-step g c =
+    let old = state_of (g.C.Calculator.stored c.args.calculator.now) c.args.desk.now in
+    let new = state_of (g.C.Calculator.stored c.edit_with_rooms.new.calculator) (record c.edit_with_rooms.new.desk { sessions = c.take_all.new.self }) in
+    let served = edit_served (Ok tt) old new c.args.force (edit_in c.args.edit) (search rules) c.in-Ok.ensures.beside.scenarios
+    (c.take_all.ensures.sessions ∙ c.in-Ok.ensures.beside.sessions) c.in-Ok.ensures.beside.current c.in-Ok.ensures.edit in
+    search (served)
 
 pub returns-in-Ok-clause-adds : goal.returns-in-Ok-clause-adds
 returns-in-Ok-clause-adds g c =

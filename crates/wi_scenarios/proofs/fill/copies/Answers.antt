@@ -1,4 +1,4 @@
-use Rattle.std.proofs.Common.{◌+◌, ◌-◌, sym, subst, arith}
+use Rattle.std.proofs.Common.{◌+◌, ◌-◌, ℕ, List, sym, subst, arith}
 use Rattle.std.specs.Option.{option_copied}
 use Rattle.wi_values.specs.Address.{cells_of}
 use Rattle.wi_scenarios.specs.Inner.Copies.{AreCopies, HasNoCopies}
@@ -28,3 +28,12 @@ loop-row-preserved c =
       copied = subst (λ cells. AreCopies content c.args.from cells c.push_copies.new.changes.items) (sym (one_row c.args.area first (row - first) (row + 1 - first) row (omega arith) (omega arith)))
           (c.in_ok-push_copies.ensures (rows_from c.args.area first (row - first)) c.loop-row.invariant.copied);
     }
+
+pub returns : goal.returns
+returns c =
+    let content = option_copied c.args.content in
+    let first = c.row-first.result in
+    let row = c.loop-row.row in
+    subst (λ (cells : List ℕ). AreCopies content c.args.from cells c.loop-row.changes.items)
+    (rows_are c.args.area _ first _ c.row-row-end.result (row - first) c.first.ensures c.row-first.ensures.value c.last.ensures c.row-row-end.ensures.value (omega arith))
+    c.loop-row.invariant.copied

@@ -1,7 +1,7 @@
-use Rattle.std.proofs.Common.{◌+◌, ◌-◌, sym, subst, arith}
+use Rattle.std.proofs.Common.{◌+◌, ◌-◌, ℕ, List, ◌++◌, sym, subst, arith}
 use Rattle.std.specs.Option.{option_copied}
 use Rattle.wi_values.specs.Address.{cells_of_row}
-use Rattle.wi_scenarios.specs.Inner.Copies.{HasNoCopies}
+use Rattle.wi_scenarios.specs.Inner.Copies.{AreCopies, HasNoCopies}
 use Rattle.wi_scenarios.proofs.AnswerLemmas.{at_error}
 use Rattle.wi_scenarios.proofs.FillLemmas.{row_is, one_cell, no_copy_in_row}
 use Rattle.wi_scenarios.proofs.fill.push_copies.Goals as goal
@@ -28,3 +28,12 @@ loop-column-preserved c =
       copied = λ cells h. one_cell content c.args.from c.args.row first (column - first) (column + 1 - first) column c.at-to.result cells c.loop-column.changes.items c.push.new.self.items c.in_ok-copy.copy
           (omega arith) (omega arith) c.at-to.ensures c.in_ok-copy.ensures c.in_ok-push.ensures.items (c.loop-column.invariant.copied cells h);
     }
+
+pub returns : goal.returns
+returns c =
+    let content = option_copied c.args.content in
+    let first = c.column-first.result in
+    let column = c.loop-column.column in
+    λ cells h. subst (λ (row : List ℕ). AreCopies content c.args.from (cells ++ row) c.loop-column.changes.items)
+    (row_is c.args.area c.args.row _ first _ c.column-column-end.result (column - first) c.first.ensures c.column-first.ensures.value c.last.ensures c.column-column-end.ensures.value (omega arith))
+    (c.loop-column.invariant.copied cells h)

@@ -2,8 +2,13 @@ use Rattle.std.proofs.Common.{◌∙◌, ℕ, List, [], length, refl, ap}
 use Rattle.std.specs.Prelude.{codes}
 use Rattle.std.specs.List.{slice_index_or}
 use Rattle.wi_sessions.specs.Pictures.Laws.{is_listed}
-use Rattle.wi_scenarios.proofs.SessionLemmas.{one_list, sound_first}
+use Rattle.wi_scenarios.proofs.SessionLemmas.{one_list, sound_first, first_state}
 use Rattle.wi_scenarios.proofs.session.new_desk.Goals as goal
+
+pub returns-clause-state : goal.returns-clause-state
+returns-clause-state g c =
+    first_state (g.C.Calculator.stored c.args.calculator.now) (record { scenarios = c.new-2.result; sessions = c.in_ok-sessions.sessions; current = 0; log = c.new-3.result })
+    c.new-2.ensures refl c.in_ok-sessions.ensures.sessions c.new-3.ensures
 
 pub returns-clause-pending : goal.returns-clause-pending
 returns-clause-pending g c = (

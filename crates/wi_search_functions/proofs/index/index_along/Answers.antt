@@ -6,8 +6,8 @@ use Rattle.wi_standard_functions.specs.Arguments.{region_of, value_at}
 use Rattle.wi_standard_functions.specs.Convert.{to_whole}
 use Rattle.wi_standard_functions.specs.Lookup.{index_along, nth_cell_along}
 use Rattle.wi_search_functions.specs.declared.halt.Halt.TheVariants.{Error}
-use Rattle.wi_search_functions.proofs.Asked.{refers_within, region_is}
-use Rattle.wi_search_functions.proofs.Chains.{along, along_number}
+use Rattle.wi_search_functions.proofs.Asked.{no_region, refers_within, region_is}
+use Rattle.wi_search_functions.proofs.Chains.{along, along_area, along_number}
 use Rattle.wi_search_functions.proofs.Endings.{ended, finds_so}
 use Rattle.wi_search_functions.proofs.index.index_along.Goals as goal
 
@@ -39,3 +39,10 @@ returns g c =
       λ cells a. along (arguments_in cells args) (region_of cells r) c.in_ok-k.k (region_is cells args 0 r (sym c.in_ok-area.ensures)) (c.in_ok-k.ensures cells a) ∙ ap (nth_cell_along (region_of cells r)) (sym same) ∙ c.in_ok-nth_cell_along.ensures.0 cells,
       refers_within args 0 r _ (sym c.in_ok-area.ensures) c.in_ok-nth_cell_along.ensures.1,
     )
+
+pub returns-in_err-area : goal.returns-in_err-area
+returns-in_err-area g c =
+    let args = c.args.arguments.now in
+    let e = c.in_err-area.field-0.0 in
+    finds_so (g.L.Lookup.known_cell c.args.lookup.now) args index_along c.from_residual.result (Error e) c.from_residual.ensures.1
+    (λ cells a. along_area (arguments_in cells args) e (no_region cells args 0 e (sym c.in_err-area.ensures)))

@@ -7,8 +7,8 @@ use Rattle.wi_standard_functions.specs.Convert.{to_whole}
 use Rattle.wi_standard_functions.specs.Lookup.{index_by_both, nth_cell}
 use Rattle.wi_values.specs.declared.value.Value.{Value}
 use Rattle.wi_search_functions.specs.declared.halt.Halt.TheVariants.{Error}
-use Rattle.wi_search_functions.proofs.Asked.{refers_within, region_is}
-use Rattle.wi_search_functions.proofs.Chains.{both, both_column, both_row}
+use Rattle.wi_search_functions.proofs.Asked.{no_region, refers_within, region_is}
+use Rattle.wi_search_functions.proofs.Chains.{both, both_area, both_column, both_row}
 use Rattle.wi_search_functions.proofs.Endings.{ended, finds_so}
 use Rattle.wi_search_functions.proofs.index.index_by_both.Goals as goal
 
@@ -56,3 +56,10 @@ returns g c =
       λ cells a. both (arguments_in cells args) (region_of cells r) c.in_ok-j.j c.in_ok-k.k (region_is cells args 0 r (sym c.in_ok-area.ensures)) (c.in_ok-j.ensures cells a) (c.in_ok-k.ensures cells a) ∙ turned (nth_cell (region_of cells r)) c.in_ok-j.j _ c.in_ok-k.k _ same_j same_k ∙ c.in_ok-nth_cell.ensures.0 cells,
       refers_within args 0 r _ (sym c.in_ok-area.ensures) c.in_ok-nth_cell.ensures.1,
     )
+
+pub returns-in_err-area : goal.returns-in_err-area
+returns-in_err-area g c =
+    let args = c.args.arguments.now in
+    let e = c.in_err-area.field-0.0 in
+    finds_so (g.L.Lookup.known_cell c.args.lookup.now) args index_by_both c.from_residual.result (Error e) c.from_residual.ensures.1
+    (λ cells a. both_area (arguments_in cells args) e (no_region cells args 0 e (sym c.in_err-area.ensures)))

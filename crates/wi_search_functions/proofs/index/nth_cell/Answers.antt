@@ -1,6 +1,7 @@
-use Rattle.std.proofs.Common.{◌≡◌, ℕ, ◌<◌, true, Ok, sym, ap, ◌∙◌, subst, ℤ, FitsSigned, rules}
+use Rattle.std.proofs.Common.{arith, ◌≡◌, ℕ, ◌<◌, true, Ok, sym, ap, ◌∙◌, subst, ℤ, FitsSigned, rules}
 use Rattle.std.proofs.lemmas.Int.{to_z-of_z}
 use Rattle.std.specs.Int.{w128}
+use Rattle.std.proofs.lemmas.Grind.{common_steps}
 use Rattle.wi_values.specs.Address.{is_within}
 use Rattle.wi_standard_functions.specs.Lookup.{place_among}
 use Rattle.wi_search_functions.specs.Inner.Lines.{height, width}
@@ -21,3 +22,9 @@ returns c =
       λ cells. nth_is cells r c.args.j c.args.k c.in_ok-row.row c.in_ok-column.column row_is column_is row_within column_within ∙ ap cells (sym c.cell_at.ensures),
       subst (λ (a : ℕ). is_within r a ≡ true) (sym c.cell_at.ensures) (nth_within r c.in_ok-row.row c.in_ok-column.column row_within column_within),
     )
+
+pub returns-in_err-row : goal.returns-in_err-row
+returns-in_err-row c = grind (arith, common_steps)
+
+pub returns-in_err-column : goal.returns-in_err-column
+returns-in_err-column c = grind (arith, common_steps)

@@ -1,7 +1,7 @@
 use Rattle.std.proofs.Common.{◌<◌, ◌*◌}
 use Rattle.std.proofs.lemmas.List.Elements.{All-push, All-same}
 use Rattle.wi_values.specs.Address.{rows, columns}
-use Rattle.wi_sessions.proofs.CellLemmas.{listed_more}
+use Rattle.wi_sessions.proofs.CellLemmas.{listed_more, listed_all}
 use Rattle.wi_sessions.proofs.cells.listed.Goals as goal
 
 pub loop-cell-preserved-in-Continue-1 : goal.loop-cell-preserved-in-Continue-1
@@ -12,3 +12,9 @@ loop-cell-preserved-in-Continue-1 c =
       within = All-same (λ a. a < rows * columns) _ _ c.in_ok-push_cell.ensures.items
           (All-push (λ a. a < rows * columns) c.loop-cell.found.items c.in-Some.cell.now c.loop-cell.invariant.within c.push_cell.ensures.within);
     }
+
+pub returns-clause-cells : goal.returns-clause-cells
+returns-clause-cells c = listed_all c.loop-cell.found.items c.loop-cell.cell-iterator c.args.rooms.now.entries c.in-None.ensures.steps.0 c.loop-cell.invariant.cells
+
+pub returns-clause-within : goal.returns-clause-within
+returns-clause-within c = c.loop-cell.invariant.within

@@ -1,68 +1,53 @@
-use Rattle.std.proofs.Common.{rules, ◌∙◌, ap, sym, subst}
+use Rattle.std.proofs.Common.{◌∙◌, refl, ap, sym, subst}
+use Rattle.std.specs.Map.{keys_of}
 use Rattle.std.specs.List.Sorted.{IsStrictlyIncreasing}
 use Rattle.std.proofs.lemmas.Map.Keys.{IsStrictlyIncreasing-from_sorted}
 use Rattle.wi_graph.specs.Edges.{AreEdgesOf, Staging}
 use Rattle.wi_graph.proofs.EdgeLemmas.{rooms_same}
 use Rattle.wi_graph.proofs.GraphEnds.{unstaged}
-use Rattle.wi_graph.proofs.TurningSteps.{edit_cone, listed_cone}
+use Rattle.wi_graph.proofs.TurningSteps.{cone_is, listed_cone}
 use Rattle.wi_graph.proofs.ChangeSteps.{staged_edges}
-use Rattle.wi_graph.proofs.StageEnds.{same_graph, staged_graph, refused_graph, refused_invariant, refused_view, staged_view}
+use Rattle.wi_graph.proofs.StageEnds.{on_err, refused_invariant, refused_view, staged_view}
 use Rattle.wi_graph.proofs.graph.Graph.stage.Goals as goal
 
-pub turns_of-requires-clause-circles : goal.turns_of-requires-clause-circles
-turns_of-requires-clause-circles c =
+pub make_ready-requires-clause-graph : goal.make_ready-requires-clause-graph
+make_ready-requires-clause-graph c =
     let g = c.self.inside in
-    (unstaged g.rooms g.readers g.circles g.staged (ap (λ (x : Staging). x.staged) c.self.view_is ∙ c.requires) c.self.invariant.0).circular
+    unstaged g.rooms g.readers g.circles g.staged (ap (λ (x : Staging). x.staged) c.self.view_is ∙ c.requires) c.self.invariant.0
 
-pub turns_of-requires-clause-cone : goal.turns_of-requires-clause-cone
-turns_of-requires-clause-cone c =
+pub make_ready-requires-clause-cone : goal.make_ready-requires-clause-cone
+make_ready-requires-clause-cone c =
     let g = c.self.inside in
     let old = unstaged g.rooms g.readers g.circles g.staged (ap (λ (x : Staging). x.staged) c.self.view_is ∙ c.requires) c.self.invariant.0 in
-    edit_cone g.rooms c.in_ok-coming.coming g.readers g.circles c.in_ok-found.found c.args.changes.now old c.in_ok-found.ensures.all c.in_ok-found.ensures.closed c.in_ok-found.ensures.least c.in_ok-coming.ensures
+    cone_is g.rooms g.readers c.in_ok-found.found (keys_of c.args.changes.now) old.ordered old.pairs c.in_ok-found.ensures.all c.in_ok-found.ensures.closed c.in_ok-found.ensures.least
 
-pub returns-in-Ok-clause-order : goal.returns-in-Ok-clause-order
-returns-in-Ok-clause-order c = subst IsStrictlyIncreasing (sym c.in_ok-cone.ensures.items) (IsStrictlyIncreasing-from_sorted c.in_ok-found.found.keys c.listed.ensures.order)
+pub returns-clause-order : goal.returns-clause-order
+returns-clause-order c = subst IsStrictlyIncreasing (sym c.in_ok-cone.ensures.items) (IsStrictlyIncreasing-from_sorted c.in_ok-found.found.keys c.listed.ensures.order)
 
-pub returns-in-Ok-clause-cells : goal.returns-in-Ok-clause-cells
-returns-in-Ok-clause-cells c =
+pub returns-clause-cells : goal.returns-clause-cells
+returns-clause-cells c =
     let g = c.self.inside in
     let old = unstaged g.rooms g.readers g.circles g.staged (ap (λ (x : Staging). x.staged) c.self.view_is ∙ c.requires) c.self.invariant.0 in
     λ s h. listed_cone g.rooms g.readers g.circles c.in_ok-found.found c.in_ok-cone.cone.items c.args.changes.now old c.in_ok-found.ensures.all c.in_ok-found.ensures.closed c.in_ok-found.ensures.least c.in_ok-cone.ensures.items s (subst (λ (x : Staging). AreEdgesOf x.now s) (sym c.self.view_is) h)
 
-pub invariant_of-self-in-Ok : goal.invariant_of-self-in-Ok
-invariant_of-self-in-Ok c =
-    let g = c.self.inside in
-    let old = unstaged g.rooms g.readers g.circles g.staged (ap (λ (x : Staging). x.staged) c.self.view_is ∙ c.requires) c.self.invariant.0 in (
-      tt,
-      staged_graph g.rooms c.bring_in.new.rooms c.in_ok-coming.coming c.in-Ok.next g.readers c.bring_in.new.readers g.circles c.bring_circles.new.circles c.in_ok-turns.turns old c.bring_in.ensures.ordered c.in-Ok.ensures.has_rooms
-          c.in-Ok.ensures.pairs c.bring_in.ensures.rooms c.in-Ok.ensures.all c.in_ok-turns.ensures (rw c.deref.ensures.value at c.in_ok-bring_circles.ensures.ok),
-    )
+pub invariant_of-self-2 : goal.invariant_of-self-2
+invariant_of-self-2 c = (tt, c.in_ok-staged.ensures.staged)
 
-pub returns-in-Ok-clause-ok : goal.returns-in-Ok-clause-ok
-returns-in-Ok-clause-ok c =
+pub returns-clause-ok : goal.returns-clause-ok
+returns-clause-ok c =
     let g = c.self.inside in
     let old = unstaged g.rooms g.readers g.circles g.staged (ap (λ (x : Staging). x.staged) c.self.view_is ∙ c.requires) c.self.invariant.0 in
-    staged_view g.rooms c.bring_in.new.rooms c.in-Ok.next g.staged c.args.self.now c.args.changes.now c.self.view_is (rooms_same g.rooms c.bring_in.new.rooms old.ordered c.bring_in.ensures.ordered c.bring_in.ensures.rooms)
-    (staged_edges g.rooms c.bring_in.new.rooms c.in_ok-coming.coming c.in-Ok.next c.args.changes.now old.ordered c.bring_in.ensures.ordered c.in_ok-coming.ensures c.bring_in.ensures.rooms c.in-Ok.ensures.all)
+    staged_view g.rooms c.make_ready.new.rooms c.in_ok-staged.staged.next g.staged c.args.self.now c.args.changes.now c.self.view_is (rooms_same g.rooms c.make_ready.new.rooms old.ordered c.make_ready.ensures.ordered c.make_ready.ensures.rooms)
+    (staged_edges g.rooms c.make_ready.new.rooms c.in_ok-staged.staged.next c.in_ok-staged.staged.next c.args.changes.now old.ordered c.make_ready.ensures.ordered c.in_ok-staged.ensures.brings c.make_ready.ensures.rooms (λ d. refl))
 
 pub invariant_of-self : goal.invariant_of-self
 invariant_of-self c =
     let g = c.self.inside in
     let none = ap (λ (x : Staging). x.staged) c.self.view_is ∙ c.requires in
-    let old = unstaged g.rooms g.readers g.circles g.staged none c.self.invariant.0 in
-    refused_invariant g.rooms g.rooms g.readers c.bring_circles.new.circles g.staged none (same_graph g.rooms g.readers g.circles c.bring_circles.new.circles old c.in_err-bring_circles.ensures.err)
+    refused_invariant g.rooms c.make_ready.new.rooms c.make_ready.new.readers c.make_ready.new.circles g.staged none c.in_err-staged.ensures.err
 
-pub invariant_of-self-in-Err : goal.invariant_of-self-in-Err
-invariant_of-self-in-Err c =
-    let g = c.self.inside in
-    let none = ap (λ (x : Staging). x.staged) c.self.view_is ∙ c.requires in
-    let old = unstaged g.rooms g.readers g.circles g.staged none c.self.invariant.0 in
-    refused_invariant g.rooms c.bring_in.new.rooms c.bring_in.new.readers c.take_away.new.set g.staged none
-    (refused_graph g.rooms c.bring_in.new.rooms g.readers c.bring_in.new.readers g.circles c.bring_circles.new.circles c.take_away.new.set c.in_ok-turns.turns.came.items c.deref-in-Err.result.now old c.bring_in.ensures.ordered
-    c.bring_in.ensures.rooms c.in-Err.ensures.err c.in_ok-turns.ensures.fresh (rw c.deref.ensures.value at c.in_ok-bring_circles.ensures.ok) (search rules) c.take_away.ensures)
-
-pub returns-clause-err : goal.returns-clause-err
-returns-clause-err c =
+pub returns-in_err-staged-clause-err : goal.returns-in_err-staged-clause-err
+returns-in_err-staged-clause-err c =
     let g = c.self.inside in
     let old = unstaged g.rooms g.readers g.circles g.staged (ap (λ (x : Staging). x.staged) c.self.view_is ∙ c.requires) c.self.invariant.0 in
-    refused_view g.rooms c.bring_in.new.rooms g.staged c.args.self.now c.self.view_is (rooms_same g.rooms c.bring_in.new.rooms old.ordered c.bring_in.ensures.ordered c.bring_in.ensures.rooms)
+    on_err c.from_residual-in_err-staged.result (refused_view g.rooms c.make_ready.new.rooms g.staged c.args.self.now c.self.view_is (rooms_same g.rooms c.make_ready.new.rooms old.ordered c.make_ready.ensures.ordered c.make_ready.ensures.rooms))

@@ -1,5 +1,4 @@
-use Rattle.std.proofs.Common.{rules}
 use Rattle.wi_parser.proofs.expr.Corners.area.Goals as goal
 
 pub returns : goal.returns
-returns c = search rules
+returns c = cc

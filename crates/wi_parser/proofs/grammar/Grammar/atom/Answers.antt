@@ -1,29 +1,19 @@
-use Rattle.std.proofs.Common.{Some, option_map, ap, ◌∙◌, sym}
-use Rattle.std.proofs.lemmas.Result.{err_from_is_err_and}
-use Rattle.wi_parser.specs.Inner.Reader.{read_then, then_close, as_call, called, atom, expression}
-use Rattle.wi_parser.specs.Tree.{parenthesized}
-use Rattle.wi_parser.specs.View.{tree_of}
-use Rattle.wi_parser.proofs.Turns.{fails_as}
+use Rattle.std.proofs.Common.{Some, ap, ◌∙◌, sym, subst}
+use Rattle.wi_parser.specs.Inner.Reader.{atom, expression}
+use Rattle.wi_parser.specs.Inner.Outcome.{Finds}
 use Rattle.wi_parser.proofs.grammar.Grammar.atom.Goals as goal
 
-pub returns-in_err-inner-in-Open-clause-finds : goal.returns-in_err-inner-in-Open-clause-finds
+pub returns-in-Open-clause-finds : goal.returns-in-Open-clause-finds
 unfolding atom
-returns-in_err-inner-in-Open-clause-finds g c =
-    let i = expression c.args.self.now.depth in
+returns-in-Open-clause-finds g c =
     let is = rw c.in-Open.is at c.in-Some.ensures in
-    let p = err_from_is_err_and c.from_residual-in_err-inner-in-Open.result c.from_residual-in_err-inner-in-Open.ensures.1 in
-    rw (p.1, p.2) (fails_as c.in_err-inner-in-Open.field-0.0 _ _
-    (λ none. ap (atom i) is ∙ ap (read_then (λ t. then_close (parenthesized t))) none)
-    c.in_err-inner-in-Open.ensures.finds)
+    subst (λ found. Finds found c.enclosed.result c.enclosed.new.symbols) (sym (ap (atom (expression c.args.self.now.depth)) is)) c.enclosed.ensures.finds
 
-pub returns-then-not-take_close-clause-finds : goal.returns-then-not-take_close-clause-finds
+pub returns-in-Name-clause-finds : goal.returns-in-Name-clause-finds
 unfolding atom
-returns-then-not-take_close-clause-finds g c =
-    let i = expression c.args.self.now.depth in
-    let is = rw c.in-Open.is at c.in-Some.ensures in
-    let inside = c.in_ok-inner-in-Open in
-    ap (atom i) is ∙ ap (read_then (λ t. then_close (parenthesized t))) inside.ensures.finds
-    ∙ ap (option_map (λ rest. (parenthesized (tree_of inside.inner), rest))) c.if-not-take_close.ensures.no.0
+returns-in-Name-clause-finds g c =
+    let is = rw c.in-Name.is at c.in-Some.ensures in
+    subst (λ found. Finds found c.called.result c.called.new.symbols) (sym (ap (atom (expression c.args.self.now.depth)) is)) c.called.ensures.finds
 
 pub returns-in-Number-clause-finds : goal.returns-in-Number-clause-finds
 unfolding atom
@@ -48,43 +38,6 @@ unfolding atom
 returns-in-Rectangle-clause-finds g c =
     let is = rw c.in-Rectangle.is at c.in-Some.ensures in
     ap (atom (expression c.args.self.now.depth)) is ∙ ap (λ t. Some (t, c.next.new.self)) (sym c.rectangle.ensures)
-
-pub returns-in_ok-parenthesized-in-Open-clause-finds : goal.returns-in_ok-parenthesized-in-Open-clause-finds
-unfolding atom
-returns-in_ok-parenthesized-in-Open-clause-finds g c =
-    let i = expression c.args.self.now.depth in
-    let is = rw c.in-Open.is at c.in-Some.ensures in
-    let inside = c.in_ok-inner-in-Open in
-    ap (atom i) is ∙ ap (read_then (λ t. then_close (parenthesized t))) inside.ensures.finds
-    ∙ ap (option_map (λ rest. (parenthesized (tree_of inside.inner), rest))) c.if-not-take_close.ensures.yes
-    ∙ ap (λ t. Some (t, c.take_close.new.self)) (sym c.in_ok-parenthesized-in-Open.ensures)
-
-pub returns-then-not-take_open-clause-finds : goal.returns-then-not-take_open-clause-finds
-unfolding atom
-returns-then-not-take_open-clause-finds g c =
-    let i = expression c.args.self.now.depth in
-    let is = rw c.in-Name.is at c.in-Some.ensures in
-    ap (atom i) is ∙ ap (called i c.in-Name.name) c.if-not-take_open.ensures.no.0
-
-pub returns-in_err-parameters-in-Name-clause-finds : goal.returns-in_err-parameters-in-Name-clause-finds
-unfolding atom
-returns-in_err-parameters-in-Name-clause-finds g c =
-    let i = expression c.args.self.now.depth in
-    let f = c.in-Name.name in
-    let is = rw c.in-Name.is at c.in-Some.ensures in
-    let p = err_from_is_err_and c.from_residual-in_err-parameters-in-Name.result c.from_residual-in_err-parameters-in-Name.ensures.1 in
-    rw (p.1, p.2) (fails_as c.in_err-parameters-in-Name.field-0.0 _ _
-    (λ none. ap (atom i) is ∙ ap (called i f) c.if-not-take_open.ensures.yes ∙ ap (as_call f) none)
-    c.in_err-parameters-in-Name.ensures.finds)
-
-pub returns-in_ok-call-in-Name-clause-finds : goal.returns-in_ok-call-in-Name-clause-finds
-unfolding atom
-returns-in_ok-call-in-Name-clause-finds g c =
-    let i = expression c.args.self.now.depth in
-    let f = c.in-Name.name in
-    let is = rw c.in-Name.is at c.in-Some.ensures in
-    ap (atom i) is ∙ ap (called i f) c.if-not-take_open.ensures.yes ∙ ap (as_call f) c.in_ok-parameters-in-Name.ensures.finds
-    ∙ ap (λ t. Some (t, c.parameters.new.symbols)) (sym c.in_ok-call-in-Name.ensures)
 
 pub returns-in-Close-clause-finds : goal.returns-in-Close-clause-finds
 unfolding atom

@@ -1,7 +1,9 @@
-use Rattle.std.proofs.Common.{ap}
+use Rattle.std.proofs.Common.{arith, Some, ap, sym, ◌∙◌}
 use Rattle.std.proofs.lemmas.Result.{err_from_is_err_and}
 use Rattle.wi_parser.specs.Inner.Reader.{read_then, percents, line}
-use Rattle.wi_parser.proofs.Turns.{fails_as}
+use Rattle.wi_parser.specs.View.{tree_of}
+use Rattle.wi_parser.proofs.Marks.{percent-length}
+use Rattle.wi_parser.proofs.Turns.{fails_as, percents_stop, percents_more}
 use Rattle.wi_parser.proofs.grammar.Grammar.percents.Goals as goal
 
 pub returns-in_err-operand-clause-finds : goal.returns-in_err-operand-clause-finds
@@ -13,3 +15,17 @@ returns-in_err-operand-clause-finds g c =
 pub loop-operand-init : goal.loop-operand-init
 unfolding line
 loop-operand-init g c = (ap (read_then percents) c.in_ok-operand.ensures.finds, c.in_ok-operand.ensures.shorter)
+
+pub loop-operand-preserved : goal.loop-operand-preserved
+loop-operand-preserved g c =
+    let l = c.loop-operand in
+    let new = c.take_percent.new.self in
+    let taken = c.loop-operand-test.ensures.yes in
+    let short = percent-length l.symbols new taken in
+    (l.invariant.0 ∙ percents_more (tree_of l.operand) l.symbols new taken ∙ ap (λ t. percents t new) (sym c.in_ok-operand-2.ensures), omega arith)
+
+pub returns-clause-finds : goal.returns-clause-finds
+returns-clause-finds g c =
+    let l = c.loop-operand in
+    let none = c.loop-operand-test.ensures.no in
+    l.invariant.0 ∙ percents_stop (tree_of l.operand) l.symbols none.0 ∙ ap (λ ws. Some (tree_of l.operand, ws)) (sym none.1)

@@ -1,4 +1,5 @@
-use Rattle.std.proofs.Common.{◌≡◌, ◌≤◌, ◌-◌, ◌⊎◌, ◌||◌, ◌∙◌, ℕ, false, List, length, Some, IfSome, OnOk, is_some, ap, sym, subst, rules}
+use Rattle.std.proofs.Common.{◌≡◌, ◌≤◌, ◌-◌, ◌+◌, ◌⊎◌, ◌||◌, ◌∙◌, ℕ, false, List, length, Some, IfSome, OnOk, is_some, ap, sym, subst}
+use Rattle.std.proofs.lemmas.Result.{IfOk-weaker}
 use Rattle.std.specs.Option.{option_or}
 use Rattle.wi_values.specs.declared.replacement.Replacement.{Replacement}
 use Rattle.wi_parser.specs.Sheet.{put_all}
@@ -11,19 +12,24 @@ use Rattle.wi_engine.specs.Inner.Saving.{TakesPlaces, GivesUpWhenFull}
 use Rattle.wi_propagate.specs.Inner.Keeping.{Keeping, keeping, state_in}
 use Rattle.wi_propagate.specs.KeptSheet.{generation_in, key_in}
 use Rattle.wi_propagate.proofs.KeptSteps.{found_is_kept}
-use Rattle.wi_propagate.proofs.KeepingSteps.{KeepsIn, right_after, put_found, found_after, kept_after, known_after, gives_up_after}
+use Rattle.wi_propagate.proofs.KeepingSteps.{KeepsIn, right_after, found_after, kept_after, there_after, room_after, known_after, gives_up_after}
 use Rattle.wi_propagate.proofs.PlacesTaken.{one_place_after}
 use Rattle.wi_propagate.proofs.keeping.KeepingMemo.keep.Goals as goal
 
 pub returns-clause-there : goal.returns-clause-there
-returns-clause-there c = search rules
+returns-clause-there c =
+    let i = c.self.inside in
+    let found = c.keep.ensures.found in
+    let generation : c.args.key.generation ≡ generation_in i.generations.now.entries c.args.key.cell = c.requires.generation ∙ ap (λ (q : Keeping). generation_in q.generations c.args.key.cell) (sym c.self.view_is) in
+    let there = there_after c.keep.result i.generations.now.entries c.keep.new.self c.args.key c.args.value generation (search found) in
+    IfOk-weaker c.keep.result _ _ (λ v h l. h) there
 
 pub invariant_of-self-2 : goal.invariant_of-self-2
 invariant_of-self-2 c =
     let i = c.self.inside in
     let h = c.self.invariant in
-    let e = c.keep-2.ensures in
-    let keeps : KeepsIn c.keep-2.result i.kept c.keep-2.new.self c.args.key c.args.value = record { found = e.found; stays = e.stays; goes = e.one_goes; len = e.len; capacity = e.capacity; err = e.err } in
+    let e = c.keep.ensures in
+    let keeps : KeepsIn c.keep.result i.kept c.keep.new.self c.args.key c.args.value = record { found = e.found; stays = e.stays; goes = e.one_goes; len = e.len; capacity = e.capacity; err = e.err } in
     let generation : c.args.key.generation ≡ generation_in i.generations.now.entries c.args.key.cell = c.requires.generation ∙ ap (λ (q : Keeping). generation_in q.generations c.args.key.cell) (sym c.self.view_is) in
     let leaf : circular i.store.now.sheet c.args.key.cell ≡ false = ap (λ (q : Keeping). circular q.sheet c.args.key.cell) c.self.view_is ∙ c.requires.open_cell in
     let right : c.args.value ≡ cell_value (put_all i.store.now.sheet c.args.key.world) c.args.key.cell = c.requires.right ∙ ap (λ (q : Keeping). cell_value (put_all q.sheet c.args.key.world) c.args.key.cell) (sym c.self.view_is) in
@@ -33,53 +39,72 @@ invariant_of-self-2 c =
       h.2,
       record {
         past = h.3.past;
-        right = right_after c.keep-2.result i.store.now.sheet i.store.now.edits (generation_in i.generations.now.entries) i.kept c.keep-2.new.self c.args.key c.args.value keeps new h.3.right;
+        right = right_after c.keep.result i.store.now.sheet i.store.now.edits (generation_in i.generations.now.entries) i.kept c.keep.new.self c.args.key c.args.value keeps new h.3.right;
       },
     )
 
 pub returns-clause-known : goal.returns-clause-known
 returns-clause-known c =
     let i = c.self.inside in
-    let e = c.keep-2.ensures in
-    let keeps : KeepsIn c.keep-2.result i.kept c.keep-2.new.self c.args.key c.args.value = record { found = e.found; stays = e.stays; goes = e.one_goes; len = e.len; capacity = e.capacity; err = e.err } in
-    let puts : Puts i.table c.keep.new.self c.args.key c.args.value = put_found i.table c.keep.new.self c.in_ok-again.again c.args.key c.in_ok-shown.shown c.args.value c.in_ok-again.ensures c.in_ok-shown.ensures c.in_ok-keep.ensures.ok in
-    subst (λ (q : Keeping). (d : ℕ) (w : List Replacement) → IfSome (option_or (value_for c.keep.new.self (key_in i.generations.now.entries d w)) (value_for c.keep-2.new.self.entries (key_in i.generations.now.entries d w)))
+    let e = c.keep.ensures in
+    let keeps : KeepsIn c.keep.result i.kept c.keep.new.self c.args.key c.args.value = record { found = e.found; stays = e.stays; goes = e.one_goes; len = e.len; capacity = e.capacity; err = e.err } in
+    let puts : Puts i.table c.keep_copy.new.table c.args.key c.args.value = c.in_ok-keep_copy.ensures.ok in
+    subst (λ (q : Keeping). (d : ℕ) (w : List Replacement) → IfSome (option_or (value_for c.keep_copy.new.table (key_in i.generations.now.entries d w)) (value_for c.keep.new.self.entries (key_in i.generations.now.entries d w)))
     (λ x. (option_or (value_for q.found (key_in q.generations d w)) (value_for q.values.entries (key_in q.generations d w)) ≡ Some x) ⊎ ((d ≡ c.args.key.cell) × (w ≡ c.args.key.world) × (x ≡ c.args.value)))) c.self.view_is
-    (known_after c.keep-2.result i.generations.now.entries i.table c.keep.new.self i.kept c.keep-2.new.self c.args.key c.args.value puts keeps)
+    (known_after c.keep.result i.generations.now.entries i.table c.keep_copy.new.table i.kept c.keep.new.self c.args.key c.args.value puts keeps)
 
 pub returns-clause-found : goal.returns-clause-found
 returns-clause-found c =
     let i = c.self.inside in
     let generation : c.args.key.generation ≡ generation_in i.generations.now.entries c.args.key.cell = c.requires.generation ∙ ap (λ (q : Keeping). generation_in q.generations c.args.key.cell) (sym c.self.view_is) in
-    let puts : Puts i.table c.keep.new.self c.args.key c.args.value = put_found i.table c.keep.new.self c.in_ok-again.again c.args.key c.in_ok-shown.shown c.args.value c.in_ok-again.ensures c.in_ok-shown.ensures c.in_ok-keep.ensures.ok in
-    subst (λ (q : Keeping). OnOk c.keep-2.result ((d : ℕ) (w : List Replacement) → is_some (value_for c.keep.new.self (key_in i.generations.now.entries d w)) ≡ (is_some (value_for q.found (key_in q.generations d w)) || same_case (c.args.key.cell, c.args.key.world) (d, w)))) c.self.view_is
-    (found_after c.keep-2.result i.generations.now.entries i.table c.keep.new.self c.args.key c.args.value generation puts)
+    let puts : Puts i.table c.keep_copy.new.table c.args.key c.args.value = c.in_ok-keep_copy.ensures.ok in
+    subst (λ (q : Keeping). OnOk c.keep.result ((d : ℕ) (w : List Replacement) → is_some (value_for c.keep_copy.new.table (key_in i.generations.now.entries d w)) ≡ (is_some (value_for q.found (key_in q.generations d w)) || same_case (c.args.key.cell, c.args.key.world) (d, w)))) c.self.view_is
+    (found_after c.keep.result i.generations.now.entries i.table c.keep_copy.new.table c.args.key c.args.value generation puts)
 
 pub returns-clause-kept : goal.returns-clause-kept
 returns-clause-kept c =
     let i = c.self.inside in
-    let e = c.keep-2.ensures in
-    let keeps : KeepsIn c.keep-2.result i.kept c.keep-2.new.self c.args.key c.args.value = record { found = e.found; stays = e.stays; goes = e.one_goes; len = e.len; capacity = e.capacity; err = e.err } in
+    let e = c.keep.ensures in
+    let keeps : KeepsIn c.keep.result i.kept c.keep.new.self c.args.key c.args.value = record { found = e.found; stays = e.stays; goes = e.one_goes; len = e.len; capacity = e.capacity; err = e.err } in
     let generation : c.args.key.generation ≡ generation_in i.generations.now.entries c.args.key.cell = c.requires.generation ∙ ap (λ (q : Keeping). generation_in q.generations c.args.key.cell) (sym c.self.view_is) in
-    subst (λ (q : Keeping). OnOk c.keep-2.result (1 ≤ q.values.capacity - length q.values.entries → (d : ℕ) (w : List Replacement) → is_some (value_for c.keep-2.new.self.entries (key_in i.generations.now.entries d w)) ≡ (is_some (value_for q.values.entries (key_in q.generations d w)) || same_case (c.args.key.cell, c.args.key.world) (d, w)))) c.self.view_is
-    (kept_after c.keep-2.result i.generations.now.entries i.kept c.keep-2.new.self c.args.key c.args.value keeps generation)
+    subst (λ (q : Keeping). OnOk c.keep.result (1 ≤ q.values.capacity - length q.values.entries → (d : ℕ) (w : List Replacement) → is_some (value_for c.keep.new.self.entries (key_in i.generations.now.entries d w)) ≡ (is_some (value_for q.values.entries (key_in q.generations d w)) || same_case (c.args.key.cell, c.args.key.world) (d, w)))) c.self.view_is
+    (kept_after c.keep.result i.generations.now.entries i.kept c.keep.new.self c.args.key c.args.value keeps generation)
 
 pub returns-clause-gives_up : goal.returns-clause-gives_up
 returns-clause-gives_up c =
     let i = c.self.inside in
     let s = i.store.now in
     let gs = i.generations.now.entries in
-    let e = c.keep-2.ensures in
-    let keeps : KeepsIn c.keep-2.result i.kept c.keep-2.new.self c.args.key c.args.value = record { found = e.found; stays = e.stays; goes = e.one_goes; len = e.len; capacity = e.capacity; err = e.err } in
-    subst (λ (q : Keeping). GivesUpWhenFull (state_in q) (state_in (keeping s.sheet s.edits gs c.keep.new.self c.keep-2.new.self))) c.self.view_is
-    (gives_up_after c.keep-2.result s.sheet s.edits gs i.table c.keep.new.self i.kept c.keep-2.new.self c.args.key c.args.value keeps)
+    let e = c.keep.ensures in
+    let keeps : KeepsIn c.keep.result i.kept c.keep.new.self c.args.key c.args.value = record { found = e.found; stays = e.stays; goes = e.one_goes; len = e.len; capacity = e.capacity; err = e.err } in
+    subst (λ (q : Keeping). GivesUpWhenFull (state_in q) (state_in (keeping s.sheet s.edits gs c.keep_copy.new.table c.keep.new.self))) c.self.view_is
+    (gives_up_after c.keep.result s.sheet s.edits gs i.table c.keep_copy.new.table i.kept c.keep.new.self c.args.key c.args.value keeps)
 
 pub returns-clause-one_place : goal.returns-clause-one_place
 returns-clause-one_place c =
     let i = c.self.inside in
     let s = i.store.now in
     let gs = i.generations.now.entries in
-    let e = c.keep-2.ensures in
-    let keeps : KeepsIn c.keep-2.result i.kept c.keep-2.new.self c.args.key c.args.value = record { found = e.found; stays = e.stays; goes = e.one_goes; len = e.len; capacity = e.capacity; err = e.err } in
-    subst (λ (q : Keeping). TakesPlaces (state_in q) (state_in (keeping s.sheet s.edits gs c.keep.new.self c.keep-2.new.self)) 0 1) c.self.view_is
-    (one_place_after c.keep-2.result s.sheet s.edits gs i.table c.keep.new.self i.kept c.keep-2.new.self c.args.key c.args.value keeps)
+    let e = c.keep.ensures in
+    let keeps : KeepsIn c.keep.result i.kept c.keep.new.self c.args.key c.args.value = record { found = e.found; stays = e.stays; goes = e.one_goes; len = e.len; capacity = e.capacity; err = e.err } in
+    subst (λ (q : Keeping). TakesPlaces (state_in q) (state_in (keeping s.sheet s.edits gs c.keep_copy.new.table c.keep.new.self)) 0 1) c.self.view_is
+    (one_place_after c.keep.result s.sheet s.edits gs i.table c.keep_copy.new.table i.kept c.keep.new.self c.args.key c.args.value keeps)
+
+pub returns-clause-same_sheet : goal.returns-clause-same_sheet
+returns-clause-same_sheet c = ap (λ (q : Keeping). q.sheet) c.self.view_is
+
+pub returns-clause-same_latest : goal.returns-clause-same_latest
+returns-clause-same_latest c = ap (λ (q : Keeping). q.edits) c.self.view_is
+
+pub returns-clause-same_capacity : goal.returns-clause-same_capacity
+returns-clause-same_capacity c = c.keep.ensures.capacity ∙ ap (λ (q : Keeping). q.values.capacity) c.self.view_is
+
+pub returns-clause-room : goal.returns-clause-room
+returns-clause-room c =
+    let i = c.self.inside in
+    let e = c.keep.ensures in
+    let keeps : KeepsIn c.keep.result i.kept c.keep.new.self c.args.key c.args.value = record { found = e.found; stays = e.stays; goes = e.one_goes; len = e.len; capacity = e.capacity; err = e.err } in
+    let generation : c.args.key.generation ≡ generation_in i.generations.now.entries c.args.key.cell = c.requires.generation ∙ ap (λ (q : Keeping). generation_in q.generations c.args.key.cell) (sym c.self.view_is) in
+    let room = c.keep.new.self.capacity - length c.keep.new.self.entries in
+    subst (λ (q : Keeping). OnOk c.keep.result (is_some (value_for q.values.entries (key_in q.generations c.args.key.cell c.args.key.world)) ≡ false → 1 ≤ q.values.capacity - length q.values.entries → room + 1 ≡ q.values.capacity - length q.values.entries)) c.self.view_is
+    (room_after c.keep.result i.generations.now.entries i.kept c.keep.new.self c.args.key c.args.value keeps generation)

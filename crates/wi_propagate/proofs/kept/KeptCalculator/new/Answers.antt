@@ -1,5 +1,4 @@
-use Rattle.std.proofs.Common.{rules}
 use Rattle.wi_propagate.proofs.kept.KeptCalculator.new.Goals as goal
 
 pub returns-clause-values : goal.returns-clause-values
-returns-clause-values c = search rules
+returns-clause-values c = c.in_ok-kept.ensures

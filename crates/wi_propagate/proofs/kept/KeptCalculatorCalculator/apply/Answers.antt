@@ -1,11 +1,11 @@
-use Rattle.std.proofs.Common.{rules, ◌≡◌, if◌then◌else◌, ◌∙◌, ℕ, List, Option, Some, None, Ok, IfSome, ap, sym, subst}
+use Rattle.std.proofs.Common.{rules, ◌≡◌, if◌then◌else◌, ◌∙◌, ℕ, Bool, List, Option, Some, None, Ok, IfSome, ap, sym, subst}
 use Rattle.std.specs.Map.{keys_of}
 use Rattle.std.specs.Option.{unwrap_or}
 use Rattle.wi_parser.specs.declared.content.Content.{Content}
 use Rattle.wi_store.specs.Store.{applied}
 use Rattle.wi_graph.specs.Reach.{is_one_of, in_cone}
 use Rattle.wi_graph.specs.Edges.{AreEdgesOf, Staging, staging, edges_after}
-use Rattle.wi_propagate.specs.KeptSheet.{generation_in}
+use Rattle.wi_propagate.specs.KeptSheet.{KeptSheet, generation_in}
 use Rattle.wi_propagate.proofs.Editing.{edges_applied, right_over_edit}
 use Rattle.wi_propagate.proofs.kept.KeptCalculatorCalculator.apply.Goals as goal
 
@@ -34,10 +34,22 @@ pub raise-requires : goal.raise-requires
 raise-requires c = search rules
 
 pub returns-in-Ok-clause-generations : goal.returns-in-Ok-clause-generations
-returns-in-Ok-clause-generations c = search rules
+returns-in-Ok-clause-generations c =
+    let i = c.self.inside in
+    let ch = c.args.changes.items in
+    let new = c.edits.result in
+    let old : ℕ → ℕ = generation_in i.generations.entries in
+    let cone : (d : ℕ) → is_one_of c.in_ok-cone.cone.items d ≡ in_cone i.store.sheet (keys_of ch) d =
+    λ d. c.in_ok-cone.ensures.cells i.store.sheet c.self.invariant.1 d ∙ ap (λ (xs : List (ℕ × Option Content)). in_cone i.store.sheet (keys_of xs) d) c.deref.ensures.value in
+    subst (λ (k : KeptSheet). (d : ℕ) → generation_in c.raise.new.generations.entries d ≡ (if in_cone k.stored.sheet (keys_of ch) d then c.edit.new.store.edits else generation_in k.generations d)) c.self.view_is
+    (λ d. c.raise.ensures d ∙ ap (λ (xs : List ℕ). if is_one_of xs d then new else generation_in c.edit.new.generations.entries d) c.deref-in-Ok.ensures.value
+    ∙ ap (λ (b : Bool). if b then new else generation_in c.edit.new.generations.entries d) (cone d)
+    ∙ ap (λ (n : ℕ). if in_cone i.store.sheet (keys_of ch) d then new else n) (c.edit.ensures.same d)
+    ∙ ap (λ (n : ℕ). if in_cone i.store.sheet (keys_of ch) d then n else old d) c.edits.ensures)
 
 pub returns-clause-same_generations : goal.returns-clause-same_generations
-returns-clause-same_generations c = search rules
+returns-clause-same_generations c =
+    subst (λ (k : KeptSheet). (d : ℕ) → generation_in c.edit.new.generations.entries d ≡ generation_in k.generations d) c.self.view_is c.edit.ensures.same
 
 pub invariant_of-self-in-Err : goal.invariant_of-self-in-Err
 invariant_of-self-in-Err c = search rules

@@ -1,4 +1,4 @@
-use Rattle.std.proofs.Common.{◌≡◌, ◌≤◌, ◌+◌, ◌∙◌, IfOk, OnOk, false, true, length, sum_by, refl, ap, sym, subst, rules}
+use Rattle.std.proofs.Common.{◌≡◌, ◌≤◌, ◌+◌, ◌∙◌, IfOk, OnOk, false, true, length, sum_by, refl, ap, sym, subst}
 use Rattle.std.proofs.lemmas.Result.{IfOk-weaker}
 use Rattle.wi_parser.specs.Sheet.{Sheet}
 use Rattle.wi_graph.specs.Circular.{circular}
@@ -16,10 +16,14 @@ use Rattle.wi_propagate.proofs.Questions.{begun_is, begun_right, begun_within, b
 use Rattle.wi_propagate.proofs.kept.KeptCalculatorCalculator.value.Goals as goal
 
 pub returns-clause-evaluations_never_fall : goal.returns-clause-evaluations_never_fall
-returns-clause-evaluations_never_fall c = search rules
+returns-clause-evaluations_never_fall c =
+    let counts = c.value_under-result.ensures.counts.0 in
+    subst (λ (x : KeptSheet). x.counts.evaluations ≤ c.value_under-result.new.meter.evaluations) c.self.view_is (search counts)
 
 pub returns-clause-restarts_never_fall : goal.returns-clause-restarts_never_fall
-returns-clause-restarts_never_fall c = search rules
+returns-clause-restarts_never_fall c =
+    let counts = c.value_under-result.ensures.counts.1 in
+    subst (λ (x : KeptSheet). x.counts.restarts ≤ c.value_under-result.new.meter.restarts) c.self.view_is (search counts)
 
 pub returns-then-is_circular-clause-value : goal.returns-then-is_circular-clause-value
 returns-then-is_circular-clause-value c =
@@ -73,8 +77,8 @@ returns-clause-evaluations c =
     let has = has_case k c.new-memo.result c.in_ok-world.world c.args.put.now c.args.at q o same in
     let closed = different_closed i.store.sheet (case_of i.store.sheet c.args.put.now c.args.at) in
     let Has = HasCase i.store.sheet c.in_ok-world.world c.args.at in
-    let counted = asked_evaluations k c.new-memo.result q Has cases closed has in
-    subst (λ (x : KeptSheet). c.value_under-result.new.meter.evaluations ≤ x.counts.evaluations + length (demanded x.stored.sheet c.args.put.now c.args.at)) c.self.view_is (search (rules, counted))
+    subst (λ (x : KeptSheet). c.value_under-result.new.meter.evaluations ≤ x.counts.evaluations + length (demanded x.stored.sheet c.args.put.now c.args.at)) c.self.view_is
+    (asked_evaluations k c.new-memo.result q Has cases closed has i.meter.evaluations c.value_under-result.new.meter.evaluations c.value_under-result.ensures.evaluations)
 
 pub returns-clause-restarts : goal.returns-clause-restarts
 returns-clause-restarts c =
@@ -192,3 +196,12 @@ returns-clause-same_room c =
     let q : c.new-memo.result ≡ begun k = begun_is i.store i.generations.entries i.kept i.meter _ c.new-memo.result c.new-memo.ensures.value c.in-Some.ensures.value in
     subst (λ (x : KeptSheet). c.into_parts-kept.result.0.capacity ≡ x.values.capacity) c.self.view_is
     (ap (λ (v : KeptValues). v.capacity) c.into_parts-kept.ensures.kept ∙ c.value_under-result.ensures.same_capacity ∙ ap (λ (x : Keeping). x.values.capacity) q)
+
+pub returns-clause-same : goal.returns-clause-same
+returns-clause-same c = ap (λ (x : KeptSheet). x.stored) c.self.view_is
+
+pub returns-clause-same_generations : goal.returns-clause-same_generations
+returns-clause-same_generations c = ap (λ (x : KeptSheet). x.generations) c.self.view_is
+
+pub new-memo-requires-clause-cones : goal.new-memo-requires-clause-cones
+new-memo-requires-clause-cones c = c.take_cones-cones.ensures c.self.inside.store.sheet c.self.invariant.4

@@ -213,3 +213,18 @@ returns-clause-same_room c =
     let q : c.new-memo.result ≡ begun k = begun_is i.store i.generations.entries i.kept i.meter _ c.new-memo.result c.new-memo.ensures.value c.in-Some.ensures.value in
     subst (λ (x : KeptSheet). c.into_parts-kept.result.0.capacity ≡ x.values.capacity) c.self.view_is
     (ap (λ (v : KeptValues). v.capacity) c.into_parts-kept.ensures.kept ∙ c.open_entry-result.ensures.same_capacity ∙ ap (λ (x : Keeping). x.values.capacity) q)
+
+pub returns-clause-same : goal.returns-clause-same
+returns-clause-same c = ap (λ (x : KeptSheet). x.stored) c.self.view_is
+
+pub returns-clause-same_generations : goal.returns-clause-same_generations
+returns-clause-same_generations c = ap (λ (x : KeptSheet). x.generations) c.self.view_is
+
+pub new-memo-requires-clause-cones : goal.new-memo-requires-clause-cones
+new-memo-requires-clause-cones c = c.take_cones-cones.ensures c.self.inside.store.sheet c.self.invariant.4
+
+pub returns-clause-evaluations_never_fall : goal.returns-clause-evaluations_never_fall
+returns-clause-evaluations_never_fall c = subst (λ (x : KeptSheet). x.counts.evaluations ≤ c.open_entry-result.new.meter.evaluations) c.self.view_is c.open_entry-result.ensures.counts.0
+
+pub returns-clause-restarts_never_fall : goal.returns-clause-restarts_never_fall
+returns-clause-restarts_never_fall c = subst (λ (x : KeptSheet). x.counts.restarts ≤ c.open_entry-result.new.meter.restarts) c.self.view_is c.open_entry-result.ensures.counts.1

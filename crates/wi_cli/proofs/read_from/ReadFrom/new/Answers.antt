@@ -1,5 +1,0 @@
-use Rattle.std.proofs.Common.{rules}
-use Rattle.wi_cli.proofs.read_from.ReadFrom.new.Goals as goal
-
-pub returns-clause-left : goal.returns-clause-left
-returns-clause-left g c = search rules

@@ -1,0 +1,5 @@
+use Rattle.std.proofs.Common.{rules}
+use Rattle.wi_parser.proofs.formula.Parts.copy.Goals as goal
+
+pub returns-clause-rectangles : goal.returns-clause-rectangles
+returns-clause-rectangles c = search rules

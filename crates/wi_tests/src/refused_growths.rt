@@ -1,0 +1,247 @@
+//! Where memory is refused all is as it was. With memory enough the calls succeed.
+
+use crate::keys::{is_logical, keep, keep_in_table, look, look_in_table};
+use crate::stores::expect_counts;
+use std::alloc::{AllocError, Global};
+use std::process::Abort;
+use wi_cache::{Kept, RunTable};
+use wi_csv::{CsvFault, push_record, records};
+use wi_parser::Content;
+use wi_ranges::RangeIndex;
+use wi_store::{Limits, Store, StoreFault};
+use wi_values::{Address, Rect, Replacement, Text, Value};
+use wi_worlds::World;
+
+// What stands before a record.
+fn before(alloc: Global) -> Result<Vec<u8>, AllocError> {
+    Vec::from_slice(alloc, b"before")
+}
+
+// A record was appended, or what stood before is all.
+fn is_right(was_pushed: bool, text: &[u8]) -> bool {
+    if was_pushed {
+        text.len() == 43
+    } else {
+        text == b"before".as_slice()
+    }
+}
+
+fn count_records(alloc: Global) -> Result<usize, CsvFault> {
+    Ok(records(alloc, b"1,2\n3\n")?.len())
+}
+
+#[test]
+fn of_records(rt: HostRuntime) {
+    if let Ok(mut text) = before(rt.alloc()) {
+        let was_pushed = push_record(&["a long field", "another long field"], &mut text).is_ok();
+        assert!(rt; is_right(was_pushed, &text));
+    }
+    match count_records(rt.alloc()) {
+        Ok(count) => assert!(rt; count == 2),
+        Err(fault) => assert!(rt; fault == CsvFault::Memory),
+    }
+}
+
+type Changes = Vec<(Address, Option<Content>)>;
+
+fn has(store: &Store, at: Address, sign: bool) -> bool {
+    match store.get(at) {
+        Some(Content::Constant(value)) => is_logical(Some(value), sign),
+        _ => false,
+    }
+}
+
+// An edit that empties A1 and fills forty other cells, which needs memory more than once.
+fn forty(alloc: Global) -> Result<Changes, AllocError> {
+    let mut forty = Vec::new(alloc);
+    forty.push((Address::at(0, 0), None))?;
+    for row in 1..41 {
+        let content = Content::Constant(Value::Logical(false));
+        forty.push((Address::at(row, 0), Some(content)))?;
+    }
+    Ok(forty)
+}
+
+// An edit that puts TRUE into A1.
+fn one(alloc: Global) -> Result<Changes, AllocError> {
+    let mut one = Vec::new(alloc);
+    let content = Content::Constant(Value::Logical(true));
+    one.push((Address::at(0, 0), Some(content)))?;
+    Ok(one)
+}
+
+// A store with TRUE in A1.
+fn store_of_one(alloc: Global) -> Result<Store, StoreFault> {
+    let one = one(alloc)?;
+    let mut store = Store::new(alloc, Limits::standard());
+    store.apply(one)?;
+    Ok(store)
+}
+
+fn apply_forty(alloc: Global, store: &mut Store) -> Result<(), StoreFault> {
+    store.apply(forty(alloc)?)
+}
+
+fn expect_forty(rt: &impl Abort, store: &Store) {
+    expect_counts(rt, store, 40, 2);
+    assert!(rt; store.get(Address::at(0, 0)).is_none());
+}
+
+fn expect_one(rt: &impl Abort, store: &Store) {
+    expect_counts(rt, store, 1, 1);
+    assert!(rt; has(store, Address::at(0, 0), true));
+    for row in 1..41 {
+        assert!(rt; store.get(Address::at(row, 0)).is_none());
+    }
+}
+
+#[test]
+fn of_stores(rt: HostRuntime) {
+    let Ok(mut store) = store_of_one(rt.alloc()) else {
+        return;
+    };
+    match apply_forty(rt.alloc(), &mut store) {
+        Ok(()) => expect_forty(&rt, &store),
+        Err(refusal) => {
+            assert!(rt; refusal == StoreFault::Memory);
+            expect_one(&rt, &store);
+        }
+    }
+}
+
+// An index with the pair of A1:A10 and C1.
+fn index_of_one(alloc: Global) -> Result<RangeIndex, AllocError> {
+    let area = Rect::new(Address::at(0, 0), Address::at(9, 0));
+    let reader = Address::at(0, 2);
+    let mut index = RangeIndex::new(alloc);
+    index.add(area, reader)?;
+    Ok(index)
+}
+
+// So many readers are listed, where there is memory for the list.
+fn expect_readers(rt: &impl Abort, index: &RangeIndex, at: Address, wanted: usize) {
+    if let Ok(readers) = index.readers_of(at) {
+        assert!(rt; readers.len() == wanted);
+    }
+}
+
+// A pair of 38 blocks is added to an index of one, and once again.
+fn expect_added(rt: &impl Abort, index: &mut RangeIndex) {
+    let (top, bottom) = (Address::at(1, 0), Address::at(1_048_574, 0));
+    let reader = Address::at(0, 3);
+    let added = index.add(Rect::new(top, bottom), reader).is_ok();
+    let added_again = index.add(Rect::new(top, bottom), reader).is_ok();
+    let times = u64::from(added) + u64::from(added_again);
+    assert!(rt; index.pieces() == 2 + 38 * times);
+    expect_readers(rt, index, bottom, usize::from(times > 0));
+    expect_readers(rt, index, top, 1 + usize::from(times > 0));
+}
+
+#[test]
+fn of_the_range_index(rt: HostRuntime) {
+    let Ok(mut index) = index_of_one(rt.alloc()) else {
+        return;
+    };
+    expect_added(&rt, &mut index);
+    drop(index);
+}
+
+// A list of two that has one value.
+fn list_of_one(alloc: Global) -> Result<Kept, AllocError> {
+    let mut kept = Kept::new(alloc, 2)?;
+    keep(alloc, &mut kept, Address::at(0, 0), Value::Logical(true))?;
+    Ok(kept)
+}
+
+// One more value is kept in a list of one, or only that one is there.
+fn expect_second(rt: &impl Abort, alloc: Global, kept: &mut Kept) {
+    let (first, second) = (Address::at(0, 0), Address::at(0, 1));
+    let added = keep(alloc, kept, second, Value::Empty).is_ok();
+    let has_first = is_logical(look(alloc, kept, first), true);
+    let has_second = look(alloc, kept, second).is_some();
+    assert!(rt; kept.len() == 1 + usize::from(added));
+    assert!(rt; has_first && has_second == added);
+}
+
+#[test]
+fn of_kept_values(rt: HostRuntime) {
+    let Ok(mut kept) = list_of_one(rt.alloc()) else {
+        return;
+    };
+    expect_second(&rt, rt.alloc(), &mut kept);
+    drop(kept);
+}
+
+// Nineteen more values are kept, each of which is found if it was kept.
+fn expect_more(rt: &impl Abort, alloc: Global, table: &mut RunTable) {
+    for column in 1..20 {
+        let cell = Address::at(0, column);
+        let added = keep_in_table(alloc, table, cell, Value::Empty).is_ok();
+        let is_found = matches!(look_in_table(alloc, table, cell), Some(Value::Empty));
+        assert!(rt; is_found == added);
+    }
+}
+
+#[test]
+fn of_run_tables(rt: HostRuntime) {
+    let mut table = RunTable::new(rt.alloc());
+    let first = Address::at(0, 0);
+    let added = keep_in_table(rt.alloc(), &mut table, first, Value::Logical(true)).is_ok();
+    expect_more(&rt, rt.alloc(), &mut table);
+    let is_found = is_logical(look_in_table(rt.alloc(), &table, first), true);
+    drop(table);
+    assert!(rt; is_found == added);
+}
+
+// A world in which A2 is TRUE and C3 is emptied.
+fn old(alloc: Global) -> Result<World, AllocError> {
+    World::new(alloc).with(&[
+        Replacement {
+            at: Address::at(2, 2),
+            value: Value::Empty,
+        },
+        Replacement {
+            at: Address::at(1, 0),
+            value: Value::Logical(true),
+        },
+    ])
+}
+
+// In C3 a text then, and A1 emptied.
+fn newer(alloc: Global, world: &World) -> Result<World, AllocError> {
+    let three = Value::Text(Text::from_str(alloc, "three")?);
+    world.with(&[
+        Replacement {
+            at: Address::at(2, 2),
+            value: three,
+        },
+        Replacement {
+            at: Address::at(0, 0),
+            value: Value::Empty,
+        },
+    ])
+}
+
+fn expect_newer(rt: &impl Abort, alloc: Global, world: &World) {
+    let Ok(newer) = newer(alloc, world) else {
+        return;
+    };
+    let count = newer.replacements().len();
+    drop(newer);
+    assert!(rt; count == 3);
+}
+
+#[test]
+fn of_worlds(rt: HostRuntime) {
+    let Ok(world) = old(rt.alloc()) else {
+        return;
+    };
+    let Ok(as_before) = old(rt.alloc()) else {
+        return;
+    };
+    expect_newer(&rt, rt.alloc(), &world);
+    let is_as_before = world == as_before;
+    drop(world);
+    drop(as_before);
+    assert!(rt; is_as_before);
+}
