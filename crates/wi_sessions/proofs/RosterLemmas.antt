@@ -1,64 +1,62 @@
 -- Laws of sessions and their pending cells, as lists of parts of each.
-use Rattle.std.proofs.Common.{◌≡◌, ◌≢◌, ◌<◌, ◌≤◌, ◌+◌, zero, suc, ⊎_elim, ◌||◌, ◌&&◌, ◌∙◌, ℕ, Bool, true, false, cond, not, List, [], ◌∷◌, ◌++◌, map, length, get_or, set, Some, None, refl, sym, ap, subst, arith, string_bytes}
+use Rattle.std.proofs.Common.{◌≡◌, ◌≢◌, ◌<◌, ◌≤◌, ◌+◌, zero, suc, ⊎_elim, ◌||◌, ◌&&◌, ◌∙◌, ℕ, Bool, true, false, cond, not, List, [], ◌∷◌, ◌++◌, map, length, get_or, set, slice_get, nat_eq, Option, Some, None, refl, sym, ap, subst, arith, true≢false}
 use Rattle.std.specs.Prelude.{IfSome, nat_lt}
-use Rattle.std.specs.Option.{is_some}
+use Rattle.std.specs.Option.{is_some, option_map}
 use Rattle.std.specs.List.{AllZip, list_any, position, position_or_len, position_from}
+use Rattle.std.specs.Cmp.Lexicographic.{pointwise}
+use Rattle.std.specs.Map.{keys_of, values_of, lookup}
+use Rattle.std.specs.Rc.{rc_str_bytes}
 use Rattle.std.specs.Str.{bytes_eq}
+use Rattle.std.specs.declared.rc.RcStr.{RcStr}
 use Rattle.std.proofs.lemmas.Bool.{cases_eq}
-use Rattle.std.proofs.lemmas.Bool.Decides.{nat_tests}
-use Rattle.std.proofs.lemmas.List.{map-set, length-set, get_or-set_same, get_or-set_other, get_or-map, get_or_default}
+use Rattle.std.proofs.lemmas.List.{length-map, map-append, map-set, get_or-set_same, get_or-set_other}
+use Rattle.std.proofs.lemmas.Option.{get_or_from_slice_get, slice_get-map, slice_get_within}
 use Rattle.std.proofs.Math.Seq.{map-set_same}
 use Rattle.std.proofs.lemmas.Iterator.Adapters.{position_from-zero}
+use Rattle.indexmap.specs.IndexMap.{IndexMap, insert_entry, set_value_at}
+use Rattle.indexmap.proofs.CallerLemmas.{insert_entry-new}
 use Rattle.wi_sessions.specs.Pictures.Laws.{is_listed}
-use Rattle.wi_sessions.specs.Sessions.{Session, has_session, place_of}
+use Rattle.wi_sessions.specs.Sessions.{has_session, place_of}
 use Rattle.wi_sessions.specs.Roster.{SameCells}
 use Rattle.wi_sessions.specs.Inner.Held.{session_in, cells_of, rooms_of}
 use Rattle.wi_sessions.specs.declared.held.Held.{Held}
 
+-- a name, and what is held under it
+abbrev pub Entry : Type 0 → Type 0
+Entry Z = RcStr Z × Held
+
 -- ---- a session found by its name
 
-abbrev named : List ℕ → Held → Bool
-named name x = bytes_eq name (string_bytes x.name)
+module _ {K : Type 0} (p : K → Bool) where
+  some_from : (i : ℕ) (ks : List K) → is_some (position_from p i ks) ≡ list_any p ks
+  some_from i [] = refl
+  some_from i (k ∷ ks) = by (p k) (some_from (i + 1) ks)
+    where
+      by : (b : Bool) → is_some (position_from p (i + 1) ks) ≡ list_any p ks → is_some (cond b (Some i) (position_from p (i + 1) ks)) ≡ (b || list_any p ks)
+      by true h = refl
+      by false h = h
 
-some_from : (p : Held → Bool) (i : ℕ) (xs : List Held) → is_some (position_from p i xs) ≡ list_any p xs
-some_from p i [] = refl
-some_from p i (x ∷ xs) = by (p x) (some_from p (i + 1) xs)
-  where
-    by : (b : Bool) → is_some (position_from p (i + 1) xs) ≡ list_any p xs → is_some (cond b (Some i) (position_from p (i + 1) xs)) ≡ (b || list_any p xs)
-    by true h = refl
-    by false h = h
+module _ {Z : Type 0} (name : List ℕ) where
+  abbrev pub key_is : RcStr Z → Bool
+  key_is k = bytes_eq name (rc_str_bytes k)
 
-any_session : (name : List ℕ) (xs : List Held) → list_any (named name) xs ≡ has_session (map session_in xs) name
-any_session name [] = refl
-any_session name (x ∷ xs) = ap (λ (b : Bool). named name x || b) (any_session name xs)
+  any_session : (es : List (Entry Z)) → list_any key_is (keys_of es) ≡ has_session (map session_in es) name
+  any_session [] = refl
+  any_session (e ∷ es) = ap (λ (b : Bool). key_is e.0 || b) (any_session es)
 
-pub found_session : (name : List ℕ) (xs : List Held) → is_some (position (named name) xs) ≡ has_session (map session_in xs) name
-found_session name xs = ap is_some (position_from-zero (named name) xs) ∙ some_from (named name) 0 xs ∙ any_session name xs
+  pub found_session : (es : List (Entry Z)) → is_some (position key_is (keys_of es)) ≡ has_session (map session_in es) name
+  found_session es = ap is_some (position_from-zero key_is (keys_of es)) ∙ some_from key_is 0 (keys_of es) ∙ any_session es
 
-same_place : (name : List ℕ) (xs : List Held) → position_or_len (named name) xs ≡ place_of (map session_in xs) name
-same_place name [] = refl
-same_place name (x ∷ xs) = ap (λ (n : ℕ). cond (not (named name x)) (1 + n) 0) (same_place name xs)
+  same_place : (es : List (Entry Z)) → position_or_len key_is (keys_of es) ≡ place_of (map session_in es) name
+  same_place [] = refl
+  same_place (e ∷ es) = ap (λ (n : ℕ). cond (not (key_is e.0)) (1 + n) 0) (same_place es)
 
-pub place_found : (name : List ℕ) (xs : List Held) → IfSome (position (named name) xs) (λ i. i ≡ place_of (map session_in xs) name)
-place_found name xs = by (nat_lt (position_or_len (named name) xs) (length xs))
-  where
-    by : (b : Bool) → IfSome (cond b (Some (position_or_len (named name) xs)) None) (λ i. i ≡ place_of (map session_in xs) name)
-    by true = same_place name xs
-    by false = tt
-
-below : (n m : ℕ) → nat_lt n m ≡ true → n < m
-below n m h = grind (arith, nat_tests)
-
-same_length : (xs : List Held) → length xs ≡ length (map session_in xs)
-same_length [] = refl
-same_length (x ∷ xs) = ap (λ (n : ℕ). suc n) (same_length xs)
-
-pub place_within : (name : List ℕ) (xs : List Held) → IfSome (position (named name) xs) (λ i. i < length (map session_in xs))
-place_within name xs = by (nat_lt (position_or_len (named name) xs) (length xs)) refl
-  where
-    by : (b : Bool) → nat_lt (position_or_len (named name) xs) (length xs) ≡ b → IfSome (cond b (Some (position_or_len (named name) xs)) None) (λ i. i < length (map session_in xs))
-    by true h = subst (λ (m : ℕ). position_or_len (named name) xs < m) (same_length xs) (below _ _ h)
-    by false h = tt
+  pub place_found : (es : List (Entry Z)) → IfSome (position key_is (keys_of es)) (λ i. i ≡ place_of (map session_in es) name)
+  place_found es = by (nat_lt (position_or_len key_is (keys_of es)) (length (keys_of es)))
+    where
+      by : (b : Bool) → IfSome (cond b (Some (position_or_len key_is (keys_of es))) None) (λ i. i ≡ place_of (map session_in es) name)
+      by true = same_place es
+      by false = tt
 
 -- ---- the pending cells of a new session
 
@@ -76,31 +74,76 @@ pending_are cells none vacant pending e made taken =
 
 -- ---- one session among all
 
-pub fits : (xs : List Held) (i : ℕ) (ys : List Session) → map session_in xs ≡ ys → i < length ys → i < length xs
-fits xs i ys v h = subst (λ (n : ℕ). i < n) (sym (same_length xs ∙ ap (λ (zs : List Session). length zs) v)) h
+module _ {Z : Type 0} where
+  -- what is held at a place is held under a name
+  pub entry_at : (es : List (Entry Z)) (i : ℕ) (x : Held) → slice_get (values_of es) i ≡ Some x → (k : RcStr Z) × (slice_get es i ≡ Some (k, x))
+  entry_at [] i x h = cc
+  entry_at (e ∷ es) zero x h = (e.0, ap (option_map (λ (y : Held). (e.0, y))) h)
+  entry_at (e ∷ es) (suc i) x h = entry_at es i x h
 
-module _ {Y : Type 0} (f : Held → Y) (xs : List Held) (i : ℕ) (x : Held) (ys : List Y) (l : i < length xs) (is : x ≡ get_or xs i x) (v : map f xs ≡ ys) where
+  -- another in its place stands under the same name
+  pub set_entry : (es : List (Entry Z)) (i : ℕ) (k : RcStr Z) (x y : Held) → slice_get es i ≡ Some (k, x) → set_value_at es i y ≡ set es i (k, y)
+  set_entry [] i k x y h = refl
+  set_entry (e ∷ es) zero k x y h =
+      let same : e ≡ (k, x) = cc in
+      ap (λ (d : Entry Z). set_value_at (d ∷ es) 0 y) same
+  set_entry (e ∷ es) (suc i) k x y h = ap (λ (ds : List (Entry Z)). e ∷ ds) (set_entry es i k x y h)
+
+  -- put back in its place, nothing has changed
+  pub put_back : (es : List (Entry Z)) (i : ℕ) (x : Held) → slice_get (values_of es) i ≡ Some x → set_value_at es i x ≡ es
+  put_back [] i x h = refl
+  put_back (e ∷ es) zero x h =
+      let same : x ≡ e.1 = cc in
+      ap (λ (y : Held). set_value_at (e ∷ es) 0 y) same
+  put_back (e ∷ es) (suc i) x h = ap (λ (ds : List (Entry Z)). e ∷ ds) (put_back es i x h)
+
+module _ {Z Y : Type 0} (f : Entry Z → Y) (es : List (Entry Z)) (i : ℕ) (k : RcStr Z) (x : Held) (ys : List Y) (at : slice_get es i ≡ Some (k, x)) (v : map f es ≡ ys) where
   -- what is told of the i-th session
-  pub part_at : (d : Y) → get_or ys i d ≡ f x
-  part_at d = ap (λ (zs : List Y). get_or zs i d) (sym v) ∙ get_or-map f xs i x d l ∙ ap f (sym is)
+  pub part_at : (d : Y) → get_or ys i d ≡ f (k, x)
+  part_at d = get_or_from_slice_get ys i (f (k, x)) d (ap (λ (zs : List Y). slice_get zs i) (sym v) ∙ slice_get-map f es i ∙ ap (option_map f) at)
+
+  set_told : (y : Held) → map f (set_value_at es i y) ≡ set (map f es) i (f (k, y))
+  set_told y = ap (λ (ds : List (Entry Z)). map f ds) (set_entry es i k x y at) ∙ map-set f es i (k, y)
 
   -- another in its place, of which w is told
-  pub part_set : (y : Held) (w : Y) → f y ≡ w → map f (set xs i y) ≡ set ys i w
-  part_set y w e = map-set f xs i y ∙ ap (λ (z : Y). set (map f xs) i z) e ∙ ap (λ (zs : List Y). set zs i w) v
+  pub part_set : (y : Held) (w : Y) → f (k, y) ≡ w → map f (set_value_at es i y) ≡ set ys i w
+  part_set y w e = set_told y ∙ ap (λ (z : Y). set (map f es) i z) e ∙ ap (λ (zs : List Y). set zs i w) v
 
   -- another in its place, of which the same is told
-  pub part_same : (y : Held) → f y ≡ f x → map f (set xs i y) ≡ ys
-  part_same y e = map-set_same f xs i y x (e ∙ ap f is) ∙ v
+  pub part_same : (y : Held) → f (k, y) ≡ f (k, x) → map f (set_value_at es i y) ≡ ys
+  part_same y e =
+      ap (λ (ds : List (Entry Z)). map f ds) (set_entry es i k x y at)
+      ∙ map-set_same f es i (k, y) (k, x) (e ∙ ap f (sym (get_or_from_slice_get es i (k, x) (k, x) at))) ∙ v
 
   -- what is told of the other itself
-  pub part_new : (y : Held) (d : Y) → get_or (map f (set xs i y)) i d ≡ f y
+  pub part_new : (y : Held) (d : Y) → get_or (map f (set_value_at es i y)) i d ≡ f (k, y)
   part_new y d =
-      get_or-map f (set xs i y) i x d (subst (λ (n : ℕ). i < n) (sym (length-set xs i y)) l) ∙ ap f (get_or-set_same xs i y x l)
+      ap (λ (zs : List Y). get_or zs i d) (set_told y)
+      ∙ get_or-set_same (map f es) i (f (k, y)) d (subst (λ (n : ℕ). i < n) (sym (length-map es f)) (slice_get_within es i (k, x) at))
 
   -- and of all sessions but the i-th
-  pub part_other : (y : Held) (j : ℕ) (d : Y) → j ≢ i → get_or (map f (set xs i y)) j d ≡ get_or ys j d
+  pub part_other : (y : Held) (j : ℕ) (d : Y) → j ≢ i → get_or (map f (set_value_at es i y)) j d ≡ get_or ys j d
   part_other y j d n =
-      ap (λ (zs : List Y). get_or zs j d) (map-set f xs i y) ∙ get_or-set_other (map f xs) i j (f y) d n ∙ ap (λ (zs : List Y). get_or zs j d) v
+      ap (λ (zs : List Y). get_or zs j d) (set_told y) ∙ get_or-set_other (map f es) i j (f (k, y)) d n ∙ ap (λ (zs : List Y). get_or zs j d) v
+
+-- ---- a session added
+
+-- one of a new name stands at the end
+pub added : {Z S : Type 0} (m : IndexMap (RcStr Z) Held S) (k : RcStr Z) (x : Held) (name : List ℕ) → rc_str_bytes k ≡ name → is_some (lookup (key_is name) m.entries) ≡ false
+    → insert_entry (λ a b. pointwise nat_eq (rc_str_bytes a) (rc_str_bytes b)) m.entries k x ≡ m.entries ++ (k, x) ∷ []
+added m k x name e h =
+    let absent = ap (λ (bs : List ℕ). lookup (key_is bs) m.entries) e ∙ none_from (lookup (key_is name) m.entries) h in
+    insert_entry-new (λ a b. pointwise nat_eq (rc_str_bytes a) (rc_str_bytes b)) m k x absent
+  where
+    none_from : (o : Option Held) → is_some o ≡ false → o ≡ None
+    none_from None h = refl
+    none_from (Some y) h = absurd (true≢false h)
+
+-- what is told of all sessions once one was added
+pub told_more : {Z Y : Type 0} (f : Entry Z → Y) (es new : List (Entry Z)) (k : RcStr Z) (x : Held) (ys : List Y) (y : Y) → new ≡ es ++ (k, x) ∷ []
+    → map f es ≡ ys → f (k, x) ≡ y → map f new ≡ ys ++ y ∷ []
+told_more {Z} {Y} f es new k x ys y h v g =
+    ap (λ (ds : List (Entry Z)). map f ds) h ∙ map-append f es ((k, x) ∷ []) ∙ ap (λ (zs : List Y). zs ++ f (k, x) ∷ []) v ∙ ap (λ (z : Y). ys ++ z ∷ []) g
 
 -- an empty list at the end is like none
 pub empty_after : (xs : List (List ℕ)) (i : ℕ) → get_or (xs ++ [] ∷ []) i [] ≡ get_or xs i []
@@ -111,61 +154,66 @@ empty_after (x ∷ xs) (suc i) = empty_after xs i
 
 -- ---- each session in turn
 
-module _ (R : Held → Held → Type 0) where
+module _ {Z : Type 0} (R : Entry Z → Entry Z → Type 0) where
   -- those before the i-th are done
-  abbrev pub Done : List Held → List Held → ℕ → Type 0
-  Done old new i = (k : ℕ) (d : Held) → k < i → R (get_or old k d) (get_or new k d)
+  abbrev pub Done : List (Entry Z) → List (Entry Z) → ℕ → Type 0
+  Done old new i = (j : ℕ) (d : Entry Z) → j < i → R (get_or old j d) (get_or new j d)
 
   -- those from the i-th on are as they were
-  abbrev pub Left : List Held → List Held → ℕ → Type 0
-  Left old new i = (k : ℕ) (d : Held) → i ≤ k → get_or new k d ≡ get_or old k d
+  abbrev pub Left : List (Entry Z) → List (Entry Z) → ℕ → Type 0
+  Left old new i = (j : ℕ) (d : Entry Z) → i ≤ j → get_or new j d ≡ get_or old j d
 
-  pub done_more : (old now : List Held) (i : ℕ) (e y : Held) → i < length now → R (get_or now i e) y
-      → Done old now i → Left old now i → Done old (set now i y) (i + 1)
-  done_more old now i e y l r done left =
-      λ k d h. ⊎_elim
-      (λ (p : k ≡ i). subst (λ (j : ℕ). R (get_or old j d) (get_or (set now i y) j d)) (sym p)
-      (subst (λ (z : Held). R (get_or old i d) z) (sym (get_or-set_same now i y d l))
-      (subst (λ (z : Held). R z y) (get_or_default now i e d l ∙ left i d (let h : i ≤ i = omega arith in h)) r)))
-      (λ (n : k ≢ i). subst (λ (z : Held). R (get_or old k d) z) (sym (get_or-set_other now i k y d n)) (done k d (omega (arith, h, n))))
-      (cases_eq k i)
+  pub done_more : (old now : List (Entry Z)) (i : ℕ) (k : RcStr Z) (x y : Held) → slice_get now i ≡ Some (k, x) → R (k, x) (k, y)
+      → Done old now i → Left old now i → Done old (set_value_at now i y) (i + 1)
+  done_more old now i k x y at r done left =
+      subst (λ (es : List (Entry Z)). Done old es (i + 1)) (sym (set_entry now i k x y at))
+      (λ j d h. ⊎_elim
+      (λ (p : j ≡ i). subst (λ (n : ℕ). R (get_or old n d) (get_or (set now i (k, y)) n d)) (sym p)
+      (subst (λ (z : Entry Z). R (get_or old i d) z) (sym (get_or-set_same now i (k, y) d (slice_get_within now i (k, x) at)))
+      (subst (λ (z : Entry Z). R z (k, y)) (sym (get_or_from_slice_get now i (k, x) d at) ∙ left i d (let h : i ≤ i = omega arith in h)) r)))
+      (λ (n : j ≢ i). subst (λ (z : Entry Z). R (get_or old j d) z) (sym (get_or-set_other now i j (k, y) d n)) (done j d (omega (arith, h, n))))
+      (cases_eq j i))
 
-  pub left_more : (old now : List Held) (i : ℕ) (y : Held) → Left old now i → Left old (set now i y) (i + 1)
-  left_more old now i y left = λ k d h. get_or-set_other now i k y d (λ p. let n : ⊥ = omega (arith, h, p) in n) ∙ left k d (omega (arith, h))
+  pub left_more : (old now : List (Entry Z)) (i : ℕ) (k : RcStr Z) (x y : Held) → slice_get now i ≡ Some (k, x)
+      → Left old now i → Left old (set_value_at now i y) (i + 1)
+  left_more old now i k x y at left =
+      subst (λ (es : List (Entry Z)). Left old es (i + 1)) (sym (set_entry now i k x y at))
+      (λ j d h. get_or-set_other now i j (k, y) d (λ p. let n : ⊥ = omega (arith, h, p) in n) ∙ left j d (omega (arith, h)))
 
-  pub all_done : (old new : List Held) → length new ≡ length old → Done old new (length old) → AllZip R old new
+  pub all_done : (old new : List (Entry Z)) → length new ≡ length old → Done old new (length old) → AllZip R old new
   all_done [] [] e h = tt
   all_done [] (y ∷ ys) e h = let n : ⊥ = omega (arith, e) in absurd n
   all_done (x ∷ xs) [] e h = let n : ⊥ = omega (arith, e) in absurd n
   all_done (x ∷ xs) (y ∷ ys) e h = (h 0 x (omega arith), all_done xs ys (omega (arith, e)) (λ k d l. h (suc k) d (omega (arith, l))))
 
-  pub each_same : {Y : Type 0} (f : Held → Y) → ((x y : Held) → R x y → f y ≡ f x) → (old new : List Held) → AllZip R old new → map f new ≡ map f old
+  pub each_same : {Y : Type 0} (f : Entry Z → Y) → ((x y : Entry Z) → R x y → f y ≡ f x) → (old new : List (Entry Z)) → AllZip R old new → map f new ≡ map f old
   each_same {Y} f same [] [] h = refl
   each_same {Y} f same [] (y ∷ ys) h = absurd h
   each_same {Y} f same (x ∷ xs) [] h = absurd h
   each_same {Y} f same (x ∷ xs) (y ∷ ys) h = ap (λ (z : Y). z ∷ map f ys) (same x y h.0) ∙ ap (λ (zs : List Y). f x ∷ zs) (each_same f same xs ys h.1)
 
-  pub each_empty : ((x y : Held) → R x y → rooms_of y ≡ []) → (old new : List Held) → AllZip R old new → (i : ℕ) → get_or (map rooms_of new) i [] ≡ []
+  pub each_empty : ((x y : Entry Z) → R x y → rooms_of y ≡ []) → (old new : List (Entry Z)) → AllZip R old new → (i : ℕ) → get_or (map rooms_of new) i [] ≡ []
   each_empty gone [] [] h i = refl
   each_empty gone [] (y ∷ ys) h i = absurd h
   each_empty gone (x ∷ xs) [] h i = absurd h
   each_empty gone (x ∷ xs) (y ∷ ys) h zero = gone x y h.0
   each_empty gone (x ∷ xs) (y ∷ ys) h (suc i) = each_empty gone xs ys h.1 i
 
--- a session whose cells with room became pending
-abbrev pub Took : Held → Held → Type 0
-Took x y = (session_in y ≡ session_in x)
-    × ((a : ℕ) → is_listed (cells_of y) a ≡ (is_listed (cells_of x) a || is_listed (rooms_of x) a))
-    × (rooms_of y ≡ [])
+module _ {Z : Type 0} where
+  -- a session whose cells with room became pending
+  abbrev pub Took : Entry Z → Entry Z → Type 0
+  Took x y = (session_in y ≡ session_in x)
+      × ((a : ℕ) → is_listed (cells_of y) a ≡ (is_listed (cells_of x) a || is_listed (rooms_of x) a))
+      × (rooms_of y ≡ [])
 
-pub each_took : (old new : List Held) → AllZip Took old new → (i a : ℕ)
-    → is_listed (get_or (map cells_of new) i []) a ≡ (is_listed (get_or (map cells_of old) i []) a || is_listed (get_or (map rooms_of old) i []) a)
-each_took [] [] h i a = refl
-each_took [] (y ∷ ys) h i a = absurd h
-each_took (x ∷ xs) [] h i a = absurd h
-each_took (x ∷ xs) (y ∷ ys) h zero a = (h.0).1 a
-each_took (x ∷ xs) (y ∷ ys) h (suc i) a = each_took xs ys h.1 i a
+  pub each_took : (old new : List (Entry Z)) → AllZip Took old new → (i a : ℕ)
+      → is_listed (get_or (map cells_of new) i []) a ≡ (is_listed (get_or (map cells_of old) i []) a || is_listed (get_or (map rooms_of old) i []) a)
+  each_took [] [] h i a = refl
+  each_took [] (y ∷ ys) h i a = absurd h
+  each_took (x ∷ xs) [] h i a = absurd h
+  each_took (x ∷ xs) (y ∷ ys) h zero a = (h.0).1 a
+  each_took (x ∷ xs) (y ∷ ys) h (suc i) a = each_took xs ys h.1 i a
 
--- a session whose vacant rooms went
-abbrev pub Gave : Held → Held → Type 0
-Gave x y = (session_in y ≡ session_in x) × (cells_of y ≡ cells_of x) × (rooms_of y ≡ [])
+  -- a session whose vacant rooms went
+  abbrev pub Gave : Entry Z → Entry Z → Type 0
+  Gave x y = (session_in y ≡ session_in x) × (cells_of y ≡ cells_of x) × (rooms_of y ≡ [])

@@ -1,22 +1,19 @@
-//! One session.
+//! What a session holds beside its name.
 
-ghost use Rattle.std.specs.Prelude.{◌≡◌, ◌||◌, ◌&&◌, ℕ, not, [], IfOk, OnOk, OnErr, string_bytes};
+ghost use Rattle.std.specs.Prelude.{◌≡◌, ℕ, List, [], IfOk, OnOk, OnErr, string_bytes};
 ghost use Rattle.std.specs.Option.{option_map};
-ghost use Rattle.std.specs.Str.{bytes_eq};
-ghost use Rattle.wi_sessions.specs.Pictures.Laws.{is_listed};
 ghost use Rattle.wi_sessions.specs.Sessions.{new_session, told, using_scenario};
 ghost use Rattle.wi_sessions.specs.Roster.{SameCells};
-ghost use Rattle.wi_sessions.specs.Inner.Held.{session_in};
+ghost use Rattle.wi_sessions.specs.Inner.Held.{with_name};
 
 use crate::pending::Pending;
 use crate::picture::Picture;
 use std::alloc::{AllocError, Global};
 use wi_values::{Address, Value};
 
-/// A session, with its pending cells.
+/// What a session holds beside its name, with its pending cells.
 #[derive(Drop)]
 pub(crate) struct Held {
-    pub(crate) name: String,
     pub(crate) scenario: Option<String>,
     pub(crate) picture: Picture,
     pub(crate) seen: u64,
@@ -24,14 +21,13 @@ pub(crate) struct Held {
 }
 
 impl Held {
-    /// A new session of this name, for which these cells are pending.
-    pub(crate) fn new(alloc: Global, name: &str, cells: &[Address]) -> Result<Held, AllocError>
-        ensures session { IfOk result (λ x. session_in x ≡ new_session name.now) }
+    /// What a new session holds, for which these cells are pending.
+    pub(crate) fn new(alloc: Global, cells: &[Address]) -> Result<Held, AllocError>
+        ensures session { IfOk result (λ x. (name : List ℕ) → with_name name x ≡ new_session name) }
         ensures pending { IfOk result (λ x. SameCells x.pending.cells cells.now) }
         ensures vacant { IfOk result (λ x. x.pending.vacant ≡ []) }
     {
         Ok(Held {
-            name: String::from_str(alloc, name)?,
             scenario: None,
             picture: Picture::new(alloc),
             seen: 0,
@@ -39,16 +35,9 @@ impl Held {
         })
     }
 
-    /// Whether this is its name.
-    pub(crate) fn is_named(&self, name: &str) -> bool
-        ensures { result ≡ bytes_eq name.now (string_bytes self.now.name) }
-    {
-        *name == *self.name.as_str()
-    }
-
     /// Uses a scenario, or the sheet as it stands.
     pub(crate) fn use_scenario(&mut self, scenario: Option<String>)
-        ensures session { session_in self.new ≡ using_scenario (session_in self.old) (option_map string_bytes scenario) }
+        ensures session { (name : List ℕ) → with_name name self.new ≡ using_scenario (with_name name self.old) (option_map string_bytes scenario) }
         ensures pending { self.new.pending ≡ self.old.pending }
     {
         self.scenario = scenario;
@@ -60,7 +49,7 @@ impl Held {
         changes: Vec<(Address, Value)>,
         seen: u64,
     ) -> Result<(), AllocError>
-        ensures told { OnOk result (session_in self.new ≡ told (session_in self.old) changes.items seen) }
+        ensures told { OnOk result ((name : List ℕ) → with_name name self.new ≡ told (with_name name self.old) changes.items seen) }
         ensures cells { OnOk result (self.new.pending.cells ≡ []) }
         ensures vacant { OnOk result (self.new.pending.vacant ≡ []) }
         ensures refused { OnErr result (self.new ≡ self.old) }

@@ -2,27 +2,31 @@
 
 ghost use Rattle.std.specs.Prelude.{◌≡◌, ◌≢◌, ◌<◌, ◌||◌, ◌&&◌, ◌++◌, ◌∷◌, ℕ, List, not, length, [], IfOk, IfSome, OnOk, OnErr, string_bytes};
 ghost use Rattle.std.specs.Option.{is_some, option_map};
-ghost use Rattle.std.specs.List.{position, slice_set};
-ghost use Rattle.std.specs.Str.{bytes_eq};
+ghost use Rattle.std.specs.List.{slice_set};
 ghost use Rattle.wi_sessions.specs.Pictures.Laws.{is_listed};
 ghost use Rattle.wi_sessions.specs.Sessions.{new_session, told, using_scenario, has_session, place_of};
 ghost use Rattle.wi_sessions.specs.Roster.{session_at, pending_of, vacant_of, SameCells};
-ghost use Rattle.wi_sessions.specs.Inner.Held.{roster_in};
+ghost use Rattle.wi_sessions.specs.Inner.Held.{roster_in, with_name};
 
 use crate::held::Held;
 use crate::pending::Pending;
 use crate::picture::Picture;
+use indexmap::IndexMap;
 use std::alloc::{AllocError, Global};
 use std::marker::Model;
+use std::rc::RcStr;
 use wi_values::{Address, Value};
 
 /// How many sessions there may be; this limit is the caller's to keep.
 pub const MAX_SESSIONS: usize = 64;
 
+/// What sessions hold beside their names, by these names.
+type SessionMap = IndexMap<RcStr, Held>;
+
 /// Sessions in order of making. A session is named by its place in that order, which never changes.
 #[derive(Drop)]
 pub struct Sessions {
-    held: Vec<Held>,
+    held: SessionMap,
     alloc: Global,
 }
 
@@ -36,7 +40,7 @@ impl Model for Sessions {
 
     ghost coded = { Prim.hlevel (codes, value.the_row.coded) };
 
-    ghost view = { λ s. roster_in s.held.items };
+    ghost view = { λ s. roster_in s.held.entries };
 }
 
 impl Sessions {
@@ -47,22 +51,27 @@ impl Sessions {
         ensures vacant { IfOk result (λ s. (i : ℕ) → vacant_of s i ≡ []) }
     {
         let mut sessions = Sessions {
-            held: Vec::new(alloc),
+            held: IndexMap::new(alloc),
             alloc,
         };
         sessions.push(name, cells)?;
         Ok(sessions)
     }
 
-    /// Adds a session at the end, as `new` makes one. On an error all is as before.
+    /// Adds a session at the end, as `new` makes one. On an error all is as before. It is an error too where a session of this name is
+    /// there already, as `find` tells. The work is that of `Pending::make_room` for the cells.
     pub fn push(&mut self, name: &str, cells: &[Address]) -> Result<(), AllocError>
         ensures sessions { OnOk result (self.new.sessions ≡ self.old.sessions ++ new_session name.now ∷ []) }
         ensures pending { OnOk result ((new : List ℕ) × (self.new.pending ≡ self.old.pending ++ new ∷ []) × SameCells new cells.now) }
         ensures vacant { OnOk result ((i : ℕ) → vacant_of self.new i ≡ vacant_of self.old i) }
         ensures refused { OnErr result (self.new ≡ self.old) }
     {
-        let held = Held::new(self.alloc, name, cells)?;
-        self.held.push(held)?;
+        if self.held.contains_key(name) {
+            return Err(AllocError);
+        }
+        let held = Held::new(self.alloc, cells)?;
+        let name = RcStr::from_str(self.alloc, name)?;
+        self.held.insert(name, held)?;
         Ok(())
     }
 
@@ -73,13 +82,13 @@ impl Sessions {
         self.held.len()
     }
 
-    /// The place of the session of this name, if there is one. Compares each name in turn.
+    /// The place of the session of this name, if there is one. One look-up in a map, however many sessions there are.
     pub fn find(&self, name: &str) -> Option<usize>
         ensures found { is_some result ≡ has_session self.now.sessions name.now }
         ensures place { IfSome result (λ i. i ≡ place_of self.now.sessions name.now) }
         ensures within { IfSome result (λ i. i < length self.now.sessions) }
     {
-        place(self.held.as_slice(), name)
+        self.held.get_index_of(name)
     }
 
     /// The name of a session.
@@ -87,7 +96,8 @@ impl Sessions {
         requires { i < length self.now.sessions }
         ensures { result.now ≡ (session_at self.now i).name }
     {
-        self.held[i].name.as_str()
+        let (name, _) = self.held.get_index(i).unwrap();
+        name.as_str()
     }
 
     /// The name of the scenario that a session uses; none for the sheet as it stands.
@@ -95,7 +105,7 @@ impl Sessions {
         requires { i < length self.now.sessions }
         ensures { option_map (λ s. s.now) result ≡ (session_at self.now i).scenario }
     {
-        match &self.held[i].scenario {
+        match &self.at(i).scenario {
             Some(name) => Some(name.as_str()),
             None => None,
         }
@@ -106,7 +116,7 @@ impl Sessions {
         requires { i < length self.now.sessions }
         ensures { result.now ≡ (session_at self.now i).picture }
     {
-        &self.held[i].picture
+        &self.at(i).picture
     }
 
     /// How long the log was when a session was last shown what has changed; 0 before.
@@ -114,7 +124,7 @@ impl Sessions {
         requires { i < length self.now.sessions }
         ensures { result ≡ (session_at self.now i).seen }
     {
-        self.held[i].seen
+        self.at(i).seen
     }
 
     /// The cells that are pending for a session.
@@ -123,7 +133,7 @@ impl Sessions {
         ensures cells { result.now.cells ≡ pending_of self.now i }
         ensures vacant { result.now.vacant ≡ vacant_of self.now i }
     {
-        &self.held[i].pending
+        &self.at(i).pending
     }
 
     /// A session uses a scenario of this name, or the sheet as it stands. Takes no memory.
@@ -192,35 +202,38 @@ impl Sessions {
     {
         let _ = &self.held;
     }
-}
 
-// The place of the session of this name.
-fn place(held: &[Held], name: &str) -> Option<usize>
-    ensures { result ≡ position (λ x. bytes_eq name.now (string_bytes x.name)) held.now }
-{
-    held.iter().position(|x| x.is_named(name))
+    /// What a session holds beside its name.
+    fn at(&self, i: usize) -> &Held
+        requires { i < length self.now.sessions }
+        ensures session { with_name (session_at self.now i).name result.now ≡ session_at self.now i }
+        ensures cells { result.now.pending.cells ≡ pending_of self.now i }
+        ensures vacant { result.now.pending.vacant ≡ vacant_of self.now i }
+    {
+        &self.held[i]
+    }
 }
 
 // The cells for which there is room are pending now.
-fn take_each(held: &mut [Held])
-    ensures sessions { (roster_in held.new).sessions ≡ (roster_in held.old).sessions }
-    ensures lists { length held.new ≡ length held.old }
-    ensures pending { (i a : ℕ) → is_listed (pending_of (roster_in held.new) i) a
-        ≡ (is_listed (pending_of (roster_in held.old) i) a || is_listed (vacant_of (roster_in held.old) i) a) }
-    ensures vacant { (i : ℕ) → vacant_of (roster_in held.new) i ≡ [] }
+fn take_each(held: &mut SessionMap)
+    ensures sessions { (roster_in held.new.entries).sessions ≡ (roster_in held.old.entries).sessions }
+    ensures lists { length held.new.entries ≡ length held.old.entries }
+    ensures pending { (i a : ℕ) → is_listed (pending_of (roster_in held.new.entries) i) a
+        ≡ (is_listed (pending_of (roster_in held.old.entries) i) a || is_listed (vacant_of (roster_in held.old.entries) i) a) }
+    ensures vacant { (i : ℕ) → vacant_of (roster_in held.new.entries) i ≡ [] }
 {
-    for x in held.iter_mut() {
-        x.pending.take();
+    for i in 0..held.len() {
+        held[i].pending.take();
     }
 }
 
 // The vacant rooms go.
-fn give_back_each(held: &mut [Held])
-    ensures sessions { (roster_in held.new).sessions ≡ (roster_in held.old).sessions }
-    ensures pending { (roster_in held.new).pending ≡ (roster_in held.old).pending }
-    ensures vacant { (i : ℕ) → vacant_of (roster_in held.new) i ≡ [] }
+fn give_back_each(held: &mut SessionMap)
+    ensures sessions { (roster_in held.new.entries).sessions ≡ (roster_in held.old.entries).sessions }
+    ensures pending { (roster_in held.new.entries).pending ≡ (roster_in held.old.entries).pending }
+    ensures vacant { (i : ℕ) → vacant_of (roster_in held.new.entries) i ≡ [] }
 {
-    for x in held.iter_mut() {
-        x.pending.give_back();
+    for i in 0..held.len() {
+        held[i].pending.give_back();
     }
 }

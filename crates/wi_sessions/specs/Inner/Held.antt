@@ -1,18 +1,25 @@
--- What the fields of a session stand for.
+-- What sessions are held as.
 use Rattle.std.specs.Prelude.{ℕ, List, map, string_bytes}
 use Rattle.std.specs.Option.{option_map}
+use Rattle.std.specs.Rc.{rc_str_bytes}
+use Rattle.std.specs.declared.rc.RcStr.{RcStr}
 use Rattle.wi_sessions.specs.Sessions.{Session}
 use Rattle.wi_sessions.specs.Roster.{Roster}
 use Rattle.wi_sessions.specs.declared.held.Held.{Held}
 
-abbrev pub session_in : Held → Session
-session_in x = record { name = string_bytes x.name; scenario = option_map string_bytes x.scenario; picture = x.picture; seen = x.seen }
+-- the session of a name with what it holds beside it
+abbrev pub with_name : List ℕ → Held → Session
+with_name name x = record { name = name; scenario = option_map string_bytes x.scenario; picture = x.picture; seen = x.seen }
 
-abbrev pub cells_of : Held → List ℕ
-cells_of x = x.pending.cells
+abbrev pub session_in : {Z : Type 0} → RcStr Z × Held → Session
+session_in e = with_name (rc_str_bytes e.0) e.1
 
-abbrev pub rooms_of : Held → List ℕ
-rooms_of x = x.pending.vacant
+abbrev pub cells_of : {Z : Type 0} → RcStr Z × Held → List ℕ
+cells_of e = e.1.pending.cells
 
-abbrev pub roster_in : List Held → Roster
-roster_in xs = record { sessions = map session_in xs; pending = map cells_of xs; vacant = map rooms_of xs }
+abbrev pub rooms_of : {Z : Type 0} → RcStr Z × Held → List ℕ
+rooms_of e = e.1.pending.vacant
+
+-- the sessions that stand as entries of a map by their names
+abbrev pub roster_in : {Z : Type 0} → List (RcStr Z × Held) → Roster
+roster_in es = record { sessions = map session_in es; pending = map cells_of es; vacant = map rooms_of es }

@@ -1,31 +1,32 @@
-use Rattle.std.proofs.Common.{◌<◌, length, refl, arith, ◌∙◌}
-use Rattle.std.proofs.lemmas.List.{length-set}
+use Rattle.std.proofs.Common.{refl, arith, ◌∙◌}
+use Rattle.indexmap.proofs.CallerLemmas.{index_map_len-with_value_at}
 use Rattle.wi_sessions.specs.Inner.Held.{session_in}
-use Rattle.wi_sessions.proofs.RosterLemmas.{Took, done_more, left_more, all_done, each_same, each_empty, each_took}
+use Rattle.wi_sessions.proofs.RosterLemmas.{Took, entry_at, done_more, left_more, all_done, each_same, each_empty, each_took}
 use Rattle.wi_sessions.proofs.sessions.take_each.Goals as goal
 
-pub loop-x-preserved : goal.loop-x-preserved
-loop-x-preserved c =
-    let now = c.loop-x.held in
-    let l : c.loop-x.x-index < length now = omega arith in
+pub loop-i-preserved : goal.loop-i-preserved
+loop-i-preserved c =
+    let now = c.loop-i.held.entries in
+    let x = c.index_mut.result.now in
+    let e = entry_at now c.loop-i.i x c.index_mut.ensures.value in
     record {
-      lists = length-set now c.loop-x.x-index _ ∙ c.loop-x.invariant.lists;
-      done = done_more Took c.args.held.now now c.loop-x.x-index c.x-item.result _ l (refl, c.take.ensures.cells, c.take.ensures.vacant)
-          c.loop-x.invariant.done c.loop-x.invariant.left;
-      left = left_more Took c.args.held.now now c.loop-x.x-index _ c.loop-x.invariant.left;
+      lists = index_map_len-with_value_at c.loop-i.held c.loop-i.i _ ∙ c.loop-i.invariant.lists;
+      done = done_more Took c.args.held.now.entries now c.loop-i.i e.0 x _ e.1 (refl, c.take.ensures.cells, c.take.ensures.vacant)
+          c.loop-i.invariant.done c.loop-i.invariant.left;
+      left = left_more Took c.args.held.now.entries now c.loop-i.i e.0 x _ e.1 c.loop-i.invariant.left;
     }
 
 pub returns-clause-sessions : goal.returns-clause-sessions
 returns-clause-sessions c =
-    each_same Took session_in (λ x y r. r.0) c.args.held.now c.loop-x.held
-    (all_done Took c.args.held.now c.loop-x.held c.loop-x.invariant.lists (λ k d h. c.loop-x.invariant.done k d (omega (arith, h))))
+    each_same Took session_in (λ x y r. r.0) c.args.held.now.entries c.loop-i.held.entries
+    (all_done Took c.args.held.now.entries c.loop-i.held.entries c.loop-i.invariant.lists (λ k d h. c.loop-i.invariant.done k d (omega (arith, h))))
 
 pub returns-clause-pending : goal.returns-clause-pending
 returns-clause-pending c =
-    each_took c.args.held.now c.loop-x.held
-    (all_done Took c.args.held.now c.loop-x.held c.loop-x.invariant.lists (λ k d h. c.loop-x.invariant.done k d (omega (arith, h))))
+    each_took c.args.held.now.entries c.loop-i.held.entries
+    (all_done Took c.args.held.now.entries c.loop-i.held.entries c.loop-i.invariant.lists (λ k d h. c.loop-i.invariant.done k d (omega (arith, h))))
 
 pub returns-clause-vacant : goal.returns-clause-vacant
 returns-clause-vacant c =
-    each_empty Took (λ x y r. r.2) c.args.held.now c.loop-x.held
-    (all_done Took c.args.held.now c.loop-x.held c.loop-x.invariant.lists (λ k d h. c.loop-x.invariant.done k d (omega (arith, h))))
+    each_empty Took (λ x y r. r.2) c.args.held.now.entries c.loop-i.held.entries
+    (all_done Took c.args.held.now.entries c.loop-i.held.entries c.loop-i.invariant.lists (λ k d h. c.loop-i.invariant.done k d (omega (arith, h))))

@@ -3,45 +3,45 @@ use Rattle.std.proofs.lemmas.Result.{on_ok_weaker, on_err_weaker}
 use Rattle.wi_sessions.specs.Pictures.Laws.{is_listed}
 use Rattle.wi_sessions.specs.Roster.{Roster, vacant_of}
 use Rattle.wi_sessions.specs.Inner.Held.{session_in, cells_of, rooms_of}
-use Rattle.wi_sessions.proofs.RosterLemmas.{fits, part_at, part_same, part_new, part_other}
+use Rattle.wi_sessions.proofs.RosterLemmas.{entry_at, part_at, part_same, part_new, part_other}
 use Rattle.wi_sessions.proofs.sessions.Sessions.make_room.Goals as goal
 
 pub returns-clause-sessions : goal.returns-clause-sessions
 returns-clause-sessions c =
-    let items = c.self.inside.held.items in
+    let items = c.self.inside.held.entries in
     let x = c.index_mut.result.now in
-    let l = fits items c.args.i c.args.self.now.sessions (ap (λ (r : Roster). r.sessions) c.self.view_is) c.requires in
-    part_same session_in items c.args.i x c.args.self.now.sessions l c.index_mut.ensures.value (ap (λ (r : Roster). r.sessions) c.self.view_is) _ refl
+    let e = entry_at items c.args.i x c.index_mut.ensures.value in
+    part_same session_in items c.args.i e.0 x c.args.self.now.sessions e.1 (ap (λ (r : Roster). r.sessions) c.self.view_is) _ refl
 
 pub returns-clause-pending : goal.returns-clause-pending
 returns-clause-pending c =
-    let items = c.self.inside.held.items in
+    let items = c.self.inside.held.entries in
     let x = c.index_mut.result.now in
-    let l = fits items c.args.i c.args.self.now.sessions (ap (λ (r : Roster). r.sessions) c.self.view_is) c.requires in
-    part_same cells_of items c.args.i x c.args.self.now.pending l c.index_mut.ensures.value (ap (λ (r : Roster). r.pending) c.self.view_is) _ c.make_room.ensures.cells
+    let e = entry_at items c.args.i x c.index_mut.ensures.value in
+    part_same cells_of items c.args.i e.0 x c.args.self.now.pending e.1 (ap (λ (r : Roster). r.pending) c.self.view_is) _ c.make_room.ensures.cells
 
 pub returns-clause-room : goal.returns-clause-room
 returns-clause-room c =
-    let items = c.self.inside.held.items in
+    let items = c.self.inside.held.entries in
     let x = c.index_mut.result.now in
-    let l = fits items c.args.i c.args.self.now.sessions (ap (λ (r : Roster). r.sessions) c.self.view_is) c.requires in
+    let e = entry_at items c.args.i x c.index_mut.ensures.value in
     let told = c.args.cells.now in
     on_ok_weaker c.make_room.result
-    (λ h a. ap (λ (cs : List ℕ). is_listed cs a) (part_new rooms_of items c.args.i x c.args.self.now.vacant l c.index_mut.ensures.value (ap (λ (r : Roster). r.vacant) c.self.view_is) _ []) ∙ h a
-    ∙ ap (λ (cs : List ℕ). is_listed cs a || (is_listed told a && not (is_listed (cells_of x) a))) (sym (part_at rooms_of items c.args.i x c.args.self.now.vacant l c.index_mut.ensures.value (ap (λ (r : Roster). r.vacant) c.self.view_is) []))
-    ∙ ap (λ (cs : List ℕ). is_listed (vacant_of c.args.self.now c.args.i) a || (is_listed told a && not (is_listed cs a))) (sym (part_at cells_of items c.args.i x c.args.self.now.pending l c.index_mut.ensures.value (ap (λ (r : Roster). r.pending) c.self.view_is) [])))
+    (λ h a. ap (λ (cs : List ℕ). is_listed cs a) (part_new rooms_of items c.args.i e.0 x c.args.self.now.vacant e.1 (ap (λ (r : Roster). r.vacant) c.self.view_is) _ []) ∙ h a
+    ∙ ap (λ (cs : List ℕ). is_listed cs a || (is_listed told a && not (is_listed (cells_of (e.0, x)) a))) (sym (part_at rooms_of items c.args.i e.0 x c.args.self.now.vacant e.1 (ap (λ (r : Roster). r.vacant) c.self.view_is) []))
+    ∙ ap (λ (cs : List ℕ). is_listed (vacant_of c.args.self.now c.args.i) a || (is_listed told a && not (is_listed cs a))) (sym (part_at cells_of items c.args.i e.0 x c.args.self.now.pending e.1 (ap (λ (r : Roster). r.pending) c.self.view_is) [])))
     c.make_room.ensures.room
 
 pub returns-clause-refused : goal.returns-clause-refused
 returns-clause-refused c =
-    let items = c.self.inside.held.items in
+    let items = c.self.inside.held.entries in
     let x = c.index_mut.result.now in
-    let l = fits items c.args.i c.args.self.now.sessions (ap (λ (r : Roster). r.sessions) c.self.view_is) c.requires in
-    on_err_weaker c.make_room.result (λ h. part_new rooms_of items c.args.i x c.args.self.now.vacant l c.index_mut.ensures.value (ap (λ (r : Roster). r.vacant) c.self.view_is) _ [] ∙ h) c.make_room.ensures.refused
+    let e = entry_at items c.args.i x c.index_mut.ensures.value in
+    on_err_weaker c.make_room.result (λ h. part_new rooms_of items c.args.i e.0 x c.args.self.now.vacant e.1 (ap (λ (r : Roster). r.vacant) c.self.view_is) _ [] ∙ h) c.make_room.ensures.refused
 
 pub returns-clause-others : goal.returns-clause-others
 returns-clause-others c =
-    let items = c.self.inside.held.items in
+    let items = c.self.inside.held.entries in
     let x = c.index_mut.result.now in
-    let l = fits items c.args.i c.args.self.now.sessions (ap (λ (r : Roster). r.sessions) c.self.view_is) c.requires in
-    λ j n. part_other rooms_of items c.args.i x c.args.self.now.vacant l c.index_mut.ensures.value (ap (λ (r : Roster). r.vacant) c.self.view_is) _ j [] n
+    let e = entry_at items c.args.i x c.index_mut.ensures.value in
+    λ j n. part_other rooms_of items c.args.i e.0 x c.args.self.now.vacant e.1 (ap (λ (r : Roster). r.vacant) c.self.view_is) _ j [] n

@@ -1,25 +1,33 @@
-use Rattle.std.proofs.Common.{ℕ, List, [], ◌∷◌, ◌++◌, map, get_or, ap, ◌∙◌}
-use Rattle.std.proofs.lemmas.List.{map-append}
-use Rattle.wi_sessions.specs.Roster.{Roster, vacant_of}
-use Rattle.wi_sessions.specs.Inner.Held.{cells_of, rooms_of}
-use Rattle.wi_sessions.specs.declared.held.Held.{Held}
-use Rattle.wi_sessions.proofs.RosterLemmas.{empty_after}
+use Rattle.std.proofs.Common.{ℕ, List, [], get_or, refl, sym, ap, ◌∙◌, rules}
+use Rattle.wi_sessions.specs.Sessions.{new_session}
+use Rattle.wi_sessions.specs.Roster.{Roster}
+use Rattle.wi_sessions.specs.Inner.Held.{session_in, cells_of, rooms_of}
+use Rattle.wi_sessions.proofs.RosterLemmas.{added, told_more, empty_after}
 use Rattle.wi_sessions.proofs.sessions.Sessions.push.Goals as goal
 
-pub returns-clause-vacant : goal.returns-clause-vacant
-returns-clause-vacant c =
-    let new = c.in_ok-held.held in
-    λ i. ap (λ (xs : List Held). get_or (map rooms_of xs) i []) c.in_ok-push.ensures.items
-    ∙ ap (λ (zs : List (List ℕ)). get_or zs i []) (map-append rooms_of c.self.inside.held.items (new ∷ []))
-    ∙ ap (λ (cs : List ℕ). get_or (map rooms_of c.self.inside.held.items ++ cs ∷ []) i []) c.in_ok-held.ensures.vacant
-    ∙ empty_after (map rooms_of c.self.inside.held.items) i
-    ∙ ap (λ (r : Roster). vacant_of r i) c.self.view_is
+pub returns-clause-sessions : goal.returns-clause-sessions
+returns-clause-sessions c =
+    let items = c.self.inside.held.entries in
+    let k = c.in_ok-name.name in
+    let x = c.in_ok-held.held in
+    let new = c.in_ok-insert.ensures.entries ∙ added c.self.inside.held k x c.args.name.now c.in_ok-name.ensures.ok (sym c.contains_key.ensures ∙ search rules) in
+    told_more session_in items _ k x c.args.self.now.sessions (new_session c.args.name.now) new (ap (λ (r : Roster). r.sessions) c.self.view_is)
+    (c.in_ok-held.ensures.session _ ∙ ap (λ (bs : List ℕ). new_session bs) c.in_ok-name.ensures.ok)
 
 pub returns-clause-pending : goal.returns-clause-pending
 returns-clause-pending c =
-    let new = c.in_ok-held.held in (
-      cells_of new,
-      ap (λ (xs : List Held). map cells_of xs) c.in_ok-push.ensures.items ∙ map-append cells_of c.self.inside.held.items (new ∷ [])
-          ∙ ap (λ (zs : List (List ℕ)). zs ++ cells_of new ∷ []) (ap (λ (r : Roster). r.pending) c.self.view_is),
-      c.in_ok-held.ensures.pending,
-    )
+    let items = c.self.inside.held.entries in
+    let k = c.in_ok-name.name in
+    let x = c.in_ok-held.held in
+    let new = c.in_ok-insert.ensures.entries ∙ added c.self.inside.held k x c.args.name.now c.in_ok-name.ensures.ok (sym c.contains_key.ensures ∙ search rules) in
+    (x.pending.cells, told_more cells_of items _ k x c.args.self.now.pending x.pending.cells new (ap (λ (r : Roster). r.pending) c.self.view_is) refl, c.in_ok-held.ensures.pending)
+
+pub returns-clause-vacant : goal.returns-clause-vacant
+returns-clause-vacant c =
+    let items = c.self.inside.held.entries in
+    let k = c.in_ok-name.name in
+    let x = c.in_ok-held.held in
+    let new = c.in_ok-insert.ensures.entries ∙ added c.self.inside.held k x c.args.name.now c.in_ok-name.ensures.ok (sym c.contains_key.ensures ∙ search rules) in
+    λ i. ap (λ (zs : List (List ℕ)). get_or zs i [])
+    (told_more rooms_of items _ k x c.args.self.now.vacant [] new (ap (λ (r : Roster). r.vacant) c.self.view_is) c.in_ok-held.ensures.vacant)
+    ∙ empty_after c.args.self.now.vacant i
