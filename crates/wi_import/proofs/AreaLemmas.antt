@@ -1,7 +1,7 @@
 -- The rectangles of records, as the code goes through them.
-use Rattle.std.proofs.Common.{◌≡◌, ◌==◌, ℕ, ◌+◌, ◌-◌, ◌<◌, ◌≤◌, min, max, List, [], ◌∷◌, length, drop, get_or, Option, Some, None, false, refl, sym, ap, ◌∙◌, arith, Vec}
+use Rattle.std.proofs.Common.{◌≡◌, ◌==◌, ℕ, ◌+◌, ◌-◌, ◌<◌, ◌≤◌, min, max, List, [], ◌∷◌, ◌++◌, length, drop, get_or, Option, Some, None, false, refl, sym, ap, ◌∙◌, arith, Vec}
 use Rattle.std.specs.declared.alloc.Global.{Global}
-use Rattle.std.proofs.lemmas.List.{at_drop_more, length-map}
+use Rattle.std.proofs.lemmas.List.{at_drop_more, length-map, append_assoc, append-nil, drop_all}
 use Rattle.wi_values.specs.Address.{Area, columns, place, row_of, column_of, rect_of}
 use Rattle.wi_import.specs.Areas.{areas_from}
 use Rattle.wi_import.specs.Inner.Records.{bytes_of, all_bytes, area_of}
@@ -56,3 +56,32 @@ record_area row column (f ∷ fs) first last r some fits a b e =
     let part = row_part row column (length fs) (omega (arith, fits)) in
     ap Some (e ∙ ap (λ n. rect_of n last) a ∙ ap (rect_of (place row column)) (b ∙ ap (place row) sizes) ∙ part)
     ∙ ap (λ n. Some (area_to row column n)) (sym (length-map fs (λ x. x.items)))
+
+same_area : (row column r k i : ℕ) (now items : List (Vec ℕ Global)) → r ≡ row → k ≡ column → now ≡ items
+    → area_of (r + i) k (bytes_of now) ≡ area_of (row + i) column (bytes_of items)
+same_area row column r k i now items a b e =
+    ap (λ n. area_of (n + i) k (bytes_of now)) a ∙ ap (λ n. area_of (row + i) n (bytes_of now)) b ∙ ap (λ fs. area_of (row + i) column (bytes_of fs)) e
+
+-- with the rectangle that the code finds for this record, those so far and those of what is left behind it are all
+pub area_told : (row column r k i : ℕ) (records : List (Vec (Vec ℕ Global) Global)) (fields : Vec (Vec ℕ Global) Global) (now : List (Vec ℕ Global)) (found : Option Area) (before after all : List Area)
+    → i < length records → fields ≡ get_or records i fields → r ≡ row → k ≡ column → now ≡ fields.items → found ≡ area_of (r + i) k (bytes_of now)
+    → after ++ areas_left row column (i + 1) records ≡ before ++ area_before found (areas_left row column (i + 1) records) → before ++ areas_left row column i records ≡ all
+    → after ++ areas_left row column (i + 1) records ≡ all
+area_told row column r k i records fields now found before after all l e a b same is told whole =
+    told
+    ∙ ap (λ o. before ++ area_before o (areas_left row column (i + 1) records)) (is ∙ same_area row column r k i now fields.items a b same)
+    ∙ ap (λ xs. before ++ xs) (sym (next_area row column i records fields l e))
+    ∙ whole
+
+-- how the code tells the rectangle that it finds
+pub told_some : (before after more : List Area) (found : Option Area) (area : Area) → found ≡ Some area → after ≡ before ++ area ∷ [] → after ++ more ≡ before ++ area_before found more
+told_some before after more found area f e =
+    ap (λ xs. xs ++ more) e ∙ append_assoc before (area ∷ []) more ∙ ap (λ o. before ++ area_before o more) (sym f)
+
+pub told_none : (before after more : List Area) (found : Option Area) → found ≡ None → after ≡ before → after ++ more ≡ before ++ area_before found more
+told_none before after more found f e = ap (λ xs. xs ++ more) e ∙ ap (λ o. before ++ area_before o more) (sym f)
+
+-- behind the last record nothing is left
+pub all_told : (row column i : ℕ) (records : List (Vec (Vec ℕ Global) Global)) (areas all : List Area) → length records ≤ i → areas ++ areas_left row column i records ≡ all → areas ≡ all
+all_told row column i records areas all end whole =
+    sym (append-nil areas) ∙ ap (λ rs. areas ++ areas_from (row + i) column (all_bytes rs)) (sym (drop_all i records end)) ∙ whole

@@ -4,19 +4,22 @@ use Rattle.std.specs.declared.alloc.Global.{Global}
 use Rattle.std.specs.List.{list_any}
 use Rattle.std.specs.Str.{bytes_eq, is_utf8}
 use Rattle.std.proofs.lemmas.Bool.Decides.{nat_tests}
-use Rattle.std.proofs.lemmas.List.{at_drop_more, length-map}
+use Rattle.std.proofs.lemmas.List.{at_drop_more, length-map, map-append, append_assoc}
 use Rattle.std.proofs.lemmas.List.Folds.{list_any-append}
 use Rattle.std.proofs.lemmas.Slice.Eq.{bytes_eq-Decides}
 use Rattle.std.proofs.lemmas.Str.{IsUtf8-from_is_utf8, is_utf8-from_IsUtf8}
 use Rattle.wi_fraction.specs.Number.{Number as Numbers}
 use Rattle.wi_fraction.specs.Inner.Reading.{read}
-use Rattle.wi_values.specs.Address.{rows, columns}
+use Rattle.wi_values.specs.Address.{rows, columns, place}
 use Rattle.wi_values.specs.Import.{max_text}
-use Rattle.wi_values.specs.Inner.Import.{imported, number_or, words_value}
+use Rattle.wi_values.specs.Inner.Import.{imported, number_or, words_value, field_value}
 use Rattle.wi_values.specs.declared.value.Value.{Value}
-use Rattle.wi_values.specs.declared.value.Value.TheVariants.{Text, Logical}
+use Rattle.wi_values.specs.declared.value.Value.TheVariants.{Empty, Text, Logical}
+use Rattle.wi_parser.specs.Sheet.{constant}
+use Rattle.wi_parser.specs.declared.content.Content.{Content}
+use Rattle.wi_parser.specs.declared.content.Content.TheVariants.{Constant}
 use Rattle.wi_import.specs.Fields.{Field, fields_of, fields_from}
-use Rattle.wi_import.specs.Inner.Reading.{is_bad, is_too_long, is_outside, first_fault, fault_among}
+use Rattle.wi_import.specs.Inner.Reading.{is_bad, is_too_long, is_outside, first_fault, fault_among, change_of, content_for, content_of}
 use Rattle.wi_import.specs.Inner.Records.{bytes_of, all_bytes, is_faulty}
 
 -- ---- tests of bytes alone
@@ -256,3 +259,77 @@ none_found false o e = ap not (sym e)
 pub first_found : (fields : List Field) (a b c : Bool) → list_any (λ f. is_bad f.bytes) fields ≡ a → list_any (λ f. is_too_long f.bytes) fields ≡ b
     → list_any is_outside fields ≡ c → first_fault a b c ≡ fault_among fields
 first_found fields a b c e f g = rw (e, f, g)
+
+-- ---- what the code's turns keep
+
+parts_left : (p : Field → Bool) (row column i : ℕ) (records : List (Vec (Vec ℕ Global) Global)) (fields : Vec (Vec ℕ Global) Global) → i < length records → fields ≡ get_or records i fields
+    → list_any p (fields_left row column i records) ≡ false
+    → (list_any p (fields_of (row + i) column (bytes_of fields.items)) ≡ false) × (list_any p (fields_left row column (i + 1) records) ≡ false)
+parts_left p row column i records fields l e h =
+    or_parts (list_any p (fields_of (row + i) column (bytes_of fields.items))) (list_any p (fields_left row column (i + 1) records))
+    (sym (any_left p row column i records fields l e) ∙ h)
+
+same_fields : (row column r k i : ℕ) (now items : List (Vec ℕ Global)) → r ≡ row → k ≡ column → now ≡ items
+    → fields_of (r + i) k (bytes_of now) ≡ fields_of (row + i) column (bytes_of items)
+same_fields row column r k i now items a b e =
+    ap (λ n. fields_of (n + i) k (bytes_of now)) a ∙ ap (λ n. fields_of (row + i) n (bytes_of now)) b ∙ ap (λ fs. fields_of (row + i) column (bytes_of fs)) e
+
+-- what no field of what is left is, none of this record is, as the code has it
+pub this_record : (p : Field → Bool) (row column r k i : ℕ) (records : List (Vec (Vec ℕ Global) Global)) (fields : Vec (Vec ℕ Global) Global) (now : List (Vec ℕ Global))
+    → i < length records → fields ≡ get_or records i fields → r ≡ row → k ≡ column → now ≡ fields.items → list_any p (fields_left row column i records) ≡ false
+    → list_any p (fields_of (r + i) k (bytes_of now)) ≡ false
+this_record p row column r k i records fields now l e a b same h =
+    ap (list_any p) (same_fields row column r k i now fields.items a b same) ∙ (parts_left p row column i records fields l e h).0
+
+-- nor is one of the records behind it
+pub later_records : (p : Field → Bool) (row column i : ℕ) (records : List (Vec (Vec ℕ Global) Global)) (fields : Vec (Vec ℕ Global) Global) → i < length records → fields ≡ get_or records i fields
+    → list_any p (fields_left row column i records) ≡ false → list_any p (fields_left row column (i + 1) records) ≡ false
+later_records p row column i records fields l e h = (parts_left p row column i records fields l e h).1
+
+abbrev Changes : Type 0
+Changes = List (ℕ × Option Content)
+
+-- the changes of this record are appended, and those of what is left behind it are still to come
+pub record_changed : (row column r k i : ℕ) (records : List (Vec (Vec ℕ Global) Global)) (fields : Vec (Vec ℕ Global) Global) (now : List (Vec ℕ Global)) (before after all : Changes)
+    → i < length records → fields ≡ get_or records i fields → r ≡ row → k ≡ column → now ≡ fields.items
+    → after ≡ before ++ map change_of (fields_of (r + i) k (bytes_of now)) → before ++ map change_of (fields_left row column i records) ≡ all
+    → after ++ map change_of (fields_left row column (i + 1) records) ≡ all
+record_changed row column r k i records fields now before after all l e a b same pushed whole =
+    let here = fields_of (row + i) column (bytes_of fields.items) in
+    let more = fields_left row column (i + 1) records in
+    ap (λ xs. xs ++ map change_of more) (pushed ∙ ap (λ fs. before ++ map change_of fs) (same_fields row column r k i now fields.items a b same))
+    ∙ append_assoc before (map change_of here) (map change_of more)
+    ∙ ap (λ xs. before ++ xs) (sym (map-append change_of here more))
+    ∙ ap (λ fs. before ++ map change_of fs) (sym (next_record row column i records fields l e))
+    ∙ whole
+
+-- the change of this field is appended, and those of what is left behind it are still to come
+pub field_changed : (row column j : ℕ) (fields : List (Vec ℕ Global)) (field : Vec ℕ Global) (cell : ℕ) (content : Option Content) (before after all : Changes)
+    → j < length fields → field ≡ get_or fields j field → cell ≡ place row (column + j) → content ≡ content_of field.items → after ≡ before ++ (cell, content) ∷ []
+    → before ++ map change_of (cells_left row column j fields) ≡ all → after ++ map change_of (cells_left row column (j + 1) fields) ≡ all
+field_changed row column j fields field cell content before after all l e a b pushed whole =
+    let more = map change_of (cells_left row column (j + 1) fields) in
+    ap (λ xs. xs ++ more) pushed
+    ∙ append_assoc before ((cell, content) ∷ []) more
+    ∙ ap (λ n. before ++ (n, content) ∷ more) a
+    ∙ ap (λ o. before ++ (place row (column + j), o) ∷ more) b
+    ∙ ap (λ fs. before ++ map change_of fs) (sym (next_field row column j fields field l e))
+    ∙ whole
+
+-- what no field of what is left is, none behind this one is
+pub later_fields : (p : Field → Bool) (row column j : ℕ) (fields : List (Vec ℕ Global)) (field : Vec ℕ Global) → j < length fields → field ≡ get_or fields j field
+    → list_any p (cells_left row column j fields) ≡ false → list_any p (cells_left row column (j + 1) fields) ≡ false
+later_fields p row column j fields field l e h =
+    (or_parts (p (field_at row (column + j) field)) (list_any p (cells_left row column (j + 1) fields))
+    (sym (ap (list_any p) (next_field row column j fields field l e)) ∙ h)).1
+
+-- what a field that isn't Empty is taken for is its cell's content
+pub constant_is : (bytes : List ℕ) (v : Value) → field_value bytes ≡ Some v → (v ≡ Empty → ⊥) → Some (Constant v) ≡ content_of bytes
+constant_is bytes v e n = sym (ap content_for e ∙ shown v n)
+  where
+    shown : (w : Value) → (w ≡ Empty → ⊥) → constant w ≡ Some (Constant w)
+    shown Empty m = absurd (m refl)
+    shown w m = refl
+
+pub empty_is : (bytes : List ℕ) (v : Value) → field_value bytes ≡ Some v → v ≡ Empty → None ≡ content_of bytes
+empty_is bytes v e is = sym (ap content_for (e ∙ ap Some is))

@@ -13,6 +13,7 @@ use wi_parser::Content;
 use wi_values::{Address, FieldFault, Value, field_value};
 
 /// What the cell of each field of these records gets, the first field being for this cell. No field has a fault.
+/// Room for all of them, and no more, is made before the first.
 pub fn changes(
     alloc: Global,
     at: Address,
@@ -21,7 +22,7 @@ pub fn changes(
     requires { list_any is_faulty (fields_from (row_of at) (column_of at) (all_bytes records.now)) ≡ false }
     ensures { IfOk result (λ changes. changes.items ≡ map change_of (fields_from (row_of at) (column_of at) (all_bytes records.now))) }
 {
-    let mut changes = Vec::new(alloc);
+    let mut changes = Vec::with_capacity(alloc, field_count(records))?;
     for (i, fields) in records.iter().enumerate() {
         push_record(
             alloc,
@@ -32,6 +33,15 @@ pub fn changes(
         )?;
     }
     Ok(changes)
+}
+
+// How many fields these records have.
+fn field_count(records: &[Vec<Vec<u8>>]) -> usize {
+    let mut count: usize = 0;
+    for fields in records {
+        count = count.saturating_add(fields.len());
+    }
+    count
 }
 
 // Appends what the cells of a record get, which is in this row, from a column on. On an error a part may be there.

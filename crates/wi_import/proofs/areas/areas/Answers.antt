@@ -1,6 +1,30 @@
-use Rattle.std.proofs.Common.{arith}
-use Rattle.std.proofs.lemmas.Grind.{common_steps}
+use Rattle.std.proofs.Common.{◌≡◌, ◌+◌, ◌++◌, refl, ◌∙◌, rules, arith}
+use Rattle.wi_values.specs.Address.{row_of, column_of}
+use Rattle.wi_import.specs.Inner.Reading.{is_outside}
+use Rattle.wi_import.proofs.AreaLemmas.{area_before, areas_left, area_told, told_some, told_none, all_told}
+use Rattle.wi_import.proofs.FieldLemmas.{this_record, later_records}
+use Rattle.wi_import.proofs.areas.areas.Goals.{in-Some+in_ok-push, in_default}
 use Rattle.wi_import.proofs.areas.areas.Goals as goal
 
+pub area-requires : goal.area-requires
+area-requires c =
+    this_record is_outside (row_of c.args.at) (column_of c.args.at) c.row.result c.column.result c.loop-i.i c.args.records.now c.index-records-i.result c.deref.result.now
+    c.loop-i-test.true c.index-records-i.is c.row.ensures.value c.column.ensures.value c.deref.ensures.value c.loop-i.invariant.inside
+
+pub loop-i-preserved : goal.loop-i-preserved
+loop-i-preserved c =
+    let more = areas_left (row_of c.args.at) (column_of c.args.at) (c.loop-i.i + 1) c.args.records.now in
+    let before = c.loop-i.areas.items in
+    let after = c.match-area.areas.items in
+    let told : after ++ more ≡ before ++ area_before c.area.result more = elim c.match-area.branch [
+      | in-Some+in_ok-push w ↦ told_some before after more c.area.result w.in-Some.area w.in-Some.is (rw w.areas-is w.in_ok-push.ensures.items)
+      | in_default w ↦ told_none before after more c.area.result w.in_default.is (rw w.areas-is refl)
+    ] in
+    record {
+      whole = area_told (row_of c.args.at) (column_of c.args.at) c.row.result c.column.result c.loop-i.i c.args.records.now c.index-records-i.result c.deref.result.now c.area.result
+          before after _ c.loop-i-test.true c.index-records-i.is c.row.ensures.value c.column.ensures.value c.deref.ensures.value c.area.ensures told c.loop-i.invariant.whole;
+      inside = later_records is_outside (row_of c.args.at) (column_of c.args.at) c.loop-i.i c.args.records.now c.index-records-i.result c.loop-i-test.true c.index-records-i.is c.loop-i.invariant.inside;
+    }
+
 pub returns : goal.returns
-returns c = grind (arith, common_steps)
+returns c = (search rules) ∙ all_told (row_of c.args.at) (column_of c.args.at) c.loop-i.i c.args.records.now c.loop-i.areas.items _ (omega arith) c.loop-i.invariant.whole
