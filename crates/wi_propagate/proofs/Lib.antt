@@ -1,4 +1,5 @@
 pub mod CellsAhead
+pub mod EmptyCells
 pub mod Marks
 pub mod SavingEntries
 pub mod Showing

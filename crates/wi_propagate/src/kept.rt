@@ -193,7 +193,7 @@ impl Calculator for KeptCalculator {
         let Some(kept) = self.kept.take() else {
             unreachable!()
         };
-        let cones = take_cones(self.alloc, &mut self.cones);
+        let cones = take_cones(self.alloc, put.len(), &mut self.cones);
         let mut memo = Keeping::new(
             self.alloc,
             &self.store,
@@ -263,7 +263,7 @@ impl Calculator for KeptCalculator {
         let Some(kept) = self.kept.take() else {
             unreachable!()
         };
-        let cones = take_cones(self.alloc, &mut self.cones);
+        let cones = take_cones(self.alloc, put.len(), &mut self.cones);
         let mut memo = Keeping::new(
             self.alloc,
             &self.store,

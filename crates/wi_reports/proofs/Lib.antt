@@ -2,4 +2,5 @@ pub mod RowLemmas
 pub mod TextLemmas
 pub mod TableLemmas
 pub mod CompareLemmas
+pub mod ChangeLemmas
 pub mod Differences

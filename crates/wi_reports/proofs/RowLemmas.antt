@@ -1,9 +1,9 @@
 -- The record of a row, and the records of rows, as they grow.
-use Rattle.std.proofs.Common.{◌≡◌, ℕ, zero, suc, add-one, ◌+◌, List, [], ◌∷◌, ◌++◌, map, sym, ap, ◌∙◌, arith, Result, Ok, Err, OnOk, OnErr, is_ok, subst, if◌then◌else◌}
+use Rattle.std.proofs.Common.{◌≡◌, ℕ, zero, suc, add-one, ◌+◌, ◌-◌, List, [], ◌∷◌, ◌++◌, map, sym, ap, ◌∙◌, arith, Result, Ok, Err, OnOk, OnErr, is_ok, subst, if◌then◌else◌}
 use Rattle.std.specs.Io.{StartsWith}
 use Rattle.std.specs.List.{flat_map, range_with_len}
 use Rattle.std.proofs.lemmas.List.{flat_map_more}
-use Rattle.wi_values.specs.Address.{Area, cells_of_row}
+use Rattle.wi_values.specs.Address.{Area, row_of, rows_in, cells_of_row}
 use Rattle.wi_values.specs.declared.replacement.Replacement.{Replacement}
 use Rattle.wi_store.specs.Store.{Stored}
 use Rattle.wi_csv.specs.Row as csv
@@ -48,6 +48,15 @@ rows_more put stored stored' area first n m r out before next e more_is same h k
     let more : range_with_len first (n + 1) ≡ range_with_len first n ++ r ∷ [] = ap (range_with_len first) (add-one n) ∙ range_more first n r e in
     k ∙ ap (λ (x : Stored). out ++ row_shown x.sheet put area r) same ∙ ap (λ x. x ++ f r) h ∙ flat_map_more f before (range_with_len first n) r
     ∙ ap (λ xs. before ++ flat_map f xs) (sym more) ∙ ap (λ x. before ++ flat_map f (range_with_len first x)) (sym more_is)
+
+-- all rows
+pub all_rows : (f : List ℕ → List ℕ) (area : Area) (upper first lower last n : ℕ) (before out : List ℕ) → upper ≡ area.first → first ≡ row_of upper → lower ≡ area.last → last ≡ row_of lower
+    → n ≡ (last + 1) - first → out ≡ before ++ f (range_with_len first n) → out ≡ before ++ f (rows_in area)
+all_rows f area upper first lower last n before out u_is first_is l_is last_is e h =
+    let a : first ≡ row_of area.first = first_is ∙ ap row_of u_is in
+    let b : last ≡ row_of area.last = last_is ∙ ap row_of l_is in
+    let all : n ≡ (row_of area.last + 1) - row_of area.first = e ∙ ap (λ x. (x + 1) - first) b ∙ ap (λ x. (row_of area.last + 1) - x) a in
+    h ∙ ap (λ x. before ++ f (range_with_len x n)) a ∙ ap (λ x. before ++ f (range_with_len (row_of area.first) x)) all
 
 -- ---- the cells of a rectangle, row after row
 

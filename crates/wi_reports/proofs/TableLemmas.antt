@@ -37,6 +37,15 @@ pub written_as : {X E : Type 0} (bytes : X → List ℕ) (r : Result (Unit {0}) 
 written_as bytes (Ok u) fields lent written before next same h k = k ∙ ap (λ ts. before ++ row ts) (ap (map bytes) same ∙ h)
 written_as bytes (Err x) fields lent written before next same h k = tt
 
+-- the record of a first text and those after it
+pub row_written : {X E : Type 0} (bytes : X → List ℕ) (r : Result (Unit {0}) E) (one : List ℕ) (more : Stored → List (List ℕ)) (stored stored' : Stored) (none firsts written lent : List X) (before next : List ℕ)
+    → none ≡ [] → map bytes firsts ≡ map bytes none ++ one ∷ [] → stored' ≡ stored → map bytes written ≡ map bytes firsts ++ more stored' → lent ≡ written
+    → OnOk r (next ≡ before ++ row (map bytes lent)) → OnOk r (next ≡ before ++ row (one ∷ more stored))
+row_written bytes r one more stored stored' none firsts written lent before next empty first same all is =
+    let fields : map bytes written ≡ one ∷ more stored =
+    all ∙ ap (λ ts. ts ++ more stored') (first ∙ ap (λ xs. map bytes xs ++ one ∷ []) empty) ∙ ap (λ (s : Stored). one ∷ more s) same in
+    written_as bytes r (one ∷ more stored) lent written before next is fields
+
 -- one more cell of a column
 column_more : (area : Area) (first n m r c at : ℕ) → is_column area ≡ true → c ≡ column_of area.first → first + n ≡ r → m ≡ n + 1 → at ≡ place r c → rows_from area first m ≡ rows_from area first n ++ at ∷ []
 column_more area first n m r c at one is e more place_is =

@@ -1,6 +1,6 @@
 //! The cells of a rectangle whose values under two lists of replacements differ, a record for each.
 
-ghost use Rattle.std.specs.Prelude.{◌≡◌, ◌++◌, ◌<◌, IfOk, OnOk, OnErr, string_bytes};
+ghost use Rattle.std.specs.Prelude.{◌≡◌, ◌++◌, ◌∷◌, ◌<◌, [], IfOk, OnOk, OnErr, string_bytes};
 ghost use Rattle.std.specs.List.{flat_map};
 ghost use Rattle.std.specs.Io.{StartsWith};
 ghost use Rattle.wi_values.specs.Address.{rows, cells_of_row};
@@ -8,6 +8,7 @@ ghost use Rattle.wi_values.specs.Replacements.{IsInOrder};
 ghost use Rattle.wi_values.specs.Value.{shown_text};
 ghost use Rattle.wi_fraction.specs.Arithmetic.{sum_of, negated};
 ghost use Rattle.wi_sheet.specs.Shown as show;
+ghost use Rattle.wi_csv.specs.Row.{row};
 ghost use Rattle.wi_reports.specs.Compare.{number_text, difference_text, difference_record, cell_compared, cells_compared};
 
 use crate::texts::{address_text, shown_text};
@@ -149,10 +150,26 @@ fn push_difference(
         return Ok(());
     }
     let address = address_text(alloc, at)?;
+    let difference = difference_text(alloc, first, second)?;
+    push_values(alloc, &address, first, second, &difference, out)
+}
+
+/// Appends the record of an address, two values, and their difference. On an error the bytes are as before.
+fn push_values(
+    alloc: Global,
+    address: &str,
+    first: &Value,
+    second: &Value,
+    difference: &str,
+    out: &mut Vec<u8>,
+) -> Result<(), AllocError>
+    ensures ok { let fields = address.now ∷ shown_text first.now ∷ shown_text second.now ∷ difference.now ∷ [] in
+        OnOk result (out.new.items ≡ out.old.items ++ row fields) }
+    ensures err { OnErr result (out.new.items ≡ out.old.items) }
+{
     let before = shown_text(alloc, first)?;
     let after = shown_text(alloc, second)?;
-    let difference = difference_text(alloc, first, second)?;
-    push_record(&[address, before, after, difference], out)
+    push_record(&[address, before.as_str(), after.as_str(), difference], out)
 }
 
 /// The text of the second value less the first, where both are numbers; else an empty one.

@@ -1,6 +1,6 @@
 //! A cell's address, and its content as a text.
 
-ghost use Rattle.std.specs.Prelude.{◌≡◌, ◌++◌, Some, OnOk, OnErr, string_bytes};
+ghost use Rattle.std.specs.Prelude.{◌≡◌, ◌++◌, Some, IfOk, OnOk, OnErr, string_bytes};
 ghost use Rattle.wi_parser.specs.Sheet.{content_of};
 ghost use Rattle.wi_reports.specs.Contents.{constant_text, content_text, content_record};
 
@@ -23,23 +23,23 @@ pub fn push_content<C: Calculator>(
     ensures err { OnErr result (out.new.items ≡ out.old.items) }
 {
     let address = address_text(alloc, at)?;
-    let mut content = String::new(alloc);
-    push_content_of(calculator, at, &mut content)?;
+    let content = content_text(alloc, calculator, at)?;
     push_record(&[address.as_str(), content.as_str()], out)
 }
 
-/// Appends what stands in a cell.
-fn push_content_of<C: Calculator>(
+/// The text of what stands in a cell.
+fn content_text<C: Calculator>(
+    alloc: Global,
     calculator: &C,
     at: Address,
-    text: &mut String,
-) -> Result<(), AllocError>
-    ensures { OnOk result (string_bytes text.new ≡ string_bytes text.old ++ content_text (content_of (C.stored calculator.now).sheet at)) }
+) -> Result<String, AllocError>
+    ensures { IfOk result (λ text. string_bytes text ≡ content_text (content_of (C.stored calculator.now).sheet at)) }
 {
-    match calculator.content(at) {
-        Some(content) => push_content_text(content, text),
-        None => Ok(()),
+    let mut text = String::new(alloc);
+    if let Some(content) = calculator.content(at) {
+        push_content_text(content, &mut text)?;
     }
+    Ok(text)
 }
 
 /// Appends a content.
@@ -61,9 +61,6 @@ fn push_constant(value: &Value, text: &mut String) -> Result<(), AllocError>
             text.push_str("'")?;
             text.push_str(bytes.as_str())
         }
-        Value::Empty => value.push_shown(text),
-        Value::Number(_) => value.push_shown(text),
-        Value::Logical(_) => value.push_shown(text),
-        Value::Fault(_) => value.push_shown(text),
+        _ => value.push_shown(text),
     }
 }

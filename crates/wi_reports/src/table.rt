@@ -9,7 +9,7 @@ ghost use Rattle.wi_csv.specs.Row.{row};
 ghost use Rattle.wi_reports.specs.Rows.{text_under};
 ghost use Rattle.wi_reports.specs.Table as spec;
 
-use crate::texts::{push_texts, shown_text, text_under};
+use crate::texts::{push_text_of, push_text_under, push_texts};
 use std::alloc::{AllocError, Global};
 use wi_csv::push_record;
 use wi_propagate::Calculator;
@@ -195,7 +195,7 @@ fn push_row<C: Calculator>(
     ensures same { C.stored calculator.new ≡ C.stored calculator.old }
 {
     let mut texts = Vec::new(alloc);
-    texts.push(text_under(alloc, calculator, put, x)?)?;
+    push_text_under(alloc, calculator, put, x, &mut texts)?;
     push_entries(alloc, calculator, put, table, x, &mut texts)?;
     push_record(&texts, out)
 }
@@ -219,8 +219,7 @@ fn push_entries<C: Calculator>(
     match table.second {
         None => {
             let pairs = [(table.input, x)];
-            texts.push(entry_text(alloc, calculator, put, table.formula_cell, &pairs)?)?;
-            Ok(())
+            push_entry(alloc, calculator, put, table.formula_cell, &pairs, texts)
         }
         Some((second, cells)) => {
             push_row_entries(alloc, calculator, put, table, x, second, cells, texts)
@@ -250,13 +249,13 @@ fn push_row_entries<C: Calculator>(
     let first = cells.first().column();
     for column in first..cells.last().column() + 1 {
         let y = Address::at(row, column);
-        texts.push(text_at(alloc, calculator, put, table, x, second, y)?)?;
+        push_entry_at(alloc, calculator, put, table, x, second, y, texts)?;
     }
     Ok(())
 }
 
-/// The text of the entry for a cell of the column and one of the row.
-fn text_at<C: Calculator>(
+/// Appends the text of the entry for a cell of the column and one of the row.
+fn push_entry_at<C: Calculator>(
     alloc: Global,
     calculator: &mut C,
     put: &[Replacement],
@@ -264,30 +263,32 @@ fn text_at<C: Calculator>(
     x: Address,
     second: Address,
     y: Address,
-) -> Result<String, AllocError>
+    texts: &mut Vec<String>,
+) -> Result<(), AllocError>
     requires { IsInOrder put.now }
     ensures text { let sheet = (C.stored calculator.old).sheet in
-        IfOk result (λ text. string_bytes text
-        ≡ spec.entry_text sheet put.now table.now.formula_cell (spec.pairs_at table.now.input x second y)) }
+        let text = spec.entry_text sheet put.now table.now.formula_cell (spec.pairs_at table.now.input x second y) in
+        OnOk result (map string_bytes texts.new.items ≡ map string_bytes texts.old.items ++ text ∷ []) }
     ensures same { C.stored calculator.new ≡ C.stored calculator.old }
 {
     let pairs = [(table.input, x), (second, y)];
-    entry_text(alloc, calculator, put, table.formula_cell, &pairs)
+    push_entry(alloc, calculator, put, table.formula_cell, &pairs, texts)
 }
 
-/// The text of an entry, for pairs of an input and the cell whose value takes its place.
-fn entry_text<C: Calculator>(
+/// Appends the text of an entry, for pairs of an input and the cell whose value takes its place.
+fn push_entry<C: Calculator>(
     alloc: Global,
     calculator: &mut C,
     put: &[Replacement],
     formula_cell: Address,
     pairs: &[(Address, Address)],
-) -> Result<String, AllocError>
+    texts: &mut Vec<String>,
+) -> Result<(), AllocError>
     requires { IsInOrder put.now }
-    ensures text { let sheet = (C.stored calculator.old).sheet in
-        IfOk result (λ text. string_bytes text ≡ spec.entry_text sheet put.now formula_cell pairs.now) }
+    ensures text { let text = spec.entry_text (C.stored calculator.old).sheet put.now formula_cell pairs.now in
+        OnOk result (map string_bytes texts.new.items ≡ map string_bytes texts.old.items ++ text ∷ []) }
     ensures same { C.stored calculator.new ≡ C.stored calculator.old }
 {
     let value = calculator.what_if_value(put, formula_cell, pairs)?;
-    shown_text(alloc, &value)
+    push_text_of(alloc, &value, texts)
 }

@@ -28,19 +28,29 @@ pub fn address_text(alloc: Global, at: Address) -> Result<String, AllocError>
     Ok(text)
 }
 
-/// The text that a cell shows under replacements.
-pub fn text_under<C: Calculator>(
+/// Appends the text that is shown for a value.
+pub fn push_text_of(alloc: Global, value: &Value, texts: &mut Vec<String>) -> Result<(), AllocError>
+    ensures { OnOk result (map string_bytes texts.new.items ≡ map string_bytes texts.old.items ++ shown_text value.now ∷ []) }
+{
+    texts.push(shown_text(alloc, value)?)?;
+    Ok(())
+}
+
+/// Appends the text that a cell shows under replacements.
+pub fn push_text_under<C: Calculator>(
     alloc: Global,
     calculator: &mut C,
     put: &[Replacement],
     at: Address,
-) -> Result<String, AllocError>
+    texts: &mut Vec<String>,
+) -> Result<(), AllocError>
     requires { IsInOrder put.now }
-    ensures text { IfOk result (λ text. string_bytes text ≡ text_under (C.stored calculator.old).sheet put.now at) }
+    ensures text { let text = text_under (C.stored calculator.old).sheet put.now at in
+        OnOk result (map string_bytes texts.new.items ≡ map string_bytes texts.old.items ++ text ∷ []) }
     ensures same { C.stored calculator.new ≡ C.stored calculator.old }
 {
     let value = calculator.value(put, at)?;
-    shown_text(alloc, &value)
+    push_text_of(alloc, &value, texts)
 }
 
 /// Appends the texts that the cells of one row of a rectangle show under replacements.
@@ -60,7 +70,7 @@ pub fn push_texts<C: Calculator>(
 {
     let first = area.first().column();
     for column in first..area.last().column() + 1 {
-        texts.push(text_under(alloc, calculator, put, Address::at(row, column))?)?;
+        push_text_under(alloc, calculator, put, Address::at(row, column), texts)?;
     }
     Ok(())
 }

@@ -2,15 +2,12 @@
 use Rattle.std.proofs.Common.{◌≡◌, ◌==◌, ℕ, ◌+◌, ◌<◌, ◌≤◌, Bool, true, false, not, cond, ◌||◌, ◌&&◌, List, [], ◌∷◌, ◌++◌, map, filter, length, drop, get_or, Option, Some, None, refl, sym, ap, ◌∙◌, subst, add-one, drop-cons, arith}
 use Rattle.std.proofs.lemmas.Bool.{false≢true}
 use Rattle.std.proofs.lemmas.Bool.Decides.{nat_tests}
-use Rattle.std.proofs.lemmas.Grind.{common_steps}
 use Rattle.std.proofs.lemmas.List.{append_assoc, append-nil, drop_all}
 use Rattle.std.proofs.lemmas.List.Folds.{list_any-append}
-use Rattle.wi_fraction.specs.Order.Laws.{numbers}
-use Rattle.wi_values.specs.Inner.Same.{texts}
 use Rattle.wi_values.specs.declared.value.Value.{Value}
 use Rattle.wi_values.specs.declared.replacement.Replacement.{Replacement}
 use Rattle.wi_values.specs.Replacements.{replaced}
-use Rattle.wi_sessions.specs.Pictures.{same_value}
+use Rattle.wi_values.proofs.Equal.{same_replacement_Decides}
 use Rattle.wi_sessions.specs.Pictures.Laws.{is_listed}
 use Rattle.wi_scenarios.specs.Inner.Switch.{same_option, differing, AreDiffering}
 
@@ -52,18 +49,22 @@ module _ (before after : List Replacement) where
 
   -- ---- what both walks tell
 
+  -- a value in the place of the first cell
+  abbrev at_first : Value → Replacement
+  at_first v = record { at = 0; value = v }
+
   same_means : (o p : Option Value) → same_option o p ≡ true → o ≡ p
   same_means None None e = refl
   same_means None (Some w) e = absurd (false≢true e)
   same_means (Some v) None e = absurd (false≢true e)
-  same_means (Some v) (Some w) e = ap Some (let same : same_value v w ≡ true = e in grind (arith, common_steps, numbers, texts))
+  same_means (Some v) (Some w) e = ap (λ (r : Replacement). Some r.value) ((same_replacement_Decides (at_first v) (at_first w)).0 e)
 
   other_means : (o p : Option Value) → same_option o p ≡ false → o ≡ p → ⊥
   other_means None None e same = absurd (false≢true (sym e))
   other_means None (Some w) e same = cc
   other_means (Some v) None e same = cc
   other_means (Some v) (Some w) e same =
-      let one : v ≡ w = cc in let differ : same_value v w ≡ false = e in grind (arith, common_steps, numbers, texts)
+      let one : v ≡ w = cc in absurd (false≢true (sym e ∙ (same_replacement_Decides (at_first v) (at_first w)).1 (ap at_first one)))
 
   listed-filter : (p : ℕ → Bool) (xs : List ℕ) (a : ℕ) → is_listed (filter p xs) a ≡ (is_listed xs a && p a)
   listed-filter p [] a = refl

@@ -17,11 +17,11 @@ use Rattle.wi_scenarios.specs.State.{State}
 use Rattle.wi_scenarios.specs.Answer.{Answer, may_grow, MayRefuse, Serves}
 use Rattle.wi_scenarios.specs.Causes.{no_cause}
 use Rattle.wi_scenarios.specs.Edits.{Edit, edit_answer}
-use Rattle.wi_scenarios.specs.Fill.{fill_edit, fill_step, shift_refusal, has_no_copy, or_nothing}
+use Rattle.wi_scenarios.specs.Fill.{fill_edit, fill_step, shift_refusal, copy_to, has_no_copy, or_nothing}
 use Rattle.wi_scenarios.specs.Areas.{max_area}
 use Rattle.wi_parser.specs.declared.shift.ShiftFault.{ShiftFault}
 use Rattle.wi_parser.specs.declared.shift.ShiftFault.TheVariants as shift
-use Rattle.wi_scenarios.specs.Inner.Copies.{copy_to, leaves, AreCopies, CopiesAs, HasNoCopies}
+use Rattle.wi_scenarios.specs.Inner.Copies.{AreCopies, CopiesAs, HasNoCopies}
 use Rattle.std.proofs.lemmas.Bool.{false≢true, cases_lt}
 use Rattle.wi_scenarios.proofs.EditLemmas.{edit_grows, same_edit}
 
@@ -35,11 +35,11 @@ by_causes s force false true e = refl
 by_causes s force false false e = refl
 
 -- a rectangle that is too large, or not
-step_is : (s : State) (force : Bool) (from : ℕ) (area : Area) (large outside : Bool) → nat_lt max_area (size_of area) ≡ large → list_any (has_no_copy s.stored.sheet from) (cells_of area) ≡ outside →
+step_is : (s : State) (force : Bool) (from : ℕ) (area : Area) (large outside : Bool) → nat_lt max_area (size_of area) ≡ large → list_any (has_no_copy (content_of s.stored.sheet from) from) (cells_of area) ≡ outside →
     fill_step s force from area ≡ filled_by s force large outside (fill_edit s.stored.sheet from area)
 step_is s force from area large outside l o =
-    by_causes s force (nat_lt max_area (size_of area)) (list_any (has_no_copy s.stored.sheet from) (cells_of area)) (fill_edit s.stored.sheet from area)
-    ∙ ap (λ (b : Bool). filled_by s force b (list_any (has_no_copy s.stored.sheet from) (cells_of area)) (fill_edit s.stored.sheet from area)) l
+    by_causes s force (nat_lt max_area (size_of area)) (list_any (has_no_copy (content_of s.stored.sheet from) from) (cells_of area)) (fill_edit s.stored.sheet from area)
+    ∙ ap (λ (b : Bool). filled_by s force b (list_any (has_no_copy (content_of s.stored.sheet from) from) (cells_of area)) (fill_edit s.stored.sheet from area)) l
     ∙ ap (λ (b : Bool). filled_by s force large b (fill_edit s.stored.sheet from area)) o
 
 pub fill_too_large : (s : State) (force : Bool) (from : ℕ) (area : Area) → nat_lt max_area (size_of area) ≡ true → Serves (λ a. fill_step s force from area ≡ a) (Err TooLarge) s s []
@@ -52,7 +52,7 @@ filled_grows s force false e = edit_grows s force e
 
 fill_grows : (s : State) (force : Bool) (from : ℕ) (area : Area) → nat_lt max_area (size_of area) ≡ false → may_grow (fill_step s force from area) ≡ true
 fill_grows s force from area l =
-    let outside = list_any (has_no_copy s.stored.sheet from) (cells_of area) in
+    let outside = list_any (has_no_copy (content_of s.stored.sheet from) from) (cells_of area) in
     ap may_grow (step_is s force from area false outside l refl) ∙ filled_grows s force outside (fill_edit s.stored.sheet from area)
 
 -- ---- copies, one after another
@@ -65,8 +65,8 @@ pub one_copy : (content : Option Content) (from to : ℕ) (cells : List ℕ) (ch
     → AreCopies content from cells changes → AreCopies content from (cells ++ to ∷ []) new
 one_copy content from to cells changes new copy e grown h = record {
   all =
-      list_any-append (leaves content from) cells (to ∷ [])
-      ∙ ap (λ (b : Bool). b || list_any (leaves content from) (to ∷ [])) h.all
+      list_any-append (has_no_copy content from) cells (to ∷ [])
+      ∙ ap (λ (b : Bool). b || list_any (has_no_copy content from) (to ∷ [])) h.all
       ∙ ap (λ o. not (is_some o) || false) e;
   each =
       grown ∙ ap (λ (xs : List (ℕ × Option Content)). xs ++ (to, copy) ∷ []) h.each
@@ -75,11 +75,11 @@ one_copy content from to cells changes new copy e grown h = record {
 }
 
 -- a cell that has no copy
-pub leaves_at : (content : Option Content) (from to : ℕ) (cells more : List ℕ) → copy_to content from to ≡ None → list_any (leaves content from) (cells ++ to ∷ more) ≡ true
-leaves_at content from to [] more e = ap (λ o. not (is_some o) || list_any (leaves content from) more) e
-leaves_at content from to (c ∷ cells) more e = by (leaves content from c) (leaves_at content from to cells more e)
+pub leaves_at : (content : Option Content) (from to : ℕ) (cells more : List ℕ) → copy_to content from to ≡ None → list_any (has_no_copy content from) (cells ++ to ∷ more) ≡ true
+leaves_at content from to [] more e = ap (λ o. not (is_some o) || list_any (has_no_copy content from) more) e
+leaves_at content from to (c ∷ cells) more e = by (has_no_copy content from c) (leaves_at content from to cells more e)
   where
-    by : (b : Bool) → list_any (leaves content from) (cells ++ to ∷ more) ≡ true → (b || list_any (leaves content from) (cells ++ to ∷ more)) ≡ true
+    by : (b : Bool) → list_any (has_no_copy content from) (cells ++ to ∷ more) ≡ true → (b || list_any (has_no_copy content from) (cells ++ to ∷ more)) ≡ true
     by true ih = refl
     by false ih = ih
 
@@ -145,14 +145,14 @@ one_cell content from row first n m column to cells changes new copy e more at f
 pub no_copy_in_row : (content : Option Content) (from row first n column to : ℕ) (fault : ShiftFault) → first ≤ column → column < first + n → to ≡ place row column
     → CopiesAs (copy_to content from to) (Err fault) → HasNoCopies content from (cells_in row first n) fault
 no_copy_in_row content from row first n column to shift.LeavesSheet l m at h =
-    any_in_range (leaves content from) (place row) first n column l m
-    (ap (λ (x : ℕ). leaves content from x) (sym at) ∙ ap (λ o. not (is_some o)) h)
+    any_in_range (has_no_copy content from) (place row) first n column l m
+    (ap (λ (x : ℕ). has_no_copy content from x) (sym at) ∙ ap (λ o. not (is_some o)) h)
 no_copy_in_row content from row first n column to shift.Memory l m at h = tt
 
 -- a row has a cell that has no copy
 pub no_copy_in_rows : (content : Option Content) (from : ℕ) (area : Area) (first n row : ℕ) (fault : ShiftFault) → first ≤ row → row < first + n
     → HasNoCopies content from (cells_of_row row area) fault → HasNoCopies content from (flat_map (λ r. cells_of_row r area) (range_with_len first n)) fault
-no_copy_in_rows content from area first n row shift.LeavesSheet l m h = any_in_lists (leaves content from) (λ r. cells_of_row r area) first n row l m h
+no_copy_in_rows content from area first n row shift.LeavesSheet l m h = any_in_lists (has_no_copy content from) (λ r. cells_of_row r area) first n row l m h
 no_copy_in_rows content from area first n row shift.Memory l m h = tt
 
 -- the cells of the first rows
@@ -188,8 +188,8 @@ fill_leaves r s force content from area fault at small k none =
   where
     by : (e : Refusal) (f : ShiftFault) → e ≡ shift_refusal f → HasNoCopies content from (cells_of area) f → MayRefuse e (λ a. fill_step s force from area ≡ a)
     by e shift.LeavesSheet same outside =
-        let leaves_it : list_any (has_no_copy s.stored.sheet from) (cells_of area) ≡ true =
-        subst (λ c. list_any (leaves c from) (cells_of area) ≡ true) at outside in
+        let leaves_it : list_any (has_no_copy (content_of s.stored.sheet from) from) (cells_of area) ≡ true =
+        subst (λ c. list_any (has_no_copy c from) (cells_of area) ≡ true) at outside in
         subst (λ (x : Refusal). MayRefuse x (λ a. fill_step s force from area ≡ a)) (sym same) (step_is s force from area false true small leaves_it)
     by e shift.Memory same u =
         subst (λ (x : Refusal). MayRefuse x (λ a. fill_step s force from area ≡ a)) (sym same)
@@ -213,7 +213,7 @@ module _ (s t : State) (force : Bool) (content : Option Content) (from : ℕ) (a
   pub fill_edited : (r : Result (Unit {0}) Refusal) → nat_lt max_area (size_of area) ≡ false → named ≡ area ∷ []
       → Serves (λ a. edit_answer s force no_cause (record { named = named; contents = contents }) ≡ a) r s t [] → Serves (λ a. fill_step s force from area ≡ a) r s t []
   fill_edited r small n h =
-      let all : list_any (has_no_copy s.stored.sheet from) (cells_of area) ≡ false = subst (λ c. list_any (leaves c from) (cells_of area) ≡ false) at copies.all in
+      let all : list_any (has_no_copy (content_of s.stored.sheet from) from) (cells_of area) ≡ false = subst (λ c. list_any (has_no_copy c from) (cells_of area) ≡ false) at copies.all in
       let same : ◌≡◌ {A = Edit} (record { named = named; contents = contents }) (fill_edit s.stored.sheet from area) =
       same_edit named (area ∷ []) contents (fill_edit s.stored.sheet from area).contents n copies_are in
       subst (λ (x : Answer). Serves (λ a. x ≡ a) r s t []) (ap (edit_answer s force no_cause) same ∙ sym (step_is s force from area false false small all)) h

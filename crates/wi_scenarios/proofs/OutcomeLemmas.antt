@@ -6,6 +6,7 @@ use Rattle.std.specs.Option.{option_or}
 use Rattle.std.specs.Str.{bytes_eq}
 use Rattle.std.proofs.lemmas.Slice.Eq.{bytes_eq-Decides}
 use Rattle.wi_values.specs.Address.{Area, size_of, cells_of}
+use Rattle.wi_parser.specs.Sheet.{content_of}
 use Rattle.wi_store.specs.Store.{Stored, applied}
 use Rattle.wi_store.specs.declared.fault.StoreFault.{StoreFault}
 use Rattle.wi_import.specs.Areas.{areas_at}
@@ -153,7 +154,7 @@ outcome s (Clear force area) a h =
     as_edit (Ok done) k = k
     as_edit (Err e) k = tt
 outcome s (Fill force from area) a h =
-    as_edit a (edited (area ∷ []) s (when (nat_lt max_area (size_of area)) TooLarge) (when (list_any (has_no_copy s.stored.sheet from) (cells_of area)) LeavesSheet)
+    as_edit a (edited (area ∷ []) s (when (nat_lt max_area (size_of area)) TooLarge) (when (list_any (has_no_copy (content_of s.stored.sheet from) from) (cells_of area)) LeavesSheet)
     (stale_in s force (area ∷ [])) (applied s.stored (fill_edit s.stored.sheet from area).contents) a h)
   where
     as_edit : (b : Answer) → EditOutcome (area ∷ []) s b → Outcome s (Fill force from area) b

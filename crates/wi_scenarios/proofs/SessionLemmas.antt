@@ -1,27 +1,18 @@
--- What `session` answers, and cells that show nothing.
-use Rattle.std.proofs.Common.{◌≡◌, ℕ, suc, ◌+◌, ◌-◌, ◌*◌, ◌/◌, ◌%◌, ◌<◌, ◌≤◌, Bool, true, false, not, ◌&&◌, ◌||◌, ◌==◌, List, [], ◌∷◌, ◌++◌, length, Option, Some, None, Ok, Err, if◌then◌else◌, refl, sym, ap, ◌∙◌, subst, arith, ◌⊎◌, inl, inr}
-use Rattle.std.specs.Prelude.{nat_le, is_some, codes}
+-- What `session` answers.
+use Rattle.std.proofs.Common.{◌≡◌, ℕ, suc, ◌+◌, ◌-◌, ◌*◌, ◌/◌, ◌%◌, ◌<◌, ◌≤◌, Bool, true, false, not, ◌&&◌, ◌||◌, ◌==◌, List, [], ◌∷◌, ◌++◌, length, None, Ok, Err, if◌then◌else◌, refl, sym, ap, ◌∙◌, subst, arith, ◌⊎◌, inl, inr}
+use Rattle.std.specs.Prelude.{nat_le, codes}
 use Rattle.std.specs.List.{list_any, slice_index_or, position_or_len}
 use Rattle.std.specs.Str.{bytes_eq}
 use Rattle.std.specs.Map.{keys_of}
-use Rattle.std.specs.BTreeMap.{is_at}
-use Rattle.std.specs.Ordering.{nat_cmp}
 use Rattle.std.proofs.Math.Nat.{div-lt_iff_lt-mul, mod-lt}
 use Rattle.std.proofs.lemmas.Bool.{eqb-true, leb-true, le-leb, cases_lt}
 use Rattle.std.proofs.lemmas.List.{get_or_append_left, length-append}
 use Rattle.std.proofs.Math.Seq.{get_or-append_seam}
 use Rattle.std.proofs.lemmas.Map.Views.{any-filter_same}
-use Rattle.std.proofs.lemmas.Map.Made.{is_some-lookup}
 use Rattle.wi_values.specs.Address.{Area, is_within, row_of, column_of, rect_of}
-use Rattle.wi_values.specs.declared.value.Value.TheVariants.{Empty}
-use Rattle.wi_parser.specs.declared.content.Content.{Content}
-use Rattle.wi_parser.specs.Sheet.{Sheet, content_of, has_formula, cells_with_formula}
-use Rattle.wi_graph.specs.Circular.{circular, has_walk}
-use Rattle.wi_graph.proofs.Layers.{walker_has_formula}
-use Rattle.wi_graph.proofs.Tests.{turned}
-use Rattle.wi_sheet.specs.CellValue.{value_of}
+use Rattle.wi_parser.specs.Sheet.{Sheet, content_of}
 use Rattle.wi_sheet.specs.Shown.{shown}
-use Rattle.wi_sheet.proofs.Steps.{value_plain, shown_open}
+use Rattle.wi_propagate.proofs.EmptyCells.{shows_nothing, has_none}
 use Rattle.wi_store.specs.Store.{Stored}
 use Rattle.wi_sessions.specs.Pictures.{sheet_size, value_in}
 use Rattle.wi_sessions.specs.Pictures.Laws.{is_listed}
@@ -39,22 +30,7 @@ use Rattle.wi_scenarios.specs.As.{as_step}
 use Rattle.wi_scenarios.specs.Pending.{occupied_cells}
 use Rattle.wi_scenarios.specs.Inner.Held.{IsSound, state_of}
 
--- ---- cells that show nothing
-
--- a cell without a content is on no cycle and above none
-open_at : (s : Sheet) (a : ℕ) → content_of s a ≡ None → circular s a ≡ false
-unfolding circular
-open_at s a e = by (has_walk (length (cells_with_formula s)) s a) refl
-  where
-    by : (b : Bool) → has_walk (length (cells_with_formula s)) s a ≡ b → b ≡ false
-    by false h = refl
-    by true h = absurd (let k = sym (walker_has_formula (length (cells_with_formula s)) s a h) ∙ ap has_formula e in cc)
-
--- it shows nothing
-pub shows_nothing : (s : Sheet) (a : ℕ) → content_of s a ≡ None → shown s [] a ≡ Empty
-shows_nothing s a e =
-    let h = open_at s a e in
-    shown_open s [] a h ∙ value_plain s a h (ap has_formula e) ∙ ap (λ o. value_of o (λ t. Empty)) e
+-- ---- cells of the sheet
 
 -- the last cell of the sheet
 last_row : (sheet_size - 1) / 16384 ≡ 1048575
@@ -90,11 +66,7 @@ unoccupied s a l h =
     let whole : Area = record { first = 0; last = sheet_size - 1 } in
     let there : list_any (λ c. c == a) (keys_of s) ≡ false =
     sym (any-filter_same (λ c. c == a) (is_within whole) true (λ k e. subst (λ x. is_within whole x ≡ true) (sym (eqb-true k a e)) (whole_has a l)) (keys_of s)) ∙ h in
-    none (content_of s a) (is_some-lookup (is_at (nat_cmp a)) s ∙ turned (keys_of s) a ∙ there)
-  where
-    none : (o : Option Content) → is_some o ≡ false → o ≡ None
-    none None e = refl
-    none (Some x) e = absurd (let k = e in cc)
+    has_none s a there
 
 -- ---- what `session` answers
 

@@ -9,6 +9,7 @@ use Rattle.wi_values.proofs.Within.{within_between}
 use Rattle.wi_parser.specs.declared.content.Content.{Content}
 use Rattle.wi_parser.specs.declared.fault.ParseFault.{ParseFault}
 use Rattle.wi_parser.specs.declared.fault.ParseFault.TheVariants as parse
+use Rattle.wi_parser.specs.Sheet.{content_of}
 use Rattle.wi_import.specs.declared.fault.ImportFault.TheVariants as import
 use Rattle.wi_import.specs.Areas.{areas_at}
 use Rattle.wi_store.specs.Store.{Stored, applied}
@@ -202,7 +203,7 @@ fill_stale : (s : State) (force : Bool) (from : ℕ) (area : Area) (a : Answer) 
 fill_stale s force from area a c h f =
     let r = applied s.stored (fill_edit s.stored.sheet from area).contents in
     let large = nat_lt max_area (size_of area) in
-    let leaves = list_any (has_no_copy s.stored.sheet from) (cells_of area) in
+    let leaves = list_any (has_no_copy (content_of s.stored.sheet from) from) (cells_of area) in
     stale_answer (when large TooLarge) (when leaves LeavesSheet) (stale_in s force (area ∷ [])) r (after_edit s (area ∷ []) r, []) a c
     (when_before large TooLarge refl) (when_before leaves LeavesSheet refl) h f
 

@@ -6,8 +6,9 @@ use Rattle.wi_scenarios.specs.declared.refusal.Refusal.TheVariants.{BadCommand, 
 use Rattle.wi_scenarios.specs.State.{State}
 use Rattle.wi_scenarios.specs.Answer.{Answer}
 
--- Which causes hold; those that a command doesn't have stay as in `no_cause`. A line that is no command, has an operand
--- outside the sheet, or lacks data lines is refused before any of them.
+-- Which causes hold; those that a command doesn't have stay as in `no_cause`. What is wrong with a line itself is found
+-- before there is a command: BadLine (E03) before all, and between BadCommand and TooLarge first CutShort (E13) and then
+-- OutOfSheet (E04) of an operand. Memory (E01) is no cause of the order.
 pub record Causes : Type 0 where
   pub bad_command : Bool
   pub too_large : Bool
@@ -55,11 +56,11 @@ first_cause c = first_some (
     ∷ when c.in_use InUse  -- E12
     ∷ when c.too_many TooMany  -- E11
     ∷ when c.bad_field BadField  -- E14
-    ∷ c.content  -- E08, E04, E07, E06, E05
+    ∷ c.content  -- TooLong E08, OutOfSheet E04, NumberRange E07, TooDeep E06, Syntax E05
     ∷ when c.leaves_sheet LeavesSheet  -- E16
     ∷ option_map Stale c.stale  -- E18
     ∷ when c.loop Loop  -- E19
-    ∷ c.limit  -- E09, E17
+    ∷ c.limit  -- Full E09, EditLimit E17
     ∷ [])
 
 abbrev pub unless : Option Refusal → State × List ℕ → Answer

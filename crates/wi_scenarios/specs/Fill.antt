@@ -35,12 +35,12 @@ copied down right None = Some None
 copied down right (Some (Constant v)) = Some (Some (Constant v))
 copied down right (Some (Formula t)) = option_map (λ u. Some (Formula u)) (shifted down right t)
 
--- the copy of a cell's content for another cell
-abbrev pub copy_for : Sheet → ℕ → ℕ → Option (Option Content)
-copy_for sheet from to = copied (rows_between from to) (columns_between from to) (content_of sheet from)
+-- the copy of a content that stands in a cell for another cell
+abbrev pub copy_to : Option Content → ℕ → ℕ → Option (Option Content)
+copy_to content from to = copied (rows_between from to) (columns_between from to) content
 
-abbrev pub has_no_copy : Sheet → ℕ → ℕ → Bool
-has_no_copy sheet from to = not (is_some (copy_for sheet from to))
+abbrev pub has_no_copy : Option Content → ℕ → ℕ → Bool
+has_no_copy content from to = not (is_some (copy_to content from to))
 
 abbrev pub or_nothing : Option (Option Content) → Option Content
 or_nothing None = None
@@ -49,12 +49,12 @@ or_nothing (Some o) = o
 -- each cell of the rectangle gets its copy
 abbrev pub fill_edit : Sheet → ℕ → Area → Edit
 fill_edit sheet from area =
-    record { named = area ∷ []; contents = map (λ to. (to, or_nothing (copy_for sheet from to))) (cells_of area) }
+    record { named = area ∷ []; contents = map (λ to. (to, or_nothing (copy_to (content_of sheet from) from to))) (cells_of area) }
 
 abbrev pub fill_step : State → Bool → ℕ → Area → Answer
 fill_step s force from area =
     edit_answer s force (record no_cause {
       too_large = nat_lt max_area (size_of area);
-      leaves_sheet = list_any (has_no_copy s.stored.sheet from) (cells_of area);
+      leaves_sheet = list_any (has_no_copy (content_of s.stored.sheet from) from) (cells_of area);
     })
     (fill_edit s.stored.sheet from area)

@@ -8,14 +8,15 @@ ghost use Rattle.wi_scenarios.specs.Pending.{AddsOnly};
 ghost use Rattle.wi_scenarios.specs.Inner.Held.{state_of, pending_in, IsSound};
 
 use crate::desk::Desk;
-use crate::edit::{Edit, apply_edit};
+use crate::edit::edit_area;
 use crate::refusal::Refusal;
 use std::alloc::{AllocError, Global};
 use wi_parser::Content;
 use wi_propagate::{Calculator, occupied_in};
 use wi_values::{Address, Rect};
 
-/// Empties the cells of a rectangle. The work grows with its occupied cells, and is that of `apply_edit` for them.
+/// Empties the cells of a rectangle. The work grows with its occupied cells, for which it is that of `apply_edit`, and with the
+/// rows in which a cell beside it is occupied.
 pub fn clear<C: Calculator>(
     alloc: Global,
     calculator: &mut C,
@@ -33,8 +34,7 @@ pub fn clear<C: Calculator>(
 {
     let cells = occupied_in(alloc, calculator, area)?;
     let contents = emptied(alloc, &cells)?;
-    let named = vec![in alloc; area]?;
-    apply_edit(alloc, calculator, desk, Edit { named, contents }, force)
+    edit_area(alloc, calculator, desk, area, contents, force)
 }
 
 /// No content for each of some cells.

@@ -1,6 +1,6 @@
 //! One edit of the sheet, by whichever command.
 
-ghost use Rattle.std.specs.Prelude.{◌≡◌, ◌<◌, ◌≤◌, ℕ, [], length, IfOk, OnOk, OnErr};
+ghost use Rattle.std.specs.Prelude.{◌≡◌, ◌<◌, ◌≤◌, ℕ, [], ◌∷◌, length, IfOk, OnOk, OnErr};
 ghost use Rattle.std.specs.Map.{keys_of};
 ghost use Rattle.wi_store.specs.Store.{applied};
 ghost use Rattle.wi_sessions.specs.Roster.{vacant_of};
@@ -60,6 +60,27 @@ pub fn apply_edit<C: Calculator>(
             Err(refusal)
         }
     }
+}
+
+/// The same for an edit that names one rectangle.
+pub fn edit_area<C: Calculator>(
+    alloc: Global,
+    calculator: &mut C,
+    desk: &mut Desk,
+    area: Rect,
+    contents: Vec<(Address, Option<Content>)>,
+    force: bool,
+) -> Result<(), Refusal>
+    requires { IsSound (C.stored calculator.old) desk.old }
+    ensures step { let old = state_of (C.stored calculator.old) desk.old in
+        Serves (λ a. edit_answer old force no_cause (record { named = area ∷ []; contents = contents.items }) ≡ a) result old (state_of (C.stored calculator.new) desk.new) [] }
+    ensures adds { AddsOnly C.marked (keys_of contents.items) (state_of (C.stored calculator.old) desk.old)
+        (state_of (C.stored calculator.new) desk.new) (pending_in desk.old) (pending_in desk.new) }
+    ensures refused { OnErr result (pending_in desk.new ≡ pending_in desk.old) }
+    ensures sound { IsSound (C.stored calculator.new) desk.new }
+{
+    let named = vec![in alloc; area]?;
+    apply_edit(alloc, calculator, desk, Edit { named, contents }, force)
 }
 
 /// The first cell named that is stale for the current session; none for an edit that is forced.

@@ -11,7 +11,7 @@ ghost use Rattle.wi_scenarios.specs.Inner.Held.{state_of, pending_in, IsSound};
 
 use crate::areas::MAX_AREA;
 use crate::desk::Desk;
-use crate::edit::{Edit, apply_edit};
+use crate::edit::edit_area;
 use crate::refusal::Refusal;
 use std::alloc::Global;
 use wi_parser::{Content, ShiftFault};
@@ -43,8 +43,7 @@ pub fn fill<C: Calculator>(
         return Err(Refusal::TooLarge);
     }
     let contents = copies(alloc, calculator.content(from), from, area)?;
-    let named = vec![in alloc; area]?;
-    apply_edit(alloc, calculator, desk, Edit { named, contents }, force)
+    edit_area(alloc, calculator, desk, area, contents, force)
 }
 
 /// The copies of a cell's content for the cells of a rectangle.

@@ -7,7 +7,7 @@ ghost use Rattle.wi_scenarios.specs.Pending.{AddsOnly};
 ghost use Rattle.wi_scenarios.specs.Inner.Held.{state_of, pending_in, IsSound};
 
 use crate::desk::Desk;
-use crate::edit::{Edit, apply_edit};
+use crate::edit::edit_area;
 use crate::refusal::Refusal;
 use std::alloc::Global;
 use wi_parser::Content;
@@ -35,7 +35,7 @@ pub fn set<C: Calculator>(
         return Err(Refusal::BadCommand);
     }
     let content = Content::read(alloc, content)?;
-    let named = vec![in alloc; Rect::new(at, at)]?;
     let contents = vec![in alloc; (at, Some(content))]?;
-    apply_edit(alloc, calculator, desk, Edit { named, contents }, force)
+    let area = Rect::new(at, at);
+    edit_area(alloc, calculator, desk, area, contents, force)
 }

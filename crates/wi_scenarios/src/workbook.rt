@@ -105,7 +105,8 @@ impl<C: Calculator> Workbook<C> {
 
     /// Puts a content into a cell. An empty one is refused as `BadCommand`. An edit of a cell that another session has edited since
     /// the current one was last shown what has changed is refused as `Stale`, but not where it is forced. The work of this and
-    /// the other edits grows with the cells that depend on the edited ones, and for each session with those of them that aren't pending.
+    /// the other edits grows with the cells that depend on the edited ones, for each session; the memory for a session with those
+    /// that aren't pending for it.
     pub fn set(&mut self, at: Address, content: &str, force: bool) -> Result<(), Refusal>
         ensures step { Serves (IsStep self.old.state (command.Set force at content.now)) result self.old.state self.new.state [] }
         ensures adds { AddsOnly C.marked (at ∷ []) self.old.state self.new.state self.old.pending self.new.pending }
@@ -121,7 +122,8 @@ impl<C: Calculator> Workbook<C> {
         )
     }
 
-    /// Empties the cells of a rectangle of any size. `force` is as of `set`. The work grows with the occupied cells.
+    /// Empties the cells of a rectangle of any size. `force` is as of `set`. The work grows with its occupied cells, and with the
+    /// rows in which a cell beside it is occupied.
     pub fn clear(&mut self, area: Rect, force: bool) -> Result<(), Refusal>
         ensures step { Serves (IsStep self.old.state (command.Clear force area)) result self.old.state self.new.state [] }
         ensures adds { AddsOnly C.marked (keys_of (clear_edit self.old.state.stored.sheet area).contents) self.old.state self.new.state self.old.pending self.new.pending }

@@ -1,17 +1,10 @@
 -- Copies of a content that are made one after another.
-use Rattle.std.specs.Prelude.{◌≡◌, ℕ, Bool, true, false, not, List, map, Option, Some, None, is_some, Result, Ok, Err}
+use Rattle.std.specs.Prelude.{◌≡◌, ℕ, true, false, List, map, Option, Some, None, Result, Ok, Err}
 use Rattle.std.specs.List.{list_any}
 use Rattle.wi_parser.specs.declared.shift.ShiftFault.{ShiftFault}
 use Rattle.wi_parser.specs.declared.shift.ShiftFault.TheVariants.{LeavesSheet, Memory}
 use Rattle.wi_parser.specs.declared.content.Content.{Content}
-use Rattle.wi_scenarios.specs.Fill.{rows_between, columns_between, copied, or_nothing}
-
--- the copy of a content that stands in a cell for another cell
-abbrev pub copy_to : Option Content → ℕ → ℕ → Option (Option Content)
-copy_to content from to = copied (rows_between from to) (columns_between from to) content
-
-abbrev pub leaves : Option Content → ℕ → ℕ → Bool
-leaves content from to = not (is_some (copy_to content from to))
+use Rattle.wi_scenarios.specs.Fill.{copy_to, has_no_copy, or_nothing}
 
 -- what is found is answered, and LeavesSheet where nothing is; or Memory, which says nothing of it
 abbrev pub CopiesAs : Option (Option Content) → Result (Option Content) ShiftFault → Type 0
@@ -21,10 +14,10 @@ CopiesAs found (Err Memory) = Unit {0}
 
 -- each of some cells has a copy, and gets it
 pub record AreCopies (content : Option Content) (from : ℕ) (cells : List ℕ) (changes : List (ℕ × Option Content)) : Type 0 where
-  pub all : list_any (leaves content from) cells ≡ false
+  pub all : list_any (has_no_copy content from) cells ≡ false
   pub each : changes ≡ map (λ to. (to, or_nothing (copy_to content from to))) cells
 
 -- a cell has no copy; or Memory, which says nothing of it
 abbrev pub HasNoCopies : Option Content → ℕ → List ℕ → ShiftFault → Type 0
-HasNoCopies content from cells LeavesSheet = list_any (leaves content from) cells ≡ true
+HasNoCopies content from cells LeavesSheet = list_any (has_no_copy content from) cells ≡ true
 HasNoCopies content from cells Memory = Unit {0}

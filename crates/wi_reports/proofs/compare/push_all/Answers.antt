@@ -1,7 +1,10 @@
 use Rattle.std.proofs.Common.{◌+◌, ◌-◌, ◌∙◌, arith}
 use Rattle.std.proofs.lemmas.Grind.{common_steps}
+use Rattle.std.specs.List.{flat_map}
 use Rattle.wi_csv.proofs.Growth.{starts_trans}
+use Rattle.wi_values.specs.Address.{cells_of_row}
 use Rattle.wi_reports.specs.Compare.{cell_compared}
+use Rattle.wi_reports.proofs.RowLemmas.{all_rows}
 use Rattle.wi_reports.proofs.CompareLemmas.{one_more_row}
 use Rattle.wi_reports.proofs.compare.push_all.Goals as goal
 
@@ -16,6 +19,16 @@ loop-row-preserved g c =
       written = one_more_row (λ s. cell_compared s.sheet c.args.first.now c.args.second.now) _ _ c.args.area top (row - top) (row + 1 - top) row _ _ _ (omega arith) (omega arith) old.same old.written c.in_ok-push_row.ensures.ok;
       kept = starts_trans _ _ _ c.in_ok-push_row.ensures.kept old.kept;
     }
+
+pub returns-clause-ok : goal.returns-clause-ok
+returns-clause-ok g c =
+    let area = c.args.area in
+    let top = c.row-top.result in
+    let last = c.row-row-end.result in
+    let row = c.loop-row.row in
+    let compared = cell_compared (g.C.Calculator.stored c.args.calculator.now).sheet c.args.first.now c.args.second.now in
+    all_rows (λ rs. flat_map compared (flat_map (λ r. cells_of_row r area) rs)) area _ top _ last (row - top) _ _
+    c.first.ensures c.row-top.ensures.value c.last.ensures c.row-row-end.ensures.value (omega arith) c.loop-row.invariant.written
 
 pub loop-row-init : goal.loop-row-init
 loop-row-init g c = grind (arith, common_steps)

@@ -1,3 +1,4 @@
+use Rattle.std.proofs.Common.{◌∙◌}
 use Rattle.wi_csv.proofs.Growth.{starts_itself}
 use Rattle.wi_reports.proofs.RowLemmas.{grown}
 use Rattle.wi_reports.proofs.compare.push_cell.Goals as goal
@@ -10,3 +11,9 @@ returns-clause-kept g c = grown c.push_compared.result _ _ _ c.push_compared.ens
 
 pub returns-in_err-before-clause-kept : goal.returns-in_err-before-clause-kept
 returns-in_err-before-clause-kept g c = starts_itself _
+
+pub value-requires : goal.value-requires
+value-requires g c = c.requires.first
+
+pub returns-clause-same : goal.returns-clause-same
+returns-clause-same g c = c.push_compared.ensures.same ∙ c.in_ok-before.ensures.same

@@ -1,6 +1,17 @@
-use Rattle.std.proofs.Common.{arith}
-use Rattle.std.proofs.lemmas.Grind.{common_steps}
+use Rattle.std.proofs.Common.{◌≡◌, ℕ, List, ◌++◌, Result, Ok, Err, OnOk, is_ok, if◌then◌else◌, sym, ap, ◌∙◌, append_assoc}
+use Rattle.std.specs.Prelude.{codes}
+use Rattle.wi_values.specs.declared.value.Value.{Value}
+use Rattle.wi_values.specs.declared.value.Value.TheVariants.{Text}
+use Rattle.wi_reports.specs.Contents.{constant_text}
 use Rattle.wi_reports.proofs.contents.push_constant.Goals as goal
 
+-- a text behind its apostrophe
+marked : {E : Type 0} (r : Result (Unit {0}) E) (before mid next lent bytes : List ℕ) (v : Value) → mid ≡ before ++ codes "'" → next ≡ (if is_ok r then mid ++ lent else mid) → lent ≡ bytes → v ≡ Text bytes
+    → OnOk r (next ≡ before ++ constant_text v)
+marked (Ok u) before mid next lent bytes v first second same is =
+    second ∙ ap (λ xs. xs ++ lent) first ∙ append_assoc before (codes "'") lent ∙ ap (λ xs. before ++ (codes "'" ++ xs)) same ∙ sym (ap (λ x. before ++ constant_text x) is)
+marked (Err e) before mid next lent bytes v first second same is = tt
+
 pub returns-in_ok-push_str-in-Text : goal.returns-in_ok-push_str-in-Text
-returns-in_ok-push_str-in-Text c = grind (arith, common_steps)
+returns-in_ok-push_str-in-Text c =
+    marked c.push_str-in-Text.result _ _ _ _ _ _ c.in_ok-push_str-in-Text.ensures.bytes c.push_str-in-Text.ensures.bytes c.as_str.ensures c.in-Text.is

@@ -1,7 +1,9 @@
 use Rattle.std.proofs.Common.{◌+◌, ◌-◌, ◌∙◌, arith}
 use Rattle.std.proofs.lemmas.Grind.{common_steps}
+use Rattle.std.specs.List.{flat_map}
 use Rattle.wi_csv.proofs.Growth.{starts_trans}
-use Rattle.wi_reports.proofs.RowLemmas.{rows_more}
+use Rattle.wi_reports.specs.Rows.{row_shown}
+use Rattle.wi_reports.proofs.RowLemmas.{rows_more, all_rows}
 use Rattle.wi_reports.proofs.rows.push_all.Goals as goal
 
 pub loop-row-preserved : goal.loop-row-preserved
@@ -15,6 +17,14 @@ loop-row-preserved g c =
       written = rows_more c.args.put.now _ _ c.args.area first (row - first) (row + 1 - first) row _ _ _ (omega arith) (omega arith) old.same old.written c.in_ok-push_row.ensures.ok;
       kept = starts_trans _ _ _ c.in_ok-push_row.ensures.kept old.kept;
     }
+
+pub returns-clause-ok : goal.returns-clause-ok
+returns-clause-ok g c =
+    let first = c.row-first.result in
+    let last = c.row-row-end.result in
+    let row = c.loop-row.row in
+    all_rows (flat_map (row_shown (g.C.Calculator.stored c.args.calculator.now).sheet c.args.put.now c.args.area)) c.args.area _ first _ last (row - first) _ _
+    c.first.ensures c.row-first.ensures.value c.last.ensures c.row-row-end.ensures.value (omega arith) c.loop-row.invariant.written
 
 pub loop-row-init : goal.loop-row-init
 loop-row-init g c = grind (arith, common_steps)

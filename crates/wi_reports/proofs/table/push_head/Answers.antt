@@ -1,9 +1,23 @@
+use Rattle.std.proofs.Common.{[], ◌∷◌, ◌++◌, map, ap, ◌∙◌}
+use Rattle.std.specs.Prelude.{string_bytes}
+use Rattle.wi_values.specs.Address.{row_of, cells_of_row}
 use Rattle.wi_csv.proofs.Growth.{starts_itself}
+use Rattle.wi_reports.specs.Rows.{text_under}
 use Rattle.wi_reports.proofs.RowLemmas.{grown}
+use Rattle.wi_reports.proofs.TableLemmas.{after_first, written_as}
 use Rattle.wi_reports.proofs.table.push_head.Goals as goal
 
 pub push_texts-requires-clause-order : goal.push_texts-requires-clause-order
 push_texts-requires-clause-order g c = c.requires
+
+pub returns-clause-ok : goal.returns-clause-ok
+returns-clause-ok g c =
+    let cells = c.args.cells in
+    let text = text_under (g.C.Calculator.stored c.args.calculator.now).sheet c.args.put.now in
+    let texts = map text (cells_of_row (row_of cells.first) cells) in
+    let all = c.in_ok-push_texts.ensures.texts ∙ ap (λ r. map string_bytes c.push.new.self.items ++ map text (cells_of_row r cells)) (c.row-row.ensures.value ∙ ap row_of c.first.ensures) in
+    written_as string_bytes c.push_record.result ([] ∷ texts) _ _ _ _ c.deref.ensures.value
+    (after_first string_bytes _ c.push.new.self.items _ _ [] texts c.new-texts.ensures.items c.in_ok-push.ensures.items c.new.ensures.bytes all) c.push_record.ensures.ok
 
 pub returns-clause-kept : goal.returns-clause-kept
 returns-clause-kept g c = grown c.push_record.result _ _ _ c.push_record.ensures.ok c.push_record.ensures.err

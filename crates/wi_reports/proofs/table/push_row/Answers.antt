@@ -1,25 +1,35 @@
 use Rattle.std.proofs.Common.{◌∙◌}
+use Rattle.std.specs.Prelude.{string_bytes}
 use Rattle.wi_csv.proofs.Growth.{starts_itself}
+use Rattle.wi_reports.specs.Table.{entries_beside}
 use Rattle.wi_reports.proofs.RowLemmas.{grown}
+use Rattle.wi_reports.proofs.TableLemmas.{row_written}
 use Rattle.wi_reports.proofs.table.push_row.Goals as goal
 
-pub text_under-requires : goal.text_under-requires
-text_under-requires g c = c.requires.order
+pub push_text_under-requires : goal.push_text_under-requires
+push_text_under-requires g c = c.requires.order
 
 pub push_entries-requires-clause-order : goal.push_entries-requires-clause-order
 push_entries-requires-clause-order g c = c.requires.order
+
+pub returns-clause-ok : goal.returns-clause-ok
+returns-clause-ok g c =
+    let put = c.args.put.now in
+    let table = c.args.table.now in
+    row_written string_bytes c.push_record.result _ (λ s. entries_beside s.sheet put table.formula_cell table.input table.second c.args.x) (g.C.Calculator.stored c.args.calculator.now) _ _ _ _ _ _ _
+    c.new-texts.ensures.items c.in_ok-push_text_under.ensures.text c.in_ok-push_text_under.ensures.same c.in_ok-push_entries.ensures.texts c.deref.ensures.value c.push_record.ensures.ok
+
+pub push_entries-requires-clause-row : goal.push_entries-requires-clause-row
+push_entries-requires-clause-row g c = c.requires.row
 
 pub returns-clause-kept : goal.returns-clause-kept
 returns-clause-kept g c = grown c.push_record.result _ _ _ c.push_record.ensures.ok c.push_record.ensures.err
 
 pub returns-clause-same : goal.returns-clause-same
-returns-clause-same g c = c.in_ok-push_entries.ensures.same ∙ c.in_ok-text_under.ensures.same
+returns-clause-same g c = c.in_ok-push_entries.ensures.same ∙ c.in_ok-push_text_under.ensures.same
 
-pub returns-in_err-text_under-clause-kept : goal.returns-in_err-text_under-clause-kept
-returns-in_err-text_under-clause-kept g c = starts_itself _
-
-pub returns-in_err-push-clause-kept : goal.returns-in_err-push-clause-kept
-returns-in_err-push-clause-kept g c = starts_itself _
+pub returns-in_err-push_text_under-clause-kept : goal.returns-in_err-push_text_under-clause-kept
+returns-in_err-push_text_under-clause-kept g c = starts_itself _
 
 pub returns-in_err-push_entries-clause-kept : goal.returns-in_err-push_entries-clause-kept
 returns-in_err-push_entries-clause-kept g c = starts_itself _

@@ -1,7 +1,9 @@
-use Rattle.std.proofs.Common.{◌+◌, ◌-◌, ◌∙◌, arith}
+use Rattle.std.proofs.Common.{ℕ, ◌+◌, ◌-◌, List, ◌++◌, map, ap, ◌∙◌, arith}
+use Rattle.std.proofs.lemmas.Grind.{common_steps}
 use Rattle.std.specs.Prelude.{string_bytes}
+use Rattle.wi_values.specs.Address.{row_of, cells_of_row}
 use Rattle.wi_reports.specs.Table.{entry_text, pairs_at}
-use Rattle.wi_reports.proofs.TextLemmas.{one_text}
+use Rattle.wi_reports.proofs.TextLemmas.{one_text, all_texts}
 use Rattle.wi_reports.proofs.table.push_row_entries.Goals as goal
 
 pub loop-column-preserved : goal.loop-column-preserved
@@ -11,10 +13,29 @@ loop-column-preserved g c =
     let column = c.loop-column.column in
     record {
       within = omega arith;
-      same = c.in_ok-text_at.ensures.same ∙ old.same;
-      texts = one_text string_bytes (λ s y. entry_text s.sheet c.args.put.now c.args.table.now.formula_cell (pairs_at c.args.table.now.input c.args.x c.args.second y)) _ _ _ c.row-row.result first (column - first) (column + 1 - first) column c.at-y.result _ _ c.in_ok-text_at.field-0 (omega arith) (omega arith) old.same c.at-y.ensures
-          old.texts c.in_ok-text_at.ensures.text c.in_ok-push.ensures.items;
+      same = c.in_ok-push_entry_at.ensures.same ∙ old.same;
+      texts = one_text string_bytes (λ s y. entry_text s.sheet c.args.put.now c.args.table.now.formula_cell (pairs_at c.args.table.now.input c.args.x c.args.second y)) _ _ _ c.row-row.result first (column - first) (column + 1 - first) column c.at-y.result _ _ (omega arith) (omega arith) old.same c.at-y.ensures
+          old.texts c.in_ok-push_entry_at.ensures.text;
     }
 
-pub text_at-requires : goal.text_at-requires
-text_at-requires g c = c.requires
+pub returns-clause-texts : goal.returns-clause-texts
+returns-clause-texts g c =
+    let cells = c.args.cells in
+    let table = c.args.table.now in
+    let sheet = (g.C.Calculator.stored c.args.calculator.now).sheet in
+    let text : ℕ → List ℕ = λ y. entry_text sheet c.args.put.now table.formula_cell (pairs_at table.input c.args.x c.args.second y) in
+    let first = c.column-first.result in
+    let last = c.column-column-end.result in
+    let column = c.loop-column.column in
+    all_texts text cells c.row-row.result _ first _ last (column - first) _ _
+    c.first-2.ensures c.column-first.ensures.value c.last.ensures c.column-column-end.ensures.value (omega arith) c.loop-column.invariant.texts
+    ∙ ap (λ r. map string_bytes c.args.texts.now.items ++ map text (cells_of_row r cells)) (c.row-row.ensures.value ∙ ap row_of c.first.ensures)
+
+pub push_entry_at-requires : goal.push_entry_at-requires
+push_entry_at-requires g c = c.requires
+
+pub returns-in_err-push_entry_at-clause-same : goal.returns-in_err-push_entry_at-clause-same
+returns-in_err-push_entry_at-clause-same g c = c.in_err-push_entry_at.ensures.same ∙ c.loop-column.invariant.same
+
+pub loop-column-init : goal.loop-column-init
+loop-column-init g c = grind (arith, common_steps)

@@ -1,7 +1,10 @@
 use Rattle.std.proofs.Common.{◌+◌, ◌-◌, ◌∙◌, ap, arith}
 use Rattle.std.proofs.lemmas.Grind.{common_steps}
+use Rattle.std.specs.List.{flat_map}
 use Rattle.wi_csv.proofs.Growth.{starts_trans}
-use Rattle.wi_values.specs.Address.{column_of}
+use Rattle.wi_values.specs.Address.{column_of, cells_of_row}
+use Rattle.wi_reports.specs.Table.{table_row}
+use Rattle.wi_reports.proofs.RowLemmas.{all_rows}
 use Rattle.wi_reports.proofs.TableLemmas.{rows_more}
 use Rattle.wi_reports.proofs.table.push_rows.Goals as goal
 
@@ -18,6 +21,16 @@ loop-row-preserved g c =
       written = rows_more c.args.put.now _ _ table.formula_cell table.input table.second table.column first (row - first) (row + 1 - first) row c.column-column.result c.at.result _ _ _ c.requires.column column (omega arith) (omega arith) c.at.ensures old.same old.written c.in_ok-push_row.ensures.ok;
       kept = starts_trans _ _ _ c.in_ok-push_row.ensures.kept old.kept;
     }
+
+pub returns-clause-ok : goal.returns-clause-ok
+returns-clause-ok g c =
+    let table = c.args.table.now in
+    let first = c.row-first.result in
+    let last = c.row-row-end.result in
+    let row = c.loop-row.row in
+    let record_of = table_row (g.C.Calculator.stored c.args.calculator.now).sheet c.args.put.now table.formula_cell table.input table.second in
+    all_rows (λ rs. flat_map record_of (flat_map (λ r. cells_of_row r table.column) rs)) table.column _ first _ last (row - first) _ _
+    c.first-2.ensures c.row-first.ensures.value c.last.ensures c.row-row-end.ensures.value (omega arith) c.loop-row.invariant.written
 
 pub loop-row-init : goal.loop-row-init
 loop-row-init g c = grind (arith, common_steps)

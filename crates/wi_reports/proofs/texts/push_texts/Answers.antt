@@ -1,4 +1,5 @@
 use Rattle.std.proofs.Common.{◌+◌, ◌-◌, ◌∙◌, arith}
+use Rattle.std.proofs.lemmas.Grind.{common_steps}
 use Rattle.std.specs.Prelude.{string_bytes}
 use Rattle.wi_reports.specs.Rows.{text_under}
 use Rattle.wi_reports.proofs.TextLemmas.{one_text, all_texts}
@@ -11,9 +12,9 @@ loop-column-preserved g c =
     let column = c.loop-column.column in
     record {
       within = omega arith;
-      same = c.in_ok-text_under.ensures.same ∙ old.same;
-      texts = one_text string_bytes (λ s. text_under s.sheet c.args.put.now) _ _ _ c.args.row first (column - first) (column + 1 - first) column c.at.result _ _ c.in_ok-text_under.field-0 (omega arith) (omega arith) old.same c.at.ensures
-          old.texts c.in_ok-text_under.ensures.text c.in_ok-push.ensures.items;
+      same = c.in_ok-push_text_under.ensures.same ∙ old.same;
+      texts = one_text string_bytes (λ s. text_under s.sheet c.args.put.now) _ _ _ c.args.row first (column - first) (column + 1 - first) column c.at.result _ _ (omega arith) (omega arith) old.same c.at.ensures
+          old.texts c.in_ok-push_text_under.ensures.text;
     }
 
 pub returns-clause-texts : goal.returns-clause-texts
@@ -24,5 +25,11 @@ returns-clause-texts g c =
     all_texts (text_under (g.C.Calculator.stored c.args.calculator.now).sheet c.args.put.now) c.args.area c.args.row _ first _ last (column - first) _ _
     c.first.ensures c.column-first.ensures.value c.last.ensures c.column-column-end.ensures.value (omega arith) c.loop-column.invariant.texts
 
-pub text_under-requires : goal.text_under-requires
-text_under-requires g c = c.requires.order
+pub push_text_under-requires : goal.push_text_under-requires
+push_text_under-requires g c = c.requires.order
+
+pub returns-in_err-push_text_under-clause-same : goal.returns-in_err-push_text_under-clause-same
+returns-in_err-push_text_under-clause-same g c = c.in_err-push_text_under.ensures.same ∙ c.loop-column.invariant.same
+
+pub loop-column-init : goal.loop-column-init
+loop-column-init g c = grind (arith, common_steps)

@@ -1,4 +1,4 @@
-use Rattle.std.proofs.Common.{refl, rules}
+use Rattle.std.proofs.Common.{refl, ap, rules}
 use Rattle.wi_scenarios.specs.Inner.Held.{state_of}
 use Rattle.wi_scenarios.proofs.LookLemmas.{export_lacked}
 use Rattle.wi_scenarios.proofs.export.export.Goals as goal
@@ -11,6 +11,14 @@ returns-in_err-put-clause-step g c =
     let s = state_of (g.C.Calculator.stored c.args.calculator.now) c.args.desk.now in
     export_lacked s s c.args.area c.is_too_large.result c.args.out.now.items c.args.out.now.items c.from_residual.result
     c.is_too_large.ensures c.if-is_too_large.false c.from_residual.ensures.1 refl refl
+
+pub returns-in_err-push_export-clause-step : goal.returns-in_err-push_export-clause-step
+returns-in_err-push_export-clause-step g c =
+    let s = state_of (g.C.Calculator.stored c.args.calculator.now) c.args.desk.now in
+    export_lacked s (state_of (g.C.Calculator.stored c.push_export.new.calculator) c.args.desk.now) c.args.area c.is_too_large.result
+    c.args.out.now.items c.push_export.new.out.items c.from_residual-in_err-push_export.result
+    c.is_too_large.ensures c.if-is_too_large.false c.from_residual-in_err-push_export.ensures.1
+    (ap (λ x. state_of x c.args.desk.now) c.in_err-push_export.ensures.same) c.in_err-push_export.ensures.err
 
 pub returns-clause-step : goal.returns-clause-step
 returns-clause-step g c = search rules

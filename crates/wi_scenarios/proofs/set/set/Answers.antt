@@ -12,11 +12,6 @@ returns-in_err-content-clause-step g c =
     set_refused (state_of (g.C.Calculator.stored c.args.calculator.now) c.args.desk.now) c.args.force c.args.at c.args.content.now (sym c.is_empty.ensures ∙ c.if-is_empty.false)
     c.from_residual.result c.in_err-content.field-0.0 c.from_residual.ensures.1 c.in_err-content.ensures
 
-pub returns-in_err-named-clause-step : goal.returns-in_err-named-clause-step
-returns-in_err-named-clause-step g c =
-    set_lacks (state_of (g.C.Calculator.stored c.args.calculator.now) c.args.desk.now) c.args.force c.args.at c.args.content.now (sym c.is_empty.ensures ∙ c.if-is_empty.false)
-    c.from_residual-in_err-named.result c.in_ok-content.content c.from_residual-in_err-named.ensures.1 c.in_ok-content.ensures
-
 pub returns-in_err-contents-clause-step : goal.returns-in_err-contents-clause-step
 returns-in_err-contents-clause-step g c =
     set_lacks (state_of (g.C.Calculator.stored c.args.calculator.now) c.args.desk.now) c.args.force c.args.at c.args.content.now (sym c.is_empty.ensures ∙ c.if-is_empty.false)
@@ -24,10 +19,9 @@ returns-in_err-contents-clause-step g c =
 
 pub returns-clause-step : goal.returns-clause-step
 returns-clause-step g c =
-    let named : c.in_ok-named.named.items ≡ c.new.result ∷ [] = search rules in
     let contents : c.in_ok-contents.contents.items ≡ (c.args.at, Some c.in_ok-content.content) ∷ [] = search rules in
     set_edited (state_of (g.C.Calculator.stored c.args.calculator.now) c.args.desk.now) c.args.force c.args.at c.args.content.now (sym c.is_empty.ensures ∙ c.if-is_empty.false)
-    c.apply_edit.result (state_of (g.C.Calculator.stored c.apply_edit.new.calculator) c.apply_edit.new.desk) c.in_ok-content.content
-    (record { named = c.in_ok-named.named.items; contents = c.in_ok-contents.contents.items }) c.in_ok-content.ensures
-    (one_cell_edit c.args.at c.in_ok-content.content c.new.result c.in_ok-named.named.items c.in_ok-contents.contents.items c.new.ensures named contents)
-    c.apply_edit.ensures.step
+    c.edit_area.result (state_of (g.C.Calculator.stored c.edit_area.new.calculator) c.edit_area.new.desk) c.in_ok-content.content
+    (record { named = c.new-area.result ∷ []; contents = c.in_ok-contents.contents.items }) c.in_ok-content.ensures
+    (one_cell_edit c.args.at c.in_ok-content.content c.new-area.result (c.new-area.result ∷ []) c.in_ok-contents.contents.items c.new-area.ensures refl contents)
+    c.edit_area.ensures.step

@@ -1,0 +1,8 @@
+use Rattle.wi_reports.proofs.TextLemmas.{one_shown}
+use Rattle.wi_reports.proofs.table.push_entry.Goals as goal
+
+pub what_if_value-requires : goal.what_if_value-requires
+what_if_value-requires g c = c.requires
+
+pub returns-clause-text : goal.returns-clause-text
+returns-clause-text g c = one_shown c.push_text_of.result _ _ _ _ c.in_ok-value.ensures.value c.push_text_of.ensures

@@ -1,0 +1,8 @@
+use Rattle.wi_reports.proofs.TextLemmas.{one_shown}
+use Rattle.wi_reports.proofs.texts.push_text_under.Goals as goal
+
+pub value-requires : goal.value-requires
+value-requires g c = c.requires
+
+pub returns-clause-text : goal.returns-clause-text
+returns-clause-text g c = one_shown c.push_text_of.result _ _ _ _ c.in_ok-value.ensures.value c.push_text_of.ensures

@@ -1,0 +1,24 @@
+use Rattle.std.proofs.Common.{◌∙◌, ◌++◌, List, sym, ap, subst}
+use Rattle.std.specs.Option.{option_copied}
+use Rattle.std.proofs.lemmas.Result.{on_ok_weaker}
+use Rattle.wi_values.specs.Replacements.{IsInOrder}
+use Rattle.wi_values.specs.declared.replacement.Replacement.{Replacement}
+use Rattle.wi_scenario_list.specs.Scenarios.{effective}
+use Rattle.wi_reports.specs.Compare.{cells_compared}
+use Rattle.wi_scenarios.proofs.compare.push_differences.Goals as goal
+
+pub push_comparison-requires-clause-first : goal.push_comparison-requires-clause-first
+push_comparison-requires-clause-first g c = subst IsInOrder (sym c.deref.ensures.value) c.in_ok-before.ensures.order
+
+pub push_comparison-requires-clause-second : goal.push_comparison-requires-clause-second
+push_comparison-requires-clause-second g c = subst IsInOrder (sym c.deref-2.ensures.value) c.in_ok-after.ensures.order
+
+pub returns-clause-ok : goal.returns-clause-ok
+returns-clause-ok g c =
+    let sheet = (g.C.Calculator.stored c.args.calculator.now).sheet in
+    let before = c.args.out.now.items in
+    on_ok_weaker c.push_comparison.result
+    (λ wrote. wrote
+    ∙ ap (λ (rs : List Replacement). before ++ cells_compared sheet rs c.deref-2.result.now c.args.area) (c.deref.ensures.value ∙ c.in_ok-before.ensures.value)
+    ∙ ap (λ (rs : List Replacement). before ++ cells_compared sheet (effective c.args.desk.now.scenarios (option_copied c.args.first)) rs c.args.area) (c.deref-2.ensures.value ∙ c.in_ok-after.ensures.value))
+    c.push_comparison.ensures.ok
