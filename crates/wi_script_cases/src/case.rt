@@ -27,6 +27,10 @@ pub struct Case {
     pub evaluations: bool,
     /// Whether the number of restarts is told.
     pub restarts: bool,
+    /// Whether the replies are told by their number and the last of them.
+    pub in_short: bool,
+    /// Whether runs in pieces are left out.
+    pub whole: bool,
     /// Whether the calculator that keeps nothing is left out, and pieces are.
     pub keeping: bool,
 }
@@ -45,6 +49,8 @@ impl Case {
             in_turns: false,
             evaluations: false,
             restarts: false,
+            in_short: false,
+            whole: false,
             keeping: false,
         })
     }
@@ -82,6 +88,8 @@ impl Case {
             }
             "@evaluations" => self.evaluations = true,
             "@restarts" => self.restarts = true,
+            "@short" => self.in_short = true,
+            "@whole" => self.whole = true,
             "@keeping" => self.keeping = true,
             _ => {
                 self.script.extend_from_slice(line.as_bytes())?;

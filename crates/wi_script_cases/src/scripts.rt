@@ -43,6 +43,25 @@ fn push_once(alloc: Global, line: &[u8], count: usize, text: &mut Vec<u8>) -> io
     writeln!(text, "{{{count} of {spelling}}}")
 }
 
+/// Appends how many lines there are, and the last of them.
+fn push_short(lines: &[u8], text: &mut Vec<u8>) -> io::Result<()> {
+    let (mut last, mut count) = (b"".as_slice(), 0usize);
+    for line in lines.split_inclusive(|byte| *byte == b'\n') {
+        (last, count) = (line, count.saturating_add(1));
+    }
+    writeln!(text, "{count} lines, the last of them")?;
+    Ok(text.extend_from_slice(last)?)
+}
+
+/// Appends the replies to a case's script.
+fn push_replies(alloc: Global, case: &Case, replies: &[u8], text: &mut Vec<u8>) -> io::Result<()> {
+    if case.in_short {
+        push_short(replies, text)
+    } else {
+        push_lines(alloc, replies, text)
+    }
+}
+
 /// Appends how a run ended, where it didn't end well.
 fn push_outcome(run: &Run, text: &mut Vec<u8>) -> io::Result<()> {
     match run.outcome {
@@ -112,7 +131,7 @@ fn push_piece(
 
 /// Appends in which pieces a run is another.
 fn push_pieces(alloc: Global, case: &Case, whole: &Run, text: &mut Vec<u8>) -> io::Result<()> {
-    if !case.keeping {
+    if !case.keeping && !case.whole {
         for piece in [1usize, 2, 7] {
             push_piece(alloc, case, whole, piece, text)?;
         }
@@ -156,16 +175,19 @@ fn push_kept(
     push_compared(alloc, first, &kept, keep, text)
 }
 
-/// Appends what is to be told of the runs on calculators that keep values.
+/// Appends what is to be told of the runs on calculators that keep values, but of the one that was first.
 fn push_all_kept(alloc: Global, case: &Case, first: &Run, text: &mut Vec<u8>) -> io::Result<()> {
     push_kept(alloc, case, first, 1, text)?;
     push_kept(alloc, case, first, 2, text)?;
-    push_kept(alloc, case, first, KEEP, text)
+    if !case.keeping {
+        push_kept(alloc, case, first, KEEP, text)?;
+    }
+    Ok(())
 }
 
 /// Appends a case's replies and how its run ended, and whether it runs otherwise in pieces or where values are kept.
 fn push_runs(alloc: Global, case: &Case, first: &Run, text: &mut Vec<u8>) -> io::Result<()> {
-    push_lines(alloc, &first.replies, text)?;
+    push_replies(alloc, case, &first.replies, text)?;
     if !text.ends_with(b"\n") {
         text.push(b'\n')?;
     }

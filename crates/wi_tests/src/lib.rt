@@ -1,12 +1,10 @@
 //! Tests of what no stored run shows: laws, hashes, equality, and calls of stores, worlds, kept values, the range index, graphs,
-//! calculators, workbooks and devices, and a run whose reader fails. What cells and table entries show after edits, and how many
+//! calculators, workbooks and devices. What cells and table entries show after edits, and how many
 //! evaluations a question takes, are cases of `wi_script_cases`. They stand apart since a crate with tests is proved twice.
 #![tactic(auto)]
 
 #[cfg(test)]
 mod answers;
-#[cfg(test)]
-mod broken_run;
 #[cfg(test)]
 mod cells;
 #[cfg(test)]
