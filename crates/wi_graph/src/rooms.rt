@@ -79,7 +79,7 @@ fn release(rooms: &mut Rooms, at: Address)
 }
 
 /// Whether nothing stands in a cell.
-fn is_vacant(rooms: &Rooms, at: Address) -> bool
+pub(crate) fn is_vacant(rooms: &Rooms, at: Address) -> bool
     ensures { result ≡ is_none (room_at rooms.now at) }
 {
     match rooms.get(&at) {
