@@ -12,7 +12,7 @@ use Rattle.wi_parser.specs.Sheet.{content_of}
 use Rattle.std.specs.Result.{IsErrAnd}
 use Rattle.std.proofs.lemmas.Result.{err_from_is_err_and}
 use Rattle.wi_scenarios.specs.declared.refusal.Refusal.{Refusal}
-use Rattle.wi_scenarios.specs.declared.refusal.Refusal.TheVariants.{Memory, TooLarge, LeavesSheet}
+use Rattle.wi_scenarios.specs.declared.refusal.Refusal.TheVariants.{TooLarge, LeavesSheet}
 use Rattle.wi_scenarios.specs.State.{State}
 use Rattle.wi_scenarios.specs.Answer.{Answer, may_grow, MayRefuse, Serves}
 use Rattle.wi_scenarios.specs.Causes.{no_cause}
@@ -194,14 +194,6 @@ fill_leaves r s force content from area fault at small k none =
     by e shift.Memory same u =
         subst (λ (x : Refusal). MayRefuse x (λ a. fill_step s force from area ≡ a)) (sym same)
         (record { answer = fill_step s force from area; is_answer = refl; grows = fill_grows s force from area small })
-
-pub fill_lacks : (r : Result (Unit {0}) Refusal) (s : State) (force : Bool) (from : ℕ) (area : Area) → nat_lt max_area (size_of area) ≡ false → IsErrAnd r (λ e. e ≡ Memory)
-    → Serves (λ a. fill_step s force from area ≡ a) r s s []
-fill_lacks r s force from area small k =
-    let p = err_from_is_err_and r k in
-    let same : r ≡ Err Memory = p.1 ∙ ap (λ (x : Refusal). let y : Result (Unit {0}) Refusal = Err x in y) p.2 in
-    subst (λ (x : Result (Unit {0}) Refusal). Serves (λ a. fill_step s force from area ≡ a) x s s []) (sym same)
-    (record { answer = fill_step s force from area; is_answer = refl; grows = fill_grows s force from area small }, refl, refl)
 
 -- ---- a fill with copies
 

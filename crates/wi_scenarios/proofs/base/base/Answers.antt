@@ -1,4 +1,4 @@
-use Rattle.std.proofs.Common.{◌∙◌, List, [], Ok, refl, sym, ap}
+use Rattle.std.proofs.Common.{◌∙◌, List, [], Ok, inl, refl, sym, ap}
 use Rattle.std.specs.Option.{option_copied}
 use Rattle.wi_scenario_list.specs.Scenarios.{Scenario}
 use Rattle.wi_scenarios.specs.State.{State}
@@ -15,6 +15,12 @@ pub returns-then-is_loop-clause-step : goal.returns-then-is_loop-clause-step
 returns-then-is_loop-clause-step g c =
     let s = state_of (g.C.Calculator.stored c.args.calculator.now) c.args.desk.now in
     (base_loop s c.args.name.now (option_copied c.args.other) (sym c.is_any_missing.ensures ∙ c.if-is_any_missing.false) (sym c.is_loop.ensures ∙ c.if-is_loop.true), refl, refl)
+
+pub returns-then-is_any_missing-clause-adds : goal.returns-then-is_any_missing-clause-adds
+returns-then-is_any_missing-clause-adds g c = λ i a l there. inl there
+
+pub returns-then-is_loop-clause-adds : goal.returns-then-is_loop-clause-adds
+returns-then-is_loop-clause-adds g c = λ i a l there. inl there
 
 pub with_base-requires : goal.with_base-requires
 with_base-requires g c =
@@ -36,3 +42,15 @@ returns-clause-step g c =
     let s = state_of (g.C.Calculator.stored c.args.calculator.now) c.args.desk.now in
     base_done s c.args.name.now (option_copied c.args.other) (sym c.is_any_missing.ensures ∙ c.if-is_any_missing.false) (sym c.is_loop.ensures ∙ c.if-is_loop.false)
     ∙ ap (λ (t : State). Ok (t, [])) (sym (c.in_ok-switch_to.ensures.state ∙ ap (λ (xs : List Scenario). record s { scenarios = xs }) c.in_ok-next.ensures))
+
+pub returns-in_err-switch_to-clause-adds : goal.returns-in_err-switch_to-clause-adds
+returns-in_err-switch_to-clause-adds g c = c.in_err-switch_to.ensures.adds
+
+pub returns-in_err-switch_to-clause-sound : goal.returns-in_err-switch_to-clause-sound
+returns-in_err-switch_to-clause-sound g c = c.in_err-switch_to.ensures.sound
+
+pub returns-clause-adds : goal.returns-clause-adds
+returns-clause-adds g c = c.in_ok-switch_to.ensures.adds
+
+pub returns-clause-sound : goal.returns-clause-sound
+returns-clause-sound g c = c.in_ok-switch_to.ensures.sound

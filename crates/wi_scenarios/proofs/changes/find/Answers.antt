@@ -1,8 +1,12 @@
-use Rattle.std.proofs.Common.{◌≡◌, ◌∙◌}
+use Rattle.std.proofs.Common.{◌≡◌, ◌∙◌, sym, subst}
+use Rattle.wi_values.specs.Replacements.{IsInOrder}
 use Rattle.wi_scenario_list.specs.Scenarios.{effective}
 use Rattle.wi_sessions.specs.Roster.{session_at}
 use Rattle.wi_scenarios.proofs.ChangesLemmas.{changes_found, looked, begun_again, no_more, if_ok}
 use Rattle.wi_scenarios.proofs.changes.find.Goals as goal
+
+pub find_changes-requires : goal.find_changes-requires
+find_changes-requires g c = subst IsInOrder (sym c.deref.ensures.value) c.in_ok-put.ensures.order
 
 pub returns-clause-list : goal.returns-clause-list
 returns-clause-list g c =

@@ -20,3 +20,9 @@ returns-clause-adds g c =
     subst (λ (contents : List (ℕ × Option Content)). AddsOnly g.C.Calculator.marked (keys_of contents) (state_of old c.args.desk.now)
     (state_of (g.C.Calculator.stored c.edit_area.new.calculator) c.edit_area.new.desk) (pending_in c.args.desk.now) (pending_in c.edit_area.new.desk))
     (emptied_are old.sheet c.args.area c.deref.result.now c.in_ok-contents.contents.items (c.deref.ensures.value ∙ c.in_ok-cells.ensures) c.in_ok-contents.ensures) c.edit_area.ensures.adds
+
+pub returns-clause-refused : goal.returns-clause-refused
+returns-clause-refused g c = c.edit_area.ensures.refused
+
+pub returns-clause-sound : goal.returns-clause-sound
+returns-clause-sound g c = c.edit_area.ensures.sound

@@ -1,6 +1,5 @@
-use Rattle.std.proofs.Common.{refl, ap, rules}
+use Rattle.std.proofs.Common.{◌∙◌, refl, ap, rules}
 use Rattle.std.specs.Option.{option_copied}
-use Rattle.wi_scenario_list.specs.Scenarios.{effective}
 use Rattle.wi_scenarios.specs.Inner.Held.{state_of}
 use Rattle.wi_scenarios.proofs.LookLemmas.{compare_lacked, compare_done}
 use Rattle.wi_scenarios.proofs.compare.compare.Goals as goal
@@ -8,18 +7,32 @@ use Rattle.wi_scenarios.proofs.compare.compare.Goals as goal
 pub returns-then-lacks_either-clause-step : goal.returns-then-lacks_either-clause-step
 returns-then-lacks_either-clause-step g c = search rules
 
-pub returns-in_err-push_differences-clause-step : goal.returns-in_err-push_differences-clause-step
-returns-in_err-push_differences-clause-step g c =
+pub returns-in_err-before-clause-step : goal.returns-in_err-before-clause-step
+returns-in_err-before-clause-step g c =
     let s = state_of (g.C.Calculator.stored c.args.calculator.now) c.args.desk.now in
-    compare_lacked s (state_of (g.C.Calculator.stored c.push_differences.new.calculator) c.args.desk.now) (option_copied c.args.first) (option_copied c.args.second) c.args.area c.is_too_large.result c.lacks_either.result
-    c.args.out.now.items c.push_differences.new.out.items c.from_residual.result
-    c.is_too_large.ensures c.if-is_too_large.false c.lacks_either.ensures c.if-lacks_either.false c.from_residual.ensures.1 (ap (λ x. state_of x c.args.desk.now) c.in_err-push_differences.ensures.same) c.in_err-push_differences.ensures.err
+    compare_lacked s s (option_copied c.args.first) (option_copied c.args.second) c.args.area c.is_too_large.result c.lacks_either.result
+    c.args.out.now.items c.args.out.now.items c.from_residual.result
+    c.is_too_large.ensures c.if-is_too_large.false c.lacks_either.ensures c.if-lacks_either.false c.from_residual.ensures.1 refl refl
+
+pub returns-in_err-after-clause-step : goal.returns-in_err-after-clause-step
+returns-in_err-after-clause-step g c =
+    let s = state_of (g.C.Calculator.stored c.args.calculator.now) c.args.desk.now in
+    compare_lacked s s (option_copied c.args.first) (option_copied c.args.second) c.args.area c.is_too_large.result c.lacks_either.result
+    c.args.out.now.items c.args.out.now.items c.from_residual-in_err-after.result
+    c.is_too_large.ensures c.if-is_too_large.false c.lacks_either.ensures c.if-lacks_either.false c.from_residual-in_err-after.ensures.1 refl refl
+
+pub returns-in_err-push_comparison-clause-step : goal.returns-in_err-push_comparison-clause-step
+returns-in_err-push_comparison-clause-step g c =
+    let s = state_of (g.C.Calculator.stored c.args.calculator.now) c.args.desk.now in
+    compare_lacked s (state_of (g.C.Calculator.stored c.push_comparison.new.calculator) c.args.desk.now) (option_copied c.args.first) (option_copied c.args.second) c.args.area c.is_too_large.result c.lacks_either.result
+    c.args.out.now.items c.push_comparison.new.out.items c.from_residual-in_err-push_comparison.result
+    c.is_too_large.ensures c.if-is_too_large.false c.lacks_either.ensures c.if-lacks_either.false c.from_residual-in_err-push_comparison.ensures.1 (ap (λ x. state_of x c.args.desk.now) c.in_err-push_comparison.ensures.same) c.in_err-push_comparison.ensures.err
 
 pub returns-clause-step : goal.returns-clause-step
 returns-clause-step g c =
     let s = state_of (g.C.Calculator.stored c.args.calculator.now) c.args.desk.now in
-    let under = effective c.args.desk.now.scenarios in
-    compare_done s (state_of (g.C.Calculator.stored c.push_differences.new.calculator) c.args.desk.now) (option_copied c.args.first) (option_copied c.args.second) c.args.area c.is_too_large.result c.lacks_either.result
-    c.args.out.now.items c.push_differences.new.out.items (under (option_copied c.args.first)) (under (option_copied c.args.second))
-    c.is_too_large.ensures c.if-is_too_large.false c.lacks_either.ensures c.if-lacks_either.false refl refl
-    c.in_ok-push_differences.ensures.ok (ap (λ x. state_of x c.args.desk.now) c.in_ok-push_differences.ensures.same)
+    compare_done s (state_of (g.C.Calculator.stored c.push_comparison.new.calculator) c.args.desk.now) (option_copied c.args.first) (option_copied c.args.second) c.args.area c.is_too_large.result c.lacks_either.result
+    c.args.out.now.items c.push_comparison.new.out.items c.deref.result.now c.deref-2.result.now
+    c.is_too_large.ensures c.if-is_too_large.false c.lacks_either.ensures c.if-lacks_either.false
+    (c.deref.ensures.value ∙ c.in_ok-before.ensures.value) (search rules)
+    c.in_ok-push_comparison.ensures.ok (ap (λ x. state_of x c.args.desk.now) c.in_ok-push_comparison.ensures.same)

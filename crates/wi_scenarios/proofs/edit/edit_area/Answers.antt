@@ -19,3 +19,12 @@ returns-clause-step g c =
     let named : c.in_ok-named.named.items ≡ c.args.area ∷ [] = search rules in
     subst (λ (areas : List Area). Serves (λ a. edit_answer old c.args.force no_cause (record { named = areas; contents = c.args.contents.items }) ≡ a) c.apply_edit.result old new []) named
     c.apply_edit.ensures.step
+
+pub returns-clause-adds : goal.returns-clause-adds
+returns-clause-adds g c = c.apply_edit.ensures.adds
+
+pub returns-clause-refused : goal.returns-clause-refused
+returns-clause-refused g c = c.apply_edit.ensures.refused
+
+pub returns-clause-sound : goal.returns-clause-sound
+returns-clause-sound g c = c.apply_edit.ensures.sound

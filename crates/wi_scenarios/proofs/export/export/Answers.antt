@@ -3,6 +3,9 @@ use Rattle.wi_scenarios.specs.Inner.Held.{state_of}
 use Rattle.wi_scenarios.proofs.LookLemmas.{export_lacked}
 use Rattle.wi_scenarios.proofs.export.export.Goals as goal
 
+pub returns-clause-step : goal.returns-clause-step
+returns-clause-step g c = search rules
+
 pub returns-then-is_too_large-clause-step : goal.returns-then-is_too_large-clause-step
 returns-then-is_too_large-clause-step g c = search rules
 
@@ -19,6 +22,3 @@ returns-in_err-push_export-clause-step g c =
     c.args.out.now.items c.push_export.new.out.items c.from_residual-in_err-push_export.result
     c.is_too_large.ensures c.if-is_too_large.false c.from_residual-in_err-push_export.ensures.1
     (ap (λ x. state_of x c.args.desk.now) c.in_err-push_export.ensures.same) c.in_err-push_export.ensures.err
-
-pub returns-clause-step : goal.returns-clause-step
-returns-clause-step g c = search rules

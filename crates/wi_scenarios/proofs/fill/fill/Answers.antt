@@ -21,3 +21,9 @@ returns-clause-adds g c =
     subst (λ (cells : List ℕ). AddsOnly g.C.Calculator.marked cells (state_of (g.C.Calculator.stored c.args.calculator.now) c.args.desk.now)
     (state_of (g.C.Calculator.stored c.edit_area.new.calculator) c.edit_area.new.desk) (pending_in c.args.desk.now) (pending_in c.edit_area.new.desk))
     (copied_cells (option_copied c.content.result) c.args.from (cells_of c.args.area) c.in_ok-contents.contents.items c.in_ok-contents.ensures) c.edit_area.ensures.adds
+
+pub returns-clause-refused : goal.returns-clause-refused
+returns-clause-refused g c = c.edit_area.ensures.refused
+
+pub returns-clause-sound : goal.returns-clause-sound
+returns-clause-sound g c = c.edit_area.ensures.sound

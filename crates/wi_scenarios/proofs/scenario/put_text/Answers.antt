@@ -1,4 +1,4 @@
-use Rattle.std.proofs.Common.{◌∙◌, List, [], Ok, refl, sym, ap}
+use Rattle.std.proofs.Common.{◌∙◌, List, [], Ok, inl, refl, sym, ap}
 use Rattle.wi_scenario_list.specs.Scenarios.{Scenario}
 use Rattle.wi_values.specs.Inner.Import.{imported}
 use Rattle.wi_scenarios.specs.State.{State}
@@ -10,6 +10,9 @@ pub returns-then-is_full-clause-step : goal.returns-then-is_full-clause-step
 returns-then-is_full-clause-step g c =
     let s = state_of (g.C.Calculator.stored c.args.calculator.now) c.args.desk.now in
     (put_full s c.args.name.now c.args.at (imported c.args.text.now) (sym c.is_full.ensures ∙ c.if-is_full.true), refl, refl)
+
+pub returns-then-is_full-clause-adds : goal.returns-then-is_full-clause-adds
+returns-then-is_full-clause-adds g c = λ i a l there. inl there
 
 pub returns-in_err-value-clause-step : goal.returns-in_err-value-clause-step
 returns-in_err-value-clause-step g c =
@@ -32,3 +35,15 @@ returns-clause-step g c =
     let s = state_of (g.C.Calculator.stored c.args.calculator.now) c.args.desk.now in
     put_there s c.args.name.now c.args.at (imported c.args.text.now) c.in_ok-value.value (sym c.is_full.ensures ∙ c.if-is_full.false) c.in_ok-value.ensures.value
     ∙ ap (λ (t : State). Ok (t, [])) (sym (c.in_ok-switch_to.ensures.state ∙ ap (λ (xs : List Scenario). record s { scenarios = xs }) c.in_ok-next.ensures))
+
+pub returns-in_err-switch_to-clause-adds : goal.returns-in_err-switch_to-clause-adds
+returns-in_err-switch_to-clause-adds g c = c.in_err-switch_to.ensures.adds
+
+pub returns-in_err-switch_to-clause-sound : goal.returns-in_err-switch_to-clause-sound
+returns-in_err-switch_to-clause-sound g c = c.in_err-switch_to.ensures.sound
+
+pub returns-clause-adds : goal.returns-clause-adds
+returns-clause-adds g c = c.in_ok-switch_to.ensures.adds
+
+pub returns-clause-sound : goal.returns-clause-sound
+returns-clause-sound g c = c.in_ok-switch_to.ensures.sound

@@ -1,4 +1,4 @@
-use Rattle.std.proofs.Common.{◌∙◌, List, [], Ok, refl, sym, ap}
+use Rattle.std.proofs.Common.{◌∙◌, List, [], Ok, inl, refl, sym, ap}
 use Rattle.wi_scenario_list.specs.Scenarios.{Scenario}
 use Rattle.wi_scenarios.specs.State.{State}
 use Rattle.wi_scenarios.specs.Inner.Held.{state_of}
@@ -8,6 +8,9 @@ use Rattle.wi_scenarios.proofs.scenario.take_away.Goals as goal
 pub returns-then-not-contains-clause-step : goal.returns-then-not-contains-clause-step
 returns-then-not-contains-clause-step g c =
     (not_taken (state_of (g.C.Calculator.stored c.args.calculator.now) c.args.desk.now) c.args.name.now c.args.at (sym c.contains.ensures ∙ c.if-not-contains.true), refl, refl)
+
+pub returns-then-not-contains-clause-adds : goal.returns-then-not-contains-clause-adds
+returns-then-not-contains-clause-adds g c = λ i a l there. inl there
 
 pub returns-in_err-next-clause-step : goal.returns-in_err-next-clause-step
 returns-in_err-next-clause-step g c =
@@ -24,3 +27,15 @@ returns-clause-step g c =
     let s = state_of (g.C.Calculator.stored c.args.calculator.now) c.args.desk.now in
     taken s c.args.name.now c.args.at (sym c.contains.ensures ∙ c.if-not-contains.false)
     ∙ ap (λ (t : State). Ok (t, [])) (sym (c.in_ok-switch_to.ensures.state ∙ ap (λ (xs : List Scenario). record s { scenarios = xs }) c.in_ok-next.ensures))
+
+pub returns-in_err-switch_to-clause-adds : goal.returns-in_err-switch_to-clause-adds
+returns-in_err-switch_to-clause-adds g c = c.in_err-switch_to.ensures.adds
+
+pub returns-in_err-switch_to-clause-sound : goal.returns-in_err-switch_to-clause-sound
+returns-in_err-switch_to-clause-sound g c = c.in_err-switch_to.ensures.sound
+
+pub returns-clause-adds : goal.returns-clause-adds
+returns-clause-adds g c = c.in_ok-switch_to.ensures.adds
+
+pub returns-clause-sound : goal.returns-clause-sound
+returns-clause-sound g c = c.in_ok-switch_to.ensures.sound

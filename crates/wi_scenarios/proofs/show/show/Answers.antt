@@ -1,4 +1,5 @@
-use Rattle.std.proofs.Common.{refl, ap, rules}
+use Rattle.std.proofs.Common.{refl, sym, ap, subst, rules}
+use Rattle.wi_values.specs.Replacements.{IsInOrder}
 use Rattle.wi_scenarios.specs.Inner.Held.{state_of}
 use Rattle.wi_scenarios.proofs.LookLemmas.{show_lacked}
 use Rattle.wi_scenarios.proofs.show.show.Goals as goal
@@ -11,6 +12,9 @@ returns-in_err-put-clause-step g c =
     let s = state_of (g.C.Calculator.stored c.args.calculator.now) c.args.desk.now in
     show_lacked s s c.args.area c.is_too_large.result c.args.out.now.items c.args.out.now.items c.from_residual.result
     c.is_too_large.ensures c.if-is_too_large.false c.from_residual.ensures.1 refl refl
+
+pub push_rows-requires : goal.push_rows-requires
+push_rows-requires g c = subst IsInOrder (sym c.deref.ensures.value) c.in_ok-put.ensures.order
 
 pub returns-in_err-push_rows-clause-step : goal.returns-in_err-push_rows-clause-step
 returns-in_err-push_rows-clause-step g c =

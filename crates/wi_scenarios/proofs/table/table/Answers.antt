@@ -1,4 +1,5 @@
-use Rattle.std.proofs.Common.{refl, ap, rules}
+use Rattle.std.proofs.Common.{refl, sym, ap, subst, rules}
+use Rattle.wi_values.specs.Replacements.{IsInOrder}
 use Rattle.wi_scenarios.specs.Inner.Held.{state_of}
 use Rattle.wi_scenarios.proofs.LookLemmas.{table_lacked}
 use Rattle.wi_scenarios.proofs.table.table.Goals as goal
@@ -12,6 +13,9 @@ returns-in_err-put-clause-step g c =
     let t = c.args.table.now in
     table_lacked s s t.formula_cell t.input t.column t.second c.is_shaped.result c.is_within.result c.args.out.now.items c.args.out.now.items c.from_residual.result
     c.is_shaped.ensures (search rules) c.is_within.ensures (search rules) c.from_residual.ensures.1 refl refl
+
+pub push_table-requires-clause-order : goal.push_table-requires-clause-order
+push_table-requires-clause-order g c = subst IsInOrder (sym c.deref.ensures.value) c.in_ok-put.ensures.order
 
 pub returns-in_err-push_table-clause-step : goal.returns-in_err-push_table-clause-step
 returns-in_err-push_table-clause-step g c =
