@@ -5,6 +5,7 @@ use Rattle.std.proofs.lemmas.Grind.{common_steps}
 use Rattle.std.proofs.lemmas.Bool.{or_parts}
 use Rattle.std.proofs.lemmas.Slice.Eq.{slice_eq-Decides}
 use Rattle.std.specs.Bool.{Decides}
+use Rattle.std.specs.Prelude.{◌&&◌, if◌then◌else◌}
 use Rattle.std.specs.Option.{option_eq, is_none}
 use Rattle.std.specs.Cmp.Lexicographic.{pointwise}
 use Rattle.wi_values.specs.contracts.rect.RectPartialEq.TheImpl as rect
@@ -19,9 +20,10 @@ use Rattle.wi_parser.specs.declared.content.Content.TheVariants.{Constant}
 use Rattle.wi_parser.specs.Sheet.{Sheet, content_of}
 use Rattle.wi_graph.specs.Reach.{SameOff}
 use Rattle.wi_graph.specs.Edges.{Edges, areas_in, areas_at, with_areas, edges_after}
-use Rattle.wi_graph.specs.Inner.Rooms.{Rooms, items_of, in_room, room_at, put_over, edges_in, edges_over}
-use Rattle.wi_graph.specs.Inner.Changes.{areas_then, Brings, ReadsStay}
+use Rattle.wi_graph.specs.Inner.Rooms.{Rooms, items_of, in_room, room_at, put_over, room_over, edges_in, edges_over}
+use Rattle.wi_graph.specs.Inner.Changes.{areas_then, Brings, HasNoIdle, ReadsStay}
 use Rattle.wi_graph.proofs.Tests.{at_same, turn_test, is_at-eq}
+use Rattle.wi_graph.proofs.Walks.{same_cell}
 use Rattle.wi_values.proofs.Order.{Ascends-from_order}
 use Rattle.wi_graph.proofs.EdgeLemmas.{same_edges, areas_with, areas_over, areas_rooms, ascends_over, ascends_after, ascends_rooms}
 
@@ -39,15 +41,62 @@ cells_more (y ∷ ys) x = ap (λ (zs : List ℕ). y.0 ∷ zs) (cells_more ys x)
 pub cells_step : (xs : List (ℕ × Option Content)) (i : ℕ) (x : ℕ × Option Content) (old new : List ℕ) → i < length xs → x ≡ get_or xs i x → new ≡ old ++ x.0 ∷ [] → old ≡ keys_of (take i xs) → new ≡ keys_of (take (i + 1) xs)
 cells_step xs i x old new l e n h = n ∙ ap (λ (ys : List ℕ). ys ++ x.0 ∷ []) h ∙ sym (cells_more (take i xs) x) ∙ ap keys_of (sym (took xs i x l e))
 
-pub brings_step : (xs : List (ℕ × Option Content)) (i : ℕ) (x : ℕ × Option Content) (old new : Rooms) (r : Option (Vec Area)) → i < length xs → x ≡ get_or xs i x → items_of r ≡ areas_in x.1 → ((q : ℕ) → get nat_cmp new q ≡ cond (is_at (nat_cmp x.0) q) (Some r) (get nat_cmp old q)) →
-    Brings old (take i xs) → Brings new (take (i + 1) xs)
-brings_step xs i x old new r l e g u h c o =
-    ap (λ (z : Option (Option (Vec Area))). put_over z o) (u c ∙ ap (λ (b : Bool). cond b (Some r) (get nat_cmp old c)) (is_at-eq x.0 c ∙ turn_test x.0 c)) ∙ at (c == x.0)
-    ∙ sym (then_more (take i xs) x c o) ∙ ap (λ (ys : List (ℕ × Option Content)). areas_then ys c o) (sym (took xs i x l e))
+-- what is next for a cell is put in, or taken out
+abbrev pub Updates : ℕ → Option (Option (Vec Area)) → Rooms → Rooms → Type 0
+Updates k x old new = (q : ℕ) → get nat_cmp new q ≡ cond (is_at (nat_cmp k) q) x (get nat_cmp old q)
+
+abbrev pub Puts : Rooms → ℕ → Option (List Area) → Rooms → Rooms → Type 0
+Puts rooms k o old new = (c : ℕ) → room_over new rooms c ≡ (if k == c then o else room_over old rooms c)
+
+next_step : (rooms old new : Rooms) (k : ℕ) (x : Option (Option (Vec Area))) (o : Option (List Area)) → put_over x (room_at rooms k) ≡ o → Updates k x old new → Puts rooms k o old new
+next_step rooms old new k x o e u c = ap (λ (z : Option (Option (Vec Area))). put_over z (room_at rooms c)) (u c) ∙ at (is_at (nat_cmp k) c) (k == c) (is_at-eq k c) refl
   where
-    at : (b : Bool) → put_over (cond b (Some r) (get nat_cmp old c)) o ≡ cond b (areas_in x.1) (areas_then (take i xs) c o)
+    at : (b d : Bool) → b ≡ d → (k == c) ≡ d → put_over (cond b x (get nat_cmp old c)) (room_at rooms c) ≡ cond d o (room_over old rooms c)
+    at true true s f = ap (λ (y : ℕ). put_over x (room_at rooms y)) (sym (same_cell c k f)) ∙ e
+    at false false s f = refl
+    at true false s f = cc
+    at false true s f = cc
+
+pub next_put : (rooms old new : Rooms) (k : ℕ) (r : Option (Vec Area)) → Updates k (Some r) old new → Puts rooms k (items_of r) old new
+next_put rooms old new k r u = next_step rooms old new k (Some r) (items_of r) refl u
+
+none_both : (o p : Option (List Area)) → (is_none o && is_none p) ≡ true → o ≡ p
+none_both None None h = refl
+none_both None (Some x) h = cc
+none_both (Some x) p h = cc
+
+pub next_out : (rooms old new : Rooms) (k : ℕ) (r : Option (Vec Area)) → (is_none (room_at rooms k) && is_none (items_of r)) ≡ true → Updates k None old new → Puts rooms k (items_of r) old new
+next_out rooms old new k r h u = next_step rooms old new k None (items_of r) (none_both (room_at rooms k) (items_of r) h) u
+
+-- nothing idle is next after it either
+no_idle_step : (rooms old new : Rooms) (k : ℕ) (x : Option (Option (Vec Area))) → (room_at rooms k ≡ None → in_room x ≡ None → x ≡ None) → Updates k x old new → HasNoIdle rooms old → HasNoIdle rooms new
+no_idle_step rooms old new k x e u h c n m = u c ∙ at (is_at (nat_cmp k) c) (k == c) (is_at-eq k c) refl (ap in_room (sym (u c)) ∙ m)
+  where
+    at : (b d : Bool) → b ≡ d → (k == c) ≡ d → in_room (cond b x (get nat_cmp old c)) ≡ None → cond b x (get nat_cmp old c) ≡ None
+    at true true s f i = e (ap (room_at rooms) (same_cell c k f) ∙ n) i
+    at false false s f i = h c n i
+    at true false s f i = cc
+    at false true s f i = cc
+
+pub out_idle : (rooms old new : Rooms) (k : ℕ) → Updates k None old new → HasNoIdle rooms old → HasNoIdle rooms new
+out_idle rooms old new k u = no_idle_step rooms old new k None (λ n i. refl) u
+
+not_both : (o p : Option (List Area)) → o ≡ None → p ≡ None → (is_none o && is_none p) ≡ true
+not_both None None e f = refl
+not_both None (Some x) e f = cc
+not_both (Some x) p e f = cc
+
+pub put_idle : (rooms old new : Rooms) (k : ℕ) (r : Option (Vec Area)) → (is_none (room_at rooms k) && is_none (items_of r)) ≡ false → Updates k (Some r) old new → HasNoIdle rooms old → HasNoIdle rooms new
+put_idle rooms old new k r h u = no_idle_step rooms old new k (Some r) (λ n i. let z : true ≡ false = sym (not_both (room_at rooms k) (items_of r) n i) ∙ h in cc) u
+
+pub brings_step : (xs : List (ℕ × Option Content)) (i : ℕ) (x : ℕ × Option Content) (rooms old new : Rooms) (o : Option (List Area)) → i < length xs → x ≡ get_or xs i x → o ≡ areas_in x.1 → Puts rooms x.0 o old new → Brings rooms old (take i xs) → Brings rooms new (take (i + 1) xs)
+brings_step xs i x rooms old new o l e g u h c =
+    u c ∙ ap (λ (b : Bool). cond b o (room_over old rooms c)) (turn_test x.0 c) ∙ at (c == x.0) ∙ sym (then_more (take i xs) x c (room_at rooms c))
+    ∙ ap (λ (ys : List (ℕ × Option Content)). areas_then ys c (room_at rooms c)) (sym (took xs i x l e))
+  where
+    at : (b : Bool) → cond b o (room_over old rooms c) ≡ cond b (areas_in x.1) (areas_then (take i xs) c (room_at rooms c))
     at true = g
-    at false = h c o
+    at false = h c
 
 -- ---- the edges after it
 
@@ -55,14 +104,14 @@ then_edges : (es : Edges) (xs : List (ℕ × Option Content)) (c : ℕ) → area
 then_edges es [] c = refl
 then_edges es (x ∷ xs) c = then_edges (with_areas es x.0 (areas_in x.1)) xs c ∙ ap (areas_then xs c) (areas_with es x.0 (areas_in x.1) c)
 
-pub staged_edges : (rooms new next later : Rooms) (xs : List (ℕ × Option Content)) → IsOrdered nat_cmp rooms → IsOrdered nat_cmp new → Brings next xs → ((c : ℕ) → room_at new c ≡ room_at rooms c) → ((c : ℕ) → get nat_cmp later c ≡ get nat_cmp next c) →
+pub staged_edges : (rooms new next later : Rooms) (xs : List (ℕ × Option Content)) → IsOrdered nat_cmp rooms → IsOrdered nat_cmp new → Brings rooms next xs → ((c : ℕ) → room_at new c ≡ room_at rooms c) → ((c : ℕ) → get nat_cmp later c ≡ get nat_cmp next c) →
     edges_over (edges_in new.entries) later.entries ≡ edges_after (edges_in rooms.entries) xs
 staged_edges rooms new next later xs o p b e f =
     let s = Ascends-from_order rooms.entries o in
     let t = Ascends-from_order new.entries p in
     same_edges (edges_over (edges_in new.entries) later.entries) (edges_after (edges_in rooms.entries) xs) (ascends_over (edges_in new.entries) later.entries (ascends_rooms new.entries t)) (ascends_after (edges_in rooms.entries) xs (ascends_rooms rooms.entries s))
-    (λ q. areas_over (edges_in new.entries) later.entries q ∙ ap (λ (z : Option (Option (Vec Area))). put_over z (areas_at (edges_in new.entries) q)) (f q) ∙ b q (areas_at (edges_in new.entries) q)
-    ∙ ap (areas_then xs q) (areas_rooms new.entries t q ∙ e q ∙ sym (areas_rooms rooms.entries s q)) ∙ sym (then_edges (edges_in rooms.entries) xs q))
+    (λ q. areas_over (edges_in new.entries) later.entries q ∙ ap (λ (z : Option (Option (Vec Area))). put_over z (areas_at (edges_in new.entries) q)) (f q)
+    ∙ ap (put_over (get nat_cmp next q)) (areas_rooms new.entries t q ∙ e q) ∙ b q ∙ ap (areas_then xs q) (sym (areas_rooms rooms.entries s q)) ∙ sym (then_edges (edges_in rooms.entries) xs q))
 
 -- ---- what stays
 

@@ -131,7 +131,7 @@ listed_cone rooms readers circles cone list xs g a k l f s h c = ap (λ (ys : Li
 
 -- a sheet after the edit
 pub brought : (rooms next : Rooms) (circles cone : BTreeSet ℕ) (g : AreCircles (room_at rooms) (contains nat_cmp circles)) (k : IsEditCone rooms next cone) → (c : ℕ) → room_over next rooms c ≡ areas_in (content_of (then_sheet g.sheet k.changes) c)
-brought rooms next circles cone g k c = k.brings c (room_at rooms c) ∙ ap (areas_then k.changes c) (g.are c) ∙ sym (then_contents g.sheet k.changes c)
+brought rooms next circles cone g k c = k.brings c ∙ ap (areas_then k.changes c) (g.are c) ∙ sym (then_contents g.sheet k.changes c)
 
 pub cone_turns : (rooms next : Rooms) (circles cells rest : BTreeSet ℕ) (turns : Turns) → AreCircles (room_at rooms) (contains nat_cmp circles) → IsEditCone rooms next cells → SettlesCone rooms next circles cells rest → IsWithin rest cells → AreOf circles cells rest turns →
     AreTurns rooms next circles turns

@@ -1,12 +1,13 @@
 //! What an edit brings, by its cells.
 
-ghost use Rattle.std.specs.Prelude.{◌≡◌, ◌↔◌, IsTrue, IfOk};
+ghost use Rattle.std.specs.Prelude.{◌≡◌, ◌↔◌, ◌==◌, ◌&&◌, ℕ, if◌then◌else◌, IsTrue, IfOk, OnOk};
 ghost use Rattle.std.specs.Map.{keys_of};
+ghost use Rattle.std.specs.Option.{is_none};
 ghost use Rattle.wi_graph.specs.Edges.{areas_in};
-ghost use Rattle.wi_graph.specs.Inner.Rooms.{items_of, room_at};
-ghost use Rattle.wi_graph.specs.Inner.Changes.{Brings, ReadsStay};
+ghost use Rattle.wi_graph.specs.Inner.Rooms.{items_of, room_at, room_over};
+ghost use Rattle.wi_graph.specs.Inner.Changes.{Brings, HasNoIdle, ReadsStay};
 
-use crate::rooms::Rooms;
+use crate::rooms::{Rooms, is_vacant};
 use std::alloc::{AllocError, Global};
 use std::collections::BTreeMap;
 use wi_parser::Content;
@@ -26,16 +27,48 @@ pub(crate) fn changed_cells(alloc: Global, changes: &[Change]) -> Result<Vec<Add
     Ok(cells)
 }
 
-/// What an edit brings; of two for one cell the later counts.
-pub(crate) fn rooms_of(alloc: Global, changes: &[Change]) -> Result<Rooms, AllocError>
-    ensures { IfOk result (λ next. Brings next changes.now) }
+/// What an edit brings beside what stands in the rooms; of two for one cell the later counts. A cell without a formula that
+/// gets none takes no memory.
+pub(crate) fn rooms_of(
+    alloc: Global,
+    rooms: &Rooms,
+    changes: &[Change],
+) -> Result<Rooms, AllocError>
+    ensures brings { IfOk result (λ next. Brings rooms.now next changes.now) }
+    ensures no_idle { IfOk result (HasNoIdle rooms.now) }
 {
     let mut next = BTreeMap::new(alloc);
     for change in changes {
         let room = room_for(alloc, &change.1)?;
-        next.insert(change.0, room)?;
+        put_next(rooms, &mut next, change.0, room)?;
     }
     Ok(next)
+}
+
+/// Puts what a cell gets into what is next. Where there is no formula and none comes, nothing is next for the cell.
+fn put_next(
+    rooms: &Rooms,
+    next: &mut Rooms,
+    cell: Address,
+    room: Option<Vec<Rect>>,
+) -> Result<(), AllocError>
+    ensures puts { OnOk result ((c : ℕ) → room_over next.new rooms.now c
+        ≡ (if cell == c then items_of room else room_over next.old rooms.now c)) }
+    ensures no_idle { HasNoIdle rooms.now next.old → OnOk result (HasNoIdle rooms.now next.new) }
+{
+    if stays_vacant(rooms, cell, &room) {
+        let _ = next.remove(&cell);
+        return Ok(());
+    }
+    next.insert(cell, room)?;
+    Ok(())
+}
+
+/// Whether a cell has no formula and gets none.
+fn stays_vacant(rooms: &Rooms, cell: Address, room: &Option<Vec<Rect>>) -> bool
+    ensures { result ≡ (is_none (room_at rooms.now cell) && is_none (items_of room.now)) }
+{
+    is_vacant(rooms, cell) && room.is_none()
 }
 
 /// What a content reads.

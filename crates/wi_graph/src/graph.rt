@@ -170,12 +170,12 @@ fn make_ready(
         → (c : ℕ) → contains nat_cmp cone.now c ≡ in_cone s (keys_of changes.now) c }
     ensures ordered { IsOrdered nat_cmp rooms.new }
     ensures rooms { (c : ℕ) → room_at rooms.new c ≡ room_at rooms.old c }
-    ensures brings { IfOk result (λ staged. Brings staged.next changes.now) }
+    ensures brings { IfOk result (λ staged. Brings rooms.old staged.next changes.now) }
     ensures staged { IfOk result (λ staged.
         IsStaged rooms.new staged.next readers.new circles.new staged.turns) }
     ensures err { OnErr result (IsGraph rooms.new readers.new circles.new) }
 {
-    let coming = rooms_of(alloc, changes)?;
+    let coming = rooms_of(alloc, rooms, changes)?;
     let turns = turns_of(alloc, rooms, circles, &coming, cone)?;
     bring_circles(circles, &turns.came)?;
     match bring_in(alloc, rooms, readers, coming) {

@@ -66,7 +66,7 @@ fn exchange(rooms: &mut Rooms, at: Address, room: &mut Option<Vec<Rect>>)
 }
 
 /// Takes away the room of a cell if it is vacant.
-fn release(rooms: &mut Rooms, at: Address)
+pub(crate) fn release(rooms: &mut Rooms, at: Address)
     requires ordered { IsOrdered nat_cmp rooms.old }
     ensures ordered { IsOrdered nat_cmp rooms.new }
     ensures rooms { (c : ℕ) → room_at rooms.new c ≡ room_at rooms.old c }
@@ -79,7 +79,7 @@ fn release(rooms: &mut Rooms, at: Address)
 }
 
 /// Whether nothing stands in a cell.
-fn is_vacant(rooms: &Rooms, at: Address) -> bool
+pub(crate) fn is_vacant(rooms: &Rooms, at: Address) -> bool
     ensures { result ≡ is_none (room_at rooms.now at) }
 {
     match rooms.get(&at) {

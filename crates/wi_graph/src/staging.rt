@@ -8,7 +8,7 @@ ghost use Rattle.wi_ranges.specs.Bag.{count_of};
 ghost use Rattle.wi_graph.specs.Inner.Rooms.{items_of, room_at, areas_of, times, HasRooms, HasPairs, HasBoth};
 ghost use Rattle.wi_graph.specs.Inner.Staging.{either, AreApart};
 
-use crate::rooms::{Rooms, remove_pairs, remove_room, take_back};
+use crate::rooms::{Rooms, release, remove_pairs, remove_room, take_back};
 use std::alloc::{AllocError, Global};
 use std::collections::BTreeMap;
 use wi_ranges::RangeIndex;
@@ -65,7 +65,7 @@ fn bring_all(
     Ok(())
 }
 
-/// Brings in what a cell gets. If memory runs out, it is not in.
+/// Brings in what a cell gets. If memory runs out, it is not in, and no room was made for it.
 fn bring_one(
     rooms: &mut Rooms,
     readers: &mut RangeIndex,
@@ -85,6 +85,29 @@ fn bring_one(
         ≡ cond (is_at (nat_cmp cell) c) (Some room) (get nat_cmp next.old c)) }
 {
     make_room(rooms, cell)?;
+    match put_in(readers, next, cell, room) {
+        Ok(()) => Ok(()),
+        Err(error) => {
+            release(rooms, cell);
+            Err(error)
+        }
+    }
+}
+
+/// Puts what a cell gets into what is next, and its pairs into the index. On an error both have what they had.
+fn put_in(
+    readers: &mut RangeIndex,
+    next: &mut Rooms,
+    cell: Address,
+    room: Option<Vec<Rect>>,
+) -> Result<(), AllocError>
+    ensures next { OnOk result ((c : ℕ) → get nat_cmp next.new c
+        ≡ cond (is_at (nat_cmp cell) c) (Some room) (get nat_cmp next.old c)) }
+    ensures readers { OnOk result ((p : RangePair) → count_of readers.new p
+        ≡ count_of readers.old p + times cell (areas_of (items_of room)) p) }
+    ensures err { OnErr result (next.new.entries ≡ next.old.entries) }
+    ensures same { OnErr result ((p : RangePair) → count_of readers.new p ≡ count_of readers.old p) }
+{
     add_room(readers, cell, &room)?;
     match next.insert(cell, room) {
         Ok(_) => Ok(()),

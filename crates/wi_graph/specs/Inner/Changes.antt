@@ -1,5 +1,5 @@
 -- What an edit brings.
-use Rattle.std.specs.Prelude.{◌≡◌, ◌==◌, ◌&&◌, ℕ, cond, not, List, [], ◌∷◌, Option, filter}
+use Rattle.std.specs.Prelude.{◌≡◌, ◌==◌, ◌&&◌, ℕ, cond, not, List, [], ◌∷◌, Option, None, filter}
 use Rattle.std.specs.Ordering.{nat_cmp}
 use Rattle.std.specs.Map.{keys_of}
 use Rattle.std.specs.BTreeMap.{get}
@@ -9,16 +9,20 @@ use Rattle.wi_parser.specs.declared.content.Content.{Content}
 use Rattle.wi_parser.specs.Sheet.{Sheet, content_of}
 use Rattle.wi_graph.specs.Reach.{in_cone}
 use Rattle.wi_graph.specs.Edges.{areas_in}
-use Rattle.wi_graph.specs.Inner.Rooms.{Rooms, put_over, room_at, room_over}
+use Rattle.wi_graph.specs.Inner.Rooms.{Rooms, room_at, room_over}
 
 -- what a cell reads after the changes, that read this before them
 abbrev pub areas_then : List (ℕ × Option Content) → ℕ → Option (List Area) → Option (List Area)
 areas_then [] c o = o
 areas_then (x ∷ xs) c o = areas_then xs c (cond (c == x.0) (areas_in x.1) o)
 
--- the rooms are what the changes bring
-abbrev pub Brings : Rooms → List (ℕ × Option Content) → Type 0
-Brings next changes = (c : ℕ) (o : Option (List Area)) → put_over (get nat_cmp next c) o ≡ areas_then changes c o
+-- once the next are put in, each cell reads what it reads after the changes
+abbrev pub Brings : Rooms → Rooms → List (ℕ × Option Content) → Type 0
+Brings rooms next changes = (c : ℕ) → room_over next rooms c ≡ areas_then changes c (room_at rooms c)
+
+-- nothing is next for a cell that has no formula and gets none
+abbrev pub HasNoIdle : Rooms → Rooms → Type 0
+HasNoIdle rooms next = (c : ℕ) → room_at rooms c ≡ None → room_at next c ≡ None → get nat_cmp next c ≡ None
 
 -- each cell reads once the next are put in what it read before
 abbrev pub ReadsStay : Rooms → Rooms → Type 0
@@ -27,7 +31,7 @@ ReadsStay rooms next = (c : ℕ) → room_over next rooms c ≡ room_at rooms c
 -- the set has the cone of an edit that brings the next
 pub record IsEditCone (rooms next : Rooms) (cone : BTreeSet ℕ) : Type 0 where
   pub changes : List (ℕ × Option Content)
-  pub brings : Brings next changes
+  pub brings : Brings rooms next changes
   pub is_cone : (s : Sheet) → ((c : ℕ) → room_at rooms c ≡ areas_in (content_of s c)) → (c : ℕ) → contains nat_cmp cone c ≡ in_cone s (keys_of changes) c
 
 -- the circular cells of a cone that are not among the rest

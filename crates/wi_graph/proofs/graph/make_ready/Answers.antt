@@ -1,7 +1,7 @@
 use Rattle.std.proofs.Common.{◌∙◌, Option, ap}
 use Rattle.std.specs.Global.{Vec}
 use Rattle.wi_values.specs.Address.{Area}
-use Rattle.wi_graph.specs.Inner.Rooms.{put_over}
+use Rattle.wi_graph.specs.Inner.Rooms.{put_over, room_at}
 use Rattle.wi_graph.proofs.StageEnds.{on_err, same_graph, staged_graph, refused_graph}
 use Rattle.wi_graph.proofs.graph.make_ready.Goals as goal
 
@@ -9,10 +9,10 @@ pub turns_of-requires-clause-circles : goal.turns_of-requires-clause-circles
 turns_of-requires-clause-circles c = c.requires.graph.circular
 
 pub turns_of-requires-clause-cone : goal.turns_of-requires-clause-cone
-turns_of-requires-clause-cone c = record { changes = c.args.changes.now; brings = c.in_ok-coming.ensures; is_cone = c.requires.cone }
+turns_of-requires-clause-cone c = record { changes = c.args.changes.now; brings = c.in_ok-coming.ensures.brings; is_cone = c.requires.cone }
 
 pub returns-in-Ok-clause-brings : goal.returns-in-Ok-clause-brings
-returns-in-Ok-clause-brings c = λ d o. ap (λ (x : Option (Option (Vec Area))). put_over x o) (c.in-Ok.ensures.all d) ∙ c.in_ok-coming.ensures d o
+returns-in-Ok-clause-brings c = λ d. ap (λ (x : Option (Option (Vec Area))). put_over x (room_at c.args.rooms.now d)) (c.in-Ok.ensures.all d) ∙ c.in_ok-coming.ensures.brings d
 
 pub returns-in-Ok-clause-staged : goal.returns-in-Ok-clause-staged
 returns-in-Ok-clause-staged c =
