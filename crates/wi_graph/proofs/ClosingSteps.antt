@@ -16,7 +16,7 @@ use Rattle.wi_graph.specs.Circular.{circular}
 use Rattle.wi_graph.specs.Reach.{is_one_of}
 use Rattle.wi_graph.specs.Edges.{areas_in}
 use Rattle.wi_graph.specs.declared.turning.Turns.{Turns}
-use Rattle.wi_graph.specs.Inner.Changes.{ReadsStay, IsEditCone}
+use Rattle.wi_graph.specs.Inner.Changes.{IsEditCone}
 use Rattle.wi_graph.specs.Inner.Rooms.{Rooms, items_of, room_at, put_over, areas_of, AreCircles}
 use Rattle.wi_graph.specs.Inner.Stripping.{is_in}
 use Rattle.wi_graph.specs.Inner.Turning.{has_one, reads_one_of, AreTurns}
@@ -29,7 +29,7 @@ use Rattle.wi_graph.proofs.ReachTest.{not_in_cone}
 use Rattle.wi_graph.proofs.CircularAfter.{reads_circular}
 use Rattle.wi_graph.proofs.ChangeSteps.{then_sheet, then_same}
 use Rattle.wi_graph.proofs.GraphSteps.{reads_areas}
-use Rattle.wi_graph.proofs.TurningSteps.{brought, none_came, same_turns}
+use Rattle.wi_graph.proofs.TurningSteps.{brought, none_came}
 
 -- ---- whether a rectangle has one of the cells
 
@@ -70,7 +70,7 @@ apart_from cells (r ∷ rs) d n h = at (or_cases (is_within r d) _ h) (or_parts 
 -- ---- so no cycle is closed
 
 -- a cell that is circular after the edit reads such a cell before it too
-still_reads : (rooms next : Rooms) (circles cone : BTreeSet ℕ) (g : AreCircles (room_at rooms) (contains nat_cmp circles)) (k : IsEditCone rooms next cone) → ((c : ℕ) → circular g.sheet c ≡ false) → reads_one_of next.entries cone ≡ false →
+still_reads : (rooms next : Rooms) (circles cone : BTreeSet ℕ) (g : AreCircles (room_at rooms) (contains nat_cmp circles)) (k : IsEditCone rooms next (contains nat_cmp cone)) → ((c : ℕ) → circular g.sheet c ≡ false) → reads_one_of next.entries cone ≡ false →
     (c : ℕ) → circular (then_sheet g.sheet k.changes) c ≡ true → (d : ℕ) × (content_reads (content_of g.sheet c) d ≡ true) × (circular (then_sheet g.sheet k.changes) d ≡ true)
 still_reads rooms next circles cone g k none n c h =
     let f = reads_circular (then_sheet g.sheet k.changes) c h in
@@ -91,7 +91,7 @@ still_reads rooms next circles cone g k none n c h =
         let s = outside_circular g.sheet t (keys_of k.changes) d (then_same g.sheet k.changes) (not_in_cone g.sheet (keys_of k.changes) d (sym (k.is_cone g.sheet g.are d) ∙ a)) in
         clash (circular t d) u (sym s ∙ none d)
 
-pub none_turn : (rooms next : Rooms) (circles cone : BTreeSet ℕ) (turns : Turns) → AreCircles (room_at rooms) (contains nat_cmp circles) → IsEditCone rooms next cone → btree_set_len circles ≡ 0 → reads_one_of next.entries cone ≡ false → turns.came.items ≡ [] → turns.went.items ≡ [] →
+pub none_turn : (rooms next : Rooms) (circles cone : BTreeSet ℕ) (turns : Turns) → AreCircles (room_at rooms) (contains nat_cmp circles) → IsEditCone rooms next (contains nat_cmp cone) → btree_set_len circles ≡ 0 → reads_one_of next.entries cone ≡ false → turns.came.items ≡ [] → turns.went.items ≡ [] →
     AreTurns rooms next circles turns
 none_turn rooms next circles cone turns g k z n f h = record {
   fresh = none_came circles turns f;
@@ -111,8 +111,3 @@ none_turn rooms next circles cone turns g k z n f h = record {
     open_after : (c : ℕ) → circular (then_sheet g.sheet k.changes) c ≡ false
     open_after c = false_from_ne_true (circular (then_sheet g.sheet k.changes) c) (λ u.
         clash (circular g.sheet c) (left_circular g.sheet (circular (then_sheet g.sheet k.changes)) (still_reads rooms next circles cone g k none n) c u) (none c))
-
-pub nothing_turns : (rooms next : Rooms) (circles cone : BTreeSet ℕ) (turns : Turns) → AreCircles (room_at rooms) (contains nat_cmp circles) → IsEditCone rooms next cone → ReadsStay rooms next ⊎ ((btree_set_len circles ≡ 0) × (reads_one_of next.entries cone ≡ false)) →
-    turns.came.items ≡ [] → turns.went.items ≡ [] → AreTurns rooms next circles turns
-nothing_turns rooms next circles cone turns g k (inl s) f h = same_turns rooms next circles turns g s f h
-nothing_turns rooms next circles cone turns g k (inr s) f h = none_turn rooms next circles cone turns g k s.0 s.1 f h

@@ -8,14 +8,16 @@ use Rattle.std.specs.Map.{lookup}
 use Rattle.std.specs.Option.{unwrap_or}
 use Rattle.std.specs.Ordering.{nat_cmp}
 use Rattle.std.specs.BTreeMap.{is_at}
-use Rattle.std.specs.BTreeSet.{BTreeSet, contains}
+use Rattle.std.specs.BTreeSet.{BTreeSet, contains, IsOrdered}
+use Rattle.std.specs.List.Sorted.{IsStrictlyIncreasing}
+use Rattle.std.proofs.lemmas.Map.Keys.{IsStrictlyIncreasing-from_sorted}
 use Rattle.wi_parser.specs.Sheet.{Sheet, content_of}
 use Rattle.wi_parser.specs.Reads.{content_reads}
 use Rattle.wi_ranges.specs.declared.pair.RangePair.{RangePair}
 use Rattle.wi_ranges.specs.Bag.{Bag, IsReader, is_same, count_of}
 use Rattle.wi_ranges.proofs.Exact.{same_is}
 use Rattle.wi_graph.specs.Reach.{is_one_of, in_cone}
-use Rattle.wi_graph.specs.Inner.Search.{HasAll, HasReaders, GoesToReaders, IsLeast, missing, AreNoted}
+use Rattle.wi_graph.specs.Inner.Search.{HasAll, HasReaders, GoesToReaders, IsLeast, IsConeOf, missing, AreNoted}
 use Rattle.wi_graph.proofs.Tests.{is_itself, clash, turned}
 use Rattle.std.proofs.lemmas.List.Elements.{filter_agree}
 use Rattle.wi_graph.proofs.Walks.{same_cell, same_tests, shrinks, Same}
@@ -234,3 +236,33 @@ pub found_cone : (s : Sheet) (readers : Bag) (cells : List ℕ) (found : BTreeSe
 found_cone s readers cells found i h k l c = sym (turned found.keys c) ∙ same_tests (contains nat_cmp found c) (in_cone s cells c)
     (l (in_cone s cells) (cone_has s cells) (λ a r m u. cone_closed s cells r a ((i a r).1 u) m) c)
     (cone_least s cells (contains nat_cmp found) h (λ d a r m. k a d m ((i a d).0 r)) c)
+
+-- ---- the cone as a list
+
+-- cells in order that nothing reads are their own cone
+pub own_cone : (readers : Bag) (cells list : List ℕ) → IsStrictlyIncreasing cells → ((a r : ℕ) → is_one_of cells a ≡ true → IsReader readers a r → ⊥) → list ≡ cells → IsConeOf readers cells list
+own_cone readers cells list o n e = subst (IsConeOf readers cells) (sym e) (record {
+  order = o;
+  all = λ c h. turned cells c ∙ h;
+  closed = λ a r h k. absurd (n a r (sym (turned cells a) ∙ h) k);
+  least = λ p h g c k. h c (sym (turned cells c) ∙ k);
+})
+
+-- a set that was found
+pub found_list : (readers : Bag) (cells list : List ℕ) (found : BTreeSet ℕ) → IsOrdered nat_cmp found → HasAll cells found → HasReaders readers found → IsLeast readers cells found → list ≡ found.keys → IsConeOf readers cells list
+found_list readers cells list found o a k l e = subst (IsConeOf readers cells) (sym e) (record { order = IsStrictlyIncreasing-from_sorted found.keys o; all = a; closed = k; least = l })
+
+-- nothing reads one more
+pub none_more : (readers : Bag) (cells : List ℕ) (i x : ℕ) (rs : List ℕ) → i < length cells → x ≡ get_or cells i x → ((r : ℕ) → Contains rs r ↔ IsReader readers x r) → length rs ≡ 0 → ((a r : ℕ) → is_one_of (take i cells) a ≡ true → IsReader readers a r → ⊥) →
+    (a r : ℕ) → is_one_of (take (i + 1) cells) a ≡ true → IsReader readers a r → ⊥
+none_more readers cells i x rs l e f z n a r h k = at (or_cases (is_one_of (take i cells) a) _ (sym (taken cells i x a l e) ∙ h))
+  where
+    is_it : (b : Bool) → (b || false) ≡ true → b ≡ true
+    is_it b w = sym (or-false b) ∙ w
+
+    none : (ys : List ℕ) → length ys ≡ 0 → Contains ys r → ⊥
+    none ys g w = omega (arith, w.1, g)
+
+    at : (is_one_of (take i cells) a ≡ true) ⊎ (((x == a) || false) ≡ true) → ⊥
+    at (inl w) = n a r w k
+    at (inr w) = none rs z ((f r).1 (subst (λ (y : ℕ). IsReader readers y r) (sym (same_cell a x (is_it (x == a) w))) k))

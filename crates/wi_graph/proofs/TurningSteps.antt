@@ -1,5 +1,5 @@
 -- Steps to the cells of a cone that are circular after an edit.
-use Rattle.std.proofs.Common.{◌≡◌, ◌==◌, ◌+◌, ◌<◌, ℕ, Bool, true, false, ◌&&◌, ◌||◌, cond, not, List, [], filter, take, get_or, length, Option, Some, refl, ap, sym, ◌∙◌}
+use Rattle.std.proofs.Common.{◌≡◌, ◌==◌, ◌+◌, ◌<◌, ℕ, Bool, true, false, ◌&&◌, ◌||◌, cond, not, List, [], filter, take, get_or, length, Some, refl, ap, sym, ◌∙◌}
 use Rattle.std.proofs.lemmas.Bool.{and_parts, and_from, not-true}
 use Rattle.std.proofs.lemmas.Map.Views.{any-filter_same}
 use Rattle.std.specs.List.{list_any}
@@ -9,7 +9,6 @@ use Rattle.std.specs.Global.{Vec}
 use Rattle.std.specs.BTreeMap.{BTreeMap, get, is_at, IsOrdered}
 use Rattle.std.specs.BTreeSet.{BTreeSet, contains, difference}
 use Rattle.wi_values.specs.Address.{Area, is_within}
-use Rattle.wi_parser.specs.declared.content.Content.{Content}
 use Rattle.wi_parser.specs.Sheet.{Sheet, content_of}
 use Rattle.wi_parser.specs.Reads.{content_reads}
 use Rattle.wi_ranges.specs.Bag.{Bag}
@@ -19,7 +18,7 @@ use Rattle.wi_graph.specs.Edges.{AreEdgesOf, areas_in}
 use Rattle.wi_graph.specs.declared.turning.Turns.{Turns}
 use Rattle.wi_graph.specs.Inner.Changes.{areas_then, ReadsStay, IsEditCone, went_from}
 use Rattle.wi_graph.specs.Inner.Rooms.{Rooms, room_at, room_over, edges_in, areas_of, HasPairs, AreCircles, IsGraph}
-use Rattle.wi_graph.specs.Inner.Search.{HasAll, HasReaders, IsLeast}
+use Rattle.wi_graph.specs.Inner.Search.{as_set, IsConeOf}
 use Rattle.wi_graph.specs.Inner.Stripping.{items_there, reads_in, EachReadsOne, AreStripped, IsWithin}
 use Rattle.wi_graph.specs.Inner.Turning.{reads_outside, turned_by, AreTurns, SettlesCone}
 use Rattle.wi_graph.proofs.Tests.{is_at-eq, clash, turned}
@@ -118,22 +117,21 @@ turned_after circles cells rest turns e w c =
     at false false true w = refl
     at false false false w = refl
 
--- the cone of an edit
-pub cone_is : (rooms : Rooms) (readers : Bag) (cone : BTreeSet ℕ) (xs : List ℕ) → IsOrdered nat_cmp rooms → HasPairs readers rooms → HasAll xs cone → HasReaders readers cone → IsLeast readers xs cone →
-    (s : Sheet) → ((c : ℕ) → room_at rooms c ≡ areas_in (content_of s c)) → (c : ℕ) → contains nat_cmp cone c ≡ in_cone s xs c
-cone_is rooms readers cone xs o h a k l s are c =
-    turned cone.keys c ∙ found_cone s readers xs cone (graph_readers rooms readers o h s (λ d. areas_rooms rooms.entries (Ascends-from_order rooms.entries o) d ∙ are d)) a k l c
+-- the cone of some cells
+pub cone_is : (rooms : Rooms) (readers : Bag) (cells list : List ℕ) → IsOrdered nat_cmp rooms → HasPairs readers rooms → IsConeOf readers cells list →
+    (s : Sheet) → ((c : ℕ) → room_at rooms c ≡ areas_in (content_of s c)) → (c : ℕ) → is_one_of list c ≡ in_cone s cells c
+cone_is rooms readers cells list o h k s are = found_cone s readers cells (as_set list) (graph_readers rooms readers o h s (λ d. areas_rooms rooms.entries (Ascends-from_order rooms.entries o) d ∙ are d)) k.all k.closed k.least
 
--- as a list
-pub listed_cone : (rooms : Rooms) (readers : Bag) (circles cone : BTreeSet ℕ) (list : List ℕ) (xs : List (ℕ × Option Content)) → IsGraph rooms readers circles → HasAll (keys_of xs) cone → HasReaders readers cone → IsLeast readers (keys_of xs) cone → list ≡ cone.keys →
-    (s : Sheet) → AreEdgesOf (edges_in rooms.entries) s → (c : ℕ) → is_one_of list c ≡ in_cone s (keys_of xs) c
-listed_cone rooms readers circles cone list xs g a k l f s h c = ap (λ (ys : List ℕ). is_one_of ys c) f ∙ found_cone s readers (keys_of xs) cone (graph_readers rooms readers g.ordered g.pairs s h) a k l c
+-- by the edges
+pub listed_cone : (rooms : Rooms) (readers : Bag) (circles : BTreeSet ℕ) (cells list : List ℕ) → IsGraph rooms readers circles → IsConeOf readers cells list →
+    (s : Sheet) → AreEdgesOf (edges_in rooms.entries) s → (c : ℕ) → is_one_of list c ≡ in_cone s cells c
+listed_cone rooms readers circles cells list g k s h = found_cone s readers cells (as_set list) (graph_readers rooms readers g.ordered g.pairs s h) k.all k.closed k.least
 
 -- a sheet after the edit
-pub brought : (rooms next : Rooms) (circles cone : BTreeSet ℕ) (g : AreCircles (room_at rooms) (contains nat_cmp circles)) (k : IsEditCone rooms next cone) → (c : ℕ) → room_over next rooms c ≡ areas_in (content_of (then_sheet g.sheet k.changes) c)
+pub brought : (rooms next : Rooms) (circles cone : BTreeSet ℕ) (g : AreCircles (room_at rooms) (contains nat_cmp circles)) (k : IsEditCone rooms next (contains nat_cmp cone)) → (c : ℕ) → room_over next rooms c ≡ areas_in (content_of (then_sheet g.sheet k.changes) c)
 brought rooms next circles cone g k c = k.brings c ∙ ap (areas_then k.changes c) (g.are c) ∙ sym (then_contents g.sheet k.changes c)
 
-pub cone_turns : (rooms next : Rooms) (circles cells rest : BTreeSet ℕ) (turns : Turns) → AreCircles (room_at rooms) (contains nat_cmp circles) → IsEditCone rooms next cells → SettlesCone rooms next circles cells rest → IsWithin rest cells → AreOf circles cells rest turns →
+pub cone_turns : (rooms next : Rooms) (circles cells rest : BTreeSet ℕ) (turns : Turns) → AreCircles (room_at rooms) (contains nat_cmp circles) → IsEditCone rooms next (contains nat_cmp cells) → SettlesCone rooms next circles cells rest → IsWithin rest cells → AreOf circles cells rest turns →
     AreTurns rooms next circles turns
 cone_turns rooms next circles cells rest turns g k st w e = record {
   fresh = λ c h. not-true (contains nat_cmp circles c) (and_parts (not (contains nat_cmp circles c)) _ (sym (in_difference rest circles c) ∙ ap (λ (ys : List ℕ). is_one_of ys c) (sym e.0) ∙ h)).0;

@@ -1,31 +1,73 @@
 //! The cells that read one of a list, at any remove.
 
-ghost use Rattle.std.specs.Prelude.{IfOk, OnOk};
+ghost use Rattle.std.specs.Prelude.{◌≡◌, ℕ, true, IsTrue, IfOk, OnOk};
+ghost use Rattle.std.specs.List.Sorted.{IsStrictlyIncreasing};
 ghost use Rattle.std.specs.Map.{keys_of};
-ghost use Rattle.wi_graph.specs.Inner.Search.{HasAll, HasReaders, IsLeast, AreNoted};
+ghost use Rattle.wi_ranges.specs.Bag.{IsReader};
+ghost use Rattle.wi_graph.specs.Reach.{is_one_of};
+ghost use Rattle.wi_graph.specs.Inner.Search.{HasAll, HasReaders, IsConeOf, IsLeast, AreNoted};
 
 use crate::changes::{Change, changed_cells};
+use crate::sets::listed;
 use std::alloc::{AllocError, Global};
 use std::collections::BTreeSet;
 use wi_ranges::RangeIndex;
 use wi_values::Address;
 
-/// The cells that read one of the cells of an edit, at any remove, with themselves.
+/// The cells that read one of the cells of an edit, at any remove, with themselves: each once, in row-major order.
 pub(crate) fn edit_cone(
     alloc: Global,
     readers: &RangeIndex,
     changes: &[Change],
-) -> Result<BTreeSet<Address>, AllocError>
-    ensures all { IfOk result (HasAll (keys_of changes.now)) }
-    ensures closed { IfOk result (HasReaders readers.now) }
-    ensures least { IfOk result (IsLeast readers.now (keys_of changes.now)) }
+) -> Result<Vec<Address>, AllocError>
+    ensures { IfOk result (λ list. IsConeOf readers.now (keys_of changes.now) list.items) }
 {
     let cells = changed_cells(alloc, changes)?;
-    cone_of(alloc, readers, &cells)
+    listed_cone(alloc, readers, &cells)
+}
+
+/// The cells that read one of these, at any remove, with themselves: each once, in row-major order. Cells in that order which
+/// nothing reads are their own cone, and cost no more than the search for their readers.
+pub(crate) fn listed_cone(
+    alloc: Global,
+    readers: &RangeIndex,
+    cells: &[Address],
+) -> Result<Vec<Address>, AllocError>
+    ensures { IfOk result (λ list. IsConeOf readers.now cells.now list.items) }
+{
+    if rise(cells) && none_is_read(readers, cells)? {
+        return Vec::from_slice(alloc, cells);
+    }
+    let found = cone_of(alloc, readers, cells)?;
+    listed(alloc, &found)
+}
+
+/// Whether cells stand in row-major order, each once.
+fn rise(cells: &[Address]) -> bool
+    ensures { IsTrue result → IsStrictlyIncreasing cells.now }
+{
+    for i in 1..cells.len() {
+        if cells[i] <= cells[i - 1] {
+            return false;
+        }
+    }
+    true
+}
+
+/// Whether nothing reads one of the cells.
+fn none_is_read(readers: &RangeIndex, cells: &[Address]) -> Result<bool, AllocError>
+    ensures { IfOk result (λ none. IsTrue none → (a r : ℕ) → is_one_of cells.now a ≡ true → IsReader readers.now a r → ⊥) }
+{
+    for cell in cells {
+        if !readers.readers_of(*cell)?.is_empty() {
+            return Ok(false);
+        }
+    }
+    Ok(true)
 }
 
 /// The cells that read one of these, at any remove, with themselves.
-pub(crate) fn cone_of(
+fn cone_of(
     alloc: Global,
     readers: &RangeIndex,
     cells: &[Address],

@@ -6,7 +6,6 @@ ghost use Rattle.std.specs.Map.{keys_of};
 ghost use Rattle.std.specs.Option.{unwrap_or};
 ghost use Rattle.std.specs.Ordering.{nat_cmp};
 ghost use Rattle.std.specs.BTreeMap.{IsOrdered};
-ghost use Rattle.std.specs.BTreeSet.{contains};
 ghost use Rattle.wi_parser.specs.Sheet.{Sheet, content_of};
 ghost use Rattle.wi_graph.specs.Circular.{circular};
 ghost use Rattle.wi_graph.specs.Reach.{is_one_of, in_cone};
@@ -15,9 +14,9 @@ ghost use Rattle.wi_graph.specs.Inner.Changes.{Brings};
 ghost use Rattle.wi_graph.specs.Inner.Rooms.{room_at, IsGraph, IsStaged};
 
 use crate::changes::{Change, reads_stay, rooms_of};
-use crate::cone::{cone_of, edit_cone};
+use crate::cone::{edit_cone, listed_cone};
 use crate::rooms::{Rooms, take_back, take_over};
-use crate::sets::{listed, take_away};
+use crate::sets::take_away;
 use crate::staging::bring_in;
 use crate::turning::{Turns, bring_circles, turns_of};
 use std::alloc::{AllocError, Global};
@@ -90,15 +89,14 @@ impl Graph {
         ensures cells { IfOk result (λ cone. (s : Sheet) → AreEdgesOf self.old.now s
             → (c : ℕ) → is_one_of cone.items c ≡ in_cone s (keys_of changes.now) c) }
     {
-        let found = edit_cone(self.alloc, &self.readers, changes)?;
-        let cone = listed(self.alloc, &found)?;
+        let cone = edit_cone(self.alloc, &self.readers, changes)?;
         let staged = make_ready(
             self.alloc,
             &mut self.rooms,
             &mut self.readers,
             &mut self.circles,
             changes,
-            &found,
+            &cone,
         )?;
         self.staged = Some(staged);
         Ok(cone)
@@ -151,8 +149,7 @@ impl Graph {
         ensures cells { IfOk result (λ cone. (s : Sheet) → AreEdgesOf self.now.now s
             → (c : ℕ) → is_one_of cone.items c ≡ in_cone s cells.now c) }
     {
-        let found = cone_of(self.alloc, &self.readers, cells)?;
-        listed(self.alloc, &found)
+        listed_cone(self.alloc, &self.readers, cells)
     }
 }
 
@@ -163,11 +160,11 @@ fn make_ready(
     readers: &mut RangeIndex,
     circles: &mut BTreeSet<Address>,
     changes: &[Change],
-    cone: &BTreeSet<Address>,
+    cone: &[Address],
 ) -> Result<Staged, AllocError>
     requires graph { IsGraph rooms.old readers.old circles.old }
     requires cone { (s : Sheet) → ((c : ℕ) → room_at rooms.old c ≡ areas_in (content_of s c))
-        → (c : ℕ) → contains nat_cmp cone.now c ≡ in_cone s (keys_of changes.now) c }
+        → (c : ℕ) → is_one_of cone.now c ≡ in_cone s (keys_of changes.now) c }
     ensures ordered { IsOrdered nat_cmp rooms.new }
     ensures rooms { (c : ℕ) → room_at rooms.new c ≡ room_at rooms.old c }
     ensures brings { IfOk result (λ staged. Brings rooms.old staged.next changes.now) }

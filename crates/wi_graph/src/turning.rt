@@ -27,10 +27,29 @@ pub(crate) struct Turns {
     pub(crate) went: Vec<Address>,
 }
 
-/// The cells that turn once what is next is put in, of which the cone is given. Where each cell reads what it read before,
-/// or no cell is circular and no cycle is closed, the work grows with what is next; else with the cone and what its cells
-/// read, times logarithms.
+/// The cells that turn once what is next is put in, of which the cone is given. Where each cell reads what it read before, the
+/// work grows with what is next; where no cell is circular and no cycle is closed, with the cone too; else also with what its
+/// cells read, times logarithms.
 pub(crate) fn turns_of(
+    alloc: Global,
+    rooms: &Rooms,
+    circles: &BTreeSet<Address>,
+    next: &Rooms,
+    cone: &[Address],
+) -> Result<Turns, AllocError>
+    requires circles { AreCircles (room_at rooms.now) (contains nat_cmp circles.now) }
+    requires cone { IsEditCone rooms.now next.now (is_one_of cone.now) }
+    ensures { IfOk result (AreTurns rooms.now next.now circles.now) }
+{
+    if reads_stay(rooms, next) {
+        return Ok(no_turns(alloc));
+    }
+    let cone = set_of(alloc, cone)?;
+    turns_in(alloc, rooms, circles, next, &cone)
+}
+
+/// The same, of a cone as a set.
+fn turns_in(
     alloc: Global,
     rooms: &Rooms,
     circles: &BTreeSet<Address>,
@@ -38,29 +57,16 @@ pub(crate) fn turns_of(
     cone: &BTreeSet<Address>,
 ) -> Result<Turns, AllocError>
     requires circles { AreCircles (room_at rooms.now) (contains nat_cmp circles.now) }
-    requires cone { IsEditCone rooms.now next.now cone.now }
+    requires cone { IsEditCone rooms.now next.now (contains nat_cmp cone.now) }
     ensures { IfOk result (AreTurns rooms.now next.now circles.now) }
 {
-    if nothing_turns(rooms, circles, next, cone) {
+    if circles.is_empty() && !closes_cycle(next, cone) {
         return Ok(no_turns(alloc));
     }
     let rest = circular_in_cone(alloc, rooms, next, circles, cone)?;
     let came = without(alloc, &rest, circles)?;
     let went = went_of(alloc, circles, cone, &rest)?;
     Ok(Turns { came, went })
-}
-
-/// Whether it is plain that no cell turns: each reads what it read before, or none is circular and no cycle is closed.
-fn nothing_turns(
-    rooms: &Rooms,
-    circles: &BTreeSet<Address>,
-    next: &Rooms,
-    cone: &BTreeSet<Address>,
-) -> bool
-    ensures { IsTrue result → ReadsStay rooms.now next.now
-        ⊎ ((btree_set_len circles.now ≡ 0) × (reads_one_of next.now.entries cone.now ≡ false)) }
-{
-    reads_stay(rooms, next) || (circles.is_empty() && !closes_cycle(next, cone))
 }
 
 /// No cells that turn.

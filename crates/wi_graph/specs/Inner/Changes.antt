@@ -1,5 +1,5 @@
 -- What an edit brings.
-use Rattle.std.specs.Prelude.{◌≡◌, ◌==◌, ◌&&◌, ℕ, cond, not, List, [], ◌∷◌, Option, None, filter}
+use Rattle.std.specs.Prelude.{◌≡◌, ◌==◌, ◌&&◌, ℕ, Bool, cond, not, List, [], ◌∷◌, Option, None, filter}
 use Rattle.std.specs.Ordering.{nat_cmp}
 use Rattle.std.specs.Map.{keys_of}
 use Rattle.std.specs.BTreeMap.{get}
@@ -28,11 +28,11 @@ HasNoIdle rooms next = (c : ℕ) → room_at rooms c ≡ None → room_at next c
 abbrev pub ReadsStay : Rooms → Rooms → Type 0
 ReadsStay rooms next = (c : ℕ) → room_over next rooms c ≡ room_at rooms c
 
--- the set has the cone of an edit that brings the next
-pub record IsEditCone (rooms next : Rooms) (cone : BTreeSet ℕ) : Type 0 where
+-- the test finds the cone of an edit that brings the next
+pub record IsEditCone (rooms next : Rooms) (test : ℕ → Bool) : Type 0 where
   pub changes : List (ℕ × Option Content)
   pub brings : Brings rooms next changes
-  pub is_cone : (s : Sheet) → ((c : ℕ) → room_at rooms c ≡ areas_in (content_of s c)) → (c : ℕ) → contains nat_cmp cone c ≡ in_cone s (keys_of changes) c
+  pub is_cone : (s : Sheet) → ((c : ℕ) → room_at rooms c ≡ areas_in (content_of s c)) → (c : ℕ) → test c ≡ in_cone s (keys_of changes) c
 
 -- the circular cells of a cone that are not among the rest
 abbrev pub went_from : BTreeSet ℕ → BTreeSet ℕ → BTreeSet ℕ → List ℕ

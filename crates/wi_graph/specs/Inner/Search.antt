@@ -2,6 +2,7 @@
 use Rattle.std.specs.Prelude.{◌≡◌, ◌⊎◌, ℕ, ◌+◌, ◌≤◌, Bool, true, false, ◌||◌, not, List, filter, length}
 use Rattle.std.specs.Ordering.{nat_cmp}
 use Rattle.std.specs.BTreeSet.{BTreeSet, contains}
+use Rattle.std.specs.List.Sorted.{IsStrictlyIncreasing}
 use Rattle.wi_ranges.specs.Bag.{Bag, IsReader}
 use Rattle.wi_graph.specs.Reach.{is_one_of}
 
@@ -21,6 +22,17 @@ GoesToReaders readers p = (a r : ℕ) → p a ≡ true → IsReader readers a r 
 abbrev pub IsLeast : Bag → List ℕ → BTreeSet ℕ → Type 0
 IsLeast readers cells found = (p : ℕ → Bool) → ((c : ℕ) → is_one_of cells c ≡ true → p c ≡ true) → GoesToReaders readers p →
     (c : ℕ) → contains nat_cmp found c ≡ true → p c ≡ true
+
+-- the cells of a list as a set
+abbrev pub as_set : List ℕ → BTreeSet ℕ
+as_set cells = record { keys = cells }
+
+-- the list has these cells and all that read one of it, each once and in order, and no other
+pub record IsConeOf (readers : Bag) (cells list : List ℕ) : Type 0 where
+  pub order : IsStrictlyIncreasing list
+  pub all : HasAll cells (as_set list)
+  pub closed : HasReaders readers (as_set list)
+  pub least : IsLeast readers cells (as_set list)
 
 -- those of the list that the set lacks
 abbrev pub missing : BTreeSet ℕ → List ℕ → List ℕ

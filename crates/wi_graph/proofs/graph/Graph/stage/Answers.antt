@@ -1,8 +1,7 @@
 use Rattle.std.proofs.Common.{◌∙◌, refl, ap, sym, subst}
 use Rattle.std.specs.Map.{keys_of}
-use Rattle.std.specs.List.Sorted.{IsStrictlyIncreasing}
-use Rattle.std.proofs.lemmas.Map.Keys.{IsStrictlyIncreasing-from_sorted}
 use Rattle.wi_graph.specs.Edges.{AreEdgesOf, Staging}
+use Rattle.wi_graph.specs.Inner.Search.{IsConeOf}
 use Rattle.wi_graph.proofs.EdgeLemmas.{rooms_same}
 use Rattle.wi_graph.proofs.GraphEnds.{unstaged}
 use Rattle.wi_graph.proofs.TurningSteps.{cone_is, listed_cone}
@@ -19,16 +18,16 @@ pub make_ready-requires-clause-cone : goal.make_ready-requires-clause-cone
 make_ready-requires-clause-cone c =
     let g = c.self.inside in
     let old = unstaged g.rooms g.readers g.circles g.staged (ap (λ (x : Staging). x.staged) c.self.view_is ∙ c.requires) c.self.invariant.0 in
-    cone_is g.rooms g.readers c.in_ok-found.found (keys_of c.args.changes.now) old.ordered old.pairs c.in_ok-found.ensures.all c.in_ok-found.ensures.closed c.in_ok-found.ensures.least
+    cone_is g.rooms g.readers (keys_of c.args.changes.now) c.deref.result.now old.ordered old.pairs (subst (IsConeOf g.readers (keys_of c.args.changes.now)) (sym c.deref.ensures.value) c.in_ok-cone.ensures)
 
 pub returns-clause-order : goal.returns-clause-order
-returns-clause-order c = subst IsStrictlyIncreasing (sym c.in_ok-cone.ensures.items) (IsStrictlyIncreasing-from_sorted c.in_ok-found.found.keys c.listed.ensures.order)
+returns-clause-order c = c.in_ok-cone.ensures.order
 
 pub returns-clause-cells : goal.returns-clause-cells
 returns-clause-cells c =
     let g = c.self.inside in
     let old = unstaged g.rooms g.readers g.circles g.staged (ap (λ (x : Staging). x.staged) c.self.view_is ∙ c.requires) c.self.invariant.0 in
-    λ s h. listed_cone g.rooms g.readers g.circles c.in_ok-found.found c.in_ok-cone.cone.items c.args.changes.now old c.in_ok-found.ensures.all c.in_ok-found.ensures.closed c.in_ok-found.ensures.least c.in_ok-cone.ensures.items s (subst (λ (x : Staging). AreEdgesOf x.now s) (sym c.self.view_is) h)
+    λ s h. listed_cone g.rooms g.readers g.circles (keys_of c.args.changes.now) c.in_ok-cone.cone.items old c.in_ok-cone.ensures s (subst (λ (x : Staging). AreEdgesOf x.now s) (sym c.self.view_is) h)
 
 pub invariant_of-self-2 : goal.invariant_of-self-2
 invariant_of-self-2 c = (tt, c.in_ok-staged.ensures.staged)

@@ -1,0 +1,19 @@
+use Rattle.std.proofs.Common.{◌≡◌, ℕ, rules}
+use Rattle.std.specs.Global.{Vec}
+use Rattle.std.proofs.lemmas.Result.{IfOk-weaker}
+use Rattle.wi_graph.specs.Inner.Search.{IsConeOf}
+use Rattle.wi_graph.proofs.SearchSteps.{own_cone, found_list}
+use Rattle.wi_graph.proofs.cone.listed_cone.Goals as goal
+
+pub returns-then-branch : goal.returns-then-branch
+returns-then-branch c =
+    let cells = c.args.cells.now in
+    IfOk-weaker c.from_slice.result (λ (list : Vec ℕ). list.items ≡ cells) (λ list. IsConeOf c.args.readers.now cells list.items)
+    (λ list. own_cone c.args.readers.now cells list.items (c.rise.ensures c.if-rise.true) (c.in_ok-none_is_read.ensures (search rules))) c.from_slice.ensures.items
+
+pub returns : goal.returns
+returns c =
+    let found = c.in_ok-found.found in
+    let cells = c.args.cells.now in
+    IfOk-weaker c.listed.result (λ (list : Vec ℕ). list.items ≡ found.keys) (λ list. IsConeOf c.args.readers.now cells list.items)
+    (λ list. found_list c.args.readers.now cells list.items found c.listed.ensures.order c.in_ok-found.ensures.all c.in_ok-found.ensures.closed c.in_ok-found.ensures.least) c.listed.ensures.items
