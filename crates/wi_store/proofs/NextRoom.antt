@@ -1,16 +1,25 @@
 -- The first room of a rectangle, as a search finds it.
 use Rattle.std.proofs.Common.{◌≡◌, ℕ, ◌<◌, ◌≤◌, Bool, true, false, ◌&&◌, cond, List, [], ◌∷◌, filter, Option, Some, None, IfSome, refl, sym, ap, ◌∙◌, subst, arith}
-use Rattle.std.specs.Prelude.{nat_le}
+use Rattle.std.specs.Prelude.{nat_le, option_map}
+use Rattle.std.specs.Borrow.{Bor}
+use Rattle.std.specs.Option.{option_flatten}
+use Rattle.wi_parser.specs.declared.content.Content.{Content}
 use Rattle.std.specs.List.{find}
 use Rattle.std.specs.Map.{keys_of}
+use Rattle.std.specs.Ordering.{nat_cmp}
+use Rattle.std.specs.declared.ops.Bound.TheVariants.{Included, Unbounded}
+use Rattle.std.specs.BTreeMap.Range.{range_contains, entries_between}
 use Rattle.std.proofs.Math.Bool.{and-false, and-true}
+use Rattle.std.proofs.lemmas.Bool.Decides.{nat_tests}
 use Rattle.std.proofs.lemmas.Bool.{and_parts, and_from, false_from_ne_true, le-leb, leb-true}
 use Rattle.wi_values.specs.Address.{Area, is_within}
-use Rattle.wi_store.specs.Inner.Rooms.{Rooms}
+use Rattle.wi_parser.specs.Sheet.{Sheet, content_of}
+use Rattle.wi_store.specs.Inner.Rooms.{Rooms, sheet_in, room_of, RoomsAreInOrder, HasNoVacancy}
+use Rattle.wi_store.proofs.RoomLemmas.{Ascends-from_order, keys-sheet_in, content_of-sheet_in}
 use Rattle.wi_store.specs.Store.{is_ahead}
 use Rattle.wi_values.proofs.Order.{ComeAfter, Ascends}
-use Rattle.wi_values.proofs.Within.{within_between}
-use Rattle.wi_store.proofs.Within.{range_of, same, is_between, is_between-means, is_between-from}
+use Rattle.wi_values.proofs.Within.{within_between, places_left, fewer_places}
+use Rattle.wi_store.proofs.Within.{same}
 
 -- the cell comes at or after the one, and at or before the other
 abbrev pub spans : ℕ → ℕ → ℕ → Bool
@@ -80,22 +89,44 @@ abbrev pub first_cell : Rooms → Option ℕ
 first_cell [] = None
 first_cell (e ∷ es) = Some e.0
 
-pub first_in_range : (from to : ℕ) (rooms : Rooms) → first_cell (range_of from to rooms) ≡ find (spans from to) (keys_of rooms)
-first_in_range from to [] = refl
-first_in_range from to (e ∷ es) = at (is_between from to e.0) refl (first_in_range from to es)
-  where
-    at : (b : Bool) → is_between from to e.0 ≡ b → first_cell (range_of from to es) ≡ find (spans from to) (keys_of es) →
-        first_cell (cond b (e ∷ range_of from to es) (range_of from to es)) ≡ cond (spans from to e.0) (Some e.0) (find (spans from to) (keys_of es))
-    at true h ih = sym (ap (λ (b : Bool). cond b (Some e.0) (find (spans from to) (keys_of es))) (spans-from from to e.0 (is_between-means from to e.0 h)))
-    at false h ih =
-        let none = false_from_ne_true (spans from to e.0) (λ w. let z = is_between-from from to e.0 (spans-means from to e.0 w) in cc) in
-        ih ∙ sym (ap (λ (b : Bool). cond b (Some e.0) (find (spans from to) (keys_of es))) none)
+-- the rooms from a cell on
+abbrev pub range_from : ℕ → Rooms → Rooms
+range_from from rooms = entries_between nat_cmp (Included from) Unbounded rooms
 
-pub none_spanned : (from to : ℕ) → to < from → (xs : List ℕ) → find (spans from to) xs ≡ None
-none_spanned from to h [] = refl
-none_spanned from to h (x ∷ xs) =
-    let none = false_from_ne_true (spans from to x) (λ w. let p = spans-means from to x w in absurd (omega (arith, p.0, p.1))) in
-    ap (λ (b : Bool). cond b (Some x) (find (spans from to) xs)) none ∙ none_spanned from to h xs
+abbrev starts_by : ℕ → ℕ → Bool
+starts_by from a = range_contains nat_cmp (Included from) Unbounded a
+
+starts_by-is : (from a : ℕ) → starts_by from a ≡ nat_le from a
+starts_by-is from a = grind (arith, nat_tests)
+
+pub first_from : (from : ℕ) (rooms : Rooms) → first_cell (range_from from rooms) ≡ find (nat_le from) (keys_of rooms)
+first_from from [] = refl
+first_from from (e ∷ es) = at (starts_by from e.0) (starts_by-is from e.0) (first_from from es)
+  where
+    at : (b : Bool) → b ≡ nat_le from e.0 → first_cell (range_from from es) ≡ find (nat_le from) (keys_of es) →
+        first_cell (cond b (e ∷ range_from from es) (range_from from es)) ≡ cond (nat_le from e.0) (Some e.0) (find (nat_le from) (keys_of es))
+    at true h ih = ap (λ (b : Bool). cond b (Some e.0) (find (nat_le from) (keys_of es))) h
+    at false h ih = ih ∙ ap (λ (b : Bool). cond b (Some e.0) (find (nat_le from) (keys_of es))) h
+
+narrower : (from to a : ℕ) → nat_le from a ≡ false → spans from to a ≡ false
+narrower from to a h = ap (λ (b : Bool). b && nat_le a to) h
+
+none_pass : (xs : List ℕ) → find (λ a. false) xs ≡ None
+none_pass [] = refl
+none_pass (x ∷ xs) = none_pass xs
+
+-- the first room from a cell on is the one sought, unless it comes after the last cell: then there is none
+pub none_from : (from to : ℕ) (xs : List ℕ) → find (nat_le from) xs ≡ None → find (spans from to) xs ≡ None
+none_from from to xs h = none_narrower (nat_le from) (spans from to) (narrower from to) xs h
+
+pub found_from : (from to c : ℕ) (xs : List ℕ) → find (nat_le from) xs ≡ Some c → c ≤ to → find (spans from to) xs ≡ Some c
+found_from from to c xs h l = first_narrower (nat_le from) (spans from to) c (narrower from to) (and_from _ _ (found_passes (nat_le from) xs c h) (le-leb c to l)) xs h
+
+pub none_up_to : (from to c : ℕ) (rooms : Rooms) → Ascends rooms → find (nat_le from) (keys_of rooms) ≡ Some c → to < c → find (spans from to) (keys_of rooms) ≡ None
+none_up_to from to c rooms asc h l = alike_from (nat_le from) (spans from to) (λ a. false) c (narrower from to) (λ a m. refl) (past c l) refl (λ a m. past a (omega (arith, l, m))) rooms asc h ∙ none_pass (keys_of rooms)
+  where
+    past : (a : ℕ) → to < a → spans from to a ≡ false
+    past a m = false_from_ne_true (spans from to a) (λ w. let p = spans-means from to a w in absurd (omega (arith, p.1, m)))
 
 -- ---- the search
 
@@ -140,6 +171,9 @@ search_on r start c next rooms asc h beside after all =
 pub search_shorter : (r : Area) (start c : ℕ) (xs : List ℕ) → find (spans start r.last) xs ≡ Some c → (start ≤ c) × (c ≤ r.last)
 search_shorter r start c xs h = spans-means start r.last c (found_passes (spans start r.last) xs c h)
 
+pub fewer : (r : Area) (start c : ℕ) (next : Option ℕ) (xs : List ℕ) → find (spans start r.last) xs ≡ Some c → IfSome next (λ n. (c < n) × (n ≤ r.last)) → places_left r next < places_left r (Some start)
+fewer r start c next xs h after = let reached = search_shorter r start c xs h in fewer_places r start c next reached.0 reached.1 after
+
 pub nothing_found : (r : Area) (xs : List ℕ) → find (is_ahead r None) xs ≡ None
 nothing_found r [] = refl
 nothing_found r (x ∷ xs) = nothing_found r xs
@@ -159,3 +193,26 @@ find_ahead r from (x ∷ xs) = at (is_within r x) refl (find_ahead r from xs)
         ap (λ (b : Bool). cond (nat_le from x && b) (Some x) (find (is_ahead r (Some from)) xs)) h
         ∙ ap (λ (b : Bool). cond b (Some x) (find (is_ahead r (Some from)) xs)) (and-false (nat_le from x))
         ∙ ih
+
+-- ---- by its room
+
+-- the cell that was found, without its room
+abbrev pub cell_of : Option (ℕ × Bor (Option Content)) → Option ℕ
+cell_of o = option_map (λ x. x.0) o
+
+-- what was found from a cell on to the last of a rectangle
+pub first_found : (r : Area) (start last : ℕ) (found o : Option ℕ) (xs : List ℕ) → last ≡ r.last → found ≡ find (spans start last) xs → found ≡ o → find (spans start r.last) xs ≡ o
+first_found r start last found o xs l e s = ap (λ (b : ℕ). find (spans start b) xs) (sym l) ∙ sym e ∙ s
+
+-- ---- in the sheet that the rooms have
+
+-- what was found is the first occupied cell of the rectangle from a cell on
+pub sought_in : (r : Area) (from : ℕ) (rooms : Rooms) (s : Sheet) (found o : Option ℕ) → RoomsAreInOrder rooms → HasNoVacancy rooms → sheet_in rooms ≡ s → found ≡ find (is_ahead r (Some from)) (keys_of rooms) → found ≡ o →
+    o ≡ find (λ a. nat_le from a) (filter (is_within r) (keys_of s))
+sought_in r from rooms s found o order full e f g =
+    sym g ∙ f ∙ find_ahead r from (keys_of rooms)
+    ∙ ap (λ (cells : List ℕ). find (λ a. nat_le from a) (filter (is_within r) cells)) (sym (keys-sheet_in rooms (Ascends-from_order rooms order) full) ∙ ap (λ (t : Sheet). keys_of t) e)
+
+-- and its room tells what stands there
+pub stands_in : (rooms : Rooms) (s : Sheet) (c : ℕ) (x : Content) → RoomsAreInOrder rooms → sheet_in rooms ≡ s → room_of rooms c ≡ Some (Some x) → content_of s c ≡ Some x
+stands_in rooms s c x order e h = ap (λ (t : Sheet). content_of t c) (sym e) ∙ content_of-sheet_in c rooms (Ascends-from_order rooms order) ∙ ap option_flatten h

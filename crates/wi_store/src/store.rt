@@ -1,6 +1,6 @@
 //! A sheet within limits.
 
-ghost use Rattle.std.specs.Prelude.{◌≡◌, ◌<◌, ◌≤◌, ◌⊎◌, ◌++◌, ◌&&◌, ℕ, List, [], true, false, nat_le, filter, length, IfOk, IfSome, OnOk, OnErr};
+ghost use Rattle.std.specs.Prelude.{◌≡◌, ◌<◌, ◌≤◌, ◌⊎◌, ◌++◌, ◌&&◌, ℕ, List, [], true, false, nat_le, filter, length, option_map, IfOk, IfSome, OnOk, OnErr};
 ghost use Rattle.std.specs.Option.{option_copied};
 ghost use Rattle.std.specs.List.{find};
 ghost use Rattle.std.specs.List.Sorted.{IsStrictlyIncreasing};
@@ -8,7 +8,7 @@ ghost use Rattle.std.specs.Map.{keys_of};
 ghost use Rattle.wi_values.specs.Address.{is_within};
 ghost use Rattle.wi_parser.specs.Sheet.{content_of, has_formula, cells_with_formula};
 ghost use Rattle.wi_store.specs.Store.{edited, applied, Applies};
-ghost use Rattle.wi_store.specs.Inner.Rooms.{sheet_in, formula_rooms, RoomsAreInOrder, HasNoVacancy, VacantOnlyAt};
+ghost use Rattle.wi_store.specs.Inner.Rooms.{sheet_in, formula_rooms, room_of, RoomsAreInOrder, HasNoVacancy, VacantOnlyAt};
 ghost use Rattle.wi_store.specs.Store.{is_ahead};
 ghost use Rattle.wi_store.specs.Inner.Exchange.{admitted};
 
@@ -154,12 +154,29 @@ impl Store {
         outcome
     }
 
-    /// The first occupied cell of a rectangle, in row-major order, at a cell or after it. The work grows with the logarithm of
-    /// the count of all occupied cells, once and for each row of the rectangle where a cell beside it comes before the one found.
+    /// The first occupied cell of a rectangle, in row-major order, at a cell or after it. The work is that of `next_content`.
     pub fn next_occupied(&self, area: Rect, from: Address) -> Option<Address>
         ensures { result ≡ find (λ a. nat_le from a) (filter (is_within area) (keys_of self.now.sheet)) }
     {
-        next_room(&self.rooms, area, from)
+        match self.next_content(area, from) {
+            Some((cell, _)) => Some(cell),
+            None => None,
+        }
+    }
+
+    /// The same with what stands there. The work grows with the logarithm of the count of all occupied cells, once and for
+    /// each row of the rectangle where a cell beside it comes before the one found.
+    pub fn next_content(&self, area: Rect, from: Address) -> Option<(Address, &Content)>
+        ensures cell { option_map (λ x. x.0) result ≡ find (λ a. nat_le from a) (filter (is_within area) (keys_of self.now.sheet)) }
+        ensures content { IfSome result (λ x. content_of self.now.sheet x.0 ≡ Some x.1.now) }
+    {
+        match next_room(&self.rooms, area, from) {
+            Some((cell, room)) => match room {
+                Some(content) => Some((cell, content)),
+                None => unreachable!(),
+            },
+            None => None,
+        }
     }
 }
 
@@ -233,35 +250,37 @@ fn next_inside(area: Rect, at: Address) -> Option<Address>
 }
 
 // The first room of a rectangle, at a cell or after it.
-fn next_room(rooms: &Rooms, area: Rect, from: Address) -> Option<Address>
+fn next_room(rooms: &Rooms, area: Rect, from: Address) -> Option<(Address, &Option<Content>)>
     requires { RoomsAreInOrder rooms.now.entries }
-    ensures { result ≡ find (is_ahead area (Some from)) (keys_of rooms.now.entries) }
+    ensures cell { option_map (λ x. x.0) result ≡ find (is_ahead area (Some from)) (keys_of rooms.now.entries) }
+    ensures room { IfSome result (λ x. room_of rooms.now.entries x.0 ≡ Some x.1.now) }
 {
     let mut ahead = Some(from);
     while let Some(start) = ahead {
-        let cell = first_room(rooms, start, area.last())?;
-        if area.contains(cell) {
-            return Some(cell);
+        match first_room(rooms, start, area.last()) {
+            Some((cell, room)) => {
+                if area.contains(cell) {
+                    return Some((cell, room));
+                }
+                ahead = next_inside(area, cell);
+            }
+            None => return None,
         }
-        ahead = next_inside(area, cell);
     }
     None
 }
 
-// The first room from a cell to another.
-fn first_room(rooms: &Rooms, from: Address, to: Address) -> Option<Address>
-    ensures { result ≡ find (λ a. nat_le from a && nat_le a to) (keys_of rooms.now.entries) }
+// The first room from a cell to another. No end is sought in the map: one way down is all.
+fn first_room(rooms: &Rooms, from: Address, to: Address) -> Option<(Address, &Option<Content>)>
+    requires { RoomsAreInOrder rooms.now.entries }
+    ensures cell { option_map (λ x. x.0) result ≡ find (λ a. nat_le from a && nat_le a to) (keys_of rooms.now.entries) }
+    ensures room { IfSome result (λ x. room_of rooms.now.entries x.0 ≡ Some x.1.now) }
 {
-    if to < from {
+    let (cell, room) = rooms.range(from..).next()?;
+    if to < *cell {
         return None;
     }
-    match rooms
-        .range((Bound::Included(from), Bound::Included(to)))
-        .next()
-    {
-        Some((cell, _)) => Some(*cell),
-        None => None,
-    }
+    Some((*cell, room))
 }
 
 // Whether a room has a formula.
