@@ -1,13 +1,18 @@
 -- What is kept for longer where one question follows another over the same memory.
-use Rattle.std.proofs.Common.{◌≡◌, ◌≤◌, inl, inr, ℕ, Bool, true, false, List, All, refl, sym, subst, arith}
+use Rattle.std.proofs.Common.{◌≡◌, ◌≤◌, ◌+◌, inl, inr, ℕ, Bool, true, false, not, cond, List, [], ◌∷◌, length, All, refl, sym, subst, arith}
+use Rattle.std.specs.List.{IsDistinct}
+use Rattle.std.proofs.lemmas.Bool.{true≢false}
 use Rattle.std.proofs.lemmas.List.Elements.{All-weaker}
+use Rattle.std.proofs.lemmas.Map.Keys.{IsDistinct-cons}
 use Rattle.wi_values.specs.declared.replacement.Replacement.{Replacement}
 use Rattle.wi_parser.specs.Sheet.{Sheet}
 use Rattle.wi_functions.specs.Counts.{Counts}
+use Rattle.wi_cache.specs.declared.key.Key.{Key}
+use Rattle.wi_cache.specs.Entries.{same_key}
 use Rattle.wi_sheet.specs.Demand.{Case, reaching, with_what_if}
 use Rattle.wi_sheet.specs.Settled.{IsSettled, IsWhatIfSettled, RestsOnKept}
 use Rattle.wi_engine.specs.Inner.MemoState.{MemoState}
-use Rattle.wi_engine.specs.Inner.Saving.{WhereRoom, Saves, SavesAll, TakesNoMore, GivesUpWhenFull}
+use Rattle.wi_engine.specs.Inner.Saving.{WhereRoom, Saves, SavesAll, TakesPlaces, TakesNoMore, GivesUpWhenFull}
 
 -- ---- with more that is kept, what was settled is, and what rested on kept values does
 
@@ -41,6 +46,7 @@ saves_then s old mid new ks a b c h k =
       added = omega (arith, u, v);
       room = k.room;
       stays = λ d w i. k.stays d w (h.stays d w i);
+      stand = λ j i. k.stand j (h.stand j i);
       found = k.found;
       rests = λ d w i o. before d w i o (mid.kept d w) refl;
     }
@@ -58,7 +64,7 @@ pub takes_none : (m n : MemoState) (a : ℕ) → n ≡ m → TakesNoMore m n a a
 takes_none m n a e = subst (λ (x : MemoState). TakesNoMore m x a a) (sym e) (inl (λ ks d. omega arith))
 
 pub gives_up_none : (m n : MemoState) → n ≡ m → GivesUpWhenFull m n
-gives_up_none m n e = subst (GivesUpWhenFull m) (sym e) (record { room = omega arith; stays = λ r c w i. i })
+gives_up_none m n e = subst (GivesUpWhenFull m) (sym e) (record { room = omega arith; stays = λ r k i. i })
 
 -- where no room was left half way, none is left at the end
 pub gives_up_then : (old mid new : MemoState) → GivesUpWhenFull old mid → GivesUpWhenFull mid new → GivesUpWhenFull old new
@@ -67,8 +73,24 @@ gives_up_then old mid new h k =
     let y = k.room in
     record {
       room = omega (arith, x, y);
-      stays = λ r c w i. k.stays r c w (h.stays (omega (arith, y, r)) c w i);
+      stays = λ r j i. k.stays r j (h.stays (omega (arith, y, r)) j i);
     }
+
+none_differ : IsDistinct same_key []
+unfolding IsDistinct
+none_differ = tt
+
+one_differs : (k : Key) → IsDistinct same_key (k ∷ [])
+one_differs k = IsDistinct-cons same_key k [] tt none_differ
+
+-- where all that was counted took free places, each value that stood stands
+pub none_went : (old new : MemoState) (a b : ℕ) (k : Key) → TakesPlaces old new a b → b + new.room ≤ a + old.room → old.stands k ≡ true → new.stands k ≡ true
+none_went old new a b k t l = at (old.stands k) (new.stands k) (t (k ∷ []) (one_differs k))
+  where
+    at : (x y : Bool) → length (cond (not y) (k ∷ []) []) + (old.room + a) ≤ length (cond (not x) (k ∷ []) []) + (new.room + b) → x ≡ true → y ≡ true
+    at true true c h = refl
+    at true false c h = absurd (omega (arith, c, l))
+    at false y c h = absurd (true≢false (sym h))
 
 -- where the first call has saved its cases, there is room for those of the second
 module _ (s : Sheet) (Both First Second : List Case → Type 0) (first : (ks : List Case) → Both ks → First ks) (second : (ks : List Case) → Both ks → Second ks) (old mid : MemoState) (a b : Counts) (saved : SavesAll s First old mid a b) where

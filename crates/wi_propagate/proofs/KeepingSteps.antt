@@ -88,7 +88,7 @@ stays_put es fs k q v p h = ap (λ (o : Option Value). is_some o) (p q) ∙ is_s
 
 -- none goes but for a key that comes to a full list
 pub gives_up_after : (r : Result (Unit {0}) AllocError) (s : Sheet) (edits : ℕ) (g : Generations) (es fs : Entries) (m n : KeptValues) (k : Key) (v : Value) → KeepsIn r m n k v → GivesUpWhenFull (state_in (keeping s edits g es m)) (state_in (keeping s edits g fs n))
-gives_up_after (Err x) s edits g es fs m n k v h = subst (λ (y : KeptValues). GivesUpWhenFull (state_in (keeping s edits g es m)) (state_in (keeping s edits g fs y))) (sym h.err) (record { room = omega arith; stays = λ l c w i. i })
+gives_up_after (Err x) s edits g es fs m n k v h = subst (λ (y : KeptValues). GivesUpWhenFull (state_in (keeping s edits g es m)) (state_in (keeping s edits g fs y))) (sym h.err) (record { room = omega arith; stays = λ l q i. i })
 gives_up_after (Ok x) s edits g es fs m n k v h = by_old (value_for m.entries k) refl
   where
     Lens : Option Value → Type 0
@@ -100,14 +100,14 @@ gives_up_after (Ok x) s edits g es fs m n k v h = by_old (value_for m.entries k)
         let cap = h.capacity in
         record {
           room = omega (arith, len, cap);
-          stays = λ l c w i. stays_put m.entries n.entries k (key_in g c w) v (h.stays (inl (subst (λ (y : Option Value). IsSome y) (sym e) refl))) i;
+          stays = λ l q i. stays_put m.entries n.entries k q v (h.stays (inl (subst (λ (y : Option Value). IsSome y) (sym e) refl))) i;
         }
     by_old None e =
         let len : length n.entries ≡ min (length m.entries + 1) m.capacity = subst Lens e h.len in
         let cap = h.capacity in
         record {
           room = omega (arith, len, cap);
-          stays = λ l c w i. let few : length m.entries < m.capacity = omega (arith, len, cap, l) in stays_put m.entries n.entries k (key_in g c w) v (h.stays (inr few)) i;
+          stays = λ l q i. let few : length m.entries < m.capacity = omega (arith, len, cap, l) in stays_put m.entries n.entries k q v (h.stays (inr few)) i;
         }
 
 -- what is known then was known before, or is the value that came

@@ -1,6 +1,7 @@
 -- A question asked of a calculator that keeps values.
 use Rattle.std.proofs.Common.{◌≡◌, ◌≤◌, ◌<◌, ◌+◌, ◌-◌, ◌^◌, ◌||◌, inl, inr, length, sum_by, Contains, All, get_or, filter, not, is_some, ℕ, Bool, true, false, cond, List, [], ◌∷◌, Option, Some, refl, ap, sym, ◌∙◌, subst, arith}
 use Rattle.std.specs.List.{list_any}
+use Rattle.std.specs.Map.{keys_of}
 use Rattle.std.proofs.lemmas.Bool.{cases_lt}
 use Rattle.std.proofs.lemmas.List.Folds.{list_any_none}
 use Rattle.std.proofs.lemmas.List.Sums.{sum_by-cons}
@@ -23,7 +24,7 @@ use Rattle.wi_sheet.specs.TableEntry.{table_entry, entry_demanded}
 use Rattle.wi_sheet.specs.Settled.{IsWhatIfSettled}
 use Rattle.wi_sheet.specs.Inner.Spending.{CountsAtMost, HasCase, HasEntry, IsClosed, left}
 use Rattle.wi_sheet.proofs.Cases.{different_has_itself}
-use Rattle.wi_sheet.proofs.Counting.{left_of_nothing, left_falls, sum_of_ones}
+use Rattle.wi_sheet.proofs.Counting.{left_of_nothing, sum_of_ones}
 use Rattle.wi_sheet.proofs.Members.{contains_in}
 use Rattle.wi_sheet.proofs.SmallerWorlds.{content_below}
 use Rattle.wi_sheet.proofs.Overrides.{with_what_if_value}
@@ -32,11 +33,11 @@ use Rattle.wi_engine.specs.Inner.MemoState.{MemoState}
 use Rattle.wi_engine.specs.Inner.Frames.{MayBeRead}
 use Rattle.wi_engine.specs.Inner.Saving as saving
 use Rattle.wi_engine.specs.Inner.Saving.{KeepsFound, WhereRoom, CountsUnkept, Saves, SavesAll, TakesNoMore, GivesUpWhenFull, NeedsNoEvaluation, IsValuedAnew}
-use Rattle.wi_engine.proofs.Saved.{what_if_more, rests_more}
-use Rattle.wi_propagate.specs.KeptSheet.{Generations, generation_in, KeptSheet, key_in, is_kept, unkept, kept_cases, gone, IsAtHand, HasRoomFor, KeepsAll, KeepsNoMore, KeepsOld, KeepsWhileRoom}
+use Rattle.wi_engine.proofs.Saved.{what_if_more, rests_more, none_went}
+use Rattle.wi_propagate.specs.KeptSheet.{Generations, generation_in, KeptSheet, key_in, stands, is_kept, unkept, gone, IsAtHand, HasRoomFor, KeepsAll, KeepsNoMore, KeepsOld, KeepsWhileRoom}
 use Rattle.wi_propagate.specs.Right.{AreRight, AreKeptRight}
 use Rattle.wi_propagate.specs.Inner.Keeping.{kept_sheet, values_in, Keeping, keeping, begun, state_in, IsKeepingRight}
-use Rattle.wi_propagate.proofs.PlacesTaken.{all_kept, cases_differ, one_differs}
+use Rattle.wi_propagate.proofs.PlacesTaken.{all_stand}
 use Rattle.wi_propagate.proofs.ShowingEntries.{pair_in}
 
 -- the question begins with what was kept
@@ -132,6 +133,12 @@ module _ (k : KeptSheet) (q last : Keeping) (values : KeptValues) (counts : Coun
   abbrev pub after : KeptSheet
   after = record { stored = k.stored; generations = k.generations; values = values; counts = counts }
 
+  stood : (j : Key) → stands k j ≡ (state_in q).stands j
+  stood j = sym (ap (λ (x : Keeping). (state_in x).stands j) e)
+
+  stands_now : (j : Key) → stands after j ≡ (state_in last).stands j
+  stands_now j = ap (λ (v : KeptValues). is_some (value_for v.entries j)) same
+
   kept_before_is : (c : ℕ) (w : List Replacement) → is_kept k c w ≡ (state_in q).kept c w
   kept_before_is c w = sym (ap (λ (x : Keeping). (state_in x).kept c w) e)
 
@@ -166,7 +173,7 @@ module _ (k : KeptSheet) (q last : Keeping) (values : KeptValues) (counts : Coun
         let z = ap (λ (v : KeptValues). length v.entries) same in
         let u = ap (λ (y : Keeping). (state_in y).capacity) e in
         omega (arith, a, x, y, z, u, caps, room);
-    stays = λ c w i. kept_after_is c w ∙ h.stays c w (sym (kept_before_is c w) ∙ i);
+    stays = λ j i. stands_now j ∙ h.stand j (sym (stood j) ∙ i);
     settled = λ c w i o. rests_more k.stored.sheet (state_in last).kept (is_kept after) (λ d v j. kept_after_is d v ∙ j) (c, w) (h.rests c w (sym (kept_after_is c w) ∙ i) (sym (kept_before_is c w) ∙ o));
   }
 
@@ -174,19 +181,15 @@ module _ (k : KeptSheet) (q last : Keeping) (values : KeptValues) (counts : Coun
   asked_settled w put x f h = what_if_more k.stored.sheet (state_in last).kept (is_kept after) (λ d v j. kept_after_is d v ∙ j) put x (subst (λ (p : List Replacement). IsWhatIfSettled k.stored.sheet (state_in last).kept p x) f h)
 
   -- as the places that are taken tell
-  gone_is : left (λ c. 1) (state_in last).kept (kept_cases k) ≡ length (gone k after)
-  gone_is =
-      let one = left_falls (λ c. 1) (state_in last).kept (is_kept after) (kept_cases k) (λ c w i. kept_after_is c w ∙ i) in
-      let other = left_falls (λ c. 1) (is_kept after) (state_in last).kept (kept_cases k) (λ c w i. sym (kept_after_is c w) ∙ i) in
-      let went = left_is_unkept (λ c. 1) (is_kept after) (kept_cases k) ∙ sum_of_ones (gone k after) in
-      omega (arith, one, other, went)
+  gone_is : length (saving.missing (state_in last) (keys_of k.values.entries)) ≡ length (gone k after)
+  gone_is = ap (λ (v : KeptValues). length (filter (λ j. not (is_some (value_for v.entries j))) (keys_of k.values.entries))) (sym same)
 
-  none_gone_before : left (λ c. 1) (state_in q).kept (kept_cases k) ≡ 0
-  none_gone_before = ap (λ (x : Keeping). left (λ c. 1) (state_in x).kept (kept_cases k)) e ∙ all_kept k.generations k.values.entries
+  none_gone_before : length (saving.missing (state_in q) (keys_of k.values.entries)) ≡ 0
+  none_gone_before = ap (λ (x : Keeping). length (saving.missing (state_in x) (keys_of k.values.entries))) e ∙ all_stand k.values.entries
 
   pub asked_no_more : length values.entries ≤ values.capacity → HasOneEach k.values.entries → TakesNoMore (state_in q) (state_in last) k.counts.evaluations counts.evaluations → KeepsNoMore k after
   asked_no_more within one_each (inl h) =
-      let counted = h (kept_cases k) (cases_differ k.generations k.values.entries one_each) in
+      let counted = h (keys_of k.values.entries) one_each in
       let went = gone_is in
       let none = none_gone_before in
       let x = ap (λ (y : Keeping). (state_in y).room) e in
@@ -198,24 +201,19 @@ module _ (k : KeptSheet) (q last : Keeping) (values : KeptValues) (counts : Coun
 
   -- and nothing went while there was room
   stays_with_room : GivesUpWhenFull (state_in q) (state_in last) → 1 ≤ (state_in last).room → KeepsOld k after
-  stays_with_room h room c w i = kept_after_is c w ∙ h.stays room c w (sym (kept_before_is c w) ∙ i)
-
-  one_stays : (c : ℕ) (w : List Replacement) (b : Bool) → (state_in last).kept c w ≡ b → left (λ x. 1) (state_in last).kept ((c, w) ∷ []) ≡ 0 → is_kept after c w ≡ true
-  one_stays c w true f n = kept_after_is c w ∙ f
-  one_stays c w false f n = let z = ap (λ (t : Bool). cond t 0 1 + 0) f in absurd (omega (arith, n, z))
+  stays_with_room h room j i = stands_now j ∙ h.stays room j (sym (stood j) ∙ i)
 
   fits_places : length k.values.entries ≤ k.values.capacity → GivesUpWhenFull (state_in q) (state_in last) → TakesNoMore (state_in q) (state_in last) k.counts.evaluations counts.evaluations →
       length k.values.entries + counts.evaluations ≤ k.counts.evaluations + values.capacity → counts.evaluations < 2 ^ 64 - 1 → KeepsOld k after
-  fits_places within gives (inr t) few short c w i = absurd (omega (arith, t, short))
-  fits_places within gives (inl t) few short c w i = elim (cases_lt 0 (state_in last).room) [
-    | inl room ↦ stays_with_room gives room c w i
+  fits_places within gives (inr t) few short j i = absurd (omega (arith, t, short))
+  fits_places within gives (inl t) few short j i = elim (cases_lt 0 (state_in last).room) [
+    | inl room ↦ stays_with_room gives room j i
     | inr full ↦ (
-        let counted = t ((c, w) ∷ []) (one_differs (c, w)) in
-        let before : left (λ x. 1) (state_in q).kept ((c, w) ∷ []) ≡ 0 = ap (λ (b : Bool). cond b 0 1 + 0) (sym (kept_before_is c w) ∙ i) in
         let x = ap (λ (y : Keeping). (state_in y).room) e in
         let y = ap (λ (v : KeptValues). v.capacity) same in
         let u = ap (λ (y : Keeping). (state_in y).capacity) e in
-        one_stays c w ((state_in last).kept c w) refl (omega (arith, counted, before, full, x, y, u, caps, within, few)))
+        let fits : counts.evaluations + (state_in last).room ≤ k.counts.evaluations + (state_in q).room = omega (arith, full, x, y, u, caps, within, few) in
+        stands_now j ∙ none_went (state_in q) (state_in last) k.counts.evaluations counts.evaluations j t fits (sym (stood j) ∙ i))
   ]
 
   pub asked_while_room : length k.values.entries ≤ k.values.capacity → GivesUpWhenFull (state_in q) (state_in last) → TakesNoMore (state_in q) (state_in last) k.counts.evaluations counts.evaluations → KeepsWhileRoom k after
@@ -234,12 +232,11 @@ module _ (k : KeptSheet) (q last : Keeping) (values : KeptValues) (counts : Coun
 -- where nothing is asked
 pub none_no_more : (k : KeptSheet) → KeepsNoMore k k
 none_no_more k =
-    let none = all_kept k.generations k.values.entries in
-    let went = left_is_unkept (λ c. 1) (is_kept k) (kept_cases k) ∙ sum_of_ones (gone k k) in
-    inl (omega (arith, none, went))
+    let none = all_stand k.values.entries in
+    inl (omega (arith, none))
 
 pub none_while_room : (k n : KeptSheet) → n ≡ k → KeepsWhileRoom k n
-none_while_room k n e = subst (KeepsWhileRoom k) (sym e) (record { count = omega arith; stays = λ few c w i. i; fits = λ few short c w i. i })
+none_while_room k n e = subst (KeepsWhileRoom k) (sym e) (record { count = omega arith; stays = λ few j i. i; fits = λ few short j i. i })
 
 -- ---- the value of a cell
 

@@ -1,8 +1,8 @@
 -- A sheet whose values are kept from one question to the next, and what that saves.
-use Rattle.std.specs.Prelude.{◌≡◌, ◌==◌, ◌⊎◌, ◌<◌, ◌≤◌, ◌+◌, ◌-◌, ◌^◌, ℕ, Bool, true, false, not, List, filter, map, length, is_some}
+use Rattle.std.specs.Prelude.{◌≡◌, ◌⊎◌, ◌<◌, ◌≤◌, ◌+◌, ◌-◌, ◌^◌, ℕ, Bool, true, false, not, List, filter, length, is_some}
 use Rattle.std.specs.Option.{unwrap_or}
 use Rattle.std.specs.Ordering.{nat_cmp}
-use Rattle.std.specs.Map.{lookup}
+use Rattle.std.specs.Map.{keys_of, lookup}
 use Rattle.std.specs.BTreeMap.{is_at}
 use Rattle.wi_values.specs.declared.replacement.Replacement.{Replacement}
 use Rattle.wi_parser.specs.Sheet.{content_of, put_all, has_formula}
@@ -37,21 +37,25 @@ pub record KeptSheet : Type 0 where
 abbrev pub key_in : Generations → ℕ → List Replacement → Key
 key_in gs c w = record { cell = c; generation = generation_in gs c; world = w }
 
--- the value of the case is kept
+-- a value is kept under the key, of whatever generation
+abbrev pub stands : KeptSheet → Key → Bool
+stands k q = is_some (value_for k.values.entries q)
+
+-- the value of the case is kept: one stands under its key
 abbrev pub is_kept : KeptSheet → ℕ → List Replacement → Bool
-is_kept k c w = is_some (value_for k.values.entries (key_in k.generations c w))
+is_kept k c w = stands k (key_in k.generations c w)
 
 -- those of these cases whose values are not kept
 abbrev pub unkept : KeptSheet → List Case → List Case
 unkept k ks = filter (λ x. not (is_kept k x.0 x.1)) ks
 
--- the cases whose values are kept, of cells as they are now
-abbrev pub kept_cases : KeptSheet → List Case
-kept_cases k = map (λ e. (e.0.cell, e.0.world)) (filter (λ e. e.0.generation == generation_in k.generations e.0.cell) k.values.entries)
+-- the keys of all entries that went, of whatever generation
+abbrev pub gone : KeptSheet → KeptSheet → List Key
+gone old new = filter (λ q. not (stands new q)) (keys_of old.values.entries)
 
--- those of them whose values went
-abbrev pub gone : KeptSheet → KeptSheet → List Case
-gone old new = unkept new (kept_cases old)
+-- each entry that stood stands, of whatever generation
+abbrev pub KeepsOld : KeptSheet → KeptSheet → Type 0
+KeepsOld old new = (q : Key) → stands old q ≡ true → stands new q ≡ true
 
 -- ---- what a question counts, and what it keeps
 
@@ -66,20 +70,16 @@ HasRoomFor k ks = length k.values.entries + length (unkept k ks) ≤ k.values.ca
 -- as many values came to be kept as were counted, none went, and each that came rests on kept ones
 pub record KeepsAll (old new : KeptSheet) : Type 0 where
   pub added : new.counts.evaluations + length old.values.entries ≤ old.counts.evaluations + length new.values.entries
-  pub stays : (c : ℕ) (w : List Replacement) → is_kept old c w ≡ true → is_kept new c w ≡ true
+  pub stays : KeepsOld old new
   pub settled : (c : ℕ) (w : List Replacement) → is_kept new c w ≡ true → is_kept old c w ≡ false → RestsOnKept old.stored.sheet (is_kept new) (c, w)
 
--- Each evaluation that was counted brought one value at most, and that took one place: a free one, or that of one that went. So no
--- more came to be kept than were counted, and no more went than came to a full list, short of the greatest count.
+-- Each evaluation that was counted brought one entry at most, and that took one place: a free one, or that of an entry that went. So
+-- no more entries came than were counted, and no more went, stale ones too, than came to a full list, short of the greatest count.
 abbrev pub KeepsNoMore : KeptSheet → KeptSheet → Type 0
 KeepsNoMore old new = (length new.values.entries + (length (gone old new) + old.counts.evaluations) ≤ length old.values.entries + new.counts.evaluations) ⊎ (2 ^ 64 - 1 ≤ new.counts.evaluations)
 
--- each value that was kept is kept
-abbrev pub KeepsOld : KeptSheet → KeptSheet → Type 0
-KeepsOld old new = (c : ℕ) (w : List Replacement) → is_kept old c w ≡ true → is_kept new c w ≡ true
-
--- No fewer values are kept than before. Each that was kept is kept where the list isn't full then, and where what was kept and what
--- was evaluated fill it at most, short of the greatest count.
+-- No fewer values are kept than before. Each entry stays where the list isn't full then, and where what was kept and what was
+-- evaluated fill it at most, short of the greatest count.
 pub record KeepsWhileRoom (old new : KeptSheet) : Type 0 where
   pub count : length old.values.entries ≤ length new.values.entries
   pub stays : length new.values.entries < new.values.capacity → KeepsOld old new

@@ -17,6 +17,7 @@ use Rattle.wi_engine.specs.Inner.Frames.{case_at, IsToValue, IsUnvalued, IsFrame
 use Rattle.wi_engine.specs.Inner.Saving.{not_kept, KeepsFound, WhereRoom, Saves, SavesAll, TakesPlaces, TakesNoMore, GivesUpWhenFull, CountsUnkept, NeedsNoEvaluation, IsValuedAnew}
 use Rattle.wi_engine.specs.Inner.SettledFrames.{IsFrameSettled}
 use Rattle.wi_engine.specs.declared.frame.Frame.{Frame}
+use Rattle.wi_engine.proofs.Saved.{none_went}
 use Rattle.wi_engine.proofs.engine.Settling.{one_more_at_most}
 use Rattle.wi_engine.proofs.engine.FoundSettled.{settled_now}
 use Rattle.wi_engine.proofs.engine.FramesSettled.{IsSettling, settling_start, settling_push, settling_pop, rests_after}
@@ -25,7 +26,7 @@ use Rattle.wi_engine.proofs.engine.Running.{unvalued_in, IsRunning, IsNew, Keeps
 
 -- a memory, seen as if what is kept were what was found
 abbrev pub by_kept : MemoState → MemoState
-by_kept m = record { sheet = m.sheet; covers = m.covers; generation = m.generation; known = m.known; found = m.kept; kept = m.kept; room = m.room; capacity = m.capacity; latest = m.latest }
+by_kept m = record { sheet = m.sheet; covers = m.covers; generation = m.generation; known = m.known; found = m.kept; kept = m.kept; stands = m.stands; room = m.room; capacity = m.capacity; latest = m.latest }
 
 once : (a b c : Bool) → a ≡ (b || c) → (b ≡ true → c ≡ true) → a ≡ (c || c)
 once a true true e h = e
@@ -66,6 +67,7 @@ pub record IsSaving (s : Sheet) (old m : MemoState) (root : Case) (start now : C
   pub added : now.evaluations + m.room ≤ start.evaluations + old.room
   pub room : not_kept m ks ≤ m.room
   pub stays : (c : ℕ) (w : List Replacement) → old.kept c w ≡ true → m.kept c w ≡ true
+  pub stand : (k : Key) → old.stands k ≡ true → m.stands k ≡ true
   pub settling : IsSettling s old m fs f
 
 pub takes_more : (old m n : MemoState) (before now next : ℕ) → TakesNoMore old m before now → TakesPlaces m n 0 1 → next ≡ one_more now → TakesNoMore old n before next
@@ -95,6 +97,7 @@ saving_start s m k fs f now ks h key u n e w r = record {
   added = omega arith;
   room = r;
   stays = λ c v i. i;
+  stand = λ j i. i;
   settling = settling_start s m fs f k n e;
 }
 
@@ -108,6 +111,7 @@ saving_push s old m n root start now next fs gs f h g k ks i en e frame x up ev 
       added = let a = i.added in omega (arith, a, ev);
       room = i.room;
       stays = i.stays;
+      stand = i.stand;
       settling = settling_push s old m m fs gs f h g k i.settling refl (found i.whole i.settling.top) new eg;
     })
 
@@ -115,6 +119,7 @@ saving_push s old m n root start now next fs gs f h g k ks i en e frame x up ev 
 pub record Takes (m n : MemoState) (k : Key) : Type 0 where
   pub kept : 1 ≤ m.room → (c : ℕ) (w : List Replacement) → n.kept c w ≡ (m.kept c w || same_case (case_at k) (c, w))
   pub room : m.kept k.cell k.world ≡ false → 1 ≤ m.room → n.room + 1 ≡ m.room
+  pub places : TakesPlaces m n 0 1
 
 whole_after : (m n : MemoState) (k : Key) → Finds m n k → ((c : ℕ) (w : List Replacement) → n.kept c w ≡ (m.kept c w || same_case (case_at k) (c, w))) → KeepsFound m → KeepsFound n
 whole_after m n k f g h c w i = g c w ∙ at (or_cases (m.found c w) (same_case (case_at k) (c, w)) (sym (f c w) ∙ i))
@@ -160,6 +165,7 @@ saving_pop s old m a n root start now next fs gs f b k v ks closed top i ea eg e
       added = omega (arith, added, room, more);
       room = one.2;
       stays = λ c w h. one.0 c w ∙ or_left (m.kept c w) _ (i.stays c w h);
+      stand = λ j h. none_went m n 0 1 j takes_m.places (omega (arith, room)) (i.stand j h);
       settling = settling_pop s m n (case_at f.key) one.0 old fs gs f b i.settling eg (rests i.whole i.settling.top);
     }
 
@@ -188,6 +194,7 @@ saving_end s old m a n root start now next fs f k g ea e ek finds takes ev re re
       added = omega (arith, added, places, more);
       room = one.2;
       stays = λ c w h. one.0 c w ∙ or_left (m.kept c w) _ (i.stays c w h);
+      stand = λ j h. none_went m n 0 1 j takes_m.places (omega (arith, places)) (i.stand j h);
       found = one.3;
       rests = rests_after s m n (case_at f.key) one.0 old (rests i.whole i.settling.top) i.settling.rests;
     }
@@ -259,4 +266,4 @@ under_kept s m n l w a k e u h r =
     ap (l.kept a) (sym u.world) ∙ ap (λ (c : ℕ). l.kept c k.world) (sym u.cell) ∙ h (let z = ap (λ (x : MemoState). x.capacity) e in omega (arith, r, z))
 
 pub none_saves : (s : Sheet) (Has : List Case → Type 0) (m l : MemoState) (n : Counts) → l ≡ m → SavesAll s Has m l n n
-none_saves s Has m l n e = λ ks closed top whole room. subst (λ (x : MemoState). Saves s m x ks n n) (sym e) (record { counted = omega arith; restarted = omega arith; added = omega arith; room = room; stays = λ c v i. i; found = whole; rests = λ c v i o. absurd (true≢false (sym i ∙ o)) })
+none_saves s Has m l n e = λ ks closed top whole room. subst (λ (x : MemoState). Saves s m x ks n n) (sym e) (record { counted = omega arith; restarted = omega arith; added = omega arith; room = room; stays = λ c v i. i; stand = λ j i. i; found = whole; rests = λ c v i o. absurd (true≢false (sym i ∙ o)) })

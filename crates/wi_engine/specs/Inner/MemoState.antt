@@ -4,6 +4,7 @@ use Rattle.wi_values.specs.declared.value.Value.{Value}
 use Rattle.wi_values.specs.declared.replacement.Replacement.{Replacement}
 use Rattle.wi_parser.specs.Sheet.{Sheet, content_of, put_all, has_formula}
 use Rattle.wi_parser.specs.Reads.{content_reads}
+use Rattle.wi_cache.specs.declared.key.Key.{Key}
 use Rattle.wi_sheet.specs.CellValue.{cell_value}
 
 pub record MemoState : Type 0 where
@@ -19,6 +20,8 @@ pub record MemoState : Type 0 where
   pub found : ℕ → List Replacement → Bool
   -- whether a value is kept for longer; it may be given up where there is no room
   pub kept : ℕ → List Replacement → Bool
+  -- whether a value is kept for longer under a key, of whatever generation
+  pub stands : Key → Bool
   -- for how many values more there is room
   pub room : ℕ
   -- and for how many in all

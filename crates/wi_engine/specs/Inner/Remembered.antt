@@ -31,6 +31,7 @@ question_state q = record {
   known = λ c w. value_for q.values (key_of c w);
   found = λ c w. is_some (value_for q.values (key_of c w));
   kept = λ c w. false;
+  stands = λ k. false;
   room = 0;
   capacity = 0;
   latest = 0;

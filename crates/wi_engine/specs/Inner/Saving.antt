@@ -1,10 +1,12 @@
 -- What comes to be kept for longer while there is room.
-use Rattle.std.specs.Prelude.{◌≡◌, ◌⊎◌, ◌+◌, ◌-◌, ◌^◌, ◌≤◌, ℕ, true, false, List, is_some}
+use Rattle.std.specs.Prelude.{◌≡◌, ◌⊎◌, ◌+◌, ◌-◌, ◌^◌, ◌≤◌, ℕ, true, false, not, List, filter, length, is_some}
 use Rattle.std.specs.List.{IsDistinct}
 use Rattle.wi_values.specs.declared.replacement.Replacement.{Replacement}
 use Rattle.wi_parser.specs.Sheet.{Sheet, content_of, put_all, has_formula}
 use Rattle.wi_functions.specs.Counts.{Counts}
-use Rattle.wi_sheet.specs.Demand.{Case, reaching, same_case, wants}
+use Rattle.wi_cache.specs.declared.key.Key.{Key}
+use Rattle.wi_cache.specs.Entries.{same_key}
+use Rattle.wi_sheet.specs.Demand.{Case, reaching, wants}
 use Rattle.wi_sheet.specs.Settled.{RestsOnKept}
 use Rattle.wi_sheet.specs.Inner.Spending.{IsClosed, left}
 use Rattle.wi_engine.specs.Inner.MemoState.{MemoState}
@@ -27,14 +29,15 @@ abbrev pub CountsUnkept : Sheet → (List Case → Type 0) → (Case → ℕ) �
 CountsUnkept s Has weight old before after = WhereRoom s Has old (λ ks. after ≤ before + left weight old.kept ks)
 
 -- No more was evaluated than those of the cases that came to be kept, and begun again than their formulas may ask for, and as many
--- values came to be kept as were evaluated. There is still room for the other cases, nothing was given up, and each that came
--- rests on kept ones.
+-- values came to be kept as were evaluated. There is still room for the other cases, nothing was given up, of whatever generation,
+-- and each that came rests on kept ones.
 pub record Saves (s : Sheet) (old new : MemoState) (ks : List Case) (before after : Counts) : Type 0 where
   pub counted : after.evaluations + not_kept new ks ≤ before.evaluations + not_kept old ks
   pub restarted : after.restarts + left (wants s) new.kept ks ≤ before.restarts + left (wants s) old.kept ks
   pub added : after.evaluations + new.room ≤ before.evaluations + old.room
   pub room : not_kept new ks ≤ new.room
   pub stays : (c : ℕ) (w : List Replacement) → old.kept c w ≡ true → new.kept c w ≡ true
+  pub stand : (k : Key) → old.stands k ≡ true → new.stands k ≡ true
   pub found : KeepsFound new
   pub rests : (c : ℕ) (w : List Replacement) → new.kept c w ≡ true → old.kept c w ≡ false → RestsOnKept s new.kept (c, w)
 
@@ -42,19 +45,24 @@ pub record Saves (s : Sheet) (old new : MemoState) (ks : List Case) (before afte
 abbrev pub SavesAll : Sheet → (List Case → Type 0) → MemoState → MemoState → Counts → Counts → Type 0
 SavesAll s Has old new before after = WhereRoom s Has old (λ ks. Saves s old new ks before after)
 
--- Each value that was counted took one place at most: one that was free, or that of a value that was given up. So of cases that all
--- differ no more were given up, beside the places taken, than were counted.
+-- those of these keys under which no value stands
+abbrev pub missing : MemoState → List Key → List Key
+missing m ks = filter (λ k. not (m.stands k)) ks
+
+-- Each value that was counted took one place at most: one that was free, or that of a value that was given up, of whatever
+-- generation. So of keys that all differ no more lost their values, beside the places taken, than were counted.
 abbrev pub TakesPlaces : MemoState → MemoState → ℕ → ℕ → Type 0
-TakesPlaces old new before after = (ks : List Case) → IsDistinct same_case ks → not_kept new ks + (old.room + before) ≤ not_kept old ks + (new.room + after)
+TakesPlaces old new before after = (ks : List Key) → IsDistinct same_key ks → length (missing new ks) + (old.room + before) ≤ length (missing old ks) + (new.room + after)
 
 -- so short of the greatest count
 abbrev pub TakesNoMore : MemoState → MemoState → ℕ → ℕ → Type 0
 TakesNoMore old new before after = TakesPlaces old new before after ⊎ (2 ^ 64 - 1 ≤ after)
 
--- Nothing was given up while there was room: no more room is left than before, and where some is left, all that was kept is kept.
+-- Nothing was given up while there was room: no more room is left than before, and where some is left, all that was kept is kept,
+-- of whatever generation.
 pub record GivesUpWhenFull (old new : MemoState) : Type 0 where
   pub room : new.room ≤ old.room
-  pub stays : 1 ≤ new.room → (c : ℕ) (w : List Replacement) → old.kept c w ≡ true → new.kept c w ≡ true
+  pub stays : 1 ≤ new.room → (k : Key) → old.stands k ≡ true → new.stands k ≡ true
 
 -- a cell's value needs no evaluation: it has no formula under the replacements, or its value is remembered
 abbrev pub NeedsNoEvaluation : Sheet → MemoState → List Replacement → ℕ → Type 0

@@ -49,6 +49,7 @@ state_in q = record {
   known = λ c w. option_or (value_for q.found (key_in q.generations c w)) (value_for q.values.entries (key_in q.generations c w));
   found = λ c w. is_some (value_for q.found (key_in q.generations c w));
   kept = λ c w. is_some (value_for q.values.entries (key_in q.generations c w));
+  stands = λ k. is_some (value_for q.values.entries k);
   room = q.values.capacity - length q.values.entries;
   capacity = q.values.capacity;
   latest = q.edits;

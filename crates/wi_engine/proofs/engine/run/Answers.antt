@@ -84,7 +84,7 @@ frames-preserved g c =
     let going = c.frames.invariant in
     let key = c.into_key-in-Some.ensures ∙ a.key in
     let keeps : Keeps mid after c.into_key-in-Some.result c.in-Done.value = record { sheet = k.same_sheet; covers = k.same_cells; generation = k.same_generation; known = k.known; told = k.told } in
-    let takes : Takes mid after c.into_key-in-Some.result = record { kept = k.kept; room = k.room } in
+    let takes : Takes mid after c.into_key-in-Some.result = record { kept = k.kept; room = k.room; places = k.one_place } in
     record {
       running = run_pop s old m mid after root start c.frames.meter c.advance.new.meter c.pop.new.self.items c.frames.stack.items c.frames.frame c.in-Some.below c.into_key-in-Some.result c.in-Done.value going.running a.same popped key keeps k.found value c.advance.ensures.counts counted restarts;
       places = takes_more old m after start.evaluations c.frames.meter.evaluations c.advance.new.meter.evaluations going.places (rw (← a.same) k.one_place) counted;
@@ -126,7 +126,7 @@ returns-in-None-clause-saves g c =
     let a = c.in_ok-next.ensures in
     let counted = rw c.in-Done.is at a.evaluations in
     let restarts : c.advance.new.meter.restarts ≤ c.frames.meter.restarts + spare c.args.store.now.sheet c.frames.frame = omega (arith, a.restarts) in
-    let takes : Takes (g.M.Memo.state c.advance.new.memo) (g.M.Memo.state c.keep.new.self) c.into_key.result = record { kept = k.kept; room = k.room } in
+    let takes : Takes (g.M.Memo.state c.advance.new.memo) (g.M.Memo.state c.keep.new.self) c.into_key.result = record { kept = k.kept; room = k.room; places = k.one_place } in
     saving_end c.args.store.now.sheet (g.M.Memo.state c.args.memo.now) (g.M.Memo.state c.frames.memo) (g.M.Memo.state c.advance.new.memo) (g.M.Memo.state c.keep.new.self) (case_at c.args.key) c.args.meter.now c.frames.meter c.advance.new.meter
     c.frames.stack.items c.frames.frame c.into_key.result c.frames.invariant a.same (search rules) (c.into_key.ensures ∙ a.key) k.found takes counted restarts (rw c.in-Done.is at a.rests)
 
@@ -134,7 +134,7 @@ pub returns-in-None-clause-settled : goal.returns-in-None-clause-settled
 returns-in-None-clause-settled g c =
     let k = c.in_ok-keep-in-None.ensures in
     let a = c.in_ok-next.ensures in
-    let takes : Takes (g.M.Memo.state c.advance.new.memo) (g.M.Memo.state c.keep.new.self) c.into_key.result = record { kept = k.kept; room = k.room } in
+    let takes : Takes (g.M.Memo.state c.advance.new.memo) (g.M.Memo.state c.keep.new.self) c.into_key.result = record { kept = k.kept; room = k.room; places = k.one_place } in
     settled_end c.args.store.now.sheet (g.M.Memo.state c.args.memo.now) (g.M.Memo.state c.frames.memo) (g.M.Memo.state c.advance.new.memo) (g.M.Memo.state c.keep.new.self) c.args.key c.args.meter.now c.frames.meter
     c.frames.stack.items c.frames.frame c.into_key.result c.frames.invariant a.same (search rules) (c.into_key.ensures ∙ a.key) k.found takes
 

@@ -12,7 +12,7 @@ pub returns-clause-found : goal.returns-clause-found
 returns-clause-found c = search rules
 
 pub returns-clause-gives_up : goal.returns-clause-gives_up
-returns-clause-gives_up c = record { room = omega arith; stays = λ r d w i. i }
+returns-clause-gives_up c = record { room = omega arith; stays = λ r k i. i }
 
 pub returns-clause-one_place : goal.returns-clause-one_place
 returns-clause-one_place c = λ ks d. omega arith
