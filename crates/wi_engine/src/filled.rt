@@ -1,64 +1,86 @@
 //! The cells of a rectangle in which something may stand under replacements.
 
-ghost use Rattle.std.specs.Prelude.{◌≡◌, ◌≤◌, ℕ, Some, None, true, IfSome};
+ghost use Rattle.std.specs.Prelude.{◌≡◌, ◌≤◌, ℕ, Some, None, true, IfSome, option_map};
+ghost use Rattle.std.specs.Option.{option_copied};
 ghost use Rattle.std.specs.List.{find};
 ghost use Rattle.std.specs.Map.{keys_of};
 ghost use Rattle.wi_values.specs.Address.{is_within};
-ghost use Rattle.wi_values.specs.Replacements.{IsInOrder, as_map};
+ghost use Rattle.wi_values.specs.Replacements.{IsInOrder, as_map, replaced};
 ghost use Rattle.wi_parser.specs.Sheet.{content_of, put_all};
 ghost use Rattle.wi_store.specs.Store.{is_ahead};
 ghost use Rattle.wi_lookup.specs.Filled.{ComesBefore};
+ghost use Rattle.wi_engine.specs.Inner.Seen.{content_seen};
 ghost use Rattle.wi_engine.specs.Inner.Touched.{earlier};
 
+use crate::seen::{Seen, as_seen, constant};
+use wi_parser::Content;
 use wi_store::Store;
 use wi_values::{Address, Rect, Replacement};
 use wi_worlds::World;
 
-/// The first cell of a rectangle, at a cell or after it, that is occupied or replaced. The work is that of
-/// `Store::next_occupied` and of `next_replaced`.
-pub fn next_touched(store: &Store, world: &World, area: Rect, from: Address) -> Option<Address>
-    ensures inside { IfSome result (λ c. (is_within area c ≡ true) × (from ≤ c)) }
-    ensures nothing_before { (a : ℕ) → is_within area a ≡ true → from ≤ a → ComesBefore a result → content_of (put_all store.now.sheet world.now) a ≡ None }
+/// The first cell of a rectangle, at a cell or after it, that is occupied or replaced, with what stands there. The work is that
+/// of `Store::next_content` and of `next_replaced`.
+pub fn next_touched<'a>(
+    store: &'a Store,
+    world: &'a World,
+    area: Rect,
+    from: Address,
+) -> Option<(Address, Seen<'a>)>
+    ensures inside { IfSome result (λ x. (is_within area x.0 ≡ true) × (from ≤ x.0)) }
+    ensures seen { IfSome result (λ x. content_seen x.1 ≡ content_of (put_all store.now.sheet world.now) x.0) }
+    ensures nothing_before { (a : ℕ) → is_within area a ≡ true → from ≤ a → ComesBefore a (option_map (λ x. x.0) result) → content_of (put_all store.now.sheet world.now) a ≡ None }
 {
     store.cells_stand_in_order();
     let replaced = next_replaced(world.replacements(), area, from);
-    earlier(store.next_occupied(area, from), replaced)
+    earlier(&store.next_content(area, from), replaced)
 }
 
-/// The first replaced cell of a rectangle, at a cell or after it. The work grows with the logarithm of the count of
+/// The first replacement of a cell of a rectangle, at a cell or after it. The work grows with the logarithm of the count of
 /// replacements, and with the count of replaced cells from there to the one found, or to the rectangle's last cell.
-fn next_replaced(replacements: &[Replacement], area: Rect, from: Address) -> Option<Address>
+fn next_replaced(replacements: &[Replacement], area: Rect, from: Address) -> Option<&Replacement>
     requires { IsInOrder replacements.now }
-    ensures { result ≡ find (is_ahead area (Some from)) (keys_of (as_map replacements.now)) }
+    ensures cell { option_map (λ r. r.now.at) result ≡ find (is_ahead area (Some from)) (keys_of (as_map replacements.now)) }
+    ensures value { IfSome result (λ r. replaced replacements.now r.now.at ≡ Some r.now.value) }
 {
     let before = replacements.partition_point(|replacement| replacement.at < from);
     first_within(&replacements[before..], area)
 }
 
-/// The first replaced cell of a rectangle. The work grows with the count of replaced cells up to it, or to the rectangle's last
-/// cell.
-fn first_within(replacements: &[Replacement], area: Rect) -> Option<Address>
+/// The first replacement of a cell of a rectangle. The work grows with the count of replaced cells up to it, or to the
+/// rectangle's last cell.
+fn first_within(replacements: &[Replacement], area: Rect) -> Option<&Replacement>
     requires { IsInOrder replacements.now }
-    ensures { result ≡ find (is_within area) (keys_of (as_map replacements.now)) }
+    ensures cell { option_map (λ r. r.now.at) result ≡ find (is_within area) (keys_of (as_map replacements.now)) }
+    ensures value { IfSome result (λ r. replaced replacements.now r.now.at ≡ Some r.now.value) }
 {
     for replacement in replacements {
         if area.last() < replacement.at {
             return None;
         }
         if area.contains(replacement.at) {
-            return Some(replacement.at);
+            return Some(replacement);
         }
     }
     None
 }
 
-/// The earlier of two cells, where there are two.
-fn earlier(one: Option<Address>, other: Option<Address>) -> Option<Address>
-    ensures { result ≡ earlier one other }
+/// The earlier of two cells, where there are two, with what stands there: where both are one cell, it is replaced.
+fn earlier<'a>(
+    occupied: &Option<(Address, &'a Content)>,
+    replaced: Option<&'a Replacement>,
+) -> Option<(Address, Seen<'a>)>
+    ensures { option_map (λ x. (x.0, content_seen x.1)) result ≡ earlier (option_map (λ x. (x.0, x.1.now)) occupied.now) (option_copied replaced.entry) }
 {
-    match (one, other) {
-        (Some(a), Some(b)) => Some(a.min(b)),
-        (Some(a), None) => Some(a),
-        (None, found) => found,
+    match (occupied, replaced) {
+        (Some((at, content)), Some(replacement)) => {
+            if *at < replacement.at {
+                Some((*at, as_seen(content)))
+            } else {
+                Some((replacement.at, constant(&replacement.value)))
+            }
+        }
+        (Some((at, content)), None) => Some((*at, as_seen(content))),
+        (None, Some(replacement)) => Some((replacement.at, constant(&replacement.value))),
+        (None, None) => None,
     }
 }

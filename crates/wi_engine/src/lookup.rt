@@ -4,6 +4,9 @@ ghost use Rattle.std.specs.Prelude.{◌≡◌};
 ghost use Rattle.std.specs.Option.{option_copied};
 ghost use Rattle.wi_values.specs.declared.value.Value.TheVariants.{Empty};
 ghost use Rattle.wi_lookup.specs.Assignment.{value_if_known};
+ghost use Rattle.wi_engine.specs.Inner.Attempt.{known_in};
+ghost use Rattle.wi_engine.specs.Inner.Findings.{found_value};
+ghost use Rattle.wi_engine.specs.Inner.Seen.{content_seen};
 
 use crate::filled::next_touched;
 use crate::findings::Findings;
@@ -40,6 +43,17 @@ impl<'a> Known<'a> {
             empty: Value::Empty,
         }
     }
+
+    /// What is known of a cell in which this stands.
+    fn known(&self, at: Address, seen: Seen<'a>) -> LookedUp<'_>
+        ensures { value_if_known result ≡ known_in (content_seen seen.entry) (found_value self.now.found.now at) }
+    {
+        match seen {
+            Seen::Nothing => LookedUp::Known(&self.empty),
+            Seen::Constant(value) => LookedUp::Known(value),
+            Seen::Formula(_) => looked_up(self.found.cell(at)),
+        }
+    }
 }
 
 impl<'a> Lookup for Known<'a> {
@@ -51,25 +65,26 @@ impl<'a> Lookup for Known<'a> {
     ghost known_what_if = { λ k. what_if_found k.found.now };
 
     fn cell(&self, at: Address) -> LookedUp<'_> {
-        match content_in(self.store, self.world, at) {
-            Seen::Nothing => LookedUp::Known(&self.empty),
-            Seen::Constant(value) => LookedUp::Known(value),
-            Seen::Formula(_) => looked_up(self.found.cell(at)),
-        }
+        self.known(at, content_in(self.store, self.world, at))
     }
 
     fn what_if(&self, formula_cell: Address, pairs: &[Pair]) -> LookedUp<'_> {
         looked_up(self.found.what_if(formula_cell, pairs))
     }
 
-    fn next_filled(&self, area: Rect, from: Address) -> Option<Address> {
+    fn next_value(&self, area: Rect, from: Address) -> Option<(Address, LookedUp<'_>)> {
         let mut ahead = Some(from);
         while let Some(start) = ahead {
-            let at = next_touched(self.store, self.world, area, start)?;
-            if !self.cell(at).is_known_empty() {
-                return Some(at);
+            match next_touched(self.store, self.world, area, start) {
+                Some((at, seen)) => {
+                    let known = self.known(at, seen);
+                    if !known.is_known_empty() {
+                        return Some((at, known));
+                    }
+                    ahead = successor(at, area.last());
+                }
+                None => return None,
             }
-            ahead = successor(at, area.last());
         }
         None
     }

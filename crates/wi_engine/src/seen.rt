@@ -1,6 +1,6 @@
 //! What stands in a cell under replacements.
 
-ghost use Rattle.std.specs.Prelude.{◌≡◌, false, IfSome, IfNone};
+ghost use Rattle.std.specs.Prelude.{◌≡◌, false, Some, IfSome, IfNone};
 ghost use Rattle.wi_parser.specs.Sheet.{constant, content_of, has_formula, put_all};
 ghost use Rattle.wi_engine.specs.Inner.Seen.{content_seen};
 
@@ -31,7 +31,7 @@ pub fn content_in<'a>(store: &'a Store, world: &'a World, at: Address) -> Seen<'
 }
 
 /// What a cell has where a constant is put.
-fn constant(value: &Value) -> Seen<'_>
+pub fn constant(value: &Value) -> Seen<'_>
     ensures { content_seen result ≡ constant value.now }
 {
     match value {
@@ -49,8 +49,17 @@ fn stored(store: &Store, at: Address) -> Seen<'_>
 {
     match store.get(at) {
         None => Seen::Nothing,
-        Some(Content::Constant(value)) => Seen::Constant(value),
-        Some(Content::Formula(formula)) => Seen::Formula(formula),
+        Some(content) => as_seen(content),
+    }
+}
+
+/// A content, as it is seen.
+pub fn as_seen(content: &Content) -> Seen<'_>
+    ensures { content_seen result ≡ Some content.now }
+{
+    match content {
+        Content::Constant(value) => Seen::Constant(value),
+        Content::Formula(formula) => Seen::Formula(formula),
     }
 }
 

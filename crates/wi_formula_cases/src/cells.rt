@@ -43,11 +43,11 @@ impl Lookup for Cells {
         }
     }
 
-    fn next_filled(&self, area: Rect, from: Address) -> Option<Address> {
+    fn next_value(&self, area: Rect, from: Address) -> Option<(Address, LookedUp<'_>)> {
         let mut ahead = Some(from);
         while let Some(at) = ahead {
             if area.contains(at) && !self.cell(at).is_known_empty() {
-                return Some(at);
+                return Some((at, self.cell(at)));
             }
             ahead = successor(at, area.last());
         }

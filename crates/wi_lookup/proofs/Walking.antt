@@ -1,12 +1,14 @@
 -- A walk over the cells of a rectangle passes over those that are known to be Empty.
 use Rattle.std.proofs.Common.{◌≡◌, ℕ, ◌<◌, ◌≤◌, ◌-◌, ◌+◌, ◌⊎◌, inl, inr, Bool, true, false, cond, List, [], ◌∷◌, filter, Option, Some, None, IfSome, refl, sym, ap, ◌∙◌, subst, arith}
-use Rattle.std.specs.Prelude.{nat_le, nat_lt}
+use Rattle.std.specs.Prelude.{nat_le, nat_lt, option_map}
 use Rattle.std.specs.List.{AllByRecursion}
 use Rattle.std.proofs.lemmas.Bool.Decides.{nat_tests}
 use Rattle.wi_values.specs.Address.{Area, is_within, cells_of}
 use Rattle.wi_values.specs.declared.value.Value.{Value}
 use Rattle.wi_values.specs.declared.value.Value.TheVariants.{Empty}
+use Rattle.wi_lookup.specs.declared.lookup.LookedUp.{LookedUp}
 use Rattle.wi_lookup.specs.Arguments.{KnownAgrees}
+use Rattle.wi_lookup.specs.Assignment.{value_if_known}
 use Rattle.wi_lookup.specs.Filled.{IsNextFilled, ComesBefore, is_known_empty}
 use Rattle.wi_lookup.specs.Walk.{after_cells, IsNextAfter}
 use Rattle.wi_values.proofs.Within.{within_between}
@@ -23,6 +25,16 @@ to_come r (Some c) = filter (λ a. nat_le c a) (cells_of r)
 abbrev pub cells_left : Area → Option ℕ → ℕ
 cells_left r None = 0
 cells_left r (Some a) = (r.last + 1) - a
+
+-- the cell that was found, without what is known of it
+abbrev pub cell_of : Option (ℕ × LookedUp) → Option ℕ
+cell_of o = option_map (λ x. x.0) o
+
+abbrev pub IsLookedUp : (ℕ → Option Value) → Option (ℕ × LookedUp) → Type 0
+IsLookedUp known o = IfSome o (λ x. value_if_known x.1 ≡ known x.0)
+
+value_ahead : (known : ℕ → Option Value) (ahead : Option (ℕ × LookedUp)) (c : ℕ) (l : LookedUp) (v : Value) → IsLookedUp known ahead → ahead ≡ Some (c, l) → value_if_known l ≡ Some v → Some v ≡ known c
+value_ahead known ahead c l v h a e = sym e ∙ subst (IsLookedUp known) a h
 
 module _ {S : Type 0} (after : S → ℕ → Value → S) where
   -- to which an Empty cell makes no difference
@@ -94,6 +106,10 @@ module _ {S : Type 0} (after : S → ℕ → Value → S) where
   abbrev pub Rest : (ℕ → Option Value) → Area → S → S → Option ℕ → Type 0
   Rest known r whole s ahead = IfSome ahead (λ c. is_within r c ≡ true) × ((cells : ℕ → Value) → KnownAgrees known cells → after_cells after cells s (to_come r ahead) ≡ after_cells after cells whole (cells_of r))
 
+  -- with what is known of the cell ahead
+  abbrev pub RestWith : (ℕ → Option Value) → Area → S → S → Option (ℕ × LookedUp) → Type 0
+  RestWith known r whole s ahead = Rest known r whole s (cell_of ahead) × IsLookedUp known ahead
+
   all_pass : (xs : List ℕ) → filter (λ a. true) xs ≡ xs
   all_pass [] = refl
   all_pass (x ∷ xs) = ap (λ (ys : List ℕ). x ∷ ys) (all_pass xs)
@@ -153,3 +169,19 @@ module _ {S : Type 0} (after : S → ℕ → Value → S) where
   -- or ends, where no other cell is filled
   pub ends : (known : ℕ → Option Value) (r : Area) (whole s : S) (ahead : Option ℕ) → Rest known r whole s ahead → ahead ≡ None → (cells : ℕ → Value) → KnownAgrees known cells → s ≡ after_cells after cells whole (cells_of r)
   ends known r whole s ahead h a cells agrees = (subst (Rest known r whole s) a h).1 cells agrees
+
+  -- ---- with what is known of each
+
+  pub begins_with : (passes_empty : PassesEmpty) (known : ℕ → Option Value) (r : Area) (s : S) (from : ℕ) (found : Option (ℕ × LookedUp)) → from ≡ r.first → IsNextFilled known r from (cell_of found) → IsLookedUp known found → RestWith known r s s found
+  begins_with passes_empty known r s from found e n k = (begins passes_empty known r s from (cell_of found) e n, k)
+
+  pub goes_on_with : (passes_empty : PassesEmpty) (known : ℕ → Option Value) (r : Area) (whole s t : S) (ahead : Option (ℕ × LookedUp)) (c : ℕ) (l : LookedUp) (v : Value) (found : Option (ℕ × LookedUp)) → RestWith known r whole s ahead → ahead ≡ Some (c, l) →
+      value_if_known l ≡ Some v → t ≡ after s c v → IsNextAfter known r c (cell_of found) → IsLookedUp known found → RestWith known r whole t found
+  goes_on_with passes_empty known r whole s t ahead c l v found h a e f n k = (
+    goes_on passes_empty known r whole s t (cell_of ahead) c v (cell_of found) h.0 (ap cell_of a) (value_ahead known ahead c l v h.1 a e) f n,
+    k,
+  )
+
+  pub stops_with : (known : ℕ → Option Value) (r : Area) (whole s t : S) (ahead : Option (ℕ × LookedUp)) (c : ℕ) (l : LookedUp) (v : Value) → RestWith known r whole s ahead → ahead ≡ Some (c, l) → value_if_known l ≡ Some v → t ≡ after s c v →
+      ((d : ℕ) (w : Value) → after t d w ≡ t) → (cells : ℕ → Value) → KnownAgrees known cells → t ≡ after_cells after cells whole (cells_of r)
+  stops_with known r whole s t ahead c l v h a e f stays = stops known r whole s t (cell_of ahead) c v h.0 (ap cell_of a) (value_ahead known ahead c l v h.1 a e) f stays

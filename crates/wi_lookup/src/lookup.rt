@@ -1,6 +1,6 @@
 //! What is known of cells and what-ifs.
 
-ghost use Rattle.std.specs.Prelude.{◌≡◌, ℕ, List, map, Option};
+ghost use Rattle.std.specs.Prelude.{◌≡◌, ℕ, List, map, Option, IfSome, option_map};
 ghost use Rattle.wi_values.specs.declared.value.Value.{Value as Values};
 ghost use Rattle.wi_parser.specs.View.{pair_of};
 ghost use Rattle.wi_lookup.specs.Assignment.{addresses};
@@ -46,9 +46,20 @@ pub trait Lookup {
     fn what_if(&self, formula_cell: Address, pairs: &[Pair]) -> LookedUp<'_>
         ensures { value_if_known result ≡ known_what_if self.now formula_cell (map addresses (map pair_of pairs.now)) };
 
-    /// The first cell of a rectangle in row-major order, at a cell or after it, that isn't known to be Empty. A replaced cell
-    /// is what its replacement says. The work grows with the counts of replaced cells and of filled ones that are passed
-    /// over, and never with the size of the rectangle.
+    /// The first cell of a rectangle in row-major order, at a cell or after it, that isn't known to be Empty, with what is known
+    /// of it. A replaced cell is what its replacement says. The work grows with the counts of replaced cells and of filled ones
+    /// that are passed over, and never with the size of the rectangle.
+    fn next_value(&self, area: Rect, from: Address) -> Option<(Address, LookedUp<'_>)>
+        ensures next { IsNextFilled (known_cell self.now) area from (option_map (λ x. x.0) result) }
+        ensures value { IfSome result (λ x. value_if_known x.1 ≡ known_cell self.now x.0) };
+
+    /// That cell alone. The work is that of `next_value`.
     fn next_filled(&self, area: Rect, from: Address) -> Option<Address>
-        ensures { IsNextFilled (known_cell self.now) area from result };
+        ensures { IsNextFilled (known_cell self.now) area from result }
+    {
+        match self.next_value(area, from) {
+            Some((at, _)) => Some(at),
+            None => None,
+        }
+    }
 }

@@ -1,10 +1,11 @@
 //! A walk through the filled cells of a rectangle.
 
-ghost use Rattle.std.specs.Prelude.{◌≡◌, ℕ, true, None, is_some, OnOk, IfErr};
+ghost use Rattle.std.specs.Prelude.{◌≡◌, ℕ, true, None, is_some, option_map, OnOk, IfErr, IfSome};
 ghost use Rattle.std.specs.ControlFlow.{break_value};
 ghost use Rattle.wi_values.specs.declared.value.Value.{Value as Values};
 ghost use Rattle.wi_values.specs.Address.{is_within, cells_of};
 ghost use Rattle.wi_lookup.specs.Arguments.{KnownAgrees};
+ghost use Rattle.wi_lookup.specs.Assignment.{value_if_known};
 ghost use Rattle.wi_lookup.specs.Walk.{after_cells, IsNextAfter};
 
 use crate::cells::successor;
@@ -29,7 +30,7 @@ pub trait TakesCells {
 }
 
 /// Hands the cells of a rectangle over, in row-major order, until one is missing. Those that are known to be Empty are passed over:
-/// the work is that of `next_filled` for each of the others.
+/// the work is that of `next_value` for each of the others.
 pub fn take_cells<L: Lookup, T: TakesCells>(
     area: Rect,
     lookup: &L,
@@ -39,9 +40,9 @@ pub fn take_cells<L: Lookup, T: TakesCells>(
     ensures missing { IfErr result (λ c. L.known_cell lookup.now c ≡ None) }
     ensures inside { IfErr result (λ c. is_within area c ≡ true) }
 {
-    let mut ahead = lookup.next_filled(area, area.first());
-    while let Some(at) = ahead {
-        match lookup.cell(at) {
+    let mut ahead = lookup.next_value(area, area.first());
+    while let Some((at, looked_up)) = ahead {
+        match looked_up {
             LookedUp::Known(value) => {
                 if taker.take(at, value).is_break() {
                     return Ok(());
@@ -54,10 +55,11 @@ pub fn take_cells<L: Lookup, T: TakesCells>(
     Ok(())
 }
 
-/// The next filled cell of a rectangle after one.
-fn next_after<L: Lookup>(area: Rect, at: Address, lookup: &L) -> Option<Address>
-    ensures { IsNextAfter (L.known_cell lookup.now) area at result }
+/// The next filled cell of a rectangle after one, with what is known of it.
+fn next_after<L: Lookup>(area: Rect, at: Address, lookup: &L) -> Option<(Address, LookedUp<'_>)>
+    ensures next { IsNextAfter (L.known_cell lookup.now) area at (option_map (λ x. x.0) result) }
+    ensures value { IfSome result (λ x. value_if_known x.1 ≡ L.known_cell lookup.now x.0) }
 {
     let next = successor(at, area.last())?;
-    lookup.next_filled(area, next)
+    lookup.next_value(area, next)
 }

@@ -1,9 +1,12 @@
 -- The first of replacements in order that lies in a rectangle.
-use Rattle.std.proofs.Common.{◌≡◌, ℕ, zero, suc, ◌<◌, ◌≤◌, Bool, true, false, List, [], ◌∷◌, drop, length, get_or, map, Some, None, refl, sym, ap, ◌∙◌, subst, arith}
+use Rattle.std.proofs.Common.{◌≡◌, ℕ, zero, suc, ◌<◌, ◌≤◌, Bool, true, false, cond, List, [], ◌∷◌, drop, length, get_or, map, Option, Some, None, IfSome, refl, sym, ap, ◌∙◌, subst, arith}
 use Rattle.std.specs.Prelude.{nat_le, nat_lt}
 use Rattle.std.specs.List.{find}
 use Rattle.std.specs.List.Sorted.{IsPartitionPoint, IsNonDecreasingBy}
 use Rattle.std.specs.Map.{keys_of}
+use Rattle.std.specs.Borrow.{Bor}
+use Rattle.std.specs.Ordering.{nat_cmp}
+use Rattle.std.specs.BTreeMap.{is_at}
 use Rattle.std.proofs.lemmas.Bool.{false_from_ne_true, leb-true, le-leb, ltb-true, ltb-false}
 use Rattle.std.proofs.Math.Seq.{drop-cons}
 use Rattle.std.proofs.lemmas.Map.Keys.{sorted_from_strictly_increasing, below_from_sorted}
@@ -11,8 +14,8 @@ use Rattle.std.proofs.lemmas.List.{length-map, get_or-map}
 use Rattle.wi_values.specs.Address.{Area, is_within}
 use Rattle.wi_values.specs.declared.value.Value.{Value}
 use Rattle.wi_values.specs.declared.replacement.Replacement.{Replacement}
-use Rattle.wi_values.specs.Replacements.{IsInOrder, as_map}
-use Rattle.wi_values.proofs.Order.{ComeAfter, Ascends, Ascends-from_order, order-from_Ascends}
+use Rattle.wi_values.specs.Replacements.{IsInOrder, as_map, replaced}
+use Rattle.wi_values.proofs.Order.{ComeAfter, Ascends, Ascends-from_order, order-from_Ascends, at_same, at_itself, lookup_after}
 use Rattle.wi_values.proofs.Replacements.InOrder.{sorted_from_order, order_from_sorted}
 use Rattle.wi_values.proofs.Within.{within_between}
 use Rattle.wi_store.specs.Store.{is_ahead}
@@ -70,6 +73,34 @@ pub from_point : (r : Area) (from : ℕ) (rs : List Replacement) (i : ℕ) → I
     find (is_within r) (keys_of (as_map (drop i rs))) ≡ find (is_ahead r (Some from)) (keys_of (as_map rs))
 from_point r from rs i h l =
     sym (passed_by r from rs i (λ k d m. ltb-true _ _ (h.0 k d (omega arith) m)) (λ k d n m. ltb-false _ _ (h.1 k d n m)) l)
+
+-- ---- what a cell is replaced by
+
+behind : (r : Replacement) (rs : List Replacement) (a : ℕ) (v : Value) → ComeAfter r.at (as_map rs) → replaced rs a ≡ Some v → replaced (r ∷ rs) a ≡ Some v
+behind r rs a v after h = at (is_at (nat_cmp a) r.at) refl
+  where
+    at : (b : Bool) → is_at (nat_cmp a) r.at ≡ b → cond b (Some r.value) (replaced rs a) ≡ Some v
+    at true e = let none = lookup_after a (as_map rs) (subst (λ (b : ℕ). ComeAfter b (as_map rs)) (at_same a r.at e) after) in absurd (let z = sym none ∙ h in cc)
+    at false e = h
+
+stands : (rs : List Replacement) (i : ℕ) (x : Replacement) → Ascends (as_map rs) → i < length rs → x ≡ get_or rs i x → replaced rs x.at ≡ Some x.value
+stands [] i x asc l e = absurd (omega (arith, l))
+stands (r ∷ rs) zero x asc l e = subst (λ (y : Replacement). replaced (r ∷ rs) y.at ≡ Some y.value) (sym e) (rw (at_itself r.at) refl)
+stands (r ∷ rs) (suc i) x asc l e = behind r rs x.at x.value asc.0 (stands rs i x asc.1 (omega (arith, l)) e)
+
+-- the one at a place is its cell's
+pub stands_at : (rs : List Replacement) (i : ℕ) (x : Replacement) → IsInOrder rs → i < length rs → x ≡ get_or rs i x → replaced rs x.at ≡ Some x.value
+stands_at rs i x order l e = stands rs i x (ascends rs order) l e
+
+whole : (i : ℕ) (rs : List Replacement) (a : ℕ) (v : Value) → Ascends (as_map rs) → replaced (drop i rs) a ≡ Some v → replaced rs a ≡ Some v
+whole zero rs a v asc h = h
+whole (suc i) [] a v asc h = h
+whole (suc i) (r ∷ rs) a v asc h = behind r rs a v asc.0 (whole i rs a v asc.1 h)
+
+-- and so it is of all, where it is of those from a place on
+pub of_all : (i : ℕ) (rs : List Replacement) (o : Option (Bor Replacement)) → IsInOrder rs → IfSome o (λ r. replaced (drop i rs) r.now.at ≡ Some r.now.value) → IfSome o (λ r. replaced rs r.now.at ≡ Some r.now.value)
+of_all i rs None order h = tt
+of_all i rs (Some r) order h = whole i rs r.now.at r.now.value (ascends rs order) h
 
 -- ---- none lies beyond the rectangle's last cell
 

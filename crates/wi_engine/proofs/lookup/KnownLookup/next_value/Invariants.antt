@@ -1,7 +1,7 @@
 use Rattle.wi_values.proofs.Within.{places_left}
 use Rattle.wi_engine.specs.Inner.Attempt.{cell_known}
 use Rattle.wi_lookup.proofs.Passing.{Passed}
-use Rattle.wi_engine.proofs.lookup.KnownLookup.next_filled.Given as goal
+use Rattle.wi_engine.proofs.lookup.KnownLookup.next_value.Given as goal
 
 abbrev pub invariant-loop-ahead : goal.invariant-loop-ahead
 invariant-loop-ahead l = Passed (cell_known l.self.store.now.sheet l.self.world.now l.self.found.now) l.area l.fn.from l.ahead
