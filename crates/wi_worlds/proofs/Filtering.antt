@@ -1,28 +1,31 @@
--- Some of the replacements, kept one after another.
-use Rattle.std.proofs.Common.{◌≡◌, ℕ, ◌+◌, ◌<◌, ◌≤◌, Bool, true, false, cond, List, [], ◌∷◌, ◌++◌, filter, length, drop, get_or, sym, ap, ◌∙◌, add-one, drop-cons}
-use Rattle.std.proofs.lemmas.List.{append_assoc, append-nil, drop_all}
+-- Some of the replacements, by their count.
+use Rattle.std.proofs.Common.{◌≡◌, suc, refl, subst, arith, ◌≤◌, Bool, true, false, cond, List, [], ◌∷◌, filter, length, ap}
 use Rattle.wi_values.specs.declared.replacement.Replacement.{Replacement}
 
-drop_at : (rs : List Replacement) (i : ℕ) (r : Replacement) → i < length rs → r ≡ get_or rs i r → drop i rs ≡ r ∷ drop (i + 1) rs
-drop_at rs i r l e = (rw add-one (drop-cons rs i r l)) ∙ ap (λ (x : Replacement). x ∷ drop (i + 1) rs) (sym e)
+-- where as many are kept as there are, all are, and where none are counted, none is
+kept_at_most : (p : Replacement → Bool) (rs : List Replacement) → length (filter p rs) ≤ length rs
+kept_at_most p [] = omega arith
+kept_at_most p (r ∷ rs) = by (p r) (kept_at_most p rs)
+  where
+    by : (b : Bool) → length (filter p rs) ≤ length rs → length (cond b (r ∷ filter p rs) (filter p rs)) ≤ suc (length rs)
+    by true h = omega (arith, h)
+    by false h = omega (arith, h)
 
-filter_more : (p : Replacement → Bool) (rs : List Replacement) (i : ℕ) (r : Replacement) (b : Bool) → i < length rs → r ≡ get_or rs i r → p r ≡ b
-    → filter p (drop i rs) ≡ cond b (r ∷ filter p (drop (i + 1) rs)) (filter p (drop (i + 1) rs))
-filter_more p rs i r b l e t = ap (filter p) (drop_at rs i r l e) ∙ ap (λ (c : Bool). cond c (r ∷ filter p (drop (i + 1) rs)) (filter p (drop (i + 1) rs))) t
+whole : (p : Replacement → Bool) (rs : List Replacement) → length (filter p rs) ≡ length rs → filter p rs ≡ rs
+whole p [] h = refl
+whole p (r ∷ rs) h = by (p r) (whole p rs) h
+  where
+    by : (b : Bool) → (length (filter p rs) ≡ length rs → filter p rs ≡ rs)
+        → length (cond b (r ∷ filter p rs) (filter p rs)) ≡ suc (length rs) → cond b (r ∷ filter p rs) (filter p rs) ≡ r ∷ rs
+    by true more e = ap (λ (xs : List Replacement). r ∷ xs) (more (omega (arith, e)))
+    by false more e = absurd (omega (arith, e, kept_at_most p rs))
 
-pub kept_more : (p : Replacement → Bool) (kept kept' rs whole : List Replacement) (i : ℕ) (r : Replacement) → i < length rs → r ≡ get_or rs i r → p r ≡ true
-    → kept' ≡ kept ++ r ∷ [] → kept ++ filter p (drop i rs) ≡ whole → kept' ++ filter p (drop (i + 1) rs) ≡ whole
-kept_more p kept kept' rs whole i r l e t k h =
-    ap (λ (xs : List Replacement). xs ++ filter p (drop (i + 1) rs)) k
-    ∙ append_assoc kept (r ∷ []) (filter p (drop (i + 1) rs))
-    ∙ ap (λ (xs : List Replacement). kept ++ xs) (sym (filter_more p rs i r true l e t)) ∙ h
+nothing : (xs : List Replacement) → length xs ≡ 0 → xs ≡ []
+nothing [] h = refl
+nothing (x ∷ xs) h = absurd (omega (arith, h))
 
-pub kept_same : (p : Replacement → Bool) (kept kept' rs whole : List Replacement) (i : ℕ) (r : Replacement) → i < length rs → r ≡ get_or rs i r → p r ≡ false
-    → kept' ≡ kept → kept ++ filter p (drop i rs) ≡ whole → kept' ++ filter p (drop (i + 1) rs) ≡ whole
-kept_same p kept kept' rs whole i r l e t k h =
-    ap (λ (xs : List Replacement). xs ++ filter p (drop (i + 1) rs)) k
-    ∙ ap (λ (xs : List Replacement). kept ++ xs) (sym (filter_more p rs i r false l e t)) ∙ h
+pub filter_whole : (p : Replacement → Bool) (seen rs : List Replacement) → seen ≡ rs → length (filter p seen) ≡ length seen → filter p rs ≡ rs
+filter_whole p seen rs same h = whole p rs (subst (λ (xs : List Replacement). length (filter p xs) ≡ length xs) same h)
 
--- at the end nothing is left
-pub kept_all : (p : Replacement → Bool) (kept rs : List Replacement) (i : ℕ) → length rs ≤ i → kept ++ filter p (drop i rs) ≡ filter p rs → kept ≡ filter p rs
-kept_all p kept rs i l h = sym (append-nil kept) ∙ ap (λ (xs : List Replacement). kept ++ filter p xs) (sym (drop_all i rs l)) ∙ h
+pub filter_nothing : (p : Replacement → Bool) (seen rs : List Replacement) → seen ≡ rs → length (filter p seen) ≡ 0 → filter p rs ≡ []
+filter_nothing p seen rs same h = nothing (filter p rs) (subst (λ (xs : List Replacement). length (filter p xs) ≡ 0) same h)

@@ -50,16 +50,15 @@ module _ (rs : List Replacement) (order : IsInOrder rs) (a : ℕ) where
       let after : i ≤ k → a < (get_or rs k d).at = λ b. ranked _ a _ (sym ((parted comparisons_rise).1 k d b l)) in
       grind (arith, before, after, p))
 
--- the same of a list that is known by other names
-pub searched_of : (v rs seen : List Replacement) (a : ℕ) (r s : Result ℕ ℕ) → IsInOrder rs → rs ≡ v → seen ≡ rs → r ≡ s
+-- the same of a list that is known by another name
+pub searched_of : (v seen : List Replacement) (a : ℕ) (r s : Result ℕ ℕ) → IsInOrder v → seen ≡ v → r ≡ s
     → IsSearchInRange r (length seen) → IsBinarySearchResult (λ x. nat_cmp x.at a) seen r
-    → MatchResult s (λ i. (x : Replacement) → x ≡ get_or rs i x → Some x.value ≡ replaced v a) (λ i. None ≡ replaced v a)
-searched_of v rs seen a r s order same told is within position =
-    by s (subst (λ (t : Result ℕ ℕ). MatchResult t (λ i. (d : Replacement) → replaced rs a ≡ Some (get_or rs i d).value) (λ i. replaced rs a ≡ None)) is
-    (searched rs order a r (subst (λ (xs : List Replacement). IsSearchInRange r (length xs)) told within)
-    (subst (λ (xs : List Replacement). IsBinarySearchResult (λ x. nat_cmp x.at a) xs r) told position)))
+    → MatchResult s (λ i. (x : Replacement) → Some (get_or seen i x).value ≡ replaced v a) (λ i. None ≡ replaced v a)
+searched_of v seen a r s order same is within position =
+    by s (subst (λ (t : Result ℕ ℕ). MatchResult t (λ i. (d : Replacement) → replaced seen a ≡ Some (get_or seen i d).value) (λ i. replaced seen a ≡ None)) is
+    (searched seen (subst IsInOrder (sym same) order) a r within position))
   where
-    by : (t : Result ℕ ℕ) → MatchResult t (λ i. (d : Replacement) → replaced rs a ≡ Some (get_or rs i d).value) (λ i. replaced rs a ≡ None)
-        → MatchResult t (λ i. (x : Replacement) → x ≡ get_or rs i x → Some x.value ≡ replaced v a) (λ i. None ≡ replaced v a)
-    by (Ok i) h = λ x e. ap (λ (y : Replacement). Some y.value) e ∙ sym (h x) ∙ ap (λ (xs : List Replacement). replaced xs a) same
+    by : (t : Result ℕ ℕ) → MatchResult t (λ i. (d : Replacement) → replaced seen a ≡ Some (get_or seen i d).value) (λ i. replaced seen a ≡ None)
+        → MatchResult t (λ i. (x : Replacement) → Some (get_or seen i x).value ≡ replaced v a) (λ i. None ≡ replaced v a)
+    by (Ok i) h = λ x. sym (h x) ∙ ap (λ (xs : List Replacement). replaced xs a) same
     by (Err i) h = sym h ∙ ap (λ (xs : List Replacement). replaced xs a) same

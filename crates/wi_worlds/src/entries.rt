@@ -21,20 +21,6 @@ pub(crate) fn copied(alloc: Global, replacement: &Replacement) -> Result<Replace
     })
 }
 
-/// The same replacements once more.
-pub(crate) fn all_copied(
-    alloc: Global,
-    replacements: &[Replacement],
-) -> Result<Vec<Replacement>, AllocError>
-    ensures { IfOk result (λ rs. rs.items ≡ replacements.now) }
-{
-    let mut copies = Vec::with_capacity(alloc, replacements.len())?;
-    for replacement in replacements {
-        copies.push(copied(alloc, replacement)?)?;
-    }
-    Ok(copies)
-}
-
 /// Puts copies of replacements into a map, one after another. If memory runs out, those put in so far stay.
 pub(crate) fn put_in(
     alloc: Global,

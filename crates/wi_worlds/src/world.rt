@@ -1,22 +1,26 @@
 //! Replacements, one for each address.
 
-ghost use Rattle.std.specs.Prelude.{◌≡◌, ℕ, [], All, filter, None, IsSome, IfOk, if◌then◌else◌};
+ghost use Rattle.std.specs.Prelude.{◌≡◌, ℕ, [], All, filter, None, IsSome, IfOk, length, if◌then◌else◌};
 ghost use Rattle.std.specs.BTreeMap.{get};
 ghost use Rattle.std.specs.Option.{option_copied, option_or};
 ghost use Rattle.std.specs.Ordering.{nat_cmp};
 ghost use Rattle.wi_values.specs.Replacements.{IsInOrder, as_map, last_for, overridden, replaced};
 ghost use Rattle.wi_worlds.specs.Reaching.{cone_has, is_reached};
 
-use crate::entries::{all_copied, copied, listed, put_in};
+use crate::entries::{copied, listed, put_in};
 use std::alloc::{AllocError, Global};
 use std::collections::{BTreeMap, BTreeSet};
 use std::marker::Model;
+use std::rc::RcSlice;
 use wi_values::{Address, Replacement, Value};
 
-/// Replacements, one for each address, in row-major order. A replacement by Empty is one like others.
+/// Replacements, one for each address, in row-major order. A replacement by Empty is one like others. Copies share what
+/// they hold.
 #[derive(Drop)]
 pub struct World {
-    replacements: Vec<Replacement>,
+    /// Nothing where there are no replacements.
+    shared: Option<RcSlice<Replacement>>,
+    alloc: Global,
 }
 
 impl Model for World {
@@ -30,10 +34,11 @@ impl Model for World {
     ghost coded = { coded_list replacement.the_row.coded };
 
     ghost use Rattle.wi_values.specs.Replacements.{IsInOrder};
+    ghost use Rattle.wi_worlds.specs.Inner.Shared.{shared_items};
 
-    ghost view = { λ w. w.replacements.items };
+    ghost view = { λ w. shared_items w.shared };
 
-    ghost invariant = { λ w. IsInOrder w.replacements.items };
+    ghost invariant = { λ w. IsInOrder (shared_items w.shared) };
 }
 
 impl World {
@@ -42,8 +47,24 @@ impl World {
         ensures { result ≡ [] }
     {
         World {
-            replacements: Vec::new(alloc),
+            shared: None,
+            alloc,
         }
+    }
+
+    /// These replacements. Takes no memory where there are none.
+    fn of(alloc: Global, replacements: Vec<Replacement>) -> Result<World, AllocError>
+        requires order { IsInOrder replacements.items }
+        ensures { IfOk result (λ w. w ≡ replacements.items) }
+    {
+        if replacements.is_empty() {
+            return Ok(World::new(alloc));
+        }
+        let shared = RcSlice::from_vec(replacements)?;
+        Ok(World {
+            shared: Some(shared),
+            alloc,
+        })
     }
 
     /// The replacements, in row-major order.
@@ -51,16 +72,21 @@ impl World {
         ensures value { result.now ≡ self.now }
         ensures order { IsInOrder self.now }
     {
-        self.replacements.as_slice()
+        match &self.shared {
+            Some(shared) => shared.as_slice(),
+            None => &[],
+        }
     }
 
-    /// The same replacements once more. The work grows with their count.
+    /// The same replacements once more, shared: whatever their count, it takes the same work, and no memory.
     pub fn copy(&self) -> Result<World, AllocError>
         ensures { IfOk result (λ w. w ≡ self.now) }
     {
-        let alloc = *self.replacements.allocator();
-        let replacements = all_copied(alloc, &self.replacements)?;
-        Ok(World { replacements })
+        let shared = self.shared.clone()?;
+        Ok(World {
+            shared,
+            alloc: self.alloc,
+        })
     }
 
     /// The replacements with others put in, each in the place of an earlier one for its address. Of two others for
@@ -70,12 +96,12 @@ impl World {
         ensures list { IfOk result (λ w. as_map w ≡ overridden (as_map self.now) others.now) }
         ensures each { IfOk result (λ w. (a : ℕ) → replaced w a ≡ option_or (last_for others.now a) (replaced self.now a)) }
     {
-        let alloc = *self.replacements.allocator();
+        let alloc = self.alloc;
         let mut all = BTreeMap::new(alloc);
         put_in(alloc, &mut all, self.replacements())?;
         put_in(alloc, &mut all, others)?;
         let replacements = listed(alloc, all)?;
-        Ok(World { replacements })
+        World::of(alloc, replacements)
     }
 
     /// The value that stands in the place of a cell's content, if one does. The work grows with the logarithm of the
@@ -83,17 +109,16 @@ impl World {
     pub fn replacement(&self, at: Address) -> Option<&Value>
         ensures { option_copied result ≡ replaced self.now at }
     {
-        match self
-            .replacements
-            .binary_search_by_key(&at, |replacement| replacement.at)
-        {
-            Ok(place) => Some(&self.replacements[place].value),
+        let all = self.replacements();
+        match all.binary_search_by_key(&at, |replacement| replacement.at) {
+            Ok(place) => Some(&all[place].value),
             Err(_) => None,
         }
     }
 
-    /// The replacements whose cone has a cell, the cones being those of the replaced addresses. The work for each
-    /// replacement grows with the logarithms of the count of cones and of the count of cells in its own.
+    /// The replacements whose cone has a cell, the cones being those of the replaced addresses: all of them shared, or
+    /// none, without memory, and copies only where some are kept and some aren't. The work for each replacement grows with
+    /// the logarithms of the count of cones and of the count of cells in its own.
     pub fn reaching(
         &self,
         at: Address,
@@ -103,15 +128,55 @@ impl World {
         ensures list { IfOk result (λ w. w ≡ filter (is_reached cones.now at) self.now) }
         ensures each { IfOk result (λ w. (a : ℕ) → replaced w a ≡ (if cone_has cones.now a at then replaced self.now a else None)) }
     {
-        let alloc = *self.replacements.allocator();
-        let mut replacements = Vec::new(alloc);
-        for replacement in &self.replacements {
-            if is_reached(replacement.at, at, cones) {
-                replacements.push(copied(alloc, replacement)?)?;
-            }
+        let all = self.replacements();
+        let count = count_reached(all, at, cones);
+        if count == all.len() {
+            return self.copy();
         }
-        Ok(World { replacements })
+        if count == 0 {
+            return Ok(World::new(self.alloc));
+        }
+        let kept = reached(self.alloc, count, all, at, cones)?;
+        World::of(self.alloc, kept)
     }
+}
+
+/// Of how many replacements the cone has a cell.
+fn count_reached(
+    replacements: &[Replacement],
+    at: Address,
+    cones: &BTreeMap<Address, BTreeSet<Address>>,
+) -> usize
+    requires cones { All (λ r. IsSome (get nat_cmp cones.now r.at)) replacements.now }
+    ensures { result ≡ length (filter (is_reached cones.now at) replacements.now) }
+{
+    let mut count = 0;
+    for replacement in replacements {
+        if is_reached(replacement.at, at, cones) {
+            count += 1;
+        }
+    }
+    count
+}
+
+/// Copies of the replacements whose cone has a cell, in a list with room for their count.
+fn reached(
+    alloc: Global,
+    count: usize,
+    replacements: &[Replacement],
+    at: Address,
+    cones: &BTreeMap<Address, BTreeSet<Address>>,
+) -> Result<Vec<Replacement>, AllocError>
+    requires cones { All (λ r. IsSome (get nat_cmp cones.now r.at)) replacements.now }
+    ensures { IfOk result (λ rs. rs.items ≡ filter (is_reached cones.now at) replacements.now) }
+{
+    let mut kept = Vec::with_capacity(alloc, count)?;
+    for replacement in replacements {
+        if is_reached(replacement.at, at, cones) {
+            kept.push(copied(alloc, replacement)?)?;
+        }
+    }
+    Ok(kept)
 }
 
 /// Whether the cone of a replaced address has a cell.

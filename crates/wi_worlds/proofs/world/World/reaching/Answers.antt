@@ -1,44 +1,63 @@
-use Rattle.std.proofs.Common.{◌∙◌, ◌++◌, ◌∷◌, List, [], filter, sym, ap, subst}
+use Rattle.std.proofs.Common.{◌≡◌, ◌∙◌, ℕ, Bool, List, filter, None, IfOk, Ok, Err, Result, if◌then◌else◌, sym, ap, subst}
+use Rattle.std.specs.Prelude.{All, IsSome}
+use Rattle.std.specs.BTreeMap.{BTreeMap, get}
+use Rattle.std.specs.BTreeSet.{BTreeSet}
+use Rattle.std.specs.Ordering.{nat_cmp}
 use Rattle.wi_values.specs.declared.replacement.Replacement.{Replacement}
 use Rattle.wi_values.specs.Replacements.{IsInOrder, replaced}
 use Rattle.wi_values.proofs.Replacements.Filtering.{order_of_filter, replaced-filter}
 use Rattle.wi_worlds.specs.Reaching.{cone_has, is_reached}
-use Rattle.wi_worlds.proofs.Filtering.{kept_more, kept_same, kept_all}
-use Rattle.wi_worlds.proofs.world.World.reaching.Goals.{then-is_reached+in_ok-copied+in_ok-push, else-is_reached}
+use Rattle.wi_worlds.proofs.Filtering.{filter_whole, filter_nothing}
 use Rattle.wi_worlds.proofs.world.World.reaching.Goals as goal
 
-pub loop-replacement-preserved : goal.loop-replacement-preserved
-loop-replacement-preserved c =
-    let p = is_reached c.args.cones.now c.args.at in
-    let kept = c.loop-replacement.replacements.items in
-    let all = c.deref-replacement-items.result.now in
-    elim c.if-is_reached.branch [
-      | then-is_reached+in_ok-copied+in_ok-push w ↦
-          kept_more p kept c.if-is_reached.replacements.items all _ c.loop-replacement.replacement-index c.replacement-item.result
-          c.loop-replacement-test.true c.replacement-item.is (sym c.is_reached.ensures ∙ w.if-is_reached.true)
-          (ap (λ v. v.items) w.replacements-is ∙ w.in_ok-push.ensures.items
-          ∙ ap (λ (r : Replacement). kept ++ r ∷ []) w.in_ok-copied.ensures) c.loop-replacement.invariant
-      | else-is_reached w ↦
-          kept_same p kept c.if-is_reached.replacements.items all _ c.loop-replacement.replacement-index c.replacement-item.result
-          c.loop-replacement-test.true c.replacement-item.is (sym c.is_reached.ensures ∙ w.if-is_reached.false)
-          (ap (λ v. v.items) w.replacements-is) c.loop-replacement.invariant
-    ]
+-- what each address has in the replacements that are kept
+each_of : {E : Type 0} (cones : BTreeMap ℕ (BTreeSet ℕ)) (at : ℕ) (rs : List Replacement) (r : Result (List Replacement) E)
+    → IfOk r (λ w. w ≡ filter (is_reached cones at) rs)
+    → IfOk r (λ w. (a : ℕ) → replaced w a ≡ (if cone_has cones a at then replaced rs a else None))
+each_of cones at rs (Ok w) h = λ a. ap (λ (v : List Replacement). replaced v a) h ∙ replaced-filter (λ b. cone_has cones b at) a rs
+each_of cones at rs (Err e) h = tt
 
-pub invariant_of-result : goal.invariant_of-result
-invariant_of-result c =
+made_of : {E : Type 0} (p : Replacement → Bool) (rs kept : List Replacement) (r : Result (List Replacement) E)
+    → IfOk r (λ w. w ≡ kept) → kept ≡ filter p rs → IfOk r (λ w. w ≡ filter p rs)
+made_of p rs kept (Ok w) h e = h ∙ e
+made_of p rs kept (Err x) h e = tt
+
+pub returns-then-count-all-clause-list : goal.returns-then-count-all-clause-list
+returns-then-count-all-clause-list c =
     let p = is_reached c.args.cones.now c.args.at in
-    let all = c.deref-replacement-items.result.now in
-    subst IsInOrder (sym (kept_all p c.loop-replacement.replacements.items all c.loop-replacement.replacement-index c.loop-replacement-test.false c.loop-replacement.invariant))
-    (order_of_filter p all (subst IsInOrder (sym c.deref-replacement-items.ensures.value) c.self.invariant))
+    let same = c.replacements-all.ensures.value in
+    made_of p c.args.self.now c.args.self.now c.copy.result c.copy.ensures
+    (sym (filter_whole p c.replacements-all.result.now c.args.self.now same (sym c.count_reached-count.ensures ∙ c.if-count-all.true)))
+
+pub returns-then-count-all-clause-each : goal.returns-then-count-all-clause-each
+returns-then-count-all-clause-each c = each_of c.args.cones.now c.args.at c.args.self.now c.copy.result (returns-then-count-all-clause-list c)
+
+pub returns-then-count-eq0-clause-list : goal.returns-then-count-eq0-clause-list
+returns-then-count-eq0-clause-list c =
+    c.new.ensures ∙ sym (filter_nothing (is_reached c.args.cones.now c.args.at) c.replacements-all.result.now c.args.self.now c.replacements-all.ensures.value
+    (sym c.count_reached-count.ensures ∙ c.if-count-eq0.true))
+
+pub returns-then-count-eq0-clause-each : goal.returns-then-count-eq0-clause-each
+returns-then-count-eq0-clause-each c = λ a.
+    ap (λ (v : List Replacement). replaced v a) (returns-then-count-eq0-clause-list c)
+    ∙ replaced-filter (λ b. cone_has c.args.cones.now b c.args.at) a c.args.self.now
+
+pub reached-requires : goal.reached-requires
+reached-requires c = record {
+  cones = subst (All (λ r. IsSome (get nat_cmp c.args.cones.now r.at))) (sym c.replacements-all.ensures.value) c.requires.cones;
+}
+
+pub of-requires : goal.of-requires
+of-requires c = record {
+  order = subst IsInOrder (sym (c.in_ok-kept.ensures ∙ ap (filter (is_reached c.args.cones.now c.args.at)) c.replacements-all.ensures.value))
+      (order_of_filter (is_reached c.args.cones.now c.args.at) c.args.self.now c.replacements-all.ensures.order);
+}
 
 pub returns-clause-list : goal.returns-clause-list
 returns-clause-list c =
     let p = is_reached c.args.cones.now c.args.at in
-    kept_all p c.loop-replacement.replacements.items c.deref-replacement-items.result.now c.loop-replacement.replacement-index c.loop-replacement-test.false c.loop-replacement.invariant
-    ∙ ap (filter p) (c.deref-replacement-items.ensures.value ∙ c.self.view_is)
+    made_of p c.args.self.now c.in_ok-kept.kept.items c.of.result c.of.ensures
+    (c.in_ok-kept.ensures ∙ ap (filter p) c.replacements-all.ensures.value)
 
 pub returns-clause-each : goal.returns-clause-each
-returns-clause-each c =
-    λ a.
-    ap (λ (rs : List Replacement). replaced rs a) (returns-clause-list c)
-    ∙ replaced-filter (λ b. cone_has c.args.cones.now b c.args.at) a c.args.self.now
+returns-clause-each c = each_of c.args.cones.now c.args.at c.args.self.now c.of.result (returns-clause-list c)

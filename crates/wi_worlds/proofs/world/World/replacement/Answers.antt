@@ -6,11 +6,11 @@ use Rattle.wi_worlds.proofs.world.World.replacement.Goals as goal
 pub returns-in-Ok : goal.returns-in-Ok
 returns-in-Ok c =
     let facts = c.binary_search_by_key.ensures in
-    searched_of _ _ _ c.args.at _ _ c.self.invariant c.self.view_is c.deref.ensures.value c.in-Ok.is facts.bound
-    (facts.position (λ r. r.at) (answers_always _ _ _ (λ f a r g called. search rules))) c.index.result.now c.index.ensures
+    searched_of c.args.self.now c.replacements-all.result.now c.args.at _ _ c.replacements-all.ensures.order c.replacements-all.ensures.value c.in-Ok.is facts.bound
+    (facts.position (λ r. r.at) (answers_always _ _ _ (λ f a r g called. search rules))) c.index-all-place.result
 
 pub returns-in-Err : goal.returns-in-Err
 returns-in-Err c =
     let facts = c.binary_search_by_key.ensures in
-    searched_of _ _ _ c.args.at _ _ c.self.invariant c.self.view_is c.deref.ensures.value c.in-Err.is facts.bound
+    searched_of c.args.self.now c.replacements-all.result.now c.args.at _ _ c.replacements-all.ensures.order c.replacements-all.ensures.value c.in-Err.is facts.bound
     (facts.position (λ r. r.at) (answers_always _ _ _ (λ f a r g called. search rules)))

@@ -1,5 +1,5 @@
 use Rattle.std.proofs.Common.{rules}
 use Rattle.wi_worlds.proofs.world.World.replacements.Goals as goal
 
-pub returns-clause-value : goal.returns-clause-value
-returns-clause-value c = search rules
+pub returns-in-Some-clause-value : goal.returns-in-Some-clause-value
+returns-in-Some-clause-value c = search rules

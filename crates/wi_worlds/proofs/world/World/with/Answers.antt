@@ -1,7 +1,8 @@
-use Rattle.std.proofs.Common.{◌≡◌, ◌∙◌, ℕ, List, [], sym, ap, subst}
+use Rattle.std.proofs.Common.{◌≡◌, ◌∙◌, ℕ, List, [], IfOk, Ok, Err, Result, sym, ap, subst}
 use Rattle.wi_values.specs.declared.value.Value.{Value}
 use Rattle.wi_values.specs.declared.replacement.Replacement.{Replacement}
-use Rattle.wi_values.specs.Replacements.{IsInOrder, as_map, overridden}
+use Rattle.std.specs.Option.{option_or}
+use Rattle.wi_values.specs.Replacements.{IsInOrder, as_map, last_for, overridden, replaced}
 use Rattle.wi_values.proofs.Replacements.Overriding.{overridden-nothing, replaced-overridden}
 use Rattle.wi_worlds.proofs.world.World.with.Goals as goal
 
@@ -13,12 +14,25 @@ put_in_twice v old others w none first second order same empty e f g =
     g ∙ f ∙ ap (λ (es : List (ℕ × Value)). overridden es others)
     (e ∙ ap (λ (es : List (ℕ × Value)). overridden es old) empty ∙ overridden-nothing old order ∙ ap as_map same)
 
+-- what holds of the list that a world is made of holds of the world
+list_of : {E : Type 0} (v others w : List Replacement) (r : Result (List Replacement) E) → IfOk r (λ x. x ≡ w)
+    → as_map w ≡ overridden (as_map v) others → IfOk r (λ x. as_map x ≡ overridden (as_map v) others)
+list_of v others w (Ok x) e h = ap as_map e ∙ h
+list_of v others w (Err x) e h = tt
+
+each_of : {E : Type 0} (v others : List Replacement) (r : Result (List Replacement) E) → IfOk r (λ x. as_map x ≡ overridden (as_map v) others)
+    → IfOk r (λ x. (a : ℕ) → replaced x a ≡ option_or (last_for others a) (replaced v a))
+each_of v others (Ok x) h = replaced-overridden v x others h
+each_of v others (Err x) h = tt
+
 pub returns-clause-list : goal.returns-clause-list
 returns-clause-list c =
-    put_in_twice c.args.self.now c.replacements.result.now c.args.others.now c.in_ok-replacements.replacements.items
+    let old = c.args.self.now in
+    list_of old c.args.others.now c.in_ok-replacements.replacements.items c.of.result c.of.ensures
+    (put_in_twice old c.replacements.result.now c.args.others.now c.in_ok-replacements.replacements.items
     c.new-all.result.entries c.put_in.new.map.entries c.put_in-2.new.map.entries
     (subst IsInOrder (sym c.replacements.ensures.value) c.replacements.ensures.order) c.replacements.ensures.value
-    c.new-all.ensures.empty c.in_ok-put_in.ensures c.in_ok-put_in-2.ensures c.in_ok-replacements.ensures.value
+    c.new-all.ensures.empty c.in_ok-put_in.ensures c.in_ok-put_in-2.ensures c.in_ok-replacements.ensures.value)
 
 pub returns-clause-each : goal.returns-clause-each
-returns-clause-each c = replaced-overridden c.args.self.now c.in_ok-replacements.replacements.items c.args.others.now (returns-clause-list c)
+returns-clause-each c = each_of c.args.self.now c.args.others.now c.of.result (returns-clause-list c)

@@ -1,7 +1,0 @@
-use Rattle.std.proofs.Common.{◌≡◌, ◌++◌, drop, filter}
-use Rattle.wi_worlds.specs.Reaching.{is_reached}
-use Rattle.wi_worlds.proofs.world.World.reaching.Given as goal
-
--- those that are kept, and those that will be
-abbrev pub invariant-loop-replacement : goal.invariant-loop-replacement
-invariant-loop-replacement l = l.replacements.items ++ filter (is_reached l.cones l.at) (drop l.replacement-index l.replacement-items) ≡ filter (is_reached l.cones l.at) l.replacement-items
