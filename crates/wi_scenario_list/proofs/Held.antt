@@ -7,6 +7,7 @@ use Rattle.std.specs.Cmp.Lexicographic.{pointwise}
 use Rattle.std.specs.Rc.{rc_str_bytes}
 use Rattle.std.specs.Str.{bytes_eq}
 use Rattle.std.specs.declared.rc.RcStr.{RcStr}
+use Rattle.std.proofs.Math.Bool.{or-false}
 use Rattle.std.proofs.lemmas.Slice.Eq.{bytes_eq-Decides}
 use Rattle.indexmap.specs.IndexMap.{insert_entry}
 use Rattle.wi_scenario_list.specs.Scenarios.{Scenario, is_named, has_scenario, is_full, is_replaced, max_replacements, scenario_of, scenario_for, scenario_or_new, with_scenario, without_scenario}
@@ -94,10 +95,6 @@ behind f (Some l) = refl
 
 -- ---- whether there would be too many
 
-or_false : (b : Bool) → b ≡ (b || false)
-or_false true = refl
-or_false false = refl
-
 pub full_where_there : (xs : List Scenario) (bs : List ℕ) (a : ℕ) (x : Scenario) (b : Bool) → scenario_of xs (Some bs) ≡ Some x
     → b ≡ (not (is_replaced x.own a) && nat_le max_replacements (length x.own)) → b ≡ is_full xs bs a
 full_where_there xs bs a x b e h =
@@ -109,7 +106,7 @@ full_where_there xs bs a x b e h =
 pub full_where_none : (xs : List Scenario) (bs : List ℕ) (a n : ℕ) (b : Bool) → scenario_of xs (Some bs) ≡ None → b ≡ nat_le 64 n → n ≡ length xs → b ≡ is_full xs bs a
 full_where_none xs bs a n b e g l =
     let full = λ (y : Scenario). not (is_replaced y.own a) && nat_le 256 (length y.own) in
-    g ∙ ap (λ (k : ℕ). nat_le 64 k) l ∙ or_false (nat_le 64 (length xs))
+    g ∙ ap (λ (k : ℕ). nat_le 64 k) l ∙ sym (or-false (nat_le 64 (length xs)))
     ∙ sym (
     ap (λ (t : Bool). (not t && nat_le 64 (length xs)) || full (scenario_for xs bs)) (has-found bs xs ∙ ap is_some e)
     ∙ ap (λ (o : Option Scenario). nat_le 64 (length xs) || full (scenario_or_new bs o)) e)

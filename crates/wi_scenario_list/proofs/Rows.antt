@@ -5,8 +5,7 @@ use Rattle.wi_values.specs.Address.{place}
 use Rattle.wi_values.specs.declared.value.Value.{Value}
 use Rattle.wi_values.specs.declared.value.Value.TheVariants.{Logical}
 use Rattle.wi_values.specs.declared.replacement.Replacement.{Replacement}
-use Rattle.wi_scenario_list.specs.Scenarios.{Scenario, chain, effective, with_scenario, with_own, without_own}
-use Rattle.wi_scenario_list.specs.Bases.{is_base, would_loop}
+use Rattle.wi_scenario_list.specs.Scenarios.{Scenario, chain, effective, with_scenario, with_own}
 
 abbrev by : ℕ → Value → Replacement
 by a v = record { at = a; value = v }
@@ -28,29 +27,10 @@ lower = record { name = codes "lower"; own = by b3 (Logical false) ∷ []; base 
 abbrev lowest : Scenario
 lowest = with_own lower (by b1 (Logical false) ∷ [])
 
--- what low puts in stands beside lower's own
-beside : effective (low ∷ lower ∷ []) (Some (codes "lower")) ≡ by b1 (Logical true) ∷ by b3 (Logical false) ∷ []
-unfolding chain
-beside = refl
-
 -- of one cell the scenario's own replacement counts, not that of its base scenario
 overrides : effective (low ∷ lowest ∷ []) (Some (codes "lower")) ≡ by b1 (Logical false) ∷ by b3 (Logical false) ∷ []
 unfolding chain
 overrides = refl
-
--- with its own taken away, that of the base scenario counts again
-taken_away : effective (low ∷ without_own lowest b1 ∷ []) (Some (codes "lower")) ≡ by b1 (Logical true) ∷ by b3 (Logical false) ∷ []
-unfolding chain
-taken_away = refl
-
--- low can't be based on lower, which is based on it
-loop : would_loop (low ∷ lower ∷ []) (codes "low") (Some (codes "lower")) ≡ true
-unfolding chain
-loop = refl
-
--- low is a base scenario, and lower isn't
-bases : (is_base (low ∷ lower ∷ []) (codes "low") ≡ true) × (is_base (low ∷ lower ∷ []) (codes "lower") ≡ false)
-bases = (refl, refl)
 
 -- a changed scenario keeps its place
 in_its_place : with_scenario (lower ∷ low ∷ []) lowest ≡ lowest ∷ low ∷ []
