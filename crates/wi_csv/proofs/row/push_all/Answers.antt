@@ -1,4 +1,4 @@
-use Rattle.wi_csv.proofs.Growth.{starts_trans}
+use Rattle.std.proofs.Transfers.{starts_with_trans}
 use Rattle.wi_csv.proofs.Joined.{written_more, comma_more, row_done}
 use Rattle.wi_csv.proofs.row.push_all.Goals as goal
 
@@ -11,7 +11,7 @@ loop-field-preserved g c =
     record {
       written = written_more text fields i c.field-item.result _ _ _ _ _ c.loop-field-test.true c.field-item.is old.written old.separator c.as_slice.ensures c.in_ok-push_field.ensures.ok;
       separator = comma_more text fields i c.field-item.result c.loop-field-test.true c.field-item.is;
-      kept = starts_trans _ _ _ c.push_field.ensures.kept old.kept;
+      kept = starts_with_trans _ _ _ c.push_field.ensures.kept old.kept;
     }
 
 pub returns-clause-ok : goal.returns-clause-ok
