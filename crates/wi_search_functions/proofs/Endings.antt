@@ -21,7 +21,7 @@ use Rattle.wi_standard_functions.specs.Matching.{sought_for}
 use Rattle.wi_standard_functions.specs.Steps.{◌>>=◌, and_then}
 use Rattle.wi_search_functions.specs.declared.halt.Halt.{Halt}
 use Rattle.wi_search_functions.specs.declared.halt.Halt.TheVariants.{Error, Stop}
-use Rattle.wi_search_functions.specs.Inner.Gives.{WhateverHeld, Gives, Finds, Places, IsPlacedIn}
+use Rattle.wi_search_functions.specs.Inner.Giving.{WhateverHeld, Agrees, Finds, Places, IsPlacedIn}
 use Rattle.wi_search_functions.specs.Inner.Lines.{height, width}
 use Rattle.wi_search_functions.proofs.Asked.{itself, fault, sought_or_zero}
 use Rattle.wi_search_functions.proofs.FirstLines.{within_from, narrow, row_of_place, column_of_place}
@@ -29,9 +29,9 @@ use Rattle.wi_search_functions.proofs.Places.{cell_at}
 
 -- ---- at the exit of a `?`
 
-pub gives_so : {A B : Type 0} (known : ℕ → Option Value) (P : ℕ → Type 0) (view : A → B) (asked : (ℕ → Value) → Result B ErrorKind) (r : Result A Halt) (h : Halt) → IsErrAnd r (λ y. y ≡ h) → Gives {A = A} {B = B} known P view asked (Err h) → Gives {A = A} {B = B} known P view asked r
+pub gives_so : {A B : Type 0} (known : ℕ → Option Value) (P : ℕ → Type 0) (view : A → B) (asked : (ℕ → Value) → Result B ErrorKind) (r : Result A Halt) (h : Halt) → IsErrAnd r (λ y. y ≡ h) → Agrees {A = A} {B = B} known P view asked (Err h) → Agrees {A = A} {B = B} known P view asked r
 gives_so known P view asked (Ok x) h k g = absurd k
-gives_so {A} {B} known P view asked (Err y) h k g = subst (λ (z : Halt). Gives {A = A} {B = B} known P view asked (Err z)) (sym k) g
+gives_so {A} {B} known P view asked (Err y) h k g = subst (λ (z : Halt). Agrees {A = A} {B = B} known P view asked (Err z)) (sym k) g
 
 pub finds_so : (known : ℕ → Option Value) (args : List given.Argument) (f : List Argument → Value) (r : Result ℕ Halt) (h : Halt) → IsErrAnd r (λ y. y ≡ h) → Finds known args f (Err h) → Finds known args f r
 finds_so known args f (Ok x) h k g = absurd k
@@ -46,26 +46,26 @@ missing_too P Q f (stop.TheVariants.Missing c) h = f c h
 missing_too P Q f stop.TheVariants.Memory h = tt
 
 pub passes_on : {A B C D : Type 0} (known : ℕ → Option Value) (P : ℕ → Type 0) (view : A → B) (other : C → D) (asked : (ℕ → Value) → Result B ErrorKind) (asks : (ℕ → Value) → Result D ErrorKind) (h : Halt) →
-    ((cells : ℕ → Value) (e : ErrorKind) → asked cells ≡ Err e → asks cells ≡ Err e) → Gives {A = A} {B = B} known P view asked (Err h) → Gives {A = C} {B = D} known P other asks (Err h)
+    ((cells : ℕ → Value) (e : ErrorKind) → asked cells ≡ Err e → asks cells ≡ Err e) → Agrees {A = A} {B = B} known P view asked (Err h) → Agrees {A = C} {B = D} known P other asks (Err h)
 passes_on known P view other asked asks (Error e) k g = λ cells a. k cells e (g cells a)
 passes_on known P view other asked asks (Stop s) k g = g
 
 pub ended : {A B : Type 0} (known : ℕ → Option Value) (args : List given.Argument) (f : List Argument → Value) (P : ℕ → Type 0) (view : A → B) (asked : (ℕ → Value) → Result B ErrorKind) (h : Halt) →
     ((c : ℕ) → P c → IsMissing known args c) → ((cells : ℕ → Value) → KnownAgrees known cells → (e : ErrorKind) → asked cells ≡ Err e → f (arguments_in cells args) ≡ Fault e) →
-    Gives {A = A} {B = B} known P view asked (Err h) → Finds known args f (Err h)
+    Agrees {A = A} {B = B} known P view asked (Err h) → Finds known args f (Err h)
 ended known args f P view asked (Error e) m k g = λ cells a. k cells a e (g cells a)
 ended known args f P view asked (Stop s) m k g = missing_too P (IsMissing known args) m s g
 
 pub placing_ended : {A B : Type 0} (known : ℕ → Option Value) (args : List given.Argument) (f : List Argument → Value) (P : ℕ → Type 0) (view : A → B) (asked : (ℕ → Value) → Result B ErrorKind) (h : Halt) →
     ((c : ℕ) → P c → IsMissing known args c) → ((cells : ℕ → Value) → KnownAgrees known cells → (e : ErrorKind) → asked cells ≡ Err e → f (arguments_in cells args) ≡ Fault e) →
-    Gives {A = A} {B = B} known P view asked (Err h) → Places known args f (Err h)
+    Agrees {A = A} {B = B} known P view asked (Err h) → Places known args f (Err h)
 placing_ended known args f P view asked (Error e) m k g = λ cells a. k cells a e (g cells a)
 placing_ended known args f P view asked (Stop s) m k g = missing_too P (IsMissing known args) m s g
 
 -- from a place that is given to the function's
 pub placed : (known : ℕ → Option Value) (args : List given.Argument) (f : List Argument → Value) (P : ℕ → Type 0) (asked : (ℕ → Value) → Result ℕ ErrorKind) (r : Result ℕ Halt) →
     ((c : ℕ) → P c → IsMissing known args c) → ((cells : ℕ → Value) → KnownAgrees known cells → f (arguments_in cells args) ≡ (asked cells >>= (λ i. whole_value (i + 1)))) →
-    Gives {A = ℕ} {B = ℕ} known P (λ i. i) asked r → Places known args f r
+    Agrees {A = ℕ} {B = ℕ} known P (λ i. i) asked r → Places known args f r
 placed known args f P asked (Ok i) m k g = λ cells a. k cells a ∙ ap (λ (o : Result ℕ ErrorKind). o >>= (λ i. whole_value (i + 1))) (g cells a)
 placed known args f P asked (Err (Error e)) m k g = λ cells a. k cells a ∙ ap (λ (o : Result ℕ ErrorKind). o >>= (λ i. whole_value (i + 1))) (g cells a)
 placed known args f P asked (Err (Stop s)) m k g = missing_too P (IsMissing known args) m s g
@@ -82,8 +82,8 @@ placed_same r f g (Err x) e h = λ cells. e cells ∙ h cells
 -- ---- what is taken for a number or a truth value
 
 pub taken_halts : {B : Type 0} (known : ℕ → Option Value) (args : List given.Argument) (i : ℕ) (default : Value) (convert : Value → Result B ErrorKind) (r : Result B Halt) (h : Halt) →
-    ((e : ErrorKind) → convert (Fault e) ≡ Err e) → IsErrAnd r (λ y. y ≡ h) → Gives {A = Bor Value} {B = Value} known (IsMissing known args) (λ v. v.now) (λ cells. no_error (value_or default (arguments_in cells args) i)) (Err h) →
-    Gives {A = B} {B = B} known (IsMissing known args) (λ x. x) (λ cells. convert (value_or default (arguments_in cells args) i)) r
+    ((e : ErrorKind) → convert (Fault e) ≡ Err e) → IsErrAnd r (λ y. y ≡ h) → Agrees {A = Bor Value} {B = Value} known (IsMissing known args) (λ v. v.now) (λ cells. no_error (value_or default (arguments_in cells args) i)) (Err h) →
+    Agrees {A = B} {B = B} known (IsMissing known args) (λ x. x) (λ cells. convert (value_or default (arguments_in cells args) i)) r
 taken_halts {B} known args i default convert r h c k g =
     gives_so {A = B} {B = B} known (IsMissing known args) (λ x. x) (λ cells. convert (value_or default (arguments_in cells args) i)) r h k
     (passes_on {A = Bor Value} {B = Value} {C = B} {D = B} known (IsMissing known args) (λ v. v.now) (λ x. x) (λ cells. no_error (value_or default (arguments_in cells args) i)) (λ cells. convert (value_or default (arguments_in cells args) i)) h
@@ -91,14 +91,14 @@ taken_halts {B} known args i default convert r h c k g =
 
 pub taken_fails : {B : Type 0} (known : ℕ → Option Value) (args : List given.Argument) (i : ℕ) (default : Value) (convert : Value → Result B ErrorKind) (r : Result B Halt) (v : Value) (e : ErrorKind) →
     IsErrAnd r (λ y. y ≡ Error e) → WhateverHeld known (λ cells. no_error (value_or default (arguments_in cells args) i) ≡ Ok v) → Err e ≡ convert v →
-    Gives {A = B} {B = B} known (IsMissing known args) (λ x. x) (λ cells. convert (value_or default (arguments_in cells args) i)) r
+    Agrees {A = B} {B = B} known (IsMissing known args) (λ x. x) (λ cells. convert (value_or default (arguments_in cells args) i)) r
 taken_fails {B} known args i default convert r v e k g t =
     gives_so {A = B} {B = B} known (IsMissing known args) (λ x. x) (λ cells. convert (value_or default (arguments_in cells args) i)) r (Error e) k
     (λ cells a. ap convert (itself (value_or default (arguments_in cells args) i) v (g cells a)) ∙ sym t)
 
 pub sought_halts : (known : ℕ → Option Value) (args : List given.Argument) (i : ℕ) (zero : Value) (r : Result (Bor Value) Halt) (h : Halt) →
-    zero ≡ Number zero_number → IsErrAnd r (λ y. y ≡ h) → Gives {A = Bor Value} {B = Value} known (IsMissing known args) (λ v. v.now) (λ cells. no_error (value_or zero (arguments_in cells args) i)) (Err h) →
-    Gives {A = Bor Value} {B = Value} known (IsMissing known args) (λ v. v.now) (λ cells. and_then (λ v. Ok (sought_for v)) (no_error (value_at (arguments_in cells args) i))) r
+    zero ≡ Number zero_number → IsErrAnd r (λ y. y ≡ h) → Agrees {A = Bor Value} {B = Value} known (IsMissing known args) (λ v. v.now) (λ cells. no_error (value_or zero (arguments_in cells args) i)) (Err h) →
+    Agrees {A = Bor Value} {B = Value} known (IsMissing known args) (λ v. v.now) (λ cells. and_then (λ v. Ok (sought_for v)) (no_error (value_at (arguments_in cells args) i))) r
 sought_halts known args i zero r h z k g =
     gives_so {A = Bor Value} {B = Value} known (IsMissing known args) (λ v. v.now) (λ cells. and_then (λ v. Ok (sought_for v)) (no_error (value_at (arguments_in cells args) i))) r h k
     (passes_on {A = Bor Value} {B = Value} {C = Bor Value} {D = Value} known (IsMissing known args) (λ v. v.now) (λ v. v.now) (λ cells. no_error (value_or zero (arguments_in cells args) i)) (λ cells. and_then (λ v. Ok (sought_for v)) (no_error (value_at (arguments_in cells args) i))) h

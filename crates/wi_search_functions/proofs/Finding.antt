@@ -14,7 +14,7 @@ use Rattle.wi_lookup.specs.Arguments.{KnownAgrees}
 use Rattle.wi_standard_functions.specs.Matching.{is_match}
 use Rattle.wi_search_functions.specs.declared.rule.Rule.{Rule}
 use Rattle.wi_search_functions.specs.declared.rule.Rule.TheVariants.{FirstEqual, LastAtMost, LastAtLeast}
-use Rattle.wi_search_functions.specs.Inner.Gives.{WhateverHeld}
+use Rattle.wi_search_functions.specs.Inner.Giving.{WhateverHeld}
 use Rattle.wi_search_functions.specs.Inner.Lines.{is_line, steps}
 use Rattle.wi_search_functions.specs.Inner.Search.{position_by}
 use Rattle.wi_search_functions.proofs.Lines.{line_numbered}

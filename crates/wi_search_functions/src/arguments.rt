@@ -8,7 +8,7 @@ ghost use Rattle.wi_standard_functions.specs.FirstError.{no_error};
 ghost use Rattle.wi_standard_functions.specs.Matching.{sought_for};
 ghost use Rattle.wi_standard_functions.specs.Steps.{and_then};
 ghost use Rattle.wi_values.specs.declared.value.Value.TheVariants.{Empty, Number, Logical};
-ghost use Rattle.wi_search_functions.specs.Inner.Gives.{Gives, area_at};
+ghost use Rattle.wi_search_functions.specs.Inner.Giving.{Agrees, area_at};
 
 use crate::halt::Halt;
 use wi_fraction::Fraction;
@@ -34,7 +34,7 @@ fn value_or<'a, L: Lookup>(
     place: usize,
     lookup: &'a L,
 ) -> Result<&'a Value, Halt>
-    ensures { Gives (L.known_cell lookup.now) (IsMissing (L.known_cell lookup.now) arguments.now) (λ v. v.now) (λ cells. no_error (value_or default.now (arguments_in cells arguments.now) place)) result }
+    ensures { Agrees (L.known_cell lookup.now) (IsMissing (L.known_cell lookup.now) arguments.now) (λ v. v.now) (λ cells. no_error (value_or default.now (arguments_in cells arguments.now) place)) result }
 {
     let value = match arguments.get(place) {
         Some(argument) => argument.value(lookup)??,
@@ -54,7 +54,7 @@ pub(crate) fn sought_at<'a, L: Lookup>(
     lookup: &'a L,
 ) -> Result<&'a Value, Halt>
     requires { zero.now ≡ Number zero_number }
-    ensures { Gives (L.known_cell lookup.now) (IsMissing (L.known_cell lookup.now) arguments.now) (λ v. v.now) (λ cells. and_then (λ v. Ok (sought_for v)) (no_error (value_at (arguments_in cells arguments.now) place))) result }
+    ensures { Agrees (L.known_cell lookup.now) (IsMissing (L.known_cell lookup.now) arguments.now) (λ v. v.now) (λ cells. and_then (λ v. Ok (sought_for v)) (no_error (value_at (arguments_in cells arguments.now) place))) result }
 {
     match value_or(zero, arguments, place, lookup)? {
         Value::Empty => Ok(zero),
@@ -68,7 +68,7 @@ pub(crate) fn whole_at<L: Lookup>(
     place: usize,
     lookup: &L,
 ) -> Result<i128, Halt>
-    ensures { Gives (L.known_cell lookup.now) (IsMissing (L.known_cell lookup.now) arguments.now) (λ k. k) (λ cells. to_whole (value_at (arguments_in cells arguments.now) place)) result }
+    ensures { Agrees (L.known_cell lookup.now) (IsMissing (L.known_cell lookup.now) arguments.now) (λ k. k) (λ cells. to_whole (value_at (arguments_in cells arguments.now) place)) result }
 {
     let default = Value::Empty;
     let value = value_or(&default, arguments, place, lookup)?;
@@ -82,7 +82,7 @@ pub(crate) fn number_or<L: Lookup>(
     place: usize,
     lookup: &L,
 ) -> Result<Fraction, Halt>
-    ensures { Gives (L.known_cell lookup.now) (IsMissing (L.known_cell lookup.now) arguments.now) (λ x. x) (λ cells. to_number (value_or (Number default) (arguments_in cells arguments.now) place)) result }
+    ensures { Agrees (L.known_cell lookup.now) (IsMissing (L.known_cell lookup.now) arguments.now) (λ x. x) (λ cells. to_number (value_or (Number default) (arguments_in cells arguments.now) place)) result }
 {
     let default = Value::Number(default);
     let value = value_or(&default, arguments, place, lookup)?;
@@ -96,7 +96,7 @@ pub(crate) fn logical_or<L: Lookup>(
     place: usize,
     lookup: &L,
 ) -> Result<bool, Halt>
-    ensures { Gives (L.known_cell lookup.now) (IsMissing (L.known_cell lookup.now) arguments.now) (λ b. b) (λ cells. to_logical (value_or (Logical default) (arguments_in cells arguments.now) place)) result }
+    ensures { Agrees (L.known_cell lookup.now) (IsMissing (L.known_cell lookup.now) arguments.now) (λ b. b) (λ cells. to_logical (value_or (Logical default) (arguments_in cells arguments.now) place)) result }
 {
     let default = Value::Logical(default);
     let value = value_or(&default, arguments, place, lookup)?;

@@ -5,7 +5,7 @@ ghost use Rattle.wi_lookup.specs.Arguments.{arguments_in, IfMissing, IsMissing, 
 ghost use Rattle.wi_standard_functions.specs.Arguments.{region_of};
 ghost use Rattle.wi_standard_functions.specs.Lookup.{index_along, index_by_both, index_value, nth_cell, nth_cell_along};
 ghost use Rattle.wi_values.specs.declared.value.Value.{Value as Values};
-ghost use Rattle.wi_search_functions.specs.Inner.Gives.{Finds, IsPlacedIn};
+ghost use Rattle.wi_search_functions.specs.Inner.Giving.{Finds, IsPlacedIn};
 
 use crate::arguments::{area_at, whole_at};
 use crate::halt::Halt;

@@ -6,7 +6,7 @@ ghost use Rattle.wi_lookup.specs.declared.argument.Argument as given;
 ghost use Rattle.wi_standard_functions.specs.Arguments.{Argument};
 ghost use Rattle.wi_standard_functions.specs.Arithmetic.{whole_value};
 ghost use Rattle.wi_values.specs.declared.value.Value.{Value as Values};
-ghost use Rattle.wi_search_functions.specs.Inner.Gives.{Finds, Places};
+ghost use Rattle.wi_search_functions.specs.Inner.Giving.{Finds, Places};
 
 use crate::halt::Halt;
 use std::alloc::Global;

@@ -3,7 +3,7 @@
 ghost use Rattle.std.specs.Prelude.{◌≡◌, ◌<◌, length, map, ok_or, true, IfOk};
 ghost use Rattle.wi_values.specs.Address.{cells_of};
 ghost use Rattle.wi_values.specs.declared.value.ErrorKind.TheVariants.{NotAvailable};
-ghost use Rattle.wi_search_functions.specs.Inner.Gives.{Gives, IsMissingIn};
+ghost use Rattle.wi_search_functions.specs.Inner.Giving.{Agrees, IsMissingIn};
 ghost use Rattle.wi_search_functions.specs.Inner.Lines.{is_line};
 ghost use Rattle.wi_standard_functions.specs.Matching.{is_match};
 ghost use Rattle.wi_search_functions.specs.Inner.Search.{is_settled, passes, position_by};
@@ -77,7 +77,7 @@ pub(crate) fn place_along<L: Lookup>(
 ) -> Result<u32, Halt>
     requires { is_line line ≡ true }
     ensures within { IfOk result (λ i. i < length (cells_of line)) }
-    ensures place { Gives (L.known_cell lookup.now) (IsMissingIn (L.known_cell lookup.now) line) (λ i. i) (λ cells. ok_or (position_by rule sought.now (map cells (cells_of line))) NotAvailable) result }
+    ensures place { Agrees (L.known_cell lookup.now) (IsMissingIn (L.known_cell lookup.now) line) (λ i. i) (λ cells. ok_or (position_by rule sought.now (map cells (cells_of line))) NotAvailable) result }
 {
     let mut search = Search {
         sought,

@@ -5,7 +5,7 @@ ghost use Rattle.wi_lookup.specs.Arguments.{IfMissing, IsMissing, IsOfArguments}
 ghost use Rattle.wi_standard_functions.specs.Convert.{zero_number};
 ghost use Rattle.wi_standard_functions.specs.Lookup.{h_lookup_value, v_lookup_value};
 ghost use Rattle.wi_values.specs.declared.value.Value.TheVariants.{Number};
-ghost use Rattle.wi_search_functions.specs.Inner.Gives.{Finds};
+ghost use Rattle.wi_search_functions.specs.Inner.Giving.{Finds};
 
 use crate::arguments::{area_at, logical_or, sought_at, whole_at};
 use crate::halt::Halt;

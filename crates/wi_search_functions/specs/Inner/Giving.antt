@@ -19,10 +19,10 @@ abbrev pub WhateverHeld : (ℕ → Option Value) → ((ℕ → Value) → Type 0
 WhateverHeld known P = (cells : ℕ → Value) → KnownAgrees known cells → P cells
 
 -- what a step gives, as `view` sees it, or its error; where it stops, this is so of the cell that is missing
-abbrev pub Gives : {A B : Type 0} → (ℕ → Option Value) → (ℕ → Type 0) → (A → B) → ((ℕ → Value) → Result B ErrorKind) → Result A Halt → Type 0
-Gives known P view step (Ok x) = WhateverHeld known (λ cells. step cells ≡ Ok (view x))
-Gives known P view step (Err (Error e)) = WhateverHeld known (λ cells. step cells ≡ Err e)
-Gives known P view step (Err (Stop s)) = IfMissing s P
+abbrev pub Agrees : {A B : Type 0} → (ℕ → Option Value) → (ℕ → Type 0) → (A → B) → ((ℕ → Value) → Result B ErrorKind) → Result A Halt → Type 0
+Agrees known P view step (Ok x) = WhateverHeld known (λ cells. step cells ≡ Ok (view x))
+Agrees known P view step (Err (Error e)) = WhateverHeld known (λ cells. step cells ≡ Err e)
+Agrees known P view step (Err (Stop s)) = IfMissing s P
 
 -- the cell whose value a function gives, to which one of the arguments refers, or the function's error
 abbrev pub Finds : (ℕ → Option Value) → List given.Argument → (List Argument → Value) → Result ℕ Halt → Type 0
@@ -33,12 +33,12 @@ Finds known args f (Err (Stop s)) = IfMissing s (IsMissing known args)
 -- ---- arguments
 
 -- the rectangle that an argument refers to
-abbrev pub area_of : given.Argument → Result Area ErrorKind
-area_of (given.TheVariants.Reference r) = Ok r
-area_of (given.TheVariants.Value v) = Err BadValue
+abbrev pub area_referred : given.Argument → Result Area ErrorKind
+area_referred (given.TheVariants.Reference r) = Ok r
+area_referred (given.TheVariants.Value v) = Err BadValue
 
 abbrev pub area_at : List given.Argument → ℕ → Result Area ErrorKind
-area_at args i = option_map_or area_of (slice_get args i) (Err BadValue)
+area_at args i = option_map_or area_referred (slice_get args i) (Err BadValue)
 
 -- the cell isn't known, and lies in the rectangle
 abbrev pub IsMissingIn : (ℕ → Option Value) → Area → ℕ → Type 0

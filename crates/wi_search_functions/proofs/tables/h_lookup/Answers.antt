@@ -11,7 +11,7 @@ use Rattle.wi_standard_functions.specs.Lookup.{place_among, first_row_of, h_look
 use Rattle.wi_values.specs.Address.{cells_of, is_within}
 use Rattle.wi_values.specs.declared.value.ErrorKind.TheVariants.{NotAvailable}
 use Rattle.wi_search_functions.specs.declared.halt.Halt.TheVariants.{Error}
-use Rattle.wi_search_functions.specs.Inner.Gives.{IsMissingIn}
+use Rattle.wi_search_functions.specs.Inner.Giving.{IsMissingIn}
 use Rattle.wi_search_functions.specs.Inner.Lines.{height, width}
 use Rattle.wi_search_functions.specs.Inner.Search.{position_by}
 use Rattle.wi_search_functions.proofs.Asked.{no_region, refers_within, region_is}
