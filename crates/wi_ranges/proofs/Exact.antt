@@ -1,9 +1,8 @@
 -- What compares as equal is one.
-use Rattle.std.proofs.Common.{◌≡◌, ℕ, true, ap, refl, sym}
-use Rattle.std.specs.Ordering.{nat_cmp, ordering_then}
-use Rattle.std.specs.Cmp.{IsTotalOrder, nat_cmp_is, nat_cmp_total}
-use Rattle.std.proofs.lemmas.Cmp.{on_total, then_total}
-use Rattle.std.specs.declared.cmp.Ordering.TheVariants.{Equal}
+use Rattle.std.proofs.Common.{◌≡◌, ℕ, true, ap}
+use Rattle.std.specs.Ordering.{nat_cmp, ordering_then, is_eq}
+use Rattle.std.specs.Cmp.{IsTotalOrder, nat_cmp_total}
+use Rattle.std.proofs.lemmas.Cmp.{on_total, then_total, tied_itself}
 use Rattle.std.specs.BTreeMap.{is_at}
 use Rattle.std.proofs.lemmas.Map.Lookups.{CmpEqualImpliesEq, exact_unsigned, exact_pairs}
 use Rattle.std.proofs.lemmas.Map.Views.{tells_apart}
@@ -38,18 +37,6 @@ same_is p q h = tells_apart exact_pair p q h
 pub same_piece : (x y : Piece) → is_at (piece_cmp x) y ≡ true → x ≡ y
 same_piece x y h = tells_apart exact_piece x y h
 
-nat_same : (a : ℕ) → nat_cmp a a ≡ Equal
-nat_same a = sym (nat_cmp_is a a Equal refl)
-
-pub same_self : (p : RangePair) → is_same p p ≡ true
-same_self p = rw (nat_same p.first, nat_same p.last, nat_same p.reader)
-
-pub block_self : (x : Block) → is_at (block_cmp x) x ≡ true
-block_self x = rw (nat_same x.level, nat_same x.first)
-
-pub piece_self : (q : Piece) → is_at (piece_cmp q) q ≡ true
-piece_self q = rw (nat_same q.0.level, nat_same q.0.first, nat_same q.1.pair.first, nat_same q.1.pair.last, nat_same q.1.pair.reader, nat_same q.1.number)
-
 -- ---- the order of pieces is total
 
 block_total : IsTotalOrder block_cmp
@@ -63,3 +50,12 @@ numbered_total = then_total (on_total (λ (m : Numbered). m.pair) pair_total) (o
 
 pub piece_total : IsTotalOrder piece_cmp
 piece_total = then_total (on_total (λ (q : Piece). q.0) block_total) (on_total (λ (q : Piece). q.1) numbered_total)
+
+pub same_self : (p : RangePair) → is_same p p ≡ true
+same_self p = ap is_eq (tied_itself pair_total p)
+
+pub block_self : (x : Block) → is_at (block_cmp x) x ≡ true
+block_self x = ap is_eq (tied_itself block_total x)
+
+pub piece_self : (q : Piece) → is_at (piece_cmp q) q ≡ true
+piece_self q = ap is_eq (tied_itself piece_total q)

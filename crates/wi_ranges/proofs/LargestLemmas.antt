@@ -1,6 +1,7 @@
 -- The blocks of a cut are the largest.
-use Rattle.std.proofs.Common.{◌≡◌, ℕ, zero, suc, ◌+◌, ◌-◌, ◌*◌, ◌^◌, ◌<◌, ◌≤◌, Bool, true, false, ◌&&◌, ◌||◌, List, [], ◌∷◌, refl, sym, ap, subst, ◌∙◌, arith, ⊎_elim, ◌⊎◌, inl, inr, nat_le}
+use Rattle.std.proofs.Common.{◌≡◌, ℕ, zero, suc, ◌+◌, ◌-◌, ◌*◌, ◌^◌, ◌<◌, ◌≤◌, true, false, ◌&&◌, List, [], ◌∷◌, refl, sym, ap, subst, ◌∙◌, arith, ⊎_elim, ◌⊎◌, inl, inr, nat_le}
 use Rattle.std.specs.BTreeMap.{is_at}
+use Rattle.std.proofs.Math.Bool.{or-false}
 use Rattle.std.proofs.Math.Nat.{pow-succ', mul_assoc, add-mul}
 use Rattle.std.proofs.lemmas.Nat.{pow_pos}
 use Rattle.std.proofs.lemmas.Bool.{true≢false, or_cases, cases_Bool, cases_lt, cases_order}
@@ -15,11 +16,7 @@ use Rattle.wi_ranges.proofs.Exact.{exact_block}
 use Rattle.wi_ranges.proofs.Found.{halves}
 
 among_one : (x y : Block) → is_among x (y ∷ []) ≡ true → y ≡ x
-among_one x y h = tells_apart exact_block y x (by (is_at (block_cmp y) x) h)
-  where
-    by : (b : Bool) → (b || false) ≡ true → b ≡ true
-    by true e = refl
-    by false e = e
+among_one x y h = tells_apart exact_block y x (sym (or-false (is_at (block_cmp y) x)) ∙ h)
 
 -- where a block of a cut comes from
 abbrev pub Whole : ℕ → ℕ → ℕ → ℕ → Block → Type 0

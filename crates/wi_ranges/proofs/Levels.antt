@@ -1,5 +1,6 @@
 -- Levels of blocks at which no piece stands.
 use Rattle.std.proofs.Common.{◌≡◌, ◌<◌, ◌≤◌, ◌||◌, ℕ, Bool, false, List, [], ◌∷◌, All, get_or, refl, sym, ap, ◌∙◌, arith}
+use Rattle.std.specs.Cmp.{nat_cmp_is}
 use Rattle.std.specs.Ordering.{nat_cmp, ordering_then, is_lt}
 use Rattle.std.specs.declared.cmp.Ordering.{Ordering}
 use Rattle.std.specs.declared.cmp.Ordering.TheVariants.{Less, Equal, Greater}
@@ -23,7 +24,7 @@ pub up_to_last : (pieces : List Piece) (k : Piece) → All (λ (q : Piece). is_l
 up_to_last pieces k h i x less = not_less k.0.level _ _ _ (h i x less)
 
 greater : (a b : ℕ) → b < a → nat_cmp a b ≡ Greater
-greater a b h = grind (arith, nat_tests)
+greater a b h = sym (nat_cmp_is a b Greater h)
 
 apart : (x : Block) (a r : ℕ) (q : Piece) → q.0.level < x.level → reads_at (x ∷ []) a r q ≡ false
 apart x a r q h = rw (greater x.level q.0.level h) refl
