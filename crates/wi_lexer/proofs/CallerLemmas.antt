@@ -9,7 +9,7 @@ use Rattle.wi_lexer.specs.Runs.{blanks_len}
 use Rattle.wi_lexer.specs.Token.{NoToken, after_blanks}
 use Rattle.wi_lexer.specs.Inner.Token.{token_at}
 use Rattle.wi_lexer.specs.Inner.Inside.{Scan}
-use Rattle.wi_lexer.specs.Inner.Scan.{start_of, ahead, IsNextToken, IsDone, Gives}
+use Rattle.wi_lexer.specs.Inner.Scan.{start_of, ahead, IsNextToken, IsDone, Lexes}
 use Rattle.wi_lexer.specs.Tokens.{Tokens, no_tokens, bad_token, then_tokens}
 use Rattle.wi_lexer.specs.Inner.Tokens.{tokens_from, tokens_ahead, tokens_within, tokens}
 use Rattle.wi_lexer.proofs.TokenLemmas.{token_some, token_sound, token_complete, none_found}
@@ -56,14 +56,14 @@ tokens_are (b ∷ bs) =
 -- ---- what each answer of `next_token` tells
 
 -- The answer in the form in which a `match` on it tells it.
-pub gives_token : (old new : Scan) (o : Option (Result Token BadToken)) (r : Result Token BadToken) (t : Token) → Gives old o new → o ≡ Some r → r ≡ Ok t → IsNextToken old t new
-gives_token old new o r t h some ok = subst (λ x. Gives old (Some x) new) ok (subst (λ x. Gives old x new) some h)
+pub gives_token : (old new : Scan) (o : Option (Result Token BadToken)) (r : Result Token BadToken) (t : Token) → Lexes old o new → o ≡ Some r → r ≡ Ok t → IsNextToken old t new
+gives_token old new o r t h some ok = subst (λ x. Lexes old (Some x) new) ok (subst (λ x. Lexes old x new) some h)
 
-pub gives_bad : (old new : Scan) (o : Option (Result Token BadToken)) (r : Result Token BadToken) (b : BadToken) → Gives old o new → o ≡ Some r → r ≡ Err b → (ahead old ≡ [] → ⊥) × NoToken (ahead old) × IsDone old new
-gives_bad old new o r b h some err = subst (λ x. Gives old (Some x) new) err (subst (λ x. Gives old x new) some h)
+pub gives_bad : (old new : Scan) (o : Option (Result Token BadToken)) (r : Result Token BadToken) (b : BadToken) → Lexes old o new → o ≡ Some r → r ≡ Err b → (ahead old ≡ [] → ⊥) × NoToken (ahead old) × IsDone old new
+gives_bad old new o r b h some err = subst (λ x. Lexes old (Some x) new) err (subst (λ x. Lexes old x new) some h)
 
-pub gives_end : (old new : Scan) (o : Option (Result Token BadToken)) → Gives old o new → o ≡ None → (ahead old ≡ []) × IsDone old new
-gives_end old new o h e = subst (λ x. Gives old x new) e h
+pub gives_end : (old new : Scan) (o : Option (Result Token BadToken)) → Lexes old o new → o ≡ None → (ahead old ≡ []) × IsDone old new
+gives_end old new o h e = subst (λ x. Lexes old x new) e h
 
 -- a token, as the tokens of a text list it
 abbrev pub listed : Token → Kind × List ℕ

@@ -1,7 +1,7 @@
 //! The tokens of a text, one after another.
 
 ghost use Rattle.std.specs.Prelude.{◌≡◌};
-ghost use Rattle.wi_lexer.specs.Inner.Scan.{Gives, start_of};
+ghost use Rattle.wi_lexer.specs.Inner.Scan.{Lexes, start_of};
 
 use crate::runs::blanks_len;
 use crate::token::{Kind, token_at};
@@ -55,7 +55,7 @@ impl<'a> Lexer<'a> {
 
     /// The next token; an error at the first bad one. None at the end, and after a bad token.
     pub fn next_token(&mut self) -> Option<Result<Token<'a>, BadToken>>
-        ensures { Gives self.old result self.new }
+        ensures { Lexes self.old result self.new }
     {
         let blanks = blanks_len(self.rest.as_bytes());
         let (_blank, ahead) = self.rest.split_at(blanks);

@@ -26,7 +26,7 @@ pub record IsDone (old new : Scan) : Type 0 where
   pub rest : new.rest ≡ []
   pub source : new.source ≡ old.source
 
-abbrev pub Gives : Scan → Option (Result Token BadToken) → Scan → Type 0
-Gives old None new = (ahead old ≡ []) × IsDone old new
-Gives old (Some (Ok t)) new = IsNextToken old t new
-Gives old (Some (Err e)) new = (ahead old ≢ []) × NoToken (ahead old) × IsDone old new
+abbrev pub Lexes : Scan → Option (Result Token BadToken) → Scan → Type 0
+Lexes old None new = (ahead old ≡ []) × IsDone old new
+Lexes old (Some (Ok t)) new = IsNextToken old t new
+Lexes old (Some (Err e)) new = (ahead old ≢ []) × NoToken (ahead old) × IsDone old new
