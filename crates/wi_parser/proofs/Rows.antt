@@ -1,6 +1,5 @@
--- Worked rows: what the definitions give.
+-- A what-if of two inputs, read.
 use Rattle.std.specs.Prelude.{◌≡◌, ℕ, false, [], ◌∷◌, Ok, codes, refl}
-use Rattle.wi_fraction.specs.Number.{Number}
 use Rattle.wi_values.specs.Address.{place}
 use Rattle.wi_values.specs.AddressReading.{address_at}
 use Rattle.wi_lexer.specs.Inner.Number.{number_len, decimal_len, decimals_len, signed_len, exponent_len}
@@ -12,18 +11,11 @@ use Rattle.wi_lexer.specs.Inner.Mark.{mark_at, two_byte_mark, one_byte_mark}
 use Rattle.wi_lexer.specs.Inner.Name.{name_len}
 use Rattle.wi_lexer.specs.Inner.Token.{token_at}
 use Rattle.wi_lexer.specs.Inner.Tokens.{tokens, tokens_within}
-use Rattle.wi_parser.specs.declared.expr.Operator.TheVariants.{Power}
-use Rattle.wi_parser.specs.declared.expr.Sign.TheVariants.{Minus}
 use Rattle.wi_parser.specs.declared.expr.Reference.{Reference}
-use Rattle.wi_parser.specs.Tree.{number, signed, percent, binary, what_if}
-use Rattle.wi_parser.specs.Symbol.{numeral, infix_mark, sign_mark, percent_mark}
+use Rattle.wi_parser.specs.Tree.{what_if}
 use Rattle.wi_parser.specs.Inner.Reader.{pair_at, what_if_at, atom, chain, line, expression}
 use Rattle.wi_parser.specs.Inner.FormulaText.{formula_symbols}
-use Rattle.wi_parser.specs.Inner.Reading.{judged, parsed}
-
-sign_before_percent_before_power : (x y : Number) → judged (sign_mark Minus ∷ numeral x ∷ percent_mark ∷ infix_mark Power ∷ numeral y ∷ []) ≡ Ok (binary Power (percent (signed Minus (number x))) (number y))
-unfolding atom chain line expression
-sign_before_percent_before_power x y = refl
+use Rattle.wi_parser.specs.Inner.Reading.{parsed}
 
 -- a reference to the cell at a row and a column, both counted from 0
 abbrev relative : ℕ → ℕ → Reference
