@@ -1,5 +1,6 @@
 -- Which cells are in rectangles, one and many.
-use Rattle.std.proofs.Common.{◌≡◌, ◌∙◌, ℕ, ◌+◌, ◌≤◌, ◌<◌, Bool, true, false, ◌||◌, ◌&&◌, List, [], length, take, get_or, Option, None, refl, ap, sym}
+use Rattle.std.proofs.Common.{◌≡◌, ◌∙◌, ℕ, ◌+◌, ◌≤◌, ◌<◌, ◌||◌, ◌&&◌, List, [], length, take, get_or, Option, None, refl, ap, sym}
+use Rattle.std.proofs.Math.Bool.{and-false, and_comm, and-or_distrib_left, and-or_distrib_right}
 use Rattle.std.proofs.lemmas.List.{take_all}
 use Rattle.std.proofs.lemmas.List.Folds.{list_any_more}
 use Rattle.wi_values.specs.Address.{Area, is_within}
@@ -7,33 +8,10 @@ use Rattle.wi_edit_log.specs.EditLog.{have_cell}
 use Rattle.wi_edit_log.specs.Inner.First.{IsFirst, in_both, in_each, in_one, sooner}
 use Rattle.wi_edit_log.proofs.First.{no_first, same_first, sooner_first}
 
--- ---- tests in a row
-
-false_on_right : (b : Bool) → (b && false) ≡ false
-false_on_right true = refl
-false_on_right false = refl
-
-over_or : (b c d : Bool) → (b && (c || d)) ≡ ((b && c) || (b && d))
-over_or true c d = refl
-over_or false c d = refl
-
-or_over : (b c d : Bool) → ((b || c) && d) ≡ ((b && d) || (c && d))
-or_over true true true = refl
-or_over true true false = refl
-or_over true false true = refl
-or_over true false false = refl
-or_over false c d = refl
-
-pub turn_and : (b c : Bool) → (b && c) ≡ (c && b)
-turn_and true true = refl
-turn_and true false = refl
-turn_and false true = refl
-turn_and false false = refl
-
 -- ---- one and some of the others
 
 pub in_none : (r : Area) → IsFirst (in_one r []) None
-in_none r = no_first (in_one r []) (λ a. false_on_right (is_within r a))
+in_none r = no_first (in_one r []) (λ a. and-false (is_within r a))
 
 -- one more of the others
 pub in_one_more : (r : Area) (areas : List Area) (i : ℕ) (s : Area) (o p q : Option ℕ) → i < length areas → s ≡ get_or areas i s → q ≡ sooner o p
@@ -41,7 +19,7 @@ pub in_one_more : (r : Area) (areas : List Area) (i : ℕ) (s : Area) (o p q : O
 in_one_more r areas i s o p q l at e h k =
     let more : (a : ℕ) → in_one r (take (i + 1) areas) a ≡ (in_one r (take i areas) a || in_both r s a) =
     λ a. ap (λ b. is_within r a && b) (list_any_more (λ t. is_within t a) areas i s l ∙ ap (λ t. have_cell (take i areas) a || is_within t a) (sym at))
-    ∙ over_or (is_within r a) (have_cell (take i areas) a) (is_within s a) in
+    ∙ and-or_distrib_left (is_within r a) (have_cell (take i areas) a) (is_within s a) in
     rw e (sooner_first (in_one r (take i areas)) (in_both r s) (in_one r (take (i + 1) areas)) o p more h k)
 
 -- all of the others
@@ -59,7 +37,7 @@ pub of_one_more : (areas others : List Area) (i : ℕ) (s : Area) (o p q : Optio
 of_one_more areas others i s o p q l at e h k =
     let more : (a : ℕ) → in_each (take (i + 1) areas) others a ≡ (in_each (take i areas) others a || in_one s others a) =
     λ a. ap (λ b. b && have_cell others a) (list_any_more (λ t. is_within t a) areas i s l ∙ ap (λ t. have_cell (take i areas) a || is_within t a) (sym at))
-    ∙ or_over (have_cell (take i areas) a) (is_within s a) (have_cell others a) in
+    ∙ and-or_distrib_right (have_cell (take i areas) a) (is_within s a) (have_cell others a) in
     rw e (sooner_first (in_each (take i areas) others) (in_one s others) (in_each (take (i + 1) areas) others) o p more h k)
 
 -- all of the first list
@@ -68,4 +46,4 @@ of_all areas others i o l h = rw (take_all i areas l) at h
 
 -- the lists may be turned
 pub turned : (areas others : List Area) (o : Option ℕ) → IsFirst (in_each areas others) o → IsFirst (in_each others areas) o
-turned areas others o = same_first (in_each areas others) (in_each others areas) o (λ a. turn_and (have_cell areas a) (have_cell others a))
+turned areas others o = same_first (in_each areas others) (in_each others areas) o (λ a. and_comm (have_cell areas a) (have_cell others a))
