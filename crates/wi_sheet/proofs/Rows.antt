@@ -15,12 +15,11 @@ use Rattle.wi_graph.specs.Circular.{circular}
 use Rattle.wi_graph.specs.Reach.{reaches, in_cone}
 use Rattle.wi_sheet.specs.CellValue.{value_within, cell_value}
 use Rattle.wi_sheet.specs.Shown.{shown}
-use Rattle.wi_sheet.specs.Demand.{reaching, with_what_if, demand_within, demand, different}
-use Rattle.wi_sheet.specs.TableEntry.{table_entry}
+use Rattle.wi_sheet.specs.Demand.{reaching, demand_within, demand}
 
 -- what is unfolded to compute on a sheet that is written out
 unfoldable on_literals : ⊤
-unfolding shown_text circular reaches value_within cell_value shown demand_within demand table_entry
+unfolding shown_text circular reaches value_within cell_value shown demand_within demand
 on_literals = tt
 
 abbrev a1 : ℕ
@@ -73,53 +72,20 @@ nested_what_if : shown sheet [] d1 ≡ Text (codes "x!")
 unfolding on_literals
 nested_what_if = refl
 
--- a scenario's replacement counts beneath a what-if that replaces another cell
-under_scenario : shown sheet (by a2 (codes "z") ∷ []) c1 ≡ Text (codes "z!")
-unfolding on_literals
-under_scenario = refl
-
--- and beneath an entry of a data table
-entry_under_scenario : table_entry sheet (by a2 (codes "z") ∷ []) b1 ((a1, a2) ∷ []) ≡ Text (codes "z!")
-unfolding on_literals
-entry_under_scenario = refl
-
--- a what-if's replacements override those around it, in the order of addresses
-overriding : with_what_if sheet (by a1 (codes "z") ∷ by a9 (codes "z") ∷ []) ((a9, a2) ∷ (b2, a1) ∷ []) ≡ by a1 (codes "z") ∷ by b2 (codes "z") ∷ by a9 (codes "y") ∷ []
-unfolding on_literals
-overriding = refl
-
 -- D1 asks for C1 with A1's value in A2, and that for B1 with it in A1: what is put into A2 doesn't reach B1
 demand_of_what_if : demand sheet (d1, []) ≡ (d1, []) ∷ (c1, by a2 (codes "x") ∷ []) ∷ (b1, by a1 (codes "x") ∷ []) ∷ []
 unfolding on_literals
 demand_of_what_if = refl
 
--- ---- A1 ="x", B1 =[.A1]&[.A1], C1 =[.A1]&[.B1]: A1 is asked for by both, and is one case
-
-abbrev asked_twice : Sheet
-asked_twice = (a1, Formula (text (codes "x"))) ∷ (b1, Formula (binary Join (at a1) (at a1))) ∷ (c1, Formula (binary Join (at a1) (at b1))) ∷ []
-
-each_once : different (demand asked_twice (c1, [])) ≡ (c1, []) ∷ (b1, []) ∷ (a1, []) ∷ []
-unfolding on_literals
-each_once = refl
-
--- ---- A1 =[.B1], B1 =[.A1], C1 =[.A1]&"!", D1 x
+-- ---- A1 =[.B1], B1 =[.A1]
 
 abbrev cycle : Sheet
-cycle = (a1, Formula (at b1)) ∷ (b1, Formula (at a1)) ∷ (c1, Formula (marked a1)) ∷ (d1, Constant (Text (codes "x"))) ∷ []
-
-above_cycle : shown cycle [] c1 ≡ Fault Circular
-unfolding on_literals
-above_cycle = refl
+cycle = (a1, Formula (at b1)) ∷ (b1, Formula (at a1)) ∷ []
 
 -- no replacement cuts it
 replaced_on_cycle : shown cycle (by b1 (codes "y") ∷ []) a1 ≡ Fault Circular
 unfolding on_literals
 replaced_on_cycle = refl
-
--- an entry whose replacement cell is circular is so too, though that cell's value would not be asked for
-entry_above_cycle : table_entry cycle [] d1 ((a9, c1) ∷ []) ≡ Fault Circular
-unfolding on_literals
-entry_above_cycle = refl
 
 -- ---- A1 =[.B1], B1 what C1 is with D1's value in A9, C1 =[.A2], D1 x, A2 =[.B2], B2 =[.A2]
 
