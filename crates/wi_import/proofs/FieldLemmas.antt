@@ -3,6 +3,7 @@ use Rattle.std.proofs.Common.{◌≡◌, ◌==◌, ℕ, suc, ◌+◌, ◌<◌, �
 use Rattle.std.specs.declared.alloc.Global.{Global}
 use Rattle.std.specs.List.{list_any}
 use Rattle.std.specs.Str.{bytes_eq, is_utf8}
+use Rattle.std.proofs.Math.Bool.{or-false}
 use Rattle.std.proofs.lemmas.Bool.Decides.{nat_tests}
 use Rattle.std.proofs.lemmas.List.{at_drop_more, length-map, map-append, append_assoc}
 use Rattle.std.proofs.lemmas.List.Folds.{list_any-append}
@@ -45,10 +46,6 @@ any_of_records q row column (x ∷ xs) =
 last_outside : (column : ℕ) → nat_le columns column ≡ nat_lt columns (column + 1)
 last_outside column = grind (arith, nat_tests)
 
-or_false : (b : Bool) → (b || false) ≡ b
-or_false true = refl
-or_false false = refl
-
 either_outside : (a b c : Bool) (more : Bool) → more ≡ (a || c) → (b ≡ true → c ≡ true) → ((a || b) || more) ≡ (a || c)
 either_outside true b c more e f = refl
 either_outside false true c more e f = sym (f refl)
@@ -58,7 +55,7 @@ either_outside false false c more e f = e
 pub record_outside : (row column : ℕ) (field : List ℕ) (others : List (List ℕ))
     → list_any is_outside (fields_of row column (field ∷ others)) ≡ (nat_le rows row || nat_lt columns (column + length (field ∷ others)))
 record_outside row column field [] =
-    or_false (nat_le rows row || nat_le columns column) ∙ ap (λ b. nat_le rows row || b) (last_outside column)
+    or-false (nat_le rows row || nat_le columns column) ∙ ap (λ b. nat_le rows row || b) (last_outside column)
 record_outside row column field (x ∷ xs) =
     let sizes : column + 1 + length (x ∷ xs) ≡ column + length (field ∷ x ∷ xs) = omega arith in
     either_outside (nat_le rows row) (nat_le columns column) (nat_lt columns (column + length (field ∷ x ∷ xs)))
