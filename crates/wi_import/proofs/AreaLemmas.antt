@@ -4,14 +4,14 @@ use Rattle.std.specs.declared.alloc.Global.{Global}
 use Rattle.std.proofs.lemmas.List.{at_drop_more, length-map, append_assoc, append-nil, drop_all}
 use Rattle.wi_values.specs.Address.{Area, columns, place, row_of, column_of, rect_of}
 use Rattle.wi_import.specs.Areas.{areas_from}
-use Rattle.wi_import.specs.Inner.Records.{bytes_of, all_bytes, area_of}
+use Rattle.wi_import.specs.Inner.Records.{bytes_of, all_bytes, area_of_record}
 
 abbrev pub area_before : Option Area → List Area → List Area
 area_before None areas = areas
 area_before (Some area) areas = area ∷ areas
 
 area_first : (row column : ℕ) (fields : List (List ℕ)) (more : List (List (List ℕ)))
-    → areas_from row column (fields ∷ more) ≡ area_before (area_of row column fields) (areas_from (row + 1) column more)
+    → areas_from row column (fields ∷ more) ≡ area_before (area_of_record row column fields) (areas_from (row + 1) column more)
 area_first row column [] more = refl
 area_first row column (field ∷ others) more = refl
 
@@ -20,12 +20,12 @@ abbrev pub areas_left : ℕ → ℕ → ℕ → List (Vec (Vec ℕ Global) Globa
 areas_left row column i records = areas_from (row + i) column (all_bytes (drop i records))
 
 pub next_area : (row column i : ℕ) (records : List (Vec (Vec ℕ Global) Global)) (fields : Vec (Vec ℕ Global) Global) → i < length records → fields ≡ get_or records i fields
-    → areas_left row column i records ≡ area_before (area_of (row + i) column (bytes_of fields.items)) (areas_left row column (i + 1) records)
+    → areas_left row column i records ≡ area_before (area_of_record (row + i) column (bytes_of fields.items)) (areas_left row column (i + 1) records)
 next_area row column i records r l e =
     at_drop_more (λ rs. areas_from (row + i) column (all_bytes rs)) records i r l
     ∙ ap (λ x. areas_from (row + i) column (bytes_of x.items ∷ all_bytes (drop (i + 1) records))) (sym e)
     ∙ area_first (row + i) column (bytes_of r.items) (all_bytes (drop (i + 1) records))
-    ∙ ap (λ n. area_before (area_of (row + i) column (bytes_of r.items)) (areas_from n column (all_bytes (drop (i + 1) records)))) same
+    ∙ ap (λ n. area_before (area_of_record (row + i) column (bytes_of r.items)) (areas_from n column (all_bytes (drop (i + 1) records)))) same
   where
     same : row + i + 1 ≡ row + (i + 1)
     same = omega arith
@@ -49,7 +49,7 @@ area_to row column more = record { first = place row column; last = place row (c
 
 -- the rectangle of a record of the code
 pub record_area : (row column : ℕ) (fields : List (Vec ℕ Global)) (first last : ℕ) (r : Area) → (length fields == 0) ≡ false → column + length fields ≤ columns
-    → first ≡ place row column → last ≡ place row (column + length fields - 1) → r ≡ rect_of first last → Some r ≡ area_of row column (bytes_of fields)
+    → first ≡ place row column → last ≡ place row (column + length fields - 1) → r ≡ rect_of first last → Some r ≡ area_of_record row column (bytes_of fields)
 record_area row column [] first last r some fits a b e = cc some
 record_area row column (f ∷ fs) first last r some fits a b e =
     let sizes : column + length (f ∷ fs) - 1 ≡ column + length fs = omega arith in
@@ -58,13 +58,13 @@ record_area row column (f ∷ fs) first last r some fits a b e =
     ∙ ap (λ n. Some (area_to row column n)) (sym (length-map fs (λ x. x.items)))
 
 same_area : (row column r k i : ℕ) (now items : List (Vec ℕ Global)) → r ≡ row → k ≡ column → now ≡ items
-    → area_of (r + i) k (bytes_of now) ≡ area_of (row + i) column (bytes_of items)
+    → area_of_record (r + i) k (bytes_of now) ≡ area_of_record (row + i) column (bytes_of items)
 same_area row column r k i now items a b e =
-    ap (λ n. area_of (n + i) k (bytes_of now)) a ∙ ap (λ n. area_of (row + i) n (bytes_of now)) b ∙ ap (λ fs. area_of (row + i) column (bytes_of fs)) e
+    ap (λ n. area_of_record (n + i) k (bytes_of now)) a ∙ ap (λ n. area_of_record (row + i) n (bytes_of now)) b ∙ ap (λ fs. area_of_record (row + i) column (bytes_of fs)) e
 
 -- with the rectangle that the code finds for this record, those so far and those of what is left behind it are all
 pub area_told : (row column r k i : ℕ) (records : List (Vec (Vec ℕ Global) Global)) (fields : Vec (Vec ℕ Global) Global) (now : List (Vec ℕ Global)) (found : Option Area) (before after all : List Area)
-    → i < length records → fields ≡ get_or records i fields → r ≡ row → k ≡ column → now ≡ fields.items → found ≡ area_of (r + i) k (bytes_of now)
+    → i < length records → fields ≡ get_or records i fields → r ≡ row → k ≡ column → now ≡ fields.items → found ≡ area_of_record (r + i) k (bytes_of now)
     → after ++ areas_left row column (i + 1) records ≡ before ++ area_before found (areas_left row column (i + 1) records) → before ++ areas_left row column i records ≡ all
     → after ++ areas_left row column (i + 1) records ≡ all
 area_told row column r k i records fields now found before after all l e a b same is told whole =

@@ -6,7 +6,7 @@ ghost use Rattle.wi_values.specs.Address.{row_of, column_of};
 ghost use Rattle.wi_import.specs.Areas.{areas_from};
 ghost use Rattle.wi_import.specs.Fields.{fields_of, fields_from};
 ghost use Rattle.wi_import.specs.Inner.Reading.{is_outside};
-ghost use Rattle.wi_import.specs.Inner.Records.{bytes_of, all_bytes, area_of};
+ghost use Rattle.wi_import.specs.Inner.Records.{bytes_of, all_bytes, area_of_record};
 
 use std::alloc::{AllocError, Global};
 use wi_values::{Address, Rect};
@@ -29,7 +29,7 @@ pub fn areas(alloc: Global, at: Address, records: &[Vec<Vec<u8>>]) -> Result<Vec
 // The cells of the record in this row, from a column on, where it has fields.
 fn area(row: usize, column: usize, fields: &[Vec<u8>]) -> Option<Rect>
     requires { list_any is_outside (fields_of row column (bytes_of fields.now)) ≡ false }
-    ensures { result ≡ area_of row column (bytes_of fields.now) }
+    ensures { result ≡ area_of_record row column (bytes_of fields.now) }
 {
     if fields.is_empty() {
         return None;

@@ -16,6 +16,6 @@ abbrev pub is_faulty : Field → Bool
 is_faulty f = is_bad f.bytes || (is_too_long f.bytes || is_outside f)
 
 -- the cells of a record, a part of its row from a column on, where it has fields
-abbrev pub area_of : ℕ → ℕ → List (List ℕ) → Option Area
-area_of row column [] = None
-area_of row column (field ∷ others) = Some (record { first = place row column; last = place row (column + length others) })
+abbrev pub area_of_record : ℕ → ℕ → List (List ℕ) → Option Area
+area_of_record row column [] = None
+area_of_record row column (field ∷ others) = Some (record { first = place row column; last = place row (column + length others) })
