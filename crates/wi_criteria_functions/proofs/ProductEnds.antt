@@ -23,7 +23,7 @@ use Rattle.wi_lookup.specs.declared.stop.Stop.TheVariants.{Missing, Memory}
 use Rattle.wi_lookup.specs.Arguments.{arguments_in, refers_to}
 use Rattle.wi_criteria_functions.specs.declared.ending.Ending.{Ending}
 use Rattle.wi_criteria_functions.specs.declared.ending.Ending.TheVariants.{Error, Stopped}
-use Rattle.wi_criteria_functions.specs.Inner.Giving.{area_of, Agrees, Gives}
+use Rattle.wi_criteria_functions.specs.Inner.Giving.{area_referred, Agrees, Gives}
 use Rattle.wi_criteria_functions.specs.Inner.Products.{areas_of, product_there, sum_over, sum_through, with_factor, with_place, IsAreaError, IsMissingInAny}
 use Rattle.wi_criteria_functions.specs.Inner.Sums.{same_extent, same_place}
 use Rattle.wi_criteria_functions.proofs.Extents.{cells_moved}
@@ -177,21 +177,21 @@ module _ (args : List given.Argument) where
       at (Ok rs) = refl
       at (Err e) = refl
 
-  next : (taken : List Area) (i : ℕ) (a : given.Argument) (o : Result Area ErrorKind) → i < length args → a ≡ get_or args i a → o ≡ area_of a → Taken taken (drop i args) →
+  next : (taken : List Area) (i : ℕ) (a : given.Argument) (o : Result Area ErrorKind) → i < length args → a ≡ get_or args i a → o ≡ area_referred a → Taken taken (drop i args) →
       and_then (λ rs. Ok (taken ++ rs)) (and_then (λ y. and_then (λ ys. Ok (y ∷ ys)) (areas_of (drop (i + 1) args))) o) ≡ areas_of args
   next taken i a o l is m h =
-      ap (λ (q : Result Area ErrorKind). and_then (λ rs. Ok (taken ++ rs)) (and_then (λ y. and_then (λ ys. Ok (y ∷ ys)) (areas_of (drop (i + 1) args))) q)) (m ∙ ap area_of is)
+      ap (λ (q : Result Area ErrorKind). and_then (λ rs. Ok (taken ++ rs)) (and_then (λ y. and_then (λ ys. Ok (y ∷ ys)) (areas_of (drop (i + 1) args))) q)) (m ∙ ap area_referred is)
       ∙ ap (λ (xs : List given.Argument). and_then (λ rs. Ok (taken ++ rs)) (areas_of xs)) (sym (drop_more args i a l))
       ∙ h
 
-  pub one_taken : (taken more : List Area) (i : ℕ) (a : given.Argument) (r : Area) → i < length args → a ≡ get_or args i a → Ok r ≡ area_of a → more ≡ taken ++ r ∷ [] → Taken taken (drop i args) → Taken more (drop (i + 1) args)
+  pub one_taken : (taken more : List Area) (i : ℕ) (a : given.Argument) (r : Area) → i < length args → a ≡ get_or args i a → Ok r ≡ area_referred a → more ≡ taken ++ r ∷ [] → Taken taken (drop i args) → Taken more (drop (i + 1) args)
   one_taken taken more i a r l is m n h = ap (λ (ts : List Area). and_then (λ rs. Ok (ts ++ rs)) (areas_of (drop (i + 1) args))) n ∙ at (areas_of (drop (i + 1) args)) ∙ next taken i a (Ok r) l is m h
     where
       at : (o : Result (List Area) ErrorKind) → and_then (λ rs. Ok ((taken ++ r ∷ []) ++ rs)) o ≡ and_then (λ rs. Ok (taken ++ rs)) (and_then (λ ys. Ok (r ∷ ys)) o)
       at (Ok rs) = ap Ok (append_assoc taken (r ∷ []) rs)
       at (Err e) = refl
 
-  pub not_taken : (taken : List Area) (i : ℕ) (a : given.Argument) (e : ErrorKind) (x : Ending) → x ≡ Error e → i < length args → a ≡ get_or args i a → Err e ≡ area_of a → Taken taken (drop i args) → IsAreaError args x
+  pub not_taken : (taken : List Area) (i : ℕ) (a : given.Argument) (e : ErrorKind) (x : Ending) → x ≡ Error e → i < length args → a ≡ get_or args i a → Err e ≡ area_referred a → Taken taken (drop i args) → IsAreaError args x
   not_taken taken i a e x n l is m h = subst (IsAreaError args) (sym n) (sym (next taken i a (Err e) l is m h))
 
   pub all_taken : (taken : List Area) (i : ℕ) → length args ≤ i → Taken taken (drop i args) → areas_of args ≡ Ok taken

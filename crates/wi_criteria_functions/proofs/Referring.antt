@@ -4,6 +4,7 @@ use Rattle.std.specs.Prelude.{slice_get, Result, Ok, Err, IfOk}
 use Rattle.std.specs.List.{list_any}
 use Rattle.std.specs.Option.{option_copied, option_map_or}
 use Rattle.std.specs.Slice.{IsItemAt}
+use Rattle.std.proofs.Math.Bool.{or-false}
 use Rattle.std.proofs.lemmas.Option.{slice_get-map, slice_get_past, slice_get_read}
 use Rattle.wi_values.specs.Address.{Area}
 use Rattle.wi_values.specs.declared.value.ErrorKind.{ErrorKind}
@@ -21,7 +22,7 @@ use Rattle.wi_matching.specs.declared.criterion.Criterion.{Criterion}
 use Rattle.wi_matching.specs.Inner.Meeting.{criterion_held}
 use Rattle.wi_criteria_functions.specs.declared.ending.Ending.{Ending}
 use Rattle.wi_criteria_functions.specs.declared.ending.Ending.TheVariants.{Error, Stopped}
-use Rattle.wi_criteria_functions.specs.Inner.Giving.{area_of, region_in, criterion_argument, Agrees, IsCriterionOf, IsReferred}
+use Rattle.wi_criteria_functions.specs.Inner.Giving.{area_referred, region_in, criterion_argument, Agrees, IsCriterionOf, IsReferred}
 
 -- what `get` gives
 pub got : {X : Type 0} (xs : List X) (i : ℕ) (r : Option (Bor X)) → IsItemAt xs i r → option_copied r ≡ slice_get xs i
@@ -42,11 +43,11 @@ there cells args i o e = slice_get-map (argument_in cells) args i ∙ ap (option
 
 -- ---- rectangles
 
-region_is : (cells : ℕ → Value) (a : given.Argument) → region_referred (argument_in cells a) ≡ region_in cells (area_of a)
+region_is : (cells : ℕ → Value) (a : given.Argument) → region_referred (argument_in cells a) ≡ region_in cells (area_referred a)
 region_is cells (given.TheVariants.Reference r) = refl
 region_is cells (given.TheVariants.Value v) = refl
 
-pub region_there : (args : List given.Argument) (i : ℕ) (a : given.Argument) (r : Result Area ErrorKind) → Some a ≡ slice_get args i → r ≡ area_of a →
+pub region_there : (args : List given.Argument) (i : ℕ) (a : given.Argument) (r : Result Area ErrorKind) → Some a ≡ slice_get args i → r ≡ area_referred a →
     (cells : ℕ → Value) (default : Result Region ErrorKind) → region_or default (arguments_in cells args) i ≡ region_in cells r
 region_there args i a r e h cells default =
     ap (λ (o : Option Argument). option_map_or region_referred o default) (there cells args i (Some a) e) ∙ region_is cells a ∙ ap (region_in cells) (sym h)
@@ -54,10 +55,10 @@ region_there args i a r e h cells default =
 pub region_absent : (args : List given.Argument) (i : ℕ) → None ≡ slice_get args i → (cells : ℕ → Value) (default : Result Region ErrorKind) → region_or default (arguments_in cells args) i ≡ default
 region_absent args i e cells default = ap (λ (o : Option Argument). option_map_or region_referred o default) (there cells args i None e)
 
-pub referred_there : (args : List given.Argument) (i : ℕ) (a : given.Argument) (r : Result Area ErrorKind) → Some a ≡ slice_get args i → r ≡ area_of a → IfOk r (IsReferred args)
+pub referred_there : (args : List given.Argument) (i : ℕ) (a : given.Argument) (r : Result Area ErrorKind) → Some a ≡ slice_get args i → r ≡ area_referred a → IfOk r (IsReferred args)
 referred_there args i a r e h = subst (λ (s : Result Area ErrorKind). IfOk s (IsReferred args)) (sym h) (at a e)
   where
-    at : (b : given.Argument) → Some b ≡ slice_get args i → IfOk (area_of b) (IsReferred args)
+    at : (b : given.Argument) → Some b ≡ slice_get args i → IfOk (area_referred b) (IsReferred args)
     at (given.TheVariants.Reference s) k = λ c w. any_at (refers_to c) args i (given.TheVariants.Reference s) k w
     at (given.TheVariants.Value v) k = tt
 
@@ -125,12 +126,8 @@ module _ (known : ℕ → Option Value) (args : List given.Argument) (i : ℕ) w
   pub of_there : (a : given.Argument) (r : Result Criterion Ending) → Some a ≡ slice_get args i → IsCriterionIn known a r → IsCriterionAt r
   of_there a r e g = at r g
     where
-      alone : (b : Bool) → (b || false) ≡ true → b ≡ true
-      alone true h = refl
-      alone false h = h
-
       at : (p : Result Criterion Ending) → IsCriterionIn known a p → IsCriterionAt p
       at (Ok c) k = λ cells l. ap criterion_argument (value_there cells args i a e) ∙ k cells l
       at (Err (Error x)) k = λ cells l. ap criterion_argument (value_there cells args i a e) ∙ k cells l
-      at (Err (Stopped (Missing c))) k = (k.0, any_at (refers_to c) args i a e (alone (refers_to c a) k.1))
+      at (Err (Stopped (Missing c))) k = (k.0, any_at (refers_to c) args i a e (sym (or-false (refers_to c a)) ∙ k.1))
       at (Err (Stopped Memory)) k = tt

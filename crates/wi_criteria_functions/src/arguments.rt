@@ -6,7 +6,7 @@ ghost use Rattle.wi_values.specs.declared.value.Value.{Value as Values};
 ghost use Rattle.wi_standard_functions.specs.Arguments.{region_at, region_or, value_at};
 ghost use Rattle.wi_lookup.specs.Arguments.{argument_in, arguments_in, IsMissing};
 ghost use Rattle.wi_matching.specs.Inner.Meeting.{criterion_held};
-ghost use Rattle.wi_criteria_functions.specs.Inner.Giving.{area_of, criterion_argument, region_in, Agrees, IsCriterionOf, IsReferred};
+ghost use Rattle.wi_criteria_functions.specs.Inner.Giving.{area_referred, criterion_argument, region_in, Agrees, IsCriterionOf, IsReferred};
 
 use crate::ending::Ending;
 use std::alloc::Global;
@@ -21,7 +21,7 @@ pub(crate) fn area_at(arguments: &[Argument], place: usize) -> Result<Rect, Erro
     ensures referred { IfOk result (IsReferred arguments.now) }
 {
     match argument_at(arguments, place) {
-        Some(argument) => area_of(argument),
+        Some(argument) => area_referred(argument),
         None => Err(ErrorKind::BadValue),
     }
 }
@@ -37,7 +37,7 @@ pub(crate) fn area_or(
     ensures referred { IfOk result (IsReferred arguments.now) }
 {
     match argument_at(arguments, place) {
-        Some(argument) => area_of(argument),
+        Some(argument) => area_referred(argument),
         None => Ok(default),
     }
 }
@@ -80,8 +80,8 @@ fn criterion_of(alloc: Global, value: &Value) -> Result<Criterion, Ending>
 }
 
 /// The rectangle that an argument refers to.
-pub(crate) fn area_of(argument: &Argument) -> Result<Rect, ErrorKind>
-    ensures { result ≡ area_of argument.now }
+pub(crate) fn area_referred(argument: &Argument) -> Result<Rect, ErrorKind>
+    ensures { result ≡ area_referred argument.now }
 {
     match argument {
         Argument::Reference(area) => Ok(*area),

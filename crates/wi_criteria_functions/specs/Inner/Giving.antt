@@ -41,9 +41,9 @@ Agrees known missing seen r (Err (Stopped s)) = IfMissing s missing
 -- ---- arguments
 
 -- the rectangle that an argument refers to
-abbrev pub area_of : given.Argument → Result Area ErrorKind
-area_of (given.TheVariants.Reference r) = Ok r
-area_of (given.TheVariants.Value v) = Err BadValue
+abbrev pub area_referred : given.Argument → Result Area ErrorKind
+area_referred (given.TheVariants.Reference r) = Ok r
+area_referred (given.TheVariants.Value v) = Err BadValue
 
 -- the region of a rectangle, or the error
 abbrev pub region_in : (ℕ → Value) → Result Area ErrorKind → Result Region ErrorKind

@@ -15,12 +15,12 @@ use Rattle.wi_lookup.specs.declared.argument.Argument as given
 use Rattle.wi_lookup.specs.declared.stop.Stop.TheVariants.{Memory}
 use Rattle.wi_criteria_functions.specs.declared.ending.Ending.{Ending}
 use Rattle.wi_criteria_functions.specs.declared.ending.Ending.TheVariants.{Error, Stopped}
-use Rattle.wi_criteria_functions.specs.Inner.Giving.{area_of}
+use Rattle.wi_criteria_functions.specs.Inner.Giving.{area_referred}
 use Rattle.wi_criteria_functions.specs.Inner.Sums.{same_place}
 
 -- the rectangles that all arguments refer to
 abbrev pub areas_of : List given.Argument → Result (List Area) ErrorKind
-areas_of args = map_until_error area_of args
+areas_of args = map_until_error area_referred args
 
 -- why there are none
 abbrev pub IsAreaError : List given.Argument → Ending → Type 0
