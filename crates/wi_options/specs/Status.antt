@@ -4,7 +4,7 @@ use Rattle.wi_options.specs.declared.fault.OptionsFault.{OptionsFault}
 use Rattle.wi_options.specs.declared.fault.OptionsFault.TheVariants.{Help, Usage, Memory}
 
 -- 0 after help, 2 after wrong words, 5 without memory
-abbrev pub status_of : OptionsFault → ℕ
-status_of (Help _) = 0
-status_of (Usage _) = 2
-status_of Memory = 5
+abbrev pub options_status : OptionsFault → ℕ
+options_status (Help _) = 0
+options_status (Usage _) = 2
+options_status Memory = 5

@@ -1,7 +1,7 @@
 //! Why words give no options.
 
 ghost use Rattle.std.specs.Prelude.{◌≡◌};
-ghost use Rattle.wi_options.specs.Status.{status_of};
+ghost use Rattle.wi_options.specs.Status.{options_status};
 
 use clap::error::ErrorKind;
 use std::alloc::AllocError;
@@ -47,7 +47,7 @@ impl From<clap::Error> for OptionsFault {
 
 /// The status with which the program ends where its words give no options.
 pub fn options_status(fault: &OptionsFault) -> u8
-    ensures { result ≡ status_of fault.now }
+    ensures { result ≡ options_status fault.now }
 {
     match fault {
         OptionsFault::Help(_) => 0,
