@@ -15,7 +15,7 @@ use Rattle.wi_values.specs.declared.value.Value.{Value}
 use Rattle.wi_parser.specs.declared.content.Content.{Content}
 use Rattle.wi_parser.specs.declared.content.Content.TheVariants.{Constant}
 use Rattle.wi_import.specs.declared.fault.ImportFault.{ImportFault}
-use Rattle.wi_import.specs.Fields.{Field, cell_of, IsInside, IsText}
+use Rattle.wi_import.specs.Fields.{Field, field_cell, IsInside, IsText}
 use Rattle.wi_import.specs.Imports.{IsFieldContent, no_content, a_constant, IsChange, AreChanges, IsFault, bad_field, too_long, out_of_sheet, IsImport}
 use Rattle.wi_import.specs.Inner.Reading.{is_bad, is_too_long, is_outside, content_for, content_of, change_of, first_fault, fault_among, unless_fault, import_of}
 
@@ -149,7 +149,7 @@ changes_are [] [] h = refl
 changes_are [] (c ∷ cs) h = absurd h
 changes_are (f ∷ fs) [] h = absurd h
 changes_are (f ∷ fs) ((a, o) ∷ cs) ((same, content), more) =
-    pair_is (cell_of f) a (content_of f.bytes) o (map change_of fs) cs (sym same) (content_is f.bytes o content) (changes_are fs cs more)
+    pair_is (field_cell f) a (content_of f.bytes) o (map change_of fs) cs (sym same) (content_is f.bytes o content) (changes_are fs cs more)
 
 none_too_long : (fields : List Field) (changes : List (ℕ × Option Content)) → AllZip IsChange fields changes → list_any (λ f. is_too_long f.bytes) fields ≡ false
 none_too_long [] [] h = refl

@@ -10,8 +10,8 @@ pub record Field : Type 0 where
   pub bytes : List ℕ
 
 -- the cell for which it is
-abbrev pub cell_of : Field → ℕ
-cell_of f = place f.row f.column
+abbrev pub field_cell : Field → ℕ
+field_cell f = place f.row f.column
 
 -- the sheet has that cell
 abbrev pub IsInside : Field → Type 0

@@ -7,7 +7,7 @@ use Rattle.wi_parser.specs.declared.content.Content.{Content}
 use Rattle.wi_parser.specs.declared.content.Content.TheVariants.{Constant}
 use Rattle.wi_import.specs.declared.fault.ImportFault.{ImportFault}
 use Rattle.wi_import.specs.declared.fault.ImportFault.TheVariants.{BadField, TooLong, OutOfSheet}
-use Rattle.wi_import.specs.Fields.{Field, cell_of, IsInside, IsText}
+use Rattle.wi_import.specs.Fields.{Field, field_cell, IsInside, IsText}
 
 -- What the cell of a field of these bytes gets: no content where there are none, and else what they are taken for.
 pub data IsFieldContent : List ℕ → Option Content → Type 0 where
@@ -16,7 +16,7 @@ pub data IsFieldContent : List ℕ → Option Content → Type 0 where
 
 -- the change that a field brings: a cell, and what it gets
 abbrev pub IsChange : Field → ℕ × Option Content → Type 0
-IsChange f change = (change.0 ≡ cell_of f) × IsFieldContent f.bytes change.1
+IsChange f change = (change.0 ≡ field_cell f) × IsFieldContent f.bytes change.1
 
 -- These are the changes that the fields bring, in the order of the fields, and no field has a fault.
 pub record AreChanges (fields : List Field) (changes : List (ℕ × Option Content)) : Type 0 where

@@ -9,7 +9,7 @@ use Rattle.wi_parser.specs.declared.content.Content.{Content}
 use Rattle.wi_import.specs.declared.fault.ImportFault.{ImportFault}
 use Rattle.wi_import.specs.declared.fault.ImportFault.TheVariants as import
 use Rattle.wi_import.specs.Areas.{areas_at}
-use Rattle.wi_import.specs.Fields.{Field, cell_of, fields_at}
+use Rattle.wi_import.specs.Fields.{Field, field_cell, fields_at}
 use Rattle.wi_import.specs.Imports.{IsChange, AreChanges, IsFault}
 use Rattle.wi_scenarios.specs.declared.refusal.Refusal.{Refusal}
 use Rattle.wi_scenarios.specs.declared.refusal.Refusal.TheVariants.{Memory}
@@ -57,11 +57,11 @@ csv_edited r s t force at text named contents n c =
     r s t
 
 -- the cells that get something are those of the fields
-each_cell : (fields : List Field) (contents : List (ℕ × Option Content)) → AllZip IsChange fields contents → keys_of contents ≡ map cell_of fields
+each_cell : (fields : List Field) (contents : List (ℕ × Option Content)) → AllZip IsChange fields contents → keys_of contents ≡ map field_cell fields
 each_cell [] [] h = refl
 each_cell [] (x ∷ xs) h = absurd h
 each_cell (f ∷ fs) [] h = absurd h
-each_cell (f ∷ fs) (x ∷ xs) h = ap (λ (c : ℕ). c ∷ keys_of xs) (h.0).0 ∙ ap (λ (cells : List ℕ). cell_of f ∷ cells) (each_cell fs xs h.1)
+each_cell (f ∷ fs) (x ∷ xs) h = ap (λ (c : ℕ). c ∷ keys_of xs) (h.0).0 ∙ ap (λ (cells : List ℕ). field_cell f ∷ cells) (each_cell fs xs h.1)
 
 pub imported_are : (at : ℕ) (text : List ℕ) (contents : List (ℕ × Option Content)) → AreChanges (fields_at at text) contents → keys_of contents ≡ imported_cells at text
 imported_are at text contents h = each_cell (fields_at at text) contents h.each

@@ -3,7 +3,7 @@ use Rattle.std.specs.Prelude.{◌≡◌, ℕ, Bool, true, false, List, [], map, 
 use Rattle.wi_parser.specs.declared.content.Content.{Content}
 use Rattle.wi_import.specs.declared.fault.ImportFault.{ImportFault}
 use Rattle.wi_import.specs.declared.fault.ImportFault.TheVariants as import
-use Rattle.wi_import.specs.Fields.{cell_of, fields_at}
+use Rattle.wi_import.specs.Fields.{field_cell, fields_at}
 use Rattle.wi_import.specs.Areas.{areas_at}
 use Rattle.wi_import.specs.Imports.{IsImport}
 use Rattle.wi_scenarios.specs.declared.refusal.Refusal.{Refusal}
@@ -32,7 +32,7 @@ contents_in (Err fault) = []
 
 -- the cells of the fields
 abbrev pub imported_cells : ℕ → List ℕ → List ℕ
-imported_cells at text = map cell_of (fields_at at text)
+imported_cells at text = map field_cell (fields_at at text)
 
 -- the answer to an import that comes to this
 abbrev pub csv_answer : State → Bool → ℕ → List ℕ → Imported → Answer

@@ -9,7 +9,7 @@ use Rattle.wi_parser.specs.declared.content.Content.{Content}
 use Rattle.wi_parser.specs.Sheet.{constant}
 use Rattle.wi_import.specs.declared.fault.ImportFault.{ImportFault}
 use Rattle.wi_import.specs.declared.fault.ImportFault.TheVariants.{BadField, TooLong, OutOfSheet}
-use Rattle.wi_import.specs.Fields.{Field, cell_of}
+use Rattle.wi_import.specs.Fields.{Field, field_cell}
 
 abbrev pub is_bad : List ℕ → Bool
 is_bad bytes = not (is_utf8 bytes)
@@ -29,7 +29,7 @@ abbrev pub content_of : List ℕ → Option Content
 content_of bytes = content_for (field_value bytes)
 
 abbrev pub change_of : Field → ℕ × Option Content
-change_of f = (cell_of f, content_of f.bytes)
+change_of f = (field_cell f, content_of f.bytes)
 
 abbrev pub first_fault : Bool → Bool → Bool → Option ImportFault
 first_fault bad long outside = if bad then Some BadField else (if long then Some TooLong else (if outside then Some OutOfSheet else None))
