@@ -1,6 +1,7 @@
 -- What holds after a session was switched: the pending cells that were added are marked, and of all others the picture is right.
 use Rattle.std.proofs.Common.{◌≡◌, ◌≢◌, ◌==◌, arith, ◌⊎◌, inl, inr, ℕ, ◌<◌, ◌≤◌, Bool, true, false, ◌||◌, List, [], length, Option, refl, sym, ap, ◌∙◌, subst}
 use Rattle.std.specs.List.{slice_index_or, slice_set}
+use Rattle.std.proofs.Math.Bool.{or-false}
 use Rattle.std.proofs.lemmas.Bool.{false≢true}
 use Rattle.std.proofs.lemmas.Bool.Decides.{nat_tests}
 use Rattle.std.proofs.lemmas.List.{get_or-set_same, get_or-set_other, length-set}
@@ -88,17 +89,13 @@ module _ (marked : Sheet → List ℕ → ℕ → Bool) (stored : Stored) (d e :
         | inr new ↦ inr (marked_there i a ((w.room i l).marks a new))
       ]
 
-or_none : (x : Bool) → (x || false) ≡ x
-or_none true = refl
-or_none false = refl
-
 -- where there is room for one session alone
 pub switched_others : (marked : Sheet → List ℕ → ℕ → Bool) (stored : Stored) (d e : Desk) (vacant : ℕ → List ℕ) → IsSwitch marked stored d e vacant
     → ((j : ℕ) → j ≢ d.current → vacant j ≡ []) → SameForOthers d.current (pending_in d) (pending_in e)
 switched_others marked stored d e vacant w none = λ j a n.
     w.pending j a
     ∙ ap (λ (xs : List ℕ). is_listed (pending_of d.sessions j) a || is_listed xs a) (none j n)
-    ∙ or_none (is_listed (pending_of d.sessions j) a)
+    ∙ or-false (is_listed (pending_of d.sessions j) a)
 
 pub others_none : (i : ℕ) (before after : List (List ℕ)) → after ≡ before → SameForOthers i before after
 others_none i before after same = λ j a n. ap (λ (cs : List (List ℕ)). is_listed (slice_index_or cs j []) a) same
