@@ -1,5 +1,6 @@
 -- Runs of edits of one session, and what a step of the search from the last edit to earlier ones does.
 use Rattle.std.proofs.Common.{◌≡◌, ◌∙◌, ℕ, zero, suc, ◌+◌, ◌-◌, ◌==◌, ◌≤◌, ◌<◌, ◌⊎◌, inl, inr, Bool, true, false, not, ◌||◌, ◌&&◌, List, ◌∷◌, length, drop, get_or, max, Option, None, refl, ap, sym, subst, arith}
+use Rattle.std.proofs.Math.Bool.{and-false}
 use Rattle.std.proofs.lemmas.List.{drop_more, drop_all, get_or_default}
 use Rattle.std.proofs.lemmas.Bool.{cases_eq, eq-eqb, ne_eqb}
 use Rattle.wi_values.specs.Address.{Area}
@@ -77,8 +78,4 @@ other_looked_at es x s place next wanted o p q l m at n other e h k =
 
 pub none_after_all : (es : List Edit) (s place : ℕ) (wanted : List Area) → length es ≤ place → IsFirst (is_wanted_of_others (drop place es) s wanted) None
 none_after_all es s place wanted l =
-    no_first (is_wanted_of_others (drop place es) s wanted) (λ a. ap (λ ys. is_wanted_of_others ys s wanted a) (drop_all place es l) ∙ right (have_cell wanted a))
-  where
-    right : (b : Bool) → (b && false) ≡ false
-    right true = refl
-    right false = refl
+    no_first (is_wanted_of_others (drop place es) s wanted) (λ a. ap (λ ys. is_wanted_of_others ys s wanted a) (drop_all place es l) ∙ and-false (have_cell wanted a))

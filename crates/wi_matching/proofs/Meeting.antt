@@ -4,6 +4,7 @@ use Rattle.std.specs.Prelude.{not, if◌then◌else◌}
 use Rattle.std.specs.Ordering.{is_eq, is_ne}
 use Rattle.std.specs.declared.cmp.Ordering.{Ordering}
 use Rattle.std.specs.declared.cmp.Ordering.TheVariants.{Less as less, Equal as equal, Greater as greater}
+use Rattle.std.proofs.Math.Bool.{and-true}
 use Rattle.std.proofs.lemmas.Bool.{and_parts}
 use Rattle.wi_values.specs.declared.value.Value.{Value}
 use Rattle.wi_values.specs.declared.value.Value.TheVariants.{Empty}
@@ -23,10 +24,6 @@ ne_is less = refl
 ne_is equal = refl
 ne_is greater = refl
 
-and_true : (b : Bool) → (b && true) ≡ b
-and_true true = refl
-and_true false = refl
-
 -- of values of one kind, and of others
 same : (r : Relation) (w v : Value) (b : Bool) → same_kind v w ≡ b → relation_of r w v ≡ told r v (if b then Some (order v w) else None)
 same Equal w v true e = rw e refl
@@ -45,7 +42,7 @@ same Unequal w v true e =
     ∙ ne_is (order v w)
 same Unequal w v false e =
     ap (λ (b : Bool). can_be_found v && not (b && is_eq (order v w))) e
-    ∙ and_true (can_be_found v)
+    ∙ and-true (can_be_found v)
 
 pub met_by : (r : Relation) (w v : Value) (m : Option Ordering) → m ≡ (if same_kind v w then Some (order v w) else None) → relation_of r w v ≡ told r v m
 met_by r w v m e = same r w v (same_kind v w) refl ∙ ap (told r v) (sym e)

@@ -4,6 +4,7 @@ use Rattle.std.specs.Ordering.{ordering_then, is_eq}
 use Rattle.std.specs.declared.cmp.Ordering.{Ordering}
 use Rattle.std.specs.declared.cmp.Ordering.TheVariants.{Less, Equal, Greater}
 use Rattle.std.specs.BTreeMap.{is_at}
+use Rattle.std.proofs.Math.Bool.{and-or_distrib_left}
 use Rattle.std.proofs.lemmas.Bool.{or_left, or_right, or_cases, or_parts, and_right, true≢false, cond-true, cond-false}
 use Rattle.std.proofs.lemmas.List.Folds.{list_any-append}
 use Rattle.wi_ranges.specs.declared.block.Block.{Block}
@@ -28,12 +29,8 @@ equal_both Greater Greater = refl
 pub key_is_piece : (x : Block) (p : Numbered) (q : Piece) → is_at (piece_cmp (x, p)) q ≡ is_piece (x ∷ []) p q
 key_is_piece x p q = equal_both (block_cmp x q.0) (numbered_cmp p q.1)
 
-split_or : (s a b : Bool) → (s && (a || b)) ≡ ((s && a) || (s && b))
-split_or true a b = refl
-split_or false a b = refl
-
 pub is_piece-append : (xs ys : List Block) (p : Numbered) (q : Piece) → is_piece (xs ++ ys) p q ≡ (is_piece xs p q || is_piece ys p q)
-is_piece-append xs ys p q = ap (λ b. is_one p q.1 && b) (list_any-append (λ y. is_at (block_cmp y) q.0) xs ys) ∙ split_or (is_one p q.1) _ _
+is_piece-append xs ys p q = ap (λ b. is_one p q.1 && b) (list_any-append (λ y. is_at (block_cmp y) q.0) xs ys) ∙ and-or_distrib_left (is_one p q.1) _ _
 
 -- ---- what a piece of two lists is
 

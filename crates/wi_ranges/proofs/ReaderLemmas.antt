@@ -9,7 +9,7 @@ use Rattle.std.specs.BTreeMap.{is_at}
 use Rattle.std.specs.BTreeMap.Range.{range_contains}
 use Rattle.std.proofs.lemmas.Bool.{true≢false}
 use Rattle.std.proofs.lemmas.Bool.Decides.{nat_tests}
-use Rattle.std.proofs.Math.Bool.{or-false}
+use Rattle.std.proofs.Math.Bool.{or-false, or_assoc}
 use Rattle.wi_ranges.specs.declared.block.Block.{Block}
 use Rattle.wi_ranges.specs.declared.pair.RangePair.{RangePair}
 use Rattle.wi_ranges.specs.declared.pair.Numbered.{Numbered}
@@ -81,10 +81,6 @@ one_more_block true b true = refl
 one_more_block true true false = refl
 one_more_block true false false = refl
 one_more_block false b c = refl
-
-or_assoc : (a b c : Bool) → ((a || b) || c) ≡ (a || (b || c))
-or_assoc true b c = refl
-or_assoc false b c = refl
 
 -- the readers at a block and at others
 pub readers_more : (x : Block) (xs zs : List Block) (a r : ℕ) (ks : List Piece) (old mid new : Bool) → zs ≡ x ∷ xs

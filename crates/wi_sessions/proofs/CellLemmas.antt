@@ -1,5 +1,6 @@
 -- Laws of the rooms of pending cells.
 use Rattle.std.proofs.Common.{◌≡◌, ◌==◌, ◌<◌, ◌≤◌, ◌+◌, ◌||◌, ◌&&◌, ℕ, Bool, true, false, cond, not, List, [], ◌∷◌, ◌++◌, length, get_or, drop, filter, Option, Some, None, refl, sym, ap, ◌∙◌, arith, ◌*◌, Result, Ok, Err, IfOk, OnOk, subst, ⊎_elim}
+use Rattle.std.proofs.Math.Bool.{or-true}
 use Rattle.std.specs.Prelude.{unwrap_or}
 use Rattle.std.specs.Option.{is_some, option_or}
 use Rattle.std.specs.List.{All, list_any}
@@ -66,14 +67,10 @@ none_left cells i rooms l h =
 
 -- ---- one more cell noted
 
-or_true : (b : Bool) → (b || true) ≡ true
-or_true true = refl
-or_true false = refl
-
 last_noted : (noted new : List ℕ) (a : ℕ) → new ≡ noted ++ a ∷ [] → is_listed new a ≡ true
 last_noted noted new a e =
     ap (λ (xs : List ℕ). is_listed xs a) e ∙ list_any-append (λ (c : ℕ). c == a) noted (a ∷ [])
-    ∙ ap (λ (b : Bool). is_listed noted a || (b || false)) (sym (is_at-eq a a) ∙ at_itself a) ∙ or_true (is_listed noted a)
+    ∙ ap (λ (b : Bool). is_listed noted a || (b || false)) (sym (is_at-eq a a) ∙ at_itself a) ∙ or-true (is_listed noted a)
 
 noted_more : (noted new : List ℕ) (a q : ℕ) → new ≡ noted ++ a ∷ [] → is_listed noted q ≡ true → is_listed new q ≡ true
 noted_more noted new a q e h =
