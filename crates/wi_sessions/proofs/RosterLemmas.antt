@@ -18,7 +18,7 @@ use Rattle.indexmap.proofs.CallerLemmas.{insert_entry-new}
 use Rattle.wi_sessions.specs.Pictures.Laws.{is_listed}
 use Rattle.wi_sessions.specs.Sessions.{has_session, place_of}
 use Rattle.wi_sessions.specs.Roster.{SameCells}
-use Rattle.wi_sessions.specs.Inner.Held.{session_in, cells_of, rooms_of}
+use Rattle.wi_sessions.specs.Inner.Held.{session_in, pending_cells, rooms_of}
 use Rattle.wi_sessions.specs.declared.held.Held.{Held}
 
 -- a name, and what is held under it
@@ -203,11 +203,11 @@ module _ {Z : Type 0} where
   -- a session whose cells with room became pending
   abbrev pub Took : Entry Z → Entry Z → Type 0
   Took x y = (session_in y ≡ session_in x)
-      × ((a : ℕ) → is_listed (cells_of y) a ≡ (is_listed (cells_of x) a || is_listed (rooms_of x) a))
+      × ((a : ℕ) → is_listed (pending_cells y) a ≡ (is_listed (pending_cells x) a || is_listed (rooms_of x) a))
       × (rooms_of y ≡ [])
 
   pub each_took : (old new : List (Entry Z)) → AllZip Took old new → (i a : ℕ)
-      → is_listed (get_or (map cells_of new) i []) a ≡ (is_listed (get_or (map cells_of old) i []) a || is_listed (get_or (map rooms_of old) i []) a)
+      → is_listed (get_or (map pending_cells new) i []) a ≡ (is_listed (get_or (map pending_cells old) i []) a || is_listed (get_or (map rooms_of old) i []) a)
   each_took [] [] h i a = refl
   each_took [] (y ∷ ys) h i a = absurd h
   each_took (x ∷ xs) [] h i a = absurd h
@@ -216,4 +216,4 @@ module _ {Z : Type 0} where
 
   -- a session whose vacant rooms went
   abbrev pub Gave : Entry Z → Entry Z → Type 0
-  Gave x y = (session_in y ≡ session_in x) × (cells_of y ≡ cells_of x) × (rooms_of y ≡ [])
+  Gave x y = (session_in y ≡ session_in x) × (pending_cells y ≡ pending_cells x) × (rooms_of y ≡ [])

@@ -14,12 +14,12 @@ with_name name x = record { name = name; scenario = option_map string_bytes x.sc
 abbrev pub session_in : {Z : Type 0} → RcStr Z × Held → Session
 session_in e = with_name (rc_str_bytes e.0) e.1
 
-abbrev pub cells_of : {Z : Type 0} → RcStr Z × Held → List ℕ
-cells_of e = e.1.pending.cells
+abbrev pub pending_cells : {Z : Type 0} → RcStr Z × Held → List ℕ
+pending_cells e = e.1.pending.cells
 
 abbrev pub rooms_of : {Z : Type 0} → RcStr Z × Held → List ℕ
 rooms_of e = e.1.pending.vacant
 
 -- the sessions that stand as entries of a map by their names
 abbrev pub roster_in : {Z : Type 0} → List (RcStr Z × Held) → Roster
-roster_in es = record { sessions = map session_in es; pending = map cells_of es; vacant = map rooms_of es }
+roster_in es = record { sessions = map session_in es; pending = map pending_cells es; vacant = map rooms_of es }

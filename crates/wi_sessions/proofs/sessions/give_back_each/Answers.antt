@@ -1,6 +1,6 @@
 use Rattle.std.proofs.Common.{refl, arith, ◌∙◌}
 use Rattle.indexmap.proofs.CallerLemmas.{index_map_len-with_value_at}
-use Rattle.wi_sessions.specs.Inner.Held.{session_in, cells_of}
+use Rattle.wi_sessions.specs.Inner.Held.{session_in, pending_cells}
 use Rattle.wi_sessions.proofs.RosterLemmas.{Gave, entry_at, done_more, left_more, all_done, each_same, each_empty}
 use Rattle.wi_sessions.proofs.sessions.give_back_each.Goals as goal
 
@@ -23,7 +23,7 @@ returns-clause-sessions c =
 
 pub returns-clause-pending : goal.returns-clause-pending
 returns-clause-pending c =
-    each_same Gave cells_of (λ x y r. r.1) c.args.held.now.entries c.loop-i.held.entries
+    each_same Gave pending_cells (λ x y r. r.1) c.args.held.now.entries c.loop-i.held.entries
     (all_done Gave c.args.held.now.entries c.loop-i.held.entries c.loop-i.invariant.lists (λ k d h. c.loop-i.invariant.done k d (omega (arith, h))))
 
 pub returns-clause-vacant : goal.returns-clause-vacant

@@ -1,7 +1,7 @@
 use Rattle.std.proofs.Common.{[], sym, ap, ◌∙◌}
 use Rattle.wi_sessions.specs.Sessions.{Session, new_session}
 use Rattle.wi_sessions.specs.Roster.{Roster}
-use Rattle.wi_sessions.specs.Inner.Held.{session_in, cells_of, rooms_of, with_name}
+use Rattle.wi_sessions.specs.Inner.Held.{session_in, pending_cells, rooms_of, with_name}
 use Rattle.wi_sessions.proofs.RosterLemmas.{entry_at, part_at}
 use Rattle.wi_sessions.proofs.sessions.Sessions.at.Goals as goal
 
@@ -18,7 +18,7 @@ returns-clause-cells c =
     let items = c.self.inside.held.entries in
     let x = c.index.result.now in
     let e = entry_at items c.args.i x c.index.ensures in
-    sym (part_at cells_of items c.args.i e.0 x c.args.self.now.pending e.1 (ap (λ (r : Roster). r.pending) c.self.view_is) [])
+    sym (part_at pending_cells items c.args.i e.0 x c.args.self.now.pending e.1 (ap (λ (r : Roster). r.pending) c.self.view_is) [])
 
 pub returns-clause-vacant : goal.returns-clause-vacant
 returns-clause-vacant c =

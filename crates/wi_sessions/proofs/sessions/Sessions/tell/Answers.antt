@@ -4,7 +4,7 @@ use Rattle.std.proofs.lemmas.Result.{on_ok_weaker, on_err_weaker}
 use Rattle.indexmap.specs.IndexMap.{set_value_at}
 use Rattle.wi_sessions.specs.Sessions.{Session, new_session, told}
 use Rattle.wi_sessions.specs.Roster.{Roster}
-use Rattle.wi_sessions.specs.Inner.Held.{session_in, cells_of, rooms_of, roster_in}
+use Rattle.wi_sessions.specs.Inner.Held.{session_in, pending_cells, rooms_of, roster_in}
 use Rattle.wi_sessions.specs.declared.held.Held.{Held}
 use Rattle.wi_sessions.proofs.RosterLemmas.{entry_at, put_back, part_at, part_set}
 use Rattle.wi_sessions.proofs.sessions.Sessions.tell.Goals as goal
@@ -25,7 +25,7 @@ returns-clause-pending c =
     let items = c.self.inside.held.entries in
     let x = c.index_mut.result.now in
     let e = entry_at items c.args.i x c.index_mut.ensures.value in
-    on_ok_weaker c.tell.result (λ h. part_set cells_of items c.args.i e.0 x c.args.self.now.pending e.1 (ap (λ (r : Roster). r.pending) c.self.view_is) c.tell.new.self [] h) c.tell.ensures.cells
+    on_ok_weaker c.tell.result (λ h. part_set pending_cells items c.args.i e.0 x c.args.self.now.pending e.1 (ap (λ (r : Roster). r.pending) c.self.view_is) c.tell.new.self [] h) c.tell.ensures.cells
 
 pub returns-clause-vacant : goal.returns-clause-vacant
 returns-clause-vacant c =

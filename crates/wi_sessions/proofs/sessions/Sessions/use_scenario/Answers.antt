@@ -4,7 +4,7 @@ use Rattle.std.specs.Rc.{rc_str_bytes}
 use Rattle.wi_sessions.specs.Pending.{PendingCells}
 use Rattle.wi_sessions.specs.Sessions.{Session, new_session, using_scenario}
 use Rattle.wi_sessions.specs.Roster.{Roster}
-use Rattle.wi_sessions.specs.Inner.Held.{session_in, cells_of, rooms_of}
+use Rattle.wi_sessions.specs.Inner.Held.{session_in, pending_cells, rooms_of}
 use Rattle.wi_sessions.proofs.RosterLemmas.{entry_at, part_at, part_set, part_same}
 use Rattle.wi_sessions.proofs.sessions.Sessions.use_scenario.Goals as goal
 
@@ -23,7 +23,7 @@ returns-clause-pending c =
     let items = c.self.inside.held.entries in
     let x = c.index_mut.result.now in
     let e = entry_at items c.args.i x c.index_mut.ensures.value in
-    part_same cells_of items c.args.i e.0 x c.args.self.now.pending e.1 (ap (λ (r : Roster). r.pending) c.self.view_is) c.use_scenario.new.self
+    part_same pending_cells items c.args.i e.0 x c.args.self.now.pending e.1 (ap (λ (r : Roster). r.pending) c.self.view_is) c.use_scenario.new.self
     (ap (λ (p : PendingCells). p.cells) c.use_scenario.ensures.pending)
 
 pub returns-clause-vacant : goal.returns-clause-vacant
