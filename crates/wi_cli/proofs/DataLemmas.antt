@@ -3,6 +3,7 @@ use Rattle.std.proofs.Common.{◌≡◌, ℕ, ◌+◌, ◌-◌, ◌<◌, ◌≤�
 use Rattle.std.specs.List.{concat, list_any}
 use Rattle.std.specs.Str.{is_utf8}
 use Rattle.std.specs.Io.KnownBytes.{IsAtEnd, prepend_known}
+use Rattle.std.proofs.Math.Bool.{or-true}
 use Rattle.std.proofs.lemmas.List.{take_all, length-take}
 use Rattle.std.proofs.lemmas.List.Folds.{list_any-append}
 use Rattle.std.proofs.lemmas.Bool.{false≢true, lt-ltb, le-ltb, ltb-true, cases_lt}
@@ -73,16 +74,12 @@ no_csv line content e h = ⊎_elim
 is_long_raw : (whole : Bool) (content : List ℕ) → is_whole content ≡ false → is_long (raw whole content) ≡ ltb 65536 (length content)
 is_long_raw whole content h = ap (λ x. ltb 65536 (length x)) (without_lf-raw whole content h)
 
-or_true : (b : Bool) → (b || true) ≡ true
-or_true true = refl
-or_true false = refl
-
 pub added_long : (whole : Bool) (line content : List ℕ) (before : List (List ℕ)) → is_whole content ≡ false → line ≡ line_front content → 65536 < length line
     → list_any is_long (before ++ raw whole content ∷ []) ≡ true
 added_long whole line content before h e l =
     list_any-append is_long before (raw whole content ∷ [])
     ∙ ap (λ v. list_any is_long before || (v || false)) (is_long_raw whole content h ∙ lt-ltb 65536 (length content) (front_long line content e l))
-    ∙ or_true (list_any is_long before)
+    ∙ or-true (list_any is_long before)
 
 pub added_short : (whole : Bool) (line content : List ℕ) (before : List (List ℕ)) → is_whole content ≡ false → line ≡ line_front content → length line ≤ 65536
     → list_any is_long before ≡ false → list_any is_long (before ++ raw whole content ∷ []) ≡ false
