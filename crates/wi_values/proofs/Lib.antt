@@ -7,6 +7,5 @@ pub mod Lookups
 pub mod Order
 pub mod ReadsBack
 pub mod Replacements
-pub mod Rows
 pub mod Spelling
 pub mod Within

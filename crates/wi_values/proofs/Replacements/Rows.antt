@@ -1,10 +1,10 @@
 -- Replacements worked by hand.
-use Rattle.std.proofs.Common.{◌≡◌, ℕ, true, false, List, [], ◌∷◌, Some, None, refl}
+use Rattle.std.proofs.Common.{◌≡◌, ℕ, true, false, List, [], ◌∷◌, refl}
 use Rattle.wi_values.specs.Address.{place}
 use Rattle.wi_values.specs.declared.value.Value.TheVariants.{Empty, Logical}
 use Rattle.wi_values.specs.declared.value.Value.{Value}
 use Rattle.wi_values.specs.declared.replacement.Replacement.{Replacement}
-use Rattle.wi_values.specs.Replacements.{as_map, replaced, overridden, last_for}
+use Rattle.wi_values.specs.Replacements.{as_map, overridden}
 
 abbrev by : ℕ → Value → Replacement
 by a v = record { at = a; value = v }
@@ -29,21 +29,3 @@ others = by c3 (Logical false) ∷ by a1 (Logical true) ∷ by a1 Empty ∷ []
 -- put in, they stand in order, the later one of A1, and in the place of the old one of C3
 all_of_them : overridden (as_map old) others ≡ as_map (by a1 Empty ∷ by a2 (Logical true) ∷ by c3 (Logical false) ∷ [])
 all_of_them = refl
-
--- the last of A1 is Empty, and A2 has none
-last_of_a1 : last_for others a1 ≡ Some Empty
-last_of_a1 = refl
-
-none_of_a2 : last_for others a2 ≡ None
-none_of_a2 = refl
-
--- a replacement by Empty is one, and no replacement is none
-emptied : replaced old c3 ≡ Some Empty
-emptied = refl
-
-not_replaced : replaced old a1 ≡ None
-not_replaced = refl
-
--- the same others, put in the other way round
-other_way : overridden (overridden [] others) old ≡ as_map (by a1 Empty ∷ by a2 (Logical true) ∷ by c3 Empty ∷ [])
-other_way = refl
