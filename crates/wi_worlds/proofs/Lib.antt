@@ -1,2 +1,3 @@
 pub mod Filtering
 mod Searching
+mod Digest

@@ -5,11 +5,13 @@ ghost use Rattle.std.specs.BTreeMap.{get};
 ghost use Rattle.std.specs.Option.{option_copied, option_or};
 ghost use Rattle.std.specs.Ordering.{nat_cmp};
 ghost use Rattle.wi_values.specs.Replacements.{IsInOrder, as_map, last_for, overridden, replaced};
+ghost use Rattle.wi_worlds.specs.Inner.Compared.{digest_of};
 ghost use Rattle.wi_worlds.specs.Reaching.{cone_has, is_reached};
 
 use crate::entries::{copied, listed, put_in};
 use std::alloc::{AllocError, Global};
 use std::collections::{BTreeMap, BTreeSet};
+use std::hash::{FoldHasher, Hash, Hasher};
 use std::marker::Model;
 use std::rc::RcSlice;
 use wi_values::{Address, Replacement, Value};
@@ -20,11 +22,13 @@ use wi_values::{Address, Replacement, Value};
 pub struct World {
     /// Nothing where there are no replacements.
     shared: Option<RcSlice<Replacement>>,
+    /// A hash of the replacements.
+    digest: u64,
     alloc: Global,
 }
 
 impl Model for World {
-    ghost use Rattle.std.specs.Prelude.{List};
+    ghost use Rattle.std.specs.Prelude.{List, ◌≡◌};
     ghost use Rattle.wi_values.specs.declared.replacement.Replacement.{Replacement};
     ghost use Rattle.std.specs.Coded.{coded_list};
     ghost use Rattle.wi_values.specs.contracts.replacement.Replacement as replacement;
@@ -34,11 +38,12 @@ impl Model for World {
     ghost coded = { coded_list replacement.the_row.coded };
 
     ghost use Rattle.wi_values.specs.Replacements.{IsInOrder};
+    ghost use Rattle.wi_worlds.specs.Inner.Compared.{digest_of};
     ghost use Rattle.wi_worlds.specs.Inner.Shared.{shared_items};
 
     ghost view = { λ w. shared_items w.shared };
 
-    ghost invariant = { λ w. IsInOrder (shared_items w.shared) };
+    ghost invariant = { λ w. IsInOrder (shared_items w.shared) × (w.digest ≡ digest_of (shared_items w.shared)) };
 }
 
 impl World {
@@ -48,6 +53,7 @@ impl World {
     {
         World {
             shared: None,
+            digest: digest(&[]),
             alloc,
         }
     }
@@ -60,9 +66,11 @@ impl World {
         if replacements.is_empty() {
             return Ok(World::new(alloc));
         }
+        let digest = digest(&replacements);
         let shared = RcSlice::from_vec(replacements)?;
         Ok(World {
             shared: Some(shared),
+            digest,
             alloc,
         })
     }
@@ -85,8 +93,16 @@ impl World {
         let shared = self.shared.clone()?;
         Ok(World {
             shared,
+            digest: self.digest,
             alloc: self.alloc,
         })
+    }
+
+    /// A hash of the replacements, found when the world was made.
+    pub(crate) fn digest(&self) -> u64
+        ensures { result ≡ digest_of self.now }
+    {
+        self.digest
     }
 
     /// The replacements with others put in, each in the place of an earlier one for its address. Of two others for
@@ -139,6 +155,15 @@ impl World {
         let kept = reached(self.alloc, count, all, at, cones)?;
         World::of(self.alloc, kept)
     }
+}
+
+/// A hash of replacements.
+fn digest(replacements: &[Replacement]) -> u64
+    ensures { result ≡ digest_of replacements.now }
+{
+    let mut hasher = FoldHasher::default();
+    replacements.hash(&mut hasher);
+    hasher.finish()
 }
 
 /// Of how many replacements the cone has a cell.

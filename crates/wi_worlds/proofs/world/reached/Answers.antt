@@ -1,4 +1,5 @@
-use Rattle.std.proofs.Common.{subst, sym}
+use Rattle.std.proofs.Common.{subst, sym, arith}
+use Rattle.std.proofs.lemmas.Grind.{common_steps}
 use Rattle.std.specs.Prelude.{IsSome}
 use Rattle.std.specs.BTreeMap.{get}
 use Rattle.std.specs.Ordering.{nat_cmp}
@@ -9,3 +10,6 @@ pub is_reached-requires : goal.is_reached-requires
 is_reached-requires c =
     subst (λ (r : Replacement). IsSome (get nat_cmp c.args.cones.now r.at)) (sym c.replacement-item.is)
     (c.requires.cones c.loop-replacement.replacement-index c.replacement-item.result c.loop-replacement-test.true)
+
+pub loop-replacement-preserved : goal.loop-replacement-preserved
+loop-replacement-preserved c = grind (arith, common_steps)

@@ -7,7 +7,7 @@ pub returns-in-Ok : goal.returns-in-Ok
 returns-in-Ok c =
     let facts = c.binary_search_by_key.ensures in
     searched_of c.args.self.now c.replacements-all.result.now c.args.at _ _ c.replacements-all.ensures.order c.replacements-all.ensures.value c.in-Ok.is facts.bound
-    (facts.position (λ r. r.at) (answers_always _ _ _ (λ f a r g called. search rules))) c.index-all-place.result
+    (facts.position (λ r. r.at) (answers_always _ _ _ (λ f a r g called. search rules))) _
 
 pub returns-in-Err : goal.returns-in-Err
 returns-in-Err c =

@@ -1,0 +1,5 @@
+use Rattle.std.proofs.Common.{rules}
+use Rattle.wi_worlds.proofs.world.World.copy.Goals as goal
+
+pub returns : goal.returns
+returns c = search rules

@@ -1,0 +1,7 @@
+use Rattle.std.proofs.Common.{rules}
+use Rattle.wi_worlds.specs.Inner.Compared.{digest_of}
+use Rattle.wi_worlds.proofs.world.digest.Goals as goal
+
+pub returns : goal.returns
+unfolding digest_of
+returns c = search rules
