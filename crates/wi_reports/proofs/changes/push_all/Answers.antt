@@ -1,6 +1,6 @@
 use Rattle.std.proofs.Common.{arith}
 use Rattle.std.proofs.lemmas.Grind.{common_steps}
-use Rattle.wi_csv.proofs.Growth.{starts_trans}
+use Rattle.std.proofs.Transfers.{starts_with_trans}
 use Rattle.wi_reports.proofs.changes.push_all.Goals as goal
 
 pub loop-change-preserved : goal.loop-change-preserved
@@ -10,4 +10,4 @@ pub returns-clause-ok : goal.returns-clause-ok
 returns-clause-ok c = grind (arith, common_steps)
 
 pub returns-in_err-push_change-clause-kept : goal.returns-in_err-push_change-clause-kept
-returns-in_err-push_change-clause-kept c = starts_trans _ _ _ c.in_err-push_change.ensures.kept c.loop-change.invariant.kept
+returns-in_err-push_change-clause-kept c = starts_with_trans _ _ _ c.in_err-push_change.ensures.kept c.loop-change.invariant.kept

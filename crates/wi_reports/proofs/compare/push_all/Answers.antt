@@ -1,7 +1,7 @@
 use Rattle.std.proofs.Common.{◌+◌, ◌-◌, ◌∙◌, arith}
 use Rattle.std.proofs.lemmas.Grind.{common_steps}
 use Rattle.std.specs.List.{flat_map}
-use Rattle.wi_csv.proofs.Growth.{starts_trans}
+use Rattle.std.proofs.Transfers.{starts_with_trans}
 use Rattle.wi_values.specs.Address.{cells_of_row}
 use Rattle.wi_reports.specs.Compare.{cell_compared}
 use Rattle.wi_reports.proofs.RowLemmas.{all_rows}
@@ -17,7 +17,7 @@ loop-row-preserved g c =
       within = omega arith;
       same = c.in_ok-push_row.ensures.same ∙ old.same;
       written = one_more_row (λ s. cell_compared s.sheet c.args.first.now c.args.second.now) _ _ c.args.area top (row - top) (row + 1 - top) row _ _ _ (omega arith) (omega arith) old.same old.written c.in_ok-push_row.ensures.ok;
-      kept = starts_trans _ _ _ c.in_ok-push_row.ensures.kept old.kept;
+      kept = starts_with_trans _ _ _ c.in_ok-push_row.ensures.kept old.kept;
     }
 
 pub returns-clause-ok : goal.returns-clause-ok
@@ -40,4 +40,4 @@ pub push_row-requires-clause-second : goal.push_row-requires-clause-second
 push_row-requires-clause-second g c = c.requires.second
 
 pub returns-in_err-push_row-clause-kept : goal.returns-in_err-push_row-clause-kept
-returns-in_err-push_row-clause-kept g c = starts_trans _ _ _ c.in_err-push_row.ensures.kept c.loop-row.invariant.kept
+returns-in_err-push_row-clause-kept g c = starts_with_trans _ _ _ c.in_err-push_row.ensures.kept c.loop-row.invariant.kept

@@ -1,6 +1,6 @@
 use Rattle.std.proofs.Common.{◌+◌, ◌-◌, ◌∙◌, arith}
 use Rattle.std.proofs.lemmas.Grind.{common_steps}
-use Rattle.wi_csv.proofs.Growth.{starts_trans}
+use Rattle.std.proofs.Transfers.{starts_with_trans}
 use Rattle.wi_reports.specs.Compare.{cell_compared}
 use Rattle.wi_reports.proofs.CompareLemmas.{one_cell, all_cells}
 use Rattle.wi_reports.proofs.compare.push_row.Goals as goal
@@ -14,7 +14,7 @@ loop-column-preserved g c =
       within = omega arith;
       same = c.in_ok-push_cell.ensures.same ∙ old.same;
       written = one_cell (λ s. cell_compared s.sheet c.args.first.now c.args.second.now) _ _ c.args.row left (column - left) (column + 1 - left) column c.at-at.result _ _ _ (omega arith) (omega arith) old.same c.at-at.ensures old.written c.in_ok-push_cell.ensures.ok;
-      kept = starts_trans _ _ _ c.in_ok-push_cell.ensures.kept old.kept;
+      kept = starts_with_trans _ _ _ c.in_ok-push_cell.ensures.kept old.kept;
     }
 
 pub returns-clause-ok : goal.returns-clause-ok
@@ -35,4 +35,4 @@ pub push_cell-requires-clause-second : goal.push_cell-requires-clause-second
 push_cell-requires-clause-second g c = c.requires.second
 
 pub returns-in_err-push_cell-clause-kept : goal.returns-in_err-push_cell-clause-kept
-returns-in_err-push_cell-clause-kept g c = starts_trans _ _ _ c.in_err-push_cell.ensures.kept c.loop-column.invariant.kept
+returns-in_err-push_cell-clause-kept g c = starts_with_trans _ _ _ c.in_err-push_cell.ensures.kept c.loop-column.invariant.kept

@@ -1,7 +1,7 @@
 use Rattle.std.proofs.Common.{◌+◌, ◌-◌, ◌∙◌, arith}
 use Rattle.std.proofs.lemmas.Grind.{common_steps}
 use Rattle.std.specs.List.{flat_map}
-use Rattle.wi_csv.proofs.Growth.{starts_trans}
+use Rattle.std.proofs.Transfers.{starts_with_trans}
 use Rattle.wi_reports.specs.Rows.{row_shown}
 use Rattle.wi_reports.proofs.RowLemmas.{rows_more, all_rows}
 use Rattle.wi_reports.proofs.rows.push_all.Goals as goal
@@ -15,7 +15,7 @@ loop-row-preserved g c =
       within = omega arith;
       same = c.in_ok-push_row.ensures.same ∙ old.same;
       written = rows_more c.args.put.now _ _ c.args.area first (row - first) (row + 1 - first) row _ _ _ (omega arith) (omega arith) old.same old.written c.in_ok-push_row.ensures.ok;
-      kept = starts_trans _ _ _ c.in_ok-push_row.ensures.kept old.kept;
+      kept = starts_with_trans _ _ _ c.in_ok-push_row.ensures.kept old.kept;
     }
 
 pub returns-clause-ok : goal.returns-clause-ok
@@ -33,4 +33,4 @@ pub push_row-requires-clause-order : goal.push_row-requires-clause-order
 push_row-requires-clause-order g c = c.requires
 
 pub returns-in_err-push_row-clause-kept : goal.returns-in_err-push_row-clause-kept
-returns-in_err-push_row-clause-kept g c = starts_trans _ _ _ c.in_err-push_row.ensures.kept c.loop-row.invariant.kept
+returns-in_err-push_row-clause-kept g c = starts_with_trans _ _ _ c.in_err-push_row.ensures.kept c.loop-row.invariant.kept

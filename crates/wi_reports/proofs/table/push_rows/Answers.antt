@@ -1,7 +1,7 @@
 use Rattle.std.proofs.Common.{◌+◌, ◌-◌, ◌∙◌, ap, arith}
 use Rattle.std.proofs.lemmas.Grind.{common_steps}
 use Rattle.std.specs.List.{flat_map}
-use Rattle.wi_csv.proofs.Growth.{starts_trans}
+use Rattle.std.proofs.Transfers.{starts_with_trans}
 use Rattle.wi_values.specs.Address.{column_of, cells_of_row}
 use Rattle.wi_reports.specs.Table.{table_row}
 use Rattle.wi_reports.proofs.RowLemmas.{all_rows}
@@ -19,7 +19,7 @@ loop-row-preserved g c =
       within = omega arith;
       same = c.in_ok-push_row.ensures.same ∙ old.same;
       written = rows_more c.args.put.now _ _ table.formula_cell table.input table.second table.column first (row - first) (row + 1 - first) row c.column-column.result c.at.result _ _ _ c.requires.column column (omega arith) (omega arith) c.at.ensures old.same old.written c.in_ok-push_row.ensures.ok;
-      kept = starts_trans _ _ _ c.in_ok-push_row.ensures.kept old.kept;
+      kept = starts_with_trans _ _ _ c.in_ok-push_row.ensures.kept old.kept;
     }
 
 pub returns-clause-ok : goal.returns-clause-ok
@@ -39,4 +39,4 @@ pub push_row-requires-clause-order : goal.push_row-requires-clause-order
 push_row-requires-clause-order g c = c.requires.order
 
 pub returns-in_err-push_row-clause-kept : goal.returns-in_err-push_row-clause-kept
-returns-in_err-push_row-clause-kept g c = starts_trans _ _ _ c.in_err-push_row.ensures.kept c.loop-row.invariant.kept
+returns-in_err-push_row-clause-kept g c = starts_with_trans _ _ _ c.in_err-push_row.ensures.kept c.loop-row.invariant.kept
