@@ -72,16 +72,13 @@ impl RangeIndex {
         ensures order { IfOk result (λ readers. IsStrictlyIncreasing readers.items) }
         ensures readers { IfOk result (λ readers. (r : ℕ) → Contains readers.items r ↔ IsReader self.now at r) }
     {
+        let row = at.row();
+        if self.pieces.is_empty() {
+            return Ok(Vec::new(self.alloc));
+        }
         let mut readers = BTreeSet::new(self.alloc);
         let level = highest_level(&self.pieces);
-        add_all_readers(
-            &self.pieces,
-            at,
-            at.row(),
-            &Block::sheet(),
-            level,
-            &mut readers,
-        )?;
+        add_all_readers(&self.pieces, at, row, &Block::sheet(), level, &mut readers)?;
         listed(self.alloc, &readers)
     }
 

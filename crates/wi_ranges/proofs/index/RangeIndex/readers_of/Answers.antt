@@ -1,9 +1,10 @@
-use Rattle.std.proofs.Common.{◌≡◌, ◌∙◌, ◌||◌, ◌↔◌, ℕ, List, sym, ap, subst, false}
+use Rattle.std.proofs.Common.{◌≡◌, ◌∙◌, ◌||◌, ◌↔◌, ℕ, List, [], ◌∷◌, length, refl, sym, ap, subst, arith, true, false}
 use Rattle.std.specs.Ordering.{nat_cmp}
 use Rattle.std.specs.Cmp.{nat_cmp_total}
 use Rattle.std.specs.List.{Contains, list_any}
 use Rattle.std.specs.List.Sorted.{IsStrictlyIncreasing}
 use Rattle.std.specs.BTreeSet.{contains}
+use Rattle.std.proofs.lemmas.Bool.{true≢false}
 use Rattle.std.proofs.lemmas.Result.{IfOk-weaker}
 use Rattle.std.proofs.lemmas.Map.Keys.{IsStrictlyIncreasing-from_sorted}
 use Rattle.std.proofs.lemmas.Map.Lookups.{exact_unsigned}
@@ -12,9 +13,27 @@ use Rattle.std.specs.BTreeMap.{is_at}
 use Rattle.wi_ranges.specs.declared.block.Block.{Block}
 use Rattle.wi_ranges.specs.Blocks.{blocks_with}
 use Rattle.wi_ranges.specs.Bag.{Bag, IsReader}
-use Rattle.wi_ranges.specs.Inner.Index.{reads_at}
+use Rattle.wi_ranges.specs.Inner.Index.{Piece, reads_at}
 use Rattle.wi_ranges.proofs.Found.{reader_found, found_reader}
 use Rattle.wi_ranges.proofs.index.RangeIndex.readers_of.Goals as goal
+
+no_items : {X : Type 0} (xs : List X) → length xs ≡ 0 → xs ≡ []
+no_items [] h = refl
+no_items (x ∷ xs) h = absurd (omega (arith, h))
+
+none_there : (us : List ℕ) (r : ℕ) → us ≡ [] → Contains us r → ⊥
+none_there us r e h = let k = subst (λ (vs : List ℕ). Contains vs r) e h in omega (arith, k.1)
+
+pub returns-then-is_empty-clause-readers : goal.returns-then-is_empty-clause-readers
+returns-then-is_empty-clause-readers c =
+    let ks = c.self.inside.pieces.keys in
+    let row = c.row-row.result in
+    let a = c.args.at in
+    let none : ks ≡ [] = no_items ks (c.if-is_empty.ensures.0 refl) in λ r. (
+      λ h. absurd (none_there c.new.result.items r c.new.ensures.items h),
+      λ h. absurd (true≢false (sym (subst (λ (us : List Piece). list_any (reads_at (blocks_with row 20 0) a r) us ≡ true) none
+          (found_reader c.self.inside.counts.entries ks row a r c.row-row.ensures.value c.row-row.ensures.within c.self.invariant.0 (subst (λ (b : Bag). IsReader b a r) (sym c.self.view_is) h))))),
+    )
 
 pub returns-clause-order : goal.returns-clause-order
 returns-clause-order c =
@@ -26,7 +45,7 @@ returns-clause-readers c =
     let set = c.add_all_readers.new.readers in
     let bag = c.self.inside.counts.entries in
     let ks = c.self.inside.pieces.keys in
-    let row = c.row.result in
+    let row = c.row-row.result in
     let a = c.args.at in
     let xs = blocks_with row 20 0 in
     let path = ap (λ (x : Block). blocks_with row x.level x.first) c.sheet.ensures in
@@ -39,7 +58,7 @@ returns-clause-readers c =
     (reader_found bag ks xs a r c.self.invariant.0 (sym (found r) ∙ (btree_set_contains_iff nat_cmp_total exact_unsigned set r).1 h)) in
     let read : (r : ℕ) → IsReader c.args.self.now a r → Contains set.keys r = λ r h.
     (btree_set_contains_iff nat_cmp_total exact_unsigned set r).0
-    (found r ∙ found_reader bag ks row a r c.row.ensures.value c.row.ensures.within c.self.invariant.0 (subst (λ (b : Bag). IsReader b a r) (sym c.self.view_is) h)) in
+    (found r ∙ found_reader bag ks row a r c.row-row.ensures.value c.row-row.ensures.within c.self.invariant.0 (subst (λ (b : Bag). IsReader b a r) (sym c.self.view_is) h)) in
     IfOk-weaker c.listed.result (λ list. list.items ≡ set.keys) (λ list. (r : ℕ) → Contains list.items r ↔ IsReader c.args.self.now a r)
     (λ list e r. (
       λ h. reader r (subst (λ (us : List ℕ). Contains us r) e h),
