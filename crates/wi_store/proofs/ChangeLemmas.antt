@@ -14,7 +14,7 @@ use Rattle.wi_parser.specs.declared.content.Content.{Content}
 use Rattle.wi_store.specs.Store.{edited}
 use Rattle.wi_store.specs.Inner.Rooms.{Rooms, sheet_in, room_of, HasNoVacancy, VacantOnlyAt, HasRoomFor}
 use Rattle.wi_store.specs.Inner.Exchange.{stood, restored}
-use Rattle.wi_store.proofs.RoomLemmas.{Ascends}
+use Rattle.wi_store.proofs.RoomLemmas.{Ascends, length-sheet_in-le}
 use Rattle.wi_store.proofs.ExchangeLemmas.{nothing_stands, count, length-with_content}
 
 abbrev pub Changes : Type 0
@@ -132,14 +132,6 @@ restored_more s s' t cs i d v l e h =
     ∙ ap (λ (xs : Changes). restored s xs) (sym (take_more cs i d l)) ∙ h
 
 -- ---- how many contents there are
-
-pub length-sheet_in-le : (rooms : Rooms) → length (sheet_in rooms) ≤ length rooms
-length-sheet_in-le [] = omega arith
-length-sheet_in-le (e ∷ es) = by e.1 (length-sheet_in-le es)
-  where
-    by : (o : Option Content) → length (sheet_in es) ≤ length es → length (sheet_in ((e.0, o) ∷ es)) ≤ length {A = ℕ × Option Content} ((e.0, o) ∷ es)
-    by None h = omega arith
-    by (Some x) h = omega arith
 
 count-is_some : (o : Option Content) → from_bool (is_some o) ≡ count o
 count-is_some None = refl

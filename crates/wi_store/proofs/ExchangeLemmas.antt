@@ -1,6 +1,6 @@
 -- Laws of exchanging contents: in rooms, in the sheet, and back.
 use Rattle.std.proofs.Common.{◌≡◌, ℕ, ◌+◌, ◌<◌, ◌==◌, Bool, true, false, cond, List, [], ◌∷◌, length, not, Option, Some, None, refl, sym, ap, ◌∙◌, subst, arith, ⊎_elim, inl, inr, ◌⊎◌}
-use Rattle.std.specs.Option.{option_flatten, is_some}
+use Rattle.std.specs.Option.{option_flatten, unwrap_or}
 use Rattle.std.specs.Ordering.{nat_cmp}
 use Rattle.std.specs.Map.{set_value, remove_entry}
 use Rattle.std.specs.BTreeMap.{is_at, insert_entry}
@@ -99,7 +99,7 @@ without-nothing a (e ∷ es) h r =
 -- ---- a room made and a room taken away
 
 -- a new room that is vacant adds nothing to the sheet
-pub sheet_in-make : (a : ℕ) (rooms : Rooms) → room_of rooms a ≡ None → sheet_in (insert_entry nat_cmp rooms a None) ≡ sheet_in rooms
+sheet_in-make : (a : ℕ) (rooms : Rooms) → room_of rooms a ≡ None → sheet_in (insert_entry nat_cmp rooms a None) ≡ sheet_in rooms
 sheet_in-make a [] r = refl
 sheet_in-make a (e ∷ es) r =
     ⊎_elim (λ p. let n : room_of (e ∷ es) a ≡ Some e.1 = rw (is_at_equal a e.0 p) refl in cc)
@@ -107,6 +107,25 @@ sheet_in-make a (e ∷ es) r =
     (λ l. rw (cmp_after a e.0 l) (sheet_in-cons e.0 e.1 (insert_entry nat_cmp es a None)
     ∙ ap (λ (s : Sheet). with_front e.0 e.1 s) (sheet_in-make a es (rw (at_earlier a e.0 l) at r)) ∙ sym (sheet_in-cons e.0 e.1 es))))
     (cases_order a e.0)
+
+-- a content put where it stands
+insert_entry-same : (a : ℕ) (p : Option Content) (rooms : Rooms) → Ascends rooms → room_of rooms a ≡ Some p → insert_entry nat_cmp rooms a p ≡ rooms
+insert_entry-same a p [] h r = cc
+insert_entry-same a p (e ∷ es) h r =
+    ⊎_elim (λ q. let n : room_of (e ∷ es) a ≡ Some e.1 = rw (is_at_equal a e.0 q) refl in
+    let s : e.1 ≡ p = cc in rw (cmp_equal a e.0 q) (ap (λ (o : Option Content). (e.0, o) ∷ es) (sym s)))
+    (⊎_elim (λ l. let n : room_of (e ∷ es) a ≡ None = lookup_after a (e ∷ es) (l, come_after_earlier a e.0 es l h.0) in cc)
+    (λ l. rw (cmp_after a e.0 l) (ap (λ (r : Rooms). e ∷ r) (insert_entry-same a p es h.1 (rw (at_earlier a e.0 l) at r)))))
+    (cases_order a e.0)
+
+-- a room that is there, or else is made, adds nothing to the sheet
+pub sheet_in-enter : (a : ℕ) (o : Option Content) (old new : Rooms) → Ascends old → new ≡ insert_entry nat_cmp old a o → o ≡ unwrap_or (room_of old a) None
+    → sheet_in new ≡ sheet_in old
+sheet_in-enter a o old new h p e = ap (λ (r : Rooms). sheet_in r) p ∙ by (room_of old a) refl e
+  where
+    by : (r : Option (Option Content)) → room_of old a ≡ r → o ≡ unwrap_or r None → sheet_in (insert_entry nat_cmp old a o) ≡ sheet_in old
+    by None n e = ap (λ (p : Option Content). sheet_in (insert_entry nat_cmp old a p)) e ∙ sheet_in-make a old n
+    by (Some x) n e = ap (λ (r : Rooms). sheet_in r) (insert_entry-same a o old h (n ∙ ap (λ (y : Option Content). Some y) (sym e)))
 
 -- a vacant room taken away takes nothing from the sheet
 pub sheet_in-release : (a : ℕ) (rooms : Rooms) → room_of rooms a ≡ Some None → sheet_in (remove_entry (is_at (nat_cmp a)) rooms) ≡ sheet_in rooms
@@ -214,9 +233,5 @@ pub nothing_put : (a : ℕ) (o : Option Content) (rooms : Rooms) → Ascends roo
 nothing_put a o rooms h n e = rw e (sym (without-nothing a (sheet_in rooms) (Ascends-sheet_in rooms h) (nothing_stands a rooms h n)))
 
 -- a room that is vacant after one was made is that one, or was so before
-pub vacancy_made : (a q : ℕ) (x y : Option (Option Content)) → x ≡ cond (is_at (nat_cmp a) q) (Some None) y → x ≡ Some None → (q ≡ a) ⊎ (y ≡ Some None)
-vacancy_made a q x y e h = ⊎_elim (λ p. inl p) (λ apart. inr (sym (rw (is_at_apart a q apart) at e) ∙ h)) (cases_eq q a)
-
-pub none_from : (o : Option (Option Content)) → is_some o ≡ false → o ≡ None
-none_from None h = refl
-none_from (Some x) h = cc
+pub vacancy_made : (a q : ℕ) (w : Option Content) (x y : Option (Option Content)) → x ≡ cond (is_at (nat_cmp a) q) (Some w) y → x ≡ Some None → (q ≡ a) ⊎ (y ≡ Some None)
+vacancy_made a q w x y e h = ⊎_elim (λ p. inl p) (λ apart. inr (sym (rw (is_at_apart a q apart) at e) ∙ h)) (cases_eq q a)

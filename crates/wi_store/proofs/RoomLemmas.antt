@@ -1,5 +1,5 @@
 -- Laws of rooms and of the sheet in them.
-use Rattle.std.proofs.Common.{◌≡◌, ℕ, ◌+◌, ◌<◌, Bool, true, false, cond, List, [], ◌∷◌, filter, length, Option, Some, None, refl, sym, ap, ◌∙◌, subst, arith, ⊎_elim}
+use Rattle.std.proofs.Common.{◌≡◌, ℕ, ◌+◌, ◌<◌, ◌≤◌, Bool, true, false, cond, List, [], ◌∷◌, filter, length, Option, Some, None, refl, sym, ap, ◌∙◌, subst, arith, ⊎_elim}
 use Rattle.std.specs.Option.{option_flatten}
 use Rattle.std.specs.List.{AllByRecursion}
 use Rattle.std.specs.Ordering.{nat_cmp}
@@ -95,6 +95,21 @@ keys-sheet_in [] h n = refl
 keys-sheet_in (e ∷ es) h n =
     let o : e.1 ≡ None → ⊥ = λ p. n e.0 (room_of-here e.0 e.1 es ∙ ap (λ (o : Option Content). Some o) p) in
     keys-one_more e.0 e.1 es o (keys-sheet_in es h.1 (λ a v. n a (room_of-tail a e.0 e.1 es h.0 v)))
+
+-- ---- where some are
+
+-- the sheet is no longer than the rooms
+pub length-sheet_in-le : (rooms : Rooms) → length (sheet_in rooms) ≤ length rooms
+length-sheet_in-le [] = omega arith
+length-sheet_in-le (e ∷ es) = by e.1 (length-sheet_in-le es)
+  where
+    by : (o : Option Content) → length (sheet_in es) ≤ length es → length (sheet_in ((e.0, o) ∷ es)) ≤ length {A = ℕ × Option Content} ((e.0, o) ∷ es)
+    by None h = omega arith
+    by (Some x) h = omega arith
+
+-- after rooms were made in which nothing stands, the sheet is as long as the rooms were
+pub length-made : (old new : Rooms) → Ascends old → HasNoVacancy old → sheet_in new ≡ sheet_in old → length old ≡ length (sheet_in new)
+length-made old new h n e = sym (length-sheet_in old h n) ∙ ap length (sym e)
 
 -- ---- formula cells
 

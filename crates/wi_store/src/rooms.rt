@@ -1,7 +1,7 @@
 //! Rooms for contents. An edit first makes room for every content that it brings. Then it exchanges contents,
 //! which takes no memory and can be taken back. At the end the vacant rooms go.
 
-ghost use Rattle.std.specs.Prelude.{◌≡◌, ◌≢◌, ◌+◌, ◌≤◌, ◌⊎◌, ◌↔◌, ℕ, IsTrue, All, Some, None, length, OnOk, IfOk};
+ghost use Rattle.std.specs.Prelude.{◌≡◌, ◌≢◌, ◌+◌, ◌⊎◌, ◌↔◌, ℕ, IsTrue, All, Some, None, length, OnOk, IfOk};
 ghost use Rattle.std.specs.Map.{keys_of};
 ghost use Rattle.wi_parser.specs.Sheet.{content_of, with_content};
 ghost use Rattle.wi_store.specs.Store.{edited};
@@ -20,25 +20,24 @@ pub(crate) type Rooms = BTreeMap<Address, Option<Content>>;
 /// A cell, and the content that it gets, or none.
 pub(crate) type Change = (Address, Option<Content>);
 
-/// Makes a room for a cell that gets a content and has none, and answers how many it made.
-fn make_one(rooms: &mut Rooms, at: Address, content: &Option<Content>) -> Result<usize, AllocError>
+/// Makes a room for a cell that gets a content and has none. One search, and none for a cell that gets nothing.
+fn make_one(rooms: &mut Rooms, at: Address, content: &Option<Content>) -> Result<(), AllocError>
     ensures sheet { sheet_in rooms.new.entries ≡ sheet_in rooms.old.entries }
     ensures order { RoomsAreInOrder rooms.old.entries → RoomsAreInOrder rooms.new.entries }
     ensures vacant { (c : ℕ) → room_of rooms.new.entries c ≡ Some None
         → (c ≡ at) ⊎ (room_of rooms.old.entries c ≡ Some None) }
     ensures kept { (c : ℕ) → room_of rooms.new.entries c ≡ None → room_of rooms.old.entries c ≡ None }
     ensures room { OnOk result (HasRoomFor rooms.new.entries (at, content.now)) }
-    ensures made { IfOk result (λ made. (made ≤ 1) × (length rooms.new.entries ≡ length rooms.old.entries + made)) }
 {
-    if content.is_none() || rooms.contains_key(&at) {
-        return Ok(0);
+    if content.is_none() {
+        return Ok(());
     }
-    rooms.insert(at, None)?;
-    Ok(1)
+    rooms.entry(at)?.or_insert(None);
+    Ok(())
 }
 
-/// Makes a room for each cell that gets a content and has none, and answers how many it made.
-/// If memory runs out, the rooms made so far stay.
+/// Makes a room for each cell that gets a content and has none, and answers how many it made. One search for each
+/// cell that gets a content. If memory runs out, the rooms made so far stay.
 pub(crate) fn make_room(rooms: &mut Rooms, changes: &[Change]) -> Result<usize, AllocError>
     requires order { RoomsAreInOrder rooms.old.entries }
     requires full { HasNoVacancy rooms.old.entries }
@@ -48,11 +47,11 @@ pub(crate) fn make_room(rooms: &mut Rooms, changes: &[Change]) -> Result<usize, 
     ensures room { OnOk result (All (HasRoomFor rooms.new.entries) changes.now) }
     ensures made { IfOk result (λ made. length rooms.new.entries ≡ length (sheet_in rooms.new.entries) + made) }
 {
-    let mut made = 0;
+    let before = rooms.len();
     for (at, content) in changes {
-        made += make_one(rooms, *at, content)?;
+        make_one(rooms, *at, content)?;
     }
-    Ok(made)
+    Ok(rooms.len() - before)
 }
 
 /// Exchanges a content, or none, with what stands in a cell.

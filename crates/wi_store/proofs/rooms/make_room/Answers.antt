@@ -1,25 +1,20 @@
-use Rattle.std.proofs.Common.{◌≡◌, ◌<◌, length, refl, ap, ◌∙◌, arith}
+use Rattle.std.proofs.Common.{◌<◌, length, refl, ◌∙◌, arith}
 use Rattle.std.proofs.lemmas.Result.{IfOk-at_ok}
-use Rattle.wi_store.specs.Inner.Rooms.{sheet_in, HasRoomFor}
-use Rattle.wi_store.proofs.RoomLemmas.{Ascends-from_order, length-sheet_in}
+use Rattle.wi_store.specs.Inner.Rooms.{HasRoomFor}
+use Rattle.wi_store.proofs.RoomLemmas.{Ascends-from_order, length-sheet_in-le, length-made}
 use Rattle.wi_store.proofs.ChangeLemmas.{vacant_none, vacant_more_made, room_more_made}
 use Rattle.wi_store.proofs.rooms.make_room.Goals as goal
 
 pub loop-at-init : goal.loop-at-init
-loop-at-init c =
-    let all : length (sheet_in c.args.rooms.now.entries) ≡ length c.args.rooms.now.entries =
-    length-sheet_in c.args.rooms.now.entries (Ascends-from_order c.args.rooms.now.entries c.requires.order) c.requires.full in
-    record {
-      sheet = refl;
-      order = c.requires.order;
-      vacant = vacant_none _ c.args.rooms.now.entries c.requires.full;
-      room = λ k d l. absurd (omega arith);
-      made = omega arith;
-      small = omega arith;
-    }
+loop-at-init c = record {
+  sheet = refl;
+  order = c.requires.order;
+  vacant = vacant_none _ c.args.rooms.now.entries c.requires.full;
+  room = λ k d l. absurd (omega arith);
+}
 
-pub returns-in_err-made-clause-vacant : goal.returns-in_err-made-clause-vacant
-returns-in_err-made-clause-vacant c =
+pub returns-in_err-make_one-clause-vacant : goal.returns-in_err-make_one-clause-vacant
+returns-in_err-make_one-clause-vacant c =
     vacant_more_made c.args.changes.now c.loop-at.at-index c.loop-at-item.result c.loop-at.rooms.entries c.make_one.new.rooms.entries
     (omega arith) c.loop-at-item.is c.make_one.ensures.vacant c.loop-at.invariant.vacant
 
@@ -33,12 +28,24 @@ loop-at-preserved c =
           below c.loop-at-item.is c.make_one.ensures.vacant c.loop-at.invariant.vacant;
       room = room_more_made c.args.changes.now c.loop-at.at-index c.loop-at-item.result c.loop-at.rooms.entries c.make_one.new.rooms.entries
           below c.loop-at-item.is c.make_one.ensures.kept
-          (IfOk-at_ok (λ _. HasRoomFor c.make_one.new.rooms.entries c.loop-at-item.result) c.in_ok-made.was c.make_one.ensures.room) c.loop-at.invariant.room;
-      made =
-          let same : length (sheet_in c.make_one.new.rooms.entries) ≡ length (sheet_in c.loop-at.rooms.entries) = ap length c.make_one.ensures.sheet in
-          omega (arith, c.in_ok-made.ensures.made.1);
-      small = omega (arith, c.in_ok-made.ensures.made.0);
+          (IfOk-at_ok (λ _. HasRoomFor c.make_one.new.rooms.entries c.loop-at-item.result) c.in_ok-make_one.was c.make_one.ensures.room) c.loop-at.invariant.room;
     }
+
+pub overflow_sub-result : goal.overflow_sub-result
+overflow_sub-result c =
+    omega (
+      arith,
+      length-made c.args.rooms.now.entries c.loop-at.rooms.entries (Ascends-from_order c.args.rooms.now.entries c.requires.order) c.requires.full c.loop-at.invariant.sheet,
+      length-sheet_in-le c.loop-at.rooms.entries,
+    )
 
 pub returns-clause-room : goal.returns-clause-room
 returns-clause-room c = λ k d l. c.loop-at.invariant.room k d (omega arith)
+
+pub returns-clause-made : goal.returns-clause-made
+returns-clause-made c =
+    omega (
+      arith,
+      length-made c.args.rooms.now.entries c.loop-at.rooms.entries (Ascends-from_order c.args.rooms.now.entries c.requires.order) c.requires.full c.loop-at.invariant.sheet,
+      length-sheet_in-le c.loop-at.rooms.entries,
+    )

@@ -1,4 +1,4 @@
-use Rattle.std.proofs.Common.{◌≡◌, ℕ, ◌+◌, ◌<◌, ◌≤◌, length, get_or, Option}
+use Rattle.std.proofs.Common.{◌≡◌, ℕ, ◌<◌, get_or, Option}
 use Rattle.std.specs.Map.{keys_of}
 use Rattle.wi_parser.specs.declared.content.Content.{Content}
 use Rattle.wi_store.specs.Inner.Rooms.{sheet_in, RoomsAreInOrder, VacantOnlyAt, HasRoomFor}
@@ -10,6 +10,4 @@ invariant-loop-at l = record {
   order : RoomsAreInOrder l.rooms.entries;
   vacant : VacantOnlyAt (keys_of l.changes) l.rooms.entries;
   room : (k : ℕ) (d : ℕ × Option Content) → k < l.at-index → HasRoomFor l.rooms.entries (get_or l.changes k d);
-  made : length l.rooms.entries ≡ length (sheet_in l.rooms.entries) + l.made;
-  small : l.made ≤ l.at-index;
 }
