@@ -111,6 +111,20 @@ length-sheet_in-le (e ∷ es) = by e.1 (length-sheet_in-le es)
 pub length-made : (old new : Rooms) → Ascends old → HasNoVacancy old → sheet_in new ≡ sheet_in old → length old ≡ length (sheet_in new)
 length-made old new h n e = sym (length-sheet_in old h n) ∙ ap length (sym e)
 
+content_first : (b : Bool) (x : Content) (o : Option (Option Content)) → (o ≡ Some None → ⊥) → cond b (Some (Some x)) o ≡ Some None → ⊥
+content_first true x o n v = cc
+content_first false x o n v = n v
+
+no_vacancy-one_more : (c : ℕ) (o : Option Content) (es : Rooms) → (length es ≤ length (sheet_in es) → HasNoVacancy es)
+    → length es + 1 ≤ length (sheet_in ((c, o) ∷ es)) → HasNoVacancy ((c, o) ∷ es)
+no_vacancy-one_more c None es h l = absurd (omega (arith, length-sheet_in-le es))
+no_vacancy-one_more c (Some x) es h l = λ a v. content_first (is_at (nat_cmp a) c) x (room_of es a) (h (omega arith) a) v
+
+-- where it is as long, none is vacant
+pub no_vacancy : (rooms : Rooms) → length rooms ≤ length (sheet_in rooms) → HasNoVacancy rooms
+no_vacancy [] l = λ a v. cc
+no_vacancy (e ∷ es) l = no_vacancy-one_more e.0 e.1 es (no_vacancy es) (omega arith)
+
 -- ---- formula cells
 
 filter_same : (p q : ℕ → Bool) (cs : List ℕ) → AllByRecursion (λ c. p c ≡ q c) cs → filter p cs ≡ filter q cs

@@ -24,8 +24,8 @@ impl Limits {
         }
     }
 
-    /// Whether so many occupied cells are within the limits, and one edit more than `edits`.
-    pub(crate) fn admit(&self, cells: u64, edits: u64) -> Result<(), StoreFault>
+    /// So many occupied cells, if they are within the limits and one edit more than `edits` is.
+    pub(crate) fn admit(&self, cells: u64, edits: u64) -> Result<u64, StoreFault>
         ensures { result ≡ admitted self.now cells edits }
     {
         if cells > self.cells {
@@ -33,7 +33,7 @@ impl Limits {
         } else if edits >= self.edits {
             Err(StoreFault::EditLimit)
         } else {
-            Ok(())
+            Ok(cells)
         }
     }
 }

@@ -130,8 +130,8 @@ fn release_one(rooms: &mut Rooms, at: Address)
     }
 }
 
-/// Takes away the vacant rooms.
-pub(crate) fn release(rooms: &mut Rooms, changes: &[Change])
+/// Takes away the vacant rooms. One search for each change, and one more for each room that goes.
+fn release_each(rooms: &mut Rooms, changes: &[Change])
     requires order { RoomsAreInOrder rooms.old.entries }
     requires vacant { VacantOnlyAt (keys_of changes.now) rooms.old.entries }
     ensures sheet { sheet_in rooms.new.entries ≡ sheet_in rooms.old.entries }
@@ -140,5 +140,19 @@ pub(crate) fn release(rooms: &mut Rooms, changes: &[Change])
 {
     for (at, _) in changes {
         release_one(rooms, *at);
+    }
+}
+
+/// Takes away the vacant rooms; `occupied` is how many cells have a content. No search where no room is vacant.
+pub(crate) fn release(rooms: &mut Rooms, changes: &[Change], occupied: u64)
+    requires order { RoomsAreInOrder rooms.old.entries }
+    requires vacant { VacantOnlyAt (keys_of changes.now) rooms.old.entries }
+    requires occupied { occupied ≡ length (sheet_in rooms.old.entries) }
+    ensures sheet { sheet_in rooms.new.entries ≡ sheet_in rooms.old.entries }
+    ensures order { RoomsAreInOrder rooms.new.entries }
+    ensures full { HasNoVacancy rooms.new.entries }
+{
+    if occupied < rooms.len() as u64 {
+        release_each(rooms, changes);
     }
 }

@@ -107,13 +107,16 @@ impl Store {
     /// cell the later counts.
     /// `Full` if the sheet would then have more occupied cells than the limit, or else `EditLimit` if no more
     /// edits are accepted; `Memory` if memory runs out. After each of them all is as before. The work for each
-    /// pair grows with the logarithm of the count of occupied cells.
+    /// pair grows with the logarithm of the count of occupied cells: two searches for a content and one for none; up to
+    /// two more for each pair where a cell loses its content, and up to three where the edit is refused.
     pub fn apply(&mut self, mut changes: Vec<(Address, Option<Content>)>) -> Result<(), StoreFault>
         ensures { Applies (applied self.old changes.items) result self.old self.new }
     {
         settle(&mut changes);
+        let before = self.occupied();
         let answer = edit(&mut self.rooms, &self.limits, self.edits, &mut changes);
-        release(&mut self.rooms, &changes);
+        let occupied = answer.unwrap_or(before);
+        release(&mut self.rooms, &changes, occupied);
         answer?;
         self.edits += 1;
         Ok(())
@@ -290,13 +293,14 @@ fn is_formula(room: &Option<Content>) -> bool
     matches!(room, Some(Content::Formula(_)))
 }
 
-// Does an edit, or refuses it and leaves the sheet as it was. Rooms of the changed cells may be vacant then.
+// Does an edit, and answers how many cells have a content then, or refuses it and leaves the sheet as it was. Rooms of
+// the changed cells may be vacant after either.
 fn edit(
     rooms: &mut Rooms,
     limits: &Limits,
     edits: u64,
     changes: &mut [Change],
-) -> Result<(), StoreFault>
+) -> Result<u64, StoreFault>
     requires order { RoomsAreInOrder rooms.old.entries }
     requires full { HasNoVacancy rooms.old.entries }
     ensures done { OnOk result (sheet_in rooms.new.entries ≡ edited (sheet_in rooms.old.entries) changes.old) }

@@ -16,8 +16,8 @@ abbrev pub restored : Sheet → List (ℕ × Option Content) → Sheet
 restored s [] = s
 restored s (e ∷ es) = with_content (restored s es) e.0 e.1
 
--- the limits admit so many occupied cells, and one edit more
-abbrev pub admitted : Limits → ℕ → ℕ → Result (Unit {0}) StoreFault
+-- so many occupied cells, if the limits admit them and one edit more
+abbrev pub admitted : Limits → ℕ → ℕ → Result ℕ StoreFault
 admitted limits cells edits =
     if nat_lt limits.cells cells then Err Full
-    else (if nat_le limits.edits edits then Err EditLimit else Ok tt)
+    else (if nat_le limits.edits edits then Err EditLimit else Ok cells)
