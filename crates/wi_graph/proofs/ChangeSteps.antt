@@ -65,8 +65,8 @@ none_both None None h = refl
 none_both None (Some x) h = cc
 none_both (Some x) p h = cc
 
-pub next_out : (rooms old new : Rooms) (k : ℕ) (r : Option (Vec Area)) → (is_none (room_at rooms k) && is_none (items_of r)) ≡ true → Updates k None old new → Puts rooms k (items_of r) old new
-next_out rooms old new k r h u = next_step rooms old new k None (items_of r) (none_both (room_at rooms k) (items_of r) h) u
+pub next_out : (rooms old new : Rooms) (k : ℕ) (r : Option (Vec Area)) → (is_none (items_of r) && is_none (room_at rooms k)) ≡ true → Updates k None old new → Puts rooms k (items_of r) old new
+next_out rooms old new k r h u = next_step rooms old new k None (items_of r) (sym (none_both (items_of r) (room_at rooms k) h)) u
 
 -- nothing idle is next after it either
 no_idle_step : (rooms old new : Rooms) (k : ℕ) (x : Option (Option (Vec Area))) → (room_at rooms k ≡ None → in_room x ≡ None → x ≡ None) → Updates k x old new → HasNoIdle rooms old → HasNoIdle rooms new
@@ -86,8 +86,8 @@ not_both None None e f = refl
 not_both None (Some x) e f = cc
 not_both (Some x) p e f = cc
 
-pub put_idle : (rooms old new : Rooms) (k : ℕ) (r : Option (Vec Area)) → (is_none (room_at rooms k) && is_none (items_of r)) ≡ false → Updates k (Some r) old new → HasNoIdle rooms old → HasNoIdle rooms new
-put_idle rooms old new k r h u = no_idle_step rooms old new k (Some r) (λ n i. let z : true ≡ false = sym (not_both (room_at rooms k) (items_of r) n i) ∙ h in cc) u
+pub put_idle : (rooms old new : Rooms) (k : ℕ) (r : Option (Vec Area)) → (is_none (items_of r) && is_none (room_at rooms k)) ≡ false → Updates k (Some r) old new → HasNoIdle rooms old → HasNoIdle rooms new
+put_idle rooms old new k r h u = no_idle_step rooms old new k (Some r) (λ n i. let z : true ≡ false = sym (not_both (items_of r) (room_at rooms k) i n) ∙ h in cc) u
 
 pub brings_step : (xs : List (ℕ × Option Content)) (i : ℕ) (x : ℕ × Option Content) (rooms old new : Rooms) (o : Option (List Area)) → i < length xs → x ≡ get_or xs i x → o ≡ areas_in x.1 → Puts rooms x.0 o old new → Brings rooms old (take i xs) → Brings rooms new (take (i + 1) xs)
 brings_step xs i x rooms old new o l e g u h c =

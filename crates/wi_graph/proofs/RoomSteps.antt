@@ -1,7 +1,7 @@
 -- Steps of taking an edit, and of taking it back.
-use Rattle.std.proofs.Common.{◌≡◌, ◌==◌, ◌+◌, ◌-◌, ◌<◌, ℕ, zero, suc, Bool, true, false, cond, List, [], ◌∷◌, take, get_or, length, Option, Some, None, refl, ap, sym, ◌∙◌, arith, add-one}
+use Rattle.std.proofs.Common.{◌≡◌, ◌==◌, ◌+◌, ◌-◌, ◌<◌, ℕ, zero, suc, Bool, true, false, cond, not, List, [], ◌∷◌, take, get_or, length, Option, Some, None, refl, ap, sym, ◌∙◌, arith, add-one}
 use Rattle.std.specs.Prelude.{if◌then◌else◌}
-use Rattle.std.specs.Option.{is_none}
+use Rattle.std.specs.Option.{is_some, is_none, option_flatten}
 use Rattle.std.specs.Ordering.{nat_cmp}
 use Rattle.std.specs.Map.{lookup}
 use Rattle.std.specs.Global.{Vec}
@@ -63,6 +63,19 @@ put_nothing rooms k o e n c = at (k == c) refl
     at true s = ap (room_at rooms) (sym (same_cell c k s)) ∙ n ∙ sym e
     at false s = refl
 
+-- none come
+pub none_come : (old new : Rooms) (k : ℕ) (r : Option (Vec Area)) (b : Bool) → is_some r ≡ not b → b ≡ true → ((c : ℕ) → room_at new c ≡ (if k == c then None else room_at old c)) → (c : ℕ) → room_at new c ≡ (if k == c then items_of r else room_at old c)
+none_come old new k None b e t h = h
+none_come old new k (Some v) b e t h = let z : true ≡ false = e ∙ ap not t in cc
+
+-- what a cell had
+pub had_room : (o : Option (Option (Vec Area))) (r : Option (Vec Area)) (s : Option (Option (Vec Area))) → s ≡ o → r ≡ option_flatten s → items_of r ≡ in_room o
+had_room o r s e f = ap items_of f ∙ ap (λ (x : Option (Option (Vec Area))). items_of (option_flatten x)) e ∙ at o
+  where
+    at : (x : Option (Option (Vec Area))) → items_of (option_flatten x) ≡ in_room x
+    at None = refl
+    at (Some y) = refl
+
 none_is : (o : Option (List Area)) → is_none o ≡ true → o ≡ None
 none_is None h = refl
 none_is (Some x) h = cc
@@ -99,10 +112,10 @@ Loses k o old new = (p : RangePair) → count_of new p ≡ count_of old p - time
 pub times_room : (rooms : Rooms) (p : RangePair) (o : Option (List Area)) → room_at rooms p.reader ≡ o → times_in rooms p ≡ times p.reader (areas_of o) p
 times_room rooms p o e = ap (λ (x : Option (List Area)). times p.reader (areas_of x) p) e
 
-pub taking_step : (first_next first next later rooms mid new : Rooms) (readers fewer : Bag) (k : ℕ) (o stood : Option (Vec Area)) → get nat_cmp next k ≡ Some o → Popped next later k →
-    ((c : ℕ) → room_at mid c ≡ (if k == c then items_of o else room_at rooms c)) → ((c : ℕ) → (k == c) ≡ false → get nat_cmp mid c ≡ get nat_cmp rooms c) → items_of stood ≡ room_at rooms k → Loses k (items_of stood) readers fewer →
-    IsOrdered nat_cmp new → ((c : ℕ) → room_at new c ≡ room_at mid c) → ((c : ℕ) → (k == c) ≡ false → get nat_cmp new c ≡ get nat_cmp mid c) → IsTaking first_next first next rooms readers → IsTaking first_next first later new fewer
-taking_step first_next first next later rooms mid new readers fewer k o stood g u m mo s l ord n nx t = record {
+pub taking_step : (first_next first next later rooms new : Rooms) (readers fewer : Bag) (k : ℕ) (o stood : Option (Vec Area)) → get nat_cmp next k ≡ Some o → Popped next later k → IsOrdered nat_cmp new →
+    ((c : ℕ) → room_at new c ≡ (if k == c then items_of o else room_at rooms c)) → ((c : ℕ) → (k == c) ≡ false → get nat_cmp new c ≡ get nat_cmp rooms c) → items_of stood ≡ room_at rooms k → Loses k (items_of stood) readers fewer →
+    IsTaking first_next first next rooms readers → IsTaking first_next first later new fewer
+taking_step first_next first next later rooms new readers fewer k o stood g u ord n nx s l t = record {
   ordered = ord;
   has_rooms = λ c h. room c h (k == c) refl;
   pairs = λ p. counted p (k == p.reader) refl;
@@ -110,10 +123,10 @@ taking_step first_next first next later rooms mid new readers fewer k o stood g 
 }
   where
     here : (c : ℕ) → (k == c) ≡ true → room_at new c ≡ items_of o
-    here c e = n c ∙ m c ∙ ap (λ (b : Bool). cond b (items_of o) (room_at rooms c)) e
+    here c e = n c ∙ ap (λ (b : Bool). cond b (items_of o) (room_at rooms c)) e
 
     there : (c : ℕ) → (k == c) ≡ false → room_at new c ≡ room_at rooms c
-    there c e = n c ∙ m c ∙ ap (λ (b : Bool). cond b (items_of o) (room_at rooms c)) e
+    there c e = n c ∙ ap (λ (b : Bool). cond b (items_of o) (room_at rooms c)) e
 
     no_more : (c : ℕ) → (k == c) ≡ true → get nat_cmp later c ≡ None
     no_more c e = ap (λ (x : ℕ). get nat_cmp later x) (sym (same_cell c k e)) ∙ popped_here next later k u
@@ -123,7 +136,7 @@ taking_step first_next first next later rooms mid new readers fewer k o stood g 
 
     room : (c : ℕ) → get nat_cmp new c ≡ None → (b : Bool) → (k == c) ≡ b → room_at later c ≡ None
     room c h true e = ap in_room (no_more c e)
-    room c h false e = ap in_room (popped_other next later k u c e) ∙ t.has_rooms c (sym (nx c e ∙ mo c e) ∙ h)
+    room c h false e = ap in_room (popped_other next later k u c e) ∙ t.has_rooms c (sym (nx c e) ∙ h)
 
     over : (c : ℕ) (b : Bool) → (k == c) ≡ b → room_over later new c ≡ room_over next rooms c
     over c true e = ap (λ (x : Option (Option (Vec Area))). put_over x (room_at new c)) (no_more c e) ∙ here c e ∙ ap (λ (x : Option (Option (Vec Area))). put_over x (room_at rooms c)) (sym (was c e))

@@ -66,9 +66,9 @@ fn put_next(
 
 /// Whether a cell has no formula and gets none.
 fn stays_vacant(rooms: &Rooms, cell: Address, room: &Option<Vec<Rect>>) -> bool
-    ensures { result ≡ (is_none (room_at rooms.now cell) && is_none (items_of room.now)) }
+    ensures { result ≡ (is_none (items_of room.now) && is_none (room_at rooms.now cell)) }
 {
-    is_vacant(rooms, cell) && room.is_none()
+    room.is_none() && is_vacant(rooms, cell)
 }
 
 /// What a content reads.

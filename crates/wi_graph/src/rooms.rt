@@ -30,7 +30,6 @@ pub(crate) fn take_over(rooms: &mut Rooms, readers: &mut RangeIndex, next: &mut 
         let (cell, mut room) = entry;
         exchange(rooms, cell, &mut room);
         remove_room(readers, cell, &room);
-        release(rooms, cell);
     }
 }
 
@@ -49,7 +48,7 @@ pub(crate) fn take_back(rooms: &mut Rooms, readers: &mut RangeIndex, next: &mut 
     }
 }
 
-/// Exchanges rectangles, or none, with what stands in a cell.
+/// Exchanges rectangles, or none, with what stands in a cell. Where none come, the cell is left without a room.
 fn exchange(rooms: &mut Rooms, at: Address, room: &mut Option<Vec<Rect>>)
     requires ordered { IsOrdered nat_cmp rooms.old }
     requires room { get nat_cmp rooms.old at ≡ None → items_of room.old ≡ None }
@@ -60,9 +59,24 @@ fn exchange(rooms: &mut Rooms, at: Address, room: &mut Option<Vec<Rect>>)
         → get nat_cmp rooms.new c ≡ get nat_cmp rooms.old c }
     ensures stood { items_of room.new ≡ room_at rooms.old at }
 {
+    if room.is_none() {
+        *room = take_room(rooms, at);
+        return;
+    }
     if let Some(stood) = rooms.get_mut(&at) {
         mem::swap(stood, room);
     }
+}
+
+/// Takes away the room of a cell, and gives what stood in it.
+fn take_room(rooms: &mut Rooms, at: Address) -> Option<Vec<Rect>>
+    ensures ordered { IsOrdered nat_cmp rooms.new }
+    ensures rooms { (c : ℕ) → room_at rooms.new c ≡ (if at == c then None else room_at rooms.old c) }
+    ensures others { (c : ℕ) → (at == c) ≡ false
+        → get nat_cmp rooms.new c ≡ get nat_cmp rooms.old c }
+    ensures stood { items_of result ≡ room_at rooms.old at }
+{
+    rooms.remove(&at).flatten()
 }
 
 /// Takes away the room of a cell if it is vacant.
