@@ -1,7 +1,7 @@
 -- Steps of bringing an edit in.
 use Rattle.std.proofs.Common.{◌≡◌, ◌==◌, ◌⊎◌, inl, inr, ◌+◌, ◌-◌, ◌<◌, ℕ, Bool, true, false, cond, List, take, get_or, length, Option, Some, None, refl, ap, sym, ◌∙◌, arith}
 use Rattle.std.specs.Prelude.{if◌then◌else◌}
-use Rattle.std.specs.Option.{is_some}
+use Rattle.std.specs.Option.{unwrap_or}
 use Rattle.std.specs.Ordering.{nat_cmp}
 use Rattle.std.specs.Global.{Vec}
 use Rattle.std.specs.BTreeMap.{get, IsOrdered, is_at}
@@ -32,12 +32,17 @@ put_here old new k o u c e = u c ∙ ap (λ (b : Bool). cond b (Some o) (get nat
 put_other : (old new : Rooms) (k : ℕ) (o : Option (Vec Area)) → Puts old new k o → (c : ℕ) → (k == c) ≡ false → get nat_cmp new c ≡ get nat_cmp old c
 put_other old new k o u c e = u c ∙ ap (λ (b : Bool). cond b (Some o) (get nat_cmp old c)) (is_at-eq k c ∙ e)
 
-pub room_same : (old new : Rooms) (k : ℕ) → get nat_cmp old k ≡ None → Puts old new k None → (c : ℕ) → room_at new c ≡ room_at old c
-room_same old new k n u c = at (k == c) refl
+-- what stood there, or nothing
+pub room_same : (old new : Rooms) (k : ℕ) (o : Option (Vec Area)) (stood : Option (Option (Vec Area))) → o ≡ unwrap_or stood None → stood ≡ get nat_cmp old k → Puts old new k o → (c : ℕ) → room_at new c ≡ room_at old c
+room_same old new k o stood v s u c = at (k == c) refl
   where
+    there : (x : Option (Option (Vec Area))) → items_of (unwrap_or x None) ≡ in_room x
+    there None = refl
+    there (Some y) = refl
+
     at : (b : Bool) → (k == c) ≡ b → room_at new c ≡ room_at old c
-    at true e = ap in_room (put_here old new k None u c e) ∙ sym (ap in_room (ap (λ (x : ℕ). get nat_cmp old x) (sym (same_cell c k e)) ∙ n))
-    at false e = ap in_room (put_other old new k None u c e)
+    at true e = ap in_room (put_here old new k o u c e) ∙ ap items_of v ∙ there stood ∙ ap in_room s ∙ ap (room_at old) (same_cell c k e)
+    at false e = ap in_room (put_other old new k o u c e)
 
 pub room_stays : (old new : Rooms) (k : ℕ) (o : Option (Vec Area)) → Puts old new k o → (c : ℕ) → get nat_cmp new c ≡ None → get nat_cmp old c ≡ None
 room_stays old new k o u c h = at (k == c) refl
@@ -141,7 +146,3 @@ bringing_step first first_left first_next rooms mid readers more left less next 
 pub bringing_end : (first first_left first_next rooms : Rooms) (readers : Bag) (left next : Rooms) → (0 < length left.entries → ⊥) → IsBringing first first_left first_next rooms readers left next →
     (c : ℕ) → get nat_cmp next c ≡ either (get nat_cmp first_left c) (get nat_cmp first_next c)
 bringing_end first first_left first_next rooms readers left next h t c = ap (λ (x : Option (Option (Vec Area))). either x (get nat_cmp next c)) (sym (no_entries left h c)) ∙ t.all c
-
-pub not_some : (o : Option (Option (Vec Area))) → is_some o ≡ false → o ≡ None
-not_some None h = refl
-not_some (Some x) h = cc

@@ -127,10 +127,7 @@ fn make_room(rooms: &mut Rooms, at: Address) -> Result<(), AllocError>
     ensures there { OnOk result (get nat_cmp rooms.new at ≡ None → ⊥) }
     ensures stay { (c : ℕ) → get nat_cmp rooms.new c ≡ None → get nat_cmp rooms.old c ≡ None }
 {
-    if rooms.contains_key(&at) {
-        return Ok(());
-    }
-    rooms.insert(at, None)?;
+    rooms.entry(at)?.or_insert(None);
     Ok(())
 }
 
