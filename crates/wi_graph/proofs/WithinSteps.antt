@@ -1,15 +1,23 @@
--- A search for the cells of a set in a rectangle.
-use Rattle.std.proofs.Common.{◌≡◌, ℕ, ◌<◌, ◌≤◌, true, false, List, [], ◌∷◌, Option, Some, None, IfSome, ap, sym, ◌∙◌, subst, arith}
+-- A search for the cells of a set, or of a list, in a rectangle.
+use Rattle.std.proofs.Common.{◌≡◌, ◌⊎◌, inl, inr, ℕ, zero, suc, ◌+◌, ◌-◌, ◌<◌, ◌≤◌, true, false, List, [], ◌∷◌, length, get_or, Option, Some, None, IfSome, ap, sym, ◌∙◌, subst, arith, ltb-true, ltb-false}
 use Rattle.std.proofs.Math.Arith.{lt_of_le-ne}
+use Rattle.std.proofs.lemmas.Bool.{or_cases, or_left, or_right, cases_lt}
 use Rattle.std.proofs.lemmas.Bool.Decides.{nat_tests}
+use Rattle.std.proofs.lemmas.List.{get_or_default}
+use Rattle.std.proofs.lemmas.List.Sorted.{IsNonDecreasingBy-from_default}
+use Rattle.std.specs.List.{list_any}
+use Rattle.std.specs.List.Sorted.{IsStrictlyIncreasing, IsNonDecreasing, IsPartitionPoint}
+use Rattle.std.specs.Prelude.{nat_lt}
 use Rattle.std.specs.Ordering.{nat_cmp}
+use Rattle.std.specs.BTreeMap.{is_at}
 use Rattle.std.specs.BTreeMap.Range.{IsLeBy}
 use Rattle.std.specs.BTreeSet.{BTreeSet, contains, IsKeyRangeOf}
 use Rattle.std.specs.declared.ops.Bound.TheVariants.{Included}
 use Rattle.wi_values.specs.Address.{Area, is_within}
 use Rattle.wi_values.proofs.Within.{within_between}
+use Rattle.wi_graph.specs.Inner.Search.{as_set}
 use Rattle.wi_graph.specs.Inner.Within.{IsAhead, IsBetween, IsFoundBy}
-use Rattle.wi_graph.proofs.Tests.{clash}
+use Rattle.wi_graph.proofs.Tests.{clash, at_same, at_itself}
 
 -- ---- the first of a range
 
@@ -26,6 +34,51 @@ range_first cells from to k r t g e c h =
 
 pub range_none : (cells : BTreeSet ℕ) (from to : ℕ) (r : List ℕ) → IsKeyRangeOf nat_cmp (Included from) (Included to) cells r → r ≡ [] → (c : ℕ) → IsBetween cells from to c → ⊥
 range_none cells from to r g e c h = clash (contains nat_cmp cells c) h.2 (g.5 e c (le_by from c h.0, le_by c to h.1))
+
+-- ---- the first of a list in order
+
+climbs : (xs : List ℕ) → IsStrictlyIncreasing xs → (i m : ℕ) → i + m < length xs → get_or xs i 0 ≤ get_or xs (i + m) 0
+climbs xs h i zero l = let same : i ≡ i + zero = omega arith in omega (arith, ap (λ (k : ℕ). get_or xs k 0) same)
+climbs xs h i (suc m) l = let on : i + m + 1 ≡ i + suc m = omega arith in omega (arith, ap (λ (k : ℕ). get_or xs k 0) on, climbs xs h i m (omega arith), h (i + m) (omega arith))
+
+pub never_falls : (xs : List ℕ) → IsStrictlyIncreasing xs → IsNonDecreasing xs
+never_falls xs h = IsNonDecreasingBy-from_default (λ (x : ℕ). x) xs 0 (λ i j l m. let at : i + (j - i) ≡ j = omega arith in omega (arith, ap (λ (k : ℕ). get_or xs k 0) at, climbs xs h i (j - i) (omega arith)))
+
+at_place : (xs : List ℕ) (i : ℕ) → i < length xs → contains nat_cmp (as_set xs) (get_or xs i 0) ≡ true
+at_place [] i l = absurd (omega arith)
+at_place (x ∷ xs) zero l = or_left (is_at (nat_cmp x) x) _ (at_itself x)
+at_place (x ∷ xs) (suc i) l = or_right (is_at (nat_cmp (get_or xs i 0)) x) _ (at_place xs i (omega arith))
+
+place_of : (xs : List ℕ) (c : ℕ) → contains nat_cmp (as_set xs) c ≡ true → (i : ℕ) × (i < length xs) × (get_or xs i 0 ≡ c)
+place_of [] c h = cc
+place_of (x ∷ xs) c h = at (or_cases (is_at (nat_cmp c) x) _ h) (place_of xs c)
+  where
+    at : (is_at (nat_cmp c) x ≡ true) ⊎ (list_any (is_at (nat_cmp c)) xs ≡ true) → (list_any (is_at (nat_cmp c)) xs ≡ true → (i : ℕ) × (i < length xs) × (get_or xs i 0 ≡ c)) →
+        (i : ℕ) × (i < length (x ∷ xs)) × (get_or (x ∷ xs) i 0 ≡ c)
+    at (inl e) ih = (0, omega arith, at_same c x e)
+    at (inr k) ih = let i = ih k in (suc i.0, omega (arith, i.1), i.2)
+
+-- those up to k come before a cell, and the others do not
+abbrev pub Splits : ℕ → List ℕ → ℕ → Type 0
+Splits from xs k = IsPartitionPoint (λ x. nat_lt x from ≡ true) (λ x. nat_lt x from ≡ false) xs k
+
+-- so one at the cell or after it stands at k or later
+pub listed_later : (xs : List ℕ) (from k c : ℕ) → IsStrictlyIncreasing xs → Splits from xs k → from ≤ c → contains nat_cmp (as_set xs) c ≡ true → (k < length xs) × (get_or xs k 0 ≤ c)
+listed_later xs from k c s b l h = let x = place_of xs c h in at x.0 x.1 x.2 (cases_lt x.0 k)
+  where
+    at : (i : ℕ) → i < length xs → get_or xs i 0 ≡ c → (i < k) ⊎ (k ≤ i) → (k < length xs) × (get_or xs k 0 ≤ c)
+    at i m e (inl n) = let g = ltb-true _ _ (b.0 i 0 (omega arith) n) in absurd (omega (arith, g, e))
+    at i m e (inr n) = let g = never_falls xs s k i 0 n m in (omega arith, omega (arith, g, e))
+
+-- the cell x stands at k
+standing : (xs : List ℕ) (k x : ℕ) → k < length xs → x ≡ get_or xs k x → get_or xs k 0 ≡ x
+standing xs k x l e = get_or_default xs k 0 x l ∙ sym e
+
+pub listed_found : (xs : List ℕ) (from to k x : ℕ) → Splits from xs k → k < length xs → x ≡ get_or xs k x → x ≤ to → IsBetween (as_set xs) from to x
+listed_found xs from to k x b l e m = let s = standing xs k x l e in let g = ltb-false _ _ (b.1 k 0 (omega arith) l) in (omega (arith, g, s), m, ap (contains nat_cmp (as_set xs)) (sym s) ∙ at_place xs k l)
+
+pub listed_first : (xs : List ℕ) (from to k x : ℕ) → IsStrictlyIncreasing xs → Splits from xs k → k < length xs → x ≡ get_or xs k x → (c : ℕ) → IsBetween (as_set xs) from to c → x ≤ c
+listed_first xs from to k x s b l e c h = let g = listed_later xs from k c s b h.0 h.2 in let f = standing xs k x l e in omega (arith, g.1, f)
 
 -- ---- the search
 

@@ -2,24 +2,28 @@
 
 ghost use Rattle.std.specs.Prelude.{◌≡◌};
 ghost use Rattle.std.specs.List.{list_any};
+ghost use Rattle.std.specs.List.Sorted.{IsStrictlyIncreasing};
 ghost use Rattle.wi_graph.specs.Inner.Rooms.{items_of, areas_of};
+ghost use Rattle.wi_graph.specs.Inner.Search.{as_set};
 ghost use Rattle.wi_graph.specs.Inner.Turning.{has_one, reads_one_of};
 
 use crate::rooms::Rooms;
-use crate::within::next_within;
-use std::collections::BTreeSet;
+use crate::within::next_listed;
 use wi_values::{Address, Rect};
 
-/// Whether what is next reads a cell of a cone. The work is that of `next_within` for each rectangle that it reads.
-pub(crate) fn closes_cycle(next: &Rooms, cone: &BTreeSet<Address>) -> bool
-    ensures { result ≡ reads_one_of next.now.entries cone.now }
+/// Whether what is next reads a cell of a cone, which is in row-major order. The work is that of `next_listed` for each
+/// rectangle that it reads.
+pub(crate) fn closes_cycle(next: &Rooms, cone: &[Address]) -> bool
+    requires { IsStrictlyIncreasing cone.now }
+    ensures { result ≡ reads_one_of next.now.entries (as_set cone.now) }
 {
     next.iter().any(|(_, room)| reads_one(room, cone))
 }
 
 /// Whether the rectangles of a room have one of the cells.
-fn reads_one(room: &Option<Vec<Rect>>, cells: &BTreeSet<Address>) -> bool
-    ensures { result ≡ list_any (has_one cells.now) (areas_of (items_of room.now)) }
+fn reads_one(room: &Option<Vec<Rect>>, cells: &[Address]) -> bool
+    requires { IsStrictlyIncreasing cells.now }
+    ensures { result ≡ list_any (has_one (as_set cells.now)) (areas_of (items_of room.now)) }
 {
     match room {
         Some(areas) => areas.iter().any(|area| has_one(*area, cells)),
@@ -28,8 +32,9 @@ fn reads_one(room: &Option<Vec<Rect>>, cells: &BTreeSet<Address>) -> bool
 }
 
 /// Whether a rectangle has one of the cells.
-fn has_one(area: Rect, cells: &BTreeSet<Address>) -> bool
-    ensures { result ≡ has_one cells.now area }
+fn has_one(area: Rect, cells: &[Address]) -> bool
+    requires { IsStrictlyIncreasing cells.now }
+    ensures { result ≡ has_one (as_set cells.now) area }
 {
-    next_within(cells, area, area.first()).is_some()
+    next_listed(cells, area, area.first()).is_some()
 }

@@ -153,7 +153,7 @@ impl Graph {
     }
 }
 
-/// Makes ready an edit of which the cone is given. If memory runs out, all is as before.
+/// Makes ready an edit of which the cone is given, in row-major order. If memory runs out, all is as before.
 fn make_ready(
     alloc: Global,
     rooms: &mut Rooms,
@@ -163,6 +163,7 @@ fn make_ready(
     cone: &[Address],
 ) -> Result<Staged, AllocError>
     requires graph { IsGraph rooms.old readers.old circles.old }
+    requires order { IsStrictlyIncreasing cone.now }
     requires cone { (s : Sheet) → ((c : ℕ) → room_at rooms.old c ≡ areas_in (content_of s c))
         → (c : ℕ) → is_one_of cone.now c ≡ in_cone s (keys_of changes.now) c }
     ensures ordered { IsOrdered nat_cmp rooms.new }

@@ -1,6 +1,7 @@
 //! Which cells an edit makes circular, and which it makes circular no longer.
 
 ghost use Rattle.std.specs.Prelude.{◌≡◌, ◌||◌, ◌⊎◌, ℕ, [], true, false, IsTrue, IfOk, OnOk, OnErr};
+ghost use Rattle.std.specs.List.Sorted.{IsStrictlyIncreasing};
 ghost use Rattle.std.specs.Ordering.{nat_cmp};
 ghost use Rattle.std.specs.BTreeSet.{btree_set_len, contains};
 ghost use Rattle.wi_graph.specs.Reach.{is_one_of};
@@ -27,8 +28,9 @@ pub(crate) struct Turns {
     pub(crate) went: Vec<Address>,
 }
 
-/// The cells that turn once what is next is put in, of which the cone is given. Where each cell reads what it read before, the
-/// work grows with what is next; where no cell is circular and no cycle is closed, with the cone too; else also with what its
+/// The cells that turn once what is next is put in, of which the cone is given in row-major order. Where each cell reads what
+/// it read before, the work grows with what is next; where no cell is circular and no cycle is closed, with what that reads
+/// and its rows too, times the logarithm of the count of the cone, and takes no memory; else also with the cone and what its
 /// cells read, times logarithms.
 pub(crate) fn turns_of(
     alloc: Global,
@@ -38,18 +40,38 @@ pub(crate) fn turns_of(
     cone: &[Address],
 ) -> Result<Turns, AllocError>
     requires circles { AreCircles (room_at rooms.now) (contains nat_cmp circles.now) }
+    requires order { IsStrictlyIncreasing cone.now }
     requires cone { IsEditCone rooms.now next.now (is_one_of cone.now) }
     ensures { IfOk result (AreTurns rooms.now next.now circles.now) }
 {
     if reads_stay(rooms, next) {
         return Ok(no_turns(alloc));
     }
-    let cone = set_of(alloc, cone)?;
-    turns_in(alloc, rooms, circles, next, &cone)
+    turns_in(alloc, rooms, circles, next, cone)
 }
 
-/// The same, of a cone as a set.
+/// The same, whatever the cells read before.
 fn turns_in(
+    alloc: Global,
+    rooms: &Rooms,
+    circles: &BTreeSet<Address>,
+    next: &Rooms,
+    cone: &[Address],
+) -> Result<Turns, AllocError>
+    requires circles { AreCircles (room_at rooms.now) (contains nat_cmp circles.now) }
+    requires order { IsStrictlyIncreasing cone.now }
+    requires cone { IsEditCone rooms.now next.now (is_one_of cone.now) }
+    ensures { IfOk result (AreTurns rooms.now next.now circles.now) }
+{
+    if circles.is_empty() && !closes_cycle(next, cone) {
+        return Ok(no_turns(alloc));
+    }
+    let cone = set_of(alloc, cone)?;
+    turns_among(alloc, rooms, circles, next, &cone)
+}
+
+/// The same, where a cycle may be closed or opened, of a cone as a set.
+fn turns_among(
     alloc: Global,
     rooms: &Rooms,
     circles: &BTreeSet<Address>,
@@ -60,9 +82,6 @@ fn turns_in(
     requires cone { IsEditCone rooms.now next.now (contains nat_cmp cone.now) }
     ensures { IfOk result (AreTurns rooms.now next.now circles.now) }
 {
-    if circles.is_empty() && !closes_cycle(next, cone) {
-        return Ok(no_turns(alloc));
-    }
     let rest = circular_in_cone(alloc, rooms, next, circles, cone)?;
     let came = without(alloc, &rest, circles)?;
     let went = went_of(alloc, circles, cone, &rest)?;

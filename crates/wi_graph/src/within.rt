@@ -1,9 +1,11 @@
-//! The cells of a set in a rectangle, one after another.
+//! The cells of a set, or of a list, in a rectangle, one after another.
 
-ghost use Rattle.std.specs.Prelude.{◌≡◌, ◌<◌, ◌≤◌, ◌+◌, ◌&&◌, ℕ, true, nat_le, IfSome};
+ghost use Rattle.std.specs.Prelude.{◌≡◌, ◌<◌, ◌≤◌, ◌+◌, ◌&&◌, ℕ, true, false, nat_lt, nat_le, length, IfSome};
+ghost use Rattle.std.specs.List.Sorted.{IsStrictlyIncreasing, IsPartitionPoint};
 ghost use Rattle.std.specs.Ordering.{nat_cmp};
 ghost use Rattle.std.specs.BTreeSet.{contains};
 ghost use Rattle.wi_values.specs.Address.{row_of, is_within};
+ghost use Rattle.wi_graph.specs.Inner.Search.{as_set};
 ghost use Rattle.wi_graph.specs.Inner.Within.{IsAhead, IsBetween, IsFoundBy};
 
 use std::collections::BTreeSet;
@@ -37,6 +39,24 @@ pub(crate) fn next_after(cells: &BTreeSet<Address>, area: Rect, cell: Address) -
     next_within(cells, area, from)
 }
 
+/// The first cell of a list, which is in row-major order, in a rectangle, at a cell or after it. The work is that of
+/// `next_within`.
+pub(crate) fn next_listed(cells: &[Address], area: Rect, from: Address) -> Option<Address>
+    requires { IsStrictlyIncreasing cells.now }
+    ensures found { IfSome result (IsAhead (as_set cells.now) area from) }
+    ensures first { (c : ℕ) → IsAhead (as_set cells.now) area from c → IsFoundBy result c }
+{
+    let mut ahead = Some(from);
+    while let Some(start) = ahead {
+        let cell = listed_between(cells, start, area.last())?;
+        if area.contains(cell) {
+            return Some(cell);
+        }
+        ahead = place_after(area, cell);
+    }
+    None
+}
+
 /// The rows of a rectangle from the row of one of its cells on.
 pub(crate) fn rows_from(area: Rect, cell: Address) -> Rect
     requires { is_within area cell ≡ true }
@@ -60,6 +80,32 @@ fn first_between(cells: &BTreeSet<Address>, from: Address, to: Address) -> Optio
         Some(cell) => Some(*cell),
         None => None,
     }
+}
+
+/// The first cell of a list from one cell to another.
+fn listed_between(cells: &[Address], from: Address, to: Address) -> Option<Address>
+    requires { IsStrictlyIncreasing cells.now }
+    ensures found { IfSome result (IsBetween (as_set cells.now) from to) }
+    ensures first { (c : ℕ) → IsBetween (as_set cells.now) from to c → IsFoundBy result c }
+{
+    let before = count_before(cells, from);
+    if before == cells.len() {
+        return None;
+    }
+    let cell = cells[before];
+    if to < cell {
+        return None;
+    }
+    Some(cell)
+}
+
+/// How many cells of a list come before a cell.
+fn count_before(cells: &[Address], from: Address) -> usize
+    requires { IsStrictlyIncreasing cells.now }
+    ensures within { result ≤ length cells.now }
+    ensures point { IsPartitionPoint (λ c. nat_lt c from ≡ true) (λ c. nat_lt c from ≡ false) cells.now result }
+{
+    cells.partition_point(|cell| *cell < from)
 }
 
 /// The first place of a rectangle after a cell, if one comes after it.

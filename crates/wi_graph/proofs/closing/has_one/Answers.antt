@@ -1,6 +1,7 @@
 use Rattle.std.proofs.Common.{◌∙◌}
+use Rattle.wi_graph.specs.Inner.Search.{as_set}
 use Rattle.wi_graph.proofs.ClosingSteps.{has_one_is}
 use Rattle.wi_graph.proofs.closing.has_one.Goals as goal
 
 pub returns : goal.returns
-returns c = c.is_some.ensures ∙ has_one_is c.args.cells.now c.args.area c.next_within.result (rw c.first.ensures at c.next_within.ensures.found) (rw c.first.ensures at c.next_within.ensures.first)
+returns c = c.is_some.ensures ∙ has_one_is (as_set c.args.cells.now) c.args.area c.next_listed.result (rw c.first.ensures at c.next_listed.ensures.found) (rw c.first.ensures at c.next_listed.ensures.first)

@@ -1,4 +1,5 @@
 use Rattle.std.proofs.Common.{◌∙◌, refl, ap, sym, subst}
+use Rattle.std.specs.List.Sorted.{IsStrictlyIncreasing}
 use Rattle.std.specs.Map.{keys_of}
 use Rattle.wi_graph.specs.Edges.{AreEdgesOf, Staging}
 use Rattle.wi_graph.specs.Inner.Search.{IsConeOf}
@@ -13,6 +14,9 @@ pub make_ready-requires-clause-graph : goal.make_ready-requires-clause-graph
 make_ready-requires-clause-graph c =
     let g = c.self.inside in
     unstaged g.rooms g.readers g.circles g.staged (ap (λ (x : Staging). x.staged) c.self.view_is ∙ c.requires) c.self.invariant.0
+
+pub make_ready-requires-clause-order : goal.make_ready-requires-clause-order
+make_ready-requires-clause-order c = subst IsStrictlyIncreasing (sym c.deref.ensures.value) c.in_ok-cone.ensures.order
 
 pub make_ready-requires-clause-cone : goal.make_ready-requires-clause-cone
 make_ready-requires-clause-cone c =

@@ -1,0 +1,31 @@
+use Rattle.std.proofs.Common.{◌<◌, ◌≤◌, length, arith}
+use Rattle.std.proofs.lemmas.Bool.Decides.{nat_tests}
+use Rattle.wi_graph.proofs.WithinSteps.{listed_later, listed_found, listed_first}
+use Rattle.wi_graph.proofs.within.listed_between.Goals as goal
+
+pub returns-then-before-cells-clause-first : goal.returns-then-before-cells-clause-first
+returns-then-before-cells-clause-first c d h =
+    let x = c.count_before-before in
+    let g = (listed_later c.args.cells.now c.args.from x.result d c.requires x.ensures.point h.0 h.2).0 in
+    omega (arith, g, c.if-before-cells.true)
+
+pub returns-then-lt-clause-first : goal.returns-then-lt-clause-first
+returns-then-lt-clause-first c d h =
+    let x = c.count_before-before in
+    let l : x.result < length c.args.cells.now = omega (arith, x.ensures.within, c.if-before-cells.false) in
+    let g = listed_first c.args.cells.now c.args.from c.args.to x.result c.index-cells-before.result c.requires x.ensures.point l c.index-cells-before.is d h in
+    let beyond : c.args.to < c.index-cells-before.result = grind (arith, nat_tests) in
+    omega (arith, g, beyond, h.1)
+
+pub returns-clause-found : goal.returns-clause-found
+returns-clause-found c =
+    let x = c.count_before-before in
+    let l : x.result < length c.args.cells.now = omega (arith, x.ensures.within, c.if-before-cells.false) in
+    let up_to : c.index-cells-before.result ≤ c.args.to = grind (arith, nat_tests) in
+    listed_found c.args.cells.now c.args.from c.args.to x.result c.index-cells-before.result x.ensures.point l c.index-cells-before.is up_to
+
+pub returns-clause-first : goal.returns-clause-first
+returns-clause-first c =
+    let x = c.count_before-before in
+    let l : x.result < length c.args.cells.now = omega (arith, x.ensures.within, c.if-before-cells.false) in
+    listed_first c.args.cells.now c.args.from c.args.to x.result c.index-cells-before.result c.requires x.ensures.point l c.index-cells-before.is
