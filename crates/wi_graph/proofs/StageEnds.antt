@@ -1,10 +1,8 @@
 -- An edit is staged, or refused.
 use Rattle.std.proofs.Common.{◌≡◌, ℕ, Bool, ◌&&◌, ◌||◌, List, not, Option, Some, None, option_map, IfSome, IfNone, Result, Ok, Err, OnErr, refl, ap, sym, ◌∙◌}
 use Rattle.std.specs.Ordering.{nat_cmp}
-use Rattle.std.specs.Global.{Vec}
 use Rattle.std.specs.BTreeMap.{IsOrdered, get}
 use Rattle.std.specs.BTreeSet.{BTreeSet, contains}
-use Rattle.wi_values.specs.Address.{Area}
 use Rattle.wi_parser.specs.declared.content.Content.{Content}
 use Rattle.wi_ranges.specs.Bag.{Bag}
 use Rattle.wi_graph.specs.Reach.{is_one_of}
@@ -19,16 +17,16 @@ use Rattle.wi_graph.proofs.SetSteps.{AreNew, came_before}
 use Rattle.wi_graph.proofs.GraphEnds.{view_of, circles_over}
 
 -- the edit is staged
-pub staged_graph : (rooms new next later : Rooms) (readers more : Bag) (circles has : BTreeSet ℕ) (turns : Turns) → IsGraph rooms readers circles → IsOrdered nat_cmp new → HasRooms new later → HasBoth more new later →
-    ((c : ℕ) → room_at new c ≡ room_at rooms c) → ((c : ℕ) → get nat_cmp later c ≡ get nat_cmp next c) → AreTurns rooms next circles turns →
-    ((c : ℕ) → contains nat_cmp has c ≡ (contains nat_cmp circles c || is_one_of turns.came.items c)) → IsStaged new later more has turns
-staged_graph rooms new next later readers more circles has turns g o hr hb e f t h = record {
+pub staged_graph : (rooms new next : Rooms) (readers more : Bag) (circles has : BTreeSet ℕ) (turns : Turns) → IsGraph rooms readers circles → IsOrdered nat_cmp new → HasRooms new next → HasBoth more new next →
+    ((c : ℕ) → room_at new c ≡ room_at rooms c) → AreTurns rooms next circles turns →
+    ((c : ℕ) → contains nat_cmp has c ≡ (contains nat_cmp circles c || is_one_of turns.came.items c)) → IsStaged new next more has turns
+staged_graph rooms new next readers more circles has turns g o hr hb e t h = record {
   ordered = o;
   has_rooms = hr;
   pairs = hb;
   before = circles_over (room_at new) (room_at rooms) (less_these has turns.came.items) (contains nat_cmp circles) e (came_before circles has turns.came.items t.fresh h) g.circular;
-  after = circles_over (room_over later new) (room_over next rooms) (less_these has turns.went.items) (turned_by circles turns)
-      (λ c. ap (λ (z : Option (Option (Vec Area))). put_over z (room_at new c)) (f c) ∙ ap (put_over (get nat_cmp next c)) (e c))
+  after = circles_over (room_over next new) (room_over next rooms) (less_these has turns.went.items) (turned_by circles turns)
+      (λ c. ap (put_over (get nat_cmp next c)) (e c))
       (λ c. ap (λ (b : Bool). b && not (is_one_of turns.went.items c)) (h c)) t.after;
 }
 

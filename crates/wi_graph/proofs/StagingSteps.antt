@@ -1,6 +1,8 @@
 -- Steps of bringing an edit in.
-use Rattle.std.proofs.Common.{◌≡◌, ◌==◌, ◌⊎◌, inl, inr, ◌+◌, ◌-◌, ◌<◌, ℕ, Bool, true, false, cond, List, take, get_or, length, Option, Some, None, refl, ap, sym, ◌∙◌, arith}
+use Rattle.std.proofs.Common.{◌≡◌, ◌==◌, ◌+◌, ◌<◌, ◌≤◌, ℕ, Bool, true, false, cond, not, List, [], ◌∷◌, ◌++◌, take, get_or, length, Option, Some, None, refl, ap, sym, ◌∙◌, subst, arith, append_assoc, append-nil, is_le}
+use Rattle.std.proofs.lemmas.Bool.Decides.{nat_tests}
 use Rattle.std.specs.Prelude.{if◌then◌else◌}
+use Rattle.std.specs.Map.{lookup}
 use Rattle.std.specs.Option.{unwrap_or}
 use Rattle.std.specs.Ordering.{nat_cmp}
 use Rattle.std.specs.Global.{Vec}
@@ -8,11 +10,12 @@ use Rattle.std.specs.BTreeMap.{get, IsOrdered, is_at}
 use Rattle.wi_values.specs.Address.{Area}
 use Rattle.wi_ranges.specs.declared.pair.RangePair.{RangePair}
 use Rattle.wi_ranges.specs.Bag.{Bag, pair_for, is_same, count_of, HasOneMore}
-use Rattle.wi_graph.specs.Inner.Rooms.{Rooms, items_of, in_room, room_at, areas_of, times, times_in, HasRooms, HasBoth}
-use Rattle.wi_graph.specs.Inner.Staging.{either, AreApart}
-use Rattle.wi_graph.proofs.Tests.{is_at-eq, is_itself}
+use Rattle.wi_values.proofs.Order.{ComeAfter, Ascends, Ascends-from_order, lookup_after}
+use Rattle.wi_graph.specs.Inner.Rooms.{Rooms, items_of, in_room, room_at, areas_of, times, times_in, HasRooms, HasPairs, HasBoth}
+use Rattle.wi_graph.specs.Inner.Staging.{times_among, HasThese, before}
+use Rattle.wi_graph.proofs.Tests.{is_at-eq, is_itself, at_same, turn_test}
 use Rattle.wi_graph.proofs.Walks.{same_cell}
-use Rattle.wi_graph.proofs.RoomSteps.{times_more, times_other, times_room, Popped, popped_here, popped_other, no_entries}
+use Rattle.wi_graph.proofs.RoomSteps.{times_more, times_other, times_room, Loses}
 
 pub one_more : (k : ℕ) (rs : List Area) (i : ℕ) (r : Area) (first old new : Bag) → i < length rs → r ≡ get_or rs i r → HasOneMore (pair_for r k) old new → ((p : RangePair) → count_of old p ≡ count_of first p + times k (take i rs) p) →
     (p : RangePair) → count_of new p ≡ count_of first p + times k (take (i + 1) rs) p
@@ -54,95 +57,156 @@ room_stays old new k o u c h = at (k == c) refl
 pub room_there : (old new : Rooms) (k : ℕ) (o : Option (Vec Area)) → Puts old new k o → get nat_cmp new k ≡ None → ⊥
 room_there old new k o u h = let z = put_here old new k o u k (is_itself k) in cc
 
--- rooms and counts that say the same
-pub same_both : (rooms mid next : Rooms) (readers more : Bag) → ((c : ℕ) → room_at mid c ≡ room_at rooms c) → ((p : RangePair) → count_of more p ≡ count_of readers p) → HasBoth readers rooms next → HasBoth more mid next
-same_both rooms mid next readers more e f h p =
-    let a : times_in mid p ≡ times_in rooms p = times_room mid p (room_at rooms p.reader) (e p.reader) in
-    omega (arith, a, f p, h p)
+-- ---- the rooms of some cells
 
-pub rooms_both : (rooms mid next : Rooms) (readers : Bag) → ((c : ℕ) → room_at mid c ≡ room_at rooms c) → HasBoth readers rooms next → HasBoth readers mid next
-rooms_both rooms mid next readers e h = same_both rooms mid next readers readers e (λ p. refl) h
+abbrev pub Entries : Type 0
+Entries = List (ℕ × Option (Vec Area))
 
-pub undone_both : (rooms mid next : Rooms) (readers more back : Bag) (k : ℕ) (o p' : Option (Vec Area)) → p' ≡ o → ((c : ℕ) → room_at mid c ≡ room_at rooms c) → ((p : RangePair) → count_of more p ≡ count_of readers p + times k (areas_of (items_of o)) p) →
-    ((p : RangePair) → count_of back p ≡ count_of more p - times k (areas_of (items_of p')) p) → HasBoth readers rooms next → HasBoth back mid next
-undone_both rooms mid next readers more back k o p' s e f g h = same_both rooms mid next readers back e (λ p.
-    let a : times k (areas_of (items_of p')) p ≡ times k (areas_of (items_of o)) p = ap (λ (x : Option (Vec Area)). times k (areas_of (items_of x)) p) s in
-    omega (arith, f p, g p, a)) h
+among_more : (front : Entries) (k : ℕ) (o : Option (Vec Area)) (p : RangePair) → times_among (front ++ (k, o) ∷ []) p ≡ times_among front p + times k (areas_of (items_of o)) p
+among_more [] k o p = let a : times k (areas_of (items_of o)) p + 0 ≡ 0 + times k (areas_of (items_of o)) p = omega arith in a
+among_more (e ∷ front) k o p =
+    let ih = among_more front k o p in
+    let a : times e.0 (areas_of (items_of e.1)) p + times_among (front ++ (k, o) ∷ []) p ≡ (times e.0 (areas_of (items_of e.1)) p + times_among front p) + times k (areas_of (items_of o)) p = omega (arith, ih) in a
 
-pub brought_both : (rooms mid next later : Rooms) (readers more : Bag) (k : ℕ) (o : Option (Vec Area)) → get nat_cmp next k ≡ None → ((c : ℕ) → room_at mid c ≡ room_at rooms c) →
-    ((p : RangePair) → count_of more p ≡ count_of readers p + times k (areas_of (items_of o)) p) → Puts next later k o → HasBoth readers rooms next → HasBoth more mid later
-brought_both rooms mid next later readers more k o n e f u h p = at (k == p.reader) refl
+-- in order each cell has one room
+among_all : (es : Entries) → Ascends es → (p : RangePair) → times_among es p ≡ times p.reader (areas_of (in_room (lookup (is_at (nat_cmp p.reader)) es))) p
+among_all [] a p = refl
+among_all (e ∷ es) a p = at (is_at (nat_cmp p.reader) e.0) refl (among_all es a.1 p)
   where
-    at : (b : Bool) → (k == p.reader) ≡ b → count_of more p ≡ times_in mid p + times_in later p
-    at true s =
-        let r : k ≡ p.reader = same_cell p.reader k s in
-        let a : times_in mid p ≡ times_in rooms p = times_room mid p (room_at rooms p.reader) (e p.reader) in
-        let d : times_in later p ≡ times p.reader (areas_of (items_of o)) p = times_room later p (items_of o) (ap in_room (put_here next later k o u p.reader s)) in
-        let g : times_in next p ≡ 0 = times_room next p None (ap in_room (ap (λ (x : ℕ). get nat_cmp next x) (sym r) ∙ n)) in
-        let i : times k (areas_of (items_of o)) p ≡ times p.reader (areas_of (items_of o)) p = ap (λ (x : ℕ). times x (areas_of (items_of o)) p) r in
-        omega (arith, a, d, g, i, f p, h p)
-    at false s =
-        let a : times_in mid p ≡ times_in rooms p = times_room mid p (room_at rooms p.reader) (e p.reader) in
-        let d : times_in later p ≡ times_in next p = times_room later p (room_at next p.reader) (ap in_room (put_other next later k o u p.reader s)) in
-        let i = times_other k (areas_of (items_of o)) p s in
-        omega (arith, a, d, i, f p, h p)
+    at : (b : Bool) → is_at (nat_cmp p.reader) e.0 ≡ b → times_among es p ≡ times p.reader (areas_of (in_room (lookup (is_at (nat_cmp p.reader)) es))) p →
+        times e.0 (areas_of (items_of e.1)) p + times_among es p ≡ times p.reader (areas_of (in_room (cond b (Some e.1) (lookup (is_at (nat_cmp p.reader)) es)))) p
+    at true h ih =
+        let r : e.0 ≡ p.reader = at_same p.reader e.0 h in
+        let x : times e.0 (areas_of (items_of e.1)) p ≡ times p.reader (areas_of (items_of e.1)) p = ap (λ (k : ℕ). times k (areas_of (items_of e.1)) p) r in
+        let n : lookup (is_at (nat_cmp p.reader)) es ≡ None = lookup_after p.reader es (subst (λ (z : ℕ). ComeAfter z es) r a.0) in
+        let z : times p.reader (areas_of (in_room (lookup (is_at (nat_cmp p.reader)) es))) p ≡ 0 = ap (λ (y : Option (Option (Vec Area))). times p.reader (areas_of (in_room y)) p) n in
+        omega (arith, x, ih, z)
+    at false h ih =
+        let n = times_other e.0 (areas_of (items_of e.1)) p (turn_test e.0 p.reader ∙ sym (is_at-eq p.reader e.0) ∙ h) in
+        omega (arith, n, ih)
 
-pub mid_rooms : (rooms mid next : Rooms) → ((c : ℕ) → get nat_cmp mid c ≡ None → get nat_cmp rooms c ≡ None) → HasRooms rooms next → HasRooms mid next
-mid_rooms rooms mid next e h c n = h c (e c n)
+passes : (c k : ℕ) (o : Option (Vec Area)) (front : Entries) → is_at (nat_cmp c) k ≡ false → lookup (is_at (nat_cmp c)) (front ++ (k, o) ∷ []) ≡ lookup (is_at (nat_cmp c)) front
+passes c k o [] h = ap (λ (b : Bool). cond {A = Option (Option (Vec Area))} b (Some o) None) h
+passes c k o (e ∷ front) h = ap (λ (x : Option (Option (Vec Area))). cond (is_at (nat_cmp c) e.0) (Some e.1) x) (passes c k o front h)
 
-pub brought_rooms : (rooms mid next later : Rooms) (k : ℕ) (o : Option (Vec Area)) → ((c : ℕ) → get nat_cmp mid c ≡ None → get nat_cmp rooms c ≡ None) → (get nat_cmp mid k ≡ None → ⊥) → Puts next later k o → HasRooms rooms next → HasRooms mid later
-brought_rooms rooms mid next later k o e t u h c n = at (k == c) refl
-  where
-    at : (b : Bool) → (k == c) ≡ b → room_at later c ≡ None
-    at true s = absurd (t (ap (λ (x : ℕ). get nat_cmp mid x) (same_cell c k s) ∙ n))
-    at false s = ap in_room (put_other next later k o u c s) ∙ h c (e c n)
+-- ---- those before a cell
 
--- ---- one after another
+is_before : (k q : ℕ) → q < k → not (is_le (nat_cmp k q)) ≡ true
+is_before k q h = grind (arith, nat_tests)
 
-pub record IsBringing (first first_left first_next rooms : Rooms) (readers : Bag) (left next : Rooms) : Type 0 where
+not_before : (k q : ℕ) → k ≤ q → not (is_le (nat_cmp k q)) ≡ false
+not_before k q h = grind (arith, nat_tests)
+
+none_before : (k : ℕ) (es : Entries) → ComeAfter k es → before k es ≡ []
+none_before k [] h = refl
+none_before k (e ∷ es) h = ap (λ (b : Bool). cond b (e ∷ before k es) (before k es)) (not_before k e.0 (omega (arith, h.0))) ∙ none_before k es h.1
+
+comes_before : (a k : ℕ) (o : Option (Vec Area)) (front es : Entries) → ComeAfter a (front ++ (k, o) ∷ es) → a < k
+comes_before a k o [] es h = h.0
+comes_before a k o (e ∷ front) es h = comes_before a k o front es h.1
+
+front_before : (k : ℕ) (o : Option (Vec Area)) (front es : Entries) → Ascends (front ++ (k, o) ∷ es) → before k (front ++ (k, o) ∷ es) ≡ front
+front_before k o [] es h = ap (λ (b : Bool). cond b ((k, o) ∷ before k es) (before k es)) (not_before k k (omega arith)) ∙ none_before k es h.0
+front_before k o (e ∷ front) es h =
+    ap (λ (b : Bool). cond b (e ∷ before k (front ++ (k, o) ∷ es)) (before k (front ++ (k, o) ∷ es))) (is_before k e.0 (comes_before e.0 k o front es h.0))
+    ∙ ap (λ (xs : Entries). e ∷ xs) (front_before k o front es h.1)
+
+-- ---- one after another is brought in
+
+pub record IsBringing (first rooms : Rooms) (readers : Bag) (all left : Entries) : Type 0 where
   pub ordered : IsOrdered nat_cmp rooms
   pub same : (c : ℕ) → room_at rooms c ≡ room_at first c
-  pub has_rooms : HasRooms rooms next
-  pub pairs : HasBoth readers rooms next
-  pub apart : AreApart left next
-  pub all : (c : ℕ) → either (get nat_cmp left c) (get nat_cmp next c) ≡ either (get nat_cmp first_left c) (get nat_cmp first_next c)
+  pub front : Entries
+  pub whole : all ≡ front ++ left
+  pub have_rooms : (c : ℕ) → get nat_cmp rooms c ≡ None → in_room (lookup (is_at (nat_cmp c)) front) ≡ None
+  pub pairs : HasThese readers rooms front
 
-pub bringing_fresh : (left next : Rooms) (k : ℕ) (o : Option (Vec Area)) → get nat_cmp left k ≡ Some o → AreApart left next → get nat_cmp next k ≡ None
-bringing_fresh left next k o g a = at (a k)
-  where
-    at : (get nat_cmp left k ≡ None) ⊎ (get nat_cmp next k ≡ None) → get nat_cmp next k ≡ None
-    at (inl n) = cc
-    at (inr n) = n
+pub bringing_start : (rooms : Rooms) (readers : Bag) (all : Entries) → IsOrdered nat_cmp rooms → HasPairs readers rooms → IsBringing rooms rooms readers all all
+bringing_start rooms readers all o h = record {
+  ordered = o;
+  same = λ c. refl;
+  front = [];
+  whole = refl;
+  have_rooms = λ c n. refl;
+  pairs = λ p. let a = h p in let b : count_of readers p ≡ times_in rooms p + 0 = omega (arith, a) in b;
+}
 
-pub bringing_step : (first first_left first_next rooms mid : Rooms) (readers more : Bag) (left less next later : Rooms) (k : ℕ) (o : Option (Vec Area)) → get nat_cmp left k ≡ Some o → Popped left less k → Puts next later k o → IsOrdered nat_cmp mid →
-    ((c : ℕ) → room_at mid c ≡ room_at rooms c) → HasRooms mid later → HasBoth more mid later → IsBringing first first_left first_next rooms readers left next → IsBringing first first_left first_next mid more less later
-bringing_step first first_left first_next rooms mid readers more left less next later k o g u w ord e hr hb t = record {
+pub bringing_step : (first rooms mid : Rooms) (readers more : Bag) (all left less : Entries) (k : ℕ) (o : Option (Vec Area)) → left ≡ (k, o) ∷ less → IsOrdered nat_cmp mid → ((c : ℕ) → room_at mid c ≡ room_at rooms c) →
+    (get nat_cmp mid k ≡ None → ⊥) → ((c : ℕ) → get nat_cmp mid c ≡ None → get nat_cmp rooms c ≡ None) → ((p : RangePair) → count_of more p ≡ count_of readers p + times k (areas_of (items_of o)) p) →
+    IsBringing first rooms readers all left → IsBringing first mid more all less
+bringing_step first rooms mid readers more all left less k o e ord n there stay g t = record {
   ordered = ord;
-  same = λ c. e c ∙ t.same c;
-  has_rooms = hr;
-  pairs = hb;
-  apart = λ c. apart c (k == c) refl;
-  all = λ c. all c (k == c) refl ∙ t.all c;
+  same = λ c. n c ∙ t.same c;
+  front = t.front ++ (k, o) ∷ [];
+  whole = t.whole ∙ ap (λ (xs : Entries). t.front ++ xs) e ∙ sym (append_assoc t.front ((k, o) ∷ []) less);
+  have_rooms = λ c h. room c h (is_at (nat_cmp c) k) refl;
+  pairs = λ p.
+      let a = t.pairs p in
+      let d : times_in mid p ≡ times_in rooms p = times_room mid p (room_at rooms p.reader) (n p.reader) in
+      let f = among_more t.front k o p in
+      omega (arith, a, d, f, g p);
 }
   where
-    no_more : (c : ℕ) → (k == c) ≡ true → get nat_cmp less c ≡ None
-    no_more c s = ap (λ (x : ℕ). get nat_cmp less x) (sym (same_cell c k s)) ∙ popped_here left less k u
+    room : (c : ℕ) → get nat_cmp mid c ≡ None → (b : Bool) → is_at (nat_cmp c) k ≡ b → in_room (lookup (is_at (nat_cmp c)) (t.front ++ (k, o) ∷ [])) ≡ None
+    room c h true s = absurd (there (ap (λ (x : ℕ). get nat_cmp mid x) (at_same c k s) ∙ h))
+    room c h false s = ap in_room (passes c k o t.front s) ∙ t.have_rooms c (stay c h)
 
-    kept : (c : ℕ) → (k == c) ≡ false → (get nat_cmp left c ≡ None) ⊎ (get nat_cmp next c ≡ None) → (get nat_cmp less c ≡ None) ⊎ (get nat_cmp later c ≡ None)
-    kept c s (inl n) = inl (popped_other left less k u c s ∙ n)
-    kept c s (inr n) = inr (put_other next later k o w c s ∙ n)
+-- all are in
+pub bringing_end : (first rooms coming : Rooms) (readers : Bag) (all left : Entries) → all ≡ coming.entries → IsOrdered nat_cmp coming → left ≡ [] → IsBringing first rooms readers all left → HasRooms rooms coming × HasBoth readers rooms coming
+bringing_end first rooms coming readers all left s o e t = (
+  λ c n. ap (λ (xs : Entries). in_room (lookup (is_at (nat_cmp c)) xs)) (sym all_in) ∙ t.have_rooms c n,
+  λ p.
+      let a = t.pairs p in
+      let d : times_among t.front p ≡ times_in coming p = ap (λ (xs : Entries). times_among xs p) all_in ∙ among_all coming.entries (Ascends-from_order coming.entries o) p in
+      omega (arith, a, d),
+)
+  where
+    all_in : t.front ≡ coming.entries
+    all_in = sym (append-nil t.front) ∙ ap (λ (xs : Entries). t.front ++ xs) (sym e) ∙ sym t.whole ∙ s
 
-    apart : (c : ℕ) (b : Bool) → (k == c) ≡ b → (get nat_cmp less c ≡ None) ⊎ (get nat_cmp later c ≡ None)
-    apart c true s = inl (no_more c s)
-    apart c false s = kept c s (t.apart c)
+-- one is refused, and those before it are in
+pub bringing_refused : (first rooms mid coming : Rooms) (readers more : Bag) (all left less : Entries) (k : ℕ) (o : Option (Vec Area)) → all ≡ coming.entries → IsOrdered nat_cmp coming → left ≡ (k, o) ∷ less →
+    ((c : ℕ) → room_at mid c ≡ room_at rooms c) → ((p : RangePair) → count_of more p ≡ count_of readers p) → IsBringing first rooms readers all left → HasThese more mid (before k coming.entries)
+bringing_refused first rooms mid coming readers more all left less k o s ord e n g t p =
+    let a = t.pairs p in
+    let d : times_in mid p ≡ times_in rooms p = times_room mid p (room_at rooms p.reader) (n p.reader) in
+    let f : times_among (before k coming.entries) p ≡ times_among t.front p = ap (λ (xs : Entries). times_among xs p) first_in in
+    omega (arith, a, d, f, g p)
+  where
+    split : coming.entries ≡ t.front ++ (k, o) ∷ less
+    split = sym s ∙ t.whole ∙ ap (λ (xs : Entries). t.front ++ xs) e
 
-    all : (c : ℕ) (b : Bool) → (k == c) ≡ b → either (get nat_cmp less c) (get nat_cmp later c) ≡ either (get nat_cmp left c) (get nat_cmp next c)
-    all c true s =
-        ap (λ (x : Option (Option (Vec Area))). either x (get nat_cmp later c)) (no_more c s) ∙ put_here next later k o w c s
-        ∙ ap (λ (x : Option (Option (Vec Area))). either x (get nat_cmp next c)) (sym (ap (λ (x : ℕ). get nat_cmp left x) (sym (same_cell c k s)) ∙ g))
-    all c false s =
-        ap (λ (x : Option (Option (Vec Area))). either x (get nat_cmp later c)) (popped_other left less k u c s) ∙ ap (λ (x : Option (Option (Vec Area))). either (get nat_cmp left c) x) (put_other next later k o w c s)
+    first_in : before k coming.entries ≡ t.front
+    first_in = ap (before k) split ∙ front_before k o t.front less (subst (λ (xs : Entries). Ascends xs) split (Ascends-from_order coming.entries ord))
 
-pub bringing_end : (first first_left first_next rooms : Rooms) (readers : Bag) (left next : Rooms) → (0 < length left.entries → ⊥) → IsBringing first first_left first_next rooms readers left next →
-    (c : ℕ) → get nat_cmp next c ≡ either (get nat_cmp first_left c) (get nat_cmp first_next c)
-bringing_end first first_left first_next rooms readers left next h t c = ap (λ (x : Option (Option (Vec Area))). either x (get nat_cmp next c)) (sym (no_entries left h c)) ∙ t.all c
+-- ---- and taken out again
+
+pub record IsTakingOut (first rooms : Rooms) (readers : Bag) (left : Entries) : Type 0 where
+  pub ordered : IsOrdered nat_cmp rooms
+  pub same : (c : ℕ) → room_at rooms c ≡ room_at first c
+  pub pairs : HasThese readers rooms left
+
+pub taking_out_start : (rooms : Rooms) (readers : Bag) (some all : Entries) → all ≡ some → IsOrdered nat_cmp rooms → HasThese readers rooms some → IsTakingOut rooms rooms readers all
+taking_out_start rooms readers some all e o h = record {
+  ordered = o;
+  same = λ c. refl;
+  pairs = subst (λ (xs : Entries). HasThese readers rooms xs) (sym e) h;
+}
+
+pub taking_out_step : (first rooms mid : Rooms) (readers fewer : Bag) (left less : Entries) (k : ℕ) (o : Option (Vec Area)) → left ≡ (k, o) ∷ less → Loses k (items_of o) readers fewer → IsOrdered nat_cmp mid →
+    ((c : ℕ) → room_at mid c ≡ room_at rooms c) → IsTakingOut first rooms readers left → IsTakingOut first mid fewer less
+taking_out_step first rooms mid readers fewer left less k o e l ord n t = record {
+  ordered = ord;
+  same = λ c. n c ∙ t.same c;
+  pairs = λ p.
+      let a = t.pairs p in
+      let b : times_among left p ≡ times k (areas_of (items_of o)) p + times_among less p = ap (λ (xs : Entries). times_among xs p) e in
+      let d : times_in mid p ≡ times_in rooms p = times_room mid p (room_at rooms p.reader) (n p.reader) in
+      omega (arith, a, b, d, l p);
+}
+
+pub taking_out_end : (first rooms : Rooms) (readers : Bag) (left : Entries) → left ≡ [] → IsTakingOut first rooms readers left → HasPairs readers rooms
+taking_out_end first rooms readers left e t p =
+    let a = t.pairs p in
+    let b : times_among left p ≡ 0 = ap (λ (xs : Entries). times_among xs p) e in
+    omega (arith, a, b)

@@ -173,11 +173,11 @@ fn make_ready(
         IsStaged rooms.new staged.next readers.new circles.new staged.turns) }
     ensures err { OnErr result (IsGraph rooms.new readers.new circles.new) }
 {
-    let coming = rooms_of(alloc, rooms, changes)?;
-    let turns = turns_of(alloc, rooms, circles, &coming, cone)?;
+    let next = rooms_of(alloc, rooms, changes)?;
+    let turns = turns_of(alloc, rooms, circles, &next, cone)?;
     bring_circles(circles, &turns.came)?;
-    match bring_in(alloc, rooms, readers, coming) {
-        Ok(next) => Ok(Staged { next, turns }),
+    match bring_in(rooms, readers, &next) {
+        Ok(()) => Ok(Staged { next, turns }),
         Err(error) => {
             take_away(circles, &turns.came);
             Err(error)

@@ -1,16 +1,23 @@
--- What is brought in, and what is left to bring.
-use Rattle.std.specs.Prelude.{◌≡◌, ◌⊎◌, ℕ, Option, Some, None}
+-- What is brought in.
+use Rattle.std.specs.Prelude.{◌≡◌, ◌+◌, ℕ, List, [], ◌∷◌, Option}
 use Rattle.std.specs.Ordering.{nat_cmp}
 use Rattle.std.specs.Global.{Vec}
-use Rattle.std.specs.BTreeMap.{get}
+use Rattle.std.specs.BTreeMap.Range.{entries_between}
+use Rattle.std.specs.declared.ops.Bound.TheVariants.{Excluded, Unbounded}
 use Rattle.wi_values.specs.Address.{Area}
-use Rattle.wi_graph.specs.Inner.Rooms.{Rooms}
+use Rattle.wi_ranges.specs.declared.pair.RangePair.{RangePair}
+use Rattle.wi_ranges.specs.Bag.{Bag, count_of}
+use Rattle.wi_graph.specs.Inner.Rooms.{Rooms, items_of, areas_of, times, times_in}
 
--- what stands in the one, or else in the other
-abbrev pub either : Option (Option (Vec Area)) → Option (Option (Vec Area)) → Option (Option (Vec Area))
-either None o = o
-either (Some x) o = Some x
+-- how many of the rectangles in some rooms make this pair, each with the cell of its room
+abbrev pub times_among : List (ℕ × Option (Vec Area)) → RangePair → ℕ
+times_among [] p = 0
+times_among (e ∷ es) p = times e.0 (areas_of (items_of e.1)) p + times_among es p
 
--- no cell is in both
-abbrev pub AreApart : Rooms → Rooms → Type 0
-AreApart left next = (c : ℕ) → (get nat_cmp left c ≡ None) ⊎ (get nat_cmp next c ≡ None)
+-- the index has the pairs of the formulas, and those of some rooms
+abbrev pub HasThese : Bag → Rooms → List (ℕ × Option (Vec Area)) → Type 0
+HasThese readers rooms es = (p : RangePair) → count_of readers p ≡ times_in rooms p + times_among es p
+
+-- the rooms of the cells before one
+abbrev pub before : ℕ → List (ℕ × Option (Vec Area)) → List (ℕ × Option (Vec Area))
+before end es = entries_between nat_cmp Unbounded (Excluded end) es
