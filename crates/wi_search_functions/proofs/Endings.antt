@@ -1,5 +1,5 @@
 -- How a function ends at a step that fails, and from the parts of a function to the whole.
-use Rattle.std.proofs.Common.{◌≡◌, ℕ, ℤ, ◌+◌, ◌-◌, ◌<◌, ◌≤◌, ◌==◌, Bool, true, false, cond, List, length, Option, Result, Ok, Err, refl, sym, ap, ◌∙◌, subst, arith}
+use Rattle.std.proofs.Common.{◌≡◌, ℕ, ℤ, ◌+◌, ◌-◌, ◌<◌, ◌≤◌, ◌==◌, ◌||◌, Bool, true, false, cond, List, length, Option, Result, Ok, Err, refl, sym, ap, ◌∙◌, subst, arith}
 use Rattle.std.specs.Prelude.{pos, int_lt, nat_lt, IsErrAnd, unsigned_abs}
 use Rattle.std.specs.Borrow.{Bor}
 use Rattle.std.proofs.lemmas.Bool.{or_from, eq-eqb, le-leb, lt-leb}
@@ -122,6 +122,13 @@ nth_is cells r j k row column e f l m =
     ∙ ap (λ (o : Result ℕ ErrorKind). on_both (cell_in (region_of cells r)) o (place_among (width r) k)) (sym e)
     ∙ ap (λ (o : Result ℕ ErrorKind). on_both (cell_in (region_of cells r)) (Ok row) o) (sym f)
     ∙ cell_at cells r row column l m
+
+pub nth_no_row : (r : Area) (j k : ℤ) (o : Result ℕ ErrorKind) (e : ErrorKind) → IsErrAnd o (λ x. x ≡ e) → (int_lt j (pos 1) || int_lt k (pos 1)) ≡ false → Err e ≡ place_among (height r) j → IsPlacedIn r (λ q. nth_cell q j k) o
+nth_no_row r j k (Ok c) e h b p = absurd h
+nth_no_row r j k (Err x) e h b p = λ cells.
+    ap (λ (t : Bool). cond t (Fault BadValue) (on_both (cell_in (region_of cells r)) (place_among (height r) j) (place_among (width r) k))) b
+    ∙ ap (λ (w : Result ℕ ErrorKind). on_both (cell_in (region_of cells r)) w (place_among (width r) k)) (sym p)
+    ∙ ap (λ (y : ErrorKind). Fault y) (sym h)
 
 pub nth_within : (r : Area) (row column : ℕ) → row < height r → column < width r → is_within r (place (row_of r.first + row) (column_of r.first + column)) ≡ true
 nth_within r row column l m =

@@ -1,11 +1,13 @@
-use Rattle.std.proofs.Common.{arith, ◌≡◌, ℕ, ◌<◌, true, Ok, sym, ap, ◌∙◌, subst, ℤ, FitsSigned, rules}
+use Rattle.std.proofs.Common.{arith, ◌≡◌, ℕ, ◌<◌, ◌||◌, true, false, Ok, sym, ap, ◌∙◌, subst, ℤ, FitsSigned, rules}
+use Rattle.std.specs.Prelude.{pos, int_lt}
+use Rattle.std.proofs.lemmas.Bool.{or_from}
 use Rattle.std.proofs.lemmas.Int.{to_z-of_z}
 use Rattle.std.specs.Int.{w128}
 use Rattle.std.proofs.lemmas.Grind.{common_steps}
 use Rattle.wi_values.specs.Address.{is_within}
 use Rattle.wi_standard_functions.specs.Lookup.{place_among}
 use Rattle.wi_search_functions.specs.Inner.Lines.{height, width}
-use Rattle.wi_search_functions.proofs.Endings.{nth_is, nth_within}
+use Rattle.wi_search_functions.proofs.Endings.{nth_is, nth_no_row, nth_within}
 use Rattle.wi_search_functions.proofs.index.nth_cell.Goals as goal
 
 pub returns : goal.returns
@@ -24,7 +26,13 @@ returns c =
     )
 
 pub returns-in_err-row : goal.returns-in_err-row
-returns-in_err-row c = grind (arith, common_steps)
+returns-in_err-row c =
+    let fits : FitsSigned w128 c.args.j = search rules in
+    let same = to_z-of_z w128 c.args.j fits in
+    let r = c.args.area in
+    let above : (int_lt c.args.j (pos 1) || int_lt c.args.k (pos 1)) ≡ false = or_from (int_lt c.args.j (pos 1)) (int_lt c.args.k (pos 1)) (search rules) (search rules) in
+    nth_no_row r c.args.j c.args.k c.from_residual.result c.in_err-row.field-0.0 c.from_residual.ensures.1 above
+    (c.in_err-row.ensures.place ∙ ap (λ (z : ℤ). place_among c.height.result z) same ∙ ap (λ (n : ℕ). place_among n c.args.j) c.height.ensures)
 
 pub returns-in_err-column : goal.returns-in_err-column
 returns-in_err-column c = grind (arith, common_steps)
