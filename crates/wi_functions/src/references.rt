@@ -51,7 +51,10 @@ pub(crate) fn value_of_references<L: Lookup>(
         },
         ReferenceFunction::HLookup => h_lookup_value(alloc, arguments, lookup),
         ReferenceFunction::Index => index_value(alloc, arguments, lookup),
-        ReferenceFunction::Match => match_value(alloc, arguments, lookup),
+        ReferenceFunction::Match => match match_value(arguments, lookup) {
+            Ok(value) => Ok(value),
+            Err(at) => Err(Stop::Missing(at)),
+        },
         ReferenceFunction::SumIf => sum_if_value(alloc, arguments, lookup),
         ReferenceFunction::SumProduct => sum_product_value(alloc, arguments, lookup),
         ReferenceFunction::VLookup => v_lookup_value(alloc, arguments, lookup),

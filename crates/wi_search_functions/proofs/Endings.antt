@@ -10,8 +10,7 @@ use Rattle.wi_values.specs.declared.value.ErrorKind.TheVariants.{BadValue, BadRe
 use Rattle.wi_values.specs.declared.value.Value.{Value}
 use Rattle.wi_values.specs.declared.value.Value.TheVariants.{Number, Fault}
 use Rattle.wi_lookup.specs.declared.argument.Argument as given
-use Rattle.wi_lookup.specs.declared.stop.Stop as stop
-use Rattle.wi_lookup.specs.Arguments.{argument_in, arguments_in, KnownAgrees, IfMissing, IsMissing}
+use Rattle.wi_lookup.specs.Arguments.{argument_in, arguments_in, KnownAgrees, IsMissing}
 use Rattle.wi_standard_functions.specs.Arguments.{Argument, Region, region_of, value_or, value_at}
 use Rattle.wi_standard_functions.specs.Arithmetic.{whole_value}
 use Rattle.wi_standard_functions.specs.Convert.{zero_number}
@@ -20,7 +19,7 @@ use Rattle.wi_standard_functions.specs.Lookup.{cell_in, index_value, index_along
 use Rattle.wi_standard_functions.specs.Matching.{sought_for}
 use Rattle.wi_standard_functions.specs.Steps.{◌>>=◌, and_then}
 use Rattle.wi_search_functions.specs.declared.halt.Halt.{Halt}
-use Rattle.wi_search_functions.specs.declared.halt.Halt.TheVariants.{Error, Stop}
+use Rattle.wi_search_functions.specs.declared.halt.Halt.TheVariants.{Error, Missing}
 use Rattle.wi_search_functions.specs.Inner.Giving.{WhateverHeld, Agrees, Finds, Places, IsPlacedIn}
 use Rattle.wi_search_functions.specs.Inner.Lines.{height, width}
 use Rattle.wi_search_functions.proofs.Asked.{itself, fault, sought_or_zero}
@@ -41,26 +40,22 @@ pub places_so : (known : ℕ → Option Value) (args : List given.Argument) (f :
 places_so known args f (Ok x) h k g = absurd k
 places_so known args f (Err y) h k g = subst (λ (z : Halt). Places known args f (Err z)) (sym k) g
 
-pub missing_too : (P Q : ℕ → Type 0) → ((c : ℕ) → P c → Q c) → (s : stop.Stop) → IfMissing s P → IfMissing s Q
-missing_too P Q f (stop.TheVariants.Missing c) h = f c h
-missing_too P Q f stop.TheVariants.Memory h = tt
-
 pub passes_on : {A B C D : Type 0} (known : ℕ → Option Value) (P : ℕ → Type 0) (view : A → B) (other : C → D) (asked : (ℕ → Value) → Result B ErrorKind) (asks : (ℕ → Value) → Result D ErrorKind) (h : Halt) →
     ((cells : ℕ → Value) (e : ErrorKind) → asked cells ≡ Err e → asks cells ≡ Err e) → Agrees {A = A} {B = B} known P view asked (Err h) → Agrees {A = C} {B = D} known P other asks (Err h)
 passes_on known P view other asked asks (Error e) k g = λ cells a. k cells e (g cells a)
-passes_on known P view other asked asks (Stop s) k g = g
+passes_on known P view other asked asks (Missing c) k g = g
 
 pub ended : {A B : Type 0} (known : ℕ → Option Value) (args : List given.Argument) (f : List Argument → Value) (P : ℕ → Type 0) (view : A → B) (asked : (ℕ → Value) → Result B ErrorKind) (h : Halt) →
     ((c : ℕ) → P c → IsMissing known args c) → ((cells : ℕ → Value) → KnownAgrees known cells → (e : ErrorKind) → asked cells ≡ Err e → f (arguments_in cells args) ≡ Fault e) →
     Agrees {A = A} {B = B} known P view asked (Err h) → Finds known args f (Err h)
 ended known args f P view asked (Error e) m k g = λ cells a. k cells a e (g cells a)
-ended known args f P view asked (Stop s) m k g = missing_too P (IsMissing known args) m s g
+ended known args f P view asked (Missing c) m k g = m c g
 
 pub placing_ended : {A B : Type 0} (known : ℕ → Option Value) (args : List given.Argument) (f : List Argument → Value) (P : ℕ → Type 0) (view : A → B) (asked : (ℕ → Value) → Result B ErrorKind) (h : Halt) →
     ((c : ℕ) → P c → IsMissing known args c) → ((cells : ℕ → Value) → KnownAgrees known cells → (e : ErrorKind) → asked cells ≡ Err e → f (arguments_in cells args) ≡ Fault e) →
     Agrees {A = A} {B = B} known P view asked (Err h) → Places known args f (Err h)
 placing_ended known args f P view asked (Error e) m k g = λ cells a. k cells a e (g cells a)
-placing_ended known args f P view asked (Stop s) m k g = missing_too P (IsMissing known args) m s g
+placing_ended known args f P view asked (Missing c) m k g = m c g
 
 -- from a place that is given to the function's
 pub placed : (known : ℕ → Option Value) (args : List given.Argument) (f : List Argument → Value) (P : ℕ → Type 0) (asked : (ℕ → Value) → Result ℕ ErrorKind) (r : Result ℕ Halt) →
@@ -68,12 +63,12 @@ pub placed : (known : ℕ → Option Value) (args : List given.Argument) (f : Li
     Agrees {A = ℕ} {B = ℕ} known P (λ i. i) asked r → Places known args f r
 placed known args f P asked (Ok i) m k g = λ cells a. k cells a ∙ ap (λ (o : Result ℕ ErrorKind). o >>= (λ i. whole_value (i + 1))) (g cells a)
 placed known args f P asked (Err (Error e)) m k g = λ cells a. k cells a ∙ ap (λ (o : Result ℕ ErrorKind). o >>= (λ i. whole_value (i + 1))) (g cells a)
-placed known args f P asked (Err (Stop s)) m k g = missing_too P (IsMissing known args) m s g
+placed known args f P asked (Err (Missing c)) m k g = m c g
 
 pub finds_same : (known : ℕ → Option Value) (args : List given.Argument) (f g : List Argument → Value) (r : Result ℕ Halt) → ((cells : ℕ → Value) → g (arguments_in cells args) ≡ f (arguments_in cells args)) → Finds known args f r → Finds known args g r
 finds_same known args f g (Ok c) e h = (λ cells a. e cells ∙ h.0 cells a, h.1)
 finds_same known args f g (Err (Error x)) e h = λ cells a. e cells ∙ h cells a
-finds_same known args f g (Err (Stop s)) e h = h
+finds_same known args f g (Err (Missing c)) e h = h
 
 pub placed_same : (r : Area) (f g : Region → Value) (o : Result ℕ ErrorKind) → ((cells : ℕ → Value) → g (region_of cells r) ≡ f (region_of cells r)) → IsPlacedIn r f o → IsPlacedIn r g o
 placed_same r f g (Ok c) e h = (λ cells. e cells ∙ h.0 cells, h.1)

@@ -1,13 +1,13 @@
 //! Why a function ends before its value.
 
-use wi_lookup::Stop;
-use wi_values::ErrorKind;
+use wi_values::{Address, ErrorKind};
 
 /// Why a function ends before its value.
 #[derive(Drop)]
 pub(crate) enum Halt {
     Error(ErrorKind),
-    Stop(Stop),
+    /// The value of a cell isn't known.
+    Missing(Address),
 }
 
 impl From<ErrorKind> for Halt {
@@ -21,13 +21,13 @@ impl From<ErrorKind> for Halt {
     }
 }
 
-impl From<Stop> for Halt {
+impl From<Address> for Halt {
     ghost use Rattle.std.specs.Prelude.{◌≡◌};
-    ghost use Rattle.wi_search_functions.specs.declared.halt.Halt.TheVariants.{Stop as Stopped};
+    ghost use Rattle.wi_search_functions.specs.declared.halt.Halt.TheVariants.{Missing};
 
-    ghost from_gives = { λ s h. h ≡ Stopped s };
+    ghost from_gives = { λ c h. h ≡ Missing c };
 
-    fn from(stop: Stop) -> Halt {
-        Halt::Stop(stop)
+    fn from(missing: Address) -> Halt {
+        Halt::Missing(missing)
     }
 }

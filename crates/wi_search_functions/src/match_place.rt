@@ -1,7 +1,7 @@
 //! MATCH (OpenFormula, "Lookup Functions").
 
 ghost use Rattle.std.specs.Prelude.{◌≡◌, IfOk, IfErr};
-ghost use Rattle.wi_lookup.specs.Arguments.{IfMissing, IsMissing, IsOfArguments};
+ghost use Rattle.wi_lookup.specs.Arguments.{IsMissing, IsOfArguments};
 ghost use Rattle.wi_standard_functions.specs.Convert.{zero_number};
 ghost use Rattle.wi_standard_functions.specs.Lookup.{match_value};
 ghost use Rattle.wi_values.specs.declared.value.Value.TheVariants.{Number};
@@ -13,16 +13,15 @@ use crate::outcome::value_placed;
 use crate::region::is_line;
 use crate::rule::Rule;
 use crate::search::place_along;
-use std::alloc::Global;
-use wi_lookup::{Argument, Lookup, Stop};
+use wi_lookup::{Argument, Lookup};
 use wi_scalar_functions::{one, zero};
-use wi_values::{ErrorKind, Value};
+use wi_values::{Address, ErrorKind, Value};
 
 /// The place, counted from 1, of a value in one row or one column. The filled cells of it are looked up one after another: for
-/// a match type of 0 up to the first that is equal, else all.
-pub fn match_value<L: Lookup>(_: Global, arguments: &[Argument], lookup: &L) -> Result<Value, Stop>
+/// a match type of 0 up to the first that is equal, else all. The cell that is missing is told.
+pub fn match_value<L: Lookup>(arguments: &[Argument], lookup: &L) -> Result<Value, Address>
     ensures done { IfOk result (IsOfArguments (L.known_cell lookup.now) match_value arguments.now) }
-    ensures missing { IfErr result (λ s. IfMissing s (IsMissing (L.known_cell lookup.now) arguments.now)) }
+    ensures missing { IfErr result (IsMissing (L.known_cell lookup.now) arguments.now) }
 {
     let zero = Value::Number(zero());
     value_placed(match_place(&zero, arguments, lookup))

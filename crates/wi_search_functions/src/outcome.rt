@@ -28,20 +28,24 @@ pub(crate) fn value_found<L: Lookup>(
             LookedUp::Known(value) => Ok(value.copy(alloc)?),
             LookedUp::Missing => Err(Stop::Missing(cell)),
         },
-        Err(Halt::Error(e)) => Ok(Value::Fault(e)),
-        Err(Halt::Stop(stop)) => Err(stop),
+        Err(halt) => match halt {
+            Halt::Error(e) => Ok(Value::Fault(e)),
+            Halt::Missing(cell) => Err(Stop::Missing(cell)),
+        },
     }
 }
 
 /// The place that was found, counted from 1, or the error.
-pub(crate) fn value_placed(found: Result<u32, Halt>) -> Result<Value, Stop>
+pub(crate) fn value_placed(found: Result<u32, Halt>) -> Result<Value, Address>
     ensures done { (known : ℕ → Option Values) → (args : List given.Argument) → (f : List Argument → Values) → Places known args f found → IfOk result (IsOfArguments known f args) }
-    ensures missing { (known : ℕ → Option Values) → (args : List given.Argument) → (f : List Argument → Values) → Places known args f found → IfErr result (λ s. IfMissing s (IsMissing known args)) }
+    ensures missing { (known : ℕ → Option Values) → (args : List given.Argument) → (f : List Argument → Values) → Places known args f found → IfErr result (IsMissing known args) }
 {
     match found {
         Ok(place) => Ok(counted_from_one(place)),
-        Err(Halt::Error(e)) => Ok(Value::Fault(e)),
-        Err(Halt::Stop(stop)) => Err(stop),
+        Err(halt) => match halt {
+            Halt::Error(e) => Ok(Value::Fault(e)),
+            Halt::Missing(cell) => Err(cell),
+        },
     }
 }
 

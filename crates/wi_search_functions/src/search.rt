@@ -12,7 +12,7 @@ use crate::halt::Halt;
 use crate::region::steps;
 use crate::rule::Rule;
 use std::ops::ControlFlow;
-use wi_lookup::{Lookup, Stop, TakesCells, take_cells};
+use wi_lookup::{Lookup, TakesCells, take_cells};
 use wi_matching::match_order;
 use wi_values::{Address, ErrorKind, Rect, Value};
 
@@ -89,6 +89,6 @@ pub(crate) fn place_along<L: Lookup>(
             Some(cell) => Ok(steps(line, cell)),
             None => Err(Halt::Error(ErrorKind::NotAvailable)),
         },
-        Err(cell) => Err(Halt::Stop(Stop::Missing(cell))),
+        Err(cell) => Err(Halt::Missing(cell)),
     }
 }

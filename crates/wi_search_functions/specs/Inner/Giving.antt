@@ -8,27 +8,27 @@ use Rattle.wi_values.specs.declared.value.ErrorKind.TheVariants.{BadValue}
 use Rattle.wi_values.specs.declared.value.Value.{Value}
 use Rattle.wi_values.specs.declared.value.Value.TheVariants.{Fault}
 use Rattle.wi_lookup.specs.declared.argument.Argument as given
-use Rattle.wi_lookup.specs.Arguments.{arguments_in, KnownAgrees, IfMissing, IsMissing, refers_to}
+use Rattle.wi_lookup.specs.Arguments.{arguments_in, KnownAgrees, IsMissing, refers_to}
 use Rattle.wi_standard_functions.specs.Arguments.{Argument, Region, region_of}
 use Rattle.wi_standard_functions.specs.Arithmetic.{whole_value}
 use Rattle.wi_search_functions.specs.declared.halt.Halt.{Halt}
-use Rattle.wi_search_functions.specs.declared.halt.Halt.TheVariants.{Error, Stop}
+use Rattle.wi_search_functions.specs.declared.halt.Halt.TheVariants.{Error, Missing}
 
 -- it holds whatever the cells hold of which this is known
 abbrev pub WhateverHeld : (ℕ → Option Value) → ((ℕ → Value) → Type 0) → Type 0
 WhateverHeld known P = (cells : ℕ → Value) → KnownAgrees known cells → P cells
 
--- what a step gives, as `view` sees it, or its error; where it stops, this is so of the cell that is missing
+-- what a step gives, as `view` sees it, or its error; or this is so of the cell that is missing
 abbrev pub Agrees : {A B : Type 0} → (ℕ → Option Value) → (ℕ → Type 0) → (A → B) → ((ℕ → Value) → Result B ErrorKind) → Result A Halt → Type 0
 Agrees known P view step (Ok x) = WhateverHeld known (λ cells. step cells ≡ Ok (view x))
 Agrees known P view step (Err (Error e)) = WhateverHeld known (λ cells. step cells ≡ Err e)
-Agrees known P view step (Err (Stop s)) = IfMissing s P
+Agrees known P view step (Err (Missing c)) = P c
 
 -- the cell whose value a function gives, to which one of the arguments refers, or the function's error
 abbrev pub Finds : (ℕ → Option Value) → List given.Argument → (List Argument → Value) → Result ℕ Halt → Type 0
 Finds known args f (Ok c) = WhateverHeld known (λ cells. f (arguments_in cells args) ≡ cells c) × (list_any (refers_to c) args ≡ true)
 Finds known args f (Err (Error e)) = WhateverHeld known (λ cells. f (arguments_in cells args) ≡ Fault e)
-Finds known args f (Err (Stop s)) = IfMissing s (IsMissing known args)
+Finds known args f (Err (Missing c)) = IsMissing known args c
 
 -- ---- arguments
 
@@ -55,4 +55,4 @@ IsPlacedIn r f (Err e) = (cells : ℕ → Value) → f (region_of cells r) ≡ F
 abbrev pub Places : (ℕ → Option Value) → List given.Argument → (List Argument → Value) → Result ℕ Halt → Type 0
 Places known args f (Ok n) = WhateverHeld known (λ cells. f (arguments_in cells args) ≡ whole_value (n + 1))
 Places known args f (Err (Error e)) = WhateverHeld known (λ cells. f (arguments_in cells args) ≡ Fault e)
-Places known args f (Err (Stop s)) = IfMissing s (IsMissing known args)
+Places known args f (Err (Missing c)) = IsMissing known args c

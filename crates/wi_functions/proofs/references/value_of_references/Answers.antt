@@ -9,8 +9,8 @@ returns-in-HLookup-clause-done g c = rw c.in-HLookup.is c.h_lookup_value.ensures
 pub returns-in-Index-clause-done : goal.returns-in-Index-clause-done
 returns-in-Index-clause-done g c = rw c.in-Index.is c.index_value.ensures.done
 
-pub returns-in-Match-clause-done : goal.returns-in-Match-clause-done
-returns-in-Match-clause-done g c = rw c.in-Match.is c.match_value.ensures.done
+pub returns-in-Ok-match_value-clause-done : goal.returns-in-Ok-match_value-clause-done
+returns-in-Ok-match_value-clause-done g c = rw c.in-Match.is c.in-Ok-match_value.ensures.done
 
 pub returns-in-SumIf-clause-done : goal.returns-in-SumIf-clause-done
 returns-in-SumIf-clause-done g c = rw c.in-SumIf.is c.sum_if_value.ensures.done

@@ -1,4 +1,4 @@
-use Rattle.std.proofs.Common.{◌≡◌, [], ◌∷◌, Some, length, refl, sym, ap, rules}
+use Rattle.std.proofs.Common.{◌≡◌, Some, length, refl, sym, ap, rules}
 use Rattle.std.specs.Prelude.{slice_get}
 use Rattle.std.specs.Borrow.{Bor}
 use Rattle.std.proofs.lemmas.Option.{slice_get_read}
@@ -7,10 +7,20 @@ use Rattle.wi_standard_functions.specs.Arguments as given
 use Rattle.wi_standard_functions.specs.FirstError.{no_error}
 use Rattle.wi_values.specs.declared.value.Value.{Value}
 use Rattle.wi_values.specs.declared.value.Value.TheVariants.{Fault}
-use Rattle.wi_search_functions.specs.declared.halt.Halt.TheVariants.{Error, Stop}
+use Rattle.wi_search_functions.specs.declared.halt.Halt.TheVariants.{Error, Missing}
 use Rattle.wi_search_functions.proofs.Asked.{refers_alone, value_given}
-use Rattle.wi_search_functions.proofs.Endings.{gives_so, missing_too}
+use Rattle.wi_search_functions.proofs.Endings.{gives_so}
 use Rattle.wi_search_functions.proofs.arguments.value_or.Goals as goal
+
+pub returns-in_err-value_of-in-Some : goal.returns-in_err-value_of-in-Some
+returns-in_err-value_of-in-Some g c =
+    let known = g.L.Lookup.known_cell c.args.lookup.now in
+    let args = c.args.arguments.now in
+    let one = c.in-Some.argument.now in
+    let there : Some one ≡ slice_get args c.args.place = sym (slice_get_read args (length args) c.args.place one refl c.in-Some.ensures.lookup.3.0 c.in-Some.ensures.lookup.1) in
+    let cell = c.in_err-value_of-in-Some.field-0.0 in
+    gives_so {A = Bor Value} {B = Value} known (IsMissing known args) (λ v. v.now) (λ cells. no_error (given.value_or c.args.default.now (arguments_in cells args) c.args.place)) c.from_residual.result (Missing cell) c.from_residual.ensures.1
+    (c.in_err-value_of-in-Some.ensures.missing.0, refers_alone args c.args.place one cell there c.in_err-value_of-in-Some.ensures.missing.1)
 
 pub returns-in_err-value-in-Some : goal.returns-in_err-value-in-Some
 returns-in_err-value-in-Some g c =
@@ -18,16 +28,6 @@ returns-in_err-value-in-Some g c =
     let args = c.args.arguments.now in
     let one = c.in-Some.argument.now in
     let there : Some one ≡ slice_get args c.args.place = sym (slice_get_read args (length args) c.args.place one refl c.in-Some.ensures.lookup.3.0 c.in-Some.ensures.lookup.1) in
-    let stop = c.in_err-value-in-Some.field-0.0 in
-    gives_so {A = Bor Value} {B = Value} known (IsMissing known args) (λ v. v.now) (λ cells. no_error (given.value_or c.args.default.now (arguments_in cells args) c.args.place)) c.from_residual.result (Stop stop) c.from_residual.ensures.1
-    (missing_too (IsMissing known (one ∷ [])) (IsMissing known args) (λ x m. (m.0, refers_alone args c.args.place one x there m.1)) stop c.in_err-value-in-Some.ensures.missing)
-
-pub returns-in_err-value-in-Some-2 : goal.returns-in_err-value-in-Some-2
-returns-in_err-value-in-Some-2 g c =
-    let known = g.L.Lookup.known_cell c.args.lookup.now in
-    let args = c.args.arguments.now in
-    let one = c.in-Some.argument.now in
-    let there : Some one ≡ slice_get args c.args.place = sym (slice_get_read args (length args) c.args.place one refl c.in-Some.ensures.lookup.3.0 c.in-Some.ensures.lookup.1) in
-    let e = c.in_err-value-in-Some-2.field-0.0 in
-    gives_so {A = Bor Value} {B = Value} known (IsMissing known args) (λ v. v.now) (λ cells. no_error (given.value_or c.args.default.now (arguments_in cells args) c.args.place)) c.from_residual-in_err-value-in-Some-2.result (Error e) c.from_residual-in_err-value-in-Some-2.ensures.1
+    let e = c.in_err-value-in-Some.field-0.0 in
+    gives_so {A = Bor Value} {B = Value} known (IsMissing known args) (λ v. v.now) (λ cells. no_error (given.value_or c.args.default.now (arguments_in cells args) c.args.place)) c.from_residual-in_err-value-in-Some.result (Error e) c.from_residual-in_err-value-in-Some.ensures.1
     (λ cells a. let told : Fault e ≡ (argument_in cells one).value = search rules in ap no_error (value_given cells args c.args.place one c.args.default.now (Fault e) there told))
