@@ -1,3 +1,4 @@
 pub mod Asking
+pub mod Choosing
 pub mod Parameters
 mod Rows

@@ -58,7 +58,7 @@ fn unless_not_available(first: Value) -> Choice
 {
     match first {
         Value::Fault(ErrorKind::NotAvailable) => Choice::Parameter(1, Value::Empty),
-        value => Choice::Value(value),
+        other => Choice::Value(other),
     }
 }
 
