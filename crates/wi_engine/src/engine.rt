@@ -25,6 +25,7 @@ use crate::findings::FoundWhatIf;
 use crate::frame::{Advance, Asked, Frame, Inputs, Waiting};
 use crate::lacking::is_lacking;
 use crate::memo::Memo;
+use crate::pool::Pool;
 use crate::seen::{Seen, content_in, formula_at};
 use crate::together::together;
 use std::alloc::{AllocError, Global};
@@ -319,13 +320,14 @@ fn run<M: Memo>(
     ensures saves { OnOk result (SavesAll store.now.sheet (λ ks. Contains ks (case_at key)) (M.state memo.old) (M.state memo.new) meter.old meter.new) }
     ensures settled { OnOk result (WhereRoom store.now.sheet (λ ks. Contains ks (case_at key)) (M.state memo.old) (λ _. (M.state memo.new).kept key.cell key.world ≡ true)) }
 {
+    let mut pool = Pool::new(alloc);
     let mut stack = Vec::new(alloc);
-    let mut frame = Frame::new(alloc, key);
+    let mut frame = Frame::new(key, pool.take());
     'frames: loop {
         match advance(alloc, store, &mut frame, memo, meter)? {
             Advance::Needs(next) => {
                 stack.push(frame)?;
-                frame = Frame::new(alloc, next);
+                frame = Frame::new(next, pool.take());
             }
             Advance::Done(value) => match stack.pop() {
                 None => {
@@ -334,7 +336,7 @@ fn run<M: Memo>(
                     return Ok(shown);
                 }
                 Some(below) => {
-                    memo.keep(frame.into_key(), value)?;
+                    memo.keep(frame.retire(&mut pool), value)?;
                     frame = below;
                 }
             },

@@ -1,6 +1,6 @@
 //! The values that were found for one formula.
 
-ghost use Rattle.std.specs.Prelude.{◌≡◌, [], map, OnOk, OnErr};
+ghost use Rattle.std.specs.Prelude.{◌≡◌, ℕ, [], map, None, OnOk, OnErr};
 ghost use Rattle.std.specs.Option.{option_copied};
 ghost use Rattle.wi_parser.specs.View.{pair_of};
 ghost use Rattle.wi_lookup.specs.Assignment.{addresses};
@@ -36,6 +36,15 @@ impl Findings {
             cells: BTreeMap::new(alloc),
             what_ifs: Vec::new(alloc),
         }
+    }
+
+    /// Takes the values away. Arrays keep their memory. The work grows with the count of values.
+    pub fn clear(&mut self)
+        ensures cells { (c : ℕ) → found_value self.new c ≡ None }
+        ensures what_ifs { self.new.what_ifs.items ≡ [] }
+    {
+        self.cells.clear();
+        self.what_ifs.clear();
     }
 
     /// The value found of a cell. The work grows with the logarithm of the count of cells found.

@@ -1,11 +1,13 @@
 //! A cell whose value is being found.
 
-ghost use Rattle.std.specs.Prelude.{◌≡◌, [], Contains, IfSome};
+ghost use Rattle.std.specs.Prelude.{◌≡◌, ℕ, [], None, Contains, IfSome};
+ghost use Rattle.wi_engine.specs.Inner.Findings.{found_value};
 ghost use Rattle.wi_engine.specs.declared.frame.Waiting.TheVariants.{Nothing};
 
 use crate::course::Course;
 use crate::findings::Findings;
-use std::alloc::{AllocError, Global};
+use crate::pool::{Arrays, Pool};
+use std::alloc::AllocError;
 use wi_cache::Key;
 use wi_parser::Pair;
 use wi_values::{Address, Rect, Value};
@@ -32,18 +34,23 @@ pub struct Frame {
 }
 
 impl Frame {
-    /// A frame with no values yet. Takes no memory.
-    pub fn new(alloc: Global, key: Key) -> Frame
+    /// A frame with no values yet, in arrays out of which goes what was in them. Takes no memory. The work grows with the count
+    /// of what goes.
+    pub fn new(key: Key, arrays: Arrays) -> Frame
         ensures key { result.key ≡ key }
-        ensures cells { result.found.cells.entries ≡ [] }
+        ensures cells { (c : ℕ) → found_value result.found c ≡ None }
         ensures what_ifs { result.found.what_ifs.items ≡ [] }
         ensures waiting { result.waiting ≡ Nothing }
     {
+        let mut found = arrays.found;
+        let mut courses = arrays.courses;
+        found.clear();
+        courses.clear();
         Frame {
             key,
-            found: Findings::new(alloc),
+            found,
             waiting: Waiting::Nothing,
-            courses: Vec::new(alloc),
+            courses,
         }
     }
 
@@ -78,6 +85,17 @@ impl Frame {
     pub fn into_key(self) -> Key
         ensures { result ≡ self.key }
     {
+        self.key
+    }
+
+    /// The key, where the frame is done. Its arrays are put into a pool.
+    pub fn retire(self, pool: &mut Pool) -> Key
+        ensures { result ≡ self.key }
+    {
+        pool.put(Arrays {
+            found: self.found,
+            courses: self.courses,
+        });
         self.key
     }
 }

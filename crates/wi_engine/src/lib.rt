@@ -12,6 +12,7 @@ mod lacking;
 mod lookup;
 mod memo;
 mod occupied;
+mod pool;
 mod remembered;
 mod seen;
 mod together;

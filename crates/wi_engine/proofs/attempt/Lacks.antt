@@ -3,9 +3,6 @@ use Rattle.std.proofs.Common.{◌≡◌, ◌==◌, ℕ, ◌+◌, ◌<◌, ◌≤
 use Rattle.std.proofs.lemmas.Bool.{and_from, and_parts}
 use Rattle.std.specs.List.{list_any}
 use Rattle.std.specs.Option.{is_none, option_or}
-use Rattle.std.specs.Ordering.{nat_cmp}
-use Rattle.std.specs.Map.{lookup}
-use Rattle.std.specs.BTreeMap.{is_at}
 use Rattle.wi_values.specs.declared.value.Value.{Value}
 use Rattle.wi_parser.specs.Tree.{Tree}
 use Rattle.wi_parser.specs.Sheet.{Sheet, content_of, has_formula, cells_with_formula}
@@ -40,9 +37,9 @@ lacking_at_most s t f =
     let what_ifs = keeps_few (lacks_what_if f) (what_ifs_of t) in
     omega arith
 
-pub lacking_all : (s : Sheet) (t : Tree) (f : Findings) → f.cells.entries ≡ [] → f.what_ifs.items ≡ [] → lacking s t f ≡ length (formulas_read_here s t) + length (what_ifs_of t)
+pub lacking_all : (s : Sheet) (t : Tree) (f : Findings) → ((c : ℕ) → found_value f c ≡ None) → f.what_ifs.items ≡ [] → lacking s t f ≡ length (formulas_read_here s t) + length (what_ifs_of t)
 lacking_all s t f e g =
-    let cells = all_pass (lacks_cell f) (λ c. ap (λ (es : List (ℕ × Value)). is_none (lookup (is_at (nat_cmp c)) es)) e) (formulas_read_here s t) in
+    let cells = all_pass (lacks_cell f) (λ c. ap (λ (o : Option Value). is_none o) (e c)) (formulas_read_here s t) in
     let what_ifs = all_pass (lacks_what_if f) (λ x. ap (λ (fs : List FoundWhatIf). is_none (first_for fs x.0 x.1)) g) (what_ifs_of t) in
     omega arith
 

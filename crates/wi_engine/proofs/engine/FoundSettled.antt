@@ -3,9 +3,6 @@ use Rattle.std.proofs.Common.{◌≡◌, ◌==◌, ◌&&◌, ◌⊎◌, inl, inr
 use Rattle.std.proofs.lemmas.Bool.{and_parts, or_cases}
 use Rattle.std.proofs.lemmas.List.Elements.{All-map}
 use Rattle.std.specs.Option.{option_or}
-use Rattle.std.specs.Ordering.{nat_cmp}
-use Rattle.std.specs.Map.{lookup}
-use Rattle.std.specs.BTreeMap.{is_at}
 use Rattle.wi_values.specs.declared.value.Value.{Value}
 use Rattle.wi_values.specs.declared.replacement.Replacement.{Replacement}
 use Rattle.wi_parser.specs.Tree.{Tree}
@@ -107,9 +104,9 @@ module _ (s : Sheet) (kept more : ℕ → List Replacement → Bool) (grows : (c
 -- ---- with one value more
 
 module _ (s : Sheet) (kept : ℕ → List Replacement → Bool) (w : List Replacement) (t : Tree) where
-  pub settled_none : (f : Findings) → f.cells.entries ≡ [] → f.what_ifs.items ≡ [] → AreFoundSettled s kept w t f
+  pub settled_none : (f : Findings) → ((c : ℕ) → found_value f c ≡ None) → f.what_ifs.items ≡ [] → AreFoundSettled s kept w t f
   settled_none f e h = record {
-    cells = λ c. subst (λ (o : Option Value). IfSome o (λ v. IsSettled s kept w c)) (sym (ap (λ (es : List (ℕ × Value)). lookup (is_at (nat_cmp c)) es) e)) tt;
+    cells = λ c. subst (λ (o : Option Value). IfSome o (λ v. IsSettled s kept w c)) (sym (e c)) tt;
     what_ifs = λ c ps. subst (λ (o : Option Value). IfSome o (λ v. Contains (what_ifs_of t) (c, ps) × IsWhatIfSettled s kept w (c, ps))) (sym (ap (λ (fs : List FoundWhatIf). first_for fs c ps) h)) tt;
   }
 

@@ -2,9 +2,6 @@
 use Rattle.std.proofs.Common.{◌≡◌, ◌==◌, ℕ, ◌&&◌, Bool, true, false, cond, List, [], Option, Some, None, IfSome, refl, ap, sym, ◌∙◌, subst}
 use Rattle.std.proofs.lemmas.Bool.{and_parts}
 use Rattle.std.specs.Option.{option_or}
-use Rattle.std.specs.Ordering.{nat_cmp}
-use Rattle.std.specs.Map.{lookup}
-use Rattle.std.specs.BTreeMap.{is_at}
 use Rattle.wi_values.specs.declared.value.Value.{Value}
 use Rattle.wi_graph.proofs.Walks.{same_cell}
 use Rattle.wi_engine.specs.declared.findings.Findings.{Findings}
@@ -14,9 +11,9 @@ use Rattle.wi_engine.proofs.findings.FoundPairs.{same_lists, first_for-push}
 
 module _ (cells : ℕ → Value) (what_ifs : ℕ → List (ℕ × ℕ) → Value) where
   -- where nothing was found
-  pub right_none : (f : Findings) → f.cells.entries ≡ [] → f.what_ifs.items ≡ [] → AreAllRight cells what_ifs f
+  pub right_none : (f : Findings) → ((c : ℕ) → found_value f c ≡ None) → f.what_ifs.items ≡ [] → AreAllRight cells what_ifs f
   right_none f e h = record {
-    cells = λ c. subst (λ (o : Option Value). IfSome o (λ v. v ≡ cells c)) (sym (ap (λ (es : List (ℕ × Value)). lookup (is_at (nat_cmp c)) es) e)) tt;
+    cells = λ c. subst (λ (o : Option Value). IfSome o (λ v. v ≡ cells c)) (sym (e c)) tt;
     what_ifs = λ c ps. subst (λ (o : Option Value). IfSome o (λ v. v ≡ what_ifs c ps)) (sym (ap (λ (fs : List FoundWhatIf). first_for fs c ps) h)) tt;
   }
 

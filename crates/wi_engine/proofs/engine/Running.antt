@@ -1,5 +1,5 @@
 -- A run of frames: what is so of it all the way, and what its steps do to that.
-use Rattle.std.proofs.Common.{◌≡◌, ◌<◌, ◌≤◌, ◌+◌, ◌*◌, ◌⊎◌, ◌||◌, ℕ, true, false, List, [], ◌∷◌, ◌++◌, length, Contains, Some, IfSome, refl, ap, sym, ◌∙◌, subst, arith}
+use Rattle.std.proofs.Common.{◌≡◌, ◌<◌, ◌≤◌, ◌+◌, ◌*◌, ◌⊎◌, ◌||◌, ℕ, true, false, List, [], ◌∷◌, ◌++◌, length, Contains, Some, None, IfSome, refl, ap, sym, ◌∙◌, subst, arith}
 use Rattle.wi_values.specs.declared.value.Value.{Value}
 use Rattle.wi_values.specs.declared.replacement.Replacement.{Replacement}
 use Rattle.wi_parser.specs.Sheet.{Sheet, content_of, put_all, has_formula, cells_with_formula}
@@ -14,6 +14,7 @@ use Rattle.wi_sheet.proofs.Counting.{one_less_left, never_fall-same, never_fall-
 use Rattle.wi_sheet.proofs.Demands.{demand_closed, demand_has_itself}
 use Rattle.wi_engine.specs.Inner.Rank.{reach_rank}
 use Rattle.wi_engine.specs.Inner.MemoState.{MemoState, IsTold, IsMemoOf}
+use Rattle.wi_engine.specs.Inner.Findings.{found_value}
 use Rattle.wi_engine.specs.Inner.Frames.{case_at, IsToValue, IsUnvalued, IsFrame, IsNext, IsBegun, IsStack, BottomIs, spare, at_most}
 use Rattle.wi_engine.specs.declared.frame.Frame.{Frame}
 use Rattle.wi_engine.specs.declared.frame.Waiting.TheVariants.{Nothing}
@@ -51,7 +52,7 @@ Finds m n k = (c : ℕ) (w : List Replacement) → n.found c w ≡ (m.found c w 
 -- a frame with no values yet
 pub record IsNew (f : Frame) (k : Key) : Type 0 where
   pub key : f.key ≡ k
-  pub cells : f.found.cells.entries ≡ []
+  pub cells : (c : ℕ) → found_value f.found c ≡ None
   pub what_ifs : f.found.what_ifs.items ≡ []
   pub waiting : f.waiting ≡ Nothing
 

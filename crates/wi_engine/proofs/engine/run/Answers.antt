@@ -62,7 +62,7 @@ frames-preserved-in-Needs g c =
 pub frames-smaller : goal.frames-smaller
 frames-smaller g c =
     pop_smaller c.args.store.now.sheet (g.M.Memo.state c.args.memo.now) (g.M.Memo.state c.frames.memo) (g.M.Memo.state c.advance.new.memo) (g.M.Memo.state c.keep-in-Some.new.self) (case_at c.args.key) c.args.meter.now c.frames.meter
-    c.frames.stack.items c.frames.frame c.in-Some.below c.into_key-in-Some.result c.frames.invariant.running c.in_ok-next.ensures.same (c.into_key-in-Some.ensures ∙ c.in_ok-next.ensures.key) c.in_ok-keep-in-Some.ensures.found
+    c.frames.stack.items c.frames.frame c.in-Some.below c.retire.result c.frames.invariant.running c.in_ok-next.ensures.same (c.retire.ensures ∙ c.in_ok-next.ensures.key) c.in_ok-keep-in-Some.ensures.found
     c.requires.key.open_cell c.requires.key.formula
 
 pub frames-preserved : goal.frames-preserved
@@ -82,17 +82,17 @@ frames-preserved g c =
     let root = case_at c.args.key in
     let start = c.args.meter.now in
     let going = c.frames.invariant in
-    let key = c.into_key-in-Some.ensures ∙ a.key in
-    let keeps : Keeps mid after c.into_key-in-Some.result c.in-Done.value = record { sheet = k.same_sheet; covers = k.same_cells; generation = k.same_generation; known = k.known; told = k.told } in
-    let takes : Takes mid after c.into_key-in-Some.result = record { kept = k.kept; room = k.room; places = k.one_place } in
+    let key = c.retire.ensures ∙ a.key in
+    let keeps : Keeps mid after c.retire.result c.in-Done.value = record { sheet = k.same_sheet; covers = k.same_cells; generation = k.same_generation; known = k.known; told = k.told } in
+    let takes : Takes mid after c.retire.result = record { kept = k.kept; room = k.room; places = k.one_place } in
     record {
-      running = run_pop s old m mid after root start c.frames.meter c.advance.new.meter c.pop.new.self.items c.frames.stack.items c.frames.frame c.in-Some.below c.into_key-in-Some.result c.in-Done.value going.running a.same popped key keeps k.found value c.advance.ensures.counts counted restarts;
+      running = run_pop s old m mid after root start c.frames.meter c.advance.new.meter c.pop.new.self.items c.frames.stack.items c.frames.frame c.in-Some.below c.retire.result c.in-Done.value going.running a.same popped key keeps k.found value c.advance.ensures.counts counted restarts;
       places = takes_more old m after start.evaluations c.frames.meter.evaluations c.advance.new.meter.evaluations going.places (rw (← a.same) k.one_place) counted;
       gives_up = gives_up_then old m after going.gives_up (rw (← a.same) k.gives_up);
       capacity = k.same_capacity ∙ ap (λ (x : MemoState). x.capacity) a.same ∙ going.capacity;
       latest = k.same_latest ∙ ap (λ (x : MemoState). x.latest) a.same ∙ going.latest;
       saving = λ ks closed top whole room.
-          saving_pop s old m mid after root start c.frames.meter c.advance.new.meter c.pop.new.self.items c.frames.stack.items c.frames.frame c.in-Some.below c.into_key-in-Some.result c.in-Done.value ks closed top (going.saving ks closed top whole room) a.same popped key keeps
+          saving_pop s old m mid after root start c.frames.meter c.advance.new.meter c.pop.new.self.items c.frames.stack.items c.frames.frame c.in-Some.below c.retire.result c.in-Done.value ks closed top (going.saving ks closed top whole room) a.same popped key keeps
           k.found takes value c.advance.ensures.counts counted restarts rests;
     }
 
@@ -302,8 +302,8 @@ pub returns-in_err-keep-in-Some-clause-memo : goal.returns-in_err-keep-in-Some-c
 returns-in_err-keep-in-Some-clause-memo g c =
     let value = rw c.in-Done.is at c.in_ok-next.ensures.done in
     let there = subst (λ (x : MemoState). IsMemoOf c.args.store.now.sheet x) (sym c.advance.ensures.same) c.frames.invariant.running.memo in
-    let keeps : Keeps (g.M.Memo.state c.advance.new.memo) (g.M.Memo.state c.keep-in-Some.new.self) c.into_key-in-Some.result c.in-Done.value = record { sheet = c.keep-in-Some.ensures.same_sheet; covers = c.keep-in-Some.ensures.same_cells; generation = c.keep-in-Some.ensures.same_generation; known = c.keep-in-Some.ensures.known; told = c.keep-in-Some.ensures.told } in
-    run_keeps c.args.store.now.sheet (g.M.Memo.state c.advance.new.memo) (g.M.Memo.state c.keep-in-Some.new.self) c.into_key-in-Some.result c.frames.frame.key c.in-Done.value there keeps (c.into_key-in-Some.ensures ∙ c.in_ok-next.ensures.key) value
+    let keeps : Keeps (g.M.Memo.state c.advance.new.memo) (g.M.Memo.state c.keep-in-Some.new.self) c.retire.result c.in-Done.value = record { sheet = c.keep-in-Some.ensures.same_sheet; covers = c.keep-in-Some.ensures.same_cells; generation = c.keep-in-Some.ensures.same_generation; known = c.keep-in-Some.ensures.known; told = c.keep-in-Some.ensures.told } in
+    run_keeps c.args.store.now.sheet (g.M.Memo.state c.advance.new.memo) (g.M.Memo.state c.keep-in-Some.new.self) c.retire.result c.frames.frame.key c.in-Done.value there keeps (c.retire.ensures ∙ c.in_ok-next.ensures.key) value
 
 pub returns-in_err-keep-in-Some-clause-same_cells : goal.returns-in_err-keep-in-Some-clause-same_cells
 returns-in_err-keep-in-Some-clause-same_cells g c =
@@ -467,17 +467,17 @@ keep-requires-clause-right g c =
 pub keep-requires-in-Some-clause-generation : goal.keep-requires-in-Some-clause-generation
 keep-requires-in-Some-clause-generation g c =
     let a = c.in_ok-next.ensures in
-    rw (c.into_key-in-Some.ensures, a.same) a.frame.key.generation
+    rw (c.retire.ensures, a.same) a.frame.key.generation
 
 pub keep-requires-in-Some-clause-open_cell : goal.keep-requires-in-Some-clause-open_cell
 keep-requires-in-Some-clause-open_cell g c =
     let a = c.in_ok-next.ensures in
-    rw (c.into_key-in-Some.ensures, a.same, c.frames.invariant.running.memo.sheet) a.frame.key.open_cell
+    rw (c.retire.ensures, a.same, c.frames.invariant.running.memo.sheet) a.frame.key.open_cell
 
 pub keep-requires-in-Some-clause-right : goal.keep-requires-in-Some-clause-right
 keep-requires-in-Some-clause-right g c =
     let a = c.in_ok-next.ensures in
-    rw (c.into_key-in-Some.ensures, a.key, a.same, c.frames.invariant.running.memo.sheet) (rw c.in-Done.is at a.done)
+    rw (c.retire.ensures, a.key, a.same, c.frames.invariant.running.memo.sheet) (rw c.in-Done.is at a.done)
 
 pub returns-in-None-clause-value : goal.returns-in-None-clause-value
 returns-in-None-clause-value g c =
