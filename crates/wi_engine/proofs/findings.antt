@@ -1,2 +1,3 @@
 -- What the proofs about what was found use.
+pub mod FoundCells
 pub mod FoundPairs

@@ -11,6 +11,9 @@ use std::collections::BTreeMap;
 use wi_parser::Pair;
 use wi_values::{Address, Value};
 
+/// How many values of cells stand in a list that is gone through, before others go into a map.
+const MAX_LISTED: usize = 8;
+
 /// A what-if's value.
 #[derive(Drop)]
 pub struct FoundWhatIf {
@@ -19,21 +22,27 @@ pub struct FoundWhatIf {
     pub value: Value,
 }
 
-/// The values that were found for one formula: of cells, and of what-ifs, which are few.
+/// The values that were found for one formula: of cells, and of what-ifs, which are few. So are the cells of most formulas, whose
+/// values need no memory where an earlier formula's list is used again.
 #[derive(Drop)]
 pub struct Findings {
-    pub cells: BTreeMap<Address, Value>,
+    /// Values of the cells that were found first, as they were found.
+    pub first: Vec<(Address, Value)>,
+    /// Those of the other cells.
+    pub others: BTreeMap<Address, Value>,
     pub what_ifs: Vec<FoundWhatIf>,
 }
 
 impl Findings {
     /// No values yet. Takes no memory.
     pub fn new(alloc: Global) -> Findings
-        ensures cells { result.cells.entries ≡ [] }
+        ensures first { result.first.items ≡ [] }
+        ensures others { result.others.entries ≡ [] }
         ensures what_ifs { result.what_ifs.items ≡ [] }
     {
         Findings {
-            cells: BTreeMap::new(alloc),
+            first: Vec::new(alloc),
+            others: BTreeMap::new(alloc),
             what_ifs: Vec::new(alloc),
         }
     }
@@ -43,7 +52,8 @@ impl Findings {
         ensures cells { (c : ℕ) → found_value self.new c ≡ None }
         ensures what_ifs { self.new.what_ifs.items ≡ [] }
     {
-        self.cells.clear();
+        self.first.clear();
+        self.others.clear();
         self.what_ifs.clear();
     }
 
@@ -51,7 +61,12 @@ impl Findings {
     pub fn cell(&self, at: Address) -> Option<&Value>
         ensures { option_copied result ≡ found_value self.now at }
     {
-        self.cells.get(&at)
+        for cell in &self.first {
+            if cell.0 == at {
+                return Some(&cell.1);
+            }
+        }
+        self.others.get(&at)
     }
 
     /// The value found of a what-if. The work grows with the count of what-ifs found.
@@ -66,12 +81,17 @@ impl Findings {
         None
     }
 
-    /// Adds a cell's value, in the place of an earlier one. The work grows with the logarithm of the count of cells found.
+    /// Adds the value of a cell of which none was found. The work grows with the logarithm of the count of cells found.
     pub fn add_cell(&mut self, at: Address, value: Value) -> Result<(), AllocError>
+        requires { found_value self.old at ≡ None }
         ensures ok { OnOk result (IsWithCell self.old self.new at value) }
         ensures err { OnErr result (IsSame self.old self.new) }
     {
-        self.cells.insert(at, value)?;
+        if self.first.len() < MAX_LISTED {
+            self.first.push((at, value))?;
+            return Ok(());
+        }
+        self.others.insert(at, value)?;
         Ok(())
     }
 

@@ -1,5 +1,6 @@
 -- The values that were found for one formula.
 use Rattle.std.specs.Prelude.{◌≡◌, ◌==◌, ℕ, Bool, true, false, ◌&&◌, List, [], ◌∷◌, ◌++◌, map, Option, Some, None, if◌then◌else◌}
+use Rattle.std.specs.Option.{option_or}
 use Rattle.std.specs.Ordering.{nat_cmp}
 use Rattle.std.specs.BTreeMap.{get}
 use Rattle.wi_values.specs.declared.value.Value.{Value}
@@ -25,9 +26,14 @@ abbrev pub first_for : List FoundWhatIf → ℕ → List (ℕ × ℕ) → Option
 first_for [] c pairs = None
 first_for (f ∷ fs) c pairs = if f.at == c && same_pairs (pairs_of f) pairs then Some f.value else first_for fs c pairs
 
+-- the first value for a cell
+abbrev pub first_of : List (ℕ × Value) → ℕ → Option Value
+first_of [] c = None
+first_of (e ∷ es) c = if e.0 == c then Some e.1 else first_of es c
+
 -- the value found of a cell
 abbrev pub found_value : Findings → ℕ → Option Value
-found_value f c = get nat_cmp f.cells c
+found_value f c = option_or (first_of f.first.items c) (get nat_cmp f.others c)
 
 -- the value found of a what-if
 abbrev pub what_if_found : Findings → ℕ → List (ℕ × ℕ) → Option Value
@@ -37,7 +43,7 @@ what_if_found f = first_for f.what_ifs.items
 abbrev pub AreAllRight : (ℕ → Value) → (ℕ → List (ℕ × ℕ) → Value) → Findings → Type 0
 AreAllRight cells what_ifs f = AgreesWith (found_value f) (what_if_found f) (record { cells = cells; what_ifs = what_ifs })
 
--- the second is the first with a cell's value, which stands in the place of an earlier one
+-- the second is the first with a cell's value
 pub record IsWithCell (f g : Findings) (a : ℕ) (v : Value) : Type 0 where
   pub cells : (c : ℕ) → found_value g c ≡ (if a == c then Some v else found_value f c)
   pub what_ifs : g.what_ifs.items ≡ f.what_ifs.items
@@ -49,5 +55,6 @@ pub record IsWithWhatIf (f g : Findings) (x : FoundWhatIf) : Type 0 where
 
 -- both have the same values
 pub record IsSame (f g : Findings) : Type 0 where
-  pub cells : g.cells.entries ≡ f.cells.entries
+  pub first : g.first.items ≡ f.first.items
+  pub others : g.others.entries ≡ f.others.entries
   pub what_ifs : g.what_ifs.items ≡ f.what_ifs.items

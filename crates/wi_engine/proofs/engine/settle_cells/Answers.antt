@@ -103,3 +103,6 @@ returns-in_err-add_cell-in-Known-clause-key g c = c.cells.invariant.key
 
 pub returns-in_err-add_cell-in-Known-clause-same : goal.returns-in_err-add_cell-in-Known-clause-same
 returns-in_err-add_cell-in-Known-clause-same g c = c.in_ok-value.ensures.same ∙ c.cells.invariant.same
+
+pub add_cell-requires : goal.add_cell-requires
+add_cell-requires g c = c.cells.invariant.awaits.0.1
