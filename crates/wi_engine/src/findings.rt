@@ -6,12 +6,13 @@ ghost use Rattle.wi_parser.specs.View.{pair_of};
 ghost use Rattle.wi_lookup.specs.Assignment.{addresses};
 ghost use Rattle.wi_engine.specs.Inner.Findings.{same_pairs, found_value, what_if_found, IsWithCell, IsWithWhatIf, IsSame};
 
+use crate::rising::Rising;
 use std::alloc::{AllocError, Global};
 use std::collections::BTreeMap;
 use wi_parser::Pair;
 use wi_values::{Address, Value};
 
-/// How many values of cells stand in a list that is gone through, before others go into a map.
+/// How many values of cells stand in a list that is gone through.
 const MAX_LISTED: usize = 8;
 
 /// A what-if's value.
@@ -22,13 +23,15 @@ pub struct FoundWhatIf {
     pub value: Value,
 }
 
-/// The values that were found for one formula: of cells, and of what-ifs, which are few. So are the cells of most formulas, whose
-/// values need no memory where an earlier formula's list is used again.
+/// The values that were found for one formula: of cells, and of what-ifs, which are few. Most formulas rest on few cells too, so
+/// that the list of the first suffices; a fold over many finds them in row-major order. Arrays are used again for other formulas.
 #[derive(Drop)]
 pub struct Findings {
-    /// Values of the cells that were found first, as they were found.
+    /// Those of the first cells, as they were found.
     pub first: Vec<(Address, Value)>,
-    /// Those of the other cells.
+    /// Those of later cells, of which each came after all that stood here.
+    pub rising: Rising,
+    /// Those of the cells that are left, such as the second of two columns.
     pub others: BTreeMap<Address, Value>,
     pub what_ifs: Vec<FoundWhatIf>,
 }
@@ -37,11 +40,13 @@ impl Findings {
     /// No values yet. Takes no memory.
     pub fn new(alloc: Global) -> Findings
         ensures first { result.first.items ≡ [] }
+        ensures rising { result.rising ≡ [] }
         ensures others { result.others.entries ≡ [] }
         ensures what_ifs { result.what_ifs.items ≡ [] }
     {
         Findings {
             first: Vec::new(alloc),
+            rising: Rising::new(alloc),
             others: BTreeMap::new(alloc),
             what_ifs: Vec::new(alloc),
         }
@@ -53,6 +58,7 @@ impl Findings {
         ensures what_ifs { self.new.what_ifs.items ≡ [] }
     {
         self.first.clear();
+        self.rising.clear();
         self.others.clear();
         self.what_ifs.clear();
     }
@@ -66,7 +72,10 @@ impl Findings {
                 return Some(&cell.1);
             }
         }
-        self.others.get(&at)
+        match self.rising.value(at) {
+            Some(value) => Some(value),
+            None => self.others.get(&at),
+        }
     }
 
     /// The value found of a what-if. The work grows with the count of what-ifs found.
@@ -89,6 +98,10 @@ impl Findings {
     {
         if self.first.len() < MAX_LISTED {
             self.first.push((at, value))?;
+            return Ok(());
+        }
+        if self.rising.ends_before(at) {
+            self.rising.push(at, value)?;
             return Ok(());
         }
         self.others.insert(at, value)?;

@@ -14,6 +14,7 @@ mod memo;
 mod occupied;
 mod pool;
 mod remembered;
+mod rising;
 mod seen;
 mod together;
 mod walk;

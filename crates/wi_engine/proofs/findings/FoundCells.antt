@@ -1,18 +1,13 @@
--- Values of cells that are found in one place, and else in another.
+-- Values of cells that are found: in a list, in a run, or elsewhere.
 use Rattle.std.proofs.Common.{◌≡◌, ◌==◌, ℕ, ◌++◌, Bool, true, false, cond, List, [], ◌∷◌, Option, Some, None, refl, ap, ◌∙◌, subst}
 use Rattle.std.specs.Option.{option_or}
 use Rattle.std.specs.Ordering.{nat_cmp}
 use Rattle.std.specs.Map.{lookup}
 use Rattle.std.specs.BTreeMap.{is_at}
 use Rattle.wi_values.specs.declared.value.Value.{Value}
-use Rattle.wi_values.proofs.Order.{is_at-eq}
+use Rattle.wi_values.proofs.Order.{is_at-eq, turn_test}
 use Rattle.wi_graph.proofs.Walks.{same_cell}
 use Rattle.wi_engine.specs.Inner.Findings.{first_of}
-
--- where neither has an entry
-pub none_found : (es xs : List (ℕ × Value)) (c : ℕ) → es ≡ [] → xs ≡ [] → option_or (first_of es c) (lookup (is_at (nat_cmp c)) xs) ≡ None
-none_found es xs c e h =
-    ap (λ (ys : List (ℕ × Value)). option_or (first_of ys c) (lookup (is_at (nat_cmp c)) xs)) e ∙ ap (λ (ys : List (ℕ × Value)). lookup (is_at (nat_cmp c)) ys) h
 
 -- the value of the last entry stands where none before it is of its cell
 first_of-push : (es : List (ℕ × Value)) (x : ℕ × Value) (c : ℕ) → first_of (es ++ x ∷ []) c ≡ option_or (first_of es c) (cond (x.0 == c) (Some x.1) None)
@@ -26,10 +21,25 @@ first_of-push (e ∷ es) x c = at (e.0 == c) (first_of-push es x c)
     at true ih = refl
     at false ih = ih
 
-pub one_listed : (es fs : List (ℕ × Value)) (a : ℕ) (v : Value) → fs ≡ es ++ (a, v) ∷ [] → (c : ℕ) → first_of fs c ≡ option_or (first_of es c) (cond (a == c) (Some v) None)
+one_listed : (es fs : List (ℕ × Value)) (a : ℕ) (v : Value) → fs ≡ es ++ (a, v) ∷ [] → (c : ℕ) → first_of fs c ≡ option_or (first_of es c) (cond (a == c) (Some v) None)
 one_listed es fs a v e c = ap (λ (xs : List (ℕ × Value)). first_of xs c) e ∙ first_of-push es (a, v) c
 
-pub one_put : (a c : ℕ) (o p : Option Value) (v : Value) → o ≡ cond (is_at (nat_cmp a) c) (Some v) p → o ≡ cond (a == c) (Some v) p
+-- so it is in a run
+lookup-push : (es : List (ℕ × Value)) (x : ℕ × Value) (c : ℕ) → lookup (is_at (nat_cmp c)) (es ++ x ∷ []) ≡ option_or (lookup (is_at (nat_cmp c)) es) (cond (x.0 == c) (Some x.1) None)
+lookup-push [] x c = ap (λ (b : Bool). cond b (Some x.1) None) (is_at-eq c x.0 ∙ turn_test c x.0)
+lookup-push (e ∷ es) x c = at (is_at (nat_cmp c) e.0) (lookup-push es x c)
+  where
+    last : Option Value
+    last = cond (x.0 == c) (Some x.1) None
+
+    at : (b : Bool) → lookup (is_at (nat_cmp c)) (es ++ x ∷ []) ≡ option_or (lookup (is_at (nat_cmp c)) es) last → cond b (Some e.1) (lookup (is_at (nat_cmp c)) (es ++ x ∷ [])) ≡ option_or (cond b (Some e.1) (lookup (is_at (nat_cmp c)) es)) last
+    at true ih = refl
+    at false ih = ih
+
+one_risen : (es fs : List (ℕ × Value)) (a : ℕ) (v : Value) → fs ≡ es ++ (a, v) ∷ [] → (c : ℕ) → lookup (is_at (nat_cmp c)) fs ≡ option_or (lookup (is_at (nat_cmp c)) es) (cond (a == c) (Some v) None)
+one_risen es fs a v e c = ap (λ (xs : List (ℕ × Value)). lookup (is_at (nat_cmp c)) xs) e ∙ lookup-push es (a, v) c
+
+one_put : (a c : ℕ) (o p : Option Value) (v : Value) → o ≡ cond (is_at (nat_cmp a) c) (Some v) p → o ≡ cond (a == c) (Some v) p
 one_put a c o p v e = e ∙ ap (λ (b : Bool). cond b (Some v) p) (is_at-eq a c)
 
 -- ---- a value more, of a cell that had none
@@ -54,9 +64,37 @@ module _ (first second : ℕ → Option Value) (a : ℕ) (v : Value) (none : opt
   none_first c h = subst (λ (d : ℕ). first d ≡ None) (same_cell c a h) (neither (first a) (second a) none).0
 
   -- in the first place
-  pub more_first : (new : ℕ → Option Value) → ((c : ℕ) → new c ≡ option_or (first c) (cond (a == c) (Some v) None)) → (c : ℕ) → option_or (new c) (second c) ≡ cond (a == c) (Some v) (option_or (first c) (second c))
+  more_first : (new : ℕ → Option Value) → ((c : ℕ) → new c ≡ option_or (first c) (cond (a == c) (Some v) None)) → (c : ℕ) → option_or (new c) (second c) ≡ cond (a == c) (Some v) (option_or (first c) (second c))
   more_first new e c = ap (λ (o : Option Value). option_or o (second c)) (e c) ∙ in_first v (first c) (second c) (a == c) (none_first c)
 
   -- in the second
-  pub more_second : (new : ℕ → Option Value) → ((c : ℕ) → new c ≡ cond (a == c) (Some v) (second c)) → (c : ℕ) → option_or (first c) (new c) ≡ cond (a == c) (Some v) (option_or (first c) (second c))
+  more_second : (new : ℕ → Option Value) → ((c : ℕ) → new c ≡ cond (a == c) (Some v) (second c)) → (c : ℕ) → option_or (first c) (new c) ≡ cond (a == c) (Some v) (option_or (first c) (second c))
   more_second new e c = in_second v (first c) (second c) (new c) (a == c) (none_first c) (e c)
+
+-- ---- the three places in which the values of cells stand
+
+abbrev pub in_run : List (ℕ × Value) → ℕ → Option Value
+in_run rs c = lookup (is_at (nat_cmp c)) rs
+
+abbrev pub in_rest : List (ℕ × Value) → (ℕ → Option Value) → ℕ → Option Value
+in_rest rs m c = option_or (in_run rs c) (m c)
+
+abbrev pub in_all : List (ℕ × Value) → List (ℕ × Value) → (ℕ → Option Value) → ℕ → Option Value
+in_all es rs m c = option_or (first_of es c) (in_rest rs m c)
+
+pub none_found : (es rs xs : List (ℕ × Value)) (c : ℕ) → es ≡ [] → rs ≡ [] → xs ≡ [] → in_all es rs (in_run xs) c ≡ None
+none_found es rs xs c e f g =
+    ap (λ (ys : List (ℕ × Value)). in_all ys rs (in_run xs) c) e ∙ ap (λ (ys : List (ℕ × Value)). in_rest ys (in_run xs) c) f ∙ ap (λ (ys : List (ℕ × Value)). in_run ys c) g
+
+module _ (es rs : List (ℕ × Value)) (m : ℕ → Option Value) (a : ℕ) (v : Value) (none : in_all es rs m a ≡ None) where
+  none_behind : in_rest rs m a ≡ None
+  none_behind = (neither (first_of es a) (in_rest rs m a) none).1
+
+  pub listed_more : (fs : List (ℕ × Value)) → fs ≡ es ++ (a, v) ∷ [] → (c : ℕ) → in_all fs rs m c ≡ cond (a == c) (Some v) (in_all es rs m c)
+  listed_more fs e = more_first (first_of es) (in_rest rs m) a v none (first_of fs) (one_listed es fs a v e)
+
+  pub risen_more : (ss : List (ℕ × Value)) → ss ≡ rs ++ (a, v) ∷ [] → (c : ℕ) → in_all es ss m c ≡ cond (a == c) (Some v) (in_all es rs m c)
+  risen_more ss e = more_second (first_of es) (in_rest rs m) a v none (in_rest ss m) (more_first (in_run rs) m a v none_behind (in_run ss) (one_risen rs ss a v e))
+
+  pub put_more : (n : ℕ → Option Value) → ((c : ℕ) → n c ≡ cond (is_at (nat_cmp a) c) (Some v) (m c)) → (c : ℕ) → in_all es rs n c ≡ cond (a == c) (Some v) (in_all es rs m c)
+  put_more n e = more_second (first_of es) (in_rest rs m) a v none (in_rest rs n) (more_second (in_run rs) m a v none_behind n (λ c. one_put a c (n c) (m c) v (e c)))

@@ -2,7 +2,8 @@
 use Rattle.std.specs.Prelude.{◌≡◌, ◌==◌, ℕ, Bool, true, false, ◌&&◌, List, [], ◌∷◌, ◌++◌, map, Option, Some, None, if◌then◌else◌}
 use Rattle.std.specs.Option.{option_or}
 use Rattle.std.specs.Ordering.{nat_cmp}
-use Rattle.std.specs.BTreeMap.{get}
+use Rattle.std.specs.Map.{lookup}
+use Rattle.std.specs.BTreeMap.{get, is_at}
 use Rattle.wi_values.specs.declared.value.Value.{Value}
 use Rattle.wi_parser.specs.View.{pair_of}
 use Rattle.wi_lookup.specs.Assignment.{addresses}
@@ -33,7 +34,7 @@ first_of (e ∷ es) c = if e.0 == c then Some e.1 else first_of es c
 
 -- the value found of a cell
 abbrev pub found_value : Findings → ℕ → Option Value
-found_value f c = option_or (first_of f.first.items c) (get nat_cmp f.others c)
+found_value f c = option_or (first_of f.first.items c) (option_or (lookup (is_at (nat_cmp c)) f.rising) (get nat_cmp f.others c))
 
 -- the value found of a what-if
 abbrev pub what_if_found : Findings → ℕ → List (ℕ × ℕ) → Option Value
@@ -56,5 +57,6 @@ pub record IsWithWhatIf (f g : Findings) (x : FoundWhatIf) : Type 0 where
 -- both have the same values
 pub record IsSame (f g : Findings) : Type 0 where
   pub first : g.first.items ≡ f.first.items
+  pub rising : g.rising ≡ f.rising
   pub others : g.others.entries ≡ f.others.entries
   pub what_ifs : g.what_ifs.items ≡ f.what_ifs.items
