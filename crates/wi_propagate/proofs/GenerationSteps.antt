@@ -1,5 +1,5 @@
 -- Generations are given and raised, one cell after another.
-use Rattle.std.proofs.Common.{◌≡◌, ◌==◌, ◌||◌, ◌⊎◌, inl, inr, ◌<◌, ◌+◌, ℕ, zero, suc, Bool, true, false, cond, List, [], ◌∷◌, length, take, get_or, Option, Some, None, IsSome, is_some, refl, ap, sym, ◌∙◌, subst, arith}
+use Rattle.std.proofs.Common.{◌≡◌, ◌==◌, ◌||◌, ◌⊎◌, inl, inr, ◌<◌, ◌+◌, ℕ, zero, suc, Bool, true, false, cond, List, [], ◌∷◌, length, take, get_or, Option, Some, IsSome, refl, ap, sym, ◌∙◌, subst, arith}
 use Rattle.std.proofs.lemmas.Bool.{or_cases, or_left, or_right}
 use Rattle.std.proofs.lemmas.Bool.Decides.{nat_tests}
 use Rattle.std.specs.Option.{unwrap_or}
@@ -12,16 +12,24 @@ use Rattle.wi_engine.proofs.Passed.{one_more}
 use Rattle.wi_propagate.specs.KeptSheet.{Generations, generation_in}
 use Rattle.wi_propagate.specs.Inner.Keeping.{HasGeneration}
 
--- a generation 0 where there was none
-pub given : (old new : Generations) (a : ℕ) → lookup (is_at (nat_cmp a)) old ≡ None → ((q : ℕ) → lookup (is_at (nat_cmp q)) new ≡ cond (is_at (nat_cmp a) q) (Some 0) (lookup (is_at (nat_cmp q)) old)) → (c : ℕ) → generation_in new c ≡ generation_in old c
-given old new a n u c = ap (λ (o : Option ℕ). unwrap_or o 0) (u c) ∙ at (is_at (nat_cmp a) c) refl
+-- once w was put at a cell, where w is the generation that it had
+pub given : (old new : Generations) (a w : ℕ) → w ≡ generation_in old a → ((q : ℕ) → lookup (is_at (nat_cmp q)) new ≡ cond (is_at (nat_cmp a) q) (Some w) (lookup (is_at (nat_cmp q)) old)) → (c : ℕ) → generation_in new c ≡ generation_in old c
+given old new a w e u c = ap (λ (o : Option ℕ). unwrap_or o 0) (u c) ∙ at (is_at (nat_cmp a) c) refl
   where
     same : is_at (nat_cmp a) c ≡ true → a ≡ c
-    same e = grind (arith, nat_tests)
+    same t = grind (arith, nat_tests)
 
-    at : (b : Bool) → is_at (nat_cmp a) c ≡ b → unwrap_or (cond b (Some 0) (lookup (is_at (nat_cmp c)) old)) 0 ≡ generation_in old c
-    at true e = ap (λ (o : Option ℕ). unwrap_or o 0) (sym n) ∙ ap (generation_in old) (same e)
-    at false e = refl
+    at : (b : Bool) → is_at (nat_cmp a) c ≡ b → unwrap_or (cond b (Some w) (lookup (is_at (nat_cmp c)) old)) 0 ≡ generation_in old c
+    at true t = e ∙ ap (generation_in old) (same t)
+    at false t = refl
+
+-- each cell that had a generation has one after w was put at a cell
+pub still_there : (old new : Generations) (a w : ℕ) → ((q : ℕ) → lookup (is_at (nat_cmp q)) new ≡ cond (is_at (nat_cmp a) q) (Some w) (lookup (is_at (nat_cmp q)) old)) → (c : ℕ) → HasGeneration old c → HasGeneration new c
+still_there old new a w u c h = subst (λ (o : Option ℕ). IsSome o) (sym (u c)) (at (is_at (nat_cmp a) c))
+  where
+    at : (b : Bool) → IsSome (cond b (Some w) (lookup (is_at (nat_cmp c)) old))
+    at true = refl
+    at false = h
 
 pub there_more : (old new : Generations) (xs : List ℕ) (i a : ℕ) → i < length xs → a ≡ get_or xs i a → HasGeneration new a → ((c : ℕ) → HasGeneration old c → HasGeneration new c) → ((c : ℕ) → is_one_of (take i xs) c ≡ true → HasGeneration old c) →
     (c : ℕ) → is_one_of (take (i + 1) xs) c ≡ true → HasGeneration new c
@@ -33,31 +41,6 @@ there_more old new xs i a l e h stay k c m = at (or_cases (is_one_of (take i xs)
     at : (is_one_of (take i xs) c ≡ true) ⊎ ((a == c) ≡ true) → HasGeneration new c
     at (inl f) = stay c (k c f)
     at (inr f) = subst (HasGeneration new) (same f) h
-
-pub none_of : (o : Option ℕ) (b : Bool) → b ≡ is_some o → b ≡ false → o ≡ None
-none_of None b e h = refl
-none_of (Some x) b e h = cc
-
-pub some_of : (o : Option ℕ) (b : Bool) → b ≡ is_some o → b ≡ true → IsSome o
-some_of None b e h = cc
-some_of (Some x) b e h = refl
-
-pub given_one : (old new : Generations) (a : ℕ) → ((q : ℕ) → lookup (is_at (nat_cmp q)) new ≡ cond (is_at (nat_cmp a) q) (Some 0) (lookup (is_at (nat_cmp q)) old)) → HasGeneration new a
-given_one old new a u = subst (λ (o : Option ℕ). IsSome o) (sym (u a)) (at (is_at (nat_cmp a) a) itself)
-  where
-    itself : is_at (nat_cmp a) a ≡ true
-    itself = grind (arith, nat_tests)
-
-    at : (b : Bool) → b ≡ true → IsSome (cond b (Some 0) (lookup (is_at (nat_cmp a)) old))
-    at true e = refl
-    at false e = cc
-
-pub given_stay : (old new : Generations) (a : ℕ) → ((q : ℕ) → lookup (is_at (nat_cmp q)) new ≡ cond (is_at (nat_cmp a) q) (Some 0) (lookup (is_at (nat_cmp q)) old)) → (c : ℕ) → HasGeneration old c → HasGeneration new c
-given_stay old new a u c h = subst (λ (o : Option ℕ). IsSome o) (sym (u c)) (at (is_at (nat_cmp a) c))
-  where
-    at : (b : Bool) → IsSome (cond b (Some 0) (lookup (is_at (nat_cmp c)) old))
-    at true = refl
-    at false = h
 
 -- ---- raised
 
@@ -72,14 +55,6 @@ raised_more old new first xs i a edit l e u h c =
     at true false k = k
     at false true k = refl
     at false false k = k
-
-pub raised_stay : (first old new : Generations) (a edit : ℕ) → ((q : ℕ) → lookup (is_at (nat_cmp q)) new ≡ cond (is_at (nat_cmp a) q) (Some edit) (lookup (is_at (nat_cmp q)) old)) → ((c : ℕ) → HasGeneration first c → HasGeneration old c) →
-    (c : ℕ) → HasGeneration first c → HasGeneration new c
-raised_stay first old new a edit u h c k = subst (λ (o : Option ℕ). IsSome o) (sym (u c)) (at (is_at (nat_cmp a) c))
-  where
-    at : (b : Bool) → IsSome (cond b (Some edit) (lookup (is_at (nat_cmp c)) old))
-    at true = refl
-    at false = h c k
 
 pub is_there : (xs : List ℕ) (i a : ℕ) → i < length xs → a ≡ get_or xs i a → is_one_of xs a ≡ true
 is_there [] i a l e = absurd (omega arith)
