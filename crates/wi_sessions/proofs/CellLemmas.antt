@@ -47,6 +47,17 @@ pub made_all : (cells : List ℕ) (i : ℕ) (all new : List (ℕ × Bool)) → l
 made_all cells i all new l h =
     λ c. sym (or_none (room_of new c)) ∙ ap (λ (xs : List ℕ). option_or (room_of new c) (new_room xs c)) (sym (drop_all i cells l)) ∙ h c
 
+-- after a vacant room was made for a cell that had none
+pub made_one : (a : ℕ) (w : Bool) (old new : List (ℕ × Bool)) → w ≡ false → room_of old a ≡ None → ((q : ℕ) → room_of new q ≡ cond (is_at (nat_cmp a) q) (Some w) (room_of old q))
+    → (q : ℕ) → room_of new q ≡ option_or (room_of old q) (new_room (a ∷ []) q)
+made_one a w old new vacant none put q = by (is_at (nat_cmp a) q) refl (put q)
+  where
+    by : (b : Bool) → is_at (nat_cmp a) q ≡ b → room_of new q ≡ cond b (Some w) (room_of old q) → room_of new q ≡ option_or (room_of old q) (new_room (a ∷ []) q)
+    by true t f =
+        f ∙ ap (λ (x : Bool). Some x) vacant ∙ sym (ap (λ (o : Option Bool). option_or o (new_room (a ∷ []) q)) (ap (room_of old) (at_same a q t) ∙ none)
+        ∙ ap (λ (m : Bool). cond (m || false) (Some false) None) (sym (is_at-eq a q) ∙ t))
+    by false t f = f ∙ sym (ap (λ (m : Bool). option_or (room_of old q) (cond (m || false) (Some false) None)) (sym (is_at-eq a q) ∙ t) ∙ or_none (room_of old q))
+
 right_of_or : (b c : Bool) → (b || c) ≡ true → (b ≡ true → ⊥) → c ≡ true
 right_of_or true c h n = absurd (n refl)
 right_of_or false c h n = h
@@ -77,14 +88,14 @@ noted_more noted new a q e h =
     ap (λ (xs : List ℕ). is_listed xs q) e ∙ list_any-append (λ (c : ℕ). c == q) noted (a ∷ []) ∙ ap (λ (b : Bool). b || is_listed (a ∷ []) q) h
 
 -- all vacant rooms are noted after one was made and noted
-pub noted_made : (noted new : List ℕ) (a : ℕ) (old made : List (ℕ × Bool)) → new ≡ noted ++ a ∷ []
-    → ((q : ℕ) → room_of made q ≡ cond (is_at (nat_cmp a) q) (Some false) (room_of old q))
+pub noted_made : (noted new : List ℕ) (a : ℕ) (w : Bool) (old made : List (ℕ × Bool)) → new ≡ noted ++ a ∷ []
+    → ((q : ℕ) → room_of made q ≡ cond (is_at (nat_cmp a) q) (Some w) (room_of old q))
     → VacantOnlyAt false noted old → VacantOnlyAt false new made
-noted_made noted new a old made e put h =
+noted_made noted new a w old made e put h =
     λ q v. ⊎_elim
     (λ (p : q ≡ a). subst (λ (x : ℕ). is_listed new x ≡ true) (sym p) (last_noted noted new a e))
     (λ (was : room_of old q ≡ Some false). noted_more noted new a q e (h q was))
-    (vacancy_made false a q _ _ (put q) v)
+    (vacancy_made false a q w _ _ (put q) v)
 
 -- ---- one room taken
 

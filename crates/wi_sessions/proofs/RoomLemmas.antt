@@ -17,29 +17,23 @@ pub is_at_apart : (a q : ℕ) → (q ≡ a → ⊥) → is_at (nat_cmp a) q ≡ 
 is_at_apart a q h = grind (arith, nat_tests)
 
 module _ {X : Type 0} (nothing : X) where
-  none_from : (o : Option X) → is_some o ≡ false → o ≡ None
-  none_from None h = refl
-  none_from (Some x) h = cc
-
   abbrev or_nothing : Option X → X
   or_nothing o = unwrap_or o nothing
 
   -- ---- a room made, filled and taken away
 
-  -- a new room that is vacant changes nothing
-  pub held_made : (a q : ℕ) (old new : List (ℕ × X)) → room_of new q ≡ cond (is_at (nat_cmp a) q) (Some nothing) (room_of old q)
-      → is_some (room_of old a) ≡ false → held_at nothing new q ≡ held_at nothing old q
-  held_made a q old new e n = by (is_at (nat_cmp a) q) refl e
+  -- a room made with what its cell has already changes nothing
+  pub held_made : (a q : ℕ) (w : X) (old new : List (ℕ × X)) → room_of new q ≡ cond (is_at (nat_cmp a) q) (Some w) (room_of old q)
+      → w ≡ held_at nothing old a → held_at nothing new q ≡ held_at nothing old q
+  held_made a q w old new e had = by (is_at (nat_cmp a) q) refl e
     where
-      by : (b : Bool) → is_at (nat_cmp a) q ≡ b → room_of new q ≡ cond b (Some nothing) (room_of old q) → held_at nothing new q ≡ held_at nothing old q
-      by true t f =
-          let none : room_of old q ≡ None = ap (room_of old) (at_same a q t) ∙ none_from (room_of old a) n in
-          ap or_nothing f ∙ sym (ap or_nothing none)
+      by : (b : Bool) → is_at (nat_cmp a) q ≡ b → room_of new q ≡ cond b (Some w) (room_of old q) → held_at nothing new q ≡ held_at nothing old q
+      by true t f = ap or_nothing f ∙ had ∙ sym (ap (held_at nothing old) (at_same a q t))
       by false t f = ap or_nothing f
 
   -- a room that is vacant after one was made is that one, or was so before
-  pub vacancy_made : (a q : ℕ) (x y : Option X) → x ≡ cond (is_at (nat_cmp a) q) (Some nothing) y → x ≡ Some nothing → (q ≡ a) ⊎ (y ≡ Some nothing)
-  vacancy_made a q x y e h = ⊎_elim (λ p. inl p) (λ apart. inr (sym (rw (is_at_apart a q apart) at e) ∙ h)) (cases_eq q a)
+  pub vacancy_made : (a q : ℕ) (w : X) (x y : Option X) → x ≡ cond (is_at (nat_cmp a) q) (Some w) y → x ≡ Some nothing → (q ≡ a) ⊎ (y ≡ Some nothing)
+  vacancy_made a q w x y e h = ⊎_elim (λ p. inl p) (λ apart. inr (sym (rw (is_at_apart a q apart) at e) ∙ h)) (cases_eq q a)
 
   -- what is put into a room is what its cell has
   pub held_put : (a q : ℕ) (v w : X) (old new : List (ℕ × X)) → room_of new q ≡ cond (is_at (nat_cmp a) q) (Some w) (room_of old q)

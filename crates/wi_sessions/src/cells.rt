@@ -10,6 +10,7 @@ ghost use Rattle.wi_sessions.specs.Inner.Cells.{cells_in, vacant_in, new_room};
 
 use std::alloc::{AllocError, Global};
 use std::collections::BTreeMap;
+use std::collections::btree_map::Entry;
 use wi_values::Address;
 
 /// The rooms by their cells.
@@ -22,9 +23,10 @@ fn make_one(rooms: &mut Rooms, noted: &mut Vec<Address>, at: Address) -> Result<
     ensures noted { VacantOnlyAt false noted.old.items rooms.old.entries → VacantOnlyAt false noted.new.items rooms.new.entries }
     ensures made { OnOk result ((c : ℕ) → room_of rooms.new.entries c ≡ option_or (room_of rooms.old.entries c) (new_room (at ∷ []) c)) }
 {
-    if !rooms.contains_key(&at) {
-        noted.push(at)?;
-        rooms.insert(at, false)?;
+    noted.reserve(1)?;
+    if let Entry::Vacant(room) = rooms.entry(at)? {
+        room.insert(false);
+        noted.push_reserved(at);
     }
     Ok(())
 }

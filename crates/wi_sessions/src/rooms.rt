@@ -27,9 +27,7 @@ fn make_one(rooms: &mut Rooms, at: Address) -> Result<(), AllocError>
     ensures kept { (change : ℕ × Value) → HasRoomFor rooms.old.entries change → HasRoomFor rooms.new.entries change }
     ensures room { OnOk result ((v : Value) → HasRoomFor rooms.new.entries (at, v)) }
 {
-    if !rooms.contains_key(&at) {
-        rooms.insert(at, Value::Empty)?;
-    }
+    rooms.entry(at)?.or_insert(Value::Empty);
     Ok(())
 }
 

@@ -1,17 +1,30 @@
-use Rattle.std.proofs.Common.{false, sym, ◌∙◌, arith}
-use Rattle.std.proofs.lemmas.Grind.{common_steps}
+use Rattle.std.proofs.Common.{rules, ◌≡◌, ◌++◌, ◌∷◌, [], ℕ, Bool, false, List, Option, None, sym, ap, ◌∙◌, arith}
+use Rattle.std.specs.Prelude.{unwrap_or}
+use Rattle.std.specs.BTreeMap.Entry.{map_with_value}
+use Rattle.wi_sessions.specs.Inner.Rooms.{room_of}
 use Rattle.wi_sessions.proofs.RoomLemmas.{held_made}
-use Rattle.wi_sessions.proofs.CellLemmas.{noted_made}
+use Rattle.wi_sessions.proofs.CellLemmas.{made_one, noted_made}
 use Rattle.wi_sessions.proofs.cells.make_one.Goals as goal
 
-pub returns-in_ok-insert-clause-pending : goal.returns-in_ok-insert-clause-pending
-returns-in_ok-insert-clause-pending c =
-    λ q. held_made false c.args.at q c.args.rooms.now.entries c.insert.new.self.entries (c.in_ok-insert.ensures.updates.0 q) (sym c.contains_key.ensures ∙ c.if-not-contains_key.true)
+pub returns-in-Vacant-clause-pending : goal.returns-in-Vacant-clause-pending
+returns-in-Vacant-clause-pending c =
+    let old = c.args.rooms.now.entries in
+    let w = c.insert.result.now in
+    let vacant : w ≡ false = search rules in
+    let none : room_of old c.args.at ≡ None = rw c.in-Vacant.is at c.in_ok-room.ensures.found in
+    λ q. grind (arith, held_made false c.args.at q w old (map_with_value c.in_ok-room.field-0 w).entries ((c.in_ok-room.ensures.update.0 w).0 q) (vacant ∙ sym (ap (λ (o : Option Bool). unwrap_or o false) none)))
 
-pub returns-in_ok-insert-clause-noted : goal.returns-in_ok-insert-clause-noted
-returns-in_ok-insert-clause-noted c =
-    noted_made c.args.noted.now.items c.push.new.self.items c.args.at c.args.rooms.now.entries c.insert.new.self.entries c.in_ok-push.ensures.items
-    (λ q. c.in_ok-insert.ensures.updates.0 q)
+pub returns-in-Vacant-clause-noted : goal.returns-in-Vacant-clause-noted
+returns-in-Vacant-clause-noted c =
+    let w = c.insert.result.now in
+    noted_made c.args.noted.now.items c.push_reserved.new.self.items c.args.at w c.args.rooms.now.entries _
+    (c.push_reserved.ensures.items ∙ ap (λ (xs : List ℕ). xs ++ c.args.at ∷ []) c.in_ok-reserve.ensures.items)
+    (λ q. grind (arith, (c.in_ok-room.ensures.update.0 w).0 q))
 
-pub returns-in_err-insert-clause-noted : goal.returns-in_err-insert-clause-noted
-returns-in_err-insert-clause-noted c = grind (arith, common_steps)
+pub returns-in-Vacant-clause-made : goal.returns-in-Vacant-clause-made
+returns-in-Vacant-clause-made c =
+    let old = c.args.rooms.now.entries in
+    let w = c.insert.result.now in
+    let vacant : w ≡ false = search rules in
+    let none : room_of old c.args.at ≡ None = rw c.in-Vacant.is at c.in_ok-room.ensures.found in
+    λ q. grind (arith, made_one c.args.at w old (map_with_value c.in_ok-room.field-0 w).entries vacant none (λ r. (c.in_ok-room.ensures.update.0 w).0 r) q)

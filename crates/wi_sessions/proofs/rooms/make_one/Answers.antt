@@ -1,16 +1,25 @@
-use Rattle.std.proofs.Common.{sym, ◌∙◌}
+use Rattle.std.proofs.Common.{◌≡◌, ◌∙◌, Option, ap, arith}
+use Rattle.std.specs.Prelude.{unwrap_or}
 use Rattle.std.specs.Ordering.{nat_cmp}
 use Rattle.std.specs.BTreeMap.{is_at}
+use Rattle.wi_values.specs.declared.value.Value.{Value}
 use Rattle.wi_values.specs.declared.value.Value.TheVariants.{Empty}
+use Rattle.wi_sessions.specs.Inner.Rooms.{held_at}
 use Rattle.wi_sessions.proofs.RoomLemmas.{held_made, vacancy_made, room_kept}
 use Rattle.wi_sessions.proofs.rooms.make_one.Goals as goal
 
-pub returns-in_ok-insert-clause-values : goal.returns-in_ok-insert-clause-values
-returns-in_ok-insert-clause-values c =
-    λ q. held_made Empty c.args.at q c.args.rooms.now.entries c.insert.new.self.entries (c.in_ok-insert.ensures.updates.0 q) (sym c.contains_key.ensures ∙ c.if-not-contains_key.true)
+pub returns-clause-values : goal.returns-clause-values
+returns-clause-values c =
+    let w = c.or_insert.result.now in
+    let had : w ≡ held_at Empty c.args.rooms.now.entries c.args.at = c.or_insert.ensures.value ∙ ap (λ (o : Option Value). unwrap_or o Empty) c.in_ok-rooms.ensures.value in
+    λ q. held_made Empty c.args.at q w c.args.rooms.now.entries _ (grind (arith, (c.in_ok-rooms.ensures.update.0 w).0 q)) had
 
-pub returns-in_ok-insert-clause-vacant : goal.returns-in_ok-insert-clause-vacant
-returns-in_ok-insert-clause-vacant c = λ q h. vacancy_made Empty c.args.at q _ _ (c.in_ok-insert.ensures.updates.0 q) h
+pub returns-clause-vacant : goal.returns-clause-vacant
+returns-clause-vacant c =
+    let w = c.or_insert.result.now in
+    λ q h. vacancy_made Empty c.args.at q w _ _ (grind (arith, (c.in_ok-rooms.ensures.update.0 w).0 q)) h
 
-pub returns-in_ok-insert-clause-kept : goal.returns-in_ok-insert-clause-kept
-returns-in_ok-insert-clause-kept c = λ e h. room_kept (is_at (nat_cmp c.args.at) e.0) _ _ Empty (c.in_ok-insert.ensures.updates.0 e.0) h
+pub returns-clause-kept : goal.returns-clause-kept
+returns-clause-kept c =
+    let w = c.or_insert.result.now in
+    λ e h. room_kept (is_at (nat_cmp c.args.at) e.0) _ _ w (grind (arith, (c.in_ok-rooms.ensures.update.0 w).0 e.0)) h
