@@ -22,6 +22,7 @@ use crate::calculator::Calculator;
 use crate::cones::{Cones, keep_over_edit, take_cones};
 use crate::generations::{Generations, make_room, raise};
 use crate::keeping::Keeping;
+use crate::last_worlds::LastWorlds;
 use crate::table_entry::open_entry;
 use std::alloc::{AllocError, Global};
 use std::collections::BTreeMap;
@@ -33,7 +34,6 @@ use wi_graph::Graph;
 use wi_parser::Content;
 use wi_store::{Limits, Store, StoreFault};
 use wi_values::{Address, ErrorKind, Rect, Replacement, Value};
-use wi_worlds::World;
 
 /// A calculator that keeps values from one question to the next. It is seen as its sheet, the generations of cells, the values
 /// that are kept, and what was counted.
@@ -44,6 +44,8 @@ pub struct KeptCalculator {
     generations: Generations,
     // Of some cells that were replaced since the last accepted edit: which cells reach them.
     cones: Cones,
+    // What the last questions replaced, for one that replaces the same.
+    worlds: LastWorlds,
     // There but while a question is answered.
     kept: Option<Kept>,
     meter: Meter,
@@ -93,6 +95,7 @@ impl KeptCalculator {
             graph: Graph::new(alloc),
             generations: BTreeMap::new(alloc),
             cones: BTreeMap::new(alloc),
+            worlds: LastWorlds::new(alloc),
             kept: Some(kept),
             meter: Meter::new(),
             alloc,
@@ -155,6 +158,10 @@ impl Calculator for KeptCalculator {
     }
 
     /// What a cell shows under replacements. A formula is evaluated where its value is not kept, and its value is kept then.
+    /// Unless the cell is circular, all replacements are compared with those of the last two questions, and where they are others
+    /// they are copied, put in order and hashed. The key of each formula that is asked for goes over all of them once more: it
+    /// looks into the cone of each replaced cell, with work that grows with logarithms, and finds the cone where it isn't known;
+    /// those that reach the formula are copied and hashed where others don't.
     fn value(&mut self, put: &[Replacement], at: Address) -> Result<Value, AllocError>
         requires { IsInOrder put.now }
         ensures value { IfOk result (λ v. v ≡ show.shown self.old.stored.sheet put.now at) }
@@ -189,7 +196,7 @@ impl Calculator for KeptCalculator {
         if self.graph.is_circular(at) {
             return Ok(Value::Fault(ErrorKind::Circular));
         }
-        let world = World::new(self.alloc).with(put)?;
+        let world = self.worlds.world_for(self.alloc, put)?;
         let Some(kept) = self.kept.take() else {
             unreachable!()
         };
@@ -213,11 +220,13 @@ impl Calculator for KeptCalculator {
         let (kept, cones) = memo.into_parts();
         self.kept = Some(kept);
         self.cones = cones;
+        self.worlds.keep(world);
         result
     }
 
     /// What an entry of a data table shows under replacements. A formula is evaluated where its value is not kept, and its value
-    /// is kept then.
+    /// is kept then. The replacements cost what they do in `value`; with the inputs put in, they are copied and hashed for each
+    /// entry.
     fn what_if_value(
         &mut self,
         put: &[Replacement],
@@ -259,7 +268,7 @@ impl Calculator for KeptCalculator {
         if entry_is_circular(&self.graph, formula_cell, pairs) {
             return Ok(Value::Fault(ErrorKind::Circular));
         }
-        let world = World::new(self.alloc).with(put)?;
+        let world = self.worlds.world_for(self.alloc, put)?;
         let Some(kept) = self.kept.take() else {
             unreachable!()
         };
@@ -284,6 +293,7 @@ impl Calculator for KeptCalculator {
         let (kept, cones) = memo.into_parts();
         self.kept = Some(kept);
         self.cones = cones;
+        self.worlds.keep(world);
         result
     }
 

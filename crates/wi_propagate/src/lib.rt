@@ -6,6 +6,7 @@ mod cones;
 mod generations;
 mod keeping;
 mod kept;
+mod last_worlds;
 pub mod laws;
 mod occupied;
 mod plain;

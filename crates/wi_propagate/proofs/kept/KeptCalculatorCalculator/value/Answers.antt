@@ -11,7 +11,7 @@ use Rattle.wi_propagate.specs.KeptSheet.{KeptSheet, unkept, IsAtHand, HasRoomFor
 use Rattle.wi_propagate.specs.Inner.Cones.{AreAllCones}
 use Rattle.wi_propagate.specs.Inner.Keeping.{Keeping, kept_sheet, begun, state_in}
 use Rattle.wi_cache.specs.Entries.{KeptValues}
-use Rattle.wi_propagate.proofs.Showing.{put_alone, shown_value}
+use Rattle.wi_propagate.proofs.Showing.{shown_value}
 use Rattle.wi_propagate.proofs.Questions.{begun_is, begun_right, begun_within, begun_one_each, may_be_read, right_then, asked_at_most, asked_evaluations, asked_unkept, asked_unkept_evaluations, asked_saves, asked_keeps, asked_no_more, none_no_more, asked_while_room, asked_kept, at_hand_is, has_case}
 use Rattle.wi_propagate.proofs.kept.KeptCalculatorCalculator.value.Goals as goal
 
@@ -62,7 +62,7 @@ returns-clause-value c =
     let i = c.self.inside in
     let k : KeptSheet = kept_sheet i.store i.generations.entries i.kept i.meter in
     let o : circular i.store.sheet c.args.at ≡ false = sym (c.is_circular.ensures i.store.sheet c.self.invariant.1) ∙ c.if-is_circular.false in
-    let same = put_alone c.in_ok-world.world c.new.result c.args.put.now c.requires c.new.ensures c.in_ok-world.ensures.list in
+    let same = c.in_ok-world.ensures in
     subst (λ (x : KeptSheet). IfOk c.value_under-result.result (λ v. v ≡ shown x.stored.sheet c.args.put.now c.args.at)) c.self.view_is
     (IfOk-weaker c.value_under-result.result _ _ (λ v e. shown_value i.store.sheet c.in_ok-world.world c.args.put.now c.args.at v o same e) c.value_under-result.ensures.value)
 
@@ -72,7 +72,7 @@ returns-clause-evaluations c =
     let k : KeptSheet = kept_sheet i.store i.generations.entries i.kept i.meter in
     let o : circular i.store.sheet c.args.at ≡ false = sym (c.is_circular.ensures i.store.sheet c.self.invariant.1) ∙ c.if-is_circular.false in
     let q : c.new-memo.result ≡ begun k = begun_is i.store i.generations.entries i.kept i.meter _ c.new-memo.result c.new-memo.ensures.value c.in-Some.ensures.value in
-    let same = put_alone c.in_ok-world.world c.new.result c.args.put.now c.requires c.new.ensures c.in_ok-world.ensures.list in
+    let same = c.in_ok-world.ensures in
     let cases = demanded i.store.sheet c.args.put.now c.args.at in
     let has = has_case k c.new-memo.result c.in_ok-world.world c.args.put.now c.args.at q o same in
     let closed = different_closed i.store.sheet (case_of i.store.sheet c.args.put.now c.args.at) in
@@ -86,7 +86,7 @@ returns-clause-restarts c =
     let k : KeptSheet = kept_sheet i.store i.generations.entries i.kept i.meter in
     let o : circular i.store.sheet c.args.at ≡ false = sym (c.is_circular.ensures i.store.sheet c.self.invariant.1) ∙ c.if-is_circular.false in
     let q : c.new-memo.result ≡ begun k = begun_is i.store i.generations.entries i.kept i.meter _ c.new-memo.result c.new-memo.ensures.value c.in-Some.ensures.value in
-    let same = put_alone c.in_ok-world.world c.new.result c.args.put.now c.requires c.new.ensures c.in_ok-world.ensures.list in
+    let same = c.in_ok-world.ensures in
     let cases = demanded i.store.sheet c.args.put.now c.args.at in
     let has = has_case k c.new-memo.result c.in_ok-world.world c.args.put.now c.args.at q o same in
     let closed = different_closed i.store.sheet (case_of i.store.sheet c.args.put.now c.args.at) in
@@ -100,7 +100,7 @@ returns-clause-unkept_evaluations c =
     let k : KeptSheet = kept_sheet i.store i.generations.entries i.kept i.meter in
     let o : circular i.store.sheet c.args.at ≡ false = sym (c.is_circular.ensures i.store.sheet c.self.invariant.1) ∙ c.if-is_circular.false in
     let q : c.new-memo.result ≡ begun k = begun_is i.store i.generations.entries i.kept i.meter _ c.new-memo.result c.new-memo.ensures.value c.in-Some.ensures.value in
-    let same = put_alone c.in_ok-world.world c.new.result c.args.put.now c.requires c.new.ensures c.in_ok-world.ensures.list in
+    let same = c.in_ok-world.ensures in
     let cases = demanded i.store.sheet c.args.put.now c.args.at in
     let has = has_case k c.new-memo.result c.in_ok-world.world c.args.put.now c.args.at q o same in
     let closed = different_closed i.store.sheet (case_of i.store.sheet c.args.put.now c.args.at) in
@@ -114,7 +114,7 @@ returns-clause-unkept_restarts c =
     let k : KeptSheet = kept_sheet i.store i.generations.entries i.kept i.meter in
     let o : circular i.store.sheet c.args.at ≡ false = sym (c.is_circular.ensures i.store.sheet c.self.invariant.1) ∙ c.if-is_circular.false in
     let q : c.new-memo.result ≡ begun k = begun_is i.store i.generations.entries i.kept i.meter _ c.new-memo.result c.new-memo.ensures.value c.in-Some.ensures.value in
-    let same = put_alone c.in_ok-world.world c.new.result c.args.put.now c.requires c.new.ensures c.in_ok-world.ensures.list in
+    let same = c.in_ok-world.ensures in
     let cases = demanded i.store.sheet c.args.put.now c.args.at in
     let has = has_case k c.new-memo.result c.in_ok-world.world c.args.put.now c.args.at q o same in
     let closed = different_closed i.store.sheet (case_of i.store.sheet c.args.put.now c.args.at) in
@@ -128,7 +128,7 @@ returns-clause-easy c =
     let k : KeptSheet = kept_sheet i.store i.generations.entries i.kept i.meter in
     let o : circular i.store.sheet c.args.at ≡ false = sym (c.is_circular.ensures i.store.sheet c.self.invariant.1) ∙ c.if-is_circular.false in
     let q : c.new-memo.result ≡ begun k = begun_is i.store i.generations.entries i.kept i.meter _ c.new-memo.result c.new-memo.ensures.value c.in-Some.ensures.value in
-    let same = put_alone c.in_ok-world.world c.new.result c.args.put.now c.requires c.new.ensures c.in_ok-world.ensures.list in
+    let same = c.in_ok-world.ensures in
     subst (λ (x : KeptSheet). IsAtHand x c.args.put.now c.args.at → c.value_under-result.new.meter ≡ x.counts) c.self.view_is
     (λ h. c.value_under-result.ensures.uncounted (at_hand_is k c.new-memo.result c.in_ok-world.world c.args.put.now c.args.at q o same h))
 
@@ -138,7 +138,7 @@ returns-clause-kept c =
     let k : KeptSheet = kept_sheet i.store i.generations.entries i.kept i.meter in
     let o : circular i.store.sheet c.args.at ≡ false = sym (c.is_circular.ensures i.store.sheet c.self.invariant.1) ∙ c.if-is_circular.false in
     let q : c.new-memo.result ≡ begun k = begun_is i.store i.generations.entries i.kept i.meter _ c.new-memo.result c.new-memo.ensures.value c.in-Some.ensures.value in
-    let same = put_alone c.in_ok-world.world c.new.result c.args.put.now c.requires c.new.ensures c.in_ok-world.ensures.list in
+    let same = c.in_ok-world.ensures in
     let new : KeptSheet = record { stored = i.store; generations = i.generations.entries; values = c.into_parts-kept.result.0; counts = c.value_under-result.new.meter } in
     let e = c.value_under-result.ensures in
     subst (λ (x : KeptSheet). OnOk c.value_under-result.result ((IsAtHand x c.args.put.now c.args.at → ⊥) → is_kept new c.args.at (reaching x.stored.sheet c.args.at c.args.put.now) ≡ true)) c.self.view_is
@@ -151,7 +151,7 @@ returns-clause-keeps c =
     let k : KeptSheet = kept_sheet i.store i.generations.entries i.kept i.meter in
     let o : circular i.store.sheet c.args.at ≡ false = sym (c.is_circular.ensures i.store.sheet c.self.invariant.1) ∙ c.if-is_circular.false in
     let q : c.new-memo.result ≡ begun k = begun_is i.store i.generations.entries i.kept i.meter _ c.new-memo.result c.new-memo.ensures.value c.in-Some.ensures.value in
-    let same = put_alone c.in_ok-world.world c.new.result c.args.put.now c.requires c.new.ensures c.in_ok-world.ensures.list in
+    let same = c.in_ok-world.ensures in
     let cases = demanded i.store.sheet c.args.put.now c.args.at in
     let has = has_case k c.new-memo.result c.in_ok-world.world c.args.put.now c.args.at q o same in
     let closed = different_closed i.store.sheet (case_of i.store.sheet c.args.put.now c.args.at) in

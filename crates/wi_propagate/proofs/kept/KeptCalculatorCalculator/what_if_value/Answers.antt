@@ -11,7 +11,6 @@ use Rattle.wi_propagate.specs.KeptSheet.{KeptSheet, unkept, HasRoomFor, is_kept,
 use Rattle.wi_propagate.specs.Inner.Cones.{AreAllCones}
 use Rattle.wi_propagate.specs.Inner.Keeping.{Keeping, kept_sheet, begun, state_in}
 use Rattle.wi_cache.specs.Entries.{KeptValues}
-use Rattle.wi_propagate.proofs.Showing.{put_alone}
 use Rattle.wi_propagate.proofs.Questions.{begun_is, begun_right, begun_within, begun_one_each, may_be_read, right_then, asked_at_most, asked_evaluations, asked_unkept, asked_unkept_evaluations, asked_saves, asked_keeps, asked_no_more, none_no_more, asked_while_room, asked_where, asked_settled, entry_has, circular_entry, circular_clash, open_cells, entry_shown}
 use Rattle.wi_propagate.proofs.kept.KeptCalculatorCalculator.what_if_value.Goals as goal
 
@@ -71,7 +70,7 @@ returns-clause-value c =
     let s = i.store.sheet in
     let h = c.self.invariant in
     let o = open_cells s c.args.formula_cell c.args.pairs.now c.entry_is_circular.result (c.entry_is_circular.ensures s h.1) c.if-entry_is_circular.false in
-    let same = put_alone c.in_ok-world.world c.new.result c.args.put.now c.requires c.new.ensures c.in_ok-world.ensures.list in
+    let same = c.in_ok-world.ensures in
     subst (λ (x : KeptSheet). IfOk c.open_entry-result.result (λ v. v ≡ table_entry x.stored.sheet c.args.put.now c.args.formula_cell c.args.pairs.now)) c.self.view_is
     (IfOk-weaker c.open_entry-result.result _ _ (λ v e. entry_shown s c.in_ok-world.world c.args.put.now c.args.formula_cell c.args.pairs.now v o same c.requires e) c.open_entry-result.ensures.value)
 
@@ -83,7 +82,7 @@ returns-clause-evaluations c =
     let s = i.store.sheet in
     let h = c.self.invariant in
     let o = open_cells s c.args.formula_cell c.args.pairs.now c.entry_is_circular.result (c.entry_is_circular.ensures s h.1) c.if-entry_is_circular.false in
-    let same = put_alone c.in_ok-world.world c.new.result c.args.put.now c.requires c.new.ensures c.in_ok-world.ensures.list in
+    let same = c.in_ok-world.ensures in
     let cases = entry_demanded s c.args.put.now c.args.formula_cell c.args.pairs.now in
     let has = entry_has s c.in_ok-world.world c.args.put.now c.args.formula_cell c.args.pairs.now o same in
     let closed = table_closed s c.args.put.now c.args.formula_cell c.args.pairs.now in
@@ -99,7 +98,7 @@ returns-clause-restarts c =
     let s = i.store.sheet in
     let h = c.self.invariant in
     let o = open_cells s c.args.formula_cell c.args.pairs.now c.entry_is_circular.result (c.entry_is_circular.ensures s h.1) c.if-entry_is_circular.false in
-    let same = put_alone c.in_ok-world.world c.new.result c.args.put.now c.requires c.new.ensures c.in_ok-world.ensures.list in
+    let same = c.in_ok-world.ensures in
     let cases = entry_demanded s c.args.put.now c.args.formula_cell c.args.pairs.now in
     let has = entry_has s c.in_ok-world.world c.args.put.now c.args.formula_cell c.args.pairs.now o same in
     let closed = table_closed s c.args.put.now c.args.formula_cell c.args.pairs.now in
@@ -115,7 +114,7 @@ returns-clause-unkept_evaluations c =
     let s = i.store.sheet in
     let h = c.self.invariant in
     let o = open_cells s c.args.formula_cell c.args.pairs.now c.entry_is_circular.result (c.entry_is_circular.ensures s h.1) c.if-entry_is_circular.false in
-    let same = put_alone c.in_ok-world.world c.new.result c.args.put.now c.requires c.new.ensures c.in_ok-world.ensures.list in
+    let same = c.in_ok-world.ensures in
     let cases = entry_demanded s c.args.put.now c.args.formula_cell c.args.pairs.now in
     let has = entry_has s c.in_ok-world.world c.args.put.now c.args.formula_cell c.args.pairs.now o same in
     let closed = table_closed s c.args.put.now c.args.formula_cell c.args.pairs.now in
@@ -131,7 +130,7 @@ returns-clause-unkept_restarts c =
     let s = i.store.sheet in
     let h = c.self.invariant in
     let o = open_cells s c.args.formula_cell c.args.pairs.now c.entry_is_circular.result (c.entry_is_circular.ensures s h.1) c.if-entry_is_circular.false in
-    let same = put_alone c.in_ok-world.world c.new.result c.args.put.now c.requires c.new.ensures c.in_ok-world.ensures.list in
+    let same = c.in_ok-world.ensures in
     let cases = entry_demanded s c.args.put.now c.args.formula_cell c.args.pairs.now in
     let has = entry_has s c.in_ok-world.world c.args.put.now c.args.formula_cell c.args.pairs.now o same in
     let closed = table_closed s c.args.put.now c.args.formula_cell c.args.pairs.now in
@@ -147,7 +146,7 @@ returns-clause-keeps c =
     let s = i.store.sheet in
     let h = c.self.invariant in
     let o = open_cells s c.args.formula_cell c.args.pairs.now c.entry_is_circular.result (c.entry_is_circular.ensures s h.1) c.if-entry_is_circular.false in
-    let same = put_alone c.in_ok-world.world c.new.result c.args.put.now c.requires c.new.ensures c.in_ok-world.ensures.list in
+    let same = c.in_ok-world.ensures in
     let cases = entry_demanded s c.args.put.now c.args.formula_cell c.args.pairs.now in
     let has = entry_has s c.in_ok-world.world c.args.put.now c.args.formula_cell c.args.pairs.now o same in
     let closed = table_closed s c.args.put.now c.args.formula_cell c.args.pairs.now in
@@ -166,7 +165,7 @@ returns-clause-settled c =
     let s = i.store.sheet in
     let h = c.self.invariant in
     let o = open_cells s c.args.formula_cell c.args.pairs.now c.entry_is_circular.result (c.entry_is_circular.ensures s h.1) c.if-entry_is_circular.false in
-    let same = put_alone c.in_ok-world.world c.new.result c.args.put.now c.requires c.new.ensures c.in_ok-world.ensures.list in
+    let same = c.in_ok-world.ensures in
     let cases = entry_demanded s c.args.put.now c.args.formula_cell c.args.pairs.now in
     let has = entry_has s c.in_ok-world.world c.args.put.now c.args.formula_cell c.args.pairs.now o same in
     let closed = table_closed s c.args.put.now c.args.formula_cell c.args.pairs.now in

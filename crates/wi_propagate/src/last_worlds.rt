@@ -1,0 +1,58 @@
+//! Replacements that questions share.
+
+ghost use Rattle.std.specs.Prelude.{◌≡◌, ◌↔◌, [], IsTrue, IfOk};
+ghost use Rattle.wi_values.specs.Replacements.{IsInOrder};
+
+use std::alloc::{AllocError, Global};
+use std::mem;
+use wi_values::Replacement;
+use wi_worlds::World;
+
+/// The replacements of the last two questions. They are two since a comparison asks in turn under each of its two lists.
+#[derive(Drop)]
+pub struct LastWorlds {
+    last: World,
+    before: World,
+}
+
+impl LastWorlds {
+    /// None yet. Takes no memory.
+    pub fn new(alloc: Global) -> LastWorlds
+        ensures { result ≡ record { last = []; before = [] } }
+    {
+        LastWorlds {
+            last: World::new(alloc),
+            before: World::new(alloc),
+        }
+    }
+
+    /// These replacements, which stand in order. They are compared with those of the last two questions, texts byte by byte, and
+    /// shared with the question that had the same, which takes no memory. Else they are copied, texts too, and hashed, and the
+    /// work for each grows with the logarithm of their count.
+    pub fn world_for(&self, alloc: Global, put: &[Replacement]) -> Result<World, AllocError>
+        requires { IsInOrder put.now }
+        ensures { IfOk result (λ w. w ≡ put.now) }
+    {
+        if has_exactly(&self.last, put) {
+            return self.last.copy();
+        }
+        if has_exactly(&self.before, put) {
+            return self.before.copy();
+        }
+        World::new(alloc).with(put)
+    }
+
+    /// Keeps the replacements of one question more, in the place of those of the last but one. Takes no memory.
+    pub fn keep(&mut self, world: World)
+        ensures { self.new ≡ record { last = world; before = self.old.last } }
+    {
+        self.before = mem::replace(&mut self.last, world);
+    }
+}
+
+// Whether a world has these replacements, and no others.
+fn has_exactly(world: &World, put: &[Replacement]) -> bool
+    ensures { IsTrue result ↔ (world.now ≡ put.now) }
+{
+    world.replacements() == put
+}
