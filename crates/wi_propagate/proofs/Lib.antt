@@ -12,3 +12,4 @@ pub mod KeepingSteps
 pub mod PlacesTaken
 pub mod Editing
 pub mod Questions
+pub mod Unreplaced

@@ -23,6 +23,7 @@ use crate::cones::{Cones, keep_over_edit, take_cones};
 use crate::generations::{Generations, make_room, raise};
 use crate::keeping::Keeping;
 use crate::last_worlds::LastWorlds;
+use crate::standing::standing_value;
 use crate::table_entry::open_entry;
 use std::alloc::{AllocError, Global};
 use std::collections::BTreeMap;
@@ -158,10 +159,11 @@ impl Calculator for KeptCalculator {
     }
 
     /// What a cell shows under replacements. A formula is evaluated where its value is not kept, and its value is kept then.
-    /// Unless the cell is circular, all replacements are compared with those of the last two questions, and where they are others
-    /// they are copied, put in order and hashed. The key of each formula that is asked for goes over all of them once more: it
-    /// looks into the cone of each replaced cell, with work that grows with logarithms, and finds the cone where it isn't known;
-    /// those that reach the formula are copied and hashed where others don't.
+    /// A cell that is circular takes no look at the replacements, and one without a formula that isn't replaced a look at the
+    /// address of each. For any other all are compared with those of the last two questions, and where they are others they are
+    /// copied, put in order and hashed. The key of each formula that is asked for goes over all of them once more: it looks into
+    /// the cone of each replaced cell, with work that grows with logarithms, and finds the cone where it isn't known; those that
+    /// reach the formula are copied and hashed where others don't.
     fn value(&mut self, put: &[Replacement], at: Address) -> Result<Value, AllocError>
         requires { IsInOrder put.now }
         ensures value { IfOk result (λ v. v ≡ show.shown self.old.stored.sheet put.now at) }
@@ -195,6 +197,9 @@ impl Calculator for KeptCalculator {
     {
         if self.graph.is_circular(at) {
             return Ok(Value::Fault(ErrorKind::Circular));
+        }
+        if let Some(value) = standing_value(self.alloc, &self.store, put, at)? {
+            return Ok(value);
         }
         let world = self.worlds.world_for(self.alloc, put)?;
         let Some(kept) = self.kept.take() else {

@@ -33,21 +33,21 @@ returns-then-is_circular-clause-value c =
 pub new-memo-requires-clause-right : goal.new-memo-requires-clause-right
 new-memo-requires-clause-right c =
     let i = c.self.inside in
-    begun_right i.store i.generations.entries i.kept i.meter _ c.in-Some.ensures.value c.self.invariant.3
+    begun_right i.store i.generations.entries i.kept i.meter _ c.in-Some-take.ensures.value c.self.invariant.3
 
 pub value_under-result-requires-clause-read : goal.value_under-result-requires-clause-read
 value_under-result-requires-clause-read c =
     let i = c.self.inside in
     let k : KeptSheet = kept_sheet i.store i.generations.entries i.kept i.meter in
     let o : circular i.store.sheet c.args.at ≡ false = sym (c.is_circular.ensures i.store.sheet c.self.invariant.1) ∙ c.if-is_circular.false in
-    let q : c.new-memo.result ≡ begun k = begun_is i.store i.generations.entries i.kept i.meter _ c.new-memo.result c.new-memo.ensures.value c.in-Some.ensures.value in
+    let q : c.new-memo.result ≡ begun k = begun_is i.store i.generations.entries i.kept i.meter _ c.new-memo.result c.new-memo.ensures.value c.in-Some-take.ensures.value in
     may_be_read k c.new-memo.result q c.args.at o
 
 pub invariant_of-self : goal.invariant_of-self
 invariant_of-self c =
     let i = c.self.inside in
     let k : KeptSheet = kept_sheet i.store i.generations.entries i.kept i.meter in
-    let q : c.new-memo.result ≡ begun k = begun_is i.store i.generations.entries i.kept i.meter _ c.new-memo.result c.new-memo.ensures.value c.in-Some.ensures.value in
+    let q : c.new-memo.result ≡ begun k = begun_is i.store i.generations.entries i.kept i.meter _ c.new-memo.result c.new-memo.ensures.value c.in-Some-take.ensures.value in
     let e = c.value_under-result.ensures in
     let h = c.self.invariant in (
       refl,
@@ -71,7 +71,7 @@ returns-clause-evaluations c =
     let i = c.self.inside in
     let k : KeptSheet = kept_sheet i.store i.generations.entries i.kept i.meter in
     let o : circular i.store.sheet c.args.at ≡ false = sym (c.is_circular.ensures i.store.sheet c.self.invariant.1) ∙ c.if-is_circular.false in
-    let q : c.new-memo.result ≡ begun k = begun_is i.store i.generations.entries i.kept i.meter _ c.new-memo.result c.new-memo.ensures.value c.in-Some.ensures.value in
+    let q : c.new-memo.result ≡ begun k = begun_is i.store i.generations.entries i.kept i.meter _ c.new-memo.result c.new-memo.ensures.value c.in-Some-take.ensures.value in
     let same = c.in_ok-world.ensures in
     let cases = demanded i.store.sheet c.args.put.now c.args.at in
     let has = has_case k c.new-memo.result c.in_ok-world.world c.args.put.now c.args.at q o same in
@@ -85,7 +85,7 @@ returns-clause-restarts c =
     let i = c.self.inside in
     let k : KeptSheet = kept_sheet i.store i.generations.entries i.kept i.meter in
     let o : circular i.store.sheet c.args.at ≡ false = sym (c.is_circular.ensures i.store.sheet c.self.invariant.1) ∙ c.if-is_circular.false in
-    let q : c.new-memo.result ≡ begun k = begun_is i.store i.generations.entries i.kept i.meter _ c.new-memo.result c.new-memo.ensures.value c.in-Some.ensures.value in
+    let q : c.new-memo.result ≡ begun k = begun_is i.store i.generations.entries i.kept i.meter _ c.new-memo.result c.new-memo.ensures.value c.in-Some-take.ensures.value in
     let same = c.in_ok-world.ensures in
     let cases = demanded i.store.sheet c.args.put.now c.args.at in
     let has = has_case k c.new-memo.result c.in_ok-world.world c.args.put.now c.args.at q o same in
@@ -99,7 +99,7 @@ returns-clause-unkept_evaluations c =
     let i = c.self.inside in
     let k : KeptSheet = kept_sheet i.store i.generations.entries i.kept i.meter in
     let o : circular i.store.sheet c.args.at ≡ false = sym (c.is_circular.ensures i.store.sheet c.self.invariant.1) ∙ c.if-is_circular.false in
-    let q : c.new-memo.result ≡ begun k = begun_is i.store i.generations.entries i.kept i.meter _ c.new-memo.result c.new-memo.ensures.value c.in-Some.ensures.value in
+    let q : c.new-memo.result ≡ begun k = begun_is i.store i.generations.entries i.kept i.meter _ c.new-memo.result c.new-memo.ensures.value c.in-Some-take.ensures.value in
     let same = c.in_ok-world.ensures in
     let cases = demanded i.store.sheet c.args.put.now c.args.at in
     let has = has_case k c.new-memo.result c.in_ok-world.world c.args.put.now c.args.at q o same in
@@ -113,7 +113,7 @@ returns-clause-unkept_restarts c =
     let i = c.self.inside in
     let k : KeptSheet = kept_sheet i.store i.generations.entries i.kept i.meter in
     let o : circular i.store.sheet c.args.at ≡ false = sym (c.is_circular.ensures i.store.sheet c.self.invariant.1) ∙ c.if-is_circular.false in
-    let q : c.new-memo.result ≡ begun k = begun_is i.store i.generations.entries i.kept i.meter _ c.new-memo.result c.new-memo.ensures.value c.in-Some.ensures.value in
+    let q : c.new-memo.result ≡ begun k = begun_is i.store i.generations.entries i.kept i.meter _ c.new-memo.result c.new-memo.ensures.value c.in-Some-take.ensures.value in
     let same = c.in_ok-world.ensures in
     let cases = demanded i.store.sheet c.args.put.now c.args.at in
     let has = has_case k c.new-memo.result c.in_ok-world.world c.args.put.now c.args.at q o same in
@@ -127,7 +127,7 @@ returns-clause-easy c =
     let i = c.self.inside in
     let k : KeptSheet = kept_sheet i.store i.generations.entries i.kept i.meter in
     let o : circular i.store.sheet c.args.at ≡ false = sym (c.is_circular.ensures i.store.sheet c.self.invariant.1) ∙ c.if-is_circular.false in
-    let q : c.new-memo.result ≡ begun k = begun_is i.store i.generations.entries i.kept i.meter _ c.new-memo.result c.new-memo.ensures.value c.in-Some.ensures.value in
+    let q : c.new-memo.result ≡ begun k = begun_is i.store i.generations.entries i.kept i.meter _ c.new-memo.result c.new-memo.ensures.value c.in-Some-take.ensures.value in
     let same = c.in_ok-world.ensures in
     subst (λ (x : KeptSheet). IsAtHand x c.args.put.now c.args.at → c.value_under-result.new.meter ≡ x.counts) c.self.view_is
     (λ h. c.value_under-result.ensures.uncounted (at_hand_is k c.new-memo.result c.in_ok-world.world c.args.put.now c.args.at q o same h))
@@ -137,7 +137,7 @@ returns-clause-kept c =
     let i = c.self.inside in
     let k : KeptSheet = kept_sheet i.store i.generations.entries i.kept i.meter in
     let o : circular i.store.sheet c.args.at ≡ false = sym (c.is_circular.ensures i.store.sheet c.self.invariant.1) ∙ c.if-is_circular.false in
-    let q : c.new-memo.result ≡ begun k = begun_is i.store i.generations.entries i.kept i.meter _ c.new-memo.result c.new-memo.ensures.value c.in-Some.ensures.value in
+    let q : c.new-memo.result ≡ begun k = begun_is i.store i.generations.entries i.kept i.meter _ c.new-memo.result c.new-memo.ensures.value c.in-Some-take.ensures.value in
     let same = c.in_ok-world.ensures in
     let new : KeptSheet = record { stored = i.store; generations = i.generations.entries; values = c.into_parts-kept.result.0; counts = c.value_under-result.new.meter } in
     let e = c.value_under-result.ensures in
@@ -150,7 +150,7 @@ returns-clause-keeps c =
     let i = c.self.inside in
     let k : KeptSheet = kept_sheet i.store i.generations.entries i.kept i.meter in
     let o : circular i.store.sheet c.args.at ≡ false = sym (c.is_circular.ensures i.store.sheet c.self.invariant.1) ∙ c.if-is_circular.false in
-    let q : c.new-memo.result ≡ begun k = begun_is i.store i.generations.entries i.kept i.meter _ c.new-memo.result c.new-memo.ensures.value c.in-Some.ensures.value in
+    let q : c.new-memo.result ≡ begun k = begun_is i.store i.generations.entries i.kept i.meter _ c.new-memo.result c.new-memo.ensures.value c.in-Some-take.ensures.value in
     let same = c.in_ok-world.ensures in
     let cases = demanded i.store.sheet c.args.put.now c.args.at in
     let has = has_case k c.new-memo.result c.in_ok-world.world c.args.put.now c.args.at q o same in
@@ -165,6 +165,12 @@ returns-clause-keeps c =
 pub returns-then-is_circular-clause-no_more : goal.returns-then-is_circular-clause-no_more
 returns-then-is_circular-clause-no_more c = none_no_more c.args.self.now
 
+pub returns-in_err-value-clause-no_more : goal.returns-in_err-value-clause-no_more
+returns-in_err-value-clause-no_more c = none_no_more c.args.self.now
+
+pub returns-in-Some-clause-no_more : goal.returns-in-Some-clause-no_more
+returns-in-Some-clause-no_more c = none_no_more c.args.self.now
+
 pub returns-in_err-world-clause-no_more : goal.returns-in_err-world-clause-no_more
 returns-in_err-world-clause-no_more c = none_no_more c.args.self.now
 
@@ -172,20 +178,20 @@ pub returns-clause-no_more : goal.returns-clause-no_more
 returns-clause-no_more c =
     let i = c.self.inside in
     let k : KeptSheet = kept_sheet i.store i.generations.entries i.kept i.meter in
-    let q : c.new-memo.result ≡ begun k = begun_is i.store i.generations.entries i.kept i.meter _ c.new-memo.result c.new-memo.ensures.value c.in-Some.ensures.value in
+    let q : c.new-memo.result ≡ begun k = begun_is i.store i.generations.entries i.kept i.meter _ c.new-memo.result c.new-memo.ensures.value c.in-Some-take.ensures.value in
     let new : KeptSheet = record { stored = i.store; generations = i.generations.entries; values = c.into_parts-kept.result.0; counts = c.value_under-result.new.meter } in
     let e = c.value_under-result.ensures in
     subst (λ (x : KeptSheet). KeepsNoMore x new) c.self.view_is
-    (asked_no_more k c.new-memo.result c.value_under-result.new.memo c.into_parts-kept.result.0 c.value_under-result.new.meter q e.same_generation e.same_capacity c.into_parts-kept.ensures.kept c.into_parts-kept.ensures.within (begun_one_each i.kept _ c.in-Some.ensures.value c.new-memo.ensures.one_each) e.takes)
+    (asked_no_more k c.new-memo.result c.value_under-result.new.memo c.into_parts-kept.result.0 c.value_under-result.new.meter q e.same_generation e.same_capacity c.into_parts-kept.ensures.kept c.into_parts-kept.ensures.within (begun_one_each i.kept _ c.in-Some-take.ensures.value c.new-memo.ensures.one_each) e.takes)
 
 pub returns-clause-while_room : goal.returns-clause-while_room
 returns-clause-while_room c =
     let i = c.self.inside in
     let k : KeptSheet = kept_sheet i.store i.generations.entries i.kept i.meter in
-    let q : c.new-memo.result ≡ begun k = begun_is i.store i.generations.entries i.kept i.meter _ c.new-memo.result c.new-memo.ensures.value c.in-Some.ensures.value in
+    let q : c.new-memo.result ≡ begun k = begun_is i.store i.generations.entries i.kept i.meter _ c.new-memo.result c.new-memo.ensures.value c.in-Some-take.ensures.value in
     let new : KeptSheet = record { stored = i.store; generations = i.generations.entries; values = c.into_parts-kept.result.0; counts = c.value_under-result.new.meter } in
     let e = c.value_under-result.ensures in
-    let within = begun_within i.kept _ c.in-Some.ensures.value c.new-memo.ensures.within in
+    let within = begun_within i.kept _ c.in-Some-take.ensures.value c.new-memo.ensures.within in
     subst (λ (x : KeptSheet). KeepsWhileRoom x new) c.self.view_is
     (asked_while_room k c.new-memo.result c.value_under-result.new.memo c.into_parts-kept.result.0 c.value_under-result.new.meter q e.same_generation e.same_capacity c.into_parts-kept.ensures.kept within e.gives_up e.takes)
 
@@ -193,7 +199,7 @@ pub returns-clause-same_room : goal.returns-clause-same_room
 returns-clause-same_room c =
     let i = c.self.inside in
     let k : KeptSheet = kept_sheet i.store i.generations.entries i.kept i.meter in
-    let q : c.new-memo.result ≡ begun k = begun_is i.store i.generations.entries i.kept i.meter _ c.new-memo.result c.new-memo.ensures.value c.in-Some.ensures.value in
+    let q : c.new-memo.result ≡ begun k = begun_is i.store i.generations.entries i.kept i.meter _ c.new-memo.result c.new-memo.ensures.value c.in-Some-take.ensures.value in
     subst (λ (x : KeptSheet). c.into_parts-kept.result.0.capacity ≡ x.values.capacity) c.self.view_is
     (ap (λ (v : KeptValues). v.capacity) c.into_parts-kept.ensures.kept ∙ c.value_under-result.ensures.same_capacity ∙ ap (λ (x : Keeping). x.values.capacity) q)
 

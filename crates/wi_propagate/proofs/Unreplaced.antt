@@ -1,0 +1,39 @@
+-- Cells that are not replaced.
+use Rattle.std.proofs.Common.{◌≡◌, ◌==◌, ◌||◌, ℕ, Bool, true, false, cond, List, [], ◌∷◌, Option, Some, None, refl, ap, sym, ◌∙◌}
+use Rattle.std.specs.List.{list_any}
+use Rattle.std.specs.Option.{option_or}
+use Rattle.wi_values.specs.declared.value.Value.{Value}
+use Rattle.wi_values.specs.declared.value.Value.TheVariants.{Empty}
+use Rattle.wi_values.specs.declared.replacement.Replacement.{Replacement}
+use Rattle.wi_values.specs.Replacements.{last_for}
+use Rattle.wi_parser.specs.declared.content.Content.{Content}
+use Rattle.wi_parser.specs.Sheet.{Sheet, content_of, put_all, has_formula}
+use Rattle.wi_graph.specs.Circular.{circular}
+use Rattle.wi_sheet.specs.CellValue.{value_of}
+use Rattle.wi_sheet.specs.Shown.{shown}
+use Rattle.wi_sheet.proofs.Last.{over, content_by_last}
+use Rattle.wi_sheet.proofs.Steps.{put_not_circular, value_plain, shown_open}
+
+none_put : (p : List Replacement) (a : ℕ) → list_any (λ r. r.at == a) p ≡ false → last_for p a ≡ None
+none_put [] a h = refl
+none_put (r ∷ rs) a h = by (r.at == a) (list_any (λ x. x.at == a) rs) h (none_put rs a)
+  where
+    by : (b c : Bool) → (b || c) ≡ false → (c ≡ false → last_for rs a ≡ None) → option_or (last_for rs a) (cond b (Some r.value) None) ≡ None
+    by true c e more = absurd (let z = e in cc)
+    by false c e more = ap (λ (o : Option Value). option_or o None) (more e)
+
+-- such a cell keeps its content
+content_stays : (s : Sheet) (p : List Replacement) (a : ℕ) → list_any (λ r. r.at == a) p ≡ false → content_of (put_all s p) a ≡ content_of s a
+content_stays s p a h = content_by_last s p a ∙ ap (λ (o : Option Value). over o (content_of s a)) (none_put p a h)
+
+pub no_formula_put : (s : Sheet) (p : List Replacement) (a : ℕ) (o : Option Content) → list_any (λ r. r.at == a) p ≡ false → content_of s a ≡ o → has_formula o ≡ false
+    → has_formula (content_of (put_all s p) a) ≡ false
+no_formula_put s p a o h e f = ap has_formula (content_stays s p a h ∙ e) ∙ f
+
+-- and shows it, where it is no formula
+pub shows_content : (s : Sheet) (p : List Replacement) (a : ℕ) (o : Option Content) (v : Value) → circular s a ≡ false → list_any (λ r. r.at == a) p ≡ false → content_of s a ≡ o
+    → has_formula o ≡ false → v ≡ value_of o (λ t. Empty) → v ≡ shown s p a
+shows_content s p a o v open_cell h e f is =
+    let here = content_stays s p a h ∙ e in
+    is ∙ ap (λ (x : Option Content). value_of x (λ t. Empty)) (sym here)
+    ∙ sym (shown_open s p a open_cell ∙ value_plain (put_all s p) a (put_not_circular s p a open_cell) (ap has_formula here ∙ f))
