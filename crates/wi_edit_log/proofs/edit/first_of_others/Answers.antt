@@ -1,4 +1,4 @@
-use Rattle.std.proofs.Common.{◌<◌, ◌-◌, arith}
+use Rattle.std.proofs.Common.{◌<◌, ◌-◌, arith, rules}
 use Rattle.wi_edit_log.proofs.Runs.{none_after_all, other_looked_at, own_stepped_over}
 use Rattle.wi_edit_log.proofs.edit.first_of_others.Goals as goal
 
@@ -32,6 +32,6 @@ loop-place-preserved c =
       begins = omega (arith, c.loop-place-test.true);
       within = omega (arith, i.within);
       first = other_looked_at c.args.edits.now c.index-edits-place.result c.args.session c.loop-place.place (c.loop-place.place - 1) c.args.wanted.now
-          c.loop-place.first c.first_shared.result c.sooner-first.result (omega (arith, c.loop-place-test.true)) i.within c.index-edits-place.is
-          (omega (arith, c.loop-place-test.true)) c.if-edit-session.false c.sooner-first.ensures i.first c.first_shared.ensures;
+          c.loop-place.first c.first_shared.result _ (omega (arith, c.loop-place-test.true)) i.within c.index-edits-place.is
+          (omega (arith, c.loop-place-test.true)) c.if-edit-session.false (search rules) i.first c.first_shared.ensures;
     }
