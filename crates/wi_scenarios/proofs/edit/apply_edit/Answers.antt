@@ -1,6 +1,5 @@
 use Rattle.std.proofs.Common.{◌∙◌, Ok, rules}
 use Rattle.wi_scenarios.specs.Inner.Held.{state_of, edit_in}
-use Rattle.wi_scenarios.specs.Inner.Editing.{AreMarked}
 use Rattle.wi_scenarios.proofs.EditLemmas.{marked_as, AreTaken, edit_served, sound_taken, adds_taken}
 use Rattle.wi_scenarios.proofs.edit.apply_edit.Goals as goal
 
@@ -22,10 +21,11 @@ returns-in-Ok-clause-adds g c =
       pending = c.take_all.ensures.pending;
       vacant = c.take_all.ensures.vacant;
     } in
-    let are : AreMarked g.C.Calculator.marked old.sheet c.args.edit.contents.items c.deref-3.result.now =
-    marked_as g.C.Calculator.marked old.sheet c.args.edit.contents.items c.deref-2.result.now c.in_ok-marked.marked.items c.deref-3.result.now c.deref-2.ensures.value c.deref-3.ensures.value c.in_ok-marked.ensures in
-    adds_taken g.C.Calculator.marked old new c.args.desk.now c.edit_with_rooms.new.desk c.take_all.new.self c.args.edit.contents.items c.deref-3.result.now
-    c.requires c.in-Ok.ensures.beside are c.in-Ok.ensures.rooms taken
+    let listed = c.deref-3.ensures.value in
+    adds_taken g.C.Calculator.marked old new c.args.desk.now c.edit_with_rooms.new.desk c.take_all.new.self c.args.edit.contents.items _
+    c.requires c.in-Ok.ensures.beside
+    (marked_as g.C.Calculator.marked old.sheet c.args.edit.contents.items c.deref-2.result.now c.in_ok-marked.marked.items _ c.deref-2.ensures.value (search (listed)) c.in_ok-marked.ensures)
+    c.in-Ok.ensures.rooms taken
 
 pub returns-in-Ok-clause-sound : goal.returns-in-Ok-clause-sound
 returns-in-Ok-clause-sound g c =
@@ -37,7 +37,8 @@ returns-in-Ok-clause-sound g c =
       pending = c.take_all.ensures.pending;
       vacant = c.take_all.ensures.vacant;
     } in
-    let are : AreMarked g.C.Calculator.marked old.sheet c.args.edit.contents.items c.deref-3.result.now =
-    marked_as g.C.Calculator.marked old.sheet c.args.edit.contents.items c.deref-2.result.now c.in_ok-marked.marked.items c.deref-3.result.now c.deref-2.ensures.value c.deref-3.ensures.value c.in_ok-marked.ensures in
-    sound_taken g.C.Calculator.marked old new c.args.desk.now c.edit_with_rooms.new.desk c.take_all.new.self c.args.edit.contents.items c.deref-3.result.now
-    c.requires c.in-Ok.ensures.beside are c.in-Ok.ensures.rooms taken c.in-Ok.ensures.edit.0
+    let listed = c.deref-3.ensures.value in
+    sound_taken g.C.Calculator.marked old new c.args.desk.now c.edit_with_rooms.new.desk c.take_all.new.self c.args.edit.contents.items _
+    c.requires c.in-Ok.ensures.beside
+    (marked_as g.C.Calculator.marked old.sheet c.args.edit.contents.items c.deref-2.result.now c.in_ok-marked.marked.items _ c.deref-2.ensures.value (search (listed)) c.in_ok-marked.ensures)
+    c.in-Ok.ensures.rooms taken c.in-Ok.ensures.edit.0

@@ -3,9 +3,6 @@ use Rattle.wi_scenarios.specs.Inner.Held.{state_of}
 use Rattle.wi_scenarios.proofs.LookLemmas.{table_lacked}
 use Rattle.wi_scenarios.proofs.table.table.Goals as goal
 
-pub returns-then-not-is_shaped-clause-step : goal.returns-then-not-is_shaped-clause-step
-returns-then-not-is_shaped-clause-step g c = search rules
-
 pub returns-in_err-put-clause-step : goal.returns-in_err-put-clause-step
 returns-in_err-put-clause-step g c =
     let s = state_of (g.C.Calculator.stored c.args.calculator.now) c.args.desk.now in
@@ -21,3 +18,6 @@ returns-in_err-push_table-clause-step g c =
     c.args.out.now.items c.push_table.new.out.items c.from_residual-in_err-push_table.result
     c.is_shaped.ensures (search rules) c.is_within.ensures (search rules) c.from_residual-in_err-push_table.ensures.1
     (ap (λ x. state_of x c.args.desk.now) c.in_err-push_table.ensures.same) c.in_err-push_table.ensures.err
+
+pub returns-clause-step : goal.returns-clause-step
+returns-clause-step g c = search rules
