@@ -17,7 +17,8 @@ use wi_reports::{find_changes, push_changes};
 use wi_values::{Address, Value};
 
 /// Appends a record for each cell that has changed since the current session was last shown what has. Only its pending cells
-/// are looked at. The work is that of `value` for each of them, and of `Picture::apply` for those that have changed.
+/// are looked at. The work is that of `Scenarios::effective`, of `value` for each of them, and of `Picture::apply` for those that have
+/// changed. Where no cell is pending, none of this is done, and no memory is taken.
 pub fn changes<C: Calculator>(
     alloc: Global,
     calculator: &mut C,
@@ -47,7 +48,8 @@ pub fn changes<C: Calculator>(
     Ok(())
 }
 
-/// What has changed since the current session was last shown it. The calculator is asked for its pending cells alone.
+/// What has changed since the current session was last shown it. The calculator is asked for its pending cells alone; where there
+/// are none, nothing is listed.
 fn find<C: Calculator>(
     alloc: Global,
     calculator: &mut C,
@@ -65,6 +67,9 @@ fn find<C: Calculator>(
     ensures none { pending_for (pending_in desk.now) desk.now.current ≡ [] → IfOk result (λ found. found.items ≡ []) }
 {
     let cells = desk.sessions.pending(desk.current).cells()?;
+    if cells.is_empty() {
+        return Ok(Vec::new(alloc));
+    }
     let put = replacements_for(desk, desk.current)?;
     let picture = desk.sessions.picture(desk.current);
     find_changes(alloc, calculator, &put, picture, &cells)

@@ -12,6 +12,7 @@ ghost use Rattle.wi_scenarios.specs.Inner.Held.{state_of, IsSound};
 use crate::areas::is_too_large;
 use crate::desk::Desk;
 use crate::refusal::Refusal;
+use crate::views::is_missing;
 use std::alloc::{AllocError, Global};
 use wi_propagate::Calculator;
 use wi_reports::push_comparison;
@@ -68,15 +69,5 @@ fn push_differences<C: Calculator>(
 fn lacks_either(scenarios: &Scenarios, first: Option<&str>, second: Option<&str>) -> bool
     ensures { result ≡ (lacks scenarios.now (option_copied first.entry) || lacks scenarios.now (option_copied second.entry)) }
 {
-    lacks(scenarios, first) || lacks(scenarios, second)
-}
-
-/// Whether a scenario is named that isn't there.
-fn lacks(scenarios: &Scenarios, name: Option<&str>) -> bool
-    ensures { result ≡ lacks scenarios.now (option_copied name.entry) }
-{
-    match name {
-        Some(name) => !scenarios.contains(name),
-        None => false,
-    }
+    is_missing(scenarios, first) || is_missing(scenarios, second)
 }

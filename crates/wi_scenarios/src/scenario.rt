@@ -16,8 +16,8 @@ use wi_propagate::Calculator;
 use wi_scenario_list::{ScenarioFault, Scenarios};
 use wi_values::{Address, Value, imported_value};
 
-/// Puts a replacement into a scenario, which is made if need be. The work is that of `Scenarios::put`, and for each session
-/// whose scenario then puts in something else that of `make_room_between`.
+/// Puts a replacement into a scenario, which is made if need be. The work is that of `Scenarios::copy`, of `Scenarios::put` and of
+/// `switch_to`.
 pub fn put<C: Calculator>(
     alloc: Global,
     calculator: &C,

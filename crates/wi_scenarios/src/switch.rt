@@ -17,7 +17,8 @@ use wi_sessions::Sessions;
 use wi_values::Replacement;
 
 /// Makes room among a session's pending cells for those that may show something else where the replacements are others. On an error
-/// some vacant rooms may be left. The work is that of `mark` for the cells whose replacement is another, and of `Sessions::make_room`.
+/// some vacant rooms may be left. The work is that of `differing_cells`, of `mark` for the cells whose replacement is another, and of
+/// `Sessions::make_room`.
 pub fn make_room_between<C: Calculator>(
     alloc: Global,
     calculator: &C,
@@ -43,7 +44,8 @@ pub fn make_room_between<C: Calculator>(
     sessions.make_room(i, &marked)
 }
 
-/// The same for a session's scenario, where others take the place of all.
+/// The same for a session's scenario, where others take the place of all. All that it puts in is listed, as it was and as it will be, also
+/// where nothing of it changes.
 fn make_room_for<C: Calculator>(
     alloc: Global,
     calculator: &C,
@@ -86,7 +88,8 @@ fn make_room_for_each<C: Calculator>(
 }
 
 /// Other scenarios take the place of all; the cells that may show something else then are pending for each session. On an error
-/// all is as before. The work is that of `make_room_between` for each session.
+/// all is as before. The work for each session is that of `Scenarios::effective`, once for what its scenario puts in now and once for
+/// what it will, also where nothing of it changes, and that of `make_room_between`.
 pub fn switch_to<C: Calculator>(
     alloc: Global,
     calculator: &C,

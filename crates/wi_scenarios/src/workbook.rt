@@ -175,8 +175,9 @@ impl<C: Calculator> Workbook<C> {
     }
 
     /// Puts a replacement into a scenario, which is made if need be, by the rule of imported fields; an empty content takes the scenario's
-    /// own replacement away. The work is that of the sessions whose scenario then puts in something else: for each what
-    /// depends on the cell.
+    /// own replacement away. The work grows with the count of scenarios and with the scenario's own replacements. For each session
+    /// all that its scenario puts in is listed twice, as it was and as it will be, whichever scenario that is; where the two
+    /// differ, the work grows with what depends on the cell.
     pub fn scenario_set(
         &mut self,
         name: Name<'_>,
@@ -197,7 +198,7 @@ impl<C: Calculator> Workbook<C> {
         )
     }
 
-    /// Takes a scenario's own replacement away, if there is one; the scenario stays.
+    /// Takes a scenario's own replacement away, if there is one; the scenario stays. The work is as of `scenario_set`.
     pub fn scenario_clear(&mut self, name: Name<'_>, at: Address) -> Result<(), Refusal>
         ensures step { Serves (λ a. take_away_step self.old.state (bytes_of name.entry) at ≡ a) result self.old.state self.new.state [] }
         ensures adds { AddsOnly C.marked ([]) self.old.state self.new.state self.old.pending self.new.pending }
@@ -212,7 +213,8 @@ impl<C: Calculator> Workbook<C> {
         )
     }
 
-    /// Bases a scenario on another, whose replacements it then puts in too unless it has its own, or on none.
+    /// Bases a scenario on another, whose replacements it then puts in too unless it has its own, or on none. The work is as of
+    /// `scenario_set`, with what depends on all cells whose replacement changes.
     pub fn scenario_base(&mut self, name: Name<'_>, other: Option<Name<'_>>) -> Result<(), Refusal>
         ensures step { Serves (IsStep self.old.state (command.Base (bytes_of name.entry) (option_map bytes_of other.entry))) result self.old.state self.new.state [] }
         ensures adds { AddsOnly C.marked ([]) self.old.state self.new.state self.old.pending self.new.pending }
@@ -237,8 +239,8 @@ impl<C: Calculator> Workbook<C> {
         drop(&self.calculator, &mut self.desk, name.as_str())
     }
 
-    /// The current session uses a scenario, or the sheet as it stands. The work grows with what depends on the cells whose
-    /// replacement changes.
+    /// The current session uses a scenario, or the sheet as it stands. The work grows with all that the old and the new scenario put
+    /// in, and with what depends on the cells whose replacement changes.
     pub fn use_scenario(&mut self, name: Option<Name<'_>>) -> Result<(), Refusal>
         ensures step { Serves (IsStep self.old.state (command.Use (option_map bytes_of name.entry))) result self.old.state self.new.state [] }
         ensures adds { AddsOnly C.marked ([]) self.old.state self.new.state self.old.pending self.new.pending }
@@ -281,7 +283,7 @@ impl<C: Calculator> Workbook<C> {
     }
 
     /// Appends a record for each cell whose value isn't what the current session was last shown: address, kind and shown text.
-    /// The session has been shown them then. Only its pending cells are looked at.
+    /// The session has been shown them then. Only its pending cells are looked at; where there are none, no memory is taken.
     pub fn changes(&mut self, out: &mut Vec<u8>) -> Result<(), Refusal>
         ensures step { (records : List ℕ) × (out.new.items ≡ out.old.items ++ records)
             × Serves (IsStep self.old.state command.Changes) result self.old.state self.new.state records }

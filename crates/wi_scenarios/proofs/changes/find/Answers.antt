@@ -1,7 +1,8 @@
-use Rattle.std.proofs.Common.{◌≡◌, ◌∙◌}
+use Rattle.std.proofs.Common.{◌≡◌, ◌∙◌, length, arith}
+use Rattle.std.proofs.lemmas.Grind.{common_steps}
 use Rattle.wi_scenario_list.specs.Scenarios.{effective}
 use Rattle.wi_sessions.specs.Roster.{session_at}
-use Rattle.wi_scenarios.proofs.ChangesLemmas.{changes_found, looked, begun_again, no_more, if_ok}
+use Rattle.wi_scenarios.proofs.ChangesLemmas.{changes_found, nothing_found, looked, begun_again, no_more, if_ok}
 use Rattle.wi_scenarios.proofs.changes.find.Goals as goal
 
 pub returns-clause-list : goal.returns-clause-list
@@ -14,6 +15,18 @@ returns-clause-list g c =
     (λ found is. changes_found stored d c.pending.result.now.cells c.deref-2.result.now c.deref.result.now c.picture-picture.result.now found.items
     c.requires c.in_ok-cells.ensures.order c.pending.ensures.cells cells put c.picture-picture.ensures is)
     c.find_changes.ensures.found
+
+pub returns-then-is_empty-clause-list : goal.returns-then-is_empty-clause-list
+returns-then-is_empty-clause-list g c =
+    let none : length c.in_ok-cells.cells.items ≡ 0 = grind (arith, common_steps) in
+    nothing_found (g.C.Calculator.stored c.args.calculator.now) c.args.desk.now c.pending.result.now.cells c.in_ok-cells.cells.items c.new.result.items
+    c.requires c.in_ok-cells.ensures.order c.pending.ensures.cells c.in_ok-cells.ensures.list none c.new.ensures.items
+
+pub returns-then-is_empty-clause-evaluations : goal.returns-then-is_empty-clause-evaluations
+returns-then-is_empty-clause-evaluations g c = no_more _ _
+
+pub returns-then-is_empty-clause-restarts : goal.returns-then-is_empty-clause-restarts
+returns-then-is_empty-clause-restarts g c = no_more _ _
 
 pub returns-in_err-cells-clause-evaluations : goal.returns-in_err-cells-clause-evaluations
 returns-in_err-cells-clause-evaluations g c = no_more _ _
