@@ -1,5 +1,5 @@
 -- A parse of the command gives what clap states for the words, and fails by what it finds amiss in them.
-use Rattle.std.proofs.Common.{◌≡◌, ◌∙◌, List, true, refl, ap, subst, sym, inl, inr}
+use Rattle.std.proofs.Common.{◌≡◌, ◌∙◌, List, [], true, refl, ap, subst, sym, inl, inr}
 use Rattle.std.specs.Prelude.{String}
 use Rattle.std.specs.Global.{Global}
 use Rattle.clap.specs.Words.{App, HasKind, HasMatchesOf, Text, fault_of, first_of, first_value, found_of, is_simple}
@@ -45,3 +45,9 @@ pub is_fault : (a : App) (words : List (String Global)) (e : Error) → a ≡ wh
 unfolding found_amiss
 is_fault a words e is has =
     by_kind words e (kind_of e) refl (subst (λ (x : App). HasKind (fault_of x (spelled words)) e) is (has (ap is_simple_and_free is ∙ is_free_whatif)))
+
+-- where there is a parse, clap finds nothing amiss
+pub none_amiss : (a : App) (words : List (String Global)) → a ≡ whatif → (is_simple_and_free a ≡ true → fault_of a (spelled words) ≡ []) → found_amiss words ≡ []
+unfolding found_amiss
+none_amiss a words is none =
+    subst (λ (x : App). fault_of x (spelled words) ≡ []) is (none (ap is_simple_and_free is ∙ is_free_whatif))

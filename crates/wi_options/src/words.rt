@@ -1,9 +1,9 @@
 //! The options that words give.
 
-ghost use Rattle.std.specs.Prelude.{◌≡◌, ◌≤◌, true, IfOk, IfErr, option_map};
+ghost use Rattle.std.specs.Prelude.{◌≡◌, ◌≤◌, [], true, IfOk, IfErr, option_map};
 ghost use Rattle.clap.specs.Words.{Text, first_of, first_value, found_of};
 ghost use Rattle.wi_options.specs.Stated.{most_kept, number_or, stated, stated_keep, stated_load, usual_kept};
-ghost use Rattle.wi_options.specs.Refused.{IsFault, is_taken};
+ghost use Rattle.wi_options.specs.Refused.{IsFault, found_amiss, is_taken};
 ghost use Rattle.wi_options.specs.Inner.Reads.{ReadsKeep};
 
 use crate::command::{command, kept};
@@ -16,6 +16,7 @@ use std::alloc::Global;
 fn parsed<'a>(alloc: Global, words: &'a [String]) -> Result<ArgMatches<'a>, OptionsFault>
     ensures stated { IfOk result (λ m. (id : Text) → first_value (found_of m) id ≡ first_of id (stated words.now)) }
     ensures keep { IfOk result ReadsKeep }
+    ensures whole { IfOk result (λ _. found_amiss words.now ≡ []) }
     ensures taken { IfErr result (λ fault. is_taken words.now ≡ true → fault ≡ OptionsFault.Memory) }
     ensures amiss { IfErr result (IsFault words.now) }
 {
@@ -28,7 +29,9 @@ pub fn options<'a>(alloc: Global, words: &'a [String]) -> Result<Options<'a>, Op
     ensures load { IfOk result (λ o. option_map (λ s. s.now) o.load ≡ stated_load words.now) }
     ensures keep { IfOk result (λ o. o.keep ≡ number_or usual_kept (stated_keep words.now)) }
     ensures range { IfOk result (λ o. (1 ≤ o.keep) × (o.keep ≤ most_kept)) }
-    // Words that clap takes are refused for want of memory alone, others also for what is amiss.
+    // Words in which clap finds anything amiss are refused, a call for help too. Words that clap takes are refused for want of
+    // memory alone, others also for what is amiss.
+    ensures whole { IfOk result (λ _. found_amiss words.now ≡ []) }
     ensures taken { IfErr result (λ fault. is_taken words.now ≡ true → fault ≡ OptionsFault.Memory) }
     ensures amiss { IfErr result (IsFault words.now) }
 {

@@ -2,7 +2,7 @@ use Rattle.std.proofs.Common.{◌∙◌, ap}
 use Rattle.std.proofs.lemmas.Result.{err_from_is_err_and}
 use Rattle.clap.specs.declared.error.kind.ErrorKind.{ErrorKind}
 use Rattle.wi_options.specs.Refused.{fault_by}
-use Rattle.wi_options.proofs.StatedLemmas.{is_fault, taken_by, value_is_stated}
+use Rattle.wi_options.proofs.StatedLemmas.{is_fault, none_amiss, taken_by, value_is_stated}
 use Rattle.wi_options.proofs.words.parsed.Goals as goal
 
 pub returns-in_err-try_get_matches_from-clause-taken : goal.returns-in_err-try_get_matches_from-clause-taken
@@ -19,3 +19,6 @@ returns-in_err-try_get_matches_from-clause-amiss c =
 pub returns-clause-stated : goal.returns-clause-stated
 returns-clause-stated c = λ id.
     value_is_stated _ c.in_ok-try_get_matches_from.field-0 _ id c.in_ok-command.ensures.app c.in_ok-try_get_matches_from.ensures.matches
+
+pub returns-clause-whole : goal.returns-clause-whole
+returns-clause-whole c = none_amiss _ _ c.in_ok-command.ensures.app c.in_ok-try_get_matches_from.ensures.kinds
