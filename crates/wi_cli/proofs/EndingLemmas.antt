@@ -4,6 +4,7 @@ use Rattle.std.specs.Io.KnownBytes.{Appends, Consumes}
 use Rattle.std.proofs.KnownBytes.{Consumes-nil, Appends-nil}
 use Rattle.wi_store.specs.declared.limits.Limits.{Limits}
 use Rattle.wi_store.specs.Store.{Stored}
+use Rattle.wi_propagate.specs.KeptSheet.{KeptSheet}
 use Rattle.wi_scenarios.specs.State.{State, state_over, new_state}
 use Rattle.wi_scenarios.specs.Pending.{Book}
 use Rattle.wi_cli.specs.declared.fault.RunFault.{RunFault}
@@ -14,12 +15,17 @@ use Rattle.wi_cli.specs.RunOutcome.{RunOutcome}
 empty_within : ℕ → ℕ → State
 empty_within cells edits = state_over (record { sheet = []; edits = 0; limits = record { cells = cells; edits = edits } })
 
-pub is_new : {E : Type 0} (r : Result Book E) (stored : Stored) (limits : Limits) → IfOk r (λ (book : Book). book.state ≡ state_over stored)
-    → stored ≡ record { sheet = []; edits = 0; limits = limits } → limits.cells ≡ 200000 → limits.edits ≡ 1000000000 → IfOk r (λ (book : Book). book.state ≡ new_state)
+pub is_standard : {E : Type 0} (r : Result KeptSheet E) (limits : Limits) → IfOk r (λ (k : KeptSheet). k.stored ≡ record { sheet = []; edits = 0; limits = limits })
+    → limits.cells ≡ 200000 → limits.edits ≡ 1000000000 → IfOk r (λ (k : KeptSheet). state_over k.stored ≡ new_state)
 unfolding empty_within
-is_new (Ok book) stored limits b s cells edits =
-    b ∙ ap state_over s ∙ ap (λ n. empty_within n limits.edits) cells ∙ ap (empty_within 200000) edits
-is_new (Err e) stored limits b s cells edits = tt
+is_standard (Ok k) limits s cells edits =
+    ap state_over s ∙ ap (λ n. empty_within n limits.edits) cells ∙ ap (empty_within 200000) edits
+is_standard (Err e) limits s cells edits = tt
+
+pub is_new : {E : Type 0} (r : Result Book E) (stored : Stored) → IfOk r (λ (book : Book). book.state ≡ state_over stored) → state_over stored ≡ new_state
+    → IfOk r (λ (book : Book). book.state ≡ new_state)
+is_new (Ok book) stored b s = b ∙ s
+is_new (Err e) stored b s = tt
 
 -- what `run` says of what it reads and writes
 abbrev pub Replies : Result (Unit {0}) RunFault → Option (List ℕ) → Option (List ℕ) → State → State → Option (List ℕ) → Option (List ℕ) → Type 0

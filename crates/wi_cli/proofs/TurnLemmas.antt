@@ -16,7 +16,9 @@ use Rattle.wi_cli.specs.declared.reply.Reply.{Reply}
 use Rattle.wi_cli.specs.Inner.Told.{Told, told_bytes}
 use Rattle.wi_cli.specs.Script.{line_command, text_command}
 use Rattle.wi_cli.specs.Inner.Reading.{line_front}
-use Rattle.wi_cli.specs.Inner.Turn.{TookBlock, Turned, CutShort}
+use Rattle.wi_cli.specs.declared.fault.RunFault.{RunFault}
+use Rattle.wi_cli.specs.declared.fault.RunFault.TheVariants.{Memory, Read, Write, ScriptLimit}
+use Rattle.wi_cli.specs.Inner.Turn.{TookBlock, BrokeBlock, Turned, CutShort, Stopped}
 use Rattle.wi_cli.specs.Run.{WritesReplies}
 use Rattle.wi_cli.proofs.RunLemmas.{WritesReplies-told}
 
@@ -47,6 +49,14 @@ pub turned : (whole : Bool) (b : List ℕ) (l : Option (List ℕ)) (b' : List �
     → TookBlock command whole b l b' l' count count' → Told command a s t out → Appends w w' (told_bytes a out) → Turned whole b l b' l' count count' s t w w'
 turned whole b l b' l' count count' s t w w' command a out k told h =
     record { command = command; block = k; out = told_bytes a out; written = h; writes = WritesReplies-told command a s t out told }
+
+-- no block was taken, and nothing is answered
+pub stopped : (e : RunFault) (b : List ℕ) (l : Option (List ℕ)) (b' : List ℕ) (l' : Option (List ℕ)) (count : ℕ) (s t : State) (w w' : Option (List ℕ))
+    → BrokeBlock e b l b' l' count → t ≡ s → w' ≡ w → Stopped e b l b' l' count s t w w'
+stopped Memory b l b' l' count s t w w' k same kept = absurd k.broke.cause
+stopped Read b l b' l' count s t w w' k same kept = (k, same, kept)
+stopped Write b l b' l' count s t w w' k same kept = absurd k.broke.cause
+stopped ScriptLimit b l b' l' count s t w w' k same kept = (k, same, kept)
 
 pub cut_short : (whole : Bool) (b : List ℕ) (l : Option (List ℕ)) (b' : List ℕ) (l' : Option (List ℕ)) (count count' : ℕ) (s t : State) (w w' : Option (List ℕ)) (command : Option Command) (a : Reply) (out : List ℕ)
     → TookBlock command whole b l b' l' count count' → Told command a s t out → AppendsFront w w' (told_bytes a out) → CutShort b l b' l' count s t w w'

@@ -1,8 +1,8 @@
 //! A run on a new workbook, and the status that it ends with.
 
-ghost use Rattle.std.specs.Prelude.{◌≡◌, ◌≤◌, ℕ, List, Err, IfOk, OnOk, true, false};
+ghost use Rattle.std.specs.Prelude.{◌≡◌, ◌≤◌, ℕ, List, [], Err, IfOk, OnOk, true, false};
 ghost use Rattle.std.specs.Io.KnownBytes.{Appends, Consumes, IsAtEnd};
-ghost use Rattle.wi_scenarios.specs.State.{State, new_state};
+ghost use Rattle.wi_scenarios.specs.State.{State, new_state, state_over};
 ghost use Rattle.wi_cli.specs.RunOutcome.{RunOutcome};
 ghost use Rattle.wi_cli.specs.Status.{ending_status};
 
@@ -36,6 +36,15 @@ impl Ending {
     }
 }
 
+/// A calculator of an empty sheet, within the standard limits, that may keep so many values and keeps none yet.
+fn new_calculator(alloc: Global, keep: usize) -> Result<KeptCalculator, AllocError>
+    requires { 1 ≤ keep }
+    ensures stored { IfOk result (λ calculator. state_over calculator.stored ≡ new_state) }
+    ensures values { IfOk result (λ calculator. calculator.values ≡ record { entries = []; capacity = keep }) }
+{
+    KeptCalculator::new(alloc, Limits::standard(), keep)
+}
+
 /// A new workbook, within the standard limits, that keeps so many values from one question to the next.
 pub(crate) fn new_workbook(
     alloc: Global,
@@ -44,7 +53,7 @@ pub(crate) fn new_workbook(
     requires { 1 ≤ keep }
     ensures { IfOk result (λ book. book.state ≡ new_state) }
 {
-    let calculator = KeptCalculator::new(alloc, Limits::standard(), keep)?;
+    let calculator = new_calculator(alloc, keep)?;
     Workbook::new(alloc, calculator)
 }
 

@@ -9,7 +9,7 @@ use thiserror::Error;
 /// Why a run ended before its script.
 #[derive(Clone, Copy, PartialEq, Debug, Error)]
 pub enum RunFault {
-    /// Nothing was read or written.
+    /// Memory was refused before anything of the script was read.
     #[error("out of memory")]
     Memory,
     #[error("the script can't be read")]

@@ -43,7 +43,11 @@ fn turn<R: Source, W: Sink, C: Calculator>(
     ensures no_memory { result ≡ Err RunFault.Memory → ⊥ }
     ensures room { MAX_LINE + 1 ≤ vec_capacity line.new }
 {
-    let block = read_block(chunk, reader, line, lines, data_lines)?;
+    let block = match read_block(chunk, reader, line, lines, data_lines) {
+        Ok(block) => block,
+        // What a fault cuts is not answered.
+        Err(fault) => return Err(fault),
+    };
     out.clear();
     let reply = serve_block(book, &block.csv, line, data_lines, out);
     match write_reply(writer, reply, out) {

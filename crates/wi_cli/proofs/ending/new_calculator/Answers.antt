@@ -1,0 +1,9 @@
+use Rattle.std.proofs.Common.{rules}
+use Rattle.wi_cli.proofs.EndingLemmas.{is_standard}
+use Rattle.wi_cli.proofs.ending.new_calculator.Goals as goal
+
+pub returns-clause-stored : goal.returns-clause-stored
+returns-clause-stored c = is_standard c.new.result _ c.new.ensures.stored (search rules) (search rules)
+
+pub returns-clause-values : goal.returns-clause-values
+returns-clause-values c = search rules
