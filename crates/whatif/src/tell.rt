@@ -13,7 +13,9 @@ fn advice(fault: &RunFault) -> &'static str {
         RunFault::Memory => "ask for fewer values by --keep, or make memory free",
         RunFault::Read => "give a file that may be read",
         RunFault::Write => "look where standard output goes",
-        RunFault::ScriptLimit => "put its first lines into a file for --load",
+        RunFault::ScriptLimit => {
+            "cut it between commands into scripts of at most 1,000,000 lines, one for --load and the next as standard input"
+        }
     }
 }
 
