@@ -46,7 +46,9 @@ pub trait Calculator {
 
     /// One edit: puts contents in or takes them away, one after another, or refuses and leaves all as it was.
     fn apply(&mut self, changes: Vec<(Address, Option<Content>)>) -> Result<(), StoreFault>
-        ensures { Applies (applied (stored self.old) changes.items) result (stored self.old) (stored self.new) };
+        ensures applied { Applies (applied (stored self.old) changes.items) result (stored self.old) (stored self.new) }
+        ensures same_evaluations { evaluated self.new ≡ evaluated self.old }
+        ensures same_restarts { restarted self.new ≡ restarted self.old };
 
     /// What a cell shows under replacements, which stand in the order of their addresses, one for each. No sheet is
     /// copied.

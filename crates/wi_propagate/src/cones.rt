@@ -19,15 +19,17 @@ use wi_worlds::World;
 /// Dependents of a cell at any remove, itself among them, by that cell.
 pub type Cones = BTreeMap<Address, BTreeSet<Address>>;
 
-// The greatest number of cones, beside those of the cells that it replaces, that a question takes over from the one before.
+// The greatest number of cones, beside as many as the question with the most replaced cells had, that a question takes over
+// from the one before.
 const MOST_CONES: usize = 64;
 
-/// Takes the cones out for a question with so many replaced cells: none where they are more than it takes over. Takes no memory.
-pub fn take_cones(alloc: Global, replaced: usize, cones: &mut Cones) -> Cones
+/// Takes the cones out for a question, where questions have had at most so many replaced cells: none where they are more than
+/// it takes over. Takes no memory.
+pub fn take_cones(alloc: Global, widest: usize, cones: &mut Cones) -> Cones
     ensures { (s : Sheet) → AreAllCones s cones.old → AreAllCones s result }
 {
     let taken = mem::replace(cones, BTreeMap::new(alloc));
-    if taken.len().saturating_sub(replaced) > MOST_CONES {
+    if taken.len().saturating_sub(widest) > MOST_CONES {
         return BTreeMap::new(alloc);
     }
     taken

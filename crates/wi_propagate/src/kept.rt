@@ -2,6 +2,7 @@
 
 ghost use Rattle.std.specs.Prelude.{◌≡◌, ◌≤◌, ◌+◌, ◌||◌, [], ℕ, None, true, false, if◌then◌else◌, List, length, sum_by, All, IfOk, OnOk, OnErr};
 ghost use Rattle.std.specs.List.{list_any};
+ghost use Rattle.std.specs.List.Sorted.{IsStrictlyIncreasing};
 ghost use Rattle.std.specs.Map.{keys_of};
 ghost use Rattle.wi_values.specs.Replacements.{IsInOrder};
 ghost use Rattle.wi_parser.specs.Sheet.{Sheet};
@@ -14,6 +15,7 @@ ghost use Rattle.wi_sheet.specs.Shown as show;
 ghost use Rattle.wi_sheet.specs.TableEntry.{table_entry, entry_demanded};
 ghost use Rattle.wi_sheet.specs.Demand.{reaching, demanded, wants};
 ghost use Rattle.wi_sheet.specs.Settled.{IsWhatIfSettled};
+ghost use Rattle.wi_sheet.specs.Unmoved.{IsUnmoved};
 ghost use Rattle.wi_propagate.specs.KeptSheet.{generation_in, is_kept, unkept, IsAtHand, HasRoomFor, KeepsAll, KeepsNoMore, KeepsWhileRoom};
 ghost use Rattle.wi_propagate.specs.Right.{AreKeptRight};
 ghost use Rattle.wi_propagate.specs.Inner.Keeping.{HasGeneration};
@@ -47,6 +49,8 @@ pub struct KeptCalculator {
     cones: Cones,
     // What the last questions replaced, for one that replaces the same.
     worlds: LastWorlds,
+    // The most replaced cells that a question had.
+    widest: usize,
     // There but while a question is answered.
     kept: Option<Kept>,
     meter: Meter,
@@ -97,6 +101,7 @@ impl KeptCalculator {
             generations: BTreeMap::new(alloc),
             cones: BTreeMap::new(alloc),
             worlds: LastWorlds::new(alloc),
+            widest: 0,
             kept: Some(kept),
             meter: Meter::new(),
             alloc,
@@ -205,7 +210,8 @@ impl Calculator for KeptCalculator {
         let Some(kept) = self.kept.take() else {
             unreachable!()
         };
-        let cones = take_cones(self.alloc, put.len(), &mut self.cones);
+        self.widest = self.widest.max(put.len());
+        let cones = take_cones(self.alloc, self.widest, &mut self.cones);
         let mut memo = Keeping::new(
             self.alloc,
             &self.store,
@@ -277,7 +283,8 @@ impl Calculator for KeptCalculator {
         let Some(kept) = self.kept.take() else {
             unreachable!()
         };
-        let cones = take_cones(self.alloc, put.len(), &mut self.cones);
+        self.widest = self.widest.max(put.len());
+        let cones = take_cones(self.alloc, self.widest, &mut self.cones);
         let mut memo = Keeping::new(
             self.alloc,
             &self.store,
@@ -303,7 +310,13 @@ impl Calculator for KeptCalculator {
     }
 
     /// Exactly the cells that reach one of these, each once, in row-major order.
-    fn mark(&self, cells: &[Address]) -> Result<Vec<Address>, AllocError> {
+    fn mark(&self, cells: &[Address]) -> Result<Vec<Address>, AllocError>
+        ensures order { IfOk result (λ found. IsStrictlyIncreasing found.items) }
+        ensures marked { let sheet = self.now.stored.sheet in
+            IfOk result (λ found. (c : ℕ) → is_one_of found.items c ≡ in_cone sheet cells.now c) }
+        ensures unmoved { let sheet = self.now.stored.sheet in
+            IfOk result (λ found. (c : ℕ) → is_one_of found.items c ≡ false → IsUnmoved sheet cells.now c) }
+    {
         self.graph.cone(cells)
     }
 

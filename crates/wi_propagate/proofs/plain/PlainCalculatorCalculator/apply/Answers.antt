@@ -1,5 +1,5 @@
 use Rattle.std.proofs.Common.{rules}
 use Rattle.wi_propagate.proofs.plain.PlainCalculatorCalculator.apply.Goals as goal
 
-pub returns : goal.returns
-returns c = search rules
+pub returns-clause-applied : goal.returns-clause-applied
+returns-clause-applied c = search rules
