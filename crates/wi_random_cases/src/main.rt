@@ -107,7 +107,7 @@ fn agrees<W: Write>(
 
 fn tell<W: Write>(tally: &Tally, out: &mut W) -> io::Result<()> {
     writeln!(out, "{SCRIPTS} scripts")?;
-    writeln!(out, "{} values shown", tally.shown)?;
+    writeln!(out, "{} fields of records", tally.fields)?;
     writeln!(out, "{} of them circular", tally.circular)?;
     writeln!(out, "{} lines refused", tally.refused)?;
     writeln!(out, "all agree")?;

@@ -1,4 +1,4 @@
-//! Made scripts over the cells A1 to D4.
+//! Made scripts over the cells A1 to D4, with two scenarios and two more sessions.
 
 ghost use Rattle.std.specs.Prelude.{◌≤◌};
 
@@ -105,17 +105,72 @@ fn push_content(random: &mut Random, index: u64, script: &mut Vec<u8>) -> io::Re
     Ok(())
 }
 
-/// Appends a line.
-fn push_line(random: &mut Random, script: &mut Vec<u8>) -> io::Result<()> {
+/// Appends an edit of one cell.
+fn push_set(random: &mut Random, script: &mut Vec<u8>) -> io::Result<()> {
     let index = random.below(16);
     let (column, row) = cell(index);
-    match random.below(10) {
+    write!(script, "set {column}{row} ")?;
+    push_content(random, index, script)
+}
+
+/// Appends an edit of a rectangle.
+fn push_area_edit(random: &mut Random, script: &mut Vec<u8>) -> io::Result<()> {
+    if random.below(2) == 0 {
+        script.extend_from_slice(b"clear ")?;
+    } else {
+        let (column, row) = cell(random.below(16));
+        write!(script, "fill {column}{row} ")?;
+    }
+    let (column, row) = cell(random.below(16));
+    let (other_column, other_row) = cell(random.below(16));
+    write!(script, "{column}{row}:{other_column}{other_row}")?;
+    Ok(())
+}
+
+/// Appends a change of a scenario, or of the one that is used.
+fn push_scenario(random: &mut Random, script: &mut Vec<u8>) -> io::Result<()> {
+    let name = random.below(2);
+    let (column, row) = cell(random.below(16));
+    match random.below(12) {
+        0 => script.extend_from_slice(b"use")?,
+        1 => write!(script, "scenario s{name} {column}{row}")?,
+        2 => write!(script, "base s{name} s{}", 1 - name)?,
+        3 => write!(script, "base s{name}")?,
+        4..=6 => write!(script, "use s{name}")?,
+        _ => write!(script, "scenario s{name} {column}{row} {}", random.below(7))?,
+    }
+    Ok(())
+}
+
+/// Appends a question of changes, of two scenarios or of a table, or who asks from there on.
+fn push_question(random: &mut Random, script: &mut Vec<u8>) -> io::Result<()> {
+    let (column, row) = cell(random.below(16));
+    let (input_column, input_row) = cell(random.below(16));
+    match random.below(8) {
+        0 => write!(script, "as p{}", random.below(2))?,
+        1 => script.extend_from_slice(b"compare - s0 A1:D4")?,
+        2 => script.extend_from_slice(b"compare s0 s1 A1:D4")?,
+        3 | 4 => write!(
+            script,
+            "table {column}{row} {input_column}{input_row} A1:A4"
+        )?,
+        _ => script.extend_from_slice(b"changes")?,
+    }
+    Ok(())
+}
+
+/// Appends a line.
+fn push_line(random: &mut Random, script: &mut Vec<u8>) -> io::Result<()> {
+    match random.below(16) {
         0 => script.extend_from_slice(b"show A1:D4")?,
-        1..=3 => write!(script, "show {column}{row}")?,
-        _ => {
-            write!(script, "set {column}{row} ")?;
-            push_content(random, index, script)?;
+        1..=3 => {
+            let (column, row) = cell(random.below(16));
+            write!(script, "show {column}{row}")?;
         }
+        4 => push_area_edit(random, script)?,
+        5 | 6 => push_scenario(random, script)?,
+        7 => push_question(random, script)?,
+        _ => push_set(random, script)?,
     }
     script.push(b'\n')?;
     Ok(())

@@ -1,9 +1,9 @@
 //! What the replies of many scripts had in them.
 
-/// How many values were shown, how many of these were circular, and how many lines were refused.
+/// How many fields records had, how many of these told of a cycle, and how many lines were refused.
 #[derive(Clone, Copy)]
 pub struct Tally {
-    pub shown: u64,
+    pub fields: u64,
     pub circular: u64,
     pub refused: u64,
 }
@@ -11,7 +11,7 @@ pub struct Tally {
 impl Tally {
     pub fn new() -> Tally {
         Tally {
-            shown: 0,
+            fields: 0,
             circular: 0,
             refused: 0,
         }
@@ -31,7 +31,7 @@ impl Tally {
 
     fn take_field(&mut self, field: &[u8]) {
         if field.starts_with(b"\"") {
-            self.shown = self.shown.saturating_add(1);
+            self.fields = self.fields.saturating_add(1);
         }
         if field.starts_with(b"\"#CIRC!\"") {
             self.circular = self.circular.saturating_add(1);

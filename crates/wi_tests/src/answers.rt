@@ -1,12 +1,14 @@
 //! What calculators are asked, and what they are to answer.
 
+ghost use Rattle.wi_values.specs.Replacements.{IsInOrder};
+
 use crate::cells::{area, cell, changes};
 use crate::texts::expect_that;
 use std::alloc::{AllocError, Global};
 use std::process::Abort;
 use wi_propagate::Calculator;
 use wi_store::StoreFault;
-use wi_values::{Address, Value};
+use wi_values::{Address, Replacement, Value};
 
 // Puts contents into cells by one edit, where there is memory for them.
 fn edit<C: Calculator>(
@@ -91,6 +93,29 @@ fn asked<C: Calculator>(
     }
 }
 
+/// What a cell shows under replacements, asked for again where memory is refused.
+pub fn expect_under<C: Calculator>(
+    rt: &impl Abort,
+    calculator: &mut C,
+    put: &[Replacement],
+    at: Address,
+    wanted: bool,
+)
+    requires { IsInOrder put.now }
+{
+    let value = match calculator.value(put, at) {
+        Ok(value) => value,
+        Err(_) => calculator.value(put, at).expect(rt, "a value"),
+    };
+    expect_that(rt, truth(value) == Some(wanted), "under replacements");
+}
+
+/// That a cell shows no truth value, asked for again where memory is refused.
+pub fn expect_no_truth<C: Calculator>(rt: &impl Abort, calculator: &mut C, at: Address) {
+    let answer = asked(calculator, at, &[]);
+    expect_that(rt, answer.is_none(), "no truth value");
+}
+
 // What is answered with no evaluation.
 fn expect_looked_up<C: Calculator>(
     rt: &impl Abort,
@@ -136,6 +161,24 @@ pub fn expect_edit<C: Calculator>(
         Ok(()) => Some(()),
         Err(fault) => {
             expect_unedited(rt, calculator, fault);
+            fill(rt, alloc, calculator, texts)
+        }
+    }
+}
+
+/// An edit of a sheet where a cell shows no truth value. Where memory is refused, it still shows none, and the edit is made again.
+pub fn expect_edit_of_cycle<C: Calculator>(
+    rt: &impl Abort,
+    alloc: Global,
+    calculator: &mut C,
+    at: Address,
+    texts: &str,
+) -> Option<()> {
+    match edit(rt, alloc, calculator, texts)? {
+        Ok(()) => Some(()),
+        Err(fault) => {
+            expect_that(rt, fault == StoreFault::Memory, "memory");
+            expect_no_truth(rt, calculator, at);
             fill(rt, alloc, calculator, texts)
         }
     }
