@@ -29,8 +29,8 @@ pub(crate) struct Turns {
 }
 
 /// The cells that turn once what is next is put in, of which the cone is given in row-major order. Where each cell reads what
-/// it read before, the work grows with what is next; where no cell is circular and no cycle is closed, with what that reads
-/// and its rows too, times the logarithm of the count of the cone, and takes no memory; else also with the cone and what its
+/// it read before, the work grows with what is next; where no cell is circular and no cycle is closed, also with the rows of
+/// what that reads, times the logarithm of the count of the cone, and it takes no memory; else also with the cone and what its
 /// cells read, times logarithms.
 pub(crate) fn turns_of(
     alloc: Global,

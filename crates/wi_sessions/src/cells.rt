@@ -23,10 +23,9 @@ fn make_one(rooms: &mut Rooms, noted: &mut Vec<Address>, at: Address) -> Result<
     ensures noted { VacantOnlyAt false noted.old.items rooms.old.entries → VacantOnlyAt false noted.new.items rooms.new.entries }
     ensures made { OnOk result ((c : ℕ) → room_of rooms.new.entries c ≡ option_or (room_of rooms.old.entries c) (new_room (at ∷ []) c)) }
 {
-    noted.reserve(1)?;
     if let Entry::Vacant(room) = rooms.entry(at)? {
+        noted.push(at)?;
         room.insert(false);
-        noted.push_reserved(at);
     }
     Ok(())
 }

@@ -1,4 +1,4 @@
-use Rattle.std.proofs.Common.{rules, ◌≡◌, ◌++◌, ◌∷◌, [], ℕ, Bool, false, List, Option, None, sym, ap, ◌∙◌, arith}
+use Rattle.std.proofs.Common.{rules, ◌≡◌, Bool, false, Option, None, sym, ap, ◌∙◌, arith}
 use Rattle.std.specs.Prelude.{unwrap_or}
 use Rattle.std.specs.BTreeMap.Entry.{map_with_value}
 use Rattle.wi_sessions.specs.Inner.Rooms.{room_of}
@@ -6,23 +6,22 @@ use Rattle.wi_sessions.proofs.RoomLemmas.{held_made}
 use Rattle.wi_sessions.proofs.CellLemmas.{made_one, noted_made}
 use Rattle.wi_sessions.proofs.cells.make_one.Goals as goal
 
-pub returns-in-Vacant-clause-pending : goal.returns-in-Vacant-clause-pending
-returns-in-Vacant-clause-pending c =
+pub returns-in_ok-push-clause-pending : goal.returns-in_ok-push-clause-pending
+returns-in_ok-push-clause-pending c =
     let old = c.args.rooms.now.entries in
     let w = c.insert.result.now in
     let vacant : w ≡ false = search rules in
     let none : room_of old c.args.at ≡ None = rw c.in-Vacant.is at c.in_ok-room.ensures.found in
     λ q. grind (arith, held_made false c.args.at q w old (map_with_value c.in_ok-room.field-0 w).entries ((c.in_ok-room.ensures.update.0 w).0 q) (vacant ∙ sym (ap (λ (o : Option Bool). unwrap_or o false) none)))
 
-pub returns-in-Vacant-clause-noted : goal.returns-in-Vacant-clause-noted
-returns-in-Vacant-clause-noted c =
+pub returns-in_ok-push-clause-noted : goal.returns-in_ok-push-clause-noted
+returns-in_ok-push-clause-noted c =
     let w = c.insert.result.now in
-    noted_made c.args.noted.now.items c.push_reserved.new.self.items c.args.at w c.args.rooms.now.entries _
-    (c.push_reserved.ensures.items ∙ ap (λ (xs : List ℕ). xs ++ c.args.at ∷ []) c.in_ok-reserve.ensures.items)
+    noted_made c.args.noted.now.items c.push.new.self.items c.args.at w c.args.rooms.now.entries _ c.in_ok-push.ensures.items
     (λ q. grind (arith, (c.in_ok-room.ensures.update.0 w).0 q))
 
-pub returns-in-Vacant-clause-made : goal.returns-in-Vacant-clause-made
-returns-in-Vacant-clause-made c =
+pub returns-in_ok-push-clause-made : goal.returns-in_ok-push-clause-made
+returns-in_ok-push-clause-made c =
     let old = c.args.rooms.now.entries in
     let w = c.insert.result.now in
     let vacant : w ≡ false = search rules in
