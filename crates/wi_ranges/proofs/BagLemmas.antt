@@ -1,89 +1,60 @@
--- Laws of counts, and of the index that goes with them.
-use Rattle.std.proofs.Common.{◌≡◌, ℕ, ◌+◌, ◌-◌, ◌*◌, ◌<◌, ◌≤◌, Bool, true, false, ◌&&◌, cond, List, [], ◌∷◌, length, Option, Some, None, Result, Ok, Err, OnOk, OnErr, refl, sym, ap, subst, ◌∙◌, arith, nat_lt}
+-- Laws of the bag that the pieces tell, and of the pieces of a pair put in or taken out.
+use Rattle.std.proofs.Common.{◌≡◌, ℕ, ◌+◌, ◌-◌, ◌<◌, ◌≤◌, Bool, true, false, ◌&&◌, cond, not, length, List, Result, Ok, Err, OnOk, OnErr, refl, sym, ap, subst, ◌∙◌, arith, nat_lt}
 use Rattle.std.specs.Prelude.{if◌then◌else◌}
-use Rattle.std.specs.Option.{unwrap_or}
 use Rattle.std.specs.Result.{is_err}
-use Rattle.std.specs.Ordering.{nat_cmp, ordering_then, is_eq, match_ordering}
+use Rattle.std.specs.Ordering.{nat_cmp, ordering_then, is_eq}
 use Rattle.std.specs.declared.cmp.Ordering.TheVariants.{Less, Equal, Greater}
 use Rattle.std.specs.declared.cmp.Ordering.{Ordering}
-use Rattle.std.specs.Map.{lookup, set_value, remove_entry}
-use Rattle.std.specs.BTreeMap.{is_at, insert_entry}
+use Rattle.std.specs.BTreeMap.{is_at}
 use Rattle.std.proofs.Math.Bool.{and-true}
-use Rattle.std.proofs.Math.Nat.{add-mul}
-use Rattle.std.proofs.lemmas.Nat.{mul-le}
 use Rattle.std.specs.List.Sorted.{IsStrictlySortedBy}
-use Rattle.std.proofs.lemmas.Bool.{true≢false, and_right, and_parts, cond-true, cond-false}
+use Rattle.std.proofs.lemmas.Bool.{true≢false, and_right, and_parts, cond-true, cond-false, ltb-false, lt-ltb}
 use Rattle.std.proofs.lemmas.Bool.Decides.{nat_tests}
 use Rattle.std.proofs.lemmas.Map.Lookups.{btree_set_from_contains}
 use Rattle.wi_ranges.specs.declared.block.Block.{Block}
 use Rattle.wi_ranges.specs.declared.pair.RangePair.{RangePair}
 use Rattle.wi_ranges.specs.declared.pair.Numbered.{Numbered}
 use Rattle.wi_ranges.specs.Blocks.{blocks_in, blocks_of, first_row}
-use Rattle.wi_ranges.specs.Bag.{Bag, Sets, pair_cmp, is_same, count_of, HasOneMore, HasOneLess, pieces_of}
-use Rattle.wi_ranges.specs.Inner.Index.{Piece, piece_cmp, has_piece, is_among, is_one, is_piece, HasPieces, LacksPieces, IsIndexed, AreCounted, HasNoZero, KeepsOtherPieces}
-use Rattle.wi_ranges.proofs.Found.{some_block}
+use Rattle.wi_ranges.specs.Bag.{Bag, pair_cmp, is_same, count_of, HasOneMore, HasOneLess}
+use Rattle.wi_ranges.specs.Inner.Index.{AreWhole, Gains, HasPieces, IsIndexed, KeepsOtherPieces, LacksPieces, Piece, bag_of, has_piece, is_among, is_one, is_piece, piece_cmp}
 use Rattle.wi_ranges.proofs.Exact.{same_is, same_self, one_is, exact_piece, piece_total}
+use Rattle.wi_ranges.proofs.Sums.{gains_count, gains_length, gains_pieces, has_block}
 
--- ---- counts
+-- ---- one more, or less
 
-pub has_one_more : (p : RangePair) (n : ℕ) (old new : Bag) → count_of old p ≡ n → Sets p (Some (n + 1)) old new → HasOneMore p old new
-has_one_more p n old new e u q = ap (λ o. unwrap_or o 0) (u q) ∙ by (is_same p q) refl
+same_both : (p q : RangePair) → is_same p q ≡ is_same q p
+same_both p q = by (is_same p q) (is_same q p) refl refl
   where
-    by : (b : Bool) → is_same p q ≡ b → unwrap_or (cond b (Some (n + 1)) (lookup (is_same q) old)) 0 ≡ (if b then count_of old q + 1 else count_of old q)
-    by true h = ap (λ m. m + 1) (sym e ∙ ap (λ (x : RangePair). count_of old x) (same_is p q h))
-    by false h = refl
+    by : (a b : Bool) → is_same p q ≡ a → is_same q p ≡ b → a ≡ b
+    by true true h k = refl
+    by false false h k = refl
+    by true false h k = absurd (true≢false (sym (same_self p) ∙ ap (λ (x : RangePair). is_same x p) (same_is p q h) ∙ k))
+    by false true h k = absurd (true≢false (sym (same_self q) ∙ ap (λ (x : RangePair). is_same x q) (same_is q p k) ∙ h))
 
-pub has_one_less : (p : RangePair) (w : Option ℕ) (old new : Bag) → unwrap_or w 0 ≡ count_of old p - 1 → Sets p w old new → HasOneLess p old new
-has_one_less p w old new e u q = ap (λ o. unwrap_or o 0) (u q) ∙ by (is_same p q) refl
+pub has_one_more : (m : Numbered) (ks ls : List Piece) → first_row m.pair < 1048576 → Gains (blocks_of m.pair) m ks ls → HasOneMore m.pair (bag_of ks) (bag_of ls)
+has_one_more m ks ls l g q = gains_count m ks ls l g q ∙ ap (λ b. count_of (bag_of ks) q + cond b 1 0) (same_both q m.pair) ∙ by (is_same m.pair q) (count_of (bag_of ks) q)
   where
-    by : (b : Bool) → is_same p q ≡ b → unwrap_or (cond b w (lookup (is_same q) old)) 0 ≡ (if b then count_of old q - 1 else count_of old q)
-    by true h = e ∙ ap (λ (x : RangePair). count_of old x - 1) (same_is p q h)
-    by false h = refl
+    by : (b : Bool) (n : ℕ) → n + cond b 1 0 ≡ (if b then n + 1 else n)
+    by true n = refl
+    by false n = omega arith
+
+pub has_one_less : (m : Numbered) (ks ls : List Piece) → first_row m.pair < 1048576 → Gains (blocks_of m.pair) m ls ks → HasOneLess m.pair (bag_of ks) (bag_of ls)
+has_one_less m ks ls l g q =
+    by (is_same m.pair q) (count_of (bag_of ks) q) (count_of (bag_of ls) q) (gains_count m ls ks l g q ∙ ap (λ b. count_of (bag_of ls) q + cond b 1 0) (same_both q m.pair))
+  where
+    by : (b : Bool) (n k : ℕ) → n ≡ k + cond b 1 0 → k ≡ (if b then n - 1 else n)
+    by true n k e = omega (arith, e)
+    by false n k e = omega (arith, e)
 
 -- nothing is there to take away
-pub has_none : (p : RangePair) (bag : Bag) → lookup (is_same p) bag ≡ None → HasOneLess p bag bag
+pub has_none : (p : RangePair) (bag : Bag) → count_of bag p ≡ 0 → HasOneLess p bag bag
 has_none p bag e q = by (is_same p q) refl
   where
     by : (b : Bool) → is_same p q ≡ b → count_of bag q ≡ (if b then count_of bag q - 1 else count_of bag q)
     by true h =
-        let z : count_of bag q ≡ 0 = ap (λ (x : RangePair). count_of bag x) (sym (same_is p q h)) ∙ ap (λ o. unwrap_or o 0) e in
+        let z : count_of bag q ≡ 0 = ap (λ (x : RangePair). count_of bag x) (sym (same_is p q h)) ∙ e in
         omega (arith, z)
     by false h = refl
-
-some_is : (m n : ℕ) → Some m ≡ Some n → m ≡ n
-some_is m n e = ap (λ o. unwrap_or o 0) e
-
-pub no_zero_set : (p : RangePair) (m : ℕ) (old new : Bag) → 0 < m → HasNoZero old → Sets p (Some m) old new → HasNoZero new
-no_zero_set p m old new l z u q k h = by (is_same p q) (sym (u q) ∙ h)
-  where
-    by : (b : Bool) → cond b (Some m) (lookup (is_same q) old) ≡ Some k → 0 < k
-    by true e = subst (λ j. 0 < j) (some_is m k e) l
-    by false e = z q k e
-
-pub no_zero_taken : (p : RangePair) (old new : Bag) → HasNoZero old → Sets p None old new → HasNoZero new
-no_zero_taken p old new z u q k h = by (is_same p q) (sym (u q) ∙ h)
-  where
-    by : (b : Bool) → cond b None (lookup (is_same q) old) ≡ Some k → 0 < k
-    by true e = cc
-    by false e = z q k e
-
--- where there is none of a pair, it has no entry
-pub none_of_zero : (p : RangePair) (bag : Bag) → HasNoZero bag → count_of bag p ≡ 0 → lookup (is_same p) bag ≡ None
-none_of_zero p bag z e = by (lookup (is_same p) bag) refl
-  where
-    by : (o : Option ℕ) → lookup (is_same p) bag ≡ o → o ≡ None
-    by None h = refl
-    by (Some n) h =
-        let pos : 0 < n = z p n h in
-        let zero : n ≡ 0 = sym (ap (λ o. unwrap_or o 0) h) ∙ e in
-        absurd (omega (arith, pos, zero))
-
-pub some_of_more : (p : RangePair) (n : ℕ) (bag : Bag) → 0 < n → count_of bag p ≡ n → lookup (is_same p) bag ≡ Some n
-some_of_more p n bag l e = by (lookup (is_same p) bag) refl
-  where
-    by : (o : Option ℕ) → lookup (is_same p) bag ≡ o → o ≡ Some n
-    by None h = let zero : 0 ≡ n = sym (ap (λ o. unwrap_or o 0) h) ∙ e in absurd (omega (arith, l, zero))
-    by (Some k) h = ap (λ j. Some j) (sym (ap (λ o. unwrap_or o 0) h) ∙ e)
 
 -- ---- the index
 
@@ -176,121 +147,109 @@ has_last m bag ks i e = piece_of_m m bag ks true i (ap (λ c. nat_lt m.number c)
 pub same_pieces : (bag : Bag) (ks ls : List Piece) → IsIndexed bag ks → IsIndexed bag ls → IsStrictlySortedBy piece_cmp ks → IsStrictlySortedBy piece_cmp ls → ks ≡ ls
 same_pieces bag ks ls i j s t = btree_set_from_contains piece_total (record { keys = ks }) (record { keys = ls }) s t (λ q. i q ∙ sym (j q)) exact_piece
 
--- ---- how many pieces
+-- ---- a pair put in or taken out at its blocks, all of which a block has
 
-pub pieces_set : (p : RangePair) (n w : ℕ) (es : Bag) → lookup (is_same p) es ≡ Some n
-    → pieces_of (set_value (is_same p) es w) + n * length (blocks_of p) ≡ pieces_of es + w * length (blocks_of p)
-pieces_set p n w [] h = cc
-pieces_set p n w (e ∷ es) h = by (is_same p e.0) refl h (pieces_set p n w es)
-  where
-    by : (b : Bool) → is_same p e.0 ≡ b → cond b (Some e.1) (lookup (is_same p) es) ≡ Some n
-        → (lookup (is_same p) es ≡ Some n → pieces_of (set_value (is_same p) es w) + n * length (blocks_of p) ≡ pieces_of es + w * length (blocks_of p))
-        → pieces_of (cond b ((e.0, w) ∷ es) (e ∷ set_value (is_same p) es w)) + n * length (blocks_of p)
-        ≡ (e.1 * length (blocks_of e.0) + pieces_of es) + w * length (blocks_of p)
-    by true s k r =
-        let one : n ≡ e.1 = sym (some_is e.1 n k) in
-        let here : length (blocks_of p) ≡ length (blocks_of e.0) = ap (λ (x : RangePair). length (blocks_of x)) (same_is p e.0 s) in
-        rw (one, here) (omega arith)
-    by false s k r = omega (arith, r k)
-
-pub pieces_taken : (p : RangePair) (n : ℕ) (es : Bag) → lookup (is_same p) es ≡ Some n → pieces_of es ≡ pieces_of (remove_entry (is_same p) es) + n * length (blocks_of p)
-pieces_taken p n [] h = cc
-pieces_taken p n (e ∷ es) h = by (is_same p e.0) refl h (pieces_taken p n es)
-  where
-    by : (b : Bool) → is_same p e.0 ≡ b → cond b (Some e.1) (lookup (is_same p) es) ≡ Some n
-        → (lookup (is_same p) es ≡ Some n → pieces_of es ≡ pieces_of (remove_entry (is_same p) es) + n * length (blocks_of p))
-        → e.1 * length (blocks_of e.0) + pieces_of es ≡ pieces_of (cond b es (e ∷ remove_entry (is_same p) es)) + n * length (blocks_of p)
-    by true s k r =
-        let one : n ≡ e.1 = sym (some_is e.1 n k) in
-        let here : length (blocks_of p) ≡ length (blocks_of e.0) = ap (λ (x : RangePair). length (blocks_of x)) (same_is p e.0 s) in
-        rw (one, here) (omega arith)
-    by false s k r = omega (arith, r k)
-
-pub pieces_more : (p : RangePair) (n : ℕ) (es : Bag) → lookup (is_same p) es ≡ Some n
-    → pieces_of (set_value (is_same p) es (n + 1)) ≡ pieces_of es + length (blocks_of p)
-pieces_more p n es h = omega (arith, pieces_set p n (n + 1) es h, add-mul n 1 (length (blocks_of p)))
-
-pub pieces_less : (p : RangePair) (n : ℕ) (es : Bag) → 1 < n → lookup (is_same p) es ≡ Some n
-    → pieces_of es ≡ pieces_of (set_value (is_same p) es (n - 1)) + length (blocks_of p)
-pieces_less p n es l h =
-    let one : n ≡ (n - 1) + 1 = omega (arith, l) in
-    let times : n * length (blocks_of p) ≡ (n - 1) * length (blocks_of p) + 1 * length (blocks_of p) = ap (λ m. m * length (blocks_of p)) one ∙ add-mul (n - 1) 1 (length (blocks_of p)) in
-    omega (arith, pieces_set p n (n - 1) es h, times)
-
--- a new pair
-pub pieces_new : (p : RangePair) (n : ℕ) (es : Bag) → lookup (is_same p) es ≡ None → pieces_of (insert_entry pair_cmp es p n) ≡ pieces_of es + n * length (blocks_of p)
-pieces_new p n [] h = omega arith
-pieces_new p n (e ∷ es) h = by (pair_cmp p e.0) h (pieces_new p n es)
-  where
-    by : (o : Ordering) → cond (is_eq o) (Some e.1) (lookup (is_same p) es) ≡ None
-        → (lookup (is_same p) es ≡ None → pieces_of (insert_entry pair_cmp es p n) ≡ pieces_of es + n * length (blocks_of p))
-        → pieces_of (match_ordering o ((p, n) ∷ e ∷ es) ((e.0, n) ∷ es) (e ∷ insert_entry pair_cmp es p n)) ≡ (e.1 * length (blocks_of e.0) + pieces_of es) + n * length (blocks_of p)
-    by Less k r = omega arith
-    by Equal k r = cc
-    by Greater k r = omega (arith, r k)
-
--- a pair that has a block is there no more often than there are pieces
-pub count_below : (p : RangePair) (bag : Bag) → 0 < length (blocks_of p) → count_of bag p ≤ pieces_of bag
-count_below p [] l = omega arith
-count_below p (e ∷ es) l = by (is_same p e.0) refl (count_below p es l)
-  where
-    by : (b : Bool) → is_same p e.0 ≡ b → count_of es p ≤ pieces_of es
-        → unwrap_or (cond b (Some e.1) (lookup (is_same p) es)) 0 ≤ e.1 * length (blocks_of e.0) + pieces_of es
-    by true s k =
-        let here : length (blocks_of p) ≡ length (blocks_of e.0) = ap (λ (x : RangePair). length (blocks_of x)) (same_is p e.0 s) in
-        let times : e.1 * 1 ≤ e.1 * length (blocks_of e.0) = mul-le e.1 1 e.1 (length (blocks_of e.0)) (omega arith) (omega (arith, here, l)) in
-        omega (arith, times)
-    by false s k = omega (arith, k)
-
--- ---- one more pair, at its blocks, all of which a block has
-
-as_many : (p : RangePair) (x : Block) → blocks_in p x ≡ blocks_of p → length (blocks_in p x) ≡ length (blocks_of p)
-as_many p x e = ap (λ (zs : List Block). length zs) e
-
-pub number_below : (m : Numbered) (x : Block) (bag : Bag) (ks ls : List Piece) → blocks_in m.pair x ≡ blocks_of m.pair → first_row m.pair < 1048576 → IsIndexed bag ks → AreCounted bag ks
-    → count_of bag m.pair ≡ m.number → (LacksPieces (blocks_in m.pair x) m ks → length ls ≡ length ks + length (blocks_in m.pair x)) → m.number < length ls
-number_below m x bag ks ls e l i k n more =
-    let some : 0 < length (blocks_of m.pair) = some_block m.pair l in
-    let long = more (subst (λ (zs : List Block). LacksPieces zs m ks) (sym e) (lacks_next m bag ks i n)) in
-    omega (arith, count_below m.pair bag some, n, k.1, long, as_many m.pair x e, some)
-
-pub others_kept : (m : Numbered) (x : Block) (ks ls : List Piece) → blocks_in m.pair x ≡ blocks_of m.pair
+others_kept : (m : Numbered) (x : Block) (ks ls : List Piece) → blocks_in m.pair x ≡ blocks_of m.pair
     → ((q : Piece) → is_piece (blocks_in m.pair x) m q ≡ false → has_piece ls q ≡ has_piece ks q) → KeepsOtherPieces m ks ls
 others_kept m x ks ls e h = subst (λ (zs : List Block). (q : Piece) → is_piece zs m q ≡ false → has_piece ls q ≡ has_piece ks q) e h
 
-pub lacks_all : (m : Numbered) (x : Block) (ls : List Piece) → blocks_in m.pair x ≡ blocks_of m.pair → LacksPieces (blocks_in m.pair x) m ls → LacksPieces (blocks_of m.pair) m ls
+lacks_all : (m : Numbered) (x : Block) (ls : List Piece) → blocks_in m.pair x ≡ blocks_of m.pair → LacksPieces (blocks_in m.pair x) m ls → LacksPieces (blocks_of m.pair) m ls
 lacks_all m x ls e h = subst (λ (zs : List Block). LacksPieces zs m ls) e h
 
-pub has_all : (m : Numbered) (x : Block) (ls : List Piece) → blocks_in m.pair x ≡ blocks_of m.pair → HasPieces (blocks_in m.pair x) m ls → HasPieces (blocks_of m.pair) m ls
-has_all m x ls e h = subst (λ (zs : List Block). HasPieces zs m ls) e h
+pub gained : (m : Numbered) (x : Block) (ks ls : List Piece) → blocks_in m.pair x ≡ blocks_of m.pair → AreWhole ks → count_of (bag_of ks) m.pair ≡ m.number
+    → (LacksPieces (blocks_in m.pair x) m ks → Gains (blocks_in m.pair x) m ks ls) → Gains (blocks_of m.pair) m ks ls
+gained m x ks ls e w n g =
+    subst (λ (zs : List Block). Gains zs m ks ls) e (g (subst (λ (zs : List Block). LacksPieces zs m ks) (sym e) (lacks_next m (bag_of ks) ks w.0 n)))
 
-pub counted_more : (m : Numbered) (x : Block) (old new : Bag) (ks ls : List Piece) → blocks_in m.pair x ≡ blocks_of m.pair → IsIndexed old ks → AreCounted old ks → count_of old m.pair ≡ m.number
-    → (IsStrictlySortedBy piece_cmp ks → IsStrictlySortedBy piece_cmp ls)
-    → (LacksPieces (blocks_in m.pair x) m ks → length ls ≡ length ks + length (blocks_in m.pair x))
-    → pieces_of new ≡ pieces_of old + length (blocks_of m.pair) → AreCounted new ls
-counted_more m x old new ks ls e i k n order more total =
-    let long = more (subst (λ (zs : List Block). LacksPieces zs m ks) (sym e) (lacks_next m old ks i n)) in
-    (order k.0, omega (arith, k.1, long, as_many m.pair x e, total))
+pub lost : (m : Numbered) (x : Block) (ks ls : List Piece) → blocks_in m.pair x ≡ blocks_of m.pair → AreWhole ks → count_of (bag_of ks) m.pair ≡ m.number + 1
+    → (HasPieces (blocks_in m.pair x) m ks → Gains (blocks_in m.pair x) m ls ks) → Gains (blocks_of m.pair) m ls ks
+lost m x ks ls e w n g =
+    subst (λ (zs : List Block). Gains zs m ls ks) e (g (subst (λ (zs : List Block). HasPieces zs m ks) (sym e) (has_last m (bag_of ks) ks w.0 n)))
 
-pub counted_less : (m : Numbered) (x : Block) (old new : Bag) (ks ls : List Piece) → blocks_in m.pair x ≡ blocks_of m.pair → IsIndexed old ks → AreCounted old ks → count_of old m.pair ≡ m.number + 1
-    → (IsStrictlySortedBy piece_cmp ks → IsStrictlySortedBy piece_cmp ls)
-    → (HasPieces (blocks_in m.pair x) m ks → length ks ≡ length ls + length (blocks_in m.pair x))
-    → pieces_of old ≡ pieces_of new + length (blocks_of m.pair) → AreCounted new ls
-counted_less m x old new ks ls e i k n order less total =
-    let long = less (subst (λ (zs : List Block). HasPieces zs m ks) (sym e) (has_last m old ks i n)) in
-    (order k.0, omega (arith, k.1, long, as_many m.pair x e, total))
+pub whole_more : (m : Numbered) (x : Block) (ks ls : List Piece) → blocks_in m.pair x ≡ blocks_of m.pair → first_row m.pair < 1048576 → AreWhole ks → count_of (bag_of ks) m.pair ≡ m.number
+    → Gains (blocks_of m.pair) m ks ls → HasPieces (blocks_in m.pair x) m ls → ((q : Piece) → is_piece (blocks_in m.pair x) m q ≡ false → has_piece ls q ≡ has_piece ks q)
+    → (IsStrictlySortedBy piece_cmp ks → IsStrictlySortedBy piece_cmp ls) → AreWhole ls
+whole_more m x ks ls e l w n g put kept order =
+    let long = gains_length m (blocks_of m.pair) ks ls g in (
+      indexed_more m (bag_of ks) (bag_of ls) ks ls w.0 n (has_one_more m ks ls l g) (subst (λ (zs : List Block). HasPieces zs m ls) e put) (others_kept m x ks ls e kept),
+      (order w.1.0, omega (arith, w.1.1, long, gains_pieces m ks ls l g)),
+    )
 
-pub counted_back : (bag : Bag) (ks ls : List Piece) → IsIndexed bag ks → IsIndexed bag ls → AreCounted bag ks → IsStrictlySortedBy piece_cmp ls → AreCounted bag ls
-counted_back bag ks ls i j k t = (t, sym (ap (λ (us : List Piece). length us) (same_pieces bag ks ls i j k.0 t)) ∙ k.1)
+pub whole_less : (m : Numbered) (x : Block) (ks ls : List Piece) → blocks_in m.pair x ≡ blocks_of m.pair → first_row m.pair < 1048576 → AreWhole ks → count_of (bag_of ks) m.pair ≡ m.number + 1
+    → Gains (blocks_of m.pair) m ls ks → LacksPieces (blocks_in m.pair x) m ls → ((q : Piece) → is_piece (blocks_in m.pair x) m q ≡ false → has_piece ls q ≡ has_piece ks q)
+    → (IsStrictlySortedBy piece_cmp ks → IsStrictlySortedBy piece_cmp ls) → AreWhole ls
+whole_less m x ks ls e l w n g taken kept order =
+    let long = gains_length m (blocks_of m.pair) ls ks g in (
+      indexed_less m (bag_of ks) (bag_of ls) ks ls w.0 n (has_one_less m ks ls l g) (lacks_all m x ls e taken) (others_kept m x ks ls e kept),
+      (order w.1.0, omega (arith, w.1.1, long, gains_pieces m ls ks l g)),
+    )
 
--- what is left once the pieces that were put in are taken out again
-pub kept_back : (m : Numbered) (x : Block) (ks ls us : List Piece) → blocks_in m.pair x ≡ blocks_of m.pair → KeepsOtherPieces m ks ls
-    → ((q : Piece) → is_piece (blocks_in m.pair x) m q ≡ false → has_piece us q ≡ has_piece ls q) → KeepsOtherPieces m ks us
-kept_back m x ks ls us e k h q t = others_kept m x ls us e h q t ∙ k q t
+-- ---- a pair added by a number, where there may be one of this number
 
-pub at_error : {T E P : Type 0} (r : Result T E) → is_err r ≡ true → OnErr r P → P
-at_error (Ok v) e h = absurd (true≢false (sym e))
-at_error (Err v) e h = h
+next_count : (j n : ℕ) → j ≤ n → nat_lt j n ≡ false → n ≡ j
+next_count j n l h = let k : n ≤ j = ltb-false j n h in omega (arith, l, k)
+
+all_there : (m : Numbered) (x : Block) (ks : List Piece) → blocks_in m.pair x ≡ blocks_of m.pair → AreWhole ks → nat_lt m.number (count_of (bag_of ks) m.pair) ≡ true → HasPieces (blocks_in m.pair x) m ks
+all_there m x ks e w h = subst (λ (zs : List Block). HasPieces zs m ks) (sym e) (piece_of_m m (bag_of ks) ks true w.0 h)
+
+-- what is put in where it is already changes nothing
+stays : (m : Numbered) (x : Block) (ks ls : List Piece) → AreWhole ks → HasPieces (blocks_in m.pair x) m ks
+    → ((q : Piece) → is_piece (blocks_in m.pair x) m q ≡ false → has_piece ls q ≡ has_piece ks q) → ((q : Piece) → has_piece ks q ≡ true → has_piece ls q ≡ true)
+    → (IsStrictlySortedBy piece_cmp ks → IsStrictlySortedBy piece_cmp ls) → ls ≡ ks
+stays m x ks ls w has kept put order = btree_set_from_contains piece_total (record { keys = ls }) (record { keys = ks }) (order w.1.0) w.1.0 same exact_piece
+  where
+    by : (q : Piece) (b : Bool) → is_piece (blocks_in m.pair x) m q ≡ b → has_piece ls q ≡ has_piece ks q
+    by q true h = put q (has q h) ∙ sym (has q h)
+    by q false h = kept q h
+
+    same : (q : Piece) → has_piece ls q ≡ has_piece ks q
+    same q = by q (is_piece (blocks_in m.pair x) m q) refl
+
+pub refused : (m : Numbered) (x : Block) (ks ls us : List Piece) → blocks_in m.pair x ≡ blocks_of m.pair → AreWhole ks → m.number ≤ count_of (bag_of ks) m.pair
+    → (HasPieces (blocks_in m.pair x) m ks → ⊥) → ((q : Piece) → is_piece (blocks_in m.pair x) m q ≡ false → has_piece ls q ≡ has_piece ks q) → LacksPieces (blocks_in m.pair x) m us
+    → ((q : Piece) → is_piece (blocks_in m.pair x) m q ≡ false → has_piece us q ≡ has_piece ls q) → IsStrictlySortedBy piece_cmp us → us ≡ ks
+refused m x ks ls us e w l absent kept taken back order = by (nat_lt m.number (count_of (bag_of ks) m.pair)) refl
+  where
+    by : (b : Bool) → nat_lt m.number (count_of (bag_of ks) m.pair) ≡ b → us ≡ ks
+    by true h = absurd (absent (all_there m x ks e w h))
+    by false h =
+        let n = next_count m.number (count_of (bag_of ks) m.pair) l h in
+        let i = indexed_back m (bag_of ks) ks us w.0 n (lacks_all m x us e taken) (λ q t. others_kept m x ls us e back q t ∙ others_kept m x ks ls e kept q t) in
+        sym (same_pieces (bag_of ks) ks us w.0 i w.1.0 order)
+
+-- what is known once the pair m is put in: whether it was next, by the lengths, and what the bag is
+pub record IsPut (m : Numbered) (ks ls : List Piece) : Type 0 where
+  pub longer : nat_lt (length ks) (length ls) ≡ not (nat_lt m.number (count_of (bag_of ks) m.pair))
+  pub more : nat_lt (length ks) (length ls) ≡ true → HasOneMore m.pair (bag_of ks) (bag_of ls)
+  pub same : nat_lt (length ks) (length ls) ≡ false → bag_of ls ≡ bag_of ks
+  pub whole : AreWhole ls
+
+pub put : (m : Numbered) (x : Block) (ks ls : List Piece) → blocks_in m.pair x ≡ blocks_of m.pair → first_row m.pair < 1048576 → AreWhole ks → m.number ≤ count_of (bag_of ks) m.pair
+    → HasPieces (blocks_in m.pair x) m ls → ((q : Piece) → is_piece (blocks_in m.pair x) m q ≡ false → has_piece ls q ≡ has_piece ks q) → ((q : Piece) → has_piece ks q ≡ true → has_piece ls q ≡ true)
+    → (IsStrictlySortedBy piece_cmp ks → IsStrictlySortedBy piece_cmp ls) → (LacksPieces (blocks_in m.pair x) m ks → Gains (blocks_in m.pair x) m ks ls) → IsPut m ks ls
+put m x ks ls e r w l has kept grown order more = by (nat_lt m.number (count_of (bag_of ks) m.pair)) refl
+  where
+    by : (b : Bool) → nat_lt m.number (count_of (bag_of ks) m.pair) ≡ b → IsPut m ks ls
+    by true h =
+        let s = stays m x ks ls w (all_there m x ks e w h) kept grown order in
+        let short : nat_lt (length ks) (length ls) ≡ false = ap (λ (us : List Piece). nat_lt (length ks) (length us)) s ∙ never_below (length ks) in
+        record {
+          longer = short ∙ sym (ap not h);
+          more = λ t. absurd (true≢false (sym t ∙ short));
+          same = λ t. ap bag_of s;
+          whole = subst AreWhole (sym s) w;
+        }
+    by false h =
+        let n = next_count m.number (count_of (bag_of ks) m.pair) l h in
+        let g = gained m x ks ls e w n more in
+        let long : length ks < length ls = omega (arith, gains_length m (blocks_of m.pair) ks ls g, has_block m.pair r) in
+        let grows : nat_lt (length ks) (length ls) ≡ true = lt-ltb (length ks) (length ls) long in
+        record {
+          longer = grows ∙ sym (ap not h);
+          more = λ t. has_one_more m ks ls r g;
+          same = λ t. absurd (true≢false (sym grows ∙ t));
+          whole = whole_more m x ks ls e r w n g has kept order;
+        }
 
 pub at_success : {T E P : Type 0} (r : Result T E) → is_err r ≡ false → OnOk r P → P
 at_success (Ok v) e h = h
@@ -299,3 +258,7 @@ at_success (Err v) e h = absurd (true≢false e)
 pub on_error : {T E P : Type 0} (r : Result T E) → P → OnErr r P
 on_error (Ok v) h = tt
 on_error (Err v) h = h
+
+pub on_success : {T E P : Type 0} (r : Result T E) → P → OnOk r P
+on_success (Ok v) h = h
+on_success (Err v) h = tt

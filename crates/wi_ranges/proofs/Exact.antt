@@ -39,10 +39,10 @@ same_piece x y h = tells_apart exact_piece x y h
 
 -- ---- the order of pieces is total
 
-block_total : IsTotalOrder block_cmp
+pub block_total : IsTotalOrder block_cmp
 block_total = then_total (on_total (λ (x : Block). x.level) nat_cmp_total) (on_total (λ (x : Block). x.first) nat_cmp_total)
 
-pair_total : IsTotalOrder pair_cmp
+pub pair_total : IsTotalOrder pair_cmp
 pair_total = then_total (on_total (λ (p : RangePair). p.first) nat_cmp_total) (then_total (on_total (λ (p : RangePair). p.last) nat_cmp_total) (on_total (λ (p : RangePair). p.reader) nat_cmp_total))
 
 numbered_total : IsTotalOrder numbered_cmp

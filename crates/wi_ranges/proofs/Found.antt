@@ -1,5 +1,5 @@
 -- Who is found at the blocks that hold a cell's row is who reads the cell.
-use Rattle.std.proofs.Common.{◌≡◌, ℕ, zero, suc, ◌+◌, ◌^◌, ◌<◌, ◌≤◌, ◌==◌, Bool, true, false, ◌&&◌, ◌||◌, cond, List, [], ◌∷◌, ◌++◌, refl, sym, ap, ◌∙◌, arith, ⊎_elim, nat_lt, nat_le, length}
+use Rattle.std.proofs.Common.{◌≡◌, ℕ, zero, suc, ◌+◌, ◌^◌, ◌<◌, ◌≤◌, ◌==◌, Bool, true, false, ◌&&◌, ◌||◌, cond, List, [], ◌∷◌, ◌++◌, refl, sym, ap, ◌∙◌, arith, ⊎_elim, nat_lt, nat_le}
 use Rattle.std.specs.Prelude.{if◌then◌else◌}
 use Rattle.std.specs.List.{list_any}
 use Rattle.std.specs.BTreeMap.{is_at}
@@ -17,13 +17,13 @@ use Rattle.wi_ranges.proofs.Exact.{block_self, piece_self, same_piece}
 
 -- ---- each row of some rows is in one of their blocks
 
-among_first : (x : Block) (xs ys : List Block) → ys ≡ x ∷ xs → is_among x ys ≡ true
+pub among_first : (x : Block) (xs ys : List Block) → ys ≡ x ∷ xs → is_among x ys ≡ true
 among_first x xs ys e = ap (λ (us : List Block). is_among x us) e ∙ or_left (is_at (block_cmp x) x) (is_among x xs) (block_self x)
 
-among_upper : (x : Block) (xs ys zs : List Block) → zs ≡ xs ++ ys → is_among x xs ≡ true → is_among x zs ≡ true
+pub among_upper : (x : Block) (xs ys zs : List Block) → zs ≡ xs ++ ys → is_among x xs ≡ true → is_among x zs ≡ true
 among_upper x xs ys zs e h = ap (λ (us : List Block). is_among x us) e ∙ list_any-append (λ y. is_at (block_cmp y) x) xs ys ∙ or_left (is_among x xs) (is_among x ys) h
 
-among_lower : (x : Block) (xs ys zs : List Block) → zs ≡ xs ++ ys → is_among x ys ≡ true → is_among x zs ≡ true
+pub among_lower : (x : Block) (xs ys zs : List Block) → zs ≡ xs ++ ys → is_among x ys ≡ true → is_among x zs ≡ true
 among_lower x xs ys zs e h = ap (λ (us : List Block). is_among x us) e ∙ list_any-append (λ y. is_at (block_cmp y) x) xs ys ∙ or_right (is_among x xs) (is_among x ys) h
 
 among_next : (x y : Block) (ys zs : List Block) → zs ≡ y ∷ ys → is_among x ys ≡ true → is_among x zs ≡ true
@@ -112,22 +112,12 @@ last_at_least p r h = by (nat_lt (row_of p.last) (row_of p.first)) refl
     by true e = let l : row_of p.last < row_of p.first = ltb-true (row_of p.last) (row_of p.first) e in omega (arith, h, l)
     by false e = h
 
--- each pair has a block
-pub some_block : (p : RangePair) → first_row p < 1048576 → 0 < length (blocks_of p)
-some_block p l =
-    let s = covered (first_row p) (last_row p) (first_row p) 20 0 (omega arith) (first_at_most p) (omega arith) (omega (arith, l)) in
-    not_none s.0 (blocks_of p) s.1
+pub first_at_most : (p : RangePair) → first_row p ≤ last_row p
+first_at_most p = by (nat_lt (row_of p.last) (row_of p.first)) refl
   where
-    first_at_most : (p : RangePair) → first_row p ≤ last_row p
-    first_at_most p = by (nat_lt (row_of p.last) (row_of p.first)) refl
-      where
-        by : (b : Bool) → nat_lt (row_of p.last) (row_of p.first) ≡ b → row_of p.first ≤ (if b then row_of p.first else row_of p.last)
-        by true e = omega arith
-        by false e = ltb-false (row_of p.last) (row_of p.first) e
-
-    not_none : (x : Block) (xs : List Block) → is_among x xs ≡ true → 0 < length xs
-    not_none x [] h = absurd (true≢false (sym h))
-    not_none x (y ∷ xs) h = omega arith
+    by : (b : Bool) → nat_lt (row_of p.last) (row_of p.first) ≡ b → row_of p.first ≤ (if b then row_of p.first else row_of p.last)
+    by true e = omega arith
+    by false e = ltb-false (row_of p.last) (row_of p.first) e
 
 pub found_reader : (bag : Bag) (ks : List Piece) (row a r : ℕ) → row ≡ row_of a → row < 1048576 → IsIndexed bag ks → IsReader bag a r
     → list_any (reads_at (blocks_with row 20 0) a r) ks ≡ true

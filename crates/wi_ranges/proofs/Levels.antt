@@ -10,6 +10,7 @@ use Rattle.std.proofs.lemmas.List.Folds.{list_any_none}
 use Rattle.std.proofs.Math.Bool.{or-false}
 use Rattle.wi_ranges.specs.declared.block.Block.{Block}
 use Rattle.wi_ranges.specs.Inner.Index.{Piece, piece_cmp, reads_at, AreUpTo}
+use Rattle.wi_ranges.proofs.ReaderLemmas.{readers_more}
 
 not_less : (a b : ℕ) (o p : Ordering) → is_lt (ordering_then (ordering_then (nat_cmp a b) o) p) ≡ false → b ≤ a
 not_less a b o p h = at (nat_cmp a b) refl h
@@ -34,3 +35,9 @@ pub none_above : (pieces : List Piece) (x : Block) (level a r : ℕ) (b : Bool) 
     → b ≡ (b || list_any (reads_at (x ∷ []) a r) pieces)
 none_above pieces x level a r b h less =
     sym (or-false b) ∙ ap (λ c. b || c) (sym (list_any_none (reads_at (x ∷ []) a r) pieces (λ i y k. apart x a r (get_or pieces i y) (omega (arith, h i y k, less)))))
+
+-- and what stands at the blocks that hold a row stands at those from its half on
+pub below_level : (pieces : List Piece) (x : Block) (xs zs : List Block) (level a r : ℕ) → AreUpTo level pieces → level < x.level → zs ≡ x ∷ xs
+    → list_any (reads_at xs a r) pieces ≡ list_any (reads_at zs a r) pieces
+below_level pieces x xs zs level a r h less e =
+    readers_more x xs zs a r pieces false false (list_any (reads_at xs a r) pieces) e (none_above pieces x level a r false h less) refl

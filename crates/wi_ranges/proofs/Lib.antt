@@ -9,3 +9,6 @@ pub mod LargestLemmas
 pub mod Rows
 pub mod Apart
 mod Levels
+mod First
+mod Sums
+mod Counts

@@ -1,18 +1,23 @@
 -- Laws of pieces.
-use Rattle.std.proofs.Common.{◌≡◌, Bool, true, false, ◌&&◌, ◌||◌, cond, List, [], ◌∷◌, ◌++◌, refl, sym, ap, ◌∙◌, ◌⊎◌, ⊎_elim, ◌+◌, not, length, length-append, arith}
+use Rattle.std.proofs.Common.{◌≡◌, Bool, true, false, ◌&&◌, ◌||◌, cond, List, [], ◌∷◌, ◌++◌, refl, sym, ap, ◌∙◌, ◌⊎◌, ⊎_elim, ◌+◌, ℕ, arith}
 use Rattle.std.specs.Ordering.{ordering_then, is_eq}
 use Rattle.std.specs.declared.cmp.Ordering.{Ordering}
 use Rattle.std.specs.declared.cmp.Ordering.TheVariants.{Less, Equal, Greater}
+use Rattle.std.specs.List.{sum_by}
+use Rattle.std.specs.Set.{remove_key}
 use Rattle.std.specs.BTreeMap.{is_at}
+use Rattle.std.specs.BTreeSet.{insert_key}
 use Rattle.std.proofs.Math.Bool.{and-or_distrib_left}
 use Rattle.std.proofs.lemmas.Bool.{or_left, or_right, or_cases, or_parts, and_right, true≢false, cond-true, cond-false}
 use Rattle.std.proofs.lemmas.List.Folds.{list_any-append}
+use Rattle.std.proofs.lemmas.List.Sums.{sum_by-append}
 use Rattle.wi_ranges.specs.declared.block.Block.{Block}
 use Rattle.wi_ranges.specs.declared.pair.Numbered.{Numbered}
 use Rattle.wi_ranges.specs.Blocks.{blocks_in, first_row, last_row, lies_within}
-use Rattle.wi_ranges.specs.Inner.Index.{block_cmp, numbered_cmp, HasPieces, LacksPieces, is_one, Piece, piece_cmp, has_piece, is_piece}
+use Rattle.wi_ranges.specs.Inner.Index.{block_cmp, numbered_cmp, Gains, HasPieces, LacksPieces, is_one, Piece, piece_cmp, has_piece, is_piece}
 use Rattle.wi_ranges.proofs.BlockLemmas.{blocks_within-here}
 use Rattle.wi_ranges.proofs.Exact.{piece_self}
+use Rattle.wi_ranges.proofs.Sums.{sum_insert, sum_remove}
 
 equal_both : (o p : Ordering) → is_eq (ordering_then o p) ≡ (is_eq p && (is_eq o || false))
 equal_both Less Less = refl
@@ -114,45 +119,65 @@ told_parts m x u l old mid w e k apart h = (
   λ q t. k q (apart q t) ∙ h q (piece_of_second (blocks_in m.pair u) (blocks_in m.pair l) (blocks_in m.pair x) m q e t),
 )
 
--- ---- how many
+-- ---- what is added up
 
 here_it_is : (m : Numbered) (x : Block) → blocks_in m.pair x ≡ x ∷ [] → is_piece (blocks_in m.pair x) m (x, m) ≡ true
 here_it_is m x e = ap (λ (us : List Block). is_piece us m (x, m)) e ∙ sym (key_is_piece x m (x, m)) ∙ piece_self (x, m)
 
-pub count_put_here : (m : Numbered) (x : Block) (old new : List Piece) (added : Bool) → lies_within (first_row m.pair) (last_row m.pair) x ≡ true → added ≡ not (has_piece old (x, m))
-    → length new ≡ length old + cond added 1 0 → LacksPieces (blocks_in m.pair x) m old → length new ≡ length old + length (blocks_in m.pair x)
-count_put_here m x old new added t a n h =
+pub gains_here : (m : Numbered) (x : Block) (old new : List Piece) → lies_within (first_row m.pair) (last_row m.pair) x ≡ true → new ≡ insert_key piece_cmp old (x, m)
+    → LacksPieces (blocks_in m.pair x) m old → Gains (blocks_in m.pair x) m old new
+gains_here m x old new t n h f =
     let e = here m x t in
-    let is_new : added ≡ true = a ∙ ap not (h (x, m) (here_it_is m x e)) in
-    n ∙ ap (λ b. length old + cond b 1 0) is_new ∙ sym (ap (λ (us : List Block). length old + length us) e)
+    let one : sum_by (λ (y : Block). f (y, m)) (blocks_in m.pair x) ≡ 0 + f (x, m) = ap (λ (us : List Block). sum_by (λ (y : Block). f (y, m)) us) e in
+    let more : sum_by f new ≡ sum_by f old + f (x, m) = ap (λ (ks : List Piece). sum_by f ks) n ∙ sum_insert f (x, m) old (h (x, m) (here_it_is m x e)) in
+    omega (arith, one, more)
 
-pub count_taken_here : (m : Numbered) (x : Block) (old new : List Piece) (taken : Bool) → lies_within (first_row m.pair) (last_row m.pair) x ≡ true → taken ≡ has_piece old (x, m)
-    → length new + cond taken 1 0 ≡ length old → HasPieces (blocks_in m.pair x) m old → length old ≡ length new + length (blocks_in m.pair x)
-count_taken_here m x old new taken t a n h =
+pub loses_here : (m : Numbered) (x : Block) (old new : List Piece) → lies_within (first_row m.pair) (last_row m.pair) x ≡ true → new ≡ remove_key (is_at (piece_cmp (x, m))) old
+    → HasPieces (blocks_in m.pair x) m old → Gains (blocks_in m.pair x) m new old
+loses_here m x old new t n h f =
     let e = here m x t in
-    let is_there : taken ≡ true = a ∙ h (x, m) (here_it_is m x e) in
-    sym n ∙ ap (λ b. length new + cond b 1 0) is_there ∙ sym (ap (λ (us : List Block). length new + length us) e)
+    let one : sum_by (λ (y : Block). f (y, m)) (blocks_in m.pair x) ≡ 0 + f (x, m) = ap (λ (us : List Block). sum_by (λ (y : Block). f (y, m)) us) e in
+    let less : sum_by f old ≡ sum_by f new + f (x, m) = sum_remove f (x, m) old (h (x, m) (here_it_is m x e)) ∙ ap (λ (ks : List Piece). sum_by f ks + f (x, m)) (sym n) in
+    omega (arith, one, less)
 
-long_halves : (m : Numbered) (x u l : Block) → AreHalves m x u l → length (blocks_in m.pair x) ≡ length (blocks_in m.pair u) + length (blocks_in m.pair l)
-long_halves m x u l e = ap (λ (us : List Block). length us) e ∙ length-append (blocks_in m.pair u) (blocks_in m.pair l)
+sum_halves : (m : Numbered) (x u l : Block) (f : Piece → ℕ) → AreHalves m x u l
+    → sum_by (λ (y : Block). f (y, m)) (blocks_in m.pair x) ≡ sum_by (λ (y : Block). f (y, m)) (blocks_in m.pair u) + sum_by (λ (y : Block). f (y, m)) (blocks_in m.pair l)
+sum_halves m x u l f e = ap (λ (us : List Block). sum_by (λ (y : Block). f (y, m)) us) e ∙ sum_by-append (λ (y : Block). f (y, m)) (blocks_in m.pair u) (blocks_in m.pair l)
 
-pub count_put_both : (m : Numbered) (x u l : Block) (old mid new : List Piece) → AreHalves m x u l
-    → (LacksPieces (blocks_in m.pair u) m old → length mid ≡ length old + length (blocks_in m.pair u))
-    → (LacksPieces (blocks_in m.pair l) m mid → length new ≡ length mid + length (blocks_in m.pair l))
+pub gains_both : (m : Numbered) (x u l : Block) (old mid new : List Piece) → AreHalves m x u l
+    → (LacksPieces (blocks_in m.pair u) m old → Gains (blocks_in m.pair u) m old mid)
+    → (LacksPieces (blocks_in m.pair l) m mid → Gains (blocks_in m.pair l) m mid new)
     → KeepsOthers m u old mid → ((q : Piece) → is_piece (blocks_in m.pair l) m q ≡ true → is_piece (blocks_in m.pair u) m q ≡ false)
-    → LacksPieces (blocks_in m.pair x) m old → length new ≡ length old + length (blocks_in m.pair x)
-count_put_both m x u l old mid new e f g k apart h =
-    let parts = told_parts m x u l old mid false e k apart h in
-    omega (arith, f parts.0, g parts.1, long_halves m x u l e)
+    → LacksPieces (blocks_in m.pair x) m old → Gains (blocks_in m.pair x) m old new
+gains_both m x u l old mid new e g h k apart lacks f =
+    let parts = told_parts m x u l old mid false e k apart lacks in
+    let upper : sum_by f mid ≡ sum_by f old + sum_by (λ (y : Block). f (y, m)) (blocks_in m.pair u) = g parts.0 f in
+    let lower : sum_by f new ≡ sum_by f mid + sum_by (λ (y : Block). f (y, m)) (blocks_in m.pair l) = h parts.1 f in
+    omega (arith, upper, lower, sum_halves m x u l f e)
 
-pub count_taken_both : (m : Numbered) (x u l : Block) (old mid new : List Piece) → AreHalves m x u l
-    → (HasPieces (blocks_in m.pair u) m old → length old ≡ length mid + length (blocks_in m.pair u))
-    → (HasPieces (blocks_in m.pair l) m mid → length mid ≡ length new + length (blocks_in m.pair l))
+pub loses_both : (m : Numbered) (x u l : Block) (old mid new : List Piece) → AreHalves m x u l
+    → (HasPieces (blocks_in m.pair u) m old → Gains (blocks_in m.pair u) m mid old)
+    → (HasPieces (blocks_in m.pair l) m mid → Gains (blocks_in m.pair l) m new mid)
     → KeepsOthers m u old mid → ((q : Piece) → is_piece (blocks_in m.pair l) m q ≡ true → is_piece (blocks_in m.pair u) m q ≡ false)
-    → HasPieces (blocks_in m.pair x) m old → length old ≡ length new + length (blocks_in m.pair x)
-count_taken_both m x u l old mid new e f g k apart h =
-    let parts = told_parts m x u l old mid true e k apart h in
-    omega (arith, f parts.0, g parts.1, long_halves m x u l e)
+    → HasPieces (blocks_in m.pair x) m old → Gains (blocks_in m.pair x) m new old
+loses_both m x u l old mid new e g h k apart has f =
+    let parts = told_parts m x u l old mid true e k apart has in
+    let upper : sum_by f old ≡ sum_by f mid + sum_by (λ (y : Block). f (y, m)) (blocks_in m.pair u) = g parts.0 f in
+    let lower : sum_by f mid ≡ sum_by f new + sum_by (λ (y : Block). f (y, m)) (blocks_in m.pair l) = h parts.1 f in
+    omega (arith, upper, lower, sum_halves m x u l f e)
 
-pub count_none : (zs : List Block) (ks : List Piece) → zs ≡ [] → length ks ≡ length ks + length zs
-count_none zs ks e = let none : length zs ≡ 0 = ap (λ (us : List Block). length us) e in omega (arith, none)
+pub gains_none : (m : Numbered) (zs : List Block) (ks : List Piece) → zs ≡ [] → Gains zs m ks ks
+gains_none m zs ks e f = let none : sum_by (λ (y : Block). f (y, m)) zs ≡ 0 = ap (λ (us : List Block). sum_by (λ (y : Block). f (y, m)) us) e in omega (arith, none)
+
+-- ---- where one is lacking, not all are there
+
+pub absent_here : (m : Numbered) (x : Block) (ks : List Piece) → lies_within (first_row m.pair) (last_row m.pair) x ≡ true → has_piece ks (x, m) ≡ false → HasPieces (blocks_in m.pair x) m ks → ⊥
+absent_here m x ks t n h = true≢false (sym (h (x, m) (here_it_is m x (here m x t))) ∙ n)
+
+pub absent_upper : (m : Numbered) (x u l : Block) (ks : List Piece) → AreHalves m x u l → (HasPieces (blocks_in m.pair u) m ks → ⊥) → HasPieces (blocks_in m.pair x) m ks → ⊥
+absent_upper m x u l ks e n h = n (λ q t. h q (piece_of_first (blocks_in m.pair u) (blocks_in m.pair l) (blocks_in m.pair x) m q e t))
+
+pub absent_lower : (m : Numbered) (x u l : Block) (old mid : List Piece) → AreHalves m x u l → KeepsOthers m u old mid
+    → ((q : Piece) → is_piece (blocks_in m.pair l) m q ≡ true → is_piece (blocks_in m.pair u) m q ≡ false)
+    → (HasPieces (blocks_in m.pair l) m mid → ⊥) → HasPieces (blocks_in m.pair x) m old → ⊥
+absent_lower m x u l old mid e k apart n h = n (told_parts m x u l old mid true e k apart h).1

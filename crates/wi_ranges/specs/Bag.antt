@@ -1,5 +1,5 @@
 -- A bag of pairs, each a rectangle and a cell that reads it.
-use Rattle.std.specs.Prelude.{◌≡◌, ℕ, ◌+◌, ◌-◌, ◌*◌, ◌<◌, List, [], ◌∷◌, Bool, true, cond, Option, length, if◌then◌else◌}
+use Rattle.std.specs.Prelude.{◌≡◌, ℕ, ◌+◌, ◌-◌, ◌*◌, ◌<◌, List, [], ◌∷◌, Bool, true, length, if◌then◌else◌}
 use Rattle.std.specs.Ordering.{nat_cmp, ordering_then}
 use Rattle.std.specs.declared.cmp.Ordering.{Ordering}
 use Rattle.std.specs.Option.{unwrap_or}
@@ -32,9 +32,10 @@ Bag = List (RangePair × ℕ)
 abbrev pub count_of : Bag → RangePair → ℕ
 count_of bag p = unwrap_or (lookup (is_same p) bag) 0
 
--- new has w at the pair p, and what old has at each other
-abbrev pub Sets : RangePair → Option ℕ → Bag → Bag → Type 0
-Sets p w old new = (q : RangePair) → lookup (is_same q) new ≡ cond (is_same p q) w (lookup (is_same q) old)
+-- the bag with one more of the pair p
+abbrev pub raise : RangePair → Bag → Bag
+raise p [] = (p, 1) ∷ []
+raise p (e ∷ es) = if is_same p e.0 then (e.0, e.1 + 1) ∷ es else e ∷ raise p es
 
 -- new has one more of the pair p than old, and as many of each other
 abbrev pub HasOneMore : RangePair → Bag → Bag → Type 0

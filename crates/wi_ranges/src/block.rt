@@ -1,8 +1,9 @@
 //! Blocks of rows.
 
-ghost use Rattle.std.specs.Prelude.{◌≡◌, ◌<◌, ◌+◌, ◌-◌, ◌^◌, ◌≤◌, ◌&&◌};
+ghost use Rattle.std.specs.Prelude.{◌≡◌, ◌<◌, ◌+◌, ◌-◌, ◌^◌, ◌≤◌, ◌&&◌, true};
 ghost use Rattle.wi_values.specs.Address.{rows};
 ghost use Rattle.wi_ranges.specs.Blocks.{block, lies_within, meets, blocks_in, blocks_of, half_with, first_row, last_row};
+ghost use Rattle.wi_ranges.specs.Inner.Index.{holds, is_among};
 
 use crate::pair::RangePair;
 
@@ -28,6 +29,7 @@ impl Block {
     pub(crate) fn around(pair: &RangePair) -> Block
         ensures blocks { blocks_in pair.now result ≡ blocks_of pair.now }
         ensures within { result.first + 2 ^ result.level ≤ rows }
+        ensures holds { holds (first_row pair.now) result ≡ true }
     {
         let row = pair.first.row();
         if pair.last_row() == row {
@@ -102,6 +104,19 @@ impl Block {
             self.upper()
         } else {
             lower
+        }
+    }
+
+    /// The block of a pair that holds its first row, in a block that holds that row.
+    pub(crate) fn first_of(&self, pair: &RangePair) -> Block
+        requires on_sheet { self.now.first + 2 ^ self.now.level ≤ rows }
+        requires holds { holds (first_row pair.now) self.now ≡ true }
+        ensures { is_among result (blocks_in pair.now self.now) ≡ true }
+    {
+        if self.lies_within(pair) {
+            *self
+        } else {
+            self.half_with(pair.first.row()).first_of(pair)
         }
     }
 

@@ -5,34 +5,32 @@ ghost use Rattle.std.specs.List.{Contains};
 ghost use Rattle.std.specs.List.Sorted.{IsStrictlyIncreasing};
 ghost use Rattle.wi_ranges.specs.Bag.{pair_for, pieces_of, HasOneMore, HasOneLess, IsReader};
 
-use crate::bag::{PairCounts, add_pair, remove_pair};
-use crate::block::Block;
+use crate::bag::{add_pair, remove_pair};
 use crate::pair::RangePair;
 use crate::pieces::Pieces;
-use crate::readers::{add_all_readers, highest_level, listed};
+use crate::readers::{add_all_readers, highest_block, listed};
 use std::alloc::{AllocError, Global};
-use std::collections::{BTreeMap, BTreeSet};
+use std::collections::BTreeSet;
 use std::marker::Model;
 use wi_values::{Address, Rect};
 
 /// Pairs of a rectangle and a cell that reads it, any number of each.
 #[derive(Drop)]
 pub struct RangeIndex {
-    counts: PairCounts,
-    // Each pair that there is, by number, at each of its blocks.
+    // Each pair, by its number among equal ones, at each of its blocks.
     pieces: Pieces,
     alloc: Global,
 }
 
 impl Model for RangeIndex {
     ghost use Rattle.wi_ranges.specs.Bag.{Bag};
-    ghost use Rattle.wi_ranges.specs.Inner.Index.{AreCounted, IsIndexed, HasNoZero};
+    ghost use Rattle.wi_ranges.specs.Inner.Index.{AreWhole, bag_of};
 
     ghost Value = { Bag };
 
-    ghost view = { λ x. x.counts.entries };
+    ghost view = { λ x. bag_of x.pieces.keys };
 
-    ghost invariant = { λ x. IsIndexed x.counts.entries x.pieces.keys × AreCounted x.counts.entries x.pieces.keys × HasNoZero x.counts.entries };
+    ghost invariant = { λ x. AreWhole x.pieces.keys };
 }
 
 impl RangeIndex {
@@ -41,19 +39,19 @@ impl RangeIndex {
         ensures { result ≡ [] }
     {
         RangeIndex {
-            counts: BTreeMap::new(alloc),
             pieces: BTreeSet::new(alloc),
             alloc,
         }
     }
 
-    /// Adds a pair. On an error all is as before. The work grows with the pair's blocks and the logarithm of the count of pieces.
+    /// Adds a pair. On an error all is as before. The work grows with the pair's blocks, twice those where there is an equal
+    /// pair, and the logarithm of the count of pieces.
     pub fn add(&mut self, area: Rect, reader: Address) -> Result<(), AllocError>
         ensures ok { OnOk result (HasOneMore (pair_for area reader) self.old self.new) }
         ensures err { OnErr result (self.new ≡ self.old) }
     {
         let pair = RangePair::new(area, reader);
-        add_pair(&mut self.counts, &mut self.pieces, &pair)
+        add_pair(&mut self.pieces, &pair)
     }
 
     /// Takes away one such pair if there is one. Takes no memory. The work grows with the pair's blocks and the logarithm of the
@@ -62,12 +60,12 @@ impl RangeIndex {
         ensures { HasOneLess (pair_for area reader) self.old self.new }
     {
         let pair = RangePair::new(area, reader);
-        remove_pair(&mut self.counts, &mut self.pieces, &pair);
+        remove_pair(&mut self.pieces, &pair);
     }
 
     /// The dependents of the cell, which read a rectangle with it, in row-major order, each once. The work grows with the
-    /// pairs, equal ones too, at the blocks that hold the cell's row, of which there is one for each level up to the highest that has a piece, at most 21, and with the logarithms of their count and of that
-    /// of all pieces.
+    /// pairs, equal ones too, at the blocks that hold the cell's row, and with the logarithms of their count and of that of all
+    /// pieces. Such blocks are one for each level up to the highest at which a piece stands, at most 21.
     pub fn readers_of(&self, at: Address) -> Result<Vec<Address>, AllocError>
         ensures order { IfOk result (λ readers. IsStrictlyIncreasing readers.items) }
         ensures readers { IfOk result (λ readers. (r : ℕ) → Contains readers.items r ↔ IsReader self.now at r) }
@@ -77,8 +75,8 @@ impl RangeIndex {
             return Ok(Vec::new(self.alloc));
         }
         let mut readers = BTreeSet::new(self.alloc);
-        let level = highest_level(&self.pieces);
-        add_all_readers(&self.pieces, at, row, &Block::sheet(), level, &mut readers)?;
+        let block = highest_block(&self.pieces, row);
+        add_all_readers(&self.pieces, at, row, &block, &mut readers)?;
         listed(self.alloc, &readers)
     }
 

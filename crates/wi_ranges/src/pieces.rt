@@ -1,10 +1,10 @@
 //! The pieces of pairs: a pair stands in the index at each of its blocks.
 
-ghost use Rattle.std.specs.Prelude.{◌≡◌, ◌+◌, ◌^◌, ◌≤◌, true, false, length, OnOk};
+ghost use Rattle.std.specs.Prelude.{◌≡◌, ◌+◌, ◌^◌, ◌≤◌, true, false, OnOk, OnErr};
 ghost use Rattle.std.specs.List.Sorted.{IsStrictlySortedBy};
 ghost use Rattle.wi_values.specs.Address.{rows};
 ghost use Rattle.wi_ranges.specs.Blocks.{blocks_in};
-ghost use Rattle.wi_ranges.specs.Inner.Index.{Piece, HasPieces, LacksPieces, piece_cmp, has_piece, is_piece};
+ghost use Rattle.wi_ranges.specs.Inner.Index.{Piece, Gains, HasPieces, LacksPieces, piece_cmp, has_piece, is_piece};
 
 use crate::block::Block;
 use crate::pair::Numbered;
@@ -13,7 +13,8 @@ use std::collections::BTreeSet;
 
 pub(crate) type Pieces = BTreeSet<(Block, Numbered)>;
 
-/// Puts a pair in at each of its blocks within a block. If memory runs out, some of them may be in.
+/// Puts a pair in at each of its blocks within a block. Takes memory only for those where it is new; if that runs out, it may be
+/// in at some of them.
 pub(crate) fn put_in(
     pieces: &mut Pieces,
     numbered: &Numbered,
@@ -25,8 +26,9 @@ pub(crate) fn put_in(
         → has_piece pieces.new.keys q ≡ has_piece pieces.old.keys q }
     ensures stays { (q : Piece) → has_piece pieces.old.keys q ≡ true → has_piece pieces.new.keys q ≡ true }
     ensures order { IsStrictlySortedBy piece_cmp pieces.old.keys → IsStrictlySortedBy piece_cmp pieces.new.keys }
-    ensures count { OnOk result (LacksPieces (blocks_in numbered.now.pair block.now) numbered.now pieces.old.keys
-        → length pieces.new.keys ≡ length pieces.old.keys + length (blocks_in numbered.now.pair block.now)) }
+    ensures absent { OnErr result (HasPieces (blocks_in numbered.now.pair block.now) numbered.now pieces.old.keys → ⊥) }
+    ensures gains { OnOk result (LacksPieces (blocks_in numbered.now.pair block.now) numbered.now pieces.old.keys
+        → Gains (blocks_in numbered.now.pair block.now) numbered.now pieces.old.keys pieces.new.keys) }
 {
     if block.lies_within(&numbered.pair) {
         pieces.insert((*block, *numbered))?;
@@ -45,8 +47,8 @@ pub(crate) fn take_out(pieces: &mut Pieces, numbered: &Numbered, block: &Block)
         → has_piece pieces.new.keys q ≡ has_piece pieces.old.keys q }
     ensures gone { (q : Piece) → has_piece pieces.old.keys q ≡ false → has_piece pieces.new.keys q ≡ false }
     ensures order { IsStrictlySortedBy piece_cmp pieces.old.keys → IsStrictlySortedBy piece_cmp pieces.new.keys }
-    ensures count { HasPieces (blocks_in numbered.now.pair block.now) numbered.now pieces.old.keys
-        → length pieces.old.keys ≡ length pieces.new.keys + length (blocks_in numbered.now.pair block.now) }
+    ensures loses { HasPieces (blocks_in numbered.now.pair block.now) numbered.now pieces.old.keys
+        → Gains (blocks_in numbered.now.pair block.now) numbered.now pieces.new.keys pieces.old.keys }
 {
     if block.lies_within(&numbered.pair) {
         let _ = pieces.remove(&(*block, *numbered));

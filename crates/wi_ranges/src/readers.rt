@@ -16,13 +16,27 @@ use std::collections::BTreeSet;
 use wi_values::Address;
 
 /// The greatest level of a block at which a piece stands, or 0 where there is none.
-pub(crate) fn highest_level(pieces: &Pieces) -> u32
+fn highest_level(pieces: &Pieces) -> u32
     ensures { AreUpTo result pieces.now.keys }
 {
     match pieces.last() {
         Some((block, _)) => block.level,
         None => 0,
     }
+}
+
+/// The block that holds a row, of the highest level at which a piece stands. At those above it nothing stands.
+pub(crate) fn highest_block(pieces: &Pieces, row: u32) -> Block
+    ensures within { result.first + 2 ^ result.level ≤ rows }
+    ensures all { (a r : ℕ) → list_any (reads_at (blocks_with row result.level result.first) a r) pieces.now.keys
+        ≡ list_any (reads_at (blocks_with row 20 0) a r) pieces.now.keys }
+{
+    let level = highest_level(pieces);
+    let mut block = Block::sheet();
+    while level < block.level {
+        block = block.half_with(row);
+    }
+    block
 }
 
 /// Adds the readers of a cell that stand at a block. If memory runs out, some of them may be added.
@@ -45,43 +59,22 @@ fn add_readers(
     Ok(())
 }
 
-/// Adds the readers of a cell that stand at a block. No piece stands at a block above a level, so above it there are none. If
-/// memory runs out, some of them may be added.
-fn add_readers_up_to(
-    pieces: &Pieces,
-    at: Address,
-    block: &Block,
-    level: u32,
-    readers: &mut BTreeSet<Address>,
-) -> Result<(), AllocError>
-    requires block { block.now.first + 2 ^ block.now.level ≤ rows }
-    requires level { AreUpTo level pieces.now.keys }
-    ensures { OnOk result ((r : ℕ) → contains nat_cmp readers.new r ≡ (contains nat_cmp readers.old r || list_any (reads_at (block.now ∷ []) at r) pieces.now.keys)) }
-{
-    if level < block.level {
-        return Ok(());
-    }
-    add_readers(pieces, at, block, readers)
-}
-
 /// Adds the readers of a cell that stand at a block that holds the row, or at one of the halves, quarters and so on that do.
-/// No piece stands at a block above a level. If memory runs out, some of them may be added.
+/// If memory runs out, some of them may be added.
 pub(crate) fn add_all_readers(
     pieces: &Pieces,
     at: Address,
     row: u32,
     block: &Block,
-    level: u32,
     readers: &mut BTreeSet<Address>,
 ) -> Result<(), AllocError>
-    requires block { block.now.first + 2 ^ block.now.level ≤ rows }
-    requires level { AreUpTo level pieces.now.keys }
+    requires { block.now.first + 2 ^ block.now.level ≤ rows }
     ensures { OnOk result ((r : ℕ) → contains nat_cmp readers.new r
         ≡ (contains nat_cmp readers.old r || list_any (reads_at (blocks_with row block.now.level block.now.first) at r) pieces.now.keys)) }
 {
-    add_readers_up_to(pieces, at, block, level, readers)?;
+    add_readers(pieces, at, block, readers)?;
     if block.level > 0 {
-        add_all_readers(pieces, at, row, &block.half_with(row), level, readers)?;
+        add_all_readers(pieces, at, row, &block.half_with(row), readers)?;
     }
     Ok(())
 }

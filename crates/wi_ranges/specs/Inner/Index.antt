@@ -1,14 +1,13 @@
--- The index by blocks: each pair of the bag stands at each of its blocks, and equal ones by their numbers.
-use Rattle.std.specs.Prelude.{◌≡◌, ℕ, ◌<◌, ◌≤◌, All, ◌==◌, List, Some, Bool, true, false, ◌&&◌, nat_lt, length}
+-- The index by blocks: each pair stands at each of its blocks, and equal ones by their numbers.
+use Rattle.std.specs.Prelude.{◌≡◌, ℕ, ◌+◌, ◌^◌, ◌≤◌, All, ◌==◌, List, [], ◌∷◌, Bool, true, false, ◌&&◌, nat_lt, nat_le, length, if◌then◌else◌}
 use Rattle.std.specs.Ordering.{nat_cmp, ordering_then}
 use Rattle.std.specs.declared.cmp.Ordering.{Ordering}
-use Rattle.std.specs.List.{list_any}
+use Rattle.std.specs.List.{list_any, sum_by}
 use Rattle.std.specs.List.Sorted.{IsStrictlySortedBy}
-use Rattle.std.specs.Map.{lookup}
 use Rattle.std.specs.BTreeMap.{is_at}
 use Rattle.wi_values.specs.Address.{is_within}
-use Rattle.wi_ranges.specs.Blocks.{blocks_of}
-use Rattle.wi_ranges.specs.Bag.{Bag, lowest_pair, pair_cmp, is_same, pair_area, count_of, pieces_of}
+use Rattle.wi_ranges.specs.Blocks.{blocks_of, first_row}
+use Rattle.wi_ranges.specs.Bag.{Bag, lowest_pair, pair_cmp, is_same, pair_area, count_of, pieces_of, raise}
 use Rattle.wi_ranges.specs.declared.block.Block.{Block}
 use Rattle.wi_ranges.specs.declared.pair.RangePair.{RangePair}
 use Rattle.wi_ranges.specs.declared.pair.Numbered.{Numbered}
@@ -40,6 +39,10 @@ has_piece pieces q = list_any (is_at (piece_cmp q)) pieces
 abbrev pub is_among : Block → List Block → Bool
 is_among x xs = list_any (λ y. is_at (block_cmp y) x) xs
 
+-- a piece of the pair p, at the block x
+abbrev pub is_at_block : Block → RangePair → Piece → Bool
+is_at_block x p q = is_at (block_cmp q.0) x && is_same q.1.pair p
+
 -- a piece of the pair m, at one of the blocks
 abbrev pub is_piece : List Block → Numbered → Piece → Bool
 is_piece xs m q = is_one m q.1 && is_among q.0 xs
@@ -62,17 +65,35 @@ LacksPieces xs m pieces = (q : Piece) → is_piece xs m q ≡ true → has_piece
 abbrev pub AreUpTo : ℕ → List Piece → Type 0
 AreUpTo level pieces = All (λ (q : Piece). q.0.level ≤ level) pieces
 
+-- whether the block holds the row r
+abbrev pub holds : ℕ → Block → Bool
+holds r x = nat_le x.first r && nat_lt r (x.first + 2 ^ x.level)
+
+-- the block of the piece holds the first row of its rectangle, as one block of each pair does
+abbrev pub stands_first : Piece → Bool
+stands_first q = holds (first_row q.1.pair) q.0
+
+-- the bag of the pairs that stand in the index, each told by its first piece
+abbrev pub bag_of : List Piece → Bag
+bag_of [] = []
+bag_of (q ∷ qs) = if stands_first q then raise q.1.pair (bag_of qs) else bag_of qs
+
 -- each pair of the bag, by numbers from 0 on, is there at each of its blocks, and nothing else is
 abbrev pub IsIndexed : Bag → List Piece → Type 0
 IsIndexed bag pieces = (q : Piece) → has_piece pieces q ≡ (nat_lt q.1.number (count_of bag q.1.pair) && is_among q.0 (blocks_of q.1.pair))
-
-abbrev pub HasNoZero : Bag → Type 0
-HasNoZero bag = (p : RangePair) (n : ℕ) → lookup (is_same p) bag ≡ Some n → 0 < n
 
 -- pieces stand in order, each once, and are as many as the blocks of all pairs
 abbrev pub AreCounted : Bag → List Piece → Type 0
 AreCounted bag pieces = IsStrictlySortedBy piece_cmp pieces × (length pieces ≡ pieces_of bag)
 
+-- the pieces are those of the pairs that they tell
+abbrev pub AreWhole : List Piece → Type 0
+AreWhole pieces = IsIndexed (bag_of pieces) pieces × AreCounted (bag_of pieces) pieces
+
 -- only pieces of the pair m at its blocks may differ
 abbrev pub KeepsOtherPieces : Numbered → List Piece → List Piece → Type 0
 KeepsOtherPieces m old new = (q : Piece) → is_piece (blocks_of m.pair) m q ≡ false → has_piece new q ≡ has_piece old q
+
+-- the same pieces, and those of the pair m at some blocks: whatever is added up over them
+abbrev pub Gains : List Block → Numbered → List Piece → List Piece → Type 0
+Gains xs m old new = (f : Piece → ℕ) → sum_by f new ≡ sum_by f old + sum_by (λ x. f (x, m)) xs

@@ -1,44 +1,26 @@
-use Rattle.std.proofs.Common.{rules, ◌≡◌, ◌<◌, ◌+◌, ◌-◌, ◌∙◌, Some, ap, arith}
-use Rattle.std.specs.Map.{lookup}
-use Rattle.std.specs.Option.{unwrap_or}
-use Rattle.wi_ranges.specs.Bag.{count_of, is_same}
+use Rattle.std.proofs.Common.{◌≡◌, ◌+◌, ◌-◌, arith}
+use Rattle.wi_ranges.specs.Bag.{count_of}
+use Rattle.wi_ranges.specs.Inner.Index.{bag_of}
 use Rattle.wi_ranges.specs.declared.pair.Numbered.{Numbered}
-use Rattle.wi_ranges.proofs.BagLemmas.{counted_less, indexed_less, lacks_all, others_kept}
+use Rattle.wi_ranges.proofs.BagLemmas.{has_one_less, lost, whole_less}
+use Rattle.wi_ranges.proofs.First.{row_there}
 use Rattle.wi_ranges.proofs.bag.remove_pair.Goals as goal
 
-pub overflow_sub-last : goal.overflow_sub-last
-overflow_sub-last c =
-    let some : lookup (is_same c.args.pair.now) c.args.counts.now.entries ≡ Some c.in-Some.count = search rules in
-    let pos : 0 < c.in-Some.count = c.requires.no_zero c.args.pair.now c.in-Some.count some in
-    omega (arith, pos)
-
-pub returns-clause-indexed : goal.returns-clause-indexed
-returns-clause-indexed c =
-    let p = c.args.pair.now in
-    let n = c.in-Some.count in
-    let m : Numbered = record { pair = p; number = n - 1 } in
-    let bag = c.args.counts.now.entries in
+pub returns-then-count-gt0-clause-less : goal.returns-then-count-gt0-clause-less
+returns-then-count-gt0-clause-less c =
+    let m : Numbered = record { pair = c.args.pair.now; number = c.count_at-count.result - 1 } in
+    let x = c.around-around.result in
+    let ks = c.args.pieces.now.keys in
     let us = c.take_out.new.pieces.keys in
-    let some : lookup (is_same p) bag ≡ Some n = search rules in
-    let pos : 0 < n = c.requires.no_zero p n some in
-    let count : count_of bag p ≡ (n - 1) + 1 = ap (λ o. unwrap_or o 0) some ∙ omega (arith, pos) in
-    indexed_less m bag c.count_down.new.counts.entries c.args.pieces.now.keys us c.requires.indexed count c.count_down.ensures.less
-    (lacks_all m c.around.result us c.around.ensures.blocks c.take_out.ensures.taken) (others_kept m c.around.result c.args.pieces.now.keys us c.around.ensures.blocks c.take_out.ensures.kept)
+    let count : count_of (bag_of ks) m.pair ≡ (c.count_at-count.result - 1) + 1 = omega (arith, c.count_at-count.ensures, c.if-count-gt0.true) in
+    has_one_less m ks us (row_there m.pair x 1048576 c.around-around.ensures.holds c.around-around.ensures.within) (lost m x ks us c.around-around.ensures.blocks c.requires count c.take_out.ensures.loses)
 
-pub returns-clause-counted : goal.returns-clause-counted
-returns-clause-counted c =
-    let p = c.args.pair.now in
-    let n = c.in-Some.count in
-    let m : Numbered = record { pair = p; number = n - 1 } in
-    let bag = c.args.counts.now.entries in
-    let some : lookup (is_same p) bag ≡ Some n = search rules in
-    let pos : 0 < n = c.requires.no_zero p n some in
-    let count : count_of bag p ≡ (n - 1) + 1 = ap (λ o. unwrap_or o 0) some ∙ omega (arith, pos) in
-    counted_less m c.around.result bag c.count_down.new.counts.entries c.args.pieces.now.keys c.take_out.new.pieces.keys c.around.ensures.blocks
-    c.requires.indexed c.requires.counted count c.take_out.ensures.order c.take_out.ensures.count c.count_down.ensures.total
-
-pub returns-clause-less : goal.returns-clause-less
-returns-clause-less c = c.count_down.ensures.less
-
-pub returns-clause-no_zero : goal.returns-clause-no_zero
-returns-clause-no_zero c = c.count_down.ensures.no_zero
+pub returns-then-count-gt0-clause-whole : goal.returns-then-count-gt0-clause-whole
+returns-then-count-gt0-clause-whole c =
+    let m : Numbered = record { pair = c.args.pair.now; number = c.count_at-count.result - 1 } in
+    let x = c.around-around.result in
+    let ks = c.args.pieces.now.keys in
+    let us = c.take_out.new.pieces.keys in
+    let count : count_of (bag_of ks) m.pair ≡ (c.count_at-count.result - 1) + 1 = omega (arith, c.count_at-count.ensures, c.if-count-gt0.true) in
+    whole_less m x ks us c.around-around.ensures.blocks (row_there m.pair x 1048576 c.around-around.ensures.holds c.around-around.ensures.within) c.requires count
+    (lost m x ks us c.around-around.ensures.blocks c.requires count c.take_out.ensures.loses) c.take_out.ensures.taken c.take_out.ensures.kept c.take_out.ensures.order

@@ -2,7 +2,8 @@ use Rattle.std.proofs.Common.{◌≡◌, [], ◌+◌, ◌-◌, ◌^◌, sym, ◌
 use Rattle.wi_ranges.specs.Blocks.{block, blocks_in, first_row, last_row}
 use Rattle.wi_ranges.proofs.BlockLemmas.{blocks_within-apart, blocks_within-row, halves_of}
 use Rattle.wi_ranges.proofs.Apart.{halves_apart}
-use Rattle.wi_ranges.proofs.PieceLemmas.{count_put_here, count_put_both, count_none, told_here, stays_told, kept_here, told_both, kept_both, kept_first, piece_of_none}
+use Rattle.wi_ranges.proofs.BagLemmas.{on_error}
+use Rattle.wi_ranges.proofs.PieceLemmas.{absent_here, absent_lower, absent_upper, gains_here, gains_both, gains_none, told_here, stays_told, kept_here, told_both, kept_both, kept_first, piece_of_none}
 use Rattle.wi_ranges.proofs.pieces.+put_in.Goals as goal
 use Rattle.wi_ranges.proofs.pieces.+put_in.Goals.{else-block-gt0-via-then-block-gt0+else-meets, else-block-gt0-via-else-block-gt0}
 
@@ -33,9 +34,9 @@ pub returns-in_ok-insert-clause-stays : goal.returns-in_ok-insert-clause-stays
 returns-in_ok-insert-clause-stays t c =
     stays_told c.args.numbered.now c.args.block.now c.args.pieces.now.keys c.insert.new.self.keys true (λ q. c.in_ok-insert.ensures.updates.0 q)
 
-pub returns-in_ok-insert-clause-count : goal.returns-in_ok-insert-clause-count
-returns-in_ok-insert-clause-count t c =
-    count_put_here c.args.numbered.now c.args.block.now c.args.pieces.now.keys c.insert.new.self.keys c.in_ok-insert.field-0 (sym c.lies_within.ensures ∙ c.if-lies_within.true) c.in_ok-insert.ensures.added c.in_ok-insert.ensures.len
+pub returns-in_ok-insert-clause-gains : goal.returns-in_ok-insert-clause-gains
+returns-in_ok-insert-clause-gains t c =
+    gains_here c.args.numbered.now c.args.block.now c.args.pieces.now.keys c.insert.new.self.keys (sym c.lies_within.ensures ∙ c.if-lies_within.true) c.in_ok-insert.ensures.keys
 
 pub returns-in_ok-put_in-2-clause-put : goal.returns-in_ok-put_in-2-clause-put
 returns-in_ok-put_in-2-clause-put t c =
@@ -49,11 +50,11 @@ returns-in_ok-put_in-2-clause-kept t c =
     (halves_of c.args.numbered.now.pair c.args.block.now c.upper.result c.lower.result c.upper.ensures.value c.lower.ensures.value (sym c.lies_within.ensures ∙ c.if-lies_within.false) c.if-block-gt0.true (sym c.meets.ensures ∙ c.if-meets.true))
     c.put_in.ensures.kept c.put_in-then-meets.ensures.kept
 
-pub returns-in_ok-put_in-2-clause-count : goal.returns-in_ok-put_in-2-clause-count
-returns-in_ok-put_in-2-clause-count t c =
-    count_put_both c.args.numbered.now c.args.block.now c.upper.result c.lower.result c.args.pieces.now.keys c.put_in.new.pieces.keys c.put_in-then-meets.new.pieces.keys
+pub returns-in_ok-put_in-2-clause-gains : goal.returns-in_ok-put_in-2-clause-gains
+returns-in_ok-put_in-2-clause-gains t c =
+    gains_both c.args.numbered.now c.args.block.now c.upper.result c.lower.result c.args.pieces.now.keys c.put_in.new.pieces.keys c.put_in-then-meets.new.pieces.keys
     (halves_of c.args.numbered.now.pair c.args.block.now c.upper.result c.lower.result c.upper.ensures.value c.lower.ensures.value (sym c.lies_within.ensures ∙ c.if-lies_within.false) c.if-block-gt0.true (sym c.meets.ensures ∙ c.if-meets.true))
-    c.in_ok-put_in.ensures.count c.in_ok-put_in-2.ensures.count c.put_in.ensures.kept
+    c.in_ok-put_in.ensures.gains c.in_ok-put_in-2.ensures.gains c.put_in.ensures.kept
     (halves_apart c.args.block.now c.upper.result c.lower.result c.args.numbered.now c.upper.ensures.value c.lower.ensures.value)
 
 pub returns-else-block-gt0-clause-put : goal.returns-else-block-gt0-clause-put
@@ -67,8 +68,8 @@ returns-else-block-gt0-clause-put t c =
     ] in
     λ q h. absurd (piece_of_none (blocks_in p x) c.args.numbered.now q none h)
 
-pub returns-else-block-gt0-clause-count : goal.returns-else-block-gt0-clause-count
-returns-else-block-gt0-clause-count t c =
+pub returns-else-block-gt0-clause-gains : goal.returns-else-block-gt0-clause-gains
+returns-else-block-gt0-clause-gains t c =
     let x = c.args.block.now in
     let p = c.args.numbered.now.pair in
     let apart = sym c.lies_within.ensures ∙ c.if-lies_within.false in
@@ -76,7 +77,7 @@ returns-else-block-gt0-clause-count t c =
       | else-block-gt0-via-then-block-gt0+else-meets w ↦ blocks_within-apart (first_row p) (last_row p) x.level x.first apart (sym w.meets.ensures ∙ w.if-meets.false)
       | else-block-gt0-via-else-block-gt0 w ↦ blocks_within-row (first_row p) (last_row p) x.level x.first apart (omega (arith, w.if-block-gt0.false))
     ] in
-    λ h. count_none (blocks_in p x) c.args.pieces.now.keys none
+    λ h. gains_none c.args.numbered.now (blocks_in p x) c.args.pieces.now.keys none
 
 pub returns-in_err-put_in-2-clause-stays : goal.returns-in_err-put_in-2-clause-stays
 returns-in_err-put_in-2-clause-stays t c = λ q h. c.put_in-then-meets.ensures.stays q (c.put_in.ensures.stays q h)
@@ -89,3 +90,24 @@ returns-in_ok-put_in-2-clause-stays t c = λ q h. c.put_in-then-meets.ensures.st
 
 pub returns-in_ok-put_in-2-clause-order : goal.returns-in_ok-put_in-2-clause-order
 returns-in_ok-put_in-2-clause-order t c = λ h. c.put_in-then-meets.ensures.order (c.put_in.ensures.order h)
+
+pub returns-in_err-insert-clause-absent : goal.returns-in_err-insert-clause-absent
+returns-in_err-insert-clause-absent t c =
+    on_error c.from_residual.result (absent_here c.args.numbered.now c.args.block.now c.args.pieces.now.keys (sym c.lies_within.ensures ∙ c.if-lies_within.true) c.in_err-insert.ensures.absent)
+
+pub returns-in_err-put_in-clause-absent : goal.returns-in_err-put_in-clause-absent
+returns-in_err-put_in-clause-absent t c =
+    let m = c.args.numbered.now in
+    let x = c.args.block.now in
+    let lower = block (x.level - 1) (x.first + 2 ^ (x.level - 1)) in
+    on_error c.from_residual-in_err-put_in.result
+    (absent_upper m x c.upper.result lower c.args.pieces.now.keys
+    (halves_of m.pair x c.upper.result lower c.upper.ensures.value refl (sym c.lies_within.ensures ∙ c.if-lies_within.false) c.if-block-gt0.true (sym c.meets.ensures ∙ c.if-meets.true))
+    c.in_err-put_in.ensures.absent)
+
+pub returns-in_err-put_in-2-clause-absent : goal.returns-in_err-put_in-2-clause-absent
+returns-in_err-put_in-2-clause-absent t c =
+    on_error c.from_residual-in_err-put_in-2.result
+    (absent_lower c.args.numbered.now c.args.block.now c.upper.result c.lower.result c.args.pieces.now.keys c.put_in.new.pieces.keys
+    (halves_of c.args.numbered.now.pair c.args.block.now c.upper.result c.lower.result c.upper.ensures.value c.lower.ensures.value (sym c.lies_within.ensures ∙ c.if-lies_within.false) c.if-block-gt0.true (sym c.meets.ensures ∙ c.if-meets.true))
+    c.put_in.ensures.kept (halves_apart c.args.block.now c.upper.result c.lower.result c.args.numbered.now c.upper.ensures.value c.lower.ensures.value) c.in_err-put_in-2.ensures.absent)

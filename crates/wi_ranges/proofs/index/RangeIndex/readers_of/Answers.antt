@@ -10,10 +10,9 @@ use Rattle.std.proofs.lemmas.Map.Keys.{IsStrictlyIncreasing-from_sorted}
 use Rattle.std.proofs.lemmas.Map.Lookups.{exact_unsigned}
 use Rattle.std.proofs.lemmas.Map.Views.{btree_set_contains_iff}
 use Rattle.std.specs.BTreeMap.{is_at}
-use Rattle.wi_ranges.specs.declared.block.Block.{Block}
 use Rattle.wi_ranges.specs.Blocks.{blocks_with}
 use Rattle.wi_ranges.specs.Bag.{Bag, IsReader}
-use Rattle.wi_ranges.specs.Inner.Index.{Piece, reads_at}
+use Rattle.wi_ranges.specs.Inner.Index.{Piece, bag_of, reads_at}
 use Rattle.wi_ranges.proofs.Found.{reader_found, found_reader}
 use Rattle.wi_ranges.proofs.index.RangeIndex.readers_of.Goals as goal
 
@@ -32,7 +31,7 @@ returns-then-is_empty-clause-readers c =
     let none : ks ≡ [] = no_items ks (c.if-is_empty.ensures.0 refl) in λ r. (
       λ h. absurd (none_there c.new.result.items r c.new.ensures.items h),
       λ h. absurd (true≢false (sym (subst (λ (us : List Piece). list_any (reads_at (blocks_with row 20 0) a r) us ≡ true) none
-          (found_reader c.self.inside.counts.entries ks row a r c.row-row.ensures.value c.row-row.ensures.within c.self.invariant.0 (subst (λ (b : Bag). IsReader b a r) (sym c.self.view_is) h))))),
+          (found_reader (bag_of ks) ks row a r c.row-row.ensures.value c.row-row.ensures.within c.self.invariant.0 (subst (λ (b : Bag). IsReader b a r) (sym c.self.view_is) h))))),
     )
 
 pub returns-clause-order : goal.returns-clause-order
@@ -43,16 +42,16 @@ returns-clause-order c =
 pub returns-clause-readers : goal.returns-clause-readers
 returns-clause-readers c =
     let set = c.add_all_readers.new.readers in
-    let bag = c.self.inside.counts.entries in
+    let bag = bag_of c.self.inside.pieces.keys in
     let ks = c.self.inside.pieces.keys in
     let row = c.row-row.result in
     let a = c.args.at in
     let xs = blocks_with row 20 0 in
-    let path = ap (λ (x : Block). blocks_with row x.level x.first) c.sheet.ensures in
+    let block = c.highest_block-block.result in
     let none : (r : ℕ) → contains nat_cmp c.new-readers.result r ≡ false = λ r. ap (λ (us : List ℕ). list_any (λ k. is_at (nat_cmp r) k) us) c.new-readers.ensures.empty in
     let found : (r : ℕ) → contains nat_cmp set r ≡ list_any (reads_at xs a r) ks = λ r.
-    c.in_ok-add_all_readers.ensures r ∙ ap (λ b. b || list_any (reads_at (blocks_with row c.sheet.result.level c.sheet.result.first) a r) ks) (none r)
-    ∙ ap (λ (us : List Block). list_any (reads_at us a r) ks) path in
+    c.in_ok-add_all_readers.ensures r ∙ ap (λ b. b || list_any (reads_at (blocks_with row block.level block.first) a r) ks) (none r)
+    ∙ c.highest_block-block.ensures.all a r in
     let reader : (r : ℕ) → Contains set.keys r → IsReader c.args.self.now a r = λ r h.
     subst (λ (b : Bag). IsReader b a r) c.self.view_is
     (reader_found bag ks xs a r c.self.invariant.0 (sym (found r) ∙ (btree_set_contains_iff nat_cmp_total exact_unsigned set r).1 h)) in
