@@ -9,6 +9,7 @@ pub mod Agreement
 pub mod Cones
 pub mod SetSteps
 pub mod WithinSteps
+pub mod BoundsSteps
 pub mod HeldSteps
 pub mod CircularAfter
 pub mod StripSteps

@@ -3,38 +3,43 @@
 ghost use Rattle.std.specs.Prelude.{◌≡◌};
 ghost use Rattle.std.specs.List.{list_any};
 ghost use Rattle.std.specs.List.Sorted.{IsStrictlyIncreasing};
+ghost use Rattle.wi_graph.specs.Inner.Bounds.{AreWithin};
 ghost use Rattle.wi_graph.specs.Inner.Rooms.{items_of, areas_of};
 ghost use Rattle.wi_graph.specs.Inner.Search.{as_set};
 ghost use Rattle.wi_graph.specs.Inner.Turning.{has_one, reads_one_of};
 
+use crate::bounds::around;
 use crate::rooms::Rooms;
-use crate::within::next_listed;
+use crate::within::first_listed;
 use wi_values::{Address, Rect};
 
-/// Whether what is next reads a cell of a cone, which is in row-major order. The work is that of `next_listed` for each
-/// rectangle that it reads.
+/// Whether what is next reads a cell of a cone, which is in row-major order. The work grows with the count of the cone, and is
+/// that of `first_listed` for each rectangle that is read.
 pub(crate) fn closes_cycle(next: &Rooms, cone: &[Address]) -> bool
     requires { IsStrictlyIncreasing cone.now }
     ensures { result ≡ reads_one_of next.now.entries (as_set cone.now) }
 {
-    next.iter().any(|(_, room)| reads_one(room, cone))
+    let bounds = around(cone);
+    next.iter().any(|(_, room)| reads_one(room, cone, bounds))
 }
 
 /// Whether the rectangles of a room have one of the cells.
-fn reads_one(room: &Option<Vec<Rect>>, cells: &[Address]) -> bool
-    requires { IsStrictlyIncreasing cells.now }
+fn reads_one(room: &Option<Vec<Rect>>, cells: &[Address], bounds: Rect) -> bool
+    requires order { IsStrictlyIncreasing cells.now }
+    requires within { AreWithin bounds (as_set cells.now) }
     ensures { result ≡ list_any (has_one (as_set cells.now)) (areas_of (items_of room.now)) }
 {
     match room {
-        Some(areas) => areas.iter().any(|area| has_one(*area, cells)),
+        Some(areas) => areas.iter().any(|area| has_one(*area, cells, bounds)),
         None => false,
     }
 }
 
 /// Whether a rectangle has one of the cells.
-fn has_one(area: Rect, cells: &[Address]) -> bool
-    requires { IsStrictlyIncreasing cells.now }
+fn has_one(area: Rect, cells: &[Address], bounds: Rect) -> bool
+    requires order { IsStrictlyIncreasing cells.now }
+    requires within { AreWithin bounds (as_set cells.now) }
     ensures { result ≡ has_one (as_set cells.now) area }
 {
-    next_listed(cells, area, area.first()).is_some()
+    first_listed(cells, bounds, area).is_some()
 }

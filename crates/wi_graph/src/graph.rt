@@ -13,6 +13,7 @@ ghost use Rattle.wi_graph.specs.Edges.{AreEdgesOf, areas_in, edges_after, stagin
 ghost use Rattle.wi_graph.specs.Inner.Changes.{Brings};
 ghost use Rattle.wi_graph.specs.Inner.Rooms.{room_at, IsGraph, IsStaged};
 
+use crate::cell_set::CellSet;
 use crate::changes::{Change, reads_stay, rooms_of};
 use crate::cone::{edit_cone, listed_cone};
 use crate::rooms::{Rooms, take_back, take_over};
@@ -20,7 +21,7 @@ use crate::sets::take_away;
 use crate::staging::bring_in;
 use crate::turning::{Turns, bring_circles, turns_of};
 use std::alloc::{AllocError, Global};
-use std::collections::{BTreeMap, BTreeSet};
+use std::collections::BTreeMap;
 use std::marker::Model;
 use wi_parser::Content;
 use wi_ranges::RangeIndex;
@@ -39,7 +40,7 @@ struct Staged {
 pub struct Graph {
     rooms: Rooms,
     readers: RangeIndex,
-    circles: BTreeSet<Address>,
+    circles: CellSet,
     staged: Option<Staged>,
     alloc: Global,
 }
@@ -67,7 +68,7 @@ impl Graph {
         Graph {
             rooms: BTreeMap::new(alloc),
             readers: RangeIndex::new(alloc),
-            circles: BTreeSet::new(alloc),
+            circles: CellSet::new(alloc),
             staged: None,
             alloc,
         }
@@ -158,7 +159,7 @@ fn make_ready(
     alloc: Global,
     rooms: &mut Rooms,
     readers: &mut RangeIndex,
-    circles: &mut BTreeSet<Address>,
+    circles: &mut CellSet,
     changes: &[Change],
     cone: &[Address],
 ) -> Result<Staged, AllocError>

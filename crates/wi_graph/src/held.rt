@@ -6,20 +6,20 @@ ghost use Rattle.std.specs.BTreeSet.{contains};
 ghost use Rattle.wi_graph.specs.Reach.{is_one_of};
 ghost use Rattle.wi_graph.specs.Inner.Turning.{has_circle_outside, reads_outside};
 
+use crate::cell_set::CellSet;
 use crate::sets::set_of;
 use crate::stripping::Areas;
 use crate::within::{next_after, next_within};
 use std::alloc::{AllocError, Global};
-use std::collections::BTreeSet;
 use wi_values::{Address, Rect};
 
 /// The cells of a cone that read a circular cell outside it. The work is that of `has_circle_outside` for each rectangle that they read.
 pub(crate) fn held_set(
     alloc: Global,
     reads: &Areas,
-    circles: &BTreeSet<Address>,
-    cells: &BTreeSet<Address>,
-) -> Result<BTreeSet<Address>, AllocError>
+    circles: &CellSet,
+    cells: &CellSet,
+) -> Result<CellSet, AllocError>
     ensures { IfOk result (λ held. (c : ℕ) → contains nat_cmp held c
         ≡ is_one_of (filter (reads_outside reads.now circles.now cells.now) cells.now.keys) c) }
 {
@@ -31,13 +31,14 @@ pub(crate) fn held_set(
 fn held_cells(
     alloc: Global,
     reads: &Areas,
-    circles: &BTreeSet<Address>,
-    cells: &BTreeSet<Address>,
+    circles: &CellSet,
+    cells: &CellSet,
 ) -> Result<Vec<Address>, AllocError>
     ensures { IfOk result (λ v. v.items
         ≡ filter (reads_outside reads.now circles.now cells.now) cells.now.keys) }
 {
     cells
+        .set()
         .iter()
         .filter(|cell| is_held(reads, **cell, circles, cells))
         .copied()
@@ -45,12 +46,7 @@ fn held_cells(
 }
 
 /// Whether a cell reads a circular cell outside the cone.
-fn is_held(
-    reads: &Areas,
-    cell: Address,
-    circles: &BTreeSet<Address>,
-    cells: &BTreeSet<Address>,
-) -> bool
+fn is_held(reads: &Areas, cell: Address, circles: &CellSet, cells: &CellSet) -> bool
     ensures { result ≡ reads_outside reads.now circles.now cells.now cell }
 {
     match reads.get(&cell) {
@@ -63,7 +59,7 @@ fn is_held(
 
 /// Whether a rectangle has a circular cell outside the cone. The work is that of `next_within` for each circular cell of the
 /// cone in the rectangle, and once more.
-fn has_circle_outside(area: Rect, circles: &BTreeSet<Address>, cells: &BTreeSet<Address>) -> bool
+fn has_circle_outside(area: Rect, circles: &CellSet, cells: &CellSet) -> bool
     ensures { result ≡ has_circle_outside circles.now cells.now area }
 {
     let mut ahead = next_within(circles, area, area.first());

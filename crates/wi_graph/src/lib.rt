@@ -1,6 +1,8 @@
 //! The graph of references: which cells are on or above a cycle, and which cells depend on a cell.
 #![tactic(auto)]
 
+mod bounds;
+mod cell_set;
 mod changes;
 mod closing;
 mod cone;

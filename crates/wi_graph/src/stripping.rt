@@ -5,10 +5,11 @@ ghost use Rattle.std.specs.Ordering.{nat_cmp};
 ghost use Rattle.std.specs.BTreeSet.{contains};
 ghost use Rattle.wi_graph.specs.Inner.Stripping.{is_in, reads_in, waiting_for, KeepsReads, ReadsNone, EachReadsOne, AreStripped, IsWithin, IsTracking, IsFree};
 
+use crate::cell_set::CellSet;
 use crate::sets::without;
 use crate::within::{next_within, rows_from};
 use std::alloc::{AllocError, Global};
-use std::collections::{BTreeMap, BTreeSet};
+use std::collections::BTreeMap;
 use wi_values::{Address, Rect};
 
 /// The rectangles that formulas read, by their cells.
@@ -18,13 +19,14 @@ pub(crate) type Areas = BTreeMap<Address, Vec<Rect>>;
 type Waiters = BTreeMap<Address, Vec<Address>>;
 
 /// Takes away from a set, again and again, each cell that reads none of the set; those that are held stay. The work grows
-/// with the count of the cells, of the rectangles that they read, of the cells of the set in each of these, and of its rows
-/// where a cell of the set stands beside it, times logarithms. If memory runs out, some that could go stay.
+/// with the count of the cells, of the rectangles that they read, of the cells of the set in each of these, and, where the
+/// rectangle around the set meets it, of its rows where a cell of the set stands beside it, times logarithms. If memory runs
+/// out, some that could go stay.
 pub(crate) fn strip(
     alloc: Global,
     mut areas: Areas,
-    held: &BTreeSet<Address>,
-    rest: &mut BTreeSet<Address>,
+    held: &CellSet,
+    rest: &mut CellSet,
 ) -> Result<(), AllocError>
     ensures within { IsWithin rest.new rest.old }
     ensures gone { AreStripped areas held.now rest.old rest.new }
@@ -50,8 +52,8 @@ pub(crate) fn strip(
 fn next_free(
     alloc: Global,
     areas: &mut Areas,
-    held: &BTreeSet<Address>,
-    rest: &BTreeSet<Address>,
+    held: &CellSet,
+    rest: &CellSet,
     work: &mut Vec<Address>,
     waiting: &mut Waiters,
 ) -> Result<Option<Address>, AllocError>
@@ -78,7 +80,7 @@ fn next_free(
 fn open_read(
     areas: &mut Areas,
     cell: Address,
-    rest: &BTreeSet<Address>,
+    rest: &CellSet,
 ) -> Result<Option<Address>, AllocError>
     ensures kept { OnOk result (KeepsReads rest.now areas.old areas.new) }
     ensures read { IfOk result (λ o. IfSome o (λ d. reads_in areas.old cell d ≡ true)) }
@@ -93,10 +95,7 @@ fn open_read(
 
 /// One of a set that the rectangles have, if they have one. Rectangles that have none are dropped from the end of the list,
 /// and the last that is left begins at the row of the one found.
-fn first_read(
-    areas: &mut Vec<Rect>,
-    rest: &BTreeSet<Address>,
-) -> Result<Option<Address>, AllocError>
+fn first_read(areas: &mut Vec<Rect>, rest: &CellSet) -> Result<Option<Address>, AllocError>
     ensures kept { OnOk result ((d : ℕ) → contains nat_cmp rest.now d ≡ true
         → is_in areas.new.items d ≡ is_in areas.old.items d) }
     ensures read { IfOk result (λ o. IfSome o (λ d. is_in areas.old.items d ≡ true)) }

@@ -10,6 +10,7 @@ ghost use Rattle.wi_graph.specs.Inner.Rooms.{room_at, AreCircles};
 ghost use Rattle.wi_graph.specs.Inner.Stripping.{IsWithin};
 ghost use Rattle.wi_graph.specs.Inner.Turning.{reads_one_of, AreTurns, SettlesCone};
 
+use crate::cell_set::CellSet;
 use crate::changes::reads_stay;
 use crate::closing::closes_cycle;
 use crate::held::held_set;
@@ -18,7 +19,6 @@ use crate::rooms::Rooms;
 use crate::sets::{insert_all, listed, set_of, take_away, without};
 use crate::stripping::strip;
 use std::alloc::{AllocError, Global};
-use std::collections::BTreeSet;
 use wi_values::Address;
 
 /// The cells that are circular after an edit alone, and those that are circular before it alone.
@@ -29,13 +29,13 @@ pub(crate) struct Turns {
 }
 
 /// The cells that turn once what is next is put in, of which the cone is given in row-major order. Where each cell reads what
-/// it read before, the work grows with what is next; where no cell is circular and no cycle is closed, also with the rows of
-/// what that reads, times the logarithm of the count of the cone, and it takes no memory; else also with the cone and what its
-/// cells read, times logarithms.
+/// it read before, the work grows with what is next; where no cell is circular and no cycle is closed, also with the count of
+/// the cone, and with the rows of what that reads where the rectangle around the cone meets it, times the logarithm of that
+/// count, and it takes no memory; else also with the cone and what its cells read, times logarithms.
 pub(crate) fn turns_of(
     alloc: Global,
     rooms: &Rooms,
-    circles: &BTreeSet<Address>,
+    circles: &CellSet,
     next: &Rooms,
     cone: &[Address],
 ) -> Result<Turns, AllocError>
@@ -54,7 +54,7 @@ pub(crate) fn turns_of(
 fn turns_in(
     alloc: Global,
     rooms: &Rooms,
-    circles: &BTreeSet<Address>,
+    circles: &CellSet,
     next: &Rooms,
     cone: &[Address],
 ) -> Result<Turns, AllocError>
@@ -74,9 +74,9 @@ fn turns_in(
 fn turns_among(
     alloc: Global,
     rooms: &Rooms,
-    circles: &BTreeSet<Address>,
+    circles: &CellSet,
     next: &Rooms,
-    cone: &BTreeSet<Address>,
+    cone: &CellSet,
 ) -> Result<Turns, AllocError>
     requires circles { AreCircles (room_at rooms.now) (contains nat_cmp circles.now) }
     requires cone { IsEditCone rooms.now next.now (contains nat_cmp cone.now) }
@@ -102,13 +102,14 @@ fn no_turns(alloc: Global) -> Turns
 /// The cells of a cone that were circular and are not among the rest.
 fn went_of(
     alloc: Global,
-    circles: &BTreeSet<Address>,
-    cells: &BTreeSet<Address>,
-    rest: &BTreeSet<Address>,
+    circles: &CellSet,
+    cells: &CellSet,
+    rest: &CellSet,
 ) -> Result<Vec<Address>, AllocError>
     ensures { IfOk result (λ v. v.items ≡ went_from circles.now cells.now rest.now) }
 {
     cells
+        .set()
         .iter()
         .filter(|cell| circles.contains(*cell) && !rest.contains(*cell))
         .copied()
@@ -120,13 +121,13 @@ fn circular_in_cone(
     alloc: Global,
     rooms: &Rooms,
     next: &Rooms,
-    circles: &BTreeSet<Address>,
-    cells: &BTreeSet<Address>,
-) -> Result<BTreeSet<Address>, AllocError>
+    circles: &CellSet,
+    cells: &CellSet,
+) -> Result<CellSet, AllocError>
     ensures within { IfOk result (λ rest. IsWithin rest cells.now) }
     ensures settles { IfOk result (SettlesCone rooms.now next.now circles.now cells.now) }
 {
-    let list = listed(alloc, cells)?;
+    let list = listed(alloc, cells.set())?;
     let reads = reads_of(alloc, rooms, next, &list)?;
     let held = held_set(alloc, &reads, circles, cells)?;
     let mut rest = set_of(alloc, &list)?;
@@ -135,10 +136,7 @@ fn circular_in_cone(
 }
 
 /// Puts cells that turn circular into the circular cells. If memory runs out, these are as before.
-pub(crate) fn bring_circles(
-    circles: &mut BTreeSet<Address>,
-    came: &[Address],
-) -> Result<(), AllocError>
+pub(crate) fn bring_circles(circles: &mut CellSet, came: &[Address]) -> Result<(), AllocError>
     requires { (c : ℕ) → is_one_of came.now c ≡ true → contains nat_cmp circles.old c ≡ false }
     ensures ok { OnOk result ((c : ℕ) → contains nat_cmp circles.new c
         ≡ (contains nat_cmp circles.old c || is_one_of came.now c)) }

@@ -5,16 +5,29 @@ ghost use Rattle.std.specs.List.Sorted.{IsStrictlyIncreasing, IsPartitionPoint};
 ghost use Rattle.std.specs.Ordering.{nat_cmp};
 ghost use Rattle.std.specs.BTreeSet.{contains};
 ghost use Rattle.wi_values.specs.Address.{row_of, is_within};
+ghost use Rattle.wi_graph.specs.Inner.Bounds.{AreWithin};
 ghost use Rattle.wi_graph.specs.Inner.Search.{as_set};
 ghost use Rattle.wi_graph.specs.Inner.Within.{IsAhead, IsBetween, IsFoundBy};
 
+use crate::bounds::common;
+use crate::cell_set::CellSet;
 use std::collections::BTreeSet;
 use std::ops::Bound;
 use wi_values::{Address, Rect};
 
-/// The first cell of a set in a rectangle, at a cell or after it, in row-major order. The work grows with the logarithm of
-/// the count of the set, once and for each row of the rectangle where a cell of the set beside it comes before the one found.
-pub(crate) fn next_within(cells: &BTreeSet<Address>, area: Rect, from: Address) -> Option<Address>
+/// The first cell of a set in a rectangle, at a cell or after it, in row-major order. The work grows with the logarithm of the
+/// count of the set, once and for each row of the rectangle where a cell of the set beside it comes before the one found; where
+/// the rectangle around the set doesn't meet it, it is constant.
+pub(crate) fn next_within(cells: &CellSet, area: Rect, from: Address) -> Option<Address>
+    ensures found { IfSome result (IsAhead cells.now area from) }
+    ensures first { (c : ℕ) → IsAhead cells.now area from c → IsFoundBy result c }
+{
+    let part = common(area, cells.around())?;
+    next_in_part(cells.set(), part, from)
+}
+
+/// The same, wherever the rectangle lies.
+fn next_in_part(cells: &BTreeSet<Address>, area: Rect, from: Address) -> Option<Address>
     ensures found { IfSome result (IsAhead cells.now area from) }
     ensures first { (c : ℕ) → IsAhead cells.now area from c → IsFoundBy result c }
 {
@@ -30,7 +43,7 @@ pub(crate) fn next_within(cells: &BTreeSet<Address>, area: Rect, from: Address) 
 }
 
 /// The first cell of a set in a rectangle after one of the rectangle. The work is that of `next_within`.
-pub(crate) fn next_after(cells: &BTreeSet<Address>, area: Rect, cell: Address) -> Option<Address>
+pub(crate) fn next_after(cells: &CellSet, area: Rect, cell: Address) -> Option<Address>
     requires { cell ≤ area.last }
     ensures found { IfSome result (IsAhead cells.now area (cell + 1)) }
     ensures first { (c : ℕ) → IsAhead cells.now area (cell + 1) c → IsFoundBy result c }
@@ -39,9 +52,19 @@ pub(crate) fn next_after(cells: &BTreeSet<Address>, area: Rect, cell: Address) -
     next_within(cells, area, from)
 }
 
-/// The first cell of a list, which is in row-major order, in a rectangle, at a cell or after it. The work is that of
-/// `next_within`.
-pub(crate) fn next_listed(cells: &[Address], area: Rect, from: Address) -> Option<Address>
+/// The first cell of a list, which is in row-major order and within bounds, in a rectangle. The work is that of `next_within`.
+pub(crate) fn first_listed(cells: &[Address], bounds: Rect, area: Rect) -> Option<Address>
+    requires order { IsStrictlyIncreasing cells.now }
+    requires within { AreWithin bounds (as_set cells.now) }
+    ensures found { IfSome result (IsAhead (as_set cells.now) area area.first) }
+    ensures first { (c : ℕ) → IsAhead (as_set cells.now) area area.first c → IsFoundBy result c }
+{
+    let part = common(area, bounds)?;
+    next_listed(cells, part, area.first())
+}
+
+/// The same at a cell or after it, wherever the rectangle lies.
+fn next_listed(cells: &[Address], area: Rect, from: Address) -> Option<Address>
     requires { IsStrictlyIncreasing cells.now }
     ensures found { IfSome result (IsAhead (as_set cells.now) area from) }
     ensures first { (c : ℕ) → IsAhead (as_set cells.now) area from c → IsFoundBy result c }

@@ -1,6 +1,6 @@
 use Rattle.wi_values.proofs.Within.{places_left}
 use Rattle.wi_graph.proofs.WithinSteps.{IsSeeking}
-use Rattle.wi_graph.proofs.within.next_within.Given as goal
+use Rattle.wi_graph.proofs.within.next_in_part.Given as goal
 
 abbrev pub invariant-loop-ahead : goal.invariant-loop-ahead
 invariant-loop-ahead l = IsSeeking l.cells l.area l.fn.from l.ahead

@@ -1,0 +1,5 @@
+use Rattle.std.proofs.Common.{sym, rules}
+use Rattle.wi_graph.proofs.sets.without.Goals as goal
+
+pub returns : goal.returns
+returns c = rw (sym c.set.ensures, sym c.set-2.ensures) (search rules)
