@@ -4,3 +4,5 @@ pub mod ChangeLemmas
 pub mod EditLemmas
 pub mod Within
 pub mod NextRoom
+pub mod ColumnLemmas
+pub mod ColumnRooms

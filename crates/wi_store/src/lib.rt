@@ -1,6 +1,7 @@
 //! The contents of a sheet, within limits, and the log of edits.
 #![tactic(auto)]
 
+mod columns;
 mod fault;
 mod limits;
 mod rooms;

@@ -1,17 +1,19 @@
 //! A sheet within limits.
 
-ghost use Rattle.std.specs.Prelude.{◌≡◌, ◌<◌, ◌≤◌, ◌⊎◌, ◌++◌, ◌&&◌, ℕ, List, [], true, false, nat_le, filter, length, option_map, IfOk, IfSome, OnOk, OnErr};
+ghost use Rattle.std.specs.Prelude.{◌≡◌, ◌<◌, ◌≤◌, ◌+◌, ◌-◌, ◌⊎◌, ◌++◌, ◌&&◌, ℕ, List, [], true, false, nat_le, filter, length, option_map, IfOk, IfSome, OnOk, OnErr};
 ghost use Rattle.std.specs.Option.{option_copied};
 ghost use Rattle.std.specs.List.{find};
 ghost use Rattle.std.specs.List.Sorted.{IsStrictlyIncreasing};
 ghost use Rattle.std.specs.Map.{keys_of};
-ghost use Rattle.wi_values.specs.Address.{is_within};
+ghost use Rattle.wi_values.specs.Address.{column_of, is_within};
 ghost use Rattle.wi_parser.specs.Sheet.{content_of, has_formula, cells_with_formula};
 ghost use Rattle.wi_store.specs.Store.{edited, applied, Applies};
 ghost use Rattle.wi_store.specs.Inner.Rooms.{sheet_in, formula_rooms, room_of, RoomsAreInOrder, HasNoVacancy, VacantOnlyAt};
 ghost use Rattle.wi_store.specs.Store.{is_ahead};
 ghost use Rattle.wi_store.specs.Inner.Exchange.{admitted};
+ghost use Rattle.wi_store.specs.Inner.Columns.{HasCellsOf};
 
+use crate::columns::{Columns, first_ahead};
 use crate::fault::StoreFault;
 use crate::limits::Limits;
 use crate::rooms::{Change, Rooms, exchange_all, exchange_back, make_room, release};
@@ -28,6 +30,8 @@ use wi_values::{Address, Rect};
 pub struct Store {
     // None of them is vacant but while an edit goes on.
     rooms: Rooms,
+    // The cells of the rooms.
+    columns: Columns,
     edits: u64,
     limits: Limits,
     alloc: Global,
@@ -44,10 +48,11 @@ impl Model for Store {
     ghost coded = { Prim.hlevel (codes, content.the_row.coded) };
 
     ghost use Rattle.wi_store.specs.Inner.Rooms.{sheet_in, RoomsAreInOrder, HasNoVacancy};
+    ghost use Rattle.wi_store.specs.Inner.Columns.{HasCellsOf};
 
     ghost view = { λ s. record { sheet = sheet_in s.rooms.entries; edits = s.edits; limits = s.limits } };
 
-    ghost invariant = { λ s. RoomsAreInOrder s.rooms.entries × HasNoVacancy s.rooms.entries };
+    ghost invariant = { λ s. RoomsAreInOrder s.rooms.entries × HasNoVacancy s.rooms.entries × HasCellsOf s.rooms.entries s.columns };
 }
 
 impl Store {
@@ -59,6 +64,7 @@ impl Store {
     {
         Store {
             rooms: BTreeMap::new(alloc),
+            columns: Columns::new(alloc),
             edits: 0,
             limits,
             alloc,
@@ -107,16 +113,23 @@ impl Store {
     /// cell the later counts.
     /// `Full` if the sheet would then have more occupied cells than the limit, or else `EditLimit` if no more
     /// edits are accepted; `Memory` if memory runs out. After each of them all is as before. The work for each
-    /// pair grows with the logarithm of the count of occupied cells: two searches for a content and one for none; up to
-    /// two more for each pair where a cell loses its content, and up to three where the edit is refused.
+    /// pair grows with the logarithm of the count of occupied cells: two searches for a content, one more where its cell
+    /// had none, and one for none; up to three more for each pair where a cell loses its content, and up to four where the
+    /// edit is refused.
     pub fn apply(&mut self, mut changes: Vec<(Address, Option<Content>)>) -> Result<(), StoreFault>
         ensures { Applies (applied self.old changes.items) result self.old self.new }
     {
         settle(&mut changes);
         let before = self.occupied();
-        let answer = edit(&mut self.rooms, &self.limits, self.edits, &mut changes);
+        let answer = edit(
+            &mut self.rooms,
+            &mut self.columns,
+            &self.limits,
+            self.edits,
+            &mut changes,
+        );
         let occupied = answer.unwrap_or(before);
-        release(&mut self.rooms, &changes, occupied);
+        release(&mut self.rooms, &mut self.columns, &changes, occupied);
         answer?;
         self.edits += 1;
         Ok(())
@@ -167,13 +180,14 @@ impl Store {
         }
     }
 
-    /// The same with what stands there. The work grows with the logarithm of the count of all occupied cells, once and for
-    /// each row of the rectangle where a cell beside it comes before the one found.
+    /// The same with what stands there. The work grows with the logarithm of the count of all occupied cells for each search:
+    /// two, and at most two more for each row of the rectangle where a cell beside it comes before the one found, or for each
+    /// of its columns where these are fewer. So a column costs four searches at most, whatever stands beside it.
     pub fn next_content(&self, area: Rect, from: Address) -> Option<(Address, &Content)>
         ensures cell { option_map (λ x. x.0) result ≡ find (λ a. nat_le from a) (filter (is_within area) (keys_of self.now.sheet)) }
         ensures content { IfSome result (λ x. content_of self.now.sheet x.0 ≡ Some x.1.now) }
     {
-        match next_room(&self.rooms, area, from) {
+        match next_room(&self.rooms, &self.columns, area, from) {
             Some((cell, room)) => match room {
                 Some(content) => Some((cell, content)),
                 None => unreachable!(),
@@ -252,14 +266,26 @@ fn next_inside(area: Rect, at: Address) -> Option<Address>
     }
 }
 
-// The first room of a rectangle, at a cell or after it.
-fn next_room(rooms: &Rooms, area: Rect, from: Address) -> Option<(Address, &Option<Content>)>
-    requires { RoomsAreInOrder rooms.now.entries }
+// The first room of a rectangle, at a cell or after it. Where rooms beside it are passed in more rows than it has columns,
+// it is sought by columns.
+fn next_room<'a>(
+    rooms: &'a Rooms,
+    columns: &Columns,
+    area: Rect,
+    from: Address,
+) -> Option<(Address, &'a Option<Content>)>
+    requires order { RoomsAreInOrder rooms.now.entries }
+    requires columns { HasCellsOf rooms.now.entries columns.now }
     ensures cell { option_map (λ x. x.0) result ≡ find (is_ahead area (Some from)) (keys_of rooms.now.entries) }
     ensures room { IfSome result (λ x. room_of rooms.now.entries x.0 ≡ Some x.1.now) }
 {
+    let mut searches = row_searches(area);
     let mut ahead = Some(from);
     while let Some(start) = ahead {
+        if searches == 0 {
+            return next_by_columns(rooms, columns, area, start);
+        }
+        searches -= 1;
         match first_room(rooms, start, area.last()) {
             Some((cell, room)) => {
                 if area.contains(cell) {
@@ -271,6 +297,34 @@ fn next_room(rooms: &Rooms, area: Rect, from: Address) -> Option<(Address, &Opti
         }
     }
     None
+}
+
+// How often a rectangle is searched row after row before it is searched by columns: once, and once for each of its columns.
+fn row_searches(area: Rect) -> u32
+    ensures { result ≡ (column_of area.last + 2) - column_of area.first }
+{
+    area.last().column() + 2 - area.first().column()
+}
+
+// The same, with a search in each column.
+fn next_by_columns<'a>(
+    rooms: &'a Rooms,
+    columns: &Columns,
+    area: Rect,
+    from: Address,
+) -> Option<(Address, &'a Option<Content>)>
+    requires order { RoomsAreInOrder rooms.now.entries }
+    requires columns { HasCellsOf rooms.now.entries columns.now }
+    ensures cell { option_map (λ x. x.0) result ≡ find (is_ahead area (Some from)) (keys_of rooms.now.entries) }
+    ensures room { IfSome result (λ x. room_of rooms.now.entries x.0 ≡ Some x.1.now) }
+{
+    match first_ahead(columns, area, from) {
+        Some(cell) => match rooms.get(&cell) {
+            Some(room) => Some((cell, room)),
+            None => unreachable!(),
+        },
+        None => None,
+    }
 }
 
 // The first room from a cell to another. No end is sought in the map: one way down is all.
@@ -297,20 +351,23 @@ fn is_formula(room: &Option<Content>) -> bool
 // the changed cells may be vacant after either.
 fn edit(
     rooms: &mut Rooms,
+    columns: &mut Columns,
     limits: &Limits,
     edits: u64,
     changes: &mut [Change],
 ) -> Result<u64, StoreFault>
     requires order { RoomsAreInOrder rooms.old.entries }
     requires full { HasNoVacancy rooms.old.entries }
+    requires columns { HasCellsOf rooms.old.entries columns.old }
     ensures done { OnOk result (sheet_in rooms.new.entries ≡ edited (sheet_in rooms.old.entries) changes.old) }
     ensures refused { OnErr result (sheet_in rooms.new.entries ≡ sheet_in rooms.old.entries) }
     ensures cause { (result ≡ Err StoreFault.Memory)
         ⊎ (result ≡ admitted limits.now (length (edited (sheet_in rooms.old.entries) changes.old)) edits) }
     ensures order { RoomsAreInOrder rooms.new.entries }
     ensures vacant { VacantOnlyAt (keys_of changes.new) rooms.new.entries }
+    ensures columns { HasCellsOf rooms.new.entries columns.new }
 {
-    let vacant = make_room(rooms, changes)?;
+    let vacant = make_room(rooms, columns, changes)?;
     let occupied = exchange_all(rooms, changes, vacant);
     let answer = limits.admit(occupied as u64, edits);
     if answer.is_err() {

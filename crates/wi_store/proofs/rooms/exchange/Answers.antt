@@ -7,6 +7,7 @@ use Rattle.wi_parser.specs.declared.content.Content.{Content}
 use Rattle.wi_store.specs.Inner.Rooms.{Rooms, sheet_in, room_of}
 use Rattle.wi_store.proofs.RoomLemmas.{Ascends-from_order, content_of-sheet_in}
 use Rattle.wi_store.proofs.ExchangeLemmas.{sheet_in-set_value, is_at_apart, none_kept, nothing_stands, nothing_put}
+use Rattle.wi_store.proofs.ColumnRooms.{same_cells-put}
 use Rattle.wi_store.proofs.rooms.exchange.Goals as goal
 
 pub returns-in-Some-clause-sheet : goal.returns-in-Some-clause-sheet
@@ -28,6 +29,11 @@ returns-in-Some-clause-kept c =
 pub returns-in-Some-clause-others : goal.returns-in-Some-clause-others
 returns-in-Some-clause-others c =
     λ q apart. ((c.get_mut.follows.holds c.swap.new.x).3 (ap is_some (sym c.in-Some.ensures.value))).2 q (is_at_apart c.args.at q apart)
+
+pub returns-in-Some-clause-cells : goal.returns-in-Some-clause-cells
+returns-in-Some-clause-cells c =
+    let found = ap is_some (sym c.in-Some.ensures.value) in
+    λ q. same_cells-put c.args.at q c.swap.new.x c.args.rooms.now.entries _ (((c.get_mut.follows.holds c.swap.new.x).3 found).0 q) found
 
 pub returns-in_default-clause-sheet : goal.returns-in_default-clause-sheet
 returns-in_default-clause-sheet c =

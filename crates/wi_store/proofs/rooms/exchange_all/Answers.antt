@@ -4,6 +4,7 @@ use Rattle.wi_store.specs.Inner.Rooms.{sheet_in}
 use Rattle.wi_store.specs.Inner.Exchange.{stood}
 use Rattle.wi_store.proofs.RoomLemmas.{Ascends-from_order, Ascends-sheet_in}
 use Rattle.wi_store.proofs.ChangeLemmas.{edited_more, stood_more, room_more, vacant_more, keys_of-set, count_fits, counted_more}
+use Rattle.wi_store.proofs.ColumnRooms.{same_cells-then}
 use Rattle.wi_store.proofs.rooms.exchange_all.Goals as goal
 
 pub overflow_add-occupied : goal.overflow_add-occupied
@@ -41,4 +42,5 @@ loop-change-preserved c =
       vacant = rw (keys_of-set c.loop-change.changes c.loop-change.change-index c.change-item.result c.exchange.new.content)
           (vacant_more c.loop-change.changes c.loop-change.change-index c.change-item.result
           c.loop-change.rooms.entries c.exchange.new.rooms.entries below c.exchange.ensures.others c.loop-change.invariant.vacant);
+      cells = same_cells-then c.args.rooms.now.entries c.loop-change.rooms.entries c.exchange.new.rooms.entries c.loop-change.invariant.cells c.exchange.ensures.cells;
     }

@@ -4,6 +4,7 @@ use Rattle.std.specs.Map.{keys_of}
 use Rattle.wi_store.specs.Store.{edited}
 use Rattle.wi_store.specs.Inner.Rooms.{sheet_in, RoomsAreInOrder, VacantOnlyAt, HasRoomFor}
 use Rattle.wi_store.specs.Inner.Exchange.{stood}
+use Rattle.wi_store.specs.Inner.Columns.{HaveSameCells}
 use Rattle.wi_store.proofs.rooms.exchange_all.Given as goal
 
 abbrev pub invariant-loop-change : goal.invariant-loop-change
@@ -15,4 +16,5 @@ invariant-loop-change l = record {
   order : RoomsAreInOrder l.rooms.entries;
   room : All (HasRoomFor l.rooms.entries) l.changes;
   vacant : VacantOnlyAt (keys_of l.changes) l.rooms.entries;
+  cells : HaveSameCells l.initial.rooms.entries l.rooms.entries;
 }

@@ -3,6 +3,7 @@ use Rattle.wi_store.specs.Inner.Rooms.{sheet_in}
 use Rattle.wi_store.specs.Inner.Exchange.{restored}
 use Rattle.wi_store.proofs.RoomLemmas.{Ascends-from_order}
 use Rattle.wi_store.proofs.ChangeLemmas.{restored_more, room_more, vacant_more, keys_of-set}
+use Rattle.wi_store.proofs.ColumnRooms.{same_cells-then}
 use Rattle.wi_store.proofs.rooms.exchange_back.Goals as goal
 
 pub exchange-requires-clause-room : goal.exchange-requires-clause-room
@@ -22,4 +23,5 @@ loop-i-preserved c =
       vacant = rw (keys_of-set c.loop-i.changes (c.loop-i.i - 1) c.index-changes-i.result c.exchange.new.content)
           (vacant_more c.loop-i.changes (c.loop-i.i - 1) c.index-changes-i.result c.loop-i.rooms.entries c.exchange.new.rooms.entries
           below c.exchange.ensures.others c.loop-i.invariant.vacant);
+      cells = same_cells-then c.args.rooms.now.entries c.loop-i.rooms.entries c.exchange.new.rooms.entries c.loop-i.invariant.cells c.exchange.ensures.cells;
     }

@@ -3,6 +3,7 @@ use Rattle.std.specs.List.{All}
 use Rattle.std.specs.Map.{keys_of}
 use Rattle.wi_store.specs.Inner.Rooms.{sheet_in, RoomsAreInOrder, VacantOnlyAt, HasRoomFor}
 use Rattle.wi_store.specs.Inner.Exchange.{restored}
+use Rattle.wi_store.specs.Inner.Columns.{HaveSameCells}
 use Rattle.wi_store.proofs.rooms.exchange_back.Given as goal
 
 abbrev pub invariant-loop-i : goal.invariant-loop-i
@@ -11,4 +12,5 @@ invariant-loop-i l = record {
   order : RoomsAreInOrder l.rooms.entries;
   room : All (HasRoomFor l.rooms.entries) l.changes;
   vacant : VacantOnlyAt (keys_of l.changes) l.rooms.entries;
+  cells : HaveSameCells l.initial.rooms.entries l.rooms.entries;
 }

@@ -9,6 +9,7 @@ pub loop-at-init : goal.loop-at-init
 loop-at-init c = record {
   sheet = refl;
   order = c.requires.order;
+  columns = c.requires.columns;
   vacant = vacant_none _ c.args.rooms.now.entries c.requires.full;
   room = λ k d l. absurd (omega arith);
 }
@@ -24,6 +25,7 @@ loop-at-preserved c =
     record {
       sheet = c.make_one.ensures.sheet ∙ c.loop-at.invariant.sheet;
       order = c.make_one.ensures.order c.loop-at.invariant.order;
+      columns = c.make_one.ensures.columns c.loop-at.invariant.columns;
       vacant = vacant_more_made c.args.changes.now c.loop-at.at-index c.loop-at-item.result c.loop-at.rooms.entries c.make_one.new.rooms.entries
           below c.loop-at-item.is c.make_one.ensures.vacant c.loop-at.invariant.vacant;
       room = room_more_made c.args.changes.now c.loop-at.at-index c.loop-at-item.result c.loop-at.rooms.entries c.make_one.new.rooms.entries

@@ -35,9 +35,15 @@ loop-ahead-preserved c =
     let rooms = c.args.rooms.now.entries in
     let keys = keys_of rooms in
     let kept = ap (λ (o : Option ℕ). find (is_ahead c.args.area o) keys) (sym c.in-Some.is) ∙ c.loop-ahead.invariant in
-    search_on c.args.area c.in-Some.start _ c.next_inside-ahead.result rooms (Ascends-from_order rooms c.requires) (first_found c.args.area c.in-Some.start c.last.result (cell_of c.first_room.result) _ keys c.last.ensures c.first_room.ensures.cell (search rules)) (search rules) c.next_inside-ahead.ensures.after c.next_inside-ahead.ensures.all ∙ kept
+    search_on c.args.area c.in-Some.start _ c.next_inside-ahead.result rooms (Ascends-from_order rooms c.requires.order) (first_found c.args.area c.in-Some.start c.last.result (cell_of c.first_room.result) _ keys c.last.ensures c.first_room.ensures.cell (search rules)) (search rules) c.next_inside-ahead.ensures.after c.next_inside-ahead.ensures.all ∙ kept
 
 pub returns-clause-cell : goal.returns-clause-cell
 returns-clause-cell c =
     let keys = keys_of c.args.rooms.now.entries in
     sym (nothing_found c.args.area keys) ∙ ap (λ (o : Option ℕ). find (is_ahead c.args.area o) keys) (sym c.in_default.is) ∙ c.loop-ahead.invariant
+
+pub returns-then-searches-eq0-clause-cell : goal.returns-then-searches-eq0-clause-cell
+returns-then-searches-eq0-clause-cell c =
+    let keys = keys_of c.args.rooms.now.entries in
+    let kept = ap (λ (o : Option ℕ). find (is_ahead c.args.area o) keys) (sym c.in-Some.is) ∙ c.loop-ahead.invariant in
+    c.next_by_columns.ensures.cell ∙ kept
