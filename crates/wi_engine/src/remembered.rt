@@ -24,6 +24,8 @@ pub struct Remembered<'a> {
     order: Vec<Address>,
     // Of the replaced addresses so far: which of those cells reach them.
     cones: Cones,
+    // The replacements of the last key that had some of them, and not all.
+    last: World,
     table: RunTable,
 }
 
@@ -59,6 +61,7 @@ impl<'a> Remembered<'a> {
             store,
             order,
             cones: BTreeMap::new(alloc),
+            last: World::new(alloc),
             table: RunTable::new(alloc),
         }
     }
@@ -68,10 +71,11 @@ impl<'a> Memo for Remembered<'a> {
     ghost state = { question_state };
 
     /// The key for a cell under replacements. The work for an address that is replaced for the first time is one pass
-    /// over what all the cells read; else it grows with the count of replacements, and with logarithms.
+    /// over what all the cells read; else it grows with the count of replacements, and with logarithms. Keys in turn with the
+    /// same part of the replacements share it.
     fn key(&mut self, at: Address, world: &World) -> Result<Key, AllocError> {
         add_cones(self.alloc, self.store, &self.order, world, &mut self.cones)?;
-        let world = world.reaching(at, &self.cones)?;
+        let world = world.reaching(at, &self.cones, &mut self.last)?;
         Ok(Key {
             cell: at,
             generation: 0,

@@ -1,11 +1,12 @@
 -- Cells that are not replaced.
-use Rattle.std.proofs.Common.{◌≡◌, ◌==◌, ◌||◌, ℕ, Bool, true, false, cond, List, [], ◌∷◌, Option, Some, None, refl, ap, sym, ◌∙◌}
+use Rattle.std.proofs.Common.{◌≡◌, ◌==◌, ◌||◌, ℕ, Bool, true, false, cond, List, [], ◌∷◌, Option, Some, None, is_some, Bor, refl, ap, sym, ◌∙◌, arith}
+use Rattle.std.proofs.lemmas.Bool.Decides.{nat_tests}
 use Rattle.std.specs.List.{list_any}
-use Rattle.std.specs.Option.{option_or}
+use Rattle.std.specs.Option.{option_or, option_copied}
 use Rattle.wi_values.specs.declared.value.Value.{Value}
 use Rattle.wi_values.specs.declared.value.Value.TheVariants.{Empty}
 use Rattle.wi_values.specs.declared.replacement.Replacement.{Replacement}
-use Rattle.wi_values.specs.Replacements.{last_for}
+use Rattle.wi_values.specs.Replacements.{last_for, replaced}
 use Rattle.wi_parser.specs.declared.content.Content.{Content}
 use Rattle.wi_parser.specs.Sheet.{Sheet, content_of, put_all, has_formula}
 use Rattle.wi_graph.specs.Circular.{circular}
@@ -13,6 +14,18 @@ use Rattle.wi_sheet.specs.CellValue.{value_of}
 use Rattle.wi_sheet.specs.Shown.{shown}
 use Rattle.wi_sheet.proofs.Last.{over, content_by_last}
 use Rattle.wi_sheet.proofs.Steps.{put_not_circular, value_plain, shown_open}
+
+found_replaced : (p : List Replacement) (a : ℕ) → is_some (replaced p a) ≡ list_any (λ r. r.at == a) p
+found_replaced [] a = refl
+found_replaced (r ∷ rs) a = grind (arith, nat_tests, found_replaced rs a)
+
+some_copied : (o : Option (Bor Value)) → is_some o ≡ is_some (option_copied o)
+some_copied None = refl
+some_copied (Some v) = refl
+
+-- a value is found exactly where one of the replacements is of the cell
+pub found_where_replaced : (o : Option (Bor Value)) (p : List Replacement) (a : ℕ) → option_copied o ≡ replaced p a → is_some o ≡ list_any (λ r. r.at == a) p
+found_where_replaced o p a e = some_copied o ∙ ap (λ (v : Option Value). is_some v) e ∙ found_replaced p a
 
 none_put : (p : List Replacement) (a : ℕ) → list_any (λ r. r.at == a) p ≡ false → last_for p a ≡ None
 none_put [] a h = refl

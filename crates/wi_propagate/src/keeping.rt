@@ -27,6 +27,8 @@ pub struct Keeping<'a> {
     generations: &'a Generations,
     // Of the replaced cells so far, and of some before: which cells reach them.
     cones: Cones,
+    // The replacements of the last key that had some of them, and not all.
+    last: World,
     table: RunTable,
     kept: Kept,
 }
@@ -82,6 +84,7 @@ impl<'a> Keeping<'a> {
             graph,
             generations,
             cones,
+            last: World::new(alloc),
             table: RunTable::new(alloc),
             kept,
         }
@@ -104,10 +107,11 @@ impl<'a> Memo for Keeping<'a> {
     ghost state = { state_in };
 
     /// The key for a cell under replacements. The work for a cell that is replaced for the first time is that of its cone;
-    /// else it grows with the count of replacements, and with logarithms.
+    /// else it grows with the count of replacements, and with logarithms. Keys in turn with the same part of the replacements
+    /// share it.
     fn key(&mut self, at: Address, world: &World) -> Result<Key, AllocError> {
         add_cones(self.alloc, self.graph, world, &mut self.cones)?;
-        let world = world.reaching(at, &self.cones)?;
+        let world = world.reaching(at, &self.cones, &mut self.last)?;
         Ok(Key {
             cell: at,
             generation: generation_of(self.generations, at),

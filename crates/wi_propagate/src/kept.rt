@@ -164,11 +164,12 @@ impl Calculator for KeptCalculator {
     }
 
     /// What a cell shows under replacements. A formula is evaluated where its value is not kept, and its value is kept then.
-    /// A cell that is circular takes no look at the replacements, and one without a formula that isn't replaced a look at the
-    /// address of each. For any other all are compared with those of the last two questions, and where they are others they are
-    /// copied, put in order and hashed. The key of each formula that is asked for goes over all of them once more: it looks into
-    /// the cone of each replaced cell, with work that grows with logarithms, and finds the cone where it isn't known; those that
-    /// reach the formula are copied and hashed where others don't.
+    /// A cell that is circular takes no look at the replacements, and one without a formula that isn't replaced a search among
+    /// them, with work that grows with the logarithm of their count. For any other all are compared with those of the last two
+    /// questions, and where they are others they are copied, put in order and hashed. The key of each formula that is asked for
+    /// goes over all of them once more: it looks into the cone of each replaced cell, with work that grows with logarithms, and
+    /// finds the cone where it isn't known. Those that reach the formula are copied and hashed where others don't, and where they
+    /// aren't the same as for the last such key.
     fn value(&mut self, put: &[Replacement], at: Address) -> Result<Value, AllocError>
         requires { IsInOrder put.now }
         ensures value { IfOk result (λ v. v ≡ show.shown self.old.stored.sheet put.now at) }

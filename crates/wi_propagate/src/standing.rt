@@ -2,6 +2,7 @@
 
 ghost use Rattle.std.specs.Prelude.{◌≡◌, ◌==◌, false, IfOk, IfSome};
 ghost use Rattle.std.specs.List.{list_any};
+ghost use Rattle.wi_values.specs.Replacements.{IsInOrder};
 ghost use Rattle.wi_parser.specs.Sheet.{content_of, has_formula, put_all};
 ghost use Rattle.wi_graph.specs.Circular.{circular};
 ghost use Rattle.wi_sheet.specs.Shown as show;
@@ -10,16 +11,18 @@ use std::alloc::{AllocError, Global};
 use wi_parser::Content;
 use wi_store::Store;
 use wi_values::{Address, Replacement, Value};
+use wi_worlds::value_at;
 
-/// What a cell shows that has no formula and is not replaced, and of any other none. The work is a look at the address of each
-/// replacement, and grows with the logarithm of the count of occupied cells.
+/// What a cell shows that has no formula and is not replaced, and of any other none. The work grows with the logarithms of the
+/// count of replacements and of the count of occupied cells.
 pub fn standing_value(
     alloc: Global,
     store: &Store,
     put: &[Replacement],
     at: Address,
 ) -> Result<Option<Value>, AllocError>
-    requires { circular store.now.sheet at ≡ false }
+    requires order { IsInOrder put.now }
+    requires open_cell { circular store.now.sheet at ≡ false }
     ensures value { IfOk result (λ o. IfSome o (λ v. v ≡ show.shown store.now.sheet put.now at)) }
     ensures no_formula { IfOk result
         (λ o. IfSome o (λ _. has_formula (content_of (put_all store.now.sheet put.now) at) ≡ false)) }
@@ -34,9 +37,10 @@ pub fn standing_value(
     }
 }
 
-// Whether one of the replacements is of a cell.
+// Whether one of the replacements, which stand in order, is of a cell.
 fn is_replaced(put: &[Replacement], at: Address) -> bool
+    requires { IsInOrder put.now }
     ensures { result ≡ list_any (λ r. r.at == at) put.now }
 {
-    put.iter().any(|replacement| replacement.at == at)
+    value_at(put, at).is_some()
 }

@@ -138,9 +138,16 @@ fn all_have_cones(world: &World, cones: &BTreeMap<Address, BTreeSet<Address>>) -
 }
 
 /// The replacements of a world whose cone has a cell.
-fn reaching(rt: &impl Abort, alloc: Global, world: &World, cones: &Cones, at: &str) -> String {
+fn reaching(
+    rt: &impl Abort,
+    alloc: Global,
+    world: &World,
+    cones: &Cones,
+    last: &mut World,
+    at: &str,
+) -> String {
     assert!(rt; all_have_cones(world, cones));
-    let found = world.reaching(cell(rt, at), cones).expect(rt, at);
+    let found = world.reaching(cell(rt, at), cones, last).expect(rt, at);
     let text = told(rt, alloc, &found);
     drop(found);
     text
@@ -153,8 +160,10 @@ fn expect_reaching(
     cones: &Cones,
     rows: &[(&str, &str)],
 ) {
+    let mut last = World::new(alloc);
     for (at, wanted) in rows {
-        expect_text(rt, at, &reaching(rt, alloc, world, cones, at), wanted);
+        let found = reaching(rt, alloc, world, cones, &mut last, at);
+        expect_text(rt, at, &found, wanted);
     }
 }
 

@@ -1,5 +1,5 @@
 -- What a binary search among replacements in order finds.
-use Rattle.std.proofs.Common.{◌≡◌, ℕ, zero, suc, ◌<◌, ◌≤◌, List, [], ◌∷◌, Some, None, Result, Ok, Err, MatchResult, length, get_or, map, refl, sym, ap, ◌∙◌, subst, arith}
+use Rattle.std.proofs.Common.{◌≡◌, ℕ, zero, suc, ◌<◌, ◌≤◌, List, [], ◌∷◌, Some, None, Result, Ok, Err, MatchResult, length, get_or, map, refl, sym, ap, subst, arith}
 use Rattle.std.specs.Ordering.{nat_cmp, ordering_index}
 use Rattle.std.specs.List.Sorted.{IsSearchInRange, IsBinarySearchResult, IsNonDecreasingBy}
 use Rattle.std.proofs.lemmas.Bool.Decides.{nat_tests}
@@ -50,15 +50,15 @@ module _ (rs : List Replacement) (order : IsInOrder rs) (a : ℕ) where
       let after : i ≤ k → a < (get_or rs k d).at = λ b. ranked _ a _ (sym ((parted comparisons_rise).1 k d b l)) in
       grind (arith, before, after, p))
 
--- the same of a list that is known by another name
-pub searched_of : (v seen : List Replacement) (a : ℕ) (r s : Result ℕ ℕ) → IsInOrder v → seen ≡ v → r ≡ s
-    → IsSearchInRange r (length seen) → IsBinarySearchResult (λ x. nat_cmp x.at a) seen r
-    → MatchResult s (λ i. (x : Replacement) → Some (get_or seen i x).value ≡ replaced v a) (λ i. None ≡ replaced v a)
-searched_of v seen a r s order same is within position =
-    by s (subst (λ (t : Result ℕ ℕ). MatchResult t (λ i. (d : Replacement) → replaced seen a ≡ Some (get_or seen i d).value) (λ i. replaced seen a ≡ None)) is
-    (searched seen (subst IsInOrder (sym same) order) a r within position))
+-- the same, as it is told of a reference
+pub searched_of : (rs : List Replacement) (a : ℕ) (r s : Result ℕ ℕ) → IsInOrder rs → r ≡ s
+    → IsSearchInRange r (length rs) → IsBinarySearchResult (λ x. nat_cmp x.at a) rs r
+    → MatchResult s (λ i. (x : Replacement) → Some (get_or rs i x).value ≡ replaced rs a) (λ i. None ≡ replaced rs a)
+searched_of rs a r s order is within position =
+    by s (subst (λ (t : Result ℕ ℕ). MatchResult t (λ i. (d : Replacement) → replaced rs a ≡ Some (get_or rs i d).value) (λ i. replaced rs a ≡ None)) is
+    (searched rs order a r within position))
   where
-    by : (t : Result ℕ ℕ) → MatchResult t (λ i. (d : Replacement) → replaced seen a ≡ Some (get_or seen i d).value) (λ i. replaced seen a ≡ None)
-        → MatchResult t (λ i. (x : Replacement) → Some (get_or seen i x).value ≡ replaced v a) (λ i. None ≡ replaced v a)
-    by (Ok i) h = λ x. sym (h x) ∙ ap (λ (xs : List Replacement). replaced xs a) same
-    by (Err i) h = sym h ∙ ap (λ (xs : List Replacement). replaced xs a) same
+    by : (t : Result ℕ ℕ) → MatchResult t (λ i. (d : Replacement) → replaced rs a ≡ Some (get_or rs i d).value) (λ i. replaced rs a ≡ None)
+        → MatchResult t (λ i. (x : Replacement) → Some (get_or rs i x).value ≡ replaced rs a) (λ i. None ≡ replaced rs a)
+    by (Ok i) h = λ x. sym (h x)
+    by (Err i) h = sym h

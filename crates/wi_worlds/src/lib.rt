@@ -4,6 +4,8 @@
 mod compared;
 mod entries;
 pub mod laws;
+mod lookup;
 mod world;
 
+pub use lookup::value_at;
 pub use world::World;

@@ -4,11 +4,12 @@ ghost use Rattle.std.specs.Prelude.{◌≡◌, ℕ, [], All, filter, None, IsSom
 ghost use Rattle.std.specs.BTreeMap.{get};
 ghost use Rattle.std.specs.Option.{option_copied, option_or};
 ghost use Rattle.std.specs.Ordering.{nat_cmp};
-ghost use Rattle.wi_values.specs.Replacements.{IsInOrder, as_map, last_for, overridden, replaced};
+ghost use Rattle.wi_values.specs.Replacements.{IsInOrder, as_map, last_for, overridden, replaced, same_replacements};
 ghost use Rattle.wi_worlds.specs.Inner.Compared.{digest_of};
 ghost use Rattle.wi_worlds.specs.Reaching.{cone_has, is_reached};
 
 use crate::entries::{copied, listed, put_in};
+use crate::lookup::value_at;
 use std::alloc::{AllocError, Global};
 use std::collections::{BTreeMap, BTreeSet};
 use std::hash::{FoldHasher, Hash, Hasher};
@@ -125,35 +126,39 @@ impl World {
     pub fn replacement(&self, at: Address) -> Option<&Value>
         ensures { option_copied result ≡ replaced self.now at }
     {
-        let all = self.replacements();
-        match all.binary_search_by_key(&at, |replacement| replacement.at) {
-            Ok(place) => Some(&all[place].value),
-            Err(_) => None,
-        }
+        value_at(self.replacements(), at)
     }
 
-    /// The replacements whose cone has a cell, the cones being those of the replaced addresses: all of them shared, or
-    /// none, without memory, and copies only where some are kept and some aren't. The work for each replacement grows with
-    /// the logarithms of the count of cones and of the count of cells in its own.
+    /// The replacements whose cone has a cell, the cones being those of the replaced addresses. Where they are all of them, or
+    /// none, or the same as the last that were neither, they are shared, without memory and without a hash; else they are
+    /// copied and hashed, and become the last. The answer is the same whatever the last are. The work for each replacement
+    /// grows with the logarithms of the count of cones and of the count of cells in its own; texts are compared with the
+    /// last byte by byte.
     pub fn reaching(
         &self,
         at: Address,
         cones: &BTreeMap<Address, BTreeSet<Address>>,
+        last: &mut World,
     ) -> Result<World, AllocError>
         requires cones { All (λ r. IsSome (get nat_cmp cones.now r.at)) self.now }
         ensures list { IfOk result (λ w. w ≡ filter (is_reached cones.now at) self.now) }
         ensures each { IfOk result (λ w. (a : ℕ) → replaced w a ≡ (if cone_has cones.now a at then replaced self.now a else None)) }
     {
         let all = self.replacements();
-        let count = count_reached(all, at, cones);
-        if count == all.len() {
+        let part = part_reached(all, at, cones, last.replacements());
+        if part.count == all.len() {
             return self.copy();
         }
-        if count == 0 {
+        if part.count == 0 {
             return Ok(World::new(self.alloc));
         }
-        let kept = reached(self.alloc, count, all, at, cones)?;
-        World::of(self.alloc, kept)
+        if part.is_last {
+            return last.copy();
+        }
+        let kept = reached(self.alloc, part.count, all, at, cones)?;
+        let world = World::of(self.alloc, kept)?;
+        *last = world.copy()?;
+        Ok(world)
     }
 }
 
@@ -166,22 +171,38 @@ fn digest(replacements: &[Replacement]) -> u64
     hasher.finish()
 }
 
-/// Of how many replacements the cone has a cell.
-fn count_reached(
+/// Some of the replacements.
+#[derive(Clone, Copy)]
+struct Part {
+    /// How many they are.
+    count: usize,
+    /// Whether they are the last part once more.
+    is_last: bool,
+}
+
+/// The replacements whose cone has a cell, compared with the last part in the same walk.
+fn part_reached(
     replacements: &[Replacement],
     at: Address,
     cones: &BTreeMap<Address, BTreeSet<Address>>,
-) -> usize
+    last: &[Replacement],
+) -> Part
     requires cones { All (λ r. IsSome (get nat_cmp cones.now r.at)) replacements.now }
-    ensures { result ≡ length (filter (is_reached cones.now at) replacements.now) }
+    ensures count { result.count ≡ length (filter (is_reached cones.now at) replacements.now) }
+    ensures last { result.is_last ≡ same_replacements last.now (filter (is_reached cones.now at) replacements.now) }
 {
     let mut count = 0;
+    let mut is_last = true;
     for replacement in replacements {
         if is_reached(replacement.at, at, cones) {
+            is_last = is_last && last.get(count) == Some(replacement);
             count += 1;
         }
     }
-    count
+    Part {
+        count,
+        is_last: is_last && count == last.len(),
+    }
 }
 
 /// Copies of the replacements whose cone has a cell, in a list with room for their count.

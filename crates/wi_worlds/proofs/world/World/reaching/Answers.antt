@@ -5,6 +5,7 @@ use Rattle.std.specs.BTreeSet.{BTreeSet}
 use Rattle.std.specs.Ordering.{nat_cmp}
 use Rattle.wi_values.specs.declared.replacement.Replacement.{Replacement}
 use Rattle.wi_values.specs.Replacements.{IsInOrder, replaced}
+use Rattle.wi_values.proofs.Replacements.Same.{same_replacements_Decides}
 use Rattle.wi_values.proofs.Replacements.Filtering.{order_of_filter, replaced-filter}
 use Rattle.wi_worlds.specs.Reaching.{cone_has, is_reached}
 use Rattle.wi_worlds.proofs.Filtering.{filter_whole, filter_nothing}
@@ -22,24 +23,24 @@ made_of : {E : Type 0} (p : Replacement → Bool) (rs kept : List Replacement) (
 made_of p rs kept (Ok w) h e = h ∙ e
 made_of p rs kept (Err x) h e = tt
 
-pub returns-then-count-all-clause-list : goal.returns-then-count-all-clause-list
-returns-then-count-all-clause-list c =
+pub returns-then-part-all-clause-list : goal.returns-then-part-all-clause-list
+returns-then-part-all-clause-list c =
     let p = is_reached c.args.cones.now c.args.at in
     let same = c.replacements-all.ensures.value in
     made_of p c.args.self.now c.args.self.now c.copy.result c.copy.ensures
-    (sym (filter_whole p c.replacements-all.result.now c.args.self.now same (sym c.count_reached-count.ensures ∙ c.if-count-all.true)))
+    (sym (filter_whole p c.replacements-all.result.now c.args.self.now same (sym c.part_reached-part.ensures.count ∙ c.if-part-all.true)))
 
-pub returns-then-count-all-clause-each : goal.returns-then-count-all-clause-each
-returns-then-count-all-clause-each c = each_of c.args.cones.now c.args.at c.args.self.now c.copy.result (returns-then-count-all-clause-list c)
+pub returns-then-part-all-clause-each : goal.returns-then-part-all-clause-each
+returns-then-part-all-clause-each c = each_of c.args.cones.now c.args.at c.args.self.now c.copy.result (returns-then-part-all-clause-list c)
 
-pub returns-then-count-eq0-clause-list : goal.returns-then-count-eq0-clause-list
-returns-then-count-eq0-clause-list c =
+pub returns-then-part-eq0-clause-list : goal.returns-then-part-eq0-clause-list
+returns-then-part-eq0-clause-list c =
     c.new.ensures ∙ sym (filter_nothing (is_reached c.args.cones.now c.args.at) c.replacements-all.result.now c.args.self.now c.replacements-all.ensures.value
-    (sym c.count_reached-count.ensures ∙ c.if-count-eq0.true))
+    (sym c.part_reached-part.ensures.count ∙ c.if-part-eq0.true))
 
-pub returns-then-count-eq0-clause-each : goal.returns-then-count-eq0-clause-each
-returns-then-count-eq0-clause-each c = λ a.
-    ap (λ (v : List Replacement). replaced v a) (returns-then-count-eq0-clause-list c)
+pub returns-then-part-eq0-clause-each : goal.returns-then-part-eq0-clause-each
+returns-then-part-eq0-clause-each c = λ a.
+    ap (λ (v : List Replacement). replaced v a) (returns-then-part-eq0-clause-list c)
     ∙ replaced-filter (λ b. cone_has c.args.cones.now b c.args.at) a c.args.self.now
 
 pub reached-requires : goal.reached-requires
@@ -53,11 +54,23 @@ of-requires c = record {
       (order_of_filter (is_reached c.args.cones.now c.args.at) c.args.self.now c.replacements-all.ensures.order);
 }
 
+pub returns-then-part-clause-list : goal.returns-then-part-clause-list
+returns-then-part-clause-list c =
+    let p = is_reached c.args.cones.now c.args.at in
+    let last = c.replacements.result.now in
+    let all = c.replacements-all.result.now in
+    let same = (same_replacements_Decides last (filter p all)).0 (sym c.part_reached-part.ensures.last ∙ c.if-part.true) in
+    made_of p c.args.self.now c.args.last.now c.copy-then-part.result c.copy-then-part.ensures
+    (sym c.replacements.ensures.value ∙ same ∙ ap (filter p) c.replacements-all.ensures.value)
+
+pub returns-then-part-clause-each : goal.returns-then-part-clause-each
+returns-then-part-clause-each c = each_of c.args.cones.now c.args.at c.args.self.now c.copy-then-part.result (returns-then-part-clause-list c)
+
 pub returns-clause-list : goal.returns-clause-list
 returns-clause-list c =
-    let p = is_reached c.args.cones.now c.args.at in
-    made_of p c.args.self.now c.in_ok-kept.kept.items c.of.result c.of.ensures
-    (c.in_ok-kept.ensures ∙ ap (filter p) c.replacements-all.ensures.value)
+    c.in_ok-world.ensures ∙ c.in_ok-kept.ensures ∙ ap (filter (is_reached c.args.cones.now c.args.at)) c.replacements-all.ensures.value
 
 pub returns-clause-each : goal.returns-clause-each
-returns-clause-each c = each_of c.args.cones.now c.args.at c.args.self.now c.of.result (returns-clause-list c)
+returns-clause-each c = λ a.
+    ap (λ (v : List Replacement). replaced v a) (returns-clause-list c)
+    ∙ replaced-filter (λ b. cone_has c.args.cones.now b c.args.at) a c.args.self.now

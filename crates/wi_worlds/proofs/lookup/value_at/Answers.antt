@@ -1,16 +1,16 @@
 use Rattle.std.proofs.Common.{rules}
 use Rattle.std.proofs.lemmas.List.Sorted.{answers_always}
 use Rattle.wi_worlds.proofs.Searching.{searched_of}
-use Rattle.wi_worlds.proofs.world.World.replacement.Goals as goal
+use Rattle.wi_worlds.proofs.lookup.value_at.Goals as goal
 
 pub returns-in-Ok : goal.returns-in-Ok
 returns-in-Ok c =
     let facts = c.binary_search_by_key.ensures in
-    searched_of c.args.self.now c.replacements-all.result.now c.args.at _ _ c.replacements-all.ensures.order c.replacements-all.ensures.value c.in-Ok.is facts.bound
+    searched_of c.args.replacements.now c.args.at _ _ c.requires c.in-Ok.is facts.bound
     (facts.position (λ r. r.at) (answers_always _ _ _ (λ f a r g called. search rules))) _
 
 pub returns-in-Err : goal.returns-in-Err
 returns-in-Err c =
     let facts = c.binary_search_by_key.ensures in
-    searched_of c.args.self.now c.replacements-all.result.now c.args.at _ _ c.replacements-all.ensures.order c.replacements-all.ensures.value c.in-Err.is facts.bound
+    searched_of c.args.replacements.now c.args.at _ _ c.requires c.in-Err.is facts.bound
     (facts.position (λ r. r.at) (answers_always _ _ _ (λ f a r g called. search rules)))
