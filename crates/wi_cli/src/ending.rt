@@ -9,6 +9,7 @@ ghost use Rattle.wi_cli.specs.Status.{ending_status};
 use crate::fault::{RunFault, fault_status};
 use crate::runs::run;
 use std::alloc::{AllocError, Global};
+use std::mem::forget;
 use wi_devices::{Sink, Source};
 use wi_propagate::KeptCalculator;
 use wi_scenarios::Workbook;
@@ -87,6 +88,6 @@ pub fn run_new<R: Source, W: Sink>(
         return Ending::new(Err(RunFault::Memory));
     };
     let outcome = run(alloc, reader, writer, &mut book);
-    drop(book);
+    forget(book);
     Ending::new(outcome)
 }

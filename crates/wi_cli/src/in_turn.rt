@@ -9,6 +9,7 @@ use crate::ending::{Ending, new_workbook};
 use crate::fault::RunFault;
 use crate::runs::run;
 use std::alloc::Global;
+use std::mem::forget;
 use wi_devices::{Sink, Source};
 use wi_propagate::Calculator;
 use wi_scenarios::Workbook;
@@ -66,6 +67,6 @@ pub fn run_new_in_turn<L: Source, R: Source, W: Sink>(
         return Ending::new(Err(RunFault::Memory));
     };
     let outcome = run_in_turn(alloc, load, reader, writer, &mut book);
-    drop(book);
+    forget(book);
     Ending::new(outcome)
 }
