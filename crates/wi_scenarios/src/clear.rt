@@ -15,8 +15,8 @@ use wi_parser::Content;
 use wi_propagate::{Calculator, occupied_in};
 use wi_values::{Address, Rect};
 
-/// Empties the cells of a rectangle. The work grows with its occupied cells, for which it is that of `apply_edit`, and with the
-/// rows in which a cell beside it is occupied.
+/// Empties the cells of a rectangle. The work grows with its occupied cells: for each it is that of `apply_edit`, and of a search,
+/// in which rows with a cell beside the rectangle count, but no more of them than the rectangle has columns.
 pub fn clear<C: Calculator>(
     alloc: Global,
     calculator: &mut C,
