@@ -50,7 +50,7 @@ pub fn apply_edit<C: Calculator>(
         return Err(Refusal::Stale(at));
     }
     let marked = marked_by(alloc, calculator, &edit.contents)?;
-    match edit_with_rooms(calculator, desk, edit, &marked) {
+    match edit_with_rooms(calculator, desk, edit, marked) {
         Ok(()) => {
             desk.sessions.take_all();
             Ok(())
@@ -125,22 +125,24 @@ fn addresses(
     Ok(cells)
 }
 
-/// Makes room for marked cells and edits the sheet. On an error there may be rooms that are vacant still.
+/// Makes room for marked cells and edits the sheet; the list of them goes before the edit takes its memory. On an error there
+/// may be rooms that are vacant still.
 fn edit_with_rooms<C: Calculator>(
     calculator: &mut C,
     desk: &mut Desk,
     edit: Edit,
-    marked: &[Address],
+    marked: Vec<Address>,
 ) -> Result<(), Refusal>
     requires within { desk.old.current < length desk.old.sessions.sessions }
     requires few { length desk.old.sessions.sessions ≤ max_sessions }
     requires full { (i : ℕ) → vacant_of desk.old.sessions i ≡ [] }
     ensures beside { SameBeside desk.old desk.new }
-    ensures rooms { OnOk result (HasRooms marked.now desk.new.sessions) }
+    ensures rooms { OnOk result (HasRooms marked.items desk.new.sessions) }
     ensures edit { Commits (applied (C.stored calculator.old) edit.contents.items) (record { session = desk.old.current; cells = edit.named.items })
         result (C.stored calculator.old) (C.stored calculator.new) desk.old.log desk.new.log }
 {
-    make_rooms(&mut desk.sessions, marked)?;
+    make_rooms(&mut desk.sessions, &marked)?;
+    drop(marked);
     commit(calculator, &mut desk.log, desk.current as u32, edit)
 }
 

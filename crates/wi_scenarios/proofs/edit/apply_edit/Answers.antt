@@ -21,10 +21,9 @@ returns-in-Ok-clause-adds g c =
       pending = c.take_all.ensures.pending;
       vacant = c.take_all.ensures.vacant;
     } in
-    let listed = c.deref-3.ensures.value in
     adds_taken g.C.Calculator.marked old new c.args.desk.now c.edit_with_rooms.new.desk c.take_all.new.self c.args.edit.contents.items _
     c.requires c.in-Ok.ensures.beside
-    (marked_as g.C.Calculator.marked old.sheet c.args.edit.contents.items c.deref-2.result.now c.in_ok-marked.marked.items _ c.deref-2.ensures.value (search (listed)) c.in_ok-marked.ensures)
+    (marked_as g.C.Calculator.marked old.sheet c.args.edit.contents.items c.deref-2.result.now c.in_ok-marked.marked.items _ c.deref-2.ensures.value (search rules) c.in_ok-marked.ensures)
     c.in-Ok.ensures.rooms taken
 
 pub returns-in-Ok-clause-sound : goal.returns-in-Ok-clause-sound
@@ -37,8 +36,7 @@ returns-in-Ok-clause-sound g c =
       pending = c.take_all.ensures.pending;
       vacant = c.take_all.ensures.vacant;
     } in
-    let listed = c.deref-3.ensures.value in
     sound_taken g.C.Calculator.marked old new c.args.desk.now c.edit_with_rooms.new.desk c.take_all.new.self c.args.edit.contents.items _
     c.requires c.in-Ok.ensures.beside
-    (marked_as g.C.Calculator.marked old.sheet c.args.edit.contents.items c.deref-2.result.now c.in_ok-marked.marked.items _ c.deref-2.ensures.value (search (listed)) c.in_ok-marked.ensures)
+    (marked_as g.C.Calculator.marked old.sheet c.args.edit.contents.items c.deref-2.result.now c.in_ok-marked.marked.items _ c.deref-2.ensures.value (search rules) c.in_ok-marked.ensures)
     c.in-Ok.ensures.rooms taken c.in-Ok.ensures.edit.0
