@@ -6,3 +6,4 @@ pub mod Within
 pub mod NextRoom
 pub mod ColumnLemmas
 pub mod ColumnRooms
+pub mod ContentsLemmas

@@ -93,7 +93,7 @@ first_cell (e ∷ es) = Some e.0
 abbrev pub range_from : ℕ → Rooms → Rooms
 range_from from rooms = entries_between nat_cmp (Included from) Unbounded rooms
 
-abbrev starts_by : ℕ → ℕ → Bool
+abbrev pub starts_by : ℕ → ℕ → Bool
 starts_by from a = range_contains nat_cmp (Included from) Unbounded a
 
 starts_by-is : (from a : ℕ) → starts_by from a ≡ nat_le from a

@@ -129,7 +129,7 @@ same_after p q a h (e ∷ es) k =
     ∙ ap (λ (cs : List ℕ). cond (has_formula e.1 && q e.0) (e.0 ∷ cs) cs) (same_after p q a h es k.1)
     ∙ sym (next_room q e.0 e.1 es)
 
-comes_before : (a c : ℕ) (o : Option Content) (xs es : Rooms) → ComeAfter a (xs ++ (c, o) ∷ es) → a < c
+pub comes_before : (a c : ℕ) (o : Option Content) (xs es : Rooms) → ComeAfter a (xs ++ (c, o) ∷ es) → a < c
 comes_before a c o [] es h = h.0
 comes_before a c o (x ∷ xs) es h = comes_before a c o xs es h.1
 
@@ -149,7 +149,7 @@ from_here p q c o low same (e ∷ before) es h =
 -- ---- what is ahead
 
 -- from a cell on the rectangle is what is ahead
-ahead_from : (r : Area) (from a : ℕ) → from ≤ a → is_within r a ≡ is_ahead r (Some from) a
+pub ahead_from : (r : Area) (from a : ℕ) → from ≤ a → is_within r a ≡ is_ahead r (Some from) a
 ahead_from r from a h = sym (ap (λ (b : Bool). b && is_within r a) (le-leb from a h))
 
 pub ahead_in_range : (r : Area) (from : ℕ) (rooms : Rooms) → filter (is_within r) (formula_rooms (range_of from r.last rooms)) ≡ filter (is_ahead r (Some from)) (formula_rooms rooms)

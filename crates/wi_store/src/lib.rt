@@ -2,12 +2,15 @@
 #![tactic(auto)]
 
 mod columns;
+mod contents;
 mod fault;
 mod limits;
 mod rooms;
+mod search;
 mod settle;
 mod store;
 
+pub use contents::Contents;
 pub use fault::StoreFault;
 pub use limits::Limits;
 pub use store::Store;

@@ -13,10 +13,12 @@ ghost use Rattle.wi_store.specs.Store.{is_ahead};
 ghost use Rattle.wi_store.specs.Inner.Exchange.{admitted};
 ghost use Rattle.wi_store.specs.Inner.Columns.{HasCellsOf};
 
-use crate::columns::{Columns, first_ahead};
+use crate::columns::Columns;
+use crate::contents::Contents;
 use crate::fault::StoreFault;
 use crate::limits::Limits;
 use crate::rooms::{Change, Rooms, exchange_all, exchange_back, make_room, release};
+use crate::search::{next_inside, next_room};
 use crate::settle::settle;
 use std::alloc::{AllocError, Global};
 use std::collections::BTreeMap;
@@ -195,6 +197,15 @@ impl Store {
             None => None,
         }
     }
+
+    /// The contents of a rectangle with their cells, in row-major order, at a cell or after it. One search, and the next is had
+    /// without one as long as no occupied cell beside the rectangle comes first; where one does, the work is that of `next_content`
+    /// and one search more.
+    pub fn contents_from(&self, area: Rect, from: Address) -> Contents<'_>
+        ensures { result ≡ filter (λ e. is_ahead area (Some from) e.0) self.now.sheet }
+    {
+        Contents::new(&self.rooms, &self.columns, area, from)
+    }
 }
 
 // The cells of the rooms that have a formula.
@@ -247,97 +258,6 @@ fn push_run(
         }
     }
     Ok(None)
-}
-
-// Where a rectangle goes on after a cell beside it, in the first column of a row, if it does.
-fn next_inside(area: Rect, at: Address) -> Option<Address>
-    requires to { at ≤ area.last }
-    requires beside { is_within area at ≡ false }
-    ensures after { IfSome result (λ n. (at < n) × (n ≤ area.last)) }
-    ensures all { (a : ℕ) → is_within area a ≡ true → at ≤ a → is_ahead area result a ≡ true }
-{
-    let left = area.first().column();
-    if at.column() < left {
-        Some(Address::at(at.row(), left))
-    } else if at.row() < area.last().row() {
-        Some(Address::at(at.row() + 1, left))
-    } else {
-        None
-    }
-}
-
-// The first room of a rectangle, at a cell or after it. Where rooms beside it are passed in more rows than it has columns,
-// it is sought by columns.
-fn next_room<'a>(
-    rooms: &'a Rooms,
-    columns: &Columns,
-    area: Rect,
-    from: Address,
-) -> Option<(Address, &'a Option<Content>)>
-    requires order { RoomsAreInOrder rooms.now.entries }
-    requires columns { HasCellsOf rooms.now.entries columns.now }
-    ensures cell { option_map (λ x. x.0) result ≡ find (is_ahead area (Some from)) (keys_of rooms.now.entries) }
-    ensures room { IfSome result (λ x. room_of rooms.now.entries x.0 ≡ Some x.1.now) }
-{
-    let mut searches = row_searches(area);
-    let mut ahead = Some(from);
-    while let Some(start) = ahead {
-        if searches == 0 {
-            return next_by_columns(rooms, columns, area, start);
-        }
-        searches -= 1;
-        match first_room(rooms, start, area.last()) {
-            Some((cell, room)) => {
-                if area.contains(cell) {
-                    return Some((cell, room));
-                }
-                ahead = next_inside(area, cell);
-            }
-            None => return None,
-        }
-    }
-    None
-}
-
-// How often a rectangle is searched row after row before it is searched by columns: once, and once for each of its columns.
-fn row_searches(area: Rect) -> u32
-    ensures { result ≡ (column_of area.last + 2) - column_of area.first }
-{
-    area.last().column() + 2 - area.first().column()
-}
-
-// The same, with a search in each column.
-fn next_by_columns<'a>(
-    rooms: &'a Rooms,
-    columns: &Columns,
-    area: Rect,
-    from: Address,
-) -> Option<(Address, &'a Option<Content>)>
-    requires order { RoomsAreInOrder rooms.now.entries }
-    requires columns { HasCellsOf rooms.now.entries columns.now }
-    ensures cell { option_map (λ x. x.0) result ≡ find (is_ahead area (Some from)) (keys_of rooms.now.entries) }
-    ensures room { IfSome result (λ x. room_of rooms.now.entries x.0 ≡ Some x.1.now) }
-{
-    match first_ahead(columns, area, from) {
-        Some(cell) => match rooms.get(&cell) {
-            Some(room) => Some((cell, room)),
-            None => unreachable!(),
-        },
-        None => None,
-    }
-}
-
-// The first room from a cell to another. No end is sought in the map: one way down is all.
-fn first_room(rooms: &Rooms, from: Address, to: Address) -> Option<(Address, &Option<Content>)>
-    requires { RoomsAreInOrder rooms.now.entries }
-    ensures cell { option_map (λ x. x.0) result ≡ find (λ a. nat_le from a && nat_le a to) (keys_of rooms.now.entries) }
-    ensures room { IfSome result (λ x. room_of rooms.now.entries x.0 ≡ Some x.1.now) }
-{
-    let (cell, room) = rooms.range(from..).next()?;
-    if to < *cell {
-        return None;
-    }
-    Some((*cell, room))
 }
 
 // Whether a room has a formula.

@@ -1,5 +1,6 @@
 -- The rooms of a store: cells that may have a content. A room is vacant only while an edit goes on.
-use Rattle.std.specs.Prelude.{◌≡◌, ◌==◌, ℕ, true, List, filter, Option, Some, None, option_map}
+use Rattle.std.specs.Prelude.{◌≡◌, ◌==◌, ℕ, true, List, ◌++◌, filter, nat_lt, Option, Some, None, option_map}
+use Rattle.std.specs.Borrow.{Bor}
 use Rattle.std.specs.List.{filter_map, list_any}
 use Rattle.std.specs.Ordering.{nat_cmp}
 use Rattle.std.specs.Map.{lookup, keys_of}
@@ -15,6 +16,10 @@ Rooms = List (ℕ × Option Content)
 -- what stands in a room, with its cell
 abbrev pub occupant : ℕ × Option Content → Option (ℕ × Content)
 occupant room = option_map (λ x. (room.0, x)) room.1
+
+-- a content that is lent, with its cell
+abbrev pub occupied : ℕ × Bor Content → ℕ × Content
+occupied x = (x.0, x.1.now)
 
 -- the contents of the rooms that are not vacant
 abbrev pub sheet_in : Rooms → Sheet
@@ -43,3 +48,11 @@ VacantOnlyAt cells rooms = (c : ℕ) → room_of rooms c ≡ Some None → list_
 -- the cell has a room, or gets no content
 abbrev pub HasRoomFor : Rooms → ℕ × Option Content → Type 0
 HasRoomFor rooms change = room_of rooms change.0 ≡ None → change.1 ≡ None
+
+-- the last of the rooms are these
+abbrev pub EndsWith : Rooms → Rooms → Type 0
+EndsWith rooms tail = (before : Rooms) × (rooms ≡ before ++ tail)
+
+-- the rooms after a cell
+abbrev pub rooms_after : ℕ → Rooms → Rooms
+rooms_after d rooms = filter (λ e. nat_lt d e.0) rooms

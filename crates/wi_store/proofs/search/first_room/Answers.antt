@@ -5,7 +5,7 @@ use Rattle.std.specs.Map.{keys_of}
 use Rattle.std.proofs.lemmas.Bool.Decides.{nat_tests}
 use Rattle.wi_store.proofs.RoomLemmas.{Ascends-from_order}
 use Rattle.wi_store.proofs.NextRoom.{first_cell, first_from, none_from, found_from, none_up_to, cell_of}
-use Rattle.wi_store.proofs.store.first_room.Goals as goal
+use Rattle.wi_store.proofs.search.first_room.Goals as goal
 
 pub returns-in_err-cell-clause-cell : goal.returns-in_err-cell-clause-cell
 returns-in_err-cell-clause-cell c =

@@ -5,7 +5,7 @@ use Rattle.wi_values.proofs.Within.{places_left}
 use Rattle.wi_store.specs.Store.{is_ahead}
 use Rattle.wi_store.proofs.RoomLemmas.{Ascends-from_order}
 use Rattle.wi_store.proofs.NextRoom.{search_none, search_found, search_on, search_shorter, fewer, nothing_found, first_found, cell_of}
-use Rattle.wi_store.proofs.store.next_room.Goals as goal
+use Rattle.wi_store.proofs.search.next_room.Goals as goal
 
 pub returns-in-None-clause-cell : goal.returns-in-None-clause-cell
 returns-in-None-clause-cell c =

@@ -3,7 +3,7 @@ use Rattle.std.specs.List.{find}
 use Rattle.std.specs.Map.{keys_of}
 use Rattle.wi_store.specs.Store.{is_ahead}
 use Rattle.wi_values.proofs.Within.{places_left}
-use Rattle.wi_store.proofs.store.next_room.Given as goal
+use Rattle.wi_store.proofs.search.next_room.Given as goal
 
 abbrev pub decreases-loop-ahead : goal.decreases-loop-ahead
 decreases-loop-ahead l = places_left l.area l.ahead

@@ -1,7 +1,7 @@
 use Rattle.std.proofs.Common.{sym}
 use Rattle.wi_store.proofs.RoomLemmas.{Ascends-from_order}
 use Rattle.wi_store.proofs.ColumnRooms.{columns_found, columns_none}
-use Rattle.wi_store.proofs.store.next_by_columns.Goals as goal
+use Rattle.wi_store.proofs.search.next_by_columns.Goals as goal
 
 pub returns-in-Some-get-clause-cell : goal.returns-in-Some-get-clause-cell
 returns-in-Some-get-clause-cell c =
