@@ -37,7 +37,11 @@ pub fn next_touched<'a>(
 
 /// The first replacement of a cell of a rectangle, at a cell or after it. The work grows with the logarithm of the count of
 /// replacements, and with the count of replaced cells from there to the one found, or to the rectangle's last cell.
-fn next_replaced(replacements: &[Replacement], area: Rect, from: Address) -> Option<&Replacement>
+pub fn next_replaced(
+    replacements: &[Replacement],
+    area: Rect,
+    from: Address,
+) -> Option<&Replacement>
     requires { IsInOrder replacements.now }
     ensures cell { option_map (λ r. r.now.at) result ≡ find (is_ahead area (Some from)) (keys_of (as_map replacements.now)) }
     ensures value { IfSome result (λ r. replaced replacements.now r.now.at ≡ Some r.now.value) }

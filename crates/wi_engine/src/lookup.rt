@@ -1,17 +1,22 @@
 //! What is known while one formula is valued.
 
-ghost use Rattle.std.specs.Prelude.{◌≡◌};
+ghost use Rattle.std.specs.Prelude.{◌≡◌, ◌<◌, ◌≤◌, ℕ, true, false, Some, None, OnOk, IfErr, IfSome};
 ghost use Rattle.std.specs.Option.{option_copied};
+ghost use Rattle.wi_values.specs.Address.{is_within};
 ghost use Rattle.wi_values.specs.declared.value.Value.TheVariants.{Empty};
+ghost use Rattle.wi_parser.specs.Sheet.{content_of, put_all};
+ghost use Rattle.wi_store.specs.Store.{is_ahead};
 ghost use Rattle.wi_lookup.specs.Assignment.{value_if_known};
-ghost use Rattle.wi_engine.specs.Inner.Attempt.{known_in};
+ghost use Rattle.wi_lookup.specs.Filled.{ComesBefore};
+ghost use Rattle.wi_lookup.specs.Walk.{HasTaken};
+ghost use Rattle.wi_engine.specs.Inner.Attempt.{cell_known, known_in};
 ghost use Rattle.wi_engine.specs.Inner.Findings.{found_value};
 ghost use Rattle.wi_engine.specs.Inner.Seen.{content_seen};
 
-use crate::filled::next_touched;
+use crate::filled::{next_replaced, next_touched};
 use crate::findings::Findings;
-use crate::seen::{Seen, content_in};
-use wi_lookup::{LookedUp, Lookup, successor};
+use crate::seen::{Seen, as_seen, content_in};
+use wi_lookup::{LookedUp, Lookup, TakesCells, successor};
 use wi_parser::Pair;
 use wi_store::Store;
 use wi_values::{Address, Rect, Value};
@@ -54,6 +59,38 @@ impl<'a> Known<'a> {
             Seen::Formula(_) => looked_up(self.found.cell(at)),
         }
     }
+
+    /// Hands the occupied cells of a rectangle over, in row-major order, from one on up to the first that is replaced, until one
+    /// is missing. The work is that of `Store::contents_from`.
+    fn hand_stored<T: TakesCells>(
+        &self,
+        area: Rect,
+        from: Address,
+        replaced: &Option<Address>,
+        taker: &mut T,
+    ) -> Result<(), Address>
+        requires ahead { IfSome replaced.now (λ r. from ≤ r) }
+        requires stands { (a : ℕ) → is_ahead area (Some from) a ≡ true → ComesBefore a replaced.now → content_of (put_all self.now.store.now.sheet self.now.world.now) a ≡ content_of self.now.store.now.sheet a }
+        ensures taken { OnOk result (HasTaken T.after (cell_known self.now.store.now.sheet self.now.world.now self.now.found.now) area taker.old (Some from) taker.new replaced.now) }
+        ensures missing { IfErr result (λ c. cell_known self.now.store.now.sheet self.now.world.now self.now.found.now c ≡ None) }
+        ensures inside { IfErr result (λ c. is_within area c ≡ true) }
+    {
+        self.store.cells_stand_in_order();
+        for (at, content) in self.store.contents_from(area, from) {
+            if is_reached(replaced, at) {
+                return Ok(());
+            }
+            match self.known(at, as_seen(content)) {
+                LookedUp::Known(value) => {
+                    if taker.take(at, value).is_break() {
+                        return Ok(());
+                    }
+                }
+                LookedUp::Missing => return Err(at),
+            }
+        }
+        Ok(())
+    }
 }
 
 impl<'a> Lookup for Known<'a> {
@@ -87,6 +124,39 @@ impl<'a> Lookup for Known<'a> {
             }
         }
         None
+    }
+
+    /// The cells up to the next replaced one are those of `Store::contents_from`, without a search for each.
+    fn hand_over<T: TakesCells>(
+        &self,
+        area: Rect,
+        from: Address,
+        taker: &mut T,
+    ) -> Result<Option<Address>, Address> {
+        match next_replaced(self.world.replacements(), area, from) {
+            Some(replacement) => {
+                self.hand_stored(area, from, &Some(replacement.at), taker)?;
+                if taker.take(replacement.at, &replacement.value).is_break() {
+                    return Ok(None);
+                }
+                Ok(successor(replacement.at, area.last()))
+            }
+            None => {
+                self.hand_stored(area, from, &None, taker)?;
+                Ok(None)
+            }
+        }
+    }
+}
+
+/// Whether the first replaced cell is reached, if there is one.
+fn is_reached(replaced: &Option<Address>, at: Address) -> bool
+    ensures reached { result ≡ true → (a : ℕ) → ComesBefore a replaced.now → a < at }
+    ensures before { result ≡ false → ComesBefore at replaced.now }
+{
+    match replaced {
+        Some(cell) => *cell <= at,
+        None => false,
     }
 }
 

@@ -15,10 +15,10 @@ is_below x y h = grind (arith, nat_tests)
 pub is_at_most : (x y : ℕ) → nat_le x y ≡ true → x ≤ y
 is_at_most x y h = grind (arith, nat_tests)
 
-at_most_is : (x y : ℕ) → x ≤ y → nat_le x y ≡ true
+pub at_most_is : (x y : ℕ) → x ≤ y → nat_le x y ≡ true
 at_most_is x y h = grind (arith, nat_tests)
 
-not_at_most : (x y : ℕ) → y < x → nat_le x y ≡ false
+pub not_at_most : (x y : ℕ) → y < x → nat_le x y ≡ false
 not_at_most x y h = grind (arith, nat_tests)
 
 below_is : (x y : ℕ) → x < y → nat_lt x y ≡ true

@@ -1,8 +1,9 @@
 -- A walk over the cells of a rectangle passes over those that are known to be Empty.
-use Rattle.std.proofs.Common.{◌≡◌, ℕ, ◌<◌, ◌≤◌, ◌-◌, ◌+◌, ◌⊎◌, inl, inr, Bool, true, false, cond, List, [], ◌∷◌, filter, Option, Some, None, IfSome, refl, sym, ap, ◌∙◌, subst, arith}
+use Rattle.std.proofs.Common.{◌≡◌, ℕ, ◌<◌, ◌≤◌, ◌-◌, ◌+◌, ◌⊎◌, inl, inr, Bool, true, false, cond, List, [], ◌∷◌, filter, Option, Some, None, IfSome, IfNone, refl, sym, ap, ◌∙◌, subst, arith}
 use Rattle.std.specs.Prelude.{nat_le, nat_lt, option_map}
 use Rattle.std.specs.List.{AllByRecursion}
 use Rattle.std.proofs.lemmas.Bool.Decides.{nat_tests}
+use Rattle.std.proofs.lemmas.List.Elements.{filter_agree}
 use Rattle.wi_values.specs.Address.{Area, is_within, cells_of}
 use Rattle.wi_values.specs.declared.value.Value.{Value}
 use Rattle.wi_values.specs.declared.value.Value.TheVariants.{Empty}
@@ -10,21 +11,25 @@ use Rattle.wi_lookup.specs.declared.lookup.LookedUp.{LookedUp}
 use Rattle.wi_lookup.specs.Arguments.{KnownAgrees}
 use Rattle.wi_lookup.specs.Assignment.{value_if_known}
 use Rattle.wi_lookup.specs.Filled.{IsNextFilled, ComesBefore, is_known_empty}
-use Rattle.wi_lookup.specs.Walk.{after_cells, IsNextAfter}
+use Rattle.wi_lookup.specs.Walk.{after_cells, to_come, HasTaken, IsNextAfter}
 use Rattle.wi_values.proofs.Within.{within_between}
-use Rattle.wi_lookup.proofs.RowMajor.{cells_inside, from_cell_on, is_below, is_at_most, is_less}
+use Rattle.wi_lookup.proofs.RowMajor.{cells_inside, from_cell_on, is_below, is_at_most, is_less, at_most_is, not_at_most}
 
 -- ---- what is still to come
-
--- the cells of the rectangle from the one ahead on
-abbrev pub to_come : Area → Option ℕ → List ℕ
-to_come r None = []
-to_come r (Some c) = filter (λ a. nat_le c a) (cells_of r)
 
 -- how far a walk over a rectangle has to go
 abbrev pub cells_left : Area → Option ℕ → ℕ
 cells_left r None = 0
 cells_left r (Some a) = (r.last + 1) - a
+
+-- the same of one that may begin beyond it
+abbrev pub steps_left : Area → Option ℕ → ℕ
+steps_left r None = 0
+steps_left r (Some a) = ((r.last + 1) - a) + 1
+
+pub fewer_steps : (r : Area) (from : ℕ) (next : Option ℕ) → IfSome next (λ n. (from < n) × (n ≤ r.last)) → steps_left r next < steps_left r (Some from)
+fewer_steps r from None h = omega arith
+fewer_steps r from (Some n) h = omega (arith, h.0, h.1)
 
 -- the cell that was found, without what is known of it
 abbrev pub cell_of : Option (ℕ × LookedUp) → Option ℕ
@@ -35,6 +40,28 @@ IsLookedUp known o = IfSome o (λ x. value_if_known x.1 ≡ known x.0)
 
 value_ahead : (known : ℕ → Option Value) (ahead : Option (ℕ × LookedUp)) (c : ℕ) (l : LookedUp) (v : Value) → IsLookedUp known ahead → ahead ≡ Some (c, l) → value_if_known l ≡ Some v → Some v ≡ known c
 value_ahead known ahead c l v h a e = sym e ∙ subst (IsLookedUp known) a h
+
+none_pass : (p : ℕ → Bool) (xs : List ℕ) → AllByRecursion (λ a. p a ≡ false) xs → filter p xs ≡ []
+none_pass p [] h = refl
+none_pass p (x ∷ xs) h = ap (λ (b : Bool). cond b (x ∷ filter p xs) (filter p xs)) h.0 ∙ none_pass p xs h.1
+
+each_pass : (p : ℕ → Bool) (xs : List ℕ) → AllByRecursion (λ a. p a ≡ true) xs → filter p xs ≡ xs
+each_pass p [] h = refl
+each_pass p (x ∷ xs) h = ap (λ (b : Bool). cond b (x ∷ filter p xs) (filter p xs)) h.0 ∙ ap (λ (ys : List ℕ). x ∷ ys) (each_pass p xs h.1)
+
+each : (P Q : ℕ → Type 0) → ((a : ℕ) → P a → Q a) → (xs : List ℕ) → AllByRecursion P xs → AllByRecursion Q xs
+each P Q f [] h = tt
+each P Q f (x ∷ xs) h = (f x h.0, each P Q f xs h.1)
+
+-- from the first cell on all are to come
+all_to_come : (r : Area) (from : ℕ) → from ≡ r.first → to_come r (Some from) ≡ cells_of r
+all_to_come r from e = each_pass (λ a. nat_le from a) (cells_of r) (each (λ a. is_within r a ≡ true) (λ a. nat_le from a ≡ true) (λ a w. let l = (within_between r a w).0 in at_most_is from a (omega (arith, e, l))) (cells_of r) (cells_inside r))
+
+-- and from the next cell on those after one
+pub successor_to_come : (r : Area) (c last : ℕ) (next : Option ℕ) → last ≡ r.last → IfSome next (λ d. (d ≡ c + 1) × (d ≤ last)) → IfNone next (last ≤ c) → to_come r next ≡ to_come r (Some (c + 1))
+successor_to_come r c last None e some none =
+    sym (none_pass (λ a. nat_le (c + 1) a) (cells_of r) (each (λ a. is_within r a ≡ true) (λ a. nat_le (c + 1) a ≡ false) (λ a w. let l = (within_between r a w).1 in not_at_most (c + 1) a (omega (arith, e, none, l))) (cells_of r) (cells_inside r)))
+successor_to_come r c last (Some d) e some none = ap (λ (n : ℕ). to_come r (Some n)) some.0
 
 module _ {S : Type 0} (after : S → ℕ → Value → S) where
   -- to which an Empty cell makes no difference
@@ -68,10 +95,6 @@ module _ {S : Type 0} (after : S → ℕ → Value → S) where
   skip passes_empty cells p q s [] h = refl
   skip passes_empty cells p q s (x ∷ xs) h = skip_one passes_empty cells p q s x xs h.0 (λ t. skip passes_empty cells p q t xs h.1)
 
-  each : (P Q : ℕ → Type 0) → ((a : ℕ) → P a → Q a) → (xs : List ℕ) → AllByRecursion P xs → AllByRecursion Q xs
-  each P Q f [] h = tt
-  each P Q f (x ∷ xs) h = (f x h.0, each P Q f xs h.1)
-
   empty_there : (o : Option Value) (w : Value) → is_known_empty o ≡ true → IfSome o (λ v. v ≡ w) → w ≡ Empty
   empty_there None w e h = cc
   empty_there (Some Empty) w e h = sym h
@@ -100,15 +123,82 @@ module _ {S : Type 0} (after : S → ℕ → Value → S) where
       at a w false true e f = let t : p a ≡ true = m a (is_at_most d a f) in cc
       at a w false false e f = inl refl
 
-  -- ---- for the loop
+  -- ---- for a walk in parts
+
+  -- whatever is known to be Empty is passed over
+  pub reaches : (passes_empty : PassesEmpty) (known : ℕ → Option Value) (r : Area) (s : S) (from : ℕ) (next : Option ℕ) → IfSome next (λ d. from ≤ d) → ((a : ℕ) → is_within r a ≡ true → from ≤ a → ComesBefore a next → is_known_empty (known a) ≡ true) →
+      HasTaken after known r s (Some from) s next
+  reaches passes_empty known r s from next l h =
+      λ cells agrees. sym (found_next passes_empty known cells r (λ a. nat_le from a) next s agrees (on_from next l) (λ a w p. h a w (is_at_most from a p)))
+    where
+      on_from : (o : Option ℕ) → IfSome o (λ d. from ≤ d) → IfSome o (λ d. (a : ℕ) → d ≤ a → nat_le from a ≡ true)
+      on_from None m = tt
+      on_from (Some d) m = λ a n. grind (arith, nat_tests, m, n)
+
+  value_there : (o : Option Value) (v w : Value) → IfSome o (λ u. u ≡ w) → Some v ≡ o → v ≡ w
+  value_there None v w h e = cc
+  value_there (Some u) v w h e = let same : u ≡ v = cc in sym same ∙ h
+
+  -- the next cell is taken
+  pub moves_on : (passes_empty : PassesEmpty) (known : ℕ → Option Value) (r : Area) (s t : S) (from c : ℕ) (v : Value) → is_within r c ≡ true → from ≤ c → ((a : ℕ) → is_within r a ≡ true → from ≤ a → a < c → is_known_empty (known a) ≡ true) →
+      Some v ≡ known c → t ≡ after s c v → HasTaken after known r s (Some from) t (Some (c + 1))
+  moves_on passes_empty known r s t from c v w l h k e =
+      λ cells agrees.
+      ap (λ (xs : List ℕ). after_cells after cells t xs) (filter_agree (λ a. nat_le (c + 1) a) (λ a. nat_lt c a) (next_cell c) (cells_of r))
+      ∙ ap (λ (u : S). after_cells after cells u (filter (λ a. nat_lt c a) (cells_of r))) (e ∙ ap (after s c) (value_there (known c) v (cells c) (agrees c) k))
+      ∙ ap (λ (xs : List ℕ). after_cells after cells s xs) (sym (from_cell_on r c w))
+      ∙ reaches passes_empty known r s from (Some c) l h cells agrees
+    where
+      next_cell : (c a : ℕ) → nat_le (c + 1) a ≡ nat_lt c a
+      next_cell c a = grind (arith, nat_tests)
+
+  unmoved : (t : S) → ((c : ℕ) (v : Value) → after t c v ≡ t) → (cells : ℕ → Value) (xs : List ℕ) → after_cells after cells t xs ≡ t
+  unmoved t h cells [] = refl
+  unmoved t h cells (x ∷ xs) = ap (λ (u : S). after_cells after cells u xs) (h x (cells x)) ∙ unmoved t h cells xs
+
+  -- where no other cell makes a difference, it doesn't matter where the walk goes on
+  pub enough : (known : ℕ → Option Value) (r : Area) (s t : S) (from : ℕ) (next other : Option ℕ) → ((c : ℕ) (v : Value) → after t c v ≡ t) → HasTaken after known r s (Some from) t next → HasTaken after known r s (Some from) t other
+  enough known r s t from next other stays h = λ cells agrees. unmoved t stays cells (to_come r other) ∙ sym (unmoved t stays cells (to_come r next)) ∙ h cells agrees
+
+  -- one part after another
+  pub joined : (known : ℕ → Option Value) (r : Area) (s t u : S) (from mid next : Option ℕ) → HasTaken after known r s from t mid → HasTaken after known r t mid u next → HasTaken after known r s from u next
+  joined known r s t u from mid next h k = λ cells agrees. k cells agrees ∙ h cells agrees
+
+  -- and a walk through all
+  pub whole : (known : ℕ → Option Value) (r : Area) (s t : S) (from : ℕ) (next : Option ℕ) → from ≡ r.first → next ≡ None → HasTaken after known r s (Some from) t next → (cells : ℕ → Value) → KnownAgrees known cells → t ≡ after_cells after cells s (cells_of r)
+  whole known r s t from next f e h cells agrees =
+      ap (λ (o : Option ℕ). after_cells after cells t (to_come r o)) (sym e) ∙ h cells agrees ∙ ap (λ (xs : List ℕ). after_cells after cells s xs) (all_to_come r from f)
+
+  -- ---- with what was found
+
+  moves_after : (passes_empty : PassesEmpty) (known : ℕ → Option Value) (r : Area) (s t : S) (from c : ℕ) (l : LookedUp) (v : Value) (found : Option (ℕ × LookedUp)) → IsNextFilled known r from (cell_of found) → IsLookedUp known found → found ≡ Some (c, l) →
+      value_if_known l ≡ Some v → t ≡ after s c v → HasTaken after known r s (Some from) t (Some (c + 1))
+  moves_after passes_empty known r s t from c l v found n k a e f =
+      let here : IsNextFilled known r from (Some c) = subst (λ (o : Option (ℕ × LookedUp)). IsNextFilled known r from (cell_of o)) a n in
+      moves_on passes_empty known r s t from c v here.inside.0 here.inside.1 here.empty_before (value_ahead known found c l v k a e) f
+
+  -- one is taken, and the walk goes on after it
+  pub takes_one : (passes_empty : PassesEmpty) (known : ℕ → Option Value) (r : Area) (s t : S) (from c last : ℕ) (l : LookedUp) (v : Value) (found : Option (ℕ × LookedUp)) (next : Option ℕ) → IsNextFilled known r from (cell_of found) → IsLookedUp known found →
+      found ≡ Some (c, l) → value_if_known l ≡ Some v → t ≡ after s c v → last ≡ r.last → IfSome next (λ d. (d ≡ c + 1) × (d ≤ last)) → IfNone next (last ≤ c) → HasTaken after known r s (Some from) t next
+  takes_one passes_empty known r s t from c last l v found next n k a e f g some none =
+      λ cells agrees. ap (λ (xs : List ℕ). after_cells after cells t xs) (successor_to_come r c last next g some none) ∙ moves_after passes_empty known r s t from c l v found n k a e f cells agrees
+
+  -- or stops with it
+  pub takes_last : (passes_empty : PassesEmpty) (known : ℕ → Option Value) (r : Area) (s t : S) (from c : ℕ) (l : LookedUp) (v : Value) (found : Option (ℕ × LookedUp)) → IsNextFilled known r from (cell_of found) → IsLookedUp known found → found ≡ Some (c, l) →
+      value_if_known l ≡ Some v → t ≡ after s c v → ((d : ℕ) (w : Value) → after t d w ≡ t) → HasTaken after known r s (Some from) t None
+  takes_last passes_empty known r s t from c l v found n k a e f stays = enough known r s t from (Some (c + 1)) None stays (moves_after passes_empty known r s t from c l v found n k a e f)
+
+  -- or there is none
+  pub takes_none : (passes_empty : PassesEmpty) (known : ℕ → Option Value) (r : Area) (s : S) (from : ℕ) (found : Option (ℕ × LookedUp)) → IsNextFilled known r from (cell_of found) → found ≡ None → HasTaken after known r s (Some from) s None
+  takes_none passes_empty known r s from found n a =
+      let here : IsNextFilled known r from None = subst (λ (o : Option (ℕ × LookedUp)). IsNextFilled known r from (cell_of o)) a n in
+      reaches passes_empty known r s from None tt here.empty_before
+
+  -- ---- for a walk from one cell to the next
 
   -- what is to come makes what is left of the walk the whole
   abbrev pub Rest : (ℕ → Option Value) → Area → S → S → Option ℕ → Type 0
   Rest known r whole s ahead = IfSome ahead (λ c. is_within r c ≡ true) × ((cells : ℕ → Value) → KnownAgrees known cells → after_cells after cells s (to_come r ahead) ≡ after_cells after cells whole (cells_of r))
-
-  -- with what is known of the cell ahead
-  abbrev pub RestWith : (ℕ → Option Value) → Area → S → S → Option (ℕ × LookedUp) → Type 0
-  RestWith known r whole s ahead = Rest known r whole s (cell_of ahead) × IsLookedUp known ahead
 
   all_pass : (xs : List ℕ) → filter (λ a. true) xs ≡ xs
   all_pass [] = refl
@@ -131,10 +221,6 @@ module _ {S : Type 0} (after : S → ℕ → Value → S) where
         ∙ ap (λ (xs : List ℕ). after_cells after cells s xs) (all_pass (cells_of r)),
   )
 
-  value_there : (o : Option Value) (v w : Value) → IfSome o (λ u. u ≡ w) → Some v ≡ o → v ≡ w
-  value_there None v w h e = cc
-  value_there (Some u) v w h e = let same : u ≡ v = cc in sym same ∙ h
-
   -- a cell is taken
   taken : (known : ℕ → Option Value) (r : Area) (whole s t : S) (c : ℕ) (v : Value) → Rest known r whole s (Some c) → Some v ≡ known c → t ≡ after s c v →
       (cells : ℕ → Value) → KnownAgrees known cells → after_cells after cells t (filter (λ a. nat_lt c a) (cells_of r)) ≡ after_cells after cells whole (cells_of r)
@@ -156,10 +242,6 @@ module _ {S : Type 0} (after : S → ℕ → Value → S) where
         ∙ taken known r whole s t c v (subst (Rest known r whole s) a h) k e cells agrees,
   )
 
-  unmoved : (t : S) → ((c : ℕ) (v : Value) → after t c v ≡ t) → (cells : ℕ → Value) (xs : List ℕ) → after_cells after cells t xs ≡ t
-  unmoved t h cells [] = refl
-  unmoved t h cells (x ∷ xs) = ap (λ (u : S). after_cells after cells u xs) (h x (cells x)) ∙ unmoved t h cells xs
-
   -- or stops, where no other cell makes a difference
   pub stops : (known : ℕ → Option Value) (r : Area) (whole s t : S) (ahead : Option ℕ) (c : ℕ) (v : Value) → Rest known r whole s ahead → ahead ≡ Some c → Some v ≡ known c → t ≡ after s c v → ((d : ℕ) (w : Value) → after t d w ≡ t) →
       (cells : ℕ → Value) → KnownAgrees known cells → t ≡ after_cells after cells whole (cells_of r)
@@ -169,19 +251,3 @@ module _ {S : Type 0} (after : S → ℕ → Value → S) where
   -- or ends, where no other cell is filled
   pub ends : (known : ℕ → Option Value) (r : Area) (whole s : S) (ahead : Option ℕ) → Rest known r whole s ahead → ahead ≡ None → (cells : ℕ → Value) → KnownAgrees known cells → s ≡ after_cells after cells whole (cells_of r)
   ends known r whole s ahead h a cells agrees = (subst (Rest known r whole s) a h).1 cells agrees
-
-  -- ---- with what is known of each
-
-  pub begins_with : (passes_empty : PassesEmpty) (known : ℕ → Option Value) (r : Area) (s : S) (from : ℕ) (found : Option (ℕ × LookedUp)) → from ≡ r.first → IsNextFilled known r from (cell_of found) → IsLookedUp known found → RestWith known r s s found
-  begins_with passes_empty known r s from found e n k = (begins passes_empty known r s from (cell_of found) e n, k)
-
-  pub goes_on_with : (passes_empty : PassesEmpty) (known : ℕ → Option Value) (r : Area) (whole s t : S) (ahead : Option (ℕ × LookedUp)) (c : ℕ) (l : LookedUp) (v : Value) (found : Option (ℕ × LookedUp)) → RestWith known r whole s ahead → ahead ≡ Some (c, l) →
-      value_if_known l ≡ Some v → t ≡ after s c v → IsNextAfter known r c (cell_of found) → IsLookedUp known found → RestWith known r whole t found
-  goes_on_with passes_empty known r whole s t ahead c l v found h a e f n k = (
-    goes_on passes_empty known r whole s t (cell_of ahead) c v (cell_of found) h.0 (ap cell_of a) (value_ahead known ahead c l v h.1 a e) f n,
-    k,
-  )
-
-  pub stops_with : (known : ℕ → Option Value) (r : Area) (whole s t : S) (ahead : Option (ℕ × LookedUp)) (c : ℕ) (l : LookedUp) (v : Value) → RestWith known r whole s ahead → ahead ≡ Some (c, l) → value_if_known l ≡ Some v → t ≡ after s c v →
-      ((d : ℕ) (w : Value) → after t d w ≡ t) → (cells : ℕ → Value) → KnownAgrees known cells → t ≡ after_cells after cells whole (cells_of r)
-  stops_with known r whole s t ahead c l v h a e f stays = stops known r whole s t (cell_of ahead) c v h.0 (ap cell_of a) (value_ahead known ahead c l v h.1 a e) f stays

@@ -5,10 +5,12 @@ mod argument;
 mod cells;
 mod lookup;
 mod stop;
+mod taker;
 mod walk;
 
 pub use argument::Argument;
 pub use cells::successor;
 pub use lookup::{LookedUp, Lookup};
 pub use stop::Stop;
-pub use walk::{TakesCells, take_cells};
+pub use taker::TakesCells;
+pub use walk::take_cells;

@@ -1,12 +1,16 @@
 //! What is known of cells and what-ifs.
 
-ghost use Rattle.std.specs.Prelude.{◌≡◌, ℕ, List, map, Option, IfSome, option_map};
+ghost use Rattle.std.specs.Prelude.{◌≡◌, ◌<◌, ◌≤◌, ℕ, true, List, map, Option, Some, None, IfOk, IfErr, IfSome, option_map};
 ghost use Rattle.wi_values.specs.declared.value.Value.{Value as Values};
+ghost use Rattle.wi_values.specs.Address.{is_within};
 ghost use Rattle.wi_parser.specs.View.{pair_of};
 ghost use Rattle.wi_lookup.specs.Assignment.{addresses};
 ghost use Rattle.wi_lookup.specs.Assignment.{value_if_known};
 ghost use Rattle.wi_lookup.specs.Filled.{IsNextFilled, is_known_empty};
+ghost use Rattle.wi_lookup.specs.Walk.{HasTaken};
 
+use crate::cells::successor;
+use crate::taker::TakesCells;
 use wi_parser::Pair;
 use wi_values::{Address, Rect, Value};
 
@@ -60,6 +64,33 @@ pub trait Lookup {
         match self.next_value(area, from) {
             Some((at, _)) => Some(at),
             None => None,
+        }
+    }
+
+    /// Hands the next cells of a rectangle over, in row-major order, from one on until one is missing, and tells where to go on,
+    /// if it does. Those that are known to be Empty may be passed over. The work is at most that of `next_value` for each of the others.
+    fn hand_over<T: TakesCells>(
+        &self,
+        area: Rect,
+        from: Address,
+        taker: &mut T,
+    ) -> Result<Option<Address>, Address>
+        ensures taken { IfOk result (λ next. HasTaken T.after (known_cell self.now) area taker.old (Some from) taker.new next) }
+        ensures further { IfOk result (λ next. IfSome next (λ n. (from < n) × (n ≤ area.last))) }
+        ensures missing { IfErr result (λ c. known_cell self.now c ≡ None) }
+        ensures inside { IfErr result (λ c. is_within area c ≡ true) }
+    {
+        match self.next_value(area, from) {
+            Some((at, looked_up)) => match looked_up {
+                LookedUp::Known(value) => {
+                    if taker.take(at, value).is_break() {
+                        return Ok(None);
+                    }
+                    Ok(successor(at, area.last()))
+                }
+                LookedUp::Missing => Err(at),
+            },
+            None => Ok(None),
         }
     }
 }

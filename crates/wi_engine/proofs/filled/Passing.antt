@@ -31,7 +31,7 @@ use Rattle.wi_engine.specs.Inner.Attempt.{cell_known, known_in}
 use Rattle.wi_engine.specs.Inner.Findings.{found_value}
 use Rattle.wi_engine.specs.declared.findings.Findings.{Findings}
 
-found_passes : (p : ℕ → Bool) (xs : List ℕ) → IfSome (find p xs) (λ c. p c ≡ true)
+pub found_passes : (p : ℕ → Bool) (xs : List ℕ) → IfSome (find p xs) (λ c. p c ≡ true)
 found_passes p [] = tt
 found_passes p (x ∷ xs) = at (p x) refl (found_passes p xs)
   where
@@ -40,7 +40,7 @@ found_passes p (x ∷ xs) = at (p x) refl (found_passes p xs)
     at false e ih = ih
 
 module _ {X : Type 0} where
-  none_before : (p : ℕ → Bool) (a : ℕ) (es : List (ℕ × X)) → Ascends es → p a ≡ true → ComesBefore a (find p (keys_of es)) → lookup (is_at (nat_cmp a)) es ≡ None
+  pub none_before : (p : ℕ → Bool) (a : ℕ) (es : List (ℕ × X)) → Ascends es → p a ≡ true → ComesBefore a (find p (keys_of es)) → lookup (is_at (nat_cmp a)) es ≡ None
   none_before p a [] asc t h = refl
   none_before p a (e ∷ es) asc t h = at (p e.0) refl h (none_before p a es asc.1 t)
     where
