@@ -2,3 +2,4 @@ pub mod Searching
 pub mod Names
 pub mod Given
 pub mod ValuesAlone
+pub mod Comparing

@@ -1,6 +1,8 @@
 //! The functions by their names.
 
 ghost use Rattle.std.specs.Prelude.{◌≡◌, ◌&&◌, nat_le, List, length, map, IfOk, IfErr};
+ghost use Rattle.std.specs.Cmp.Lexicographic.{slice_cmp};
+ghost use Rattle.std.specs.Ordering.{nat_cmp};
 ghost use Rattle.wi_standard_functions.specs.Arguments.{Argument};
 ghost use Rattle.wi_standard_functions.specs.Functions.{call_value, functions, is_not_above};
 ghost use Rattle.wi_values.specs.declared.value.Value.TheVariants.{Fault};
@@ -18,6 +20,7 @@ use crate::function::TextFunction::{Concatenate, Exact, Find, Left, Len, Mid, Re
 use crate::function::ValueFunction::{
     Abs, False, Int, Is, Mod, Na, Not, Power, Quotient, Round, Sign, Text, True, Value,
 };
+use std::cmp::Ordering;
 use wi_fraction::Mode;
 use wi_values::ErrorKind;
 
@@ -80,13 +83,13 @@ static ROWS: [Row; 51] = [
 ];
 
 /// The function that a call with that name, in capitals, and so many parameters is a call of: `UnknownName` where none has
-/// the name, else `BadValue` where it doesn't take so many. Six comparisons of names at most.
+/// the name, else `BadValue` where it doesn't take so many. Seven comparisons of names at most.
 pub fn function_for(name: &str, count: usize) -> Result<Function, ErrorKind>
     ensures found { IfOk result (λ f. (args : List Argument) → length args ≡ count → call_value name.now args ≡ applied f args) }
     ensures refused { IfErr result (λ e. (args : List Argument) → length args ≡ count → call_value name.now args ≡ Fault e) }
 {
     let rows = rows();
-    let Ok(place) = rows.binary_search_by_key(&name, |row| row.0) else {
+    let Ok(place) = rows.binary_search_by(|row| compare(row.0, name)) else {
         return Err(ErrorKind::UnknownName);
     };
     let (_, least, greatest, function) = rows[place];
@@ -102,6 +105,23 @@ fn rows() -> &'static [Row]
     ensures { map function_of result.now ≡ functions }
 {
     &ROWS
+}
+
+/// The order of two names, as texts have it. Names mostly differ in one of their first bytes, so a comparison byte by byte,
+/// which ends there, is shorter than one that reads many bytes at once.
+fn compare(name: &str, other: &str) -> Ordering
+    ensures { result ≡ slice_cmp nat_cmp name.now other.now }
+{
+    let xs = name.as_bytes();
+    let ys = other.as_bytes();
+    let both = xs.len().min(ys.len());
+    for i in 0..both {
+        let order = xs[i].cmp(&ys[i]);
+        if order.is_ne() {
+            return order;
+        }
+    }
+    xs.len().cmp(&ys.len())
 }
 
 /// Whether a count is neither below the least nor above the greatest.
