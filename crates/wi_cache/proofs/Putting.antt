@@ -1,5 +1,5 @@
 -- What stands in a map's entries after a pair is put in, and none of them or the last goes.
-use Rattle.std.proofs.Common.{◌≡◌, ℕ, zero, suc, ◌+◌, ◌-◌, ◌<◌, ◌≤◌, Bool, true, false, cond, List, [], ◌∷◌, length, take, Option, Some, None, IsSome, is_some, min, ◌⊎◌, inl, inr, refl, sym, ap, ◌∙◌, subst, arith, true≢false, if◌then◌else◌}
+use Rattle.std.proofs.Common.{◌≡◌, ℕ, zero, suc, ◌+◌, ◌-◌, ◌<◌, ◌≤◌, Bool, true, false, cond, List, [], ◌∷◌, length, slice_get, take, Option, Some, None, IsSome, is_some, min, ◌⊎◌, inl, inr, refl, sym, ap, ◌∙◌, subst, arith, true≢false, if◌then◌else◌}
 use Rattle.std.specs.Cmp.{IsEquivalence}
 use Rattle.std.specs.List.{AllByRecursion, IsDistinct}
 use Rattle.std.specs.Map.{keys_of, lookup, lookup_entry, remove_entry, update}
@@ -7,10 +7,11 @@ use Rattle.std.proofs.lemmas.Map.{lookup-none, none_passes_from_lookup, lookup-r
 use Rattle.std.proofs.lemmas.Map.Entries.{none_past_head}
 use Rattle.std.proofs.lemmas.Map.Keys.{IsDistinct-cons, IsDistinct-tail}
 use Rattle.std.proofs.lemmas.List.{length-take, take_all}
+use Rattle.std.proofs.lemmas.Option.{same_Some}
 use Rattle.std.specs.Option.{option_map, option_map_or}
-use Rattle.lru.specs.LruCache.{lru_cache, put_entries}
+use Rattle.lru.specs.LruCache.{last_entry, lru_cache, put_entries}
 use Rattle.lru.proofs.CallerLemmas.{Contains-lookup_entry}
-use Rattle.lru.proofs.Pairs.{lookup-lookup_entry}
+use Rattle.lru.proofs.Pairs.{cut_end, last_of_push, lookup-lookup_entry}
 use Rattle.lru.proofs.Splits.{all_map}
 
 none_stands : false ≡ true → ⊥
@@ -57,21 +58,23 @@ module _ {K V : Type 0} (eq : K → K → Bool) (laws : IsEquivalence eq) where
   swapped false true v o h = refl
   swapped false false v o h = refl
 
-  -- what goes with the last entry
-  abbrev pub LosesOne : List (K × V) → List (K × V) → Type 0
-  LosesOne es fs = (gone : K) × IsSome (map_of es gone) × ((q : K) → map_of fs q ≡ update eq (map_of es) gone None q)
+  -- e goes
+  abbrev pub Loses : List (K × V) → List (K × V) → K × V → Type 0
+  Loses es fs e = IsSome (map_of es e.0) × ((q : K) → map_of fs q ≡ update eq (map_of es) e.0 None q)
 
-  pub last_goes : (n : ℕ) (es : List (K × V)) → length es ≡ n + 1 → IsDistinct eq (keys_of es) → LosesOne es (take n es)
-  last_goes n [] l d = absurd (omega (arith, l))
-  last_goes zero (e ∷ []) l d =
-      (e.0, subst (λ b. IsSome (cond b (Some e.1) None)) (sym (laws.refl e.0)) refl, λ q. is_lost (eq e.0 q) e.1 ∙ ap (λ b. cond (eq e.0 q) None (cond b (Some e.1) None)) (laws.symm e.0 q))
-  last_goes zero (e ∷ f ∷ es) l d = absurd (omega (arith, l))
-  last_goes (suc n) (e ∷ es) l d =
-      let on = last_goes n es (omega (arith, l)) (IsDistinct-tail eq e.0 (keys_of es) d) in
-      let apart = apart_from_head on.0 e es d on.1 in (
-        on.0,
-        stands_below (eq on.0 e.0) e.1 (map_of es on.0) on.1,
-        λ q. ap (cond (eq q e.0) (Some e.1)) (on.2 q) ∙ swapped (eq on.0 q) (eq q e.0) e.1 (map_of es q) (λ t. laws.symm on.0 q ∙ laws.congr q e.0 on.0 t ∙ laws.symm e.0 on.0 ∙ apart),
+  sole_goes : (e : K × V) → Loses (e ∷ []) [] e
+  sole_goes e =
+      (subst (λ b. IsSome (cond b (Some e.1) None)) (sym (laws.refl e.0)) refl, λ q. is_lost (eq e.0 q) e.1 ∙ ap (λ b. cond (eq e.0 q) None (cond b (Some e.1) None)) (laws.symm e.0 q))
+
+  pub last_goes : (n : ℕ) (es : List (K × V)) (e : K × V) → length es ≡ n + 1 → slice_get es n ≡ Some e → IsDistinct eq (keys_of es) → Loses es (take n es) e
+  last_goes n [] e l s d = absurd (omega (arith, l))
+  last_goes zero (f ∷ []) e l s d = subst (Loses (f ∷ []) []) (same_Some f e s) (sole_goes f)
+  last_goes zero (f ∷ g ∷ es) e l s d = absurd (omega (arith, l))
+  last_goes (suc n) (f ∷ es) e l s d =
+      let on = last_goes n es e (omega (arith, l)) s (IsDistinct-tail eq f.0 (keys_of es) d) in
+      let apart = apart_from_head e.0 f es d on.0 in (
+        stands_below (eq e.0 f.0) f.1 (map_of es e.0) on.0,
+        λ q. ap (cond (eq q f.0) (Some f.1)) (on.1 q) ∙ swapped (eq e.0 q) (eq q f.0) f.1 (map_of es q) (λ t. laws.symm e.0 q ∙ laws.congr q f.0 e.0 t ∙ laws.symm f.0 e.0 ∙ apart),
       )
 
   -- ---- that no key stands twice, and how many stand
@@ -160,12 +163,16 @@ module _ {K V : Type 0} (eq : K → K → Bool) (laws : IsEquivalence eq) where
         (λ h. elim room [ inl known ↦ absurd (none_stands (subst IsSome (value_is None h) known)) | inr few ↦ all_stay (omega (arith, few)) q ])
         (λ e h. put_anew k v es e d (passes e h) q)
 
-    -- one key that stood goes
-    abbrev pub PutsForOne : List (K × V) → Type 0
-    PutsForOne fs = (gone : K) × IsSome (map_of es gone) × ((q : K) → map_of fs q ≡ update eq (update eq (map_of es) gone None) k (Some v) q)
+    -- e goes, whose key stood
+    abbrev pub PutsFor : List (K × V) → K × V → Type 0
+    PutsFor fs e = IsSome (map_of es e.0) × ((q : K) → map_of fs q ≡ update eq (update eq (map_of es) e.0 None) k (Some v) q)
 
-    pub after_one_goes : IsDistinct eq (keys_of es) → length es ≤ n → 1 ≤ n → map_of es k ≡ None → n ≤ length es → PutsForOne after
-    after_one_goes d within some new full = by_entry PutsForOne
-        (λ h. let on = last_goes (n - 1) es (omega (arith, some, within, full)) d in
-        (on.0, on.1, λ q. put_first k v (take (n - 1) es) q ∙ ap (cond (eq k q) (Some v)) (on.2 q)))
-        (λ e h. absurd (none_stands (ap is_some (sym new ∙ value_is (Some e) h))))
+    pub after_last_goes : IsDistinct eq (keys_of es) → length es ≤ n → 1 ≤ n → map_of es k ≡ None → n ≤ length es → (e : K × V) → last_entry es ≡ Some e → PutsFor after e
+    after_last_goes d within some new full e last = by_entry (λ fs. PutsFor fs e)
+        (λ h. let count : length es - 1 ≡ n - 1 = omega (arith, within, full) in
+        let on = last_goes (n - 1) es e (omega (arith, some, within, full)) (subst (λ i. slice_get es i ≡ Some e) count last) d in
+        (on.0, λ q. put_first k v (take (n - 1) es) q ∙ ap (cond (eq k q) (Some v)) (on.1 q)))
+        (λ f h. absurd (none_stands (ap is_some (sym new ∙ value_is (Some f) h))))
+
+    pub has_last : 1 ≤ length es → (e : K × V) × (last_entry es ≡ Some e)
+    has_last some = let on = cut_end es (omega (arith, some)) in (on.1, subst (λ fs. last_entry fs ≡ Some on.1) (sym on.2) (last_of_push on.0 on.1).0)

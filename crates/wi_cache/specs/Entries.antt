@@ -1,8 +1,9 @@
 -- Values by keys.
-use Rattle.std.specs.Prelude.{◌≡◌, ℕ, ◌+◌, ◌<◌, ◌≤◌, ◌⊎◌, Bool, List, length, min, Option, Some, None, IsSome, is_some, refl, if◌then◌else◌}
+use Rattle.std.specs.Prelude.{◌≡◌, ℕ, ◌+◌, ◌<◌, ◌≤◌, ◌⊎◌, Bool, List, length, min, Option, Some, None, IsSome, is_some, nat_lt, refl, if◌then◌else◌}
 use Rattle.std.specs.List.{IsDistinct}
 use Rattle.std.specs.Map.{keys_of, lookup, update}
 use Rattle.std.specs.Coded.{Coded, code_by, coded×, coded_list, coded_ℕ}
+use Rattle.lru.specs.LruCache.{last_entry}
 use Rattle.wi_values.specs.declared.value.Value.{Value}
 use Rattle.wi_cache.specs.declared.key.Key.{Key}
 use Rattle.wi_cache.specs.contracts.key.KeyPartialEq.TheImpl as equality
@@ -27,11 +28,15 @@ module _ (es fs : Entries) (k : Key) (v : Value) where
   abbrev pub Puts : Type 0
   Puts = (q : Key) → value_for fs q ≡ update same_key (value_for es) k (Some v) q
 
-  -- one key that stood goes; v stands for k, and for every other key what stood before
+  -- the key gone goes; v stands for k, and for every other key what stood before
+  abbrev pub PutsFor : Key → Type 0
+  PutsFor gone = (q : Key) → value_for fs q ≡ update same_key (update same_key (value_for es) gone None) k (Some v) q
+
+  -- the same, of one key that stood
   pub record PutsForOne : Type 0 where
     pub gone : Key
     pub stood : IsSome (value_for es gone)
-    pub others : (q : Key) → value_for fs q ≡ update same_key (update same_key (value_for es) gone None) k (Some v) q
+    pub others : PutsFor gone
 
 -- the values that are kept, and how many there may be
 pub record KeptValues : Type 0 where
@@ -55,3 +60,11 @@ HasRoom m k = IsSome (value_for m.entries k) ⊎ (length m.entries < m.capacity)
 -- how many there are after one is kept for k
 abbrev pub len_after : KeptValues → Key → ℕ
 len_after m k = if is_some (value_for m.entries k) then length m.entries else min (length m.entries + 1) m.capacity
+
+-- the entry that goes where a value is kept for k: none where there is room, else the one that was kept longest ago
+abbrev pub going : KeptValues → Key → Option (Key × Value)
+going m k = if is_some (value_for m.entries k) then None else (if nat_lt (length m.entries) m.capacity then None else last_entry m.entries)
+
+-- the entry that goes is the one that gives its place to v for k
+abbrev pub PutsForGoing : KeptValues → KeptValues → Key → Value → Type 0
+PutsForGoing m n k v = (e : Key × Value) → going m k ≡ Some e → PutsFor m.entries n.entries k v e.0

@@ -1,8 +1,9 @@
 //! Values that outlive a call.
 
-ghost use Rattle.std.specs.Prelude.{◌≡◌, ◌<◌, ◌≤◌, [], length, Some, None, IfOk, OnOk, OnErr};
+ghost use Rattle.std.specs.Prelude.{◌≡◌, ◌≤◌, [], length, Some, None, IfOk, OnOk, OnErr, option_map};
+ghost use Rattle.std.specs.Map.Iter.{deref_pair};
 ghost use Rattle.std.specs.Option.{option_copied};
-ghost use Rattle.wi_cache.specs.Entries.{HasOneEach, HasRoom, Puts, PutsForOne, kept, len_after, value_for};
+ghost use Rattle.wi_cache.specs.Entries.{HasOneEach, HasRoom, Puts, PutsForGoing, PutsForOne, going, kept, len_after, value_for};
 
 use crate::key::Key;
 use lru::LruCache;
@@ -50,6 +51,20 @@ impl Kept {
         self.entries.peek(key)
     }
 
+    /// The entry that goes where a value is kept for a key: none where there is room, and else the one that was kept
+    /// longest ago. Constant time while there is room, and else beside the hash of the key.
+    pub fn going(&self, key: &Key) -> Option<(&Key, &Value)>
+        ensures { option_map deref_pair result ≡ going self.now key.now }
+    {
+        if self.entries.len() < self.entries.cap().get() {
+            return None;
+        }
+        if self.entries.contains(key) {
+            return None;
+        }
+        self.entries.peek_lru()
+    }
+
     /// Keeps a value for a key, in the place of an earlier one. A new key that comes to a full list takes the place of
     /// the one that was kept longest ago. If memory runs out, all stays as it was. Expected constant time over many
     /// calls, beside the hash of the key.
@@ -58,6 +73,7 @@ impl Kept {
         ensures found { OnOk result (value_for self.new.entries key ≡ Some value) }
         ensures stays { OnOk result (HasRoom self.old key → Puts self.old.entries self.new.entries key value) }
         ensures one_goes { OnOk result (value_for self.old.entries key ≡ None → self.old.capacity ≤ length self.old.entries → PutsForOne self.old.entries self.new.entries key value) }
+        ensures going { OnOk result (PutsForGoing self.old self.new key value) }
         ensures len { OnOk result (length self.new.entries ≡ len_after self.old key) }
         ensures capacity { self.new.capacity ≡ self.old.capacity }
         ensures err { OnErr result (self.new ≡ self.old) }

@@ -8,6 +8,9 @@ returns-clause-stays c = search (rules, keeping)
 pub returns-clause-one_goes : goal.returns-clause-one_goes
 returns-clause-one_goes c = search (rules, keeping)
 
+pub returns-clause-going : goal.returns-clause-going
+returns-clause-going c = search (rules, keeping)
+
 pub returns-clause-len : goal.returns-clause-len
 returns-clause-len c = search (rules, keeping)
 
