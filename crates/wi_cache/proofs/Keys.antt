@@ -2,24 +2,16 @@
 use Rattle.std.proofs.Common.{◌≡◌, ◌==◌, ◌&&◌, true, refl, sym, ap, ◌∙◌}
 use Rattle.std.specs.Prelude.{Decides}
 use Rattle.std.specs.Cmp.{IsEquivalence, decided}
-use Rattle.std.proofs.lemmas.Bool.{and_from, and_parts, eq-eqb, eqb-true}
+use Rattle.std.proofs.lemmas.Bool.{and_from, eq-eqb}
 use Rattle.wi_values.specs.Replacements.{same_replacements}
 use Rattle.wi_values.proofs.Replacements.Same.{same_replacements_Decides}
 use Rattle.wi_cache.specs.declared.key.Key.{Key}
 use Rattle.wi_cache.specs.Entries.{same_key}
+use Rattle.wi_cache.specs.Hashed.{same_key_means}
 
 pub same_key_Decides : (a b : Key) → Decides (same_key a b) (a ≡ b)
-same_key_Decides a b = (means, λ e. ap (same_key a) (sym e) ∙ itself)
+same_key_Decides a b = (same_key_means a b, λ e. ap (same_key a) (sym e) ∙ itself)
   where
-    means : same_key a b ≡ true → a ≡ b
-    means h =
-        let outer = and_parts (a.cell == b.cell) (a.generation == b.generation && same_replacements a.world b.world) h in
-        let inner = and_parts (a.generation == b.generation) (same_replacements a.world b.world) outer.1 in
-        let cell = eqb-true a.cell b.cell outer.0 in
-        let generation = eqb-true a.generation b.generation inner.0 in
-        let world = (same_replacements_Decides a.world b.world).0 inner.1 in
-        λ i. record { cell = cell i; generation = generation i; world = world i }
-
     itself : same_key a a ≡ true
     itself =
         let world = (same_replacements_Decides a.world a.world).1 refl in

@@ -4,7 +4,7 @@ use wi_values::Address;
 use wi_worlds::World;
 
 /// A cell, how often its value may have changed since the sheet was new, and the replacements that reach it.
-#[derive(PartialEq, Eq, Hash, Drop)]
+#[derive(PartialEq, Eq, Drop)]
 pub struct Key {
     pub cell: Address,
     pub generation: u64,

@@ -1,6 +1,7 @@
 //! Kept values: those of one call, and those that outlive a call, of which there are only so many.
 #![tactic(auto)]
 
+mod hashed;
 mod kept;
 mod key;
 pub mod laws;

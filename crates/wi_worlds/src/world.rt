@@ -99,8 +99,8 @@ impl World {
         })
     }
 
-    /// A hash of the replacements, found when the world was made.
-    pub(crate) fn digest(&self) -> u64
+    /// A hash of the replacements, found when the world was made: worlds of the same replacements have the same.
+    pub fn digest(&self) -> u64
         ensures { result ≡ digest_of self.now }
     {
         self.digest
