@@ -44,11 +44,15 @@ impl Kept {
         Ok(Kept { entries })
     }
 
-    /// The value that is kept for a key. Expected constant time, beside the hash of the key.
+    /// The value that is kept for a key. Expected constant time, beside the hash of the key, which isn't taken where the
+    /// key is the one that was kept last.
     pub fn look(&self, key: &Key) -> Option<&Value>
         ensures { option_copied result ≡ value_for self.now.entries key.now }
     {
-        self.entries.peek(key)
+        match self.entries.peek_mru() {
+            Some((last, value)) if key == last => Some(value),
+            _ => self.entries.peek(key),
+        }
     }
 
     /// The entry that goes where a value is kept for a key: none where there is room, and else the one that was kept
