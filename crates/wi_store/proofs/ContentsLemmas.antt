@@ -1,6 +1,6 @@
 -- The contents of a rectangle, as a walk over rooms with jumps finds them.
-use Rattle.std.proofs.Common.{◌≡◌, ℕ, ◌<◌, ◌≤◌, Bool, true, false, ◌&&◌, cond, List, [], ◌∷◌, ◌++◌, filter, Option, Some, None, IfSome, refl, sym, ap, ◌∙◌, subst, arith}
-use Rattle.std.specs.Prelude.{nat_le, nat_lt, option_map}
+use Rattle.std.proofs.Common.{◌≡◌, ℕ, ◌<◌, ◌≤◌, Bool, true, false, ◌&&◌, cond, List, [], ◌∷◌, ◌++◌, filter, Option, Some, None, IfSome, refl, sym, ap, ◌∙◌, subst, arith, append_assoc}
+use Rattle.std.specs.Prelude.{not, nat_le, nat_lt, option_map}
 use Rattle.std.specs.Borrow.{Bor}
 use Rattle.std.specs.List.{find}
 use Rattle.std.specs.Map.{keys_of}
@@ -17,7 +17,7 @@ use Rattle.wi_values.proofs.Within.{within_between}
 use Rattle.wi_parser.specs.Sheet.{Sheet}
 use Rattle.wi_parser.specs.declared.content.Content.{Content}
 use Rattle.wi_store.specs.Store.{is_ahead}
-use Rattle.wi_store.specs.Inner.Rooms.{Rooms, occupied, occupant, sheet_in, room_of, RoomsAreInOrder, HasNoVacancy, EndsWith, rooms_after}
+use Rattle.wi_store.specs.Inner.Rooms.{Rooms, occupied, occupant, sheet_in, room_of, RoomsAreInOrder, HasNoVacancy, EndsWith, Passes, rooms_after}
 use Rattle.wi_store.proofs.NextRoom.{range_from, starts_by, nothing_found, cell_of}
 use Rattle.wi_store.proofs.Within.{ahead_from, comes_before, low, passed, same}
 
@@ -126,6 +126,25 @@ room_there : (c : ℕ) (o : Option Content) (before es : Rooms) → Ascends (bef
 room_there c o [] es asc = rw (at_itself c)
 room_there c o (e ∷ before) es asc = rw (at_earlier c e.0 (comes_before e.0 c o before es asc.0)) (room_there c o before es asc.1)
 
+pub ends_further : (rooms es fs : Rooms) → EndsWith rooms es → EndsWith es fs → EndsWith rooms fs
+ends_further rooms es fs h k = (h.0 ++ k.0, h.1 ∙ ap (λ (xs : Rooms). h.0 ++ xs) k.1 ∙ sym (append_assoc h.0 k.0 fs))
+
+-- ---- rooms that are passed
+
+pub passes_none : (r : Area) (es : Rooms) → Passes r es es
+passes_none r es = (([], refl), refl)
+
+pub passes_one : (r : Area) (rooms es fs : Rooms) (e : ℕ × Option Content) → Passes r rooms es → es ≡ e ∷ fs → is_within r e.0 ≡ false → Passes r rooms fs
+passes_one r rooms es fs e h k w = (ends_after rooms es fs e h.0 k, h.1 ∙ ap (kept (is_within r)) k ∙ passed_by (is_within r) e.0 e.1 fs w)
+
+pub lies_outside : (b w x : Bool) → x ≡ (b && not w) → x ≡ true → w ≡ false
+lies_outside true true x e h = absurd (let z = sym e ∙ h in cc)
+lies_outside false true x e h = absurd (let z = sym e ∙ h in cc)
+lies_outside b false x e h = refl
+
+pub ends_behind : (r : Area) (rooms es fs : Rooms) (e : ℕ × Option Content) → EndsWith rooms es → Passes r es (e ∷ fs) → EndsWith rooms fs
+ends_behind r rooms es fs e h k = ends_after rooms (e ∷ fs) fs e (ends_further rooms es (e ∷ fs) h k.0) refl
+
 -- ---- the first that is found
 
 none_kept : (p : ℕ → Bool) (es : Rooms) → find p (keys_of es) ≡ None → kept p es ≡ []
@@ -220,26 +239,24 @@ found_ahead r c d (x ∷ xs) h = at (nat_le c x) (is_within r x) refl h (found_a
     at false b m z ih = ih z
 
 -- what is to come from a room on is what is ahead of its cell
-to_come : (r : Area) (c : ℕ) (o : Option Content) (rooms es fs : Rooms) → Ascends rooms → EndsWith rooms es → es ≡ (c, o) ∷ fs → kept (is_within r) es ≡ kept (is_ahead r (Some c)) rooms
-to_come r c o rooms es fs asc h k =
-    let split = h.1 ∙ ap (λ (xs : Rooms). h.0 ++ xs) k in
-    ap (kept (is_within r)) k
-    ∙ kept_from (is_within r) (is_ahead r (Some c)) c o (not_ahead r c) (ahead_from r c) h.0 fs (subst (λ (xs : Rooms). Ascends xs) split asc)
-    ∙ ap (kept (is_ahead r (Some c))) (sym split)
+to_come : (r : Area) (c : ℕ) (o : Option Content) (rooms fs : Rooms) → Ascends rooms → EndsWith rooms ((c, o) ∷ fs) → kept (is_within r) ((c, o) ∷ fs) ≡ kept (is_ahead r (Some c)) rooms
+to_come r c o rooms fs asc h =
+    kept_from (is_within r) (is_ahead r (Some c)) c o (not_ahead r c) (ahead_from r c) h.0 fs (subst (λ (xs : Rooms). Ascends xs) h.1 asc)
+    ∙ ap (kept (is_ahead r (Some c))) (sym h.1)
 
 -- a room that is one of the rectangle comes
-pub comes_here : (r : Area) (c : ℕ) (o : Option Content) (rooms es fs : Rooms) (old : Sheet) (found : Option (ℕ × Bor Content)) → RoomsAreInOrder rooms → HasNoVacancy rooms → EndsWith rooms es → es ≡ (c, o) ∷ fs → kept (is_within r) es ≡ old → is_within r c ≡ true →
+pub comes_here : (r : Area) (c : ℕ) (o : Option Content) (rooms es fs : Rooms) (old : Sheet) (found : Option (ℕ × Bor Content)) → RoomsAreInOrder rooms → HasNoVacancy rooms → EndsWith rooms es → Passes r es ((c, o) ∷ fs) → kept (is_within r) es ≡ old → is_within r c ≡ true →
     option_map occupied found ≡ occupant (c, o) → TakesFirst occupied old found (kept (is_within r) fs)
-comes_here r c o rooms es fs old found order full h k e w f = by o found (room_there c o h.0 fs asc) f (ap (kept (is_within r)) (sym k) ∙ e)
+comes_here r c o rooms es fs old found order full h k e w f = by o found (room_there c o ends.0 fs asc) f (sym k.1 ∙ e)
   where
-    split : rooms ≡ h.0 ++ (c, o) ∷ fs
-    split = h.1 ∙ ap (λ (xs : Rooms). h.0 ++ xs) k
+    ends : EndsWith rooms ((c, o) ∷ fs)
+    ends = ends_further rooms es ((c, o) ∷ fs) h k.0
 
-    asc : Ascends (h.0 ++ (c, o) ∷ fs)
-    asc = subst (λ (xs : Rooms). Ascends xs) split (Ascends-from_order rooms order)
+    asc : Ascends (ends.0 ++ (c, o) ∷ fs)
+    asc = subst (λ (xs : Rooms). Ascends xs) ends.1 (Ascends-from_order rooms order)
 
-    by : (p : Option Content) (found : Option (ℕ × Bor Content)) → room_of (h.0 ++ (c, o) ∷ fs) c ≡ Some p → option_map occupied found ≡ occupant (c, p) → kept (is_within r) ((c, p) ∷ fs) ≡ old → TakesFirst occupied old found (kept (is_within r) fs)
-    by None found there g e = absurd (full c (ap (λ (xs : Rooms). room_of xs c) split ∙ there))
+    by : (p : Option Content) (found : Option (ℕ × Bor Content)) → room_of (ends.0 ++ (c, o) ∷ fs) c ≡ Some p → option_map occupied found ≡ occupant (c, p) → kept (is_within r) ((c, p) ∷ fs) ≡ old → TakesFirst occupied old found (kept (is_within r) fs)
+    by None found there g e = absurd (full c (ap (λ (xs : Rooms). room_of xs c) ends.1 ∙ there))
     by (Some x) None there g e = absurd (let z = g in cc)
     by (Some x) (Some y) there g e =
         let first : (c, x) ≡ occupied y = cc in
@@ -247,7 +264,7 @@ comes_here r c o rooms es fs old found order full h k e w f = by o found (room_t
 
 -- or the first one after a room beside it
 pub comes_later : (r : Area) (c : ℕ) (o : Option Content) (rooms es fs new : Rooms) (old : Sheet) (sought : Option (ℕ × Bor (Option Content))) (d : ℕ) (p : Option Content) (found : Option (ℕ × Bor Content)) →
-    RoomsAreInOrder rooms → HasNoVacancy rooms → EndsWith rooms es → es ≡ (c, o) ∷ fs → kept (is_within r) es ≡ old →
+    RoomsAreInOrder rooms → HasNoVacancy rooms → EndsWith rooms es → Passes r es ((c, o) ∷ fs) → kept (is_within r) es ≡ old →
     cell_of sought ≡ find (is_ahead r (Some c)) (keys_of rooms) → cell_of sought ≡ Some d → room_of rooms d ≡ Some p → new ≡ rooms_after d rooms →
     option_map occupied found ≡ occupant (d, p) → TakesFirst occupied old found (kept (is_within r) new)
 comes_later r c o rooms es fs new old sought d p found order full h k e f s there n g = by p found there g
@@ -266,16 +283,16 @@ comes_later r c o rooms es fs new old sought d p found order full h k e f s ther
     by (Some x) None t v = absurd (let z = v in cc)
     by (Some x) (Some y) t v =
         let this : (d, x) ≡ occupied y = cc in
-        sym e ∙ to_come r c o rooms es fs asc h k
+        sym e ∙ k.1 ∙ to_come r c o rooms fs asc (ends_further rooms es ((c, o) ∷ fs) h k.0)
         ∙ first_kept (is_ahead r (Some c)) d x rooms asc first t
         ∙ ap (λ (s : Sheet). (d, x) ∷ s) (kept_where (nat_lt d) (is_ahead r (Some c)) (is_within r) reached rooms ∙ ap (kept (is_within r)) (sym n))
         ∙ ap (λ (z : ℕ × Content). z ∷ kept (is_within r) new) this
 
 -- or none, where none is found after it
 pub none_comes : (r : Area) (c : ℕ) (o : Option Content) (rooms es fs : Rooms) (old : Sheet) (sought : Option (ℕ × Bor (Option Content))) →
-    RoomsAreInOrder rooms → EndsWith rooms es → es ≡ (c, o) ∷ fs → kept (is_within r) es ≡ old → is_within r c ≡ false →
+    RoomsAreInOrder rooms → EndsWith rooms es → Passes r es ((c, o) ∷ fs) → kept (is_within r) es ≡ old → is_within r c ≡ false →
     cell_of sought ≡ find (is_ahead r (Some c)) (keys_of rooms) → sought ≡ None → (old ≡ []) × (kept (is_within r) fs ≡ [])
-none_comes r c o rooms es fs old sought order h k e w f s = (sym e ∙ nothing, sym (passed_by (is_within r) c o fs w) ∙ ap (kept (is_within r)) (sym k) ∙ nothing)
+none_comes r c o rooms es fs old sought order h k e w f s = (sym e ∙ k.1 ∙ nothing, sym (passed_by (is_within r) c o fs w) ∙ nothing)
   where
-    nothing : kept (is_within r) es ≡ []
-    nothing = to_come r c o rooms es fs (Ascends-from_order rooms order) h k ∙ none_kept (is_ahead r (Some c)) rooms (sym f ∙ ap cell_of s)
+    nothing : kept (is_within r) ((c, o) ∷ fs) ≡ []
+    nothing = to_come r c o rooms fs (Ascends-from_order rooms order) (ends_further rooms es ((c, o) ∷ fs) h k.0) ∙ none_kept (is_ahead r (Some c)) rooms (sym f ∙ ap cell_of s)

@@ -1,9 +1,10 @@
 //! The contents of a rectangle, one after another.
 
-ghost use Rattle.std.specs.Prelude.{◌≡◌, filter, Some, option_map};
+ghost use Rattle.std.specs.Prelude.{◌≡◌, ◌&&◌, not, nat_le, filter, Some, option_map};
+ghost use Rattle.wi_values.specs.Address.{is_within};
 ghost use Rattle.wi_store.specs.Store.{is_ahead};
 ghost use Rattle.wi_store.specs.Inner.Columns.{HasCellsOf};
-ghost use Rattle.wi_store.specs.Inner.Rooms.{occupied, occupant, sheet_in, RoomsAreInOrder, HasNoVacancy, rooms_after};
+ghost use Rattle.wi_store.specs.Inner.Rooms.{occupied, occupant, sheet_in, RoomsAreInOrder, HasNoVacancy, ComesTo, rooms_after};
 
 use crate::columns::Columns;
 use crate::rooms::Rooms;
@@ -13,6 +14,9 @@ use std::marker::Model;
 use std::ops::Bound;
 use wi_parser::Content;
 use wi_values::{Address, Rect};
+
+/// How many rooms beside a rectangle are passed one by one before the next one in it is searched for.
+const MAX_BESIDE: u32 = 8;
 
 /// The contents of a rectangle that are still to come with their cells, in row-major order.
 #[derive(Drop)]
@@ -78,9 +82,11 @@ impl<'a> Iterator for Contents<'a> {
 
     ghost remaining = { λ s. at_most (length s) };
 
-    /// No search where the next room is one of the rectangle.
+    /// One step in the map for each occupied cell up to the next one of the rectangle. Where more than eight of them lie beside
+    /// it, the next is searched for: the work is then that of `next_content` and one search more. The first occupied cell after the
+    /// rectangle ends it.
     fn next(&mut self) -> Option<(Address, &'a Content)> {
-        let (cell, room) = self.ahead.next()?;
+        let (cell, room) = pass_beside(&mut self.ahead, self.area)?;
         if self.area.contains(*cell) {
             return occupant(*cell, room);
         }
@@ -92,6 +98,29 @@ impl<'a> Iterator for Contents<'a> {
             None => None,
         }
     }
+}
+
+/// The next room that doesn't lie beside a rectangle, or the one after the first `MAX_BESIDE` that do.
+fn pass_beside<'a>(
+    ahead: &mut Range<'a, Address, Option<Content>>,
+    area: Rect,
+) -> Option<(&'a Address, &'a Option<Content>)>
+    ensures { ComesTo area ahead.old result ahead.new }
+{
+    for _ in 0..MAX_BESIDE {
+        let (cell, room) = ahead.next()?;
+        if !is_beside(area, *cell) {
+            return Some((cell, room));
+        }
+    }
+    ahead.next()
+}
+
+/// Whether a cell lies beside a rectangle and not after its last cell.
+fn is_beside(area: Rect, cell: Address) -> bool
+    ensures { result ≡ (nat_le cell area.last && not (is_within area cell)) }
+{
+    cell <= area.last() && !area.contains(cell)
 }
 
 /// The rooms after a cell. One search.

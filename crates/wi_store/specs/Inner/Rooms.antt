@@ -1,11 +1,12 @@
 -- The rooms of a store: cells that may have a content. A room is vacant only while an edit goes on.
-use Rattle.std.specs.Prelude.{◌≡◌, ◌==◌, ℕ, true, List, ◌++◌, filter, nat_lt, Option, Some, None, option_map}
+use Rattle.std.specs.Prelude.{◌≡◌, ◌==◌, ℕ, true, List, [], ◌∷◌, ◌++◌, filter, nat_lt, Option, Some, None, option_map}
 use Rattle.std.specs.Borrow.{Bor}
 use Rattle.std.specs.List.{filter_map, list_any}
 use Rattle.std.specs.Ordering.{nat_cmp}
 use Rattle.std.specs.Map.{lookup, keys_of}
 use Rattle.std.specs.BTreeMap.{is_at}
 use Rattle.std.specs.List.Sorted.{IsStrictlySortedBy}
+use Rattle.wi_values.specs.Address.{Area, is_within}
 use Rattle.wi_parser.specs.Sheet.{Sheet, has_formula}
 use Rattle.wi_parser.specs.declared.content.Content.{Content}
 
@@ -52,6 +53,15 @@ HasRoomFor rooms change = room_of rooms change.0 ≡ None → change.1 ≡ None
 -- the last of the rooms are these
 abbrev pub EndsWith : Rooms → Rooms → Type 0
 EndsWith rooms tail = (before : Rooms) × (rooms ≡ before ++ tail)
+
+-- the last of the rooms are these, and before them none lies in the rectangle
+abbrev pub Passes : Area → Rooms → Rooms → Type 0
+Passes r rooms rest = EndsWith rooms rest × (filter (λ e. is_within r e.0) (sheet_in rooms) ≡ filter (λ e. is_within r e.0) (sheet_in rest))
+
+-- a walk passes rooms beside the rectangle and takes the next one, or has passed all
+abbrev pub ComesTo : Area → Rooms → Option (Bor ℕ × Bor (Option Content)) → Rooms → Type 0
+ComesTo r rooms None rest = Passes r rooms [] × (rest ≡ [])
+ComesTo r rooms (Some x) rest = Passes r rooms ((x.0.now, x.1.now) ∷ rest)
 
 -- the rooms after a cell
 abbrev pub rooms_after : ℕ → Rooms → Rooms
