@@ -1,19 +1,21 @@
 -- Laws of the pieces at a block, and of the readers among them.
-use Rattle.std.proofs.Common.{◌≡◌, ℕ, ◌+◌, Bool, true, false, not, ◌&&◌, ◌||◌, cond, List, [], ◌∷◌, filter, refl, sym, ap, ◌∙◌, arith}
+use Rattle.std.proofs.Common.{◌≡◌, ℕ, nat_eq, Bool, true, false, not, ◌&&◌, ◌||◌, cond, List, [], ◌∷◌, filter, refl, sym, ap, subst, ◌∙◌, arith}
+use Rattle.std.specs.Bool.{⊤}
 use Rattle.std.specs.Ordering.{nat_cmp, ordering_then, is_eq, is_le}
 use Rattle.std.specs.declared.cmp.Ordering.{Ordering}
 use Rattle.std.specs.declared.cmp.Ordering.TheVariants.{Less, Equal, Greater}
-use Rattle.std.specs.declared.ops.Bound.TheVariants.{Included, Excluded}
-use Rattle.std.specs.List.{list_any}
+use Rattle.std.specs.declared.ops.Bound.TheVariants.{Included, Unbounded}
+use Rattle.std.specs.List.{list_any, AllByRecursion}
+use Rattle.std.specs.List.Sorted.{IsStrictlySortedBy}
 use Rattle.std.specs.BTreeMap.{is_at}
 use Rattle.std.specs.BTreeMap.Range.{range_contains}
-use Rattle.std.proofs.lemmas.Bool.{true≢false}
+use Rattle.std.proofs.lemmas.Bool.{true≢false, and_parts, and_from}
 use Rattle.std.proofs.lemmas.Bool.Decides.{nat_tests}
+use Rattle.std.proofs.lemmas.Map.Keys.{sorted_head, sorted_tail}
 use Rattle.std.proofs.Math.Bool.{or-false, or_assoc}
 use Rattle.wi_ranges.specs.declared.block.Block.{Block}
 use Rattle.wi_ranges.specs.declared.pair.RangePair.{RangePair}
 use Rattle.wi_ranges.specs.declared.pair.Numbered.{Numbered}
-use Rattle.wi_ranges.specs.Blocks.{block}
 use Rattle.wi_ranges.specs.Bag.{pair_cmp, lowest_pair}
 use Rattle.wi_ranges.specs.Inner.Index.{block_cmp, numbered_cmp, lowest, Piece, piece_cmp, is_among, piece_reads, reads_at}
 
@@ -33,38 +35,63 @@ lowest_first p = no_later_then (nat_cmp 0 p.first) _ (no_later p.first) (no_late
 lowest_numbered : (m : Numbered) → is_le (numbered_cmp lowest m) ≡ true
 lowest_numbered m = no_later_then (pair_cmp lowest_pair m.pair) _ (lowest_first m.pair) (no_later m.number)
 
-next_after_less : (a b : ℕ) → nat_cmp a b ≡ Less → is_le (nat_cmp (a + 1) b) ≡ true
-next_after_less a b h = grind (arith, nat_tests)
+-- a piece at a block comes from its first place on
+at_or_after : (o p : Ordering) → is_le p ≡ true → is_eq o ≡ true → is_le (ordering_then o p) ≡ true
+at_or_after Less p h e = refl
+at_or_after Equal p h e = h
+at_or_after Greater p h e = absurd (true≢false (sym e))
 
-next_after_equal : (a b : ℕ) → nat_cmp a b ≡ Equal → is_le (nat_cmp (a + 1) b) ≡ false
-next_after_equal a b h = grind (arith, nat_tests)
+abbrev pub is_from : Block → Piece → Bool
+is_from x q = range_contains piece_cmp (Included (x, lowest)) Unbounded q
 
-at_block : (l f g p : Ordering) → is_le p ≡ true → (f ≡ Less → is_le g ≡ true) → (f ≡ Equal → is_le g ≡ false)
-    → (is_le (ordering_then (ordering_then l f) p) && not (is_le (ordering_then (ordering_then l g) p))) ≡ (is_eq (ordering_then l f) || false)
-at_block Less f g p h k m = refl
-at_block Greater f g p h k m = refl
-at_block Equal Less Less p h k m = refl
-at_block Equal Less Equal p h k m = rw h
-at_block Equal Less Greater p h k m = sym (k refl)
-at_block Equal Equal Less p h k m = absurd (true≢false (m refl))
-at_block Equal Equal Equal p h k m = absurd (true≢false (m refl))
-at_block Equal Equal Greater p h k m = rw h
-at_block Equal Greater g p h k m = refl
+from_first : (x : Block) (a r : ℕ) (q : Piece) → reads_at (x ∷ []) a r q ≡ true → is_from x q ≡ true
+from_first x a r q h =
+    let here = sym (or-false (is_at (block_cmp x) q.0)) ∙ (and_parts (is_among q.0 (x ∷ [])) (piece_reads a r q) h).0 in
+    and_from _ true (at_or_after (block_cmp x q.0) _ (lowest_numbered q.1) here) refl
 
-pub between_is_at_block : (x : Block) (q : Piece)
-    → range_contains piece_cmp (Included (x, lowest)) (Excluded (block x.level (x.first + 1), lowest)) q ≡ is_among q.0 (x ∷ [])
-between_is_at_block x q = at_block (nat_cmp x.level q.0.level) (nat_cmp x.first q.0.first) (nat_cmp (x.first + 1) q.0.first) (numbered_cmp lowest q.1)
-    (lowest_numbered q.1) (next_after_less x.first q.0.first) (next_after_equal x.first q.0.first)
+-- what comes after a piece of a later block is of later blocks
+later : (x k y : Block) (p o : Ordering) → is_le (ordering_then (block_cmp x k) p) ≡ true → is_at (block_cmp x) k ≡ false
+    → ordering_then (block_cmp k y) o ≡ Less → is_at (block_cmp x) y ≡ false
+later x k y p o h n l = grind (arith, nat_tests)
+
+-- no cell reads one from the block
+abbrev pub NoneReads : Block → List Piece → Type 0
+NoneReads x qs = (a r : ℕ) → list_any (reads_at (x ∷ []) a r) qs ≡ false
+
+none_behind : (x : Block) (k : Piece) (ys : List Piece) → is_le (piece_cmp (x, lowest) k) ≡ true → is_at (block_cmp x) k.0 ≡ false
+    → AllByRecursion (λ y. piece_cmp k y ≡ Less) ys → NoneReads x (filter (is_from x) ys)
+none_behind x k [] h n l a r = refl
+none_behind x k (y ∷ ys) h n l a r = by (is_from x y) (none_behind x k ys h n l.1 a r)
+  where
+    by : (b : Bool) → list_any (reads_at (x ∷ []) a r) (filter (is_from x) ys) ≡ false
+        → list_any (reads_at (x ∷ []) a r) (cond b (y ∷ filter (is_from x) ys) (filter (is_from x) ys)) ≡ false
+    by true e = rw (later x k.0 y.0 _ _ h n l.0) e
+    by false e = e
+
+-- those at the block are the first: no cell reads one behind a piece of another
+abbrev pub AreFirst : Block → List Piece → Type 0
+AreFirst x [] = ⊤
+AreFirst x (q ∷ qs) = (is_at (block_cmp x) q.0 ≡ false → NoneReads x qs) × AreFirst x qs
+
+pub come_first : (x : Block) (ks : List Piece) → IsStrictlySortedBy piece_cmp ks → AreFirst x (filter (is_from x) ks)
+come_first x [] h = tt
+come_first x (k ∷ ks) h = by (is_from x k) refl (come_first x ks (sorted_tail piece_cmp k ks h))
+  where
+    by : (b : Bool) → is_from x k ≡ b → AreFirst x (filter (is_from x) ks) → AreFirst x (cond b (k ∷ filter (is_from x) ks) (filter (is_from x) ks))
+    by true e r = (λ n. none_behind x k ks (and_parts _ true e).0 n (sorted_head piece_cmp k ks h), r)
+    by false e r = r
 
 -- ---- any of a filter, any of two tests
 
-pub any_of_filter : {X : Type 0} (t u p : X → Bool) (xs : List X) → ((x : X) → t x ≡ u x) → list_any p (filter t xs) ≡ list_any (λ x. u x && p x) xs
-any_of_filter t u p [] e = refl
-any_of_filter t u p (x ∷ xs) e = rw (e x) (by (u x) (any_of_filter t u p xs e))
+-- where what passes a test passes another
+any_of_filter : {X : Type 0} (t p : X → Bool) (xs : List X) → ((x : X) → p x ≡ true → t x ≡ true) → list_any p (filter t xs) ≡ list_any p xs
+any_of_filter t p [] e = refl
+any_of_filter t p (x ∷ xs) e = by (t x) (p x) refl refl (any_of_filter t p xs e)
   where
-    by : (b : Bool) → list_any p (filter t xs) ≡ list_any (λ x. u x && p x) xs → list_any p (cond b (x ∷ filter t xs) (filter t xs)) ≡ ((b && p x) || list_any (λ x. u x && p x) xs)
-    by true r = ap (λ b. p x || b) r
-    by false r = r
+    by : (b d : Bool) → t x ≡ b → p x ≡ d → list_any p (filter t xs) ≡ list_any p xs → list_any p (cond b (x ∷ filter t xs) (filter t xs)) ≡ (p x || list_any p xs)
+    by true d f g r = ap (λ b. p x || b) r
+    by false true f g r = absurd (true≢false (sym (e x g) ∙ f))
+    by false false f g r = r ∙ ap (λ b. b || list_any p xs) (sym g)
 
 shuffle : (a b c d : Bool) → ((a || b) || (c || d)) ≡ ((a || c) || (b || d))
 shuffle true b c d = refl
@@ -91,12 +118,28 @@ readers_more x xs zs a r ks old mid new e f g =
     ∙ ap (λ b. old || b) (sym (any_of_either (reads_at (x ∷ []) a r) (reads_at xs a r) (reads_at (x ∷ xs) a r) ks (λ q. one_more_block (is_at (block_cmp x) q.0) (is_among q.0 xs) (piece_reads a r q))))
     ∙ ap (λ (us : List Block). old || list_any (reads_at us a r) ks) (sym e)
 
--- the loop's end
-pub readers_found : (x : Block) (a r : ℕ) (rest all ks : List Piece) (old new : Bool) → rest ≡ []
-    → all ≡ filter (range_contains piece_cmp (Included (x, lowest)) (Excluded (block x.level (x.first + 1), lowest))) ks
-    → (new || list_any (piece_reads a r) rest) ≡ (old || list_any (piece_reads a r) all)
+-- what the loop has found, where none is left to find
+found : (x : Block) (a r : ℕ) (rest all ks : List Piece) (old new : Bool) → all ≡ filter (is_from x) ks → list_any (reads_at (x ∷ []) a r) rest ≡ false
+    → (new || list_any (reads_at (x ∷ []) a r) rest) ≡ (old || list_any (reads_at (x ∷ []) a r) all)
     → new ≡ (old || list_any (reads_at (x ∷ []) a r) ks)
-readers_found x a r rest all ks old new e f h =
-    sym (or-false new) ∙ ap (λ (us : List Piece). new || list_any (piece_reads a r) us) (sym e) ∙ h
-    ∙ ap (λ (us : List Piece). old || list_any (piece_reads a r) us) f
-    ∙ ap (λ b. old || b) (any_of_filter _ (λ q. is_among q.0 (x ∷ [])) (piece_reads a r) ks (between_is_at_block x))
+found x a r rest all ks old new f none h =
+    sym (or-false new) ∙ ap (λ b. new || b) (sym none) ∙ h ∙ ap (λ (us : List Piece). old || list_any (reads_at (x ∷ []) a r) us) f
+    ∙ ap (λ b. old || b) (any_of_filter (is_from x) (reads_at (x ∷ []) a r) ks (from_first x a r))
+
+pub found_all : (x : Block) (a r : ℕ) (rest all ks : List Piece) (old new : Bool) → all ≡ filter (is_from x) ks → rest ≡ []
+    → (new || list_any (reads_at (x ∷ []) a r) rest) ≡ (old || list_any (reads_at (x ∷ []) a r) all)
+    → new ≡ (old || list_any (reads_at (x ∷ []) a r) ks)
+found_all x a r rest all ks old new f e h = found x a r rest all ks old new f (ap (λ (us : List Piece). list_any (reads_at (x ∷ []) a r) us) e) h
+
+another : (x y : Block) → true ≡ not (nat_eq y.level x.level && nat_eq y.first x.first) → is_at (block_cmp x) y ≡ false
+another x y h = grind (arith, nat_tests)
+
+pub found_to_block : (x : Block) (a r : ℕ) (q : Piece) (qs rest all ks : List Piece) (old new : Bool) → all ≡ filter (is_from x) ks → rest ≡ q ∷ qs
+    → true ≡ not (nat_eq q.0.level x.level && nat_eq q.0.first x.first) → AreFirst x rest
+    → (new || list_any (reads_at (x ∷ []) a r) rest) ≡ (old || list_any (reads_at (x ∷ []) a r) all)
+    → new ≡ (old || list_any (reads_at (x ∷ []) a r) ks)
+found_to_block x a r q qs rest all ks old new f e n w h =
+    let apart = another x q.0 n in
+    found x a r rest all ks old new f
+    (ap (λ (us : List Piece). list_any (reads_at (x ∷ []) a r) us) e ∙ ap (λ b. ((b || false) && piece_reads a r q) || list_any (reads_at (x ∷ []) a r) qs) apart
+    ∙ (subst (AreFirst x) e w).0 apart a r) h

@@ -119,15 +119,4 @@ impl Block {
             self.half_with(pair.first.row()).first_of(pair)
         }
     }
-
-    /// What comes next of this level in the order of blocks.
-    pub(crate) fn next(&self) -> Block
-        requires { self.now.first + 2 ^ self.now.level ≤ rows }
-        ensures { result ≡ block self.now.level (self.now.first + 1) }
-    {
-        Block {
-            level: self.level,
-            first: self.first + 1,
-        }
-    }
 }

@@ -39,19 +39,21 @@ pub(crate) fn highest_block(pieces: &Pieces, row: u32) -> Block
     block
 }
 
-/// Adds the readers of a cell that stand at a block. If memory runs out, some of them may be added.
+/// Adds the readers of a cell that stand at a block. If memory runs out, some of them may be added. No end of the block is
+/// sought among the pieces: one way down is all.
 fn add_readers(
     pieces: &Pieces,
     at: Address,
     block: &Block,
     readers: &mut BTreeSet<Address>,
 ) -> Result<(), AllocError>
-    requires { block.now.first + 2 ^ block.now.level ≤ rows }
     ensures { OnOk result ((r : ℕ) → contains nat_cmp readers.new r ≡ (contains nat_cmp readers.old r || list_any (reads_at (block.now ∷ []) at r) pieces.now.keys)) }
 {
     let from = (*block, Numbered::lowest());
-    let to = (block.next(), Numbered::lowest());
-    for (_, numbered) in pieces.range(from..to) {
+    for (place, numbered) in pieces.range(from..) {
+        if place != block {
+            break;
+        }
         if numbered.pair.has(at) {
             readers.insert(numbered.pair.reader)?;
         }

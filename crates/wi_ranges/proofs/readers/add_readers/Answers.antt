@@ -1,23 +1,35 @@
-use Rattle.std.proofs.Common.{◌∙◌, ◌+◌, ap, filter}
+use Rattle.std.proofs.Common.{◌∙◌, ap, sym, subst, refl, filter}
 use Rattle.std.specs.Ordering.{nat_cmp}
 use Rattle.std.specs.BTreeSet.{contains}
 use Rattle.std.specs.BTreeMap.Range.{range_contains}
-use Rattle.std.specs.declared.ops.Bound.TheVariants.{Included, Excluded}
-use Rattle.wi_ranges.specs.declared.block.Block.{Block}
+use Rattle.std.specs.declared.ops.Bound.TheVariants.{Included, Unbounded}
 use Rattle.wi_ranges.specs.declared.pair.Numbered.{Numbered}
-use Rattle.wi_ranges.specs.Blocks.{block}
-use Rattle.wi_ranges.specs.Inner.Index.{lowest}
 use Rattle.wi_ranges.specs.Inner.Index.{piece_cmp}
-use Rattle.wi_ranges.proofs.ReaderLemmas.{readers_found}
+use Rattle.wi_ranges.proofs.ReaderLemmas.{AreFirst, come_first, found_all, found_to_block}
 use Rattle.wi_ranges.proofs.readers.add_readers.Goals as goal
 
-pub returns : goal.returns
-returns c =
+pub loop-place-init : goal.loop-place-init
+loop-place-init c =
     let x = c.args.block.now in
     let ks = c.args.pieces.now.keys in
-    let between = c.into_iter-numbered-iterator.ensures.into_iter_gives ∙ c.range-numbered-items.ensures.between tt
-    ∙ ap (λ (p : Numbered). filter (range_contains piece_cmp (Included (x, p)) (Excluded (c.next.result, c.lowest-2.result))) ks) c.lowest.ensures
-    ∙ ap (λ (y : Block). filter (range_contains piece_cmp (Included (x, lowest)) (Excluded (y, c.lowest-2.result))) ks) c.next.ensures
-    ∙ ap (λ (p : Numbered). filter (range_contains piece_cmp (Included (x, lowest)) (Excluded (block x.level (x.first + 1), p))) ks) c.lowest-2.ensures in
-    λ r. readers_found x c.args.at r c.loop-numbered.numbered-iterator c.into_iter-numbered-iterator.result ks (contains nat_cmp c.args.readers.now r) (contains nat_cmp c.loop-numbered.readers r)
-    c.in-None.ensures.steps.0 between (c.loop-numbered.invariant r)
+    let between = c.into_iter-place-iterator.ensures.into_iter_gives ∙ c.range-place-items.ensures.between tt
+    ∙ ap (λ (p : Numbered). filter (range_contains piece_cmp (Included (x, p)) Unbounded) ks) c.lowest.ensures in
+    (subst (AreFirst x) (sym between) (come_first x ks c.range-place-items.ensures.ordered), λ r. refl)
+
+pub returns-in-None : goal.returns-in-None
+returns-in-None c =
+    let x = c.args.block.now in
+    let ks = c.args.pieces.now.keys in
+    let between = c.into_iter-place-iterator.ensures.into_iter_gives ∙ c.range-place-items.ensures.between tt
+    ∙ ap (λ (p : Numbered). filter (range_contains piece_cmp (Included (x, p)) Unbounded) ks) c.lowest.ensures in
+    λ r. found_all x c.args.at r c.loop-place.place-iterator c.into_iter-place-iterator.result ks (contains nat_cmp c.args.readers.now r) (contains nat_cmp c.loop-place.readers r)
+    between c.in-None.ensures.steps.0 (c.loop-place.invariant.1 r)
+
+pub returns-then-ne : goal.returns-then-ne
+returns-then-ne c =
+    let x = c.args.block.now in
+    let ks = c.args.pieces.now.keys in
+    let between = c.into_iter-place-iterator.ensures.into_iter_gives ∙ c.range-place-items.ensures.between tt
+    ∙ ap (λ (p : Numbered). filter (range_contains piece_cmp (Included (x, p)) Unbounded) ks) c.lowest.ensures in
+    λ r. found_to_block x c.args.at r c.in-Some.field-0.now c.next.new.self c.loop-place.place-iterator c.into_iter-place-iterator.result ks (contains nat_cmp c.args.readers.now r) (contains nat_cmp c.loop-place.readers r)
+    between c.in-Some.ensures.steps c.if-ne.ensures c.loop-place.invariant.0 (c.loop-place.invariant.1 r)

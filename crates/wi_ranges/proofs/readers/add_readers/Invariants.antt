@@ -1,12 +1,13 @@
-use Rattle.std.proofs.Common.{◌≡◌, ◌||◌, ℕ}
+use Rattle.std.proofs.Common.{◌≡◌, ◌||◌, ◌∷◌, [], ℕ}
 use Rattle.std.specs.Ordering.{nat_cmp}
 use Rattle.std.specs.List.{list_any}
 use Rattle.std.specs.BTreeSet.{contains}
-use Rattle.wi_ranges.specs.Inner.Index.{piece_reads}
+use Rattle.wi_ranges.specs.Inner.Index.{reads_at}
+use Rattle.wi_ranges.proofs.ReaderLemmas.{AreFirst}
 use Rattle.wi_ranges.proofs.readers.add_readers.Given as goal
 
 -- the readers found, and those that are left to find
-abbrev pub invariant-loop-numbered : goal.invariant-loop-numbered
-invariant-loop-numbered l = (r : ℕ) →
-    (contains nat_cmp l.readers r || list_any (piece_reads l.at r) l.numbered-iterator)
-    ≡ (contains nat_cmp l.initial.readers r || list_any (piece_reads l.at r) l.initial.numbered-iterator)
+abbrev pub invariant-loop-place : goal.invariant-loop-place
+invariant-loop-place l = AreFirst l.block l.place-iterator × ((r : ℕ) →
+    (contains nat_cmp l.readers r || list_any (reads_at (l.block ∷ []) l.at r) l.place-iterator)
+    ≡ (contains nat_cmp l.initial.readers r || list_any (reads_at (l.block ∷ []) l.at r) l.initial.place-iterator))
