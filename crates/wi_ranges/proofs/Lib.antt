@@ -2,6 +2,7 @@ pub mod BlockLemmas
 pub mod Exact
 pub mod PieceLemmas
 pub mod ReaderLemmas
+pub mod RisingLemmas
 pub mod BagLemmas
 pub mod Found
 pub mod CutLemmas

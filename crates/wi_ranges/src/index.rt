@@ -8,7 +8,8 @@ ghost use Rattle.wi_ranges.specs.Bag.{pair_for, pieces_of, HasOneMore, HasOneLes
 use crate::bag::{add_pair, remove_pair};
 use crate::pair::RangePair;
 use crate::pieces::Pieces;
-use crate::readers::{add_all_readers, highest_block, listed};
+use crate::readers::{add_all_readers, highest_block};
+use crate::rising_set::RisingSet;
 use std::alloc::{AllocError, Global};
 use std::collections::BTreeSet;
 use std::marker::Model;
@@ -74,10 +75,10 @@ impl RangeIndex {
         if self.pieces.is_empty() {
             return Ok(Vec::new(self.alloc));
         }
-        let mut readers = BTreeSet::new(self.alloc);
+        let mut readers = RisingSet::new(self.alloc);
         let block = highest_block(&self.pieces, row);
         add_all_readers(&self.pieces, at, row, &block, &mut readers)?;
-        listed(self.alloc, &readers)
+        readers.into_list()
     }
 
     /// How many blocks all pairs have together.

@@ -8,5 +8,7 @@ pub mod laws;
 mod pair;
 mod pieces;
 mod readers;
+mod rising_set;
 
 pub use index::RangeIndex;
+pub use rising_set::RisingSet;

@@ -1,9 +1,9 @@
 //! The dependents of a cell: the cells that read it.
 
-ghost use Rattle.std.specs.Prelude.{◌≡◌, ◌+◌, ◌^◌, ◌≤◌, ◌||◌, ◌∷◌, ℕ, [], OnOk, IfOk};
+ghost use Rattle.std.specs.Prelude.{◌≡◌, ◌+◌, ◌^◌, ◌≤◌, ◌||◌, ◌∷◌, ℕ, [], OnOk};
 ghost use Rattle.std.specs.Ordering.{nat_cmp};
 ghost use Rattle.std.specs.List.{list_any};
-ghost use Rattle.std.specs.BTreeSet.{contains, IsOrdered};
+ghost use Rattle.std.specs.BTreeSet.{contains};
 ghost use Rattle.wi_values.specs.Address.{rows};
 ghost use Rattle.wi_ranges.specs.Blocks.{blocks_with};
 ghost use Rattle.wi_ranges.specs.Inner.Index.{reads_at, AreUpTo};
@@ -11,8 +11,8 @@ ghost use Rattle.wi_ranges.specs.Inner.Index.{reads_at, AreUpTo};
 use crate::block::Block;
 use crate::pair::Numbered;
 use crate::pieces::Pieces;
-use std::alloc::{AllocError, Global};
-use std::collections::BTreeSet;
+use crate::rising_set::RisingSet;
+use std::alloc::AllocError;
 use wi_values::Address;
 
 /// The greatest level of a block at which a piece stands, or 0 where there is none.
@@ -45,7 +45,7 @@ fn add_readers(
     pieces: &Pieces,
     at: Address,
     block: &Block,
-    readers: &mut BTreeSet<Address>,
+    readers: &mut RisingSet,
 ) -> Result<(), AllocError>
     ensures { OnOk result ((r : ℕ) → contains nat_cmp readers.new r ≡ (contains nat_cmp readers.old r || list_any (reads_at (block.now ∷ []) at r) pieces.now.keys)) }
 {
@@ -68,7 +68,7 @@ pub(crate) fn add_all_readers(
     at: Address,
     row: u32,
     block: &Block,
-    readers: &mut BTreeSet<Address>,
+    readers: &mut RisingSet,
 ) -> Result<(), AllocError>
     requires { block.now.first + 2 ^ block.now.level ≤ rows }
     ensures { OnOk result ((r : ℕ) → contains nat_cmp readers.new r
@@ -79,12 +79,4 @@ pub(crate) fn add_all_readers(
         add_all_readers(pieces, at, row, &block.half_with(row), readers)?;
     }
     Ok(())
-}
-
-/// The cells of a set as a list.
-pub(crate) fn listed(alloc: Global, readers: &BTreeSet<Address>) -> Result<Vec<Address>, AllocError>
-    ensures items { IfOk result (λ list. list.items ≡ readers.now.keys) }
-    ensures order { IsOrdered nat_cmp readers.now }
-{
-    readers.iter().copied().collect(alloc)
 }

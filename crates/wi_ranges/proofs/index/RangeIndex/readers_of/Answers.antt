@@ -1,14 +1,9 @@
 use Rattle.std.proofs.Common.{◌≡◌, ◌∙◌, ◌||◌, ◌↔◌, ℕ, List, [], ◌∷◌, length, refl, sym, ap, subst, arith, true, false}
 use Rattle.std.specs.Ordering.{nat_cmp}
-use Rattle.std.specs.Cmp.{nat_cmp_total}
 use Rattle.std.specs.List.{Contains, list_any}
-use Rattle.std.specs.List.Sorted.{IsStrictlyIncreasing}
 use Rattle.std.specs.BTreeSet.{contains}
 use Rattle.std.proofs.lemmas.Bool.{true≢false}
 use Rattle.std.proofs.lemmas.Result.{IfOk-weaker}
-use Rattle.std.proofs.lemmas.Map.Keys.{IsStrictlyIncreasing-from_sorted}
-use Rattle.std.proofs.lemmas.Map.Lookups.{exact_unsigned}
-use Rattle.std.proofs.lemmas.Map.Views.{btree_set_contains_iff}
 use Rattle.std.specs.BTreeMap.{is_at}
 use Rattle.wi_ranges.specs.Blocks.{blocks_with}
 use Rattle.wi_ranges.specs.Bag.{Bag, IsReader}
@@ -34,11 +29,6 @@ returns-then-is_empty-clause-readers c =
           (found_reader (bag_of ks) ks row a r c.row-row.ensures.value c.row-row.ensures.within c.self.invariant.0 (subst (λ (b : Bag). IsReader b a r) (sym c.self.view_is) h))))),
     )
 
-pub returns-clause-order : goal.returns-clause-order
-returns-clause-order c =
-    IfOk-weaker c.listed.result (λ list. list.items ≡ c.add_all_readers.new.readers.keys) (λ list. IsStrictlyIncreasing list.items)
-    (λ list e. subst IsStrictlyIncreasing (sym e) (IsStrictlyIncreasing-from_sorted c.add_all_readers.new.readers.keys c.listed.ensures.order)) c.listed.ensures.items
-
 pub returns-clause-readers : goal.returns-clause-readers
 returns-clause-readers c =
     let set = c.add_all_readers.new.readers in
@@ -48,18 +38,17 @@ returns-clause-readers c =
     let a = c.args.at in
     let xs = blocks_with row 20 0 in
     let block = c.highest_block-block.result in
-    let none : (r : ℕ) → contains nat_cmp c.new-readers.result r ≡ false = λ r. ap (λ (us : List ℕ). list_any (λ k. is_at (nat_cmp r) k) us) c.new-readers.ensures.empty in
+    let none : (r : ℕ) → contains nat_cmp c.new-readers.result r ≡ false = λ r. ap (λ (us : List ℕ). list_any (λ k. is_at (nat_cmp r) k) us) c.new-readers.ensures in
     let found : (r : ℕ) → contains nat_cmp set r ≡ list_any (reads_at xs a r) ks = λ r.
     c.in_ok-add_all_readers.ensures r ∙ ap (λ b. b || list_any (reads_at (blocks_with row block.level block.first) a r) ks) (none r)
     ∙ c.highest_block-block.ensures.all a r in
-    let reader : (r : ℕ) → Contains set.keys r → IsReader c.args.self.now a r = λ r h.
+    let reader : (r : ℕ) → contains nat_cmp set r ≡ true → IsReader c.args.self.now a r = λ r h.
     subst (λ (b : Bag). IsReader b a r) c.self.view_is
-    (reader_found bag ks xs a r c.self.invariant.0 (sym (found r) ∙ (btree_set_contains_iff nat_cmp_total exact_unsigned set r).1 h)) in
-    let read : (r : ℕ) → IsReader c.args.self.now a r → Contains set.keys r = λ r h.
-    (btree_set_contains_iff nat_cmp_total exact_unsigned set r).0
-    (found r ∙ found_reader bag ks row a r c.row-row.ensures.value c.row-row.ensures.within c.self.invariant.0 (subst (λ (b : Bag). IsReader b a r) (sym c.self.view_is) h)) in
-    IfOk-weaker c.listed.result (λ list. list.items ≡ set.keys) (λ list. (r : ℕ) → Contains list.items r ↔ IsReader c.args.self.now a r)
-    (λ list e r. (
-      λ h. reader r (subst (λ (us : List ℕ). Contains us r) e h),
-      λ h. subst (λ (us : List ℕ). Contains us r) (sym e) (read r h),
-    )) c.listed.ensures.items
+    (reader_found bag ks xs a r c.self.invariant.0 (sym (found r) ∙ h)) in
+    let read : (r : ℕ) → IsReader c.args.self.now a r → contains nat_cmp set r ≡ true = λ r h.
+    found r ∙ found_reader bag ks row a r c.row-row.ensures.value c.row-row.ensures.within c.self.invariant.0 (subst (λ (b : Bag). IsReader b a r) (sym c.self.view_is) h) in
+    IfOk-weaker c.into_list.result (λ list. (r : ℕ) → Contains list.items r ↔ (contains nat_cmp set r ≡ true)) (λ list. (r : ℕ) → Contains list.items r ↔ IsReader c.args.self.now a r)
+    (λ list h r. (
+      λ m. reader r ((h r).0 m),
+      λ m. (h r).1 (read r m),
+    )) c.into_list.ensures.cells

@@ -1,0 +1,153 @@
+-- Laws of cells in row-major order in a list, and others beside it.
+use Rattle.std.proofs.Common.{◌≡◌, ◌==◌, ◌<◌, ◌≤◌, ◌-◌, ◌||◌, ◌++◌, ◌↔◌, ℕ, zero, suc, nat_lt, eqb, Bool, true, false, not, cond, List, [], ◌∷◌, Some, Result, Ok, Err, MatchResult, ⊎_elim, length, get_or, slice_get, refl, sym, ap, ◌∙◌, subst, arith}
+use Rattle.std.specs.Ordering.{nat_cmp}
+use Rattle.std.specs.declared.cmp.Ordering.TheVariants.{Less}
+use Rattle.std.specs.Cmp.{nat_cmp_total}
+use Rattle.std.specs.Result.{is_ok}
+use Rattle.std.specs.List.{AllByRecursion, Contains, dedup}
+use Rattle.std.specs.List.Sorted.{IsStrictlyIncreasing, IsStrictlySortedBy, IsBinarySearchResult, IsPermutation}
+use Rattle.std.specs.BTreeMap.{is_at}
+use Rattle.std.specs.BTreeSet.{BTreeSet, contains}
+use Rattle.std.proofs.lemmas.List.{append-nil}
+use Rattle.std.proofs.lemmas.List.Kept.{Contains-dedup_nat, Contains-from_dedup}
+use Rattle.std.proofs.lemmas.Map.Lookups.{exact_unsigned}
+use Rattle.std.proofs.lemmas.Map.Views.{btree_set_contains_iff}
+use Rattle.std.proofs.lemmas.Bool.{true≢false, or_right, cases_lt, ltb-true, false_from_ne_true}
+use Rattle.std.proofs.lemmas.Bool.Decides.{nat_tests}
+use Rattle.std.proofs.lemmas.List.Folds.{list_any-append}
+use Rattle.std.proofs.lemmas.List.Sorted.{searched, Contains-permutation, IsPermutation-sym}
+use Rattle.std.proofs.lemmas.Map.Keys.{sorted_head, sorted_tail, sorted_from_strictly_increasing, IsStrictlyIncreasing-from_sorted, non_decreasing_from_sorted}
+use Rattle.wi_values.proofs.Order.{cmp_before, below_from_Less, less_from_both, at_earlier, at_same, is_at-eq, turn_test}
+use Rattle.wi_ranges.specs.Inner.Rising.{has_cell, ends_before, StandApart}
+
+-- ---- the last of a list
+
+at_end : (y : ℕ) (ys : List ℕ) (x c : ℕ) → slice_get (y ∷ ys) (length ys) ≡ Some x → nat_lt x c ≡ ends_before (y ∷ ys) c
+at_end y [] x c h = let same : y ≡ x = (let z = h in cc) in ap (λ (a : ℕ). nat_lt a c) (sym same)
+at_end y (z ∷ zs) x c h = at_end z zs x c h
+
+pub last_tells : (xs : List ℕ) (x c : ℕ) → Some x ≡ slice_get xs (length xs - 1) → nat_lt x c ≡ ends_before xs c
+last_tells [] x c h = cc
+last_tells (y ∷ ys) x c h =
+    let count : length (y ∷ ys) - 1 ≡ length ys = omega arith in
+    at_end y ys x c (sym (h ∙ ap (slice_get (y ∷ ys)) count))
+
+-- ---- a search in a list
+
+itself : (c : ℕ) → is_at (nat_cmp c) c ≡ true
+itself c = grind (arith, nat_tests)
+
+other : (c x : ℕ) → (x ≡ c → ⊥) → is_at (nat_cmp c) x ≡ false
+other c x h = grind (arith, nat_tests, h)
+
+has_from_place : (xs : List ℕ) (i c : ℕ) → i < length xs → get_or xs i 0 ≡ c → has_cell xs c ≡ true
+has_from_place [] i c l e = absurd (omega (arith, l))
+has_from_place (x ∷ xs) zero c l e = ap (λ b. b || has_cell xs c) (ap (λ (y : ℕ). is_at (nat_cmp c) y) e ∙ itself c)
+has_from_place (x ∷ xs) (suc i) c l e = or_right _ _ (has_from_place xs i c (omega (arith, l)) e)
+
+has_nowhere : (xs : List ℕ) (c : ℕ) → ((k : ℕ) → k < length xs → get_or xs k 0 ≡ c → ⊥) → has_cell xs c ≡ false
+has_nowhere [] c h = refl
+has_nowhere (x ∷ xs) c h =
+    ap (λ b. b || has_cell xs c) (other c x (h 0 (omega arith))) ∙ has_nowhere xs c (λ k l e. h (suc k) (omega (arith, l)) e)
+
+pub search_tells : (xs : List ℕ) (c : ℕ) (r : Result ℕ ℕ) → IsStrictlyIncreasing xs → IsBinarySearchResult (λ y. nat_cmp y c) xs r → is_ok r ≡ has_cell xs c
+search_tells xs c r order h = by r (searched xs c r h (λ i j l m. non_decreasing_from_sorted xs (sorted_from_strictly_increasing xs order) i j 0 l m))
+  where
+    by : (s : Result ℕ ℕ) → MatchResult s (λ i. (i < length xs) × (get_or xs i 0 ≡ c))
+        (λ i. (i ≤ length xs) × ((k : ℕ) → k < i → get_or xs k 0 < c) × ((k : ℕ) → i ≤ k → k < length xs → c < get_or xs k 0)) → is_ok s ≡ has_cell xs c
+    by (Ok i) f = sym (has_from_place xs i c f.0 f.1)
+    by (Err i) f = sym (has_nowhere xs c (λ k l e. ⊎_elim (λ m. omega (arith, f.1 k m, e)) (λ m. omega (arith, f.2 k m l, e)) (cases_lt k i)))
+
+-- ---- a cell behind a list
+
+all_before : (xs : List ℕ) (x : ℕ) → IsStrictlySortedBy nat_cmp xs → ends_before xs x ≡ true → AllByRecursion (λ y. nat_cmp y x ≡ Less) xs
+all_before [] x h e = tt
+all_before (y ∷ []) x h e = (cmp_before y x (ltb-true y x e), tt)
+all_before (y ∷ z ∷ zs) x h e =
+    let rest = all_before (z ∷ zs) x (sorted_tail nat_cmp y (z ∷ zs) h) e in
+    (less_from_both y z x (sorted_head nat_cmp y (z ∷ zs) h).0 rest.0, rest)
+
+one_more : (y x : ℕ) (xs : List ℕ) → nat_cmp y x ≡ Less → AllByRecursion (λ z. nat_cmp y z ≡ Less) xs → AllByRecursion (λ z. nat_cmp y z ≡ Less) (xs ++ x ∷ [])
+one_more y x [] l h = (l, tt)
+one_more y x (z ∷ zs) l h = (h.0, one_more y x zs l h.1)
+
+sorted_more : (xs : List ℕ) (x : ℕ) → IsStrictlySortedBy nat_cmp xs → AllByRecursion (λ y. nat_cmp y x ≡ Less) xs → IsStrictlySortedBy nat_cmp (xs ++ x ∷ [])
+unfolding IsStrictlySortedBy
+sorted_more [] x h l = (tt, tt)
+sorted_more (y ∷ ys) x h l = (one_more y x ys l.0 h.0, sorted_more ys x h.1 l.1)
+
+rise_more : (xs : List ℕ) (x : ℕ) → IsStrictlyIncreasing xs → ends_before xs x ≡ true → IsStrictlyIncreasing (xs ++ x ∷ [])
+rise_more xs x order e =
+    let sorted = sorted_from_strictly_increasing xs order in
+    IsStrictlyIncreasing-from_sorted (xs ++ x ∷ []) (sorted_more xs x sorted (all_before xs x sorted e))
+
+ends_with_it : (xs : List ℕ) (x c : ℕ) → ends_before (xs ++ x ∷ []) c ≡ nat_lt x c
+ends_with_it [] x c = refl
+ends_with_it (y ∷ []) x c = refl
+ends_with_it (y ∷ z ∷ zs) x c = ends_with_it (z ∷ zs) x c
+
+not_after : (xs : List ℕ) (x c : ℕ) → ends_before xs x ≡ true → ends_before xs c ≡ false → nat_lt x c ≡ false
+not_after [] x c e f = absurd (true≢false f)
+not_after (y ∷ []) x c e f = grind (arith, nat_tests)
+not_after (y ∷ z ∷ zs) x c e f = not_after (z ∷ zs) x c e f
+
+pub apart_more : (xs more os : List ℕ) (x : ℕ) → StandApart xs os → true ≡ ends_before xs x → more ≡ xs ++ x ∷ [] → StandApart more os
+apart_more xs more os x s e m =
+    subst (λ (ys : List ℕ). StandApart ys os) (sym m)
+    (rise_more xs x s.0 (sym e), λ c h. ends_with_it xs x c ∙ not_after xs x c (sym e) (s.1 c h))
+
+none_before : (xs : List ℕ) (x : ℕ) → AllByRecursion (λ y. nat_cmp y x ≡ Less) xs → has_cell xs x ≡ false
+none_before [] x h = refl
+none_before (y ∷ ys) x h = ap (λ b. b || has_cell ys x) (at_earlier x y (below_from_Less y x h.0)) ∙ none_before ys x h.1
+
+pub new_behind : (xs os : List ℕ) (set : BTreeSet ℕ) (x : ℕ) → StandApart xs os → true ≡ ends_before xs x → set.keys ≡ xs ++ os → true ≡ not (contains nat_cmp set x)
+new_behind xs os set x s e is =
+    sym (ap not (ap (λ (ks : List ℕ). has_cell ks x) is ∙ list_any-append (λ y. is_at (nat_cmp x) y) xs os
+    ∙ ap (λ b. b || has_cell os x) (none_before xs x (all_before xs x (sorted_from_strictly_increasing xs s.0) (sym e)))
+    ∙ false_from_ne_true (has_cell os x) (λ h. true≢false (e ∙ s.1 x h))))
+
+-- ---- a cell among the others
+
+pub apart_still : (xs os new : List ℕ) (x : ℕ) → StandApart xs os → false ≡ ends_before xs x
+    → ((c : ℕ) → has_cell new c ≡ cond (is_at (nat_cmp x) c) true (has_cell os c)) → StandApart xs new
+apart_still xs os new x s e g = (s.0, λ c h. by c (is_at (nat_cmp x) c) refl (sym (g c) ∙ h))
+  where
+    by : (c : ℕ) (b : Bool) → is_at (nat_cmp x) c ≡ b → cond b true (has_cell os c) ≡ true → ends_before xs c ≡ false
+    by c true f h = ap (λ (y : ℕ). ends_before xs y) (at_same x c f) ∙ sym e
+    by c false f h = s.1 c h
+
+pub has_more : (xs os new : List ℕ) (old : BTreeSet ℕ) (x : ℕ) → old.keys ≡ xs ++ os
+    → ((c : ℕ) → has_cell new c ≡ cond (is_at (nat_cmp x) c) true (has_cell os c))
+    → (c : ℕ) → has_cell (xs ++ new) c ≡ (contains nat_cmp old c || c == x)
+has_more xs os new old x is g c =
+    list_any-append (λ y. is_at (nat_cmp c) y) xs new
+    ∙ ap (λ b. has_cell xs c || b) (g c ∙ ap (λ b. cond b true (has_cell os c)) (is_at-eq x c ∙ turn_test x c))
+    ∙ by (has_cell xs c) (c == x) (has_cell os c)
+    ∙ ap (λ b. b || c == x) (sym (ap (λ (ks : List ℕ). has_cell ks c) is ∙ list_any-append (λ y. is_at (nat_cmp c) y) xs os))
+  where
+    by : (a b d : Bool) → (a || cond b true d) ≡ ((a || d) || b)
+    by true b d = refl
+    by false true true = refl
+    by false true false = refl
+    by false false true = refl
+    by false false false = refl
+
+-- ---- all cells in one list
+
+pub sorted_once : (cells more sorted list : List ℕ) → more ≡ cells → IsPermutation more sorted → list ≡ dedup eqb sorted → (c : ℕ) → Contains list c ↔ Contains cells c
+sorted_once cells more sorted list e p d c = (
+  λ h. subst (λ (xs : List ℕ). Contains xs c) e (Contains-permutation sorted more c (IsPermutation-sym more sorted p) (Contains-from_dedup eqb sorted c (subst (λ (xs : List ℕ). Contains xs c) d h))),
+  λ h. subst (λ (xs : List ℕ). Contains xs c) (sym d) (Contains-dedup_nat sorted c (Contains-permutation more sorted c p (subst (λ (xs : List ℕ). Contains xs c) (sym e) h))),
+)
+
+pub cells_of : (set : BTreeSet ℕ) (cells : List ℕ) → set.keys ≡ cells → (c : ℕ) → Contains cells c ↔ (contains nat_cmp set c ≡ true)
+cells_of set cells e c =
+    let tells = btree_set_contains_iff nat_cmp_total exact_unsigned set c in
+    (λ h. tells.1 (subst (λ (xs : List ℕ). Contains xs c) (sym e) h), λ h. subst (λ (xs : List ℕ). Contains xs c) e (tells.0 h))
+
+pub cells_alone : (set : BTreeSet ℕ) (cells os : List ℕ) → set.keys ≡ cells ++ os → length os ≡ 0 → (c : ℕ) → Contains cells c ↔ (contains nat_cmp set c ≡ true)
+cells_alone set cells [] e l = cells_of set cells (e ∙ append-nil cells)
+cells_alone set cells (o ∷ os) e l = absurd (omega (arith, l))
+
+pub cells_through : (set : BTreeSet ℕ) (cells list : List ℕ) → set.keys ≡ cells → ((c : ℕ) → Contains list c ↔ Contains cells c) → (c : ℕ) → Contains list c ↔ (contains nat_cmp set c ≡ true)
+cells_through set cells list e h c = let tells = cells_of set cells e c in (λ m. tells.0 ((h c).0 m), λ m. (h c).1 (tells.1 m))
