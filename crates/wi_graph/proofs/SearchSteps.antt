@@ -1,23 +1,23 @@
 -- Steps of a search over readers.
-use Rattle.std.proofs.Common.{◌≡◌, ◌==◌, ◌||◌, ◌⊎◌, inl, inr, not, ℕ, zero, suc, ◌+◌, ◌<◌, ◌↔◌, Bool, true, false, cond, List, [], ◌∷◌, ◌++◌, map, length, take, get_or, Some, refl, ap, sym, ◌∙◌, subst, arith}
+use Rattle.std.proofs.Common.{◌≡◌, ◌==◌, ◌||◌, ◌⊎◌, inl, inr, not, ℕ, zero, suc, ◌+◌, ◌<◌, ◌↔◌, Bool, true, false, cond, List, [], ◌∷◌, ◌++◌, map, length, take, get_or, Some, Result, Ok, Err, IfOk, refl, ap, sym, ◌∙◌, subst, arith}
 use Rattle.std.proofs.Math.Bool.{or-false}
 use Rattle.std.proofs.lemmas.Bool.{or_cases, or_left, or_right, cases_Bool, not-true, not_from_false}
 use Rattle.std.proofs.lemmas.List.{length-append}
+use Rattle.std.specs.Global.{Vec}
 use Rattle.std.specs.List.{list_any, Contains}
 use Rattle.std.specs.Map.{lookup}
 use Rattle.std.specs.Option.{unwrap_or}
 use Rattle.std.specs.Ordering.{nat_cmp}
 use Rattle.std.specs.BTreeMap.{is_at}
-use Rattle.std.specs.BTreeSet.{BTreeSet, contains, IsOrdered}
+use Rattle.std.specs.BTreeSet.{BTreeSet, contains}
 use Rattle.std.specs.List.Sorted.{IsStrictlyIncreasing}
-use Rattle.std.proofs.lemmas.Map.Keys.{IsStrictlyIncreasing-from_sorted}
 use Rattle.wi_parser.specs.Sheet.{Sheet, content_of}
 use Rattle.wi_parser.specs.Reads.{content_reads}
 use Rattle.wi_ranges.specs.declared.pair.RangePair.{RangePair}
 use Rattle.wi_ranges.specs.Bag.{Bag, IsReader, is_same, count_of}
 use Rattle.wi_ranges.proofs.Exact.{same_is}
 use Rattle.wi_graph.specs.Reach.{is_one_of, in_cone}
-use Rattle.wi_graph.specs.Inner.Search.{HasAll, HasReaders, GoesToReaders, IsLeast, IsConeOf, missing, AreNoted}
+use Rattle.wi_graph.specs.Inner.Search.{HasAll, HasReaders, GoesToReaders, IsLeast, IsConeOf, as_set, missing, AreNoted}
 use Rattle.wi_graph.proofs.Tests.{is_itself, clash, turned}
 use Rattle.std.proofs.lemmas.List.Elements.{filter_agree}
 use Rattle.wi_graph.proofs.Walks.{same_cell, same_tests, shrinks, Same}
@@ -249,8 +249,22 @@ own_cone readers cells list o n e = subst (IsConeOf readers cells) (sym e) (reco
 })
 
 -- a set that was found
-pub found_list : (readers : Bag) (cells list : List ℕ) (found : BTreeSet ℕ) → IsOrdered nat_cmp found → HasAll cells found → HasReaders readers found → IsLeast readers cells found → list ≡ found.keys → IsConeOf readers cells list
-found_list readers cells list found o a k l e = subst (IsConeOf readers cells) (sym e) (record { order = IsStrictlyIncreasing-from_sorted found.keys o; all = a; closed = k; least = l })
+pub found_list : (readers : Bag) (cells list : List ℕ) (found : BTreeSet ℕ) → IsStrictlyIncreasing list → ((c : ℕ) → Contains list c ↔ (contains nat_cmp found c ≡ true)) → HasAll cells found → HasReaders readers found →
+    IsLeast readers cells found → IsConeOf readers cells list
+found_list readers cells list found o e a k l = record {
+  order = o;
+  all = λ c h. same c ∙ a c h;
+  closed = λ d r h i. same r ∙ k d r (sym (same d) ∙ h) i;
+  least = λ p h g c m. l p h g c (sym (same c) ∙ m);
+}
+  where
+    same : (c : ℕ) → contains nat_cmp (as_set list) c ≡ contains nat_cmp found c
+    same c = turned list c ∙ same_tests (is_one_of list c) (contains nat_cmp found c) (λ h. (e c).0 (one_listed list c h)) (λ h. listed_one list c ((e c).1 h))
+
+pub found_listed : {E : Type 0} (readers : Bag) (cells : List ℕ) (found : BTreeSet ℕ) (r : Result (Vec ℕ) E) → HasAll cells found → HasReaders readers found → IsLeast readers cells found →
+    IfOk r (λ list. IsStrictlyIncreasing list.items) → IfOk r (λ list. (c : ℕ) → Contains list.items c ↔ (contains nat_cmp found c ≡ true)) → IfOk r (λ list. IsConeOf readers cells list.items)
+found_listed readers cells found (Ok list) a k l o e = found_list readers cells list.items found o e a k l
+found_listed readers cells found (Err error) a k l o e = tt
 
 -- nothing reads one more
 pub none_more : (readers : Bag) (cells : List ℕ) (i x : ℕ) (rs : List ℕ) → i < length cells → x ≡ get_or cells i x → ((r : ℕ) → Contains rs r ↔ IsReader readers x r) → length rs ≡ 0 → ((a r : ℕ) → is_one_of (take i cells) a ≡ true → IsReader readers a r → ⊥) →

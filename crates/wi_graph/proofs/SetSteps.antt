@@ -10,7 +10,7 @@ use Rattle.std.specs.BTreeMap.{is_at}
 use Rattle.std.specs.BTreeSet.{BTreeSet, contains, difference, IsUnchanged}
 use Rattle.wi_graph.specs.Reach.{is_one_of}
 use Rattle.wi_graph.specs.Inner.Rooms.{less_these}
-use Rattle.wi_graph.proofs.Tests.{is_at-eq, is_itself, at_same, at_itself, clash, turned}
+use Rattle.wi_graph.proofs.Tests.{is_at-eq, is_itself, turn_test, at_same, at_itself, clash, turned}
 use Rattle.wi_graph.proofs.Walks.{same_cell}
 
 -- ---- lists
@@ -43,6 +43,15 @@ in_difference set others c =
 -- the set has one cell more
 abbrev pub Gains : BTreeSet ℕ → BTreeSet ℕ → ℕ → Type 0
 Gains old new x = (q : ℕ) → contains nat_cmp new q ≡ cond (is_at (nat_cmp x) q) true (contains nat_cmp old q)
+
+pub gained : (old new : BTreeSet ℕ) (x : ℕ) → ((q : ℕ) → contains nat_cmp new q ≡ (contains nat_cmp old q || q == x)) → Gains old new x
+gained old new x h q = h q ∙ by (contains nat_cmp old q) (q == x) ∙ ap (λ (b : Bool). cond b true (contains nat_cmp old q)) (sym (is_at-eq x q ∙ turn_test x q))
+  where
+    by : (b d : Bool) → (b || d) ≡ cond d true b
+    by true true = refl
+    by true false = refl
+    by false true = refl
+    by false false = refl
 
 pub gains : (old new : BTreeSet ℕ) (x : ℕ) → Gains old new x → (q : ℕ) → contains nat_cmp new q ≡ cond (x == q) true (contains nat_cmp old q)
 gains old new x g q = g q ∙ ap (λ (b : Bool). cond b true (contains nat_cmp old q)) (is_at-eq x q)

@@ -8,10 +8,8 @@ ghost use Rattle.wi_graph.specs.Reach.{is_one_of};
 ghost use Rattle.wi_graph.specs.Inner.Search.{HasAll, HasReaders, IsConeOf, IsLeast, AreNoted};
 
 use crate::changes::{Change, changed_cells};
-use crate::sets::listed;
 use std::alloc::{AllocError, Global};
-use std::collections::BTreeSet;
-use wi_ranges::RangeIndex;
+use wi_ranges::{RangeIndex, RisingSet};
 use wi_values::Address;
 
 /// The cells that read one of the cells of an edit, at any remove, with themselves: each once, in row-major order.
@@ -39,7 +37,7 @@ pub(crate) fn listed_cone(
         return Vec::from_slice(alloc, cells);
     }
     let found = cone_of(alloc, readers, cells)?;
-    listed(alloc, &found)
+    found.into_list()
 }
 
 /// Whether cells stand in row-major order, each once.
@@ -67,16 +65,12 @@ fn none_is_read(readers: &RangeIndex, cells: &[Address]) -> Result<bool, AllocEr
 }
 
 /// The cells that read one of these, at any remove, with themselves.
-fn cone_of(
-    alloc: Global,
-    readers: &RangeIndex,
-    cells: &[Address],
-) -> Result<BTreeSet<Address>, AllocError>
+fn cone_of(alloc: Global, readers: &RangeIndex, cells: &[Address]) -> Result<RisingSet, AllocError>
     ensures all { IfOk result (HasAll cells.now) }
     ensures closed { IfOk result (HasReaders readers.now) }
     ensures least { IfOk result (IsLeast readers.now cells.now) }
 {
-    let mut found = BTreeSet::new(alloc);
+    let mut found = RisingSet::new(alloc);
     let mut work = Vec::new(alloc);
     note(cells, &mut found, &mut work)?;
     'cells: while let Some(cell) = work.pop() {
@@ -87,11 +81,7 @@ fn cone_of(
 }
 
 /// Puts cells into a set, and those that are new there at the end of a list.
-fn note(
-    cells: &[Address],
-    found: &mut BTreeSet<Address>,
-    work: &mut Vec<Address>,
-) -> Result<(), AllocError>
+fn note(cells: &[Address], found: &mut RisingSet, work: &mut Vec<Address>) -> Result<(), AllocError>
     ensures { OnOk result (AreNoted cells.now found.old found.new work.old.items work.new.items) }
 {
     for cell in cells {

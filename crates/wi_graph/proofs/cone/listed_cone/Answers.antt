@@ -2,7 +2,7 @@ use Rattle.std.proofs.Common.{◌≡◌, ℕ, rules}
 use Rattle.std.specs.Global.{Vec}
 use Rattle.std.proofs.lemmas.Result.{IfOk-weaker}
 use Rattle.wi_graph.specs.Inner.Search.{IsConeOf}
-use Rattle.wi_graph.proofs.SearchSteps.{own_cone, found_list}
+use Rattle.wi_graph.proofs.SearchSteps.{own_cone, found_listed}
 use Rattle.wi_graph.proofs.cone.listed_cone.Goals as goal
 
 pub returns-then-branch : goal.returns-then-branch
@@ -13,7 +13,5 @@ returns-then-branch c =
 
 pub returns : goal.returns
 returns c =
-    let found = c.in_ok-found.found in
-    let cells = c.args.cells.now in
-    IfOk-weaker c.listed.result (λ (list : Vec ℕ). list.items ≡ found.keys) (λ list. IsConeOf c.args.readers.now cells list.items)
-    (λ list. found_list c.args.readers.now cells list.items found c.listed.ensures.order c.in_ok-found.ensures.all c.in_ok-found.ensures.closed c.in_ok-found.ensures.least) c.listed.ensures.items
+    let found = c.in_ok-found.ensures in
+    found_listed c.args.readers.now c.args.cells.now c.in_ok-found.found c.into_list.result found.all found.closed found.least c.into_list.ensures.order c.into_list.ensures.cells
