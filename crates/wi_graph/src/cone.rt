@@ -41,7 +41,7 @@ pub(crate) fn listed_cone(
 }
 
 /// Whether cells stand in row-major order, each once.
-fn rise(cells: &[Address]) -> bool
+pub(crate) fn rise(cells: &[Address]) -> bool
     ensures { IsTrue result → IsStrictlyIncreasing cells.now }
 {
     for i in 1..cells.len() {

@@ -15,7 +15,7 @@ ghost use Rattle.wi_graph.specs.Inner.Rooms.{room_at, IsGraph, IsStaged};
 
 use crate::cell_set::CellSet;
 use crate::changes::{Change, reads_stay, rooms_of};
-use crate::cone::{edit_cone, listed_cone};
+use crate::cone::{edit_cone, listed_cone, rise};
 use crate::rooms::{Rooms, take_back, take_over};
 use crate::sets::take_away;
 use crate::staging::bring_in;
@@ -91,6 +91,50 @@ impl Graph {
             → (c : ℕ) → is_one_of cone.items c ≡ in_cone s (keys_of changes.now) c) }
     {
         let cone = edit_cone(self.alloc, &self.readers, changes)?;
+        self.stage_cone(changes, cone)
+    }
+
+    /// The same as `stage`, where the cells of the cone are at hand, in any order, some of them perhaps told twice. Where they
+    /// stand in row-major order, each once, they aren't searched for again.
+    pub fn stage_over(
+        &mut self,
+        changes: &[(Address, Option<Content>)],
+        cone: Vec<Address>,
+    ) -> Result<Vec<Address>, AllocError>
+        requires staged { self.old.staged ≡ None }
+        requires cone { (s : Sheet) → AreEdgesOf self.old.now s
+            → (c : ℕ) → is_one_of cone.items c ≡ in_cone s (keys_of changes.now) c }
+        ensures ok { OnOk result (self.new
+            ≡ staging self.old.now (Some (edges_after self.old.now changes.now))) }
+        ensures err { OnErr result (self.new ≡ self.old) }
+        ensures order { IfOk result (λ cone. IsStrictlyIncreasing cone.items) }
+        ensures cells { IfOk result (λ cone. (s : Sheet) → AreEdgesOf self.old.now s
+            → (c : ℕ) → is_one_of cone.items c ≡ in_cone s (keys_of changes.now) c) }
+    {
+        if rise(&cone) {
+            return self.stage_cone(changes, cone);
+        }
+        drop(cone);
+        self.stage(changes)
+    }
+
+    /// The same as `stage`, where the cone is given in row-major order.
+    fn stage_cone(
+        &mut self,
+        changes: &[Change],
+        cone: Vec<Address>,
+    ) -> Result<Vec<Address>, AllocError>
+        requires staged { self.old.staged ≡ None }
+        requires order { IsStrictlyIncreasing cone.items }
+        requires cone { (s : Sheet) → AreEdgesOf self.old.now s
+            → (c : ℕ) → is_one_of cone.items c ≡ in_cone s (keys_of changes.now) c }
+        ensures ok { OnOk result (self.new
+            ≡ staging self.old.now (Some (edges_after self.old.now changes.now))) }
+        ensures err { OnErr result (self.new ≡ self.old) }
+        ensures order { IfOk result (λ cone. IsStrictlyIncreasing cone.items) }
+        ensures cells { IfOk result (λ cone. (s : Sheet) → AreEdgesOf self.old.now s
+            → (c : ℕ) → is_one_of cone.items c ≡ in_cone s (keys_of changes.now) c) }
+    {
         let staged = make_ready(
             self.alloc,
             &mut self.rooms,
