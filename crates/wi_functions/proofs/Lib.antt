@@ -1,4 +1,5 @@
 pub mod Asking
 pub mod Choosing
+pub mod Firsts
 pub mod Parameters
 mod Rows

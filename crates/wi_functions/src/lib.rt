@@ -3,9 +3,11 @@
 
 mod choice;
 mod evaluation;
+mod first;
 mod meter;
 mod operators;
 mod references;
 
 pub use evaluation::{Outcome, Want, evaluate, zero_for_empty};
+pub use first::first_cell;
 pub use meter::Meter;
