@@ -2,6 +2,7 @@
 
 ghost use Rattle.std.specs.Prelude.{◌≡◌, ◌<◌, ◌≤◌, ℕ, true, false, Some, None, OnOk, IfErr, IfSome};
 ghost use Rattle.std.specs.Option.{option_copied};
+ghost use Rattle.std.proofs.Props.{props};
 ghost use Rattle.wi_values.specs.Address.{is_within};
 ghost use Rattle.wi_values.specs.declared.value.Value.TheVariants.{Empty};
 ghost use Rattle.wi_parser.specs.Sheet.{content_of, put_all};
@@ -9,8 +10,9 @@ ghost use Rattle.wi_store.specs.Store.{is_ahead};
 ghost use Rattle.wi_lookup.specs.Assignment.{value_if_known};
 ghost use Rattle.wi_lookup.specs.Filled.{ComesBefore};
 ghost use Rattle.wi_lookup.specs.Walk.{HasTaken};
+ghost use Rattle.wi_sheet.specs.CellValue as show;
 ghost use Rattle.wi_engine.specs.Inner.Attempt.{cell_known, known_in};
-ghost use Rattle.wi_engine.specs.Inner.Findings.{found_value};
+ghost use Rattle.wi_engine.specs.Inner.Findings.{AreAllRight, found_value};
 ghost use Rattle.wi_engine.specs.Inner.Seen.{content_seen};
 
 use crate::filled::{next_replaced, next_touched};
@@ -32,11 +34,14 @@ pub struct Known<'a> {
     // What a cell shows where nothing stands, to be lent.
     empty: Value,
     ghost is_empty: { empty ≡ Empty },
+    // So what was found can be told before what stands in a cell.
+    ghost right: { AreAllRight (show.cell_value (put_all store.now.sheet world.now)) (show.what_if_value (put_all store.now.sheet world.now)) found.now } by { Prim.hlevel props },
 }
 
 impl<'a> Known<'a> {
     /// What is known with these values found.
     pub fn new(store: &'a Store, world: &'a World, found: &'a Findings) -> Known<'a>
+        requires right { AreAllRight (show.cell_value (put_all store.now.sheet world.now)) (show.what_if_value (put_all store.now.sheet world.now)) found.now }
         ensures store { result.store.now ≡ store.now }
         ensures world { result.world.now ≡ world.now }
         ensures found { result.found.now ≡ found.now }
@@ -57,6 +62,17 @@ impl<'a> Known<'a> {
             Seen::Nothing => LookedUp::Known(&self.empty),
             Seen::Constant(value) => LookedUp::Known(value),
             Seen::Formula(_) => looked_up(self.found.cell(at)),
+        }
+    }
+
+    /// What is known of a cell in which this stands, and of which no value was found.
+    fn standing(&self, seen: Seen<'a>) -> LookedUp<'_>
+        ensures { value_if_known result ≡ known_in (content_seen seen.entry) None }
+    {
+        match seen {
+            Seen::Nothing => LookedUp::Known(&self.empty),
+            Seen::Constant(value) => LookedUp::Known(value),
+            Seen::Formula(_) => LookedUp::Missing,
         }
     }
 
@@ -102,7 +118,10 @@ impl<'a> Lookup for Known<'a> {
     ghost known_what_if = { λ k. what_if_found k.found.now };
 
     fn cell(&self, at: Address) -> LookedUp<'_> {
-        self.known(at, content_in(self.store, self.world, at))
+        match self.found.cell(at) {
+            Some(value) => LookedUp::Known(value),
+            None => self.standing(content_in(self.store, self.world, at)),
+        }
     }
 
     fn what_if(&self, formula_cell: Address, pairs: &[Pair]) -> LookedUp<'_> {

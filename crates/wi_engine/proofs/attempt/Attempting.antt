@@ -35,6 +35,12 @@ known_cell_right s c None found e r = sym (plain s c (ap has_formula e) ∙ ap (
 known_cell_right s c (Some (Constant v)) found e r = sym (plain s c (ap has_formula e) ∙ ap (λ (o : Option Content). value_of o (λ t. Empty)) e)
 known_cell_right s c (Some (Formula t)) found e r = r
 
+-- a value that was found, and is right, is what is known
+pub found_known : (s : Sheet) (c : ℕ) (o : Option Content) (v : Value) → content_of s c ≡ o → v ≡ cell_value s c → known_in o (Some v) ≡ Some v
+found_known s c None v e r = ap (λ (x : Value). Some x) (known_cell_right s c None (Some v) e r ∙ sym r)
+found_known s c (Some (Constant u)) v e r = ap (λ (x : Value). Some x) (known_cell_right s c (Some (Constant u)) (Some v) e r ∙ sym r)
+found_known s c (Some (Formula t)) v e r = refl
+
 -- what is known agrees with the values, where what was found is right
 pub known_agrees : (s : Sheet) (w : List Replacement) (f : Findings) → AreAllRight (cell_value (put_all s w)) (what_if_value (put_all s w)) f → AgreesWith (cell_known s w f) (what_if_found f) (values_in (put_all s w))
 known_agrees s w f r = record {

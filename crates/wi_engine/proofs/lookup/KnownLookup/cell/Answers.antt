@@ -1,0 +1,18 @@
+use Rattle.std.proofs.Common.{◌≡◌, Option, Some, IfSome, ap, refl, subst, sym, ◌∙◌}
+use Rattle.wi_values.specs.declared.value.Value.{Value}
+use Rattle.wi_parser.specs.Sheet.{content_of, put_all}
+use Rattle.wi_sheet.specs.CellValue.{cell_value}
+use Rattle.wi_engine.specs.Inner.Attempt.{known_in}
+use Rattle.wi_engine.specs.Inner.Findings.{found_value}
+use Rattle.wi_engine.proofs.attempt.Attempting.{found_known}
+use Rattle.wi_engine.proofs.lookup.KnownLookup.cell.Goals as goal
+
+-- what was found is right, and so it is known
+pub returns-in-Some : goal.returns-in-Some
+returns-in-Some c =
+    let k = c.args.self.now in
+    let s = put_all k.store.now.sheet k.world.now in
+    let a = c.args.at in
+    let found : found_value k.found.now a ≡ Some c.in-Some.value.now = sym c.in-Some.ensures in
+    let right = subst (λ (o : Option Value). IfSome o (λ v. v ≡ cell_value s a)) found (k.right.cells a) in
+    sym (ap (known_in (content_of s a)) found ∙ found_known s a (content_of s a) c.in-Some.value.now refl right)
