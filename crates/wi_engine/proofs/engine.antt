@@ -11,3 +11,4 @@ pub mod Running
 pub mod Saving
 pub mod Settling
 pub mod Stacks
+pub mod Taking

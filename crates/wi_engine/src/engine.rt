@@ -1,8 +1,9 @@
 //! Recalculation: values by a stack of frames.
 
-ghost use Rattle.std.specs.Prelude.{◌≡◌, ◌==◌, ◌+◌, ◌≤◌, ◌∷◌, [], ◌⊎◌, ℕ, true, false, None, Ok, All, Contains, map, IfOk, IfSome, IfNone, OnOk, OnErr};
+ghost use Rattle.std.specs.Prelude.{◌≡◌, ◌==◌, ◌&&◌, ◌+◌, ◌≤◌, ◌∷◌, [], ◌⊎◌, ℕ, Bool, true, false, None, Ok, List, All, Contains, map, IfOk, IfSome, IfNone, OnOk, OnErr};
 ghost use Rattle.std.specs.List.{list_any};
-ghost use Rattle.wi_values.specs.Replacements.{IsInOrder};
+ghost use Rattle.wi_values.specs.declared.replacement.Replacement.{Replacement as Replacements};
+ghost use Rattle.wi_values.specs.Replacements.{IsInOrder, same_replacements};
 ghost use Rattle.wi_parser.specs.View.{pair_of};
 ghost use Rattle.wi_parser.specs.Sheet.{put_all};
 ghost use Rattle.wi_lookup.specs.Assignment.{addresses};
@@ -12,9 +13,9 @@ ghost use Rattle.wi_sheet.specs.CellValue as show;
 ghost use Rattle.wi_sheet.specs.Demand.{with_what_if, wants, reaching};
 ghost use Rattle.wi_sheet.specs.Settled.{IsSettled, RestsOnKept};
 ghost use Rattle.wi_sheet.specs.Inner.Spending.{CountsAtMost, CountsFound, HasCase, NeverFall};
-ghost use Rattle.wi_engine.specs.Inner.MemoState.{IsMemoOf};
+ghost use Rattle.wi_engine.specs.Inner.MemoState.{MemoState, IsMemoOf};
 ghost use Rattle.wi_engine.specs.Inner.Attempt.{AsksAt, IsLacking, lacks_cell};
-ghost use Rattle.wi_engine.specs.Inner.Frames.{MayBeRead, IsToValue, IsUnvalued, AreReadHere, Awaits, IsFrame, IsNext, case_at, spare, waits};
+ghost use Rattle.wi_engine.specs.Inner.Frames.{MayBeRead, IsToValue, IsUnvalued, AreReadHere, Awaits, IsFrame, IsNext, case_at, spare, waits, waits_at};
 ghost use Rattle.wi_engine.specs.Inner.SettledFrames.{IsFrameSettled};
 ghost use Rattle.wi_engine.specs.Inner.Saving.{KeepsFound, WhereRoom, CountsUnkept, SavesAll, TakesNoMore, GivesUpWhenFull, NeedsNoEvaluation, IsValuedAnew};
 ghost use Rattle.wi_engine.specs.Inner.Steps.{IfKnown, IfUnknown, IfReplaced, IfInputUnknown, IfValued, IfNeedsKey, evaluations_after};
@@ -283,6 +284,60 @@ fn advance<M: Memo>(
     }
 }
 
+/// Whether a frame waits for the value of a key's cell, under the replacements of the key.
+fn waits_for(frame: &Frame, key: &Key) -> bool
+    ensures { result ≡ (waits_at frame.now.waiting key.now.cell && same_replacements frame.now.key.world key.now.world) }
+{
+    match &frame.waiting {
+        Waiting::Nothing => false,
+        Waiting::Cells(at, _) => *at == key.cell && frame.key.world == key.world,
+        Waiting::WhatIf(_, _) => false,
+    }
+}
+
+/// Lets a frame that waits for nothing wait for the next of these cells that it lacks, if it lacks one.
+fn wait_for_others(store: &Store, frame: &mut Frame, others: Vec<Address>)
+    requires waiting { frame.old.waiting ≡ waiting.Nothing }
+    requires read { AreReadHere store.now.sheet (case_at frame.old.key) others.items }
+    ensures key { frame.new.key ≡ frame.old.key }
+    ensures found { frame.new.found ≡ frame.old.found }
+    ensures awaits { Awaits store.now.sheet (case_at frame.old.key) frame.old.found frame.new.waiting }
+{
+    let mut others = others;
+    if let Some(next) = next_lacking(store, frame, &mut others) {
+        frame.waiting = Waiting::Cells(next, others);
+    }
+}
+
+/// Takes in the value that was found for a key, where a frame waits for it, so that it isn't looked up. The frame then waits for
+/// the next cell that it lacks.
+fn take_in(
+    alloc: Global,
+    store: &Store,
+    frame: &mut Frame,
+    key: &Key,
+    value: &Value,
+) -> Result<(), AllocError>
+    requires awaits { Awaits store.now.sheet (case_at frame.old.key) frame.old.found frame.old.waiting }
+    requires own { reaching store.now.sheet key.now.cell key.now.world ≡ key.now.world }
+    requires right { value.now ≡ show.cell_value (put_all store.now.sheet key.now.world) key.now.cell }
+    ensures key { frame.new.key ≡ frame.old.key }
+    ensures frame { OnOk result ((m : MemoState) → IsFrame store.now.sheet m frame.old → IsFrame store.now.sheet m frame.new) }
+    ensures spare { OnOk result (spare store.now.sheet frame.new ≤ spare store.now.sheet frame.old) }
+    ensures settled { OnOk result ((kept : ℕ → List Replacements → Bool) → kept key.now.cell key.now.world ≡ true → IsFrameSettled store.now.sheet kept frame.old → IsFrameSettled store.now.sheet kept frame.new) }
+{
+    if !waits_for(frame, key) {
+        return Ok(());
+    }
+    let Waiting::Cells(at, others) = mem::replace(&mut frame.waiting, Waiting::Nothing) else {
+        unreachable!()
+    };
+    let shown = value.copy(alloc)?;
+    frame.found.add_cell(at, shown)?;
+    wait_for_others(store, frame, others);
+    Ok(())
+}
+
 /// The value of a formula under the replacements of its key, found by a stack of frames. No value is remembered in the
 /// place of another, and none twice.
 fn run<M: Memo>(
@@ -336,8 +391,10 @@ fn run<M: Memo>(
                     return Ok(shown);
                 }
                 Some(below) => {
-                    memo.keep(frame.retire(&mut pool), value)?;
+                    let key = frame.retire(&mut pool);
                     frame = below;
+                    take_in(alloc, store, &mut frame, &key, &value)?;
+                    memo.keep(key, value)?;
                 }
             },
         }

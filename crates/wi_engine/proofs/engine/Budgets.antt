@@ -90,6 +90,11 @@ module _ (weight : Case → ℕ) (of : Frame → ℕ) (found : Finds) (ks : List
       let p = spare_push of fs g in
       omega (arith, within, step, l, p)
 
+  pub budget_same : (fs : List Frame) (f g : Frame) (n b : ℕ) → at_most weight of found (f ∷ fs) n ks ≤ b → g.key ≡ f.key → of g ≤ of f → at_most weight of found (g ∷ fs) n ks ≤ b
+  budget_same fs f g n b within e less =
+      let l = left_same weight (taken found (f ∷ fs)) (taken found (g ∷ fs)) ks (λ c w. ap (λ (x : Key). taken found fs c w || same_case (case_at x) (c, w)) e) in
+      omega (arith, within, less, l)
+
   pub budget_end : (after : Finds) (f : Frame) (n m b : ℕ) → ((c : ℕ) (w : List Replacement) → after c w ≡ (found c w || same_case (case_at f.key) (c, w))) → at_most weight of found (f ∷ []) n ks ≤ b → m ≤ n + of f →
       m + left weight after ks ≤ b
   budget_end after f n m b e within step =

@@ -181,7 +181,7 @@ pub done_settled : (s : Sheet) (m : MemoState) (f h : Frame) → h.key ≡ f.key
 done_settled s m f h e r one grows whole k = subst (λ (x : Key). RestsOnKept s m.kept (case_at x)) e (frame_rests s m.kept h r (grows whole k) one)
 
 -- the same values, found for the same frame
-abbrev IsSettledFor : Sheet → (ℕ → List Replacement → Bool) → Key → Findings → Type 0
+abbrev pub IsSettledFor : Sheet → (ℕ → List Replacement → Bool) → Key → Findings → Type 0
 IsSettledFor s kept k f = (t : Tree) → content_of (put_all s k.world) k.cell ≡ Some (Formula t) → AreFoundSettled s kept k.world t f
 
 pub settled_again : (s : Sheet) (kept : ℕ → List Replacement → Bool) (f h : Frame) → h.key ≡ f.key → h.found ≡ f.found → IsFrameSettled s kept f → IsFrameSettled s kept h

@@ -18,6 +18,7 @@ use Rattle.wi_functions.specs.Wants.{Asks}
 use Rattle.wi_functions.specs.declared.evaluation.Want.TheVariants.{WhatIf}
 use Rattle.wi_cache.specs.declared.key.Key.{Key}
 use Rattle.wi_graph.specs.Circular.{circular}
+use Rattle.wi_graph.proofs.ReachSteps.{reaches_here}
 use Rattle.wi_graph.proofs.Walks.{circular_walks}
 use Rattle.wi_sheet.specs.CellValue.{value_of, cell_value}
 use Rattle.wi_sheet.specs.Demand.{Case, case_of, reaching, with_what_if, what_ifs_of, reads_here, of_formula}
@@ -26,7 +27,7 @@ use Rattle.wi_sheet.proofs.Bounds.{put_formula, put_reads, tree_reads}
 use Rattle.wi_sheet.proofs.Steps.{value_plain, reads_not_circular}
 use Rattle.wi_sheet.proofs.Overrides.{reaching_suffices}
 use Rattle.wi_sheet.proofs.Members.{IsIn, in_contained, contains_in}
-use Rattle.wi_sheet.proofs.SmallerWorlds.{content_below}
+use Rattle.wi_sheet.proofs.SmallerWorlds.{content_below, reaching_below}
 use Rattle.wi_sheet.proofs.Asked.{rests_on_read, rests_on_what_if, asked_what_if, asked_replacing}
 use Rattle.wi_sheet.proofs.Demands.{here_reads, what_if_reads}
 use Rattle.wi_engine.specs.Inner.MemoState.{MemoState, IsMemoOf}
@@ -62,6 +63,7 @@ unvalued s m n w a k h r f en ec ew eg u x =
         formula = rw (ec, there) (ap has_formula (content_below s a w) ∙ f);
         open_cell = rw ec r.open_cell;
         covered = rw ec (r.covered (put_formula s w a f));
+        own = rw (ec, there) (reaching_below s a a w (reaches_here s a));
         generation = rw ec eg;
       };
       unfound = rw en at u;

@@ -23,7 +23,7 @@ use Rattle.wi_engine.proofs.engine.Ranks.{rests_rank, measure_falls_at_keep, mea
 use Rattle.wi_engine.proofs.engine.Resting.{key_path}
 use Rattle.wi_engine.proofs.engine.Settling.{one_more_at_most}
 use Rattle.wi_engine.proofs.engine.Stacks.{push_stack, pop_stack, push_bottom, pop_bottom, same_bottom, found_stack, kept_state, begun_next, same_begun}
-use Rattle.wi_engine.proofs.engine.Budgets.{budget_start, budget_push, budget_pop, budget_end, budget_kept, not_taken, spare_new}
+use Rattle.wi_engine.proofs.engine.Budgets.{budget_start, budget_push, budget_pop, budget_same, budget_end, budget_kept, not_taken, spare_new}
 
 -- what is so of the frames, the one at the top apart
 pub record IsRunning (s : Sheet) (old m : MemoState) (root : Case) (start now : Counts) (fs : List Frame) (f : Frame) : Type 0 where
@@ -163,6 +163,28 @@ pop_smaller s old m a n root start now fs f b k i ea ek finds o form =
     let here : Finds m n f.key = subst (λ (x : MemoState). Finds x n f.key) ea (finds_key a n k f.key ek finds) in
     let top = i.begun.demanded (demand s root) (demand_closed s root) (demand_has_itself s root o form) in
     measure_falls_at_keep s f.key.cell b.key.cell (left (λ j. 1) m.found (demand s root)) (left (λ j. 1) n.found (demand s root)) (one_less_left m.found n.found (case_at f.key) (demand s root) here i.begun.unfound top)
+
+-- ---- a value that the frame below takes in
+
+-- what is so of the frame below
+pub run_below : (s : Sheet) (old m : MemoState) (root : Case) (start now : Counts) (fs gs : List Frame) (f b : Frame) → IsRunning s old m root start now gs f → gs ≡ fs ++ b ∷ [] → IsFrame s m b
+run_below s old m root start now fs gs f b i e =
+    let stack : IsStack s m root (fs ++ b ∷ []) (reach_rank s f.key.cell) = subst (λ (xs : List Frame). IsStack s m root xs (reach_rank s f.key.cell)) e i.stack in
+    (pop_stack s m root fs b (reach_rank s f.key.cell) stack).0.frame
+
+-- with a value more it may count no more
+pub run_take : (s : Sheet) (old m : MemoState) (root : Case) (start now : Counts) (fs : List Frame) (f g : Frame) → IsRunning s old m root start now fs f → g.key ≡ f.key → IsFrame s m g → spare s g ≤ spare s f → IsRunning s old m root start now fs g
+run_take s old m root start now fs f g i e frame less = record {
+  memo = i.memo;
+  covers = i.covers;
+  generation = i.generation;
+  begun = same_begun s m root f g e frame i.begun;
+  stack = rw e i.stack;
+  bottom = same_bottom root fs f g e i.bottom;
+  counts = i.counts;
+  evaluations = λ ks closed top. budget_same (λ j. 1) (λ x. 1) m.found ks fs f g now.evaluations _ (i.evaluations ks closed top) e (omega arith);
+  restarts = λ ks closed top. budget_same (wants s) (spare s) m.found ks fs f g now.restarts _ (i.restarts ks closed top) e less;
+}
 
 -- ---- the end
 

@@ -22,7 +22,7 @@ use Rattle.wi_engine.proofs.engine.Settling.{one_more_at_most}
 use Rattle.wi_engine.proofs.engine.FoundSettled.{settled_now}
 use Rattle.wi_engine.proofs.engine.FramesSettled.{IsSettling, settling_start, settling_push, settling_pop, rests_after}
 use Rattle.wi_engine.proofs.engine.Stacks.{same_frame}
-use Rattle.wi_engine.proofs.engine.Running.{unvalued_in, IsRunning, IsNew, Keeps, Finds, run_start, run_push, run_pop, run_evaluations, run_restarts, end_evaluations, end_restarts}
+use Rattle.wi_engine.proofs.engine.Running.{unvalued_in, IsRunning, IsNew, Keeps, Finds, run_start, run_push, run_pop, run_take, run_evaluations, run_restarts, end_evaluations, end_restarts}
 
 -- a memory, seen as if what is kept were what was found
 abbrev pub by_kept : MemoState → MemoState
@@ -46,7 +46,7 @@ kept_memory_of s m h w = record {
 }
 
 kept_to_value : (s : Sheet) (m : MemoState) (k : Key) → IsToValue s m k → IsToValue s (by_kept m) k
-kept_to_value s m k h = record { formula = h.formula; open_cell = h.open_cell; covered = h.covered; generation = h.generation }
+kept_to_value s m k h = record { formula = h.formula; open_cell = h.open_cell; covered = h.covered; own = h.own; generation = h.generation }
 
 kept_next : (s : Sheet) (m : MemoState) (below k : Key) → IsNext s m below k → IsNext s (by_kept m) below k
 kept_next s m below k h = record { rests = h.rests; key = kept_to_value s m k h.key; unfound = h.unkept; unkept = h.unkept }
@@ -169,6 +169,30 @@ saving_pop s old m a n root start now next fs gs f b k v ks closed top i ea eg e
       settling = settling_pop s m n (case_at f.key) one.0 old fs gs f b i.settling eg (rests i.whole i.settling.top);
     }
 
+-- the value of a frame that is done is kept
+pub saving_kept : (s : Sheet) (old m a n : MemoState) (root : Case) (start now : Counts) (fs : List Frame) (f : Frame) (k : Key) (ks : List Case) → IsClosed s ks → Contains ks root → IsSaving s old m root start now fs f ks → a ≡ m → k ≡ f.key → Finds a n k → Takes a n k →
+    n.kept k.cell k.world ≡ true
+saving_kept s old m a n root start now fs f k ks closed top i ea ek finds takes =
+    let finds_m : Finds m n f.key = finds_key m n k f.key ek (subst (λ (y : MemoState). Finds y n k) ea finds) in
+    let takes_m : Takes m n f.key = takes_key m n k f.key ek (subst (λ (y : MemoState). Takes y n k) ea takes) in
+    let one = saved_one s old m root start now fs f ks n closed top i takes_m finds_m in
+    let there : n.kept f.key.cell f.key.world ≡ true = one.0 f.key.cell f.key.world ∙ or_right (m.kept f.key.cell f.key.world) _ (same_case-refl (case_at f.key)) in
+    subst (λ (x : Key). n.kept x.cell x.world ≡ true) (sym ek) there
+
+-- ---- a value that is taken in
+
+pub saving_take : (s : Sheet) (old m : MemoState) (root : Case) (start now : Counts) (fs : List Frame) (f g : Frame) (ks : List Case) → IsSaving s old m root start now fs f ks → g.key ≡ f.key → IsFrame s m g → spare s g ≤ spare s f → IsFrameSettled s m.kept g →
+    IsSaving s old m root start now fs g ks
+saving_take s old m root start now fs f g ks i e frame less settled = record {
+  running = run_take s (by_kept old) (by_kept m) root start now fs f g i.running e (same_frame s m (by_kept m) g refl refl frame) less;
+  whole = i.whole;
+  added = i.added;
+  room = i.room;
+  stays = i.stays;
+  stand = i.stand;
+  settling = record { top = settled; below = i.settling.below; rests = i.settling.rests };
+}
+
 -- ---- the end
 
 pub saving_counts : (s : Sheet) (old m : MemoState) (root : Case) (start now next : Counts) (fs : List Frame) (f : Frame) → IsGoing s old m root start now fs f → next.evaluations ≤ now.evaluations + 1 → CountsUnkept s (λ ks. Contains ks root) (λ k. 1) old start.evaluations next.evaluations
@@ -203,13 +227,8 @@ saving_end s old m a n root start now next fs f k g ea e ek finds takes ev re re
 pub settled_end : (s : Sheet) (old m a n : MemoState) (root : Key) (start now : Counts) (fs : List Frame) (f : Frame) (k : Key) → IsGoing s old m (case_at root) start now fs f → a ≡ m → fs ≡ [] → k ≡ f.key → Finds a n k → Takes a n k →
     WhereRoom s (λ ks. Contains ks (case_at root)) old (λ ks. n.kept root.cell root.world ≡ true)
 settled_end s old m a n root start now fs f k g ea e ek finds takes = λ ks closed top whole room.
-    let i = g.saving ks closed top whole room in
-    let finds_m : Finds m n f.key = finds_key m n k f.key ek (subst (λ (y : MemoState). Finds y n k) ea finds) in
-    let takes_m : Takes m n f.key = takes_key m n k f.key ek (subst (λ (y : MemoState). Takes y n k) ea takes) in
-    let one = saved_one s old m (case_at root) start now fs f ks n closed top i takes_m finds_m in
     let bottom : case_at f.key ≡ case_at root = rw e at g.running.bottom in
-    let there : n.kept f.key.cell f.key.world ≡ true = one.0 f.key.cell f.key.world ∙ or_right (m.kept f.key.cell f.key.world) _ (same_case-refl (case_at f.key)) in
-    subst (λ (j : Case). n.kept j.0 j.1 ≡ true) bottom there
+    subst (λ (j : Case). n.kept j.0 j.1 ≡ true) (ap case_at ek ∙ bottom) (saving_kept s old m a n (case_at root) start now fs f k ks closed top (g.saving ks closed top whole room) ea ek finds takes)
 
 -- ---- a cell under any replacements
 

@@ -64,6 +64,7 @@ same_frame s m n f ec eg h = record {
     formula = h.key.formula;
     open_cell = h.key.open_cell;
     covered = rw ec h.key.covered;
+    own = h.key.own;
     generation = rw eg h.key.generation;
   };
   found = h.found;

@@ -1,5 +1,5 @@
 -- What is so of the frames: cases whose formulas are being valued, each resting on the next.
-use Rattle.std.specs.Prelude.{◌≡◌, ℕ, ◌+◌, ◌-◌, ◌<◌, ◌||◌, Bool, true, false, List, [], ◌∷◌, Option, Contains}
+use Rattle.std.specs.Prelude.{◌≡◌, ◌==◌, ℕ, ◌+◌, ◌-◌, ◌<◌, ◌||◌, Bool, true, false, List, [], ◌∷◌, Option, Contains}
 use Rattle.wi_values.specs.declared.replacement.Replacement.{Replacement}
 use Rattle.wi_parser.specs.declared.content.Content.{Content}
 use Rattle.wi_parser.specs.Sheet.{Sheet, content_of, put_all, has_formula}
@@ -28,11 +28,12 @@ pub record MayBeRead (s : Sheet) (m : MemoState) (a : ℕ) : Type 0 where
   pub open_cell : circular s a ≡ false
   pub covered : has_formula (content_of s a) ≡ true → m.covers a ≡ true
 
--- a key for a formula under replacements
+-- a key for a formula under replacements, all of them of cells that it reaches
 pub record IsToValue (s : Sheet) (m : MemoState) (k : Key) : Type 0 where
   pub formula : has_formula (content_of (put_all s k.world) k.cell) ≡ true
   pub open_cell : circular s k.cell ≡ false
   pub covered : m.covers k.cell ≡ true
+  pub own : reaching s k.cell k.world ≡ k.world
   pub generation : k.generation ≡ m.generation k.cell
 
 -- the key of a cell under replacements, whose formula has to be valued
@@ -64,6 +65,12 @@ pub record IsFrame (s : Sheet) (m : MemoState) (f : Frame) : Type 0 where
   pub key : IsToValue s m f.key
   pub found : AreAllRight (cell_value (put_all s f.key.world)) (what_if_value (put_all s f.key.world)) f.found
   pub waiting : Awaits s (case_at f.key) f.found f.waiting
+
+-- this is the cell whose value is waited for
+abbrev pub waits_at : Waiting → ℕ → Bool
+waits_at Nothing c = false
+waits_at (Cells a others) c = a == c
+waits_at (WhatIf a pairs) c = false
 
 -- a key whose value has to be found before a frame's
 pub record IsNext (s : Sheet) (m : MemoState) (below k : Key) : Type 0 where

@@ -5,8 +5,8 @@ use Rattle.wi_sheet.proofs.Counting.{never_fall-then}
 use Rattle.wi_engine.specs.Inner.Frames.{case_at, spare}
 use Rattle.wi_engine.specs.Inner.MemoState.{MemoState, IsMemoOf}
 use Rattle.wi_engine.specs.Inner.Saving.{TakesPlaces}
-use Rattle.wi_engine.proofs.engine.Running.{IsNew, Keeps, run_start, run_push, push_smaller, run_pop, pop_smaller, run_evaluations, run_restarts, run_value, end_evaluations, end_restarts, run_keeps}
-use Rattle.wi_engine.proofs.engine.Saving.{Takes, saving_start, saving_push, saving_pop, saving_end, settled_end, takes_more, push_takes, saving_counts, saving_restarts}
+use Rattle.wi_engine.proofs.engine.Running.{IsNew, Keeps, run_start, run_push, push_smaller, run_pop, pop_smaller, run_below, run_take, run_evaluations, run_restarts, run_value, end_evaluations, end_restarts, run_keeps}
+use Rattle.wi_engine.proofs.engine.Saving.{Takes, saving_start, saving_push, saving_pop, saving_kept, saving_take, saving_end, settled_end, takes_more, push_takes, saving_counts, saving_restarts}
 use Rattle.wi_engine.proofs.Saved.{gives_up_none, gives_up_then}
 use Rattle.wi_engine.proofs.engine.run.Goals as goal
 
@@ -62,7 +62,7 @@ frames-preserved-in-Needs g c =
 pub frames-smaller : goal.frames-smaller
 frames-smaller g c =
     pop_smaller c.args.store.now.sheet (g.M.Memo.state c.args.memo.now) (g.M.Memo.state c.frames.memo) (g.M.Memo.state c.advance.new.memo) (g.M.Memo.state c.keep-in-Some.new.self) (case_at c.args.key) c.args.meter.now c.frames.meter
-    c.frames.stack.items c.frames.frame c.in-Some.below c.retire.result c.frames.invariant.running c.in_ok-next.ensures.same (c.retire.ensures ∙ c.in_ok-next.ensures.key) c.in_ok-keep-in-Some.ensures.found
+    c.frames.stack.items c.frames.frame c.take_in.new.frame c.retire-key.result c.frames.invariant.running c.in_ok-next.ensures.same (c.retire-key.ensures ∙ c.in_ok-next.ensures.key) c.in_ok-keep-in-Some.ensures.found
     c.requires.key.open_cell c.requires.key.formula
 
 pub frames-preserved : goal.frames-preserved
@@ -82,19 +82,40 @@ frames-preserved g c =
     let root = case_at c.args.key in
     let start = c.args.meter.now in
     let going = c.frames.invariant in
-    let key = c.retire.ensures ∙ a.key in
-    let keeps : Keeps mid after c.retire.result c.in-Done.value = record { sheet = k.same_sheet; covers = k.same_cells; generation = k.same_generation; known = k.known; told = k.told } in
-    let takes : Takes mid after c.retire.result = record { kept = k.kept; room = k.room; places = k.one_place } in
+    let key = c.retire-key.ensures ∙ a.key in
+    let keeps : Keeps mid after c.retire-key.result c.in-Done.value = record { sheet = k.same_sheet; covers = k.same_cells; generation = k.same_generation; known = k.known; told = k.told } in
+    let takes : Takes mid after c.retire-key.result = record { kept = k.kept; room = k.room; places = k.one_place } in
+    let taken = c.in_ok-take_in-in-Some.ensures in
+    let b = c.in-Some.below in
+    let f = c.take_in.new.frame in
+    let same = c.take_in.ensures.key in
+    let running = run_pop s old m mid after root start c.frames.meter c.advance.new.meter c.pop.new.self.items c.frames.stack.items c.frames.frame b c.retire-key.result c.in-Done.value going.running a.same popped key keeps k.found value c.advance.ensures.counts counted restarts in
+    let frame = taken.frame after running.begun.frame in
     record {
-      running = run_pop s old m mid after root start c.frames.meter c.advance.new.meter c.pop.new.self.items c.frames.stack.items c.frames.frame c.in-Some.below c.retire.result c.in-Done.value going.running a.same popped key keeps k.found value c.advance.ensures.counts counted restarts;
+      running = run_take s old after root start c.advance.new.meter c.pop.new.self.items b f running same frame taken.spare;
       places = takes_more old m after start.evaluations c.frames.meter.evaluations c.advance.new.meter.evaluations going.places (rw (← a.same) k.one_place) counted;
       gives_up = gives_up_then old m after going.gives_up (rw (← a.same) k.gives_up);
       capacity = k.same_capacity ∙ ap (λ (x : MemoState). x.capacity) a.same ∙ going.capacity;
       latest = k.same_latest ∙ ap (λ (x : MemoState). x.latest) a.same ∙ going.latest;
       saving = λ ks closed top whole room.
-          saving_pop s old m mid after root start c.frames.meter c.advance.new.meter c.pop.new.self.items c.frames.stack.items c.frames.frame c.in-Some.below c.retire.result c.in-Done.value ks closed top (going.saving ks closed top whole room) a.same popped key keeps
-          k.found takes value c.advance.ensures.counts counted restarts rests;
+          let saving = going.saving ks closed top whole room in
+          let below = saving_pop s old m mid after root start c.frames.meter c.advance.new.meter c.pop.new.self.items c.frames.stack.items c.frames.frame b c.retire-key.result c.in-Done.value ks closed top saving a.same popped key keeps
+          k.found takes value c.advance.ensures.counts counted restarts rests in
+          let kept = saving_kept s old m mid after root start c.frames.meter c.frames.stack.items c.frames.frame c.retire-key.result ks closed top saving a.same key k.found takes in
+          saving_take s old after root start c.advance.new.meter c.pop.new.self.items b f ks below same frame taken.spare (taken.settled after.kept kept below.settling.top);
     }
+
+pub take_in-requires-clause-awaits : goal.take_in-requires-clause-awaits
+take_in-requires-clause-awaits g c =
+    (run_below c.args.store.now.sheet (g.M.Memo.state c.args.memo.now) (g.M.Memo.state c.frames.memo) (case_at c.args.key) c.args.meter.now c.frames.meter c.pop.new.self.items c.frames.stack.items c.frames.frame c.in-Some.below c.frames.invariant.running c.in-Some.ensures.items).waiting
+
+pub take_in-requires-clause-own : goal.take_in-requires-clause-own
+take_in-requires-clause-own g c = rw c.retire-key.ensures c.in_ok-next.ensures.frame.key.own
+
+pub take_in-requires-clause-right : goal.take_in-requires-clause-right
+take_in-requires-clause-right g c =
+    let a = c.in_ok-next.ensures in
+    rw (c.retire-key.ensures, a.key) (rw c.in-Done.is at a.done)
 
 pub returns-in_err-push-in-Needs-clause-takes : goal.returns-in_err-push-in-Needs-clause-takes
 returns-in_err-push-in-Needs-clause-takes g c =
@@ -302,8 +323,8 @@ pub returns-in_err-keep-in-Some-clause-memo : goal.returns-in_err-keep-in-Some-c
 returns-in_err-keep-in-Some-clause-memo g c =
     let value = rw c.in-Done.is at c.in_ok-next.ensures.done in
     let there = subst (λ (x : MemoState). IsMemoOf c.args.store.now.sheet x) (sym c.advance.ensures.same) c.frames.invariant.running.memo in
-    let keeps : Keeps (g.M.Memo.state c.advance.new.memo) (g.M.Memo.state c.keep-in-Some.new.self) c.retire.result c.in-Done.value = record { sheet = c.keep-in-Some.ensures.same_sheet; covers = c.keep-in-Some.ensures.same_cells; generation = c.keep-in-Some.ensures.same_generation; known = c.keep-in-Some.ensures.known; told = c.keep-in-Some.ensures.told } in
-    run_keeps c.args.store.now.sheet (g.M.Memo.state c.advance.new.memo) (g.M.Memo.state c.keep-in-Some.new.self) c.retire.result c.frames.frame.key c.in-Done.value there keeps (c.retire.ensures ∙ c.in_ok-next.ensures.key) value
+    let keeps : Keeps (g.M.Memo.state c.advance.new.memo) (g.M.Memo.state c.keep-in-Some.new.self) c.retire-key.result c.in-Done.value = record { sheet = c.keep-in-Some.ensures.same_sheet; covers = c.keep-in-Some.ensures.same_cells; generation = c.keep-in-Some.ensures.same_generation; known = c.keep-in-Some.ensures.known; told = c.keep-in-Some.ensures.told } in
+    run_keeps c.args.store.now.sheet (g.M.Memo.state c.advance.new.memo) (g.M.Memo.state c.keep-in-Some.new.self) c.retire-key.result c.frames.frame.key c.in-Done.value there keeps (c.retire-key.ensures ∙ c.in_ok-next.ensures.key) value
 
 pub returns-in_err-keep-in-Some-clause-same_cells : goal.returns-in_err-keep-in-Some-clause-same_cells
 returns-in_err-keep-in-Some-clause-same_cells g c =
@@ -467,17 +488,17 @@ keep-requires-clause-right g c =
 pub keep-requires-in-Some-clause-generation : goal.keep-requires-in-Some-clause-generation
 keep-requires-in-Some-clause-generation g c =
     let a = c.in_ok-next.ensures in
-    rw (c.retire.ensures, a.same) a.frame.key.generation
+    rw (c.retire-key.ensures, a.same) a.frame.key.generation
 
 pub keep-requires-in-Some-clause-open_cell : goal.keep-requires-in-Some-clause-open_cell
 keep-requires-in-Some-clause-open_cell g c =
     let a = c.in_ok-next.ensures in
-    rw (c.retire.ensures, a.same, c.frames.invariant.running.memo.sheet) a.frame.key.open_cell
+    rw (c.retire-key.ensures, a.same, c.frames.invariant.running.memo.sheet) a.frame.key.open_cell
 
 pub keep-requires-in-Some-clause-right : goal.keep-requires-in-Some-clause-right
 keep-requires-in-Some-clause-right g c =
     let a = c.in_ok-next.ensures in
-    rw (c.retire.ensures, a.key, a.same, c.frames.invariant.running.memo.sheet) (rw c.in-Done.is at a.done)
+    rw (c.retire-key.ensures, a.key, a.same, c.frames.invariant.running.memo.sheet) (rw c.in-Done.is at a.done)
 
 pub returns-in-None-clause-value : goal.returns-in-None-clause-value
 returns-in-None-clause-value g c =
@@ -499,6 +520,62 @@ returns-in_err-next-clause-takes g c =
 
 pub returns-in_err-shown-in-None-clause-takes : goal.returns-in_err-shown-in-None-clause-takes
 returns-in_err-shown-in-None-clause-takes g c =
+    let a = c.in_ok-next.ensures in
+    let m = g.M.Memo.state c.frames.memo in
+    let counted = rw c.in-Done.is at a.evaluations in
+    let none : TakesPlaces m m 0 1 = λ ks d. omega arith in
+    takes_more (g.M.Memo.state c.args.memo.now) m (g.M.Memo.state c.advance.new.memo) c.args.meter.now.evaluations c.frames.meter.evaluations c.advance.new.meter.evaluations c.frames.invariant.places (subst (λ (x : MemoState). TakesPlaces m x 0 1) (sym a.same) none) counted
+
+pub returns-in_err-take_in-in-Some-clause-evaluations : goal.returns-in_err-take_in-in-Some-clause-evaluations
+returns-in_err-take_in-in-Some-clause-evaluations g c =
+    let counted = rw c.in-Done.is at c.in_ok-next.ensures.evaluations in
+    run_evaluations c.args.store.now.sheet (g.M.Memo.state c.args.memo.now) (g.M.Memo.state c.frames.memo) (case_at c.args.key) c.args.meter.now c.frames.meter c.advance.new.meter c.frames.stack.items c.frames.frame c.frames.invariant.running (one_more_at_most c.frames.meter.evaluations c.advance.new.meter.evaluations counted)
+
+pub returns-in_err-take_in-in-Some-clause-restarts : goal.returns-in_err-take_in-in-Some-clause-restarts
+returns-in_err-take_in-in-Some-clause-restarts g c =
+    let restarts : c.advance.new.meter.restarts ≤ c.frames.meter.restarts + spare c.args.store.now.sheet c.frames.frame = omega (arith, c.in_ok-next.ensures.restarts) in
+    run_restarts c.args.store.now.sheet (g.M.Memo.state c.args.memo.now) (g.M.Memo.state c.frames.memo) (case_at c.args.key) c.args.meter.now c.frames.meter c.advance.new.meter c.frames.stack.items c.frames.frame c.frames.invariant.running restarts
+
+pub returns-in_err-take_in-in-Some-clause-unkept_evaluations : goal.returns-in_err-take_in-in-Some-clause-unkept_evaluations
+returns-in_err-take_in-in-Some-clause-unkept_evaluations g c =
+    let counted = rw c.in-Done.is at c.in_ok-next.ensures.evaluations in
+    saving_counts c.args.store.now.sheet (g.M.Memo.state c.args.memo.now) (g.M.Memo.state c.frames.memo) (case_at c.args.key) c.args.meter.now c.frames.meter c.advance.new.meter c.frames.stack.items c.frames.frame c.frames.invariant (one_more_at_most c.frames.meter.evaluations c.advance.new.meter.evaluations counted)
+
+pub returns-in_err-take_in-in-Some-clause-unkept_restarts : goal.returns-in_err-take_in-in-Some-clause-unkept_restarts
+returns-in_err-take_in-in-Some-clause-unkept_restarts g c =
+    let restarts : c.advance.new.meter.restarts ≤ c.frames.meter.restarts + spare c.args.store.now.sheet c.frames.frame = omega (arith, c.in_ok-next.ensures.restarts) in
+    saving_restarts c.args.store.now.sheet (g.M.Memo.state c.args.memo.now) (g.M.Memo.state c.frames.memo) (case_at c.args.key) c.args.meter.now c.frames.meter c.advance.new.meter c.frames.stack.items c.frames.frame c.frames.invariant restarts
+
+pub returns-in_err-take_in-in-Some-clause-counts : goal.returns-in_err-take_in-in-Some-clause-counts
+returns-in_err-take_in-in-Some-clause-counts g c =
+    never_fall-then c.args.meter.now c.frames.meter c.advance.new.meter c.frames.invariant.running.counts c.advance.ensures.counts
+
+pub returns-in_err-take_in-in-Some-clause-memo : goal.returns-in_err-take_in-in-Some-clause-memo
+returns-in_err-take_in-in-Some-clause-memo g c =
+    subst (λ (x : MemoState). IsMemoOf c.args.store.now.sheet x) (sym c.advance.ensures.same) c.frames.invariant.running.memo
+
+pub returns-in_err-take_in-in-Some-clause-same_cells : goal.returns-in_err-take_in-in-Some-clause-same_cells
+returns-in_err-take_in-in-Some-clause-same_cells g c =
+    ap (λ (x : MemoState). x.covers) c.advance.ensures.same ∙ c.frames.invariant.running.covers
+
+pub returns-in_err-take_in-in-Some-clause-same_generation : goal.returns-in_err-take_in-in-Some-clause-same_generation
+returns-in_err-take_in-in-Some-clause-same_generation g c =
+    ap (λ (x : MemoState). x.generation) c.advance.ensures.same ∙ c.frames.invariant.running.generation
+
+pub returns-in_err-take_in-in-Some-clause-same_capacity : goal.returns-in_err-take_in-in-Some-clause-same_capacity
+returns-in_err-take_in-in-Some-clause-same_capacity g c =
+    ap (λ (x : MemoState). x.capacity) c.advance.ensures.same ∙ c.frames.invariant.capacity
+
+pub returns-in_err-take_in-in-Some-clause-same_latest : goal.returns-in_err-take_in-in-Some-clause-same_latest
+returns-in_err-take_in-in-Some-clause-same_latest g c =
+    ap (λ (x : MemoState). x.latest) c.advance.ensures.same ∙ c.frames.invariant.latest
+
+pub returns-in_err-take_in-in-Some-clause-gives_up : goal.returns-in_err-take_in-in-Some-clause-gives_up
+returns-in_err-take_in-in-Some-clause-gives_up g c =
+    gives_up_then (g.M.Memo.state c.args.memo.now) (g.M.Memo.state c.frames.memo) (g.M.Memo.state c.advance.new.memo) c.frames.invariant.gives_up (gives_up_none (g.M.Memo.state c.frames.memo) (g.M.Memo.state c.advance.new.memo) c.advance.ensures.same)
+
+pub returns-in_err-take_in-in-Some-clause-takes : goal.returns-in_err-take_in-in-Some-clause-takes
+returns-in_err-take_in-in-Some-clause-takes g c =
     let a = c.in_ok-next.ensures in
     let m = g.M.Memo.state c.frames.memo in
     let counted = rw c.in-Done.is at a.evaluations in

@@ -1,0 +1,60 @@
+-- A frame takes in the value for which it waits.
+use Rattle.std.proofs.Common.{◌≡◌, ◌&&◌, ◌≤◌, inr, ℕ, Bool, true, List, ap, sym, ◌∙◌, subst, arith, eqb-true}
+use Rattle.std.proofs.lemmas.Bool.{and_parts}
+use Rattle.std.specs.Global.{Vec}
+use Rattle.wi_values.specs.declared.value.Value.{Value}
+use Rattle.wi_values.specs.declared.replacement.Replacement.{Replacement}
+use Rattle.wi_values.specs.Replacements.{same_replacements}
+use Rattle.wi_values.proofs.Replacements.Same.{same_replacements_Decides}
+use Rattle.wi_parser.specs.Sheet.{Sheet, put_all}
+use Rattle.wi_cache.specs.declared.key.Key.{Key}
+use Rattle.wi_sheet.specs.CellValue.{cell_value, what_if_value}
+use Rattle.wi_sheet.specs.Demand.{reaching}
+use Rattle.wi_sheet.specs.Settled.{IsSettled}
+use Rattle.wi_engine.specs.Inner.MemoState.{MemoState}
+use Rattle.wi_engine.specs.Inner.Findings.{IsWithCell}
+use Rattle.wi_engine.specs.Inner.Frames.{case_at, Awaits, IsFrame, lacks, spare, waits, waits_at}
+use Rattle.wi_engine.specs.Inner.SettledFrames.{IsFrameSettled}
+use Rattle.wi_engine.specs.declared.findings.Findings.{Findings}
+use Rattle.wi_engine.specs.declared.frame.Frame.{Frame}
+use Rattle.wi_engine.specs.declared.frame.Waiting.{Waiting}
+use Rattle.wi_engine.specs.declared.frame.Waiting.TheVariants.{Cells}
+use Rattle.wi_engine.proofs.engine.Awaiting.{cell_falls, frame_with}
+use Rattle.wi_engine.proofs.engine.FoundSettled.{IsSettledFor, frame_cell}
+use Rattle.wi_engine.proofs.engine.Rightness.{right_cell}
+
+-- the frame f waits for the key's value, and g has it
+module _ (s : Sheet) (f g : Frame) (k : Key) (found : Findings) (a : ℕ) (others : Vec ℕ) (v : Value) (test : (waits_at f.waiting k.cell && same_replacements f.key.world k.world) ≡ true) (waiting : f.waiting ≡ Cells a others) (more : IsWithCell f.found found a v)
+    (key : g.key ≡ f.key) (has : g.found ≡ found) where
+  waits_so : (waits_at f.waiting k.cell ≡ true) × (same_replacements f.key.world k.world ≡ true)
+  waits_so = and_parts (waits_at f.waiting k.cell) (same_replacements f.key.world k.world) test
+
+  cell : a ≡ k.cell
+  cell = eqb-true a k.cell (sym (ap (λ (x : Waiting). waits_at x k.cell) waiting) ∙ waits_so.0)
+
+  world : f.key.world ≡ k.world
+  world = (same_replacements_Decides f.key.world k.world).0 waits_so.1
+
+  with_it : IsWithCell f.found g.found a v
+  with_it = subst (λ (x : Findings). IsWithCell f.found x a v) (sym has) more
+
+  pub taken_frame : v ≡ cell_value (put_all s k.world) k.cell → Awaits s (case_at f.key) found g.waiting → (m : MemoState) → IsFrame s m f → IsFrame s m g
+  taken_frame right awaits m h =
+      let here : v ≡ cell_value (put_all s f.key.world) a = right ∙ ap (λ (w : List Replacement). cell_value (put_all s w) k.cell) (sym world) ∙ ap (cell_value (put_all s f.key.world)) (sym cell) in
+      frame_with s m f g h key (right_cell (cell_value (put_all s f.key.world)) (what_if_value (put_all s f.key.world)) f.found g.found a v with_it here h.found)
+      (subst (λ (x : Findings). Awaits s (case_at f.key) x g.waiting) (sym has) awaits)
+
+  pub taken_spare : Awaits s (case_at f.key) f.found f.waiting → spare s g ≤ spare s f
+  taken_spare awaits =
+      let there : Awaits s (case_at f.key) f.found (Cells a others) = subst (λ (x : Waiting). Awaits s (case_at f.key) f.found x) waiting awaits in
+      let less = cell_falls s f.key f.found g.found a v with_it there.0.1 there.1 there.2 in
+      let one = ap waits waiting in
+      let same = ap (λ (x : Key). lacks s x g.found) key in
+      omega (arith, less, one, same)
+
+  pub taken_settled : reaching s k.cell k.world ≡ k.world → (kept : ℕ → List Replacement → Bool) → kept k.cell k.world ≡ true → IsFrameSettled s kept f → IsFrameSettled s kept g
+  taken_settled own kept there h =
+      let cell_kept : kept a (reaching s a f.key.world) ≡ true =
+      ap (λ (c : ℕ). kept c (reaching s c f.key.world)) cell ∙ ap (λ (w : List Replacement). kept k.cell (reaching s k.cell w)) world ∙ ap (kept k.cell) own ∙ there in
+      let settled : IsSettled s kept f.key.world a = inr cell_kept in
+      subst (λ (x : Key). IsSettledFor s kept x g.found) (sym key) (frame_cell s kept f g.found a v with_it settled h)
