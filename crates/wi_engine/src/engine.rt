@@ -21,6 +21,7 @@ ghost use Rattle.wi_engine.specs.Inner.Saving.{KeepsFound, WhereRoom, CountsUnke
 ghost use Rattle.wi_engine.specs.Inner.Steps.{IfKnown, IfUnknown, IfReplaced, IfInputUnknown, IfValued, IfNeedsKey, evaluations_after};
 ghost use Rattle.wi_engine.specs.declared.frame.Waiting.TheVariants as waiting;
 
+use crate::ahead::look_ahead;
 use crate::attempt::attempt;
 use crate::findings::FoundWhatIf;
 use crate::frame::{Advance, Asked, Frame, Inputs, Waiting};
@@ -266,6 +267,7 @@ fn advance<M: Memo>(
     ensures counts { NeverFall meter.old meter.new }
     ensures same { M.state memo.new ≡ M.state memo.old }
 {
+    look_ahead(alloc, store, frame);
     'rounds: loop {
         if let Some(key) = settle(alloc, store, frame, memo)? {
             return Ok(Advance::Needs(key));

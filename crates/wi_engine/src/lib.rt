@@ -1,6 +1,7 @@
 //! Recalculation: values of cells by a stack of frames, over what is remembered, and walks along references.
 #![tactic(auto)]
 
+mod ahead;
 mod attempt;
 mod cone;
 mod course;

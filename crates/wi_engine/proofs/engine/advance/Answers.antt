@@ -87,7 +87,20 @@ pub settle-requires-clause-frame : goal.settle-requires-clause-frame
 settle-requires-clause-frame g c = subst (λ (x : MemoState). IsFrame c.args.store.now.sheet x c.rounds.frame) (sym c.rounds.invariant.same) c.rounds.invariant.frame
 
 pub rounds-init : goal.rounds-init
-rounds-init g c = record { key = refl; frame = c.requires.frame; evaluations = refl; counts = never_fall-same c.args.meter.now; restarts = omega arith; settled = λ whole h. h; same = refl }
+rounds-init g c =
+    let s = c.args.store.now.sheet in
+    let m = g.M.Memo.state c.args.memo.now in
+    let h = c.look_ahead.new.frame in
+    let ahead = c.look_ahead.ensures in
+    record {
+      key = ahead.key;
+      frame = ahead.frame m c.requires.frame;
+      evaluations = refl;
+      counts = never_fall-same c.args.meter.now;
+      restarts = omega (arith, ahead.spare);
+      settled = λ whole k. settled_again s m.kept c.args.frame.now h ahead.key ahead.found k;
+      same = refl;
+    }
 
 pub returns-in-Some-clause-frame : goal.returns-in-Some-clause-frame
 returns-in-Some-clause-frame g c = subst (λ (x : MemoState). IsFrame c.args.store.now.sheet x c.settle.new.frame) c.rounds.invariant.same c.in_ok-key.ensures.frame

@@ -1,0 +1,2 @@
+-- What the proofs about looking ahead use.
+pub mod Alone
