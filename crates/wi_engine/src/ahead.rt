@@ -1,10 +1,11 @@
 //! What a frame waits for before its formula is evaluated for the first time.
 
-ghost use Rattle.std.specs.Prelude.{◌≡◌, ◌≤◌, IfSome};
+ghost use Rattle.std.specs.Prelude.{◌≡◌, ◌≤◌, true, IfSome};
 ghost use Rattle.wi_functions.specs.declared.evaluation.Want.TheVariants as wanted;
 ghost use Rattle.wi_engine.specs.Inner.Attempt.{AsksAt, IsLacking};
 ghost use Rattle.wi_engine.specs.Inner.Frames.{IsFrame, spare};
 ghost use Rattle.wi_engine.specs.Inner.MemoState.{MemoState};
+ghost use Rattle.wi_engine.specs.declared.frame.Waiting.TheVariants as waiting;
 
 use crate::frame::{Frame, Waiting};
 use crate::lacking::is_lacking;
@@ -14,19 +15,30 @@ use wi_functions::first_cell;
 use wi_store::Store;
 use wi_values::Address;
 
-/// Lets a frame that waits for nothing wait for a cell that any evaluation of its formula asks for, so that it isn't evaluated
-/// in vain. Takes no memory. The work is that of `first_cell` and of `is_lacking`.
+/// Lets a frame that waits for nothing, and for which nothing was found, wait for a cell that any evaluation of its formula asks
+/// for, so that it isn't evaluated in vain. Takes no memory. The work is that of `first_cell` and of `is_lacking`.
 pub fn look_ahead(alloc: Global, store: &Store, frame: &mut Frame)
     ensures key { frame.new.key ≡ frame.old.key }
     ensures found { frame.new.found ≡ frame.old.found }
     ensures frame { (m : MemoState) → IsFrame store.now.sheet m frame.old → IsFrame store.now.sheet m frame.new }
     ensures spare { spare store.now.sheet frame.new ≤ spare store.now.sheet frame.old }
 {
-    if !matches!(frame.waiting, Waiting::Nothing) {
+    if !is_new(frame) {
         return;
     }
     if let Some(at) = cell_ahead(store, frame) {
         frame.waiting = Waiting::Cells(at, Vec::new(alloc));
+    }
+}
+
+/// Whether a frame waits for nothing, and nothing was found for it.
+fn is_new(frame: &Frame) -> bool
+    ensures { result ≡ true → frame.now.waiting ≡ waiting.Nothing }
+{
+    match frame.waiting {
+        Waiting::Nothing => frame.found.is_empty(),
+        Waiting::Cells(_, _) => false,
+        Waiting::WhatIf(_, _) => false,
     }
 }
 

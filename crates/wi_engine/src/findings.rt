@@ -63,6 +63,11 @@ impl Findings {
         self.what_ifs.clear();
     }
 
+    /// Whether no value was found.
+    pub fn is_empty(&self) -> bool {
+        self.first.is_empty() && self.what_ifs.is_empty()
+    }
+
     /// The value found of a cell. The work grows with the logarithm of the count of cells found.
     pub fn cell(&self, at: Address) -> Option<&Value>
         ensures { option_copied result ≡ found_value self.now at }
