@@ -1,22 +1,21 @@
 -- A value is kept in one question, and for longer.
-use Rattle.std.proofs.Common.{◌≡◌, ◌==◌, ◌<◌, ◌≤◌, ◌-◌, ◌+◌, ◌⊎◌, inl, inr, ◌||◌, ◌&&◌, ℕ, Bool, true, false, cond, if◌then◌else◌, min, List, length, Option, Some, None, IfSome, IsSome, is_some, Result, Ok, Err, OnOk, OnErr, refl, ap, sym, ◌∙◌, subst, arith}
+use Rattle.std.proofs.Common.{◌≡◌, ◌==◌, ◌<◌, ◌≤◌, ◌-◌, ◌+◌, inl, inr, ◌||◌, ◌&&◌, ℕ, Bool, true, false, cond, if◌then◌else◌, min, List, length, Option, Some, None, IsSome, is_some, Result, Ok, Err, OnOk, OnErr, refl, ap, sym, ◌∙◌, subst, arith}
 use Rattle.std.proofs.lemmas.Bool.{or_left}
 use Rattle.std.proofs.lemmas.Bool.Decides.{nat_tests}
-use Rattle.std.specs.Option.{option_or}
+use Rattle.std.specs.Map.{update}
 use Rattle.std.specs.declared.alloc.AllocError.{AllocError}
 use Rattle.wi_values.specs.declared.value.Value.{Value}
 use Rattle.wi_values.specs.declared.replacement.Replacement.{Replacement}
 use Rattle.wi_values.specs.Replacements.{same_replacements}
 use Rattle.wi_cache.specs.declared.key.Key.{Key}
-use Rattle.wi_cache.specs.Entries.{Entries, KeptValues, HasRoom, Puts, PutsForOne, same_key, value_for, len_after}
-use Rattle.wi_cache.proofs.Keys.{same_key_Decides}
+use Rattle.wi_cache.specs.Entries.{Entries, KeptValues, HasRoom, Puts, PutsForGoing, PutsForOne, same_key, value_for, len_after}
 use Rattle.wi_parser.specs.Sheet.{Sheet}
 use Rattle.wi_sheet.specs.Demand.{same_case}
 use Rattle.wi_engine.specs.Inner.Saving.{GivesUpWhenFull}
 use Rattle.wi_propagate.specs.Right.{IsKeptFor, AreRight}
 use Rattle.wi_propagate.specs.KeptSheet.{Generations, generation_in, key_in}
 use Rattle.wi_propagate.specs.Inner.Keeping.{keeping, state_in}
-use Rattle.wi_propagate.proofs.KeptSteps.{no_other, kept_over_keep}
+use Rattle.wi_propagate.proofs.KeptSteps.{kept_over_keep}
 
 -- what an accepted `keep` of kept values ensures, and what a refused one does
 pub record KeepsIn (r : Result (Unit {0}) AllocError) (m n : KeptValues) (k : Key) (v : Value) : Type 0 where
@@ -24,6 +23,7 @@ pub record KeepsIn (r : Result (Unit {0}) AllocError) (m n : KeptValues) (k : Ke
   pub stays : OnOk r (HasRoom m k → Puts m.entries n.entries k v)
   pub goes : OnOk r (value_for m.entries k ≡ None → m.capacity ≤ length m.entries → PutsForOne m.entries n.entries k v)
   pub len : OnOk r (length n.entries ≡ len_after m k)
+  pub going : OnOk r (PutsForGoing m n k v)
   pub capacity : n.capacity ≡ m.capacity
   pub err : OnErr r (n ≡ m)
 
@@ -52,18 +52,18 @@ is_some_cond false v None = refl
 is_some_cond false v (Some x) = refl
 
 -- a key that is put in is there from then on, as its case
-pub put_is_some : (g : Generations) (es fs : Entries) (k : Key) (v : Value) → k.generation ≡ generation_in g k.cell → Puts es fs k v → (c : ℕ) (w : List Replacement) →
-    is_some (value_for fs (key_in g c w)) ≡ (is_some (value_for es (key_in g c w)) || same_case (k.cell, k.world) (c, w))
-put_is_some g es fs k v e p c w =
-    ap (λ (o : Option Value). is_some o) (p (key_in g c w)) ∙ is_some_cond (same_key k (key_in g c w)) v (value_for es (key_in g c w))
-    ∙ ap (λ (b : Bool). is_some (value_for es (key_in g c w)) || b) (same_here g k c w e)
+pub put_is_some : (g : Generations) (old new : Key → Option Value) (k : Key) (v : Value) → k.generation ≡ generation_in g k.cell → ((q : Key) → new q ≡ update same_key old k (Some v) q) → (c : ℕ) (w : List Replacement) →
+    is_some (new (key_in g c w)) ≡ (is_some (old (key_in g c w)) || same_case (k.cell, k.world) (c, w))
+put_is_some g old new k v e p c w =
+    ap (λ (o : Option Value). is_some o) (p (key_in g c w)) ∙ is_some_cond (same_key k (key_in g c w)) v (old (key_in g c w))
+    ∙ ap (λ (b : Bool). is_some (old (key_in g c w)) || b) (same_here g k c w e)
 
 has_room : (m : KeptValues) (k : Key) → 1 ≤ m.capacity - length m.entries → HasRoom m k
 has_room m k h = inr (omega arith)
 
 pub kept_after : (r : Result (Unit {0}) AllocError) (g : Generations) (m n : KeptValues) (k : Key) (v : Value) → KeepsIn r m n k v → k.generation ≡ generation_in g k.cell →
     OnOk r (1 ≤ m.capacity - length m.entries → (c : ℕ) (w : List Replacement) → is_some (value_for n.entries (key_in g c w)) ≡ (is_some (value_for m.entries (key_in g c w)) || same_case (k.cell, k.world) (c, w)))
-kept_after (Ok x) g m n k v h e = λ l. put_is_some g m.entries n.entries k v e (h.stays (has_room m k l))
+kept_after (Ok x) g m n k v h e = λ l. put_is_some g (value_for m.entries) (value_for n.entries) k v e (h.stays (has_room m k l))
 kept_after (Err x) g m n k v h e = tt
 
 -- the key that is put in is there
@@ -110,46 +110,6 @@ gives_up_after (Ok x) s edits g es fs m n k v h = by_old (value_for m.entries k)
           stays = λ l q i. let few : length m.entries < m.capacity = omega (arith, len, cap, l) in stays_put m.entries n.entries k q v (h.stays (inr few)) i;
         }
 
--- what is known then was known before, or is the value that came
-pub known_after : (r : Result (Unit {0}) AllocError) (g : Generations) (es fs : Entries) (m n : KeptValues) (k : Key) (v : Value) → Puts es fs k v → KeepsIn r m n k v → (c : ℕ) (w : List Replacement) →
-    IfSome (option_or (value_for fs (key_in g c w)) (value_for n.entries (key_in g c w))) (λ x. (option_or (value_for es (key_in g c w)) (value_for m.entries (key_in g c w)) ≡ Some x) ⊎ ((c ≡ k.cell) × (w ≡ k.world) × (x ≡ v)))
-known_after r g es fs m n k v p h c w = first (same_key k (key_in g c w)) refl (p (key_in g c w))
-  where
-    q : Key
-    q = key_in g c w
-
-    Known : Value → Type 0
-    Known x = (option_or (value_for es q) (value_for m.entries q) ≡ Some x) ⊎ ((c ≡ k.cell) × (w ≡ k.world) × (x ≡ v))
-
-    is_here : (x : Value) → k ≡ q → x ≡ v → Known x
-    is_here x e i = inr (ap (λ (y : Key). y.cell) (sym e), ap (λ (y : Key). y.world) (sym e), i)
-
-    others : (y : Result (Unit {0}) AllocError) → KeepsIn y m n k v → IfSome (value_for n.entries q) (λ u. (value_for m.entries q ≡ Some u) ⊎ ((q ≡ k) × (u ≡ v)))
-    others (Ok z) i = no_other m n k v i.stays i.goes q
-    others (Err z) i = rw i.err (itself (value_for m.entries q) refl)
-      where
-        itself : (o : Option Value) → value_for m.entries q ≡ o → IfSome o (λ u. (value_for m.entries q ≡ Some u) ⊎ ((q ≡ k) × (u ≡ v)))
-        itself None e = tt
-        itself (Some u) e = inl e
-
-    second : (o : Option Value) → value_for es q ≡ None → IfSome o (λ u. (value_for m.entries q ≡ Some u) ⊎ ((q ≡ k) × (u ≡ v))) → IfSome o Known
-    second None e i = tt
-    second (Some u) e (inl i) = inl (ap (λ (x : Option Value). option_or x (value_for m.entries q)) e ∙ i)
-    second (Some u) e (inr i) = is_here u (sym i.0) i.1
-
-    old : (o : Option Value) → value_for es q ≡ o → IfSome (option_or o (value_for n.entries q)) Known
-    old None e = second (value_for n.entries q) e (others r h)
-    old (Some u) e = inl (ap (λ (x : Option Value). option_or x (value_for m.entries q)) e)
-
-    first : (b : Bool) → same_key k q ≡ b → value_for fs q ≡ cond b (Some v) (value_for es q) → IfSome (option_or (value_for fs q) (value_for n.entries q)) Known
-    first true e i = subst (λ (o : Option Value). IfSome (option_or o (value_for n.entries q)) Known) (sym i) (is_here v ((same_key_Decides k q).0 e) refl)
-    first false e i = subst (λ (o : Option Value). IfSome (option_or o (value_for n.entries q)) Known) (sym i) (old (value_for es q) refl)
-
 -- copies are put in
 pub put_found : (es fs : Entries) (j k : Key) (u v : Value) → j ≡ k → u ≡ v → Puts es fs j u → Puts es fs k v
 put_found es fs j k u v e h p = subst (λ (x : Key). Puts es fs x v) e (subst (λ (y : Value). Puts es fs j y) h p)
-
-pub found_after : (r : Result (Unit {0}) AllocError) (g : Generations) (es fs : Entries) (k : Key) (v : Value) → k.generation ≡ generation_in g k.cell → Puts es fs k v →
-    OnOk r ((c : ℕ) (w : List Replacement) → is_some (value_for fs (key_in g c w)) ≡ (is_some (value_for es (key_in g c w)) || same_case (k.cell, k.world) (c, w)))
-found_after (Ok x) g es fs k v e p = put_is_some g es fs k v e p
-found_after (Err x) g es fs k v e p = tt

@@ -1,6 +1,7 @@
 -- Values that are kept stay right: over an edit, where one is kept, and where one goes.
-use Rattle.std.proofs.Common.{◌≡◌, ◌≤◌, ◌<◌, ◌+◌, ◌⊎◌, inl, inr, ℕ, Bool, true, false, List, [], length, Option, Some, None, IfSome, refl, sym, ◌∙◌, subst, arith}
+use Rattle.std.proofs.Common.{◌≡◌, ◌≤◌, ◌<◌, ◌+◌, ◌||◌, ℕ, Bool, true, false, List, [], length, Option, Some, None, IfSome, is_some, refl, sym, ◌∙◌, subst, arith}
 use Rattle.std.proofs.lemmas.Bool.{true≢false}
+use Rattle.std.specs.Option.{option_or}
 use Rattle.wi_values.specs.declared.value.Value.{Value}
 use Rattle.wi_values.specs.declared.replacement.Replacement.{Replacement}
 use Rattle.wi_parser.specs.Sheet.{Sheet, put_all}
@@ -11,10 +12,9 @@ use Rattle.wi_graph.specs.Circular.{circular}
 use Rattle.wi_sheet.specs.CellValue.{cell_value}
 use Rattle.wi_graph.specs.Reach.{IsInCone, SameOff, in_cone}
 use Rattle.wi_propagate.specs.Right.{IsRight, IsKeptFor, AreRight}
-use Rattle.wi_propagate.specs.Inner.Keeping.{HasNoOther}
-use Rattle.wi_engine.specs.Inner.MemoState.{IsMemoOf}
+use Rattle.wi_engine.specs.Inner.MemoState.{IsMemoOf, IsTold}
 use Rattle.wi_propagate.specs.KeptSheet.{Generations, generation_in, key_in}
-use Rattle.wi_propagate.specs.Inner.Keeping.{keeping, state_in, IsKeepingRight}
+use Rattle.wi_propagate.specs.Inner.Keeping.{Keeping, keeping, state_in, IsKeepingRight}
 use Rattle.wi_sheet.proofs.Overrides.{same_for_reached}
 use Rattle.wi_graph.proofs.Cones.{outside_circular, outside_reaches}
 use Rattle.wi_sheet.proofs.Cones.{outside_value}
@@ -56,14 +56,6 @@ kept_over_edit s t xs edits old new es same raised h k = at (value_for es k) (h 
 
 -- ---- a value is kept, and others may go
 
-pub no_other : (m n : KeptValues) (k : Key) (v : Value) → (HasRoom m k → Puts m.entries n.entries k v) → (value_for m.entries k ≡ None → m.capacity ≤ length m.entries → PutsForOne m.entries n.entries k v) → HasNoOther m.entries n.entries k v
-no_other m n k v stays goes =
-    holds_after_keep (λ q u. (value_for m.entries q ≡ Some u) ⊎ ((q ≡ k) × (u ≡ v))) k v (inr (refl, refl)) m n stays goes (λ q. itself q (value_for m.entries q) refl)
-  where
-    itself : (q : Key) (o : Option Value) → value_for m.entries q ≡ o → IfSome o (λ u. (value_for m.entries q ≡ Some u) ⊎ ((q ≡ k) × (u ≡ v)))
-    itself q None e = tt
-    itself q (Some u) e = inl e
-
 pub kept_over_keep : (s : Sheet) (edits : ℕ) (generation : ℕ → ℕ) (m n : KeptValues) (k : Key) (v : Value) → (HasRoom m k → Puts m.entries n.entries k v) → (value_for m.entries k ≡ None → m.capacity ≤ length m.entries → PutsForOne m.entries n.entries k v) →
     IsKeptFor s edits generation k v → AreRight s edits generation m.entries → AreRight s edits generation n.entries
 kept_over_keep s edits generation m n k v stays goes i h = holds_after_keep (IsKeptFor s edits generation) k v i m n stays goes h
@@ -78,6 +70,19 @@ found_is_kept s edits generation k v past o g e = record {
 
 -- ---- a question begins
 
+-- where nothing is given up yet, what is at hand is what is kept
+pub or_none : (o : Option Value) → option_or o None ≡ o
+or_none None = refl
+or_none (Some v) = refl
+
+pub told_in : (q : Keeping) → IsTold (state_in q)
+told_in q c w = at (value_for q.values.entries (key_in q.generations c w)) (value_for q.given_up (key_in q.generations c w))
+  where
+    at : (o p : Option Value) → is_some (option_or o p) ≡ (is_some (option_or o p) || is_some o)
+    at None None = refl
+    at None (Some v) = refl
+    at (Some v) p = refl
+
 known_right : (s : Sheet) (n : ℕ) (g : ℕ → ℕ) (c : ℕ) (w : List Replacement) (o : Option Value) → IfSome o (IsKeptFor s n g (record { cell = c; generation = g c; world = w })) → IfSome o (λ v. v ≡ cell_value (put_all s w) c)
 known_right s n g c w None h = tt
 known_right s n g c w (Some v) h = found_right s c w v (h.right refl)
@@ -85,7 +90,7 @@ known_right s n g c w (Some v) h = found_right s c w v (h.right refl)
 pub begun_is_memo : (s : Sheet) (n : ℕ) (gs : Generations) (es : Entries) (k : KeptValues) → es ≡ [] → IsKeepingRight (keeping s n gs [] k) → IsMemoOf s (state_in (keeping s n gs es k))
 begun_is_memo s n gs es k e h = subst (λ (x : Entries). IsMemoOf s (state_in (keeping s n gs x k))) (sym e) (record {
   sheet = refl;
-  right = λ c w. known_right s n (generation_in gs) c w (value_for k.entries (key_in gs c w)) (h.right (key_in gs c w));
+  right = λ c w. subst (λ (o : Option Value). IfSome o (λ v. v ≡ cell_value (put_all s w) c)) (sym (or_none (value_for k.entries (key_in gs c w)))) (known_right s n (generation_in gs) c w (value_for k.entries (key_in gs c w)) (h.right (key_in gs c w)));
   closed = λ c d i r f. refl;
-  told = λ c w. refl;
+  told = told_in (keeping s n gs [] k);
 })

@@ -9,6 +9,7 @@ pub mod KeptCones
 pub mod GenerationSteps
 pub mod KeptSteps
 pub mod KeepingSteps
+pub mod GivenUp
 pub mod PlacesTaken
 pub mod Editing
 pub mod Questions

@@ -2,7 +2,7 @@
 use Rattle.std.proofs.Common.{◌≡◌, ◌≤◌, ◌<◌, ◌+◌, ◌-◌, ◌^◌, ◌||◌, inl, inr, length, sum_by, Contains, All, get_or, filter, not, is_some, ℕ, Bool, true, false, cond, List, [], ◌∷◌, Option, Some, refl, ap, sym, ◌∙◌, subst, arith}
 use Rattle.std.specs.List.{list_any}
 use Rattle.std.specs.Map.{keys_of}
-use Rattle.std.proofs.lemmas.Bool.{cases_lt}
+use Rattle.std.proofs.lemmas.Bool.{cases_lt, true≢false}
 use Rattle.std.proofs.lemmas.List.Folds.{list_any_none}
 use Rattle.std.proofs.lemmas.List.Sums.{sum_by-cons}
 use Rattle.wi_values.specs.declared.value.Value.{Value}
@@ -24,7 +24,7 @@ use Rattle.wi_sheet.specs.TableEntry.{table_entry, entry_demanded}
 use Rattle.wi_sheet.specs.Settled.{IsWhatIfSettled}
 use Rattle.wi_sheet.specs.Inner.Spending.{CountsAtMost, HasCase, HasEntry, IsClosed, left}
 use Rattle.wi_sheet.proofs.Cases.{different_has_itself}
-use Rattle.wi_sheet.proofs.Counting.{left_of_nothing, sum_of_ones}
+use Rattle.wi_sheet.proofs.Counting.{left_falls, left_of_nothing, sum_of_ones}
 use Rattle.wi_sheet.proofs.Members.{contains_in}
 use Rattle.wi_sheet.proofs.SmallerWorlds.{content_below}
 use Rattle.wi_sheet.proofs.Overrides.{with_what_if_value}
@@ -37,6 +37,7 @@ use Rattle.wi_engine.proofs.Saved.{what_if_more, rests_more, none_went}
 use Rattle.wi_propagate.specs.KeptSheet.{Generations, generation_in, KeptSheet, key_in, stands, is_kept, unkept, gone, IsAtHand, HasRoomFor, KeepsAll, KeepsNoMore, KeepsOld, KeepsWhileRoom}
 use Rattle.wi_propagate.specs.Right.{AreRight, AreKeptRight}
 use Rattle.wi_propagate.specs.Inner.Keeping.{kept_sheet, values_in, Keeping, keeping, begun, state_in, IsKeepingRight}
+use Rattle.wi_propagate.proofs.KeptSteps.{or_none}
 use Rattle.wi_propagate.proofs.PlacesTaken.{all_stand}
 use Rattle.wi_propagate.proofs.ShowingEntries.{pair_in}
 
@@ -72,11 +73,22 @@ left_is_unkept weight f (k ∷ ks) = at (f k.0 k.1) (left_is_unkept weight f ks)
     at true h = omega (arith, h)
     at false h = let more = sum_by-cons weight k rest in omega (arith, h, more)
 
+-- the cases that are not found weigh no more than all
+left_at_most : (weight : Case → ℕ) (found : ℕ → List Replacement → Bool) (ks : List Case) → left weight found ks ≤ sum_by weight ks
+left_at_most weight found ks =
+    let fewer = left_falls weight (λ c w. false) found ks (λ c w h. absurd (true≢false (sym h))) in
+    let all = left_of_nothing weight ks in
+    omega (arith, fewer, all)
+
 -- ---- a question, for each closed list of cases that has what it is to have
 
 module _ (k : KeptSheet) (q : Keeping) (e : q ≡ begun k) where
-  nothing_found : KeepsFound (state_in q)
-  nothing_found = subst (λ (x : Keeping). KeepsFound (state_in x)) (sym e) (λ c p h. let z = h in cc)
+  -- at its beginning what is found is what is kept
+  begun_found : (c : ℕ) (w : List Replacement) → (state_in q).found c w ≡ is_kept k c w
+  begun_found c w = ap (λ (x : Keeping). (state_in x).found c w) e ∙ ap (λ (o : Option Value). is_some o) (or_none (value_for k.values.entries (key_in k.generations c w)))
+
+  keeps_found : KeepsFound (state_in q)
+  keeps_found c w h = ap (λ (x : Keeping). (state_in x).kept c w) e ∙ sym (begun_found c w) ∙ h
 
   unkept_left : (weight : Case → ℕ) (ks : List Case) → left weight (state_in q).kept ks ≡ sum_by weight (unkept k ks)
   unkept_left weight ks = ap (λ (x : Keeping). left weight (state_in x).kept ks) e ∙ left_is_unkept weight (is_kept k) ks
@@ -97,9 +109,8 @@ module _ (k : KeptSheet) (q : Keeping) (e : q ≡ begun k) where
   module _ (Has : List Case → Type 0) (cases : List Case) (closed : IsClosed k.stored.sheet cases) (has : Has cases) where
     pub asked_at_most : (weight : Case → ℕ) (n m : ℕ) → CountsAtMost k.stored.sheet Has weight (state_in q).found n m → m ≤ n + sum_by weight cases
     asked_at_most weight n m h =
-        let here : CountsAtMost k.stored.sheet Has weight (λ c p. false) n m = subst (λ (x : Keeping). CountsAtMost k.stored.sheet Has weight (state_in x).found n m) e h in
-        let counted = here cases closed has in
-        let all = left_of_nothing weight cases in
+        let counted = h cases closed has in
+        let all = left_at_most weight (state_in q).found cases in
         omega (arith, counted, all)
 
     pub asked_evaluations : (n m : ℕ) → CountsAtMost k.stored.sheet Has (λ c. 1) (state_in q).found n m → m ≤ n + length cases
@@ -110,7 +121,7 @@ module _ (k : KeptSheet) (q : Keeping) (e : q ≡ begun k) where
 
     pub asked_unkept : (weight : Case → ℕ) (n m : ℕ) → CountsUnkept k.stored.sheet Has weight (state_in q) n m → HasRoomFor k cases → m ≤ n + sum_by weight (unkept k cases)
     asked_unkept weight n m h room =
-        let counted = h cases closed has nothing_found (room_left cases room) in
+        let counted = h cases closed has keeps_found (room_left cases room) in
         let z = unkept_left weight cases in
         omega (arith, counted, z)
 
@@ -121,10 +132,10 @@ module _ (k : KeptSheet) (q : Keeping) (e : q ≡ begun k) where
         omega (arith, counted, all)
 
     pub asked_where : (P : Type 0) → WhereRoom k.stored.sheet Has (state_in q) (λ _. P) → HasRoomFor k cases → P
-    asked_where P h room = h cases closed has nothing_found (room_left cases room)
+    asked_where P h room = h cases closed has keeps_found (room_left cases room)
 
     pub asked_saves : (x : MemoState) (n m : Counts) → SavesAll k.stored.sheet Has (state_in q) x n m → HasRoomFor k cases → Saves k.stored.sheet (state_in q) x cases n m
-    asked_saves x n m h room = h cases closed has nothing_found (room_left cases room)
+    asked_saves x n m h room = h cases closed has keeps_found (room_left cases room)
 
 -- ---- what is kept when it ends
 
@@ -250,7 +261,11 @@ module _ (k : KeptSheet) (q : Keeping) (w put : List Replacement) (a : ℕ) (e :
   pub at_hand_is : IsAtHand k put a → NeedsNoEvaluation k.stored.sheet (state_in q) w a
   at_hand_is (inl h) = let z = o in cc
   at_hand_is (inr (inl h)) = inl (ap (λ (p : List Replacement). has_formula (content_of (put_all k.stored.sheet p) a)) same ∙ h)
-  at_hand_is (inr (inr h)) = inr (subst (λ (x : Keeping). is_some ((state_in x).known a (reaching k.stored.sheet a w)) ≡ true) (sym e) (ap (λ (p : List Replacement). is_kept k a (reaching k.stored.sheet a p)) same ∙ h))
+  at_hand_is (inr (inr h)) = inr (begun_found k q e a (reaching k.stored.sheet a w) ∙ ap (λ (p : List Replacement). is_kept k a (reaching k.stored.sheet a p)) same ∙ h)
+
+  unkept_of : (b : Bool) → is_kept k a (reaching k.stored.sheet a put) ≡ b → (IsAtHand k put a → ⊥) → is_kept k a (reaching k.stored.sheet a put) ≡ false
+  unkept_of true i h = absurd (h (inr (inr i)))
+  unkept_of false i h = i
 
   formula_of : (b : Bool) → has_formula (content_of (put_all k.stored.sheet put) a) ≡ b → (IsAtHand k put a → ⊥) → has_formula (content_of (put_all k.stored.sheet put) a) ≡ true
   formula_of true i h = i
@@ -264,7 +279,9 @@ module _ (k : KeptSheet) (q : Keeping) (w put : List Replacement) (a : ℕ) (e :
       let f = formula_of (has_formula (content_of (put_all k.stored.sheet put) a)) refl hard in
       let anew : IsValuedAnew k.stored.sheet (state_in q) w a = record {
         formula = ap (λ (p : List Replacement). has_formula (content_of (put_all k.stored.sheet p) a)) same ∙ f;
-        unfound = ap (λ (x : Keeping). (state_in x).found a (reaching k.stored.sheet a w)) e;
+        unfound =
+            begun_found k q e a (reaching k.stored.sheet a w) ∙ ap (λ (p : List Replacement). is_kept k a (reaching k.stored.sheet a p)) same
+            ∙ unkept_of (is_kept k a (reaching k.stored.sheet a put)) refl hard;
       } in
       let room : 1 ≤ (state_in q).capacity = let x = ap (λ (y : Keeping). (state_in y).capacity) e in omega (arith, x, one) in
       kept_after_is k q last values counts e gens caps there a (reaching k.stored.sheet a put) ∙ ap (λ (p : List Replacement). (state_in last).kept a (reaching k.stored.sheet a p)) (sym same) ∙ h anew room

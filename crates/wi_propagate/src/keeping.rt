@@ -2,10 +2,10 @@
 
 ghost use Rattle.std.specs.Prelude.{◌≡◌, ◌≤◌, [], None, length, IfOk, OnOk, OnErr};
 ghost use Rattle.wi_graph.specs.Edges.{AreEdgesOf};
-ghost use Rattle.wi_cache.specs.Entries.{HasOneEach, Puts};
+ghost use Rattle.wi_cache.specs.Entries.{HasOneEach, Puts, going};
 ghost use Rattle.wi_engine.specs.Inner.MemoState.{IsMemoOf};
 ghost use Rattle.wi_propagate.specs.Inner.Cones.{AreAllCones};
-ghost use Rattle.wi_propagate.specs.Inner.Keeping.{keeping, state_in, IsKeepingRight};
+ghost use Rattle.wi_propagate.specs.Inner.Keeping.{keeping, state_in, IsKeepingRight, TakesOver};
 
 use crate::cones::{Cones, add_cones};
 use crate::generations::{Generations, generation_of};
@@ -18,7 +18,8 @@ use wi_store::Store;
 use wi_values::{Address, Value};
 use wi_worlds::World;
 
-/// What is remembered in one question: the values found in it, none of which goes, and those kept for longer.
+/// What is remembered in one question: the values that are kept for longer, and a copy of each that was given up in it, so that
+/// none is lost before it ends.
 #[derive(Drop)]
 pub struct Keeping<'a> {
     alloc: Global,
@@ -29,7 +30,8 @@ pub struct Keeping<'a> {
     cones: Cones,
     // The replacements of the last key that had some of them, and not all.
     last: World,
-    table: RunTable,
+    // Copies of the values that were given up in this question.
+    given_up: RunTable,
     kept: Kept,
 }
 
@@ -50,16 +52,16 @@ impl<'a> Model for Keeping<'a> {
     ghost use Rattle.wi_propagate.specs.Inner.Cones.{AreAllCones};
     ghost use Rattle.wi_propagate.specs.Inner.Keeping.{keeping, IsKeepingRight};
 
-    ghost view = { λ m. keeping m.store.now.sheet m.store.now.edits m.generations.now.entries m.table m.kept };
+    ghost view = { λ m. keeping m.store.now.sheet m.store.now.edits m.generations.now.entries m.given_up m.kept };
 
     ghost invariant = { λ m. AreEdgesOf m.graph.now.now m.store.now.sheet
         × (m.graph.now.staged ≡ None)
         × AreAllCones m.store.now.sheet m.cones
-        × IsKeepingRight (keeping m.store.now.sheet m.store.now.edits m.generations.now.entries m.table m.kept) };
+        × IsKeepingRight (keeping m.store.now.sheet m.store.now.edits m.generations.now.entries m.given_up m.kept) };
 }
 
 impl<'a> Keeping<'a> {
-    /// Nothing found yet, over the cones that are known and what is kept. Takes no memory.
+    /// What is kept, with nothing given up yet, and the cones that are known. Takes no memory.
     pub fn new(
         alloc: Global,
         store: &'a Store,
@@ -85,7 +87,7 @@ impl<'a> Keeping<'a> {
             generations,
             cones,
             last: World::new(alloc),
-            table: RunTable::new(alloc),
+            given_up: RunTable::new(alloc),
             kept,
         }
     }
@@ -120,19 +122,39 @@ impl<'a> Memo for Keeping<'a> {
     }
 
     fn look(&self, key: &Key) -> Option<&Value> {
-        match self.table.look(key) {
+        match self.kept.look(key) {
             Some(value) => Some(value),
-            None => self.kept.look(key),
+            None => self.given_up.look(key),
         }
     }
 
+    /// Keeps a value for longer. Where another goes for it, a copy of that one is made first, so that none is lost if memory runs
+    /// out.
     fn keep(&mut self, key: Key, value: Value) -> Result<(), AllocError> {
-        keep_copy(self.alloc, &mut self.table, &key, &value)?;
+        let _ = self.kept.len();
+        save_going(self.alloc, &self.kept, &key, &mut self.given_up)?;
         self.kept.keep(key, value)
     }
 }
 
-// Keeps a copy of a value in the table of a question, for a copy of its key. If memory runs out, the table stays as it was.
+// Puts a copy of the value that goes for a new one of a key, if one does, among those given up. If memory runs out, these stay as
+// they were.
+fn save_going(
+    alloc: Global,
+    kept: &Kept,
+    key: &Key,
+    given_up: &mut RunTable,
+) -> Result<(), AllocError>
+    ensures ok { OnOk result (TakesOver (going kept.now key.now) given_up.old given_up.new) }
+    ensures err { OnErr result (given_up.new ≡ given_up.old) }
+{
+    match kept.going(key) {
+        Some((gone, value)) => keep_copy(alloc, given_up, gone, value),
+        None => Ok(()),
+    }
+}
+
+// Keeps a copy of a value in a table, for a copy of its key. If memory runs out, the table stays as it was.
 fn keep_copy(
     alloc: Global,
     table: &mut RunTable,

@@ -1,5 +1,5 @@
 -- What is kept and found in one question.
-use Rattle.std.specs.Prelude.{◌≡◌, ◌≤◌, ◌-◌, ◌⊎◌, ℕ, true, [], length, Option, Some, IfSome, IsSome, is_some}
+use Rattle.std.specs.Prelude.{◌≡◌, ◌≤◌, ◌-◌, ℕ, true, [], length, Option, None, Some, IsSome, is_some}
 use Rattle.std.specs.Option.{unwrap_or, option_or}
 use Rattle.std.specs.Ordering.{nat_cmp}
 use Rattle.std.specs.Map.{lookup}
@@ -9,7 +9,7 @@ use Rattle.wi_parser.specs.Sheet.{Sheet}
 use Rattle.wi_functions.specs.Counts.{Counts}
 use Rattle.wi_store.specs.Store.{Stored}
 use Rattle.wi_cache.specs.declared.key.Key.{Key}
-use Rattle.wi_cache.specs.Entries.{Entries, KeptValues, kept, value_for}
+use Rattle.wi_cache.specs.Entries.{Entries, KeptValues, Puts, kept, value_for}
 use Rattle.wi_engine.specs.Inner.MemoState.{MemoState}
 use Rattle.wi_propagate.specs.KeptSheet.{Generations, KeptSheet, generation_in, key_in}
 use Rattle.wi_propagate.specs.Right.{AreRight}
@@ -26,18 +26,22 @@ values_in o = unwrap_or o (kept [] 1)
 abbrev pub kept_sheet : Stored → Generations → Option KeptValues → Counts → KeptSheet
 kept_sheet s gs o n = record { stored = s; generations = gs; values = values_in o; counts = n }
 
--- a sheet with its count of edits and its generations, the values found in a question, and those kept
+-- a sheet with its count of edits and its generations, the values that were given up in a question, and those kept
 pub record Keeping : Type 0 where
   pub sheet : Sheet
   pub edits : ℕ
   pub generations : Generations
-  pub found : Entries
+  pub given_up : Entries
   pub values : KeptValues
 
 abbrev pub keeping : Sheet → ℕ → Generations → Entries → KeptValues → Keeping
-keeping s n gs es k = record { sheet = s; edits = n; generations = gs; found = es; values = k }
+keeping s n gs es k = record { sheet = s; edits = n; generations = gs; given_up = es; values = k }
 
--- a question has begun, and nothing is found yet
+-- the value under a key that is kept, or was given up in the question
+abbrev pub value_in : Keeping → Key → Option Value
+value_in q k = option_or (value_for q.values.entries k) (value_for q.given_up k)
+
+-- a question has begun, and nothing is given up yet
 abbrev pub begun : KeptSheet → Keeping
 begun k = keeping k.stored.sheet k.stored.edits k.generations [] k.values
 
@@ -46,8 +50,8 @@ state_in q = record {
   sheet = q.sheet;
   covers = λ c. true;
   generation = generation_in q.generations;
-  known = λ c w. option_or (value_for q.found (key_in q.generations c w)) (value_for q.values.entries (key_in q.generations c w));
-  found = λ c w. is_some (value_for q.found (key_in q.generations c w));
+  known = λ c w. value_in q (key_in q.generations c w);
+  found = λ c w. is_some (value_in q (key_in q.generations c w));
   kept = λ c w. is_some (value_for q.values.entries (key_in q.generations c w));
   stands = λ k. is_some (value_for q.values.entries k);
   room = q.values.capacity - length q.values.entries;
@@ -60,6 +64,7 @@ pub record IsKeepingRight (q : Keeping) : Type 0 where
   pub past : (c : ℕ) → generation_in q.generations c ≤ q.edits
   pub right : AreRight q.sheet q.edits (generation_in q.generations) q.values.entries
 
--- what is kept then was kept before, or is v for the key k; any may have gone
-abbrev pub HasNoOther : Entries → Entries → Key → Value → Type 0
-HasNoOther old new k v = (q : Key) → IfSome (value_for new q) (λ u. (value_for old q ≡ Some u) ⊎ ((q ≡ k) × (u ≡ v)))
+-- a copy of the entry that goes, if one does, is put among those that were given up
+abbrev pub TakesOver : Option (Key × Value) → Entries → Entries → Type 0
+TakesOver None old new = new ≡ old
+TakesOver (Some e) old new = Puts old new e.0 e.1

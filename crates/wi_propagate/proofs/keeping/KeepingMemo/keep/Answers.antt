@@ -1,18 +1,20 @@
-use Rattle.std.proofs.Common.{◌≡◌, ◌≤◌, ◌-◌, ◌+◌, ◌⊎◌, ◌||◌, ◌∙◌, ℕ, false, List, length, Some, IfSome, OnOk, is_some, ap, sym, subst}
+use Rattle.std.proofs.Common.{◌≡◌, ◌≤◌, ◌-◌, ◌+◌, ◌⊎◌, ◌||◌, ◌∙◌, ℕ, false, true, List, length, Option, Some, IfSome, OnOk, is_some, ap, sym, subst}
 use Rattle.std.proofs.lemmas.Result.{IfOk-weaker}
 use Rattle.std.specs.Option.{option_or}
 use Rattle.wi_values.specs.declared.replacement.Replacement.{Replacement}
 use Rattle.wi_parser.specs.Sheet.{put_all}
-use Rattle.wi_cache.specs.Entries.{Puts, value_for}
+use Rattle.wi_values.specs.declared.value.Value.{Value}
+use Rattle.wi_cache.specs.Entries.{going, value_for}
 use Rattle.wi_graph.specs.Circular.{circular}
 use Rattle.wi_sheet.specs.CellValue.{cell_value}
 use Rattle.wi_sheet.specs.Demand.{same_case}
 use Rattle.wi_propagate.specs.Right.{IsKeptFor}
 use Rattle.wi_engine.specs.Inner.Saving.{TakesPlaces, GivesUpWhenFull}
-use Rattle.wi_propagate.specs.Inner.Keeping.{Keeping, keeping, state_in}
+use Rattle.wi_propagate.specs.Inner.Keeping.{Keeping, TakesOver, keeping, state_in, value_in}
 use Rattle.wi_propagate.specs.KeptSheet.{generation_in, key_in}
 use Rattle.wi_propagate.proofs.KeptSteps.{found_is_kept}
-use Rattle.wi_propagate.proofs.KeepingSteps.{KeepsIn, right_after, found_after, kept_after, there_after, room_after, known_after, gives_up_after}
+use Rattle.wi_propagate.proofs.KeepingSteps.{KeepsIn, right_after, kept_after, there_after, room_after, gives_up_after}
+use Rattle.wi_propagate.proofs.GivenUp.{known_after, stays_after, found_after}
 use Rattle.wi_propagate.proofs.PlacesTaken.{one_place_after}
 use Rattle.wi_propagate.proofs.keeping.KeepingMemo.keep.Goals as goal
 
@@ -29,7 +31,7 @@ invariant_of-self-2 c =
     let i = c.self.inside in
     let h = c.self.invariant in
     let e = c.keep.ensures in
-    let keeps : KeepsIn c.keep.result i.kept c.keep.new.self c.args.key c.args.value = record { found = e.found; stays = e.stays; goes = e.one_goes; len = e.len; capacity = e.capacity; err = e.err } in
+    let keeps : KeepsIn c.keep.result i.kept c.keep.new.self c.args.key c.args.value = record { found = e.found; stays = e.stays; goes = e.one_goes; going = e.going; len = e.len; capacity = e.capacity; err = e.err } in
     let generation : c.args.key.generation ≡ generation_in i.generations.now.entries c.args.key.cell = c.requires.generation ∙ ap (λ (q : Keeping). generation_in q.generations c.args.key.cell) (sym c.self.view_is) in
     let leaf : circular i.store.now.sheet c.args.key.cell ≡ false = ap (λ (q : Keeping). circular q.sheet c.args.key.cell) c.self.view_is ∙ c.requires.open_cell in
     let right : c.args.value ≡ cell_value (put_all i.store.now.sheet c.args.key.world) c.args.key.cell = c.requires.right ∙ ap (λ (q : Keeping). cell_value (put_all q.sheet c.args.key.world) c.args.key.cell) (sym c.self.view_is) in
@@ -46,26 +48,42 @@ invariant_of-self-2 c =
 pub returns-clause-known : goal.returns-clause-known
 returns-clause-known c =
     let i = c.self.inside in
+    let gs = i.generations.now.entries in
     let e = c.keep.ensures in
-    let keeps : KeepsIn c.keep.result i.kept c.keep.new.self c.args.key c.args.value = record { found = e.found; stays = e.stays; goes = e.one_goes; len = e.len; capacity = e.capacity; err = e.err } in
-    let puts : Puts i.table c.keep_copy.new.table c.args.key c.args.value = c.in_ok-keep_copy.ensures.ok in
-    subst (λ (q : Keeping). (d : ℕ) (w : List Replacement) → IfSome (option_or (value_for c.keep_copy.new.table (key_in i.generations.now.entries d w)) (value_for c.keep.new.self.entries (key_in i.generations.now.entries d w)))
-    (λ x. (option_or (value_for q.found (key_in q.generations d w)) (value_for q.values.entries (key_in q.generations d w)) ≡ Some x) ⊎ ((d ≡ c.args.key.cell) × (w ≡ c.args.key.world) × (x ≡ c.args.value)))) c.self.view_is
-    (known_after c.keep.result i.generations.now.entries i.table c.keep_copy.new.table i.kept c.keep.new.self c.args.key c.args.value puts keeps)
+    let keeps : KeepsIn c.keep.result i.kept c.keep.new.self c.args.key c.args.value = record { found = e.found; stays = e.stays; goes = e.one_goes; going = e.going; len = e.len; capacity = e.capacity; err = e.err } in
+    let takes : TakesOver (going i.kept c.args.key) i.given_up c.save_going.new.given_up = c.in_ok-save_going.ensures.ok in
+    let new : ℕ → List Replacement → Option Value = λ d w. option_or (value_for c.keep.new.self.entries (key_in gs d w)) (value_for c.save_going.new.given_up (key_in gs d w)) in
+    subst (λ (q : Keeping). (d : ℕ) (w : List Replacement) → IfSome (new d w) (λ x. (value_in q (key_in q.generations d w) ≡ Some x) ⊎ ((d ≡ c.args.key.cell) × (w ≡ c.args.key.world) × (x ≡ c.args.value)))) c.self.view_is
+    (known_after i.given_up c.save_going.new.given_up i.kept c.keep.new.self c.args.key c.args.value c.len.ensures.one_each takes gs c.keep.result keeps)
+
+pub returns-clause-stays : goal.returns-clause-stays
+returns-clause-stays c =
+    let i = c.self.inside in
+    let gs = i.generations.now.entries in
+    let e = c.keep.ensures in
+    let keeps : KeepsIn c.keep.result i.kept c.keep.new.self c.args.key c.args.value = record { found = e.found; stays = e.stays; goes = e.one_goes; going = e.going; len = e.len; capacity = e.capacity; err = e.err } in
+    let takes : TakesOver (going i.kept c.args.key) i.given_up c.save_going.new.given_up = c.in_ok-save_going.ensures.ok in
+    let new : ℕ → List Replacement → Option Value = λ d w. option_or (value_for c.keep.new.self.entries (key_in gs d w)) (value_for c.save_going.new.given_up (key_in gs d w)) in
+    subst (λ (q : Keeping). (d : ℕ) (w : List Replacement) → is_some (value_in q (key_in q.generations d w)) ≡ true → is_some (new d w) ≡ true) c.self.view_is
+    (stays_after i.given_up c.save_going.new.given_up i.kept c.keep.new.self c.args.key c.args.value c.len.ensures.one_each takes gs c.keep.result keeps)
 
 pub returns-clause-found : goal.returns-clause-found
 returns-clause-found c =
     let i = c.self.inside in
-    let generation : c.args.key.generation ≡ generation_in i.generations.now.entries c.args.key.cell = c.requires.generation ∙ ap (λ (q : Keeping). generation_in q.generations c.args.key.cell) (sym c.self.view_is) in
-    let puts : Puts i.table c.keep_copy.new.table c.args.key c.args.value = c.in_ok-keep_copy.ensures.ok in
-    subst (λ (q : Keeping). OnOk c.keep.result ((d : ℕ) (w : List Replacement) → is_some (value_for c.keep_copy.new.table (key_in i.generations.now.entries d w)) ≡ (is_some (value_for q.found (key_in q.generations d w)) || same_case (c.args.key.cell, c.args.key.world) (d, w)))) c.self.view_is
-    (found_after c.keep.result i.generations.now.entries i.table c.keep_copy.new.table c.args.key c.args.value generation puts)
+    let gs = i.generations.now.entries in
+    let e = c.keep.ensures in
+    let keeps : KeepsIn c.keep.result i.kept c.keep.new.self c.args.key c.args.value = record { found = e.found; stays = e.stays; goes = e.one_goes; going = e.going; len = e.len; capacity = e.capacity; err = e.err } in
+    let generation : c.args.key.generation ≡ generation_in gs c.args.key.cell = c.requires.generation ∙ ap (λ (q : Keeping). generation_in q.generations c.args.key.cell) (sym c.self.view_is) in
+    let takes : TakesOver (going i.kept c.args.key) i.given_up c.save_going.new.given_up = c.in_ok-save_going.ensures.ok in
+    let new : ℕ → List Replacement → Option Value = λ d w. option_or (value_for c.keep.new.self.entries (key_in gs d w)) (value_for c.save_going.new.given_up (key_in gs d w)) in
+    subst (λ (q : Keeping). OnOk c.keep.result ((d : ℕ) (w : List Replacement) → is_some (new d w) ≡ (is_some (value_in q (key_in q.generations d w)) || same_case (c.args.key.cell, c.args.key.world) (d, w)))) c.self.view_is
+    (found_after i.given_up c.save_going.new.given_up i.kept c.keep.new.self c.args.key c.args.value c.len.ensures.one_each takes gs c.keep.result keeps generation)
 
 pub returns-clause-kept : goal.returns-clause-kept
 returns-clause-kept c =
     let i = c.self.inside in
     let e = c.keep.ensures in
-    let keeps : KeepsIn c.keep.result i.kept c.keep.new.self c.args.key c.args.value = record { found = e.found; stays = e.stays; goes = e.one_goes; len = e.len; capacity = e.capacity; err = e.err } in
+    let keeps : KeepsIn c.keep.result i.kept c.keep.new.self c.args.key c.args.value = record { found = e.found; stays = e.stays; goes = e.one_goes; going = e.going; len = e.len; capacity = e.capacity; err = e.err } in
     let generation : c.args.key.generation ≡ generation_in i.generations.now.entries c.args.key.cell = c.requires.generation ∙ ap (λ (q : Keeping). generation_in q.generations c.args.key.cell) (sym c.self.view_is) in
     subst (λ (q : Keeping). OnOk c.keep.result (1 ≤ q.values.capacity - length q.values.entries → (d : ℕ) (w : List Replacement) → is_some (value_for c.keep.new.self.entries (key_in i.generations.now.entries d w)) ≡ (is_some (value_for q.values.entries (key_in q.generations d w)) || same_case (c.args.key.cell, c.args.key.world) (d, w)))) c.self.view_is
     (kept_after c.keep.result i.generations.now.entries i.kept c.keep.new.self c.args.key c.args.value keeps generation)
@@ -76,9 +94,9 @@ returns-clause-gives_up c =
     let s = i.store.now in
     let gs = i.generations.now.entries in
     let e = c.keep.ensures in
-    let keeps : KeepsIn c.keep.result i.kept c.keep.new.self c.args.key c.args.value = record { found = e.found; stays = e.stays; goes = e.one_goes; len = e.len; capacity = e.capacity; err = e.err } in
-    subst (λ (q : Keeping). GivesUpWhenFull (state_in q) (state_in (keeping s.sheet s.edits gs c.keep_copy.new.table c.keep.new.self))) c.self.view_is
-    (gives_up_after c.keep.result s.sheet s.edits gs i.table c.keep_copy.new.table i.kept c.keep.new.self c.args.key c.args.value keeps)
+    let keeps : KeepsIn c.keep.result i.kept c.keep.new.self c.args.key c.args.value = record { found = e.found; stays = e.stays; goes = e.one_goes; going = e.going; len = e.len; capacity = e.capacity; err = e.err } in
+    subst (λ (q : Keeping). GivesUpWhenFull (state_in q) (state_in (keeping s.sheet s.edits gs c.save_going.new.given_up c.keep.new.self))) c.self.view_is
+    (gives_up_after c.keep.result s.sheet s.edits gs i.given_up c.save_going.new.given_up i.kept c.keep.new.self c.args.key c.args.value keeps)
 
 pub returns-clause-one_place : goal.returns-clause-one_place
 returns-clause-one_place c =
@@ -86,9 +104,9 @@ returns-clause-one_place c =
     let s = i.store.now in
     let gs = i.generations.now.entries in
     let e = c.keep.ensures in
-    let keeps : KeepsIn c.keep.result i.kept c.keep.new.self c.args.key c.args.value = record { found = e.found; stays = e.stays; goes = e.one_goes; len = e.len; capacity = e.capacity; err = e.err } in
-    subst (λ (q : Keeping). TakesPlaces (state_in q) (state_in (keeping s.sheet s.edits gs c.keep_copy.new.table c.keep.new.self)) 0 1) c.self.view_is
-    (one_place_after c.keep.result s.sheet s.edits gs i.table c.keep_copy.new.table i.kept c.keep.new.self c.args.key c.args.value keeps)
+    let keeps : KeepsIn c.keep.result i.kept c.keep.new.self c.args.key c.args.value = record { found = e.found; stays = e.stays; goes = e.one_goes; going = e.going; len = e.len; capacity = e.capacity; err = e.err } in
+    subst (λ (q : Keeping). TakesPlaces (state_in q) (state_in (keeping s.sheet s.edits gs c.save_going.new.given_up c.keep.new.self)) 0 1) c.self.view_is
+    (one_place_after c.keep.result s.sheet s.edits gs i.given_up c.save_going.new.given_up i.kept c.keep.new.self c.args.key c.args.value keeps)
 
 pub returns-clause-same_sheet : goal.returns-clause-same_sheet
 returns-clause-same_sheet c = ap (λ (q : Keeping). q.sheet) c.self.view_is
@@ -103,7 +121,7 @@ pub returns-clause-room : goal.returns-clause-room
 returns-clause-room c =
     let i = c.self.inside in
     let e = c.keep.ensures in
-    let keeps : KeepsIn c.keep.result i.kept c.keep.new.self c.args.key c.args.value = record { found = e.found; stays = e.stays; goes = e.one_goes; len = e.len; capacity = e.capacity; err = e.err } in
+    let keeps : KeepsIn c.keep.result i.kept c.keep.new.self c.args.key c.args.value = record { found = e.found; stays = e.stays; goes = e.one_goes; going = e.going; len = e.len; capacity = e.capacity; err = e.err } in
     let generation : c.args.key.generation ≡ generation_in i.generations.now.entries c.args.key.cell = c.requires.generation ∙ ap (λ (q : Keeping). generation_in q.generations c.args.key.cell) (sym c.self.view_is) in
     let room = c.keep.new.self.capacity - length c.keep.new.self.entries in
     subst (λ (q : Keeping). OnOk c.keep.result (is_some (value_for q.values.entries (key_in q.generations c.args.key.cell c.args.key.world)) ≡ false → 1 ≤ q.values.capacity - length q.values.entries → room + 1 ≡ q.values.capacity - length q.values.entries)) c.self.view_is

@@ -1,0 +1,148 @@
+-- What is kept or was given up in a question: a value comes, and none goes.
+use Rattle.std.proofs.Common.{◌≡◌, ◌≤◌, ◌-◌, ◌⊎◌, inl, inr, ◌||◌, ℕ, Bool, true, false, cond, if◌then◌else◌, nat_lt, List, [], ◌∷◌, length, slice_get, Option, Some, None, IfSome, IsSome, is_some, Result, Ok, Err, OnOk, refl, ap, sym, ◌∙◌, subst, arith}
+use Rattle.std.proofs.lemmas.Bool.Decides.{nat_tests}
+use Rattle.std.proofs.lemmas.Map.Entries.{lookup_from_place}
+use Rattle.std.proofs.lemmas.Option.{slice_get_cases}
+use Rattle.std.specs.Map.{update}
+use Rattle.std.specs.Option.{option_or}
+use Rattle.std.specs.declared.alloc.AllocError.{AllocError}
+use Rattle.wi_values.specs.declared.value.Value.{Value}
+use Rattle.wi_values.specs.declared.replacement.Replacement.{Replacement}
+use Rattle.wi_cache.specs.declared.key.Key.{Key}
+use Rattle.wi_cache.specs.Entries.{Entries, KeptValues, HasOneEach, Puts, going, same_key, value_for}
+use Rattle.wi_cache.proofs.Keys.{key_means, same_key_equiv}
+use Rattle.wi_sheet.specs.Demand.{same_case}
+use Rattle.wi_propagate.specs.KeptSheet.{Generations, generation_in, key_in}
+use Rattle.wi_propagate.specs.Inner.Keeping.{TakesOver}
+use Rattle.wi_propagate.proofs.KeepingSteps.{KeepsIn, put_is_some}
+
+-- ---- the entry that goes for a new value
+
+abbrev last : Entries → Option (Key × Value)
+last es = slice_get es (length es - 1)
+
+none_goes : (e : Key × Value) → ◌≡◌ {A = Option (Key × Value)} None (Some e) → ⊥
+none_goes e h = cc
+
+goes_last : (a b : Bool) (o : Option (Key × Value)) (e : Key × Value) → (if a then None else (if b then None else o)) ≡ Some e → o ≡ Some e
+goes_last true b o e h = absurd (none_goes e h)
+goes_last false true o e h = absurd (none_goes e h)
+goes_last false false o e h = h
+
+-- it stands under its key
+going_stands : (m : KeptValues) (k : Key) (e : Key × Value) → HasOneEach m.entries → going m k ≡ Some e → value_for m.entries e.0 ≡ Some e.1
+going_stands m k e one_each h =
+    lookup_from_place same_key_equiv m.entries (length m.entries - 1) e.0 e.1 one_each
+    (goes_last (is_some (value_for m.entries k)) (nat_lt (length m.entries) m.capacity) (last m.entries) e h)
+
+no_last : (es : Entries) → last es ≡ None → length es ≡ 0
+no_last es h = elim (slice_get_cases es (length es - 1)).1 [
+  | inl p ↦ absurd (none_goes p.0 (sym h ∙ p.2))
+  | inr p ↦ (let less = p.0 in omega (arith, less))
+]
+
+none_stands : (es : Entries) (q : Key) → length es ≡ 0 → IsSome (value_for es q) → ⊥
+none_stands [] q l h = let z = h in cc
+none_stands (e ∷ es) q l h = absurd (omega (arith, l))
+
+-- where none goes, all that stood stands beside the new one
+none_gone : (m n : KeptValues) (k : Key) (v : Value) → KeepsIn (Ok tt) m n k v → going m k ≡ None → Puts m.entries n.entries k v
+none_gone m n k v h none = at (value_for m.entries k) (nat_lt (length m.entries) m.capacity) refl refl
+  where
+    goes : Option Value → Bool → Option (Key × Value)
+    goes o b = if is_some o then None else (if b then None else last m.entries)
+
+    at : (o : Option Value) (b : Bool) → value_for m.entries k ≡ o → nat_lt (length m.entries) m.capacity ≡ b → Puts m.entries n.entries k v
+    at (Some u) b e f = h.stays (inl (subst (λ (o : Option Value). IsSome o) (sym e) refl))
+    at None true e f = h.stays (inr (grind (arith, nat_tests)))
+    at None false e f =
+        let full : m.capacity ≤ length m.entries = grind (arith, nat_tests) in
+        let puts = h.goes e full in
+        let empty : last m.entries ≡ None = sym (ap (λ (o : Option Value). goes o (nat_lt (length m.entries) m.capacity)) e ∙ ap (goes None) f) ∙ none in
+        absurd (none_stands m.entries puts.gone (no_last m.entries empty) puts.stood)
+
+-- ---- what is at hand under a key: the value that is kept, or one that was given up
+
+moved : (d : Bool) (w : Value) (x y : Option Value) → (d ≡ true → x ≡ Some w) → option_or x (cond d (Some w) y) ≡ option_or x y
+moved true w x y h = ap (λ (o : Option Value). option_or o (Some w)) (h refl) ∙ sym (ap (λ (o : Option Value). option_or o y) (h refl))
+moved false w x y h = refl
+
+came : (b : Bool) (v : Value) (x y : Option Value) → option_or (cond b (Some v) x) y ≡ cond b (Some v) (option_or x y)
+came true v x y = refl
+came false v x y = refl
+
+came_for : (b d : Bool) (v w : Value) (x y : Option Value) → (d ≡ true → x ≡ Some w) → option_or (cond b (Some v) (cond d None x)) (cond d (Some w) y) ≡ cond b (Some v) (option_or x y)
+came_for true d v w x y h = refl
+came_for false true v w x y h = sym (ap (λ (o : Option Value). option_or o y) (h refl))
+came_for false false v w x y h = refl
+
+module _ (es fs : Entries) (m n : KeptValues) (k : Key) (v : Value) (one_each : HasOneEach m.entries) (takes : TakesOver (going m k) es fs) where
+  abbrev before : Key → Option Value
+  before q = option_or (value_for m.entries q) (value_for es q)
+
+  abbrev after : Key → Option Value
+  after q = option_or (value_for n.entries q) (value_for fs q)
+
+  stood : (e : Key × Value) → going m k ≡ Some e → (q : Key) → same_key e.0 q ≡ true → value_for m.entries q ≡ Some e.1
+  stood e h q t = ap (λ (x : Key). value_for m.entries x) (sym (key_means e.0 q t)) ∙ going_stands m k e one_each h
+
+  -- after a refusal nothing is lost, and nothing is new
+  refused : n ≡ m → (q : Key) → after q ≡ before q
+  refused same q = ap (λ (x : KeptValues). option_or (value_for x.entries q) (value_for fs q)) same ∙ at (going m k) refl takes
+    where
+      at : (o : Option (Key × Value)) → going m k ≡ o → TakesOver o es fs → option_or (value_for m.entries q) (value_for fs q) ≡ before q
+      at None e t = ap (λ (x : Entries). option_or (value_for m.entries q) (value_for x q)) t
+      at (Some x) e t = ap (option_or (value_for m.entries q)) (t q) ∙ moved (same_key x.0 q) x.1 (value_for m.entries q) (value_for es q) (stood x e q)
+
+  -- the value that came is at hand, and under every other key what was
+  accepted : KeepsIn (Ok tt) m n k v → (q : Key) → after q ≡ update same_key before k (Some v) q
+  accepted h q = at (going m k) refl takes
+    where
+      at : (o : Option (Key × Value)) → going m k ≡ o → TakesOver o es fs → after q ≡ update same_key before k (Some v) q
+      at None e t =
+          ap (λ (x : Entries). option_or (value_for n.entries q) (value_for x q)) t ∙ ap (λ (o : Option Value). option_or o (value_for es q)) (none_gone m n k v h e q)
+          ∙ came (same_key k q) v (value_for m.entries q) (value_for es q)
+      at (Some x) e t =
+          ap (option_or (value_for n.entries q)) (t q) ∙ ap (λ (o : Option Value). option_or o (cond (same_key x.0 q) (Some x.1) (value_for es q))) (h.going x e q)
+          ∙ came_for (same_key k q) (same_key x.0 q) v x.1 (value_for m.entries q) (value_for es q) (stood x e q)
+
+  -- ---- so for each cell under replacements
+
+  module _ (g : Generations) where
+    -- what is at hand then was at hand before, or is the value that came
+    pub known_after : (r : Result (Unit {0}) AllocError) → KeepsIn r m n k v → (c : ℕ) (w : List Replacement) →
+        IfSome (after (key_in g c w)) (λ x. (before (key_in g c w) ≡ Some x) ⊎ ((c ≡ k.cell) × (w ≡ k.world) × (x ≡ v)))
+    known_after r h c w = by r h
+      where
+        q : Key
+        q = key_in g c w
+
+        Known : Value → Type 0
+        Known x = (before q ≡ Some x) ⊎ ((c ≡ k.cell) × (w ≡ k.world) × (x ≡ v))
+
+        itself : (o : Option Value) → before q ≡ o → IfSome o Known
+        itself None e = tt
+        itself (Some u) e = inl e
+
+        or_new : (b : Bool) → same_key k q ≡ b → IfSome (cond b (Some v) (before q)) Known
+        or_new true e = let same = sym (key_means k q e) in inr (ap (λ (y : Key). y.cell) same, ap (λ (y : Key). y.world) same, refl)
+        or_new false e = itself (before q) refl
+
+        by : (y : Result (Unit {0}) AllocError) → KeepsIn y m n k v → IfSome (after q) Known
+        by (Ok x) i = subst (λ (o : Option Value). IfSome o Known) (sym (accepted i q)) (or_new (same_key k q) refl)
+        by (Err x) i = subst (λ (o : Option Value). IfSome o Known) (sym (refused i.err q)) (itself (before q) refl)
+
+    stays_some : (b : Bool) (o : Option Value) → is_some o ≡ true → is_some (cond b (Some v) o) ≡ true
+    stays_some true o h = refl
+    stays_some false o h = h
+
+    -- none is lost
+    pub stays_after : (r : Result (Unit {0}) AllocError) → KeepsIn r m n k v → (c : ℕ) (w : List Replacement) → is_some (before (key_in g c w)) ≡ true → is_some (after (key_in g c w)) ≡ true
+    stays_after (Ok x) h c w i = ap (λ (o : Option Value). is_some o) (accepted h (key_in g c w)) ∙ stays_some (same_key k (key_in g c w)) (before (key_in g c w)) i
+    stays_after (Err x) h c w i = ap (λ (o : Option Value). is_some o) (refused h.err (key_in g c w)) ∙ i
+
+    -- and the one that came is found
+    pub found_after : (r : Result (Unit {0}) AllocError) → KeepsIn r m n k v → k.generation ≡ generation_in g k.cell →
+        OnOk r ((c : ℕ) (w : List Replacement) → is_some (after (key_in g c w)) ≡ (is_some (before (key_in g c w)) || same_case (k.cell, k.world) (c, w)))
+    found_after (Ok x) h e = put_is_some g before after k v e (accepted h)
+    found_after (Err x) h e = tt
