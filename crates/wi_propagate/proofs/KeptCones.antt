@@ -1,10 +1,13 @@
 -- Cones that are kept over an edit.
-use Rattle.std.proofs.Common.{◌≡◌, ℕ, Option, Some, None, IfSome, sym, ◌∙◌}
+use Rattle.std.proofs.Common.{◌≡◌, ◌||◌, ℕ, Bool, List, [], ◌∷◌, Option, Some, None, IfSome, refl, ap, sym, ◌∙◌}
+use Rattle.std.specs.Global.{Vec}
+use Rattle.std.specs.Map.{keys_of}
 use Rattle.std.specs.Ordering.{nat_cmp}
 use Rattle.std.specs.BTreeMap.{BTreeMap, get}
 use Rattle.std.specs.BTreeSet.{BTreeSet, contains}
+use Rattle.wi_parser.specs.declared.content.Content.{Content}
 use Rattle.wi_parser.specs.Sheet.{Sheet}
-use Rattle.wi_graph.specs.Reach.{reaches}
+use Rattle.wi_graph.specs.Reach.{is_one_of, reaches, in_cone}
 use Rattle.wi_graph.specs.Edges.{Edges, AreEdgesOf}
 use Rattle.wi_graph.proofs.GraphSteps.{same_reaches}
 use Rattle.wi_propagate.specs.Inner.Cones.{AreAllCones}
@@ -16,3 +19,17 @@ cones_over es s t cs a b h x c = at (get nat_cmp cs x) (h x c)
     at : (o : Option (BTreeSet ℕ)) → IfSome o (λ cone. contains nat_cmp cone c ≡ reaches s c x) → IfSome o (λ cone. contains nat_cmp cone c ≡ reaches t c x)
     at None k = tt
     at (Some cone) k = k ∙ same_reaches s t (λ d. sym (a d) ∙ b d) c x
+
+-- ---- a cone that is given
+
+in_same_cone : (es : Edges) (s t : Sheet) → AreEdgesOf es s → AreEdgesOf es t → (xs : List ℕ) (c : ℕ) → in_cone s xs c ≡ in_cone t xs c
+in_same_cone es s t a b [] c = refl
+in_same_cone es s t a b (x ∷ xs) c =
+    ap (λ (k : Bool). k || in_cone s xs c) (same_reaches s t (λ d. sym (a d) ∙ b d) c x) ∙ ap (λ (k : Bool). reaches t c x || k) (in_same_cone es s t a b xs c)
+
+-- it is that of each sheet with these edges
+pub cone_given : (es : Edges) (sheet now : Sheet) (changes lent : List (ℕ × Option Content)) (o : Option (Vec ℕ)) → sheet ≡ now → lent ≡ changes → AreEdgesOf es sheet →
+    IfSome o (λ cone. (c : ℕ) → is_one_of cone.items c ≡ in_cone now (keys_of changes) c) → IfSome o (λ cone. (s : Sheet) → AreEdgesOf es s → (c : ℕ) → is_one_of cone.items c ≡ in_cone s (keys_of lent) c)
+cone_given es sheet now changes lent None e f a h = tt
+cone_given es sheet now changes lent (Some cone) e f a h = λ s b c. h c ∙ ap (λ (t : Sheet). in_cone t (keys_of changes) c) (sym e) ∙ in_same_cone es sheet s a b (keys_of changes) c
+    ∙ ap (λ (xs : List (ℕ × Option Content)). in_cone s (keys_of xs) c) (sym f)

@@ -40,6 +40,9 @@ pub fn keep_over_edit(alloc: Global, graph: &Graph, cones: &mut Cones)
     ensures { (s t : Sheet) → AreEdgesOf graph.now.now s → IfSome graph.now.staged (λ es. AreEdgesOf es t)
         → AreAllCones s cones.old → AreAllCones t cones.new }
 {
+    if cones.is_empty() {
+        return;
+    }
     if !graph.reads_stay() {
         *cones = BTreeMap::new(alloc);
     }

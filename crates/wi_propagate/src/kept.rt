@@ -1,6 +1,6 @@
 //! A calculator that keeps what it has calculated.
 
-ghost use Rattle.std.specs.Prelude.{◌≡◌, ◌≤◌, ◌+◌, ◌||◌, [], ℕ, None, true, false, if◌then◌else◌, List, length, sum_by, All, IfOk, OnOk, OnErr};
+ghost use Rattle.std.specs.Prelude.{◌≡◌, ◌≤◌, ◌+◌, ◌||◌, [], ℕ, Some, None, true, false, if◌then◌else◌, List, length, sum_by, All, IfSome, IfOk, OnOk, OnErr};
 ghost use Rattle.std.specs.List.{list_any};
 ghost use Rattle.std.specs.List.Sorted.{IsStrictlyIncreasing};
 ghost use Rattle.std.specs.Map.{keys_of};
@@ -9,7 +9,7 @@ ghost use Rattle.wi_parser.specs.Sheet.{Sheet};
 ghost use Rattle.wi_store.specs.Store.{applied, Applies};
 ghost use Rattle.wi_cache.specs.Entries.{kept};
 ghost use Rattle.wi_graph.specs.Circular.{circular};
-ghost use Rattle.wi_graph.specs.Edges.{AreEdgesOf};
+ghost use Rattle.wi_graph.specs.Edges.{AreEdgesOf, edges_after, staging};
 ghost use Rattle.wi_graph.specs.Reach.{is_one_of, in_cone};
 ghost use Rattle.wi_sheet.specs.Shown as show;
 ghost use Rattle.wi_sheet.specs.TableEntry.{table_entry, entry_demanded};
@@ -115,6 +115,35 @@ impl KeptCalculator {
     {
         let _ = &self.store;
     }
+
+    // Does an edit over its cone, which is searched for where it isn't given.
+    fn apply_over(
+        &mut self,
+        changes: Vec<(Address, Option<Content>)>,
+        cone: Option<Vec<Address>>,
+    ) -> Result<(), StoreFault>
+        requires { IfSome cone (λ cone. (c : ℕ) → is_one_of cone.items c ≡ in_cone self.old.stored.sheet (keys_of changes.items) c) }
+        ensures applied { Applies (applied self.old.stored changes.items) result self.old.stored self.new.stored }
+        ensures same_counts { self.new.counts ≡ self.old.counts }
+        ensures same_values { self.new.values ≡ self.old.values }
+        ensures generations { let cells = keys_of changes.items in OnOk result ((c : ℕ) → generation_in self.new.generations c
+            ≡ (if in_cone self.old.stored.sheet cells c then self.new.stored.edits else generation_in self.old.generations c)) }
+        ensures same_generations { OnErr result ((c : ℕ) → generation_in self.new.generations c ≡ generation_in self.old.generations c) }
+    {
+        let cone = stage(&mut self.graph, &changes, cone)?;
+        match edit(&mut self.store, &mut self.generations, &cone, changes) {
+            Ok(()) => {
+                keep_over_edit(self.alloc, &self.graph, &mut self.cones);
+                self.graph.commit();
+                raise(&mut self.generations, &cone, self.store.edits());
+                Ok(())
+            }
+            Err(fault) => {
+                self.graph.rollback();
+                Err(fault)
+            }
+        }
+    }
 }
 
 impl Calculator for KeptCalculator {
@@ -148,19 +177,24 @@ impl Calculator for KeptCalculator {
             ≡ (if in_cone self.old.stored.sheet cells c then self.new.stored.edits else generation_in self.old.generations c)) }
         ensures same_generations { OnErr result ((c : ℕ) → generation_in self.new.generations c ≡ generation_in self.old.generations c) }
     {
-        let cone = self.graph.stage(&changes)?;
-        match edit(&mut self.store, &mut self.generations, &cone, changes) {
-            Ok(()) => {
-                keep_over_edit(self.alloc, &self.graph, &mut self.cones);
-                self.graph.commit();
-                raise(&mut self.generations, &cone, self.store.edits());
-                Ok(())
-            }
-            Err(fault) => {
-                self.graph.rollback();
-                Err(fault)
-            }
-        }
+        self.apply_over(changes, None)
+    }
+
+    /// The same, where the cone of the edited cells is at hand, as `mark` gives it, and isn't searched for again.
+    fn apply_marked(
+        &mut self,
+        changes: Vec<(Address, Option<Content>)>,
+        cells: Vec<Address>,
+    ) -> Result<(), StoreFault>
+        requires { (c : ℕ) → is_one_of cells.items c ≡ in_cone self.old.stored.sheet (keys_of changes.items) c }
+        ensures applied { Applies (applied self.old.stored changes.items) result self.old.stored self.new.stored }
+        ensures same_counts { self.new.counts ≡ self.old.counts }
+        ensures same_values { self.new.values ≡ self.old.values }
+        ensures generations { let cells = keys_of changes.items in OnOk result ((c : ℕ) → generation_in self.new.generations c
+            ≡ (if in_cone self.old.stored.sheet cells c then self.new.stored.edits else generation_in self.old.generations c)) }
+        ensures same_generations { OnErr result ((c : ℕ) → generation_in self.new.generations c ≡ generation_in self.old.generations c) }
+    {
+        self.apply_over(changes, Some(cells))
     }
 
     /// What a cell shows under replacements. A formula is evaluated where its value is not kept, and its value is kept then.
@@ -327,6 +361,26 @@ impl Calculator for KeptCalculator {
 
     fn restarts(&self) -> u64 {
         self.meter.restarts()
+    }
+}
+
+// Stages an edit over its cone, which is searched for where it isn't given.
+fn stage(
+    graph: &mut Graph,
+    changes: &[(Address, Option<Content>)],
+    cone: Option<Vec<Address>>,
+) -> Result<Vec<Address>, AllocError>
+    requires staged { graph.old.staged ≡ None }
+    requires cone { IfSome cone (λ cone. (s : Sheet) → AreEdgesOf graph.old.now s
+        → (c : ℕ) → is_one_of cone.items c ≡ in_cone s (keys_of changes.now) c) }
+    ensures ok { OnOk result (graph.new ≡ staging graph.old.now (Some (edges_after graph.old.now changes.now))) }
+    ensures err { OnErr result (graph.new ≡ graph.old) }
+    ensures cells { IfOk result (λ cone. (s : Sheet) → AreEdgesOf graph.old.now s
+        → (c : ℕ) → is_one_of cone.items c ≡ in_cone s (keys_of changes.now) c) }
+{
+    match cone {
+        Some(cone) => graph.stage_over(changes, cone),
+        None => graph.stage(changes),
     }
 }
 

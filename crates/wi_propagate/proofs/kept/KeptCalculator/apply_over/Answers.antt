@@ -7,14 +7,20 @@ use Rattle.wi_graph.specs.Reach.{is_one_of, in_cone}
 use Rattle.wi_graph.specs.Edges.{AreEdgesOf, Staging, staging, edges_after}
 use Rattle.wi_propagate.specs.KeptSheet.{KeptSheet, generation_in}
 use Rattle.wi_propagate.proofs.Editing.{edges_applied, right_over_edit}
-use Rattle.wi_propagate.proofs.kept.KeptCalculatorCalculator.apply.Goals as goal
+use Rattle.wi_propagate.proofs.KeptCones.{cone_given}
+use Rattle.wi_propagate.proofs.kept.KeptCalculator.apply_over.Goals as goal
+
+pub stage-requires-clause-cone : goal.stage-requires-clause-cone
+stage-requires-clause-cone c =
+    let i = c.self.inside in
+    cone_given i.graph.now i.store.sheet c.args.self.now.stored.sheet c.args.changes.items c.deref.result.now c.args.cone (ap (λ (k : KeptSheet). k.stored.sheet) c.self.view_is) c.deref.ensures.value c.self.invariant.1 c.requires
 
 pub invariant_of-self-in-Ok : goal.invariant_of-self-in-Ok
 invariant_of-self-in-Ok c =
     let i = c.self.inside in
     let h = c.self.invariant in
     let ch = c.args.changes.items in
-    let staged_is : c.stage.new.self ≡ staging i.graph.now (Some (edges_after i.graph.now ch)) =
+    let staged_is : c.stage.new.graph ≡ staging i.graph.now (Some (edges_after i.graph.now ch)) =
     c.in_ok-cone.ensures.ok ∙ ap (λ (xs : List (ℕ × Option Content)). staging i.graph.now (Some (edges_after i.graph.now xs))) c.deref.ensures.value in
     let graph_is : c.commit.new.self ≡ staging (edges_after i.graph.now ch) None = c.commit.ensures ∙ ap (λ (x : Staging). staging (unwrap_or x.staged x.now) None) staged_is in
     let accepted : applied i.store ch ≡ Ok c.edit.new.store = c.in-Ok.ensures.applied in
