@@ -35,7 +35,7 @@ use Rattle.wi_scenarios.specs.Causes.{no_cause, answer}
 use Rattle.wi_scenarios.specs.Edits.{Edit, edit_refusal, limit_of, stale_in, after_edit, edit_answer}
 use Rattle.wi_scenarios.specs.Pending.{is_pending, AddsOnly}
 use Rattle.wi_scenarios.specs.Inner.Held.{state_of, AreCovered, IsSound}
-use Rattle.wi_scenarios.specs.Inner.Editing.{AreMarked, HasRooms, SameBeside, MayFail, Commits}
+use Rattle.wi_scenarios.specs.Inner.Editing.{AreMarked, AreAllMarked, HasRooms, SameBeside, MayFail, Commits}
 
 -- an edit of these
 pub same_edit : (named areas : List Area) (contents changes : List (ℕ × Option Content)) → named ≡ areas → contents ≡ changes →
@@ -163,6 +163,19 @@ is_one b n e h = grind (arith, nat_tests)
 pub marked_as : (marked : Sheet → List ℕ → ℕ → Bool) (sheet : Sheet) (contents changes : List (ℕ × Option Content)) (found cells : List ℕ) → changes ≡ contents → cells ≡ found → AreMarked marked sheet changes found → AreMarked marked sheet contents cells
 marked_as marked sheet contents changes found cells c f h =
     subst (λ (xs : List ℕ). AreMarked marked sheet contents xs) (sym f) (subst (λ (es : List (ℕ × Option Content)). AreMarked marked sheet es found) c h)
+
+-- ---- and that they are all
+
+pub none_lacks : (marked : Sheet → List ℕ → ℕ → Bool) (sheet : Sheet) (contents : List (ℕ × Option Content)) (found : List ℕ) → length contents ≡ 0 → AreAllMarked marked sheet contents found
+none_lacks marked sheet contents found e l = absurd (omega (arith, e, l))
+
+pub all_marked : (marked : Sheet → List ℕ → ℕ → Bool) (sheet : Sheet) (contents : List (ℕ × Option Content)) (cells found : List ℕ) → cells ≡ keys_of contents →
+    ((a : ℕ) → is_listed found a ≡ marked sheet cells a) → AreAllMarked marked sheet contents found
+all_marked marked sheet contents cells found e m l a = m a ∙ ap (λ (xs : List ℕ). marked sheet xs a) e
+
+pub all_as : (marked : Sheet → List ℕ → ℕ → Bool) (sheet : Sheet) (contents changes : List (ℕ × Option Content)) (found cells : List ℕ) → changes ≡ contents → cells ≡ found → AreAllMarked marked sheet changes found → AreAllMarked marked sheet contents cells
+all_as marked sheet contents changes found cells c f h =
+    subst (λ (xs : List ℕ). AreAllMarked marked sheet contents xs) (sym f) (subst (λ (es : List (ℕ × Option Content)). AreAllMarked marked sheet es found) c h)
 
 -- ---- rooms for them
 

@@ -2,7 +2,7 @@
 
 ghost use Rattle.std.specs.Prelude.{◌≡◌, ◌<◌, ◌≤◌, ℕ, [], ◌∷◌, length, IfOk, OnOk, OnErr};
 ghost use Rattle.std.specs.Map.{keys_of};
-ghost use Rattle.wi_store.specs.Store.{applied};
+ghost use Rattle.wi_store.specs.Store.{applied, Applies};
 ghost use Rattle.wi_sessions.specs.Roster.{vacant_of};
 ghost use Rattle.wi_sessions.specs.Sessions.{max_sessions};
 ghost use Rattle.wi_scenarios.specs.Answer.{Serves};
@@ -10,7 +10,7 @@ ghost use Rattle.wi_scenarios.specs.Causes.{no_cause};
 ghost use Rattle.wi_scenarios.specs.Edits.{edit_answer};
 ghost use Rattle.wi_scenarios.specs.Pending.{AddsOnly};
 ghost use Rattle.wi_scenarios.specs.Inner.Held.{state_of, pending_in, edit_in, IsSound};
-ghost use Rattle.wi_scenarios.specs.Inner.Editing.{stale_on, AreMarked, HasRooms, SameBeside, Commits};
+ghost use Rattle.wi_scenarios.specs.Inner.Editing.{stale_on, AreMarked, AreAllMarked, HasRooms, SameBeside, Commits};
 
 use crate::desk::Desk;
 use crate::refusal::Refusal;
@@ -19,6 +19,7 @@ use wi_edit_log::EditLog;
 use wi_parser::Content;
 use wi_propagate::Calculator;
 use wi_sessions::Sessions;
+use wi_store::StoreFault;
 use wi_values::{Address, Rect};
 
 /// The rectangles that an edit names, and what each of some cells gets: a content, or none.
@@ -30,7 +31,7 @@ pub struct Edit {
 
 /// Edits the sheet and notes it in the log; the cells that may show something else then are pending for each session. An edit
 /// that isn't forced is refused as `Stale` where it names a cell that another session has edited since the current one was last
-/// shown what has changed. The work is that of `first_stale`, of `mark`, of `apply`, and for each session of the rooms for marked cells.
+/// shown what has changed. The work is that of `first_stale`, of `mark`, of `apply_marked`, and for each session of the rooms for marked cells.
 pub fn apply_edit<C: Calculator>(
     alloc: Global,
     calculator: &mut C,
@@ -102,7 +103,8 @@ fn marked_by<C: Calculator>(
     calculator: &C,
     contents: &[(Address, Option<Content>)],
 ) -> Result<Vec<Address>, AllocError>
-    ensures { IfOk result (λ found. AreMarked C.marked (C.stored calculator.now).sheet contents.now found.items) }
+    ensures marked { IfOk result (λ found. AreMarked C.marked (C.stored calculator.now).sheet contents.now found.items) }
+    ensures all { IfOk result (λ found. AreAllMarked C.marked (C.stored calculator.now).sheet contents.now found.items) }
 {
     if contents.is_empty() {
         return Ok(Vec::new(alloc));
@@ -125,8 +127,7 @@ fn addresses(
     Ok(cells)
 }
 
-/// Makes room for marked cells and edits the sheet; the list of them goes before the edit takes its memory. On an error there
-/// may be rooms that are vacant still.
+/// Makes room for marked cells and edits the sheet. On an error there may be rooms that are vacant still.
 fn edit_with_rooms<C: Calculator>(
     calculator: &mut C,
     desk: &mut Desk,
@@ -136,14 +137,14 @@ fn edit_with_rooms<C: Calculator>(
     requires within { desk.old.current < length desk.old.sessions.sessions }
     requires few { length desk.old.sessions.sessions ≤ max_sessions }
     requires full { (i : ℕ) → vacant_of desk.old.sessions i ≡ [] }
+    requires marked { AreAllMarked C.marked (C.stored calculator.old).sheet edit.contents.items marked.items }
     ensures beside { SameBeside desk.old desk.new }
     ensures rooms { OnOk result (HasRooms marked.items desk.new.sessions) }
     ensures edit { Commits (applied (C.stored calculator.old) edit.contents.items) (record { session = desk.old.current; cells = edit.named.items })
         result (C.stored calculator.old) (C.stored calculator.new) desk.old.log desk.new.log }
 {
     make_rooms(&mut desk.sessions, &marked)?;
-    drop(marked);
-    commit(calculator, &mut desk.log, desk.current as u32, edit)
+    commit(calculator, &mut desk.log, desk.current as u32, edit, marked)
 }
 
 /// Makes room for cells in the list of each session for which they aren't pending. On an error a part of the rooms may be there.
@@ -165,14 +166,31 @@ fn commit<C: Calculator>(
     log: &mut EditLog,
     session: u32,
     edit: Edit,
+    marked: Vec<Address>,
 ) -> Result<(), Refusal>
+    requires { AreAllMarked C.marked (C.stored calculator.old).sheet edit.contents.items marked.items }
     ensures { Commits (applied (C.stored calculator.old) edit.contents.items) (record { session = session; cells = edit.named.items })
         result (C.stored calculator.old) (C.stored calculator.new) log.old log.new }
 {
     log.add(session, edit.named)?;
-    let done = calculator.apply(edit.contents);
+    let done = apply_over_marked(calculator, edit.contents, marked);
     if done.is_err() {
         log.take_back();
     }
     Ok(done?)
+}
+
+/// Edits the sheet, where the cells are at hand that are marked for the edited ones.
+fn apply_over_marked<C: Calculator>(
+    calculator: &mut C,
+    contents: Vec<(Address, Option<Content>)>,
+    marked: Vec<Address>,
+) -> Result<(), StoreFault>
+    requires { AreAllMarked C.marked (C.stored calculator.old).sheet contents.items marked.items }
+    ensures { Applies (applied (C.stored calculator.old) contents.items) result (C.stored calculator.old) (C.stored calculator.new) }
+{
+    if contents.is_empty() {
+        return calculator.apply(contents);
+    }
+    calculator.apply_marked(contents, marked)
 }

@@ -26,6 +26,11 @@ pub record AreMarked (marked : Sheet → List ℕ → ℕ → Bool) (sheet : She
   pub only : (a : ℕ) → is_listed found a ≡ true → (0 < length contents) × (marked sheet (keys_of contents) a ≡ true)
   pub unmoved : (a : ℕ) (p : List Replacement) → is_listed found a ≡ false → shown (edited sheet (map settled_change contents)) p a ≡ shown sheet p a
 
+-- they are exactly those, where there is an edited cell
+abbrev pub AreAllMarked : (Sheet → List ℕ → ℕ → Bool) → Sheet → List (ℕ × Option Content) → List ℕ → Type 0
+AreAllMarked marked sheet contents found =
+    0 < length contents → (a : ℕ) → is_listed found a ≡ marked sheet (keys_of contents) a
+
 -- in the list of each session there is room for those of the cells that aren't pending for it, and for no other
 abbrev pub HasRooms : List ℕ → Roster → Type 0
 HasRooms cells r =

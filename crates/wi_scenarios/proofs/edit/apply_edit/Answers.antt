@@ -1,7 +1,11 @@
 use Rattle.std.proofs.Common.{◌∙◌, Ok, rules}
 use Rattle.wi_scenarios.specs.Inner.Held.{state_of, edit_in}
-use Rattle.wi_scenarios.proofs.EditLemmas.{marked_as, AreTaken, edit_served, sound_taken, adds_taken}
+use Rattle.wi_scenarios.proofs.EditLemmas.{marked_as, all_as, AreTaken, edit_served, sound_taken, adds_taken}
 use Rattle.wi_scenarios.proofs.edit.apply_edit.Goals as goal
+
+pub edit_with_rooms-requires-clause-marked : goal.edit_with_rooms-requires-clause-marked
+edit_with_rooms-requires-clause-marked g c =
+    all_as g.C.Calculator.marked (g.C.Calculator.stored c.args.calculator.now).sheet c.args.edit.contents.items c.deref-2.result.now c.in_ok-marked.marked.items _ c.deref-2.ensures.value (search rules) c.in_ok-marked.ensures.all
 
 pub returns-in-Ok-clause-step : goal.returns-in-Ok-clause-step
 returns-in-Ok-clause-step g c =
@@ -23,7 +27,7 @@ returns-in-Ok-clause-adds g c =
     } in
     adds_taken g.C.Calculator.marked old new c.args.desk.now c.edit_with_rooms.new.desk c.take_all.new.self c.args.edit.contents.items _
     c.requires c.in-Ok.ensures.beside
-    (marked_as g.C.Calculator.marked old.sheet c.args.edit.contents.items c.deref-2.result.now c.in_ok-marked.marked.items _ c.deref-2.ensures.value (search rules) c.in_ok-marked.ensures)
+    (marked_as g.C.Calculator.marked old.sheet c.args.edit.contents.items c.deref-2.result.now c.in_ok-marked.marked.items _ c.deref-2.ensures.value (search rules) c.in_ok-marked.ensures.marked)
     c.in-Ok.ensures.rooms taken
 
 pub returns-in-Ok-clause-sound : goal.returns-in-Ok-clause-sound
@@ -38,5 +42,5 @@ returns-in-Ok-clause-sound g c =
     } in
     sound_taken g.C.Calculator.marked old new c.args.desk.now c.edit_with_rooms.new.desk c.take_all.new.self c.args.edit.contents.items _
     c.requires c.in-Ok.ensures.beside
-    (marked_as g.C.Calculator.marked old.sheet c.args.edit.contents.items c.deref-2.result.now c.in_ok-marked.marked.items _ c.deref-2.ensures.value (search rules) c.in_ok-marked.ensures)
+    (marked_as g.C.Calculator.marked old.sheet c.args.edit.contents.items c.deref-2.result.now c.in_ok-marked.marked.items _ c.deref-2.ensures.value (search rules) c.in_ok-marked.ensures.marked)
     c.in-Ok.ensures.rooms taken c.in-Ok.ensures.edit.0
