@@ -122,8 +122,8 @@ impl<C: Calculator> Workbook<C> {
         )
     }
 
-    /// Empties the cells of a rectangle of any size. `force` is as of `set`. The work grows with its occupied cells, whatever stands
-    /// beside it.
+    /// Empties the cells of a rectangle of any size. `force` is as of `set`. The work grows with its occupied cells; for each a search
+    /// passes cells that stand beside it, in no more rows than the rectangle has columns.
     pub fn clear(&mut self, area: Rect, force: bool) -> Result<(), Refusal>
         ensures step { Serves (IsStep self.old.state (command.Clear force area)) result self.old.state self.new.state [] }
         ensures adds { AddsOnly C.marked (keys_of (clear_edit self.old.state.stored.sheet area).contents) self.old.state self.new.state self.old.pending self.new.pending }
