@@ -9,12 +9,12 @@ use Rattle.wi_worlds.specs.Inner.Compared.{digest_of}
 use Rattle.wi_cache.specs.declared.key.Key.{Key}
 use Rattle.wi_cache.specs.Entries.{same_key}
 
--- the digest of the replacements, the low 30 bits of the generation and the 34 of the cell, side by side
+-- the digest of the replacements, with the low 30 bits of the generation and the 34 of the cell added to it
 abbrev pub key_number : Key → ℕ
-key_number k = digest_of k.world * 2 ^ 64 + (k.generation % 2 ^ 30 * 2 ^ 34 + k.cell)
+key_number k = (digest_of k.world + (k.generation % 2 ^ 30 * 2 ^ 34 + k.cell)) % 2 ^ 64
 
 abbrev pub key_input : Key → fed.HashWrites
-key_input k = fed.u128 (key_number k)
+key_input k = fed.u64 (key_number k)
 
 -- equal keys are one key
 pub same_key_means : (a b : Key) → same_key a b ≡ true → a ≡ b

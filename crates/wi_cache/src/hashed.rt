@@ -14,18 +14,18 @@ impl Hash for Key {
     ghost respects_eq = { same_key_hash };
 
     fn hash<H: Hasher>(&self, state: &mut H) {
-        state.write_u128(number_of(self));
+        state.write_u64(number_of(self));
     }
 }
 
 /// How many cells a sheet has.
 const CELLS: u64 = ROWS as u64 * COLUMNS as u64;
 
-/// The digest of the replacements, the low 30 bits of the generation and the cell, side by side in one number.
-fn number_of(key: &Key) -> u128
+/// The digest of the replacements, with the low 30 bits of the generation and the cell added to it.
+fn number_of(key: &Key) -> u64
     ensures { result ≡ key_number key.now }
 {
     let cell = u64::from(key.cell.row()) * COLUMNS as u64 + u64::from(key.cell.column());
     let low = key.generation % (1 << 30) * CELLS + cell;
-    u128::from(key.world.digest()) * (1 << 64) + u128::from(low)
+    key.world.digest().wrapping_add(low)
 }

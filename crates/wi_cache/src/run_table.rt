@@ -41,10 +41,14 @@ impl RunTable {
         }
     }
 
-    /// The value that is kept for a key. Expected constant time, beside the hash of the key.
+    /// The value that is kept for a key. Expected constant time, beside the hash of the key, which isn't taken where the table
+    /// is empty.
     pub fn look(&self, key: &Key) -> Option<&Value>
         ensures { option_copied result ≡ value_for self.now key.now }
     {
+        if self.found.is_empty() {
+            return None;
+        }
         self.found.get(key)
     }
 
