@@ -32,6 +32,24 @@ impl Read for Pieces<'_> {
     }
 }
 
+/// Is interrupted before each read of another reader.
+#[derive(Drop)]
+pub struct Interrupted<R> {
+    pub inner: R,
+    /// Whether it was since the last read.
+    pub interrupted: bool,
+}
+
+impl<R: Read> Read for Interrupted<R> {
+    fn read(&mut self, buf: &mut [u8]) -> io::Result<usize> {
+        self.interrupted = !self.interrupted;
+        if self.interrupted {
+            return Err(io::ErrorKind::Interrupted.into());
+        }
+        self.inner.read(buf)
+    }
+}
+
 /// Gives a line at a time, and notes it before the replies to it.
 #[derive(Drop)]
 pub struct Lines<'a> {

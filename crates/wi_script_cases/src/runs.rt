@@ -42,6 +42,11 @@ impl Run {
     }
 }
 
+/// Whether two runs ended alike and wrote the same, whatever they counted.
+pub fn are_alike(one: &Run, other: &Run) -> bool {
+    one.outcome == other.outcome && one.flushed == other.flushed && one.replies == other.replies
+}
+
 /// Runs what is read on a workbook.
 fn run_read<C: Calculator + Drop, R: Read + Drop>(
     alloc: Global,

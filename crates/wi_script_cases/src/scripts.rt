@@ -3,7 +3,7 @@
 ghost use Rattle.std.specs.Prelude.{◌≤◌};
 
 use crate::case::Case;
-use crate::runs::{KEEP, Run, run_first, run_kept, run_plain};
+use crate::runs::{KEEP, Run, are_alike, run_first, run_kept, run_plain};
 use crate::spelling::push_spelling;
 use std::alloc::Global;
 use std::io;
@@ -137,11 +137,6 @@ fn push_pieces(alloc: Global, case: &Case, whole: &Run, text: &mut Vec<u8>) -> i
         }
     }
     Ok(())
-}
-
-/// Whether two runs ended alike and wrote the same, whatever they counted.
-fn are_alike(one: &Run, other: &Run) -> bool {
-    one.outcome == other.outcome && one.flushed == other.flushed && one.replies == other.replies
 }
 
 /// Appends how a run on the calculator that keeps so many values differs from the first one, but for the counts, and what
