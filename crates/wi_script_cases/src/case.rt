@@ -33,6 +33,8 @@ pub struct Case {
     pub whole: bool,
     /// Whether the calculator that keeps nothing is left out, and pieces are.
     pub keeping: bool,
+    /// Whether it is run once, on the calculator that keeps as much as the program.
+    pub once: bool,
 }
 
 impl Case {
@@ -52,6 +54,7 @@ impl Case {
             in_short: false,
             whole: false,
             keeping: false,
+            once: false,
         })
     }
 
@@ -91,6 +94,7 @@ impl Case {
             "@short" => self.in_short = true,
             "@whole" => self.whole = true,
             "@keeping" => self.keeping = true,
+            "@once" => self.once = true,
             _ => {
                 self.script.extend_from_slice(line.as_bytes())?;
                 self.script.push(b'\n')?;

@@ -159,7 +159,7 @@ pub fn run_kept(alloc: Global, case: &Case, keep: usize) -> io::Result<Run>
 
 /// Runs a case's script on the plain calculator, or where that is left out on the one that keeps as much as the program.
 pub fn run_first(alloc: Global, case: &Case) -> io::Result<Run> {
-    if case.keeping {
+    if case.keeping || case.once {
         run_kept(alloc, case, KEEP)
     } else {
         run_plain(alloc, case, usize::MAX)

@@ -180,13 +180,17 @@ fn push_all_kept(alloc: Global, case: &Case, first: &Run, text: &mut Vec<u8>) ->
     Ok(())
 }
 
-/// Appends a case's replies and how its run ended, and whether it runs otherwise in pieces or where values are kept.
+/// Appends a case's replies and how its run ended, and, unless it is run once, whether it runs otherwise in pieces or where
+/// values are kept.
 fn push_runs(alloc: Global, case: &Case, first: &Run, text: &mut Vec<u8>) -> io::Result<()> {
     push_replies(alloc, case, &first.replies, text)?;
     if !text.ends_with(b"\n") {
         text.push(b'\n')?;
     }
     push_ending(case, first, text)?;
+    if case.once {
+        return Ok(());
+    }
     push_pieces(alloc, case, first, text)?;
     push_all_kept(alloc, case, first, text)
 }
