@@ -3,13 +3,12 @@
 ghost use Rattle.std.specs.Prelude.{◌≡◌, ◌≤◌, true, IfSome};
 ghost use Rattle.wi_functions.specs.declared.evaluation.Want.TheVariants as wanted;
 ghost use Rattle.wi_engine.specs.Inner.Attempt.{AsksAt, IsLacking};
-ghost use Rattle.wi_engine.specs.Inner.Frames.{IsFrame, spare};
+ghost use Rattle.wi_engine.specs.Inner.Frames.{IsFrame, StandsAt, spare};
 ghost use Rattle.wi_engine.specs.Inner.MemoState.{MemoState};
 ghost use Rattle.wi_engine.specs.declared.frame.Waiting.TheVariants as waiting;
 
 use crate::frame::{Frame, Waiting};
 use crate::lacking::is_lacking;
-use crate::seen::{Seen, content_in};
 use std::alloc::Global;
 use wi_functions::first_cell;
 use wi_store::Store;
@@ -18,6 +17,7 @@ use wi_values::Address;
 /// Lets a frame that waits for nothing, and for which nothing was found, wait for a cell that any evaluation of its formula asks
 /// for, so that it isn't evaluated in vain. Takes no memory. The work is that of `first_cell` and of `is_lacking`.
 pub fn look_ahead(alloc: Global, store: &Store, frame: &mut Frame)
+    requires formula { StandsAt store.now.sheet frame.old.key frame.old.formula.now }
     ensures key { frame.new.key ≡ frame.old.key }
     ensures found { frame.new.found ≡ frame.old.found }
     ensures frame { (m : MemoState) → IsFrame store.now.sheet m frame.old → IsFrame store.now.sheet m frame.new }
@@ -44,13 +44,11 @@ fn is_new(frame: &Frame) -> bool
 
 /// A cell that any evaluation of a frame's formula asks for, and that the frame lacks.
 fn cell_ahead(store: &Store, frame: &Frame) -> Option<Address>
+    requires formula { StandsAt store.now.sheet frame.now.key frame.now.formula.now }
     ensures asks { IfSome result (λ a. AsksAt store.now.sheet frame.now.key.world frame.now.key.cell (wanted.Cell a)) }
     ensures lacking { IfSome result (λ a. IsLacking store.now.sheet frame.now.key.world frame.now.found (wanted.Cell a)) }
 {
-    let Seen::Formula(formula) = content_in(store, &frame.key.world, frame.key.cell) else {
-        return None;
-    };
-    match first_cell(formula) {
+    match first_cell(frame.formula) {
         Some(at) if is_lacking(store, frame, at) => Some(at),
         _ => None,
     }

@@ -15,71 +15,76 @@ ghost use Rattle.wi_sheet.specs.Settled.{IsSettled, RestsOnKept};
 ghost use Rattle.wi_sheet.specs.Inner.Spending.{CountsAtMost, CountsFound, HasCase, NeverFall};
 ghost use Rattle.wi_engine.specs.Inner.MemoState.{MemoState, IsMemoOf};
 ghost use Rattle.wi_engine.specs.Inner.Attempt.{AsksAt, IsLacking, lacks_cell};
-ghost use Rattle.wi_engine.specs.Inner.Frames.{MayBeRead, IsToValue, IsUnvalued, AreReadHere, Awaits, IsFrame, IsNext, case_at, spare, waits, waits_at};
+ghost use Rattle.wi_engine.specs.Inner.Frames.{MayBeRead, IsToValue, StandsAt, IsUnvalued, AreReadHere, Awaits, IsFrame, IsNext, case_at, spare, waits, waits_at};
 ghost use Rattle.wi_engine.specs.Inner.SettledFrames.{IsFrameSettled};
 ghost use Rattle.wi_engine.specs.Inner.Saving.{KeepsFound, WhereRoom, CountsUnkept, SavesAll, TakesNoMore, GivesUpWhenFull, NeedsNoEvaluation, IsValuedAnew};
-ghost use Rattle.wi_engine.specs.Inner.Steps.{IfKnown, IfUnknown, IfReplaced, IfInputUnknown, IfValued, IfNeedsKey, evaluations_after};
+ghost use Rattle.wi_engine.specs.Inner.Steps.{IfKnown, IfUnknown, IfReplaced, IfInputUnknown, IfValued, IfNeedsValue, evaluations_after};
 ghost use Rattle.wi_engine.specs.declared.frame.Waiting.TheVariants as waiting;
 
 use crate::ahead::look_ahead;
 use crate::attempt::attempt;
 use crate::findings::FoundWhatIf;
-use crate::frame::{Advance, Asked, Frame, Inputs, Waiting};
+use crate::frame::{Advance, Asked, Frame, Inputs, Unvalued, Waiting};
 use crate::lacking::is_lacking;
 use crate::memo::Memo;
 use crate::pool::Pool;
-use crate::seen::{Seen, content_in, formula_at};
+use crate::seen::{Seen, replaced, stored};
 use crate::together::together;
 use std::alloc::{AllocError, Global};
 use std::mem;
 use wi_cache::Key;
 use wi_functions::{Meter, Outcome, Want};
-use wi_parser::Pair;
+use wi_parser::{Formula, Pair};
 use wi_store::Store;
 use wi_values::{Address, Replacement, Value};
 use wi_worlds::World;
 
 /// A cell's value under replacements, where no formula has to be evaluated for it: nothing, a constant, or what is
 /// remembered.
-fn value_now<M: Memo>(
+fn value_now<'a, M: Memo>(
     alloc: Global,
-    store: &Store,
+    store: &'a Store,
     world: &World,
     at: Address,
     memo: &mut M,
-) -> Result<Asked, AllocError>
+) -> Result<Asked<'a>, AllocError>
     requires memo { IsMemoOf store.now.sheet (M.state memo.old) }
     requires read { MayBeRead store.now.sheet (M.state memo.old) at }
     ensures known { IfOk result (λ a. IfKnown a (λ v. v ≡ show.cell_value (put_all store.now.sheet world.now) at)) }
-    ensures unknown { IfOk result (λ a. IfUnknown a (IsUnvalued store.now.sheet (M.state memo.old) world.now at)) }
+    ensures unknown { IfOk result (λ a. IfUnknown a (λ u. IsUnvalued store.now.sheet (M.state memo.old) world.now at u.key)) }
+    ensures formula { IfOk result (λ a. IfUnknown a (λ u. StandsAt store.now.sheet u.key u.formula.now)) }
     ensures there { IfOk result (λ a. IfKnown a (λ _. NeedsNoEvaluation store.now.sheet (M.state memo.old) world.now at)) }
     ensures same { M.state memo.new ≡ M.state memo.old }
 {
-    match content_in(store, world, at) {
+    if let Some(value) = replaced(world, at) {
+        return Ok(Asked::Known(value.copy(alloc)?));
+    }
+    match stored(store, at) {
         Seen::Nothing => Ok(Asked::Known(Value::Empty)),
         Seen::Constant(value) => Ok(Asked::Known(value.copy(alloc)?)),
-        Seen::Formula(_) => {
+        Seen::Formula(formula) => {
             let key = memo.key(at, world)?;
             match memo.look(&key) {
                 Some(value) => Ok(Asked::Known(value.copy(alloc)?)),
-                None => Ok(Asked::Unknown(key)),
+                None => Ok(Asked::Unknown(Unvalued { key, formula })),
             }
         }
     }
 }
 
 /// Replacements with those of a what-if put in. All its inputs' values are taken before any is put.
-fn world_of_what_if<M: Memo>(
+fn world_of_what_if<'a, M: Memo>(
     alloc: Global,
-    store: &Store,
+    store: &'a Store,
     world: &World,
     pairs: &[Pair],
     memo: &mut M,
-) -> Result<Inputs, AllocError>
+) -> Result<Inputs<'a>, AllocError>
     requires memo { IsMemoOf store.now.sheet (M.state memo.old) }
     requires read { All (λ p. MayBeRead store.now.sheet (M.state memo.old) p.replacement.at) pairs.now }
     ensures known { IfOk result (λ i. IfReplaced i (λ w. w ≡ with_what_if store.now.sheet world.now (map addresses (map pair_of pairs.now)))) }
-    ensures unknown { IfOk result (λ i. IfInputUnknown i (λ k. (list_any (λ p. p.1.at == k.cell) (map pair_of pairs.now) ≡ true) × IsUnvalued store.now.sheet (M.state memo.old) world.now k.cell k)) }
+    ensures unknown { IfOk result (λ i. IfInputUnknown i (λ u. (list_any (λ p. p.1.at == u.key.cell) (map pair_of pairs.now) ≡ true) × IsUnvalued store.now.sheet (M.state memo.old) world.now u.key.cell u.key)) }
+    ensures formula { IfOk result (λ i. IfInputUnknown i (λ u. StandsAt store.now.sheet u.key u.formula.now)) }
     ensures order { IsInOrder world.now }
     ensures settled { IfOk result (λ i. IfReplaced i (λ _. KeepsFound (M.state memo.old) → All (λ p. IsSettled store.now.sheet (M.state memo.old).kept world.now p.replacement.at) pairs.now)) }
     ensures same { M.state memo.new ≡ M.state memo.old }
@@ -92,7 +97,7 @@ fn world_of_what_if<M: Memo>(
                 at: pair.input.at,
                 value,
             })?,
-            Asked::Unknown(key) => return Ok(Inputs::Unknown(key)),
+            Asked::Unknown(input) => return Ok(Inputs::Unknown(input)),
         }
     }
     Ok(Inputs::Known(world.with(&inputs)?))
@@ -114,23 +119,24 @@ fn next_lacking(store: &Store, frame: &Frame, cells: &mut Vec<Address>) -> Optio
     None
 }
 
-/// Finds the values of cells for a frame that waits for nothing else, so that it lacks none of them, or gives the key of one
-/// that has to be valued first.
-fn settle_cells<M: Memo>(
+/// Finds the values of cells for a frame that waits for nothing else, so that it lacks none of them, or gives one that has
+/// to be valued first.
+fn settle_cells<'a, M: Memo>(
     alloc: Global,
-    store: &Store,
-    frame: &mut Frame,
+    store: &'a Store,
+    frame: &mut Frame<'a>,
     at: Address,
     others: Vec<Address>,
     memo: &mut M,
-) -> Result<Option<Key>, AllocError>
+) -> Result<Option<Unvalued<'a>>, AllocError>
     requires memo { IsMemoOf store.now.sheet (M.state memo.old) }
     requires frame { IsFrame store.now.sheet (M.state memo.old) frame.old }
     requires waiting { frame.old.waiting ≡ waiting.Nothing }
     requires awaits { Awaits store.now.sheet (case_at frame.old.key) frame.old.found (waiting.Cells at others) }
     ensures key { frame.new.key ≡ frame.old.key }
     ensures frame { OnOk result (IsFrame store.now.sheet (M.state memo.old) frame.new) }
-    ensures next { IfOk result (λ o. IfSome o (IsNext store.now.sheet (M.state memo.old) frame.old.key)) }
+    ensures next { IfOk result (λ o. IfSome o (λ u. IsNext store.now.sheet (M.state memo.old) frame.old.key u.key)) }
+    ensures formula { IfOk result (λ o. IfSome o (λ u. StandsAt store.now.sheet u.key u.formula.now)) }
     ensures settled { result ≡ Ok None → frame.new.waiting ≡ waiting.Nothing }
     ensures found { OnOk result (KeepsFound (M.state memo.old) → IsFrameSettled store.now.sheet (M.state memo.old).kept frame.old → IsFrameSettled store.now.sheet (M.state memo.old).kept frame.new) }
     ensures all { result ≡ Ok None → (d : ℕ) → is_one_of others.items d ≡ true → lacks_cell store.now.sheet frame.new.key.world frame.new.found d ≡ false }
@@ -142,9 +148,9 @@ fn settle_cells<M: Memo>(
     'cells: loop {
         match value_now(alloc, store, &frame.key.world, at, memo)? {
             Asked::Known(value) => frame.found.add_cell(at, value)?,
-            Asked::Unknown(key) => {
+            Asked::Unknown(first) => {
                 frame.waiting = Waiting::Cells(at, others);
-                return Ok(Some(key));
+                return Ok(Some(first));
             }
         }
         match next_lacking(store, frame, &mut others) {
@@ -154,37 +160,38 @@ fn settle_cells<M: Memo>(
     }
 }
 
-/// Finds the value of a what-if for a frame that waits for nothing else, or gives the key of a cell that has to be valued
-/// first: that of an input's value, and else its formula cell.
-fn settle_what_if<M: Memo>(
+/// Finds the value of a what-if for a frame that waits for nothing else, or gives a cell that has to be valued first: that of
+/// an input's value, and else its formula cell.
+fn settle_what_if<'a, M: Memo>(
     alloc: Global,
-    store: &Store,
-    frame: &mut Frame,
+    store: &'a Store,
+    frame: &mut Frame<'a>,
     at: Address,
     pairs: Vec<Pair>,
     memo: &mut M,
-) -> Result<Option<Key>, AllocError>
+) -> Result<Option<Unvalued<'a>>, AllocError>
     requires memo { IsMemoOf store.now.sheet (M.state memo.old) }
     requires frame { IsFrame store.now.sheet (M.state memo.old) frame.old }
     requires waiting { frame.old.waiting ≡ waiting.Nothing }
     requires awaits { Awaits store.now.sheet (case_at frame.old.key) frame.old.found (waiting.WhatIf at pairs) }
     ensures key { frame.new.key ≡ frame.old.key }
     ensures frame { OnOk result (IsFrame store.now.sheet (M.state memo.old) frame.new) }
-    ensures next { IfOk result (λ o. IfSome o (IsNext store.now.sheet (M.state memo.old) frame.old.key)) }
+    ensures next { IfOk result (λ o. IfSome o (λ u. IsNext store.now.sheet (M.state memo.old) frame.old.key u.key)) }
+    ensures formula { IfOk result (λ o. IfSome o (λ u. StandsAt store.now.sheet u.key u.formula.now)) }
     ensures settled { result ≡ Ok None → frame.new.waiting ≡ waiting.Nothing }
     ensures found { OnOk result (KeepsFound (M.state memo.old) → IsFrameSettled store.now.sheet (M.state memo.old).kept frame.old → IsFrameSettled store.now.sheet (M.state memo.old).kept frame.new) }
     ensures spare { OnOk result (spare store.now.sheet frame.new + 1 ≤ spare store.now.sheet frame.old) }
     ensures same { M.state memo.new ≡ M.state memo.old }
 {
     match world_of_what_if(alloc, store, &frame.key.world, &pairs, memo)? {
-        Inputs::Unknown(key) => {
+        Inputs::Unknown(first) => {
             frame.waiting = Waiting::WhatIf(at, pairs);
-            Ok(Some(key))
+            Ok(Some(first))
         }
         Inputs::Known(world) => match value_now(alloc, store, &world, at, memo)? {
-            Asked::Unknown(key) => {
+            Asked::Unknown(first) => {
                 frame.waiting = Waiting::WhatIf(at, pairs);
-                Ok(Some(key))
+                Ok(Some(first))
             }
             Asked::Known(value) => {
                 frame.found.add_what_if(FoundWhatIf { at, pairs, value })?;
@@ -194,18 +201,19 @@ fn settle_what_if<M: Memo>(
     }
 }
 
-/// Finds what a frame waits for, or gives the key of a cell that has to be valued first.
-fn settle<M: Memo>(
+/// Finds what a frame waits for, or gives a cell that has to be valued first.
+fn settle<'a, M: Memo>(
     alloc: Global,
-    store: &Store,
-    frame: &mut Frame,
+    store: &'a Store,
+    frame: &mut Frame<'a>,
     memo: &mut M,
-) -> Result<Option<Key>, AllocError>
+) -> Result<Option<Unvalued<'a>>, AllocError>
     requires memo { IsMemoOf store.now.sheet (M.state memo.old) }
     requires frame { IsFrame store.now.sheet (M.state memo.old) frame.old }
     ensures key { frame.new.key ≡ frame.old.key }
     ensures frame { OnOk result (IsFrame store.now.sheet (M.state memo.old) frame.new) }
-    ensures next { IfOk result (λ o. IfSome o (IsNext store.now.sheet (M.state memo.old) frame.old.key)) }
+    ensures next { IfOk result (λ o. IfSome o (λ u. IsNext store.now.sheet (M.state memo.old) frame.old.key u.key)) }
+    ensures formula { IfOk result (λ o. IfSome o (λ u. StandsAt store.now.sheet u.key u.formula.now)) }
     ensures settled { result ≡ Ok None → frame.new.waiting ≡ waiting.Nothing }
     ensures found { OnOk result (KeepsFound (M.state memo.old) → IsFrameSettled store.now.sheet (M.state memo.old).kept frame.old → IsFrameSettled store.now.sheet (M.state memo.old).kept frame.new) }
     ensures spare { OnOk result (spare store.now.sheet frame.new ≤ spare store.now.sheet frame.old) }
@@ -222,17 +230,16 @@ fn settle<M: Memo>(
 fn wait_for(alloc: Global, store: &Store, frame: &mut Frame, want: Want) -> Result<(), AllocError>
     requires asks { AsksAt store.now.sheet frame.old.key.world frame.old.key.cell want }
     requires lacking { IsLacking store.now.sheet frame.old.key.world frame.old.found want }
+    requires formula { StandsAt store.now.sheet frame.old.key frame.old.formula.now }
     ensures key { frame.new.key ≡ frame.old.key }
+    ensures formula { frame.new.formula.now ≡ frame.old.formula.now }
     ensures found { frame.new.found ≡ frame.old.found }
     ensures awaits { OnOk result (Awaits store.now.sheet (case_at frame.old.key) frame.old.found frame.new.waiting) }
     ensures waits { OnOk result (waits frame.new.waiting ≡ 1) }
 {
     match want {
         Want::Cell(at) => {
-            let Some(formula) = formula_at(store, frame.key.cell) else {
-                unreachable!()
-            };
-            let batch = together(alloc, store, frame, formula, at)?;
+            let batch = together(alloc, store, frame, at)?;
             frame.keep_course(batch.course)?;
             frame.waiting = Waiting::Cells(at, batch.cells);
             Ok(())
@@ -245,19 +252,20 @@ fn wait_for(alloc: Global, store: &Store, frame: &mut Frame, want: Want) -> Resu
 }
 
 /// Goes on with a frame until its value is there or another has to be found first.
-fn advance<M: Memo>(
+fn advance<'a, M: Memo>(
     alloc: Global,
-    store: &Store,
-    frame: &mut Frame,
+    store: &'a Store,
+    frame: &mut Frame<'a>,
     memo: &mut M,
     meter: &mut Meter,
-) -> Result<Advance, AllocError>
+) -> Result<Advance<'a>, AllocError>
     requires memo { IsMemoOf store.now.sheet (M.state memo.old) }
     requires frame { IsFrame store.now.sheet (M.state memo.old) frame.old }
     ensures key { frame.new.key ≡ frame.old.key }
     ensures frame { OnOk result (IsFrame store.now.sheet (M.state memo.old) frame.new) }
     ensures done { IfOk result (λ s. IfValued s (λ v. v ≡ show.cell_value (put_all store.now.sheet frame.old.key.world) frame.old.key.cell)) }
-    ensures next { IfOk result (λ s. IfNeedsKey s (IsNext store.now.sheet (M.state memo.old) frame.old.key)) }
+    ensures next { IfOk result (λ s. IfNeedsValue s (λ u. IsNext store.now.sheet (M.state memo.old) frame.old.key u.key)) }
+    ensures formula { IfOk result (λ s. IfNeedsValue s (λ u. StandsAt store.now.sheet u.key u.formula.now)) }
     ensures found { OnOk result (KeepsFound (M.state memo.old) → IsFrameSettled store.now.sheet (M.state memo.old).kept frame.old → IsFrameSettled store.now.sheet (M.state memo.old).kept frame.new) }
     ensures rests { IfOk result (λ s. IfValued s (λ _. KeepsFound (M.state memo.old) → IsFrameSettled store.now.sheet (M.state memo.old).kept frame.old → RestsOnKept store.now.sheet (M.state memo.old).kept (case_at frame.old.key))) }
     ensures evaluations { IfOk result (λ s. meter.new.evaluations ≡ evaluations_after s meter.old.evaluations) }
@@ -269,17 +277,10 @@ fn advance<M: Memo>(
 {
     look_ahead(alloc, store, frame);
     'rounds: loop {
-        if let Some(key) = settle(alloc, store, frame, memo)? {
-            return Ok(Advance::Needs(key));
+        if let Some(first) = settle(alloc, store, frame, memo)? {
+            return Ok(Advance::Needs(first));
         }
-        match attempt(
-            alloc,
-            store,
-            frame.key.cell,
-            &frame.key.world,
-            &frame.found,
-            meter,
-        )? {
+        match attempt(alloc, store, frame, meter)? {
             Outcome::Done(value) => return Ok(Advance::Done(value)),
             Outcome::Needs(want) => wait_for(alloc, store, frame, want)?,
         }
@@ -302,6 +303,7 @@ fn wait_for_others(store: &Store, frame: &mut Frame, others: Vec<Address>)
     requires waiting { frame.old.waiting ≡ waiting.Nothing }
     requires read { AreReadHere store.now.sheet (case_at frame.old.key) others.items }
     ensures key { frame.new.key ≡ frame.old.key }
+    ensures formula { frame.new.formula.now ≡ frame.old.formula.now }
     ensures found { frame.new.found ≡ frame.old.found }
     ensures awaits { Awaits store.now.sheet (case_at frame.old.key) frame.old.found frame.new.waiting }
 {
@@ -346,11 +348,13 @@ fn run<M: Memo>(
     alloc: Global,
     store: &Store,
     key: Key,
+    formula: &Formula,
     memo: &mut M,
     meter: &mut Meter,
 ) -> Result<Value, AllocError>
     requires memo { IsMemoOf store.now.sheet (M.state memo.old) }
     requires key { IsToValue store.now.sheet (M.state memo.old) key }
+    requires formula { StandsAt store.now.sheet key formula.now }
     requires unfound { (M.state memo.old).found key.cell key.world ≡ false }
     requires unkept { (M.state memo.old).kept key.cell key.world ≡ false }
     ensures value { IfOk result (λ v. v ≡ show.cell_value (put_all store.now.sheet key.world) key.cell) }
@@ -379,12 +383,12 @@ fn run<M: Memo>(
 {
     let mut pool = Pool::new(alloc);
     let mut stack = Vec::new(alloc);
-    let mut frame = Frame::new(key, pool.take());
+    let mut frame = Frame::new(key, formula, pool.take());
     'frames: loop {
         match advance(alloc, store, &mut frame, memo, meter)? {
             Advance::Needs(next) => {
                 stack.push(frame)?;
-                frame = Frame::new(next, pool.take());
+                frame = Frame::new(next.key, next.formula, pool.take());
             }
             Advance::Done(value) => match stack.pop() {
                 None => {
@@ -447,6 +451,6 @@ pub fn value_under<M: Memo>(
 {
     match value_now(alloc, store, world, at, memo)? {
         Asked::Known(value) => Ok(value),
-        Asked::Unknown(key) => run(alloc, store, key, memo, meter),
+        Asked::Unknown(cell) => run(alloc, store, cell.key, cell.formula, memo, meter),
     }
 }

@@ -9,7 +9,7 @@ use crate::findings::Findings;
 use crate::pool::{Arrays, Pool};
 use std::alloc::AllocError;
 use wi_cache::Key;
-use wi_parser::Pair;
+use wi_parser::{Formula, Pair};
 use wi_values::{Address, Rect, Value};
 use wi_worlds::World;
 
@@ -25,19 +25,21 @@ pub enum Waiting {
 
 /// A cell under the replacements that reach it, whose formula is being valued, with the values that were found for it.
 #[derive(Drop)]
-pub struct Frame {
+pub struct Frame<'a> {
     pub key: Key,
+    pub formula: &'a Formula,
     pub found: Findings,
     pub waiting: Waiting,
     /// One for each of the formula's rectangles from which a cell was wanted.
     pub courses: Vec<Course>,
 }
 
-impl Frame {
+impl<'a> Frame<'a> {
     /// A frame with no values yet, in arrays out of which goes what was in them. Takes no memory. The work grows with the count
     /// of what goes.
-    pub fn new(key: Key, arrays: Arrays) -> Frame
+    pub fn new(key: Key, formula: &'a Formula, arrays: Arrays) -> Frame<'a>
         ensures key { result.key ≡ key }
+        ensures formula { result.formula.now ≡ formula.now }
         ensures cells { (c : ℕ) → found_value result.found c ≡ None }
         ensures what_ifs { result.found.what_ifs.items ≡ [] }
         ensures waiting { result.waiting ≡ Nothing }
@@ -48,6 +50,7 @@ impl Frame {
         courses.clear();
         Frame {
             key,
+            formula,
             found,
             waiting: Waiting::Nothing,
             courses,
@@ -69,6 +72,7 @@ impl Frame {
     /// Keeps a course, in the place of an earlier one through its rectangle. The work grows with the count of courses.
     pub fn keep_course(&mut self, course: Course) -> Result<(), AllocError>
         ensures key { self.new.key ≡ self.old.key }
+        ensures formula { self.new.formula.now ≡ self.old.formula.now }
         ensures found { self.new.found ≡ self.old.found }
     {
         for kept in self.courses.iter_mut() {
@@ -83,14 +87,14 @@ impl Frame {
 
     /// The key, where the rest is no longer of use.
     pub fn into_key(self) -> Key
-        ensures { result ≡ self.key }
+        ensures { result ≡ self.entry.key }
     {
         self.key
     }
 
     /// The key, where the frame is done. Its arrays are put into a pool.
     pub fn retire(self, pool: &mut Pool) -> Key
-        ensures { result ≡ self.key }
+        ensures { result ≡ self.entry.key }
     {
         pool.put(Arrays {
             found: self.found,
@@ -100,26 +104,33 @@ impl Frame {
     }
 }
 
+/// A formula that has to be valued, and the key of its value.
+#[derive(Drop)]
+pub struct Unvalued<'a> {
+    pub key: Key,
+    pub formula: &'a Formula,
+}
+
 /// What a cell shows under replacements, as far as it is there.
 #[derive(Drop)]
-pub enum Asked {
+pub enum Asked<'a> {
     Known(Value),
-    /// The key under which a formula has to be valued.
-    Unknown(Key),
+    /// It has to be valued.
+    Unknown(Unvalued<'a>),
 }
 
 /// Replacements with those of a what-if put in, as far as its inputs' values are there.
 #[derive(Drop)]
-pub enum Inputs {
+pub enum Inputs<'a> {
     Known(World),
-    /// The key under which a formula has to be valued first.
-    Unknown(Key),
+    /// It has to be valued first.
+    Unknown(Unvalued<'a>),
 }
 
 /// How far a frame has come.
 #[derive(Drop)]
-pub enum Advance {
+pub enum Advance<'a> {
     Done(Value),
-    /// The key under which a formula has to be valued first.
-    Needs(Key),
+    /// It has to be valued first.
+    Needs(Unvalued<'a>),
 }

@@ -1,7 +1,7 @@
 //! What stands in a cell under replacements.
 
 ghost use Rattle.std.specs.Prelude.{◌≡◌, false, Some, IfSome, IfNone};
-ghost use Rattle.wi_parser.specs.Sheet.{constant, content_of, has_formula, put_all};
+ghost use Rattle.wi_parser.specs.Sheet.{Sheet, constant, content_of, has_formula, put_all};
 ghost use Rattle.wi_engine.specs.Inner.Seen.{content_seen};
 
 use wi_parser::{Content, Formula};
@@ -22,12 +22,20 @@ pub enum Seen<'a> {
 pub fn content_in<'a>(store: &'a Store, world: &'a World, at: Address) -> Seen<'a>
     ensures { content_seen result ≡ content_of (put_all store.now.sheet world.now) at }
 {
+    match replaced(world, at) {
+        Some(value) => constant(value),
+        None => stored(store, at),
+    }
+}
+
+/// The value that is put into a cell, if one is. The work grows with the logarithm of the count of replacements.
+pub fn replaced(world: &World, at: Address) -> Option<&Value>
+    ensures some { IfSome result (λ v. (s : Sheet) → content_of (put_all s world.now) at ≡ constant v.now) }
+    ensures none { IfNone result ((s : Sheet) → content_of (put_all s world.now) at ≡ content_of s at) }
+{
     // They stand in order, so that one is the last for its address.
     let _ = world.replacements();
-    if let Some(value) = world.replacement(at) {
-        return constant(value);
-    }
-    stored(store, at)
+    world.replacement(at)
 }
 
 /// What a cell has where a constant is put.
@@ -44,7 +52,7 @@ pub fn constant(value: &Value) -> Seen<'_>
 }
 
 /// What stands in a cell.
-fn stored(store: &Store, at: Address) -> Seen<'_>
+pub fn stored(store: &Store, at: Address) -> Seen<'_>
     ensures { content_seen result ≡ content_of store.now.sheet at }
 {
     match store.get(at) {

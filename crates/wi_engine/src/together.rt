@@ -17,7 +17,6 @@ use crate::course::{Course, Way, part};
 use crate::frame::Frame;
 use crate::lacking::{next_lacking_in, with_next_lacking};
 use std::alloc::{AllocError, Global};
-use wi_parser::Formula;
 use wi_store::Store;
 use wi_values::{Address, Rect};
 
@@ -35,16 +34,15 @@ pub fn together(
     alloc: Global,
     store: &Store,
     frame: &Frame,
-    formula: &Formula,
     at: Address,
 ) -> Result<Batch, AllocError>
-    requires read { reads_here formula.now at ≡ true }
+    requires read { reads_here frame.now.formula.now at ≡ true }
     requires formula { has_formula (content_of store.now.sheet at) ≡ true }
-    ensures read { IfOk result (λ b. (d : ℕ) → is_one_of b.cells.items d ≡ true → (reads_here formula.now d ≡ true) × (has_formula (content_of store.now.sheet d) ≡ true)) }
+    ensures read { IfOk result (λ b. (d : ℕ) → is_one_of b.cells.items d ≡ true → (reads_here frame.now.formula.now d ≡ true) × (has_formula (content_of store.now.sheet d) ≡ true)) }
     ensures wanted { IfOk result (λ b. is_one_of b.cells.items at ≡ true) }
-    ensures following { IfOk result (λ b. AreTogether store.now.sheet frame.now formula.now at b.course b.cells.items) }
+    ensures following { IfOk result (λ b. AreTogether store.now.sheet frame.now frame.now.formula.now at b.course b.cells.items) }
 {
-    let rectangle = smallest_with(formula.rectangles(), at);
+    let rectangle = smallest_with(frame.formula.rectangles(), at);
     let course = course_to(store, frame, rectangle, at);
     let area = part(rectangle, course.way, at);
     let cells = with_next_lacking(alloc, store, frame, area, at, course.count)?;

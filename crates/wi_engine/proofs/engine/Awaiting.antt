@@ -1,5 +1,5 @@
 -- What a frame waits for, and what it gets.
-use Rattle.std.proofs.Common.{◌≡◌, ◌==◌, ◌+◌, ◌<◌, ◌≤◌, ℕ, zero, suc, Bool, true, false, cond, List, [], ◌∷◌, ◌++◌, map, filter, length, get_or, Option, Some, None, ap, sym, ◌∙◌, arith, eq-eqb}
+use Rattle.std.proofs.Common.{◌≡◌, ◌==◌, ◌+◌, ◌<◌, ◌≤◌, ℕ, zero, suc, true, List, [], ◌∷◌, ◌++◌, map, filter, length, get_or, Option, Some, None, ap, sym, ◌∙◌, arith, eq-eqb}
 use Rattle.std.proofs.lemmas.Bool.{or_left, or_right}
 use Rattle.std.specs.List.{list_any}
 use Rattle.std.specs.Option.{is_none}
@@ -11,7 +11,7 @@ use Rattle.wi_parser.specs.View.{pair_of}
 use Rattle.wi_parser.specs.Tree.{Tree}
 use Rattle.wi_parser.specs.declared.content.Content.{Content}
 use Rattle.wi_parser.specs.declared.content.Content.TheVariants.{Formula}
-use Rattle.wi_parser.specs.Sheet.{Sheet, constant, content_of, put_all, has_formula, cells_with_formula}
+use Rattle.wi_parser.specs.Sheet.{Sheet, content_of, put_all, has_formula, cells_with_formula}
 use Rattle.wi_functions.specs.declared.evaluation.Want.{Want}
 use Rattle.wi_functions.specs.declared.evaluation.Want.TheVariants as wanted
 use Rattle.wi_cache.specs.declared.key.Key.{Key}
@@ -20,14 +20,14 @@ use Rattle.wi_graph.proofs.SetSteps.{in_front, in_back}
 use Rattle.wi_graph.proofs.Walks.{formula_cell}
 use Rattle.wi_sheet.specs.CellValue.{cell_value, what_if_value}
 use Rattle.wi_sheet.specs.Demand.{Case, what_ifs_of, reads_here, formulas_read_here, of_formula}
-use Rattle.wi_sheet.proofs.Puts.{overlaid, content_of-put_all, plain}
 use Rattle.wi_sheet.proofs.Bounds.{put_formula}
 use Rattle.wi_sheet.proofs.Members.{IsIn, in_filter}
 use Rattle.wi_sheet.proofs.Asked.{is_in, asked_cell}
+use Rattle.wi_sheet.proofs.Demands.{same_tree}
 use Rattle.wi_engine.specs.Inner.MemoState.{MemoState}
 use Rattle.wi_engine.specs.Inner.Findings.{pairs_of, found_value, what_if_found, AreAllRight, IsWithCell, IsWithWhatIf}
 use Rattle.wi_engine.specs.Inner.Attempt.{AsksAt, IsLacking, lacking}
-use Rattle.wi_engine.specs.Inner.Frames.{case_at, content_reads_here, AreReadHere, Awaits, IsUnvalued, IsFrame, lacks, waits}
+use Rattle.wi_engine.specs.Inner.Frames.{case_at, StandsAt, content_reads_here, AreReadHere, Awaits, IsUnvalued, IsFrame, lacks, waits}
 use Rattle.wi_engine.specs.declared.findings.Findings.{Findings}
 use Rattle.wi_engine.specs.declared.findings.FoundWhatIf.{FoundWhatIf}
 use Rattle.wi_engine.specs.declared.frame.Frame.{Frame}
@@ -58,29 +58,17 @@ input_unvalued s m n w pairs i x k h e en u =
 
 -- ---- what a formula asks for
 
-overlaid_is : (p : List Replacement) (c : ℕ) (o : Option Content) (t : Tree) → overlaid p c o ≡ Some (Formula t) → o ≡ Some (Formula t)
-overlaid_is [] c o t h = h
-overlaid_is (r ∷ rs) c o t h = at (c == r.at) (overlaid_is rs c (cond (c == r.at) (constant r.value) o) t h)
-  where
-    at : (b : Bool) → cond b (constant r.value) o ≡ Some (Formula t) → o ≡ Some (Formula t)
-    at true k = let z = plain r.value in let y = ap has_formula k in cc
-    at false k = k
-
--- a formula under replacements is the sheet's
-formula_is : (s : Sheet) (k : Case) (t u : Tree) → content_of (put_all s k.1) k.0 ≡ Some (Formula t) → content_of s k.0 ≡ Some (Formula u) → t ≡ u
-formula_is s k t u e h = let there = overlaid_is k.1 k.0 (content_of s k.0) t (sym (content_of-put_all s k.1 k.0) ∙ e) in cc
-
-pub cell_here : (s : Sheet) (k : Case) (want : Want) (t : Tree) (a : ℕ) → AsksAt s k.1 k.0 want → want ≡ wanted.Cell a → content_of s k.0 ≡ Some (Formula t) → reads_here t a ≡ true
+pub cell_here : (s : Sheet) (k : Key) (want : Want) (t : Tree) (a : ℕ) → AsksAt s k.world k.cell want → want ≡ wanted.Cell a → StandsAt s k t → reads_here t a ≡ true
 cell_here s k want t a h e i =
     let asks = rw e at h.asks in
-    ap (λ (u : Tree). reads_here u a) (sym (formula_is s k h.tree t h.is i)) ∙ asked_cell h.tree a asks
+    ap (λ (u : Tree). reads_here u a) (same_tree t h.tree (content_of (put_all s k.world) k.cell) i h.is) ∙ asked_cell h.tree a asks
 
 pub awaits_cells : (s : Sheet) (k : Key) (f : Findings) (want : Want) (t : Tree) (a : ℕ) (others : Vec ℕ) → AsksAt s k.world k.cell want → IsLacking s k.world f want → want ≡ wanted.Cell a →
-    content_of s k.cell ≡ Some (Formula t) → ((d : ℕ) → is_one_of others.items d ≡ true → (reads_here t d ≡ true) × (has_formula (content_of s d) ≡ true)) → Awaits s (case_at k) f (Cells a others)
+    StandsAt s k t → ((d : ℕ) → is_one_of others.items d ≡ true → (reads_here t d ≡ true) × (has_formula (content_of s d) ≡ true)) → Awaits s (case_at k) f (Cells a others)
 awaits_cells s k f want t a others h l e i r =
     let lacking = rw e at l in
-    let here = λ (d : ℕ). ap (λ (o : Option Content). content_reads_here o d) h.is ∙ ap (λ (u : Tree). reads_here u d) (formula_is s (case_at k) h.tree t h.is i) in
-    (lacking, here a ∙ cell_here s (case_at k) want t a h e i, put_formula s k.world a lacking.0, λ d m. (here d ∙ (r d m).0, (r d m).1))
+    let here = λ (d : ℕ). ap (λ (o : Option Content). content_reads_here o d) i in
+    (lacking, here a ∙ cell_here s k want t a h e i, put_formula s k.world a lacking.0, λ d m. (here d ∙ (r d m).0, (r d m).1))
 
 -- ---- how much is lacking
 
@@ -132,10 +120,11 @@ what_if_falls s k f g x more h l =
 
 -- ---- the same frame with other values or waiting for something else
 
-pub frame_with : (s : Sheet) (m : MemoState) (f g : Frame) → IsFrame s m f → g.key ≡ f.key → AreAllRight (cell_value (put_all s f.key.world)) (what_if_value (put_all s f.key.world)) g.found →
+pub frame_with : (s : Sheet) (m : MemoState) (f g : Frame) → IsFrame s m f → g.key ≡ f.key → g.formula.now ≡ f.formula.now → AreAllRight (cell_value (put_all s f.key.world)) (what_if_value (put_all s f.key.world)) g.found →
     Awaits s (case_at f.key) g.found g.waiting → IsFrame s m g
-frame_with s m f g h e r a = record {
+frame_with s m f g h e t r a = record {
   key = rw e h.key;
+  formula = rw (e, t) h.formula;
   found = rw e r;
   waiting = rw e a;
 }

@@ -24,10 +24,10 @@ pub record IsSettling (s : Sheet) (old m : MemoState) (fs : List Frame) (f : Fra
   pub below : AreFramesSettled s m.kept fs
   pub rests : (c : ℕ) (w : List Replacement) → m.kept c w ≡ true → old.kept c w ≡ false → RestsOnKept s m.kept (c, w)
 
-new_settled : (s : Sheet) (kept : ℕ → List Replacement → Bool) (f : Frame) (k : Key) → IsNew f k → IsFrameSettled s kept f
+new_settled : (s : Sheet) (kept : ℕ → List Replacement → Bool) (f : Frame) (k : Key) → IsNew s f k → IsFrameSettled s kept f
 new_settled s kept f k n t e = settled_none s kept f.key.world t f.found n.cells n.what_ifs
 
-pub settling_start : (s : Sheet) (m : MemoState) (fs : List Frame) (f : Frame) (k : Key) → IsNew f k → fs ≡ [] → IsSettling s m m fs f
+pub settling_start : (s : Sheet) (m : MemoState) (fs : List Frame) (f : Frame) (k : Key) → IsNew s f k → fs ≡ [] → IsSettling s m m fs f
 settling_start s m fs f k n e = record {
   top = new_settled s m.kept f k n;
   below = rw e tt;
@@ -38,7 +38,7 @@ one_more : (s : Sheet) (kept : ℕ → List Replacement → Bool) (fs : List Fra
 one_more s kept [] f h k = (k, tt)
 one_more s kept (g ∷ fs) f h k = (h.0, one_more s kept fs f h.1 k)
 
-pub settling_push : (s : Sheet) (old m n : MemoState) (fs gs : List Frame) (f h g : Frame) (k : Key) → IsSettling s old m fs f → n ≡ m → IsFrameSettled s m.kept h → IsNew g k → gs ≡ fs ++ h ∷ [] → IsSettling s old n gs g
+pub settling_push : (s : Sheet) (old m n : MemoState) (fs gs : List Frame) (f h g : Frame) (k : Key) → IsSettling s old m fs f → n ≡ m → IsFrameSettled s m.kept h → IsNew s g k → gs ≡ fs ++ h ∷ [] → IsSettling s old n gs g
 settling_push s old m n fs gs f h g k i e settled new there = subst (λ (x : MemoState). IsSettling s old x gs g) (sym e) (record {
   top = new_settled s m.kept g k new;
   below = rw there (one_more s m.kept fs h i.below settled);

@@ -15,7 +15,7 @@ use Rattle.wi_sheet.proofs.Demands.{demand_closed, demand_has_itself}
 use Rattle.wi_engine.specs.Inner.Rank.{reach_rank}
 use Rattle.wi_engine.specs.Inner.MemoState.{MemoState, IsTold, IsMemoOf}
 use Rattle.wi_engine.specs.Inner.Findings.{found_value}
-use Rattle.wi_engine.specs.Inner.Frames.{case_at, IsToValue, IsUnvalued, IsFrame, IsNext, IsBegun, IsStack, BottomIs, spare, at_most}
+use Rattle.wi_engine.specs.Inner.Frames.{case_at, IsToValue, StandsAt, IsUnvalued, IsFrame, IsNext, IsBegun, IsStack, BottomIs, spare, at_most}
 use Rattle.wi_engine.specs.declared.frame.Frame.{Frame}
 use Rattle.wi_engine.specs.declared.frame.Waiting.TheVariants.{Nothing}
 use Rattle.wi_engine.proofs.engine.Rightness.{right_none}
@@ -49,23 +49,25 @@ pub record Keeps (m n : MemoState) (k : Key) (v : Value) : Type 0 where
 abbrev pub Finds : MemoState → MemoState → Key → Type 0
 Finds m n k = (c : ℕ) (w : List Replacement) → n.found c w ≡ (m.found c w || same_case (case_at k) (c, w))
 
--- a frame with no values yet
-pub record IsNew (f : Frame) (k : Key) : Type 0 where
+-- a frame with no values yet, and the formula of its key
+pub record IsNew (s : Sheet) (f : Frame) (k : Key) : Type 0 where
   pub key : f.key ≡ k
+  pub formula : StandsAt s k f.formula.now
   pub cells : (c : ℕ) → found_value f.found c ≡ None
   pub what_ifs : f.found.what_ifs.items ≡ []
   pub waiting : f.waiting ≡ Nothing
 
-new_frame : (s : Sheet) (m : MemoState) (f : Frame) (k : Key) → IsNew f k → IsToValue s m k → IsFrame s m f
+new_frame : (s : Sheet) (m : MemoState) (f : Frame) (k : Key) → IsNew s f k → IsToValue s m k → IsFrame s m f
 new_frame s m f k n h = record {
   key = rw n.key h;
+  formula = rw n.key n.formula;
   found = right_none (cell_value (put_all s f.key.world)) (what_if_value (put_all s f.key.world)) f.found n.cells n.what_ifs;
   waiting = rw n.waiting tt;
 }
 
 -- ---- the start
 
-start_alone : (s : Sheet) (m : MemoState) (k : Key) (f : Frame) (now : Counts) → IsMemoOf s m → IsToValue s m k → m.found k.cell k.world ≡ false → IsNew f k → IsRunning s m m (case_at k) now now [] f
+start_alone : (s : Sheet) (m : MemoState) (k : Key) (f : Frame) (now : Counts) → IsMemoOf s m → IsToValue s m k → m.found k.cell k.world ≡ false → IsNew s f k → IsRunning s m m (case_at k) now now [] f
 start_alone s m k f now h key u n = record {
   memo = h;
   covers = refl;
@@ -82,13 +84,13 @@ start_alone s m k f now h key u n = record {
   restarts = λ ks closed top. budget_start (wants s) (spare s) m.found ks f (case_at k) now.restarts (ap case_at n.key) (spare_new s k f n.key n.waiting) u top;
 }
 
-pub run_start : (s : Sheet) (m : MemoState) (k : Key) (fs : List Frame) (f : Frame) (now : Counts) → IsMemoOf s m → IsToValue s m k → m.found k.cell k.world ≡ false → IsNew f k → fs ≡ [] → IsRunning s m m (case_at k) now now fs f
+pub run_start : (s : Sheet) (m : MemoState) (k : Key) (fs : List Frame) (f : Frame) (now : Counts) → IsMemoOf s m → IsToValue s m k → m.found k.cell k.world ≡ false → IsNew s f k → fs ≡ [] → IsRunning s m m (case_at k) now now fs f
 run_start s m k fs f now h key u n e = subst (λ (gs : List Frame). IsRunning s m m (case_at k) now now gs f) (sym e) (start_alone s m k f now h key u n)
 
 -- ---- a frame more
 
 push_alone : (s : Sheet) (old m : MemoState) (root : Case) (start now next : Counts) (fs : List Frame) (f h g : Frame) (k : Key) → IsRunning s old m root start now fs f → h.key ≡ f.key → IsFrame s m h → IsNext s m f.key k →
-    NeverFall now next → next.evaluations ≡ now.evaluations → next.restarts + spare s h ≤ now.restarts + spare s f → IsNew g k → IsRunning s old m root start next (fs ++ h ∷ []) g
+    NeverFall now next → next.evaluations ≡ now.evaluations → next.restarts + spare s h ≤ now.restarts + spare s f → IsNew s g k → IsRunning s old m root start next (fs ++ h ∷ []) g
 push_alone s old m root start now next fs f h g k i e frame n up ev re new =
     let lower = rests_rank s (case_at f.key) (case_at k) n.rests i.begun.frame.key.open_cell in
     let begun = same_begun s m root f h e frame i.begun in
@@ -112,7 +114,7 @@ push_alone s old m root start now next fs f h g k i e frame n up ev re new =
     }
 
 pub run_push : (s : Sheet) (old m n : MemoState) (root : Case) (start now next : Counts) (fs gs : List Frame) (f h g : Frame) (k : Key) → IsRunning s old m root start now fs f → n ≡ m → h.key ≡ f.key → IsFrame s m h → IsNext s m f.key k →
-    NeverFall now next → next.evaluations ≡ now.evaluations → next.restarts + spare s h ≤ now.restarts + spare s f → IsNew g k → gs ≡ fs ++ h ∷ [] → IsRunning s old n root start next gs g
+    NeverFall now next → next.evaluations ≡ now.evaluations → next.restarts + spare s h ≤ now.restarts + spare s f → IsNew s g k → gs ≡ fs ++ h ∷ [] → IsRunning s old n root start next gs g
 run_push s old m n root start now next fs gs f h g k i en e frame x up ev re new eg =
     subst (λ (xs : List Frame). IsRunning s old n root start next xs g) (sym eg) (subst (λ (y : MemoState). IsRunning s old y root start next (fs ++ h ∷ []) g) (sym en) (push_alone s old m root start now next fs f h g k i e frame x up ev re new))
 

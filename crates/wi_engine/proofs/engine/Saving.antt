@@ -89,7 +89,7 @@ pub record IsGoing (s : Sheet) (old m : MemoState) (root : Case) (start now : Co
   pub latest : m.latest ≡ old.latest
   pub saving : (ks : List Case) → IsClosed s ks → Contains ks root → KeepsFound old → not_kept old ks ≤ old.room → IsSaving s old m root start now fs f ks
 
-pub saving_start : (s : Sheet) (m : MemoState) (k : Key) (fs : List Frame) (f : Frame) (now : Counts) (ks : List Case) → IsMemoOf s m → IsToValue s m k → m.kept k.cell k.world ≡ false → IsNew f k → fs ≡ [] → KeepsFound m → not_kept m ks ≤ m.room →
+pub saving_start : (s : Sheet) (m : MemoState) (k : Key) (fs : List Frame) (f : Frame) (now : Counts) (ks : List Case) → IsMemoOf s m → IsToValue s m k → m.kept k.cell k.world ≡ false → IsNew s f k → fs ≡ [] → KeepsFound m → not_kept m ks ≤ m.room →
     IsSaving s m m (case_at k) now now fs f ks
 saving_start s m k fs f now ks h key u n e w r = record {
   running = run_start s (by_kept m) k fs f now (kept_memory_of s m h w) (kept_to_value s m k key) u n e;
@@ -102,7 +102,7 @@ saving_start s m k fs f now ks h key u n e w r = record {
 }
 
 pub saving_push : (s : Sheet) (old m n : MemoState) (root : Case) (start now next : Counts) (fs gs : List Frame) (f h g : Frame) (k : Key) (ks : List Case) → IsSaving s old m root start now fs f ks → n ≡ m → h.key ≡ f.key → IsFrame s m h → IsNext s m f.key k →
-    NeverFall now next → next.evaluations ≡ now.evaluations → next.restarts + spare s h ≤ now.restarts + spare s f → IsNew g k → gs ≡ fs ++ h ∷ [] → (KeepsFound m → IsFrameSettled s m.kept f → IsFrameSettled s m.kept h) → IsSaving s old n root start next gs g ks
+    NeverFall now next → next.evaluations ≡ now.evaluations → next.restarts + spare s h ≤ now.restarts + spare s f → IsNew s g k → gs ≡ fs ++ h ∷ [] → (KeepsFound m → IsFrameSettled s m.kept f → IsFrameSettled s m.kept h) → IsSaving s old n root start next gs g ks
 saving_push s old m n root start now next fs gs f h g k ks i en e frame x up ev re new eg found =
     let there = run_push s (by_kept old) (by_kept m) (by_kept m) root start now next fs gs f h g k i.running refl e (same_frame s m (by_kept m) h refl refl frame) (kept_next s m f.key k x) up ev re new eg in
     subst (λ (y : MemoState). IsSaving s old y root start next gs g ks) (sym en) (record {

@@ -62,9 +62,9 @@ next_here s m n k below j a en e u r =
     let same = rw en at u in
     subst (λ (b : Key). IsNext s m b j) e (next_cell s m k j a same r)
 
-pub cell_found_frame : (s : Sheet) (m : MemoState) (f g : Frame) (a : ℕ) (v : Value) → IsFrame s m f → g.key ≡ f.key → g.waiting ≡ Nothing → IsWithCell f.found g.found a v → v ≡ cell_value (put_all s f.key.world) a → IsFrame s m g
-cell_found_frame s m f g a v h e n more is =
-    frame_with s m f g h e (right_cell (cell_value (put_all s f.key.world)) (what_if_value (put_all s f.key.world)) f.found g.found a v more is h.found) (rw n tt)
+pub cell_found_frame : (s : Sheet) (m : MemoState) (f g : Frame) (a : ℕ) (v : Value) → IsFrame s m f → g.key ≡ f.key → g.formula.now ≡ f.formula.now → g.waiting ≡ Nothing → IsWithCell f.found g.found a v → v ≡ cell_value (put_all s f.key.world) a → IsFrame s m g
+cell_found_frame s m f g a v h e t n more is =
+    frame_with s m f g h e t (right_cell (cell_value (put_all s f.key.world)) (what_if_value (put_all s f.key.world)) f.found g.found a v more is h.found) (rw n tt)
 
 pub awaits_next : (s : Sheet) (k : Case) (f : Findings) (a : ℕ) (others : Vec ℕ) → IsLacking s k.1 f (wanted.Cell a) × AreReadHere s k (a ∷ []) → AreReadHere s k others.items → Awaits s k f (Cells a others)
 awaits_next s k f a others h r =
@@ -108,10 +108,10 @@ pub what_if_right : (s : Sheet) (v w : List Replacement) (f : ℕ) (pairs ps : L
 what_if_right s v w f pairs ps x o e is h =
     h ∙ ap (λ (u : List Replacement). cell_value (put_all s u) f) (is ∙ ap (λ (qs : List Pair). with_what_if s w (map addresses (map pair_of qs))) e) ∙ with_what_if_value s w f (map addresses (map pair_of pairs)) o
 
-pub what_if_found_frame : (s : Sheet) (m : MemoState) (f g : Frame) (x : FoundWhatIf) → IsFrame s m f → g.key ≡ f.key → g.waiting ≡ Nothing → IsWithWhatIf f.found g.found x →
+pub what_if_found_frame : (s : Sheet) (m : MemoState) (f g : Frame) (x : FoundWhatIf) → IsFrame s m f → g.key ≡ f.key → g.formula.now ≡ f.formula.now → g.waiting ≡ Nothing → IsWithWhatIf f.found g.found x →
     x.value ≡ what_if_value (put_all s f.key.world) x.at (pairs_of x) → IsFrame s m g
-what_if_found_frame s m f g x h e n more is =
-    frame_with s m f g h e (right_what_if (cell_value (put_all s f.key.world)) (what_if_value (put_all s f.key.world)) f.found g.found x more is h.found) (rw n tt)
+what_if_found_frame s m f g x h e t n more is =
+    frame_with s m f g h e t (right_what_if (cell_value (put_all s f.key.world)) (what_if_value (put_all s f.key.world)) f.found g.found x more is h.found) (rw n tt)
 
 -- ---- an evaluation that lacks a value
 
@@ -140,8 +140,8 @@ want_counted s f want n m start bound h l e is k b =
 
 -- the same frame, which waits for what it lacks
 module _ (s : Sheet) (f h : Frame) (k : h.key ≡ f.key) (e : h.found ≡ f.found) (awaits : Awaits s (case_at f.key) f.found h.waiting) where
-  pub frame_waits : (m : MemoState) → IsFrame s m f → IsFrame s m h
-  frame_waits m is = frame_with s m f h is k (rw e is.found) (rw e awaits)
+  pub frame_waits : h.formula.now ≡ f.formula.now → (m : MemoState) → IsFrame s m f → IsFrame s m h
+  frame_waits t m is = frame_with s m f h is k t (rw e is.found) (rw e awaits)
 
   pub spare_falls : waits h.waiting ≡ 1 → f.waiting ≡ Nothing → spare s h + 1 ≤ spare s f
   spare_falls w n =

@@ -67,6 +67,7 @@ same_frame s m n f ec eg h = record {
     own = h.key.own;
     generation = rw eg h.key.generation;
   };
+  formula = h.formula;
   found = h.found;
   waiting = h.waiting;
 }

@@ -38,10 +38,10 @@ module _ (s : Sheet) (f g : Frame) (k : Key) (found : Findings) (a : ℕ) (other
   with_it : IsWithCell f.found g.found a v
   with_it = subst (λ (x : Findings). IsWithCell f.found x a v) (sym has) more
 
-  pub taken_frame : v ≡ cell_value (put_all s k.world) k.cell → Awaits s (case_at f.key) found g.waiting → (m : MemoState) → IsFrame s m f → IsFrame s m g
-  taken_frame right awaits m h =
+  pub taken_frame : g.formula.now ≡ f.formula.now → v ≡ cell_value (put_all s k.world) k.cell → Awaits s (case_at f.key) found g.waiting → (m : MemoState) → IsFrame s m f → IsFrame s m g
+  taken_frame formula right awaits m h =
       let here : v ≡ cell_value (put_all s f.key.world) a = right ∙ ap (λ (w : List Replacement). cell_value (put_all s w) k.cell) (sym world) ∙ ap (cell_value (put_all s f.key.world)) (sym cell) in
-      frame_with s m f g h key (right_cell (cell_value (put_all s f.key.world)) (what_if_value (put_all s f.key.world)) f.found g.found a v with_it here h.found)
+      frame_with s m f g h key formula (right_cell (cell_value (put_all s f.key.world)) (what_if_value (put_all s f.key.world)) f.found g.found a v with_it here h.found)
       (subst (λ (x : Findings). Awaits s (case_at f.key) x g.waiting) (sym has) awaits)
 
   pub taken_spare : Awaits s (case_at f.key) f.found f.waiting → spare s g ≤ spare s f

@@ -1,7 +1,9 @@
 -- What is so of the frames: cases whose formulas are being valued, each resting on the next.
-use Rattle.std.specs.Prelude.{◌≡◌, ◌==◌, ℕ, ◌+◌, ◌-◌, ◌<◌, ◌||◌, Bool, true, false, List, [], ◌∷◌, Option, Contains}
+use Rattle.std.specs.Prelude.{◌≡◌, ◌==◌, ℕ, ◌+◌, ◌-◌, ◌<◌, ◌||◌, Bool, true, false, List, [], ◌∷◌, Option, Some, Contains}
 use Rattle.wi_values.specs.declared.replacement.Replacement.{Replacement}
+use Rattle.wi_parser.specs.Tree.{Tree}
 use Rattle.wi_parser.specs.declared.content.Content.{Content}
+use Rattle.wi_parser.specs.declared.content.Content.TheVariants.{Formula}
 use Rattle.wi_parser.specs.Sheet.{Sheet, content_of, put_all, has_formula}
 use Rattle.wi_functions.specs.declared.evaluation.Want as want
 use Rattle.wi_cache.specs.declared.key.Key.{Key}
@@ -36,6 +38,10 @@ pub record IsToValue (s : Sheet) (m : MemoState) (k : Key) : Type 0 where
   pub own : reaching s k.cell k.world ≡ k.world
   pub generation : k.generation ≡ m.generation k.cell
 
+-- the formula stands in the cell of a key, under the replacements of the key
+abbrev pub StandsAt : Sheet → Key → Tree → Type 0
+StandsAt s k t = content_of (put_all s k.world) k.cell ≡ Some (Formula t)
+
 -- the key of a cell under replacements, whose formula has to be valued
 pub record IsUnvalued (s : Sheet) (m : MemoState) (w : List Replacement) (a : ℕ) (k : Key) : Type 0 where
   pub formula : has_formula (content_of (put_all s w) a) ≡ true
@@ -63,6 +69,7 @@ Awaits s k f (WhatIf a pairs) = IsLacking s k.1 f (want.TheVariants.WhatIf a pai
 -- what is so of a frame by itself
 pub record IsFrame (s : Sheet) (m : MemoState) (f : Frame) : Type 0 where
   pub key : IsToValue s m f.key
+  pub formula : StandsAt s f.key f.formula.now
   pub found : AreAllRight (cell_value (put_all s f.key.world)) (what_if_value (put_all s f.key.world)) f.found
   pub waiting : Awaits s (case_at f.key) f.found f.waiting
 

@@ -15,10 +15,10 @@ returns-in_err-wait_for-in-Needs-clause-err_restarts g c =
     let counted = rw c.in-Needs.is at c.in_ok-value.ensures.counted in
     let asked = rw c.in-Needs.is at c.in_ok-value.ensures.asked in
     let lacking = rw c.in-Needs.is at c.in_ok-value.ensures.lacking in
-    let nothing = c.in_ok-key.ensures.settled (ap (λ o. Ok o) c.in_default.is) in
+    let nothing = c.in_ok-first.ensures.settled (ap (λ o. Ok o) c.in_default.is) in
     let within : c.attempt.new.meter.restarts ≤ c.args.meter.now.restarts + spare s c.args.frame.now =
     want_counted s f c.in-Needs.want c.rounds.meter.restarts c.attempt.new.meter.restarts (spare s c.rounds.frame) (c.args.meter.now.restarts + spare s c.args.frame.now)
-    asked lacking nothing (ap (λ (m : Counts). m.restarts) counted) c.in_ok-key.ensures.spare i.restarts in
+    asked lacking nothing (ap (λ (m : Counts). m.restarts) counted) c.in_ok-first.ensures.spare i.restarts in
     search (rules, within)
 
 pub rounds-smaller : goal.rounds-smaller
@@ -27,8 +27,8 @@ rounds-smaller g c =
     let f = c.settle.new.frame in
     let h = c.wait_for.new.frame in
     let w = c.in_ok-wait_for-in-Needs.ensures in
-    let nothing = c.in_ok-key.ensures.settled (ap (λ o. Ok o) c.in_default.is) in
-    round_smaller s f c.rounds.frame h (spare_falls s f h c.wait_for.ensures.key c.wait_for.ensures.found w.awaits w.waits nothing) c.in_ok-key.ensures.spare
+    let nothing = c.in_ok-first.ensures.settled (ap (λ o. Ok o) c.in_default.is) in
+    round_smaller s f c.rounds.frame h (spare_falls s f h c.wait_for.ensures.key c.wait_for.ensures.found w.awaits w.waits nothing) c.in_ok-first.ensures.spare
 
 pub rounds-preserved : goal.rounds-preserved
 rounds-preserved g c =
@@ -39,36 +39,36 @@ rounds-preserved g c =
     let h = c.wait_for.new.frame in
     let w = c.in_ok-wait_for-in-Needs.ensures in
     let same = c.wait_for.ensures in
-    let nothing = c.in_ok-key.ensures.settled (ap (λ o. Ok o) c.in_default.is) in
+    let nothing = c.in_ok-first.ensures.settled (ap (λ o. Ok o) c.in_default.is) in
     let counted = rw c.in-Needs.is at c.in_ok-value.ensures.counted in
-    let frame : IsFrame s m f = rw i.same at c.in_ok-key.ensures.frame in
+    let frame : IsFrame s m f = rw i.same at c.in_ok-first.ensures.frame in
     let less = spare_falls s f h same.key same.found w.awaits w.waits nothing in
     record {
-      key = same.key ∙ c.in_ok-key.ensures.key ∙ i.key;
-      frame = frame_waits s f h same.key same.found w.awaits m frame;
+      key = same.key ∙ c.in_ok-first.ensures.key ∙ i.key;
+      frame = frame_waits s f h same.key same.found w.awaits same.formula m frame;
       evaluations = ap (λ (n : Counts). n.evaluations) counted ∙ i.evaluations;
       counts = never_fall-then _ _ _ i.counts c.attempt.ensures.counts;
-      restarts = round_counted c.rounds.meter.restarts c.attempt.new.meter.restarts _ (spare s f) (spare s c.rounds.frame) _ (ap (λ (n : Counts). n.restarts) counted) less c.in_ok-key.ensures.spare i.restarts;
-      settled = λ whole k. settled_again s m.kept f h same.key same.found (round_settled s m (g.M.Memo.state c.rounds.memo) c.args.frame.now c.rounds.frame f i.same i.settled c.in_ok-key.ensures.found whole k);
-      same = c.in_ok-key.ensures.same ∙ i.same;
+      restarts = round_counted c.rounds.meter.restarts c.attempt.new.meter.restarts _ (spare s f) (spare s c.rounds.frame) _ (ap (λ (n : Counts). n.restarts) counted) less c.in_ok-first.ensures.spare i.restarts;
+      settled = λ whole k. settled_again s m.kept f h same.key same.found (round_settled s m (g.M.Memo.state c.rounds.memo) c.args.frame.now c.rounds.frame f i.same i.settled c.in_ok-first.ensures.found whole k);
+      same = c.in_ok-first.ensures.same ∙ i.same;
     }
 
 pub returns-in-Some-clause-found : goal.returns-in-Some-clause-found
 returns-in-Some-clause-found g c =
     let i = c.rounds.invariant in
-    round_settled c.args.store.now.sheet (g.M.Memo.state c.args.memo.now) (g.M.Memo.state c.rounds.memo) c.args.frame.now c.rounds.frame c.settle.new.frame i.same i.settled c.in_ok-key.ensures.found
+    round_settled c.args.store.now.sheet (g.M.Memo.state c.args.memo.now) (g.M.Memo.state c.rounds.memo) c.args.frame.now c.rounds.frame c.settle.new.frame i.same i.settled c.in_ok-first.ensures.found
 
 pub returns-in-Done-clause-found : goal.returns-in-Done-clause-found
 returns-in-Done-clause-found g c =
     let i = c.rounds.invariant in
-    round_settled c.args.store.now.sheet (g.M.Memo.state c.args.memo.now) (g.M.Memo.state c.rounds.memo) c.args.frame.now c.rounds.frame c.settle.new.frame i.same i.settled c.in_ok-key.ensures.found
+    round_settled c.args.store.now.sheet (g.M.Memo.state c.args.memo.now) (g.M.Memo.state c.rounds.memo) c.args.frame.now c.rounds.frame c.settle.new.frame i.same i.settled c.in_ok-first.ensures.found
 
 pub returns-in-Done-clause-rests : goal.returns-in-Done-clause-rests
 returns-in-Done-clause-rests g c =
     let i = c.rounds.invariant in
     let one = rw c.in-Done.is at c.in_ok-value.ensures.one_meaning in
-    done_settled c.args.store.now.sheet (g.M.Memo.state c.args.memo.now) c.args.frame.now c.settle.new.frame (c.in_ok-key.ensures.key ∙ i.key) c.in_ok-key.ensures.frame.found one
-    (round_settled c.args.store.now.sheet (g.M.Memo.state c.args.memo.now) (g.M.Memo.state c.rounds.memo) c.args.frame.now c.rounds.frame c.settle.new.frame i.same i.settled c.in_ok-key.ensures.found)
+    done_settled c.args.store.now.sheet (g.M.Memo.state c.args.memo.now) c.args.frame.now c.settle.new.frame (c.in_ok-first.ensures.key ∙ i.key) c.in_ok-first.ensures.frame.found one
+    (round_settled c.args.store.now.sheet (g.M.Memo.state c.args.memo.now) (g.M.Memo.state c.rounds.memo) c.args.frame.now c.rounds.frame c.settle.new.frame i.same i.settled c.in_ok-first.ensures.found)
 
 pub returns-in-Done-clause-evaluations : goal.returns-in-Done-clause-evaluations
 returns-in-Done-clause-evaluations g c =
@@ -78,7 +78,7 @@ returns-in-Done-clause-evaluations g c =
 pub returns-in-Done-clause-restarts : goal.returns-in-Done-clause-restarts
 returns-in-Done-clause-restarts g c =
     let counted = rw c.in-Done.is at c.in_ok-value.ensures.counted in
-    omega (arith, ap (λ (m : Counts). m.restarts) counted, c.in_ok-key.ensures.spare, c.rounds.invariant.restarts)
+    omega (arith, ap (λ (m : Counts). m.restarts) counted, c.in_ok-first.ensures.spare, c.rounds.invariant.restarts)
 
 pub settle-requires-clause-memo : goal.settle-requires-clause-memo
 settle-requires-clause-memo g c = subst (λ (x : MemoState). IsMemoOf c.args.store.now.sheet x) (sym c.rounds.invariant.same) c.requires.memo
@@ -103,34 +103,34 @@ rounds-init g c =
     }
 
 pub returns-in-Some-clause-frame : goal.returns-in-Some-clause-frame
-returns-in-Some-clause-frame g c = subst (λ (x : MemoState). IsFrame c.args.store.now.sheet x c.settle.new.frame) c.rounds.invariant.same c.in_ok-key.ensures.frame
+returns-in-Some-clause-frame g c = subst (λ (x : MemoState). IsFrame c.args.store.now.sheet x c.settle.new.frame) c.rounds.invariant.same c.in_ok-first.ensures.frame
 
 pub returns-in-Done-clause-frame : goal.returns-in-Done-clause-frame
-returns-in-Done-clause-frame g c = subst (λ (x : MemoState). IsFrame c.args.store.now.sheet x c.settle.new.frame) c.rounds.invariant.same c.in_ok-key.ensures.frame
+returns-in-Done-clause-frame g c = subst (λ (x : MemoState). IsFrame c.args.store.now.sheet x c.settle.new.frame) c.rounds.invariant.same c.in_ok-first.ensures.frame
 
 pub returns-in-Some-clause-key : goal.returns-in-Some-clause-key
-returns-in-Some-clause-key g c = c.in_ok-key.ensures.key ∙ c.rounds.invariant.key
+returns-in-Some-clause-key g c = c.in_ok-first.ensures.key ∙ c.rounds.invariant.key
 
 pub returns-in-Done-clause-key : goal.returns-in-Done-clause-key
-returns-in-Done-clause-key g c = c.in_ok-key.ensures.key ∙ c.rounds.invariant.key
+returns-in-Done-clause-key g c = c.in_ok-first.ensures.key ∙ c.rounds.invariant.key
 
 pub returns-in_err-value-clause-key : goal.returns-in_err-value-clause-key
-returns-in_err-value-clause-key g c = c.in_ok-key.ensures.key ∙ c.rounds.invariant.key
+returns-in_err-value-clause-key g c = c.in_ok-first.ensures.key ∙ c.rounds.invariant.key
 
 pub returns-in-Some-clause-same : goal.returns-in-Some-clause-same
-returns-in-Some-clause-same g c = c.in_ok-key.ensures.same ∙ c.rounds.invariant.same
+returns-in-Some-clause-same g c = c.in_ok-first.ensures.same ∙ c.rounds.invariant.same
 
 pub returns-in-Done-clause-same : goal.returns-in-Done-clause-same
-returns-in-Done-clause-same g c = c.in_ok-key.ensures.same ∙ c.rounds.invariant.same
+returns-in-Done-clause-same g c = c.in_ok-first.ensures.same ∙ c.rounds.invariant.same
 
 pub returns-in_err-value-clause-same : goal.returns-in_err-value-clause-same
-returns-in_err-value-clause-same g c = c.in_ok-key.ensures.same ∙ c.rounds.invariant.same
+returns-in_err-value-clause-same g c = c.in_ok-first.ensures.same ∙ c.rounds.invariant.same
 
 pub returns-in_err-wait_for-in-Needs-clause-same : goal.returns-in_err-wait_for-in-Needs-clause-same
-returns-in_err-wait_for-in-Needs-clause-same g c = c.in_ok-key.ensures.same ∙ c.rounds.invariant.same
+returns-in_err-wait_for-in-Needs-clause-same g c = c.in_ok-first.ensures.same ∙ c.rounds.invariant.same
 
 pub returns-in_err-wait_for-in-Needs-clause-key : goal.returns-in_err-wait_for-in-Needs-clause-key
-returns-in_err-wait_for-in-Needs-clause-key g c = c.wait_for.ensures.key ∙ c.in_ok-key.ensures.key ∙ c.rounds.invariant.key
+returns-in_err-wait_for-in-Needs-clause-key g c = c.wait_for.ensures.key ∙ c.in_ok-first.ensures.key ∙ c.rounds.invariant.key
 
 pub returns-in-Some-clause-counts : goal.returns-in-Some-clause-counts
 returns-in-Some-clause-counts g c = c.rounds.invariant.counts
@@ -139,16 +139,16 @@ pub returns-in-Some-clause-evaluations : goal.returns-in-Some-clause-evaluations
 returns-in-Some-clause-evaluations g c = c.rounds.invariant.evaluations
 
 pub returns-in-Some-clause-restarts : goal.returns-in-Some-clause-restarts
-returns-in-Some-clause-restarts g c = omega (arith, c.in_ok-key.ensures.spare, c.rounds.invariant.restarts)
+returns-in-Some-clause-restarts g c = omega (arith, c.in_ok-first.ensures.spare, c.rounds.invariant.restarts)
 
-pub returns-in_err-key-clause-key : goal.returns-in_err-key-clause-key
-returns-in_err-key-clause-key g c = c.settle.ensures.key ∙ c.rounds.invariant.key
+pub returns-in_err-first-clause-key : goal.returns-in_err-first-clause-key
+returns-in_err-first-clause-key g c = c.settle.ensures.key ∙ c.rounds.invariant.key
 
-pub returns-in_err-key-clause-same : goal.returns-in_err-key-clause-same
-returns-in_err-key-clause-same g c = c.settle.ensures.same ∙ c.rounds.invariant.same
+pub returns-in_err-first-clause-same : goal.returns-in_err-first-clause-same
+returns-in_err-first-clause-same g c = c.settle.ensures.same ∙ c.rounds.invariant.same
 
-pub returns-in_err-key-clause-counts : goal.returns-in_err-key-clause-counts
-returns-in_err-key-clause-counts g c = c.rounds.invariant.counts
+pub returns-in_err-first-clause-counts : goal.returns-in_err-first-clause-counts
+returns-in_err-first-clause-counts g c = c.rounds.invariant.counts
 
 pub returns-in_err-value-clause-counts : goal.returns-in_err-value-clause-counts
 returns-in_err-value-clause-counts g c = never_fall-then _ _ _ c.rounds.invariant.counts c.attempt.ensures.counts

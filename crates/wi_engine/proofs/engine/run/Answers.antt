@@ -13,7 +13,7 @@ use Rattle.wi_engine.proofs.engine.run.Goals as goal
 pub frames-init : goal.frames-init
 frames-init g c =
     let n = c.new-frame.ensures in
-    let new : IsNew c.new-frame.result c.args.key = record { key = n.key; cells = n.cells; what_ifs = n.what_ifs; waiting = n.waiting } in
+    let new : IsNew c.args.store.now.sheet c.new-frame.result c.args.key = record { key = n.key; formula = rw n.formula c.requires.formula; cells = n.cells; what_ifs = n.what_ifs; waiting = n.waiting } in
     let s = c.args.store.now.sheet in
     let m = g.M.Memo.state c.args.memo.now in
     let start = c.args.meter.now in
@@ -31,7 +31,7 @@ pub frames-smaller-in-Needs : goal.frames-smaller-in-Needs
 frames-smaller-in-Needs g c =
     let next = rw c.in-Needs.is at c.in_ok-next.ensures.next in
     push_smaller c.args.store.now.sheet (g.M.Memo.state c.args.memo.now) (g.M.Memo.state c.frames.memo) (g.M.Memo.state c.advance.new.memo) (case_at c.args.key) c.args.meter.now c.frames.meter c.frames.stack.items
-    c.frames.frame c.new-frame-in-Needs.result c.in-Needs.next c.frames.invariant.running c.in_ok-next.ensures.same next c.new-frame-in-Needs.ensures.key
+    c.frames.frame c.new-frame-in-Needs.result c.in-Needs.next.key c.frames.invariant.running c.in_ok-next.ensures.same next c.new-frame-in-Needs.ensures.key
 
 pub frames-preserved-in-Needs : goal.frames-preserved-in-Needs
 frames-preserved-in-Needs g c =
@@ -39,7 +39,8 @@ frames-preserved-in-Needs g c =
     let a = c.in_ok-next.ensures in
     let next = rw c.in-Needs.is at a.next in
     let counted = rw c.in-Needs.is at a.evaluations in
-    let new : IsNew c.new-frame-in-Needs.result c.in-Needs.next = record { key = n.key; cells = n.cells; what_ifs = n.what_ifs; waiting = n.waiting } in
+    let stands = rw c.in-Needs.is at a.formula in
+    let new : IsNew c.args.store.now.sheet c.new-frame-in-Needs.result c.in-Needs.next.key = record { key = n.key; formula = rw n.formula stands; cells = n.cells; what_ifs = n.what_ifs; waiting = n.waiting } in
     let s = c.args.store.now.sheet in
     let old = g.M.Memo.state c.args.memo.now in
     let m = g.M.Memo.state c.frames.memo in
@@ -49,13 +50,13 @@ frames-preserved-in-Needs g c =
     let going = c.frames.invariant in
     let pushed = c.in_ok-push-in-Needs.ensures.items in
     record {
-      running = run_push s old m after root start c.frames.meter c.advance.new.meter c.frames.stack.items c.push.new.self.items c.frames.frame c.advance.new.frame c.new-frame-in-Needs.result c.in-Needs.next going.running a.same a.key a.frame next c.advance.ensures.counts counted a.restarts new pushed;
+      running = run_push s old m after root start c.frames.meter c.advance.new.meter c.frames.stack.items c.push.new.self.items c.frames.frame c.advance.new.frame c.new-frame-in-Needs.result c.in-Needs.next.key going.running a.same a.key a.frame next c.advance.ensures.counts counted a.restarts new pushed;
       places = push_takes old m after start.evaluations c.frames.meter.evaluations c.advance.new.meter.evaluations going.places a.same counted;
       gives_up = gives_up_then old m after going.gives_up (gives_up_none m after a.same);
       capacity = ap (λ (x : MemoState). x.capacity) a.same ∙ going.capacity;
       latest = ap (λ (x : MemoState). x.latest) a.same ∙ going.latest;
       saving = λ ks closed top whole room.
-          saving_push s old m after root start c.frames.meter c.advance.new.meter c.frames.stack.items c.push.new.self.items c.frames.frame c.advance.new.frame c.new-frame-in-Needs.result c.in-Needs.next ks (going.saving ks closed top whole room) a.same a.key a.frame next
+          saving_push s old m after root start c.frames.meter c.advance.new.meter c.frames.stack.items c.push.new.self.items c.frames.frame c.advance.new.frame c.new-frame-in-Needs.result c.in-Needs.next.key ks (going.saving ks closed top whole room) a.same a.key a.frame next
           c.advance.ensures.counts counted a.restarts new pushed a.found;
     }
 

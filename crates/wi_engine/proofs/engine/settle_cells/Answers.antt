@@ -16,7 +16,10 @@ pub returns-in-Unknown-clause-next : goal.returns-in-Unknown-clause-next
 returns-in-Unknown-clause-next g c =
     let i = c.cells.invariant in
     let unknown = rw c.in-Unknown.is at c.in_ok-value.ensures.unknown in
-    next_here c.args.store.now.sheet (g.M.Memo.state c.args.memo.now) (g.M.Memo.state c.cells.memo) c.cells.frame.key c.args.frame.now.key c.in-Unknown.key c.cells.at i.same i.key unknown i.awaits.1
+    next_here c.args.store.now.sheet (g.M.Memo.state c.args.memo.now) (g.M.Memo.state c.cells.memo) c.cells.frame.key c.args.frame.now.key c.in-Unknown.first.key c.cells.at i.same i.key unknown i.awaits.1
+
+pub returns-in-Unknown-clause-formula : goal.returns-in-Unknown-clause-formula
+returns-in-Unknown-clause-formula g c = rw c.in-Unknown.is at c.in_ok-value.ensures.formula
 
 pub returns-in-Unknown-clause-spare : goal.returns-in-Unknown-clause-spare
 returns-in-Unknown-clause-spare g c =
@@ -37,7 +40,7 @@ cells-preserved g c =
     record {
       key = i.key;
       nothing = i.nothing;
-      frame = cell_found_frame s (g.M.Memo.state c.args.memo.now) c.cells.frame _ c.cells.at c.in-Known.value i.frame refl i.nothing c.in_ok-add_cell-in-Known.ensures.ok known;
+      frame = cell_found_frame s (g.M.Memo.state c.args.memo.now) c.cells.frame _ c.cells.at c.in-Known.value i.frame refl refl i.nothing c.in_ok-add_cell-in-Known.ensures.ok known;
       awaits = awaits_next s (case_at c.cells.frame.key) c.add_cell.new.self c.in-Some.next c.next_lacking.new.cells c.in-Some.ensures.next c.in-Some.ensures.rest;
       fewer = omega (arith, less, i.fewer);
       lacked = lacked_next s c.cells.frame.key.world c.cells.frame.found c.add_cell.new.self c.cells.at c.in-Some.next c.in-Known.value c.args.others.items c.cells.others.items c.next_lacking.new.cells.items c.in_ok-add_cell-in-Known.ensures.ok i.lacked c.in-Some.ensures.passed;
@@ -73,12 +76,12 @@ pub returns-in-None-clause-frame : goal.returns-in-None-clause-frame
 returns-in-None-clause-frame g c =
     let i = c.cells.invariant in
     let known = rw c.in-Known.is at c.in_ok-value.ensures.known in
-    cell_found_frame c.args.store.now.sheet (g.M.Memo.state c.args.memo.now) c.cells.frame _ c.cells.at c.in-Known.value i.frame refl i.nothing c.in_ok-add_cell-in-Known.ensures.ok known
+    cell_found_frame c.args.store.now.sheet (g.M.Memo.state c.args.memo.now) c.cells.frame _ c.cells.at c.in-Known.value i.frame refl refl i.nothing c.in_ok-add_cell-in-Known.ensures.ok known
 
 pub returns-in-Unknown-clause-frame : goal.returns-in-Unknown-clause-frame
 returns-in-Unknown-clause-frame g c =
     let i = c.cells.invariant in
-    record { key = i.frame.key; found = i.frame.found; waiting = i.awaits }
+    record { key = i.frame.key; formula = i.frame.formula; found = i.frame.found; waiting = i.awaits }
 
 pub returns-in-None-clause-key : goal.returns-in-None-clause-key
 returns-in-None-clause-key g c = c.cells.invariant.key

@@ -14,30 +14,30 @@ use Rattle.wi_engine.proofs.engine.value_under.Goals as goal
 pub returns-in-Unknown-clause-value : goal.returns-in-Unknown-clause-value
 returns-in-Unknown-clause-value g c =
     let u = rw c.in-Unknown.is at c.in_ok-value.ensures.unknown in
-    IfOk-weaker c.run.result _ _ (λ v h. unvalued_value c.args.store.now.sheet (g.M.Memo.state c.args.memo.now) c.args.world.now c.args.at c.in-Unknown.key v u h) c.run.ensures.value
+    IfOk-weaker c.run.result _ _ (λ v h. unvalued_value c.args.store.now.sheet (g.M.Memo.state c.args.memo.now) c.args.world.now c.args.at c.in-Unknown.cell.key v u h) c.run.ensures.value
 
 pub returns-in-Unknown-clause-evaluations : goal.returns-in-Unknown-clause-evaluations
 returns-in-Unknown-clause-evaluations g c =
     let u = rw c.in-Unknown.is at c.in_ok-value.ensures.unknown in
-    under_at_most c.args.store.now.sheet (g.M.Memo.state c.args.memo.now) c.args.world.now c.args.at (λ k. 1) c.args.meter.now.evaluations c.run.new.meter.evaluations (g.M.Memo.state c.value_now.new.memo) c.in-Unknown.key c.in_ok-value.ensures.same u c.run.ensures.evaluations
+    under_at_most c.args.store.now.sheet (g.M.Memo.state c.args.memo.now) c.args.world.now c.args.at (λ k. 1) c.args.meter.now.evaluations c.run.new.meter.evaluations (g.M.Memo.state c.value_now.new.memo) c.in-Unknown.cell.key c.in_ok-value.ensures.same u c.run.ensures.evaluations
 
 pub returns-in-Unknown-clause-restarts : goal.returns-in-Unknown-clause-restarts
 returns-in-Unknown-clause-restarts g c =
     let u = rw c.in-Unknown.is at c.in_ok-value.ensures.unknown in
-    under_at_most c.args.store.now.sheet (g.M.Memo.state c.args.memo.now) c.args.world.now c.args.at (wants c.args.store.now.sheet) c.args.meter.now.restarts c.run.new.meter.restarts (g.M.Memo.state c.value_now.new.memo) c.in-Unknown.key c.in_ok-value.ensures.same u c.run.ensures.restarts
+    under_at_most c.args.store.now.sheet (g.M.Memo.state c.args.memo.now) c.args.world.now c.args.at (wants c.args.store.now.sheet) c.args.meter.now.restarts c.run.new.meter.restarts (g.M.Memo.state c.value_now.new.memo) c.in-Unknown.cell.key c.in_ok-value.ensures.same u c.run.ensures.restarts
 
 pub returns-in-Unknown-clause-evaluations_ok : goal.returns-in-Unknown-clause-evaluations_ok
 returns-in-Unknown-clause-evaluations_ok g c =
     let u = rw c.in-Unknown.is at c.in_ok-value.ensures.unknown in
     IfOk-weaker c.run.result _ _
-    (λ v h. under_found c.args.store.now.sheet (g.M.Memo.state c.args.memo.now) c.args.world.now c.args.at (λ k. 1) c.args.meter.now.evaluations c.run.new.meter.evaluations (g.M.Memo.state c.value_now.new.memo) (g.M.Memo.state c.run.new.memo) c.in-Unknown.key c.in_ok-value.ensures.same u h)
+    (λ v h. under_found c.args.store.now.sheet (g.M.Memo.state c.args.memo.now) c.args.world.now c.args.at (λ k. 1) c.args.meter.now.evaluations c.run.new.meter.evaluations (g.M.Memo.state c.value_now.new.memo) (g.M.Memo.state c.run.new.memo) c.in-Unknown.cell.key c.in_ok-value.ensures.same u h)
     c.run.ensures.evaluations_ok
 
 pub returns-in-Unknown-clause-restarts_ok : goal.returns-in-Unknown-clause-restarts_ok
 returns-in-Unknown-clause-restarts_ok g c =
     let u = rw c.in-Unknown.is at c.in_ok-value.ensures.unknown in
     IfOk-weaker c.run.result _ _
-    (λ v h. under_found c.args.store.now.sheet (g.M.Memo.state c.args.memo.now) c.args.world.now c.args.at (wants c.args.store.now.sheet) c.args.meter.now.restarts c.run.new.meter.restarts (g.M.Memo.state c.value_now.new.memo) (g.M.Memo.state c.run.new.memo) c.in-Unknown.key c.in_ok-value.ensures.same u h)
+    (λ v h. under_found c.args.store.now.sheet (g.M.Memo.state c.args.memo.now) c.args.world.now c.args.at (wants c.args.store.now.sheet) c.args.meter.now.restarts c.run.new.meter.restarts (g.M.Memo.state c.value_now.new.memo) (g.M.Memo.state c.run.new.memo) c.in-Unknown.cell.key c.in_ok-value.ensures.same u h)
     c.run.ensures.restarts_ok
 
 pub returns-in-Known-clause-kept : goal.returns-in-Known-clause-kept
@@ -54,36 +54,36 @@ pub returns-in-Unknown-clause-kept : goal.returns-in-Unknown-clause-kept
 returns-in-Unknown-clause-kept g c =
     let u = rw c.in-Unknown.is at c.in_ok-value.ensures.unknown in
     IfOk-weaker c.run.result _ _
-    (λ v h anew room. under_kept c.args.store.now.sheet (g.M.Memo.state c.args.memo.now) (g.M.Memo.state c.value_now.new.memo) (g.M.Memo.state c.run.new.memo) c.args.world.now c.args.at c.in-Unknown.key c.in_ok-value.ensures.same u h room)
+    (λ v h anew room. under_kept c.args.store.now.sheet (g.M.Memo.state c.args.memo.now) (g.M.Memo.state c.value_now.new.memo) (g.M.Memo.state c.run.new.memo) c.args.world.now c.args.at c.in-Unknown.cell.key c.in_ok-value.ensures.same u h room)
     c.run.ensures.kept
 
 pub returns-in-Unknown-clause-uncounted : goal.returns-in-Unknown-clause-uncounted
 returns-in-Unknown-clause-uncounted g c =
     let u = rw c.in-Unknown.is at c.in_ok-value.ensures.unknown in
-    λ easy. absurd (not_easy c.args.store.now.sheet (g.M.Memo.state c.args.memo.now) c.args.world.now c.args.at c.in-Unknown.key c.requires.memo u easy)
+    λ easy. absurd (not_easy c.args.store.now.sheet (g.M.Memo.state c.args.memo.now) c.args.world.now c.args.at c.in-Unknown.cell.key c.requires.memo u easy)
 
 pub returns-in-Unknown-clause-unkept_evaluations : goal.returns-in-Unknown-clause-unkept_evaluations
 returns-in-Unknown-clause-unkept_evaluations g c =
     let u = rw c.in-Unknown.is at c.in_ok-value.ensures.unknown in
-    under_unkept c.args.store.now.sheet (g.M.Memo.state c.args.memo.now) c.args.world.now c.args.at (λ k. 1) c.args.meter.now.evaluations c.run.new.meter.evaluations (g.M.Memo.state c.value_now.new.memo) c.in-Unknown.key c.in_ok-value.ensures.same u c.run.ensures.unkept_evaluations
+    under_unkept c.args.store.now.sheet (g.M.Memo.state c.args.memo.now) c.args.world.now c.args.at (λ k. 1) c.args.meter.now.evaluations c.run.new.meter.evaluations (g.M.Memo.state c.value_now.new.memo) c.in-Unknown.cell.key c.in_ok-value.ensures.same u c.run.ensures.unkept_evaluations
 
 pub returns-in-Unknown-clause-unkept_restarts : goal.returns-in-Unknown-clause-unkept_restarts
 returns-in-Unknown-clause-unkept_restarts g c =
     let u = rw c.in-Unknown.is at c.in_ok-value.ensures.unknown in
-    under_unkept c.args.store.now.sheet (g.M.Memo.state c.args.memo.now) c.args.world.now c.args.at (wants c.args.store.now.sheet) c.args.meter.now.restarts c.run.new.meter.restarts (g.M.Memo.state c.value_now.new.memo) c.in-Unknown.key c.in_ok-value.ensures.same u c.run.ensures.unkept_restarts
+    under_unkept c.args.store.now.sheet (g.M.Memo.state c.args.memo.now) c.args.world.now c.args.at (wants c.args.store.now.sheet) c.args.meter.now.restarts c.run.new.meter.restarts (g.M.Memo.state c.value_now.new.memo) c.in-Unknown.cell.key c.in_ok-value.ensures.same u c.run.ensures.unkept_restarts
 
 pub returns-in-Unknown-clause-saves : goal.returns-in-Unknown-clause-saves
 returns-in-Unknown-clause-saves g c =
     let u = rw c.in-Unknown.is at c.in_ok-value.ensures.unknown in
     IfOk-weaker c.run.result _ _
-    (λ v h. under_saves c.args.store.now.sheet (g.M.Memo.state c.args.memo.now) c.args.world.now c.args.at c.args.meter.now c.run.new.meter (g.M.Memo.state c.value_now.new.memo) (g.M.Memo.state c.run.new.memo) c.in-Unknown.key c.in_ok-value.ensures.same u h)
+    (λ v h. under_saves c.args.store.now.sheet (g.M.Memo.state c.args.memo.now) c.args.world.now c.args.at c.args.meter.now c.run.new.meter (g.M.Memo.state c.value_now.new.memo) (g.M.Memo.state c.run.new.memo) c.in-Unknown.cell.key c.in_ok-value.ensures.same u h)
     c.run.ensures.saves
 
 pub returns-in-Unknown-clause-settled : goal.returns-in-Unknown-clause-settled
 returns-in-Unknown-clause-settled g c =
     let u = rw c.in-Unknown.is at c.in_ok-value.ensures.unknown in
     IfOk-weaker c.run.result _ _
-    (λ v h. under_settled c.args.store.now.sheet (g.M.Memo.state c.args.memo.now) c.args.world.now c.args.at (g.M.Memo.state c.value_now.new.memo) (g.M.Memo.state c.run.new.memo) c.in-Unknown.key c.in_ok-value.ensures.same u h)
+    (λ v h. under_settled c.args.store.now.sheet (g.M.Memo.state c.args.memo.now) c.args.world.now c.args.at (g.M.Memo.state c.value_now.new.memo) (g.M.Memo.state c.run.new.memo) c.in-Unknown.cell.key c.in_ok-value.ensures.same u h)
     c.run.ensures.settled
 
 pub returns-in-Known-clause-evaluations : goal.returns-in-Known-clause-evaluations
@@ -149,17 +149,20 @@ run-requires-clause-memo g c = subst (λ (x : MemoState). IsMemoOf c.args.store.
 pub run-requires-clause-key : goal.run-requires-clause-key
 run-requires-clause-key g c =
     let u = rw c.in-Unknown.is at c.in_ok-value.ensures.unknown in
-    subst (λ (x : MemoState). IsToValue c.args.store.now.sheet x c.in-Unknown.key) (sym c.in_ok-value.ensures.same) u.key
+    subst (λ (x : MemoState). IsToValue c.args.store.now.sheet x c.in-Unknown.cell.key) (sym c.in_ok-value.ensures.same) u.key
+
+pub run-requires-clause-formula : goal.run-requires-clause-formula
+run-requires-clause-formula g c = rw c.in-Unknown.is at c.in_ok-value.ensures.formula
 
 pub run-requires-clause-unfound : goal.run-requires-clause-unfound
 run-requires-clause-unfound g c =
     let u = rw c.in-Unknown.is at c.in_ok-value.ensures.unknown in
-    subst (λ (x : MemoState). x.found c.in-Unknown.key.cell c.in-Unknown.key.world ≡ false) (sym c.in_ok-value.ensures.same) u.unfound
+    subst (λ (x : MemoState). x.found c.in-Unknown.cell.key.cell c.in-Unknown.cell.key.world ≡ false) (sym c.in_ok-value.ensures.same) u.unfound
 
 pub run-requires-clause-unkept : goal.run-requires-clause-unkept
 run-requires-clause-unkept g c =
     let u = rw c.in-Unknown.is at c.in_ok-value.ensures.unknown in
-    subst (λ (x : MemoState). x.kept c.in-Unknown.key.cell c.in-Unknown.key.world ≡ false) (sym c.in_ok-value.ensures.same) u.unkept
+    subst (λ (x : MemoState). x.kept c.in-Unknown.cell.key.cell c.in-Unknown.cell.key.world ≡ false) (sym c.in_ok-value.ensures.same) u.unkept
 
 pub returns-in-Known-clause-value : goal.returns-in-Known-clause-value
 returns-in-Known-clause-value g c = rw c.in-Known.is at c.in_ok-value.ensures.known

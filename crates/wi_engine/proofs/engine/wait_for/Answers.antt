@@ -1,20 +1,9 @@
-use Rattle.std.proofs.Common.{ap}
-use Rattle.wi_parser.specs.Sheet.{has_formula}
 use Rattle.wi_sheet.proofs.Bounds.{put_formula}
-use Rattle.wi_engine.specs.Inner.Frames.{case_at}
 use Rattle.wi_engine.proofs.engine.Awaiting.{cell_here, awaits_cells}
 use Rattle.wi_engine.proofs.engine.wait_for.Goals as goal
 
-pub unreachable-requires : goal.unreachable-requires
-unreachable-requires c =
-    let k = c.args.frame.now.key in
-    let there = put_formula c.args.store.now.sheet k.world k.cell (ap has_formula c.requires.asks.is) in
-    let none = c.in_default.ensures.none in
-    cc (there, none)
-
 pub together-requires-clause-read : goal.together-requires-clause-read
-together-requires-clause-read c =
-    cell_here c.args.store.now.sheet (case_at c.args.frame.now.key) c.args.want c.in-Some.formula.now c.in-Cell.at c.requires.asks c.in-Cell.is c.in-Some.ensures.found
+together-requires-clause-read c = cell_here c.args.store.now.sheet c.args.frame.now.key c.args.want c.args.frame.now.formula.now c.in-Cell.at c.requires.asks c.in-Cell.is c.requires.formula
 
 pub together-requires-clause-formula : goal.together-requires-clause-formula
 together-requires-clause-formula c =
@@ -23,5 +12,5 @@ together-requires-clause-formula c =
 
 pub returns-in_ok-keep_course-in-Cell-clause-awaits : goal.returns-in_ok-keep_course-in-Cell-clause-awaits
 returns-in_ok-keep_course-in-Cell-clause-awaits c =
-    awaits_cells c.args.store.now.sheet c.args.frame.now.key c.args.frame.now.found c.args.want c.in-Some.formula.now c.in-Cell.at c.in_ok-batch-in-Cell.batch.cells
-    c.requires.asks c.requires.lacking c.in-Cell.is c.in-Some.ensures.found c.in_ok-batch-in-Cell.ensures.read
+    awaits_cells c.args.store.now.sheet c.args.frame.now.key c.args.frame.now.found c.args.want c.args.frame.now.formula.now c.in-Cell.at c.in_ok-batch-in-Cell.batch.cells
+    c.requires.asks c.requires.lacking c.in-Cell.is c.requires.formula c.in_ok-batch-in-Cell.ensures.read

@@ -31,8 +31,11 @@ loop-pair-preserved g c =
 pub returns-in-Unknown-clause-unknown : goal.returns-in-Unknown-clause-unknown
 returns-in-Unknown-clause-unknown g c =
     let unknown = rw c.in-Unknown.is at c.in_ok-value.ensures.unknown in
-    input_unvalued c.args.store.now.sheet (g.M.Memo.state c.args.memo.now) (g.M.Memo.state c.loop-pair.memo) c.args.world.now c.args.pairs.now c.loop-pair.pair-index c.pair-item.result c.in-Unknown.key
+    input_unvalued c.args.store.now.sheet (g.M.Memo.state c.args.memo.now) (g.M.Memo.state c.loop-pair.memo) c.args.world.now c.args.pairs.now c.loop-pair.pair-index c.pair-item.result c.in-Unknown.input.key
     c.loop-pair-test.true c.pair-item.is c.loop-pair.invariant.same unknown
+
+pub returns-in-Unknown-clause-formula : goal.returns-in-Unknown-clause-formula
+returns-in-Unknown-clause-formula g c = rw c.in-Unknown.is at c.in_ok-value.ensures.formula
 
 pub returns-clause-known : goal.returns-clause-known
 returns-clause-known g c =

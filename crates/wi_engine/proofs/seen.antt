@@ -1,0 +1,2 @@
+-- What the proofs about what stands in a cell use.
+pub mod Putting
