@@ -1,6 +1,6 @@
 //! What is made of the items of a sequence.
 
-ghost use Rattle.std.specs.Prelude.{◌≡◌, Result, Ok};
+ghost use Rattle.std.specs.Prelude.{◌≡◌, Result, Ok, Err, OnOk, IfErr};
 ghost use Rattle.wi_values.specs.declared.value.ErrorKind.{ErrorKind as ErrorKinds};
 ghost use Rattle.wi_values.specs.declared.value.Value.{Value as Values};
 ghost use Rattle.wi_standard_functions.specs.Sequence.{Item as Items, from_cell};
@@ -19,9 +19,10 @@ pub(crate) trait Fold: Copy {
     /// What a function shows, when there are no more items.
     ghost value: { Self → Values };
 
-    /// With one more item, or the error that it is or gives.
-    fn step(self, item: Item<'_>) -> Result<Self, ErrorKind>
-        ensures { result ≡ step self (item_of item.entry) };
+    /// Takes one more item, or tells the error that it is or gives.
+    fn step(&mut self, item: Item<'_>) -> Result<(), ErrorKind>
+        ensures ok { OnOk result (step self.old (item_of item.entry) ≡ Ok self.new) }
+        ensures err { IfErr result (λ e. step self.old (item_of item.entry) ≡ Err e) };
 
     /// What the function shows, when there are no more items.
     fn value(self) -> Value

@@ -1,6 +1,7 @@
 //! A fold over the items of arguments, from the left to the first error.
 
-ghost use Rattle.std.specs.Prelude.{◌≡◌, ℕ, true, None, Result, IfOk, IfErr, OnOk};
+ghost use Rattle.std.specs.Prelude.{◌≡◌, ℕ, true, is_some, is_err, None, Result, Err, IfOk, IfErr, OnOk};
+ghost use Rattle.std.specs.ControlFlow.{break_value};
 ghost use Rattle.std.proofs.Common.{ap};
 ghost use Rattle.wi_values.specs.declared.value.ErrorKind.{ErrorKind as ErrorKinds};
 ghost use Rattle.wi_values.specs.declared.value.Value.{Value as Values};
@@ -55,25 +56,31 @@ impl<F: Fold> Folding<F> {
                 Ok(())
             }
             Argument::Value(value) => {
-                self.take_item(Item::Scalar(value));
+                let _ = self.take_item(Item::Scalar(value));
                 Ok(())
             }
         }
     }
 
-    fn take_item(&mut self, item: Item<'_>)
-        ensures { self.new.so_far ≡ go_on F.step self.old.so_far (item_of item.entry) }
+    /// Takes one more item, and tells whether another could make a difference: an error that was met stays.
+    fn take_item(&mut self, item: Item<'_>) -> ControlFlow<()>
+        ensures taken { self.new.so_far ≡ go_on F.step self.old.so_far (item_of item.entry) }
+        ensures broken { is_some (break_value result) ≡ true → is_err self.new.so_far ≡ true }
     {
-        self.so_far = self.after(item);
+        if let Err(e) = self.step(item) {
+            self.so_far = Err(e);
+            return ControlFlow::Break(());
+        }
+        ControlFlow::Continue(())
     }
 
-    /// What is made with one more item: an error that was met stays.
-    fn after(self, item: Item<'_>) -> Result<F, ErrorKind>
-        ensures { result ≡ go_on F.step self.so_far (item_of item.entry) }
+    fn step(&mut self, item: Item<'_>) -> Result<(), ErrorKind>
+        ensures ok { OnOk result (self.new.so_far ≡ go_on F.step self.old.so_far (item_of item.entry)) }
+        ensures err { IfErr result (λ e. go_on F.step self.old.so_far (item_of item.entry) ≡ Err e) }
     {
-        match self.so_far {
+        match &mut self.so_far {
             Ok(made) => made.step(item),
-            Err(e) => Err(e),
+            Err(e) => Err(*e),
         }
     }
 
@@ -92,11 +99,7 @@ impl<F: Fold> TakesCells for Folding<F> {
     ghost after = { λ s _ v. record { so_far = go_on F.step s.so_far (from_cell v) } };
 
     fn take(&mut self, _at: Address, value: &Value) -> ControlFlow<()> {
-        self.take_item(Item::OfCell(value));
-        match self.so_far {
-            Ok(_) => ControlFlow::Continue(()),
-            Err(_) => ControlFlow::Break(()),
-        }
+        self.take_item(Item::OfCell(value))
     }
 
     ghost passes_empty = { λ s _. ap (λ (r : Result F ErrorKinds). record { so_far = r }) (empty_passed F.step F.passes_empty s.so_far) };

@@ -41,10 +41,9 @@ impl Fold for NumberCount {
 
     ghost value = { λ s. whole_value s.numbers };
 
-    fn step(self, item: Item<'_>) -> Result<NumberCount, ErrorKind> {
-        Ok(NumberCount {
-            numbers: counted(self.numbers, is_number_value(item.value())),
-        })
+    fn step(&mut self, item: Item<'_>) -> Result<(), ErrorKind> {
+        self.numbers = counted(self.numbers, is_number_value(item.value()));
+        Ok(())
     }
 
     fn value(self) -> Value {
@@ -65,10 +64,9 @@ impl Fold for FilledCount {
 
     ghost value = { λ s. whole_value s.filled };
 
-    fn step(self, item: Item<'_>) -> Result<FilledCount, ErrorKind> {
-        Ok(FilledCount {
-            filled: counted(self.filled, !is_empty_value(item.value())),
-        })
+    fn step(&mut self, item: Item<'_>) -> Result<(), ErrorKind> {
+        self.filled = counted(self.filled, !is_empty_value(item.value()));
+        Ok(())
     }
 
     fn value(self) -> Value {

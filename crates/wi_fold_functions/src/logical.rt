@@ -40,13 +40,13 @@ impl Fold for AllTrue {
 
     ghost value = { λ s. logical_chosen s.all };
 
-    fn step(self, item: Item<'_>) -> Result<AllTrue, ErrorKind> {
-        let all = match (self.all, item.logical()?) {
+    fn step(&mut self, item: Item<'_>) -> Result<(), ErrorKind> {
+        self.all = match (self.all, item.logical()?) {
             (before, None) => before,
             (None, Some(b)) => Some(b),
             (Some(before), Some(b)) => Some(before && b),
         };
-        Ok(AllTrue { all })
+        Ok(())
     }
 
     fn value(self) -> Value {
@@ -67,13 +67,13 @@ impl Fold for AnyTrue {
 
     ghost value = { λ s. logical_chosen s.any };
 
-    fn step(self, item: Item<'_>) -> Result<AnyTrue, ErrorKind> {
-        let any = match (self.any, item.logical()?) {
+    fn step(&mut self, item: Item<'_>) -> Result<(), ErrorKind> {
+        self.any = match (self.any, item.logical()?) {
             (before, None) => before,
             (None, Some(b)) => Some(b),
             (Some(before), Some(b)) => Some(before || b),
         };
-        Ok(AnyTrue { any })
+        Ok(())
     }
 
     fn value(self) -> Value {

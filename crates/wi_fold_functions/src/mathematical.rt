@@ -43,13 +43,11 @@ impl Fold for Sum {
 
     ghost value = { λ s. number s.total };
 
-    fn step(self, item: Item<'_>) -> Result<Sum, ErrorKind> {
-        match item.number()? {
-            Some(x) => Ok(Sum {
-                total: add(self.total, x)?,
-            }),
-            None => Ok(self),
+    fn step(&mut self, item: Item<'_>) -> Result<(), ErrorKind> {
+        if let Some(x) = item.number()? {
+            self.total = add(self.total, x)?;
         }
+        Ok(())
     }
 
     fn value(self) -> Value {
@@ -70,13 +68,11 @@ impl Fold for Product {
 
     ghost value = { λ s. number s.product };
 
-    fn step(self, item: Item<'_>) -> Result<Product, ErrorKind> {
-        match item.number()? {
-            Some(x) => Ok(Product {
-                product: multiply(self.product, x)?,
-            }),
-            None => Ok(self),
+    fn step(&mut self, item: Item<'_>) -> Result<(), ErrorKind> {
+        if let Some(x) = item.number()? {
+            self.product = multiply(self.product, x)?;
         }
+        Ok(())
     }
 
     fn value(self) -> Value {

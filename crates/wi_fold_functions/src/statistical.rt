@@ -55,13 +55,13 @@ impl Fold for Least {
 
     ghost value = { λ s. number_chosen s.least };
 
-    fn step(self, item: Item<'_>) -> Result<Least, ErrorKind> {
-        let least = match (self.least, item.number()?) {
+    fn step(&mut self, item: Item<'_>) -> Result<(), ErrorKind> {
+        self.least = match (self.least, item.number()?) {
             (before, None) => before,
             (None, Some(x)) => Some(x),
             (Some(before), Some(x)) => Some(smaller(before, x)),
         };
-        Ok(Least { least })
+        Ok(())
     }
 
     fn value(self) -> Value {
@@ -82,13 +82,13 @@ impl Fold for Greatest {
 
     ghost value = { λ s. number_chosen s.greatest };
 
-    fn step(self, item: Item<'_>) -> Result<Greatest, ErrorKind> {
-        let greatest = match (self.greatest, item.number()?) {
+    fn step(&mut self, item: Item<'_>) -> Result<(), ErrorKind> {
+        self.greatest = match (self.greatest, item.number()?) {
             (before, None) => before,
             (None, Some(x)) => Some(x),
             (Some(before), Some(x)) => Some(greater(before, x)),
         };
-        Ok(Greatest { greatest })
+        Ok(())
     }
 
     fn value(self) -> Value {
@@ -110,14 +110,12 @@ impl Fold for Average {
 
     ghost value = { mean_value };
 
-    fn step(self, item: Item<'_>) -> Result<Average, ErrorKind> {
-        match item.number()? {
-            Some(x) => Ok(Average {
-                total: add(self.total, x)?,
-                count: counted(self.count, true),
-            }),
-            None => Ok(self),
+    fn step(&mut self, item: Item<'_>) -> Result<(), ErrorKind> {
+        if let Some(x) = item.number()? {
+            self.total = add(self.total, x)?;
+            self.count = counted(self.count, true);
         }
+        Ok(())
     }
 
     fn value(self) -> Value {
