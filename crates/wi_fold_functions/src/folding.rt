@@ -63,6 +63,7 @@ impl<F: Fold> Folding<F> {
     }
 
     /// Takes one more item, and tells whether another could make a difference: an error that was met stays.
+    #[inline]
     fn take_item(&mut self, item: Item<'_>) -> ControlFlow<()>
         ensures taken { self.new.so_far ≡ go_on F.step self.old.so_far (item_of item.entry) }
         ensures broken { is_some (break_value result) ≡ true → is_err self.new.so_far ≡ true }
