@@ -15,3 +15,6 @@ returns-clause-cells c =
     let cells = c.self.inside.rising.items ++ c.self.inside.others.keys in
     IfOk-weaker c.merged.result (λ (list : Vec ℕ). (a : ℕ) → Contains list.items a ↔ Contains cells a) (λ list. (a : ℕ) → Contains list.items a ↔ (contains nat_cmp c.args.self a ≡ true))
     (λ list. cells_through c.args.self cells list.items (search rules)) c.merged.ensures.cells
+
+pub returns-then-is_empty-clause-order : goal.returns-then-is_empty-clause-order
+returns-then-is_empty-clause-order c = search rules
