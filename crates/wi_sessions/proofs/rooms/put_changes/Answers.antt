@@ -23,3 +23,6 @@ returns-clause-refused c =
     (Ascends-from_order _ c.release.ensures.order) (Ascends-from_order old c.requires.order)
     c.release.ensures.full c.requires.full (λ q. sym (c.release.ensures.values q ∙ h q)))
     c.put_in-answer.ensures.refused
+
+pub release-requires-clause-vacant : goal.release-requires-clause-vacant
+release-requires-clause-vacant c = c.put_in-answer.ensures.vacant

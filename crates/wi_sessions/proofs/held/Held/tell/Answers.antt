@@ -1,0 +1,8 @@
+use Rattle.std.proofs.Common.{ℕ, List, ap}
+use Rattle.wi_values.specs.declared.value.Value.{Value}
+use Rattle.wi_sessions.specs.Inner.Held.{with_name}
+use Rattle.wi_sessions.proofs.held.Held.tell.Goals as goal
+
+pub returns-clause-told : goal.returns-clause-told
+returns-clause-told c =
+    λ name. ap (λ (p : List (ℕ × Value)). with_name name (record c.args.self.now { picture = p; seen = c.args.seen })) c.in_ok-apply.ensures.done
