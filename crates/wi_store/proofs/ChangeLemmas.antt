@@ -1,5 +1,5 @@
 -- Laws of lists of changes, for one step of a loop over them.
-use Rattle.std.proofs.Common.{◌≡◌, ℕ, zero, suc, ◌+◌, ◌^◌, ◌<◌, ◌≤◌, ◌==◌, ◌||◌, Bool, true, false, List, [], ◌∷◌, ◌++◌, length, get_or, set, take, drop, Option, Some, None, refl, sym, ap, ◌∙◌, subst, arith, ◌⊎◌, ⊎_elim, add-one, drop-cons}
+use Rattle.std.proofs.Common.{◌≡◌, ℕ, zero, suc, ◌+◌, ◌^◌, ◌<◌, ◌≤◌, ◌==◌, ◌||◌, Bool, true, false, List, [], ◌∷◌, ◌++◌, length, get_or, set, take, drop, map, Option, Some, None, refl, sym, ap, ◌∙◌, subst, arith, ◌⊎◌, ⊎_elim, add-one, drop-cons}
 use Rattle.std.specs.List.{All, list_any}
 use Rattle.std.specs.Option.{is_some}
 use Rattle.std.specs.Int.{from_bool}
@@ -11,8 +11,10 @@ use Rattle.std.proofs.lemmas.List.Elements.{All-set}
 use Rattle.std.proofs.Math.Seq.{map-set_same}
 use Rattle.wi_parser.specs.Sheet.{Sheet, content_of, with_content}
 use Rattle.wi_parser.specs.declared.content.Content.{Content}
-use Rattle.wi_store.specs.Store.{edited}
-use Rattle.wi_store.specs.Inner.Rooms.{Rooms, sheet_in, room_of, HasNoVacancy, VacantOnlyAt, HasRoomFor}
+use Rattle.wi_values.specs.declared.value.Value.TheVariants.{Empty}
+use Rattle.wi_parser.specs.declared.content.Content.TheVariants.{Constant, Formula}
+use Rattle.wi_store.specs.Store.{edited, settled, settled_change}
+use Rattle.wi_store.specs.Inner.Rooms.{Rooms, sheet_in, room_of, HasNoVacancy, VacantOnlyAt, HasRoomFor, IsSettled}
 use Rattle.wi_store.specs.Inner.Exchange.{stood, restored}
 use Rattle.wi_store.proofs.RoomLemmas.{Ascends, length-sheet_in-le}
 use Rattle.wi_store.proofs.ExchangeLemmas.{nothing_stands, count, length-with_content}
@@ -92,6 +94,26 @@ pub room_more : (cs : Changes) (i a : ℕ) (o : Option Content) (old new : Rooms
     → All (HasRoomFor old) cs → All (HasRoomFor new) (set cs i (a, o))
 room_more cs i a o old new order kept e h =
     All-set (HasRoomFor new) cs i (a, o) (λ n. e ∙ nothing_stands a old order (kept a n)) (λ k d l n. h k d l (kept (get_or cs k d).0 n))
+
+-- ---- settled changes
+
+-- after the i-th change was exchanged
+pub settled_more : (cs : Changes) (i a : ℕ) (o : Option Content) → IsSettled (a, o) → All IsSettled cs → All IsSettled (set cs i (a, o))
+settled_more cs i a o is h = All-set IsSettled cs i (a, o) is h
+
+settled_twice : (o : Option Content) → settled (settled o) ≡ settled o
+settled_twice None = refl
+settled_twice (Some (Constant Empty)) = refl
+settled_twice (Some (Constant v)) = refl
+settled_twice (Some (Formula t)) = refl
+
+all_settled : (cs : Changes) → All IsSettled (map settled_change cs)
+all_settled [] i d l = absurd (omega arith)
+all_settled (x ∷ xs) zero d l = settled_twice x.1
+all_settled (x ∷ xs) (suc i) d l = all_settled xs i d (omega arith)
+
+pub settled_all : (cs ds : Changes) → ds ≡ map settled_change cs → All IsSettled ds
+settled_all cs ds e = subst (λ (es : Changes). All IsSettled es) (sym e) (all_settled cs)
 
 -- ---- the sheet
 

@@ -7,6 +7,7 @@ ghost use Rattle.wi_store.specs.Inner.Columns.{HasCellsOf};
 ghost use Rattle.wi_store.specs.Inner.Rooms.{occupied, occupant, sheet_in, RoomsAreInOrder, HasNoVacancy, ComesTo, rooms_after};
 
 use crate::columns::Columns;
+use crate::room::Room;
 use crate::rooms::Rooms;
 use crate::search::room_past;
 use std::collections::btree_map::Range;
@@ -25,7 +26,7 @@ pub struct Contents<'a> {
     columns: &'a Columns,
     area: Rect,
     // The rooms after the one looked at last.
-    ahead: Range<'a, Address, Option<Content>>,
+    ahead: Range<'a, Address, Room>,
 }
 
 impl<'a> Model for Contents<'a> {
@@ -102,9 +103,9 @@ impl<'a> Iterator for Contents<'a> {
 
 /// The next room that doesn't lie beside a rectangle, or the one after the first `MAX_BESIDE` that do.
 fn pass_beside<'a>(
-    ahead: &mut Range<'a, Address, Option<Content>>,
+    ahead: &mut Range<'a, Address, Room>,
     area: Rect,
-) -> Option<(&'a Address, &'a Option<Content>)>
+) -> Option<(&'a Address, &'a Room)>
     ensures { ComesTo area ahead.old result ahead.new }
 {
     for _ in 0..MAX_BESIDE {
@@ -124,17 +125,17 @@ fn is_beside(area: Rect, cell: Address) -> bool
 }
 
 /// The rooms after a cell. One search.
-fn rooms_after(rooms: &Rooms, cell: Address) -> Range<'_, Address, Option<Content>>
+fn rooms_after(rooms: &Rooms, cell: Address) -> Range<'_, Address, Room>
     ensures { result ≡ rooms_after cell rooms.now.entries }
 {
     rooms.range((Bound::Excluded(cell), Bound::Unbounded))
 }
 
 /// What stands in a room, with its cell.
-fn occupant(cell: Address, room: &Option<Content>) -> Option<(Address, &Content)>
+fn occupant(cell: Address, room: &Room) -> Option<(Address, &Content)>
     ensures { option_map occupied result ≡ occupant (cell, room.now) }
 {
-    match room {
+    match room.content() {
         Some(content) => Some((cell, content)),
         None => None,
     }

@@ -5,6 +5,7 @@ mod columns;
 mod contents;
 mod fault;
 mod limits;
+mod room;
 mod rooms;
 mod search;
 mod settle;

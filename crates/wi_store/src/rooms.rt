@@ -6,20 +6,20 @@ ghost use Rattle.std.specs.Prelude.{◌≡◌, ◌≢◌, ◌+◌, ◌⊎◌, �
 ghost use Rattle.std.specs.Map.{keys_of};
 ghost use Rattle.wi_parser.specs.Sheet.{content_of, with_content};
 ghost use Rattle.wi_store.specs.Store.{edited};
-ghost use Rattle.wi_store.specs.Inner.Rooms.{sheet_in, room_of, RoomsAreInOrder, HasNoVacancy, VacantOnlyAt, HasRoomFor};
+ghost use Rattle.wi_store.specs.Inner.Rooms.{sheet_in, room_of, RoomsAreInOrder, HasNoVacancy, VacantOnlyAt, HasRoomFor, IsSettled};
 ghost use Rattle.wi_store.specs.Inner.Exchange.{stood, restored};
 ghost use Rattle.wi_store.specs.Inner.Columns.{HasCellsOf, HaveSameCells};
 
 use crate::columns::{Columns, put_in, take_out};
-use std::alloc::AllocError;
+use crate::room::Room;
+use std::alloc::{AllocError, Global};
 use std::collections::BTreeMap;
 use std::collections::btree_map::Entry;
-use std::mem;
 use wi_parser::Content;
 use wi_values::Address;
 
-/// The rooms by their cells; a vacant one has no content.
-pub(crate) type Rooms = BTreeMap<Address, Option<Content>>;
+/// The rooms by their cells.
+pub(crate) type Rooms = BTreeMap<Address, Room>;
 
 /// A cell, and the content that it gets, or none.
 pub(crate) type Change = (Address, Option<Content>);
@@ -27,6 +27,7 @@ pub(crate) type Change = (Address, Option<Content>);
 /// Makes a room for a cell that gets a content and has none. One search, and one more for a room that is made; none for a
 /// cell that gets nothing.
 fn make_one(
+    alloc: Global,
     rooms: &mut Rooms,
     columns: &mut Columns,
     at: Address,
@@ -44,8 +45,9 @@ fn make_one(
         return Ok(());
     }
     if let Entry::Vacant(room) = rooms.entry(at)? {
+        let vacant = Room::vacant(alloc)?;
         put_in(columns, at)?;
-        room.insert(None);
+        room.insert(vacant);
     }
     Ok(())
 }
@@ -53,6 +55,7 @@ fn make_one(
 /// Makes a room for each cell that gets a content and has none, and answers how many it made. One search for each
 /// cell that gets a content, and one more for each room that is made. If memory runs out, the rooms made so far stay.
 pub(crate) fn make_room(
+    alloc: Global,
     rooms: &mut Rooms,
     columns: &mut Columns,
     changes: &[Change],
@@ -69,7 +72,7 @@ pub(crate) fn make_room(
 {
     let before = rooms.len();
     for (at, content) in changes {
-        make_one(rooms, columns, *at, content)?;
+        make_one(alloc, rooms, columns, *at, content)?;
     }
     Ok(rooms.len() - before)
 }
@@ -78,8 +81,10 @@ pub(crate) fn make_room(
 fn exchange(rooms: &mut Rooms, at: Address, content: &mut Option<Content>)
     requires order { RoomsAreInOrder rooms.old.entries }
     requires room { HasRoomFor rooms.old.entries (at, content.old) }
+    requires settled { IsSettled (at, content.old) }
     ensures sheet { sheet_in rooms.new.entries ≡ with_content (sheet_in rooms.old.entries) at content.old }
     ensures stood { content.new ≡ content_of (sheet_in rooms.old.entries) at }
+    ensures settled { IsSettled (at, content.new) }
     ensures order { RoomsAreInOrder rooms.new.entries }
     ensures rooms { length rooms.new.entries ≡ length rooms.old.entries }
     ensures kept { (c : ℕ) → room_of rooms.new.entries c ≡ None → room_of rooms.old.entries c ≡ None }
@@ -87,7 +92,7 @@ fn exchange(rooms: &mut Rooms, at: Address, content: &mut Option<Content>)
     ensures cells { HaveSameCells rooms.old.entries rooms.new.entries }
 {
     if let Some(room) = rooms.get_mut(&at) {
-        mem::swap(room, content);
+        room.exchange(content);
     }
 }
 
@@ -96,6 +101,7 @@ fn exchange(rooms: &mut Rooms, at: Address, content: &mut Option<Content>)
 pub(crate) fn exchange_all(rooms: &mut Rooms, changes: &mut [Change], vacant: usize) -> usize
     requires order { RoomsAreInOrder rooms.old.entries }
     requires room { All (HasRoomFor rooms.old.entries) changes.old }
+    requires settled { All IsSettled changes.old }
     requires vacant { length rooms.old.entries ≡ length (sheet_in rooms.old.entries) + vacant }
     requires only { VacantOnlyAt (keys_of changes.old) rooms.old.entries }
     ensures sheet { sheet_in rooms.new.entries ≡ edited (sheet_in rooms.old.entries) changes.old }
@@ -103,6 +109,7 @@ pub(crate) fn exchange_all(rooms: &mut Rooms, changes: &mut [Change], vacant: us
     ensures occupied { result ≡ length (sheet_in rooms.new.entries) }
     ensures order { RoomsAreInOrder rooms.new.entries }
     ensures room { All (HasRoomFor rooms.new.entries) changes.new }
+    ensures settled { All IsSettled changes.new }
     ensures vacant { VacantOnlyAt (keys_of changes.new) rooms.new.entries }
     ensures cells { HaveSameCells rooms.old.entries rooms.new.entries }
 {
@@ -119,6 +126,7 @@ pub(crate) fn exchange_all(rooms: &mut Rooms, changes: &mut [Change], vacant: us
 pub(crate) fn exchange_back(rooms: &mut Rooms, changes: &mut [Change])
     requires order { RoomsAreInOrder rooms.old.entries }
     requires room { All (HasRoomFor rooms.old.entries) changes.old }
+    requires settled { All IsSettled changes.old }
     requires only { VacantOnlyAt (keys_of changes.old) rooms.old.entries }
     ensures sheet { sheet_in rooms.new.entries ≡ restored (sheet_in rooms.old.entries) changes.old }
     ensures order { RoomsAreInOrder rooms.new.entries }
@@ -136,7 +144,7 @@ fn is_vacant(rooms: &Rooms, at: Address) -> bool
     ensures { IsTrue result ↔ (room_of rooms.now.entries at ≡ Some None) }
 {
     match rooms.get(&at) {
-        Some(room) => room.is_none(),
+        Some(room) => room.is_vacant(),
         None => false,
     }
 }

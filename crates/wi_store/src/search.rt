@@ -9,8 +9,8 @@ ghost use Rattle.wi_store.specs.Inner.Columns.{HasCellsOf};
 ghost use Rattle.wi_store.specs.Inner.Rooms.{room_of, RoomsAreInOrder};
 
 use crate::columns::{Columns, first_ahead};
+use crate::room::Room;
 use crate::rooms::Rooms;
-use wi_parser::Content;
 use wi_values::{Address, Rect};
 
 /// Where a rectangle goes on after a cell beside it, in the first column of a row, if it does.
@@ -36,7 +36,7 @@ pub(crate) fn room_past<'a>(
     columns: &Columns,
     area: Rect,
     beside: Address,
-) -> Option<(Address, &'a Option<Content>)>
+) -> Option<(Address, &'a Room)>
     requires order { RoomsAreInOrder rooms.now.entries }
     requires columns { HasCellsOf rooms.now.entries columns.now }
     requires beside { is_within area beside ≡ false }
@@ -57,7 +57,7 @@ pub(crate) fn next_room<'a>(
     columns: &Columns,
     area: Rect,
     from: Address,
-) -> Option<(Address, &'a Option<Content>)>
+) -> Option<(Address, &'a Room)>
     requires order { RoomsAreInOrder rooms.now.entries }
     requires columns { HasCellsOf rooms.now.entries columns.now }
     ensures cell { option_map (λ x. x.0) result ≡ find (is_ahead area (Some from)) (keys_of rooms.now.entries) }
@@ -96,7 +96,7 @@ fn next_by_columns<'a>(
     columns: &Columns,
     area: Rect,
     from: Address,
-) -> Option<(Address, &'a Option<Content>)>
+) -> Option<(Address, &'a Room)>
     requires order { RoomsAreInOrder rooms.now.entries }
     requires columns { HasCellsOf rooms.now.entries columns.now }
     ensures cell { option_map (λ x. x.0) result ≡ find (is_ahead area (Some from)) (keys_of rooms.now.entries) }
@@ -112,7 +112,7 @@ fn next_by_columns<'a>(
 }
 
 /// The first room from a cell to another. No end is sought in the map: one way down is all.
-fn first_room(rooms: &Rooms, from: Address, to: Address) -> Option<(Address, &Option<Content>)>
+fn first_room(rooms: &Rooms, from: Address, to: Address) -> Option<(Address, &Room)>
     requires { RoomsAreInOrder rooms.now.entries }
     ensures cell { option_map (λ x. x.0) result ≡ find (λ a. nat_le from a && nat_le a to) (keys_of rooms.now.entries) }
     ensures room { IfSome result (λ x. room_of rooms.now.entries x.0 ≡ Some x.1.now) }

@@ -17,7 +17,7 @@ pub(crate) fn settle(changes: &mut [Change])
 }
 
 /// Takes the constant Empty for no content.
-fn settle_one(content: &mut Option<Content>)
+pub(crate) fn settle_one(content: &mut Option<Content>)
     ensures { content.new ≡ settled content.old }
 {
     if let Some(Content::Constant(Value::Empty)) = content {

@@ -1,14 +1,14 @@
 //! A sheet within limits.
 
-ghost use Rattle.std.specs.Prelude.{◌≡◌, ◌<◌, ◌≤◌, ◌+◌, ◌-◌, ◌⊎◌, ◌++◌, ◌&&◌, ℕ, List, [], true, false, nat_le, filter, length, option_map, IfOk, IfSome, OnOk, OnErr};
+ghost use Rattle.std.specs.Prelude.{◌≡◌, ◌<◌, ◌≤◌, ◌+◌, ◌-◌, ◌⊎◌, ◌++◌, ◌&&◌, ℕ, List, [], true, false, nat_le, filter, length, option_map, All, IfOk, IfSome, OnOk, OnErr};
 ghost use Rattle.std.specs.Option.{option_copied};
 ghost use Rattle.std.specs.List.{find};
 ghost use Rattle.std.specs.List.Sorted.{IsStrictlyIncreasing};
 ghost use Rattle.std.specs.Map.{keys_of};
 ghost use Rattle.wi_values.specs.Address.{column_of, is_within};
-ghost use Rattle.wi_parser.specs.Sheet.{content_of, has_formula, cells_with_formula};
+ghost use Rattle.wi_parser.specs.Sheet.{content_of, cells_with_formula};
 ghost use Rattle.wi_store.specs.Store.{edited, applied, Applies};
-ghost use Rattle.wi_store.specs.Inner.Rooms.{sheet_in, formula_rooms, room_of, RoomsAreInOrder, HasNoVacancy, VacantOnlyAt};
+ghost use Rattle.wi_store.specs.Inner.Rooms.{sheet_in, formula_rooms, room_of, RoomsAreInOrder, HasNoVacancy, VacantOnlyAt, IsSettled};
 ghost use Rattle.wi_store.specs.Store.{is_ahead};
 ghost use Rattle.wi_store.specs.Inner.Exchange.{admitted};
 ghost use Rattle.wi_store.specs.Inner.Columns.{HasCellsOf};
@@ -78,7 +78,7 @@ impl Store {
         ensures { option_copied result ≡ content_of self.now.sheet at }
     {
         match self.rooms.get(&at) {
-            Some(room) => room.as_ref(),
+            Some(room) => room.content(),
             None => None,
         }
     }
@@ -124,6 +124,7 @@ impl Store {
         settle(&mut changes);
         let before = self.occupied();
         let answer = edit(
+            self.alloc,
             &mut self.rooms,
             &mut self.columns,
             &self.limits,
@@ -190,7 +191,7 @@ impl Store {
         ensures content { IfSome result (λ x. content_of self.now.sheet x.0 ≡ Some x.1.now) }
     {
         match next_room(&self.rooms, &self.columns, area, from) {
-            Some((cell, room)) => match room {
+            Some((cell, room)) => match room.content() {
                 Some(content) => Some((cell, content)),
                 None => unreachable!(),
             },
@@ -214,7 +215,7 @@ fn formula_cells(alloc: Global, rooms: &Rooms) -> Result<Vec<Address>, AllocErro
 {
     let mut found = Vec::new(alloc);
     for (cell, room) in rooms {
-        if is_formula(room) {
+        if room.has_formula() {
             found.push(*cell)?;
         }
     }
@@ -253,23 +254,17 @@ fn push_run(
         if !area.contains(*cell) {
             return Ok(next_inside(area, *cell));
         }
-        if is_formula(room) {
+        if room.has_formula() {
             found.push(*cell)?;
         }
     }
     Ok(None)
 }
 
-// Whether a room has a formula.
-fn is_formula(room: &Option<Content>) -> bool
-    ensures { result ≡ has_formula room.now }
-{
-    matches!(room, Some(Content::Formula(_)))
-}
-
 // Does an edit, and answers how many cells have a content then, or refuses it and leaves the sheet as it was. Rooms of
 // the changed cells may be vacant after either.
 fn edit(
+    alloc: Global,
     rooms: &mut Rooms,
     columns: &mut Columns,
     limits: &Limits,
@@ -279,6 +274,7 @@ fn edit(
     requires order { RoomsAreInOrder rooms.old.entries }
     requires full { HasNoVacancy rooms.old.entries }
     requires columns { HasCellsOf rooms.old.entries columns.old }
+    requires settled { All IsSettled changes.old }
     ensures done { OnOk result (sheet_in rooms.new.entries ≡ edited (sheet_in rooms.old.entries) changes.old) }
     ensures refused { OnErr result (sheet_in rooms.new.entries ≡ sheet_in rooms.old.entries) }
     ensures cause { (result ≡ Err StoreFault.Memory)
@@ -287,7 +283,7 @@ fn edit(
     ensures vacant { VacantOnlyAt (keys_of changes.new) rooms.new.entries }
     ensures columns { HasCellsOf rooms.new.entries columns.new }
 {
-    let vacant = make_room(rooms, columns, changes)?;
+    let vacant = make_room(alloc, rooms, columns, changes)?;
     let occupied = exchange_all(rooms, changes, vacant);
     let answer = limits.admit(occupied as u64, edits);
     if answer.is_err() {

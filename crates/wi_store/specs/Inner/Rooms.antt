@@ -9,6 +9,7 @@ use Rattle.std.specs.List.Sorted.{IsStrictlySortedBy}
 use Rattle.wi_values.specs.Address.{Area, is_within}
 use Rattle.wi_parser.specs.Sheet.{Sheet, has_formula}
 use Rattle.wi_parser.specs.declared.content.Content.{Content}
+use Rattle.wi_store.specs.Store.{settled}
 
 -- cells with their contents, in row-major order
 abbrev pub Rooms : Type 0
@@ -49,6 +50,10 @@ VacantOnlyAt cells rooms = (c : ℕ) → room_of rooms c ≡ Some None → list_
 -- the cell has a room, or gets no content
 abbrev pub HasRoomFor : Rooms → ℕ × Option Content → Type 0
 HasRoomFor rooms change = room_of rooms change.0 ≡ None → change.1 ≡ None
+
+-- the cell doesn't get the constant Empty, which is no content
+abbrev pub IsSettled : ℕ × Option Content → Type 0
+IsSettled change = settled change.1 ≡ change.1
 
 -- the last of the rooms are these
 abbrev pub EndsWith : Rooms → Rooms → Type 0

@@ -12,28 +12,28 @@ use Rattle.wi_store.proofs.rooms.exchange.Goals as goal
 
 pub returns-in-Some-clause-sheet : goal.returns-in-Some-clause-sheet
 returns-in-Some-clause-sheet c =
-    ap (λ (r : Rooms). sheet_in r) (c.get_mut.follows.holds c.swap.new.x).0
-    ∙ ap (λ (o : Option Content). sheet_in (set_value (is_at (nat_cmp c.args.at)) c.args.rooms.now.entries o)) c.swap.ensures.x_after
+    ap (λ (r : Rooms). sheet_in r) (c.get_mut.follows.holds c.exchange.new.self).0
+    ∙ ap (λ (o : Option Content). sheet_in (set_value (is_at (nat_cmp c.args.at)) c.args.rooms.now.entries o)) (c.exchange.ensures.put ∙ c.requires.settled)
     ∙ sheet_in-set_value c.args.at c.in-Some.room.now c.args.content.now c.args.rooms.now.entries
     (Ascends-from_order c.args.rooms.now.entries c.requires.order) (sym c.in-Some.ensures.value)
 
 pub returns-in-Some-clause-stood : goal.returns-in-Some-clause-stood
 returns-in-Some-clause-stood c =
-    c.swap.ensures.y_after ∙ ap (λ (o : Option (Option Content)). option_flatten o) c.in-Some.ensures.value
+    c.exchange.ensures.stood ∙ ap (λ (o : Option (Option Content)). option_flatten o) c.in-Some.ensures.value
     ∙ sym (content_of-sheet_in c.args.at c.args.rooms.now.entries (Ascends-from_order c.args.rooms.now.entries c.requires.order))
 
 pub returns-in-Some-clause-kept : goal.returns-in-Some-clause-kept
 returns-in-Some-clause-kept c =
-    λ q h. none_kept (is_at (nat_cmp c.args.at) q) _ c.swap.new.x _ (((c.get_mut.follows.holds c.swap.new.x).3 (ap is_some (sym c.in-Some.ensures.value))).0 q) h
+    λ q h. none_kept (is_at (nat_cmp c.args.at) q) _ c.exchange.new.self _ (((c.get_mut.follows.holds c.exchange.new.self).3 (ap is_some (sym c.in-Some.ensures.value))).0 q) h
 
 pub returns-in-Some-clause-others : goal.returns-in-Some-clause-others
 returns-in-Some-clause-others c =
-    λ q apart. ((c.get_mut.follows.holds c.swap.new.x).3 (ap is_some (sym c.in-Some.ensures.value))).2 q (is_at_apart c.args.at q apart)
+    λ q apart. ((c.get_mut.follows.holds c.exchange.new.self).3 (ap is_some (sym c.in-Some.ensures.value))).2 q (is_at_apart c.args.at q apart)
 
 pub returns-in-Some-clause-cells : goal.returns-in-Some-clause-cells
 returns-in-Some-clause-cells c =
     let found = ap is_some (sym c.in-Some.ensures.value) in
-    λ q. same_cells-put c.args.at q c.swap.new.x c.args.rooms.now.entries _ (((c.get_mut.follows.holds c.swap.new.x).3 found).0 q) found
+    λ q. same_cells-put c.args.at q c.exchange.new.self c.args.rooms.now.entries _ (((c.get_mut.follows.holds c.exchange.new.self).3 found).0 q) found
 
 pub returns-in_default-clause-sheet : goal.returns-in_default-clause-sheet
 returns-in_default-clause-sheet c =

@@ -3,7 +3,7 @@ use Rattle.wi_store.specs.Store.{edited}
 use Rattle.wi_store.specs.Inner.Rooms.{sheet_in}
 use Rattle.wi_store.specs.Inner.Exchange.{stood}
 use Rattle.wi_store.proofs.RoomLemmas.{Ascends-from_order, Ascends-sheet_in}
-use Rattle.wi_store.proofs.ChangeLemmas.{edited_more, stood_more, room_more, vacant_more, keys_of-set, count_fits, counted_more}
+use Rattle.wi_store.proofs.ChangeLemmas.{edited_more, stood_more, room_more, settled_more, vacant_more, keys_of-set, count_fits, counted_more}
 use Rattle.wi_store.proofs.ColumnRooms.{same_cells-then}
 use Rattle.wi_store.proofs.rooms.exchange_all.Goals as goal
 
@@ -17,6 +17,9 @@ overflow_add-occupied c =
 
 pub exchange-requires-clause-room : goal.exchange-requires-clause-room
 exchange-requires-clause-room c = c.loop-change.invariant.room c.loop-change.change-index c.change-item.result (omega arith)
+
+pub exchange-requires-clause-settled : goal.exchange-requires-clause-settled
+exchange-requires-clause-settled c = c.loop-change.invariant.settled c.loop-change.change-index c.change-item.result (omega arith)
 
 pub loop-change-preserved : goal.loop-change-preserved
 loop-change-preserved c =
@@ -39,6 +42,7 @@ loop-change-preserved c =
       order = c.exchange.ensures.order;
       room = room_more c.loop-change.changes c.loop-change.change-index _ c.exchange.new.content
           c.loop-change.rooms.entries c.exchange.new.rooms.entries order c.exchange.ensures.kept c.exchange.ensures.stood c.loop-change.invariant.room;
+      settled = settled_more c.loop-change.changes c.loop-change.change-index _ c.exchange.new.content c.exchange.ensures.settled c.loop-change.invariant.settled;
       vacant = rw (keys_of-set c.loop-change.changes c.loop-change.change-index c.change-item.result c.exchange.new.content)
           (vacant_more c.loop-change.changes c.loop-change.change-index c.change-item.result
           c.loop-change.rooms.entries c.exchange.new.rooms.entries below c.exchange.ensures.others c.loop-change.invariant.vacant);

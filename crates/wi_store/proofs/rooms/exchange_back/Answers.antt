@@ -2,12 +2,15 @@ use Rattle.std.proofs.Common.{◌≡◌, ◌+◌, ◌-◌, ◌<◌, length, arit
 use Rattle.wi_store.specs.Inner.Rooms.{sheet_in}
 use Rattle.wi_store.specs.Inner.Exchange.{restored}
 use Rattle.wi_store.proofs.RoomLemmas.{Ascends-from_order}
-use Rattle.wi_store.proofs.ChangeLemmas.{restored_more, room_more, vacant_more, keys_of-set}
+use Rattle.wi_store.proofs.ChangeLemmas.{restored_more, room_more, settled_more, vacant_more, keys_of-set}
 use Rattle.wi_store.proofs.ColumnRooms.{same_cells-then}
 use Rattle.wi_store.proofs.rooms.exchange_back.Goals as goal
 
 pub exchange-requires-clause-room : goal.exchange-requires-clause-room
 exchange-requires-clause-room c = c.loop-i.invariant.room (c.loop-i.i - 1) c.index-changes-i.result (omega arith)
+
+pub exchange-requires-clause-settled : goal.exchange-requires-clause-settled
+exchange-requires-clause-settled c = c.loop-i.invariant.settled (c.loop-i.i - 1) c.index-changes-i.result (omega arith)
 
 pub loop-i-preserved : goal.loop-i-preserved
 loop-i-preserved c =
@@ -20,6 +23,7 @@ loop-i-preserved c =
       order = c.exchange.ensures.order;
       room = room_more c.loop-i.changes (c.loop-i.i - 1) _ c.exchange.new.content c.loop-i.rooms.entries c.exchange.new.rooms.entries
           (Ascends-from_order c.loop-i.rooms.entries c.loop-i.invariant.order) c.exchange.ensures.kept c.exchange.ensures.stood c.loop-i.invariant.room;
+      settled = settled_more c.loop-i.changes (c.loop-i.i - 1) _ c.exchange.new.content c.exchange.ensures.settled c.loop-i.invariant.settled;
       vacant = rw (keys_of-set c.loop-i.changes (c.loop-i.i - 1) c.index-changes-i.result c.exchange.new.content)
           (vacant_more c.loop-i.changes (c.loop-i.i - 1) c.index-changes-i.result c.loop-i.rooms.entries c.exchange.new.rooms.entries
           below c.exchange.ensures.others c.loop-i.invariant.vacant);

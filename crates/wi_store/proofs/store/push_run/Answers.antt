@@ -22,7 +22,7 @@ loop-cell-preserved-in-Continue-1 c =
       i.0 ++ here ∷ [],
       passed c.into_iter-cell-iterator.result i.0 c.next.new.self c.loop-cell.cell-iterator here i.1 c.in-Some.ensures.steps,
       run_more (is_within c.args.area) i.0 c.in-Some.cell.now c.in-Some.room.now c.args.found.now.items c.loop-cell.found.items c.push.new.self.items
-          (sym c.is_formula.ensures ∙ c.if-is_formula.true) inside i.2 c.in_ok-push.ensures.items,
+          (sym c.has_formula.ensures ∙ c.if-has_formula.true) inside i.2 c.in_ok-push.ensures.items,
     )
 
 pub loop-cell-preserved : goal.loop-cell-preserved
@@ -32,7 +32,7 @@ loop-cell-preserved c =
       i.0 ++ here ∷ [],
       passed c.into_iter-cell-iterator.result i.0 c.next.new.self c.loop-cell.cell-iterator here i.1 c.in-Some.ensures.steps,
       run_same (is_within c.args.area) i.0 c.in-Some.cell.now c.in-Some.room.now c.args.found.now.items c.loop-cell.found.items
-          (sym c.is_formula.ensures ∙ c.if-is_formula.false) i.2,
+          (sym c.has_formula.ensures ∙ c.if-has_formula.false) i.2,
     )
 
 pub returns-clause-ok : goal.returns-clause-ok

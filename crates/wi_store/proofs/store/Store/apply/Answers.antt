@@ -4,6 +4,7 @@ use Rattle.std.proofs.lemmas.Result.{err_from_is_err_and}
 use Rattle.wi_parser.specs.declared.content.Content.{Content}
 use Rattle.wi_store.specs.Inner.Rooms.{sheet_in}
 use Rattle.wi_store.specs.Store.{Stored, settled_change}
+use Rattle.wi_store.proofs.ChangeLemmas.{settled_all}
 use Rattle.wi_store.proofs.EditLemmas.{occupied_after, applies_after_refusal, applies_after_acceptance}
 use Rattle.wi_store.proofs.store.Store.apply.Goals as goal
 
@@ -14,6 +15,11 @@ settled_slice xs ys zs ws n e f g h =
     let long : length zs ≡ length xs = ap length made ∙ length-map xs settled_change in
     let none : drop (length zs) xs ≡ [] = drop_all (length zs) xs (omega (arith, long)) in
     h ∙ ap (λ (us : List (ℕ × Option Content)). take n (zs ++ us)) none ∙ ap (take n) (append-nil zs) ∙ take_all n zs (omega (arith, long, e)) ∙ made
+
+pub edit-answer-requires-clause-settled : goal.edit-answer-requires-clause-settled
+edit-answer-requires-clause-settled c =
+    settled_all c.args.changes.items c.deref_mut-2.result.now
+    (settled_slice c.args.changes.items c.deref_mut.result.now c.settle.new.changes c.deref_mut-2.result.now c.args.changes.len c.args.changes.ok.0 c.deref_mut.ensures.value c.settle.ensures c.deref_mut-2.ensures.value)
 
 pub release-requires-clause-occupied : goal.release-requires-clause-occupied
 release-requires-clause-occupied c =
