@@ -345,7 +345,7 @@ fn take_in(
 /// The value of a formula under the replacements of its key, found by a stack of frames. No value is remembered in the
 /// place of another, and none twice.
 fn run<M: Memo>(
-    alloc: Global,
+    pool: &mut Pool,
     store: &Store,
     key: Key,
     formula: &Formula,
@@ -381,7 +381,7 @@ fn run<M: Memo>(
     ensures saves { OnOk result (SavesAll store.now.sheet (λ ks. Contains ks (case_at key)) (M.state memo.old) (M.state memo.new) meter.old meter.new) }
     ensures settled { OnOk result (WhereRoom store.now.sheet (λ ks. Contains ks (case_at key)) (M.state memo.old) (λ _. (M.state memo.new).kept key.cell key.world ≡ true)) }
 {
-    let mut pool = Pool::new(alloc);
+    let alloc = pool.allocator();
     let mut stack = Vec::new(alloc);
     let mut frame = Frame::new(key, formula, pool.take());
     'frames: loop {
@@ -397,7 +397,7 @@ fn run<M: Memo>(
                     return Ok(shown);
                 }
                 Some(below) => {
-                    let key = frame.retire(&mut pool);
+                    let key = frame.retire(pool);
                     frame = below;
                     take_in(alloc, store, &mut frame, &key, &value)?;
                     memo.keep(key, value)?;
@@ -409,9 +409,10 @@ fn run<M: Memo>(
 
 /// The value of a cell under replacements, with what is remembered of others, and of it. A formula is valued where no
 /// value is remembered for its key, and each only once, however many rest on it. No formula calls for another on the
-/// machine's stack: those that wait stand in a list, which grows as the references lead on.
+/// machine's stack: those that wait stand in a list, which grows as the references lead on. Arrays that formulas need are
+/// taken from a pool, and put back.
 pub fn value_under<M: Memo>(
-    alloc: Global,
+    pool: &mut Pool,
     store: &Store,
     world: &World,
     at: Address,
@@ -449,8 +450,8 @@ pub fn value_under<M: Memo>(
     ensures saves { OnOk result (SavesAll store.now.sheet (HasCase store.now.sheet world.now at) (M.state memo.old) (M.state memo.new) meter.old meter.new) }
     ensures settled { OnOk result (WhereRoom store.now.sheet (HasCase store.now.sheet world.now at) (M.state memo.old) (λ _. IsSettled store.now.sheet (M.state memo.new).kept world.now at)) }
 {
-    match value_now(alloc, store, world, at, memo)? {
+    match value_now(pool.allocator(), store, world, at, memo)? {
         Asked::Known(value) => Ok(value),
-        Asked::Unknown(cell) => run(alloc, store, cell.key, cell.formula, memo, meter),
+        Asked::Unknown(cell) => run(pool, store, cell.key, cell.formula, memo, meter),
     }
 }

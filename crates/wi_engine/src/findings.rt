@@ -63,6 +63,11 @@ impl Findings {
         self.what_ifs.clear();
     }
 
+    /// Whether no array has more than so many values.
+    pub fn is_within(&self, most: usize) -> bool {
+        self.rising.count() <= most && self.what_ifs.len() <= most
+    }
+
     /// Whether no value was found.
     pub fn is_empty(&self) -> bool {
         self.first.is_empty() && self.what_ifs.is_empty()

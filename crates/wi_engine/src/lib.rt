@@ -22,5 +22,6 @@ mod walk;
 
 pub use engine::value_under;
 pub use memo::Memo;
+pub use pool::Pool;
 pub use remembered::Remembered;
 pub use walk::{reached, reached_from};

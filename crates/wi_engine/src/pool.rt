@@ -7,6 +7,9 @@ use std::alloc::Global;
 /// Of how many frames the arrays are kept. Formulas that are valued one after another seldom stand deeper in one another.
 const MAX_KEPT: usize = 64;
 
+/// How many values or courses an array may have that is kept. A pool then takes some two megabytes at the most.
+const MAX_FILLED: usize = 64;
+
 /// What a frame fills.
 #[derive(Drop)]
 pub struct Arrays {
@@ -14,7 +17,14 @@ pub struct Arrays {
     pub courses: Vec<Course>,
 }
 
-/// Arrays whose memory is used again. What was in them is still there.
+impl Arrays {
+    /// Whether none of them takes much memory.
+    fn are_small(&self) -> bool {
+        self.found.is_within(MAX_FILLED) && self.courses.len() <= MAX_FILLED
+    }
+}
+
+/// Arrays whose memory is used again, by later formulas of a question and by later questions.
 #[derive(Drop)]
 pub struct Pool {
     kept: Vec<Arrays>,
@@ -30,8 +40,13 @@ impl Pool {
         }
     }
 
+    /// Where its arrays have their memory.
+    pub fn allocator(&self) -> Global {
+        self.alloc
+    }
+
     /// The arrays that were put in last, or new ones. Takes no memory.
-    pub fn take(&mut self) -> Arrays {
+    pub(crate) fn take(&mut self) -> Arrays {
         match self.kept.pop() {
             Some(arrays) => arrays,
             None => Arrays {
@@ -41,9 +56,12 @@ impl Pool {
         }
     }
 
-    /// Puts arrays in. They go where there are many already, and where memory runs out.
-    pub fn put(&mut self, arrays: Arrays) {
-        if self.kept.len() < MAX_KEPT {
+    /// Puts arrays in, without what is in them. They go where there are many already or they are large, and where memory
+    /// runs out.
+    pub(crate) fn put(&mut self, mut arrays: Arrays) {
+        if self.kept.len() < MAX_KEPT && arrays.are_small() {
+            arrays.found.clear();
+            arrays.courses.clear();
             let _ = self.kept.push(arrays);
         }
     }

@@ -74,6 +74,11 @@ impl Rising {
         }
     }
 
+    /// How many values there are.
+    pub fn count(&self) -> usize {
+        self.cells.len()
+    }
+
     /// Adds the value of a cell that comes after all of these.
     pub fn push(&mut self, at: Address, value: Value) -> Result<(), AllocError>
         requires { All (λ e. e.0 < at) self.old }

@@ -31,7 +31,7 @@ use std::alloc::{AllocError, Global};
 use std::collections::BTreeMap;
 use std::marker::Model;
 use wi_cache::Kept;
-use wi_engine::value_under;
+use wi_engine::{Pool, value_under};
 use wi_functions::Meter;
 use wi_graph::Graph;
 use wi_parser::Content;
@@ -54,6 +54,7 @@ pub struct KeptCalculator {
     // There but while a question is answered.
     kept: Option<Kept>,
     meter: Meter,
+    pool: Pool,
     alloc: Global,
 }
 
@@ -104,6 +105,7 @@ impl KeptCalculator {
             widest: 0,
             kept: Some(kept),
             meter: Meter::new(),
+            pool: Pool::new(alloc),
             alloc,
         })
     }
@@ -256,7 +258,7 @@ impl Calculator for KeptCalculator {
             kept,
         );
         let result = value_under(
-            self.alloc,
+            &mut self.pool,
             &self.store,
             &world,
             at,
@@ -329,7 +331,7 @@ impl Calculator for KeptCalculator {
             kept,
         );
         let result = open_entry(
-            self.alloc,
+            &mut self.pool,
             &self.store,
             &world,
             formula_cell,

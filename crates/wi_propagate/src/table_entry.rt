@@ -15,7 +15,7 @@ ghost use Rattle.wi_engine.specs.Inner.Frames.{MayBeRead};
 ghost use Rattle.wi_engine.specs.Inner.Saving.{WhereRoom, CountsUnkept, SavesAll, TakesNoMore, GivesUpWhenFull};
 
 use std::alloc::{AllocError, Global};
-use wi_engine::{Memo, Remembered, reached_from, value_under};
+use wi_engine::{Memo, Pool, Remembered, reached_from, value_under};
 use wi_functions::{Meter, zero_for_empty};
 use wi_store::Store;
 use wi_values::{Address, ErrorKind, Replacement, Value};
@@ -51,7 +51,16 @@ pub fn table_entry(
     };
     let world = World::new(alloc).with(put)?;
     let mut memo = Remembered::new(alloc, store, order);
-    open_entry(alloc, store, &world, formula_cell, pairs, &mut memo, meter)
+    let mut pool = Pool::new(alloc);
+    open_entry(
+        &mut pool,
+        store,
+        &world,
+        formula_cell,
+        pairs,
+        &mut memo,
+        meter,
+    )
 }
 
 /// The cells whose values are asked for by an entry of a data table: the formula cell, and the replacement cells.
@@ -71,7 +80,7 @@ fn valued_cells(
 
 /// What an entry of a data table shows where none of the cells is circular whose values are asked for.
 pub fn open_entry<M: Memo>(
-    alloc: Global,
+    pool: &mut Pool,
     store: &Store,
     world: &World,
     formula_cell: Address,
@@ -110,15 +119,15 @@ pub fn open_entry<M: Memo>(
     ensures settled { OnOk result (WhereRoom store.now.sheet (HasEntry store.now.sheet world.now formula_cell pairs.now)
         (M.state memo.old) (λ _. IsWhatIfSettled store.now.sheet (M.state memo.new).kept world.now (formula_cell, pairs.now))) }
 {
-    let replaced = with_inputs(alloc, store, world, pairs, memo, meter)?;
-    let value = value_under(alloc, store, &replaced, formula_cell, memo, meter)?;
+    let replaced = with_inputs(pool, store, world, pairs, memo, meter)?;
+    let value = value_under(pool, store, &replaced, formula_cell, memo, meter)?;
     Ok(zero_for_empty(value))
 }
 
 /// Replacements with the inputs of an entry put in, each with the value of its replacement cell. All these values are taken
 /// before any is put.
 fn with_inputs<M: Memo>(
-    alloc: Global,
+    pool: &mut Pool,
     store: &Store,
     world: &World,
     pairs: &[(Address, Address)],
@@ -158,9 +167,9 @@ fn with_inputs<M: Memo>(
     ensures settled { OnOk result (WhereRoom store.now.sheet (HasReplacing store.now.sheet world.now pairs.now)
         (M.state memo.old) (λ _. All (λ x. IsSettled store.now.sheet (M.state memo.new).kept world.now x.1) pairs.now)) }
 {
-    let mut inputs = Vec::new(alloc);
+    let mut inputs = Vec::new(pool.allocator());
     for pair in pairs {
-        let value = value_under(alloc, store, world, pair.1, memo, meter)?;
+        let value = value_under(pool, store, world, pair.1, memo, meter)?;
         inputs.push(Replacement { at: pair.0, value })?;
     }
     world.with(&inputs)

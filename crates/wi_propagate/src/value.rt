@@ -7,7 +7,7 @@ ghost use Rattle.wi_sheet.specs.Demand.{demanded, wants};
 ghost use Rattle.wi_sheet.specs.Inner.Spending.{NeverFall};
 
 use std::alloc::{AllocError, Global};
-use wi_engine::{Remembered, reached, value_under};
+use wi_engine::{Pool, Remembered, reached, value_under};
 use wi_functions::Meter;
 use wi_store::Store;
 use wi_values::{Address, ErrorKind, Replacement, Value};
@@ -38,5 +38,5 @@ pub fn shown(
     };
     let world = World::new(alloc).with(put)?;
     let mut memo = Remembered::new(alloc, store, order);
-    value_under(alloc, store, &world, at, &mut memo, meter)
+    value_under(&mut Pool::new(alloc), store, &world, at, &mut memo, meter)
 }
