@@ -393,7 +393,8 @@ fn run<M: Memo>(
             Advance::Done(value) => match stack.pop() {
                 None => {
                     let shown = value.copy(alloc)?;
-                    memo.keep(frame.into_key(), value)?;
+                    let root = frame.retire(pool);
+                    memo.keep(root, value)?;
                     return Ok(shown);
                 }
                 Some(below) => {
@@ -409,8 +410,8 @@ fn run<M: Memo>(
 
 /// The value of a cell under replacements, with what is remembered of others, and of it. A formula is valued where no
 /// value is remembered for its key, and each only once, however many rest on it. No formula calls for another on the
-/// machine's stack: those that wait stand in a list, which grows as the references lead on. Arrays that formulas need are
-/// taken from a pool, and put back.
+/// machine's stack: those that wait stand in a list, which grows as the references lead on. Each takes its arrays
+/// from a pool, into which they go when its value is there.
 pub fn value_under<M: Memo>(
     pool: &mut Pool,
     store: &Store,

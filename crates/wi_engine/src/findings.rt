@@ -63,7 +63,7 @@ impl Findings {
         self.what_ifs.clear();
     }
 
-    /// Whether no array has more than so many values.
+    /// Whether no array that grows with the cells found has more than so many values.
     pub fn is_within(&self, most: usize) -> bool {
         self.rising.count() <= most && self.what_ifs.len() <= most
     }

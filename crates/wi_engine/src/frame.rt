@@ -85,14 +85,7 @@ impl<'a> Frame<'a> {
         Ok(())
     }
 
-    /// The key, where the rest is no longer of use.
-    pub fn into_key(self) -> Key
-        ensures { result ≡ self.entry.key }
-    {
-        self.key
-    }
-
-    /// The key, where the frame is done. Its arrays are put into a pool.
+    /// The key, where the frame is done. Its arrays are put into a pool, or go. The work is that of `Pool::put`.
     pub fn retire(self, pool: &mut Pool) -> Key
         ensures { result ≡ self.entry.key }
     {

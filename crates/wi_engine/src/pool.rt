@@ -7,7 +7,7 @@ use std::alloc::Global;
 /// Of how many frames the arrays are kept. Formulas that are valued one after another seldom stand deeper in one another.
 const MAX_KEPT: usize = 64;
 
-/// How many values or courses an array may have that is kept. A pool then takes some two megabytes at the most.
+/// How many values or courses an array may have that is kept. A pool takes less than a megabyte then.
 const MAX_FILLED: usize = 64;
 
 /// What a frame fills.
@@ -45,7 +45,7 @@ impl Pool {
         self.alloc
     }
 
-    /// The arrays that were put in last, or new ones. Takes no memory.
+    /// The arrays that were put in last, or new ones, without values. Takes no memory.
     pub(crate) fn take(&mut self) -> Arrays {
         match self.kept.pop() {
             Some(arrays) => arrays,
@@ -57,7 +57,7 @@ impl Pool {
     }
 
     /// Puts arrays in, without what is in them. They go where there are many already or they are large, and where memory
-    /// runs out.
+    /// runs out. The work grows with the count of what is in them; the list may take memory for more.
     pub(crate) fn put(&mut self, mut arrays: Arrays) {
         if self.kept.len() < MAX_KEPT && arrays.are_small() {
             arrays.found.clear();

@@ -54,6 +54,7 @@ pub struct KeptCalculator {
     // There but while a question is answered.
     kept: Option<Kept>,
     meter: Meter,
+    // Arrays for the formulas of the next questions.
     pool: Pool,
     alloc: Global,
 }

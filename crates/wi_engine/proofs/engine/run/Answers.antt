@@ -148,17 +148,17 @@ returns-in-None-clause-saves g c =
     let a = c.in_ok-next.ensures in
     let counted = rw c.in-Done.is at a.evaluations in
     let restarts : c.advance.new.meter.restarts ≤ c.frames.meter.restarts + spare c.args.store.now.sheet c.frames.frame = omega (arith, a.restarts) in
-    let takes : Takes (g.M.Memo.state c.advance.new.memo) (g.M.Memo.state c.keep.new.self) c.into_key.result = record { kept = k.kept; room = k.room; places = k.one_place } in
+    let takes : Takes (g.M.Memo.state c.advance.new.memo) (g.M.Memo.state c.keep.new.self) c.retire-root.result = record { kept = k.kept; room = k.room; places = k.one_place } in
     saving_end c.args.store.now.sheet (g.M.Memo.state c.args.memo.now) (g.M.Memo.state c.frames.memo) (g.M.Memo.state c.advance.new.memo) (g.M.Memo.state c.keep.new.self) (case_at c.args.key) c.args.meter.now c.frames.meter c.advance.new.meter
-    c.frames.stack.items c.frames.frame c.into_key.result c.frames.invariant a.same (search rules) (c.into_key.ensures ∙ a.key) k.found takes counted restarts (rw c.in-Done.is at a.rests)
+    c.frames.stack.items c.frames.frame c.retire-root.result c.frames.invariant a.same (search rules) (c.retire-root.ensures ∙ a.key) k.found takes counted restarts (rw c.in-Done.is at a.rests)
 
 pub returns-in-None-clause-settled : goal.returns-in-None-clause-settled
 returns-in-None-clause-settled g c =
     let k = c.in_ok-keep-in-None.ensures in
     let a = c.in_ok-next.ensures in
-    let takes : Takes (g.M.Memo.state c.advance.new.memo) (g.M.Memo.state c.keep.new.self) c.into_key.result = record { kept = k.kept; room = k.room; places = k.one_place } in
+    let takes : Takes (g.M.Memo.state c.advance.new.memo) (g.M.Memo.state c.keep.new.self) c.retire-root.result = record { kept = k.kept; room = k.room; places = k.one_place } in
     settled_end c.args.store.now.sheet (g.M.Memo.state c.args.memo.now) (g.M.Memo.state c.frames.memo) (g.M.Memo.state c.advance.new.memo) (g.M.Memo.state c.keep.new.self) c.args.key c.args.meter.now c.frames.meter
-    c.frames.stack.items c.frames.frame c.into_key.result c.frames.invariant a.same (search rules) (c.into_key.ensures ∙ a.key) k.found takes
+    c.frames.stack.items c.frames.frame c.retire-root.result c.frames.invariant a.same (search rules) (c.retire-root.ensures ∙ a.key) k.found takes
 
 pub returns-in_err-push-in-Needs-clause-evaluations : goal.returns-in_err-push-in-Needs-clause-evaluations
 returns-in_err-push-in-Needs-clause-evaluations g c =
@@ -243,12 +243,12 @@ returns-in-None-clause-unkept_restarts g c =
 pub returns-in-None-clause-evaluations_ok : goal.returns-in-None-clause-evaluations_ok
 returns-in-None-clause-evaluations_ok g c =
     let counted = rw c.in-Done.is at c.in_ok-next.ensures.evaluations in
-    end_evaluations c.args.store.now.sheet (g.M.Memo.state c.args.memo.now) (g.M.Memo.state c.frames.memo) (g.M.Memo.state c.advance.new.memo) (g.M.Memo.state c.keep.new.self) (case_at c.args.key) c.args.meter.now c.frames.meter c.advance.new.meter c.frames.stack.items c.frames.frame c.into_key.result c.frames.invariant.running c.in_ok-next.ensures.same (search rules) (c.into_key.ensures ∙ c.in_ok-next.ensures.key) c.in_ok-keep-in-None.ensures.found counted
+    end_evaluations c.args.store.now.sheet (g.M.Memo.state c.args.memo.now) (g.M.Memo.state c.frames.memo) (g.M.Memo.state c.advance.new.memo) (g.M.Memo.state c.keep.new.self) (case_at c.args.key) c.args.meter.now c.frames.meter c.advance.new.meter c.frames.stack.items c.frames.frame c.retire-root.result c.frames.invariant.running c.in_ok-next.ensures.same (search rules) (c.retire-root.ensures ∙ c.in_ok-next.ensures.key) c.in_ok-keep-in-None.ensures.found counted
 
 pub returns-in-None-clause-restarts_ok : goal.returns-in-None-clause-restarts_ok
 returns-in-None-clause-restarts_ok g c =
     let restarts : c.advance.new.meter.restarts ≤ c.frames.meter.restarts + spare c.args.store.now.sheet c.frames.frame = omega (arith, c.in_ok-next.ensures.restarts) in
-    end_restarts c.args.store.now.sheet (g.M.Memo.state c.args.memo.now) (g.M.Memo.state c.frames.memo) (g.M.Memo.state c.advance.new.memo) (g.M.Memo.state c.keep.new.self) (case_at c.args.key) c.args.meter.now c.frames.meter c.advance.new.meter c.frames.stack.items c.frames.frame c.into_key.result c.frames.invariant.running c.in_ok-next.ensures.same (search rules) (c.into_key.ensures ∙ c.in_ok-next.ensures.key) c.in_ok-keep-in-None.ensures.found restarts
+    end_restarts c.args.store.now.sheet (g.M.Memo.state c.args.memo.now) (g.M.Memo.state c.frames.memo) (g.M.Memo.state c.advance.new.memo) (g.M.Memo.state c.keep.new.self) (case_at c.args.key) c.args.meter.now c.frames.meter c.advance.new.meter c.frames.stack.items c.frames.frame c.retire-root.result c.frames.invariant.running c.in_ok-next.ensures.same (search rules) (c.retire-root.ensures ∙ c.in_ok-next.ensures.key) c.in_ok-keep-in-None.ensures.found restarts
 
 pub returns-in_err-shown-in-None-clause-evaluations : goal.returns-in_err-shown-in-None-clause-evaluations
 returns-in_err-shown-in-None-clause-evaluations g c =
@@ -355,8 +355,8 @@ pub returns-in_err-keep-in-None-clause-memo : goal.returns-in_err-keep-in-None-c
 returns-in_err-keep-in-None-clause-memo g c =
     let value = rw c.in-Done.is at c.in_ok-next.ensures.done in
     let there = subst (λ (x : MemoState). IsMemoOf c.args.store.now.sheet x) (sym c.advance.ensures.same) c.frames.invariant.running.memo in
-    let keeps : Keeps (g.M.Memo.state c.advance.new.memo) (g.M.Memo.state c.keep.new.self) c.into_key.result c.in-Done.value = record { sheet = c.keep.ensures.same_sheet; covers = c.keep.ensures.same_cells; generation = c.keep.ensures.same_generation; known = c.keep.ensures.known; told = c.keep.ensures.told } in
-    run_keeps c.args.store.now.sheet (g.M.Memo.state c.advance.new.memo) (g.M.Memo.state c.keep.new.self) c.into_key.result c.frames.frame.key c.in-Done.value there keeps (c.into_key.ensures ∙ c.in_ok-next.ensures.key) value
+    let keeps : Keeps (g.M.Memo.state c.advance.new.memo) (g.M.Memo.state c.keep.new.self) c.retire-root.result c.in-Done.value = record { sheet = c.keep.ensures.same_sheet; covers = c.keep.ensures.same_cells; generation = c.keep.ensures.same_generation; known = c.keep.ensures.known; told = c.keep.ensures.told } in
+    run_keeps c.args.store.now.sheet (g.M.Memo.state c.advance.new.memo) (g.M.Memo.state c.keep.new.self) c.retire-root.result c.frames.frame.key c.in-Done.value there keeps (c.retire-root.ensures ∙ c.in_ok-next.ensures.key) value
 
 pub returns-in_err-keep-in-None-clause-same_cells : goal.returns-in_err-keep-in-None-clause-same_cells
 returns-in_err-keep-in-None-clause-same_cells g c =
@@ -386,8 +386,8 @@ pub returns-in-None-clause-memo : goal.returns-in-None-clause-memo
 returns-in-None-clause-memo g c =
     let value = rw c.in-Done.is at c.in_ok-next.ensures.done in
     let there = subst (λ (x : MemoState). IsMemoOf c.args.store.now.sheet x) (sym c.advance.ensures.same) c.frames.invariant.running.memo in
-    let keeps : Keeps (g.M.Memo.state c.advance.new.memo) (g.M.Memo.state c.keep.new.self) c.into_key.result c.in-Done.value = record { sheet = c.keep.ensures.same_sheet; covers = c.keep.ensures.same_cells; generation = c.keep.ensures.same_generation; known = c.keep.ensures.known; told = c.keep.ensures.told } in
-    run_keeps c.args.store.now.sheet (g.M.Memo.state c.advance.new.memo) (g.M.Memo.state c.keep.new.self) c.into_key.result c.frames.frame.key c.in-Done.value there keeps (c.into_key.ensures ∙ c.in_ok-next.ensures.key) value
+    let keeps : Keeps (g.M.Memo.state c.advance.new.memo) (g.M.Memo.state c.keep.new.self) c.retire-root.result c.in-Done.value = record { sheet = c.keep.ensures.same_sheet; covers = c.keep.ensures.same_cells; generation = c.keep.ensures.same_generation; known = c.keep.ensures.known; told = c.keep.ensures.told } in
+    run_keeps c.args.store.now.sheet (g.M.Memo.state c.advance.new.memo) (g.M.Memo.state c.keep.new.self) c.retire-root.result c.frames.frame.key c.in-Done.value there keeps (c.retire-root.ensures ∙ c.in_ok-next.ensures.key) value
 
 pub returns-in-None-clause-same_cells : goal.returns-in-None-clause-same_cells
 returns-in-None-clause-same_cells g c =
@@ -474,17 +474,17 @@ advance-requires-clause-frame g c = c.frames.invariant.running.begun.frame
 pub keep-requires-clause-generation : goal.keep-requires-clause-generation
 keep-requires-clause-generation g c =
     let a = c.in_ok-next.ensures in
-    rw (c.into_key.ensures, a.same) a.frame.key.generation
+    rw (c.retire-root.ensures, a.same) a.frame.key.generation
 
 pub keep-requires-clause-open_cell : goal.keep-requires-clause-open_cell
 keep-requires-clause-open_cell g c =
     let a = c.in_ok-next.ensures in
-    rw (c.into_key.ensures, a.same, c.frames.invariant.running.memo.sheet) a.frame.key.open_cell
+    rw (c.retire-root.ensures, a.same, c.frames.invariant.running.memo.sheet) a.frame.key.open_cell
 
 pub keep-requires-clause-right : goal.keep-requires-clause-right
 keep-requires-clause-right g c =
     let a = c.in_ok-next.ensures in
-    rw (c.into_key.ensures, a.key, a.same, c.frames.invariant.running.memo.sheet) (rw c.in-Done.is at a.done)
+    rw (c.retire-root.ensures, a.key, a.same, c.frames.invariant.running.memo.sheet) (rw c.in-Done.is at a.done)
 
 pub keep-requires-in-Some-clause-generation : goal.keep-requires-in-Some-clause-generation
 keep-requires-in-Some-clause-generation g c =
@@ -511,7 +511,7 @@ returns-in-None-clause-kept g c =
     let a = c.in_ok-next.ensures in
     let empty : c.frames.stack.items ≡ [] = search rules in
     let bottom : case_at c.frames.frame.key ≡ case_at c.args.key = rw empty at c.frames.invariant.running.bottom in
-    let same : case_at c.into_key.result ≡ case_at c.args.key = ap case_at (c.into_key.ensures ∙ a.key) ∙ bottom in
+    let same : case_at c.retire-root.result ≡ case_at c.args.key = ap case_at (c.retire-root.ensures ∙ a.key) ∙ bottom in
     let capacity = ap (λ (x : MemoState). x.capacity) a.same ∙ c.frames.invariant.capacity in
     λ room. subst (λ (j : Case). (g.M.Memo.state c.keep.new.self).kept j.0 j.1 ≡ true) same (c.in_ok-keep-in-None.ensures.there (rw capacity room))
 
