@@ -1,6 +1,7 @@
 //! The contents of a rectangle, one after another.
 
 ghost use Rattle.std.specs.Prelude.{◌≡◌, ◌&&◌, not, nat_le, filter, Some, option_map};
+ghost use Rattle.std.specs.Map.Iter.{TakesFirst};
 ghost use Rattle.wi_values.specs.Address.{is_within};
 ghost use Rattle.wi_store.specs.Store.{is_ahead};
 ghost use Rattle.wi_store.specs.Inner.Columns.{HasCellsOf};
@@ -69,6 +70,26 @@ impl<'a> Contents<'a> {
             ahead: rooms.range(from..),
         }
     }
+
+    /// The next content, where rooms beside the rectangle may come before it. It stands apart, so that a step from one cell of the
+    /// rectangle to the next takes little.
+    #[cold]
+    #[inline(never)]
+    fn next_past_others(&mut self) -> Option<(Address, &'a Content)>
+        ensures { TakesFirst occupied self.old result self.new }
+    {
+        let (cell, room) = pass_beside(&mut self.ahead, self.area)?;
+        if self.area.contains(*cell) {
+            return occupant(*cell, room);
+        }
+        match room_past(self.rooms, self.columns, self.area, *cell) {
+            Some((cell, room)) => {
+                self.ahead = rooms_after(self.rooms, cell);
+                occupant(cell, room)
+            }
+            None => None,
+        }
+    }
 }
 
 impl<'a> Iterator for Contents<'a> {
@@ -83,21 +104,15 @@ impl<'a> Iterator for Contents<'a> {
 
     ghost remaining = { λ s. at_most (length s) };
 
-    /// One step in the map for each occupied cell up to the next one of the rectangle. Where more than eight of them lie beside
-    /// it, the next is searched for: the work is then that of `next_content` and one search more. The first occupied cell after the
-    /// rectangle ends it.
+    /// One step in the map for each occupied cell up to the next one of the rectangle. Where more than nine of them lie beside
+    /// it, the next is searched for: the work is then that of `next_content` and one search more. The first two occupied cells
+    /// after the rectangle end it.
     fn next(&mut self) -> Option<(Address, &'a Content)> {
-        let (cell, room) = pass_beside(&mut self.ahead, self.area)?;
+        let (cell, room) = self.ahead.next()?;
         if self.area.contains(*cell) {
             return occupant(*cell, room);
         }
-        match room_past(self.rooms, self.columns, self.area, *cell) {
-            Some((cell, room)) => {
-                self.ahead = rooms_after(self.rooms, cell);
-                occupant(cell, room)
-            }
-            None => None,
-        }
+        self.next_past_others()
     }
 }
 

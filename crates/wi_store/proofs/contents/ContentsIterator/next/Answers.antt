@@ -1,5 +1,5 @@
-use Rattle.std.proofs.Common.{◌∙◌, sym, rules}
-use Rattle.wi_store.proofs.ContentsLemmas.{comes_here, comes_later, none_comes, ends_behind, ends_past}
+use Rattle.std.proofs.Common.{rules}
+use Rattle.wi_store.proofs.ContentsLemmas.{comes_here, takes_one, ends_after}
 use Rattle.wi_store.proofs.contents.ContentsIterator.next.Goals as goal
 
 pub invariant_of-self-then-contains : goal.invariant_of-self-then-contains
@@ -8,43 +8,20 @@ invariant_of-self-then-contains c =
       i.0,
       i.1,
       i.2,
-      ends_behind c.self.inside.area c.self.inside.rooms.now.entries c.self.inside.ahead c.pass_beside.new.ahead (c.in_ok-cell.cell.now, c.in_ok-cell.room.now) i.3 c.in_ok-cell.ensures,
+      ends_after c.self.inside.rooms.now.entries c.self.inside.ahead c.next.new.self (c.in_ok-cell.cell.now, c.in_ok-cell.room.now) i.3 c.in_ok-cell.ensures.steps,
     )
 
 pub returns-then-contains-clause-steps : goal.returns-then-contains-clause-steps
 returns-then-contains-clause-steps c =
     let i = c.self.invariant in
-    comes_here c.self.inside.area c.in_ok-cell.cell.now c.in_ok-cell.room.now c.self.inside.rooms.now.entries c.self.inside.ahead c.pass_beside.new.ahead c.args.self.now c.occupant.result i.0 i.1 i.3 c.in_ok-cell.ensures c.self.view_is (search rules) c.occupant.ensures
+    let taken = takes_one c.self.inside.area c.self.inside.ahead c.next.new.self (c.in_ok-cell.cell.now, c.in_ok-cell.room.now) c.in_ok-cell.ensures.steps in
+    comes_here c.self.inside.area c.in_ok-cell.cell.now c.in_ok-cell.room.now c.self.inside.rooms.now.entries c.self.inside.ahead c.next.new.self c.args.self.now c.occupant.result i.0 i.1 i.3 taken c.self.view_is (search rules) c.occupant.ensures
 
-pub invariant_of-self-in-Some : goal.invariant_of-self-in-Some
-invariant_of-self-in-Some c =
+pub invariant_of-self-2 : goal.invariant_of-self-2
+invariant_of-self-2 c =
     let i = c.self.invariant in (
       i.0,
       i.1,
       i.2,
-      ends_past _ c.self.inside.rooms.now.entries c.rooms_after-self-inside.result i.0 c.rooms_after-self-inside.ensures,
+      ends_after c.self.inside.rooms.now.entries c.self.inside.ahead c.next.new.self (c.in_ok-cell.cell.now, c.in_ok-cell.room.now) i.3 c.in_ok-cell.ensures.steps,
     )
-
-pub invariant_of-self-in-None : goal.invariant_of-self-in-None
-invariant_of-self-in-None c =
-    let i = c.self.invariant in (
-      i.0,
-      i.1,
-      i.2,
-      ends_behind c.self.inside.area c.self.inside.rooms.now.entries c.self.inside.ahead c.pass_beside.new.ahead (c.in_ok-cell.cell.now, c.in_ok-cell.room.now) i.3 c.in_ok-cell.ensures,
-    )
-
-pub returns-in-Some-clause-steps : goal.returns-in-Some-clause-steps
-returns-in-Some-clause-steps c =
-    let i = c.self.invariant in
-    comes_later c.self.inside.area c.in_ok-cell.cell.now c.in_ok-cell.room.now c.self.inside.rooms.now.entries c.self.inside.ahead c.pass_beside.new.ahead c.rooms_after-self-inside.result c.args.self.now c.room_past.result _ _ c.occupant-in-Some.result
-    i.0 i.1 i.3 c.in_ok-cell.ensures c.self.view_is c.room_past.ensures.cell (search rules) (search rules) c.rooms_after-self-inside.ensures c.occupant-in-Some.ensures
-
-pub returns-in-None-clause-steps : goal.returns-in-None-clause-steps
-returns-in-None-clause-steps c =
-    let i = c.self.invariant in
-    none_comes c.self.inside.area c.in_ok-cell.cell.now c.in_ok-cell.room.now c.self.inside.rooms.now.entries c.self.inside.ahead c.pass_beside.new.ahead c.args.self.now c.room_past.result i.0 i.3 c.in_ok-cell.ensures c.self.view_is
-    (sym c.contains.ensures ∙ c.if-contains.false) c.room_past.ensures.cell c.in-None.is
-
-pub returns-in-Some-clause-goes : goal.returns-in-Some-clause-goes
-returns-in-Some-clause-goes c = let steps = returns-in-Some-clause-steps c in search rules
