@@ -17,7 +17,7 @@ use std::ops::Bound;
 use wi_parser::Content;
 use wi_values::{Address, Rect};
 
-/// How many rooms beside a rectangle are passed one by one before the next one in it is searched for.
+/// How many rooms beside a rectangle, after a first, are passed one by one before the next one in it is searched for.
 const MAX_BESIDE: u32 = 8;
 
 /// The contents of a rectangle that are still to come with their cells, in row-major order.
@@ -105,8 +105,8 @@ impl<'a> Iterator for Contents<'a> {
     ghost remaining = { λ s. at_most (length s) };
 
     /// One step in the map for each occupied cell up to the next one of the rectangle. Where more than nine of them lie beside
-    /// it, the next is searched for: the work is then that of `next_content` and one search more. The first two occupied cells
-    /// after the rectangle end it.
+    /// it, the next is searched for: the work is then that of `next_content` and one search more. At the end it looks at two occupied
+    /// cells after the rectangle.
     fn next(&mut self) -> Option<(Address, &'a Content)> {
         let (cell, room) = self.ahead.next()?;
         if self.area.contains(*cell) {
