@@ -30,3 +30,6 @@ first_of-returns-in-None t c =
     let right = tree_of c.in-Binary.right.value in
     let is : tree_of c.args.expr.now ≡ binary op left right = search (rules, the_lemmas) in
     subst (λ (u : Tree). IfSome c.first_of-in-None.result (λ a. Asks u (Cell a))) (sym is) (right_first op left right c.first_of-in-None.result (subst (λ (e : Expr). IfSome c.first_of-in-None.result (λ a. Asks (tree_of e) (Cell a))) c.deref-in-None.ensures c.first_of-in-None.ensures))
+
+pub first_of-returns-in-WhatIf : goal.first_of-returns-in-WhatIf
+first_of-returns-in-WhatIf t c = search rules

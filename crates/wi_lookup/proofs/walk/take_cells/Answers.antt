@@ -1,6 +1,11 @@
-use Rattle.std.proofs.Common.{refl}
+use Rattle.std.proofs.Common.{ℕ, Some, refl, ap, arith}
+use Rattle.wi_lookup.specs.Walk.{after_cells, to_come}
 use Rattle.wi_lookup.proofs.Walking.{whole}
 use Rattle.wi_lookup.proofs.walk.take_cells.Goals as goal
+
+pub loop-ahead-init : goal.loop-ahead-init
+loop-ahead-init g c = λ cells agrees.
+    ap (λ (from : ℕ). after_cells g.T.TakesCells.after cells c.args.taker.now (to_come c.args.area (Some from))) (omega arith)
 
 pub returns-clause-taken : goal.returns-clause-taken
 returns-clause-taken g c =
