@@ -1,4 +1,4 @@
-use Rattle.std.proofs.Common.{Option, subst, IfSome}
+use Rattle.std.proofs.Common.{Option, rules, subst, IfSome}
 use Rattle.wi_graph.specs.Edges.{Edges, AreEdgesOf}
 use Rattle.wi_propagate.proofs.KeptCones.{cones_over}
 use Rattle.wi_propagate.proofs.cones.keep_over_edit.Goals as goal
@@ -7,3 +7,6 @@ pub returns-else-not-reads_stay : goal.returns-else-not-reads_stay
 returns-else-not-reads_stay c =
     let g = c.args.graph.now in
     λ s t a b h. cones_over g.now s t c.args.cones.now a (subst (λ (o : Option Edges). IfSome o (λ es. AreEdgesOf es t)) (c.reads_stay.ensures.0 c.if-not-reads_stay.false) b) h
+
+pub returns-then-not-reads_stay : goal.returns-then-not-reads_stay
+returns-then-not-reads_stay c = search rules
