@@ -134,13 +134,9 @@ ends_further rooms es fs h k = (h.0 ++ k.0, h.1 ∙ ap (λ (xs : Rooms). h.0 ++ 
 pub passes_none : (r : Area) (es : Rooms) → Passes r es es
 passes_none r es = (([], refl), refl)
 
--- or the first of them is taken
+-- none is passed where the first of them is taken
 pub takes_one : (r : Area) (es fs : Rooms) (e : ℕ × Option Content) → es ≡ e ∷ fs → Passes r es (e ∷ fs)
 takes_one r es fs e h = (([], h), ap (kept (is_within r)) h)
-
--- what is to come without a room beside the rectangle
-pub without_one : (r : Area) (es fs : Rooms) (e : ℕ × Option Content) (old : Sheet) → es ≡ e ∷ fs → is_within r e.0 ≡ false → kept (is_within r) es ≡ old → kept (is_within r) fs ≡ old
-without_one r es fs e old h w k = sym (passed_by (is_within r) e.0 e.1 fs w) ∙ sym (ap (kept (is_within r)) h) ∙ k
 
 pub passes_one : (r : Area) (rooms es fs : Rooms) (e : ℕ × Option Content) → Passes r rooms es → es ≡ e ∷ fs → is_within r e.0 ≡ false → Passes r rooms fs
 passes_one r rooms es fs e h k w = (ends_after rooms es fs e h.0 k, h.1 ∙ ap (kept (is_within r)) k ∙ passed_by (is_within r) e.0 e.1 fs w)

@@ -17,7 +17,7 @@ use std::ops::Bound;
 use wi_parser::Content;
 use wi_values::{Address, Rect};
 
-/// How many rooms beside a rectangle, after a first, are passed one by one before the next one in it is searched for.
+/// How many rooms beside a rectangle are passed one by one, after a first, before the next one in it is searched for.
 const MAX_BESIDE: u32 = 8;
 
 /// The contents of a rectangle that are still to come with their cells, in row-major order.
@@ -71,9 +71,8 @@ impl<'a> Contents<'a> {
         }
     }
 
-    /// The next content, where rooms beside the rectangle may come before it. It stands apart, so that a step from one cell of the
-    /// rectangle to the next takes little.
-    #[cold]
+    /// The next content, where rooms beside the rectangle may come before it, as at each cell of a column with others filled beside
+    /// it. It stands apart, so that a step from one cell of the rectangle to the next takes little.
     #[inline(never)]
     fn next_past_others(&mut self) -> Option<(Address, &'a Content)>
         ensures { TakesFirst occupied self.old result self.new }
@@ -106,7 +105,7 @@ impl<'a> Iterator for Contents<'a> {
 
     /// One step in the map for each occupied cell up to the next one of the rectangle. Where more than nine of them lie beside
     /// it, the next is searched for: the work is then that of `next_content` and one search more. At the end it looks at two occupied
-    /// cells after the rectangle.
+    /// cells after the rectangle at most.
     fn next(&mut self) -> Option<(Address, &'a Content)> {
         let (cell, room) = self.ahead.next()?;
         if self.area.contains(*cell) {

@@ -200,7 +200,7 @@ impl Store {
     }
 
     /// The contents of a rectangle with their cells, in row-major order, at a cell or after it. One search, and then each of them
-    /// is had by one step in the map for each occupied cell up to it. Where more than eight of these lie beside the rectangle, it
+    /// is had by one step in the map for each occupied cell up to it. Where more than nine of these lie beside the rectangle, it
     /// is searched for: the work is then that of `next_content` and one search more.
     pub fn contents_from(&self, area: Rect, from: Address) -> Contents<'_>
         ensures { result ≡ filter (λ e. is_ahead area (Some from) e.0) self.now.sheet }
