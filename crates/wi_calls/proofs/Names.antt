@@ -1,13 +1,13 @@
 -- A function is found by its name among rows in the order of `functions`.
-use Rattle.std.proofs.Common.{◌≡◌, ℕ, Bool, true, false, ◌&&◌, List, [], ◌∷◌, length, get_or, ◌<◌, ◌≤◌, Some, None, Result, Ok, Err, if◌then◌else◌, refl, sym, ap, ◌∙◌, subst}
+use Rattle.std.proofs.Common.{◌≡◌, ℕ, Bool, true, false, ◌&&◌, List, [], ◌∷◌, length, get_or, ◌<◌, ◌≤◌, Option, Some, None, if◌then◌else◌, refl, sym, ap, ◌∙◌, subst}
 use mathlib.Core.List.{map-map}
 use Rattle.std.specs.Prelude.{map, find, option_map}
 use Rattle.std.specs.Cmp.Lexicographic.{slice_cmp}
 use Rattle.std.specs.List.{AllByRecursion}
-use Rattle.std.specs.List.Sorted.{IsStrictlySortedBy, IsBinarySearchResult, IsSearchInRange}
+use Rattle.std.specs.List.Sorted.{IsStrictlySortedBy}
 use Rattle.std.specs.Ordering.{is_lt, nat_cmp}
 use Rattle.std.specs.Str.{bytes_eq}
-use Rattle.std.proofs.lemmas.Option.{slice_get-get_or}
+use Rattle.std.proofs.lemmas.Map.Lookups.{exact_bytes}
 use Rattle.std.specs.declared.cmp.Ordering.{Ordering}
 use Rattle.std.specs.declared.cmp.Ordering.TheVariants.{Less, Equal, Greater}
 use Rattle.wi_values.specs.declared.value.ErrorKind.TheVariants.{BadValue, UnknownName}
@@ -15,7 +15,7 @@ use Rattle.wi_values.specs.declared.value.Value.TheVariants.{Fault}
 use Rattle.wi_standard_functions.specs.Arguments.{Argument}
 use Rattle.wi_standard_functions.specs.Functions as functions
 use Rattle.wi_standard_functions.specs.Functions.{functions as all_functions, function_named, has_parameters, call_value, value_of_call}
-use Rattle.wi_calls.proofs.Searching.{KeysAscend, element_at, searched, find-map}
+use Rattle.wi_calls.proofs.Searching.{KeysAscend, IsWithin, named, one_named, nowhere, find-map}
 
 -- ---- the names ascend
 
@@ -58,24 +58,26 @@ names_ascend = sorted _ refl
 -- ---- rows that are the functions
 
 module _ {X : Type 0} (function : X → functions.Function) (rows : List X) (are : map function rows ≡ all_functions) where
-  rows_ascend : KeysAscend (λ x. (function x).name) rows
+  -- the rows stand in the order of their names
+  pub rows_ascend : KeysAscend (λ x. (function x).name) rows
   rows_ascend = subst (IsStrictlySortedBy (slice_cmp nat_cmp)) (ap (map (λ (f : functions.Function). f.name)) (sym are) ∙ map-map (λ (f : functions.Function). f.name) function rows) names_ascend
 
   module _ (name : List ℕ) where
-    by_search : (r : Result ℕ ℕ) → IsSearchInRange r (length rows) → IsBinarySearchResult (λ x. slice_cmp nat_cmp (function x).name name) rows r → function_named name ≡ option_map function (element_at rows r)
+    -- the function with the name is that of the first row with it
+    by_row : (o : Option X) → named (λ x. (function x).name) name rows ≡ o → function_named name ≡ option_map function o
     unfolding function_named
-    by_search r in_range found =
+    by_row o found =
         ap (find (λ (f : functions.Function). bytes_eq f.name name)) (sym are)
         ∙ find-map function (λ f. bytes_eq f.name name) rows
-        ∙ ap (option_map function) (searched (λ x. (function x).name) name rows r rows_ascend in_range found)
+        ∙ ap (option_map function) found
 
-    -- the row that a binary search by the name finds is the function's
-    pub row_found : (i : ℕ) (d : X) → i < length rows → IsBinarySearchResult (λ x. slice_cmp nat_cmp (function x).name name) rows (Ok i) → function_named name ≡ Some (function (get_or rows i d))
-    row_found i d in_range found = by_search (Ok i) in_range found ∙ ap (option_map function) (slice_get-get_or rows i d in_range)
+    -- where a row's name compares equal, it is that row's
+    pub row_found : (i : ℕ) (d : X) → i < length rows → slice_cmp nat_cmp (function (get_or rows i d)).name name ≡ Equal → function_named name ≡ Some (function (get_or rows i d))
+    row_found i d in_range equal = by_row _ (one_named (λ x. (function x).name) name rows i d rows_ascend in_range (exact_bytes _ _ equal))
 
-    -- where it finds none, no function has the name
-    pub none_found : (i : ℕ) → i ≤ length rows → IsBinarySearchResult (λ x. slice_cmp nat_cmp (function x).name name) rows (Err i) → function_named name ≡ None
-    none_found i in_range found = by_search (Err i) in_range found
+    -- where a row with the name can stand nowhere, no function has it
+    pub none_found : (from to : ℕ) → IsWithin (λ x. (function x).name) name rows from to → to ≤ from → function_named name ≡ None
+    none_found from to within none = by_row None (nowhere (λ x. (function x).name) name rows from to within none)
 
 -- ---- what a call gives, by what is found
 

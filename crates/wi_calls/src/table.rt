@@ -1,10 +1,10 @@
 //! The functions by their names.
 
-ghost use Rattle.std.specs.Prelude.{◌≡◌, ◌&&◌, nat_le, List, length, map, IfOk, IfErr};
+ghost use Rattle.std.specs.Prelude.{◌≡◌, ◌&&◌, nat_le, List, length, map, IfOk, IfErr, IfSome, IfNone, Some, None};
 ghost use Rattle.std.specs.Cmp.Lexicographic.{slice_cmp};
 ghost use Rattle.std.specs.Ordering.{nat_cmp};
 ghost use Rattle.wi_standard_functions.specs.Arguments.{Argument};
-ghost use Rattle.wi_standard_functions.specs.Functions.{call_value, functions, is_not_above};
+ghost use Rattle.wi_standard_functions.specs.Functions.{call_value, function_named, functions, is_not_above};
 ghost use Rattle.wi_values.specs.declared.value.Value.TheVariants.{Fault};
 ghost use Rattle.wi_calls.specs.Applied.{applied};
 ghost use Rattle.wi_calls.specs.Inner.Rows.{function_of};
@@ -83,21 +83,39 @@ static ROWS: [Row; 51] = [
 ];
 
 /// The function that a call with that name, in capitals, and so many parameters is a call of: `UnknownName` where none has
-/// the name, else `BadValue` where it doesn't take so many. Seven comparisons of names at most.
+/// the name, else `BadValue` where it doesn't take so many. Six comparisons of names at most.
 pub fn function_for(name: &str, count: usize) -> Result<Function, ErrorKind>
     ensures found { IfOk result (λ f. (args : List Argument) → length args ≡ count → call_value name.now args ≡ applied f args) }
     ensures refused { IfErr result (λ e. (args : List Argument) → length args ≡ count → call_value name.now args ≡ Fault e) }
 {
-    let rows = rows();
-    let Ok(place) = rows.binary_search_by(|row| compare(row.0, name)) else {
+    let Some((_, least, greatest, function)) = row_of(name) else {
         return Err(ErrorKind::UnknownName);
     };
-    let (_, least, greatest, function) = rows[place];
-    if is_between(count, least, greatest) {
-        Ok(function)
+    if is_between(count, *least, *greatest) {
+        Ok(*function)
     } else {
         Err(ErrorKind::BadValue)
     }
+}
+
+/// The row with that name, if one has it. Unlike a slice's own, the search ends where the names are equal: of at most six
+/// comparisons IF takes two.
+fn row_of(name: &str) -> Option<&'static Row>
+    ensures some { IfSome result (λ row. function_named name.now ≡ Some (function_of row.now)) }
+    ensures none { IfNone result (function_named name.now ≡ None) }
+{
+    let rows = rows();
+    let mut from = 0;
+    let mut to = rows.len();
+    while from < to {
+        let middle = (from + to) / 2;
+        match compare(rows[middle].0, name) {
+            Ordering::Less => from = middle + 1,
+            Ordering::Equal => return Some(&rows[middle]),
+            Ordering::Greater => to = middle,
+        }
+    }
+    None
 }
 
 /// The rows, in the order of their names.
