@@ -1,55 +1,69 @@
-//! What a frame waits for before its formula is evaluated for the first time.
+//! The cell whose value is found for a frame before its formula is evaluated for the first time.
 
-ghost use Rattle.std.specs.Prelude.{◌≡◌, ◌≤◌, true, IfSome};
-ghost use Rattle.wi_functions.specs.declared.evaluation.Want.TheVariants as wanted;
-ghost use Rattle.wi_engine.specs.Inner.Attempt.{AsksAt, IsLacking};
-ghost use Rattle.wi_engine.specs.Inner.Frames.{IsFrame, StandsAt, spare};
-ghost use Rattle.wi_engine.specs.Inner.MemoState.{MemoState};
+ghost use Rattle.std.specs.Prelude.{◌≡◌, ◌≤◌, ℕ, true, None, IfOk, IfSome, OnOk};
+ghost use Rattle.wi_engine.specs.Inner.MemoState.{IsMemoOf};
+ghost use Rattle.wi_engine.specs.Inner.Findings.{found_value};
+ghost use Rattle.wi_engine.specs.Inner.Frames.{IsFrame, IsNext, StandsAt, spare};
+ghost use Rattle.wi_engine.specs.Inner.Saving.{KeepsFound};
+ghost use Rattle.wi_engine.specs.Inner.SettledFrames.{IsFrameSettled};
 ghost use Rattle.wi_engine.specs.declared.frame.Waiting.TheVariants as waiting;
 
-use crate::frame::{Frame, Waiting};
-use crate::lacking::is_lacking;
-use std::alloc::Global;
+use crate::asked::remembered_value;
+use crate::frame::{Asked, Frame, Unvalued, Waiting};
+use crate::memo::Memo;
+use crate::seen::formula_in;
+use std::alloc::{AllocError, Global};
 use wi_functions::first_cell;
 use wi_store::Store;
-use wi_values::Address;
 
-/// Lets a frame that waits for nothing, and for which nothing was found, wait for a cell that any evaluation of its formula asks
-/// for, so that it isn't evaluated in vain. Takes no memory. The work is that of `first_cell` and of `is_lacking`.
-pub fn look_ahead(alloc: Global, store: &Store, frame: &mut Frame)
-    requires formula { StandsAt store.now.sheet frame.old.key frame.old.formula.now }
+/// Finds the value of a cell with a formula for which any evaluation of a frame's formula asks, so that this isn't evaluated in
+/// vain, where the frame waits for nothing and no value was found for it yet. A cell that has to be valued first is given, and
+/// the frame waits for it. The work is that of `first_cell`, of `formula_in` and of `remembered_value`.
+pub fn look_ahead<'a, M: Memo>(
+    alloc: Global,
+    store: &'a Store,
+    frame: &mut Frame<'a>,
+    memo: &mut M,
+) -> Result<Option<Unvalued<'a>>, AllocError>
+    requires memo { IsMemoOf store.now.sheet (M.state memo.old) }
+    requires frame { IsFrame store.now.sheet (M.state memo.old) frame.old }
     ensures key { frame.new.key ≡ frame.old.key }
-    ensures found { frame.new.found ≡ frame.old.found }
-    ensures frame { (m : MemoState) → IsFrame store.now.sheet m frame.old → IsFrame store.now.sheet m frame.new }
-    ensures spare { spare store.now.sheet frame.new ≤ spare store.now.sheet frame.old }
+    ensures frame { OnOk result (IsFrame store.now.sheet (M.state memo.old) frame.new) }
+    ensures next { IfOk result (λ o. IfSome o (λ u. IsNext store.now.sheet (M.state memo.old) frame.old.key u.key)) }
+    ensures formula { IfOk result (λ o. IfSome o (λ u. StandsAt store.now.sheet u.key u.formula.now)) }
+    ensures found { OnOk result (KeepsFound (M.state memo.old) → IsFrameSettled store.now.sheet (M.state memo.old).kept frame.old → IsFrameSettled store.now.sheet (M.state memo.old).kept frame.new) }
+    ensures spare { OnOk result (spare store.now.sheet frame.new ≤ spare store.now.sheet frame.old) }
+    ensures same { M.state memo.new ≡ M.state memo.old }
 {
     if !is_new(frame) {
-        return;
+        return Ok(None);
     }
-    if let Some(at) = cell_ahead(store, frame) {
-        frame.waiting = Waiting::Cells(at, Vec::new(alloc));
+    let Some(at) = first_cell(frame.formula) else {
+        return Ok(None);
+    };
+    let Some(formula) = formula_in(store, &frame.key.world, at) else {
+        return Ok(None);
+    };
+    match remembered_value(alloc, &frame.key.world, at, formula, memo)? {
+        Asked::Known(value) => {
+            frame.found.add_cell(at, value)?;
+            Ok(None)
+        }
+        Asked::Unknown(first) => {
+            frame.waiting = Waiting::Cells(at, Vec::new(alloc));
+            Ok(Some(first))
+        }
     }
 }
 
-/// Whether a frame waits for nothing, and nothing was found for it.
+/// Whether a frame waits for nothing, and no value was found for it.
 fn is_new(frame: &Frame) -> bool
-    ensures { result ≡ true → frame.now.waiting ≡ waiting.Nothing }
+    ensures waiting { result ≡ true → frame.now.waiting ≡ waiting.Nothing }
+    ensures found { result ≡ true → (c : ℕ) → found_value frame.now.found c ≡ None }
 {
     match frame.waiting {
         Waiting::Nothing => frame.found.is_empty(),
         Waiting::Cells(_, _) => false,
         Waiting::WhatIf(_, _) => false,
-    }
-}
-
-/// A cell that any evaluation of a frame's formula asks for, and that the frame lacks.
-fn cell_ahead(store: &Store, frame: &Frame) -> Option<Address>
-    requires formula { StandsAt store.now.sheet frame.now.key frame.now.formula.now }
-    ensures asks { IfSome result (λ a. AsksAt store.now.sheet frame.now.key.world frame.now.key.cell (wanted.Cell a)) }
-    ensures lacking { IfSome result (λ a. IsLacking store.now.sheet frame.now.key.world frame.now.found (wanted.Cell a)) }
-{
-    match first_cell(frame.formula) {
-        Some(at) if is_lacking(store, frame, at) => Some(at),
-        _ => None,
     }
 }

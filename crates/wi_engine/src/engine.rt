@@ -18,17 +18,17 @@ ghost use Rattle.wi_engine.specs.Inner.Attempt.{AsksAt, IsLacking, lacks_cell};
 ghost use Rattle.wi_engine.specs.Inner.Frames.{MayBeRead, IsToValue, StandsAt, IsUnvalued, AreReadHere, Awaits, IsFrame, IsNext, case_at, spare, waits, waits_at};
 ghost use Rattle.wi_engine.specs.Inner.SettledFrames.{IsFrameSettled};
 ghost use Rattle.wi_engine.specs.Inner.Saving.{KeepsFound, WhereRoom, CountsUnkept, SavesAll, TakesNoMore, GivesUpWhenFull, NeedsNoEvaluation, IsValuedAnew};
-ghost use Rattle.wi_engine.specs.Inner.Steps.{IfKnown, IfUnknown, IfReplaced, IfInputUnknown, IfValued, IfNeedsValue, evaluations_after};
+ghost use Rattle.wi_engine.specs.Inner.Steps.{IfReplaced, IfInputUnknown, IfValued, IfNeedsValue, evaluations_after};
 ghost use Rattle.wi_engine.specs.declared.frame.Waiting.TheVariants as waiting;
 
 use crate::ahead::look_ahead;
+use crate::asked::value_now;
 use crate::attempt::attempt;
 use crate::findings::FoundWhatIf;
 use crate::frame::{Advance, Asked, Frame, Inputs, Unvalued, Waiting};
 use crate::lacking::is_lacking;
 use crate::memo::Memo;
 use crate::pool::Pool;
-use crate::seen::{Seen, replaced, stored};
 use crate::together::together;
 use std::alloc::{AllocError, Global};
 use std::mem;
@@ -38,39 +38,6 @@ use wi_parser::{Formula, Pair};
 use wi_store::Store;
 use wi_values::{Address, Replacement, Value};
 use wi_worlds::World;
-
-/// A cell's value under replacements, where no formula has to be evaluated for it: nothing, a constant, or what is
-/// remembered.
-fn value_now<'a, M: Memo>(
-    alloc: Global,
-    store: &'a Store,
-    world: &World,
-    at: Address,
-    memo: &mut M,
-) -> Result<Asked<'a>, AllocError>
-    requires memo { IsMemoOf store.now.sheet (M.state memo.old) }
-    requires read { MayBeRead store.now.sheet (M.state memo.old) at }
-    ensures known { IfOk result (λ a. IfKnown a (λ v. v ≡ show.cell_value (put_all store.now.sheet world.now) at)) }
-    ensures unknown { IfOk result (λ a. IfUnknown a (λ u. IsUnvalued store.now.sheet (M.state memo.old) world.now at u.key)) }
-    ensures formula { IfOk result (λ a. IfUnknown a (λ u. StandsAt store.now.sheet u.key u.formula.now)) }
-    ensures there { IfOk result (λ a. IfKnown a (λ _. NeedsNoEvaluation store.now.sheet (M.state memo.old) world.now at)) }
-    ensures same { M.state memo.new ≡ M.state memo.old }
-{
-    if let Some(value) = replaced(world, at) {
-        return Ok(Asked::Known(value.copy(alloc)?));
-    }
-    match stored(store, at) {
-        Seen::Nothing => Ok(Asked::Known(Value::Empty)),
-        Seen::Constant(value) => Ok(Asked::Known(value.copy(alloc)?)),
-        Seen::Formula(formula) => {
-            let key = memo.key(at, world)?;
-            match memo.look(&key) {
-                Some(value) => Ok(Asked::Known(value.copy(alloc)?)),
-                None => Ok(Asked::Unknown(Unvalued { key, formula })),
-            }
-        }
-    }
-}
 
 /// Replacements with those of a what-if put in. All its inputs' values are taken before any is put.
 fn world_of_what_if<'a, M: Memo>(
@@ -275,7 +242,9 @@ fn advance<'a, M: Memo>(
     ensures counts { NeverFall meter.old meter.new }
     ensures same { M.state memo.new ≡ M.state memo.old }
 {
-    look_ahead(alloc, store, frame);
+    if let Some(ahead) = look_ahead(alloc, store, frame, memo)? {
+        return Ok(Advance::Needs(ahead));
+    }
     'rounds: loop {
         if let Some(first) = settle(alloc, store, frame, memo)? {
             return Ok(Advance::Needs(first));

@@ -1,6 +1,6 @@
 //! The values that were found for one formula.
 
-ghost use Rattle.std.specs.Prelude.{◌≡◌, ℕ, [], map, None, OnOk, OnErr};
+ghost use Rattle.std.specs.Prelude.{◌≡◌, ℕ, [], map, true, None, OnOk, OnErr};
 ghost use Rattle.std.specs.Option.{option_copied};
 ghost use Rattle.wi_parser.specs.View.{pair_of};
 ghost use Rattle.wi_lookup.specs.Assignment.{addresses};
@@ -69,8 +69,13 @@ impl Findings {
     }
 
     /// Whether no value was found.
-    pub fn is_empty(&self) -> bool {
-        self.first.is_empty() && self.what_ifs.is_empty()
+    pub fn is_empty(&self) -> bool
+        ensures { result ≡ true → (c : ℕ) → found_value self.now c ≡ None }
+    {
+        self.first.is_empty()
+            && self.what_ifs.is_empty()
+            && self.rising.is_empty()
+            && self.others.is_empty()
     }
 
     /// The value found of a cell. The work grows with the logarithm of the count of cells found.

@@ -5,7 +5,7 @@ ghost use Rattle.wi_engine.specs.Inner.Attempt.{lacks_cell, lacking_after};
 
 use crate::frame::Frame;
 use crate::occupied::next_within;
-use crate::seen::{Seen, content_in};
+use crate::seen::formula_in;
 use std::alloc::{AllocError, Global};
 use wi_store::Store;
 use wi_values::{Address, Rect};
@@ -14,11 +14,7 @@ use wi_values::{Address, Rect};
 pub fn is_lacking(store: &Store, frame: &Frame, at: Address) -> bool
     ensures { result ≡ lacks_cell store.now.sheet frame.now.key.world frame.now.found at }
 {
-    match content_in(store, &frame.key.world, at) {
-        Seen::Nothing => false,
-        Seen::Constant(_) => false,
-        Seen::Formula(_) => frame.found.cell(at).is_none(),
-    }
+    formula_in(store, &frame.key.world, at).is_some() && frame.found.cell(at).is_none()
 }
 
 /// The first cell of a rectangle after another whose value a frame lacks. The work is that of `next_within` for each occupied

@@ -2,6 +2,7 @@
 #![tactic(auto)]
 
 mod ahead;
+mod asked;
 mod attempt;
 mod cone;
 mod course;

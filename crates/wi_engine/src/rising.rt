@@ -74,6 +74,13 @@ impl Rising {
         }
     }
 
+    /// Whether there are no values.
+    pub fn is_empty(&self) -> bool
+        ensures { result ≡ true → self.now ≡ [] }
+    {
+        self.cells.is_empty()
+    }
+
     /// How many values there are.
     pub fn count(&self) -> usize {
         self.cells.len()

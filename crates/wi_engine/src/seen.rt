@@ -28,6 +28,17 @@ pub fn content_in<'a>(store: &'a Store, world: &'a World, at: Address) -> Seen<'
     }
 }
 
+/// The formula that a cell has under the replacements of a world, if it has one. The work is that of `content_in`.
+pub fn formula_in<'a>(store: &'a Store, world: &World, at: Address) -> Option<&'a Formula>
+    ensures found { IfSome result (λ f. content_of (put_all store.now.sheet world.now) at ≡ Some (Content.Formula f.now)) }
+    ensures none { IfNone result (has_formula (content_of (put_all store.now.sheet world.now) at) ≡ false) }
+{
+    match replaced(world, at) {
+        Some(_) => None,
+        None => formula_at(store, at),
+    }
+}
+
 /// The value that is put into a cell, if one is. The work grows with the logarithm of the count of replacements.
 pub fn replaced(world: &World, at: Address) -> Option<&Value>
     ensures some { IfSome result (λ v. (s : Sheet) → content_of (put_all s world.now) at ≡ constant v.now) }

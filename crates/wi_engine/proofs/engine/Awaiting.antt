@@ -58,6 +58,10 @@ input_unvalued s m n w pairs i x k h e en u =
 
 -- ---- what a formula asks for
 
+-- a cell that is asked for is read as the sheet stands
+pub asked_here : (s : Sheet) (k : Key) (a : ℕ) → AsksAt s k.world k.cell (wanted.Cell a) → content_reads_here (content_of (put_all s k.world) k.cell) a ≡ true
+asked_here s k a h = ap (λ (o : Option Content). content_reads_here o a) h.is ∙ asked_cell h.tree a h.asks
+
 pub cell_here : (s : Sheet) (k : Key) (want : Want) (t : Tree) (a : ℕ) → AsksAt s k.world k.cell want → want ≡ wanted.Cell a → StandsAt s k t → reads_here t a ≡ true
 cell_here s k want t a h e i =
     let asks = rw e at h.asks in

@@ -9,7 +9,6 @@ use Rattle.wi_values.specs.declared.replacement.Replacement.{Replacement}
 use Rattle.wi_values.specs.Replacements.{IsInOrder}
 use Rattle.wi_parser.specs.declared.expr.Pair.{Pair}
 use Rattle.wi_parser.specs.View.{pair_of}
-use Rattle.wi_parser.specs.declared.content.Content.{Content}
 use Rattle.wi_parser.specs.Sheet.{Sheet, content_of, put_all, has_formula}
 use Rattle.wi_lookup.specs.Assignment.{addresses}
 use Rattle.wi_functions.specs.Counts.{one_more}
@@ -21,7 +20,6 @@ use Rattle.wi_sheet.specs.CellValue.{cell_value, what_if_value}
 use Rattle.wi_sheet.specs.Demand.{Case, with_what_if}
 use Rattle.wi_sheet.proofs.Bounds.{put_formula}
 use Rattle.wi_sheet.proofs.Overrides.{with_what_if_value}
-use Rattle.wi_sheet.proofs.Asked.{asked_cell}
 use Rattle.wi_engine.specs.Inner.MemoState.{MemoState, IsMemoOf}
 use Rattle.wi_engine.specs.Inner.Attempt.{AsksAt, IsLacking, lacks_cell}
 use Rattle.wi_engine.specs.Inner.Findings.{IsWithCell, IsWithWhatIf, pairs_of, found_value}
@@ -33,7 +31,7 @@ use Rattle.wi_engine.specs.declared.frame.Waiting.{Waiting}
 use Rattle.wi_engine.specs.declared.frame.Waiting.TheVariants.{Nothing, Cells}
 use Rattle.wi_engine.proofs.engine.Rightness.{right_cell, right_what_if}
 use Rattle.wi_engine.proofs.engine.Resting.{may_be_read, here_in_sheet, what_if_in_sheet, replacing_reads, next_cell, next_what_if}
-use Rattle.wi_engine.proofs.engine.Awaiting.{some_cell, some_what_if, some_lacks, cell_falls, frame_with}
+use Rattle.wi_engine.proofs.engine.Awaiting.{asked_here, some_cell, some_what_if, some_lacks, cell_falls, frame_with}
 
 -- ---- how often a formula may still be evaluated again
 
@@ -126,7 +124,7 @@ round_counted n m now before start bound e l k h =
 
 want_lacks : (s : Sheet) (k : Key) (f : Findings) (want : Want) → AsksAt s k.world k.cell want → IsLacking s k.world f want → 1 ≤ lacks s k f
 want_lacks s k f (wanted.Cell a) h l =
-    some_cell s k f a l.1 (ap (λ (o : Option Content). content_reads_here o a) h.is ∙ asked_cell h.tree a h.asks) (put_formula s k.world a l.0)
+    some_cell s k f a l.1 (asked_here s k a h) (put_formula s k.world a l.0)
 want_lacks s k f (wanted.WhatIf a pairs) h l = some_what_if s k f a pairs l h
 
 -- it is counted, and was spare

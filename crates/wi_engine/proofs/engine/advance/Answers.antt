@@ -15,7 +15,7 @@ returns-in_err-wait_for-in-Needs-clause-err_restarts g c =
     let counted = rw c.in-Needs.is at c.in_ok-value.ensures.counted in
     let asked = rw c.in-Needs.is at c.in_ok-value.ensures.asked in
     let lacking = rw c.in-Needs.is at c.in_ok-value.ensures.lacking in
-    let nothing = c.in_ok-first.ensures.settled (ap (λ o. Ok o) c.in_default.is) in
+    let nothing = c.in_ok-first.ensures.settled (ap (λ o. Ok o) c.in_default-2.is) in
     let within : c.attempt.new.meter.restarts ≤ c.args.meter.now.restarts + spare s c.args.frame.now =
     want_counted s f c.in-Needs.want c.rounds.meter.restarts c.attempt.new.meter.restarts (spare s c.rounds.frame) (c.args.meter.now.restarts + spare s c.args.frame.now)
     asked lacking nothing (ap (λ (m : Counts). m.restarts) counted) c.in_ok-first.ensures.spare i.restarts in
@@ -27,7 +27,7 @@ rounds-smaller g c =
     let f = c.settle.new.frame in
     let h = c.wait_for.new.frame in
     let w = c.in_ok-wait_for-in-Needs.ensures in
-    let nothing = c.in_ok-first.ensures.settled (ap (λ o. Ok o) c.in_default.is) in
+    let nothing = c.in_ok-first.ensures.settled (ap (λ o. Ok o) c.in_default-2.is) in
     round_smaller s f c.rounds.frame h (spare_falls s f h c.wait_for.ensures.key c.wait_for.ensures.found w.awaits w.waits nothing) c.in_ok-first.ensures.spare
 
 pub rounds-preserved : goal.rounds-preserved
@@ -39,7 +39,7 @@ rounds-preserved g c =
     let h = c.wait_for.new.frame in
     let w = c.in_ok-wait_for-in-Needs.ensures in
     let same = c.wait_for.ensures in
-    let nothing = c.in_ok-first.ensures.settled (ap (λ o. Ok o) c.in_default.is) in
+    let nothing = c.in_ok-first.ensures.settled (ap (λ o. Ok o) c.in_default-2.is) in
     let counted = rw c.in-Needs.is at c.in_ok-value.ensures.counted in
     let frame : IsFrame s m f = rw i.same at c.in_ok-first.ensures.frame in
     let less = spare_falls s f h same.key same.found w.awaits w.waits nothing in
@@ -53,8 +53,8 @@ rounds-preserved g c =
       same = c.in_ok-first.ensures.same ∙ i.same;
     }
 
-pub returns-in-Some-clause-found : goal.returns-in-Some-clause-found
-returns-in-Some-clause-found g c =
+pub returns-in-Some-2-clause-found : goal.returns-in-Some-2-clause-found
+returns-in-Some-2-clause-found g c =
     let i = c.rounds.invariant in
     round_settled c.args.store.now.sheet (g.M.Memo.state c.args.memo.now) (g.M.Memo.state c.rounds.memo) c.args.frame.now c.rounds.frame c.settle.new.frame i.same i.settled c.in_ok-first.ensures.found
 
@@ -88,28 +88,25 @@ settle-requires-clause-frame g c = subst (λ (x : MemoState). IsFrame c.args.sto
 
 pub rounds-init : goal.rounds-init
 rounds-init g c =
-    let s = c.args.store.now.sheet in
-    let m = g.M.Memo.state c.args.memo.now in
-    let h = c.look_ahead.new.frame in
-    let ahead = c.look_ahead.ensures in
+    let ahead = c.in_ok-ahead.ensures in
     record {
       key = ahead.key;
-      frame = ahead.frame m c.requires.frame;
+      frame = ahead.frame;
       evaluations = refl;
       counts = never_fall-same c.args.meter.now;
       restarts = omega (arith, ahead.spare);
-      settled = λ whole k. settled_again s m.kept c.args.frame.now h ahead.key ahead.found k;
-      same = refl;
+      settled = ahead.found;
+      same = ahead.same;
     }
 
-pub returns-in-Some-clause-frame : goal.returns-in-Some-clause-frame
-returns-in-Some-clause-frame g c = subst (λ (x : MemoState). IsFrame c.args.store.now.sheet x c.settle.new.frame) c.rounds.invariant.same c.in_ok-first.ensures.frame
+pub returns-in-Some-2-clause-frame : goal.returns-in-Some-2-clause-frame
+returns-in-Some-2-clause-frame g c = subst (λ (x : MemoState). IsFrame c.args.store.now.sheet x c.settle.new.frame) c.rounds.invariant.same c.in_ok-first.ensures.frame
 
 pub returns-in-Done-clause-frame : goal.returns-in-Done-clause-frame
 returns-in-Done-clause-frame g c = subst (λ (x : MemoState). IsFrame c.args.store.now.sheet x c.settle.new.frame) c.rounds.invariant.same c.in_ok-first.ensures.frame
 
-pub returns-in-Some-clause-key : goal.returns-in-Some-clause-key
-returns-in-Some-clause-key g c = c.in_ok-first.ensures.key ∙ c.rounds.invariant.key
+pub returns-in-Some-2-clause-key : goal.returns-in-Some-2-clause-key
+returns-in-Some-2-clause-key g c = c.in_ok-first.ensures.key ∙ c.rounds.invariant.key
 
 pub returns-in-Done-clause-key : goal.returns-in-Done-clause-key
 returns-in-Done-clause-key g c = c.in_ok-first.ensures.key ∙ c.rounds.invariant.key
@@ -117,8 +114,8 @@ returns-in-Done-clause-key g c = c.in_ok-first.ensures.key ∙ c.rounds.invarian
 pub returns-in_err-value-clause-key : goal.returns-in_err-value-clause-key
 returns-in_err-value-clause-key g c = c.in_ok-first.ensures.key ∙ c.rounds.invariant.key
 
-pub returns-in-Some-clause-same : goal.returns-in-Some-clause-same
-returns-in-Some-clause-same g c = c.in_ok-first.ensures.same ∙ c.rounds.invariant.same
+pub returns-in-Some-2-clause-same : goal.returns-in-Some-2-clause-same
+returns-in-Some-2-clause-same g c = c.in_ok-first.ensures.same ∙ c.rounds.invariant.same
 
 pub returns-in-Done-clause-same : goal.returns-in-Done-clause-same
 returns-in-Done-clause-same g c = c.in_ok-first.ensures.same ∙ c.rounds.invariant.same
@@ -132,14 +129,14 @@ returns-in_err-wait_for-in-Needs-clause-same g c = c.in_ok-first.ensures.same �
 pub returns-in_err-wait_for-in-Needs-clause-key : goal.returns-in_err-wait_for-in-Needs-clause-key
 returns-in_err-wait_for-in-Needs-clause-key g c = c.wait_for.ensures.key ∙ c.in_ok-first.ensures.key ∙ c.rounds.invariant.key
 
-pub returns-in-Some-clause-counts : goal.returns-in-Some-clause-counts
-returns-in-Some-clause-counts g c = c.rounds.invariant.counts
+pub returns-in-Some-2-clause-counts : goal.returns-in-Some-2-clause-counts
+returns-in-Some-2-clause-counts g c = c.rounds.invariant.counts
 
-pub returns-in-Some-clause-evaluations : goal.returns-in-Some-clause-evaluations
-returns-in-Some-clause-evaluations g c = c.rounds.invariant.evaluations
+pub returns-in-Some-2-clause-evaluations : goal.returns-in-Some-2-clause-evaluations
+returns-in-Some-2-clause-evaluations g c = c.rounds.invariant.evaluations
 
-pub returns-in-Some-clause-restarts : goal.returns-in-Some-clause-restarts
-returns-in-Some-clause-restarts g c = omega (arith, c.in_ok-first.ensures.spare, c.rounds.invariant.restarts)
+pub returns-in-Some-2-clause-restarts : goal.returns-in-Some-2-clause-restarts
+returns-in-Some-2-clause-restarts g c = omega (arith, c.in_ok-first.ensures.spare, c.rounds.invariant.restarts)
 
 pub returns-in_err-first-clause-key : goal.returns-in_err-first-clause-key
 returns-in_err-first-clause-key g c = c.settle.ensures.key ∙ c.rounds.invariant.key

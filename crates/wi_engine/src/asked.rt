@@ -1,0 +1,70 @@
+//! What a cell shows under replacements, where no formula has to be evaluated for it.
+
+ghost use Rattle.std.specs.Prelude.{◌≡◌, Some, IfOk};
+ghost use Rattle.wi_parser.specs.Sheet.{content_of, put_all};
+ghost use Rattle.wi_sheet.specs.CellValue as show;
+ghost use Rattle.wi_engine.specs.Inner.MemoState.{IsMemoOf};
+ghost use Rattle.wi_engine.specs.Inner.Frames.{MayBeRead, StandsAt, IsUnvalued};
+ghost use Rattle.wi_engine.specs.Inner.Saving.{NeedsNoEvaluation};
+ghost use Rattle.wi_engine.specs.Inner.Steps.{IfKnown, IfUnknown};
+
+use crate::frame::{Asked, Unvalued};
+use crate::memo::Memo;
+use crate::seen::{Seen, replaced, stored};
+use std::alloc::{AllocError, Global};
+use wi_parser::{Content, Formula};
+use wi_store::Store;
+use wi_values::{Address, Value};
+use wi_worlds::World;
+
+/// A cell's value under replacements, where nothing or a constant stands there, or its value is remembered; else its formula
+/// has to be valued. The work is that of `replaced`, of `stored` and, for a formula, of `remembered_value`.
+pub fn value_now<'a, M: Memo>(
+    alloc: Global,
+    store: &'a Store,
+    world: &World,
+    at: Address,
+    memo: &mut M,
+) -> Result<Asked<'a>, AllocError>
+    requires memo { IsMemoOf store.now.sheet (M.state memo.old) }
+    requires read { MayBeRead store.now.sheet (M.state memo.old) at }
+    ensures known { IfOk result (λ a. IfKnown a (λ v. v ≡ show.cell_value (put_all store.now.sheet world.now) at)) }
+    ensures unknown { IfOk result (λ a. IfUnknown a (λ u. IsUnvalued store.now.sheet (M.state memo.old) world.now at u.key)) }
+    ensures formula { IfOk result (λ a. IfUnknown a (λ u. StandsAt store.now.sheet u.key u.formula.now)) }
+    ensures there { IfOk result (λ a. IfKnown a (λ _. NeedsNoEvaluation store.now.sheet (M.state memo.old) world.now at)) }
+    ensures same { M.state memo.new ≡ M.state memo.old }
+{
+    if let Some(value) = replaced(world, at) {
+        return Ok(Asked::Known(value.copy(alloc)?));
+    }
+    match stored(store, at) {
+        Seen::Nothing => Ok(Asked::Known(Value::Empty)),
+        Seen::Constant(value) => Ok(Asked::Known(value.copy(alloc)?)),
+        Seen::Formula(formula) => remembered_value(alloc, world, at, formula, memo),
+    }
+}
+
+/// The value of a cell that has this formula under replacements, where it is remembered; else the formula has to be valued. The
+/// work is that of `Memo::key`, of `Memo::look` and of a copy of the value.
+pub fn remembered_value<'a, M: Memo>(
+    alloc: Global,
+    world: &World,
+    at: Address,
+    formula: &'a Formula,
+    memo: &mut M,
+) -> Result<Asked<'a>, AllocError>
+    requires memo { IsMemoOf (M.state memo.old).sheet (M.state memo.old) }
+    requires read { MayBeRead (M.state memo.old).sheet (M.state memo.old) at }
+    requires formula { content_of (put_all (M.state memo.old).sheet world.now) at ≡ Some (Content.Formula formula.now) }
+    ensures known { IfOk result (λ a. IfKnown a (λ v. v ≡ show.cell_value (put_all (M.state memo.old).sheet world.now) at)) }
+    ensures unknown { IfOk result (λ a. IfUnknown a (λ u. IsUnvalued (M.state memo.old).sheet (M.state memo.old) world.now at u.key)) }
+    ensures formula { IfOk result (λ a. IfUnknown a (λ u. StandsAt (M.state memo.old).sheet u.key u.formula.now)) }
+    ensures there { IfOk result (λ a. IfKnown a (λ _. NeedsNoEvaluation (M.state memo.old).sheet (M.state memo.old) world.now at)) }
+    ensures same { M.state memo.new ≡ M.state memo.old }
+{
+    let key = memo.key(at, world)?;
+    match memo.look(&key) {
+        Some(value) => Ok(Asked::Known(value.copy(alloc)?)),
+        None => Ok(Asked::Unknown(Unvalued { key, formula })),
+    }
+}
