@@ -1,0 +1,83 @@
+//! Cases of CSV texts, of words of calls of the program, and of scripts: those that are made, those that stand in the input,
+//! and those whose reader fails.
+
+mod agreement;
+mod broken;
+mod byte_spelling;
+mod call_words;
+mod case;
+mod csv_texts;
+mod devices;
+mod made;
+mod random;
+mod runs;
+mod scripts;
+mod tally;
+
+use crate::Section;
+use case::Case;
+use std::alloc::Global;
+use std::io;
+use std::io::Write;
+
+/// The scripts, which are run once all lines are read.
+#[derive(Drop)]
+pub struct ScriptCases {
+    scripts: Vec<Case>,
+    broken: Vec<Case>,
+}
+
+/// Takes a line of a script, or a title, with which a case begins; what stands before the first title is a comment.
+fn take_script_line(alloc: Global, line: &str, cases: &mut Vec<Case>) -> io::Result<()> {
+    if let Some(title) = line.strip_prefix("== ") {
+        cases.push(Case::new(alloc, title)?)?;
+    } else if let Some(case) = cases.last_mut() {
+        case.take(alloc, line)?;
+    }
+    Ok(())
+}
+
+impl ScriptCases {
+    /// No scripts.
+    pub fn new(alloc: Global) -> ScriptCases {
+        ScriptCases {
+            scripts: Vec::new(alloc),
+            broken: Vec::new(alloc),
+        }
+    }
+
+    /// Appends what a line of a section gives, or takes it for a script; a comment gives nothing, and a title itself.
+    pub fn take(
+        &mut self,
+        alloc: Global,
+        section: Section,
+        line: &str,
+        out: &mut String,
+    ) -> io::Result<()> {
+        match section {
+            Section::Scripts => take_script_line(alloc, line, &mut self.scripts),
+            Section::Broken => take_script_line(alloc, line, &mut self.broken),
+            _ if line.starts_with('#') => Ok(()),
+            _ if line.starts_with("==") => Ok(writeln!(out, "{line}")?),
+            Section::CsvTexts => csv_texts::push_told(alloc, line, out),
+            Section::Calls => Ok(call_words::push_told(alloc, line, out)?),
+            Section::Random => agreement::push_told(alloc, line, out),
+            _ => Ok(()),
+        }
+    }
+
+    /// Runs the scripts, and writes what they show.
+    pub fn run_all(&self, rt: &HostRuntime) -> io::Result<()> {
+        for case in &self.scripts {
+            let mut text = Vec::new(rt.alloc());
+            scripts::push_told(rt.alloc(), case, &mut text)?;
+            io::writer(rt).write_all(&text)?;
+        }
+        for case in &self.broken {
+            let mut text = Vec::new(rt.alloc());
+            broken::push_told(rt.alloc(), case, &mut text)?;
+            io::writer(rt).write_all(&text)?;
+        }
+        io::writer(rt).flush()
+    }
+}

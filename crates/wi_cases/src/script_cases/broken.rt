@@ -1,0 +1,34 @@
+//! Scripts whose reader is interrupted before each read and fails at the end, and another script, which isn't read then.
+
+use super::case::Case;
+use super::devices::{Interrupted, Pieces};
+use std::alloc::Global;
+use std::io;
+use std::io::Write;
+use wi_cli::{ReadFrom, WriteTo, run_new_in_turn};
+
+/// The script that would be run next.
+const NEXT: &[u8] = b"show A1:C1\n";
+
+/// Runs a script by such a reader, and another one in turn; appends what is written, and gives the exit status.
+fn run_broken(alloc: Global, bytes: &[u8], text: &mut Vec<u8>) -> u8 {
+    let inner = Pieces {
+        bytes,
+        piece: usize::MAX,
+        torn: true,
+    };
+    let mut load = ReadFrom::new(Interrupted {
+        inner,
+        interrupted: false,
+    });
+    let mut reader = ReadFrom::new(NEXT);
+    let mut writer = WriteTo::new(text);
+    run_new_in_turn(alloc, 1, &mut load, &mut reader, &mut writer).status
+}
+
+/// Appends the case's title, what its script writes, and the exit status.
+pub fn push_told(alloc: Global, case: &Case, text: &mut Vec<u8>) -> io::Result<()> {
+    writeln!(text, "== {}", case.title)?;
+    let status = run_broken(alloc, &case.script, text);
+    writeln!(text, "-- status {status}")
+}
