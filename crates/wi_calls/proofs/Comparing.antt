@@ -5,7 +5,7 @@ use Rattle.std.specs.Cmp.Lexicographic.{slice_cmp}
 use Rattle.std.specs.Ordering.{nat_cmp, is_ne, ordering_then}
 use Rattle.std.specs.declared.cmp.Ordering.{Ordering}
 use Rattle.std.specs.declared.cmp.Ordering.TheVariants.{Less, Equal, Greater}
-use Rattle.std.proofs.lemmas.Bool.Decides.{nat_tests}
+use Rattle.wi_fraction.proofs.Sizes.{same_nat_cmp}
 
 -- the order of what two texts have from a place on
 abbrev pub order_from : ℕ → List ℕ → List ℕ → Ordering
@@ -53,4 +53,4 @@ ended (suc i) (x ∷ xs) [] e = absurd (omega arith)
 ended (suc i) (x ∷ xs) (y ∷ ys) e = one_less ∙ ended i xs ys (omega arith)
   where
     one_less : nat_cmp (suc (length xs)) (suc (length ys)) ≡ nat_cmp (length xs) (length ys)
-    one_less = grind (arith, nat_tests)
+    one_less = same_nat_cmp (suc (length xs)) (suc (length ys)) (length xs) (length ys) (λ h. omega (arith, h)) (λ h. omega (arith, h)) (λ h. omega (arith, h))

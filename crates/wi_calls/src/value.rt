@@ -30,7 +30,7 @@ pub fn value_of_values(
     let empty = Value::Empty;
     let first = value_or(&empty, values, 0);
     let second = value_or(&empty, values, 1);
-    match function {
+    let value = match function {
         ValueFunction::Abs => Ok(abs_value(first)),
         ValueFunction::False => Ok(false_value()),
         ValueFunction::Int => Ok(int_value(first)),
@@ -48,7 +48,10 @@ pub fn value_of_values(
         ValueFunction::Text(function) => text_value(alloc, function, values),
         ValueFunction::True => Ok(true_value()),
         ValueFunction::Value => Ok(value_value(first)),
-    }
+    };
+    // here once, and not at the end of each arm: that proves in half the time
+    drop(empty);
+    value
 }
 
 fn text_value(alloc: Global, function: TextFunction, values: &[Value]) -> Result<Value, AllocError>
@@ -58,7 +61,7 @@ fn text_value(alloc: Global, function: TextFunction, values: &[Value]) -> Result
     let one = Value::Number(one());
     let first = value_or(&empty, values, 0);
     let second = value_or(&empty, values, 1);
-    match function {
+    let value = match function {
         TextFunction::Concatenate => concatenate_value(alloc, values),
         TextFunction::Exact => exact_value(alloc, first, second),
         TextFunction::Find => find_value(alloc, first, second, value_or(&one, values, 2)),
@@ -67,7 +70,11 @@ fn text_value(alloc: Global, function: TextFunction, values: &[Value]) -> Result
         TextFunction::Mid => mid_value(alloc, first, second, value_or(&empty, values, 2)),
         TextFunction::Rept => rept_value(alloc, first, second),
         TextFunction::Right => right_value(alloc, first, value_or(&one, values, 1)),
-    }
+    };
+    // here once, as above
+    drop(empty);
+    drop(one);
+    value
 }
 
 fn passes(test: Test, value: &Value) -> bool

@@ -1,5 +1,6 @@
 -- Fields and records copied one after another.
 use Rattle.std.proofs.Common.{◌≡◌, ◌+◌, ℕ, zero, suc, List, [], ◌∷◌, ◌++◌, map, take, Some, None, refl, sym, ap, ◌∙◌, arith}
+use Rattle.std.specs.Prelude.{IsOkAnd, Result, Ok, Err}
 use Rattle.std.proofs.lemmas.List.{map-append}
 use Rattle.csv.specs.Records.{field_at}
 
@@ -29,3 +30,8 @@ no_more [] zero h = refl
 no_more [] (suc i) h = refl
 no_more (x ∷ xs) zero h = cc h
 no_more (x ∷ xs) (suc i) h = ap (λ t. x ∷ t) (no_more xs i h)
+
+-- where a value is read of which something holds, there is that value
+pub read_and : {X E : Type 0} (read : Result X E) (P : X → Type 0) → IsOkAnd read P → (x : X) × (read ≡ Ok x) × P x
+read_and (Ok x) P h = (x, refl, h)
+read_and (Err e) P h = absurd h

@@ -1,11 +1,11 @@
 //! The records of a CSV text.
 
-ghost use Rattle.std.specs.Prelude.{◌≡◌, map, IfOk};
+ghost use Rattle.std.specs.Prelude.{◌≡◌, ◌++◌, ◌∷◌, [], map, IfOk, OnOk, IsOkAnd};
 ghost use Rattle.csv.specs.Records.{fields_of};
 ghost use Rattle.wi_csv.specs.Records.{recs};
 
 use crate::fault::CsvFault;
-use csv::{ByteRecord, ReaderBuilder};
+use csv::{ByteRecord, Error as CsvError, ReaderBuilder};
 use std::alloc::{AllocError, Global};
 
 /// The records of a text, each a list of its fields: commas between fields, double quotes around those that need them. A
@@ -21,9 +21,23 @@ pub fn records(alloc: Global, bytes: &[u8]) -> Result<Vec<Vec<Vec<u8>>>, CsvFaul
         .from_reader(alloc, bytes);
     let mut rows = Vec::new(alloc);
     for row in reader.into_byte_records() {
-        rows.push(copied_fields(alloc, &row?)?)?;
+        push_copy(alloc, row, &mut rows)?;
     }
     Ok(rows)
+}
+
+// Appends a copy of the record, where one was read.
+fn push_copy(
+    alloc: Global,
+    read: Result<ByteRecord, CsvError>,
+    rows: &mut Vec<Vec<Vec<u8>>>,
+) -> Result<(), CsvFault>
+    ensures { OnOk result (IsOkAnd read (λ row.
+        map (λ fields. map (λ f. f.items) fields.items) rows.new.items
+        ≡ map (λ fields. map (λ f. f.items) fields.items) rows.old.items ++ fields_of row ∷ [])) }
+{
+    rows.push(copied_fields(alloc, &read?)?)?;
+    Ok(())
 }
 
 // A copy of the fields of a record.

@@ -35,7 +35,6 @@ fn push_all<F: AsSlice<u8>>(fields: &[F], out: &mut Vec<u8>) -> Result<(), Alloc
 }
 
 // Appends a separator and a field in double quotes. On an error a part of them may be there.
-#[tactic(auto, using(crate::proofs::Growth::starts_more))]
 fn push_field(separator: &[u8], field: &[u8], out: &mut Vec<u8>) -> Result<(), AllocError>
     ensures ok { OnOk result (out.new.items ≡ out.old.items ++ separator.now ++ quoted field.now) }
     ensures kept { StartsWith out.new.items out.old.items }
@@ -50,7 +49,6 @@ fn push_field(separator: &[u8], field: &[u8], out: &mut Vec<u8>) -> Result<(), A
 }
 
 // Appends a byte of a field, twice where it is a quote.
-#[tactic(auto, using(crate::proofs::Growth::starts_more))]
 fn push_doubled(byte: u8, out: &mut Vec<u8>) -> Result<(), AllocError>
     ensures ok { OnOk result (out.new.items ≡ out.old.items ++ doubled byte) }
     ensures kept { StartsWith out.new.items out.old.items }

@@ -30,16 +30,16 @@ on_right b c h = rw h (or-true b)
 
 -- ---- the cells of a rectangle are those within it
 
-row_of_place : (r c : ℕ) → c < columns → row_of (place r c) ≡ r
+pub row_of_place : (r c : ℕ) → c < columns → row_of (place r c) ≡ r
 row_of_place r c h = omega arith
 
-column_of_place : (r c : ℕ) → c < columns → column_of (place r c) ≡ c
+pub column_of_place : (r c : ℕ) → c < columns → column_of (place r c) ≡ c
 column_of_place r c h = omega arith
 
 place_of : (a : ℕ) → a ≡ place (row_of a) (column_of a)
 place_of a = omega arith
 
-column_within : (a : ℕ) → column_of a < columns
+pub column_within : (a : ℕ) → column_of a < columns
 column_within a = omega arith
 
 in_row : (row first n c : ℕ) → first ≤ c → c < first + n → has (map (place row) (range_with_len first n)) (place row c) ≡ true

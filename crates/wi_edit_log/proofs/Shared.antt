@@ -1,12 +1,15 @@
 -- Which cells are in rectangles, one and many.
-use Rattle.std.proofs.Common.{◌≡◌, ◌∙◌, ℕ, ◌+◌, ◌≤◌, ◌<◌, ◌||◌, ◌&&◌, List, [], length, take, get_or, Option, None, refl, ap, sym}
+use Rattle.std.proofs.Common.{◌≡◌, ◌∙◌, ℕ, ◌+◌, ◌≤◌, ◌<◌, ◌||◌, ◌&&◌, List, [], length, take, get_or, Option, None, Bool, true, false, max, nat_le, subst, refl, ap, sym, arith}
 use Rattle.std.proofs.Math.Bool.{and-false, and_comm, and-or_distrib_left, and-or_distrib_right}
+use Rattle.std.specs.Bool.{then_some}
+use Rattle.std.proofs.lemmas.Bool.{and_parts, and_from, both_ways, leb-true, le-leb}
 use Rattle.std.proofs.lemmas.List.{take_all}
 use Rattle.std.proofs.lemmas.List.Folds.{list_any_more}
-use Rattle.wi_values.specs.Address.{Area, is_within}
+use Rattle.wi_values.specs.Address.{Area, columns, place, row_of, column_of, is_within}
 use Rattle.wi_edit_log.specs.EditLog.{have_cell}
 use Rattle.wi_edit_log.specs.Inner.First.{IsFirst, in_both, in_each, in_one, sooner}
 use Rattle.wi_edit_log.proofs.First.{no_first, same_first, sooner_first}
+use Rattle.wi_edit_log.proofs.Least.{row_of_place, column_of_place, column_within}
 
 -- ---- one and some of the others
 
@@ -47,3 +50,64 @@ of_all areas others i o l h = rw (take_all i areas l) at h
 -- the lists may be turned
 pub turned : (areas others : List Area) (o : Option ℕ) → IsFirst (in_each areas others) o → IsFirst (in_each others areas) o
 turned areas others o = same_first (in_each areas others) (in_each others areas) o (λ a. and_comm (have_cell areas a) (have_cell others a))
+
+-- ---- two rectangles: their first cell is at the later of their first rows and of their first columns
+
+within_parts : (r : Area) (a : ℕ) → is_within r a ≡ true → (row_of r.first ≤ row_of a) × (row_of a ≤ row_of r.last) × (column_of r.first ≤ column_of a) × (column_of a ≤ column_of r.last)
+within_parts r a h =
+    let p = and_parts (nat_le (row_of r.first) (row_of a) && nat_le (row_of a) (row_of r.last)) (nat_le (column_of r.first) (column_of a) && nat_le (column_of a) (column_of r.last)) h in
+    let rows = and_parts (nat_le (row_of r.first) (row_of a)) (nat_le (row_of a) (row_of r.last)) p.0 in
+    let columns = and_parts (nat_le (column_of r.first) (column_of a)) (nat_le (column_of a) (column_of r.last)) p.1 in
+    (leb-true (row_of r.first) (row_of a) rows.0, leb-true (row_of a) (row_of r.last) rows.1, leb-true (column_of r.first) (column_of a) columns.0, leb-true (column_of a) (column_of r.last) columns.1)
+
+within_from : (r : Area) (a row column : ℕ) → row_of a ≡ row → column_of a ≡ column → row_of r.first ≤ row → row ≤ row_of r.last → column_of r.first ≤ column → column ≤ column_of r.last → is_within r a ≡ true
+within_from r a row column e f l m n o =
+    rw (e, f) (and_from (nat_le (row_of r.first) row && nat_le row (row_of r.last)) (nat_le (column_of r.first) column && nat_le column (column_of r.last))
+    (and_from (nat_le (row_of r.first) row) (nat_le row (row_of r.last)) (le-leb (row_of r.first) row l) (le-leb row (row_of r.last) m))
+    (and_from (nat_le (column_of r.first) column) (nat_le column (column_of r.last)) (le-leb (column_of r.first) column n) (le-leb column (column_of r.last) o)))
+
+no_sooner : (row column a : ℕ) → row ≤ row_of a → column ≤ column_of a → place row column ≤ a
+no_sooner row column a l m = omega arith
+
+above_both : (k l m n : ℕ) → k ≡ max l m → l ≤ n → m ≤ n → k ≤ n
+above_both k l m n e h i = omega arith
+
+from_left : (k l m : ℕ) → k ≡ max l m → l ≤ k
+from_left k l m e = omega arith
+
+from_right : (k l m : ℕ) → k ≡ max l m → m ≤ k
+from_right k l m e = omega arith
+
+no_more_than : (k m n : ℕ) → k ≤ m → m ≤ n → k ≤ n
+no_more_than k m n h i = omega arith
+
+corner_shared : (r s : Area) (row column a : ℕ) → row ≡ max (row_of r.first) (row_of s.first) → column ≡ max (column_of r.first) (column_of s.first) → in_both r s a ≡ true
+    → (place row column ≤ a) × (in_both r s (place row column) ≡ true)
+corner_shared r s row column a e f h =
+    let both = and_parts (is_within r a) (is_within s a) h in
+    let p = within_parts r a both.0 in
+    let q = within_parts s a both.1 in
+    let above = above_both row (row_of r.first) (row_of s.first) (row_of a) e p.0 q.0 in
+    let left = above_both column (column_of r.first) (column_of s.first) (column_of a) f p.2 q.2 in
+    let inside : column < columns = (let w = column_within a in omega arith) in
+    let at_row = row_of_place row column inside in
+    let at_column = column_of_place row column inside in (
+      no_sooner row column a above left,
+      and_from (is_within r (place row column)) (is_within s (place row column))
+          (within_from r (place row column) row column at_row at_column (from_left row _ _ e) (no_more_than row (row_of a) _ above p.1) (from_left column _ _ f) (no_more_than column (column_of a) _ left p.3))
+          (within_from s (place row column) row column at_row at_column (from_right row _ _ e) (no_more_than row (row_of a) _ above q.1) (from_right column _ _ f) (no_more_than column (column_of a) _ left q.3)),
+    )
+
+-- the later of two that are within
+pub both_below : (k l m n : ℕ) → k ≡ max l m → l < n → m < n → k < n
+both_below k l m n e h i = omega arith
+
+pub first_shared : (r s : Area) (row column at : ℕ) (shared : Bool) (found : Option ℕ) → row ≡ max (row_of r.first) (row_of s.first) → column ≡ max (column_of r.first) (column_of s.first)
+    → at ≡ place row column → shared ≡ in_both r s at → found ≡ then_some shared at → IsFirst (in_both r s) found
+first_shared r s row column at shared found e f here is gives =
+    let told = gives ∙ ap (λ b. then_some b at) is ∙ ap (λ a. then_some (in_both r s a) a) here in
+    subst (IsFirst (in_both r s)) (sym told) (by (in_both r s (place row column)) refl)
+  where
+    by : (b : Bool) → in_both r s (place row column) ≡ b → IsFirst (in_both r s) (then_some b (place row column))
+    by true t = record { passes = t; least = λ a h. (corner_shared r s row column a e f h).0 }
+    by false t = record { passes = tt; least = λ a h. both_ways (in_both r s (place row column)) t (corner_shared r s row column a e f h).1 }

@@ -1,13 +1,15 @@
 -- A fold over the items of arguments, one argument after another.
-use Rattle.std.proofs.Common.{◌≡◌, ℕ, ◌+◌, ◌<◌, true, List, [], ◌∷◌, map, drop, get_or, length, Option, refl, sym, ap, ◌∙◌, subst}
-use Rattle.std.specs.Prelude.{Result, Ok, Err, IfOk, is_err}
+use Rattle.std.proofs.Common.{◌≡◌, ℕ, ◌+◌, ◌<◌, true, List, [], ◌∷◌, map, drop, get_or, length, Option, None, refl, sym, ap, ◌∙◌, subst}
+use Rattle.std.specs.Prelude.{Result, Ok, Err, IfOk, IfErr, is_err}
+use Rattle.std.specs.Result.{IsErrAnd}
 use Rattle.std.proofs.lemmas.List.{drop_more}
+use Rattle.std.proofs.lemmas.List.Folds.{list_any_at}
 use Rattle.std.proofs.lemmas.List.Sums.{fold-append}
 use Rattle.wi_values.specs.Address.{Area, cells_of}
 use Rattle.wi_values.specs.declared.value.ErrorKind.{ErrorKind}
 use Rattle.wi_values.specs.declared.value.Value.{Value}
 use Rattle.wi_lookup.specs.declared.argument.Argument as given
-use Rattle.wi_lookup.specs.Arguments.{argument_in, arguments_in, KnownAgrees, IsOfArguments}
+use Rattle.wi_lookup.specs.Arguments.{argument_in, arguments_in, refers_to, KnownAgrees, IsMissing, IsOfArguments}
 use Rattle.wi_lookup.specs.Walk.{after_cells}
 use Rattle.wi_standard_functions.specs.Arguments.{Argument}
 use Rattle.wi_standard_functions.specs.Sequence.{Item, from_cell, sequence_of}
@@ -59,6 +61,13 @@ module _ {A : Type 0} (step : A → Item → Result A ErrorKind) where
   pub ends : (value : A → Value) (known : ℕ → Option Value) (args : List given.Argument) (start : A) (so_far : Result A ErrorKind) (left : List given.Argument) → Rest known args start so_far left → left ≡ [] →
       (cells : ℕ → Value) → KnownAgrees known cells → shown value so_far ≡ shown value (fold_until_error step start (sequence_of (arguments_in cells args)))
   ends value known args start so_far left h e cells agrees = ap (shown value) (subst (Rest known args start so_far) e h cells agrees)
+
+-- a cell to which one of the arguments refers is missing
+pub one_missing : {V : Type 0} (known : ℕ → Option Value) (args : List given.Argument) (i : ℕ) (arg : given.Argument) (cell : ℕ) (r : Result V ℕ) → IsErrAnd r (λ c. c ≡ cell) → i < length args → arg ≡ get_or args i arg →
+    known cell ≡ None → refers_to cell arg ≡ true → IfErr r (IsMissing known args)
+one_missing known args i arg cell (Ok v) h l is none referred = absurd h
+one_missing known args i arg cell (Err c) h l is none referred =
+    subst (IsMissing known args) (sym h) (none, list_any_at (refers_to cell) args i arg l (ap (refers_to cell) (sym is) ∙ referred))
 
 -- where one function of arguments is another, what the first gives the second does
 pub of_arguments : {E : Type 0} (known : ℕ → Option Value) (args : List given.Argument) (f g : List Argument → Value) (r : Result Value E) → ((xs : List Argument) → f xs ≡ g xs) →

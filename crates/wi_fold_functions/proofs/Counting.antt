@@ -1,6 +1,7 @@
 -- What COUNT, COUNTA and AVERAGE make of the items.
-use Rattle.std.proofs.Common.{◌≡◌, ℕ, ◌+◌, ◌<◌, Bool, true, false, cond, not, List, [], ◌∷◌, length, fold, Option, Some, None, refl, sym, ap, ◌∙◌, inl, arith}
-use Rattle.std.specs.Prelude.{is_some, ◌^◌, ◌-◌, min, nat_le, Result, Ok, Err}
+use Rattle.std.proofs.Common.{◌≡◌, ℕ, ◌+◌, ◌<◌, Bool, true, false, cond, not, List, [], ◌∷◌, length, fold, Option, Some, None, refl, sym, ap, ◌∙◌, subst, inl, arith}
+use Rattle.std.specs.Prelude.{is_some, ◌^◌, ◌-◌, min, nat_le, Result, Ok, Err, IfErr}
+use Rattle.std.specs.Result.{IsErrAnd}
 use Rattle.std.proofs.Math.Nat.{sub-add-min_cancel}
 use Rattle.std.proofs.lemmas.Bool.Decides.{nat_tests}
 use Rattle.std.specs.List.{flat_map}
@@ -152,3 +153,29 @@ average_is args s e f =
     from_start sum (Ok xs) =
         let same : 0 + length xs ≡ length xs = omega arith in
         ap (λ (k : ℕ). sum >>= (λ total. whole_number k >>= (λ count. division total count >>= (λ mean. Number mean)))) same
+
+-- ---- one more item for a mean
+
+abbrev average : numbers.Number → ℕ → Average
+average x n = record { total = x; count = n }
+
+abbrev mean_found : Average → Option numbers.Number → Result Average ErrorKind
+mean_found s found = and_then (λ x. Ok (average x (counted (is_some found) s.count))) (with_number addition s.total found)
+
+pub mean_error : (s : Average) (item : Item) (e : ErrorKind) → number_of_item item ≡ Err e → mean_with s item ≡ Err e
+mean_error s item e h = ap (and_then (mean_found s)) h
+
+pub mean_same : (s : Average) (item : Item) → number_of_item item ≡ Ok None → mean_with s item ≡ Ok s
+mean_same s item h = ap (and_then (mean_found s)) h
+
+pub mean_more : (s : Average) (item : Item) (x y : numbers.Number) (n : ℕ) → number_of_item item ≡ Ok (Some x) → addition s.total x ≡ Ok y → n ≡ counted true s.count →
+    mean_with s item ≡ Ok (record { total = y; count = n })
+mean_more s item x y n h k m =
+    ap (and_then (mean_found s)) h ∙ ap (and_then (λ z. Ok (average z (counted true s.count)))) k ∙ ap (λ c. Ok (average y c)) (sym m)
+
+pub mean_too_great : (s : Average) (item : Item) (x : numbers.Number) (e : ErrorKind) → number_of_item item ≡ Ok (Some x) → addition s.total x ≡ Err e → mean_with s item ≡ Err e
+mean_too_great s item x e h k = ap (and_then (mean_found s)) h ∙ ap (and_then (λ z. Ok (average z (counted true s.count)))) k
+
+pub error_told : {A T : Type 0} (made : Result A ErrorKind) (r : Result T ErrorKind) (e : ErrorKind) → IsErrAnd r (λ d. d ≡ e) → made ≡ Err e → IfErr r (λ d. made ≡ Err d)
+error_told made (Ok x) e h k = absurd h
+error_told made (Err d) e h k = subst (λ x. made ≡ Err x) (sym h) k

@@ -1,5 +1,5 @@
 -- The exact decimal: its places, its digits, and what stands before it.
-use Rattle.std.proofs.Common.{String, string_bytes, subst, sym, ap, ◌∙◌, arith}
+use Rattle.std.proofs.Common.{String, string_bytes, subst, sym, ap, ◌∙◌, arith, Result, Ok, Err, OnOk, OnErr, is_ok, if◌then◌else◌}
 use Rattle.std.specs.Prelude.{◌≡◌, ℕ, zero, suc, ◌+◌, ◌-◌, ◌*◌, ◌/◌, ◌%◌, ◌^◌, ◌<◌, ◌≤◌, ◌≢◌, List, [], ◌∷◌, ◌++◌, length, take, Some, None, refl}
 use Rattle.std.specs.declared.alloc.Global.{Global}
 use Rattle.std.specs.Fmt.{decimal}
@@ -32,6 +32,16 @@ starts_trans xs ys front h k =
 pub starts_with : (xs front more : List ℕ) → xs ≡ front ++ more → StartsWith xs front
 starts_with xs front more e = subst (λ ys. StartsWith ys front) (sym e) (starts_more front more front (starts_itself front))
 
+-- where all is appended, or on an error nothing
+pub starts_joined : {E : Type 0} (r : Result (Unit {0}) E) (xs front more : List ℕ) → OnOk r (xs ≡ front ++ more) → OnErr r (xs ≡ front) → StartsWith xs front
+starts_joined (Ok u) xs front more h k = starts_with xs front more h
+starts_joined (Err e) xs front more h k = subst (λ ys. StartsWith ys front) (sym k) (starts_itself front)
+
+-- where more is appended, or on an error nothing, to what begins so
+pub starts_pushed : {T E : Type 0} (r : Result T E) (xs mid more front : List ℕ) → xs ≡ (if is_ok r then mid ++ more else mid) → StartsWith mid front → StartsWith xs front
+starts_pushed (Ok u) xs mid more front e h = subst (λ ys. StartsWith ys front) (sym e) (starts_more mid more front h)
+starts_pushed (Err d) xs mid more front e h = subst (λ ys. StartsWith ys front) (sym e) h
+
 -- a text may be cut back to the one that it begins with
 pub cut_place : (s : String Global) (old : List ℕ) → IsUtf8 old → StartsWith (string_bytes s) old → IsCharBoundary (string_bytes s) (length old)
 cut_place s old u h = IsCharBoundary-from_take (string_bytes s) (length old) (IsUtf8-string_bytes s) (fits (string_bytes s) old h) (subst IsUtf8 (sym h) u)
@@ -47,11 +57,25 @@ rest_is a q r d e h =
     let same : q * d ≡ a / d * d = ap (λ k. k * d) (quotient_is a q r d e h) in
     omega (arith, e, same, div-add-mod' a d)
 
-pub fivefold : (f r s p t d m : ℕ) → f * d + r ≡ 4 * m → s ≡ r + m → p * d + t ≡ 2 * ((f + s / d) * d + s % d) → p * d + t ≡ m * 10
+fivefold : (f r s p t d m : ℕ) → f * d + r ≡ 4 * m → s ≡ r + m → p * d + t ≡ 2 * ((f + s / d) * d + s % d) → p * d + t ≡ m * 10
 fivefold f r s p t d m e g h =
     let whole : s / d * d + s % d ≡ s = div-add-mod' s d in
     let split : (f + s / d) * d ≡ f * d + s / d * d = omega arith in
     omega (arith, e, g, h, whole, split)
+
+-- ten times m is twice (twice twice m and m)
+pub tenfold_is : (q r f s p t d m : ℕ) → q * d + r ≡ 2 * (0 * d + m) → f * d + s ≡ 2 * (q * d + r) → p * d + t ≡ 2 * ((f + (s + m) / d) * d + (s + m) % d) → p * d + t ≡ m * 10
+tenfold_is q r f s p t d m two four ten = let fourfold : f * d + s ≡ 4 * m = omega (arith, two, four) in fivefold f s (s + m) p t d m fourfold refl ten
+
+pub double_small : (r d : ℕ) → r < d → 2 * r / d ≤ 1
+double_small r d h =
+    let below : 2 * r / d < 2 = (div-lt_iff_lt-mul {k = d} {x = 2 * r} {y = 2} (omega (arith, h))).1 (omega (arith, h)) in
+    omega (arith, below)
+
+pub double_parts : (w r d : ℕ) → (2 * w + 2 * r / d) * d + 2 * r % d ≡ 2 * (w * d + r)
+double_parts w r d =
+    let whole : 2 * r / d * d + 2 * r % d ≡ 2 * r = div-add-mod' (2 * r) d in
+    omega (arith, whole)
 
 -- ---- the places
 

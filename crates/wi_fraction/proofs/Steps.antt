@@ -5,7 +5,7 @@ use Rattle.std.specs.Int.{w128, cast_signed as to_z, cast_unsigned as of_z}
 use Rattle.std.proofs.Common.{arith, ap, sym, ◌∙◌}
 use Rattle.std.proofs.lemmas.Int.{ints}
 use Rattle.std.proofs.lemmas.Bool.Decides.{nat_tests}
-use Rattle.std.proofs.Math.Nat.{mul-pos, one-mul, div_self}
+use Rattle.std.proofs.Math.Nat.{mul-pos, one-mul, div_self, div-le_self}
 use Rattle.std.proofs.lemmas.Nat.Gcd.{dvd_refl}
 use Rattle.wi_fraction.specs.Gcd.{gcd}
 use Rattle.wi_fraction.specs.Number.{Number, number_of, max_size, signed, number_at}
@@ -32,6 +32,31 @@ neg_bits (negsuc n) h = omega (arith, ints)
 pub sum_from_steps : (x y : Number) (multiple : ℕ) (first second total : ℤ) (r : Option Number) → Some multiple ≡ bounded (x.den / gcd x.den y.den * y.den) → Some first ≡ int_bounded (x.num *ℤ pos (multiple / x.den)) → Some second ≡ int_bounded (y.num *ℤ pos (multiple / y.den)) → Some total ≡ int_bounded (first +ℤ second) → r ≡ number_of total multiple → r ≡ sum_of x y
 unfolding sum_of
 sum_from_steps x y multiple first second total r e1 e2 e3 e4 e5 = rw (← e1, ← e2, ← e3, ← e4) e5
+
+-- no sum, where a step gives none
+pub sum_no_multiple : (x y : Number) → None ≡ bounded (x.den / gcd x.den y.den * y.den) → None ≡ sum_of x y
+unfolding sum_of
+sum_no_multiple x y e = rw (← e) refl
+
+pub sum_no_first : (x y : Number) (multiple : ℕ) → Some multiple ≡ bounded (x.den / gcd x.den y.den * y.den) → None ≡ int_bounded (x.num *ℤ pos (multiple / x.den)) → None ≡ sum_of x y
+unfolding sum_of
+sum_no_first x y multiple e1 e2 = rw (← e1, ← e2) refl
+
+pub sum_no_second : (x y : Number) (multiple : ℕ) (first : ℤ) → Some multiple ≡ bounded (x.den / gcd x.den y.den * y.den)
+    → Some first ≡ int_bounded (x.num *ℤ pos (multiple / x.den))
+    → None ≡ int_bounded (y.num *ℤ pos (multiple / y.den)) → None ≡ sum_of x y
+unfolding sum_of
+sum_no_second x y multiple first e1 e2 e3 = rw (← e1, ← e2, ← e3) refl
+
+pub sum_no_total : (x y : Number) (multiple : ℕ) (first second : ℤ) → Some multiple ≡ bounded (x.den / gcd x.den y.den * y.den)
+    → Some first ≡ int_bounded (x.num *ℤ pos (multiple / x.den))
+    → Some second ≡ int_bounded (y.num *ℤ pos (multiple / y.den)) → None ≡ int_bounded (first +ℤ second) → None ≡ sum_of x y
+unfolding sum_of
+sum_no_total x y multiple first second e1 e2 e3 e4 = rw (← e1, ← e2, ← e3, ← e4) refl
+
+-- a part of a number within the limit is within it
+pub part_fits : (n m b q : ℕ) → Some m ≡ bounded n → q ≡ m / b → q ≤ max_size
+part_fits n m b q e f = let w = bounded-some n m e in omega (arith, f, div-le_self m b, w.0, w.1)
 
 pub signed-abs : (z : ℤ) → signed (int_lt z (pos 0)) (unsigned_abs z) ≡ z
 signed-abs (pos n) = let e : nat_lt n 0 ≡ false = grind (arith, nat_tests) in ap (λ b. signed b n) e

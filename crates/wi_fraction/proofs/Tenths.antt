@@ -4,7 +4,7 @@ use Rattle.std.specs.Int.{◌∣◌}
 use Rattle.std.proofs.Common.{ap, ◌∙◌, sym, subst, inl, inr, arith}
 use Rattle.std.proofs.lemmas.Nat.{le-div}
 use Rattle.std.proofs.lemmas.Nat.Gcd.{le_of_dvd}
-use Rattle.std.proofs.Math.Nat.{mod-eq-zero_of_dvd, div-add-mod', mul-le-mul_left}
+use Rattle.std.proofs.Math.Nat.{mod-eq-zero_of_dvd, div-add-mod', mul-le-mul_left, mul-le-mul_right}
 use Rattle.wi_fraction.specs.Gcd.{gcd}
 use Rattle.wi_fraction.specs.Gcd.Laws.{is_gcd, dvd_of_dvd-mul}
 use Rattle.wi_fraction.specs.Number.{number_of, max_size}
@@ -65,6 +65,10 @@ tenth_fine c n d dp apart one large =
     let small : d * 5 * k ≤ d * 5 * 2 = mul-le-mul_left (d * 5) (common_two c n d dp apart one) in
     let larger : d * 5 ≤ d * 10 / k = le-div (d * 5) (d * 10) k kp (omega (arith, small)) in
     omega (arith, larger, large)
+
+-- a digit times a number is at most nine times it
+pub digit_times : (c n : ℕ) → c < 10 → c * n ≤ 9 * n
+digit_times c n h = mul-le-mul_right n (omega (arith, h))
 
 pub tenth_none : (c n d : ℕ) → 0 < d → (c * (d % 5) + n % 5) % 5 ≢ 0 → gcd n d ≡ 1 → max_size / 5 < d → None ≡ number_of (pos (c * d + n)) (d * 10)
 tenth_none c n d dp apart one large = none_from_fine false (c * d + n) (d * 10) (tenth_fine c n d dp apart one large)

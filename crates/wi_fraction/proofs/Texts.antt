@@ -31,6 +31,10 @@ point_text n d (suc k) e f dp =
     let less = rest_few n d (suc k) dp e in
     rw (e, decimal_after_one (suc k) (n % d * (10 ^ suc k / d)) less (omega (arith, few, less))) refl
 
+-- the number with a one in front is small
+pub written_small : (n d k : ℕ) → 0 < d → places d ≡ Some k → 10 ^ k + n % d * (10 ^ k / d) < 2 * 10 ^ 12
+written_small n d k dp e = omega (arith, power_few k (places_few d k e), rest_few n d k dp e)
+
 pub one_first : (n d k : ℕ) → 0 < d → places d ≡ Some k → 1 ≤ length (decimal (10 ^ k + n % d * (10 ^ k / d)))
 one_first n d k dp e =
     let few = power_few k (places_few d k e) in

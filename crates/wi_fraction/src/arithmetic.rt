@@ -97,7 +97,6 @@ impl Fraction {
     }
 
     /// The sum over the least common multiple of the denominators.
-    #[tactic(auto, unfolding(crate::specs::Arithmetic::sum_of))]
     fn unlike_sum(self, other: Fraction) -> Option<Fraction>
         ensures { result ≡ sum_of self other }
     {

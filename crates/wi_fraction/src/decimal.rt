@@ -41,7 +41,6 @@ impl Fraction {
 }
 
 /// Appends the exact decimal of n/d with that sign. On an error a part of it may be there.
-#[tactic(auto, using(crate::proofs::Decimals::starts_itself, crate::proofs::Decimals::starts_more, crate::proofs::Decimals::starts_trans))]
 fn push_exact(negative: bool, n: u128, d: u128, text: &mut String) -> Result<(), AllocError>
     requires above_zero { 0 < d }
     requires fits { d ≤ max_size }
@@ -61,7 +60,6 @@ fn push_exact(negative: bool, n: u128, d: u128, text: &mut String) -> Result<(),
 }
 
 /// Appends that many digits of n/d after the point. On an error a part of them may be there.
-#[tactic(auto, using(crate::proofs::Decimals::starts_with))]
 fn push_digits(n: u128, d: u128, places: u32, text: &mut String) -> Result<(), AllocError>
     requires below_one { n < d }
     requires fits { d ≤ max_size }

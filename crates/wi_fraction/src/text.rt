@@ -35,7 +35,6 @@ fn places(d: u128) -> Option<u32>
 }
 
 /// The least number of places from k on, of so many, at which d divides the power of ten.
-#[tactic(auto, using(crate::proofs::Places::places_from_end, crate::proofs::Places::places_from_found, crate::proofs::Places::places_from_more))]
 fn places_from(tries: u32, k: u32, power: u128, d: u128) -> Option<u32>
     requires above_zero { 0 < d }
     requires power { power ≡ 10 ^ k }

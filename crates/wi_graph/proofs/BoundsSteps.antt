@@ -1,9 +1,12 @@
 -- Cells that come and go, and the rectangle around them.
-use Rattle.std.proofs.Common.{◌≡◌, ◌==◌, ◌||◌, ◌⊎◌, inl, inr, ℕ, ◌+◌, ◌<◌, Bool, true, false, List, take, get_or, length, refl, ap, sym, ◌∙◌}
+use Rattle.std.proofs.Common.{◌≡◌, ◌==◌, ◌&&◌, ◌||◌, ◌⊎◌, inl, inr, nat_le, ℕ, ◌+◌, ◌<◌, ◌≤◌, min, max, Bool, true, false, List, [], ◌∷◌, take, get_or, length, refl, ap, sym, ◌∙◌, arith}
 use Rattle.std.specs.Ordering.{nat_cmp}
-use Rattle.std.specs.BTreeSet.{BTreeSet, contains}
-use Rattle.std.proofs.lemmas.Bool.{or_cases}
-use Rattle.wi_values.specs.Address.{Area, is_within}
+use Rattle.std.specs.List.{list_any}
+use Rattle.std.specs.BTreeMap.{is_at}
+use Rattle.std.specs.BTreeSet.{BTreeSet, contains, btree_set_len, IsUnchanged}
+use Rattle.std.proofs.lemmas.Nat.{div-mul-add, mod-mul-add}
+use Rattle.std.proofs.lemmas.Bool.{or_cases, and_parts, and_from, leb-true, le-leb, false_from_ne_true}
+use Rattle.wi_values.specs.Address.{Area, columns, place, row_of, column_of, rect_of, is_within}
 use Rattle.wi_graph.specs.Reach.{is_one_of}
 use Rattle.wi_graph.specs.Inner.Bounds.{AreWithin}
 use Rattle.wi_graph.specs.Inner.Search.{as_set}
@@ -36,3 +39,172 @@ gains_within old new r x g n w c h = at (gains_cases old new x g c h)
 
 pub loses_within : (old new : BTreeSet ℕ) (r : Area) (x : ℕ) → Loses old new x → AreWithin r old → AreWithin r new
 loses_within old new r x l w c h = w c (loses_others old new x l c h).0
+
+-- ---- a rectangle by its sides
+
+within_parts : (r : Area) (c : ℕ) → is_within r c ≡ true → (row_of r.first ≤ row_of c) × (row_of c ≤ row_of r.last) × (column_of r.first ≤ column_of c) × (column_of c ≤ column_of r.last)
+within_parts r c h =
+    let p = and_parts (nat_le (row_of r.first) (row_of c) && nat_le (row_of c) (row_of r.last)) _ h in
+    let rows = and_parts (nat_le (row_of r.first) (row_of c)) _ p.0 in
+    let cols = and_parts (nat_le (column_of r.first) (column_of c)) _ p.1 in
+    (leb-true _ _ rows.0, leb-true _ _ rows.1, leb-true _ _ cols.0, leb-true _ _ cols.1)
+
+within_from : (r : Area) (c : ℕ) → row_of r.first ≤ row_of c → row_of c ≤ row_of r.last → column_of r.first ≤ column_of c → column_of c ≤ column_of r.last → is_within r c ≡ true
+within_from r c t b l n =
+    and_from (nat_le (row_of r.first) (row_of c) && nat_le (row_of c) (row_of r.last)) _ (and_from (nat_le (row_of r.first) (row_of c)) _ (le-leb _ _ t) (le-leb _ _ b))
+    (and_from (nat_le (column_of r.first) (column_of c)) _ (le-leb _ _ l) (le-leb _ _ n))
+
+row_place : (row column : ℕ) → column < columns → row_of (place row column) ≡ row
+row_place row column h = div-mul-add row columns column h
+
+column_place : (row column : ℕ) → column < columns → column_of (place row column) ≡ column
+column_place row column h = mod-mul-add row columns column h
+
+least : (a b : ℕ) → a ≤ b → min a b ≡ a
+least a b h = omega (arith, h)
+
+most : (a b : ℕ) → a ≤ b → max a b ≡ b
+most a b h = omega (arith, h)
+
+pub record HasSides (r : Area) (first_row first_column last_row last_column : ℕ) : Type 0 where
+  pub top : row_of r.first ≡ first_row
+  pub left : column_of r.first ≡ first_column
+  pub bottom : row_of r.last ≡ last_row
+  pub right : column_of r.last ≡ last_column
+
+pub sides_of : (r : Area) (a b top left bottom right : ℕ) → r ≡ rect_of a b → a ≡ place top left → b ≡ place bottom right → top ≤ bottom → left ≤ right → left < columns → right < columns → HasSides r top left bottom right
+sides_of r a b t l m n e f g rows cols lc nc =
+    let ra : row_of a ≡ t = ap (λ (x : ℕ). row_of x) f ∙ row_place t l lc in
+    let ca : column_of a ≡ l = ap (λ (x : ℕ). column_of x) f ∙ column_place t l lc in
+    let rb : row_of b ≡ m = ap (λ (x : ℕ). row_of x) g ∙ row_place m n nc in
+    let cb : column_of b ≡ n = ap (λ (x : ℕ). column_of x) g ∙ column_place m n nc in
+    let first : r.first ≡ place t l =
+    ap (λ (x : Area). x.first) e ∙ ap (λ (x : ℕ). place x (min (column_of a) (column_of b))) (two min ra rb ∙ least t m rows) ∙ ap (λ (x : ℕ). place t x) (two min ca cb ∙ least l n cols) in
+    let last : r.last ≡ place m n =
+    ap (λ (x : Area). x.last) e ∙ ap (λ (x : ℕ). place x (max (column_of a) (column_of b))) (two max ra rb ∙ most t m rows) ∙ ap (λ (x : ℕ). place m x) (two max ca cb ∙ most l n cols) in
+    record {
+      top = ap (λ (x : ℕ). row_of x) first ∙ row_place t l lc;
+      left = ap (λ (x : ℕ). column_of x) first ∙ column_place t l lc;
+      bottom = ap (λ (x : ℕ). row_of x) last ∙ row_place m n nc;
+      right = ap (λ (x : ℕ). column_of x) last ∙ column_place m n nc;
+    }
+  where
+    two : (f : ℕ → ℕ → ℕ) {x y z w : ℕ} → x ≡ y → z ≡ w → f x z ≡ f y w
+    two f {x} {y} {z} {w} p q = ap (λ (u : ℕ). f u z) p ∙ ap (λ (u : ℕ). f y u) q
+
+pub min_of : (m a b x y : ℕ) → m ≡ min a b → a ≡ x → b ≡ y → m ≡ min x y
+min_of m a b x y e f g = e ∙ ap (λ (z : ℕ). min z b) f ∙ ap (λ (z : ℕ). min x z) g
+
+pub max_of : (m a b x y : ℕ) → m ≡ max a b → a ≡ x → b ≡ y → m ≡ max x y
+max_of m a b x y e f g = e ∙ ap (λ (z : ℕ). max z b) f ∙ ap (λ (z : ℕ). max x z) g
+
+pub min_below : (m a b n : ℕ) → m ≡ min a b → a < n → m < n
+min_below m a b n e h = omega (arith, e, h)
+
+pub max_below : (m a b n : ℕ) → m ≡ max a b → a < n → b < n → m < n
+max_below m a b n e h k = omega (arith, e, h, k)
+
+-- the sides of the least rectangle that has another and a cell
+pub record IsGrown (area : Area) (cell first_row first_column last_row last_column : ℕ) : Type 0 where
+  pub top : first_row ≡ min (row_of area.first) (row_of cell)
+  pub left : first_column ≡ min (column_of area.first) (column_of cell)
+  pub bottom : last_row ≡ max (row_of area.last) (row_of cell)
+  pub right : last_column ≡ max (column_of area.last) (column_of cell)
+
+pub min_max : (m n a b c : ℕ) → m ≡ min a b → n ≡ max c b → m ≤ n
+min_max m n a b c e f = omega (arith, e, f)
+
+min_first : (m n a b : ℕ) → n ≡ m → m ≡ min a b → (n ≤ a) × (n ≤ b)
+min_first m n a b e f = (omega (arith, e, f), omega (arith, e, f))
+
+max_last : (m n a b : ℕ) → n ≡ m → m ≡ max a b → (a ≤ n) × (b ≤ n)
+max_last m n a b e f = (omega (arith, e, f), omega (arith, e, f))
+
+pub grown_cell : (area new : Area) (cell top left bottom right : ℕ) → IsGrown area cell top left bottom right → HasSides new top left bottom right → is_within new cell ≡ true
+grown_cell area new cell t l m n g s = within_from new cell (min_first _ _ _ _ s.top g.top).1 (max_last _ _ _ _ s.bottom g.bottom).1 (min_first _ _ _ _ s.left g.left).1 (max_last _ _ _ _ s.right g.right).1
+
+pub grown_others : (area new : Area) (cell top left bottom right : ℕ) → IsGrown area cell top left bottom right → HasSides new top left bottom right → (c : ℕ) → is_within area c ≡ true → is_within new c ≡ true
+grown_others area new cell t l m n g s c h =
+    let p = within_parts area c h in
+    within_from new c (le_trans (min_first _ _ _ _ s.top g.top).0 p.0) (le_trans p.1 (max_last _ _ _ _ s.bottom g.bottom).0) (le_trans (min_first _ _ _ _ s.left g.left).0 p.2) (le_trans p.3 (max_last _ _ _ _ s.right g.right).0)
+  where
+    le_trans : {x y z : ℕ} → x ≤ y → y ≤ z → x ≤ z
+    le_trans p q = omega (arith, p, q)
+
+-- the sides of what two rectangles have in common
+pub record IsCommon (a b : Area) (first_row first_column last_row last_column : ℕ) : Type 0 where
+  pub top : first_row ≡ max (row_of a.first) (row_of b.first)
+  pub left : first_column ≡ max (column_of a.first) (column_of b.first)
+  pub bottom : last_row ≡ min (row_of a.last) (row_of b.last)
+  pub right : last_column ≡ min (column_of a.last) (column_of b.last)
+
+above_both : (m a b c : ℕ) → m ≡ max a b → a ≤ c → b ≤ c → m ≤ c
+above_both m a b c e h k = omega (arith, e, h, k)
+
+below_both : (m a b c : ℕ) → m ≡ min a b → c ≤ a → c ≤ b → c ≤ m
+below_both m a b c e h k = omega (arith, e, h, k)
+
+above_each : (m n a b c : ℕ) → n ≡ m → m ≡ max a b → n ≤ c → (a ≤ c) × (b ≤ c)
+above_each m n a b c d e h = (omega (arith, d, e, h), omega (arith, d, e, h))
+
+below_each : (m n a b c : ℕ) → n ≡ m → m ≡ min a b → c ≤ n → (c ≤ a) × (c ≤ b)
+below_each m n a b c d e h = (omega (arith, d, e, h), omega (arith, d, e, h))
+
+same_test : (p q : Bool) → (p ≡ true → q ≡ true) → (q ≡ true → p ≡ true) → p ≡ q
+same_test true q f g = sym (f refl)
+same_test false true f g = g refl
+same_test false false f g = refl
+
+pub common_part : (a b part : Area) (top left bottom right : ℕ) → IsCommon a b top left bottom right → HasSides part top left bottom right → (c : ℕ) → is_within part c ≡ (is_within a c && is_within b c)
+common_part a b part t l m n i s c = same_test (is_within part c) (is_within a c && is_within b c) into back
+  where
+    into : is_within part c ≡ true → (is_within a c && is_within b c) ≡ true
+    into h =
+        let p = within_parts part c h in
+        let top = above_each _ _ _ _ _ s.top i.top p.0 in
+        let bottom = below_each _ _ _ _ _ s.bottom i.bottom p.1 in
+        let left = above_each _ _ _ _ _ s.left i.left p.2 in
+        let right = below_each _ _ _ _ _ s.right i.right p.3 in
+        and_from (is_within a c) _ (within_from a c top.0 bottom.0 left.0 right.0) (within_from b c top.1 bottom.1 left.1 right.1)
+
+    back : (is_within a c && is_within b c) ≡ true → is_within part c ≡ true
+    back h =
+        let q = and_parts (is_within a c) _ h in
+        let x = within_parts a c q.0 in
+        let y = within_parts b c q.1 in
+        within_from part c (above_both _ _ _ _ (s.top ∙ i.top) x.0 y.0) (below_both _ _ _ _ (s.bottom ∙ i.bottom) x.1 y.1) (above_both _ _ _ _ (s.left ∙ i.left) x.2 y.2) (below_both _ _ _ _ (s.right ∙ i.right) x.3 y.3)
+
+pub no_part : (a b : Area) (top left bottom right : ℕ) → IsCommon a b top left bottom right → ((top ≤ bottom) × (right < left)) ⊎ (bottom < top) → (c : ℕ) → false ≡ (is_within a c && is_within b c)
+no_part a b t l m n i o c = sym (false_from_ne_true (is_within a c && is_within b c) none)
+  where
+    apart : (x y z : ℕ) → x ≤ z → z ≤ y → y < x → ⊥
+    apart x y z h k j = omega (arith, h, k, j)
+
+    none : (is_within a c && is_within b c) ≡ true → ⊥
+    none h = at o
+      where
+        q : (is_within a c ≡ true) × (is_within b c ≡ true)
+        q = and_parts (is_within a c) _ h
+
+        at : ((t ≤ m) × (n < l)) ⊎ (m < t) → ⊥
+        at (inl k) =
+            let x = within_parts a c q.0 in
+            let y = within_parts b c q.1 in
+            apart l n (column_of c) (above_both _ _ _ _ i.left x.2 y.2) (below_both _ _ _ _ i.right x.3 y.3) k.1
+        at (inr k) =
+            let x = within_parts a c q.0 in
+            let y = within_parts b c q.1 in
+            apart t m (row_of c) (above_both _ _ _ _ i.top x.0 y.0) (below_both _ _ _ _ i.bottom x.1 y.1) k
+
+-- ---- no cell, or the same cells
+
+-- a set without cells is in any rectangle
+pub none_within : (set : BTreeSet ℕ) (r : Area) → btree_set_len set ≡ 0 → AreWithin r set
+none_within set r e c h = at set.keys e h
+  where
+    at : (ks : List ℕ) → length ks ≡ 0 → list_any (is_at (nat_cmp c)) ks ≡ true → is_within r c ≡ true
+    at [] f k = cc
+    at (x ∷ xs) f k = absurd (omega (arith, f))
+
+pub same_within : (old new : BTreeSet ℕ) (r : Area) → IsUnchanged old new → AreWithin r old → AreWithin r new
+same_within old new r e w c h = w c (ap (λ (ks : List ℕ). list_any (is_at (nat_cmp c)) ks) (sym e) ∙ h)

@@ -1,5 +1,5 @@
 -- What an edit brings, step by step, and a sheet that has it.
-use Rattle.std.proofs.Common.{◌≡◌, ◌==◌, ◌+◌, ◌<◌, ℕ, Bool, true, false, cond, List, [], ◌∷◌, ◌++◌, take, get_or, length, Option, Some, None, IfSome, refl, ap, sym, ◌∙◌, subst, arith, add-one}
+use Rattle.std.proofs.Common.{◌≡◌, ◌==◌, ◌+◌, ◌<◌, ◌≤◌, ℕ, Bool, true, false, cond, List, [], ◌∷◌, ◌++◌, take, take_all, get_or, length, Option, Some, None, IfSome, refl, ap, sym, ◌∙◌, subst, arith, add-one}
 use Rattle.std.proofs.Math.Seq.{take-suc}
 use Rattle.std.proofs.lemmas.Grind.{common_steps}
 use Rattle.std.proofs.lemmas.Bool.{or_parts}
@@ -98,6 +98,15 @@ brings_step xs i x rooms old new o l e g u h c =
     at true = g
     at false = h c
 
+pub brings_start : (rooms next : Rooms) → next.entries ≡ [] → Brings rooms next [] × HasNoIdle rooms next
+brings_start rooms next e = (λ c. ap (λ (o : Option (Option (Vec Area))). put_over o (room_at rooms c)) (none c), λ c h k. none c)
+  where
+    none : (c : ℕ) → get nat_cmp next c ≡ None
+    none c = ap (λ (es : List (ℕ × Option (Vec Area))). lookup (is_at (nat_cmp c)) es) e
+
+pub brings_end : (rooms next : Rooms) (xs : List (ℕ × Option Content)) (i : ℕ) → length xs ≤ i → Brings rooms next (take i xs) → Brings rooms next xs
+brings_end rooms next xs i l h = subst (λ (ys : List (ℕ × Option Content)). Brings rooms next ys) (take_all i xs l) h
+
 -- ---- the edges after it
 
 then_edges : (es : Edges) (xs : List (ℕ × Option Content)) (c : ℕ) → areas_at (edges_after es xs) c ≡ areas_then xs c (areas_at es c)
@@ -138,6 +147,12 @@ one_as_before rooms x es fs e k h c = subst (λ (gs : List (ℕ × Option (Vec A
     at : (b : Bool) → is_at (nat_cmp c) x.0 ≡ b → IfSome (cond b (Some x.1) (lookup (is_at (nat_cmp c)) fs)) (λ r. items_of r ≡ room_at rooms c)
     at true f = k ∙ ap (room_at rooms) (at_same c x.0 f)
     at false f = h c
+
+pub none_as_before : (rooms : Rooms) (es : List (ℕ × Option (Vec Area))) → es ≡ [] → AreAsBefore rooms es
+none_as_before rooms es e = subst (AreAsBefore rooms) (sym e) (λ c. tt)
+
+pub fewer_left : {A : Type 0} (x : A) (xs ys : List A) → xs ≡ x ∷ ys → length ys < length xs
+fewer_left x xs ys e = omega (arith, ap length e)
 
 pub all_as_before : (rooms next : Rooms) → AreAsBefore rooms next.entries → ReadsStay rooms next
 all_as_before rooms next h c = at (get nat_cmp next c) (h c)

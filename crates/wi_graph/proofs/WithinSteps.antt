@@ -1,7 +1,7 @@
 -- A search for the cells of a set, or of a list, in a rectangle.
-use Rattle.std.proofs.Common.{◌≡◌, ◌⊎◌, inl, inr, ℕ, zero, suc, ◌+◌, ◌-◌, ◌<◌, ◌≤◌, true, false, List, [], ◌∷◌, length, get_or, Option, Some, None, IfSome, ap, sym, ◌∙◌, subst, arith, ltb-true, ltb-false}
+use Rattle.std.proofs.Common.{◌≡◌, ◌⊎◌, inl, inr, ◌&&◌, ℕ, zero, suc, ◌+◌, ◌-◌, ◌<◌, ◌≤◌, true, false, List, [], ◌∷◌, length, get_or, Option, Some, None, IfSome, ap, sym, ◌∙◌, subst, arith, ltb-true, ltb-false}
 use Rattle.std.proofs.Math.Arith.{lt_of_le-ne}
-use Rattle.std.proofs.lemmas.Bool.{or_cases, or_left, or_right, cases_lt}
+use Rattle.std.proofs.lemmas.Bool.{or_cases, or_left, or_right, and_parts, and_from, cases_lt}
 use Rattle.std.proofs.lemmas.Bool.Decides.{nat_tests}
 use Rattle.std.proofs.lemmas.List.{get_or_default}
 use Rattle.std.proofs.lemmas.List.Sorted.{IsNonDecreasingBy-from_default}
@@ -15,6 +15,7 @@ use Rattle.std.specs.BTreeSet.{BTreeSet, contains, IsKeyRangeOf}
 use Rattle.std.specs.declared.ops.Bound.TheVariants.{Included}
 use Rattle.wi_values.specs.Address.{Area, is_within}
 use Rattle.wi_values.proofs.Within.{within_between}
+use Rattle.wi_graph.specs.Inner.Bounds.{AreWithin}
 use Rattle.wi_graph.specs.Inner.Search.{as_set}
 use Rattle.wi_graph.specs.Inner.Within.{IsAhead, IsBetween, IsFoundBy}
 use Rattle.wi_graph.proofs.Tests.{clash, at_same, at_itself}
@@ -94,6 +95,10 @@ pub seek_first : (cells : BTreeSet ℕ) (r : Area) (from start : ℕ) (found : O
     (c : ℕ) → IsAhead cells r from c → IsFoundBy found c
 seek_first cells r from start found s f c h = f c (s.0 c h, (within_between r c h.1).1, h.2)
 
+-- nothing is found in the range
+pub seek_none : (cells : BTreeSet ℕ) (r : Area) (from start last : ℕ) (o : Option ℕ) → last ≡ r.last → IsSeeking cells r from (Some start) → ((c : ℕ) → IsBetween cells start last c → IsFoundBy None c) → (c : ℕ) → IsAhead cells r from c → IsFoundBy o c
+seek_none cells r from start last o e s f c h = absurd (f c (s.0 c h, subst (λ (y : ℕ). c ≤ y) (sym e) (within_between r c h.1).1, h.2))
+
 -- the one found is in the rectangle
 pub seek_found : (cells : BTreeSet ℕ) (r : Area) (from start cell : ℕ) → IsSeeking cells r from (Some start) → IsBetween cells start r.last cell → is_within r cell ≡ true → IsAhead cells r from cell
 seek_found cells r from start cell s b w = (omega (arith, s.1, b.0), w, b.2)
@@ -115,3 +120,31 @@ seek_on cells r from start cell next s b f n after first = (λ c h. first c h.1 
     on : (o : Option ℕ) → IfSome o (λ a. (cell < a) × (a ≤ r.last)) → IfSome o (λ a. from ≤ a)
     on None k = tt
     on (Some a) k = omega (arith, s.1, b.0, k.0)
+
+-- ---- a search of what the rectangle has in common with bounds of the cells
+
+pub none_ahead : (cells : BTreeSet ℕ) (r : Area) (from : ℕ) (o : Option ℕ) → o ≡ None → IfSome o (IsAhead cells r from)
+none_ahead cells r from None e = tt
+none_ahead cells r from (Some x) e = cc
+
+-- where there is nothing in common, no cell is ahead
+pub apart_first : (cells : BTreeSet ℕ) (r bounds : Area) (from : ℕ) (o : Option ℕ) → AreWithin bounds cells → ((c : ℕ) → false ≡ (is_within r c && is_within bounds c)) → (c : ℕ) → IsAhead cells r from c → IsFoundBy o c
+apart_first cells r bounds from o w n c h = clash (is_within r c && is_within bounds c) (and_from (is_within r c) _ h.1 (w c h.2)) (sym (n c))
+
+-- the cells are seen as a set that is the same, and the search begins at the same cell
+pub part_found : (cells set : BTreeSet ℕ) (r bounds part : Area) (from start : ℕ) (o : Option ℕ) → set ≡ cells → start ≡ from → ((c : ℕ) → is_within part c ≡ (is_within r c && is_within bounds c)) → IfSome o (IsAhead set part start) →
+    IfSome o (IsAhead cells r from)
+part_found cells set r bounds part from start None s e w h = tt
+part_found cells set r bounds part from start (Some x) s e w h = (
+  subst (λ (y : ℕ). y ≤ x) e h.0,
+  (and_parts (is_within r x) _ (sym (w x) ∙ h.1)).0,
+  ap (λ (z : BTreeSet ℕ). contains nat_cmp z x) (sym s) ∙ h.2,
+)
+
+pub part_first : (cells set : BTreeSet ℕ) (r bounds part : Area) (from start : ℕ) (o : Option ℕ) → set ≡ cells → start ≡ from → AreWithin bounds cells → ((c : ℕ) → is_within part c ≡ (is_within r c && is_within bounds c)) →
+    ((c : ℕ) → IsAhead set part start c → IsFoundBy o c) → (c : ℕ) → IsAhead cells r from c → IsFoundBy o c
+part_first cells set r bounds part from start o s e b w f c h = f c (
+  subst (λ (y : ℕ). y ≤ c) (sym e) h.0,
+  w c ∙ and_from (is_within r c) _ h.1 (b c h.2),
+  ap (λ (z : BTreeSet ℕ). contains nat_cmp z c) s ∙ h.2,
+)

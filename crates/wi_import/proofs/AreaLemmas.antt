@@ -1,7 +1,8 @@
 -- The rectangles of records, as the code goes through them.
-use Rattle.std.proofs.Common.{◌≡◌, ◌==◌, ℕ, ◌+◌, ◌-◌, ◌<◌, ◌≤◌, min, max, List, [], ◌∷◌, ◌++◌, length, drop, get_or, Option, Some, None, false, refl, sym, ap, ◌∙◌, arith, Vec}
+use Rattle.std.proofs.Common.{◌≡◌, ◌==◌, ℕ, suc, ◌+◌, ◌-◌, ◌<◌, ◌≤◌, min, max, List, [], ◌∷◌, ◌++◌, length, drop, get_or, Option, Some, None, false, refl, sym, ap, ◌∙◌, arith, Vec}
 use Rattle.std.specs.declared.alloc.Global.{Global}
 use Rattle.std.proofs.lemmas.List.{at_drop_more, length-map, append_assoc, append-nil, drop_all}
+use Rattle.std.proofs.lemmas.Nat.{div-mul-add, mod-mul-add}
 use Rattle.wi_values.specs.Address.{Area, columns, place, row_of, column_of, rect_of}
 use Rattle.wi_import.specs.Areas.{areas_from}
 use Rattle.wi_import.specs.Inner.Records.{bytes_of, all_bytes, area_of_record}
@@ -30,30 +31,48 @@ next_area row column i records r l e =
     same : row + i + 1 ≡ row + (i + 1)
     same = omega arith
 
+least_of : (a b : ℕ) → min a (a + b) ≡ a
+least_of a b = omega arith
+
+most_of : (a b : ℕ) → max a (a + b) ≡ a + b
+most_of a b = omega arith
+
+least_same : (a : ℕ) → min a a ≡ a
+least_same a = omega arith
+
+most_same : (a : ℕ) → max a a ≡ a
+most_same a = omega arith
+
+starts_within : (a b : ℕ) → a + b < columns → a < columns
+starts_within a b h = omega (arith, h)
+
 -- a part of a row, as a rectangle
 pub row_part : (row first more : ℕ) → first + more < columns
     → rect_of (place row first) (place row (first + more)) ≡ record { first = place row first; last = place row (first + more) }
 row_part row first more h =
-    let a : row_of (place row first) ≡ row = omega (arith, h) in
-    let b : row_of (place row (first + more)) ≡ row = omega (arith, h) in
-    let c : column_of (place row first) ≡ first = omega (arith, h) in
-    let d : column_of (place row (first + more)) ≡ first + more = omega (arith, h) in
-    let least_row : min row row ≡ row = omega arith in
-    let most_row : max row row ≡ row = omega arith in
-    let least : min first (first + more) ≡ first = omega arith in
-    let most : max first (first + more) ≡ first + more = omega arith in
-    rw (a, b, c, d, least_row, most_row, least, most)
+    let k = starts_within first more h in
+    let a : row_of (place row first) ≡ row = div-mul-add row columns first k in
+    let b : row_of (place row (first + more)) ≡ row = div-mul-add row columns (first + more) h in
+    let c : column_of (place row first) ≡ first = mod-mul-add row columns first k in
+    let d : column_of (place row (first + more)) ≡ first + more = mod-mul-add row columns (first + more) h in
+    rw (a, b, c, d, least_same row, most_same row, least_of first more, most_of first more)
 
 abbrev area_to : ℕ → ℕ → ℕ → Area
 area_to row column more = record { first = place row column; last = place row (column + more) }
+
+up_to_last : (column more : ℕ) → column + suc more - 1 ≡ column + more
+up_to_last column more = omega arith
+
+last_within : (column more : ℕ) → column + suc more ≤ columns → column + more < columns
+last_within column more h = omega (arith, h)
 
 -- the rectangle of a record of the code
 pub record_area : (row column : ℕ) (fields : List (Vec ℕ Global)) (first last : ℕ) (r : Area) → (length fields == 0) ≡ false → column + length fields ≤ columns
     → first ≡ place row column → last ≡ place row (column + length fields - 1) → r ≡ rect_of first last → Some r ≡ area_of_record row column (bytes_of fields)
 record_area row column [] first last r some fits a b e = cc some
 record_area row column (f ∷ fs) first last r some fits a b e =
-    let sizes : column + length (f ∷ fs) - 1 ≡ column + length fs = omega arith in
-    let part = row_part row column (length fs) (omega (arith, fits)) in
+    let sizes = up_to_last column (length fs) in
+    let part = row_part row column (length fs) (last_within column (length fs) fits) in
     ap Some (e ∙ ap (λ n. rect_of n last) a ∙ ap (rect_of (place row column)) (b ∙ ap (place row) sizes) ∙ part)
     ∙ ap (λ n. Some (area_to row column n)) (sym (length-map fs (λ x. x.items)))
 
@@ -72,6 +91,13 @@ area_told row column r k i records fields now found before after all l e a b sam
     ∙ ap (λ o. before ++ area_before o (areas_left row column (i + 1) records)) (is ∙ same_area row column r k i now fields.items a b same)
     ∙ ap (λ xs. before ++ xs) (sym (next_area row column i records fields l e))
     ∙ whole
+
+-- before the first record all are left
+pub none_told : (row column : ℕ) (records : List (Vec (Vec ℕ Global) Global)) (areas : List Area) → areas ≡ [] → areas ++ areas_left row column 0 records ≡ areas_from row column (all_bytes records)
+none_told row column records areas e = ap (λ xs. xs ++ areas_left row column 0 records) e ∙ ap (λ n. areas_from n column (all_bytes records)) same
+  where
+    same : row + 0 ≡ row
+    same = omega arith
 
 -- how the code tells the rectangle that it finds
 pub told_some : (before after more : List Area) (found : Option Area) (area : Area) → found ≡ Some area → after ≡ before ++ area ∷ [] → after ++ more ≡ before ++ area_before found more

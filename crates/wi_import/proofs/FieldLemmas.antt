@@ -5,7 +5,7 @@ use Rattle.std.specs.List.{list_any}
 use Rattle.std.specs.Str.{bytes_eq, is_utf8}
 use Rattle.std.proofs.Math.Bool.{or-false}
 use Rattle.std.proofs.lemmas.Bool.Decides.{nat_tests}
-use Rattle.std.proofs.lemmas.List.{at_drop_more, length-map, map-append, append_assoc}
+use Rattle.std.proofs.lemmas.List.{at_drop_more, length-map, map-append, append_assoc, append-nil, drop_all}
 use Rattle.std.proofs.lemmas.List.Folds.{list_any-append}
 use Rattle.std.proofs.lemmas.Slice.Eq.{bytes_eq-Decides}
 use Rattle.std.proofs.lemmas.Str.{IsUtf8-from_is_utf8, is_utf8-from_IsUtf8}
@@ -319,6 +319,51 @@ pub later_fields : (p : Field → Bool) (row column j : ℕ) (fields : List (Vec
 later_fields p row column j fields field l e h =
     (or_parts (p (field_at row (column + j) field)) (list_any p (cells_left row column (j + 1) fields))
     (sym (ap (list_any p) (next_field row column j fields field l e)) ∙ h)).1
+
+-- what this field is, where none of what is left has a fault
+pub this_field : (row column j : ℕ) (fields : List (Vec ℕ Global)) (field : Vec ℕ Global) → j < length fields → field ≡ get_or fields j field
+    → list_any is_faulty (cells_left row column j fields) ≡ false → (is_bad field.items ≡ false) × (is_too_long field.items ≡ false) × (row < rows) × (column + j < columns)
+this_field row column j fields field l e h =
+    let p = or_parts (is_faulty (field_at row (column + j) field)) (list_any is_faulty (cells_left row column (j + 1) fields))
+    (sym (ap (list_any is_faulty) (next_field row column j fields field l e)) ∙ h) in
+    let q = not_faulty (field_at row (column + j) field) p.0 in
+    let r = or_parts (nat_le rows row) (nat_le columns (column + j)) q.2 in
+    let a = r.0 in
+    let b = r.1 in
+    (q.0, q.1, grind (arith, nat_tests, a), grind (arith, nat_tests, b))
+
+-- before the first record all fields are left
+pub all_fields_left : (row column : ℕ) (records : List (Vec (Vec ℕ Global) Global)) → fields_left row column 0 records ≡ fields_from row column (all_bytes records)
+all_fields_left row column records = ap (λ n. fields_from n column (all_bytes records)) same
+  where
+    same : row + 0 ≡ row
+    same = omega arith
+
+pub all_cells_left : (row column : ℕ) (fields : List (Vec ℕ Global)) → cells_left row column 0 fields ≡ fields_of row column (bytes_of fields)
+all_cells_left row column fields = ap (λ n. fields_of row n (bytes_of fields)) same
+  where
+    same : column + 0 ≡ column
+    same = omega arith
+
+pub none_changed : (row column : ℕ) (records : List (Vec (Vec ℕ Global) Global)) (changes : Changes) → changes ≡ []
+    → changes ++ map change_of (fields_left row column 0 records) ≡ map change_of (fields_from row column (all_bytes records))
+none_changed row column records changes e =
+    ap (λ xs. xs ++ map change_of (fields_left row column 0 records)) e ∙ ap (map change_of) (all_fields_left row column records)
+
+pub none_changed_yet : (row column : ℕ) (fields : List (Vec ℕ Global)) (changes : Changes)
+    → changes ++ map change_of (cells_left row column 0 fields) ≡ changes ++ map change_of (fields_of row column (bytes_of fields))
+none_changed_yet row column fields changes = ap (λ fs. changes ++ map change_of fs) (all_cells_left row column fields)
+
+-- behind the last nothing is left
+pub all_records_changed : (row column i : ℕ) (records : List (Vec (Vec ℕ Global) Global)) (changes all : Changes) → length records ≤ i
+    → changes ++ map change_of (fields_left row column i records) ≡ all → changes ≡ all
+all_records_changed row column i records changes all end whole =
+    sym (append-nil changes) ∙ ap (λ rs. changes ++ map change_of (fields_from (row + i) column (all_bytes rs))) (sym (drop_all i records end)) ∙ whole
+
+pub all_fields_changed : (row column j : ℕ) (fields : List (Vec ℕ Global)) (changes all : Changes) → length fields ≤ j
+    → changes ++ map change_of (cells_left row column j fields) ≡ all → changes ≡ all
+all_fields_changed row column j fields changes all end whole =
+    sym (append-nil changes) ∙ ap (λ fs. changes ++ map change_of (fields_of row (column + j) (bytes_of fs))) (sym (drop_all j fields end)) ∙ whole
 
 -- what a field that isn't Empty is taken for is its cell's content
 pub constant_is : (bytes : List ℕ) (v : Value) → field_value bytes ≡ Some v → (v ≡ Empty → ⊥) → Some (Constant v) ≡ content_of bytes

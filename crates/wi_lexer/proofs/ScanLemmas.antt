@@ -1,7 +1,8 @@
 -- What a lexer cuts off is the next token, and the slice of the source at its span.
-use Rattle.std.proofs.Common.{Bool, false, ◌==◌, eq-eqb, ◌≡◌, ◌≢◌, ℕ, ◌+◌, ◌-◌, ◌≤◌, List, [], ◌++◌, length, take, drop, Some, None, sym, ap, ◌∙◌, subst, arith, length-drop}
-use Rattle.std.proofs.lemmas.List.{take-append-drop, drop-drop}
+use Rattle.std.proofs.Common.{Bool, false, true, ◌==◌, eq-eqb, ◌≡◌, ◌≢◌, ℕ, ◌+◌, ◌-◌, ◌≤◌, List, [], ◌++◌, length, take, drop, Some, None, sym, ap, ◌∙◌, subst, arith, length-drop}
+use Rattle.std.proofs.lemmas.List.{take-append-drop, drop-drop, nil_from_length, length-take}
 use Rattle.std.proofs.lemmas.Bool.{true≢false}
+use Rattle.std.proofs.lemmas.Bool.Decides.{nat_tests}
 use Rattle.wi_lexer.specs.declared.token.Kind.{Kind}
 use Rattle.wi_lexer.specs.Runs.{blanks_len}
 use Rattle.wi_lexer.specs.Token.{IsLongest, NoToken}
@@ -35,6 +36,23 @@ tail_is source rest a n short is cut within =
     let size : length a ≡ length rest - n = ap length cut ∙ length-drop n rest in
     let place : length source - length a ≡ length source - length rest + n = omega (arith, size) in
     ap (λ i. drop i source) place ∙ sym (drop-drop n (length source - length rest) source) ∙ ap (λ x. drop n x) is ∙ sym cut
+
+-- what is left of an end of the source n bytes on is an end of the source too
+pub later_end : (source rest a : List ℕ) (n : ℕ) → length rest ≤ length source → drop (length source - length rest) source ≡ rest → a ≡ drop n rest → n ≤ length rest
+    → (length a ≤ length source) × (drop (length source - length a) source ≡ a)
+later_end source rest a n short is cut within =
+    let size : length a ≡ length rest - n = ap length cut ∙ length-drop n rest in
+    (omega (arith, size, short), tail_is source rest a n short is cut within)
+
+-- nothing is left after all bytes
+pub nothing_is : (a nothing : List ℕ) → nothing ≡ drop (length a) a → nothing ≡ []
+nothing_is a nothing cut = let size : length nothing ≡ length a - length a = ap length cut ∙ length-drop (length a) a in nil_from_length nothing (omega (arith, size))
+
+pub within_front : (a front : List ℕ) (n : ℕ) → front ≡ take n a → length front ≡ n → n ≤ length a
+within_front a front n cut size = let least = length-take n a in omega (arith, ap length cut, least, size)
+
+pub no_bytes : (a : List ℕ) (t : Bool) → t ≡ (length a == 0) → t ≡ true → a ≡ []
+no_bytes a t test is = let tested : true ≡ (length a == 0) = sym is ∙ test in nil_from_length a (grind (arith, nat_tests, tested))
 
 pub some_bytes : (old : Scan) (a : List ℕ) (t : Bool) → t ≡ (length a == 0) → t ≡ false → a ≡ ahead old → ahead old ≢ []
 some_bytes old a t test is here empty = true≢false (sym (eq-eqb (length a) 0 (ap length (here ∙ empty))) ∙ sym test ∙ is)

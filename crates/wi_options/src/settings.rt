@@ -1,7 +1,7 @@
 //! What the words ask for.
 
 /// What the program's words ask for.
-#[derive(Clone, Copy, Debug)]
+#[derive(Clone, Copy)]
 pub struct Options<'a> {
     /// The path of a script that is run first, as it was given.
     pub load: Option<&'a str>,

@@ -1,18 +1,21 @@
 -- What is appended to a text that must stay at the front.
-use Rattle.std.proofs.Common.{◌≡◌, refl, ℕ, List, ◌++◌, sym, ap, ◌∙◌, [], ◌∷◌, append_assoc, map, codes, cond, Result, Ok, Err, is_ok, OnOk, subst}
+use Rattle.std.proofs.Common.{◌≡◌, refl, ℕ, List, ◌++◌, sym, ap, ◌∙◌, [], ◌∷◌, append_assoc, map, codes, cond, Result, Ok, Err, is_ok, OnOk, OnErr, append-nil, subst}
 use Rattle.std.proofs.lemmas.List.Concat.{flat_map-append}
 use Rattle.std.specs.List.{flat_map}
 use Rattle.std.specs.Io.{StartsWith}
 pub use Rattle.wi_fraction.proofs.Decimals.{starts_itself, starts_more, starts_trans, starts_with, cut_place}
+use Rattle.wi_lexer.specs.Mark.{mark_text}
 use Rattle.wi_lexer.specs.Reference.{reference_text}
+use Rattle.wi_parser.specs.declared.expr.Expr.{Expr}
+use Rattle.wi_parser.specs.declared.expr.Operator.{Operator}
 use Rattle.wi_parser.specs.declared.expr.Pair.{Pair}
 use Rattle.wi_parser.specs.declared.expr.Reference.{Reference}
 use Rattle.wi_parser.specs.Grammar.{pair_symbols}
 use Rattle.wi_parser.specs.Spelling.{spelling, spelling_of_all, spelling_of_more}
-use Rattle.wi_parser.specs.Tree.{Tree, Trees, what_if, no_trees, more_trees}
-use Rattle.wi_parser.specs.Symbol.{Symbol, close_parenthesis}
-use Rattle.wi_parser.specs.View.{pair_of}
-use Rattle.wi_parser.specs.Printing.{cell_named, symbol_text, symbols_text, tree_text}
+use Rattle.wi_parser.specs.Tree.{Tree, Trees, parenthesized, percent, binary, what_if, no_trees, more_trees}
+use Rattle.wi_parser.specs.Symbol.{Symbol, close_parenthesis, infix_mark, percent_mark}
+use Rattle.wi_parser.specs.View.{tree_of, all_of, pair_of}
+use Rattle.wi_parser.specs.Printing.{cell_named, mark_of, symbol_text, symbols_text, tree_text}
 use Rattle.wi_parser.specs.Inner.PrintedParts.{pairs_text}
 
 -- what a text begins with, a text that is the same begins with
@@ -31,6 +34,11 @@ starts_on o a d more h k = starts_trans a d o k (starts_with a o more h)
 pub starts_still : {E : Type 0} (r : Result (Unit {0}) E) (o d front more : List ℕ) → d ≡ cond (is_ok r) (o ++ more) o → StartsWith o front → StartsWith d front
 starts_still (Ok u) o d front more h k = starts_same (o ++ more) d front h (starts_more o more front k)
 starts_still (Err e) o d front more h k = starts_same o d front h k
+
+-- a part, and where that went well what follows it
+pub after_written : {E : Type 0} (r : Result (Unit {0}) E) (o a d m t : List ℕ) → a ≡ o ++ m → OnOk r (d ≡ a ++ t) → OnOk r (d ≡ o ++ (m ++ t))
+after_written (Ok u) o a d m t h k = k ∙ ap (λ x. x ++ t) h ∙ append_assoc o m t
+after_written (Err e) o a d m t h k = tt
 
 -- the text of symbols and of others after them
 pub symbols_more : (xs ys : List Symbol) → symbols_text (xs ++ ys) ≡ symbols_text xs ++ symbols_text ys
@@ -69,3 +77,46 @@ pub parameter_written : (out sep : List ℕ) (t : Tree) (ts : Trees) → ((out +
 parameter_written out sep t ts =
     ap (λ x. ((out ++ sep) ++ tree_text t) ++ x) (from_other ts)
     ∙ append_assoc (out ++ sep) (tree_text t) (symbols_text (spelling_of_more ts)) ∙ append_assoc out sep (tree_text t ++ symbols_text (spelling_of_more ts))
+
+-- the last parenthesis, after all parameters
+pub parameters_closed : {E : Type 0} (r : Result (Unit {0}) E) (o w d sep all : List ℕ) (es : List Expr)
+    → es ≡ [] → w ++ parameters_from sep (all_of es) ≡ o ++ all → d ≡ cond (is_ok r) (w ++ codes ")") w → OnOk r (d ≡ o ++ all)
+parameters_closed (Ok u) o w d sep all es none h k = k ∙ sym (ap (λ xs. w ++ parameters_from sep (all_of xs)) none) ∙ h
+parameters_closed (Err e) o w d sep all es none h k = tt
+
+-- ---- one expression
+
+-- what is appended whole or not at all
+pub starts_either : {A E : Type 0} (r : Result A E) (o d more : List ℕ) → OnOk r (d ≡ o ++ more) → OnErr r (d ≡ o) → StartsWith d o
+starts_either (Ok a) o d more h k = starts_with d o more h
+starts_either (Err e) o d more h k = starts_kept o d k
+
+-- the text of the tree that an expression stands for is the expression's
+pub tree_written : {E : Type 0} (r : Result (Unit {0}) E) (o d : List ℕ) (e : Expr) (t : Tree) → tree_of e ≡ t → OnOk r (d ≡ o ++ tree_text t) → OnOk r (d ≡ o ++ tree_text (tree_of e))
+tree_written r o d e t same h = subst (λ u. OnOk r (d ≡ o ++ tree_text u)) (sym same) h
+
+-- so it is where the tree has one symbol
+pub symbol_written : {E : Type 0} (r : Result (Unit {0}) E) (o d word : List ℕ) (e : Expr)
+    → OnOk r (d ≡ o ++ word) → tree_text (tree_of e) ≡ word ++ [] → OnOk r (d ≡ o ++ tree_text (tree_of e))
+symbol_written r o d word e h same = subst (λ x. OnOk r (d ≡ o ++ x)) (sym (same ∙ append-nil word)) h
+
+pub binary_written : {E : Type 0} (r : Result (Unit {0}) E) (o a d : List ℕ) (e : Expr) (op : Operator) (t u : Tree)
+    → tree_of e ≡ binary op t u → a ≡ o ++ tree_text t → OnOk r (d ≡ a ++ (mark_text (mark_of op) ++ tree_text u)) → OnOk r (d ≡ o ++ tree_text (tree_of e))
+binary_written (Ok x) o a d e op t u same h k =
+    let more = mark_text (mark_of op) ++ tree_text u in
+    k ∙ ap (λ x. x ++ more) h ∙ append_assoc o (tree_text t) more ∙ ap (λ x. o ++ x) (sym (symbols_more (spelling t) (infix_mark op ∷ spelling u)))
+    ∙ ap (λ v. o ++ tree_text v) (sym same)
+binary_written (Err x) o a d e op t u same h k = tt
+
+pub percent_written : {E : Type 0} (r : Result (Unit {0}) E) (o a d : List ℕ) (t : Tree)
+    → a ≡ o ++ tree_text t → d ≡ cond (is_ok r) (a ++ codes "%") a → OnOk r (d ≡ o ++ tree_text (percent t))
+percent_written (Ok u) o a d t h k =
+    k ∙ ap (λ x. x ++ codes "%") h ∙ append_assoc o (tree_text t) (codes "%") ∙ ap (λ x. o ++ x) (sym (symbols_more (spelling t) (percent_mark ∷ [])))
+percent_written (Err e) o a d t h k = tt
+
+pub parenthesized_written : {E : Type 0} (r : Result (Unit {0}) E) (o a b d : List ℕ) (t : Tree)
+    → a ≡ o ++ codes "(" → b ≡ a ++ tree_text t → d ≡ cond (is_ok r) (b ++ codes ")") b → OnOk r (d ≡ o ++ tree_text (parenthesized t))
+parenthesized_written (Ok u) o a b d t h k l =
+    l ∙ ap (λ x. x ++ codes ")") (k ∙ ap (λ x. x ++ tree_text t) h) ∙ append_assoc (o ++ codes "(") (tree_text t) (codes ")") ∙ append_assoc o (codes "(") (tree_text t ++ codes ")")
+    ∙ ap (λ x. o ++ 40 ∷ x) (sym (symbols_more (spelling t) (close_parenthesis ∷ [])))
+parenthesized_written (Err e) o a b d t h k l = tt

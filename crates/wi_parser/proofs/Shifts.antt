@@ -1,17 +1,27 @@
 -- Trees whose references move.
-use Rattle.std.proofs.Common.{◌≡◌, ℕ, ◌*◌, ◌<◌, pos, ◌+ℤ◌, Bool, true, false, ◌&&◌, nat_lt, if◌then◌else◌, List, [], ◌∷◌, ◌++◌, map, Some, None, is_some, unwrap_or, refl, ap, ap₂, sym, ◌∙◌, arith}
+use Rattle.std.proofs.Common.{◌≡◌, ℕ, ◌*◌, ◌<◌, pos, ◌+ℤ◌, Bool, true, false, ◌&&◌, nat_lt, if◌then◌else◌, List, [], ◌∷◌, ◌++◌, map, Some, None, is_some, unwrap_or, Result, IfOk, Box, Vec, Global, refl, ap, ap₂, sym, subst, ◌∙◌, arith}
 use Rattle.std.specs.List.{list_all, flat_map}
 use Rattle.std.proofs.lemmas.Bool.{and_parts, and_from}
-use Rattle.std.proofs.Math.Bool.{and_assoc}
-use Rattle.std.proofs.lemmas.List.{append-nil}
+use Rattle.std.proofs.Math.Bool.{and-true, and_assoc}
+use Rattle.std.proofs.lemmas.List.{append-nil, map-append}
 use Rattle.std.proofs.lemmas.List.Folds.{list_all-append}
 use Rattle.std.proofs.lemmas.Grind.{flat_map-append}
 use Rattle.std.proofs.lemmas.Bool.Decides.{nat_tests}
 use Rattle.std.proofs.lemmas.Int.{ints}
 use Rattle.wi_values.specs.Address.{columns, rows, place, row_of, column_of}
+use Rattle.wi_fraction.specs.declared.Fraction.{Fraction}
+use Rattle.wi_values.specs.declared.text.Text.{Text}
+use Rattle.wi_parser.specs.declared.expr.Corners.{Corners}
+use Rattle.wi_parser.specs.declared.expr.Expr.{Expr}
+use Rattle.wi_parser.specs.declared.expr.Expr.TheVariants as code
+use Rattle.wi_parser.specs.declared.expr.Operator.{Operator}
+use Rattle.wi_parser.specs.declared.expr.Pair.{Pair}
 use Rattle.wi_parser.specs.declared.expr.Reference.{Reference}
+use Rattle.wi_parser.specs.declared.expr.Sign.{Sign}
+use Rattle.wi_parser.specs.View.{tree_of, all_of, pair_of}
+use Rattle.wi_parser.proofs.ExprTrees.{number_tree, text_tree, cell_tree, rectangle_tree, parenthesized_tree, signed_tree, percent_tree, binary_tree, what_if_tree, call_tree, number_leaves, text_leaves, cell_leaves, rectangle_leaves}
 use Rattle.wi_parser.specs.Tree.{Tree, Trees, number, text, cell, rectangle, parenthesized, signed, percent, binary, what_if, call, no_trees, more_trees, trees_of}
-use Rattle.wi_parser.specs.Leaves.{Leaf, leaves, all_leaves}
+use Rattle.wi_parser.specs.Leaves.{Leaf, what_if_leaf, leaves, all_leaves}
 use Rattle.wi_parser.specs.Symbol.{Symbol}
 use Rattle.wi_parser.specs.Grammar.{Spells, SpellsAll, SpellsMore, a_number, a_text, a_cell, a_rectangle, in_parentheses, one_input, two_inputs, a_call, with_sign, with_percent, tighter, joined, no_parameter, parameters, last_parameter, another_parameter}
 use Rattle.wi_parser.specs.Spelling.{spelling, spelling_of_all, spelling_of_more}
@@ -129,3 +139,99 @@ by_nothing t e =
     let stay = all_pass in_sheet (stays (pos 0) (pos 0)) (λ r i. (reference_kept r i).0) (flat_map leaf_references (leaves t)) e in
     let same = tree_kept in_sheet (moved (pos 0) (pos 0)) (λ r i. (reference_kept r i).1) t e in
     ap₂ (λ b u. if b then Some u else None) stay same
+
+-- ---- whether all references of an expression pass a test
+
+-- both of two tests, of which the second is asked where the first holds
+pub first_holds : (x y b d : Bool) → b ≡ x → b ≡ true → d ≡ y → d ≡ (x && y)
+first_holds x y b d h holds k = k ∙ sym (ap (λ z. z && y) (sym h ∙ holds))
+
+pub first_fails : (x y b : Bool) → b ≡ x → b ≡ false → b ≡ (x && y)
+first_fails x y b h fails = fails ∙ sym (ap (λ z. z && y) (sym h ∙ fails))
+
+pub number_passes : (p : Reference → Bool) (e : Expr) (x : Fraction) → e ≡ code.Number x → true ≡ all_references p (tree_of e)
+number_passes p e x is = ap (λ ls. list_all p (flat_map leaf_references ls)) (sym (number_leaves e x is))
+
+pub text_passes : (p : Reference → Bool) (e : Expr) (s : Text) → e ≡ code.Text s → true ≡ all_references p (tree_of e)
+text_passes p e s is = ap (λ ls. list_all p (flat_map leaf_references ls)) (sym (text_leaves e s is))
+
+pub cell_passes : (p : Reference → Bool) (e : Expr) (r : Reference) → e ≡ code.Cell r → p r ≡ all_references p (tree_of e)
+cell_passes p e r is = sym (and-true (p r)) ∙ ap (λ ls. list_all p (flat_map leaf_references ls)) (sym (cell_leaves e r is))
+
+pub rectangle_passes : (p : Reference → Bool) (e : Expr) (c : Corners) → e ≡ code.Rectangle c → (p c.one && p c.other) ≡ all_references p (tree_of e)
+rectangle_passes p e c is = ap (λ b. p c.one && b) (sym (and-true (p c.other))) ∙ ap (λ ls. list_all p (flat_map leaf_references ls)) (sym (rectangle_leaves e c is))
+
+pub same_pass : (p : Reference → Bool) (ls ks : List Leaf) → ls ≡ ks → list_all p (flat_map leaf_references ls) ≡ list_all p (flat_map leaf_references ks)
+same_pass p ls ks h = ap (λ ms. list_all p (flat_map leaf_references ms)) h
+
+pub what_if_passes : (p : Reference → Bool) (f : Reference) (xs : List (Reference × Reference)) (ls : List Leaf) → ls ≡ what_if_leaf f xs ∷ []
+    → (p f && list_all p (flat_map (λ x. x.0 ∷ x.1 ∷ []) xs)) ≡ list_all p (flat_map leaf_references ls)
+what_if_passes p f xs ls is =
+    ap (λ rs. p f && list_all p rs) (sym (append-nil (flat_map (λ (x : Reference × Reference). x.0 ∷ x.1 ∷ []) xs)))
+    ∙ ap (λ ms. list_all p (flat_map leaf_references ms)) (sym is)
+
+-- ---- the tree of an expression, moved
+
+-- one pair more
+pub pairs_more : (g : Reference → Reference) (all new ps next : List Pair) (p : Pair) (a b : Reference)
+    → new ≡ all ++ record { input = a; replacement = b } ∷ [] → a ≡ g p.input → b ≡ g p.replacement → next ≡ ps ++ p ∷ []
+    → map pair_of all ≡ map (λ q. (g q.0, g q.1)) (map pair_of ps) → map pair_of new ≡ map (λ q. (g q.0, g q.1)) (map pair_of next)
+pairs_more g all new ps next p a b h one other n done =
+    let f : Reference × Reference → Reference × Reference = λ q. (g q.0, g q.1) in
+    let pair : Reference → Reference → Reference × Reference = λ r s. (r, s) in
+    ap (map pair_of) h ∙ map-append pair_of all _ ∙ ap (λ xs. xs ++ pair a b ∷ []) done
+    ∙ ap₂ (λ (r s : Reference). map f (map pair_of ps) ++ pair r s ∷ []) one other
+    ∙ sym (ap (λ xs. map f (map pair_of xs)) n ∙ ap (map f) (map-append pair_of ps (p ∷ [])) ∙ map-append f (map pair_of ps) (pair_of p ∷ []))
+
+pub number_moved : (f : Reference → Reference) (e : Expr) (x : Fraction) → e ≡ code.Number x → tree_of (code.Number x) ≡ map_references f (tree_of e)
+number_moved f e x is = number_tree x ∙ sym (ap (map_references f) (ap tree_of is ∙ number_tree x))
+
+pub text_moved : {E : Type 0} (r : Result Expr E) (f : Reference → Reference) (e : Expr) (s : Text) → e ≡ code.Text s
+    → IfOk r (λ x. tree_of x ≡ text s) → IfOk r (λ x. tree_of x ≡ map_references f (tree_of e))
+text_moved r f e s is h = subst (λ t. IfOk r (λ x. tree_of x ≡ t)) (sym (ap (map_references f) (ap tree_of is ∙ text_tree s))) h
+
+pub cell_moved : (f : Reference → Reference) (e : Expr) (r s : Reference) → e ≡ code.Cell r → s ≡ f r → tree_of (code.Cell s) ≡ map_references f (tree_of e)
+cell_moved f e r s is h = cell_tree s ∙ ap cell h ∙ sym (ap (map_references f) (ap tree_of is ∙ cell_tree r))
+
+pub rectangle_moved : (f : Reference → Reference) (e : Expr) (c : Corners) (r s : Reference) → e ≡ code.Rectangle c → r ≡ f c.one → s ≡ f c.other
+    → tree_of (code.Rectangle (record { one = r; other = s })) ≡ map_references f (tree_of e)
+rectangle_moved f e c r s is h k =
+    rectangle_tree _ ∙ ap₂ (λ a b. rectangle (record { one = a; other = b })) h k ∙ sym (ap (map_references f) (ap tree_of is ∙ rectangle_tree c))
+
+-- a part that was moved
+pub part_moved : (g f : Reference → Reference) (d t : Expr) (u : Tree) → g ≡ f → d ≡ t → u ≡ map_references g (tree_of d) → u ≡ map_references f (tree_of t)
+part_moved g f d t u same is h = h ∙ ap (λ k. map_references k (tree_of d)) same ∙ ap (λ x. map_references f (tree_of x)) is
+
+pub parenthesized_moved : (f : Reference → Reference) (e : Expr) (t u : Box Expr Global) → e ≡ code.Parenthesized t
+    → tree_of u.value ≡ map_references f (tree_of t.value) → tree_of (code.Parenthesized u) ≡ map_references f (tree_of e)
+parenthesized_moved f e t u is h = parenthesized_tree u ∙ ap parenthesized h ∙ sym (ap (map_references f) (ap tree_of is ∙ parenthesized_tree t))
+
+pub signed_moved : (f : Reference → Reference) (e : Expr) (s : Sign) (t u : Box Expr Global) → e ≡ code.Signed s t
+    → tree_of u.value ≡ map_references f (tree_of t.value) → tree_of (code.Signed s u) ≡ map_references f (tree_of e)
+signed_moved f e s t u is h = signed_tree s u ∙ ap (signed s) h ∙ sym (ap (map_references f) (ap tree_of is ∙ signed_tree s t))
+
+pub percent_moved : (f : Reference → Reference) (e : Expr) (t u : Box Expr Global) → e ≡ code.Percent t
+    → tree_of u.value ≡ map_references f (tree_of t.value) → tree_of (code.Percent u) ≡ map_references f (tree_of e)
+percent_moved f e t u is h = percent_tree u ∙ ap percent h ∙ sym (ap (map_references f) (ap tree_of is ∙ percent_tree t))
+
+pub binary_moved : (f : Reference → Reference) (e : Expr) (op : Operator) (t v u w : Box Expr Global) → e ≡ code.Binary op t v
+    → tree_of u.value ≡ map_references f (tree_of t.value) → tree_of w.value ≡ map_references f (tree_of v.value) → tree_of (code.Binary op u w) ≡ map_references f (tree_of e)
+binary_moved f e op t v u w is h k = binary_tree op u w ∙ ap₂ (binary op) h k ∙ sym (ap (map_references f) (ap tree_of is ∙ binary_tree op t v))
+
+pub what_if_moved : {E : Type 0} (r : Result Expr E) (g f : Reference → Reference) (e : Expr) (a : Reference) (v : Vec Pair Global) (ps : List Pair)
+    → e ≡ code.WhatIf a v → ps ≡ v.items → g ≡ f → IfOk r (λ x. tree_of x ≡ what_if (g a) (map (λ q. (g q.0, g q.1)) (map pair_of ps)))
+    → IfOk r (λ x. tree_of x ≡ map_references f (tree_of e))
+what_if_moved r g f e a v ps is pairs same h =
+    let there : map_references g (what_if a (map pair_of ps)) ≡ map_references f (tree_of e) =
+    ap (λ k. map_references k (what_if a (map pair_of ps))) same ∙ ap (λ xs. map_references f (what_if a (map pair_of xs))) pairs
+    ∙ sym (ap (map_references f) (ap tree_of is ∙ what_if_tree a v)) in
+    subst (λ t. IfOk r (λ x. tree_of x ≡ t)) there h
+
+pub call_moved : {E : Type 0} (r : Result Expr E) (g f : Reference → Reference) (e : Expr) (n : Text) (v : Vec Expr Global) (es ds : List Expr)
+    → e ≡ code.Call n v → es ≡ v.items → g ≡ f → all_of ds ≡ map_references_in g (all_of es) → IfOk r (λ x. tree_of x ≡ call n (all_of ds))
+    → IfOk r (λ x. tree_of x ≡ map_references f (tree_of e))
+call_moved r g f e n v es ds is parts same k h =
+    let there : call n (all_of ds) ≡ map_references f (tree_of e) =
+    ap (call n) k ∙ ap (λ j. map_references j (call n (all_of es))) same ∙ ap (λ xs. map_references f (call n (all_of xs))) parts
+    ∙ sym (ap (map_references f) (ap tree_of is ∙ call_tree n v)) in
+    subst (λ t. IfOk r (λ x. tree_of x ≡ t)) there h

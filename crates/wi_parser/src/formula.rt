@@ -139,7 +139,6 @@ impl Formula {
     /// Appends the formula's text: `=` and its tokens without white space, names and columns in capitals, parentheses
     /// and `$` as written, numbers as decimals. It can be longer than a formula's text may be. On an error the text is
     /// as before.
-    #[tactic(auto, using(crate::proofs::FormulaTrees::printed_spells, crate::proofs::FormulaTrees::printed_again))]
     pub fn print(&self, out: &mut String) -> Result<(), AllocError>
         ensures ok { OnOk result (string_bytes out.new ≡ string_bytes out.old ++ printed self.now) }
         ensures err { OnErr result (string_bytes out.new ≡ string_bytes out.old) }
@@ -159,7 +158,6 @@ impl Formula {
 
 // Appends the inputs of a tree's what-ifs, and the rectangles that it reads.
 #[cycle(leaves)]
-#[tactic(auto, using(crate::proofs::Appended::both_appended))]
 fn push_leaves(
     expr: &Expr,
     inputs: &mut Vec<Address>,

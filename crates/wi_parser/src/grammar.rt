@@ -102,7 +102,6 @@ impl<F: Fn(Global, &mut Symbols<'_>, usize) -> Result<Expr, ParseFault>> Grammar
     }
 
     // A number, a text, a cell, a rectangle, an expression in parentheses, a what-if, or a call.
-    #[tactic(auto, unfolding(crate::specs::Inner::Reader::atom))]
     fn atom(&self, symbols: &mut Symbols<'_>) -> Result<Expr, ParseFault>
         requires { Nests self.now.depth (F.pre self.now.expression) (F.post self.now.expression) }
         ensures finds { Finds (reader.atom (reader.expression self.now.depth) symbols.old)

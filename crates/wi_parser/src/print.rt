@@ -22,7 +22,6 @@ use wi_fraction::Fraction;
 use wi_values::Text;
 
 /// Appends the text of a formula with this tree. On an error a part of it may be there.
-#[tactic(auto, using(crate::proofs::PrintLemmas::starts_trans))]
 pub fn push_formula(expr: &Expr, out: &mut String) -> Result<(), AllocError>
     ensures ok { OnOk result (string_bytes out.new ≡ string_bytes out.old ++ printed (tree_of expr.now)) }
     ensures kept { StartsWith (string_bytes out.new) (string_bytes out.old) }
@@ -33,7 +32,6 @@ pub fn push_formula(expr: &Expr, out: &mut String) -> Result<(), AllocError>
 
 // Appends the text of a tree. On an error a part of it may be there.
 #[cycle(print)]
-#[tactic(auto, using(crate::proofs::PrintLemmas::starts_trans))]
 fn push_tree(expr: &Expr, out: &mut String) -> Result<(), AllocError>
     ensures ok { OnOk result (string_bytes out.new ≡ string_bytes out.old ++ tree_text (tree_of expr.now)) }
     ensures kept { StartsWith (string_bytes out.new) (string_bytes out.old) }
@@ -57,7 +55,6 @@ fn push_tree(expr: &Expr, out: &mut String) -> Result<(), AllocError>
 
 // Appends a tree in parentheses. On an error a part of it may be there.
 #[cycle(print)]
-#[tactic(auto, using(crate::proofs::PrintLemmas::starts_trans, crate::proofs::PrintLemmas::starts_more))]
 fn push_parenthesized(inner: &Expr, out: &mut String) -> Result<(), AllocError>
     ensures ok { OnOk result (string_bytes out.new ≡ string_bytes out.old ++ tree_text (tree.parenthesized (tree_of inner.now))) }
     ensures kept { StartsWith (string_bytes out.new) (string_bytes out.old) }
@@ -69,7 +66,6 @@ fn push_parenthesized(inner: &Expr, out: &mut String) -> Result<(), AllocError>
 
 // Appends a sign and its operand. On an error a part of them may be there.
 #[cycle(print)]
-#[tactic(auto, using(crate::proofs::PrintLemmas::starts_trans))]
 fn push_signed(sign: Sign, operand: &Expr, out: &mut String) -> Result<(), AllocError>
     ensures ok { OnOk result (string_bytes out.new ≡ string_bytes out.old ++ tree_text (tree.signed sign (tree_of operand.now))) }
     ensures kept { StartsWith (string_bytes out.new) (string_bytes out.old) }
@@ -80,7 +76,6 @@ fn push_signed(sign: Sign, operand: &Expr, out: &mut String) -> Result<(), Alloc
 
 // Appends an operand and its percent mark. On an error a part of them may be there.
 #[cycle(print)]
-#[tactic(auto, using(crate::proofs::PrintLemmas::starts_more, crate::proofs::PrintLemmas::symbols_more))]
 fn push_percent(operand: &Expr, out: &mut String) -> Result<(), AllocError>
     ensures ok { OnOk result (string_bytes out.new ≡ string_bytes out.old ++ tree_text (tree.percent (tree_of operand.now))) }
     ensures kept { StartsWith (string_bytes out.new) (string_bytes out.old) }
@@ -91,7 +86,6 @@ fn push_percent(operand: &Expr, out: &mut String) -> Result<(), AllocError>
 
 // Appends an operator and the operand after it. On an error a part of them may be there.
 #[cycle(print)]
-#[tactic(auto, using(crate::proofs::PrintLemmas::starts_trans))]
 fn push_operation(op: Operator, operand: &Expr, out: &mut String) -> Result<(), AllocError>
     ensures ok { OnOk result (string_bytes out.new ≡ string_bytes out.old ++ (mark_text (spec.mark_of op) ++ tree_text (tree_of operand.now))) }
     ensures kept { StartsWith (string_bytes out.new) (string_bytes out.old) }
@@ -102,7 +96,6 @@ fn push_operation(op: Operator, operand: &Expr, out: &mut String) -> Result<(), 
 
 // Appends a call. On an error a part of it may be there.
 #[cycle(print)]
-#[tactic(auto, using(crate::proofs::PrintLemmas::starts_trans, crate::proofs::PrintLemmas::starts_more))]
 fn push_call(name: &Text, parameters: &[Expr], out: &mut String) -> Result<(), AllocError>
     ensures ok { OnOk result (string_bytes out.new ≡ string_bytes out.old ++ tree_text (tree.call name.now (all_of parameters.now))) }
     ensures kept { StartsWith (string_bytes out.new) (string_bytes out.old) }
@@ -114,7 +107,6 @@ fn push_call(name: &Text, parameters: &[Expr], out: &mut String) -> Result<(), A
 
 // Appends parameters and the parenthesis that closes. On an error a part of them may be there.
 #[cycle(print)]
-#[tactic(auto, using(crate::proofs::PrintLemmas::starts_trans, crate::proofs::PrintLemmas::starts_more, crate::proofs::PrintLemmas::starts_itself))]
 fn push_parameters(parameters: &[Expr], out: &mut String) -> Result<(), AllocError>
     ensures ok { OnOk result (string_bytes out.new ≡ string_bytes out.old ++ symbols_text (spelling_of_all (all_of parameters.now))) }
     ensures kept { StartsWith (string_bytes out.new) (string_bytes out.old) }
@@ -129,7 +121,6 @@ fn push_parameters(parameters: &[Expr], out: &mut String) -> Result<(), AllocErr
 }
 
 // Appends a text in double quotes, a quote inside doubled. On an error a part of it may be there.
-#[tactic(auto, using(crate::proofs::PrintLemmas::starts_trans, crate::proofs::PrintLemmas::starts_more))]
 fn push_quoted(content: &str, out: &mut String) -> Result<(), AllocError>
     ensures ok { OnOk result (string_bytes out.new ≡ string_bytes out.old ++ quoted content.now) }
     ensures kept { StartsWith (string_bytes out.new) (string_bytes out.old) }
@@ -193,7 +184,6 @@ fn push_cell(at: Reference, out: &mut String) -> Result<(), AllocError>
 }
 
 // Appends a what-if. On an error a part of it may be there.
-#[tactic(auto, using(crate::proofs::PrintLemmas::starts_trans, crate::proofs::PrintLemmas::starts_more))]
 fn push_what_if(formula_cell: Reference, pairs: &[Pair], out: &mut String) -> Result<(), AllocError>
     ensures ok { OnOk result (string_bytes out.new ≡ string_bytes out.old ++ tree_text (tree.what_if formula_cell (map pair_of pairs.now))) }
     ensures kept { StartsWith (string_bytes out.new) (string_bytes out.old) }

@@ -44,7 +44,6 @@ impl<T: Drop> From<AllocFailed<T>> for ShiftFault {
 
 /// Whether the relative parts of all references stay in the sheet where they move by so many rows and columns.
 #[cycle(staying)]
-#[tactic(auto, using(crate::proofs::Shifts::both_pass))]
 pub fn all_stay(expr: &Expr, rows: i64, columns: i64) -> bool
     ensures { result ≡ shift.all_references (shift.stays rows columns) (tree_of expr.now) }
 {

@@ -48,3 +48,10 @@ shown_evaluations s w put a n m o e h =
 pub nothing_found : (s : Sheet) (order : List ℕ) (q : OneQuestion) (Has : List Case → Type 0) (weight : Case → ℕ) (n m : ℕ) → q ≡ remembered s order [] → CountsAtMost s Has weight (question_state q).found n m →
     CountsAtMost s Has weight (λ c p. false) n m
 nothing_found s order q Has weight n m e h = subst (λ (x : OneQuestion). CountsAtMost s Has weight (question_state x).found n m) e h
+
+-- counts that stay or grow
+pub grown_count : (n k : ℕ) → n ≤ n + k
+grown_count n k = omega arith
+
+pub same_count : (n : ℕ) → n ≤ n
+same_count n = omega arith

@@ -43,6 +43,15 @@ module _ (s : Sheet) (f : ℕ) (pairs : List (ℕ × ℕ)) (cells : List ℕ) (n
         covered = λ h. ap (λ (y : OneQuestion). is_one_of y.cells c) e ∙ roots c (ap (λ (xs : List ℕ). is_one_of xs c) named ∙ read) h;
       }
 
+  -- and so may its formula cell
+  pub formula_cell_readable : (order : List ℕ) (q : OneQuestion) → q ≡ remembered s order [] → ((c : ℕ) → is_one_of cells c ≡ true → has_formula (content_of s c) ≡ true → is_one_of order c ≡ true) → MayBeRead s (question_state q) f
+  formula_cell_readable order q e roots =
+      let read = or_left (f == f) (is_one_of (map (λ p. p.1) pairs) f) (eq-eqb f f refl) in
+      record {
+        open_cell = (cells_open s f pairs (test_of_cells s f pairs cells named ∙ clear)).0;
+        covered = λ h. ap (λ (y : OneQuestion). is_one_of y.cells f) e ∙ roots f (ap (λ (xs : List ℕ). is_one_of xs f) named ∙ read) h;
+      }
+
   pub entry_value : (w put : List Replacement) (v : Value) → IsInOrder put → w ≡ put → v ≡ zero_for_empty (cell_value (put_all s (with_what_if s w pairs)) f) → v ≡ table_entry s put f pairs
   entry_value w put v o e is =
       is ∙ ap (λ (p : List Replacement). zero_for_empty (cell_value (put_all s (with_what_if s p pairs)) f)) e

@@ -1,5 +1,5 @@
 -- Laws of the pieces at a block, and of the readers among them.
-use Rattle.std.proofs.Common.{◌≡◌, ℕ, nat_eq, Bool, true, false, not, ◌&&◌, ◌||◌, cond, List, [], ◌∷◌, filter, refl, sym, ap, subst, ◌∙◌, arith}
+use Rattle.std.proofs.Common.{◌≡◌, ℕ, nat_eq, Bool, true, false, not, ◌&&◌, ◌||◌, cond, List, [], ◌∷◌, length, ◌<◌, ◌==◌, filter, refl, sym, ap, subst, ◌∙◌, arith}
 use Rattle.std.specs.Bool.{⊤}
 use Rattle.std.specs.Ordering.{nat_cmp, ordering_then, is_eq, is_le}
 use Rattle.std.specs.declared.cmp.Ordering.{Ordering}
@@ -13,10 +13,12 @@ use Rattle.std.proofs.lemmas.Bool.{true≢false, and_parts, and_from}
 use Rattle.std.proofs.lemmas.Bool.Decides.{nat_tests}
 use Rattle.std.proofs.lemmas.Map.Keys.{sorted_head, sorted_tail}
 use Rattle.std.proofs.Math.Bool.{or-false, or_assoc}
+use Rattle.wi_values.proofs.Order.{turn_test}
+use Rattle.wi_values.specs.Address.{is_within}
 use Rattle.wi_ranges.specs.declared.block.Block.{Block}
 use Rattle.wi_ranges.specs.declared.pair.RangePair.{RangePair}
 use Rattle.wi_ranges.specs.declared.pair.Numbered.{Numbered}
-use Rattle.wi_ranges.specs.Bag.{pair_cmp, lowest_pair}
+use Rattle.wi_ranges.specs.Bag.{pair_area, pair_cmp, lowest_pair}
 use Rattle.wi_ranges.specs.Inner.Index.{block_cmp, numbered_cmp, lowest, Piece, piece_cmp, is_among, piece_reads, reads_at}
 
 -- ---- which pieces come from a block on, and before the next
@@ -143,3 +145,35 @@ found_to_block x a r q qs rest all ks old new f e n w h =
     found x a r rest all ks old new f
     (ap (λ (us : List Piece). list_any (reads_at (x ∷ []) a r) us) e ∙ ap (λ b. ((b || false) && piece_reads a r q) || list_any (reads_at (x ∷ []) a r) qs) apart
     ∙ (subst (AreFirst x) e w).0 apart a r) h
+
+-- ---- one piece passed
+
+pub fewer_left : (q : Piece) (qs rest : List Piece) → rest ≡ q ∷ qs → length qs < length rest
+fewer_left q qs rest e = omega (arith, ap length e)
+
+pub first_left : (x : Block) (q : Piece) (qs rest : List Piece) → rest ≡ q ∷ qs → AreFirst x rest → AreFirst x qs
+first_left x q qs rest e w = (subst (AreFirst x) e w).1
+
+none_of_both : (b c : Bool) → (b && (false && c)) ≡ false
+none_of_both true c = refl
+none_of_both false c = refl
+
+-- a piece whose pair doesn't have the cell
+pub found_no_more : (x : Block) (a r : ℕ) (q : Piece) (qs rest : List Piece) (now all : Bool) → rest ≡ q ∷ qs → false ≡ is_within (pair_area q.1.pair) a
+    → (now || list_any (reads_at (x ∷ []) a r) rest) ≡ all → (now || list_any (reads_at (x ∷ []) a r) qs) ≡ all
+found_no_more x a r q qs rest now all e n h =
+    ap (λ b. now || (b || list_any (reads_at (x ∷ []) a r) qs)) (sym (ap (λ b. (is_at (block_cmp x) q.0 || false) && (b && (q.1.pair.reader == r))) (sym n) ∙ none_of_both (is_at (block_cmp x) q.0 || false) (q.1.pair.reader == r)))
+    ∙ ap (λ (us : List Piece). now || list_any (reads_at (x ∷ []) a r) us) (sym e) ∙ h
+
+here : (x y : Block) → false ≡ not (nat_eq y.level x.level && nat_eq y.first x.first) → is_at (block_cmp x) y ≡ true
+here x y h = grind (arith, nat_tests)
+
+-- a piece at the block, whose pair has the cell
+pub found_one_more : (x : Block) (a r : ℕ) (q : Piece) (qs rest : List Piece) (now new all : Bool) → rest ≡ q ∷ qs
+    → false ≡ not (nat_eq q.0.level x.level && nat_eq q.0.first x.first) → true ≡ is_within (pair_area q.1.pair) a → new ≡ (now || r == q.1.pair.reader)
+    → (now || list_any (reads_at (x ∷ []) a r) rest) ≡ all → (new || list_any (reads_at (x ∷ []) a r) qs) ≡ all
+found_one_more x a r q qs rest now new all e w i n h =
+    ap (λ b. b || list_any (reads_at (x ∷ []) a r) qs) (n ∙ ap (λ b. now || b) (turn_test r q.1.pair.reader)) ∙ or_assoc now (q.1.pair.reader == r) _
+    ∙ ap (λ b. now || (((b || false) && (true && (q.1.pair.reader == r))) || list_any (reads_at (x ∷ []) a r) qs)) (sym (here x q.0 w))
+    ∙ ap (λ b. now || (((is_at (block_cmp x) q.0 || false) && (b && (q.1.pair.reader == r))) || list_any (reads_at (x ∷ []) a r) qs)) i
+    ∙ ap (λ (us : List Piece). now || list_any (reads_at (x ∷ []) a r) us) (sym e) ∙ h

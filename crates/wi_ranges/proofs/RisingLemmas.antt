@@ -15,6 +15,7 @@ use Rattle.std.proofs.lemmas.Map.Views.{btree_set_contains_iff}
 use Rattle.std.proofs.lemmas.Bool.{true≢false, or_right, cases_lt, ltb-true, false_from_ne_true}
 use Rattle.std.proofs.lemmas.Bool.Decides.{nat_tests}
 use Rattle.std.proofs.lemmas.List.Folds.{list_any-append}
+use Rattle.std.proofs.Math.Bool.{or-false}
 use Rattle.std.proofs.lemmas.List.Sorted.{searched, Contains-permutation, IsPermutation-sym}
 use Rattle.std.proofs.lemmas.Map.Keys.{sorted_head, sorted_tail, sorted_from_strictly_increasing, IsStrictlyIncreasing-from_sorted, non_decreasing_from_sorted}
 use Rattle.wi_values.proofs.Order.{cmp_before, below_from_Less, less_from_both, at_earlier, at_same, is_at-eq, turn_test}
@@ -100,6 +101,32 @@ none_before : (xs : List ℕ) (x : ℕ) → AllByRecursion (λ y. nat_cmp y x �
 none_before [] x h = refl
 none_before (y ∷ ys) x h = ap (λ b. b || has_cell ys x) (at_earlier x y (below_from_Less y x h.0)) ∙ none_before ys x h.1
 
+-- a set of these cells
+abbrev pub as_set : List ℕ → BTreeSet ℕ
+as_set ks = record { keys = ks }
+
+pub same_rising : (xs ys os : List ℕ) (set : BTreeSet ℕ) → ys ≡ xs → as_set (xs ++ os) ≡ set → as_set (ys ++ os) ≡ set
+same_rising xs ys os set e h = ap (λ (ks : List ℕ). as_set (ks ++ os)) e ∙ h
+
+pub same_others : (xs os ps : List ℕ) (set : BTreeSet ℕ) → ps ≡ os → as_set (xs ++ os) ≡ set → as_set (xs ++ ps) ≡ set
+same_others xs os ps set e h = ap (λ (ks : List ℕ). as_set (xs ++ ks)) e ∙ h
+
+pub has_behind : (xs more os : List ℕ) (set : BTreeSet ℕ) (x : ℕ) → as_set (xs ++ os) ≡ set → more ≡ xs ++ x ∷ []
+    → (c : ℕ) → has_cell (more ++ os) c ≡ (contains nat_cmp set c || c == x)
+has_behind xs more os set x is m c =
+    ap (λ (ys : List ℕ). has_cell (ys ++ os) c) m ∙ list_any-append (λ y. is_at (nat_cmp c) y) (xs ++ x ∷ []) os
+    ∙ ap (λ b. b || has_cell os c) (list_any-append (λ y. is_at (nat_cmp c) y) xs (x ∷ []))
+    ∙ ap (λ b. (has_cell xs c || (b || false)) || has_cell os c) (is_at-eq c x)
+    ∙ by (has_cell xs c) (c == x) (has_cell os c)
+    ∙ ap (λ b. b || c == x) (sym (list_any-append (λ y. is_at (nat_cmp c) y) xs os) ∙ ap (λ (s : BTreeSet ℕ). contains nat_cmp s c) is)
+  where
+    by : (a b d : Bool) → ((a || (b || false)) || d) ≡ ((a || d) || b)
+    by true b d = refl
+    by false true true = refl
+    by false true false = refl
+    by false false true = refl
+    by false false false = refl
+
 pub new_behind : (xs os : List ℕ) (set : BTreeSet ℕ) (x : ℕ) → StandApart xs os → true ≡ ends_before xs x → set.keys ≡ xs ++ os → true ≡ not (contains nat_cmp set x)
 new_behind xs os set x s e is =
     sym (ap not (ap (λ (ks : List ℕ). has_cell ks x) is ∙ list_any-append (λ y. is_at (nat_cmp x) y) xs os
@@ -131,6 +158,21 @@ has_more xs os new old x is g c =
     by false true false = refl
     by false false true = refl
     by false false false = refl
+
+pub has_already : (xs os : List ℕ) (set : BTreeSet ℕ) (x : ℕ) → as_set (xs ++ os) ≡ set → true ≡ has_cell xs x → contains nat_cmp set x ≡ true
+has_already xs os set x is h =
+    ap (λ (s : BTreeSet ℕ). contains nat_cmp s x) (sym is) ∙ list_any-append (λ y. is_at (nat_cmp x) y) xs os ∙ ap (λ b. b || has_cell os x) (sym h)
+
+pub has_no_more : (set : BTreeSet ℕ) (x : ℕ) → contains nat_cmp set x ≡ true → (c : ℕ) → contains nat_cmp set c ≡ (contains nat_cmp set c || c == x)
+has_no_more set x h c = by (c == x) refl
+  where
+    by : (b : Bool) → (c == x) ≡ b → contains nat_cmp set c ≡ (contains nat_cmp set c || b)
+    by true e = let has = ap (λ (y : ℕ). contains nat_cmp set y) (at_same x c (is_at-eq x c ∙ turn_test x c ∙ e)) ∙ h in has ∙ sym (or_right (contains nat_cmp set c) true refl)
+    by false e = sym (or-false (contains nat_cmp set c))
+
+pub new_among_others : (xs os : List ℕ) (set : BTreeSet ℕ) (x : ℕ) → as_set (xs ++ os) ≡ set → false ≡ has_cell xs x → has_cell os x ≡ contains nat_cmp set x
+new_among_others xs os set x is h =
+    ap (λ b. b || has_cell os x) h ∙ sym (list_any-append (λ y. is_at (nat_cmp x) y) xs os) ∙ ap (λ (s : BTreeSet ℕ). contains nat_cmp s x) is
 
 -- ---- all cells in one list
 

@@ -225,3 +225,9 @@ keys_of_copies f (c ∷ cells) = ap (λ (xs : List ℕ). c ∷ xs) (keys_of_copi
 -- the cells that get them
 pub copied_cells : (content : Option Content) (from : ℕ) (cells : List ℕ) (contents : List (ℕ × Option Content)) → AreCopies content from cells contents → keys_of contents ≡ cells
 copied_cells content from cells contents h = ap keys_of h.each ∙ keys_of_copies (λ to. or_nothing (copy_to content from to)) cells
+
+-- a copy for which memory lacks
+pub lacks_copy : (found : Option (Option Content)) (r : Result (Option Content) ShiftFault) → IsErrAnd r (λ e. e ≡ shift.Memory) → CopiesAs found r
+lacks_copy found r k =
+    let p = err_from_is_err_and r k in
+    subst (CopiesAs found) (sym p.1) (subst (λ (e : ShiftFault). CopiesAs found (Err e)) (sym p.2) tt)

@@ -1,6 +1,6 @@
 -- What commands about scenarios answer.
 use Rattle.std.proofs.Common.{◌≡◌, ◌↔◌, ℕ, Bool, true, false, not, ◌||◌, List, [], ◌∷◌, length, Option, Some, None, Result, Ok, Err, refl, sym, ap, ◌∙◌, subst, arith}
-use Rattle.std.specs.Prelude.{IsErrOf, is_some}
+use Rattle.std.specs.Prelude.{IsErrOf, OnErr, is_some}
 use Rattle.std.specs.Result.{IsErrAnd}
 use Rattle.std.proofs.lemmas.Result.{err_from_is_err_and}
 use Rattle.wi_values.specs.declared.value.Value.{Value}
@@ -156,3 +156,8 @@ use_done s name e = ap (λ (b : Bool). answer (record no_cause { no_scenario = b
 
 pub use_missing : (s : State) (name : Option (List ℕ)) → lacks s.scenarios name ≡ true → use_step s name ≡ Err NoScenario
 use_missing s name e = ap (λ (b : Bool). answer (record no_cause { no_scenario = b }) (used s name, [])) e
+
+-- what holds in any case holds at an error
+pub on_error : {X E A : Type 0} (r : Result X E) → A → OnErr r A
+on_error (Ok x) h = tt
+on_error (Err e) h = h

@@ -79,6 +79,13 @@ fault (Text t) e h = cc
 fault (Logical b) e h = cc
 fault (Fault d) e h = cc
 
+pub no_fault : (w : Value) → ((e : ErrorKind) → w ≡ Fault e → ⊥) → no_error w ≡ Ok w
+no_fault Empty h = refl
+no_fault (Number x) h = refl
+no_fault (Text t) h = refl
+no_fault (Logical b) h = refl
+no_fault (Fault e) h = absurd (h e refl)
+
 -- what is sought, where what isn't given is 0 at once
 pub sought_or_zero : (args : List Argument) (i : ℕ) → and_then (λ v. Ok (sought_for v)) (no_error (value_at args i)) ≡ and_then (λ v. Ok (sought_for v)) (no_error (value_or (Number zero_number) args i))
 sought_or_zero args i = at (slice_get args i)

@@ -1,8 +1,11 @@
 //! All sessions.
 
-ghost use Rattle.std.specs.Prelude.{◌≡◌, ◌≢◌, ◌<◌, ◌||◌, ◌&&◌, ◌++◌, ◌∷◌, ℕ, List, not, length, [], IfOk, IfSome, OnOk, OnErr, string_bytes};
+ghost use Rattle.std.specs.Prelude.{◌≡◌, ◌≢◌, ◌<◌, ◌||◌, ◌&&◌, ◌++◌, ◌∷◌, ℕ, List, not, length, false, [], IfOk, IfSome, OnOk, OnErr, string_bytes};
 ghost use Rattle.std.specs.Option.{is_some, option_map};
 ghost use Rattle.std.specs.List.{slice_set};
+ghost use Rattle.std.specs.Map.{lookup};
+ghost use Rattle.std.specs.Rc.{rc_str_bytes};
+ghost use Rattle.std.specs.Str.{bytes_eq};
 ghost use Rattle.wi_sessions.specs.Pictures.Laws.{is_listed};
 ghost use Rattle.wi_sessions.specs.Sessions.{new_session, told, using_scenario, has_session, place_of};
 ghost use Rattle.wi_sessions.specs.Roster.{session_at, pending_of, vacant_of, SameCells};
@@ -69,10 +72,9 @@ impl Sessions {
         if self.held.contains_key(name) {
             return Err(AllocError);
         }
-        let held = Held::new(self.alloc, cells)?;
         let name = RcStr::from_str(self.alloc, name)?;
-        self.held.insert(name, held)?;
-        Ok(())
+        let held = Held::new(self.alloc, cells)?;
+        add(&mut self.held, name, held)
     }
 
     /// How many sessions there are.
@@ -212,6 +214,16 @@ impl Sessions {
     {
         &self.held[i]
     }
+}
+
+// Adds a session at the end, under a name that none has. If memory runs out, all is as before.
+fn add(sessions: &mut SessionMap, name: RcStr, held: Held) -> Result<(), AllocError>
+    requires { is_some (lookup (λ k. bytes_eq (rc_str_bytes name) (rc_str_bytes k)) sessions.old.entries) ≡ false }
+    ensures added { OnOk result (sessions.new.entries ≡ sessions.old.entries ++ (name, held) ∷ []) }
+    ensures refused { OnErr result (sessions.new.entries ≡ sessions.old.entries) }
+{
+    sessions.insert(name, held)?;
+    Ok(())
 }
 
 // The cells for which there is room are pending now.

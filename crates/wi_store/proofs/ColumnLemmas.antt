@@ -1,17 +1,19 @@
 -- Laws of the order by columns.
-use Rattle.std.proofs.Common.{◌≡◌, ◌⊎◌, ℕ, ◌+◌, ◌*◌, ◌<◌, ◌≤◌, ◌&&◌, Bool, true, false, cond, List, Option, Some, None, IfSome, refl, sym, ap, ◌∙◌, subst, arith, ⊎_elim}
+use Rattle.std.proofs.Common.{◌≡◌, ◌⊎◌, ℕ, ◌+◌, ◌*◌, ◌<◌, ◌≤◌, ◌&&◌, Bool, true, false, cond, List, [], ◌∷◌, Option, Some, None, IfSome, refl, sym, ap, ◌∙◌, subst, arith, ⊎_elim}
 use Rattle.std.specs.Prelude.{nat_lt, nat_le}
-use Rattle.std.specs.Ordering.{nat_cmp}
+use Rattle.std.specs.List.{slice_get}
+use Rattle.std.specs.Ordering.{nat_cmp, is_lt}
 use Rattle.std.specs.BTreeMap.{is_at}
 use Rattle.std.specs.BTreeMap.Range.{IsLeBy}
-use Rattle.std.specs.BTreeSet.{BTreeSet, contains, IsKeyRangeOf}
+use Rattle.std.specs.BTreeSet.{BTreeSet, contains, IsKeyInRange, IsKeyRangeOf}
 use Rattle.std.specs.declared.ops.Bound.TheVariants.{Included, Unbounded}
-use Rattle.std.proofs.lemmas.Bool.{true≢false, cases_eq, and_parts, and_from, le-leb, leb-true, lt-ltb, le-ltb}
+use Rattle.std.proofs.lemmas.Bool.{true≢false, cases_eq, cases_order, and_parts, and_from, le-leb, leb-true, lt-ltb, le-ltb}
 use Rattle.std.proofs.Math.Arith.{lt_of_le-ne}
 use Rattle.std.proofs.lemmas.Bool.Decides.{nat_tests}
 use Rattle.wi_values.specs.Address.{Area, rows, columns, place, row_of, column_of, is_within}
 use Rattle.wi_store.specs.declared.columns.Columns.{Columns}
-use Rattle.wi_store.specs.Inner.Columns.{near_columns, turned, DiffersAt, IsInColumn, IsAheadIn, IsFoundBy}
+use Rattle.wi_store.specs.Inner.Columns.{near_columns, turned, DiffersAt, IsInColumn, IsPlaceIn, IsAheadIn, IsFoundBy}
+use Rattle.wi_store.specs.Store.{is_ahead}
 
 -- ---- one cell put in or taken out
 
@@ -80,6 +82,61 @@ IsOrderFrom order start r = IsKeyRangeOf nat_cmp (Included start) Unbounded orde
 pub turned-cell : (column row : ℕ) → column < columns → turned (place row column) ≡ column * rows + row
 turned-cell column row l = omega (arith, l)
 
+-- no cell of the column is there if nothing is from its first place on
+pub none_in_column : (order : BTreeSet ℕ) (r : List ℕ) (column from to start : ℕ) → start ≡ column * rows + from → IsOrderFrom order start r → r ≡ [] → (c : ℕ) → IsPlaceIn order column from to c → ⊥
+none_in_column order r column from to start s k e c h =
+    let none = k.5 e (turned c) (le_by start (turned c) (omega (arith, s, h.0, h.1)), tt) in
+    let z = sym h.3 ∙ none in cc
+
+-- each cell of the column comes at the first place found or after it
+pub from_first : (order : BTreeSet ℕ) (r rest : List ℕ) (p column from to start : ℕ) → start ≡ column * rows + from → IsOrderFrom order start r → r ≡ p ∷ rest
+    → (c : ℕ) → IsPlaceIn order column from to c → p ≤ turned c
+from_first order r rest p column from to start s k e c h =
+    by_le p (turned c)
+    (subst (λ (xs : List ℕ). IfSome (slice_get xs 0) (λ (q : ℕ). IsLeBy nat_cmp q (turned c))) e (k.2 (turned c) (le_by start (turned c) (omega (arith, s, h.0, h.1)), tt) h.3))
+
+-- so none is there if that place is beyond the last of the column
+pub none_up_to : (order : BTreeSet ℕ) (r rest : List ℕ) (p column from to start : ℕ) → start ≡ column * rows + from → IsOrderFrom order start r → r ≡ p ∷ rest
+    → column * rows + to < p → (c : ℕ) → IsPlaceIn order column from to c → ⊥
+none_up_to order r rest p column from to start s k e l c h = let first = from_first order r rest p column from to start s k e c h in omega (arith, first, l, h.0, h.2)
+
+pub first_there : (order : BTreeSet ℕ) (r rest : List ℕ) (p start : ℕ) → IsOrderFrom order start r → r ≡ p ∷ rest → (start ≤ p) × (contains nat_cmp order p ≡ true)
+first_there order r rest p start k e =
+    let there = subst (λ (xs : List ℕ). IfSome (slice_get xs 0) (IsKeyInRange nat_cmp (Included start) Unbounded order)) e k.1 in
+    (by_le start p there.0.0, there.1)
+
+-- the cell of the first place is of the column
+pub cell_there : (order : BTreeSet ℕ) (r rest : List ℕ) (p at column row from to start : ℕ) → start ≡ column * rows + from → IsOrderFrom order start r → r ≡ p ∷ rest
+    → column < columns → to < rows → p ≡ column * rows + row → row ≤ to → at ≡ place row column → IsPlaceIn order column from to at
+cell_there order r rest p at column row from to start s k e l m i n a =
+    let there = first_there order r rest p start k e in
+    let in_row : row_of at ≡ row = omega (arith, a, l) in (
+      omega (arith, a, l),
+      omega (arith, in_row, there.0, s, i),
+      omega (arith, in_row, n),
+      subst (λ (q : ℕ). contains nat_cmp order q ≡ true) (i ∙ sym (ap turned a ∙ turned-cell column row l)) there.1,
+    )
+
+-- and no other of the column comes before it
+pub cell_first : (order : BTreeSet ℕ) (r rest : List ℕ) (p at column row from to start : ℕ) → start ≡ column * rows + from → IsOrderFrom order start r → r ≡ p ∷ rest
+    → p ≡ column * rows + row → at ≡ place row column → (c : ℕ) → IsPlaceIn order column from to c → at ≤ c
+cell_first order r rest p at column row from to start s k e i a c h =
+    let first = from_first order r rest p column from to start s k e c h in omega (arith, first, i, a, h.0)
+
+-- ---- the earlier of two cells
+
+pub earlier_cell : (a b : ℕ) → is_lt (nat_cmp a b) ≡ true → a < b
+earlier_cell a b h = grind (arith, nat_tests)
+
+pub no_earlier_cell : (a b : ℕ) → is_lt (nat_cmp a b) ≡ false → b ≤ a
+no_earlier_cell a b h = grind (arith, nat_tests)
+
+pub found_at : (o : Option ℕ) (d c : ℕ) → o ≡ Some d → IsFoundBy o c → d ≤ c
+found_at o d c e h = subst (λ (x : Option ℕ). IsFoundBy x c) e h
+
+pub none_found : (o : Option ℕ) (c : ℕ) → o ≡ None → IsFoundBy o c → ⊥
+none_found o c e h = subst (λ (x : Option ℕ). IsFoundBy x c) e h
+
 -- ---- one column after another
 
 -- what a cell of a rectangle tells of its row and its column
@@ -92,6 +149,34 @@ sides r a h =
 
 inside : (r : Area) (a : ℕ) → row_of r.first ≤ row_of a → row_of a ≤ row_of r.last → column_of r.first ≤ column_of a → column_of a ≤ column_of r.last → is_within r a ≡ true
 inside r a i j k l = and_from _ _ (and_from _ _ (le-leb _ _ i) (le-leb _ _ j)) (and_from _ _ (le-leb _ _ k) (le-leb _ _ l))
+
+pub ahead_by : (r : Area) (next a : ℕ) → is_within r a ≡ true → next ≤ a → is_ahead r (Some next) a ≡ true
+ahead_by r next a w l = and_from _ _ (le-leb next a l) w
+
+-- what comes in the rectangle after a cell left of it comes at or after the first column of that row
+pub ahead_left : (r : Area) (at next a : ℕ) → next ≡ place (row_of at) (column_of r.first) → is_within r a ≡ true → at ≤ a → is_ahead r (Some next) a ≡ true
+ahead_left r at next a e w l = let s = sides r a w in ahead_by r next a w (omega (arith, e, s.2, l))
+
+-- what comes in the rectangle after a cell beside it, not left of it, comes in a later row
+pub later_row : (r : Area) (at a : ℕ) → is_within r at ≡ false → column_of r.first ≤ column_of at → is_within r a ≡ true → at ≤ a → row_of at < row_of a
+later_row r at a beside right w l =
+    let s = sides r a w in
+    ⊎_elim (λ p. absurd (let z = inside r at (omega (arith, s.0, p)) (omega (arith, s.1, p)) right (omega (arith, s.3, p, l)) in cc))
+    (⊎_elim (λ m. m) (λ m. absurd (omega (arith, m, l))))
+    (cases_order (row_of at) (row_of a))
+
+pub ahead_below : (r : Area) (at next a : ℕ) → is_within r at ≡ false → column_of r.first ≤ column_of at → next ≡ place (row_of at + 1) (column_of r.first) → is_within r a ≡ true → at ≤ a
+    → is_ahead r (Some next) a ≡ true
+ahead_below r at next a beside right e w l =
+    let s = sides r a w in
+    let later = later_row r at a beside right w l in
+    ahead_by r next a w (omega (arith, e, s.2, later))
+
+pub ahead_not : (r : Area) (at a : ℕ) → is_within r at ≡ false → column_of r.first ≤ column_of at → row_of r.last ≤ row_of at → is_within r a ≡ true → at ≤ a → is_ahead r None a ≡ true
+ahead_not r at a beside right low w l =
+    let s = sides r a w in
+    let later = later_row r at a beside right w l in
+    absurd (omega (arith, s.1, later, low))
 
 -- the first cell ahead in the columns before one
 pub record IsFirstBefore (order : Columns) (r : Area) (from column : ℕ) (first : Option ℕ) : Type 0 where

@@ -4,11 +4,12 @@ use Rattle.std.specs.Prelude.{nat_le, option_map}
 use Rattle.std.specs.Borrow.{Bor}
 use Rattle.std.specs.Option.{option_flatten}
 use Rattle.wi_parser.specs.declared.content.Content.{Content}
-use Rattle.std.specs.List.{find}
+use Rattle.std.specs.List.{find, slice_get}
 use Rattle.std.specs.Map.{keys_of}
 use Rattle.std.specs.Ordering.{nat_cmp}
 use Rattle.std.specs.declared.ops.Bound.TheVariants.{Included, Unbounded}
-use Rattle.std.specs.BTreeMap.Range.{range_contains, entries_between}
+use Rattle.std.specs.BTreeMap.{BTreeMap}
+use Rattle.std.specs.BTreeMap.Range.{range_contains, entries_between, IsRangeOf, IsEntryInRange}
 use Rattle.std.proofs.Math.Bool.{and-false, and-true}
 use Rattle.std.proofs.lemmas.Bool.Decides.{nat_tests}
 use Rattle.std.proofs.lemmas.Bool.{and_parts, and_from, false_from_ne_true, le-leb, leb-true}
@@ -107,6 +108,11 @@ first_from from (e ∷ es) = at (starts_by from e.0) (starts_by-is from e.0) (fi
         first_cell (cond b (e ∷ range_from from es) (range_from from es)) ≡ cond (nat_le from e.0) (Some e.0) (find (nat_le from) (keys_of es))
     at true h ih = ap (λ (b : Bool). cond b (Some e.0) (find (nat_le from) (keys_of es))) h
     at false h ih = ih ∙ ap (λ (b : Bool). cond b (Some e.0) (find (nat_le from) (keys_of es))) h
+
+-- the first room of a range is the cell's
+pub room_first : (from : ℕ) (rooms : BTreeMap ℕ (Option Content)) (c : ℕ) (o : Option Content) (es rest : Rooms) → IsRangeOf nat_cmp (Included from) Unbounded rooms es → es ≡ (c, o) ∷ rest → room_of rooms.entries c ≡ Some o
+room_first from rooms c o es rest h e =
+    (subst (λ (xs : Rooms). IfSome (slice_get xs 0) (IsEntryInRange nat_cmp (Included from) Unbounded rooms)) e h.1).1
 
 narrower : (from to a : ℕ) → nat_le from a ≡ false → spans from to a ≡ false
 narrower from to a h = ap (λ (b : Bool). b && nat_le a to) h

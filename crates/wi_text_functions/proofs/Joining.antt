@@ -1,14 +1,18 @@
 -- Texts one after another, and one text many times.
-use Rattle.std.proofs.Common.{◌≡◌, refl, sym, ap, ◌∙◌, ℕ, suc, zero, ◌+◌, ◌*◌, ◌≤◌, ◌<◌, List, [], ◌∷◌, ◌++◌, length, arith}
+use Rattle.std.proofs.Common.{◌≡◌, refl, sym, ap, subst, ◌∙◌, ℕ, suc, zero, ◌+◌, ◌*◌, ◌≤◌, ◌<◌, List, [], ◌∷◌, ◌++◌, drop, get_or, length, arith}
 use Rattle.std.proofs.lemmas.Bool.{le-leb, lt-leb}
 use Rattle.std.proofs.Math.Nat.{sub-add-min_cancel, mul-le-mul_right}
 use Rattle.wi_values.specs.declared.value.ErrorKind.TheVariants.{BadValue}
 use Rattle.std.specs.Prelude.{min, ◌^◌, ◌-◌, Result, Ok, Err}
 use Rattle.std.specs.List.{concat, repeat}
-use Rattle.std.proofs.lemmas.List.{append_assoc, append-nil, length-append}
+use Rattle.std.proofs.lemmas.List.{append_assoc, append-nil, length-append, drop_more, drop_all}
 use Rattle.wi_standard_functions.specs.Arithmetic.{limited_text}
 use Rattle.wi_standard_functions.specs.Convert.{to_text}
 use Rattle.wi_standard_functions.specs.Steps.{◌>>=◌, and_then, map_until_error}
+use Rattle.wi_text_functions.specs.Inner.Gives.{Agrees, Gives}
+use Rattle.wi_text_functions.specs.declared.stop.Stop.{Stop}
+use Rattle.wi_text_functions.specs.declared.stop.Stop.TheVariants.{Error, Memory}
+use Rattle.wi_values.specs.Value.{shown_text}
 use Rattle.wi_values.specs.declared.value.ErrorKind.{ErrorKind}
 use Rattle.wi_values.specs.declared.value.Value.{Value}
 use Rattle.wi_values.specs.declared.value.Value.TheVariants.{Text, Fault}
@@ -29,6 +33,27 @@ join_next front t v vs e = ap (λ r. joined_to front (and_then (λ y. and_then (
 
 pub join_stops : (front : List ℕ) (v : Value) (vs : List Value) (e : ErrorKind) → to_text v ≡ Err e → joined_to front (map_until_error to_text (v ∷ vs)) ≡ Fault e
 join_stops front v vs e h = ap (λ r. joined_to front (and_then (λ y. and_then (λ ys. Ok (y ∷ ys)) (map_until_error to_text vs)) r)) h
+
+-- the next of the values, and those behind it
+left_to_join : (front : List ℕ) (vs : List Value) (i : ℕ) (v : Value) → i < length vs → v ≡ get_or vs i v
+    → joined_to front (map_until_error to_text (drop i vs)) ≡ joined_to front (map_until_error to_text (v ∷ drop (i + 1) vs))
+left_to_join front vs i v l e =
+    ap (λ (xs : List Value). joined_to front (map_until_error to_text xs)) (drop_more vs i v l ∙ ap (λ (w : Value). w ∷ drop (i + 1) vs) (sym e))
+
+pub joined_more : (front more : List ℕ) (vs : List Value) (i : ℕ) (v all : Value) → i < length vs → v ≡ get_or vs i v → to_text v ≡ Ok (shown_text v) → more ≡ front ++ shown_text v
+    → joined_to front (map_until_error to_text (drop i vs)) ≡ all → joined_to more (map_until_error to_text (drop (i + 1) vs)) ≡ all
+joined_more front more vs i v all l e t m h =
+    ap (λ (us : List ℕ). joined_to us (map_until_error to_text (drop (i + 1) vs))) m
+    ∙ sym (left_to_join front vs i v l e ∙ join_next front (shown_text v) v (drop (i + 1) vs) t) ∙ h
+
+pub joined_all : (front : List ℕ) (vs : List Value) (i : ℕ) (all : Value) → length vs ≤ i → joined_to front (map_until_error to_text (drop i vs)) ≡ all → limited_text front ≡ all
+joined_all front vs i all l h = sym (join_none front) ∙ ap (λ (xs : List Value). joined_to front (map_until_error to_text xs)) (sym (drop_all i vs l)) ∙ h
+
+pub joined_stops : (front : List ℕ) (vs : List Value) (i : ℕ) (v all : Value) (stop end : Stop) → i < length vs → v ≡ get_or vs i v → Agrees (λ (_ : Unit {0}). shown_text v) (Err stop) (to_text v) → end ≡ stop
+    → joined_to front (map_until_error to_text (drop i vs)) ≡ all → Gives (Err end) all
+joined_stops front vs i v all (Error k) end l e t s h =
+    subst (λ (x : Stop). Gives (Err x) all) (sym s) (sym (join_stops front v (drop (i + 1) vs) k t) ∙ sym (left_to_join front vs i v l e) ∙ h)
+joined_stops front vs i v all (Memory m) end l e t s h = subst (λ (x : Stop). Gives (Err x) all) (sym s) tt
 
 pub length-repeat : (n : ℕ) (t : List ℕ) → length (repeat n t) ≡ n * length t
 length-repeat zero t = omega arith

@@ -1,5 +1,5 @@
 -- Replacements in order, their entries, and what their entries tell.
-use Rattle.std.proofs.Common.{◌≡◌, ℕ, Bool, true, false, cond, List, [], ◌∷◌, map, Some, None, refl, sym, ap, ◌∙◌, subst, ⊎_elim}
+use Rattle.std.proofs.Common.{◌≡◌, ℕ, Bool, true, false, cond, List, [], ◌∷◌, ◌++◌, map, Some, None, refl, sym, ap, ◌∙◌, subst, append-nil, append_assoc, ⊎_elim}
 use Rattle.std.specs.Ordering.{nat_cmp}
 use Rattle.std.specs.declared.cmp.Ordering.TheVariants.{Less}
 use Rattle.std.specs.List.{AllByRecursion}
@@ -7,6 +7,7 @@ use Rattle.std.specs.List.Sorted.{IsStrictlySortedBy, IsStrictlyIncreasing}
 use Rattle.std.specs.Map.{keys_of}
 use Rattle.std.specs.BTreeMap.{is_at}
 use Rattle.std.proofs.lemmas.Bool.{cases_order}
+use Rattle.std.proofs.lemmas.List.{map-append}
 use Rattle.std.proofs.lemmas.Map.Keys.{sorted_head, sorted_tail, sorted_from_strictly_increasing, IsStrictlyIncreasing-from_sorted}
 use Rattle.wi_values.specs.declared.value.Value.{Value}
 use Rattle.wi_values.specs.declared.replacement.Replacement.{Replacement}
@@ -84,3 +85,18 @@ one_from_replaced (r ∷ vs) (s ∷ ws) p q h =
 -- two worlds that have the same for each address are one
 pub same_from_replaced : (v w : List Replacement) → IsInOrder v → IsInOrder w → ((a : ℕ) → replaced v a ≡ replaced w a) → v ≡ w
 same_from_replaced v w p q h = one_from_replaced v w (sorted_from_order v p) (sorted_from_order w q) h
+
+-- ---- entries taken one after another
+
+-- one more is taken, and fewer are left
+pub one_more_taken : (rs new : List Replacement) (r : Replacement) (left rest whole : List (ℕ × Value)) → new ≡ rs ++ r ∷ [] → left ≡ (r.at, r.value) ∷ rest
+    → as_map rs ++ left ≡ whole → as_map new ++ rest ≡ whole
+one_more_taken rs new r left rest whole e l h =
+    ap (λ (xs : List Replacement). as_map xs ++ rest) e
+    ∙ ap (λ (xs : List (ℕ × Value)). xs ++ rest) (map-append (λ (x : Replacement). (x.at, x.value)) rs (r ∷ []))
+    ∙ append_assoc (as_map rs) ((r.at, r.value) ∷ []) rest
+    ∙ ap (λ (xs : List (ℕ × Value)). as_map rs ++ xs) (sym l) ∙ h
+
+-- at the end nothing is left
+pub all_taken : (es rest whole : List (ℕ × Value)) → rest ≡ [] → es ++ rest ≡ whole → es ≡ whole
+all_taken es rest whole e h = sym (append-nil es) ∙ ap (λ (r : List (ℕ × Value)). es ++ r) (sym e) ∙ h

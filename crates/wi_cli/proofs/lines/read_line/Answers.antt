@@ -8,8 +8,8 @@ loop-byte-preserved g c =
     record {
       within = went_on _ _ _ _ _ _ c.loop-byte.line.items _ c.loop-byte.byte _ old.within c.loop-byte-test.true (c.keep.ensures.kept old.within.content old.within.kept)
           (rw c.in-Ok-Some-next_byte.field-0-is at c.in-Ok-Some-next_byte.ensures.byte);
-      works = search rules;
-      room = search rules;
+      works = c.in-Ok-Some-next_byte.ensures.failed;
+      room = c.keep.ensures.room;
       may = old.may;
     }
 
@@ -22,11 +22,10 @@ returns-in-Ok-None-next_byte-clause-took g c =
 pub returns-in-Err-next_byte-clause-took : goal.returns-in-Err-next_byte-clause-took
 returns-in-Err-next_byte-clause-took g c =
     let old = c.loop-byte.invariant in
-    let broke = failed _ _ _ _ _ _ c.loop-byte.line.items c.loop-byte.byte c.args.allowed old.within c.loop-byte-test.true old.may c.in-Err-next_byte.ensures.empty c.in-Err-next_byte.ensures.err in
-    search rules
+    failed _ _ _ _ _ _ c.loop-byte.line.items c.loop-byte.byte c.args.allowed old.within c.loop-byte-test.true old.may c.in-Err-next_byte.ensures.empty c.in-Err-next_byte.ensures.err
 
 pub returns-in-Err-next_byte-clause-works : goal.returns-in-Err-next_byte-clause-works
-returns-in-Err-next_byte-clause-works g c = search rules
+returns-in-Err-next_byte-clause-works g c = tt
 
 pub returns-in-Ok-None-clause-took : goal.returns-in-Ok-None-clause-took
 returns-in-Ok-None-clause-took g c =
@@ -37,7 +36,7 @@ pub loop-byte-init : goal.loop-byte-init
 loop-byte-init g c =
     record {
       within = begun _ _ _ _ _ c.in-Ok-Some.first c.clear.ensures.items (rw c.in-Ok-Some.field-0-is at c.in-Ok-Some.ensures.byte);
-      works = search rules;
+      works = c.in-Ok-Some.ensures.failed;
       room = search rules;
       may = search rules;
     }

@@ -3,7 +3,7 @@ use Rattle.csv.specs.Reading.{Reached, default_config, strip_bom}
 use Rattle.csv.specs.Records.{fields_of}
 use Rattle.csv.specs.declared.parser.State.TheVariants as st
 use Rattle.csv.proofs.ReadFacts.{rows-end, rows-more}
-use Rattle.wi_csv.proofs.Copied.{one_more}
+use Rattle.wi_csv.proofs.Copied.{read_and}
 use Rattle.wi_csv.proofs.Counted.{all_read}
 use Rattle.wi_csv.proofs.reading.records.Goals as goal
 
@@ -30,13 +30,14 @@ pub loop-row-preserved : goal.loop-row-preserved
 loop-row-preserved c =
     let (trim, ready, left, config, flexible, y, source, reached) = c.loop-row.invariant in
     let all = c.next.ensures.steps left trim in
-    let read = rw (c.in-Some.is, c.in_ok-row.was) at (all.0 ready) in
-    let same = rw (c.in-Some.is, c.in_ok-row.was) at all.3 in
+    let (row, is, copied) = read_and c.in-Some.row _ c.in_ok-push_copy.ensures in
+    let read = rw (c.in-Some.is, is) at (all.0 ready) in
+    let same = rw (c.in-Some.is, is) at all.3 in
     let rem : Bor (List ℕ) → _ = λ s. Some s.now in
     let text = strip_bom c.args.bytes.now in
     let old = c.loop-row.row-iterator.rdr in
     let new = c.next.new.self.rdr in
-    let fields = fields_of c.in_ok-row.field-0 in
+    let fields = fields_of row in
     let rows = map (λ fields. map (λ f. f.items) fields.items) c.loop-row.rows.items in
     let (z, rest, more) = rows-more rem old new fields default_config st.StartRecord text y rows config source reached read.0 in (
       read.0.3 ∙ trim,
@@ -47,7 +48,7 @@ loop-row-preserved c =
       z,
       rest,
       subst (λ rs. Reached default_config st.StartRecord text rs new.state z)
-          (one_more (λ fields. map (λ f. f.items) fields.items) c.loop-row.rows.items c.push.new.self.items c.in_ok-copied_fields.field-0 fields c.in_ok-push.ensures.items c.in_ok-copied_fields.ensures) more,
+          (sym copied) more,
     )
 
 pub returns : goal.returns

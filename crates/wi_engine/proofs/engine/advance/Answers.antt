@@ -5,6 +5,10 @@ use Rattle.wi_engine.specs.Inner.MemoState.{MemoState, IsMemoOf}
 use Rattle.wi_engine.specs.Inner.Frames.{IsFrame, spare}
 use Rattle.wi_engine.proofs.engine.Settling.{frame_waits, spare_falls, round_counted, want_counted, round_smaller}
 use Rattle.wi_engine.proofs.engine.FoundSettled.{round_settled, done_settled, settled_again}
+use Rattle.wi_cache.specs.declared.key.Key.{Key}
+use Rattle.wi_parser.specs.Sheet.{put_all}
+use Rattle.wi_sheet.specs.CellValue.{cell_value}
+use Rattle.wi_engine.specs.Inner.Frames.{IsNext}
 use Rattle.wi_engine.proofs.engine.advance.Goals as goal
 
 pub returns-in_err-wait_for-in-Needs-clause-err_restarts : goal.returns-in_err-wait_for-in-Needs-clause-err_restarts
@@ -152,3 +156,20 @@ returns-in_err-value-clause-counts g c = never_fall-then _ _ _ c.rounds.invarian
 
 pub returns-in_err-wait_for-in-Needs-clause-counts : goal.returns-in_err-wait_for-in-Needs-clause-counts
 returns-in_err-wait_for-in-Needs-clause-counts g c = never_fall-then _ _ _ c.rounds.invariant.counts c.attempt.ensures.counts
+
+pub returns-in-Done-clause-done : goal.returns-in-Done-clause-done
+returns-in-Done-clause-done g c =
+    let done = rw c.in-Done.is at c.in_ok-value.ensures.done in
+    done ∙ ap (λ (k : Key). cell_value (put_all c.args.store.now.sheet k.world) k.cell) (c.in_ok-first.ensures.key ∙ c.rounds.invariant.key)
+
+pub returns-in-Done-clause-counts : goal.returns-in-Done-clause-counts
+returns-in-Done-clause-counts g c = never_fall-then _ _ _ c.rounds.invariant.counts c.attempt.ensures.counts
+
+pub returns-in-Some-2-clause-next : goal.returns-in-Some-2-clause-next
+returns-in-Some-2-clause-next g c =
+    let s = c.args.store.now.sheet in
+    let next = subst (λ (x : MemoState). IsNext s x c.rounds.frame.key c.in-Some-2.first.key) c.rounds.invariant.same (rw c.in-Some-2.is at c.in_ok-first.ensures.next) in
+    subst (λ (k : Key). IsNext s (g.M.Memo.state c.args.memo.now) k c.in-Some-2.first.key) c.rounds.invariant.key next
+
+pub returns-in-Some-2-clause-formula : goal.returns-in-Some-2-clause-formula
+returns-in-Some-2-clause-formula g c = rw c.in-Some-2.is at c.in_ok-first.ensures.formula

@@ -1,7 +1,8 @@
-use Rattle.std.proofs.Common.{◌≡◌, ◌≤◌, ◌+◌, ◌∙◌, true, [], ap, refl, inl, arith, rules, subst, sym}
+use Rattle.std.proofs.Common.{◌≡◌, ◌≤◌, ◌+◌, ◌∙◌, ℕ, true, List, [], ◌∷◌, length, ap, refl, inl, arith, subst, sym}
 use Rattle.wi_engine.proofs.engine.Settling.{one_more_at_most}
 use Rattle.wi_sheet.specs.Demand.{Case}
 use Rattle.wi_sheet.proofs.Counting.{never_fall-then}
+use Rattle.wi_engine.specs.declared.frame.Frame.{Frame}
 use Rattle.wi_engine.specs.Inner.Frames.{case_at, spare}
 use Rattle.wi_engine.specs.Inner.MemoState.{MemoState, IsMemoOf}
 use Rattle.wi_engine.specs.Inner.Saving.{TakesPlaces}
@@ -9,6 +10,11 @@ use Rattle.wi_engine.proofs.engine.Running.{IsNew, Keeps, run_start, run_push, p
 use Rattle.wi_engine.proofs.engine.Saving.{Takes, saving_start, saving_push, saving_pop, saving_kept, saving_take, saving_end, settled_end, takes_more, push_takes, saving_counts, saving_restarts}
 use Rattle.wi_engine.proofs.Saved.{gives_up_none, gives_up_then}
 use Rattle.wi_engine.proofs.engine.run.Goals as goal
+
+-- a stack of no frames
+no_frames : (fs : List Frame) (n : ℕ) → n ≡ length fs → n ≡ 0 → fs ≡ []
+no_frames [] n e z = refl
+no_frames (f ∷ fs) n e z = absurd (omega (arith, e, z))
 
 pub frames-init : goal.frames-init
 frames-init g c =
@@ -150,7 +156,7 @@ returns-in-None-clause-saves g c =
     let restarts : c.advance.new.meter.restarts ≤ c.frames.meter.restarts + spare c.args.store.now.sheet c.frames.frame = omega (arith, a.restarts) in
     let takes : Takes (g.M.Memo.state c.advance.new.memo) (g.M.Memo.state c.keep.new.self) c.retire-root.result = record { kept = k.kept; room = k.room; places = k.one_place } in
     saving_end c.args.store.now.sheet (g.M.Memo.state c.args.memo.now) (g.M.Memo.state c.frames.memo) (g.M.Memo.state c.advance.new.memo) (g.M.Memo.state c.keep.new.self) (case_at c.args.key) c.args.meter.now c.frames.meter c.advance.new.meter
-    c.frames.stack.items c.frames.frame c.retire-root.result c.frames.invariant a.same (search rules) (c.retire-root.ensures ∙ a.key) k.found takes counted restarts (rw c.in-Done.is at a.rests)
+    c.frames.stack.items c.frames.frame c.retire-root.result c.frames.invariant a.same (no_frames c.frames.stack.items c.frames.stack.len c.frames.stack.ok.0 c.in-None.ensures.cases.0) (c.retire-root.ensures ∙ a.key) k.found takes counted restarts (rw c.in-Done.is at a.rests)
 
 pub returns-in-None-clause-settled : goal.returns-in-None-clause-settled
 returns-in-None-clause-settled g c =
@@ -158,7 +164,7 @@ returns-in-None-clause-settled g c =
     let a = c.in_ok-next.ensures in
     let takes : Takes (g.M.Memo.state c.advance.new.memo) (g.M.Memo.state c.keep.new.self) c.retire-root.result = record { kept = k.kept; room = k.room; places = k.one_place } in
     settled_end c.args.store.now.sheet (g.M.Memo.state c.args.memo.now) (g.M.Memo.state c.frames.memo) (g.M.Memo.state c.advance.new.memo) (g.M.Memo.state c.keep.new.self) c.args.key c.args.meter.now c.frames.meter
-    c.frames.stack.items c.frames.frame c.retire-root.result c.frames.invariant a.same (search rules) (c.retire-root.ensures ∙ a.key) k.found takes
+    c.frames.stack.items c.frames.frame c.retire-root.result c.frames.invariant a.same (no_frames c.frames.stack.items c.frames.stack.len c.frames.stack.ok.0 c.in-None.ensures.cases.0) (c.retire-root.ensures ∙ a.key) k.found takes
 
 pub returns-in_err-push-in-Needs-clause-evaluations : goal.returns-in_err-push-in-Needs-clause-evaluations
 returns-in_err-push-in-Needs-clause-evaluations g c =
@@ -243,12 +249,12 @@ returns-in-None-clause-unkept_restarts g c =
 pub returns-in-None-clause-evaluations_ok : goal.returns-in-None-clause-evaluations_ok
 returns-in-None-clause-evaluations_ok g c =
     let counted = rw c.in-Done.is at c.in_ok-next.ensures.evaluations in
-    end_evaluations c.args.store.now.sheet (g.M.Memo.state c.args.memo.now) (g.M.Memo.state c.frames.memo) (g.M.Memo.state c.advance.new.memo) (g.M.Memo.state c.keep.new.self) (case_at c.args.key) c.args.meter.now c.frames.meter c.advance.new.meter c.frames.stack.items c.frames.frame c.retire-root.result c.frames.invariant.running c.in_ok-next.ensures.same (search rules) (c.retire-root.ensures ∙ c.in_ok-next.ensures.key) c.in_ok-keep-in-None.ensures.found counted
+    end_evaluations c.args.store.now.sheet (g.M.Memo.state c.args.memo.now) (g.M.Memo.state c.frames.memo) (g.M.Memo.state c.advance.new.memo) (g.M.Memo.state c.keep.new.self) (case_at c.args.key) c.args.meter.now c.frames.meter c.advance.new.meter c.frames.stack.items c.frames.frame c.retire-root.result c.frames.invariant.running c.in_ok-next.ensures.same (no_frames c.frames.stack.items c.frames.stack.len c.frames.stack.ok.0 c.in-None.ensures.cases.0) (c.retire-root.ensures ∙ c.in_ok-next.ensures.key) c.in_ok-keep-in-None.ensures.found counted
 
 pub returns-in-None-clause-restarts_ok : goal.returns-in-None-clause-restarts_ok
 returns-in-None-clause-restarts_ok g c =
     let restarts : c.advance.new.meter.restarts ≤ c.frames.meter.restarts + spare c.args.store.now.sheet c.frames.frame = omega (arith, c.in_ok-next.ensures.restarts) in
-    end_restarts c.args.store.now.sheet (g.M.Memo.state c.args.memo.now) (g.M.Memo.state c.frames.memo) (g.M.Memo.state c.advance.new.memo) (g.M.Memo.state c.keep.new.self) (case_at c.args.key) c.args.meter.now c.frames.meter c.advance.new.meter c.frames.stack.items c.frames.frame c.retire-root.result c.frames.invariant.running c.in_ok-next.ensures.same (search rules) (c.retire-root.ensures ∙ c.in_ok-next.ensures.key) c.in_ok-keep-in-None.ensures.found restarts
+    end_restarts c.args.store.now.sheet (g.M.Memo.state c.args.memo.now) (g.M.Memo.state c.frames.memo) (g.M.Memo.state c.advance.new.memo) (g.M.Memo.state c.keep.new.self) (case_at c.args.key) c.args.meter.now c.frames.meter c.advance.new.meter c.frames.stack.items c.frames.frame c.retire-root.result c.frames.invariant.running c.in_ok-next.ensures.same (no_frames c.frames.stack.items c.frames.stack.len c.frames.stack.ok.0 c.in-None.ensures.cases.0) (c.retire-root.ensures ∙ c.in_ok-next.ensures.key) c.in_ok-keep-in-None.ensures.found restarts
 
 pub returns-in_err-shown-in-None-clause-evaluations : goal.returns-in_err-shown-in-None-clause-evaluations
 returns-in_err-shown-in-None-clause-evaluations g c =
@@ -504,12 +510,12 @@ keep-requires-in-Some-clause-right g c =
 pub returns-in-None-clause-value : goal.returns-in-None-clause-value
 returns-in-None-clause-value g c =
     let value = rw c.in-Done.is at c.in_ok-next.ensures.done in
-    run_value c.args.store.now.sheet (g.M.Memo.state c.args.memo.now) (g.M.Memo.state c.frames.memo) c.args.key c.args.meter.now c.frames.meter c.frames.stack.items c.frames.frame c.in_ok-shown-in-None.shown c.frames.invariant.running (search rules) (c.in_ok-shown-in-None.ensures ∙ value)
+    run_value c.args.store.now.sheet (g.M.Memo.state c.args.memo.now) (g.M.Memo.state c.frames.memo) c.args.key c.args.meter.now c.frames.meter c.frames.stack.items c.frames.frame c.in_ok-shown-in-None.shown c.frames.invariant.running (no_frames c.frames.stack.items c.frames.stack.len c.frames.stack.ok.0 c.in-None.ensures.cases.0) (c.in_ok-shown-in-None.ensures ∙ value)
 
 pub returns-in-None-clause-kept : goal.returns-in-None-clause-kept
 returns-in-None-clause-kept g c =
     let a = c.in_ok-next.ensures in
-    let empty : c.frames.stack.items ≡ [] = search rules in
+    let empty = no_frames c.frames.stack.items c.frames.stack.len c.frames.stack.ok.0 c.in-None.ensures.cases.0 in
     let bottom : case_at c.frames.frame.key ≡ case_at c.args.key = rw empty at c.frames.invariant.running.bottom in
     let same : case_at c.retire-root.result ≡ case_at c.args.key = ap case_at (c.retire-root.ensures ∙ a.key) ∙ bottom in
     let capacity = ap (λ (x : MemoState). x.capacity) a.same ∙ c.frames.invariant.capacity in

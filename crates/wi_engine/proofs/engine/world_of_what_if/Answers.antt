@@ -1,6 +1,5 @@
-use Rattle.std.proofs.Common.{◌≡◌, All, List, map, take, ap, subst, ◌∙◌, arith, rules}
+use Rattle.std.proofs.Common.{◌≡◌, All, List, map, take, take_all, ap, subst, ◌∙◌, arith, rules}
 use Rattle.std.proofs.lemmas.List.Elements.{All-more}
-use Rattle.std.proofs.lemmas.Grind.{common_steps}
 use Rattle.wi_parser.specs.declared.expr.Pair.{Pair}
 use Rattle.wi_parser.specs.View.{pair_of}
 use Rattle.wi_parser.specs.Sheet.{put_all}
@@ -23,7 +22,7 @@ loop-pair-preserved g c =
     let there = rw c.in-Known.is at c.in_ok-value.ensures.there in
     let P : Pair → Type 0 = λ p. IsSettled s m.kept w p.replacement.at in
     record {
-      inputs = one_more_input s w c.args.pairs.now c.loop-pair.pair-index c.pair-item.result c.in-Known.value c.loop-pair.inputs.items _ c.loop-pair-test.true c.pair-item.is i.inputs (search known) (search rules);
+      inputs = one_more_input s w c.args.pairs.now c.loop-pair.pair-index c.pair-item.result c.in-Known.value c.loop-pair.inputs.items _ c.loop-pair-test.true c.pair-item.is i.inputs known (search rules);
       settled = λ whole. All-more P c.args.pairs.now c.loop-pair.pair-index c.pair-item.result c.loop-pair-test.true (i.settled whole) (subst P c.pair-item.is (settled_now s m (g.M.Memo.state c.loop-pair.memo) w c.pair-item.result.replacement.at c.requires.memo i.same whole there));
       same = c.in_ok-value.ensures.same ∙ i.same;
     }
@@ -41,11 +40,11 @@ pub returns-clause-known : goal.returns-clause-known
 returns-clause-known g c =
     let s = c.args.store.now.sheet in
     let w = c.args.world.now in
-    let whole : take c.loop-pair.pair-index c.args.pairs.now ≡ c.args.pairs.now = grind (arith, common_steps) in
+    let whole : take c.loop-pair.pair-index c.args.pairs.now ≡ c.args.pairs.now = take_all c.loop-pair.pair-index c.args.pairs.now (omega (arith, c.loop-pair-test.false)) in
     let inputs = c.deref.ensures.value ∙ c.loop-pair.invariant.inputs ∙ ap (λ (ps : List Pair). replacements (cell_value (put_all s w)) (map addresses (map pair_of ps))) whole in
     replaced_world s w c.in_ok-with.field-0 c.deref.result.now (map addresses (map pair_of c.args.pairs.now)) inputs c.in_ok-with.ensures.list
 
 pub returns-clause-settled : goal.returns-clause-settled
 returns-clause-settled g c =
-    let all : take c.loop-pair.pair-index c.args.pairs.now ≡ c.args.pairs.now = grind (arith, common_steps) in
+    let all : take c.loop-pair.pair-index c.args.pairs.now ≡ c.args.pairs.now = take_all c.loop-pair.pair-index c.args.pairs.now (omega (arith, c.loop-pair-test.false)) in
     λ whole. subst (All (λ p. IsSettled c.args.store.now.sheet (g.M.Memo.state c.args.memo.now).kept c.args.world.now p.replacement.at)) all (c.loop-pair.invariant.settled whole)

@@ -1,7 +1,25 @@
-use Rattle.std.proofs.Common.{◌+◌, ◌≤◌, length, drop, sym, ◌∙◌, arith}
+use Rattle.std.proofs.Common.{◌+◌, drop, refl, sym, ◌∙◌}
 use Rattle.std.proofs.lemmas.List.{drop_all}
-use Rattle.wi_fold_functions.proofs.Arguments.{next, stops, ends}
+use Rattle.std.proofs.lemmas.Result.{IfOk-from_err}
+use Rattle.wi_fold_functions.proofs.Arguments.{next, stops, ends, one_missing}
 use Rattle.wi_fold_functions.proofs.folding.fold_arguments.Goals as goal
+
+pub loop-argument-init : goal.loop-argument-init
+loop-argument-init g c = λ cells agrees. refl
+
+pub returns-in_err-take_argument-clause-done : goal.returns-in_err-take_argument-clause-done
+returns-in_err-take_argument-clause-done g c = IfOk-from_err c.from_residual.result _ c.from_residual.ensures.0
+
+pub returns-in_err-take_argument-clause-missing : goal.returns-in_err-take_argument-clause-missing
+returns-in_err-take_argument-clause-missing g c =
+    one_missing (g.L.Lookup.known_cell c.args.lookup.now) c.args.arguments.now c.loop-argument.argument-index c.argument-item.result c.in_err-take_argument.field-0.0 c.from_residual.result c.from_residual.ensures.1
+    c.loop-argument-test.true c.argument-item.is c.in_err-take_argument.ensures.missing c.in_err-take_argument.ensures.referred
+
+pub returns-then-is_err-clause-missing : goal.returns-then-is_err-clause-missing
+returns-then-is_err-clause-missing g c = tt
+
+pub returns-clause-missing : goal.returns-clause-missing
+returns-clause-missing g c = tt
 
 pub returns-then-is_err-clause-done : goal.returns-then-is_err-clause-done
 returns-then-is_err-clause-done g c =
@@ -19,5 +37,4 @@ loop-argument-preserved g c =
 pub returns-clause-done : goal.returns-clause-done
 returns-clause-done g c =
     let l = c.loop-argument in
-    let over : length c.args.arguments.now ≤ l.argument-index = omega arith in
-    λ cells agrees. c.value-2.ensures ∙ ends g.F.Fold.step g.F.Fold.value (g.L.Lookup.known_cell c.args.lookup.now) c.args.arguments.now c.args.start l.folding.so_far (drop l.argument-index c.args.arguments.now) l.invariant (drop_all l.argument-index c.args.arguments.now over) cells agrees
+    λ cells agrees. c.value-2.ensures ∙ ends g.F.Fold.step g.F.Fold.value (g.L.Lookup.known_cell c.args.lookup.now) c.args.arguments.now c.args.start l.folding.so_far (drop l.argument-index c.args.arguments.now) l.invariant (drop_all l.argument-index c.args.arguments.now c.loop-argument-test.false) cells agrees

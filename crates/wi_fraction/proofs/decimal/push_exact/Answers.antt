@@ -1,10 +1,12 @@
 use Rattle.std.proofs.Common.{◌≡◌, ◌∙◌, sym, ap, subst, arith, rules, string_bytes, ◌++◌, ◌∷◌, [], ◌*◌, ◌/◌, ◌%◌, Some, OnOk}
 use Rattle.std.specs.Prelude.{◌^◌}
 use Rattle.std.specs.Fmt.{decimal}
+use Rattle.std.proofs.lemmas.Result.{IfOk-from_err}
+use Rattle.std.proofs.Math.Nat.{mod-lt}
 use Rattle.std.proofs.lemmas.List.{append-nil}
 use Rattle.wi_fraction.specs.Text.{sign_text, size_text, padded}
 use Rattle.wi_fraction.specs.Decimal.{all_places}
-use Rattle.wi_fraction.proofs.Decimals.{exact_none, exact_whole, exact_point, exact_written}
+use Rattle.wi_fraction.proofs.Decimals.{starts_joined, starts_trans, exact_none, exact_whole, exact_point, exact_written}
 use Rattle.wi_fraction.proofs.decimal.push_exact.Goals as goal
 
 pub returns-in-None-clause-ok : goal.returns-in-None-clause-ok
@@ -27,3 +29,32 @@ returns-in_ok-push_joined-in-Some-clause-ok c =
     let text : size_text (all_places d) n d ≡ decimal (n / d) ++ 46 ∷ digits = exact_point n d k c.in-Some.ensures (omega (arith, c.in-Some.k-test)) c.requires.above_zero in
     let whole : mid ++ digits ≡ old ++ (sign_text c.args.negative ++ size_text (all_places d) n d) = exact_written old (sign_text c.args.negative) (decimal (n / d)) digits mid front ∙ ap (λ x. old ++ (sign_text c.args.negative ++ x)) (sym text) in
     subst (λ x. OnOk c.push_digits.result (string_bytes c.push_digits.new.text ≡ x)) whole (rw c.remainder.ensures at c.push_digits.ensures.ok)
+
+pub push_joined-requires : goal.push_joined-requires
+push_joined-requires c = omega (arith, c.format.ensures.short, c.format-in-None.ensures.short)
+
+pub push_joined-requires-in-Some-eq0 : goal.push_joined-requires-in-Some-eq0
+push_joined-requires-in-Some-eq0 c = omega (arith, c.format-in-Some-eq0.ensures.short)
+
+pub push_joined-requires-in-Some : goal.push_joined-requires-in-Some
+push_joined-requires-in-Some c = omega (arith, c.format-in-Some.ensures.short)
+
+pub returns-in_err-push_joined-in-Some-clause-ok : goal.returns-in_err-push_joined-in-Some-clause-ok
+returns-in_err-push_joined-in-Some-clause-ok c = IfOk-from_err c.from_residual.result _ c.from_residual.ensures.0
+
+pub returns-in_err-push_joined-in-Some-clause-kept : goal.returns-in_err-push_joined-in-Some-clause-kept
+returns-in_err-push_joined-in-Some-clause-kept c = starts_joined c.push_joined-in-Some.result _ _ _ c.push_joined-in-Some.ensures.ok c.push_joined-in-Some.ensures.err
+
+pub push_digits-requires-clause-below_one : goal.push_digits-requires-clause-below_one
+push_digits-requires-clause-below_one c = rw c.remainder.ensures (mod-lt c.args.n c.requires.above_zero)
+
+pub returns-in-None-clause-kept : goal.returns-in-None-clause-kept
+returns-in-None-clause-kept c = starts_joined c.push_joined.result _ _ _ c.push_joined.ensures.ok c.push_joined.ensures.err
+
+pub returns-in-Some-eq0-clause-kept : goal.returns-in-Some-eq0-clause-kept
+returns-in-Some-eq0-clause-kept c = starts_joined c.push_joined-in-Some-eq0.result _ _ _ c.push_joined-in-Some-eq0.ensures.ok c.push_joined-in-Some-eq0.ensures.err
+
+pub returns-in_ok-push_joined-in-Some-clause-kept : goal.returns-in_ok-push_joined-in-Some-clause-kept
+returns-in_ok-push_joined-in-Some-clause-kept c =
+    starts_trans (string_bytes c.push_joined-in-Some.new.text) (string_bytes c.push_digits.new.text) (string_bytes c.args.text.now) c.push_digits.ensures.kept
+    (starts_joined c.push_joined-in-Some.result _ _ _ c.push_joined-in-Some.ensures.ok c.push_joined-in-Some.ensures.err)

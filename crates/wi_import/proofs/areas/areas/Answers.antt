@@ -1,10 +1,18 @@
-use Rattle.std.proofs.Common.{◌≡◌, ◌+◌, ◌++◌, refl, ◌∙◌, rules, arith}
+use Rattle.std.proofs.Common.{◌≡◌, ◌+◌, ◌++◌, refl, ◌∙◌, ap}
+use Rattle.std.specs.List.{list_any}
+use Rattle.std.proofs.lemmas.Result.{IfOk-from_err}
 use Rattle.wi_values.specs.Address.{row_of, column_of}
 use Rattle.wi_import.specs.Inner.Reading.{is_outside}
-use Rattle.wi_import.proofs.AreaLemmas.{area_before, areas_left, area_told, told_some, told_none, all_told}
-use Rattle.wi_import.proofs.FieldLemmas.{this_record, later_records}
+use Rattle.wi_import.proofs.AreaLemmas.{area_before, areas_left, none_told, area_told, told_some, told_none, all_told}
+use Rattle.wi_import.proofs.FieldLemmas.{all_fields_left, this_record, later_records}
 use Rattle.wi_import.proofs.areas.areas.Goals.{in-Some+in_ok-push, in_default}
 use Rattle.wi_import.proofs.areas.areas.Goals as goal
+
+pub loop-i-init : goal.loop-i-init
+loop-i-init c = record {
+  whole = none_told (row_of c.args.at) (column_of c.args.at) c.args.records.now _ c.in_ok-areas.ensures.items;
+  inside = ap (list_any is_outside) (all_fields_left (row_of c.args.at) (column_of c.args.at) c.args.records.now) ∙ c.requires;
+}
 
 pub area-requires : goal.area-requires
 area-requires c =
@@ -27,4 +35,10 @@ loop-i-preserved c =
     }
 
 pub returns : goal.returns
-returns c = (search rules) ∙ all_told (row_of c.args.at) (column_of c.args.at) c.loop-i.i c.args.records.now c.loop-i.areas.items _ (omega arith) c.loop-i.invariant.whole
+returns c = all_told (row_of c.args.at) (column_of c.args.at) c.loop-i.i c.args.records.now c.loop-i.areas.items _ c.loop-i-test.false c.loop-i.invariant.whole
+
+pub returns-in_err-push : goal.returns-in_err-push
+returns-in_err-push c = IfOk-from_err c.from_residual-in_err-push.result _ c.from_residual-in_err-push.ensures.0
+
+pub returns-in_err-areas : goal.returns-in_err-areas
+returns-in_err-areas c = IfOk-from_err c.from_residual.result _ c.from_residual.ensures.0

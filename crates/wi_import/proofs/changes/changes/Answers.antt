@@ -1,9 +1,16 @@
-use Rattle.std.proofs.Common.{arith}
-use Rattle.std.proofs.lemmas.Grind.{common_steps}
+use Rattle.std.proofs.Common.{◌∙◌, ap}
+use Rattle.std.specs.List.{list_any}
+use Rattle.std.proofs.lemmas.Result.{IfOk-from_err}
 use Rattle.wi_values.specs.Address.{row_of, column_of}
 use Rattle.wi_import.specs.Inner.Records.{is_faulty}
-use Rattle.wi_import.proofs.FieldLemmas.{this_record, later_records, record_changed}
+use Rattle.wi_import.proofs.FieldLemmas.{all_fields_left, none_changed, all_records_changed, this_record, later_records, record_changed}
 use Rattle.wi_import.proofs.changes.changes.Goals as goal
+
+pub loop-i-init : goal.loop-i-init
+loop-i-init c = record {
+  whole = none_changed (row_of c.args.at) (column_of c.args.at) c.args.records.now _ c.in_ok-changes.ensures.items;
+  sound = ap (list_any is_faulty) (all_fields_left (row_of c.args.at) (column_of c.args.at) c.args.records.now) ∙ c.requires;
+}
 
 pub push_record-requires : goal.push_record-requires
 push_record-requires c =
@@ -19,4 +26,10 @@ loop-i-preserved c = record {
 }
 
 pub returns : goal.returns
-returns c = grind (arith, common_steps)
+returns c = all_records_changed (row_of c.args.at) (column_of c.args.at) c.loop-i.i c.args.records.now c.loop-i.changes.items _ c.loop-i-test.false c.loop-i.invariant.whole
+
+pub returns-in_err-push_record : goal.returns-in_err-push_record
+returns-in_err-push_record c = IfOk-from_err c.from_residual-in_err-push_record.result _ c.from_residual-in_err-push_record.ensures.0
+
+pub returns-in_err-changes : goal.returns-in_err-changes
+returns-in_err-changes c = IfOk-from_err c.from_residual.result _ c.from_residual.ensures.0

@@ -1,6 +1,5 @@
-use Rattle.std.proofs.Common.{rules}
-use Rattle.wi_parser.specs.declared.expr.Expr.{the_lemmas}
+use Rattle.wi_parser.proofs.ExprTrees.{binary_made}
 use Rattle.wi_parser.proofs.grammar.binary.Goals as goal
 
 pub returns : goal.returns
-returns c = search (rules, the_lemmas)
+returns c = binary_made _ _ _ _ _ c.in_ok-left.ensures.ok c.in_ok-right.ensures.ok

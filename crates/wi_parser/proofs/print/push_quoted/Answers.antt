@@ -1,5 +1,6 @@
 use Rattle.std.proofs.Common.{rules, ap, sym, subst, ◌∙◌, ◌++◌, ◌∷◌, [], string_bytes, arith}
 use Rattle.std.proofs.lemmas.Grind.{common_steps}
+use Rattle.std.proofs.lemmas.Result.{IfOk-from_err}
 use Rattle.std.specs.Io.{StartsWith}
 use Rattle.std.specs.List.{flat_map}
 use Rattle.wi_quoting.specs.Quoted.{doubled}
@@ -42,3 +43,21 @@ returns-clause-kept c =
 
 pub loop-piece-init : goal.loop-piece-init
 loop-piece-init c = grind (arith, common_steps)
+
+pub returns-in_err-push_str-2-clause-kept : goal.returns-in_err-push_str-2-clause-kept
+returns-in_err-push_str-2-clause-kept c = starts_same _ _ _ c.in_err-push_str-2.ensures.bytes c.loop-piece.invariant.kept
+
+pub returns-in_err-push_str-4-clause-kept : goal.returns-in_err-push_str-4-clause-kept
+returns-in_err-push_str-4-clause-kept c = starts_same _ _ _ c.in_err-push_str-4.ensures.bytes c.loop-piece.invariant.kept
+
+pub returns-in_err-push_str-clause-ok : goal.returns-in_err-push_str-clause-ok
+returns-in_err-push_str-clause-ok c = IfOk-from_err _ _ c.from_residual.ensures.0
+
+pub returns-in_err-push_str-2-clause-ok : goal.returns-in_err-push_str-2-clause-ok
+returns-in_err-push_str-2-clause-ok c = IfOk-from_err _ _ c.from_residual-in_err-push_str-2.ensures.0
+
+pub returns-in_err-push_str-3-clause-ok : goal.returns-in_err-push_str-3-clause-ok
+returns-in_err-push_str-3-clause-ok c = IfOk-from_err _ _ c.from_residual-in_err-push_str-3.ensures.0
+
+pub returns-in_err-push_str-4-clause-ok : goal.returns-in_err-push_str-4-clause-ok
+returns-in_err-push_str-4-clause-ok c = IfOk-from_err _ _ c.from_residual-in_err-push_str-4.ensures.0

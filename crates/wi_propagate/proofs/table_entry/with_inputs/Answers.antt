@@ -1,4 +1,4 @@
-use Rattle.std.proofs.Common.{◌≡◌, All, List, ℕ, take, ap, subst, ◌∙◌, arith}
+use Rattle.std.proofs.Common.{◌≡◌, All, List, ℕ, Bool, take, ap, sym, subst, ◌∙◌, arith}
 use Rattle.std.proofs.lemmas.Grind.{common_steps}
 use Rattle.std.proofs.lemmas.Result.{IfOk-weaker}
 use Rattle.wi_parser.specs.Sheet.{put_all}
@@ -8,6 +8,7 @@ use Rattle.wi_sheet.specs.Settled.{IsSettled}
 use Rattle.wi_sheet.specs.Inner.Spending.{HasReplacing}
 use Rattle.wi_sheet.proofs.Counting.{never_fall-then}
 use Rattle.wi_sheet.proofs.Overrides.{replaced_world}
+use Rattle.wi_engine.specs.Inner.Frames.{MayBeRead}
 use Rattle.wi_engine.specs.Inner.Saving.{WhereRoom}
 use Rattle.wi_engine.proofs.Saved.{takes_then, gives_up_then}
 use Rattle.wi_propagate.proofs.SavingEntries.{at_most_found, evaluations_saved, restarts_saved, more_found, more_at_most, more_saves, more_evaluations, more_restarts, more_settled}
@@ -255,3 +256,74 @@ returns-clause-restarts_ok g c = IfOk-weaker c.with.result _ _ (λ v h. c.loop-p
 
 pub returns-clause-saves : goal.returns-clause-saves
 returns-clause-saves g c = IfOk-weaker c.with.result _ _ (λ v h. c.loop-pair.invariant.saves) c.with.ensures.list
+
+pub returns-in_err-value-clause-memo : goal.returns-in_err-value-clause-memo
+returns-in_err-value-clause-memo g c = c.in_err-value.ensures.memo
+
+pub returns-in_err-value-clause-same_cells : goal.returns-in_err-value-clause-same_cells
+returns-in_err-value-clause-same_cells g c = c.in_err-value.ensures.same_cells ∙ c.loop-pair.invariant.same_cells
+
+pub returns-in_err-value-clause-same_generation : goal.returns-in_err-value-clause-same_generation
+returns-in_err-value-clause-same_generation g c = c.in_err-value.ensures.same_generation ∙ c.loop-pair.invariant.same_generation
+
+pub returns-in_err-value-clause-same_capacity : goal.returns-in_err-value-clause-same_capacity
+returns-in_err-value-clause-same_capacity g c = c.in_err-value.ensures.same_capacity ∙ c.loop-pair.invariant.same_capacity
+
+pub returns-in_err-value-clause-same_latest : goal.returns-in_err-value-clause-same_latest
+returns-in_err-value-clause-same_latest g c = c.in_err-value.ensures.same_latest ∙ c.loop-pair.invariant.same_latest
+
+pub returns-in_err-push-clause-memo : goal.returns-in_err-push-clause-memo
+returns-in_err-push-clause-memo g c = c.in_ok-value.ensures.memo
+
+pub returns-in_err-push-clause-same_cells : goal.returns-in_err-push-clause-same_cells
+returns-in_err-push-clause-same_cells g c = c.in_ok-value.ensures.same_cells ∙ c.loop-pair.invariant.same_cells
+
+pub returns-in_err-push-clause-same_generation : goal.returns-in_err-push-clause-same_generation
+returns-in_err-push-clause-same_generation g c = c.in_ok-value.ensures.same_generation ∙ c.loop-pair.invariant.same_generation
+
+pub returns-in_err-push-clause-same_capacity : goal.returns-in_err-push-clause-same_capacity
+returns-in_err-push-clause-same_capacity g c = c.in_ok-value.ensures.same_capacity ∙ c.loop-pair.invariant.same_capacity
+
+pub returns-in_err-push-clause-same_latest : goal.returns-in_err-push-clause-same_latest
+returns-in_err-push-clause-same_latest g c = c.in_ok-value.ensures.same_latest ∙ c.loop-pair.invariant.same_latest
+
+pub returns-clause-memo : goal.returns-clause-memo
+returns-clause-memo g c = c.loop-pair.invariant.memo
+
+pub returns-clause-same_cells : goal.returns-clause-same_cells
+returns-clause-same_cells g c = c.loop-pair.invariant.same_cells
+
+pub returns-clause-same_generation : goal.returns-clause-same_generation
+returns-clause-same_generation g c = c.loop-pair.invariant.same_generation
+
+pub returns-clause-same_capacity : goal.returns-clause-same_capacity
+returns-clause-same_capacity g c = c.loop-pair.invariant.same_capacity
+
+pub returns-clause-same_latest : goal.returns-clause-same_latest
+returns-clause-same_latest g c = c.loop-pair.invariant.same_latest
+
+pub returns-clause-counts : goal.returns-clause-counts
+returns-clause-counts g c = c.loop-pair.invariant.counts
+
+pub returns-clause-takes : goal.returns-clause-takes
+returns-clause-takes g c = c.loop-pair.invariant.takes
+
+pub returns-clause-gives_up : goal.returns-clause-gives_up
+returns-clause-gives_up g c = c.loop-pair.invariant.gives_up
+
+pub returns-in_err-value-clause-counts : goal.returns-in_err-value-clause-counts
+returns-in_err-value-clause-counts g c = never_fall-then c.args.meter.now c.loop-pair.meter c.value_under.new.meter c.loop-pair.invariant.counts c.in_err-value.ensures.counts
+
+pub value_under-requires-clause-memo : goal.value_under-requires-clause-memo
+value_under-requires-clause-memo g c = c.loop-pair.invariant.memo
+
+pub value_under-requires-clause-read : goal.value_under-requires-clause-read
+value_under-requires-clause-read g c =
+    let s = c.args.store.now.sheet in
+    let old = g.M.Memo.state c.args.memo.now in
+    let pair = c.pair-item.result in
+    let there : MayBeRead s old pair.1 = subst (λ (p : ℕ × ℕ). MayBeRead s old p.1) (sym c.pair-item.is) (c.requires.replacing c.loop-pair.pair-index pair c.loop-pair-test.true) in
+    record {
+      open_cell = there.open_cell;
+      covered = λ h. ap (λ (cs : ℕ → Bool). cs pair.1) c.loop-pair.invariant.same_cells ∙ there.covered h;
+    }

@@ -1,4 +1,7 @@
-use Rattle.std.proofs.Common.{◌≡◌, [], ◌+◌, ◌-◌, ◌^◌, sym, ◌∙◌, arith, refl, true}
+use Rattle.std.proofs.lemmas.Result.{err_from_is_err_and}
+use Rattle.std.specs.List.Sorted.{IsStrictlySortedBy}
+use Rattle.wi_ranges.specs.Inner.Index.{Piece, piece_cmp, has_piece}
+use Rattle.std.proofs.Common.{List, ap, subst, ◌≡◌, [], ◌+◌, ◌-◌, ◌^◌, sym, ◌∙◌, arith, refl, true}
 use Rattle.wi_ranges.specs.Blocks.{block, blocks_in, first_row, last_row}
 use Rattle.wi_ranges.proofs.BlockLemmas.{blocks_within-apart, blocks_within-row, halves_of}
 use Rattle.wi_ranges.proofs.Apart.{halves_apart}
@@ -111,3 +114,72 @@ returns-in_err-put_in-2-clause-absent t c =
     (absent_lower c.args.numbered.now c.args.block.now c.upper.result c.lower.result c.args.pieces.now.keys c.put_in.new.pieces.keys
     (halves_of c.args.numbered.now.pair c.args.block.now c.upper.result c.lower.result c.upper.ensures.value c.lower.ensures.value (sym c.lies_within.ensures ∙ c.if-lies_within.false) c.if-block-gt0.true (sym c.meets.ensures ∙ c.if-meets.true))
     c.put_in.ensures.kept (halves_apart c.args.block.now c.upper.result c.lower.result c.args.numbered.now c.upper.ensures.value c.lower.ensures.value) c.in_err-put_in-2.ensures.absent)
+
+pub returns-in_err-insert-clause-put : goal.returns-in_err-insert-clause-put
+returns-in_err-insert-clause-put t c =
+    let p = err_from_is_err_and c.from_residual.result c.from_residual.ensures.1 in
+    rw p.1 tt
+
+pub returns-in_err-put_in-clause-put : goal.returns-in_err-put_in-clause-put
+returns-in_err-put_in-clause-put t c =
+    let p = err_from_is_err_and c.from_residual-in_err-put_in.result c.from_residual-in_err-put_in.ensures.1 in
+    rw p.1 tt
+
+pub returns-in_err-put_in-2-clause-put : goal.returns-in_err-put_in-2-clause-put
+returns-in_err-put_in-2-clause-put t c =
+    let p = err_from_is_err_and c.from_residual-in_err-put_in-2.result c.from_residual-in_err-put_in-2.ensures.1 in
+    rw p.1 tt
+
+pub returns-in_err-insert-clause-gains : goal.returns-in_err-insert-clause-gains
+returns-in_err-insert-clause-gains t c =
+    let p = err_from_is_err_and c.from_residual.result c.from_residual.ensures.1 in
+    rw p.1 tt
+
+pub returns-in_err-put_in-clause-gains : goal.returns-in_err-put_in-clause-gains
+returns-in_err-put_in-clause-gains t c =
+    let p = err_from_is_err_and c.from_residual-in_err-put_in.result c.from_residual-in_err-put_in.ensures.1 in
+    rw p.1 tt
+
+pub returns-in_err-put_in-2-clause-gains : goal.returns-in_err-put_in-2-clause-gains
+returns-in_err-put_in-2-clause-gains t c =
+    let p = err_from_is_err_and c.from_residual-in_err-put_in-2.result c.from_residual-in_err-put_in-2.ensures.1 in
+    rw p.1 tt
+
+pub returns-in_err-insert-clause-kept : goal.returns-in_err-insert-clause-kept
+returns-in_err-insert-clause-kept t c = λ q h. ap (λ (ks : List Piece). has_piece ks q) c.in_err-insert.ensures.err
+
+pub returns-in_err-insert-clause-stays : goal.returns-in_err-insert-clause-stays
+returns-in_err-insert-clause-stays t c = λ q h. ap (λ (ks : List Piece). has_piece ks q) c.in_err-insert.ensures.err ∙ h
+
+pub returns-in_err-insert-clause-order : goal.returns-in_err-insert-clause-order
+returns-in_err-insert-clause-order t c = λ h. subst (IsStrictlySortedBy piece_cmp) (sym c.in_err-insert.ensures.err) h
+
+pub upper-requires-clause-level : goal.upper-requires-clause-level
+upper-requires-clause-level t c = c.if-block-gt0.true
+
+pub upper-requires-clause-on_sheet : goal.upper-requires-clause-on_sheet
+upper-requires-clause-on_sheet t c = c.requires
+
+pub returns-in_err-put_in-clause-stays : goal.returns-in_err-put_in-clause-stays
+returns-in_err-put_in-clause-stays t c = c.put_in.ensures.stays
+
+pub returns-in_err-put_in-clause-order : goal.returns-in_err-put_in-clause-order
+returns-in_err-put_in-clause-order t c = c.put_in.ensures.order
+
+pub lower-requires-clause-level : goal.lower-requires-clause-level
+lower-requires-clause-level t c = c.if-block-gt0.true
+
+pub lower-requires-clause-on_sheet : goal.lower-requires-clause-on_sheet
+lower-requires-clause-on_sheet t c = c.requires
+
+pub returns-in_ok-insert-clause-order : goal.returns-in_ok-insert-clause-order
+returns-in_ok-insert-clause-order t c = λ h. c.in_ok-insert.ensures.ordered
+
+pub returns-else-block-gt0-clause-kept : goal.returns-else-block-gt0-clause-kept
+returns-else-block-gt0-clause-kept t c = λ q h. refl
+
+pub returns-else-block-gt0-clause-stays : goal.returns-else-block-gt0-clause-stays
+returns-else-block-gt0-clause-stays t c = λ q h. h
+
+pub returns-else-block-gt0-clause-order : goal.returns-else-block-gt0-clause-order
+returns-else-block-gt0-clause-order t c = λ h. h

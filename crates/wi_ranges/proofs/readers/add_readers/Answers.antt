@@ -1,11 +1,13 @@
-use Rattle.std.proofs.Common.{◌∙◌, ap, sym, subst, refl, filter}
+use Rattle.std.proofs.Common.{◌||◌, ◌∷◌, [], ◌∙◌, ap, sym, subst, refl, filter}
+use Rattle.std.proofs.lemmas.Result.{err_from_is_err_and}
 use Rattle.std.specs.Ordering.{nat_cmp}
 use Rattle.std.specs.BTreeSet.{contains}
+use Rattle.std.specs.List.{list_any}
 use Rattle.std.specs.BTreeMap.Range.{range_contains}
 use Rattle.std.specs.declared.ops.Bound.TheVariants.{Included, Unbounded}
 use Rattle.wi_ranges.specs.declared.pair.Numbered.{Numbered}
-use Rattle.wi_ranges.specs.Inner.Index.{piece_cmp}
-use Rattle.wi_ranges.proofs.ReaderLemmas.{AreFirst, come_first, found_all, found_to_block}
+use Rattle.wi_ranges.specs.Inner.Index.{piece_cmp, reads_at}
+use Rattle.wi_ranges.proofs.ReaderLemmas.{AreFirst, come_first, found_all, found_to_block, found_no_more, found_one_more, fewer_left, first_left}
 use Rattle.wi_ranges.proofs.readers.add_readers.Goals as goal
 
 pub loop-place-init : goal.loop-place-init
@@ -33,3 +35,32 @@ returns-then-ne c =
     ∙ ap (λ (p : Numbered). filter (range_contains piece_cmp (Included (x, p)) Unbounded) ks) c.lowest.ensures in
     λ r. found_to_block x c.args.at r c.in-Some.field-0.now c.next.new.self c.loop-place.place-iterator c.into_iter-place-iterator.result ks (contains nat_cmp c.args.readers.now r) (contains nat_cmp c.loop-place.readers r)
     between c.in-Some.ensures.steps c.if-ne.ensures c.loop-place.invariant.0 (c.loop-place.invariant.1 r)
+
+pub loop-place-smaller-in_ok-insert : goal.loop-place-smaller-in_ok-insert
+loop-place-smaller-in_ok-insert c = fewer_left c.in-Some.field-0.now c.next.new.self c.loop-place.place-iterator c.in-Some.ensures.steps
+
+pub loop-place-preserved-in_ok-insert : goal.loop-place-preserved-in_ok-insert
+loop-place-preserved-in_ok-insert c =
+    let x = c.args.block.now in (
+      first_left x c.in-Some.field-0.now c.next.new.self c.loop-place.place-iterator c.in-Some.ensures.steps c.loop-place.invariant.0,
+      λ r. found_one_more x c.args.at r c.in-Some.field-0.now c.next.new.self c.loop-place.place-iterator (contains nat_cmp c.loop-place.readers r) (contains nat_cmp c.insert.new.self r)
+          (contains nat_cmp c.args.readers.now r || list_any (reads_at (x ∷ []) c.args.at r) c.into_iter-place-iterator.result)
+          c.in-Some.ensures.steps c.if-ne.ensures c.if-has.ensures (c.in_ok-insert.ensures.has r) (c.loop-place.invariant.1 r),
+    )
+
+pub returns-in_err-insert : goal.returns-in_err-insert
+returns-in_err-insert c =
+    let p = err_from_is_err_and c.from_residual.result c.from_residual.ensures.1 in
+    rw p.1 tt
+
+pub loop-place-smaller : goal.loop-place-smaller
+loop-place-smaller c = fewer_left c.in-Some.field-0.now c.next.new.self c.loop-place.place-iterator c.in-Some.ensures.steps
+
+pub loop-place-preserved : goal.loop-place-preserved
+loop-place-preserved c =
+    let x = c.args.block.now in (
+      first_left x c.in-Some.field-0.now c.next.new.self c.loop-place.place-iterator c.in-Some.ensures.steps c.loop-place.invariant.0,
+      λ r. found_no_more x c.args.at r c.in-Some.field-0.now c.next.new.self c.loop-place.place-iterator (contains nat_cmp c.loop-place.readers r)
+          (contains nat_cmp c.args.readers.now r || list_any (reads_at (x ∷ []) c.args.at r) c.into_iter-place-iterator.result)
+          c.in-Some.ensures.steps c.if-has.ensures (c.loop-place.invariant.1 r),
+    )

@@ -1,14 +1,17 @@
-use Rattle.std.proofs.Common.{◌≡◌, ◌++◌, ◌∙◌, List, [], ℕ, sym, ap, append-nil}
-use Rattle.wi_values.specs.declared.value.Value.{Value}
-use Rattle.wi_values.proofs.Replacements.InOrder.{order_from_entries}
+use Rattle.std.proofs.Common.{◌∙◌}
+use Rattle.wi_values.proofs.Replacements.InOrder.{order_from_entries, one_more_taken, all_taken}
 use Rattle.wi_scenario_list.proofs.entries.listed.Goals as goal
 
--- at the end nothing is left
-all : (es rest whole : List (ℕ × Value)) → rest ≡ [] → es ++ rest ≡ whole → es ≡ whole
-all es rest whole e h = sym (append-nil es) ∙ ap (λ (r : List (ℕ × Value)). es ++ r) (sym e) ∙ h
+pub loop-at-preserved : goal.loop-at-preserved
+loop-at-preserved c =
+    one_more_taken c.loop-at.replacements.items c.push.new.self.items (record { at = c.in-Some.at; value = c.in-Some.value }) c.loop-at.at-iterator c.next.new.self _
+    c.in_ok-push.ensures.items c.in-Some.ensures.steps c.loop-at.invariant
+
+pub returns-clause-value : goal.returns-clause-value
+returns-clause-value c = all_taken _ _ _ c.in-None.ensures.steps.0 c.loop-at.invariant ∙ c.into_iter-at-iterator.ensures.into_iter_gives.0
 
 pub returns-clause-order : goal.returns-clause-order
 returns-clause-order c =
     order_from_entries c.loop-at.replacements.items c.args.map.entries
-    (all _ _ _ c.in-None.ensures.steps.0 c.loop-at.invariant ∙ c.into_iter-at-iterator.ensures.into_iter_gives.0)
+    (all_taken _ _ _ c.in-None.ensures.steps.0 c.loop-at.invariant ∙ c.into_iter-at-iterator.ensures.into_iter_gives.0)
     c.len.ensures.ordered

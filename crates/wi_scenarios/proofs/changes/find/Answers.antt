@@ -1,5 +1,6 @@
-use Rattle.std.proofs.Common.{◌≡◌, ◌∙◌, length, arith}
+use Rattle.std.proofs.Common.{◌≡◌, ◌∙◌, length, refl, arith}
 use Rattle.std.proofs.lemmas.Grind.{common_steps}
+use Rattle.std.proofs.lemmas.Result.{IfOk-from_err}
 use Rattle.wi_scenario_list.specs.Scenarios.{effective}
 use Rattle.wi_sessions.specs.Roster.{session_at}
 use Rattle.wi_scenarios.proofs.ChangesLemmas.{changes_found, nothing_found, looked, begun_again, no_more, if_ok}
@@ -51,3 +52,39 @@ returns-clause-restarts g c =
     let cells : c.deref-2.result.now ≡ c.pending.result.now.cells = c.deref-2.ensures.value ∙ c.in_ok-cells.ensures.list in
     let put : c.deref.result.now ≡ effective c.args.desk.now.scenarios (session_at c.args.desk.now.sessions c.args.desk.now.current).scenario = c.deref.ensures.value ∙ c.in_ok-put.ensures.value in
     begun_again (g.C.Calculator.stored c.args.calculator.now) c.args.desk.now c.pending.result.now.cells c.deref-2.result.now c.deref.result.now _ _ c.pending.ensures.cells cells put c.find_changes.ensures.restarts
+
+pub returns-then-is_empty-clause-same : goal.returns-then-is_empty-clause-same
+returns-then-is_empty-clause-same g c = refl
+
+pub returns-then-is_empty-clause-quiet : goal.returns-then-is_empty-clause-quiet
+returns-then-is_empty-clause-quiet g c = λ none. (refl, refl)
+
+pub returns-in_err-cells-clause-same : goal.returns-in_err-cells-clause-same
+returns-in_err-cells-clause-same g c = refl
+
+pub returns-in_err-cells-clause-quiet : goal.returns-in_err-cells-clause-quiet
+returns-in_err-cells-clause-quiet g c = λ none. (refl, refl)
+
+pub returns-in_err-put-clause-same : goal.returns-in_err-put-clause-same
+returns-in_err-put-clause-same g c = refl
+
+pub returns-in_err-put-clause-quiet : goal.returns-in_err-put-clause-quiet
+returns-in_err-put-clause-quiet g c = λ none. (refl, refl)
+
+pub returns-then-is_empty-clause-none : goal.returns-then-is_empty-clause-none
+returns-then-is_empty-clause-none g c = λ none. c.new.ensures.items
+
+pub returns-in_err-cells-clause-list : goal.returns-in_err-cells-clause-list
+returns-in_err-cells-clause-list g c = IfOk-from_err c.from_residual.result _ c.from_residual.ensures.0
+
+pub returns-in_err-cells-clause-none : goal.returns-in_err-cells-clause-none
+returns-in_err-cells-clause-none g c = λ none. IfOk-from_err c.from_residual.result _ c.from_residual.ensures.0
+
+pub returns-in_err-put-clause-list : goal.returns-in_err-put-clause-list
+returns-in_err-put-clause-list g c = IfOk-from_err c.from_residual-in_err-put.result _ c.from_residual-in_err-put.ensures.0
+
+pub returns-in_err-put-clause-none : goal.returns-in_err-put-clause-none
+returns-in_err-put-clause-none g c = λ none. IfOk-from_err c.from_residual-in_err-put.result _ c.from_residual-in_err-put.ensures.0
+
+pub returns-clause-same : goal.returns-clause-same
+returns-clause-same g c = c.find_changes.ensures.same

@@ -1,7 +1,7 @@
-use Rattle.std.proofs.Common.{rules, ◌≡◌, Bool, false, Option, None, sym, ap, ◌∙◌, arith}
-use Rattle.std.specs.Prelude.{unwrap_or}
+use Rattle.std.proofs.Common.{rules, ◌≡◌, ℕ, Bool, false, List, Option, None, sym, ap, subst, ◌∙◌, arith}
+use Rattle.std.specs.Prelude.{unwrap_or, OnErr}
 use Rattle.std.specs.BTreeMap.Entry.{map_with_value}
-use Rattle.wi_sessions.specs.Inner.Rooms.{room_of}
+use Rattle.wi_sessions.specs.Inner.Rooms.{room_of, held_at, RoomsAreInOrder}
 use Rattle.wi_sessions.proofs.RoomLemmas.{held_made}
 use Rattle.wi_sessions.proofs.CellLemmas.{made_one, noted_made}
 use Rattle.wi_sessions.proofs.cells.make_one.Goals as goal
@@ -27,3 +27,21 @@ returns-in_ok-push-clause-made c =
     let vacant : w ≡ false = search rules in
     let none : room_of old c.args.at ≡ None = rw c.in-Vacant.is at c.in_ok-room.ensures.found in
     λ q. grind (arith, made_one c.args.at w old (map_with_value c.in_ok-room.field-0 w).entries vacant none (λ r. (c.in_ok-room.ensures.update.0 w).0 r) q)
+
+pub returns-in_err-room-clause-pending : goal.returns-in_err-room-clause-pending
+returns-in_err-room-clause-pending c =
+    let same : c.entry.follows.lender-at-none.entries ≡ c.args.rooms.now.entries =
+    subst (λ r. OnErr r (c.entry.follows.lender-at-none.entries ≡ c.args.rooms.now.entries)) c.in_err-room.was c.entry.follows.holds-at-none in
+    λ q. ap (λ (es : List (ℕ × Bool)). held_at false es q) same
+
+pub returns-in_err-room-clause-order : goal.returns-in_err-room-clause-order
+returns-in_err-room-clause-order c =
+    let same : c.entry.follows.lender-at-none.entries ≡ c.args.rooms.now.entries =
+    subst (λ r. OnErr r (c.entry.follows.lender-at-none.entries ≡ c.args.rooms.now.entries)) c.in_err-room.was c.entry.follows.holds-at-none in
+    subst (λ (es : List (ℕ × Bool)). RoomsAreInOrder es) (sym same)
+
+pub returns-in_err-room-clause-noted : goal.returns-in_err-room-clause-noted
+returns-in_err-room-clause-noted c =
+    let same : c.entry.follows.lender-at-none.entries ≡ c.args.rooms.now.entries =
+    subst (λ r. OnErr r (c.entry.follows.lender-at-none.entries ≡ c.args.rooms.now.entries)) c.in_err-room.was c.entry.follows.holds-at-none in
+    λ h q v. h q (ap (λ (es : List (ℕ × Bool)). room_of es q) (sym same) ∙ v)

@@ -1,4 +1,4 @@
-use Rattle.std.proofs.Common.{◌≡◌, None, Option, sym, ap, ◌∙◌, rules}
+use Rattle.std.proofs.Common.{◌≡◌, None, inr, refl, Option, sym, ap, ◌∙◌, rules}
 use Rattle.std.specs.Prelude.{unwrap_or}
 use Rattle.std.specs.Ordering.{nat_cmp}
 use Rattle.std.specs.BTreeMap.{is_at}
@@ -34,3 +34,18 @@ returns-in_ok-put_in-clause-columns c =
     λ h a l. let p = has_made c.args.at w c.args.rooms.now.entries (map_with_value c.in_ok-room.field-0 w).entries c.args.columns.now c.put_in.new.cells c.in_ok-put_in.ensures.ok
     (λ q. (c.in_ok-room.ensures.update.0 w).0 q) h a l in
     search (rules, p)
+
+pub returns-then-is_none-clause-sheet : goal.returns-then-is_none-clause-sheet
+returns-then-is_none-clause-sheet c = refl
+
+pub returns-then-is_none-clause-order : goal.returns-then-is_none-clause-order
+returns-then-is_none-clause-order c = λ h. h
+
+pub returns-then-is_none-clause-vacant : goal.returns-then-is_none-clause-vacant
+returns-then-is_none-clause-vacant c = λ q h. inr h
+
+pub returns-then-is_none-clause-kept : goal.returns-then-is_none-clause-kept
+returns-then-is_none-clause-kept c = λ q h. h
+
+pub returns-then-is_none-clause-columns : goal.returns-then-is_none-clause-columns
+returns-then-is_none-clause-columns c = λ h. h

@@ -1,14 +1,50 @@
-use Rattle.std.proofs.Common.{◌≡◌, ◌++◌, ◌∙◌, List, [], ℕ, sym, ap, append-nil}
+use Rattle.std.proofs.Common.{◌≡◌, ◌++◌, ◌∙◌, ◌∷◌, ◌<◌, List, ℕ, length, ap, arith}
+use Rattle.std.proofs.lemmas.Result.{err_from_is_err_and}
+use Rattle.wi_values.specs.declared.replacement.Replacement.{Replacement}
 use Rattle.wi_values.specs.declared.value.Value.{Value}
-use Rattle.wi_values.proofs.Replacements.InOrder.{order_from_entries}
+use Rattle.wi_values.specs.Replacements.{as_map}
+use Rattle.wi_values.proofs.Replacements.InOrder.{order_from_entries, one_more_taken, all_taken}
 use Rattle.wi_worlds.proofs.entries.listed.Goals as goal
 
--- at the end nothing is left
-all : (es rest whole : List (ℕ × Value)) → rest ≡ [] → es ++ rest ≡ whole → es ≡ whole
-all es rest whole e h = sym (append-nil es) ∙ ap (λ (r : List (ℕ × Value)). es ++ r) (sym e) ∙ h
+fewer : (q : ℕ × Value) (left rest : List (ℕ × Value)) → rest ≡ q ∷ left → length left < length rest
+fewer q left rest e = omega (arith, ap length e)
+
+pub loop-at-init : goal.loop-at-init
+loop-at-init c = ap (λ (rs : List Replacement). as_map rs ++ c.into_iter-at-iterator.result) c.in_ok-replacements.ensures.items
+
+pub loop-at-preserved : goal.loop-at-preserved
+loop-at-preserved c =
+    one_more_taken c.loop-at.replacements.items c.push.new.self.items (record { at = c.in-Some.at; value = c.in-Some.value }) c.loop-at.at-iterator c.next.new.self c.into_iter-at-iterator.result
+    c.in_ok-push.ensures.items c.in-Some.ensures.steps c.loop-at.invariant
+
+pub loop-at-smaller : goal.loop-at-smaller
+loop-at-smaller c = fewer (c.in-Some.at, c.in-Some.value) c.next.new.self c.loop-at.at-iterator c.in-Some.ensures.steps
+
+pub returns-in_err-replacements-clause-value : goal.returns-in_err-replacements-clause-value
+returns-in_err-replacements-clause-value c =
+    let p = err_from_is_err_and c.from_residual.result c.from_residual.ensures.1 in
+    rw p.1 tt
+
+pub returns-in_err-replacements-clause-order : goal.returns-in_err-replacements-clause-order
+returns-in_err-replacements-clause-order c =
+    let p = err_from_is_err_and c.from_residual.result c.from_residual.ensures.1 in
+    rw p.1 tt
+
+pub returns-in_err-push-clause-value : goal.returns-in_err-push-clause-value
+returns-in_err-push-clause-value c =
+    let p = err_from_is_err_and c.from_residual-in_err-push.result c.from_residual-in_err-push.ensures.1 in
+    rw p.1 tt
+
+pub returns-in_err-push-clause-order : goal.returns-in_err-push-clause-order
+returns-in_err-push-clause-order c =
+    let p = err_from_is_err_and c.from_residual-in_err-push.result c.from_residual-in_err-push.ensures.1 in
+    rw p.1 tt
+
+pub returns-clause-value : goal.returns-clause-value
+returns-clause-value c = all_taken _ _ _ c.in-None.ensures.steps.0 c.loop-at.invariant ∙ c.into_iter-at-iterator.ensures.into_iter_gives.0
 
 pub returns-clause-order : goal.returns-clause-order
 returns-clause-order c =
     order_from_entries c.loop-at.replacements.items c.args.map.entries
-    (all _ _ _ c.in-None.ensures.steps.0 c.loop-at.invariant ∙ c.into_iter-at-iterator.ensures.into_iter_gives.0)
+    (all_taken _ _ _ c.in-None.ensures.steps.0 c.loop-at.invariant ∙ c.into_iter-at-iterator.ensures.into_iter_gives.0)
     c.len.ensures.ordered

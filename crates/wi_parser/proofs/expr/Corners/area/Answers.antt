@@ -1,4 +1,4 @@
 use Rattle.wi_parser.proofs.expr.Corners.area.Goals as goal
 
 pub returns : goal.returns
-returns c = cc
+returns c = c.new.ensures

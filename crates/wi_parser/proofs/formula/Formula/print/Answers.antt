@@ -2,6 +2,7 @@ use Rattle.std.proofs.Common.{rules, ap, sym, subst, length, string_bytes}
 use Rattle.std.proofs.lemmas.Str.{IsUtf8-string_bytes}
 use Rattle.std.specs.Str.{IsCharBoundary}
 use Rattle.wi_parser.proofs.PrintLemmas.{cut_place}
+use Rattle.wi_parser.proofs.FormulaTrees.{printed_spells, printed_again}
 use Rattle.wi_parser.proofs.formula.Formula.print.Goals as goal
 
 pub truncate-requires : goal.truncate-requires
@@ -13,3 +14,15 @@ truncate-requires c =
 
 pub returns-then-is_err-clause-err : goal.returns-then-is_err-clause-err
 returns-then-is_err-clause-err c = search rules
+
+pub returns-then-is_err-clause-spells : goal.returns-then-is_err-clause-spells
+returns-then-is_err-clause-spells c = printed_spells c.self.inside.parts.value.expr _ c.self.view_is c.self.invariant.tree
+
+pub returns-then-is_err-clause-again : goal.returns-then-is_err-clause-again
+returns-then-is_err-clause-again c = printed_again c.self.inside.parts.value.expr _ c.self.view_is c.self.invariant.tree
+
+pub returns-else-is_err-clause-spells : goal.returns-else-is_err-clause-spells
+returns-else-is_err-clause-spells c = printed_spells c.self.inside.parts.value.expr _ c.self.view_is c.self.invariant.tree
+
+pub returns-else-is_err-clause-again : goal.returns-else-is_err-clause-again
+returns-else-is_err-clause-again c = printed_again c.self.inside.parts.value.expr _ c.self.view_is c.self.invariant.tree

@@ -5,6 +5,8 @@ use Rattle.wi_parser.specs.View.{tree_of}
 use Rattle.wi_parser.specs.Inner.Outcome.{Finds}
 use Rattle.wi_parser.proofs.Marks.{operator-length}
 use Rattle.wi_parser.proofs.Turns.{fails_as, line_more, chain_stop, chain_fail, chain_more}
+use Rattle.std.proofs.Math.Nat.{lt_trans}
+use Rattle.wi_parser.proofs.Shorter.{past_operator}
 use Rattle.wi_parser.proofs.grammar.Grammar.+line.Goals as goal
 
 pub returns-then-line-eq2-clause-finds : goal.returns-then-line-eq2-clause-finds
@@ -69,3 +71,19 @@ returns-clause-finds g t c =
     let l = c.loop-op in
     l.invariant.2 ∙ chain_stop (line i (k - 1)) k l.invariant.0 (tree_of l.left) l.symbols c.in_default.ensures.0
     ∙ ap (λ ws. Some (tree_of l.left, ws)) (sym c.in_default.ensures.1)
+
+pub returns-then-line-eq2-clause-shorter : goal.returns-then-line-eq2-clause-shorter
+returns-then-line-eq2-clause-shorter g t c = c.percents.ensures.shorter
+
+pub loop-op-smaller : goal.loop-op-smaller
+loop-op-smaller g t c = lt_trans c.in_ok-right.ensures.shorter (past_operator _ _ _ _ c.in-Some.ensures)
+
+pub returns-clause-shorter : goal.returns-clause-shorter
+returns-clause-shorter g t c =
+    subst (λ ws. length ws < length c.args.symbols.now) (sym c.in_default.ensures.1) c.loop-op.invariant.3
+
+pub line-requires : goal.line-requires
+line-requires g t c = λ κs within. (omega arith, (within, (c.requires.nests, omega arith)))
+
+pub line-requires-in-Some : goal.line-requires-in-Some
+line-requires-in-Some g t c = λ κs within. (omega arith, (within, (c.requires.nests, omega arith)))

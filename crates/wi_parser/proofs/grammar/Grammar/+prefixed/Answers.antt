@@ -1,8 +1,10 @@
-use Rattle.std.proofs.Common.{Some, ap, ◌∙◌, sym, subst}
+use Rattle.std.proofs.Common.{arith, ◌<◌, length, Some, OnOk, ap, ◌∙◌, sym, subst}
 use Rattle.std.proofs.lemmas.Result.{err_from_is_err_and}
 use Rattle.wi_parser.specs.Inner.Reader.{signed_read, atom, line, expression}
 use Rattle.wi_parser.specs.Inner.Outcome.{Finds}
 use Rattle.wi_parser.proofs.Turns.{fails_as, prefix_stop, prefix_more}
+use Rattle.std.proofs.Math.Nat.{lt_trans}
+use Rattle.wi_parser.proofs.Shorter.{past_sign}
 use Rattle.wi_parser.proofs.grammar.Grammar.+prefixed.Goals as goal
 
 pub returns-in_default-clause-finds : goal.returns-in_default-clause-finds
@@ -29,3 +31,18 @@ returns-clause-finds g t c =
     let s = c.in-Some.sign in
     prefix_more next s c.args.symbols.now c.take_sign.new.self c.in-Some.ensures ∙ ap (signed_read s) c.in_ok-operand.ensures.finds
     ∙ ap (λ t. Some (t, c.prefixed.new.symbols)) (sym c.in_ok-signed.ensures)
+
+pub returns-in_default-clause-shorter : goal.returns-in_default-clause-shorter
+returns-in_default-clause-shorter g t c =
+    subst (λ ws. OnOk c.atom.result (length c.atom.new.symbols < length ws)) c.in_default.ensures.1 c.atom.ensures.shorter
+
+pub returns-clause-shorter : goal.returns-clause-shorter
+returns-clause-shorter g t c = lt_trans c.in_ok-operand.ensures.shorter (past_sign _ _ _ c.in-Some.ensures)
+
+pub atom-requires : goal.atom-requires
+atom-requires g t c = c.requires
+
+pub prefixed-requires : goal.prefixed-requires
+prefixed-requires g t c =
+    let less = past_sign _ _ _ c.in-Some.ensures in
+    λ κs within. (omega arith, (within, c.requires))

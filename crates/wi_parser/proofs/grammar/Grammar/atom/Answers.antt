@@ -1,6 +1,7 @@
 use Rattle.std.proofs.Common.{Some, ap, ◌∙◌, sym, subst}
 use Rattle.wi_parser.specs.Inner.Reader.{atom, expression}
 use Rattle.wi_parser.specs.Inner.Outcome.{Finds}
+use Rattle.wi_parser.proofs.Shorter.{one_less, still_less}
 use Rattle.wi_parser.proofs.grammar.Grammar.atom.Goals as goal
 
 pub returns-in-Open-clause-finds : goal.returns-in-Open-clause-finds
@@ -58,3 +59,34 @@ returns-in-Percent-clause-finds g c = ap (atom (expression c.args.self.now.depth
 pub returns-in-Refused-clause-finds : goal.returns-in-Refused-clause-finds
 unfolding atom
 returns-in-Refused-clause-finds g c = ap (atom (expression c.args.self.now.depth)) (rw c.in-Refused.is at c.in-Some.ensures)
+
+pub returns-in-Number-clause-shorter : goal.returns-in-Number-clause-shorter
+returns-in-Number-clause-shorter g c = one_less _ _ _ c.in-Some.ensures
+
+pub returns-in-Cell-clause-shorter : goal.returns-in-Cell-clause-shorter
+returns-in-Cell-clause-shorter g c = one_less _ _ _ c.in-Some.ensures
+
+pub returns-in-Rectangle-clause-shorter : goal.returns-in-Rectangle-clause-shorter
+returns-in-Rectangle-clause-shorter g c = one_less _ _ _ c.in-Some.ensures
+
+pub returns-in_ok-text-in-Text-clause-shorter : goal.returns-in_ok-text-in-Text-clause-shorter
+returns-in_ok-text-in-Text-clause-shorter g c = one_less _ _ _ c.in-Some.ensures
+
+pub returns-in-Open-clause-shorter : goal.returns-in-Open-clause-shorter
+returns-in-Open-clause-shorter g c = still_less _ _ _ _ (one_less _ _ _ c.in-Some.ensures) c.enclosed.ensures.shorter
+
+pub returns-in-WhatIf-clause-shorter : goal.returns-in-WhatIf-clause-shorter
+returns-in-WhatIf-clause-shorter g c = still_less _ _ _ _ (one_less _ _ _ c.in-Some.ensures) c.what_if.ensures.shorter
+
+pub returns-in-Name-clause-shorter : goal.returns-in-Name-clause-shorter
+returns-in-Name-clause-shorter g c = still_less _ _ _ _ (one_less _ _ _ c.in-Some.ensures) c.called.ensures.shorter
+
+pub returns-in-WhatIf-clause-finds : goal.returns-in-WhatIf-clause-finds
+unfolding atom
+returns-in-WhatIf-clause-finds g c =
+    let is = rw c.in-WhatIf.is at c.in-Some.ensures in
+    subst (λ found. Finds found c.what_if.result c.what_if.new.symbols) (sym (ap (atom (expression c.args.self.now.depth)) is)) c.what_if.ensures.finds
+
+pub returns-in_default-clause-finds : goal.returns-in_default-clause-finds
+unfolding atom
+returns-in_default-clause-finds g c = ap (atom (expression c.args.self.now.depth)) c.in_default.ensures.0

@@ -4,6 +4,8 @@ use Rattle.wi_parser.specs.Inner.Reader.{as_call, called, expression, parameters
 use Rattle.wi_parser.specs.Inner.Outcome.{put_before}
 use Rattle.wi_parser.proofs.Turns.{fails_as}
 use Rattle.wi_parser.proofs.Parameters.{put_before-nothing}
+use Rattle.std.proofs.Math.Nat.{lt_trans}
+use Rattle.wi_parser.proofs.Shorter.{past_open}
 use Rattle.wi_parser.proofs.grammar.Grammar.called.Goals as goal
 
 pub returns-then-not-take_open-clause-finds : goal.returns-then-not-take_open-clause-finds
@@ -28,3 +30,6 @@ returns-clause-finds g c =
     let nothing = ap (λ es. put_before es found) c.new-parameters.ensures.items ∙ put_before-nothing found in
     ap (called i f) c.if-not-take_open.ensures.yes ∙ ap (as_call f) (sym nothing ∙ c.in_ok-parameters.ensures.finds)
     ∙ ap (λ t. Some (t, c.parameters.new.symbols)) (sym c.in_ok-call.ensures)
+
+pub returns-clause-shorter : goal.returns-clause-shorter
+returns-clause-shorter g c = lt_trans c.in_ok-parameters.ensures.shorter (past_open _ _ c.if-not-take_open.ensures.yes)

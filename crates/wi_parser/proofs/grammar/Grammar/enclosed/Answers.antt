@@ -4,6 +4,8 @@ use Rattle.wi_parser.specs.Inner.Reader.{read_then, then_close}
 use Rattle.wi_parser.specs.Tree.{parenthesized}
 use Rattle.wi_parser.specs.View.{tree_of}
 use Rattle.wi_parser.proofs.Turns.{fails_as}
+use Rattle.std.proofs.Math.Nat.{lt_trans}
+use Rattle.wi_parser.proofs.Shorter.{past_close}
 use Rattle.wi_parser.proofs.grammar.Grammar.enclosed.Goals as goal
 
 pub returns-in_err-inner-clause-finds : goal.returns-in_err-inner-clause-finds
@@ -23,3 +25,6 @@ returns-clause-finds g c =
     ap (read_then (λ t. then_close (parenthesized t))) inside.ensures.finds
     ∙ ap (option_map (λ rest. (parenthesized (tree_of inside.inner), rest))) c.if-not-take_close.ensures.yes
     ∙ ap (λ t. Some (t, c.take_close.new.self)) (sym c.in_ok-parenthesized.ensures)
+
+pub returns-clause-shorter : goal.returns-clause-shorter
+returns-clause-shorter g c = lt_trans (past_close _ _ c.if-not-take_close.ensures.yes) c.in_ok-inner.ensures.shorter

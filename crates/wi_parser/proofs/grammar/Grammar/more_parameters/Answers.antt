@@ -6,6 +6,8 @@ use Rattle.wi_parser.specs.View.{tree_of}
 use Rattle.wi_parser.proofs.Marks.{close-length, separator-length}
 use Rattle.wi_parser.proofs.Turns.{fails_as}
 use Rattle.wi_parser.proofs.Parameters.{more_last, more_fail, more_bad, more_again, before-none, put_before-first}
+use Rattle.std.proofs.Math.Nat.{lt_trans, lt_of_lt_of_le}
+use Rattle.wi_parser.proofs.Shorter.{past_close, past_separator}
 use Rattle.wi_parser.proofs.grammar.Grammar.more_parameters.Goals as goal
 
 pub returns-then-not-take_separator-clause-finds : goal.returns-then-not-take_separator-clause-finds
@@ -50,3 +52,11 @@ returns-clause-finds g c =
     let one_less = close-length l.symbols _ closed in
     l.invariant.2 ∙ ap (put_before l.found.items) (more_last (expression c.args.self.now.depth) l.invariant.0 l.symbols _ (omega arith) closed)
     ∙ ap (λ all. Some (all, c.take_close.new.self)) (before-none l.found.items)
+
+pub loop-symbols-smaller : goal.loop-symbols-smaller
+loop-symbols-smaller g c =
+    let taken = ap after_separator (sym c.loop-symbols-test.ensures.no.1) ∙ c.if-not-take_separator.ensures.yes in
+    lt_trans c.in_ok-inner.ensures.shorter (past_separator _ _ taken)
+
+pub returns-clause-shorter : goal.returns-clause-shorter
+returns-clause-shorter g c = lt_of_lt_of_le (past_close _ _ c.loop-symbols-test.ensures.yes) c.loop-symbols.invariant.3

@@ -1,10 +1,11 @@
-use Rattle.std.proofs.Common.{Some, ap, ◌∙◌, sym, subst, length}
+use Rattle.std.proofs.Common.{◌<◌, Some, ap, ◌∙◌, sym, subst, length}
 use Rattle.std.proofs.lemmas.Result.{err_from_is_err_and}
 use Rattle.wi_parser.specs.Inner.Reader.{expression, more_parameters, first_parameter, parameters_at}
 use Rattle.wi_parser.specs.Inner.Outcome.{FindsMore, put_before}
 use Rattle.wi_parser.specs.View.{tree_of}
 use Rattle.wi_parser.proofs.Turns.{fails_as}
 use Rattle.wi_parser.proofs.Parameters.{parameters_first, parameters_bad, before-none, put_before-first}
+use Rattle.wi_parser.proofs.Shorter.{past_close, still_less}
 use Rattle.wi_parser.proofs.grammar.Grammar.parameters.Goals as goal
 
 pub returns-then-take_close-clause-finds : goal.returns-then-take_close-clause-finds
@@ -33,3 +34,10 @@ returns-clause-finds g c =
     let others = more_parameters i (length rest) rest in
     let same = ap (put_before found) first ∙ put_before-first found e others ∙ ap (λ es. put_before es others) (sym c.in_ok-push.ensures.items) in
     subst (λ r. FindsMore r c.more_parameters.result c.more_parameters.new.found.items c.more_parameters.new.symbols) (sym same) c.more_parameters.ensures.finds
+
+pub returns-then-take_close-clause-shorter : goal.returns-then-take_close-clause-shorter
+returns-then-take_close-clause-shorter g c = past_close _ _ c.if-take_close.ensures.yes
+
+pub returns-clause-shorter : goal.returns-clause-shorter
+returns-clause-shorter g c =
+    still_less _ _ _ _ (subst (λ ws. length c.inner.new.symbols < length ws) c.if-take_close.ensures.no.1 c.in_ok-inner.ensures.shorter) c.more_parameters.ensures.shorter

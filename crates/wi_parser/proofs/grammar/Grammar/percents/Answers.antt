@@ -1,9 +1,10 @@
-use Rattle.std.proofs.Common.{arith, Some, ap, sym, ◌∙◌}
+use Rattle.std.proofs.Common.{arith, ◌<◌, length, Some, ap, sym, subst, ◌∙◌}
 use Rattle.std.proofs.lemmas.Result.{err_from_is_err_and}
 use Rattle.wi_parser.specs.Inner.Reader.{read_then, percents, line}
 use Rattle.wi_parser.specs.View.{tree_of}
 use Rattle.wi_parser.proofs.Marks.{percent-length}
 use Rattle.wi_parser.proofs.Turns.{fails_as, percents_stop, percents_more}
+use Rattle.wi_parser.proofs.Shorter.{past_percent}
 use Rattle.wi_parser.proofs.grammar.Grammar.percents.Goals as goal
 
 pub returns-in_err-operand-clause-finds : goal.returns-in_err-operand-clause-finds
@@ -29,3 +30,10 @@ returns-clause-finds g c =
     let l = c.loop-operand in
     let none = c.loop-operand-test.ensures.no in
     l.invariant.0 ∙ percents_stop (tree_of l.operand) l.symbols none.0 ∙ ap (λ ws. Some (tree_of l.operand, ws)) (sym none.1)
+
+pub loop-operand-smaller : goal.loop-operand-smaller
+loop-operand-smaller g c = past_percent _ _ c.loop-operand-test.ensures.yes
+
+pub returns-clause-shorter : goal.returns-clause-shorter
+returns-clause-shorter g c =
+    subst (λ ws. length ws < length c.args.symbols.now) (sym c.loop-operand-test.ensures.no.1) c.loop-operand.invariant.1

@@ -1,4 +1,4 @@
-use Rattle.std.proofs.Common.{◌≡◌, ◌≤◌, ◌-◌, ◌+◌, ◌⊎◌, ◌||◌, ◌∙◌, ℕ, false, true, List, length, Option, Some, IfSome, OnOk, is_some, ap, sym, subst}
+use Rattle.std.proofs.Common.{◌≡◌, ◌≤◌, ◌-◌, ◌+◌, ◌⊎◌, ◌||◌, ◌∙◌, ℕ, false, true, List, length, Option, Some, IfSome, OnOk, is_some, refl, ap, sym, subst}
 use Rattle.std.proofs.lemmas.Result.{IfOk-weaker}
 use Rattle.std.specs.Option.{option_or}
 use Rattle.wi_values.specs.declared.replacement.Replacement.{Replacement}
@@ -126,3 +126,24 @@ returns-clause-room c =
     let room = c.keep.new.self.capacity - length c.keep.new.self.entries in
     subst (λ (q : Keeping). OnOk c.keep.result (is_some (value_for q.values.entries (key_in q.generations c.args.key.cell c.args.key.world)) ≡ false → 1 ≤ q.values.capacity - length q.values.entries → room + 1 ≡ q.values.capacity - length q.values.entries)) c.self.view_is
     (room_after c.keep.result i.generations.now.entries i.kept c.keep.new.self c.args.key c.args.value keeps generation)
+
+pub returns-clause-same_cells : goal.returns-clause-same_cells
+returns-clause-same_cells c = refl
+
+pub returns-clause-same_generation : goal.returns-clause-same_generation
+returns-clause-same_generation c = ap (λ (q : Keeping). generation_in q.generations) c.self.view_is
+
+pub returns-in_err-save_going-clause-same_cells : goal.returns-in_err-save_going-clause-same_cells
+returns-in_err-save_going-clause-same_cells c = refl
+
+pub returns-in_err-save_going-clause-same_generation : goal.returns-in_err-save_going-clause-same_generation
+returns-in_err-save_going-clause-same_generation c = ap (λ (q : Keeping). generation_in q.generations) c.self.view_is
+
+pub returns-in_err-save_going-clause-same_sheet : goal.returns-in_err-save_going-clause-same_sheet
+returns-in_err-save_going-clause-same_sheet c = ap (λ (q : Keeping). q.sheet) c.self.view_is
+
+pub returns-in_err-save_going-clause-same_latest : goal.returns-in_err-save_going-clause-same_latest
+returns-in_err-save_going-clause-same_latest c = ap (λ (q : Keeping). q.edits) c.self.view_is
+
+pub returns-in_err-save_going-clause-same_capacity : goal.returns-in_err-save_going-clause-same_capacity
+returns-in_err-save_going-clause-same_capacity c = ap (λ (q : Keeping). q.values.capacity) c.self.view_is

@@ -11,8 +11,8 @@ use Rattle.wi_propagate.specs.KeptSheet.{KeptSheet, unkept, IsAtHand, HasRoomFor
 use Rattle.wi_propagate.specs.Inner.Cones.{AreAllCones}
 use Rattle.wi_propagate.specs.Inner.Keeping.{Keeping, kept_sheet, begun, state_in}
 use Rattle.wi_cache.specs.Entries.{KeptValues}
-use Rattle.wi_propagate.proofs.Showing.{shown_value}
-use Rattle.wi_propagate.proofs.Questions.{begun_is, begun_right, begun_within, begun_one_each, may_be_read, right_then, asked_at_most, asked_evaluations, asked_unkept, asked_unkept_evaluations, asked_saves, asked_keeps, asked_no_more, none_no_more, asked_while_room, asked_kept, at_hand_is, has_case}
+use Rattle.wi_propagate.proofs.Showing.{grown_count, same_count, shown_value}
+use Rattle.wi_propagate.proofs.Questions.{begun_is, begun_right, begun_within, begun_one_each, may_be_read, right_then, asked_at_most, asked_evaluations, asked_unkept, asked_unkept_evaluations, asked_saves, asked_keeps, asked_no_more, none_no_more, none_while_room, asked_while_room, asked_kept, at_hand_is, has_case}
 use Rattle.wi_propagate.proofs.kept.KeptCalculatorCalculator.value.Goals as goal
 
 pub returns-clause-evaluations_never_fall : goal.returns-clause-evaluations_never_fall
@@ -211,3 +211,138 @@ returns-clause-same_generations c = ap (λ (x : KeptSheet). x.generations) c.sel
 
 pub new-memo-requires-clause-cones : goal.new-memo-requires-clause-cones
 new-memo-requires-clause-cones c = c.take_cones-cones.ensures c.self.inside.store.sheet c.self.invariant.4
+
+pub returns-then-is_circular-clause-same : goal.returns-then-is_circular-clause-same
+returns-then-is_circular-clause-same c = refl
+
+pub returns-then-is_circular-clause-same_generations : goal.returns-then-is_circular-clause-same_generations
+returns-then-is_circular-clause-same_generations c = refl
+
+pub returns-then-is_circular-clause-same_room : goal.returns-then-is_circular-clause-same_room
+returns-then-is_circular-clause-same_room c = refl
+
+pub returns-then-is_circular-clause-evaluations : goal.returns-then-is_circular-clause-evaluations
+returns-then-is_circular-clause-evaluations c = grown_count c.args.self.now.counts.evaluations _
+
+pub returns-then-is_circular-clause-evaluations_never_fall : goal.returns-then-is_circular-clause-evaluations_never_fall
+returns-then-is_circular-clause-evaluations_never_fall c = same_count c.args.self.now.counts.evaluations
+
+pub returns-then-is_circular-clause-unkept_evaluations : goal.returns-then-is_circular-clause-unkept_evaluations
+returns-then-is_circular-clause-unkept_evaluations c = λ room. grown_count c.args.self.now.counts.evaluations _
+
+pub returns-then-is_circular-clause-restarts : goal.returns-then-is_circular-clause-restarts
+returns-then-is_circular-clause-restarts c = grown_count c.args.self.now.counts.restarts _
+
+pub returns-then-is_circular-clause-restarts_never_fall : goal.returns-then-is_circular-clause-restarts_never_fall
+returns-then-is_circular-clause-restarts_never_fall c = same_count c.args.self.now.counts.restarts
+
+pub returns-then-is_circular-clause-unkept_restarts : goal.returns-then-is_circular-clause-unkept_restarts
+returns-then-is_circular-clause-unkept_restarts c = λ room. grown_count c.args.self.now.counts.restarts _
+
+pub returns-then-is_circular-clause-easy : goal.returns-then-is_circular-clause-easy
+returns-then-is_circular-clause-easy c = λ h. refl
+
+pub returns-in_err-value-clause-same : goal.returns-in_err-value-clause-same
+returns-in_err-value-clause-same c = refl
+
+pub returns-in_err-value-clause-same_generations : goal.returns-in_err-value-clause-same_generations
+returns-in_err-value-clause-same_generations c = refl
+
+pub returns-in_err-value-clause-same_room : goal.returns-in_err-value-clause-same_room
+returns-in_err-value-clause-same_room c = refl
+
+pub returns-in_err-value-clause-evaluations : goal.returns-in_err-value-clause-evaluations
+returns-in_err-value-clause-evaluations c = grown_count c.args.self.now.counts.evaluations _
+
+pub returns-in_err-value-clause-evaluations_never_fall : goal.returns-in_err-value-clause-evaluations_never_fall
+returns-in_err-value-clause-evaluations_never_fall c = same_count c.args.self.now.counts.evaluations
+
+pub returns-in_err-value-clause-unkept_evaluations : goal.returns-in_err-value-clause-unkept_evaluations
+returns-in_err-value-clause-unkept_evaluations c = λ room. grown_count c.args.self.now.counts.evaluations _
+
+pub returns-in_err-value-clause-restarts : goal.returns-in_err-value-clause-restarts
+returns-in_err-value-clause-restarts c = grown_count c.args.self.now.counts.restarts _
+
+pub returns-in_err-value-clause-restarts_never_fall : goal.returns-in_err-value-clause-restarts_never_fall
+returns-in_err-value-clause-restarts_never_fall c = same_count c.args.self.now.counts.restarts
+
+pub returns-in_err-value-clause-unkept_restarts : goal.returns-in_err-value-clause-unkept_restarts
+returns-in_err-value-clause-unkept_restarts c = λ room. grown_count c.args.self.now.counts.restarts _
+
+pub returns-in_err-value-clause-easy : goal.returns-in_err-value-clause-easy
+returns-in_err-value-clause-easy c = λ h. refl
+
+pub returns-in-Some-clause-same : goal.returns-in-Some-clause-same
+returns-in-Some-clause-same c = refl
+
+pub returns-in-Some-clause-same_generations : goal.returns-in-Some-clause-same_generations
+returns-in-Some-clause-same_generations c = refl
+
+pub returns-in-Some-clause-same_room : goal.returns-in-Some-clause-same_room
+returns-in-Some-clause-same_room c = refl
+
+pub returns-in-Some-clause-evaluations : goal.returns-in-Some-clause-evaluations
+returns-in-Some-clause-evaluations c = grown_count c.args.self.now.counts.evaluations _
+
+pub returns-in-Some-clause-evaluations_never_fall : goal.returns-in-Some-clause-evaluations_never_fall
+returns-in-Some-clause-evaluations_never_fall c = same_count c.args.self.now.counts.evaluations
+
+pub returns-in-Some-clause-unkept_evaluations : goal.returns-in-Some-clause-unkept_evaluations
+returns-in-Some-clause-unkept_evaluations c = λ room. grown_count c.args.self.now.counts.evaluations _
+
+pub returns-in-Some-clause-restarts : goal.returns-in-Some-clause-restarts
+returns-in-Some-clause-restarts c = grown_count c.args.self.now.counts.restarts _
+
+pub returns-in-Some-clause-restarts_never_fall : goal.returns-in-Some-clause-restarts_never_fall
+returns-in-Some-clause-restarts_never_fall c = same_count c.args.self.now.counts.restarts
+
+pub returns-in-Some-clause-unkept_restarts : goal.returns-in-Some-clause-unkept_restarts
+returns-in-Some-clause-unkept_restarts c = λ room. grown_count c.args.self.now.counts.restarts _
+
+pub returns-in-Some-clause-easy : goal.returns-in-Some-clause-easy
+returns-in-Some-clause-easy c = λ h. refl
+
+pub returns-in_err-world-clause-same : goal.returns-in_err-world-clause-same
+returns-in_err-world-clause-same c = refl
+
+pub returns-in_err-world-clause-same_generations : goal.returns-in_err-world-clause-same_generations
+returns-in_err-world-clause-same_generations c = refl
+
+pub returns-in_err-world-clause-same_room : goal.returns-in_err-world-clause-same_room
+returns-in_err-world-clause-same_room c = refl
+
+pub returns-in_err-world-clause-evaluations : goal.returns-in_err-world-clause-evaluations
+returns-in_err-world-clause-evaluations c = grown_count c.args.self.now.counts.evaluations _
+
+pub returns-in_err-world-clause-evaluations_never_fall : goal.returns-in_err-world-clause-evaluations_never_fall
+returns-in_err-world-clause-evaluations_never_fall c = same_count c.args.self.now.counts.evaluations
+
+pub returns-in_err-world-clause-unkept_evaluations : goal.returns-in_err-world-clause-unkept_evaluations
+returns-in_err-world-clause-unkept_evaluations c = λ room. grown_count c.args.self.now.counts.evaluations _
+
+pub returns-in_err-world-clause-restarts : goal.returns-in_err-world-clause-restarts
+returns-in_err-world-clause-restarts c = grown_count c.args.self.now.counts.restarts _
+
+pub returns-in_err-world-clause-restarts_never_fall : goal.returns-in_err-world-clause-restarts_never_fall
+returns-in_err-world-clause-restarts_never_fall c = same_count c.args.self.now.counts.restarts
+
+pub returns-in_err-world-clause-unkept_restarts : goal.returns-in_err-world-clause-unkept_restarts
+returns-in_err-world-clause-unkept_restarts c = λ room. grown_count c.args.self.now.counts.restarts _
+
+pub returns-in_err-world-clause-easy : goal.returns-in_err-world-clause-easy
+returns-in_err-world-clause-easy c = λ h. refl
+
+pub value_under-result-requires-clause-memo : goal.value_under-result-requires-clause-memo
+value_under-result-requires-clause-memo c = c.new-memo.ensures.memo
+
+pub returns-then-is_circular-clause-while_room : goal.returns-then-is_circular-clause-while_room
+returns-then-is_circular-clause-while_room c = none_while_room c.args.self.now c.args.self.now refl
+
+pub returns-in_err-value-clause-while_room : goal.returns-in_err-value-clause-while_room
+returns-in_err-value-clause-while_room c = none_while_room c.args.self.now c.args.self.now refl
+
+pub returns-in-Some-clause-while_room : goal.returns-in-Some-clause-while_room
+returns-in-Some-clause-while_room c = none_while_room c.args.self.now c.args.self.now refl
+
+pub returns-in_err-world-clause-while_room : goal.returns-in_err-world-clause-while_room
+returns-in_err-world-clause-while_room c = none_while_room c.args.self.now c.args.self.now refl

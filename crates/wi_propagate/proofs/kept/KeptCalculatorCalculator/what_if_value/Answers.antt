@@ -11,7 +11,8 @@ use Rattle.wi_propagate.specs.KeptSheet.{KeptSheet, unkept, HasRoomFor, is_kept,
 use Rattle.wi_propagate.specs.Inner.Cones.{AreAllCones}
 use Rattle.wi_propagate.specs.Inner.Keeping.{Keeping, kept_sheet, begun, state_in}
 use Rattle.wi_cache.specs.Entries.{KeptValues}
-use Rattle.wi_propagate.proofs.Questions.{begun_is, begun_right, begun_within, begun_one_each, may_be_read, right_then, asked_at_most, asked_evaluations, asked_unkept, asked_unkept_evaluations, asked_saves, asked_keeps, asked_no_more, none_no_more, asked_while_room, asked_where, asked_settled, entry_has, circular_entry, circular_clash, open_cells, entry_shown}
+use Rattle.wi_propagate.proofs.Showing.{grown_count, same_count}
+use Rattle.wi_propagate.proofs.Questions.{begun_is, begun_right, begun_within, begun_one_each, may_be_read, right_then, asked_at_most, asked_evaluations, asked_unkept, asked_unkept_evaluations, asked_saves, asked_keeps, asked_no_more, none_no_more, none_while_room, asked_while_room, asked_where, asked_settled, entry_has, circular_entry, circular_clash, open_cells, entry_shown}
 use Rattle.wi_propagate.proofs.kept.KeptCalculatorCalculator.what_if_value.Goals as goal
 
 pub returns-then-entry_is_circular-clause-value : goal.returns-then-entry_is_circular-clause-value
@@ -227,3 +228,66 @@ returns-clause-evaluations_never_fall c = subst (λ (x : KeptSheet). x.counts.ev
 
 pub returns-clause-restarts_never_fall : goal.returns-clause-restarts_never_fall
 returns-clause-restarts_never_fall c = subst (λ (x : KeptSheet). x.counts.restarts ≤ c.open_entry-result.new.meter.restarts) c.self.view_is c.open_entry-result.ensures.counts.1
+
+pub returns-in_err-world-clause-same : goal.returns-in_err-world-clause-same
+returns-in_err-world-clause-same c = refl
+
+pub returns-in_err-world-clause-same_generations : goal.returns-in_err-world-clause-same_generations
+returns-in_err-world-clause-same_generations c = refl
+
+pub returns-in_err-world-clause-same_room : goal.returns-in_err-world-clause-same_room
+returns-in_err-world-clause-same_room c = refl
+
+pub returns-in_err-world-clause-evaluations : goal.returns-in_err-world-clause-evaluations
+returns-in_err-world-clause-evaluations c = grown_count c.args.self.now.counts.evaluations _
+
+pub returns-in_err-world-clause-evaluations_never_fall : goal.returns-in_err-world-clause-evaluations_never_fall
+returns-in_err-world-clause-evaluations_never_fall c = same_count c.args.self.now.counts.evaluations
+
+pub returns-in_err-world-clause-unkept_evaluations : goal.returns-in_err-world-clause-unkept_evaluations
+returns-in_err-world-clause-unkept_evaluations c = λ room. grown_count c.args.self.now.counts.evaluations _
+
+pub returns-in_err-world-clause-restarts : goal.returns-in_err-world-clause-restarts
+returns-in_err-world-clause-restarts c = grown_count c.args.self.now.counts.restarts _
+
+pub returns-in_err-world-clause-restarts_never_fall : goal.returns-in_err-world-clause-restarts_never_fall
+returns-in_err-world-clause-restarts_never_fall c = same_count c.args.self.now.counts.restarts
+
+pub returns-in_err-world-clause-unkept_restarts : goal.returns-in_err-world-clause-unkept_restarts
+returns-in_err-world-clause-unkept_restarts c = λ room. grown_count c.args.self.now.counts.restarts _
+
+pub open_entry-result-requires-clause-memo : goal.open_entry-result-requires-clause-memo
+open_entry-result-requires-clause-memo c = c.new-memo.ensures.memo
+
+pub returns-then-entry_is_circular-clause-same : goal.returns-then-entry_is_circular-clause-same
+returns-then-entry_is_circular-clause-same c = refl
+
+pub returns-then-entry_is_circular-clause-same_generations : goal.returns-then-entry_is_circular-clause-same_generations
+returns-then-entry_is_circular-clause-same_generations c = refl
+
+pub returns-then-entry_is_circular-clause-same_room : goal.returns-then-entry_is_circular-clause-same_room
+returns-then-entry_is_circular-clause-same_room c = refl
+
+pub returns-then-entry_is_circular-clause-evaluations : goal.returns-then-entry_is_circular-clause-evaluations
+returns-then-entry_is_circular-clause-evaluations c = grown_count c.args.self.now.counts.evaluations _
+
+pub returns-then-entry_is_circular-clause-evaluations_never_fall : goal.returns-then-entry_is_circular-clause-evaluations_never_fall
+returns-then-entry_is_circular-clause-evaluations_never_fall c = same_count c.args.self.now.counts.evaluations
+
+pub returns-then-entry_is_circular-clause-unkept_evaluations : goal.returns-then-entry_is_circular-clause-unkept_evaluations
+returns-then-entry_is_circular-clause-unkept_evaluations c = λ room. grown_count c.args.self.now.counts.evaluations _
+
+pub returns-then-entry_is_circular-clause-restarts : goal.returns-then-entry_is_circular-clause-restarts
+returns-then-entry_is_circular-clause-restarts c = grown_count c.args.self.now.counts.restarts _
+
+pub returns-then-entry_is_circular-clause-restarts_never_fall : goal.returns-then-entry_is_circular-clause-restarts_never_fall
+returns-then-entry_is_circular-clause-restarts_never_fall c = same_count c.args.self.now.counts.restarts
+
+pub returns-then-entry_is_circular-clause-unkept_restarts : goal.returns-then-entry_is_circular-clause-unkept_restarts
+returns-then-entry_is_circular-clause-unkept_restarts c = λ room. grown_count c.args.self.now.counts.restarts _
+
+pub returns-then-entry_is_circular-clause-while_room : goal.returns-then-entry_is_circular-clause-while_room
+returns-then-entry_is_circular-clause-while_room c = none_while_room c.args.self.now c.args.self.now refl
+
+pub returns-in_err-world-clause-while_room : goal.returns-in_err-world-clause-while_room
+returns-in_err-world-clause-while_room c = none_while_room c.args.self.now c.args.self.now refl

@@ -1,4 +1,5 @@
-use Rattle.std.proofs.Common.{[], sym, ap, ◌∙◌}
+use Rattle.std.proofs.Common.{◌<◌, ℕ, [], length, sym, ap, subst, ◌∙◌}
+use Rattle.std.proofs.lemmas.List.{length-map}
 use Rattle.wi_sessions.specs.Sessions.{Session, new_session}
 use Rattle.wi_sessions.specs.Roster.{Roster}
 use Rattle.wi_sessions.specs.Inner.Held.{session_in, pending_cells, rooms_of, with_name}
@@ -26,3 +27,7 @@ returns-clause-vacant c =
     let x = c.index.result.now in
     let e = entry_at items c.args.i x c.index.ensures in
     sym (part_at rooms_of items c.args.i e.0 x c.args.self.now.vacant e.1 (ap (λ (r : Roster). r.vacant) c.self.view_is) [])
+
+pub index-requires : goal.index-requires
+index-requires c =
+    subst (λ (n : ℕ). c.args.i < n) (ap (λ (r : Roster). length r.sessions) (sym c.self.view_is) ∙ length-map c.self.inside.held.entries session_in) c.requires

@@ -1,0 +1,41 @@
+use Rattle.std.proofs.Common.{Some, ◌∙◌, sym}
+use Rattle.wi_values.proofs.Within.{fewer_places}
+use Rattle.wi_graph.specs.Inner.Search.{as_set}
+use Rattle.wi_graph.proofs.WithinSteps.{none_ahead, seek_start, seek_first, seek_none, seek_found, seek_on}
+use Rattle.wi_graph.proofs.within.next_listed.Goals as goal
+
+pub loop-ahead-init : goal.loop-ahead-init
+loop-ahead-init c = seek_start (as_set c.args.cells.now) c.args.area c.args.from
+
+pub returns-in_err-cell-clause-found : goal.returns-in_err-cell-clause-found
+returns-in_err-cell-clause-found c = none_ahead (as_set c.args.cells.now) c.args.area c.args.from c.from_residual.result c.from_residual.ensures
+
+pub returns-in_err-cell-clause-first : goal.returns-in_err-cell-clause-first
+returns-in_err-cell-clause-first c =
+    seek_none (as_set c.args.cells.now) c.args.area c.args.from c.in-Some.start c.last.result c.from_residual.result c.last.ensures (rw c.in-Some.is at c.loop-ahead.invariant) c.in_err-cell.ensures.first
+
+pub returns-then-contains-clause-found : goal.returns-then-contains-clause-found
+returns-then-contains-clause-found c =
+    seek_found (as_set c.args.cells.now) c.args.area c.args.from c.in-Some.start c.in_ok-cell.cell (rw c.in-Some.is at c.loop-ahead.invariant) (rw c.last.ensures at c.in_ok-cell.ensures.found) (sym c.contains.ensures ∙ c.if-contains.true)
+
+pub returns-then-contains-clause-first : goal.returns-then-contains-clause-first
+returns-then-contains-clause-first c =
+    seek_first (as_set c.args.cells.now) c.args.area c.args.from c.in-Some.start (Some c.in_ok-cell.cell) (rw c.in-Some.is at c.loop-ahead.invariant) (rw c.last.ensures at c.in_ok-cell.ensures.first)
+
+pub place_after-ahead-requires : goal.place_after-ahead-requires
+place_after-ahead-requires c = (rw c.last.ensures at c.in_ok-cell.ensures.found).1
+
+pub loop-ahead-smaller : goal.loop-ahead-smaller
+loop-ahead-smaller c =
+    let between = rw c.last.ensures at c.in_ok-cell.ensures.found in
+    rw c.in-Some.is (fewer_places c.args.area c.in-Some.start c.in_ok-cell.cell c.place_after-ahead.result between.0 between.1 c.place_after-ahead.ensures.after)
+
+pub loop-ahead-preserved : goal.loop-ahead-preserved
+loop-ahead-preserved c =
+    let between = rw c.last.ensures at c.in_ok-cell.ensures.found in
+    let first = rw c.last.ensures at c.in_ok-cell.ensures.first in
+    seek_on (as_set c.args.cells.now) c.args.area c.args.from c.in-Some.start c.in_ok-cell.cell c.place_after-ahead.result (rw c.in-Some.is at c.loop-ahead.invariant) between first (sym c.contains.ensures ∙ c.if-contains.false)
+    c.place_after-ahead.ensures.after c.place_after-ahead.ensures.first
+
+pub returns-clause-first : goal.returns-clause-first
+returns-clause-first c = (rw c.in_default.is at c.loop-ahead.invariant).0

@@ -1,0 +1,42 @@
+-- What the calls on formulas and contents answer.
+use Rattle.std.proofs.Common.{◌≡◌, ◌≤◌, true, false, List, length, ℕ, Some, None, option_map, is_some, ok_or, Ok, Err, if◌then◌else◌, ℤ, codes, ap, sym, ◌∙◌}
+use Rattle.std.proofs.lemmas.Bool.{le-ltb}
+use Rattle.wi_values.specs.declared.value.Value.{Value}
+use Rattle.wi_values.specs.declared.value.Value.TheVariants.{Text}
+use Rattle.wi_values.specs.Import.{max_text}
+use Rattle.wi_values.specs.Inner.Import.{imported}
+use Rattle.wi_parser.specs.declared.content.Content.TheVariants.{Constant, Formula}
+use Rattle.wi_parser.specs.declared.fault.ParseFault.TheVariants.{TooLong}
+use Rattle.wi_parser.specs.Tree.{Tree}
+use Rattle.wi_parser.specs.Shift.{stays, moved, all_references, map_references, shifted}
+use Rattle.wi_parser.specs.Inner.FormulaText.{after, after_equals}
+use Rattle.wi_parser.specs.Inner.Reading.{parsed, as_content, taken_as_text, constant_read, content_read}
+
+-- ---- shifts
+
+pub shifted_none : (down right : ℤ) (t w : Tree) → t ≡ w → false ≡ all_references (stays down right) t → shifted down right w ≡ None
+shifted_none down right t w same h =
+    ap (shifted down right) (sym same) ∙ ap (λ b. if b then Some (map_references (moved down right) t) else None) (sym h)
+
+pub shifted_found : (down right : ℤ) (t u w new f : Tree) → t ≡ w → u ≡ w → true ≡ all_references (stays down right) t → new ≡ map_references (moved down right) u → f ≡ new
+    → shifted down right w ≡ Some f
+shifted_found down right t u w new f same again h made is =
+    ap (shifted down right) (sym same) ∙ ap (λ b. if b then Some (map_references (moved down right) t) else None) (sym h)
+    ∙ ap (λ v. Some (map_references (moved down right) v)) (same ∙ sym again) ∙ ap Some (sym (is ∙ made))
+
+-- ---- contents
+
+pub read_formula : (text : List ℕ) (t : Tree) → true ≡ is_some (after_equals text) → parsed text ≡ Ok t → content_read text ≡ Ok (Formula t)
+unfolding content_read
+read_formula text t h is =
+    ap (λ b. if b then as_content (parsed text) else constant_read text (after (codes "'") text)) (sym h) ∙ ap as_content is
+
+pub read_constant : (text : List ℕ) (v : Value) → false ≡ is_some (after_equals text) → None ≡ after (codes "'") text → imported text ≡ Some v → content_read text ≡ Ok (Constant v)
+unfolding content_read
+read_constant text v h none is =
+    ap (λ b. if b then as_content (parsed text) else constant_read text (after (codes "'") text)) (sym h) ∙ ap (constant_read text) (sym none)
+    ∙ ap (λ found. ok_or (option_map Constant found) TooLong) is
+
+pub text_taken : (text s : List ℕ) → length text ≤ max_text → s ≡ text → taken_as_text text ≡ Ok (Constant (Text s))
+text_taken text s short is =
+    ap (λ b. if b then Err TooLong else Ok (Constant (Text text))) (le-ltb max_text (length text) short) ∙ ap (λ x. Ok (Constant (Text x))) (sym is)

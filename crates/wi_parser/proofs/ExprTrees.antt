@@ -1,0 +1,114 @@
+-- The tree of each kind of expression.
+use Rattle.std.proofs.Common.{◌≡◌, ℕ, ◌+◌, ◌<◌, length, take, get_or, List, [], ◌∷◌, ◌++◌, map, Box, Vec, Global, Result, IfOk, ap, sym, subst, ◌∙◌}
+use Rattle.std.proofs.lemmas.List.{map-append, take_more}
+use Rattle.wi_fraction.specs.declared.Fraction.{Fraction}
+use Rattle.wi_values.specs.declared.text.Text.{Text}
+use Rattle.wi_parser.specs.declared.expr.Corners.{Corners}
+use Rattle.wi_parser.specs.declared.expr.Expr.{Expr, Expr-F, fold-roll-Expr}
+use Rattle.wi_parser.specs.declared.expr.Expr.TheVariants as code
+use Rattle.wi_parser.specs.declared.expr.Operator.{Operator}
+use Rattle.wi_parser.specs.declared.expr.Pair.{Pair}
+use Rattle.wi_parser.specs.declared.expr.Reference.{Reference}
+use Rattle.wi_parser.specs.declared.expr.Sign.{Sign}
+use Rattle.wi_parser.specs.Tree.{Tree, number, text, cell, rectangle, parenthesized, signed, percent, binary, what_if, call}
+use Rattle.wi_parser.specs.Leaves.{leaves, all_leaves, cell_leaf, rectangle_leaf, what_if_leaf}
+use Rattle.wi_parser.specs.View.{layer_tree, tree_of, all_of, pair_of}
+
+pub number_tree : (x : Fraction) → tree_of (code.Number x) ≡ number x
+number_tree x = ap tree_of (sym (code.rolls-Number x)) ∙ fold-roll-Expr Tree layer_tree (Expr-F.Number x)
+
+pub text_tree : (s : Text) → tree_of (code.Text s) ≡ text s
+text_tree s = ap tree_of (sym (code.rolls-Text s)) ∙ fold-roll-Expr Tree layer_tree (Expr-F.Text s)
+
+pub cell_tree : (r : Reference) → tree_of (code.Cell r) ≡ cell r
+cell_tree r = ap tree_of (sym (code.rolls-Cell r)) ∙ fold-roll-Expr Tree layer_tree (Expr-F.Cell r)
+
+pub rectangle_tree : (c : Corners) → tree_of (code.Rectangle c) ≡ rectangle c
+rectangle_tree c = ap tree_of (sym (code.rolls-Rectangle c)) ∙ fold-roll-Expr Tree layer_tree (Expr-F.Rectangle c)
+
+pub parenthesized_tree : (t : Box Expr Global) → tree_of (code.Parenthesized t) ≡ parenthesized (tree_of t.value)
+parenthesized_tree t = ap tree_of (sym (code.rolls-Parenthesized t)) ∙ fold-roll-Expr Tree layer_tree (Expr-F.Parenthesized t)
+
+pub signed_tree : (s : Sign) (t : Box Expr Global) → tree_of (code.Signed s t) ≡ signed s (tree_of t.value)
+signed_tree s t = ap tree_of (sym (code.rolls-Signed s t)) ∙ fold-roll-Expr Tree layer_tree (Expr-F.Signed s t)
+
+pub percent_tree : (t : Box Expr Global) → tree_of (code.Percent t) ≡ percent (tree_of t.value)
+percent_tree t = ap tree_of (sym (code.rolls-Percent t)) ∙ fold-roll-Expr Tree layer_tree (Expr-F.Percent t)
+
+pub binary_tree : (op : Operator) (t u : Box Expr Global) → tree_of (code.Binary op t u) ≡ binary op (tree_of t.value) (tree_of u.value)
+binary_tree op t u = ap tree_of (sym (code.rolls-Binary op t u)) ∙ fold-roll-Expr Tree layer_tree (Expr-F.Binary op t u)
+
+pub what_if_tree : (f : Reference) (v : Vec Pair Global) → tree_of (code.WhatIf f v) ≡ what_if f (map pair_of v.items)
+what_if_tree f v = ap tree_of (sym (code.rolls-WhatIf f v)) ∙ fold-roll-Expr Tree layer_tree (Expr-F.WhatIf f v)
+
+pub call_tree : (f : Text) (v : Vec Expr Global) → tree_of (code.Call f v) ≡ call f (all_of v.items)
+call_tree f v = ap tree_of (sym (code.rolls-Call f v)) ∙ fold-roll-Expr Tree layer_tree (Expr-F.Call f v)
+
+pub binary_made : (op : Operator) (left right : Expr) (t u : Box Expr Global) → t.value ≡ left → u.value ≡ right
+    → tree_of (code.Binary op t u) ≡ binary op (tree_of left) (tree_of right)
+binary_made op left right t u one other =
+    binary_tree op t u ∙ ap (λ e. binary op (tree_of e) (tree_of u.value)) one ∙ ap (λ e. binary op (tree_of left) (tree_of e)) other
+
+-- ---- with the parts that were copied
+
+pub parenthesized_copied : (e : Expr) (t u : Box Expr Global) → e ≡ code.Parenthesized t → tree_of u.value ≡ tree_of t.value → tree_of (code.Parenthesized u) ≡ tree_of e
+parenthesized_copied e t u is same = parenthesized_tree u ∙ ap parenthesized same ∙ sym (ap tree_of is ∙ parenthesized_tree t)
+
+pub signed_copied : (e : Expr) (s : Sign) (t u : Box Expr Global) → e ≡ code.Signed s t → tree_of u.value ≡ tree_of t.value → tree_of (code.Signed s u) ≡ tree_of e
+signed_copied e s t u is same = signed_tree s u ∙ ap (signed s) same ∙ sym (ap tree_of is ∙ signed_tree s t)
+
+pub percent_copied : (e : Expr) (t u : Box Expr Global) → e ≡ code.Percent t → tree_of u.value ≡ tree_of t.value → tree_of (code.Percent u) ≡ tree_of e
+percent_copied e t u is same = percent_tree u ∙ ap percent same ∙ sym (ap tree_of is ∙ percent_tree t)
+
+pub binary_copied : (e : Expr) (op : Operator) (t v u w : Box Expr Global) → e ≡ code.Binary op t v → tree_of u.value ≡ tree_of t.value → tree_of w.value ≡ tree_of v.value
+    → tree_of (code.Binary op u w) ≡ tree_of e
+binary_copied e op t v u w is left right =
+    binary_tree op u w ∙ ap (λ a. binary op a (tree_of w.value)) left ∙ ap (binary op (tree_of t.value)) right ∙ sym (ap tree_of is ∙ binary_tree op t v)
+
+pub call_copied : {E : Type 0} (r : Result Expr E) (e : Expr) (f : Text) (v : Vec Expr Global) (es us : List Expr) → e ≡ code.Call f v → es ≡ v.items → all_of us ≡ all_of es
+    → IfOk r (λ x. tree_of x ≡ call f (all_of us)) → IfOk r (λ x. tree_of x ≡ tree_of e)
+call_copied r e f v es us is parts all h =
+    subst (λ t. IfOk r (λ x. tree_of x ≡ t)) (ap (call f) (all ∙ ap all_of parts) ∙ sym (ap tree_of is ∙ call_tree f v)) h
+
+-- one more of a list that is copied
+pub copied_more : (es cs new : List Expr) (e d : Expr) (i : ℕ) → i < length es → d ≡ get_or es i d → map tree_of cs ≡ map tree_of (take i es) → new ≡ cs ++ e ∷ []
+    → tree_of e ≡ tree_of d → map tree_of new ≡ map tree_of (take (i + 1) es)
+copied_more es cs new e d i some is before made same =
+    ap (map tree_of) made ∙ map-append tree_of cs (e ∷ []) ∙ ap (λ ts. ts ++ tree_of e ∷ []) before ∙ ap (λ t. map tree_of (take i es) ++ t ∷ []) same
+    ∙ sym (map-append tree_of (take i es) (d ∷ [])) ∙ ap (λ x. map tree_of (take i es ++ x ∷ [])) is ∙ ap (map tree_of) (sym (take_more es i d some))
+
+-- ---- leaves
+
+pub number_leaves : (e : Expr) (x : Fraction) → e ≡ code.Number x → leaves (tree_of e) ≡ []
+number_leaves e x is = ap leaves (ap tree_of is ∙ number_tree x)
+
+pub text_leaves : (e : Expr) (s : Text) → e ≡ code.Text s → leaves (tree_of e) ≡ []
+text_leaves e s is = ap leaves (ap tree_of is ∙ text_tree s)
+
+pub cell_leaves : (e : Expr) (r : Reference) → e ≡ code.Cell r → leaves (tree_of e) ≡ cell_leaf r ∷ []
+cell_leaves e r is = ap leaves (ap tree_of is ∙ cell_tree r)
+
+pub rectangle_leaves : (e : Expr) (c : Corners) → e ≡ code.Rectangle c → leaves (tree_of e) ≡ rectangle_leaf c ∷ []
+rectangle_leaves e c is = ap leaves (ap tree_of is ∙ rectangle_tree c)
+
+pub parenthesized_leaves : (e d : Expr) (t : Box Expr Global) → e ≡ code.Parenthesized t → d ≡ t.value → leaves (tree_of d) ≡ leaves (tree_of e)
+parenthesized_leaves e d t is inner = ap (λ x. leaves (tree_of x)) inner ∙ sym (ap leaves (ap tree_of is ∙ parenthesized_tree t))
+
+pub signed_leaves : (e d : Expr) (s : Sign) (t : Box Expr Global) → e ≡ code.Signed s t → d ≡ t.value → leaves (tree_of d) ≡ leaves (tree_of e)
+signed_leaves e d s t is inner = ap (λ x. leaves (tree_of x)) inner ∙ sym (ap leaves (ap tree_of is ∙ signed_tree s t))
+
+pub percent_leaves : (e d : Expr) (t : Box Expr Global) → e ≡ code.Percent t → d ≡ t.value → leaves (tree_of d) ≡ leaves (tree_of e)
+percent_leaves e d t is inner = ap (λ x. leaves (tree_of x)) inner ∙ sym (ap leaves (ap tree_of is ∙ percent_tree t))
+
+pub binary_leaves : (e d b : Expr) (op : Operator) (t u : Box Expr Global) → e ≡ code.Binary op t u → d ≡ t.value → b ≡ u.value
+    → leaves (tree_of d) ++ leaves (tree_of b) ≡ leaves (tree_of e)
+binary_leaves e d b op t u is left right =
+    ap (λ x. leaves (tree_of x) ++ leaves (tree_of b)) left ∙ ap (λ x. leaves (tree_of t.value) ++ leaves (tree_of x)) right
+    ∙ sym (ap leaves (ap tree_of is ∙ binary_tree op t u))
+
+pub what_if_leaves : (e : Expr) (f : Reference) (v : Vec Pair Global) (ps : List Pair) → e ≡ code.WhatIf f v → ps ≡ v.items
+    → leaves (tree_of e) ≡ what_if_leaf f (map pair_of ps) ∷ []
+what_if_leaves e f v ps is pairs = ap leaves (ap tree_of is ∙ what_if_tree f v) ∙ ap (λ x. what_if_leaf f (map pair_of x) ∷ []) (sym pairs)
+
+pub call_leaves : (e : Expr) (f : Text) (v : Vec Expr Global) (es : List Expr) → e ≡ code.Call f v → es ≡ v.items → all_leaves (all_of es) ≡ leaves (tree_of e)
+call_leaves e f v es is parts = ap (λ x. all_leaves (all_of x)) parts ∙ sym (ap leaves (ap tree_of is ∙ call_tree f v))
