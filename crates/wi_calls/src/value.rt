@@ -49,7 +49,7 @@ pub fn value_of_values(
         ValueFunction::True => Ok(true_value()),
         ValueFunction::Value => Ok(value_value(first)),
     };
-    // here once, and not at the end of each arm: that proves in half the time
+    // here once, and not at the end of each arm, which proves sooner
     drop(empty);
     value
 }
