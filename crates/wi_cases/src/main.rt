@@ -20,7 +20,6 @@ pub enum Section {
     Sheets,
     CsvTexts,
     Calls,
-    Random,
     Scripts,
     Broken,
 }
@@ -41,7 +40,6 @@ fn begun(line: &str) -> Option<Section> {
         "@sheets" => Some(Section::Sheets),
         "@csv" => Some(Section::CsvTexts),
         "@calls" => Some(Section::Calls),
-        "@random" => Some(Section::Random),
         "@scripts" => Some(Section::Scripts),
         "@broken" => Some(Section::Broken),
         _ => None,

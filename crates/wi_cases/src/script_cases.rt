@@ -1,18 +1,13 @@
-//! Cases of CSV texts, of words of calls of the program, and of scripts: those that are made, those that stand in the input,
-//! and those whose reader fails.
+//! Cases of CSV texts, of words of calls of the program, and of scripts, those whose reader fails among them.
 
-mod agreement;
 mod broken;
 mod byte_spelling;
 mod call_words;
 mod case;
 mod csv_texts;
 mod devices;
-mod made;
-mod random;
 mod runs;
 mod scripts;
-mod tally;
 
 use crate::Section;
 use case::Case;
@@ -61,7 +56,6 @@ impl ScriptCases {
             _ if line.starts_with("==") => Ok(writeln!(out, "{line}")?),
             Section::CsvTexts => csv_texts::push_told(alloc, line, out),
             Section::Calls => Ok(call_words::push_told(alloc, line, out)?),
-            Section::Random => agreement::push_told(alloc, line, out),
             _ => Ok(()),
         }
     }
