@@ -6,7 +6,7 @@ use crate::texts::expect_that;
 use std::io;
 use std::io::{Read, Write};
 use std::process::Abort;
-use wi_cli::{READS, ReadFrom, Sink, Source, WriteTo};
+use wi_devices::{READS, ReadFrom, Sink, Source, WriteTo};
 
 /// Gives its bytes, and then fails.
 #[derive(Drop)]

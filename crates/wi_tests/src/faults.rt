@@ -1,7 +1,6 @@
-//! The texts of refusals, and the exit statuses of faults.
+//! The texts of refusals and faults.
 
 use std::process::Abort;
-use wi_cli::{RunFault, fault_status};
 use wi_csv::CsvFault;
 use wi_store::StoreFault;
 
@@ -26,12 +25,4 @@ fn faults_of_csv(rt: HostRuntime) {
     );
     let expected = "the records can't be read; there is no memory left";
     assert!(rt; text.as_str() == expected);
-}
-
-#[test]
-fn statuses_of_faults(rt: HostRuntime) {
-    assert!(rt; fault_status(&RunFault::Read) == 3);
-    assert!(rt; fault_status(&RunFault::Write) == 3);
-    assert!(rt; fault_status(&RunFault::ScriptLimit) == 4);
-    assert!(rt; fault_status(&RunFault::Memory) == 5);
 }

@@ -1,5 +1,5 @@
 //! Tests of what no stored run shows: laws, hashes, equality, and calls of stores, worlds, kept values, the range index, graphs,
-//! calculators, workbooks and devices. What cells and table entries show after edits, and how many
+//! calculators and devices. What cells and table entries show after edits, and how many
 //! evaluations a question takes, are cases of `wi_cases`. They stand apart since a crate with tests is proved twice.
 #![tactic(auto)]
 
@@ -35,7 +35,5 @@ mod stores;
 mod texts;
 #[cfg(test)]
 mod values;
-#[cfg(test)]
-mod workbook;
 #[cfg(test)]
 mod worlds;
