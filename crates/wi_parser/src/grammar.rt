@@ -16,7 +16,7 @@ use std::alloc::{AllocError, Global};
 use wi_fraction::Fraction;
 use wi_values::Text;
 
-#[derive(Clone, Copy)]
+#[derive(Drop)]
 struct Grammar<F> {
     alloc: Global,
     /// How deep parentheses may still nest.
