@@ -145,32 +145,13 @@ impl Store {
         formula_cells(self.alloc, &self.rooms)
     }
 
-    /// The cells of a rectangle that have a formula, in row-major order. The work is that of `push_formulas_within`.
+    /// The cells of a rectangle that have a formula, in row-major order. The work grows with the count of its occupied cells, and
+    /// with the logarithm of the count of all for each search in the map: one, and at most two more for each row of the sheet
+    /// where a cell is occupied beside it.
     pub fn formulas_in(&self, area: Rect) -> Result<Vec<Address>, AllocError>
         ensures { IfOk result (λ found. found.items ≡ filter (is_within area) (cells_with_formula self.now.sheet)) }
     {
-        let mut found = Vec::new(self.alloc);
-        self.push_formulas_within(area, &mut found)?;
-        Ok(found)
-    }
-
-    /// Appends the cells of a rectangle that have a formula, in row-major order. On an error the list is as before.
-    /// The work grows with the count of its occupied cells, and with the logarithm of the count of all for each search in
-    /// the map: one, and at most two more for each row of the sheet where a cell is occupied beside it.
-    pub fn push_formulas_within(
-        &self,
-        area: Rect,
-        found: &mut Vec<Address>,
-    ) -> Result<(), AllocError>
-        ensures ok { OnOk result (found.new.items ≡ found.old.items ++ filter (is_within area) (cells_with_formula self.now.sheet)) }
-        ensures err { OnErr result (found.new.items ≡ found.old.items) }
-    {
-        let before = found.len();
-        let outcome = push_formulas(&self.rooms, area, found);
-        if outcome.is_err() {
-            found.truncate(before);
-        }
-        outcome
+        formula_cells_in(self.alloc, &self.rooms, area)
     }
 
     /// The first occupied cell of a rectangle, in row-major order, at a cell or after it. The work is that of `next_content`.
@@ -222,16 +203,16 @@ fn formula_cells(alloc: Global, rooms: &Rooms) -> Result<Vec<Address>, AllocErro
     Ok(found)
 }
 
-// Appends the cells of a rectangle that have a formula. On an error some of them may be there.
-fn push_formulas(rooms: &Rooms, area: Rect, found: &mut Vec<Address>) -> Result<(), AllocError>
-    ensures ok { OnOk result (found.new.items ≡ found.old.items ++ filter (is_within area) (formula_rooms rooms.now.entries)) }
-    ensures err { OnErr result ((some : List ℕ) × (found.new.items ≡ found.old.items ++ some)) }
+// The cells of a rectangle among the rooms that have a formula.
+fn formula_cells_in(alloc: Global, rooms: &Rooms, area: Rect) -> Result<Vec<Address>, AllocError>
+    ensures { IfOk result (λ found. found.items ≡ filter (is_within area) (formula_rooms rooms.now.entries)) }
 {
+    let mut found = Vec::new(alloc);
     let mut ahead = Some(area.first());
     while let Some(from) = ahead {
-        ahead = push_run(rooms, area, from, found)?;
+        ahead = push_run(rooms, area, from, &mut found)?;
     }
-    Ok(())
+    Ok(found)
 }
 
 // Appends the cells of a rectangle that have a formula, from a cell on up to the first room beside the rectangle. Answers
@@ -246,7 +227,6 @@ fn push_run(
     ensures ok { IfOk result (λ next. found.new.items ++ filter (is_ahead area next) (formula_rooms rooms.now.entries)
         ≡ found.old.items ++ filter (is_ahead area (Some from)) (formula_rooms rooms.now.entries)) }
     ensures next { IfOk result (λ next. IfSome next (λ n. (from < n) × (n ≤ area.last))) }
-    ensures more { (some : List ℕ) × (found.new.items ≡ found.old.items ++ some) }
 {
     let start = Bound::Included(from);
     let end = Bound::Included(area.last());

@@ -131,14 +131,6 @@ fn with_formulas(rt: &impl Abort, alloc: Global) -> Store {
     store
 }
 
-/// The formulas of a rectangle, behind a cell that stood there before.
-fn within(alloc: Global, store: &Store, area: Rect) -> Result<Vec<Address>, AllocError> {
-    let mut found = Vec::new(alloc);
-    found.push(Address::at(8, 8))?;
-    store.push_formulas_within(area, &mut found)?;
-    Ok(found)
-}
-
 /// The next occupied cell, if there is one, as `B1:C3 A1` asks: of a rectangle, from a cell on.
 fn next_occupied(rt: &impl Abort, store: &Store, place: &str) -> Option<Address> {
     let (rectangle, from) = place.split_once(' ').expect(rt, place);
@@ -159,7 +151,6 @@ fn found(rt: &impl Abort, alloc: Global, store: &Store, asked: &str) -> Vec<Addr
         return store.formulas().expect(rt, asked);
     };
     match question {
-        "within" => within(alloc, store, area(rt, place)).expect(rt, asked),
         "in" => store.formulas_in(area(rt, place)).expect(rt, asked),
         _ => next(rt, alloc, store, place),
     }
@@ -190,22 +181,18 @@ fn formulas_within_rectangles(rt: HostRuntime) {
         &rt,
         rt.alloc(),
         &[
-            ("within B1:C3", "I9 B1 B2 C2 C3 "),
-            ("within C3:B2", "I9 B2 C2 C3 "),
-            ("within A1:A4", "I9 A2 A4 "),
-            ("within D1:D9", "I9 D1 D2 "),
-            ("within C1:C3", "I9 C2 C3 "),
-            ("within D2", "I9 D2 "),
-            ("within B3", "I9 "),
-            ("within A5:XFD9", "I9 "),
-            ("within A1:XFD1048576", "I9 B1 D1 A2 B2 C2 D2 C3 A4 "),
+            ("in A1:B2", "B1 A2 B2 "),
+            ("in B1:C3", "B1 B2 C2 C3 "),
+            ("in C3:B2", "B2 C2 C3 "),
+            ("in A1:A4", "A2 A4 "),
+            ("in D1:D9", "D1 D2 "),
+            ("in C1:C3", "C2 C3 "),
+            ("in D2", "D2 "),
+            ("in B3", ""),
+            ("in A5:XFD9", ""),
+            ("in A1:XFD1048576", "B1 D1 A2 B2 C2 D2 C3 A4 "),
         ],
     );
-}
-
-#[test]
-fn a_list_of_formulas(rt: HostRuntime) {
-    expect_answers(&rt, rt.alloc(), &[("in A1:B2", "B1 A2 B2 ")]);
 }
 
 #[test]
