@@ -13,11 +13,18 @@ mod tokens;
 mod trees;
 mod values;
 
-use crate::Section;
 use sheets::Sheets;
 use std::alloc::{AllocError, Global};
 use std::io;
 use text_spelling::spelled;
+
+/// What the cases of a section are about.
+#[derive(Clone, Copy)]
+pub enum FormulaSection {
+    Values,
+    Formulas,
+    Sheets,
+}
 
 /// What counts for the cases to come: the sheets that were begun last.
 #[derive(Drop)]
@@ -79,15 +86,14 @@ impl FormulaCases {
     fn push_answer(
         &mut self,
         alloc: Global,
-        section: Section,
+        section: FormulaSection,
         case: &str,
         line: &mut String,
     ) -> Option<()> {
         match section {
-            Section::Values => push_of_values(alloc, case, line),
-            Section::Formulas => push_of_formulas(alloc, case, line),
-            Section::Sheets => self.sheets.push_answer(alloc, case, line),
-            _ => None,
+            FormulaSection::Values => push_of_values(alloc, case, line),
+            FormulaSection::Formulas => push_of_formulas(alloc, case, line),
+            FormulaSection::Sheets => self.sheets.push_answer(alloc, case, line),
         }
     }
 
@@ -95,7 +101,7 @@ impl FormulaCases {
     fn push_case(
         &mut self,
         alloc: Global,
-        section: Section,
+        section: FormulaSection,
         case: &str,
         line: &mut String,
     ) -> Option<()> {
@@ -107,7 +113,7 @@ impl FormulaCases {
     fn push_behind(
         &mut self,
         alloc: Global,
-        section: Section,
+        section: FormulaSection,
         line: &str,
         out: &mut String,
     ) -> Option<()> {
@@ -124,7 +130,7 @@ impl FormulaCases {
     pub fn take(
         &mut self,
         alloc: Global,
-        section: Section,
+        section: FormulaSection,
         line: &str,
         out: &mut String,
     ) -> io::Result<()> {

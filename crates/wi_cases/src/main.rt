@@ -7,21 +7,16 @@
 mod formula_cases;
 mod script_cases;
 
-use formula_cases::FormulaCases;
-use script_cases::ScriptCases;
+use formula_cases::{FormulaCases, FormulaSection};
+use script_cases::{ScriptCases, ScriptSection};
 use std::alloc::{AllocError, Global};
 use std::io;
 
 /// What the cases of a section are about.
 #[derive(Clone, Copy)]
-pub enum Section {
-    Values,
-    Formulas,
-    Sheets,
-    CsvTexts,
-    Calls,
-    Scripts,
-    Broken,
+enum Section {
+    OfFormulas(FormulaSection),
+    OfScripts(ScriptSection),
 }
 
 /// The cases, line by line: in which section they are, and what of the lines before counts for those to come.
@@ -34,30 +29,24 @@ struct Cases {
 
 /// The section that a line begins.
 fn begun(line: &str) -> Option<Section> {
-    match line {
-        "@values" => Some(Section::Values),
-        "@formulas" => Some(Section::Formulas),
-        "@sheets" => Some(Section::Sheets),
-        "@csv" => Some(Section::CsvTexts),
-        "@calls" => Some(Section::Calls),
-        "@scripts" => Some(Section::Scripts),
-        "@broken" => Some(Section::Broken),
-        _ => None,
-    }
-}
-
-fn is_of_formulas(section: Section) -> bool {
-    matches!(
-        section,
-        Section::Values | Section::Formulas | Section::Sheets
-    )
+    let section = match line {
+        "@values" => Section::OfFormulas(FormulaSection::Values),
+        "@formulas" => Section::OfFormulas(FormulaSection::Formulas),
+        "@sheets" => Section::OfFormulas(FormulaSection::Sheets),
+        "@csv" => Section::OfScripts(ScriptSection::CsvTexts),
+        "@calls" => Section::OfScripts(ScriptSection::Calls),
+        "@scripts" => Section::OfScripts(ScriptSection::Scripts),
+        "@broken" => Section::OfScripts(ScriptSection::Broken),
+        _ => return None,
+    };
+    Some(section)
 }
 
 impl Cases {
     /// No cases yet.
     fn new(alloc: Global) -> Result<Cases, AllocError> {
         Ok(Cases {
-            section: Section::Values,
+            section: Section::OfFormulas(FormulaSection::Values),
             formulas: FormulaCases::new(alloc)?,
             scripts: ScriptCases::new(alloc),
         })
@@ -66,7 +55,7 @@ impl Cases {
     /// Begins a section. The line that begins one of formulas is written as it stands.
     fn begin(&mut self, section: Section, line: &str, out: &mut String) -> io::Result<()> {
         self.section = section;
-        if is_of_formulas(section) {
+        if let Section::OfFormulas(_) = section {
             writeln!(out, "{line}")?;
         }
         Ok(())
@@ -74,12 +63,12 @@ impl Cases {
 
     /// Takes a line, and appends what is to be written of it at once.
     fn take(&mut self, alloc: Global, line: &str, out: &mut String) -> io::Result<()> {
-        match begun(line) {
-            Some(section) => self.begin(section, line, out),
-            None if is_of_formulas(self.section) => {
-                self.formulas.take(alloc, self.section, line, out)
-            }
-            None => self.scripts.take(alloc, self.section, line, out),
+        if let Some(section) = begun(line) {
+            return self.begin(section, line, out);
+        }
+        match self.section {
+            Section::OfFormulas(section) => self.formulas.take(alloc, section, line, out),
+            Section::OfScripts(section) => self.scripts.take(alloc, section, line, out),
         }
     }
 

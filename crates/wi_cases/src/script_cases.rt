@@ -9,11 +9,19 @@ mod devices;
 mod runs;
 mod scripts;
 
-use crate::Section;
 use case::Case;
 use std::alloc::Global;
 use std::io;
 use std::io::Write;
+
+/// What the cases of a section are about.
+#[derive(Clone, Copy)]
+pub enum ScriptSection {
+    CsvTexts,
+    Calls,
+    Scripts,
+    Broken,
+}
 
 /// The scripts, which are run once all lines are read.
 #[derive(Drop)]
@@ -45,18 +53,17 @@ impl ScriptCases {
     pub fn take(
         &mut self,
         alloc: Global,
-        section: Section,
+        section: ScriptSection,
         line: &str,
         out: &mut String,
     ) -> io::Result<()> {
         match section {
-            Section::Scripts => take_script_line(alloc, line, &mut self.scripts),
-            Section::Broken => take_script_line(alloc, line, &mut self.broken),
+            ScriptSection::Scripts => take_script_line(alloc, line, &mut self.scripts),
+            ScriptSection::Broken => take_script_line(alloc, line, &mut self.broken),
             _ if line.starts_with('#') => Ok(()),
             _ if line.starts_with("==") => Ok(writeln!(out, "{line}")?),
-            Section::CsvTexts => csv_texts::push_told(alloc, line, out),
-            Section::Calls => Ok(call_words::push_told(alloc, line, out)?),
-            _ => Ok(()),
+            ScriptSection::CsvTexts => csv_texts::push_told(alloc, line, out),
+            ScriptSection::Calls => Ok(call_words::push_told(alloc, line, out)?),
         }
     }
 

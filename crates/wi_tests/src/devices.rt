@@ -8,10 +8,10 @@ use std::io::{Read, Write};
 use std::process::Abort;
 use wi_devices::{READS, ReadFrom, Sink, Source, WriteTo};
 
-/// Gives its bytes, and then fails.
+// Gives its bytes, and then fails.
 #[derive(Drop)]
-pub struct Torn {
-    pub bytes: &'static [u8],
+struct Torn {
+    bytes: &'static [u8],
 }
 
 impl Read for Torn {
