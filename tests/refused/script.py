@@ -1,0 +1,135 @@
+"""Scripts cut into commands, and what the program writes cut into replies, as the manual defines both."""
+
+import re
+from dataclasses import dataclass
+
+LONGEST_LINE = 65_536
+MOST_LINES = 1_000_000
+LARGEST_LISTED_AREA = 512
+
+FIELD = rb'"[^"]*(?:""[^"]*)*"'
+RECORD = FIELD + rb"(?:," + FIELD + rb")*\r\n"
+REPLY = re.compile(rb"(?:lines [0-9]+\n)?(?:" + RECORD + rb")*ok\n|refused E[0-9]{2}(?: [A-Z]+[0-9]+)?\n")
+DATA_COMMAND = re.compile(rb" *(?:force +)?csv +[^ ]+ +([0-9]{1,7}) *")
+ADDRESS = re.compile(rb"\$?([A-Za-z]{1,3})\$?([1-9][0-9]{0,6})(?![0-9A-Za-z_])")
+AREA = re.compile(ADDRESS.pattern + rb"(?::\.?" + ADDRESS.pattern + rb")?")
+LAST_COLUMN, LAST_ROW = 16_384, 1_048_576
+
+OUT_OF_MEMORY = b"refused E01\n"
+
+
+class BadReplies(Exception):
+    """What was written isn't a list of whole replies."""
+
+
+@dataclass(frozen=True)
+class Command:
+    """A line that is answered, with its data lines, each with its line end."""
+
+    text: bytes
+    is_cut: bool = False
+    """Whether the input ends before its last data line, so that no command can follow it."""
+
+
+def data_lines(line: bytes) -> int:
+    """How many of the lines behind this one are its data."""
+    found = DATA_COMMAND.fullmatch(line.removesuffix(b"\r"))
+    if len(line) > LONGEST_LINE or not found:
+        return 0
+    count = int(found.group(1))
+    return count if count <= MOST_LINES else 0
+
+
+def is_passed_over(line: bytes) -> bool:
+    """Whether the line is a comment or blank. One that is too long, or isn't UTF-8, is answered."""
+    if len(line) > LONGEST_LINE:
+        return False
+    try:
+        line.decode()
+    except UnicodeDecodeError:
+        return False
+    text = line.removesuffix(b"\r")
+    return text.startswith(b"#") or not text.strip(b" ")
+
+
+def commands(script: bytes) -> list[Command]:
+    """The commands of a script, without the lines that are passed over. A last line gets its LF where it lacks it."""
+    lines = [line + b"\n" for line in script.removesuffix(b"\n").split(b"\n")] if script else []
+    found, at = [], 0
+    while at < len(lines):
+        line = lines[at].removesuffix(b"\n")
+        taken = lines[at : at + 1 + data_lines(line)]
+        if not is_passed_over(line):
+            found.append(Command(b"".join(taken), len(taken) < 1 + data_lines(line)))
+        at += len(taken)
+    return found
+
+
+def joined(parts: list[Command]) -> bytes:
+    """The script of these commands."""
+    return b"".join(part.text for part in parts)
+
+
+def replies(written: bytes) -> list[bytes]:
+    """The replies that were written."""
+    found, at = [], 0
+    while at < len(written):
+        reply = REPLY.match(written, at)
+        if not reply:
+            raise BadReplies(f"no reply at byte {at}: {written[at : at + 40]!r}")
+        found.append(reply.group())
+        at = reply.end()
+    return found
+
+
+def column_number(letters: bytes) -> int:
+    number = 0
+    for letter in letters.upper():
+        number = 26 * number + letter - ord("A") + 1
+    return number
+
+
+def column_name(number: int) -> str:
+    name = ""
+    while number:
+        number, digit = divmod(number - 1, 26)
+        name = chr(ord("A") + digit) + name
+    return name
+
+
+def area_cells(first: tuple[int, int], last: tuple[int, int]) -> list[tuple[int, int]]:
+    """The cells between two corners, each a row and a column; of a large area, its corners alone."""
+    rows = sorted((first[0], last[0]))
+    columns = sorted((first[1], last[1]))
+    if (rows[1] - rows[0] + 1) * (columns[1] - columns[0] + 1) > LARGEST_LISTED_AREA:
+        return [(row, column) for row in rows for column in columns]
+    return [(row, column) for row in range(rows[0], rows[1] + 1) for column in range(columns[0], columns[1] + 1)]
+
+
+def named_areas(command: Command) -> list[tuple[tuple[int, int], tuple[int, int]]]:
+    """The areas that a command names, in its operands, its formula or by its data lines."""
+    line, _, data = command.text.partition(b"\n")
+    areas = []
+    for found in AREA.finditer(line):
+        columns, rows, last_columns, last_rows = found.groups()
+        first = int(rows), column_number(columns)
+        areas.append((first, (int(last_rows), column_number(last_columns)) if last_columns else first))
+    if data and areas:
+        row, column = areas[0][0]
+        fields = 1 + max(one.count(b",") for one in data.split(b"\n"))
+        areas.append(((row, column), (row + data.count(b"\n"), column + fields - 1)))
+    return areas
+
+
+def named_cells(parts: list[Command]) -> list[str]:
+    """The cells of the sheet that a script names, in row-major order."""
+    cells: set[tuple[int, int]] = set()
+    for part in parts:
+        for first, last in named_areas(part):
+            cells.update(area_cells(first, last))
+    return [f"{column_name(column)}{row}" for row, column in sorted(cells) if column <= LAST_COLUMN and row <= LAST_ROW]
+
+
+def inspection(parts: list[Command]) -> list[Command]:
+    """`show` and `formula` of all cells that a script names."""
+    return [Command(f"{word} {cell}\n".encode()) for cell in named_cells(parts) for word in ("show", "formula")]
