@@ -2,17 +2,19 @@
 
 import os
 import shutil
+import signal
 import subprocess
-from dataclasses import dataclass, field
+from dataclasses import dataclass
 from pathlib import Path
 
 FOLDER = Path(__file__).resolve().parent
 SECONDS = 120
+MEMORY_STATUS = 5
 BAD_MEMORY = 99
 """The exit status of valgrind where it finds anything amiss."""
 
 LEAKS = "definite,indirect,possible"
-VALGRIND = ["valgrind", "-q", f"--error-exitcode={BAD_MEMORY}", f"--show-leak-kinds={LEAKS}", f"--errors-for-leak-kinds={LEAKS}",
+VALGRIND = [shutil.which("valgrind") or "valgrind", "-q", f"--error-exitcode={BAD_MEMORY}", f"--show-leak-kinds={LEAKS}", f"--errors-for-leak-kinds={LEAKS}",
             # The refusing allocator is called by the program, and valgrind's by that one.
             "--soname-synonyms=somalloc=nouserintercepts"]
 
@@ -55,42 +57,80 @@ def compiled(name: str, to: Path, flags: tuple[str, ...] = ()) -> Path | None:
     return made if ran.returncode == 0 else None
 
 
-@dataclass(frozen=True)
+class Streams:
+    """Files in memory for the streams of one run after another, and a pipe by which the allocator reports its counts."""
+
+    def __init__(self) -> None:
+        self.given, self.written, self.told = (os.memfd_create(name) for name in ("given", "written", "told"))
+        self.reports, self.report = os.pipe()
+        os.set_blocking(self.reports, False)
+        os.set_inheritable(self.report, True)
+
+    def run(self, words: list[str], script: bytes, environment: dict[str, str]) -> int:
+        """Runs a command on a script, and gives its exit status, or the number of the signal that ended it, negated."""
+        for file in (self.given, self.written, self.told):
+            os.ftruncate(file, 0)
+            os.lseek(file, 0, os.SEEK_SET)
+        os.pwrite(self.given, script, 0)
+        streams = [(os.POSIX_SPAWN_DUP2, file, to) for to, file in enumerate((self.given, self.written, self.told))]
+        process = os.posix_spawn(words[0], words, environment, file_actions=streams)
+        try:
+            signal.alarm(SECONDS)
+            _, ended = os.waitpid(process, 0)
+            signal.alarm(0)
+        except BaseException:
+            os.kill(process, signal.SIGKILL)
+            os.waitpid(process, 0)
+            raise
+        return os.waitstatus_to_exitcode(ended)
+
+    def contents(self, file: int) -> bytes:
+        return os.pread(file, os.fstat(file).st_size, 0)
+
+    def counts(self) -> tuple[int, int]:
+        """How many requests the run took, and how many were refused; none where it died before its report."""
+        try:
+            requests, refused = os.read(self.reports, 100).split()
+        except BlockingIOError:
+            return 0, 0
+        return int(requests), int(refused)
+
+
+def late(number: int, frame: object) -> None:
+    raise TimeoutError(f"not ended after {SECONDS} seconds")
+
+
 class Program:
-    """The program to try, and the allocator that refuses."""
+    """The program to try, and the allocator that refuses. Requests are counted in the process that runs the program's
+    file, or another one that is named."""
 
-    path: str
-    allocator: Path
-    scratch: Path
-    leaks: Path | None = None
-    """What looks for leaks at the end of the input, under valgrind."""
-    counted: str = field(default="")
-    """The file of the process whose requests are counted, where it isn't the program's own."""
-
-    def environment(self, refusal: Refusal | None, report: Path) -> dict[str, str]:
-        counted = os.path.realpath(self.counted or self.path)
-        kept = {name: value for name, value in os.environ.items() if not name.startswith(("REFUSE_", "LD_"))}
-        given = {"LD_PRELOAD": str(self.allocator), "REFUSE_PROGRAM": counted, "REFUSE_REPORT": str(report)}
-        return kept | given | (refusal.settings() if refusal else {})
+    def __init__(self, path: str, allocator: Path, leaks: Path | None = None, counted: str = "") -> None:
+        self.path = os.path.realpath(path)
+        self.leaks = leaks
+        self.streams = Streams()
+        self.environment = {name: value for name, value in os.environ.items() if not name.startswith(("REFUSE_", "LD_"))} | {
+            "LD_PRELOAD": str(allocator),
+            "REFUSE_PROGRAM": os.path.realpath(counted or path),
+            "REFUSE_REPORT": str(self.streams.report),
+        }
+        signal.signal(signal.SIGALRM, late)
 
     def run(self, script: bytes, words: tuple[str, ...], refusal: Refusal | None = None) -> Run:
         """Runs a script."""
-        report = self.scratch / f"report-{os.getpid()}"
-        report.unlink(missing_ok=True)
-        ran = subprocess.run([self.path, *words], input=script, capture_output=True, timeout=SECONDS,
-                             env=self.environment(refusal, report))
-        counts = report.read_text().split() if report.exists() else ["0", "0"]
-        return Run(ran.returncode, ran.stdout, ran.stderr, int(counts[0]), int(counts[1]))
+        given = self.environment | (refusal.settings() if refusal else {})
+        status = self.streams.run([self.path, *words], script, given)
+        streams = self.streams
+        return Run(status, streams.contents(streams.written), streams.contents(streams.told), *streams.counts())
 
     def watched(self, script: bytes, words: tuple[str, ...], refusal: Refusal, is_silent: bool) -> str:
-        """Runs a script under valgrind, and gives what that finds amiss. The program lets its workbook go by its end, so
+        """Runs a script under valgrind, and gives what that finds amiss. The program gives its workbook back by its end, so
         where it reads its script, leaks are looked for at the end of the input."""
-        report = self.scratch / f"report-{os.getpid()}"
-        given = self.environment(refusal, report)
+        given = self.environment | refusal.settings()
         if not is_silent:
             given["LD_PRELOAD"] += f":{self.leaks}"
         check = "--leak-check=full" if is_silent else "--leak-check=no"
-        ran = subprocess.run([*VALGRIND, check, self.path, *words], input=script, capture_output=True, timeout=SECONDS, env=given)
-        if ran.returncode == (5 if is_silent else 0):
+        status = self.streams.run([*VALGRIND, check, self.path, *words], script, given)
+        self.streams.counts()
+        if status == (MEMORY_STATUS if is_silent else 0):
             return ""
-        return f"status {ran.returncode}\n{ran.stderr.decode(errors='replace')}"
+        return f"status {status}\n{self.streams.contents(self.streams.told).decode(errors='replace')}"

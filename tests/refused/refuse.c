@@ -5,11 +5,10 @@
  *   REFUSE_PROGRAM  the path of the program; in any other process nothing is counted and nothing refused
  *   REFUSE_FIRST    the number of the first request that is refused; without it, none is
  *   REFUSE_LAST     the number of the last one; without it, all that follow are refused
- *   REFUSE_REPORT   a file into which the count of requests, and that of refused ones, is written at the end
+ *   REFUSE_REPORT   the number of an open file, to which the count of requests, and that of refused ones, is written at the end
  */
 #define _GNU_SOURCE
 #include <errno.h>
-#include <fcntl.h>
 #include <limits.h>
 #include <stdio.h>
 #include <stdlib.h>
@@ -96,14 +95,12 @@ int posix_memalign(void **made, size_t alignment, size_t size)
 
 __attribute__((destructor)) static void report(void)
 {
-    const char *path = getenv("REFUSE_REPORT");
+    const char *file = getenv("REFUSE_REPORT");
     char text[64];
-    int file, length;
-    if (state != AWAKE || !path)
+    int length;
+    if (state != AWAKE || !file)
         return;
     length = snprintf(text, sizeof text, "%lu %lu\n", requests, refused);
-    file = open(path, O_WRONLY | O_CREAT | O_TRUNC, 0600);
-    if (file < 0 || write(file, text, (size_t)length) != length)
+    if (write(atoi(file), text, (size_t)length) != length)
         _exit(99);
-    close(file);
 }
