@@ -1,0 +1,51 @@
+"""The exit status where memory is refused before anything of a script was read."""
+
+import unittest
+
+from calls import MEMORY, PROGRAM, WELL, DeviceTest
+from program import Program, Refusal, compiled, compiler
+
+LOADED = b"set A1 5\nshow A1\n"
+LOADED_REPLIES = b'ok\n"5"\r\nok\n'
+GIVEN = b"show A1\n"
+GIVEN_REPLIES = b'"5"\r\nok\n'
+
+
+@unittest.skipUnless(compiler(), "no C compiler")
+class RefusedMemory(DeviceTest):
+    def setUp(self) -> None:
+        super().setUp()
+        allocator = compiled("refuse", self.folder)
+        assert allocator
+        self.program = Program(PROGRAM, allocator)
+
+    def test_without_memory_nothing_is_read_and_nothing_written(self) -> None:
+        run = self.program.run(GIVEN, (), Refusal(1, is_lasting=True))
+        self.assertEqual((run.status, run.written), (MEMORY, b""))
+        self.assertRegex(run.told, rb"\Awhatif: [^\n]+; [^\n]+\n\Z")
+
+    def test_each_request_of_two_scripts_refused_in_turn(self) -> None:
+        words = ("--load", str(self.file("plan", LOADED)))
+        most = self.program.run(GIVEN, words).requests
+        self.assertGreater(most, 0)
+        ended_by_memory = set()
+        for request in range(1, most + 1):
+            with self.subTest(request=request):
+                run = self.program.run(GIVEN, words, Refusal(request))
+                self.assertEqual(run.refused, 1)
+                if run.status == MEMORY:
+                    ended_by_memory.add(run.written)
+                    self.assertRegex(run.told, rb"\Awhatif: [^\n]+; [^\n]+\n\Z")
+                else:
+                    self.assertEqual((run.status, run.told), (WELL, b""))
+                    self.assertIn(run.written, self.with_one_refused())
+        self.assertEqual(ended_by_memory, {b"", LOADED_REPLIES})
+
+    def with_one_refused(self) -> list[bytes]:
+        """What is written where one command at most is answered E01."""
+        return [
+            LOADED_REPLIES + GIVEN_REPLIES,
+            b'refused E01\n""\r\nok\n""\r\nok\n',
+            b'ok\nrefused E01\n"5"\r\nok\n',
+            LOADED_REPLIES + b"refused E01\n",
+        ]
