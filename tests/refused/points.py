@@ -159,6 +159,8 @@ class Trial:
     def refused_from(self, refusal: Refusal) -> None:
         """Refuses all requests from one on: each command is answered, by E01 or as if those so answered hadn't been given."""
         run = self.run(self.script, refusal)
+        if run.refused == 0:
+            raise Amiss(f"no request was refused; status {run.status}")
         if is_silent(run) or ended_well(run) in self.right:
             return
         found = answers(run.written)

@@ -9,12 +9,12 @@ from pathlib import Path
 
 FOLDER = Path(__file__).resolve().parent
 SECONDS = 120
-MEMORY_STATUS = 5
+WELL, MEMORY_STATUS = 0, 5
 BAD_MEMORY = 99
 """The exit status of valgrind where it finds anything amiss."""
 
 LEAKS = "definite,indirect,possible"
-VALGRIND = [shutil.which("valgrind") or "valgrind", "-q", f"--error-exitcode={BAD_MEMORY}", f"--show-leak-kinds={LEAKS}", f"--errors-for-leak-kinds={LEAKS}",
+VALGRIND = [shutil.which("valgrind") or "valgrind", "-q", "--leak-check=no", f"--error-exitcode={BAD_MEMORY}", f"--show-leak-kinds={LEAKS}", f"--errors-for-leak-kinds={LEAKS}",
             # The refusing allocator is called by the program, and valgrind's by that one.
             "--soname-synonyms=somalloc=nouserintercepts"]
 
@@ -101,16 +101,15 @@ def late(number: int, frame: object) -> None:
 
 
 class Program:
-    """The program to try, and the allocator that refuses. Requests are counted in the process that runs the program's
-    file, or another one that is named."""
+    """The program to try, with the allocator that refuses, and with what looks for leaks under valgrind."""
 
-    def __init__(self, path: str, allocator: Path, leaks: Path | None = None, counted: str = "") -> None:
+    def __init__(self, path: str, allocator: Path, leaks: Path | None = None) -> None:
         self.path = os.path.realpath(path)
         self.leaks = leaks
         self.streams = Streams()
         self.environment = {name: value for name, value in os.environ.items() if not name.startswith(("REFUSE_", "LD_"))} | {
             "LD_PRELOAD": str(allocator),
-            "REFUSE_PROGRAM": os.path.realpath(counted or path),
+            "REFUSE_PROGRAM": self.path,
             "REFUSE_REPORT": str(self.streams.report),
         }
         signal.signal(signal.SIGALRM, late)
@@ -122,15 +121,13 @@ class Program:
         streams = self.streams
         return Run(status, streams.contents(streams.written), streams.contents(streams.told), *streams.counts())
 
-    def watched(self, script: bytes, words: tuple[str, ...], refusal: Refusal, is_silent: bool) -> str:
-        """Runs a script under valgrind, and gives what that finds amiss. The program gives its workbook back by its end, so
-        where it reads its script, leaks are looked for at the end of the input."""
+    def watched(self, script: bytes, words: tuple[str, ...], refusal: Refusal, wanted: Run) -> str:
+        """Runs a script under valgrind, and gives what is amiss: what that finds, or another ending than is wanted. Leaks are
+        looked for at the end of the input, since the program gives its workbook back by its end and not before."""
         given = self.environment | refusal.settings()
-        if not is_silent:
-            given["LD_PRELOAD"] += f":{self.leaks}"
-        check = "--leak-check=full" if is_silent else "--leak-check=no"
-        status = self.streams.run([*VALGRIND, check, self.path, *words], script, given)
+        given["LD_PRELOAD"] += f":{self.leaks}"
+        status = self.streams.run([*VALGRIND, self.path, *words], script, given)
         self.streams.counts()
-        if status == (MEMORY_STATUS if is_silent else 0):
+        if (status, self.streams.contents(self.streams.written)) == (wanted.status, wanted.written):
             return ""
         return f"status {status}\n{self.streams.contents(self.streams.told).decode(errors='replace')}"

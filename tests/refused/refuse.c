@@ -45,6 +45,19 @@ static void read_settings(void)
     state = AWAKE;
 }
 
+/* What a test plants where a request is refused, so that valgrind has something to find. */
+static void plant(void)
+{
+#ifdef PLANT_LEAK
+    *(volatile char *)__libc_malloc(16) = 1;
+#endif
+#ifdef PLANT_BAD_READ
+    volatile char *gone = __libc_malloc(16);
+    free((void *)gone);
+    errno = *gone;
+#endif
+}
+
 static int is_refused(size_t size)
 {
     if (state == UNREAD)
@@ -55,6 +68,7 @@ static int is_refused(size_t size)
     if (requests < first || requests > last)
         return 0;
     refused++;
+    plant();
     errno = ENOMEM;
     return 1;
 }

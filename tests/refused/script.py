@@ -117,7 +117,7 @@ def named_areas(command: Command) -> list[tuple[tuple[int, int], tuple[int, int]
     if data and areas:
         row, column = areas[0][0]
         fields = 1 + max(one.count(b",") for one in data.split(b"\n"))
-        areas.append(((row, column), (row + data.count(b"\n"), column + fields - 1)))
+        areas.append(((row, column), (row + data.count(b"\n") - 1, column + fields - 1)))
     return areas
 
 
