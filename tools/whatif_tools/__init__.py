@@ -1,0 +1,1 @@
+"""What the tools around whatif share: scripts, replies, formulas and spreadsheets."""

@@ -1,0 +1,125 @@
+"""What to write instead of a line that was refused."""
+
+import re
+from collections.abc import Callable
+from dataclasses import dataclass
+
+from .script import Command
+
+CELL = r"\$?[A-Za-z]{1,3}\$?[1-9][0-9]*"
+BARE = rf"({CELL})(?::({CELL}))?"
+QUOTES = "“”„‟‘’«»'`"
+
+
+@dataclass(frozen=True)
+class Hint:
+    """A hint for a line or a formula that goes on like the pattern from where it is wrong."""
+
+    pattern: re.Pattern[str]
+    advice: Callable[[re.Match[str]], str]
+
+
+def hint(pattern: str, advice: str | Callable[[re.Match[str]], str]) -> Hint:
+    return Hint(re.compile(pattern), (lambda _: advice) if isinstance(advice, str) else advice)
+
+
+def reference(first: str, last: str | None) -> str:
+    return f"[.{first}]" if last is None else f"[.{first}:.{last}]"
+
+
+def bare(found: re.Match[str]) -> str:
+    return f"a cell is written in brackets, with a point: write {reference(found[1], found[2])}"
+
+
+def without_point(found: re.Match[str]) -> str:
+    return f"each cell has a point before it: write {reference(found[1], found[2])}"
+
+
+WHAT_IF = "MULTIPLE.OPERATIONS has three or five parameters, each a cell, parted by ; as in MULTIPLE.OPERATIONS([.B5];[.B1];[.D2])"
+ONE_SHEET = "there is one sheet: a cell is written [.A1], without a sheet's name"
+FORMULA_HINTS = (
+    hint(r"(?i)(TRUE|FALSE)\b(?!\()", lambda found: f"in a formula it is a function: write {found[1].upper()}()"),
+    hint(r"(?i)MULTIPLE\.OPERATIONS", WHAT_IF),
+    hint(rf"{BARE}(?![\w.!(])", bare),
+    hint(rf"\[\.?{BARE}\]", without_point),
+    hint(rf"\[\.?{CELL}:\.?({CELL})", "a rectangle is written [.A1:.A3], and ends with ]"),
+    hint(r"\[[^\]]*[#!.]", ONE_SHEET),
+    hint(r"\[", "a cell is written [.A1], a rectangle [.A1:.A3]"),
+    hint(rf"(?:'[^']*'|[A-Za-z_]\w*)[.!]{CELL}", ONE_SHEET),
+    hint(r",", "parameters are parted by ; and decimals have a point"),
+    hint(rf"[{QUOTES}]", 'a text is written in plain double quotes: "like this"'),
+    hint(r'"', "the text isn't closed: a quote is lacking, or one inside it isn't doubled"),
+    hint(r"[;)]", 'a parameter or a value is lacking before this: write 0 or ""; or a ) is too many'),
+    hint(r"[A-Za-z_][\w.]*\s*\(", "an operator is lacking before the function"),
+    hint(r"([A-Za-z_][\w.]*)", lambda found: f'a text is written in quotes: "{found[1]}"; behind a function\'s name comes a ('),
+    hint(r"[=*/^&<>%]", "a value is lacking before the operator"),
+    hint(r"[0-9(]", "an operator is lacking before this"),
+    hint(r"[{}]", "there are no lists in a formula: put the values into cells"),
+    hint(r"[−–×÷≤≥≠]", "operators are written + - * / ^ & = <> < <= > >="),
+    hint(r"\s*$", "something is lacking at the end: a value, or a ) for each ("),
+)
+
+
+def formula_hint(formula: str, place: int) -> str:
+    """What to write where the formula is wrong at a place."""
+    if is_in_what_if(formula, place):
+        return WHAT_IF
+    rest = formula[place:]
+    for known in FORMULA_HINTS:
+        found = known.pattern.match(rest)
+        if found is not None:
+            return known.advice(found)
+    return "this can't be here"
+
+
+def is_in_what_if(formula: str, place: int) -> bool:
+    """Whether the place is inside the parentheses of MULTIPLE.OPERATIONS."""
+    before = re.sub(r'"[^"]*"', "", formula[:place])
+    return re.search(r"(?i)MULTIPLE\.OPERATIONS\s*\([^()]*$", before) is not None
+
+
+BY_CODE = {
+    "E03": "save the script as UTF-8, its lines at most 65,536 bytes long: iconv -f LATIN1 -t UTF-8",
+    "E04": "columns are A to XFD, rows 1 to 1048576",
+    "E06": "at most 64 parentheses are open at once: take parts into cells of their own",
+    "E07": "a number has at most 38 digits",
+    "E08": "a formula has at most 4,096 bytes and a text 32,767: take parts into cells of their own",
+    "E10": "no line before this made the scenario: scenario NAME ADDR CONTENT does",
+    "E13": "the number behind csv counts lines, and there are fewer: awk 'END { print NR }' counts them",
+    "E14": "save the CSV as UTF-8: iconv -f LATIN1 -t UTF-8",
+    "E15": "at most 65,536 cells or entries at once: ask for parts",
+    "E16": "fill a smaller area, or write $ before what mustn't move",
+    "E18": "changes shows what the others did, and the edit is accepted behind it; or write force before it",
+}
+
+
+WORDS = "set|clear|fill|csv|show|export|table|scenario|base|drop|use|as|changes|compare|force|formula"
+LINE_HINTS = (
+    hint("\ufeff", "the line begins with a byte order mark: save the script as UTF-8 without one"),
+    hint(r"[^\t]*\t", "words are parted by spaces, not by tabs"),
+    hint(rf" *(?i:force +)?(?=(?i:{WORDS})\b)(?!(?:{WORDS})\b)(?P<word>\w+)", lambda found: f"commands are in lower case: write {found['word'].lower()}"),
+    hint(rf" *(?:set +)?({CELL}) *= *(.*)", lambda found: f"write set {found[1]} {found[2]}, or set {found[1]} ={found[2]} for a formula"),
+    hint(r" *(?i:quit|exit|bye|q)\b", "there is no quit: the program ends with its input, at a terminal by Ctrl-D"),
+    hint(r" *(?i:help|\?)", "whatif --help lists the commands"),
+    hint(r" *(?:force +)?(?:set|scenario +\S+) +\S+ *$", "no content behind the address: clear A1 empties a cell, and set A1 ' puts an empty text"),
+    hint(r" *(?:show|export|clear) +\$?[A-Za-z]+:\$?[A-Za-z]+", "a rectangle has rows too: A1:A9"),
+    hint(r" *csv +\S+ *$", "behind the address comes the number of data lines: csv A1 3"),
+    hint(r"[^#]* #", "a comment has a line of its own, which begins with #"),
+    hint(r".* \$?[A-Za-z]+\$[0-9]", "addresses in commands have no $"),
+    hint(r'[^"]*"', "is it a line of CSV? A field with a line break takes several of the lines that csv counts"),
+    hint(r".*,", "is it a line of CSV? csv ADDR LINES before it says how many lines are data"),
+)
+
+
+def line_hint(line: str) -> str | None:
+    """What to write instead of a line that is no command."""
+    for known in LINE_HINTS:
+        found = known.pattern.match(line)
+        if found is not None:
+            return known.advice(found)
+    return None
+
+
+def refusal_hint(command: Command, code: str) -> str | None:
+    """What to write instead of a command that was refused with a code; formulas have hints of their own."""
+    return line_hint(command.text) if code == "E02" else BY_CODE.get(code)

@@ -1,0 +1,99 @@
+"""Which contents are numbers, and which texts were meant as one."""
+
+import re
+from collections.abc import Callable
+from dataclasses import dataclass
+from decimal import Decimal
+from fractions import Fraction
+
+from .formula import GREATEST, fits
+
+SPELLED = re.compile(r"[-+]?[0-9]+(?:\.[0-9]+|/[0-9]+)?")
+SPACES = " \t\u00a0\u2007\u2009\u202f"
+FIGURES = r"(?:[0-9]+(?:\.[0-9]*)?|\.[0-9]+)"
+
+
+def is_number(text: str) -> bool:
+    """Whether a content is read as a number."""
+    if SPELLED.fullmatch(text) is None:
+        return False
+    above, is_quotient, below = text.partition("/")
+    if not is_quotient:
+        return fits(Fraction(text))
+    return 0 < int(below) <= GREATEST and abs(int(above)) <= GREATEST
+
+
+@dataclass(frozen=True)
+class Spelling:
+    """A way to write a number that isn't read as one, and what to write instead."""
+
+    pattern: re.Pattern[str]
+    advice: Callable[[re.Match[str]], str]
+
+
+def write(text: str) -> str:
+    return f"write {text}"
+
+
+def plain(text: str) -> str:
+    """A number as digits with a point, without an exponent."""
+    return f"{Decimal(text):f}"
+
+
+def percent(found: re.Match[str]) -> str:
+    return write(plain(str(Decimal(found[1].replace(",", ".")) / 100)))
+
+
+def decimal_comma(found: re.Match[str]) -> str:
+    whole, places = found[1], found[2]
+    other = f", or {whole}{places} if the comma parts thousands" if len(places) == 3 else ""
+    return f"decimals have a point: {write(f'{whole}.{places}')}{other}"
+
+
+def exponent(found: re.Match[str]) -> str:
+    power = int(re.split("[eE]", found[0])[1])
+    written = f"{write(plain(found[0]))}, or " if abs(power) < 30 else ""
+    return f"{written}={found[0]} with set" if written else f"write ={found[0]} with set"
+
+
+def no_date(_: re.Match[str]) -> str:
+    return "there are no dates: count days or months in whole numbers; behind an apostrophe it is a text that is meant"
+
+
+def spelling(pattern: str, advice: Callable[[re.Match[str]], str]) -> Spelling:
+    return Spelling(re.compile(pattern), advice)
+
+
+DATE = spelling(r"[0-9]{4}-[0-9]{1,2}-[0-9]{1,2}|[0-9]{1,2}([./-])[0-9]{1,2}\1[0-9]{2,4}", no_date)
+SPELLINGS = (
+    spelling(rf"([-+]?{FIGURES}|[-+]?[0-9]+,[0-9]+)[{SPACES}]*%", percent),
+    spelling(r"([-+]?[0-9]+),([0-9]+)", decimal_comma),
+    spelling(rf"[-+]?[0-9]{{1,3}}(?:[,'’_{SPACES}][0-9]{{3}})+(?:\.[0-9]+)?", lambda found: write(re.sub(r"[^-+0-9.]", "", found[0]))),
+    spelling(r"([-+]?[0-9]{1,3}(?:\.[0-9]{3})+),([0-9]+)", lambda found: write(f"{found[1].replace('.', '')}.{found[2]}")),
+    spelling(rf"[-+]?{FIGURES}[eE][-+]?[0-9]{{1,9}}", exponent),
+    spelling(r"([-+]?)(\.[0-9]+)", lambda found: write(f"{found[1]}0{found[2]}")),
+    spelling(r"([-+]?[0-9]+)\.", lambda found: write(found[1])),
+    DATE,
+    spelling(rf"[-+]?[$€£¥][{SPACES}]*[-+]?{FIGURES}|[-+]?{FIGURES}[{SPACES}]*[$€£¥]", lambda found: write(re.sub(rf"[$€£¥{SPACES}]", "", found[0]))),
+    spelling(r"(?i:true|false)", lambda found: write(found[0].upper())),
+    spelling(r"[-+]?(?i:nan|inf|infinity)", lambda _: "no number is like that: leave it out"),
+    spelling(r"[-+]?[0-9]+(?:\.[0-9]+)?(?:/[0-9]+)?", lambda _: "it doesn't fit in 128 bits, or its denominator is 0"),
+)
+
+
+def meant_as_number(text: str) -> str | None:
+    """What to write for a text that was meant as a number or a truth value; None for other contents."""
+    if is_number(text) or text in ("TRUE", "FALSE"):
+        return None
+    trimmed = text.strip(SPACES).replace("\u2212", "-").replace("\u2013", "-")
+    if is_number(trimmed) or trimmed in ("TRUE", "FALSE"):
+        return write(trimmed) + (", without spaces around it" if text.strip(SPACES) != text else ", with the minus sign of the keyboard")
+    for known in SPELLINGS:
+        found = known.pattern.fullmatch(trimmed)
+        if found is not None:
+            return known.advice(found)
+    return None
+
+
+def is_date(text: str) -> bool:
+    return DATE.pattern.fullmatch(text.strip(SPACES)) is not None

@@ -1,0 +1,88 @@
+"""Running whatif, and parting what it writes into replies."""
+
+import os
+import re
+import subprocess
+from dataclasses import dataclass
+from pathlib import Path
+
+ROOT = Path(__file__).resolve().parents[2]
+BUILT = ROOT / "crates" / "whatif" / "out" / "whatif"
+
+REPLY_LINE = re.compile(rb'(?:"[^"]*"|[^"\n])*\n')
+"""A line of a reply; a line break between quotes is inside a record."""
+
+FIELD = re.compile(r'"((?:[^"]|"")*)"')
+MEANING = re.compile(r"^  (E[0-9][0-9])  (.*)$", re.MULTILINE)
+
+
+class NoProgram(Exception):
+    """whatif isn't where it is looked for."""
+
+
+def program() -> str:
+    """The program's path: what the environment variable WHATIF says, else the built one of this repository."""
+    return os.environ.get("WHATIF") or str(BUILT)
+
+
+@dataclass(frozen=True)
+class Reply:
+    """What the program writes for one command: its records, and then `ok` or `refused ..`."""
+
+    lines: tuple[bytes, ...]
+    end: str
+
+    @property
+    def code(self) -> str | None:
+        """The code of a refusal."""
+        return self.end.split(" ")[1] if self.end.startswith("refused ") else None
+
+    def records(self) -> list[list[str]]:
+        return [fields(line.decode()) for line in self.lines if line.startswith(b'"')]
+
+    def text(self) -> str:
+        return "".join(line.decode().replace("\r\n", "\n") for line in self.lines) + self.end + "\n"
+
+
+@dataclass(frozen=True)
+class Answer:
+    """All replies of a run, its exit status, and what it said on standard error."""
+
+    replies: list[Reply]
+    status: int
+    fault: str
+
+
+def fields(record: str) -> list[str]:
+    return [field.replace('""', '"') for field in FIELD.findall(record)]
+
+
+def parted(written: bytes) -> list[Reply]:
+    """The replies in the bytes that a run wrote."""
+    replies: list[Reply] = []
+    lines: list[bytes] = []
+    for line in REPLY_LINE.findall(written):
+        if line == b"ok\n" or line.startswith(b"refused "):
+            replies.append(Reply(tuple(lines), line.decode().rstrip("\n")))
+            lines = []
+        else:
+            lines.append(line)
+    return replies
+
+
+def call(words: list[str], script: bytes) -> subprocess.CompletedProcess[bytes]:
+    try:
+        return subprocess.run([program(), *words], input=script, capture_output=True)
+    except OSError as error:
+        raise NoProgram(f"{program()}: {error.strerror}; the environment variable WHATIF says where whatif is") from error
+
+
+def run(script: bytes, loaded: Path | None = None) -> Answer:
+    """Runs a script, behind another one in a file if that is given."""
+    done = call([] if loaded is None else ["--load", str(loaded)], script)
+    return Answer(parted(done.stdout), done.returncode, done.stderr.decode(errors="replace").strip())
+
+
+def meanings() -> dict[str, str]:
+    """What each refusal means, from the program's help."""
+    return dict(MEANING.findall(call(["--help"], b"").stdout.decode()))
