@@ -11,6 +11,7 @@ sys.path[:0] = [str(FOLDER), str(FOLDER.parent)]
 sys.dont_write_bytecode = True
 
 import test_formula  # noqa: E402
+from whatif_tools.program import NoProgram, meanings  # noqa: E402
 
 
 def arguments() -> argparse.Namespace:
@@ -29,6 +30,11 @@ def told(result: unittest.TestResult) -> str:
 def main() -> int:
     test_formula.FORMULAS = arguments().formulas
     os.chdir(FOLDER)
+    try:
+        meanings()
+    except NoProgram as error:
+        print(f"{error}\n0 passed, 1 failed")
+        return 1
     result = unittest.TestResult()
     unittest.defaultTestLoader.discover(str(FOLDER), top_level_dir=str(FOLDER)).run(result)
     wrong = len({test.id().partition(" ")[0] for test, _ in [*result.failures, *result.errors]})
