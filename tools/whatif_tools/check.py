@@ -173,7 +173,7 @@ def data_findings(command: Command) -> Iterator[Finding]:
         message = "fields are parted by commas, and these lines have semicolons: sed 's/,/./g; s/;/,/g' makes commas and decimal points of them"
         yield Finding(command.line + 1, 1, Kind.SEMICOLONS, message, rows[0])
     for column, known in sorted(suspects(command).items()):
-        what = "is a text, no number" if known.count == 1 else f"and {known.count - 1} more fields are texts, no numbers"
+        what = "is a text, no number" if known.count == 1 else f"and {known.count - 1} more below are texts, no numbers"
         yield Finding(known.line, 1, Kind.COLUMN_OF_TEXTS, f"field {column}: {known.field!r} {what}; {known.advice}", rows[known.line - command.line - 1])
     for line, formula in formulas(command)[:1]:
         yield Finding(line, 1, Kind.FORMULA_AS_TEXT, f"a text, no formula: CSV puts values in; write set for {formula}", rows[line - command.line - 1])

@@ -1,0 +1,183 @@
+"""How whatif-check pairs lines and replies, finds where errors start, and prints what it has found."""
+
+import contextlib
+import io
+import tempfile
+import unittest
+from pathlib import Path
+
+from whatif_tools.check import Check, main
+from whatif_tools.finding import Finding, Kind, excerpt
+from whatif_tools.numbers import is_number, meant_as_number
+from whatif_tools.program import parted
+from whatif_tools.script import commands, lines_of
+
+
+class Scripts(unittest.TestCase):
+    """Scripts in a file of their own."""
+
+    def setUp(self) -> None:
+        self.folder = tempfile.TemporaryDirectory()
+        self.path = Path(self.folder.name) / "s.whatif"
+
+    def tearDown(self) -> None:
+        self.folder.cleanup()
+
+    def findings(self, script: bytes) -> list[Finding]:
+        self.path.write_bytes(script)
+        return Check.of(self.path).findings()
+
+    def called(self, script: bytes, *words: str) -> tuple[int, str]:
+        self.path.write_bytes(script)
+        written = io.StringIO()
+        with contextlib.redirect_stdout(written):
+            status = main([*words, str(self.path)])
+        return status, written.getvalue().replace(str(self.path), "s.whatif")
+
+
+class Lines(Scripts):
+    def test_lines_that_are_answered(self) -> None:
+        script = b"# a\n\n  \r\nset A1 1\r\n force  csv  A1  2 \nset A1 9\n#x\nshow A1\n#\xff\nset A2 2"
+        found = [(command.line, command.bytes, command.data) for command in commands(lines_of(script))]
+        self.assertEqual(
+            found,
+            [
+                (4, b"set A1 1", ()),
+                (5, b" force  csv  A1  2 ", (b"set A1 9", b"#x")),
+                (8, b"show A1", ()),
+                (9, b"#\xff", ()),
+                (10, b"set A2 2", ()),
+            ],
+        )
+        self.path.write_bytes(script)
+        check = Check.of(self.path)
+        self.assertEqual(len(check.answer.replies), len(check.commands))
+
+    def test_data_lines(self) -> None:
+        """No reply is taken for that of another line where a csv is wrong, too long, or not UTF-8."""
+        for line in (b"csv A1 1000001", b"csv a", b"csv 1 1 1", b"Csv A1 1", b"csv\tA1 1", b"csv A1 +1", b"csv A1" + b" " * 65_536 + b"1", b"csv ZZZZ1 1", b"csv \xff 1"):
+            self.path.write_bytes(line + b"\nquit\nset A1 1\n")
+            check = Check.of(self.path)
+            self.assertEqual(len(check.answer.replies), len(check.commands), line[:20])
+            self.assertEqual(check.answer.replies[-1].end, "ok")
+
+    def test_replies(self) -> None:
+        written = b'"a\nok\nrefused E02\n","""x"\r\nok\nlines 1\n"1"\r\nok\nrefused E18 A1\n'
+        replies = parted(written)
+        self.assertEqual([reply.end for reply in replies], ["ok", "ok", "refused E18 A1"])
+        self.assertEqual(replies[0].records(), [["a\nok\nrefused E02\n", '"x']])
+        self.assertEqual([reply.code for reply in replies], [None, None, "E18"])
+
+    def test_end_of_the_program(self) -> None:
+        found = self.findings(b"#\n" * 1_000_000 + b"show A1\n")
+        self.assertEqual([(one.line, one.kind) for one in found], [(1_000_001, Kind.NO_REPLY)])
+        self.assertIn("exit status 4", found[0].message)
+
+
+class Errors(Scripts):
+    def starts(self, script: str) -> list[tuple[int, str]]:
+        found = self.findings(script.encode())
+        self.assertEqual({one.kind for one in found}, {Kind.ERROR_STARTS})
+        return [(one.line, one.message) for one in found]
+
+    def test_an_error_that_goes_on(self) -> None:
+        script = "set A1 =1/0\nset A2 =[.A1]+1\nset A3 =SUM([.A1:.A2])\nset A4 =VALUE([.C1])\nset A5 =[.A3]&[.A4]\n"
+        self.assertEqual(self.starts(script), [(1, "A1 shows #DIV/0!: =1/0")])
+
+    def test_two_errors(self) -> None:
+        script = "set A1 =NA()\nset A2 =IFERROR([.A1];1/0)\n"
+        self.assertEqual([line for line, _ in self.starts(script)], [1, 2])
+
+    def test_a_filled_column(self) -> None:
+        script = "set A1 x\nset B2 =[.A$1]*2\nfill B2 B3:B9\n"
+        self.assertEqual(self.starts(script), [(2, "B2 shows #VALUE!: =[.A$1]*2; 7 more of the column like it")])
+
+    def test_a_fill_is_where_it_starts(self) -> None:
+        script = "set B2 =1/[.A2]\nset A2 1\nfill B2 B2:B4\n"
+        self.assertEqual(self.starts(script), [(3, "B3 shows #DIV/0!: =1/[.A3]; 1 more of the column like it")])
+
+    def test_cycles(self) -> None:
+        script = "set A1 =[.B1]\nset B1 =[.A1]\nset C1 =[.B1]\nset D1 =SUM([.A1:.C1])\nset E1 =[.E1]\n"
+        self.assertEqual([message[:16] for _, message in self.starts(script)], ["A1 shows #CIRC!:", "B1 shows #CIRC!:", "E1 shows #CIRC!:"])
+
+    def test_another_session_and_scenario(self) -> None:
+        """What the script's last session uses hides no error of the sheet."""
+        script = "set A1 =1/0\nscenario s A1 1\nas bo\nuse s\nchanges\n"
+        self.assertEqual(self.starts(script), [(1, "A1 shows #DIV/0!: =1/0")])
+
+    def test_data_that_lack_lines(self) -> None:
+        found = self.findings(b"set A1 =1/0\ncsv B1 9\n1\n")
+        self.assertEqual([(one.line, one.kind) for one in found], [(1, Kind.ERROR_STARTS), (2, Kind.REFUSED)])
+
+
+class Scenarios(Scripts):
+    def test_edits_of_replaced_cells(self) -> None:
+        base = "set A1 1\nscenario a A1 2\nscenario b B1 3\nbase b a\n"
+        for rest, is_found in (
+            ("use b\nset A1 5\n", True),
+            ("use b\nset C1 5\n", False),
+            ("use b\nas ana\nforce set A1 5\n", False),
+            ("use b\nas ana\nas main\nset A1 5\n", True),
+            ("use b\nbase b\nset A1 5\n", False),
+            ("use b\nscenario a A1\nset A1 5\n", False),
+            ("use a\nuse\ndrop a\nset A1 5\n", False),
+        ):
+            with self.subTest(rest):
+                found = self.findings((base + rest).encode())
+                self.assertEqual(any(one.kind is Kind.REPLACED for one in found), is_found)
+
+
+class Command(Scripts):
+    def test_what_is_written(self) -> None:
+        written = "s.whatif:2:10: refused E05: the formula's syntax; parameters are parted by ; and decimals have a point\n    set A2 =2,5\n             ^\n"
+        self.assertEqual(self.called(b"set A1 1\nset A2 =2,5\n"), (1, written))
+
+    def test_nothing_found(self) -> None:
+        self.assertEqual(self.called(b"set A1 1\n"), (0, ""))
+
+    def test_transcript(self) -> None:
+        written = '     2  set A1 1\nok\n     3  csv A2 1\n     4  2,3\nok\n     5  show A1:B2\n"1",""\n"2","3"\nok\n'
+        self.assertEqual(self.called(b"#\nset A1 1\ncsv A2 1\n2,3\nshow A1:B2\n", "-t"), (0, written))
+
+    def test_no_script(self) -> None:
+        with contextlib.redirect_stderr(io.StringIO()):
+            self.assertEqual(main(["nowhere.whatif"]), 2)
+
+    def test_long_lines(self) -> None:
+        shown, caret, _ = excerpt("\t" + "a" * 300 + "X" + "b" * 300, 301).split("\n")
+        self.assertEqual(len(shown), 104)
+        self.assertEqual(shown[caret.index("^")], "X")
+        self.assertEqual(excerpt("\tset", 1), "    \tset\n    \t^\n")
+
+
+class Numbers(unittest.TestCase):
+    GREATEST = "170141183460469231731687303715884105727"
+
+    def test_numbers(self) -> None:
+        for text in ("0", "-12.50", "+1/3", "007", self.GREATEST, f"1/{self.GREATEST}", "0.1"):
+            self.assertTrue(is_number(text), text)
+            self.assertIsNone(meant_as_number(text))
+        for text in ("", ".5", "5.", "1e3", "1/0", "1/-2", "1 ", "\u0663", "17" + "0" * 38, f"1/{'9' * 39}", "0." + "0" * 38 + "1"):
+            self.assertFalse(is_number(text), text)
+
+    def test_what_was_meant(self) -> None:
+        for text, advice in (
+            ("1,234", "write 1.234, or 1234"),
+            ("1.234,50", "write 1234.50"),
+            ("1'000'000", "write 1000000"),
+            ("-12,5 %", "write -0.125"),
+            ("€ 3.20", "write 3.20"),
+            ("5.", "write 5"),
+            ("-.25", "write -0.25"),
+            ("2.5E-4", "write 0.00025"),
+            ("1e40", "write =1e40 with set"),
+            ("31.1.2026", "there are no dates"),
+            ("1/0", "denominator is 0"),
+            ("NaN", "leave it out"),
+            ("False", "write FALSE"),
+        ):
+            self.assertIn(advice, meant_as_number(text) or "", text)
+
+    def test_texts(self) -> None:
+        for text in ("a", "", "12 apples", "1.2.3", "1-2", "A1", "e5", "-", "%", "1,2,3", "12:30", "+"):
+            self.assertIsNone(meant_as_number(text), text)
