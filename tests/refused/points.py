@@ -5,7 +5,7 @@ from collections.abc import Callable
 from dataclasses import dataclass, field
 
 from program import MEMORY_STATUS, Program, Refusal, Run
-from script import OUT_OF_MEMORY, BadReplies, Command, commands, inspection, joined, replies
+from script import OUT_OF_MEMORY, BadReplies, Command, commands, inspection, joined, may_lack_memory, replies
 
 CHANGES = Command(b"changes\n")
 MEMORY_TEXT = b"whatif: out of memory"
@@ -110,10 +110,21 @@ class Trial:
         return found
 
     def requests(self) -> int:
-        """How many requests the script takes where none is refused."""
+        """How many requests the script takes where none is refused; so the next one is never met."""
         run = self.run(self.script, None)
         same("where nothing is refused", ended_well(run), b"".join(self.wanted))
+        beyond = self.run(self.script, Refusal(run.requests + 1, is_lasting=True))
+        same("where no request is left to refuse", ended_well(beyond), b"".join(self.wanted))
+        if (beyond.requests, beyond.refused) != (run.requests, 0):
+            raise Amiss(f"{run.requests} requests, and then {beyond.requests}, {beyond.refused} of them refused")
         return run.requests
+
+    def expect_lack(self, places: list[int]) -> None:
+        """E01 may stand in place of these replies of the script."""
+        for at in places:
+            command, reply = self.commands[at], self.wanted[at]
+            if not may_lack_memory(command, reply, is_first=at == places[0]):
+                raise Amiss(f"E01 in place of {reply!r} to {command.text[:SHOWN]!r}")
 
     def refused_once(self, refusal: Refusal, tally: Tally) -> None:
         """Refuses one request: one command at most is answered E01, and that is as if it hadn't been given."""
@@ -131,6 +142,7 @@ class Trial:
         if place not in self.places:
             raise Amiss(f"E01 isn't where a reply of the script begins, but at byte {place + 1}: {run.written[:SHOWN]!r}")
         at = self.places[place]
+        self.expect_lack([at])
         tally.out_of_memory += 1
         if at not in self.sequels:
             self.sequels[at] = self.sequels_of(at)
@@ -166,6 +178,7 @@ class Trial:
         found = answers(run.written)
         if len(found) != len(self.commands):
             raise Amiss(f"{len(self.commands)} commands, and {len(found)} replies")
+        self.expect_lack([at for at, reply in enumerate(found) if reply == OUT_OF_MEMORY])
         served = [(command, reply) for command, reply in zip(self.commands, found) if reply != OUT_OF_MEMORY]
         wanted = self.unrefused([command for command, _ in served])
         same("the commands that aren't answered E01", b"".join(reply for _, reply in served), b"".join(wanted))

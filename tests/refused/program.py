@@ -105,6 +105,7 @@ class Program:
 
     def __init__(self, path: str, allocator: Path, leaks: Path | None = None) -> None:
         self.path = os.path.realpath(path)
+        self.allocator = allocator
         self.leaks = leaks
         self.streams = Streams()
         self.environment = {name: value for name, value in os.environ.items() if not name.startswith(("REFUSE_", "LD_"))} | {

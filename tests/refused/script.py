@@ -16,6 +16,10 @@ AREA = re.compile(ADDRESS.pattern + rb"(?::\.?" + ADDRESS.pattern + rb")?")
 LAST_COLUMN, LAST_ROW = 16_384, 1_048_576
 
 OUT_OF_MEMORY = b"refused E01\n"
+FOUND_IN_WORDS = re.compile(rb"refused E(02|03|15)\n")
+FOUND_BEFORE_MEMORY = re.compile(rb"refused E(02|03|10|11|12|15|19)\n")
+"""Refusals that are found before anything grows, so that E01 never stands in their place, but for those of data lines; and
+those of them that don't depend on the commands before."""
 
 
 class BadReplies(Exception):
@@ -80,6 +84,14 @@ def replies(written: bytes) -> list[bytes]:
         found.append(reply.group())
         at = reply.end()
     return found
+
+
+def may_lack_memory(command: Command, reply: bytes, is_first: bool) -> bool:
+    """Whether E01 may stand in place of a reply of the script: in a run where none stood before it, or any."""
+    line, _, data = command.text.partition(b"\n")
+    if line.split()[:1] == [b"drop"]:
+        return False
+    return bool(data) or not (FOUND_BEFORE_MEMORY if is_first else FOUND_IN_WORDS).fullmatch(reply)
 
 
 def column_number(letters: bytes) -> int:

@@ -24,6 +24,7 @@ use dear
 csv B1 1
 x,"y
 show A1:C2
+frob
 """
 REPLIES = b'''ok
 ok
@@ -43,13 +44,14 @@ ok
 "7","x","y\n"\r
 "14","",""\r
 ok
+refused E02
 '''
 CRASHED = -6
 STEP = 4
 """Of the requests that the script takes, each fourth is enough to meet each command."""
 
 Fault = Callable[[Run], Run]
-UNSEEN_WHERE_MEMORY_STAYS_SHORT = {"no_more_memory", "last_value_is_wrong", "change_list_is_empty", "formula_is_lost"}
+UNSEEN_WHERE_MEMORY_STAYS_SHORT = {"last_value_is_wrong", "change_list_is_empty", "formula_is_lost"}
 """Commands that write values take memory, so these are answered E01 there."""
 
 
@@ -107,6 +109,7 @@ FAULTS: dict[str, Fault] = {change.__name__: after_refusal(change) for change in
     "writes_before_it_ends": lambda run: replace(run, written=b"ok\n") if run.status == 5 else run,
     "tells_nothing": lambda run: replace(run, told=b"") if run.status == 5 else run,
     "refuses_without_a_cause": lambda run: replace(run, written=run.written.replace(b"ok\n", OUT_OF_MEMORY, 1)),
+    "refuses_a_bad_command_for_memory": lambda run: replace(run, written=run.written.replace(b"refused E02\n", OUT_OF_MEMORY)),
     "refuses_no_request": lambda run: replace(run, refused=0),
 }
 
@@ -147,9 +150,15 @@ class Faults(unittest.TestCase):
         assert made, f"{name}.c can't be compiled"
         return made
 
+    def requests(self, program: Program) -> tuple[Trial, range]:
+        """A trial of the script by a program, and some of the requests that the script takes."""
+        trial = Trial(Program(PROGRAM, program.allocator), (), SCRIPT, REPLIES)
+        requests = range(1, trial.requests() + 1, STEP)
+        trial.program = program
+        return trial, requests
+
     def tally(self, program: Program) -> Tally:
-        trial = Trial(program, (), SCRIPT, REPLIES)
-        return tried(trial, range(1, trial.requests() + 1, STEP))
+        return tried(*self.requests(program))
 
     def test_nothing_is_found_where_nothing_is_planted(self) -> None:
         tally = self.tally(Program(PROGRAM, self.compiled("refuse")))
@@ -174,8 +183,7 @@ class Faults(unittest.TestCase):
 
     def lasting_faults(self, program: Program) -> list[str]:
         """What is found where all requests from one on are refused, for each of some requests."""
-        trial = Trial(program, (), SCRIPT, REPLIES)
-        requests = range(1, trial.requests() + 1, STEP)
+        trial, requests = self.requests(program)
         return [fault for request in requests if (fault := amiss(trial.refused_from, Refusal(request, is_lasting=True)))]
 
     def test_wrong_replies_of_the_script_are_found(self) -> None:
@@ -184,6 +192,8 @@ class Faults(unittest.TestCase):
             Trial(program, (), SCRIPT, REPLIES.replace(b'"14"', b'"15"')).requests()
         with self.assertRaises(Amiss):
             Trial(program, (), SCRIPT, REPLIES + b"ok\n")
+        with self.assertRaises(Amiss):
+            Trial(Planted(program.allocator, FAULTS["refuses_without_a_cause"]), (), SCRIPT, REPLIES).requests()
 
     @unittest.skipUnless(shutil.which("valgrind"), "no valgrind")
     def test_valgrind_finds_leaks_and_bad_reads(self) -> None:

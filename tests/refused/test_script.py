@@ -2,7 +2,7 @@
 
 import unittest
 
-from script import BadReplies, Command, commands, inspection, named_cells, replies
+from script import BadReplies, Command, commands, inspection, may_lack_memory, named_cells, replies
 
 
 def texts(script: bytes) -> list[bytes]:
@@ -44,6 +44,22 @@ class Replies(unittest.TestCase):
         for written in (b"ok", b"oki\n", b'"5"\nok\n', b'"5"\r\n', b"refused E1\n", b"ok\nrefused\n", b"E01\n", b'"5"\r\nrefused E01\n'):
             with self.assertRaises(BadReplies):
                 replies(written)
+
+
+class Memory(unittest.TestCase):
+    def test_where_out_of_memory_may_be_answered(self) -> None:
+        for script, reply, may in (
+            (b"set A1 5\n", b"ok\n", True),
+            (b"set B1 =[.XFE1]\n", b"refused E04\n", True),
+            (b"frob\n", b"refused E02\n", False),
+            (b"use none\n", b"refused E10\n", False),
+            (b"  drop one\n", b"ok\n", False),
+            (b"csv A1 1\nx\n", b"refused E03\n", True),
+        ):
+            with self.subTest(script=script):
+                self.assertEqual(may_lack_memory(commands(script)[0], reply, is_first=True), may)
+        self.assertTrue(may_lack_memory(Command(b"use none\n"), b"refused E10\n", is_first=False))
+        self.assertFalse(may_lack_memory(Command(b"frob\n"), b"refused E02\n", is_first=False))
 
 
 class Cells(unittest.TestCase):
