@@ -81,7 +81,7 @@ class Errors(Scripts):
         return [(one.line, one.message) for one in found]
 
     def test_an_error_that_goes_on(self) -> None:
-        script = "set A1 =1/0\nset A2 =[.A1]+1\nset A3 =SUM([.A1:.A2])\nset A4 =VALUE([.C1])\nset A5 =[.A3]&[.A4]\n"
+        script = "set A1 =1/0\nset A2 =[.A1]+1\nset A3 =SUM([.A1:.A2])\nset A4 =VALUE([.A3])\nset A5 =[.A3]&[.A4]\n"
         self.assertEqual(self.starts(script), [(1, "A1 shows #DIV/0!: =1/0")])
 
     def test_two_errors(self) -> None:

@@ -116,7 +116,7 @@ DATA = (
 SEARCHED = (
     ("`whatif script`", "whatif < script"),
     ("`--load` without a file", "--load"),
-    ("`| head -1`", "can't be written"),
+    ("head -1", "can't be written"),
     ("a terminal", "Ctrl-D"),
     ("exit status", "0 also"),
     ("Windows", "CR"),

@@ -1,0 +1,121 @@
+"""The examples of docs/TROUBLE.md and docs/FROM.md, run on the program."""
+
+import os
+import subprocess
+import tempfile
+import unittest
+from pathlib import Path
+
+from pages import Block, Page, codes, page_of
+from whatif_tools.errors import ASK
+from whatif_tools.program import ROOT, Reply, parted, program, run
+
+TROUBLE = page_of(ROOT / "docs" / "TROUBLE.md")
+FROM = page_of(ROOT / "docs" / "FROM.md")
+CELL = "Z99"
+FORMULA_CELLS = "set A1 2\nset A2 3\nset B1 4\nset B2 5\n"
+"""What is in the sheet when the formulas of TROUBLE are tried."""
+
+
+def without_ok(written: bytes) -> str:
+    """What a script wrote, but the lines `ok`."""
+    return "".join(reply.text().removesuffix("ok\n") for reply in parted(written))
+
+
+def written_by(script: str) -> bytes:
+    return subprocess.run([program()], input=script.encode(), capture_output=True).stdout
+
+
+def last(script: str) -> Reply:
+    return run(script.encode()).replies[-1]
+
+
+def shown(before: str, content: str) -> tuple[str, str]:
+    """The kind and the text that a content has in a cell of its own."""
+    script = before + f"set {CELL} {content}\n" + ASK.decode()
+    return next(((kind, text) for address, kind, text in last(script).records() if address == CELL), ("-", ""))
+
+
+class Blocks(unittest.TestCase):
+    def test_scripts(self) -> None:
+        for name, page in (("TROUBLE", TROUBLE), ("FROM", FROM)):
+            blocks = [block for block in page.blocks if block.language == "whatif"]
+            self.assertGreater(len(blocks), 4)
+            for block in blocks:
+                with self.subTest(f"{name}.md:{block.line}"):
+                    assert block.behind is not None
+                    self.assertEqual(without_ok(written_by(block.text)), block.behind.text)
+
+    def test_shell(self) -> None:
+        blocks = [block for block in FROM.blocks if block.language == "sh"]
+        self.assertTrue(blocks)
+        for block in blocks:
+            with self.subTest(f"FROM.md:{block.line}"):
+                assert block.behind is not None
+                self.assertEqual(self.in_shell(block), block.behind.text)
+
+    def in_shell(self, block: Block) -> str:
+        """What the commands of a block write in a folder in which the page's files are, `ok` left out."""
+        with tempfile.TemporaryDirectory() as folder:
+            Path(folder, "whatif").symlink_to(Path(program()).resolve())
+            Path(folder, "orders.csv").write_text(orders(FROM))
+            path = folder + os.pathsep + os.environ["PATH"]
+            done = subprocess.run(["bash", "-euc", block.text], cwd=folder, env={**os.environ, "PATH": path}, capture_output=True, text=True)
+            self.assertEqual(done.stderr, "")
+            return "".join(line + "\n" for line in done.stdout.splitlines() if line != "ok")
+
+
+def orders(page: Page) -> str:
+    """The data lines of the page's first script."""
+    return "".join(page.blocks[0].text.splitlines(keepends=True)[1:7])
+
+
+class Trouble(unittest.TestCase):
+    def rows(self, section: str) -> list[list[str]]:
+        rows = TROUBLE.tables[section]
+        self.assertGreater(len(rows), 2)
+        return rows
+
+    def test_formulas(self) -> None:
+        for wrong, _, right in self.rows("refused E05: a formula"):
+            for formula in codes(wrong):
+                if formula == "=SUM([.A1:A3])" or formula not in codes(right):
+                    self.assertEqual(last(f"set {CELL} {formula}").end, "refused E05", formula)
+            for formula in codes(right):
+                self.assertEqual(last(f"set {CELL} {formula}").end, "ok", formula)
+
+    def test_lines(self) -> None:
+        for wrong, _, right in self.rows("refused E02: a line"):
+            for line in codes(wrong):
+                self.assertEqual(last(line + "\n").end, "refused E02", line)
+            for line in codes(right):
+                self.assertEqual(last(line + "\n").end, "ok", line)
+
+    def test_texts(self) -> None:
+        for wrong, _, right in self.rows("ok, but a text"):
+            for line in codes(wrong):
+                self.assertEqual(shown("", line.removeprefix("set A1 "))[0], "T", line)
+            for line in codes(right):
+                self.assertIn(shown("", line.removeprefix("set A1 "))[0], ("N", "L"), line)
+
+    def test_errors(self) -> None:
+        for error, wrong, _, right in self.rows("Errors in cells"):
+            for formula in codes(wrong):
+                self.assertEqual(shown(FORMULA_CELLS, formula), ("E", error.strip("`")), formula)
+            for formula in codes(right):
+                self.assertNotEqual(shown(FORMULA_CELLS, formula)[0], "E", formula)
+
+    def test_fractions(self) -> None:
+        for text, wrong, _, _ in self.rows("A fraction where you want a decimal"):
+            self.assertEqual(shown("", codes(wrong)[0]), ("N", text.strip("`")))
+
+
+class From(unittest.TestCase):
+    def test_formulas(self) -> None:
+        """Each row of a table that says what its formula shows, on the sheet of the page's first script."""
+        sheet = FROM.blocks[0].text
+        rows = [row for section in FROM.tables.values() for row in section if len(row) == 3 and row[2]]
+        self.assertGreater(len(rows), 25)
+        for _, here, text in rows:
+            (formula,) = codes(here)
+            self.assertEqual(shown(sheet, formula)[1], codes(text)[0], formula)
