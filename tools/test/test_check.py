@@ -38,7 +38,7 @@ class Scripts(unittest.TestCase):
 class Lines(Scripts):
     def test_lines_that_are_answered(self) -> None:
         script = b"# a\n\n  \r\nset A1 1\r\n force  csv  A1  2 \nset A1 9\n#x\nshow A1\n#\xff\nset A2 2"
-        found = [(command.line, command.bytes, command.data) for command in commands(lines_of(script))]
+        found = [(command.line, command.raw, command.data) for command in commands(lines_of(script))]
         self.assertEqual(
             found,
             [

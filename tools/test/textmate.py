@@ -16,6 +16,10 @@ class Piece:
     text: str
 
 
+def start_of(found: tuple[Rule, re.Match[str]]) -> int:
+    return found[1].start()
+
+
 @dataclass
 class Grammar:
     rules: Rule
@@ -43,7 +47,7 @@ class Grammar:
     def first(self, line: str, place: int, end: int, rules: list[Rule]) -> tuple[Rule, re.Match[str]] | None:
         matches = [(rule, re.compile(rule.get("match") or rule["begin"]).search(line, place, end)) for rule in rules]
         found = [(rule, match) for rule, match in matches if match is not None]
-        return min(found, key=lambda pair: pair[1].start(), default=None)
+        return min(found, key=start_of) if found else None
 
     def captured(self, line: str, match: re.Match[str], rule: Rule) -> list[Piece]:
         pieces = [Piece(match.start(), rule["name"], match[0])] if "name" in rule else []

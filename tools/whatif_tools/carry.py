@@ -144,7 +144,7 @@ def without_noise(formula: str) -> str:
 
 def put(place: Address, content: str) -> str:
     """A text with a line break goes in by CSV, since a command is one line."""
-    if "\n" not in content:
+    if "\n" not in content and "\r" not in content:
         return f"set {place} {content}\n"
     quoted = content.removeprefix("'").replace('"', '""')
     return f"csv {place} {quoted.count(chr(10)) + 1}\n\"{quoted}\"\n"

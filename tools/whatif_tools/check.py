@@ -94,7 +94,7 @@ def likeness(cell: ErrorCell) -> tuple[int, str, str]:
 
 
 def numbered(command: Command) -> str:
-    lines = [command.bytes, *command.data]
+    lines = [command.raw, *command.data]
     return "".join(f"{command.line + i:6}  {line.decode(errors='replace').rstrip(chr(13))}\n" for i, line in enumerate(lines))
 
 
@@ -114,7 +114,7 @@ def place_and_hint(command: Command, code: str) -> tuple[int, str | None]:
         if found is not None and found.code == code:
             hint = formula_hint(content, found.place) if code == "E05" else refusal_hint(command, code)
             return command.content_place + found.place, hint
-    if code == "E03" and not is_utf8(command.bytes):
+    if code == "E03" and not is_utf8(command.raw):
         return command.text.index("\ufffd"), refusal_hint(command, code)
     return first_word(command), refusal_hint(command, code)
 

@@ -75,7 +75,7 @@ def after_blanks(text: str, place: int) -> int:
 
 def tokens_of(text: str, place: int) -> Tokens:
     """The tokens of a formula from a place on."""
-    tokens = []
+    tokens: list[Token] = []
     place = after_blanks(text, place)
     while place < len(text):
         found = TOKEN.match(text, place)

@@ -20,7 +20,11 @@ class Hint:
 
 
 def hint(pattern: str, advice: str | Callable[[re.Match[str]], str]) -> Hint:
-    return Hint(re.compile(pattern), (lambda _: advice) if isinstance(advice, str) else advice)
+    """A hint that is a sentence, or one that is made of what was found."""
+    if isinstance(advice, str):
+        sentence = advice
+        return Hint(re.compile(pattern), lambda _: sentence)
+    return Hint(re.compile(pattern), advice)
 
 
 def reference(first: str, last: str | None) -> str:
@@ -43,7 +47,8 @@ FORMULA_HINTS = (
     hint(rf"{BARE}(?![\w.!(])", bare),
     hint(rf"\[\.?{BARE}\]", without_point),
     hint(rf"\[\.?{CELL}:\.?({CELL})", "a rectangle is written [.A1:.A3], and ends with ]"),
-    hint(r"\[[^\]]*[#!.]", ONE_SHEET),
+    hint(r"\[\$?(?:'[^']*'|[A-Za-z_][\w ]*)\.", ONE_SHEET),
+    hint(rf"\[\.?{CELL}", "a cell is written [.A1], and ends with ]"),
     hint(r"\[", "a cell is written [.A1], a rectangle [.A1:.A3]"),
     hint(rf"(?:'[^']*'|[A-Za-z_]\w*)[.!]{CELL}", ONE_SHEET),
     hint(r",", "parameters are parted by ; and decimals have a point"),
@@ -56,6 +61,7 @@ FORMULA_HINTS = (
     hint(r"[0-9(]", "an operator is lacking before this"),
     hint(r"[{}]", "there are no lists in a formula: put the values into cells"),
     hint(r"[−–×÷≤≥≠]", "operators are written + - * / ^ & = <> < <= > >="),
+    hint(r"[\u00a0\u2007\u2009\u202f]", "a space from a word processor: write a plain one"),
     hint(r"\s*$", "something is lacking at the end: a value, or a ) for each ("),
 )
 
@@ -103,6 +109,8 @@ LINE_HINTS = (
     hint(r" *(?i:help|\?)", "whatif --help lists the commands"),
     hint(r" *(?:force +)?(?:set|scenario +\S+) +\S+ *$", "no content behind the address: clear A1 empties a cell, and set A1 ' puts an empty text"),
     hint(r" *(?:show|export|clear) +\$?[A-Za-z]+:\$?[A-Za-z]+", "a rectangle has rows too: A1:A9"),
+    hint(r" *(show|export|clear) +(\w+) +(\w+) *$", lambda found: f"write {found[1]} {found[2]}:{found[3]}"),
+    hint(rf" *(?:force +)?(?:{WORDS}) +\[", "an address in a command has no brackets: write A1"),
     hint(r" *csv +\S+ *$", "behind the address comes the number of data lines: csv A1 3"),
     hint(r"[^#]* #", "a comment has a line of its own, which begins with #"),
     hint(r".* \$?[A-Za-z]+\$[0-9]", "addresses in commands have no $"),

@@ -22,12 +22,12 @@ class Command:
     """A line that is answered, with the data lines behind it; lines are counted from 1."""
 
     line: int
-    bytes: bytes
+    raw: bytes
     data: tuple[bytes, ...]
 
     @property
     def text(self) -> str:
-        return self.bytes.decode(errors="replace")
+        return self.raw.decode(errors="replace")
 
     @property
     def words(self) -> list[str]:
