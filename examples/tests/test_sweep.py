@@ -1,0 +1,80 @@
+"""A chunk of sets by one process gives what a process for each set gives, and what Python's fractions give."""
+
+import os
+import subprocess
+import unittest
+from fractions import Fraction
+
+from program import PROGRAM, written
+from replies import EXAMPLES, commands_of, records_of
+from rounding import rounded, shown
+
+SWEEP = EXAMPLES / "sweep"
+CELLS = ("B1", "B3", "B4", "B6")
+
+
+def run(name: str, *words: str, given: str = "") -> subprocess.CompletedProcess[str]:
+    """Runs a script of the sweep."""
+    environment = {**os.environ, "WHATIF": PROGRAM}
+    words = (str(SWEEP / name), *words)
+    return subprocess.run(words, input=given, capture_output=True, text=True, env=environment, timeout=60)
+
+
+def left(size: str, part: str, price: str, cost: str) -> Fraction:
+    """What is left of 20 years' income when the roof is paid for."""
+    output, income = Fraction(1), Fraction(0)
+    kilowatt_hour = Fraction(part) * Fraction(price) + (1 - Fraction(part)) * Fraction("0.08")
+    for _ in range(20):
+        income += rounded(Fraction(size) * 950 * output * kilowatt_hour, 2)
+        output = rounded(output * Fraction("0.995"), 6)
+    return income - Fraction(size) * Fraction(cost)
+
+
+def by_a_process_of_its_own(line: str) -> str:
+    """The result of one set of parameters."""
+    name, *values = line.split(",")
+    questions = "".join(f"set {cell} {value}\n" for cell, value in zip(CELLS, values))
+    replies = written((SWEEP / "model.whatif").read_bytes() + f"{questions}show B10\n".encode()).decode()
+    ((result,),) = records_of([text + "\n" for text in replies.split("\n") if text.startswith('"')])
+    return f"{name},{result}"
+
+
+class SweepTest(unittest.TestCase):
+    lines = run("sets", "100000").stdout.splitlines()
+    some = lines[::4001]
+
+    def test_sets_are_all_different(self) -> None:
+        self.assertEqual(len(self.lines), 100_000)
+        self.assertEqual(len({line.partition(",")[2] for line in self.lines}), 100_000)
+
+    def test_model_has_no_questions(self) -> None:
+        first_words = {command.split()[0] for command in commands_of((SWEEP / "model.whatif").read_text())}
+        self.assertEqual(first_words, {"csv", "set", "fill"})
+
+    def test_a_chunk_is_a_process_for_each_set(self) -> None:
+        ran = run("chunk", given="\n".join(self.some) + "\n")
+        self.assertEqual((ran.returncode, ran.stderr), (0, ""))
+        self.assertEqual(ran.stdout.splitlines(), [by_a_process_of_its_own(line) for line in self.some])
+
+    def test_results(self) -> None:
+        ran = run("chunk", given="\n".join(self.some) + "\n")
+        wanted = []
+        for line in self.some:
+            name, *values = line.split(",")
+            wanted.append(f"{name},{shown(left(*values))}")
+        self.assertEqual(ran.stdout.splitlines(), wanted)
+
+    def test_a_set_that_is_refused_has_no_result(self) -> None:
+        ran = run("chunk", given=f"{self.lines[0]}\nbad,5,0.3,,1200\n{self.lines[1]}\n")
+        self.assertEqual((ran.returncode, ran.stderr), (1, "bad: refused E02\n"))
+        good = run("chunk", given=f"{self.lines[0]}\n{self.lines[1]}\n")
+        self.assertEqual((ran.stdout, good.returncode), (good.stdout, 0))
+
+    def test_a_program_that_ends_early_fails(self) -> None:
+        environment = {**os.environ, "WHATIF": "false"}
+        ran = subprocess.run([str(SWEEP / "chunk")], input="\n".join(self.lines), text=True, capture_output=True, env=environment)
+        self.assertNotEqual(ran.returncode, 0)
+
+
+if __name__ == "__main__":
+    unittest.main()
