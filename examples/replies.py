@@ -6,7 +6,7 @@ import re
 from dataclasses import dataclass, field
 from pathlib import Path
 
-EXAMPLES = Path(__file__).resolve().parents[1]
+EXAMPLES = Path(__file__).resolve().parent
 DATA = re.compile(r"(?:force +)?csv +\S+ +(\d{1,7})")
 
 
