@@ -105,6 +105,10 @@ class Errors(Scripts):
         script = "set A1 =1/0\nscenario s A1 1\nas bo\nuse s\nchanges\n"
         self.assertEqual(self.starts(script), [(1, "A1 shows #DIV/0!: =1/0")])
 
+    def test_no_room_for_a_session(self) -> None:
+        script = "".join(f"as s{number}\n" for number in range(1, 64)) + "set A1 =1/0\n"
+        self.assertEqual(self.starts(script), [(64, "A1 shows #DIV/0!: =1/0")])
+
     def test_data_that_lack_lines(self) -> None:
         found = self.findings(b"set A1 =1/0\ncsv B1 9\n1\n")
         self.assertEqual([(one.line, one.kind) for one in found], [(1, Kind.ERROR_STARTS), (2, Kind.REFUSED)])

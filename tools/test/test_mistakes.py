@@ -7,7 +7,8 @@ from pathlib import Path
 
 from whatif_tools.check import Check
 from whatif_tools.finding import Finding, Kind
-from whatif_tools.program import ROOT
+from whatif_tools.hints import BY_CODE
+from whatif_tools.program import ROOT, meanings
 
 TROUBLE = ROOT / "docs" / "TROUBLE.md"
 
@@ -130,6 +131,9 @@ SEARCHED = (
 )
 """What no script shows: words that a reader searches on the page, and what the line that has them says."""
 
+MEANT = ("refused E12", "refused E18")
+"""The examples show what it is like to be refused; other findings there are errors in cells, which they show too."""
+
 GOOD = (
     "# a comment\n\nset A1 12.5\nset A2 'a text\nset A3 =SUM([.A1:.A2];1)\nset A4 TRUE\nset A5 1/3\nset A6 '2026-01-31\nset A7 plain words\r\nshow A1:A7\n",
     "csv A1 2\n2026-01-31,bolt,0.12\n2026-02-01,nut,-3/4\n",
@@ -170,6 +174,19 @@ class Mistakes(unittest.TestCase):
         for word, cure in SEARCHED:
             with self.subTest(word):
                 self.assertTrue([line for line in lines if word in line and cure in line])
+
+    def test_codes(self) -> None:
+        """Every refusal has a hint, but for the lines and the formulas that have their own."""
+        self.assertEqual(set(meanings()) - set(BY_CODE), {"E02", "E05"})
+
+    def test_examples(self) -> None:
+        """What is found in the examples is what they are about."""
+        examples = sorted((ROOT / "examples").glob("*.whatif"))
+        self.assertTrue(examples)
+        for path in examples:
+            for found in Check.of(path).findings():
+                with self.subTest(f"{path.name}:{found.line}"):
+                    self.assertTrue(found.kind is Kind.ERROR_STARTS or found.message.startswith(MEANT), found.message)
 
     def test_good_scripts(self) -> None:
         for script in GOOD:

@@ -70,7 +70,30 @@ def orders(page: Page) -> str:
     return "".join(page.blocks[0].text.splitlines(keepends=True)[1:7])
 
 
+SAMPLE = """set A2 0.0425
+set A3 4
+set B3 =[.A3]*2,5
+set A4 5
+set A5 6
+set A6 7
+set B7 12%
+set B2 0.0425
+set B9 =PMT([.B2]/12;60;20000)
+"""
+"""The script whose findings are shown at the top of TROUBLE."""
+
+
 class Trouble(unittest.TestCase):
+    def test_findings(self) -> None:
+        with tempfile.TemporaryDirectory() as folder:
+            Path(folder, "budget.whatif").write_text(SAMPLE)
+            words = [str(ROOT / "tools" / "whatif-check"), "budget.whatif"]
+            environment = {**os.environ, "WHATIF": str(Path(program()).resolve())}
+            done = subprocess.run(words, cwd=folder, env=environment, capture_output=True, text=True)
+        page = (ROOT / "docs" / "TROUBLE.md").read_text()
+        self.assertIn("".join(f"    {line}\n" for line in done.stdout.splitlines()), page)
+        self.assertEqual(done.returncode, 1)
+
     def rows(self, section: str) -> list[list[str]]:
         rows = TROUBLE.tables[section]
         self.assertGreater(len(rows), 2)

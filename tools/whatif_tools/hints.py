@@ -85,17 +85,23 @@ def is_in_what_if(formula: str, place: int) -> bool:
 
 
 BY_CODE = {
+    "E01": "nothing has changed: give the program more memory, or fewer cells",
     "E03": "save the script as UTF-8, its lines at most 65,536 bytes long: iconv -f LATIN1 -t UTF-8",
     "E04": "columns are A to XFD, rows 1 to 1048576",
     "E06": "at most 64 parentheses are open at once: take parts into cells of their own",
     "E07": "a number has at most 38 digits",
     "E08": "a formula has at most 4,096 bytes and a text 32,767: take parts into cells of their own",
+    "E09": "at most 200,000 cells are filled: clear what isn't needed",
     "E10": "no line before this made the scenario: scenario NAME ADDR CONTENT does",
+    "E11": "there are at most 64 scenarios, 256 replacements in each, and 64 sessions: drop a scenario that isn't needed",
+    "E12": "a session uses it, or another scenario is based on it: use without a name, or base NAME, ends that",
     "E13": "the number behind csv counts lines, and there are fewer: awk 'END { print NR }' counts them",
     "E14": "save the CSV as UTF-8: iconv -f LATIN1 -t UTF-8",
     "E15": "at most 65,536 cells or entries at once: ask for parts",
     "E16": "fill a smaller area, or write $ before what mustn't move",
+    "E17": "start anew, with the cells as they are now",
     "E18": "changes shows what the others did, and the edit is accepted behind it; or write force before it",
+    "E19": "the other scenario is based on this one, itself or by a third: base NAME takes a base away",
 }
 
 
