@@ -91,7 +91,7 @@ class Trouble(unittest.TestCase):
             environment = {**os.environ, "WHATIF": str(Path(program()).resolve())}
             done = subprocess.run(words, cwd=folder, env=environment, capture_output=True, text=True)
         page = (ROOT / "docs" / "TROUBLE.md").read_text()
-        self.assertIn("".join(f"    {line}\n" for line in done.stdout.splitlines()), page)
+        self.assertTrue("".join(f"    {line}\n" for line in done.stdout.splitlines()) in page, done.stdout)
         self.assertEqual(done.returncode, 1)
 
     def rows(self, section: str) -> list[list[str]]:
