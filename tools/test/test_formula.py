@@ -4,7 +4,7 @@ import unittest
 from collections import Counter
 
 from formulas import Formulas
-from whatif_tools.formula import fault
+from whatif_tools.formula import TOKEN, Kind, fault
 from whatif_tools.program import run
 
 FORMULAS = 2_000
@@ -57,10 +57,28 @@ GOOD = (
 )
 
 
+FOLLOWS = ("", "1", "(1)", "[.A1]", "[.A1];[.A1]", "[.A1];[.A1];[.A1]", ";[.A1]", ";[.A1];[.A1]")
+"""What may come next in a formula, before the parentheses that are still open."""
+
+
 def verdicts(formulas: list[str]) -> list[str | None]:
     """How the program refuses each formula."""
     script = "".join(f"set A1 {formula}\n" for formula in formulas)
     return [reply.code for reply in run(script.encode()).replies]
+
+
+def completed(prefix: str, follows: tuple[str, ...]) -> list[str]:
+    """The ways tried to go on from the beginning of a formula."""
+    return [prefix + more + ")" * closed for more in follows for closed in range(prefix.count("(") + 2)]
+
+
+def beyond(formula: str, place: int) -> list[str]:
+    """The same with the token at the place of the fault. A name alone goes on with a parenthesis: it is wrong if that isn't there."""
+    found = TOKEN.match(formula, place)
+    if found is None:
+        return []
+    follows = tuple(more for more in FOLLOWS if found.lastgroup != Kind.NAME.name or not more.startswith("("))
+    return completed(formula[: found.end()] + " ", follows)
 
 
 class Places(unittest.TestCase):
@@ -90,3 +108,17 @@ class Places(unittest.TestCase):
         seen = Counter(said)
         for code in (None, "E04", "E05", "E06", "E07"):
             self.assertGreater(seen[code], len(formulas) // 100, f"too few formulas are {code}")
+
+    def test_places_of_random_formulas(self) -> None:
+        """What is before the place of a syntax error can become a formula, and with the token there it can't."""
+        maker = Formulas(SEED + 1)
+        formulas = [maker.make() for _ in range(FORMULAS // 10)]
+        places = [(formula, found.place) for formula in formulas if (found := fault(formula)) is not None and found.code == "E05"]
+        before = [completed(formula[:place], FOLLOWS) for formula, place in places]
+        after = [beyond(formula, place) for formula, place in places]
+        said = iter(verdicts([one for tried in (*before, *after) for one in tried]))
+        for (formula, place), tried in zip(places, before):
+            self.assertIn(None, [next(said) for _ in tried], (formula, place))
+        for (formula, place), tried in zip(places, after):
+            self.assertNotIn(None, [next(said) for _ in tried], (formula, place))
+        self.assertGreater(len(places), len(formulas) // 4)

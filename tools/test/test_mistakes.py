@@ -80,6 +80,8 @@ LINES = (
     line("show A:A", "A1:A9"),
     line("show A1 B2", "write show A1:B2"),
     line("set [.A1] 5", "no brackets"),
+    line("show A1:XFE1", "columns are A to XFD", 6),
+    line("set A1048577 5", "rows 1 to 1048576", 5),
     line("quit", "Ctrl-D"),
     line("show A1 # the total", "a comment has a line of its own"),
     line("csv A1", "the number of data lines"),

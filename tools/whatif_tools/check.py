@@ -18,6 +18,7 @@ from .numbers import is_date, meant_as_number
 from .program import Answer, NoProgram, Reply, meanings, run
 from .scenarios import Scenarios
 from .script import BYTE_ORDER_MARK, Command, address_of, commands, is_utf8, lines_of, looks_like_command
+from .sheet import AREA, Rectangle
 
 UTF_16 = (b"\xff\xfe", b"\xfe\xff")
 LONGEST_FIELD = 1 << 30
@@ -114,9 +115,17 @@ def place_and_hint(command: Command, code: str) -> tuple[int, str | None]:
         if found is not None and found.code == code:
             hint = formula_hint(content, found.place) if code == "E05" else refusal_hint(command, code)
             return command.content_place + found.place, hint
+    if code == "E04":
+        return outside_place(command), refusal_hint(command, code)
     if code == "E03" and not is_utf8(command.raw):
         return command.text.index("\ufffd"), refusal_hint(command, code)
     return first_word(command), refusal_hint(command, code)
+
+
+def outside_place(command: Command) -> int:
+    """Where the first address outside the sheet is."""
+    areas = (word for word in command.words[1:] if AREA.fullmatch(word) and Rectangle.parse(word) is None)
+    return next((command.word_place(word) for word in areas), first_word(command))
 
 
 def first_word(command: Command) -> int:

@@ -6,6 +6,7 @@ from dataclasses import dataclass
 COLUMNS = 16_384
 ROWS = 1_048_576
 ADDRESS = re.compile(r"([A-Za-z]+)([1-9][0-9]*)")
+AREA = re.compile(rf"{ADDRESS.pattern}(?::{ADDRESS.pattern})?")
 
 
 def column_number(letters: str) -> int:
