@@ -62,7 +62,7 @@ FORMULAS = (
     formula("=1+[.B2", 4, "ends with ]"),
     formula("=SUM([.B1:.B3", 6, "ends with ]"),
     formula("=1\u00a0+2", 3, "a plain one"),
-    formula("==1", 2, "a value is lacking before the operator"),
+    formula("==1", 2, "a value is missing before the operator"),
     Mistake("set A1 =PMT(0.01;60;20000)", Kind.ERROR_STARTS, (1, 1), "A1 shows #NAME?: =PMT("),
     Mistake("set A1 =SUMIFS([.B1:.B2];[.C1:.C2];1)", Kind.ERROR_STARTS, (1, 1), "A1 shows #NAME?"),
     Mistake("set A1 =SQRT(2)", Kind.ERROR_STARTS, (1, 1), "A1 shows #NAME?"),

@@ -53,16 +53,16 @@ FORMULA_HINTS = (
     hint(rf"(?:'[^']*'|[A-Za-z_]\w*)[.!]{CELL}", ONE_SHEET),
     hint(r",", "parameters are parted by ; and decimals have a point"),
     hint(rf"[{QUOTES}]", 'a text is written in plain double quotes: "like this"'),
-    hint(r'"', "the text isn't closed: a quote is lacking, or one inside it isn't doubled"),
-    hint(r"[;)]", 'a parameter or a value is lacking before this: write 0 or ""; or a ) is too many'),
-    hint(r"[A-Za-z_][\w.]*\s*\(", "an operator is lacking before the function"),
+    hint(r'"', "the text isn't closed: a quote is missing, or one inside it isn't doubled"),
+    hint(r"[;)]", 'a parameter or a value is missing before this: write 0 or ""; or a ) is too many'),
+    hint(r"[A-Za-z_][\w.]*\s*\(", "an operator is missing before the function"),
     hint(r"([A-Za-z_][\w.]*)", lambda found: f'a text is written in quotes: "{found[1]}"; behind a function\'s name comes a ('),
-    hint(r"[=*/^&<>%]", "a value is lacking before the operator"),
-    hint(r"[0-9(]", "an operator is lacking before this"),
+    hint(r"[=*/^&<>%]", "a value is missing before the operator"),
+    hint(r"[0-9(]", "an operator is missing before this"),
     hint(r"[{}]", "there are no lists in a formula: put the values into cells"),
     hint(r"[−–×÷≤≥≠]", "operators are written + - * / ^ & = <> < <= > >="),
     hint(r"[\u00a0\u2007\u2009\u202f]", "a space from a word processor: write a plain one"),
-    hint(r"\s*$", "something is lacking at the end: a value, or a ) for each ("),
+    hint(r"\s*$", "something is missing at the end: a value, or a ) for each ("),
 )
 
 

@@ -74,7 +74,7 @@ def call(words: list[str], script: bytes) -> subprocess.CompletedProcess[bytes]:
     try:
         return subprocess.run([program(), *words], input=script, capture_output=True)
     except OSError as error:
-        raise NoProgram(f"{program()}: {error.strerror}; the environment variable WHATIF says where whatif is") from error
+        raise NoProgram(f"{program()}: {error.strerror}; ./whatif builds it, and the environment variable WHATIF may name another") from error
 
 
 def run(script: bytes, loaded: Path | None = None) -> Answer:
