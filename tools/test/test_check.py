@@ -9,7 +9,7 @@ from pathlib import Path
 from whatif_tools.check import Check, main
 from whatif_tools.finding import Finding, Kind, excerpt
 from whatif_tools.numbers import is_number, meant_as_number
-from whatif_tools.program import parted
+from whatif_tools.program import ROOT, parted
 from whatif_tools.script import commands, lines_of
 
 
@@ -67,6 +67,17 @@ class Lines(Scripts):
         self.assertEqual([reply.end for reply in replies], ["ok", "ok", "refused E18 A1"])
         self.assertEqual(replies[0].records(), [["a\nok\nrefused E02\n", '"x']])
         self.assertEqual([reply.code for reply in replies], [None, None, "E18"])
+
+    def test_worked_scripts(self) -> None:
+        """There are as many replies as commands, and each refusal is found."""
+        scripts = sorted((ROOT / "tests" / "scripts").glob("*.whatif"))
+        self.assertGreater(len(scripts), 50)
+        for path in scripts:
+            with self.subTest(path.name):
+                check = Check.of(path)
+                self.assertEqual(len(check.answer.replies), len(check.commands))
+                refused = [found for found in check.findings() if found.kind is Kind.REFUSED]
+                self.assertEqual(len(refused), sum(reply.code is not None for reply in check.answer.replies))
 
     def test_end_of_the_program(self) -> None:
         found = self.findings(b"#\n" * 1_000_000 + b"show A1\n")

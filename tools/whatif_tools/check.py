@@ -206,6 +206,7 @@ def formulas(command: Command) -> list[tuple[int, str]]:
 
 def fields(command: Command) -> Iterator[tuple[int, int, str]]:
     """The fields of the data lines: the line in which each begins, its column from 1, and its text."""
+    csv.field_size_limit(LONGEST_FIELD)
     text = "\n".join(line.decode(errors="replace") for line in command.data)
     reader = csv.reader(io.StringIO(text.removeprefix("\ufeff"), newline=""))
     line = command.line + 1
@@ -231,7 +232,6 @@ def arguments(words: list[str]) -> argparse.Namespace:
 
 def main(words: list[str]) -> int:
     asked = arguments(words)
-    csv.field_size_limit(LONGEST_FIELD)
     is_found = False
     try:
         for path in asked.scripts:
