@@ -133,6 +133,16 @@ class Spreadsheets(unittest.TestCase):
             self.assertGreater(len(compared), 17)
             self.assertEqual({str(place) for place in carrier.given_up}, {"B16", "C16", "D16"})
 
+    def test_data_table_of_excel(self) -> None:
+        """The bill 250 * 0.32 + 12, and at other consumptions and prices."""
+        carrier = carrier_of(SPREADSHEETS / "table.ods")
+        script = carrier.script()
+        self.assertIn("set F6 =MULTIPLE.OPERATIONS([.$D$4];[.$B$1];[.$D6];[.$B$2];[.F$4])\n", script)
+        shown = values(script)
+        self.assertEqual([shown[cell] for cell in ("B4", "E5", "F5", "E6", "F6")], ["92", "92", "82", "140", "124"])
+        self.assertEqual(carrier.notes, [])
+        self.assertEqual([one.agrees for one in audit(carrier)], [True] * 6)
+
     def test_formulas_go_over_as_they_are(self) -> None:
         script = carrier_of(SPREADSHEETS / "libreoffice.ods").script()
         self.assertIn("set B6 =MULTIPLE.OPERATIONS([.$B$5];[.$B$1];[.$D1])\n", script)
