@@ -140,8 +140,10 @@ class Vim(unittest.TestCase):
             self.assertEqual(found, [group for _, _, group in GROUPS])
 
     def test_make(self) -> None:
+        """The cursor is on the first finding after :make, also behind letters of several bytes."""
         with tempfile.TemporaryDirectory() as folder:
-            Path(folder, "a b.whatif").write_text("set A1 1\nset A2 =2,5\nset A3 12%\n")
-            ask = "map(getqflist(), 'bufname(v:val.bufnr) . \":\" . v:val.lnum . \":\" . v:val.col . \": \" . v:val.text[:9]')"
-            found = self.vim(folder, ["edit a\\ b.whatif", "silent make!", f"call writefile({ask}, 'out')"])
-            self.assertEqual(found, ["a b.whatif:2:10: refused E0", "a b.whatif:3:8: a text, no"])
+            Path(folder, "a b.whatif").write_text('set A1 1\nset A2 ="ü"&2,5\nset A3 12%\n')
+            ask = "map(getqflist(), 'bufname(v:val.bufnr) . \":\" . v:val.lnum . \": \" . v:val.text[:9]')"
+            here = "[getline('.')[col('.') - 1 :]]"
+            found = self.vim(folder, ["edit a\\ b.whatif", "silent make!", "cfirst", f"call writefile({ask} + {here}, 'out')"])
+            self.assertEqual(found, ["a b.whatif:2: refused E0", "a b.whatif:3: a text, no", ",5"])
