@@ -55,6 +55,7 @@ class CellsTest(WorkbookTest):
         "a,b;c",
         "two\nlines",
         "a\r\nb\r",
+        "end\r",
         "ok\n",
         'refused E05\n"',
         "\ufeffmark",
