@@ -1,4 +1,4 @@
-"""The examples of the pages in docs/ are what the program writes."""
+"""The examples of the manual and of the page of functions are what the program writes."""
 
 import os
 import re
@@ -11,8 +11,8 @@ from pathlib import Path
 from pages import Script, blocks_of, said_lines, scripts_of
 from program import PROGRAM, ROOT, written
 
-PAGES = sorted((ROOT / "docs").glob("*.md"))
 MANUAL = (ROOT / "docs" / "MANUAL.md").read_text()
+FUNCTIONS = (ROOT / "docs" / "FUNCTIONS.md").read_text()
 SHEET = "set A1 1\nset A2 2\nset A3 3\nset B1 10\nset B2 20\nset B3 30\nset C1 b\nset C2 7\n"
 
 
@@ -29,13 +29,12 @@ def in_folder(words: list[str]) -> subprocess.CompletedProcess[str]:
 
 class PagesTest(unittest.TestCase):
     def test_scripts(self) -> None:
-        for page in PAGES:
-            for script in scripts_of(page.read_text()):
-                with self.subTest(page=page.name, heading=script.heading):
-                    before = written(script.before.encode())
-                    whole = written((script.before + script.text).encode())
-                    self.assertTrue(whole.startswith(before))
-                    self.check(whole[len(before) :].decode().replace("\r\n", "\n"), script)
+        for script in scripts_of(MANUAL):
+            with self.subTest(script.heading):
+                before = written(script.before.encode())
+                whole = written((script.before + script.text).encode())
+                self.assertTrue(whole.startswith(before))
+                self.check(whole[len(before) :].decode().replace("\r\n", "\n"), script)
 
     def check(self, replies: str, script: Script) -> None:
         """Compares what a script writes with what a page says of it."""
@@ -53,7 +52,7 @@ class PagesTest(unittest.TestCase):
             self.assertTrue(script.replies or script.lines, script.heading)
 
     def test_functions(self) -> None:
-        rows = re.findall(r"^\| `.*\| `(=.*)` \| `(.*)` \|$", (ROOT / "docs" / "FUNCTIONS.md").read_text(), re.MULTILINE)
+        rows = re.findall(r"^\| `.*\| `(=.*)` \| `(.*)` \|$", FUNCTIONS, re.MULTILINE)
         self.assertEqual(len(rows), 51)
         for formula, result in rows:
             with self.subTest(formula):
@@ -61,16 +60,12 @@ class PagesTest(unittest.TestCase):
                 self.assertEqual(replies.split("\n", 9)[9], f'"{result}"\r\nok\n')
 
     def test_formulas_and_results_in_prose(self) -> None:
-        found = re.findall(r"`(=[^`]+)`\s+is\s+`?(-?\d[\d./]*|TRUE|FALSE|#[A-Z/0]+!?)", MANUAL + self.functions_prose())
+        found = re.findall(r"`(=[^`]+)`\s+is\s+`?(-?\d[\d./]*|TRUE|FALSE|#[A-Z/0]+!?)", MANUAL + FUNCTIONS)
         self.assertGreaterEqual(len(found), 8)
         for formula, result in found:
             with self.subTest(formula):
                 replies = written(f"set Y1 {formula}\nshow Y1\n".encode()).decode()
                 self.assertEqual(replies, f'ok\n"{result.rstrip(".")}"\r\nok\n')
-
-    @staticmethod
-    def functions_prose() -> str:
-        return "".join(block.text for block in blocks_of((ROOT / "docs" / "FUNCTIONS.md").read_text()))
 
     def test_shell_lines_of_the_manual(self) -> None:
         lines = [line.strip() for line in re.findall(r"^    (.*\./whatif.*)$", MANUAL, re.MULTILINE)]
