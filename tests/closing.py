@@ -5,11 +5,17 @@ import unittest
 from pathlib import Path
 
 
+def failed_tests(result: unittest.TestResult) -> set[str]:
+    """The names of the tests that failed, also those of which a part did."""
+    found = [test for test, _ in [*result.failures, *result.errors]] + list(result.unexpectedSuccesses)
+    return {getattr(test, "test_case", test).id() for test in found}
+
+
 def run_tests(folder: Path, pattern: str = "test_*.py") -> int:
     """Runs the tests in files of a folder, and gives the exit status."""
     suite = unittest.defaultTestLoader.discover(str(folder), pattern, str(folder))
     result = unittest.TextTestRunner(stream=sys.stdout, verbosity=0).run(suite)
-    failed = len(result.failures) + len(result.errors) + len(result.unexpectedSuccesses)
+    failed = len(failed_tests(result))
     skipped = len(result.skipped)
     for test, why in result.skipped:
         print(f"skipped: {test}: {why}")

@@ -1,6 +1,7 @@
 """Calls of the program, and what is looked at after each."""
 
 import os
+import select
 import signal
 import subprocess
 import tempfile
@@ -13,6 +14,7 @@ from typing import IO, Any
 ROOT = Path(__file__).resolve().parents[2]
 PROGRAM = os.environ.get("WHATIF") or str(ROOT / "crates/whatif/out/whatif")
 SECONDS = 60
+PATIENCE = 10
 
 # Exit statuses, as the manual has them.
 WELL, USAGE, DEVICE, SCRIPT_LIMIT, MEMORY = 0, 2, 3, 4, 5
@@ -44,9 +46,9 @@ def started(before: Callable[[], None] | None = None) -> "subprocess.Popen[bytes
 
 
 def exactly(stream: IO[bytes], count: int) -> bytes:
-    """The next bytes of a pipe, or fewer where it ends."""
+    """The next bytes of a pipe that isn't buffered, or fewer where it ends or they don't come."""
     read = b""
-    while len(read) < count and (more := stream.read(count - len(read))):
+    while len(read) < count and select.select([stream], [], [], PATIENCE)[0] and (more := stream.read(count - len(read))):
         read += more
     return read
 
