@@ -1,3 +1,4 @@
 pub mod InOrder
 pub mod Passed
 pub mod Saved
+pub mod Spent

@@ -32,29 +32,6 @@ module _ (s : Sheet) (kept more : ℕ → List Replacement → Bool) (grows : (c
 
 -- ---- one question after another
 
-pub saves_then : (s : Sheet) (old mid new : MemoState) (ks : List Case) (a b c : Counts) → Saves s old mid ks a b → Saves s mid new ks b c → Saves s old new ks a c
-saves_then s old mid new ks a b c h k =
-    let x = h.counted in
-    let y = k.counted in
-    let p = h.restarted in
-    let q = k.restarted in
-    let u = h.added in
-    let v = k.added in
-    record {
-      counted = omega (arith, x, y);
-      restarted = omega (arith, p, q);
-      added = omega (arith, u, v);
-      room = k.room;
-      stays = λ d w i. k.stays d w (h.stays d w i);
-      stand = λ j i. k.stand j (h.stand j i);
-      found = k.found;
-      rests = λ d w i o. before d w i o (mid.kept d w) refl;
-    }
-  where
-    before : (d : ℕ) (w : List Replacement) → new.kept d w ≡ true → old.kept d w ≡ false → (t : Bool) → mid.kept d w ≡ t → RestsOnKept s new.kept (d, w)
-    before d w i o true e = rests_more s mid.kept new.kept k.stays (d, w) (h.rests d w e o)
-    before d w i o false e = k.rests d w i e
-
 pub takes_then : (old mid new : MemoState) (a b c : ℕ) → TakesNoMore old mid a b → TakesNoMore mid new b c → b ≤ c → TakesNoMore old new a c
 takes_then old mid new a b c (inl h) (inl k) l = inl (λ ks d. let x = h ks d in let y = k ks d in omega (arith, x, y))
 takes_then old mid new a b c (inl h) (inr k) l = inr k
@@ -91,14 +68,3 @@ none_went old new a b k t l = at (old.stands k) (new.stands k) (t (k ∷ []) (on
     at true true c h = refl
     at true false c h = absurd (omega (arith, c, l))
     at false y c h = absurd (true≢false (sym h))
-
--- where the first call has saved its cases, there is room for those of the second
-module _ (s : Sheet) (Both First Second : List Case → Type 0) (first : (ks : List Case) → Both ks → First ks) (second : (ks : List Case) → Both ks → Second ks) (old mid : MemoState) (a b : Counts) (saved : SavesAll s First old mid a b) where
-  pub where_both : (P : List Case → Type 0) → WhereRoom s Second mid P → WhereRoom s Both old P
-  where_both P h = λ ks closed top whole room.
-      let one = saved ks closed (first ks top) whole room in
-      h ks closed (second ks top) one.found one.room
-
-  pub saves_both : (new : MemoState) (c : Counts) → SavesAll s Second mid new b c → SavesAll s Both old new a c
-  saves_both new c h = λ ks closed top whole room.
-      saves_then s old mid new ks a b c (saved ks closed (first ks top) whole room) (where_both (λ ks. Saves s mid new ks b c) h ks closed top whole room)

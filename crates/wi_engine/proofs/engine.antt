@@ -1,6 +1,7 @@
 -- What the proofs about the frames use.
 pub mod Awaiting
 pub mod Budgets
+pub mod Ends
 pub mod FoundSettled
 pub mod FramesSettled
 pub mod Inputs

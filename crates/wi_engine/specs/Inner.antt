@@ -11,6 +11,7 @@ pub mod Remembered
 pub mod Saving
 pub mod Seen
 pub mod SettledFrames
+pub mod Spends
 pub mod Steps
 pub mod Touched
 pub mod Walk

@@ -1,6 +1,6 @@
 //! Recalculation: values by a stack of frames.
 
-ghost use Rattle.std.specs.Prelude.{◌≡◌, ◌==◌, ◌&&◌, ◌+◌, ◌≤◌, ◌∷◌, [], ◌⊎◌, ℕ, Bool, true, false, None, Ok, List, All, Contains, map, IfOk, IfSome, IfNone, OnOk, OnErr};
+ghost use Rattle.std.specs.Prelude.{◌≡◌, ◌==◌, ◌&&◌, ◌+◌, ◌≤◌, ◌∷◌, [], ◌⊎◌, ℕ, Bool, true, false, None, Ok, List, All, Contains, map, IfOk, IfSome, IfNone, OnOk, OnErr, is_ok};
 ghost use Rattle.std.specs.List.{list_any};
 ghost use Rattle.wi_values.specs.declared.replacement.Replacement.{Replacement as Replacements};
 ghost use Rattle.wi_values.specs.Replacements.{IsInOrder, same_replacements};
@@ -10,14 +10,15 @@ ghost use Rattle.wi_lookup.specs.Assignment.{addresses};
 ghost use Rattle.wi_functions.specs.declared.evaluation.Want.TheVariants as wanted;
 ghost use Rattle.wi_graph.specs.Reach.{is_one_of};
 ghost use Rattle.wi_sheet.specs.CellValue as show;
-ghost use Rattle.wi_sheet.specs.Demand.{with_what_if, wants, reaching};
+ghost use Rattle.wi_sheet.specs.Demand.{with_what_if, reaching};
 ghost use Rattle.wi_sheet.specs.Settled.{IsSettled, RestsOnKept};
-ghost use Rattle.wi_sheet.specs.Inner.Spending.{CountsAtMost, CountsFound, HasCase, NeverFall};
+ghost use Rattle.wi_sheet.specs.Inner.Spending.{HasCase, NeverFall};
 ghost use Rattle.wi_engine.specs.Inner.MemoState.{MemoState, IsMemoOf};
 ghost use Rattle.wi_engine.specs.Inner.Attempt.{AsksAt, IsLacking, lacks_cell};
 ghost use Rattle.wi_engine.specs.Inner.Frames.{MayBeRead, IsToValue, StandsAt, IsUnvalued, AreReadHere, Awaits, IsFrame, IsNext, case_at, spare, waits, waits_at};
 ghost use Rattle.wi_engine.specs.Inner.SettledFrames.{IsFrameSettled};
-ghost use Rattle.wi_engine.specs.Inner.Saving.{KeepsFound, WhereRoom, CountsUnkept, SavesAll, TakesNoMore, GivesUpWhenFull, NeedsNoEvaluation, IsValuedAnew};
+ghost use Rattle.wi_engine.specs.Inner.Saving.{KeepsFound, WhereRoom, NeedsNoEvaluation, IsValuedAnew};
+ghost use Rattle.wi_engine.specs.Inner.Spends.{Spends};
 ghost use Rattle.wi_engine.specs.Inner.Steps.{IfReplaced, IfInputUnknown, IfValued, IfNeedsValue, evaluations_after};
 ghost use Rattle.wi_engine.specs.declared.frame.Waiting.TheVariants as waiting;
 
@@ -327,28 +328,12 @@ fn run<M: Memo>(
     requires unfound { (M.state memo.old).found key.cell key.world ≡ false }
     requires unkept { (M.state memo.old).kept key.cell key.world ≡ false }
     ensures value { IfOk result (λ v. v ≡ show.cell_value (put_all store.now.sheet key.world) key.cell) }
-    ensures memo { IsMemoOf store.now.sheet (M.state memo.new) }
-    ensures same_cells { (M.state memo.new).covers ≡ (M.state memo.old).covers }
-    ensures same_generation { (M.state memo.new).generation ≡ (M.state memo.old).generation }
-    ensures same_capacity { (M.state memo.new).capacity ≡ (M.state memo.old).capacity }
-    ensures same_latest { (M.state memo.new).latest ≡ (M.state memo.old).latest }
-
-    ensures evaluations { CountsAtMost store.now.sheet (λ ks. Contains ks (case_at key)) (λ _. 1) (M.state memo.old).found meter.old.evaluations meter.new.evaluations }
-    ensures evaluations_ok { OnOk result (CountsFound store.now.sheet (λ ks. Contains ks (case_at key)) (λ _. 1) (M.state memo.old).found (M.state memo.new).found meter.old.evaluations meter.new.evaluations) }
-
-    ensures restarts { CountsAtMost store.now.sheet (λ ks. Contains ks (case_at key)) (wants store.now.sheet) (M.state memo.old).found meter.old.restarts meter.new.restarts }
-    ensures restarts_ok { OnOk result (CountsFound store.now.sheet (λ ks. Contains ks (case_at key)) (wants store.now.sheet) (M.state memo.old).found (M.state memo.new).found meter.old.restarts meter.new.restarts) }
-
-    ensures counts { NeverFall meter.old meter.new }
-
-    // What is kept for longer, and where there is room for all that is found.
-    ensures kept { OnOk result (1 ≤ (M.state memo.old).capacity → (M.state memo.new).kept key.cell key.world ≡ true) }
-    ensures takes { TakesNoMore (M.state memo.old) (M.state memo.new) meter.old.evaluations meter.new.evaluations }
-    ensures gives_up { GivesUpWhenFull (M.state memo.old) (M.state memo.new) }
-    ensures unkept_evaluations { CountsUnkept store.now.sheet (λ ks. Contains ks (case_at key)) (λ _. 1) (M.state memo.old) meter.old.evaluations meter.new.evaluations }
-    ensures unkept_restarts { CountsUnkept store.now.sheet (λ ks. Contains ks (case_at key)) (wants store.now.sheet) (M.state memo.old) meter.old.restarts meter.new.restarts }
-    ensures saves { OnOk result (SavesAll store.now.sheet (λ ks. Contains ks (case_at key)) (M.state memo.old) (M.state memo.new) meter.old meter.new) }
-    ensures settled { OnOk result (WhereRoom store.now.sheet (λ ks. Contains ks (case_at key)) (M.state memo.old) (λ _. (M.state memo.new).kept key.cell key.world ≡ true)) }
+    ensures spends { Spends store.now.sheet (λ ks. Contains ks (case_at key))
+        (M.state memo.old) (M.state memo.new) meter.old meter.new (is_ok result) }
+    ensures kept { OnOk result (1 ≤ (M.state memo.old).capacity
+        → (M.state memo.new).kept key.cell key.world ≡ true) }
+    ensures settled { OnOk result (WhereRoom store.now.sheet (λ ks. Contains ks (case_at key))
+        (M.state memo.old) (λ _. (M.state memo.new).kept key.cell key.world ≡ true)) }
 {
     let alloc = pool.allocator();
     let mut stack = Vec::new(alloc);
@@ -393,32 +378,21 @@ pub fn value_under<M: Memo>(
     requires read { MayBeRead store.now.sheet (M.state memo.old) at }
     ensures value { IfOk result (λ v. v ≡ show.cell_value (put_all store.now.sheet world.now) at) }
 
-    // What is remembered then is right, also where memory runs out.
-    ensures memo { IsMemoOf store.now.sheet (M.state memo.new) }
-    ensures same_cells { (M.state memo.new).covers ≡ (M.state memo.old).covers }
-    ensures same_generation { (M.state memo.new).generation ≡ (M.state memo.old).generation }
-    ensures same_capacity { (M.state memo.new).capacity ≡ (M.state memo.old).capacity }
-    ensures same_latest { (M.state memo.new).latest ≡ (M.state memo.old).latest }
-
-    ensures evaluations { CountsAtMost store.now.sheet (HasCase store.now.sheet world.now at) (λ _. 1) (M.state memo.old).found meter.old.evaluations meter.new.evaluations }
-    ensures evaluations_ok { OnOk result (CountsFound store.now.sheet (HasCase store.now.sheet world.now at) (λ _. 1) (M.state memo.old).found (M.state memo.new).found meter.old.evaluations meter.new.evaluations) }
-
-    ensures restarts { CountsAtMost store.now.sheet (HasCase store.now.sheet world.now at) (wants store.now.sheet) (M.state memo.old).found meter.old.restarts meter.new.restarts }
-    ensures restarts_ok { OnOk result (CountsFound store.now.sheet (HasCase store.now.sheet world.now at) (wants store.now.sheet) (M.state memo.old).found (M.state memo.new).found meter.old.restarts meter.new.restarts) }
-
-    ensures counts { NeverFall meter.old meter.new }
+    // What is remembered then is right, and no more is counted than the cases cost whose values were not, also
+    // where memory runs out.
+    ensures spends { Spends store.now.sheet (HasCase store.now.sheet world.now at)
+        (M.state memo.old) (M.state memo.new) meter.old meter.new (is_ok result) }
 
     // A value that is remembered, and one that no formula gives, is counted for nothing.
-    ensures uncounted { NeedsNoEvaluation store.now.sheet (M.state memo.old) world.now at → meter.new ≡ meter.old }
+    ensures uncounted { NeedsNoEvaluation store.now.sheet (M.state memo.old) world.now at
+        → meter.new ≡ meter.old }
 
     // What is kept for longer, and where there is room for all that is found.
-    ensures kept { OnOk result (IsValuedAnew store.now.sheet (M.state memo.old) world.now at → 1 ≤ (M.state memo.old).capacity → (M.state memo.new).kept at (reaching store.now.sheet at world.now) ≡ true) }
-    ensures takes { TakesNoMore (M.state memo.old) (M.state memo.new) meter.old.evaluations meter.new.evaluations }
-    ensures gives_up { GivesUpWhenFull (M.state memo.old) (M.state memo.new) }
-    ensures unkept_evaluations { CountsUnkept store.now.sheet (HasCase store.now.sheet world.now at) (λ _. 1) (M.state memo.old) meter.old.evaluations meter.new.evaluations }
-    ensures unkept_restarts { CountsUnkept store.now.sheet (HasCase store.now.sheet world.now at) (wants store.now.sheet) (M.state memo.old) meter.old.restarts meter.new.restarts }
-    ensures saves { OnOk result (SavesAll store.now.sheet (HasCase store.now.sheet world.now at) (M.state memo.old) (M.state memo.new) meter.old meter.new) }
-    ensures settled { OnOk result (WhereRoom store.now.sheet (HasCase store.now.sheet world.now at) (M.state memo.old) (λ _. IsSettled store.now.sheet (M.state memo.new).kept world.now at)) }
+    ensures kept { OnOk result (IsValuedAnew store.now.sheet (M.state memo.old) world.now at
+        → 1 ≤ (M.state memo.old).capacity
+        → (M.state memo.new).kept at (reaching store.now.sheet at world.now) ≡ true) }
+    ensures settled { OnOk result (WhereRoom store.now.sheet (HasCase store.now.sheet world.now at)
+        (M.state memo.old) (λ _. IsSettled store.now.sheet (M.state memo.new).kept world.now at)) }
 {
     match value_now(pool.allocator(), store, world, at, memo)? {
         Asked::Known(value) => Ok(value),

@@ -13,4 +13,5 @@ pub mod GivenUp
 pub mod PlacesTaken
 pub mod Editing
 pub mod Questions
+pub mod Owing
 pub mod Unreplaced

@@ -2,3 +2,4 @@
 pub mod Plain
 pub mod Cones
 pub mod Keeping
+pub mod Owes

@@ -1,6 +1,6 @@
 //! A calculator that keeps what it has calculated.
 
-ghost use Rattle.std.specs.Prelude.{◌≡◌, ◌≤◌, ◌+◌, ◌||◌, [], ℕ, Some, None, true, false, if◌then◌else◌, List, length, sum_by, All, IfSome, IfOk, OnOk, OnErr};
+ghost use Rattle.std.specs.Prelude.{◌≡◌, ◌≤◌, ◌+◌, ◌||◌, [], ℕ, Some, None, true, false, if◌then◌else◌, List, length, sum_by, All, IfSome, IfOk, OnOk, OnErr, is_ok};
 ghost use Rattle.std.specs.List.{list_any};
 ghost use Rattle.std.specs.List.Sorted.{IsStrictlyIncreasing};
 ghost use Rattle.std.specs.Map.{keys_of};
@@ -16,6 +16,7 @@ ghost use Rattle.wi_sheet.specs.TableEntry.{table_entry, entry_demanded};
 ghost use Rattle.wi_sheet.specs.Demand.{reaching, demanded, wants};
 ghost use Rattle.wi_sheet.specs.Settled.{IsWhatIfSettled};
 ghost use Rattle.wi_sheet.specs.Unmoved.{IsUnmoved};
+ghost use Rattle.wi_propagate.specs.Inner.Owes.{Owes};
 ghost use Rattle.wi_propagate.specs.KeptSheet.{generation_in, is_kept, unkept, IsAtHand, HasRoomFor, KeepsAll, KeepsNoMore, KeepsWhileRoom};
 ghost use Rattle.wi_propagate.specs.Right.{AreKeptRight};
 ghost use Rattle.wi_propagate.specs.Inner.Keeping.{HasGeneration};
@@ -147,6 +148,102 @@ impl KeptCalculator {
             }
         }
     }
+
+    // The value of a cell, with what `value` of `Calculator` promises of it in one record.
+    fn value_of(&mut self, put: &[Replacement], at: Address) -> Result<Value, AllocError>
+        requires { IsInOrder put.now }
+        ensures value { IfOk result (λ v. v ≡ show.shown self.old.stored.sheet put.now at) }
+        ensures owes { Owes self.old self.new (demanded self.old.stored.sheet put.now at) (is_ok result) }
+        ensures easy { IsAtHand self.old put.now at → self.new.counts ≡ self.old.counts }
+        ensures kept { let sheet = self.old.stored.sheet in
+            OnOk result ((IsAtHand self.old put.now at → ⊥)
+            → is_kept self.new at (reaching sheet at put.now) ≡ true) }
+    {
+        if self.graph.is_circular(at) {
+            return Ok(Value::Fault(ErrorKind::Circular));
+        }
+        if let Some(value) = standing_value(self.alloc, &self.store, put, at)? {
+            return Ok(value);
+        }
+        let world = self.worlds.world_for(self.alloc, put)?;
+        let Some(kept) = self.kept.take() else {
+            unreachable!()
+        };
+        self.widest = self.widest.max(put.len());
+        let cones = take_cones(self.alloc, self.widest, &mut self.cones);
+        let mut memo = Keeping::new(
+            self.alloc,
+            &self.store,
+            &self.graph,
+            &self.generations,
+            cones,
+            kept,
+        );
+        let result = value_under(
+            &mut self.pool,
+            &self.store,
+            &world,
+            at,
+            &mut memo,
+            &mut self.meter,
+        );
+        let (kept, cones) = memo.into_parts();
+        self.kept = Some(kept);
+        self.cones = cones;
+        self.worlds.keep(world);
+        result
+    }
+
+    // The value of an entry, with what `what_if_value` of `Calculator` promises of it in one record.
+    fn value_of_entry(
+        &mut self,
+        put: &[Replacement],
+        formula_cell: Address,
+        pairs: &[(Address, Address)],
+    ) -> Result<Value, AllocError>
+        requires { IsInOrder put.now }
+        ensures value { let sheet = self.old.stored.sheet in
+            IfOk result (λ v. v ≡ table_entry sheet put.now formula_cell pairs.now) }
+        ensures owes { let cases = entry_demanded self.old.stored.sheet put.now formula_cell pairs.now in
+            Owes self.old self.new cases (is_ok result) }
+        ensures settled { let sheet = self.old.stored.sheet in
+            let cases = entry_demanded sheet put.now formula_cell pairs.now in
+            OnOk result (HasRoomFor self.old cases
+            → circular sheet formula_cell ≡ false → All (λ x. circular sheet x.1 ≡ false) pairs.now
+            → IsWhatIfSettled sheet (is_kept self.new) put.now (formula_cell, pairs.now)) }
+    {
+        if entry_is_circular(&self.graph, formula_cell, pairs) {
+            return Ok(Value::Fault(ErrorKind::Circular));
+        }
+        let world = self.worlds.world_for(self.alloc, put)?;
+        let Some(kept) = self.kept.take() else {
+            unreachable!()
+        };
+        self.widest = self.widest.max(put.len());
+        let cones = take_cones(self.alloc, self.widest, &mut self.cones);
+        let mut memo = Keeping::new(
+            self.alloc,
+            &self.store,
+            &self.graph,
+            &self.generations,
+            cones,
+            kept,
+        );
+        let result = open_entry(
+            &mut self.pool,
+            &self.store,
+            &world,
+            formula_cell,
+            pairs,
+            &mut memo,
+            &mut self.meter,
+        );
+        let (kept, cones) = memo.into_parts();
+        self.kept = Some(kept);
+        self.cones = cones;
+        self.worlds.keep(world);
+        result
+    }
 }
 
 impl Calculator for KeptCalculator {
@@ -238,39 +335,7 @@ impl Calculator for KeptCalculator {
         ensures keeps { let cases = demanded self.old.stored.sheet put.now at in
             OnOk result (HasRoomFor self.old cases → KeepsAll self.old self.new) }
     {
-        if self.graph.is_circular(at) {
-            return Ok(Value::Fault(ErrorKind::Circular));
-        }
-        if let Some(value) = standing_value(self.alloc, &self.store, put, at)? {
-            return Ok(value);
-        }
-        let world = self.worlds.world_for(self.alloc, put)?;
-        let Some(kept) = self.kept.take() else {
-            unreachable!()
-        };
-        self.widest = self.widest.max(put.len());
-        let cones = take_cones(self.alloc, self.widest, &mut self.cones);
-        let mut memo = Keeping::new(
-            self.alloc,
-            &self.store,
-            &self.graph,
-            &self.generations,
-            cones,
-            kept,
-        );
-        let result = value_under(
-            &mut self.pool,
-            &self.store,
-            &world,
-            at,
-            &mut memo,
-            &mut self.meter,
-        );
-        let (kept, cones) = memo.into_parts();
-        self.kept = Some(kept);
-        self.cones = cones;
-        self.worlds.keep(world);
-        result
+        self.value_of(put, at)
     }
 
     /// What an entry of a data table shows under replacements. A formula is evaluated where its value is not kept, and its value
@@ -314,37 +379,7 @@ impl Calculator for KeptCalculator {
             OnOk result (HasRoomFor self.old cases → circular sheet formula_cell ≡ false → All (λ x. circular sheet x.1 ≡ false) pairs.now
             → IsWhatIfSettled sheet (is_kept self.new) put.now (formula_cell, pairs.now)) }
     {
-        if entry_is_circular(&self.graph, formula_cell, pairs) {
-            return Ok(Value::Fault(ErrorKind::Circular));
-        }
-        let world = self.worlds.world_for(self.alloc, put)?;
-        let Some(kept) = self.kept.take() else {
-            unreachable!()
-        };
-        self.widest = self.widest.max(put.len());
-        let cones = take_cones(self.alloc, self.widest, &mut self.cones);
-        let mut memo = Keeping::new(
-            self.alloc,
-            &self.store,
-            &self.graph,
-            &self.generations,
-            cones,
-            kept,
-        );
-        let result = open_entry(
-            &mut self.pool,
-            &self.store,
-            &world,
-            formula_cell,
-            pairs,
-            &mut memo,
-            &mut self.meter,
-        );
-        let (kept, cones) = memo.into_parts();
-        self.kept = Some(kept);
-        self.cones = cones;
-        self.worlds.keep(world);
-        result
+        self.value_of_entry(put, formula_cell, pairs)
     }
 
     /// Exactly the cells that reach one of these, each once, in row-major order.

@@ -1,6 +1,6 @@
 //! What an entry of a data table shows.
 
-ghost use Rattle.std.specs.Prelude.{◌≡◌, ◌+◌, ◌≤◌, ◌∷◌, length, sum_by, map, All, IfOk, OnOk};
+ghost use Rattle.std.specs.Prelude.{◌≡◌, ◌+◌, ◌≤◌, ◌∷◌, length, sum_by, map, All, IfOk, OnOk, is_ok};
 ghost use Rattle.wi_values.specs.Replacements.{IsInOrder};
 ghost use Rattle.wi_parser.specs.Sheet.{put_all};
 ghost use Rattle.wi_functions.specs.Meaning as formulas;
@@ -9,10 +9,11 @@ ghost use Rattle.wi_sheet.specs.TableEntry as table;
 ghost use Rattle.wi_sheet.specs.TableEntry.{entry_demanded};
 ghost use Rattle.wi_sheet.specs.Demand.{with_what_if, wants};
 ghost use Rattle.wi_sheet.specs.Settled.{IsSettled, IsWhatIfSettled};
-ghost use Rattle.wi_sheet.specs.Inner.Spending.{CountsAtMost, CountsFound, HasReplacing, HasEntry, NeverFall};
+ghost use Rattle.wi_sheet.specs.Inner.Spending.{HasReplacing, HasEntry, NeverFall};
 ghost use Rattle.wi_engine.specs.Inner.MemoState.{IsMemoOf};
 ghost use Rattle.wi_engine.specs.Inner.Frames.{MayBeRead};
-ghost use Rattle.wi_engine.specs.Inner.Saving.{WhereRoom, CountsUnkept, SavesAll, TakesNoMore, GivesUpWhenFull};
+ghost use Rattle.wi_engine.specs.Inner.Saving.{WhereRoom};
+ghost use Rattle.wi_engine.specs.Inner.Spends.{Spends};
 
 use std::alloc::{AllocError, Global};
 use wi_engine::{Memo, Pool, Remembered, reached_from, value_under};
@@ -41,8 +42,8 @@ pub fn table_entry(
     // No more than what the entry demands is valued, also where memory runs out.
     ensures evaluations { meter.new.evaluations ≤ meter.old.evaluations
         + length (entry_demanded store.now.sheet put.now formula_cell pairs.now) }
-    ensures restarts { meter.new.restarts ≤ meter.old.restarts
-        + sum_by (wants store.now.sheet) (entry_demanded store.now.sheet put.now formula_cell pairs.now) }
+    ensures restarts { let cases = entry_demanded store.now.sheet put.now formula_cell pairs.now in
+        meter.new.restarts ≤ meter.old.restarts + sum_by (wants store.now.sheet) cases }
     ensures counts { NeverFall meter.old meter.new }
 {
     let cells = valued_cells(alloc, formula_cell, pairs)?;
@@ -91,33 +92,17 @@ pub fn open_entry<M: Memo>(
     requires memo { IsMemoOf store.now.sheet (M.state memo.old) }
     requires formula_cell { MayBeRead store.now.sheet (M.state memo.old) formula_cell }
     requires replacing { All (λ x. MayBeRead store.now.sheet (M.state memo.old) x.1) pairs.now }
-    ensures value { IfOk result (λ v. v ≡ formulas.zero_for_empty
-        (show.cell_value (put_all store.now.sheet (with_what_if store.now.sheet world.now pairs.now)) formula_cell)) }
+    ensures value { let inside = with_what_if store.now.sheet world.now pairs.now in
+        IfOk result (λ v. v ≡ formulas.zero_for_empty
+        (show.cell_value (put_all store.now.sheet inside) formula_cell)) }
 
-    // What is remembered then is right, also where memory runs out.
-    ensures memo { IsMemoOf store.now.sheet (M.state memo.new) }
-    ensures same_cells { (M.state memo.new).covers ≡ (M.state memo.old).covers }
-    ensures same_generation { (M.state memo.new).generation ≡ (M.state memo.old).generation }
-    ensures same_capacity { (M.state memo.new).capacity ≡ (M.state memo.old).capacity }
-    ensures same_latest { (M.state memo.new).latest ≡ (M.state memo.old).latest }
-
-    ensures evaluations { CountsAtMost store.now.sheet (HasEntry store.now.sheet world.now formula_cell pairs.now)
-        (λ _. 1) (M.state memo.old).found meter.old.evaluations meter.new.evaluations }
-    ensures restarts { CountsAtMost store.now.sheet (HasEntry store.now.sheet world.now formula_cell pairs.now)
-        (wants store.now.sheet) (M.state memo.old).found meter.old.restarts meter.new.restarts }
-    ensures counts { NeverFall meter.old meter.new }
-
-    // What is kept for longer, and where there is room for all that is found.
-    ensures takes { TakesNoMore (M.state memo.old) (M.state memo.new) meter.old.evaluations meter.new.evaluations }
-    ensures gives_up { GivesUpWhenFull (M.state memo.old) (M.state memo.new) }
-    ensures unkept_evaluations { CountsUnkept store.now.sheet (HasEntry store.now.sheet world.now formula_cell pairs.now)
-        (λ _. 1) (M.state memo.old) meter.old.evaluations meter.new.evaluations }
-    ensures unkept_restarts { CountsUnkept store.now.sheet (HasEntry store.now.sheet world.now formula_cell pairs.now)
-        (wants store.now.sheet) (M.state memo.old) meter.old.restarts meter.new.restarts }
-    ensures saves { OnOk result (SavesAll store.now.sheet (HasEntry store.now.sheet world.now formula_cell pairs.now)
-        (M.state memo.old) (M.state memo.new) meter.old meter.new) }
-    ensures settled { OnOk result (WhereRoom store.now.sheet (HasEntry store.now.sheet world.now formula_cell pairs.now)
-        (M.state memo.old) (λ _. IsWhatIfSettled store.now.sheet (M.state memo.new).kept world.now (formula_cell, pairs.now))) }
+    // What is remembered then is right, and no more is counted than the cases cost whose values were not, also
+    // where memory runs out.
+    ensures spends { Spends store.now.sheet (HasEntry store.now.sheet world.now formula_cell pairs.now)
+        (M.state memo.old) (M.state memo.new) meter.old meter.new (is_ok result) }
+    ensures settled { let sheet = store.now.sheet in
+        OnOk result (WhereRoom sheet (HasEntry sheet world.now formula_cell pairs.now) (M.state memo.old)
+        (λ _. IsWhatIfSettled sheet (M.state memo.new).kept world.now (formula_cell, pairs.now))) }
 {
     let replaced = with_inputs(pool, store, world, pairs, memo, meter)?;
     let value = value_under(pool, store, &replaced, formula_cell, memo, meter)?;
@@ -137,35 +122,11 @@ fn with_inputs<M: Memo>(
     requires memo { IsMemoOf store.now.sheet (M.state memo.old) }
     requires replacing { All (λ x. MayBeRead store.now.sheet (M.state memo.old) x.1) pairs.now }
     ensures world { IfOk result (λ w. w ≡ with_what_if store.now.sheet world.now pairs.now) }
-    ensures memo { IsMemoOf store.now.sheet (M.state memo.new) }
-    ensures same_cells { (M.state memo.new).covers ≡ (M.state memo.old).covers }
-    ensures same_generation { (M.state memo.new).generation ≡ (M.state memo.old).generation }
-    ensures same_capacity { (M.state memo.new).capacity ≡ (M.state memo.old).capacity }
-    ensures same_latest { (M.state memo.new).latest ≡ (M.state memo.old).latest }
-
-    ensures evaluations { CountsAtMost store.now.sheet (HasReplacing store.now.sheet world.now pairs.now)
-        (λ _. 1) (M.state memo.old).found meter.old.evaluations meter.new.evaluations }
-    ensures evaluations_ok { OnOk result (CountsFound store.now.sheet (HasReplacing store.now.sheet world.now pairs.now)
-        (λ _. 1) (M.state memo.old).found (M.state memo.new).found meter.old.evaluations meter.new.evaluations) }
-
-    ensures restarts { CountsAtMost store.now.sheet (HasReplacing store.now.sheet world.now pairs.now)
-        (wants store.now.sheet) (M.state memo.old).found meter.old.restarts meter.new.restarts }
-    ensures restarts_ok { OnOk result (CountsFound store.now.sheet (HasReplacing store.now.sheet world.now pairs.now)
-        (wants store.now.sheet) (M.state memo.old).found (M.state memo.new).found meter.old.restarts meter.new.restarts) }
-
-    ensures counts { NeverFall meter.old meter.new }
-
-    // What is kept for longer, and where there is room for all that is found.
-    ensures takes { TakesNoMore (M.state memo.old) (M.state memo.new) meter.old.evaluations meter.new.evaluations }
-    ensures gives_up { GivesUpWhenFull (M.state memo.old) (M.state memo.new) }
-    ensures unkept_evaluations { CountsUnkept store.now.sheet (HasReplacing store.now.sheet world.now pairs.now)
-        (λ _. 1) (M.state memo.old) meter.old.evaluations meter.new.evaluations }
-    ensures unkept_restarts { CountsUnkept store.now.sheet (HasReplacing store.now.sheet world.now pairs.now)
-        (wants store.now.sheet) (M.state memo.old) meter.old.restarts meter.new.restarts }
-    ensures saves { OnOk result (SavesAll store.now.sheet (HasReplacing store.now.sheet world.now pairs.now)
-        (M.state memo.old) (M.state memo.new) meter.old meter.new) }
+    ensures spends { Spends store.now.sheet (HasReplacing store.now.sheet world.now pairs.now)
+        (M.state memo.old) (M.state memo.new) meter.old meter.new (is_ok result) }
     ensures settled { OnOk result (WhereRoom store.now.sheet (HasReplacing store.now.sheet world.now pairs.now)
-        (M.state memo.old) (λ _. All (λ x. IsSettled store.now.sheet (M.state memo.new).kept world.now x.1) pairs.now)) }
+        (M.state memo.old)
+        (λ _. All (λ x. IsSettled store.now.sheet (M.state memo.new).kept world.now x.1) pairs.now)) }
 {
     let mut inputs = Vec::new(pool.allocator());
     for pair in pairs {

@@ -225,21 +225,3 @@ unvalued_value s m w a k v u is = is ∙ ap (λ (x : List Replacement). cell_val
 
 pub unvalued_in : (s : Sheet) (m : MemoState) (w : List Replacement) (a : ℕ) (k : Key) (ks : List Case) → IsUnvalued s m w a k → (has_formula (content_of (put_all s w) a) ≡ true → Contains ks (case_of s w a)) → Contains ks (case_at k)
 unvalued_in s m w a k ks u h = subst (λ (j : Case). Contains ks j) (key_path k.cell a k.world (reaching s a w) u.cell u.world) (h u.formula)
-
-module _ (s : Sheet) (m : MemoState) (w : List Replacement) (a : ℕ) (weight : Case → ℕ) (before after : ℕ) where
-  pub under_at_most : (n : MemoState) (k : Key) → n ≡ m → IsUnvalued s m w a k → CountsAtMost s (λ ks. Contains ks (case_at k)) weight n.found before after → CountsAtMost s (HasCase s w a) weight m.found before after
-  under_at_most n k e u h = λ ks closed top.
-      let here = rw e at (h ks closed (unvalued_in s m w a k ks u top)) in
-      here
-
-  pub under_found : (n l : MemoState) (k : Key) → n ≡ m → IsUnvalued s m w a k → CountsFound s (λ ks. Contains ks (case_at k)) weight n.found l.found before after → CountsFound s (HasCase s w a) weight m.found l.found before after
-  under_found n l k e u h = λ ks closed top.
-      let here = rw e at (h ks closed (unvalued_in s m w a k ks u top)) in
-      here
-
--- where nothing is counted and nothing found
-pub none_at_most : (s : Sheet) (Has : List Case → Type 0) (weight : Case → ℕ) (m : MemoState) (n : ℕ) → CountsAtMost s Has weight m.found n n
-none_at_most s Has weight m n = λ ks closed top. omega arith
-
-pub none_found : (s : Sheet) (Has : List Case → Type 0) (weight : Case → ℕ) (m l : MemoState) (n : ℕ) → l ≡ m → CountsFound s Has weight m.found l.found n n
-none_found s Has weight m l n e = λ ks closed top. rw e (omega arith)

@@ -195,12 +195,6 @@ saving_take s old m root start now fs f g ks i e frame less settled = record {
 
 -- ---- the end
 
-pub saving_counts : (s : Sheet) (old m : MemoState) (root : Case) (start now next : Counts) (fs : List Frame) (f : Frame) → IsGoing s old m root start now fs f → next.evaluations ≤ now.evaluations + 1 → CountsUnkept s (λ ks. Contains ks root) (λ k. 1) old start.evaluations next.evaluations
-saving_counts s old m root start now next fs f i l = λ ks closed top whole room. run_evaluations s (by_kept old) (by_kept m) root start now next fs f (i.saving ks closed top whole room).running l ks closed top
-
-pub saving_restarts : (s : Sheet) (old m : MemoState) (root : Case) (start now next : Counts) (fs : List Frame) (f : Frame) → IsGoing s old m root start now fs f → next.restarts ≤ now.restarts + spare s f → CountsUnkept s (λ ks. Contains ks root) (wants s) old start.restarts next.restarts
-saving_restarts s old m root start now next fs f i l = λ ks closed top whole room. run_restarts s (by_kept old) (by_kept m) root start now next fs f (i.saving ks closed top whole room).running l ks closed top
-
 pub saving_end : (s : Sheet) (old m a n : MemoState) (root : Case) (start now next : Counts) (fs : List Frame) (f : Frame) (k : Key) → IsGoing s old m root start now fs f → a ≡ m → fs ≡ [] → k ≡ f.key → Finds a n k → Takes a n k → next.evaluations ≡ one_more now.evaluations → next.restarts ≤ now.restarts + spare s f →
     (KeepsFound m → IsFrameSettled s m.kept f → RestsOnKept s m.kept (case_at f.key)) → SavesAll s (λ ks. Contains ks root) old n start next
 saving_end s old m a n root start now next fs f k g ea e ek finds takes ev re rests = λ ks closed top whole room.
@@ -261,16 +255,6 @@ found_easy s m n w a k v h en ec ew e =
     inr (ap (λ (u : List Replacement). is_some (m.known a u)) (sym world) ∙ ap (λ (c : ℕ). is_some (m.known c k.world)) (sym ec) ∙ ap (λ (o : Option Value). is_some o) (sym there))
 
 module _ (s : Sheet) (m : MemoState) (w : List Replacement) (a : ℕ) where
-  pub under_unkept : (weight : Case → ℕ) (before after : ℕ) (n : MemoState) (k : Key) → n ≡ m → IsUnvalued s m w a k → CountsUnkept s (λ ks. Contains ks (case_at k)) weight n before after → CountsUnkept s (HasCase s w a) weight m before after
-  under_unkept weight before after n k e u h = λ ks closed top.
-      let here : CountsUnkept s (λ ks. Contains ks (case_at k)) weight m before after = rw e at h in
-      here ks closed (unvalued_in s m w a k ks u top)
-
-  pub under_saves : (before after : Counts) (n l : MemoState) (k : Key) → n ≡ m → IsUnvalued s m w a k → SavesAll s (λ ks. Contains ks (case_at k)) n l before after → SavesAll s (HasCase s w a) m l before after
-  under_saves before after n l k e u h = λ ks closed top.
-      let here : SavesAll s (λ ks. Contains ks (case_at k)) m l before after = rw e at h in
-      here ks closed (unvalued_in s m w a k ks u top)
-
   pub under_settled : (n l : MemoState) (k : Key) → n ≡ m → IsUnvalued s m w a k → WhereRoom s (λ ks. Contains ks (case_at k)) n (λ ks. l.kept k.cell k.world ≡ true) → WhereRoom s (HasCase s w a) m (λ ks. IsSettled s l.kept w a)
   under_settled n l k e u h = λ ks closed top whole room.
       let here : WhereRoom s (λ ks. Contains ks (case_at k)) m (λ ks. l.kept k.cell k.world ≡ true) = rw e at h in
@@ -283,6 +267,3 @@ settled_before s m n w a Has h e easy = λ ks closed top whole room. subst (λ (
 pub under_kept : (s : Sheet) (m n l : MemoState) (w : List Replacement) (a : ℕ) (k : Key) → n ≡ m → IsUnvalued s m w a k → (1 ≤ n.capacity → l.kept k.cell k.world ≡ true) → 1 ≤ m.capacity → l.kept a (reaching s a w) ≡ true
 under_kept s m n l w a k e u h r =
     ap (l.kept a) (sym u.world) ∙ ap (λ (c : ℕ). l.kept c k.world) (sym u.cell) ∙ h (let z = ap (λ (x : MemoState). x.capacity) e in omega (arith, r, z))
-
-pub none_saves : (s : Sheet) (Has : List Case → Type 0) (m l : MemoState) (n : Counts) → l ≡ m → SavesAll s Has m l n n
-none_saves s Has m l n e = λ ks closed top whole room. subst (λ (x : MemoState). Saves s m x ks n n) (sym e) (record { counted = omega arith; restarted = omega arith; added = omega arith; room = room; stays = λ c v i. i; stand = λ j i. i; found = whole; rests = λ c v i o. absurd (true≢false (sym i ∙ o)) })

@@ -1,14 +1,13 @@
-use Rattle.std.proofs.Common.{◌≡◌, ◌≤◌, ◌+◌, ◌∙◌, ℕ, true, List, [], ◌∷◌, length, ap, refl, inl, arith, subst, sym}
+use Rattle.std.proofs.Common.{◌≡◌, ◌≤◌, ◌+◌, ◌∙◌, ℕ, true, List, [], ◌∷◌, length, ap, refl, inl, arith, subst}
 use Rattle.wi_engine.proofs.engine.Settling.{one_more_at_most}
 use Rattle.wi_sheet.specs.Demand.{Case}
-use Rattle.wi_sheet.proofs.Counting.{never_fall-then}
 use Rattle.wi_engine.specs.declared.frame.Frame.{Frame}
 use Rattle.wi_engine.specs.Inner.Frames.{case_at, spare}
-use Rattle.wi_engine.specs.Inner.MemoState.{MemoState, IsMemoOf}
-use Rattle.wi_engine.specs.Inner.Saving.{TakesPlaces}
-use Rattle.wi_engine.proofs.engine.Running.{IsNew, Keeps, run_start, run_push, push_smaller, run_pop, pop_smaller, run_below, run_take, run_evaluations, run_restarts, run_value, end_evaluations, end_restarts, run_keeps}
-use Rattle.wi_engine.proofs.engine.Saving.{Takes, saving_start, saving_push, saving_pop, saving_kept, saving_take, saving_end, settled_end, takes_more, push_takes, saving_counts, saving_restarts}
+use Rattle.wi_engine.specs.Inner.MemoState.{MemoState}
+use Rattle.wi_engine.proofs.engine.Running.{IsNew, Keeps, run_start, run_push, push_smaller, run_pop, pop_smaller, run_below, run_take, run_value}
+use Rattle.wi_engine.proofs.engine.Saving.{Takes, saving_start, saving_push, saving_pop, saving_kept, saving_take, settled_end, takes_more, push_takes}
 use Rattle.wi_engine.proofs.Saved.{gives_up_none, gives_up_then}
+use Rattle.wi_engine.proofs.engine.Ends.{step_same, step_kept, going_stops, going_ends}
 use Rattle.wi_engine.proofs.engine.run.Goals as goal
 
 -- a stack of no frames
@@ -124,40 +123,6 @@ take_in-requires-clause-right g c =
     let a = c.in_ok-next.ensures in
     rw (c.retire-key.ensures, a.key) (rw c.in-Done.is at a.done)
 
-pub returns-in_err-push-in-Needs-clause-takes : goal.returns-in_err-push-in-Needs-clause-takes
-returns-in_err-push-in-Needs-clause-takes g c =
-    let a = c.in_ok-next.ensures in
-    let counted = rw c.in-Needs.is at a.evaluations in
-    push_takes (g.M.Memo.state c.args.memo.now) (g.M.Memo.state c.frames.memo) (g.M.Memo.state c.advance.new.memo) c.args.meter.now.evaluations c.frames.meter.evaluations c.advance.new.meter.evaluations c.frames.invariant.places a.same counted
-
-pub returns-in_err-keep-in-Some-clause-takes : goal.returns-in_err-keep-in-Some-clause-takes
-returns-in_err-keep-in-Some-clause-takes g c =
-    let a = c.in_ok-next.ensures in
-    let counted = rw c.in-Done.is at a.evaluations in
-    takes_more (g.M.Memo.state c.args.memo.now) (g.M.Memo.state c.frames.memo) (g.M.Memo.state c.keep-in-Some.new.self) c.args.meter.now.evaluations c.frames.meter.evaluations c.advance.new.meter.evaluations c.frames.invariant.places (rw (← a.same) c.keep-in-Some.ensures.one_place) counted
-
-pub returns-in_err-keep-in-None-clause-takes : goal.returns-in_err-keep-in-None-clause-takes
-returns-in_err-keep-in-None-clause-takes g c =
-    let a = c.in_ok-next.ensures in
-    let counted = rw c.in-Done.is at a.evaluations in
-    takes_more (g.M.Memo.state c.args.memo.now) (g.M.Memo.state c.frames.memo) (g.M.Memo.state c.keep.new.self) c.args.meter.now.evaluations c.frames.meter.evaluations c.advance.new.meter.evaluations c.frames.invariant.places (rw (← a.same) c.keep.ensures.one_place) counted
-
-pub returns-in-None-clause-takes : goal.returns-in-None-clause-takes
-returns-in-None-clause-takes g c =
-    let a = c.in_ok-next.ensures in
-    let counted = rw c.in-Done.is at a.evaluations in
-    takes_more (g.M.Memo.state c.args.memo.now) (g.M.Memo.state c.frames.memo) (g.M.Memo.state c.keep.new.self) c.args.meter.now.evaluations c.frames.meter.evaluations c.advance.new.meter.evaluations c.frames.invariant.places (rw (← a.same) c.keep.ensures.one_place) counted
-
-pub returns-in-None-clause-saves : goal.returns-in-None-clause-saves
-returns-in-None-clause-saves g c =
-    let k = c.in_ok-keep-in-None.ensures in
-    let a = c.in_ok-next.ensures in
-    let counted = rw c.in-Done.is at a.evaluations in
-    let restarts : c.advance.new.meter.restarts ≤ c.frames.meter.restarts + spare c.args.store.now.sheet c.frames.frame = omega (arith, a.restarts) in
-    let takes : Takes (g.M.Memo.state c.advance.new.memo) (g.M.Memo.state c.keep.new.self) c.retire-root.result = record { kept = k.kept; room = k.room; places = k.one_place } in
-    saving_end c.args.store.now.sheet (g.M.Memo.state c.args.memo.now) (g.M.Memo.state c.frames.memo) (g.M.Memo.state c.advance.new.memo) (g.M.Memo.state c.keep.new.self) (case_at c.args.key) c.args.meter.now c.frames.meter c.advance.new.meter
-    c.frames.stack.items c.frames.frame c.retire-root.result c.frames.invariant a.same (no_frames c.frames.stack.items c.frames.stack.len c.frames.stack.ok.0 c.in-None.ensures.cases.0) (c.retire-root.ensures ∙ a.key) k.found takes counted restarts (rw c.in-Done.is at a.rests)
-
 pub returns-in-None-clause-settled : goal.returns-in-None-clause-settled
 returns-in-None-clause-settled g c =
     let k = c.in_ok-keep-in-None.ensures in
@@ -165,311 +130,6 @@ returns-in-None-clause-settled g c =
     let takes : Takes (g.M.Memo.state c.advance.new.memo) (g.M.Memo.state c.keep.new.self) c.retire-root.result = record { kept = k.kept; room = k.room; places = k.one_place } in
     settled_end c.args.store.now.sheet (g.M.Memo.state c.args.memo.now) (g.M.Memo.state c.frames.memo) (g.M.Memo.state c.advance.new.memo) (g.M.Memo.state c.keep.new.self) c.args.key c.args.meter.now c.frames.meter
     c.frames.stack.items c.frames.frame c.retire-root.result c.frames.invariant a.same (no_frames c.frames.stack.items c.frames.stack.len c.frames.stack.ok.0 c.in-None.ensures.cases.0) (c.retire-root.ensures ∙ a.key) k.found takes
-
-pub returns-in_err-push-in-Needs-clause-evaluations : goal.returns-in_err-push-in-Needs-clause-evaluations
-returns-in_err-push-in-Needs-clause-evaluations g c =
-    let counted = rw c.in-Needs.is at c.in_ok-next.ensures.evaluations in
-    run_evaluations c.args.store.now.sheet (g.M.Memo.state c.args.memo.now) (g.M.Memo.state c.frames.memo) (case_at c.args.key) c.args.meter.now c.frames.meter c.advance.new.meter c.frames.stack.items c.frames.frame c.frames.invariant.running (omega (arith, counted))
-
-pub returns-in_err-push-in-Needs-clause-restarts : goal.returns-in_err-push-in-Needs-clause-restarts
-returns-in_err-push-in-Needs-clause-restarts g c =
-    let restarts : c.advance.new.meter.restarts ≤ c.frames.meter.restarts + spare c.args.store.now.sheet c.frames.frame = omega (arith, c.in_ok-next.ensures.restarts) in
-    run_restarts c.args.store.now.sheet (g.M.Memo.state c.args.memo.now) (g.M.Memo.state c.frames.memo) (case_at c.args.key) c.args.meter.now c.frames.meter c.advance.new.meter c.frames.stack.items c.frames.frame c.frames.invariant.running restarts
-
-pub returns-in_err-push-in-Needs-clause-unkept_evaluations : goal.returns-in_err-push-in-Needs-clause-unkept_evaluations
-returns-in_err-push-in-Needs-clause-unkept_evaluations g c =
-    let counted = rw c.in-Needs.is at c.in_ok-next.ensures.evaluations in
-    saving_counts c.args.store.now.sheet (g.M.Memo.state c.args.memo.now) (g.M.Memo.state c.frames.memo) (case_at c.args.key) c.args.meter.now c.frames.meter c.advance.new.meter c.frames.stack.items c.frames.frame c.frames.invariant (omega (arith, counted))
-
-pub returns-in_err-push-in-Needs-clause-unkept_restarts : goal.returns-in_err-push-in-Needs-clause-unkept_restarts
-returns-in_err-push-in-Needs-clause-unkept_restarts g c =
-    let restarts : c.advance.new.meter.restarts ≤ c.frames.meter.restarts + spare c.args.store.now.sheet c.frames.frame = omega (arith, c.in_ok-next.ensures.restarts) in
-    saving_restarts c.args.store.now.sheet (g.M.Memo.state c.args.memo.now) (g.M.Memo.state c.frames.memo) (case_at c.args.key) c.args.meter.now c.frames.meter c.advance.new.meter c.frames.stack.items c.frames.frame c.frames.invariant restarts
-
-pub returns-in_err-keep-in-Some-clause-evaluations : goal.returns-in_err-keep-in-Some-clause-evaluations
-returns-in_err-keep-in-Some-clause-evaluations g c =
-    let counted = rw c.in-Done.is at c.in_ok-next.ensures.evaluations in
-    run_evaluations c.args.store.now.sheet (g.M.Memo.state c.args.memo.now) (g.M.Memo.state c.frames.memo) (case_at c.args.key) c.args.meter.now c.frames.meter c.advance.new.meter c.frames.stack.items c.frames.frame c.frames.invariant.running (one_more_at_most c.frames.meter.evaluations c.advance.new.meter.evaluations counted)
-
-pub returns-in_err-keep-in-Some-clause-restarts : goal.returns-in_err-keep-in-Some-clause-restarts
-returns-in_err-keep-in-Some-clause-restarts g c =
-    let restarts : c.advance.new.meter.restarts ≤ c.frames.meter.restarts + spare c.args.store.now.sheet c.frames.frame = omega (arith, c.in_ok-next.ensures.restarts) in
-    run_restarts c.args.store.now.sheet (g.M.Memo.state c.args.memo.now) (g.M.Memo.state c.frames.memo) (case_at c.args.key) c.args.meter.now c.frames.meter c.advance.new.meter c.frames.stack.items c.frames.frame c.frames.invariant.running restarts
-
-pub returns-in_err-keep-in-Some-clause-unkept_evaluations : goal.returns-in_err-keep-in-Some-clause-unkept_evaluations
-returns-in_err-keep-in-Some-clause-unkept_evaluations g c =
-    let counted = rw c.in-Done.is at c.in_ok-next.ensures.evaluations in
-    saving_counts c.args.store.now.sheet (g.M.Memo.state c.args.memo.now) (g.M.Memo.state c.frames.memo) (case_at c.args.key) c.args.meter.now c.frames.meter c.advance.new.meter c.frames.stack.items c.frames.frame c.frames.invariant (one_more_at_most c.frames.meter.evaluations c.advance.new.meter.evaluations counted)
-
-pub returns-in_err-keep-in-Some-clause-unkept_restarts : goal.returns-in_err-keep-in-Some-clause-unkept_restarts
-returns-in_err-keep-in-Some-clause-unkept_restarts g c =
-    let restarts : c.advance.new.meter.restarts ≤ c.frames.meter.restarts + spare c.args.store.now.sheet c.frames.frame = omega (arith, c.in_ok-next.ensures.restarts) in
-    saving_restarts c.args.store.now.sheet (g.M.Memo.state c.args.memo.now) (g.M.Memo.state c.frames.memo) (case_at c.args.key) c.args.meter.now c.frames.meter c.advance.new.meter c.frames.stack.items c.frames.frame c.frames.invariant restarts
-
-pub returns-in_err-keep-in-None-clause-evaluations : goal.returns-in_err-keep-in-None-clause-evaluations
-returns-in_err-keep-in-None-clause-evaluations g c =
-    let counted = rw c.in-Done.is at c.in_ok-next.ensures.evaluations in
-    run_evaluations c.args.store.now.sheet (g.M.Memo.state c.args.memo.now) (g.M.Memo.state c.frames.memo) (case_at c.args.key) c.args.meter.now c.frames.meter c.advance.new.meter c.frames.stack.items c.frames.frame c.frames.invariant.running (one_more_at_most c.frames.meter.evaluations c.advance.new.meter.evaluations counted)
-
-pub returns-in_err-keep-in-None-clause-restarts : goal.returns-in_err-keep-in-None-clause-restarts
-returns-in_err-keep-in-None-clause-restarts g c =
-    let restarts : c.advance.new.meter.restarts ≤ c.frames.meter.restarts + spare c.args.store.now.sheet c.frames.frame = omega (arith, c.in_ok-next.ensures.restarts) in
-    run_restarts c.args.store.now.sheet (g.M.Memo.state c.args.memo.now) (g.M.Memo.state c.frames.memo) (case_at c.args.key) c.args.meter.now c.frames.meter c.advance.new.meter c.frames.stack.items c.frames.frame c.frames.invariant.running restarts
-
-pub returns-in_err-keep-in-None-clause-unkept_evaluations : goal.returns-in_err-keep-in-None-clause-unkept_evaluations
-returns-in_err-keep-in-None-clause-unkept_evaluations g c =
-    let counted = rw c.in-Done.is at c.in_ok-next.ensures.evaluations in
-    saving_counts c.args.store.now.sheet (g.M.Memo.state c.args.memo.now) (g.M.Memo.state c.frames.memo) (case_at c.args.key) c.args.meter.now c.frames.meter c.advance.new.meter c.frames.stack.items c.frames.frame c.frames.invariant (one_more_at_most c.frames.meter.evaluations c.advance.new.meter.evaluations counted)
-
-pub returns-in_err-keep-in-None-clause-unkept_restarts : goal.returns-in_err-keep-in-None-clause-unkept_restarts
-returns-in_err-keep-in-None-clause-unkept_restarts g c =
-    let restarts : c.advance.new.meter.restarts ≤ c.frames.meter.restarts + spare c.args.store.now.sheet c.frames.frame = omega (arith, c.in_ok-next.ensures.restarts) in
-    saving_restarts c.args.store.now.sheet (g.M.Memo.state c.args.memo.now) (g.M.Memo.state c.frames.memo) (case_at c.args.key) c.args.meter.now c.frames.meter c.advance.new.meter c.frames.stack.items c.frames.frame c.frames.invariant restarts
-
-pub returns-in-None-clause-evaluations : goal.returns-in-None-clause-evaluations
-returns-in-None-clause-evaluations g c =
-    let counted = rw c.in-Done.is at c.in_ok-next.ensures.evaluations in
-    run_evaluations c.args.store.now.sheet (g.M.Memo.state c.args.memo.now) (g.M.Memo.state c.frames.memo) (case_at c.args.key) c.args.meter.now c.frames.meter c.advance.new.meter c.frames.stack.items c.frames.frame c.frames.invariant.running (one_more_at_most c.frames.meter.evaluations c.advance.new.meter.evaluations counted)
-
-pub returns-in-None-clause-restarts : goal.returns-in-None-clause-restarts
-returns-in-None-clause-restarts g c =
-    let restarts : c.advance.new.meter.restarts ≤ c.frames.meter.restarts + spare c.args.store.now.sheet c.frames.frame = omega (arith, c.in_ok-next.ensures.restarts) in
-    run_restarts c.args.store.now.sheet (g.M.Memo.state c.args.memo.now) (g.M.Memo.state c.frames.memo) (case_at c.args.key) c.args.meter.now c.frames.meter c.advance.new.meter c.frames.stack.items c.frames.frame c.frames.invariant.running restarts
-
-pub returns-in-None-clause-unkept_evaluations : goal.returns-in-None-clause-unkept_evaluations
-returns-in-None-clause-unkept_evaluations g c =
-    let counted = rw c.in-Done.is at c.in_ok-next.ensures.evaluations in
-    saving_counts c.args.store.now.sheet (g.M.Memo.state c.args.memo.now) (g.M.Memo.state c.frames.memo) (case_at c.args.key) c.args.meter.now c.frames.meter c.advance.new.meter c.frames.stack.items c.frames.frame c.frames.invariant (one_more_at_most c.frames.meter.evaluations c.advance.new.meter.evaluations counted)
-
-pub returns-in-None-clause-unkept_restarts : goal.returns-in-None-clause-unkept_restarts
-returns-in-None-clause-unkept_restarts g c =
-    let restarts : c.advance.new.meter.restarts ≤ c.frames.meter.restarts + spare c.args.store.now.sheet c.frames.frame = omega (arith, c.in_ok-next.ensures.restarts) in
-    saving_restarts c.args.store.now.sheet (g.M.Memo.state c.args.memo.now) (g.M.Memo.state c.frames.memo) (case_at c.args.key) c.args.meter.now c.frames.meter c.advance.new.meter c.frames.stack.items c.frames.frame c.frames.invariant restarts
-
-pub returns-in-None-clause-evaluations_ok : goal.returns-in-None-clause-evaluations_ok
-returns-in-None-clause-evaluations_ok g c =
-    let counted = rw c.in-Done.is at c.in_ok-next.ensures.evaluations in
-    end_evaluations c.args.store.now.sheet (g.M.Memo.state c.args.memo.now) (g.M.Memo.state c.frames.memo) (g.M.Memo.state c.advance.new.memo) (g.M.Memo.state c.keep.new.self) (case_at c.args.key) c.args.meter.now c.frames.meter c.advance.new.meter c.frames.stack.items c.frames.frame c.retire-root.result c.frames.invariant.running c.in_ok-next.ensures.same (no_frames c.frames.stack.items c.frames.stack.len c.frames.stack.ok.0 c.in-None.ensures.cases.0) (c.retire-root.ensures ∙ c.in_ok-next.ensures.key) c.in_ok-keep-in-None.ensures.found counted
-
-pub returns-in-None-clause-restarts_ok : goal.returns-in-None-clause-restarts_ok
-returns-in-None-clause-restarts_ok g c =
-    let restarts : c.advance.new.meter.restarts ≤ c.frames.meter.restarts + spare c.args.store.now.sheet c.frames.frame = omega (arith, c.in_ok-next.ensures.restarts) in
-    end_restarts c.args.store.now.sheet (g.M.Memo.state c.args.memo.now) (g.M.Memo.state c.frames.memo) (g.M.Memo.state c.advance.new.memo) (g.M.Memo.state c.keep.new.self) (case_at c.args.key) c.args.meter.now c.frames.meter c.advance.new.meter c.frames.stack.items c.frames.frame c.retire-root.result c.frames.invariant.running c.in_ok-next.ensures.same (no_frames c.frames.stack.items c.frames.stack.len c.frames.stack.ok.0 c.in-None.ensures.cases.0) (c.retire-root.ensures ∙ c.in_ok-next.ensures.key) c.in_ok-keep-in-None.ensures.found restarts
-
-pub returns-in_err-shown-in-None-clause-evaluations : goal.returns-in_err-shown-in-None-clause-evaluations
-returns-in_err-shown-in-None-clause-evaluations g c =
-    let counted = rw c.in-Done.is at c.in_ok-next.ensures.evaluations in
-    run_evaluations c.args.store.now.sheet (g.M.Memo.state c.args.memo.now) (g.M.Memo.state c.frames.memo) (case_at c.args.key) c.args.meter.now c.frames.meter c.advance.new.meter c.frames.stack.items c.frames.frame c.frames.invariant.running (one_more_at_most c.frames.meter.evaluations c.advance.new.meter.evaluations counted)
-
-pub returns-in_err-shown-in-None-clause-restarts : goal.returns-in_err-shown-in-None-clause-restarts
-returns-in_err-shown-in-None-clause-restarts g c =
-    let restarts : c.advance.new.meter.restarts ≤ c.frames.meter.restarts + spare c.args.store.now.sheet c.frames.frame = omega (arith, c.in_ok-next.ensures.restarts) in
-    run_restarts c.args.store.now.sheet (g.M.Memo.state c.args.memo.now) (g.M.Memo.state c.frames.memo) (case_at c.args.key) c.args.meter.now c.frames.meter c.advance.new.meter c.frames.stack.items c.frames.frame c.frames.invariant.running restarts
-
-pub returns-in_err-shown-in-None-clause-unkept_evaluations : goal.returns-in_err-shown-in-None-clause-unkept_evaluations
-returns-in_err-shown-in-None-clause-unkept_evaluations g c =
-    let counted = rw c.in-Done.is at c.in_ok-next.ensures.evaluations in
-    saving_counts c.args.store.now.sheet (g.M.Memo.state c.args.memo.now) (g.M.Memo.state c.frames.memo) (case_at c.args.key) c.args.meter.now c.frames.meter c.advance.new.meter c.frames.stack.items c.frames.frame c.frames.invariant (one_more_at_most c.frames.meter.evaluations c.advance.new.meter.evaluations counted)
-
-pub returns-in_err-shown-in-None-clause-unkept_restarts : goal.returns-in_err-shown-in-None-clause-unkept_restarts
-returns-in_err-shown-in-None-clause-unkept_restarts g c =
-    let restarts : c.advance.new.meter.restarts ≤ c.frames.meter.restarts + spare c.args.store.now.sheet c.frames.frame = omega (arith, c.in_ok-next.ensures.restarts) in
-    saving_restarts c.args.store.now.sheet (g.M.Memo.state c.args.memo.now) (g.M.Memo.state c.frames.memo) (case_at c.args.key) c.args.meter.now c.frames.meter c.advance.new.meter c.frames.stack.items c.frames.frame c.frames.invariant restarts
-
-pub returns-in_err-next-clause-evaluations : goal.returns-in_err-next-clause-evaluations
-returns-in_err-next-clause-evaluations g c =
-    let within : c.advance.new.meter.evaluations ≤ c.frames.meter.evaluations + 1 = omega (arith, c.in_err-next.ensures.err_evaluations) in
-    run_evaluations c.args.store.now.sheet (g.M.Memo.state c.args.memo.now) (g.M.Memo.state c.frames.memo) (case_at c.args.key) c.args.meter.now c.frames.meter c.advance.new.meter c.frames.stack.items c.frames.frame c.frames.invariant.running within
-
-pub returns-in_err-next-clause-restarts : goal.returns-in_err-next-clause-restarts
-returns-in_err-next-clause-restarts g c =
-    run_restarts c.args.store.now.sheet (g.M.Memo.state c.args.memo.now) (g.M.Memo.state c.frames.memo) (case_at c.args.key) c.args.meter.now c.frames.meter c.advance.new.meter c.frames.stack.items c.frames.frame c.frames.invariant.running c.in_err-next.ensures.err_restarts
-
-pub returns-in_err-next-clause-unkept_evaluations : goal.returns-in_err-next-clause-unkept_evaluations
-returns-in_err-next-clause-unkept_evaluations g c =
-    let within : c.advance.new.meter.evaluations ≤ c.frames.meter.evaluations + 1 = omega (arith, c.in_err-next.ensures.err_evaluations) in
-    saving_counts c.args.store.now.sheet (g.M.Memo.state c.args.memo.now) (g.M.Memo.state c.frames.memo) (case_at c.args.key) c.args.meter.now c.frames.meter c.advance.new.meter c.frames.stack.items c.frames.frame c.frames.invariant within
-
-pub returns-in_err-next-clause-unkept_restarts : goal.returns-in_err-next-clause-unkept_restarts
-returns-in_err-next-clause-unkept_restarts g c =
-    saving_restarts c.args.store.now.sheet (g.M.Memo.state c.args.memo.now) (g.M.Memo.state c.frames.memo) (case_at c.args.key) c.args.meter.now c.frames.meter c.advance.new.meter c.frames.stack.items c.frames.frame c.frames.invariant c.in_err-next.ensures.err_restarts
-
-pub returns-in_err-push-in-Needs-clause-counts : goal.returns-in_err-push-in-Needs-clause-counts
-returns-in_err-push-in-Needs-clause-counts g c =
-    never_fall-then c.args.meter.now c.frames.meter c.advance.new.meter c.frames.invariant.running.counts c.advance.ensures.counts
-
-pub returns-in_err-push-in-Needs-clause-memo : goal.returns-in_err-push-in-Needs-clause-memo
-returns-in_err-push-in-Needs-clause-memo g c =
-    subst (λ (x : MemoState). IsMemoOf c.args.store.now.sheet x) (sym c.advance.ensures.same) c.frames.invariant.running.memo
-
-pub returns-in_err-push-in-Needs-clause-same_cells : goal.returns-in_err-push-in-Needs-clause-same_cells
-returns-in_err-push-in-Needs-clause-same_cells g c =
-    ap (λ (x : MemoState). x.covers) c.advance.ensures.same ∙ c.frames.invariant.running.covers
-
-pub returns-in_err-push-in-Needs-clause-same_generation : goal.returns-in_err-push-in-Needs-clause-same_generation
-returns-in_err-push-in-Needs-clause-same_generation g c =
-    ap (λ (x : MemoState). x.generation) c.advance.ensures.same ∙ c.frames.invariant.running.generation
-
-pub returns-in_err-push-in-Needs-clause-same_capacity : goal.returns-in_err-push-in-Needs-clause-same_capacity
-returns-in_err-push-in-Needs-clause-same_capacity g c =
-    ap (λ (x : MemoState). x.capacity) c.advance.ensures.same ∙ c.frames.invariant.capacity
-
-pub returns-in_err-push-in-Needs-clause-same_latest : goal.returns-in_err-push-in-Needs-clause-same_latest
-returns-in_err-push-in-Needs-clause-same_latest g c =
-    ap (λ (x : MemoState). x.latest) c.advance.ensures.same ∙ c.frames.invariant.latest
-
-pub returns-in_err-push-in-Needs-clause-gives_up : goal.returns-in_err-push-in-Needs-clause-gives_up
-returns-in_err-push-in-Needs-clause-gives_up g c =
-    gives_up_then (g.M.Memo.state c.args.memo.now) (g.M.Memo.state c.frames.memo) (g.M.Memo.state c.advance.new.memo) c.frames.invariant.gives_up (gives_up_none (g.M.Memo.state c.frames.memo) (g.M.Memo.state c.advance.new.memo) c.advance.ensures.same)
-
-pub returns-in_err-keep-in-Some-clause-counts : goal.returns-in_err-keep-in-Some-clause-counts
-returns-in_err-keep-in-Some-clause-counts g c =
-    never_fall-then c.args.meter.now c.frames.meter c.advance.new.meter c.frames.invariant.running.counts c.advance.ensures.counts
-
-pub returns-in_err-keep-in-Some-clause-memo : goal.returns-in_err-keep-in-Some-clause-memo
-returns-in_err-keep-in-Some-clause-memo g c =
-    let value = rw c.in-Done.is at c.in_ok-next.ensures.done in
-    let there = subst (λ (x : MemoState). IsMemoOf c.args.store.now.sheet x) (sym c.advance.ensures.same) c.frames.invariant.running.memo in
-    let keeps : Keeps (g.M.Memo.state c.advance.new.memo) (g.M.Memo.state c.keep-in-Some.new.self) c.retire-key.result c.in-Done.value = record { sheet = c.keep-in-Some.ensures.same_sheet; covers = c.keep-in-Some.ensures.same_cells; generation = c.keep-in-Some.ensures.same_generation; known = c.keep-in-Some.ensures.known; told = c.keep-in-Some.ensures.told } in
-    run_keeps c.args.store.now.sheet (g.M.Memo.state c.advance.new.memo) (g.M.Memo.state c.keep-in-Some.new.self) c.retire-key.result c.frames.frame.key c.in-Done.value there keeps (c.retire-key.ensures ∙ c.in_ok-next.ensures.key) value
-
-pub returns-in_err-keep-in-Some-clause-same_cells : goal.returns-in_err-keep-in-Some-clause-same_cells
-returns-in_err-keep-in-Some-clause-same_cells g c =
-    c.keep-in-Some.ensures.same_cells ∙ ap (λ (x : MemoState). x.covers) c.advance.ensures.same ∙ c.frames.invariant.running.covers
-
-pub returns-in_err-keep-in-Some-clause-same_generation : goal.returns-in_err-keep-in-Some-clause-same_generation
-returns-in_err-keep-in-Some-clause-same_generation g c =
-    c.keep-in-Some.ensures.same_generation ∙ ap (λ (x : MemoState). x.generation) c.advance.ensures.same ∙ c.frames.invariant.running.generation
-
-pub returns-in_err-keep-in-Some-clause-same_capacity : goal.returns-in_err-keep-in-Some-clause-same_capacity
-returns-in_err-keep-in-Some-clause-same_capacity g c =
-    c.keep-in-Some.ensures.same_capacity ∙ ap (λ (x : MemoState). x.capacity) c.advance.ensures.same ∙ c.frames.invariant.capacity
-
-pub returns-in_err-keep-in-Some-clause-same_latest : goal.returns-in_err-keep-in-Some-clause-same_latest
-returns-in_err-keep-in-Some-clause-same_latest g c =
-    c.keep-in-Some.ensures.same_latest ∙ ap (λ (x : MemoState). x.latest) c.advance.ensures.same ∙ c.frames.invariant.latest
-
-pub returns-in_err-keep-in-Some-clause-gives_up : goal.returns-in_err-keep-in-Some-clause-gives_up
-returns-in_err-keep-in-Some-clause-gives_up g c =
-    gives_up_then (g.M.Memo.state c.args.memo.now) (g.M.Memo.state c.frames.memo) (g.M.Memo.state c.keep-in-Some.new.self) c.frames.invariant.gives_up (rw (← c.advance.ensures.same) c.keep-in-Some.ensures.gives_up)
-
-pub returns-in_err-keep-in-None-clause-counts : goal.returns-in_err-keep-in-None-clause-counts
-returns-in_err-keep-in-None-clause-counts g c =
-    never_fall-then c.args.meter.now c.frames.meter c.advance.new.meter c.frames.invariant.running.counts c.advance.ensures.counts
-
-pub returns-in_err-keep-in-None-clause-memo : goal.returns-in_err-keep-in-None-clause-memo
-returns-in_err-keep-in-None-clause-memo g c =
-    let value = rw c.in-Done.is at c.in_ok-next.ensures.done in
-    let there = subst (λ (x : MemoState). IsMemoOf c.args.store.now.sheet x) (sym c.advance.ensures.same) c.frames.invariant.running.memo in
-    let keeps : Keeps (g.M.Memo.state c.advance.new.memo) (g.M.Memo.state c.keep.new.self) c.retire-root.result c.in-Done.value = record { sheet = c.keep.ensures.same_sheet; covers = c.keep.ensures.same_cells; generation = c.keep.ensures.same_generation; known = c.keep.ensures.known; told = c.keep.ensures.told } in
-    run_keeps c.args.store.now.sheet (g.M.Memo.state c.advance.new.memo) (g.M.Memo.state c.keep.new.self) c.retire-root.result c.frames.frame.key c.in-Done.value there keeps (c.retire-root.ensures ∙ c.in_ok-next.ensures.key) value
-
-pub returns-in_err-keep-in-None-clause-same_cells : goal.returns-in_err-keep-in-None-clause-same_cells
-returns-in_err-keep-in-None-clause-same_cells g c =
-    c.keep.ensures.same_cells ∙ ap (λ (x : MemoState). x.covers) c.advance.ensures.same ∙ c.frames.invariant.running.covers
-
-pub returns-in_err-keep-in-None-clause-same_generation : goal.returns-in_err-keep-in-None-clause-same_generation
-returns-in_err-keep-in-None-clause-same_generation g c =
-    c.keep.ensures.same_generation ∙ ap (λ (x : MemoState). x.generation) c.advance.ensures.same ∙ c.frames.invariant.running.generation
-
-pub returns-in_err-keep-in-None-clause-same_capacity : goal.returns-in_err-keep-in-None-clause-same_capacity
-returns-in_err-keep-in-None-clause-same_capacity g c =
-    c.keep.ensures.same_capacity ∙ ap (λ (x : MemoState). x.capacity) c.advance.ensures.same ∙ c.frames.invariant.capacity
-
-pub returns-in_err-keep-in-None-clause-same_latest : goal.returns-in_err-keep-in-None-clause-same_latest
-returns-in_err-keep-in-None-clause-same_latest g c =
-    c.keep.ensures.same_latest ∙ ap (λ (x : MemoState). x.latest) c.advance.ensures.same ∙ c.frames.invariant.latest
-
-pub returns-in_err-keep-in-None-clause-gives_up : goal.returns-in_err-keep-in-None-clause-gives_up
-returns-in_err-keep-in-None-clause-gives_up g c =
-    gives_up_then (g.M.Memo.state c.args.memo.now) (g.M.Memo.state c.frames.memo) (g.M.Memo.state c.keep.new.self) c.frames.invariant.gives_up (rw (← c.advance.ensures.same) c.keep.ensures.gives_up)
-
-pub returns-in-None-clause-counts : goal.returns-in-None-clause-counts
-returns-in-None-clause-counts g c =
-    never_fall-then c.args.meter.now c.frames.meter c.advance.new.meter c.frames.invariant.running.counts c.advance.ensures.counts
-
-pub returns-in-None-clause-memo : goal.returns-in-None-clause-memo
-returns-in-None-clause-memo g c =
-    let value = rw c.in-Done.is at c.in_ok-next.ensures.done in
-    let there = subst (λ (x : MemoState). IsMemoOf c.args.store.now.sheet x) (sym c.advance.ensures.same) c.frames.invariant.running.memo in
-    let keeps : Keeps (g.M.Memo.state c.advance.new.memo) (g.M.Memo.state c.keep.new.self) c.retire-root.result c.in-Done.value = record { sheet = c.keep.ensures.same_sheet; covers = c.keep.ensures.same_cells; generation = c.keep.ensures.same_generation; known = c.keep.ensures.known; told = c.keep.ensures.told } in
-    run_keeps c.args.store.now.sheet (g.M.Memo.state c.advance.new.memo) (g.M.Memo.state c.keep.new.self) c.retire-root.result c.frames.frame.key c.in-Done.value there keeps (c.retire-root.ensures ∙ c.in_ok-next.ensures.key) value
-
-pub returns-in-None-clause-same_cells : goal.returns-in-None-clause-same_cells
-returns-in-None-clause-same_cells g c =
-    c.keep.ensures.same_cells ∙ ap (λ (x : MemoState). x.covers) c.advance.ensures.same ∙ c.frames.invariant.running.covers
-
-pub returns-in-None-clause-same_generation : goal.returns-in-None-clause-same_generation
-returns-in-None-clause-same_generation g c =
-    c.keep.ensures.same_generation ∙ ap (λ (x : MemoState). x.generation) c.advance.ensures.same ∙ c.frames.invariant.running.generation
-
-pub returns-in-None-clause-same_capacity : goal.returns-in-None-clause-same_capacity
-returns-in-None-clause-same_capacity g c =
-    c.keep.ensures.same_capacity ∙ ap (λ (x : MemoState). x.capacity) c.advance.ensures.same ∙ c.frames.invariant.capacity
-
-pub returns-in-None-clause-same_latest : goal.returns-in-None-clause-same_latest
-returns-in-None-clause-same_latest g c =
-    c.keep.ensures.same_latest ∙ ap (λ (x : MemoState). x.latest) c.advance.ensures.same ∙ c.frames.invariant.latest
-
-pub returns-in-None-clause-gives_up : goal.returns-in-None-clause-gives_up
-returns-in-None-clause-gives_up g c =
-    gives_up_then (g.M.Memo.state c.args.memo.now) (g.M.Memo.state c.frames.memo) (g.M.Memo.state c.keep.new.self) c.frames.invariant.gives_up (rw (← c.advance.ensures.same) c.keep.ensures.gives_up)
-
-pub returns-in_err-shown-in-None-clause-counts : goal.returns-in_err-shown-in-None-clause-counts
-returns-in_err-shown-in-None-clause-counts g c =
-    never_fall-then c.args.meter.now c.frames.meter c.advance.new.meter c.frames.invariant.running.counts c.advance.ensures.counts
-
-pub returns-in_err-shown-in-None-clause-memo : goal.returns-in_err-shown-in-None-clause-memo
-returns-in_err-shown-in-None-clause-memo g c =
-    subst (λ (x : MemoState). IsMemoOf c.args.store.now.sheet x) (sym c.advance.ensures.same) c.frames.invariant.running.memo
-
-pub returns-in_err-shown-in-None-clause-same_cells : goal.returns-in_err-shown-in-None-clause-same_cells
-returns-in_err-shown-in-None-clause-same_cells g c =
-    ap (λ (x : MemoState). x.covers) c.advance.ensures.same ∙ c.frames.invariant.running.covers
-
-pub returns-in_err-shown-in-None-clause-same_generation : goal.returns-in_err-shown-in-None-clause-same_generation
-returns-in_err-shown-in-None-clause-same_generation g c =
-    ap (λ (x : MemoState). x.generation) c.advance.ensures.same ∙ c.frames.invariant.running.generation
-
-pub returns-in_err-shown-in-None-clause-same_capacity : goal.returns-in_err-shown-in-None-clause-same_capacity
-returns-in_err-shown-in-None-clause-same_capacity g c =
-    ap (λ (x : MemoState). x.capacity) c.advance.ensures.same ∙ c.frames.invariant.capacity
-
-pub returns-in_err-shown-in-None-clause-same_latest : goal.returns-in_err-shown-in-None-clause-same_latest
-returns-in_err-shown-in-None-clause-same_latest g c =
-    ap (λ (x : MemoState). x.latest) c.advance.ensures.same ∙ c.frames.invariant.latest
-
-pub returns-in_err-shown-in-None-clause-gives_up : goal.returns-in_err-shown-in-None-clause-gives_up
-returns-in_err-shown-in-None-clause-gives_up g c =
-    gives_up_then (g.M.Memo.state c.args.memo.now) (g.M.Memo.state c.frames.memo) (g.M.Memo.state c.advance.new.memo) c.frames.invariant.gives_up (gives_up_none (g.M.Memo.state c.frames.memo) (g.M.Memo.state c.advance.new.memo) c.advance.ensures.same)
-
-pub returns-in_err-next-clause-counts : goal.returns-in_err-next-clause-counts
-returns-in_err-next-clause-counts g c =
-    never_fall-then c.args.meter.now c.frames.meter c.advance.new.meter c.frames.invariant.running.counts c.advance.ensures.counts
-
-pub returns-in_err-next-clause-memo : goal.returns-in_err-next-clause-memo
-returns-in_err-next-clause-memo g c =
-    subst (λ (x : MemoState). IsMemoOf c.args.store.now.sheet x) (sym c.advance.ensures.same) c.frames.invariant.running.memo
-
-pub returns-in_err-next-clause-same_cells : goal.returns-in_err-next-clause-same_cells
-returns-in_err-next-clause-same_cells g c =
-    ap (λ (x : MemoState). x.covers) c.advance.ensures.same ∙ c.frames.invariant.running.covers
-
-pub returns-in_err-next-clause-same_generation : goal.returns-in_err-next-clause-same_generation
-returns-in_err-next-clause-same_generation g c =
-    ap (λ (x : MemoState). x.generation) c.advance.ensures.same ∙ c.frames.invariant.running.generation
-
-pub returns-in_err-next-clause-same_capacity : goal.returns-in_err-next-clause-same_capacity
-returns-in_err-next-clause-same_capacity g c =
-    ap (λ (x : MemoState). x.capacity) c.advance.ensures.same ∙ c.frames.invariant.capacity
-
-pub returns-in_err-next-clause-same_latest : goal.returns-in_err-next-clause-same_latest
-returns-in_err-next-clause-same_latest g c =
-    ap (λ (x : MemoState). x.latest) c.advance.ensures.same ∙ c.frames.invariant.latest
-
-pub returns-in_err-next-clause-gives_up : goal.returns-in_err-next-clause-gives_up
-returns-in_err-next-clause-gives_up g c =
-    gives_up_then (g.M.Memo.state c.args.memo.now) (g.M.Memo.state c.frames.memo) (g.M.Memo.state c.advance.new.memo) c.frames.invariant.gives_up (gives_up_none (g.M.Memo.state c.frames.memo) (g.M.Memo.state c.advance.new.memo) c.advance.ensures.same)
 
 pub advance-requires-clause-memo : goal.advance-requires-clause-memo
 advance-requires-clause-memo g c = c.frames.invariant.running.memo
@@ -521,70 +181,61 @@ returns-in-None-clause-kept g c =
     let capacity = ap (λ (x : MemoState). x.capacity) a.same ∙ c.frames.invariant.capacity in
     λ room. subst (λ (j : Case). (g.M.Memo.state c.keep.new.self).kept j.0 j.1 ≡ true) same (c.in_ok-keep-in-None.ensures.there (rw capacity room))
 
-pub returns-in_err-next-clause-takes : goal.returns-in_err-next-clause-takes
-returns-in_err-next-clause-takes g c =
-    push_takes (g.M.Memo.state c.args.memo.now) (g.M.Memo.state c.frames.memo) (g.M.Memo.state c.advance.new.memo) c.args.meter.now.evaluations c.frames.meter.evaluations c.advance.new.meter.evaluations c.frames.invariant.places c.advance.ensures.same c.in_err-next.ensures.err_evaluations
+-- ---- what was spent, at each end
 
-pub returns-in_err-shown-in-None-clause-takes : goal.returns-in_err-shown-in-None-clause-takes
-returns-in_err-shown-in-None-clause-takes g c =
+pub returns-in_err-next-clause-spends : goal.returns-in_err-next-clause-spends
+returns-in_err-next-clause-spends g c =
+    let a = c.in_err-next.ensures in
+    let i = c.frames.invariant in
+    going_stops i (step_same i.running.memo a.same a.counts (omega (arith, a.err_evaluations)) a.err_restarts) c.from_residual.result c.from_residual.ensures.0
+
+pub returns-in_err-push-in-Needs-clause-spends : goal.returns-in_err-push-in-Needs-clause-spends
+returns-in_err-push-in-Needs-clause-spends g c =
     let a = c.in_ok-next.ensures in
-    let m = g.M.Memo.state c.frames.memo in
-    let counted = rw c.in-Done.is at a.evaluations in
-    let none : TakesPlaces m m 0 1 = λ ks d. omega arith in
-    takes_more (g.M.Memo.state c.args.memo.now) m (g.M.Memo.state c.advance.new.memo) c.args.meter.now.evaluations c.frames.meter.evaluations c.advance.new.meter.evaluations c.frames.invariant.places (subst (λ (x : MemoState). TakesPlaces m x 0 1) (sym a.same) none) counted
+    let i = c.frames.invariant in
+    let counted = rw c.in-Needs.is at a.evaluations in
+    going_stops i (step_same i.running.memo a.same a.counts (omega (arith, counted)) (omega (arith, a.restarts))) c.from_residual-in_err-push-in-Needs.result c.from_residual-in_err-push-in-Needs.ensures.0
 
-pub returns-in_err-take_in-in-Some-clause-evaluations : goal.returns-in_err-take_in-in-Some-clause-evaluations
-returns-in_err-take_in-in-Some-clause-evaluations g c =
-    let counted = rw c.in-Done.is at c.in_ok-next.ensures.evaluations in
-    run_evaluations c.args.store.now.sheet (g.M.Memo.state c.args.memo.now) (g.M.Memo.state c.frames.memo) (case_at c.args.key) c.args.meter.now c.frames.meter c.advance.new.meter c.frames.stack.items c.frames.frame c.frames.invariant.running (one_more_at_most c.frames.meter.evaluations c.advance.new.meter.evaluations counted)
-
-pub returns-in_err-take_in-in-Some-clause-restarts : goal.returns-in_err-take_in-in-Some-clause-restarts
-returns-in_err-take_in-in-Some-clause-restarts g c =
-    let restarts : c.advance.new.meter.restarts ≤ c.frames.meter.restarts + spare c.args.store.now.sheet c.frames.frame = omega (arith, c.in_ok-next.ensures.restarts) in
-    run_restarts c.args.store.now.sheet (g.M.Memo.state c.args.memo.now) (g.M.Memo.state c.frames.memo) (case_at c.args.key) c.args.meter.now c.frames.meter c.advance.new.meter c.frames.stack.items c.frames.frame c.frames.invariant.running restarts
-
-pub returns-in_err-take_in-in-Some-clause-unkept_evaluations : goal.returns-in_err-take_in-in-Some-clause-unkept_evaluations
-returns-in_err-take_in-in-Some-clause-unkept_evaluations g c =
-    let counted = rw c.in-Done.is at c.in_ok-next.ensures.evaluations in
-    saving_counts c.args.store.now.sheet (g.M.Memo.state c.args.memo.now) (g.M.Memo.state c.frames.memo) (case_at c.args.key) c.args.meter.now c.frames.meter c.advance.new.meter c.frames.stack.items c.frames.frame c.frames.invariant (one_more_at_most c.frames.meter.evaluations c.advance.new.meter.evaluations counted)
-
-pub returns-in_err-take_in-in-Some-clause-unkept_restarts : goal.returns-in_err-take_in-in-Some-clause-unkept_restarts
-returns-in_err-take_in-in-Some-clause-unkept_restarts g c =
-    let restarts : c.advance.new.meter.restarts ≤ c.frames.meter.restarts + spare c.args.store.now.sheet c.frames.frame = omega (arith, c.in_ok-next.ensures.restarts) in
-    saving_restarts c.args.store.now.sheet (g.M.Memo.state c.args.memo.now) (g.M.Memo.state c.frames.memo) (case_at c.args.key) c.args.meter.now c.frames.meter c.advance.new.meter c.frames.stack.items c.frames.frame c.frames.invariant restarts
-
-pub returns-in_err-take_in-in-Some-clause-counts : goal.returns-in_err-take_in-in-Some-clause-counts
-returns-in_err-take_in-in-Some-clause-counts g c =
-    never_fall-then c.args.meter.now c.frames.meter c.advance.new.meter c.frames.invariant.running.counts c.advance.ensures.counts
-
-pub returns-in_err-take_in-in-Some-clause-memo : goal.returns-in_err-take_in-in-Some-clause-memo
-returns-in_err-take_in-in-Some-clause-memo g c =
-    subst (λ (x : MemoState). IsMemoOf c.args.store.now.sheet x) (sym c.advance.ensures.same) c.frames.invariant.running.memo
-
-pub returns-in_err-take_in-in-Some-clause-same_cells : goal.returns-in_err-take_in-in-Some-clause-same_cells
-returns-in_err-take_in-in-Some-clause-same_cells g c =
-    ap (λ (x : MemoState). x.covers) c.advance.ensures.same ∙ c.frames.invariant.running.covers
-
-pub returns-in_err-take_in-in-Some-clause-same_generation : goal.returns-in_err-take_in-in-Some-clause-same_generation
-returns-in_err-take_in-in-Some-clause-same_generation g c =
-    ap (λ (x : MemoState). x.generation) c.advance.ensures.same ∙ c.frames.invariant.running.generation
-
-pub returns-in_err-take_in-in-Some-clause-same_capacity : goal.returns-in_err-take_in-in-Some-clause-same_capacity
-returns-in_err-take_in-in-Some-clause-same_capacity g c =
-    ap (λ (x : MemoState). x.capacity) c.advance.ensures.same ∙ c.frames.invariant.capacity
-
-pub returns-in_err-take_in-in-Some-clause-same_latest : goal.returns-in_err-take_in-in-Some-clause-same_latest
-returns-in_err-take_in-in-Some-clause-same_latest g c =
-    ap (λ (x : MemoState). x.latest) c.advance.ensures.same ∙ c.frames.invariant.latest
-
-pub returns-in_err-take_in-in-Some-clause-gives_up : goal.returns-in_err-take_in-in-Some-clause-gives_up
-returns-in_err-take_in-in-Some-clause-gives_up g c =
-    gives_up_then (g.M.Memo.state c.args.memo.now) (g.M.Memo.state c.frames.memo) (g.M.Memo.state c.advance.new.memo) c.frames.invariant.gives_up (gives_up_none (g.M.Memo.state c.frames.memo) (g.M.Memo.state c.advance.new.memo) c.advance.ensures.same)
-
-pub returns-in_err-take_in-in-Some-clause-takes : goal.returns-in_err-take_in-in-Some-clause-takes
-returns-in_err-take_in-in-Some-clause-takes g c =
+pub returns-in_err-shown-in-None-clause-spends : goal.returns-in_err-shown-in-None-clause-spends
+returns-in_err-shown-in-None-clause-spends g c =
     let a = c.in_ok-next.ensures in
-    let m = g.M.Memo.state c.frames.memo in
+    let i = c.frames.invariant in
     let counted = rw c.in-Done.is at a.evaluations in
-    let none : TakesPlaces m m 0 1 = λ ks d. omega arith in
-    takes_more (g.M.Memo.state c.args.memo.now) m (g.M.Memo.state c.advance.new.memo) c.args.meter.now.evaluations c.frames.meter.evaluations c.advance.new.meter.evaluations c.frames.invariant.places (subst (λ (x : MemoState). TakesPlaces m x 0 1) (sym a.same) none) counted
+    going_stops i (step_same i.running.memo a.same a.counts (one_more_at_most _ _ counted) (omega (arith, a.restarts))) c.from_residual-in_err-shown-in-None.result c.from_residual-in_err-shown-in-None.ensures.0
+
+pub returns-in_err-take_in-in-Some-clause-spends : goal.returns-in_err-take_in-in-Some-clause-spends
+returns-in_err-take_in-in-Some-clause-spends g c =
+    let a = c.in_ok-next.ensures in
+    let i = c.frames.invariant in
+    let counted = rw c.in-Done.is at a.evaluations in
+    going_stops i (step_same i.running.memo a.same a.counts (one_more_at_most _ _ counted) (omega (arith, a.restarts))) c.from_residual-in_err-take_in-in-Some.result c.from_residual-in_err-take_in-in-Some.ensures.0
+
+pub returns-in_err-keep-in-Some-clause-spends : goal.returns-in_err-keep-in-Some-clause-spends
+returns-in_err-keep-in-Some-clause-spends g c =
+    let a = c.in_ok-next.ensures in
+    let k = c.in_err-keep-in-Some.ensures in
+    let i = c.frames.invariant in
+    let keeps : Keeps (g.M.Memo.state c.advance.new.memo) (g.M.Memo.state c.keep-in-Some.new.self) c.retire-key.result c.in-Done.value = record { sheet = k.same_sheet; covers = k.same_cells; generation = k.same_generation; known = k.known; told = k.told } in
+    let step = step_kept i.running.memo a.same (c.retire-key.ensures ∙ a.key) (rw c.in-Done.is at a.done) keeps k.one_place k.gives_up k.same_capacity k.same_latest a.counts (rw c.in-Done.is at a.evaluations) (omega (arith, a.restarts)) in
+    going_stops i step c.from_residual-in_err-keep-in-Some.result c.from_residual-in_err-keep-in-Some.ensures.0
+
+pub returns-in_err-keep-in-None-clause-spends : goal.returns-in_err-keep-in-None-clause-spends
+returns-in_err-keep-in-None-clause-spends g c =
+    let a = c.in_ok-next.ensures in
+    let k = c.in_err-keep-in-None.ensures in
+    let i = c.frames.invariant in
+    let keeps : Keeps (g.M.Memo.state c.advance.new.memo) (g.M.Memo.state c.keep.new.self) c.retire-root.result c.in-Done.value = record { sheet = k.same_sheet; covers = k.same_cells; generation = k.same_generation; known = k.known; told = k.told } in
+    let step = step_kept i.running.memo a.same (c.retire-root.ensures ∙ a.key) (rw c.in-Done.is at a.done) keeps k.one_place k.gives_up k.same_capacity k.same_latest a.counts (rw c.in-Done.is at a.evaluations) (omega (arith, a.restarts)) in
+    going_stops i step c.from_residual-in_err-keep-in-None.result c.from_residual-in_err-keep-in-None.ensures.0
+
+pub returns-in-None-clause-spends : goal.returns-in-None-clause-spends
+returns-in-None-clause-spends g c =
+    let a = c.in_ok-next.ensures in
+    let k = c.in_ok-keep-in-None.ensures in
+    let i = c.frames.invariant in
+    let key = c.retire-root.ensures ∙ a.key in
+    let counted = rw c.in-Done.is at a.evaluations in
+    let keeps : Keeps (g.M.Memo.state c.advance.new.memo) (g.M.Memo.state c.keep.new.self) c.retire-root.result c.in-Done.value = record { sheet = k.same_sheet; covers = k.same_cells; generation = k.same_generation; known = k.known; told = k.told } in
+    let takes : Takes (g.M.Memo.state c.advance.new.memo) (g.M.Memo.state c.keep.new.self) c.retire-root.result = record { kept = k.kept; room = k.room; places = k.one_place } in
+    let step = step_kept i.running.memo a.same key (rw c.in-Done.is at a.done) keeps k.one_place k.gives_up k.same_capacity k.same_latest a.counts counted (omega (arith, a.restarts)) in
+    going_ends i step a.same (no_frames c.frames.stack.items c.frames.stack.len c.frames.stack.ok.0 c.in-None.ensures.cases.0) key k.found takes counted (rw c.in-Done.is at a.rests)

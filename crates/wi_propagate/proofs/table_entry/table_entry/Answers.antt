@@ -5,6 +5,7 @@ use Rattle.wi_graph.specs.Circular.{circular}
 use Rattle.wi_sheet.specs.Demand.{wants}
 use Rattle.wi_sheet.proofs.Counting.{never_fall-same}
 use Rattle.wi_sheet.proofs.TableEntries.{test_of_cells, entry_circular}
+use Rattle.wi_engine.proofs.Spent.{spends_evaluations, spends_restarts}
 use Rattle.wi_propagate.proofs.Showing.{grown_count, put_alone, nothing_found}
 use Rattle.wi_propagate.proofs.ShowingEntries.{replacing_readable, formula_cell_readable, entry_value, entry_at_most, entry_evaluations}
 use Rattle.wi_propagate.proofs.table_entry.table_entry.Goals as goal
@@ -38,7 +39,7 @@ returns-clause-evaluations c =
     let clear : list_any (circular s) c.deref.result.now ≡ false = sym (rw c.in-Some.is at c.in_ok-order.ensures.circular) in
     let same = put_alone c.in_ok-world.world c.new.result c.args.put.now c.requires c.new.ensures c.in_ok-world.ensures.list in
     entry_evaluations s c.args.formula_cell c.args.pairs.now c.deref.result.now (c.deref.ensures.value ∙ c.in_ok-cells.ensures) clear c.in_ok-world.world c.args.put.now c.args.meter.now.evaluations c.open_entry.new.meter.evaluations same
-    (nothing_found s c.in-Some.order.items c.new-memo.result _ (λ k. 1) c.args.meter.now.evaluations c.open_entry.new.meter.evaluations c.new-memo.ensures.value c.open_entry.ensures.evaluations)
+    (nothing_found s c.in-Some.order.items c.new-memo.result _ (λ k. 1) c.args.meter.now.evaluations c.open_entry.new.meter.evaluations c.new-memo.ensures.value (spends_evaluations c.open_entry.ensures.spends))
 
 pub returns-clause-restarts : goal.returns-clause-restarts
 returns-clause-restarts c =
@@ -46,7 +47,7 @@ returns-clause-restarts c =
     let clear : list_any (circular s) c.deref.result.now ≡ false = sym (rw c.in-Some.is at c.in_ok-order.ensures.circular) in
     let same = put_alone c.in_ok-world.world c.new.result c.args.put.now c.requires c.new.ensures c.in_ok-world.ensures.list in
     entry_at_most s c.args.formula_cell c.args.pairs.now c.deref.result.now (c.deref.ensures.value ∙ c.in_ok-cells.ensures) clear c.in_ok-world.world c.args.put.now (wants s) c.args.meter.now.restarts c.open_entry.new.meter.restarts same
-    (nothing_found s c.in-Some.order.items c.new-memo.result _ (wants s) c.args.meter.now.restarts c.open_entry.new.meter.restarts c.new-memo.ensures.value c.open_entry.ensures.restarts)
+    (nothing_found s c.in-Some.order.items c.new-memo.result _ (wants s) c.args.meter.now.restarts c.open_entry.new.meter.restarts c.new-memo.ensures.value (spends_restarts c.open_entry.ensures.spends))
 
 pub returns-in_err-cells-clause-evaluations : goal.returns-in_err-cells-clause-evaluations
 returns-in_err-cells-clause-evaluations c = grown_count c.args.meter.now.evaluations _
@@ -98,4 +99,4 @@ open_entry-requires-clause-formula_cell c =
     formula_cell_readable s c.args.formula_cell c.args.pairs.now c.deref.result.now (c.deref.ensures.value ∙ c.in_ok-cells.ensures) clear c.in-Some.order.items c.new-memo.result c.new-memo.ensures.value roots
 
 pub returns-clause-counts : goal.returns-clause-counts
-returns-clause-counts c = c.open_entry.ensures.counts
+returns-clause-counts c = c.open_entry.ensures.spends.counts

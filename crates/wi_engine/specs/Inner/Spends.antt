@@ -1,0 +1,57 @@
+-- What a question spends, and what it leaves: one ledger over what was found, and one over what is kept.
+use Rattle.std.specs.Prelude.{◌≡◌, ◌+◌, ◌≤◌, ℕ, Bool, true, false, List}
+use Rattle.wi_values.specs.declared.replacement.Replacement.{Replacement}
+use Rattle.wi_parser.specs.Sheet.{Sheet}
+use Rattle.wi_functions.specs.Counts.{Counts}
+use Rattle.wi_cache.specs.declared.key.Key.{Key}
+use Rattle.wi_sheet.specs.Demand.{Case, wants}
+use Rattle.wi_sheet.specs.Settled.{RestsOnKept}
+use Rattle.wi_sheet.specs.Inner.Spending.{IsClosed, NeverFall, left}
+use Rattle.wi_engine.specs.Inner.MemoState.{MemoState, IsMemoOf}
+use Rattle.wi_engine.specs.Inner.Saving.{not_kept, KeepsFound, WhereRoom, TakesNoMore, GivesUpWhenFull}
+
+-- which values a table has: those that were found, or those that are kept
+abbrev pub Table : Type 0
+Table = ℕ → List Replacement → Bool
+
+-- what the cases cost that are not in a table: an evaluation each, and the restarts for which their formulas may ask
+abbrev pub cost : Sheet → Table → List Case → Counts
+cost s t ks = record { evaluations = left (λ k. 1) t ks; restarts = left (wants s) t ks }
+
+abbrev pub plus : Counts → Counts → Counts
+plus a b = record { evaluations = a.evaluations + b.evaluations; restarts = a.restarts + b.restarts }
+
+-- Of some cases no more was spent than all cost that were not in the table, and where it was done, no more than those cost
+-- that came into it.
+pub record SpentOn (s : Sheet) (old new : Table) (before after : Counts) (done : Bool) (ks : List Case) : Type 0 where
+  pub within : NeverFall after (plus before (cost s old ks))
+  pub paid : done ≡ true → NeverFall (plus after (cost s new ks)) (plus before (cost s old ks))
+
+-- As many values came to be kept as were evaluated. There is still room for the other cases, nothing was given up, of
+-- whatever generation, and each that came rests on kept ones.
+pub record Saved (s : Sheet) (old new : MemoState) (before after : Counts) (ks : List Case) : Type 0 where
+  pub added : after.evaluations + new.room ≤ before.evaluations + old.room
+  pub room : not_kept new ks ≤ new.room
+  pub stays : (c : ℕ) (w : List Replacement) → old.kept c w ≡ true → new.kept c w ≡ true
+  pub stand : (k : Key) → old.stands k ≡ true → new.stands k ≡ true
+  pub found : KeepsFound new
+  pub rests : (c : ℕ) (w : List Replacement) → new.kept c w ≡ true → old.kept c w ≡ false → RestsOnKept s new.kept (c, w)
+
+-- what a question leaves alone
+pub record IsSameBeside (old new : MemoState) : Type 0 where
+  pub covers : new.covers ≡ old.covers
+  pub generation : new.generation ≡ old.generation
+  pub capacity : new.capacity ≡ old.capacity
+  pub latest : new.latest ≡ old.latest
+
+-- What is so after a question, or a part of one, also where memory ran out, and where it was done: of each closed list of
+-- cases that has what it is to have.
+pub record Spends (s : Sheet) (Has : List Case → Type 0) (old new : MemoState) (before after : Counts) (done : Bool) : Type 0 where
+  pub right : IsMemoOf s new
+  pub same : IsSameBeside old new
+  pub counts : NeverFall before after
+  pub places : TakesNoMore old new before.evaluations after.evaluations
+  pub gives_up : GivesUpWhenFull old new
+  pub on_found : (ks : List Case) → IsClosed s ks → Has ks → SpentOn s old.found new.found before after done ks
+  pub on_kept : WhereRoom s Has old (λ ks. SpentOn s old.kept new.kept before after done ks)
+  pub saved : done ≡ true → WhereRoom s Has old (λ ks. Saved s old new before after ks)

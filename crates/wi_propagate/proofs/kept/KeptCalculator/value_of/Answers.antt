@@ -1,0 +1,128 @@
+use Rattle.std.proofs.Common.{is_ok, ◌≡◌, ◌∙◌, IfOk, OnOk, false, true, refl, ap, sym, subst}
+use Rattle.std.proofs.lemmas.Result.{IfOk-weaker}
+use Rattle.wi_parser.specs.Sheet.{Sheet}
+use Rattle.wi_graph.specs.Circular.{circular}
+use Rattle.wi_sheet.specs.Shown.{shown}
+use Rattle.wi_sheet.specs.Demand.{case_of, reaching, demanded}
+use Rattle.wi_sheet.specs.Inner.Spending.{HasCase}
+use Rattle.wi_sheet.proofs.Cases.{different_closed}
+use Rattle.wi_sheet.proofs.Steps.{shown_circular}
+use Rattle.wi_propagate.specs.KeptSheet.{KeptSheet, IsAtHand, is_kept}
+use Rattle.wi_propagate.specs.Inner.Cones.{AreAllCones}
+use Rattle.wi_propagate.specs.Inner.Keeping.{kept_sheet, begun}
+use Rattle.wi_propagate.proofs.Showing.{shown_value}
+use Rattle.wi_propagate.proofs.Questions.{begun_is, begun_right, begun_within, begun_one_each, may_be_read, right_then, asked_kept, at_hand_is, has_case}
+use Rattle.wi_propagate.specs.Inner.Owes.{Owes}
+use Rattle.wi_propagate.proofs.Owing.{owes_none, owes_spent}
+use Rattle.wi_propagate.proofs.kept.KeptCalculator.value_of.Goals as goal
+
+pub returns-then-is_circular-clause-value : goal.returns-then-is_circular-clause-value
+returns-then-is_circular-clause-value c =
+    let is : circular c.self.inside.store.sheet c.args.at ≡ true = sym (c.is_circular.ensures c.self.inside.store.sheet c.self.invariant.1) ∙ c.if-is_circular.true in
+    sym (shown_circular c.args.self.now.stored.sheet c.args.put.now c.args.at (ap (λ (k : KeptSheet). circular k.stored.sheet c.args.at) (sym c.self.view_is) ∙ is))
+
+pub new-memo-requires-clause-right : goal.new-memo-requires-clause-right
+new-memo-requires-clause-right c =
+    let i = c.self.inside in
+    begun_right i.store i.generations.entries i.kept i.meter _ c.in-Some-take.ensures.value c.self.invariant.3
+
+pub value_under-result-requires-clause-read : goal.value_under-result-requires-clause-read
+value_under-result-requires-clause-read c =
+    let i = c.self.inside in
+    let k : KeptSheet = kept_sheet i.store i.generations.entries i.kept i.meter in
+    let o : circular i.store.sheet c.args.at ≡ false = sym (c.is_circular.ensures i.store.sheet c.self.invariant.1) ∙ c.if-is_circular.false in
+    let q : c.new-memo.result ≡ begun k = begun_is i.store i.generations.entries i.kept i.meter _ c.new-memo.result c.new-memo.ensures.value c.in-Some-take.ensures.value in
+    may_be_read k c.new-memo.result q c.args.at o
+
+pub invariant_of-self : goal.invariant_of-self
+invariant_of-self c =
+    let i = c.self.inside in
+    let k : KeptSheet = kept_sheet i.store i.generations.entries i.kept i.meter in
+    let q : c.new-memo.result ≡ begun k = begun_is i.store i.generations.entries i.kept i.meter _ c.new-memo.result c.new-memo.ensures.value c.in-Some-take.ensures.value in
+    let e = c.value_under-result.ensures in
+    let h = c.self.invariant in (
+      refl,
+      h.1,
+      h.2,
+      right_then k c.new-memo.result c.value_under-result.new.memo c.into_parts-kept.result.0 c.value_under-result.new.meter q e.spends.same.generation e.spends.same.capacity c.into_parts-kept.ensures.kept e.spends.right.sheet e.spends.same.latest h.3 c.into_parts-kept.ensures.right,
+      subst (λ (x : Sheet). AreAllCones x c.into_parts-kept.result.1) e.spends.right.sheet c.into_parts-kept.ensures.cones,
+    )
+
+pub returns-clause-value : goal.returns-clause-value
+returns-clause-value c =
+    let i = c.self.inside in
+    let k : KeptSheet = kept_sheet i.store i.generations.entries i.kept i.meter in
+    let o : circular i.store.sheet c.args.at ≡ false = sym (c.is_circular.ensures i.store.sheet c.self.invariant.1) ∙ c.if-is_circular.false in
+    let same = c.in_ok-world.ensures in
+    subst (λ (x : KeptSheet). IfOk c.value_under-result.result (λ v. v ≡ shown x.stored.sheet c.args.put.now c.args.at)) c.self.view_is
+    (IfOk-weaker c.value_under-result.result _ _ (λ v e. shown_value i.store.sheet c.in_ok-world.world c.args.put.now c.args.at v o same e) c.value_under-result.ensures.value)
+
+pub returns-clause-easy : goal.returns-clause-easy
+returns-clause-easy c =
+    let i = c.self.inside in
+    let k : KeptSheet = kept_sheet i.store i.generations.entries i.kept i.meter in
+    let o : circular i.store.sheet c.args.at ≡ false = sym (c.is_circular.ensures i.store.sheet c.self.invariant.1) ∙ c.if-is_circular.false in
+    let q : c.new-memo.result ≡ begun k = begun_is i.store i.generations.entries i.kept i.meter _ c.new-memo.result c.new-memo.ensures.value c.in-Some-take.ensures.value in
+    let same = c.in_ok-world.ensures in
+    subst (λ (x : KeptSheet). IsAtHand x c.args.put.now c.args.at → c.value_under-result.new.meter ≡ x.counts) c.self.view_is
+    (λ h. c.value_under-result.ensures.uncounted (at_hand_is k c.new-memo.result c.in_ok-world.world c.args.put.now c.args.at q o same h))
+
+pub returns-clause-kept : goal.returns-clause-kept
+returns-clause-kept c =
+    let i = c.self.inside in
+    let k : KeptSheet = kept_sheet i.store i.generations.entries i.kept i.meter in
+    let o : circular i.store.sheet c.args.at ≡ false = sym (c.is_circular.ensures i.store.sheet c.self.invariant.1) ∙ c.if-is_circular.false in
+    let q : c.new-memo.result ≡ begun k = begun_is i.store i.generations.entries i.kept i.meter _ c.new-memo.result c.new-memo.ensures.value c.in-Some-take.ensures.value in
+    let same = c.in_ok-world.ensures in
+    let new : KeptSheet = record { stored = i.store; generations = i.generations.entries; values = c.into_parts-kept.result.0; counts = c.value_under-result.new.meter } in
+    let e = c.value_under-result.ensures in
+    subst (λ (x : KeptSheet). OnOk c.value_under-result.result ((IsAtHand x c.args.put.now c.args.at → ⊥) → is_kept new c.args.at (reaching x.stored.sheet c.args.at c.args.put.now) ≡ true)) c.self.view_is
+    (IfOk-weaker c.value_under-result.result _ _ (λ v h. asked_kept k c.new-memo.result c.in_ok-world.world c.args.put.now c.args.at q o same c.value_under-result.new.memo c.into_parts-kept.result.0 c.value_under-result.new.meter
+    e.spends.same.generation e.spends.same.capacity c.into_parts-kept.ensures.kept c.self.invariant.3.room h) e.kept)
+
+pub new-memo-requires-clause-cones : goal.new-memo-requires-clause-cones
+new-memo-requires-clause-cones c = c.take_cones-cones.ensures c.self.inside.store.sheet c.self.invariant.4
+
+pub returns-then-is_circular-clause-easy : goal.returns-then-is_circular-clause-easy
+returns-then-is_circular-clause-easy c = λ h. refl
+
+pub returns-in_err-value-clause-easy : goal.returns-in_err-value-clause-easy
+returns-in_err-value-clause-easy c = λ h. refl
+
+pub returns-in-Some-clause-easy : goal.returns-in-Some-clause-easy
+returns-in-Some-clause-easy c = λ h. refl
+
+pub returns-in_err-world-clause-easy : goal.returns-in_err-world-clause-easy
+returns-in_err-world-clause-easy c = λ h. refl
+
+pub value_under-result-requires-clause-memo : goal.value_under-result-requires-clause-memo
+value_under-result-requires-clause-memo c = c.new-memo.ensures.memo
+
+pub returns-then-is_circular-clause-owes : goal.returns-then-is_circular-clause-owes
+returns-then-is_circular-clause-owes c = owes_none c.args.self.now _ _
+
+pub returns-in_err-value-clause-owes : goal.returns-in_err-value-clause-owes
+returns-in_err-value-clause-owes c = owes_none c.args.self.now _ _
+
+pub returns-in-Some-clause-owes : goal.returns-in-Some-clause-owes
+returns-in-Some-clause-owes c = owes_none c.args.self.now _ _
+
+pub returns-in_err-world-clause-owes : goal.returns-in_err-world-clause-owes
+returns-in_err-world-clause-owes c = owes_none c.args.self.now _ _
+
+pub returns-clause-owes : goal.returns-clause-owes
+returns-clause-owes c =
+    let i = c.self.inside in
+    let k : KeptSheet = kept_sheet i.store i.generations.entries i.kept i.meter in
+    let o : circular i.store.sheet c.args.at ≡ false = sym (c.is_circular.ensures i.store.sheet c.self.invariant.1) ∙ c.if-is_circular.false in
+    let q : c.new-memo.result ≡ begun k = begun_is i.store i.generations.entries i.kept i.meter _ c.new-memo.result c.new-memo.ensures.value c.in-Some-take.ensures.value in
+    let same = c.in_ok-world.ensures in
+    let cases = demanded i.store.sheet c.args.put.now c.args.at in
+    let has = has_case k c.new-memo.result c.in_ok-world.world c.args.put.now c.args.at q o same in
+    let closed = different_closed i.store.sheet (case_of i.store.sheet c.args.put.now c.args.at) in
+    let Has = HasCase i.store.sheet c.in_ok-world.world c.args.at in
+    let new : KeptSheet = record { stored = i.store; generations = i.generations.entries; values = c.into_parts-kept.result.0; counts = c.value_under-result.new.meter } in
+    let began = begun_within i.kept _ c.in-Some-take.ensures.value c.new-memo.ensures.within in
+    let one_each = begun_one_each i.kept _ c.in-Some-take.ensures.value c.new-memo.ensures.one_each in
+    subst (λ (x : KeptSheet). Owes x new (demanded x.stored.sheet c.args.put.now c.args.at) (is_ok c.value_under-result.result)) c.self.view_is
+    (owes_spent k c.new-memo.result c.value_under-result.new.memo c.into_parts-kept.result.0 c.value_under-result.new.meter q c.into_parts-kept.ensures.kept began one_each c.into_parts-kept.ensures.within Has cases closed has _ c.value_under-result.ensures.spends)

@@ -1,0 +1,24 @@
+-- What a question over kept values owes.
+use Rattle.std.specs.Prelude.{◌≡◌, Bool, true, List, length, sum_by}
+use Rattle.wi_parser.specs.Sheet.{Sheet}
+use Rattle.wi_functions.specs.Counts.{Counts}
+use Rattle.wi_sheet.specs.Demand.{Case, wants}
+use Rattle.wi_sheet.specs.Inner.Spending.{NeverFall}
+use Rattle.wi_engine.specs.Inner.Spends.{plus}
+use Rattle.wi_propagate.specs.KeptSheet.{KeptSheet, unkept, HasRoomFor, KeepsAll, KeepsNoMore, KeepsWhileRoom}
+
+-- what these cases cost
+abbrev pub price : Sheet → List Case → Counts
+price s ks = record { evaluations = length ks; restarts = sum_by (wants s) ks }
+
+-- of a question that demands these cases, also where memory ran out, and where it was done
+pub record Owes (old new : KeptSheet) (cases : List Case) (done : Bool) : Type 0 where
+  pub same : new.stored ≡ old.stored
+  pub same_generations : new.generations ≡ old.generations
+  pub same_room : new.values.capacity ≡ old.values.capacity
+  pub counts : NeverFall old.counts new.counts
+  pub demanded : NeverFall new.counts (plus old.counts (price old.stored.sheet cases))
+  pub not_kept : HasRoomFor old cases → NeverFall new.counts (plus old.counts (price old.stored.sheet (unkept old cases)))
+  pub no_more : KeepsNoMore old new
+  pub while_room : KeepsWhileRoom old new
+  pub keeps : done ≡ true → HasRoomFor old cases → KeepsAll old new
