@@ -1,4 +1,5 @@
 pub mod InOrder
+pub mod Kept
 pub mod Passed
 pub mod Saved
 pub mod Spent

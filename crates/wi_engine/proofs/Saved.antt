@@ -6,13 +6,12 @@ use Rattle.std.proofs.lemmas.List.Elements.{All-weaker}
 use Rattle.std.proofs.lemmas.Map.Keys.{IsDistinct-cons}
 use Rattle.wi_values.specs.declared.replacement.Replacement.{Replacement}
 use Rattle.wi_parser.specs.Sheet.{Sheet}
-use Rattle.wi_functions.specs.Counts.{Counts}
 use Rattle.wi_cache.specs.declared.key.Key.{Key}
 use Rattle.wi_cache.specs.Entries.{same_key}
 use Rattle.wi_sheet.specs.Demand.{Case, reaching, with_what_if}
 use Rattle.wi_sheet.specs.Settled.{IsSettled, IsWhatIfSettled, RestsOnKept}
 use Rattle.wi_engine.specs.Inner.MemoState.{MemoState}
-use Rattle.wi_engine.specs.Inner.Saving.{WhereRoom, Saves, SavesAll, TakesPlaces, TakesNoMore, GivesUpWhenFull}
+use Rattle.wi_engine.specs.Inner.Saving.{TakesPlaces, TakesNoMore, GivesUpWhenFull}
 
 -- ---- with more that is kept, what was settled is, and what rested on kept values does
 

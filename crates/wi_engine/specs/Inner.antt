@@ -3,6 +3,7 @@ pub mod Attempt
 pub mod Courses
 pub mod Findings
 pub mod Frames
+pub mod Keeps
 pub mod MemoState
 pub mod Rank
 pub mod ReadCells

@@ -1,6 +1,6 @@
-//! Recalculation: values by a stack of frames.
+//! What a frame does, from one value to the next.
 
-ghost use Rattle.std.specs.Prelude.{◌≡◌, ◌==◌, ◌&&◌, ◌+◌, ◌≤◌, ◌∷◌, [], ◌⊎◌, ℕ, Bool, true, false, None, Ok, List, All, Contains, map, IfOk, IfSome, IfNone, OnOk, OnErr, is_ok};
+ghost use Rattle.std.specs.Prelude.{◌≡◌, ◌==◌, ◌&&◌, ◌+◌, ◌≤◌, ◌∷◌, [], ◌⊎◌, ℕ, Bool, true, false, None, Ok, List, All, map, IfOk, IfSome, IfNone, OnOk, OnErr};
 ghost use Rattle.std.specs.List.{list_any};
 ghost use Rattle.wi_values.specs.declared.replacement.Replacement.{Replacement as Replacements};
 ghost use Rattle.wi_values.specs.Replacements.{IsInOrder, same_replacements};
@@ -12,13 +12,12 @@ ghost use Rattle.wi_graph.specs.Reach.{is_one_of};
 ghost use Rattle.wi_sheet.specs.CellValue as show;
 ghost use Rattle.wi_sheet.specs.Demand.{with_what_if, reaching};
 ghost use Rattle.wi_sheet.specs.Settled.{IsSettled, RestsOnKept};
-ghost use Rattle.wi_sheet.specs.Inner.Spending.{HasCase, NeverFall};
+ghost use Rattle.wi_sheet.specs.Inner.Spending.{NeverFall};
 ghost use Rattle.wi_engine.specs.Inner.MemoState.{MemoState, IsMemoOf};
 ghost use Rattle.wi_engine.specs.Inner.Attempt.{AsksAt, IsLacking, lacks_cell};
-ghost use Rattle.wi_engine.specs.Inner.Frames.{MayBeRead, IsToValue, StandsAt, IsUnvalued, AreReadHere, Awaits, IsFrame, IsNext, case_at, spare, waits, waits_at};
+ghost use Rattle.wi_engine.specs.Inner.Frames.{MayBeRead, StandsAt, IsUnvalued, AreReadHere, Awaits, IsFrame, IsNext, case_at, spare, waits, waits_at};
 ghost use Rattle.wi_engine.specs.Inner.SettledFrames.{IsFrameSettled};
-ghost use Rattle.wi_engine.specs.Inner.Saving.{KeepsFound, WhereRoom, NeedsNoEvaluation, IsValuedAnew};
-ghost use Rattle.wi_engine.specs.Inner.Spends.{Spends};
+ghost use Rattle.wi_engine.specs.Inner.Saving.{KeepsFound};
 ghost use Rattle.wi_engine.specs.Inner.Steps.{IfReplaced, IfInputUnknown, IfValued, IfNeedsValue, evaluations_after};
 ghost use Rattle.wi_engine.specs.declared.frame.Waiting.TheVariants as waiting;
 
@@ -29,13 +28,12 @@ use crate::findings::FoundWhatIf;
 use crate::frame::{Advance, Asked, Frame, Inputs, Unvalued, Waiting};
 use crate::lacking::is_lacking;
 use crate::memo::Memo;
-use crate::pool::Pool;
 use crate::together::together;
 use std::alloc::{AllocError, Global};
 use std::mem;
 use wi_cache::Key;
 use wi_functions::{Meter, Outcome, Want};
-use wi_parser::{Formula, Pair};
+use wi_parser::Pair;
 use wi_store::Store;
 use wi_values::{Address, Replacement, Value};
 use wi_worlds::World;
@@ -220,7 +218,7 @@ fn wait_for(alloc: Global, store: &Store, frame: &mut Frame, want: Want) -> Resu
 }
 
 /// Goes on with a frame until its value is there or another has to be found first.
-fn advance<'a, M: Memo>(
+pub fn advance<'a, M: Memo>(
     alloc: Global,
     store: &'a Store,
     frame: &mut Frame<'a>,
@@ -285,7 +283,7 @@ fn wait_for_others(store: &Store, frame: &mut Frame, others: Vec<Address>)
 
 /// Takes in the value that was found for a key, where a frame waits for it, so that it isn't looked up. The frame then waits for
 /// the next cell that it lacks.
-fn take_in(
+pub fn take_in(
     alloc: Global,
     store: &Store,
     frame: &mut Frame,
@@ -310,92 +308,4 @@ fn take_in(
     frame.found.add_cell(at, shown)?;
     wait_for_others(store, frame, others);
     Ok(())
-}
-
-/// The value of a formula under the replacements of its key, found by a stack of frames. No value is remembered in the
-/// place of another, and none twice.
-fn run<M: Memo>(
-    pool: &mut Pool,
-    store: &Store,
-    key: Key,
-    formula: &Formula,
-    memo: &mut M,
-    meter: &mut Meter,
-) -> Result<Value, AllocError>
-    requires memo { IsMemoOf store.now.sheet (M.state memo.old) }
-    requires key { IsToValue store.now.sheet (M.state memo.old) key }
-    requires formula { StandsAt store.now.sheet key formula.now }
-    requires unfound { (M.state memo.old).found key.cell key.world ≡ false }
-    requires unkept { (M.state memo.old).kept key.cell key.world ≡ false }
-    ensures value { IfOk result (λ v. v ≡ show.cell_value (put_all store.now.sheet key.world) key.cell) }
-    ensures spends { Spends store.now.sheet (λ ks. Contains ks (case_at key))
-        (M.state memo.old) (M.state memo.new) meter.old meter.new (is_ok result) }
-    ensures kept { OnOk result (1 ≤ (M.state memo.old).capacity
-        → (M.state memo.new).kept key.cell key.world ≡ true) }
-    ensures settled { OnOk result (WhereRoom store.now.sheet (λ ks. Contains ks (case_at key))
-        (M.state memo.old) (λ _. (M.state memo.new).kept key.cell key.world ≡ true)) }
-{
-    let alloc = pool.allocator();
-    let mut stack = Vec::new(alloc);
-    let mut frame = Frame::new(key, formula, pool.take());
-    'frames: loop {
-        match advance(alloc, store, &mut frame, memo, meter)? {
-            Advance::Needs(next) => {
-                stack.push(frame)?;
-                frame = Frame::new(next.key, next.formula, pool.take());
-            }
-            Advance::Done(value) => match stack.pop() {
-                None => {
-                    let shown = value.copy(alloc)?;
-                    let root = frame.retire(pool);
-                    memo.keep(root, value)?;
-                    return Ok(shown);
-                }
-                Some(below) => {
-                    let key = frame.retire(pool);
-                    frame = below;
-                    take_in(alloc, store, &mut frame, &key, &value)?;
-                    memo.keep(key, value)?;
-                }
-            },
-        }
-    }
-}
-
-/// The value of a cell under replacements, with what is remembered of others, and of it. A formula is valued where no
-/// value is remembered for its key, and each only once, however many rest on it. No formula calls for another on the
-/// machine's stack: those that wait stand in a list, which grows as the references lead on. Each takes its arrays
-/// from a pool, into which they go when its value is there.
-pub fn value_under<M: Memo>(
-    pool: &mut Pool,
-    store: &Store,
-    world: &World,
-    at: Address,
-    memo: &mut M,
-    meter: &mut Meter,
-) -> Result<Value, AllocError>
-    requires memo { IsMemoOf store.now.sheet (M.state memo.old) }
-    requires read { MayBeRead store.now.sheet (M.state memo.old) at }
-    ensures value { IfOk result (λ v. v ≡ show.cell_value (put_all store.now.sheet world.now) at) }
-
-    // What is remembered then is right, and no more is counted than the cases cost whose values were not, also
-    // where memory runs out.
-    ensures spends { Spends store.now.sheet (HasCase store.now.sheet world.now at)
-        (M.state memo.old) (M.state memo.new) meter.old meter.new (is_ok result) }
-
-    // A value that is remembered, and one that no formula gives, is counted for nothing.
-    ensures uncounted { NeedsNoEvaluation store.now.sheet (M.state memo.old) world.now at
-        → meter.new ≡ meter.old }
-
-    // What is kept for longer, and where there is room for all that is found.
-    ensures kept { OnOk result (IsValuedAnew store.now.sheet (M.state memo.old) world.now at
-        → 1 ≤ (M.state memo.old).capacity
-        → (M.state memo.new).kept at (reaching store.now.sheet at world.now) ≡ true) }
-    ensures settled { OnOk result (WhereRoom store.now.sheet (HasCase store.now.sheet world.now at)
-        (M.state memo.old) (λ _. IsSettled store.now.sheet (M.state memo.new).kept world.now at)) }
-{
-    match value_now(pool.allocator(), store, world, at, memo)? {
-        Asked::Known(value) => Ok(value),
-        Asked::Unknown(cell) => run(pool, store, cell.key, cell.formula, memo, meter),
-    }
 }

@@ -15,14 +15,15 @@ mod lookup;
 mod memo;
 mod occupied;
 mod pool;
+mod question;
 mod remembered;
 mod rising;
 mod seen;
 mod together;
 mod walk;
 
-pub use engine::value_under;
 pub use memo::Memo;
 pub use pool::Pool;
+pub use question::Question;
 pub use remembered::Remembered;
 pub use walk::{reached, reached_from};

@@ -1,6 +1,6 @@
 //! A calculator that keeps what it has calculated.
 
-ghost use Rattle.std.specs.Prelude.{◌≡◌, ◌≤◌, ◌+◌, ◌||◌, [], ℕ, Some, None, true, false, if◌then◌else◌, List, length, sum_by, All, IfSome, IfOk, OnOk, OnErr, is_ok};
+ghost use Rattle.std.specs.Prelude.{◌≡◌, ◌≤◌, ◌+◌, ◌||◌, [], ℕ, Some, None, true, false, if◌then◌else◌, length, sum_by, All, IfSome, IfOk, OnOk, OnErr, is_ok};
 ghost use Rattle.std.specs.List.{list_any};
 ghost use Rattle.std.specs.List.Sorted.{IsStrictlyIncreasing};
 ghost use Rattle.std.specs.Map.{keys_of};
@@ -31,8 +31,9 @@ use crate::table_entry::open_entry;
 use std::alloc::{AllocError, Global};
 use std::collections::BTreeMap;
 use std::marker::Model;
+use std::mem;
 use wi_cache::Kept;
-use wi_engine::{Pool, value_under};
+use wi_engine::{Pool, Question};
 use wi_functions::Meter;
 use wi_graph::Graph;
 use wi_parser::Content;
@@ -171,7 +172,7 @@ impl KeptCalculator {
         };
         self.widest = self.widest.max(put.len());
         let cones = take_cones(self.alloc, self.widest, &mut self.cones);
-        let mut memo = Keeping::new(
+        let memo = Keeping::new(
             self.alloc,
             &self.store,
             &self.graph,
@@ -179,15 +180,15 @@ impl KeptCalculator {
             cones,
             kept,
         );
-        let result = value_under(
-            &mut self.pool,
-            &self.store,
-            &world,
-            at,
-            &mut memo,
-            &mut self.meter,
-        );
-        let (kept, cones) = memo.into_parts();
+        let mut question = Question {
+            memo,
+            meter: self.meter,
+            pool: mem::replace(&mut self.pool, Pool::new(self.alloc)),
+        };
+        let result = question.value(&self.store, &world, at);
+        self.meter = question.meter;
+        self.pool = question.pool;
+        let (kept, cones) = question.memo.into_parts();
         self.kept = Some(kept);
         self.cones = cones;
         self.worlds.keep(world);
@@ -221,7 +222,7 @@ impl KeptCalculator {
         };
         self.widest = self.widest.max(put.len());
         let cones = take_cones(self.alloc, self.widest, &mut self.cones);
-        let mut memo = Keeping::new(
+        let memo = Keeping::new(
             self.alloc,
             &self.store,
             &self.graph,
@@ -229,16 +230,15 @@ impl KeptCalculator {
             cones,
             kept,
         );
-        let result = open_entry(
-            &mut self.pool,
-            &self.store,
-            &world,
-            formula_cell,
-            pairs,
-            &mut memo,
-            &mut self.meter,
-        );
-        let (kept, cones) = memo.into_parts();
+        let mut question = Question {
+            memo,
+            meter: self.meter,
+            pool: mem::replace(&mut self.pool, Pool::new(self.alloc)),
+        };
+        let result = open_entry(&mut question, &self.store, &world, formula_cell, pairs);
+        self.meter = question.meter;
+        self.pool = question.pool;
+        let (kept, cones) = question.memo.into_parts();
         self.kept = Some(kept);
         self.cones = cones;
         self.worlds.keep(world);

@@ -16,7 +16,7 @@ ghost use Rattle.wi_engine.specs.Inner.Saving.{WhereRoom};
 ghost use Rattle.wi_engine.specs.Inner.Spends.{Spends};
 
 use std::alloc::{AllocError, Global};
-use wi_engine::{Memo, Pool, Remembered, reached_from, value_under};
+use wi_engine::{Memo, Pool, Question, Remembered, reached_from};
 use wi_functions::{Meter, zero_for_empty};
 use wi_store::Store;
 use wi_values::{Address, ErrorKind, Replacement, Value};
@@ -51,17 +51,15 @@ pub fn table_entry(
         return Ok(Value::Fault(ErrorKind::Circular));
     };
     let world = World::new(alloc).with(put)?;
-    let mut memo = Remembered::new(alloc, store, order);
-    let mut pool = Pool::new(alloc);
-    open_entry(
-        &mut pool,
-        store,
-        &world,
-        formula_cell,
-        pairs,
-        &mut memo,
-        meter,
-    )
+    let memo = Remembered::new(alloc, store, order);
+    let mut question = Question {
+        memo,
+        meter: *meter,
+        pool: Pool::new(alloc),
+    };
+    let result = open_entry(&mut question, store, &world, formula_cell, pairs);
+    *meter = question.meter;
+    result
 }
 
 /// The cells whose values are asked for by an entry of a data table: the formula cell, and the replacement cells.
@@ -80,57 +78,59 @@ fn valued_cells(
 }
 
 /// What an entry of a data table shows where none of the cells is circular whose values are asked for.
-pub fn open_entry<M: Memo>(
-    pool: &mut Pool,
+pub fn open_entry<M: Memo + Drop>(
+    question: &mut Question<M>,
     store: &Store,
     world: &World,
     formula_cell: Address,
     pairs: &[(Address, Address)],
-    memo: &mut M,
-    meter: &mut Meter,
 ) -> Result<Value, AllocError>
-    requires memo { IsMemoOf store.now.sheet (M.state memo.old) }
-    requires formula_cell { MayBeRead store.now.sheet (M.state memo.old) formula_cell }
-    requires replacing { All (λ x. MayBeRead store.now.sheet (M.state memo.old) x.1) pairs.now }
+    requires memo { IsMemoOf store.now.sheet (M.state question.old.memo) }
+    requires formula_cell { MayBeRead store.now.sheet (M.state question.old.memo) formula_cell }
+    requires replacing { All (λ x. MayBeRead store.now.sheet (M.state question.old.memo) x.1) pairs.now }
     ensures value { let inside = with_what_if store.now.sheet world.now pairs.now in
         IfOk result (λ v. v ≡ formulas.zero_for_empty
         (show.cell_value (put_all store.now.sheet inside) formula_cell)) }
 
     // What is remembered then is right, and no more is counted than the cases cost whose values were not, also
     // where memory runs out.
-    ensures spends { Spends store.now.sheet (HasEntry store.now.sheet world.now formula_cell pairs.now)
-        (M.state memo.old) (M.state memo.new) meter.old meter.new (is_ok result) }
+    ensures spends { let sheet = store.now.sheet in
+        Spends sheet (HasEntry sheet world.now formula_cell pairs.now)
+        (M.state question.old.memo) (M.state question.new.memo)
+        question.old.meter question.new.meter (is_ok result) }
     ensures settled { let sheet = store.now.sheet in
-        OnOk result (WhereRoom sheet (HasEntry sheet world.now formula_cell pairs.now) (M.state memo.old)
-        (λ _. IsWhatIfSettled sheet (M.state memo.new).kept world.now (formula_cell, pairs.now))) }
+        OnOk result (WhereRoom sheet (HasEntry sheet world.now formula_cell pairs.now)
+        (M.state question.old.memo)
+        (λ _. IsWhatIfSettled sheet (M.state question.new.memo).kept world.now (formula_cell, pairs.now))) }
 {
-    let replaced = with_inputs(pool, store, world, pairs, memo, meter)?;
-    let value = value_under(pool, store, &replaced, formula_cell, memo, meter)?;
+    let replaced = with_inputs(question, store, world, pairs)?;
+    let value = question.value(store, &replaced, formula_cell)?;
     Ok(zero_for_empty(value))
 }
 
 /// Replacements with the inputs of an entry put in, each with the value of its replacement cell. All these values are taken
 /// before any is put.
-fn with_inputs<M: Memo>(
-    pool: &mut Pool,
+fn with_inputs<M: Memo + Drop>(
+    question: &mut Question<M>,
     store: &Store,
     world: &World,
     pairs: &[(Address, Address)],
-    memo: &mut M,
-    meter: &mut Meter,
 ) -> Result<World, AllocError>
-    requires memo { IsMemoOf store.now.sheet (M.state memo.old) }
-    requires replacing { All (λ x. MayBeRead store.now.sheet (M.state memo.old) x.1) pairs.now }
+    requires memo { IsMemoOf store.now.sheet (M.state question.old.memo) }
+    requires replacing { All (λ x. MayBeRead store.now.sheet (M.state question.old.memo) x.1) pairs.now }
     ensures world { IfOk result (λ w. w ≡ with_what_if store.now.sheet world.now pairs.now) }
-    ensures spends { Spends store.now.sheet (HasReplacing store.now.sheet world.now pairs.now)
-        (M.state memo.old) (M.state memo.new) meter.old meter.new (is_ok result) }
-    ensures settled { OnOk result (WhereRoom store.now.sheet (HasReplacing store.now.sheet world.now pairs.now)
-        (M.state memo.old)
-        (λ _. All (λ x. IsSettled store.now.sheet (M.state memo.new).kept world.now x.1) pairs.now)) }
+    ensures spends { let sheet = store.now.sheet in
+        Spends sheet (HasReplacing sheet world.now pairs.now)
+        (M.state question.old.memo) (M.state question.new.memo)
+        question.old.meter question.new.meter (is_ok result) }
+    ensures settled { let sheet = store.now.sheet in
+        OnOk result (WhereRoom sheet (HasReplacing sheet world.now pairs.now)
+        (M.state question.old.memo)
+        (λ _. All (λ x. IsSettled sheet (M.state question.new.memo).kept world.now x.1) pairs.now)) }
 {
-    let mut inputs = Vec::new(pool.allocator());
+    let mut inputs = Vec::new(question.pool.allocator());
     for pair in pairs {
-        let value = value_under(pool, store, world, pair.1, memo, meter)?;
+        let value = question.value(store, world, pair.1)?;
         inputs.push(Replacement { at: pair.0, value })?;
     }
     world.with(&inputs)

@@ -7,7 +7,7 @@ ghost use Rattle.wi_sheet.specs.Demand.{demanded, wants};
 ghost use Rattle.wi_sheet.specs.Inner.Spending.{NeverFall};
 
 use std::alloc::{AllocError, Global};
-use wi_engine::{Pool, Remembered, reached, value_under};
+use wi_engine::{Pool, Question, Remembered, reached};
 use wi_functions::Meter;
 use wi_store::Store;
 use wi_values::{Address, ErrorKind, Replacement, Value};
@@ -37,6 +37,14 @@ pub fn shown(
         return Ok(Value::Fault(ErrorKind::Circular));
     };
     let world = World::new(alloc).with(put)?;
-    let mut memo = Remembered::new(alloc, store, order);
-    value_under(&mut Pool::new(alloc), store, &world, at, &mut memo, meter)
+    let memo = Remembered::new(alloc, store, order);
+    let pool = Pool::new(alloc);
+    let mut question = Question {
+        memo,
+        meter: *meter,
+        pool,
+    };
+    let result = question.value(store, &world, at);
+    *meter = question.meter;
+    result
 }

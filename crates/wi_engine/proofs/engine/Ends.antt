@@ -14,12 +14,13 @@ use Rattle.wi_engine.specs.Inner.MemoState.{MemoState, IsMemoOf}
 use Rattle.wi_engine.specs.Inner.Frames.{case_at, spare}
 use Rattle.wi_engine.specs.Inner.Saving.{KeepsFound, TakesPlaces, TakesNoMore, GivesUpWhenFull}
 use Rattle.wi_engine.specs.Inner.SettledFrames.{IsFrameSettled}
+use Rattle.wi_engine.specs.Inner.Keeps.{Keeps}
 use Rattle.wi_engine.specs.Inner.Spends.{IsSameBeside, Spends}
 use Rattle.wi_engine.specs.declared.frame.Frame.{Frame}
 use Rattle.wi_engine.proofs.Saved.{takes_then, gives_up_none, gives_up_then}
 use Rattle.wi_engine.proofs.Spent.{spent_at_most, spent_all, saves_saved, spends_err}
 use Rattle.wi_engine.proofs.engine.Settling.{one_more_at_most}
-use Rattle.wi_engine.proofs.engine.Running.{Keeps, Finds, run_keeps, run_evaluations, run_restarts, end_evaluations, end_restarts}
+use Rattle.wi_engine.proofs.engine.Running.{Finds, run_keeps, run_evaluations, run_restarts, end_evaluations, end_restarts}
 use Rattle.wi_engine.proofs.engine.Saving.{IsGoing, Takes, by_kept, takes_more, saving_end}
 
 -- a step of the frame on top, and what it leaves
@@ -48,23 +49,23 @@ step_same {s} {m} {n} {f} {now} {next} h e up ev re =
     subst (λ (x : MemoState). IsStep s m x f now next) (sym e) alone
 
 -- one that keeps the frame's value
-pub step_kept : {s : Sheet} {m a n : MemoState} {f : Frame} {k : Key} {v : Value} {now next : Counts} → IsMemoOf s m → a ≡ m → k ≡ f.key → v ≡ cell_value (put_all s f.key.world) f.key.cell → Keeps a n k v → TakesPlaces a n 0 1 → GivesUpWhenFull a n → n.capacity ≡ a.capacity → n.latest ≡ a.latest →
+pub step_kept : {s : Sheet} {m a n : MemoState} {f : Frame} {k : Key} {v : Value} {now next : Counts} → IsMemoOf s m → a ≡ m → k ≡ f.key → v ≡ cell_value (put_all s f.key.world) f.key.cell → Keeps a n k v →
     NeverFall now next → next.evaluations ≡ one_more now.evaluations → next.restarts ≤ now.restarts + spare s f → IsStep s m n f now next
-step_kept {s} {m} {a} {n} {f} {k} {v} {now} {next} h e ek is keeps places gives_up capacity latest up ev re =
+step_kept {s} {m} {a} {n} {f} {k} {v} {now} {next} h e ek is keeps up ev re =
     let there = subst (λ (x : MemoState). IsMemoOf s x) (sym e) h in
     record {
       right = run_keeps s a n k f.key v there keeps ek is;
       same = record {
-        covers = keeps.covers ∙ ap (λ (x : MemoState). x.covers) e;
-        generation = keeps.generation ∙ ap (λ (x : MemoState). x.generation) e;
-        capacity = capacity ∙ ap (λ (x : MemoState). x.capacity) e;
-        latest = latest ∙ ap (λ (x : MemoState). x.latest) e;
+        covers = keeps.same.covers ∙ ap (λ (x : MemoState). x.covers) e;
+        generation = keeps.same.generation ∙ ap (λ (x : MemoState). x.generation) e;
+        capacity = keeps.same.capacity ∙ ap (λ (x : MemoState). x.capacity) e;
+        latest = keeps.same.latest ∙ ap (λ (x : MemoState). x.latest) e;
       };
       counts = up;
       evaluations = one_more_at_most now.evaluations next.evaluations ev;
       restarts = re;
-      places = takes_more m m n now.evaluations now.evaluations next.evaluations (inl (λ ks d. omega arith)) (subst (λ (x : MemoState). TakesPlaces x n 0 1) e places) ev;
-      gives_up = subst (λ (x : MemoState). GivesUpWhenFull x n) e gives_up;
+      places = takes_more m m n now.evaluations now.evaluations next.evaluations (inl (λ ks d. omega arith)) (subst (λ (x : MemoState). TakesPlaces x n 0 1) e keeps.places) ev;
+      gives_up = subst (λ (x : MemoState). GivesUpWhenFull x n) e keeps.gives_up;
     }
 
 module _ {s : Sheet} {old m n : MemoState} {root : Case} {start now next : Counts} {fs : List Frame} {f : Frame} (i : IsGoing s old m root start now fs f) (t : IsStep s m n f now next) where

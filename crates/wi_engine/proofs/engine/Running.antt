@@ -1,5 +1,5 @@
 -- A run of frames: what is so of it all the way, and what its steps do to that.
-use Rattle.std.proofs.Common.{◌≡◌, ◌<◌, ◌≤◌, ◌+◌, ◌*◌, ◌⊎◌, ◌||◌, ℕ, true, false, List, [], ◌∷◌, ◌++◌, length, Contains, Some, None, IfSome, refl, ap, sym, ◌∙◌, subst, arith}
+use Rattle.std.proofs.Common.{◌≡◌, ◌<◌, ◌≤◌, ◌+◌, ◌*◌, ◌||◌, ℕ, true, false, List, [], ◌∷◌, ◌++◌, length, Contains, None, refl, ap, sym, ◌∙◌, subst, arith}
 use Rattle.wi_values.specs.declared.value.Value.{Value}
 use Rattle.wi_values.specs.declared.replacement.Replacement.{Replacement}
 use Rattle.wi_parser.specs.Sheet.{Sheet, content_of, put_all, has_formula, cells_with_formula}
@@ -8,14 +8,15 @@ use Rattle.wi_cache.specs.declared.key.Key.{Key}
 use Rattle.wi_graph.specs.Circular.{circular}
 use Rattle.wi_sheet.specs.CellValue.{cell_value, what_if_value}
 use Rattle.wi_sheet.specs.Demand.{Case, same_case, case_of, reaching, demand, wants}
-use Rattle.wi_sheet.specs.Inner.Spending.{CountsAtMost, CountsFound, HasCase, IsClosed, NeverFall, left}
+use Rattle.wi_sheet.specs.Inner.Spending.{CountsAtMost, CountsFound, IsClosed, NeverFall, left}
 use Rattle.wi_sheet.proofs.Overrides.{reaching_suffices}
 use Rattle.wi_sheet.proofs.Counting.{one_less_left, never_fall-same, never_fall-then}
 use Rattle.wi_sheet.proofs.Demands.{demand_closed, demand_has_itself}
 use Rattle.wi_engine.specs.Inner.Rank.{reach_rank}
-use Rattle.wi_engine.specs.Inner.MemoState.{MemoState, IsTold, IsMemoOf}
+use Rattle.wi_engine.specs.Inner.MemoState.{MemoState, IsMemoOf}
 use Rattle.wi_engine.specs.Inner.Findings.{found_value}
 use Rattle.wi_engine.specs.Inner.Frames.{case_at, IsToValue, StandsAt, IsUnvalued, IsFrame, IsNext, IsBegun, IsStack, BottomIs, spare, at_most}
+use Rattle.wi_engine.specs.Inner.Keeps.{Keeps}
 use Rattle.wi_engine.specs.declared.frame.Frame.{Frame}
 use Rattle.wi_engine.specs.declared.frame.Waiting.TheVariants.{Nothing}
 use Rattle.wi_engine.proofs.engine.Rightness.{right_none}
@@ -37,15 +38,7 @@ pub record IsRunning (s : Sheet) (old m : MemoState) (root : Case) (start now : 
   pub evaluations : (ks : List Case) → IsClosed s ks → Contains ks root → at_most (λ k. 1) (λ g. 1) m.found (f ∷ fs) now.evaluations ks ≤ start.evaluations + left (λ k. 1) old.found ks
   pub restarts : (ks : List Case) → IsClosed s ks → Contains ks root → at_most (wants s) (spare s) m.found (f ∷ fs) now.restarts ks ≤ start.restarts + left (wants s) old.found ks
 
--- a value is remembered for a key
-pub record Keeps (m n : MemoState) (k : Key) (v : Value) : Type 0 where
-  pub sheet : n.sheet ≡ m.sheet
-  pub covers : n.covers ≡ m.covers
-  pub generation : n.generation ≡ m.generation
-  pub known : (c : ℕ) (w : List Replacement) → IfSome (n.known c w) (λ x. (m.known c w ≡ Some x) ⊎ ((c ≡ k.cell) × (w ≡ k.world) × (x ≡ v)))
-  pub told : IsTold n
-
--- and is found from then on
+-- a key is found from then on
 abbrev pub Finds : MemoState → MemoState → Key → Type 0
 Finds m n k = (c : ℕ) (w : List Replacement) → n.found c w ≡ (m.found c w || same_case (case_at k) (c, w))
 
@@ -130,17 +123,17 @@ finds_key : (m n : MemoState) (k j : Key) → k ≡ j → Finds m n k → Finds 
 finds_key m n k j e h = λ c w. h c w ∙ ap (λ (x : Key). m.found c w || same_case (case_at x) (c, w)) e
 
 pub run_keeps : (s : Sheet) (m n : MemoState) (k j : Key) (v : Value) → IsMemoOf s m → Keeps m n k v → k ≡ j → v ≡ cell_value (put_all s j.world) j.cell → IsMemoOf s n
-run_keeps s m n k j v h keeps e is = kept_state s m n k v h keeps.sheet keeps.covers keeps.known (rw e is) keeps.told
+run_keeps s m n k j v h keeps e is = kept_state s m n k v h keeps.sheet keeps.same.covers keeps.known (rw e is) keeps.told
 
 pop_alone : (s : Sheet) (old m n : MemoState) (root : Case) (start now next : Counts) (fs : List Frame) (f b : Frame) (v : Value) → IsRunning s old m root start now (fs ++ b ∷ []) f → Keeps m n f.key v → Finds m n f.key →
     v ≡ cell_value (put_all s f.key.world) f.key.cell → NeverFall now next → next.evaluations ≤ now.evaluations + 1 → next.restarts ≤ now.restarts + spare s f → IsRunning s old n root start next fs b
 pop_alone s old m n root start now next fs f b v i keeps finds is up ev re =
-    let stack = found_stack s m n f.key root (fs ++ b ∷ []) keeps.covers keeps.generation finds i.stack in
+    let stack = found_stack s m n f.key root (fs ++ b ∷ []) keeps.same.covers keeps.same.generation finds i.stack in
     let below = pop_stack s n root fs b (reach_rank s f.key.cell) stack in
     record {
       memo = run_keeps s m n f.key f.key v i.memo keeps refl is;
-      covers = keeps.covers ∙ i.covers;
-      generation = keeps.generation ∙ i.generation;
+      covers = keeps.same.covers ∙ i.covers;
+      generation = keeps.same.generation ∙ i.generation;
       begun = below.0;
       stack = below.1;
       bottom = pop_bottom root fs f b i.bottom;

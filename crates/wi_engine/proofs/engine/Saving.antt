@@ -1,28 +1,29 @@
 -- A run of frames while there is room for all that it finds.
 use Rattle.std.proofs.Common.{◌≡◌, ◌<◌, ◌≤◌, ◌+◌, ◌-◌, ◌^◌, ◌⊎◌, inl, inr, ◌||◌, ℕ, Bool, true, false, List, [], ◌∷◌, ◌++◌, Contains, Option, Some, is_some, refl, ap, sym, ◌∙◌, subst, arith}
-use Rattle.std.proofs.lemmas.Bool.{or_cases, or_left, or_right, cases_lt, true≢false}
+use Rattle.std.proofs.lemmas.Bool.{or_cases, or_left, or_right, cases_lt}
 use Rattle.wi_values.specs.declared.value.Value.{Value}
 use Rattle.wi_values.specs.declared.replacement.Replacement.{Replacement}
 use Rattle.wi_parser.specs.Sheet.{Sheet, put_all}
 use Rattle.wi_functions.specs.Counts.{Counts, one_more}
 use Rattle.wi_cache.specs.declared.key.Key.{Key}
 use Rattle.wi_sheet.specs.CellValue.{cell_value}
-use Rattle.wi_sheet.specs.Demand.{Case, reaching, same_case, wants}
+use Rattle.wi_sheet.specs.Demand.{Case, reaching, same_case}
 use Rattle.wi_sheet.specs.Inner.Spending.{IsClosed, HasCase, NeverFall}
 use Rattle.wi_sheet.specs.Settled.{IsSettled, RestsOnKept}
 use Rattle.wi_sheet.proofs.Cases.{same_case-refl}
 use Rattle.wi_sheet.proofs.Counting.{one_less_left}
 use Rattle.wi_engine.specs.Inner.MemoState.{MemoState, IsTold, IsMemoOf}
 use Rattle.wi_engine.specs.Inner.Frames.{case_at, IsToValue, IsUnvalued, IsFrame, IsNext, spare}
-use Rattle.wi_engine.specs.Inner.Saving.{not_kept, KeepsFound, WhereRoom, Saves, SavesAll, TakesPlaces, TakesNoMore, GivesUpWhenFull, CountsUnkept, NeedsNoEvaluation, IsValuedAnew}
+use Rattle.wi_engine.specs.Inner.Saving.{not_kept, KeepsFound, WhereRoom, SavesAll, TakesPlaces, TakesNoMore, GivesUpWhenFull, NeedsNoEvaluation, IsValuedAnew}
 use Rattle.wi_engine.specs.Inner.SettledFrames.{IsFrameSettled}
+use Rattle.wi_engine.specs.Inner.Keeps.{Keeps, HasKept}
 use Rattle.wi_engine.specs.declared.frame.Frame.{Frame}
 use Rattle.wi_engine.proofs.Saved.{none_went}
 use Rattle.wi_engine.proofs.engine.Settling.{one_more_at_most}
 use Rattle.wi_engine.proofs.engine.FoundSettled.{settled_now}
 use Rattle.wi_engine.proofs.engine.FramesSettled.{IsSettling, settling_start, settling_push, settling_pop, rests_after}
 use Rattle.wi_engine.proofs.engine.Stacks.{same_frame}
-use Rattle.wi_engine.proofs.engine.Running.{unvalued_in, IsRunning, IsNew, Keeps, Finds, run_start, run_push, run_pop, run_take, run_evaluations, run_restarts, end_evaluations, end_restarts}
+use Rattle.wi_engine.proofs.engine.Running.{unvalued_in, IsRunning, IsNew, Finds, run_start, run_push, run_pop, run_take, end_evaluations, end_restarts}
 
 -- a memory, seen as if what is kept were what was found
 abbrev pub by_kept : MemoState → MemoState
@@ -54,10 +55,11 @@ kept_next s m below k h = record { rests = h.rests; key = kept_to_value s m k h.
 kept_keeps : (m n : MemoState) (k : Key) (v : Value) → KeepsFound n → Keeps m n k v → Keeps (by_kept m) (by_kept n) k v
 kept_keeps m n k v w h = record {
   sheet = h.sheet;
-  covers = h.covers;
-  generation = h.generation;
+  same = record { covers = h.same.covers; generation = h.same.generation; capacity = h.same.capacity; latest = h.same.latest };
   known = h.known;
   told = kept_told n h.told w;
+  places = h.places;
+  gives_up = record { room = h.gives_up.room; stays = h.gives_up.stays };
 }
 
 -- what is so of the frames where there is room for these cases
@@ -120,6 +122,9 @@ pub record Takes (m n : MemoState) (k : Key) : Type 0 where
   pub kept : 1 ≤ m.room → (c : ℕ) (w : List Replacement) → n.kept c w ≡ (m.kept c w || same_case (case_at k) (c, w))
   pub room : m.kept k.cell k.world ≡ false → 1 ≤ m.room → n.room + 1 ≡ m.room
   pub places : TakesPlaces m n 0 1
+
+pub takes_of : {m n : MemoState} {k : Key} {v : Value} → Keeps m n k v → HasKept m n k → Takes m n k
+takes_of h g = record { kept = g.kept; room = g.room; places = h.places }
 
 whole_after : (m n : MemoState) (k : Key) → Finds m n k → ((c : ℕ) (w : List Replacement) → n.kept c w ≡ (m.kept c w || same_case (case_at k) (c, w))) → KeepsFound m → KeepsFound n
 whole_after m n k f g h c w i = g c w ∙ at (or_cases (m.found c w) (same_case (case_at k) (c, w)) (sym (f c w) ∙ i))

@@ -27,8 +27,8 @@ returns-clause-settled g c =
     let v = c.in_ok-value.ensures in
     entry_settled c.args.store.now.sheet c.args.world.now c.args.formula_cell c.args.pairs.now c.in_ok-replaced.replaced w.world _ _ _ _ _ _ w.spends v.spends w.settled v.settled
 
-pub value_under-requires-clause-memo : goal.value_under-requires-clause-memo
-value_under-requires-clause-memo g c = c.in_ok-replaced.ensures.spends.right
+pub value-requires-clause-memo : goal.value-requires-clause-memo
+value-requires-clause-memo g c = c.in_ok-replaced.ensures.spends.right
 
 pub with_inputs-requires-clause-memo : goal.with_inputs-requires-clause-memo
 with_inputs-requires-clause-memo g c = c.requires.memo
@@ -36,8 +36,8 @@ with_inputs-requires-clause-memo g c = c.requires.memo
 pub with_inputs-requires-clause-replacing : goal.with_inputs-requires-clause-replacing
 with_inputs-requires-clause-replacing g c = c.requires.replacing
 
-pub value_under-requires-clause-read : goal.value_under-requires-clause-read
-value_under-requires-clause-read g c =
+pub value-requires-clause-read : goal.value-requires-clause-read
+value-requires-clause-read g c =
     record {
       open_cell = c.requires.formula_cell.open_cell;
       covered = λ h. ap (λ (cs : ℕ → Bool). cs c.args.formula_cell) c.in_ok-replaced.ensures.spends.same.covers ∙ c.requires.formula_cell.covered h;

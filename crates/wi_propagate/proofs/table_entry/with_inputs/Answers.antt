@@ -25,7 +25,7 @@ returns-clause-settled g c =
     let s = c.args.store.now.sheet in
     let w = c.args.world.now in
     let whole : take c.loop-pair.pair-index c.args.pairs.now ≡ c.args.pairs.now = grind (arith, common_steps) in
-    let there = subst (λ (ps : List (ℕ × ℕ)). WhereRoom s (HasReplacing s w c.args.pairs.now) (g.M.Memo.state c.args.memo.now) (λ ks. All (λ p. IsSettled s (g.M.Memo.state c.loop-pair.memo).kept w p.1) ps)) whole c.loop-pair.invariant.settled in
+    let there = subst (λ (ps : List (ℕ × ℕ)). WhereRoom s (HasReplacing s w c.args.pairs.now) (g.M.Memo.state c.args.question.now.memo) (λ ks. All (λ p. IsSettled s (g.M.Memo.state c.loop-pair.question.memo).kept w p.1) ps)) whole c.loop-pair.invariant.settled in
     IfOk-weaker c.with.result _ _ (λ v h. there) c.with.ensures.list
 
 pub loop-pair-preserved : goal.loop-pair-preserved
@@ -50,13 +50,13 @@ returns-in_err-push-clause-spends g c =
 pub returns-clause-spends : goal.returns-clause-spends
 returns-clause-spends g c = spends_weaken refl (λ ks h. h) (λ d. refl) c.loop-pair.invariant.spends
 
-pub value_under-requires-clause-memo : goal.value_under-requires-clause-memo
-value_under-requires-clause-memo g c = c.loop-pair.invariant.spends.right
+pub value-requires-clause-memo : goal.value-requires-clause-memo
+value-requires-clause-memo g c = c.loop-pair.invariant.spends.right
 
-pub value_under-requires-clause-read : goal.value_under-requires-clause-read
-value_under-requires-clause-read g c =
+pub value-requires-clause-read : goal.value-requires-clause-read
+value-requires-clause-read g c =
     let s = c.args.store.now.sheet in
-    let old = g.M.Memo.state c.args.memo.now in
+    let old = g.M.Memo.state c.args.question.now.memo in
     let pair = c.pair-item.result in
     let there : MayBeRead s old pair.1 = subst (λ (p : ℕ × ℕ). MayBeRead s old p.1) (sym c.pair-item.is) (c.requires.replacing c.loop-pair.pair-index pair c.loop-pair-test.true) in
     record {

@@ -16,18 +16,18 @@ pub returns-clause-value : goal.returns-clause-value
 returns-clause-value c =
     let leaf : circular c.args.store.now.sheet c.args.at ≡ false = sym (rw c.in-Some.is at c.in_ok-order.ensures.circular) in
     let same = put_alone c.in_ok-world.world c.new.result c.args.put.now c.requires c.new.ensures c.in_ok-world.ensures.list in
-    IfOk-weaker c.value_under.result _ _ (λ v h. shown_value c.args.store.now.sheet c.in_ok-world.world c.args.put.now c.args.at v leaf same h) c.value_under.ensures.value
+    IfOk-weaker c.value-result.result _ _ (λ v h. shown_value c.args.store.now.sheet c.in_ok-world.world c.args.put.now c.args.at v leaf same h) c.value-result.ensures.value
 
 pub returns-clause-evaluations : goal.returns-clause-evaluations
 returns-clause-evaluations c =
     let leaf : circular c.args.store.now.sheet c.args.at ≡ false = sym (rw c.in-Some.is at c.in_ok-order.ensures.circular) in
     let same = put_alone c.in_ok-world.world c.new.result c.args.put.now c.requires c.new.ensures c.in_ok-world.ensures.list in
-    shown_evaluations c.args.store.now.sheet c.in_ok-world.world c.args.put.now c.args.at c.args.meter.now.evaluations c.value_under.new.meter.evaluations leaf same
-    (nothing_found c.args.store.now.sheet c.in-Some.order.items c.new-memo.result _ (λ k. 1) c.args.meter.now.evaluations c.value_under.new.meter.evaluations c.new-memo.ensures.value (spends_evaluations c.value_under.ensures.spends))
+    shown_evaluations c.args.store.now.sheet c.in_ok-world.world c.args.put.now c.args.at c.args.meter.now.evaluations c.value-result.new.self.meter.evaluations leaf same
+    (nothing_found c.args.store.now.sheet c.in-Some.order.items c.new-memo.result _ (λ k. 1) c.args.meter.now.evaluations c.value-result.new.self.meter.evaluations c.new-memo.ensures.value (spends_evaluations c.value-result.ensures.spends))
 
 pub returns-clause-restarts : goal.returns-clause-restarts
 returns-clause-restarts c =
     let leaf : circular c.args.store.now.sheet c.args.at ≡ false = sym (rw c.in-Some.is at c.in_ok-order.ensures.circular) in
     let same = put_alone c.in_ok-world.world c.new.result c.args.put.now c.requires c.new.ensures c.in_ok-world.ensures.list in
-    shown_at_most c.args.store.now.sheet c.in_ok-world.world c.args.put.now c.args.at (wants c.args.store.now.sheet) c.args.meter.now.restarts c.value_under.new.meter.restarts leaf same
-    (nothing_found c.args.store.now.sheet c.in-Some.order.items c.new-memo.result _ (wants c.args.store.now.sheet) c.args.meter.now.restarts c.value_under.new.meter.restarts c.new-memo.ensures.value (spends_restarts c.value_under.ensures.spends))
+    shown_at_most c.args.store.now.sheet c.in_ok-world.world c.args.put.now c.args.at (wants c.args.store.now.sheet) c.args.meter.now.restarts c.value-result.new.self.meter.restarts leaf same
+    (nothing_found c.args.store.now.sheet c.in-Some.order.items c.new-memo.result _ (wants c.args.store.now.sheet) c.args.meter.now.restarts c.value-result.new.self.meter.restarts c.new-memo.ensures.value (spends_restarts c.value-result.ensures.spends))

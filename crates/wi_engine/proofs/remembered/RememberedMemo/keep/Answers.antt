@@ -1,18 +1,21 @@
 use Rattle.std.proofs.Common.{ap, arith, rules}
-use Rattle.wi_engine.specs.Inner.Remembered.{OneQuestion}
+use Rattle.wi_engine.specs.Inner.Remembered.{OneQuestion, question_state, remembered}
+use Rattle.wi_engine.proofs.Kept.{has_kept}
 use Rattle.wi_engine.proofs.remembered.Remembering.{known_kept}
 use Rattle.wi_engine.proofs.remembered.RememberedMemo.keep.Goals as goal
 
-pub returns-clause-known : goal.returns-clause-known
-returns-clause-known c =
+pub returns-clause-keeps : goal.returns-clause-keeps
+returns-clause-keeps c =
     let same = ap (λ (q : OneQuestion). q.values) c.self.view_is in
-    rw (← same) (known_kept c.keep.result c.self.inside.table c.keep.new.self c.args.key c.args.value c.keep.ensures.ok c.keep.ensures.err)
+    record {
+      sheet = search rules;
+      same = record { covers = search rules; generation = search rules; capacity = search rules; latest = search rules };
+      known = rw (← same) (known_kept c.keep.result c.self.inside.table c.keep.new.self c.args.key c.args.value c.keep.ensures.ok c.keep.ensures.err);
+      told = search rules;
+      places = λ ks d. omega arith;
+      gives_up = record { room = omega arith; stays = λ r k i. i };
+    }
 
-pub returns-clause-found : goal.returns-clause-found
-returns-clause-found c = search rules
-
-pub returns-clause-gives_up : goal.returns-clause-gives_up
-returns-clause-gives_up c = record { room = omega arith; stays = λ r k i. i }
-
-pub returns-clause-one_place : goal.returns-clause-one_place
-returns-clause-one_place c = λ ks d. omega arith
+pub returns-clause-kept : goal.returns-clause-kept
+returns-clause-kept c =
+    has_kept c.keep.result (question_state c.args.self.now) (question_state (remembered c.self.inside.store.now.sheet c.self.inside.order.items c.keep.new.self)) c.args.key (search rules) (search rules) (search rules) (search rules)

@@ -1,4 +1,4 @@
-use Rattle.std.proofs.Common.{◌≡◌, ◌≤◌, ◌-◌, ◌+◌, ◌⊎◌, ◌||◌, ◌∙◌, ℕ, false, true, List, length, Option, Some, IfSome, OnOk, is_some, refl, ap, sym, subst}
+use Rattle.std.proofs.Common.{◌≡◌, ◌≤◌, ◌-◌, ◌+◌, ◌⊎◌, ◌||◌, ◌∙◌, ℕ, false, true, List, length, Option, Some, IfSome, OnOk, is_some, refl, ap, sym, subst, rules}
 use Rattle.std.proofs.lemmas.Result.{IfOk-weaker}
 use Rattle.std.specs.Option.{option_or}
 use Rattle.wi_values.specs.declared.replacement.Replacement.{Replacement}
@@ -12,19 +12,78 @@ use Rattle.wi_propagate.specs.Right.{IsKeptFor}
 use Rattle.wi_engine.specs.Inner.Saving.{TakesPlaces, GivesUpWhenFull}
 use Rattle.wi_propagate.specs.Inner.Keeping.{Keeping, TakesOver, keeping, state_in, value_in}
 use Rattle.wi_propagate.specs.KeptSheet.{generation_in, key_in}
+use Rattle.wi_engine.proofs.Kept.{has_kept}
 use Rattle.wi_propagate.proofs.KeptSteps.{found_is_kept}
 use Rattle.wi_propagate.proofs.KeepingSteps.{KeepsIn, right_after, kept_after, there_after, room_after, gives_up_after}
 use Rattle.wi_propagate.proofs.GivenUp.{known_after, stays_after, found_after}
 use Rattle.wi_propagate.proofs.PlacesTaken.{one_place_after}
 use Rattle.wi_propagate.proofs.keeping.KeepingMemo.keep.Goals as goal
 
-pub returns-clause-there : goal.returns-clause-there
-returns-clause-there c =
+pub returns-clause-keeps : goal.returns-clause-keeps
+returns-clause-keeps c =
     let i = c.self.inside in
-    let found = c.keep.ensures.found in
+    let gs = i.generations.now.entries in
+    let e = c.keep.ensures in
+    let keeps : KeepsIn c.keep.result i.kept c.keep.new.self c.args.key c.args.value = record { found = e.found; stays = e.stays; goes = e.one_goes; going = e.going; len = e.len; capacity = e.capacity; err = e.err } in
+    let takes : TakesOver (going i.kept c.args.key) i.given_up c.save_going.new.given_up = c.in_ok-save_going.ensures.ok in
+    let new : ℕ → List Replacement → Option Value = λ d w. option_or (value_for c.keep.new.self.entries (key_in gs d w)) (value_for c.save_going.new.given_up (key_in gs d w)) in
+    let s = i.store.now in
+    record {
+      sheet = ap (λ (q : Keeping). q.sheet) c.self.view_is;
+      same = record {
+        covers = refl;
+        generation = ap (λ (q : Keeping). generation_in q.generations) c.self.view_is;
+        capacity = c.keep.ensures.capacity ∙ ap (λ (q : Keeping). q.values.capacity) c.self.view_is;
+        latest = ap (λ (q : Keeping). q.edits) c.self.view_is;
+      };
+      known = subst (λ (q : Keeping). (d : ℕ) (w : List Replacement) → IfSome (new d w) (λ x. (value_in q (key_in q.generations d w) ≡ Some x) ⊎ ((d ≡ c.args.key.cell) × (w ≡ c.args.key.world) × (x ≡ c.args.value)))) c.self.view_is (known_after i.given_up c.save_going.new.given_up i.kept c.keep.new.self c.args.key c.args.value c.len.ensures.one_each takes gs c.keep.result keeps);
+      told = search rules;
+      places = subst (λ (q : Keeping). TakesPlaces (state_in q) (state_in (keeping s.sheet s.edits gs c.save_going.new.given_up c.keep.new.self)) 0 1) c.self.view_is (one_place_after c.keep.result s.sheet s.edits gs i.given_up c.save_going.new.given_up i.kept c.keep.new.self c.args.key c.args.value keeps);
+      gives_up = subst (λ (q : Keeping). GivesUpWhenFull (state_in q) (state_in (keeping s.sheet s.edits gs c.save_going.new.given_up c.keep.new.self))) c.self.view_is (gives_up_after c.keep.result s.sheet s.edits gs i.given_up c.save_going.new.given_up i.kept c.keep.new.self c.args.key c.args.value keeps);
+    }
+
+pub returns-clause-kept : goal.returns-clause-kept
+returns-clause-kept c =
+    let i = c.self.inside in
+    let gs = i.generations.now.entries in
+    let e = c.keep.ensures in
+    let keeps : KeepsIn c.keep.result i.kept c.keep.new.self c.args.key c.args.value = record { found = e.found; stays = e.stays; goes = e.one_goes; going = e.going; len = e.len; capacity = e.capacity; err = e.err } in
+    let generation : c.args.key.generation ≡ generation_in gs c.args.key.cell = c.requires.generation ∙ ap (λ (q : Keeping). generation_in q.generations c.args.key.cell) (sym c.self.view_is) in
+    let takes : TakesOver (going i.kept c.args.key) i.given_up c.save_going.new.given_up = c.in_ok-save_going.ensures.ok in
+    let new : ℕ → List Replacement → Option Value = λ d w. option_or (value_for c.keep.new.self.entries (key_in gs d w)) (value_for c.save_going.new.given_up (key_in gs d w)) in
     let generation : c.args.key.generation ≡ generation_in i.generations.now.entries c.args.key.cell = c.requires.generation ∙ ap (λ (q : Keeping). generation_in q.generations c.args.key.cell) (sym c.self.view_is) in
+    let room = c.keep.new.self.capacity - length c.keep.new.self.entries in
+    let found = c.keep.ensures.found in
     let there = there_after c.keep.result i.generations.now.entries c.keep.new.self c.args.key c.args.value generation (search found) in
-    IfOk-weaker c.keep.result _ _ (λ v h l. h) there
+    let s = i.store.now in
+    has_kept c.keep.result (state_in c.args.self.now) (state_in (keeping s.sheet s.edits gs c.save_going.new.given_up c.keep.new.self)) c.args.key (subst (λ (q : Keeping). OnOk c.keep.result ((d : ℕ) (w : List Replacement) → is_some (new d w) ≡ (is_some (value_in q (key_in q.generations d w)) || same_case (c.args.key.cell, c.args.key.world) (d, w)))) c.self.view_is (found_after i.given_up c.save_going.new.given_up i.kept c.keep.new.self c.args.key c.args.value c.len.ensures.one_each takes gs c.keep.result keeps generation)) (IfOk-weaker c.keep.result _ _ (λ v h l. h) there) (subst (λ (q : Keeping). OnOk c.keep.result (1 ≤ q.values.capacity - length q.values.entries → (d : ℕ) (w : List Replacement) → is_some (value_for c.keep.new.self.entries (key_in i.generations.now.entries d w)) ≡ (is_some (value_for q.values.entries (key_in q.generations d w)) || same_case (c.args.key.cell, c.args.key.world) (d, w)))) c.self.view_is (kept_after c.keep.result i.generations.now.entries i.kept c.keep.new.self c.args.key c.args.value keeps generation)) (subst (λ (q : Keeping). OnOk c.keep.result (is_some (value_for q.values.entries (key_in q.generations c.args.key.cell c.args.key.world)) ≡ false → 1 ≤ q.values.capacity - length q.values.entries → room + 1 ≡ q.values.capacity - length q.values.entries)) c.self.view_is (room_after c.keep.result i.generations.now.entries i.kept c.keep.new.self c.args.key c.args.value keeps generation))
+
+pub returns-clause-stays : goal.returns-clause-stays
+returns-clause-stays c =
+    let i = c.self.inside in
+    let gs = i.generations.now.entries in
+    let e = c.keep.ensures in
+    let keeps : KeepsIn c.keep.result i.kept c.keep.new.self c.args.key c.args.value = record { found = e.found; stays = e.stays; goes = e.one_goes; going = e.going; len = e.len; capacity = e.capacity; err = e.err } in
+    let takes : TakesOver (going i.kept c.args.key) i.given_up c.save_going.new.given_up = c.in_ok-save_going.ensures.ok in
+    let new : ℕ → List Replacement → Option Value = λ d w. option_or (value_for c.keep.new.self.entries (key_in gs d w)) (value_for c.save_going.new.given_up (key_in gs d w)) in
+    subst (λ (q : Keeping). (d : ℕ) (w : List Replacement) → is_some (value_in q (key_in q.generations d w)) ≡ true → is_some (new d w) ≡ true) c.self.view_is
+    (stays_after i.given_up c.save_going.new.given_up i.kept c.keep.new.self c.args.key c.args.value c.len.ensures.one_each takes gs c.keep.result keeps)
+
+pub returns-in_err-save_going-clause-keeps : goal.returns-in_err-save_going-clause-keeps
+returns-in_err-save_going-clause-keeps c =
+    record {
+      sheet = ap (λ (q : Keeping). q.sheet) c.self.view_is;
+      same = record {
+        covers = refl;
+        generation = ap (λ (q : Keeping). generation_in q.generations) c.self.view_is;
+        capacity = ap (λ (q : Keeping). q.values.capacity) c.self.view_is;
+        latest = ap (λ (q : Keeping). q.edits) c.self.view_is;
+      };
+      known = search rules;
+      told = search rules;
+      places = search rules;
+      gives_up = search rules;
+    }
 
 pub invariant_of-self-2 : goal.invariant_of-self-2
 invariant_of-self-2 c =
@@ -44,106 +103,3 @@ invariant_of-self-2 c =
         right = right_after c.keep.result i.store.now.sheet i.store.now.edits (generation_in i.generations.now.entries) i.kept c.keep.new.self c.args.key c.args.value keeps new h.3.right;
       },
     )
-
-pub returns-clause-known : goal.returns-clause-known
-returns-clause-known c =
-    let i = c.self.inside in
-    let gs = i.generations.now.entries in
-    let e = c.keep.ensures in
-    let keeps : KeepsIn c.keep.result i.kept c.keep.new.self c.args.key c.args.value = record { found = e.found; stays = e.stays; goes = e.one_goes; going = e.going; len = e.len; capacity = e.capacity; err = e.err } in
-    let takes : TakesOver (going i.kept c.args.key) i.given_up c.save_going.new.given_up = c.in_ok-save_going.ensures.ok in
-    let new : ℕ → List Replacement → Option Value = λ d w. option_or (value_for c.keep.new.self.entries (key_in gs d w)) (value_for c.save_going.new.given_up (key_in gs d w)) in
-    subst (λ (q : Keeping). (d : ℕ) (w : List Replacement) → IfSome (new d w) (λ x. (value_in q (key_in q.generations d w) ≡ Some x) ⊎ ((d ≡ c.args.key.cell) × (w ≡ c.args.key.world) × (x ≡ c.args.value)))) c.self.view_is
-    (known_after i.given_up c.save_going.new.given_up i.kept c.keep.new.self c.args.key c.args.value c.len.ensures.one_each takes gs c.keep.result keeps)
-
-pub returns-clause-stays : goal.returns-clause-stays
-returns-clause-stays c =
-    let i = c.self.inside in
-    let gs = i.generations.now.entries in
-    let e = c.keep.ensures in
-    let keeps : KeepsIn c.keep.result i.kept c.keep.new.self c.args.key c.args.value = record { found = e.found; stays = e.stays; goes = e.one_goes; going = e.going; len = e.len; capacity = e.capacity; err = e.err } in
-    let takes : TakesOver (going i.kept c.args.key) i.given_up c.save_going.new.given_up = c.in_ok-save_going.ensures.ok in
-    let new : ℕ → List Replacement → Option Value = λ d w. option_or (value_for c.keep.new.self.entries (key_in gs d w)) (value_for c.save_going.new.given_up (key_in gs d w)) in
-    subst (λ (q : Keeping). (d : ℕ) (w : List Replacement) → is_some (value_in q (key_in q.generations d w)) ≡ true → is_some (new d w) ≡ true) c.self.view_is
-    (stays_after i.given_up c.save_going.new.given_up i.kept c.keep.new.self c.args.key c.args.value c.len.ensures.one_each takes gs c.keep.result keeps)
-
-pub returns-clause-found : goal.returns-clause-found
-returns-clause-found c =
-    let i = c.self.inside in
-    let gs = i.generations.now.entries in
-    let e = c.keep.ensures in
-    let keeps : KeepsIn c.keep.result i.kept c.keep.new.self c.args.key c.args.value = record { found = e.found; stays = e.stays; goes = e.one_goes; going = e.going; len = e.len; capacity = e.capacity; err = e.err } in
-    let generation : c.args.key.generation ≡ generation_in gs c.args.key.cell = c.requires.generation ∙ ap (λ (q : Keeping). generation_in q.generations c.args.key.cell) (sym c.self.view_is) in
-    let takes : TakesOver (going i.kept c.args.key) i.given_up c.save_going.new.given_up = c.in_ok-save_going.ensures.ok in
-    let new : ℕ → List Replacement → Option Value = λ d w. option_or (value_for c.keep.new.self.entries (key_in gs d w)) (value_for c.save_going.new.given_up (key_in gs d w)) in
-    subst (λ (q : Keeping). OnOk c.keep.result ((d : ℕ) (w : List Replacement) → is_some (new d w) ≡ (is_some (value_in q (key_in q.generations d w)) || same_case (c.args.key.cell, c.args.key.world) (d, w)))) c.self.view_is
-    (found_after i.given_up c.save_going.new.given_up i.kept c.keep.new.self c.args.key c.args.value c.len.ensures.one_each takes gs c.keep.result keeps generation)
-
-pub returns-clause-kept : goal.returns-clause-kept
-returns-clause-kept c =
-    let i = c.self.inside in
-    let e = c.keep.ensures in
-    let keeps : KeepsIn c.keep.result i.kept c.keep.new.self c.args.key c.args.value = record { found = e.found; stays = e.stays; goes = e.one_goes; going = e.going; len = e.len; capacity = e.capacity; err = e.err } in
-    let generation : c.args.key.generation ≡ generation_in i.generations.now.entries c.args.key.cell = c.requires.generation ∙ ap (λ (q : Keeping). generation_in q.generations c.args.key.cell) (sym c.self.view_is) in
-    subst (λ (q : Keeping). OnOk c.keep.result (1 ≤ q.values.capacity - length q.values.entries → (d : ℕ) (w : List Replacement) → is_some (value_for c.keep.new.self.entries (key_in i.generations.now.entries d w)) ≡ (is_some (value_for q.values.entries (key_in q.generations d w)) || same_case (c.args.key.cell, c.args.key.world) (d, w)))) c.self.view_is
-    (kept_after c.keep.result i.generations.now.entries i.kept c.keep.new.self c.args.key c.args.value keeps generation)
-
-pub returns-clause-gives_up : goal.returns-clause-gives_up
-returns-clause-gives_up c =
-    let i = c.self.inside in
-    let s = i.store.now in
-    let gs = i.generations.now.entries in
-    let e = c.keep.ensures in
-    let keeps : KeepsIn c.keep.result i.kept c.keep.new.self c.args.key c.args.value = record { found = e.found; stays = e.stays; goes = e.one_goes; going = e.going; len = e.len; capacity = e.capacity; err = e.err } in
-    subst (λ (q : Keeping). GivesUpWhenFull (state_in q) (state_in (keeping s.sheet s.edits gs c.save_going.new.given_up c.keep.new.self))) c.self.view_is
-    (gives_up_after c.keep.result s.sheet s.edits gs i.given_up c.save_going.new.given_up i.kept c.keep.new.self c.args.key c.args.value keeps)
-
-pub returns-clause-one_place : goal.returns-clause-one_place
-returns-clause-one_place c =
-    let i = c.self.inside in
-    let s = i.store.now in
-    let gs = i.generations.now.entries in
-    let e = c.keep.ensures in
-    let keeps : KeepsIn c.keep.result i.kept c.keep.new.self c.args.key c.args.value = record { found = e.found; stays = e.stays; goes = e.one_goes; going = e.going; len = e.len; capacity = e.capacity; err = e.err } in
-    subst (λ (q : Keeping). TakesPlaces (state_in q) (state_in (keeping s.sheet s.edits gs c.save_going.new.given_up c.keep.new.self)) 0 1) c.self.view_is
-    (one_place_after c.keep.result s.sheet s.edits gs i.given_up c.save_going.new.given_up i.kept c.keep.new.self c.args.key c.args.value keeps)
-
-pub returns-clause-same_sheet : goal.returns-clause-same_sheet
-returns-clause-same_sheet c = ap (λ (q : Keeping). q.sheet) c.self.view_is
-
-pub returns-clause-same_latest : goal.returns-clause-same_latest
-returns-clause-same_latest c = ap (λ (q : Keeping). q.edits) c.self.view_is
-
-pub returns-clause-same_capacity : goal.returns-clause-same_capacity
-returns-clause-same_capacity c = c.keep.ensures.capacity ∙ ap (λ (q : Keeping). q.values.capacity) c.self.view_is
-
-pub returns-clause-room : goal.returns-clause-room
-returns-clause-room c =
-    let i = c.self.inside in
-    let e = c.keep.ensures in
-    let keeps : KeepsIn c.keep.result i.kept c.keep.new.self c.args.key c.args.value = record { found = e.found; stays = e.stays; goes = e.one_goes; going = e.going; len = e.len; capacity = e.capacity; err = e.err } in
-    let generation : c.args.key.generation ≡ generation_in i.generations.now.entries c.args.key.cell = c.requires.generation ∙ ap (λ (q : Keeping). generation_in q.generations c.args.key.cell) (sym c.self.view_is) in
-    let room = c.keep.new.self.capacity - length c.keep.new.self.entries in
-    subst (λ (q : Keeping). OnOk c.keep.result (is_some (value_for q.values.entries (key_in q.generations c.args.key.cell c.args.key.world)) ≡ false → 1 ≤ q.values.capacity - length q.values.entries → room + 1 ≡ q.values.capacity - length q.values.entries)) c.self.view_is
-    (room_after c.keep.result i.generations.now.entries i.kept c.keep.new.self c.args.key c.args.value keeps generation)
-
-pub returns-clause-same_cells : goal.returns-clause-same_cells
-returns-clause-same_cells c = refl
-
-pub returns-clause-same_generation : goal.returns-clause-same_generation
-returns-clause-same_generation c = ap (λ (q : Keeping). generation_in q.generations) c.self.view_is
-
-pub returns-in_err-save_going-clause-same_cells : goal.returns-in_err-save_going-clause-same_cells
-returns-in_err-save_going-clause-same_cells c = refl
-
-pub returns-in_err-save_going-clause-same_generation : goal.returns-in_err-save_going-clause-same_generation
-returns-in_err-save_going-clause-same_generation c = ap (λ (q : Keeping). generation_in q.generations) c.self.view_is
-
-pub returns-in_err-save_going-clause-same_sheet : goal.returns-in_err-save_going-clause-same_sheet
-returns-in_err-save_going-clause-same_sheet c = ap (λ (q : Keeping). q.sheet) c.self.view_is
-
-pub returns-in_err-save_going-clause-same_latest : goal.returns-in_err-save_going-clause-same_latest
-returns-in_err-save_going-clause-same_latest c = ap (λ (q : Keeping). q.edits) c.self.view_is
-
-pub returns-in_err-save_going-clause-same_capacity : goal.returns-in_err-save_going-clause-same_capacity
-returns-in_err-save_going-clause-same_capacity c = ap (λ (q : Keeping). q.values.capacity) c.self.view_is

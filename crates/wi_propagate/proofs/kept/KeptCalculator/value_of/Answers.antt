@@ -26,8 +26,8 @@ new-memo-requires-clause-right c =
     let i = c.self.inside in
     begun_right i.store i.generations.entries i.kept i.meter _ c.in-Some-take.ensures.value c.self.invariant.3
 
-pub value_under-result-requires-clause-read : goal.value_under-result-requires-clause-read
-value_under-result-requires-clause-read c =
+pub value-result-requires-clause-read : goal.value-result-requires-clause-read
+value-result-requires-clause-read c =
     let i = c.self.inside in
     let k : KeptSheet = kept_sheet i.store i.generations.entries i.kept i.meter in
     let o : circular i.store.sheet c.args.at ≡ false = sym (c.is_circular.ensures i.store.sheet c.self.invariant.1) ∙ c.if-is_circular.false in
@@ -39,12 +39,12 @@ invariant_of-self c =
     let i = c.self.inside in
     let k : KeptSheet = kept_sheet i.store i.generations.entries i.kept i.meter in
     let q : c.new-memo.result ≡ begun k = begun_is i.store i.generations.entries i.kept i.meter _ c.new-memo.result c.new-memo.ensures.value c.in-Some-take.ensures.value in
-    let e = c.value_under-result.ensures in
+    let e = c.value-result.ensures in
     let h = c.self.invariant in (
       refl,
       h.1,
       h.2,
-      right_then k c.new-memo.result c.value_under-result.new.memo c.into_parts-kept.result.0 c.value_under-result.new.meter q e.spends.same.generation e.spends.same.capacity c.into_parts-kept.ensures.kept e.spends.right.sheet e.spends.same.latest h.3 c.into_parts-kept.ensures.right,
+      right_then k c.new-memo.result c.value-result.new.self.memo c.into_parts-kept.result.0 c.value-result.new.self.meter q e.spends.same.generation e.spends.same.capacity c.into_parts-kept.ensures.kept e.spends.right.sheet e.spends.same.latest h.3 c.into_parts-kept.ensures.right,
       subst (λ (x : Sheet). AreAllCones x c.into_parts-kept.result.1) e.spends.right.sheet c.into_parts-kept.ensures.cones,
     )
 
@@ -54,8 +54,8 @@ returns-clause-value c =
     let k : KeptSheet = kept_sheet i.store i.generations.entries i.kept i.meter in
     let o : circular i.store.sheet c.args.at ≡ false = sym (c.is_circular.ensures i.store.sheet c.self.invariant.1) ∙ c.if-is_circular.false in
     let same = c.in_ok-world.ensures in
-    subst (λ (x : KeptSheet). IfOk c.value_under-result.result (λ v. v ≡ shown x.stored.sheet c.args.put.now c.args.at)) c.self.view_is
-    (IfOk-weaker c.value_under-result.result _ _ (λ v e. shown_value i.store.sheet c.in_ok-world.world c.args.put.now c.args.at v o same e) c.value_under-result.ensures.value)
+    subst (λ (x : KeptSheet). IfOk c.value-result.result (λ v. v ≡ shown x.stored.sheet c.args.put.now c.args.at)) c.self.view_is
+    (IfOk-weaker c.value-result.result _ _ (λ v e. shown_value i.store.sheet c.in_ok-world.world c.args.put.now c.args.at v o same e) c.value-result.ensures.value)
 
 pub returns-clause-easy : goal.returns-clause-easy
 returns-clause-easy c =
@@ -64,8 +64,8 @@ returns-clause-easy c =
     let o : circular i.store.sheet c.args.at ≡ false = sym (c.is_circular.ensures i.store.sheet c.self.invariant.1) ∙ c.if-is_circular.false in
     let q : c.new-memo.result ≡ begun k = begun_is i.store i.generations.entries i.kept i.meter _ c.new-memo.result c.new-memo.ensures.value c.in-Some-take.ensures.value in
     let same = c.in_ok-world.ensures in
-    subst (λ (x : KeptSheet). IsAtHand x c.args.put.now c.args.at → c.value_under-result.new.meter ≡ x.counts) c.self.view_is
-    (λ h. c.value_under-result.ensures.uncounted (at_hand_is k c.new-memo.result c.in_ok-world.world c.args.put.now c.args.at q o same h))
+    subst (λ (x : KeptSheet). IsAtHand x c.args.put.now c.args.at → c.value-result.new.self.meter ≡ x.counts) c.self.view_is
+    (λ h. c.value-result.ensures.uncounted (at_hand_is k c.new-memo.result c.in_ok-world.world c.args.put.now c.args.at q o same h))
 
 pub returns-clause-kept : goal.returns-clause-kept
 returns-clause-kept c =
@@ -74,10 +74,10 @@ returns-clause-kept c =
     let o : circular i.store.sheet c.args.at ≡ false = sym (c.is_circular.ensures i.store.sheet c.self.invariant.1) ∙ c.if-is_circular.false in
     let q : c.new-memo.result ≡ begun k = begun_is i.store i.generations.entries i.kept i.meter _ c.new-memo.result c.new-memo.ensures.value c.in-Some-take.ensures.value in
     let same = c.in_ok-world.ensures in
-    let new : KeptSheet = record { stored = i.store; generations = i.generations.entries; values = c.into_parts-kept.result.0; counts = c.value_under-result.new.meter } in
-    let e = c.value_under-result.ensures in
-    subst (λ (x : KeptSheet). OnOk c.value_under-result.result ((IsAtHand x c.args.put.now c.args.at → ⊥) → is_kept new c.args.at (reaching x.stored.sheet c.args.at c.args.put.now) ≡ true)) c.self.view_is
-    (IfOk-weaker c.value_under-result.result _ _ (λ v h. asked_kept k c.new-memo.result c.in_ok-world.world c.args.put.now c.args.at q o same c.value_under-result.new.memo c.into_parts-kept.result.0 c.value_under-result.new.meter
+    let new : KeptSheet = record { stored = i.store; generations = i.generations.entries; values = c.into_parts-kept.result.0; counts = c.value-result.new.self.meter } in
+    let e = c.value-result.ensures in
+    subst (λ (x : KeptSheet). OnOk c.value-result.result ((IsAtHand x c.args.put.now c.args.at → ⊥) → is_kept new c.args.at (reaching x.stored.sheet c.args.at c.args.put.now) ≡ true)) c.self.view_is
+    (IfOk-weaker c.value-result.result _ _ (λ v h. asked_kept k c.new-memo.result c.in_ok-world.world c.args.put.now c.args.at q o same c.value-result.new.self.memo c.into_parts-kept.result.0 c.value-result.new.self.meter
     e.spends.same.generation e.spends.same.capacity c.into_parts-kept.ensures.kept c.self.invariant.3.room h) e.kept)
 
 pub new-memo-requires-clause-cones : goal.new-memo-requires-clause-cones
@@ -95,8 +95,8 @@ returns-in-Some-clause-easy c = λ h. refl
 pub returns-in_err-world-clause-easy : goal.returns-in_err-world-clause-easy
 returns-in_err-world-clause-easy c = λ h. refl
 
-pub value_under-result-requires-clause-memo : goal.value_under-result-requires-clause-memo
-value_under-result-requires-clause-memo c = c.new-memo.ensures.memo
+pub value-result-requires-clause-memo : goal.value-result-requires-clause-memo
+value-result-requires-clause-memo c = c.new-memo.ensures.memo
 
 pub returns-then-is_circular-clause-owes : goal.returns-then-is_circular-clause-owes
 returns-then-is_circular-clause-owes c = owes_none c.args.self.now _ _
@@ -121,8 +121,8 @@ returns-clause-owes c =
     let has = has_case k c.new-memo.result c.in_ok-world.world c.args.put.now c.args.at q o same in
     let closed = different_closed i.store.sheet (case_of i.store.sheet c.args.put.now c.args.at) in
     let Has = HasCase i.store.sheet c.in_ok-world.world c.args.at in
-    let new : KeptSheet = record { stored = i.store; generations = i.generations.entries; values = c.into_parts-kept.result.0; counts = c.value_under-result.new.meter } in
+    let new : KeptSheet = record { stored = i.store; generations = i.generations.entries; values = c.into_parts-kept.result.0; counts = c.value-result.new.self.meter } in
     let began = begun_within i.kept _ c.in-Some-take.ensures.value c.new-memo.ensures.within in
     let one_each = begun_one_each i.kept _ c.in-Some-take.ensures.value c.new-memo.ensures.one_each in
-    subst (λ (x : KeptSheet). Owes x new (demanded x.stored.sheet c.args.put.now c.args.at) (is_ok c.value_under-result.result)) c.self.view_is
-    (owes_spent k c.new-memo.result c.value_under-result.new.memo c.into_parts-kept.result.0 c.value_under-result.new.meter q c.into_parts-kept.ensures.kept began one_each c.into_parts-kept.ensures.within Has cases closed has _ c.value_under-result.ensures.spends)
+    subst (λ (x : KeptSheet). Owes x new (demanded x.stored.sheet c.args.put.now c.args.at) (is_ok c.value-result.result)) c.self.view_is
+    (owes_spent k c.new-memo.result c.value-result.new.self.memo c.into_parts-kept.result.0 c.value-result.new.self.meter q c.into_parts-kept.ensures.kept began one_each c.into_parts-kept.ensures.within Has cases closed has _ c.value-result.ensures.spends)

@@ -59,7 +59,7 @@ invariant_of-self c =
       refl,
       h.1,
       h.2,
-      right_then k c.new-memo.result c.open_entry-result.new.memo c.into_parts-kept.result.0 c.open_entry-result.new.meter q e.spends.same.generation e.spends.same.capacity c.into_parts-kept.ensures.kept e.spends.right.sheet e.spends.same.latest h.3 c.into_parts-kept.ensures.right,
+      right_then k c.new-memo.result c.open_entry-result.new.question.memo c.into_parts-kept.result.0 c.open_entry-result.new.question.meter q e.spends.same.generation e.spends.same.capacity c.into_parts-kept.ensures.kept e.spends.right.sheet e.spends.same.latest h.3 c.into_parts-kept.ensures.right,
       subst (λ (x : Sheet). AreAllCones x c.into_parts-kept.result.1) e.spends.right.sheet c.into_parts-kept.ensures.cones,
     )
 
@@ -87,12 +87,12 @@ returns-clause-settled c =
     let has = entry_has s c.in_ok-world.world c.args.put.now c.args.formula_cell c.args.pairs.now o same in
     let closed = table_closed s c.args.put.now c.args.formula_cell c.args.pairs.now in
     let Has = HasEntry s c.in_ok-world.world c.args.formula_cell c.args.pairs.now in
-    let new : KeptSheet = record { stored = i.store; generations = i.generations.entries; values = c.into_parts-kept.result.0; counts = c.open_entry-result.new.meter } in
+    let new : KeptSheet = record { stored = i.store; generations = i.generations.entries; values = c.into_parts-kept.result.0; counts = c.open_entry-result.new.question.meter } in
     let e = c.open_entry-result.ensures in
     let x : ℕ × List (ℕ × ℕ) = (c.args.formula_cell, c.args.pairs.now) in
     subst (λ (y : KeptSheet). OnOk c.open_entry-result.result (HasRoomFor y (entry_demanded y.stored.sheet c.args.put.now c.args.formula_cell c.args.pairs.now) → circular y.stored.sheet c.args.formula_cell ≡ false → All (λ p. circular y.stored.sheet p.1 ≡ false) c.args.pairs.now
     → IsWhatIfSettled y.stored.sheet (is_kept new) c.args.put.now x)) c.self.view_is
-    (IfOk-weaker c.open_entry-result.result _ _ (λ v g room a b. asked_settled k c.new-memo.result c.open_entry-result.new.memo c.into_parts-kept.result.0 c.open_entry-result.new.meter q e.spends.same.generation e.spends.same.capacity c.into_parts-kept.ensures.kept c.in_ok-world.world c.args.put.now x same
+    (IfOk-weaker c.open_entry-result.result _ _ (λ v g room a b. asked_settled k c.new-memo.result c.open_entry-result.new.question.memo c.into_parts-kept.result.0 c.open_entry-result.new.question.meter q e.spends.same.generation e.spends.same.capacity c.into_parts-kept.ensures.kept c.in_ok-world.world c.args.put.now x same
     (asked_where k c.new-memo.result q Has cases closed has _ g room)) e.settled)
 
 pub new-memo-requires-clause-cones : goal.new-memo-requires-clause-cones
@@ -120,8 +120,8 @@ returns-clause-owes c =
     let has = entry_has s c.in_ok-world.world c.args.put.now c.args.formula_cell c.args.pairs.now o same in
     let closed = table_closed s c.args.put.now c.args.formula_cell c.args.pairs.now in
     let Has = HasEntry s c.in_ok-world.world c.args.formula_cell c.args.pairs.now in
-    let new : KeptSheet = record { stored = i.store; generations = i.generations.entries; values = c.into_parts-kept.result.0; counts = c.open_entry-result.new.meter } in
+    let new : KeptSheet = record { stored = i.store; generations = i.generations.entries; values = c.into_parts-kept.result.0; counts = c.open_entry-result.new.question.meter } in
     let began = begun_within i.kept _ c.in-Some.ensures.value c.new-memo.ensures.within in
     let one_each = begun_one_each i.kept _ c.in-Some.ensures.value c.new-memo.ensures.one_each in
     subst (λ (x : KeptSheet). Owes x new (entry_demanded x.stored.sheet c.args.put.now c.args.formula_cell c.args.pairs.now) (is_ok c.open_entry-result.result)) c.self.view_is
-    (owes_spent k c.new-memo.result c.open_entry-result.new.memo c.into_parts-kept.result.0 c.open_entry-result.new.meter q c.into_parts-kept.ensures.kept began one_each c.into_parts-kept.ensures.within Has cases closed has _ c.open_entry-result.ensures.spends)
+    (owes_spent k c.new-memo.result c.open_entry-result.new.question.memo c.into_parts-kept.result.0 c.open_entry-result.new.question.meter q c.into_parts-kept.ensures.kept began one_each c.into_parts-kept.ensures.within Has cases closed has _ c.open_entry-result.ensures.spends)

@@ -5,13 +5,13 @@ use Rattle.wi_sheet.specs.Inner.Spending.{left}
 use Rattle.wi_engine.specs.Inner.Rank.{reach_rank}
 use Rattle.wi_engine.specs.Inner.Frames.{case_at}
 use Rattle.wi_engine.proofs.engine.Saving.{IsGoing}
-use Rattle.wi_engine.proofs.engine.run.Given as goal
+use Rattle.wi_engine.proofs.question.Question.run.Given as goal
 
 abbrev pub invariant-frames : goal.invariant-frames
-invariant-frames g l = IsGoing l.store.sheet (g.M.Memo.state l.fn.memo) (g.M.Memo.state l.memo) (case_at l.fn.key) l.fn.meter l.meter l.stack.items l.frame
+invariant-frames g l = IsGoing l.store.sheet (g.M.Memo.state l.fn.self.memo) (g.M.Memo.state l.self.memo) (case_at l.fn.key) l.fn.self.meter l.self.meter l.stack.items l.frame
 
 -- the cases of the demand that are not found, and the rank of the frame at the top
 abbrev pub decreases-frames : goal.decreases-frames
 decreases-frames g l =
-    left (λ k. 1) (g.M.Memo.state l.memo).found (demand l.store.sheet (case_at l.fn.key)) * (length (cells_with_formula l.store.sheet) + 2)
+    left (λ k. 1) (g.M.Memo.state l.self.memo).found (demand l.store.sheet (case_at l.fn.key)) * (length (cells_with_formula l.store.sheet) + 2)
     + reach_rank l.store.sheet l.frame.key.cell

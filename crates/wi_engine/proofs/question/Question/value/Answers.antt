@@ -5,40 +5,40 @@ use Rattle.wi_engine.specs.Inner.Frames.{IsToValue}
 use Rattle.wi_engine.proofs.engine.Running.{unvalued_in, unvalued_value}
 use Rattle.wi_engine.proofs.engine.Saving.{kept_before, not_easy, under_kept, under_settled, settled_before}
 use Rattle.wi_engine.proofs.Spent.{spends_none, spends_weaken}
-use Rattle.wi_engine.proofs.engine.value_under.Goals as goal
+use Rattle.wi_engine.proofs.question.Question.value.Goals as goal
 
 pub returns-in-Unknown-clause-value : goal.returns-in-Unknown-clause-value
 returns-in-Unknown-clause-value g c =
     let u = rw c.in-Unknown.is at c.in_ok-value.ensures.unknown in
-    IfOk-weaker c.run.result _ _ (λ v h. unvalued_value c.args.store.now.sheet (g.M.Memo.state c.args.memo.now) c.args.world.now c.args.at c.in-Unknown.cell.key v u h) c.run.ensures.value
+    IfOk-weaker c.run.result _ _ (λ v h. unvalued_value c.args.store.now.sheet (g.M.Memo.state c.args.self.now.memo) c.args.world.now c.args.at c.in-Unknown.cell.key v u h) c.run.ensures.value
 
 pub returns-in-Known-clause-kept : goal.returns-in-Known-clause-kept
 returns-in-Known-clause-kept g c =
     let there = rw c.in-Known.is at c.in_ok-value.ensures.there in
-    λ anew room. kept_before c.args.store.now.sheet (g.M.Memo.state c.args.memo.now) (g.M.Memo.state c.value_now.new.memo) c.args.world.now c.args.at c.requires.memo c.in_ok-value.ensures.same there anew
+    λ anew room. kept_before c.args.store.now.sheet (g.M.Memo.state c.args.self.now.memo) (g.M.Memo.state c.value_now.new.memo) c.args.world.now c.args.at c.requires.memo c.in_ok-value.ensures.same there anew
 
 pub returns-in-Known-clause-settled : goal.returns-in-Known-clause-settled
 returns-in-Known-clause-settled g c =
     let there = rw c.in-Known.is at c.in_ok-value.ensures.there in
-    settled_before c.args.store.now.sheet (g.M.Memo.state c.args.memo.now) (g.M.Memo.state c.value_now.new.memo) c.args.world.now c.args.at _ c.requires.memo c.in_ok-value.ensures.same there
+    settled_before c.args.store.now.sheet (g.M.Memo.state c.args.self.now.memo) (g.M.Memo.state c.value_now.new.memo) c.args.world.now c.args.at _ c.requires.memo c.in_ok-value.ensures.same there
 
 pub returns-in-Unknown-clause-kept : goal.returns-in-Unknown-clause-kept
 returns-in-Unknown-clause-kept g c =
     let u = rw c.in-Unknown.is at c.in_ok-value.ensures.unknown in
     IfOk-weaker c.run.result _ _
-    (λ v h anew room. under_kept c.args.store.now.sheet (g.M.Memo.state c.args.memo.now) (g.M.Memo.state c.value_now.new.memo) (g.M.Memo.state c.run.new.memo) c.args.world.now c.args.at c.in-Unknown.cell.key c.in_ok-value.ensures.same u h room)
+    (λ v h anew room. under_kept c.args.store.now.sheet (g.M.Memo.state c.args.self.now.memo) (g.M.Memo.state c.value_now.new.memo) (g.M.Memo.state c.run.new.self.memo) c.args.world.now c.args.at c.in-Unknown.cell.key c.in_ok-value.ensures.same u h room)
     c.run.ensures.kept
 
 pub returns-in-Unknown-clause-uncounted : goal.returns-in-Unknown-clause-uncounted
 returns-in-Unknown-clause-uncounted g c =
     let u = rw c.in-Unknown.is at c.in_ok-value.ensures.unknown in
-    λ easy. absurd (not_easy c.args.store.now.sheet (g.M.Memo.state c.args.memo.now) c.args.world.now c.args.at c.in-Unknown.cell.key c.requires.memo u easy)
+    λ easy. absurd (not_easy c.args.store.now.sheet (g.M.Memo.state c.args.self.now.memo) c.args.world.now c.args.at c.in-Unknown.cell.key c.requires.memo u easy)
 
 pub returns-in-Unknown-clause-settled : goal.returns-in-Unknown-clause-settled
 returns-in-Unknown-clause-settled g c =
     let u = rw c.in-Unknown.is at c.in_ok-value.ensures.unknown in
     IfOk-weaker c.run.result _ _
-    (λ v h. under_settled c.args.store.now.sheet (g.M.Memo.state c.args.memo.now) c.args.world.now c.args.at (g.M.Memo.state c.value_now.new.memo) (g.M.Memo.state c.run.new.memo) c.in-Unknown.cell.key c.in_ok-value.ensures.same u h)
+    (λ v h. under_settled c.args.store.now.sheet (g.M.Memo.state c.args.self.now.memo) c.args.world.now c.args.at (g.M.Memo.state c.value_now.new.memo) (g.M.Memo.state c.run.new.self.memo) c.in-Unknown.cell.key c.in_ok-value.ensures.same u h)
     c.run.ensures.settled
 
 pub value_now-requires-clause-memo : goal.value_now-requires-clause-memo

@@ -4,11 +4,11 @@ use Rattle.wi_sheet.specs.Demand.{Case}
 use Rattle.wi_engine.specs.declared.frame.Frame.{Frame}
 use Rattle.wi_engine.specs.Inner.Frames.{case_at, spare}
 use Rattle.wi_engine.specs.Inner.MemoState.{MemoState}
-use Rattle.wi_engine.proofs.engine.Running.{IsNew, Keeps, run_start, run_push, push_smaller, run_pop, pop_smaller, run_below, run_take, run_value}
-use Rattle.wi_engine.proofs.engine.Saving.{Takes, saving_start, saving_push, saving_pop, saving_kept, saving_take, settled_end, takes_more, push_takes}
+use Rattle.wi_engine.proofs.engine.Running.{IsNew, run_start, run_push, push_smaller, run_pop, pop_smaller, run_below, run_take, run_value}
+use Rattle.wi_engine.proofs.engine.Saving.{takes_of, saving_start, saving_push, saving_pop, saving_kept, saving_take, settled_end, takes_more, push_takes}
 use Rattle.wi_engine.proofs.Saved.{gives_up_none, gives_up_then}
 use Rattle.wi_engine.proofs.engine.Ends.{step_same, step_kept, going_stops, going_ends}
-use Rattle.wi_engine.proofs.engine.run.Goals as goal
+use Rattle.wi_engine.proofs.question.Question.run.Goals as goal
 
 -- a stack of no frames
 no_frames : (fs : List Frame) (n : ℕ) → n ≡ length fs → n ≡ 0 → fs ≡ []
@@ -20,8 +20,8 @@ frames-init g c =
     let n = c.new-frame.ensures in
     let new : IsNew c.args.store.now.sheet c.new-frame.result c.args.key = record { key = n.key; formula = rw n.formula c.requires.formula; cells = n.cells; what_ifs = n.what_ifs; waiting = n.waiting } in
     let s = c.args.store.now.sheet in
-    let m = g.M.Memo.state c.args.memo.now in
-    let start = c.args.meter.now in
+    let m = g.M.Memo.state c.args.self.now.memo in
+    let start = c.args.self.now.meter in
     let empty = c.new-stack.ensures.items in
     record {
       running = run_start s m c.args.key c.new-stack.result.items c.new-frame.result start c.requires.memo c.requires.key c.requires.unfound new empty;
@@ -35,7 +35,7 @@ frames-init g c =
 pub frames-smaller-in-Needs : goal.frames-smaller-in-Needs
 frames-smaller-in-Needs g c =
     let next = rw c.in-Needs.is at c.in_ok-next.ensures.next in
-    push_smaller c.args.store.now.sheet (g.M.Memo.state c.args.memo.now) (g.M.Memo.state c.frames.memo) (g.M.Memo.state c.advance.new.memo) (case_at c.args.key) c.args.meter.now c.frames.meter c.frames.stack.items
+    push_smaller c.args.store.now.sheet (g.M.Memo.state c.args.self.now.memo) (g.M.Memo.state c.frames.self.memo) (g.M.Memo.state c.advance.new.memo) (case_at c.args.key) c.args.self.now.meter c.frames.self.meter c.frames.stack.items
     c.frames.frame c.new-frame-in-Needs.result c.in-Needs.next.key c.frames.invariant.running c.in_ok-next.ensures.same next c.new-frame-in-Needs.ensures.key
 
 pub frames-preserved-in-Needs : goal.frames-preserved-in-Needs
@@ -47,28 +47,28 @@ frames-preserved-in-Needs g c =
     let stands = rw c.in-Needs.is at a.formula in
     let new : IsNew c.args.store.now.sheet c.new-frame-in-Needs.result c.in-Needs.next.key = record { key = n.key; formula = rw n.formula stands; cells = n.cells; what_ifs = n.what_ifs; waiting = n.waiting } in
     let s = c.args.store.now.sheet in
-    let old = g.M.Memo.state c.args.memo.now in
-    let m = g.M.Memo.state c.frames.memo in
+    let old = g.M.Memo.state c.args.self.now.memo in
+    let m = g.M.Memo.state c.frames.self.memo in
     let after = g.M.Memo.state c.advance.new.memo in
     let root = case_at c.args.key in
-    let start = c.args.meter.now in
+    let start = c.args.self.now.meter in
     let going = c.frames.invariant in
     let pushed = c.in_ok-push-in-Needs.ensures.items in
     record {
-      running = run_push s old m after root start c.frames.meter c.advance.new.meter c.frames.stack.items c.push.new.self.items c.frames.frame c.advance.new.frame c.new-frame-in-Needs.result c.in-Needs.next.key going.running a.same a.key a.frame next c.advance.ensures.counts counted a.restarts new pushed;
-      places = push_takes old m after start.evaluations c.frames.meter.evaluations c.advance.new.meter.evaluations going.places a.same counted;
+      running = run_push s old m after root start c.frames.self.meter c.advance.new.meter c.frames.stack.items c.push.new.self.items c.frames.frame c.advance.new.frame c.new-frame-in-Needs.result c.in-Needs.next.key going.running a.same a.key a.frame next c.advance.ensures.counts counted a.restarts new pushed;
+      places = push_takes old m after start.evaluations c.frames.self.meter.evaluations c.advance.new.meter.evaluations going.places a.same counted;
       gives_up = gives_up_then old m after going.gives_up (gives_up_none m after a.same);
       capacity = ap (λ (x : MemoState). x.capacity) a.same ∙ going.capacity;
       latest = ap (λ (x : MemoState). x.latest) a.same ∙ going.latest;
       saving = λ ks closed top whole room.
-          saving_push s old m after root start c.frames.meter c.advance.new.meter c.frames.stack.items c.push.new.self.items c.frames.frame c.advance.new.frame c.new-frame-in-Needs.result c.in-Needs.next.key ks (going.saving ks closed top whole room) a.same a.key a.frame next
+          saving_push s old m after root start c.frames.self.meter c.advance.new.meter c.frames.stack.items c.push.new.self.items c.frames.frame c.advance.new.frame c.new-frame-in-Needs.result c.in-Needs.next.key ks (going.saving ks closed top whole room) a.same a.key a.frame next
           c.advance.ensures.counts counted a.restarts new pushed a.found;
     }
 
 pub frames-smaller : goal.frames-smaller
 frames-smaller g c =
-    pop_smaller c.args.store.now.sheet (g.M.Memo.state c.args.memo.now) (g.M.Memo.state c.frames.memo) (g.M.Memo.state c.advance.new.memo) (g.M.Memo.state c.keep-in-Some.new.self) (case_at c.args.key) c.args.meter.now c.frames.meter
-    c.frames.stack.items c.frames.frame c.take_in.new.frame c.retire-key.result c.frames.invariant.running c.in_ok-next.ensures.same (c.retire-key.ensures ∙ c.in_ok-next.ensures.key) c.in_ok-keep-in-Some.ensures.found
+    pop_smaller c.args.store.now.sheet (g.M.Memo.state c.args.self.now.memo) (g.M.Memo.state c.frames.self.memo) (g.M.Memo.state c.advance.new.memo) (g.M.Memo.state c.keep-in-Some.new.self) (case_at c.args.key) c.args.self.now.meter c.frames.self.meter
+    c.frames.stack.items c.frames.frame c.take_in.new.frame c.retire-key.result c.frames.invariant.running c.in_ok-next.ensures.same (c.retire-key.ensures ∙ c.in_ok-next.ensures.key) c.in_ok-keep-in-Some.ensures.kept.found
     c.requires.key.open_cell c.requires.key.formula
 
 pub frames-preserved : goal.frames-preserved
@@ -80,40 +80,39 @@ frames-preserved g c =
     let counted = rw c.in-Done.is at a.evaluations in
     let rests = rw c.in-Done.is at a.rests in
     let popped = c.in-Some.ensures.items in
-    let restarts : c.advance.new.meter.restarts ≤ c.frames.meter.restarts + spare s c.frames.frame = omega (arith, a.restarts) in
-    let old = g.M.Memo.state c.args.memo.now in
-    let m = g.M.Memo.state c.frames.memo in
+    let restarts : c.advance.new.meter.restarts ≤ c.frames.self.meter.restarts + spare s c.frames.frame = omega (arith, a.restarts) in
+    let old = g.M.Memo.state c.args.self.now.memo in
+    let m = g.M.Memo.state c.frames.self.memo in
     let mid = g.M.Memo.state c.advance.new.memo in
     let after = g.M.Memo.state c.keep-in-Some.new.self in
     let root = case_at c.args.key in
-    let start = c.args.meter.now in
+    let start = c.args.self.now.meter in
     let going = c.frames.invariant in
     let key = c.retire-key.ensures ∙ a.key in
-    let keeps : Keeps mid after c.retire-key.result c.in-Done.value = record { sheet = k.same_sheet; covers = k.same_cells; generation = k.same_generation; known = k.known; told = k.told } in
-    let takes : Takes mid after c.retire-key.result = record { kept = k.kept; room = k.room; places = k.one_place } in
+    let takes = takes_of k.keeps k.kept in
     let taken = c.in_ok-take_in-in-Some.ensures in
     let b = c.in-Some.below in
     let f = c.take_in.new.frame in
     let same = c.take_in.ensures.key in
-    let running = run_pop s old m mid after root start c.frames.meter c.advance.new.meter c.pop.new.self.items c.frames.stack.items c.frames.frame b c.retire-key.result c.in-Done.value going.running a.same popped key keeps k.found value c.advance.ensures.counts counted restarts in
+    let running = run_pop s old m mid after root start c.frames.self.meter c.advance.new.meter c.pop.new.self.items c.frames.stack.items c.frames.frame b c.retire-key.result c.in-Done.value going.running a.same popped key k.keeps k.kept.found value c.advance.ensures.counts counted restarts in
     let frame = taken.frame after running.begun.frame in
     record {
       running = run_take s old after root start c.advance.new.meter c.pop.new.self.items b f running same frame taken.spare;
-      places = takes_more old m after start.evaluations c.frames.meter.evaluations c.advance.new.meter.evaluations going.places (rw (← a.same) k.one_place) counted;
-      gives_up = gives_up_then old m after going.gives_up (rw (← a.same) k.gives_up);
-      capacity = k.same_capacity ∙ ap (λ (x : MemoState). x.capacity) a.same ∙ going.capacity;
-      latest = k.same_latest ∙ ap (λ (x : MemoState). x.latest) a.same ∙ going.latest;
+      places = takes_more old m after start.evaluations c.frames.self.meter.evaluations c.advance.new.meter.evaluations going.places (rw (← a.same) k.keeps.places) counted;
+      gives_up = gives_up_then old m after going.gives_up (rw (← a.same) k.keeps.gives_up);
+      capacity = k.keeps.same.capacity ∙ ap (λ (x : MemoState). x.capacity) a.same ∙ going.capacity;
+      latest = k.keeps.same.latest ∙ ap (λ (x : MemoState). x.latest) a.same ∙ going.latest;
       saving = λ ks closed top whole room.
           let saving = going.saving ks closed top whole room in
-          let below = saving_pop s old m mid after root start c.frames.meter c.advance.new.meter c.pop.new.self.items c.frames.stack.items c.frames.frame b c.retire-key.result c.in-Done.value ks closed top saving a.same popped key keeps
-          k.found takes value c.advance.ensures.counts counted restarts rests in
-          let kept = saving_kept s old m mid after root start c.frames.meter c.frames.stack.items c.frames.frame c.retire-key.result ks closed top saving a.same key k.found takes in
+          let below = saving_pop s old m mid after root start c.frames.self.meter c.advance.new.meter c.pop.new.self.items c.frames.stack.items c.frames.frame b c.retire-key.result c.in-Done.value ks closed top saving a.same popped key k.keeps
+          k.kept.found takes value c.advance.ensures.counts counted restarts rests in
+          let kept = saving_kept s old m mid after root start c.frames.self.meter c.frames.stack.items c.frames.frame c.retire-key.result ks closed top saving a.same key k.kept.found takes in
           saving_take s old after root start c.advance.new.meter c.pop.new.self.items b f ks below same frame taken.spare (taken.settled after.kept kept below.settling.top);
     }
 
 pub take_in-requires-clause-awaits : goal.take_in-requires-clause-awaits
 take_in-requires-clause-awaits g c =
-    (run_below c.args.store.now.sheet (g.M.Memo.state c.args.memo.now) (g.M.Memo.state c.frames.memo) (case_at c.args.key) c.args.meter.now c.frames.meter c.pop.new.self.items c.frames.stack.items c.frames.frame c.in-Some.below c.frames.invariant.running c.in-Some.ensures.items).waiting
+    (run_below c.args.store.now.sheet (g.M.Memo.state c.args.self.now.memo) (g.M.Memo.state c.frames.self.memo) (case_at c.args.key) c.args.self.now.meter c.frames.self.meter c.pop.new.self.items c.frames.stack.items c.frames.frame c.in-Some.below c.frames.invariant.running c.in-Some.ensures.items).waiting
 
 pub take_in-requires-clause-own : goal.take_in-requires-clause-own
 take_in-requires-clause-own g c = rw c.retire-key.ensures c.in_ok-next.ensures.frame.key.own
@@ -127,9 +126,9 @@ pub returns-in-None-clause-settled : goal.returns-in-None-clause-settled
 returns-in-None-clause-settled g c =
     let k = c.in_ok-keep-in-None.ensures in
     let a = c.in_ok-next.ensures in
-    let takes : Takes (g.M.Memo.state c.advance.new.memo) (g.M.Memo.state c.keep.new.self) c.retire-root.result = record { kept = k.kept; room = k.room; places = k.one_place } in
-    settled_end c.args.store.now.sheet (g.M.Memo.state c.args.memo.now) (g.M.Memo.state c.frames.memo) (g.M.Memo.state c.advance.new.memo) (g.M.Memo.state c.keep.new.self) c.args.key c.args.meter.now c.frames.meter
-    c.frames.stack.items c.frames.frame c.retire-root.result c.frames.invariant a.same (no_frames c.frames.stack.items c.frames.stack.len c.frames.stack.ok.0 c.in-None.ensures.cases.0) (c.retire-root.ensures ∙ a.key) k.found takes
+    let takes = takes_of k.keeps k.kept in
+    settled_end c.args.store.now.sheet (g.M.Memo.state c.args.self.now.memo) (g.M.Memo.state c.frames.self.memo) (g.M.Memo.state c.advance.new.memo) (g.M.Memo.state c.keep.new.self) c.args.key c.args.self.now.meter c.frames.self.meter
+    c.frames.stack.items c.frames.frame c.retire-root.result c.frames.invariant a.same (no_frames c.frames.stack.items c.frames.stack.len c.frames.stack.ok.0 c.in-None.ensures.cases.0) (c.retire-root.ensures ∙ a.key) k.kept.found takes
 
 pub advance-requires-clause-memo : goal.advance-requires-clause-memo
 advance-requires-clause-memo g c = c.frames.invariant.running.memo
@@ -170,7 +169,7 @@ keep-requires-in-Some-clause-right g c =
 pub returns-in-None-clause-value : goal.returns-in-None-clause-value
 returns-in-None-clause-value g c =
     let value = rw c.in-Done.is at c.in_ok-next.ensures.done in
-    run_value c.args.store.now.sheet (g.M.Memo.state c.args.memo.now) (g.M.Memo.state c.frames.memo) c.args.key c.args.meter.now c.frames.meter c.frames.stack.items c.frames.frame c.in_ok-shown-in-None.shown c.frames.invariant.running (no_frames c.frames.stack.items c.frames.stack.len c.frames.stack.ok.0 c.in-None.ensures.cases.0) (c.in_ok-shown-in-None.ensures ∙ value)
+    run_value c.args.store.now.sheet (g.M.Memo.state c.args.self.now.memo) (g.M.Memo.state c.frames.self.memo) c.args.key c.args.self.now.meter c.frames.self.meter c.frames.stack.items c.frames.frame c.in_ok-shown-in-None.shown c.frames.invariant.running (no_frames c.frames.stack.items c.frames.stack.len c.frames.stack.ok.0 c.in-None.ensures.cases.0) (c.in_ok-shown-in-None.ensures ∙ value)
 
 pub returns-in-None-clause-kept : goal.returns-in-None-clause-kept
 returns-in-None-clause-kept g c =
@@ -179,7 +178,7 @@ returns-in-None-clause-kept g c =
     let bottom : case_at c.frames.frame.key ≡ case_at c.args.key = rw empty at c.frames.invariant.running.bottom in
     let same : case_at c.retire-root.result ≡ case_at c.args.key = ap case_at (c.retire-root.ensures ∙ a.key) ∙ bottom in
     let capacity = ap (λ (x : MemoState). x.capacity) a.same ∙ c.frames.invariant.capacity in
-    λ room. subst (λ (j : Case). (g.M.Memo.state c.keep.new.self).kept j.0 j.1 ≡ true) same (c.in_ok-keep-in-None.ensures.there (rw capacity room))
+    λ room. subst (λ (j : Case). (g.M.Memo.state c.keep.new.self).kept j.0 j.1 ≡ true) same (c.in_ok-keep-in-None.ensures.kept.there (rw capacity room))
 
 -- ---- what was spent, at each end
 
@@ -215,8 +214,7 @@ returns-in_err-keep-in-Some-clause-spends g c =
     let a = c.in_ok-next.ensures in
     let k = c.in_err-keep-in-Some.ensures in
     let i = c.frames.invariant in
-    let keeps : Keeps (g.M.Memo.state c.advance.new.memo) (g.M.Memo.state c.keep-in-Some.new.self) c.retire-key.result c.in-Done.value = record { sheet = k.same_sheet; covers = k.same_cells; generation = k.same_generation; known = k.known; told = k.told } in
-    let step = step_kept i.running.memo a.same (c.retire-key.ensures ∙ a.key) (rw c.in-Done.is at a.done) keeps k.one_place k.gives_up k.same_capacity k.same_latest a.counts (rw c.in-Done.is at a.evaluations) (omega (arith, a.restarts)) in
+    let step = step_kept i.running.memo a.same (c.retire-key.ensures ∙ a.key) (rw c.in-Done.is at a.done) k.keeps a.counts (rw c.in-Done.is at a.evaluations) (omega (arith, a.restarts)) in
     going_stops i step c.from_residual-in_err-keep-in-Some.result c.from_residual-in_err-keep-in-Some.ensures.0
 
 pub returns-in_err-keep-in-None-clause-spends : goal.returns-in_err-keep-in-None-clause-spends
@@ -224,8 +222,7 @@ returns-in_err-keep-in-None-clause-spends g c =
     let a = c.in_ok-next.ensures in
     let k = c.in_err-keep-in-None.ensures in
     let i = c.frames.invariant in
-    let keeps : Keeps (g.M.Memo.state c.advance.new.memo) (g.M.Memo.state c.keep.new.self) c.retire-root.result c.in-Done.value = record { sheet = k.same_sheet; covers = k.same_cells; generation = k.same_generation; known = k.known; told = k.told } in
-    let step = step_kept i.running.memo a.same (c.retire-root.ensures ∙ a.key) (rw c.in-Done.is at a.done) keeps k.one_place k.gives_up k.same_capacity k.same_latest a.counts (rw c.in-Done.is at a.evaluations) (omega (arith, a.restarts)) in
+    let step = step_kept i.running.memo a.same (c.retire-root.ensures ∙ a.key) (rw c.in-Done.is at a.done) k.keeps a.counts (rw c.in-Done.is at a.evaluations) (omega (arith, a.restarts)) in
     going_stops i step c.from_residual-in_err-keep-in-None.result c.from_residual-in_err-keep-in-None.ensures.0
 
 pub returns-in-None-clause-spends : goal.returns-in-None-clause-spends
@@ -235,7 +232,6 @@ returns-in-None-clause-spends g c =
     let i = c.frames.invariant in
     let key = c.retire-root.ensures ∙ a.key in
     let counted = rw c.in-Done.is at a.evaluations in
-    let keeps : Keeps (g.M.Memo.state c.advance.new.memo) (g.M.Memo.state c.keep.new.self) c.retire-root.result c.in-Done.value = record { sheet = k.same_sheet; covers = k.same_cells; generation = k.same_generation; known = k.known; told = k.told } in
-    let takes : Takes (g.M.Memo.state c.advance.new.memo) (g.M.Memo.state c.keep.new.self) c.retire-root.result = record { kept = k.kept; room = k.room; places = k.one_place } in
-    let step = step_kept i.running.memo a.same key (rw c.in-Done.is at a.done) keeps k.one_place k.gives_up k.same_capacity k.same_latest a.counts counted (omega (arith, a.restarts)) in
-    going_ends i step a.same (no_frames c.frames.stack.items c.frames.stack.len c.frames.stack.ok.0 c.in-None.ensures.cases.0) key k.found takes counted (rw c.in-Done.is at a.rests)
+    let takes = takes_of k.keeps k.kept in
+    let step = step_kept i.running.memo a.same key (rw c.in-Done.is at a.done) k.keeps a.counts counted (omega (arith, a.restarts)) in
+    going_ends i step a.same (no_frames c.frames.stack.items c.frames.stack.len c.frames.stack.ok.0 c.in-None.ensures.cases.0) key k.kept.found takes counted (rw c.in-Done.is at a.rests)

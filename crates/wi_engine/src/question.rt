@@ -1,0 +1,110 @@
+//! A question in progress.
+
+ghost use Rattle.std.specs.Prelude.{◌≡◌, ◌≤◌, true, false, Contains, IfOk, OnOk, is_ok};
+ghost use Rattle.wi_parser.specs.Sheet.{put_all};
+ghost use Rattle.wi_sheet.specs.CellValue as show;
+ghost use Rattle.wi_sheet.specs.Demand.{reaching};
+ghost use Rattle.wi_sheet.specs.Settled.{IsSettled};
+ghost use Rattle.wi_sheet.specs.Inner.Spending.{HasCase};
+ghost use Rattle.wi_engine.specs.Inner.MemoState.{IsMemoOf};
+ghost use Rattle.wi_engine.specs.Inner.Frames.{MayBeRead, IsToValue, StandsAt, case_at};
+ghost use Rattle.wi_engine.specs.Inner.Saving.{WhereRoom, NeedsNoEvaluation, IsValuedAnew};
+ghost use Rattle.wi_engine.specs.Inner.Spends.{Spends};
+
+use crate::asked::value_now;
+use crate::engine::{advance, take_in};
+use crate::frame::{Advance, Asked, Frame};
+use crate::memo::Memo;
+use crate::pool::Pool;
+use std::alloc::AllocError;
+use wi_cache::Key;
+use wi_functions::Meter;
+use wi_parser::Formula;
+use wi_store::Store;
+use wi_values::{Address, Value};
+use wi_worlds::World;
+
+/// A question in progress: what is remembered of values, what was counted, and arrays for the formulas to come.
+#[derive(Drop)]
+pub struct Question<M: Memo + Drop> {
+    pub memo: M,
+    pub meter: Meter,
+    pub pool: Pool,
+}
+
+impl<M: Memo + Drop> Question<M> {
+    /// The value of a cell under replacements, with what is remembered of others, and of it. A formula is valued where no
+    /// value is remembered for its key, and each only once, however many rest on it. No formula calls for another on the
+    /// machine's stack: those that wait stand in a list, which grows as the references lead on. Each takes its arrays
+    /// from a pool, into which they go when its value is there.
+    pub fn value(&mut self, store: &Store, world: &World, at: Address) -> Result<Value, AllocError>
+        requires memo { IsMemoOf store.now.sheet (M.state self.old.memo) }
+        requires read { MayBeRead store.now.sheet (M.state self.old.memo) at }
+        ensures value { IfOk result (λ v. v ≡ show.cell_value (put_all store.now.sheet world.now) at) }
+
+        // What is remembered then is right, and no more is counted than the cases cost whose values were not,
+        // also where memory runs out.
+        ensures spends { Spends store.now.sheet (HasCase store.now.sheet world.now at)
+            (M.state self.old.memo) (M.state self.new.memo) self.old.meter self.new.meter (is_ok result) }
+
+        // A value that is remembered, and one that no formula gives, is counted for nothing.
+        ensures uncounted { NeedsNoEvaluation store.now.sheet (M.state self.old.memo) world.now at
+            → self.new.meter ≡ self.old.meter }
+
+        // What is kept for longer, and where there is room for all that is found.
+        ensures kept { OnOk result (IsValuedAnew store.now.sheet (M.state self.old.memo) world.now at
+            → 1 ≤ (M.state self.old.memo).capacity
+            → (M.state self.new.memo).kept at (reaching store.now.sheet at world.now) ≡ true) }
+        ensures settled { OnOk result (WhereRoom store.now.sheet (HasCase store.now.sheet world.now at)
+            (M.state self.old.memo)
+            (λ _. IsSettled store.now.sheet (M.state self.new.memo).kept world.now at)) }
+    {
+        match value_now(self.pool.allocator(), store, world, at, &mut self.memo)? {
+            Asked::Known(value) => Ok(value),
+            Asked::Unknown(cell) => self.run(store, cell.key, cell.formula),
+        }
+    }
+
+    /// The value of a formula under the replacements of its key, found by a stack of frames. No value is remembered in
+    /// the place of another, and none twice.
+    fn run(&mut self, store: &Store, key: Key, formula: &Formula) -> Result<Value, AllocError>
+        requires memo { IsMemoOf store.now.sheet (M.state self.old.memo) }
+        requires key { IsToValue store.now.sheet (M.state self.old.memo) key }
+        requires formula { StandsAt store.now.sheet key formula.now }
+        requires unfound { (M.state self.old.memo).found key.cell key.world ≡ false }
+        requires unkept { (M.state self.old.memo).kept key.cell key.world ≡ false }
+        ensures value { IfOk result (λ v. v ≡ show.cell_value (put_all store.now.sheet key.world) key.cell) }
+        ensures spends { Spends store.now.sheet (λ ks. Contains ks (case_at key))
+            (M.state self.old.memo) (M.state self.new.memo) self.old.meter self.new.meter (is_ok result) }
+        ensures kept { OnOk result (1 ≤ (M.state self.old.memo).capacity
+            → (M.state self.new.memo).kept key.cell key.world ≡ true) }
+        ensures settled { OnOk result (WhereRoom store.now.sheet (λ ks. Contains ks (case_at key))
+            (M.state self.old.memo) (λ _. (M.state self.new.memo).kept key.cell key.world ≡ true)) }
+    {
+        let alloc = self.pool.allocator();
+        let mut stack = Vec::new(alloc);
+        let mut frame = Frame::new(key, formula, self.pool.take());
+        'frames: loop {
+            match advance(alloc, store, &mut frame, &mut self.memo, &mut self.meter)? {
+                Advance::Needs(next) => {
+                    stack.push(frame)?;
+                    frame = Frame::new(next.key, next.formula, self.pool.take());
+                }
+                Advance::Done(value) => match stack.pop() {
+                    None => {
+                        let shown = value.copy(alloc)?;
+                        let root = frame.retire(&mut self.pool);
+                        self.memo.keep(root, value)?;
+                        return Ok(shown);
+                    }
+                    Some(below) => {
+                        let key = frame.retire(&mut self.pool);
+                        frame = below;
+                        take_in(alloc, store, &mut frame, &key, &value)?;
+                        self.memo.keep(key, value)?;
+                    }
+                },
+            }
+        }
+    }
+}
