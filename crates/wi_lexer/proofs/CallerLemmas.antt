@@ -8,8 +8,8 @@ use Rattle.wi_lexer.specs.declared.lexer.BadToken.{BadToken}
 use Rattle.wi_lexer.specs.Runs.{blanks_len}
 use Rattle.wi_lexer.specs.Token.{NoToken, after_blanks}
 use Rattle.wi_lexer.specs.Inner.Token.{token_at}
-use Rattle.wi_lexer.specs.Inner.Inside.{Scan}
-use Rattle.wi_lexer.specs.Inner.Scan.{start_of, ahead, IsNextToken, IsDone, Lexes}
+use Rattle.wi_lexer.specs.Scan.{Scan}
+use Rattle.wi_lexer.specs.Lexing.{start_of, ahead, IsNextToken, IsDone, Lexes}
 use Rattle.wi_lexer.specs.Tokens.{Tokens, no_tokens, bad_token, then_tokens}
 use Rattle.wi_lexer.specs.Inner.Tokens.{tokens_from, tokens_ahead, tokens_within, tokens}
 use Rattle.wi_lexer.proofs.TokenLemmas.{token_some, token_sound, token_complete, none_found}

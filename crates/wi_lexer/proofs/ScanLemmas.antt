@@ -7,8 +7,8 @@ use Rattle.wi_lexer.specs.declared.token.Kind.{Kind}
 use Rattle.wi_lexer.specs.Runs.{blanks_len}
 use Rattle.wi_lexer.specs.Token.{IsLongest, NoToken}
 use Rattle.wi_lexer.specs.Inner.Token.{token_at}
-use Rattle.wi_lexer.specs.Inner.Inside.{Scan}
-use Rattle.wi_lexer.specs.Inner.Scan.{ahead}
+use Rattle.wi_lexer.specs.Scan.{Scan}
+use Rattle.wi_lexer.specs.Lexing.{ahead}
 use Rattle.wi_lexer.proofs.TokenLemmas.{token_sound, none_begins}
 
 abbrev scan : List ℕ → List ℕ → Scan

@@ -8,7 +8,6 @@ pub mod Number
 pub mod Rectangle
 pub mod Reference
 pub mod Runs
-pub mod Scan
 pub mod Text
 pub mod Token
 pub mod Tokens

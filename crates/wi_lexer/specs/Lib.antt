@@ -7,4 +7,6 @@ pub mod Text
 pub mod Mark
 pub mod Token
 pub mod Tokens
+pub mod Scan
+pub mod Lexing
 pub mod Inner

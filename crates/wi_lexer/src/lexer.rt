@@ -1,7 +1,7 @@
 //! The tokens of a text, one after another.
 
 ghost use Rattle.std.specs.Prelude.{◌≡◌};
-ghost use Rattle.wi_lexer.specs.Inner.Scan.{Lexes, start_of};
+ghost use Rattle.wi_lexer.specs.Lexing.{Lexes, start_of};
 
 use crate::runs::blanks_len;
 use crate::token::{Kind, token_at};
@@ -31,7 +31,7 @@ pub struct Lexer<'a> {
 }
 
 impl<'a> Model for Lexer<'a> {
-    ghost use Rattle.wi_lexer.specs.Inner.Inside.{Scan};
+    ghost use Rattle.wi_lexer.specs.Scan.{Scan};
 
     ghost Value = { Scan };
 

@@ -1,11 +1,7 @@
--- What a `Lexer` shows, and what it keeps.
-use Rattle.std.specs.Prelude.{◌≡◌, ◌-◌, ◌≤◌, List, ℕ, length, drop}
+-- What a `Lexer` keeps, and how it is seen.
+use Rattle.std.specs.Prelude.{◌≡◌, ◌-◌, ◌≤◌, length, drop}
+use Rattle.wi_lexer.specs.Scan.{Scan}
 use Rattle.wi_lexer.specs.declared.lexer.Lexer.TheInside.{Inside}
-
--- The source, and what is left of it.
-pub record Scan : Type 0 where
-  pub source : List ℕ
-  pub rest : List ℕ
 
 abbrev pub scan_of : Inside → Scan
 scan_of l = record { source = l.source.now; rest = l.rest.now }

@@ -2,7 +2,7 @@
 use Rattle.std.specs.Prelude.{◌≡◌, ◌≢◌, ℕ, ◌+◌, List, [], ◌++◌, length, take, drop, Option, Some, None, Result, Ok, Err}
 use Rattle.wi_lexer.specs.declared.lexer.Token.{Token}
 use Rattle.wi_lexer.specs.declared.lexer.BadToken.{BadToken}
-use Rattle.wi_lexer.specs.Inner.Inside.{Scan}
+use Rattle.wi_lexer.specs.Scan.{Scan}
 use Rattle.wi_lexer.specs.Token.{IsLongest, NoToken, after_blanks}
 
 -- a text of which nothing was read
