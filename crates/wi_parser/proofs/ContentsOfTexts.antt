@@ -13,8 +13,8 @@ use Rattle.wi_parser.specs.declared.content.Content.{Content}
 use Rattle.wi_parser.specs.declared.content.Content.TheVariants.{Constant}
 use Rattle.wi_parser.specs.declared.fault.ParseFault.{ParseFault}
 use Rattle.wi_parser.specs.declared.fault.ParseFault.TheVariants.{TooLong, Syntax}
-use Rattle.wi_parser.specs.Contents.{IsFormulaText, plain, prefixed, AreJudged, at_fault, a_tree, no_tree, IsParsed, too_long, as_judged, IsConstantText, IsContent, a_formula, no_formula, a_text, a_long_text, a_constant, no_constant}
-use Rattle.wi_parser.specs.Inner.FormulaText.{symbols_of, after, after_equals, formula_symbols}
+use Rattle.wi_parser.specs.Contents.{IsFormulaText, plain, prefixed, IsNoFormulaText, IsTextOf, AreJudged, at_fault, a_tree, no_tree, IsParsed, too_long, as_judged, IsConstantText, IsContent, a_formula, no_formula, a_text, a_long_text, a_constant, no_constant}
+use Rattle.wi_parser.specs.Inner.FormulaText.{symbols_of, symbols_by, after, after_prefix, after_equals, formula_symbols}
 use Rattle.wi_parser.specs.Grammar.{Spells, loosest}
 use Rattle.wi_parser.specs.Nesting.{max_depth}
 use Rattle.wi_parser.specs.Inner.Reader.{whole}
@@ -23,10 +23,10 @@ use Rattle.wi_parser.specs.Inner.Reading.{unless_refused, judged, parsed, as_con
 use Rattle.wi_parser.specs.Symbol.{Symbol}
 use Rattle.wi_parser.specs.Symbols.{AreSymbols}
 use Rattle.wi_parser.specs.Tree.{Tree}
-use Rattle.wi_parser.proofs.Complete.{whole_complete}
+use Rattle.wi_parser.proofs.Complete.{whole_complete, one_tree}
 use Rattle.wi_parser.proofs.Depth.{depth-deepest}
 use Rattle.wi_parser.proofs.Fronts.{after-append, after-some}
-use Rattle.wi_parser.proofs.Parses.{parsed_long, parsed_short, shallow}
+use Rattle.wi_parser.proofs.Parses.{parsed_exactly, parsed_long, parsed_short, no_refused_first, shallow}
 use Rattle.wi_parser.proofs.Sound.{whole_sound}
 use Rattle.wi_parser.proofs.SymbolsOfTexts.{symbols_exactly}
 
@@ -101,6 +101,29 @@ formula_text text body e = by_prefix (after (codes "of:") text) refl e
 body_after : (text body : List ℕ) → IsFormulaText text body → after_equals text ≡ Some body
 body_after text body (plain bs) = refl
 body_after text body (prefixed bs) = refl
+
+-- ---- no text has two trees, and one that is no formula's has none
+
+spelled_by : (text : List ℕ) (t : Tree) → IsTextOf text t → Spells loosest t (formula_symbols text)
+spelled_by text t a = subst (λ ts. Spells loosest t ts) (sym ((formula_symbols_exactly text a.body a.symbols a.is_formula).0 a.are_symbols)) a.spelled
+
+pub one_tree_of_text : (text : List ℕ) (t u : Tree) → IsTextOf text t → IsTextOf text u → t ≡ u
+one_tree_of_text text t u a b = one_tree t u (formula_symbols text) (spelled_by text t a) (spelled_by text u b)
+
+nothing_spelled : (text : List ℕ) → IsNoFormulaText text → (t : Tree) → Spells loosest t (formula_symbols text) → ⊥
+unfolding formula_symbols
+nothing_spelled text none t s = by_equals (after_equals text) refl s
+  where
+    by_equals : (o : Option (List ℕ)) → after_equals text ≡ o → Spells loosest t (symbols_by (after_prefix text) o) → ⊥
+    by_equals (Some body) e u = none body (formula_text text body e)
+    by_equals None e u = no_refused_first Syntax _ t u
+
+pub no_formula_is_refused : (text : List ℕ) → IsNoFormulaText text → (e : ParseFault) × (parsed text ≡ Err e)
+no_formula_is_refused text none = by_result (parsed text) refl
+  where
+    by_result : (r : Result Tree ParseFault) → parsed text ≡ r → (e : ParseFault) × (parsed text ≡ Err e)
+    by_result (Err e) h = (e, h)
+    by_result (Ok t) h = absurd (nothing_spelled text none t ((parsed_exactly text t).0 h).1)
 
 constant_text : (text : List ℕ) → after_equals text ≡ None → after (codes "'") text ≡ None → IsConstantText text
 constant_text text e f = record {

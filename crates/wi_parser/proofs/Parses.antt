@@ -50,6 +50,10 @@ mutual
   none_in_more last_parameter = refl
   none_in_more (another_parameter t all ts us s u) = none_in_both ts us (none_is_refused s) (none_in_more u)
 
+-- no tree is spelled by symbols of which the first is refused
+pub no_refused_first : (e : ParseFault) (ts : List Symbol) (t : Tree) → Spells loosest t (refused e ∷ ts) → ⊥
+no_refused_first e ts t s = let h : true ≡ false = none_is_refused s in cc
+
 -- a test that no symbol passes but a refused one
 none_passes : (p : Symbol → Bool) → ((s : Symbol) → is_refused s ≡ false → p s ≡ false) → (ts : List Symbol) → list_any is_refused ts ≡ false → list_any p ts ≡ false
 none_passes p h [] e = refl

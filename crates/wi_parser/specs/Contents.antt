@@ -19,6 +19,18 @@ pub data IsFormulaText : List ℕ → List ℕ → Type 0 where
   plain : (body : List ℕ) → IsFormulaText (codes "=" ++ body) body
   prefixed : (body : List ℕ) → IsFormulaText (codes "of:=" ++ body) body
 
+-- The text is that of a formula, and its symbols spell this tree.
+pub record IsTextOf (text : List ℕ) (t : Tree) : Type 0 where
+  pub body : List ℕ
+  pub symbols : List Symbol
+  pub is_formula : IsFormulaText text body
+  pub are_symbols : AreSymbols body symbols
+  pub spelled : Spells loosest t symbols
+
+-- the text is that of no formula
+abbrev pub IsNoFormulaText : List ℕ → Type 0
+IsNoFormulaText text = (body : List ℕ) → IsFormulaText text body → ⊥
+
 -- The symbols are refused for the first cause that holds; where none does, they spell this tree, or none.
 pub data AreJudged : List Symbol → Result Tree ParseFault → Type 0 where
   at_fault : (ts : List Symbol) (e : ParseFault) → refusal_of ts ≡ Some e → AreJudged ts (Err e)

@@ -1,6 +1,6 @@
 //! Laws of the grammar alone.
 
-ghost use Rattle.std.specs.Prelude.{◌≡◌, ◌↔◌, ℕ, ◌≤◌, pos, true, List, length, Some, Result, Ok, suc};
+ghost use Rattle.std.specs.Prelude.{◌≡◌, ◌↔◌, ℕ, ◌≤◌, pos, true, List, length, Some, Result, Ok, Err, suc};
 ghost use Rattle.std.specs.List.{list_any};
 ghost use Rattle.wi_values.specs.Address.{is_within};
 ghost use Rattle.wi_lexer.specs.Token.{IsToken};
@@ -18,7 +18,7 @@ ghost use Rattle.wi_parser.specs.Inner.FormulaText.{formula_symbols, symbol_of, 
 ghost use Rattle.wi_parser.specs.Limits.{max_formula};
 ghost use Rattle.wi_parser.specs.Inner.Reading.{IsWithinLimits, parsed, content_read};
 ghost use Rattle.wi_parser.specs.Symbols.{Means, AreSymbols};
-ghost use Rattle.wi_parser.specs.Contents.{IsFormulaText, IsParsed, IsContent};
+ghost use Rattle.wi_parser.specs.Contents.{IsFormulaText, IsNoFormulaText, IsTextOf, IsParsed, IsContent};
 ghost use Rattle.wi_parser.specs.Printing.{printed};
 ghost use Rattle.wi_parser.specs.Writable.{IsFormulaTree};
 ghost use Rattle.wi_parser.specs.Reads.{reads, rectangles_of};
@@ -62,6 +62,16 @@ pub fn what_is_spelled()
 /// No symbols spell two trees.
 pub fn one_tree()
     ensures { (t u : Tree) (ts : List Symbol) → Spells loosest t ts → Spells loosest u ts → t ≡ u }
+{}
+
+/// No text has two trees.
+pub fn one_tree_of_a_text()
+    ensures { (text : List ℕ) (t u : Tree) → IsTextOf text t → IsTextOf text u → t ≡ u }
+{}
+
+/// A text that is no formula's is refused.
+pub fn what_no_formula_is()
+    ensures { (text : List ℕ) → IsNoFormulaText text → (e : ParseFault) × (parsed text ≡ Err e) }
 {}
 
 /// A tree nests no deeper than the parentheses of its symbols.
