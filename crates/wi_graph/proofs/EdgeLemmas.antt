@@ -8,8 +8,12 @@ use Rattle.std.specs.BTreeMap.{get, IsOrdered, is_at}
 use Rattle.wi_values.specs.Address.{Area}
 use Rattle.wi_values.proofs.Order.{ComeAfter, Ascends, Ascends-from_order, Ascends-filter, Ascends-insert, come_after_earlier, lookup_after, is_at-eq, at_same, at_itself}
 use Rattle.wi_values.proofs.Lookups.{found-insert, found-without}
+use Rattle.wi_values.specs.declared.value.Value.{Value}
+use Rattle.wi_values.specs.declared.value.Value.TheVariants.{Empty, Number, Text, Logical, Fault}
 use Rattle.wi_parser.specs.declared.content.Content.{Content}
-use Rattle.wi_graph.specs.Edges.{Edges, areas_in, areas_at, with_areas, edges_after}
+use Rattle.wi_parser.specs.declared.content.Content.TheVariants.{Constant, Formula}
+use Rattle.wi_parser.specs.Sheet.{Sheet, constant, content_of, with_content}
+use Rattle.wi_graph.specs.Edges.{Edges, areas_in, areas_at, AreEdgesOf, with_areas, edges_after, brought, sheet_after}
 use Rattle.wi_graph.specs.Inner.Rooms.{Rooms, items_of, in_room, room_at, put_over, room_over, with_room, edges_in, edges_over}
 
 -- ---- what is found
@@ -122,3 +126,34 @@ rooms_same old new h k e =
     let a = Ascends-from_order old.entries h in
     let b = Ascends-from_order new.entries k in
     same_edges (edges_in new.entries) (edges_in old.entries) (ascends_rooms new.entries b) (ascends_rooms old.entries a) (λ q. areas_rooms new.entries b q ∙ e q ∙ sym (areas_rooms old.entries a q))
+
+-- ---- the edges are those of the edited sheet
+
+content_of-with : (s : Sheet) (c : ℕ) (o : Option Content) (q : ℕ) → content_of (with_content s c o) q ≡ cond (q == c) o (content_of s q)
+content_of-with s c None q = found-without s c q
+content_of-with s c (Some x) q = found-insert s c x q
+
+no_areas : (v : Value) → areas_in (constant v) ≡ None
+no_areas Empty = refl
+no_areas (Number n) = refl
+no_areas (Text t) = refl
+no_areas (Logical b) = refl
+no_areas (Fault e) = refl
+
+areas_brought : (o : Option Content) → areas_in (brought o) ≡ areas_in o
+areas_brought None = refl
+areas_brought (Some (Constant v)) = no_areas v
+areas_brought (Some (Formula t)) = refl
+
+areas_in-cond : (b : Bool) (o p : Option Content) → areas_in (cond b o p) ≡ cond b (areas_in o) (areas_in p)
+areas_in-cond true o p = refl
+areas_in-cond false o p = refl
+
+edges_step : (es : Edges) (s : Sheet) (c : ℕ) (o : Option Content) → AreEdgesOf es s → AreEdgesOf (with_areas es c (areas_in o)) (with_content s c (brought o))
+edges_step es s c o h q =
+    areas_with es c (areas_in o) q ∙ ap (λ (x : Option (List Area)). cond (q == c) x (areas_at es q)) (sym (areas_brought o)) ∙ ap (cond (q == c) (areas_in (brought o))) (h q)
+    ∙ sym (areas_in-cond (q == c) (brought o) (content_of s q)) ∙ ap areas_in (sym (content_of-with s c (brought o) q))
+
+pub edges_follow : (es : Edges) (s : Sheet) (changes : List (ℕ × Option Content)) → AreEdgesOf es s → AreEdgesOf (edges_after es changes) (sheet_after s changes)
+edges_follow es s [] h = h
+edges_follow es s (x ∷ xs) h = edges_follow (with_areas es x.0 (areas_in x.1)) (with_content s x.0 (brought x.1)) xs (edges_step es s x.0 x.1 h)

@@ -6,7 +6,7 @@ use Rattle.std.specs.BTreeMap.{is_at, insert_entry}
 use Rattle.wi_values.specs.Address.{Area}
 use Rattle.wi_parser.specs.declared.content.Content.{Content}
 use Rattle.wi_parser.specs.declared.content.Content.TheVariants.{Constant, Formula}
-use Rattle.wi_parser.specs.Sheet.{Sheet, content_of}
+use Rattle.wi_parser.specs.Sheet.{Sheet, constant, content_of, with_content}
 use Rattle.wi_parser.specs.Reads.{rectangles_of}
 
 -- the cells with a formula, in row-major order, each with the rectangles that its formula reads
@@ -36,6 +36,17 @@ with_areas es c (Some rs) = insert_entry nat_cmp es c rs
 abbrev pub edges_after : Edges → List (ℕ × Option Content) → Edges
 edges_after es [] = es
 edges_after es (x ∷ xs) = edges_after (with_areas es x.0 (areas_in x.1)) xs
+
+-- what an edit puts into a cell: the constant Empty is no content
+abbrev pub brought : Option Content → Option Content
+brought None = None
+brought (Some (Constant v)) = constant v
+brought (Some (Formula t)) = Some (Formula t)
+
+-- the sheet after the same edits
+abbrev pub sheet_after : Sheet → List (ℕ × Option Content) → Sheet
+sheet_after s [] = s
+sheet_after s (x ∷ xs) = sheet_after (with_content s x.0 (brought x.1)) xs
 
 -- the edges, and those of an edit that is neither taken nor taken back yet
 pub record Staging : Type 0 where

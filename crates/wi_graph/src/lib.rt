@@ -8,6 +8,7 @@ mod closing;
 mod cone;
 mod graph;
 mod held;
+pub mod laws;
 mod reads;
 mod rooms;
 mod sets;

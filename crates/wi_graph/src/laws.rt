@@ -1,0 +1,12 @@
+//! Laws of the definitions. Each is the contract of a function that does nothing.
+
+ghost use Rattle.std.specs.Prelude.{ℕ, List, Option};
+ghost use Rattle.wi_parser.specs.declared.content.Content.{Content};
+ghost use Rattle.wi_parser.specs.Sheet.{Sheet};
+ghost use Rattle.wi_graph.specs.Edges.{Edges, AreEdgesOf, edges_after, sheet_after};
+
+/// The edges after an edit are those of the edited sheet. So what is staged and then taken is the graph of that sheet.
+pub fn edges_follow_edits()
+    ensures { (es : Edges) (s : Sheet) (changes : List (ℕ × Option Content)) → AreEdgesOf es s
+        → AreEdgesOf (edges_after es changes) (sheet_after s changes) }
+{}
