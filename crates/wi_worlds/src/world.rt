@@ -1,6 +1,6 @@
 //! Replacements, one for each address.
 
-ghost use Rattle.std.specs.Prelude.{◌≡◌, ℕ, [], All, filter, None, IsSome, IfOk, length, if◌then◌else◌};
+ghost use Rattle.std.specs.Prelude.{◌≡◌, ℕ, [], All, filter, None, IsSome, IfOk, OnErr, length, if◌then◌else◌};
 ghost use Rattle.std.specs.BTreeMap.{get};
 ghost use Rattle.std.specs.Option.{option_copied, option_or};
 ghost use Rattle.std.specs.Ordering.{nat_cmp};
@@ -131,7 +131,8 @@ impl World {
 
     /// The replacements whose cone has a cell, the cones being those of the replaced addresses. Where they are all of them, or
     /// none, or the same as the last that were neither, they are shared, without memory and without a hash; else they are
-    /// copied and hashed, and become the last. The answer is the same whatever the last are. The work for each replacement
+    /// copied and hashed, and become the last. The answer is the same whatever the last are. If memory runs out, the last stay as
+    /// they were. The work for each replacement
     /// grows with the logarithms of the count of cones and of the count of cells in its own; texts are compared with the
     /// last byte by byte.
     pub fn reaching(
@@ -143,6 +144,7 @@ impl World {
         requires cones { All (λ r. IsSome (get nat_cmp cones.now r.at)) self.now }
         ensures list { IfOk result (λ w. w ≡ filter (is_reached cones.now at) self.now) }
         ensures each { IfOk result (λ w. (a : ℕ) → replaced w a ≡ (if cone_has cones.now a at then replaced self.now a else None)) }
+        ensures last { OnErr result (last.new ≡ last.old) }
     {
         let all = self.replacements();
         let part = part_reached(all, at, cones, last.replacements());
