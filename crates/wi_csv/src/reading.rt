@@ -10,8 +10,8 @@ use std::alloc::{AllocError, Global};
 
 /// The records of a text, each a list of its fields: commas between fields, double quotes around those that need them. A
 /// byte order mark at its front is taken off, an empty line is no record, lengths may differ, and nothing is trimmed. No
-/// text is refused for what it holds; `Read` comes only where `csv` refuses for another cause than memory. The work grows
-/// with the text.
+/// text is refused for what it holds; `Read` comes only where `csv` refuses for another cause than memory. The contract speaks
+/// of the records alone, and promises nothing on an error. The work grows with the text.
 pub fn records(alloc: Global, bytes: &[u8]) -> Result<Vec<Vec<Vec<u8>>>, CsvFault>
     ensures { IfOk result (λ rows. map (λ fields. map (λ f. f.items) fields.items) rows.items ≡ recs bytes.now) }
 {
