@@ -3,8 +3,7 @@
 ghost use Rattle.std.specs.Prelude.{◌≡◌};
 
 use std::alloc::{AllocError, AllocFailed};
-use std::error::Error;
-use std::fmt;
+use thiserror::Error;
 use wi_import::ImportFault;
 use wi_parser::{ParseFault, ShiftFault};
 use wi_store::StoreFault;
@@ -14,45 +13,64 @@ use wi_values::{Address, AddressFault, FieldFault};
 /// `BadCommand`, `CutShort`, `OutOfSheet` of an operand, `TooLarge`, `NoScenario`, `InUse`, `TooMany`, `BadField`, `TooLong`,
 /// `OutOfSheet` of a formula or a field, `NumberRange`, `TooDeep`, `Syntax`, `LeavesSheet`, `Stale`, `Loop`, `Full`, `EditLimit`.
 /// `Memory` may stand in place of most answers, but of none that is found before anything grows.
-#[derive(Clone, Copy, PartialEq, Debug)]
+#[derive(Clone, Copy, PartialEq, Debug, Error)]
 pub enum Refusal {
     /// E01.
+    #[error("out of memory")]
     Memory,
     /// E02.
+    #[error("no such command, or not its words")]
     BadCommand,
     /// E03.
+    #[error("the line is too long, or not UTF-8")]
     BadLine,
     /// E04.
+    #[error("a cell outside the sheet")]
     OutOfSheet,
     /// E05.
+    #[error("no formula")]
     Syntax,
     /// E06.
+    #[error("the formula is nested too deeply")]
     TooDeep,
     /// E07.
+    #[error("a number of the formula does not fit")]
     NumberRange,
     /// E08.
+    #[error("the text or formula is too long")]
     TooLong,
     /// E09.
+    #[error("the sheet would have too many occupied cells")]
     Full,
     /// E10.
+    #[error("no such scenario")]
     NoScenario,
     /// E11.
+    #[error("too many scenarios, replacements or sessions")]
     TooMany,
     /// E12.
+    #[error("the scenario is in use by a session, or as a base scenario")]
     InUse,
     /// E13.
+    #[error("the input ends before the last data line")]
     CutShort,
     /// E14.
+    #[error("a field is not UTF-8")]
     BadField,
     /// E15.
+    #[error("the rectangle has too many cells")]
     TooLarge,
     /// E16.
+    #[error("a filled reference would leave the sheet")]
     LeavesSheet,
     /// E17.
+    #[error("no more edits are accepted")]
     EditLimit,
     /// E18, with the first such cell.
+    #[error("another session has edited the cell since")]
     Stale(Address),
     /// E19.
+    #[error("the scenario would be based on itself")]
     Loop,
 }
 
@@ -85,40 +103,7 @@ impl Refusal {
             Refusal::Loop => 19,
         }
     }
-
-    /// What it says.
-    fn text(&self) -> &'static str {
-        match self {
-            Refusal::Memory => "out of memory",
-            Refusal::BadCommand => "no such command, or not its words",
-            Refusal::BadLine => "the line is too long, or not UTF-8",
-            Refusal::OutOfSheet => "a cell outside the sheet",
-            Refusal::Syntax => "no formula",
-            Refusal::TooDeep => "the formula is nested too deeply",
-            Refusal::NumberRange => "a number of the formula does not fit",
-            Refusal::TooLong => "the text or formula is too long",
-            Refusal::Full => "the sheet would have too many occupied cells",
-            Refusal::NoScenario => "no such scenario",
-            Refusal::TooMany => "too many scenarios, replacements or sessions",
-            Refusal::InUse => "the scenario is in use by a session, or as a base scenario",
-            Refusal::CutShort => "the input ends before the last data line",
-            Refusal::BadField => "a field is not UTF-8",
-            Refusal::TooLarge => "the rectangle has too many cells",
-            Refusal::LeavesSheet => "a filled reference would leave the sheet",
-            Refusal::EditLimit => "no more edits are accepted",
-            Refusal::Stale(_) => "another session has edited the cell since",
-            Refusal::Loop => "the scenario would be based on itself",
-        }
-    }
 }
-
-impl fmt::Display for Refusal {
-    fn fmt<W: fmt::Write>(&self, f: &mut fmt::Formatter<W>) -> fmt::Result {
-        f.write_str(self.text())
-    }
-}
-
-impl Error for Refusal {}
 
 impl From<AllocError> for Refusal {
     ghost use Rattle.wi_scenarios.specs.declared.refusal.Refusal.TheVariants.{Memory};
