@@ -28,7 +28,7 @@ pub struct Block {
 }
 
 /// Takes the next line, and the data lines that it asks for.
-pub fn read_block<R: Source>(
+pub(crate) fn read_block<R: Source>(
     chunk: &mut Chunk,
     source: &mut R,
     line: &mut Vec<u8>,
@@ -61,7 +61,7 @@ pub fn read_block<R: Source>(
 }
 
 /// Serves a block, and leaves its records in `out`, which was empty.
-pub fn serve_block<C: Calculator>(
+pub(crate) fn serve_block<C: Calculator>(
     book: &mut Workbook<C>,
     csv: &Option<CsvLine>,
     line: &[u8],

@@ -30,7 +30,7 @@ impl Model for Chunk {
 
 impl Chunk {
     /// An empty buffer.
-    pub fn new() -> Self
+    pub(crate) fn new() -> Self
         ensures { result ≡ [] }
     {
         Chunk {
@@ -41,7 +41,7 @@ impl Chunk {
     }
 
     /// The next byte, or nothing at the end.
-    pub fn next_byte<R: Source>(&mut self, source: &mut R) -> Result<Option<u8>, DeviceFault>
+    pub(crate) fn next_byte<R: Source>(&mut self, source: &mut R) -> Result<Option<u8>, DeviceFault>
         requires { R.has_failed source.old ≡ false }
         ensures byte { IfOk result (λ found. IfSome found (λ b.
             Takes self.old (R.remaining source.old) self.new (R.remaining source.new) (b ∷ []))) }

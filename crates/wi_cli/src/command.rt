@@ -80,7 +80,7 @@ pub enum Command<'a> {
 
 /// The command that a text spells.
 #[tactic(auto, unfolding(crate::specs::Script::spelled_command))]
-pub fn read_command(text: &str) -> Result<Command<'_>, Refusal>
+pub(crate) fn read_command(text: &str) -> Result<Command<'_>, Refusal>
     ensures { IsCommandOf (spelled_command text.now) result }
 {
     let (name, operands) = split_word(text);
@@ -102,7 +102,7 @@ pub fn read_command(text: &str) -> Result<Command<'_>, Refusal>
 }
 
 /// Without the CR at the end, if there is one.
-pub fn without_cr(line: &[u8]) -> &[u8]
+pub(crate) fn without_cr(line: &[u8]) -> &[u8]
     ensures { result.now ≡ without_cr line.now }
 {
     match line.strip_suffix(b"\r") {
@@ -133,7 +133,7 @@ fn read_text(text: &str) -> Result<Option<Command<'_>>, Refusal>
 
 /// The command of a line without its LF, or nothing where the line is passed over.
 #[tactic(auto, unfolding(crate::specs::Script::line_command))]
-pub fn read_line_command(line: &[u8]) -> Result<Option<Command<'_>>, Refusal>
+pub(crate) fn read_line_command(line: &[u8]) -> Result<Option<Command<'_>>, Refusal>
     ensures { IsLineOf (line_command line.now) result }
 {
     if line.len() > MAX_LINE {

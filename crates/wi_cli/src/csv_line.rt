@@ -150,7 +150,7 @@ fn is_text(bytes: &[u8]) -> bool
 
 /// A line without its LF, where it asks for data lines.
 #[tactic(auto, unfolding(crate::specs::CsvCommand::csv_line))]
-pub fn read_csv_line(line: &[u8]) -> Option<CsvLine>
+pub(crate) fn read_csv_line(line: &[u8]) -> Option<CsvLine>
     ensures read { IsCsv (csv_line line.now) result }
     ensures text { IfSome result (λ csv. csv.is_text ≡ is_utf8 (without_cr line.now)) }
 {

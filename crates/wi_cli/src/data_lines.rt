@@ -79,7 +79,7 @@ fn is_line(line: &[u8], whole: bool) -> bool
 
 impl DataLines {
     /// Those of no line.
-    pub fn new(alloc: Global) -> Self {
+    pub(crate) fn new(alloc: Global) -> Self {
         DataLines {
             wanted: false,
             missing: 0,
@@ -125,7 +125,7 @@ impl DataLines {
 
 /// Takes the data lines that a line asks for, as far as there are any, and tells whether the last LF came. The line's own is
 /// told by `whole`.
-pub fn read_data<R: Source>(
+pub(crate) fn read_data<R: Source>(
     chunk: &mut Chunk,
     source: &mut R,
     line: &mut Vec<u8>,

@@ -10,7 +10,7 @@ use wi_scenarios::Refusal;
 use wi_values::{Address, AddressFault, Rect};
 
 /// The edit that a text spells.
-pub fn read_edit(force: bool, text: &str) -> Result<Command<'_>, Refusal>
+pub(crate) fn read_edit(force: bool, text: &str) -> Result<Command<'_>, Refusal>
     ensures { IsCommandOf (edit_command force (first_word text.now) (after_word text.now)) result }
 {
     let (name, operands) = split_word(text);

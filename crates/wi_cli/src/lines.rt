@@ -16,7 +16,7 @@ pub const MAX_LINES: u32 = 1_000_000;
 
 /// Takes the next line, without its LF, and tells whether its LF came. Of a line over the limit
 /// the front is kept, one byte more than the limit. With no LF and no byte the input has ended.
-pub fn read_line<R: Source>(
+pub(crate) fn read_line<R: Source>(
     chunk: &mut Chunk,
     source: &mut R,
     line: &mut Vec<u8>,
@@ -70,7 +70,7 @@ fn may_go_on(lines: u32) -> bool
 }
 
 /// Takes the next line as `read_line` does, where the script may have one more, and counts it if its LF came.
-pub fn next_line<R: Source>(
+pub(crate) fn next_line<R: Source>(
     chunk: &mut Chunk,
     source: &mut R,
     line: &mut Vec<u8>,

@@ -13,7 +13,7 @@ use wi_scenarios::Refusal;
 use wi_values::{Address, Rect};
 
 /// `show RECT`.
-pub fn read_show(operands: &str) -> Result<Command<'_>, Refusal>
+pub(crate) fn read_show(operands: &str) -> Result<Command<'_>, Refusal>
     ensures { IsCommandOf (show_command operands.now) result }
 {
     let (area, more) = split_word(operands);
@@ -25,7 +25,7 @@ pub fn read_show(operands: &str) -> Result<Command<'_>, Refusal>
 }
 
 /// `export RECT`.
-pub fn read_export(operands: &str) -> Result<Command<'_>, Refusal>
+pub(crate) fn read_export(operands: &str) -> Result<Command<'_>, Refusal>
     ensures { IsCommandOf (export_command operands.now) result }
 {
     let (area, more) = split_word(operands);
@@ -37,7 +37,7 @@ pub fn read_export(operands: &str) -> Result<Command<'_>, Refusal>
 }
 
 /// `changes`.
-pub fn read_changes(operands: &str) -> Result<Command<'_>, Refusal>
+pub(crate) fn read_changes(operands: &str) -> Result<Command<'_>, Refusal>
     ensures { IsCommandOf (changes_command operands.now) result }
 {
     if !is_all_spaces(operands) {
@@ -47,7 +47,7 @@ pub fn read_changes(operands: &str) -> Result<Command<'_>, Refusal>
 }
 
 /// `compare S T RECT`, where S and T are names of scenarios, or `-`.
-pub fn read_compare(operands: &str) -> Result<Command<'_>, Refusal>
+pub(crate) fn read_compare(operands: &str) -> Result<Command<'_>, Refusal>
     ensures { IsCommandOf (compare_command operands.now) result }
 {
     let (first, others) = split_word(operands);
@@ -75,7 +75,7 @@ fn compare_of<'a>(first: &'a str, second: &'a str, area: &str) -> Result<Command
 }
 
 /// `formula ADDR`.
-pub fn read_formula(operands: &str) -> Result<Command<'_>, Refusal>
+pub(crate) fn read_formula(operands: &str) -> Result<Command<'_>, Refusal>
     ensures { IsCommandOf (formula_command operands.now) result }
 {
     let (address, others) = split_word(operands);

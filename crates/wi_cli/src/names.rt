@@ -9,7 +9,7 @@ use wi_scenarios::Refusal;
 use wi_values::Name;
 
 /// The name that a word spells.
-pub fn read_name(word: &str) -> Result<Name<'_>, Refusal>
+pub(crate) fn read_name(word: &str) -> Result<Name<'_>, Refusal>
     ensures { IsNameOf (read_name word.now) result }
 {
     match Name::read(word) {
@@ -19,7 +19,7 @@ pub fn read_name(word: &str) -> Result<Name<'_>, Refusal>
 }
 
 /// The name that is the only word.
-pub fn only_name(words: &str) -> Result<Name<'_>, Refusal>
+pub(crate) fn only_name(words: &str) -> Result<Name<'_>, Refusal>
     ensures { IsNameOf (only_name words.now) result }
 {
     let (word, more) = split_word(words);
@@ -30,7 +30,7 @@ pub fn only_name(words: &str) -> Result<Name<'_>, Refusal>
 }
 
 /// The name that is the only word, or none where there is no word.
-pub fn name_or_none(words: &str) -> Result<Option<Name<'_>>, Refusal>
+pub(crate) fn name_or_none(words: &str) -> Result<Option<Name<'_>>, Refusal>
     ensures { IsNameOrNoneOf (name_or_none words.now) result }
 {
     if is_all_spaces(words) {
@@ -41,7 +41,7 @@ pub fn name_or_none(words: &str) -> Result<Option<Name<'_>>, Refusal>
 }
 
 /// The scenario that a word names, or none for `-`, the sheet as it stands.
-pub fn read_side(word: &str) -> Result<Option<Name<'_>>, Refusal>
+pub(crate) fn read_side(word: &str) -> Result<Option<Name<'_>>, Refusal>
     ensures { IsNameOrNoneOf (read_side word.now) result }
 {
     if word == "-" {

@@ -6,7 +6,7 @@ ghost use Rattle.wi_cli.specs.Operands.{column_fault, row_fault, worse};
 use wi_values::{AddressFault, Rect};
 
 /// Why a rectangle that is to be one column is refused, if it is.
-pub fn column_fault(area: Result<Rect, AddressFault>) -> Option<AddressFault>
+pub(crate) fn column_fault(area: Result<Rect, AddressFault>) -> Option<AddressFault>
     ensures { result ≡ column_fault area }
 {
     match area {
@@ -17,7 +17,7 @@ pub fn column_fault(area: Result<Rect, AddressFault>) -> Option<AddressFault>
 }
 
 /// Why a rectangle that is to be one row is refused, if it is.
-pub fn row_fault(area: Result<Rect, AddressFault>) -> Option<AddressFault>
+pub(crate) fn row_fault(area: Result<Rect, AddressFault>) -> Option<AddressFault>
     ensures { result ≡ row_fault area }
 {
     match area {
@@ -28,7 +28,7 @@ pub fn row_fault(area: Result<Rect, AddressFault>) -> Option<AddressFault>
 }
 
 /// Of what is wrong with two operands, the wrong shape of either comes before a cell outside the sheet.
-pub fn worse(one: Option<AddressFault>, other: Option<AddressFault>) -> Option<AddressFault>
+pub(crate) fn worse(one: Option<AddressFault>, other: Option<AddressFault>) -> Option<AddressFault>
     ensures { result ≡ worse one other }
 {
     match (one, other) {

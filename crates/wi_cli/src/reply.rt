@@ -66,7 +66,11 @@ fn write_refusal<W: Sink>(writer: &mut W, refusal: &Refusal) -> Result<(), Devic
 }
 
 /// Writes the reply to a line: its records and `ok`, or its refusal.
-pub fn write_reply<W: Sink>(writer: &mut W, reply: Reply, records: &[u8]) -> Result<(), DeviceFault>
+pub(crate) fn write_reply<W: Sink>(
+    writer: &mut W,
+    reply: Reply,
+    records: &[u8],
+) -> Result<(), DeviceFault>
     requires { W.has_failed writer.old ≡ false }
     ensures ok { OnOk result (Appends (W.contents writer.old) (W.contents writer.new) (told_bytes reply records.now)) }
     ensures err { OnErr result (AppendsFront (W.contents writer.old) (W.contents writer.new) (told_bytes reply records.now)) }

@@ -10,7 +10,7 @@ use wi_scenarios::Refusal;
 use wi_values::Address;
 
 /// `scenario NAME ADDR CONTENT`, where CONTENT is all after the one space that follows ADDR, and may be empty.
-pub fn read_scenario(operands: &str) -> Result<Command<'_>, Refusal>
+pub(crate) fn read_scenario(operands: &str) -> Result<Command<'_>, Refusal>
     ensures { IsCommandOf (scenario_command operands.now) result }
 {
     let (word, others) = split_word(operands);
@@ -21,7 +21,7 @@ pub fn read_scenario(operands: &str) -> Result<Command<'_>, Refusal>
 }
 
 /// `drop NAME`.
-pub fn read_drop(operands: &str) -> Result<Command<'_>, Refusal>
+pub(crate) fn read_drop(operands: &str) -> Result<Command<'_>, Refusal>
     ensures { IsCommandOf (drop_command operands.now) result }
 {
     let name = only_name(operands)?;
@@ -29,7 +29,7 @@ pub fn read_drop(operands: &str) -> Result<Command<'_>, Refusal>
 }
 
 /// `base NAME OTHER`, and `base NAME`.
-pub fn read_base(operands: &str) -> Result<Command<'_>, Refusal>
+pub(crate) fn read_base(operands: &str) -> Result<Command<'_>, Refusal>
     ensures { IsCommandOf (base_command operands.now) result }
 {
     let (word, others) = split_word(operands);
@@ -39,7 +39,7 @@ pub fn read_base(operands: &str) -> Result<Command<'_>, Refusal>
 }
 
 /// `use NAME`, and `use`.
-pub fn read_use(operands: &str) -> Result<Command<'_>, Refusal>
+pub(crate) fn read_use(operands: &str) -> Result<Command<'_>, Refusal>
     ensures { IsCommandOf (use_command operands.now) result }
 {
     let name = name_or_none(operands)?;
@@ -47,7 +47,7 @@ pub fn read_use(operands: &str) -> Result<Command<'_>, Refusal>
 }
 
 /// `as SESSION`.
-pub fn read_as(operands: &str) -> Result<Command<'_>, Refusal>
+pub(crate) fn read_as(operands: &str) -> Result<Command<'_>, Refusal>
     ensures { IsCommandOf (as_command operands.now) result }
 {
     let name = only_name(operands)?;

@@ -75,7 +75,7 @@ fn execute<C: Calculator>(
 
 /// Serves a line, and leaves its records in `out`, which was empty.
 #[tactic(auto, using(crate::proofs::ServeLemmas::told_passed, crate::proofs::ServeLemmas::told_done, crate::proofs::ServeLemmas::told_refused, crate::proofs::ServeLemmas::told_bad))]
-pub fn serve<C: Calculator>(book: &mut Workbook<C>, line: &[u8], out: &mut Vec<u8>) -> Reply
+pub(crate) fn serve<C: Calculator>(book: &mut Workbook<C>, line: &[u8], out: &mut Vec<u8>) -> Reply
     requires { out.old.items ≡ [] }
     ensures { Told (line_command line.now) result book.old.state book.new.state out.new.items }
 {

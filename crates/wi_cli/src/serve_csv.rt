@@ -39,7 +39,7 @@ fn target(csv: &CsvLine, data_lines: &DataLines) -> Result<Address, Refusal>
 }
 
 /// Serves a line that asks for data lines.
-pub fn serve_csv<C: Calculator>(
+pub(crate) fn serve_csv<C: Calculator>(
     book: &mut Workbook<C>,
     csv: &CsvLine,
     data_lines: &DataLines,

@@ -15,7 +15,7 @@ type OneCell = Result<Address, AddressFault>;
 type Cells = Result<Rect, AddressFault>;
 
 /// `table F R XCOLUMN` and `table F R XCOLUMN C YROW`.
-pub fn read_table(operands: &str) -> Result<Command<'_>, Refusal>
+pub(crate) fn read_table(operands: &str) -> Result<Command<'_>, Refusal>
     ensures { IsCommandOf (table_command operands.now) result }
 {
     let (formula_cell, others) = split_word(operands);

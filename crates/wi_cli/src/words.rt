@@ -11,7 +11,7 @@ fn skip_spaces(text: &str) -> &str
 }
 
 /// The first word, and all that stands after the one space that follows it.
-pub fn split_word(text: &str) -> (&str, &str)
+pub(crate) fn split_word(text: &str) -> (&str, &str)
     ensures word { result.0.now ≡ first_word text.now }
     ensures rest { result.1.now ≡ after_word text.now }
 {
@@ -23,7 +23,7 @@ pub fn split_word(text: &str) -> (&str, &str)
 }
 
 /// Whether no word is there.
-pub fn is_all_spaces(text: &str) -> bool
+pub(crate) fn is_all_spaces(text: &str) -> bool
     ensures { result ≡ is_all_spaces text.now }
 {
     text.bytes().all(|byte| byte == b' ')

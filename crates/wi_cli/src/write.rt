@@ -7,7 +7,7 @@ ghost use Rattle.wi_cli.specs.Inner.Front.{AppendsFront};
 use wi_devices::{DeviceFault, Sink};
 
 /// Writes all the bytes, or fails and has written a front of them.
-pub fn write_all<W: Sink>(writer: &mut W, bytes: &[u8]) -> Result<(), DeviceFault>
+pub(crate) fn write_all<W: Sink>(writer: &mut W, bytes: &[u8]) -> Result<(), DeviceFault>
     requires { W.has_failed writer.old ≡ false }
     ensures ok { OnOk result (Appends (W.contents writer.old) (W.contents writer.new) bytes.now) }
     ensures err { OnErr result (AppendsFront (W.contents writer.old) (W.contents writer.new) bytes.now) }

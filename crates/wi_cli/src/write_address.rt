@@ -11,7 +11,7 @@ use wi_devices::{DeviceFault, Sink};
 use wi_values::Address;
 
 /// Writes the text of an address. Takes no memory.
-pub fn write_address<W: Sink>(writer: &mut W, at: Address) -> Result<(), DeviceFault>
+pub(crate) fn write_address<W: Sink>(writer: &mut W, at: Address) -> Result<(), DeviceFault>
     requires { W.has_failed writer.old ≡ false }
     ensures ok { OnOk result (Appends (W.contents writer.old) (W.contents writer.new) (address_text at)) }
     ensures err { OnErr result (AppendsFront (W.contents writer.old) (W.contents writer.new) (address_text at)) }

@@ -13,7 +13,11 @@ use wi_values::{Address, Rect};
 
 /// The rectangles of these records, the first from this cell on. No field is for a cell outside the sheet.
 /// Room for one of each record, and no more, is made before the first.
-pub fn areas(alloc: Global, at: Address, records: &[Vec<Vec<u8>>]) -> Result<Vec<Rect>, AllocError>
+pub(crate) fn areas(
+    alloc: Global,
+    at: Address,
+    records: &[Vec<Vec<u8>>],
+) -> Result<Vec<Rect>, AllocError>
     requires { list_any is_outside (fields_from (row_of at) (column_of at) (all_bytes records.now)) ≡ false }
     ensures { IfOk result (λ areas. areas.items ≡ areas_from (row_of at) (column_of at) (all_bytes records.now)) }
 {

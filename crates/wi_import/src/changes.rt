@@ -14,7 +14,7 @@ use wi_values::{Address, FieldFault, Value, field_value};
 
 /// What the cell of each field of these records gets, the first field being for this cell. No field has a fault.
 /// Room for all of them, and no more, is made before the first.
-pub fn changes(
+pub(crate) fn changes(
     alloc: Global,
     at: Address,
     records: &[Vec<Vec<u8>>],

@@ -13,7 +13,7 @@ use wi_fraction::Fraction;
 use wi_values::{Address, COLUMNS, MAX_TEXT, ROWS};
 
 /// The first fault, in their order, that a field of these records has, the first field being for this cell.
-pub fn first_fault(at: Address, records: &[Vec<Vec<u8>>]) -> Option<ImportFault>
+pub(crate) fn first_fault(at: Address, records: &[Vec<Vec<u8>>]) -> Option<ImportFault>
     ensures { result ≡ fault_among (fields_from (row_of at) (column_of at) (all_bytes records.now)) }
 {
     if has_bad_field(records) {

@@ -41,7 +41,7 @@ fn one_byte_mark(b: u8) -> Option<Mark>
 }
 
 #[tactic(auto, unfolding(crate::specs::Inner::Mark::mark_at))]
-pub fn mark_at(text: &[u8]) -> Option<Mark>
+pub(crate) fn mark_at(text: &[u8]) -> Option<Mark>
     ensures { result ≡ spec.mark_at text.now }
 {
     let first = byte(text, 0);

@@ -25,7 +25,7 @@ fn name_parts_len(text: &[u8]) -> usize
 }
 
 #[tactic(auto, unfolding(crate::specs::Inner::Name::name_len))]
-pub fn name_len(text: &[u8]) -> usize
+pub(crate) fn name_len(text: &[u8]) -> usize
     ensures { result ≡ reader.name_len text.now }
 {
     if !is_name_start(byte(text, 0)) {

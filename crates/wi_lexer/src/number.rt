@@ -67,7 +67,7 @@ fn exponent_len(text: &[u8]) -> usize
 }
 
 #[tactic(auto, unfolding(crate::specs::Inner::Number::number_len))]
-pub fn number_len(text: &[u8]) -> usize
+pub(crate) fn number_len(text: &[u8]) -> usize
     ensures value { result ≡ reader.number_len text.now }
     ensures within { result ≤ length text.now }
 {

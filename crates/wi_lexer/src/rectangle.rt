@@ -31,7 +31,7 @@ pub fn rectangle_of(text: &[u8]) -> Option<(CellText<'_>, CellText<'_>)>
 }
 
 #[tactic(auto, using(crate::proofs::RectangleLemmas::no_rectangle), unfolding(crate::specs::Inner::Rectangle::rectangle_len))]
-pub fn rectangle_len(text: &[u8]) -> usize
+pub(crate) fn rectangle_len(text: &[u8]) -> usize
     ensures { result ≡ spec.rectangle_len text.now }
 {
     if byte(text, 0) != b'[' {

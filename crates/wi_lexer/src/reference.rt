@@ -7,7 +7,7 @@ ghost use Rattle.wi_lexer.specs.Inner.Reference as spec;
 use crate::cell::{CellText, cell_of};
 use crate::runs::{byte, inside_len};
 
-pub fn is_bracketed(text: &[u8]) -> bool
+pub(crate) fn is_bracketed(text: &[u8]) -> bool
     ensures { result ≡ spec.is_bracketed text.now }
 {
     text.len() > 2 && text[0] == b'[' && text[1] == b'.' && text[text.len() - 1] == b']'
@@ -25,7 +25,7 @@ pub fn reference_of(text: &[u8]) -> Option<CellText<'_>>
 }
 
 #[tactic(auto, using(crate::proofs::ReferenceLemmas::no_reference), unfolding(crate::specs::Inner::Reference::reference_len))]
-pub fn reference_len(text: &[u8]) -> usize
+pub(crate) fn reference_len(text: &[u8]) -> usize
     ensures { result ≡ spec.reference_len text.now }
 {
     if byte(text, 0) != b'[' {

@@ -11,7 +11,7 @@ fn is_blank(b: u8) -> bool
 }
 
 #[tactic(auto, using(crate::proofs::RunLemmas::run_within))]
-pub fn blanks_len(text: &[u8]) -> usize
+pub(crate) fn blanks_len(text: &[u8]) -> usize
     ensures value { result ≡ spec.blanks_len text.now }
     ensures within { result ≤ length text.now }
 {
@@ -19,7 +19,7 @@ pub fn blanks_len(text: &[u8]) -> usize
 }
 
 #[tactic(auto, using(crate::proofs::RunLemmas::run_within))]
-pub fn digits_len(text: &[u8]) -> usize
+pub(crate) fn digits_len(text: &[u8]) -> usize
     ensures value { result ≡ reader.digits_len text.now }
     ensures within { result ≤ length text.now }
 {
@@ -27,7 +27,7 @@ pub fn digits_len(text: &[u8]) -> usize
 }
 
 #[tactic(auto, using(crate::proofs::RunLemmas::run_within))]
-pub fn letters_len(text: &[u8]) -> usize
+pub(crate) fn letters_len(text: &[u8]) -> usize
     ensures value { result ≡ reader.letters_len text.now }
     ensures within { result ≤ length text.now }
 {
@@ -35,7 +35,7 @@ pub fn letters_len(text: &[u8]) -> usize
 }
 
 #[tactic(auto, using(crate::proofs::RunLemmas::run_within))]
-pub fn inside_len(text: &[u8]) -> usize
+pub(crate) fn inside_len(text: &[u8]) -> usize
     ensures value { result ≡ reader.inside_len text.now }
     ensures within { result ≤ length text.now }
 {
@@ -43,7 +43,7 @@ pub fn inside_len(text: &[u8]) -> usize
 }
 
 #[tactic(auto, using(crate::proofs::RunLemmas::run_within))]
-pub fn before_colon_len(text: &[u8]) -> usize
+pub(crate) fn before_colon_len(text: &[u8]) -> usize
     ensures value { result ≡ reader.before_colon_len text.now }
     ensures within { result ≤ length text.now }
 {
@@ -51,7 +51,7 @@ pub fn before_colon_len(text: &[u8]) -> usize
 }
 
 // The byte there, or 0 past the end.
-pub fn byte(text: &[u8], at: usize) -> u8
+pub(crate) fn byte(text: &[u8], at: usize) -> u8
     ensures value { result ≡ slice_index text.now at }
     ensures within { 0 < result → at < length text.now }
 {

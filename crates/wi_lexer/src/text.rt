@@ -26,7 +26,7 @@ pub fn text_content(alloc: Global, text: &str) -> Result<String, AllocError>
 }
 
 // Up to the last quote that may be the last of a text.
-pub fn text_len(text: &[u8]) -> usize
+pub(crate) fn text_len(text: &[u8]) -> usize
     ensures { result ≡ spec.text_len text.now }
 {
     let mut inside = false;

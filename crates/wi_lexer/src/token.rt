@@ -77,7 +77,7 @@ impl Mark {
 
 /// The longest token at the front, and its length.
 #[tactic(auto, unfolding(crate::specs::Inner::Token::token_at))]
-pub fn token_at(text: &[u8]) -> Option<(Kind, usize)>
+pub(crate) fn token_at(text: &[u8]) -> Option<(Kind, usize)>
     ensures { result ≡ spec.token_at text.now }
 {
     let number = number_len(text);

@@ -126,21 +126,25 @@ fn all_copied(alloc: Global, exprs: &[Expr]) -> Result<Vec<Expr>, AllocError>
 }
 
 /// The tree of a text.
-pub fn text(alloc: Global, content: &Text) -> Result<Expr, AllocError>
+pub(crate) fn text(alloc: Global, content: &Text) -> Result<Expr, AllocError>
     ensures { IfOk result (λ e. tree_of e ≡ tree.text content.now) }
 {
     Ok(Expr::Text(content.copy(alloc)?))
 }
 
 /// The tree of a what-if.
-pub fn what_if(alloc: Global, formula_cell: Reference, pairs: &[Pair]) -> Result<Expr, AllocError>
+pub(crate) fn what_if(
+    alloc: Global,
+    formula_cell: Reference,
+    pairs: &[Pair],
+) -> Result<Expr, AllocError>
     ensures { IfOk result (λ e. tree_of e ≡ tree.what_if formula_cell (map pair_of pairs.now)) }
 {
     Ok(Expr::WhatIf(formula_cell, Vec::from_slice(alloc, pairs)?))
 }
 
 /// The tree of a call of the function with this name.
-pub fn call(alloc: Global, name: &Text, parameters: Vec<Expr>) -> Result<Expr, AllocError>
+pub(crate) fn call(alloc: Global, name: &Text, parameters: Vec<Expr>) -> Result<Expr, AllocError>
     ensures { IfOk result (λ e. tree_of e ≡ tree.call name.now (all_of parameters.items)) }
 {
     Ok(Expr::Call(name.copy(alloc)?, parameters))

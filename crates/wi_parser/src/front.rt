@@ -4,21 +4,21 @@ ghost use Rattle.std.specs.Prelude.{◌≡◌, option_map, is_some};
 ghost use Rattle.wi_parser.specs.Inner.FormulaText as spec;
 
 /// What follows the front, where the text begins with it.
-pub fn after<'a>(front: &str, text: &'a str) -> Option<&'a str>
+pub(crate) fn after<'a>(front: &str, text: &'a str) -> Option<&'a str>
     ensures { option_map (λ rest. rest.now) result ≡ spec.after front.now text.now }
 {
     text.strip_prefix(front)
 }
 
 /// The text after the prefix `of:`, where it begins with it.
-pub fn after_prefix(text: &str) -> &str
+pub(crate) fn after_prefix(text: &str) -> &str
     ensures { result.now ≡ spec.after_prefix text.now }
 {
     after("of:", text).unwrap_or(text)
 }
 
 /// Whether a text begins as a formula does.
-pub fn is_formula(text: &str) -> bool
+pub(crate) fn is_formula(text: &str) -> bool
     ensures { result ≡ is_some (spec.after_equals text.now) }
 {
     after("=", after_prefix(text)).is_some()

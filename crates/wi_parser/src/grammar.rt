@@ -178,7 +178,7 @@ impl<F: Fn(Global, &mut Symbols<'_>, usize) -> Result<Expr, ParseFault>> Grammar
 const LOOSEST: u8 = 7;
 
 /// An expression at the front of the symbols, whose parentheses nest less deep than the depth.
-pub fn expression(
+pub(crate) fn expression(
     alloc: Global,
     symbols: &mut Symbols<'_>,
     depth: usize,

@@ -16,7 +16,7 @@ use crate::symbol::Symbol;
 pub const MAX_DEPTH: usize = 64;
 
 /// The first cause for which the symbols are refused before they are read.
-pub fn refusal_of(symbols: &[Symbol]) -> Option<ParseFault>
+pub(crate) fn refusal_of(symbols: &[Symbol]) -> Option<ParseFault>
     ensures { result ≡ spec.refusal_of (all_meant symbols.now) }
 {
     if has_outside(symbols) {

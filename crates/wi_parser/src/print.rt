@@ -22,7 +22,7 @@ use wi_fraction::Fraction;
 use wi_values::Text;
 
 /// Appends the text of a formula with this tree. On an error a part of it may be there.
-pub fn push_formula(expr: &Expr, out: &mut String) -> Result<(), AllocError>
+pub(crate) fn push_formula(expr: &Expr, out: &mut String) -> Result<(), AllocError>
     ensures ok { OnOk result (string_bytes out.new ≡ string_bytes out.old ++ printed (tree_of expr.now)) }
     ensures kept { StartsWith (string_bytes out.new) (string_bytes out.old) }
 {

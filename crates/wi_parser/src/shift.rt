@@ -44,7 +44,7 @@ impl<T: Drop> From<AllocFailed<T>> for ShiftFault {
 
 /// Whether the relative parts of all references stay in the sheet where they move by so many rows and columns.
 #[cycle(staying)]
-pub fn all_stay(expr: &Expr, rows: i64, columns: i64) -> bool
+pub(crate) fn all_stay(expr: &Expr, rows: i64, columns: i64) -> bool
     ensures { result ≡ shift.all_references (shift.stays rows columns) (tree_of expr.now) }
 {
     match expr {
@@ -83,7 +83,12 @@ fn pairs_stay(pairs: &[Pair], rows: i64, columns: i64) -> bool
 
 /// The tree with each reference moved by so many rows and columns.
 #[cycle(shift)]
-pub fn shifted(alloc: Global, expr: &Expr, rows: i64, columns: i64) -> Result<Expr, AllocError>
+pub(crate) fn shifted(
+    alloc: Global,
+    expr: &Expr,
+    rows: i64,
+    columns: i64,
+) -> Result<Expr, AllocError>
     ensures { IfOk result (λ e. tree_of e ≡ shift.map_references (shift.moved rows columns) (tree_of expr.now)) }
 {
     match expr {

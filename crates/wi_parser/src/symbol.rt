@@ -36,7 +36,7 @@ pub enum Symbol {
 
 impl Symbol {
     /// What a token means.
-    pub fn of_token(alloc: Global, token: Token<'_>) -> Result<Symbol, AllocError>
+    pub(crate) fn of_token(alloc: Global, token: Token<'_>) -> Result<Symbol, AllocError>
         ensures { IfOk result (λ s. meant_by s ≡ symbol_of token.entry.kind token.entry.text.now) }
     {
         match token.kind {

@@ -27,20 +27,20 @@ impl<'a> Model for Symbols<'a> {
 }
 
 impl<'a> Symbols<'a> {
-    pub fn new(rest: &'a [Symbol]) -> Symbols<'a>
+    pub(crate) fn new(rest: &'a [Symbol]) -> Symbols<'a>
         ensures { result ≡ all_meant rest.now }
     {
         Symbols { rest }
     }
 
-    pub fn is_empty(&self) -> bool
+    pub(crate) fn is_empty(&self) -> bool
         ensures { IsTrue result ↔ (self.now ≡ []) }
     {
         self.rest.is_empty()
     }
 
     /// Takes the next symbol.
-    pub fn next(&mut self) -> Option<&'a Symbol>
+    pub(crate) fn next(&mut self) -> Option<&'a Symbol>
         ensures { MatchOption result ((self.old ≡ []) × (self.new ≡ []))
             (λ s. self.old ≡ meant_by s.now ∷ self.new) }
     {
@@ -54,7 +54,7 @@ impl<'a> Symbols<'a> {
     }
 
     /// Takes the next symbol, if it is the parenthesis that opens.
-    pub fn take_open(&mut self) -> bool
+    pub(crate) fn take_open(&mut self) -> bool
         ensures yes { OnTrue result (after_open self.old ≡ Some self.new) }
         ensures no { OnFalse result ((after_open self.old ≡ None) × (self.new ≡ self.old)) }
     {
@@ -68,7 +68,7 @@ impl<'a> Symbols<'a> {
     }
 
     /// Takes the next symbol, if it is the parenthesis that closes.
-    pub fn take_close(&mut self) -> bool
+    pub(crate) fn take_close(&mut self) -> bool
         ensures yes { OnTrue result (after_close self.old ≡ Some self.new) }
         ensures no { OnFalse result ((after_close self.old ≡ None) × (self.new ≡ self.old)) }
     {
@@ -82,7 +82,7 @@ impl<'a> Symbols<'a> {
     }
 
     /// Takes the next symbol, if it separates parameters.
-    pub fn take_separator(&mut self) -> bool
+    pub(crate) fn take_separator(&mut self) -> bool
         ensures yes { OnTrue result (after_separator self.old ≡ Some self.new) }
         ensures no { OnFalse result ((after_separator self.old ≡ None) × (self.new ≡ self.old)) }
     {
@@ -96,7 +96,7 @@ impl<'a> Symbols<'a> {
     }
 
     /// Takes the next symbol, if it is a reference.
-    pub fn take_reference(&mut self) -> Option<Reference>
+    pub(crate) fn take_reference(&mut self) -> Option<Reference>
         ensures { MatchOption result ((reference_at self.old ≡ None) × (self.new ≡ self.old))
             (λ r. reference_at self.old ≡ Some (r, self.new)) }
     {
@@ -110,7 +110,7 @@ impl<'a> Symbols<'a> {
     }
 
     /// Takes the next symbol, if it is a percent mark.
-    pub fn take_percent(&mut self) -> bool
+    pub(crate) fn take_percent(&mut self) -> bool
         ensures yes { OnTrue result (after_percent self.old ≡ Some self.new) }
         ensures no { OnFalse result ((after_percent self.old ≡ None) × (self.new ≡ self.old)) }
     {
@@ -124,7 +124,7 @@ impl<'a> Symbols<'a> {
     }
 
     /// Takes the next symbol, if it is a sign.
-    pub fn take_sign(&mut self) -> Option<Sign>
+    pub(crate) fn take_sign(&mut self) -> Option<Sign>
         ensures { MatchOption result ((sign_at self.old ≡ None) × (self.new ≡ self.old))
             (λ s. sign_at self.old ≡ Some (s, self.new)) }
     {
@@ -142,7 +142,7 @@ impl<'a> Symbols<'a> {
     }
 
     /// Takes the next symbol, if it is an operator of this line of the grammar.
-    pub fn take_operator(&mut self, line: u8) -> Option<Operator>
+    pub(crate) fn take_operator(&mut self, line: u8) -> Option<Operator>
         ensures { MatchOption result ((operator_at line self.old ≡ None) × (self.new ≡ self.old))
             (λ op. operator_at line self.old ≡ Some (op, self.new)) }
     {

@@ -14,7 +14,7 @@ use wi_lexer::Lexer;
 
 /// The symbols of a formula's text after its `=`.
 #[tactic(auto, unfolding(crate::specs::Inner::FormulaText::formula_symbols))]
-pub fn symbols_of(alloc: Global, text: &str) -> Result<Vec<Symbol>, AllocError>
+pub(crate) fn symbols_of(alloc: Global, text: &str) -> Result<Vec<Symbol>, AllocError>
     ensures { IfOk result (λ symbols. all_meant symbols.items ≡ formula_symbols text.now) }
 {
     let mut symbols = Vec::new(alloc);

@@ -12,7 +12,7 @@ use std::alloc::Global;
 
 /// What stands after the name of a what-if: in parentheses a formula cell, and one input or two, each with its
 /// replacement cell.
-pub fn what_if(alloc: Global, symbols: &mut Symbols<'_>) -> Result<Expr, ParseFault>
+pub(crate) fn what_if(alloc: Global, symbols: &mut Symbols<'_>) -> Result<Expr, ParseFault>
     ensures finds { Finds (what_if_at symbols.old) result symbols.new }
     ensures shorter { OnOk result (length symbols.new < length symbols.old) }
 {

@@ -11,7 +11,7 @@ use wi_propagate::Calculator;
 use wi_values::{Address, Rect, Replacement, Value};
 
 /// The text that is shown for a value.
-pub fn shown_text(alloc: Global, value: &Value) -> Result<String, AllocError>
+pub(crate) fn shown_text(alloc: Global, value: &Value) -> Result<String, AllocError>
     ensures { IfOk result (λ text. string_bytes text ≡ shown_text value.now) }
 {
     let mut text = String::new(alloc);
@@ -20,7 +20,7 @@ pub fn shown_text(alloc: Global, value: &Value) -> Result<String, AllocError>
 }
 
 /// The text of an address.
-pub fn address_text(alloc: Global, at: Address) -> Result<String, AllocError>
+pub(crate) fn address_text(alloc: Global, at: Address) -> Result<String, AllocError>
     ensures { IfOk result (λ text. string_bytes text ≡ address_text at) }
 {
     let mut text = String::new(alloc);
@@ -29,7 +29,11 @@ pub fn address_text(alloc: Global, at: Address) -> Result<String, AllocError>
 }
 
 /// Appends the text that is shown for a value.
-pub fn push_text_of(alloc: Global, value: &Value, texts: &mut Vec<String>) -> Result<(), AllocError>
+pub(crate) fn push_text_of(
+    alloc: Global,
+    value: &Value,
+    texts: &mut Vec<String>,
+) -> Result<(), AllocError>
     ensures { OnOk result (map string_bytes texts.new.items ≡ map string_bytes texts.old.items ++ shown_text value.now ∷ []) }
 {
     texts.push(shown_text(alloc, value)?)?;
@@ -37,7 +41,7 @@ pub fn push_text_of(alloc: Global, value: &Value, texts: &mut Vec<String>) -> Re
 }
 
 /// Appends the text that a cell shows under replacements.
-pub fn push_text_under<C: Calculator>(
+pub(crate) fn push_text_under<C: Calculator>(
     alloc: Global,
     calculator: &mut C,
     put: &[Replacement],
@@ -54,7 +58,7 @@ pub fn push_text_under<C: Calculator>(
 }
 
 /// Appends the texts that the cells of one row of a rectangle show under replacements.
-pub fn push_texts<C: Calculator>(
+pub(crate) fn push_texts<C: Calculator>(
     alloc: Global,
     calculator: &mut C,
     put: &[Replacement],

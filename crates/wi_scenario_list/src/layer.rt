@@ -38,7 +38,7 @@ impl Clone for Layer {
 
 impl Layer {
     /// No replacements, and no base scenario.
-    pub fn new(alloc: Global) -> Result<Layer, AllocError>
+    pub(crate) fn new(alloc: Global) -> Result<Layer, AllocError>
         ensures own { IfOk result (λ l. own_of l ≡ []) }
         ensures base { IfOk result (λ l. base_of l ≡ None) }
     {
@@ -47,7 +47,7 @@ impl Layer {
     }
 
     /// The name of the base scenario.
-    pub fn base_name(&self) -> Option<&str>
+    pub(crate) fn base_name(&self) -> Option<&str>
         ensures { option_copied result ≡ base_of self.now }
     {
         match &self.base {
@@ -57,7 +57,7 @@ impl Layer {
     }
 
     /// Whether a name is that of the base scenario.
-    pub fn is_based_on(&self, name: &str) -> bool
+    pub(crate) fn is_based_on(&self, name: &str) -> bool
         ensures { result ≡ is_name_of name.now (base_of self.now) }
     {
         match &self.base {
@@ -67,14 +67,14 @@ impl Layer {
     }
 
     /// Whether a replacement for an address would be one too many.
-    pub fn is_full(&self, at: Address) -> bool
+    pub(crate) fn is_full(&self, at: Address) -> bool
         ensures { result ≡ (not (is_replaced (own_of self.now) at) && nat_le max_replacements (length (own_of self.now))) }
     {
         !self.own.contains_key(&at) && self.own.len() >= MAX_REPLACEMENTS
     }
 
     /// The same with a replacement put in.
-    pub fn with(&self, alloc: Global, at: Address, value: Value) -> Result<Layer, AllocError>
+    pub(crate) fn with(&self, alloc: Global, at: Address, value: Value) -> Result<Layer, AllocError>
         ensures own { IfOk result (λ l. own_of l ≡ with_replacements (own_of self.now) (record { at = at; value = value } ∷ [])) }
         ensures base { IfOk result (λ l. base_of l ≡ base_of self.now) }
     {
@@ -84,7 +84,7 @@ impl Layer {
     }
 
     /// The same without the replacement for an address.
-    pub fn without(&self, alloc: Global, at: Address) -> Result<Layer, AllocError>
+    pub(crate) fn without(&self, alloc: Global, at: Address) -> Result<Layer, AllocError>
         ensures own { IfOk result (λ l. own_of l ≡ without_replacement (own_of self.now) at) }
         ensures base { IfOk result (λ l. base_of l ≡ base_of self.now) }
     {
@@ -104,7 +104,7 @@ impl Layer {
     }
 
     /// The same with another base scenario, or with none.
-    pub fn based_on(&self, alloc: Global, base: Option<&str>) -> Result<Layer, AllocError>
+    pub(crate) fn based_on(&self, alloc: Global, base: Option<&str>) -> Result<Layer, AllocError>
         ensures own { IfOk result (λ l. own_of l ≡ own_of self.now) }
         ensures base { IfOk result (λ l. base_of l ≡ option_copied base.entry) }
     {

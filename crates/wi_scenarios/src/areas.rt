@@ -10,7 +10,7 @@ use wi_values::Rect;
 pub const MAX_AREA: u64 = 65_536;
 
 /// Whether a rectangle has more cells.
-pub fn is_too_large(area: Rect) -> bool
+pub(crate) fn is_too_large(area: Rect) -> bool
     ensures { result ≡ nat_lt max_area (size_of area) }
 {
     area.size() > MAX_AREA

@@ -18,7 +18,7 @@ use wi_propagate::Calculator;
 use wi_scenario_list::Scenarios;
 
 /// Bases a scenario on another, or on none. The work is as of `put`.
-pub fn base<C: Calculator>(
+pub(crate) fn base<C: Calculator>(
     alloc: Global,
     calculator: &C,
     desk: &mut Desk,

@@ -19,7 +19,7 @@ use wi_values::{Address, Value};
 /// Appends a record for each cell that has changed since the current session was last shown what has. Only its pending cells
 /// are looked at. The work is that of `Scenarios::effective`, of `value` for each of them, and of `Picture::apply` for those that have
 /// changed. Where no cell is pending, none of this is done, and no memory is taken.
-pub fn changes<C: Calculator>(
+pub(crate) fn changes<C: Calculator>(
     alloc: Global,
     calculator: &mut C,
     desk: &mut Desk,

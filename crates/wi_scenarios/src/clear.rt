@@ -17,7 +17,7 @@ use wi_values::{Address, Rect};
 
 /// Empties the cells of a rectangle. The work grows with its occupied cells: for each it is that of `apply_edit`, and of a search,
 /// in which rows with a cell beside the rectangle count, but no more of them than the rectangle has columns.
-pub fn clear<C: Calculator>(
+pub(crate) fn clear<C: Calculator>(
     alloc: Global,
     calculator: &mut C,
     desk: &mut Desk,

@@ -20,7 +20,7 @@ use wi_scenario_list::Scenarios;
 use wi_values::Rect;
 
 /// Appends a record for each cell of a rectangle whose values under two scenarios differ. The work is that of `push_comparison`.
-pub fn compare<C: Calculator>(
+pub(crate) fn compare<C: Calculator>(
     alloc: Global,
     calculator: &mut C,
     desk: &Desk,

@@ -15,7 +15,7 @@ use wi_propagate::Calculator;
 use wi_values::Address;
 
 /// Puts the fields of a CSV text into cells, from a cell on. The work grows with the text, and is that of `apply_edit` for its fields.
-pub fn import<C: Calculator>(
+pub(crate) fn import<C: Calculator>(
     alloc: Global,
     calculator: &mut C,
     desk: &mut Desk,

@@ -11,7 +11,7 @@ use wi_values::{Address, Replacement, Value};
 /// The cells that two lists replace by different values, or that one of them replaces alone; some are told twice. The work for
 /// each replacement grows with the logarithm of the count of all.
 #[tactic(auto, using(crate::proofs::DifferingLemmas::both_found))]
-pub fn differing_cells(
+pub(crate) fn differing_cells(
     alloc: Global,
     before: &[Replacement],
     after: &[Replacement],

@@ -16,7 +16,11 @@ use wi_sessions::Sessions;
 
 /// Removes a scenario that no session uses, and on which none is based. Takes no memory. The work grows with the counts of
 /// scenarios and sessions.
-pub fn drop<C: Calculator>(calculator: &C, desk: &mut Desk, name: &str) -> Result<(), Refusal>
+pub(crate) fn drop<C: Calculator>(
+    calculator: &C,
+    desk: &mut Desk,
+    name: &str,
+) -> Result<(), Refusal>
     requires { IsSound (C.stored calculator.now) desk.old }
     ensures step { let old = state_of (C.stored calculator.now) desk.old in
         Serves (λ a. drop_step old name.now ≡ a) result old (state_of (C.stored calculator.now) desk.new) [] }

@@ -32,7 +32,7 @@ pub struct Edit {
 /// Edits the sheet and notes it in the log; the cells that may show something else then are pending for each session. An edit
 /// that isn't forced is refused as `Stale` where it names a cell that another session has edited since the current one was last
 /// shown what has changed. The work is that of `first_stale`, of `mark`, of `apply_marked`, and for each session of the rooms for marked cells.
-pub fn apply_edit<C: Calculator>(
+pub(crate) fn apply_edit<C: Calculator>(
     alloc: Global,
     calculator: &mut C,
     desk: &mut Desk,
@@ -64,7 +64,7 @@ pub fn apply_edit<C: Calculator>(
 }
 
 /// The same for an edit that names one rectangle.
-pub fn edit_area<C: Calculator>(
+pub(crate) fn edit_area<C: Calculator>(
     alloc: Global,
     calculator: &mut C,
     desk: &mut Desk,

@@ -15,7 +15,7 @@ use wi_reports::push_export;
 use wi_values::Rect;
 
 /// Appends the records of a rectangle behind a line that tells how many lines they are. The work is that of `push_export`.
-pub fn export<C: Calculator>(
+pub(crate) fn export<C: Calculator>(
     alloc: Global,
     calculator: &mut C,
     desk: &Desk,

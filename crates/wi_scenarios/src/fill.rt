@@ -23,7 +23,7 @@ type Changes = Vec<(Address, Option<Content>)>;
 
 /// Copies a cell's content to each cell of a rectangle, all from the content that stands there before. The work grows with
 /// the cells of the rectangle and with the content, and is that of `apply_edit` for them.
-pub fn fill<C: Calculator>(
+pub(crate) fn fill<C: Calculator>(
     alloc: Global,
     calculator: &mut C,
     desk: &mut Desk,

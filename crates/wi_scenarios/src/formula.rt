@@ -13,7 +13,7 @@ use wi_reports::push_content;
 use wi_values::Address;
 
 /// Appends the record of a cell: its address and its content.
-pub fn formula<C: Calculator>(
+pub(crate) fn formula<C: Calculator>(
     alloc: Global,
     calculator: &C,
     desk: &Desk,

@@ -18,7 +18,7 @@ use wi_values::{Address, Value, imported_value};
 
 /// Puts a replacement into a scenario, which is made if need be. The work is that of `Scenarios::copy`, of `Scenarios::put` and of
 /// `switch_to`.
-pub fn put<C: Calculator>(
+pub(crate) fn put<C: Calculator>(
     alloc: Global,
     calculator: &C,
     desk: &mut Desk,
@@ -67,7 +67,7 @@ fn put_text<C: Calculator>(
 }
 
 /// Takes a scenario's own replacement away, if there is one; the scenario stays. The work is as of `put`.
-pub fn take_away<C: Calculator>(
+pub(crate) fn take_away<C: Calculator>(
     alloc: Global,
     calculator: &C,
     desk: &mut Desk,

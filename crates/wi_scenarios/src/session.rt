@@ -21,7 +21,7 @@ use wi_values::{Address, COLUMNS, ROWS, Rect};
 
 /// Makes a session current, a new one if need be. Takes no memory where the session is there. For a new one the work grows with the
 /// occupied cells.
-pub fn session<C: Calculator>(
+pub(crate) fn session<C: Calculator>(
     alloc: Global,
     calculator: &C,
     desk: &mut Desk,
@@ -82,7 +82,7 @@ fn occupied<C: Calculator>(alloc: Global, calculator: &C) -> Result<Vec<Address>
 
 /// What stands beside a sheet in a new workbook: the one session `main`, for which the occupied cells are pending. The work grows
 /// with them.
-pub fn new_desk<C: Calculator>(alloc: Global, calculator: &C) -> Result<Desk, AllocError>
+pub(crate) fn new_desk<C: Calculator>(alloc: Global, calculator: &C) -> Result<Desk, AllocError>
     ensures state { let stored = C.stored calculator.now in IfOk result (λ desk. state_of stored desk ≡ state_over stored) }
     ensures pending { let sheet = (C.stored calculator.now).sheet in
         IfOk result (λ desk. (cells : List ℕ) × (pending_in desk ≡ cells ∷ []) × SameCells cells (occupied_cells sheet)) }

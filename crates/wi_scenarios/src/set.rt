@@ -15,7 +15,7 @@ use wi_propagate::Calculator;
 use wi_values::{Address, Rect};
 
 /// Puts a content into a cell.
-pub fn set<C: Calculator>(
+pub(crate) fn set<C: Calculator>(
     alloc: Global,
     calculator: &mut C,
     desk: &mut Desk,

@@ -15,7 +15,7 @@ use wi_reports::push_rows;
 use wi_values::Rect;
 
 /// Appends the records of a rectangle. The work is that of `push_rows`.
-pub fn show<C: Calculator>(
+pub(crate) fn show<C: Calculator>(
     alloc: Global,
     calculator: &mut C,
     desk: &Desk,

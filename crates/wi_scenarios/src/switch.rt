@@ -19,7 +19,7 @@ use wi_values::Replacement;
 /// Makes room among a session's pending cells for those that may show something else where the replacements are others. On an error
 /// some vacant rooms may be left. The work is that of `differing_cells`, of `mark` for the cells whose replacement is another, and of
 /// `Sessions::make_room`.
-pub fn make_room_between<C: Calculator>(
+pub(crate) fn make_room_between<C: Calculator>(
     alloc: Global,
     calculator: &C,
     sessions: &mut Sessions,
@@ -90,7 +90,7 @@ fn make_room_for_each<C: Calculator>(
 /// Other scenarios take the place of all; the cells that may show something else then are pending for each session. On an error
 /// all is as before. The work for each session is that of `Scenarios::effective`, once for what its scenario puts in now and once for
 /// what it will, also where nothing of it changes, and that of `make_room_between`.
-pub fn switch_to<C: Calculator>(
+pub(crate) fn switch_to<C: Calculator>(
     alloc: Global,
     calculator: &C,
     desk: &mut Desk,

@@ -14,7 +14,7 @@ use wi_propagate::Calculator;
 use wi_reports::{DataTable, push_table};
 
 /// Appends the records of a table. The work is that of `push_table`.
-pub fn table<C: Calculator>(
+pub(crate) fn table<C: Calculator>(
     alloc: Global,
     calculator: &mut C,
     desk: &Desk,

@@ -21,7 +21,7 @@ use wi_propagate::Calculator;
 
 /// The current session uses a scenario, or the sheet as it stands. The work is that of `Scenarios::effective` for the old and the new
 /// one, and of `make_room_between` for what they put in.
-pub fn use_scenario<C: Calculator>(
+pub(crate) fn use_scenario<C: Calculator>(
     alloc: Global,
     calculator: &C,
     desk: &mut Desk,

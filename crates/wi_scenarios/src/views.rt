@@ -13,7 +13,7 @@ use wi_scenario_list::Scenarios;
 use wi_values::Replacement;
 
 /// The replacements that the scenario of a session puts in. The work is that of `Scenarios::effective`.
-pub fn replacements_for(desk: &Desk, i: usize) -> Result<Vec<Replacement>, AllocError>
+pub(crate) fn replacements_for(desk: &Desk, i: usize) -> Result<Vec<Replacement>, AllocError>
     requires { i < length desk.now.sessions.sessions }
     ensures value { IfOk result (λ put. put.items ≡ effective desk.now.scenarios (session_at desk.now.sessions i).scenario) }
     ensures order { IfOk result (λ put. IsInOrder put.items) }
@@ -22,7 +22,7 @@ pub fn replacements_for(desk: &Desk, i: usize) -> Result<Vec<Replacement>, Alloc
 }
 
 /// Whether a scenario is named that isn't there.
-pub fn is_missing(scenarios: &Scenarios, name: Option<&str>) -> bool
+pub(crate) fn is_missing(scenarios: &Scenarios, name: Option<&str>) -> bool
     ensures { result ≡ lacks scenarios.now (option_copied name.entry) }
 {
     match name {

@@ -69,7 +69,7 @@ impl Pending {
     }
 
     /// The vacant rooms go. Takes no memory. The work is that of `make_room` for them.
-    pub fn give_back(&mut self)
+    pub(crate) fn give_back(&mut self)
         ensures cells { self.new.cells ≡ self.old.cells }
         ensures vacant { self.new.vacant ≡ [] }
     {
