@@ -5,6 +5,7 @@ import resource
 import signal
 import socket
 import subprocess
+import time
 import unittest
 from pathlib import Path
 
@@ -69,6 +70,33 @@ class BrokenPipe(DeviceTest):
                 told = process.stderr.read()
                 self.assertEqual((read, process.wait(SECONDS)), (b'ok\n"', DEVICE))
                 self.assertRegex(told, rb"\Awhatif: [^\n]+\n\Z")
+
+
+class FullPipe(DeviceTest):
+    text = b"x" * 30_000
+    script = b"set A1 " + text + b"\n" + b"show A1\n" * 10
+    replies = b"ok\n" + (b'"' + text + b'"\r\nok\n') * 10
+
+    def test_a_slow_reader_gets_all(self) -> None:
+        with started() as process:
+            assert process.stdin and process.stdout
+            process.stdin.write(self.script)
+            process.stdin.close()
+            read = b""
+            while more := process.stdout.read(5_000):
+                read += more
+                time.sleep(0.001)
+            self.assertEqual((read == self.replies, process.wait(SECONDS)), (True, WELL))
+
+    def test_a_full_pipe_that_does_not_wait_is_a_fault_of_writing(self) -> None:
+        reader, writer = os.pipe()
+        os.set_blocking(writer, False)
+        with os.fdopen(reader, "rb") as pipe:
+            with os.fdopen(writer, "wb") as output:
+                self.assert_ended(call(given=self.script, stdout=output), DEVICE, b"")
+            read = pipe.read()
+        self.assertLess(len(read), len(self.replies))
+        self.assertEqual(read, self.replies[: len(read)])
 
 
 class ClosedStreams(DeviceTest):

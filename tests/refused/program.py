@@ -14,9 +14,16 @@ BAD_MEMORY = 99
 """The exit status of valgrind where it finds anything amiss."""
 
 LEAKS = "definite,indirect,possible"
-VALGRIND = [shutil.which("valgrind") or "valgrind", "-q", "--leak-check=no", f"--error-exitcode={BAD_MEMORY}", f"--show-leak-kinds={LEAKS}", f"--errors-for-leak-kinds={LEAKS}",
-            # The refusing allocator is called by the program, and valgrind's by that one.
-            "--soname-synonyms=somalloc=nouserintercepts"]
+VALGRIND = [
+    shutil.which("valgrind") or "valgrind",
+    "-q",
+    f"--error-exitcode={BAD_MEMORY}",
+    "--leak-check=no",
+    f"--show-leak-kinds={LEAKS}",
+    f"--errors-for-leak-kinds={LEAKS}",
+    # The refusing allocator is called by the program, and valgrind's by that one.
+    "--soname-synonyms=somalloc=nouserintercepts",
+]
 
 
 @dataclass(frozen=True)
