@@ -1,9 +1,13 @@
 """A chunk of sets by one process gives what a process for each set gives, and what Python's fractions give."""
 
 import os
+import re
+import shutil
 import subprocess
+import tempfile
 import unittest
 from fractions import Fraction
+from pathlib import Path
 
 from program import PROGRAM, written
 from replies import EXAMPLES, commands_of, records_of
@@ -69,6 +73,21 @@ class SweepTest(unittest.TestCase):
         self.assertEqual((ran.returncode, ran.stderr), (1, "bad: refused E02\n"))
         good = run("chunk", given=f"{self.lines[0]}\n{self.lines[1]}\n")
         self.assertEqual((ran.stdout, good.returncode), (good.stdout, 0))
+
+    @unittest.skipUnless(shutil.which("parallel"), "GNU parallel isn't installed")
+    def test_chunks_by_gnu_parallel(self) -> None:
+        """The command of README.md, on as many sets as make several chunks."""
+        sets = self.lines[:400]
+        command = re.search(r"^    parallel (--pipepart .*) > results.csv$", (SWEEP / "README.md").read_text(), re.MULTILINE)[1]
+        with tempfile.TemporaryDirectory() as folder:
+            Path(folder, "sets.csv").write_text("\n".join(sets) + "\n")
+            Path(folder, "chunk").symlink_to(SWEEP / "chunk")
+            words = ["parallel", "--will-cite", *command.split()]
+            environment = {**os.environ, "WHATIF": PROGRAM, "HOME": folder}
+            ran = subprocess.run(words, cwd=folder, capture_output=True, text=True, env=environment, timeout=60)
+        whole = run("chunk", given="\n".join(sets) + "\n")
+        self.assertEqual((ran.stdout, ran.returncode), (whole.stdout, 0))
+        self.assertEqual(len(ran.stdout.splitlines()), 400)
 
     def test_a_program_that_ends_early_fails(self) -> None:
         environment = {**os.environ, "WHATIF": "false"}
