@@ -194,6 +194,7 @@ class WhatIfTest(WorkbookTest):
         self.assertEqual(self.book.table("B4", "B1", [250, 400], "B2", [0.32, 0.28]), wanted)
         self.assertEqual(self.book.table("B4", "B1", [250, 400]), [[250, 92], [400, 140]])
         self.assertEqual(self.book.table("B4", "B1", []), [])
+        self.assertEqual(self.book.table("B4", "B1", iter([250, 400]), "B2", iter([0.32, 0.28])), wanted)
 
     def test_tables_of_two_kinds_of_values(self) -> None:
         for wrong in (("D2:D3", "B2", [1]), ([1], "B2", "E1:F1")):

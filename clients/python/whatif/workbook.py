@@ -3,7 +3,7 @@
 from __future__ import annotations
 
 import os
-from collections.abc import Iterator, Mapping
+from collections.abc import Callable, Iterator, Mapping
 from contextlib import contextmanager
 from dataclasses import dataclass
 from fractions import Fraction
@@ -66,10 +66,12 @@ class Reader:
         """The values under a scenario. It isn't left in use, so that it can be dropped."""
         if scenario:
             self._process.run(READER, f"use {scenario}")
-        for address, kind, text in self._process.run(READER, "changes"):
-            self._values[address] = read_kind(kind, text)
-        if scenario:
-            self._process.run(READER, "use")
+        try:
+            for address, kind, text in self._process.run(READER, "changes"):
+                self._values[address] = read_kind(kind, text)
+        finally:
+            if scenario:
+                self._process.run(READER, "use")
         return self._values
 
 
@@ -127,7 +129,7 @@ class Session:
     def put(self, address: str, rows: Any, force: bool = False) -> None:
         """Puts rows of values, or a DataFrame below the names of its columns, as one edit. None empties its cell.
 
-        A text that spells another value (`007`, `TRUE`, an empty one) is put by an edit of its own behind that one.
+        A text that spells another value (`007`, `TRUE`, an empty one) is put by an edit of its own after that one.
 
         book.put("A1", [["rent", 900], ["food", 620.50]])
         """
@@ -167,7 +169,7 @@ class Session:
         return self.command(f"show {rect}")
 
     def formula(self, address: str) -> str:
-        """What stands in a cell: a formula, `'` and a text, another constant, or nothing."""
+        """The content of a cell: a formula, `'` and a text, another constant, or nothing."""
         return self.command(f"formula {address}")[0][1]
 
     def values(self, rect: str) -> list[list[Value]]:
@@ -217,6 +219,7 @@ class Session:
             return [[read(text) for text in row] for row in self.command(f"table {result} {cell} {xs}{behind}")]
         if any(are_cells):
             raise TypeError("the values are two rectangles or two lists")
+        ys = list(ys or [])
         rows: list[list[Value]] = [[None, *map(as_value, ys)]] if second else []
         with Trial(self) as trial:
             for x in xs:
@@ -252,13 +255,7 @@ class Session:
                 raise ValueError(f"{result} is {start} at {low} and {end} at {high}: {goal} isn't between")
             if start == wanted:
                 return first * unit
-            while last - first > 1:
-                middle = (first + last) // 2
-                if sign * at(middle) >= sign * wanted:
-                    last = middle
-                else:
-                    first = middle
-        return last * unit
+            return unit * first_step(first, last, lambda step: sign * at(step) >= sign * wanted)
 
     # Scenarios
 
@@ -419,6 +416,18 @@ class Workbook(Session):
     def load(self, path: str | Path) -> list[list[list[str]]]:
         """Runs the script in a file."""
         return self.run(Path(path).read_bytes().decode())
+
+
+def first_step(low: int, high: int, holds: Callable[[int], bool]) -> int:
+    """The least number above `low` from which on something holds; it doesn't at `low`, and it does at `high`.
+
+    >>> first_step(0, 100, lambda number: number * number >= 50)
+    8
+    """
+    while high - low > 1:
+        middle = (low + high) // 2
+        low, high = (low, middle) if holds(middle) else (middle, high)
+    return high
 
 
 def replacing(scenario: str, cells: Mapping[str, Any]) -> list[str]:
