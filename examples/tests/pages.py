@@ -28,7 +28,7 @@ class Script:
 
 @dataclass(frozen=True)
 class Block:
-    """A fenced block: the words behind its fence, its heading and its text. Prose has the word `prose`."""
+    """A fenced block: the words after its fence, its heading and its text. Prose has the word `prose`."""
 
     words: str
     heading: str

@@ -1,4 +1,4 @@
-"""What README.md quotes of the scripts stands in them, and the files that it names are there."""
+"""README.md quotes lines that the scripts have, and names files that are there."""
 
 import re
 import unittest
@@ -10,7 +10,7 @@ README = (EXAMPLES / "README.md").read_text()
 
 class ReadmeTest(unittest.TestCase):
     def test_quoted_lines(self) -> None:
-        parts = re.findall(r"\[(\w+)\.whatif\]\(\w+\.whatif\)[^\n]*\n\n((?:    .*\n)+)", README)
+        parts = re.findall(r"\[(\w+)\.whatif\]\(\w+\.whatif\)[^\n]*:\n\n((?:    .*\n)+)", README)
         self.assertEqual([name for name, _ in parts], ["tariff", "recipe", "break_even"])
         for name, quoted in parts:
             lines = (EXAMPLES / f"{name}.whatif").read_text().splitlines()

@@ -27,16 +27,16 @@ def by_row(address: str) -> tuple[int, str]:
 
 
 class Budget:
-    """Who looks is told what differs from what he was shown."""
+    """Lists for each person what differs from what that person was shown."""
 
     def __init__(self) -> None:
         self.costs = {"B2": 900, "B3": 140, "B4": 620}
 
     def changes(self, person: Person) -> list[list[str]]:
         now = cells({**self.costs, **person.scenario})
-        told = [at for at in sorted(now, key=by_row) if person.shown.get(at) != now[at]]
+        differing = [at for at in sorted(now, key=by_row) if person.shown.get(at) != now[at]]
         person.shown = now
-        return [[at, "T" if at in LABELS else "N", now[at]] for at in told]
+        return [[at, "T" if at in LABELS else "N", now[at]] for at in differing]
 
 
 class TwoPeopleTest(unittest.TestCase):
@@ -44,24 +44,24 @@ class TwoPeopleTest(unittest.TestCase):
 
     def test_story(self) -> None:
         budget, ana, bo = Budget(), Person(), Person()
-        told = iter(reply.records for reply in self.example.replies if reply.command == "changes")
-        self.assertEqual(next(told), budget.changes(ana))
-        self.assertEqual(next(told), budget.changes(bo))
+        lists = iter(reply.records for reply in self.example.replies if reply.command == "changes")
+        self.assertEqual(next(lists), budget.changes(ana))
+        self.assertEqual(next(lists), budget.changes(bo))
         budget.costs["B2"] = 850
-        self.assertEqual(next(told), budget.changes(ana))
+        self.assertEqual(next(lists), budget.changes(ana))
         budget.costs["B2"] = 870
-        self.assertEqual(next(told), budget.changes(bo))
+        self.assertEqual(next(lists), budget.changes(bo))
         budget.costs["B3"] = 160
         bo.scenario = WINTER
-        self.assertEqual(next(told), budget.changes(bo))
-        self.assertEqual(next(told), budget.changes(ana))
+        self.assertEqual(next(lists), budget.changes(bo))
+        self.assertEqual(next(lists), budget.changes(ana))
         compared = [["B3", "160", "240", "80"], ["B5", str(870 + 160 + 620), str(870 + 240 + 620), "80"]]
         self.assertEqual(self.example.records("compare - cold_winter B2:B5"), compared)
         budget.costs["B4"] = 650
-        self.assertEqual(next(told), budget.changes(bo))
+        self.assertEqual(next(lists), budget.changes(bo))
         bo.scenario = {}
-        self.assertEqual(next(told), budget.changes(bo))
-        self.assertEqual(list(told), [])
+        self.assertEqual(next(lists), budget.changes(bo))
+        self.assertEqual(list(lists), [])
         now = cells(budget.costs)
         self.assertEqual(self.example.records("show A1:B5"), [[now[f"A{row}"], now[f"B{row}"]] for row in range(1, 6)])
 
