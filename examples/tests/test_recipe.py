@@ -92,7 +92,9 @@ class RecipeTest(unittest.TestCase):
     def test_exact_costs_do_not_fit_in_a_sum(self) -> None:
         """Over their least common denominator the numerators come to more than fits."""
         exact = [it.exact() for it in self.ingredients]
-        self.assertGreater(math.lcm(*(cost.denominator for cost in exact)) * sum(exact), LARGEST)
+        common = math.lcm(*(cost.denominator for cost in exact))
+        self.assertEqual(len(str(common)), 38)
+        self.assertGreater(common * sum(exact), LARGEST)
         mean = rounded(sum((it.cost() for it in self.ingredients), Fraction(0)) / 200, 2)
         self.assertEqual(self.example.records("show A202:F202"), [["mean", "", "", "", shown(mean), "#NUM!"]])
 
