@@ -20,7 +20,7 @@ use Rattle.wi_graph.specs.Circular.{circular}
 use Rattle.wi_graph.proofs.Tests.{clash}
 use Rattle.wi_sheet.specs.CellValue.{cell_value}
 use Rattle.wi_sheet.specs.Demand.{Case, case_of, reaching, with_what_if, demanded}
-use Rattle.wi_sheet.specs.TableEntry.{table_entry, entry_demanded}
+use Rattle.wi_sheet.specs.TableEntry.{asks_circular, table_entry, entry_demanded}
 use Rattle.wi_sheet.specs.Settled.{IsWhatIfSettled}
 use Rattle.wi_sheet.specs.Inner.Spending.{CountsAtMost, HasCase, HasEntry, IsClosed, left}
 use Rattle.wi_sheet.proofs.Cases.{different_has_itself}
@@ -288,12 +288,12 @@ module _ (k : KeptSheet) (q : Keeping) (w put : List Replacement) (a : ℕ) (e :
 
 -- ---- an entry
 
+none_circular : (s : Sheet) (f : ℕ) (pairs : List (ℕ × ℕ)) → (circular s f ≡ false) × All (λ x. circular s x.1 ≡ false) pairs → (circular s f || list_any (λ x. circular s x.1) pairs) ≡ false
+none_circular s f pairs o = ap (λ (b : Bool). b || list_any (λ x. circular s x.1) pairs) o.0 ∙ list_any_none (λ x. circular s x.1) pairs o.1
+
 pub entry_has : (s : Sheet) (w put : List Replacement) (f : ℕ) (pairs : List (ℕ × ℕ)) → (circular s f ≡ false) × All (λ x. circular s x.1 ≡ false) pairs → w ≡ put → HasEntry s w f pairs (entry_demanded s put f pairs)
 entry_has s w put f pairs o same = subst (λ (p : List Replacement). HasEntry s p f pairs (entry_demanded s put f pairs)) (sym same)
-    (λ i x less. table_has_replacing s put f pairs (get_or pairs i x) (contains_in pairs (get_or pairs i x) (pair_in pairs i x less)) (o.1 i x less), table_has_formula_cell s put f pairs o.0)
-
-abbrev asks_circular : Sheet → ℕ → List (ℕ × ℕ) → Bool
-asks_circular s f pairs = circular s f || list_any (λ x. circular s x.1) pairs
+    (λ i x less. table_has_replacing s put f pairs (get_or pairs i x) (none_circular s f pairs o) (contains_in pairs (get_or pairs i x) (pair_in pairs i x less)) (o.1 i x less), table_has_formula_cell s put f pairs (none_circular s f pairs o) o.0)
 
 -- none of the cells is circular whose values are asked for
 pub open_cells : (s : Sheet) (f : ℕ) (pairs : List (ℕ × ℕ)) (b : Bool) → b ≡ asks_circular s f pairs → b ≡ false → (circular s f ≡ false) × All (λ x. circular s x.1 ≡ false) pairs
@@ -301,9 +301,6 @@ open_cells s f pairs b e h = cells_open s f pairs (sym e ∙ h)
 
 pub circular_entry : (s t : Sheet) (p : List Replacement) (f : ℕ) (pairs : List (ℕ × ℕ)) (b : Bool) → s ≡ t → b ≡ asks_circular s f pairs → b ≡ true → Fault Circular ≡ table_entry t p f pairs
 circular_entry s t p f pairs b e x h = sym (entry_circular s p f pairs (sym x ∙ h)) ∙ ap (λ (r : Sheet). table_entry r p f pairs) e
-
-none_circular : (s : Sheet) (f : ℕ) (pairs : List (ℕ × ℕ)) → (circular s f ≡ false) × All (λ x. circular s x.1 ≡ false) pairs → (circular s f || list_any (λ x. circular s x.1) pairs) ≡ false
-none_circular s f pairs o = ap (λ (b : Bool). b || list_any (λ x. circular s x.1) pairs) o.0 ∙ list_any_none (λ x. circular s x.1) pairs o.1
 
 pub entry_shown : (s : Sheet) (w put : List Replacement) (f : ℕ) (pairs : List (ℕ × ℕ)) (v : Value) → (circular s f ≡ false) × All (λ x. circular s x.1 ≡ false) pairs → w ≡ put → IsInOrder put →
     v ≡ zero_for_empty (cell_value (put_all s (with_what_if s w pairs)) f) → v ≡ table_entry s put f pairs

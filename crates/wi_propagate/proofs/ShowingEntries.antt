@@ -61,11 +61,12 @@ module _ (s : Sheet) (f : ℕ) (pairs : List (ℕ × ℕ)) (cells : List ℕ) (n
   -- no more is counted than what the entry demands weighs
   pub entry_at_most : (w put : List Replacement) (weight : Case → ℕ) (n m : ℕ) → w ≡ put → CountsAtMost s (HasEntry s w f pairs) weight (λ c p. false) n m → m ≤ n + sum_by weight (different (table_demand s put f pairs))
   entry_at_most w put weight n m e h =
-      let open_cells = cells_open s f pairs (test_of_cells s f pairs cells named ∙ clear) in
+      let none = test_of_cells s f pairs cells named ∙ clear in
+      let open_cells = cells_open s f pairs none in
       let ks = different (table_demand s put f pairs) in
       let here : CountsAtMost s (HasEntry s put f pairs) weight (λ c p. false) n m = subst (λ (p : List Replacement). CountsAtMost s (HasEntry s p f pairs) weight (λ c q. false) n m) e h in
       let counted = here ks (table_closed s put f pairs)
-      (λ i x less. table_has_replacing s put f pairs (get_or pairs i x) (contains_in pairs (get_or pairs i x) (pair_in pairs i x less)) (open_cells.1 i x less), table_has_formula_cell s put f pairs open_cells.0) in
+      (λ i x less. table_has_replacing s put f pairs (get_or pairs i x) none (contains_in pairs (get_or pairs i x) (pair_in pairs i x less)) (open_cells.1 i x less), table_has_formula_cell s put f pairs none open_cells.0) in
       let all = left_of_nothing weight ks in
       omega (arith, counted, all)
 

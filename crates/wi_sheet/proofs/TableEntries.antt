@@ -1,5 +1,5 @@
 -- What an entry of a data table demands.
-use Rattle.std.proofs.Common.{◌≡◌, inl, inr, ℕ, zero, suc, arith, All, Bool, true, false, ◌||◌, cond, List, [], ◌∷◌, ◌++◌, map, Contains, refl, ap, sym, ◌∙◌}
+use Rattle.std.proofs.Common.{◌≡◌, inl, inr, ℕ, zero, suc, arith, All, Bool, true, false, ◌||◌, cond, List, [], ◌∷◌, ◌++◌, map, Contains, refl, ap, sym, subst, ◌∙◌}
 use Rattle.std.proofs.lemmas.Bool.{or_parts}
 use Rattle.std.specs.List.{list_any, flat_map}
 use Rattle.wi_values.specs.declared.value.Value.TheVariants.{Fault}
@@ -11,7 +11,7 @@ use Rattle.wi_graph.specs.Circular.{circular}
 use Rattle.wi_sheet.specs.CellValue.{what_if_value}
 use Rattle.wi_sheet.specs.Demand.{Case, case_of, with_what_if, demand, different}
 use Rattle.wi_sheet.specs.Inner.Spending.{IsClosed}
-use Rattle.wi_sheet.specs.TableEntry.{table_entry, table_demand}
+use Rattle.wi_sheet.specs.TableEntry.{asks_circular, table_entry, open_demand, table_demand}
 use Rattle.wi_sheet.proofs.Members.{IsIn, in_contained, contains_in, in_left, in_right, in_either, in_flat, of_flat}
 use Rattle.wi_sheet.proofs.SmallerWorlds.{content_below}
 use Rattle.wi_sheet.proofs.Demands.{demand_closed, demand_has_itself}
@@ -30,13 +30,27 @@ closed_flat s f xs c = λ k j h r.
     let y = of_flat f xs k (in_contained (flat_map f xs) k h) in
     contains_in (flat_map f xs) j (in_flat f xs y.0 j y.1 (in_contained (f y.0) j (c y.0 k j (contains_in (f y.0) k y.2) r)))
 
--- what an entry demands, each case once, has all on which its cases rest
-pub table_closed : (s : Sheet) (w : List Replacement) (f : ℕ) (pairs : List (ℕ × ℕ)) → IsClosed s (different (table_demand s w f pairs))
-table_closed s w f pairs =
-    closed_different s (table_demand s w f pairs)
+closed_open : (s : Sheet) (w : List Replacement) (f : ℕ) (pairs : List (ℕ × ℕ)) → IsClosed s (different (open_demand s w f pairs))
+closed_open s w f pairs =
+    closed_different s (open_demand s w f pairs)
     (closed_both s (flat_map (λ x. demand s (case_of s w x.1)) pairs) (demand s (case_of s (with_what_if s w pairs) f))
     (closed_flat s (λ x. demand s (case_of s w x.1)) pairs (λ x. demand_closed s (case_of s w x.1)))
     (demand_closed s (case_of s (with_what_if s w pairs) f)))
+
+closed_nothing : (s : Sheet) → IsClosed s []
+closed_nothing s = λ k j h r. absurd (in_contained [] k h)
+
+-- what an entry demands, each case once, has all on which its cases rest
+pub table_closed : (s : Sheet) (w : List Replacement) (f : ℕ) (pairs : List (ℕ × ℕ)) → IsClosed s (different (table_demand s w f pairs))
+table_closed s w f pairs = at (asks_circular s f pairs)
+  where
+    at : (b : Bool) → IsClosed s (different (cond b [] (open_demand s w f pairs)))
+    at true = closed_nothing s
+    at false = closed_open s w f pairs
+
+-- where it isn't circular, it demands what it would
+demand_open : (s : Sheet) (w : List Replacement) (f : ℕ) (pairs : List (ℕ × ℕ)) → asks_circular s f pairs ≡ false → different (table_demand s w f pairs) ≡ different (open_demand s w f pairs)
+demand_open s w f pairs h = ap (λ (b : Bool). different (cond b [] (open_demand s w f pairs))) h
 
 -- ---- it has its roots
 
@@ -44,20 +58,22 @@ table_closed s w f pairs =
 case_itself : (s : Sheet) (w : List Replacement) (c : ℕ) → circular s c ≡ false → has_formula (content_of (put_all s w) c) ≡ true → IsIn (demand s (case_of s w c)) (case_of s w c)
 case_itself s w c h f = in_contained (demand s (case_of s w c)) (case_of s w c) (demand_has_itself s (case_of s w c) h (ap has_formula (content_below s c w) ∙ f))
 
-pub table_has_replacing : (s : Sheet) (w : List Replacement) (f : ℕ) (pairs : List (ℕ × ℕ)) (x : ℕ × ℕ) → Contains pairs x → circular s x.1 ≡ false →
+pub table_has_replacing : (s : Sheet) (w : List Replacement) (f : ℕ) (pairs : List (ℕ × ℕ)) (x : ℕ × ℕ) → asks_circular s f pairs ≡ false → Contains pairs x → circular s x.1 ≡ false →
     has_formula (content_of (put_all s w) x.1) ≡ true → Contains (different (table_demand s w f pairs)) (case_of s w x.1)
-table_has_replacing s w f pairs x i h g =
+table_has_replacing s w f pairs x o i h g =
     let replacing = flat_map (λ (y : ℕ × ℕ). demand s (case_of s w y.1)) pairs in
-    contains_different (table_demand s w f pairs) (case_of s w x.1) (contains_in (table_demand s w f pairs) (case_of s w x.1)
+    subst (λ (ks : List Case). Contains ks (case_of s w x.1)) (sym (demand_open s w f pairs o))
+    (contains_different (open_demand s w f pairs) (case_of s w x.1) (contains_in (open_demand s w f pairs) (case_of s w x.1)
     (in_left replacing (demand s (case_of s (with_what_if s w pairs) f)) (case_of s w x.1)
-    (in_flat (λ (y : ℕ × ℕ). demand s (case_of s w y.1)) pairs x (case_of s w x.1) (in_contained pairs x i) (case_itself s w x.1 h g))))
+    (in_flat (λ (y : ℕ × ℕ). demand s (case_of s w y.1)) pairs x (case_of s w x.1) (in_contained pairs x i) (case_itself s w x.1 h g)))))
 
-pub table_has_formula_cell : (s : Sheet) (w : List Replacement) (f : ℕ) (pairs : List (ℕ × ℕ)) → circular s f ≡ false →
+pub table_has_formula_cell : (s : Sheet) (w : List Replacement) (f : ℕ) (pairs : List (ℕ × ℕ)) → asks_circular s f pairs ≡ false → circular s f ≡ false →
     has_formula (content_of (put_all s (with_what_if s w pairs)) f) ≡ true → Contains (different (table_demand s w f pairs)) (case_of s (with_what_if s w pairs) f)
-table_has_formula_cell s w f pairs h g =
+table_has_formula_cell s w f pairs o h g =
     let last = case_of s (with_what_if s w pairs) f in
-    contains_different (table_demand s w f pairs) last (contains_in (table_demand s w f pairs) last
-    (in_right (flat_map (λ (y : ℕ × ℕ). demand s (case_of s w y.1)) pairs) (demand s last) last (case_itself s (with_what_if s w pairs) f h g)))
+    subst (λ (ks : List Case). Contains ks last) (sym (demand_open s w f pairs o))
+    (contains_different (open_demand s w f pairs) last (contains_in (open_demand s w f pairs) last
+    (in_right (flat_map (λ (y : ℕ × ℕ). demand s (case_of s w y.1)) pairs) (demand s last) last (case_itself s (with_what_if s w pairs) f h g))))
 
 -- ---- its value
 
