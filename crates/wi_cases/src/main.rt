@@ -36,7 +36,10 @@ fn begun(line: &str) -> Option<Section> {
         "@csv" => Section::OfScripts(ScriptSection::CsvTexts),
         "@calls" => Section::OfScripts(ScriptSection::Calls),
         "@scripts" => Section::OfScripts(ScriptSection::Scripts),
+        "@imports" => Section::OfScripts(ScriptSection::Imports),
+        "@faults" => Section::OfScripts(ScriptSection::Faults),
         "@broken" => Section::OfScripts(ScriptSection::Broken),
+        "@devices" => Section::OfScripts(ScriptSection::Devices),
         _ => return None,
     };
     Some(section)

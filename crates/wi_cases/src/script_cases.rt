@@ -1,15 +1,24 @@
-//! Cases of CSV texts, of words of calls of the program, and of scripts, those whose reader fails among them.
+//! Cases of CSV texts and of their import, of words of calls of the program and of faults, and of scripts, those among them that
+//! are run on devices that fail.
 
 mod broken;
 mod byte_spelling;
 mod call_words;
 mod case;
 mod csv_texts;
+mod device_faults;
+mod device_runs;
 mod devices;
+mod exchange;
+mod failing_devices;
+mod imports;
+mod random;
+mod run_faults;
 mod runs;
 mod scripts;
 
 use case::Case;
+use exchange::Exchange;
 use std::alloc::Global;
 use std::io;
 use std::io::Write;
@@ -18,9 +27,12 @@ use std::io::Write;
 #[derive(Clone, Copy)]
 pub enum ScriptSection {
     CsvTexts,
+    Imports,
     Calls,
+    Faults,
     Scripts,
     Broken,
+    Devices,
 }
 
 /// The scripts, which are run once all lines are read.
@@ -28,6 +40,7 @@ pub enum ScriptSection {
 pub struct ScriptCases {
     scripts: Vec<Case>,
     broken: Vec<Case>,
+    exchanges: Vec<Exchange>,
 }
 
 /// Takes a line of a script, or a title, with which a case begins; what stands before the first title is a comment.
@@ -40,12 +53,23 @@ fn take_script_line(alloc: Global, line: &str, cases: &mut Vec<Case>) -> io::Res
     Ok(())
 }
 
+/// Takes a line of a script and its replies, or a title, with which a case begins.
+fn take_exchange_line(alloc: Global, line: &str, exchanges: &mut Vec<Exchange>) -> io::Result<()> {
+    if let Some(title) = line.strip_prefix("== ") {
+        exchanges.push(Exchange::new(alloc, title)?)?;
+    } else if let Some(exchange) = exchanges.last_mut() {
+        exchange.take(line)?;
+    }
+    Ok(())
+}
+
 impl ScriptCases {
     /// No scripts.
     pub fn new(alloc: Global) -> ScriptCases {
         ScriptCases {
             scripts: Vec::new(alloc),
             broken: Vec::new(alloc),
+            exchanges: Vec::new(alloc),
         }
     }
 
@@ -60,9 +84,12 @@ impl ScriptCases {
         match section {
             ScriptSection::Scripts => take_script_line(alloc, line, &mut self.scripts),
             ScriptSection::Broken => take_script_line(alloc, line, &mut self.broken),
+            ScriptSection::Devices => take_exchange_line(alloc, line, &mut self.exchanges),
             _ if line.starts_with('#') => Ok(()),
             _ if line.starts_with("==") => Ok(writeln!(out, "{line}")?),
             ScriptSection::CsvTexts => csv_texts::push_told(alloc, line, out),
+            ScriptSection::Imports => imports::push_told(alloc, line, out),
+            ScriptSection::Faults => run_faults::push_told(line, out),
             ScriptSection::Calls => Ok(call_words::push_told(alloc, line, out)?),
         }
     }
@@ -77,6 +104,11 @@ impl ScriptCases {
         for case in &self.broken {
             let mut text = Vec::new(rt.alloc());
             broken::push_told(rt.alloc(), case, &mut text)?;
+            io::writer(rt).write_all(&text)?;
+        }
+        for exchange in &self.exchanges {
+            let mut text = Vec::new(rt.alloc());
+            device_faults::push_told(rt.alloc(), exchange, &mut text)?;
             io::writer(rt).write_all(&text)?;
         }
         io::writer(rt).flush()

@@ -1,4 +1,5 @@
-//! What calculators are asked, and what they are to answer.
+//! What calculators are asked, and what they are to answer. A call that is refused for want of memory is made again; what is
+//! asked so tells whether it was answered at once, as it must be where no memory is refused.
 
 ghost use Rattle.wi_values.specs.Replacements.{IsInOrder};
 
@@ -46,18 +47,23 @@ pub fn expect_next<C: Calculator>(rt: &impl Abort, calculator: &C, rows: &[(&str
     }
 }
 
-/// Which cells are marked where some change, asked for again where memory is refused.
+/// Which cells are marked where some change. Tells whether it was answered at once.
 pub fn expect_marked<C: Calculator>(
     rt: &impl Abort,
     calculator: &C,
     edited: &[Address],
     wanted: &[Address],
-) {
+) -> bool {
+    let mut at_once = true;
     let marked = match calculator.mark(edited) {
         Ok(marked) => marked,
-        Err(_) => calculator.mark(edited).expect(rt, "marked"),
+        Err(_) => {
+            at_once = false;
+            calculator.mark(edited).expect(rt, "marked")
+        }
     };
     assert!(rt; marked.as_slice() == wanted);
+    at_once
 }
 
 fn truth(value: Value) -> Option<bool> {
@@ -81,66 +87,88 @@ fn ask<C: Calculator>(
     Ok(truth(value))
 }
 
-// The same, asked for again where memory is refused.
+// What a question was answered, and whether at once.
+#[derive(Clone, Copy)]
+struct Answer {
+    truth: Option<bool>,
+    at_once: bool,
+}
+
+// The same, asked for again where memory is refused; then there is memory.
 fn asked<C: Calculator>(
+    rt: &impl Abort,
     calculator: &mut C,
     at: Address,
     pairs: &[(Address, Address)],
-) -> Option<bool> {
+) -> Answer {
     match ask(calculator, at, pairs) {
-        Ok(answer) => answer,
-        Err(_) => ask(calculator, at, pairs).ok()?,
+        Ok(truth) => Answer {
+            truth,
+            at_once: true,
+        },
+        Err(_) => Answer {
+            truth: ask(calculator, at, pairs).expect(rt, "an answer"),
+            at_once: false,
+        },
     }
 }
 
-/// What a cell shows under replacements, asked for again where memory is refused.
+/// What a cell shows under replacements. Tells whether it was answered at once.
 pub fn expect_under<C: Calculator>(
     rt: &impl Abort,
     calculator: &mut C,
     put: &[Replacement],
     at: Address,
     wanted: bool,
-)
+) -> bool
     requires { IsInOrder put.now }
 {
+    let mut at_once = true;
     let value = match calculator.value(put, at) {
         Ok(value) => value,
-        Err(_) => calculator.value(put, at).expect(rt, "a value"),
+        Err(_) => {
+            at_once = false;
+            calculator.value(put, at).expect(rt, "a value")
+        }
     };
     expect_that(rt, truth(value) == Some(wanted), "under replacements");
+    at_once
 }
 
-/// That a cell shows no truth value, asked for again where memory is refused.
-pub fn expect_no_truth<C: Calculator>(rt: &impl Abort, calculator: &mut C, at: Address) {
-    let answer = asked(calculator, at, &[]);
-    expect_that(rt, answer.is_none(), "no truth value");
+/// That a cell shows no truth value. Tells whether it was answered at once.
+pub fn expect_no_truth<C: Calculator>(rt: &impl Abort, calculator: &mut C, at: Address) -> bool {
+    let answer = asked(rt, calculator, at, &[]);
+    expect_that(rt, answer.truth.is_none(), "no truth value");
+    answer.at_once
 }
 
-// What is answered with no evaluation.
+// What is answered with no evaluation. Tells whether it was answered at once.
 fn expect_looked_up<C: Calculator>(
     rt: &impl Abort,
     calculator: &mut C,
     at: Address,
     pairs: &[(Address, Address)],
     wanted: bool,
-) {
+) -> bool {
     let before = calculator.evaluations();
-    let answer = asked(calculator, at, pairs);
-    expect_that(rt, answer == Some(wanted), "the answer");
+    let answer = asked(rt, calculator, at, pairs);
+    expect_that(rt, answer.truth == Some(wanted), "the answer");
     expect_that(rt, calculator.evaluations() == before, "no evaluation");
+    answer.at_once
 }
 
-/// What is answered, and again with no evaluation.
+/// What is answered, and again with no evaluation. Tells whether both were answered at once.
 pub fn expect_kept<C: Calculator>(
     rt: &impl Abort,
     calculator: &mut C,
     at: Address,
     pairs: &[(Address, Address)],
     wanted: bool,
-) {
-    let answer = asked(calculator, at, pairs);
-    expect_that(rt, answer == Some(wanted), "the first answer");
-    expect_looked_up(rt, calculator, at, pairs, wanted);
+) -> bool {
+    let answer = asked(rt, calculator, at, pairs);
+    expect_that(rt, answer.truth == Some(wanted), "the first answer");
+    let looked_up_at_once = expect_looked_up(rt, calculator, at, pairs, wanted);
+    answer.at_once && looked_up_at_once
 }
 
 // An edit that was refused for want of memory: D4 has no content and C4 is looked up as FALSE.
@@ -150,36 +178,40 @@ fn expect_unedited<C: Calculator>(rt: &impl Abort, calculator: &mut C, fault: St
     expect_looked_up(rt, calculator, cell(rt, "C4"), &[], false);
 }
 
-/// An edit. Where memory is refused, nothing is edited, and the edit is made again.
+/// An edit. Where memory is refused, nothing is edited, and the edit is made again. Tells whether it was made at once, or nothing
+/// where there is no memory for what it puts in.
 pub fn expect_edit<C: Calculator>(
     rt: &impl Abort,
     alloc: Global,
     calculator: &mut C,
     texts: &str,
-) -> Option<()> {
+) -> Option<bool> {
     match edit(rt, alloc, calculator, texts)? {
-        Ok(()) => Some(()),
+        Ok(()) => Some(true),
         Err(fault) => {
             expect_unedited(rt, calculator, fault);
-            fill(rt, alloc, calculator, texts)
+            fill(rt, alloc, calculator, texts).expect(rt, texts);
+            Some(false)
         }
     }
 }
 
-/// An edit of a sheet where a cell shows no truth value. Where memory is refused, it still shows none, and the edit is made again.
+/// An edit of a sheet where a cell shows no truth value. Where memory is refused, it still shows none, and the edit is made
+/// again. Tells whether it was made at once, or nothing where there is no memory for what it puts in.
 pub fn expect_edit_of_cycle<C: Calculator>(
     rt: &impl Abort,
     alloc: Global,
     calculator: &mut C,
     at: Address,
     texts: &str,
-) -> Option<()> {
+) -> Option<bool> {
     match edit(rt, alloc, calculator, texts)? {
-        Ok(()) => Some(()),
+        Ok(()) => Some(true),
         Err(fault) => {
             expect_that(rt, fault == StoreFault::Memory, "memory");
             expect_no_truth(rt, calculator, at);
-            fill(rt, alloc, calculator, texts)
+            fill(rt, alloc, calculator, texts).expect(rt, texts);
+            Some(false)
         }
     }
 }

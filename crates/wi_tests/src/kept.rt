@@ -43,7 +43,8 @@ fn expect_each_marked(
 ) {
     for (edited, wanted) in rows {
         let edited = cells(rt, alloc, edited);
-        expect_marked(rt, sheet, &edited, &cells(rt, alloc, wanted));
+        let at_once = expect_marked(rt, sheet, &edited, &cells(rt, alloc, wanted));
+        assert!(rt; at_once);
     }
 }
 

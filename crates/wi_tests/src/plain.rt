@@ -27,8 +27,9 @@ fn marked_cells(rt: HostRuntime) {
     let edited = [cell(&rt, "B1")];
     let wanted = [cell(&rt, "C1"), cell(&rt, "B2"), cell(&rt, "B1")];
     let sheet = sheet(&rt, rt.alloc(), "B1 10, B2 =[.B1]*3, C1 =1");
-    expect_marked(&rt, &sheet, &edited, &wanted);
+    let at_once = expect_marked(&rt, &sheet, &edited, &wanted);
     drop(sheet);
+    assert!(rt; at_once);
 }
 
 #[test]

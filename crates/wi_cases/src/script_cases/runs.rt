@@ -23,6 +23,8 @@ pub struct Run {
     pub flushed: bool,
     /// The evaluations up to each count.
     pub counted: Vec<u64>,
+    /// The restarts up to each count.
+    pub restarted: Vec<u64>,
     pub evaluations: u64,
     pub restarts: u64,
     pub replies: Vec<u8>,
@@ -35,6 +37,7 @@ impl Run {
             outcome: Ok(()),
             flushed: false,
             counted: Vec::new(alloc),
+            restarted: Vec::new(alloc),
             evaluations: 0,
             restarts: 0,
             replies: Vec::new(alloc),
@@ -74,20 +77,21 @@ fn run_part<C: Calculator + Drop>(
     }
 }
 
-/// Runs a case's script part by part, and notes the evaluations after each that ends with a count.
+/// Runs a case's script part by part, and notes the evaluations and restarts after each that ends with a count.
 fn run_parts<C: Calculator + Drop>(
     alloc: Global,
     case: &Case,
     taken: &mut Taken<'_>,
     book: &mut Workbook<C>,
-    counted: &mut Vec<u64>,
+    told: &mut Run,
 ) -> io::Result<Result<(), RunFault>> {
     for part in &case.counted {
         let outcome = run_part(alloc, case, part, taken, book);
         if outcome.is_err() {
             return Ok(outcome);
         }
-        counted.push(book.calculator().evaluations())?;
+        told.counted.push(book.calculator().evaluations())?;
+        told.restarted.push(book.calculator().restarts())?;
     }
     Ok(run_part(alloc, case, &case.script, taken, book))
 }
@@ -100,7 +104,7 @@ fn run_told<C: Calculator + Drop>(
     taken: &mut Taken<'_>,
     told: &mut Run,
 ) -> io::Result<()> {
-    told.outcome = run_parts(alloc, case, taken, book, &mut told.counted)?;
+    told.outcome = run_parts(alloc, case, taken, book, told)?;
     told.flushed = taken.flushed;
     told.evaluations = book.calculator().evaluations();
     told.restarts = book.calculator().restarts();

@@ -8,6 +8,7 @@ use super::runs::{KEEP, Run, are_alike, run_first, run_kept, run_plain};
 use std::alloc::Global;
 use std::io;
 use std::io::Write;
+use wi_cli::fault_status;
 
 /// How many equal lines of replies are printed one by one at most.
 const ONE_BY_ONE: usize = 9;
@@ -43,13 +44,23 @@ fn push_once(alloc: Global, line: &[u8], count: usize, text: &mut Vec<u8>) -> io
     writeln!(text, "{{{count} of {spelling}}}")
 }
 
-/// Appends how many lines there are, and the last of them.
+/// The 64-bit FNV-1a checksum of some bytes.
+fn checksum(bytes: &[u8]) -> u64 {
+    let mut sum = 14_695_981_039_346_656_037;
+    for byte in bytes {
+        sum = (sum ^ u64::from(*byte)).wrapping_mul(1_099_511_628_211);
+    }
+    sum
+}
+
+/// Appends how many lines there are, their checksum, and the last of them.
 fn push_short(lines: &[u8], text: &mut Vec<u8>) -> io::Result<()> {
     let (mut last, mut count) = (b"".as_slice(), 0usize);
     for line in lines.split_inclusive(|byte| *byte == b'\n') {
         (last, count) = (line, count.saturating_add(1));
     }
-    writeln!(text, "{count} lines, the last of them")?;
+    let sum = checksum(lines);
+    writeln!(text, "{count} lines, checksum {sum}, the last of them")?;
     Ok(text.extend_from_slice(last)?)
 }
 
@@ -67,49 +78,65 @@ fn push_outcome(run: &Run, text: &mut Vec<u8>) -> io::Result<()> {
     match run.outcome {
         Ok(()) if run.flushed => Ok(()),
         Ok(()) => writeln!(text, "-- not flushed"),
-        Err(fault) => writeln!(text, "-- {fault}"),
+        Err(fault) => writeln!(text, "-- {fault}, status {}", fault_status(&fault)),
     }
 }
 
-/// Appends the evaluations from each count to the next.
-fn push_counts(counted: &[u64], text: &mut Vec<u8>) -> io::Result<()> {
+/// Appends by how much a number rose from each count to the next.
+fn push_rises(numbers: &[u64], text: &mut Vec<u8>) -> io::Result<()> {
     let mut before = 0;
-    for evaluations in counted {
-        write!(text, " {}", evaluations.saturating_sub(before))?;
-        before = *evaluations;
+    for number in numbers {
+        write!(text, " {}", number.saturating_sub(before))?;
+        before = *number;
     }
     writeln!(text)
 }
 
-/// Appends what was counted in a run, where there are counts.
-fn push_counted(run: &Run, text: &mut Vec<u8>) -> io::Result<()> {
+/// Appends what was counted in a run, where there are counts: the evaluations, and the restarts where these are asked for.
+fn push_counted(case: &Case, run: &Run, values: &str, text: &mut Vec<u8>) -> io::Result<()> {
     if run.counted.is_empty() {
         return Ok(());
     }
-    write!(text, "-- counted:")?;
-    push_counts(&run.counted, text)
+    write!(text, "-- counted{values}:")?;
+    push_rises(&run.counted, text)?;
+    if case.restarts {
+        write!(text, "-- begun again{values}:")?;
+        push_rises(&run.restarted, text)?;
+    }
+    Ok(())
+}
+
+/// Appends the numbers of evaluations and restarts that are asked for.
+fn push_totals(case: &Case, run: &Run, values: &str, text: &mut Vec<u8>) -> io::Result<()> {
+    if case.evaluations {
+        writeln!(text, "-- evaluations{values} {}", run.evaluations)?;
+    }
+    if case.restarts {
+        writeln!(text, "-- restarts{values} {}", run.restarts)?;
+    }
+    push_counted(case, run, values, text)
 }
 
 /// Appends what was counted in a run on the calculator that keeps so many values. With two kept values the contracts leave
 /// some counts open, so these aren't told.
-fn push_kept_counted(run: &Run, keep: usize, text: &mut Vec<u8>) -> io::Result<()> {
-    if keep == 2 || run.counted.is_empty() {
+fn push_kept_totals(
+    alloc: Global,
+    case: &Case,
+    run: &Run,
+    keep: usize,
+    text: &mut Vec<u8>,
+) -> io::Result<()> {
+    if keep == 2 {
         return Ok(());
     }
-    write!(text, "-- counted keeping {keep}:")?;
-    push_counts(&run.counted, text)
+    let values = format!(in alloc; " keeping {keep}")?;
+    push_totals(case, run, &values, text)
 }
 
 /// Appends what is to be told of a run beside its replies.
 fn push_ending(case: &Case, run: &Run, text: &mut Vec<u8>) -> io::Result<()> {
     push_outcome(run, text)?;
-    if case.evaluations {
-        writeln!(text, "-- evaluations {}", run.evaluations)?;
-    }
-    if case.restarts {
-        writeln!(text, "-- restarts {}", run.restarts)?;
-    }
-    push_counted(run, text)
+    push_totals(case, run, "", text)
 }
 
 /// Appends that a run in pieces of so many bytes is another, where it is.
@@ -143,6 +170,7 @@ fn push_pieces(alloc: Global, case: &Case, whole: &Run, text: &mut Vec<u8>) -> i
 /// was counted.
 fn push_compared(
     alloc: Global,
+    case: &Case,
     first: &Run,
     kept: &Run,
     keep: usize,
@@ -153,7 +181,7 @@ fn push_compared(
         push_lines(alloc, &kept.replies, text)?;
         push_outcome(kept, text)?;
     }
-    push_kept_counted(kept, keep, text)
+    push_kept_totals(alloc, case, kept, keep, text)
 }
 
 /// Appends what is to be told of the run on the calculator that keeps so many values.
@@ -167,7 +195,7 @@ fn push_kept(
     requires { 1 ≤ keep }
 {
     let kept = run_kept(alloc, case, keep)?;
-    push_compared(alloc, first, &kept, keep, text)
+    push_compared(alloc, case, first, &kept, keep, text)
 }
 
 /// Appends what is to be told of the runs on calculators that keep values, but of the one that was first.
