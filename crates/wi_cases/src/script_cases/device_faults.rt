@@ -166,6 +166,25 @@ fn count_calls(
     Ok(MOST)
 }
 
+/// How many calls of a kind there are that move so many bytes, until a run in which none fails; appends what is amiss.
+fn count_of_kind(
+    alloc: Global,
+    exchange: &Exchange,
+    kind: &Kind,
+    kept: bool,
+    piece: usize,
+    text: &mut Vec<u8>,
+) -> io::Result<u64> {
+    let plan = Plan {
+        by_std: kind.by_std,
+        kept,
+        failing: kind.failing,
+        piece,
+        at: 1,
+    };
+    count_calls(alloc, exchange, plan, text)
+}
+
 /// Appends, for each number of bytes that a call moves, how many calls failed, one a run, and before these what is amiss.
 fn push_kind(
     alloc: Global,
@@ -174,20 +193,12 @@ fn push_kind(
     kept: bool,
     text: &mut Vec<u8>,
 ) -> io::Result<()> {
-    let mut counts = [0; 3];
-    for (piece, count) in kind.pieces.iter().zip(counts.iter_mut()) {
-        let plan = Plan {
-            by_std: kind.by_std,
-            kept,
-            failing: kind.failing,
-            piece: *piece,
-            at: 1,
-        };
-        *count = count_calls(alloc, exchange, plan, text)?;
-    }
-    let [one, two, three] = counts;
+    let [few, more, most] = kind.pieces;
+    let first = count_of_kind(alloc, exchange, kind, kept, few, text)?;
+    let second = count_of_kind(alloc, exchange, kind, kept, more, text)?;
+    let third = count_of_kind(alloc, exchange, kind, kept, most, text)?;
     let values = if kept { ", values kept" } else { "" };
-    writeln!(text, "{}{values}: {one} {two} {three}", kind.name)
+    writeln!(text, "{}{values}: {first} {second} {third}", kind.name)
 }
 
 /// Appends the title, and for each kind of calls how many failed, one a run, and what is amiss.

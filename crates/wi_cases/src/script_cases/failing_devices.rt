@@ -1,7 +1,7 @@
 //! Devices in memory that move a few bytes at a call, and of which one call may fail: a reader and a writer of std, a source
 //! and a sink.
 
-ghost use Rattle.std.specs.Prelude.{None};
+ghost use Rattle.std.specs.Prelude.{◌≡◌, false, None};
 
 use std::io;
 use std::io::{Read, Write};
@@ -129,9 +129,13 @@ impl Source for FailingSource<'_> {
         }
         self.left -= 1;
         let wanted = buf.len().min(self.piece);
-        let outcome = self.bytes.read(&mut buf[..wanted]);
-        self.failed = outcome.is_err();
-        outcome.map_err(|_| DeviceFault)
+        match self.bytes.read(&mut buf[..wanted]) {
+            Ok(given) => Ok(given),
+            Err(_) => {
+                self.failed = true;
+                Err(DeviceFault)
+            }
+        }
     }
 
     fn left(&self) -> u64 {
@@ -178,9 +182,13 @@ impl Sink for FailingSink<'_> {
 
     fn write(&mut self, buf: &[u8]) -> Result<usize, DeviceFault> {
         self.flushed = false;
-        let taken = buf.len().min(self.writes.piece.max(1));
-        self.failed = self.writes.fails() || self.bytes.extend_from_slice(&buf[..taken]).is_err();
+        let taken = buf.len().min(self.writes.piece);
+        self.failed = self.writes.fails() || (taken == 0 && !buf.is_empty());
         if self.failed {
+            return Err(DeviceFault);
+        }
+        if self.bytes.extend_from_slice(&buf[..taken]).is_err() {
+            self.failed = true;
             return Err(DeviceFault);
         }
         Ok(taken)

@@ -53,32 +53,50 @@ fn import_case(alloc: Global, text: &[u8]) -> io::Result<Case> {
 }
 
 fn line_count(text: &[u8]) -> usize {
-    text.iter().filter(|byte| **byte == b'\n').count()
+    let mut count = 0usize;
+    for byte in text {
+        if *byte == b'\n' {
+            count = count.saturating_add(1);
+        }
+    }
+    count
 }
 
-/// Appends a row of cells with these fields in the first of them.
-fn push_row(alloc: Global, fields: &[Vec<u8>], text: &mut Vec<u8>) -> Result<(), CsvFault> {
-    let mut row = Vec::new(alloc);
-    for column in 0..SIDE {
-        row.push(
-            fields
-                .get(column)
-                .map_or(b"".as_slice(), |field| field.as_slice()),
-        )?;
+/// The field of a record for a cell, the empty one where there is none.
+fn field_at(rows: &Records, row: usize, column: usize) -> &[u8] {
+    match rows.get(row) {
+        Some(fields) => match fields.get(column) {
+            Some(field) => field.as_slice(),
+            None => b"",
+        },
+        None => b"",
     }
-    push_record(&row, text)?;
+}
+
+/// Appends a row of the cells.
+fn push_row(alloc: Global, rows: &Records, row: usize, text: &mut Vec<u8>) -> Result<(), CsvFault> {
+    let mut fields = Vec::new(alloc);
+    for column in 0..SIDE {
+        fields.push(field_at(rows, row, column))?;
+    }
+    push_record(&fields, text)?;
+    Ok(())
+}
+
+/// Appends the rows of the cells.
+fn push_rows(alloc: Global, rows: &Records, text: &mut Vec<u8>) -> io::Result<()> {
+    for row in 0..SIDE {
+        if push_row(alloc, rows, row, text).is_err() {
+            return Err(misspelled());
+        }
+    }
     Ok(())
 }
 
 /// Appends the reply to the export of cells that show these records.
-fn push_export(alloc: Global, rows: &[Vec<Vec<u8>>], replies: &mut Vec<u8>) -> io::Result<()> {
+fn push_export(alloc: Global, rows: &Records, replies: &mut Vec<u8>) -> io::Result<()> {
     let mut text = Vec::new(alloc);
-    for row in 0..SIDE {
-        let fields = rows
-            .get(row)
-            .map_or([].as_slice(), |fields| fields.as_slice());
-        push_row(alloc, fields, &mut text).map_err(|_| misspelled())?;
-    }
+    push_rows(alloc, rows, &mut text)?;
     writeln!(replies, "lines {}", line_count(&text))?;
     replies.extend_from_slice(&text)?;
     replies.extend_from_slice(b"ok\n")?;
@@ -87,7 +105,14 @@ fn push_export(alloc: Global, rows: &[Vec<Vec<u8>>], replies: &mut Vec<u8>) -> i
 
 /// Whether each field is UTF-8.
 fn are_texts(rows: &Records) -> bool {
-    rows.iter().all(|fields| fields.iter().all(|field| str::from_utf8(field).is_ok()))
+    for fields in rows {
+        for field in fields {
+            if str::from_utf8(field).is_err() {
+                return false;
+            }
+        }
+    }
+    true
 }
 
 /// The replies where the cells show these records, or where the import is refused and no cell shows anything.
@@ -98,7 +123,7 @@ fn replies_for(alloc: Global, rows: &Records) -> io::Result<Vec<u8>> {
         push_export(alloc, rows, &mut replies)?;
     } else {
         replies.extend_from_slice(b"refused E14\n")?;
-        push_export(alloc, &[], &mut replies)?;
+        push_export(alloc, &Vec::new(alloc), &mut replies)?;
     }
     Ok(replies)
 }
@@ -114,7 +139,9 @@ fn are_imported(alloc: Global, text: &[u8], rows: &Records) -> io::Result<bool> 
 
 /// Compares the cells of a text that is imported with its records. Appends the text where they are others.
 fn compare(alloc: Global, text: &[u8], tally: &mut Tally, out: &mut String) -> io::Result<()> {
-    let rows = records(alloc, text).map_err(|_| misspelled())?;
+    let Ok(rows) = records(alloc, text) else {
+        return Err(misspelled());
+    };
     tally.add(&rows);
     if !are_imported(alloc, text, &rows)? {
         tally.amiss = tally.amiss.saturating_add(1);
