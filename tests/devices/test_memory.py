@@ -1,4 +1,4 @@
-"""The exit status where memory is refused before anything of a script was read."""
+"""The exit status where memory is refused before anything of a script was read, and what `--keep` does to requests for memory."""
 
 import unittest
 
@@ -9,6 +9,7 @@ LOADED = b"set A1 5\nshow A1\n"
 LOADED_REPLIES = b'ok\n"5"\r\nok\n'
 GIVEN = b"show A1\n"
 GIVEN_REPLIES = b'"5"\r\nok\n'
+THOUSAND_FORMULAS = b"set A1 1\nset B1 =[.A$1]+1\nfill B1 B2:B1000\nshow B1:B1000\n"
 
 
 @unittest.skipUnless(compiler(), "no C compiler")
@@ -49,3 +50,12 @@ class RefusedMemory(DeviceTest):
             b'ok\nrefused E01\n"5"\r\nok\n',
             LOADED_REPLIES + b"refused E01\n",
         ]
+
+    def test_as_many_values_are_kept_as_are_asked_for(self) -> None:
+        """A value that goes for want of room takes requests of its own. So there are fewer, the more values may be kept, until all
+        thousand are."""
+        requests = {keep: self.program.run(THOUSAND_FORMULAS, ("--keep", str(keep))).requests for keep in (1, 2, 100, 999, 1000, 65_536)}
+        counts = list(requests.values())
+        self.assertEqual(counts[:5], sorted(set(counts[:5]), reverse=True), requests)
+        self.assertEqual(requests[65_536], requests[1000])
+        self.assertLess(self.program.run(THOUSAND_FORMULAS, ()).requests, requests[1000])
