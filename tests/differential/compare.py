@@ -1,0 +1,72 @@
+"""The replies of the program and of the reference to one script, and where they differ."""
+
+import subprocess
+import sys
+import traceback
+from collections.abc import Callable
+from dataclasses import dataclass
+from pathlib import Path
+
+sys.path.insert(0, str(Path(__file__).resolve().parents[1] / "reference"))
+
+from whatif import replies_to  # noqa: E402
+
+SECONDS = 60
+KEEPS: tuple[tuple[str, ...], ...] = (("--keep", "1"), ("--keep", "2"), ())
+
+
+@dataclass(frozen=True)
+class Answer:
+    """What was written in reply to a script, and what else is to be said of the run."""
+
+    replies: bytes
+    fault: str = ""
+
+
+Subject = Callable[[bytes], Answer]
+
+
+@dataclass(frozen=True)
+class Difference:
+    """A script to which a subject's answer isn't the reference's."""
+
+    script: bytes
+    subject: str
+    wanted: Answer
+    written: Answer
+
+
+def reference(script: bytes) -> Answer:
+    try:
+        return Answer(b"".join(replies_to(script)))
+    except Exception:
+        return Answer(b"", traceback.format_exc(limit=-5))
+
+
+def program(path: str, words: tuple[str, ...]) -> Subject:
+    """The program, called with these words."""
+
+    def answer(script: bytes) -> Answer:
+        try:
+            ran = subprocess.run([path, *words], input=script, capture_output=True, timeout=SECONDS)
+        except subprocess.TimeoutExpired:
+            return Answer(b"", f"not ended after {SECONDS} seconds")
+        fault = f"status {ran.returncode}, on standard error {ran.stderr[:200]!r}" if ran.returncode or ran.stderr else ""
+        return Answer(ran.stdout, fault)
+
+    return answer
+
+
+def programs(path: str) -> dict[str, Subject]:
+    """The program with each number of kept values."""
+    return {" ".join(("whatif", *words)): program(path, words) for words in KEEPS}
+
+
+def difference(script: bytes, subjects: dict[str, Subject]) -> Difference | None:
+    """The first subject whose answer isn't the reference's, if there is one."""
+    wanted = reference(script)
+    for name, subject in subjects.items():
+        written = subject(script)
+        if written != wanted or wanted.fault:
+            return Difference(script, name, wanted, written)
+    return None
