@@ -89,7 +89,7 @@ BY_CODE = {
     "E03": "save the script as UTF-8, its lines at most 65,536 bytes long: iconv -f LATIN1 -t UTF-8",
     "E04": "columns are A to XFD, rows 1 to 1048576",
     "E06": "at most 64 parentheses are open at once: take parts into cells of their own",
-    "E07": "a number has at most 38 digits",
+    "E07": "a number is at most 2^127 - 1; any 38 digits fit",
     "E08": "a formula has at most 4,096 bytes and a text 32,767: take parts into cells of their own",
     "E09": "at most 200,000 cells are filled: clear what isn't needed",
     "E10": "no line before this made the scenario: scenario NAME ADDR CONTENT does",
