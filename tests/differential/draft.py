@@ -70,6 +70,8 @@ class Draft:
     named: dict[Cell, list[Cell]] = field(default_factory=dict)
     """For each formula cell the cells that its formula names."""
     scenarios: list[str] = field(default_factory=list)
+    replaced: list[Cell] = field(default_factory=list)
+    """The cells that scenarios replace."""
     sessions: list[str] = field(default_factory=lambda: ["main"])
 
     # ---- choices

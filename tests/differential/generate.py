@@ -92,7 +92,7 @@ class Commands:
         """An edit, forced where it would else be refused, mostly."""
         draft = self.draft
         if self.current in self.unseen:
-            forced = draft.chance(65)
+            forced = draft.chance(45)
         else:
             forced = draft.chance(2)
         self.unseen |= {session for session in draft.sessions if session != self.current}
@@ -256,8 +256,11 @@ class Commands:
         if name not in draft.scenarios:
             draft.scenarios.append(name)
         cell = draft.pick({draft.filled(): 6, draft.cell(): 3, draft.formula_cell(): 2})
-        if draft.named and draft.chance(40):
+        if draft.replaced and draft.chance(30):
+            cell = draft.one(draft.replaced)
+        elif draft.named and draft.chance(40):
             cell = self.input_of(draft.formula_cell())
+        draft.replaced.append(cell)
         kind = draft.kinds.get(cell, contents.kind(draft)) if draft.chance(85) else contents.kind(draft)
         return self.line("scenario", name, word(cell), contents.imported(draft, kind))
 
@@ -407,6 +410,8 @@ class ScriptMaker:
         script = b"".join(parts)
         if draft.chance(3):
             script = script.replace(b"\n", b"\r\n")
+        if draft.chance(3):
+            script += draft.one([b"csv A1 2\n1\n", b"force csv B2 1\n", b"csv A0 3\n1\n", b"csv XFE1 2\n1,2\n", b"csv A1 2\n\n"])
         return script.removesuffix(b"\n") if draft.chance(20) else script
 
     def opening(self, commands: Commands, draft: Draft) -> bytes:

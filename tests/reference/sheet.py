@@ -3,7 +3,7 @@
 from dataclasses import dataclass, field
 
 from grammar import Tree, WhatIf, reads
-from values import CIRCULAR, Value
+from values import CIRCULAR, Value, kind
 
 Cell = tuple[int, int]
 """A row and a column, counted from 0, so that cells are ordered row by row."""
@@ -42,8 +42,8 @@ class Sheet:
     contents: dict[Cell, Content]
     known: dict[Cell, Value] = field(default_factory=dict)
     copies: dict[frozenset, "Sheet"] = field(default_factory=dict)
-    """Edited copies by all that was put into the first sheet, so that one copy isn't made twice."""
-    put: frozenset = frozenset()
+    """Edited copies by all that was put into the first sheet, with its kinds (TRUE equals 1), so that one copy isn't made twice."""
+    put: dict[Cell, Value] = field(default_factory=dict)
     circular_cells: set[Cell] | None = None
 
     def occupied_in(self, rectangle: Rectangle) -> list[Cell]:
@@ -55,12 +55,13 @@ class Sheet:
 
     def with_values(self, values: dict[Cell, Value]) -> "Sheet":
         """An edited copy in which constants stand in the place of contents, and nothing in the place of Empty ones."""
-        put = frozenset({**dict(self.put), **values}.items())
-        if put not in self.copies:
+        put = {**self.put, **values}
+        every = frozenset((cell, kind(value), value) for cell, value in put.items())
+        if every not in self.copies:
             contents = {**self.contents, **values}
             kept = {cell: content for cell, content in contents.items() if content is not None}
-            self.copies[put] = Sheet(kept, copies=self.copies, put=put)
-        return self.copies[put]
+            self.copies[every] = Sheet(kept, copies=self.copies, put=put)
+        return self.copies[every]
 
     # ---- cycles
 
