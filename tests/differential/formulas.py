@@ -7,10 +7,10 @@ from draft import COLUMNS, ROWS, Area, Cell, Draft, Kind, letters
 
 # A placeholder is {n} a number, {z} one that isn't zero, {e} a small whole number, {d} a number of places, {p} a place, {t} a text,
 # {l} a truth value, {v} any value, {r} a range, {s} another of the same size, {w} one of one row or column, {i} items, {q} a criterion,
-# {m} a what-if.
+# {x} the greatest number, {m} a what-if.
 TEMPLATES: dict[Kind, dict[str, float]] = {
     "number": {
-        "{n}+{n}": 6, "{n}-{n}": 5, "{n}*{n}": 5, "{n}/{z}": 4, "{n}^{e}": 2, "{n}%": 2, "-{n}": 2, "+{n}": 1, "({n})": 2, "{n}*({n}+{n})": 3,
+        "{n}+{n}": 6, "{n}-{n}": 5, "{n}*{n}": 5, "{n}/{z}": 4, "{n}^{e}": 2, "{n}%": 2, "(100/{x})%*{x}": 0.4, "-{n}": 2, "+{n}": 1, "({n})": 2, "{n}*({n}+{n})": 3,
         "{m}": 10, "{m}+{n}": 3, "ABS({n})": 1, "SIGN({n})": 1, "INT({n})": 1.5, "ROUND({n};{d})": 3, "ROUND({n})": 1.5, "ROUND({n}/{z};{d})": 1, "ROUND({n}/2)": 1.5, "ROUND({n}/20;1)": 0.7,
         "ROUNDUP({n};{d})": 1, "ROUNDUP({n})": 0.5, "ROUNDDOWN({n};{d})": 1, "ROUNDDOWN({n})": 0.5, "TRUNC({n};{d})": 1, "TRUNC({n})": 0.5,
         "QUOTIENT({n};{z})": 1, "MOD({n};{z})": 1.5, "POWER({n};{e})": 1, "SUM({i})": 5, "PRODUCT({i})": 1.5, "MIN({i})": 1.5, "MAX({i})": 1.5,
@@ -151,6 +151,8 @@ class Formulas:
                 return ";".join(self.item() for _ in range(draft.pick({1: 6, 2: 2, 3: 1})))
             case "q":
                 return self.criterion()
+            case "x":
+                return str(contents.MAX)
         return self.what_if()
 
     def item(self) -> str:
