@@ -458,5 +458,5 @@ def find(a: Arguments) -> Value:
 def repeated(a: Arguments) -> Value:
     part, count = a.text(0), a.whole(1)
     not_below(0, count)
-    return bounded(part * min(count, 40_000))
+    return bounded(part * min(count, 40_000 // max(1, len(part)) + 1))
 
