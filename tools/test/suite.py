@@ -11,7 +11,7 @@ sys.path[:0] = [str(FOLDER), str(FOLDER.parent)]
 sys.dont_write_bytecode = True
 
 import test_formula  # noqa: E402
-from whatif_tools.program import NoProgram, meanings  # noqa: E402
+from whatif_tools.program import NoProgram, program_help  # noqa: E402
 
 
 def arguments() -> argparse.Namespace:
@@ -31,7 +31,7 @@ def main() -> int:
     test_formula.FORMULAS = arguments().formulas
     os.chdir(FOLDER)
     try:
-        meanings()
+        program_help()
     except NoProgram as error:
         print(f"{error}\n0 passed, 1 failed")
         return 1

@@ -1,8 +1,6 @@
 """whatif-check: runs scripts, and says where a command was refused and why, what was meant otherwise, and where errors start."""
 
 import argparse
-import csv
-import io
 import re
 import sys
 from collections.abc import Iterator
@@ -10,18 +8,18 @@ from dataclasses import dataclass, field
 from itertools import groupby
 from pathlib import Path
 
-from .errors import ErrorCell, error_cells, starts
+from .data import Record, fields, opened, records
+from .errors import ErrorCell, advice, error_cells, starts
 from .finding import Finding, Kind
-from .formula import fault, is_formula
-from .hints import formula_hint, refusal_hint
-from .numbers import is_date, meant_as_number
-from .program import Answer, NoProgram, Reply, meanings, run
+from .formula import fault, formula_meant, is_formula
+from .hints import BY_CODE, formula_hint, line_hint, name_hint
+from .numbers import is_date, is_value, meant_as_number
+from .program import Answer, Help, NoProgram, Reply, program_help, run
 from .scenarios import Scenarios
 from .script import BYTE_ORDER_MARK, Command, address_of, commands, is_utf8, lines_of, looks_like_command
 from .sheet import AREA, Rectangle
 
 UTF_16 = (b"\xff\xfe", b"\xfe\xff")
-LONGEST_FIELD = 1 << 30
 
 
 @dataclass
@@ -30,14 +28,14 @@ class Check:
 
     path: Path
     script: bytes
-    meanings: dict[str, str]
+    help: Help
     commands: list[Command] = field(default_factory=list)
     answer: Answer = field(default_factory=lambda: Answer([], 0, ""))
 
     @classmethod
     def of(cls, path: Path) -> "Check":
         script = path.read_bytes()
-        return cls(path, script, meanings(), list(commands(lines_of(script))), run(script))
+        return cls(path, script, program_help(), list(commands(lines_of(script))), run(script))
 
     def findings(self) -> list[Finding]:
         """All that is found, by lines."""
@@ -54,10 +52,11 @@ class Check:
         scenarios = Scenarios()
         for command, reply in zip(self.commands, self.answer.replies):
             if reply.code is not None:
-                yield refused(command, reply, self.meanings)
+                yield refused(command, reply, self.help, scenarios)
             else:
                 yield from content_findings(command)
                 yield from hidden(command, scenarios)
+                yield from empty_inputs(command, reply)
                 scenarios.accept(command)
             yield from data_findings(command)
 
@@ -70,11 +69,13 @@ class Check:
 
     def errors(self) -> Iterator[Finding]:
         """The cells in which errors start, those that are alike at once."""
-        found = starts(error_cells(self.path)) if self.answer.status == 0 else []
-        for _, group in groupby(sorted(found, key=likeness), key=likeness):
+        cells = error_cells(self.path) if self.answer.status == 0 else {}
+        for _, group in groupby(sorted(starts(cells), key=likeness), key=likeness):
             first, *others = group
             more = f"; {len(others)} more of the column like it" if others else ""
-            yield Finding(self.line_of(first), 1, Kind.ERROR_STARTS, f"{first.address} shows {first.error}: {first.formula}{more}")
+            cure = advice(first, cells)
+            said = f"{first.address} shows {first.error}: {first.formula}{more}"
+            yield Finding(self.line_of(first), 1, Kind.ERROR_STARTS, said if cure is None else f"{said}; {cure}")
 
     def line_of(self, cell: ErrorCell) -> int:
         """The line of the last accepted command that put something into the cell."""
@@ -99,27 +100,32 @@ def numbered(command: Command) -> str:
     return "".join(f"{command.line + i:6}  {line.decode(errors='replace').rstrip(chr(13))}\n" for i, line in enumerate(lines))
 
 
-def refused(command: Command, reply: Reply, meaning: dict[str, str]) -> Finding:
+def refused(command: Command, reply: Reply, known: Help, scenarios: Scenarios) -> Finding:
     """A refusal, with its place where that is known, and what to write instead."""
     code = reply.code or ""
-    place, hint = place_and_hint(command, code)
-    said = f"{reply.end}: {meaning.get(code, 'no such code')}"
+    place, hint = place_and_hint(command, code, known, scenarios)
+    said = f"{reply.end}: {known.meanings.get(code, 'no such code')}"
     return Finding(command.line, place + 1, Kind.REFUSED, f"{said}; {hint}" if hint else said, command.text)
 
 
-def place_and_hint(command: Command, code: str) -> tuple[int, str | None]:
+def place_and_hint(command: Command, code: str, known: Help, scenarios: Scenarios) -> tuple[int, str | None]:
     """Where a command is wrong, counted from 0, and what to write instead."""
     content = command.content
     if command.name == "set" and content is not None and is_formula(content):
         found = fault(content)
         if found is not None and found.code == code:
-            hint = formula_hint(content, found.place) if code == "E05" else refusal_hint(command, code)
+            hint = formula_hint(content, found.place) if code == "E05" else BY_CODE.get(code)
             return command.content_place + found.place, hint
+    if code == "E02":
+        return first_word(command), line_hint(command, known.forms)
     if code == "E04":
-        return outside_place(command), refusal_hint(command, code)
+        return outside_place(command), BY_CODE[code]
     if code == "E03" and not is_utf8(command.raw):
-        return command.text.index("\ufffd"), refusal_hint(command, code)
-    return first_word(command), refusal_hint(command, code)
+        return command.text.index("\ufffd"), BY_CODE[code]
+    if code == "E10":
+        name = scenarios.unknown(command)
+        return command.word_place(name), name_hint(name, scenarios.scenarios)
+    return first_word(command), BY_CODE.get(code)
 
 
 def outside_place(command: Command) -> int:
@@ -149,8 +155,10 @@ def content_findings(command: Command) -> Iterator[Finding]:
         yield found(Kind.QUOTES_KEPT, place, f"the quotes are a part of the text: write {content[1:-1]}")
     if " # " in content:
         yield found(Kind.COMMENT_KEPT, place + content.index(" # ") + 1, "no comment, but a part of the content: a comment has a line of its own")
-    if command.name == "scenario" and is_formula(content):
-        yield found(Kind.FORMULA_AS_TEXT, place, f"a text, no formula: a scenario replaces by values; show the value of {content} first")
+    formula = content if command.name == "scenario" and is_formula(content) else formula_meant(content)
+    if formula is not None:
+        instead = f"a scenario replaces by values; show the value of {formula} first" if command.name == "scenario" else f"write {formula}"
+        yield found(Kind.FORMULA_AS_TEXT, place, f"a text, no formula: {instead}")
 
 
 def hidden(command: Command, scenarios: Scenarios) -> Iterator[Finding]:
@@ -160,6 +168,54 @@ def hidden(command: Command, scenarios: Scenarios) -> Iterator[Finding]:
     if name is not None:
         message = f"{address} goes on showing its replacement in the scenario {name}: write use first, or scenario {name} {address} {command.content}"
         yield Finding(command.line, 1, Kind.REPLACED, message, command.text)
+
+
+def empty_inputs(command: Command, reply: Reply) -> Iterator[Finding]:
+    """Cells of a table's XCOLUMN or YROW that show nothing."""
+    if command.name != "table":
+        return
+    words, written = command.words, reply.records()
+    is_wide = len(words) > 4
+    column = [record[0] for record in (written[1:] if is_wide else written)]
+    row = written[0][1:] if is_wide else []
+    for name, area, texts in (("XCOLUMN", words[3], column), ("YROW", words[-1], row)):
+        if "" in texts:
+            message = f"{texts.count('')} of the {len(texts)} cells of {name} show nothing: the table asks there for an empty input, which counts as 0"
+            yield Finding(command.line, command.word_place(area) + 1, Kind.EMPTY_INPUT, message, command.text)
+
+
+def data_findings(command: Command) -> Iterator[Finding]:
+    """What data lines were perhaps meant to be."""
+    lines = [line.decode(errors="replace").removesuffix("\r") for line in command.data]
+
+    def found(kind: Kind, line: int, message: str, column: int = 1) -> Finding:
+        return Finding(line, column, kind, message, lines[line - command.line - 1])
+
+    for at, line in enumerate(lines, command.line + 1):
+        if looks_like_command(line):
+            yield found(Kind.COMMAND_AS_DATA, at, "a command among the data lines: is the number behind csv too large?")
+    if lines and all(";" in line for line in lines):
+        message = "fields are parted by commas, and these lines have semicolons: sed 's/,/./g; s/;/,/g' makes commas and decimal points of them"
+        yield found(Kind.SEMICOLONS, command.line + 1, message)
+    quote = opened(command)
+    if quote is not None:
+        message = "this quote isn't closed, so one field takes the rest of the data: close it; inside quotes a quote is doubled"
+        yield found(Kind.OPEN_QUOTE, quote[0], message, quote[1])
+    for at, message in wider(command)[:1]:
+        yield found(Kind.MORE_FIELDS, at, message)
+    for column, known in sorted(suspects(command).items()):
+        what = "is a text, no number" if known.count == 1 else f"and {known.count - 1} more below are texts, no numbers"
+        yield found(Kind.COLUMN_OF_TEXTS, known.line, f"field {column}: {known.field!r} {what}; {known.advice}")
+    for at, formula in formulas(command)[:1]:
+        yield found(Kind.FORMULA_AS_TEXT, at, f"a text, no formula: CSV puts values in; write set for {formula}")
+
+
+def wider(command: Command) -> list[tuple[int, str]]:
+    """The lines with more fields than the first one, if that has several, and what is said of them."""
+    first, *others = records(command) or [Record(command.line, [])]
+    width = len(first.fields)
+    said = f"where the first line of the data has {width}: a decimal has a point, and a field with a comma is in quotes"
+    return [(record.line, f"{len(record.fields)} fields, {said}") for record in others if len(record.fields) > width > 1]
 
 
 @dataclass
@@ -172,27 +228,18 @@ class Suspects:
     count: int = 1
 
 
-def data_findings(command: Command) -> Iterator[Finding]:
-    """What data lines were perhaps meant to be."""
-    rows = [line.decode(errors="replace").removesuffix("\r") for line in command.data]
-    for at, row in enumerate(rows, command.line + 1):
-        if looks_like_command(row):
-            yield Finding(at, 1, Kind.COMMAND_AS_DATA, "a command among the data lines: is the number behind csv too large?", row)
-    if rows and all(";" in row for row in rows):
-        message = "fields are parted by commas, and these lines have semicolons: sed 's/,/./g; s/;/,/g' makes commas and decimal points of them"
-        yield Finding(command.line + 1, 1, Kind.SEMICOLONS, message, rows[0])
-    for column, known in sorted(suspects(command).items()):
-        what = "is a text, no number" if known.count == 1 else f"and {known.count - 1} more below are texts, no numbers"
-        yield Finding(known.line, 1, Kind.COLUMN_OF_TEXTS, f"field {column}: {known.field!r} {what}; {known.advice}", rows[known.line - command.line - 1])
-    for line, formula in formulas(command)[:1]:
-        yield Finding(line, 1, Kind.FORMULA_AS_TEXT, f"a text, no formula: CSV puts values in; write set for {formula}", rows[line - command.line - 1])
-
-
 def suspects(command: Command) -> dict[int, Suspects]:
-    """The fields that were meant as numbers, by column; a date in CSV is taken for a label."""
+    """The fields that were meant as numbers, by column.
+
+    A date in CSV is taken for a label, and so is a number with a unit in the first of several lines.
+    """
     found: dict[int, Suspects] = {}
+    among_numbers = texts_among_numbers(command)
     for line, column, text in fields(command):
-        advice = None if is_date(text) else meant_as_number(text)
+        is_head = line == command.line + 1 and len(command.data) > 1
+        advice = None if is_date(text) else meant_as_number(text, has_unit=not is_head)
+        if advice is None and (line, column) in among_numbers:
+            advice = "the other fields of this column are numbers"
         if advice is not None and column in found:
             found[column].count += 1
         elif advice is not None:
@@ -200,22 +247,23 @@ def suspects(command: Command) -> dict[int, Suspects]:
     return found
 
 
+def texts_among_numbers(command: Command) -> set[tuple[int, int]]:
+    """The lines and columns of texts in columns of which at least two thirds are numbers.
+
+    The first record is taken for a head, and the first field of several for a label.
+    """
+    columns: dict[int, list[tuple[int, str]]] = {}
+    for record in records(command)[1:]:
+        for column, text in enumerate(record.fields, 1):
+            if text and (column > 1 or len(record.fields) == 1):
+                columns.setdefault(column, []).append((record.line, text))
+    texts = {column: [line for line, text in known if not is_value(text)] for column, known in columns.items()}
+    return {(line, column) for column, lines in texts.items() if 3 * len(lines) <= len(columns[column]) for line in lines}
+
+
 def formulas(command: Command) -> list[tuple[int, str]]:
-    return [(line, text) for line, _, text in fields(command) if text.startswith("=") and len(text) > 1]
-
-
-def fields(command: Command) -> Iterator[tuple[int, int, str]]:
-    """The fields of the data lines: the line in which each begins, its column from 1, and its text."""
-    csv.field_size_limit(LONGEST_FIELD)
-    text = "\n".join(line.decode(errors="replace") for line in command.data)
-    reader = csv.reader(io.StringIO(text.removeprefix("\ufeff"), newline=""))
-    line = command.line + 1
-    try:
-        for record in reader:
-            yield from ((line, column, text) for column, text in enumerate(record, 1))
-            line = command.line + 1 + reader.line_num
-    except csv.Error:
-        return
+    meant = ((line, text if is_formula(text) and len(text) > 1 else formula_meant(text)) for line, _, text in fields(command))
+    return [(line, formula) for line, formula in meant if formula is not None]
 
 
 def arguments(words: list[str]) -> argparse.Namespace:

@@ -2,15 +2,19 @@
 
 from collections.abc import Iterable, Iterator
 from dataclasses import dataclass
+from itertools import pairwise
 from pathlib import Path
 
 from .formula import Kind, is_formula, rectangle, tokens_of
+from .functions import FUNCTIONS, instead_of
 from .program import run
 from .sheet import Address, Rectangle
 
 SESSION = "whatif_check"
 ASK = f"as {SESSION}\nuse\nchanges\n".encode()
 CIRCULAR = "#CIRC!"
+MOST_TOLD = 6
+"""So many steps of a cycle are told."""
 
 
 @dataclass(frozen=True)
@@ -83,3 +87,32 @@ def on_cycles(circular: dict[Address, ErrorCell]) -> list[ErrorCell]:
             if readers[address] == 0:
                 unread.append(address)
     return [circular[address] for address in reads]
+
+
+def advice(cell: ErrorCell, cells: dict[Address, ErrorCell]) -> str | None:
+    """What helps where an error starts, if its formula tells."""
+    if cell.error == "#NAME?":
+        names = (token.text.upper() for token in tokens_of(cell.formula, cell.formula.index("=") + 1).tokens if token.kind is Kind.NAME)
+        return next((instead_of(name) for name in names if name not in FUNCTIONS), None)
+    return circle(cell, cells) if cell.error == CIRCULAR else None
+
+
+def circle(cell: ErrorCell, cells: dict[Address, ErrorCell]) -> str | None:
+    """The shortest cycle on which the cell is, and how it is taken apart; None where the cell only reads one."""
+    circular = {address: known for address, known in cells.items() if known.error == CIRCULAR}
+    paths = [[cell.address]]
+    reached: set[Address] = set()
+    for path in paths:
+        for read in within(circular[path[-1]].reads, circular):
+            if read.address == cell.address:
+                return f"{told([*path, read.address])}: take one of these references out, or put the steps into a column, each reading the one above it"
+            if read.address not in reached:
+                reached.add(read.address)
+                paths.append([*path, read.address])
+    return None
+
+
+def told(path: list[Address]) -> str:
+    """Which cell reads which, shortened where the way is long."""
+    steps = [f"{reader} reads {read}" for reader, read in pairwise(path)]
+    return ", ".join(steps if len(steps) <= MOST_TOLD else [*steps[: MOST_TOLD - 1], "..", steps[-1]])

@@ -6,6 +6,7 @@ from dataclasses import dataclass, field
 from enum import Enum
 from fractions import Fraction
 
+from .functions import FUNCTIONS
 from .sheet import Rectangle
 
 LONGEST = 4_096
@@ -100,6 +101,25 @@ def fault(formula: str) -> Fault | None:
         if found is not None:
             return found
     return Reader(read).fault()
+
+
+BARE_CELLS = re.compile(rf"(?<![\w.\[$:])({CELL})(?::({CELL}))?(?![\w.(\]])")
+JOINS = ("*", "+", "^")
+
+
+def formula_meant(content: str) -> str | None:
+    """The formula that a text was meant to be: with `=` before it, it is one that has a reference, a function, or `*`, `+` or `^` between values."""
+    formula = "=" + BARE_CELLS.sub(bracketed, content)
+    if is_formula(content) or len(formula) > LONGEST or fault(formula) is not None:
+        return None
+    tokens = tokens_of(formula, 1).tokens
+    is_joined = any(token.text in JOINS for token in tokens[1:])
+    is_called = any(token.text in FUNCTIONS for token in tokens)
+    return formula if is_joined or is_called or "[." in content else None
+
+
+def bracketed(found: re.Match[str]) -> str:
+    return f"[.{found[1]}]" if found[2] is None else f"[.{found[1]}:.{found[2]}]"
 
 
 def outside_sheet(tokens: list[Token]) -> Fault | None:

@@ -1,10 +1,12 @@
 """What to write instead of a line that was refused."""
 
 import re
-from collections.abc import Callable
-from dataclasses import dataclass
+from collections.abc import Callable, Collection, Iterable
+from dataclasses import dataclass, replace
+from difflib import get_close_matches
 
 from .script import Command
+from .sheet import Rectangle
 
 CELL = r"\$?[A-Za-z]{1,3}\$?[1-9][0-9]*"
 BARE = rf"({CELL})(?::({CELL}))?"
@@ -13,13 +15,13 @@ QUOTES = "“”„‟‘’«»'`"
 
 @dataclass(frozen=True)
 class Hint:
-    """A hint for a line or a formula that goes on like the pattern from where it is wrong."""
+    """A hint for a line or a formula that goes on like the pattern from where it is wrong; it may have nothing to say."""
 
     pattern: re.Pattern[str]
-    advice: Callable[[re.Match[str]], str]
+    advice: Callable[[re.Match[str]], str | None]
 
 
-def hint(pattern: str, advice: str | Callable[[re.Match[str]], str]) -> Hint:
+def hint(pattern: str, advice: str | Callable[[re.Match[str]], str | None]) -> Hint:
     """A hint that is a sentence, or one that is made of what was found."""
     if isinstance(advice, str):
         sentence = advice
@@ -39,8 +41,20 @@ def without_point(found: re.Match[str]) -> str:
     return f"each cell has a point before it: write {reference(found[1], found[2])}"
 
 
+def pair(found: re.Match[str]) -> str:
+    """What to write for two cells in brackets of their own, with `:` between them."""
+    first = re.search(rf"\[\.({CELL})\]\s*$", found.string[: found.start()])
+    return "a rectangle has one pair of brackets: write " + (f"[.{first[1]}:.{found[1]}]" if first else "[.A1:.A3]")
+
+
 WHAT_IF = "MULTIPLE.OPERATIONS has three or five parameters, each a cell, parted by ; as in MULTIPLE.OPERATIONS([.B5];[.B1];[.D2])"
 ONE_SHEET = "there is one sheet: a cell is written [.A1], without a sheet's name"
+BEHIND_VALUE = (
+    hint(r"[xX](?=\s*[-+0-9.(\[])", "a product is written with *"),
+    hint(rf":\s*\[\.({CELL})\]", pair),
+)
+"""Hints for what stands behind a value."""
+
 FORMULA_HINTS = (
     hint(r"(?i)(TRUE|FALSE)\b(?!\()", lambda found: f"in a formula it is a function: write {found[1].upper()}()"),
     hint(r"(?i)MULTIPLE\.OPERATIONS", WHAT_IF),
@@ -66,16 +80,20 @@ FORMULA_HINTS = (
 )
 
 
+def first_advice(hints: Iterable[Hint], text: str, place: int = 0) -> str | None:
+    """What the first hint says that fits the text from a place on."""
+    matches = ((known, known.pattern.match(text, place)) for known in hints)
+    said = (known.advice(found) for known, found in matches if found is not None)
+    return next((advice for advice in said if advice is not None), None)
+
+
 def formula_hint(formula: str, place: int) -> str:
     """What to write where the formula is wrong at a place."""
     if is_in_what_if(formula, place):
         return WHAT_IF
-    rest = formula[place:]
-    for known in FORMULA_HINTS:
-        found = known.pattern.match(rest)
-        if found is not None:
-            return known.advice(found)
-    return "this can't be here"
+    is_behind_value = re.search(r"[\])0-9\"]\s*$", formula[:place]) is not None
+    hints = (*BEHIND_VALUE, *FORMULA_HINTS) if is_behind_value else FORMULA_HINTS
+    return first_advice(hints, formula, place) or "this can't be here"
 
 
 def is_in_what_if(formula: str, place: int) -> bool:
@@ -106,6 +124,43 @@ BY_CODE = {
 
 
 WORDS = "set|clear|fill|csv|show|export|table|scenario|base|drop|use|as|changes|compare|force|formula"
+EDITS = ("set", "clear", "fill", "csv")
+ADDRESS = "[A-Za-z]+[1-9][0-9]*"
+
+
+def first_and_rest(area: str) -> tuple[str, str]:
+    """The first cell of a rectangle, and the others where they are a rectangle too, else all."""
+    known = Rectangle.parse(area)
+    if known is None or (known.first.row < known.last.row) == (known.first.column < known.last.column):
+        return area.partition(":")[0], area
+    first, last = known.first, known.last
+    second = replace(first, row=first.row + 1) if first.row < last.row else replace(first, column=first.column + 1)
+    return str(first), str(second) if second == last else f"{second}:{last}"
+
+
+def one_cell(found: re.Match[str]) -> str:
+    first, rest = first_and_rest(found[1])
+    return f"set puts one cell, and fill copies it: write set {first} {found[2]} and fill {first} {rest}"
+
+
+def source_first(found: re.Match[str]) -> str:
+    first, rest = first_and_rest(found[1])
+    source = (found[2] or first).upper()
+    return f"the cell that is copied comes first: write fill {source} {rest if source == first else found[1]}"
+
+
+def one_word(found: re.Match[str]) -> str:
+    return f"a name is one word: write {found[1]} {found[2]}_{found[3]}{found[4]}"
+
+
+def nearest(found: re.Match[str]) -> str | None:
+    """The command that is spelled most like a word that is none."""
+    near = get_close_matches(found[1].lower(), WORDS.split("|"), 1)
+    return None if found[1] in WORDS.split("|") or not near else f"is {near[0]} meant?"
+
+
+NO_FILES = 'whatif writes no files: the replies go to standard output, and csvout in docs/FROM.md, "The command line", cuts an export out of them'
+NOT_HERE = 'there is none: docs/FROM.md, "What a program does", says what to do instead'
 LINE_HINTS = (
     hint("\ufeff", "the line begins with a byte order mark: save the script as UTF-8 without one"),
     hint(r"[^\t]*\t", "words are parted by spaces, not by tabs"),
@@ -113,11 +168,21 @@ LINE_HINTS = (
     hint(rf" *(?:set +)?({CELL}) *= *(.*)", lambda found: f"write set {found[1]} {found[2]}, or set {found[1]} ={found[2]} for a formula"),
     hint(r" *(?i:quit|exit|bye|q)\b", "there is no quit: the program ends with its input, at a terminal by Ctrl-D"),
     hint(r" *(?i:help|\?)", "whatif --help lists the commands"),
+    hint(r" *(?i:save|open|load|undo|redo)\b", NOT_HERE),
+    hint(r" *(?:export|show|changes|table|compare)\b.* >", NO_FILES),
+    hint(rf" *(?:force +)?set +({ADDRESS}:{ADDRESS}) (.+)", one_cell),
+    hint(rf" *(?:force +)?fill +({ADDRESS}:{ADDRESS})(?: +({ADDRESS}))? *$", source_first),
+    hint(rf" *compare +(\w+) +({ADDRESS}(?::{ADDRESS})?) *$", lambda found: f"it compares two, and - is the sheet as it is: write compare - {found[1]} {found[2]}"),
+    hint(rf" *(scenario) +(\w+) +(\w+)( +{ADDRESS} .*)", one_word),
+    hint(r" *(use|drop|as) +(\w+) +(\w+)() *$", one_word),
+    hint(r" *table\b", "XCOLUMN is a rectangle of one column, YROW one of one row, and F, R and C are cells"),
     hint(r" *(?:force +)?(?:set|scenario +\S+) +\S+ *$", "no content behind the address: clear A1 empties a cell, and set A1 ' puts an empty text"),
     hint(r" *(?:show|export|clear) +\$?[A-Za-z]+:\$?[A-Za-z]+", "a rectangle has rows too: A1:A9"),
     hint(r" *(show|export|clear) +(\w+) +(\w+) *$", lambda found: f"write {found[1]} {found[2]}:{found[3]}"),
     hint(rf" *(?:force +)?(?:{WORDS}) +\[", "an address in a command has no brackets: write A1"),
     hint(r" *csv +\S+ *$", "behind the address comes the number of data lines: csv A1 3"),
+    hint(r" *(?:force +)?([A-Za-z]+)(?= |$)", nearest),
+    hint(rf" *force\b(?! +(?:{'|'.join(EDITS)})\b)", f"force stands before {', '.join(EDITS)} alone"),
     hint(r"[^#]* #", "a comment has a line of its own, which begins with #"),
     hint(r".* \$?[A-Za-z]+\$[0-9]", "addresses in commands have no $"),
     hint(r'[^"]*"', "is it a line of CSV? A field with a line break takes several of the lines that csv counts"),
@@ -125,15 +190,19 @@ LINE_HINTS = (
 )
 
 
-def line_hint(line: str) -> str | None:
-    """What to write instead of a line that is no command."""
-    for known in LINE_HINTS:
-        found = known.pattern.match(line)
-        if found is not None:
-            return known.advice(found)
-    return None
+def line_hint(command: Command, forms: dict[str, list[str]]) -> str | None:
+    """What to write instead of a line that is no command, and the forms of the command whose name it has."""
+    first = command.text.split()[:1]
+    name = "force" if first == ["force"] and command.name not in EDITS else command.name
+    form = f"its form is {', or '.join(forms[name])}" if name in forms else None
+    said = [part for part in (first_advice(LINE_HINTS, command.text), form) if part is not None]
+    return "; ".join(said) or None
 
 
-def refusal_hint(command: Command, code: str) -> str | None:
-    """What to write instead of a command that was refused with a code; formulas have hints of their own."""
-    return line_hint(command.text) if code == "E02" else BY_CODE.get(code)
+def name_hint(name: str, made: Collection[str]) -> str:
+    """What to write instead of the name of a scenario that isn't there."""
+    if not made:
+        return BY_CODE["E10"]
+    same = [f"capitals count: is {known} meant? " for known in made if known.lower() == name.lower()]
+    near = [f"is {known} meant? " for known in get_close_matches(name, made, 1)]
+    return f"{''.join((same or near)[:1])}the scenarios so far: {', '.join(sorted(made))}"

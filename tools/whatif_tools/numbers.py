@@ -81,14 +81,36 @@ SPELLINGS = (
 )
 
 
-def meant_as_number(text: str) -> str | None:
-    """What to write for a text that was meant as a number or a truth value; None for other contents."""
-    if is_number(text) or text in ("TRUE", "FALSE"):
+UNITS = (
+    "kWh|Wh|MWh|GWh|kW|W|MW|V|A|m|m2|m3|m²|m³|cm|mm|km|km/h|g|kg|mg|t|l|L|ml|cl|s|sec|min|h|hrs?|hours?|days?|weeks?|months?|years?|EUR|USD|GBP|CHF|ct"
+    "|cents?|pcs|pieces|°C|K|kB|MB|GB|TB"
+)
+
+
+def without_unit(found: re.Match[str]) -> str:
+    number = found[1].replace(",", ".")
+    return f"{write('0' * number.startswith('.') + number)}, and the unit, {found[2]}, into another cell"
+
+
+WITH_UNIT = spelling(rf"([-+]?(?:{FIGURES}|[0-9]+,[0-9]+|[0-9]+/[0-9]+))[{SPACES}]*({UNITS})", without_unit)
+
+
+def is_value(text: str) -> bool:
+    """Whether a content is read as a number or a truth value."""
+    return is_number(text) or text in ("TRUE", "FALSE")
+
+
+def meant_as_number(text: str, has_unit: bool = True) -> str | None:
+    """What to write for a text that was meant as a number or a truth value; None for other contents.
+
+    A number with a unit behind it counts too, if it may have one.
+    """
+    if is_value(text):
         return None
     trimmed = text.strip(SPACES).replace("\u2212", "-").replace("\u2013", "-")
-    if is_number(trimmed) or trimmed in ("TRUE", "FALSE"):
+    if is_value(trimmed):
         return write(trimmed) + (", without spaces around it" if text.strip(SPACES) != text else ", with the minus sign of the keyboard")
-    for known in SPELLINGS:
+    for known in (*SPELLINGS, WITH_UNIT) if has_unit else SPELLINGS:
         found = known.pattern.fullmatch(trimmed)
         if found is not None:
             return known.advice(found)

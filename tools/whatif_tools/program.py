@@ -14,6 +14,7 @@ REPLY_LINE = re.compile(rb'(?:"[^"]*"|[^"\n])*\n')
 
 FIELD = re.compile(r'"((?:[^"]|"")*)"')
 MEANING = re.compile(r"^  (E[0-9][0-9])  (.*)$", re.MULTILINE)
+FORM = re.compile(r"^  ([a-z]+(?: [A-Z]+)*)  ", re.MULTILINE)
 
 
 class NoProgram(Exception):
@@ -83,6 +84,17 @@ def run(script: bytes, loaded: Path | None = None) -> Answer:
     return Answer(parted(done.stdout), done.returncode, done.stderr.decode(errors="replace").strip())
 
 
-def meanings() -> dict[str, str]:
-    """What each refusal means, from the program's help."""
-    return dict(MEANING.findall(call(["--help"], b"").stdout.decode()))
+@dataclass(frozen=True)
+class Help:
+    """What the program's help says: what each refusal means, and the forms of each command."""
+
+    meanings: dict[str, str]
+    forms: dict[str, list[str]]
+
+
+def program_help() -> Help:
+    text = call(["--help"], b"").stdout.decode()
+    forms: dict[str, list[str]] = {}
+    for form in FORM.findall(text):
+        forms.setdefault(form.partition(" ")[0], []).append(form)
+    return Help(dict(MEANING.findall(text)), forms)

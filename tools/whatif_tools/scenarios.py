@@ -57,3 +57,9 @@ class Scenarios:
                 return used
             name = self.scenarios[name].base
         return None
+
+    def unknown(self, command: Command) -> str:
+        """The first scenario in a command that isn't there."""
+        count = 2 if command.name in ("base", "compare") else 1
+        names = [name for name in command.words[1 : 1 + count] if name != "-"]
+        return next((name for name in names if name not in self.scenarios), command.words[-1])

@@ -1,0 +1,61 @@
+"""The records in the data lines of a csv."""
+
+import csv
+import io
+import re
+from collections.abc import Iterator
+from dataclasses import dataclass
+
+from .script import Command
+
+LONGEST_FIELD = 1 << 30
+QUOTED = re.compile(r'"(?:[^"]|"")*("?)')
+PLAIN = re.compile(r"[^,\r\n]*")
+
+
+@dataclass(frozen=True)
+class Record:
+    """The fields of a record, and the line in which it begins."""
+
+    line: int
+    fields: list[str]
+
+
+def text_of(command: Command) -> str:
+    return "\n".join(line.decode(errors="replace") for line in command.data).removeprefix("\ufeff")
+
+
+def records(command: Command) -> list[Record]:
+    """The records of the data lines; an empty line is none."""
+    csv.field_size_limit(LONGEST_FIELD)
+    reader = csv.reader(io.StringIO(text_of(command), newline=""))
+    found: list[Record] = []
+    line = command.line + 1
+    try:
+        for record in reader:
+            if record:
+                found.append(Record(line, record))
+            line = command.line + 1 + reader.line_num
+    except csv.Error:
+        pass
+    return found
+
+
+def fields(command: Command) -> Iterator[tuple[int, int, str]]:
+    """The fields of the data lines: the line in which the record of each begins, its column from 1, and its text."""
+    for record in records(command):
+        yield from ((record.line, column, text) for column, text in enumerate(record.fields, 1))
+
+
+def opened(command: Command) -> tuple[int, int] | None:
+    """The line and the column of a quote that no other one closes."""
+    text, place = text_of(command), 0
+    while place < len(text):
+        found = QUOTED.match(text, place)
+        if found is not None and not found[1]:
+            before = text[:place]
+            return command.line + 1 + before.count("\n"), place - before.rfind("\n")
+        plain = PLAIN.match(text, place if found is None else found.end())
+        assert plain is not None
+        place = plain.end() + 1
+    return None
