@@ -4,6 +4,7 @@ import os
 import subprocess
 import tempfile
 import unittest
+from fractions import Fraction
 from pathlib import Path
 
 from pages import Block, Page, codes, page_of
@@ -111,7 +112,43 @@ class Trouble(unittest.TestCase):
             for line in codes(wrong):
                 self.assertEqual(last(line + "\n").end, "refused E02", line)
             for line in codes(right):
-                self.assertEqual(last(line + "\n").end, "ok", line)
+                if line != "csvout":
+                    self.assertEqual(last(f"scenario wet B1 5\n{line}\n").end, "ok", line)
+
+    def test_names_of_scenarios(self) -> None:
+        self.assertEqual([last(f"scenario winter B1 5\nuse {name}\n").end for name in ("Winter", "winter")], ["refused E10", "ok"])
+
+    def test_data(self) -> None:
+        """What the rows of CSV say of a quote, a decimal comma and texts among numbers."""
+        for data, sheet in (
+            ('plum,4.50\n"fig,2\npear,3', [["plum", "4.5", ""], ["fig,2\npear,3\n", "", ""]]),
+            ('"2"" pipe",4.50', [['2" pipe', "4.5", ""]]),
+            ("plum,4,50", [["plum", "4", "50"]]),
+            ('plum,4.50\n"plum, ripe",4.50', [["plum", "4.5", ""], ["plum, ripe", "4.5", ""]]),
+        ):
+            count = data.count("\n") + 1
+            self.assertEqual(last(f"csv A1 {count}\n{data}\nshow A1:C{len(sheet)}\n").records(), sheet)
+        texts = "csv A1 4\n5\nn/a\n30 m3\n\"\"\n"
+        self.assertEqual(last(f"{texts}set B1 =SUM([.A1:.A4])\nshow B1\n").records(), [["5"]])
+
+    def test_digits_of_products(self) -> None:
+        """Any 38 digits fit, and of 39 some don't; TROUBLE and MANUAL say the same."""
+        for factors, fits in (
+            (("9.999999999999999999",) * 2, True),
+            (("99999999999.12345678",) * 2, True),
+            (("9999999999999999999",) * 2, True),
+            (("0.9999999999999999999",) * 2, True),
+            (("99999999999.123456789",) * 2, False),
+            (("3.0000000000000000001",) * 2, False),
+        ):
+            product = Fraction(factors[0]) * Fraction(factors[1])
+            places = sum(len(factor.partition(".")[2]) for factor in factors)
+            before = len(str(int(product))) if product >= 1 else 0
+            self.assertEqual(before + places <= 38, fits)
+            self.assertEqual(shown("", f"={'*'.join(factors)}")[0], "N" if fits else "E", factors)
+        rule = "at most 38 digits, those before the point and the places together"
+        for page in ("TROUBLE", "MANUAL"):
+            self.assertIn(rule, " ".join((ROOT / "docs" / f"{page}.md").read_text().split()))
 
     def test_texts(self) -> None:
         for wrong, _, right in self.rows("ok, but a text"):
