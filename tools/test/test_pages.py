@@ -1,6 +1,7 @@
 """The examples of docs/TROUBLE.md and docs/FROM.md, run on the program."""
 
 import os
+import shutil
 import subprocess
 import tempfile
 import unittest
@@ -8,7 +9,9 @@ from fractions import Fraction
 from pathlib import Path
 
 from pages import Block, Page, codes, page_of
+from whatif_tools.check import Check
 from whatif_tools.errors import ASK
+from whatif_tools.finding import Kind
 from whatif_tools.program import ROOT, Reply, parted, program, run
 
 TROUBLE = page_of(ROOT / "docs" / "TROUBLE.md")
@@ -179,3 +182,74 @@ class From(unittest.TestCase):
         for _, here, text in rows:
             (formula,) = codes(here)
             self.assertEqual(shown(sheet, formula)[1], codes(text)[0], formula)
+
+
+class Start(unittest.TestCase):
+    """docs/START.md, followed to the letter in an empty folder."""
+
+    def setUp(self) -> None:
+        self.folder = tempfile.TemporaryDirectory()
+        self.place = Path(self.folder.name)
+        (self.place / "bin").mkdir()
+        (self.place / "bin" / "whatif").symlink_to(Path(program()).resolve())
+        page = (ROOT / "docs" / "START.md").read_text()
+        self.blocks = page_of(ROOT / "docs" / "START.md").blocks
+        self.lines = [line.strip() for line in page.splitlines() if line.startswith("    ")]
+
+    def tearDown(self) -> None:
+        self.folder.cleanup()
+
+    def script(self, first: str) -> tuple[str, str]:
+        """The script whose first line is given, and the replies that the page has below it."""
+        at = next(at for at, block in enumerate(self.blocks) if block.text.startswith(first + "\n"))
+        return self.blocks[at].text, self.blocks[at + 1].text
+
+    def shell(self, begins: str, at: int = 0) -> str:
+        """What the page's shell line writes that begins so, the first or a later one."""
+        function = next(line for line in self.lines if line.startswith("csvin()"))
+        line = [line for line in self.lines if line.startswith(begins)][at]
+        path = os.pathsep.join([str(self.place / "bin"), str(ROOT / "tools"), os.environ["PATH"]])
+        environment = {**os.environ, "PATH": path, "WHATIF": str(Path(program()).resolve())}
+        done = subprocess.run(["bash", "-c", f"{function}\n{line}"], cwd=self.place, env=environment, capture_output=True, text=True)
+        self.assertEqual(done.stderr, "")
+        return done.stdout.replace("\r\n", "\n")
+
+    def write(self, name: str, text: str) -> None:
+        (self.place / name).write_text(text)
+
+    def test_to_the_letter(self) -> None:
+        stall, shown = self.script("# stall.whatif: a day at the market")
+        self.write("stall.whatif", stall)
+        self.assertEqual(self.shell("whatif < stall.whatif"), shown)
+        lines = stall.splitlines(keepends=True)
+        self.write("stall.csv", "".join(lines[2:6]))
+        self.write("stall.whatif", "".join(lines[:1] + lines[6:-1]))
+        data_apart = self.shell("(csvin A1 stall.csv; cat stall.whatif; echo")
+        self.assertEqual(data_apart, shown)
+        questions = [self.script(first) for first in ("set D10 0.1", "csv G1 5", "scenario fair B6 120", "scenario rain B2 10")]
+        self.write("questions.whatif", "".join(script for script, _ in questions))
+        answers = self.shell("(csvin A1 stall.csv; cat stall.whatif questions.whatif)")
+        self.assertTrue(answers.endswith("".join(replies for _, replies in questions)), answers)
+        table, replies = questions[1]
+        self.write("questions.whatif", table)
+        self.assertEqual(self.shell("(csvin A1 stall.csv; cat stall.whatif questions.whatif)", 1), "")
+        self.assertEqual((self.place / "table.csv").read_text(), replies.replace("ok\n", ""))
+        if shutil.which("gnuplot"):
+            self.write("stall.gp", "".join(line + "\n" for line in self.lines if line.startswith(("set ", "plot "))))
+            subprocess.run(["gnuplot", "stall.gp"], cwd=self.place, check=True)
+            self.assertIn("<svg", (self.place / "stall.svg").read_text())
+
+    def test_mistakes_are_found(self) -> None:
+        """Both mistakes that are made on purpose."""
+        script, _ = self.script("set B9 =B8*2")
+        self.write("mistakes.whatif", script)
+        found = Check.of(self.place / "mistakes.whatif").findings()
+        self.assertIn((1, Kind.REFUSED), [(one.line, one.kind) for one in found])
+        self.assertIn((3, Kind.TEXT_FOR_NUMBER), [(one.line, one.kind) for one in found])
+
+    def test_the_path(self) -> None:
+        """The folders of the page's line for the path have the program and its tools."""
+        line = next(line for line in self.lines if line.startswith("export PATH=$PATH:"))
+        folders = [ROOT / folder.partition("/path/to/whatif")[2].lstrip("/") for folder in line.split(":")[1:]]
+        for command in ("whatif", "whatif-check", "ods2whatif"):
+            self.assertTrue(any(os.access(folder / command, os.X_OK) and (folder / command).is_file() for folder in folders), command)
