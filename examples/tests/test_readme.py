@@ -14,9 +14,12 @@ class ReadmeTest(unittest.TestCase):
         self.assertEqual([name for name, _ in parts], ["tariff", "recipe", "break_even"])
         for name, quoted in parts:
             lines = (EXAMPLES / f"{name}.whatif").read_text().splitlines()
-            for line in re.findall(r"    (.*)\n", quoted):
-                if line != "..":
-                    self.assertIn(line, lines)
+            parted = re.findall(r"    (.*)\n", quoted)
+            for at, line in enumerate(parted):
+                self.assertIn(line, lines)
+                if line.startswith("csv "):
+                    data, start = int(line.split()[2]) + 1, lines.index(line)
+                    self.assertEqual(parted[at : at + data], lines[start : start + data])
 
     def test_links(self) -> None:
         for target in re.findall(r"\]\(([^)]+)\)", README):
