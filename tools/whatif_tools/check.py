@@ -180,7 +180,7 @@ def empty_inputs(command: Command, reply: Reply) -> Iterator[Finding]:
     row = written[0][1:] if is_wide else []
     for name, area, texts in (("XCOLUMN", words[3], column), ("YROW", words[-1], row)):
         if "" in texts:
-            message = f"{texts.count('')} of the {len(texts)} cells of {name} show nothing: the table asks there for an empty input, which counts as 0"
+            message = f"{texts.count('')} of the {len(texts)} cells of {name} show nothing: an empty one empties the input there, which then counts as 0"
             yield Finding(command.line, command.word_place(area) + 1, Kind.EMPTY_INPUT, message, command.text)
 
 

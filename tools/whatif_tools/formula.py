@@ -109,8 +109,10 @@ JOINS = ("*", "+", "^")
 
 def formula_meant(content: str) -> str | None:
     """The formula that a text was meant to be: with `=` before it, it is one that has a reference, a function, or `*`, `+` or `^` between values."""
+    if is_formula(content) or not any(sign in content for sign in ("[.", "(", *JOINS)):
+        return None
     formula = "=" + BARE_CELLS.sub(bracketed, content)
-    if is_formula(content) or len(formula) > LONGEST or fault(formula) is not None:
+    if fault(formula) is not None:
         return None
     tokens = tokens_of(formula, 1).tokens
     is_joined = any(token.text in JOINS for token in tokens[1:])

@@ -175,7 +175,6 @@ LINE_HINTS = (
     hint(rf" *compare +(\w+) +({ADDRESS}(?::{ADDRESS})?) *$", lambda found: f"it compares two, and - is the sheet as it is: write compare - {found[1]} {found[2]}"),
     hint(rf" *(scenario) +(\w+) +(\w+)( +{ADDRESS} .*)", one_word),
     hint(r" *(use|drop|as) +(\w+) +(\w+)() *$", one_word),
-    hint(r" *table\b", "XCOLUMN is a rectangle of one column, YROW one of one row, and F, R and C are cells"),
     hint(r" *(?:force +)?(?:set|scenario +\S+) +\S+ *$", "no content behind the address: clear A1 empties a cell, and set A1 ' puts an empty text"),
     hint(r" *(?:show|export|clear) +\$?[A-Za-z]+:\$?[A-Za-z]+", "a rectangle has rows too: A1:A9"),
     hint(r" *(show|export|clear) +(\w+) +(\w+) *$", lambda found: f"write {found[1]} {found[2]}:{found[3]}"),
@@ -185,6 +184,7 @@ LINE_HINTS = (
     hint(rf" *force\b(?! +(?:{'|'.join(EDITS)})\b)", f"force stands before {', '.join(EDITS)} alone"),
     hint(r"[^#]* #", "a comment has a line of its own, which begins with #"),
     hint(r".* \$?[A-Za-z]+\$[0-9]", "addresses in commands have no $"),
+    hint(r" *table\b", "XCOLUMN is a rectangle of one column, YROW one of one row, and F, R and C are cells"),
     hint(r'[^"]*"', "is it a line of CSV? A field with a line break takes several of the lines that csv counts"),
     hint(r".*,", "is it a line of CSV? csv ADDR LINES before it says how many lines are data"),
 )
