@@ -172,6 +172,8 @@ DATA = (
     Mistake("csv A1 3\nname,price\nplum,4,50\nfig,2", Kind.MORE_FIELDS, (3, 1), "3 fields, where the first line of the data has 2: a decimal has a point"),
     Mistake("csv A1 3\nwater,price\n30 m3,5\n31 m3,6", Kind.COLUMN_OF_TEXTS, (3, 1), "field 1: '30 m3' and 1 more below are texts"),
     Mistake("csv A1 4\nname,price\na,5\nb,n/a\nc,6", Kind.COLUMN_OF_TEXTS, (4, 1), "field 2: 'n/a' is a text, no number; the other fields of this column are numbers"),
+    Mistake("csv A1 2\na\r12%\r13%\n7", Kind.COLUMN_OF_TEXTS, (2, 1), "field 1: '12%' and 1 more below are texts"),
+    Mistake('csv A1 3\r\nname,price\r\nfig,2\r\n"plum,4.50\r\n', Kind.OPEN_QUOTE, (4, 1), "close it"),
     Mistake("csv A1 4\n4\n5\nx\n6", Kind.COLUMN_OF_TEXTS, (4, 1), "field 1: 'x' is a text"),
 )
 

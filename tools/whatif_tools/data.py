@@ -5,6 +5,7 @@ import io
 import re
 from collections.abc import Iterator
 from dataclasses import dataclass
+from itertools import accumulate
 
 from .script import Command
 
@@ -28,14 +29,16 @@ def text_of(command: Command) -> str:
 def records(command: Command) -> list[Record]:
     """The records of the data lines; an empty line is none."""
     csv.field_size_limit(LONGEST_FIELD)
-    reader = csv.reader(io.StringIO(text_of(command), newline=""))
+    parts = list(io.StringIO(text_of(command), newline=""))
+    ends = [0, *accumulate(part.count("\n") for part in parts)]
+    reader = csv.reader(parts)
     found: list[Record] = []
-    line = command.line + 1
+    begin = 0
     try:
         for record in reader:
             if record:
-                found.append(Record(line, record))
-            line = command.line + 1 + reader.line_num
+                found.append(Record(command.line + 1 + ends[begin], record))
+            begin = reader.line_num
     except csv.Error:
         pass
     return found
