@@ -5,7 +5,6 @@ use Rattle.wi_fraction.specs.Number.{Number}
 use Rattle.wi_parser.specs.declared.expr.Corners.{Corners}
 use Rattle.wi_parser.specs.declared.expr.Operator.{Operator}
 use Rattle.wi_parser.specs.declared.expr.Reference.{Reference}
-use Rattle.wi_parser.specs.declared.expr.Operator.TheVariants.{Power}
 use Rattle.wi_parser.specs.declared.expr.Sign.{Sign}
 use Rattle.wi_parser.specs.declared.expr.Sign.TheVariants.{Plus, Minus}
 use Rattle.wi_parser.specs.Tree.{Tree, number, cell, rectangle, parenthesized, signed, percent, binary, what_if, Trees, text, call, no_trees, more_trees}
@@ -13,6 +12,7 @@ use Rattle.wi_parser.specs.Symbol.{Symbol, numeral, reference, corners, open_par
 use Rattle.wi_parser.specs.Grammar.{line_of, loosest, Spells, pair_symbols, what_if_symbols, a_number, a_cell, a_rectangle, in_parentheses, one_input, two_inputs, with_sign, with_percent, tighter, joined, SpellsAll, SpellsMore, a_text, a_call, no_parameter, parameters, last_parameter, another_parameter}
 use Rattle.wi_parser.specs.Inner.Reader.{Parse, read_then, then_close, after_percent, operator_at, pair_at, what_if_at, atom, signed_read, prefixed, percents, chain, line, expression, if_last, whole, after_close, put_first, more_parameters, parameters_at, as_call}
 use Rattle.wi_parser.specs.Nesting.{depth, greatest_depth}
+use Rattle.wi_parser.proofs.Marks.{from_powers}
 use Rattle.wi_parser.proofs.Turns.{percents_stop, chain_stop, chain_more}
 use Rattle.wi_parser.proofs.Parameters.{parameters_first, more_last, more_again}
 
@@ -62,7 +62,7 @@ stops_after : {all : Trees} {us : List Symbol} (rest : List Symbol) → SpellsMo
 stops_after rest last_parameter = closed rest
 stops_after rest (another_parameter t all ts us s u) = separated ((ts ++ us) ++ rest)
 
-operator_here : (k : ℕ) (op : Operator) (ts : List Symbol) → line_of op ≡ k → operator_at k (infix_mark op ∷ ts) ≡ Some (op, ts)
+pub operator_here : (k : ℕ) (op : Operator) (ts : List Symbol) → line_of op ≡ k → operator_at k (infix_mark op ∷ ts) ≡ Some (op, ts)
 operator_here k op ts e = ap (λ b. cond b (Some (op, ts)) None) (eq-eqb (line_of op) k e)
 
 abbrev Taken : ℕ → ℕ → Tree → List Symbol → Type 0
@@ -152,11 +152,6 @@ one_more d k op l r ls rs e left right = (
         room = let longer = length-append rs rest in omega (arith, before.room);
       },
 )
-
--- no line tighter than powers has an operator
-from_powers : (op : Operator) → 3 ≤ line_of op
-from_powers Power = omega arith
-from_powers op = omega arith
 
 joins : (d k : ℕ) (op : Operator) (l r : Tree) (ls rs : List Symbol) → line_of op ≡ suc k → Claim d (suc k) l ls → Taken d k r rs → Claim d (suc k) (binary op l r) (ls ++ infix_mark op ∷ rs)
 joins d zero op l r ls rs e left right = absurd (omega (arith, from_powers op))

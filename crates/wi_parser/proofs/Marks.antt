@@ -1,15 +1,15 @@
 -- What stands first, where one symbol is looked for.
-use Rattle.std.proofs.Common.{◌≡◌, ℕ, ◌+◌, ◌==◌, List, [], ◌∷◌, ◌++◌, length, Option, Some, None, option_map, option_and_then, refl, sym, ap, ◌∙◌, arith}
-use Rattle.std.proofs.lemmas.Bool.{eqb-true}
+use Rattle.std.proofs.Common.{◌≡◌, ℕ, ◌+◌, ◌≤◌, ◌==◌, nat_le, List, [], ◌∷◌, ◌++◌, length, Option, Some, None, option_map, option_and_then, refl, sym, ap, ◌∙◌, subst, arith}
+use Rattle.std.proofs.lemmas.Bool.{eqb-true, leb-true}
 use Rattle.std.proofs.lemmas.Option.{cond_some}
 use Rattle.wi_parser.specs.declared.expr.Operator.{Operator}
-use Rattle.wi_parser.specs.declared.expr.Operator.TheVariants.{Add, Subtract}
+use Rattle.wi_parser.specs.declared.expr.Operator.TheVariants.{Add, Subtract, Power}
 use Rattle.wi_parser.specs.declared.expr.Reference.{Reference}
 use Rattle.wi_parser.specs.declared.expr.Sign.{Sign}
 use Rattle.wi_parser.specs.declared.expr.Sign.TheVariants.{Plus, Minus}
 use Rattle.wi_parser.specs.Symbol.{Symbol, reference, open_parenthesis, close_parenthesis, separator, infix_mark, sign_mark, percent_mark}
 use Rattle.wi_parser.specs.Grammar.{line_of, pair_symbols}
-use Rattle.wi_parser.specs.Inner.Reader.{after_open, after_close, after_separator, after_percent, reference_at, sign_of, sign_at, operator_at, parameter_at, pair_at}
+use Rattle.wi_parser.specs.Inner.Reader.{after_open, after_close, after_separator, after_percent, reference_at, sign_of, sign_at, operator_at, operator_within, parameter_at, pair_at}
 
 pub open_is : (ts us : List Symbol) → after_open ts ≡ Some us → ts ≡ open_parenthesis ∷ us
 open_is [] us h = cc
@@ -49,6 +49,20 @@ operator_is k (infix_mark o ∷ ts) us op h =
     let rest : ts ≡ us = ap (λ q. q.1) p.1 in
     (sym (ap line_of same) ∙ eqb-true (line_of o) k p.0, cc)
 operator_is k (s ∷ ts) us op h = cc
+
+pub within_is : (k : ℕ) (ts us : List Symbol) (op : Operator) → operator_within k ts ≡ Some (op, us) → (line_of op ≤ k) × (ts ≡ infix_mark op ∷ us)
+within_is k [] us op h = cc
+within_is k (infix_mark o ∷ ts) us op h =
+    let p = cond_some (nat_le (line_of o) k) (o, ts) (op, us) h in
+    let same : o ≡ op = ap (λ q. q.0) p.1 in
+    let rest : ts ≡ us = ap (λ q. q.1) p.1 in
+    (subst (λ q. line_of q ≤ k) same (leb-true (line_of o) k p.0), cc)
+within_is k (s ∷ ts) us op h = cc
+
+-- no line tighter than powers has an operator
+pub from_powers : (op : Operator) → 3 ≤ line_of op
+from_powers Power = omega arith
+from_powers op = omega arith
 
 -- ---- what follows is shorter
 

@@ -6,8 +6,8 @@ use Rattle.std.specs.Result.{OnOk}
 use Rattle.wi_parser.specs.declared.expr.Operator.{Operator}
 use Rattle.wi_parser.specs.declared.expr.Sign.{Sign}
 use Rattle.wi_parser.specs.Symbol.{Symbol}
-use Rattle.wi_parser.specs.Inner.Reader.{after_open, after_close, after_separator, after_percent, sign_at, operator_at}
-use Rattle.wi_parser.proofs.Marks.{open_is, close_is, separator_is, percent_is, sign-length, operator_is}
+use Rattle.wi_parser.specs.Inner.Reader.{after_open, after_close, after_separator, after_percent, sign_at, operator_within}
+use Rattle.wi_parser.proofs.Marks.{open_is, close_is, separator_is, percent_is, sign-length, within_is}
 
 pub one_less : (ts us : List Symbol) (s : Symbol) → ts ≡ s ∷ us → length us < length ts
 one_less ts us s is = subst (λ xs. length us < length xs) (sym is) (lt-suc_self (length us))
@@ -27,8 +27,8 @@ past_percent ts us h = one_less ts us _ (percent_is ts us h)
 pub past_sign : (ts us : List Symbol) (s : Sign) → sign_at ts ≡ Some (s, us) → length us < length ts
 past_sign ts us s h = let more = sign-length ts us s h in omega arith
 
-pub past_operator : (k : ℕ) (ts us : List Symbol) (op : Operator) → operator_at k ts ≡ Some (op, us) → length us < length ts
-past_operator k ts us op h = one_less ts us _ (operator_is k ts us op h).1
+pub past_operator : (k : ℕ) (ts us : List Symbol) (op : Operator) → operator_within k ts ≡ Some (op, us) → length us < length ts
+past_operator k ts us op h = one_less ts us _ (within_is k ts us op h).1
 
 -- what leaves fewer than b leaves fewer than what is above b
 pub still_less : {A E : Type 0} (r : Result A E) (a b c : ℕ) → b < c → OnOk r (a < b) → OnOk r (a < c)

@@ -212,7 +212,7 @@ module _ (inner : Parse) (sound : Finds loosest inner) where
           let b = again (binary p.0 left found.0.0) (ls ++ infix_mark p.0 ∷ a.0) found.0.1 (joined k p.0 left found.0.0 ls a.0 op.0 s a.1) found.2 in
           (b.0, b.1, ap (λ l. ls ++ l) (op.1 ∙ ap (λ l. infix_mark p.0 ∷ l) a.2) ∙ sym (append_assoc ls (infix_mark p.0 ∷ a.0) found.0.1) ∙ b.2)
 
-  line_sound : (k : ℕ) → Finds k (line inner k)
+  pub line_sound : (k : ℕ) → Finds k (line inner k)
   unfolding line
   line_sound zero ts t rest h = atom_sound ts t rest h
   line_sound (suc zero) ts t rest h = prefixed_sound (atom inner) atom_sound ts t rest h
@@ -228,7 +228,7 @@ module _ (inner : Parse) (sound : Finds loosest inner) where
       let b = chain_sound next (suc (suc k)) (line_sound (suc (suc k))) _ first.0.0 a.0 first.0.1 t rest (tighter (suc (suc k)) first.0.0 a.0 a.1) first.2 in
       (b.0, b.1, a.2 ∙ b.2)
 
-expression_sound : (d : ℕ) → Finds loosest (expression d)
+pub expression_sound : (d : ℕ) → Finds loosest (expression d)
 unfolding expression
 expression_sound zero ts t rest h = cc
 expression_sound (suc d) ts t rest h = line_sound (expression d) (expression_sound d) loosest ts t rest h

@@ -1,5 +1,5 @@
 -- One turn of the reader's loop, and how many symbols it takes.
-use Rattle.std.proofs.Common.{◌≡◌, ℕ, zero, suc, ◌-◌, ◌<◌, List, [], ◌∷◌, length, Option, Some, None, option_map, refl, sym, ap, ◌∙◌, arith}
+use Rattle.std.proofs.Common.{◌≡◌, ℕ, zero, suc, ◌-◌, ◌<◌, List, [], ◌∷◌, Option, Some, None, option_map, refl, sym, ap, ◌∙◌, arith}
 use Rattle.wi_parser.specs.declared.expr.Operator.{Operator}
 use Rattle.wi_parser.specs.declared.expr.Sign.{Sign}
 use Rattle.wi_parser.specs.Tree.{Tree, percent, binary}
@@ -7,7 +7,7 @@ use Rattle.wi_parser.specs.Symbol.{Symbol, percent_mark}
 use Rattle.wi_parser.specs.declared.fault.ParseFault.{ParseFault}
 use Rattle.wi_parser.specs.declared.fault.ParseFault.TheVariants.{TooLong, OutOfSheet, NumberRange, TooDeep, Syntax, Memory}
 use Rattle.wi_parser.specs.Inner.Outcome.{Fails}
-use Rattle.wi_parser.specs.Inner.Reader.{Parse, read_then, after_percent, sign_of, sign_at, operator_at, signed_read, prefix_step, prefixed, percents, chain, chain_step, line}
+use Rattle.wi_parser.specs.Inner.Reader.{Parse, read_then, after_percent, sign_of, sign_at, operator_at, signed_read, prefix_step, prefixed, percents, chain, chain_step}
 use Rattle.wi_parser.proofs.Marks.{map_ok}
 
 -- ---- signs
@@ -59,15 +59,6 @@ chain_more next k (suc n) left r ts us rest op some h e =
     let less : suc n - 1 ≡ n = omega arith in
     ap (chain_step next (chain next k n) left ts) h ∙ ap (read_then (λ r rest. chain next k n (binary op left r) rest)) e
     ∙ ap (λ m. chain next k m (binary op left r) rest) (sym less)
-
-pub line_more : (inner : Parse) (k : ℕ) (ts : List Symbol) → 2 < k → line inner k ts ≡ read_then (λ t rest. chain (line inner (k - 1)) k (length rest) t rest) (line inner (k - 1) ts)
-unfolding line
-line_more inner zero ts h = absurd (omega arith)
-line_more inner (suc zero) ts h = absurd (omega arith)
-line_more inner (suc (suc zero)) ts h = absurd (omega arith)
-line_more inner (suc (suc (suc k))) ts h =
-    let less : suc (suc (suc k)) - 1 ≡ suc (suc k) = omega arith in
-    ap (λ m. read_then (λ t rest. chain (line inner m) (suc (suc (suc k))) (length rest) t rest) (line inner m ts)) (sym less)
 
 -- ---- faults
 

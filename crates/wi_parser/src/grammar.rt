@@ -1,6 +1,6 @@
 //! The lines of the grammar, each over the function that reads what stands in parentheses.
 
-ghost use Rattle.std.specs.Prelude.{◌≡◌, ◌<◌, ◌≤◌, length, OnOk, IfOk};
+ghost use Rattle.std.specs.Prelude.{◌≡◌, ◌<◌, ◌≤◌, length, None, OnOk, IfOk};
 ghost use Rattle.wi_parser.specs.Inner.Reader as reader;
 ghost use Rattle.wi_parser.specs.Inner.Outcome.{Finds, FindsMore, put_before};
 ghost use Rattle.wi_parser.specs.Inner.Nests.{Nests};
@@ -10,7 +10,7 @@ ghost use Rattle.wi_parser.specs.Tree as tree;
 use crate::expr::{Corners, Expr, Operator, Reference, Sign, call, text};
 use crate::fault::ParseFault;
 use crate::symbol::Symbol;
-use crate::symbols::Symbols;
+use crate::symbols::{Symbols, line_of};
 use crate::what_if::what_if;
 use std::alloc::{AllocError, Global};
 use wi_fraction::Fraction;
@@ -155,20 +155,19 @@ impl<F: Fn(Global, &mut Symbols<'_>, usize) -> Result<Expr, ParseFault>> Grammar
         Ok(operand)
     }
 
-    // A line of the grammar from percents, which are line 2, to comparisons.
+    // A line of the grammar from percents, which are line 2, to comparisons: an operand, and each operator of the line or a
+    // tighter one, with a right operand of the line below the operator's.
     fn line(&self, symbols: &mut Symbols<'_>, line: u8) -> Result<Expr, ParseFault>
         requires nests { Nests self.now.depth (F.pre self.now.expression) (F.post self.now.expression) }
         requires from_percents { 2 ≤ line }
         ensures finds { Finds (reader.line (reader.expression self.now.depth) line symbols.old)
             result symbols.new }
         ensures shorter { OnOk result (length symbols.new < length symbols.old) }
+        ensures ended { OnOk result (reader.operator_within line symbols.new ≡ None) }
     {
-        if line == 2 {
-            return self.percents(symbols);
-        }
-        let mut left = self.line(symbols, line - 1)?;
+        let mut left = self.percents(symbols)?;
         while let Some(op) = symbols.take_operator(line) {
-            let right = self.line(symbols, line - 1)?;
+            let right = self.line(symbols, line_of(op) - 1)?;
             left = binary(self.alloc, op, left, right)?;
         }
         Ok(left)

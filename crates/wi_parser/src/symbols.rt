@@ -3,7 +3,7 @@
 ghost use Rattle.std.specs.Prelude.{◌≡◌, [], ◌∷◌, Some, None, MatchOption, IsTrue, ◌↔◌};
 ghost use Rattle.std.specs.Bool.{OnTrue, OnFalse};
 ghost use Rattle.wi_parser.specs.Grammar as grammar;
-ghost use Rattle.wi_parser.specs.Inner.Reader.{after_open, after_close, after_separator, after_percent, reference_at, sign_at, operator_at};
+ghost use Rattle.wi_parser.specs.Inner.Reader.{after_open, after_close, after_separator, after_percent, reference_at, sign_at, operator_within};
 ghost use Rattle.wi_parser.specs.Inner.SymbolCode.{meant_by, all_meant};
 
 use crate::expr::{Operator, Reference, Sign};
@@ -141,13 +141,13 @@ impl<'a> Symbols<'a> {
         }
     }
 
-    /// Takes the next symbol, if it is an operator of this line of the grammar.
+    /// Takes the next symbol, if it is an operator of this line of the grammar or a tighter one.
     pub(crate) fn take_operator(&mut self, line: u8) -> Option<Operator>
-        ensures { MatchOption result ((operator_at line self.old ≡ None) × (self.new ≡ self.old))
-            (λ op. operator_at line self.old ≡ Some (op, self.new)) }
+        ensures { MatchOption result ((operator_within line self.old ≡ None) × (self.new ≡ self.old))
+            (λ op. operator_within line self.old ≡ Some (op, self.new)) }
     {
         match self.rest {
-            [Symbol::Infix(op), rest @ ..] if line_of(*op) == line => {
+            [Symbol::Infix(op), rest @ ..] if line_of(*op) <= line => {
                 self.rest = rest;
                 Some(*op)
             }
@@ -157,7 +157,7 @@ impl<'a> Symbols<'a> {
 }
 
 /// The line of the grammar that has the operator.
-fn line_of(op: Operator) -> u8
+pub(crate) fn line_of(op: Operator) -> u8
     ensures { result ≡ grammar.line_of op }
 {
     match op {

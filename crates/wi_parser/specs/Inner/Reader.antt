@@ -1,5 +1,5 @@
 -- What a reader from the left finds: a tree and the symbols after it, or nothing.
-use Rattle.std.specs.Prelude.{ℕ, zero, suc, List, [], ◌∷◌, length, cond, ◌==◌, Option, Some, None, option_map, option_and_then}
+use Rattle.std.specs.Prelude.{ℕ, zero, suc, List, [], ◌∷◌, length, cond, ◌==◌, nat_le, Option, Some, None, option_map, option_and_then}
 use Rattle.wi_parser.specs.declared.expr.Operator.{Operator}
 use Rattle.wi_parser.specs.declared.expr.Operator.TheVariants.{Add, Subtract}
 use Rattle.wi_parser.specs.declared.expr.Reference.{Reference}
@@ -57,6 +57,11 @@ sign_at (x ∷ ts) = option_map (λ s. (s, ts)) (sign_of x)
 abbrev pub operator_at : ℕ → List Symbol → Option (Operator × List Symbol)
 operator_at k (infix_mark op ∷ ts) = cond (line_of op == k) (Some (op, ts)) None
 operator_at k ts = None
+
+-- the operator of this line or a tighter one that stands first, and what follows it
+abbrev pub operator_within : ℕ → List Symbol → Option (Operator × List Symbol)
+operator_within k (infix_mark op ∷ ts) = cond (nat_le (line_of op) k) (Some (op, ts)) None
+operator_within k ts = None
 
 -- the tree, where the mark that closes stands next
 abbrev pub then_close : Tree → Parse
