@@ -31,20 +31,25 @@ same_both p q = by (is_same p q) (is_same q p) refl refl
     by true false h k = absurd (true≢false (sym (same_self p) ∙ ap (λ (x : RangePair). is_same x p) (same_is p q h) ∙ k))
     by false true h k = absurd (true≢false (sym (same_self q) ∙ ap (λ (x : RangePair). is_same x q) (same_is q p k) ∙ h))
 
-pub has_one_more : (m : Numbered) (ks ls : List Piece) → first_row m.pair < 1048576 → Gains (blocks_of m.pair) m ks ls → HasOneMore m.pair (bag_of ks) (bag_of ls)
-has_one_more m ks ls l g q = gains_count m ks ls l g q ∙ ap (λ b. count_of (bag_of ks) q + cond b 1 0) (same_both q m.pair) ∙ by (is_same m.pair q) (count_of (bag_of ks) q)
+pub one_more : (p : RangePair) (old new : Bag) → ((q : RangePair) → count_of new q ≡ count_of old q + cond (is_same q p) 1 0) → HasOneMore p old new
+one_more p old new g q = g q ∙ ap (λ b. count_of old q + cond b 1 0) (same_both q p) ∙ by (is_same p q) (count_of old q)
   where
     by : (b : Bool) (n : ℕ) → n + cond b 1 0 ≡ (if b then n + 1 else n)
     by true n = refl
     by false n = omega arith
 
-pub has_one_less : (m : Numbered) (ks ls : List Piece) → first_row m.pair < 1048576 → Gains (blocks_of m.pair) m ls ks → HasOneLess m.pair (bag_of ks) (bag_of ls)
-has_one_less m ks ls l g q =
-    by (is_same m.pair q) (count_of (bag_of ks) q) (count_of (bag_of ls) q) (gains_count m ls ks l g q ∙ ap (λ b. count_of (bag_of ls) q + cond b 1 0) (same_both q m.pair))
+pub one_less : (p : RangePair) (old new : Bag) → ((q : RangePair) → count_of old q ≡ count_of new q + cond (is_same q p) 1 0) → HasOneLess p old new
+one_less p old new g q = by (is_same p q) (count_of old q) (count_of new q) (g q ∙ ap (λ b. count_of new q + cond b 1 0) (same_both q p))
   where
     by : (b : Bool) (n k : ℕ) → n ≡ k + cond b 1 0 → k ≡ (if b then n - 1 else n)
     by true n k e = omega (arith, e)
     by false n k e = omega (arith, e)
+
+pub has_one_more : (m : Numbered) (ks ls : List Piece) → first_row m.pair < 1048576 → Gains (blocks_of m.pair) m ks ls → HasOneMore m.pair (bag_of ks) (bag_of ls)
+has_one_more m ks ls l g = one_more m.pair (bag_of ks) (bag_of ls) (gains_count m ks ls l g)
+
+pub has_one_less : (m : Numbered) (ks ls : List Piece) → first_row m.pair < 1048576 → Gains (blocks_of m.pair) m ls ks → HasOneLess m.pair (bag_of ks) (bag_of ls)
+has_one_less m ks ls l g = one_less m.pair (bag_of ks) (bag_of ls) (gains_count m ls ks l g)
 
 -- nothing is there to take away
 pub has_none : (p : RangePair) (bag : Bag) → count_of bag p ≡ 0 → HasOneLess p bag bag

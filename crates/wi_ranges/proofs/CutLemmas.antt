@@ -1,10 +1,11 @@
 -- Laws of the cut of some rows into blocks.
-use Rattle.std.proofs.Common.{◌≡◌, ℕ, zero, suc, ◌+◌, ◌-◌, ◌*◌, ◌^◌, ◌<◌, ◌≤◌, Bool, true, false, cond, List, [], ◌∷◌, ◌++◌, length, ap, sym, ◌∙◌, arith, ⊎_elim, ◌⊎◌, inl, inr, nat_le, length-append}
+use Rattle.std.proofs.Common.{◌≡◌, ◌==◌, ℕ, zero, suc, ◌+◌, ◌-◌, ◌*◌, ◌^◌, ◌<◌, ◌≤◌, Bool, true, false, cond, List, [], ◌∷◌, ◌++◌, length, refl, ap, sym, ◌∙◌, arith, ⊎_elim, ◌⊎◌, inl, inr, nat_lt, nat_le, length-append}
+use Rattle.std.specs.Prelude.{if◌then◌else◌}
 use Rattle.std.proofs.Math.Nat.{pow-succ'}
 use Rattle.std.proofs.lemmas.List.{nil_from_length}
 use Rattle.std.proofs.lemmas.Nat.{pow_pos}
-use Rattle.std.proofs.lemmas.Bool.{and_parts, and_from, and_left, and_right, cases_Bool, cases_lt, lt-ltb, le-leb, le-ltb, lt-leb, leb-true}
-use Rattle.wi_values.specs.Address.{rows}
+use Rattle.std.proofs.lemmas.Bool.{and_parts, and_from, and_left, and_right, cases_Bool, cases_lt, lt-ltb, le-leb, le-ltb, lt-leb, leb-true, eqb-true}
+use Rattle.wi_values.specs.Address.{rows, row_of}
 use Rattle.wi_ranges.specs.declared.pair.RangePair.{RangePair}
 use Rattle.wi_ranges.specs.declared.block.Block.{Block}
 use Rattle.wi_ranges.specs.Blocks.{block, lies_within, meets, blocks_within, blocks_in, blocks_of, first_row, last_row}
@@ -197,3 +198,14 @@ pub row_around : (p : RangePair) → last_row p ≡ first_row p → first_row p 
 row_around p e l =
     ap (λ (b : ℕ). blocks_within (first_row p) b 0 (first_row p)) e ∙ one_row (first_row p) 0 (first_row p) (omega arith) (omega arith)
     ∙ sym (ap (λ (b : ℕ). blocks_within (first_row p) b 20 0) e ∙ one_row (first_row p) 20 0 (omega arith) (omega (arith, l)))
+
+-- which is its only one
+pub lone_block : (p : RangePair) → (p.first == p.last) ≡ true → first_row p < rows → length (blocks_of p) ≡ 1
+lone_block p e l =
+    let one : last_row p ≡ first_row p = one_last (nat_lt (row_of p.last) (row_of p.first)) in
+    let within = bounds_within (first_row p) (last_row p) 0 (first_row p) (omega arith) (omega (arith, one)) in
+    ap length (sym (row_around p one l) ∙ blocks_within-here (first_row p) (last_row p) 0 (first_row p) within)
+  where
+    one_last : (b : Bool) → (if b then row_of p.first else row_of p.last) ≡ row_of p.first
+    one_last true = refl
+    one_last false = ap row_of (sym (eqb-true p.first p.last e))

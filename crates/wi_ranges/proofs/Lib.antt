@@ -13,3 +13,6 @@ mod Levels
 mod First
 mod Sums
 mod Counts
+mod FewLemmas
+mod ByCell
+mod Joined

@@ -46,7 +46,7 @@ has_from_place [] i c l e = absurd (omega (arith, l))
 has_from_place (x ∷ xs) zero c l e = ap (λ b. b || has_cell xs c) (ap (λ (y : ℕ). is_at (nat_cmp c) y) e ∙ itself c)
 has_from_place (x ∷ xs) (suc i) c l e = or_right _ _ (has_from_place xs i c (omega (arith, l)) e)
 
-has_nowhere : (xs : List ℕ) (c : ℕ) → ((k : ℕ) → k < length xs → get_or xs k 0 ≡ c → ⊥) → has_cell xs c ≡ false
+pub has_nowhere : (xs : List ℕ) (c : ℕ) → ((k : ℕ) → k < length xs → get_or xs k 0 ≡ c → ⊥) → has_cell xs c ≡ false
 has_nowhere [] c h = refl
 has_nowhere (x ∷ xs) c h =
     ap (λ b. b || has_cell xs c) (other c x (h 0 (omega arith))) ∙ has_nowhere xs c (λ k l e. h (suc k) (omega (arith, l)) e)

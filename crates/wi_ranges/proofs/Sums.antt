@@ -50,7 +50,7 @@ sum_ones (x ∷ xs) = let s = sum_by-cons (λ _. 1) x xs in omega (arith, s, sum
 
 -- ---- a bag with one more
 
-raise_count : (p : RangePair) (bag : Bag) (q : RangePair) → count_of (raise p bag) q ≡ cond (is_same q p) 1 0 + count_of bag q
+pub raise_count : (p : RangePair) (bag : Bag) (q : RangePair) → count_of (raise p bag) q ≡ cond (is_same q p) 1 0 + count_of bag q
 raise_count p [] q = at (is_same q p)
   where
     at : (b : Bool) → unwrap_or (cond b (Some 1) None) 0 ≡ cond b 1 0 + 0
@@ -73,7 +73,7 @@ raise_count p (e ∷ es) q = by (is_same p e.0) refl (raise_count p es q)
     by true s r = here (is_same q e.0) (lookup (is_same q) es) ∙ ap (λ (x : RangePair). cond (is_same q x) 1 0 + count_of (e ∷ es) q) (sym (same_is p e.0 s))
     by false s r = past (is_same q e.0) (is_same q p) refl refl s r
 
-raise_pieces : (p : RangePair) (bag : Bag) → pieces_of (raise p bag) ≡ length (blocks_of p) + pieces_of bag
+pub raise_pieces : (p : RangePair) (bag : Bag) → pieces_of (raise p bag) ≡ length (blocks_of p) + pieces_of bag
 raise_pieces p [] = omega arith
 raise_pieces p (e ∷ es) = by (is_same p e.0) refl (raise_pieces p es)
   where

@@ -8,8 +8,9 @@ ghost use Rattle.wi_ranges.specs.Bag.{pair_for, pieces_of, HasOneMore, HasOneLes
 use crate::bag::{add_pair, remove_pair};
 use crate::pair::RangePair;
 use crate::pieces::Pieces;
-use crate::readers::{add_all_readers, highest_block};
+use crate::readers::add_readers_of;
 use crate::rising_set::RisingSet;
+use crate::singles::Singles;
 use std::alloc::{AllocError, Global};
 use std::collections::BTreeSet;
 use std::marker::Model;
@@ -18,7 +19,9 @@ use wi_values::{Address, Rect};
 /// Pairs of a rectangle and a cell that reads it, any number of each.
 #[derive(Drop)]
 pub struct RangeIndex {
-    // Each pair, by its number among equal ones, at each of its blocks.
+    // Pairs of one cell, as most are: of a cell as many as have room there.
+    singles: Singles,
+    // Each other pair, by its number among equal ones, at each of its blocks.
     pieces: Pieces,
     alloc: Global,
 }
@@ -26,10 +29,11 @@ pub struct RangeIndex {
 impl Model for RangeIndex {
     ghost use Rattle.wi_ranges.specs.Bag.{Bag};
     ghost use Rattle.wi_ranges.specs.Inner.Index.{AreWhole, bag_of};
+    ghost use Rattle.wi_ranges.specs.Inner.Singles.{with_pairs};
 
     ghost Value = { Bag };
 
-    ghost view = { λ x. bag_of x.pieces.keys };
+    ghost view = { λ x. with_pairs x.singles (bag_of x.pieces.keys) };
 
     ghost invariant = { λ x. AreWhole x.pieces.keys };
 }
@@ -40,44 +44,49 @@ impl RangeIndex {
         ensures { result ≡ [] }
     {
         RangeIndex {
+            singles: Singles::new(alloc),
             pieces: BTreeSet::new(alloc),
             alloc,
         }
     }
 
-    /// Adds a pair. On an error all is as before. The work grows with the pair's blocks, twice those where there is an equal
-    /// pair, and the logarithm of the count of pieces.
+    /// Adds a pair. On an error all is as before. For a pair of one cell that few read the work is expected constant over many
+    /// calls. For others it grows with the pair's blocks, twice those where there is an equal pair, and the logarithm of the
+    /// count of pieces.
     pub fn add(&mut self, area: Rect, reader: Address) -> Result<(), AllocError>
         ensures ok { OnOk result (HasOneMore (pair_for area reader) self.old self.new) }
         ensures err { OnErr result (self.new ≡ self.old) }
     {
         let pair = RangePair::new(area, reader);
+        if self.singles.add(&pair)? {
+            return Ok(());
+        }
         add_pair(&mut self.pieces, &pair)
     }
 
-    /// Takes away one such pair if there is one. Takes no memory. The work grows with the pair's blocks and the logarithm of the
-    /// count of pieces.
+    /// Takes away one such pair if there is one. Takes no memory. For a pair of one cell that few read the work is expected
+    /// constant. For others it grows with the pair's blocks and the logarithm of the count of pieces.
     pub fn remove(&mut self, area: Rect, reader: Address)
         ensures { HasOneLess (pair_for area reader) self.old self.new }
     {
         let pair = RangePair::new(area, reader);
+        if self.singles.remove(&pair) {
+            return;
+        }
         remove_pair(&mut self.pieces, &pair);
     }
 
-    /// The dependents of the cell, which read a rectangle with it, in row-major order, each once. The work grows with the
-    /// pairs, equal ones too, at the blocks that hold the cell's row, and with the logarithms of their count and of that of all
-    /// pieces. Such blocks are one for each level up to the highest at which a piece stands, at most 21.
+    /// The dependents of the cell, which read a rectangle with it, in row-major order, each once. Where each pair is of one cell
+    /// that few read, the work grows with the readers alone. Else it grows with the pairs, equal ones too, at the blocks that
+    /// hold the cell's row, and with the logarithms of their count and of that of all pieces. Such blocks are one for each level
+    /// up to the highest at which a piece stands, at most 21.
     pub fn readers_of(&self, at: Address) -> Result<Vec<Address>, AllocError>
         ensures order { IfOk result (λ readers. IsStrictlyIncreasing readers.items) }
         ensures readers { IfOk result (λ readers. (r : ℕ) → Contains readers.items r ↔ IsReader self.now at r) }
     {
-        let row = at.row();
-        if self.pieces.is_empty() {
-            return Ok(Vec::new(self.alloc));
-        }
         let mut readers = RisingSet::new(self.alloc);
-        let block = highest_block(&self.pieces, row);
-        add_all_readers(&self.pieces, at, row, &block, &mut readers)?;
+        self.singles.add_readers(at, &mut readers)?;
+        add_readers_of(&self.pieces, at, &mut readers)?;
         readers.into_list()
     }
 
@@ -85,6 +94,6 @@ impl RangeIndex {
     pub fn pieces(&self) -> u64
         ensures { result ≡ pieces_of self.now }
     {
-        self.pieces.len() as u64
+        self.pieces.len() as u64 + self.singles.pieces()
     }
 }

@@ -3,12 +3,14 @@
 
 mod bag;
 mod block;
+mod few;
 mod index;
 pub mod laws;
 mod pair;
 mod pieces;
 mod readers;
 mod rising_set;
+mod singles;
 
 pub use index::RangeIndex;
 pub use rising_set::RisingSet;

@@ -1,9 +1,9 @@
 //! A rectangle and a cell that reads it.
 
-ghost use Rattle.std.specs.Prelude.{◌≡◌, ◌<◌};
+ghost use Rattle.std.specs.Prelude.{◌≡◌, ◌==◌, ◌<◌, IsTrue, length};
 ghost use Rattle.wi_values.specs.Address.{is_within, rows};
 ghost use Rattle.wi_ranges.specs.Bag.{pair_for, pair_area, lowest_pair};
-ghost use Rattle.wi_ranges.specs.Blocks.{last_row};
+ghost use Rattle.wi_ranges.specs.Blocks.{blocks_of, last_row};
 ghost use Rattle.wi_ranges.specs.Inner.Index.{lowest};
 
 use wi_values::{Address, Rect};
@@ -56,6 +56,16 @@ impl RangePair {
             last: first,
             reader: first,
         }
+    }
+
+    /// Whether the rectangle is one cell. It has one block then.
+    pub(crate) fn is_single(&self) -> bool
+        ensures value { result ≡ (self.now.first == self.now.last) }
+        ensures block { IsTrue result → length (blocks_of self.now) ≡ 1 }
+    {
+        // A row of the sheet has a block.
+        let _ = self.first.row();
+        self.first == self.last
     }
 
     /// The last row of the rectangle, counted from 0.

@@ -1,10 +1,10 @@
 //! The dependents of a cell: the cells that read it.
 
-ghost use Rattle.std.specs.Prelude.{◌≡◌, ◌+◌, ◌^◌, ◌≤◌, ◌||◌, ◌∷◌, ℕ, [], OnOk};
+ghost use Rattle.std.specs.Prelude.{◌≡◌, ◌<◌, ◌+◌, ◌^◌, ◌≤◌, ◌||◌, ◌∷◌, ℕ, [], OnOk};
 ghost use Rattle.std.specs.Ordering.{nat_cmp};
 ghost use Rattle.std.specs.List.{list_any};
 ghost use Rattle.std.specs.BTreeSet.{contains};
-ghost use Rattle.wi_values.specs.Address.{rows};
+ghost use Rattle.wi_values.specs.Address.{row_of, rows};
 ghost use Rattle.wi_ranges.specs.Blocks.{blocks_with};
 ghost use Rattle.wi_ranges.specs.Inner.Index.{reads_at, AreUpTo};
 
@@ -26,7 +26,7 @@ fn highest_level(pieces: &Pieces) -> u32
 }
 
 /// The block that holds a row, of the highest level at which a piece stands. At those above it nothing stands.
-pub(crate) fn highest_block(pieces: &Pieces, row: u32) -> Block
+fn highest_block(pieces: &Pieces, row: u32) -> Block
     ensures within { result.first + 2 ^ result.level ≤ rows }
     ensures all { (a r : ℕ) → list_any (reads_at (blocks_with row result.level result.first) a r) pieces.now.keys
         ≡ list_any (reads_at (blocks_with row 20 0) a r) pieces.now.keys }
@@ -63,7 +63,7 @@ fn add_readers(
 
 /// Adds the readers of a cell that stand at a block that holds the row, or at one of the halves, quarters and so on that do.
 /// If memory runs out, some of them may be added.
-pub(crate) fn add_all_readers(
+fn add_all_readers(
     pieces: &Pieces,
     at: Address,
     row: u32,
@@ -79,4 +79,22 @@ pub(crate) fn add_all_readers(
         add_all_readers(pieces, at, row, &block.half_with(row), readers)?;
     }
     Ok(())
+}
+
+/// Adds the readers of a cell that stand at the blocks that hold its row. If memory runs out, some of them may be added.
+pub(crate) fn add_readers_of(
+    pieces: &Pieces,
+    at: Address,
+    readers: &mut RisingSet,
+) -> Result<(), AllocError>
+    ensures found { OnOk result ((r : ℕ) → contains nat_cmp readers.new r
+        ≡ (contains nat_cmp readers.old r || list_any (reads_at (blocks_with (row_of at) 20 0) at r) pieces.now.keys)) }
+    ensures row { row_of at < rows }
+{
+    let row = at.row();
+    if pieces.is_empty() {
+        return Ok(());
+    }
+    let block = highest_block(pieces, row);
+    add_all_readers(pieces, at, row, &block, readers)
 }

@@ -47,9 +47,13 @@ is_at_block x p q = is_at (block_cmp q.0) x && is_same q.1.pair p
 abbrev pub is_piece : List Block → Numbered → Piece → Bool
 is_piece xs m q = is_one m q.1 && is_among q.0 xs
 
--- the cell r of the piece reads the cell a
+-- the cell r of the pair reads the cell a
+abbrev pub pair_reads : ℕ → ℕ → RangePair → Bool
+pair_reads a r p = is_within (pair_area p) a && (p.reader == r)
+
+-- that of the piece does
 abbrev pub piece_reads : ℕ → ℕ → Piece → Bool
-piece_reads a r q = is_within (pair_area q.1.pair) a && (q.1.pair.reader == r)
+piece_reads a r q = pair_reads a r q.1.pair
 
 -- the piece stands at one of the blocks, and its cell r reads the cell a
 abbrev pub reads_at : List Block → ℕ → ℕ → Piece → Bool

@@ -1,5 +1,29 @@
-use Rattle.std.proofs.Common.{rules}
+use Rattle.std.proofs.Common.{rules, List, OnOk, subst, sym}
+use Rattle.std.proofs.lemmas.Result.{on_ok_weaker}
+use Rattle.wi_ranges.specs.declared.pair.RangePair.{RangePair}
+use Rattle.wi_ranges.specs.Bag.{Bag, HasOneMore, pair_for}
+use Rattle.wi_ranges.specs.Inner.Index.{bag_of}
+use Rattle.wi_ranges.specs.Inner.Singles.{with_pairs, HasPairMore}
+use Rattle.wi_ranges.proofs.Joined.{more_by_cell, more_in_bag}
 use Rattle.wi_ranges.proofs.index.RangeIndex.add.Goals as goal
 
+pub returns-then-branch-clause-ok : goal.returns-then-branch-clause-ok
+returns-then-branch-clause-ok c =
+    let p = pair_for c.args.area c.args.reader in
+    let old = c.self.inside.singles in
+    let new = c.add.new.self in
+    let bag = bag_of c.self.inside.pieces.keys in
+    let more = subst (λ (q : RangePair). HasPairMore q old new) c.new-pair.ensures (c.in_ok-add.ensures.more c.if-branch.true) in
+    subst (λ (b : Bag). HasOneMore p b (with_pairs new bag)) c.self.view_is (more_by_cell p old new bag more)
+
 pub returns-clause-ok : goal.returns-clause-ok
-returns-clause-ok c = search rules
+returns-clause-ok c =
+    let p = pair_for c.args.area c.args.reader in
+    let singles = c.self.inside.singles in
+    let bag = bag_of c.self.inside.pieces.keys in
+    let new = bag_of c.add_pair.new.pieces.keys in
+    let added : OnOk c.add_pair.result (HasOneMore p bag new) = search rules in
+    on_ok_weaker c.add_pair.result
+    (λ more. subst (λ (ps : List RangePair). HasOneMore p c.args.self.now (with_pairs ps new)) (sym (c.in_ok-add.ensures.same c.if-branch.false))
+    (subst (λ (b : Bag). HasOneMore p b (with_pairs singles new)) c.self.view_is (more_in_bag p singles bag new more)))
+    added

@@ -1,0 +1,220 @@
+-- The pairs that readers by cell are: what is added up over them, and whether one of them passes a test.
+use Rattle.std.proofs.Common.{◌≡◌, ◌==◌, ℕ, ◌+◌, Bool, true, false, ◌&&◌, ◌||◌, cond, List, [], ◌∷◌, ◌++◌, Option, Some, None, HashMap, refl, sym, ap, subst, ◌∙◌, arith, nat_eq, nat_le}
+use Rattle.std.specs.Ordering.{nat_cmp}
+use Rattle.std.specs.Option.{unwrap_or}
+use Rattle.std.specs.List.{list_any, sum_by, IsDistinct, AllByRecursion}
+use Rattle.std.specs.List.Sorted.{IsPermutation}
+use Rattle.std.specs.Map.{keys_of, lookup, set_value, remove_entry}
+use Rattle.std.specs.HashMap.{get, PutsEntry}
+use Rattle.std.specs.BTreeMap.{is_at}
+use Rattle.std.proofs.lemmas.Bool.{true≢false, or_from, le-leb, eqb-true, eq-eqb}
+use Rattle.std.proofs.lemmas.Bool.Decides.{nat_tests}
+use Rattle.std.proofs.lemmas.List.{map-append}
+use Rattle.std.proofs.lemmas.List.Folds.{list_any-append}
+use Rattle.std.proofs.lemmas.List.Sums.{sum_by-cons, sum_by-append, sum_by_push}
+use Rattle.std.proofs.lemmas.List.Sorted.{IsPermutation-map, sum_by-IsPermutation, sum_by_pushed}
+use Rattle.std.proofs.lemmas.Map.Keys.{IsDistinct-head, IsDistinct-tail}
+use Rattle.std.proofs.lemmas.Map.Steps.{set_value_same}
+use Rattle.std.proofs.Math.Bool.{or-false}
+use Rattle.wi_values.specs.Address.{Area, row_of, column_of, is_within}
+use Rattle.wi_values.proofs.Order.{turn_test, is_at-eq}
+use Rattle.wi_values.proofs.Within.{within_between}
+use Rattle.wi_ranges.specs.declared.pair.RangePair.{RangePair}
+use Rattle.wi_ranges.specs.Bag.{is_same}
+use Rattle.wi_ranges.specs.Inner.Index.{pair_reads}
+use Rattle.wi_ranges.specs.Inner.Rising.{has_cell}
+use Rattle.wi_ranges.specs.Inner.Singles.{single_pair, pairs_at, pairs_of, HasPairMore}
+
+abbrev pub Entries : Type 0
+Entries = List (ℕ × List ℕ)
+
+-- ---- what is added up over them
+
+-- what the readers of one cell add
+abbrev weight : (RangePair → ℕ) → ℕ × List ℕ → ℕ
+weight f e = sum_by f (pairs_at e.0 e.1)
+
+sum_pairs : (f : RangePair → ℕ) (es : Entries) → sum_by f (pairs_of es) ≡ sum_by (weight f) es
+sum_pairs f [] = refl
+sum_pairs f (e ∷ es) = sum_by-append f (pairs_at e.0 e.1) (pairs_of es) ∙ ap (λ n. weight f e + n) (sum_pairs f es) ∙ sym (sum_by-cons (weight f) e es)
+
+value_is : {v w : List ℕ} → Some v ≡ Some w → v ≡ w
+value_is e = ap (λ (o : Option (List ℕ)). unwrap_or o []) e
+
+no_value : {X : Type 0} {v : List ℕ} → None ≡ Some v → X
+no_value h = absurd (let k = h in cc)
+
+module _ (g : ℕ × List ℕ → ℕ) (a : ℕ) (v : List ℕ) where
+  set_sum : (w : List ℕ) (es : Entries) → lookup (nat_eq a) es ≡ Some v → sum_by g (set_value (nat_eq a) es w) + g (a, v) ≡ sum_by g es + g (a, w)
+  set_sum w [] h = no_value h
+  set_sum w (e ∷ es) h = by (nat_eq a e.0) refl h (set_sum w es)
+    where
+      by : (b : Bool) → nat_eq a e.0 ≡ b → cond b (Some e.1) (lookup (nat_eq a) es) ≡ Some v
+          → (lookup (nat_eq a) es ≡ Some v → sum_by g (set_value (nat_eq a) es w) + g (a, v) ≡ sum_by g es + g (a, w))
+          → sum_by g (cond b ((e.0, w) ∷ es) (e ∷ set_value (nat_eq a) es w)) + g (a, v) ≡ sum_by g (e ∷ es) + g (a, w)
+      by true s k r =
+          let here : e.0 ≡ a = sym (eqb-true a e.0 s) in
+          let old : g e ≡ g (a, v) = ap (λ (n : ℕ). g (n, e.1)) here ∙ ap (λ (us : List ℕ). g (a, us)) (value_is k) in
+          let new : g (e.0, w) ≡ g (a, w) = ap (λ (n : ℕ). g (n, w)) here in
+          let x = sum_by-cons g (e.0, w) es in
+          let y = sum_by-cons g e es in
+          omega (arith, old, new, x, y)
+      by false s k r =
+          let x = sum_by-cons g e (set_value (nat_eq a) es w) in
+          let y = sum_by-cons g e es in
+          omega (arith, r k, x, y)
+
+  removed_sum : (es : Entries) → lookup (nat_eq a) es ≡ Some v → sum_by g es ≡ sum_by g (remove_entry (nat_eq a) es) + g (a, v)
+  removed_sum [] h = no_value h
+  removed_sum (e ∷ es) h = sum_by-cons g e es ∙ by (nat_eq a e.0) refl h (removed_sum es)
+    where
+      by : (b : Bool) → nat_eq a e.0 ≡ b → cond b (Some e.1) (lookup (nat_eq a) es) ≡ Some v
+          → (lookup (nat_eq a) es ≡ Some v → sum_by g es ≡ sum_by g (remove_entry (nat_eq a) es) + g (a, v))
+          → g e + sum_by g es ≡ sum_by g (cond b es (e ∷ remove_entry (nat_eq a) es)) + g (a, v)
+      by true s k r =
+          let old : g e ≡ g (a, v) = ap (λ (n : ℕ). g (n, e.1)) (sym (eqb-true a e.0 s)) ∙ ap (λ (us : List ℕ). g (a, us)) (value_is k) in
+          omega (arith, old)
+      by false s k r = let x = sum_by-cons g e (remove_entry (nat_eq a) es) in omega (arith, r k, x)
+
+-- ---- one more, or less
+
+-- of a pair p of one cell
+module _ (p : RangePair) (one : single_pair p.first p.reader ≡ p) where
+  weight_one : (f : RangePair → ℕ) → weight f (p.first, p.reader ∷ []) ≡ f p
+  weight_one f = sum_by-cons f (single_pair p.first p.reader) [] ∙ ap (λ n. n + 0) (ap f one) ∙ omega arith
+
+  -- a first reader
+  pub more_of_new : {S : Type 0} (old m n : HashMap ℕ (List ℕ) S) (v : List ℕ) (before : Option (List ℕ)) → m ≡ old → get nat_eq old p.first ≡ None → v ≡ p.reader ∷ []
+      → before ≡ get nat_eq m p.first → PutsEntry nat_eq m n p.first v before → HasPairMore p (pairs_of old.entries) (pairs_of n.entries)
+  more_of_new old m n v before same none first e puts f =
+      let vacant : before ≡ None = e ∙ ap (λ o. get nat_eq o p.first) same ∙ none in
+      let put : IsPermutation ((p.first, v) ∷ m.entries) n.entries = subst (PutsEntry nat_eq m n p.first v) vacant puts in
+      let x = sum_by_pushed (weight f) (p.first, v) m.entries n.entries put in
+      let y : weight f (p.first, v) ≡ f p = ap (λ (us : List ℕ). weight f (p.first, us)) first ∙ weight_one f in
+      let s : sum_by f (pairs_of old.entries) ≡ sum_by (weight f) m.entries = sum_pairs f old.entries ∙ ap (λ o. sum_by (weight f) o.entries) (sym same) in
+      let t = sum_pairs f n.entries in
+      omega (arith, x, y, s, t)
+
+  -- one more reader
+  pub more_of_few : (v w : List ℕ) (es fs : Entries) → lookup (nat_eq p.first) es ≡ Some v → w ≡ v ++ p.reader ∷ [] → fs ≡ set_value (nat_eq p.first) es w → HasPairMore p (pairs_of es) (pairs_of fs)
+  more_of_few v w es fs h e put f =
+      let x = set_sum (weight f) p.first v w es h in
+      let y : weight f (p.first, w) ≡ weight f (p.first, v) + f p =
+      ap (λ (us : List ℕ). weight f (p.first, us)) e ∙ ap (sum_by f) (map-append (single_pair p.first) v (p.reader ∷ []))
+      ∙ sum_by_push f (pairs_at p.first v) (single_pair p.first p.reader) ∙ ap (λ n. weight f (p.first, v) + n) (ap f one) in
+      let s = sum_pairs f es in
+      let t : sum_by f (pairs_of fs) ≡ sum_by (weight f) (set_value (nat_eq p.first) es w) = sum_pairs f fs ∙ ap (sum_by (weight f)) put in
+      omega (arith, x, y, s, t)
+
+  -- one of some readers
+  pub less_of_few : (v w : List ℕ) (es fs : Entries) → lookup (nat_eq p.first) es ≡ Some v → IsPermutation v (p.reader ∷ w) → fs ≡ set_value (nat_eq p.first) es w → HasPairMore p (pairs_of fs) (pairs_of es)
+  less_of_few v w es fs h e put f =
+      let x = set_sum (weight f) p.first v w es h in
+      let y : weight f (p.first, v) ≡ f p + weight f (p.first, w) =
+      sym (sum_by-IsPermutation f (pairs_at p.first v) (pairs_at p.first (p.reader ∷ w)) (IsPermutation-map (single_pair p.first) v (p.reader ∷ w) e))
+      ∙ sum_by-cons f (single_pair p.first p.reader) (pairs_at p.first w) ∙ ap (λ n. n + weight f (p.first, w)) (ap f one) in
+      let s = sum_pairs f es in
+      let t : sum_by f (pairs_of fs) ≡ sum_by (weight f) (set_value (nat_eq p.first) es w) = sum_pairs f fs ∙ ap (sum_by (weight f)) put in
+      omega (arith, x, y, s, t)
+
+  -- the last reader
+  pub less_of_one : (es fs : Entries) → lookup (nat_eq p.first) es ≡ Some (p.reader ∷ []) → IsPermutation (remove_entry (nat_eq p.first) es) fs → HasPairMore p (pairs_of fs) (pairs_of es)
+  less_of_one es fs h moved f =
+      let x = removed_sum (weight f) p.first (p.reader ∷ []) es h in
+      let y = sum_by-IsPermutation (weight f) (remove_entry (nat_eq p.first) es) fs moved in
+      let s = sum_pairs f es in
+      let t = sum_pairs f fs in
+      omega (arith, x, y, s, t, weight_one f)
+
+-- the same readers
+pub same_few : (a : ℕ) (v w : List ℕ) (es fs : Entries) → lookup (nat_eq a) es ≡ Some v → w ≡ v → fs ≡ set_value (nat_eq a) es w → pairs_of fs ≡ pairs_of es
+same_few a v w es fs h e put = ap pairs_of (put ∙ ap (set_value (nat_eq a) es) e ∙ set_value_same (nat_eq a) es v h)
+
+-- ---- whether one of them passes a test
+
+-- the readers of a cell
+abbrev readers_at : Entries → ℕ → List ℕ
+readers_at es a = unwrap_or (lookup (nat_eq a) es) []
+
+any_at : (t : RangePair → Bool) (b : Bool) (k r : ℕ) → ((x : ℕ) → t (single_pair k x) ≡ (b && is_at (nat_cmp r) x)) → (rs : List ℕ) → list_any t (pairs_at k rs) ≡ (b && has_cell rs r)
+any_at t true k r h [] = refl
+any_at t false k r h [] = refl
+any_at t true k r h (x ∷ xs) = rw (h x, any_at t true k r h xs) refl
+any_at t false k r h (x ∷ xs) = rw (h x, any_at t false k r h xs) refl
+
+-- a test that only the pair of the cell a and the reader r passes
+module _ (t : RangePair → Bool) (a r : ℕ) (one : (k x : ℕ) → t (single_pair k x) ≡ (nat_eq a k && is_at (nat_cmp r) x)) where
+  at_key : (b : Bool) (e : ℕ × List ℕ) → nat_eq a e.0 ≡ b → list_any t (pairs_at e.0 e.1) ≡ (b && has_cell e.1 r)
+  at_key b e s = any_at t b e.0 r (λ x. one e.0 x ∙ ap (λ c. c && is_at (nat_cmp r) x) s) e.1
+
+  none_at_others : (es : Entries) → AllByRecursion (λ k. nat_eq a k ≡ false) (keys_of es) → list_any t (pairs_of es) ≡ false
+  none_at_others [] l = refl
+  none_at_others (e ∷ es) l = list_any-append t (pairs_at e.0 e.1) (pairs_of es) ∙ or_from _ _ (at_key false e l.0) (none_at_others es l.1)
+
+  any_of_pairs : (es : Entries) → IsDistinct nat_eq (keys_of es) → list_any t (pairs_of es) ≡ has_cell (readers_at es a) r
+  any_of_pairs [] d = refl
+  any_of_pairs (e ∷ es) d =
+      list_any-append t (pairs_at e.0 e.1) (pairs_of es) ∙ by (nat_eq a e.0) refl (any_of_pairs es (IsDistinct-tail nat_eq e.0 (keys_of es) d))
+    where
+      by : (b : Bool) → nat_eq a e.0 ≡ b → list_any t (pairs_of es) ≡ has_cell (readers_at es a) r
+          → (list_any t (pairs_at e.0 e.1) || list_any t (pairs_of es)) ≡ has_cell (unwrap_or (cond b (Some e.1) (lookup (nat_eq a) es)) []) r
+      by true s i =
+          let others = subst (λ (k : ℕ). AllByRecursion (λ y. nat_eq k y ≡ false) (keys_of es)) (sym (eqb-true a e.0 s)) (IsDistinct-head nat_eq e.0 (keys_of es) d) in
+          ap (λ c. c || list_any t (pairs_of es)) (at_key true e s) ∙ ap (λ c. has_cell e.1 r || c) (none_at_others es others) ∙ or-false (has_cell e.1 r)
+      by false s i = ap (λ c. c || list_any t (pairs_of es)) (at_key false e s) ∙ i
+
+same_one : (a r k x : ℕ) → is_same (single_pair a r) (single_pair k x) ≡ (nat_eq a k && is_at (nat_cmp r) x)
+same_one a r k x = grind (arith, nat_tests)
+
+abbrev cell_alone : ℕ → Area
+cell_alone k = record { first = k; last = k }
+
+in_itself : (k : ℕ) → is_within (cell_alone k) k ≡ true
+in_itself k =
+    let same : (n : ℕ) → nat_le n n ≡ true = λ n. le-leb n n (omega arith) in
+    let row = same (row_of k) in
+    let column = same (column_of k) in
+    rw (row, column) refl
+
+alone : (k a : ℕ) → is_within (cell_alone k) a ≡ nat_eq a k
+alone k a = by (is_within (cell_alone k) a) (nat_eq a k) refl refl
+  where
+    by : (b c : Bool) → is_within (cell_alone k) a ≡ b → nat_eq a k ≡ c → b ≡ c
+    by true true h e = refl
+    by false false h e = refl
+    by true false h e =
+        let between = within_between (cell_alone k) a h in
+        absurd (true≢false (sym (eq-eqb a k (omega (arith, between.0, between.1))) ∙ e))
+    by false true h e = absurd (true≢false (sym (ap (λ (n : ℕ). is_within (cell_alone k) n) (eqb-true a k e) ∙ in_itself k) ∙ h))
+
+reads_one : (a r k x : ℕ) → pair_reads a r (single_pair k x) ≡ (nat_eq a k && is_at (nat_cmp r) x)
+reads_one a r k x = ap (λ b. b && (x == r)) (alone k a) ∙ ap (λ b. nat_eq a k && b) (turn_test x r ∙ sym (is_at-eq r x))
+
+same_of_pairs : (p : RangePair) → single_pair p.first p.reader ≡ p → (es : Entries) → IsDistinct nat_eq (keys_of es) → list_any (is_same p) (pairs_of es) ≡ has_cell (readers_at es p.first) p.reader
+same_of_pairs p one es d =
+    ap (λ (q : RangePair). list_any (is_same q) (pairs_of es)) (sym one) ∙ any_of_pairs (is_same (single_pair p.first p.reader)) p.first p.reader (same_one p.first p.reader) es d
+
+-- the pair is not there
+pub none_in_few : (p : RangePair) → single_pair p.first p.reader ≡ p → (v : List ℕ) (es : Entries) → IsDistinct nat_eq (keys_of es) → lookup (nat_eq p.first) es ≡ Some v → has_cell v p.reader ≡ false → list_any (is_same p) (pairs_of es) ≡ false
+none_in_few p one v es d h none = same_of_pairs p one es d ∙ ap (λ (o : Option (List ℕ)). has_cell (unwrap_or o []) p.reader) h ∙ none
+
+pub none_without : (p : RangePair) → single_pair p.first p.reader ≡ p → (es : Entries) → IsDistinct nat_eq (keys_of es) → lookup (nat_eq p.first) es ≡ None → list_any (is_same p) (pairs_of es) ≡ false
+none_without p one es d h = same_of_pairs p one es d ∙ ap (λ (o : Option (List ℕ)). has_cell (unwrap_or o []) p.reader) h
+
+pub reads_of_few : (a r : ℕ) (v : List ℕ) (es : Entries) → IsDistinct nat_eq (keys_of es) → lookup (nat_eq a) es ≡ Some v → list_any (pair_reads a r) (pairs_of es) ≡ has_cell v r
+reads_of_few a r v es d h = any_of_pairs (pair_reads a r) a r (reads_one a r) es d ∙ ap (λ (o : Option (List ℕ)). has_cell (unwrap_or o []) r) h
+
+pub reads_without : (a r : ℕ) (es : Entries) → IsDistinct nat_eq (keys_of es) → lookup (nat_eq a) es ≡ None → list_any (pair_reads a r) (pairs_of es) ≡ false
+reads_without a r es d h = any_of_pairs (pair_reads a r) a r (reads_one a r) es d ∙ ap (λ (o : Option (List ℕ)). has_cell (unwrap_or o []) r) h
+
+-- ---- pairs of one cell, and others
+
+apart : (p : RangePair) (k x : ℕ) → (p.first == p.last) ≡ false → is_same p (single_pair k x) ≡ false
+apart p k x n = grind (arith, nat_tests)
+
+pub no_single : (p : RangePair) → (p.first == p.last) ≡ false → (es : Entries) → list_any (is_same p) (pairs_of es) ≡ false
+no_single p n [] = refl
+no_single p n (e ∷ es) = list_any-append (is_same p) (pairs_at e.0 e.1) (pairs_of es) ∙ or_from _ _ (any_at (is_same p) false e.0 0 (λ x. apart p e.0 x n) e.1) (no_single p n es)
+
+pub single_is : (p : RangePair) → (p.first == p.last) ≡ true → single_pair p.first p.reader ≡ p
+single_is p e = ap (λ (l : ℕ). record { first = p.first; last = l; reader = p.reader }) (eqb-true p.first p.last e)

@@ -1,0 +1,64 @@
+-- The readers of one cell: one more, one less, and whether a cell is among them.
+use Rattle.std.proofs.Common.{◌≡◌, ◌==◌, ℕ, ◌<◌, ◌≤◌, ◌+◌, Bool, true, false, ◌||◌, cond, List, [], ◌∷◌, ◌++◌, length, take, get_or, Option, Some, None, refl, sym, ap, subst, ◌∙◌, arith, nat_lt}
+use Rattle.std.specs.Ordering.{nat_cmp}
+use Rattle.std.specs.Option.{unwrap_or}
+use Rattle.std.specs.List.{position, position_or_len, swap_remove}
+use Rattle.std.specs.List.Sorted.{IsPermutation}
+use Rattle.std.specs.BTreeMap.{is_at}
+use Rattle.std.proofs.lemmas.Bool.{true≢false, or_from, ltb-false, ltb-true, eqb-true, eq-eqb}
+use Rattle.std.proofs.lemmas.List.Folds.{list_any_more}
+use Rattle.std.proofs.lemmas.List.Sums.{passes_at_first, fails_before_first}
+use Rattle.std.proofs.lemmas.List.Sorted.{IsPermutation-cons, IsPermutation-trans, IsPermutation-to_front, IsPermutation-middle, IsPermutation-swap_remove}
+use Rattle.std.proofs.Math.Bool.{or_assoc}
+use Rattle.wi_values.proofs.Order.{turn_test, is_at-eq}
+use Rattle.wi_ranges.specs.Inner.Rising.{has_cell}
+use Rattle.wi_ranges.proofs.RisingLemmas.{has_nowhere}
+
+-- ---- where a cell stands
+
+abbrev is_cell : ℕ → ℕ → Bool
+is_cell c x = x == c
+
+pub place_found : (xs : List ℕ) (c : ℕ) (o : Option ℕ) (i d : ℕ) → o ≡ position (is_cell c) xs → o ≡ Some i → get_or xs i d ≡ c
+place_found xs c o i d e f = by (nat_lt (position_or_len (is_cell c) xs) (length xs)) refl (sym e ∙ f)
+  where
+    by : (b : Bool) → nat_lt (position_or_len (is_cell c) xs) (length xs) ≡ b → cond b (Some (position_or_len (is_cell c) xs)) None ≡ Some i → get_or xs i d ≡ c
+    by true l s =
+        let here = passes_at_first (is_cell c) xs d (ltb-true _ _ l) in
+        ap (λ (j : ℕ). get_or xs j d) (sym (ap (λ (p : Option ℕ). unwrap_or p 0) s)) ∙ eqb-true _ c here
+    by false l s = let k = s in cc
+
+pub place_none : (xs : List ℕ) (c : ℕ) (o : Option ℕ) → o ≡ position (is_cell c) xs → o ≡ None → has_cell xs c ≡ false
+place_none xs c o e f = by (nat_lt (position_or_len (is_cell c) xs) (length xs)) refl (sym e ∙ f)
+  where
+    by : (b : Bool) → nat_lt (position_or_len (is_cell c) xs) (length xs) ≡ b → cond b (Some (position_or_len (is_cell c) xs)) None ≡ None → has_cell xs c ≡ false
+    by true l s = let k = s in cc
+    by false l s =
+        let long : length xs ≤ position_or_len (is_cell c) xs = ltb-false _ _ l in
+        has_nowhere xs c (λ k m g. true≢false (sym (eq-eqb _ c g) ∙ fails_before_first (is_cell c) xs k 0 (omega (arith, m, long))))
+
+-- ---- one less
+
+pub first_gone : (c last : ℕ) (old new : List ℕ) → old ≡ new ++ last ∷ [] → IsPermutation (c ∷ old) (c ∷ last ∷ new)
+first_gone c last old new e = IsPermutation-cons c old (last ∷ new) (subst (λ (xs : List ℕ). IsPermutation xs (last ∷ new)) (sym e) (IsPermutation-to_front new last))
+
+pub other_gone : (first c i x : ℕ) (old new : List ℕ) → i < length old → x ≡ get_or old i x → x ≡ c → new ≡ swap_remove old i x → IsPermutation (first ∷ old) (c ∷ first ∷ new)
+other_gone first c i x old new l e s n =
+    let gone : IsPermutation old (c ∷ new) = subst (λ (us : List ℕ). IsPermutation old (c ∷ us)) (sym n)
+    (subst (λ (y : ℕ). IsPermutation old (y ∷ swap_remove old i x)) s (IsPermutation-swap_remove old i x l e)) in
+    IsPermutation-trans (first ∷ old) (first ∷ c ∷ new) (c ∷ first ∷ new) (IsPermutation-cons first old (c ∷ new) gone) (IsPermutation-middle (first ∷ []) c new)
+
+pub not_there : (first c : ℕ) (others : List ℕ) → (first == c) ≡ false → has_cell others c ≡ false → has_cell (first ∷ others) c ≡ false
+not_there first c others n h = or_from _ _ (is_at-eq c first ∙ turn_test c first ∙ n) h
+
+-- ---- put into a set
+
+pub one_more_in : (cells : List ℕ) (i x r : ℕ) (old mid new : Bool) → i < length cells → x ≡ get_or cells i x → new ≡ (mid || r == x) → mid ≡ (old || has_cell (take i cells) r) → new ≡ (old || has_cell (take (i + 1) cells) r)
+one_more_in cells i x r old mid new l e f g =
+    f ∙ ap (λ b. b || r == x) g ∙ or_assoc old _ _
+    ∙ ap (λ b. old || (has_cell (take i cells) r || b)) (sym (is_at-eq r x) ∙ ap (λ (y : ℕ). is_at (nat_cmp r) y) e)
+    ∙ ap (λ b. old || b) (sym (list_any_more (is_at (nat_cmp r)) cells i x l))
+
+pub first_and_others : (first r : ℕ) (others : List ℕ) (old mid new : Bool) → mid ≡ (old || r == first) → new ≡ (mid || has_cell others r) → new ≡ (old || has_cell (first ∷ others) r)
+first_and_others first r others old mid new e f =
+    f ∙ ap (λ b. b || has_cell others r) (e ∙ ap (λ b. old || b) (sym (is_at-eq r first))) ∙ or_assoc old _ _

@@ -1,0 +1,8 @@
+use Rattle.std.proofs.Common.{◌≡◌, ◌||◌, ℕ, take}
+use Rattle.std.specs.Ordering.{nat_cmp}
+use Rattle.std.specs.BTreeSet.{contains}
+use Rattle.wi_ranges.specs.Inner.Rising.{has_cell}
+use Rattle.wi_ranges.proofs.few.insert_all.Given as goal
+
+abbrev pub invariant-loop-cell : goal.invariant-loop-cell
+invariant-loop-cell l = (r : ℕ) → contains nat_cmp l.set r ≡ (contains nat_cmp l.initial.set r || has_cell (take l.cell-index l.cells) r)

@@ -1,0 +1,113 @@
+//! The readers of one cell, of which there is mostly one.
+
+ghost use Rattle.std.specs.Prelude.{◌≡◌, ◌<◌, ◌==◌, ◌||◌, ◌∷◌, ◌++◌, ◌↔◌, ℕ, [], false, IsTrue, IfSome, IfOk, OnOk, OnErr, length};
+ghost use Rattle.std.specs.List.{position};
+ghost use Rattle.std.specs.List.Sorted.{IsPermutation};
+ghost use Rattle.std.specs.Ordering.{nat_cmp};
+ghost use Rattle.std.specs.BTreeSet.{contains};
+ghost use Rattle.wi_ranges.specs.Inner.Rising.{has_cell};
+
+use crate::rising_set::RisingSet;
+use std::alloc::{AllocError, Global};
+use std::marker::Model;
+use wi_values::Address;
+
+/// How many others there may be. One is taken away by a walk through them.
+const MOST_OTHERS: usize = 64;
+
+/// A cell or more, each any number of times.
+#[derive(Drop)]
+pub struct Few {
+    first: Address,
+    // In any order.
+    others: Vec<Address>,
+}
+
+impl Model for Few {
+    ghost use Rattle.std.specs.Prelude.{List, ℕ, ◌∷◌};
+
+    ghost Value = { List ℕ };
+
+    ghost view = { λ f. f.first ∷ f.others.items };
+}
+
+impl Few {
+    /// One cell. Takes no memory.
+    pub(crate) fn one(alloc: Global, cell: Address) -> Few
+        ensures { result ≡ cell ∷ [] }
+    {
+        Few {
+            first: cell,
+            others: Vec::new(alloc),
+        }
+    }
+
+    /// Puts one more in if there is room for it, and answers whether there is. If memory runs out, all is as before.
+    pub(crate) fn add(&mut self, cell: Address) -> Result<bool, AllocError>
+        ensures more { IfOk result (λ added. IsTrue added → self.new ≡ self.old ++ cell ∷ []) }
+        ensures same { IfOk result (λ added. added ≡ false → self.new ≡ self.old) }
+        ensures err { OnErr result (self.new ≡ self.old) }
+    {
+        if self.others.len() >= MOST_OTHERS {
+            return Ok(false);
+        }
+        self.others.push(cell)?;
+        Ok(true)
+    }
+
+    /// Whether there is this one alone.
+    pub(crate) fn is_only(&self, cell: Address) -> bool
+        ensures { IsTrue result ↔ (self.now ≡ cell ∷ []) }
+    {
+        self.others.is_empty() && self.first == cell
+    }
+
+    /// Takes one such cell away if there is one, and answers whether there was. One is left.
+    pub(crate) fn remove(&mut self, cell: Address) -> bool
+        requires { self.old ≡ cell ∷ [] → ⊥ }
+        ensures less { IsTrue result → IsPermutation self.old (cell ∷ self.new) }
+        ensures none { result ≡ false → has_cell self.old cell ≡ false }
+        ensures same { result ≡ false → self.new ≡ self.old }
+    {
+        if self.first == cell {
+            match self.others.pop() {
+                Some(last) => self.first = last,
+                None => unreachable!(),
+            }
+            return true;
+        }
+        match place_of(&self.others, cell) {
+            Some(place) => {
+                let _ = self.others.swap_remove(place);
+                true
+            }
+            None => false,
+        }
+    }
+
+    /// Puts them into a set. If memory runs out, some of them may be in it.
+    pub(crate) fn add_to(&self, set: &mut RisingSet) -> Result<(), AllocError>
+        ensures { OnOk result ((r : ℕ) → contains nat_cmp set.new r ≡ (contains nat_cmp set.old r || has_cell self.now r)) }
+    {
+        set.insert(self.first)?;
+        insert_all(set, &self.others)
+    }
+}
+
+/// The first place at which a cell stands, if it does.
+fn place_of(cells: &[Address], cell: Address) -> Option<usize>
+    ensures value { result ≡ position (λ c. c == cell) cells.now }
+    ensures within { IfSome result (λ place. place < length cells.now) }
+{
+    cells.iter().position(|each| *each == cell)
+}
+
+/// Puts cells into a set. If memory runs out, some of them may be in it.
+fn insert_all(set: &mut RisingSet, cells: &[Address]) -> Result<(), AllocError>
+    ensures { OnOk result ((r : ℕ) → contains nat_cmp set.new r ≡ (contains nat_cmp set.old r || has_cell cells.now r)) }
+{
+    for cell in cells {
+        set.insert(*cell)?;
+    }
+    Ok(())
+}
