@@ -17,7 +17,7 @@ use Rattle.wi_edit_log.proofs.First.{only_first, same_first}
 abbrev has : List ℕ → ℕ → Bool
 has xs a = list_any (λ x. a == x) xs
 
-same_test : (b c : Bool) → (b ≡ true → c ≡ true) → (c ≡ true → b ≡ true) → b ≡ c
+pub same_test : (b c : Bool) → (b ≡ true → c ≡ true) → (c ≡ true → b ≡ true) → b ≡ c
 same_test true c h k = sym (h refl)
 same_test false true h k = k refl
 same_test false false h k = refl
@@ -36,7 +36,7 @@ row_of_place r c h = omega arith
 pub column_of_place : (r c : ℕ) → c < columns → column_of (place r c) ≡ c
 column_of_place r c h = omega arith
 
-place_of : (a : ℕ) → a ≡ place (row_of a) (column_of a)
+pub place_of : (a : ℕ) → a ≡ place (row_of a) (column_of a)
 place_of a = omega arith
 
 pub column_within : (a : ℕ) → column_of a < columns

@@ -1,14 +1,55 @@
 -- Runs of edits of one session, and what a step of the search from the last edit to earlier ones does.
-use Rattle.std.proofs.Common.{◌≡◌, ◌∙◌, ℕ, zero, suc, ◌+◌, ◌-◌, ◌==◌, ◌≤◌, ◌<◌, ◌⊎◌, inl, inr, Bool, true, false, not, ◌||◌, ◌&&◌, List, ◌∷◌, length, drop, get_or, max, Option, None, refl, ap, sym, subst, arith}
+use Rattle.std.proofs.Common.{◌≡◌, ◌∙◌, ℕ, zero, suc, ◌+◌, ◌-◌, ◌==◌, ◌≤◌, ◌<◌, ◌⊎◌, inl, inr, Bool, true, false, not, ◌||◌, ◌&&◌, List, [], ◌∷◌, ◌++◌, length, take, drop, get_or, max, Option, None, refl, ap, sym, subst, arith}
 use Rattle.std.proofs.Math.Bool.{and-false}
-use Rattle.std.proofs.lemmas.List.{drop_more, drop_all, get_or_default}
+use Rattle.std.proofs.lemmas.List.{drop_more, drop_all, get_or_append_left, get_or_default, get_or_push, get_or-take, length-take, length_push}
 use Rattle.std.proofs.lemmas.Bool.{cases_eq, eq-eqb, ne_eqb}
 use Rattle.wi_values.specs.Address.{Area}
 use Rattle.wi_edit_log.specs.EditLog.{have_cell}
 use Rattle.wi_edit_log.specs.Inner.First.{IsFirst, in_each, sooner}
 use Rattle.wi_edit_log.specs.Inner.Edits.{AreInRuns, IsInRun, is_named_by_others, is_wanted_of_others}
+use Rattle.wi_edit_log.specs.Inner.Lone.{is_lone}
 use Rattle.wi_edit_log.specs.declared.edit.Edit.{Edit}
 use Rattle.wi_edit_log.proofs.First.{no_first, same_first, sooner_first}
+
+-- ---- a log with one edit more, or with fewer
+
+module _ (es ys : List Edit) (i : ℕ) (e : Edit) (r : IsInRun es i e) (same : (k : ℕ) (d : Edit) → k < i → get_or ys k d ≡ get_or es k d) where
+  in_run_of : IsInRun ys i e
+  in_run_of = record {
+    begins = r.begins;
+    one_session = λ k d l m. ap (λ (y : Edit). y.session) (same k d m) ∙ r.one_session k d l m;
+    lone = r.lone;
+    others_lone = λ k d l m. ap (λ (y : Edit). is_lone y.named) (same k d m) ∙ r.others_lone k d l m;
+  }
+
+pub runs_of_more : (es : List Edit) (x : Edit) → AreInRuns es → IsInRun es (length es) x → AreInRuns (es ++ x ∷ [])
+runs_of_more es x runs last i d l = by (cases_eq i (length es))
+  where
+    same : (j : ℕ) → j ≤ length es → (k : ℕ) (d : Edit) → k < j → get_or (es ++ x ∷ []) k d ≡ get_or es k d
+    same j m k d o = get_or_append_left es (x ∷ []) d k (omega (arith, m, o))
+
+    within : (i ≡ length es → Prim.⊥) → i < length es
+    within f = not_last i (length es) (length (es ++ x ∷ [])) l (length_push es x) f
+      where
+        not_last : (i n m : ℕ) → i < m → m ≡ n + 1 → (i ≡ n → Prim.⊥) → i < n
+        not_last i n m l e f = omega (arith, l, e, f)
+
+    by : (i ≡ length es) ⊎ (i ≡ length es → Prim.⊥) → IsInRun (es ++ x ∷ []) i (get_or (es ++ x ∷ []) i d)
+    by (inl e) =
+        subst (IsInRun (es ++ x ∷ []) i) (sym (get_or_push es x d i (sym e)))
+        (subst (λ j. IsInRun (es ++ x ∷ []) j x) (sym e) (in_run_of es (es ++ x ∷ []) (length es) x last (same (length es) (omega arith))))
+    by (inr f) =
+        let m = within f in
+        subst (IsInRun (es ++ x ∷ []) i) (sym (get_or_append_left es (x ∷ []) d i m))
+        (in_run_of es (es ++ x ∷ []) i (get_or es i d) (runs i d m) (same i (omega (arith, m))))
+
+pub runs_of_fewer : (es : List Edit) (n : ℕ) → AreInRuns es → AreInRuns (take n es)
+runs_of_fewer es n runs i d l =
+    let short = length-take n es in
+    let low : i < n = omega (arith, l, short) in
+    let within : i < length es = omega (arith, l, short) in
+    subst (IsInRun (take n es) i) (sym (get_or-take n es i d low))
+    (in_run_of es (take n es) i (get_or es i d) (runs i d within) (λ k c m. get_or-take n es k c (omega (arith, m, low))))
 
 -- ---- the session's own edits
 
@@ -27,7 +68,7 @@ stepped_over es d s a (suc n) j i e l h =
     ∙ stepped_over es d s a n (j + 1) i (omega (arith, e)) l (λ k c m o. h k c (omega (arith, m)) o)
 
 -- the run of the edit before the place i
-run_before : (es : List Edit) (x : Edit) (s i : ℕ) → AreInRuns es → i < length es → x ≡ get_or es i x → x.session ≡ s → (x.run ≤ i) × ((k : ℕ) (d : Edit) → x.run ≤ k → k < i + 1 → (get_or es k d).session ≡ s)
+pub run_before : (es : List Edit) (x : Edit) (s i : ℕ) → AreInRuns es → i < length es → x ≡ get_or es i x → x.session ≡ s → (x.run ≤ i) × ((k : ℕ) (d : Edit) → x.run ≤ k → k < i + 1 → (get_or es k d).session ≡ s)
 run_before es x s i runs l at own =
     let r : IsInRun es i x = subst (IsInRun es i) (sym at) (runs i x l) in
     (r.begins, λ k d m o. in_run r k d m o (cases_eq k i))
@@ -54,7 +95,7 @@ own_stepped_over es x s from place next wanted o runs l m at own e h =
 
 -- ---- an edit of another session
 
-reordered : (w t n o : Bool) → t ≡ false → (w && ((not t && n) || o)) ≡ ((w && o) || (n && w))
+pub reordered : (w t n o : Bool) → t ≡ false → (w && ((not t && n) || o)) ≡ ((w && o) || (n && w))
 reordered true t true true h = rw h
 reordered true t true false h = rw h
 reordered true t false true h = rw h

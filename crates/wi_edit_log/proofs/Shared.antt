@@ -1,15 +1,16 @@
 -- Which cells are in rectangles, one and many.
-use Rattle.std.proofs.Common.{◌≡◌, ◌∙◌, ℕ, ◌+◌, ◌≤◌, ◌<◌, ◌||◌, ◌&&◌, List, [], length, take, get_or, Option, None, Bool, true, false, max, nat_le, subst, refl, ap, sym, arith}
-use Rattle.std.proofs.Math.Bool.{and-false, and_comm, and-or_distrib_left, and-or_distrib_right}
+use Rattle.std.proofs.Common.{◌==◌, ◌∷◌, Some, ◌≡◌, ◌∙◌, ℕ, ◌+◌, ◌≤◌, ◌<◌, ◌||◌, ◌&&◌, List, [], length, take, get_or, Option, None, Bool, true, false, max, nat_le, subst, refl, ap, sym, arith}
+use Rattle.std.proofs.Math.Bool.{and-false, and_comm, and-or_distrib_left, and-or_distrib_right, or-false}
 use Rattle.std.specs.Bool.{then_some}
-use Rattle.std.proofs.lemmas.Bool.{and_parts, and_from, both_ways, leb-true, le-leb}
+use Rattle.std.proofs.lemmas.Bool.{and_parts, and_from, both_ways, eq-eqb, eqb-true, leb-true, le-leb}
 use Rattle.std.proofs.lemmas.List.{take_all}
 use Rattle.std.proofs.lemmas.List.Folds.{list_any_more}
 use Rattle.wi_values.specs.Address.{Area, columns, place, row_of, column_of, is_within}
 use Rattle.wi_edit_log.specs.EditLog.{have_cell}
 use Rattle.wi_edit_log.specs.Inner.First.{IsFirst, in_both, in_each, in_one, sooner}
 use Rattle.wi_edit_log.proofs.First.{no_first, same_first, sooner_first}
-use Rattle.wi_edit_log.proofs.Least.{row_of_place, column_of_place, column_within}
+use Rattle.wi_edit_log.specs.Inner.Lone.{only_cell}
+use Rattle.wi_edit_log.proofs.Least.{row_of_place, column_of_place, column_within, place_of, same_test}
 
 -- ---- one and some of the others
 
@@ -111,3 +112,44 @@ first_shared r s row column at shared found e f here is gives =
     by : (b : Bool) → in_both r s (place row column) ≡ b → IsFirst (in_both r s) (then_some b (place row column))
     by true t = record { passes = t; least = λ a h. (corner_shared r s row column a e f h).0 }
     by false t = record { passes = tt; least = λ a h. both_ways (in_both r s (place row column)) t (corner_shared r s row column a e f h).1 }
+
+-- ---- rectangles that are one cell
+
+same_cell : (r : Area) (a : ℕ) → r.first ≡ r.last → is_within r a ≡ true → a ≡ r.first
+same_cell r a e h =
+    let p = within_parts r a h in
+    let row : row_of a ≡ row_of r.first = (let same = ap row_of e in omega (arith, p.0, p.1, same)) in
+    let column : column_of a ≡ column_of r.first = (let same = ap column_of e in omega (arith, p.2, p.3, same)) in
+    place_of a ∙ ap (λ k. place k (column_of a)) row ∙ ap (place (row_of r.first)) column ∙ sym (place_of r.first)
+
+own_cell : (r : Area) → r.first ≡ r.last → is_within r r.first ≡ true
+own_cell r e =
+    let row = ap row_of e in
+    let column = ap column_of e in
+    within_from r r.first (row_of r.first) (column_of r.first) refl refl (omega arith) (omega (arith, row)) (omega arith) (omega (arith, column))
+
+of_then : (b : Bool) (x y : ℕ) → then_some b x ≡ Some y → (b ≡ true) × (x ≡ y)
+of_then true x y e = (refl, cc)
+of_then false x y e = cc
+
+-- their one cell is the only one
+pub only_one : (areas : List Area) (at a : ℕ) → only_cell areas ≡ Some at → have_cell areas a ≡ (at == a)
+only_one [] at a e = cc
+only_one (r ∷ []) at a e =
+    let p = of_then (r.first == r.last) r.first at e in
+    let one = eqb-true r.first r.last p.0 in
+    same_test (have_cell (r ∷ []) a) (at == a)
+    (λ h. eq-eqb at a (sym (same_cell r a one (sym (or-false (is_within r a)) ∙ h) ∙ p.1)))
+    (λ h. ap (λ k. is_within r k || false) (sym (p.1 ∙ eqb-true at a h)) ∙ ap (λ b. b || false) (own_cell r one))
+only_one (r ∷ s ∷ rs) at a e = cc
+
+-- what the test for it finds
+pub no_only : (areas : List Area) → (length areas ≡ 1 → Prim.⊥) → None ≡ only_cell areas
+no_only [] n = refl
+no_only (r ∷ []) n = absurd (n refl)
+no_only (r ∷ s ∷ rs) n = refl
+
+pub an_only : (areas : List Area) (r : Area) → length areas ≡ 1 → r ≡ get_or areas 0 r → then_some (r.first == r.last) r.first ≡ only_cell areas
+an_only [] r l e = absurd (omega (arith, l))
+an_only (s ∷ []) r l e = ap (λ (t : Area). then_some (t.first == t.last) t.first) e
+an_only (s ∷ t ∷ rs) r l e = absurd (omega (arith, l))

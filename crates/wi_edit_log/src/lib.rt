@@ -3,6 +3,7 @@
 
 mod edit;
 mod edit_log;
+mod lone;
 mod named;
 mod rising;
 mod search;

@@ -2,6 +2,7 @@
 
 ghost use Rattle.std.specs.Prelude.{◌≡◌, true};
 ghost use Rattle.wi_edit_log.specs.Inner.First.{IsFirst, in_each};
+ghost use Rattle.wi_edit_log.specs.Inner.Lone.{only_cell};
 ghost use Rattle.wi_edit_log.specs.Inner.Rising.{are_rising};
 
 use crate::rising::are_rising;
@@ -59,6 +60,17 @@ impl Named {
         }
     }
 
+    /// The cell that is all of them, if they are one cell.
+    pub(crate) fn only_cell(&self) -> Option<Address>
+        ensures { result ≡ only_cell self.now }
+    {
+        match &self.areas {
+            Areas::One(areas) => only_cell(areas),
+            Areas::Rising(areas) => only_cell(areas),
+            Areas::Any(areas) => only_cell(areas),
+        }
+    }
+
     /// The first cell that they share with others, which may be told to rise. The work is that of `first_between`.
     pub(crate) fn first_shared(&self, others: &[Rect], others_rise: bool) -> Option<Address>
         requires { others_rise ≡ true → are_rising others.now ≡ true }
@@ -70,4 +82,15 @@ impl Named {
             Areas::Any(areas) => first_between(areas, false, others, others_rise),
         }
     }
+}
+
+/// The cell that is all of some rectangles, if they are one cell.
+pub(crate) fn only_cell(areas: &[Rect]) -> Option<Address>
+    ensures { result ≡ only_cell areas.now }
+{
+    if areas.len() != 1 {
+        return None;
+    }
+    let area = areas[0];
+    (area.first() == area.last()).then_some(area.first())
 }

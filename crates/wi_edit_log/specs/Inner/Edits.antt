@@ -1,8 +1,9 @@
 -- What the code keeps of an edit.
-use Rattle.std.specs.Prelude.{◌≡◌, ℕ, ◌≤◌, ◌<◌, Bool, ◌==◌, ◌&&◌, not, List, length, map, slice_index_or}
+use Rattle.std.specs.Prelude.{◌≡◌, ℕ, ◌+◌, ◌≤◌, ◌<◌, Bool, true, ◌==◌, ◌&&◌, not, nat_lt, List, length, map, slice_index_or}
 use Rattle.std.specs.List.{list_any}
 use Rattle.wi_values.specs.Address.{Area}
 use Rattle.wi_edit_log.specs.EditLog.{Entry, have_cell}
+use Rattle.wi_edit_log.specs.Inner.Lone.{is_lone}
 use Rattle.wi_edit_log.specs.declared.edit.Edit.{Edit}
 
 -- the entry that is kept so
@@ -20,10 +21,13 @@ is_named_by_others es session a = list_any (λ e. not (e.session == session) && 
 abbrev pub is_wanted_of_others : List Edit → ℕ → List Area → ℕ → Bool
 is_wanted_of_others es session wanted a = have_cell wanted a && is_named_by_others es session a
 
--- the run begins at the edit's place i or before, and all from there on to it are its session's
+-- The run begins at the edit's place i or before, and all from there on to it are its session's. Of the edits up to it the last
+-- ones that are counted named one cell alone.
 pub record IsInRun (es : List Edit) (i : ℕ) (e : Edit) : Type 0 where
   pub begins : e.run ≤ i
   pub one_session : (k : ℕ) (d : Edit) → e.run ≤ k → k < i → (slice_index_or es k d).session ≡ e.session
+  pub lone : is_lone e.named ≡ nat_lt 0 e.lone
+  pub others_lone : (k : ℕ) (d : Edit) → i + 1 ≤ k + e.lone → k < i → is_lone (slice_index_or es k d).named ≡ true
 
 -- each edit is in its run
 abbrev pub AreInRuns : List Edit → Type 0

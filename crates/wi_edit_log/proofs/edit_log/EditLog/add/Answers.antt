@@ -1,11 +1,25 @@
-use Rattle.std.proofs.Common.{◌∙◌, ap, sym, subst, arith}
+use Rattle.std.proofs.Common.{◌∙◌, List, ap, sym, subst, arith, rules}
 use Rattle.std.proofs.lemmas.Grind.{common_steps}
 use Rattle.std.proofs.lemmas.Result.{err_from_is_err_and}
-use Rattle.wi_edit_log.specs.Inner.Edits.{AreInRuns, entries_in}
+use Rattle.wi_edit_log.specs.Inner.Edits.{entries_in}
+use Rattle.wi_edit_log.specs.Inner.Noted.{IsKept}
+use Rattle.wi_edit_log.specs.declared.edit.Edit.{Edit}
+use Rattle.wi_edit_log.proofs.Notes.{noted_before_more}
+use Rattle.wi_edit_log.proofs.Runs.{runs_of_more}
 use Rattle.wi_edit_log.proofs.edit_log.EditLog.add.Goals as goal
 
 pub invariant_of-self : goal.invariant_of-self
-invariant_of-self c = subst AreInRuns (sym c.in_err-push.ensures.items) c.self.invariant
+invariant_of-self c =
+    subst (λ (es : List Edit). IsKept es c.self.inside.lone.known c.self.inside.lone.notes.entries) (sym c.in_err-push.ensures.items) c.self.invariant
+
+pub invariant_of-self-2 : goal.invariant_of-self-2
+invariant_of-self-2 c =
+    let old = c.self.inside.edits.items in
+    let edit = c.after-edit.result in
+    subst (λ (es : List Edit). IsKept es c.self.inside.lone.known c.self.inside.lone.notes.entries) (search rules) (record {
+      runs = runs_of_more old edit c.self.invariant.runs (search rules);
+      noted = noted_before_more old c.self.inside.lone.known c.self.inside.lone.notes.entries edit c.self.invariant.noted;
+    })
 
 pub returns-in_err-push-clause-ok : goal.returns-in_err-push-clause-ok
 returns-in_err-push-clause-ok c =

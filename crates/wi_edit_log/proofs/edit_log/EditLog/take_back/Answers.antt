@@ -1,9 +1,16 @@
-use Rattle.std.proofs.Common.{arith}
+use Rattle.std.proofs.Common.{◌≡◌, ◌-◌, length, take, arith}
 use Rattle.std.proofs.lemmas.Grind.{common_steps}
+use Rattle.wi_edit_log.proofs.Notes.{kept_of_fewer}
 use Rattle.wi_edit_log.proofs.edit_log.EditLog.take_back.Goals as goal
 
 pub returns-clause-rest : goal.returns-clause-rest
 returns-clause-rest c = grind (arith, common_steps)
 
 pub invariant_of-self : goal.invariant_of-self
-invariant_of-self c = grind (arith, common_steps)
+invariant_of-self c =
+    let old = c.self.inside.edits.items in
+    let new = c.pop.new.self.items in
+    let rest : new ≡ take (length old - 1) old = grind (arith, common_steps) in
+    let left : c.len.result ≡ length new = grind (arith, common_steps) in
+    kept_of_fewer old new c.self.inside.lone.known c.forget_beyond.new.self.known c.len.result
+    c.self.inside.lone.notes.entries c.forget_beyond.new.self.notes.entries c.self.invariant rest left c.forget_beyond.ensures

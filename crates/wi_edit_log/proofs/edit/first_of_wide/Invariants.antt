@@ -1,0 +1,15 @@
+use Rattle.std.proofs.Common.{◌-◌, ◌≤◌, length, drop}
+use Rattle.wi_edit_log.specs.Inner.Noted.{is_wanted_widely}
+use Rattle.wi_edit_log.specs.Inner.First.{IsFirst}
+use Rattle.wi_edit_log.proofs.edit.first_of_wide.Given as goal
+
+abbrev pub invariant-loop-place : goal.invariant-loop-place
+invariant-loop-place l =
+    record {
+      begins : l.from ≤ l.place;
+      within : l.place ≤ length l.edits;
+      first : IsFirst (is_wanted_widely (drop l.place l.edits) l.session l.wanted) l.first;
+    }
+
+abbrev pub decreases-loop-place : goal.decreases-loop-place
+decreases-loop-place l = l.place - l.from

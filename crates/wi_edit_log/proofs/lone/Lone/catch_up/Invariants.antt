@@ -1,0 +1,9 @@
+use Rattle.std.proofs.Common.{◌≡◌}
+use Rattle.wi_edit_log.specs.Inner.Noted.{AreNoted}
+use Rattle.wi_edit_log.proofs.lone.Lone.catch_up.Given as goal
+
+abbrev pub invariant-loop-known : goal.invariant-loop-known
+invariant-loop-known l = record {
+  same : l.self.known ≡ l.known;
+  noted : AreNoted l.edits l.self.known l.self.notes.entries;
+}
