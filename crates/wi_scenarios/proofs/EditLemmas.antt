@@ -120,6 +120,10 @@ edit_served (Err refusal) s t force e fresh a b c h =
 
 -- ---- the log
 
+-- a log that caught up is the same
+pub same_log : (d : Desk) (log : List Entry) → log ≡ d.log → ◌≡◌ {A = Desk} (record d { log = log }) d
+same_log d log e = ap (λ (es : List Entry). let held : Desk = record d { log = es } in held) e
+
 -- an edit that was put at the end is taken back
 pub taken_back : (log more : List Entry) (x : Entry) → more ≡ log ++ x ∷ [] → take (length more - 1) more ≡ log
 taken_back log more x e = ap (λ (es : List Entry). take (length es - 1) es) e ∙ by log

@@ -31,8 +31,28 @@ pub struct Edit {
 
 /// Edits the sheet and notes it in the log; the cells that may show something else then are pending for each session. An edit
 /// that isn't forced is refused as `Stale` where it names a cell that another session has edited since the current one was last
-/// shown what has changed. The work is that of `first_stale`, of `mark`, of `apply_marked`, and for each session of the rooms for marked cells.
+/// shown what has changed. The work is that of `catch_up`, of `first_stale`, of `mark`, of `apply_marked`, and for each session of the rooms for marked cells.
 pub(crate) fn apply_edit<C: Calculator>(
+    alloc: Global,
+    calculator: &mut C,
+    desk: &mut Desk,
+    edit: Edit,
+    force: bool,
+) -> Result<(), Refusal>
+    requires { IsSound (C.stored calculator.old) desk.old }
+    ensures step { let old = state_of (C.stored calculator.old) desk.old in
+        Serves (λ a. edit_answer old force no_cause (edit_in edit) ≡ a) result old (state_of (C.stored calculator.new) desk.new) [] }
+    ensures adds { AddsOnly C.marked (keys_of edit.contents.items) (state_of (C.stored calculator.old) desk.old)
+        (state_of (C.stored calculator.new) desk.new) (pending_in desk.old) (pending_in desk.new) }
+    ensures refused { OnErr result (pending_in desk.new ≡ pending_in desk.old) }
+    ensures sound { IsSound (C.stored calculator.new) desk.new }
+{
+    desk.log.catch_up(desk.current as u32)?;
+    edit_caught_up(alloc, calculator, desk, edit, force)
+}
+
+/// The same with a log that has caught up for the current session, so that a cell takes one look; the answer is the same without.
+fn edit_caught_up<C: Calculator>(
     alloc: Global,
     calculator: &mut C,
     desk: &mut Desk,

@@ -1,46 +1,45 @@
-use Rattle.std.proofs.Common.{◌∙◌, Ok, rules}
-use Rattle.wi_scenarios.specs.Inner.Held.{state_of, edit_in}
-use Rattle.wi_scenarios.proofs.EditLemmas.{marked_as, all_as, AreTaken, edit_served, sound_taken, adds_taken}
+use Rattle.std.proofs.Common.{◌≡◌, [], subst, sym, rules}
+use Rattle.std.specs.Map.{keys_of}
+use Rattle.wi_scenarios.specs.Answer.{Serves}
+use Rattle.wi_scenarios.specs.Causes.{no_cause}
+use Rattle.wi_scenarios.specs.Edits.{edit_answer}
+use Rattle.wi_scenarios.specs.Pending.{AddsOnly}
+use Rattle.wi_scenarios.specs.Inner.Held.{state_of, pending_in, edit_in, IsSound}
+use Rattle.wi_scenarios.specs.declared.desk.Desk.{Desk}
+use Rattle.wi_scenarios.proofs.EditLemmas.{edit_lacks, same_log}
 use Rattle.wi_scenarios.proofs.edit.apply_edit.Goals as goal
 
-pub edit_with_rooms-requires-clause-marked : goal.edit_with_rooms-requires-clause-marked
-edit_with_rooms-requires-clause-marked g c =
-    all_as g.C.Calculator.marked (g.C.Calculator.stored c.args.calculator.now).sheet c.args.edit.contents.items c.deref-2.result.now c.in_ok-marked.marked.items _ c.deref-2.ensures.value (search rules) c.in_ok-marked.ensures.all
+pub edit_caught_up-requires : goal.edit_caught_up-requires
+edit_caught_up-requires g c =
+    subst (IsSound (g.C.Calculator.stored c.args.calculator.now)) (sym (same_log c.args.desk.now c.catch_up.new.self c.catch_up.ensures)) c.requires
 
-pub returns-in-Ok-clause-step : goal.returns-in-Ok-clause-step
-returns-in-Ok-clause-step g c =
-    let old = state_of (g.C.Calculator.stored c.args.calculator.now) c.args.desk.now in
-    let new = state_of (g.C.Calculator.stored c.edit_with_rooms.new.calculator) (record c.edit_with_rooms.new.desk { sessions = c.take_all.new.self }) in
-    let served = edit_served (Ok tt) old new c.args.force (edit_in c.args.edit) (search rules) c.in-Ok.ensures.beside.scenarios
-    (c.take_all.ensures.sessions ∙ c.in-Ok.ensures.beside.sessions) c.in-Ok.ensures.beside.current c.in-Ok.ensures.edit in
-    search (served)
-
-pub returns-in-Ok-clause-adds : goal.returns-in-Ok-clause-adds
-returns-in-Ok-clause-adds g c =
+pub returns-in_err-catch_up-clause-step : goal.returns-in_err-catch_up-clause-step
+returns-in_err-catch_up-clause-step g c =
     let old = g.C.Calculator.stored c.args.calculator.now in
-    let new = g.C.Calculator.stored c.edit_with_rooms.new.calculator in
-    let taken : AreTaken c.edit_with_rooms.new.desk.sessions c.take_all.new.self = record {
-      sessions = c.take_all.ensures.sessions;
-      lists = c.take_all.ensures.lists;
-      pending = c.take_all.ensures.pending;
-      vacant = c.take_all.ensures.vacant;
-    } in
-    adds_taken g.C.Calculator.marked old new c.args.desk.now c.edit_with_rooms.new.desk c.take_all.new.self c.args.edit.contents.items _
-    c.requires c.in-Ok.ensures.beside
-    (marked_as g.C.Calculator.marked old.sheet c.args.edit.contents.items c.deref-2.result.now c.in_ok-marked.marked.items _ c.deref-2.ensures.value (search rules) c.in_ok-marked.ensures.marked)
-    c.in-Ok.ensures.rooms taken
+    subst (λ (d : Desk). Serves (λ a. edit_answer (state_of old c.args.desk.now) c.args.force no_cause (edit_in c.args.edit) ≡ a) c.from_residual.result (state_of old c.args.desk.now) (state_of old d) [])
+    (sym (same_log c.args.desk.now c.catch_up.new.self c.catch_up.ensures))
+    (edit_lacks c.from_residual.result (state_of old c.args.desk.now) c.args.force (edit_in c.args.edit) c.from_residual.ensures.1)
 
-pub returns-in-Ok-clause-sound : goal.returns-in-Ok-clause-sound
-returns-in-Ok-clause-sound g c =
+pub returns-in_err-catch_up-clause-adds : goal.returns-in_err-catch_up-clause-adds
+returns-in_err-catch_up-clause-adds g c =
     let old = g.C.Calculator.stored c.args.calculator.now in
-    let new = g.C.Calculator.stored c.edit_with_rooms.new.calculator in
-    let taken : AreTaken c.edit_with_rooms.new.desk.sessions c.take_all.new.self = record {
-      sessions = c.take_all.ensures.sessions;
-      lists = c.take_all.ensures.lists;
-      pending = c.take_all.ensures.pending;
-      vacant = c.take_all.ensures.vacant;
-    } in
-    sound_taken g.C.Calculator.marked old new c.args.desk.now c.edit_with_rooms.new.desk c.take_all.new.self c.args.edit.contents.items _
-    c.requires c.in-Ok.ensures.beside
-    (marked_as g.C.Calculator.marked old.sheet c.args.edit.contents.items c.deref-2.result.now c.in_ok-marked.marked.items _ c.deref-2.ensures.value (search rules) c.in_ok-marked.ensures.marked)
-    c.in-Ok.ensures.rooms taken c.in-Ok.ensures.edit.0
+    subst (λ (d : Desk). AddsOnly g.C.Calculator.marked (keys_of c.args.edit.contents.items) (state_of old c.args.desk.now) (state_of old d) (pending_in c.args.desk.now) (pending_in d))
+    (sym (same_log c.args.desk.now c.catch_up.new.self c.catch_up.ensures)) (search rules)
+
+pub returns-in_err-catch_up-clause-sound : goal.returns-in_err-catch_up-clause-sound
+returns-in_err-catch_up-clause-sound g c =
+    subst (IsSound (g.C.Calculator.stored c.args.calculator.now)) (sym (same_log c.args.desk.now c.catch_up.new.self c.catch_up.ensures)) c.requires
+
+pub returns-clause-step : goal.returns-clause-step
+returns-clause-step g c =
+    let old = g.C.Calculator.stored c.args.calculator.now in
+    let new = state_of (g.C.Calculator.stored c.edit_caught_up.new.calculator) c.edit_caught_up.new.desk in
+    subst (λ (d : Desk). Serves (λ a. edit_answer (state_of old d) c.args.force no_cause (edit_in c.args.edit) ≡ a) c.edit_caught_up.result (state_of old d) new [])
+    (same_log c.args.desk.now c.catch_up.new.self c.catch_up.ensures) c.edit_caught_up.ensures.step
+
+pub returns-clause-adds : goal.returns-clause-adds
+returns-clause-adds g c =
+    let old = g.C.Calculator.stored c.args.calculator.now in
+    let new = state_of (g.C.Calculator.stored c.edit_caught_up.new.calculator) c.edit_caught_up.new.desk in
+    subst (λ (d : Desk). AddsOnly g.C.Calculator.marked (keys_of c.args.edit.contents.items) (state_of old d) new (pending_in d) (pending_in c.edit_caught_up.new.desk))
+    (same_log c.args.desk.now c.catch_up.new.self c.catch_up.ensures) c.edit_caught_up.ensures.adds

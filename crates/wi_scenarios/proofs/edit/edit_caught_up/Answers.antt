@@ -1,0 +1,46 @@
+use Rattle.std.proofs.Common.{◌∙◌, Ok, rules}
+use Rattle.wi_scenarios.specs.Inner.Held.{state_of, edit_in}
+use Rattle.wi_scenarios.proofs.EditLemmas.{marked_as, all_as, AreTaken, edit_served, sound_taken, adds_taken}
+use Rattle.wi_scenarios.proofs.edit.edit_caught_up.Goals as goal
+
+pub edit_with_rooms-requires-clause-marked : goal.edit_with_rooms-requires-clause-marked
+edit_with_rooms-requires-clause-marked g c =
+    all_as g.C.Calculator.marked (g.C.Calculator.stored c.args.calculator.now).sheet c.args.edit.contents.items c.deref-2.result.now c.in_ok-marked.marked.items _ c.deref-2.ensures.value (search rules) c.in_ok-marked.ensures.all
+
+pub returns-in-Ok-clause-step : goal.returns-in-Ok-clause-step
+returns-in-Ok-clause-step g c =
+    let old = state_of (g.C.Calculator.stored c.args.calculator.now) c.args.desk.now in
+    let new = state_of (g.C.Calculator.stored c.edit_with_rooms.new.calculator) (record c.edit_with_rooms.new.desk { sessions = c.take_all.new.self }) in
+    let served = edit_served (Ok tt) old new c.args.force (edit_in c.args.edit) (search rules) c.in-Ok.ensures.beside.scenarios
+    (c.take_all.ensures.sessions ∙ c.in-Ok.ensures.beside.sessions) c.in-Ok.ensures.beside.current c.in-Ok.ensures.edit in
+    search (served)
+
+pub returns-in-Ok-clause-adds : goal.returns-in-Ok-clause-adds
+returns-in-Ok-clause-adds g c =
+    let old = g.C.Calculator.stored c.args.calculator.now in
+    let new = g.C.Calculator.stored c.edit_with_rooms.new.calculator in
+    let taken : AreTaken c.edit_with_rooms.new.desk.sessions c.take_all.new.self = record {
+      sessions = c.take_all.ensures.sessions;
+      lists = c.take_all.ensures.lists;
+      pending = c.take_all.ensures.pending;
+      vacant = c.take_all.ensures.vacant;
+    } in
+    adds_taken g.C.Calculator.marked old new c.args.desk.now c.edit_with_rooms.new.desk c.take_all.new.self c.args.edit.contents.items _
+    c.requires c.in-Ok.ensures.beside
+    (marked_as g.C.Calculator.marked old.sheet c.args.edit.contents.items c.deref-2.result.now c.in_ok-marked.marked.items _ c.deref-2.ensures.value (search rules) c.in_ok-marked.ensures.marked)
+    c.in-Ok.ensures.rooms taken
+
+pub returns-in-Ok-clause-sound : goal.returns-in-Ok-clause-sound
+returns-in-Ok-clause-sound g c =
+    let old = g.C.Calculator.stored c.args.calculator.now in
+    let new = g.C.Calculator.stored c.edit_with_rooms.new.calculator in
+    let taken : AreTaken c.edit_with_rooms.new.desk.sessions c.take_all.new.self = record {
+      sessions = c.take_all.ensures.sessions;
+      lists = c.take_all.ensures.lists;
+      pending = c.take_all.ensures.pending;
+      vacant = c.take_all.ensures.vacant;
+    } in
+    sound_taken g.C.Calculator.marked old new c.args.desk.now c.edit_with_rooms.new.desk c.take_all.new.self c.args.edit.contents.items _
+    c.requires c.in-Ok.ensures.beside
+    (marked_as g.C.Calculator.marked old.sheet c.args.edit.contents.items c.deref-2.result.now c.in_ok-marked.marked.items _ c.deref-2.ensures.value (search rules) c.in_ok-marked.ensures.marked)
+    c.in-Ok.ensures.rooms taken c.in-Ok.ensures.edit.0
