@@ -94,7 +94,9 @@ impl EditLog {
     {
         let since = (since as usize).min(self.edits.len());
         match only_cell(cells) {
-            Some(at) => self.lone.first_of_cell(&self.edits, session, since, at, cells),
+            Some(at) => self
+                .lone
+                .first_of_cell(&self.edits, session, since, at, cells),
             None => first_of_others(&self.edits, session, since, cells),
         }
     }
