@@ -1,5 +1,6 @@
 -- Words of the code's own contracts, and readers that laws tie to the definitions. Nothing here needs belief.
 pub mod Attempt
+pub mod Attempts
 pub mod Courses
 pub mod Findings
 pub mod Frames

@@ -2,15 +2,13 @@
 
 ghost use Rattle.std.specs.Prelude.{◌≡◌, false, IfOk, OnErr};
 ghost use Rattle.wi_parser.specs.Sheet.{put_all};
-ghost use Rattle.wi_functions.specs.Wants.{IfDone, IfWanting};
 ghost use Rattle.wi_functions.specs.Counts.{counted};
 ghost use Rattle.wi_graph.specs.Circular.{circular};
 ghost use Rattle.wi_sheet.specs.CellValue as show;
 ghost use Rattle.wi_sheet.specs.Inner.Spending.{NeverFall};
 ghost use Rattle.wi_engine.specs.Inner.Findings.{AreAllRight};
-ghost use Rattle.wi_engine.specs.Inner.Attempt.{AsksAt, IsLacking};
+ghost use Rattle.wi_engine.specs.Inner.Attempts.{IsAttemptOf};
 ghost use Rattle.wi_engine.specs.Inner.Frames.{StandsAt};
-ghost use Rattle.wi_engine.specs.Inner.SettledFrames.{HasOneMeaning};
 
 use crate::frame::Frame;
 use crate::lookup::Known;
@@ -29,11 +27,9 @@ pub fn attempt(
 ) -> Result<Outcome, AllocError>
     requires open { circular store.now.sheet frame.now.key.cell ≡ false }
     requires formula { StandsAt store.now.sheet frame.now.key frame.now.formula.now }
-    requires right { AreAllRight (show.cell_value (put_all store.now.sheet frame.now.key.world)) (show.what_if_value (put_all store.now.sheet frame.now.key.world)) frame.now.found }
-    ensures done { IfOk result (λ o. IfDone o (λ v. v ≡ show.cell_value (put_all store.now.sheet frame.now.key.world) frame.now.key.cell)) }
-    ensures one_meaning { IfOk result (λ o. IfDone o (λ _. HasOneMeaning store.now.sheet frame.now.key.world frame.now.key.cell frame.now.found)) }
-    ensures asked { IfOk result (λ o. IfWanting o (AsksAt store.now.sheet frame.now.key.world frame.now.key.cell)) }
-    ensures lacking { IfOk result (λ o. IfWanting o (IsLacking store.now.sheet frame.now.key.world frame.now.found)) }
+    requires right { AreAllRight (show.cell_value (put_all store.now.sheet frame.now.key.world))
+        (show.what_if_value (put_all store.now.sheet frame.now.key.world)) frame.now.found }
+    ensures outcome { IfOk result (IsAttemptOf store.now.sheet frame.now.key frame.now.found) }
     ensures counted { IfOk result (λ o. meter.new ≡ counted o meter.old) }
     ensures counts { NeverFall meter.old meter.new }
     ensures err { OnErr result (meter.new ≡ meter.old) }

@@ -1,29 +1,26 @@
 -- What asks, and what has it as a part.
-use Rattle.std.proofs.Common.{◌≡◌, ◌++◌, ℕ, zero, suc, true, List, [], ◌∷◌, Any, Contains, Result, Ok, Err, IfErr, sym, subst, arith}
+use Rattle.std.proofs.Common.{◌≡◌, ◌++◌, ℕ, zero, suc, true, List, [], ◌∷◌, Option, Any, Contains, Result, Ok, Err, sym, ◌∙◌, subst, arith}
 use Rattle.std.proofs.lemmas.List.Elements.{Contains-append_left, Contains-append_right}
 use Rattle.std.proofs.lemmas.List.Quantifiers.{Any-push}
 use Rattle.wi_values.specs.declared.value.Value.{Value}
 use Rattle.wi_parser.specs.declared.expr.Corners.{Corners}
 use Rattle.wi_parser.specs.declared.expr.Operator.{Operator}
-use Rattle.wi_parser.specs.Tree.{Tree, cell, rectangle, binary}
-use Rattle.wi_parser.specs.Leaves.{Leaf, rectangle_leaf, leaves}
+use Rattle.wi_parser.specs.Tree.{Tree, Trees, cell, rectangle, binary}
+use Rattle.wi_parser.specs.Leaves.{Leaf, rectangle_leaf, leaves, all_leaves}
 use Rattle.wi_values.specs.Address.{is_within}
 use Rattle.wi_values.proofs.Corners.{corners_may_turn}
 use Rattle.wi_parser.specs.Reads.{area_of}
+use Rattle.wi_lookup.specs.Arguments.{IsMissing, IfMissing}
+use Rattle.wi_lookup.specs.declared.argument.Argument as given
+use Rattle.wi_lookup.specs.declared.stop.Stop as lookup
 use Rattle.wi_functions.specs.declared.evaluation.Want.TheVariants.{Cell, WhatIf}
 use Rattle.wi_functions.specs.declared.evaluation.Want.{Want}
 use Rattle.wi_functions.specs.declared.evaluation.Stop.{Stop}
 use Rattle.wi_functions.specs.declared.evaluation.Stop.TheVariants.{Needs, Memory}
-use Rattle.wi_functions.specs.Wants.{WantsCell, WantsWithin, LeafAsks, Asks, IfNeeds}
-
--- what an evaluation asks for, something else asks for too
-asked_too : (P Q : Want → Type 0) (s : Stop) → ((w : Want) → P w → Q w) → IfNeeds s P → IfNeeds s Q
-asked_too P Q (Needs w) f h = f w h
-asked_too P Q Memory f h = tt
-
-asked_by : (P Q : Want → Type 0) (r : Result Value Stop) → ((w : Want) → P w → Q w) → IfErr r (λ s. IfNeeds s P) → IfErr r (λ s. IfNeeds s Q)
-asked_by P Q (Ok v) f h = tt
-asked_by P Q (Err s) f h = asked_too P Q s f h
+use Rattle.wi_functions.specs.Wants.{WantsCell, WantsWithin, LeafAsks, AnyLeafAsks, Asks}
+use Rattle.wi_functions.specs.Evaluation.{ByAll, IsWanted}
+use Rattle.wi_functions.specs.Inner.Calls.{ReferInside}
+use Rattle.wi_functions.specs.Inner.Parts.{Part, IfNeeds, Evaluates, stopped}
 
 any_in : {X : Type 0} (P : X → Type 0) (xs : List X) (x : X) → Contains xs x → P x → Any P xs
 any_in P xs x c h = (c.0, x, c.1, c.2, h)
@@ -39,25 +36,45 @@ pub leaf_asks : (l : Leaf) (w : Want) → LeafAsks l w → Any (λ k. LeafAsks k
 leaf_asks l w h = Any-push (λ k. LeafAsks k w) [] l h
 
 -- what a corner asks for, its rectangle asks for
-pub corner_asks : (c : Corners) (r : Result Value Stop) → IfErr r (λ s. IfNeeds s (Asks (cell c.one))) → IfErr r (λ s. IfNeeds s (Asks (rectangle c)))
-corner_asks c r h = asked_by (Asks (cell c.one)) (Asks (rectangle c)) r (λ w a. leaf_asks (rectangle_leaf c) w (within w (alone w a))) h
+pub corner_asks : (c : Corners) (w : Want) → Asks (cell c.one) w → Asks (rectangle c) w
+corner_asks c w a = leaf_asks (rectangle_leaf c) w (within w (alone a))
   where
-    alone : (w : Want) → Asks (cell c.one) w → WantsCell w c.one.at
-    alone w (zero, l, i, same, asks) = subst (λ k. LeafAsks k w) (sym same) asks
-    alone w (suc k, l, i, same, asks) = absurd (omega (arith, i))
+    alone : Asks (cell c.one) w → WantsCell w c.one.at
+    alone (zero, l, i, same, asks) = subst (λ k. LeafAsks k w) (sym same) asks
+    alone (suc k, l, i, same, asks) = absurd (omega (arith, i))
 
-    within : (w : Want) → WantsCell w c.one.at → WantsWithin w (area_of c)
+    within : (x : Want) → WantsCell x c.one.at → WantsWithin x (area_of c)
     within (Cell a) e = subst (λ (b : ℕ). is_within (area_of c) b ≡ true) (sym e) (corners_may_turn c.one.at c.other.at).1
     within (WhatIf f pairs) e = e
 
 -- what an operand asks for, the operator asks for
-pub left_asks : (op : Operator) (t u : Tree) (s : Stop) → IfNeeds s (Asks t) → IfNeeds s (Asks (binary op t u))
-left_asks op t u s h = asked_too (Asks t) (Asks (binary op t u)) s (λ w a. any_left (λ l. LeafAsks l w) (leaves t) (leaves u) a) h
+pub left_asks : (op : Operator) (t u : Tree) (w : Want) → Asks t w → Asks (binary op t u) w
+left_asks op t u w a = any_left (λ l. LeafAsks l w) (leaves t) (leaves u) a
 
-pub right_asks : (op : Operator) (t u : Tree) (r : Result Value Stop) → IfErr r (λ s. IfNeeds s (Asks u)) → IfErr r (λ s. IfNeeds s (Asks (binary op t u)))
-right_asks op t u r h = asked_by (Asks u) (Asks (binary op t u)) r (λ w a. any_right (λ l. LeafAsks l w) (leaves t) (leaves u) a) h
+pub right_asks : (op : Operator) (t u : Tree) (w : Want) → Asks u w → Asks (binary op t u) w
+right_asks op t u w a = any_right (λ l. LeafAsks l w) (leaves t) (leaves u) a
 
--- what stops for want of memory asks for nothing
-pub memory_asks : (P : Want → Type 0) (r : Result Value Stop) → IfErr r (λ s. s ≡ Memory) → IfErr r (λ s. IfNeeds s P)
-memory_asks P (Ok v) h = tt
-memory_asks P (Err s) h = subst (λ (x : Stop). IfNeeds x P) (sym h) tt
+-- ---- how an evaluation stops
+
+-- for want of memory it stops at no want
+pub memory_wants : (P : Want → Type 0) (s : Stop) → s ≡ Memory → IfNeeds s P
+memory_wants P s h = subst (λ (x : Stop). IfNeeds x P) (sym h) tt
+
+module _ {K : Type 0} (known_cell : K → ℕ → Option Value) (known_what_if : K → ℕ → List (ℕ × ℕ) → Option Value) (known : K) where
+  -- what is wanted where some leaves ask for it is wanted where others ask for it too
+  pub wanted_too : (ls ms : List Leaf) → ((w : Want) → AnyLeafAsks ls w → AnyLeafAsks ms w) → (s : Stop) →
+      IfNeeds s (IsWanted known_cell known_what_if known ls) → IfNeeds s (IsWanted known_cell known_what_if known ms)
+  wanted_too ls ms f (Needs w) h = record { asked = f w h.asked; unknown = h.unknown }
+  wanted_too ls ms f Memory h = tt
+
+  -- what is given for a part is given for another that means the same and asks for as much
+  pub evaluates_too : (p q : Part Value) (r : Result Value Stop) → ByAll known_cell known_what_if known (λ a. p.means a ≡ q.means a) →
+      ((w : Want) → AnyLeafAsks p.asking w → AnyLeafAsks q.asking w) → Evaluates known_cell known_what_if known r p → Evaluates known_cell known_what_if known r q
+  evaluates_too p q (Ok v) same asks h = λ a agrees. h a agrees ∙ same a agrees
+  evaluates_too p q (Err s) same asks h = wanted_too p.asking q.asking asks s h
+
+  -- a function wants a cell that isn't known, and to which one of its arguments refers
+  pub stop_wants : (s : lookup.Stop) (args : List given.Argument) (ts : Trees) → IfMissing s (IsMissing (known_cell known) args) → ReferInside args ts →
+      IfNeeds (stopped s) (IsWanted known_cell known_what_if known (all_leaves ts))
+  stop_wants (lookup.TheVariants.Missing c) args ts m r = record { asked = r c m.1; unknown = m.0 }
+  stop_wants lookup.TheVariants.Memory args ts m r = tt

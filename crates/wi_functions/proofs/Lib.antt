@@ -1,5 +1,5 @@
 pub mod Asking
 pub mod Choosing
-pub mod Firsts
+pub mod Outcomes
 pub mod Parameters
 mod Rows

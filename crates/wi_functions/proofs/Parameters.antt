@@ -1,31 +1,32 @@
 -- Parameters and the arguments that they are.
-use Rattle.std.proofs.Common.{◌≡◌, ◌==◌, ℕ, zero, suc, ◌<◌, ◌≤◌, ◌+◌, ◌*◌, min, max, Bool, true, false, cond, List, [], ◌∷◌, ◌++◌, map, length, slice_index_or, ◌||◌, drop, drop-cons, append_assoc, Option, Some, None, Any, Result, Ok, Err, IfOk, IfErr, refl, sym, ap, ap₂, ◌∙◌, subst, eq-eqb, arith}
+use Rattle.std.proofs.Common.{◌≡◌, ◌==◌, ℕ, zero, suc, ◌<◌, ◌≤◌, ◌+◌, ◌*◌, Bool, true, false, cond, List, [], ◌∷◌, ◌++◌, length, slice_index_or, ◌||◌, drop, drop-cons, append_assoc, Some, None, refl, sym, ap, ap₂, ◌∙◌, subst, eq-eqb, arith}
 use Rattle.std.specs.List.{list_any}
 use Rattle.std.proofs.lemmas.List.{map-append, append-nil, drop_all}
 use Rattle.std.proofs.lemmas.List.Folds.{list_any-append}
 use Rattle.std.proofs.Math.Nat.{mod-lt, div-add-mod'}
-use Rattle.std.proofs.lemmas.Bool.{eqb-true, false_from_ne_true}
-use Rattle.wi_values.specs.Address.{Area, place, row_of, column_of, rect_of, is_within}
+use Rattle.std.proofs.lemmas.Bool.{eqb-true}
+use Rattle.wi_values.specs.Address.{Area, row_of, column_of, rect_of, is_within}
 use Rattle.wi_values.specs.declared.value.ErrorKind.TheVariants.{BadValue}
 use Rattle.wi_values.specs.declared.value.Value.{Value}
 use Rattle.wi_values.specs.declared.value.Value.TheVariants.{Fault}
+use Rattle.wi_parser.specs.declared.expr.Corners.{Corners}
 use Rattle.wi_parser.specs.declared.expr.Expr.{Expr}
-use Rattle.wi_parser.specs.Tree.{Tree, Trees, cell, rectangle, parenthesized}
+use Rattle.wi_parser.specs.Tree.{Tree, cell, rectangle, parenthesized}
 use Rattle.wi_parser.specs.Leaves.{cell_leaf, rectangle_leaf, leaves, all_leaves}
 use Rattle.wi_parser.proofs.Rectangles.{one_cell}
 use Rattle.wi_parser.specs.Reads.{area_of, cell_area}
 use Rattle.wi_parser.specs.View.{tree_of, all_of}
 use Rattle.wi_standard_functions.specs.Arguments.{Argument, argument_of, value_or}
-use Rattle.wi_lookup.specs.Arguments.{value_of_area, argument_in, arguments_in, refers_to, IsMissing, IfMissing}
+use Rattle.wi_standard_functions.specs.Functions.{call_value}
+use Rattle.wi_calls.specs.Applied.{applied}
+use Rattle.wi_calls.specs.declared.function.Function.{Function}
+use Rattle.wi_lookup.specs.Arguments.{value_of_area, argument_in, arguments_in, refers_to}
 use Rattle.wi_lookup.specs.declared.argument.Argument as given
-use Rattle.wi_lookup.specs.declared.stop.Stop as lookup
 use Rattle.wi_functions.specs.Meaning.{meaning, arguments, referred, is_one_cell}
-use Rattle.wi_functions.specs.Wants.{Asks, AnyAsks, IsUnknown, IfNeeds, stopped}
+use Rattle.wi_functions.specs.Wants.{Asks, AnyAsks}
 use Rattle.wi_functions.specs.Inner.Calls.{values_of, ReferInside}
 use Rattle.wi_functions.specs.declared.evaluation.Want.{Want}
 use Rattle.wi_functions.specs.declared.evaluation.Want.TheVariants.{Cell}
-use Rattle.wi_functions.specs.declared.evaluation.Stop.{Stop}
-use Rattle.wi_functions.specs.declared.evaluation.Stop.TheVariants.{Needs, Memory}
 use Rattle.wi_functions.proofs.Asking.{any_left, any_right, leaf_asks}
 
 -- ---- the parameter at a place
@@ -50,22 +51,17 @@ asks_there [] k e w l h a = absurd (omega (arith, l))
 asks_there (x ∷ es) zero e w l h a = any_left _ (leaves (tree_of x)) (all_leaves (all_of es)) (subst (λ (y : Expr). Asks (tree_of y) w) h a)
 asks_there (x ∷ es) (suc k) e w l h a = any_right _ (leaves (tree_of x)) (all_leaves (all_of es)) (asks_there es k e w (omega (arith, l)) h a)
 
--- the same of how an evaluation ended
-pub asked_there : (es : List Expr) (k : ℕ) (e : Expr) (s : Stop) → k < length es → e ≡ slice_index_or es k e → IfNeeds s (Asks (tree_of e)) → IfNeeds s (AnyAsks (all_of es))
-asked_there es k e (Needs w) l h a = asks_there es k e w l h a
-asked_there es k e Memory l h a = tt
-
-pub asked_of : (es : List Expr) (k : ℕ) (e : Expr) (r : Result Value Stop) → k < length es → e ≡ slice_index_or es k e → IfErr r (λ s. IfNeeds s (Asks (tree_of e))) → IfErr r (λ s. IfNeeds s (AnyAsks (all_of es)))
-asked_of es k e (Ok v) l h a = tt
-asked_of es k e (Err s) l h a = asked_there es k e s l h a
-
-pub ok_then : (P Q : Value → Type 0) (r : Result Value Stop) → ((v : Value) → P v → Q v) → IfOk r P → IfOk r Q
-ok_then P Q (Ok v) f h = f v h
-ok_then P Q (Err s) f h = tt
-
 pub length_arguments : (es : List Expr) (cells : ℕ → Value) (what_ifs : ℕ → List (ℕ × ℕ) → Value) → length (arguments (all_of es) cells what_ifs) ≡ length es
 length_arguments [] cells what_ifs = refl
 length_arguments (x ∷ es) cells what_ifs = ap (λ (n : ℕ). suc n) (length_arguments es cells what_ifs)
+
+-- a call is worth what the function gives that is found for its name
+pub call_found : (es : List Expr) (name given_name : List ℕ) (f g : Function) (cells : ℕ → Value) (what_ifs : ℕ → List (ℕ × ℕ) → Value) →
+    ((args : List Argument) → length args ≡ length es → call_value name args ≡ applied f args) → f ≡ g → name ≡ given_name →
+    applied g (arguments (all_of es) cells what_ifs) ≡ call_value given_name (arguments (all_of es) cells what_ifs)
+call_found es name given_name f g cells what_ifs found is same =
+    let args = arguments (all_of es) cells what_ifs in
+    ap (λ (h : Function). applied h args) (sym is) ∙ sym (found args (length_arguments es cells what_ifs)) ∙ ap (λ (n : List ℕ). call_value n args) same
 
 -- ---- the value of a reference
 
@@ -101,6 +97,10 @@ value_of_rectangle cells a b = by (a == b) refl
         apart : (t : Bool) → ((rect_of a b).first == (rect_of a b).last) ≡ t → cond t (cells (rect_of a b).first) (Fault BadValue) ≡ Fault BadValue
         apart true m = let same : a ≡ b = corners_meet a b (eqb-true _ _ m) in let e : (a == b) ≡ true = eq-eqb a b same in cc
         apart false m = refl
+
+-- a rectangle of one cell has the value of its first corner
+pub value_of_corner : (c : Corners) (cells : ℕ → Value) → is_one_cell c ≡ true → cells c.one.at ≡ cond (is_one_cell c) (cells c.one.at) (Fault BadValue)
+value_of_corner c cells h = sym (ap (λ (b : Bool). cond b (cells c.one.at) (Fault BadValue)) h)
 
 -- what a parameter refers to has its value, where one is asked for
 pub value_of_referred : (t : Tree) (r : Area) (cells : ℕ → Value) (what_ifs : ℕ → List (ℕ × ℕ) → Value) → referred t ≡ Some r → value_of_area cells r ≡ meaning t cells what_ifs
@@ -184,13 +184,3 @@ more_refer es i e args more arg l h m k inv c r = by (list_any (refers_to c) arg
     by true x d y = inv c x
     by false x true y = asks_there es i e (Cell c) l h (k c y)
     by false x false y = let no : (false || (false || false)) ≡ true = ap₂ (λ (p q : Bool). p || (q || false)) (sym x) (sym y) ∙ split in cc
-
--- ---- a function that stops
-
-pub stop_asks : (s : lookup.Stop) (known : ℕ → Option Value) (args : List given.Argument) (ts : Trees) → IfMissing s (IsMissing known args) → ReferInside args ts → IfNeeds (stopped s) (AnyAsks ts)
-stop_asks (lookup.TheVariants.Missing c) known args ts m r = r c m.1
-stop_asks lookup.TheVariants.Memory known args ts m r = tt
-
-pub stop_unknown : (s : lookup.Stop) (known : ℕ → Option Value) (what_ifs : ℕ → List (ℕ × ℕ) → Option Value) (args : List given.Argument) → IfMissing s (IsMissing known args) → IfNeeds (stopped s) (IsUnknown known what_ifs)
-stop_unknown (lookup.TheVariants.Missing c) known what_ifs args m = m.0
-stop_unknown lookup.TheVariants.Memory known what_ifs args m = tt

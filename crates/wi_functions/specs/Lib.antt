@@ -2,4 +2,5 @@ pub mod Operators
 pub mod Meaning
 pub mod Counts
 pub mod Wants
+pub mod Evaluation
 pub mod Inner

@@ -1,11 +1,9 @@
-//! Which parameter a call is worth, where one is chosen (OpenFormula, "Logical Functions" and CHOOSE).
+//! Which parameter a call is worth, where one is chosen (OpenFormula, "Logical Functions" and
+//! CHOOSE).
 
-ghost use Rattle.std.specs.Prelude.{◌≡◌, List, length};
-ghost use Rattle.wi_standard_functions.specs.Arguments.{Argument, value_at};
-ghost use Rattle.wi_calls.specs.Applied.{applied};
-ghost use Rattle.wi_calls.specs.declared.function.Function.TheVariants.{Lazy};
-ghost use Rattle.wi_calls.specs.declared.function.LazyFunction.TheVariants.{If, IfError, IfNa, Choose};
-ghost use Rattle.wi_functions.specs.Inner.Calls.{chosen_of};
+ghost use Rattle.std.specs.Prelude.{ℕ};
+ghost use Rattle.wi_calls.specs.declared.function.LazyFunction.TheVariants as functions;
+ghost use Rattle.wi_functions.specs.Inner.Calls.{Chooses};
 
 use wi_calls::LazyFunction;
 use wi_scalar_functions::{to_logical, to_whole};
@@ -21,7 +19,7 @@ pub(crate) enum Choice {
 
 /// What a call of a function is worth that has so many parameters, and whose first has this value.
 pub(crate) fn choose(function: LazyFunction, first: Value, count: usize) -> Choice
-    ensures { (args : List Argument) → length args ≡ count → first ≡ value_at args 0 → chosen_of result args ≡ applied (Lazy function) args }
+    ensures { Chooses function first count result }
 {
     match function {
         LazyFunction::If => by_condition(&first),
@@ -33,7 +31,7 @@ pub(crate) fn choose(function: LazyFunction, first: Value, count: usize) -> Choi
 
 /// IF: the second parameter where the first is TRUE, and the third where it is FALSE.
 fn by_condition(condition: &Value) -> Choice
-    ensures { (args : List Argument) → condition.now ≡ value_at args 0 → chosen_of result args ≡ applied (Lazy If) args }
+    ensures { (count : ℕ) → Chooses functions.If condition.now count result }
 {
     match to_logical(condition) {
         Ok(true) => Choice::Parameter(1, Value::Logical(true)),
@@ -44,7 +42,7 @@ fn by_condition(condition: &Value) -> Choice
 
 /// IFERROR: the first parameter unless it is an error, and else the second.
 fn unless_error(first: Value) -> Choice
-    ensures { (args : List Argument) → first ≡ value_at args 0 → chosen_of result args ≡ applied (Lazy IfError) args }
+    ensures { (count : ℕ) → Chooses functions.IfError first count result }
 {
     match first {
         Value::Fault(_) => Choice::Parameter(1, Value::Empty),
@@ -54,7 +52,7 @@ fn unless_error(first: Value) -> Choice
 
 /// IFNA: the first parameter unless it is `#N/A`, and else the second.
 fn unless_not_available(first: Value) -> Choice
-    ensures { (args : List Argument) → first ≡ value_at args 0 → chosen_of result args ≡ applied (Lazy IfNa) args }
+    ensures { (count : ℕ) → Chooses functions.IfNa first count result }
 {
     match first {
         Value::Fault(ErrorKind::NotAvailable) => Choice::Parameter(1, Value::Empty),
@@ -64,7 +62,7 @@ fn unless_not_available(first: Value) -> Choice
 
 /// CHOOSE: the parameter that the first counts out, from 1, of those behind it.
 fn by_index(index: &Value, count: usize) -> Choice
-    ensures { (args : List Argument) → length args ≡ count → index.now ≡ value_at args 0 → chosen_of result args ≡ applied (Lazy Choose) args }
+    ensures { Chooses functions.Choose index.now count result }
 {
     match to_whole(index) {
         Err(error) => Choice::Value(Value::Fault(error)),

@@ -1,18 +1,20 @@
 //! One formula's value.
 
-ghost use Rattle.std.specs.Prelude.{◌≡◌, map, IfOk, IfErr, OnErr};
+ghost use Rattle.std.specs.Prelude.{◌≡◌, map, IfOk, OnErr, MatchResult};
 ghost use Rattle.wi_parser.specs.View.{tree_of, all_of, pair_of};
-ghost use Rattle.wi_parser.specs.Tree.{cell, rectangle, signed, percent, binary, call, what_if as what_if_tree};
+ghost use Rattle.wi_parser.specs.Tree.{cell, rectangle, signed, percent, binary, call};
+ghost use Rattle.wi_parser.specs.Tree.{what_if as what_if_tree};
 ghost use Rattle.wi_standard_functions.specs.Arguments.{value_or};
 ghost use Rattle.wi_calls.specs.Applied.{applied};
 ghost use Rattle.wi_calls.specs.declared.function.Function.TheVariants.{Lazy};
 ghost use Rattle.wi_lookup.specs.Arguments.{arguments_in};
 ghost use Rattle.wi_functions.specs.Meaning as formulas;
 ghost use Rattle.wi_functions.specs.Operators as operators;
-ghost use Rattle.wi_lookup.specs.Assignment.{Assignment, AgreesWith};
-ghost use Rattle.wi_functions.specs.Wants.{Asks, AnyAsks, IsUnknown, IfNeeds, IfDone, IfWanting, stopped};
 ghost use Rattle.wi_functions.specs.Counts.{counted};
+ghost use Rattle.wi_functions.specs.Evaluation.{IsOutcomeOf};
 ghost use Rattle.wi_functions.specs.Inner.Calls.{values_of, ReferInside};
+ghost use Rattle.wi_functions.specs.Inner.Parts.{of_tree, of_parameters, mapped, stopped};
+ghost use Rattle.wi_functions.specs.Inner.Parts.{EvaluatesAs, Evaluates};
 
 use crate::choice::{Choice, choose};
 use crate::meter::Meter;
@@ -81,21 +83,18 @@ fn stopped(stop: Missing) -> Stop
     }
 }
 
-/// A formula's value, in which Empty becomes 0, or what is missing for it. The first is counted as an evaluation, the second
-/// as a restart. Memory is needed for the
-/// texts that are copied and joined, and for what is missing; want of it counts nothing.
+/// A formula's value, in which Empty becomes 0, or what is missing for it. The first is counted as
+/// an evaluation, the second as a restart. Memory is needed for the texts that are copied and
+/// joined, and for what is missing; want of it counts nothing.
 pub fn evaluate<L: Lookup>(
     alloc: Global,
     formula: &Formula,
     lookup: &L,
     meter: &mut Meter,
 ) -> Result<Outcome, AllocError>
-    // Where it is done, the value is that of each assignment of which what is known is a part,
-    ensures done { IfOk result (λ o. IfDone o (λ v. (a : Assignment) → AgreesWith (L.known_cell lookup.now) (L.known_what_if lookup.now) a → v ≡ formulas.zero_for_empty (formulas.meaning formula.now a.cells a.what_ifs))) }
-    // and the formula means one value by all of these.
-    ensures one_meaning { IfOk result (λ o. IfDone o (λ _. (a b : Assignment) → AgreesWith (L.known_cell lookup.now) (L.known_what_if lookup.now) a → AgreesWith (L.known_cell lookup.now) (L.known_what_if lookup.now) b → formulas.meaning formula.now a.cells a.what_ifs ≡ formulas.meaning formula.now b.cells b.what_ifs)) }
-    ensures asked { IfOk result (λ o. IfWanting o (Asks formula.now)) }
-    ensures unknown { IfOk result (λ o. IfWanting o (IsUnknown (L.known_cell lookup.now) (L.known_what_if lookup.now))) }
+    // The value is what all assignments that agree with what is known make of the formula.
+    ensures outcome { IfOk result
+        (IsOutcomeOf L.known_cell L.known_what_if lookup.now formula.now) }
     ensures counted { IfOk result (λ o. meter.new ≡ counted o meter.old) }
     ensures err { OnErr result (meter.new ≡ meter.old) }
 {
@@ -125,14 +124,13 @@ pub fn zero_for_empty(value: Value) -> Value
     }
 }
 
-/// An expression's value. What each kind of expression needs of the stack stands in a function of its own, so that a level
-/// of a long chain needs little.
+/// An expression's value. What each kind of expression needs of the stack stands in a function of
+/// its own, so that a level of a long chain needs little.
 #[cycle(evaluating)]
 #[inline(never)]
 fn value_of<L: Lookup>(alloc: Global, expr: &Expr, lookup: &L) -> Result<Value, Stop>
-    ensures done { IfOk result (λ v. (a : Assignment) → AgreesWith (L.known_cell lookup.now) (L.known_what_if lookup.now) a → v ≡ formulas.meaning (tree_of expr.now) a.cells a.what_ifs) }
-    ensures asked { IfErr result (λ s. IfNeeds s (Asks (tree_of expr.now))) }
-    ensures unknown { IfErr result (λ s. IfNeeds s (IsUnknown (L.known_cell lookup.now) (L.known_what_if lookup.now))) }
+    ensures { Evaluates L.known_cell L.known_what_if lookup.now result
+        (of_tree (tree_of expr.now)) }
 {
     match expr {
         Expr::Number(x) => Ok(Value::Number(*x)),
@@ -157,9 +155,8 @@ fn signed_value<L: Lookup>(
     inner: &Expr,
     lookup: &L,
 ) -> Result<Value, Stop>
-    ensures done { IfOk result (λ v. (a : Assignment) → AgreesWith (L.known_cell lookup.now) (L.known_what_if lookup.now) a → v ≡ formulas.meaning (signed sign (tree_of inner.now)) a.cells a.what_ifs) }
-    ensures asked { IfErr result (λ s. IfNeeds s (Asks (signed sign (tree_of inner.now)))) }
-    ensures unknown { IfErr result (λ s. IfNeeds s (IsUnknown (L.known_cell lookup.now) (L.known_what_if lookup.now))) }
+    ensures { Evaluates L.known_cell L.known_what_if lookup.now result
+        (of_tree (signed sign (tree_of inner.now))) }
 {
     let x = value_of(alloc, inner, lookup)?;
     Ok(with_sign(sign, x))
@@ -169,9 +166,8 @@ fn signed_value<L: Lookup>(
 #[cycle(evaluating)]
 #[inline(never)]
 fn percent_value<L: Lookup>(alloc: Global, inner: &Expr, lookup: &L) -> Result<Value, Stop>
-    ensures done { IfOk result (λ v. (a : Assignment) → AgreesWith (L.known_cell lookup.now) (L.known_what_if lookup.now) a → v ≡ formulas.meaning (percent (tree_of inner.now)) a.cells a.what_ifs) }
-    ensures asked { IfErr result (λ s. IfNeeds s (Asks (percent (tree_of inner.now)))) }
-    ensures unknown { IfErr result (λ s. IfNeeds s (IsUnknown (L.known_cell lookup.now) (L.known_what_if lookup.now))) }
+    ensures { Evaluates L.known_cell L.known_what_if lookup.now result
+        (of_tree (percent (tree_of inner.now))) }
 {
     let x = value_of(alloc, inner, lookup)?;
     Ok(hundredth(&x))
@@ -187,9 +183,8 @@ fn binary_value<L: Lookup>(
     right: &Expr,
     lookup: &L,
 ) -> Result<Value, Stop>
-    ensures done { IfOk result (λ v. (a : Assignment) → AgreesWith (L.known_cell lookup.now) (L.known_what_if lookup.now) a → v ≡ formulas.meaning (binary operator (tree_of left.now) (tree_of right.now)) a.cells a.what_ifs) }
-    ensures asked { IfErr result (λ s. IfNeeds s (Asks (binary operator (tree_of left.now) (tree_of right.now)))) }
-    ensures unknown { IfErr result (λ s. IfNeeds s (IsUnknown (L.known_cell lookup.now) (L.known_what_if lookup.now))) }
+    ensures { Evaluates L.known_cell L.known_what_if lookup.now result
+        (of_tree (binary operator (tree_of left.now) (tree_of right.now))) }
 {
     let x = value_of(alloc, left, lookup)?;
     with_right_operand(alloc, operator, &x, right, lookup)
@@ -205,15 +200,15 @@ fn with_right_operand<L: Lookup>(
     right: &Expr,
     lookup: &L,
 ) -> Result<Value, Stop>
-    ensures done { IfOk result (λ v. (a : Assignment) → AgreesWith (L.known_cell lookup.now) (L.known_what_if lookup.now) a → v ≡ operators.operate operator left.now (formulas.meaning (tree_of right.now) a.cells a.what_ifs)) }
-    ensures asked { IfErr result (λ s. IfNeeds s (Asks (tree_of right.now))) }
-    ensures unknown { IfErr result (λ s. IfNeeds s (IsUnknown (L.known_cell lookup.now) (L.known_what_if lookup.now))) }
+    ensures { Evaluates L.known_cell L.known_what_if lookup.now result
+        (mapped (operators.operate operator left.now) (of_tree (tree_of right.now))) }
 {
     let y = value_of(alloc, right, lookup)?;
     Ok(operate(alloc, operator, left, &y)?)
 }
 
-/// A call's value. Which function it calls, and whether that takes so many parameters, comes before any of them.
+/// A call's value. Which function it calls, and whether that takes so many parameters, comes before
+/// any of them.
 #[cycle(evaluating)]
 #[inline(never)]
 fn call_value<L: Lookup>(
@@ -222,9 +217,8 @@ fn call_value<L: Lookup>(
     parameters: &[Expr],
     lookup: &L,
 ) -> Result<Value, Stop>
-    ensures done { IfOk result (λ v. (a : Assignment) → AgreesWith (L.known_cell lookup.now) (L.known_what_if lookup.now) a → v ≡ formulas.meaning (call name.now (all_of parameters.now)) a.cells a.what_ifs) }
-    ensures asked { IfErr result (λ s. IfNeeds s (AnyAsks (all_of parameters.now))) }
-    ensures unknown { IfErr result (λ s. IfNeeds s (IsUnknown (L.known_cell lookup.now) (L.known_what_if lookup.now))) }
+    ensures { Evaluates L.known_cell L.known_what_if lookup.now result
+        (of_tree (call name.now (all_of parameters.now))) }
 {
     match function_for(name.as_str(), parameters.len()) {
         Err(error) => Ok(Value::Fault(error)),
@@ -243,7 +237,8 @@ fn call_value<L: Lookup>(
     }
 }
 
-/// What a function gives that values its first parameter, and then the one that this chooses and no other.
+/// What a function gives that values its first parameter, and then the one that this chooses and no
+/// other.
 #[cycle(evaluating)]
 #[inline(never)]
 fn lazy_value<L: Lookup>(
@@ -252,9 +247,8 @@ fn lazy_value<L: Lookup>(
     parameters: &[Expr],
     lookup: &L,
 ) -> Result<Value, Stop>
-    ensures done { IfOk result (λ v. (a : Assignment) → AgreesWith (L.known_cell lookup.now) (L.known_what_if lookup.now) a → v ≡ applied (Lazy function) (formulas.arguments (all_of parameters.now) a.cells a.what_ifs)) }
-    ensures asked { IfErr result (λ s. IfNeeds s (AnyAsks (all_of parameters.now))) }
-    ensures unknown { IfErr result (λ s. IfNeeds s (IsUnknown (L.known_cell lookup.now) (L.known_what_if lookup.now))) }
+    ensures { Evaluates L.known_cell L.known_what_if lookup.now result
+        (mapped (applied (Lazy function)) (of_parameters (all_of parameters.now))) }
 {
     let first = parameter_or(alloc, parameters, 0, Value::Empty, lookup)?;
     match choose(function, first, parameters.len()) {
@@ -275,9 +269,8 @@ fn parameter_or<L: Lookup>(
     default: Value,
     lookup: &L,
 ) -> Result<Value, Stop>
-    ensures done { IfOk result (λ v. (a : Assignment) → AgreesWith (L.known_cell lookup.now) (L.known_what_if lookup.now) a → v ≡ value_or default (formulas.arguments (all_of parameters.now) a.cells a.what_ifs) place) }
-    ensures asked { IfErr result (λ s. IfNeeds s (AnyAsks (all_of parameters.now))) }
-    ensures unknown { IfErr result (λ s. IfNeeds s (IsUnknown (L.known_cell lookup.now) (L.known_what_if lookup.now))) }
+    ensures { Evaluates L.known_cell L.known_what_if lookup.now result
+        (mapped (λ args. value_or default args place) (of_parameters (all_of parameters.now))) }
 {
     match parameters.get(place) {
         Some(parameter) => value_of(alloc, parameter, lookup),
@@ -289,9 +282,8 @@ fn parameter_or<L: Lookup>(
 #[cycle(evaluating)]
 #[inline(never)]
 fn all_values<L: Lookup>(alloc: Global, parameters: &[Expr], lookup: &L) -> Result<Vec<Value>, Stop>
-    ensures done { IfOk result (λ vs. (a : Assignment) → AgreesWith (L.known_cell lookup.now) (L.known_what_if lookup.now) a → vs.items ≡ values_of (formulas.arguments (all_of parameters.now) a.cells a.what_ifs)) }
-    ensures asked { IfErr result (λ s. IfNeeds s (AnyAsks (all_of parameters.now))) }
-    ensures unknown { IfErr result (λ s. IfNeeds s (IsUnknown (L.known_cell lookup.now) (L.known_what_if lookup.now))) }
+    ensures { EvaluatesAs L.known_cell L.known_what_if lookup.now result (λ _ vs. vs.items)
+        (mapped values_of (of_parameters (all_of parameters.now))) }
 {
     let mut values = Vec::new(alloc);
     for parameter in parameters {
@@ -300,7 +292,8 @@ fn all_values<L: Lookup>(alloc: Global, parameters: &[Expr], lookup: &L) -> Resu
     Ok(values)
 }
 
-/// All parameters as arguments: those that are references as they are, and the values of the others.
+/// All parameters as arguments: those that are references as they are, and the values of the
+/// others.
 #[cycle(evaluating)]
 #[inline(never)]
 fn all_arguments<L: Lookup>(
@@ -308,10 +301,9 @@ fn all_arguments<L: Lookup>(
     parameters: &[Expr],
     lookup: &L,
 ) -> Result<Vec<Argument>, Stop>
-    ensures done { IfOk result (λ args. (a : Assignment) → AgreesWith (L.known_cell lookup.now) (L.known_what_if lookup.now) a → arguments_in a.cells args.items ≡ formulas.arguments (all_of parameters.now) a.cells a.what_ifs) }
+    ensures meant { EvaluatesAs L.known_cell L.known_what_if lookup.now result
+        (λ a args. arguments_in a.cells args.items) (of_parameters (all_of parameters.now)) }
     ensures refers { IfOk result (λ args. ReferInside args.items (all_of parameters.now)) }
-    ensures asked { IfErr result (λ s. IfNeeds s (AnyAsks (all_of parameters.now))) }
-    ensures unknown { IfErr result (λ s. IfNeeds s (IsUnknown (L.known_cell lookup.now) (L.known_what_if lookup.now))) }
 {
     let mut arguments = Vec::new(alloc);
     for parameter in parameters {
@@ -327,19 +319,15 @@ fn all_arguments<L: Lookup>(
 /// A text's value.
 #[inline(never)]
 fn text_value(alloc: Global, text: &Text) -> Result<Value, Stop>
-    ensures done { IfOk result (λ v. v ≡ Value.Text text.now) }
-    ensures memory { IfErr result (λ s. s ≡ Stop.Memory) }
+    ensures { MatchResult result (λ v. v ≡ Value.Text text.now) (λ s. s ≡ Stop.Memory) }
 {
     Ok(Value::Text(text.copy(alloc)?))
 }
 
 /// A cell's value.
 #[inline(never)]
-#[tactic(auto, using(crate::proofs::Asking::leaf_asks))]
 fn cell_value<L: Lookup>(alloc: Global, reference: Reference, lookup: &L) -> Result<Value, Stop>
-    ensures done { IfOk result (λ v. (a : Assignment) → AgreesWith (L.known_cell lookup.now) (L.known_what_if lookup.now) a → v ≡ a.cells reference.at) }
-    ensures asked { IfErr result (λ s. IfNeeds s (Asks (cell reference))) }
-    ensures unknown { IfErr result (λ s. IfNeeds s (IsUnknown (L.known_cell lookup.now) (L.known_what_if lookup.now))) }
+    ensures { Evaluates L.known_cell L.known_what_if lookup.now result (of_tree (cell reference)) }
 {
     match lookup.cell(reference.at) {
         LookedUp::Known(value) => Ok(value.copy(alloc)?),
@@ -349,11 +337,9 @@ fn cell_value<L: Lookup>(alloc: Global, reference: Reference, lookup: &L) -> Res
 
 /// The value of a rectangle of one cell. A larger one has none, and none of its cells is asked for.
 #[inline(never)]
-#[tactic(auto, using(crate::proofs::Asking::corner_asks))]
 fn rectangle_value<L: Lookup>(alloc: Global, corners: Corners, lookup: &L) -> Result<Value, Stop>
-    ensures done { IfOk result (λ v. (a : Assignment) → AgreesWith (L.known_cell lookup.now) (L.known_what_if lookup.now) a → v ≡ formulas.meaning (rectangle corners) a.cells a.what_ifs) }
-    ensures asked { IfErr result (λ s. IfNeeds s (Asks (rectangle corners))) }
-    ensures unknown { IfErr result (λ s. IfNeeds s (IsUnknown (L.known_cell lookup.now) (L.known_what_if lookup.now))) }
+    ensures { Evaluates L.known_cell L.known_what_if lookup.now result
+        (of_tree (rectangle corners)) }
 {
     if corners.one.at == corners.other.at {
         return cell_value(alloc, corners.one, lookup);
@@ -363,16 +349,14 @@ fn rectangle_value<L: Lookup>(alloc: Global, corners: Corners, lookup: &L) -> Re
 
 /// A what-if's value.
 #[inline(never)]
-#[tactic(auto, using(crate::proofs::Asking::leaf_asks))]
 fn what_if_value<L: Lookup>(
     alloc: Global,
     formula_cell: Reference,
     pairs: &[Pair],
     lookup: &L,
 ) -> Result<Value, Stop>
-    ensures done { IfOk result (λ v. (a : Assignment) → AgreesWith (L.known_cell lookup.now) (L.known_what_if lookup.now) a → v ≡ formulas.meaning (what_if_tree formula_cell (map pair_of pairs.now)) a.cells a.what_ifs) }
-    ensures asked { IfErr result (λ s. IfNeeds s (Asks (what_if_tree formula_cell (map pair_of pairs.now)))) }
-    ensures unknown { IfErr result (λ s. IfNeeds s (IsUnknown (L.known_cell lookup.now) (L.known_what_if lookup.now))) }
+    ensures { Evaluates L.known_cell L.known_what_if lookup.now result
+        (of_tree (what_if_tree formula_cell (map pair_of pairs.now))) }
 {
     match lookup.what_if(formula_cell.at, pairs) {
         LookedUp::Known(value) => Ok(value.copy(alloc)?),

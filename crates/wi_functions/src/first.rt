@@ -9,8 +9,9 @@ use wi_calls::{Function, function_for};
 use wi_parser::{Expr, Formula};
 use wi_values::{Address, Text};
 
-/// A cell whose value each evaluation of the formula asks for, where one is easily seen: the first of these in the order of
-/// evaluation. `None` says nothing. The work is at most one walk over the tree, and mostly a step or two.
+/// A cell whose value each evaluation of the formula asks for, where one is easily seen: the first
+/// of these in the order of evaluation. `None` says nothing. The work is at most one walk over the
+/// tree, and mostly a step or two.
 pub fn first_cell(formula: &Formula) -> Option<Address>
     ensures { IfSome result (λ a. Asks formula.now (wanted.Cell a)) }
 {
@@ -39,7 +40,8 @@ fn first_of(expr: &Expr) -> Option<Address>
     }
 }
 
-/// A cell that each evaluation of a call asks for: that of its first parameter, where the function values this in any case.
+/// A cell that each evaluation of a call asks for: that of its first parameter, where the function
+/// values this in any case.
 #[cycle(looking)]
 fn first_of_call(name: &Text, parameters: &[Expr]) -> Option<Address>
     ensures { IfSome result (λ a. AnyAsks (all_of parameters.now) (wanted.Cell a)) }

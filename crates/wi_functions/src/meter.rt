@@ -5,7 +5,8 @@ ghost use Rattle.wi_functions.specs.Counts.{one_more};
 
 use std::marker::Model;
 
-/// How many evaluations were done, and how many have to start again. Each stops at the greatest number.
+/// How many evaluations were done, and how many have to start again. Each stops at the greatest
+/// number.
 #[derive(Clone, Copy)]
 pub struct Meter {
     evaluations: u64,

@@ -3,7 +3,8 @@
 ghost use Rattle.std.specs.Prelude.{◌≡◌, Bool, IfOk};
 ghost use Rattle.wi_values.specs.Value.{shown_text};
 ghost use Rattle.std.specs.declared.cmp.Ordering.{Ordering};
-ghost use Rattle.wi_standard_functions.specs.Arithmetic.{addition, subtraction, multiplication, division, calculated, concatenation};
+ghost use Rattle.wi_standard_functions.specs.Arithmetic.{addition, subtraction, multiplication};
+ghost use Rattle.wi_standard_functions.specs.Arithmetic.{division, calculated, concatenation};
 ghost use Rattle.wi_standard_functions.specs.Comparison.{beside, order, compared};
 ghost use Rattle.wi_standard_functions.specs.Convert.{to_number, to_text};
 ghost use Rattle.wi_standard_functions.specs.FirstError.{on_both};
@@ -126,7 +127,9 @@ fn join_shown(alloc: Global, left: &Value, right: &Value) -> Result<Value, Alloc
 
 /// Whether the order of two values passes a test, unless one is an error.
 fn truth(left: &Value, right: &Value, holds: bool) -> Value
-    ensures { (test : Ordering → Bool) → holds ≡ test (order (beside right.now left.now) (beside left.now right.now)) → result ≡ compared test left.now right.now }
+    ensures { (test : Ordering → Bool)
+        → holds ≡ test (order (beside right.now left.now) (beside left.now right.now))
+        → result ≡ compared test left.now right.now }
 {
     match both(no_error(left), no_error(right)) {
         Ok(_) => Value::Logical(holds),

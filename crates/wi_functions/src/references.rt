@@ -40,8 +40,10 @@ pub(crate) fn value_of_references<L: Lookup>(
     arguments: &[Argument],
     lookup: &L,
 ) -> Result<Value, Stop>
-    ensures done { IfOk result (IsOfArguments (L.known_cell lookup.now) (applied (References function)) arguments.now) }
-    ensures missing { IfErr result (λ s. IfMissing s (IsMissing (L.known_cell lookup.now) arguments.now)) }
+    ensures done { IfOk result (IsOfArguments
+        (L.known_cell lookup.now) (applied (References function)) arguments.now) }
+    ensures missing { IfErr result
+        (λ s. IfMissing s (IsMissing (L.known_cell lookup.now) arguments.now)) }
 {
     match function {
         ReferenceFunction::CountIf => count_if_value(alloc, arguments, lookup),
@@ -67,7 +69,8 @@ fn folded<L: Lookup>(
     arguments: &[Argument],
     lookup: &L,
 ) -> Result<Value, Address>
-    ensures done { IfOk result (IsOfArguments (L.known_cell lookup.now) (applied (References (Fold function))) arguments.now) }
+    ensures done { IfOk result (IsOfArguments
+        (L.known_cell lookup.now) (applied (References (Fold function))) arguments.now) }
     ensures missing { IfErr result (IsMissing (L.known_cell lookup.now) arguments.now) }
 {
     match function {

@@ -1,5 +1,5 @@
 -- A formula's value, by what is known.
-use Rattle.std.proofs.Common.{◌≡◌, ℕ, false, List, Option, Some, None, IfSome, refl, ap, sym, ◌∙◌, subst}
+use Rattle.std.proofs.Common.{◌≡◌, ℕ, true, false, List, Option, Some, None, IfSome, refl, ap, sym, ◌∙◌, subst}
 use Rattle.wi_values.specs.declared.value.Value.{Value}
 use Rattle.wi_values.specs.declared.value.Value.TheVariants.{Empty}
 use Rattle.wi_values.specs.declared.replacement.Replacement.{Replacement}
@@ -8,18 +8,23 @@ use Rattle.wi_parser.specs.Sheet.{Sheet, content_of, put_all, has_formula}
 use Rattle.wi_parser.specs.declared.content.Content.{Content}
 use Rattle.wi_parser.specs.declared.content.Content.TheVariants.{Constant, Formula}
 use Rattle.wi_lookup.specs.Assignment.{Assignment, AgreesWith}
-use Rattle.wi_functions.specs.Meaning.{meaning, zero_for_empty}
-use Rattle.wi_functions.specs.Wants.{IfDone}
+use Rattle.wi_functions.specs.Meaning.{meaning}
+use Rattle.wi_functions.specs.Wants.{IsUnknown}
+use Rattle.wi_functions.specs.Evaluation.{IsOutcomeOf}
+use Rattle.wi_functions.specs.declared.evaluation.Want.{Want}
+use Rattle.wi_functions.specs.declared.evaluation.Want.TheVariants.{Cell, WhatIf}
 use Rattle.wi_functions.specs.declared.evaluation.Outcome.{Outcome}
 use Rattle.wi_functions.specs.declared.evaluation.Outcome.TheVariants.{Done, Needs}
+use Rattle.wi_functions.proofs.Outcomes.{value_by_all, same_by_all}
+use Rattle.wi_cache.specs.declared.key.Key.{Key}
 use Rattle.wi_graph.specs.Circular.{circular}
 use Rattle.wi_graph.proofs.Ends.{ends_open}
 use Rattle.wi_sheet.specs.CellValue.{value_of, cell_value, what_if_value}
 use Rattle.wi_sheet.proofs.Steps.{value_step, value_plain, put_not_circular}
 use Rattle.wi_sheet.proofs.Demands.{same_tree}
 use Rattle.wi_engine.specs.Inner.Findings.{found_value, what_if_found, AreAllRight}
-use Rattle.wi_engine.specs.Inner.Attempt.{known_in, cell_known}
-use Rattle.wi_engine.specs.Inner.SettledFrames.{HasOneMeaning}
+use Rattle.wi_engine.specs.Inner.Attempt.{known_in, cell_known, IsLacking}
+use Rattle.wi_engine.specs.Inner.Attempts.{IsAttemptOf}
 use Rattle.wi_engine.specs.declared.findings.Findings.{Findings}
 
 -- the values of a sheet's cells and what-ifs
@@ -48,26 +53,36 @@ known_agrees s w f r = record {
   what_ifs = r.what_ifs;
 }
 
--- the same, of what is known by other names
-known_as : (s q : Sheet) (w v : List Replacement) (f g : Findings) (a : Assignment) → q ≡ s → v ≡ w → g ≡ f → AgreesWith (cell_known s w f) (what_if_found f) a → AgreesWith (cell_known q v g) (what_if_found g) a
-known_as s q w v f g a d e h r =
-    subst (λ (x : Sheet). AgreesWith (cell_known x v g) (what_if_found g) a) (sym d)
-    (subst (λ (x : List Replacement). AgreesWith (cell_known s x g) (what_if_found g) a) (sym e)
-    (subst (λ (x : Findings). AgreesWith (cell_known s w x) (what_if_found x) a) (sym h) r))
+-- a value that isn't known is lacking
+lacking_from_unknown : (s : Sheet) (w : List Replacement) (f : Findings) (want : Want) → IsUnknown (cell_known s w f) (what_if_found f) want → IsLacking s w f want
+lacking_from_unknown s w f (Cell a) h = by (content_of (put_all s w) a) h
+  where
+    by : (o : Option Content) → known_in o (found_value f a) ≡ None → (has_formula o ≡ true) × (found_value f a ≡ None)
+    by None e = cc
+    by (Some (Constant v)) e = cc
+    by (Some (Formula t)) e = (refl, e)
+lacking_from_unknown s w f (WhatIf c pairs) h = h
 
--- a formula that is done with has the cell's value
-pub done_with : (s q : Sheet) (w v : List Replacement) (f g : Findings) (c : ℕ) (t : Tree) (o : Outcome) → q ≡ s → v ≡ w → g ≡ f →
-    circular s c ≡ false → content_of (put_all s w) c ≡ Some (Formula t) → AreAllRight (cell_value (put_all s w)) (what_if_value (put_all s w)) f →
-    IfDone o (λ x. (a : Assignment) → AgreesWith (cell_known q v g) (what_if_found g) a → x ≡ zero_for_empty (meaning t a.cells a.what_ifs)) →
-    IfDone o (λ x. x ≡ cell_value (put_all s w) c)
-done_with s q w v f g c t (Done x) d e h n is r k =
-    k (values_in (put_all s w)) (known_as s q w v f g (values_in (put_all s w)) d e h (known_agrees s w f r))
-    ∙ sym (value_step (put_all s w) c t (put_not_circular s w c n) is)
-done_with s q w v f g c t (Needs x) d e h n is r k = tt
+-- what a lookup knows is what is known under the replacements with what was found
+module _ {K : Type 0} (known_cell : K → ℕ → Option Value) (known_what_if : K → ℕ → List (ℕ × ℕ) → Option Value) (known : K) (s : Sheet) (k : Key) (f : Findings)
+    (cells : known_cell known ≡ cell_known s k.world f) (what_ifs : known_what_if known ≡ what_if_found f) where
+  known_as : (a : Assignment) → AgreesWith (cell_known s k.world f) (what_if_found f) a → AgreesWith (known_cell known) (known_what_if known) a
+  known_as a r =
+      subst (λ (x : ℕ → List (ℕ × ℕ) → Option Value). AgreesWith (known_cell known) x a) (sym what_ifs)
+      (subst (λ (x : ℕ → Option Value). AgreesWith x (what_if_found f) a) (sym cells) r)
 
--- and it means one value by all values that agree with what is known
-pub one_meaning_by_known : (s q : Sheet) (w v : List Replacement) (f g : Findings) (c : ℕ) (t : Tree) (o : Outcome) → q ≡ s → v ≡ w → g ≡ f → content_of (put_all s w) c ≡ Some (Formula t) →
-    IfDone o (λ x. (a b : Assignment) → AgreesWith (cell_known q v g) (what_if_found g) a → AgreesWith (cell_known q v g) (what_if_found g) b → meaning t a.cells a.what_ifs ≡ meaning t b.cells b.what_ifs) → IfDone o (λ x. HasOneMeaning s w c f)
-one_meaning_by_known s q w v f g c t (Done x) d e h is k = λ u a b i r l.
-    subst (λ (y : Tree). meaning y a.cells a.what_ifs ≡ meaning y b.cells b.what_ifs) (same_tree t u (content_of (put_all s w) c) is i) (k a b (known_as s q w v f g a d e h r) (known_as s q w v f g b d e h l))
-one_meaning_by_known s q w v f g c t (Needs x) d e h is k = tt
+  -- what an evaluation gives for the formula of a key, the attempt gives
+  pub attempted : (t : Tree) (o : Outcome) → circular s k.cell ≡ false → content_of (put_all s k.world) k.cell ≡ Some (Formula t) → AreAllRight (cell_value (put_all s k.world)) (what_if_value (put_all s k.world)) f →
+      IsOutcomeOf known_cell known_what_if known t o → IsAttemptOf s k f o
+  attempted t (Done v) n is r e = record {
+    value = value_by_all known_cell known_what_if known t v e (values_in (put_all s k.world)) (known_as (values_in (put_all s k.world)) (known_agrees s k.world f r))
+        ∙ sym (value_step (put_all s k.world) k.cell t (put_not_circular s k.world k.cell n) is);
+    one_meaning = λ u a b i g h. subst (λ (y : Tree). meaning y a.cells a.what_ifs ≡ meaning y b.cells b.what_ifs) (same_tree t u (content_of (put_all s k.world) k.cell) is i)
+        (same_by_all known_cell known_what_if known t v e a b (known_as a g) (known_as b h));
+  }
+  attempted t (Needs w) n is r e = record {
+    asked = record { tree = t; is = is; asks = e.asked };
+    lacking = lacking_from_unknown s k.world f w
+        (subst (λ (x : ℕ → List (ℕ × ℕ) → Option Value). IsUnknown (cell_known s k.world f) x w) what_ifs
+        (subst (λ (x : ℕ → Option Value). IsUnknown x (known_what_if known) w) cells e.unknown));
+  }

@@ -1,9 +1,12 @@
 -- The parameters of a call as they are valued.
-use Rattle.std.specs.Prelude.{◌≡◌, ℕ, true, List, map}
+use Rattle.std.specs.Prelude.{◌≡◌, ℕ, true, List, map, length}
 use Rattle.std.specs.List.{list_any}
 use Rattle.wi_values.specs.declared.value.Value.{Value}
 use Rattle.wi_parser.specs.Tree.{Trees}
-use Rattle.wi_standard_functions.specs.Arguments.{Argument, value_or}
+use Rattle.wi_standard_functions.specs.Arguments.{Argument, value_at, value_or}
+use Rattle.wi_calls.specs.Applied.{applied}
+use Rattle.wi_calls.specs.declared.function.Function.TheVariants.{Lazy}
+use Rattle.wi_calls.specs.declared.function.LazyFunction.{LazyFunction}
 use Rattle.wi_lookup.specs.Arguments.{refers_to}
 use Rattle.wi_lookup.specs.declared.argument.Argument as given
 use Rattle.wi_functions.specs.Wants.{AnyAsks}
@@ -22,3 +25,7 @@ ReferInside args ts = (c : ℕ) → list_any (refers_to c) args ≡ true → Any
 abbrev pub chosen_of : choice.Choice → List Argument → Value
 chosen_of (choice.TheVariants.Value v) args = v
 chosen_of (choice.TheVariants.Parameter place default) args = value_or default args place
+
+-- whatever arguments there are, so many of them and the first with this value: what is chosen of them is what the function gives
+abbrev pub Chooses : LazyFunction → Value → ℕ → choice.Choice → Type 0
+Chooses function first count made = (args : List Argument) → length args ≡ count → first ≡ value_at args 0 → chosen_of made args ≡ applied (Lazy function) args

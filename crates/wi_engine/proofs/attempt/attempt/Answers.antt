@@ -1,25 +1,30 @@
-use Rattle.std.proofs.Common.{ap}
+use Rattle.std.proofs.Common.{List, ap, ◌∙◌}
 use Rattle.std.proofs.lemmas.Result.{IfOk-weaker}
-use Rattle.wi_engine.proofs.attempt.Attempting.{done_with, one_meaning_by_known}
+use Rattle.wi_values.specs.declared.replacement.Replacement.{Replacement}
+use Rattle.wi_parser.specs.Sheet.{Sheet}
+use Rattle.wi_store.specs.Store.{Stored}
+use Rattle.wi_engine.specs.Inner.Attempt.{cell_known}
+use Rattle.wi_engine.specs.Inner.Findings.{what_if_found}
+use Rattle.wi_engine.specs.declared.findings.Findings.{Findings}
+use Rattle.wi_engine.specs.declared.lookup.Known.{Known}
+use Rattle.wi_engine.proofs.attempt.Attempting.{attempted}
 use Rattle.wi_engine.proofs.attempt.attempt.Goals as goal
 
-pub returns-clause-done : goal.returns-clause-done
-returns-clause-done c =
+pub returns-clause-outcome : goal.returns-clause-outcome
+returns-clause-outcome c =
     let known = c.new-known.result in
     let stands = c.new-known.ensures in
+    let s = c.args.store.now.sheet in
+    let k = c.args.frame.now.key in
+    let f = c.args.frame.now.found in
+    let cells =
+    ap (λ (x : Sheet). cell_known x known.world.now known.found.now) (ap (λ (x : Stored). x.sheet) stands.store)
+    ∙ ap (λ (x : List Replacement). cell_known s x known.found.now) stands.world
+    ∙ ap (λ (x : Findings). cell_known s k.world x) stands.found in
     IfOk-weaker c.evaluate.result _ _
-    (λ o h. done_with c.args.store.now.sheet known.store.now.sheet c.args.frame.now.key.world known.world.now c.args.frame.now.found known.found.now c.args.frame.now.key.cell c.args.frame.now.formula.now o
-    (ap (λ k. k.sheet) stands.store) stands.world stands.found c.requires.open c.requires.formula c.requires.right h)
-    c.evaluate.ensures.done
+    (λ o h. attempted (λ (x : Known). cell_known x.store.now.sheet x.world.now x.found.now) (λ (x : Known). what_if_found x.found.now) known s k f cells (ap what_if_found stands.found)
+    c.args.frame.now.formula.now o c.requires.open c.requires.formula c.requires.right h)
+    c.evaluate.ensures.outcome
 
 pub returns-clause-counted : goal.returns-clause-counted
 returns-clause-counted c = search c.evaluate.ensures.counted
-
-pub returns-clause-one_meaning : goal.returns-clause-one_meaning
-returns-clause-one_meaning c =
-    let known = c.new-known.result in
-    let stands = c.new-known.ensures in
-    IfOk-weaker c.evaluate.result _ _
-    (λ o h. one_meaning_by_known c.args.store.now.sheet known.store.now.sheet c.args.frame.now.key.world known.world.now c.args.frame.now.found known.found.now c.args.frame.now.key.cell c.args.frame.now.formula.now o
-    (ap (λ k. k.sheet) stands.store) stands.world stands.found c.requires.formula h)
-    c.evaluate.ensures.one_meaning

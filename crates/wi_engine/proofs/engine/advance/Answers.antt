@@ -17,12 +17,11 @@ returns-in_err-wait_for-in-Needs-clause-err_restarts g c =
     let i = c.rounds.invariant in
     let f = c.settle.new.frame in
     let counted = rw c.in-Needs.is at c.in_ok-value.ensures.counted in
-    let asked = rw c.in-Needs.is at c.in_ok-value.ensures.asked in
-    let lacking = rw c.in-Needs.is at c.in_ok-value.ensures.lacking in
+    let wanted = rw c.in-Needs.is at c.in_ok-value.ensures.outcome in
     let nothing = c.in_ok-first.ensures.settled (ap (λ o. Ok o) c.in_default-2.is) in
     let within : c.attempt.new.meter.restarts ≤ c.args.meter.now.restarts + spare s c.args.frame.now =
     want_counted s f c.in-Needs.want c.rounds.meter.restarts c.attempt.new.meter.restarts (spare s c.rounds.frame) (c.args.meter.now.restarts + spare s c.args.frame.now)
-    asked lacking nothing (ap (λ (m : Counts). m.restarts) counted) c.in_ok-first.ensures.spare i.restarts in
+    wanted.asked wanted.lacking nothing (ap (λ (m : Counts). m.restarts) counted) c.in_ok-first.ensures.spare i.restarts in
     search (rules, within)
 
 pub rounds-smaller : goal.rounds-smaller
@@ -70,9 +69,15 @@ returns-in-Done-clause-found g c =
 pub returns-in-Done-clause-rests : goal.returns-in-Done-clause-rests
 returns-in-Done-clause-rests g c =
     let i = c.rounds.invariant in
-    let one = rw c.in-Done.is at c.in_ok-value.ensures.one_meaning in
-    done_settled c.args.store.now.sheet (g.M.Memo.state c.args.memo.now) c.args.frame.now c.settle.new.frame (c.in_ok-first.ensures.key ∙ i.key) c.in_ok-first.ensures.frame.found one
+    let found = rw c.in-Done.is at c.in_ok-value.ensures.outcome in
+    done_settled c.args.store.now.sheet (g.M.Memo.state c.args.memo.now) c.args.frame.now c.settle.new.frame (c.in_ok-first.ensures.key ∙ i.key) c.in_ok-first.ensures.frame.found found.one_meaning
     (round_settled c.args.store.now.sheet (g.M.Memo.state c.args.memo.now) (g.M.Memo.state c.rounds.memo) c.args.frame.now c.rounds.frame c.settle.new.frame i.same i.settled c.in_ok-first.ensures.found)
+
+pub wait_for-requires-clause-asks : goal.wait_for-requires-clause-asks
+wait_for-requires-clause-asks g c = let wanted = rw c.in-Needs.is at c.in_ok-value.ensures.outcome in wanted.asked
+
+pub wait_for-requires-clause-lacking : goal.wait_for-requires-clause-lacking
+wait_for-requires-clause-lacking g c = let wanted = rw c.in-Needs.is at c.in_ok-value.ensures.outcome in wanted.lacking
 
 pub returns-in-Done-clause-evaluations : goal.returns-in-Done-clause-evaluations
 returns-in-Done-clause-evaluations g c =
@@ -159,8 +164,8 @@ returns-in_err-wait_for-in-Needs-clause-counts g c = never_fall-then _ _ _ c.rou
 
 pub returns-in-Done-clause-done : goal.returns-in-Done-clause-done
 returns-in-Done-clause-done g c =
-    let done = rw c.in-Done.is at c.in_ok-value.ensures.done in
-    done ∙ ap (λ (k : Key). cell_value (put_all c.args.store.now.sheet k.world) k.cell) (c.in_ok-first.ensures.key ∙ c.rounds.invariant.key)
+    let found = rw c.in-Done.is at c.in_ok-value.ensures.outcome in
+    found.value ∙ ap (λ (k : Key). cell_value (put_all c.args.store.now.sheet k.world) k.cell) (c.in_ok-first.ensures.key ∙ c.rounds.invariant.key)
 
 pub returns-in-Done-clause-counts : goal.returns-in-Done-clause-counts
 returns-in-Done-clause-counts g c = never_fall-then _ _ _ c.rounds.invariant.counts c.attempt.ensures.counts

@@ -4,6 +4,6 @@ use Rattle.wi_values.specs.declared.value.Value.TheVariants.{Fault}
 use Rattle.wi_functions.proofs.choice.unless_error.Goals as goal
 
 pub returns-in-Fault : goal.returns-in-Fault
-returns-in-Fault c = λ args h.
+returns-in-Fault c = λ n args l h.
     let fault : value_at args 0 ≡ Fault c.in-Fault.field-0 = sym h ∙ c.in-Fault.is in
     search fault

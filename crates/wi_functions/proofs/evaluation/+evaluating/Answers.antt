@@ -1,51 +1,57 @@
-use Rattle.std.proofs.Common.{◌≡◌, ℕ, List, length, refl, sym, ap, ◌∙◌, subst, arith}
-use Rattle.std.proofs.lemmas.Result.{err_from_is_err_and}
-use Rattle.wi_parser.specs.declared.expr.Expr.{Expr}
+use Rattle.std.proofs.Common.{◌≡◌, ℕ, List, refl, sym, ap, ◌∙◌, subst, arith, rules}
+use Rattle.std.proofs.lemmas.Result.{err_from_is_err_and, MatchResult-weaker}
+use Rattle.wi_values.specs.declared.value.Value.{Value}
+use Rattle.wi_parser.specs.declared.expr.Expr.{Expr, the_lemmas}
+use Rattle.wi_parser.specs.Tree.{Tree, text, binary, call}
+use Rattle.wi_parser.specs.Leaves.{leaves, all_leaves}
 use Rattle.wi_parser.specs.View.{tree_of, all_of}
-use Rattle.wi_standard_functions.specs.Arguments.{Argument}
+use Rattle.wi_standard_functions.specs.Arguments.{value_or}
 use Rattle.wi_standard_functions.specs.Functions.{call_value}
 use Rattle.wi_calls.specs.Applied.{applied, applied_to_values}
-use Rattle.wi_calls.specs.declared.function.Function.{Function}
-use Rattle.wi_calls.specs.declared.function.Function.TheVariants.{Values, References}
+use Rattle.wi_calls.specs.declared.function.Function.TheVariants.{Lazy, References}
 use Rattle.wi_calls.proofs.ValuesAlone.{values_alone}
 use Rattle.wi_lookup.specs.Arguments.{arguments_in}
 use Rattle.wi_lookup.specs.declared.argument.Argument as given
-use Rattle.wi_functions.specs.Meaning.{arguments}
-use Rattle.wi_functions.specs.Wants.{AnyAsks, IsUnknown, IfNeeds}
+use Rattle.wi_functions.specs.Operators.{operate}
+use Rattle.wi_functions.specs.Meaning.{meaning, arguments}
+use Rattle.wi_functions.specs.Evaluation.{IsWanted}
 use Rattle.wi_functions.specs.Inner.Calls.{values_of, ReferInside}
+use Rattle.wi_functions.specs.Inner.Parts.{of_tree, of_parameters, mapped, IfNeeds, Evaluates}
 use Rattle.wi_functions.specs.declared.evaluation.Stop.{Stop}
-use Rattle.wi_functions.proofs.Asking.{left_asks, right_asks, memory_asks}
-use Rattle.wi_functions.proofs.Parameters.{value_there, value_missing, asked_there, asked_of, ok_then, length_arguments, more_arguments, more_values, none_left, reference_is, value_is, reference_asks, value_asks, more_refer, stop_asks, stop_unknown}
+use Rattle.wi_functions.proofs.Asking.{left_asks, right_asks, memory_wants, wanted_too, evaluates_too, stop_wants}
+use Rattle.wi_functions.proofs.Parameters.{value_there, value_missing, asks_there, length_arguments, call_found, more_arguments, more_values, none_left, reference_is, value_is, reference_asks, value_asks, more_refer}
 use Rattle.wi_functions.proofs.evaluation.+evaluating.Goals as goal
 use Rattle.wi_functions.proofs.evaluation.+evaluating.Goals.{all_arguments-in-Some, all_arguments-in-None+in_ok-value_of-in-None}
 
 -- ---- an expression, by its kind
 
-pub value_of-returns-in-Text-clause-asked : goal.value_of-returns-in-Text-clause-asked
-value_of-returns-in-Text-clause-asked g t c =
-    memory_asks _ c.text_value.result c.text_value.ensures.memory
-
-pub value_of-returns-in-Text-clause-unknown : goal.value_of-returns-in-Text-clause-unknown
-value_of-returns-in-Text-clause-unknown g t c =
-    memory_asks _ c.text_value.result c.text_value.ensures.memory
+pub value_of-returns-in-Text : goal.value_of-returns-in-Text
+value_of-returns-in-Text g t c =
+    let is : tree_of c.args.expr.now ≡ text c.in-Text.text = search (rules, the_lemmas) in
+    subst (λ (u : Tree). Evaluates g.L.Lookup.known_cell g.L.Lookup.known_what_if c.args.lookup.now c.text_value.result (of_tree u)) (sym is)
+    (MatchResult-weaker c.text_value.result c.text_value.ensures (λ v h a agrees. h) (memory_wants _))
 
 -- ---- two operands
 
-pub binary_value-returns-in_err-x-clause-asked : goal.binary_value-returns-in_err-x-clause-asked
-binary_value-returns-in_err-x-clause-asked g t c =
+pub binary_value-returns-in_err-x : goal.binary_value-returns-in_err-x
+binary_value-returns-in_err-x g t c =
     let p = err_from_is_err_and c.from_residual.result c.from_residual.ensures.1 in
-    rw (p.1, p.2) (left_asks c.args.operator (tree_of c.args.left.now) (tree_of c.args.right.now) c.in_err-x.field-0.0 c.in_err-x.ensures.asked)
+    rw (p.1, p.2) (wanted_too _ _ _ (leaves (tree_of c.args.left.now)) _ (left_asks c.args.operator (tree_of c.args.left.now) (tree_of c.args.right.now)) c.in_err-x.field-0.0 c.in_err-x.ensures)
 
-pub binary_value-returns-clause-asked : goal.binary_value-returns-clause-asked
-binary_value-returns-clause-asked g t c =
-    right_asks c.args.operator (tree_of c.args.left.now) (tree_of c.args.right.now) c.with_right_operand.result c.with_right_operand.ensures.asked
+pub binary_value-returns : goal.binary_value-returns
+binary_value-returns g t c =
+    let op = c.args.operator in
+    let left = tree_of c.args.left.now in
+    let right = tree_of c.args.right.now in
+    evaluates_too g.L.Lookup.known_cell g.L.Lookup.known_what_if c.args.lookup.now (mapped (operate op c.in_ok-x.x) (of_tree right)) (of_tree (binary op left right)) c.with_right_operand.result
+    (λ a agrees. ap (λ (x : Value). operate op x (meaning right a.cells a.what_ifs)) (c.in_ok-x.ensures a agrees)) (right_asks op left right) c.with_right_operand.ensures
 
 -- ---- all parameters
 
-pub all_arguments-returns-in_err-value_of-in-None-clause-asked : goal.all_arguments-returns-in_err-value_of-in-None-clause-asked
-all_arguments-returns-in_err-value_of-in-None-clause-asked g t c =
+pub all_arguments-returns-in_err-value_of-in-None-clause-meant : goal.all_arguments-returns-in_err-value_of-in-None-clause-meant
+all_arguments-returns-in_err-value_of-in-None-clause-meant g t c =
     let p = err_from_is_err_and c.from_residual.result c.from_residual.ensures.1 in
-    rw (p.1, p.2) (asked_there c.args.parameters.now c.loop-parameter.parameter-index c.parameter-item.result c.in_err-value_of-in-None.field-0.0 c.loop-parameter-test.true c.parameter-item.is c.in_err-value_of-in-None.ensures.asked)
+    rw (p.1, p.2) (wanted_too _ _ _ (leaves (tree_of c.parameter-item.result)) _ (λ w. asks_there c.args.parameters.now c.loop-parameter.parameter-index c.parameter-item.result w c.loop-parameter-test.true c.parameter-item.is) c.in_err-value_of-in-None.field-0.0 c.in_err-value_of-in-None.ensures)
 
 pub all_arguments-loop-parameter-preserved : goal.all_arguments-loop-parameter-preserved
 all_arguments-loop-parameter-preserved g t c =
@@ -61,100 +67,90 @@ all_arguments-loop-parameter-preserved g t c =
       )
       | all_arguments-in-None+in_ok-value_of-in-None w ↦ (
         λ a agrees. more_arguments es i e c.loop-parameter.arguments.items c.push.new.self.items c.match-referred.argument a.cells a.what_ifs c.loop-parameter-test.true c.parameter-item.is c.in_ok-push.ensures.items
-            (rw w.argument-is (value_is (tree_of e) w.in_ok-value_of-in-None.field-0 a.cells a.what_ifs (sym c.referred.ensures ∙ w.in-None.is) (w.in_ok-value_of-in-None.ensures.done a agrees))) (c.loop-parameter.invariant.0 a agrees),
+            (rw w.argument-is (value_is (tree_of e) w.in_ok-value_of-in-None.field-0 a.cells a.what_ifs (sym c.referred.ensures ∙ w.in-None.is) (w.in_ok-value_of-in-None.ensures a agrees))) (c.loop-parameter.invariant.0 a agrees),
         more_refer es i e c.loop-parameter.arguments.items c.push.new.self.items c.match-referred.argument c.loop-parameter-test.true c.parameter-item.is c.in_ok-push.ensures.items
             (rw w.argument-is (λ d r. value_asks (tree_of e) w.in_ok-value_of-in-None.field-0 d r)) c.loop-parameter.invariant.1,
       )
     ]
 
-pub all_values-returns-in_err-value_of-clause-asked : goal.all_values-returns-in_err-value_of-clause-asked
-all_values-returns-in_err-value_of-clause-asked g t c =
+pub all_values-returns-in_err-value_of : goal.all_values-returns-in_err-value_of
+all_values-returns-in_err-value_of g t c =
     let p = err_from_is_err_and c.from_residual.result c.from_residual.ensures.1 in
-    rw (p.1, p.2) (asked_there c.args.parameters.now c.loop-parameter.parameter-index c.parameter-item.result c.in_err-value_of.field-0.0 c.loop-parameter-test.true c.parameter-item.is c.in_err-value_of.ensures.asked)
+    rw (p.1, p.2) (wanted_too _ _ _ (leaves (tree_of c.parameter-item.result)) _ (λ w. asks_there c.args.parameters.now c.loop-parameter.parameter-index c.parameter-item.result w c.loop-parameter-test.true c.parameter-item.is) c.in_err-value_of.field-0.0 c.in_err-value_of.ensures)
 
 pub all_arguments-loop-parameter-init : goal.all_arguments-loop-parameter-init
 all_arguments-loop-parameter-init g t c =
     rw c.new-arguments.ensures.items (λ a agrees. refl, λ d r. cc)
 
-pub all_arguments-returns-clause-done : goal.all_arguments-returns-clause-done
-all_arguments-returns-clause-done g t c =
+pub all_arguments-returns-clause-meant : goal.all_arguments-returns-clause-meant
+all_arguments-returns-clause-meant g t c =
     λ a agrees. none_left (λ (es : List Expr). arguments (all_of es) a.cells a.what_ifs) c.args.parameters.now c.loop-parameter.parameter-index (arguments_in a.cells c.loop-parameter.arguments.items) _ refl (omega (arith, c.loop-parameter-test.false)) (c.loop-parameter.invariant.0 a agrees)
 
 pub all_values-loop-parameter-preserved : goal.all_values-loop-parameter-preserved
 all_values-loop-parameter-preserved g t c =
     λ a agrees. more_values c.args.parameters.now c.loop-parameter.parameter-index c.parameter-item.result c.loop-parameter.values.items c.push.new.self.items c.in_ok-value_of.field-0 a.cells a.what_ifs c.loop-parameter-test.true c.parameter-item.is c.in_ok-push.ensures.items
-    (c.in_ok-value_of.ensures.done a agrees) (c.loop-parameter.invariant a agrees)
+    (c.in_ok-value_of.ensures a agrees) (c.loop-parameter.invariant a agrees)
 
-pub all_values-returns-clause-done : goal.all_values-returns-clause-done
-all_values-returns-clause-done g t c =
+pub all_values-returns : goal.all_values-returns
+all_values-returns g t c =
     λ a agrees. none_left (λ (es : List Expr). values_of (arguments (all_of es) a.cells a.what_ifs)) c.args.parameters.now c.loop-parameter.parameter-index c.loop-parameter.values.items _ refl (omega (arith, c.loop-parameter-test.false)) (c.loop-parameter.invariant a agrees)
 
 -- ---- a call
 
-pub call_value-returns-in-Err-clause-done : goal.call_value-returns-in-Err-clause-done
-call_value-returns-in-Err-clause-done g t c =
+pub call_value-returns-in-Err : goal.call_value-returns-in-Err
+call_value-returns-in-Err g t c =
     λ a agrees. let args = arguments (all_of c.args.parameters.now) a.cells a.what_ifs in
     sym (ap (λ (n : List ℕ). call_value n args) (sym c.as_str.ensures) ∙ c.in-Err.ensures.refused args (length_arguments c.args.parameters.now a.cells a.what_ifs))
 
-pub call_value-returns-in-Ok-Lazy-clause-done : goal.call_value-returns-in-Ok-Lazy-clause-done
-call_value-returns-in-Ok-Lazy-clause-done g t c =
-    ok_then _ _ c.lazy_value.result (λ v h a agrees. let args = arguments (all_of c.args.parameters.now) a.cells a.what_ifs in
-    h a agrees
-    ∙ ap (λ (f : Function). applied f args) (sym c.in-Ok-Lazy.field-0-is)
-    ∙ sym (c.in-Ok-Lazy.ensures.found args (length_arguments c.args.parameters.now a.cells a.what_ifs))
-    ∙ ap (λ (n : List ℕ). call_value n args) c.as_str.ensures) c.lazy_value.ensures.done
+pub call_value-returns-in-Ok-Lazy : goal.call_value-returns-in-Ok-Lazy
+call_value-returns-in-Ok-Lazy g t c =
+    let trees = all_of c.args.parameters.now in
+    evaluates_too g.L.Lookup.known_cell g.L.Lookup.known_what_if c.args.lookup.now (mapped (applied (Lazy c.in-Ok-Lazy.function)) (of_parameters trees)) (of_tree (call c.args.name.now trees)) c.lazy_value.result
+    (λ a agrees. call_found c.args.parameters.now _ _ _ _ a.cells a.what_ifs c.in-Ok-Lazy.ensures.found c.in-Ok-Lazy.field-0-is c.as_str.ensures) (λ w h. h) c.lazy_value.ensures
 
-pub call_value-returns-in-Ok-Values-clause-done : goal.call_value-returns-in-Ok-Values-clause-done
-call_value-returns-in-Ok-Values-clause-done g t c =
-    λ a agrees. let args = arguments (all_of c.args.parameters.now) a.cells a.what_ifs in
-    c.in_ok-value_of_values-in-Ok-Values.ensures
-    ∙ ap (applied_to_values c.in-Ok-Values.function) (c.deref.ensures.value ∙ c.in_ok-values-in-Ok-Values.ensures.done a agrees)
-    ∙ sym (values_alone c.in-Ok-Values.function args)
-    ∙ ap (λ (f : Function). applied f args) (sym c.in-Ok-Values.field-0-is)
-    ∙ sym (c.in-Ok-Values.ensures.found args (length_arguments c.args.parameters.now a.cells a.what_ifs))
-    ∙ ap (λ (n : List ℕ). call_value n args) c.as_str.ensures
+pub call_value-returns-in-Ok-Values : goal.call_value-returns-in-Ok-Values
+call_value-returns-in-Ok-Values g t c =
+    λ a agrees. c.in_ok-value_of_values-in-Ok-Values.ensures
+    ∙ ap (applied_to_values c.in-Ok-Values.function) (c.deref.ensures.value ∙ c.in_ok-values-in-Ok-Values.ensures a agrees)
+    ∙ sym (values_alone c.in-Ok-Values.function (arguments (all_of c.args.parameters.now) a.cells a.what_ifs))
+    ∙ call_found c.args.parameters.now _ _ _ _ a.cells a.what_ifs c.in-Ok-Values.ensures.found c.in-Ok-Values.field-0-is c.as_str.ensures
 
-pub call_value-returns-in-Ok-clause-done : goal.call_value-returns-in-Ok-clause-done
-call_value-returns-in-Ok-clause-done g t c =
-    λ a agrees. let args = arguments (all_of c.args.parameters.now) a.cells a.what_ifs in
-    c.in-Ok.ensures.done a.cells agrees.cells
+pub call_value-returns-in-Ok : goal.call_value-returns-in-Ok
+call_value-returns-in-Ok g t c =
+    λ a agrees. c.in-Ok.ensures.done a.cells agrees.cells
     ∙ ap (λ (xs : List given.Argument). applied (References c.in-Ok-References.function) (arguments_in a.cells xs)) c.deref-in-Ok-References.ensures.value
-    ∙ ap (applied (References c.in-Ok-References.function)) (c.in_ok-arguments-in-Ok-References.ensures.done a agrees)
-    ∙ ap (λ (f : Function). applied f args) (sym c.in-Ok-References.field-0-is)
-    ∙ sym (c.in-Ok-References.ensures.found args (length_arguments c.args.parameters.now a.cells a.what_ifs))
-    ∙ ap (λ (n : List ℕ). call_value n args) c.as_str.ensures
+    ∙ ap (applied (References c.in-Ok-References.function)) (c.in_ok-arguments-in-Ok-References.ensures.meant a agrees)
+    ∙ call_found c.args.parameters.now _ _ _ _ a.cells a.what_ifs c.in-Ok-References.ensures.found c.in-Ok-References.field-0-is c.as_str.ensures
 
-pub call_value-returns-clause-asked : goal.call_value-returns-clause-asked
-call_value-returns-clause-asked g t c =
-    let inside = subst (λ (xs : List given.Argument). ReferInside xs (all_of c.args.parameters.now)) (sym c.deref-in-Ok-References.ensures.value) c.in_ok-arguments-in-Ok-References.ensures.refers in
-    subst (λ (s : Stop). IfNeeds s (AnyAsks (all_of c.args.parameters.now))) (sym c.stopped.ensures)
-    (stop_asks c.in-Err-value_of_references.stop (g.L.Lookup.known_cell c.args.lookup.now) c.deref-in-Ok-References.result.now (all_of c.args.parameters.now) c.in-Err-value_of_references.ensures.missing inside)
-
-pub call_value-returns-clause-unknown : goal.call_value-returns-clause-unknown
-call_value-returns-clause-unknown g t c =
-    subst (λ (s : Stop). IfNeeds s (IsUnknown (g.L.Lookup.known_cell c.args.lookup.now) (g.L.Lookup.known_what_if c.args.lookup.now))) (sym c.stopped.ensures)
-    (stop_unknown c.in-Err-value_of_references.stop (g.L.Lookup.known_cell c.args.lookup.now) (g.L.Lookup.known_what_if c.args.lookup.now) c.deref-in-Ok-References.result.now c.in-Err-value_of_references.ensures.missing)
+pub call_value-returns : goal.call_value-returns
+call_value-returns g t c =
+    let trees = all_of c.args.parameters.now in
+    let inside = subst (λ (xs : List given.Argument). ReferInside xs trees) (sym c.deref-in-Ok-References.ensures.value) c.in_ok-arguments-in-Ok-References.ensures.refers in
+    subst (λ (s : Stop). IfNeeds s (IsWanted g.L.Lookup.known_cell g.L.Lookup.known_what_if c.args.lookup.now (all_leaves trees))) (sym c.stopped.ensures)
+    (stop_wants _ _ _ c.in-Err-value_of_references.stop c.deref-in-Ok-References.result.now trees c.in-Err-value_of_references.ensures.missing inside)
 
 -- ---- a function that chooses
 
-pub lazy_value-returns-in-Value-clause-done : goal.lazy_value-returns-in-Value-clause-done
-lazy_value-returns-in-Value-clause-done g t c =
-    λ a agrees. c.in-Value.ensures (arguments (all_of c.args.parameters.now) a.cells a.what_ifs) (length_arguments c.args.parameters.now a.cells a.what_ifs) (c.in_ok-first.ensures.done a agrees)
+pub lazy_value-returns-in-Value : goal.lazy_value-returns-in-Value
+lazy_value-returns-in-Value g t c =
+    λ a agrees. c.in-Value.ensures (arguments (all_of c.args.parameters.now) a.cells a.what_ifs) (length_arguments c.args.parameters.now a.cells a.what_ifs) (c.in_ok-first.ensures a agrees)
 
-pub lazy_value-returns-in-Parameter-clause-done : goal.lazy_value-returns-in-Parameter-clause-done
-lazy_value-returns-in-Parameter-clause-done g t c =
-    ok_then _ _ c.parameter_or-in-Parameter.result (λ v h a agrees.
-    h a agrees ∙ c.in-Parameter.ensures (arguments (all_of c.args.parameters.now) a.cells a.what_ifs) (length_arguments c.args.parameters.now a.cells a.what_ifs) (c.in_ok-first.ensures.done a agrees)) c.parameter_or-in-Parameter.ensures.done
+pub lazy_value-returns-in-Parameter : goal.lazy_value-returns-in-Parameter
+lazy_value-returns-in-Parameter g t c =
+    let es = c.args.parameters.now in
+    let values = of_parameters (all_of es) in
+    evaluates_too g.L.Lookup.known_cell g.L.Lookup.known_what_if c.args.lookup.now (mapped (λ args. value_or c.in-Parameter.default args c.in-Parameter.place) values) (mapped (applied (Lazy c.args.function)) values) c.parameter_or-in-Parameter.result
+    (λ a agrees. c.in-Parameter.ensures (arguments (all_of es) a.cells a.what_ifs) (length_arguments es a.cells a.what_ifs) (c.in_ok-first.ensures a agrees)) (λ w h. h) c.parameter_or-in-Parameter.ensures
 
-pub parameter_or-returns-in-Some-clause-done : goal.parameter_or-returns-in-Some-clause-done
-parameter_or-returns-in-Some-clause-done g t c =
-    ok_then _ _ c.value_of.result (λ v h a agrees.
-    h a agrees ∙ value_there c.args.parameters.now c.args.place c.in-Some.parameter.now c.args.default a.cells a.what_ifs c.in-Some.ensures.lookup.3.0 c.in-Some.ensures.lookup.1) c.value_of.ensures.done
+pub parameter_or-returns-in-Some : goal.parameter_or-returns-in-Some
+parameter_or-returns-in-Some g t c =
+    let es = c.args.parameters.now in
+    let e = c.in-Some.parameter.now in
+    let place = c.args.place in
+    let is = c.in-Some.ensures.lookup in
+    evaluates_too g.L.Lookup.known_cell g.L.Lookup.known_what_if c.args.lookup.now (of_tree (tree_of e)) (mapped (λ args. value_or c.args.default args place) (of_parameters (all_of es))) c.value_of.result
+    (λ a agrees. value_there es place e c.args.default a.cells a.what_ifs is.3.0 is.1) (λ w. asks_there es place e w is.3.0 is.1) c.value_of.ensures
 
-pub parameter_or-returns-in-Some-clause-asked : goal.parameter_or-returns-in-Some-clause-asked
-parameter_or-returns-in-Some-clause-asked g t c =
-    asked_of c.args.parameters.now c.args.place c.in-Some.parameter.now c.value_of.result c.in-Some.ensures.lookup.3.0 c.in-Some.ensures.lookup.1 c.value_of.ensures.asked
-
-pub parameter_or-returns-in-None-clause-done : goal.parameter_or-returns-in-None-clause-done
-parameter_or-returns-in-None-clause-done g t c =
+pub parameter_or-returns-in-None : goal.parameter_or-returns-in-None
+parameter_or-returns-in-None g t c =
     λ a agrees. value_missing c.args.parameters.now c.args.place c.args.default a.cells a.what_ifs c.in-None.ensures.lookup.3

@@ -1,10 +1,9 @@
-use Rattle.std.proofs.Common.{◌≡◌, ◌++◌, ◌+◌, ◌*◌, ℕ, true, max, drop}
-use Rattle.std.specs.List.{list_any}
+use Rattle.std.proofs.Common.{◌≡◌, ◌++◌, ◌+◌, ◌*◌, max, drop}
 use Rattle.wi_parser.specs.View.{all_of}
 use Rattle.wi_parser.proofs.expr.Expr.TheLaws.{the_size}
 use Rattle.wi_lookup.specs.Arguments.{arguments_in}
-use Rattle.wi_lookup.specs.Assignment.{Assignment, AgreesWith}
 use Rattle.wi_functions.specs.Meaning.{arguments}
+use Rattle.wi_functions.specs.Evaluation.{ByAll}
 use Rattle.wi_functions.specs.Inner.Calls.{values_of, ReferInside}
 use Rattle.wi_functions.proofs.evaluation.+evaluating.Given as goal
 
@@ -41,12 +40,12 @@ decreases-with_right_operand g l = 4 * the_size l.right.now + 1
 -- the arguments so far and those of the parameters to come are all
 abbrev pub invariant-all_arguments-loop-parameter : goal.invariant-all_arguments-loop-parameter
 invariant-all_arguments-loop-parameter g l =
-    ((a : Assignment) → AgreesWith (g.L.Lookup.known_cell l.lookup) (g.L.Lookup.known_what_if l.lookup) a →
+    ByAll g.L.Lookup.known_cell g.L.Lookup.known_what_if l.lookup (λ a.
     arguments_in a.cells l.arguments.items ++ arguments (all_of (drop l.parameter-index l.parameters)) a.cells a.what_ifs ≡ arguments (all_of l.parameters) a.cells a.what_ifs)
     × ReferInside l.arguments.items (all_of l.parameters)
 
 -- the values so far and those of the parameters to come are all
 abbrev pub invariant-all_values-loop-parameter : goal.invariant-all_values-loop-parameter
 invariant-all_values-loop-parameter g l =
-    (a : Assignment) → AgreesWith (g.L.Lookup.known_cell l.lookup) (g.L.Lookup.known_what_if l.lookup) a →
-    l.values.items ++ values_of (arguments (all_of (drop l.parameter-index l.parameters)) a.cells a.what_ifs) ≡ values_of (arguments (all_of l.parameters) a.cells a.what_ifs)
+    ByAll g.L.Lookup.known_cell g.L.Lookup.known_what_if l.lookup (λ a.
+    l.values.items ++ values_of (arguments (all_of (drop l.parameter-index l.parameters)) a.cells a.what_ifs) ≡ values_of (arguments (all_of l.parameters) a.cells a.what_ifs))

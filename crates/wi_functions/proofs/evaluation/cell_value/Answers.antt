@@ -1,5 +1,8 @@
-use Rattle.std.proofs.Common.{rules}
+use Rattle.std.proofs.Common.{refl, rules}
+use Rattle.wi_parser.specs.Leaves.{cell_leaf}
+use Rattle.wi_functions.specs.declared.evaluation.Want.TheVariants.{Cell}
+use Rattle.wi_functions.proofs.Asking.{leaf_asks}
 use Rattle.wi_functions.proofs.evaluation.cell_value.Goals as goal
 
-pub returns-in-Missing-clause-done : goal.returns-in-Missing-clause-done
-returns-in-Missing-clause-done g c = search rules
+pub returns-in-Missing : goal.returns-in-Missing
+returns-in-Missing g c = record { asked = leaf_asks (cell_leaf c.args.reference) (Cell c.args.reference.at) refl; unknown = search rules }

@@ -1,5 +1,15 @@
-use Rattle.std.proofs.Common.{rules}
+use Rattle.std.proofs.Common.{◌≡◌, subst, rules}
+use Rattle.wi_parser.specs.Tree.{Tree}
+use Rattle.wi_functions.specs.Meaning.{meaning}
+use Rattle.wi_functions.specs.Evaluation.{ByAll}
 use Rattle.wi_functions.proofs.evaluation.evaluate.Goals as goal
+
+pub returns-in-Ok-clause-outcome : goal.returns-in-Ok-clause-outcome
+returns-in-Ok-clause-outcome g c = record {
+  meant = c.in-Ok.value;
+  one_meaning = subst (λ (t : Tree). ByAll g.L.Lookup.known_cell g.L.Lookup.known_what_if c.args.lookup.now (λ a. c.in-Ok.value ≡ meaning t a.cells a.what_ifs)) c.tree.ensures c.in-Ok.ensures;
+  value = search c.zero_for_empty.ensures;
+}
 
 pub returns-in-Ok-clause-counted : goal.returns-in-Ok-clause-counted
 returns-in-Ok-clause-counted g c = search rules

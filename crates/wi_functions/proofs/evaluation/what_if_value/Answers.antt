@@ -1,8 +1,15 @@
-use Rattle.std.proofs.Common.{rules}
+use Rattle.std.proofs.Common.{map, refl, rules}
+use Rattle.wi_parser.specs.Leaves.{what_if_leaf}
+use Rattle.wi_parser.specs.View.{pair_of}
+use Rattle.wi_functions.specs.declared.evaluation.Want.TheVariants.{WhatIf}
+use Rattle.wi_functions.proofs.Asking.{leaf_asks}
 use Rattle.wi_functions.proofs.evaluation.what_if_value.Goals as goal
 
-pub returns-in_ok-copy-in-Known-clause-done : goal.returns-in_ok-copy-in-Known-clause-done
-returns-in_ok-copy-in-Known-clause-done g c = search rules
+pub returns-in_ok-copy-in-Known : goal.returns-in_ok-copy-in-Known
+returns-in_ok-copy-in-Known g c = search rules
 
-pub returns-in_ok-from_slice-in-Missing-clause-unknown : goal.returns-in_ok-from_slice-in-Missing-clause-unknown
-returns-in_ok-from_slice-in-Missing-clause-unknown g c = search rules
+pub returns-in_ok-from_slice-in-Missing : goal.returns-in_ok-from_slice-in-Missing
+returns-in_ok-from_slice-in-Missing g c = record {
+  asked = leaf_asks (what_if_leaf c.args.formula_cell (map pair_of c.args.pairs.now)) (WhatIf c.args.formula_cell.at c.in_ok-from_slice-in-Missing.field-0) (refl, search rules);
+  unknown = search rules;
+}
