@@ -1,0 +1,10 @@
+pub mod Operands
+pub mod Command
+pub mod Edits
+pub mod Causes
+pub mod Does
+pub mod Reply
+pub mod Script
+pub mod Outcome
+pub mod Step
+pub mod Laws

@@ -1,0 +1,74 @@
+-- The operands of commands, and the words that spell them, whether the sheet has the cells or not.
+use Rattle.std.specs.Prelude.{◌≡◌, ◌≢◌, ◌+◌, ◌<◌, ◌≤◌, ℕ, Bool, ◌||◌, nat_le, List, [], ◌∷◌, ◌++◌, length, Option, Some, None, IsTrue, codes}
+use Rattle.std.specs.List.{list_all}
+use Rattle.std.specs.Char.{is_ascii_alphabetic}
+use Rattle.std.specs.Str.{all_ascii_digits}
+use Rattle.std.specs.Str.Parse.{digits_value}
+use Rattle.wi_values.specs.Address.{Area, rows, columns, place, rect_of, letters_value, is_row_number}
+use Rattle.wi_values.specs.Name.{is_name}
+use Rattle.wi_cli.specs.Words.{is_space, first_word, after_word}
+
+abbrev pub Bytes : Type 0
+Bytes = List ℕ
+
+-- a cell by its row and its column, counted from 0, of any size
+pub record Cell : Type 0 where
+  pub row : ℕ
+  pub column : ℕ
+
+-- two opposite corners of a rectangle, in any order
+abbrev pub Corners : Type 0
+Corners = Cell × Cell
+
+-- the sheet doesn't have the cell
+abbrev pub is_outside : Cell → Bool
+is_outside c = nat_le rows c.row || nat_le columns c.column
+
+-- the address of a cell, and the rectangle of two corners, where the sheet has them
+abbrev pub address : Cell → ℕ
+address c = place c.row c.column
+
+abbrev pub area : Corners → Area
+area r = rect_of (address r.0) (address r.1)
+
+pub data Operand : Type 0 where
+  WORD CONTENT NAME SESSION : Bytes → Operand
+  ADDR : Cell → Operand
+  RECT : Corners → Operand
+  LINES : ℕ → Operand
+  -- a scenario, or `-` for the base
+  SIDE : Option Bytes → Operand
+  -- any word, which spells this cell, or none
+  ANY : Option Cell → Operand
+
+-- ADDR is ASCII letters of either case and then digits, the first not `0`.
+pub data IsAddr : Bytes → Cell → Type 0 where
+  addr : (letters digits : Bytes) (c : Cell) → 0 < length letters → IsTrue (list_all is_ascii_alphabetic letters) → IsTrue (is_row_number digits)
+      → letters_value letters ≡ c.column + 1 → digits_value 10 digits ≡ c.row + 1 → IsAddr (letters ++ digits) c
+
+-- RECT is ADDR or `ADDR:ADDR`, corners in any order.
+pub data IsRect : Bytes → Corners → Type 0 where
+  a_cell : (word : Bytes) (c : Cell) → IsAddr word c → IsRect word (c, c)
+  two_cells : (v w : Bytes) (c d : Cell) → IsAddr v c → IsAddr w d → IsRect (v ++ codes ":" ++ w) (c, d)
+
+-- the word spells the operand
+abbrev pub IsSpelled : Bytes → Operand → Type 0
+IsSpelled word (WORD w) = word ≡ w
+IsSpelled word (ADDR c) = IsAddr word c
+IsSpelled word (RECT r) = IsRect word r
+IsSpelled word (NAME name) = (word ≡ name) × IsTrue (is_name name)
+IsSpelled word (SESSION name) = (word ≡ name) × IsTrue (is_name name)
+IsSpelled word (SIDE (Some name)) = (word ≡ name) × IsTrue (is_name name)
+IsSpelled word (SIDE None) = word ≡ codes "-"
+IsSpelled word (ANY (Some c)) = IsAddr word c
+IsSpelled word (ANY None) = (word ≢ []) × ((c : Cell) → IsAddr word c → ⊥)
+IsSpelled word (LINES n) =
+    (word ≢ []) × (length word ≤ 7) × IsTrue (all_ascii_digits word) × (digits_value 10 word ≡ n) × (n ≤ 1000000)
+IsSpelled word (CONTENT text) = ⊥
+
+-- Each operand is spelled by a word, spaces before, between and behind. CONTENT is everything after the one space that
+-- follows the word before it.
+abbrev pub IsWritten : Bytes → List Operand → Type 0
+IsWritten text [] = IsTrue (list_all is_space text)
+IsWritten text (CONTENT content ∷ os) = (text ≡ content) × (os ≡ [])
+IsWritten text (o ∷ os) = IsSpelled (first_word text) o × IsWritten (after_word text) os

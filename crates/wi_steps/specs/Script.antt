@@ -1,0 +1,50 @@
+-- The commands of a script.
+use Rattle.std.specs.Prelude.{◌≡◌, ◌<◌, ◌≤◌, ◌⊎◌, ℕ, Bool, true, false, ◌==◌, List, [], ◌∷◌, ◌++◌, length, Option, Some, None, if◌then◌else◌}
+use Rattle.std.specs.List.{list_all}
+use Rattle.std.specs.Option.{option_to_list}
+use Rattle.std.specs.Str.{byte, IsUtf8}
+use Rattle.wi_cli.specs.Lines.{without_lf, without_cr, max_line}
+use Rattle.wi_cli.specs.Words.{is_space}
+use Rattle.wi_steps.specs.Operands.{Bytes, Cell, IsWritten}
+use Rattle.wi_steps.specs.Command.{Command, Csv, Unknown, Unreadable, form, data_of}
+
+-- a line without its LF and a CR before it
+abbrev pub text_of : Bytes → Bytes
+text_of line = without_cr (without_lf line)
+
+abbrev pub IsWithin : Bytes → Type 0
+IsWithin line = length (without_lf line) ≤ max_line
+
+abbrev pub IsGood : Bytes → Type 0
+IsGood line = IsWithin line × IsUtf8 (text_of line)
+
+-- The line is within the length limit and has exactly the words `csv`, any second word and a good LINES, perhaps after `force`.
+abbrev pub Asks : Bytes → ℕ → Type 0
+Asks line n = IsWithin line × ((force : Bool) × (at : Option Cell) × IsWritten (text_of line) (form (Csv force at n [])))
+
+-- so many data lines stand behind it; none where it asks for none
+abbrev pub Takes : Bytes → ℕ → Type 0
+Takes line n = Asks line n ⊎ ((n ≡ 0) × ((k : ℕ) → Asks line k → ⊥))
+
+-- only spaces, or a comment
+abbrev pub is_passed_over : Bytes → Bool
+is_passed_over [] = true
+is_passed_over (b ∷ bs) = if b == byte "#" then true else list_all is_space (b ∷ bs)
+
+-- what a line asks for with its data lines, if anything
+abbrev pub IsCommand : Bytes → List Bytes → Option Command → Type 0
+IsCommand line taken None = IsGood line × (is_passed_over (text_of line) ≡ true)
+IsCommand line taken (Some Unreadable) = IsGood line → ⊥
+IsCommand line taken (Some Unknown) =
+    IsGood line × (is_passed_over (text_of line) ≡ false) × ((c : Command) → IsWritten (text_of line) (form c) → ⊥)
+IsCommand line taken (Some c) = IsGood line × IsWritten (text_of line) (form c) × (data_of c ≡ taken)
+
+-- the commands of lines, of a script that has ended, or of which more may come
+pub data AreCommands : Bool → List Bytes → List Command → Type 0 where
+  none : (ended : Bool) → AreCommands ended [] []
+  a_line : (ended : Bool) (line : Bytes) (taken lines : List Bytes) (o : Option Command) (cs : List Command)
+      → Takes line (length taken) → IsCommand line taken o → AreCommands ended lines cs
+      → AreCommands ended (line ∷ taken ++ lines) (option_to_list o ++ cs)
+  cut_short : (line : Bytes) (taken : List Bytes) (n : ℕ) (o : Option Command) → Asks line n → length taken < n
+      → IsCommand line taken o → AreCommands true (line ∷ taken) (option_to_list o)
+  waiting : (line : Bytes) (taken : List Bytes) (n : ℕ) → Asks line n → length taken < n → AreCommands false (line ∷ taken) []
