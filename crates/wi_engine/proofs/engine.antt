@@ -12,4 +12,5 @@ pub mod Running
 pub mod Saving
 pub mod Settling
 pub mod Stacks
+pub mod Steps
 pub mod Taking

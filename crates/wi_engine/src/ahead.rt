@@ -1,11 +1,10 @@
 //! The cell whose value is found for a frame before its formula is evaluated for the first time.
 
-ghost use Rattle.std.specs.Prelude.{◌≡◌, ◌≤◌, ℕ, true, None, IfOk, IfSome, OnOk};
+ghost use Rattle.std.specs.Prelude.{◌≡◌, ℕ, true, None, IfOk, IfSome, is_ok};
 ghost use Rattle.wi_engine.specs.Inner.MemoState.{IsMemoOf};
 ghost use Rattle.wi_engine.specs.Inner.Findings.{found_value};
-ghost use Rattle.wi_engine.specs.Inner.Frames.{IsFrame, IsNext, StandsAt, spare};
-ghost use Rattle.wi_engine.specs.Inner.Saving.{KeepsFound};
-ghost use Rattle.wi_engine.specs.Inner.SettledFrames.{IsFrameSettled};
+ghost use Rattle.wi_engine.specs.Inner.Frames.{IsFrame, IsNextFormula};
+ghost use Rattle.wi_engine.specs.Inner.Steps.{FrameSteps};
 ghost use Rattle.wi_engine.specs.declared.frame.Waiting.TheVariants as waiting;
 
 use crate::asked::remembered_value;
@@ -27,13 +26,10 @@ pub fn look_ahead<'a, M: Memo>(
 ) -> Result<Option<Unvalued<'a>>, AllocError>
     requires memo { IsMemoOf store.now.sheet (M.state memo.old) }
     requires frame { IsFrame store.now.sheet (M.state memo.old) frame.old }
-    ensures key { frame.new.key ≡ frame.old.key }
-    ensures frame { OnOk result (IsFrame store.now.sheet (M.state memo.old) frame.new) }
-    ensures next { IfOk result (λ o. IfSome o (λ u. IsNext store.now.sheet (M.state memo.old) frame.old.key u.key)) }
-    ensures formula { IfOk result (λ o. IfSome o (λ u. StandsAt store.now.sheet u.key u.formula.now)) }
-    ensures found { OnOk result (KeepsFound (M.state memo.old) → IsFrameSettled store.now.sheet (M.state memo.old).kept frame.old → IsFrameSettled store.now.sheet (M.state memo.old).kept frame.new) }
-    ensures spare { OnOk result (spare store.now.sheet frame.new ≤ spare store.now.sheet frame.old) }
-    ensures same { M.state memo.new ≡ M.state memo.old }
+    ensures steps { FrameSteps store.now.sheet (M.state memo.old) (M.state memo.new)
+        frame.old frame.new 0 (is_ok result) }
+    ensures next { IfOk result (λ o. IfSome o
+        (IsNextFormula store.now.sheet (M.state memo.old) frame.old.key)) }
 {
     if !is_new(frame) {
         return Ok(None);

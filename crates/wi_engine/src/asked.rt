@@ -4,7 +4,7 @@ ghost use Rattle.std.specs.Prelude.{◌≡◌, Some, IfOk};
 ghost use Rattle.wi_parser.specs.Sheet.{content_of, put_all};
 ghost use Rattle.wi_sheet.specs.CellValue as show;
 ghost use Rattle.wi_engine.specs.Inner.MemoState.{IsMemoOf};
-ghost use Rattle.wi_engine.specs.Inner.Frames.{MayBeRead, StandsAt, IsUnvalued};
+ghost use Rattle.wi_engine.specs.Inner.Frames.{MayBeRead, IsUnvaluedFormula};
 ghost use Rattle.wi_engine.specs.Inner.Saving.{NeedsNoEvaluation};
 ghost use Rattle.wi_engine.specs.Inner.Steps.{IfKnown, IfUnknown};
 
@@ -28,10 +28,12 @@ pub fn value_now<'a, M: Memo>(
 ) -> Result<Asked<'a>, AllocError>
     requires memo { IsMemoOf store.now.sheet (M.state memo.old) }
     requires read { MayBeRead store.now.sheet (M.state memo.old) at }
-    ensures known { IfOk result (λ a. IfKnown a (λ v. v ≡ show.cell_value (put_all store.now.sheet world.now) at)) }
-    ensures unknown { IfOk result (λ a. IfUnknown a (λ u. IsUnvalued store.now.sheet (M.state memo.old) world.now at u.key)) }
-    ensures formula { IfOk result (λ a. IfUnknown a (λ u. StandsAt store.now.sheet u.key u.formula.now)) }
-    ensures there { IfOk result (λ a. IfKnown a (λ _. NeedsNoEvaluation store.now.sheet (M.state memo.old) world.now at)) }
+    ensures known { IfOk result (λ a. IfKnown a (λ v.
+        v ≡ show.cell_value (put_all store.now.sheet world.now) at)) }
+    ensures unknown { IfOk result (λ a. IfUnknown a
+        (IsUnvaluedFormula store.now.sheet (M.state memo.old) world.now at)) }
+    ensures there { IfOk result (λ a. IfKnown a (λ _.
+        NeedsNoEvaluation store.now.sheet (M.state memo.old) world.now at)) }
     ensures same { M.state memo.new ≡ M.state memo.old }
 {
     if let Some(value) = replaced(world, at) {
@@ -55,11 +57,14 @@ pub fn remembered_value<'a, M: Memo>(
 ) -> Result<Asked<'a>, AllocError>
     requires memo { IsMemoOf (M.state memo.old).sheet (M.state memo.old) }
     requires read { MayBeRead (M.state memo.old).sheet (M.state memo.old) at }
-    requires formula { content_of (put_all (M.state memo.old).sheet world.now) at ≡ Some (Content.Formula formula.now) }
-    ensures known { IfOk result (λ a. IfKnown a (λ v. v ≡ show.cell_value (put_all (M.state memo.old).sheet world.now) at)) }
-    ensures unknown { IfOk result (λ a. IfUnknown a (λ u. IsUnvalued (M.state memo.old).sheet (M.state memo.old) world.now at u.key)) }
-    ensures formula { IfOk result (λ a. IfUnknown a (λ u. StandsAt (M.state memo.old).sheet u.key u.formula.now)) }
-    ensures there { IfOk result (λ a. IfKnown a (λ _. NeedsNoEvaluation (M.state memo.old).sheet (M.state memo.old) world.now at)) }
+    requires formula { content_of (put_all (M.state memo.old).sheet world.now) at
+        ≡ Some (Content.Formula formula.now) }
+    ensures known { IfOk result (λ a. IfKnown a (λ v.
+        v ≡ show.cell_value (put_all (M.state memo.old).sheet world.now) at)) }
+    ensures unknown { IfOk result (λ a. IfUnknown a
+        (IsUnvaluedFormula (M.state memo.old).sheet (M.state memo.old) world.now at)) }
+    ensures there { IfOk result (λ a. IfKnown a (λ _.
+        NeedsNoEvaluation (M.state memo.old).sheet (M.state memo.old) world.now at)) }
     ensures same { M.state memo.new ≡ M.state memo.old }
 {
     let key = memo.key(at, world)?;

@@ -1,24 +1,20 @@
 //! What a frame does, from one value to the next.
 
-ghost use Rattle.std.specs.Prelude.{◌≡◌, ◌==◌, ◌&&◌, ◌+◌, ◌≤◌, ◌∷◌, [], ◌⊎◌, ℕ, Bool, true, false, None, Ok, List, All, map, IfOk, IfSome, IfNone, OnOk, OnErr};
+ghost use Rattle.std.specs.Prelude.{◌≡◌, ◌==◌, ◌&&◌, ◌-◌, ◌≤◌, ◌∷◌, [], ◌⊎◌, ℕ, Bool, true, false, None, Ok, List, All, map, IfOk, IfSome, IfNone, OnOk, is_ok};
 ghost use Rattle.std.specs.List.{list_any};
 ghost use Rattle.wi_values.specs.declared.replacement.Replacement.{Replacement as Replacements};
 ghost use Rattle.wi_values.specs.Replacements.{IsInOrder, same_replacements};
 ghost use Rattle.wi_parser.specs.View.{pair_of};
 ghost use Rattle.wi_parser.specs.Sheet.{put_all};
-ghost use Rattle.wi_lookup.specs.Assignment.{addresses};
 ghost use Rattle.wi_functions.specs.declared.evaluation.Want.TheVariants as wanted;
 ghost use Rattle.wi_graph.specs.Reach.{is_one_of};
 ghost use Rattle.wi_sheet.specs.CellValue as show;
-ghost use Rattle.wi_sheet.specs.Demand.{with_what_if, reaching};
-ghost use Rattle.wi_sheet.specs.Settled.{IsSettled, RestsOnKept};
-ghost use Rattle.wi_sheet.specs.Inner.Spending.{NeverFall};
+ghost use Rattle.wi_sheet.specs.Demand.{reaching};
 ghost use Rattle.wi_engine.specs.Inner.MemoState.{MemoState, IsMemoOf};
 ghost use Rattle.wi_engine.specs.Inner.Attempt.{AsksAt, IsLacking, lacks_cell};
-ghost use Rattle.wi_engine.specs.Inner.Frames.{MayBeRead, StandsAt, IsUnvalued, AreReadHere, Awaits, IsFrame, IsNext, case_at, spare, waits, waits_at};
+ghost use Rattle.wi_engine.specs.Inner.Frames.{MayBeRead, StandsAt, IsUnvaluedFormula, AreReadHere, Awaits, IsFrame, IsNextFormula, case_at, spare, waits, waits_at};
 ghost use Rattle.wi_engine.specs.Inner.SettledFrames.{IsFrameSettled};
-ghost use Rattle.wi_engine.specs.Inner.Saving.{KeepsFound};
-ghost use Rattle.wi_engine.specs.Inner.Steps.{IfReplaced, IfInputUnknown, IfValued, IfNeedsValue, evaluations_after};
+ghost use Rattle.wi_engine.specs.Inner.Steps.{IfReplaced, IfInputUnknown, IfValued, IfNeedsValue, evaluations_after, FrameSteps, FrameCounts, FrameWaits, IsFrameValue, IsWorldWith};
 ghost use Rattle.wi_engine.specs.declared.frame.Waiting.TheVariants as waiting;
 
 use crate::ahead::look_ahead;
@@ -48,11 +44,12 @@ fn world_of_what_if<'a, M: Memo>(
 ) -> Result<Inputs<'a>, AllocError>
     requires memo { IsMemoOf store.now.sheet (M.state memo.old) }
     requires read { All (λ p. MayBeRead store.now.sheet (M.state memo.old) p.replacement.at) pairs.now }
-    ensures known { IfOk result (λ i. IfReplaced i (λ w. w ≡ with_what_if store.now.sheet world.now (map addresses (map pair_of pairs.now)))) }
-    ensures unknown { IfOk result (λ i. IfInputUnknown i (λ u. (list_any (λ p. p.1.at == u.key.cell) (map pair_of pairs.now) ≡ true) × IsUnvalued store.now.sheet (M.state memo.old) world.now u.key.cell u.key)) }
-    ensures formula { IfOk result (λ i. IfInputUnknown i (λ u. StandsAt store.now.sheet u.key u.formula.now)) }
+    ensures known { IfOk result (λ i. IfReplaced i
+        (IsWorldWith store.now.sheet (M.state memo.old) world.now pairs.now)) }
+    ensures unknown { IfOk result (λ i. IfInputUnknown i (λ u.
+        (list_any (λ p. p.1.at == u.key.cell) (map pair_of pairs.now) ≡ true)
+        × IsUnvaluedFormula store.now.sheet (M.state memo.old) world.now u.key.cell u)) }
     ensures order { IsInOrder world.now }
-    ensures settled { IfOk result (λ i. IfReplaced i (λ _. KeepsFound (M.state memo.old) → All (λ p. IsSettled store.now.sheet (M.state memo.old).kept world.now p.replacement.at) pairs.now)) }
     ensures same { M.state memo.new ≡ M.state memo.old }
 {
     let _ = world.replacements();
@@ -73,9 +70,14 @@ fn world_of_what_if<'a, M: Memo>(
 fn next_lacking(store: &Store, frame: &Frame, cells: &mut Vec<Address>) -> Option<Address>
     requires { AreReadHere store.now.sheet (case_at frame.now.key) cells.old.items }
     ensures rest { AreReadHere store.now.sheet (case_at frame.now.key) cells.new.items }
-    ensures next { IfSome result (λ a. IsLacking store.now.sheet frame.now.key.world frame.now.found (wanted.Cell a) × AreReadHere store.now.sheet (case_at frame.now.key) (a ∷ [])) }
-    ensures passed { IfSome result (λ a. (d : ℕ) → is_one_of cells.old.items d ≡ true → lacks_cell store.now.sheet frame.now.key.world frame.now.found d ≡ true → (is_one_of cells.new.items d ≡ true) ⊎ (d ≡ a)) }
-    ensures none { IfNone result ((d : ℕ) → is_one_of cells.old.items d ≡ true → lacks_cell store.now.sheet frame.now.key.world frame.now.found d ≡ false) }
+    ensures next { IfSome result (λ a.
+        IsLacking store.now.sheet frame.now.key.world frame.now.found (wanted.Cell a)
+        × AreReadHere store.now.sheet (case_at frame.now.key) (a ∷ [])) }
+    ensures passed { IfSome result (λ a. (d : ℕ) → is_one_of cells.old.items d ≡ true
+        → lacks_cell store.now.sheet frame.now.key.world frame.now.found d ≡ true
+        → (is_one_of cells.new.items d ≡ true) ⊎ (d ≡ a)) }
+    ensures none { IfNone result ((d : ℕ) → is_one_of cells.old.items d ≡ true
+        → lacks_cell store.now.sheet frame.now.key.world frame.now.found d ≡ false) }
 {
     while let Some(at) = cells.pop() {
         if is_lacking(store, frame, at) {
@@ -99,15 +101,13 @@ fn settle_cells<'a, M: Memo>(
     requires frame { IsFrame store.now.sheet (M.state memo.old) frame.old }
     requires waiting { frame.old.waiting ≡ waiting.Nothing }
     requires awaits { Awaits store.now.sheet (case_at frame.old.key) frame.old.found (waiting.Cells at others) }
-    ensures key { frame.new.key ≡ frame.old.key }
-    ensures frame { OnOk result (IsFrame store.now.sheet (M.state memo.old) frame.new) }
-    ensures next { IfOk result (λ o. IfSome o (λ u. IsNext store.now.sheet (M.state memo.old) frame.old.key u.key)) }
-    ensures formula { IfOk result (λ o. IfSome o (λ u. StandsAt store.now.sheet u.key u.formula.now)) }
+    ensures steps { FrameSteps store.now.sheet (M.state memo.old) (M.state memo.new)
+        frame.old frame.new 1 (is_ok result) }
+    ensures next { IfOk result (λ o. IfSome o
+        (IsNextFormula store.now.sheet (M.state memo.old) frame.old.key)) }
     ensures settled { result ≡ Ok None → frame.new.waiting ≡ waiting.Nothing }
-    ensures found { OnOk result (KeepsFound (M.state memo.old) → IsFrameSettled store.now.sheet (M.state memo.old).kept frame.old → IsFrameSettled store.now.sheet (M.state memo.old).kept frame.new) }
-    ensures all { result ≡ Ok None → (d : ℕ) → is_one_of others.items d ≡ true → lacks_cell store.now.sheet frame.new.key.world frame.new.found d ≡ false }
-    ensures spare { OnOk result (spare store.now.sheet frame.new + 1 ≤ spare store.now.sheet frame.old) }
-    ensures same { M.state memo.new ≡ M.state memo.old }
+    ensures all { result ≡ Ok None → (d : ℕ) → is_one_of others.items d ≡ true
+        → lacks_cell store.now.sheet frame.new.key.world frame.new.found d ≡ false }
 {
     let mut others = others;
     let mut at = at;
@@ -140,14 +140,11 @@ fn settle_what_if<'a, M: Memo>(
     requires frame { IsFrame store.now.sheet (M.state memo.old) frame.old }
     requires waiting { frame.old.waiting ≡ waiting.Nothing }
     requires awaits { Awaits store.now.sheet (case_at frame.old.key) frame.old.found (waiting.WhatIf at pairs) }
-    ensures key { frame.new.key ≡ frame.old.key }
-    ensures frame { OnOk result (IsFrame store.now.sheet (M.state memo.old) frame.new) }
-    ensures next { IfOk result (λ o. IfSome o (λ u. IsNext store.now.sheet (M.state memo.old) frame.old.key u.key)) }
-    ensures formula { IfOk result (λ o. IfSome o (λ u. StandsAt store.now.sheet u.key u.formula.now)) }
+    ensures steps { FrameSteps store.now.sheet (M.state memo.old) (M.state memo.new)
+        frame.old frame.new 1 (is_ok result) }
+    ensures next { IfOk result (λ o. IfSome o
+        (IsNextFormula store.now.sheet (M.state memo.old) frame.old.key)) }
     ensures settled { result ≡ Ok None → frame.new.waiting ≡ waiting.Nothing }
-    ensures found { OnOk result (KeepsFound (M.state memo.old) → IsFrameSettled store.now.sheet (M.state memo.old).kept frame.old → IsFrameSettled store.now.sheet (M.state memo.old).kept frame.new) }
-    ensures spare { OnOk result (spare store.now.sheet frame.new + 1 ≤ spare store.now.sheet frame.old) }
-    ensures same { M.state memo.new ≡ M.state memo.old }
 {
     match world_of_what_if(alloc, store, &frame.key.world, &pairs, memo)? {
         Inputs::Unknown(first) => {
@@ -176,14 +173,11 @@ fn settle<'a, M: Memo>(
 ) -> Result<Option<Unvalued<'a>>, AllocError>
     requires memo { IsMemoOf store.now.sheet (M.state memo.old) }
     requires frame { IsFrame store.now.sheet (M.state memo.old) frame.old }
-    ensures key { frame.new.key ≡ frame.old.key }
-    ensures frame { OnOk result (IsFrame store.now.sheet (M.state memo.old) frame.new) }
-    ensures next { IfOk result (λ o. IfSome o (λ u. IsNext store.now.sheet (M.state memo.old) frame.old.key u.key)) }
-    ensures formula { IfOk result (λ o. IfSome o (λ u. StandsAt store.now.sheet u.key u.formula.now)) }
+    ensures steps { FrameSteps store.now.sheet (M.state memo.old) (M.state memo.new)
+        frame.old frame.new 0 (is_ok result) }
+    ensures next { IfOk result (λ o. IfSome o
+        (IsNextFormula store.now.sheet (M.state memo.old) frame.old.key)) }
     ensures settled { result ≡ Ok None → frame.new.waiting ≡ waiting.Nothing }
-    ensures found { OnOk result (KeepsFound (M.state memo.old) → IsFrameSettled store.now.sheet (M.state memo.old).kept frame.old → IsFrameSettled store.now.sheet (M.state memo.old).kept frame.new) }
-    ensures spare { OnOk result (spare store.now.sheet frame.new ≤ spare store.now.sheet frame.old) }
-    ensures same { M.state memo.new ≡ M.state memo.old }
 {
     match mem::replace(&mut frame.waiting, Waiting::Nothing) {
         Waiting::Nothing => Ok(None),
@@ -197,10 +191,7 @@ fn wait_for(alloc: Global, store: &Store, frame: &mut Frame, want: Want) -> Resu
     requires asks { AsksAt store.now.sheet frame.old.key.world frame.old.key.cell want }
     requires lacking { IsLacking store.now.sheet frame.old.key.world frame.old.found want }
     requires formula { StandsAt store.now.sheet frame.old.key frame.old.formula.now }
-    ensures key { frame.new.key ≡ frame.old.key }
-    ensures formula { frame.new.formula.now ≡ frame.old.formula.now }
-    ensures found { frame.new.found ≡ frame.old.found }
-    ensures awaits { OnOk result (Awaits store.now.sheet (case_at frame.old.key) frame.old.found frame.new.waiting) }
+    ensures awaits { FrameWaits store.now.sheet frame.old frame.new (is_ok result) }
     ensures waits { OnOk result (waits frame.new.waiting ≡ 1) }
 {
     match want {
@@ -227,19 +218,15 @@ pub fn advance<'a, M: Memo>(
 ) -> Result<Advance<'a>, AllocError>
     requires memo { IsMemoOf store.now.sheet (M.state memo.old) }
     requires frame { IsFrame store.now.sheet (M.state memo.old) frame.old }
-    ensures key { frame.new.key ≡ frame.old.key }
-    ensures frame { OnOk result (IsFrame store.now.sheet (M.state memo.old) frame.new) }
-    ensures done { IfOk result (λ s. IfValued s (λ v. v ≡ show.cell_value (put_all store.now.sheet frame.old.key.world) frame.old.key.cell)) }
-    ensures next { IfOk result (λ s. IfNeedsValue s (λ u. IsNext store.now.sheet (M.state memo.old) frame.old.key u.key)) }
-    ensures formula { IfOk result (λ s. IfNeedsValue s (λ u. StandsAt store.now.sheet u.key u.formula.now)) }
-    ensures found { OnOk result (KeepsFound (M.state memo.old) → IsFrameSettled store.now.sheet (M.state memo.old).kept frame.old → IsFrameSettled store.now.sheet (M.state memo.old).kept frame.new) }
-    ensures rests { IfOk result (λ s. IfValued s (λ _. KeepsFound (M.state memo.old) → IsFrameSettled store.now.sheet (M.state memo.old).kept frame.old → RestsOnKept store.now.sheet (M.state memo.old).kept (case_at frame.old.key))) }
-    ensures evaluations { IfOk result (λ s. meter.new.evaluations ≡ evaluations_after s meter.old.evaluations) }
-    ensures restarts { OnOk result (meter.new.restarts + spare store.now.sheet frame.new ≤ meter.old.restarts + spare store.now.sheet frame.old) }
-    ensures err_evaluations { OnErr result (meter.new.evaluations ≡ meter.old.evaluations) }
-    ensures err_restarts { OnErr result (meter.new.restarts ≤ meter.old.restarts + spare store.now.sheet frame.old) }
-    ensures counts { NeverFall meter.old meter.new }
-    ensures same { M.state memo.new ≡ M.state memo.old }
+    ensures steps { FrameSteps store.now.sheet (M.state memo.old) (M.state memo.new)
+        frame.old frame.new (meter.new.restarts - meter.old.restarts) (is_ok result) }
+    ensures done { IfOk result (λ s. IfValued s
+        (IsFrameValue store.now.sheet (M.state memo.old) frame.old)) }
+    ensures next { IfOk result (λ s. IfNeedsValue s
+        (IsNextFormula store.now.sheet (M.state memo.old) frame.old.key)) }
+    ensures evaluations { IfOk result (λ s.
+        meter.new.evaluations ≡ evaluations_after s meter.old.evaluations) }
+    ensures counts { FrameCounts store.now.sheet frame.old meter.old meter.new (is_ok result) }
 {
     if let Some(ahead) = look_ahead(alloc, store, frame, memo)? {
         return Ok(Advance::Needs(ahead));
@@ -257,7 +244,8 @@ pub fn advance<'a, M: Memo>(
 
 /// Whether a frame waits for the value of a key's cell, under the replacements of the key.
 fn waits_for(frame: &Frame, key: &Key) -> bool
-    ensures { result ≡ (waits_at frame.now.waiting key.now.cell && same_replacements frame.now.key.world key.now.world) }
+    ensures { result ≡ (waits_at frame.now.waiting key.now.cell
+        && same_replacements frame.now.key.world key.now.world) }
 {
     match &frame.waiting {
         Waiting::Nothing => false,
@@ -270,10 +258,7 @@ fn waits_for(frame: &Frame, key: &Key) -> bool
 fn wait_for_others(store: &Store, frame: &mut Frame, others: Vec<Address>)
     requires waiting { frame.old.waiting ≡ waiting.Nothing }
     requires read { AreReadHere store.now.sheet (case_at frame.old.key) others.items }
-    ensures key { frame.new.key ≡ frame.old.key }
-    ensures formula { frame.new.formula.now ≡ frame.old.formula.now }
-    ensures found { frame.new.found ≡ frame.old.found }
-    ensures awaits { Awaits store.now.sheet (case_at frame.old.key) frame.old.found frame.new.waiting }
+    ensures { FrameWaits store.now.sheet frame.old frame.new true }
 {
     let mut others = others;
     if let Some(next) = next_lacking(store, frame, &mut others) {
@@ -294,9 +279,13 @@ pub fn take_in(
     requires own { reaching store.now.sheet key.now.cell key.now.world ≡ key.now.world }
     requires right { value.now ≡ show.cell_value (put_all store.now.sheet key.now.world) key.now.cell }
     ensures key { frame.new.key ≡ frame.old.key }
-    ensures frame { OnOk result ((m : MemoState) → IsFrame store.now.sheet m frame.old → IsFrame store.now.sheet m frame.new) }
+    ensures frame { OnOk result ((m : MemoState)
+        → IsFrame store.now.sheet m frame.old → IsFrame store.now.sheet m frame.new) }
     ensures spare { OnOk result (spare store.now.sheet frame.new ≤ spare store.now.sheet frame.old) }
-    ensures settled { OnOk result ((kept : ℕ → List Replacements → Bool) → kept key.now.cell key.now.world ≡ true → IsFrameSettled store.now.sheet kept frame.old → IsFrameSettled store.now.sheet kept frame.new) }
+    ensures settled { OnOk result ((kept : ℕ → List Replacements → Bool)
+        → kept key.now.cell key.now.world ≡ true
+        → IsFrameSettled store.now.sheet kept frame.old
+        → IsFrameSettled store.now.sheet kept frame.new) }
 {
     if !waits_for(frame, key) {
         return Ok(());

@@ -1,13 +1,13 @@
 //! A question in progress.
 
-ghost use Rattle.std.specs.Prelude.{◌≡◌, ◌≤◌, true, false, Contains, IfOk, OnOk, is_ok};
+ghost use Rattle.std.specs.Prelude.{◌≡◌, ◌≤◌, true, Contains, IfOk, OnOk, is_ok};
 ghost use Rattle.wi_parser.specs.Sheet.{put_all};
 ghost use Rattle.wi_sheet.specs.CellValue as show;
 ghost use Rattle.wi_sheet.specs.Demand.{reaching};
 ghost use Rattle.wi_sheet.specs.Settled.{IsSettled};
 ghost use Rattle.wi_sheet.specs.Inner.Spending.{HasCase};
 ghost use Rattle.wi_engine.specs.Inner.MemoState.{IsMemoOf};
-ghost use Rattle.wi_engine.specs.Inner.Frames.{MayBeRead, IsToValue, StandsAt, case_at};
+ghost use Rattle.wi_engine.specs.Inner.Frames.{MayBeRead, IsToFind, StandsAt, case_at};
 ghost use Rattle.wi_engine.specs.Inner.Saving.{WhereRoom, NeedsNoEvaluation, IsValuedAnew};
 ghost use Rattle.wi_engine.specs.Inner.Spends.{Spends};
 
@@ -40,19 +40,22 @@ impl<M: Memo + Drop> Question<M> {
     pub fn value(&mut self, store: &Store, world: &World, at: Address) -> Result<Value, AllocError>
         requires memo { IsMemoOf store.now.sheet (M.state self.old.memo) }
         requires read { MayBeRead store.now.sheet (M.state self.old.memo) at }
-        ensures value { IfOk result (λ v. v ≡ show.cell_value (put_all store.now.sheet world.now) at) }
+        ensures value { IfOk result (λ v.
+            v ≡ show.cell_value (put_all store.now.sheet world.now) at) }
 
         // What is remembered then is right, and no more is counted than the cases cost whose values were not,
         // also where memory runs out.
         ensures spends { Spends store.now.sheet (HasCase store.now.sheet world.now at)
-            (M.state self.old.memo) (M.state self.new.memo) self.old.meter self.new.meter (is_ok result) }
+            (M.state self.old.memo) (M.state self.new.memo)
+            self.old.meter self.new.meter (is_ok result) }
 
         // A value that is remembered, and one that no formula gives, is counted for nothing.
         ensures uncounted { NeedsNoEvaluation store.now.sheet (M.state self.old.memo) world.now at
             → self.new.meter ≡ self.old.meter }
 
         // What is kept for longer, and where there is room for all that is found.
-        ensures kept { OnOk result (IsValuedAnew store.now.sheet (M.state self.old.memo) world.now at
+        ensures kept { OnOk result (
+            IsValuedAnew store.now.sheet (M.state self.old.memo) world.now at
             → 1 ≤ (M.state self.old.memo).capacity
             → (M.state self.new.memo).kept at (reaching store.now.sheet at world.now) ≡ true) }
         ensures settled { OnOk result (WhereRoom store.now.sheet (HasCase store.now.sheet world.now at)
@@ -69,13 +72,13 @@ impl<M: Memo + Drop> Question<M> {
     /// the place of another, and none twice.
     fn run(&mut self, store: &Store, key: Key, formula: &Formula) -> Result<Value, AllocError>
         requires memo { IsMemoOf store.now.sheet (M.state self.old.memo) }
-        requires key { IsToValue store.now.sheet (M.state self.old.memo) key }
+        requires key { IsToFind store.now.sheet (M.state self.old.memo) key }
         requires formula { StandsAt store.now.sheet key formula.now }
-        requires unfound { (M.state self.old.memo).found key.cell key.world ≡ false }
-        requires unkept { (M.state self.old.memo).kept key.cell key.world ≡ false }
-        ensures value { IfOk result (λ v. v ≡ show.cell_value (put_all store.now.sheet key.world) key.cell) }
+        ensures value { IfOk result (λ v.
+            v ≡ show.cell_value (put_all store.now.sheet key.world) key.cell) }
         ensures spends { Spends store.now.sheet (λ ks. Contains ks (case_at key))
-            (M.state self.old.memo) (M.state self.new.memo) self.old.meter self.new.meter (is_ok result) }
+            (M.state self.old.memo) (M.state self.new.memo)
+            self.old.meter self.new.meter (is_ok result) }
         ensures kept { OnOk result (1 ≤ (M.state self.old.memo).capacity
             → (M.state self.new.memo).kept key.cell key.world ≡ true) }
         ensures settled { OnOk result (WhereRoom store.now.sheet (λ ks. Contains ks (case_at key))

@@ -1,6 +1,6 @@
 -- What a frame waits for, and what it gets.
-use Rattle.std.proofs.Common.{◌≡◌, ◌==◌, ◌+◌, ◌<◌, ◌≤◌, ℕ, zero, suc, true, List, [], ◌∷◌, ◌++◌, map, filter, length, get_or, Option, Some, None, ap, sym, ◌∙◌, arith, eq-eqb}
-use Rattle.std.proofs.lemmas.Bool.{or_left, or_right}
+use Rattle.std.proofs.Common.{◌≡◌, ◌==◌, ◌+◌, ◌<◌, ◌≤◌, ℕ, zero, suc, true, List, [], ◌∷◌, ◌++◌, map, filter, length, get_or, Option, Some, None, Result, Ok, Err, IsErr, is_ok, ap, sym, ◌∙◌, arith, eq-eqb}
+use Rattle.std.proofs.lemmas.Bool.{or_left, or_right, true≢false}
 use Rattle.std.specs.List.{list_any}
 use Rattle.std.specs.Option.{is_none}
 use Rattle.std.specs.Global.{Vec}
@@ -27,10 +27,12 @@ use Rattle.wi_sheet.proofs.Demands.{same_tree}
 use Rattle.wi_engine.specs.Inner.MemoState.{MemoState}
 use Rattle.wi_engine.specs.Inner.Findings.{pairs_of, found_value, what_if_found, AreAllRight, IsWithCell, IsWithWhatIf}
 use Rattle.wi_engine.specs.Inner.Attempt.{AsksAt, IsLacking, lacking}
-use Rattle.wi_engine.specs.Inner.Frames.{case_at, StandsAt, content_reads_here, AreReadHere, Awaits, IsUnvalued, IsFrame, lacks, waits}
+use Rattle.wi_engine.specs.Inner.Frames.{case_at, StandsAt, content_reads_here, AreReadHere, Awaits, IsUnvaluedFormula, IsFrame, lacks, waits}
+use Rattle.wi_engine.specs.Inner.Steps.{FrameWaits}
 use Rattle.wi_engine.specs.declared.findings.Findings.{Findings}
 use Rattle.wi_engine.specs.declared.findings.FoundWhatIf.{FoundWhatIf}
 use Rattle.wi_engine.specs.declared.frame.Frame.{Frame}
+use Rattle.wi_engine.specs.declared.frame.Unvalued.{Unvalued}
 use Rattle.wi_engine.specs.declared.frame.Waiting.{Waiting}
 use Rattle.wi_engine.specs.declared.frame.Waiting.TheVariants.{Nothing, Cells, WhatIf}
 use Rattle.wi_engine.proofs.attempt.Lacks.{cell_lacks_fewer, what_if_lacks_fewer}
@@ -50,11 +52,11 @@ pair_found [] i x h e = absurd (omega arith)
 pair_found (p ∷ ps) zero x h e = or_left (p.replacement.at == x.replacement.at) _ (eq-eqb p.replacement.at x.replacement.at (ap (λ (y : Pair). y.replacement.at) (sym e)))
 pair_found (p ∷ ps) (suc i) x h e = or_right (p.replacement.at == x.replacement.at) _ (pair_found ps i x (omega arith) e)
 
-pub input_unvalued : (s : Sheet) (m n : MemoState) (w : List Replacement) (pairs : List Pair) (i : ℕ) (x : Pair) (k : Key) → i < length pairs → x ≡ get_or pairs i x → n ≡ m → IsUnvalued s n w x.replacement.at k →
-    (list_any (λ p. p.1.at == k.cell) (map pair_of pairs) ≡ true) × IsUnvalued s m w k.cell k
-input_unvalued s m n w pairs i x k h e en u =
-    let same = rw en at u in
-    (ap (λ (a : ℕ). list_any (λ p. p.1.at == a) (map pair_of pairs)) u.cell ∙ pair_found pairs i x h e, rw (← u.cell) at same)
+pub input_unvalued : (s : Sheet) (m n : MemoState) (w : List Replacement) (pairs : List Pair) (i : ℕ) (x : Pair) (u : Unvalued) → i < length pairs → x ≡ get_or pairs i x → n ≡ m → IsUnvaluedFormula s n w x.replacement.at u →
+    (list_any (λ p. p.1.at == u.key.cell) (map pair_of pairs) ≡ true) × IsUnvaluedFormula s m w u.key.cell u
+input_unvalued s m n w pairs i x u h e en f =
+    let same = rw en at f.unvalued in
+    (ap (λ (a : ℕ). list_any (λ p. p.1.at == a) (map pair_of pairs)) f.unvalued.cell ∙ pair_found pairs i x h e, record { unvalued = rw (← f.unvalued.cell) at same; stands = f.stands })
 
 -- ---- what a formula asks for
 
@@ -132,3 +134,8 @@ frame_with s m f g h e t r a = record {
   found = rw e r;
   waiting = rw e a;
 }
+
+-- where memory runs out it waits for nothing more
+pub waits_err : {X E : Type 0} {s : Sheet} {f g : Frame} (r : Result X E) → IsErr r → g.key ≡ f.key → g.formula.now ≡ f.formula.now → g.found ≡ f.found → FrameWaits s f g (is_ok r)
+waits_err (Ok x) e key formula found = cc
+waits_err (Err x) e key formula found = record { key = key; formula = formula; found = found; awaits = λ d. absurd (true≢false (sym d)) }

@@ -171,11 +171,6 @@ frame_what_if s kept f g x world ps more asks ep ew inputs inner h t k =
 pub frame_rests : (s : Sheet) (kept : ℕ → List Replacement → Bool) (f : Frame) → AreAllRight (cell_value (put_all s f.key.world)) (what_if_value (put_all s f.key.world)) f.found → IsFrameSettled s kept f → HasOneMeaning s f.key.world f.key.cell f.found → RestsOnKept s kept (case_at f.key)
 frame_rests s kept f r h one t a i g = done_rests s kept f.key.world f.key.cell t f.found i r (h t i) one t a i g
 
-pub round_settled : (s : Sheet) (m n : MemoState) (f g h : Frame) → n ≡ m → (KeepsFound m → IsFrameSettled s m.kept f → IsFrameSettled s m.kept g) → (KeepsFound n → IsFrameSettled s n.kept g → IsFrameSettled s n.kept h) → KeepsFound m → IsFrameSettled s m.kept f → IsFrameSettled s m.kept h
-round_settled s m n f g h e first next whole k =
-    let there : KeepsFound m → IsFrameSettled s m.kept g → IsFrameSettled s m.kept h = subst (λ (x : MemoState). KeepsFound x → IsFrameSettled s x.kept g → IsFrameSettled s x.kept h) e next in
-    there whole (first whole k)
-
 pub done_settled : (s : Sheet) (m : MemoState) (f h : Frame) → h.key ≡ f.key → AreAllRight (cell_value (put_all s h.key.world)) (what_if_value (put_all s h.key.world)) h.found → HasOneMeaning s h.key.world h.key.cell h.found →
     (KeepsFound m → IsFrameSettled s m.kept f → IsFrameSettled s m.kept h) → KeepsFound m → IsFrameSettled s m.kept f → RestsOnKept s m.kept (case_at f.key)
 done_settled s m f h e r one grows whole k = subst (λ (x : Key). RestsOnKept s m.kept (case_at x)) e (frame_rests s m.kept h r (grows whole k) one)

@@ -71,15 +71,17 @@ unvalued s m n w a k h r f en ec ew eg u x =
       formula = f;
       cell = ec;
       world = there;
-      key = record {
-        formula = rw (ec, there) (ap has_formula (content_below s a w) ∙ f);
-        open_cell = rw ec r.open_cell;
-        covered = rw ec (r.covered (put_formula s w a f));
-        own = rw (ec, there) (reaching_below s a a w (reaches_here s a));
-        generation = rw ec eg;
+      to_find = record {
+        key = record {
+          formula = rw (ec, there) (ap has_formula (content_below s a w) ∙ f);
+          open_cell = rw ec r.open_cell;
+          covered = rw ec (r.covered (put_formula s w a f));
+          own = rw (ec, there) (reaching_below s a a w (reaches_here s a));
+          generation = rw ec eg;
+        };
+        unfound = rw en at u;
+        unkept = rw en at x;
       };
-      unfound = rw en at u;
-      unkept = rw en at x;
     }
 
 -- the formula in a cell under replacements stands there under those that reach the cell
@@ -151,13 +153,11 @@ key_path a b v w e f = ap (λ (n : ℕ). (n, w)) (sym e) ∙ ap (λ (x : List Re
 next_key : (s : Sheet) (m : MemoState) (below k : Key) (w : List Replacement) (a : ℕ) → IsUnvalued s m w a k → RestsOn s (case_at below) (case_of s w a) → IsNext s m below k
 next_key s m below k w a u r = record {
   rests = subst (λ (j : Case). RestsOn s (case_at below) j) (key_path k.cell a k.world (reaching s a w) u.cell u.world) r;
-  key = u.key;
-  unfound = u.unfound;
-  unkept = u.unkept;
+  to_find = u.to_find;
 }
 
 formula_there : (s : Sheet) (m : MemoState) (w : List Replacement) (a : ℕ) (k : Key) → IsUnvalued s m w a k → has_formula (content_of (put_all s (reaching s a w)) a) ≡ true
-formula_there s m w a k u = ap (λ (j : Case). has_formula (content_of (put_all s j.1) j.0)) (key_path k.cell a k.world (reaching s a w) u.cell u.world) ∙ u.key.formula
+formula_there s m w a k u = ap (λ (j : Case). has_formula (content_of (put_all s j.1) j.0)) (key_path k.cell a k.world (reaching s a w) u.cell u.world) ∙ u.to_find.key.formula
 
 -- the key of a cell that is read as the sheet stands
 pub next_cell : (s : Sheet) (m : MemoState) (below k : Key) (a : ℕ) → IsUnvalued s m below.world a k → content_reads_here (content_of (put_all s below.world) below.cell) a ≡ true → IsNext s m below k

@@ -89,12 +89,12 @@ push_alone s old m root start now next fs f h g k i e frame n up ev re new =
     let begun = same_begun s m root f h e frame i.begun in
     let at_h : IsStack s m root fs (reach_rank s h.key.cell) = rw e i.stack in
     let below : reach_rank s g.key.cell < reach_rank s h.key.cell = rw (e, new.key) lower in
-    let apart = not_taken s m root f fs k i.stack lower n.unfound in
+    let apart = not_taken s m root f fs k i.stack lower n.to_find.unfound in
     record {
       memo = i.memo;
       covers = i.covers;
       generation = i.generation;
-      begun = begun_next s m root f k g i.begun.demanded n new.key (new_frame s m g k new n.key);
+      begun = begun_next s m root f k g i.begun.demanded n new.key (new_frame s m g k new n.to_find.key);
       stack = push_stack s m root fs h (reach_rank s g.key.cell) at_h begun below;
       bottom = push_bottom root fs h g (same_bottom root fs f h e i.bottom);
       counts = never_fall-then start now next i.counts up;

@@ -50,7 +50,7 @@ kept_to_value : (s : Sheet) (m : MemoState) (k : Key) → IsToValue s m k → Is
 kept_to_value s m k h = record { formula = h.formula; open_cell = h.open_cell; covered = h.covered; own = h.own; generation = h.generation }
 
 kept_next : (s : Sheet) (m : MemoState) (below k : Key) → IsNext s m below k → IsNext s (by_kept m) below k
-kept_next s m below k h = record { rests = h.rests; key = kept_to_value s m k h.key; unfound = h.unkept; unkept = h.unkept }
+kept_next s m below k h = record { rests = h.rests; to_find = record { key = kept_to_value s m k h.to_find.key; unfound = h.to_find.unkept; unkept = h.to_find.unkept } }
 
 kept_keeps : (m n : MemoState) (k : Key) (v : Value) → KeepsFound n → Keeps m n k v → Keeps (by_kept m) (by_kept n) k v
 kept_keeps m n k v w h = record {
@@ -247,7 +247,7 @@ neither a false c e n k h = cc
 pub not_easy : (s : Sheet) (m : MemoState) (w : List Replacement) (a : ℕ) (k : Key) → IsMemoOf s m → IsUnvalued s m w a k → NeedsNoEvaluation s m w a → ⊥
 not_easy s m w a k h u (inl j) = let z = u.formula in cc
 not_easy s m w a k h u (inr j) =
-    neither (is_some (m.known a (reaching s a w))) (m.found a (reaching s a w)) (m.kept a (reaching s a w)) (h.told a (reaching s a w)) (at m.found u.unfound) (at m.kept u.unkept) j
+    neither (is_some (m.known a (reaching s a w))) (m.found a (reaching s a w)) (m.kept a (reaching s a w)) (h.told a (reaching s a w)) (at m.found u.to_find.unfound) (at m.kept u.to_find.unkept) j
   where
     at : (f : ℕ → List Replacement → Bool) → f k.cell k.world ≡ false → f a (reaching s a w) ≡ false
     at f e = ap (f a) (sym u.world) ∙ ap (λ (c : ℕ). f c k.world) (sym u.cell) ∙ e

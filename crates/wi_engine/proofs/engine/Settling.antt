@@ -23,10 +23,12 @@ use Rattle.wi_sheet.proofs.Overrides.{with_what_if_value}
 use Rattle.wi_engine.specs.Inner.MemoState.{MemoState, IsMemoOf}
 use Rattle.wi_engine.specs.Inner.Attempt.{AsksAt, IsLacking, lacks_cell}
 use Rattle.wi_engine.specs.Inner.Findings.{IsWithCell, IsWithWhatIf, pairs_of, found_value}
-use Rattle.wi_engine.specs.Inner.Frames.{case_at, content_reads_here, MayBeRead, IsToValue, IsUnvalued, IsNext, IsFrame, AreReadHere, Awaits, lacks, spare, waits}
+use Rattle.wi_engine.specs.Inner.Frames.{case_at, content_reads_here, MayBeRead, IsToValue, IsUnvalued, IsUnvaluedFormula, IsNextFormula, IsFrame, AreReadHere, Awaits, lacks, spare, waits}
+use Rattle.wi_engine.specs.Inner.Steps.{FrameWaits, IsWorldWith}
 use Rattle.wi_engine.specs.declared.findings.Findings.{Findings}
 use Rattle.wi_engine.specs.declared.findings.FoundWhatIf.{FoundWhatIf}
 use Rattle.wi_engine.specs.declared.frame.Frame.{Frame}
+use Rattle.wi_engine.specs.declared.frame.Unvalued.{Unvalued}
 use Rattle.wi_engine.specs.declared.frame.Waiting.{Waiting}
 use Rattle.wi_engine.specs.declared.frame.Waiting.TheVariants.{Nothing, Cells}
 use Rattle.wi_engine.proofs.engine.Rightness.{right_cell, right_what_if}
@@ -42,23 +44,15 @@ spare_waiting s k f w g a e l n =
     let z = ap waits n in
     omega (arith, some, e, l, z)
 
-pub spare_found : (s : Sheet) (k : Key) (f : Findings) (w : Waiting) (g : Frame) → lacks s k f + 1 ≤ lacks s g.key g.found → g.waiting ≡ Nothing → (lacks s k f - waits w) + 1 ≤ spare s g
-spare_found s k f w g l n =
-    let z = ap waits n in
-    omega (arith, l, z)
-
-pub two_steps : (a b c : ℕ) → a + 1 ≤ b → b ≤ c → a + 1 ≤ c
-two_steps a b c h k = omega (arith, h, k)
-
 -- ---- cells
 
 pub may_read_here : (s : Sheet) (m n : MemoState) (k : Key) (a : ℕ) → IsMemoOf s m → n ≡ m → IsToValue s m k → content_reads_here (content_of (put_all s k.world) k.cell) a ≡ true → MayBeRead s n a
 may_read_here s m n k a h en key r = rw en (may_be_read s m k.cell a h key.open_cell key.covered (here_in_sheet s (case_at k) a r))
 
-pub next_here : (s : Sheet) (m n : MemoState) (k below j : Key) (a : ℕ) → n ≡ m → k ≡ below → IsUnvalued s n k.world a j → content_reads_here (content_of (put_all s k.world) k.cell) a ≡ true → IsNext s m below j
-next_here s m n k below j a en e u r =
-    let same = rw en at u in
-    subst (λ (b : Key). IsNext s m b j) e (next_cell s m k j a same r)
+pub next_here : {s : Sheet} {m n : MemoState} {a : ℕ} {u : Unvalued} (k below : Key) → n ≡ m → k ≡ below → IsUnvaluedFormula s n k.world a u → content_reads_here (content_of (put_all s k.world) k.cell) a ≡ true → IsNextFormula s m below u
+next_here {s} {m} {n} {a} {u} k below en e h r =
+    let same = rw en at h.unvalued in
+    subst (λ (b : Key). IsNextFormula s m b u) e (record { next = next_cell s m k u.key a same r; stands = h.stands })
 
 pub cell_found_frame : (s : Sheet) (m : MemoState) (f g : Frame) (a : ℕ) (v : Value) → IsFrame s m f → g.key ≡ f.key → g.formula.now ≡ f.formula.now → g.waiting ≡ Nothing → IsWithCell f.found g.found a v → v ≡ cell_value (put_all s f.key.world) a → IsFrame s m g
 cell_found_frame s m f g a v h e t n more is =
@@ -90,16 +84,16 @@ may_read_inputs s m k f pairs ps h key asks e = λ i d l.
     let here = replacing_reads s (case_at k) f pairs (get_or ps i d).replacement.at asks (ap (λ (qs : List Pair). list_any (λ p. p.1.at == (get_or ps i d).replacement.at) (map pair_of qs)) (sym e) ∙ found_at ps i d l) in
     may_be_read s m k.cell (get_or ps i d).replacement.at h key.open_cell key.covered (here_in_sheet s (case_at k) (get_or ps i d).replacement.at here)
 
-pub next_input : (s : Sheet) (m : MemoState) (below j : Key) (f : ℕ) (pairs : Vec Pair) (ps : List Pair) → AsksAt s below.world below.cell (wanted.WhatIf f pairs) → ps ≡ pairs.items →
-    (list_any (λ p. p.1.at == j.cell) (map pair_of ps) ≡ true) × IsUnvalued s m below.world j.cell j → IsNext s m below j
-next_input s m below j f pairs ps asks e u =
-    next_cell s m below j j.cell u.1 (replacing_reads s (case_at below) f pairs j.cell asks (ap (λ (qs : List Pair). list_any (λ p. p.1.at == j.cell) (map pair_of qs)) (sym e) ∙ u.0))
+pub next_input : (s : Sheet) (m : MemoState) (below : Key) (u : Unvalued) (f : ℕ) (pairs : Vec Pair) (ps : List Pair) → AsksAt s below.world below.cell (wanted.WhatIf f pairs) → ps ≡ pairs.items →
+    (list_any (λ p. p.1.at == u.key.cell) (map pair_of ps) ≡ true) × IsUnvaluedFormula s m below.world u.key.cell u → IsNextFormula s m below u
+next_input s m below u f pairs ps asks e h =
+    next_here below below refl refl h.1 (replacing_reads s (case_at below) f pairs u.key.cell asks (ap (λ (qs : List Pair). list_any (λ p. p.1.at == u.key.cell) (map pair_of qs)) (sym e) ∙ h.0))
 
-pub next_inner : (s : Sheet) (m n : MemoState) (below j : Key) (f : ℕ) (pairs : Vec Pair) (ps : List Pair) (w : List Replacement) → n ≡ m → AsksAt s below.world below.cell (wanted.WhatIf f pairs) → ps ≡ pairs.items →
-    w ≡ with_what_if s below.world (map addresses (map pair_of ps)) → IsUnvalued s n w f j → IsNext s m below j
-next_inner s m n below j f pairs ps w en asks e is u =
-    let same = rw en at u in
-    next_what_if s m below j f pairs w same asks (is ∙ ap (λ (qs : List Pair). with_what_if s below.world (map addresses (map pair_of qs))) e)
+pub next_inner : (s : Sheet) (m n : MemoState) (below : Key) (u : Unvalued) (f : ℕ) (pairs : Vec Pair) (ps : List Pair) (w : List Replacement) → n ≡ m → AsksAt s below.world below.cell (wanted.WhatIf f pairs) → ps ≡ pairs.items →
+    IsWorldWith s m below.world ps w → IsUnvaluedFormula s n w f u → IsNextFormula s m below u
+next_inner s m n below u f pairs ps w en asks e put h =
+    let same = rw en at h.unvalued in
+    record { next = next_what_if s m below u.key f pairs w same asks (put.world ∙ ap (λ (qs : List Pair). with_what_if s below.world (map addresses (map pair_of qs))) e); stands = h.stands }
 
 pub what_if_right : (s : Sheet) (v w : List Replacement) (f : ℕ) (pairs ps : List Pair) (x : Value) → IsInOrder w → ps ≡ pairs → v ≡ with_what_if s w (map addresses (map pair_of ps)) → x ≡ cell_value (put_all s v) f →
     x ≡ what_if_value (put_all s w) f (map addresses (map pair_of pairs))
@@ -116,39 +110,21 @@ what_if_found_frame s m f g x h e t n more is =
 pub one_more_at_most : (n m : ℕ) → m ≡ one_more n → m ≤ n + 1
 one_more_at_most n m e = omega (arith, e)
 
--- it is counted, and one less is spare
-pub round_counted : (n m now before start bound : ℕ) → m ≡ one_more n → now + 1 ≤ before → before ≤ start → n + start ≤ bound → m + now ≤ bound
-round_counted n m now before start bound e l k h =
-    let one = one_more_at_most n m e in
-    omega (arith, one, l, k, h)
-
-want_lacks : (s : Sheet) (k : Key) (f : Findings) (want : Want) → AsksAt s k.world k.cell want → IsLacking s k.world f want → 1 ≤ lacks s k f
+pub want_lacks : (s : Sheet) (k : Key) (f : Findings) (want : Want) → AsksAt s k.world k.cell want → IsLacking s k.world f want → 1 ≤ lacks s k f
 want_lacks s k f (wanted.Cell a) h l =
     some_cell s k f a l.1 (asked_here s k a h) (put_formula s k.world a l.0)
 want_lacks s k f (wanted.WhatIf a pairs) h l = some_what_if s k f a pairs l h
 
--- it is counted, and was spare
-pub want_counted : (s : Sheet) (f : Frame) (want : Want) (n m start bound : ℕ) → AsksAt s f.key.world f.key.cell want → IsLacking s f.key.world f.found want → f.waiting ≡ Nothing → m ≡ one_more n →
-    spare s f ≤ start → n + start ≤ bound → m ≤ bound
-want_counted s f want n m start bound h l e is k b =
-    let some = want_lacks s f.key f.found want h l in
-    let z = ap waits e in
-    let one = one_more_at_most n m is in
-    omega (arith, some, z, one, k, b)
-
 -- the same frame, which waits for what it lacks
-module _ (s : Sheet) (f h : Frame) (k : h.key ≡ f.key) (e : h.found ≡ f.found) (awaits : Awaits s (case_at f.key) f.found h.waiting) where
-  pub frame_waits : h.formula.now ≡ f.formula.now → (m : MemoState) → IsFrame s m f → IsFrame s m h
-  frame_waits t m is = frame_with s m f h is k t (rw e is.found) (rw e awaits)
+module _ (s : Sheet) (f h : Frame) (w : FrameWaits s f h true) where
+  pub frame_waits : (m : MemoState) → IsFrame s m f → IsFrame s m h
+  frame_waits m is = frame_with s m f h is w.key w.formula (rw w.found is.found) (rw w.found (w.awaits refl))
 
   pub spare_falls : waits h.waiting ≡ 1 → f.waiting ≡ Nothing → spare s h + 1 ≤ spare s f
-  spare_falls w n =
-      let less = spare_waiting s f.key f.found h.waiting f awaits w (omega arith) n in
-      let same : lacks s h.key h.found ≡ lacks s f.key f.found = ap (λ (x : Key). lacks s x h.found) k ∙ ap (lacks s f.key) e in
+  spare_falls one n =
+      let less = spare_waiting s f.key f.found h.waiting f (w.awaits refl) one (omega arith) n in
+      let same : lacks s h.key h.found ≡ lacks s f.key f.found = ap (λ (x : Key). lacks s x h.found) w.key ∙ ap (lacks s f.key) w.found in
       omega (arith, less, same)
-
-pub round_smaller : (s : Sheet) (f g h : Frame) → spare s h + 1 ≤ spare s f → spare s f ≤ spare s g → spare s h < spare s g
-round_smaller s f g h less l = omega (arith, less, l)
 
 -- of some cells none is lacked but those that are left and the next one, once the value of the one before was found
 pub lacked_next : (s : Sheet) (w : List Replacement) (f g : Findings) (a next : ℕ) (v : Value) (all others rest : List ℕ) → IsWithCell f g a v →

@@ -117,7 +117,7 @@ kept_state s m n k v h es ec e is told = record {
 pub begun_next : (s : Sheet) (m : MemoState) (root : Case) (below : Frame) (k : Key) (f : Frame) → IsDemanded s root (case_at below.key) → IsNext s m below.key k → f.key ≡ k → IsFrame s m f → IsBegun s m root f
 begun_next s m root below k f d n e h = record {
   frame = h;
-  unfound = rw e n.unfound;
+  unfound = rw e n.to_find.unfound;
   demanded = λ ks closed top. subst (λ (j : Key). Contains ks (case_at j)) (sym e) (closed (case_at below.key) (case_at k) (d ks closed top) n.rests);
 }
 

@@ -18,6 +18,7 @@ use Rattle.wi_engine.specs.Inner.Findings.{AreAllRight}
 use Rattle.wi_engine.specs.Inner.Attempt.{AsksAt, IsLacking, lacking}
 use Rattle.wi_engine.specs.declared.findings.Findings.{Findings}
 use Rattle.wi_engine.specs.declared.frame.Frame.{Frame}
+use Rattle.wi_engine.specs.declared.frame.Unvalued.{Unvalued}
 use Rattle.wi_engine.specs.declared.frame.Waiting.{Waiting}
 use Rattle.wi_engine.specs.declared.frame.Waiting.TheVariants.{Nothing, Cells, WhatIf}
 
@@ -38,6 +39,12 @@ pub record IsToValue (s : Sheet) (m : MemoState) (k : Key) : Type 0 where
   pub own : reaching s k.cell k.world ≡ k.world
   pub generation : k.generation ≡ m.generation k.cell
 
+-- and such a key for which no value is remembered
+pub record IsToFind (s : Sheet) (m : MemoState) (k : Key) : Type 0 where
+  pub key : IsToValue s m k
+  pub unfound : m.found k.cell k.world ≡ false
+  pub unkept : m.kept k.cell k.world ≡ false
+
 -- the formula stands in the cell of a key, under the replacements of the key
 abbrev pub StandsAt : Sheet → Key → Tree → Type 0
 StandsAt s k t = content_of (put_all s k.world) k.cell ≡ Some (Formula t)
@@ -47,9 +54,12 @@ pub record IsUnvalued (s : Sheet) (m : MemoState) (w : List Replacement) (a : �
   pub formula : has_formula (content_of (put_all s w) a) ≡ true
   pub cell : k.cell ≡ a
   pub world : k.world ≡ reaching s a w
-  pub key : IsToValue s m k
-  pub unfound : m.found k.cell k.world ≡ false
-  pub unkept : m.kept k.cell k.world ≡ false
+  pub to_find : IsToFind s m k
+
+-- and that formula with it
+pub record IsUnvaluedFormula (s : Sheet) (m : MemoState) (w : List Replacement) (a : ℕ) (u : Unvalued) : Type 0 where
+  pub unvalued : IsUnvalued s m w a u.key
+  pub stands : StandsAt s u.key u.formula.now
 
 -- what stands in a cell reads this one as the sheet stands
 abbrev pub content_reads_here : Option Content → ℕ → Bool
@@ -82,9 +92,12 @@ waits_at (WhatIf a pairs) c = false
 -- a key whose value has to be found before a frame's
 pub record IsNext (s : Sheet) (m : MemoState) (below k : Key) : Type 0 where
   pub rests : RestsOn s (case_at below) (case_at k)
-  pub key : IsToValue s m k
-  pub unfound : m.found k.cell k.world ≡ false
-  pub unkept : m.kept k.cell k.world ≡ false
+  pub to_find : IsToFind s m k
+
+-- and its formula with it
+pub record IsNextFormula (s : Sheet) (m : MemoState) (below : Key) (u : Unvalued) : Type 0 where
+  pub next : IsNext s m below u.key
+  pub stands : StandsAt s u.key u.formula.now
 
 -- ---- restarts
 

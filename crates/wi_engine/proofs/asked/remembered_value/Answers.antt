@@ -17,13 +17,12 @@ returns-in-Some-clause-known g c =
 pub returns-clause-unknown : goal.returns-clause-unknown
 returns-clause-unknown g c =
     let k = c.in_ok-key.ensures in
-    unvalued (g.M.Memo.state c.args.memo.now).sheet (g.M.Memo.state c.args.memo.now) (g.M.Memo.state c.key.new.self) c.args.world.now c.args.at c.in_ok-key.key c.requires.memo c.requires.read
-    (ap has_formula c.requires.formula) k.same k.cell k.world k.generation (c.in-None.ensures.missing refl) (c.in-None.ensures.missing_kept refl)
-
-pub returns-clause-formula : goal.returns-clause-formula
-returns-clause-formula g c =
-    let k = c.in_ok-key.ensures in
-    stands_below (g.M.Memo.state c.args.memo.now).sheet (g.M.Memo.state c.args.memo.now) c.args.world.now c.args.at c.in_ok-key.key c.args.formula.now c.requires.memo k.cell k.world c.requires.formula
+    let m = g.M.Memo.state c.args.memo.now in
+    record {
+      unvalued = unvalued m.sheet m (g.M.Memo.state c.key.new.self) c.args.world.now c.args.at c.in_ok-key.key c.requires.memo c.requires.read
+          (ap has_formula c.requires.formula) k.same k.cell k.world k.generation (c.in-None.ensures.missing refl) (c.in-None.ensures.missing_kept refl);
+      stands = stands_below m.sheet m c.args.world.now c.args.at c.in_ok-key.key c.args.formula.now c.requires.memo k.cell k.world c.requires.formula;
+    }
 
 pub returns-in-Some-clause-there : goal.returns-in-Some-clause-there
 returns-in-Some-clause-there g c =

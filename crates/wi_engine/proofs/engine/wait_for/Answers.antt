@@ -1,5 +1,6 @@
+use Rattle.std.proofs.Common.{refl}
 use Rattle.wi_sheet.proofs.Bounds.{put_formula}
-use Rattle.wi_engine.proofs.engine.Awaiting.{cell_here, awaits_cells}
+use Rattle.wi_engine.proofs.engine.Awaiting.{cell_here, awaits_cells, waits_err}
 use Rattle.wi_engine.proofs.engine.wait_for.Goals as goal
 
 pub together-requires-clause-read : goal.together-requires-clause-read
@@ -12,5 +13,25 @@ together-requires-clause-formula c =
 
 pub returns-in_ok-keep_course-in-Cell-clause-awaits : goal.returns-in_ok-keep_course-in-Cell-clause-awaits
 returns-in_ok-keep_course-in-Cell-clause-awaits c =
-    awaits_cells c.args.store.now.sheet c.args.frame.now.key c.args.frame.now.found c.args.want c.args.frame.now.formula.now c.in-Cell.at c.in_ok-batch-in-Cell.batch.cells
-    c.requires.asks c.requires.lacking c.in-Cell.is c.requires.formula c.in_ok-batch-in-Cell.ensures.read
+    let kept = c.keep_course.ensures in
+    record {
+      key = kept.key;
+      formula = kept.formula;
+      found = kept.found;
+      awaits = λ d. awaits_cells c.args.store.now.sheet c.args.frame.now.key c.args.frame.now.found c.args.want c.args.frame.now.formula.now c.in-Cell.at c.in_ok-batch-in-Cell.batch.cells
+          c.requires.asks c.requires.lacking c.in-Cell.is c.requires.formula c.in_ok-batch-in-Cell.ensures.read;
+    }
+
+pub returns-in-WhatIf-clause-awaits : goal.returns-in-WhatIf-clause-awaits
+returns-in-WhatIf-clause-awaits c =
+    let lacking = rw c.in-WhatIf.is at c.requires.lacking in
+    let asks = rw c.in-WhatIf.is at c.requires.asks in
+    record { key = refl; formula = refl; found = refl; awaits = λ d. (lacking, asks) }
+
+pub returns-in_err-batch-in-Cell-clause-awaits : goal.returns-in_err-batch-in-Cell-clause-awaits
+returns-in_err-batch-in-Cell-clause-awaits c = waits_err c.from_residual.result c.from_residual.ensures.0 refl refl refl
+
+pub returns-in_err-keep_course-in-Cell-clause-awaits : goal.returns-in_err-keep_course-in-Cell-clause-awaits
+returns-in_err-keep_course-in-Cell-clause-awaits c =
+    let kept = c.keep_course.ensures in
+    waits_err c.from_residual-in_err-keep_course-in-Cell.result c.from_residual-in_err-keep_course-in-Cell.ensures.0 kept.key kept.formula kept.found

@@ -30,21 +30,16 @@ loop-pair-preserved g c =
 pub returns-in-Unknown-clause-unknown : goal.returns-in-Unknown-clause-unknown
 returns-in-Unknown-clause-unknown g c =
     let unknown = rw c.in-Unknown.is at c.in_ok-value.ensures.unknown in
-    input_unvalued c.args.store.now.sheet (g.M.Memo.state c.args.memo.now) (g.M.Memo.state c.loop-pair.memo) c.args.world.now c.args.pairs.now c.loop-pair.pair-index c.pair-item.result c.in-Unknown.input.key
+    input_unvalued c.args.store.now.sheet (g.M.Memo.state c.args.memo.now) (g.M.Memo.state c.loop-pair.memo) c.args.world.now c.args.pairs.now c.loop-pair.pair-index c.pair-item.result c.in-Unknown.input
     c.loop-pair-test.true c.pair-item.is c.loop-pair.invariant.same unknown
-
-pub returns-in-Unknown-clause-formula : goal.returns-in-Unknown-clause-formula
-returns-in-Unknown-clause-formula g c = rw c.in-Unknown.is at c.in_ok-value.ensures.formula
 
 pub returns-clause-known : goal.returns-clause-known
 returns-clause-known g c =
     let s = c.args.store.now.sheet in
     let w = c.args.world.now in
-    let whole : take c.loop-pair.pair-index c.args.pairs.now ≡ c.args.pairs.now = take_all c.loop-pair.pair-index c.args.pairs.now (omega (arith, c.loop-pair-test.false)) in
-    let inputs = c.deref.ensures.value ∙ c.loop-pair.invariant.inputs ∙ ap (λ (ps : List Pair). replacements (cell_value (put_all s w)) (map addresses (map pair_of ps))) whole in
-    replaced_world s w c.in_ok-with.field-0 c.deref.result.now (map addresses (map pair_of c.args.pairs.now)) inputs c.in_ok-with.ensures.list
-
-pub returns-clause-settled : goal.returns-clause-settled
-returns-clause-settled g c =
     let all : take c.loop-pair.pair-index c.args.pairs.now ≡ c.args.pairs.now = take_all c.loop-pair.pair-index c.args.pairs.now (omega (arith, c.loop-pair-test.false)) in
-    λ whole. subst (All (λ p. IsSettled c.args.store.now.sheet (g.M.Memo.state c.args.memo.now).kept c.args.world.now p.replacement.at)) all (c.loop-pair.invariant.settled whole)
+    let inputs = c.deref.ensures.value ∙ c.loop-pair.invariant.inputs ∙ ap (λ (ps : List Pair). replacements (cell_value (put_all s w)) (map addresses (map pair_of ps))) all in
+    record {
+      world = replaced_world s w c.in_ok-with.field-0 c.deref.result.now (map addresses (map pair_of c.args.pairs.now)) inputs c.in_ok-with.ensures.list;
+      settled = λ whole. subst (All (λ p. IsSettled s (g.M.Memo.state c.args.memo.now).kept w p.replacement.at)) all (c.loop-pair.invariant.settled whole);
+    }

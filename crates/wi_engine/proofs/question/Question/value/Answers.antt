@@ -1,7 +1,7 @@
 use Rattle.std.proofs.lemmas.Result.{IfOk-weaker}
-use Rattle.std.proofs.Common.{◌≡◌, false, refl, subst, sym}
+use Rattle.std.proofs.Common.{refl, subst, sym}
 use Rattle.wi_engine.specs.Inner.MemoState.{MemoState, IsMemoOf}
-use Rattle.wi_engine.specs.Inner.Frames.{IsToValue}
+use Rattle.wi_engine.specs.Inner.Frames.{IsToFind}
 use Rattle.wi_engine.proofs.engine.Running.{unvalued_in, unvalued_value}
 use Rattle.wi_engine.proofs.engine.Saving.{kept_before, not_easy, under_kept, under_settled, settled_before}
 use Rattle.wi_engine.proofs.Spent.{spends_none, spends_weaken}
@@ -9,7 +9,7 @@ use Rattle.wi_engine.proofs.question.Question.value.Goals as goal
 
 pub returns-in-Unknown-clause-value : goal.returns-in-Unknown-clause-value
 returns-in-Unknown-clause-value g c =
-    let u = rw c.in-Unknown.is at c.in_ok-value.ensures.unknown in
+    let u = (rw c.in-Unknown.is at c.in_ok-value.ensures.unknown).unvalued in
     IfOk-weaker c.run.result _ _ (λ v h. unvalued_value c.args.store.now.sheet (g.M.Memo.state c.args.self.now.memo) c.args.world.now c.args.at c.in-Unknown.cell.key v u h) c.run.ensures.value
 
 pub returns-in-Known-clause-kept : goal.returns-in-Known-clause-kept
@@ -24,19 +24,19 @@ returns-in-Known-clause-settled g c =
 
 pub returns-in-Unknown-clause-kept : goal.returns-in-Unknown-clause-kept
 returns-in-Unknown-clause-kept g c =
-    let u = rw c.in-Unknown.is at c.in_ok-value.ensures.unknown in
+    let u = (rw c.in-Unknown.is at c.in_ok-value.ensures.unknown).unvalued in
     IfOk-weaker c.run.result _ _
     (λ v h anew room. under_kept c.args.store.now.sheet (g.M.Memo.state c.args.self.now.memo) (g.M.Memo.state c.value_now.new.memo) (g.M.Memo.state c.run.new.self.memo) c.args.world.now c.args.at c.in-Unknown.cell.key c.in_ok-value.ensures.same u h room)
     c.run.ensures.kept
 
 pub returns-in-Unknown-clause-uncounted : goal.returns-in-Unknown-clause-uncounted
 returns-in-Unknown-clause-uncounted g c =
-    let u = rw c.in-Unknown.is at c.in_ok-value.ensures.unknown in
+    let u = (rw c.in-Unknown.is at c.in_ok-value.ensures.unknown).unvalued in
     λ easy. absurd (not_easy c.args.store.now.sheet (g.M.Memo.state c.args.self.now.memo) c.args.world.now c.args.at c.in-Unknown.cell.key c.requires.memo u easy)
 
 pub returns-in-Unknown-clause-settled : goal.returns-in-Unknown-clause-settled
 returns-in-Unknown-clause-settled g c =
-    let u = rw c.in-Unknown.is at c.in_ok-value.ensures.unknown in
+    let u = (rw c.in-Unknown.is at c.in_ok-value.ensures.unknown).unvalued in
     IfOk-weaker c.run.result _ _
     (λ v h. under_settled c.args.store.now.sheet (g.M.Memo.state c.args.self.now.memo) c.args.world.now c.args.at (g.M.Memo.state c.value_now.new.memo) (g.M.Memo.state c.run.new.self.memo) c.in-Unknown.cell.key c.in_ok-value.ensures.same u h)
     c.run.ensures.settled
@@ -52,21 +52,11 @@ run-requires-clause-memo g c = subst (λ (x : MemoState). IsMemoOf c.args.store.
 
 pub run-requires-clause-key : goal.run-requires-clause-key
 run-requires-clause-key g c =
-    let u = rw c.in-Unknown.is at c.in_ok-value.ensures.unknown in
-    subst (λ (x : MemoState). IsToValue c.args.store.now.sheet x c.in-Unknown.cell.key) (sym c.in_ok-value.ensures.same) u.key
+    let u = (rw c.in-Unknown.is at c.in_ok-value.ensures.unknown).unvalued in
+    subst (λ (x : MemoState). IsToFind c.args.store.now.sheet x c.in-Unknown.cell.key) (sym c.in_ok-value.ensures.same) u.to_find
 
 pub run-requires-clause-formula : goal.run-requires-clause-formula
-run-requires-clause-formula g c = rw c.in-Unknown.is at c.in_ok-value.ensures.formula
-
-pub run-requires-clause-unfound : goal.run-requires-clause-unfound
-run-requires-clause-unfound g c =
-    let u = rw c.in-Unknown.is at c.in_ok-value.ensures.unknown in
-    subst (λ (x : MemoState). x.found c.in-Unknown.cell.key.cell c.in-Unknown.cell.key.world ≡ false) (sym c.in_ok-value.ensures.same) u.unfound
-
-pub run-requires-clause-unkept : goal.run-requires-clause-unkept
-run-requires-clause-unkept g c =
-    let u = rw c.in-Unknown.is at c.in_ok-value.ensures.unknown in
-    subst (λ (x : MemoState). x.kept c.in-Unknown.cell.key.cell c.in-Unknown.cell.key.world ≡ false) (sym c.in_ok-value.ensures.same) u.unkept
+run-requires-clause-formula g c = (rw c.in-Unknown.is at c.in_ok-value.ensures.unknown).stands
 
 pub returns-in-Known-clause-value : goal.returns-in-Known-clause-value
 returns-in-Known-clause-value g c = rw c.in-Known.is at c.in_ok-value.ensures.known
@@ -87,5 +77,5 @@ returns-in-Known-clause-spends g c = spends_none c.requires.memo c.in_ok-value.e
 
 pub returns-in-Unknown-clause-spends : goal.returns-in-Unknown-clause-spends
 returns-in-Unknown-clause-spends g c =
-    let u = rw c.in-Unknown.is at c.in_ok-value.ensures.unknown in
+    let u = (rw c.in-Unknown.is at c.in_ok-value.ensures.unknown).unvalued in
     spends_weaken c.in_ok-value.ensures.same (λ ks top. unvalued_in _ _ _ _ _ ks u top) (λ d. d) c.run.ensures.spends
