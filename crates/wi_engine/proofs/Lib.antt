@@ -1,4 +1,3 @@
-pub mod InOrder
 pub mod Kept
 pub mod Passed
 pub mod Saved

@@ -1,35 +1,12 @@
 -- What is kept for longer where one question follows another over the same memory.
-use Rattle.std.proofs.Common.{◌≡◌, ◌≤◌, ◌+◌, inl, inr, ℕ, Bool, true, false, not, cond, List, [], ◌∷◌, length, All, refl, sym, subst, arith}
+use Rattle.std.proofs.Common.{◌≡◌, ◌≤◌, ◌+◌, inl, inr, ℕ, Bool, true, false, not, cond, [], ◌∷◌, length, refl, sym, subst, arith}
 use Rattle.std.specs.List.{IsDistinct}
 use Rattle.std.proofs.lemmas.Bool.{true≢false}
-use Rattle.std.proofs.lemmas.List.Elements.{All-weaker}
 use Rattle.std.proofs.lemmas.Map.Keys.{IsDistinct-cons}
-use Rattle.wi_values.specs.declared.replacement.Replacement.{Replacement}
-use Rattle.wi_parser.specs.Sheet.{Sheet}
 use Rattle.wi_cache.specs.declared.key.Key.{Key}
 use Rattle.wi_cache.specs.Entries.{same_key}
-use Rattle.wi_sheet.specs.Demand.{Case, reaching, with_what_if}
-use Rattle.wi_sheet.specs.Settled.{IsSettled, IsWhatIfSettled, RestsOnKept}
 use Rattle.wi_engine.specs.Inner.MemoState.{MemoState}
 use Rattle.wi_engine.specs.Inner.Saving.{TakesPlaces, TakesNoMore, GivesUpWhenFull}
-
--- ---- with more that is kept, what was settled is, and what rested on kept values does
-
-module _ (s : Sheet) (kept more : ℕ → List Replacement → Bool) (grows : (c : ℕ) (w : List Replacement) → kept c w ≡ true → more c w ≡ true) where
-  pub settled_more : (w : List Replacement) (c : ℕ) → IsSettled s kept w c → IsSettled s more w c
-  settled_more w c (inl h) = inl h
-  settled_more w c (inr h) = inr (grows c (reaching s c w) h)
-
-  pub all_more : (w : List Replacement) (xs : List (ℕ × ℕ)) → All (λ p. IsSettled s kept w p.1) xs → All (λ p. IsSettled s more w p.1) xs
-  all_more w xs h = All-weaker (λ p. IsSettled s kept w p.1) (λ p. IsSettled s more w p.1) (λ p k. settled_more w p.1 k) xs h
-
-  pub what_if_more : (w : List Replacement) (x : ℕ × List (ℕ × ℕ)) → IsWhatIfSettled s kept w x → IsWhatIfSettled s more w x
-  what_if_more w x h = record { replacing = all_more w x.1 h.replacing; formula_cell = settled_more (with_what_if s w x.1) x.0 h.formula_cell }
-
-  pub rests_more : (k : Case) → RestsOnKept s kept k → RestsOnKept s more k
-  rests_more k h = λ t a i g. h t a i (record { cells = λ d r e. g.cells d r (settled_more k.1 d e); what_ifs = λ f ps m e. g.what_ifs f ps m (what_if_more k.1 (f, ps) e) })
-
--- ---- one question after another
 
 pub takes_then : (old mid new : MemoState) (a b c : ℕ) → TakesNoMore old mid a b → TakesNoMore mid new b c → b ≤ c → TakesNoMore old new a c
 takes_then old mid new a b c (inl h) (inl k) l = inl (λ ks d. let x = h ks d in let y = k ks d in omega (arith, x, y))

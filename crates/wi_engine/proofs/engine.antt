@@ -4,8 +4,6 @@ pub mod Budgets
 pub mod Ends
 pub mod FoundSettled
 pub mod FramesSettled
-pub mod Inputs
-pub mod Ranks
 pub mod Resting
 pub mod Rightness
 pub mod Running

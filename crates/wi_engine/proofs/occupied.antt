@@ -1,3 +1,2 @@
 -- What the proofs about the occupied cells of a rectangle use.
 pub mod NextCells
-pub mod ReadLists

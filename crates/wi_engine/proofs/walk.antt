@@ -2,6 +2,5 @@
 pub mod Cursors
 pub mod Loops
 pub mod PathSteps
-pub mod ReadOrders
 pub mod WalkLengths
 pub mod WalkSteps

@@ -6,9 +6,6 @@ pub mod Findings
 pub mod Frames
 pub mod Keeps
 pub mod MemoState
-pub mod Rank
-pub mod ReadCells
-pub mod ReadOrder
 pub mod Remembered
 pub mod Saving
 pub mod Seen

@@ -10,8 +10,8 @@ ghost use Rattle.wi_values.specs.Address.{is_within};
 ghost use Rattle.wi_parser.specs.Sheet.{content_of};
 ghost use Rattle.wi_parser.specs.Reads.{content_reads};
 ghost use Rattle.wi_graph.specs.Reach.{is_one_of, reaches};
-ghost use Rattle.wi_engine.specs.Inner.ReadCells.{rectangles_in, occupied_within};
-ghost use Rattle.wi_engine.specs.Inner.ReadOrder.{IsReadOrder};
+ghost use Rattle.wi_sheet.specs.Inner.ReadCells.{rectangles_in, occupied_within};
+ghost use Rattle.wi_sheet.specs.Inner.ReadOrder.{IsReadOrder};
 ghost use Rattle.wi_engine.specs.Inner.Remembered.{AreCones};
 
 use crate::occupied::next_within;
@@ -76,7 +76,8 @@ fn cone(
     at: Address,
 ) -> Result<BTreeSet<Address>, AllocError>
     requires { IsReadOrder store.now.sheet order.now }
-    ensures { IfOk result (λ cone. (c : ℕ) → contains nat_cmp cone c ≡ (is_one_of order.now c && reaches store.now.sheet c at)) }
+    ensures { IfOk result (λ cone. (c : ℕ)
+        → contains nat_cmp cone c ≡ (is_one_of order.now c && reaches store.now.sheet c at)) }
 {
     let mut cone = BTreeSet::new(alloc);
     for cell in order {
@@ -89,7 +90,9 @@ fn cone(
 
 /// Whether a cell is another, reads it, or reads one that is among those that reach it.
 fn steps_into(store: &Store, cell: Address, at: Address, cone: &BTreeSet<Address>) -> bool
-    ensures { result ≡ (cell == at || content_reads (content_of store.now.sheet cell) at || list_any (contains nat_cmp cone.now) (occupied_within store.now.sheet (rectangles_in (content_of store.now.sheet cell)))) }
+    ensures { result ≡ (cell == at || content_reads (content_of store.now.sheet cell) at
+        || list_any (contains nat_cmp cone.now)
+        (occupied_within store.now.sheet (rectangles_in (content_of store.now.sheet cell)))) }
 {
     if cell == at {
         return true;
@@ -113,7 +116,9 @@ fn is_in_one(at: Address, rectangles: &[Rect]) -> bool
 
 /// Whether a set has one of the occupied cells of these rectangles.
 fn has_one(store: &Store, rectangles: &[Rect], set: &BTreeSet<Address>) -> bool
-    ensures { result ≡ list_any (λ r. list_any (contains nat_cmp set.now) (filter (is_within r) (keys_of store.now.sheet))) rectangles.now }
+    ensures { result ≡ list_any (λ r.
+        list_any (contains nat_cmp set.now)
+        (filter (is_within r) (keys_of store.now.sheet))) rectangles.now }
 {
     rectangles
         .iter()
@@ -122,7 +127,8 @@ fn has_one(store: &Store, rectangles: &[Rect], set: &BTreeSet<Address>) -> bool
 
 /// Whether a set has one of the occupied cells of a rectangle.
 fn has_one_within(store: &Store, area: Rect, set: &BTreeSet<Address>) -> bool
-    ensures { result ≡ list_any (contains nat_cmp set.now) (filter (is_within area) (keys_of store.now.sheet)) }
+    ensures { result
+        ≡ list_any (contains nat_cmp set.now) (filter (is_within area) (keys_of store.now.sheet)) }
 {
     let mut ahead = next_within(store, area, None);
     while let Some(cell) = ahead {

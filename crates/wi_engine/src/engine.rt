@@ -1,8 +1,7 @@
 //! What a frame does, from one value to the next.
 
-ghost use Rattle.std.specs.Prelude.{◌≡◌, ◌==◌, ◌&&◌, ◌-◌, ◌≤◌, ◌∷◌, [], ◌⊎◌, ℕ, Bool, true, false, None, Ok, List, All, map, IfOk, IfSome, IfNone, OnOk, is_ok};
+ghost use Rattle.std.specs.Prelude.{◌≡◌, ◌==◌, ◌&&◌, ◌-◌, ◌∷◌, [], ◌⊎◌, ℕ, true, false, None, Ok, All, map, IfOk, IfSome, IfNone, OnOk, is_ok};
 ghost use Rattle.std.specs.List.{list_any};
-ghost use Rattle.wi_values.specs.declared.replacement.Replacement.{Replacement as Replacements};
 ghost use Rattle.wi_values.specs.Replacements.{IsInOrder, same_replacements};
 ghost use Rattle.wi_parser.specs.View.{pair_of};
 ghost use Rattle.wi_parser.specs.Sheet.{put_all};
@@ -10,11 +9,10 @@ ghost use Rattle.wi_functions.specs.declared.evaluation.Want.TheVariants as want
 ghost use Rattle.wi_graph.specs.Reach.{is_one_of};
 ghost use Rattle.wi_sheet.specs.CellValue as show;
 ghost use Rattle.wi_sheet.specs.Demand.{reaching};
-ghost use Rattle.wi_engine.specs.Inner.MemoState.{MemoState, IsMemoOf};
+ghost use Rattle.wi_engine.specs.Inner.MemoState.{IsMemoOf};
 ghost use Rattle.wi_engine.specs.Inner.Attempt.{AsksAt, IsLacking, lacks_cell};
-ghost use Rattle.wi_engine.specs.Inner.Frames.{MayBeRead, StandsAt, IsUnvaluedFormula, AreReadHere, Awaits, IsFrame, IsNextFormula, case_at, spare, waits, waits_at};
-ghost use Rattle.wi_engine.specs.Inner.SettledFrames.{IsFrameSettled};
-ghost use Rattle.wi_engine.specs.Inner.Steps.{IfReplaced, IfInputUnknown, IfValued, IfNeedsValue, evaluations_after, FrameSteps, FrameCounts, FrameWaits, IsFrameValue, IsWorldWith};
+ghost use Rattle.wi_engine.specs.Inner.Frames.{MayBeRead, StandsAt, IsUnvaluedFormula, AreReadHere, Awaits, IsFrame, IsNextFormula, case_at, waits, waits_at};
+ghost use Rattle.wi_engine.specs.Inner.Steps.{IfReplaced, IfInputUnknown, IfValued, IfNeedsValue, evaluations_after, FrameSteps, FrameCounts, FrameTakes, FrameWaits, IsFrameValue, IsWorldWith};
 ghost use Rattle.wi_engine.specs.declared.frame.Waiting.TheVariants as waiting;
 
 use crate::ahead::look_ahead;
@@ -43,7 +41,8 @@ fn world_of_what_if<'a, M: Memo>(
     memo: &mut M,
 ) -> Result<Inputs<'a>, AllocError>
     requires memo { IsMemoOf store.now.sheet (M.state memo.old) }
-    requires read { All (λ p. MayBeRead store.now.sheet (M.state memo.old) p.replacement.at) pairs.now }
+    requires read { All (λ p.
+        MayBeRead store.now.sheet (M.state memo.old) p.replacement.at) pairs.now }
     ensures known { IfOk result (λ i. IfReplaced i
         (IsWorldWith store.now.sheet (M.state memo.old) world.now pairs.now)) }
     ensures unknown { IfOk result (λ i. IfInputUnknown i (λ u.
@@ -100,7 +99,8 @@ fn settle_cells<'a, M: Memo>(
     requires memo { IsMemoOf store.now.sheet (M.state memo.old) }
     requires frame { IsFrame store.now.sheet (M.state memo.old) frame.old }
     requires waiting { frame.old.waiting ≡ waiting.Nothing }
-    requires awaits { Awaits store.now.sheet (case_at frame.old.key) frame.old.found (waiting.Cells at others) }
+    requires awaits { Awaits store.now.sheet (case_at frame.old.key) frame.old.found
+        (waiting.Cells at others) }
     ensures steps { FrameSteps store.now.sheet (M.state memo.old) (M.state memo.new)
         frame.old frame.new 1 (is_ok result) }
     ensures next { IfOk result (λ o. IfSome o
@@ -139,7 +139,8 @@ fn settle_what_if<'a, M: Memo>(
     requires memo { IsMemoOf store.now.sheet (M.state memo.old) }
     requires frame { IsFrame store.now.sheet (M.state memo.old) frame.old }
     requires waiting { frame.old.waiting ≡ waiting.Nothing }
-    requires awaits { Awaits store.now.sheet (case_at frame.old.key) frame.old.found (waiting.WhatIf at pairs) }
+    requires awaits { Awaits store.now.sheet (case_at frame.old.key) frame.old.found
+        (waiting.WhatIf at pairs) }
     ensures steps { FrameSteps store.now.sheet (M.state memo.old) (M.state memo.new)
         frame.old frame.new 1 (is_ok result) }
     ensures next { IfOk result (λ o. IfSome o
@@ -275,17 +276,12 @@ pub fn take_in(
     key: &Key,
     value: &Value,
 ) -> Result<(), AllocError>
-    requires awaits { Awaits store.now.sheet (case_at frame.old.key) frame.old.found frame.old.waiting }
+    requires awaits { Awaits store.now.sheet
+        (case_at frame.old.key) frame.old.found frame.old.waiting }
     requires own { reaching store.now.sheet key.now.cell key.now.world ≡ key.now.world }
-    requires right { value.now ≡ show.cell_value (put_all store.now.sheet key.now.world) key.now.cell }
-    ensures key { frame.new.key ≡ frame.old.key }
-    ensures frame { OnOk result ((m : MemoState)
-        → IsFrame store.now.sheet m frame.old → IsFrame store.now.sheet m frame.new) }
-    ensures spare { OnOk result (spare store.now.sheet frame.new ≤ spare store.now.sheet frame.old) }
-    ensures settled { OnOk result ((kept : ℕ → List Replacements → Bool)
-        → kept key.now.cell key.now.world ≡ true
-        → IsFrameSettled store.now.sheet kept frame.old
-        → IsFrameSettled store.now.sheet kept frame.new) }
+    requires right { value.now
+        ≡ show.cell_value (put_all store.now.sheet key.now.world) key.now.cell }
+    ensures { FrameTakes store.now.sheet key.now frame.old frame.new (is_ok result) }
 {
     if !waits_for(frame, key) {
         return Ok(());

@@ -2,7 +2,7 @@
 
 ghost use Rattle.std.specs.Prelude.{◌≡◌, ◌∷◌, [], ℕ, Some, true, false, IfSome, IfNone, nat_le};
 ghost use Rattle.wi_values.specs.Address.{is_within};
-ghost use Rattle.wi_engine.specs.Inner.ReadCells.{cells_after, is_after};
+ghost use Rattle.wi_sheet.specs.Inner.ReadCells.{cells_after, is_after};
 
 use wi_lookup::successor;
 use wi_store::Store;
@@ -10,7 +10,8 @@ use wi_values::{Address, Rect};
 
 /// The first occupied cell of a rectangle after the one looked at last. The work is that of `Store::next_occupied`.
 pub fn next_within(store: &Store, area: Rect, after: Option<Address>) -> Option<Address>
-    ensures some { IfSome result (λ c. cells_after store.now.sheet area after ≡ c ∷ cells_after store.now.sheet area (Some c)) }
+    ensures some { IfSome result (λ c. cells_after store.now.sheet area after
+        ≡ c ∷ cells_after store.now.sheet area (Some c)) }
     ensures none { IfNone result (cells_after store.now.sheet area after ≡ []) }
 {
     store.cells_stand_in_order();
@@ -20,7 +21,8 @@ pub fn next_within(store: &Store, area: Rect, after: Option<Address>) -> Option<
 
 /// From where on the cells of a rectangle come after the one looked at last, if any of them does.
 fn first_after(area: Rect, after: Option<Address>) -> Option<Address>
-    ensures some { IfSome result (λ from. (a : ℕ) → is_within area a ≡ true → is_after after a ≡ nat_le from a) }
+    ensures some { IfSome result (λ from. (a : ℕ) → is_within area a ≡ true
+        → is_after after a ≡ nat_le from a) }
     ensures none { IfNone result ((a : ℕ) → is_within area a ≡ true → is_after after a ≡ false) }
 {
     match after {

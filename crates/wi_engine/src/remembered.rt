@@ -2,7 +2,7 @@
 
 ghost use Rattle.std.specs.Prelude.{◌≡◌, []};
 ghost use Rattle.wi_engine.specs.Inner.MemoState.{IsMemoOf};
-ghost use Rattle.wi_engine.specs.Inner.ReadOrder.{IsReadOrder};
+ghost use Rattle.wi_sheet.specs.Inner.ReadOrder.{IsReadOrder};
 ghost use Rattle.wi_engine.specs.Inner.Remembered.{question_state, remembered};
 
 use crate::cone::{Cones, add_cones};
@@ -41,7 +41,7 @@ impl<'a> Model for Remembered<'a> {
 
     ghost coded = { Prim.hlevel (codes, content.the_row.coded, key.the_row.coded, value.the_row.coded) };
 
-    ghost use Rattle.wi_engine.specs.Inner.ReadOrder.{IsReadOrder};
+    ghost use Rattle.wi_sheet.specs.Inner.ReadOrder.{IsReadOrder};
     ghost use Rattle.wi_engine.specs.Inner.Remembered.{AreCones, remembered};
 
     ghost view = { λ m. remembered m.store.now.sheet m.order.items m.table };

@@ -9,7 +9,7 @@ ghost use Rattle.std.specs.List.{list_any};
 ghost use Rattle.wi_parser.specs.Sheet.{content_of, has_formula};
 ghost use Rattle.wi_graph.specs.Circular as cycles;
 ghost use Rattle.wi_graph.specs.Reach.{is_one_of, Reaches};
-ghost use Rattle.wi_engine.specs.Inner.ReadOrder.{IsReadOrder};
+ghost use Rattle.wi_sheet.specs.Inner.ReadOrder.{IsReadOrder};
 ghost use Rattle.wi_engine.specs.Inner.Walk.{IsBelow, Enter, GoesOn, HasCycle, begun, tasks_in, tasks_left, unread};
 ghost use Rattle.wi_engine.specs.declared.walk.Progress.TheVariants.{Open, Done};
 
@@ -57,8 +57,11 @@ pub fn reached(
 ) -> Result<Option<Vec<Address>>, AllocError>
     ensures circular { IfOk result (λ o. is_none o ≡ cycles.circular store.now.sheet at) }
     ensures order { IfOk result (λ o. IfSome o (λ r. IsReadOrder store.now.sheet r.items)) }
-    ensures only { IfOk result (λ o. IfSome o (λ r. (d : ℕ) → is_one_of r.items d ≡ true → Reaches store.now.sheet at d)) }
-    ensures root { IfOk result (λ o. IfSome o (λ r. has_formula (content_of store.now.sheet at) ≡ true → is_one_of r.items at ≡ true)) }
+    ensures only { IfOk result (λ o. IfSome o (λ r. (d : ℕ) → is_one_of r.items d ≡ true
+        → Reaches store.now.sheet at d)) }
+    ensures root { IfOk result (λ o.
+        IfSome o (λ r. has_formula (content_of store.now.sheet at) ≡ true
+        → is_one_of r.items at ≡ true)) }
 {
     reached_from(alloc, store, &[at])
 }
@@ -72,10 +75,13 @@ pub fn reached_from(
     store: &Store,
     cells: &[Address],
 ) -> Result<Option<Vec<Address>>, AllocError>
-    ensures circular { IfOk result (λ o. is_none o ≡ list_any (cycles.circular store.now.sheet) cells.now) }
+    ensures circular { IfOk result (λ o.
+        is_none o ≡ list_any (cycles.circular store.now.sheet) cells.now) }
     ensures order { IfOk result (λ o. IfSome o (λ r. IsReadOrder store.now.sheet r.items)) }
-    ensures only { IfOk result (λ o. IfSome o (λ r. (d : ℕ) → is_one_of r.items d ≡ true → IsBelow store.now.sheet cells.now d)) }
-    ensures roots { IfOk result (λ o. IfSome o (λ r. (c : ℕ) → is_one_of cells.now c ≡ true → has_formula (content_of store.now.sheet c) ≡ true → is_one_of r.items c ≡ true)) }
+    ensures only { IfOk result (λ o. IfSome o (λ r. (d : ℕ) → is_one_of r.items d ≡ true
+        → IsBelow store.now.sheet cells.now d)) }
+    ensures roots { IfOk result (λ o. IfSome o (λ r. (c : ℕ) → is_one_of cells.now c ≡ true
+        → has_formula (content_of store.now.sheet c) ≡ true → is_one_of r.items c ≡ true)) }
 {
     let mut walk = Walk {
         path: Vec::new(alloc),
@@ -94,8 +100,11 @@ impl Walk {
     /// Walks from a cell on to all that it reaches. Answers whether it came upon a cycle.
     fn meets_cycle(&mut self, store: &Store, root: Address) -> Result<bool, AllocError>
         requires { self.old.path.items ≡ [] }
-        ensures cycle { IfOk result (λ b. OnTrue b (HasCycle store.now.sheet (Enter root ∷ []) self.old.progress self.old.order.items)) }
-        ensures walk { IfOk result (λ b. OnFalse b (GoesOn store.now.sheet (Enter root ∷ []) self.old.progress self.old.order.items [] self.new.progress self.new.order.items)) }
+        ensures cycle { IfOk result (λ b. OnTrue b (HasCycle store.now.sheet
+            (Enter root ∷ []) self.old.progress self.old.order.items)) }
+        ensures walk { IfOk result (λ b. OnFalse b (GoesOn store.now.sheet
+            (Enter root ∷ []) self.old.progress self.old.order.items
+            [] self.new.progress self.new.order.items)) }
         ensures path { IfOk result (λ b. OnFalse b (self.new.path.items ≡ [])) }
     {
         if self.enter(store, root)? {
@@ -112,9 +121,19 @@ impl Walk {
     /// Goes on from the last cell of the path, which was taken off: to the next cell that it reads, or back. Answers whether
     /// that closes a cycle.
     fn go_on(&mut self, store: &Store, visit: Visit) -> Result<bool, AllocError>
-        ensures cycle { IfOk result (λ b. OnTrue b (HasCycle store.now.sheet (tasks_in store.now.sheet (self.old.path.items ++ visit ∷ [])) self.old.progress self.old.order.items)) }
-        ensures walk { IfOk result (λ b. OnFalse b (GoesOn store.now.sheet (tasks_in store.now.sheet (self.old.path.items ++ visit ∷ [])) self.old.progress self.old.order.items (tasks_in store.now.sheet self.new.path.items) self.new.progress self.new.order.items)) }
-        ensures less { OnOk result (tasks_left store.now.sheet self.new.progress (tasks_in store.now.sheet self.new.path.items) < tasks_left store.now.sheet self.old.progress (tasks_in store.now.sheet (self.old.path.items ++ visit ∷ []))) }
+        ensures cycle { IfOk result (λ b. OnTrue b (HasCycle store.now.sheet
+            (tasks_in store.now.sheet (self.old.path.items ++ visit ∷ []))
+            self.old.progress self.old.order.items)) }
+        ensures walk { IfOk result (λ b. OnFalse b (GoesOn store.now.sheet
+            (tasks_in store.now.sheet (self.old.path.items ++ visit ∷ []))
+            self.old.progress self.old.order.items
+            (tasks_in store.now.sheet self.new.path.items)
+            self.new.progress self.new.order.items)) }
+        ensures less { OnOk result (
+            tasks_left store.now.sheet self.new.progress
+            (tasks_in store.now.sheet self.new.path.items)
+            < tasks_left store.now.sheet self.old.progress
+            (tasks_in store.now.sheet (self.old.path.items ++ visit ∷ []))) }
     {
         let current = visit.cell;
         match visit.next(store) {
@@ -131,9 +150,19 @@ impl Walk {
 
     /// Goes into a cell that the last one of the path reads. Answers whether it is on the path: then it is on a cycle.
     fn enter(&mut self, store: &Store, cell: Address) -> Result<bool, AllocError>
-        ensures cycle { IfOk result (λ b. OnTrue b (HasCycle store.now.sheet (tasks_in store.now.sheet self.old.path.items ++ Enter cell ∷ []) self.old.progress self.old.order.items)) }
-        ensures walk { IfOk result (λ b. OnFalse b (GoesOn store.now.sheet (tasks_in store.now.sheet self.old.path.items ++ Enter cell ∷ []) self.old.progress self.old.order.items (tasks_in store.now.sheet self.new.path.items) self.new.progress self.new.order.items)) }
-        ensures less { OnOk result (tasks_left store.now.sheet self.new.progress (tasks_in store.now.sheet self.new.path.items) ≤ tasks_left store.now.sheet self.old.progress (tasks_in store.now.sheet self.old.path.items)) }
+        ensures cycle { IfOk result (λ b. OnTrue b (HasCycle store.now.sheet
+            (tasks_in store.now.sheet self.old.path.items ++ Enter cell ∷ [])
+            self.old.progress self.old.order.items)) }
+        ensures walk { IfOk result (λ b. OnFalse b (GoesOn store.now.sheet
+            (tasks_in store.now.sheet self.old.path.items ++ Enter cell ∷ [])
+            self.old.progress self.old.order.items
+            (tasks_in store.now.sheet self.new.path.items)
+            self.new.progress self.new.order.items)) }
+        ensures less { OnOk result (
+            tasks_left store.now.sheet self.new.progress
+            (tasks_in store.now.sheet self.new.path.items)
+            ≤ tasks_left store.now.sheet self.old.progress
+            (tasks_in store.now.sheet self.old.path.items)) }
     {
         match self.progress.get(&cell) {
             Some(Progress::Open) => Ok(true),
@@ -149,7 +178,8 @@ impl Walk {
     fn leave(&mut self, cell: Address) -> Result<(), AllocError>
         ensures path { self.new.path.items ≡ self.old.path.items }
         ensures order { OnOk result (self.new.order.items ≡ self.old.order.items ++ cell ∷ []) }
-        ensures progress { OnOk result (Updates nat_cmp self.old.progress self.new.progress cell (Some Done)) }
+        ensures progress { OnOk result
+            (Updates nat_cmp self.old.progress self.new.progress cell (Some Done)) }
     {
         self.progress.insert(cell, Progress::Done)?;
         self.order.push(cell)?;
@@ -159,9 +189,13 @@ impl Walk {
     /// Looks at a cell. Where it has a formula, it comes onto the path.
     fn visit(&mut self, store: &Store, cell: Address) -> Result<(), AllocError>
         ensures order { self.new.order.items ≡ self.old.order.items }
-        ensures plain { has_formula (content_of store.now.sheet cell) ≡ false → (self.new.path.items ≡ self.old.path.items) × (self.new.progress ≡ self.old.progress) }
-        ensures path { OnOk result (has_formula (content_of store.now.sheet cell) ≡ true → self.new.path.items ≡ self.old.path.items ++ begun cell ∷ []) }
-        ensures progress { OnOk result (has_formula (content_of store.now.sheet cell) ≡ true → Updates nat_cmp self.old.progress self.new.progress cell (Some Open)) }
+        ensures plain { has_formula (content_of store.now.sheet cell) ≡ false
+            → (self.new.path.items ≡ self.old.path.items)
+            × (self.new.progress ≡ self.old.progress) }
+        ensures path { OnOk result (has_formula (content_of store.now.sheet cell) ≡ true
+            → self.new.path.items ≡ self.old.path.items ++ begun cell ∷ []) }
+        ensures progress { OnOk result (has_formula (content_of store.now.sheet cell) ≡ true
+            → Updates nat_cmp self.old.progress self.new.progress cell (Some Open)) }
     {
         if formula_at(store, cell).is_none() {
             return Ok(());
@@ -179,7 +213,8 @@ impl Walk {
 impl Visit {
     /// The next occupied cell that the formula reads, and the visit once that was looked at.
     fn next(self, store: &Store) -> Option<(Address, Visit)>
-        ensures some { IfSome result (λ r. unread store.now.sheet self ≡ r.0 ∷ unread store.now.sheet r.1) }
+        ensures some { IfSome result (λ r.
+            unread store.now.sheet self ≡ r.0 ∷ unread store.now.sheet r.1) }
         ensures same { IfSome result (λ r. r.1.cell ≡ self.cell) }
         ensures none { IfNone result (unread store.now.sheet self ≡ []) }
     {

@@ -80,11 +80,6 @@ accepted_is s t es h = at (nat_lt s.limits.cells _) (nat_le s.limits.edits s.edi
 -- ---- generations
 
 -- after an accepted edit the generations of its cone are its number, and the others are as they were
-pub raised_is : (s t : Sheet) (cells cone : List ℕ) (n : ℕ) (old mid new : Generations) → s ≡ t → ((c : ℕ) → is_one_of cone c ≡ in_cone s cells c) → ((c : ℕ) → generation_in mid c ≡ generation_in old c) →
-    ((c : ℕ) → generation_in new c ≡ cond (is_one_of cone c) n (generation_in mid c)) → (c : ℕ) → generation_in new c ≡ cond (in_cone t cells c) n (generation_in old c)
-raised_is s t cells cone n old mid new e i same up c =
-    up c ∙ ap (λ (b : Bool). cond b n (generation_in mid c)) (i c ∙ ap (λ (x : Sheet). in_cone x cells c) e) ∙ ap (λ (m : ℕ). cond (in_cone t cells c) n m) (same c)
-
 pub raised_in_cone : (s : Sheet) (cells cone : List ℕ) (edits n : ℕ) (old mid new : Generations) → ((c : ℕ) → is_one_of cone c ≡ in_cone s cells c) → ((c : ℕ) → generation_in mid c ≡ generation_in old c) →
     ((c : ℕ) → generation_in new c ≡ cond (is_one_of cone c) n (generation_in mid c)) → n ≡ edits + 1 → AreRaised s cells edits (generation_in old) (generation_in new)
 raised_in_cone s cells cone edits n old mid new i same up e = record {

@@ -1,8 +1,6 @@
-pub mod CellsAhead
 pub mod EmptyCells
 pub mod Marks
 pub mod SavingEntries
-pub mod Showing
 pub mod ShowingEntries
 pub mod ReplacedCones
 pub mod KeptCones
@@ -14,4 +12,3 @@ pub mod PlacesTaken
 pub mod Editing
 pub mod Questions
 pub mod Owing
-pub mod Unreplaced

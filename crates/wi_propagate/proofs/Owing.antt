@@ -1,17 +1,16 @@
 -- What a question spends is what it owes.
-use Rattle.std.proofs.Common.{◌≡◌, ◌≤◌, Bool, true, List, length, refl, ap, sym, ◌∙◌, arith}
+use Rattle.std.proofs.Common.{◌≡◌, ◌≤◌, Bool, List, length, refl, ap, sym, ◌∙◌, subst, arith}
 use Rattle.std.proofs.lemmas.Bool.{true≢false}
 use Rattle.wi_functions.specs.Counts.{Counts}
 use Rattle.wi_cache.specs.Entries.{KeptValues, HasOneEach}
-use Rattle.wi_sheet.specs.Demand.{Case, wants}
-use Rattle.wi_sheet.specs.Inner.Spending.{IsClosed}
-use Rattle.wi_sheet.proofs.Counting.{never_fall-same}
-use Rattle.wi_engine.specs.Inner.Spends.{Spends}
-use Rattle.wi_engine.proofs.Spent.{spends_evaluations, spends_restarts, spends_unkept_evaluations, spends_unkept_restarts, spends_saves, spends_weaken}
+use Rattle.wi_sheet.specs.Demand.{Case}
+use Rattle.wi_sheet.specs.Inner.Spending.{IsClosed, SpentOn}
+use Rattle.wi_sheet.proofs.Counting.{never_fall-same, spent_price, spent_unkept}
+use Rattle.wi_engine.specs.Inner.Spends.{Saved, Spends}
 use Rattle.wi_propagate.specs.KeptSheet.{KeptSheet}
 use Rattle.wi_propagate.specs.Inner.Keeping.{Keeping, begun, state_in}
 use Rattle.wi_propagate.specs.Inner.Owes.{Owes}
-use Rattle.wi_propagate.proofs.Questions.{asked_at_most, asked_evaluations, asked_unkept, asked_unkept_evaluations, asked_saves, asked_keeps, asked_no_more, asked_while_room, none_no_more, none_while_room}
+use Rattle.wi_propagate.proofs.Questions.{asked_where, asked_keeps, asked_no_more, asked_while_room, none_no_more, none_while_room}
 
 -- where nothing is asked
 pub owes_none : (k : KeptSheet) (cases : List Case) (done : Bool) → Owes k k cases done
@@ -36,17 +35,13 @@ module _ (k : KeptSheet) (q last : Keeping) (values : KeptValues) (counts : Coun
     same_generations = refl;
     same_room = ap (λ (v : KeptValues). v.capacity) same ∙ h.same.capacity ∙ ap (λ (x : Keeping). x.values.capacity) e;
     counts = h.counts;
-    demanded = (
-      asked_evaluations k q e Has cases closed has k.counts.evaluations counts.evaluations (spends_evaluations h),
-      asked_at_most k q e Has cases closed has (wants k.stored.sheet) k.counts.restarts counts.restarts (spends_restarts h),
-    );
-    not_kept = λ room. (
-      asked_unkept_evaluations k q e Has cases closed has k.counts.evaluations counts.evaluations (spends_unkept_evaluations h) room,
-      asked_unkept k q e Has cases closed has (wants k.stored.sheet) k.counts.restarts counts.restarts (spends_unkept_restarts h) room,
-    );
+    demanded = spent_price (h.on_found cases closed has);
+    not_kept = λ room.
+        let spent = asked_where k q e (λ ks. SpentOn k.stored.sheet (state_in q).kept (state_in last).kept k.counts counts done ks) cases Has h.on_kept closed has room in
+        spent_unkept (subst (λ (x : Keeping). SpentOn k.stored.sheet (state_in x).kept (state_in last).kept k.counts counts done cases) e spent);
     no_more = asked_no_more k q last values counts e h.same.generation h.same.capacity same within one_each h.places;
     while_room = asked_while_room k q last values counts e h.same.generation h.same.capacity same began h.gives_up h.places;
     keeps = λ d room.
-        let all : Spends k.stored.sheet Has (state_in q) (state_in last) k.counts counts true = spends_weaken refl (λ ks top. top) (λ i. d) h in
-        asked_keeps k q last values counts e h.same.generation h.same.capacity same cases room (asked_saves k q e Has cases closed has (state_in last) k.counts counts (spends_saves all) room);
+        let saved = asked_where k q e (λ ks. Saved k.stored.sheet (state_in q) (state_in last) k.counts counts ks) cases Has (h.saved d) closed has room in
+        asked_keeps k q last values counts e h.same.generation h.same.capacity same cases room saved;
   }

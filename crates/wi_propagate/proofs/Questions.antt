@@ -1,45 +1,35 @@
 -- A question asked of a calculator that keeps values.
-use Rattle.std.proofs.Common.{◌≡◌, ◌≤◌, ◌<◌, ◌+◌, ◌-◌, ◌^◌, ◌||◌, inl, inr, length, sum_by, Contains, All, get_or, filter, not, is_some, ℕ, Bool, true, false, cond, List, [], ◌∷◌, Option, Some, refl, ap, sym, ◌∙◌, subst, arith}
-use Rattle.std.specs.List.{list_any}
+use Rattle.std.proofs.Common.{◌≡◌, ◌≤◌, ◌<◌, ◌+◌, ◌-◌, ◌^◌, inl, inr, length, All, filter, not, is_some, ℕ, Bool, true, false, List, [], Option, Some, refl, ap, sym, ◌∙◌, subst, arith}
 use Rattle.std.specs.Map.{keys_of}
-use Rattle.std.proofs.lemmas.Bool.{cases_lt, true≢false}
-use Rattle.std.proofs.lemmas.List.Folds.{list_any_none}
-use Rattle.std.proofs.lemmas.List.Sums.{sum_by-cons}
+use Rattle.std.proofs.lemmas.Bool.{cases_lt}
 use Rattle.wi_values.specs.declared.value.Value.{Value}
 use Rattle.wi_values.specs.declared.value.Value.TheVariants.{Fault}
 use Rattle.wi_values.specs.declared.value.ErrorKind.TheVariants.{Circular}
 use Rattle.wi_values.specs.declared.replacement.Replacement.{Replacement}
-use Rattle.wi_values.specs.Replacements.{IsInOrder}
 use Rattle.wi_parser.specs.Sheet.{Sheet, content_of, put_all, has_formula}
 use Rattle.wi_functions.specs.Counts.{Counts}
-use Rattle.wi_functions.specs.Meaning.{zero_for_empty}
 use Rattle.wi_store.specs.Store.{Stored}
 use Rattle.wi_cache.specs.declared.key.Key.{Key}
 use Rattle.wi_cache.specs.Entries.{KeptValues, HasOneEach, value_for}
 use Rattle.wi_graph.specs.Circular.{circular}
 use Rattle.wi_graph.proofs.Tests.{clash}
-use Rattle.wi_sheet.specs.CellValue.{cell_value}
-use Rattle.wi_sheet.specs.Demand.{Case, case_of, reaching, with_what_if, demanded}
-use Rattle.wi_sheet.specs.TableEntry.{asks_circular, table_entry, entry_demanded}
+use Rattle.wi_sheet.specs.Demand.{Case, reaching}
+use Rattle.wi_sheet.specs.TableEntry.{asks_circular, table_entry}
 use Rattle.wi_sheet.specs.Settled.{IsWhatIfSettled}
-use Rattle.wi_sheet.specs.Inner.Spending.{CountsAtMost, HasCase, HasEntry, IsClosed, left}
-use Rattle.wi_sheet.proofs.Cases.{different_has_itself}
-use Rattle.wi_sheet.proofs.Counting.{left_falls, left_of_nothing, sum_of_ones}
-use Rattle.wi_sheet.proofs.Members.{contains_in}
-use Rattle.wi_sheet.proofs.SmallerWorlds.{content_below}
-use Rattle.wi_sheet.proofs.Overrides.{with_what_if_value}
-use Rattle.wi_sheet.proofs.TableEntries.{table_has_replacing, table_has_formula_cell, cells_open, entry_circular, entry_open}
-use Rattle.wi_engine.specs.Inner.MemoState.{MemoState}
+use Rattle.wi_sheet.specs.Inner.Spending.{IsClosed}
+use Rattle.wi_sheet.proofs.Counting.{left_is_unkept, sum_of_ones}
+use Rattle.wi_sheet.proofs.TableEntries.{cells_open, entry_circular, none_circular}
 use Rattle.wi_engine.specs.Inner.Frames.{MayBeRead}
 use Rattle.wi_engine.specs.Inner.Saving as saving
-use Rattle.wi_engine.specs.Inner.Saving.{KeepsFound, WhereRoom, CountsUnkept, Saves, SavesAll, TakesNoMore, GivesUpWhenFull, NeedsNoEvaluation, IsValuedAnew}
-use Rattle.wi_engine.proofs.Saved.{what_if_more, rests_more, none_went}
+use Rattle.wi_engine.specs.Inner.Saving.{KeepsFound, WhereRoom, TakesNoMore, GivesUpWhenFull, NeedsNoEvaluation, IsValuedAnew}
+use Rattle.wi_engine.specs.Inner.Spends.{Saved}
+use Rattle.wi_sheet.proofs.StaysSettled.{what_if_more, rests_more}
+use Rattle.wi_engine.proofs.Saved.{none_went}
 use Rattle.wi_propagate.specs.KeptSheet.{Generations, generation_in, KeptSheet, key_in, stands, is_kept, unkept, gone, IsAtHand, HasRoomFor, KeepsAll, KeepsNoMore, KeepsOld, KeepsWhileRoom}
 use Rattle.wi_propagate.specs.Right.{AreRight, AreKeptRight}
 use Rattle.wi_propagate.specs.Inner.Keeping.{kept_sheet, values_in, Keeping, keeping, begun, state_in, IsKeepingRight}
 use Rattle.wi_propagate.proofs.KeptSteps.{or_none}
 use Rattle.wi_propagate.proofs.PlacesTaken.{all_stand}
-use Rattle.wi_propagate.proofs.ShowingEntries.{pair_in}
 
 -- the question begins with what was kept
 pub begun_is : (s : Stored) (gs : Generations) (o : Option KeptValues) (n : Counts) (v : KeptValues) (q : Keeping) → q ≡ keeping s.sheet s.edits gs [] v → Some v ≡ o → q ≡ begun (kept_sheet s gs o n)
@@ -60,26 +50,6 @@ begun_within o v e h = subst (λ (x : Option KeptValues). length (values_in x).e
 pub begun_one_each : (o : Option KeptValues) (v : KeptValues) → Some v ≡ o → HasOneEach v.entries → HasOneEach (values_in o).entries
 begun_one_each o v e h = subst (λ (x : Option KeptValues). HasOneEach (values_in x).entries) e h
 
--- ---- what the cases weigh that are not kept
-
-pub left_is_unkept : (weight : Case → ℕ) (f : ℕ → List Replacement → Bool) (ks : List Case) → left weight f ks ≡ sum_by weight (filter (λ x. not (f x.0 x.1)) ks)
-left_is_unkept weight f [] = refl
-left_is_unkept weight f (k ∷ ks) = at (f k.0 k.1) (left_is_unkept weight f ks)
-  where
-    rest : List Case
-    rest = filter (λ x. not (f x.0 x.1)) ks
-
-    at : (b : Bool) → left weight f ks ≡ sum_by weight rest → cond b 0 (weight k) + left weight f ks ≡ sum_by weight (cond (not b) (k ∷ rest) rest)
-    at true h = omega (arith, h)
-    at false h = let more = sum_by-cons weight k rest in omega (arith, h, more)
-
--- the cases that are not found weigh no more than all
-left_at_most : (weight : Case → ℕ) (found : ℕ → List Replacement → Bool) (ks : List Case) → left weight found ks ≤ sum_by weight ks
-left_at_most weight found ks =
-    let fewer = left_falls weight (λ c w. false) found ks (λ c w h. absurd (true≢false (sym h))) in
-    let all = left_of_nothing weight ks in
-    omega (arith, fewer, all)
-
 -- ---- a question, for each closed list of cases that has what it is to have
 
 module _ (k : KeptSheet) (q : Keeping) (e : q ≡ begun k) where
@@ -90,52 +60,20 @@ module _ (k : KeptSheet) (q : Keeping) (e : q ≡ begun k) where
   keeps_found : KeepsFound (state_in q)
   keeps_found c w h = ap (λ (x : Keeping). (state_in x).kept c w) e ∙ sym (begun_found c w) ∙ h
 
-  unkept_left : (weight : Case → ℕ) (ks : List Case) → left weight (state_in q).kept ks ≡ sum_by weight (unkept k ks)
-  unkept_left weight ks = ap (λ (x : Keeping). left weight (state_in x).kept ks) e ∙ left_is_unkept weight (is_kept k) ks
-
   pub same_unkept : (ks : List Case) → saving.not_kept (state_in q) ks ≡ length (unkept k ks)
-  same_unkept ks = unkept_left (λ c. 1) ks ∙ sum_of_ones (unkept k ks)
+  same_unkept ks = ap (λ (x : Keeping). saving.not_kept (state_in x) ks) e ∙ left_is_unkept (λ c. 1) (is_kept k) ks ∙ sum_of_ones (unkept k ks)
 
   room_left : (ks : List Case) → HasRoomFor k ks → saving.not_kept (state_in q) ks ≤ (state_in q).room
   room_left ks h =
-      let z = same_unkept ks in
-      let y = ap (λ (x : Keeping). (state_in x).room) e in
-      omega (arith, h, z, y)
+      omega (arith, h, same_unkept ks, ap (λ (x : Keeping). (state_in x).room) e)
 
   -- its cell may be valued
   pub may_be_read : (a : ℕ) → circular k.stored.sheet a ≡ false → MayBeRead k.stored.sheet (state_in q) a
   may_be_read a o = subst (λ (x : Keeping). MayBeRead k.stored.sheet (state_in x) a) (sym e) (record { open_cell = o; covered = λ h. refl })
 
-  module _ (Has : List Case → Type 0) (cases : List Case) (closed : IsClosed k.stored.sheet cases) (has : Has cases) where
-    pub asked_at_most : (weight : Case → ℕ) (n m : ℕ) → CountsAtMost k.stored.sheet Has weight (state_in q).found n m → m ≤ n + sum_by weight cases
-    asked_at_most weight n m h =
-        let counted = h cases closed has in
-        let all = left_at_most weight (state_in q).found cases in
-        omega (arith, counted, all)
-
-    pub asked_evaluations : (n m : ℕ) → CountsAtMost k.stored.sheet Has (λ c. 1) (state_in q).found n m → m ≤ n + length cases
-    asked_evaluations n m h =
-        let counted = asked_at_most (λ c. 1) n m h in
-        let all = sum_of_ones cases in
-        omega (arith, counted, all)
-
-    pub asked_unkept : (weight : Case → ℕ) (n m : ℕ) → CountsUnkept k.stored.sheet Has weight (state_in q) n m → HasRoomFor k cases → m ≤ n + sum_by weight (unkept k cases)
-    asked_unkept weight n m h room =
-        let counted = h cases closed has keeps_found (room_left cases room) in
-        let z = unkept_left weight cases in
-        omega (arith, counted, z)
-
-    pub asked_unkept_evaluations : (n m : ℕ) → CountsUnkept k.stored.sheet Has (λ c. 1) (state_in q) n m → HasRoomFor k cases → m ≤ n + length (unkept k cases)
-    asked_unkept_evaluations n m h room =
-        let counted = asked_unkept (λ c. 1) n m h room in
-        let all = sum_of_ones (unkept k cases) in
-        omega (arith, counted, all)
-
-    pub asked_where : (P : Type 0) → WhereRoom k.stored.sheet Has (state_in q) (λ _. P) → HasRoomFor k cases → P
-    asked_where P h room = h cases closed has keeps_found (room_left cases room)
-
-    pub asked_saves : (x : MemoState) (n m : Counts) → SavesAll k.stored.sheet Has (state_in q) x n m → HasRoomFor k cases → Saves k.stored.sheet (state_in q) x cases n m
-    asked_saves x n m h room = h cases closed has keeps_found (room_left cases room)
+  -- what is so where there is room is so of the cases, where there is room for them
+  pub asked_where : (P : List Case → Type 0) (cases : List Case) (Has : List Case → Type 0) → WhereRoom k.stored.sheet Has (state_in q) P → IsClosed k.stored.sheet cases → Has cases → HasRoomFor k cases → P cases
+  asked_where P cases Has h closed has room = h cases closed has keeps_found (room_left cases room)
 
 -- ---- what is kept when it ends
 
@@ -174,7 +112,7 @@ module _ (k : KeptSheet) (q last : Keeping) (values : KeptValues) (counts : Coun
         right = subst (λ (v : KeptValues). AreRight k.stored.sheet k.stored.edits (generation_in k.generations) v.entries) (sym same) then;
       }
 
-  pub asked_keeps : (ks : List Case) → HasRoomFor k ks → Saves k.stored.sheet (state_in q) (state_in last) ks k.counts counts → KeepsAll k after
+  pub asked_keeps : (ks : List Case) → HasRoomFor k ks → Saved k.stored.sheet (state_in q) (state_in last) k.counts counts ks → KeepsAll k after
   asked_keeps ks room h = record {
     added =
         let a = h.added in
@@ -252,11 +190,6 @@ none_while_room k n e = subst (KeepsWhileRoom k) (sym e) (record { count = omega
 -- ---- the value of a cell
 
 module _ (k : KeptSheet) (q : Keeping) (w put : List Replacement) (a : ℕ) (e : q ≡ begun k) (o : circular k.stored.sheet a ≡ false) (same : w ≡ put) where
-  -- the cases that it demands have the cell's own
-  pub has_case : HasCase k.stored.sheet w a (demanded k.stored.sheet put a)
-  has_case f = subst (λ (p : List Replacement). Contains (demanded k.stored.sheet put a) (case_of k.stored.sheet p a)) (sym same)
-      (different_has_itself k.stored.sheet (case_of k.stored.sheet put a) o (ap has_formula (content_below k.stored.sheet a put) ∙ ap (λ (p : List Replacement). has_formula (content_of (put_all k.stored.sheet p) a)) (sym same) ∙ f))
-
   -- what is at hand needs no evaluation
   pub at_hand_is : IsAtHand k put a → NeedsNoEvaluation k.stored.sheet (state_in q) w a
   at_hand_is (inl h) = let z = o in cc
@@ -288,25 +221,12 @@ module _ (k : KeptSheet) (q : Keeping) (w put : List Replacement) (a : ℕ) (e :
 
 -- ---- an entry
 
-none_circular : (s : Sheet) (f : ℕ) (pairs : List (ℕ × ℕ)) → (circular s f ≡ false) × All (λ x. circular s x.1 ≡ false) pairs → (circular s f || list_any (λ x. circular s x.1) pairs) ≡ false
-none_circular s f pairs o = ap (λ (b : Bool). b || list_any (λ x. circular s x.1) pairs) o.0 ∙ list_any_none (λ x. circular s x.1) pairs o.1
-
-pub entry_has : (s : Sheet) (w put : List Replacement) (f : ℕ) (pairs : List (ℕ × ℕ)) → (circular s f ≡ false) × All (λ x. circular s x.1 ≡ false) pairs → w ≡ put → HasEntry s w f pairs (entry_demanded s put f pairs)
-entry_has s w put f pairs o same = subst (λ (p : List Replacement). HasEntry s p f pairs (entry_demanded s put f pairs)) (sym same)
-    (λ i x less. table_has_replacing s put f pairs (get_or pairs i x) (none_circular s f pairs o) (contains_in pairs (get_or pairs i x) (pair_in pairs i x less)) (o.1 i x less), table_has_formula_cell s put f pairs (none_circular s f pairs o) o.0)
-
 -- none of the cells is circular whose values are asked for
 pub open_cells : (s : Sheet) (f : ℕ) (pairs : List (ℕ × ℕ)) (b : Bool) → b ≡ asks_circular s f pairs → b ≡ false → (circular s f ≡ false) × All (λ x. circular s x.1 ≡ false) pairs
 open_cells s f pairs b e h = cells_open s f pairs (sym e ∙ h)
 
 pub circular_entry : (s t : Sheet) (p : List Replacement) (f : ℕ) (pairs : List (ℕ × ℕ)) (b : Bool) → s ≡ t → b ≡ asks_circular s f pairs → b ≡ true → Fault Circular ≡ table_entry t p f pairs
 circular_entry s t p f pairs b e x h = sym (entry_circular s p f pairs (sym x ∙ h)) ∙ ap (λ (r : Sheet). table_entry r p f pairs) e
-
-pub entry_shown : (s : Sheet) (w put : List Replacement) (f : ℕ) (pairs : List (ℕ × ℕ)) (v : Value) → (circular s f ≡ false) × All (λ x. circular s x.1 ≡ false) pairs → w ≡ put → IsInOrder put →
-    v ≡ zero_for_empty (cell_value (put_all s (with_what_if s w pairs)) f) → v ≡ table_entry s put f pairs
-entry_shown s w put f pairs v o same order is =
-    is ∙ ap (λ (p : List Replacement). zero_for_empty (cell_value (put_all s (with_what_if s p pairs)) f)) same ∙ ap (λ (x : Value). zero_for_empty x) (with_what_if_value s put f pairs order)
-    ∙ sym (entry_open s put f pairs (none_circular s f pairs o))
 
 pub circular_clash : {A : Type 0} (s t : Sheet) (f : ℕ) (pairs : List (ℕ × ℕ)) (b : Bool) → s ≡ t → b ≡ asks_circular s f pairs → b ≡ true → circular t f ≡ false → All (λ x. circular t x.1 ≡ false) pairs → A
 circular_clash s t f pairs b e x h one all = clash (asks_circular t f pairs) (ap (λ (r : Sheet). asks_circular r f pairs) (sym e) ∙ sym x ∙ h) (none_circular t f pairs (one, all))

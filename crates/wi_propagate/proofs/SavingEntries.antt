@@ -10,7 +10,7 @@ use Rattle.wi_sheet.specs.Inner.Spending.{HasCase, HasReplacing, HasEntry}
 use Rattle.wi_engine.specs.Inner.MemoState.{MemoState}
 use Rattle.wi_engine.specs.Inner.Saving.{WhereRoom}
 use Rattle.wi_engine.specs.Inner.Spends.{Saved, Spends}
-use Rattle.wi_engine.proofs.Saved.{all_more}
+use Rattle.wi_sheet.proofs.StaysSettled.{all_more}
 use Rattle.wi_engine.proofs.Spent.{where_then}
 
 -- ---- one replacement cell more

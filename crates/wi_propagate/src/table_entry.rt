@@ -1,15 +1,15 @@
 //! What an entry of a data table shows.
 
-ghost use Rattle.std.specs.Prelude.{◌≡◌, ◌+◌, ◌≤◌, ◌∷◌, length, sum_by, map, All, IfOk, OnOk, is_ok};
+ghost use Rattle.std.specs.Prelude.{◌≡◌, ◌∷◌, map, All, IfOk, OnOk, is_ok};
 ghost use Rattle.wi_values.specs.Replacements.{IsInOrder};
 ghost use Rattle.wi_parser.specs.Sheet.{put_all};
 ghost use Rattle.wi_functions.specs.Meaning as formulas;
 ghost use Rattle.wi_sheet.specs.CellValue as show;
 ghost use Rattle.wi_sheet.specs.TableEntry as table;
 ghost use Rattle.wi_sheet.specs.TableEntry.{entry_demanded};
-ghost use Rattle.wi_sheet.specs.Demand.{with_what_if, wants};
+ghost use Rattle.wi_sheet.specs.Demand.{with_what_if};
 ghost use Rattle.wi_sheet.specs.Settled.{IsSettled, IsWhatIfSettled};
-ghost use Rattle.wi_sheet.specs.Inner.Spending.{HasReplacing, HasEntry, NeverFall};
+ghost use Rattle.wi_sheet.specs.Inner.Spending.{HasReplacing, HasEntry, NeverFall, plus, price};
 ghost use Rattle.wi_engine.specs.Inner.MemoState.{IsMemoOf};
 ghost use Rattle.wi_engine.specs.Inner.Frames.{MayBeRead};
 ghost use Rattle.wi_engine.specs.Inner.Saving.{WhereRoom};
@@ -40,10 +40,8 @@ pub fn table_entry(
         (λ v. v ≡ table.table_entry store.now.sheet put.now formula_cell pairs.now) }
 
     // No more than what the entry demands is valued, also where memory runs out.
-    ensures evaluations { meter.new.evaluations ≤ meter.old.evaluations
-        + length (entry_demanded store.now.sheet put.now formula_cell pairs.now) }
-    ensures restarts { let cases = entry_demanded store.now.sheet put.now formula_cell pairs.now in
-        meter.new.restarts ≤ meter.old.restarts + sum_by (wants store.now.sheet) cases }
+    ensures within { let cases = entry_demanded store.now.sheet put.now formula_cell pairs.now in
+        NeverFall meter.new (plus meter.old (price store.now.sheet cases)) }
     ensures counts { NeverFall meter.old meter.new }
 {
     let cells = valued_cells(alloc, formula_cell, pairs)?;
@@ -87,7 +85,8 @@ pub fn open_entry<M: Memo + Drop>(
 ) -> Result<Value, AllocError>
     requires memo { IsMemoOf store.now.sheet (M.state question.old.memo) }
     requires formula_cell { MayBeRead store.now.sheet (M.state question.old.memo) formula_cell }
-    requires replacing { All (λ x. MayBeRead store.now.sheet (M.state question.old.memo) x.1) pairs.now }
+    requires replacing { All (λ x.
+        MayBeRead store.now.sheet (M.state question.old.memo) x.1) pairs.now }
     ensures value { let inside = with_what_if store.now.sheet world.now pairs.now in
         IfOk result (λ v. v ≡ formulas.zero_for_empty
         (show.cell_value (put_all store.now.sheet inside) formula_cell)) }
@@ -101,7 +100,8 @@ pub fn open_entry<M: Memo + Drop>(
     ensures settled { let sheet = store.now.sheet in
         OnOk result (WhereRoom sheet (HasEntry sheet world.now formula_cell pairs.now)
         (M.state question.old.memo)
-        (λ _. IsWhatIfSettled sheet (M.state question.new.memo).kept world.now (formula_cell, pairs.now))) }
+        (λ _. IsWhatIfSettled sheet (M.state question.new.memo).kept
+        world.now (formula_cell, pairs.now))) }
 {
     let replaced = with_inputs(question, store, world, pairs)?;
     let value = question.value(store, &replaced, formula_cell)?;
@@ -117,7 +117,8 @@ fn with_inputs<M: Memo + Drop>(
     pairs: &[(Address, Address)],
 ) -> Result<World, AllocError>
     requires memo { IsMemoOf store.now.sheet (M.state question.old.memo) }
-    requires replacing { All (λ x. MayBeRead store.now.sheet (M.state question.old.memo) x.1) pairs.now }
+    requires replacing { All (λ x.
+        MayBeRead store.now.sheet (M.state question.old.memo) x.1) pairs.now }
     ensures world { IfOk result (λ w. w ≡ with_what_if store.now.sheet world.now pairs.now) }
     ensures spends { let sheet = store.now.sheet in
         Spends sheet (HasReplacing sheet world.now pairs.now)
@@ -126,7 +127,8 @@ fn with_inputs<M: Memo + Drop>(
     ensures settled { let sheet = store.now.sheet in
         OnOk result (WhereRoom sheet (HasReplacing sheet world.now pairs.now)
         (M.state question.old.memo)
-        (λ _. All (λ x. IsSettled sheet (M.state question.new.memo).kept world.now x.1) pairs.now)) }
+        (λ _. All (λ x.
+        IsSettled sheet (M.state question.new.memo).kept world.now x.1) pairs.now)) }
 {
     let mut inputs = Vec::new(question.pool.allocator());
     for pair in pairs {

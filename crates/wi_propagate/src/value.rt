@@ -1,10 +1,10 @@
 //! What a cell shows.
 
-ghost use Rattle.std.specs.Prelude.{◌≡◌, ◌+◌, ◌≤◌, length, sum_by, IfOk};
+ghost use Rattle.std.specs.Prelude.{◌≡◌, IfOk};
 ghost use Rattle.wi_values.specs.Replacements.{IsInOrder};
 ghost use Rattle.wi_sheet.specs.Shown as show;
-ghost use Rattle.wi_sheet.specs.Demand.{demanded, wants};
-ghost use Rattle.wi_sheet.specs.Inner.Spending.{NeverFall};
+ghost use Rattle.wi_sheet.specs.Demand.{demanded};
+ghost use Rattle.wi_sheet.specs.Inner.Spending.{NeverFall, plus, price};
 
 use std::alloc::{AllocError, Global};
 use wi_engine::{Pool, Question, Remembered, reached};
@@ -27,10 +27,8 @@ pub fn shown(
     ensures value { IfOk result (λ v. v ≡ show.shown store.now.sheet put.now at) }
 
     // No more than what the cell demands is valued, also where memory runs out.
-    ensures evaluations { meter.new.evaluations
-        ≤ meter.old.evaluations + length (demanded store.now.sheet put.now at) }
-    ensures restarts { meter.new.restarts
-        ≤ meter.old.restarts + sum_by (wants store.now.sheet) (demanded store.now.sheet put.now at) }
+    ensures within { let cases = demanded store.now.sheet put.now at in
+        NeverFall meter.new (plus meter.old (price store.now.sheet cases)) }
     ensures counts { NeverFall meter.old meter.new }
 {
     let Some(order) = reached(alloc, store, at)? else {

@@ -8,9 +8,10 @@ use Rattle.wi_values.specs.Replacements.{same_replacements}
 use Rattle.wi_values.proofs.Replacements.Same.{same_replacements_Decides}
 use Rattle.wi_parser.specs.Sheet.{Sheet, content_of, put_all, has_formula}
 use Rattle.wi_graph.specs.Circular.{circular}
-use Rattle.wi_sheet.specs.Demand.{Case, same_case, demand, different}
-use Rattle.wi_sheet.specs.Inner.Spending.{IsClosed}
+use Rattle.wi_sheet.specs.Demand.{Case, case_of, same_case, demand, demanded, different}
+use Rattle.wi_sheet.specs.Inner.Spending.{HasCase, IsClosed}
 use Rattle.wi_sheet.proofs.Members.{IsIn, in_contained, contains_in}
+use Rattle.wi_sheet.proofs.SmallerWorlds.{content_below}
 use Rattle.wi_sheet.proofs.Demands.{demand_closed, demand_has_itself}
 
 case_path : (a b : ℕ) (v w : List Replacement) → a ≡ b → v ≡ w → ◌≡◌ {A = Case} (a, v) (b, w)
@@ -74,3 +75,7 @@ different_closed s k = closed_different s (demand s k) (demand_closed s k)
 
 pub different_has_itself : (s : Sheet) (k : Case) → circular s k.0 ≡ false → has_formula (content_of (put_all s k.1) k.0) ≡ true → Contains (different (demand s k)) k
 different_has_itself s k h f = contains_different (demand s k) k (demand_has_itself s k h f)
+
+-- what a cell demands under replacements has its own case
+pub demands_itself : (s : Sheet) (w put : List Replacement) (a : ℕ) → circular s a ≡ false → w ≡ put → HasCase s w a (demanded s put a)
+demands_itself s w put a o same = subst (λ (p : List Replacement). HasCase s p a (demanded s put a)) (sym same) (λ f. different_has_itself s (case_of s put a) o (ap has_formula (content_below s a put) ∙ f))

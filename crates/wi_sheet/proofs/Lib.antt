@@ -16,4 +16,15 @@ pub mod Cases
 pub mod Counting
 pub mod Asked
 pub mod TableEntries
+pub mod InOrder
+pub mod CellsAhead
+pub mod EmptyCells
+pub mod Unreplaced
+pub mod Ranks
+pub mod StaysSettled
+pub mod PlainCells
+pub mod ReadLists
+pub mod ReadOrders
+pub mod Putting
+pub mod Inputs
 mod Rows

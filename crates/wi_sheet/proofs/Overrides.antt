@@ -49,6 +49,12 @@ pub puts_as_map : (w : List Replacement) → puts_of (as_map w) ≡ w
 puts_as_map [] = refl
 puts_as_map (r ∷ rs) = ap (λ (xs : List Replacement). r ∷ xs) (puts_as_map rs)
 
+-- replacements in order, put in where there are none
+pub put_alone : (w base put : List Replacement) → IsInOrder put → base ≡ [] → as_map w ≡ overridden (as_map base) put → w ≡ put
+put_alone w base put o b e =
+    let none = ap (λ (x : List Replacement). overridden (as_map x) put) b in
+    sym (puts_as_map w) ∙ ap puts_of (e ∙ none ∙ overridden-nothing put o) ∙ puts_as_map put
+
 pub override_in_order : (w rs : List Replacement) → IsInOrder w → IsInOrder (puts_of (overridden (as_map w) rs))
 override_in_order w rs h =
     order_from_entries (puts_of (overridden (as_map w) rs)) (overridden (as_map w) rs) (as_map_puts (overridden (as_map w) rs))

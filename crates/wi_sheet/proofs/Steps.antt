@@ -2,6 +2,7 @@
 use Rattle.std.proofs.Common.{◌≡◌, ◌==◌, ℕ, zero, suc, ◌<◌, Bool, true, false, cond, List, [], ◌∷◌, Some, length, refl, ap, sym, ◌∙◌, subst, arith}
 use Rattle.std.proofs.lemmas.Bool.{false_from_ne_true}
 use Rattle.std.specs.List.{list_any}
+use Rattle.wi_values.specs.declared.value.Value.{Value}
 use Rattle.wi_values.specs.declared.value.Value.TheVariants.{Empty, Fault}
 use Rattle.wi_values.specs.declared.value.ErrorKind.TheVariants.{Circular}
 use Rattle.wi_values.specs.declared.replacement.Replacement.{Replacement}
@@ -89,6 +90,9 @@ value_circular s c h = circular_value (length (cells_with_formula s)) s c h
 pub shown_open : (s : Sheet) (p : List Replacement) (c : ℕ) → circular s c ≡ false → shown s p c ≡ cell_value (put_all s p) c
 unfolding shown
 shown_open s p c h = ap (λ (b : Bool). cond b (Fault Circular) (cell_value (put_all s p) c)) h
+
+pub shown_value : (s : Sheet) (w put : List Replacement) (a : ℕ) (v : Value) → circular s a ≡ false → w ≡ put → v ≡ cell_value (put_all s w) a → v ≡ shown s put a
+shown_value s w put a v o e is = is ∙ ap (λ (p : List Replacement). cell_value (put_all s p) a) e ∙ sym (shown_open s put a o)
 
 pub shown_circular : (s : Sheet) (p : List Replacement) (c : ℕ) → circular s c ≡ true → shown s p c ≡ Fault Circular
 unfolding shown

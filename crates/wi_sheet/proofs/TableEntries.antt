@@ -1,20 +1,24 @@
 -- What an entry of a data table demands.
-use Rattle.std.proofs.Common.{◌≡◌, inl, inr, ℕ, zero, suc, arith, All, Bool, true, false, ◌||◌, cond, List, [], ◌∷◌, ◌++◌, map, Contains, refl, ap, sym, subst, ◌∙◌}
+use Rattle.std.proofs.Common.{◌≡◌, inl, inr, ℕ, zero, suc, arith, All, Bool, true, false, ◌<◌, ◌||◌, cond, List, [], ◌∷◌, ◌++◌, get_or, length, map, Contains, refl, ap, sym, subst, ◌∙◌}
 use Rattle.std.proofs.lemmas.Bool.{or_parts}
 use Rattle.std.specs.List.{list_any, flat_map}
+use Rattle.std.proofs.lemmas.List.Folds.{list_any_none}
+use Rattle.wi_values.specs.declared.value.Value.{Value}
+use Rattle.wi_values.specs.Replacements.{IsInOrder}
 use Rattle.wi_values.specs.declared.value.Value.TheVariants.{Fault}
 use Rattle.wi_values.specs.declared.value.ErrorKind.TheVariants.{Circular}
 use Rattle.wi_values.specs.declared.replacement.Replacement.{Replacement}
 use Rattle.wi_parser.specs.Sheet.{Sheet, content_of, put_all, has_formula}
 use Rattle.wi_functions.specs.Meaning.{zero_for_empty}
 use Rattle.wi_graph.specs.Circular.{circular}
-use Rattle.wi_sheet.specs.CellValue.{what_if_value}
+use Rattle.wi_sheet.specs.CellValue.{cell_value, what_if_value}
 use Rattle.wi_sheet.specs.Demand.{Case, case_of, with_what_if, demand, different}
-use Rattle.wi_sheet.specs.Inner.Spending.{IsClosed}
-use Rattle.wi_sheet.specs.TableEntry.{asks_circular, table_entry, open_demand, table_demand}
+use Rattle.wi_sheet.specs.Inner.Spending.{HasEntry, IsClosed}
+use Rattle.wi_sheet.specs.TableEntry.{asks_circular, table_entry, open_demand, table_demand, entry_demanded}
 use Rattle.wi_sheet.proofs.Members.{IsIn, in_contained, contains_in, in_left, in_right, in_either, in_flat, of_flat}
 use Rattle.wi_sheet.proofs.SmallerWorlds.{content_below}
 use Rattle.wi_sheet.proofs.Demands.{demand_closed, demand_has_itself}
+use Rattle.wi_sheet.proofs.Overrides.{with_what_if_value}
 use Rattle.wi_sheet.proofs.Cases.{closed_different, contains_different}
 
 -- ---- the demand is closed
@@ -104,3 +108,23 @@ entry_circular s p f pairs h = ap (λ (b : Bool). cond b (Fault Circular) (zero_
 pub entry_open : (s : Sheet) (p : List Replacement) (f : ℕ) (pairs : List (ℕ × ℕ)) → (circular s f || list_any (λ x. circular s x.1) pairs) ≡ false → table_entry s p f pairs ≡ zero_for_empty (what_if_value (put_all s p) f pairs)
 unfolding table_entry
 entry_open s p f pairs h = ap (λ (b : Bool). cond b (Fault Circular) (zero_for_empty (what_if_value (put_all s p) f pairs))) h
+
+-- ---- an entry of which no cell is circular whose value is asked for
+
+pub pair_in : (pairs : List (ℕ × ℕ)) (i : ℕ) (x : ℕ × ℕ) → i < length pairs → IsIn pairs (get_or pairs i x)
+pair_in [] i x less = absurd (omega arith)
+pair_in (p ∷ ps) zero x less = inl refl
+pair_in (p ∷ ps) (suc i) x less = inr (pair_in ps i x (omega arith))
+
+pub none_circular : (s : Sheet) (f : ℕ) (pairs : List (ℕ × ℕ)) → (circular s f ≡ false) × All (λ x. circular s x.1 ≡ false) pairs → asks_circular s f pairs ≡ false
+none_circular s f pairs o = ap (λ (b : Bool). b || list_any (λ x. circular s x.1) pairs) o.0 ∙ list_any_none (λ x. circular s x.1) pairs o.1
+
+pub entry_has : (s : Sheet) (w put : List Replacement) (f : ℕ) (pairs : List (ℕ × ℕ)) → (circular s f ≡ false) × All (λ x. circular s x.1 ≡ false) pairs → w ≡ put → HasEntry s w f pairs (entry_demanded s put f pairs)
+entry_has s w put f pairs o same = subst (λ (p : List Replacement). HasEntry s p f pairs (entry_demanded s put f pairs)) (sym same)
+    (λ i x less. table_has_replacing s put f pairs (get_or pairs i x) (none_circular s f pairs o) (contains_in pairs (get_or pairs i x) (pair_in pairs i x less)) (o.1 i x less), table_has_formula_cell s put f pairs (none_circular s f pairs o) o.0)
+
+pub entry_shown : (s : Sheet) (w put : List Replacement) (f : ℕ) (pairs : List (ℕ × ℕ)) (v : Value) → (circular s f ≡ false) × All (λ x. circular s x.1 ≡ false) pairs → w ≡ put → IsInOrder put →
+    v ≡ zero_for_empty (cell_value (put_all s (with_what_if s w pairs)) f) → v ≡ table_entry s put f pairs
+entry_shown s w put f pairs v o same order is =
+    is ∙ ap (λ (p : List Replacement). zero_for_empty (cell_value (put_all s (with_what_if s p pairs)) f)) same ∙ ap (λ (x : Value). zero_for_empty x) (with_what_if_value s put f pairs order)
+    ∙ sym (entry_open s put f pairs (none_circular s f pairs o))

@@ -21,10 +21,10 @@ use Rattle.wi_graph.proofs.ReachTest.{finds_in}
 use Rattle.wi_graph.proofs.ReachSteps.{reaches_here, reaches_read, reaches_step, reaches_by_step}
 use Rattle.wi_values.proofs.Order.{is_at-eq, at_same}
 use Rattle.wi_sheet.specs.Demand.{reaching}
-use Rattle.wi_engine.specs.Inner.ReadCells.{rectangles_in, occupied_within}
-use Rattle.wi_engine.specs.Inner.ReadOrder.{IsReadOrder}
+use Rattle.wi_sheet.specs.Inner.ReadCells.{rectangles_in, occupied_within}
+use Rattle.wi_sheet.specs.Inner.ReadOrder.{IsReadOrder}
 use Rattle.wi_engine.specs.Inner.Remembered.{AreCones}
-use Rattle.wi_engine.proofs.occupied.ReadLists.{occupied_read, read_occupied}
+use Rattle.wi_sheet.proofs.ReadLists.{occupied_read, read_occupied}
 use Rattle.wi_engine.proofs.Passed.{one_more}
 
 -- a formula reads what lies in one of its rectangles

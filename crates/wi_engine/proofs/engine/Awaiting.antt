@@ -1,5 +1,5 @@
 -- What a frame waits for, and what it gets.
-use Rattle.std.proofs.Common.{◌≡◌, ◌==◌, ◌+◌, ◌<◌, ◌≤◌, ℕ, zero, suc, true, List, [], ◌∷◌, ◌++◌, map, filter, length, get_or, Option, Some, None, Result, Ok, Err, IsErr, is_ok, ap, sym, ◌∙◌, arith, eq-eqb}
+use Rattle.std.proofs.Common.{◌≡◌, ◌==◌, ◌+◌, ◌<◌, ◌≤◌, ℕ, zero, suc, true, List, [], ◌∷◌, map, filter, length, get_or, Option, Some, None, Result, Ok, Err, IsErr, is_ok, ap, sym, ◌∙◌, arith, eq-eqb}
 use Rattle.std.proofs.lemmas.Bool.{or_left, or_right, true≢false}
 use Rattle.std.specs.List.{list_any}
 use Rattle.std.specs.Option.{is_none}
@@ -16,10 +16,9 @@ use Rattle.wi_functions.specs.declared.evaluation.Want.{Want}
 use Rattle.wi_functions.specs.declared.evaluation.Want.TheVariants as wanted
 use Rattle.wi_cache.specs.declared.key.Key.{Key}
 use Rattle.wi_graph.specs.Reach.{is_one_of}
-use Rattle.wi_graph.proofs.SetSteps.{in_front, in_back}
 use Rattle.wi_graph.proofs.Walks.{formula_cell}
 use Rattle.wi_sheet.specs.CellValue.{cell_value, what_if_value}
-use Rattle.wi_sheet.specs.Demand.{Case, what_ifs_of, reads_here, formulas_read_here, of_formula}
+use Rattle.wi_sheet.specs.Demand.{what_ifs_of, reads_here, formulas_read_here, of_formula}
 use Rattle.wi_sheet.proofs.Bounds.{put_formula}
 use Rattle.wi_sheet.proofs.Members.{IsIn, in_filter}
 use Rattle.wi_sheet.proofs.Asked.{is_in, asked_cell}
@@ -27,7 +26,7 @@ use Rattle.wi_sheet.proofs.Demands.{same_tree}
 use Rattle.wi_engine.specs.Inner.MemoState.{MemoState}
 use Rattle.wi_engine.specs.Inner.Findings.{pairs_of, found_value, what_if_found, AreAllRight, IsWithCell, IsWithWhatIf}
 use Rattle.wi_engine.specs.Inner.Attempt.{AsksAt, IsLacking, lacking}
-use Rattle.wi_engine.specs.Inner.Frames.{case_at, StandsAt, content_reads_here, AreReadHere, Awaits, IsUnvaluedFormula, IsFrame, lacks, waits}
+use Rattle.wi_engine.specs.Inner.Frames.{case_at, StandsAt, content_reads_here, Awaits, IsUnvaluedFormula, IsFrame, lacks, waits}
 use Rattle.wi_engine.specs.Inner.Steps.{FrameWaits}
 use Rattle.wi_engine.specs.declared.findings.Findings.{Findings}
 use Rattle.wi_engine.specs.declared.findings.FoundWhatIf.{FoundWhatIf}
@@ -37,12 +36,6 @@ use Rattle.wi_engine.specs.declared.frame.Waiting.{Waiting}
 use Rattle.wi_engine.specs.declared.frame.Waiting.TheVariants.{Nothing, Cells, WhatIf}
 use Rattle.wi_engine.proofs.attempt.Lacks.{cell_lacks_fewer, what_if_lacks_fewer}
 use Rattle.wi_engine.proofs.engine.Resting.{named, asked_in, tree_with}
-
-pub read_front : (s : Sheet) (k : Case) (xs ys : List ℕ) → AreReadHere s k (xs ++ ys) → AreReadHere s k xs
-read_front s k xs ys h = λ d i. h d (in_front xs ys d i)
-
-pub read_back : (s : Sheet) (k : Case) (xs ys : List ℕ) → AreReadHere s k (xs ++ ys) → AreReadHere s k ys
-read_back s k xs ys h = λ d i. h d (in_back xs ys d i)
 
 -- ---- a what-if's inputs
 

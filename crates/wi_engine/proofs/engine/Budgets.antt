@@ -6,14 +6,15 @@ use Rattle.wi_values.specs.Replacements.{same_replacements}
 use Rattle.wi_parser.specs.declared.content.Content.{Content}
 use Rattle.wi_parser.specs.declared.content.Content.TheVariants.{Constant, Formula}
 use Rattle.wi_parser.specs.Sheet.{Sheet, content_of, put_all}
+use Rattle.wi_functions.specs.Counts.{Counts}
 use Rattle.wi_cache.specs.declared.key.Key.{Key}
 use Rattle.wi_sheet.specs.Demand.{Case, same_case, of_formula, formulas_read_here, what_ifs_of, wants}
-use Rattle.wi_sheet.specs.Inner.Spending.{left}
-use Rattle.wi_sheet.proofs.Counting.{Finds, left_falls, left_at_keep}
-use Rattle.wi_engine.specs.Inner.Rank.{reach_rank}
+use Rattle.wi_sheet.specs.Inner.Spending.{NeverFall, Table, cost, left, plus}
+use Rattle.wi_sheet.proofs.Counting.{left_falls, left_at_keep}
+use Rattle.wi_sheet.specs.Inner.Rank.{reach_rank}
 use Rattle.wi_engine.specs.Inner.MemoState.{MemoState}
 use Rattle.wi_engine.specs.Inner.Attempt.{lacking}
-use Rattle.wi_engine.specs.Inner.Frames.{case_at, IsStack, taken, all_spare, at_most, spare, waits}
+use Rattle.wi_engine.specs.Inner.Frames.{case_at, IsStack, taken, frame_cost, frames_cost, at_most, spare, waits}
 use Rattle.wi_engine.specs.declared.frame.Frame.{Frame}
 use Rattle.wi_engine.specs.declared.frame.Waiting.TheVariants.{Nothing}
 use Rattle.wi_engine.proofs.attempt.Lacks.{lacking_at_most}
@@ -28,26 +29,26 @@ or_swap false true false = refl
 or_swap false false true = refl
 or_swap false false false = refl
 
-taken_push : (found : Finds) (fs : List Frame) (g : Frame) (c : ℕ) (w : List Replacement) → taken found (fs ++ g ∷ []) c w ≡ (taken found fs c w || same_case (case_at g.key) (c, w))
+taken_push : (found : Table) (fs : List Frame) (g : Frame) (c : ℕ) (w : List Replacement) → taken found (fs ++ g ∷ []) c w ≡ (taken found fs c w || same_case (case_at g.key) (c, w))
 taken_push found [] g c w = refl
 taken_push found (f ∷ fs) g c w =
     ap (λ (b : Bool). b || same_case (case_at f.key) (c, w)) (taken_push found fs g c w) ∙ or_swap (taken found fs c w) (same_case (case_at g.key) (c, w)) (same_case (case_at f.key) (c, w))
 
-taken_keep : (found after : Finds) (k : Case) (fs : List Frame) → ((c : ℕ) (w : List Replacement) → after c w ≡ (found c w || same_case k (c, w))) → (c : ℕ) (w : List Replacement) →
+taken_keep : (found after : Table) (k : Case) (fs : List Frame) → ((c : ℕ) (w : List Replacement) → after c w ≡ (found c w || same_case k (c, w))) → (c : ℕ) (w : List Replacement) →
     taken after fs c w ≡ (taken found fs c w || same_case k (c, w))
 taken_keep found after k [] e c w = e c w
 taken_keep found after k (f ∷ fs) e c w =
     ap (λ (b : Bool). b || same_case (case_at f.key) (c, w)) (taken_keep found after k fs e c w) ∙ or_swap (taken found fs c w) (same_case k (c, w)) (same_case (case_at f.key) (c, w))
 
-left_same : (weight : Case → ℕ) (found after : Finds) (ks : List Case) → ((c : ℕ) (w : List Replacement) → after c w ≡ found c w) → left weight after ks ≡ left weight found ks
+left_same : (weight : Case → ℕ) (found after : Table) (ks : List Case) → ((c : ℕ) (w : List Replacement) → after c w ≡ found c w) → left weight after ks ≡ left weight found ks
 left_same weight found after ks e =
     let one = left_falls weight found after ks (λ c w h. e c w ∙ h) in
     let other = left_falls weight after found ks (λ c w h. sym (e c w) ∙ h) in
     omega (arith, one, other)
 
-spare_push : (of : Frame → ℕ) (fs : List Frame) (g : Frame) → all_spare of (fs ++ g ∷ []) ≡ of g + all_spare of fs
-spare_push of [] g = refl
-spare_push of (f ∷ fs) g = let e = spare_push of fs g in omega (arith, e)
+frames_push : (s : Sheet) (fs : List Frame) (g : Frame) → ((frames_cost s (fs ++ g ∷ [])).evaluations ≡ 1 + (frames_cost s fs).evaluations) × ((frames_cost s (fs ++ g ∷ [])).restarts ≡ spare s g + (frames_cost s fs).restarts)
+frames_push s [] g = (refl, refl)
+frames_push s (f ∷ fs) g = let e = frames_push s fs g in (omega (arith, e.0), omega (arith, e.1))
 
 -- a key of lower rank is none of a stack's
 stack_apart : (s : Sheet) (m : MemoState) (root : Case) (fs : List Frame) (r : ℕ) (k : Key) → IsStack s m root fs r → reach_rank s k.cell < r → m.found k.cell k.world ≡ false → taken m.found fs k.cell k.world ≡ false
@@ -64,45 +65,53 @@ not_taken s m root f fs k st l u =
 
 -- ---- what is counted
 
-module _ (weight : Case → ℕ) (of : Frame → ℕ) (found : Finds) (ks : List Case) where
-  pub budget_start : (f : Frame) (k : Case) (n : ℕ) → case_at f.key ≡ k → of f ≤ weight k → found k.0 k.1 ≡ false → Contains ks k → at_most weight of found (f ∷ []) n ks ≤ n + left weight found ks
-  budget_start f k n e small u i =
-      let l = left_at_keep weight found (taken found (f ∷ [])) k ks (λ c w. ap (λ (j : Case). found c w || same_case j (c, w)) e) u i in
-      omega (arith, l, small)
+module _ (s : Sheet) (found : Table) (ks : List Case) where
+  -- where one case more is taken, what it costs is left no more
+  cost_at_keep : (after : Table) (k : Case) → ((c : ℕ) (w : List Replacement) → after c w ≡ (found c w || same_case k (c, w))) → found k.0 k.1 ≡ false → Contains ks k →
+      (left (λ j. 1) after ks + 1 ≤ left (λ j. 1) found ks) × (left (wants s) after ks + wants s k ≤ left (wants s) found ks)
+  cost_at_keep after k e u i = (left_at_keep (λ j. 1) found after k ks e u i, left_at_keep (wants s) found after k ks e u i)
 
-  pub budget_push : (fs : List Frame) (f h g : Frame) (k : Case) (n m b : ℕ) → at_most weight of found (f ∷ fs) n ks ≤ b → h.key ≡ f.key → case_at g.key ≡ k → m + of h ≤ n + of f → of g ≤ weight k →
-      taken found (f ∷ fs) k.0 k.1 ≡ false → Contains ks k → at_most weight of found (g ∷ (fs ++ h ∷ [])) m ks ≤ b
-  budget_push fs f h g k n m b within same e step small u i =
+  cost_same : (after : Table) → ((c : ℕ) (w : List Replacement) → after c w ≡ found c w) → (left (λ j. 1) after ks ≡ left (λ j. 1) found ks) × (left (wants s) after ks ≡ left (wants s) found ks)
+  cost_same after e = (left_same (λ j. 1) found after ks e, left_same (wants s) found after ks e)
+
+  pub budget_start : (f : Frame) (k : Case) (now : Counts) → case_at f.key ≡ k → spare s f ≤ wants s k → found k.0 k.1 ≡ false → Contains ks k → NeverFall (at_most s found (f ∷ []) now ks) (plus now (cost s found ks))
+  budget_start f k now e small u i =
+      let l = cost_at_keep (taken found (f ∷ [])) k (λ c w. ap (λ (j : Case). found c w || same_case j (c, w)) e) u i in
+      (omega (arith, l.0), omega (arith, l.1, small))
+
+module _ (s : Sheet) (found : Table) (ks : List Case) (fs : List Frame) (f : Frame) (now bound : Counts) (within : NeverFall (at_most s found (f ∷ fs) now ks) bound) where
+  pub budget_push : (h g : Frame) (k : Case) (next : Counts) → h.key ≡ f.key → case_at g.key ≡ k → next.evaluations ≡ now.evaluations → next.restarts + spare s h ≤ now.restarts + spare s f → spare s g ≤ wants s k → taken found (f ∷ fs) k.0 k.1 ≡ false → Contains ks k →
+      NeverFall (at_most s found (g ∷ (fs ++ h ∷ [])) next ks) bound
+  budget_push h g k next same e ev re small u i =
       let after : (c : ℕ) (w : List Replacement) → taken found (g ∷ (fs ++ h ∷ [])) c w ≡ (taken found (f ∷ fs) c w || same_case k (c, w)) =
       λ c w. ap (λ (x : Bool). x || same_case (case_at g.key) (c, w)) (taken_push found fs h c w ∙ ap (λ (x : Key). taken found fs c w || same_case (case_at x) (c, w)) same)
       ∙ ap (λ (j : Case). taken found (f ∷ fs) c w || same_case j (c, w)) e in
-      let l = left_at_keep weight (taken found (f ∷ fs)) (taken found (g ∷ (fs ++ h ∷ []))) k ks after u i in
-      let p = spare_push of fs h in
-      omega (arith, within, step, small, l, p)
+      let l = cost_at_keep s (taken found (f ∷ fs)) ks (taken found (g ∷ (fs ++ h ∷ []))) k after u i in
+      let p = frames_push s fs h in
+      (omega (arith, within.0, ev, l.0, p.0), omega (arith, within.1, re, small, l.1, p.1))
 
-  pub budget_pop : (after : Finds) (fs : List Frame) (f g : Frame) (n m b : ℕ) → ((c : ℕ) (w : List Replacement) → after c w ≡ (found c w || same_case (case_at f.key) (c, w))) →
-      at_most weight of found (f ∷ (fs ++ g ∷ [])) n ks ≤ b → m ≤ n + of f → at_most weight of after (g ∷ fs) m ks ≤ b
-  budget_pop after fs f g n m b e within step =
+  pub budget_same : (g : Frame) → g.key ≡ f.key → spare s g ≤ spare s f → NeverFall (at_most s found (g ∷ fs) now ks) bound
+  budget_same g e less =
+      let l = cost_same s (taken found (f ∷ fs)) ks (taken found (g ∷ fs)) (λ c w. ap (λ (x : Key). taken found fs c w || same_case (case_at x) (c, w)) e) in
+      (omega (arith, within.0, l.0), omega (arith, within.1, less, l.1))
+
+  pub budget_kept : (next : Counts) → NeverFall next (plus now (frame_cost s f true)) → NeverFall next bound
+  budget_kept next step = (omega (arith, within.0, step.0), omega (arith, within.1, step.1))
+
+module _ (s : Sheet) (found after : Table) (ks : List Case) (f : Frame) (now next bound : Counts) (e : (c : ℕ) (w : List Replacement) → after c w ≡ (found c w || same_case (case_at f.key) (c, w))) (step : NeverFall next (plus now (frame_cost s f true))) where
+  pub budget_pop : (fs : List Frame) (g : Frame) → NeverFall (at_most s found (f ∷ (fs ++ g ∷ [])) now ks) bound → NeverFall (at_most s after (g ∷ fs) next ks) bound
+  budget_pop fs g within =
       let same : (c : ℕ) (w : List Replacement) → taken after (g ∷ fs) c w ≡ taken found (f ∷ (fs ++ g ∷ [])) c w =
       λ c w. ap (λ (x : Bool). x || same_case (case_at g.key) (c, w)) (taken_keep found after (case_at f.key) fs e c w)
       ∙ or_swap (taken found fs c w) (same_case (case_at f.key) (c, w)) (same_case (case_at g.key) (c, w)) ∙ ap (λ (x : Bool). x || same_case (case_at f.key) (c, w)) (sym (taken_push found fs g c w)) in
-      let l = left_same weight (taken found (f ∷ (fs ++ g ∷ []))) (taken after (g ∷ fs)) ks same in
-      let p = spare_push of fs g in
-      omega (arith, within, step, l, p)
+      let l = cost_same s (taken found (f ∷ (fs ++ g ∷ []))) ks (taken after (g ∷ fs)) same in
+      let p = frames_push s fs g in
+      (omega (arith, within.0, step.0, l.0, p.0), omega (arith, within.1, step.1, l.1, p.1))
 
-  pub budget_same : (fs : List Frame) (f g : Frame) (n b : ℕ) → at_most weight of found (f ∷ fs) n ks ≤ b → g.key ≡ f.key → of g ≤ of f → at_most weight of found (g ∷ fs) n ks ≤ b
-  budget_same fs f g n b within e less =
-      let l = left_same weight (taken found (f ∷ fs)) (taken found (g ∷ fs)) ks (λ c w. ap (λ (x : Key). taken found fs c w || same_case (case_at x) (c, w)) e) in
-      omega (arith, within, less, l)
-
-  pub budget_end : (after : Finds) (f : Frame) (n m b : ℕ) → ((c : ℕ) (w : List Replacement) → after c w ≡ (found c w || same_case (case_at f.key) (c, w))) → at_most weight of found (f ∷ []) n ks ≤ b → m ≤ n + of f →
-      m + left weight after ks ≤ b
-  budget_end after f n m b e within step =
-      let l = left_same weight (taken found (f ∷ [])) after ks e in
-      omega (arith, within, step, l)
-
-  pub budget_kept : (fs : List Frame) (f : Frame) (n m b : ℕ) → at_most weight of found (f ∷ fs) n ks ≤ b → m ≤ n + of f → m ≤ b
-  budget_kept fs f n m b within step = omega (arith, within, step)
+  pub budget_end : NeverFall (at_most s found (f ∷ []) now ks) bound → NeverFall (plus next (cost s after ks)) bound
+  budget_end within =
+      let l = cost_same s (taken found (f ∷ [])) ks after e in
+      (omega (arith, within.0, step.0, l.0), omega (arith, within.1, step.1, l.1))
 
 -- a frame with no values yet lacks at most what its formula may ask for
 pub spare_new : (s : Sheet) (k : Key) (f : Frame) → f.key ≡ k → f.waiting ≡ Nothing → spare s f ≤ wants s (case_at k)

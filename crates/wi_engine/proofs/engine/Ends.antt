@@ -1,117 +1,150 @@
--- What a run of frames has spent where it ends.
-use Rattle.std.proofs.Common.{◌≡◌, ◌≤◌, ◌+◌, inl, true, false, List, [], Contains, Result, is_ok, IsErr, refl, ap, sym, ◌∙◌, subst, arith}
-use Rattle.std.proofs.lemmas.Bool.{true≢false}
+-- A question in progress: what is so all the way, and what it has spent where it ends.
+use Rattle.std.proofs.Common.{◌≡◌, ◌<◌, ◌≤◌, ◌+◌, ◌-◌, ◌^◌, ◌⊎◌, inl, inr, ℕ, true, false, List, [], ◌∷◌, ◌++◌, Contains, Result, is_ok, IsErr, refl, sym, ◌∙◌, subst, arith}
+use Rattle.std.proofs.lemmas.Bool.{cases_lt, true≢false}
 use Rattle.wi_values.specs.declared.value.Value.{Value}
-use Rattle.wi_parser.specs.Sheet.{Sheet, put_all}
+use Rattle.wi_parser.specs.Sheet.{Sheet}
 use Rattle.wi_functions.specs.Counts.{Counts, one_more}
 use Rattle.wi_cache.specs.declared.key.Key.{Key}
-use Rattle.wi_sheet.specs.CellValue.{cell_value}
 use Rattle.wi_sheet.specs.Demand.{Case}
-use Rattle.wi_sheet.specs.Settled.{RestsOnKept}
 use Rattle.wi_sheet.specs.Inner.Spending.{NeverFall}
-use Rattle.wi_sheet.proofs.Counting.{never_fall-then}
+use Rattle.wi_sheet.proofs.Counting.{never_fall-same, never_fall-then}
 use Rattle.wi_engine.specs.Inner.MemoState.{MemoState, IsMemoOf}
-use Rattle.wi_engine.specs.Inner.Frames.{case_at, spare}
-use Rattle.wi_engine.specs.Inner.Saving.{KeepsFound, TakesPlaces, TakesNoMore, GivesUpWhenFull}
-use Rattle.wi_engine.specs.Inner.SettledFrames.{IsFrameSettled}
-use Rattle.wi_engine.specs.Inner.Keeps.{Keeps}
+use Rattle.wi_engine.specs.Inner.Frames.{case_at, IsToFind}
+use Rattle.wi_engine.specs.Inner.Saving.{WhereRoom, TakesPlaces, TakesNoMore, GivesUpWhenFull}
+use Rattle.wi_engine.specs.Inner.Keeps.{Keeps, HasKept}
 use Rattle.wi_engine.specs.Inner.Spends.{IsSameBeside, Spends}
+use Rattle.wi_engine.specs.Inner.Steps.{FrameCounts, FrameTakes, IsFrameValue}
 use Rattle.wi_engine.specs.declared.frame.Frame.{Frame}
 use Rattle.wi_engine.proofs.Saved.{takes_then, gives_up_none, gives_up_then}
-use Rattle.wi_engine.proofs.Spent.{spent_at_most, spent_all, saves_saved, spends_err}
-use Rattle.wi_engine.proofs.engine.Settling.{one_more_at_most}
-use Rattle.wi_engine.proofs.engine.Running.{Finds, run_keeps, run_evaluations, run_restarts, end_evaluations, end_restarts}
-use Rattle.wi_engine.proofs.engine.Saving.{IsGoing, Takes, by_kept, takes_more, saving_end}
+use Rattle.wi_engine.proofs.Spent.{spends_err}
+use Rattle.wi_engine.proofs.engine.Running.{IsRunning, IsNew, GoesDeeper, ComesBack, run_start, run_keeps, run_deeper, run_back, run_take, run_stops, run_ends}
+use Rattle.wi_engine.proofs.engine.Saving.{IsSaving, by_kept, saving_start, saving_deeper, saving_back, saving_take, saving_kept, saving_saved, saving_ends}
 
--- a step of the frame on top, and what it leaves
-pub record IsStep (s : Sheet) (m n : MemoState) (f : Frame) (now next : Counts) : Type 0 where
+-- what is so all the way
+pub record IsGoing (s : Sheet) (old m : MemoState) (root : Case) (start now : Counts) (fs : List Frame) (f : Frame) : Type 0 where
+  pub running : IsRunning s old m root start now fs f
+  pub same : IsSameBeside old m
+  pub counts : NeverFall start now
+  pub places : TakesNoMore old m start.evaluations now.evaluations
+  pub gives_up : GivesUpWhenFull old m
+  pub saving : WhereRoom s (λ ks. Contains ks root) old (λ ks. IsSaving s old m root start now fs f ks)
+
+same_itself : (m : MemoState) → IsSameBeside m m
+same_itself m = record { covers = refl; generation = refl; capacity = refl; latest = refl }
+
+same_then : {old mid new : MemoState} → IsSameBeside old mid → IsSameBeside mid new → IsSameBeside old new
+same_then h k = record { covers = k.covers ∙ h.covers; generation = k.generation ∙ h.generation; capacity = k.capacity ∙ h.capacity; latest = k.latest ∙ h.latest }
+
+takes_one : (m n : MemoState) (now next : ℕ) → TakesPlaces m n 0 1 → next ≡ one_more now → TakesNoMore m n now next
+takes_one m n now next l e = at (cases_lt now (2 ^ 64 - 1))
+  where
+    at : (now < 2 ^ 64 - 1) ⊎ (2 ^ 64 - 1 ≤ now) → TakesNoMore m n now next
+    at (inl f) = inl (λ ks d. let b = l ks d in omega (arith, b, f, e))
+    at (inr f) = inr (omega (arith, f, e))
+
+-- ---- a turn, and what it leaves
+
+pub record IsTurn (s : Sheet) (m n : MemoState) (f : Frame) (now next : Counts) : Type 0 where
   pub right : IsMemoOf s n
   pub same : IsSameBeside m n
-  pub counts : NeverFall now next
-  pub evaluations : next.evaluations ≤ now.evaluations + 1
-  pub restarts : next.restarts ≤ now.restarts + spare s f
+  pub counts : FrameCounts s f now next true
   pub places : TakesNoMore m n now.evaluations next.evaluations
   pub gives_up : GivesUpWhenFull m n
 
 -- one that keeps nothing
-pub step_same : {s : Sheet} {m n : MemoState} {f : Frame} {now next : Counts} → IsMemoOf s m → n ≡ m → NeverFall now next → next.evaluations ≤ now.evaluations + 1 → next.restarts ≤ now.restarts + spare s f → IsStep s m n f now next
-step_same {s} {m} {n} {f} {now} {next} h e up ev re =
-    let more = up.0 in
-    let alone : IsStep s m m f now next = record {
-      right = h;
-      same = record { covers = refl; generation = refl; capacity = refl; latest = refl };
-      counts = up;
-      evaluations = ev;
-      restarts = re;
-      places = inl (λ ks d. omega (arith, more));
-      gives_up = gives_up_none m m refl;
-    } in
-    subst (λ (x : MemoState). IsStep s m x f now next) (sym e) alone
+pub turn_same : {s : Sheet} {m n : MemoState} {f : Frame} {now next : Counts} → IsMemoOf s m → n ≡ m → FrameCounts s f now next true → IsTurn s m n f now next
+turn_same {s} {m} {n} {f} {now} {next} h e counts =
+    let more = counts.rises.0 in
+    let alone : IsTurn s m m f now next = record { right = h; same = same_itself m; counts = counts; places = inl (λ ks d. omega (arith, more)); gives_up = gives_up_none m m refl } in
+    rw e alone
 
 -- one that keeps the frame's value
-pub step_kept : {s : Sheet} {m a n : MemoState} {f : Frame} {k : Key} {v : Value} {now next : Counts} → IsMemoOf s m → a ≡ m → k ≡ f.key → v ≡ cell_value (put_all s f.key.world) f.key.cell → Keeps a n k v →
-    NeverFall now next → next.evaluations ≡ one_more now.evaluations → next.restarts ≤ now.restarts + spare s f → IsStep s m n f now next
-step_kept {s} {m} {a} {n} {f} {k} {v} {now} {next} h e ek is keeps up ev re =
-    let there = subst (λ (x : MemoState). IsMemoOf s x) (sym e) h in
+pub turn_kept : {s : Sheet} {m a n : MemoState} {f : Frame} {k : Key} {v : Value} {now next : Counts} → IsMemoOf s m → a ≡ m → k ≡ f.key → IsFrameValue s m f v → Keeps a n k v → FrameCounts s f now next true → next.evaluations ≡ one_more now.evaluations → IsTurn s m n f now next
+turn_kept {s} {m} {a} {n} {f} {k} {v} {now} {next} h e ek is there counts ev =
+    let keeps : Keeps m n f.key v = rw (e, ek) at there in
     record {
-      right = run_keeps s a n k f.key v there keeps ek is;
-      same = record {
-        covers = keeps.same.covers ∙ ap (λ (x : MemoState). x.covers) e;
-        generation = keeps.same.generation ∙ ap (λ (x : MemoState). x.generation) e;
-        capacity = keeps.same.capacity ∙ ap (λ (x : MemoState). x.capacity) e;
-        latest = keeps.same.latest ∙ ap (λ (x : MemoState). x.latest) e;
-      };
-      counts = up;
-      evaluations = one_more_at_most now.evaluations next.evaluations ev;
-      restarts = re;
-      places = takes_more m m n now.evaluations now.evaluations next.evaluations (inl (λ ks d. omega arith)) (subst (λ (x : MemoState). TakesPlaces x n 0 1) e keeps.places) ev;
-      gives_up = subst (λ (x : MemoState). GivesUpWhenFull x n) e keeps.gives_up;
+      right = run_keeps s m n f.key v h keeps is.value;
+      same = keeps.same;
+      counts = counts;
+      places = takes_one m n now.evaluations next.evaluations keeps.places ev;
+      gives_up = keeps.gives_up;
     }
 
-module _ {s : Sheet} {old m n : MemoState} {root : Case} {start now next : Counts} {fs : List Frame} {f : Frame} (i : IsGoing s old m root start now fs f) (t : IsStep s m n f now next) where
-  same_all : IsSameBeside old n
-  same_all = record {
-    covers = t.same.covers ∙ i.running.covers;
-    generation = t.same.generation ∙ i.running.generation;
-    capacity = t.same.capacity ∙ i.capacity;
-    latest = t.same.latest ∙ i.latest;
+-- and by which the frame comes to its end
+pub comes_back : {s : Sheet} {m a n : MemoState} {f : Frame} {k : Key} {v : Value} {now next : Counts} → a ≡ m → k ≡ f.key → Keeps a n k v → HasKept a n k → IsFrameValue s m f v → FrameCounts s f now next true → next.evaluations ≡ one_more now.evaluations → ComesBack s m n now next f v
+comes_back e ek keeps kept value counts evaluations = record { keeps = rw (e, ek) at keeps; kept = rw (e, ek) at kept; value = value; counts = counts; evaluations = evaluations }
+
+-- ---- all the way
+
+pub going_start : {s : Sheet} {m : MemoState} {k : Key} {f : Frame} (now : Counts) → IsMemoOf s m → IsToFind s m k → IsNew s f k → IsGoing s m m (case_at k) now now [] f
+going_start {s} {m} {k} {f} now h key new = record {
+  running = run_start s m k f now h key.key key.unfound new;
+  same = same_itself m;
+  counts = never_fall-same now;
+  places = inl (λ ks d. omega arith);
+  gives_up = gives_up_none m m refl;
+  saving = λ ks closed top whole room. saving_start s m k f now ks h key new whole room;
+}
+
+pub going_deeper : {s : Sheet} {old m : MemoState} {root : Case} {start now next : Counts} {fs : List Frame} {f h g : Frame} {k : Key} → IsGoing s old m root start now fs f → GoesDeeper s m now next f h g k → IsGoing s old m root start next (fs ++ h ∷ []) g
+going_deeper {s} {old} {m} {root} {start} {now} {next} i t = record {
+  running = run_deeper i.running t;
+  same = i.same;
+  counts = never_fall-then start now next i.counts t.rises;
+  places = rw t.evaluations i.places;
+  gives_up = i.gives_up;
+  saving = λ ks closed top whole room. saving_deeper t (i.saving ks closed top whole room);
+}
+
+-- back to the frame below, which takes in the value
+pub going_back : {s : Sheet} {old m n : MemoState} {root : Case} {start now next : Counts} {fs : List Frame} {f b g : Frame} {v : Value} → IsGoing s old m root start now (fs ++ b ∷ []) f → ComesBack s m n now next f v → FrameTakes s f.key b g true → IsGoing s old n root start next fs g
+going_back {s} {old} {m} {n} {root} {start} {now} {next} {fs} {f} {b} {g} {v} i t takes =
+    let running = run_back t.kept.found t.counts i.running t.keeps t.value.value in
+    record {
+      running = run_take running takes.key (takes.frame refl n running.begun.frame) (takes.fewer refl);
+      same = same_then i.same t.keeps.same;
+      counts = never_fall-then start now next i.counts t.counts.rises;
+      places = takes_then old m n start.evaluations now.evaluations next.evaluations i.places (takes_one m n now.evaluations next.evaluations t.keeps.places t.evaluations) t.counts.rises.0;
+      gives_up = gives_up_then old m n i.gives_up t.keeps.gives_up;
+      saving = λ ks closed top whole room.
+          let saving = i.saving ks closed top whole room in
+          saving_take takes (saving_kept t closed top saving) (saving_back t closed top saving);
+    }
+
+-- ---- the end
+
+-- where memory runs out
+pub going_stops : {X E : Type 0} {s : Sheet} {old m n : MemoState} {root : Case} {start now next : Counts} {fs : List Frame} {f : Frame} → IsGoing s old m root start now fs f → IsTurn s m n f now next → (r : Result X E) → IsErr r → Spends s (λ ks. Contains ks root) old n start next (is_ok r)
+going_stops {X} {E} {s} {old} {m} {n} {root} {start} {now} {next} {fs} {f} i t r e =
+    let stops : Spends s (λ ks. Contains ks root) old n start next false = record {
+      right = t.right;
+      same = same_then i.same t.same;
+      counts = never_fall-then start now next i.counts t.counts.rises;
+      places = takes_then old m n start.evaluations now.evaluations next.evaluations i.places t.places t.counts.rises.0;
+      gives_up = gives_up_then old m n i.gives_up t.gives_up;
+      on_found = run_stops i.running n t.counts;
+      on_kept = λ ks closed top whole room. run_stops (i.saving ks closed top whole room).running (by_kept n) t.counts ks closed top;
+      saved = λ d. absurd (true≢false (sym d));
+    } in
+    spends_err r e stops
+
+-- where the root's value is kept
+module _ {s : Sheet} {old m n : MemoState} {root : Case} {start now next : Counts} {f : Frame} {v : Value} (i : IsGoing s old m root start now [] f) (t : ComesBack s m n now next f v) where
+  pub going_ends : Spends s (λ ks. Contains ks root) old n start next true
+  going_ends = record {
+    right = run_keeps s m n f.key v i.running.memo t.keeps t.value.value;
+    same = same_then i.same t.keeps.same;
+    counts = never_fall-then start now next i.counts t.counts.rises;
+    places = takes_then old m n start.evaluations now.evaluations next.evaluations i.places (takes_one m n now.evaluations next.evaluations t.keeps.places t.evaluations) t.counts.rises.0;
+    gives_up = gives_up_then old m n i.gives_up t.keeps.gives_up;
+    on_found = run_ends n t.kept.found t.counts i.running;
+    on_kept = λ ks closed top whole room. saving_ends t closed top (i.saving ks closed top whole room);
+    saved = λ d ks closed top whole room. saving_saved t closed top (i.saving ks closed top whole room);
   }
 
-  stops : Spends s (λ ks. Contains ks root) old n start next false
-  stops = record {
-    right = t.right;
-    same = same_all;
-    counts = never_fall-then start now next i.running.counts t.counts;
-    places = takes_then old m n start.evaluations now.evaluations next.evaluations i.places t.places t.counts.0;
-    gives_up = gives_up_then old m n i.gives_up t.gives_up;
-    on_found = λ ks closed top.
-        spent_at_most s old.found n.found start next ks (run_evaluations s old m root start now next fs f i.running t.evaluations ks closed top) (run_restarts s old m root start now next fs f i.running t.restarts ks closed top);
-    on_kept = λ ks closed top whole room.
-        let running = (i.saving ks closed top whole room).running in
-        spent_at_most s old.kept n.kept start next ks (run_evaluations s (by_kept old) (by_kept m) root start now next fs f running t.evaluations ks closed top) (run_restarts s (by_kept old) (by_kept m) root start now next fs f running t.restarts ks closed top);
-    saved = λ d. absurd (true≢false (sym d));
-  }
+  -- it is kept where there is room for all, and where any value is
+  pub root_kept : WhereRoom s (λ ks. Contains ks root) old (λ ks. n.kept root.0 root.1 ≡ true)
+  root_kept = λ ks closed top whole room. subst (λ (j : Case). n.kept j.0 j.1 ≡ true) i.running.bottom (saving_kept t closed top (i.saving ks closed top whole room))
 
-  -- where memory runs out
-  pub going_stops : {X E : Type 0} (r : Result X E) → IsErr r → Spends s (λ ks. Contains ks root) old n start next (is_ok r)
-  going_stops r e = spends_err r e stops
-
-  -- where the root's value is kept
-  pub going_ends : {a : MemoState} {k : Key} → a ≡ m → fs ≡ [] → k ≡ f.key → Finds a n k → Takes a n k → next.evaluations ≡ one_more now.evaluations →
-      (KeepsFound m → IsFrameSettled s m.kept f → RestsOnKept s m.kept (case_at f.key)) → Spends s (λ ks. Contains ks root) old n start next true
-  going_ends {a} {k} e empty ek finds takes ev rests =
-      let evaluations = end_evaluations s old m a n root start now next fs f k i.running e empty ek finds ev in
-      let restarts = end_restarts s old m a n root start now next fs f k i.running e empty ek finds t.restarts in
-      let saves = saving_end s old m a n root start now next fs f k i e empty ek finds takes ev t.restarts rests in
-      record {
-        right = t.right;
-        same = same_all;
-        counts = never_fall-then start now next i.running.counts t.counts;
-        places = takes_then old m n start.evaluations now.evaluations next.evaluations i.places t.places t.counts.0;
-        gives_up = gives_up_then old m n i.gives_up t.gives_up;
-        on_found = λ ks closed top. spent_all s old.found n.found start next true ks (evaluations ks closed top) (restarts ks closed top);
-        on_kept = λ ks closed top whole room.
-            let one = saves ks closed top whole room in
-            spent_all s old.kept n.kept start next true ks one.counted one.restarted;
-        saved = λ d ks closed top whole room. saves_saved s old n start next ks (saves ks closed top whole room);
-      }
+  pub root_there : 1 ≤ old.capacity → n.kept root.0 root.1 ≡ true
+  root_there some = subst (λ (j : Case). n.kept j.0 j.1 ≡ true) i.running.bottom (t.kept.there (rw i.same.capacity some))

@@ -1,8 +1,7 @@
 -- What is found for a formula is settled, and so its value rests on kept ones.
-use Rattle.std.proofs.Common.{◌≡◌, ◌==◌, ◌&&◌, ◌⊎◌, inl, inr, ℕ, Bool, true, false, cond, List, [], Option, Some, None, IfSome, All, Contains, map, is_some, refl, ap, sym, ◌∙◌, subst}
-use Rattle.std.proofs.lemmas.Bool.{and_parts, or_cases}
+use Rattle.std.proofs.Common.{◌≡◌, ◌⊎◌, inl, inr, ℕ, Bool, true, false, cond, List, [], Option, Some, None, IfSome, All, Contains, map, is_some, refl, ap, sym, ◌∙◌, subst}
+use Rattle.std.proofs.lemmas.Bool.{or_cases}
 use Rattle.std.proofs.lemmas.List.Elements.{All-map}
-use Rattle.std.specs.Option.{option_or}
 use Rattle.wi_values.specs.declared.value.Value.{Value}
 use Rattle.wi_values.specs.declared.replacement.Replacement.{Replacement}
 use Rattle.wi_parser.specs.Tree.{Tree}
@@ -17,14 +16,13 @@ use Rattle.wi_functions.specs.Meaning.{meaning}
 use Rattle.wi_lookup.specs.Assignment.{addresses}
 use Rattle.wi_functions.specs.declared.evaluation.Want.TheVariants as wanted
 use Rattle.wi_cache.specs.declared.key.Key.{Key}
-use Rattle.wi_graph.proofs.Walks.{same_cell}
 use Rattle.wi_sheet.specs.CellValue.{cell_value, what_if_value}
 use Rattle.wi_sheet.specs.Demand.{reaching, with_what_if, what_ifs_of}
 use Rattle.wi_sheet.specs.Settled.{IsSettled, IsWhatIfSettled, AgreesWhereSettled, RestsOnKept}
 use Rattle.wi_sheet.proofs.Members.{contains_in}
 use Rattle.wi_sheet.proofs.Demands.{same_tree}
 use Rattle.wi_sheet.proofs.Meanings.{meaning_same}
-use Rattle.wi_engine.specs.Inner.Findings.{same_pairs, pairs_of, first_for, found_value, what_if_found, AreAllRight, IsWithCell, IsWithWhatIf}
+use Rattle.wi_engine.specs.Inner.Findings.{pairs_of, found_value, what_if_found, AreAllRight, IsWithCell, IsWithWhatIf}
 use Rattle.wi_engine.specs.Inner.Attempt.{AsksAt, known_in, cell_known}
 use Rattle.wi_engine.specs.Inner.SettledFrames.{AreFoundSettled, IsFrameSettled, HasOneMeaning}
 use Rattle.wi_engine.specs.Inner.MemoState.{MemoState, IsMemoOf}
@@ -33,10 +31,10 @@ use Rattle.wi_engine.specs.Inner.Frames.{case_at}
 use Rattle.wi_engine.specs.declared.frame.Frame.{Frame}
 use Rattle.wi_engine.specs.declared.findings.Findings.{Findings}
 use Rattle.wi_engine.specs.declared.findings.FoundWhatIf.{FoundWhatIf}
-use Rattle.wi_engine.proofs.Saved.{settled_more, what_if_more}
+use Rattle.wi_sheet.proofs.StaysSettled.{settled_more, what_if_more}
 use Rattle.wi_engine.proofs.engine.Resting.{asked_in}
 use Rattle.wi_engine.proofs.attempt.Attempting.{known_agrees, values_in}
-use Rattle.wi_engine.proofs.findings.FoundPairs.{same_lists, first_for-push}
+use Rattle.wi_engine.proofs.findings.FoundValues.{cells_none, cells_same, cells_more, what_ifs_none, what_ifs_same, what_ifs_more}
 
 -- ---- a value that was found by what is settled rests on it
 
@@ -104,40 +102,20 @@ module _ (s : Sheet) (kept more : ℕ → List Replacement → Bool) (grows : (c
 -- ---- with one value more
 
 module _ (s : Sheet) (kept : ℕ → List Replacement → Bool) (w : List Replacement) (t : Tree) where
+  abbrev IsCell : ℕ → Value → Type 0
+  IsCell c v = IsSettled s kept w c
+
+  abbrev IsWhatIf : ℕ → List (ℕ × ℕ) → Value → Type 0
+  IsWhatIf c ps v = Contains (what_ifs_of t) (c, ps) × IsWhatIfSettled s kept w (c, ps)
+
   pub settled_none : (f : Findings) → ((c : ℕ) → found_value f c ≡ None) → f.what_ifs.items ≡ [] → AreFoundSettled s kept w t f
-  settled_none f e h = record {
-    cells = λ c. subst (λ (o : Option Value). IfSome o (λ v. IsSettled s kept w c)) (sym (e c)) tt;
-    what_ifs = λ c ps. subst (λ (o : Option Value). IfSome o (λ v. Contains (what_ifs_of t) (c, ps) × IsWhatIfSettled s kept w (c, ps))) (sym (ap (λ (fs : List FoundWhatIf). first_for fs c ps) h)) tt;
-  }
+  settled_none f e h = record { cells = cells_none IsCell f e; what_ifs = what_ifs_none IsWhatIf f h }
 
   pub settled_cell : (f g : Findings) (a : ℕ) (v : Value) → IsWithCell f g a v → IsSettled s kept w a → AreFoundSettled s kept w t f → AreFoundSettled s kept w t g
-  settled_cell f g a v more e r = record {
-    cells = λ c. subst (λ (o : Option Value). IfSome o (λ x. IsSettled s kept w c)) (sym (more.cells c)) (at c (a == c) refl);
-    what_ifs = λ c ps. subst (λ (o : Option Value). IfSome o (λ x. Contains (what_ifs_of t) (c, ps) × IsWhatIfSettled s kept w (c, ps))) (sym (ap (λ (fs : List FoundWhatIf). first_for fs c ps) more.what_ifs)) (r.what_ifs c ps);
-  }
-    where
-      at : (c : ℕ) (b : Bool) → (a == c) ≡ b → IfSome (cond b (Some v) (found_value f c)) (λ x. IsSettled s kept w c)
-      at c true h = subst (λ (d : ℕ). IsSettled s kept w d) (same_cell c a h) e
-      at c false h = r.cells c
+  settled_cell f g a v more e r = record { cells = cells_more IsCell f g a v more e r.cells; what_ifs = what_ifs_same IsWhatIf f g more.what_ifs r.what_ifs }
 
   pub settled_what_if : (f g : Findings) (x : FoundWhatIf) → IsWithWhatIf f g x → Contains (what_ifs_of t) (x.at, pairs_of x) → IsWhatIfSettled s kept w (x.at, pairs_of x) → AreFoundSettled s kept w t f → AreFoundSettled s kept w t g
-  settled_what_if f g x more i e r = record {
-    cells = λ c. subst (λ (o : Option Value). IfSome o (λ v. IsSettled s kept w c)) (sym (more.cells c)) (r.cells c);
-    what_ifs = λ c ps.
-        subst (λ (o : Option Value). IfSome o (λ v. Contains (what_ifs_of t) (c, ps) × IsWhatIfSettled s kept w (c, ps))) (sym (ap (λ (fs : List FoundWhatIf). first_for fs c ps) more.what_ifs ∙ first_for-push f.what_ifs.items x c ps))
-        (at c ps (first_for f.what_ifs.items c ps) (x.at == c && same_pairs (pairs_of x) ps) (r.what_ifs c ps) refl);
-  }
-    where
-      Both : ℕ × List (ℕ × ℕ) → Type 0
-      Both y = Contains (what_ifs_of t) y × IsWhatIfSettled s kept w y
-
-      at : (c : ℕ) (ps : List (ℕ × ℕ)) (o : Option Value) (b : Bool) → IfSome o (λ v. Contains (what_ifs_of t) (c, ps) × IsWhatIfSettled s kept w (c, ps)) → (x.at == c && same_pairs (pairs_of x) ps) ≡ b → IfSome (option_or o (cond b (Some x.value) None)) (λ v. Contains (what_ifs_of t) (c, ps) × IsWhatIfSettled s kept w (c, ps))
-      at c ps (Some y) b k h = k
-      at c ps None true k h =
-          let parts = and_parts (x.at == c) _ h in
-          let key : (x.at, pairs_of x) ≡ (c, ps) = ap (λ (n : ℕ). (n, pairs_of x)) (same_cell c x.at parts.0) ∙ ap (λ (qs : List (ℕ × ℕ)). (c, qs)) (same_lists (pairs_of x) ps parts.1) in
-          subst Both key (i, e)
-      at c ps None false k h = tt
+  settled_what_if f g x more i e r = record { cells = cells_same IsCell f g more.cells r.cells; what_ifs = what_ifs_more IsWhatIf f g x more.what_ifs (i, e) r.what_ifs }
 
 -- ---- in a frame
 

@@ -11,7 +11,7 @@ use Rattle.wi_engine.specs.Inner.MemoState.{MemoState}
 use Rattle.wi_engine.specs.Inner.SettledFrames.{IsFrameSettled}
 use Rattle.wi_engine.specs.declared.frame.Frame.{Frame}
 use Rattle.wi_engine.proofs.engine.Running.{IsNew}
-use Rattle.wi_engine.proofs.Saved.{rests_more}
+use Rattle.wi_sheet.proofs.StaysSettled.{rests_more}
 use Rattle.wi_engine.proofs.engine.FoundSettled.{settled_none, found_more}
 
 abbrev pub AreFramesSettled : Sheet → (ℕ → List Replacement → Bool) → List Frame → Type 0

@@ -1,17 +1,15 @@
 -- On which cases the value of a case rests.
 use Rattle.std.proofs.Common.{◌≡◌, ◌==◌, ℕ, Bool, true, false, List, map, Option, Some, None, refl, ap, sym, ◌∙◌, subst}
-use Rattle.std.proofs.lemmas.Bool.{false_from_ne_true}
 use Rattle.std.specs.List.{list_any}
 use Rattle.std.specs.Global.{Vec}
 use Rattle.wi_values.specs.declared.value.Value.{Value}
-use Rattle.wi_values.specs.declared.value.Value.TheVariants.{Empty, Number, Text, Logical, Fault}
 use Rattle.wi_values.specs.declared.replacement.Replacement.{Replacement}
 use Rattle.wi_parser.specs.declared.expr.Pair.{Pair}
 use Rattle.wi_parser.specs.Tree.{Tree}
 use Rattle.wi_parser.specs.View.{pair_of}
 use Rattle.wi_parser.specs.declared.content.Content.{Content}
 use Rattle.wi_parser.specs.declared.content.Content.TheVariants.{Constant, Formula}
-use Rattle.wi_parser.specs.Sheet.{Sheet, constant, content_of, put_all, has_formula}
+use Rattle.wi_parser.specs.Sheet.{Sheet, content_of, put_all, has_formula}
 use Rattle.wi_parser.specs.Reads.{content_reads}
 use Rattle.wi_lookup.specs.Assignment.{addresses}
 use Rattle.wi_functions.specs.Wants.{Asks}
@@ -19,13 +17,11 @@ use Rattle.wi_functions.specs.declared.evaluation.Want.TheVariants.{WhatIf}
 use Rattle.wi_cache.specs.declared.key.Key.{Key}
 use Rattle.wi_graph.specs.Circular.{circular}
 use Rattle.wi_graph.proofs.ReachSteps.{reaches_here}
-use Rattle.wi_graph.proofs.Walks.{circular_walks}
-use Rattle.wi_sheet.specs.CellValue.{value_of, cell_value}
+use Rattle.wi_sheet.specs.CellValue.{cell_value}
 use Rattle.wi_sheet.specs.Demand.{Case, case_of, reaching, with_what_if, what_ifs_of, reads_here, of_formula}
 use Rattle.wi_sheet.specs.Inner.Spending.{RestsOn}
 use Rattle.wi_sheet.proofs.Bounds.{put_formula, put_reads, tree_reads}
-use Rattle.wi_sheet.proofs.Puts.{plain}
-use Rattle.wi_sheet.proofs.Steps.{value_plain, reads_not_circular}
+use Rattle.wi_sheet.proofs.Steps.{reads_not_circular}
 use Rattle.wi_sheet.proofs.Overrides.{reaching_suffices}
 use Rattle.wi_sheet.proofs.Members.{IsIn, in_contained, contains_in}
 use Rattle.wi_sheet.proofs.SmallerWorlds.{content_below, reaching_below}
@@ -34,25 +30,6 @@ use Rattle.wi_sheet.proofs.Demands.{here_reads, what_if_reads}
 use Rattle.wi_engine.specs.Inner.MemoState.{MemoState, IsMemoOf}
 use Rattle.wi_engine.specs.Inner.Attempt.{AsksAt}
 use Rattle.wi_engine.specs.Inner.Frames.{case_at, content_reads_here, MayBeRead, StandsAt, IsUnvalued, IsNext}
-
--- ---- a cell without a formula, and one with a formula
-
--- a cell without a formula shows what stands there
-pub plain_cell : (s : Sheet) (c : ℕ) (o : Option Content) → content_of s c ≡ o → has_formula o ≡ false → cell_value s c ≡ value_of o (λ t. Empty)
-plain_cell s c o e h =
-    value_plain s c (false_from_ne_true (circular s c) (λ w. let z = circular_walks s c w 0 in let y = ap has_formula e in cc)) (ap has_formula e ∙ h)
-    ∙ ap (λ (x : Option Content). value_of x (λ t. Empty)) e
-
--- a cell that is replaced shows what is put into it
-pub put_cell : (s : Sheet) (c : ℕ) (v : Value) → content_of s c ≡ constant v → cell_value s c ≡ v
-put_cell s c v e = plain_cell s c (constant v) e (plain v) ∙ shown v
-  where
-    shown : (x : Value) → value_of (constant x) (λ t. Empty) ≡ x
-    shown Empty = refl
-    shown (Number n) = refl
-    shown (Text t) = refl
-    shown (Logical b) = refl
-    shown (Fault f) = refl
 
 -- ---- what is read
 

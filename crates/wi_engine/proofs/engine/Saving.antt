@@ -1,29 +1,29 @@
 -- A run of frames while there is room for all that it finds.
-use Rattle.std.proofs.Common.{◌≡◌, ◌<◌, ◌≤◌, ◌+◌, ◌-◌, ◌^◌, ◌⊎◌, inl, inr, ◌||◌, ℕ, Bool, true, false, List, [], ◌∷◌, ◌++◌, Contains, Option, Some, is_some, refl, ap, sym, ◌∙◌, subst, arith}
-use Rattle.std.proofs.lemmas.Bool.{or_cases, or_left, or_right, cases_lt}
+use Rattle.std.proofs.Common.{◌≡◌, ◌≤◌, ◌+◌, ◌⊎◌, inl, inr, ◌||◌, ℕ, Bool, true, false, List, [], ◌∷◌, ◌++◌, Contains, Option, Some, is_some, refl, ap, sym, ◌∙◌, subst, arith}
+use Rattle.std.proofs.lemmas.Bool.{or_cases, or_left, or_right}
 use Rattle.wi_values.specs.declared.value.Value.{Value}
 use Rattle.wi_values.specs.declared.replacement.Replacement.{Replacement}
-use Rattle.wi_parser.specs.Sheet.{Sheet, put_all}
-use Rattle.wi_functions.specs.Counts.{Counts, one_more}
+use Rattle.wi_parser.specs.Sheet.{Sheet}
+use Rattle.wi_functions.specs.Counts.{Counts}
 use Rattle.wi_cache.specs.declared.key.Key.{Key}
-use Rattle.wi_sheet.specs.CellValue.{cell_value}
 use Rattle.wi_sheet.specs.Demand.{Case, reaching, same_case}
-use Rattle.wi_sheet.specs.Inner.Spending.{IsClosed, HasCase, NeverFall}
+use Rattle.wi_sheet.specs.Inner.Spending.{IsClosed, HasCase, SpentOn}
 use Rattle.wi_sheet.specs.Settled.{IsSettled, RestsOnKept}
 use Rattle.wi_sheet.proofs.Cases.{same_case-refl}
 use Rattle.wi_sheet.proofs.Counting.{one_less_left}
 use Rattle.wi_engine.specs.Inner.MemoState.{MemoState, IsTold, IsMemoOf}
-use Rattle.wi_engine.specs.Inner.Frames.{case_at, IsToValue, IsUnvalued, IsFrame, IsNext, spare}
-use Rattle.wi_engine.specs.Inner.Saving.{not_kept, KeepsFound, WhereRoom, SavesAll, TakesPlaces, TakesNoMore, GivesUpWhenFull, NeedsNoEvaluation, IsValuedAnew}
-use Rattle.wi_engine.specs.Inner.SettledFrames.{IsFrameSettled}
-use Rattle.wi_engine.specs.Inner.Keeps.{Keeps, HasKept}
+use Rattle.wi_engine.specs.Inner.Frames.{case_at, IsToValue, IsToFind, IsUnvalued, IsNext}
+use Rattle.wi_engine.specs.Inner.Saving.{not_kept, KeepsFound, WhereRoom, NeedsNoEvaluation, IsValuedAnew}
+use Rattle.wi_engine.specs.Inner.Spends.{Saved}
+use Rattle.wi_engine.specs.Inner.Steps.{FrameTakes}
+use Rattle.wi_engine.specs.Inner.Keeps.{Keeps}
 use Rattle.wi_engine.specs.declared.frame.Frame.{Frame}
 use Rattle.wi_engine.proofs.Saved.{none_went}
 use Rattle.wi_engine.proofs.engine.Settling.{one_more_at_most}
 use Rattle.wi_engine.proofs.engine.FoundSettled.{settled_now}
 use Rattle.wi_engine.proofs.engine.FramesSettled.{IsSettling, settling_start, settling_push, settling_pop, rests_after}
 use Rattle.wi_engine.proofs.engine.Stacks.{same_frame}
-use Rattle.wi_engine.proofs.engine.Running.{unvalued_in, IsRunning, IsNew, Finds, run_start, run_push, run_pop, run_take, end_evaluations, end_restarts}
+use Rattle.wi_engine.proofs.engine.Running.{unvalued_in, IsRunning, IsNew, Finds, GoesDeeper, ComesBack, run_start, run_deeper, run_back, run_take, run_ends}
 
 -- a memory, seen as if what is kept were what was found
 abbrev pub by_kept : MemoState → MemoState
@@ -62,6 +62,22 @@ kept_keeps m n k v w h = record {
   gives_up = record { room = h.gives_up.room; stays = h.gives_up.stays };
 }
 
+-- a turn, seen so
+kept_deeper : {s : Sheet} {m : MemoState} {now next : Counts} {f h g : Frame} {k : Key} → KeepsFound m → GoesDeeper s m now next f h g k → GoesDeeper s (by_kept m) now next f h g k
+kept_deeper {s} {m} {now} {next} {f} {h} {g} {k} whole t = record {
+  steps = record {
+    same = refl;
+    key = t.steps.key;
+    frame = λ d. same_frame s m (by_kept m) h refl refl (t.steps.frame d);
+    settled = λ d there. t.steps.settled d whole;
+    fewer = t.steps.fewer;
+  };
+  rises = t.rises;
+  evaluations = t.evaluations;
+  key = kept_next s m f.key k t.key;
+  new = t.new;
+}
+
 -- what is so of the frames where there is room for these cases
 pub record IsSaving (s : Sheet) (old m : MemoState) (root : Case) (start now : Counts) (fs : List Frame) (f : Frame) (ks : List Case) : Type 0 where
   pub running : IsRunning s (by_kept old) (by_kept m) root start now fs f
@@ -72,59 +88,38 @@ pub record IsSaving (s : Sheet) (old m : MemoState) (root : Case) (start now : C
   pub stand : (k : Key) → old.stands k ≡ true → m.stands k ≡ true
   pub settling : IsSettling s old m fs f
 
-pub takes_more : (old m n : MemoState) (before now next : ℕ) → TakesNoMore old m before now → TakesPlaces m n 0 1 → next ≡ one_more now → TakesNoMore old n before next
-takes_more old m n before now next h l e = at h (cases_lt now (2 ^ 64 - 1))
-  where
-    at : TakesNoMore old m before now → (now < 2 ^ 64 - 1) ⊎ (2 ^ 64 - 1 ≤ now) → TakesNoMore old n before next
-    at (inl k) (inl f) = inl (λ ks d. let a = k ks d in let b = l ks d in omega (arith, a, b, f, e))
-    at (inl k) (inr f) = inr (omega (arith, f, e))
-    at (inr k) f = inr (omega (arith, k, e))
-
-pub push_takes : (old m n : MemoState) (before now next : ℕ) → TakesNoMore old m before now → n ≡ m → next ≡ now → TakesNoMore old n before next
-push_takes old m n before now next h e f = rw (e, f) h
-
-pub record IsGoing (s : Sheet) (old m : MemoState) (root : Case) (start now : Counts) (fs : List Frame) (f : Frame) : Type 0 where
-  pub running : IsRunning s old m root start now fs f
-  pub places : TakesNoMore old m start.evaluations now.evaluations
-  pub gives_up : GivesUpWhenFull old m
-  pub capacity : m.capacity ≡ old.capacity
-  pub latest : m.latest ≡ old.latest
-  pub saving : (ks : List Case) → IsClosed s ks → Contains ks root → KeepsFound old → not_kept old ks ≤ old.room → IsSaving s old m root start now fs f ks
-
-pub saving_start : (s : Sheet) (m : MemoState) (k : Key) (fs : List Frame) (f : Frame) (now : Counts) (ks : List Case) → IsMemoOf s m → IsToValue s m k → m.kept k.cell k.world ≡ false → IsNew s f k → fs ≡ [] → KeepsFound m → not_kept m ks ≤ m.room →
-    IsSaving s m m (case_at k) now now fs f ks
-saving_start s m k fs f now ks h key u n e w r = record {
-  running = run_start s (by_kept m) k fs f now (kept_memory_of s m h w) (kept_to_value s m k key) u n e;
-  whole = w;
+pub saving_start : (s : Sheet) (m : MemoState) (k : Key) (f : Frame) (now : Counts) (ks : List Case) → IsMemoOf s m → IsToFind s m k → IsNew s f k → KeepsFound m → not_kept m ks ≤ m.room → IsSaving s m m (case_at k) now now [] f ks
+saving_start s m k f now ks h key n whole room = record {
+  running = run_start s (by_kept m) k f now (kept_memory_of s m h whole) (kept_to_value s m k key.key) key.unkept n;
+  whole = whole;
   added = omega arith;
-  room = r;
+  room = room;
   stays = λ c v i. i;
   stand = λ j i. i;
-  settling = settling_start s m fs f k n e;
+  settling = settling_start s m [] f k n refl;
 }
 
-pub saving_push : (s : Sheet) (old m n : MemoState) (root : Case) (start now next : Counts) (fs gs : List Frame) (f h g : Frame) (k : Key) (ks : List Case) → IsSaving s old m root start now fs f ks → n ≡ m → h.key ≡ f.key → IsFrame s m h → IsNext s m f.key k →
-    NeverFall now next → next.evaluations ≡ now.evaluations → next.restarts + spare s h ≤ now.restarts + spare s f → IsNew s g k → gs ≡ fs ++ h ∷ [] → (KeepsFound m → IsFrameSettled s m.kept f → IsFrameSettled s m.kept h) → IsSaving s old n root start next gs g ks
-saving_push s old m n root start now next fs gs f h g k ks i en e frame x up ev re new eg found =
-    let there = run_push s (by_kept old) (by_kept m) (by_kept m) root start now next fs gs f h g k i.running refl e (same_frame s m (by_kept m) h refl refl frame) (kept_next s m f.key k x) up ev re new eg in
-    subst (λ (y : MemoState). IsSaving s old y root start next gs g ks) (sym en) (record {
-      running = there;
-      whole = i.whole;
-      added = let a = i.added in omega (arith, a, ev);
-      room = i.room;
-      stays = i.stays;
-      stand = i.stand;
-      settling = settling_push s old m m fs gs f h g k i.settling refl (found i.whole i.settling.top) new eg;
-    })
+pub saving_deeper : {s : Sheet} {old m : MemoState} {root : Case} {start now next : Counts} {fs : List Frame} {f h g : Frame} {k : Key} {ks : List Case} → GoesDeeper s m now next f h g k → IsSaving s old m root start now fs f ks → IsSaving s old m root start next (fs ++ h ∷ []) g ks
+saving_deeper {s} {old} {m} {root} {start} {now} {next} {fs} {f} {h} {g} {k} {ks} t i = record {
+  running = run_deeper i.running (kept_deeper i.whole t);
+  whole = i.whole;
+  added = let a = i.added in let e = t.evaluations in omega (arith, a, e);
+  room = i.room;
+  stays = i.stays;
+  stand = i.stand;
+  settling = settling_push s old m m fs (fs ++ h ∷ []) f h g k i.settling refl (t.steps.settled refl i.whole i.settling.top) t.new refl;
+}
 
--- one place is taken
-pub record Takes (m n : MemoState) (k : Key) : Type 0 where
-  pub kept : 1 ≤ m.room → (c : ℕ) (w : List Replacement) → n.kept c w ≡ (m.kept c w || same_case (case_at k) (c, w))
-  pub room : m.kept k.cell k.world ≡ false → 1 ≤ m.room → n.room + 1 ≡ m.room
-  pub places : TakesPlaces m n 0 1
-
-pub takes_of : {m n : MemoState} {k : Key} {v : Value} → Keeps m n k v → HasKept m n k → Takes m n k
-takes_of h g = record { kept = g.kept; room = g.room; places = h.places }
+pub saving_take : {s : Sheet} {old m : MemoState} {root : Case} {start now : Counts} {fs : List Frame} {f g : Frame} {ks : List Case} {k : Key} → FrameTakes s k f g true → m.kept k.cell k.world ≡ true → IsSaving s old m root start now fs f ks → IsSaving s old m root start now fs g ks
+saving_take {s} {old} {m} {root} {start} {now} {fs} {f} {g} {ks} {k} t there i = record {
+  running = run_take i.running t.key (t.frame refl (by_kept m) i.running.begun.frame) (t.fewer refl);
+  whole = i.whole;
+  added = i.added;
+  room = i.room;
+  stays = i.stays;
+  stand = i.stand;
+  settling = record { top = t.settled refl m.kept there i.settling.top; below = i.settling.below; rests = i.settling.rests };
+}
 
 whole_after : (m n : MemoState) (k : Key) → Finds m n k → ((c : ℕ) (w : List Replacement) → n.kept c w ≡ (m.kept c w || same_case (case_at k) (c, w))) → KeepsFound m → KeepsFound n
 whole_after m n k f g h c w i = g c w ∙ at (or_cases (m.found c w) (same_case (case_at k) (c, w)) (sym (f c w) ∙ i))
@@ -133,101 +128,80 @@ whole_after m n k f g h c w i = g c w ∙ at (or_cases (m.found c w) (same_case 
     at (inl j) = or_left (m.kept c w) _ (h c w j)
     at (inr j) = or_right (m.kept c w) _ j
 
--- where there is room for what is left, one value that is not kept yet takes one place of it
-pub saved_one : (s : Sheet) (old m : MemoState) (root : Case) (start now : Counts) (fs : List Frame) (f : Frame) (ks : List Case) (n : MemoState) → IsClosed s ks → Contains ks root → IsSaving s old m root start now fs f ks → Takes m n f.key → Finds m n f.key →
-    ((c : ℕ) (w : List Replacement) → n.kept c w ≡ (m.kept c w || same_case (case_at f.key) (c, w))) × (n.room + 1 ≡ m.room) × (not_kept n ks ≤ n.room) × KeepsFound n
-saved_one s old m root start now fs f ks n closed top i t finds =
-    let there = i.running.begun.demanded ks closed top in
-    let apart = i.running.begun.unfound in
-    let some = one_less_left m.kept (λ c w. m.kept c w || same_case (case_at f.key) (c, w)) (case_at f.key) ks (λ c w. refl) apart there in
-    let r = i.room in
-    let one : 1 ≤ m.room = omega (arith, some, r) in
-    let kept = t.kept one in
-    let room = t.room apart one in
-    let less = one_less_left m.kept n.kept (case_at f.key) ks kept apart there in
-    (kept, room, omega (arith, less, r, room), whole_after m n f.key finds kept i.whole)
+module _ {s : Sheet} {old m n : MemoState} {root : Case} {start now next : Counts} {fs : List Frame} {f : Frame} {v : Value} {ks : List Case} (t : ComesBack s m n now next f v) (closed : IsClosed s ks) (top : Contains ks root) (i : IsSaving s old m root start now fs f ks) where
+  demanded : Contains ks (case_at f.key)
+  demanded = i.running.begun.demanded ks closed top
 
-takes_key : (m n : MemoState) (k j : Key) → k ≡ j → Takes m n k → Takes m n j
-takes_key m n k j e h = subst (λ (x : Key). Takes m n x) e h
+  -- there is a place for the value
+  place : 1 ≤ m.room
+  place =
+      let some = one_less_left m.kept (λ c w. m.kept c w || same_case (case_at f.key) (c, w)) (case_at f.key) ks (λ c w. refl) i.running.begun.unfound demanded in
+      let r = i.room in
+      omega (arith, some, r)
 
-finds_key : (m n : MemoState) (k j : Key) → k ≡ j → Finds m n k → Finds m n j
-finds_key m n k j e h = subst (λ (x : Key). Finds m n x) e h
+  kept : (c : ℕ) (w : List Replacement) → n.kept c w ≡ (m.kept c w || same_case (case_at f.key) (c, w))
+  kept = t.kept.kept place
 
-pub saving_pop : (s : Sheet) (old m a n : MemoState) (root : Case) (start now next : Counts) (fs gs : List Frame) (f b : Frame) (k : Key) (v : Value) (ks : List Case) → IsClosed s ks → Contains ks root → IsSaving s old m root start now gs f ks → a ≡ m → gs ≡ fs ++ b ∷ [] → k ≡ f.key →
-    Keeps a n k v → Finds a n k → Takes a n k → v ≡ cell_value (put_all s f.key.world) f.key.cell → NeverFall now next → next.evaluations ≡ one_more now.evaluations → next.restarts ≤ now.restarts + spare s f → (KeepsFound m → IsFrameSettled s m.kept f → RestsOnKept s m.kept (case_at f.key)) → IsSaving s old n root start next fs b ks
-saving_pop s old m a n root start now next fs gs f b k v ks closed top i ea eg ek keeps finds takes is up ev re rests =
-    let keeps_m : Keeps m n k v = subst (λ (y : MemoState). Keeps y n k v) ea keeps in
-    let finds_m : Finds m n f.key = finds_key m n k f.key ek (subst (λ (y : MemoState). Finds y n k) ea finds) in
-    let takes_m : Takes m n f.key = takes_key m n k f.key ek (subst (λ (y : MemoState). Takes y n k) ea takes) in
-    let one = saved_one s old m root start now gs f ks n closed top i takes_m finds_m in
-    let kept_k : (c : ℕ) (w : List Replacement) → n.kept c w ≡ (m.kept c w || same_case (case_at k) (c, w)) = λ c w. one.0 c w ∙ ap (λ (x : Key). m.kept c w || same_case (case_at x) (c, w)) (sym ek) in
-    let room = one.1 in
-    let added = i.added in
-    let more = one_more_at_most now.evaluations next.evaluations ev in
-    record {
-      running = run_pop s (by_kept old) (by_kept m) (by_kept m) (by_kept n) root start now next fs gs f b k v i.running refl eg ek (kept_keeps m n k v one.3 keeps_m) kept_k is up ev re;
-      whole = one.3;
-      added = omega (arith, added, room, more);
-      room = one.2;
-      stays = λ c w h. one.0 c w ∙ or_left (m.kept c w) _ (i.stays c w h);
-      stand = λ j h. none_went m n 0 1 j takes_m.places (omega (arith, room)) (i.stand j h);
-      settling = settling_pop s m n (case_at f.key) one.0 old fs gs f b i.settling eg (rests i.whole i.settling.top);
-    }
+  -- which it takes
+  takes : n.room + 1 ≡ m.room
+  takes = t.kept.room i.running.begun.unfound place
 
--- the value of a frame that is done is kept
-pub saving_kept : (s : Sheet) (old m a n : MemoState) (root : Case) (start now : Counts) (fs : List Frame) (f : Frame) (k : Key) (ks : List Case) → IsClosed s ks → Contains ks root → IsSaving s old m root start now fs f ks → a ≡ m → k ≡ f.key → Finds a n k → Takes a n k →
-    n.kept k.cell k.world ≡ true
-saving_kept s old m a n root start now fs f k ks closed top i ea ek finds takes =
-    let finds_m : Finds m n f.key = finds_key m n k f.key ek (subst (λ (y : MemoState). Finds y n k) ea finds) in
-    let takes_m : Takes m n f.key = takes_key m n k f.key ek (subst (λ (y : MemoState). Takes y n k) ea takes) in
-    let one = saved_one s old m root start now fs f ks n closed top i takes_m finds_m in
-    let there : n.kept f.key.cell f.key.world ≡ true = one.0 f.key.cell f.key.world ∙ or_right (m.kept f.key.cell f.key.world) _ (same_case-refl (case_at f.key)) in
-    subst (λ (x : Key). n.kept x.cell x.world ≡ true) (sym ek) there
+  still : not_kept n ks ≤ n.room
+  still =
+      let less = one_less_left m.kept n.kept (case_at f.key) ks kept i.running.begun.unfound demanded in
+      let r = i.room in
+      let taken = takes in
+      omega (arith, less, r, taken)
 
--- ---- a value that is taken in
+  whole_then : KeepsFound n
+  whole_then = whole_after m n f.key t.kept.found kept i.whole
 
-pub saving_take : (s : Sheet) (old m : MemoState) (root : Case) (start now : Counts) (fs : List Frame) (f g : Frame) (ks : List Case) → IsSaving s old m root start now fs f ks → g.key ≡ f.key → IsFrame s m g → spare s g ≤ spare s f → IsFrameSettled s m.kept g →
-    IsSaving s old m root start now fs g ks
-saving_take s old m root start now fs f g ks i e frame less settled = record {
-  running = run_take s (by_kept old) (by_kept m) root start now fs f g i.running e (same_frame s m (by_kept m) g refl refl frame) less;
-  whole = i.whole;
-  added = i.added;
-  room = i.room;
-  stays = i.stays;
-  stand = i.stand;
-  settling = record { top = settled; below = i.settling.below; rests = i.settling.rests };
+  added_then : next.evaluations + n.room ≤ start.evaluations + old.room
+  added_then =
+      let added = i.added in
+      let taken = takes in
+      let more = one_more_at_most now.evaluations next.evaluations t.evaluations in
+      omega (arith, added, taken, more)
+
+  stand_then : (k : Key) → old.stands k ≡ true → n.stands k ≡ true
+  stand_then k h =
+      let taken = takes in
+      none_went m n 0 1 k t.keeps.places (omega (arith, taken)) (i.stand k h)
+
+  stays_then : (c : ℕ) (w : List Replacement) → old.kept c w ≡ true → n.kept c w ≡ true
+  stays_then c w h = kept c w ∙ or_left (m.kept c w) _ (i.stays c w h)
+
+  rests_then : RestsOnKept s m.kept (case_at f.key)
+  rests_then = t.value.rests i.whole i.settling.top
+
+  -- the value of a frame that is done is kept
+  pub saving_kept : n.kept f.key.cell f.key.world ≡ true
+  saving_kept = kept f.key.cell f.key.world ∙ or_right (m.kept f.key.cell f.key.world) _ (same_case-refl (case_at f.key))
+
+  pub saving_saved : Saved s old n start next ks
+  saving_saved = record {
+    added = added_then;
+    room = still;
+    stays = stays_then;
+    stand = stand_then;
+    found = whole_then;
+    rests = rests_after s m n (case_at f.key) kept old rests_then i.settling.rests;
+  }
+
+pub saving_back : {s : Sheet} {old m n : MemoState} {root : Case} {start now next : Counts} {fs : List Frame} {f b : Frame} {v : Value} {ks : List Case} → ComesBack s m n now next f v → IsClosed s ks → Contains ks root → IsSaving s old m root start now (fs ++ b ∷ []) f ks →
+    IsSaving s old n root start next fs b ks
+saving_back {s} {old} {m} {n} {root} {start} {now} {next} {fs} {f} {b} {v} {ks} t closed top i = record {
+  running = run_back (kept t closed top i) t.counts i.running (kept_keeps m n f.key v (whole_then t closed top i) t.keeps) t.value.value;
+  whole = whole_then t closed top i;
+  added = added_then t closed top i;
+  room = still t closed top i;
+  stays = stays_then t closed top i;
+  stand = stand_then t closed top i;
+  settling = settling_pop s m n (case_at f.key) (kept t closed top i) old fs (fs ++ b ∷ []) f b i.settling refl (rests_then t closed top i);
 }
 
--- ---- the end
-
-pub saving_end : (s : Sheet) (old m a n : MemoState) (root : Case) (start now next : Counts) (fs : List Frame) (f : Frame) (k : Key) → IsGoing s old m root start now fs f → a ≡ m → fs ≡ [] → k ≡ f.key → Finds a n k → Takes a n k → next.evaluations ≡ one_more now.evaluations → next.restarts ≤ now.restarts + spare s f →
-    (KeepsFound m → IsFrameSettled s m.kept f → RestsOnKept s m.kept (case_at f.key)) → SavesAll s (λ ks. Contains ks root) old n start next
-saving_end s old m a n root start now next fs f k g ea e ek finds takes ev re rests = λ ks closed top whole room.
-    let i = g.saving ks closed top whole room in
-    let finds_m : Finds m n f.key = finds_key m n k f.key ek (subst (λ (y : MemoState). Finds y n k) ea finds) in
-    let takes_m : Takes m n f.key = takes_key m n k f.key ek (subst (λ (y : MemoState). Takes y n k) ea takes) in
-    let one = saved_one s old m root start now fs f ks n closed top i takes_m finds_m in
-    let kept_k : (c : ℕ) (w : List Replacement) → n.kept c w ≡ (m.kept c w || same_case (case_at k) (c, w)) = λ c w. one.0 c w ∙ ap (λ (x : Key). m.kept c w || same_case (case_at x) (c, w)) (sym ek) in
-    let places = one.1 in
-    let added = i.added in
-    let more = one_more_at_most now.evaluations next.evaluations ev in
-    record {
-      counted = end_evaluations s (by_kept old) (by_kept m) (by_kept m) (by_kept n) root start now next fs f k i.running refl e ek kept_k ev ks closed top;
-      restarted = end_restarts s (by_kept old) (by_kept m) (by_kept m) (by_kept n) root start now next fs f k i.running refl e ek kept_k re ks closed top;
-      added = omega (arith, added, places, more);
-      room = one.2;
-      stays = λ c w h. one.0 c w ∙ or_left (m.kept c w) _ (i.stays c w h);
-      stand = λ j h. none_went m n 0 1 j takes_m.places (omega (arith, places)) (i.stand j h);
-      found = one.3;
-      rests = rests_after s m n (case_at f.key) one.0 old (rests i.whole i.settling.top) i.settling.rests;
-    }
-
--- and the root is kept
-pub settled_end : (s : Sheet) (old m a n : MemoState) (root : Key) (start now : Counts) (fs : List Frame) (f : Frame) (k : Key) → IsGoing s old m (case_at root) start now fs f → a ≡ m → fs ≡ [] → k ≡ f.key → Finds a n k → Takes a n k →
-    WhereRoom s (λ ks. Contains ks (case_at root)) old (λ ks. n.kept root.cell root.world ≡ true)
-settled_end s old m a n root start now fs f k g ea e ek finds takes = λ ks closed top whole room.
-    let bottom : case_at f.key ≡ case_at root = rw e at g.running.bottom in
-    subst (λ (j : Case). n.kept j.0 j.1 ≡ true) (ap case_at ek ∙ bottom) (saving_kept s old m a n (case_at root) start now fs f k ks closed top (g.saving ks closed top whole room) ea ek finds takes)
+pub saving_ends : {s : Sheet} {old m n : MemoState} {root : Case} {start now next : Counts} {f : Frame} {v : Value} {ks : List Case} → ComesBack s m n now next f v → IsClosed s ks → Contains ks root → IsSaving s old m root start now [] f ks → SpentOn s old.kept n.kept start next true ks
+saving_ends {s} {old} {m} {n} t closed top i = run_ends (by_kept n) (kept t closed top i) t.counts i.running _ closed top
 
 -- ---- a cell under any replacements
 

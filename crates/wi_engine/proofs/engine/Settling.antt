@@ -23,7 +23,7 @@ use Rattle.wi_sheet.proofs.Overrides.{with_what_if_value}
 use Rattle.wi_engine.specs.Inner.MemoState.{MemoState, IsMemoOf}
 use Rattle.wi_engine.specs.Inner.Attempt.{AsksAt, IsLacking, lacks_cell}
 use Rattle.wi_engine.specs.Inner.Findings.{IsWithCell, IsWithWhatIf, pairs_of, found_value}
-use Rattle.wi_engine.specs.Inner.Frames.{case_at, content_reads_here, MayBeRead, IsToValue, IsUnvalued, IsUnvaluedFormula, IsNextFormula, IsFrame, AreReadHere, Awaits, lacks, spare, waits}
+use Rattle.wi_engine.specs.Inner.Frames.{case_at, content_reads_here, MayBeRead, IsToValue, IsUnvaluedFormula, IsNextFormula, IsFrame, AreReadHere, Awaits, lacks, spare, waits}
 use Rattle.wi_engine.specs.Inner.Steps.{FrameWaits, IsWorldWith}
 use Rattle.wi_engine.specs.declared.findings.Findings.{Findings}
 use Rattle.wi_engine.specs.declared.findings.FoundWhatIf.{FoundWhatIf}

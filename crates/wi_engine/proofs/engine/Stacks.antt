@@ -9,7 +9,7 @@ use Rattle.wi_parser.specs.Sheet.{Sheet, put_all}
 use Rattle.wi_cache.specs.declared.key.Key.{Key}
 use Rattle.wi_sheet.specs.CellValue.{cell_value}
 use Rattle.wi_sheet.specs.Demand.{Case, same_case}
-use Rattle.wi_engine.specs.Inner.Rank.{reach_rank}
+use Rattle.wi_sheet.specs.Inner.Rank.{reach_rank}
 use Rattle.wi_engine.specs.Inner.MemoState.{MemoState, IsTold, IsMemoOf, AreKnownRight, IsClosedUnderReads}
 use Rattle.wi_engine.specs.Inner.Frames.{case_at, IsFrame, IsBegun, IsNext, IsDemanded, AreBelow, IsStack, BottomIs}
 use Rattle.wi_engine.specs.declared.frame.Frame.{Frame}

@@ -1,5 +1,5 @@
 -- What the steps of a frame leave and count, one after another.
-use Rattle.std.proofs.Common.{◌≡◌, ◌+◌, ◌-◌, ◌≤◌, ℕ, Bool, true, false, List, Option, None, Result, Ok, Err, IsErr, is_ok, refl, ap, sym, ◌∙◌, subst, arith}
+use Rattle.std.proofs.Common.{◌≡◌, ◌+◌, ◌-◌, ◌≤◌, ℕ, Bool, true, false, List, None, Result, Ok, Err, IsErr, is_ok, refl, ap, sym, ◌∙◌, subst, arith}
 use Rattle.std.proofs.lemmas.Bool.{true≢false}
 use Rattle.wi_values.specs.declared.value.Value.{Value}
 use Rattle.wi_values.specs.declared.replacement.Replacement.{Replacement}
@@ -16,10 +16,9 @@ use Rattle.wi_sheet.proofs.Counting.{never_fall-same, never_fall-then}
 use Rattle.wi_engine.specs.Inner.MemoState.{MemoState, IsMemoOf}
 use Rattle.wi_engine.specs.Inner.Findings.{found_value, IsWithCell, IsWithWhatIf}
 use Rattle.wi_engine.specs.Inner.Attempt.{AsksAt, IsLacking}
-use Rattle.wi_engine.specs.Inner.Frames.{case_at, content_reads_here, IsFrame, lacks, spare, waits}
+use Rattle.wi_engine.specs.Inner.Frames.{content_reads_here, IsFrame, lacks, spare, waits}
 use Rattle.wi_engine.specs.Inner.Saving.{NeedsNoEvaluation}
 use Rattle.wi_engine.specs.Inner.Steps.{FrameSteps, FrameCounts, FrameWaits, IsWorldWith}
-use Rattle.wi_engine.specs.declared.findings.Findings.{Findings}
 use Rattle.wi_engine.specs.declared.findings.FoundWhatIf.{FoundWhatIf}
 use Rattle.wi_engine.specs.declared.frame.Frame.{Frame}
 use Rattle.wi_engine.specs.declared.frame.Waiting.{Waiting}
@@ -140,6 +139,11 @@ steps_what_if {s} {m} {n} {l} {f} {h} {x} {ps} {world} memo e el is nothing key 
 
 pub counts_none : {s : Sheet} {f : Frame} {a : Counts} {done : Bool} → FrameCounts s f a a done
 counts_none {s} {f} {a} {done} = record { rises = never_fall-same a; within = (omega arith, omega arith) }
+
+pub counts_less : {s : Sheet} {f : Frame} {a b : Counts} {done : Bool} → FrameCounts s f a b false → FrameCounts s f a b done
+counts_less {s} {f} {a} {b} {done} h =
+    let x : b.evaluations ≤ a.evaluations + 0 = h.within.0 in
+    record { rises = h.rises; within = (omega (arith, x), h.within.1) }
 
 -- a formula that lacks a value
 pub counts_want : {s : Sheet} {f : Frame} {a b : Counts} {done : Bool} (want : Want) → AsksAt s f.key.world f.key.cell want → IsLacking s f.key.world f.found want → f.waiting ≡ Nothing → NeverFall a b → b.evaluations ≡ a.evaluations → b.restarts ≡ one_more a.restarts →

@@ -1,6 +1,6 @@
 -- A frame takes in the value for which it waits.
-use Rattle.std.proofs.Common.{◌≡◌, ◌&&◌, ◌≤◌, inr, ℕ, Bool, true, List, ap, sym, ◌∙◌, subst, arith, eqb-true}
-use Rattle.std.proofs.lemmas.Bool.{and_parts}
+use Rattle.std.proofs.Common.{◌≡◌, ◌&&◌, ◌≤◌, inr, ℕ, Bool, true, List, Result, Ok, Err, IsErr, is_ok, refl, ap, sym, ◌∙◌, subst, arith, eqb-true}
+use Rattle.std.proofs.lemmas.Bool.{and_parts, true≢false}
 use Rattle.std.specs.Global.{Vec}
 use Rattle.wi_values.specs.declared.value.Value.{Value}
 use Rattle.wi_values.specs.declared.replacement.Replacement.{Replacement}
@@ -11,10 +11,12 @@ use Rattle.wi_cache.specs.declared.key.Key.{Key}
 use Rattle.wi_sheet.specs.CellValue.{cell_value, what_if_value}
 use Rattle.wi_sheet.specs.Demand.{reaching}
 use Rattle.wi_sheet.specs.Settled.{IsSettled}
+use Rattle.wi_sheet.specs.Inner.Spending.{Table}
 use Rattle.wi_engine.specs.Inner.MemoState.{MemoState}
 use Rattle.wi_engine.specs.Inner.Findings.{IsWithCell}
 use Rattle.wi_engine.specs.Inner.Frames.{case_at, Awaits, IsFrame, lacks, spare, waits, waits_at}
 use Rattle.wi_engine.specs.Inner.SettledFrames.{IsFrameSettled}
+use Rattle.wi_engine.specs.Inner.Steps.{FrameTakes}
 use Rattle.wi_engine.specs.declared.findings.Findings.{Findings}
 use Rattle.wi_engine.specs.declared.frame.Frame.{Frame}
 use Rattle.wi_engine.specs.declared.frame.Waiting.{Waiting}
@@ -22,6 +24,13 @@ use Rattle.wi_engine.specs.declared.frame.Waiting.TheVariants.{Cells}
 use Rattle.wi_engine.proofs.engine.Awaiting.{cell_falls, frame_with}
 use Rattle.wi_engine.proofs.engine.FoundSettled.{IsSettledFor, frame_cell}
 use Rattle.wi_engine.proofs.engine.Rightness.{right_cell}
+
+pub takes_none : {s : Sheet} {k : Key} {f : Frame} {done : Bool} → FrameTakes s k f f done
+takes_none = record { key = refl; frame = λ d m h. h; fewer = λ d. omega arith; settled = λ d kept there h. h }
+
+pub takes_err : {X E : Type 0} {s : Sheet} {k : Key} {f g : Frame} (r : Result X E) → IsErr r → g.key ≡ f.key → FrameTakes s k f g (is_ok r)
+takes_err (Ok x) e key = cc
+takes_err (Err x) e key = record { key = key; frame = λ d. absurd (true≢false (sym d)); fewer = λ d. absurd (true≢false (sym d)); settled = λ d. absurd (true≢false (sym d)) }
 
 -- the frame f waits for the key's value, and g has it
 module _ (s : Sheet) (f g : Frame) (k : Key) (found : Findings) (a : ℕ) (others : Vec ℕ) (v : Value) (test : (waits_at f.waiting k.cell && same_replacements f.key.world k.world) ≡ true) (waiting : f.waiting ≡ Cells a others) (more : IsWithCell f.found found a v)
@@ -38,13 +47,13 @@ module _ (s : Sheet) (f g : Frame) (k : Key) (found : Findings) (a : ℕ) (other
   with_it : IsWithCell f.found g.found a v
   with_it = subst (λ (x : Findings). IsWithCell f.found x a v) (sym has) more
 
-  pub taken_frame : g.formula.now ≡ f.formula.now → v ≡ cell_value (put_all s k.world) k.cell → Awaits s (case_at f.key) found g.waiting → (m : MemoState) → IsFrame s m f → IsFrame s m g
+  taken_frame : g.formula.now ≡ f.formula.now → v ≡ cell_value (put_all s k.world) k.cell → Awaits s (case_at f.key) found g.waiting → (m : MemoState) → IsFrame s m f → IsFrame s m g
   taken_frame formula right awaits m h =
       let here : v ≡ cell_value (put_all s f.key.world) a = right ∙ ap (λ (w : List Replacement). cell_value (put_all s w) k.cell) (sym world) ∙ ap (cell_value (put_all s f.key.world)) (sym cell) in
       frame_with s m f g h key formula (right_cell (cell_value (put_all s f.key.world)) (what_if_value (put_all s f.key.world)) f.found g.found a v with_it here h.found)
       (subst (λ (x : Findings). Awaits s (case_at f.key) x g.waiting) (sym has) awaits)
 
-  pub taken_spare : Awaits s (case_at f.key) f.found f.waiting → spare s g ≤ spare s f
+  taken_spare : Awaits s (case_at f.key) f.found f.waiting → spare s g ≤ spare s f
   taken_spare awaits =
       let there : Awaits s (case_at f.key) f.found (Cells a others) = subst (λ (x : Waiting). Awaits s (case_at f.key) f.found x) waiting awaits in
       let less = cell_falls s f.key f.found g.found a v with_it there.0.1 there.1 there.2 in
@@ -52,9 +61,12 @@ module _ (s : Sheet) (f g : Frame) (k : Key) (found : Findings) (a : ℕ) (other
       let same = ap (λ (x : Key). lacks s x g.found) key in
       omega (arith, less, one, same)
 
-  pub taken_settled : reaching s k.cell k.world ≡ k.world → (kept : ℕ → List Replacement → Bool) → kept k.cell k.world ≡ true → IsFrameSettled s kept f → IsFrameSettled s kept g
+  taken_settled : reaching s k.cell k.world ≡ k.world → (kept : Table) → kept k.cell k.world ≡ true → IsFrameSettled s kept f → IsFrameSettled s kept g
   taken_settled own kept there h =
       let cell_kept : kept a (reaching s a f.key.world) ≡ true =
       ap (λ (c : ℕ). kept c (reaching s c f.key.world)) cell ∙ ap (λ (w : List Replacement). kept k.cell (reaching s k.cell w)) world ∙ ap (kept k.cell) own ∙ there in
       let settled : IsSettled s kept f.key.world a = inr cell_kept in
       subst (λ (x : Key). IsSettledFor s kept x g.found) (sym key) (frame_cell s kept f g.found a v with_it settled h)
+
+  pub takes_value : g.formula.now ≡ f.formula.now → Awaits s (case_at f.key) found g.waiting → reaching s k.cell k.world ≡ k.world → v ≡ cell_value (put_all s k.world) k.cell → Awaits s (case_at f.key) f.found f.waiting → FrameTakes s k f g true
+  takes_value formula next own right awaits = record { key = key; frame = λ d. taken_frame formula right next; fewer = λ d. taken_spare awaits; settled = λ d. taken_settled own }

@@ -3,7 +3,7 @@ use Rattle.std.proofs.Common.{◌≡◌, ℕ, suc, ◌+◌, ◌-◌, ◌<◌, �
 use Rattle.std.proofs.Math.Seq.{take-nil}
 use Rattle.wi_values.specs.Address.{Area}
 use Rattle.wi_parser.specs.Sheet.{Sheet}
-use Rattle.wi_engine.specs.Inner.ReadCells.{cells_after}
+use Rattle.wi_sheet.specs.Inner.ReadCells.{cells_after}
 use Rattle.wi_engine.proofs.occupied.NextCells.{from_next, next_is_from}
 
 -- those after a cell

@@ -5,7 +5,7 @@ use Rattle.std.specs.List.{list_any}
 use Rattle.std.specs.Map.{keys_of}
 use Rattle.wi_values.specs.Address.{Area, is_within}
 use Rattle.wi_parser.specs.Sheet.{Sheet}
-use Rattle.wi_engine.specs.Inner.ReadCells.{cells_after, occupied_within}
+use Rattle.wi_sheet.specs.Inner.ReadCells.{cells_after, occupied_within}
 use Rattle.wi_engine.proofs.walk.Cursors.{all_pass}
 
 -- the cells that are still to be looked at, the next one first

@@ -14,7 +14,7 @@ use Rattle.wi_graph.specs.Reach.{is_one_of}
 use Rattle.wi_graph.proofs.Walks.{same_cell}
 use Rattle.wi_sheet.specs.CellValue.{cell_value}
 use Rattle.wi_engine.specs.Inner.MemoState.{IsClosedUnderReads, IsTold, IsMemoOf}
-use Rattle.wi_engine.specs.Inner.ReadOrder.{IsReadOrder}
+use Rattle.wi_sheet.specs.Inner.ReadOrder.{IsReadOrder}
 use Rattle.wi_engine.specs.Inner.Remembered.{OneQuestion, key_of, question_state, remembered}
 
 -- a list, cut before one of its cells

@@ -20,7 +20,7 @@ use Rattle.wi_sheet.proofs.Members.{IsIn, in_contained, of_map, of_flat, found_i
 use Rattle.wi_sheet.proofs.Bounds.{put_formula}
 use Rattle.wi_engine.specs.Inner.Attempt.{lacks_cell, lacking_after}
 use Rattle.wi_engine.specs.Inner.Courses.{IsSmallestWith, AreTogether, IsCourseTo, part}
-use Rattle.wi_engine.specs.Inner.ReadCells.{cells_after, is_after}
+use Rattle.wi_sheet.specs.Inner.ReadCells.{cells_after, is_after}
 use Rattle.wi_engine.specs.declared.course.Course.{Course}
 use Rattle.wi_engine.specs.declared.course.Way.{Way}
 use Rattle.wi_engine.specs.declared.findings.Findings.{Findings}

@@ -8,10 +8,10 @@ use Rattle.std.proofs.Math.Seq.{drop-cons}
 use Rattle.std.proofs.lemmas.List.Kept.{AllPairs-from_increasing, IsStrictlyIncreasing-filter}
 use Rattle.wi_values.specs.Address.{Area, is_within}
 use Rattle.wi_parser.specs.Sheet.{Sheet, content_of}
-use Rattle.wi_engine.specs.Inner.ReadCells.{rectangles_in, occupied_within, is_after, cells_after}
+use Rattle.wi_sheet.specs.Inner.ReadCells.{rectangles_in, occupied_within, is_after, cells_after}
 use Rattle.wi_engine.specs.Inner.Walk.{Task, Enter, Leave, cells_ahead, unread, begun, enters, tasks_at, tasks_in}
 use Rattle.wi_engine.specs.declared.walk.Visit.{Visit}
-use Rattle.wi_engine.proofs.InOrder.{from_first, none_pass}
+use Rattle.wi_sheet.proofs.InOrder.{from_first, none_pass}
 
 -- two tests that are one where a third passes
 alike_within : (w p q : ℕ → Bool) → ((a : ℕ) → w a ≡ true → p a ≡ q a) → (xs : List ℕ) → filter p (filter w xs) ≡ filter q (filter w xs)

@@ -5,7 +5,7 @@ use Rattle.std.specs.Ordering.{nat_cmp}
 use Rattle.std.specs.BTreeMap.{BTreeMap, get, is_at, Updates}
 use Rattle.wi_parser.specs.Sheet.{Sheet, content_of, has_formula}
 use Rattle.wi_graph.specs.Circular.{circular}
-use Rattle.wi_engine.specs.Inner.ReadCells.{rectangles_in, occupied_within}
+use Rattle.wi_sheet.specs.Inner.ReadCells.{rectangles_in, occupied_within}
 use Rattle.wi_engine.specs.Inner.Walk.{tasks_in, Task, Enter, Leave, enters, IsWalk, GoesOn, HasCycle}
 use Rattle.wi_engine.specs.declared.walk.Visit.{Visit}
 use Rattle.wi_engine.specs.declared.walk.Progress.{Progress}

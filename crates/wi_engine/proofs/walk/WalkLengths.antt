@@ -9,7 +9,7 @@ use Rattle.wi_parser.specs.Sheet.{Sheet, content_of, has_formula, cells_with_for
 use Rattle.wi_graph.specs.Reach.{is_one_of}
 use Rattle.wi_graph.proofs.Walks.{same_cell, formula_cell}
 use Rattle.wi_engine.specs.Inner.Walk.{Task, Enter, Leave, enters, tasks_of, tasks_left}
-use Rattle.wi_engine.specs.Inner.ReadCells.{rectangles_in, occupied_within}
+use Rattle.wi_sheet.specs.Inner.ReadCells.{rectangles_in, occupied_within}
 use Rattle.wi_engine.specs.declared.walk.Progress.TheVariants.{Open}
 use Rattle.wi_engine.specs.declared.walk.Progress.{Progress}
 

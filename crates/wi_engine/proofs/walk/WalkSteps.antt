@@ -13,14 +13,14 @@ use Rattle.wi_graph.specs.Reach.{is_one_of, Reaches}
 use Rattle.wi_graph.proofs.Walks.{same_cell}
 use Rattle.wi_graph.proofs.Ends.{ends_open}
 use Rattle.wi_values.proofs.Order.{turn_test, is_at-eq}
-use Rattle.wi_engine.specs.Inner.ReadCells.{rectangles_in, occupied_within}
-use Rattle.wi_engine.specs.Inner.ReadOrder.{MayFollow}
+use Rattle.wi_sheet.specs.Inner.ReadCells.{rectangles_in, occupied_within}
+use Rattle.wi_sheet.specs.Inner.ReadOrder.{MayFollow}
 use Rattle.wi_engine.specs.Inner.Walk.{Task, Enter, Leave, enters, task_cell, leaves, has_task, has_leave, LeadsTo, IsOpen, EachLeave, progress_of, IsWalk, IsBelow}
 use Rattle.wi_engine.specs.declared.walk.Progress.{Progress}
 use Rattle.wi_engine.specs.declared.walk.Progress.TheVariants.{Open, Done}
 use Rattle.wi_engine.proofs.walk.Loops.{loop_circular, reaches_circular, reaches-step}
-use Rattle.wi_engine.proofs.occupied.ReadLists.{occupied_read, read_occupied}
-use Rattle.wi_engine.proofs.walk.ReadOrders.{order-push, order_clear, no_order}
+use Rattle.wi_sheet.proofs.ReadLists.{occupied_read, read_occupied}
+use Rattle.wi_sheet.proofs.ReadOrders.{order-push, order_clear, no_order}
 
 -- ---- tasks one after another
 

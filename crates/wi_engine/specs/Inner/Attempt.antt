@@ -16,7 +16,7 @@ use Rattle.wi_functions.specs.declared.evaluation.Want.{Want}
 use Rattle.wi_functions.specs.declared.evaluation.Want.TheVariants.{Cell, WhatIf}
 use Rattle.wi_sheet.specs.Demand.{formulas_read_here, what_ifs_of}
 use Rattle.wi_engine.specs.Inner.Findings.{found_value, what_if_found}
-use Rattle.wi_engine.specs.Inner.ReadCells.{cells_after}
+use Rattle.wi_sheet.specs.Inner.ReadCells.{cells_after}
 use Rattle.wi_engine.specs.declared.findings.Findings.{Findings}
 
 -- what is known of a cell with this content, of which this was found

@@ -1,18 +1,19 @@
 -- What is so of the frames: cases whose formulas are being valued, each resting on the next.
-use Rattle.std.specs.Prelude.{◌≡◌, ◌==◌, ℕ, ◌+◌, ◌-◌, ◌<◌, ◌||◌, Bool, true, false, List, [], ◌∷◌, Option, Some, Contains}
+use Rattle.std.specs.Prelude.{◌≡◌, ◌==◌, ℕ, ◌-◌, ◌<◌, ◌||◌, Bool, true, false, if◌then◌else◌, List, [], ◌∷◌, Option, Some, Contains}
 use Rattle.wi_values.specs.declared.replacement.Replacement.{Replacement}
 use Rattle.wi_parser.specs.Tree.{Tree}
 use Rattle.wi_parser.specs.declared.content.Content.{Content}
 use Rattle.wi_parser.specs.declared.content.Content.TheVariants.{Formula}
 use Rattle.wi_parser.specs.Sheet.{Sheet, content_of, put_all, has_formula}
+use Rattle.wi_functions.specs.Counts.{Counts}
 use Rattle.wi_functions.specs.declared.evaluation.Want as want
 use Rattle.wi_cache.specs.declared.key.Key.{Key}
 use Rattle.wi_graph.specs.Circular.{circular}
 use Rattle.wi_graph.specs.Reach.{is_one_of}
 use Rattle.wi_sheet.specs.CellValue.{cell_value, what_if_value}
 use Rattle.wi_sheet.specs.Demand.{Case, same_case, reaching, reads_here, of_formula}
-use Rattle.wi_sheet.specs.Inner.Spending.{RestsOn, IsClosed, left}
-use Rattle.wi_engine.specs.Inner.Rank.{reach_rank}
+use Rattle.wi_sheet.specs.Inner.Spending.{RestsOn, IsClosed, Table, cost, plus}
+use Rattle.wi_sheet.specs.Inner.Rank.{reach_rank}
 use Rattle.wi_engine.specs.Inner.MemoState.{MemoState}
 use Rattle.wi_engine.specs.Inner.Findings.{AreAllRight}
 use Rattle.wi_engine.specs.Inner.Attempt.{AsksAt, IsLacking, lacking}
@@ -143,14 +144,19 @@ BottomIs root [] f = case_at f.key ≡ root
 BottomIs root (g ∷ fs) f = case_at g.key ≡ root
 
 -- found, or being found in one of these frames
-abbrev pub taken : (ℕ → List Replacement → Bool) → List Frame → ℕ → List Replacement → Bool
+abbrev pub taken : Table → List Frame → Table
 taken found [] c w = found c w
 taken found (f ∷ fs) c w = taken found fs c w || same_case (case_at f.key) (c, w)
 
-abbrev pub all_spare : (Frame → ℕ) → List Frame → ℕ
-all_spare of [] = 0
-all_spare of (f ∷ fs) = of f + all_spare of fs
+-- what a frame may count: an evaluation, where it is done, and the restarts that are spare
+abbrev pub frame_cost : Sheet → Frame → Bool → Counts
+frame_cost s f done = record { evaluations = if done then 1 else 0; restarts = spare s f }
+
+-- and these together, where all are done
+abbrev pub frames_cost : Sheet → List Frame → Counts
+frames_cost s [] = record { evaluations = 0; restarts = 0 }
+frames_cost s (f ∷ fs) = plus (frame_cost s f true) (frames_cost s fs)
 
 -- what was counted, with what the frames and the cases not yet taken may still count
-abbrev pub at_most : (Case → ℕ) → (Frame → ℕ) → (ℕ → List Replacement → Bool) → List Frame → ℕ → List Case → ℕ
-at_most weight of found fs n ks = n + (all_spare of fs + left weight (taken found fs) ks)
+abbrev pub at_most : Sheet → Table → List Frame → Counts → List Case → Counts
+at_most s found fs now ks = plus now (plus (frames_cost s fs) (cost s (taken found fs) ks))

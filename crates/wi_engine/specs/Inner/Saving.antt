@@ -3,11 +3,9 @@ use Rattle.std.specs.Prelude.{◌≡◌, ◌⊎◌, ◌+◌, ◌-◌, ◌^◌, �
 use Rattle.std.specs.List.{IsDistinct}
 use Rattle.wi_values.specs.declared.replacement.Replacement.{Replacement}
 use Rattle.wi_parser.specs.Sheet.{Sheet, content_of, put_all, has_formula}
-use Rattle.wi_functions.specs.Counts.{Counts}
 use Rattle.wi_cache.specs.declared.key.Key.{Key}
 use Rattle.wi_cache.specs.Entries.{same_key}
-use Rattle.wi_sheet.specs.Demand.{Case, reaching, wants}
-use Rattle.wi_sheet.specs.Settled.{RestsOnKept}
+use Rattle.wi_sheet.specs.Demand.{Case, reaching}
 use Rattle.wi_sheet.specs.Inner.Spending.{IsClosed, left}
 use Rattle.wi_engine.specs.Inner.MemoState.{MemoState}
 
@@ -23,27 +21,6 @@ KeepsFound m = (c : ℕ) (w : List Replacement) → m.found c w ≡ true → m.k
 -- for those of the list that are not.
 abbrev pub WhereRoom : Sheet → (List Case → Type 0) → MemoState → (List Case → Type 0) → Type 0
 WhereRoom s Has m P = (ks : List Case) → IsClosed s ks → Has ks → KeepsFound m → not_kept m ks ≤ m.room → P ks
-
--- for each such list no more was counted than its cases weigh that were not kept
-abbrev pub CountsUnkept : Sheet → (List Case → Type 0) → (Case → ℕ) → MemoState → ℕ → ℕ → Type 0
-CountsUnkept s Has weight old before after = WhereRoom s Has old (λ ks. after ≤ before + left weight old.kept ks)
-
--- No more was evaluated than those of the cases that came to be kept, and begun again than their formulas may ask for, and as many
--- values came to be kept as were evaluated. There is still room for the other cases, nothing was given up, of whatever generation,
--- and each that came rests on kept ones.
-pub record Saves (s : Sheet) (old new : MemoState) (ks : List Case) (before after : Counts) : Type 0 where
-  pub counted : after.evaluations + not_kept new ks ≤ before.evaluations + not_kept old ks
-  pub restarted : after.restarts + left (wants s) new.kept ks ≤ before.restarts + left (wants s) old.kept ks
-  pub added : after.evaluations + new.room ≤ before.evaluations + old.room
-  pub room : not_kept new ks ≤ new.room
-  pub stays : (c : ℕ) (w : List Replacement) → old.kept c w ≡ true → new.kept c w ≡ true
-  pub stand : (k : Key) → old.stands k ≡ true → new.stands k ≡ true
-  pub found : KeepsFound new
-  pub rests : (c : ℕ) (w : List Replacement) → new.kept c w ≡ true → old.kept c w ≡ false → RestsOnKept s new.kept (c, w)
-
--- so for each such list
-abbrev pub SavesAll : Sheet → (List Case → Type 0) → MemoState → MemoState → Counts → Counts → Type 0
-SavesAll s Has old new before after = WhereRoom s Has old (λ ks. Saves s old new ks before after)
 
 -- those of these keys under which no value stands
 abbrev pub missing : MemoState → List Key → List Key

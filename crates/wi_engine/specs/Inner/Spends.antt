@@ -4,28 +4,11 @@ use Rattle.wi_values.specs.declared.replacement.Replacement.{Replacement}
 use Rattle.wi_parser.specs.Sheet.{Sheet}
 use Rattle.wi_functions.specs.Counts.{Counts}
 use Rattle.wi_cache.specs.declared.key.Key.{Key}
-use Rattle.wi_sheet.specs.Demand.{Case, wants}
+use Rattle.wi_sheet.specs.Demand.{Case}
 use Rattle.wi_sheet.specs.Settled.{RestsOnKept}
-use Rattle.wi_sheet.specs.Inner.Spending.{IsClosed, NeverFall, left}
+use Rattle.wi_sheet.specs.Inner.Spending.{IsClosed, NeverFall, SpentOn}
 use Rattle.wi_engine.specs.Inner.MemoState.{MemoState, IsMemoOf}
 use Rattle.wi_engine.specs.Inner.Saving.{not_kept, KeepsFound, WhereRoom, TakesNoMore, GivesUpWhenFull}
-
--- which values a table has: those that were found, or those that are kept
-abbrev pub Table : Type 0
-Table = ℕ → List Replacement → Bool
-
--- what the cases cost that are not in a table: an evaluation each, and the restarts for which their formulas may ask
-abbrev pub cost : Sheet → Table → List Case → Counts
-cost s t ks = record { evaluations = left (λ k. 1) t ks; restarts = left (wants s) t ks }
-
-abbrev pub plus : Counts → Counts → Counts
-plus a b = record { evaluations = a.evaluations + b.evaluations; restarts = a.restarts + b.restarts }
-
--- Of some cases no more was spent than all cost that were not in the table, and where it was done, no more than those cost
--- that came into it.
-pub record SpentOn (s : Sheet) (old new : Table) (before after : Counts) (done : Bool) (ks : List Case) : Type 0 where
-  pub within : NeverFall after (plus before (cost s old ks))
-  pub paid : done ≡ true → NeverFall (plus after (cost s new ks)) (plus before (cost s old ks))
 
 -- As many values came to be kept as were evaluated. There is still room for the other cases, nothing was given up, of
 -- whatever generation, and each that came rests on kept ones.

@@ -1,5 +1,5 @@
 -- What a step of a valuation gives, and what it leaves.
-use Rattle.std.specs.Prelude.{◌≡◌, ◌+◌, ◌≤◌, ℕ, Bool, true, if◌then◌else◌, List, All, map}
+use Rattle.std.specs.Prelude.{◌≡◌, ◌+◌, ◌≤◌, ℕ, Bool, true, List, All, map}
 use Rattle.wi_values.specs.declared.value.Value.{Value}
 use Rattle.wi_values.specs.declared.replacement.Replacement.{Replacement}
 use Rattle.wi_parser.specs.declared.expr.Pair.{Pair}
@@ -7,15 +7,15 @@ use Rattle.wi_parser.specs.View.{pair_of}
 use Rattle.wi_parser.specs.Sheet.{Sheet, put_all}
 use Rattle.wi_lookup.specs.Assignment.{addresses}
 use Rattle.wi_functions.specs.Counts.{Counts, one_more}
+use Rattle.wi_cache.specs.declared.key.Key.{Key}
 use Rattle.wi_sheet.specs.CellValue.{cell_value}
 use Rattle.wi_sheet.specs.Demand.{with_what_if}
 use Rattle.wi_sheet.specs.Settled.{IsSettled, RestsOnKept}
-use Rattle.wi_sheet.specs.Inner.Spending.{NeverFall}
+use Rattle.wi_sheet.specs.Inner.Spending.{NeverFall, Table, plus}
 use Rattle.wi_engine.specs.Inner.MemoState.{MemoState}
-use Rattle.wi_engine.specs.Inner.Frames.{Awaits, IsFrame, case_at, spare}
+use Rattle.wi_engine.specs.Inner.Frames.{Awaits, IsFrame, case_at, frame_cost, spare}
 use Rattle.wi_engine.specs.Inner.Saving.{KeepsFound}
 use Rattle.wi_engine.specs.Inner.SettledFrames.{IsFrameSettled}
-use Rattle.wi_engine.specs.Inner.Spends.{plus}
 use Rattle.wi_engine.specs.declared.frame.Frame.{Frame}
 use Rattle.wi_engine.specs.declared.frame.Asked as asked
 use Rattle.wi_engine.specs.declared.frame.Inputs as inputs
@@ -68,11 +68,7 @@ pub record FrameSteps (s : Sheet) (old new : MemoState) (before after : Frame) (
   pub settled : done ≡ true → KeepsFound old → IsFrameSettled s old.kept before → IsFrameSettled s old.kept after
   pub fewer : done ≡ true → values + spare s after ≤ spare s before
 
--- what a frame may count: an evaluation, where it is done, and the restarts that are spare
-abbrev pub frame_cost : Sheet → Frame → Bool → Counts
-frame_cost s f done = record { evaluations = if done then 1 else 0; restarts = spare s f }
-
--- a step of a frame counts no more than that
+-- a step of a frame counts no more than the frame may
 pub record FrameCounts (s : Sheet) (f : Frame) (before after : Counts) (done : Bool) : Type 0 where
   pub rises : NeverFall before after
   pub within : NeverFall after (plus before (frame_cost s f done))
@@ -93,3 +89,10 @@ pub record IsFrameValue (s : Sheet) (m : MemoState) (f : Frame) (v : Value) : Ty
 pub record IsWorldWith (s : Sheet) (m : MemoState) (w : List Replacement) (pairs : List Pair) (v : List Replacement) : Type 0 where
   pub world : v ≡ with_what_if s w (map addresses (map pair_of pairs))
   pub settled : KeepsFound m → All (λ p. IsSettled s m.kept w p.replacement.at) pairs
+
+-- the same frame, which has taken in the value of a key, where that is done
+pub record FrameTakes (s : Sheet) (k : Key) (before after : Frame) (done : Bool) : Type 0 where
+  pub key : after.key ≡ before.key
+  pub frame : done ≡ true → (m : MemoState) → IsFrame s m before → IsFrame s m after
+  pub fewer : done ≡ true → spare s after ≤ spare s before
+  pub settled : done ≡ true → (kept : Table) → kept k.cell k.world ≡ true → IsFrameSettled s kept before → IsFrameSettled s kept after

@@ -8,8 +8,8 @@ use Rattle.wi_parser.specs.Sheet.{Sheet, content_of, has_formula, cells_with_for
 use Rattle.wi_parser.specs.Reads.{content_reads}
 use Rattle.wi_graph.specs.Circular.{circular}
 use Rattle.wi_graph.specs.Reach.{is_one_of, Reaches}
-use Rattle.wi_engine.specs.Inner.ReadCells.{rectangles_in, occupied_within, cells_after}
-use Rattle.wi_engine.specs.Inner.ReadOrder.{IsReadOrder}
+use Rattle.wi_sheet.specs.Inner.ReadCells.{rectangles_in, occupied_within, cells_after}
+use Rattle.wi_sheet.specs.Inner.ReadOrder.{IsReadOrder}
 use Rattle.wi_engine.specs.declared.walk.Progress.{Progress}
 use Rattle.wi_engine.specs.declared.walk.Progress.TheVariants.{Open, Done}
 use Rattle.wi_engine.specs.declared.walk.Visit.{Visit}

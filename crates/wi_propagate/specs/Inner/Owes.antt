@@ -1,15 +1,8 @@
 -- What a question over kept values owes.
-use Rattle.std.specs.Prelude.{◌≡◌, Bool, true, List, length, sum_by}
-use Rattle.wi_parser.specs.Sheet.{Sheet}
-use Rattle.wi_functions.specs.Counts.{Counts}
-use Rattle.wi_sheet.specs.Demand.{Case, wants}
-use Rattle.wi_sheet.specs.Inner.Spending.{NeverFall}
-use Rattle.wi_engine.specs.Inner.Spends.{plus}
+use Rattle.std.specs.Prelude.{◌≡◌, Bool, true, List}
+use Rattle.wi_sheet.specs.Demand.{Case}
+use Rattle.wi_sheet.specs.Inner.Spending.{NeverFall, plus, price}
 use Rattle.wi_propagate.specs.KeptSheet.{KeptSheet, unkept, HasRoomFor, KeepsAll, KeepsNoMore, KeepsWhileRoom}
-
--- what these cases cost
-abbrev pub price : Sheet → List Case → Counts
-price s ks = record { evaluations = length ks; restarts = sum_by (wants s) ks }
 
 -- of a question that demands these cases, also where memory ran out, and where it was done
 pub record Owes (old new : KeptSheet) (cases : List Case) (done : Bool) : Type 0 where

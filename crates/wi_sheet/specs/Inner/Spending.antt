@@ -1,11 +1,11 @@
 -- How much is counted where values are found.
-use Rattle.std.specs.Prelude.{◌≡◌, ℕ, ◌+◌, ◌≤◌, Bool, true, if◌then◌else◌, List, [], ◌∷◌, Some, All, Contains}
+use Rattle.std.specs.Prelude.{◌≡◌, ℕ, ◌+◌, ◌≤◌, Bool, true, if◌then◌else◌, List, [], ◌∷◌, Some, All, Contains, length, sum_by}
 use Rattle.wi_values.specs.declared.replacement.Replacement.{Replacement}
 use Rattle.wi_parser.specs.Tree.{Tree}
 use Rattle.wi_parser.specs.declared.content.Content.TheVariants.{Formula}
 use Rattle.wi_parser.specs.Sheet.{Sheet, content_of, put_all, has_formula}
 use Rattle.wi_functions.specs.Counts.{Counts}
-use Rattle.wi_sheet.specs.Demand.{Case, case_of, with_what_if, rests_on}
+use Rattle.wi_sheet.specs.Demand.{Case, case_of, with_what_if, rests_on, wants}
 
 -- a case rests on another: its formula reads that one's cell as the sheet stands, or has a what-if of it, and that one has a
 -- formula too
@@ -19,19 +19,14 @@ pub record RestsOn (s : Sheet) (k j : Case) : Type 0 where
 abbrev pub IsClosed : Sheet → List Case → Type 0
 IsClosed s ks = (k j : Case) → Contains ks k → RestsOn s k j → Contains ks j
 
--- the weights of the cases that are not found yet
-abbrev pub left : (Case → ℕ) → (ℕ → List Replacement → Bool) → List Case → ℕ
+-- which values a table has: those that were found, or those that are kept
+abbrev pub Table : Type 0
+Table = ℕ → List Replacement → Bool
+
+-- the weights of the cases that are not in a table
+abbrev pub left : (Case → ℕ) → Table → List Case → ℕ
 left weight found [] = 0
 left weight found (k ∷ ks) = (if found k.0 k.1 then 0 else weight k) + left weight found ks
-
--- For each closed list of cases that has what it is to have, no more was counted than its cases weigh that were not found
--- before.
-abbrev pub CountsAtMost : Sheet → (List Case → Type 0) → (Case → ℕ) → (ℕ → List Replacement → Bool) → ℕ → ℕ → Type 0
-CountsAtMost s Has weight found before after = (ks : List Case) → IsClosed s ks → Has ks → after ≤ before + left weight found ks
-
--- For each such list, no more was counted than those of its cases weigh that were found meanwhile.
-abbrev pub CountsFound : Sheet → (List Case → Type 0) → (Case → ℕ) → (ℕ → List Replacement → Bool) → (ℕ → List Replacement → Bool) → ℕ → ℕ → Type 0
-CountsFound s Has weight found next before after = (ks : List Case) → IsClosed s ks → Has ks → after + left weight next ks ≤ before + left weight found ks
 
 -- The list has the case of the cell, if the cell has a formula under the replacements.
 abbrev pub HasCase : Sheet → List Replacement → ℕ → List Case → Type 0
@@ -48,3 +43,20 @@ HasEntry s w f pairs ks = HasReplacing s w pairs ks × HasCase s (with_what_if s
 -- neither count falls
 abbrev pub NeverFall : Counts → Counts → Type 0
 NeverFall before after = (before.evaluations ≤ after.evaluations) × (before.restarts ≤ after.restarts)
+
+-- what cases cost: an evaluation each, and the restarts for which their formulas may ask
+abbrev pub price : Sheet → List Case → Counts
+price s ks = record { evaluations = length ks; restarts = sum_by (wants s) ks }
+
+-- and those of them that are not in a table
+abbrev pub cost : Sheet → Table → List Case → Counts
+cost s t ks = record { evaluations = left (λ k. 1) t ks; restarts = left (wants s) t ks }
+
+abbrev pub plus : Counts → Counts → Counts
+plus a b = record { evaluations = a.evaluations + b.evaluations; restarts = a.restarts + b.restarts }
+
+-- Of some cases no more was spent than all cost that were not in the table, and where it was done, no more than those cost
+-- that came into it.
+pub record SpentOn (s : Sheet) (old new : Table) (before after : Counts) (done : Bool) (ks : List Case) : Type 0 where
+  pub within : NeverFall after (plus before (cost s old ks))
+  pub paid : done ≡ true → NeverFall (plus after (cost s new ks)) (plus before (cost s old ks))

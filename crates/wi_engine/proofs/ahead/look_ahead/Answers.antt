@@ -1,8 +1,7 @@
-use Rattle.std.proofs.Common.{refl, ap, sym, subst, ◌∙◌, arith}
+use Rattle.std.proofs.Common.{refl, ap, sym, subst, arith}
 use Rattle.wi_parser.specs.Sheet.{Sheet, has_formula}
 use Rattle.wi_sheet.proofs.Bounds.{put_formula}
-use Rattle.wi_engine.specs.Inner.Frames.{MayBeRead, IsUnvaluedFormula}
-use Rattle.wi_engine.specs.Inner.Saving.{NeedsNoEvaluation}
+use Rattle.wi_engine.specs.Inner.Frames.{MayBeRead}
 use Rattle.wi_engine.proofs.ahead.Alone.{asks_at, read_at, awaits_alone}
 use Rattle.wi_engine.proofs.engine.Settling.{may_read_here, next_here}
 use Rattle.wi_engine.proofs.engine.Steps.{steps_none, steps_err, steps_less, steps_wait, steps_cell}

@@ -1,21 +1,17 @@
 use Rattle.std.proofs.Common.{◌∙◌, refl, rules, sym}
-use Rattle.wi_engine.proofs.engine.Taking.{taken_frame, taken_settled, taken_spare}
+use Rattle.wi_engine.proofs.engine.Taking.{takes_none, takes_err, takes_value}
 use Rattle.wi_engine.proofs.engine.take_in.Goals as goal
 
-pub returns-clause-frame : goal.returns-clause-frame
-returns-clause-frame c =
-    let waits = c.wait_for_others.ensures in
-    taken_frame c.args.store.now.sheet c.args.frame.now c.wait_for_others.new.frame c.args.key.now c.add_cell.new.self c.in-Cells.at c.in-Cells.others c.in_ok-shown.shown (sym c.waits_for.ensures ∙ c.if-not-waits_for.false) (search rules) c.in_ok-add_cell.ensures.ok waits.key waits.found
-    waits.formula (c.in_ok-shown.ensures ∙ c.requires.right) (waits.awaits refl)
+pub returns-then-not-waits_for : goal.returns-then-not-waits_for
+returns-then-not-waits_for c = takes_none
 
-pub returns-clause-spare : goal.returns-clause-spare
-returns-clause-spare c =
+pub returns : goal.returns
+returns c =
     let waits = c.wait_for_others.ensures in
-    taken_spare c.args.store.now.sheet c.args.frame.now c.wait_for_others.new.frame c.args.key.now c.add_cell.new.self c.in-Cells.at c.in-Cells.others c.in_ok-shown.shown (sym c.waits_for.ensures ∙ c.if-not-waits_for.false) (search rules) c.in_ok-add_cell.ensures.ok waits.key waits.found
-    c.requires.awaits
+    takes_value c.args.store.now.sheet c.args.frame.now c.wait_for_others.new.frame c.args.key.now c.add_cell.new.self c.in-Cells.at c.in-Cells.others c.in_ok-shown.shown (sym c.waits_for.ensures ∙ c.if-not-waits_for.false) (search rules) c.in_ok-add_cell.ensures.ok waits.key waits.found waits.formula (waits.awaits refl) c.requires.own (c.in_ok-shown.ensures ∙ c.requires.right) c.requires.awaits
 
-pub returns-clause-settled : goal.returns-clause-settled
-returns-clause-settled c =
-    let waits = c.wait_for_others.ensures in
-    taken_settled c.args.store.now.sheet c.args.frame.now c.wait_for_others.new.frame c.args.key.now c.add_cell.new.self c.in-Cells.at c.in-Cells.others c.in_ok-shown.shown (sym c.waits_for.ensures ∙ c.if-not-waits_for.false) (search rules) c.in_ok-add_cell.ensures.ok waits.key waits.found
-    c.requires.own
+pub returns-in_err-shown : goal.returns-in_err-shown
+returns-in_err-shown c = takes_err c.from_residual.result c.from_residual.ensures.0 refl
+
+pub returns-in_err-add_cell : goal.returns-in_err-add_cell
+returns-in_err-add_cell c = takes_err c.from_residual-in_err-add_cell.result c.from_residual-in_err-add_cell.ensures.0 refl

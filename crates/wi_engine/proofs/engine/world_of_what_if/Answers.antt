@@ -9,7 +9,7 @@ use Rattle.wi_sheet.proofs.Overrides.{replaced_world}
 use Rattle.wi_engine.proofs.engine.Awaiting.{input_unvalued}
 use Rattle.wi_sheet.specs.Settled.{IsSettled}
 use Rattle.wi_engine.proofs.engine.FoundSettled.{settled_now}
-use Rattle.wi_engine.proofs.engine.Inputs.{one_more_input}
+use Rattle.wi_sheet.proofs.Inputs.{one_more_input}
 use Rattle.wi_engine.proofs.engine.world_of_what_if.Goals as goal
 
 pub loop-pair-preserved : goal.loop-pair-preserved

@@ -1,5 +1,5 @@
 use Rattle.std.proofs.Common.{◌≡◌, []}
-use Rattle.wi_engine.specs.Inner.ReadCells.{cells_after}
+use Rattle.wi_sheet.specs.Inner.ReadCells.{cells_after}
 use Rattle.wi_engine.proofs.walk.Cursors.{next_if_some, next_if_none, none_after, whichever}
 use Rattle.wi_engine.proofs.occupied.next_within.Goals as goal
 

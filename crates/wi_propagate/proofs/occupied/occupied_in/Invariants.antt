@@ -1,6 +1,6 @@
 use Rattle.std.proofs.Common.{◌≡◌, ◌++◌}
 use Rattle.wi_values.proofs.Within.{places_left}
-use Rattle.wi_propagate.proofs.CellsAhead.{occupied, cells_ahead}
+use Rattle.wi_sheet.proofs.CellsAhead.{occupied, cells_ahead}
 use Rattle.wi_propagate.proofs.occupied.occupied_in.Given as goal
 
 -- what is found and what is ahead are all of them

@@ -2,12 +2,11 @@ use Rattle.std.proofs.Common.{◌≡◌, true, false, sym, ◌∙◌}
 use Rattle.std.proofs.lemmas.Result.{IfOk-weaker}
 use Rattle.std.specs.List.{list_any}
 use Rattle.wi_graph.specs.Circular.{circular}
-use Rattle.wi_sheet.specs.Demand.{wants}
-use Rattle.wi_sheet.proofs.Counting.{never_fall-same}
-use Rattle.wi_sheet.proofs.TableEntries.{test_of_cells, entry_circular}
-use Rattle.wi_engine.proofs.Spent.{spends_evaluations, spends_restarts}
-use Rattle.wi_propagate.proofs.Showing.{grown_count, put_alone, nothing_found}
-use Rattle.wi_propagate.proofs.ShowingEntries.{replacing_readable, formula_cell_readable, entry_value, entry_at_most, entry_evaluations}
+use Rattle.wi_sheet.specs.TableEntry.{entry_demanded}
+use Rattle.wi_sheet.proofs.Counting.{never_fall-same, spent_nothing, spent_price}
+use Rattle.wi_sheet.proofs.Overrides.{put_alone}
+use Rattle.wi_sheet.proofs.TableEntries.{test_of_cells, table_closed, entry_circular, entry_has, entry_shown}
+use Rattle.wi_propagate.proofs.ShowingEntries.{open_cells_of, replacing_readable, formula_cell_readable}
 use Rattle.wi_propagate.proofs.table_entry.table_entry.Goals as goal
 
 pub returns-in_default-clause-value : goal.returns-in_default-clause-value
@@ -29,58 +28,38 @@ returns-clause-value c =
     let s = c.args.store.now.sheet in
     let clear : list_any (circular s) c.deref.result.now ≡ false = sym (rw c.in-Some.is at c.in_ok-order.ensures.circular) in
     let same = put_alone c.in_ok-world.world c.new.result c.args.put.now c.requires c.new.ensures c.in_ok-world.ensures.list in
-    IfOk-weaker c.open_entry-result.result _ _
-    (λ v h. entry_value s c.args.formula_cell c.args.pairs.now c.deref.result.now (c.deref.ensures.value ∙ c.in_ok-cells.ensures) clear c.in_ok-world.world c.args.put.now v c.requires same h)
-    c.open_entry-result.ensures.value
+    let open_cells = open_cells_of s c.args.formula_cell c.args.pairs.now c.deref.result.now (c.deref.ensures.value ∙ c.in_ok-cells.ensures) clear in
+    IfOk-weaker c.open_entry-result.result _ _ (λ v h. entry_shown s c.in_ok-world.world c.args.put.now c.args.formula_cell c.args.pairs.now v open_cells same c.requires h) c.open_entry-result.ensures.value
 
-pub returns-clause-evaluations : goal.returns-clause-evaluations
-returns-clause-evaluations c =
+pub returns-clause-within : goal.returns-clause-within
+returns-clause-within c =
     let s = c.args.store.now.sheet in
     let clear : list_any (circular s) c.deref.result.now ≡ false = sym (rw c.in-Some.is at c.in_ok-order.ensures.circular) in
     let same = put_alone c.in_ok-world.world c.new.result c.args.put.now c.requires c.new.ensures c.in_ok-world.ensures.list in
-    entry_evaluations s c.args.formula_cell c.args.pairs.now c.deref.result.now (c.deref.ensures.value ∙ c.in_ok-cells.ensures) clear c.in_ok-world.world c.args.put.now c.args.meter.now.evaluations c.open_entry-result.new.question.meter.evaluations same
-    (nothing_found s c.in-Some.order.items c.new-memo.result _ (λ k. 1) c.args.meter.now.evaluations c.open_entry-result.new.question.meter.evaluations c.new-memo.ensures.value (spends_evaluations c.open_entry-result.ensures.spends))
+    let open_cells = open_cells_of s c.args.formula_cell c.args.pairs.now c.deref.result.now (c.deref.ensures.value ∙ c.in_ok-cells.ensures) clear in
+    let has = entry_has s c.in_ok-world.world c.args.put.now c.args.formula_cell c.args.pairs.now open_cells same in
+    spent_price (c.open_entry-result.ensures.spends.on_found (entry_demanded s c.args.put.now c.args.formula_cell c.args.pairs.now) (table_closed s c.args.put.now c.args.formula_cell c.args.pairs.now) has)
 
-pub returns-clause-restarts : goal.returns-clause-restarts
-returns-clause-restarts c =
-    let s = c.args.store.now.sheet in
-    let clear : list_any (circular s) c.deref.result.now ≡ false = sym (rw c.in-Some.is at c.in_ok-order.ensures.circular) in
-    let same = put_alone c.in_ok-world.world c.new.result c.args.put.now c.requires c.new.ensures c.in_ok-world.ensures.list in
-    entry_at_most s c.args.formula_cell c.args.pairs.now c.deref.result.now (c.deref.ensures.value ∙ c.in_ok-cells.ensures) clear c.in_ok-world.world c.args.put.now (wants s) c.args.meter.now.restarts c.open_entry-result.new.question.meter.restarts same
-    (nothing_found s c.in-Some.order.items c.new-memo.result _ (wants s) c.args.meter.now.restarts c.open_entry-result.new.question.meter.restarts c.new-memo.ensures.value (spends_restarts c.open_entry-result.ensures.spends))
-
-pub returns-in_err-cells-clause-evaluations : goal.returns-in_err-cells-clause-evaluations
-returns-in_err-cells-clause-evaluations c = grown_count c.args.meter.now.evaluations _
-
-pub returns-in_err-cells-clause-restarts : goal.returns-in_err-cells-clause-restarts
-returns-in_err-cells-clause-restarts c = grown_count c.args.meter.now.restarts _
+pub returns-in_err-cells-clause-within : goal.returns-in_err-cells-clause-within
+returns-in_err-cells-clause-within c = spent_nothing _ _
 
 pub returns-in_err-cells-clause-counts : goal.returns-in_err-cells-clause-counts
 returns-in_err-cells-clause-counts c = never_fall-same c.args.meter.now
 
-pub returns-in_err-order-clause-evaluations : goal.returns-in_err-order-clause-evaluations
-returns-in_err-order-clause-evaluations c = grown_count c.args.meter.now.evaluations _
-
-pub returns-in_err-order-clause-restarts : goal.returns-in_err-order-clause-restarts
-returns-in_err-order-clause-restarts c = grown_count c.args.meter.now.restarts _
+pub returns-in_err-order-clause-within : goal.returns-in_err-order-clause-within
+returns-in_err-order-clause-within c = spent_nothing _ _
 
 pub returns-in_err-order-clause-counts : goal.returns-in_err-order-clause-counts
 returns-in_err-order-clause-counts c = never_fall-same c.args.meter.now
 
-pub returns-in_default-clause-evaluations : goal.returns-in_default-clause-evaluations
-returns-in_default-clause-evaluations c = grown_count c.args.meter.now.evaluations _
-
-pub returns-in_default-clause-restarts : goal.returns-in_default-clause-restarts
-returns-in_default-clause-restarts c = grown_count c.args.meter.now.restarts _
+pub returns-in_default-clause-within : goal.returns-in_default-clause-within
+returns-in_default-clause-within c = spent_nothing _ _
 
 pub returns-in_default-clause-counts : goal.returns-in_default-clause-counts
 returns-in_default-clause-counts c = never_fall-same c.args.meter.now
 
-pub returns-in_err-world-clause-evaluations : goal.returns-in_err-world-clause-evaluations
-returns-in_err-world-clause-evaluations c = grown_count c.args.meter.now.evaluations _
-
-pub returns-in_err-world-clause-restarts : goal.returns-in_err-world-clause-restarts
-returns-in_err-world-clause-restarts c = grown_count c.args.meter.now.restarts _
+pub returns-in_err-world-clause-within : goal.returns-in_err-world-clause-within
+returns-in_err-world-clause-within c = spent_nothing _ _
 
 pub returns-in_err-world-clause-counts : goal.returns-in_err-world-clause-counts
 returns-in_err-world-clause-counts c = never_fall-same c.args.meter.now

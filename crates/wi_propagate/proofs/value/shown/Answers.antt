@@ -1,10 +1,11 @@
 use Rattle.std.proofs.Common.{◌≡◌, true, false, sym}
 use Rattle.std.proofs.lemmas.Result.{IfOk-weaker}
 use Rattle.wi_graph.specs.Circular.{circular}
-use Rattle.wi_sheet.specs.Demand.{wants}
-use Rattle.wi_sheet.proofs.Steps.{shown_circular}
-use Rattle.wi_engine.proofs.Spent.{spends_evaluations, spends_restarts}
-use Rattle.wi_propagate.proofs.Showing.{put_alone, shown_value, shown_at_most, shown_evaluations, nothing_found}
+use Rattle.wi_sheet.specs.Demand.{case_of, demanded}
+use Rattle.wi_sheet.proofs.Cases.{demands_itself, different_closed}
+use Rattle.wi_sheet.proofs.Counting.{spent_nothing, spent_price}
+use Rattle.wi_sheet.proofs.Overrides.{put_alone}
+use Rattle.wi_sheet.proofs.Steps.{shown_circular, shown_value}
 use Rattle.wi_propagate.proofs.value.shown.Goals as goal
 
 pub returns-in_default-clause-value : goal.returns-in_default-clause-value
@@ -18,16 +19,18 @@ returns-clause-value c =
     let same = put_alone c.in_ok-world.world c.new.result c.args.put.now c.requires c.new.ensures c.in_ok-world.ensures.list in
     IfOk-weaker c.value-result.result _ _ (λ v h. shown_value c.args.store.now.sheet c.in_ok-world.world c.args.put.now c.args.at v leaf same h) c.value-result.ensures.value
 
-pub returns-clause-evaluations : goal.returns-clause-evaluations
-returns-clause-evaluations c =
-    let leaf : circular c.args.store.now.sheet c.args.at ≡ false = sym (rw c.in-Some.is at c.in_ok-order.ensures.circular) in
+pub returns-clause-within : goal.returns-clause-within
+returns-clause-within c =
+    let s = c.args.store.now.sheet in
+    let leaf : circular s c.args.at ≡ false = sym (rw c.in-Some.is at c.in_ok-order.ensures.circular) in
     let same = put_alone c.in_ok-world.world c.new.result c.args.put.now c.requires c.new.ensures c.in_ok-world.ensures.list in
-    shown_evaluations c.args.store.now.sheet c.in_ok-world.world c.args.put.now c.args.at c.args.meter.now.evaluations c.value-result.new.self.meter.evaluations leaf same
-    (nothing_found c.args.store.now.sheet c.in-Some.order.items c.new-memo.result _ (λ k. 1) c.args.meter.now.evaluations c.value-result.new.self.meter.evaluations c.new-memo.ensures.value (spends_evaluations c.value-result.ensures.spends))
+    spent_price (c.value-result.ensures.spends.on_found (demanded s c.args.put.now c.args.at) (different_closed s (case_of s c.args.put.now c.args.at)) (demands_itself s c.in_ok-world.world c.args.put.now c.args.at leaf same))
 
-pub returns-clause-restarts : goal.returns-clause-restarts
-returns-clause-restarts c =
-    let leaf : circular c.args.store.now.sheet c.args.at ≡ false = sym (rw c.in-Some.is at c.in_ok-order.ensures.circular) in
-    let same = put_alone c.in_ok-world.world c.new.result c.args.put.now c.requires c.new.ensures c.in_ok-world.ensures.list in
-    shown_at_most c.args.store.now.sheet c.in_ok-world.world c.args.put.now c.args.at (wants c.args.store.now.sheet) c.args.meter.now.restarts c.value-result.new.self.meter.restarts leaf same
-    (nothing_found c.args.store.now.sheet c.in-Some.order.items c.new-memo.result _ (wants c.args.store.now.sheet) c.args.meter.now.restarts c.value-result.new.self.meter.restarts c.new-memo.ensures.value (spends_restarts c.value-result.ensures.spends))
+pub returns-in_default-clause-within : goal.returns-in_default-clause-within
+returns-in_default-clause-within c = spent_nothing _ _
+
+pub returns-in_err-order-clause-within : goal.returns-in_err-order-clause-within
+returns-in_err-order-clause-within c = spent_nothing _ _
+
+pub returns-in_err-world-clause-within : goal.returns-in_err-world-clause-within
+returns-in_err-world-clause-within c = spent_nothing _ _

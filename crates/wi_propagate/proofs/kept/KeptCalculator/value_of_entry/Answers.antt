@@ -5,11 +5,11 @@ use Rattle.wi_graph.specs.Circular.{circular}
 use Rattle.wi_sheet.specs.Inner.Spending.{HasEntry}
 use Rattle.wi_sheet.specs.TableEntry.{table_entry, entry_demanded}
 use Rattle.wi_sheet.specs.Settled.{IsWhatIfSettled}
-use Rattle.wi_sheet.proofs.TableEntries.{table_closed}
+use Rattle.wi_sheet.proofs.TableEntries.{table_closed, entry_has, entry_shown}
 use Rattle.wi_propagate.specs.KeptSheet.{KeptSheet, HasRoomFor, is_kept}
 use Rattle.wi_propagate.specs.Inner.Cones.{AreAllCones}
-use Rattle.wi_propagate.specs.Inner.Keeping.{kept_sheet, begun}
-use Rattle.wi_propagate.proofs.Questions.{begun_is, begun_right, begun_within, begun_one_each, may_be_read, right_then, asked_where, asked_settled, entry_has, circular_entry, circular_clash, open_cells, entry_shown}
+use Rattle.wi_propagate.specs.Inner.Keeping.{kept_sheet, begun, state_in}
+use Rattle.wi_propagate.proofs.Questions.{begun_is, begun_right, begun_within, begun_one_each, may_be_read, right_then, asked_where, asked_settled, circular_entry, circular_clash, open_cells}
 use Rattle.wi_propagate.specs.Inner.Owes.{Owes}
 use Rattle.wi_propagate.proofs.Owing.{owes_none, owes_spent}
 use Rattle.wi_propagate.proofs.kept.KeptCalculator.value_of_entry.Goals as goal
@@ -35,8 +35,7 @@ open_entry-result-requires-clause-formula_cell c =
     let k : KeptSheet = kept_sheet i.store i.generations.entries i.kept i.meter in
     let q : c.new-memo.result ≡ begun k = begun_is i.store i.generations.entries i.kept i.meter _ c.new-memo.result c.new-memo.ensures.value c.in-Some.ensures.value in
     let s = i.store.sheet in
-    let h = c.self.invariant in
-    let o = open_cells s c.args.formula_cell c.args.pairs.now c.entry_is_circular.result (c.entry_is_circular.ensures s h.1) c.if-entry_is_circular.false in
+    let o = open_cells s c.args.formula_cell c.args.pairs.now c.entry_is_circular.result (c.entry_is_circular.ensures s c.self.invariant.1) c.if-entry_is_circular.false in
     may_be_read k c.new-memo.result q c.args.formula_cell o.0
 
 pub open_entry-result-requires-clause-replacing : goal.open_entry-result-requires-clause-replacing
@@ -45,8 +44,7 @@ open_entry-result-requires-clause-replacing c =
     let k : KeptSheet = kept_sheet i.store i.generations.entries i.kept i.meter in
     let q : c.new-memo.result ≡ begun k = begun_is i.store i.generations.entries i.kept i.meter _ c.new-memo.result c.new-memo.ensures.value c.in-Some.ensures.value in
     let s = i.store.sheet in
-    let h = c.self.invariant in
-    let o = open_cells s c.args.formula_cell c.args.pairs.now c.entry_is_circular.result (c.entry_is_circular.ensures s h.1) c.if-entry_is_circular.false in
+    let o = open_cells s c.args.formula_cell c.args.pairs.now c.entry_is_circular.result (c.entry_is_circular.ensures s c.self.invariant.1) c.if-entry_is_circular.false in
     λ j x less. may_be_read k c.new-memo.result q (get_or c.args.pairs.now j x).1 (o.1 j x less)
 
 pub invariant_of-self : goal.invariant_of-self
@@ -68,11 +66,9 @@ returns-clause-value c =
     let i = c.self.inside in
     let k : KeptSheet = kept_sheet i.store i.generations.entries i.kept i.meter in
     let s = i.store.sheet in
-    let h = c.self.invariant in
-    let o = open_cells s c.args.formula_cell c.args.pairs.now c.entry_is_circular.result (c.entry_is_circular.ensures s h.1) c.if-entry_is_circular.false in
-    let same = c.in_ok-world.ensures in
+    let o = open_cells s c.args.formula_cell c.args.pairs.now c.entry_is_circular.result (c.entry_is_circular.ensures s c.self.invariant.1) c.if-entry_is_circular.false in
     subst (λ (x : KeptSheet). IfOk c.open_entry-result.result (λ v. v ≡ table_entry x.stored.sheet c.args.put.now c.args.formula_cell c.args.pairs.now)) c.self.view_is
-    (IfOk-weaker c.open_entry-result.result _ _ (λ v e. entry_shown s c.in_ok-world.world c.args.put.now c.args.formula_cell c.args.pairs.now v o same c.requires e) c.open_entry-result.ensures.value)
+    (IfOk-weaker c.open_entry-result.result _ _ (λ v e. entry_shown s c.in_ok-world.world c.args.put.now c.args.formula_cell c.args.pairs.now v o c.in_ok-world.ensures c.requires e) c.open_entry-result.ensures.value)
 
 pub returns-clause-settled : goal.returns-clause-settled
 returns-clause-settled c =
@@ -80,11 +76,9 @@ returns-clause-settled c =
     let k : KeptSheet = kept_sheet i.store i.generations.entries i.kept i.meter in
     let q : c.new-memo.result ≡ begun k = begun_is i.store i.generations.entries i.kept i.meter _ c.new-memo.result c.new-memo.ensures.value c.in-Some.ensures.value in
     let s = i.store.sheet in
-    let h = c.self.invariant in
-    let o = open_cells s c.args.formula_cell c.args.pairs.now c.entry_is_circular.result (c.entry_is_circular.ensures s h.1) c.if-entry_is_circular.false in
-    let same = c.in_ok-world.ensures in
+    let o = open_cells s c.args.formula_cell c.args.pairs.now c.entry_is_circular.result (c.entry_is_circular.ensures s c.self.invariant.1) c.if-entry_is_circular.false in
     let cases = entry_demanded s c.args.put.now c.args.formula_cell c.args.pairs.now in
-    let has = entry_has s c.in_ok-world.world c.args.put.now c.args.formula_cell c.args.pairs.now o same in
+    let has = entry_has s c.in_ok-world.world c.args.put.now c.args.formula_cell c.args.pairs.now o c.in_ok-world.ensures in
     let closed = table_closed s c.args.put.now c.args.formula_cell c.args.pairs.now in
     let Has = HasEntry s c.in_ok-world.world c.args.formula_cell c.args.pairs.now in
     let new : KeptSheet = record { stored = i.store; generations = i.generations.entries; values = c.into_parts-kept.result.0; counts = c.open_entry-result.new.question.meter } in
@@ -92,8 +86,8 @@ returns-clause-settled c =
     let x : ℕ × List (ℕ × ℕ) = (c.args.formula_cell, c.args.pairs.now) in
     subst (λ (y : KeptSheet). OnOk c.open_entry-result.result (HasRoomFor y (entry_demanded y.stored.sheet c.args.put.now c.args.formula_cell c.args.pairs.now) → circular y.stored.sheet c.args.formula_cell ≡ false → All (λ p. circular y.stored.sheet p.1 ≡ false) c.args.pairs.now
     → IsWhatIfSettled y.stored.sheet (is_kept new) c.args.put.now x)) c.self.view_is
-    (IfOk-weaker c.open_entry-result.result _ _ (λ v g room a b. asked_settled k c.new-memo.result c.open_entry-result.new.question.memo c.into_parts-kept.result.0 c.open_entry-result.new.question.meter q e.spends.same.generation e.spends.same.capacity c.into_parts-kept.ensures.kept c.in_ok-world.world c.args.put.now x same
-    (asked_where k c.new-memo.result q Has cases closed has _ g room)) e.settled)
+    (IfOk-weaker c.open_entry-result.result _ _ (λ v g room a b. asked_settled k c.new-memo.result c.open_entry-result.new.question.memo c.into_parts-kept.result.0 c.open_entry-result.new.question.meter q e.spends.same.generation e.spends.same.capacity c.into_parts-kept.ensures.kept c.in_ok-world.world c.args.put.now x c.in_ok-world.ensures
+    (asked_where k c.new-memo.result q (λ ks. IsWhatIfSettled s (state_in c.open_entry-result.new.question.memo).kept c.in_ok-world.world x) cases Has g closed has room)) e.settled)
 
 pub new-memo-requires-clause-cones : goal.new-memo-requires-clause-cones
 new-memo-requires-clause-cones c = c.take_cones-cones.ensures c.self.inside.store.sheet c.self.invariant.4
@@ -113,11 +107,9 @@ returns-clause-owes c =
     let k : KeptSheet = kept_sheet i.store i.generations.entries i.kept i.meter in
     let q : c.new-memo.result ≡ begun k = begun_is i.store i.generations.entries i.kept i.meter _ c.new-memo.result c.new-memo.ensures.value c.in-Some.ensures.value in
     let s = i.store.sheet in
-    let h = c.self.invariant in
-    let o = open_cells s c.args.formula_cell c.args.pairs.now c.entry_is_circular.result (c.entry_is_circular.ensures s h.1) c.if-entry_is_circular.false in
-    let same = c.in_ok-world.ensures in
+    let o = open_cells s c.args.formula_cell c.args.pairs.now c.entry_is_circular.result (c.entry_is_circular.ensures s c.self.invariant.1) c.if-entry_is_circular.false in
     let cases = entry_demanded s c.args.put.now c.args.formula_cell c.args.pairs.now in
-    let has = entry_has s c.in_ok-world.world c.args.put.now c.args.formula_cell c.args.pairs.now o same in
+    let has = entry_has s c.in_ok-world.world c.args.put.now c.args.formula_cell c.args.pairs.now o c.in_ok-world.ensures in
     let closed = table_closed s c.args.put.now c.args.formula_cell c.args.pairs.now in
     let Has = HasEntry s c.in_ok-world.world c.args.formula_cell c.args.pairs.now in
     let new : KeptSheet = record { stored = i.store; generations = i.generations.entries; values = c.into_parts-kept.result.0; counts = c.open_entry-result.new.question.meter } in

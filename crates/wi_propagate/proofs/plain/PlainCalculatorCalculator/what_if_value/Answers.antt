@@ -4,10 +4,10 @@ pub returns-clause-value : goal.returns-clause-value
 returns-clause-value c = c.table_entry.ensures.value
 
 pub returns-clause-evaluations : goal.returns-clause-evaluations
-returns-clause-evaluations c = c.table_entry.ensures.evaluations
+returns-clause-evaluations c = c.table_entry.ensures.within.0
 
 pub returns-clause-restarts : goal.returns-clause-restarts
-returns-clause-restarts c = c.table_entry.ensures.restarts
+returns-clause-restarts c = c.table_entry.ensures.within.1
 
 pub returns-clause-evaluations_never_fall : goal.returns-clause-evaluations_never_fall
 returns-clause-evaluations_never_fall c = c.table_entry.ensures.counts.0

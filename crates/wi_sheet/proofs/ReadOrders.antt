@@ -9,7 +9,7 @@ use Rattle.wi_graph.specs.Reach.{is_one_of}
 use Rattle.wi_graph.proofs.Walks.{same_cell}
 use Rattle.wi_graph.proofs.Graphs.{stripped}
 use Rattle.wi_graph.proofs.Ends.{ends_open}
-use Rattle.wi_engine.specs.Inner.ReadOrder.{IsReadOrder, MayFollow}
+use Rattle.wi_sheet.specs.Inner.ReadOrder.{IsReadOrder, MayFollow}
 
 -- a list with one cell more, cut before a cell: before the last, or before another
 last_cut : (xs : List ℕ) (x : ℕ) (front back : List ℕ) (c : ℕ) → xs ++ x ∷ [] ≡ front ++ c ∷ back → ((xs ≡ front) × (x ≡ c)) ⊎ ((rest : List ℕ) × (xs ≡ front ++ c ∷ rest))

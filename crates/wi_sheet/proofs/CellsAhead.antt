@@ -9,7 +9,7 @@ use Rattle.std.proofs.lemmas.Bool.{leb-true, le-leb, le-ltb}
 use Rattle.wi_values.specs.Address.{Area, is_within}
 use Rattle.wi_values.proofs.Within.{within_between, places_left, fewer_places}
 use Rattle.wi_parser.specs.Sheet.{Sheet}
-use Rattle.wi_engine.proofs.InOrder.{from_first, none_pass}
+use Rattle.wi_sheet.proofs.InOrder.{from_first, none_pass}
 
 -- the occupied cells of a rectangle
 abbrev pub occupied : Sheet → Area → List ℕ

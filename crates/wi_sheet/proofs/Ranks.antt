@@ -9,7 +9,7 @@ use Rattle.wi_sheet.specs.Inner.Spending.{RestsOn}
 use Rattle.wi_sheet.proofs.Bounds.{put_formula}
 use Rattle.wi_sheet.proofs.Members.{in_contained}
 use Rattle.wi_sheet.proofs.Demands.{rests_reads}
-use Rattle.wi_engine.specs.Inner.Rank.{lengths_below, reach_rank}
+use Rattle.wi_sheet.specs.Inner.Rank.{lengths_below, reach_rank}
 
 one_if : (b c : Bool) → (b ≡ true → c ≡ true) → (if b then 1 else 0) ≤ (if c then 1 else 0)
 one_if true true f = omega arith

@@ -13,7 +13,7 @@ use Rattle.wi_parser.specs.Reads.{content_reads, rectangles_of}
 use Rattle.wi_parser.proofs.Rectangles.{reads_within}
 use Rattle.wi_graph.proofs.Layers.{is_one_of}
 use Rattle.wi_graph.proofs.Walks.{same_cell, formula_cell}
-use Rattle.wi_engine.specs.Inner.ReadCells.{rectangles_in, occupied_within}
+use Rattle.wi_sheet.specs.Inner.ReadCells.{rectangles_in, occupied_within}
 
 -- a cell is among those that pass a test exactly where it passes and is among all
 in_filter : (p : ℕ → Bool) (xs : List ℕ) (a : ℕ) → is_one_of (filter p xs) a ≡ (p a && is_one_of xs a)

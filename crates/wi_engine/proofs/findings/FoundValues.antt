@@ -1,0 +1,46 @@
+-- What is so of each value that was found, also with one value more.
+use Rattle.std.proofs.Common.{◌≡◌, ◌==◌, ℕ, ◌&&◌, ◌++◌, Bool, true, false, cond, List, [], ◌∷◌, Option, Some, None, IfSome, refl, ap, sym, ◌∙◌, subst}
+use Rattle.std.proofs.lemmas.Bool.{and_parts}
+use Rattle.std.specs.Option.{option_or}
+use Rattle.wi_values.specs.declared.value.Value.{Value}
+use Rattle.wi_graph.proofs.Walks.{same_cell}
+use Rattle.wi_engine.specs.declared.findings.Findings.{Findings}
+use Rattle.wi_engine.specs.declared.findings.FoundWhatIf.{FoundWhatIf}
+use Rattle.wi_engine.specs.Inner.Findings.{same_pairs, pairs_of, first_for, found_value, what_if_found, IsWithCell}
+use Rattle.wi_engine.proofs.findings.FoundPairs.{same_lists, first_for-push}
+
+-- of cells
+module _ (P : ℕ → Value → Type 0) where
+  pub cells_none : (f : Findings) → ((c : ℕ) → found_value f c ≡ None) → (c : ℕ) → IfSome (found_value f c) (P c)
+  cells_none f e c = subst (λ (o : Option Value). IfSome o (P c)) (sym (e c)) tt
+
+  pub cells_same : (f g : Findings) → ((c : ℕ) → found_value g c ≡ found_value f c) → ((c : ℕ) → IfSome (found_value f c) (P c)) → (c : ℕ) → IfSome (found_value g c) (P c)
+  cells_same f g e h c = subst (λ (o : Option Value). IfSome o (P c)) (sym (e c)) (h c)
+
+  pub cells_more : (f g : Findings) (a : ℕ) (v : Value) → IsWithCell f g a v → P a v → ((c : ℕ) → IfSome (found_value f c) (P c)) → (c : ℕ) → IfSome (found_value g c) (P c)
+  cells_more f g a v more p h c = subst (λ (o : Option Value). IfSome o (P c)) (sym (more.cells c)) (at (a == c) refl)
+    where
+      at : (b : Bool) → (a == c) ≡ b → IfSome (cond b (Some v) (found_value f c)) (P c)
+      at true e = subst (λ (d : ℕ). P d v) (same_cell c a e) p
+      at false e = h c
+
+-- of what-ifs
+module _ (P : ℕ → List (ℕ × ℕ) → Value → Type 0) where
+  pub what_ifs_none : (f : Findings) → f.what_ifs.items ≡ [] → (c : ℕ) (ps : List (ℕ × ℕ)) → IfSome (what_if_found f c ps) (P c ps)
+  what_ifs_none f e c ps = subst (λ (fs : List FoundWhatIf). IfSome (first_for fs c ps) (P c ps)) (sym e) tt
+
+  pub what_ifs_same : (f g : Findings) → g.what_ifs.items ≡ f.what_ifs.items → ((c : ℕ) (ps : List (ℕ × ℕ)) → IfSome (what_if_found f c ps) (P c ps)) → (c : ℕ) (ps : List (ℕ × ℕ)) → IfSome (what_if_found g c ps) (P c ps)
+  what_ifs_same f g e h c ps = subst (λ (fs : List FoundWhatIf). IfSome (first_for fs c ps) (P c ps)) (sym e) (h c ps)
+
+  pub what_ifs_more : (f g : Findings) (x : FoundWhatIf) → g.what_ifs.items ≡ f.what_ifs.items ++ x ∷ [] → P x.at (pairs_of x) x.value → ((c : ℕ) (ps : List (ℕ × ℕ)) → IfSome (what_if_found f c ps) (P c ps)) →
+      (c : ℕ) (ps : List (ℕ × ℕ)) → IfSome (what_if_found g c ps) (P c ps)
+  what_ifs_more f g x e p h c ps =
+      subst (λ (o : Option Value). IfSome o (P c ps)) (sym (ap (λ (fs : List FoundWhatIf). first_for fs c ps) e ∙ first_for-push f.what_ifs.items x c ps))
+      (at (first_for f.what_ifs.items c ps) (x.at == c && same_pairs (pairs_of x) ps) (h c ps) refl)
+    where
+      at : (o : Option Value) (b : Bool) → IfSome o (P c ps) → (x.at == c && same_pairs (pairs_of x) ps) ≡ b → IfSome (option_or o (cond b (Some x.value) None)) (P c ps)
+      at (Some v) b k i = k
+      at None true k i =
+          let parts = and_parts (x.at == c) _ i in
+          subst (λ (d : ℕ). P d ps x.value) (same_cell c x.at parts.0) (subst (λ (qs : List (ℕ × ℕ)). P x.at qs x.value) (same_lists (pairs_of x) ps parts.1) p)
+      at None false k i = tt
