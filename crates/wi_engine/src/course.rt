@@ -83,7 +83,8 @@ impl Course {
     /// The course where the cell that is wanted doesn't follow.
     pub fn broken(self) -> Course
         ensures rectangle { result.rectangle ≡ self.rectangle }
-        ensures count { (result.count ≤ 1) ⊎ ((max_breaks ≤ self.breaks) × (result.count ≤ 2 * self.count)) }
+        ensures count { (result.count ≤ 1)
+            ⊎ ((max_breaks ≤ self.breaks) × (result.count ≤ 2 * self.count)) }
     {
         if self.breaks < MAX_BREAKS {
             Course {

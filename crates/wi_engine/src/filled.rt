@@ -27,8 +27,11 @@ pub fn next_touched<'a>(
     from: Address,
 ) -> Option<(Address, Seen<'a>)>
     ensures inside { IfSome result (λ x. (is_within area x.0 ≡ true) × (from ≤ x.0)) }
-    ensures seen { IfSome result (λ x. content_seen x.1 ≡ content_of (put_all store.now.sheet world.now) x.0) }
-    ensures nothing_before { (a : ℕ) → is_within area a ≡ true → from ≤ a → ComesBefore a (option_map (λ x. x.0) result) → content_of (put_all store.now.sheet world.now) a ≡ None }
+    ensures seen { IfSome result (λ x.
+        content_seen x.1 ≡ content_of (put_all store.now.sheet world.now) x.0) }
+    ensures nothing_before { (a : ℕ) → is_within area a ≡ true → from ≤ a
+        → ComesBefore a (option_map (λ x. x.0) result)
+        → content_of (put_all store.now.sheet world.now) a ≡ None }
 {
     store.cells_stand_in_order();
     let replaced = next_replaced(world.replacements(), area, from);
@@ -43,7 +46,8 @@ pub fn next_replaced(
     from: Address,
 ) -> Option<&Replacement>
     requires { IsInOrder replacements.now }
-    ensures cell { option_map (λ r. r.now.at) result ≡ find (is_ahead area (Some from)) (keys_of (as_map replacements.now)) }
+    ensures cell { option_map (λ r. r.now.at) result
+        ≡ find (is_ahead area (Some from)) (keys_of (as_map replacements.now)) }
     ensures value { IfSome result (λ r. replaced replacements.now r.now.at ≡ Some r.now.value) }
 {
     let before = replacements.partition_point(|replacement| replacement.at < from);
@@ -54,7 +58,8 @@ pub fn next_replaced(
 /// rectangle's last cell.
 fn first_within(replacements: &[Replacement], area: Rect) -> Option<&Replacement>
     requires { IsInOrder replacements.now }
-    ensures cell { option_map (λ r. r.now.at) result ≡ find (is_within area) (keys_of (as_map replacements.now)) }
+    ensures cell { option_map (λ r. r.now.at) result
+        ≡ find (is_within area) (keys_of (as_map replacements.now)) }
     ensures value { IfSome result (λ r. replaced replacements.now r.now.at ≡ Some r.now.value) }
 {
     for replacement in replacements {
@@ -73,7 +78,8 @@ fn earlier<'a>(
     occupied: &Option<(Address, &'a Content)>,
     replaced: Option<&'a Replacement>,
 ) -> Option<(Address, Seen<'a>)>
-    ensures { option_map (λ x. (x.0, content_seen x.1)) result ≡ earlier (option_map (λ x. (x.0, x.1.now)) occupied.now) (option_copied replaced.entry) }
+    ensures { option_map (λ x. (x.0, content_seen x.1)) result
+        ≡ earlier (option_map (λ x. (x.0, x.1.now)) occupied.now) (option_copied replaced.entry) }
 {
     match (occupied, replaced) {
         (Some((at, content)), Some(replacement)) => {

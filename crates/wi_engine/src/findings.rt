@@ -95,7 +95,8 @@ impl Findings {
 
     /// The value found of a what-if. The work grows with the count of what-ifs found.
     pub fn what_if(&self, at: Address, pairs: &[Pair]) -> Option<&Value>
-        ensures { option_copied result ≡ what_if_found self.now at (map addresses (map pair_of pairs.now)) }
+        ensures { option_copied result
+            ≡ what_if_found self.now at (map addresses (map pair_of pairs.now)) }
     {
         for found in &self.what_ifs {
             if found.at == at && are_same(&found.pairs, pairs) {
@@ -135,7 +136,8 @@ impl Findings {
 
 /// Whether two lists name the same inputs and replacement cells.
 fn are_same(a: &[Pair], b: &[Pair]) -> bool
-    ensures { result ≡ same_pairs (map addresses (map pair_of a.now)) (map addresses (map pair_of b.now)) }
+    ensures { result ≡ same_pairs (map addresses (map pair_of a.now))
+        (map addresses (map pair_of b.now)) }
 {
     match a {
         [] => b.is_empty(),

@@ -59,7 +59,8 @@ impl<'a> Frame<'a> {
 
     /// The course through a rectangle. The work grows with the count of courses.
     pub fn course_through(&self, rectangle: Rect) -> Option<Course>
-        ensures { IfSome result (λ c. Contains self.now.courses.items c × (c.rectangle ≡ rectangle)) }
+        ensures { IfSome result (λ c. Contains self.now.courses.items c
+            × (c.rectangle ≡ rectangle)) }
     {
         for course in &self.courses {
             if course.rectangle == rectangle {

@@ -20,8 +20,11 @@ pub fn is_lacking(store: &Store, frame: &Frame, at: Address) -> bool
 /// The first cell of a rectangle after another whose value a frame lacks. The work is that of `next_within` for each occupied
 /// cell passed.
 pub fn next_lacking_in(store: &Store, frame: &Frame, area: Rect, after: Address) -> Option<Address>
-    ensures some { IfSome result (λ c. lacking_after store.now.sheet frame.now.key.world frame.now.found area after ≡ c ∷ lacking_after store.now.sheet frame.now.key.world frame.now.found area c) }
-    ensures none { IfNone result (lacking_after store.now.sheet frame.now.key.world frame.now.found area after ≡ []) }
+    ensures some { IfSome result (λ c.
+        lacking_after store.now.sheet frame.now.key.world frame.now.found area after
+        ≡ c ∷ lacking_after store.now.sheet frame.now.key.world frame.now.found area c) }
+    ensures none { IfNone result
+        (lacking_after store.now.sheet frame.now.key.world frame.now.found area after ≡ []) }
 {
     let mut ahead = next_within(store, area, Some(after));
     while let Some(cell) = ahead {
@@ -44,7 +47,9 @@ pub fn with_next_lacking(
     at: Address,
     count: usize,
 ) -> Result<Vec<Address>, AllocError>
-    ensures { IfOk result (λ v. v.items ≡ at ∷ take (count - 1) (lacking_after store.now.sheet frame.now.key.world frame.now.found area at)) }
+    ensures { IfOk result (λ v.
+        v.items ≡ at ∷ take (count - 1)
+        (lacking_after store.now.sheet frame.now.key.world frame.now.found area at)) }
 {
     let mut listed = Vec::new(alloc);
     listed.push(at)?;

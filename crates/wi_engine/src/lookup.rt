@@ -41,7 +41,8 @@ pub struct Known<'a> {
 impl<'a> Known<'a> {
     /// What is known with these values found.
     pub fn new(store: &'a Store, world: &'a World, found: &'a Findings) -> Known<'a>
-        requires right { AreAllRight (show.cell_value (put_all store.now.sheet world.now)) (show.what_if_value (put_all store.now.sheet world.now)) found.now }
+        requires right { AreAllRight (show.cell_value (put_all store.now.sheet world.now))
+            (show.what_if_value (put_all store.now.sheet world.now)) found.now }
         ensures store { result.store.now ≡ store.now }
         ensures world { result.world.now ≡ world.now }
         ensures found { result.found.now ≡ found.now }
@@ -56,7 +57,8 @@ impl<'a> Known<'a> {
 
     /// What is known of a cell in which this stands.
     fn known(&self, at: Address, seen: Seen<'a>) -> LookedUp<'_>
-        ensures { value_if_known result ≡ known_in (content_seen seen.entry) (found_value self.now.found.now at) }
+        ensures { value_if_known result
+            ≡ known_in (content_seen seen.entry) (found_value self.now.found.now at) }
     {
         match seen {
             Seen::Nothing => LookedUp::Known(&self.empty),
@@ -86,9 +88,14 @@ impl<'a> Known<'a> {
         taker: &mut T,
     ) -> Result<(), Address>
         requires ahead { IfSome replaced.now (λ r. from ≤ r) }
-        requires stands { (a : ℕ) → is_ahead area (Some from) a ≡ true → ComesBefore a replaced.now → content_of (put_all self.now.store.now.sheet self.now.world.now) a ≡ content_of self.now.store.now.sheet a }
-        ensures taken { OnOk result (HasTaken T.after (cell_known self.now.store.now.sheet self.now.world.now self.now.found.now) area taker.old (Some from) taker.new replaced.now) }
-        ensures missing { IfErr result (λ c. cell_known self.now.store.now.sheet self.now.world.now self.now.found.now c ≡ None) }
+        requires stands { (a : ℕ) → is_ahead area (Some from) a ≡ true → ComesBefore a replaced.now
+            → content_of (put_all self.now.store.now.sheet self.now.world.now) a
+            ≡ content_of self.now.store.now.sheet a }
+        ensures taken { OnOk result (HasTaken T.after
+            (cell_known self.now.store.now.sheet self.now.world.now self.now.found.now)
+            area taker.old (Some from) taker.new replaced.now) }
+        ensures missing { IfErr result (λ c.
+            cell_known self.now.store.now.sheet self.now.world.now self.now.found.now c ≡ None) }
         ensures inside { IfErr result (λ c. is_within area c ≡ true) }
     {
         self.store.cells_stand_in_order();

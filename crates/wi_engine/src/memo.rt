@@ -33,8 +33,10 @@ pub trait Memo {
     fn look(&self, key: &Key) -> Option<&Value>
         requires generation { key.now.generation ≡ (state self.now).generation key.now.cell }
         ensures value { option_copied result ≡ (state self.now).known key.now.cell key.now.world }
-        ensures missing { result ≡ None → (state self.now).found key.now.cell key.now.world ≡ false }
-        ensures missing_kept { result ≡ None → (state self.now).kept key.now.cell key.now.world ≡ false };
+        ensures missing { result ≡ None
+            → (state self.now).found key.now.cell key.now.world ≡ false }
+        ensures missing_kept { result ≡ None
+            → (state self.now).kept key.now.cell key.now.world ≡ false };
 
     /// Remembers a value for a key. It is found from then on; whether it is also kept for longer, in the place of others if
     /// there is no room, is told by the capacity.
@@ -44,5 +46,6 @@ pub trait Memo {
         requires right { value ≡ cell_value (put_all (state self.old).sheet key.world) key.cell }
         ensures keeps { Keeps (state self.old) (state self.new) key value }
         ensures kept { OnOk result (HasKept (state self.old) (state self.new) key) }
-        ensures stays { (c : ℕ) (w : List Replacements) → (state self.old).found c w ≡ true → (state self.new).found c w ≡ true };
+        ensures stays { (c : ℕ) (w : List Replacements) → (state self.old).found c w ≡ true
+            → (state self.new).found c w ≡ true };
 }

@@ -58,8 +58,8 @@ impl<M: Memo + Drop> Question<M> {
             IsValuedAnew store.now.sheet (M.state self.old.memo) world.now at
             → 1 ≤ (M.state self.old.memo).capacity
             → (M.state self.new.memo).kept at (reaching store.now.sheet at world.now) ≡ true) }
-        ensures settled { OnOk result (WhereRoom store.now.sheet (HasCase store.now.sheet world.now at)
-            (M.state self.old.memo)
+        ensures settled { OnOk result (WhereRoom store.now.sheet
+            (HasCase store.now.sheet world.now at) (M.state self.old.memo)
             (λ _. IsSettled store.now.sheet (M.state self.new.memo).kept world.now at)) }
     {
         match value_now(self.pool.allocator(), store, world, at, &mut self.memo)? {

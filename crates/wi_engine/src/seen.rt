@@ -30,8 +30,10 @@ pub fn content_in<'a>(store: &'a Store, world: &'a World, at: Address) -> Seen<'
 
 /// The formula that a cell has under the replacements of a world, if it has one. The work is that of `content_in`.
 pub fn formula_in<'a>(store: &'a Store, world: &World, at: Address) -> Option<&'a Formula>
-    ensures found { IfSome result (λ f. content_of (put_all store.now.sheet world.now) at ≡ Some (Content.Formula f.now)) }
-    ensures none { IfNone result (has_formula (content_of (put_all store.now.sheet world.now) at) ≡ false) }
+    ensures found { IfSome result (λ f. content_of (put_all store.now.sheet world.now) at
+        ≡ Some (Content.Formula f.now)) }
+    ensures none { IfNone result
+        (has_formula (content_of (put_all store.now.sheet world.now) at) ≡ false) }
 {
     match replaced(world, at) {
         Some(_) => None,
@@ -41,8 +43,10 @@ pub fn formula_in<'a>(store: &'a Store, world: &World, at: Address) -> Option<&'
 
 /// The value that is put into a cell, if one is. The work grows with the logarithm of the count of replacements.
 pub fn replaced(world: &World, at: Address) -> Option<&Value>
-    ensures some { IfSome result (λ v. (s : Sheet) → content_of (put_all s world.now) at ≡ constant v.now) }
-    ensures none { IfNone result ((s : Sheet) → content_of (put_all s world.now) at ≡ content_of s at) }
+    ensures some { IfSome result (λ v. (s : Sheet)
+        → content_of (put_all s world.now) at ≡ constant v.now) }
+    ensures none { IfNone result ((s : Sheet)
+        → content_of (put_all s world.now) at ≡ content_of s at) }
 {
     // They stand in order, so that one is the last for its address.
     let _ = world.replacements();
@@ -84,7 +88,8 @@ pub fn as_seen(content: &Content) -> Seen<'_>
 
 /// The formula in a cell, if it has one.
 pub fn formula_at(store: &Store, at: Address) -> Option<&Formula>
-    ensures found { IfSome result (λ f. content_of store.now.sheet at ≡ Some (Content.Formula f.now)) }
+    ensures found { IfSome result (λ f.
+        content_of store.now.sheet at ≡ Some (Content.Formula f.now)) }
     ensures none { IfNone result (has_formula (content_of store.now.sheet at) ≡ false) }
 {
     match stored(store, at) {

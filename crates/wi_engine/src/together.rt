@@ -38,9 +38,12 @@ pub fn together(
 ) -> Result<Batch, AllocError>
     requires read { reads_here frame.now.formula.now at ≡ true }
     requires formula { has_formula (content_of store.now.sheet at) ≡ true }
-    ensures read { IfOk result (λ b. (d : ℕ) → is_one_of b.cells.items d ≡ true → (reads_here frame.now.formula.now d ≡ true) × (has_formula (content_of store.now.sheet d) ≡ true)) }
+    ensures read { IfOk result (λ b. (d : ℕ) → is_one_of b.cells.items d ≡ true
+        → (reads_here frame.now.formula.now d ≡ true)
+        × (has_formula (content_of store.now.sheet d) ≡ true)) }
     ensures wanted { IfOk result (λ b. is_one_of b.cells.items at ≡ true) }
-    ensures following { IfOk result (λ b. AreTogether store.now.sheet frame.now frame.now.formula.now at b.course b.cells.items) }
+    ensures following { IfOk result (λ b.
+        AreTogether store.now.sheet frame.now frame.now.formula.now at b.course b.cells.items) }
 {
     let rectangle = smallest_with(frame.formula.rectangles(), at);
     let course = course_to(store, frame, rectangle, at);

@@ -57,7 +57,8 @@ pub fn add_cones(
     cones: &mut Cones,
 ) -> Result<(), AllocError>
     requires { graph.now.staged ≡ None }
-    ensures cones { (s : Sheet) → AreEdgesOf graph.now.now s → AreAllCones s cones.old → AreAllCones s cones.new }
+    ensures cones { (s : Sheet) → AreEdgesOf graph.now.now s → AreAllCones s cones.old
+        → AreAllCones s cones.new }
     ensures all { OnOk result (All (λ r. IsSome (get nat_cmp cones.new r.at)) world.now) }
 {
     for replacement in world.replacements() {
@@ -69,7 +70,8 @@ pub fn add_cones(
 // Adds the cone of a cell that has none yet.
 fn add_cone(alloc: Global, graph: &Graph, at: Address, cones: &mut Cones) -> Result<(), AllocError>
     requires { graph.now.staged ≡ None }
-    ensures cones { (s : Sheet) → AreEdgesOf graph.now.now s → AreAllCones s cones.old → AreAllCones s cones.new }
+    ensures cones { (s : Sheet) → AreEdgesOf graph.now.now s → AreAllCones s cones.old
+        → AreAllCones s cones.new }
     ensures there { OnOk result (IsSome (get nat_cmp cones.new at)) }
     ensures stay { (a : ℕ) → IsSome (get nat_cmp cones.old a) → IsSome (get nat_cmp cones.new a) }
 {

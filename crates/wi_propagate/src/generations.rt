@@ -21,8 +21,10 @@ pub fn generation_of(generations: &Generations, at: Address) -> u64
 
 /// Makes room for the generation of a cell: one that has none gets 0.
 fn make_one(generations: &mut Generations, at: Address) -> Result<(), AllocError>
-    ensures same { (c : ℕ) → generation_in generations.new.entries c ≡ generation_in generations.old.entries c }
-    ensures stay { (c : ℕ) → HasGeneration generations.old.entries c → HasGeneration generations.new.entries c }
+    ensures same { (c : ℕ)
+        → generation_in generations.new.entries c ≡ generation_in generations.old.entries c }
+    ensures stay { (c : ℕ) → HasGeneration generations.old.entries c
+        → HasGeneration generations.new.entries c }
     ensures there { OnOk result (HasGeneration generations.new.entries at) }
 {
     generations.entry(at)?.or_insert(0);
@@ -31,8 +33,10 @@ fn make_one(generations: &mut Generations, at: Address) -> Result<(), AllocError
 
 /// Makes room for the generations of these cells: each that has none gets 0. If memory runs out, the rooms made so far stay.
 pub fn make_room(generations: &mut Generations, cells: &[Address]) -> Result<(), AllocError>
-    ensures same { (c : ℕ) → generation_in generations.new.entries c ≡ generation_in generations.old.entries c }
-    ensures there { OnOk result ((c : ℕ) → is_one_of cells.now c ≡ true → HasGeneration generations.new.entries c) }
+    ensures same { (c : ℕ)
+        → generation_in generations.new.entries c ≡ generation_in generations.old.entries c }
+    ensures there { OnOk result ((c : ℕ) → is_one_of cells.now c ≡ true
+        → HasGeneration generations.new.entries c) }
 {
     for cell in cells {
         make_one(generations, *cell)?;

@@ -73,8 +73,10 @@ impl<'a> Keeping<'a> {
         requires edges { AreEdgesOf graph.now.now store.now.sheet }
         requires staged { graph.now.staged ≡ None }
         requires cones { AreAllCones store.now.sheet cones }
-        requires right { IsKeepingRight (keeping store.now.sheet store.now.edits generations.now.entries [] kept) }
-        ensures value { result ≡ keeping store.now.sheet store.now.edits generations.now.entries [] kept }
+        requires right { IsKeepingRight
+            (keeping store.now.sheet store.now.edits generations.now.entries [] kept) }
+        ensures value { result
+            ≡ keeping store.now.sheet store.now.edits generations.now.entries [] kept }
         ensures memo { IsMemoOf store.now.sheet (state_in result) }
         ensures within { length kept.entries ≤ kept.capacity }
         ensures one_each { HasOneEach kept.entries }

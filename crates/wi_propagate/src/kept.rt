@@ -93,7 +93,8 @@ impl KeptCalculator {
     /// come.
     pub fn new(alloc: Global, limits: Limits, keep: usize) -> Result<KeptCalculator, AllocError>
         requires { 1 ≤ keep }
-        ensures stored { IfOk result (λ k. k.stored ≡ record { sheet = []; edits = 0; limits = limits }) }
+        ensures stored { IfOk result (λ k.
+            k.stored ≡ record { sheet = []; edits = 0; limits = limits }) }
         ensures counts { IfOk result (λ k. k.counts ≡ record { evaluations = 0; restarts = 0 }) }
         ensures generations { IfOk result (λ k. (c : ℕ) → generation_in k.generations c ≡ 0) }
         ensures values { IfOk result (λ k. k.values ≡ kept [] keep) }
@@ -127,13 +128,18 @@ impl KeptCalculator {
         changes: Vec<(Address, Option<Content>)>,
         cone: Option<Vec<Address>>,
     ) -> Result<(), StoreFault>
-        requires { IfSome cone (λ cone. (c : ℕ) → is_one_of cone.items c ≡ in_cone self.old.stored.sheet (keys_of changes.items) c) }
-        ensures applied { Applies (applied self.old.stored changes.items) result self.old.stored self.new.stored }
+        requires { IfSome cone (λ cone. (c : ℕ)
+            → is_one_of cone.items c ≡ in_cone self.old.stored.sheet (keys_of changes.items) c) }
+        ensures applied { Applies
+            (applied self.old.stored changes.items) result self.old.stored self.new.stored }
         ensures same_counts { self.new.counts ≡ self.old.counts }
         ensures same_values { self.new.values ≡ self.old.values }
-        ensures generations { let cells = keys_of changes.items in OnOk result ((c : ℕ) → generation_in self.new.generations c
-            ≡ (if in_cone self.old.stored.sheet cells c then self.new.stored.edits else generation_in self.old.generations c)) }
-        ensures same_generations { OnErr result ((c : ℕ) → generation_in self.new.generations c ≡ generation_in self.old.generations c) }
+        ensures generations { let cells = keys_of changes.items in
+            OnOk result ((c : ℕ) → generation_in self.new.generations c
+            ≡ (if in_cone self.old.stored.sheet cells c then self.new.stored.edits
+            else generation_in self.old.generations c)) }
+        ensures same_generations { OnErr result ((c : ℕ)
+            → generation_in self.new.generations c ≡ generation_in self.old.generations c) }
     {
         let cone = stage(&mut self.graph, &changes, cone)?;
         match edit(&mut self.store, &mut self.generations, &cone, changes) {
@@ -154,7 +160,8 @@ impl KeptCalculator {
     fn value_of(&mut self, put: &[Replacement], at: Address) -> Result<Value, AllocError>
         requires { IsInOrder put.now }
         ensures value { IfOk result (λ v. v ≡ show.shown self.old.stored.sheet put.now at) }
-        ensures owes { Owes self.old self.new (demanded self.old.stored.sheet put.now at) (is_ok result) }
+        ensures owes { Owes self.old self.new (demanded self.old.stored.sheet put.now at)
+            (is_ok result) }
         ensures easy { IsAtHand self.old put.now at → self.new.counts ≡ self.old.counts }
         ensures kept { let sheet = self.old.stored.sheet in
             OnOk result ((IsAtHand self.old put.now at → ⊥)
@@ -205,7 +212,8 @@ impl KeptCalculator {
         requires { IsInOrder put.now }
         ensures value { let sheet = self.old.stored.sheet in
             IfOk result (λ v. v ≡ table_entry sheet put.now formula_cell pairs.now) }
-        ensures owes { let cases = entry_demanded self.old.stored.sheet put.now formula_cell pairs.now in
+        ensures owes { let cases =
+            entry_demanded self.old.stored.sheet put.now formula_cell pairs.now in
             Owes self.old self.new cases (is_ok result) }
         ensures settled { let sheet = self.old.stored.sheet in
             let cases = entry_demanded sheet put.now formula_cell pairs.now in
@@ -270,12 +278,16 @@ impl Calculator for KeptCalculator {
     /// accepted edit is the new generation of each cell of the cone. What is kept stays; so do the cones that are known, if each
     /// cell reads what it read before.
     fn apply(&mut self, changes: Vec<(Address, Option<Content>)>) -> Result<(), StoreFault>
-        ensures applied { Applies (applied self.old.stored changes.items) result self.old.stored self.new.stored }
+        ensures applied { Applies
+            (applied self.old.stored changes.items) result self.old.stored self.new.stored }
         ensures same_counts { self.new.counts ≡ self.old.counts }
         ensures same_values { self.new.values ≡ self.old.values }
-        ensures generations { let cells = keys_of changes.items in OnOk result ((c : ℕ) → generation_in self.new.generations c
-            ≡ (if in_cone self.old.stored.sheet cells c then self.new.stored.edits else generation_in self.old.generations c)) }
-        ensures same_generations { OnErr result ((c : ℕ) → generation_in self.new.generations c ≡ generation_in self.old.generations c) }
+        ensures generations { let cells = keys_of changes.items in
+            OnOk result ((c : ℕ) → generation_in self.new.generations c
+            ≡ (if in_cone self.old.stored.sheet cells c then self.new.stored.edits
+            else generation_in self.old.generations c)) }
+        ensures same_generations { OnErr result ((c : ℕ)
+            → generation_in self.new.generations c ≡ generation_in self.old.generations c) }
     {
         self.apply_over(changes, None)
     }
@@ -286,13 +298,18 @@ impl Calculator for KeptCalculator {
         changes: Vec<(Address, Option<Content>)>,
         cells: Vec<Address>,
     ) -> Result<(), StoreFault>
-        requires { (c : ℕ) → is_one_of cells.items c ≡ in_cone self.old.stored.sheet (keys_of changes.items) c }
-        ensures applied { Applies (applied self.old.stored changes.items) result self.old.stored self.new.stored }
+        requires { (c : ℕ)
+            → is_one_of cells.items c ≡ in_cone self.old.stored.sheet (keys_of changes.items) c }
+        ensures applied { Applies
+            (applied self.old.stored changes.items) result self.old.stored self.new.stored }
         ensures same_counts { self.new.counts ≡ self.old.counts }
         ensures same_values { self.new.values ≡ self.old.values }
-        ensures generations { let cells = keys_of changes.items in OnOk result ((c : ℕ) → generation_in self.new.generations c
-            ≡ (if in_cone self.old.stored.sheet cells c then self.new.stored.edits else generation_in self.old.generations c)) }
-        ensures same_generations { OnErr result ((c : ℕ) → generation_in self.new.generations c ≡ generation_in self.old.generations c) }
+        ensures generations { let cells = keys_of changes.items in
+            OnOk result ((c : ℕ) → generation_in self.new.generations c
+            ≡ (if in_cone self.old.stored.sheet cells c then self.new.stored.edits
+            else generation_in self.old.generations c)) }
+        ensures same_generations { OnErr result ((c : ℕ)
+            → generation_in self.new.generations c ≡ generation_in self.old.generations c) }
     {
         self.apply_over(changes, Some(cells))
     }
@@ -321,15 +338,18 @@ impl Calculator for KeptCalculator {
         ensures evaluations_never_fall { self.old.counts.evaluations ≤ self.new.counts.evaluations }
         ensures restarts_never_fall { self.old.counts.restarts ≤ self.new.counts.restarts }
         ensures unkept_evaluations { let cases = demanded self.old.stored.sheet put.now at in
-            HasRoomFor self.old cases → self.new.counts.evaluations ≤ self.old.counts.evaluations + length (unkept self.old cases) }
+            HasRoomFor self.old cases → self.new.counts.evaluations
+            ≤ self.old.counts.evaluations + length (unkept self.old cases) }
         ensures unkept_restarts { let sheet = self.old.stored.sheet in
             let cases = demanded sheet put.now at in
-            HasRoomFor self.old cases → self.new.counts.restarts ≤ self.old.counts.restarts + sum_by (wants sheet) (unkept self.old cases) }
+            HasRoomFor self.old cases → self.new.counts.restarts
+            ≤ self.old.counts.restarts + sum_by (wants sheet) (unkept self.old cases) }
 
         // What is kept, what comes to be kept, and that nothing goes while there is room, also where memory runs out.
         ensures easy { IsAtHand self.old put.now at → self.new.counts ≡ self.old.counts }
         ensures kept { let sheet = self.old.stored.sheet in
-            OnOk result ((IsAtHand self.old put.now at → ⊥) → is_kept self.new at (reaching sheet at put.now) ≡ true) }
+            OnOk result ((IsAtHand self.old put.now at → ⊥)
+            → is_kept self.new at (reaching sheet at put.now) ≡ true) }
         ensures no_more { KeepsNoMore self.old self.new }
         ensures while_room { KeepsWhileRoom self.old self.new }
         ensures keeps { let cases = demanded self.old.stored.sheet put.now at in
@@ -356,27 +376,33 @@ impl Calculator for KeptCalculator {
 
         // No more is evaluated than what the entry demands, and where there is room no more than what of that is not kept, also
         // where memory runs out.
-        ensures evaluations { let cases = entry_demanded self.old.stored.sheet put.now formula_cell pairs.now in
+        ensures evaluations { let cases =
+            entry_demanded self.old.stored.sheet put.now formula_cell pairs.now in
             self.new.counts.evaluations ≤ self.old.counts.evaluations + length cases }
         ensures restarts { let sheet = self.old.stored.sheet in
             let cases = entry_demanded sheet put.now formula_cell pairs.now in
             self.new.counts.restarts ≤ self.old.counts.restarts + sum_by (wants sheet) cases }
         ensures evaluations_never_fall { self.old.counts.evaluations ≤ self.new.counts.evaluations }
         ensures restarts_never_fall { self.old.counts.restarts ≤ self.new.counts.restarts }
-        ensures unkept_evaluations { let cases = entry_demanded self.old.stored.sheet put.now formula_cell pairs.now in
-            HasRoomFor self.old cases → self.new.counts.evaluations ≤ self.old.counts.evaluations + length (unkept self.old cases) }
+        ensures unkept_evaluations { let cases =
+            entry_demanded self.old.stored.sheet put.now formula_cell pairs.now in
+            HasRoomFor self.old cases → self.new.counts.evaluations
+            ≤ self.old.counts.evaluations + length (unkept self.old cases) }
         ensures unkept_restarts { let sheet = self.old.stored.sheet in
             let cases = entry_demanded sheet put.now formula_cell pairs.now in
-            HasRoomFor self.old cases → self.new.counts.restarts ≤ self.old.counts.restarts + sum_by (wants sheet) (unkept self.old cases) }
+            HasRoomFor self.old cases → self.new.counts.restarts
+            ≤ self.old.counts.restarts + sum_by (wants sheet) (unkept self.old cases) }
 
         // What comes to be kept, and that nothing goes while there is room, also where memory runs out.
         ensures no_more { KeepsNoMore self.old self.new }
         ensures while_room { KeepsWhileRoom self.old self.new }
-        ensures keeps { let cases = entry_demanded self.old.stored.sheet put.now formula_cell pairs.now in
+        ensures keeps { let cases =
+            entry_demanded self.old.stored.sheet put.now formula_cell pairs.now in
             OnOk result (HasRoomFor self.old cases → KeepsAll self.old self.new) }
         ensures settled { let sheet = self.old.stored.sheet in
             let cases = entry_demanded sheet put.now formula_cell pairs.now in
-            OnOk result (HasRoomFor self.old cases → circular sheet formula_cell ≡ false → All (λ x. circular sheet x.1 ≡ false) pairs.now
+            OnOk result (HasRoomFor self.old cases
+            → circular sheet formula_cell ≡ false → All (λ x. circular sheet x.1 ≡ false) pairs.now
             → IsWhatIfSettled sheet (is_kept self.new) put.now (formula_cell, pairs.now)) }
     {
         self.value_of_entry(put, formula_cell, pairs)
@@ -388,7 +414,8 @@ impl Calculator for KeptCalculator {
         ensures marked { let sheet = self.now.stored.sheet in
             IfOk result (λ found. (c : ℕ) → is_one_of found.items c ≡ in_cone sheet cells.now c) }
         ensures unmoved { let sheet = self.now.stored.sheet in
-            IfOk result (λ found. (c : ℕ) → is_one_of found.items c ≡ false → IsUnmoved sheet cells.now c) }
+            IfOk result (λ found. (c : ℕ)
+            → is_one_of found.items c ≡ false → IsUnmoved sheet cells.now c) }
     {
         self.graph.cone(cells)
     }
@@ -411,7 +438,8 @@ fn stage(
     requires staged { graph.old.staged ≡ None }
     requires cone { IfSome cone (λ cone. (s : Sheet) → AreEdgesOf graph.old.now s
         → (c : ℕ) → is_one_of cone.items c ≡ in_cone s (keys_of changes.now) c) }
-    ensures ok { OnOk result (graph.new ≡ staging graph.old.now (Some (edges_after graph.old.now changes.now))) }
+    ensures ok { OnOk result (graph.new
+        ≡ staging graph.old.now (Some (edges_after graph.old.now changes.now))) }
     ensures err { OnErr result (graph.new ≡ graph.old) }
     ensures cells { IfOk result (λ cone. (s : Sheet) → AreEdgesOf graph.old.now s
         → (c : ℕ) → is_one_of cone.items c ≡ in_cone s (keys_of changes.now) c) }
@@ -430,8 +458,10 @@ fn edit(
     changes: Vec<(Address, Option<Content>)>,
 ) -> Result<(), StoreFault>
     ensures applied { Applies (applied store.old changes.items) result store.old store.new }
-    ensures same { (c : ℕ) → generation_in generations.new.entries c ≡ generation_in generations.old.entries c }
-    ensures there { OnOk result ((c : ℕ) → is_one_of cone.now c ≡ true → HasGeneration generations.new.entries c) }
+    ensures same { (c : ℕ)
+        → generation_in generations.new.entries c ≡ generation_in generations.old.entries c }
+    ensures there { OnOk result ((c : ℕ) → is_one_of cone.now c ≡ true
+        → HasGeneration generations.new.entries c) }
 {
     make_room(generations, cone)?;
     store.apply(changes)
@@ -452,7 +482,8 @@ fn entry_is_circular(graph: &Graph, formula_cell: Address, pairs: &[(Address, Ad
 // Whether one of the replacement cells is circular.
 fn any_circular(graph: &Graph, pairs: &[(Address, Address)]) -> bool
     requires { graph.now.staged ≡ None }
-    ensures { (s : Sheet) → AreEdgesOf graph.now.now s → result ≡ list_any (λ x. circular s x.1) pairs.now }
+    ensures { (s : Sheet) → AreEdgesOf graph.now.now s
+        → result ≡ list_any (λ x. circular s x.1) pairs.now }
 {
     for pair in pairs {
         if graph.is_circular(pair.1) {

@@ -16,7 +16,8 @@ pub fn occupied_in<C: Calculator>(
     calculator: &C,
     area: Rect,
 ) -> Result<Vec<Address>, AllocError>
-    ensures { IfOk result (λ found. found.items ≡ filter (is_within area) (keys_of (C.stored calculator.now).sheet)) }
+    ensures { IfOk result (λ found.
+        found.items ≡ filter (is_within area) (keys_of (C.stored calculator.now).sheet)) }
 {
     let mut found = Vec::new(alloc);
     let mut ahead = Some(area.first());
