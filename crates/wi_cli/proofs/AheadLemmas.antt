@@ -1,19 +1,28 @@
--- Bytes that are still to come, one taken.
-use Rattle.std.proofs.Common.{◌≡◌, ℕ, ◌+◌, ◌<◌, ◌≤◌, List, [], ◌∷◌, ◌++◌, length, get_or, take, drop, ap, ◌∙◌, arith, Option, None, Some}
-use Rattle.std.specs.Io.KnownBytes.{Consumes}
-use Rattle.std.proofs.lemmas.List.{drop_more, get_or-take, length-take}
+-- Bytes that are still to come, some taken, or more of them in the buffer.
+use Rattle.std.proofs.Common.{◌≡◌, ℕ, ◌+◌, ◌-◌, ◌≤◌, List, [], ◌++◌, take, drop, sym, ap, ◌∙◌, arith, append_assoc, Option, None, Some}
+use Rattle.std.specs.Io.KnownBytes.{Consumes, Keeps, IsAtEnd, prepend_known}
+use Rattle.std.proofs.lemmas.List.{drop-take}
 use Rattle.wi_cli.specs.Inner.Ahead.{Takes}
 
-pub first_of : (bytes : List ℕ) (at filled : ℕ) → at < filled → filled ≤ length bytes → drop at (take filled bytes) ≡ get_or bytes at 0 ∷ drop (at + 1) (take filled bytes)
-first_of bytes at filled l m =
-    drop_more (take filled bytes) at 0 (omega (arith, length-take filled bytes))
-    ∙ ap (λ b. b ∷ drop (at + 1) (take filled bytes)) (get_or-take filled bytes at 0 l)
+pub held : (bytes : List ℕ) (at filled : ℕ) → at ≤ filled → take (filled - at) (drop at bytes) ≡ drop at (take filled bytes)
+held bytes at filled l =
+    let all : at + (filled - at) ≡ filled = omega arith in
+    sym (drop-take at (filled - at) bytes) ∙ ap (λ n. drop at (take n bytes)) all
 
-pub buffered : (left : Option (List ℕ)) (xs ys : List ℕ) (x : ℕ) → xs ≡ x ∷ ys → Takes xs left ys left (x ∷ [])
-buffered None xs ys x e = tt
-buffered (Some more) xs ys x e = ap (λ l. l ++ more) e
+pub buffered : (left : Option (List ℕ)) (xs ys taken : List ℕ) → xs ≡ taken ++ ys → Takes xs left ys left taken
+buffered None xs ys taken e = tt
+buffered (Some more) xs ys taken e = ap (λ l. l ++ more) e ∙ append_assoc taken ys more
 
-pub refilled : (left left' : Option (List ℕ)) (xs ys : List ℕ) (x : ℕ) → Consumes left left' xs → xs ≡ x ∷ ys → Takes [] left ys left' (x ∷ [])
-refilled None left' xs ys x h e = tt
-refilled (Some p) None xs ys x h e = absurd h
-refilled (Some p) (Some q) xs ys x h e = h ∙ ap (λ l. l ++ q) e
+pub refilled : (left left' : Option (List ℕ)) (xs ys : List ℕ) → xs ≡ [] → Consumes left left' ys → Takes xs left ys left' []
+refilled None left' xs ys e h = tt
+refilled (Some p) None xs ys e h = absurd h
+refilled (Some p) (Some q) xs ys e h = ap (λ l. l ++ p) e ∙ h
+
+pub unfilled : (left left' : Option (List ℕ)) (xs : List ℕ) → xs ≡ [] → Keeps left left' → Takes xs left [] left' []
+unfilled None left' xs e h = tt
+unfilled (Some p) None xs e h = absurd h
+unfilled (Some p) (Some q) xs e h = ap (λ l. l ++ p) e ∙ sym h
+
+pub none_left : (left : Option (List ℕ)) → IsAtEnd left → IsAtEnd (prepend_known [] left)
+none_left None h = tt
+none_left (Some p) h = h

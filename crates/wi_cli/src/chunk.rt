@@ -1,11 +1,12 @@
 //! A buffer between a source and the reader of lines.
 
-ghost use Rattle.std.specs.Prelude.{◌≡◌, ◌<◌, ◌≤◌, [], ◌∷◌, false, is_err, IfOk, IfSome, IfNone, OnErr, IsSome};
+ghost use Rattle.std.specs.Prelude.{◌≡◌, ◌<◌, ◌≤◌, [], true, false, drop, length, is_err, IfOk, IfErr, OnOk, OnErr};
 ghost use Rattle.std.specs.Io.KnownBytes.{IsAtEnd, prepend_known};
 ghost use Rattle.wi_cli.specs.Inner.Ahead.{Takes, budget};
 
+use crate::fault::RunFault;
 use std::marker::Model;
-use wi_devices::{DeviceFault, Source};
+use wi_devices::Source;
 
 /// The bytes that are read at once.
 const SIZE: usize = 4096;
@@ -40,31 +41,44 @@ impl Chunk {
         }
     }
 
-    /// The next byte, or nothing at the end.
-    pub(crate) fn next_byte<R: Source>(&mut self, source: &mut R) -> Result<Option<u8>, DeviceFault>
+    /// Reads on where nothing is left, and tells whether a byte is left then. None is at the end alone.
+    pub(crate) fn fill<R: Source>(&mut self, source: &mut R) -> Result<bool, RunFault>
         requires { R.has_failed source.old ≡ false }
-        ensures byte { IfOk result (λ found. IfSome found (λ b.
-            Takes self.old (R.remaining source.old) self.new (R.remaining source.new) (b ∷ []))) }
-        ensures end { IfOk result (λ found. IfNone found (
-            Takes self.old (R.remaining source.old) self.new (R.remaining source.new) []
-            × IsAtEnd (prepend_known self.new (R.remaining source.new)))) }
-        ensures err { OnErr result (
-            Takes self.old (R.remaining source.old) self.new (R.remaining source.new) []) }
+        ensures kept { Takes self.old (R.remaining source.old) self.new (R.remaining source.new) [] }
+        ensures some { IfOk result (λ some. some ≡ true → 0 < length self.new) }
+        ensures end { IfOk result (λ some. some ≡ false → IsAtEnd (prepend_known self.new (R.remaining source.new))) }
+        ensures fault { IfErr result (λ e. e ≡ RunFault.Read) }
         ensures empty { OnErr result (self.new ≡ []) }
         ensures failed { R.has_failed source.new ≡ is_err result }
-        ensures less { IfOk result (λ found. IsSome found →
-            budget self.new (R.reads_left source.new) < budget self.old (R.reads_left source.old)) }
+        ensures less { OnOk result (
+            budget self.new (R.reads_left source.new) ≤ budget self.old (R.reads_left source.old)) }
     {
-        if self.at == self.filled {
-            self.at = 0;
-            self.filled = 0;
-            self.filled = source.read(&mut self.bytes)?;
-            if self.filled == 0 {
-                return Ok(None);
-            }
+        if self.at < self.filled {
+            return Ok(true);
         }
-        let byte = self.bytes[self.at];
-        self.at += 1;
-        Ok(Some(byte))
+        self.at = 0;
+        self.filled = 0;
+        match source.read(&mut self.bytes) {
+            Ok(count) => {
+                self.filled = count;
+                Ok(count > 0)
+            }
+            Err(_) => Err(RunFault::Read),
+        }
+    }
+
+    /// What is left.
+    pub(crate) fn rest(&self) -> &[u8]
+        ensures { result.now ≡ self.now }
+    {
+        &self.bytes[self.at..self.filled]
+    }
+
+    /// Takes so many of the bytes that are left.
+    pub(crate) fn skip(&mut self, count: usize)
+        requires { count ≤ length self.old }
+        ensures { self.new ≡ drop count self.old }
+    {
+        self.at += count;
     }
 }

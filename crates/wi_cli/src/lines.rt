@@ -2,10 +2,11 @@
 
 ghost use Rattle.std.specs.Prelude.{◌++◌, ◌∷◌, [], List, ℕ, ◌≡◌, ◌+◌, ◌<◌, ◌≤◌, false, true, MatchResult, nat_lt, vec_capacity, Err, OnOk, if◌then◌else◌};
 ghost use Rattle.wi_cli.specs.RunOutcome.{max_lines};
-ghost use Rattle.wi_cli.specs.Inner.Reading.{TookLine, Broke, line_front};
+ghost use Rattle.wi_cli.specs.Inner.Reading.{TookLine, TookPart, Broke, line_front};
 
 use crate::chunk::Chunk;
 use crate::fault::RunFault;
+use memchr::memchr;
 use wi_devices::Source;
 
 /// The greatest length of a line in bytes, without its LF.
@@ -32,34 +33,53 @@ pub(crate) fn read_line<R: Source>(
     ensures failed { result ≡ Err RunFault.Read → R.has_failed source.new ≡ true }
 {
     line.clear();
-    let mut byte = match chunk.next_byte(source) {
-        Ok(Some(first)) => first,
-        Ok(None) => return Ok(false),
-        Err(_) => return Err(RunFault::Read),
-    };
+    if !chunk.fill(source)? {
+        return Ok(false);
+    }
     if !allowed {
+        chunk.skip(1);
         return Err(RunFault::ScriptLimit);
     }
-    while byte != b'\n' {
-        keep(line, byte);
-        match chunk.next_byte(source) {
-            Ok(Some(next)) => byte = next,
-            Ok(None) => return Ok(false),
-            Err(_) => return Err(RunFault::Read),
+    while !take_part(chunk, line) {
+        if !chunk.fill(source)? {
+            return Ok(false);
         }
     }
     Ok(true)
 }
 
-/// Adds a byte to the front of a line, up to one byte more than the limit.
-fn keep(line: &mut Vec<u8>, byte: u8)
+/// Takes the bytes that are left up to the next LF, and with it, or all of them, and adds them to the line without the LF.
+/// Tells whether the LF came.
+fn take_part(chunk: &mut Chunk, line: &mut Vec<u8>) -> bool
     requires { MAX_LINE + 1 ≤ vec_capacity line.old }
-    ensures kept { (content : List ℕ) → line.old.items ≡ line_front content → line.new.items ≡ line_front (content ++ byte ∷ []) }
+    ensures took { TookPart result chunk.old chunk.new line.old.items line.new.items }
     ensures room { MAX_LINE + 1 ≤ vec_capacity line.new }
 {
-    if line.len() <= MAX_LINE {
-        let _ = line.push(byte);
+    let rest = chunk.rest();
+    match memchr(b'\n', rest) {
+        Some(count) => {
+            keep(line, &rest[..count]);
+            chunk.skip(count + 1);
+            true
+        }
+        None => {
+            let count = rest.len();
+            keep(line, rest);
+            chunk.skip(count);
+            false
+        }
     }
+}
+
+/// Adds bytes to the front of a line, up to one byte more than the limit.
+fn keep(line: &mut Vec<u8>, bytes: &[u8])
+    requires { MAX_LINE + 1 ≤ vec_capacity line.old }
+    ensures kept { (content : List ℕ) → line.old.items ≡ line_front content → line.new.items ≡ line_front (content ++ bytes.now) }
+    ensures room { MAX_LINE + 1 ≤ vec_capacity line.new }
+{
+    let room = (MAX_LINE + 1).saturating_sub(line.len());
+    let count = room.min(bytes.len());
+    let _ = line.extend_from_slice(&bytes[..count]);
 }
 
 /// Whether a run that has taken so many lines may take one more.

@@ -90,9 +90,6 @@ impl Singles {
     pub(crate) fn add_readers(&self, at: Address, set: &mut RisingSet) -> Result<(), AllocError>
         ensures { OnOk result ((r : ℕ) → contains nat_cmp set.new r ≡ (contains nat_cmp set.old r || list_any (pair_reads at r) self.now)) }
     {
-        if self.readers.is_empty() {
-            return Ok(());
-        }
         match self.readers.get(&at) {
             Some(few) => few.add_to(set),
             None => Ok(()),

@@ -14,6 +14,14 @@ line_front line = take (max_line + 1) line
 abbrev pub raw : Bool → List ℕ → List ℕ
 raw whole content = content ++ (if whole then codes "\n" else [])
 
+-- The bytes in the buffer were taken up to the first LF, and with it, or all of them. The front that is kept goes on with them.
+pub record TookPart (whole : Bool) (buffer buffer' line line' : List ℕ) : Type 0 where
+  pub part : List ℕ
+  pub no_lf : is_whole part ≡ false
+  pub taken : buffer ≡ raw whole part ++ buffer'
+  pub all : whole ≡ false → buffer' ≡ []
+  pub kept : (content : List ℕ) → line ≡ line_front content → line' ≡ line_front (content ++ part)
+
 -- A line was taken, whole or up to the end, or nothing was there. Its front is kept.
 pub record TookLine (allowed whole : Bool) (buffer : List ℕ) (left : Option (List ℕ)) (buffer' : List ℕ) (left' : Option (List ℕ)) (line : List ℕ) : Type 0 where
   pub content : List ℕ

@@ -1,11 +1,14 @@
-use Rattle.std.proofs.Common.{arith, refl}
-use Rattle.wi_cli.proofs.ReadingLemmas.{front_more, front_full}
+use Rattle.std.proofs.Common.{◌≡◌, ◌-◌, ◌++◌, length, take, min, ap, ◌∙◌, arith}
+use Rattle.std.proofs.lemmas.List.{length-take}
+use Rattle.wi_cli.proofs.PartLemmas.{front_grown}
 use Rattle.wi_cli.proofs.lines.keep.Goals as goal
 
-pub returns-then-len-le-MAX_LINE-clause-kept : goal.returns-then-len-le-MAX_LINE-clause-kept
-returns-then-len-le-MAX_LINE-clause-kept c = λ content h.
-    front_more c.args.line.now.items _ content c.args.byte h (let ok = c.args.line.now.ok in omega arith) (let done = c.push.ensures.succeeds (let ok = c.args.line.now.ok in omega arith) in rw done at c.push.ensures.items)
-
-pub returns-else-len-le-MAX_LINE-clause-kept : goal.returns-else-len-le-MAX_LINE-clause-kept
-returns-else-len-le-MAX_LINE-clause-kept c = λ content h.
-    front_full c.args.line.now.items _ content c.args.byte h (let ok = c.args.line.now.ok in omega arith) refl
+pub returns-clause-kept : goal.returns-clause-kept
+returns-clause-kept c = λ content h.
+    let line = c.args.line.now in
+    let bytes = c.args.bytes.now in
+    let ok = c.args.line.now.ok in
+    let count : c.min-count.result ≡ min (65537 - length line.items) (length bytes) =
+    c.min-count.ensures ∙ ap (λ n. min n (length bytes)) (c.saturating_sub-room.ensures ∙ ap (λ n. 65537 - n) (c.len.ensures ∙ ok.0)) in
+    let done = c.extend_from_slice.ensures.succeeds (omega (arith, length-take c.min-count.result c.args.bytes.now)) in
+    front_grown line.items _ content bytes h (rw done at c.extend_from_slice.ensures.items ∙ ap (λ n. line.items ++ take n bytes) count)

@@ -1,48 +1,55 @@
 use Rattle.std.proofs.Common.{rules}
-use Rattle.wi_cli.proofs.ReadingLemmas.{went_on, ended, failed, begun, nothing}
+use Rattle.std.proofs.lemmas.Result.{err_from_is_err_and}
+use Rattle.wi_cli.proofs.ReadingLemmas.{begun, went_on, ended, failed, came, limited}
 use Rattle.wi_cli.proofs.lines.read_line.Goals as goal
 
-pub loop-byte-preserved : goal.loop-byte-preserved
-loop-byte-preserved g c =
-    let old = c.loop-byte.invariant in
+pub returns-then-not-branch-clause-took : goal.returns-then-not-branch-clause-took
+returns-then-not-branch-clause-took g c =
+    ended _ _ _ _ _ _ (begun _ _ _ _ _ _ c.clear.ensures.items c.fill.ensures.kept) (c.in_ok-fill.ensures.end c.if-not-branch.true)
+
+pub returns-then-not-allowed-clause-took : goal.returns-then-not-allowed-clause-took
+returns-then-not-allowed-clause-took g c =
+    let left = g.R.Source.remaining in
+    limited c.args.allowed c.args.chunk.now (left c.args.source.now) c.fill.new.self (left c.fill.new.source) c.skip.new.self
+    c.fill.ensures.kept (c.in_ok-fill.ensures.some c.if-not-branch.false) c.skip.ensures c.if-not-allowed.true
+
+pub loop-chunk-init : goal.loop-chunk-init
+loop-chunk-init g c =
     record {
-      within = went_on _ _ _ _ _ _ c.loop-byte.line.items _ c.loop-byte.byte _ old.within c.loop-byte-test.true (c.keep.ensures.kept old.within.content old.within.kept)
-          (rw c.in-Ok-Some-next_byte.field-0-is at c.in-Ok-Some-next_byte.ensures.byte);
-      works = c.in-Ok-Some-next_byte.ensures.failed;
-      room = c.keep.ensures.room;
-      may = old.may;
-    }
-
-pub returns-in-Ok-None-next_byte-clause-took : goal.returns-in-Ok-None-next_byte-clause-took
-returns-in-Ok-None-next_byte-clause-took g c =
-    let old = c.loop-byte.invariant in
-    let e = rw c.in-Ok-None-next_byte.field-0-is at c.in-Ok-None-next_byte.ensures.end in
-    ended _ _ _ _ _ _ c.loop-byte.line.items _ c.loop-byte.byte _ old.within c.loop-byte-test.true (c.keep.ensures.kept old.within.content old.within.kept) old.may e.0 e.1
-
-pub returns-in-Err-next_byte-clause-took : goal.returns-in-Err-next_byte-clause-took
-returns-in-Err-next_byte-clause-took g c =
-    let old = c.loop-byte.invariant in
-    failed _ _ _ _ _ _ c.loop-byte.line.items c.loop-byte.byte c.args.allowed old.within c.loop-byte-test.true old.may c.in-Err-next_byte.ensures.empty c.in-Err-next_byte.ensures.err
-
-pub returns-in-Err-next_byte-clause-works : goal.returns-in-Err-next_byte-clause-works
-returns-in-Err-next_byte-clause-works g c = tt
-
-pub returns-in-Ok-None-clause-took : goal.returns-in-Ok-None-clause-took
-returns-in-Ok-None-clause-took g c =
-    let e = rw c.in-Ok-None.field-0-is at c.in-Ok-None.ensures.end in
-    nothing _ _ _ _ _ c.args.allowed c.clear.ensures.items e.0 e.1
-
-pub loop-byte-init : goal.loop-byte-init
-loop-byte-init g c =
-    record {
-      within = begun _ _ _ _ _ c.in-Ok-Some.first c.clear.ensures.items (rw c.in-Ok-Some.field-0-is at c.in-Ok-Some.ensures.byte);
-      works = c.in-Ok-Some.ensures.failed;
+      within = begun _ _ _ _ _ _ c.clear.ensures.items c.fill.ensures.kept;
+      some = c.in_ok-fill.ensures.some c.if-not-branch.false;
+      works = c.in_ok-fill.ensures.failed;
       room = search rules;
       may = search rules;
     }
 
-pub returns-then-not-allowed-clause-took : goal.returns-then-not-allowed-clause-took
-returns-then-not-allowed-clause-took g c = search rules
+pub loop-chunk-preserved : goal.loop-chunk-preserved
+loop-chunk-preserved g c =
+    let old = c.loop-chunk.invariant in
+    record {
+      within = went_on _ _ _ _ _ _ _ _ _ _ old.within c.loop-chunk-test.ensures.took old.may c.fill-in-loop-chunk.ensures.kept;
+      some = c.in_ok-fill-2.ensures.some c.if-not-branch-2.false;
+      works = c.in_ok-fill-2.ensures.failed;
+      room = c.take_part.ensures.room;
+      may = old.may;
+    }
 
-pub returns-then-not-allowed-clause-failed : goal.returns-then-not-allowed-clause-failed
-returns-then-not-allowed-clause-failed g c = search rules
+pub returns-then-not-branch-2-clause-took : goal.returns-then-not-branch-2-clause-took
+returns-then-not-branch-2-clause-took g c =
+    let old = c.loop-chunk.invariant in
+    ended _ _ _ _ _ _ (went_on _ _ _ _ _ _ _ _ _ _ old.within c.loop-chunk-test.ensures.took old.may c.fill-in-loop-chunk.ensures.kept)
+    (c.in_ok-fill-2.ensures.end c.if-not-branch-2.true)
+
+pub returns-in_err-fill-2-clause-took : goal.returns-in_err-fill-2-clause-took
+returns-in_err-fill-2-clause-took g c =
+    let left = g.R.Source.remaining in
+    let old = c.loop-chunk.invariant in
+    let p = err_from_is_err_and c.from_residual-in_err-fill-2.result c.from_residual-in_err-fill-2.ensures.1 in
+    rw (p.1, p.2, c.in_err-fill-2.ensures.fault)
+    (failed c.args.allowed c.args.chunk.now (left c.args.source.now) c.fill-in-loop-chunk.new.self (left c.fill-in-loop-chunk.new.source) c.take_part.new.line.items
+    (went_on _ _ _ _ _ _ _ _ _ _ old.within c.loop-chunk-test.ensures.took old.may c.fill-in-loop-chunk.ensures.kept) c.in_err-fill-2.ensures.empty)
+
+pub returns-clause-took : goal.returns-clause-took
+returns-clause-took g c =
+    let old = c.loop-chunk.invariant in
+    came _ _ _ _ _ _ _ _ old.within c.loop-chunk-test.ensures.took old.may
