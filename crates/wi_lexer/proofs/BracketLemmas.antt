@@ -1,5 +1,5 @@
 -- What stands between `[.` and the first `]`.
-use Rattle.std.proofs.Common.{◌≡◌, ℕ, suc, ◌+◌, ◌-◌, ◌<◌, ◌≤◌, Bool, true, false, cond, ◌&&◌, ◌==◌, List, [], ◌∷◌, ◌++◌, length, take, get_or, Option, Some, None, is_some, refl, sym, ap, ◌∙◌, arith, append_assoc, length-append}
+use Rattle.std.proofs.Common.{◌≡◌, ℕ, suc, ◌+◌, ◌-◌, ◌<◌, ◌≤◌, Bool, true, false, cond, ◌&&◌, ◌==◌, List, [], ◌∷◌, ◌++◌, length, take, drop, get_or, Option, Some, None, is_some, refl, sym, ap, ◌∙◌, arith, append_assoc, length-append}
 use Rattle.std.specs.Prelude.{nat_lt, slice_index}
 use Rattle.std.proofs.lemmas.Bool.{eqb-true, ltb-true, ltb-false, lt-ltb, and_parts}
 use Rattle.std.proofs.lemmas.Bool.Decides.{nat_tests}
@@ -30,6 +30,10 @@ inside_found x =
     let size = length-append x (93 ∷ []) in
     let place : length (bracketed x) - 3 ≡ length x = omega (arith, size) in
     ap (λ i. take i (x ++ 93 ∷ [])) place ∙ take-append_seam x (93 ∷ [])
+
+-- as a slice between two places
+pub inside_slice : (text : List ℕ) → take (length text - 1 - 2) (drop 2 text) ≡ inside text
+inside_slice text = let size : length text - 1 - 2 ≡ length text - 3 = omega arith in ap (λ n. take n (drop 2 text)) size
 
 -- what `read` finds inside the brackets
 abbrev pub read_inside : {A : Type 0} → (List ℕ → Option A) → List ℕ → Option A

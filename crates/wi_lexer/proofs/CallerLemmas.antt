@@ -6,7 +6,7 @@ use Rattle.wi_lexer.specs.declared.token.Kind.{Kind}
 use Rattle.wi_lexer.specs.declared.lexer.Token.{Token}
 use Rattle.wi_lexer.specs.declared.lexer.BadToken.{BadToken}
 use Rattle.wi_lexer.specs.Runs.{blanks_len}
-use Rattle.wi_lexer.specs.Token.{NoToken, after_blanks}
+use Rattle.wi_lexer.specs.Token.{IsToken, NoToken, after_blanks}
 use Rattle.wi_lexer.specs.Inner.Token.{token_at}
 use Rattle.wi_lexer.specs.Scan.{Scan}
 use Rattle.wi_lexer.specs.Lexing.{start_of, ahead, IsNextToken, IsDone, Lexes}
@@ -98,6 +98,12 @@ tokens_bad s some none = tokens_are s.rest ∙ none_ahead tokens (ahead s) some 
 
 pub tokens_end : (s : Scan) → ahead s ≡ [] → tokens s.rest ≡ no_tokens
 tokens_end s none = tokens_are s.rest ∙ ap (λ bs. tokens_ahead tokens bs) none
+
+-- the text of a token is one of its kind
+pub token_is : (old : Scan) (t : Token) (new : Scan) → IsNextToken old t new → IsToken t.kind t.text.now
+token_is old t new h =
+    let text = t.text.now in
+    subst (IsToken t.kind) (ap (take (length text)) h.front ∙ take-append_seam text new.rest) h.longest.token
 
 -- each token leaves less
 pub next_shortens : (old : Scan) (t : Token) (new : Scan) → IsNextToken old t new → length new.rest < length old.rest

@@ -10,7 +10,7 @@ use Rattle.std.specs.Char.{is_ascii_digit, is_ascii_alphabetic}
 use Rattle.wi_lexer.specs.Runs.{IsRun}
 use Rattle.wi_lexer.specs.Inner.Runs.{letters_len}
 use Rattle.wi_lexer.specs.Cell.{Cell, IsCell, dollar, cell_text}
-use Rattle.wi_lexer.specs.Inner.Cell.{begins_with_dollar, after_dollar, cut_row, cut_column, is_row, is_cell, if_cell, cell_of}
+use Rattle.wi_lexer.specs.Inner.Cell.{begins_with_dollar, after_dollar, cut_row, cut_column, is_row, is_cell, if_cell, cut, cell_of}
 use Rattle.wi_lexer.proofs.RunLemmas.{run_stops, run_more, run_all, all_append, all_wider}
 
 -- the text before and after a `$` that may stand first
@@ -44,7 +44,7 @@ is_cell_tells c h all =
       first = first;
     }
 
-cut_back : (bs : List ℕ) → cell_text (cut_column (begins_with_dollar bs) (after_dollar bs)) ≡ bs
+cut_back : (bs : List ℕ) → cell_text (cut bs) ≡ bs
 cut_back bs =
     let column = after_dollar bs in
     let n = letters_len column in
@@ -52,10 +52,14 @@ cut_back bs =
     ∙ ap (λ r. dollar (begins_with_dollar bs) ++ r) (take-append-drop n column)
     ∙ dollar_back bs
 
+pub cut_is : (bs : List ℕ) (c : Cell) → cell_of bs ≡ Some c → cut bs ≡ c
+unfolding cell_of
+cut_is bs c h = (if_cell_is (cut bs) c h).1
+
 pub cell_sound : (bs : List ℕ) (c : Cell) → cell_of bs ≡ Some c → IsCell c × (cell_text c ≡ bs)
 unfolding cell_of
 cell_sound bs c h =
-    let d = cut_column (begins_with_dollar bs) (after_dollar bs) in
+    let d = cut bs in
     let p = if_cell_is d c h in
     (subst IsCell p.1 (is_cell_tells d p.0 (run_all is_ascii_alphabetic (after_dollar bs))), ap cell_text (sym p.1) ∙ cut_back bs)
 

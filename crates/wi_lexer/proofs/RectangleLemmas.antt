@@ -1,5 +1,5 @@
 -- The reference to a rectangle found at the front is one, and each one there is found.
-use Rattle.std.proofs.Common.{◌≡◌, ℕ, ◌<◌, ◌≤◌, Bool, true, false, cond, ◌==◌, List, [], ◌∷◌, ◌++◌, length, take, drop, Option, Some, None, is_some, refl, sym, ap, ◌∙◌, subst, arith, append_assoc}
+use Rattle.std.proofs.Common.{◌≡◌, ℕ, ◌<◌, ◌≤◌, Bool, true, false, cond, ◌==◌, List, [], ◌∷◌, ◌++◌, length, take, drop, Option, Some, None, is_some, refl, sym, ap, ap₂, ◌∙◌, subst, arith, append_assoc, length-append}
 use Rattle.std.specs.Prelude.{slice_index}
 use Rattle.std.proofs.lemmas.Bool.{eqb-true, and_parts}
 use Rattle.std.proofs.lemmas.Bool.Decides.{nat_tests}
@@ -10,12 +10,12 @@ use Rattle.std.specs.List.{list_all}
 use Rattle.std.specs.Char.{is_ascii_digit, is_ascii_alphabetic}
 use Rattle.wi_lexer.specs.Inner.Runs.{is_inside, is_before_colon, before_colon_len}
 use Rattle.wi_lexer.specs.Cell.{Cell, IsCell, cell_text}
-use Rattle.wi_lexer.specs.Inner.Cell.{cell_of}
+use Rattle.wi_lexer.specs.Inner.Cell.{cell_of, cut}
 use Rattle.wi_lexer.specs.Inner.Reference.{inside, reference_of, reference_len}
 use Rattle.wi_lexer.specs.Rectangle.{rectangle_text, IsRectangle, two_cells}
 use Rattle.wi_lexer.specs.Inner.Rectangle.{begins_second, both_cells, cells_beside, corner_cells, rectangle_of, rectangle_len}
 use Rattle.wi_lexer.proofs.RunLemmas.{run_more, all_append}
-use Rattle.wi_lexer.proofs.CellLemmas.{cell_sound, cell_complete, cell_all}
+use Rattle.wi_lexer.proofs.CellLemmas.{cell_sound, cell_complete, cell_all, cut_is}
 use Rattle.wi_lexer.proofs.BracketLemmas.{bracketed, inside_read, read_back, some_item, closed_len, closed_front, closed_none, closed_bracket, cell_inside}
 use Rattle.wi_lexer.proofs.ReferenceLemmas.{is_reference}
 
@@ -90,6 +90,38 @@ rectangle_of_sound text c d h =
     let r = read_back corner_cells text (c, d) h in
     let p = cells_sound (inside text) c d r.0 in
     (p.0, p.1, sym (rectangle_is c d) ∙ ap bracketed p.2 ∙ r.1)
+
+-- the bytes inside the brackets, up to the colon and from it on
+abbrev pub first_part : List ℕ → List ℕ
+first_part text = take (before_colon_len (inside text)) (inside text)
+
+abbrev pub second_part : List ℕ → List ℕ
+second_part text = drop (before_colon_len (inside text)) (inside text)
+
+cells_cut : (first rest : List ℕ) (c d : Cell) → cells_beside first rest ≡ Some (c, d) → (both_cells (Some (cut first)) (Some (cut (drop 2 rest))) ≡ Some (c, d)) × (2 ≤ length rest)
+cells_cut first rest c d h = go (begins_second rest) refl h
+  where
+    go : (t : Bool) → begins_second rest ≡ t → cond t (both_cells (cell_of first) (cell_of (drop 2 rest))) None ≡ Some (c, d) → (both_cells (Some (cut first)) (Some (cut (drop 2 rest))) ≡ Some (c, d)) × (2 ≤ length rest)
+    go true e f =
+        let b = both_found (cell_of first) (cell_of (drop 2 rest)) c d f in
+        (ap₂ (λ x y. both_cells (Some x) (Some y)) (cut_is first c b.0) (cut_is (drop 2 rest) d b.1), omega (arith, ap length (second_back rest e)))
+    go false e f = cc
+
+both_cut : (c d : Cell) → IsCell c → IsCell d → (both_cells (Some (cut (first_part (rectangle_text c d)))) (Some (cut (drop 2 (second_part (rectangle_text c d))))) ≡ Some (c, d)) × (2 ≤ length (second_part (rectangle_text c d)))
+unfolding rectangle_of corner_cells
+both_cut c d h k =
+    let text = rectangle_text c d in
+    cells_cut (first_part text) (second_part text) c d (read_back corner_cells text (c, d) (rectangle_of_complete c d h k)).0
+
+-- a reference to a rectangle is cut into its cells
+pub rectangle_cut : (text : List ℕ) → IsRectangle text → rectangle_of text ≡ both_cells (Some (cut (first_part text))) (Some (cut (drop 2 (second_part text))))
+rectangle_cut text (two_cells c d h k) = rectangle_of_complete c d h k ∙ sym (both_cut c d h k).0
+
+pub second_long : (text : List ℕ) → IsRectangle text → 2 ≤ length (second_part text)
+second_long text (two_cells c d h k) = (both_cut c d h k).1
+
+pub rectangle_long : (text : List ℕ) → IsRectangle text → 3 ≤ length text
+rectangle_long text (two_cells c d h k) = let size = ap length (rectangle_is c d) in omega (arith, size, length-append (beside c d) (93 ∷ []))
 
 -- ---- at the front
 

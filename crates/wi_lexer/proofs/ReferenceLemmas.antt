@@ -1,11 +1,11 @@
 -- The reference found at the front is one, and each reference there is found.
-use Rattle.std.proofs.Common.{◌≡◌, ℕ, ◌<◌, ◌≤◌, Bool, true, cond, List, ◌++◌, length, take, Some, is_some, refl, ap, ◌∙◌, subst}
+use Rattle.std.proofs.Common.{◌≡◌, ℕ, ◌<◌, ◌≤◌, Bool, true, cond, List, [], ◌∷◌, ◌++◌, length, take, Some, is_some, refl, sym, ap, ◌∙◌, subst, arith, length-append}
 use Rattle.std.specs.Prelude.{slice_index}
 use Rattle.wi_lexer.specs.Cell.{Cell, IsCell, cell_text}
-use Rattle.wi_lexer.specs.Inner.Cell.{cell_of}
+use Rattle.wi_lexer.specs.Inner.Cell.{cell_of, cut}
 use Rattle.wi_lexer.specs.Reference.{IsReference, one_cell}
 use Rattle.wi_lexer.specs.Inner.Reference.{inside, reference_of, reference_len}
-use Rattle.wi_lexer.proofs.CellLemmas.{cell_sound, cell_complete}
+use Rattle.wi_lexer.proofs.CellLemmas.{cell_sound, cell_complete, cut_is}
 use Rattle.wi_lexer.proofs.BracketLemmas.{bracketed, inside_read, read_back, some_item, closed_len, closed_front, closed_none, closed_bracket, cell_inside}
 
 pub reference_of_complete : (c : Cell) → IsCell c → reference_of (bracketed (cell_text c)) ≡ Some c
@@ -18,6 +18,16 @@ reference_of_sound text c h =
     let r = read_back cell_of text c h in
     let p = cell_sound (inside text) c r.0 in
     (p.0, ap bracketed p.1 ∙ r.1)
+
+-- a reference is cut into its cell
+pub reference_cut : (text : List ℕ) → IsReference text → reference_of text ≡ Some (cut (inside text))
+unfolding reference_of
+reference_cut text (one_cell c h) =
+    let whole = reference_of_complete c h in
+    whole ∙ ap Some (sym (cut_is (inside text) c (read_back cell_of text c whole).0))
+
+pub reference_long : (text : List ℕ) → IsReference text → 3 ≤ length text
+reference_long text (one_cell c h) = omega (arith, length-append (cell_text c) (93 ∷ []))
 
 -- ---- at the front
 

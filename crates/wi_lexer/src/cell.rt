@@ -41,24 +41,32 @@ fn is_row(digits: &[u8]) -> bool
     byte(digits, 0) > b'0' && all_digits(digits)
 }
 
+// The text cut into the parts of a cell, which it may not be.
+pub(crate) fn cut(text: &[u8]) -> CellText<'_>
+    ensures { spec.parts result ≡ spec.cut text.now }
+{
+    let (column_is_absolute, column) = after_dollar(text);
+    let (letters, row) = column.split_at(letters_len(column));
+    let (row_is_absolute, digits) = after_dollar(row);
+    CellText {
+        column_is_absolute,
+        letters,
+        row_is_absolute,
+        digits,
+    }
+}
+
 /// The parts of a cell, as `$A1`. None where the text is no cell.
 #[tactic(auto, unfolding(crate::specs::Inner::Cell::cell_of))]
 pub fn cell_of(text: &[u8]) -> Option<CellText<'_>>
     ensures { option_map spec.parts result ≡ spec.cell_of text.now }
 {
-    let (column_is_absolute, column) = after_dollar(text);
-    let (letters, row) = column.split_at(letters_len(column));
-    let (row_is_absolute, digits) = after_dollar(row);
-    if letters.is_empty() {
+    let cell = cut(text);
+    if cell.letters.is_empty() {
         return None;
     }
-    if !is_row(digits) {
+    if !is_row(cell.digits) {
         return None;
     }
-    Some(CellText {
-        column_is_absolute,
-        letters,
-        row_is_absolute,
-        digits,
-    })
+    Some(cell)
 }

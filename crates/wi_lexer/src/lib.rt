@@ -15,7 +15,7 @@ mod token;
 
 pub use cell::{CellText, cell_of};
 pub use lexer::{BadToken, Lexer, Token};
-pub use rectangle::rectangle_of;
-pub use reference::reference_of;
+pub use rectangle::{cells_in, rectangle_of};
+pub use reference::{cell_in, reference_of};
 pub use text::text_content;
 pub use token::{Kind, Mark};

@@ -1,9 +1,10 @@
 //! References to a rectangle.
 
-ghost use Rattle.std.specs.Prelude.{◌≡◌, option_map};
+ghost use Rattle.std.specs.Prelude.{◌≡◌, Some, option_map};
 ghost use Rattle.wi_lexer.specs.Inner.Rectangle as spec;
+ghost use Rattle.wi_lexer.specs.Rectangle.{IsRectangle};
 
-use crate::cell::{CellText, cell_of};
+use crate::cell::{CellText, cell_of, cut};
 use crate::reference::is_bracketed;
 use crate::runs::{before_colon_len, byte, inside_len};
 
@@ -28,6 +29,19 @@ pub fn rectangle_of(text: &[u8]) -> Option<(CellText<'_>, CellText<'_>)>
         return None;
     }
     corner_cells(&text[2..text.len() - 1])
+}
+
+/// The cells of a text that is known to be a reference to a rectangle. Of its bytes it looks at those up to the colon, and
+/// at the letters behind it.
+#[tactic(auto, using(crate::proofs::RectangleLemmas::rectangle_long))]
+pub fn cells_in(text: &[u8]) -> (CellText<'_>, CellText<'_>)
+    requires { IsRectangle text.now }
+    ensures { spec.rectangle_of text.now ≡ Some (spec.parts_of_both result) }
+{
+    let inside = &text[2..text.len() - 1];
+    let (first, rest) = inside.split_at(before_colon_len(inside));
+    let (_colon, second) = rest.split_at(2);
+    (cut(first), cut(second))
 }
 
 #[tactic(auto, using(crate::proofs::RectangleLemmas::no_rectangle), unfolding(crate::specs::Inner::Rectangle::rectangle_len))]

@@ -1,10 +1,11 @@
 //! References to one cell.
 
-ghost use Rattle.std.specs.Prelude.{◌≡◌, option_map};
+ghost use Rattle.std.specs.Prelude.{◌≡◌, Some, option_map};
 ghost use Rattle.wi_lexer.specs.Inner.Cell.{parts};
 ghost use Rattle.wi_lexer.specs.Inner.Reference as spec;
+ghost use Rattle.wi_lexer.specs.Reference.{IsReference};
 
-use crate::cell::{CellText, cell_of};
+use crate::cell::{CellText, cell_of, cut};
 use crate::runs::{byte, inside_len};
 
 pub(crate) fn is_bracketed(text: &[u8]) -> bool
@@ -22,6 +23,15 @@ pub fn reference_of(text: &[u8]) -> Option<CellText<'_>>
         return None;
     }
     cell_of(&text[2..text.len() - 1])
+}
+
+/// The cell of a text that is known to be a reference. Of its bytes it looks at the letters alone.
+#[tactic(auto, using(crate::proofs::ReferenceLemmas::reference_long))]
+pub fn cell_in(text: &[u8]) -> CellText<'_>
+    requires { IsReference text.now }
+    ensures { spec.reference_of text.now ≡ Some (parts result) }
+{
+    cut(&text[2..text.len() - 1])
 }
 
 #[tactic(auto, using(crate::proofs::ReferenceLemmas::no_reference), unfolding(crate::specs::Inner::Reference::reference_len))]

@@ -16,9 +16,9 @@ use crate::text::text_len;
 pub enum Kind {
     /// Digits, optionally a point and digits, or a point and digits; then optionally `e` or `E`, a sign or none, and digits.
     Number,
-    /// `[.CELL]`; `reference_of` tells its cell.
+    /// `[.CELL]`; `cell_in` tells its cell.
     Reference,
-    /// `[.CELL:.CELL]`; `rectangle_of` tells its cells.
+    /// `[.CELL:.CELL]`; `cells_in` tells its cells.
     Rectangle,
     /// An ASCII letter or `_`, then ASCII letters, digits, `_` and points.
     Name,

@@ -4,13 +4,16 @@ ghost use Rattle.std.specs.Prelude.{◌≡◌, IfOk};
 ghost use Rattle.wi_parser.specs.Inner.SymbolCode.{meant_by};
 ghost use Rattle.wi_parser.specs.Inner.FormulaText.{symbol_of, reference_symbol, rectangle_symbol, mark_symbol};
 ghost use Rattle.wi_parser.specs.Symbols.{name_symbol, reference_to};
+ghost use Rattle.wi_lexer.specs.Token.{IsToken};
+ghost use Rattle.wi_lexer.specs.Reference.{IsReference};
+ghost use Rattle.wi_lexer.specs.Rectangle.{IsRectangle};
 ghost use Rattle.wi_lexer.specs.Inner.Cell.{parts};
 
 use crate::expr::{Corners, Operator, Reference};
 use crate::fault::ParseFault;
 use std::alloc::{AllocError, Global};
 use wi_fraction::Fraction;
-use wi_lexer::{CellText, Kind, Mark, Token, rectangle_of, reference_of, text_content};
+use wi_lexer::{CellText, Kind, Mark, Token, cell_in, cells_in, text_content};
 use wi_values::{Address, Text};
 
 /// A token with its value.
@@ -37,6 +40,7 @@ pub enum Symbol {
 impl Symbol {
     /// What a token means.
     pub(crate) fn of_token(alloc: Global, token: Token<'_>) -> Result<Symbol, AllocError>
+        requires { IsToken token.kind token.text.now }
         ensures { IfOk result (λ s. meant_by s ≡ symbol_of token.entry.kind token.entry.text.now) }
     {
         match token.kind {
@@ -60,12 +64,10 @@ fn number(text: &[u8]) -> Symbol
 }
 
 fn reference(text: &[u8]) -> Symbol
+    requires { IsReference text.now }
     ensures { meant_by result ≡ symbol_of Kind.Reference text.now }
 {
-    match reference_of(text) {
-        Some(cell) => cell_named(cell),
-        None => Symbol::Refused(ParseFault::Syntax),
-    }
+    cell_named(cell_in(text))
 }
 
 fn name(alloc: Global, text: &str) -> Result<Symbol, AllocError>
@@ -101,12 +103,11 @@ fn reference_to(cell: CellText<'_>) -> Option<Reference>
 }
 
 fn rectangle(text: &[u8]) -> Symbol
+    requires { IsRectangle text.now }
     ensures { meant_by result ≡ symbol_of Kind.Rectangle text.now }
 {
-    match rectangle_of(text) {
-        Some((one, other)) => between(one, other),
-        None => Symbol::Refused(ParseFault::Syntax),
-    }
+    let (one, other) = cells_in(text);
+    between(one, other)
 }
 
 fn between(one: CellText<'_>, other: CellText<'_>) -> Symbol

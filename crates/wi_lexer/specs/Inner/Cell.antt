@@ -35,9 +35,13 @@ is_cell c = nat_lt 0 (length c.letters) && is_row c.digits
 abbrev pub if_cell : Cell → Option Cell
 if_cell c = if is_cell c then Some c else None
 
+-- the bytes cut into the parts of a cell
+abbrev pub cut : List ℕ → Cell
+cut bs = cut_column (begins_with_dollar bs) (after_dollar bs)
+
 -- the cell that the bytes are the text of
 unfoldable pub cell_of : List ℕ → Option Cell
-cell_of bs = if_cell (cut_column (begins_with_dollar bs) (after_dollar bs))
+cell_of bs = if_cell (cut bs)
 
 -- the parts that a `CellText` lends
 abbrev pub parts : CellText → Cell

@@ -2,11 +2,14 @@ use Rattle.std.proofs.Common.{◌∷◌, ◌++◌, append-nil, ap, sym, ◌∙�
 use Rattle.std.proofs.lemmas.Grind.{common_steps}
 use Rattle.wi_parser.specs.Inner.SymbolCode.{all_meant}
 use Rattle.wi_parser.proofs.Collected.{left, left_next, left_bad, left_end, pushed}
-use Rattle.wi_lexer.proofs.CallerLemmas.{next_shortens}
+use Rattle.wi_lexer.proofs.CallerLemmas.{next_shortens, token_is}
 use Rattle.wi_parser.proofs.tokens.push_symbols.Goals as goal
 
 pub loop-next-smaller-in_ok-push-in-Ok : goal.loop-next-smaller-in_ok-push-in-Ok
 loop-next-smaller-in_ok-push-in-Ok c = next_shortens c.loop-next.lexer c.in-Ok.token c.next_token.new.self (rw c.in-Ok.is at c.in-Some.ensures)
+
+pub of_token-requires : goal.of_token-requires
+of_token-requires c = token_is c.loop-next.lexer c.in-Ok.token c.next_token.new.self (rw c.in-Ok.is at c.in-Some.ensures)
 
 pub loop-next-preserved-in_ok-push-in-Ok : goal.loop-next-preserved-in_ok-push-in-Ok
 loop-next-preserved-in_ok-push-in-Ok c =
