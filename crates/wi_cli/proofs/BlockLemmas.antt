@@ -4,8 +4,8 @@ use Rattle.std.specs.List.{filter}
 use Rattle.std.proofs.lemmas.Bool.{ne_eqb}
 use Rattle.std.proofs.lemmas.List.Elements.{filter-append}
 use Rattle.wi_cli.specs.Lines.{without_lf}
-use Rattle.wi_cli.specs.CsvCommand.{csv_line}
-use Rattle.wi_cli.specs.Blocks.{Block, lines_of, begun, with_data, is_complete, blocks_from, blocks}
+use Rattle.wi_cli.specs.Inner.CsvCommand.{csv_line}
+use Rattle.wi_cli.specs.Inner.Blocks.{Block, lines_of, begun, with_data, is_complete, blocks_from, blocks}
 use Rattle.wi_cli.specs.Inner.Taken.{AreBlocks, AreBlocksOf}
 
 abbrev pub block_of : List ℕ → List (List ℕ) → ℕ → Block

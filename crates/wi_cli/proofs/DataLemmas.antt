@@ -13,7 +13,7 @@ use Rattle.wi_cli.specs.declared.data_lines.Held.{Held}
 use Rattle.wi_cli.specs.declared.data_lines.Held.TheVariants.{All, Lacking, TooLong}
 use Rattle.wi_cli.specs.declared.data_lines.DataLines.{DataLines}
 use Rattle.wi_cli.specs.Lines.{raw_lines, without_cr, is_whole}
-use Rattle.wi_cli.specs.CsvCommand.{CsvLine, csv_text, csv_line, is_long}
+use Rattle.wi_cli.specs.Inner.CsvCommand.{CsvLine, csv_text, csv_line, is_long}
 use Rattle.wi_cli.specs.Inner.Reading.{raw, line_front, TookLine, Broke}
 use Rattle.wi_cli.specs.Inner.Taken.{TookLines}
 use Rattle.wi_cli.specs.Inner.Data.{IsCsv, Holds, HoldsLines, AddedTo, TookData, BrokeData}

@@ -9,7 +9,7 @@ use Rattle.wi_scenarios.specs.State.{State, state_over, new_state}
 use Rattle.wi_scenarios.specs.Pending.{Book}
 use Rattle.wi_cli.specs.declared.fault.RunFault.{RunFault}
 use Rattle.wi_cli.specs.declared.fault.RunFault.TheVariants.{Memory}
-use Rattle.wi_cli.specs.RunOutcome.{RunOutcome}
+use Rattle.wi_cli.specs.Outcome.{Outcome}
 
 -- a new workbook with these limits
 empty_within : ℕ → ℕ → State
@@ -29,10 +29,10 @@ is_new (Err e) stored b s = tt
 
 -- what `run` says of what it reads and writes
 abbrev pub Replies : Result (Unit {0}) RunFault → Option (List ℕ) → Option (List ℕ) → State → State → Option (List ℕ) → Option (List ℕ) → Type 0
-Replies r left left' s t given given' = (input : List ℕ) × (out : List ℕ) × Consumes left left' input × Appends given given' out × RunOutcome r left' s t input out
+Replies r left left' s t given given' = (input : List ℕ) × (out : List ℕ) × Consumes left left' input × Appends given given' out × Outcome r left' s t input out
 
 abbrev pub EndsNew : Result (Unit {0}) RunFault → Option (List ℕ) → Option (List ℕ) → Option (List ℕ) → Option (List ℕ) → Type 0
-EndsNew r left left' given given' = (last : State) × (input : List ℕ) × (out : List ℕ) × Consumes left left' input × Appends given given' out × RunOutcome r left' new_state last input out
+EndsNew r left left' given given' = (last : State) × (input : List ℕ) × (out : List ℕ) × Consumes left left' input × Appends given given' out × Outcome r left' new_state last input out
 
 pub not_begun : (r : Result (Unit {0}) RunFault) (left given : Option (List ℕ)) → r ≡ Err Memory → EndsNew r left left given given
 not_begun r left given e = rw e (new_state, [], [], Consumes-nil left, Appends-nil given, (refl, refl, refl))
@@ -40,4 +40,4 @@ not_begun r left given e = rw e (new_state, [], [], Consumes-nil left, Appends-n
 pub ends_new : (r r' : Result (Unit {0}) RunFault) (left left' given given' : Option (List ℕ)) (first last : State) → r' ≡ r → first ≡ new_state
     → Replies r left left' first last given given' → EndsNew r' left left' given given'
 ends_new r r' left left' given given' first last e f h =
-    rw e (last, h.0, h.1, h.2, h.3, subst (λ (s : State). RunOutcome r left' s last h.0 h.1) f h.4)
+    rw e (last, h.0, h.1, h.2, h.3, subst (λ (s : State). Outcome r left' s last h.0 h.1) f h.4)

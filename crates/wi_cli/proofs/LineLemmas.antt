@@ -4,7 +4,7 @@ use Rattle.std.specs.List.{concat}
 use Rattle.std.proofs.lemmas.Bool.{false≢true}
 use Rattle.std.proofs.lemmas.List.Folds.{concat-append}
 use Rattle.wi_cli.specs.Lines.{raw_lines, onto_first, without_lf, is_whole}
-use Rattle.wi_cli.specs.Script.{whole_lines}
+use Rattle.wi_cli.specs.Inner.Script.{whole_lines}
 use Rattle.wi_cli.specs.Inner.Reading.{raw}
 use Rattle.wi_cli.specs.Inner.Taken.{AreWhole}
 

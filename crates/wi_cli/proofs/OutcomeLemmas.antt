@@ -14,12 +14,14 @@ use Rattle.wi_scenarios.specs.State.{State}
 use Rattle.wi_scenarios.specs.Step.{Command}
 use Rattle.wi_cli.specs.Inner.Ahead.{Takes}
 use Rattle.wi_cli.specs.Lines.{raw_lines}
-use Rattle.wi_cli.specs.Blocks.{Block, blocks, is_complete}
-use Rattle.wi_cli.specs.Script.{block_command, commands, whole_lines, all_commands, complete_commands}
+use Rattle.wi_cli.specs.Inner.Blocks.{Block, blocks, is_complete}
+use Rattle.wi_cli.specs.Inner.Script.{block_command, commands, whole_lines, all_commands, complete_commands}
 use Rattle.wi_cli.specs.Inner.Taken.{AreWhole, AreBlocks}
 use Rattle.wi_cli.specs.Inner.Turn.{TookBlock, BrokeBlock, Turned, CutShort, Stopped}
-use Rattle.wi_cli.specs.Run.{WritesReplies}
-use Rattle.wi_cli.specs.RunOutcome.{RunOutcome, WritesFrontOfReplies, limited}
+use Rattle.wi_cli.specs.Inner.Run.{WritesReplies}
+use Rattle.wi_cli.specs.Inner.RunOutcome.{RunOutcome, WritesFrontOfReplies, limited}
+use Rattle.wi_cli.specs.Outcome.{Outcome}
+use Rattle.wi_cli.proofs.Ties.Outcomes.{same_outcome}
 use Rattle.wi_cli.proofs.ReadingLemmas.{Takes-trans}
 use Rattle.wi_cli.proofs.RunLemmas.{WritesReplies-append, WritesReplies-none}
 use Rattle.wi_cli.proofs.LineLemmas.{AreWhole-none, AreWhole-append, last_whole, some_line}
@@ -338,3 +340,8 @@ one_more k = k.block.grows refl
 pub all_read : (r : Result (Unit {0}) RunFault) (b : List ℕ) (p : Option (List ℕ)) (c : List ℕ) (q : Option (List ℕ)) (count count' : ℕ) (m t : State) (x y : Option (List ℕ)) → Turned false b p c q count count' m t x y → OnOk r (IsAtEnd q)
 all_read (Ok u) b p c q count count' m t x y k = at_end_of c q (k.block.took.at_end refl)
 all_read (Err e) b p c q count count' m t x y k = tt
+
+-- the end of a run as the contract of `run` tells it
+pub told : (r : Result (Unit {0}) RunFault) (left q : Option (List ℕ)) (s t : State) (given given' : Option (List ℕ)) → (h : Ends r left q s t given given')
+    → (input : List ℕ) × (out : List ℕ) × Consumes left q input × Appends given given' out × Outcome r q s t input out
+told r left q s t given given' h = (h.0, h.1, h.2, h.3, (same_outcome r q s t h.0 h.1).0 h.4)

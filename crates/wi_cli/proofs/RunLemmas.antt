@@ -5,12 +5,12 @@ use Rattle.std.specs.Option.{option_to_list}
 use Rattle.std.proofs.lemmas.List.Folds.{concat-append}
 use Rattle.wi_scenarios.specs.declared.refusal.Refusal.{Refusal}
 use Rattle.wi_scenarios.specs.declared.refusal.Refusal.TheVariants.{Memory}
-use Rattle.wi_cli.specs.Reply.{refused}
+use Rattle.wi_cli.specs.Inner.Reply.{refused}
 use Rattle.wi_scenarios.specs.State.{State}
 use Rattle.wi_scenarios.specs.Step.{Command, IsStep}
 use Rattle.wi_cli.specs.declared.reply.Reply.{Reply}
 use Rattle.wi_cli.specs.declared.reply.Reply.TheVariants.{Passed, Done, Refused}
-use Rattle.wi_cli.specs.Run.{MayAnswer, Runs, WritesReplies}
+use Rattle.wi_cli.specs.Inner.Run.{MayAnswer, Runs, WritesReplies}
 use Rattle.wi_cli.specs.Inner.Told.{Told, told_bytes, RefusedAs}
 
 Runs-append : (s : State) (cs : List Command) (rs : List (List ℕ)) (m : State) (ds : List Command) (qs : List (List ℕ)) (t : State)

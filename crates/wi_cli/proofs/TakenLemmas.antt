@@ -15,9 +15,9 @@ use Rattle.wi_cli.specs.declared.fault.RunFault.TheVariants.{Memory, Read, Write
 use Rattle.wi_cli.specs.declared.csv_line.CsvLine.{CsvLine as ReadCsv}
 use Rattle.wi_cli.specs.declared.data_lines.DataLines.{DataLines}
 use Rattle.wi_cli.specs.Lines.{raw_lines, without_lf, without_cr, is_whole}
-use Rattle.wi_cli.specs.CsvCommand.{csv_line, csv_command}
-use Rattle.wi_cli.specs.Blocks.{Block, lines_of, begun, is_complete, blocks}
-use Rattle.wi_cli.specs.Script.{line_command, command_with, block_command}
+use Rattle.wi_cli.specs.Inner.CsvCommand.{csv_line, csv_command}
+use Rattle.wi_cli.specs.Inner.Blocks.{Block, lines_of, begun, is_complete, blocks}
+use Rattle.wi_cli.specs.Inner.Script.{line_command, command_with, block_command}
 use Rattle.wi_cli.specs.Inner.Ahead.{Takes}
 use Rattle.wi_cli.specs.Inner.Reading.{raw, TookLine, Broke}
 use Rattle.wi_cli.specs.Inner.Taken.{TookLines, BrokeLines}

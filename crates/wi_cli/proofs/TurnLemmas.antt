@@ -14,12 +14,12 @@ use Rattle.wi_cli.specs.Inner.Front.{AppendsFront}
 use Rattle.wi_scenarios.specs.State.{State}
 use Rattle.wi_cli.specs.declared.reply.Reply.{Reply}
 use Rattle.wi_cli.specs.Inner.Told.{Told, told_bytes}
-use Rattle.wi_cli.specs.Script.{line_command, text_command}
+use Rattle.wi_cli.specs.Inner.Script.{line_command, text_command}
 use Rattle.wi_cli.specs.Inner.Reading.{line_front}
 use Rattle.wi_cli.specs.declared.fault.RunFault.{RunFault}
 use Rattle.wi_cli.specs.declared.fault.RunFault.TheVariants.{Memory, Read, Write, ScriptLimit}
 use Rattle.wi_cli.specs.Inner.Turn.{TookBlock, BrokeBlock, Turned, CutShort, Stopped}
-use Rattle.wi_cli.specs.Run.{WritesReplies}
+use Rattle.wi_cli.specs.Inner.Run.{WritesReplies}
 use Rattle.wi_cli.proofs.RunLemmas.{WritesReplies-told}
 
 pub AppendsFront-append : (a b c : Option (List ℕ)) (xs ys : List ℕ) → Appends a b xs → AppendsFront b c ys → AppendsFront a c (xs ++ ys)

@@ -12,7 +12,7 @@ use Rattle.wi_scenarios.specs.declared.refusal.Refusal.{Refusal}
 use Rattle.wi_scenarios.specs.declared.refusal.Refusal.TheVariants.{Memory, BadLine}
 use Rattle.wi_scenarios.specs.Step.{Refused}
 use Rattle.wi_cli.specs.declared.command.Command.{Command as ReadCommand}
-use Rattle.wi_cli.specs.Script.{line_command, text_command}
+use Rattle.wi_cli.specs.Inner.Script.{line_command, text_command}
 use Rattle.wi_cli.specs.Inner.Spelling.{IsLineOf}
 use Rattle.wi_cli.specs.Lines.{without_cr}
 

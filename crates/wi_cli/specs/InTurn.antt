@@ -4,7 +4,7 @@ use Rattle.std.specs.Io.KnownBytes.{Appends, Consumes, IsAtEnd}
 use Rattle.wi_scenarios.specs.State.{State}
 use Rattle.wi_cli.specs.declared.fault.RunFault.{RunFault}
 use Rattle.wi_cli.specs.declared.fault.RunFault.TheVariants.{Memory, Read}
-use Rattle.wi_cli.specs.RunOutcome.{RunOutcome}
+use Rattle.wi_cli.specs.Outcome.{Outcome}
 
 -- A script is run: the bytes taken of its source, the replies to their commands, and how the source then stands. What bytes
 -- a source has left is told by `left`, and whether a call on it has failed by `failed`.
@@ -12,7 +12,7 @@ pub record IsRun {R : Type 0} (left : R → Option (List ℕ)) (failed : R → B
     (source source' : R) (s t : State) (out : List ℕ) : Type 0 where
   pub input : List ℕ
   pub taken : Consumes (left source) (left source') input
-  pub outcome : RunOutcome r (left source') s t input out
+  pub outcome : Outcome r (left source') s t input out
   pub all_read : OnOk r (IsAtEnd (left source'))
   pub works : OnOk r (failed source' ≡ false)
   pub read_fault : r ≡ Err Read → failed source' ≡ true

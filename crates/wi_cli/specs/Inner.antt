@@ -1,4 +1,15 @@
 -- Words of the code's own contracts, and readers that laws tie to the definitions. Nothing here needs belief.
+pub mod Operands
+pub mod EditCommands
+pub mod ScenarioCommands
+pub mod LookCommands
+pub mod TableCommand
+pub mod CsvCommand
+pub mod Blocks
+pub mod Script
+pub mod Reply
+pub mod Run
+pub mod RunOutcome
 pub mod Ahead
 pub mod Data
 pub mod Front

@@ -1,58 +1,74 @@
--- The operands of commands.
-use Rattle.std.specs.Prelude.{ℕ, List, Option, Some, None, option_map, Result, Ok, Err, if◌then◌else◌, codes}
-use Rattle.std.specs.Str.{bytes_eq}
-use Rattle.wi_values.specs.Address.{Area}
-use Rattle.wi_values.specs.Name.{read_name}
-use Rattle.wi_values.specs.declared.address.AddressFault.{AddressFault}
-use Rattle.wi_values.specs.declared.address.AddressFault.TheVariants.{Shape, Outside}
-use Rattle.wi_reports.specs.Table.{is_column, is_row}
-use Rattle.wi_scenarios.specs.declared.refusal.Refusal.TheVariants.{BadCommand}
-use Rattle.wi_scenarios.specs.Answer.{operand_refusal}
-use Rattle.wi_scenarios.specs.Step.{Command, Refused}
-use Rattle.wi_cli.specs.Words.{first_word, after_word, is_all_spaces}
+-- The operands of commands, and the words that spell them, whether the sheet has the cells or not.
+use Rattle.std.specs.Prelude.{◌≡◌, ◌≢◌, ◌+◌, ◌<◌, ◌≤◌, ℕ, Bool, ◌||◌, nat_le, List, [], ◌∷◌, ◌++◌, length, Option, Some, None, IsTrue, codes}
+use Rattle.std.specs.List.{list_all}
+use Rattle.std.specs.Char.{is_ascii_alphabetic}
+use Rattle.std.specs.Str.{all_ascii_digits}
+use Rattle.std.specs.Str.Parse.{digits_value}
+use Rattle.wi_values.specs.Address.{Area, rows, columns, place, rect_of, letters_value, is_row_number}
+use Rattle.wi_values.specs.Name.{is_name}
+use Rattle.wi_cli.specs.Words.{is_space, first_word, after_word}
 
--- the command, where no word is left
-abbrev pub at_end : List ℕ → Command → Command
-at_end more command = if is_all_spaces more then command else Refused BadCommand
+abbrev pub Bytes : Type 0
+Bytes = List ℕ
 
--- ---- cells
+-- a cell by its row and its column, counted from 0, of any size
+pub record Cell : Type 0 where
+  pub row : ℕ
+  pub column : ℕ
 
--- a command of an operand, where it is one
-abbrev pub of_operand : {X : Type 0} → Result X AddressFault → (X → Command) → Command
-of_operand (Ok x) command = command x
-of_operand (Err fault) command = Refused (operand_refusal fault)
+-- two opposite corners of a rectangle, in any order
+abbrev pub Corners : Type 0
+Corners = Cell × Cell
 
--- why a rectangle that is to be one column, or one row, is refused, if it is
-abbrev pub column_fault : Result Area AddressFault → Option AddressFault
-column_fault (Ok area) = if is_column area then None else Some Shape
-column_fault (Err fault) = Some fault
+-- the sheet doesn't have the cell
+abbrev pub is_outside : Cell → Bool
+is_outside c = nat_le rows c.row || nat_le columns c.column
 
-abbrev pub row_fault : Result Area AddressFault → Option AddressFault
-row_fault (Ok area) = if is_row area then None else Some Shape
-row_fault (Err fault) = Some fault
+-- the address of a cell, and the rectangle of two corners, where the sheet has them
+abbrev pub address : Cell → ℕ
+address c = place c.row c.column
 
--- of two operands: the wrong form of either comes before a cell outside the sheet
-abbrev pub worse : Option AddressFault → Option AddressFault → Option AddressFault
-worse None other = other
-worse (Some Shape) other = Some Shape
-worse (Some Outside) None = Some Outside
-worse (Some Outside) (Some fault) = Some fault
+abbrev pub area : Corners → Area
+area r = rect_of (address r.0) (address r.1)
 
--- ---- names
+pub data Operand : Type 0 where
+  WORD CONTENT NAME SESSION : Bytes → Operand
+  ADDR : Cell → Operand
+  RECT : Corners → Operand
+  LINES : ℕ → Operand
+  -- a scenario, or `-` for the base
+  SIDE : Option Bytes → Operand
+  -- any word, which spells this cell, or none
+  ANY : Option Cell → Operand
 
--- a command of what is named, where it is a name
-abbrev pub of_name : {X : Type 0} → Option X → (X → Command) → Command
-of_name (Some x) command = command x
-of_name None command = Refused BadCommand
+-- ADDR is ASCII letters of either case and then digits, the first not `0`.
+pub data IsAddr : Bytes → Cell → Type 0 where
+  addr : (letters digits : Bytes) (c : Cell) → 0 < length letters → IsTrue (list_all is_ascii_alphabetic letters) → IsTrue (is_row_number digits)
+      → letters_value letters ≡ c.column + 1 → digits_value 10 digits ≡ c.row + 1 → IsAddr (letters ++ digits) c
 
--- the name that is the only word
-abbrev pub only_name : List ℕ → Option (List ℕ)
-only_name words = if is_all_spaces (after_word words) then read_name (first_word words) else None
+-- RECT is ADDR or `ADDR:ADDR`, corners in any order.
+pub data IsRect : Bytes → Corners → Type 0 where
+  a_cell : (word : Bytes) (c : Cell) → IsAddr word c → IsRect word (c, c)
+  two_cells : (v w : Bytes) (c d : Cell) → IsAddr v c → IsAddr w d → IsRect (v ++ codes ":" ++ w) (c, d)
 
--- the same, or no name where there is no word
-abbrev pub name_or_none : List ℕ → Option (Option (List ℕ))
-name_or_none words = if is_all_spaces words then Some None else option_map (λ name. Some name) (only_name words)
+-- the word spells the operand
+abbrev pub IsSpelled : Bytes → Operand → Type 0
+IsSpelled word (WORD w) = word ≡ w
+IsSpelled word (ADDR c) = IsAddr word c
+IsSpelled word (RECT r) = IsRect word r
+IsSpelled word (NAME name) = (word ≡ name) × IsTrue (is_name name)
+IsSpelled word (SESSION name) = (word ≡ name) × IsTrue (is_name name)
+IsSpelled word (SIDE (Some name)) = (word ≡ name) × IsTrue (is_name name)
+IsSpelled word (SIDE None) = word ≡ codes "-"
+IsSpelled word (ANY (Some c)) = IsAddr word c
+IsSpelled word (ANY None) = (word ≢ []) × ((c : Cell) → IsAddr word c → ⊥)
+IsSpelled word (LINES n) =
+    (word ≢ []) × (length word ≤ 7) × IsTrue (all_ascii_digits word) × (digits_value 10 word ≡ n) × (n ≤ 1000000)
+IsSpelled word (CONTENT text) = ⊥
 
--- a scenario's name, or `-` for the sheet as it stands
-abbrev pub read_side : List ℕ → Option (Option (List ℕ))
-read_side word = if bytes_eq word (codes "-") then Some None else option_map (λ name. Some name) (read_name word)
+-- Each operand is spelled by a word, spaces before, between and behind. CONTENT is everything after the one space that
+-- follows the word before it.
+abbrev pub IsWritten : Bytes → List Operand → Type 0
+IsWritten text [] = IsTrue (list_all is_space text)
+IsWritten text (CONTENT content ∷ os) = (text ≡ content) × (os ≡ [])
+IsWritten text (o ∷ os) = IsSpelled (first_word text) o × IsWritten (after_word text) os

@@ -1,84 +1,50 @@
--- The commands that a script spells.
-use Rattle.std.specs.Prelude.{ℕ, Bool, true, false, ◌||◌, ◌==◌, not, List, [], ◌∷◌, length, filter, filter_map, Option, Some, None, nat_lt, if◌then◌else◌, codes}
-use Rattle.std.specs.Str.{byte, bytes_eq, is_utf8}
-use Rattle.wi_values.specs.AddressReading.{read_address}
-use Rattle.wi_scenarios.specs.declared.refusal.Refusal.TheVariants.{BadLine}
-use Rattle.wi_scenarios.specs.Step.{Command, Refused}
-use Rattle.wi_cli.specs.Lines.{raw_lines, without_lf, without_cr, is_whole, max_line}
-use Rattle.wi_cli.specs.Words.{first_word, after_word, is_all_spaces}
-use Rattle.wi_cli.specs.EditCommands.{edit_command}
-use Rattle.wi_cli.specs.ScenarioCommands.{scenario_command, drop_command, base_command, use_command, as_command}
-use Rattle.wi_cli.specs.LookCommands.{show_command, export_command, changes_command, compare_command, formula_command}
-use Rattle.wi_cli.specs.TableCommand.{table_command}
-use Rattle.wi_cli.specs.CsvCommand.{CsvLine, csv_line, csv_command}
-use Rattle.wi_cli.specs.Blocks.{Block, blocks, is_complete}
+-- The commands of a script.
+use Rattle.std.specs.Prelude.{◌≡◌, ◌<◌, ◌≤◌, ◌⊎◌, ℕ, Bool, true, false, ◌==◌, List, [], ◌∷◌, ◌++◌, length, Option, Some, None, if◌then◌else◌}
+use Rattle.std.specs.List.{list_all}
+use Rattle.std.specs.Option.{option_to_list}
+use Rattle.std.specs.Str.{byte, IsUtf8}
+use Rattle.wi_cli.specs.Lines.{without_lf, without_cr, max_line}
+use Rattle.wi_cli.specs.Words.{is_space}
+use Rattle.wi_cli.specs.Operands.{Bytes, Cell, IsWritten}
+use Rattle.wi_cli.specs.Command.{Command, Csv, Unknown, Unreadable, form, data_of}
 
--- ---- commands
+-- a line without its LF and a CR before it
+abbrev pub text_of : Bytes → Bytes
+text_of line = without_cr (without_lf line)
 
--- The command of this name. `force` stands before the name of an edit.
-abbrev pub named_command : List ℕ → List ℕ → Command
-named_command name operands =
-    if bytes_eq name (codes "force") then edit_command true (first_word operands) (after_word operands)
-    else (if bytes_eq name (codes "scenario") then scenario_command operands
-    else (if bytes_eq name (codes "drop") then drop_command operands
-    else (if bytes_eq name (codes "base") then base_command operands
-    else (if bytes_eq name (codes "use") then use_command operands
-    else (if bytes_eq name (codes "as") then as_command operands
-    else (if bytes_eq name (codes "show") then show_command operands
-    else (if bytes_eq name (codes "export") then export_command operands
-    else (if bytes_eq name (codes "changes") then changes_command operands
-    else (if bytes_eq name (codes "compare") then compare_command operands
-    else (if bytes_eq name (codes "table") then table_command operands
-    else (if bytes_eq name (codes "formula") then formula_command operands
-    else edit_command false name operands)))))))))))
+abbrev pub IsWithin : Bytes → Type 0
+IsWithin line = length (without_lf line) ≤ max_line
 
--- the command that a text spells
-unfoldable pub spelled_command : List ℕ → Command
-spelled_command text = named_command (first_word text) (after_word text)
+abbrev pub IsGood : Bytes → Type 0
+IsGood line = IsWithin line × IsUtf8 (text_of line)
 
--- ---- lines
+-- The line is within the length limit and has exactly the words `csv`, any second word and a good LINES, perhaps after `force`.
+abbrev pub Asks : Bytes → ℕ → Type 0
+Asks line n = IsWithin line × ((force : Bool) × (at : Option Cell) × IsWritten (text_of line) (form (Csv force at n [])))
 
-abbrev pub is_comment : List ℕ → Bool
-is_comment [] = false
-is_comment (b ∷ bs) = b == byte "#"
+-- so many data lines stand behind it; none where it asks for none
+abbrev pub Takes : Bytes → ℕ → Type 0
+Takes line n = Asks line n ⊎ ((n ≡ 0) × ((k : ℕ) → Asks line k → ⊥))
 
--- the command of a text that is a good line, or nothing where it is passed over
-abbrev pub text_command : List ℕ → Option Command
-text_command text = if is_all_spaces text || is_comment text then None else Some (spelled_command text)
+-- only spaces, or a comment
+abbrev pub is_passed_over : Bytes → Bool
+is_passed_over [] = true
+is_passed_over (b ∷ bs) = if b == byte "#" then true else list_all is_space (b ∷ bs)
 
--- The command of a line without its LF. It is refused where it is too long, a CR counted, or not UTF-8, also where it
--- would be passed over.
-unfoldable pub line_command : List ℕ → Option Command
-line_command content =
-    if nat_lt max_line (length content) || not (is_utf8 (without_cr content)) then Some (Refused BadLine)
-    else text_command (without_cr content)
+-- what a line asks for with its data lines, if anything
+abbrev pub IsCommand : Bytes → List Bytes → Option Command → Type 0
+IsCommand line taken None = IsGood line × (is_passed_over (text_of line) ≡ true)
+IsCommand line taken (Some Unreadable) = IsGood line → ⊥
+IsCommand line taken (Some Unknown) =
+    IsGood line × (is_passed_over (text_of line) ≡ false) × ((c : Command) → IsWritten (text_of line) (form c) → ⊥)
+IsCommand line taken (Some c) = IsGood line × IsWritten (text_of line) (form c) × (data_of c ≡ taken)
 
--- ---- blocks
-
-abbrev pub command_with : Option CsvLine → Block → Option Command
-command_with None b = line_command (without_lf b.line)
-command_with (Some csv) b =
-    Some (if is_utf8 (without_cr (without_lf b.line)) then csv_command csv.force (read_address csv.address) b.data_lines b.missing else Refused BadLine)
-
--- The command of a line with its data lines. One that asks for data lines is refused where it is not UTF-8.
-abbrev pub block_command : Block → Option Command
-block_command b = command_with (csv_line (without_lf b.line)) b
-
--- ---- scripts
-
--- the commands of lines, each given with its LF
-abbrev pub commands : List (List ℕ) → List Command
-commands ls = filter_map block_command (blocks ls)
-
--- the lines up to the first that lacks its LF
-abbrev pub whole_lines : List (List ℕ) → List (List ℕ)
-whole_lines [] = []
-whole_lines (l ∷ ls) = if is_whole l then l ∷ whole_lines ls else []
-
--- the commands of a script that has ended
-unfoldable pub all_commands : List ℕ → List Command
-all_commands script = commands (raw_lines script)
-
--- the commands of those lines that are complete, with all their data lines, where the end of the script has not come
-unfoldable pub complete_commands : List (List ℕ) → List Command
-complete_commands ls = filter_map block_command (filter is_complete (blocks (whole_lines ls)))
+-- the commands of lines, of a script that has ended, or of which more may come
+pub data AreCommands : Bool → List Bytes → List Command → Type 0 where
+  none : (ended : Bool) → AreCommands ended [] []
+  a_line : (ended : Bool) (line : Bytes) (taken lines : List Bytes) (o : Option Command) (cs : List Command)
+      → Takes line (length taken) → IsCommand line taken o → AreCommands ended lines cs
+      → AreCommands ended (line ∷ taken ++ lines) (option_to_list o ++ cs)
+  cut_short : (line : Bytes) (taken : List Bytes) (n : ℕ) (o : Option Command) → Asks line n → length taken < n
+      → IsCommand line taken o → AreCommands true (line ∷ taken) (option_to_list o)
+  waiting : (line : Bytes) (taken : List Bytes) (n : ℕ) → Asks line n → length taken < n → AreCommands false (line ∷ taken) []

@@ -2,7 +2,7 @@
 
 ghost use Rattle.std.specs.Prelude.{◌≡◌, ◌+◌, ◌≤◌, [], List, ℕ, Option, false, true, MatchResult, OnOk, Err, vec_capacity};
 ghost use Rattle.wi_scenarios.specs.Step.{Command};
-ghost use Rattle.wi_cli.specs.RunOutcome.{max_lines};
+ghost use Rattle.wi_cli.specs.Lines.{max_lines};
 ghost use Rattle.wi_cli.specs.Inner.Turn.{TookBlock, BrokeBlock, IsRead};
 ghost use Rattle.wi_cli.specs.Inner.Told.{Told};
 

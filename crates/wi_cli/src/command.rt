@@ -2,7 +2,7 @@
 
 ghost use Rattle.std.specs.Prelude.{◌≡◌};
 ghost use Rattle.wi_cli.specs.Lines.{without_cr};
-ghost use Rattle.wi_cli.specs.Script.{is_comment, spelled_command, text_command, line_command};
+ghost use Rattle.wi_cli.specs.Inner.Script.{is_comment, spelled_command, text_command, line_command};
 ghost use Rattle.wi_cli.specs.Inner.Spelling.{IsCommandOf, IsLineOf};
 
 use crate::edit_commands::read_edit;
@@ -79,7 +79,7 @@ pub enum Command<'a> {
 }
 
 /// The command that a text spells.
-#[tactic(auto, unfolding(crate::specs::Script::spelled_command))]
+#[tactic(auto, unfolding(crate::specs::Inner::Script::spelled_command))]
 pub(crate) fn read_command(text: &str) -> Result<Command<'_>, Refusal>
     ensures { IsCommandOf (spelled_command text.now) result }
 {
@@ -132,7 +132,7 @@ fn read_text(text: &str) -> Result<Option<Command<'_>>, Refusal>
 }
 
 /// The command of a line without its LF, or nothing where the line is passed over.
-#[tactic(auto, unfolding(crate::specs::Script::line_command))]
+#[tactic(auto, unfolding(crate::specs::Inner::Script::line_command))]
 pub(crate) fn read_line_command(line: &[u8]) -> Result<Option<Command<'_>>, Refusal>
     ensures { IsLineOf (line_command line.now) result }
 {

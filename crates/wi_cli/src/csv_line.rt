@@ -6,7 +6,7 @@ ghost use Rattle.std.specs.Str.{is_utf8, all_ascii_digits};
 ghost use Rattle.std.specs.Str.Parse.{digits_value};
 ghost use Rattle.wi_cli.specs.Lines.{without_cr};
 ghost use Rattle.wi_cli.specs.Words.{is_space, skip_spaces, first_word, after_word, is_all_spaces};
-ghost use Rattle.wi_cli.specs.CsvCommand.{read_lines, csv_operands, csv_named, csv_text, csv_line};
+ghost use Rattle.wi_cli.specs.Inner.CsvCommand.{read_lines, csv_operands, csv_named, csv_text, csv_line};
 ghost use Rattle.wi_cli.specs.Inner.Data.{IsCsv};
 
 use crate::command::without_cr;
@@ -149,7 +149,7 @@ fn is_text(bytes: &[u8]) -> bool
 }
 
 /// A line without its LF, where it asks for data lines.
-#[tactic(auto, unfolding(crate::specs::CsvCommand::csv_line))]
+#[tactic(auto, unfolding(crate::specs::Inner::CsvCommand::csv_line))]
 pub(crate) fn read_csv_line(line: &[u8]) -> Option<CsvLine>
     ensures read { IsCsv (csv_line line.now) result }
     ensures text { IfSome result (λ csv. csv.is_text ≡ is_utf8 (without_cr line.now)) }

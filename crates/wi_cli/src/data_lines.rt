@@ -3,7 +3,7 @@
 ghost use Rattle.std.specs.Prelude.{◌≡◌, ◌+◌, ◌<◌, ◌≤◌, ◌++◌, ◌∷◌, ◌&&◌, ◌||◌, nat_lt, [], List, ℕ, false, true, length, MatchResult, IfOk, OnOk, Err, vec_capacity};
 ghost use Rattle.std.specs.Io.KnownBytes.{IsAtEnd, prepend_known};
 ghost use Rattle.wi_cli.specs.Lines.{raw_lines, is_whole};
-ghost use Rattle.wi_cli.specs.RunOutcome.{max_lines};
+ghost use Rattle.wi_cli.specs.Lines.{max_lines};
 ghost use Rattle.wi_cli.specs.Inner.Reading.{raw, line_front};
 ghost use Rattle.wi_cli.specs.Inner.Data.{wants, Holds, HoldsLines, AddedTo, TookData, BrokeData};
 

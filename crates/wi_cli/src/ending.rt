@@ -3,7 +3,7 @@
 ghost use Rattle.std.specs.Prelude.{◌≡◌, ◌≤◌, ℕ, List, [], Err, IfOk, OnOk, true, false};
 ghost use Rattle.std.specs.Io.KnownBytes.{Appends, Consumes, IsAtEnd};
 ghost use Rattle.wi_scenarios.specs.State.{State, new_state, state_over};
-ghost use Rattle.wi_cli.specs.RunOutcome.{RunOutcome};
+ghost use Rattle.wi_cli.specs.Outcome.{Outcome};
 ghost use Rattle.wi_cli.specs.Status.{ending_status};
 
 use crate::fault::{RunFault, fault_status};
@@ -74,7 +74,7 @@ pub fn run_new<R: Source, W: Sink>(
     ensures replies { (last : State) × (input out : List ℕ)
         × Consumes (R.remaining reader.old) (R.remaining reader.new) input
         × Appends (W.contents writer.old) (W.contents writer.new) out
-        × RunOutcome result.outcome (R.remaining reader.new) new_state last input out }
+        × Outcome result.outcome (R.remaining reader.new) new_state last input out }
     ensures all_read { OnOk result.outcome (IsAtEnd (R.remaining reader.new)) }
     ensures reads { OnOk result.outcome (R.has_failed reader.new ≡ false) }
     ensures writes { OnOk result.outcome (W.has_failed writer.new ≡ false) }

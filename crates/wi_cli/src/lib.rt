@@ -10,6 +10,7 @@ mod edit_commands;
 mod ending;
 mod fault;
 mod in_turn;
+pub mod laws;
 mod lines;
 mod look_commands;
 mod names;

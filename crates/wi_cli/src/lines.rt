@@ -1,7 +1,7 @@
 //! The lines of a source.
 
 ghost use Rattle.std.specs.Prelude.{◌++◌, ◌∷◌, [], List, ℕ, ◌≡◌, ◌+◌, ◌<◌, ◌≤◌, false, true, MatchResult, nat_lt, vec_capacity, Err, OnOk, if◌then◌else◌};
-ghost use Rattle.wi_cli.specs.RunOutcome.{max_lines};
+ghost use Rattle.wi_cli.specs.Lines.{max_lines};
 ghost use Rattle.wi_cli.specs.Inner.Reading.{TookLine, TookPart, Broke, line_front};
 
 use crate::chunk::Chunk;

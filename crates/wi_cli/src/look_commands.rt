@@ -2,8 +2,8 @@
 
 ghost use Rattle.wi_values.specs.AddressReading.{read_rect};
 ghost use Rattle.wi_scenarios.specs.Step.{Compare};
-ghost use Rattle.wi_cli.specs.Operands.{of_name, of_operand, read_side};
-ghost use Rattle.wi_cli.specs.LookCommands.{show_command, export_command, changes_command, compare_command, formula_command};
+ghost use Rattle.wi_cli.specs.Inner.Operands.{of_name, of_operand, read_side};
+ghost use Rattle.wi_cli.specs.Inner.LookCommands.{show_command, export_command, changes_command, compare_command, formula_command};
 ghost use Rattle.wi_cli.specs.Inner.Spelling.{IsCommandOf};
 
 use crate::command::Command;

@@ -1,7 +1,7 @@
 //! The operands of commands.
 
 ghost use Rattle.std.specs.Prelude.{◌≡◌};
-ghost use Rattle.wi_cli.specs.Operands.{column_fault, row_fault, worse};
+ghost use Rattle.wi_cli.specs.Inner.Operands.{column_fault, row_fault, worse};
 
 use wi_values::{AddressFault, Rect};
 

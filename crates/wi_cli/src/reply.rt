@@ -3,7 +3,7 @@
 ghost use Rattle.std.specs.Prelude.{◌≡◌, ◌<◌, false, is_err, OnOk, OnErr};
 ghost use Rattle.std.specs.Io.KnownBytes.{Appends};
 ghost use Rattle.wi_cli.specs.Inner.Front.{AppendsFront};
-ghost use Rattle.wi_cli.specs.Reply.{refused, refused_code, told_cell};
+ghost use Rattle.wi_cli.specs.Inner.Reply.{refused, refused_code, told_cell};
 ghost use Rattle.wi_cli.specs.Inner.Told.{told_bytes};
 
 use crate::write::write_all;

@@ -3,7 +3,8 @@
 ghost use Rattle.std.specs.Prelude.{◌≡◌, ◌+◌, ◌≤◌, List, ℕ, OnOk, OnErr, IfErr, MatchResult, Ok, Err, false, true, vec_capacity};
 ghost use Rattle.std.specs.Io.KnownBytes.{Appends, Consumes, IsAtEnd, Keeps};
 ghost use Rattle.wi_cli.specs.Inner.Turn.{Turned, Stopped};
-ghost use Rattle.wi_cli.specs.RunOutcome.{RunOutcome, max_lines};
+ghost use Rattle.wi_cli.specs.Lines.{max_lines};
+ghost use Rattle.wi_cli.specs.Outcome.{Outcome};
 
 use crate::blocks::{read_block, serve_block};
 use crate::chunk::Chunk;
@@ -87,7 +88,7 @@ pub fn run<R: Source, W: Sink, C: Calculator>(
     ensures replies { (input out : List ℕ)
         × Consumes (R.remaining reader.old) (R.remaining reader.new) input
         × Appends (W.contents writer.old) (W.contents writer.new) out
-        × RunOutcome result (R.remaining reader.new) book.old.state book.new.state input out }
+        × Outcome result (R.remaining reader.new) book.old.state book.new.state input out }
     ensures all_read { OnOk result (IsAtEnd (R.remaining reader.new)) }
     ensures reads { OnOk result (R.has_failed reader.new ≡ false) }
     ensures writes { OnOk result (W.has_failed writer.new ≡ false) }

@@ -1,6 +1,6 @@
 //! The commands of scenarios and sessions, as they are read.
 
-ghost use Rattle.wi_cli.specs.ScenarioCommands.{scenario_command, drop_command, base_command, use_command, as_command};
+ghost use Rattle.wi_cli.specs.Inner.ScenarioCommands.{scenario_command, drop_command, base_command, use_command, as_command};
 ghost use Rattle.wi_cli.specs.Inner.Spelling.{IsCommandOf};
 
 use crate::command::Command;

@@ -5,7 +5,7 @@ ghost use Rattle.wi_values.specs.Name.{bytes_of};
 ghost use Rattle.wi_scenarios.specs.Answer.{Serves};
 ghost use Rattle.wi_scenarios.specs.Step as step;
 ghost use Rattle.wi_scenarios.specs.Step.{IsStep};
-ghost use Rattle.wi_cli.specs.Script.{line_command};
+ghost use Rattle.wi_cli.specs.Inner.Script.{line_command};
 ghost use Rattle.wi_cli.specs.Inner.Spelling.{command_of};
 ghost use Rattle.wi_cli.specs.Inner.Told.{IsServed, Told};
 

@@ -15,7 +15,7 @@ use Rattle.wi_cli.specs.declared.data_lines.Held.TheVariants.{All, Lacking, TooL
 use Rattle.wi_cli.specs.declared.data_lines.DataLines.{DataLines}
 use Rattle.wi_cli.specs.declared.fault.RunFault.{RunFault}
 use Rattle.wi_cli.specs.Lines.{raw_lines}
-use Rattle.wi_cli.specs.CsvCommand.{CsvLine, is_long, csv_command}
+use Rattle.wi_cli.specs.Inner.CsvCommand.{CsvLine, is_long, csv_command}
 use Rattle.wi_cli.specs.Inner.Told.{RefusedAs}
 use Rattle.wi_cli.specs.Inner.Taken.{TookLines, BrokeLines}
 

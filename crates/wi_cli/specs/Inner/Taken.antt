@@ -6,9 +6,9 @@ use Rattle.wi_cli.specs.declared.fault.RunFault.{RunFault}
 use Rattle.wi_cli.specs.declared.fault.RunFault.TheVariants.{Memory, Read, Write, ScriptLimit}
 use Rattle.wi_cli.specs.Inner.Ahead.{Takes}
 use Rattle.wi_cli.specs.Lines.{raw_lines, is_whole}
-use Rattle.wi_cli.specs.Blocks.{Block, blocks, is_complete}
-use Rattle.wi_cli.specs.Script.{whole_lines}
-use Rattle.wi_cli.specs.RunOutcome.{max_lines}
+use Rattle.wi_cli.specs.Inner.Blocks.{Block, blocks, is_complete}
+use Rattle.wi_cli.specs.Inner.Script.{whole_lines}
+use Rattle.wi_cli.specs.Lines.{max_lines}
 
 -- Lines that end with their LF, whatever comes after them.
 pub record AreWhole (ls : List (List ℕ)) : Type 0 where

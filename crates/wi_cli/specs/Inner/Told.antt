@@ -6,7 +6,7 @@ use Rattle.wi_scenarios.specs.State.{State}
 use Rattle.wi_scenarios.specs.Step.{Command, IsStep, MayLackMemory}
 use Rattle.wi_cli.specs.declared.reply.Reply.{Reply}
 use Rattle.wi_cli.specs.declared.reply.Reply.TheVariants.{Passed, Done, Refused}
-use Rattle.wi_cli.specs.Reply.{refused, ok_line}
+use Rattle.wi_cli.specs.Inner.Reply.{refused, ok_line}
 
 -- want of memory may refuse some commands; another refusal is the step's
 abbrev pub RefusedAs : Refusal → State → Command → Type 0

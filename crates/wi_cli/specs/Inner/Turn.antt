@@ -9,9 +9,9 @@ use Rattle.wi_cli.specs.declared.data_lines.DataLines.{DataLines}
 use Rattle.wi_scenarios.specs.State.{State}
 use Rattle.wi_scenarios.specs.Step.{Command}
 use Rattle.wi_cli.specs.Lines.{raw_lines}
-use Rattle.wi_cli.specs.Blocks.{Block, blocks, is_complete}
-use Rattle.wi_cli.specs.Script.{line_command, block_command}
-use Rattle.wi_cli.specs.Run.{WritesReplies}
+use Rattle.wi_cli.specs.Inner.Blocks.{Block, blocks, is_complete}
+use Rattle.wi_cli.specs.Inner.Script.{line_command, block_command}
+use Rattle.wi_cli.specs.Inner.Run.{WritesReplies}
 use Rattle.wi_cli.specs.Inner.Taken.{AreBlocksOf, TookLines, BrokeLines}
 use Rattle.wi_cli.specs.Inner.Data.{command_of_csv, wants, HoldsLines}
 

@@ -1,4 +1,4 @@
-use Rattle.wi_cli.specs.EditCommands.{edit_command}
+use Rattle.wi_cli.specs.Inner.EditCommands.{edit_command}
 use Rattle.wi_cli.proofs.NamedLemmas.{named}
 use Rattle.wi_cli.proofs.edit_commands.read_edit.Goals as goal
 

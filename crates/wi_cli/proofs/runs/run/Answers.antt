@@ -1,6 +1,6 @@
 use Rattle.std.proofs.Common.{rules, arith}
 use Rattle.std.proofs.lemmas.Result.{err_from_is_err_and}
-use Rattle.wi_cli.proofs.OutcomeLemmas.{going_none, going_on, ends_sent, ends_stopped, still_few, one_more, all_read}
+use Rattle.wi_cli.proofs.OutcomeLemmas.{going_none, going_on, ends_sent, ends_stopped, still_few, one_more, all_read, told}
 use Rattle.wi_cli.proofs.runs.run.Goals as goal
 
 pub loop-out-init : goal.loop-out-init
@@ -37,13 +37,13 @@ pub returns-in_err-turn-clause-replies : goal.returns-in_err-turn-clause-replies
 returns-in_err-turn-clause-replies g c =
     let p = err_from_is_err_and c.from_residual.result c.from_residual.ensures.1 in
     let old = c.loop-out.invariant in
-    rw (p.1, p.2) (ends_stopped _ _ _ _ _ _ _ _ _ _ _ _ c.loop-out.lines old.going c.in_err-turn.ensures.done)
+    rw (p.1, p.2) (told _ _ _ _ _ _ _ (ends_stopped _ _ _ _ _ _ _ _ _ _ _ _ c.loop-out.lines old.going c.in_err-turn.ensures.done))
 
 pub returns-clause-replies : goal.returns-clause-replies
 returns-clause-replies g c =
     let turned = rw c.if-branch.false at c.in_ok-turn.ensures.done in
     let old = c.loop-out.invariant in
-    ends_sent _ _ _ _ _ _ _ _ _ _ _ _ _ c.loop-out.lines _ old.going turned c.send.ensures.bytes c.send.ensures.fault
+    told _ _ _ _ _ _ _ (ends_sent _ _ _ _ _ _ _ _ _ _ _ _ _ c.loop-out.lines _ old.going turned c.send.ensures.bytes c.send.ensures.fault)
 
 pub returns-clause-all_read : goal.returns-clause-all_read
 returns-clause-all_read g c =

@@ -1,0 +1,27 @@
+-- That the definitions are what the code's own contracts say.
+pub mod Uniqueness
+pub mod Tables
+pub mod Tests
+pub mod EditSteps
+pub mod Looks
+pub mod CsvSteps
+pub mod Sets
+pub mod Clears
+pub mod Fills
+pub mod ScenarioSteps
+pub mod TablesOfTwo
+pub mod Steps
+pub mod Lacks
+pub mod Wants
+pub mod Replies
+pub mod Addresses
+pub mod Rects
+pub mod Splitting
+pub mod OperandsRead
+pub mod CommandNames
+pub mod Forms
+pub mod CsvLines
+pub mod Texts
+pub mod LinesRead
+pub mod OneReading
+pub mod Outcomes

@@ -1,0 +1,69 @@
+-- The step of `clear`.
+use Rattle.std.proofs.Common.{◌≡◌, ◌↔◌, Bool, true, false, ◌||◌, List, [], ◌∷◌, map, filter, ◌⊎◌, inl, inr, None, refl, sym, ap, ◌∙◌}
+use Rattle.std.specs.List.{list_any}
+use Rattle.std.specs.Map.{keys_of}
+use Rattle.wi_values.specs.Address.{is_within}
+use Rattle.wi_scenarios.specs.State.{State}
+use Rattle.wi_scenarios.specs.Edits.{edit_answer}
+use Rattle.wi_scenarios.specs.Causes.{no_cause}
+use Rattle.wi_scenarios.specs.Step as old
+use Rattle.wi_cli.specs.Inner.Operands.{of_operand}
+use Rattle.wi_cli.specs.Operands.{Bytes, Corners, is_outside, area}
+use Rattle.wi_cli.specs.Command.{Command, Clear, form}
+use Rattle.wi_cli.specs.Edits.{Put, after_edit}
+use Rattle.wi_cli.specs.Causes.{Cause, Outside, TooLarge, NoScenario, Stale, Full, EditLimit, Holds, IsFirst, order, lies_outside, is_missing}
+use Rattle.wi_cli.specs.Does.{Does}
+use Rattle.wi_cli.specs.Step.{Answer, IsStep}
+use Rattle.wi_cli.specs.Laws.{SameStep, read_by}
+use Rattle.wi_cli.proofs.Ties.Uniqueness.{answers, outside_step}
+use Rattle.wi_cli.proofs.Ties.EditSteps.{last, edit_step}
+use Rattle.wi_cli.proofs.Ties.Tables.{clash}
+
+module _ (s : State) (force : Bool) (r : Corners) where
+  abbrev clear : Command
+  clear = Clear force r
+
+  abbrev puts : List Put
+  puts = map (λ a. (a, None)) (filter (is_within (area r)) (keys_of s.stored.sheet))
+
+  outside_is : (f out : Bool) → (is_outside r.0 || is_outside r.1) ≡ out → list_any lies_outside (form (Clear f r)) ≡ out
+  outside_is true true o = rw o refl
+  outside_is true false o = rw o refl
+  outside_is false true o = rw o refl
+  outside_is false false o = rw o refl
+
+  none_missing : (f : Bool) → list_any (is_missing s) (form (Clear f r)) ≡ false
+  none_missing true = refl
+  none_missing false = refl
+
+  one_done : (x y : State × Bytes) → Does s clear x → Does s clear y → x ≡ y
+  one_done x y h k =
+      let same : h.0 ≡ k.0 = h.1 ∙ sym k.1 in
+      h.2 ∙ ap (λ (q : List Put). let d : State × Bytes = (after_edit s clear q, []) in d) same ∙ sym k.2
+
+  module _ (inside : (is_outside r.0 || is_outside r.1) ≡ false) where
+    front : (x : Cause) → IsFirst s clear last x → IsFirst s clear order x
+    front x h =
+        inr (λ k. k, inr (λ k. k, inr (λ k. k, inr (λ k. clash _ (outside_is force false inside) k, inr (λ k. k, inr (λ k. clash _ (none_missing force) k, inr (λ k. k, inr (λ k. k, inr (λ k. k, inr (λ k. k, inr (λ k. k, inr (λ k. k, inr (λ k. k, inr (λ k. k, inr (λ k. k, h)))))))))))))))
+
+    only : (x : Cause) → Holds s x clear → Holds s Stale clear ⊎ (Holds s Full clear ⊎ Holds s EditLimit clear)
+    only Outside h = absurd (clash _ (outside_is force false inside) h)
+    only TooLarge h = absurd h
+    only NoScenario h = absurd (clash _ (none_missing force) h)
+    only Stale h = inl h
+    only Full h = inr (inl h)
+    only EditLimit h = inr (inr h)
+    only x h = absurd h
+
+    step : IsStep s clear (edit_answer s force no_cause (record { named = area r ∷ []; contents = puts }))
+    step = edit_step s clear force (area r ∷ []) puts refl (λ q h. h) refl refl (λ h. h) front only (λ d h. h)
+
+  abbrev by_place : Bool → Type 0
+  by_place out = (a : Answer) → old.IsStep s (of_operand (read_by out (area r)) (λ at. old.Clear force at)) a ↔ IsStep s clear a
+
+  placed : (out : Bool) → (is_outside r.0 || is_outside r.1) ≡ out → by_place out
+  placed true o a = outside_step s clear one_done (λ h. h) (λ h. h) (λ h. h) (outside_is force true o) a
+  placed false o a = answers s clear one_done (edit_answer s force no_cause (record { named = area r ∷ []; contents = puts })) (step o) a
+
+  pub same_clear : SameStep s clear
+  same_clear = placed (is_outside r.0 || is_outside r.1) refl

@@ -1,0 +1,254 @@
+-- The commands of lines are those that they had.
+use Rattle.std.proofs.Common.{◌≡◌, ℕ, suc, zero, ◌-◌, ◌<◌, ◌≤◌, Bool, true, false, not, ◌==◌, ◌||◌, nat_lt, cond, List, [], ◌∷◌, ◌++◌, length, map, take, filter, filter_map, Option, Some, None, option_map, option_to_list, Result, if◌then◌else◌, refl, sym, ap, ap₂, ◌∙◌, subst, arith}
+use Rattle.std.specs.List.{list_all, cons_option}
+use Rattle.std.specs.Str.{byte, is_utf8}
+use Rattle.std.proofs.lemmas.Bool.Decides.{nat_tests}
+use Rattle.std.proofs.lemmas.Str.{IsUtf8-from_is_utf8, is_utf8-from_IsUtf8}
+use Rattle.wi_values.specs.AddressReading.{read_address}
+use Rattle.wi_values.specs.declared.address.AddressFault.{AddressFault}
+use Rattle.wi_scenarios.specs.declared.refusal.Refusal.TheVariants as refusal
+use Rattle.wi_scenarios.specs.Step as old
+use Rattle.wi_cli.specs.Lines.{raw_lines, onto_first, without_lf, is_whole, max_line}
+use Rattle.wi_cli.specs.Words.{is_space, is_all_spaces}
+use Rattle.wi_cli.specs.Inner.CsvCommand.{CsvLine, csv_line, csv_command}
+use Rattle.wi_cli.specs.Inner.Blocks.{Block, lines_of, blocks, is_complete}
+use Rattle.wi_cli.specs.Inner.Script.{is_comment, text_command, line_command, command_with, block_command, spelled_command, whole_lines}
+use Rattle.wi_cli.specs.Operands.{Bytes, Cell, IsWritten}
+use Rattle.wi_cli.specs.Command.{Command, Csv, Unknown, Unreadable, form}
+use Rattle.wi_cli.specs.Script.{text_of, IsWithin, IsGood, Takes, is_passed_over, IsCommand, none as no_commands, a_line as line_with, cut_short as line_cut, waiting}
+use Rattle.wi_cli.specs.Laws.{was, read_any, asked, block, Splits, none, a_line, cut_short, before, HasCommands}
+use Rattle.wi_cli.proofs.Ties.Tables.{clash, first_inside, second_inside}
+use Rattle.wi_cli.proofs.Ties.Looks.{or_false}
+use Rattle.wi_cli.proofs.Ties.CsvLines.{IsRead, AsksOrNot, it_asks, it_asks_none, asks_or_not, takes, asks}
+use Rattle.wi_cli.proofs.Ties.Texts.{is_plain, same_form, Reads, spells, spells_none, none_written, reads}
+use Rattle.wi_cli.proofs.Ties.Splitting.{blocks_split}
+
+-- ---- a text
+
+or_true : (b : Bool) → (b || true) ≡ true
+or_true true = refl
+or_true false = refl
+
+passed_is : (text : Bytes) → (is_all_spaces text || is_comment text) ≡ is_passed_over text
+passed_is [] = refl
+passed_is (b ∷ bs) = by (b == byte "#") (is_all_spaces (b ∷ bs))
+  where
+    by : (v x : Bool) → (x || v) ≡ (if v then true else x)
+    by true x = or_true x
+    by false x = or_false x
+
+-- a text of spaces alone is passed over
+spaces_pass : (text : Bytes) → list_all is_space text ≡ true → is_passed_over text ≡ true
+spaces_pass text e = sym (passed_is text) ∙ ap (λ (b : Bool). b || is_comment text) e
+
+pub text_is : (text : Bytes) (b : Bool) → is_passed_over text ≡ b → text_command text ≡ (if b then None else Some (spelled_command text))
+text_is text b e = ap (λ (v : Bool). if v then None else Some (spelled_command text)) (passed_is text ∙ e)
+
+-- ---- a line
+
+pub line_is : (line : Bytes) (b : Bool) → (nat_lt max_line (length (without_lf line)) || not (is_utf8 (text_of line))) ≡ b
+    → line_command (without_lf line) ≡ (if b then Some (old.Refused refusal.BadLine) else text_command (text_of line))
+unfolding line_command
+line_is line b e = ap (λ (v : Bool). if v then Some (old.Refused refusal.BadLine) else text_command (text_of line)) e
+
+not_long : (n : ℕ) → n ≤ max_line → nat_lt max_line n ≡ false
+not_long n h = grind (arith, nat_tests)
+
+short : (n : ℕ) → nat_lt max_line n ≡ false → n ≤ max_line
+short n e = grind (arith, nat_tests)
+
+not_true : (b : Bool) → not b ≡ false → b ≡ true
+not_true true e = refl
+not_true false e = absurd (clash true e refl)
+
+pub good : (line : Bytes) → (nat_lt max_line (length (without_lf line)) || not (is_utf8 (text_of line))) ≡ false → IsGood line
+good line e = (short _ (first_inside _ _ e), IsUtf8-from_is_utf8 (text_of line) (not_true _ (second_inside _ _ e)))
+
+pub good_is : (line : Bytes) → IsGood line → (nat_lt max_line (length (without_lf line)) || not (is_utf8 (text_of line))) ≡ false
+good_is line h =
+    let long : nat_lt max_line (length (without_lf line)) ≡ false = not_long _ h.0 in
+    let text : is_utf8 (text_of line) ≡ true = is_utf8-from_IsUtf8 (text_of line) h.1 in
+    ap₂ ◌||◌ long (ap not text)
+
+not_good : (line : Bytes) → (nat_lt max_line (length (without_lf line)) || not (is_utf8 (text_of line))) ≡ true → IsGood line → ⊥
+not_good line e h = clash _ (good_is line h) e
+
+as_command : (line : Bytes) (taken : List Bytes) (c : Command) → is_plain c ≡ true → IsGood line → IsWritten (text_of line) (form c) → taken ≡ [] → IsCommand line taken (Some c)
+as_command line taken (Csv force at n lines) p g h e = absurd (clash false refl p)
+as_command line taken Unknown p g h e = absurd (clash false refl p)
+as_command line taken Unreadable p g h e = absurd (clash false refl p)
+as_command line taken c p g h e = (g, h, sym e)
+
+-- a line that asks for no data lines
+pub plain_line : (line : Bytes) (taken : List Bytes) → csv_line (without_lf line) ≡ None → block_command (block line taken) ≡ line_command (without_lf line)
+plain_line line taken e = ap (λ (x : Option CsvLine). command_with x (block line taken)) e
+
+-- one that does, by what it was read as
+pub csv_line_is : (line : Bytes) (taken : List Bytes) (force : Bool) (o : Option Cell) (n : ℕ) → IsRead force o n (csv_line (without_lf line)) → (b : Bool) → is_utf8 (text_of line) ≡ b
+    → block_command (block line taken) ≡ Some (if b then csv_command force (read_any o) taken (n - length taken) else old.Refused refusal.BadLine)
+csv_line_is line taken force o n r b e =
+    let many : asked line ≡ n = ap lines_of r.1 in
+    ap (λ (x : Option CsvLine). command_with x (block line taken)) r.1
+    ∙ ap (λ (v : Bool). Some (if v then csv_command force (read_address r.0) taken (asked line - length taken) else old.Refused refusal.BadLine)) e
+    ∙ ap₂ (λ (a : Result ℕ AddressFault) (k : ℕ). Some (if b then csv_command force a taken (k - length taken) else old.Refused refusal.BadLine)) r.2 many
+
+-- a line with what it takes has a command by the new reading, which is the one that it had
+abbrev pub HasCommand : Bytes → List Bytes → Type 0
+HasCommand line taken = (o : Option Command) × IsCommand line taken o × (block_command (block line taken) ≡ option_map was o)
+
+module _ (line : Bytes) (taken : List Bytes) where
+  -- a line that asks for data lines
+  csv_has : (force : Bool) (o : Option Cell) (n : ℕ) → IsWithin line → IsWritten (text_of line) (form (Csv force o n [])) → IsRead force o n (csv_line (without_lf line)) → HasCommand line taken
+  csv_has force o n within h r = by (is_utf8 (text_of line)) refl
+    where
+      by : (b : Bool) → is_utf8 (text_of line) ≡ b → HasCommand line taken
+      by true e = (Some (Csv force o n taken), ((within, IsUtf8-from_is_utf8 (text_of line) e), h, refl), csv_line_is line taken force o n r true e)
+      by false e = (Some Unreadable, (λ g. clash _ e (is_utf8-from_IsUtf8 (text_of line) g.1)), csv_line_is line taken force o n r false e)
+
+  module _ (no_csv : (force : Bool) (o : Option Cell) (n : ℕ) → IsWithin line → IsWritten (text_of line) (form (Csv force o n [])) → ⊥)
+      (plain : csv_line (without_lf line) ≡ None) (fits : taken ≡ []) where
+    no_form : (g : IsGood line) → is_passed_over (text_of line) ≡ false → ((c : Command) → is_plain c ≡ true → IsWritten (text_of line) (form c) → ⊥) → (c : Command) → IsWritten (text_of line) (form c) → ⊥
+    no_form g p plain_none (Csv force o n lines) h = no_csv force o n g.0 h
+    no_form g p plain_none Unknown h = clash _ p (spaces_pass (text_of line) h)
+    no_form g p plain_none Unreadable h = clash _ p (spaces_pass (text_of line) h)
+    no_form g p plain_none c h = plain_none c refl h
+
+    text_has : IsGood line → is_passed_over (text_of line) ≡ false → block_command (block line taken) ≡ Some (spelled_command (text_of line)) → Reads (text_of line) → HasCommand line taken
+    text_has g p e (spells c is h) = (Some c, as_command line taken c is g h fits, e ∙ ap (λ (x : old.Command). Some x) (same_form (text_of line) c is h))
+    text_has g p e (spells_none nothing bad) = (Some Unknown, (g, p, no_form g p (none_written (text_of line) nothing)), e ∙ ap (λ (x : old.Command). Some x) bad)
+
+    by_line : (b : Bool) → (nat_lt max_line (length (without_lf line)) || not (is_utf8 (text_of line))) ≡ b → (p : Bool) → is_passed_over (text_of line) ≡ p → HasCommand line taken
+    by_line true e p f = (Some Unreadable, not_good line e, plain_line line taken plain ∙ line_is line true e)
+    by_line false e true f = (None, (good line e, f), plain_line line taken plain ∙ line_is line false e ∙ text_is (text_of line) true f)
+    by_line false e false f = text_has (good line e) f (plain_line line taken plain ∙ line_is line false e ∙ text_is (text_of line) false f) (reads (text_of line))
+
+    line_has : HasCommand line taken
+    line_has = by_line (nat_lt max_line (length (without_lf line)) || not (is_utf8 (text_of line))) refl (is_passed_over (text_of line)) refl
+
+  pub has_command : (csv_line (without_lf line) ≡ None → taken ≡ []) → HasCommand line taken
+  has_command fits = by (asks_or_not line)
+    where
+      by : AsksOrNot line → HasCommand line taken
+      by (it_asks force o n within h r) = csv_has force o n within h r
+      by (it_asks_none nothing e) = line_has nothing e (fits e)
+
+-- ---- lines
+
+onto_was : (o : Option Command) (cs : List Command) → cons_option (option_map was o) (map was cs) ≡ map was (option_to_list o ++ cs)
+onto_was None cs = refl
+onto_was (Some c) cs = refl
+
+empty : (taken : List Bytes) → length taken ≡ 0 → taken ≡ []
+empty [] e = refl
+empty (l ∷ ls) e = absurd (omega (arith, e))
+
+none_taken : (line : Bytes) (taken : List Bytes) → asked line ≡ length taken → csv_line (without_lf line) ≡ None → taken ≡ []
+none_taken line taken e plain = empty taken (sym e ∙ ap (λ (x : Option CsvLine). lines_of x) plain)
+
+none_short : (line : Bytes) (taken : List Bytes) → length taken < asked line → csv_line (without_lf line) ≡ None → taken ≡ []
+none_short line taken h plain =
+    let nothing : asked line ≡ 0 = ap (λ (x : Option CsvLine). lines_of x) plain in
+    absurd (omega (arith, h, nothing))
+
+pub has_all : (lines : List Bytes) (bs : List Block) → Splits lines bs → HasCommands true lines (filter_map block_command bs)
+has_all lines bs none = ([], no_commands true, refl)
+has_all lines bs (a_line line taken more cs same rest) =
+    let k = has_command line taken (none_taken line taken same) in
+    let r = has_all more cs rest in
+    let some : Takes line (length taken) = subst (λ (n : ℕ). Takes line n) same (takes line) in
+    (option_to_list k.0 ++ r.0, line_with true line taken more k.0 r.0 some k.1 r.1, ap₂ cons_option k.2 r.2 ∙ onto_was k.0 r.0)
+has_all lines bs (cut_short line taken short) =
+    let k = has_command line taken (none_short line taken short) in
+    (option_to_list k.0, line_cut line taken (asked line) k.0 (asks line (length taken) short) short k.1, last k.0 k.2)
+  where
+    last : (o : Option Command) → block_command (block line taken) ≡ option_map was o → cons_option (block_command (block line taken)) [] ≡ map was (option_to_list o)
+    last None e = ap (λ (x : Option old.Command). cons_option x []) e
+    last (Some c) e = ap (λ (x : Option old.Command). cons_option x []) e
+
+complete : (line : Bytes) (taken : List Bytes) → asked line ≡ length taken → is_complete (block line taken) ≡ true
+complete line taken e = grind (arith, nat_tests)
+
+not_complete : (line : Bytes) (taken : List Bytes) → length taken < asked line → is_complete (block line taken) ≡ false
+not_complete line taken h = grind (arith, nat_tests)
+
+pub has_whole : (lines : List Bytes) (bs : List Block) → Splits lines bs → HasCommands false lines (filter_map block_command (filter is_complete bs))
+has_whole lines bs none = ([], no_commands false, refl)
+has_whole lines bs (a_line line taken more cs same rest) =
+    let k = has_command line taken (none_taken line taken same) in
+    let r = has_whole more cs rest in
+    let some : Takes line (length taken) = subst (λ (n : ℕ). Takes line n) same (takes line) in (
+      option_to_list k.0 ++ r.0,
+      line_with false line taken more k.0 r.0 some k.1 r.1,
+      ap (λ (b : Bool). filter_map block_command (cond b (block line taken ∷ filter is_complete cs) (filter is_complete cs))) (complete line taken same)
+          ∙ ap₂ cons_option k.2 r.2 ∙ onto_was k.0 r.0,
+    )
+has_whole lines bs (cut_short line taken short) = (
+  [],
+  waiting line taken (asked line) (asks line (length taken) short) short,
+  ap (λ (b : Bool). filter_map block_command (cond b (block line taken ∷ []) [])) (not_complete line taken short),
+)
+
+-- ---- of the lines of bytes only the last may lack its LF
+
+abbrev AreWhole : List Bytes → Type 0
+AreWhole [] = Unit {0}
+AreWhole (l ∷ []) = Unit {0}
+AreWhole (l ∷ m ∷ ls) = (is_whole l ≡ true) × AreWhole (m ∷ ls)
+
+onto_whole : (b : ℕ) (ls : List Bytes) → AreWhole ls → AreWhole (onto_first b ls)
+onto_whole b [] h = tt
+onto_whole b (l ∷ []) h = tt
+onto_whole b (l ∷ m ∷ ls) h = (by (b == byte "\n"), h.1)
+  where
+    by : (v : Bool) → (if v then true else is_whole l) ≡ true
+    by true = refl
+    by false = h.0
+
+lf_whole : (ls : List Bytes) → AreWhole ls → AreWhole ((10 ∷ []) ∷ ls)
+lf_whole [] h = tt
+lf_whole (l ∷ ls) h = (refl, h)
+
+raw_whole : (bytes : Bytes) → AreWhole (raw_lines bytes)
+raw_whole [] = tt
+raw_whole (b ∷ bs) = by (b == byte "\n") (raw_whole bs)
+  where
+    by : (v : Bool) → AreWhole (raw_lines bs) → AreWhole (if v then (10 ∷ []) ∷ raw_lines bs else onto_first b (raw_lines bs))
+    by true h = lf_whole (raw_lines bs) h
+    by false h = onto_whole b (raw_lines bs) h
+
+take_whole : (n : ℕ) (ls : List Bytes) → AreWhole ls → AreWhole (take n ls)
+take_whole zero ls h = tt
+take_whole (suc n) [] h = tt
+take_whole (suc zero) (l ∷ ls) h = tt
+take_whole (suc (suc n)) (l ∷ []) h = tt
+take_whole (suc (suc n)) (l ∷ m ∷ ls) h = (h.0, take_whole (suc n) (m ∷ ls) h.1)
+
+whole_is : (ls : List Bytes) → AreWhole ls → whole_lines ls ≡ filter is_whole ls
+whole_is [] h = refl
+whole_is (l ∷ []) h = refl
+whole_is (l ∷ m ∷ ls) h =
+    ap (λ (b : Bool). cond b (l ∷ whole_lines (m ∷ ls)) []) h.0 ∙ ap (λ (x : List Bytes). l ∷ x) (whole_is (m ∷ ls) h.1)
+    ∙ ap (λ (b : Bool). cond b (l ∷ filter is_whole (m ∷ ls)) (filter is_whole (m ∷ ls))) (sym h.0)
+
+-- but before the last all have it
+front_whole : (n : ℕ) (ls : List Bytes) → AreWhole ls → n < length ls → whole_lines (take n ls) ≡ take n ls
+front_whole zero ls h l = refl
+front_whole (suc n) [] h l = absurd (omega (arith, l))
+front_whole (suc n) (x ∷ []) h l = absurd (omega (arith, l))
+front_whole (suc n) (x ∷ y ∷ ls) h l =
+    ap (λ (b : Bool). cond b (x ∷ whole_lines (take n (y ∷ ls))) []) h.0 ∙ ap (λ (z : List Bytes). x ∷ z) (front_whole n (y ∷ ls) h.1 (omega (arith, l)))
+
+pub first_whole : (n : ℕ) (bytes : Bytes) → n < length (raw_lines bytes) → whole_lines (take n (raw_lines bytes)) ≡ take n (raw_lines bytes)
+first_whole n bytes l = front_whole n (raw_lines bytes) (raw_whole bytes) l
+
+pub raw_lines_whole : (bytes : Bytes) → whole_lines (raw_lines bytes) ≡ filter is_whole (raw_lines bytes)
+raw_lines_whole bytes = whole_is (raw_lines bytes) (raw_whole bytes)
+
+pub taken_whole : (n : ℕ) (bytes : Bytes) → whole_lines (take n (raw_lines bytes)) ≡ filter is_whole (take n (raw_lines bytes))
+taken_whole n bytes = whole_is (take n (raw_lines bytes)) (take_whole n (raw_lines bytes) (raw_whole bytes))
+
+-- ---- the commands of a script
+
+pub has_commands : (ended : Bool) (lines : List Bytes) → HasCommands ended lines (before ended lines)
+has_commands true lines = has_all lines (blocks lines) (blocks_split lines)
+has_commands false lines = has_whole lines (blocks lines) (blocks_split lines)

@@ -1,0 +1,139 @@
+-- The words that spell a rectangle, and what they were read as.
+use Rattle.std.proofs.Common.{◌≡◌, ℕ, suc, ◌+◌, ◌<◌, Bool, true, false, ◌&&◌, ◌||◌, not, nat_lt, ◌==◌, cond, [], ◌∷◌, ◌++◌, take, drop, length, get_or, Some, None, Result, Ok, Err, refl, sym, ap, ap₂, ◌∙◌, subst, arith, append_assoc, append-nil, length-append, eqb-true, codes}
+use Rattle.std.proofs.Math.Seq.{take-append_seam}
+use Rattle.std.proofs.lemmas.Bool.Decides.{nat_tests}
+use Rattle.std.proofs.lemmas.List.Folds.{list_all-append}
+use Rattle.std.proofs.lemmas.List.Sums.{split_at_first, passes_at_first}
+use Rattle.std.specs.Char.{is_ascii_alphabetic, is_ascii_digit}
+use Rattle.std.specs.List.{list_all, prefix_len, position_or_len}
+use Rattle.std.specs.Str.{byte, all_ascii_digits}
+use Rattle.wi_values.specs.Address.{rect_of}
+use Rattle.wi_values.specs.AddressReading.{read_address, read_rect, corners, read_corners as read_at_colon}
+use Rattle.wi_values.specs.declared.address.AddressFault.{AddressFault}
+use Rattle.wi_values.specs.declared.address.AddressFault.TheVariants.{Shape, Outside}
+use Rattle.wi_cli.specs.Operands.{Bytes, Cell, Corners, is_outside, address, IsAddr, addr, IsRect, a_cell, two_cells}
+use Rattle.wi_cli.specs.Laws.{read_by, read_corners, SameRect}
+use Rattle.wi_cli.proofs.Ties.Addresses.{all_digits, same_addr}
+use Rattle.wi_cli.proofs.Ties.Tables.{clash}
+
+abbrev is_colon : ℕ → Bool
+is_colon b = b == byte ":"
+
+abbrev no_colon : ℕ → Bool
+no_colon b = not (is_colon b)
+
+pub both : (a b : Bool) → (a && b) ≡ true → (a ≡ true) × (b ≡ true)
+both true b e = (refl, e)
+both false b e = absurd (clash false refl e)
+
+-- ---- no address has a colon
+
+letters_plain : (ls : Bytes) → list_all is_ascii_alphabetic ls ≡ true → list_all no_colon ls ≡ true
+letters_plain [] h = refl
+letters_plain (l ∷ ls) h =
+    let k = both (is_ascii_alphabetic l) (list_all is_ascii_alphabetic ls) h in
+    let letter : is_ascii_alphabetic l ≡ true = k.0 in
+    let first : no_colon l ≡ true = grind (arith, nat_tests) in
+    rw (first, letters_plain ls k.1) refl
+
+digits_plain : (ds : Bytes) → all_ascii_digits ds ≡ true → list_all no_colon ds ≡ true
+digits_plain [] h = refl
+digits_plain (d ∷ ds) h =
+    let k = both (is_ascii_digit d) (all_ascii_digits ds) h in
+    let digit : is_ascii_digit d ≡ true = k.0 in
+    let first : no_colon d ≡ true = grind (arith, nat_tests) in
+    rw (first, digits_plain ds k.1) refl
+
+addr_plain : (word : Bytes) (c : Cell) → IsAddr word c → list_all no_colon word ≡ true
+addr_plain word c (addr ls ds d some letters digits column row) =
+    list_all-append no_colon ls ds ∙ ap₂ ◌&&◌ (letters_plain ls letters) (digits_plain ds (all_digits ds digits))
+
+-- ---- where the colon is
+
+scan : (cs rest : Bytes) → list_all no_colon cs ≡ true → prefix_len no_colon rest ≡ 0 → prefix_len no_colon (cs ++ rest) ≡ length cs
+scan [] rest h e = e
+scan (c ∷ cs) rest h e =
+    let k = both (no_colon c) (list_all no_colon cs) h in
+    let more : prefix_len no_colon (cs ++ rest) ≡ length cs = scan cs rest k.1 e in
+    ap (λ (b : Bool). cond b (1 + prefix_len no_colon (cs ++ rest)) 0) k.0 ∙ omega (arith, more)
+
+whole : (cs : Bytes) → list_all no_colon cs ≡ true → prefix_len no_colon cs ≡ length cs
+whole cs h = ap (prefix_len no_colon) (sym (append-nil cs)) ∙ scan cs [] h refl
+
+-- what a word was read as, by whether it has a colon
+by_colon : (word : Bytes) (b : Bool) → nat_lt (position_or_len is_colon word) (length word) ≡ b → read_rect word ≡ read_at_colon word (cond b (Some (position_or_len is_colon word)) None)
+unfolding read_rect
+by_colon word b e = ap (λ (v : Bool). read_at_colon word (cond v (Some (position_or_len is_colon word)) None)) e
+
+below : (n m : ℕ) → n ≡ m → nat_lt n m ≡ false
+below n m e = grind (arith, nat_tests)
+
+above : (n m k : ℕ) → n ≡ m → k ≡ m + suc 0 → nat_lt n k ≡ true
+above n m k e f = grind (arith, nat_tests)
+
+corners_by : (a b : Bool) (x y : ℕ) → corners (read_by a x) (read_by b y) ≡ read_by (a || b) (rect_of x y)
+corners_by true true x y = refl
+corners_by true false x y = refl
+corners_by false true x y = refl
+corners_by false false x y = refl
+
+one_cell : (word : Bytes) (c : Cell) → IsAddr word c → read_rect word ≡ read_corners (c, c)
+one_cell word c h =
+    let spelled = (same_addr word).spelled c h in
+    by_colon word false (below _ _ (whole word (addr_plain word c h)))
+    ∙ ap (λ (r : Result ℕ AddressFault). corners r r) spelled ∙ corners_by (is_outside c) (is_outside c) (address c) (address c)
+
+behind_colon : (v w : Bytes) → drop (length v + 1) (v ++ (58 ∷ w)) ≡ w
+behind_colon [] w = refl
+behind_colon (x ∷ xs) w =
+    let next : length (x ∷ xs) + 1 ≡ suc (length xs + 1) = omega arith in
+    ap (λ (k : ℕ). drop k (x ∷ (xs ++ (58 ∷ w)))) next ∙ behind_colon xs w
+
+is_longer : (v w : Bytes) → nat_lt (length v) (length (v ++ (58 ∷ w))) ≡ true
+is_longer v w =
+    let long : length (v ++ (58 ∷ w)) ≡ length v + length (58 ∷ w) = length-append v (58 ∷ w) in
+    let some : length (58 ∷ w) ≡ suc (length w) = refl in
+    grind (arith, nat_tests)
+
+two : (v w : Bytes) (c d : Cell) → IsAddr v c → IsAddr w d → read_rect (v ++ (58 ∷ w)) ≡ read_corners (c, d)
+two v w c d h k =
+    let text : Bytes = v ++ (58 ∷ w) in
+    let place : position_or_len is_colon text ≡ length v = scan v (58 ∷ w) (addr_plain v c h) refl in
+    let long : nat_lt (position_or_len is_colon text) (length text) ≡ true = ap (λ (n : ℕ). nat_lt n (length text)) place ∙ is_longer v w in
+    by_colon text true long
+    ∙ ap (λ (n : ℕ). corners (read_address (take n text)) (read_address (drop (n + 1) text))) place
+    ∙ ap₂ (λ (x y : Bytes). corners (read_address x) (read_address y)) (take-append_seam v (58 ∷ w)) (behind_colon v w)
+    ∙ ap₂ corners ((same_addr v).spelled c h) ((same_addr w).spelled d k) ∙ corners_by (is_outside c) (is_outside d) (address c) (address d)
+
+pub spelled : (word : Bytes) (r : Corners) → IsRect word r → read_rect word ≡ read_corners r
+spelled word r (a_cell w c h) = one_cell w c h
+spelled word r (two_cells v w c d h k) = ap read_rect (append_assoc v (58 ∷ []) w) ∙ two v w c d h k
+
+-- ---- a word that is read
+
+bad_second : (r : Result ℕ AddressFault) → corners r (Err Shape) ≡ Err Shape
+bad_second (Ok a) = refl
+bad_second (Err Shape) = refl
+bad_second (Err Outside) = refl
+
+reads_at : (word : Bytes) → (read_rect word ≡ Err Shape → ⊥) → (b : Bool) → nat_lt (position_or_len is_colon word) (length word) ≡ b → (r : Corners) × IsRect word r
+reads_at word h false e =
+    let c = (same_addr word).read (λ k. h (by_colon word false e ∙ ap (λ (r : Result ℕ AddressFault). corners r r) k)) in
+    ((c.0, c.0), a_cell word c.0 c.1)
+reads_at word h true e =
+    let n : ℕ = position_or_len is_colon word in
+    let front : Bytes = take n word in
+    let back : Bytes = drop (n + 1) word in
+    let inside : n < length word = grind (arith, nat_tests) in
+    let c = (same_addr front).read (λ k. h (by_colon word true e ∙ ap (λ (r : Result ℕ AddressFault). corners r (read_address back)) k)) in
+    let d = (same_addr back).read (λ k. h (by_colon word true e ∙ ap (corners (read_address front)) k ∙ bad_second (read_address front))) in
+    let colon : get_or word n 0 ≡ 58 = eqb-true _ _ (passes_at_first is_colon word 0 inside) in
+    let parts : (front ++ codes ":") ++ back ≡ word =
+    append_assoc front (58 ∷ []) back ∙ ap (λ (b : ℕ). front ++ (b ∷ back)) (sym colon) ∙ sym (split_at_first is_colon word 0 inside) in
+    ((c.0, d.0), subst (λ (w : Bytes). IsRect w (c.0, d.0)) parts (two_cells front back c.0 d.0 c.1 d.1))
+
+pub read : (word : Bytes) → (read_rect word ≡ Err Shape → ⊥) → (r : Corners) × IsRect word r
+read word h = reads_at word h (nat_lt (position_or_len is_colon word) (length word)) refl
+
+pub same_rect : (word : Bytes) → SameRect word
+same_rect word = record { spelled = spelled word; read = read word }

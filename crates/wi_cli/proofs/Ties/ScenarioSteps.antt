@@ -1,0 +1,319 @@
+-- The steps of the commands of scenarios and sessions.
+use Rattle.std.proofs.Common.{◌≡◌, ◌≤◌, ℕ, Bool, true, false, not, ◌||◌, ◌&&◌, nat_le, [], ◌∷◌, length, Option, Some, None, is_some, refl, sym, ap, ◌∙◌, subst, arith}
+use Rattle.std.specs.List.{list_any}
+use Rattle.std.proofs.lemmas.Bool.Decides.{nat_tests}
+use Rattle.wi_values.specs.declared.value.Value.{Value}
+use Rattle.wi_values.specs.Imported.{IsImported}
+use Rattle.wi_values.specs.Inner.Import.{imported}
+use Rattle.wi_values.proofs.Imports.{imported_exactly}
+use Rattle.wi_scenario_list.specs.Scenarios.{has_scenario, scenario_for, without_scenario, with_own, without_own, is_full}
+use Rattle.wi_scenario_list.specs.Bases.{based_on, lacks, would_loop}
+use Rattle.wi_sessions.specs.Sessions.{has_session, max_sessions, with_session, place_of, using_scenario}
+use Rattle.wi_scenarios.specs.State.{State}
+use Rattle.wi_scenarios.specs.Drop.{is_in_use}
+use Rattle.wi_scenarios.specs.Views.{current_session, with_current}
+use Rattle.wi_scenarios.specs.Step as old
+use Rattle.wi_cli.specs.Operands.{Bytes, Cell, is_outside, address}
+use Rattle.wi_cli.specs.Command.{Command, Scenario, Drop, Base, Use, As, form}
+use Rattle.wi_cli.specs.Causes.{Cause, Outside, TooLarge, NoScenario, InUse, TooMany, TooLong, Stale, Loop, Full, EditLimit, Holds, order, lies_outside, is_missing}
+use Rattle.wi_cli.specs.Does.{Does, keeping}
+use Rattle.wi_cli.specs.Laws.{SameStep, was}
+use Rattle.wi_cli.proofs.Ties.Tables.{clash}
+use Rattle.wi_cli.proofs.Ties.Looks.{or_false}
+use Rattle.wi_cli.proofs.Ties.Tests.{first_test, found, some_none, by_tests}
+
+-- ---- drop
+
+module _ (s : State) (name : Bytes) where
+  abbrev dropped : State × Bytes
+  dropped = (record s { scenarios = without_scenario s.scenarios name }, [])
+
+  abbrev drop_test : Cause → Bool
+  drop_test NoScenario = not (has_scenario s.scenarios name) || false
+  drop_test InUse = is_in_use s name
+  drop_test x = false
+
+  drop_yes : (x : Cause) → drop_test x ≡ true → Holds s x (Drop name)
+  drop_yes NoScenario e = e
+  drop_yes InUse e = e
+  drop_yes x e = absurd (clash false refl e)
+
+  drop_no : (x : Cause) → drop_test x ≡ false → Holds s x (Drop name) → ⊥
+  drop_no Outside e h = clash false refl h
+  drop_no TooLarge e h = omega (arith, h)
+  drop_no NoScenario e h = clash _ e h
+  drop_no InUse e h = clash _ e h
+  drop_no Stale e h = h.1 refl
+  drop_no Full e h = h.1
+  drop_no EditLimit e h = h.1
+  drop_no x e h = h
+
+  drop_picked : (missing used : Bool) → not (has_scenario s.scenarios name) ≡ missing → is_in_use s name ≡ used
+      → (o : Option Cause) × (first_test drop_test order ≡ o) × old.IsStep s (was (Drop name)) (found dropped o)
+  drop_picked true used em eu = (Some NoScenario, rw em refl, rw em refl)
+  drop_picked false true em eu = (Some InUse, rw (em, eu) refl, rw (em, eu) refl)
+  drop_picked false false em eu = (None, rw (em, eu) refl, rw (em, eu) refl)
+
+  pub same_drop : SameStep s (Drop name)
+  same_drop a =
+      let p = drop_picked (not (has_scenario s.scenarios name)) (is_in_use s name) refl refl in
+      by_tests s (Drop name) drop_test drop_yes drop_no refl dropped (λ e. refl) (λ x y h k. h ∙ sym k) (was (Drop name)) p.0 p.1 p.2 a
+
+-- ---- use
+
+module _ (s : State) (name : Option Bytes) where
+  abbrev used : State × Bytes
+  used = (with_current s (using_scenario (current_session s) name), [])
+
+  abbrev use_test : Cause → Bool
+  use_test NoScenario = lacks s.scenarios name
+  use_test x = false
+
+use_yes : (s : State) (name : Option Bytes) (x : Cause) → use_test s name x ≡ true → Holds s x (Use name)
+use_yes s None NoScenario e = absurd (clash false refl e)
+use_yes s (Some name) NoScenario e = ap (λ (b : Bool). b || false) e
+use_yes s name x e = absurd (clash false refl e)
+
+use_no : (s : State) (name : Option Bytes) (x : Cause) → use_test s name x ≡ false → Holds s x (Use name) → ⊥
+use_no s None Outside e h = clash false refl h
+use_no s (Some name) Outside e h = clash false refl h
+use_no s None TooLarge e h = omega (arith, h)
+use_no s (Some name) TooLarge e h = omega (arith, h)
+use_no s None NoScenario e h = clash false refl h
+use_no s (Some name) NoScenario e h = clash _ (ap (λ (b : Bool). b || false) e) h
+use_no s name Stale e h = h.1 refl
+use_no s name Full e h = h.1
+use_no s name EditLimit e h = h.1
+use_no s name x e h = h
+
+module _ (s : State) (name : Option Bytes) where
+  use_picked : (missing : Bool) → lacks s.scenarios name ≡ missing → (o : Option Cause) × (first_test (use_test s name) order ≡ o) × old.IsStep s (was (Use name)) (found (used s name) o)
+  use_picked true em = (Some NoScenario, rw em refl, rw em refl)
+  use_picked false em = (None, rw em refl, rw em refl)
+
+  pub same_use : SameStep s (Use name)
+  same_use a =
+      let p = use_picked (lacks s.scenarios name) refl in
+      by_tests s (Use name) (use_test s name) (use_yes s name) (use_no s name) refl (used s name) (λ e. refl) (λ x y h k. h ∙ sym k) (was (Use name)) p.0 p.1 p.2 a
+
+-- ---- as
+
+module _ (s : State) (name : Bytes) where
+  abbrev there : Bool
+  there = has_session s.sessions name
+
+  abbrev many : Bool
+  many = nat_le max_sessions (length s.sessions)
+
+  abbrev made_current : State × Bytes
+  made_current = (record s { sessions = with_session s.sessions name; current = place_of s.sessions name }, [])
+
+  abbrev as_test : Cause → Bool
+  as_test TooMany = not there && many
+  as_test x = false
+
+  new_of_many : (t m : Bool) → (not t && m) ≡ true → (t ≡ false) × (m ≡ true)
+  new_of_many true m e = absurd (clash false refl e)
+  new_of_many false m e = (refl, e)
+
+  not_both : (t m : Bool) → (not t && m) ≡ false → t ≡ false → m ≡ true → ⊥
+  not_both true m e h k = clash true h refl
+  not_both false m e h k = clash m e k
+
+  at_most : (n m : ℕ) → nat_le n m ≡ true → n ≤ m
+  at_most n m e = grind (arith, nat_tests)
+
+  within : (n m : ℕ) → n ≤ m → nat_le n m ≡ true
+  within n m h = grind (arith, nat_tests)
+
+  as_yes : (x : Cause) → as_test x ≡ true → Holds s x (As name)
+  as_yes TooMany e =
+      let p = new_of_many there many e in
+      (p.0, at_most _ _ p.1)
+  as_yes x e = absurd (clash false refl e)
+
+  as_no : (x : Cause) → as_test x ≡ false → Holds s x (As name) → ⊥
+  as_no Outside e h = clash false refl h
+  as_no TooLarge e h = omega (arith, h)
+  as_no NoScenario e h = clash false refl h
+  as_no TooMany e h = not_both there many e h.0 (within _ _ h.1)
+  as_no Stale e h = h.1 refl
+  as_no Full e h = h.1
+  as_no EditLimit e h = h.1
+  as_no x e h = h
+
+  as_picked : (full : Bool) → (not there && many) ≡ full → (o : Option Cause) × (first_test as_test order ≡ o) × old.IsStep s (was (As name)) (found made_current o)
+  as_picked true e = (Some TooMany, rw e refl, rw e refl)
+  as_picked false e = (None, rw e refl, rw e refl)
+
+  pub same_as : SameStep s (As name)
+  same_as a =
+      let p = as_picked (not there && many) refl in
+      by_tests s (As name) as_test as_yes as_no refl made_current (λ e. refl) (λ x y h k. h ∙ sym k) (was (As name)) p.0 p.1 p.2 a
+
+-- ---- base
+
+module _ (s : State) (name : Bytes) (other : Option Bytes) where
+  abbrev based : State × Bytes
+  based = (keeping s (based_on (scenario_for s.scenarios name) other), [])
+
+  abbrev base_test : Cause → Bool
+  base_test NoScenario = not (has_scenario s.scenarios name) || lacks s.scenarios other
+  base_test Loop = would_loop s.scenarios name other
+  base_test x = false
+
+missing_base : (s : State) (name : Bytes) (other : Option Bytes) → list_any (is_missing s) (form (Base name other)) ≡ (not (has_scenario s.scenarios name) || lacks s.scenarios other)
+missing_base s name None = refl
+missing_base s name (Some other) = ap (λ (b : Bool). not (has_scenario s.scenarios name) || b) (or_false (not (has_scenario s.scenarios other)))
+
+base_yes : (s : State) (name : Bytes) (other : Option Bytes) (x : Cause) → base_test s name other x ≡ true → Holds s x (Base name other)
+base_yes s name other NoScenario e = missing_base s name other ∙ e
+base_yes s name None Loop e = absurd (clash false refl e)
+base_yes s name (Some other) Loop e = e
+base_yes s name other x e = absurd (clash false refl e)
+
+base_no : (s : State) (name : Bytes) (other : Option Bytes) (x : Cause) → base_test s name other x ≡ false → Holds s x (Base name other) → ⊥
+base_no s name None Outside e h = clash false refl h
+base_no s name (Some other) Outside e h = clash false refl h
+base_no s name None TooLarge e h = omega (arith, h)
+base_no s name (Some other) TooLarge e h = omega (arith, h)
+base_no s name other NoScenario e h = clash _ e (sym (missing_base s name other) ∙ h)
+base_no s name None Loop e h = h
+base_no s name (Some other) Loop e h = clash _ e h
+base_no s name other Stale e h = h.1 refl
+base_no s name other Full e h = h.1
+base_no s name other EditLimit e h = h.1
+base_no s name other x e h = h
+
+module _ (s : State) (name : Bytes) (other : Option Bytes) where
+  base_picked : (missing loop : Bool) → (not (has_scenario s.scenarios name) || lacks s.scenarios other) ≡ missing → would_loop s.scenarios name other ≡ loop
+      → (o : Option Cause) × (first_test (base_test s name other) order ≡ o) × old.IsStep s (was (Base name other)) (found (based s name other) o)
+  base_picked true loop em el = (Some NoScenario, rw em refl, rw em refl)
+  base_picked false true em el = (Some Loop, rw (em, el) refl, rw (em, el) refl)
+  base_picked false false em el = (None, rw (em, el) refl, rw (em, el) refl)
+
+  pub same_base : SameStep s (Base name other)
+  same_base a =
+      let p = base_picked (not (has_scenario s.scenarios name) || lacks s.scenarios other) (would_loop s.scenarios name other) refl refl in
+      by_tests s (Base name other) (base_test s name other) (base_yes s name other) (base_no s name other) refl (based s name other) (λ e. refl) (λ x y h k. h ∙ sym k) (was (Base name other)) p.0 p.1 p.2 a
+
+-- ---- scenario
+
+module _ (s : State) (name : Bytes) (at : Cell) where
+  abbrev taken_away : State × Bytes
+  taken_away = (keeping s (without_own (scenario_for s.scenarios name) (address at)), [])
+
+  abbrev away_test : Cause → Bool
+  away_test Outside = list_any lies_outside (form (Scenario name at []))
+  away_test NoScenario = not (has_scenario s.scenarios name) || false
+  away_test x = false
+
+  away_yes : (x : Cause) → away_test x ≡ true → Holds s x (Scenario name at [])
+  away_yes Outside e = e
+  away_yes NoScenario e = e
+  away_yes x e = absurd (clash false refl e)
+
+  away_no : (x : Cause) → away_test x ≡ false → Holds s x (Scenario name at []) → ⊥
+  away_no Outside e h = clash _ e h
+  away_no TooLarge e h = omega (arith, h)
+  away_no NoScenario e h = clash _ e h
+  away_no Stale e h = h.1 refl
+  away_no Full e h = h.1
+  away_no EditLimit e h = h.1
+  away_no x e h = h
+
+  away_picked : (out missing : Bool) → is_outside at ≡ out → not (has_scenario s.scenarios name) ≡ missing
+      → (o : Option Cause) × (first_test away_test order ≡ o) × old.IsStep s (was (Scenario name at [])) (found taken_away o)
+  away_picked true missing eo em = (Some Outside, rw eo refl, rw eo refl)
+  away_picked false true eo em = (Some NoScenario, rw (eo, em) refl, rw (eo, em) refl)
+  away_picked false false eo em = (None, rw (eo, em) refl, rw (eo, em) refl)
+
+  same_away : SameStep s (Scenario name at [])
+  same_away a =
+      let p = away_picked (is_outside at) (not (has_scenario s.scenarios name)) refl refl in
+      by_tests s (Scenario name at []) away_test away_yes away_no refl taken_away (λ e. refl) (λ x y h k. h ∙ sym k) (was (Scenario name at [])) p.0 p.1 p.2 a
+
+module _ (s : State) (name : Bytes) (at : Cell) (b : ℕ) (bs : Bytes) (value : Option Value) (is : IsImported (b ∷ bs) value) where
+  abbrev put : Command
+  put = Scenario name at (b ∷ bs)
+
+  abbrev putting : Option Value → State × Bytes
+  putting (Some v) = (keeping s (with_own (scenario_for s.scenarios name) (record { at = address at; value = v } ∷ [])), [])
+  putting None = (s, [])
+
+  one_value : (v w : Option Value) → IsImported (b ∷ bs) v → IsImported (b ∷ bs) w → v ≡ w
+  one_value v w h k = sym ((imported_exactly (b ∷ bs) v).0 h) ∙ (imported_exactly (b ∷ bs) w).0 k
+
+  abbrev put_test : Cause → Bool
+  put_test Outside = list_any lies_outside (form (Scenario name at (b ∷ bs)))
+  put_test TooMany = is_full s.scenarios name (address at)
+  put_test TooLong = not (is_some value)
+  put_test x = false
+
+  no_value : (o : Option Value) → not (is_some o) ≡ true → o ≡ None
+  no_value None e = refl
+  no_value (Some v) e = absurd (clash false refl e)
+
+  some_value : (o : Option Value) → o ≡ None → not (is_some o) ≡ false → ⊥
+  some_value None h e = clash true e refl
+  some_value (Some v) h e = cc
+
+  put_yes : (x : Cause) → put_test x ≡ true → Holds s x put
+  put_yes Outside e = e
+  put_yes TooMany e = e
+  put_yes TooLong e = subst (IsImported (b ∷ bs)) (no_value value e) is
+  put_yes x e = absurd (clash false refl e)
+
+  put_no : (x : Cause) → put_test x ≡ false → Holds s x put → ⊥
+  put_no Outside e h = clash _ e h
+  put_no TooLarge e h = omega (arith, h)
+  put_no TooMany e h = clash _ e h
+  put_no TooLong e h = some_value value (one_value value None is h) e
+  put_no Stale e h = h.1 refl
+  put_no Full e h = h.1
+  put_no EditLimit e h = h.1
+  put_no x e h = h
+
+  same_value : {v w : Value} → ◌≡◌ {A = Option Value} (Some v) (Some w) → v ≡ w
+  same_value e = cc
+
+  one_put : (x y : State × Bytes) → Does s put x → Does s put y → x ≡ y
+  one_put x y h k =
+      h.2 ∙ ap (λ (v : Value). putting (Some v)) (same_value (one_value (Some h.0) (Some k.0) h.1 k.1)) ∙ sym k.2
+
+-- the step, where the text is imported as this
+module _ (s : State) (name : Bytes) (at : Cell) (b : ℕ) (bs : Bytes) where
+  abbrev Picked : (value : Option Value) → IsImported (b ∷ bs) value → Type 0
+  Picked value is =
+      (o : Option Cause) × (first_test (put_test s name at b bs value is) order ≡ o) × old.IsStep s (was (Scenario name at (b ∷ bs))) (found (putting s name at b bs value is value) o)
+
+  put_picked : (value : Option Value) (is : IsImported (b ∷ bs) value) (out full : Bool) → is_outside at ≡ out → is_full s.scenarios name (address at) ≡ full → Picked value is
+  put_picked value is true full eo ef = (Some Outside, rw eo refl, rw eo refl)
+  put_picked value is false true eo ef = (Some TooMany, rw (eo, ef) refl, rw eo (record { value = value; is_value = is; answered = rw ef refl }))
+  put_picked None is false false eo ef = (Some TooLong, rw (eo, ef) refl, rw eo (record { value = None; is_value = is; answered = rw ef refl }))
+  put_picked (Some v) is false false eo ef = (None, rw (eo, ef) refl, rw eo (record { value = Some v; is_value = is; answered = rw ef refl }))
+
+  refused : (is : IsImported (b ∷ bs) None) (out full : Bool) → is_outside at ≡ out → is_full s.scenarios name (address at) ≡ full
+      → (x : Cause) × (first_test (put_test s name at b bs None is) order ≡ Some x)
+  refused is true full eo ef = (Outside, rw eo refl)
+  refused is false true eo ef = (TooMany, rw (eo, ef) refl)
+  refused is false false eo ef = (TooLong, rw (eo, ef) refl)
+
+  does : (value : Option Value) (is : IsImported (b ∷ bs) value) → first_test (put_test s name at b bs value is) order ≡ None
+      → Does s (Scenario name at (b ∷ bs)) (putting s name at b bs value is value)
+  does None is e =
+      let r = refused is (is_outside at) (is_full s.scenarios name (address at)) refl refl in
+      absurd (some_none r.0 (sym r.1 ∙ e))
+  does (Some v) is e = (v, is, refl)
+
+  same_put : SameStep s (Scenario name at (b ∷ bs))
+  same_put a =
+      let value = imported (b ∷ bs) in
+      let is : IsImported (b ∷ bs) value = (imported_exactly (b ∷ bs) value).1 refl in
+      let p = put_picked value is (is_outside at) (is_full s.scenarios name (address at)) refl refl in
+      by_tests s (Scenario name at (b ∷ bs)) (put_test s name at b bs value is) (put_yes s name at b bs value is) (put_no s name at b bs value is) refl (putting s name at b bs value is value)
+      (does value is) (one_put s name at b bs value is) (was (Scenario name at (b ∷ bs))) p.0 p.1 p.2 a
+
+pub same_scenario : (s : State) (name : Bytes) (at : Cell) (text : Bytes) → SameStep s (Scenario name at text)
+same_scenario s name at [] = same_away s name at
+same_scenario s name at (b ∷ bs) = same_put s name at b bs

@@ -1,0 +1,337 @@
+-- The step of `table` with two inputs.
+use Rattle.std.proofs.Common.{◌≡◌, ◌<◌, ◌*◌, ℕ, min, max, Bool, true, false, not, ◌||◌, ◌&&◌, ◌==◌, nat_lt, List, [], ◌∷◌, Option, Some, None, Result, if◌then◌else◌, refl, sym, ap, ◌∙◌, subst, arith}
+use Rattle.std.specs.List.{list_any}
+use Rattle.std.specs.Result.{result_err}
+use Rattle.wi_values.specs.Address.{Area, columns, place, row_of, column_of, size_of}
+use Rattle.wi_values.specs.declared.address.AddressFault.{AddressFault}
+use Rattle.wi_values.specs.declared.address.AddressFault.TheVariants.{Shape, Outside as AtOutside}
+use Rattle.wi_scenarios.specs.declared.refusal.Refusal.TheVariants as refusal
+use Rattle.wi_scenarios.specs.State.{State}
+use Rattle.wi_scenarios.specs.Areas.{max_area}
+use Rattle.wi_scenarios.specs.Views.{current_replacements}
+use Rattle.wi_scenarios.specs.Step as old
+use Rattle.wi_reports.specs.Table.{table_of, is_column, is_row}
+use Rattle.wi_cli.specs.Inner.Operands.{of_operand, worse, column_fault, row_fault}
+use Rattle.wi_cli.specs.Inner.TableCommand.{unless_refused, table_of_one, table_of_two}
+use Rattle.wi_cli.specs.Operands.{Bytes, Cell, Corners, is_outside, address, area}
+use Rattle.wi_cli.specs.Command.{Command, Table}
+use Rattle.wi_cli.specs.Causes.{Cause, BadCommand, Outside, TooLarge, NoScenario, Stale, Full, EditLimit, Holds, order}
+use Rattle.wi_cli.specs.Step.{Answer}
+use Rattle.wi_cli.specs.Laws.{SameStep, read_by, read_cell, read_corners, was}
+use Rattle.wi_cli.proofs.Ties.Tables.{clash, too_large, not_large, inside, first_inside, second_inside, column_place, min_max, column_is}
+use Rattle.wi_cli.proofs.Ties.Looks.{once, or_false}
+use Rattle.wi_cli.proofs.Ties.Tests.{first_test, found, by_tests}
+
+-- ---- faults of operands, one after another
+
+abbrev pub is_shape : Option AddressFault → Bool
+is_shape None = false
+is_shape (Some Shape) = true
+is_shape (Some AtOutside) = false
+
+abbrev is_out : Option AddressFault → Bool
+is_out None = false
+is_out (Some Shape) = false
+is_out (Some AtOutside) = true
+
+abbrev worst : List (Option AddressFault) → Option AddressFault
+worst [] = None
+worst (o ∷ os) = worse o (worst os)
+
+none_bad : (os : List (Option AddressFault)) → list_any is_shape os ≡ false → list_any is_out os ≡ false → worst os ≡ None
+none_bad [] h k = refl
+none_bad (None ∷ os) h k = none_bad os h k
+none_bad (Some Shape ∷ os) h k = absurd (clash true h refl)
+none_bad (Some AtOutside ∷ os) h k = absurd (clash true k refl)
+
+shape_first : (os : List (Option AddressFault)) → list_any is_shape os ≡ true → worst os ≡ Some Shape
+shape_first [] h = absurd (clash false refl h)
+shape_first (None ∷ os) h = shape_first os h
+shape_first (Some Shape ∷ os) h = refl
+shape_first (Some AtOutside ∷ os) h = ap (worse (Some AtOutside)) (shape_first os h)
+
+outside_next : (os : List (Option AddressFault)) → list_any is_shape os ≡ false → list_any is_out os ≡ true → worst os ≡ Some AtOutside
+outside_next [] h k = absurd (clash false refl k)
+outside_next (None ∷ os) h k = outside_next os h k
+outside_next (Some Shape ∷ os) h k = absurd (clash true h refl)
+outside_next (Some AtOutside ∷ os) h k = by (list_any is_out os) refl (λ j. outside_next os h j)
+  where
+    by : (b : Bool) → list_any is_out os ≡ b → (list_any is_out os ≡ true → worst os ≡ Some AtOutside) → worse (Some AtOutside) (worst os) ≡ Some AtOutside
+    by true e more = ap (worse (Some AtOutside)) (more e)
+    by false e more = ap (worse (Some AtOutside)) (none_bad os h e)
+
+last_one : (o : Option AddressFault) → o ≡ worse o None
+last_one None = refl
+last_one (Some Shape) = refl
+last_one (Some AtOutside) = refl
+
+cell_shape : (b : Bool) (a : ℕ) → is_shape (result_err (read_by b a)) ≡ false
+cell_shape true a = refl
+cell_shape false a = refl
+
+cell_out : (b : Bool) (a : ℕ) → is_out (result_err (read_by b a)) ≡ b
+cell_out true a = refl
+cell_out false a = refl
+
+column_shape : (b line : Bool) (a : Area) → (b ≡ false → is_column a ≡ line) → is_shape (column_fault (read_by b a)) ≡ (not b && not line)
+column_shape true line a e = refl
+column_shape false true a e = rw (e refl) refl
+column_shape false false a e = rw (e refl) refl
+
+row_shape : (b line : Bool) (a : Area) → (b ≡ false → is_row a ≡ line) → is_shape (row_fault (read_by b a)) ≡ (not b && not line)
+row_shape true line a e = refl
+row_shape false true a e = rw (e refl) refl
+row_shape false false a e = rw (e refl) refl
+
+shape_out : (v : Bool) → is_out (if v then None else Some Shape) ≡ false
+shape_out true = refl
+shape_out false = refl
+
+column_out : (b : Bool) (a : Area) → is_out (column_fault (read_by b a)) ≡ b
+column_out true a = refl
+column_out false a = shape_out (is_column a)
+
+row_out : (b : Bool) (a : Area) → is_out (row_fault (read_by b a)) ≡ b
+row_out true a = refl
+row_out false a = shape_out (is_row a)
+
+-- ---- rows
+
+row_place : (r c : ℕ) → c < columns → row_of (place r c) ≡ r
+row_place r c h = omega arith
+
+-- within the sheet two corners are in one row where the rectangle is
+row_is : (ys : Corners) → (is_outside ys.0 || is_outside ys.1) ≡ false → is_row (area ys) ≡ (ys.0.row == ys.1.row)
+row_is ys ey =
+    let a : ys.0.column < columns = inside ys.0 (first_inside _ _ ey) in
+    let b : ys.1.column < columns = inside ys.1 (second_inside _ _ ey) in
+    let c : column_of (address ys.0) ≡ ys.0.column = column_place ys.0.row ys.0.column a in
+    let d : column_of (address ys.1) ≡ ys.1.column = column_place ys.1.row ys.1.column b in
+    let e : row_of (address ys.0) ≡ ys.0.row = row_place ys.0.row ys.0.column a in
+    let f : row_of (address ys.1) ≡ ys.1.row = row_place ys.1.row ys.1.column b in
+    let low : row_of (area ys).first ≡ min ys.0.row ys.1.row = row_place _ _ (rw (c, d) (omega arith)) ∙ rw (e, f) refl in
+    let high : row_of (area ys).last ≡ max ys.0.row ys.1.row = row_place _ _ (rw (c, d) (omega arith)) ∙ rw (e, f) refl in
+    ap (λ (n : ℕ). n == row_of (area ys).last) low ∙ ap (λ (n : ℕ). min ys.0.row ys.1.row == n) high ∙ min_max ys.0.row ys.1.row
+
+straight : (o e : Bool) → (not o && not e) ≡ false → o ≡ false → e ≡ true
+straight true e h k = absurd (clash true k refl)
+straight false true h k = refl
+straight false false h k = absurd (clash true h refl)
+
+-- none of five holds
+none_of : (a b c d e : Bool) → (a || (b || (c || (d || (e || false))))) ≡ false → (a ≡ false) × (b ≡ false) × (c ≡ false) × (d ≡ false) × (e ≡ false)
+none_of true b c d e h = absurd (clash true h refl)
+none_of false true c d e h = absurd (clash true h refl)
+none_of false false true d e h = absurd (clash true h refl)
+none_of false false false true e h = absurd (clash true h refl)
+none_of false false false false e h = (refl, refl, refl, refl, first_inside e false h)
+
+-- ---- the step
+
+module _ (s : State) (f r : Cell) (xs : Corners) (c : Cell) (ys : Corners) where
+  abbrev pub table : Command
+  table = Table f r xs (Some (c, ys))
+
+  abbrev done : State × Bytes
+  done = (s, table_of s.stored.sheet (current_replacements s) (address f) (address r) (area xs) (Some (address c, area ys)))
+
+  abbrev pub outside_xs : Bool
+  outside_xs = is_outside xs.0 || is_outside xs.1
+
+  abbrev pub outside_ys : Bool
+  outside_ys = is_outside ys.0 || is_outside ys.1
+
+  abbrev pub bent : Bool
+  bent = (not outside_xs && not (xs.0.column == xs.1.column)) || (not outside_ys && not (ys.0.row == ys.1.row))
+
+  abbrev pub out : Bool
+  out = is_outside f || (is_outside r || (outside_xs || (is_outside c || (outside_ys || false))))
+
+  abbrev cells : ℕ
+  cells = size_of (area xs) * (size_of (area ys) * 1)
+
+  abbrev faults : List (Option AddressFault)
+  faults = result_err (read_cell f) ∷ result_err (read_cell r) ∷ column_fault (read_corners xs) ∷ result_err (read_cell c) ∷ row_fault (read_corners ys) ∷ []
+
+  shapes : list_any is_shape faults ≡ bent
+  shapes =
+      let a = cell_shape (is_outside f) (address f) in
+      let b = cell_shape (is_outside r) (address r) in
+      let d = column_shape outside_xs (xs.0.column == xs.1.column) (area xs) (column_is s f r xs) in
+      let e = cell_shape (is_outside c) (address c) in
+      let g = row_shape outside_ys (ys.0.row == ys.1.row) (area ys) (row_is ys) in
+      by _ _ _ _ _ _ _ a b d e g
+    where
+      by : (p q x y z u v : Bool) → p ≡ false → q ≡ false → x ≡ u → y ≡ false → z ≡ v → (p || (q || (x || (y || (z || false))))) ≡ (u || v)
+      by true q x y z u v a b d e g = absurd (clash true a refl)
+      by false true x y z u v a b d e g = absurd (clash true b refl)
+      by false false x true z u v a b d e g = absurd (clash true e refl)
+      by false false x false z u v a b d e g = ap (λ (k : Bool). x || k) (or_false z) ∙ ap (λ (k : Bool). k || z) d ∙ ap (λ (k : Bool). u || k) g
+
+  outs : list_any is_out faults ≡ out
+  outs =
+      by _ _ _ _ _ _ _ _ _ _ (cell_out (is_outside f) (address f)) (cell_out (is_outside r) (address r)) (column_out outside_xs (area xs)) (cell_out (is_outside c) (address c))
+      (row_out outside_ys (area ys))
+    where
+      by : (p q x y z p' q' x' y' z' : Bool) → p ≡ p' → q ≡ q' → x ≡ x' → y ≡ y' → z ≡ z' → (p || (q || (x || (y || (z || false))))) ≡ (p' || (q' || (x' || (y' || (z' || false)))))
+      by p q x y z p' q' x' y' z' a b d e g =
+          ap (λ (k : Bool). k || (q || (x || (y || (z || false))))) a ∙ ap (λ (k : Bool). p' || (k || (x || (y || (z || false))))) b
+          ∙ ap (λ (k : Bool). p' || (q' || (k || (y || (z || false))))) d ∙ ap (λ (k : Bool). p' || (q' || (x' || (k || (z || false))))) e
+          ∙ ap (λ (k : Bool). p' || (q' || (x' || (y' || (k || false))))) g
+
+  abbrev command : old.Command
+  command =
+      of_operand (read_cell f) (λ f. of_operand (read_cell r) (λ r. of_operand (read_corners xs) (λ xs. of_operand (read_cell c) (λ c. of_operand (read_corners ys) (λ ys. old.Table f r xs (Some (c, ys)))))))
+
+  was_is : (o : Option AddressFault) → worst faults ≡ o → was table ≡ unless_refused o command
+  was_is o e =
+      ap (λ (y : Option AddressFault). unless_refused (worse (result_err (read_cell f)) (worse (result_err (read_cell r)) (worse (column_fault (read_corners xs)) (worse (result_err (read_cell c)) y)))) command)
+      (last_one (row_fault (read_corners ys)))
+      ∙ ap (λ (w : Option AddressFault). unless_refused w command) e
+
+  abbrev table_test : Cause → Bool
+  table_test BadCommand = bent
+  table_test Outside = out
+  table_test TooLarge = nat_lt max_area cells
+  table_test x = false
+
+  table_yes : (x : Cause) → table_test x ≡ true → Holds s x table
+  table_yes BadCommand e = e
+  table_yes Outside e = e
+  table_yes TooLarge e = too_large _ e
+  table_yes x e = absurd (clash false refl e)
+
+  table_no : (x : Cause) → table_test x ≡ false → Holds s x table → ⊥
+  table_no BadCommand e h = clash _ e h
+  table_no Outside e h = clash _ e h
+  table_no TooLarge e h = not_large _ e h
+  table_no NoScenario e h = clash false refl h
+  table_no Stale e h = h.1 refl
+  table_no Full e h = h.1
+  table_no EditLimit e h = h.1
+  table_no x e h = h
+
+  abbrev Picked : Type 0
+  Picked = (o : Option Cause) × (first_test table_test order ≡ o) × old.IsStep s (was table) (found done o)
+
+  abbrev pub proper : old.Command
+  proper = old.Table (address f) (address r) (area xs) (Some (address c, area ys))
+
+  -- as it was, where nothing is outside
+  command_is : out ≡ false → command ≡ proper
+  command_is eo =
+      let k = none_of (is_outside f) (is_outside r) outside_xs (is_outside c) outside_ys eo in
+      by k.0 k.1 k.2 k.3 k.4
+    where
+      by : is_outside f ≡ false → is_outside r ≡ false → outside_xs ≡ false → is_outside c ≡ false → outside_ys ≡ false → command ≡ proper
+      by ef er ex ec ey = rw (ef, er, ex, ec, ey) refl
+
+  good : (large : Bool) → bent ≡ false → out ≡ false → nat_lt max_area (size_of (area xs) * size_of (area ys)) ≡ large → old.IsStep s proper (found done (if large then Some TooLarge else None))
+  good large eb eo el =
+      let k = none_of (is_outside f) (is_outside r) outside_xs (is_outside c) outside_ys eo in
+      let bent_xs : Bool = not outside_xs && not (xs.0.column == xs.1.column) in
+      let bent_ys : Bool = not outside_ys && not (ys.0.row == ys.1.row) in
+      by large el (column_is s f r xs k.2 ∙ straight outside_xs (xs.0.column == xs.1.column) (first_inside bent_xs bent_ys eb) k.2)
+      (row_is ys k.4 ∙ straight outside_ys (ys.0.row == ys.1.row) (second_inside bent_xs bent_ys eb) k.4)
+    where
+      by : (large : Bool) → nat_lt max_area (size_of (area xs) * size_of (area ys)) ≡ large → is_column (area xs) ≡ true → is_row (area ys) ≡ true
+          → old.IsStep s proper (found done (if large then Some TooLarge else None))
+      by true el column row = rw (column, row, el) refl
+      by false el column row = rw (column, row, el) refl
+
+  twice : (b : Bool) → nat_lt max_area cells ≡ b → nat_lt max_area (size_of (area xs) * size_of (area ys)) ≡ b
+  twice b e = ap (λ (n : ℕ). nat_lt max_area (size_of (area xs) * n)) (once (size_of (area ys))) ∙ e
+
+  -- as it was, by what is bent and what is outside
+  pub was_bent : bent ≡ true → was table ≡ old.Refused refusal.BadCommand
+  was_bent eb = was_is (Some Shape) (shape_first faults (shapes ∙ eb))
+
+  pub was_outside : bent ≡ false → out ≡ true → was table ≡ old.Refused refusal.OutOfSheet
+  was_outside eb eo = was_is (Some AtOutside) (outside_next faults (shapes ∙ eb) (outs ∙ eo))
+
+  pub was_proper : bent ≡ false → out ≡ false → was table ≡ proper
+  was_proper eb eo = was_is None (none_bad faults (shapes ∙ eb) (outs ∙ eo)) ∙ command_is eo
+
+  as_was : (w : old.Command) (a : Answer) → was table ≡ w → old.IsStep s w a → old.IsStep s (was table) a
+  as_was w a e h = subst (λ (x : old.Command). old.IsStep s x a) (sym e) h
+
+  picked : (b o large : Bool) → bent ≡ b → out ≡ o → nat_lt max_area cells ≡ large → Picked
+  picked true o large eb eo el = (Some BadCommand, rw eb refl, as_was _ _ (was_bent eb) refl)
+  picked false true large eb eo el = (Some Outside, rw (eb, eo) refl, as_was _ _ (was_outside eb eo) refl)
+  picked false false true eb eo el = (Some TooLarge, rw (eb, eo, el) refl, as_was _ _ (was_proper eb eo) (good true eb eo (twice true el)))
+  picked false false false eb eo el = (None, rw (eb, eo, el) refl, as_was _ _ (was_proper eb eo) (good false eb eo (twice false el)))
+
+  pub same_table_of_two : SameStep s table
+  same_table_of_two a =
+      let p = picked bent out (nat_lt max_area cells) refl refl refl in
+      by_tests s table table_test table_yes table_no refl done (λ e. refl) (λ x y h k. h ∙ sym k) (was table) p.0 p.1 p.2 a
+
+-- ---- one input, as it was
+
+module _ (s : State) (f r : Cell) (xs : Corners) where
+  abbrev one : Command
+  one = Table f r xs None
+
+  abbrev pub one_bent : Bool
+  one_bent = not (is_outside xs.0 || is_outside xs.1) && not (xs.0.column == xs.1.column)
+
+  abbrev pub one_out : Bool
+  one_out = is_outside f || (is_outside r || ((is_outside xs.0 || is_outside xs.1) || false))
+
+  abbrev one_faults : List (Option AddressFault)
+  one_faults = result_err (read_cell f) ∷ result_err (read_cell r) ∷ column_fault (read_corners xs) ∷ []
+
+  one_shapes : list_any is_shape one_faults ≡ one_bent
+  one_shapes =
+      by _ _ _ _ (cell_shape (is_outside f) (address f)) (cell_shape (is_outside r) (address r))
+      (column_shape (is_outside xs.0 || is_outside xs.1) (xs.0.column == xs.1.column) (area xs) (column_is s f r xs))
+    where
+      by : (p q x u : Bool) → p ≡ false → q ≡ false → x ≡ u → (p || (q || (x || false))) ≡ u
+      by true q x u a b d = absurd (clash true a refl)
+      by false true x u a b d = absurd (clash true b refl)
+      by false false x u a b d = or_false x ∙ d
+
+  one_outs : list_any is_out one_faults ≡ one_out
+  one_outs = by _ _ _ _ _ _ (cell_out (is_outside f) (address f)) (cell_out (is_outside r) (address r)) (column_out (is_outside xs.0 || is_outside xs.1) (area xs))
+    where
+      by : (p q x p' q' x' : Bool) → p ≡ p' → q ≡ q' → x ≡ x' → (p || (q || (x || false))) ≡ (p' || (q' || (x' || false)))
+      by p q x p' q' x' a b d =
+          ap (λ (k : Bool). k || (q || (x || false))) a ∙ ap (λ (k : Bool). p' || (k || (x || false))) b ∙ ap (λ (k : Bool). p' || (q' || (k || false))) d
+
+  abbrev one_command : old.Command
+  one_command = of_operand (read_cell f) (λ f. of_operand (read_cell r) (λ r. of_operand (read_corners xs) (λ xs. old.Table f r xs None)))
+
+  one_was : (o : Option AddressFault) → worst one_faults ≡ o → was one ≡ unless_refused o one_command
+  one_was o e =
+      ap (λ (y : Option AddressFault). unless_refused (worse (result_err (read_cell f)) (worse (result_err (read_cell r)) y)) one_command) (last_one (column_fault (read_corners xs)))
+      ∙ ap (λ (w : Option AddressFault). unless_refused w one_command) e
+
+  pub one_was_bent : one_bent ≡ true → was one ≡ old.Refused refusal.BadCommand
+  one_was_bent eb = one_was (Some Shape) (shape_first one_faults (one_shapes ∙ eb))
+
+  pub one_was_outside : one_bent ≡ false → one_out ≡ true → was one ≡ old.Refused refusal.OutOfSheet
+  one_was_outside eb eo = one_was (Some AtOutside) (outside_next one_faults (one_shapes ∙ eb) (one_outs ∙ eo))
+
+  pub one_was_proper : one_bent ≡ false → one_out ≡ false → was one ≡ old.Table (address f) (address r) (area xs) None
+  one_was_proper eb eo =
+      one_was None (none_bad one_faults (one_shapes ∙ eb) (one_outs ∙ eo))
+      ∙ by (first_inside _ _ eo) (first_inside _ _ (second_inside _ _ eo)) (first_inside _ _ (second_inside _ _ (second_inside _ _ eo)))
+    where
+      by : is_outside f ≡ false → is_outside r ≡ false → (is_outside xs.0 || is_outside xs.1) ≡ false → one_command ≡ old.Table (address f) (address r) (area xs) None
+      by ef er ex = rw (ef, er, ex) refl
+
+-- ---- operands of the wrong shape
+
+pub one_is_bad : (f r : Result ℕ AddressFault) (xs : Result Area AddressFault) → list_any is_shape (result_err f ∷ result_err r ∷ column_fault xs ∷ []) ≡ true
+    → table_of_one f r xs ≡ old.Refused refusal.BadCommand
+one_is_bad f r xs h =
+    let command : old.Command = of_operand f (λ f. of_operand r (λ r. of_operand xs (λ xs. old.Table f r xs None))) in
+    ap (λ (y : Option AddressFault). unless_refused (worse (result_err f) (worse (result_err r) y)) command) (last_one (column_fault xs))
+    ∙ ap (λ (w : Option AddressFault). unless_refused w command) (shape_first (result_err f ∷ result_err r ∷ column_fault xs ∷ []) h)
+
+pub two_is_bad : (f r : Result ℕ AddressFault) (xs : Result Area AddressFault) (c : Result ℕ AddressFault) (ys : Result Area AddressFault)
+    → list_any is_shape (result_err f ∷ result_err r ∷ column_fault xs ∷ result_err c ∷ row_fault ys ∷ []) ≡ true → table_of_two f r xs c ys ≡ old.Refused refusal.BadCommand
+two_is_bad f r xs c ys h =
+    let command : old.Command = of_operand f (λ f. of_operand r (λ r. of_operand xs (λ xs. of_operand c (λ c. of_operand ys (λ ys. old.Table f r xs (Some (c, ys))))))) in
+    ap (λ (y : Option AddressFault). unless_refused (worse (result_err f) (worse (result_err r) (worse (column_fault xs) (worse (result_err c) y)))) command) (last_one (row_fault ys))
+    ∙ ap (λ (w : Option AddressFault). unless_refused w command) (shape_first (result_err f ∷ result_err r ∷ column_fault xs ∷ result_err c ∷ row_fault ys ∷ []) h)

@@ -1,0 +1,118 @@
+-- The answer of a command that is refused for causes which tests decide.
+use Rattle.std.proofs.Common.{◌≡◌, ◌↔◌, Bool, true, false, List, [], ◌∷◌, ◌⊎◌, inl, inr, Option, Some, None, Ok, Err, if◌then◌else◌, refl, sym, subst}
+use Rattle.wi_scenarios.specs.declared.refusal.Refusal.{Refusal}
+use Rattle.wi_scenarios.specs.declared.refusal.Refusal.TheVariants as refusal
+use Rattle.wi_scenarios.specs.State.{State}
+use Rattle.wi_scenarios.specs.Step as old
+use Rattle.wi_cli.specs.Operands.{Bytes}
+use Rattle.wi_cli.specs.Command.{Command}
+use Rattle.wi_cli.specs.Causes.{Cause, BadLine, BadCommand, CutShort, Outside, TooLarge, NoScenario, InUse, TooMany, BadField, TooLong, OutOfSheet, NumberRange, TooDeep, Syntax, LeavesSheet, Stale, Loop, Full, EditLimit, Holds, IsFirst, order}
+use Rattle.wi_cli.specs.Does.{Does}
+use Rattle.wi_cli.specs.Step.{Answer, Tells, IsStep}
+use Rattle.wi_cli.proofs.Ties.Uniqueness.{DoesOne, same_answers}
+use Rattle.wi_cli.proofs.Ties.Tables.{clash}
+
+-- the refusal for a cause; that for a stale cell, which names it, is no matter of tests
+abbrev pub refusal_for : Cause → Refusal
+refusal_for BadLine = refusal.BadLine
+refusal_for BadCommand = refusal.BadCommand
+refusal_for CutShort = refusal.CutShort
+refusal_for Outside = refusal.OutOfSheet
+refusal_for TooLarge = refusal.TooLarge
+refusal_for NoScenario = refusal.NoScenario
+refusal_for InUse = refusal.InUse
+refusal_for TooMany = refusal.TooMany
+refusal_for BadField = refusal.BadField
+refusal_for TooLong = refusal.TooLong
+refusal_for OutOfSheet = refusal.OutOfSheet
+refusal_for NumberRange = refusal.NumberRange
+refusal_for TooDeep = refusal.TooDeep
+refusal_for Syntax = refusal.Syntax
+refusal_for LeavesSheet = refusal.LeavesSheet
+refusal_for Stale = refusal.Memory
+refusal_for Loop = refusal.Loop
+refusal_for Full = refusal.Full
+refusal_for EditLimit = refusal.EditLimit
+
+-- the first cause whose test holds
+abbrev pub first_test : (Cause → Bool) → List Cause → Option Cause
+first_test test [] = None
+first_test test (x ∷ xs) = if test x then Some x else first_test test xs
+
+-- the answer, where this is the first cause
+abbrev pub found : State × Bytes → Option Cause → Answer
+found done None = Ok done
+found done (Some x) = Err (refusal_for x)
+
+-- ---- the causes of the order
+
+abbrev Among : List Cause → Cause → Type 0
+Among [] x = ⊥
+Among (y ∷ ys) x = (y ≡ x) ⊎ Among ys x
+
+is_among : (x : Cause) → Among order x
+is_among BadLine = inl refl
+is_among BadCommand = inr (inl refl)
+is_among CutShort = inr (inr (inl refl))
+is_among Outside = inr (inr (inr (inl refl)))
+is_among TooLarge = inr (inr (inr (inr (inl refl))))
+is_among NoScenario = inr (inr (inr (inr (inr (inl refl)))))
+is_among InUse = inr (inr (inr (inr (inr (inr (inl refl))))))
+is_among TooMany = inr (inr (inr (inr (inr (inr (inr (inl refl)))))))
+is_among BadField = inr (inr (inr (inr (inr (inr (inr (inr (inl refl))))))))
+is_among TooLong = inr (inr (inr (inr (inr (inr (inr (inr (inr (inl refl)))))))))
+is_among OutOfSheet = inr (inr (inr (inr (inr (inr (inr (inr (inr (inr (inl refl))))))))))
+is_among NumberRange = inr (inr (inr (inr (inr (inr (inr (inr (inr (inr (inr (inl refl)))))))))))
+is_among TooDeep = inr (inr (inr (inr (inr (inr (inr (inr (inr (inr (inr (inr (inl refl))))))))))))
+is_among Syntax = inr (inr (inr (inr (inr (inr (inr (inr (inr (inr (inr (inr (inr (inl refl)))))))))))))
+is_among LeavesSheet = inr (inr (inr (inr (inr (inr (inr (inr (inr (inr (inr (inr (inr (inr (inl refl))))))))))))))
+is_among Stale = inr (inr (inr (inr (inr (inr (inr (inr (inr (inr (inr (inr (inr (inr (inr (inl refl)))))))))))))))
+is_among Loop = inr (inr (inr (inr (inr (inr (inr (inr (inr (inr (inr (inr (inr (inr (inr (inr (inl refl))))))))))))))))
+is_among Full = inr (inr (inr (inr (inr (inr (inr (inr (inr (inr (inr (inr (inr (inr (inr (inr (inr (inl refl)))))))))))))))))
+is_among EditLimit = inr (inr (inr (inr (inr (inr (inr (inr (inr (inr (inr (inr (inr (inr (inr (inr (inr (inr (inl refl))))))))))))))))))
+
+pub some_none : (x : Cause) → ◌≡◌ {A = Option Cause} (Some x) None → ⊥
+some_none x e = cc
+
+same_some : (x y : Cause) → ◌≡◌ {A = Option Cause} (Some x) (Some y) → x ≡ y
+same_some x y e = cc
+
+-- ---- the step
+
+module _ (s : State) (c : Command) (test : Cause → Bool) (yes : (x : Cause) → test x ≡ true → Holds s x c) (no : (x : Cause) → test x ≡ false → Holds s x c → ⊥)
+    (fresh : test Stale ≡ false) (done : State × Bytes) (does : first_test test order ≡ None → Does s c done) (one : DoesOne s c) where
+  tells : (x : Cause) → test x ≡ true → Tells s c x (refusal_for x)
+  tells Stale t = absurd (clash _ fresh t)
+  tells x t = refl
+
+  first_is : (xs : List Cause) (x : Cause) → first_test test xs ≡ Some x → IsFirst s c xs x × (test x ≡ true)
+  first_is [] x e = absurd (some_none x (sym e))
+  first_is (y ∷ ys) x e = by (test y) refl e (λ k. first_is ys x k)
+    where
+      by : (b : Bool) → test y ≡ b → (if b then Some y else first_test test ys) ≡ Some x → (first_test test ys ≡ Some x → IsFirst s c ys x × (test x ≡ true))
+          → IsFirst s c (y ∷ ys) x × (test x ≡ true)
+      by true t e more =
+          let same : y ≡ x = same_some y x e in
+          (inl (yes y t, sym same), subst (λ (z : Cause). test z ≡ true) same t)
+      by false t e more =
+          let p = more e in
+          (inr (no y t, p.0), p.1)
+
+  none_is : (xs : List Cause) → first_test test xs ≡ None → (x : Cause) → Among xs x → test x ≡ false
+  none_is [] e x h = absurd h
+  none_is (y ∷ ys) e x h = by (test y) refl e h (λ k i. none_is ys k x i)
+    where
+      by : (b : Bool) → test y ≡ b → (if b then Some y else first_test test ys) ≡ None → (y ≡ x) ⊎ Among ys x → (first_test test ys ≡ None → Among ys x → test x ≡ false)
+          → test x ≡ false
+      by true t e h more = absurd (some_none y e)
+      by false t e (inl same) more = subst (λ (z : Cause). test z ≡ false) same t
+      by false t e (inr h) more = more e h
+
+  step : (o : Option Cause) → first_test test order ≡ o → IsStep s c (found done o)
+  step None e = (λ x h. no x (none_is order e x (is_among x)) h, does e)
+  step (Some x) e =
+      let p = first_is order x e in
+      (x, p.0, tells x p.1)
+
+  pub by_tests : (before : old.Command) (o : Option Cause) → first_test test order ≡ o → old.IsStep s before (found done o) → (a : Answer) → old.IsStep s before a ↔ IsStep s c a
+  by_tests before o e h a = same_answers s c one before (found done o) h (step o e) a

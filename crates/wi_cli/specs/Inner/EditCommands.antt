@@ -1,0 +1,43 @@
+-- The commands that edit the sheet. They may be forced.
+use Rattle.std.specs.Prelude.{ℕ, Bool, ◌==◌, List, length, Result, Ok, Err, if◌then◌else◌, codes}
+use Rattle.std.specs.Str.{bytes_eq}
+use Rattle.wi_values.specs.Address.{Area}
+use Rattle.wi_values.specs.AddressReading.{read_address, read_rect}
+use Rattle.wi_values.specs.declared.address.AddressFault.{AddressFault}
+use Rattle.wi_values.specs.declared.address.AddressFault.TheVariants.{Shape, Outside}
+use Rattle.wi_scenarios.specs.declared.refusal.Refusal.TheVariants.{BadCommand}
+use Rattle.wi_scenarios.specs.Answer.{operand_refusal}
+use Rattle.wi_scenarios.specs.Step.{Command, Set, Clear, Fill, Refused}
+use Rattle.wi_cli.specs.Words.{first_word, after_word}
+use Rattle.wi_cli.specs.Inner.Operands.{at_end, of_operand}
+
+-- `set ADDR CONTENT`; CONTENT is all after the one space that follows ADDR
+abbrev pub set_command : Bool → List ℕ → Command
+set_command force operands =
+    if length (after_word operands) == 0 then Refused BadCommand
+    else of_operand (read_address (first_word operands)) (λ at. Set force at (after_word operands))
+
+-- `clear RECT`
+abbrev pub clear_command : Bool → List ℕ → Command
+clear_command force operands = at_end (after_word operands) (of_operand (read_rect (first_word operands)) (λ area. Clear force area))
+
+-- the wrong shape of either operand comes before a cell outside the sheet
+abbrev pub fill_command_of : Bool → Result ℕ AddressFault → Result Area AddressFault → Command
+fill_command_of force (Ok from) (Ok area) = Fill force from area
+fill_command_of force (Ok from) (Err fault) = Refused (operand_refusal fault)
+fill_command_of force (Err Shape) area = Refused (operand_refusal Shape)
+fill_command_of force (Err Outside) (Ok area) = Refused (operand_refusal Outside)
+fill_command_of force (Err Outside) (Err fault) = Refused (operand_refusal fault)
+
+-- `fill ADDR RECT`
+abbrev pub fill_command : Bool → List ℕ → Command
+fill_command force operands =
+    at_end (after_word (after_word operands)) (fill_command_of force (read_address (first_word operands)) (read_rect (first_word (after_word operands))))
+
+-- the edit of this name
+abbrev pub edit_command : Bool → List ℕ → List ℕ → Command
+edit_command force name operands =
+    if bytes_eq name (codes "set") then set_command force operands
+    else (if bytes_eq name (codes "clear") then clear_command force operands
+    else (if bytes_eq name (codes "fill") then fill_command force operands
+    else Refused BadCommand))

@@ -1,0 +1,128 @@
+-- That commands, lines and runs are what the code's own contracts say.
+use Rattle.std.specs.Prelude.{◌≡◌, ◌↔◌, ◌||◌, ◌-◌, ◌<◌, ◌==◌, ℕ, Bool, true, false, List, [], ◌∷◌, ◌++◌, length, map, filter, filter_map, Option, Some, None, Result, Ok, Err, if◌then◌else◌}
+use Rattle.wi_values.specs.Address.{Area}
+use Rattle.wi_values.specs.AddressReading.{read_address, read_rect}
+use Rattle.wi_values.specs.declared.address.AddressFault.{AddressFault}
+use Rattle.wi_values.specs.declared.address.AddressFault.TheVariants.{Shape, Outside as AtOutside}
+use Rattle.wi_scenarios.specs.declared.refusal.Refusal.TheVariants as refusal
+use Rattle.wi_scenarios.specs.State.{State}
+use Rattle.wi_scenarios.specs.Step as old
+use Rattle.wi_cli.specs.declared.fault.RunFault.{RunFault}
+use Rattle.wi_cli.specs.Lines.{without_lf}
+use Rattle.wi_cli.specs.Inner.Operands.{of_operand}
+use Rattle.wi_cli.specs.Inner.EditCommands.{fill_command_of}
+use Rattle.wi_cli.specs.Inner.TableCommand.{table_of_one, table_of_two}
+use Rattle.wi_cli.specs.Inner.CsvCommand.{csv_command, csv_line}
+use Rattle.wi_cli.specs.Inner.Blocks.{Block, lines_of, blocks, is_complete}
+use Rattle.wi_cli.specs.Inner.Script.{block_command}
+use Rattle.wi_cli.specs.Inner.Run as old_run
+use Rattle.wi_cli.specs.Inner.RunOutcome.{RunOutcome}
+use Rattle.wi_cli.specs.Operands.{Bytes, Cell, Corners, is_outside, address, area, IsAddr, IsRect}
+use Rattle.wi_cli.specs.Command.{Command, Set, Clear, Fill, Csv, Scenario, Drop, Base, Use, As, Show, Export, Compare, Table, Formula, Changes, Unknown, Unreadable}
+use Rattle.wi_cli.specs.Reply.{MayLackMemory, Replies, Runs}
+use Rattle.wi_cli.specs.Script.{AreCommands}
+use Rattle.wi_cli.specs.Step.{Answer, IsStep}
+use Rattle.wi_cli.specs.Outcome.{Outcome}
+
+-- ---- what operands were read as
+
+abbrev pub read_by : {X : Type 0} → Bool → X → Result X AddressFault
+read_by outside x = if outside then Err AtOutside else Ok x
+
+abbrev pub read_cell : Cell → Result ℕ AddressFault
+read_cell c = read_by (is_outside c) (address c)
+
+abbrev pub read_corners : Corners → Result Area AddressFault
+read_corners r = read_by (is_outside r.0 || is_outside r.1) (area r)
+
+abbrev pub read_any : Option Cell → Result ℕ AddressFault
+read_any None = Err Shape
+read_any (Some c) = read_cell c
+
+-- a word that spells a cell, or a rectangle, was read as that, and a word that was read so spells one
+pub record SameAddr (word : Bytes) : Type 0 where
+  pub spelled : (c : Cell) → IsAddr word c → read_address word ≡ read_cell c
+  pub read : (read_address word ≡ Err Shape → ⊥) → (c : Cell) × IsAddr word c
+
+pub record SameRect (word : Bytes) : Type 0 where
+  pub spelled : (r : Corners) → IsRect word r → read_rect word ≡ read_corners r
+  pub read : (read_rect word ≡ Err Shape → ⊥) → (r : Corners) × IsRect word r
+
+-- ---- commands
+
+-- the command as it was
+abbrev pub was : Command → old.Command
+was (Set force at text) = if length text == 0 then old.Refused refusal.BadCommand else of_operand (read_cell at) (λ a. old.Set force a text)
+was (Clear force rect) = of_operand (read_corners rect) (λ r. old.Clear force r)
+was (Fill force at rect) = fill_command_of force (read_cell at) (read_corners rect)
+was (Csv force at n lines) = csv_command force (read_any at) lines (n - length lines)
+was (Scenario name at text) = of_operand (read_cell at) (λ a. old.Scenario name a text)
+was (Drop name) = old.Drop name
+was (Base name other) = old.Base name other
+was (Use name) = old.Use name
+was (As name) = old.As name
+was (Show rect) = of_operand (read_corners rect) (λ r. old.Show r)
+was (Export rect) = of_operand (read_corners rect) (λ r. old.Export r)
+was (Compare p q rect) = of_operand (read_corners rect) (λ r. old.Compare p q r)
+was (Table f r xs None) = table_of_one (read_cell f) (read_cell r) (read_corners xs)
+was (Table f r xs (Some y)) = table_of_two (read_cell f) (read_cell r) (read_corners xs) (read_cell y.0) (read_corners y.1)
+was (Formula at) = of_operand (read_cell at) (λ a. old.Formula a)
+was Changes = old.Changes
+was Unknown = old.Refused refusal.BadCommand
+was Unreadable = old.Refused refusal.BadLine
+
+-- the command has the answers that it had
+abbrev pub SameStep : State → Command → Type 0
+SameStep s c = (a : Answer) → old.IsStep s (was c) a ↔ IsStep s c a
+
+-- it has one answer
+abbrev pub HasOneAnswer : State → Command → Type 0
+HasOneAnswer s c = (a : Answer) × IsStep s c a × ((b : Answer) → IsStep s c b → a ≡ b)
+
+-- want of memory may stand in place of an answer where it might before
+abbrev pub SameLack : State → Command → Type 0
+SameLack s c = old.MayLackMemory s (was c) ↔ MayLackMemory s c
+
+-- a command, and commands, have the replies that they had, and leave the same state
+abbrev pub SameReply : State → Command → Bytes → State → Type 0
+SameReply s c told t = old_run.MayAnswer s (was c) told t ↔ Replies s c told t
+
+abbrev pub SameRuns : State → List Command → List Bytes → State → Type 0
+SameRuns s cs rs t = old_run.Runs s (map was cs) rs t ↔ Runs s cs rs t
+
+-- ---- lines
+
+-- how many data lines a line asks for
+abbrev pub asked : Bytes → ℕ
+asked line = lines_of (csv_line (without_lf line))
+
+abbrev pub block : Bytes → List Bytes → Block
+block line taken = record { line = line; data_lines = taken; missing = asked line - length taken }
+
+-- the rules by which `AreCommands` takes data lines, for the blocks of lines
+pub data Splits : List Bytes → List Block → Type 0 where
+  none : Splits [] []
+  a_line : (line : Bytes) (taken lines : List Bytes) (bs : List Block) → asked line ≡ length taken → Splits lines bs → Splits (line ∷ taken ++ lines) (block line taken ∷ bs)
+  cut_short : (line : Bytes) (taken : List Bytes) → length taken < asked line → Splits (line ∷ taken) (block line taken ∷ [])
+
+-- of these blocks all count where the script has ended, else those of which no data line is missing
+abbrev pub kept : Bool → List Block → List Block
+kept true bs = bs
+kept false bs = filter is_complete bs
+
+-- the commands that lines had
+abbrev pub before : Bool → List Bytes → List old.Command
+before ended lines = filter_map block_command (kept ended (blocks lines))
+
+-- lines have commands, which are these as they were; and any that they have are
+abbrev pub HasCommands : Bool → List Bytes → List old.Command → Type 0
+HasCommands ended lines commands = (cs : List Command) × AreCommands ended lines cs × (commands ≡ map was cs)
+
+abbrev pub SameCommands : Bool → List Bytes → List Command → Type 0
+SameCommands ended lines cs = AreCommands ended lines cs → before ended lines ≡ map was cs
+
+-- ---- runs
+
+-- the outcome of a run is what it was
+abbrev pub SameOutcome : Result (Unit {0}) RunFault → Option Bytes → State → State → Bytes → Bytes → Type 0
+SameOutcome r left s t input out = RunOutcome r left s t input out ↔ Outcome r left s t input out

@@ -1,0 +1,39 @@
+-- A step as the calls of a workbook tell it, which refuse by `Refusal`.
+use Rattle.std.specs.Prelude.{◌≡◌, ℕ, Some, Result, Ok, Err}
+use Rattle.wi_scenarios.specs.declared.refusal.Refusal.{Refusal}
+use Rattle.wi_scenarios.specs.declared.refusal.Refusal.TheVariants as refusal
+use Rattle.wi_scenarios.specs.State.{State}
+use Rattle.wi_cli.specs.Operands.{Bytes}
+use Rattle.wi_cli.specs.Command.{Command}
+use Rattle.wi_cli.specs.Causes.{Cause, BadLine, BadCommand, CutShort, Outside, TooLarge, NoScenario, InUse, TooMany, BadField, TooLong, OutOfSheet, NumberRange, TooDeep, Syntax, LeavesSheet, Stale, Loop, Full, EditLimit, order, Holds, IsFirst, stale_cell}
+use Rattle.wi_cli.specs.Does.{Does}
+
+-- the new state and the records, or a refusal
+abbrev pub Answer : Type 0
+Answer = Result (State × Bytes) Refusal
+
+-- the refusal for a cause, which for a stale edit names the first stale cell
+abbrev pub Tells : State → Command → Cause → Refusal → Type 0
+Tells s c BadLine e = e ≡ refusal.BadLine
+Tells s c BadCommand e = e ≡ refusal.BadCommand
+Tells s c CutShort e = e ≡ refusal.CutShort
+Tells s c Outside e = e ≡ refusal.OutOfSheet
+Tells s c TooLarge e = e ≡ refusal.TooLarge
+Tells s c NoScenario e = e ≡ refusal.NoScenario
+Tells s c InUse e = e ≡ refusal.InUse
+Tells s c TooMany e = e ≡ refusal.TooMany
+Tells s c BadField e = e ≡ refusal.BadField
+Tells s c TooLong e = e ≡ refusal.TooLong
+Tells s c OutOfSheet e = e ≡ refusal.OutOfSheet
+Tells s c NumberRange e = e ≡ refusal.NumberRange
+Tells s c TooDeep e = e ≡ refusal.TooDeep
+Tells s c Syntax e = e ≡ refusal.Syntax
+Tells s c LeavesSheet e = e ≡ refusal.LeavesSheet
+Tells s c Stale e = (at : ℕ) × (stale_cell s c ≡ Some at) × (e ≡ refusal.Stale at)
+Tells s c Loop e = e ≡ refusal.Loop
+Tells s c Full e = e ≡ refusal.Full
+Tells s c EditLimit e = e ≡ refusal.EditLimit
+
+abbrev pub IsStep : State → Command → Answer → Type 0
+IsStep s c (Err e) = (cause : Cause) × IsFirst s c order cause × Tells s c cause e
+IsStep s c (Ok done) = ((cause : Cause) → Holds s cause c → ⊥) × Does s c done
