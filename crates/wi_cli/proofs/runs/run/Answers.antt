@@ -1,4 +1,4 @@
-use Rattle.std.proofs.Common.{rules, arith}
+use Rattle.std.proofs.Common.{Err, rules, arith}
 use Rattle.std.proofs.lemmas.Result.{err_from_is_err_and}
 use Rattle.wi_cli.proofs.OutcomeLemmas.{going_none, going_on, ends_sent, ends_stopped, still_few, one_more, all_read, told}
 use Rattle.wi_cli.proofs.runs.run.Goals as goal
@@ -37,7 +37,7 @@ pub returns-in_err-turn-clause-replies : goal.returns-in_err-turn-clause-replies
 returns-in_err-turn-clause-replies g c =
     let p = err_from_is_err_and c.from_residual.result c.from_residual.ensures.1 in
     let old = c.loop-out.invariant in
-    rw (p.1, p.2) (told _ _ _ _ _ _ _ (ends_stopped _ _ _ _ _ _ _ _ _ _ _ _ c.loop-out.lines old.going c.in_err-turn.ensures.done))
+    rw (p.1, p.2) (told (Err c.in_err-turn.field-0.0) _ _ _ _ _ _ (ends_stopped _ _ _ _ _ _ _ _ _ _ _ _ c.loop-out.lines old.going c.in_err-turn.ensures.done))
 
 pub returns-clause-replies : goal.returns-clause-replies
 returns-clause-replies g c =
