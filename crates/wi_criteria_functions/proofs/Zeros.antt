@@ -9,7 +9,7 @@ use Rattle.wi_fraction.specs.Gcd.{gcd}
 use Rattle.wi_fraction.specs.Number as numbers
 use Rattle.wi_fraction.specs.Number.{number_of, number_at, max_size}
 use Rattle.wi_fraction.specs.Number.Laws.{number_at-some}
-use Rattle.wi_fraction.specs.Rounding.Laws.{gcd-one}
+use Rattle.wi_fraction.specs.Gcd.Laws.{gcd-one}
 use Rattle.wi_fraction.proofs.Exponents.{zero_of}
 use Rattle.wi_fraction.proofs.Numbers.{number_of-lowest, zero_number as zero_is}
 use Rattle.wi_fraction.proofs.Steps.{sum_from_steps, signed-abs}

@@ -8,7 +8,7 @@ use Rattle.std.proofs.lemmas.List.{length-append, length-drop}
 use Rattle.std.proofs.lemmas.Nat.{le-div, pow-add}
 use Rattle.std.proofs.lemmas.Nat.Gcd.{le_of_dvd}
 use Rattle.std.proofs.Math.Nat.{pow-suc, pow-zero, zero-mul, one-mul, mul-one, mul_assoc, mul-pos, mul-le-mul_left, mul-le-mul_right, pow-le-pow_right, le_trans}
-use Rattle.wi_fraction.specs.Rounding.Laws.{gcd-one}
+use Rattle.wi_fraction.specs.Gcd.Laws.{gcd-one}
 use Rattle.wi_fraction.specs.Gcd.{gcd}
 use Rattle.wi_fraction.specs.Gcd.Laws.{is_gcd, gcd_comm}
 use Rattle.wi_fraction.specs.Number.{Number, number_at, number_of, max_size}

@@ -4,6 +4,7 @@ pub mod Digits
 pub mod Divisors
 pub mod Exponents
 pub mod Fineness
+pub mod NearWholes
 pub mod Neighbours
 pub mod Numbers
 pub mod Numerals

@@ -10,9 +10,8 @@ use Rattle.wi_fraction.specs.declared.rounding.Mode.TheVariants.{HalfAway, Away,
 use Rattle.wi_fraction.specs.Laws.{NotAbove, NotBelow, distance, IsGreatestNotAbove, IsLeastNotBelow, IsNearest, HasFloor, IsRounded}
 use Rattle.wi_fraction.specs.Number.{Number, signed}
 use Rattle.wi_fraction.specs.Number.Laws.{abs-neg}
-use Rattle.wi_fraction.specs.Whole.{floor_of, rounded_size}
-use Rattle.wi_fraction.specs.Rounding.{floored, rounded}
-use Rattle.wi_fraction.specs.Rounding.Laws.{rounded_below}
+use Rattle.wi_fraction.specs.Rounding.{floored, floor_of, rounded, rounded_size}
+use Rattle.wi_fraction.proofs.NearWholes.{rounded_below, floor_number, floored_is, rounded_is}
 use Rattle.wi_fraction.proofs.Values.{neg-neg, neg-mul}
 
 -- ---- below and above
@@ -37,8 +36,10 @@ floor_is : (n : ℤ) (d : ℕ) → 0 < d → IsGreatestNotAbove n d (floor_of n 
 floor_is n d dp = record { not_above = not_above_floor n d dp; greatest = greatest_floor n d dp }
 
 pub has_floor : (x : Number) → HasFloor x
-unfolding floored
-has_floor x = record { whole = refl; is = floor_is x.num x.den x.is_number.above_zero }
+has_floor x = record {
+  whole = ap (λ (y : Number). y.den) (floored_is x);
+  is = subst (λ (y : Number). IsGreatestNotAbove x.num x.den y.num) (sym (floored_is x)) (floor_is x.num x.den x.is_number.above_zero);
+}
 
 -- ---- the sizes that are rounded to
 
@@ -155,16 +156,18 @@ near (pos n) d dp = upward (λ z y. IsNearest z d y) HalfAway (pos n) d (omega (
 near (negsuc n) d dp = downward (λ z y. IsNearest z d y) HalfAway (negsuc n) d dp (omega (arith, ints)) (turned_near _ _ d (nearest_half (suc n) d dp))
 
 pub is_rounded : (x : Number) → IsRounded x
-unfolding rounded
 is_rounded x =
     let d = x.den in
     let dp = x.is_number.above_zero in
     let n = unsigned_abs x.num in
     record {
-      whole = λ m. refl;
-      nearest = near x.num d dp;
-      away_upward = λ h. upward (λ z y. IsLeastNotBelow z d y) Away x.num d h (least_away n d dp);
-      away_downward = λ h. downward (λ z y. IsGreatestNotAbove z d y) Away x.num d dp h (turned_down _ _ d (least_away n d dp));
-      toward_downward = λ h. upward (λ z y. IsGreatestNotAbove z d y) Toward x.num d h (floor_is (pos n) d dp);
-      toward_upward = λ h. downward (λ z y. IsLeastNotBelow z d y) Toward x.num d dp h (turned_up _ _ d (floor_is (pos n) d dp));
+      whole = λ m. ap (λ (y : Number). y.den) (rounded_is m x);
+      nearest = to HalfAway (λ y. IsNearest x.num d y) (near x.num d dp);
+      away_upward = λ h. to Away (λ y. IsLeastNotBelow x.num d y) (upward (λ z y. IsLeastNotBelow z d y) Away x.num d h (least_away n d dp));
+      away_downward = λ h. to Away (λ y. IsGreatestNotAbove x.num d y) (downward (λ z y. IsGreatestNotAbove z d y) Away x.num d dp h (turned_down _ _ d (least_away n d dp)));
+      toward_downward = λ h. to Toward (λ y. IsGreatestNotAbove x.num d y) (upward (λ z y. IsGreatestNotAbove z d y) Toward x.num d h (floor_is (pos n) d dp));
+      toward_upward = λ h. to Toward (λ y. IsLeastNotBelow x.num d y) (downward (λ z y. IsLeastNotBelow z d y) Toward x.num d dp h (turned_up _ _ d (floor_is (pos n) d dp)));
     }
+  where
+    to : (m : Mode) (P : ℤ → Type 0) → P (signed (int_lt x.num (pos 0)) (rounded_size m (unsigned_abs x.num) x.den)) → P (rounded m x).num
+    to m P h = subst (λ (y : Number). P y.num) (sym (rounded_is m x)) h

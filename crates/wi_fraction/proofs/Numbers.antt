@@ -2,7 +2,7 @@
 use Rattle.std.specs.Prelude.{◌≡◌, ◌⊎◌, ℕ, zero, suc, ◌*◌, ◌/◌, ◌<◌, pos, unsigned_abs, int_div, Bool, true, false, Some, None, refl}
 use Rattle.std.proofs.Common.{ap, ◌∙◌, sym, inl, inr, arith}
 use Rattle.std.proofs.Math.Nat.{zero-div, div-one, one-mul, mul-div_cancel}
-use Rattle.wi_fraction.specs.Rounding.Laws.{gcd-one}
+use Rattle.wi_fraction.specs.Gcd.Laws.{gcd-one}
 use Rattle.wi_fraction.specs.Gcd.{gcd}
 use Rattle.wi_fraction.specs.Number.{Number, IsNumber, number_at, number_of, signed, max_size}
 use Rattle.wi_fraction.specs.Number.Laws.{number_at-some, number_at-none}

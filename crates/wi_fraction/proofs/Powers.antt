@@ -5,11 +5,10 @@ use Rattle.std.proofs.Common.{arith, ap, sym, ◌∙◌}
 use Rattle.std.proofs.lemmas.Bool.Decides.{nat_tests}
 use Rattle.std.proofs.Math.Nat.{pow-suc, pow-zero, one-le-pow, pow-le-pow_left, pow-le-pow_right, le_trans}
 use Rattle.std.specs.Ordering.{int_eq}
-use Rattle.wi_fraction.specs.Rounding.Laws.{gcd-one}
+use Rattle.wi_fraction.specs.Gcd.Laws.{gcd-one}
 use Rattle.wi_fraction.specs.Gcd.{gcd}
 use Rattle.wi_fraction.specs.Number.{Number, number_of, number_at, max_size, signed}
-use Rattle.wi_fraction.specs.Arithmetic.{fraction_of, bounded}
-use Rattle.wi_fraction.specs.Power.{power_of}
+use Rattle.wi_fraction.specs.Arithmetic.{fraction_of, bounded, power_of}
 use Rattle.wi_fraction.proofs.Divisors.{coprime_mul}
 use Rattle.wi_fraction.specs.Gcd.Laws.{gcd_comm}
 use Rattle.wi_fraction.proofs.Numbers.{number_of-lowest}

@@ -13,6 +13,7 @@ use Rattle.std.proofs.lemmas.Int.{unsigned_abs-mul}
 use Rattle.wi_fraction.specs.Gcd.Laws.{same_lowest}
 use Rattle.wi_fraction.specs.Laws.{IsExact}
 use Rattle.wi_fraction.proofs.Divisors.{gcd_pos, div_gcd_pos, coprime_divided}
+use Rattle.wi_fraction.proofs.NearWholes.{opposite, negated_is}
 use Rattle.wi_fraction.proofs.Numbers.{abs-signed}
 use Rattle.wi_fraction.specs.Number.{Number, number_of, max_size}
 use Rattle.wi_fraction.specs.Number.Laws.{number_at-some, number_at-is}
@@ -142,8 +143,9 @@ quotient_value x y z e = fraction_value (x.num *ℤ pos y.den) (pos x.den *ℤ y
 
 -- a difference has the value of the exact difference
 pub difference_value : (x y z : Number) → sum_of x (negated y) ≡ Some z → (x.num *ℤ pos y.den -ℤ y.num *ℤ pos x.den) *ℤ pos z.den ≡ z.num *ℤ pos (x.den * y.den)
-unfolding negated
-difference_value x y z e = ap (λ v. (x.num *ℤ pos y.den +ℤ v) *ℤ pos z.den) (sym (neg-mul y.num x.den)) ∙ sum_value x (negated y) z e
+difference_value x y z e =
+    ap (λ v. (x.num *ℤ pos y.den +ℤ v) *ℤ pos z.den) (sym (neg-mul y.num x.den))
+    ∙ sum_value x (opposite y) z (ap (sum_of x) (sym (negated_is y)) ∙ e)
 
 -- ---- the number that has a value
 

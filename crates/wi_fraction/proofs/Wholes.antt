@@ -1,12 +1,12 @@
 -- Whole numbers near a number.
 use Rattle.std.specs.Prelude.{◌≡◌, ℕ, suc, ◌+◌, ◌-◌, ◌/◌, ℤ, pos, negsuc, neg_ℤ, unsigned_abs, int_lt, true, false, refl}
-use Rattle.std.proofs.Common.{arith}
+use Rattle.std.proofs.Common.{sym, ◌∙◌, arith}
 use Rattle.std.proofs.lemmas.Bool.Decides.{nat_tests}
 use Rattle.wi_fraction.specs.declared.rounding.Mode.{Mode}
 use Rattle.wi_fraction.specs.Number.{Number, signed}
 use Rattle.wi_fraction.specs.Number.Laws.{same_number}
-use Rattle.wi_fraction.specs.Whole.{floor_of, rounded_size}
-use Rattle.wi_fraction.specs.Rounding.{floored, rounded}
+use Rattle.wi_fraction.specs.Rounding.{floored, floor_of, rounded, rounded_size}
+use Rattle.wi_fraction.proofs.NearWholes.{floor_number, floored_is, rounded_number, rounded_is}
 
 -- ---- the floor
 
@@ -24,9 +24,7 @@ floor_down (negsuc n) d h =
 -- ---- numbers by their parts
 
 pub floored_from : (x y : Number) → y.num ≡ floor_of x.num x.den → y.den ≡ 1 → y ≡ floored x
-unfolding floored
-floored_from x y e f = same_number y (floored x) e f
+floored_from x y e f = same_number y (floor_number x) e f ∙ sym (floored_is x)
 
 pub rounded_from : (m : Mode) (x y : Number) → y.num ≡ signed (int_lt x.num (pos 0)) (rounded_size m (unsigned_abs x.num) x.den) → y.den ≡ 1 → y ≡ rounded m x
-unfolding rounded
-rounded_from m x y e f = same_number y (rounded m x) e f
+rounded_from m x y e f = same_number y (rounded_number m x) e f ∙ sym (rounded_is m x)

@@ -1,7 +1,7 @@
 -- The exact decimal of a number, of any number of places.
-use Rattle.std.specs.Prelude.{◌≡◌, ℕ, ◌%◌, ◌^◌, pos, List, ◌++◌, Option, unsigned_abs, int_lt, false}
+use Rattle.std.specs.Prelude.{◌≡◌, ℕ, ◌%◌, ◌^◌, pos, ◌++◌, Option, unsigned_abs, int_lt, false}
 use Rattle.wi_fraction.specs.Number.{Number}
-use Rattle.wi_fraction.specs.Text.{places_from, size_text, sign_text}
+use Rattle.wi_fraction.specs.Text.{Bytes, places_from, size_text, sign_text}
 
 -- the denominator divides a power of ten
 abbrev pub IsDecimal : Number → Type 0
@@ -16,6 +16,6 @@ pub record IsUnsignedDecimal (x : Number) : Type 0 where
 unfoldable pub all_places : ℕ → Option ℕ
 all_places d = places_from 127 0 d
 
--- the exact decimal with the fewest places, or n/d where no decimal is exact
-unfoldable pub decimal_text : Number → List ℕ
+-- n/d where no decimal is exact
+unfoldable pub decimal_text : Number → Bytes
 decimal_text x = sign_text (int_lt x.num (pos 0)) ++ size_text (all_places x.den) (unsigned_abs x.num) x.den

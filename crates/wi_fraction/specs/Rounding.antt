@@ -1,28 +1,37 @@
 -- The floor of a number, and rounding at decimal places.
-pub mod Laws
-use Rattle.std.specs.Prelude.{suc, ◌-◌, ◌*◌, ◌^◌, ℤ, pos, negsuc, neg_ℤ, ◌*ℤ◌, unsigned_abs, int_lt, nat_le, if◌then◌else◌, Option, None}
+use Rattle.std.specs.Prelude.{ℕ, suc, ◌+◌, ◌-◌, ◌*◌, ◌/◌, ◌^◌, ℤ, pos, negsuc, neg_ℤ, ◌*ℤ◌, unsigned_abs, int_lt, nat_le, if◌then◌else◌, Option, None, unwrap_or}
 use Rattle.wi_fraction.specs.declared.rounding.Mode.{Mode}
 use Rattle.wi_fraction.specs.Number.{Number, number_of, signed}
 use Rattle.wi_fraction.specs.Arithmetic.{◌>>=◌}
-use Rattle.wi_fraction.specs.Whole.{floor_of, rounded_size}
-use Rattle.wi_fraction.specs.Rounding.Laws.{floor_is, rounded_is}
+use Rattle.wi_fraction.specs.declared.rounding.Mode.TheVariants.{HalfAway, Away, Toward}
 
--- ---- whole numbers, and places
+-- ---- whole numbers
 
--- the greatest whole number that is not above x
+-- the greatest whole number not above n/d
+abbrev pub floor_of : ℤ → ℕ → ℤ
+floor_of (pos n) d = pos (n / d)
+floor_of (negsuc n) d = negsuc (n / d)
+
+-- for the size n/d: the nearest, the higher of two as near; the least not below; the greatest not above
+abbrev pub rounded_size : Mode → ℕ → ℕ → ℕ
+rounded_size HalfAway n d = (2 * n + d) / (2 * d)
+rounded_size Away n d = (n + (d - 1)) / d
+rounded_size Toward n d = n / d
+
+-- a number, as x is one
 unfoldable pub floored : Number → Number
-floored x = record { num = floor_of x.num x.den; den = 1; is_number = floor_is x }
+floored x = unwrap_or (number_of (floor_of x.num x.den) 1) x
 
--- the whole number for the size of x, with the sign of x
+-- the same, with the sign of x
 unfoldable pub rounded : Mode → Number → Number
-rounded m x = record { num = signed (int_lt x.num (pos 0)) (rounded_size m (unsigned_abs x.num) x.den); den = 1; is_number = rounded_is m x }
+rounded m x = unwrap_or (number_of (signed (int_lt x.num (pos 0)) (rounded_size m (unsigned_abs x.num) x.den)) 1) x
 
--- x times ten to the power k in lowest terms, where that is a number
+-- ---- places
+
 abbrev pub times_ten_to : ℤ → Number → Option Number
 times_ten_to (pos k) x = number_of (x.num *ℤ pos (10 ^ k)) x.den
 times_ten_to (negsuc k) x = number_of x.num (x.den * 10 ^ suc k)
 
--- x rounded at k places, at most 38 before or after the point: ten to the power k times as large, rounded to a whole
--- number, and as small again
+-- at k places, at most 38 before or after the point
 unfoldable pub round_to : Number → ℤ → Mode → Option Number
 round_to x k m = if nat_le (unsigned_abs k) 38 then times_ten_to k x >>= (λ y. times_ten_to (neg_ℤ k) (rounded m y)) else None

@@ -4,8 +4,7 @@ ghost use Rattle.std.specs.Prelude.{◌≡◌, ◌^◌, ◌%◌, ◌<◌, ◌==�
 ghost use Rattle.std.specs.Ordering.{int_eq};
 ghost use Rattle.wi_fraction.specs.Gcd.{gcd};
 ghost use Rattle.wi_fraction.specs.Number.{number_of, signed};
-ghost use Rattle.wi_fraction.specs.Arithmetic.{bounded};
-ghost use Rattle.wi_fraction.specs.Power.{power_of};
+ghost use Rattle.wi_fraction.specs.Arithmetic.{bounded, power_of};
 
 use crate::lowest_terms::number_at;
 use crate::{Fraction, FractionError, MAX};

@@ -2,8 +2,7 @@
 
 ghost use Rattle.std.specs.Prelude.{◌≡◌, ◌+◌, ◌*◌, ◌/◌, ◌<◌, ◌≤◌, ok_or};
 ghost use Rattle.wi_fraction.specs.Number.{max_size, signed};
-ghost use Rattle.wi_fraction.specs.Rounding.{floored, rounded, round_to, times_ten_to};
-ghost use Rattle.wi_fraction.specs.Whole.{rounded_size};
+ghost use Rattle.wi_fraction.specs.Rounding.{floored, rounded, rounded_size, round_to, times_ten_to};
 
 use crate::arithmetic::multiplied;
 use crate::division::{divide, remainder};

@@ -5,7 +5,7 @@ use Rattle.wi_fraction.specs.Number as numbers
 use Rattle.wi_fraction.specs.Number.{max_size}
 use Rattle.wi_fraction.specs.Gcd.{gcd, gcd_within}
 use Rattle.wi_fraction.specs.Arithmetic.{sum_of}
-use Rattle.wi_fraction.specs.Rounding.Laws.{gcd-one}
+use Rattle.wi_fraction.specs.Gcd.Laws.{gcd-one}
 use Rattle.wi_values.specs.declared.value.ErrorKind.TheVariants.{BadNumber}
 use Rattle.wi_values.specs.declared.value.Value.TheVariants.{Empty, Fault}
 use Rattle.wi_parser.specs.declared.expr.Operator.TheVariants.{Add}

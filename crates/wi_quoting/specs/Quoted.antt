@@ -3,10 +3,9 @@ use Rattle.std.specs.Prelude.{ℕ, ◌==◌, if◌then◌else◌, List, [], ◌�
 use Rattle.std.specs.List.{flat_map}
 use Rattle.std.specs.Str.{byte}
 
--- a byte between the quotes: a quote is doubled
+-- between the quotes a quote is doubled
 abbrev pub doubled : ℕ → List ℕ
 doubled b = if b == byte "\"" then codes "\"\"" else b ∷ []
 
--- a content in double quotes, a quote inside doubled
 abbrev pub quoted : List ℕ → List ℕ
 quoted content = codes "\"" ++ flat_map doubled content ++ codes "\""

@@ -3,8 +3,7 @@ use Rattle.std.specs.Prelude.{ℕ, pos, ◌++◌, List, length, nat_le, ◌==◌
 use Rattle.std.specs.Ordering.{int_eq}
 use Rattle.wi_fraction.specs.Number as numbers
 use Rattle.wi_fraction.specs.Number.{number_of}
-use Rattle.wi_fraction.specs.Arithmetic.{sum_of, product_of, quotient_of, negated}
-use Rattle.wi_fraction.specs.Power.{power_of}
+use Rattle.wi_fraction.specs.Arithmetic.{sum_of, product_of, quotient_of, negated, power_of}
 use Rattle.wi_values.specs.Import.{max_text}
 use Rattle.wi_values.specs.declared.value.ErrorKind.{ErrorKind}
 use Rattle.wi_values.specs.declared.value.ErrorKind.TheVariants.{DivisionByZero, BadNumber, BadValue}

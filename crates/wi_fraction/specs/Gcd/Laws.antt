@@ -37,6 +37,11 @@ dvd_gcd_mul d a b m p q = dvd_gcd_mul_within b d a b m p q
 pub gcd_from_IsGcd : (a b g : ℕ) → IsGcd a b g → g ≡ gcd a b
 gcd_from_IsGcd a b g h = same_from_IsGcd a b g (gcd a b) h (is_gcd a b)
 
+-- a whole number is in lowest terms over one
+pub gcd-one : (a : ℕ) → gcd a 1 ≡ 1
+unfolding gcd gcd_within
+gcd-one a = refl
+
 pub gcd_comm : (a b : ℕ) → gcd a b ≡ gcd b a
 gcd_comm a b = gcd_from_IsGcd b a (gcd a b) (IsGcd-swap a b _ (is_gcd a b))
 

@@ -1,5 +1,5 @@
 -- What makes two parts a number, and that a number is known by them.
-use Rattle.std.specs.Prelude.{◌≡◌, ℕ, zero, suc, ◌-◌, ℤ, pos, negsuc, neg_ℤ, unsigned_abs, Bool, true, false, Some, None, refl}
+use Rattle.std.specs.Prelude.{◌≡◌, ℕ, zero, suc, ℤ, pos, negsuc, neg_ℤ, unsigned_abs, Bool, true, false, Some, None, refl}
 use Rattle.std.specs.Coded.{Coded, coded×, coded_ℤ, coded_ℕ}
 use Rattle.std.proofs.Common.{ap, sym, subst, arith}
 use Rattle.std.proofs.lemmas.Bool.Decides.{nat_tests}
@@ -65,7 +65,3 @@ number_by-is n d false h z e = cc
 pub number_at-is : (n : ℤ) (d : ℕ) (z : Number) → number_at n d ≡ Some z → (z.num ≡ n) × (z.den ≡ d)
 unfolding number_at
 number_at-is n d z e = number_by-is n d _ _ z e
-
--- a number with the other sign is one too
-pub IsNumber-neg : (n : ℤ) (d : ℕ) → IsNumber n d → IsNumber (neg_ℤ n) d
-IsNumber-neg n d h = record { above_zero = h.above_zero; lowest = rw abs-neg h.lowest; num_fits = rw abs-neg h.num_fits; den_fits = h.den_fits }

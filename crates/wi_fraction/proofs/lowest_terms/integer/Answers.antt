@@ -1,7 +1,7 @@
 use Rattle.std.proofs.Common.{rules, FitsSigned}
 use Rattle.std.specs.Int.{w128}
 use Rattle.std.proofs.lemmas.Int.{to_z-of_z}
-use Rattle.wi_fraction.specs.Rounding.Laws.{whole_is}
+use Rattle.wi_fraction.proofs.NearWholes.{whole_is}
 use Rattle.wi_fraction.proofs.lowest_terms.integer.Goals as goal
 
 pub invariant_of-result : goal.invariant_of-result
