@@ -1,6 +1,8 @@
 -- OpenFormula, "Information Functions".
-use Rattle.std.specs.Prelude.{Bool, true, false, not, ◌&&◌, List, count_by, ok_or}
-use Rattle.wi_fraction.specs.Inner.Reading.{read}
+use Rattle.std.specs.Prelude.{◌≡◌, ◌↔◌, Bool, true, false, not, ◌&&◌, List, count_by, Option, Some, ok_or}
+use Rattle.wi_fraction.specs.Number as numbers
+use Rattle.wi_values.specs.Imported.{SpellsNumber}
+use Rattle.wi_values.proofs.Imports.{the_number}
 use Rattle.wi_values.specs.declared.value.ErrorKind.TheVariants.{BadValue, NotAvailable}
 use Rattle.wi_values.specs.declared.value.Value.{Value}
 use Rattle.wi_values.specs.declared.value.Value.TheVariants.{Empty, Number, Text, Logical, Fault}
@@ -8,8 +10,9 @@ use Rattle.wi_standard_functions.specs.Arguments.{Argument, region_at, value_at}
 use Rattle.wi_standard_functions.specs.Arithmetic.{whole_value}
 use Rattle.wi_standard_functions.specs.Criterion.{meets_criterion}
 use Rattle.wi_standard_functions.specs.FirstError.{no_error}
-use Rattle.wi_standard_functions.specs.Sequence.{sequence_of, count_items}
+use Rattle.wi_standard_functions.specs.Sequence.{sequence_of, value_of_item}
 use Rattle.wi_standard_functions.specs.Steps.{◌>>=◌}
+use Rattle.wi_fraction.specs.Text.{Bytes}
 
 -- ---- tests of a value; no error passes through
 
@@ -57,28 +60,31 @@ na_value = Fault NotAvailable
 
 -- ---- counts
 
--- COUNT: how many items are Numbers; no error passes through
+-- COUNT: the Numbers; no error passes through
 abbrev pub count_value : List Argument → Value
-count_value args = whole_value (count_items is_number_value (sequence_of args))
+count_value args = whole_value (count_by (λ item. is_number_value (value_of_item item)) (sequence_of args))
 
--- COUNTA: how many items aren't Empty; errors and empty texts count
+-- COUNTA: what isn't Empty, also errors and empty texts
 abbrev pub count_a_value : List Argument → Value
-count_a_value args = whole_value (count_items (λ v. not (is_empty_value v)) (sequence_of args))
+count_a_value args = whole_value (count_by (λ item. not (is_empty_value (value_of_item item))) (sequence_of args))
 
--- COUNTIF: how many cells meet the criterion
+-- COUNTIF: the cells that meet the criterion
 abbrev pub count_if_value : List Argument → Value
 count_if_value args = do
   r ← region_at args 0
   criterion ← no_error (value_at args 1)
   whole_value (count_by (meets_criterion criterion) r.values)
 
--- ---- VALUE: a Number itself, a Text that spells a number that Number (`Spelled` of wi_fraction, to which a law there ties
--- `read`), an error itself; of anything else there is none
+-- the number that a text spells, if it spells one
+abbrev pub number_in :
+    (text : Bytes) → (o : Option numbers.Number) × ((x : numbers.Number) → SpellsNumber text x ↔ (o ≡ Some x))
+number_in text = the_number text
 
+-- VALUE: of a Number itself, of a Text the number that it spells
 abbrev pub value_value : Value → Value
 value_value (Number x) = Number x
 value_value (Text t) = do
-  x ← ok_or (read t) BadValue
+  x ← ok_or (number_in t).0 BadValue
   Number x
 value_value (Fault e) = Fault e
 value_value v = Fault BadValue

@@ -16,13 +16,17 @@ use Rattle.wi_values.specs.Value.{logical_name}
 
 -- ---- numbers
 
-number_spelled : (text : List ℕ) (x : Numbers) → read text ≡ Some x → SpellsNumber text x
+pub number_spelled : (text : List ℕ) (x : Numbers) → read text ≡ Some x → SpellsNumber text x
 number_spelled text x e =
     let s = reads_what_is_spelled.spelled text x e in
     (s.0, s.1, s.2, sym (reads_what_is_spelled.value text s.0 s.1 s.2) ∙ e)
 
-number_read : (text : List ℕ) (x : Numbers) → SpellsNumber text x → read text ≡ Some x
+pub number_read : (text : List ℕ) (x : Numbers) → SpellsNumber text x → read text ≡ Some x
 number_read text x s = reads_what_is_spelled.value text s.0 s.1 s.2 ∙ s.3
+
+-- the number that a text spells
+abbrev pub the_number : (text : List ℕ) → (o : Option Numbers) × ((x : Numbers) → SpellsNumber text x ↔ (o ≡ Some x))
+the_number text = (read text, λ x. (number_read text x, number_spelled text x))
 
 nothing_spelled : (text : List ℕ) → read text ≡ None → (x : Numbers) → SpellsNumber text x → ⊥
 nothing_spelled text e x s = let f = number_read text x s in cc
@@ -55,13 +59,17 @@ words_imported text no_number = by_true (bytes_eq text (codes "TRUE")) refl
     by_true true e = subst (λ t. IsImported t (Some (Logical true))) (sym ((bytes_eq-Decides text (codes "TRUE")).0 e)) (a_truth_value true)
     by_true false e = by_false (λ same. let f = (bytes_eq-Decides text (codes "TRUE")).1 same in cc) (bytes_eq text (codes "FALSE")) refl
 
-text_imported : (text : List ℕ) → IsImported text (imported text)
+pub text_imported : (text : List ℕ) → IsImported text (imported text)
 unfolding imported
 text_imported text = by_number (read text) refl
   where
     by_number : (o : Option Numbers) → read text ≡ o → IsImported text (number_or o (words_value text))
     by_number (Some x) e = a_number text x (number_spelled text x e)
     by_number None e = words_imported text (nothing_spelled text e)
+
+-- what a text is taken for
+abbrev pub the_import : (text : List ℕ) → (o : Option Value) × IsImported text o
+the_import text = (imported text, text_imported text)
 
 -- ---- and for nothing else
 
