@@ -1,15 +1,14 @@
 //! The operators (OpenFormula, "Standard Operators").
 
-ghost use Rattle.std.specs.Prelude.{◌≡◌, Bool, IfOk};
+ghost use Rattle.std.specs.Prelude.{◌≡◌, ◌++◌, Bool, IfOk};
 ghost use Rattle.wi_values.specs.Value.{shown_text};
 ghost use Rattle.std.specs.declared.cmp.Ordering.{Ordering};
 ghost use Rattle.wi_standard_functions.specs.Arithmetic.{addition, subtraction, multiplication};
-ghost use Rattle.wi_standard_functions.specs.Arithmetic.{division, calculated, concatenation};
+ghost use Rattle.wi_standard_functions.specs.Arithmetic.{division, calculated, limited_text};
 ghost use Rattle.wi_standard_functions.specs.Comparison.{beside, order, compared};
-ghost use Rattle.wi_standard_functions.specs.Convert.{to_number, to_text};
-ghost use Rattle.wi_standard_functions.specs.FirstError.{on_both};
+ghost use Rattle.wi_standard_functions.specs.Convert.{to_number};
 ghost use Rattle.wi_scalar_functions.specs.Inner.Outcome.{number_value};
-ghost use Rattle.wi_functions.specs.Operators.{operate, with_sign, hundredth, minus};
+ghost use Rattle.wi_functions.specs.Operators.{operate, with_sign, hundredth};
 
 use std::alloc::{AllocError, Global};
 use wi_fraction::Fraction;
@@ -52,7 +51,7 @@ pub(crate) fn with_sign(sign: Sign, value: Value) -> Value
 {
     match sign {
         Sign::Plus => value,
-        Sign::Minus => minus(to_number(&value)),
+        Sign::Minus => minus(&value),
     }
 }
 
@@ -92,10 +91,10 @@ fn quotient(left: &Value, right: &Value) -> Result<Fraction, ErrorKind>
 }
 
 /// The number with the other sign.
-fn minus(number: Result<Fraction, ErrorKind>) -> Value
-    ensures { result ≡ minus number }
+fn minus(value: &Value) -> Value
+    ensures { result ≡ with_sign Sign.Minus value.now }
 {
-    match number {
+    match to_number(value) {
         Ok(x) => Value::Number(x.neg()),
         Err(e) => Value::Fault(e),
     }
@@ -103,7 +102,7 @@ fn minus(number: Result<Fraction, ErrorKind>) -> Value
 
 /// Two values joined as texts.
 fn join(alloc: Global, left: &Value, right: &Value) -> Result<Value, AllocError>
-    ensures { IfOk result (λ v. v ≡ on_both concatenation (to_text left.now) (to_text right.now)) }
+    ensures { IfOk result (λ v. v ≡ operate Operator.Join left.now right.now) }
 {
     match both(no_error(left), no_error(right)) {
         Ok(_) => join_shown(alloc, left, right),
@@ -113,7 +112,7 @@ fn join(alloc: Global, left: &Value, right: &Value) -> Result<Value, AllocError>
 
 /// The shown texts of two values, one after the other.
 fn join_shown(alloc: Global, left: &Value, right: &Value) -> Result<Value, AllocError>
-    ensures { IfOk result (λ v. v ≡ concatenation (shown_text left.now) (shown_text right.now)) }
+    ensures { IfOk result (λ v. v ≡ limited_text (shown_text left.now ++ shown_text right.now)) }
 {
     let mut text = String::new(alloc);
     left.push_shown(&mut text)?;

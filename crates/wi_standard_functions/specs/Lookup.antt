@@ -9,11 +9,11 @@ use Rattle.wi_values.specs.declared.value.Value.TheVariants.{Number, Logical, Fa
 use Rattle.wi_standard_functions.specs.Arguments.{Argument, Region, region_at, value_at, value_or}
 use Rattle.wi_standard_functions.specs.Arithmetic.{whole_value}
 use Rattle.wi_standard_functions.specs.Convert.{to_number, to_whole, to_logical, zero_number, one_number}
-use Rattle.wi_standard_functions.specs.FirstError.{no_error, on_both}
+use Rattle.wi_standard_functions.specs.FirstError.{no_error}
 use Rattle.wi_standard_functions.specs.Matching.{match_position, sought_for}
 use Rattle.wi_standard_functions.specs.Steps.{◌>>=◌}
 
--- the k-th of the arguments after the first
+-- the k-th after the first
 abbrev pub chosen : ℤ → List Argument → Result Argument ErrorKind
 chosen k args = ok_or (if int_lt k (pos 1) then None else slice_get args (unsigned_abs k)) BadValue
 
@@ -26,18 +26,17 @@ choose_value args = do
 
 -- ---- places in a region
 
--- the place, from 0, of the k-th of n: a k below 1 is a bad value, and one that is too large a bad reference
+-- the place, from 0, of the k-th of n
 abbrev pub place_among : ℕ → ℤ → Result ℕ ErrorKind
 place_among n k =
     if int_lt k (pos 1) then Err BadValue else
     if nat_lt n (unsigned_abs k) then Err BadReference else
     Ok (unsigned_abs k - 1)
 
--- the value of the cell at a row and a column, both from 0
+-- row and column count from 0
 abbrev pub cell_in : Region → ℕ → ℕ → Value
 cell_in r row column = unwrap_or (slice_get r.values (row * r.width + column)) (Fault BadReference)
 
--- the values of the first column, and of the first row
 abbrev pub first_column_of : Region → List Value
 first_column_of r = map (λ row. cell_in r row 0) (range_with_len 0 r.height)
 
@@ -46,20 +45,21 @@ first_row_of r = map (λ column. cell_in r 0 column) (range_with_len 0 r.width)
 
 -- ---- INDEX
 
--- the value of the k-th cell of the j-th row, both counted from 1: a number below 1 comes before one that is too large
+-- the k-th cell of the j-th row: a number below 1 comes before one that is too large
 abbrev pub nth_cell : Region → ℤ → ℤ → Value
 nth_cell r j k =
-    if int_lt j (pos 1) || int_lt k (pos 1) then Fault BadValue else
-    on_both (cell_in r) (place_among r.height j) (place_among r.width k)
+    if int_lt j (pos 1) || int_lt k (pos 1) then Fault BadValue else (do
+      row ← place_among r.height j
+      column ← place_among r.width k
+      cell_in r row column)
 
--- the value of the k-th cell along a region that is one column or one row
+-- the k-th cell of a region that is one column or one row
 abbrev pub nth_cell_along : Region → ℤ → Value
 nth_cell_along r k =
     if r.width == 1 then nth_cell r k (pos 1) else
     if r.height == 1 then nth_cell r (pos 1) k else
     Fault BadValue
 
--- INDEX: with three arguments by row and column, with two along the region
 abbrev pub index_by_both : List Argument → Value
 index_by_both args = do
   r ← region_at args 0
@@ -73,20 +73,20 @@ index_along args = do
   k ← to_whole (value_at args 1)
   nth_cell_along r k
 
+-- INDEX: with three arguments by row and column, with two along the region
 abbrev pub index_value : List Argument → Value
 index_value args = if nat_le (length args) 2 then index_along args else index_by_both args
 
 -- ---- searches
 
--- the place of the value sought in a list, from 0
 abbrev pub place_of : numbers.Number → Value → List Value → Result ℕ ErrorKind
 place_of match_type v vs = ok_or (match_position match_type (sought_for v) vs) NotAvailable
 
--- the values along a region that is one row or one column
+-- of one row or one column
 abbrev pub values_along : Region → Result (List Value) ErrorKind
 values_along r = if (r.height == 1) || (r.width == 1) then Ok r.values else Err BadValue
 
--- MATCH: the place that is found, counted from 1; a type that is not given is 1
+-- MATCH: the place counts from 1, and the type is 1 if it is not given
 abbrev pub match_value : List Argument → Value
 match_value args = do
   v ← no_error (value_at args 0)
@@ -96,11 +96,10 @@ match_value args = do
   i ← place_of match_type v vs
   whole_value (i + 1)
 
--- the type of a match in values that are told to be in order, or not to be
 abbrev pub type_for : Bool → numbers.Number
 type_for in_order = if in_order then one_number else zero_number
 
--- VLOOKUP: the cell in column k, in the row whose first cell is found; a fourth argument that is not given is TRUE
+-- VLOOKUP: a fourth argument that is not given is TRUE
 abbrev pub v_lookup_value : List Argument → Value
 v_lookup_value args = do
   v ← no_error (value_at args 0)
@@ -111,7 +110,7 @@ v_lookup_value args = do
   row ← place_of (type_for in_order) v (first_column_of r)
   cell_in r row column
 
--- HLOOKUP: the cell in row k, in the column whose first cell is found
+-- HLOOKUP
 abbrev pub h_lookup_value : List Argument → Value
 h_lookup_value args = do
   v ← no_error (value_at args 0)

@@ -7,24 +7,21 @@ use Rattle.wi_values.specs.declared.value.Value.{Value}
 use Rattle.wi_values.specs.declared.value.Value.TheVariants.{Logical}
 use Rattle.wi_standard_functions.specs.Arithmetic.{whole_value, limited_text}
 use Rattle.wi_standard_functions.specs.Convert.{to_text, to_whole}
-use Rattle.wi_standard_functions.specs.FirstError.{on_both}
 use Rattle.wi_standard_functions.specs.Steps.{◌>>=◌, map_until_error}
 
--- a whole number that is at least the bound
 abbrev pub at_least : ℕ → ℤ → Result ℕ ErrorKind
 at_least bound k = if int_lt k (pos bound) then Err BadValue else Ok (unsigned_abs k)
 
--- the text of some characters
 abbrev pub of_chars : List ℕ → Value
 of_chars cs = limited_text (encode_utf8_all cs)
 
--- LEN: how many characters
+-- LEN
 abbrev pub len_value : Value → Value
 len_value t = do
   s ← to_text t
   whole_value (length (chars s))
 
--- LEFT: the first k characters, or all
+-- LEFT
 abbrev pub left_value : Value → Value → Value
 left_value t count = do
   s ← to_text t
@@ -32,7 +29,7 @@ left_value t count = do
   n ← at_least 0 k
   of_chars (take n (chars s))
 
--- RIGHT: the last k characters, or all
+-- RIGHT
 abbrev pub right_value : Value → Value → Value
 right_value t count = do
   s ← to_text t
@@ -40,7 +37,7 @@ right_value t count = do
   n ← at_least 0 k
   of_chars (drop (length (chars s) - n) (chars s))
 
--- MID: so many characters from a place on, counted from 1, or what is there
+-- MID: places count from 1
 abbrev pub mid_value : Value → Value → Value → Value
 mid_value t place count = do
   s ← to_text t
@@ -50,25 +47,28 @@ mid_value t place count = do
   n ← at_least 0 k
   of_chars (take n (drop (first - 1) (chars s)))
 
--- CONCATENATE: the texts, joined
+-- CONCATENATE
 abbrev pub concatenate_value : List Value → Value
 concatenate_value vs = do
   ts ← map_until_error to_text vs
   limited_text (concat ts)
 
--- EXACT: equal byte for byte
+-- EXACT
 abbrev pub exact_value : Value → Value → Value
-exact_value t u = on_both (λ s r. Logical (bytes_eq s r)) (to_text t) (to_text u)
+exact_value t u = do
+  s ← to_text t
+  r ← to_text u
+  Logical (bytes_eq s r)
 
--- the first place, counted from 0, where the characters stand in others
+-- the first place, from 0, where the characters stand in others
 abbrev pub first_place : List ℕ → List ℕ → Option ℕ
 first_place sought cs = find (λ i. starts_with nat_eq (drop i cs) sought) (range_with_len 0 (length cs + 1))
 
--- the first such place from a place on, at most the one behind the last character
+-- from a place on, at most the one behind the last character
 abbrev pub place_from : ℕ → List ℕ → List ℕ → Option ℕ
 place_from from sought cs = if nat_le from (length cs) then option_map (λ i. from + i) (first_place sought (drop from cs)) else None
 
--- FIND: the first place at or after k, counted from 1, where the first text stands in the second
+-- FIND: places count from 1
 abbrev pub find_value : Value → Value → Value → Value
 find_value t u place = do
   sought ← to_text t
@@ -78,7 +78,7 @@ find_value t u place = do
   i ← ok_or (place_from (from - 1) (chars sought) (chars s)) BadValue
   whole_value (i + 1)
 
--- REPT: k times
+-- REPT
 abbrev pub rept_value : Value → Value → Value
 rept_value t count = do
   s ← to_text t
