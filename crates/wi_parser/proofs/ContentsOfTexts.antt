@@ -15,7 +15,7 @@ use Rattle.wi_parser.specs.declared.fault.ParseFault.{ParseFault}
 use Rattle.wi_parser.specs.declared.fault.ParseFault.TheVariants.{TooLong, Syntax}
 use Rattle.wi_parser.specs.Contents.{IsFormulaText, plain, prefixed, IsNoFormulaText, IsTextOf, AreJudged, at_fault, a_tree, no_tree, IsParsed, too_long, as_judged, IsConstantText, IsContent, a_formula, no_formula, a_text, a_long_text, a_constant, no_constant}
 use Rattle.wi_parser.specs.Inner.FormulaText.{symbols_of, symbols_by, after, after_prefix, after_equals, formula_symbols}
-use Rattle.wi_parser.specs.Grammar.{Spells, loosest}
+use Rattle.wi_parser.specs.Inner.Lines.{Spells, loosest}
 use Rattle.wi_parser.specs.Nesting.{max_depth}
 use Rattle.wi_parser.specs.Inner.Reader.{whole}
 use Rattle.wi_parser.specs.Limits.{max_formula, refusal_of}
@@ -26,6 +26,7 @@ use Rattle.wi_parser.specs.Tree.{Tree}
 use Rattle.wi_parser.proofs.Complete.{whole_complete, one_tree}
 use Rattle.wi_parser.proofs.Depth.{depth-deepest}
 use Rattle.wi_parser.proofs.Fronts.{after-append, after-some}
+use Rattle.wi_parser.proofs.Grammatical.{spelling_exactly}
 use Rattle.wi_parser.proofs.Parses.{parsed_exactly, parsed_long, parsed_short, no_refused_first, shallow}
 use Rattle.wi_parser.proofs.Sound.{whole_sound}
 use Rattle.wi_parser.proofs.SymbolsOfTexts.{symbols_exactly}
@@ -44,8 +45,8 @@ judged_holds : (ts : List Symbol) → AreJudged ts (judged ts)
 judged_holds ts = by_refusal (refusal_of ts) refl
   where
     by_tree : refusal_of ts ≡ None → (o : Option Tree) → whole (max_depth + 1) ts ≡ o → AreJudged ts (ok_or o Syntax)
-    by_tree h (Some t) e = a_tree ts t h (whole_sound (max_depth + 1) ts t e)
-    by_tree h None e = no_tree ts h (λ t s. let f = spelled_read ts t h s in cc)
+    by_tree h (Some t) e = a_tree ts t h ((spelling_exactly t ts).1 (whole_sound (max_depth + 1) ts t e))
+    by_tree h None e = no_tree ts h (λ t s. let f = spelled_read ts t h ((spelling_exactly t ts).0 s) in cc)
 
     by_refusal : (o : Option ParseFault) → refusal_of ts ≡ o → AreJudged ts (unless_refused o (whole (max_depth + 1) ts))
     by_refusal (Some e) h = at_fault ts e h
@@ -53,9 +54,9 @@ judged_holds ts = by_refusal (refusal_of ts) refl
 
 judged_is : (ts : List Symbol) (r : Result Tree ParseFault) → AreJudged ts r → judged ts ≡ r
 judged_is ts r (at_fault us e h) = ap (λ o. unless_refused o (whole (max_depth + 1) us)) h
-judged_is ts r (a_tree us t h s) = ap (λ o. unless_refused o (whole (max_depth + 1) us)) h ∙ ap (λ o. ok_or o Syntax) (spelled_read us t h s)
+judged_is ts r (a_tree us t h s) = ap (λ o. unless_refused o (whole (max_depth + 1) us)) h ∙ ap (λ o. ok_or o Syntax) (spelled_read us t h ((spelling_exactly t us).0 s))
 judged_is ts r (no_tree us h none) =
-    ap (λ o. unless_refused o (whole (max_depth + 1) us)) h ∙ ap (λ o. ok_or o Syntax) (nothing_read us none (whole (max_depth + 1) us) refl)
+    ap (λ o. unless_refused o (whole (max_depth + 1) us)) h ∙ ap (λ o. ok_or o Syntax) (nothing_read us (λ t s. none t ((spelling_exactly t us).1 s)) (whole (max_depth + 1) us) refl)
 
 -- ---- the text of a formula
 
@@ -105,7 +106,7 @@ body_after text body (prefixed bs) = refl
 -- ---- no text has two trees, and one that is no formula's has none
 
 spelled_by : (text : List ℕ) (t : Tree) → IsTextOf text t → Spells loosest t (formula_symbols text)
-spelled_by text t a = subst (λ ts. Spells loosest t ts) (sym ((formula_symbols_exactly text a.body a.symbols a.is_formula).0 a.are_symbols)) a.spelled
+spelled_by text t a = subst (λ ts. Spells loosest t ts) (sym ((formula_symbols_exactly text a.body a.symbols a.is_formula).0 a.are_symbols)) ((spelling_exactly t a.symbols).0 a.spelled)
 
 pub one_tree_of_text : (text : List ℕ) (t u : Tree) → IsTextOf text t → IsTextOf text u → t ≡ u
 one_tree_of_text text t u a b = one_tree t u (formula_symbols text) (spelled_by text t a) (spelled_by text u b)

@@ -7,7 +7,8 @@ use Rattle.wi_values.specs.Address.{columns, rows, place, row_of, column_of}
 use Rattle.wi_parser.specs.declared.expr.Expr.{Expr}
 use Rattle.wi_parser.specs.declared.expr.Reference.{Reference}
 use Rattle.wi_parser.specs.Inner.FormulaText.{formula_symbols}
-use Rattle.wi_parser.specs.Grammar.{loosest, Spells, pair_symbols}
+use Rattle.wi_parser.specs.Grammar.{pair_symbols}
+use Rattle.wi_parser.specs.Inner.Lines.{loosest, Spells}
 use Rattle.wi_parser.specs.Nesting.{deepest, most_signs, max_depth, is_sign}
 use Rattle.wi_parser.specs.Printing.{printed}
 use Rattle.wi_parser.specs.Limits.{max_formula}

@@ -6,7 +6,7 @@ use Rattle.wi_lexer.specs.Inner.Tokens.{tokens, tokens_within}
 use Rattle.wi_lexer.proofs.EndLemmas.{token_and_rest}
 use Rattle.wi_parser.specs.Tree.{Tree}
 use Rattle.wi_parser.specs.Symbol.{Symbol}
-use Rattle.wi_parser.specs.Grammar.{loosest, Spells}
+use Rattle.wi_parser.specs.Inner.Lines.{loosest, Spells}
 use Rattle.wi_parser.specs.Nesting.{deepest, most_signs, max_depth}
 use Rattle.wi_parser.specs.Spelling.{spelling}
 use Rattle.wi_parser.specs.Printing.{symbol_text, symbols_text, printed}

@@ -23,7 +23,7 @@ use Rattle.wi_parser.proofs.ExprTrees.{number_tree, text_tree, cell_tree, rectan
 use Rattle.wi_parser.specs.Tree.{Tree, Trees, number, text, cell, rectangle, parenthesized, signed, percent, binary, what_if, call, no_trees, more_trees, trees_of}
 use Rattle.wi_parser.specs.Leaves.{Leaf, what_if_leaf, leaves, all_leaves}
 use Rattle.wi_parser.specs.Symbol.{Symbol}
-use Rattle.wi_parser.specs.Grammar.{Spells, SpellsAll, SpellsMore, a_number, a_text, a_cell, a_rectangle, in_parentheses, one_input, two_inputs, a_call, with_sign, with_percent, tighter, joined, no_parameter, parameters, last_parameter, another_parameter}
+use Rattle.wi_parser.specs.Inner.Lines.{Spells, SpellsAll, SpellsMore, a_number, a_text, a_cell, a_rectangle, in_parentheses, one_input, two_inputs, a_call, with_sign, with_percent, tighter, joined, no_parameter, parameters, last_parameter, another_parameter}
 use Rattle.wi_parser.specs.Spelling.{spelling, spelling_of_all, spelling_of_more}
 use Rattle.wi_parser.specs.Shift.{within, part, stays, moved, in_sheet, leaf_references, all_references, map_references, map_references_in, shifted}
 

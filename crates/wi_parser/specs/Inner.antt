@@ -2,6 +2,7 @@
 pub mod Faults
 pub mod FormulaText
 pub mod Inside
+pub mod Lines
 pub mod Nests
 pub mod Outcome
 pub mod PrintedParts

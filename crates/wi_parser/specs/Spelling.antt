@@ -1,12 +1,13 @@
 -- The symbols that spell a tree.
-use Rattle.std.specs.Prelude.{List, [], ◌∷◌, ◌++◌}
+use Rattle.std.specs.Prelude.{◌≡◌, List, [], ◌∷◌, ◌++◌}
 use Rattle.std.specs.List.{flat_map}
 use Rattle.wi_parser.specs.Tree.{Tree, Trees, number, text, cell, rectangle, parenthesized, signed, percent, binary, what_if, call, no_trees, more_trees}
 use Rattle.wi_parser.specs.Symbol.{Symbol, numeral, text_literal, reference, corners, open_parenthesis, close_parenthesis, separator, infix_mark, sign_mark, percent_mark, name}
-use Rattle.wi_parser.specs.Grammar.{loosest, Spells, pair_symbols, what_if_symbols}
+use Rattle.wi_parser.specs.Grammar.{IsGrammatical, pair_symbols, what_if_symbols}
+use Rattle.wi_parser.specs.Inner.Lines.{loosest, Spells}
 
 abbrev mutual
-  -- the only list that can spell the tree
+  -- the only list that spells the tree
   pub spelling : Tree → List Symbol
   spelling (number x) = numeral x ∷ []
   spelling (text s) = text_literal s ∷ []
@@ -19,15 +20,17 @@ abbrev mutual
   spelling (what_if f pairs) = what_if_symbols f (flat_map pair_symbols pairs)
   spelling (call f ts) = name f ∷ open_parenthesis ∷ spelling_of_all ts
 
-  -- parameters and the parenthesis that closes
   pub spelling_of_all : Trees → List Symbol
   spelling_of_all no_trees = close_parenthesis ∷ []
   spelling_of_all (more_trees t ts) = spelling t ++ spelling_of_more ts
 
-  -- what follows a parameter
   pub spelling_of_more : Trees → List Symbol
   spelling_of_more no_trees = close_parenthesis ∷ []
   spelling_of_more (more_trees t ts) = separator ∷ spelling t ++ spelling_of_more ts
+
+-- the symbols are the tree's
+abbrev pub IsSpelling : Tree → List Symbol → Type 0
+IsSpelling t ts = IsGrammatical t × (ts ≡ spelling t)
 
 -- some symbols spell the tree, and these are its spelling
 abbrev pub HasSpelling : Tree → Type 0

@@ -10,9 +10,9 @@ ghost use Rattle.wi_parser.specs.declared.content.Content.{Content};
 ghost use Rattle.wi_parser.specs.declared.fault.ParseFault.{ParseFault};
 ghost use Rattle.wi_parser.specs.Tree.{Tree};
 ghost use Rattle.wi_parser.specs.Symbol.{Symbol};
-ghost use Rattle.wi_parser.specs.Grammar.{Spells, loosest};
+ghost use Rattle.wi_parser.specs.Inner.Lines.{Spells, loosest};
 ghost use Rattle.wi_parser.specs.Nesting.{depth, deepest};
-ghost use Rattle.wi_parser.specs.Spelling.{spelling};
+ghost use Rattle.wi_parser.specs.Spelling.{spelling, IsSpelling};
 ghost use Rattle.wi_parser.specs.Inner.Reader.{whole};
 ghost use Rattle.wi_parser.specs.Inner.FormulaText.{formula_symbols, symbol_of, symbols_of};
 ghost use Rattle.wi_parser.specs.Limits.{max_formula};
@@ -82,6 +82,11 @@ pub fn no_deeper()
 /// A tree has one spelling.
 pub fn one_spelling()
     ensures { (k : ℕ) (t : Tree) (ts : List Symbol) → Spells k t ts → ts ≡ spelling t }
+{}
+
+/// The lines of the grammar spell the grammatical trees, each by its spelling.
+pub fn what_the_lines_spell()
+    ensures { (t : Tree) (ts : List Symbol) → IsSpelling t ts ↔ Spells loosest t ts }
 {}
 
 /// A text is read as a tree exactly where it spells the tree within the limits.

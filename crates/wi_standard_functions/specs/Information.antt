@@ -76,8 +76,8 @@ count_if_value args = do
   whole_value (count_by (meets_criterion criterion) r.values)
 
 -- the number that a text spells, if it spells one
-abbrev pub number_in :
-    (text : Bytes) → (o : Option numbers.Number) × ((x : numbers.Number) → SpellsNumber text x ↔ (o ≡ Some x))
+abbrev pub number_in : (text : Bytes)
+    → (o : Option numbers.Number) × ((x : numbers.Number) → SpellsNumber text x ↔ (o ≡ Some x))
 number_in text = the_number text
 
 -- VALUE: of a Number itself, of a Text the number that it spells

@@ -7,7 +7,8 @@ use Rattle.wi_parser.specs.declared.expr.Sign.{Sign}
 use Rattle.wi_parser.specs.declared.expr.Sign.TheVariants.{Plus, Minus}
 use Rattle.wi_parser.specs.Tree.{Tree, number, cell, rectangle, parenthesized, signed, percent, binary, what_if, Trees, text, call, no_trees, more_trees}
 use Rattle.wi_parser.specs.Symbol.{Symbol, numeral, reference, corners, open_parenthesis, close_parenthesis, separator, infix_mark, percent_mark, what_if_name, text_literal, name}
-use Rattle.wi_parser.specs.Grammar.{line_of, loosest}
+use Rattle.wi_parser.specs.Grammar.{line_of}
+use Rattle.wi_parser.specs.Inner.Lines.{loosest}
 
 -- a tree found, and what follows it
 abbrev pub Read : Type 0
