@@ -14,11 +14,10 @@ use Rattle.wi_standard_functions.specs.Functions.{call_value}
 use Rattle.wi_standard_functions.specs.Convert.{zero_number}
 use Rattle.wi_functions.specs.Operators.{operate, with_sign, hundredth}
 
--- both corners are one cell
 abbrev pub is_one_cell : Corners → Bool
 is_one_cell c = c.one.at == c.other.at
 
--- the rectangle that a parameter refers to, where it is a reference, also in parentheses
+-- what a parameter refers to, also in parentheses
 abbrev pub referred : Tree → Option Area
 referred (cell r) = Some (cell_area r.at)
 referred (rectangle c) = Some (area_of c)
@@ -26,8 +25,7 @@ referred (parenthesized t) = referred t
 referred t = None
 
 abbrev mutual
-  -- The value of a tree, where `cells` gives the value of each cell, and `what_ifs` that of each what-if, told by its
-  -- formula cell and its pairs.
+  -- where `cells` gives the value of each cell, and `what_ifs` that of each what-if
   pub meaning : Tree → (ℕ → Value) → (ℕ → List (ℕ × ℕ) → Value) → Value
   meaning (number x) cells what_ifs = Number x
   meaning (text s) cells what_ifs = Text s
@@ -40,12 +38,11 @@ abbrev mutual
   meaning (what_if f pairs) cells what_ifs = what_ifs f.at (map addresses pairs)
   meaning (call f ts) cells what_ifs = call_value f (arguments ts cells what_ifs)
 
-  -- the arguments that the parameters of a call are
   pub arguments : Trees → (ℕ → Value) → (ℕ → List (ℕ × ℕ) → Value) → List Argument
   arguments no_trees cells what_ifs = []
   arguments (more_trees t ts) cells what_ifs = argument_of cells (meaning t cells what_ifs) (referred t) ∷ arguments ts cells what_ifs
 
--- a formula's result: Empty becomes 0
+-- a formula's result
 abbrev pub zero_for_empty : Value → Value
 zero_for_empty Empty = Number zero_number
 zero_for_empty v = v

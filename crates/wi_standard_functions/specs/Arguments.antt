@@ -7,18 +7,18 @@ use Rattle.wi_values.specs.declared.value.ErrorKind.TheVariants.{BadValue}
 use Rattle.wi_values.specs.declared.value.Value.{Value}
 use Rattle.wi_values.specs.declared.value.Value.TheVariants.{Empty}
 
--- what stands in a rectangle: its size, and the values of its cells in row-major order
+-- what stands in a rectangle, the values of its cells in row-major order
 pub record Region : Type 0 where
   pub height : ℕ
   pub width : ℕ
   pub values : List Value
 
--- a parameter's value, and where it is a reference, also in parentheses, the region that it refers to
+-- a parameter's value, and what it refers to where it is a reference, also in parentheses
 pub record Argument : Type 0 where
   pub value : Value
   pub region : Option Region
 
--- the region of a rectangle, where `cells` gives the value of each cell
+-- where `cells` gives the value of each cell
 abbrev pub region_of : (ℕ → Value) → Area → Region
 region_of cells r = record {
   height = (row_of r.last + 1) - row_of r.first;
@@ -26,24 +26,21 @@ region_of cells r = record {
   values = map cells (cells_of r);
 }
 
--- the argument of a parameter with this value, and with this rectangle where it is a reference
 abbrev pub argument_of : (ℕ → Value) → Value → Option Area → Argument
 argument_of cells v area = record { value = v; region = option_map (region_of cells) area }
 
--- what an argument refers to: what is no reference has no region, which is an error whatever its value is
+-- what is no reference has no region, whatever its value is
 abbrev pub region_referred : Argument → Result Region ErrorKind
 region_referred a = ok_or a.region BadValue
 
--- ---- the argument at a place, counted from 0
+-- ---- the argument at a place, counted from 0, or else the default
 
--- its value, or else the default
 abbrev pub value_or : Value → List Argument → ℕ → Value
 value_or default args i = option_map_or (λ (a : Argument). a.value) (slice_get args i) default
 
 abbrev pub value_at : List Argument → ℕ → Value
 value_at args i = value_or Empty args i
 
--- its region, or else the default
 abbrev pub region_or : Result Region ErrorKind → List Argument → ℕ → Result Region ErrorKind
 region_or default args i = option_map_or region_referred (slice_get args i) default
 

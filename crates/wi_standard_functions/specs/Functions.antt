@@ -14,24 +14,23 @@ use Rattle.wi_standard_functions.specs.Mathematical.{abs_value, sign_value, quot
 use Rattle.wi_standard_functions.specs.Rounding.{int_value, round_value}
 use Rattle.wi_standard_functions.specs.Statistical.{min_value, max_value, average_value}
 use Rattle.wi_standard_functions.specs.Text.{len_value, left_value, right_value, mid_value, concatenate_value, exact_value, find_value, rept_value}
+use Rattle.wi_fraction.specs.Text.{Bytes}
 
--- a function: its name in capitals, how many parameters it has at least and at most (None is any number), and what it gives
+-- its name in capitals, how many parameters it has at least and at most (None is any number), and what it gives
 pub record Function : Type 0 where
-  pub name : List ℕ
+  pub name : Bytes
   pub least : ℕ
   pub greatest : Option ℕ
   pub value : List Argument → Value
 
 -- ---- rows of the table
 
--- between so many and so many parameters, or at least so many
-abbrev pub with_parameters : List ℕ → ℕ → ℕ → (List Argument → Value) → Function
+abbrev pub with_parameters : Bytes → ℕ → ℕ → (List Argument → Value) → Function
 with_parameters name least greatest value = record { name = name; least = least; greatest = Some greatest; value = value }
 
-abbrev pub variadic : List ℕ → ℕ → (List Argument → Value) → Function
+abbrev pub variadic : Bytes → ℕ → (List Argument → Value) → Function
 variadic name least value = record { name = name; least = least; greatest = None; value = value }
 
--- of no parameter, of the values of one, two or three, and of two or three whose last has a default
 abbrev pub of_none : Value → List Argument → Value
 of_none v args = v
 
@@ -50,15 +49,13 @@ of_three f args = f (value_at args 0) (value_at args 1) (value_at args 2)
 abbrev pub of_three_or : Value → (Value → Value → Value → Value) → List Argument → Value
 of_three_or default f args = f (value_at args 0) (value_at args 1) (value_or default args 2)
 
--- of the values of all
 abbrev pub of_values : (List Value → Value) → List Argument → Value
 of_values f args = f (map (λ (a : Argument). a.value) args)
 
--- of one to three values, where a missing second is TRUE and a missing third FALSE
+-- a missing second is TRUE, and a missing third FALSE
 abbrev pub of_condition : (Value → Value → Value → Value) → List Argument → Value
 of_condition f args = f (value_at args 0) (value_or (Logical true) args 1) (value_or (Logical false) args 2)
 
--- whether the value of one passes a test
 abbrev pub of_test : (Value → Bool) → List Argument → Value
 of_test test args = Logical (test (value_at args 0))
 
@@ -68,7 +65,6 @@ zero_value = Number zero_number
 abbrev pub one_value : Value
 one_value = Number one_number
 
--- the functions that there are, in the order of their names
 unfoldable pub functions : List Function
 functions =
     with_parameters (codes "ABS") 1 1 (of_one abs_value)
@@ -126,23 +122,21 @@ functions =
 
 -- ---- calls
 
--- the function with that name in capitals
-unfoldable pub function_named : List ℕ → Option Function
+unfoldable pub function_named : Bytes → Option Function
 function_named name = find (λ (f : Function). bytes_eq f.name name) functions
 
 abbrev pub is_not_above : ℕ → Option ℕ → Bool
 is_not_above n None = true
 is_not_above n (Some m) = nat_le n m
 
--- the function has so many parameters
 abbrev pub has_parameters : Function → ℕ → Bool
 has_parameters f n = nat_le f.least n && is_not_above n f.greatest
 
--- an unknown name comes first, then a wrong count of arguments, and both before any argument
+-- an unknown name and a wrong count come before any argument
 abbrev pub value_of_call : Option Function → List Argument → Value
 value_of_call None args = Fault UnknownName
 value_of_call (Some f) args = if has_parameters f (length args) then f.value args else Fault BadValue
 
--- What a call gives, by its name in capitals and its arguments.
-unfoldable pub call_value : List ℕ → List Argument → Value
+-- the name is in capitals
+unfoldable pub call_value : Bytes → List Argument → Value
 call_value name args = value_of_call (function_named name) args

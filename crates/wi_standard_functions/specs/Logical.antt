@@ -6,7 +6,7 @@ use Rattle.wi_values.specs.declared.value.Value.{Value}
 use Rattle.wi_values.specs.declared.value.Value.TheVariants.{Logical, Fault}
 use Rattle.wi_standard_functions.specs.Arguments.{Argument}
 use Rattle.wi_standard_functions.specs.Convert.{to_logical}
-use Rattle.wi_standard_functions.specs.Sequence.{sequence_of, logicals_of}
+use Rattle.wi_standard_functions.specs.Sequence.{sequence_of, all_that_count, logical_of_item}
 use Rattle.wi_standard_functions.specs.Steps.{◌>>=◌}
 
 -- TRUE
@@ -17,27 +17,27 @@ true_value = Logical true
 abbrev pub false_value : Value
 false_value = Logical false
 
--- NOT: the negation
+-- NOT
 abbrev pub not_value : Value → Value
 not_value l = do
   b ← to_logical l
   Logical (not b)
 
--- a test of the truth values that count; where there is none, it has no result
+-- of none there is no result
 abbrev pub tested : (List Bool → Bool) → List Bool → Value
 tested test [] = Fault BadValue
 tested test (b ∷ bs) = Logical (test (b ∷ bs))
 
--- AND: all that count are TRUE
+-- AND
 abbrev pub and_value : List Argument → Value
 and_value args = do
-  bs ← logicals_of (sequence_of args)
+  bs ← all_that_count logical_of_item (sequence_of args)
   tested (list_all (λ b. b)) bs
 
--- OR: one that counts is TRUE
+-- OR
 abbrev pub or_value : List Argument → Value
 or_value args = do
-  bs ← logicals_of (sequence_of args)
+  bs ← all_that_count logical_of_item (sequence_of args)
   tested (list_any (λ b. b)) bs
 
 -- IF: only the error of the branch that is chosen counts
@@ -46,12 +46,12 @@ if_value condition then_value else_value = do
   b ← to_logical condition
   (if b then then_value else else_value)
 
--- IFERROR: the first unless it is an error, else the second
+-- IFERROR
 abbrev pub if_error_value : Value → Value → Value
 if_error_value (Fault e) w = w
 if_error_value v w = v
 
--- IFNA: the first unless it is #N/A, else the second
+-- IFNA
 abbrev pub if_na_value : Value → Value → Value
 if_na_value (Fault NotAvailable) w = w
 if_na_value v w = v

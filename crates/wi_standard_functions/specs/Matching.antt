@@ -10,13 +10,12 @@ use Rattle.wi_values.specs.declared.value.Value.TheVariants.{Empty, Number, Faul
 use Rattle.wi_standard_functions.specs.Comparison.{rank, order}
 use Rattle.wi_standard_functions.specs.Convert.{zero_number}
 
--- a value that can be found: Empty cells and errors match nothing
+-- Empty cells and errors match nothing
 abbrev pub can_be_found : Value → Bool
 can_be_found Empty = false
 can_be_found (Fault e) = false
 can_be_found v = true
 
--- both can be found, and are of one kind
 abbrev pub same_kind : Value → Value → Bool
 same_kind v w = can_be_found v && can_be_found w && rank v == rank w
 
@@ -25,16 +24,15 @@ abbrev pub sought_for : Value → Value
 sought_for Empty = Number zero_number
 sought_for v = v
 
--- the value has the kind of the one sought, and its order to that one passes the test
+-- it has the kind of the one sought, and its order to that passes the test
 abbrev pub is_match : (Ordering → Bool) → Value → Value → Bool
 is_match test sought v = same_kind v sought && test (order v sought)
 
--- the last place, from 0, whose value passes
 abbrev pub last_position : (Value → Bool) → List Value → Option ℕ
 last_position test vs = last_or None (map (λ p. p.0) (filter (λ p. test p.1) (enumerate_from 0 vs)))
 
--- The place that is found, from 0: for a match type of 0 the first that is equal; for one above 0 the last that is at most the
--- one sought, and for one below 0 the last that is at least that, on every list, sorted or not.
+-- The place, from 0, also where the list isn't sorted: for type 0 of the first that is equal, below 0 of the last that is at
+-- least the one sought, above 0 of the last that is at most that.
 abbrev pub match_position : numbers.Number → Value → List Value → Option ℕ
 match_position match_type sought vs =
     if int_eq match_type.num (pos 0) then position (is_match is_eq sought) vs else

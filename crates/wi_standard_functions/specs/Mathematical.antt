@@ -20,13 +20,13 @@ use Rattle.wi_standard_functions.specs.Steps.{◌>>=◌, map_until_error}
 
 -- ---- of one number, or of two
 
--- ABS: the size
+-- ABS
 abbrev pub abs_value : Value → Value
 abs_value n = do
   x ← to_number n
   Number (if int_lt x.num (pos 0) then negated x else x)
 
--- SIGN: -1, 0 or 1
+-- SIGN
 abbrev pub sign_value : Value → Value
 sign_value n = do
   x ← to_number n
@@ -56,13 +56,8 @@ power_value n m = calculated exponentiation n m
 
 -- ---- of sequences
 
--- the sum of the numbers that count, from 0 on
 abbrev pub sum_of_items : List Item → Result numbers.Number ErrorKind
 sum_of_items items = number_fold addition zero_number items
-
--- their product, from 1 on
-abbrev pub product_of_items : List Item → Result numbers.Number ErrorKind
-product_of_items items = number_fold multiplication one_number items
 
 -- SUM
 abbrev pub sum_value : List Argument → Value
@@ -73,24 +68,22 @@ sum_value args = do
 -- PRODUCT
 abbrev pub product_value : List Argument → Value
 product_value args = do
-  x ← product_of_items (sequence_of args)
+  x ← number_fold multiplication one_number (sequence_of args)
   Number x
 
 -- ---- of regions
 
--- as many rows and columns
 abbrev pub same_size : Region → Region → Bool
 same_size r s = (r.height == s.height) && (r.width == s.width)
 
--- of the second region's cells, those at the places where the first's meet the criterion
-abbrev pub cells_where : Value → Region → Region → List Item
-cells_where criterion r s = map (λ p. from_cell p.1) (filter (λ p. meets_criterion criterion p.0) (zip r.values s.values))
-
--- the cells to be added, where the two regions have one size
+-- the second's cells where the first's meet the criterion
 abbrev pub chosen_cells : Value → Region → Region → Result (List Item) ErrorKind
-chosen_cells criterion r s = if same_size r s then Ok (cells_where criterion r s) else Err BadValue
+chosen_cells criterion r s =
+    if same_size r s
+    then Ok (map (λ p. from_cell p.1) (filter (λ p. meets_criterion criterion p.0) (zip r.values s.values)))
+    else Err BadValue
 
--- SUMIF: the sum of the third's cells where the first's meet the criterion; without a third it is the first
+-- SUMIF: without a third region it is the first
 abbrev pub sum_if_value : List Argument → Value
 sum_if_value args = do
   r ← region_at args 0
@@ -100,37 +93,31 @@ sum_if_value args = do
   x ← sum_of_items cells
   Number x
 
--- the regions, where all have one size
 abbrev pub of_one_size : List Region → Result (List Region) ErrorKind
 of_one_size [] = Ok []
 of_one_size (r ∷ rs) = if list_all (same_size r) rs then Ok (r ∷ rs) else Err BadValue
 
--- a cell as a factor: one that is no Number counts 0, and an error is the result
+-- a cell that is no Number counts 0, and an error is the result
 abbrev pub factor : Value → Item
 factor (Number x) = from_cell (Number x)
 factor (Fault e) = from_cell (Fault e)
 factor v = from_cell (Number zero_number)
 
--- the factors at one place, one of each region
-abbrev pub factors_at : List Region → ℕ → List Item
-factors_at rs i = map (λ r. factor (unwrap_or (slice_get r.values i) Empty)) rs
-
--- their product, from 1 on
+-- the product of the factors at one place, one of each region
 abbrev pub product_at : List Region → ℕ → Value
 product_at rs i = do
-  x ← product_of_items (factors_at rs i)
+  x ← number_fold multiplication one_number (map (λ r. factor (unwrap_or (slice_get r.values i) Empty)) rs)
   Number x
 
--- how many places the first region has, and so all
+-- as many as the first has
 abbrev pub place_count : List Region → ℕ
 place_count [] = 0
 place_count (r ∷ rs) = length r.values
 
--- the products at each place, in row-major order
 abbrev pub products : List Region → List Item
 products rs = map (λ i. scalar (product_at rs i)) (range_with_len 0 (place_count rs))
 
--- SUMPRODUCT: the sum of the products
+-- SUMPRODUCT
 abbrev pub sum_product_value : List Argument → Value
 sum_product_value args = do
   regions ← map_until_error region_referred args

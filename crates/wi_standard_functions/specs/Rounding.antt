@@ -7,13 +7,13 @@ use Rattle.wi_standard_functions.specs.Arithmetic.{fitting}
 use Rattle.wi_standard_functions.specs.Convert.{to_number, to_whole}
 use Rattle.wi_standard_functions.specs.Steps.{◌>>=◌}
 
--- INT: the greatest whole number that is not above
+-- INT
 abbrev pub int_value : Value → Value
 int_value n = do
   x ← to_number n
   Number (floored x)
 
--- ROUND, ROUNDUP, ROUNDDOWN and TRUNC: the number rounded at so many places, by the mode of each
+-- ROUND, ROUNDUP, ROUNDDOWN and TRUNC, by the mode of each
 abbrev pub round_value : Mode → Value → Value → Value
 round_value mode n places = do
   x ← to_number n

@@ -1,24 +1,24 @@
 -- Sequences of items, as OpenFormula's NumberSequence and LogicalSequence, and what counts of them by this project's rules.
-use Rattle.std.specs.Prelude.{ℕ, Bool, List, [], ◌∷◌, map, count_by, flat_map, Option, Some, None, option_to_list, Result, Ok, Err}
+use Rattle.std.specs.Prelude.{Bool, List, [], ◌∷◌, map, flat_map, Option, Some, None, option_to_list, Result, Ok, Err}
 use Rattle.wi_fraction.specs.Number as numbers
 use Rattle.wi_values.specs.declared.value.ErrorKind.{ErrorKind}
 use Rattle.wi_values.specs.declared.value.Value.{Value}
 use Rattle.wi_values.specs.declared.value.Value.TheVariants.{Empty, Number, Text, Fault}
 use Rattle.wi_standard_functions.specs.Arguments.{Argument, Region}
+use Rattle.wi_standard_functions.specs.Arithmetic.{Operation}
 use Rattle.wi_standard_functions.specs.Convert.{to_number, to_logical}
 use Rattle.wi_standard_functions.specs.Steps.{and_then, map_until_error, fold_until_error}
 
--- an item of a sequence: the value of a cell of a reference, or a scalar
+-- the value of a cell of a reference, or of another argument
 pub data Item : Type 0 where
   from_cell : Value → Item
   scalar : Value → Item
 
--- the items of one argument: the cells of a reference, also of one cell, in row-major order; of any other its value
+-- the cells of a reference, also of one cell, in row-major order
 abbrev pub items_of_one : Value → Option Region → List Item
 items_of_one v None = scalar v ∷ []
 items_of_one v (Some r) = map from_cell r.values
 
--- the items of all arguments, from the left
 abbrev pub sequence_of : List Argument → List Item
 sequence_of args = flat_map (λ (a : Argument). items_of_one a.value a.region) args
 
@@ -26,45 +26,35 @@ abbrev pub value_of_item : Item → Value
 value_of_item (from_cell v) = v
 value_of_item (scalar v) = v
 
--- how many items have a value that passes a test
-abbrev pub count_items : (Value → Bool) → List Item → ℕ
-count_items test items = count_by (λ item. test (value_of_item item)) items
-
 -- ---- what counts of an item
 
--- its number: a scalar is converted; of cells the Numbers count, an error is the result, and any other is passed over
+-- a scalar is converted; of cells the Numbers count, an error is the result, and any other is passed over
 abbrev pub number_of_item : Item → Result (Option numbers.Number) ErrorKind
 number_of_item (from_cell (Number x)) = Ok (Some x)
 number_of_item (from_cell (Fault e)) = Err e
 number_of_item (from_cell v) = Ok None
 number_of_item (scalar v) = and_then (λ x. Ok (Some x)) (to_number v)
 
--- its truth value: a scalar is converted; of cells the Numbers and Logicals count, an error is the result, and any other is passed over
+-- the like of truth values: of cells the Numbers and Logicals count
 abbrev pub logical_of_item : Item → Result (Option Bool) ErrorKind
 logical_of_item (from_cell Empty) = Ok None
 logical_of_item (from_cell (Text t)) = Ok None
 logical_of_item (from_cell v) = and_then (λ b. Ok (Some b)) (to_logical v)
 logical_of_item (scalar v) = and_then (λ b. Ok (Some b)) (to_logical v)
 
--- all that counts of the items, or the first error met
 abbrev pub all_that_count : {B : Type 0} → (Item → Result (Option B) ErrorKind) → List Item → Result (List B) ErrorKind
 all_that_count counts items = and_then (λ found. Ok (flat_map option_to_list found)) (map_until_error counts items)
 
 abbrev pub numbers_of : List Item → Result (List numbers.Number) ErrorKind
 numbers_of items = all_that_count number_of_item items
 
-abbrev pub logicals_of : List Item → Result (List Bool) ErrorKind
-logicals_of items = all_that_count logical_of_item items
-
 -- ---- the fold of a sequence
 
--- what is calculated so far, with one more number, or none
-abbrev pub with_number : (numbers.Number → numbers.Number → Result numbers.Number ErrorKind) → numbers.Number → Option numbers.Number → Result numbers.Number ErrorKind
+abbrev pub with_number : Operation → numbers.Number → Option numbers.Number → Result numbers.Number ErrorKind
 with_number calculate x None = Ok x
 with_number calculate x (Some y) = calculate x y
 
--- what is calculated with the numbers of the items, one after another: the first error met, of an item or of a step, is the
--- result
-abbrev pub number_fold : (numbers.Number → numbers.Number → Result numbers.Number ErrorKind) → numbers.Number → List Item → Result numbers.Number ErrorKind
+-- the first error met, of an item or of a step, is the result
+abbrev pub number_fold : Operation → numbers.Number → List Item → Result numbers.Number ErrorKind
 number_fold calculate start items =
     fold_until_error (λ x item. and_then (with_number calculate x) (number_of_item item)) start items

@@ -10,16 +10,13 @@ abbrev pub ◌>>=◌ : {A : Type 0} → Result A ErrorKind → (A → Value) →
 Ok x >>= f = f x
 Err e >>= f = Fault e
 
--- the next step, or the error met before
 abbrev pub and_then : {A B : Type 0} → (A → Result B ErrorKind) → Result A ErrorKind → Result B ErrorKind
 and_then f (Ok x) = f x
 and_then f (Err e) = Err e
 
--- what a step makes of the items, one after another from the start on, or the first error met
 abbrev pub fold_until_error : {A X : Type 0} → (A → X → Result A ErrorKind) → A → List X → Result A ErrorKind
 fold_until_error step start xs = fold (λ before x. and_then (λ a. step a x) before) (Ok start) xs
 
--- what a function gives of each item, or the first error from the left
 abbrev pub map_until_error : {X Y : Type 0} → (X → Result Y ErrorKind) → List X → Result (List Y) ErrorKind
 map_until_error f [] = Ok []
 map_until_error f (x ∷ xs) = and_then (λ y. and_then (λ ys. Ok (y ∷ ys)) (map_until_error f xs)) (f x)
