@@ -1,15 +1,16 @@
 -- Cells as a formula writes them: a column in letters, a row in digits, `$` before a part that is absolute.
-use Rattle.std.specs.Prelude.{ℕ, ◌<◌, Bool, if◌then◌else◌, List, [], ◌++◌, slice_index, codes}
+use Rattle.std.specs.Prelude.{◌<◌, Bool, if◌then◌else◌, ◌++◌, slice_index, codes, []}
 use Rattle.std.specs.Char.{is_ascii_digit, is_ascii_alphabetic}
 use Rattle.std.specs.Str.{byte}
 use Rattle.wi_lexer.specs.Runs.{IsRun}
+use Rattle.wi_fraction.specs.Text.{Bytes}
 
--- The parts of a cell as written: whether the column is absolute, its letters, whether the row is, its digits.
+-- a cell as written
 pub record Cell : Type 0 where
   pub column_is_absolute : Bool
-  pub letters : List ℕ
+  pub letters : Bytes
   pub row_is_absolute : Bool
-  pub digits : List ℕ
+  pub digits : Bytes
 
 -- Some letters, and digits of which the first isn't 0.
 pub record IsCell (c : Cell) : Type 0 where
@@ -17,10 +18,8 @@ pub record IsCell (c : Cell) : Type 0 where
   pub digits : IsRun is_ascii_digit c.digits
   pub first : byte "0" < slice_index c.digits 0
 
--- a `$` where the part is absolute
-abbrev pub dollar : Bool → List ℕ
+abbrev pub dollar : Bool → Bytes
 dollar absolute = if absolute then codes "$" else []
 
--- the text of a cell
-abbrev pub cell_text : Cell → List ℕ
+abbrev pub cell_text : Cell → Bytes
 cell_text c = dollar c.column_is_absolute ++ (c.letters ++ (dollar c.row_is_absolute ++ c.digits))

@@ -1,16 +1,17 @@
 -- What a lexer answers.
-use Rattle.std.specs.Prelude.{◌≡◌, ◌≢◌, ℕ, ◌+◌, List, [], ◌++◌, length, take, drop, Option, Some, None, Result, Ok, Err}
+use Rattle.std.specs.Prelude.{◌≡◌, ◌≢◌, ◌+◌, ◌++◌, length, take, drop, Option, Some, None, Result, Ok, Err, []}
 use Rattle.wi_lexer.specs.declared.lexer.Token.{Token}
 use Rattle.wi_lexer.specs.declared.lexer.BadToken.{BadToken}
 use Rattle.wi_lexer.specs.Scan.{Scan}
 use Rattle.wi_lexer.specs.Token.{IsLongest, NoToken, after_blanks}
+use Rattle.wi_fraction.specs.Text.{Bytes}
 
 -- a text of which nothing was read
-abbrev pub start_of : List ℕ → Scan
+abbrev pub start_of : Bytes → Scan
 start_of text = record { source = text; rest = text }
 
 -- what is left after white space
-abbrev pub ahead : Scan → List ℕ
+abbrev pub ahead : Scan → Bytes
 ahead s = after_blanks s.rest
 
 -- The token is the longest at the front of what is left after white space, and the slice of the source at its span.

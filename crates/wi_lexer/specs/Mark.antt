@@ -1,10 +1,10 @@
 -- Marks of a formula.
-use Rattle.std.specs.Prelude.{ℕ, List, codes}
+use Rattle.std.specs.Prelude.{codes}
 use Rattle.wi_lexer.specs.declared.token.Mark.{Mark}
 use Rattle.wi_lexer.specs.declared.token.Mark.TheVariants.{OpenParenthesis, CloseParenthesis, Plus, Minus, Asterisk, Slash, Caret, Percent, Ampersand, Equal, NotEqual, Less, LessOrEqual, Greater, GreaterOrEqual, Semicolon}
+use Rattle.wi_fraction.specs.Text.{Bytes}
 
--- the text of a mark
-abbrev pub mark_text : Mark → List ℕ
+abbrev pub mark_text : Mark → Bytes
 mark_text OpenParenthesis = codes "("
 mark_text CloseParenthesis = codes ")"
 mark_text Plus = codes "+"

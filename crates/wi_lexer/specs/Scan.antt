@@ -1,7 +1,7 @@
 -- What a lexer shows of itself.
-use Rattle.std.specs.Prelude.{ℕ, List}
+use Rattle.wi_fraction.specs.Text.{Bytes}
 
 -- The source, and what is left of it.
 pub record Scan : Type 0 where
-  pub source : List ℕ
-  pub rest : List ℕ
+  pub source : Bytes
+  pub rest : Bytes

@@ -1,7 +1,7 @@
 -- Texts as a formula writes them (OpenFormula, "Constant Strings").
-use Rattle.std.specs.Prelude.{ℕ, List}
 use Rattle.wi_quoting.specs.Quoted.{quoted}
+use Rattle.wi_fraction.specs.Text.{Bytes}
 
 -- The text is some content in double quotes.
-pub data IsText : List ℕ → Type 0 where
-  of_content : (content : List ℕ) → IsText (quoted content)
+pub data IsText : Bytes → Type 0 where
+  of_content : (content : Bytes) → IsText (quoted content)

@@ -6,6 +6,7 @@ use Rattle.std.specs.List.{All, list_all}
 use Rattle.std.specs.Str.Parse.{AllDigits}
 use Rattle.std.proofs.lemmas.List.Elements.{All-head}
 use Rattle.std.proofs.lemmas.Bool.{and_parts}
+use Rattle.wi_fraction.specs.Decimal.{decimal_text}
 use Rattle.wi_fraction.specs.Written.{WritesDigits, plain, point}
 use Rattle.wi_lexer.specs.declared.token.Kind.{Kind}
 use Rattle.wi_lexer.specs.declared.token.Kind.TheVariants.{Number, Name, Text, Mark}
@@ -16,7 +17,7 @@ use Rattle.wi_lexer.proofs.RunLemmas.{digits_all}
 use Rattle.wi_parser.specs.declared.expr.Operator.{Operator}
 use Rattle.wi_parser.specs.declared.expr.Operator.TheVariants as operator
 use Rattle.wi_parser.specs.Symbol.{Symbol, numeral, text_literal, reference, corners, open_parenthesis, close_parenthesis, separator, infix_mark, percent_mark, what_if_name, name, refused}
-use Rattle.wi_parser.specs.Printing.{mark_of, numeral_text, symbol_text, symbols_text}
+use Rattle.wi_parser.specs.Printing.{mark_of, symbol_text, symbols_text}
 use Rattle.wi_parser.specs.Writable.{IsWritable}
 use Rattle.wi_parser.proofs.Apart.{begins, at_operand, after_operand, at_parenthesis, stands_before}
 use Rattle.wi_parser.proofs.WrittenSymbols.{kind_of, number_is}
@@ -46,7 +47,7 @@ function_first [] rest h = let no = h.start in cc
 function_first (b ∷ bs) rest h = name_first b (bs ++ rest) h.start
 
 operand_first : (s : Symbol) (rest : List ℕ) → IsWritable s → begins s ≡ true → AfterMark (symbol_text s ++ rest)
-operand_first (numeral x) rest w e = let d = number_is x w in number_first (numeral_text x) d.0 d.1 rest d.2
+operand_first (numeral x) rest w e = let d = number_is x w in number_first (decimal_text x) d.0 d.1 rest d.2
 operand_first (text_literal s) rest w e = (refl, refl)
 operand_first (reference r) rest w e = (refl, refl)
 operand_first (corners c) rest w e = (refl, refl)

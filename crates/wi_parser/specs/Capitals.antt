@@ -1,7 +1,7 @@
 -- Names in capitals.
-use Rattle.std.specs.Prelude.{ℕ, List, map}
+use Rattle.std.specs.Prelude.{map}
 use Rattle.std.specs.Char.{to_ascii_uppercase}
+use Rattle.wi_fraction.specs.Text.{Bytes}
 
--- the ASCII letters as capitals
-abbrev pub in_capitals : List ℕ → List ℕ
+abbrev pub in_capitals : Bytes → Bytes
 in_capitals = map to_ascii_uppercase

@@ -4,14 +4,14 @@ use Rattle.wi_parser.specs.declared.expr.Corners.{Corners}
 use Rattle.wi_parser.specs.declared.expr.Reference.{Reference}
 use Rattle.wi_parser.specs.Tree.{Tree, Trees, number, text, cell, rectangle, parenthesized, signed, percent, binary, what_if, call, no_trees, more_trees}
 
--- a cell, a rectangle by its corners, or a what-if: its formula cell, and each input with its replacement cell
+-- a what-if has its formula cell, and each input with its replacement cell
 pub data Leaf : Type 0 where
   cell_leaf : Reference → Leaf
   rectangle_leaf : Corners → Leaf
   what_if_leaf : Reference → List (Reference × Reference) → Leaf
 
 abbrev mutual
-  -- the leaves of a tree, from the left; a call has those of its parameters
+  -- from the left
   pub leaves : Tree → List Leaf
   leaves (number x) = []
   leaves (text s) = []

@@ -10,7 +10,6 @@ use Rattle.wi_parser.specs.Nesting.{is_too_deep}
 abbrev pub max_formula : ℕ
 max_formula = 4096
 
--- the first cause for which the symbols are refused before they are read
 abbrev pub refusal_of : List Symbol → Option ParseFault
 refusal_of ts =
     if list_any is_outside ts then Some OutOfSheet

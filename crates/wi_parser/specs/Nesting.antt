@@ -22,7 +22,7 @@ abbrev mutual
   greatest_depth no_trees = 0
   greatest_depth (more_trees t ts) = max (depth t) (greatest_depth ts)
 
--- The most parentheses that are open at once, where h are open before. One that closes none counts for nothing.
+-- The most parentheses open at once, where h are open before. One that closes none counts for nothing.
 abbrev pub deepest : ℕ → List Symbol → ℕ
 deepest h [] = h
 deepest h (open_parenthesis ∷ ts) = deepest (suc h) ts
@@ -44,6 +44,5 @@ most_signs n (x ∷ ts) = if is_sign x then most_signs (suc n) ts else max n (mo
 abbrev pub max_depth : ℕ
 max_depth = 64
 
--- parentheses or signs nest too deep
 abbrev pub is_too_deep : List Symbol → Bool
 is_too_deep ts = nat_lt max_depth (deepest 0 ts) || nat_lt max_depth (most_signs 0 ts)

@@ -1,8 +1,7 @@
 -- The text of a formula.
-use Rattle.std.specs.Prelude.{ℕ, ◌+◌, List, [], ◌++◌, codes}
+use Rattle.std.specs.Prelude.{◌+◌, List, [], ◌++◌, codes}
 use Rattle.std.specs.Fmt.{decimal}
 use Rattle.std.specs.List.{flat_map}
-use Rattle.wi_fraction.specs.Number.{Number}
 use Rattle.wi_fraction.specs.Decimal.{decimal_text}
 use Rattle.wi_values.specs.Address.{row_of, column_of, column_letters}
 use Rattle.wi_quoting.specs.Quoted.{quoted}
@@ -18,12 +17,9 @@ use Rattle.wi_parser.specs.declared.expr.Reference.{Reference}
 use Rattle.wi_parser.specs.Tree.{Tree}
 use Rattle.wi_parser.specs.Symbol.{Symbol, numeral, text_literal, reference, corners, open_parenthesis, close_parenthesis, separator, infix_mark, percent_mark, what_if_name, name, refused}
 use Rattle.wi_parser.specs.Spelling.{spelling}
+use Rattle.wi_fraction.specs.Text.{Bytes}
 
--- the text of a number: the exact decimal
-abbrev pub numeral_text : Number → List ℕ
-numeral_text x = decimal_text x
-
--- the cell of a reference: its column in capitals, `$` as written
+-- `$` as written
 abbrev pub cell_named : Reference → Cell
 cell_named r = record {
   column_is_absolute = r.column_is_absolute;
@@ -32,7 +28,6 @@ cell_named r = record {
   digits = decimal (row_of r.at + 1);
 }
 
--- the mark that an operator is written as
 abbrev pub mark_of : Operator → Mark
 mark_of Add = mark.Plus
 mark_of Subtract = mark.Minus
@@ -47,9 +42,9 @@ mark_of LessOrEqual = mark.LessOrEqual
 mark_of Greater = mark.Greater
 mark_of GreaterOrEqual = mark.GreaterOrEqual
 
--- the text of a symbol; a refused one, which no tree has, has none
-abbrev pub symbol_text : Symbol → List ℕ
-symbol_text (numeral x) = numeral_text x
+-- no tree has a refused symbol
+abbrev pub symbol_text : Symbol → Bytes
+symbol_text (numeral x) = decimal_text x
 symbol_text (text_literal s) = quoted s
 symbol_text (reference r) = reference_text (cell_named r)
 symbol_text (corners c) = rectangle_text (cell_named c.one) (cell_named c.other)
@@ -62,14 +57,11 @@ symbol_text what_if_name = codes "MULTIPLE.OPERATIONS"
 symbol_text (name f) = f
 symbol_text (refused e) = []
 
--- the texts of symbols, one after another
-abbrev pub symbols_text : List Symbol → List ℕ
+abbrev pub symbols_text : List Symbol → Bytes
 symbols_text = flat_map symbol_text
 
--- the texts of the symbols that spell a tree
-abbrev pub tree_text : Tree → List ℕ
+abbrev pub tree_text : Tree → Bytes
 tree_text t = symbols_text (spelling t)
 
--- a formula as it is printed
-abbrev pub printed : Tree → List ℕ
+abbrev pub printed : Tree → Bytes
 printed t = codes "=" ++ tree_text t

@@ -1,39 +1,34 @@
 -- Which cells a formula reads, its precedents, and which it only names.
-use Rattle.std.specs.Prelude.{◌==◌, ℕ, Bool, false, ◌||◌, List, [], ◌∷◌, map, Option, Some, None}
+use Rattle.std.specs.Prelude.{◌==◌, ℕ, Bool, false, ◌||◌, List, [], ◌∷◌, map, Option, Some}
 use Rattle.std.specs.List.{list_any, flat_map}
 use Rattle.wi_values.specs.Address.{Area, rect_of, is_within}
 use Rattle.wi_parser.specs.declared.expr.Corners.{Corners}
 use Rattle.wi_parser.specs.Tree.{Tree}
 use Rattle.wi_parser.specs.Leaves.{Leaf, cell_leaf, rectangle_leaf, what_if_leaf, leaves}
 use Rattle.wi_parser.specs.declared.content.Content.{Content}
-use Rattle.wi_parser.specs.declared.content.Content.TheVariants.{Constant, Formula}
+use Rattle.wi_parser.specs.declared.content.Content.TheVariants.{Formula}
 
--- the rectangle between two corners, both included
 abbrev pub area_of : Corners → Area
 area_of c = rect_of c.one.at c.other.at
 
--- the rectangle of one cell
 abbrev pub cell_area : ℕ → Area
 cell_area a = rect_of a a
 
 -- ---- precedents
 
--- This cell is a precedent of the leaf. All cells of a rectangle are. A what-if has its formula cell and its replacement
--- cells as precedents, and only names its inputs.
+-- A what-if has its formula cell and its replacement cells as precedents, and only names its inputs.
 abbrev pub leaf_reads : Leaf → ℕ → Bool
 leaf_reads (cell_leaf r) a = r.at == a
 leaf_reads (rectangle_leaf c) a = is_within (area_of c) a
 leaf_reads (what_if_leaf f pairs) a = f.at == a || list_any (λ p. p.1.at == a) pairs
 
--- a tree reads this cell: it is a precedent of a leaf, whichever branch is taken
+-- whichever branch is taken
 abbrev pub reads : Tree → ℕ → Bool
 reads t a = list_any (λ l. leaf_reads l a) (leaves t)
 
--- what stands in a cell reads this cell
 abbrev pub content_reads : Option Content → ℕ → Bool
-content_reads None a = false
-content_reads (Some (Constant v)) a = false
 content_reads (Some (Formula t)) a = reads t a
+content_reads o a = false
 
 -- ---- precedents as rectangles
 

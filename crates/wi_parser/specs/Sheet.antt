@@ -17,34 +17,27 @@ Sheet = List (ℕ × Content)
 abbrev pub content_of : Sheet → ℕ → Option Content
 content_of s c = lookup (is_at (nat_cmp c)) s
 
--- a constant as a content: Empty is none
 abbrev pub constant : Value → Option Content
 constant Empty = None
 constant v = Some (Constant v)
 
--- the sheet without a cell's content
 abbrev pub without : Sheet → ℕ → Sheet
 without s c = filter (λ e. not (e.0 == c)) s
 
--- the sheet with a content in a cell, or with none there
 abbrev pub with_content : Sheet → ℕ → Option Content → Sheet
 with_content s c None = without s c
 with_content s c (Some x) = insert_entry nat_cmp s c x
 
--- the sheet with a constant in a cell
 abbrev pub put : Sheet → ℕ → Value → Sheet
 put s c v = with_content s c (constant v)
 
--- the sheet with replacements put in, one after another
 abbrev pub put_all : Sheet → List Replacement → Sheet
 put_all s [] = s
 put_all s (r ∷ rs) = put_all (put s r.at r.value) rs
 
 abbrev pub has_formula : Option Content → Bool
-has_formula None = false
-has_formula (Some (Constant v)) = false
 has_formula (Some (Formula t)) = true
+has_formula o = false
 
--- the cells that have a formula
 abbrev pub cells_with_formula : Sheet → List ℕ
 cells_with_formula s = filter (λ c. has_formula (content_of s c)) (keys_of s)

@@ -10,12 +10,12 @@ use Rattle.wi_parser.specs.Leaves.{Leaf, cell_leaf, rectangle_leaf, what_if_leaf
 
 -- ---- references
 
--- a row or a column, where a sheet that has so many has it
+-- a row or a column, if a sheet with so many has it
 abbrev pub within : ℕ → ℤ → Option ℕ
 within size (pos k) = if nat_lt k size then Some k else None
 within size (negsuc k) = None
 
--- a part of a reference: an absolute one stays, and a relative one moves, where it does not leave the sheet
+-- an absolute part stays, and a relative one moves, where it does not leave the sheet
 abbrev pub part : Bool → ℕ → ℤ → ℕ → Option ℕ
 part true size by k = Some k
 part false size by k = within size (pos k +ℤ by)
@@ -30,28 +30,24 @@ column_moved right r = part r.column_is_absolute columns right (column_of r.at)
 abbrev pub in_sheet : Reference → Bool
 in_sheet r = nat_lt r.at (rows * columns)
 
--- the relative parts of a reference stay in the sheet
 unfoldable pub stays : ℤ → ℤ → Reference → Bool
 stays down right r = is_some (row_moved down r) && is_some (column_moved right r)
 
--- the reference moved down and to the right; what is absolute is as before
+-- down and to the right
 unfoldable pub moved : ℤ → ℤ → Reference → Reference
 moved down right r = record r { at = place (unwrap_or (row_moved down r) 0) (unwrap_or (column_moved right r) 0) }
 
 -- ---- trees
 
--- the references of a leaf, as they are written
 abbrev pub leaf_references : Leaf → List Reference
 leaf_references (cell_leaf r) = r ∷ []
 leaf_references (rectangle_leaf c) = c.one ∷ c.other ∷ []
 leaf_references (what_if_leaf f pairs) = f ∷ flat_map (λ q. q.0 ∷ q.1 ∷ []) pairs
 
--- all references of the tree are such
 abbrev pub all_references : (Reference → Bool) → Tree → Bool
 all_references p t = list_all p (flat_map leaf_references (leaves t))
 
 abbrev mutual
-  -- the tree with another reference in place of each
   pub map_references : (Reference → Reference) → Tree → Tree
   map_references f (number x) = number x
   map_references f (text s) = text s
@@ -68,7 +64,7 @@ abbrev mutual
   map_references_in f no_trees = no_trees
   map_references_in f (more_trees t ts) = more_trees (map_references f t) (map_references_in f ts)
 
--- the tree with each reference moved, where the relative parts of all of them stay in the sheet
+-- each reference moved, where all of them stay in the sheet
 abbrev pub shifted : ℤ → ℤ → Tree → Option Tree
 shifted down right t =
     if all_references (stays down right) t then Some (map_references (moved down right) t) else None

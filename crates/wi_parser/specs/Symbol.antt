@@ -1,5 +1,5 @@
 -- What tokens mean.
-use Rattle.std.specs.Prelude.{ℕ, List, Bool, true, false}
+use Rattle.std.specs.Prelude.{Bool, true, false}
 use Rattle.wi_fraction.specs.Number.{Number}
 use Rattle.wi_parser.specs.declared.expr.Corners.{Corners}
 use Rattle.wi_parser.specs.declared.expr.Operator.{Operator}
@@ -9,12 +9,13 @@ use Rattle.wi_parser.specs.declared.expr.Sign.{Sign}
 use Rattle.wi_parser.specs.declared.expr.Sign.TheVariants.{Plus, Minus}
 use Rattle.wi_parser.specs.declared.fault.ParseFault.{ParseFault}
 use Rattle.wi_parser.specs.declared.fault.ParseFault.TheVariants.{OutOfSheet, NumberRange}
+use Rattle.wi_fraction.specs.Text.{Bytes}
 
--- A token with its value. A refused one has none: no formula has it, for this reason.
+-- A refused token has no value: no formula has it, for this reason.
 pub data Symbol : Type 0 where
   numeral : Number → Symbol
-  -- a text, without its quotes
-  text_literal : List ℕ → Symbol
+  -- without its quotes
+  text_literal : Bytes → Symbol
   reference : Reference → Symbol
   -- a reference to a rectangle
   corners : Corners → Symbol
@@ -26,10 +27,9 @@ pub data Symbol : Type 0 where
   -- the name MULTIPLE.OPERATIONS
   what_if_name : Symbol
   -- another name, in capitals
-  name : List ℕ → Symbol
+  name : Bytes → Symbol
   refused : ParseFault → Symbol
 
--- the operator that is written as the sign is
 abbrev pub written_as : Sign → Operator
 written_as Plus = Add
 written_as Minus = Subtract

@@ -18,49 +18,46 @@ use Rattle.wi_parser.specs.Symbol.{Symbol, numeral, text_literal, reference, cor
 use Rattle.std.specs.Str.{str_eq_ignore_ascii_case}
 use Rattle.wi_values.specs.AddressReading.{address_at}
 use Rattle.wi_parser.specs.Capitals.{in_capitals}
+use Rattle.wi_fraction.specs.Text.{Bytes}
 
--- the reference to a cell as written, if the sheet has it
+-- if the sheet has the cell
 abbrev pub reference_to : Cell → Option Reference
 reference_to c =
     option_map (λ a. record { at = a; column_is_absolute = c.column_is_absolute; row_is_absolute = c.row_is_absolute }) (address_at c.letters c.digits)
 
--- the name of what-ifs, in letters of either case, or another name
-abbrev pub name_symbol : List ℕ → Symbol
+abbrev pub name_symbol : Bytes → Symbol
 name_symbol bs = if str_eq_ignore_ascii_case bs (codes "MULTIPLE.OPERATIONS") then what_if_name else name (in_capitals bs)
 
--- The text is a token, and means this symbol. A number that does not fit and a cell outside the sheet are refused.
-pub data Means : List ℕ → Symbol → Type 0 where
-  a_number : (text whole parts : List ℕ) (k : ℤ) (x : Number) → Writes text whole parts k → written_value whole parts k ≡ Some x
+-- the token means this symbol
+pub data Means : Bytes → Symbol → Type 0 where
+  a_number : (text whole parts : Bytes) (k : ℤ) (x : Number) → Writes text whole parts k → written_value whole parts k ≡ Some x
       → Means text (numeral x)
-  an_unfit_number : (text whole parts : List ℕ) (k : ℤ) → Writes text whole parts k → written_value whole parts k ≡ None
+  an_unfit_number : (text whole parts : Bytes) (k : ℤ) → Writes text whole parts k → written_value whole parts k ≡ None
       → Means text (refused NumberRange)
-  a_text : (content : List ℕ) → Means (quoted content) (text_literal content)
+  a_text : (content : Bytes) → Means (quoted content) (text_literal content)
   a_reference : (c : Cell) (r : Reference) → IsCell c → reference_to c ≡ Some r → Means (reference_text c) (reference r)
   an_outside_reference : (c : Cell) → IsCell c → reference_to c ≡ None → Means (reference_text c) (refused OutOfSheet)
   a_rectangle : (c d : Cell) (p : Corners) → IsCell c → IsCell d → reference_to c ≡ Some p.one → reference_to d ≡ Some p.other
       → Means (rectangle_text c d) (corners p)
   an_outside_rectangle : (c d : Cell) → IsCell c → IsCell d → (reference_to c ≡ None) ⊎ (reference_to d ≡ None)
       → Means (rectangle_text c d) (refused OutOfSheet)
-  a_name : (text : List ℕ) → IsName text → Means text (name_symbol text)
+  a_name : (text : Bytes) → IsName text → Means text (name_symbol text)
   an_opening_parenthesis : Means (codes "(") open_parenthesis
   a_closing_parenthesis : Means (codes ")") close_parenthesis
   a_separator : Means (codes ";") separator
   a_percent_mark : Means (codes "%") percent_mark
   an_operator : (op : Operator) → Means (mark_text (mark_of op)) (infix_mark op)
 
--- no longer token begins the bytes
-abbrev pub NoneLonger : List ℕ → List ℕ → Type 0
-NoneLonger token bytes = (other rest : List ℕ) (s : Symbol) → Means other s → other ++ rest ≡ bytes → length other ≤ length token
+abbrev pub NoneLonger : Bytes → Bytes → Type 0
+NoneLonger token bytes = (other rest : Bytes) (s : Symbol) → Means other s → other ++ rest ≡ bytes → length other ≤ length token
 
--- no token begins the bytes
-abbrev pub NoneBegins : List ℕ → Type 0
-NoneBegins bytes = (token rest : List ℕ) (s : Symbol) → Means token s → token ++ rest ≢ bytes
+abbrev pub NoneBegins : Bytes → Type 0
+NoneBegins bytes = (token rest : Bytes) (s : Symbol) → Means token s → token ++ rest ≢ bytes
 
--- The symbols of a text. White space is passed over; then the longest token comes first; where none begins, a refused
--- symbol is the last.
-pub data AreSymbols : List ℕ → List Symbol → Type 0 where
+-- White space is passed over; then the longest token comes first; where none begins, a refused symbol is the last.
+pub data AreSymbols : Bytes → List Symbol → Type 0 where
   at_the_end : AreSymbols [] []
-  white_space : (b : ℕ) (text : List ℕ) (ts : List Symbol) → is_blank b ≡ true → AreSymbols text ts → AreSymbols (b ∷ text) ts
-  a_token : (token rest : List ℕ) (s : Symbol) (ts : List Symbol) → Means token s → NoneLonger token (token ++ rest) → AreSymbols rest ts
+  white_space : (b : ℕ) (text : Bytes) (ts : List Symbol) → is_blank b ≡ true → AreSymbols text ts → AreSymbols (b ∷ text) ts
+  a_token : (token rest : Bytes) (s : Symbol) (ts : List Symbol) → Means token s → NoneLonger token (token ++ rest) → AreSymbols rest ts
       → AreSymbols (token ++ rest) (s ∷ ts)
-  no_token : (b : ℕ) (text : List ℕ) → is_blank b ≡ false → NoneBegins (b ∷ text) → AreSymbols (b ∷ text) (refused Syntax ∷ [])
+  no_token : (b : ℕ) (text : Bytes) → is_blank b ≡ false → NoneBegins (b ∷ text) → AreSymbols (b ∷ text) (refused Syntax ∷ [])

@@ -1,17 +1,17 @@
 -- A formula's tree, as definitions see it.
-use Rattle.std.specs.Prelude.{ℕ, List, [], ◌∷◌}
+use Rattle.std.specs.Prelude.{List, [], ◌∷◌}
 use Rattle.wi_fraction.specs.Number.{Number}
 use Rattle.wi_parser.specs.declared.expr.Corners.{Corners}
 use Rattle.wi_parser.specs.declared.expr.Operator.{Operator}
 use Rattle.wi_parser.specs.declared.expr.Reference.{Reference}
 use Rattle.wi_parser.specs.declared.expr.Sign.{Sign}
+use Rattle.wi_fraction.specs.Text.{Bytes}
 
 mutual
-  -- A what-if has its formula cell, and each input with its replacement cell, whose value it gets. A call has the name of its
-  -- function in capitals, and its parameters.
+  -- A what-if has its formula cell, and each input with its replacement cell, whose value it gets. A call's name is in capitals.
   pub data Tree : Type 0 where
     number : Number → Tree
-    text : List ℕ → Tree
+    text : Bytes → Tree
     cell : Reference → Tree
     rectangle : Corners → Tree
     parenthesized : Tree → Tree
@@ -19,9 +19,8 @@ mutual
     percent : Tree → Tree
     binary : Operator → Tree → Tree → Tree
     what_if : Reference → List (Reference × Reference) → Tree
-    call : List ℕ → Trees → Tree
+    call : Bytes → Trees → Tree
 
-  -- trees one after another
   pub data Trees : Type 0 where
     no_trees : Trees
     more_trees : Tree → Trees → Trees

@@ -1,5 +1,5 @@
 -- Which symbols and trees a formula's text can have.
-use Rattle.std.specs.Prelude.{◌≡◌, ℕ, ◌≤◌, List, All, true, false, codes}
+use Rattle.std.specs.Prelude.{◌≡◌, ◌≤◌, All, true, false, codes}
 use Rattle.std.specs.Str.{str_eq_ignore_ascii_case}
 use Rattle.wi_fraction.specs.Decimal.{IsUnsignedDecimal}
 use Rattle.wi_lexer.specs.Name.{IsName}
@@ -9,9 +9,10 @@ use Rattle.wi_parser.specs.Shift.{in_sheet}
 use Rattle.wi_parser.specs.Spelling.{HasSpelling, spelling}
 use Rattle.wi_parser.specs.Symbol.{Symbol, numeral, reference, corners, name}
 use Rattle.wi_parser.specs.Tree.{Tree}
+use Rattle.wi_fraction.specs.Text.{Bytes}
 
 -- The name of a function in capitals; MULTIPLE.OPERATIONS is none.
-pub record IsFunctionName (f : List ℕ) : Type 0 where
+pub record IsFunctionName (f : Bytes) : Type 0 where
   pub name : IsName f
   pub capitals : in_capitals f ≡ f
   pub other : str_eq_ignore_ascii_case f (codes "MULTIPLE.OPERATIONS") ≡ false

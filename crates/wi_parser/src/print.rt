@@ -2,6 +2,7 @@
 
 ghost use Rattle.std.specs.Prelude.{◌≡◌, ◌++◌, map, OnOk, OnErr, string_bytes};
 ghost use Rattle.std.specs.Io.{StartsWith};
+ghost use Rattle.wi_fraction.specs.Decimal.{decimal_text};
 ghost use Rattle.wi_quoting.specs.Quoted.{quoted};
 ghost use Rattle.wi_lexer.specs.Cell.{dollar, cell_text};
 ghost use Rattle.wi_lexer.specs.Mark.{mark_text};
@@ -9,7 +10,7 @@ ghost use Rattle.wi_lexer.specs.Reference.{reference_text};
 ghost use Rattle.wi_lexer.specs.Rectangle.{rectangle_text};
 ghost use Rattle.wi_parser.specs.Grammar.{pair_symbols};
 ghost use Rattle.wi_parser.specs.Printing as spec;
-ghost use Rattle.wi_parser.specs.Printing.{cell_named, numeral_text, symbols_text, tree_text, printed};
+ghost use Rattle.wi_parser.specs.Printing.{cell_named, symbols_text, tree_text, printed};
 ghost use Rattle.wi_parser.specs.Symbol.{written_as};
 ghost use Rattle.wi_parser.specs.Tree as tree;
 ghost use Rattle.wi_parser.specs.View.{tree_of, all_of, pair_of};
@@ -138,7 +139,7 @@ fn push_quoted(content: &str, out: &mut String) -> Result<(), AllocError>
 
 // Appends a number. On an error the text is as before.
 fn push_number(x: Fraction, out: &mut String) -> Result<(), AllocError>
-    ensures ok { OnOk result (string_bytes out.new ≡ string_bytes out.old ++ numeral_text x) }
+    ensures ok { OnOk result (string_bytes out.new ≡ string_bytes out.old ++ decimal_text x) }
     ensures err { OnErr result (string_bytes out.new ≡ string_bytes out.old) }
 {
     x.push_decimal(out)

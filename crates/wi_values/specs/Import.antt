@@ -1,6 +1,6 @@
 -- The longest text of a value.
 use Rattle.std.specs.Prelude.{ℕ}
 
--- the greatest length of a text in bytes
+-- in bytes
 abbrev pub max_text : ℕ
 max_text = 32767

@@ -14,7 +14,6 @@ use Rattle.wi_values.specs.contracts.replacement.ReplacementPartialEq.TheImpl as
 abbrev pub IsInOrder : List Replacement → Type 0
 IsInOrder rs = IsStrictlyIncreasing (map (λ r. r.at) rs)
 
--- replacements in the words of std's maps
 abbrev pub as_map : List Replacement → List (ℕ × Value)
 as_map rs = map (λ r. (r.at, r.value)) rs
 
@@ -22,7 +21,7 @@ as_map rs = map (λ r. (r.at, r.value)) rs
 abbrev pub replaced : List Replacement → ℕ → Option Value
 replaced rs a = lookup (is_at (nat_cmp a)) (as_map rs)
 
--- a map with replacements put in, one after another
+-- with replacements put in, one after another
 abbrev pub overridden : List (ℕ × Value) → List Replacement → List (ℕ × Value)
 overridden es [] = es
 overridden es (r ∷ rs) = overridden (insert_entry nat_cmp es r.at r.value) rs
