@@ -1,6 +1,6 @@
 -- A run on a new workbook.
-use Rattle.std.proofs.Common.{◌≡◌, ℕ, List, [], ap, ◌∙◌, refl, subst, Option, Result, Ok, Err, IfOk}
-use Rattle.std.specs.Io.KnownBytes.{Appends, Consumes}
+use Rattle.std.proofs.Common.{◌≡◌, ℕ, Bool, true, false, List, [], ap, ◌∙◌, refl, subst, Option, Result, Ok, Err, IfOk}
+use Rattle.std.proofs.lemmas.Bool.{false≢true}
 use Rattle.std.proofs.KnownBytes.{Consumes-nil, Appends-nil}
 use Rattle.wi_store.specs.declared.limits.Limits.{Limits}
 use Rattle.wi_store.specs.Store.{Stored}
@@ -8,8 +8,8 @@ use Rattle.wi_propagate.specs.KeptSheet.{KeptSheet}
 use Rattle.wi_scenarios.specs.State.{State, state_over, new_state}
 use Rattle.wi_scenarios.specs.Pending.{Book}
 use Rattle.wi_cli.specs.declared.fault.RunFault.{RunFault}
-use Rattle.wi_cli.specs.declared.fault.RunFault.TheVariants.{Memory}
-use Rattle.wi_cli.specs.Outcome.{Outcome}
+use Rattle.wi_cli.specs.declared.fault.RunFault.TheVariants.{Memory, Read, Write, ScriptLimit}
+use Rattle.wi_cli.specs.Outcome.{IsRun}
 
 -- a new workbook with these limits
 empty_within : ℕ → ℕ → State
@@ -27,17 +27,47 @@ pub is_new : {E : Type 0} (r : Result Book E) (stored : Stored) → IfOk r (λ (
 is_new (Ok book) stored b s = b ∙ s
 is_new (Err e) stored b s = tt
 
--- what `run` says of what it reads and writes
-abbrev pub Replies : Result (Unit {0}) RunFault → Option (List ℕ) → Option (List ℕ) → State → State → Option (List ℕ) → Option (List ℕ) → Type 0
-Replies r left left' s t given given' = (input : List ℕ) × (out : List ℕ) × Consumes left left' input × Appends given given' out × Outcome r left' s t input out
+is_read : Result (Unit {0}) RunFault → Bool
+is_read (Ok x) = false
+is_read (Err Memory) = false
+is_read (Err Read) = true
+is_read (Err Write) = false
+is_read (Err ScriptLimit) = false
 
-abbrev pub EndsNew : Result (Unit {0}) RunFault → Option (List ℕ) → Option (List ℕ) → Option (List ℕ) → Option (List ℕ) → Type 0
-EndsNew r left left' given given' = (last : State) × (input : List ℕ) × (out : List ℕ) × Consumes left left' input × Appends given given' out × Outcome r left' new_state last input out
+is_write : Result (Unit {0}) RunFault → Bool
+is_write (Ok x) = false
+is_write (Err Memory) = false
+is_write (Err Read) = false
+is_write (Err Write) = true
+is_write (Err ScriptLimit) = false
 
-pub not_begun : (r : Result (Unit {0}) RunFault) (left given : Option (List ℕ)) → r ≡ Err Memory → EndsNew r left left given given
-not_begun r left given e = rw e (new_state, [], [], Consumes-nil left, Appends-nil given, (refl, refl, refl))
+module _ {R W : Type 0} (remaining : R → Option (List ℕ)) (read_failed : R → Bool) (contents : W → Option (List ℕ)) (write_failed flushed : W → Bool) where
+  -- where there is no memory to begin with, nothing is done
+  pub not_run : (source : R) (sink : W) (s : State) → IsRun remaining read_failed contents write_failed flushed (Err Memory) source source sink sink s s
+  unfolding is_read is_write
+  not_run source sink s = record {
+    input = [];
+    out = [];
+    taken = Consumes-nil (remaining source);
+    written = Appends-nil (contents sink);
+    outcome = (refl, refl, refl);
+    all_read = tt;
+    reads = tt;
+    writes = tt;
+    all_sent = tt;
+    read_fault = λ i. absurd (false≢true (ap is_read i));
+    write_fault = λ i. absurd (false≢true (ap is_write i));
+    unread = λ i. refl;
+    unwritten = λ i. refl;
+  }
 
-pub ends_new : (r r' : Result (Unit {0}) RunFault) (left left' given given' : Option (List ℕ)) (first last : State) → r' ≡ r → first ≡ new_state
-    → Replies r left left' first last given given' → EndsNew r' left left' given given'
-ends_new r r' left left' given given' first last e f h =
-    rw e (last, h.0, h.1, h.2, h.3, subst (λ (s : State). Outcome r left' s last h.0 h.1) f h.4)
+  abbrev pub RunsNew : Result (Unit {0}) RunFault → (source source' : R) → (sink sink' : W) → Type 0
+  RunsNew r source source' sink sink' = (last : State) × IsRun remaining read_failed contents write_failed flushed r source source' sink sink' new_state last
+
+  pub not_begun : (r : Result (Unit {0}) RunFault) (source : R) (sink : W) → r ≡ Err Memory → RunsNew r source source sink sink
+  not_begun r source sink e = rw e (new_state, not_run source sink new_state)
+
+  pub ends_new : (r r' : Result (Unit {0}) RunFault) (source source' : R) (sink sink' : W) (first last : State) → r' ≡ r → first ≡ new_state
+      → IsRun remaining read_failed contents write_failed flushed r source source' sink sink' first last → RunsNew r' source source' sink sink'
+  ends_new r r' source source' sink sink' first last e f h =
+      rw e (last, subst (λ (s : State). IsRun remaining read_failed contents write_failed flushed r source source' sink sink' s last) f h)

@@ -5,8 +5,8 @@ use Rattle.wi_scenarios.specs.declared.refusal.Refusal.{Refusal}
 use Rattle.wi_scenarios.specs.declared.refusal.Refusal.TheVariants.{BadCommand}
 use Rattle.wi_scenarios.specs.Step.{Command, Compare, Refused}
 use Rattle.wi_cli.specs.declared.command.Command.{Command as ReadCommand}
-use Rattle.wi_cli.specs.Words.{first_word, after_word, is_all_spaces}
-use Rattle.wi_cli.specs.Inner.Operands.{of_name, of_operand, read_side}
+use Rattle.wi_cli.specs.Lines.{first_word, after_word}
+use Rattle.wi_cli.specs.Inner.Operands.{of_name, of_operand, read_side, is_all_spaces}
 use Rattle.wi_cli.specs.Inner.LookCommands.{compare_command}
 use Rattle.wi_cli.specs.Inner.Spelling.{IsCommandOf}
 

@@ -20,7 +20,7 @@ use Rattle.wi_cli.specs.Inner.Taken.{AreWhole, AreBlocks}
 use Rattle.wi_cli.specs.Inner.Turn.{TookBlock, BrokeBlock, Turned, CutShort, Stopped}
 use Rattle.wi_cli.specs.Inner.Run.{WritesReplies}
 use Rattle.wi_cli.specs.Inner.RunOutcome.{RunOutcome, WritesFrontOfReplies, limited}
-use Rattle.wi_cli.specs.Outcome.{Outcome}
+use Rattle.wi_cli.specs.Outcome.{IsRun}
 use Rattle.wi_cli.proofs.Ties.Outcomes.{same_outcome}
 use Rattle.wi_cli.proofs.ReadingLemmas.{Takes-trans}
 use Rattle.wi_cli.proofs.RunLemmas.{WritesReplies-append, WritesReplies-none}
@@ -341,7 +341,24 @@ pub all_read : (r : Result (Unit {0}) RunFault) (b : List ℕ) (p : Option (List
 all_read (Ok u) b p c q count count' m t x y k = at_end_of c q (k.block.took.at_end refl)
 all_read (Err e) b p c q count count' m t x y k = tt
 
--- the end of a run as the contract of `run` tells it
-pub told : (r : Result (Unit {0}) RunFault) (left q : Option (List ℕ)) (s t : State) (given given' : Option (List ℕ)) → (h : Ends r left q s t given given')
-    → (input : List ℕ) × (out : List ℕ) × Consumes left q input × Appends given given' out × Outcome r q s t input out
-told r left q s t given given' h = (h.0, h.1, h.2, h.3, (same_outcome r q s t h.0 h.1).0 h.4)
+-- a run as the contract of `run` tells it
+pub run_is : {R W : Type 0} (remaining : R → Option (List ℕ)) (read_failed : R → Bool) (contents : W → Option (List ℕ)) (write_failed flushed : W → Bool) (r : Result (Unit {0}) RunFault)
+    (source source' : R) (sink sink' : W) (s t : State) → Ends r (remaining source) (remaining source') s t (contents sink) (contents sink')
+    → OnOk r (IsAtEnd (remaining source')) → OnOk r (read_failed source' ≡ false) → OnOk r (write_failed sink' ≡ false) → OnOk r (flushed sink' ≡ true)
+    → (r ≡ Err Read → read_failed source' ≡ true) → (r ≡ Err Write → write_failed sink' ≡ true) → (r ≡ Err Memory → source' ≡ source) → (r ≡ Err Memory → sink' ≡ sink)
+    → IsRun remaining read_failed contents write_failed flushed r source source' sink sink' s t
+run_is remaining read_failed contents write_failed flushed r source source' sink sink' s t h all_read reads writes all_sent read_fault write_fault unread unwritten = record {
+  input = h.0;
+  out = h.1;
+  taken = h.2;
+  written = h.3;
+  outcome = (same_outcome r (remaining source') s t h.0 h.1).0 h.4;
+  all_read = all_read;
+  reads = reads;
+  writes = writes;
+  all_sent = all_sent;
+  read_fault = read_fault;
+  write_fault = write_fault;
+  unread = unread;
+  unwritten = unwritten;
+}

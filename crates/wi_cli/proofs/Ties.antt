@@ -1,5 +1,6 @@
 -- That the definitions are what the code's own contracts say.
 pub mod Uniqueness
+pub mod Codes
 pub mod Tables
 pub mod Tests
 pub mod EditSteps

@@ -1,9 +1,10 @@
 -- The commands of the script, and how each is written.
 use Rattle.std.specs.Prelude.{ℕ, Bool, true, false, List, [], ◌∷◌, Option, Some, None, codes}
-use Rattle.wi_cli.specs.Operands.{Bytes, Cell, Corners, Operand, WORD, ADDR, RECT, NAME, SESSION, SIDE, ANY, LINES, CONTENT}
+use Rattle.wi_cli.specs.Operands.{Cell, Corners, Operand, WORD, ADDR, RECT, NAME, SESSION, SIDE, ANY, LINES, CONTENT}
+use Rattle.wi_cli.specs.Lines.{Bytes}
 
--- What a line asks for, whatever its operands are worth. Edits say whether they are forced. `Csv` has the number of data lines
--- asked for and those that came. No name is the base.
+-- What a line asks for, whatever its operands are worth. `Csv` has the number of data lines asked for and those that came. No
+-- name is the base.
 pub data Command : Type 0 where
   Set : Bool → Cell → Bytes → Command
   Clear : Bool → Corners → Command

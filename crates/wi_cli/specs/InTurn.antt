@@ -1,40 +1,26 @@
 -- Two scripts that are run in turn on one workbook.
-use Rattle.std.specs.Prelude.{◌≡◌, ℕ, Bool, true, false, List, [], ◌++◌, Option, Result, Ok, Err, OnOk}
-use Rattle.std.specs.Io.KnownBytes.{Appends, Consumes, IsAtEnd}
+use Rattle.std.specs.Prelude.{◌≡◌, Bool, Option, Result, Ok, Err}
 use Rattle.wi_scenarios.specs.State.{State}
 use Rattle.wi_cli.specs.declared.fault.RunFault.{RunFault}
-use Rattle.wi_cli.specs.declared.fault.RunFault.TheVariants.{Memory, Read}
-use Rattle.wi_cli.specs.Outcome.{Outcome}
-
--- A script is run: the bytes taken of its source, the replies to their commands, and how the source then stands. What bytes
--- a source has left is told by `left`, and whether a call on it has failed by `failed`.
-pub record IsRun {R : Type 0} (left : R → Option (List ℕ)) (failed : R → Bool) (r : Result (Unit {0}) RunFault)
-    (source source' : R) (s t : State) (out : List ℕ) : Type 0 where
-  pub input : List ℕ
-  pub taken : Consumes (left source) (left source') input
-  pub outcome : Outcome r (left source') s t input out
-  pub all_read : OnOk r (IsAtEnd (left source'))
-  pub works : OnOk r (failed source' ≡ false)
-  pub read_fault : r ≡ Err Read → failed source' ≡ true
-  pub unread : r ≡ Err Memory → source' ≡ source
+use Rattle.wi_cli.specs.Lines.{Bytes}
+use Rattle.wi_cli.specs.Outcome.{IsRun}
 
 -- Where the first script was run to its end, the second is run. After a fault in the first that fault is the outcome, and
 -- nothing is read of the second.
-abbrev pub GoesOn : {R : Type 0} → (left : R → Option (List ℕ)) → (failed : R → Bool)
-    → (first r : Result (Unit {0}) RunFault) → (source source' : R) → (s t : State) → (out : List ℕ) → Type 0
-GoesOn left failed (Ok _) r source source' s t out = IsRun left failed r source source' s t out
-GoesOn left failed (Err fault) r source source' s t out =
-    (r ≡ Err fault) × (source' ≡ source) × (t ≡ s) × (out ≡ [])
+abbrev pub GoesOn : {R W : Type 0} → (remaining : R → Option Bytes) → (read_failed : R → Bool) → (contents : W → Option Bytes)
+    → (write_failed flushed : W → Bool) → (first r : Result (Unit {0}) RunFault) → (source source' : R) → (sink sink' : W)
+    → (s t : State) → Type 0
+GoesOn remaining read_failed contents write_failed flushed (Ok _) r source source' sink sink' s t =
+    IsRun remaining read_failed contents write_failed flushed r source source' sink sink' s t
+GoesOn remaining read_failed contents write_failed flushed (Err fault) r source source' sink sink' s t =
+    (r ≡ Err fault) × (source' ≡ source) × (sink' ≡ sink) × (t ≡ s)
 
--- The first script is run, and the second from the state that the first left; the replies to the first are written, and
--- then those to the second.
-pub record RunInTurn {L R : Type 0} (left₁ : L → Option (List ℕ)) (failed₁ : L → Bool) (left₂ : R → Option (List ℕ))
-    (failed₂ : R → Bool) (r : Result (Unit {0}) RunFault) (one one' : L) (two two' : R) (s t : State)
-    (given given' : Option (List ℕ)) : Type 0 where
+-- The first script is run, and the second from the state and the sink that the first left.
+pub record RunInTurn {L R W : Type 0} (remaining₁ : L → Option Bytes) (failed₁ : L → Bool) (remaining₂ : R → Option Bytes)
+    (failed₂ : R → Bool) (contents : W → Option Bytes) (write_failed flushed : W → Bool) (r : Result (Unit {0}) RunFault)
+    (one one' : L) (two two' : R) (sink sink' : W) (s t : State) : Type 0 where
   pub first : Result (Unit {0}) RunFault
+  pub between : W
   pub mid : State
-  pub sent : List ℕ
-  pub is_run : IsRun left₁ failed₁ first one one' s mid sent
-  pub rest : List ℕ
-  pub goes_on : GoesOn left₂ failed₂ first r two two' mid t rest
-  pub written : Appends given given' (sent ++ rest)
+  pub is_run : IsRun remaining₁ failed₁ contents write_failed flushed first one one' sink between s mid
+  pub goes_on : GoesOn remaining₂ failed₂ contents write_failed flushed first r two two' between sink' mid t

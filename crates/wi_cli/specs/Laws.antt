@@ -1,5 +1,5 @@
 -- That commands, lines and runs are what the code's own contracts say.
-use Rattle.std.specs.Prelude.{◌≡◌, ◌↔◌, ◌||◌, ◌-◌, ◌<◌, ◌==◌, ℕ, Bool, true, false, List, [], ◌∷◌, ◌++◌, length, map, filter, filter_map, Option, Some, None, Result, Ok, Err, if◌then◌else◌}
+use Rattle.std.specs.Prelude.{◌≡◌, ◌↔◌, ◌⊎◌, ◌||◌, ◌-◌, ◌<◌, ◌==◌, ℕ, Bool, true, false, List, [], ◌∷◌, ◌++◌, length, map, filter, filter_map, Option, Some, None, Result, Ok, Err, if◌then◌else◌}
 use Rattle.wi_values.specs.Address.{Area}
 use Rattle.wi_values.specs.AddressReading.{read_address, read_rect}
 use Rattle.wi_values.specs.declared.address.AddressFault.{AddressFault}
@@ -8,7 +8,7 @@ use Rattle.wi_scenarios.specs.declared.refusal.Refusal.TheVariants as refusal
 use Rattle.wi_scenarios.specs.State.{State}
 use Rattle.wi_scenarios.specs.Step as old
 use Rattle.wi_cli.specs.declared.fault.RunFault.{RunFault}
-use Rattle.wi_cli.specs.Lines.{without_lf}
+use Rattle.wi_cli.specs.Lines.{without_lf, Bytes}
 use Rattle.wi_cli.specs.Inner.Operands.{of_operand}
 use Rattle.wi_cli.specs.Inner.EditCommands.{fill_command_of}
 use Rattle.wi_cli.specs.Inner.TableCommand.{table_of_one, table_of_two}
@@ -17,11 +17,11 @@ use Rattle.wi_cli.specs.Inner.Blocks.{Block, lines_of, blocks, is_complete}
 use Rattle.wi_cli.specs.Inner.Script.{block_command}
 use Rattle.wi_cli.specs.Inner.Run as old_run
 use Rattle.wi_cli.specs.Inner.RunOutcome.{RunOutcome}
-use Rattle.wi_cli.specs.Operands.{Bytes, Cell, Corners, is_outside, address, area, IsAddr, IsRect}
+use Rattle.wi_cli.specs.Operands.{Cell, Corners, is_outside, address, area, IsAddr, IsRect}
 use Rattle.wi_cli.specs.Command.{Command, Set, Clear, Fill, Csv, Scenario, Drop, Base, Use, As, Show, Export, Compare, Table, Formula, Changes, Unknown, Unreadable}
-use Rattle.wi_cli.specs.Reply.{MayLackMemory, Replies, Runs}
-use Rattle.wi_cli.specs.Script.{AreCommands}
-use Rattle.wi_cli.specs.Step.{Answer, IsStep}
+use Rattle.wi_cli.specs.Reply.{MayLackMemory, Replies}
+use Rattle.wi_cli.specs.Script.{Asks, AreCommands}
+use Rattle.wi_cli.specs.Step.{Answer, IsStep, Runs}
 use Rattle.wi_cli.specs.Outcome.{Outcome}
 
 -- ---- what operands were read as
@@ -99,6 +99,10 @@ asked line = lines_of (csv_line (without_lf line))
 abbrev pub block : Bytes → List Bytes → Block
 block line taken = record { line = line; data_lines = taken; missing = asked line - length taken }
 
+-- so many data lines stand behind a line; none where it asks for none
+abbrev pub Takes : Bytes → ℕ → Type 0
+Takes line n = Asks line n ⊎ ((n ≡ 0) × ((k : ℕ) → Asks line k → ⊥))
+
 -- the rules by which `AreCommands` takes data lines, for the blocks of lines
 pub data Splits : List Bytes → List Block → Type 0 where
   none : Splits [] []
@@ -125,4 +129,4 @@ SameCommands ended lines cs = AreCommands ended lines cs → before ended lines 
 
 -- the outcome of a run is what it was
 abbrev pub SameOutcome : Result (Unit {0}) RunFault → Option Bytes → State → State → Bytes → Bytes → Type 0
-SameOutcome r left s t input out = RunOutcome r left s t input out ↔ Outcome r left s t input out
+SameOutcome r left s t input out = RunOutcome r left s t input out ↔ Outcome left s t input out r

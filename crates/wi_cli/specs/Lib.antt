@@ -1,5 +1,4 @@
 pub mod Lines
-pub mod Words
 pub mod Operands
 pub mod Command
 pub mod Edits

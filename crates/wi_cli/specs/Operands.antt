@@ -6,10 +6,7 @@ use Rattle.std.specs.Str.{all_ascii_digits}
 use Rattle.std.specs.Str.Parse.{digits_value}
 use Rattle.wi_values.specs.Address.{Area, rows, columns, place, rect_of, letters_value, is_row_number}
 use Rattle.wi_values.specs.Name.{is_name}
-use Rattle.wi_cli.specs.Words.{is_space, first_word, after_word}
-
-abbrev pub Bytes : Type 0
-Bytes = List ℕ
+use Rattle.wi_cli.specs.Lines.{Bytes, is_space, first_word, after_word}
 
 -- a cell by its row and its column, counted from 0, of any size
 pub record Cell : Type 0 where

@@ -1,40 +1,54 @@
 -- What a run of a script has done when it returns.
-use Rattle.std.specs.Prelude.{◌≡◌, ◌<◌, ◌≤◌, ◌⊎◌, Bool, true, false, List, [], ◌∷◌, ◌++◌, length, take, filter, Option, Result, Ok, Err}
-use Rattle.std.specs.List.{concat}
-use Rattle.std.specs.Io.KnownBytes.{IsAtEnd}
+use Rattle.std.specs.Prelude.{◌≡◌, ◌<◌, ◌≤◌, ◌⊎◌, Bool, true, false, List, [], ◌∷◌, ◌++◌, length, take, filter, Option, Result, Ok, Err, OnOk}
+use Rattle.std.specs.Io.KnownBytes.{Appends, Consumes, IsAtEnd}
 use Rattle.wi_scenarios.specs.State.{State}
 use Rattle.wi_cli.specs.declared.fault.RunFault.{RunFault}
 use Rattle.wi_cli.specs.declared.fault.RunFault.TheVariants.{Memory, Read, Write, ScriptLimit}
-use Rattle.wi_cli.specs.Lines.{raw_lines, is_whole, max_lines}
-use Rattle.wi_cli.specs.Operands.{Bytes}
+use Rattle.wi_cli.specs.Lines.{raw_lines, is_whole, max_lines, Bytes}
 use Rattle.wi_cli.specs.Command.{Command}
 use Rattle.wi_cli.specs.Script.{AreCommands}
-use Rattle.wi_cli.specs.Reply.{Runs}
+use Rattle.wi_cli.specs.Reply.{Replies}
 
--- the commands of lines are all answered, by these replies joined
-abbrev pub Answers : Bool → List Bytes → State → Bytes → State → Type 0
-Answers ended lines s out t = (cs : List Command) × AreCommands ended lines cs × ((rs : List Bytes) × Runs s cs rs t × (out ≡ concat rs))
+-- The commands are answered one after another, from the state s to the state t, and `out` is their replies. Where the sink fails
+-- this may end early: of a reply only a part is written, and nothing is served after it.
+abbrev pub Writes : Bool → State → List Command → Bytes → State → Type 0
+Writes fails s [] out t = (out ≡ []) × (t ≡ s)
+Writes fails s (c ∷ cs) out t =
+    ((mid : State) × (reply rest : Bytes) × Replies s c reply mid × (out ≡ reply ++ rest) × Writes fails mid cs rest t)
+    ⊎ ((fails ≡ true) × (((rest : Bytes) × Replies s c (out ++ rest) t) ⊎ ((out ≡ []) × (t ≡ s))))
 
--- the replies joined, the last perhaps cut short
-abbrev pub AreCut : List Bytes → Bytes → Type 0
-AreCut [] out = out ≡ []
-AreCut (r ∷ []) out = (rest : Bytes) × (r ≡ out ++ rest)
-AreCut (r ∷ rs) out = (more : Bytes) × (out ≡ r ++ more) × AreCut rs more
+-- ---- from the state s to the state t, and from the bytes taken to the bytes written
 
--- some of the commands of lines are answered, from the first on
-abbrev pub AnswersSome : Bool → List Bytes → State → Bytes → State → Type 0
-AnswersSome ended lines s out t =
-    (served others : List Command) × AreCommands ended lines (served ++ others) × ((rs : List Bytes) × Runs s served rs t × AreCut rs out)
+module _ (left : Option Bytes) (s t : State) (input out : Bytes) where
+  -- the commands of these lines are answered
+  abbrev pub Answers : Bool → Bool → List Bytes → Type 0
+  Answers ended fails lines = (cs : List Command) × AreCommands ended lines cs × Writes fails s cs out t
 
--- From the bytes taken to the bytes written: all commands are answered; or none, as nothing was read; or those of the lines that
--- had come whole when the source failed, or before one line more than allowed; or, where the sink failed, the first of them.
-abbrev pub Outcome : Result (Unit {0}) RunFault → Option Bytes → State → State → Bytes → Bytes → Type 0
-Outcome (Ok _) left s t input out = (length (raw_lines input) ≤ max_lines) × Answers true (raw_lines input) s out t
-Outcome (Err Memory) left s t input out = (input ≡ []) × (out ≡ []) × (t ≡ s)
-Outcome (Err Read) left s t input out =
-    (length (raw_lines input) ≤ max_lines) × Answers false (filter is_whole (raw_lines input)) s out t
-Outcome (Err ScriptLimit) left s t input out =
-    (max_lines < length (raw_lines input)) × Answers false (take max_lines (raw_lines input)) s out t
-Outcome (Err Write) left s t input out =
-    AnswersSome false (filter is_whole (take max_lines (raw_lines input))) s out t
-    ⊎ (IsAtEnd left × AnswersSome true (take max_lines (raw_lines input)) s out t)
+  abbrev pub lines : List Bytes
+  lines = raw_lines input
+
+  -- which commands are answered, for each way in which a run can end
+  abbrev pub Outcome : Result (Unit {0}) RunFault → Type 0
+  Outcome (Ok _) = (length lines ≤ max_lines) × Answers true false lines
+  Outcome (Err Memory) = (input ≡ []) × (out ≡ []) × (t ≡ s)
+  Outcome (Err Read) = (length lines ≤ max_lines) × Answers false false (filter is_whole lines)
+  Outcome (Err ScriptLimit) = (max_lines < length lines) × Answers false false (take max_lines lines)
+  Outcome (Err Write) =
+      Answers false true (filter is_whole (take max_lines lines)) ⊎ (IsAtEnd left × Answers true true (take max_lines lines))
+
+-- A run from the state s to the state t, of a source and a sink that it leaves so.
+pub record IsRun {R W : Type 0} (remaining : R → Option Bytes) (read_failed : R → Bool) (contents : W → Option Bytes)
+    (write_failed flushed : W → Bool) (r : Result (Unit {0}) RunFault) (source source' : R) (sink sink' : W) (s t : State) : Type 0 where
+  pub input : Bytes
+  pub out : Bytes
+  pub taken : Consumes (remaining source) (remaining source') input
+  pub written : Appends (contents sink) (contents sink') out
+  pub outcome : Outcome (remaining source') s t input out r
+  pub all_read : OnOk r (IsAtEnd (remaining source'))
+  pub reads : OnOk r (read_failed source' ≡ false)
+  pub writes : OnOk r (write_failed sink' ≡ false)
+  pub all_sent : OnOk r (flushed sink' ≡ true)
+  pub read_fault : r ≡ Err Read → read_failed source' ≡ true
+  pub write_fault : r ≡ Err Write → write_failed sink' ≡ true
+  pub unread : r ≡ Err Memory → source' ≡ source
+  pub unwritten : r ≡ Err Memory → sink' ≡ sink

@@ -3,9 +3,8 @@ use Rattle.std.specs.Prelude.{◌≡◌, ◌<◌, ◌≤◌, ◌⊎◌, ℕ, Boo
 use Rattle.std.specs.List.{list_all}
 use Rattle.std.specs.Option.{option_to_list}
 use Rattle.std.specs.Str.{byte, IsUtf8}
-use Rattle.wi_cli.specs.Lines.{without_lf, without_cr, max_line}
-use Rattle.wi_cli.specs.Words.{is_space}
-use Rattle.wi_cli.specs.Operands.{Bytes, Cell, IsWritten}
+use Rattle.wi_cli.specs.Lines.{without_lf, without_cr, max_line, is_space, Bytes}
+use Rattle.wi_cli.specs.Operands.{Cell, IsWritten}
 use Rattle.wi_cli.specs.Command.{Command, Csv, Unknown, Unreadable, form, data_of}
 
 -- a line without its LF and a CR before it
@@ -18,13 +17,9 @@ IsWithin line = length (without_lf line) ≤ max_line
 abbrev pub IsGood : Bytes → Type 0
 IsGood line = IsWithin line × IsUtf8 (text_of line)
 
--- The line is within the length limit and has exactly the words `csv`, any second word and a good LINES, perhaps after `force`.
+-- the line is written as `csv` with so many data lines
 abbrev pub Asks : Bytes → ℕ → Type 0
 Asks line n = IsWithin line × ((force : Bool) × (at : Option Cell) × IsWritten (text_of line) (form (Csv force at n [])))
-
--- so many data lines stand behind it; none where it asks for none
-abbrev pub Takes : Bytes → ℕ → Type 0
-Takes line n = Asks line n ⊎ ((n ≡ 0) × ((k : ℕ) → Asks line k → ⊥))
 
 -- only spaces, or a comment
 abbrev pub is_passed_over : Bytes → Bool
@@ -39,12 +34,12 @@ IsCommand line taken (Some Unknown) =
     IsGood line × (is_passed_over (text_of line) ≡ false) × ((c : Command) → IsWritten (text_of line) (form c) → ⊥)
 IsCommand line taken (Some c) = IsGood line × IsWritten (text_of line) (form c) × (data_of c ≡ taken)
 
--- the commands of lines, of a script that has ended, or of which more may come
-pub data AreCommands : Bool → List Bytes → List Command → Type 0 where
-  none : (ended : Bool) → AreCommands ended [] []
-  a_line : (ended : Bool) (line : Bytes) (taken lines : List Bytes) (o : Option Command) (cs : List Command)
-      → Takes line (length taken) → IsCommand line taken o → AreCommands ended lines cs
+-- The commands of lines. A line whose data lines haven't all come counts only where the script has ended.
+pub data AreCommands (ended : Bool) : List Bytes → List Command → Type 0 where
+  none : AreCommands ended [] []
+  a_line : (line : Bytes) (taken lines : List Bytes) (o : Option Command) (cs : List Command)
+      → Asks line (length taken) ⊎ ((taken ≡ []) × ((n : ℕ) → Asks line n → ⊥))
+      → IsCommand line taken o → AreCommands ended lines cs
       → AreCommands ended (line ∷ taken ++ lines) (option_to_list o ++ cs)
   cut_short : (line : Bytes) (taken : List Bytes) (n : ℕ) (o : Option Command) → Asks line n → length taken < n
-      → IsCommand line taken o → AreCommands true (line ∷ taken) (option_to_list o)
-  waiting : (line : Bytes) (taken : List Bytes) (n : ℕ) → Asks line n → length taken < n → AreCommands false (line ∷ taken) []
+      → IsCommand line taken o → AreCommands ended (line ∷ taken) (if ended then option_to_list o else [])

@@ -1,12 +1,13 @@
--- A step as the calls of a workbook tell it, which refuse by `Refusal`.
-use Rattle.std.specs.Prelude.{◌≡◌, ℕ, Some, Result, Ok, Err}
+-- A step as the calls of a workbook tell it, which refuse by `Refusal`, and commands with their replies one after another.
+use Rattle.std.specs.Prelude.{◌≡◌, ◌⊎◌, ℕ, List, [], ◌∷◌, map, Some, Result, Ok, Err}
 use Rattle.wi_scenarios.specs.declared.refusal.Refusal.{Refusal}
 use Rattle.wi_scenarios.specs.declared.refusal.Refusal.TheVariants as refusal
 use Rattle.wi_scenarios.specs.State.{State}
-use Rattle.wi_cli.specs.Operands.{Bytes}
+use Rattle.wi_cli.specs.Lines.{Bytes}
 use Rattle.wi_cli.specs.Command.{Command}
-use Rattle.wi_cli.specs.Causes.{Cause, BadLine, BadCommand, CutShort, Outside, TooLarge, NoScenario, InUse, TooMany, BadField, TooLong, OutOfSheet, NumberRange, TooDeep, Syntax, LeavesSheet, Stale, Loop, Full, EditLimit, order, Holds, IsFirst, stale_cell}
+use Rattle.wi_cli.specs.Causes.{Cause, BadLine, BadCommand, CutShort, Outside, TooLarge, NoScenario, InUse, TooMany, BadField, TooLong, OutOfSheet, NumberRange, TooDeep, Syntax, LeavesSheet, Stale, Loop, Full, EditLimit, order, Holds, stale_cell}
 use Rattle.wi_cli.specs.Does.{Does}
+use Rattle.wi_cli.specs.Reply.{Replies}
 
 -- the new state and the records, or a refusal
 abbrev pub Answer : Type 0
@@ -34,6 +35,21 @@ Tells s c Loop e = e ≡ refusal.Loop
 Tells s c Full e = e ≡ refusal.Full
 Tells s c EditLimit e = e ≡ refusal.EditLimit
 
+-- the causes in their order, and the first that holds
+abbrev pub causes : List Cause
+causes = map (λ x. x.0) order
+
+abbrev pub IsFirstOf : State → Command → List Cause → Cause → Type 0
+IsFirstOf s c [] cause = ⊥
+IsFirstOf s c (x ∷ xs) cause = (Holds s x c × (cause ≡ x)) ⊎ ((Holds s x c → ⊥) × IsFirstOf s c xs cause)
+
 abbrev pub IsStep : State → Command → Answer → Type 0
-IsStep s c (Err e) = (cause : Cause) × IsFirst s c order cause × Tells s c cause e
+IsStep s c (Err e) = (cause : Cause) × IsFirstOf s c causes cause × Tells s c cause e
 IsStep s c (Ok done) = ((cause : Cause) → Holds s cause c → ⊥) × Does s c done
+
+-- the commands have these replies, one after another, and leave this state at the end
+abbrev pub Runs : State → List Command → List Bytes → State → Type 0
+Runs s [] [] t = t ≡ s
+Runs s (c ∷ cs) (r ∷ rs) t = (mid : State) × Replies s c r mid × Runs mid cs rs t
+Runs s [] (r ∷ rs) t = ⊥
+Runs s (c ∷ cs) [] t = ⊥

@@ -4,8 +4,8 @@ ghost use Rattle.std.specs.Prelude.{◌≡◌, ◌≤◌, length, min, IfSome};
 ghost use Rattle.std.specs.List.{prefix_len, position_or_len};
 ghost use Rattle.std.specs.Str.{is_utf8, all_ascii_digits};
 ghost use Rattle.std.specs.Str.Parse.{digits_value};
-ghost use Rattle.wi_cli.specs.Lines.{without_cr};
-ghost use Rattle.wi_cli.specs.Words.{is_space, skip_spaces, first_word, after_word, is_all_spaces};
+ghost use Rattle.wi_cli.specs.Lines.{without_cr, is_space, skip_spaces, first_word, after_word};
+ghost use Rattle.wi_cli.specs.Inner.Operands.{is_all_spaces};
 ghost use Rattle.wi_cli.specs.Inner.CsvCommand.{read_lines, csv_operands, csv_named, csv_text, csv_line};
 ghost use Rattle.wi_cli.specs.Inner.Data.{IsCsv};
 

@@ -1,6 +1,6 @@
 //! The commands that edit the sheet, as they are read. They may be forced.
 
-ghost use Rattle.wi_cli.specs.Words.{first_word, after_word};
+ghost use Rattle.wi_cli.specs.Lines.{first_word, after_word};
 ghost use Rattle.wi_cli.specs.Inner.EditCommands.{set_command, clear_command, fill_command, fill_command_of, edit_command};
 ghost use Rattle.wi_cli.specs.Inner.Spelling.{IsCommandOf};
 

@@ -1,9 +1,8 @@
 //! A run on a new workbook, and the status that it ends with.
 
-ghost use Rattle.std.specs.Prelude.{◌≡◌, ◌≤◌, ℕ, List, [], Err, IfOk, OnOk, true, false};
-ghost use Rattle.std.specs.Io.KnownBytes.{Appends, Consumes, IsAtEnd};
+ghost use Rattle.std.specs.Prelude.{◌≡◌, ◌≤◌, [], IfOk, false};
 ghost use Rattle.wi_scenarios.specs.State.{State, new_state, state_over};
-ghost use Rattle.wi_cli.specs.Outcome.{Outcome};
+ghost use Rattle.wi_cli.specs.Outcome.{IsRun};
 ghost use Rattle.wi_cli.specs.Status.{ending_status};
 
 use crate::fault::{RunFault, fault_status};
@@ -71,18 +70,9 @@ pub fn run_new<R: Source, W: Sink>(
     requires writes { W.has_failed writer.old ≡ false }
 
     // The bytes written are the replies to the commands of the bytes read, from an empty sheet on.
-    ensures replies { (last : State) × (input out : List ℕ)
-        × Consumes (R.remaining reader.old) (R.remaining reader.new) input
-        × Appends (W.contents writer.old) (W.contents writer.new) out
-        × Outcome result.outcome (R.remaining reader.new) new_state last input out }
-    ensures all_read { OnOk result.outcome (IsAtEnd (R.remaining reader.new)) }
-    ensures reads { OnOk result.outcome (R.has_failed reader.new ≡ false) }
-    ensures writes { OnOk result.outcome (W.has_failed writer.new ≡ false) }
-    ensures all_sent { OnOk result.outcome (W.flushed writer.new ≡ true) }
-    ensures read_fault { result.outcome ≡ Err RunFault.Read → R.has_failed reader.new ≡ true }
-    ensures write_fault { result.outcome ≡ Err RunFault.Write → W.has_failed writer.new ≡ true }
-    ensures unread { result.outcome ≡ Err RunFault.Memory → reader.new ≡ reader.old }
-    ensures unwritten { result.outcome ≡ Err RunFault.Memory → writer.new ≡ writer.old }
+    ensures runs { (last : State)
+        × IsRun R.remaining R.has_failed W.contents W.has_failed W.flushed result.outcome
+        reader.old reader.new writer.old writer.new new_state last }
     ensures status { result.status ≡ ending_status result.outcome }
 {
     let Ok(mut book) = new_workbook(alloc, keep) else {

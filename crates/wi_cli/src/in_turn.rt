@@ -1,6 +1,6 @@
 //! Two scripts that are run in turn on one workbook: one that is loaded, and then another.
 
-ghost use Rattle.std.specs.Prelude.{◌≡◌, ◌≤◌, Err, OnOk, true, false};
+ghost use Rattle.std.specs.Prelude.{◌≡◌, ◌≤◌, false};
 ghost use Rattle.wi_scenarios.specs.State.{State, new_state};
 ghost use Rattle.wi_cli.specs.InTurn.{RunInTurn};
 ghost use Rattle.wi_cli.specs.Status.{ending_status};
@@ -28,12 +28,8 @@ pub fn run_in_turn<L: Source, R: Source, W: Sink, C: Calculator>(
     requires writes { W.has_failed writer.old ≡ false }
 
     // The bytes written are the replies to the commands of the one, and then to those of the other.
-    ensures replies { RunInTurn L.remaining L.has_failed R.remaining R.has_failed result
-        load.old load.new reader.old reader.new book.old.state book.new.state
-        (W.contents writer.old) (W.contents writer.new) }
-    ensures writes { OnOk result (W.has_failed writer.new ≡ false) }
-    ensures all_sent { OnOk result (W.flushed writer.new ≡ true) }
-    ensures write_fault { result ≡ Err RunFault.Write → W.has_failed writer.new ≡ true }
+    ensures runs { RunInTurn L.remaining L.has_failed R.remaining R.has_failed W.contents W.has_failed W.flushed result
+        load.old load.new reader.old reader.new writer.old writer.new book.old.state book.new.state }
 {
     run(alloc, load, writer, book)?;
     run(alloc, reader, writer, book)
@@ -54,13 +50,9 @@ pub fn run_new_in_turn<L: Source, R: Source, W: Sink>(
     requires writes { W.has_failed writer.old ≡ false }
 
     // The bytes written are the replies to the commands of the one, from an empty sheet on, and then to those of the other.
-    ensures replies { (last : State)
-        × RunInTurn L.remaining L.has_failed R.remaining R.has_failed result.outcome
-        load.old load.new reader.old reader.new new_state last
-        (W.contents writer.old) (W.contents writer.new) }
-    ensures writes { OnOk result.outcome (W.has_failed writer.new ≡ false) }
-    ensures all_sent { OnOk result.outcome (W.flushed writer.new ≡ true) }
-    ensures write_fault { result.outcome ≡ Err RunFault.Write → W.has_failed writer.new ≡ true }
+    ensures runs { (last : State)
+        × RunInTurn L.remaining L.has_failed R.remaining R.has_failed W.contents W.has_failed W.flushed result.outcome
+        load.old load.new reader.old reader.new writer.old writer.new new_state last }
     ensures status { result.status ≡ ending_status result.outcome }
 {
     let Ok(mut book) = new_workbook(alloc, keep) else {

@@ -4,7 +4,7 @@ ghost use Rattle.std.specs.Prelude.{Bool, List, Option, Result};
 ghost use Rattle.wi_scenarios.specs.State.{State};
 ghost use Rattle.wi_cli.specs.declared.fault.RunFault.{RunFault};
 ghost use Rattle.wi_cli.specs.Inner.Blocks.{blocks};
-ghost use Rattle.wi_cli.specs.Operands.{Bytes};
+ghost use Rattle.wi_cli.specs.Lines.{Bytes};
 ghost use Rattle.wi_cli.specs.Command.{Command};
 ghost use Rattle.wi_cli.specs.Laws.{before, HasCommands, HasOneAnswer, SameAddr, SameCommands, SameLack, SameOutcome, SameRect, SameReply, SameRuns, SameStep, Splits};
 

@@ -1,10 +1,10 @@
 //! Runs a script.
 
-ghost use Rattle.std.specs.Prelude.{◌≡◌, ◌+◌, ◌≤◌, List, ℕ, OnOk, OnErr, IfErr, MatchResult, Ok, Err, false, true, vec_capacity};
-ghost use Rattle.std.specs.Io.KnownBytes.{Appends, Consumes, IsAtEnd, Keeps};
+ghost use Rattle.std.specs.Prelude.{◌≡◌, ◌+◌, ◌≤◌, OnOk, OnErr, IfErr, MatchResult, Ok, Err, false, true, vec_capacity};
+ghost use Rattle.std.specs.Io.KnownBytes.{Keeps};
 ghost use Rattle.wi_cli.specs.Inner.Turn.{Turned, Stopped};
 ghost use Rattle.wi_cli.specs.Lines.{max_lines};
-ghost use Rattle.wi_cli.specs.Outcome.{Outcome};
+ghost use Rattle.wi_cli.specs.Outcome.{IsRun};
 
 use crate::blocks::{read_block, serve_block};
 use crate::chunk::Chunk;
@@ -85,18 +85,8 @@ pub fn run<R: Source, W: Sink, C: Calculator>(
     requires writes { W.has_failed writer.old ≡ false }
 
     // The bytes written are the replies to the commands of the bytes read.
-    ensures replies { (input out : List ℕ)
-        × Consumes (R.remaining reader.old) (R.remaining reader.new) input
-        × Appends (W.contents writer.old) (W.contents writer.new) out
-        × Outcome result (R.remaining reader.new) book.old.state book.new.state input out }
-    ensures all_read { OnOk result (IsAtEnd (R.remaining reader.new)) }
-    ensures reads { OnOk result (R.has_failed reader.new ≡ false) }
-    ensures writes { OnOk result (W.has_failed writer.new ≡ false) }
-    ensures all_sent { OnOk result (W.flushed writer.new ≡ true) }
-    ensures read_fault { result ≡ Err RunFault.Read → R.has_failed reader.new ≡ true }
-    ensures write_fault { result ≡ Err RunFault.Write → W.has_failed writer.new ≡ true }
-    ensures unread { result ≡ Err RunFault.Memory → reader.new ≡ reader.old }
-    ensures unwritten { result ≡ Err RunFault.Memory → writer.new ≡ writer.old }
+    ensures runs { IsRun R.remaining R.has_failed W.contents W.has_failed W.flushed result
+        reader.old reader.new writer.old writer.new book.old.state book.new.state }
 {
     let Ok(mut line) = Vec::with_capacity(alloc, MAX_LINE + 1) else {
         return Err(RunFault::Memory);

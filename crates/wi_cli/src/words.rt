@@ -1,7 +1,8 @@
 //! The words of a line.
 
 ghost use Rattle.std.specs.Prelude.{◌≡◌};
-ghost use Rattle.wi_cli.specs.Words.{first_word, after_word, is_all_spaces, skip_spaces};
+ghost use Rattle.wi_cli.specs.Lines.{first_word, after_word, skip_spaces};
+ghost use Rattle.wi_cli.specs.Inner.Operands.{is_all_spaces};
 
 /// The text without the spaces that it begins with.
 fn skip_spaces(text: &str) -> &str

@@ -15,9 +15,9 @@ use Rattle.wi_values.specs.declared.value.Value.{Value}
 use Rattle.wi_parser.specs.declared.content.Content.{Content}
 use Rattle.wi_parser.specs.declared.content.Content.TheVariants.{Constant}
 use Rattle.wi_import.specs.declared.fault.ImportFault.{ImportFault}
-use Rattle.wi_import.specs.Fields.{Field, field_cell, IsInside, IsText}
+use Rattle.wi_import.specs.Fields.{Field, IsInside}
 use Rattle.wi_import.specs.Imports.{IsFieldContent, no_content, a_constant, IsChange, AreChanges, IsFault, bad_field, too_long, out_of_sheet, IsImport}
-use Rattle.wi_import.specs.Inner.Reading.{is_bad, is_too_long, is_outside, content_for, content_of, change_of, first_fault, fault_among, unless_fault, import_of}
+use Rattle.wi_import.specs.Inner.Reading.{is_bad, is_too_long, is_outside, content_for, content_of, change_of, first_fault, fault_among, unless_fault, import_of, field_cell, IsText}
 
 abbrev Outcome : Type 0
 Outcome = Result (List (ℕ × Option Content)) ImportFault

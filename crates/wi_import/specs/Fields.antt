@@ -1,6 +1,6 @@
--- The fields of a CSV text, each with the cell for which it is.
-use Rattle.std.specs.Prelude.{ℕ, ◌+◌, ◌<◌, List, [], ◌∷◌, ◌++◌, IsUtf8}
-use Rattle.wi_values.specs.Address.{rows, columns, place, row_of, column_of}
+-- The fields of a CSV text, each with the cell for which it is, and the rectangles that they fill.
+use Rattle.std.specs.Prelude.{ℕ, ◌+◌, ◌<◌, List, [], ◌∷◌, ◌++◌, length}
+use Rattle.wi_values.specs.Address.{Area, rows, columns, place, row_of, column_of}
 use Rattle.wi_csv.specs.Records.{recs}
 
 -- a field, with the row and the column for which it is, both counted from 0
@@ -9,17 +9,9 @@ pub record Field : Type 0 where
   pub column : ℕ
   pub bytes : List ℕ
 
--- the cell for which it is
-abbrev pub field_cell : Field → ℕ
-field_cell f = place f.row f.column
-
 -- the sheet has that cell
 abbrev pub IsInside : Field → Type 0
 IsInside f = (f.row < rows) × (f.column < columns)
-
--- it is a text
-abbrev pub IsText : Field → Type 0
-IsText f = IsUtf8 f.bytes
 
 -- the fields of a record, from a column on
 abbrev pub fields_of : ℕ → ℕ → List (List ℕ) → List Field
@@ -34,3 +26,14 @@ fields_from row column (fields ∷ more) = fields_of row column fields ++ fields
 -- the fields of a text, the first for the cell `at`
 abbrev pub fields_at : ℕ → List ℕ → List Field
 fields_at at text = fields_from (row_of at) (column_of at) (recs text)
+
+-- the cells of each record, a part of its row from a column on; a record with no field has none
+abbrev pub areas_from : ℕ → ℕ → List (List (List ℕ)) → List Area
+areas_from row column [] = []
+areas_from row column ([] ∷ more) = areas_from (row + 1) column more
+areas_from row column ((field ∷ others) ∷ more) =
+    record { first = place row column; last = place row (column + length others) } ∷ areas_from (row + 1) column more
+
+-- the rectangles of a text's records, the first from the cell `at` on
+abbrev pub areas_at : ℕ → List ℕ → List Area
+areas_at at text = areas_from (row_of at) (column_of at) (recs text)

@@ -1,38 +1,35 @@
 -- What an import of fields puts into their cells, or why it is refused.
-use Rattle.std.specs.Prelude.{◌≡◌, ◌≢◌, ℕ, List, [], Option, Some, None, Result, Ok, Err, All}
+use Rattle.std.specs.Prelude.{◌≡◌, ◌≢◌, ℕ, List, [], Option, Some, None, Result, Ok, Err, All, IsUtf8}
 use Rattle.std.specs.List.{Any, AllZip}
+use Rattle.wi_values.specs.Address.{place}
 use Rattle.wi_values.specs.declared.value.Value.{Value}
 use Rattle.wi_values.specs.Imported.{IsImported}
 use Rattle.wi_parser.specs.declared.content.Content.{Content}
 use Rattle.wi_parser.specs.declared.content.Content.TheVariants.{Constant}
 use Rattle.wi_import.specs.declared.fault.ImportFault.{ImportFault}
 use Rattle.wi_import.specs.declared.fault.ImportFault.TheVariants.{BadField, TooLong, OutOfSheet}
-use Rattle.wi_import.specs.Fields.{Field, field_cell, IsInside, IsText}
+use Rattle.wi_import.specs.Fields.{Field, IsInside}
 
--- What the cell of a field of these bytes gets: no content where there are none, and else what they are taken for.
+-- what the cell of a field of these bytes gets
 pub data IsFieldContent : List ℕ → Option Content → Type 0 where
   no_content : IsFieldContent [] None
   a_constant : (bytes : List ℕ) (v : Value) → bytes ≢ [] → IsImported bytes (Some v) → IsFieldContent bytes (Some (Constant v))
 
 -- the change that a field brings: a cell, and what it gets
 abbrev pub IsChange : Field → ℕ × Option Content → Type 0
-IsChange f change = (change.0 ≡ field_cell f) × IsFieldContent f.bytes change.1
+IsChange f change = (change.0 ≡ place f.row f.column) × IsFieldContent f.bytes change.1
 
 -- These are the changes that the fields bring, in the order of the fields, and no field has a fault.
 pub record AreChanges (fields : List Field) (changes : List (ℕ × Option Content)) : Type 0 where
-  pub texts : All IsText fields
+  pub texts : All (λ f. IsUtf8 f.bytes) fields
   pub inside : All IsInside fields
   pub each : AllZip IsChange fields changes
 
--- a field is too long for a text, and nothing else
-abbrev pub IsTooLong : Field → Type 0
-IsTooLong f = IsImported f.bytes None
-
 -- The fields are refused for this fault: of those that some field has, the first in this order.
 pub data IsFault : List Field → ImportFault → Type 0 where
-  bad_field : (fields : List Field) → Any (λ f. IsText f → ⊥) fields → IsFault fields BadField
-  too_long : (fields : List Field) → All IsText fields → Any IsTooLong fields → IsFault fields TooLong
-  out_of_sheet : (fields : List Field) → All IsText fields → All (λ f. IsTooLong f → ⊥) fields → Any (λ f. IsInside f → ⊥) fields
+  bad_field : (fields : List Field) → Any (λ f. IsUtf8 f.bytes → ⊥) fields → IsFault fields BadField
+  too_long : (fields : List Field) → All (λ f. IsUtf8 f.bytes) fields → Any (λ f. IsImported f.bytes None) fields → IsFault fields TooLong
+  out_of_sheet : (fields : List Field) → All (λ f. IsUtf8 f.bytes) fields → All (λ f. IsImported f.bytes None → ⊥) fields → Any (λ f. IsInside f → ⊥) fields
       → IsFault fields OutOfSheet
 
 -- what an import of fields comes to: the changes, or the fault

@@ -1,4 +1,3 @@
 pub mod Fields
-pub mod Areas
 pub mod Imports
 pub mod Inner

@@ -3,8 +3,7 @@
 ghost use Rattle.std.specs.Prelude.{◌≡◌, false, IfOk};
 ghost use Rattle.std.specs.List.{list_any};
 ghost use Rattle.wi_values.specs.Address.{row_of, column_of};
-ghost use Rattle.wi_import.specs.Areas.{areas_from};
-ghost use Rattle.wi_import.specs.Fields.{fields_of, fields_from};
+ghost use Rattle.wi_import.specs.Fields.{fields_of, fields_from, areas_from};
 ghost use Rattle.wi_import.specs.Inner.Reading.{is_outside};
 ghost use Rattle.wi_import.specs.Inner.Records.{bytes_of, all_bytes, area_of_record};
 

@@ -1,8 +1,7 @@
 //! An import of CSV text.
 
 ghost use Rattle.std.specs.Prelude.{◌≡◌, ◌≢◌, IfOk, IfErr};
-ghost use Rattle.wi_import.specs.Areas.{areas_at};
-ghost use Rattle.wi_import.specs.Fields.{fields_at};
+ghost use Rattle.wi_import.specs.Fields.{fields_at, areas_at};
 ghost use Rattle.wi_import.specs.Imports.{AreChanges, IsFault};
 ghost use Rattle.wi_import.specs.declared.fault.ImportFault.TheVariants.{Memory};
 

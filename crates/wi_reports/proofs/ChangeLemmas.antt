@@ -4,7 +4,8 @@ use Rattle.std.specs.List.{sum_by}
 use Rattle.std.proofs.lemmas.List.Sums.{sum_by-cons}
 use Rattle.wi_values.specs.declared.value.Value.{Value}
 use Rattle.wi_store.specs.Store.{Stored}
-use Rattle.wi_sessions.specs.Pictures.{same_value, value_in, changes_among}
+use Rattle.wi_sessions.specs.Pictures.{same_value, value_in}
+use Rattle.wi_sessions.specs.Pictures.Laws.{changes_among}
 
 -- the cells from one on
 from_here : (cells : List ℕ) (i a : ℕ) → i < length cells → a ≡ get_or cells i a → drop i cells ≡ a ∷ drop (i + 1) cells

@@ -8,7 +8,7 @@ use Rattle.wi_values.specs.declared.replacement.Replacement.{Replacement}
 use Rattle.wi_store.specs.Store.{Stored}
 use Rattle.wi_csv.specs.Row as csv
 use Rattle.wi_csv.proofs.Growth.{starts_itself, starts_more}
-use Rattle.wi_reports.specs.Rows.{row_shown}
+use Rattle.wi_reports.specs.Inner.Parts.{row_shown}
 
 -- what is appended, or nothing
 pub grown : {E : Type 0} (r : Result (Unit {0}) E) (before more next : List ℕ) → OnOk r (next ≡ before ++ more) → OnErr r (next ≡ before) → StartsWith next before

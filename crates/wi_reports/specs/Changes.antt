@@ -7,7 +7,7 @@ use Rattle.wi_values.specs.declared.value.Value.{Value}
 use Rattle.wi_values.specs.declared.value.Value.TheVariants.{Empty, Number, Text, Logical, Fault}
 use Rattle.wi_csv.specs.Row.{row}
 
--- the letter of a value's kind: N a number, T a text, L a truth value, E an error; and a minus for Empty
+-- the letter of a value's kind
 abbrev pub kind_text : Value → List ℕ
 kind_text Empty = codes "-"
 kind_text (Number x) = codes "N"
@@ -15,9 +15,6 @@ kind_text (Text t) = codes "T"
 kind_text (Logical b) = codes "L"
 kind_text (Fault e) = codes "E"
 
-abbrev pub change_record : ℕ × Value → List ℕ
-change_record e = row (address_text e.0 ∷ kind_text e.1 ∷ shown_text e.1 ∷ [])
-
 -- the records of a list of changes
 abbrev pub change_records : List (ℕ × Value) → List ℕ
-change_records es = flat_map change_record es
+change_records es = flat_map (λ e. row (address_text e.0 ∷ kind_text e.1 ∷ shown_text e.1 ∷ [])) es

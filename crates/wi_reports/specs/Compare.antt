@@ -30,10 +30,6 @@ abbrev pub difference_record : ℕ → Value → Value → List ℕ
 difference_record a v w =
     if same_value v w then [] else row (address_text a ∷ shown_text v ∷ shown_text w ∷ difference_text v w ∷ [])
 
--- the record of a cell
-abbrev pub cell_compared : Sheet → List Replacement → List Replacement → ℕ → List ℕ
-cell_compared sheet p q a = difference_record a (shown sheet p a) (shown sheet q a)
-
 -- the records of a rectangle, in row-major order
 abbrev pub cells_compared : Sheet → List Replacement → List Replacement → Area → List ℕ
-cells_compared sheet p q area = flat_map (cell_compared sheet p q) (cells_of area)
+cells_compared sheet p q area = flat_map (λ a. difference_record a (shown sheet p a) (shown sheet q a)) (cells_of area)

@@ -1,7 +1,7 @@
 pub mod Rows
-pub mod Export
 pub mod Table
 pub mod Contents
 pub mod Compare
 pub mod Looks
+pub mod Inner
 pub mod Changes

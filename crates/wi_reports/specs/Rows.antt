@@ -1,6 +1,7 @@
 -- The shown texts of a rectangle, a record for each row.
-use Rattle.std.specs.Prelude.{ℕ, List, map}
-use Rattle.std.specs.List.{flat_map}
+use Rattle.std.specs.Prelude.{ℕ, ◌==◌, List, ◌++◌, map, codes, decimal}
+use Rattle.std.specs.List.{flat_map, count_by}
+use Rattle.std.specs.Str.{byte}
 use Rattle.wi_values.specs.Address.{Area, rows_in, cells_of_row}
 use Rattle.wi_values.specs.Value as value
 use Rattle.wi_values.specs.declared.replacement.Replacement.{Replacement}
@@ -12,10 +13,10 @@ use Rattle.wi_csv.specs.Row.{row}
 abbrev pub text_under : Sheet → List Replacement → ℕ → List ℕ
 text_under sheet put c = value.shown_text (cell.shown sheet put c)
 
--- the record of one row of a rectangle
-abbrev pub row_shown : Sheet → List Replacement → Area → ℕ → List ℕ
-row_shown sheet put area r = row (map (text_under sheet put) (cells_of_row r area))
-
 -- the records of a rectangle
 abbrev pub rows_shown : Sheet → List Replacement → Area → List ℕ
-rows_shown sheet put area = flat_map (row_shown sheet put area) (rows_in area)
+rows_shown sheet put area = flat_map (λ r. row (map (text_under sheet put) (cells_of_row r area))) (rows_in area)
+
+-- records after a line that tells how many lines they are, by their LF bytes
+abbrev pub export_of : List ℕ → List ℕ
+export_of records = codes "lines " ++ decimal (count_by (λ b. b == byte "\n") records) ++ codes "\n" ++ records

@@ -9,30 +9,25 @@ use Rattle.wi_sheet.specs.TableEntry.{table_entry}
 use Rattle.wi_reports.specs.Rows.{text_under}
 use Rattle.wi_csv.specs.Row.{row}
 
--- the text of an entry, for pairs of an input and the cell whose value takes its place
-abbrev pub entry_text : Sheet → List Replacement → ℕ → List (ℕ × ℕ) → List ℕ
-entry_text sheet put f pairs = shown_text (table_entry sheet put f pairs)
+module _ (sheet : Sheet) (put : List Replacement) where
+  -- the text of an entry, for pairs of an input and the cell whose value takes its place
+  abbrev pub entry_text : ℕ → List (ℕ × ℕ) → List ℕ
+  entry_text f pairs = shown_text (table_entry sheet put f pairs)
 
--- the pairs of an entry: the first input, and perhaps a second one
-abbrev pub pairs_at : ℕ → ℕ → ℕ → ℕ → List (ℕ × ℕ)
-pairs_at r x c y = (r, x) ∷ (c, y) ∷ []
+  -- the entries beside a cell of the column: one, or one for each cell of the row
+  abbrev pub entries_beside : ℕ → ℕ → Option (ℕ × Area) → ℕ → List (List ℕ)
+  entries_beside f r None x = entry_text f ((r, x) ∷ []) ∷ []
+  entries_beside f r (Some second) x = map (λ y. entry_text f ((r, x) ∷ (second.0, y) ∷ [])) (cells_of second.1)
 
--- the entries beside a cell of the column: one, or one for each cell of the row
-abbrev pub entries_beside : Sheet → List Replacement → ℕ → ℕ → Option (ℕ × Area) → ℕ → List (List ℕ)
-entries_beside sheet put f r None x = entry_text sheet put f ((r, x) ∷ []) ∷ []
-entries_beside sheet put f r (Some second) x = map (λ y. entry_text sheet put f (pairs_at r x second.0 y)) (cells_of second.1)
+  -- the record above a table of two inputs: an empty field, and the texts of the row
+  abbrev pub head : Option (ℕ × Area) → List ℕ
+  head None = []
+  head (Some second) = row ([] ∷ map (text_under sheet put) (cells_of second.1))
 
--- the record of a cell of the column: its text, and the entries beside it
-abbrev pub table_row : Sheet → List Replacement → ℕ → ℕ → Option (ℕ × Area) → ℕ → List ℕ
-table_row sheet put f r second x = row (text_under sheet put x ∷ entries_beside sheet put f r second x)
-
--- the record above a table of two inputs: an empty field, and the texts of the row
-abbrev pub head : Sheet → List Replacement → Option (ℕ × Area) → List ℕ
-head sheet put None = []
-head sheet put (Some second) = row ([] ∷ map (text_under sheet put) (cells_of second.1))
-
-abbrev pub table_of : Sheet → List Replacement → ℕ → ℕ → Area → Option (ℕ × Area) → List ℕ
-table_of sheet put f r xs second = head sheet put second ++ flat_map (table_row sheet put f r second) (cells_of xs)
+  -- under the head a record for each cell of the column: its text, and the entries beside it
+  abbrev pub table_of : ℕ → ℕ → Area → Option (ℕ × Area) → List ℕ
+  table_of f r xs second =
+      head second ++ flat_map (λ x. row (text_under sheet put x ∷ entries_beside f r second x)) (cells_of xs)
 
 abbrev pub is_column : Area → Bool
 is_column a = column_of a.first == column_of a.last

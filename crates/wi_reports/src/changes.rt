@@ -4,9 +4,10 @@ ghost use Rattle.std.specs.Prelude.{◌≡◌, ◌≤◌, ◌+◌, ◌++◌, [],
 ghost use Rattle.std.specs.Io.{StartsWith};
 ghost use Rattle.wi_values.specs.Replacements.{IsInOrder};
 ghost use Rattle.wi_sheet.specs.Shown as show;
-ghost use Rattle.wi_sessions.specs.Pictures.{changes_among};
+ghost use Rattle.wi_sessions.specs.Pictures.Laws.{changes_among};
 ghost use Rattle.wi_reports.specs.Looks.{evaluations_for, restarts_for};
-ghost use Rattle.wi_reports.specs.Changes.{kind_text, change_record, change_records};
+ghost use Rattle.wi_reports.specs.Changes.{kind_text, change_records};
+ghost use Rattle.wi_reports.specs.Inner.Parts.{change_record};
 
 use crate::texts::{address_text, shown_text};
 use std::alloc::{AllocError, Global};

@@ -9,7 +9,8 @@ ghost use Rattle.wi_values.specs.Value.{shown_text};
 ghost use Rattle.wi_fraction.specs.Arithmetic.{sum_of, negated};
 ghost use Rattle.wi_sheet.specs.Shown as show;
 ghost use Rattle.wi_csv.specs.Row.{row};
-ghost use Rattle.wi_reports.specs.Compare.{number_text, difference_text, difference_record, cell_compared, cells_compared};
+ghost use Rattle.wi_reports.specs.Compare.{number_text, difference_text, difference_record, cells_compared};
+ghost use Rattle.wi_reports.specs.Inner.Parts.{cell_compared};
 
 use crate::texts::{address_text, shown_text};
 use std::alloc::{AllocError, Global};

@@ -3,8 +3,8 @@
 ghost use Rattle.std.specs.Prelude.{◌≡◌, ◌++◌, OnOk, OnErr};
 ghost use Rattle.std.specs.Io.{StartsWith};
 ghost use Rattle.wi_values.specs.Replacements.{IsInOrder};
-ghost use Rattle.wi_reports.specs.Rows.{rows_shown};
-ghost use Rattle.wi_reports.specs.Export.{lines_in, export_of};
+ghost use Rattle.wi_reports.specs.Rows.{rows_shown, export_of};
+ghost use Rattle.wi_reports.specs.Inner.Parts.{lines_in};
 
 use crate::rows::push_rows;
 use itoa::Buffer;

@@ -4,7 +4,8 @@ ghost use Rattle.std.specs.Prelude.{◌≡◌, ◌++◌, ◌<◌, OnOk, OnErr};
 ghost use Rattle.std.specs.Io.{StartsWith};
 ghost use Rattle.wi_values.specs.Address.{rows};
 ghost use Rattle.wi_values.specs.Replacements.{IsInOrder};
-ghost use Rattle.wi_reports.specs.Rows.{row_shown, rows_shown};
+ghost use Rattle.wi_reports.specs.Rows.{rows_shown};
+ghost use Rattle.wi_reports.specs.Inner.Parts.{row_shown};
 
 use crate::texts::push_texts;
 use std::alloc::{AllocError, Global};

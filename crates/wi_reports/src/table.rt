@@ -8,6 +8,7 @@ ghost use Rattle.wi_values.specs.Replacements.{IsInOrder};
 ghost use Rattle.wi_csv.specs.Row.{row};
 ghost use Rattle.wi_reports.specs.Rows.{text_under};
 ghost use Rattle.wi_reports.specs.Table as spec;
+ghost use Rattle.wi_reports.specs.Inner.Parts.{pairs_at, table_row};
 
 use crate::texts::{push_text_of, push_text_under, push_texts};
 use std::alloc::{AllocError, Global};
@@ -164,7 +165,7 @@ fn push_rows<C: Calculator>(
     requires column { spec.is_column table.now.column ≡ true }
     requires row { spec.has_row table.now.second ≡ true }
     ensures ok { let sheet = (C.stored calculator.old).sheet in
-        let row = spec.table_row sheet put.now table.now.formula_cell table.now.input table.now.second in
+        let row = table_row sheet put.now table.now.formula_cell table.now.input table.now.second in
         OnOk result (out.new.items ≡ out.old.items ++ flat_map row (cells_of table.now.column)) }
     ensures kept { StartsWith out.new.items out.old.items }
     ensures same { C.stored calculator.new ≡ C.stored calculator.old }
@@ -190,7 +191,7 @@ fn push_row<C: Calculator>(
     requires row { spec.has_row table.now.second ≡ true }
     ensures ok { let sheet = (C.stored calculator.old).sheet in
         OnOk result (out.new.items ≡ out.old.items
-        ++ spec.table_row sheet put.now table.now.formula_cell table.now.input table.now.second x) }
+        ++ table_row sheet put.now table.now.formula_cell table.now.input table.now.second x) }
     ensures kept { StartsWith out.new.items out.old.items }
     ensures same { C.stored calculator.new ≡ C.stored calculator.old }
 {
@@ -240,7 +241,7 @@ fn push_row_entries<C: Calculator>(
 ) -> Result<(), AllocError>
     requires { IsInOrder put.now }
     ensures texts { let sheet = (C.stored calculator.old).sheet in
-        let text = λ (y : ℕ). spec.entry_text sheet put.now table.now.formula_cell (spec.pairs_at table.now.input x second y) in
+        let text = λ (y : ℕ). spec.entry_text sheet put.now table.now.formula_cell (pairs_at table.now.input x second y) in
         OnOk result (map string_bytes texts.new.items
         ≡ map string_bytes texts.old.items ++ map text (cells_of_row (row_of cells.first) cells)) }
     ensures same { C.stored calculator.new ≡ C.stored calculator.old }
@@ -267,7 +268,7 @@ fn push_entry_at<C: Calculator>(
 ) -> Result<(), AllocError>
     requires { IsInOrder put.now }
     ensures text { let sheet = (C.stored calculator.old).sheet in
-        let text = spec.entry_text sheet put.now table.now.formula_cell (spec.pairs_at table.now.input x second y) in
+        let text = spec.entry_text sheet put.now table.now.formula_cell (pairs_at table.now.input x second y) in
         OnOk result (map string_bytes texts.new.items ≡ map string_bytes texts.old.items ++ text ∷ []) }
     ensures same { C.stored calculator.new ≡ C.stored calculator.old }
 {

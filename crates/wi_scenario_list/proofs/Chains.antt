@@ -3,7 +3,8 @@ use Rattle.std.proofs.Common.{◌≡◌, ℕ, ◌-◌, ◌<◌, suc, zero, List,
 use Rattle.wi_values.specs.declared.value.Value.{Value}
 use Rattle.wi_values.specs.declared.replacement.Replacement.{Replacement}
 use Rattle.wi_values.specs.Replacements.{as_map, overridden}
-use Rattle.wi_scenario_list.specs.Scenarios.{Scenario, scenario_of, chain, chain_within, layered, effective, as_replacements}
+use Rattle.wi_scenario_list.specs.Scenarios.{Scenario, scenario_of, chain, chain_within, layered, effective}
+use Rattle.wi_scenario_list.specs.Inner.Parts.{as_replacements}
 use Rattle.wi_scenario_list.proofs.Own.{as_map-as_replacements, as_replacements-as_map}
 
 pub chain_some : (k : ℕ) (xs : List Scenario) (o : Option Scenario) (x : Scenario) → 0 < k → o ≡ Some x

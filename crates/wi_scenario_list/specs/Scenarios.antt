@@ -1,9 +1,8 @@
 -- Scenarios by name, and the replacements that each puts in.
-use Rattle.std.specs.Prelude.{◌==◌, ◌&&◌, ◌||◌, ℕ, zero, suc, Bool, not, nat_le, List, [], ◌∷◌, filter, length, map, Option, Some, None, if◌then◌else◌}
+use Rattle.std.specs.Prelude.{◌==◌, ◌&&◌, ◌||◌, ℕ, zero, suc, Bool, not, nat_le, List, [], ◌∷◌, filter, length, map, Option, Some, None, unwrap_or, if◌then◌else◌}
 use Rattle.std.specs.List.{find, list_any}
 use Rattle.std.specs.Str.{bytes_eq}
 use Rattle.wi_values.specs.Replacements.{as_map, overridden}
-use Rattle.wi_values.specs.declared.value.Value.{Value}
 use Rattle.wi_values.specs.declared.replacement.Replacement.{Replacement}
 
 pub record Scenario : Type 0 where
@@ -16,7 +15,7 @@ pub record Scenario : Type 0 where
 abbrev pub is_named : List ℕ → Scenario → Bool
 is_named name x = bytes_eq name x.name
 
--- the scenario of this name; where none is named, or none has the name, there is none
+-- the scenario of this name, if one is named and is there
 abbrev pub scenario_of : List Scenario → Option (List ℕ) → Option Scenario
 scenario_of xs None = None
 scenario_of xs (Some name) = find (is_named name) xs
@@ -33,7 +32,7 @@ max_replacements = 256
 
 -- ---- what a scenario puts in
 
--- a scenario, its base scenario, the base scenario of that one, and so on, so many at most
+-- a scenario, its base scenario, that one's, and so on, so many at most
 abbrev pub chain_within : ℕ → List Scenario → Option Scenario → List Scenario
 chain_within zero xs o = []
 chain_within (suc k) xs None = []
@@ -43,20 +42,16 @@ chain_within (suc k) xs (Some x) = x ∷ chain_within k xs (scenario_of xs x.bas
 unfoldable pub chain : List Scenario → Option (List ℕ) → List Scenario
 chain xs name = chain_within max_scenarios xs (scenario_of xs name)
 
--- the entries of a map as replacements
-abbrev pub as_replacements : List (ℕ × Value) → List Replacement
-as_replacements es = map (λ e. record { at = e.0; value = e.1 }) es
-
 -- replacements with others put in, each in the place of the one that its address had
 abbrev pub with_replacements : List Replacement → List Replacement → List Replacement
-with_replacements rs others = as_replacements (overridden (as_map rs) others)
+with_replacements rs others = map (λ e. record { at = e.0; value = e.1 }) (overridden (as_map rs) others)
 
 -- the replacements of several scenarios, where each overrides those after it
 abbrev pub layered : List Scenario → List Replacement
 layered [] = []
 layered (x ∷ xs) = with_replacements (layered xs) x.own
 
--- what a scenario puts in: what its base scenario puts in, overridden by its own replacements; where none is named, nothing
+-- what a scenario puts in; where none is named, nothing
 abbrev pub effective : List Scenario → Option (List ℕ) → List Replacement
 effective xs name = layered (chain xs name)
 
@@ -67,33 +62,24 @@ abbrev pub with_scenario : List Scenario → Scenario → List Scenario
 with_scenario [] x = x ∷ []
 with_scenario (y ∷ ys) x = if bytes_eq x.name y.name then x ∷ ys else y ∷ with_scenario ys x
 
--- the scenarios without the one of this name
 abbrev pub without_scenario : List Scenario → List ℕ → List Scenario
 without_scenario xs name = filter (λ x. not (is_named name x)) xs
 
--- the scenario that is there, or else a new one, which replaces nothing and is based on none
-abbrev pub scenario_or_new : List ℕ → Option Scenario → Scenario
-scenario_or_new name None = record { name = name; own = []; base = None }
-scenario_or_new name (Some x) = x
-
+-- the scenario of this name, or else a new one
 abbrev pub scenario_for : List Scenario → List ℕ → Scenario
-scenario_for xs name = scenario_or_new name (scenario_of xs (Some name))
+scenario_for xs name = unwrap_or (scenario_of xs (Some name)) (record { name = name; own = []; base = None })
 
 -- whether an address has a replacement
 abbrev pub is_replaced : List Replacement → ℕ → Bool
 is_replaced rs a = list_any (λ r. r.at == a) rs
 
--- replacements without the one for an address
-abbrev pub without_replacement : List Replacement → ℕ → List Replacement
-without_replacement rs a = filter (λ r. not (r.at == a)) rs
-
 -- a scenario with these put into its own replacements
 abbrev pub with_own : Scenario → List Replacement → Scenario
 with_own x rs = record x { own = with_replacements x.own rs }
 
--- a scenario without its own replacement for an address; what its base scenario puts in there stays
+-- a scenario without its own replacement for an address
 abbrev pub without_own : Scenario → ℕ → Scenario
-without_own x at = record x { own = without_replacement x.own at }
+without_own x at = record x { own = filter (λ r. not (r.at == at)) x.own }
 
 -- a replacement put into this scenario would make a scenario too many, or one replacement of its own too many
 abbrev pub is_full : List Scenario → List ℕ → ℕ → Bool

@@ -2,7 +2,7 @@
 
 ghost use Rattle.std.specs.Prelude.{◌≡◌, IfOk, OnOk};
 ghost use Rattle.wi_values.specs.Replacements.{IsInOrder, as_map, overridden};
-ghost use Rattle.wi_scenario_list.specs.Scenarios.{as_replacements};
+ghost use Rattle.wi_scenario_list.specs.Inner.Parts.{as_replacements};
 
 use std::alloc::{AllocError, Global};
 use std::collections::BTreeMap;

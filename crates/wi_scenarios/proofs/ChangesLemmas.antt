@@ -8,8 +8,8 @@ use Rattle.wi_store.specs.Store.{Stored}
 use Rattle.wi_sheet.specs.Shown.{shown}
 use Rattle.wi_scenario_list.specs.Scenarios.{effective}
 use Rattle.wi_edit_log.specs.EditLog.{Entry}
-use Rattle.wi_sessions.specs.Pictures.{value_in, sheet_size, changes_among}
-use Rattle.wi_sessions.specs.Pictures.Laws.{is_listed, Rises}
+use Rattle.wi_sessions.specs.Pictures.{value_in, sheet_size}
+use Rattle.wi_sessions.specs.Pictures.Laws.{is_listed, Rises, changes_among}
 use Rattle.wi_sessions.specs.Sessions.{Session, new_session, told}
 use Rattle.wi_sessions.specs.Roster.{session_at, pending_of}
 use Rattle.wi_sessions.proofs.ChangeLists.{any_cells, picture_is_shown}

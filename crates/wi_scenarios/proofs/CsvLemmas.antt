@@ -8,8 +8,8 @@ use Rattle.wi_values.specs.Address.{Area}
 use Rattle.wi_parser.specs.declared.content.Content.{Content}
 use Rattle.wi_import.specs.declared.fault.ImportFault.{ImportFault}
 use Rattle.wi_import.specs.declared.fault.ImportFault.TheVariants as import
-use Rattle.wi_import.specs.Areas.{areas_at}
-use Rattle.wi_import.specs.Fields.{Field, field_cell, fields_at}
+use Rattle.wi_import.specs.Fields.{Field, fields_at, areas_at}
+use Rattle.wi_import.specs.Inner.Reading.{field_cell}
 use Rattle.wi_import.specs.Imports.{IsChange, AreChanges, IsFault}
 use Rattle.wi_scenarios.specs.declared.refusal.Refusal.{Refusal}
 use Rattle.wi_scenarios.specs.declared.refusal.Refusal.TheVariants.{Memory}

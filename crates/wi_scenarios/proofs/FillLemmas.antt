@@ -13,12 +13,11 @@ use Rattle.std.specs.Result.{IsErrAnd}
 use Rattle.std.proofs.lemmas.Result.{err_from_is_err_and}
 use Rattle.wi_scenarios.specs.declared.refusal.Refusal.{Refusal}
 use Rattle.wi_scenarios.specs.declared.refusal.Refusal.TheVariants.{Memory, TooLarge, LeavesSheet}
-use Rattle.wi_scenarios.specs.State.{State}
+use Rattle.wi_scenarios.specs.State.{State, max_area}
 use Rattle.wi_scenarios.specs.Answer.{Answer, may_grow, MayRefuse, Serves}
 use Rattle.wi_scenarios.specs.Causes.{no_cause}
 use Rattle.wi_scenarios.specs.Edits.{Edit, edit_answer}
 use Rattle.wi_scenarios.specs.Fill.{fill_edit, fill_step, shift_refusal, copy_to, has_no_copy, or_nothing}
-use Rattle.wi_scenarios.specs.Areas.{max_area}
 use Rattle.wi_parser.specs.declared.shift.ShiftFault.{ShiftFault}
 use Rattle.wi_parser.specs.declared.shift.ShiftFault.TheVariants as shift
 use Rattle.wi_scenarios.specs.Inner.Copies.{AreCopies, CopiesAs, HasNoCopies}

@@ -9,15 +9,13 @@ use Rattle.wi_values.specs.Address.{Area, size_of}
 use Rattle.wi_values.specs.declared.replacement.Replacement.{Replacement}
 use Rattle.wi_scenario_list.specs.Scenarios.{effective}
 use Rattle.wi_scenario_list.specs.Bases.{lacks}
-use Rattle.wi_reports.specs.Rows.{rows_shown}
-use Rattle.wi_reports.specs.Export.{export_of}
+use Rattle.wi_reports.specs.Rows.{rows_shown, export_of}
 use Rattle.wi_reports.specs.Compare.{cells_compared}
 use Rattle.wi_reports.specs.Table.{table_of, is_column, has_row, entries}
 use Rattle.wi_scenarios.specs.declared.refusal.Refusal.{Refusal}
 use Rattle.wi_scenarios.specs.declared.refusal.Refusal.TheVariants.{Memory}
-use Rattle.wi_scenarios.specs.State.{State}
+use Rattle.wi_scenarios.specs.State.{State, max_area}
 use Rattle.wi_scenarios.specs.Views.{current_replacements}
-use Rattle.wi_scenarios.specs.Areas.{max_area}
 use Rattle.wi_scenarios.specs.Answer.{Answer, may_grow, Serves}
 use Rattle.wi_scenarios.specs.Causes.{no_cause, answer}
 use Rattle.wi_scenarios.specs.Show.{show_step}

@@ -9,14 +9,14 @@ use Rattle.wi_values.specs.Address.{Area, size_of, cells_of}
 use Rattle.wi_parser.specs.Sheet.{content_of}
 use Rattle.wi_store.specs.Store.{Stored, applied}
 use Rattle.wi_store.specs.declared.fault.StoreFault.{StoreFault}
-use Rattle.wi_import.specs.Areas.{areas_at}
+use Rattle.wi_import.specs.Fields.{areas_at}
 use Rattle.wi_scenario_list.specs.Scenarios as list
-use Rattle.wi_scenario_list.specs.Scenarios.{is_named, has_scenario, scenario_of, scenario_or_new, scenario_for, with_scenario, without_scenario, with_own, without_own, is_full}
+use Rattle.wi_scenario_list.specs.Scenarios.{is_named, has_scenario, scenario_of, scenario_for, with_scenario, without_scenario, with_own, without_own, is_full}
+use Rattle.wi_scenario_list.specs.Inner.Parts.{scenario_or_new}
 use Rattle.wi_scenario_list.specs.Bases.{lacks, would_loop, based_on}
 use Rattle.wi_sessions.specs.Sessions.{max_sessions, has_session, with_session, place_of, using_scenario, told}
 use Rattle.wi_reports.specs.Table.{is_column, has_row, entries, table_of}
-use Rattle.wi_reports.specs.Rows.{rows_shown}
-use Rattle.wi_reports.specs.Export.{export_of}
+use Rattle.wi_reports.specs.Rows.{rows_shown, export_of}
 use Rattle.wi_reports.specs.Compare.{cells_compared}
 use Rattle.wi_reports.specs.Changes.{change_records}
 use Rattle.wi_reports.specs.Contents.{content_record}
@@ -24,9 +24,8 @@ use Rattle.wi_scenario_list.specs.Scenarios.{effective}
 use Rattle.wi_scenarios.specs.declared.refusal.Refusal.{Refusal}
 use Rattle.wi_scenarios.specs.declared.refusal.Refusal.TheVariants.{Memory, BadCommand, TooLarge, NoScenario, InUse, TooMany, BadField, LeavesSheet, Stale, TooLong}
 use Rattle.wi_scenarios.specs.declared.refusal.Refusal.TheVariants as refusal
-use Rattle.wi_scenarios.specs.State.{State}
+use Rattle.wi_scenarios.specs.State.{State, max_area}
 use Rattle.wi_scenarios.specs.Views.{current_session, with_current, current_replacements}
-use Rattle.wi_scenarios.specs.Areas.{max_area}
 use Rattle.wi_scenarios.specs.Answer.{Answer}
 use Rattle.wi_scenarios.specs.Causes.{when, unless, no_cause, first_cause}
 use Rattle.wi_scenarios.specs.Edits.{limit_of, edit_refusal, stale_in, after_edit}

@@ -11,7 +11,7 @@ use Rattle.wi_parser.specs.declared.fault.ParseFault.{ParseFault}
 use Rattle.wi_parser.specs.declared.fault.ParseFault.TheVariants as parse
 use Rattle.wi_parser.specs.Sheet.{content_of}
 use Rattle.wi_import.specs.declared.fault.ImportFault.TheVariants as import
-use Rattle.wi_import.specs.Areas.{areas_at}
+use Rattle.wi_import.specs.Fields.{areas_at}
 use Rattle.wi_store.specs.Store.{Stored, applied}
 use Rattle.wi_store.specs.declared.fault.StoreFault.{StoreFault}
 use Rattle.wi_store.specs.declared.fault.StoreFault.TheVariants as store
@@ -23,8 +23,7 @@ use Rattle.wi_edit_log.proofs.First.{only_first}
 use Rattle.wi_edit_log.proofs.Least.{stale_is_first}
 use Rattle.wi_scenarios.specs.declared.refusal.Refusal.{Refusal}
 use Rattle.wi_scenarios.specs.declared.refusal.Refusal.TheVariants.{Memory, BadCommand, TooLarge, BadField, LeavesSheet, Stale}
-use Rattle.wi_scenarios.specs.State.{State}
-use Rattle.wi_scenarios.specs.Areas.{max_area}
+use Rattle.wi_scenarios.specs.State.{State, max_area}
 use Rattle.wi_scenarios.specs.Answer.{Answer}
 use Rattle.wi_scenarios.specs.Causes.{when, unless}
 use Rattle.wi_scenarios.specs.Edits.{limit_of, edit_refusal, stale_in, after_edit}

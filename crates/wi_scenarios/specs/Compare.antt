@@ -4,8 +4,7 @@ use Rattle.wi_values.specs.Address.{Area, size_of}
 use Rattle.wi_scenario_list.specs.Scenarios.{effective}
 use Rattle.wi_scenario_list.specs.Bases.{lacks}
 use Rattle.wi_reports.specs.Compare.{cells_compared}
-use Rattle.wi_scenarios.specs.State.{State}
-use Rattle.wi_scenarios.specs.Areas.{max_area}
+use Rattle.wi_scenarios.specs.State.{State, max_area}
 use Rattle.wi_scenarios.specs.Answer.{Answer}
 use Rattle.wi_scenarios.specs.Causes.{no_cause, answer}
 

@@ -3,8 +3,8 @@ use Rattle.std.specs.Prelude.{◌≡◌, ℕ, Bool, true, false, List, [], map, 
 use Rattle.wi_parser.specs.declared.content.Content.{Content}
 use Rattle.wi_import.specs.declared.fault.ImportFault.{ImportFault}
 use Rattle.wi_import.specs.declared.fault.ImportFault.TheVariants as import
-use Rattle.wi_import.specs.Fields.{field_cell, fields_at}
-use Rattle.wi_import.specs.Areas.{areas_at}
+use Rattle.wi_import.specs.Fields.{fields_at, areas_at}
+use Rattle.wi_import.specs.Inner.Reading.{field_cell}
 use Rattle.wi_import.specs.Imports.{IsImport}
 use Rattle.wi_scenarios.specs.declared.refusal.Refusal.{Refusal}
 use Rattle.wi_scenarios.specs.declared.refusal.Refusal.TheVariants.{TooLong, OutOfSheet}

@@ -1,11 +1,9 @@
 -- The command `export`: the records of `show`, after a line that tells how many lines they are.
 use Rattle.std.specs.Prelude.{nat_lt}
 use Rattle.wi_values.specs.Address.{Area, size_of}
-use Rattle.wi_reports.specs.Rows.{rows_shown}
-use Rattle.wi_reports.specs.Export.{export_of}
-use Rattle.wi_scenarios.specs.State.{State}
+use Rattle.wi_reports.specs.Rows.{rows_shown, export_of}
+use Rattle.wi_scenarios.specs.State.{State, max_area}
 use Rattle.wi_scenarios.specs.Views.{current_replacements}
-use Rattle.wi_scenarios.specs.Areas.{max_area}
 use Rattle.wi_scenarios.specs.Answer.{Answer}
 use Rattle.wi_scenarios.specs.Causes.{no_cause, answer}
 

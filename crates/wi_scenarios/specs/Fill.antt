@@ -10,11 +10,10 @@ use Rattle.wi_parser.specs.declared.shift.ShiftFault.{ShiftFault}
 use Rattle.wi_parser.specs.declared.shift.ShiftFault.TheVariants as shift
 use Rattle.wi_scenarios.specs.declared.refusal.Refusal.{Refusal}
 use Rattle.wi_scenarios.specs.declared.refusal.Refusal.TheVariants.{Memory, LeavesSheet}
-use Rattle.wi_scenarios.specs.State.{State}
+use Rattle.wi_scenarios.specs.State.{State, max_area}
 use Rattle.wi_scenarios.specs.Answer.{Answer}
 use Rattle.wi_scenarios.specs.Causes.{no_cause}
 use Rattle.wi_scenarios.specs.Edits.{Edit, edit_answer}
-use Rattle.wi_scenarios.specs.Areas.{max_area}
 
 -- the refusal of a copy
 abbrev pub shift_refusal : ShiftFault → Refusal

@@ -5,7 +5,7 @@ use Rattle.wi_values.specs.Address.{Area, address_text}
 use Rattle.wi_values.specs.Value.{shown_text}
 use Rattle.wi_values.specs.declared.value.Value.{Value}
 use Rattle.wi_csv.specs.Records.{recs}
-use Rattle.wi_import.specs.Areas.{areas_at}
+use Rattle.wi_import.specs.Fields.{areas_at}
 use Rattle.wi_edit_log.specs.EditLog.{Entry, have_cell}
 use Rattle.wi_scenario_list.specs.Scenarios.{scenario_of}
 use Rattle.wi_sessions.specs.Pictures.{sheet_size, value_in, with_changes}

@@ -2,7 +2,6 @@ pub mod State
 pub mod Views
 pub mod Answer
 pub mod Causes
-pub mod Areas
 pub mod Edits
 pub mod Set
 pub mod Clear

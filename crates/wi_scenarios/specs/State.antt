@@ -24,3 +24,7 @@ state_over stored =
 -- a new workbook: an empty sheet with no edit yet, and the limits of the program
 abbrev pub new_state : State
 new_state = state_over (record { sheet = []; edits = 0; limits = record { cells = 200000; edits = 1000000000 } })
+
+-- how many cells, or entries of a table, may be asked for at once, or filled
+abbrev pub max_area : ℕ
+max_area = 65536

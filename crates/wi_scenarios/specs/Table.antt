@@ -2,9 +2,8 @@
 use Rattle.std.specs.Prelude.{ℕ, nat_lt, not, ◌||◌, Option}
 use Rattle.wi_values.specs.Address.{Area}
 use Rattle.wi_reports.specs.Table.{table_of, is_column, has_row, entries}
-use Rattle.wi_scenarios.specs.State.{State}
+use Rattle.wi_scenarios.specs.State.{State, max_area}
 use Rattle.wi_scenarios.specs.Views.{current_replacements}
-use Rattle.wi_scenarios.specs.Areas.{max_area}
 use Rattle.wi_scenarios.specs.Answer.{Answer}
 use Rattle.wi_scenarios.specs.Causes.{no_cause, answer}
 

@@ -13,7 +13,7 @@ abbrev pub session_at : State → ℕ → Session
 session_at s i = slice_index_or s.sessions i (new_session [])
 
 abbrev pub current_session : State → Session
-current_session s = session_at s s.current
+current_session s = slice_index_or s.sessions s.current (new_session [])
 
 -- the state with another in the place of the current session
 abbrev pub with_current : State → Session → State
@@ -24,7 +24,7 @@ abbrev pub replacements_for : State → Session → List Replacement
 replacements_for s x = effective s.scenarios x.scenario
 
 abbrev pub current_replacements : State → List Replacement
-current_replacements s = replacements_for s (current_session s)
+current_replacements s = effective s.scenarios (current_session s).scenario
 
 -- the value that a session is shown at a cell
 abbrev pub shown_to : State → Session → ℕ → Value

@@ -2,7 +2,7 @@
 
 ghost use Rattle.std.specs.Prelude.{◌≡◌, nat_lt};
 ghost use Rattle.wi_values.specs.Address.{size_of};
-ghost use Rattle.wi_scenarios.specs.Areas.{max_area};
+ghost use Rattle.wi_scenarios.specs.State.{max_area};
 
 use wi_values::Rect;
 

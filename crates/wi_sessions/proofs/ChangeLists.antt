@@ -13,8 +13,8 @@ use Rattle.std.specs.Ordering.{nat_cmp}
 use Rattle.std.specs.Map.{lookup}
 use Rattle.std.specs.BTreeMap.{is_at}
 use Rattle.wi_values.proofs.Lookups.{found-insert, found-without}
-use Rattle.wi_sessions.specs.Pictures.{same_value, value_in, with_value, with_changes, sheet_size, every_cell}
-use Rattle.wi_sessions.specs.Pictures.Laws.{is_listed, Rises, AnyCells, PictureIsShown}
+use Rattle.wi_sessions.specs.Pictures.{same_value, value_in, with_value, with_changes, sheet_size}
+use Rattle.wi_sessions.specs.Pictures.Laws.{is_listed, Rises, AnyCells, PictureIsShown, every_cell}
 
 -- an element at which the test fails is left out
 skipped : (p : ℕ → Bool) (a : ℕ) (xs : List ℕ) → p a ≡ false → filter p (a ∷ xs) ≡ filter p xs

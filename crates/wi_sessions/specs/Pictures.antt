@@ -14,7 +14,7 @@ pub mod Laws
 abbrev pub same_value : Value → Value → Bool
 same_value = equality.ghosts.eq
 
--- the value that a picture has at a cell; at one that it doesn't name, that is Empty
+-- the value that a picture has at a cell, Empty where it names none
 abbrev pub value_in : List (ℕ × Value) → ℕ → Value
 value_in picture a = unwrap_or (lookup (is_at (nat_cmp a)) picture) Empty
 
@@ -32,15 +32,7 @@ with_changes picture (e ∷ es) = with_changes (with_value picture e.0 e.1) es
 unfoldable pub sheet_size : ℕ
 sheet_size = rows * columns
 
--- the cells of the sheet, in row-major order
-abbrev pub every_cell : List ℕ
-every_cell = range_with_len 0 sheet_size
-
--- those of the cells whose value isn't the picture's, each with its value
-abbrev pub changes_among : List ℕ → List (ℕ × Value) → (ℕ → Value) → List (ℕ × Value)
-changes_among cells picture shown =
-    map (λ a. (a, shown a)) (filter (λ a. not (same_value (value_in picture a) (shown a))) cells)
-
--- what has changed since a picture: all cells of the sheet whose value isn't the picture's, in row-major order, each with its value
+-- all cells of the sheet whose value isn't the picture's, in row-major order, each with its value
 abbrev pub changes_since : List (ℕ × Value) → (ℕ → Value) → List (ℕ × Value)
-changes_since picture shown = changes_among every_cell picture shown
+changes_since picture shown =
+    map (λ a. (a, shown a)) (filter (λ a. not (same_value (value_in picture a) (shown a))) (range_with_len 0 sheet_size))

@@ -5,16 +5,15 @@ use Rattle.std.specs.Str.{bytes_eq}
 use Rattle.wi_values.specs.declared.value.Value.{Value}
 use Rattle.wi_sessions.specs.Pictures.{with_changes}
 
--- The name; the name of the scenario that it uses, none for the sheet as it stands; its picture, the values that it was
--- shown at its last change list, in the order of their addresses and without empty ones; and how long the log of edits was
--- then, 0 before the first.
+-- A name; the scenario that it uses, if any; its picture, the values that it was shown at its last change list, in the order
+-- of their addresses and without empty ones; and how long the log of edits was then.
 pub record Session : Type 0 where
   pub name : List ℕ
   pub scenario : Option (List ℕ)
   pub picture : List (ℕ × Value)
   pub seen : ℕ
 
--- a session that was just made uses the sheet as it stands and was shown nothing
+-- a session that was just made
 abbrev pub new_session : List ℕ → Session
 new_session name = record { name = name; scenario = None; picture = []; seen = 0 }
 
@@ -22,7 +21,6 @@ new_session name = record { name = name; scenario = None; picture = []; seen = 0
 abbrev pub max_sessions : ℕ
 max_sessions = 64
 
--- whether there is a session of this name
 abbrev pub has_session : List Session → List ℕ → Bool
 has_session xs name = list_any (λ x. bytes_eq name x.name) xs
 

@@ -11,7 +11,8 @@ use Rattle.std.specs.Str.Parse.{digits_value, digits_value_after}
 use Rattle.wi_values.specs.Address.{columns, rows, place, letters_value, letters_value_after, is_row_number}
 use Rattle.wi_values.specs.AddressReading.{cell_at, address_at, read_address}
 use Rattle.wi_values.specs.declared.address.AddressFault.TheVariants.{Shape, Outside}
-use Rattle.wi_cli.specs.Operands.{Bytes, Cell, is_outside, address, IsAddr, addr}
+use Rattle.wi_cli.specs.Operands.{Cell, is_outside, address, IsAddr, addr}
+use Rattle.wi_cli.specs.Lines.{Bytes}
 use Rattle.wi_cli.specs.Laws.{read_by, read_cell, SameAddr}
 use Rattle.wi_cli.proofs.Ties.Tables.{clash}
 

@@ -8,12 +8,13 @@ use Rattle.wi_scenarios.specs.Edits.{edit_answer}
 use Rattle.wi_scenarios.specs.Causes.{no_cause}
 use Rattle.wi_scenarios.specs.Step as old
 use Rattle.wi_cli.specs.Inner.Operands.{of_operand}
-use Rattle.wi_cli.specs.Operands.{Bytes, Corners, is_outside, area}
+use Rattle.wi_cli.specs.Operands.{Corners, is_outside, area}
+use Rattle.wi_cli.specs.Lines.{Bytes}
 use Rattle.wi_cli.specs.Command.{Command, Clear, form}
 use Rattle.wi_cli.specs.Edits.{Put, after_edit}
-use Rattle.wi_cli.specs.Causes.{Cause, Outside, TooLarge, NoScenario, Stale, Full, EditLimit, Holds, IsFirst, order, lies_outside, is_missing}
+use Rattle.wi_cli.specs.Causes.{Cause, Outside, TooLarge, NoScenario, Stale, Full, EditLimit, Holds, lies_outside, is_missing}
 use Rattle.wi_cli.specs.Does.{Does}
-use Rattle.wi_cli.specs.Step.{Answer, IsStep}
+use Rattle.wi_cli.specs.Step.{Answer, IsStep, causes, IsFirstOf}
 use Rattle.wi_cli.specs.Laws.{SameStep, read_by}
 use Rattle.wi_cli.proofs.Ties.Uniqueness.{answers, outside_step}
 use Rattle.wi_cli.proofs.Ties.EditSteps.{last, edit_step}
@@ -42,7 +43,7 @@ module _ (s : State) (force : Bool) (r : Corners) where
       h.2 ∙ ap (λ (q : List Put). let d : State × Bytes = (after_edit s clear q, []) in d) same ∙ sym k.2
 
   module _ (inside : (is_outside r.0 || is_outside r.1) ≡ false) where
-    front : (x : Cause) → IsFirst s clear last x → IsFirst s clear order x
+    front : (x : Cause) → IsFirstOf s clear last x → IsFirstOf s clear causes x
     front x h =
         inr (λ k. k, inr (λ k. k, inr (λ k. k, inr (λ k. clash _ (outside_is force false inside) k, inr (λ k. k, inr (λ k. clash _ (none_missing force) k, inr (λ k. k, inr (λ k. k, inr (λ k. k, inr (λ k. k, inr (λ k. k, inr (λ k. k, inr (λ k. k, inr (λ k. k, inr (λ k. k, h)))))))))))))))
 

@@ -5,7 +5,7 @@ use Rattle.wi_scenarios.specs.declared.refusal.Refusal.TheVariants as refusal
 use Rattle.wi_scenarios.specs.Step as old
 use Rattle.wi_cli.specs.Inner.EditCommands.{edit_command}
 use Rattle.wi_cli.specs.Inner.Script.{named_command}
-use Rattle.wi_cli.specs.Operands.{Bytes}
+use Rattle.wi_cli.specs.Lines.{Bytes}
 
 -- a name, or another word
 pub data Name : Type 0 where

@@ -4,14 +4,14 @@ use Rattle.std.proofs.lemmas.Bool.Decides.{nat_tests}
 use Rattle.std.proofs.lemmas.Slice.Eq.{bytes_eq-Decides}
 use Rattle.wi_values.specs.AddressReading.{read_address}
 use Rattle.wi_values.specs.declared.address.AddressFault.TheVariants.{Shape}
-use Rattle.wi_cli.specs.Lines.{without_lf, max_line}
-use Rattle.wi_cli.specs.Words.{first_word, after_word, is_all_spaces}
+use Rattle.wi_cli.specs.Lines.{without_lf, max_line, first_word, after_word, Bytes}
+use Rattle.wi_cli.specs.Inner.Operands.{is_all_spaces}
 use Rattle.wi_cli.specs.Inner.CsvCommand.{CsvLine, csv_of, read_lines, csv_operands, csv_named, csv_text, csv_line}
 use Rattle.wi_cli.specs.Inner.Blocks.{lines_of}
-use Rattle.wi_cli.specs.Operands.{Bytes, Cell, IsAddr, IsSpelled, ANY, LINES, IsWritten}
+use Rattle.wi_cli.specs.Operands.{Cell, IsAddr, IsSpelled, ANY, LINES, IsWritten}
 use Rattle.wi_cli.specs.Command.{Csv, form}
-use Rattle.wi_cli.specs.Script.{text_of, IsWithin, Asks, Takes}
-use Rattle.wi_cli.specs.Laws.{read_any, asked}
+use Rattle.wi_cli.specs.Script.{text_of, IsWithin, Asks}
+use Rattle.wi_cli.specs.Laws.{read_any, asked, Takes}
 use Rattle.wi_cli.proofs.Ties.Addresses.{same_addr}
 use Rattle.wi_cli.proofs.Ties.OperandsRead.{no_addr, addr_or, lines_read, lines_or, none_behind}
 use Rattle.wi_cli.proofs.Ties.Tables.{clash}

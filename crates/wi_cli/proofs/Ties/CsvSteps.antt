@@ -1,5 +1,5 @@
 -- The step of `csv`.
-use Rattle.std.proofs.Common.{◌≡◌, ◌<◌, ◌-◌, ℕ, Bool, true, false, ◌==◌, ◌||◌, nat_lt, List, [], ◌∷◌, length, ◌⊎◌, inl, inr, Option, Some, None, Ok, Err, refl, sym, ap, ◌∙◌, subst, arith}
+use Rattle.std.proofs.Common.{◌≡◌, ◌<◌, ◌-◌, ℕ, Bool, true, false, ◌==◌, ◌||◌, nat_lt, List, [], ◌∷◌, length, ◌⊎◌, inl, inr, Option, Some, None, Ok, Err, refl, sym, ap, ap₂, ◌∙◌, subst, arith}
 use Rattle.std.specs.List.{list_any, concat, slice_index_or, Any}
 use Rattle.std.specs.Prelude.{All}
 use Rattle.std.proofs.lemmas.Bool.Decides.{nat_tests}
@@ -7,29 +7,29 @@ use Rattle.std.proofs.lemmas.List.{get_or_default}
 use Rattle.std.proofs.lemmas.List.Folds.{Any-from_list_any, list_any-from_Any}
 use Rattle.wi_import.specs.declared.fault.ImportFault.{ImportFault}
 use Rattle.wi_import.specs.declared.fault.ImportFault.TheVariants as import
-use Rattle.wi_import.specs.Fields.{IsText, IsInside}
-use Rattle.wi_import.specs.Areas.{areas_at}
-use Rattle.wi_import.specs.Imports.{AreChanges, IsFault, bad_field, too_long, out_of_sheet, IsImport, IsTooLong}
+use Rattle.wi_csv.specs.Records.{recs}
+use Rattle.wi_import.specs.Fields.{Field, IsInside, fields_from, fields_at, areas_from, areas_at}
+use Rattle.wi_import.specs.Inner.Reading.{IsText, IsTooLong}
+use Rattle.wi_import.specs.Imports.{AreChanges, IsFault, bad_field, too_long, out_of_sheet, IsImport}
 use Rattle.wi_import.proofs.ImportLemmas.{some_import, no_other}
 use Rattle.wi_scenarios.specs.declared.refusal.Refusal.TheVariants as refusal
-use Rattle.wi_scenarios.specs.State.{State}
-use Rattle.wi_scenarios.specs.Areas.{max_area}
+use Rattle.wi_scenarios.specs.State.{State, max_area}
 use Rattle.wi_scenarios.specs.Causes.{no_cause}
 use Rattle.wi_scenarios.specs.Edits.{edit_answer}
 use Rattle.wi_scenarios.specs.Csv.{csv_answer, Imported}
 use Rattle.wi_scenarios.specs.Step as old
-use Rattle.wi_cli.specs.Lines.{max_line, without_lf}
+use Rattle.wi_cli.specs.Lines.{max_line, without_lf, Bytes}
 use Rattle.wi_cli.specs.Inner.CsvCommand.{is_long, csv_command}
-use Rattle.wi_cli.specs.Operands.{Bytes, Cell, is_outside, address}
+use Rattle.wi_cli.specs.Operands.{Cell, is_outside, address}
 use Rattle.wi_cli.specs.Command.{Command, Csv, form}
 use Rattle.wi_cli.specs.Edits.{Put, Puts, after_edit, fields}
-use Rattle.wi_cli.specs.Causes.{Cause, BadLine, BadCommand, CutShort, Outside, TooLarge, NoScenario, BadField, TooLong, OutOfSheet, NumberRange, TooDeep, Syntax, LeavesSheet, Stale, Full, EditLimit, Holds, IsFirst, order, lies_outside, is_missing, size}
+use Rattle.wi_cli.specs.Causes.{Cause, BadLine, BadCommand, CutShort, Outside, TooLarge, NoScenario, BadField, TooLong, OutOfSheet, NumberRange, TooDeep, Syntax, LeavesSheet, Stale, Full, EditLimit, Holds, lies_outside, is_missing, size}
 use Rattle.wi_cli.specs.Does.{Does}
-use Rattle.wi_cli.specs.Step.{Answer, IsStep}
+use Rattle.wi_cli.specs.Step.{Answer, IsStep, causes, IsFirstOf}
 use Rattle.wi_cli.specs.Laws.{SameStep, read_any}
 use Rattle.wi_cli.proofs.Ties.Uniqueness.{same_answers}
 use Rattle.wi_cli.proofs.Ties.EditSteps.{last, edit_step}
-use Rattle.wi_cli.proofs.Ties.Tables.{clash}
+use Rattle.wi_cli.proofs.Ties.Tables.{clash, inside, row_place, column_place}
 
 -- ---- some and all
 
@@ -128,10 +128,17 @@ module _ (s : State) (force : Bool) (c : Cell) (n : ℕ) (lines : List Bytes) wh
       is_out o = (Err refusal.OutOfSheet, rw (o, short, come) refl, (Outside, inr (no_long_line lines short, inr (λ h. h, inr (not_cut _ _ come, inl (outside_is force ∙ o, refl)))), refl))
 
       module _ (o : is_outside c ≡ false) where
+        -- the fields from the cell's row and column on are those from its address on
+        same_fields : fields_at (address c) text ≡ fields c lines
+        same_fields = ap₂ (λ (i j : ℕ). fields_from i j (recs text)) (row_place c.row c.column (inside c o)) (column_place c.row c.column (inside c o))
+
+        same_areas : areas_from c.row c.column (recs text) ≡ areas_at (address c) text
+        same_areas = ap₂ (λ (i j : ℕ). areas_from i j (recs text)) (sym (row_place c.row c.column (inside c o))) (sym (column_place c.row c.column (inside c o)))
+
         abbrev behind : List Cause
         behind = BadField ∷ TooLong ∷ OutOfSheet ∷ NumberRange ∷ TooDeep ∷ Syntax ∷ LeavesSheet ∷ last
 
-        front : (x : Cause) → IsFirst s csv behind x → IsFirst s csv order x
+        front : (x : Cause) → IsFirstOf s csv behind x → IsFirstOf s csv causes x
         front x h =
             inr (no_long_line lines short, inr (λ k. k, inr (not_cut _ _ come, inr (λ k. clash _ (outside_is force ∙ o) k, inr (small force, inr (λ k. clash _ (none_missing force) k, inr (λ k. k, inr (λ k. k, h))))))))
 
@@ -155,7 +162,7 @@ module _ (s : State) (force : Bool) (c : Cell) (n : ℕ) (lines : List Bytes) wh
               let same : ◌≡◌ {A = Imported} (Ok q) (Ok puts) = no_other (fields c lines) (Ok q) (Ok puts) h are in
               cc
 
-          later : (x : Cause) → IsFirst s csv last x → IsFirst s csv order x
+          later : (x : Cause) → IsFirstOf s csv last x → IsFirstOf s csv causes x
           later x h = front x (inr (no_bad, inr (no_long, inr (no_outside, inr (λ k. k, inr (λ k. k, inr (λ k. k, inr (λ k. k, h))))))))
 
           only : (x : Cause) → Holds s x csv → Holds s Stale csv ⊎ (Holds s Full csv ⊎ Holds s EditLimit csv)
@@ -173,7 +180,7 @@ module _ (s : State) (force : Bool) (c : Cell) (n : ℕ) (lines : List Bytes) wh
           only x h = absurd h
 
           importing : IsStep s csv (edit_answer s force no_cause (record { named = areas_at (address c) text; contents = puts }))
-          importing = edit_step s csv force (areas_at (address c) text) puts are one_put refl refl (λ h. h) later only (λ d h. h)
+          importing = edit_step s csv force (areas_at (address c) text) puts are one_put refl same_areas (λ h. h) later only (λ d h. h)
 
         fault_is : (e : ImportFault) → IsFault (fields c lines) e → IsStep s csv (csv_answer s force (address c) text (Err e))
         fault_is e (bad_field fs h) = (BadField, front BadField (inl (h, refl)), refl)
@@ -190,8 +197,9 @@ module _ (s : State) (force : Bool) (c : Cell) (n : ℕ) (lines : List Bytes) wh
 
         made : Answered
         made =
-            let r = some_import (fields c lines) in
-            (csv_answer s force (address c) text r.0, rw (o, short, come) (record { read = r.0; is_read = r.1; answered = refl }), step r.0 r.1)
+            let r = some_import (fields_at (address c) text) in
+            let is : IsImport (fields c lines) r.0 = subst (λ (fs : List Field). IsImport fs r.0) same_fields r.1 in
+            (csv_answer s force (address c) text r.0, rw (o, short, come) (record { read = r.0; is_read = r.1; answered = refl }), step r.0 is)
 
   csv_done : (x y : State × Bytes) → Does s csv x → Does s csv y → x ≡ y
   csv_done x y h k =

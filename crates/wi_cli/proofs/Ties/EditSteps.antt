@@ -7,12 +7,12 @@ use Rattle.wi_scenarios.specs.declared.refusal.Refusal.TheVariants as refusal
 use Rattle.wi_scenarios.specs.State.{State}
 use Rattle.wi_scenarios.specs.Causes.{no_cause}
 use Rattle.wi_scenarios.specs.Edits.{edit_answer, stale_in}
-use Rattle.wi_cli.specs.Operands.{Bytes}
+use Rattle.wi_cli.specs.Lines.{Bytes}
 use Rattle.wi_cli.specs.Command.{Command}
 use Rattle.wi_cli.specs.Edits.{Put, Puts, is_forced, named, sheet_with, after_edit}
-use Rattle.wi_cli.specs.Causes.{Cause, Stale, Loop, Full, EditLimit, Holds, IsFirst, order, stale_cell}
+use Rattle.wi_cli.specs.Causes.{Cause, Stale, Loop, Full, EditLimit, Holds, stale_cell}
 use Rattle.wi_cli.specs.Does.{Does}
-use Rattle.wi_cli.specs.Step.{Answer, IsStep}
+use Rattle.wi_cli.specs.Step.{Answer, IsStep, causes, IsFirstOf}
 
 -- the last causes of the order
 abbrev pub last : List Cause
@@ -32,7 +32,7 @@ not_least n m e h = grind (arith, nat_tests)
 
 module _ (s : State) (c : Command) (force : Bool) (areas : List Area) (puts : List Put) (is : Puts s c puts) (one : (q : List Put) → Puts s c q → q ≡ puts)
     (forced : is_forced c ≡ force) (names : named c ≡ areas) (no_loop : Holds s Loop c → ⊥)
-    (front : (x : Cause) → IsFirst s c last x → IsFirst s c order x)
+    (front : (x : Cause) → IsFirstOf s c last x → IsFirstOf s c causes x)
     (only : (x : Cause) → Holds s x c → Holds s Stale c ⊎ (Holds s Full c ⊎ Holds s EditLimit c))
     (does : (done : State × Bytes) → (q : List Put) × Puts s c q × (done ≡ (after_edit s c q, [])) → Does s c done) where
   stale_some : (at : ℕ) → stale_in s force areas ≡ Some at → Holds s Stale c × (stale_cell s c ≡ Some at)

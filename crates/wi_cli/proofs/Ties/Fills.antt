@@ -6,19 +6,19 @@ use Rattle.wi_values.specs.Address.{size_of, cells_of}
 use Rattle.wi_parser.specs.declared.content.Content.{Content}
 use Rattle.wi_parser.specs.Sheet.{content_of}
 use Rattle.wi_scenarios.specs.declared.refusal.Refusal.TheVariants as refusal
-use Rattle.wi_scenarios.specs.State.{State}
-use Rattle.wi_scenarios.specs.Areas.{max_area}
+use Rattle.wi_scenarios.specs.State.{State, max_area}
 use Rattle.wi_scenarios.specs.Edits.{edit_answer}
 use Rattle.wi_scenarios.specs.Causes.{no_cause}
 use Rattle.wi_scenarios.specs.Fill.{copy_to, has_no_copy, or_nothing}
 use Rattle.wi_scenarios.specs.Step as old
 use Rattle.wi_cli.specs.Inner.EditCommands.{fill_command_of}
-use Rattle.wi_cli.specs.Operands.{Bytes, Cell, Corners, is_outside, address, area}
+use Rattle.wi_cli.specs.Operands.{Cell, Corners, is_outside, address, area}
+use Rattle.wi_cli.specs.Lines.{Bytes}
 use Rattle.wi_cli.specs.Command.{Command, Fill, form}
 use Rattle.wi_cli.specs.Edits.{Put, Puts, copy_in, after_edit}
-use Rattle.wi_cli.specs.Causes.{Cause, Outside, TooLarge, NoScenario, LeavesSheet, Stale, Full, EditLimit, Holds, IsFirst, order, lies_outside, is_missing, size}
+use Rattle.wi_cli.specs.Causes.{Cause, Outside, TooLarge, NoScenario, LeavesSheet, Stale, Full, EditLimit, Holds, lies_outside, is_missing, size}
 use Rattle.wi_cli.specs.Does.{Does}
-use Rattle.wi_cli.specs.Step.{Answer, IsStep}
+use Rattle.wi_cli.specs.Step.{Answer, IsStep, causes, IsFirstOf}
 use Rattle.wi_cli.specs.Laws.{SameStep, read_by}
 use Rattle.wi_cli.proofs.Ties.Uniqueness.{same_answers, outside_step}
 use Rattle.wi_cli.proofs.Ties.EditSteps.{last, edit_step}
@@ -125,7 +125,7 @@ module _ (s : State) (force : Bool) (c : Cell) (r : Corners) where
     filled = edit_answer s force no_cause (record { named = area r ∷ []; contents = puts })
 
     module _ (few : nat_lt max_area (size_of (area r) * 1) ≡ false) where
-      front : (x : Cause) → IsFirst s fill (LeavesSheet ∷ last) x → IsFirst s fill order x
+      front : (x : Cause) → IsFirstOf s fill (LeavesSheet ∷ last) x → IsFirstOf s fill causes x
       front x h =
           inr (λ k. k, inr (λ k. k, inr (λ k. k, inr (inside, inr (small few, inr (λ k. clash _ (none_missing force) k, inr (λ k. k, inr (λ k. k, inr (λ k. k, inr (λ k. k, inr (λ k. k, inr (λ k. k, inr (λ k. k, inr (λ k. k, h))))))))))))))
 

@@ -8,13 +8,13 @@ use Rattle.wi_values.specs.declared.address.AddressFault.{AddressFault}
 use Rattle.wi_values.specs.declared.address.AddressFault.TheVariants.{Shape, Outside}
 use Rattle.wi_scenarios.specs.declared.refusal.Refusal.TheVariants as refusal
 use Rattle.wi_scenarios.specs.Step as old
-use Rattle.wi_cli.specs.Words.{first_word, after_word, is_all_spaces}
-use Rattle.wi_cli.specs.Inner.Operands.{at_end, of_operand, of_name, only_name, name_or_none, read_side, column_fault, row_fault}
+use Rattle.wi_cli.specs.Lines.{first_word, after_word, Bytes}
+use Rattle.wi_cli.specs.Inner.Operands.{at_end, of_operand, of_name, only_name, name_or_none, read_side, column_fault, row_fault, is_all_spaces}
 use Rattle.wi_cli.specs.Inner.EditCommands.{set_command, fill_command, fill_command_of}
 use Rattle.wi_cli.specs.Inner.ScenarioCommands.{scenario_command, base_command, use_command}
 use Rattle.wi_cli.specs.Inner.LookCommands.{changes_command, compare_command, formula_command}
 use Rattle.wi_cli.specs.Inner.TableCommand.{table_command, table_of_one, table_of_two}
-use Rattle.wi_cli.specs.Operands.{Bytes, Cell, Corners, Operand, ADDR, RECT, NAME, SIDE, CONTENT, IsAddr, IsRect, IsSpelled, IsWritten}
+use Rattle.wi_cli.specs.Operands.{Cell, Corners, Operand, ADDR, RECT, NAME, SIDE, CONTENT, IsAddr, IsRect, IsSpelled, IsWritten}
 use Rattle.wi_cli.specs.Command.{Set, Fill, Scenario, Base, Use, Compare, Table, Formula, Changes}
 use Rattle.wi_cli.specs.Laws.{was, read_cell, read_corners}
 use Rattle.wi_cli.proofs.Ties.Addresses.{same_addr}

@@ -7,9 +7,9 @@ use Rattle.wi_scenarios.specs.Answer.{may_grow, MayGrow}
 use Rattle.wi_scenarios.specs.Step as old
 use Rattle.wi_scenarios.proofs.StepLemmas.{an_answer}
 use Rattle.wi_cli.specs.Command.{Command}
-use Rattle.wi_cli.specs.Causes.{Cause, BadLine, BadCommand, CutShort, Outside, TooLarge, NoScenario, InUse, TooMany, BadField, TooLong, OutOfSheet, NumberRange, TooDeep, Syntax, LeavesSheet, Stale, Loop, Full, EditLimit, Holds, IsFirst, order}
+use Rattle.wi_cli.specs.Causes.{Cause, BadLine, BadCommand, CutShort, Outside, TooLarge, NoScenario, InUse, TooMany, BadField, TooLong, OutOfSheet, NumberRange, TooDeep, Syntax, LeavesSheet, Stale, Loop, Full, EditLimit, Holds}
 use Rattle.wi_cli.specs.Reply.{late}
-use Rattle.wi_cli.specs.Step.{Answer, Tells, IsStep}
+use Rattle.wi_cli.specs.Step.{Answer, Tells, IsStep, causes, IsFirstOf}
 use Rattle.wi_cli.proofs.Ties.Uniqueness.{first_holds, one_first}
 use Rattle.wi_cli.proofs.Ties.Tables.{clash}
 
@@ -67,18 +67,18 @@ module _ (s : State) (c : Command) (inside : Holds s Outside c → ⊥) (come : 
   is_late EditLimit h e t g = (8, omega arith, refl)
   is_late x h e t g = absurd (clash false refl (sym (ap (λ (r : Refusal). may_grow (Err r)) t) ∙ g))
 
-  pub same_lack : (was : old.Command) → ((a : Answer) → old.IsStep s was a ↔ IsStep s c a) → MayGrow (old.IsStep s was) ↔ ((x : Cause) → IsFirst s c order x → Contains late x)
+  pub same_lack : (was : old.Command) → ((a : Answer) → old.IsStep s was a ↔ IsStep s c a) → MayGrow (old.IsStep s was) ↔ ((x : Cause) → IsFirstOf s c causes x → Contains late x)
   same_lack was same = (there, λ h. back h (an_answer s was).0 (an_answer s was).1 ((same (an_answer s was).0).0 (an_answer s was).1))
     where
-      there : MayGrow (old.IsStep s was) → (x : Cause) → IsFirst s c order x → Contains late x
+      there : MayGrow (old.IsStep s was) → (x : Cause) → IsFirstOf s c causes x → Contains late x
       there m x f = by m.answer m.grows ((same m.answer).0 m.is_answer)
         where
           by : (a : Answer) → may_grow a ≡ true → IsStep s c a → Contains late x
-          by (Ok done) g is = absurd (is.0 x (first_holds s c order x f))
+          by (Ok done) g is = absurd (is.0 x (first_holds s c causes x f))
           by (Err e) g is =
-              let one : is.0 ≡ x = one_first s c order is.0 x is.1 f in
-              is_late x (first_holds s c order x f) e (subst (λ (y : Cause). Tells s c y e) one is.2) g
+              let one : is.0 ≡ x = one_first s c causes is.0 x is.1 f in
+              is_late x (first_holds s c causes x f) e (subst (λ (y : Cause). Tells s c y e) one is.2) g
 
-      back : ((x : Cause) → IsFirst s c order x → Contains late x) → (a : Answer) → old.IsStep s was a → IsStep s c a → MayGrow (old.IsStep s was)
+      back : ((x : Cause) → IsFirstOf s c causes x → Contains late x) → (a : Answer) → old.IsStep s was a → IsStep s c a → MayGrow (old.IsStep s was)
       back h (Ok done) o n = record { answer = Ok done; is_answer = o; grows = refl }
-      back h (Err e) o n = record { answer = Err e; is_answer = o; grows = grows n.0 (first_holds s c order n.0 n.1) e n.2 (h n.0 n.1) }
+      back h (Err e) o n = record { answer = Err e; is_answer = o; grows = grows n.0 (first_holds s c causes n.0 n.1) e n.2 (h n.0 n.1) }

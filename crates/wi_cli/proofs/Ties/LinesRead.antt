@@ -1,5 +1,5 @@
 -- The commands of lines are those that they had.
-use Rattle.std.proofs.Common.{◌≡◌, ℕ, suc, zero, ◌-◌, ◌<◌, ◌≤◌, Bool, true, false, not, ◌==◌, ◌||◌, nat_lt, cond, List, [], ◌∷◌, ◌++◌, length, map, take, filter, filter_map, Option, Some, None, option_map, option_to_list, Result, if◌then◌else◌, refl, sym, ap, ap₂, ◌∙◌, subst, arith}
+use Rattle.std.proofs.Common.{◌≡◌, ℕ, suc, zero, ◌-◌, ◌<◌, ◌≤◌, Bool, true, false, not, ◌==◌, ◌||◌, nat_lt, cond, List, [], ◌∷◌, ◌++◌, length, map, take, filter, filter_map, Option, Some, None, option_map, option_to_list, Result, ◌⊎◌, inl, inr, if◌then◌else◌, refl, sym, ap, ap₂, ◌∙◌, subst, arith}
 use Rattle.std.specs.List.{list_all, cons_option}
 use Rattle.std.specs.Str.{byte, is_utf8}
 use Rattle.std.proofs.lemmas.Bool.Decides.{nat_tests}
@@ -8,15 +8,15 @@ use Rattle.wi_values.specs.AddressReading.{read_address}
 use Rattle.wi_values.specs.declared.address.AddressFault.{AddressFault}
 use Rattle.wi_scenarios.specs.declared.refusal.Refusal.TheVariants as refusal
 use Rattle.wi_scenarios.specs.Step as old
-use Rattle.wi_cli.specs.Lines.{raw_lines, onto_first, without_lf, is_whole, max_line}
-use Rattle.wi_cli.specs.Words.{is_space, is_all_spaces}
+use Rattle.wi_cli.specs.Lines.{raw_lines, onto_first, without_lf, is_whole, max_line, is_space, Bytes}
+use Rattle.wi_cli.specs.Inner.Operands.{is_all_spaces}
 use Rattle.wi_cli.specs.Inner.CsvCommand.{CsvLine, csv_line, csv_command}
 use Rattle.wi_cli.specs.Inner.Blocks.{Block, lines_of, blocks, is_complete}
 use Rattle.wi_cli.specs.Inner.Script.{is_comment, text_command, line_command, command_with, block_command, spelled_command, whole_lines}
-use Rattle.wi_cli.specs.Operands.{Bytes, Cell, IsWritten}
+use Rattle.wi_cli.specs.Operands.{Cell, IsWritten}
 use Rattle.wi_cli.specs.Command.{Command, Csv, Unknown, Unreadable, form}
-use Rattle.wi_cli.specs.Script.{text_of, IsWithin, IsGood, Takes, is_passed_over, IsCommand, none as no_commands, a_line as line_with, cut_short as line_cut, waiting}
-use Rattle.wi_cli.specs.Laws.{was, read_any, asked, block, Splits, none, a_line, cut_short, before, HasCommands}
+use Rattle.wi_cli.specs.Script.{text_of, IsWithin, IsGood, Asks, is_passed_over, IsCommand, none as no_commands, a_line as line_with, cut_short as line_cut}
+use Rattle.wi_cli.specs.Laws.{was, read_any, asked, block, Splits, none, a_line, cut_short, before, HasCommands, Takes}
 use Rattle.wi_cli.proofs.Ties.Tables.{clash, first_inside, second_inside}
 use Rattle.wi_cli.proofs.Ties.Looks.{or_false}
 use Rattle.wi_cli.proofs.Ties.CsvLines.{IsRead, AsksOrNot, it_asks, it_asks_none, asks_or_not, takes, asks}
@@ -142,6 +142,10 @@ empty : (taken : List Bytes) → length taken ≡ 0 → taken ≡ []
 empty [] e = refl
 empty (l ∷ ls) e = absurd (omega (arith, e))
 
+taken_is : (line : Bytes) (taken : List Bytes) → Takes line (length taken) → Asks line (length taken) ⊎ ((taken ≡ []) × ((n : ℕ) → Asks line n → ⊥))
+taken_is line taken (inl h) = inl h
+taken_is line taken (inr h) = inr (empty taken h.0, h.1)
+
 none_taken : (line : Bytes) (taken : List Bytes) → asked line ≡ length taken → csv_line (without_lf line) ≡ None → taken ≡ []
 none_taken line taken e plain = empty taken (sym e ∙ ap (λ (x : Option CsvLine). lines_of x) plain)
 
@@ -151,12 +155,12 @@ none_short line taken h plain =
     absurd (omega (arith, h, nothing))
 
 pub has_all : (lines : List Bytes) (bs : List Block) → Splits lines bs → HasCommands true lines (filter_map block_command bs)
-has_all lines bs none = ([], no_commands true, refl)
+has_all lines bs none = ([], no_commands, refl)
 has_all lines bs (a_line line taken more cs same rest) =
     let k = has_command line taken (none_taken line taken same) in
     let r = has_all more cs rest in
     let some : Takes line (length taken) = subst (λ (n : ℕ). Takes line n) same (takes line) in
-    (option_to_list k.0 ++ r.0, line_with true line taken more k.0 r.0 some k.1 r.1, ap₂ cons_option k.2 r.2 ∙ onto_was k.0 r.0)
+    (option_to_list k.0 ++ r.0, line_with line taken more k.0 r.0 (taken_is line taken some) k.1 r.1, ap₂ cons_option k.2 r.2 ∙ onto_was k.0 r.0)
 has_all lines bs (cut_short line taken short) =
     let k = has_command line taken (none_short line taken short) in
     (option_to_list k.0, line_cut line taken (asked line) k.0 (asks line (length taken) short) short k.1, last k.0 k.2)
@@ -172,21 +176,22 @@ not_complete : (line : Bytes) (taken : List Bytes) → length taken < asked line
 not_complete line taken h = grind (arith, nat_tests)
 
 pub has_whole : (lines : List Bytes) (bs : List Block) → Splits lines bs → HasCommands false lines (filter_map block_command (filter is_complete bs))
-has_whole lines bs none = ([], no_commands false, refl)
+has_whole lines bs none = ([], no_commands, refl)
 has_whole lines bs (a_line line taken more cs same rest) =
     let k = has_command line taken (none_taken line taken same) in
     let r = has_whole more cs rest in
     let some : Takes line (length taken) = subst (λ (n : ℕ). Takes line n) same (takes line) in (
       option_to_list k.0 ++ r.0,
-      line_with false line taken more k.0 r.0 some k.1 r.1,
+      line_with line taken more k.0 r.0 (taken_is line taken some) k.1 r.1,
       ap (λ (b : Bool). filter_map block_command (cond b (block line taken ∷ filter is_complete cs) (filter is_complete cs))) (complete line taken same)
           ∙ ap₂ cons_option k.2 r.2 ∙ onto_was k.0 r.0,
     )
-has_whole lines bs (cut_short line taken short) = (
-  [],
-  waiting line taken (asked line) (asks line (length taken) short) short,
-  ap (λ (b : Bool). filter_map block_command (cond b (block line taken ∷ []) [])) (not_complete line taken short),
-)
+has_whole lines bs (cut_short line taken short) =
+    let k = has_command line taken (none_short line taken short) in (
+      [],
+      line_cut line taken (asked line) k.0 (asks line (length taken) short) short k.1,
+      ap (λ (b : Bool). filter_map block_command (cond b (block line taken ∷ []) [])) (not_complete line taken short),
+    )
 
 -- ---- of the lines of bytes only the last may lack its LF
 

@@ -4,20 +4,20 @@ use Rattle.std.specs.List.{list_any}
 use Rattle.wi_values.specs.Address.{size_of}
 use Rattle.wi_scenario_list.specs.Scenarios.{effective}
 use Rattle.wi_scenario_list.specs.Bases.{lacks}
-use Rattle.wi_reports.specs.Rows.{rows_shown}
-use Rattle.wi_reports.specs.Export.{export_of}
+use Rattle.wi_reports.specs.Rows.{rows_shown, export_of}
 use Rattle.wi_reports.specs.Compare.{cells_compared}
 use Rattle.wi_reports.specs.Contents.{content_record}
 use Rattle.wi_reports.specs.Changes.{change_records}
 use Rattle.wi_sessions.specs.Sessions.{told}
-use Rattle.wi_scenarios.specs.State.{State}
-use Rattle.wi_scenarios.specs.Areas.{max_area}
+use Rattle.wi_scenarios.specs.State.{State, max_area}
 use Rattle.wi_scenarios.specs.Views.{current_session, with_current, current_replacements}
 use Rattle.wi_scenarios.specs.Changes.{change_list}
 use Rattle.wi_scenarios.specs.Step as old
-use Rattle.wi_cli.specs.Operands.{Bytes, Cell, Corners, is_outside, address, area, SIDE}
+use Rattle.wi_cli.specs.Operands.{Cell, Corners, is_outside, address, area, SIDE}
+use Rattle.wi_cli.specs.Lines.{Bytes}
 use Rattle.wi_cli.specs.Command.{Command, Show, Export, Compare, Formula, Changes, form}
-use Rattle.wi_cli.specs.Causes.{Cause, Outside, TooLarge, NoScenario, Stale, Full, EditLimit, Holds, order, lies_outside, is_missing, size}
+use Rattle.wi_cli.specs.Causes.{Cause, Outside, TooLarge, NoScenario, Stale, Full, EditLimit, Holds, lies_outside, is_missing, size}
+use Rattle.wi_cli.specs.Step.{causes}
 use Rattle.wi_cli.specs.Laws.{SameStep, was}
 use Rattle.wi_cli.proofs.Ties.Tables.{clash, too_large, not_large}
 use Rattle.wi_cli.proofs.Ties.Tests.{first_test, found, by_tests}
@@ -55,7 +55,7 @@ module _ (s : State) (r : Corners) where
   show_no x e h = h
 
   show_picked : (out large : Bool) → (is_outside r.0 || is_outside r.1) ≡ out → nat_lt max_area (size_of (area r) * 1) ≡ large
-      → (o : Option Cause) × (first_test show_test order ≡ o) × old.IsStep s (was (Show r)) (found shown o)
+      → (o : Option Cause) × (first_test show_test causes ≡ o) × old.IsStep s (was (Show r)) (found shown o)
   show_picked true large eo el = (Some Outside, rw eo refl, rw eo refl)
   show_picked false true eo el = (Some TooLarge, rw (eo, el) refl, rw (eo, large_once _ _ el) refl)
   show_picked false false eo el = (None, rw (eo, el) refl, rw (eo, large_once _ _ el) refl)
@@ -89,7 +89,7 @@ module _ (s : State) (r : Corners) where
   export_no x e h = h
 
   export_picked : (out large : Bool) → (is_outside r.0 || is_outside r.1) ≡ out → nat_lt max_area (size_of (area r) * 1) ≡ large
-      → (o : Option Cause) × (first_test export_test order ≡ o) × old.IsStep s (was (Export r)) (found exported o)
+      → (o : Option Cause) × (first_test export_test causes ≡ o) × old.IsStep s (was (Export r)) (found exported o)
   export_picked true large eo el = (Some Outside, rw eo refl, rw eo refl)
   export_picked false true eo el = (Some TooLarge, rw (eo, el) refl, rw (eo, large_once _ _ el) refl)
   export_picked false false eo el = (None, rw (eo, el) refl, rw (eo, large_once _ _ el) refl)
@@ -144,7 +144,7 @@ module _ (s : State) (p q : Option Bytes) (r : Corners) where
 
   compare_picked : (out large missing : Bool) → (is_outside r.0 || is_outside r.1) ≡ out → nat_lt max_area (size_of (area r) * 1) ≡ large
       → list_any (is_missing s) (form (Compare p q r)) ≡ missing → (lacks s.scenarios p || lacks s.scenarios q) ≡ missing
-      → (o : Option Cause) × (first_test compare_test order ≡ o) × old.IsStep s (was compare) (found compared o)
+      → (o : Option Cause) × (first_test compare_test causes ≡ o) × old.IsStep s (was compare) (found compared o)
   compare_picked true large missing eo el em en = (Some Outside, rw eo refl, rw eo refl)
   compare_picked false true missing eo el em en = (Some TooLarge, rw (eo, el) refl, rw (eo, large_once _ _ el) refl)
   compare_picked false false true eo el em en = (Some NoScenario, rw (eo, el, em) refl, rw (eo, large_once _ _ el, en) refl)
@@ -178,7 +178,7 @@ module _ (s : State) (c : Cell) where
   formula_no EditLimit e h = h.1
   formula_no x e h = h
 
-  formula_picked : (out : Bool) → is_outside c ≡ out → (o : Option Cause) × (first_test formula_test order ≡ o) × old.IsStep s (was (Formula c)) (found told_of o)
+  formula_picked : (out : Bool) → is_outside c ≡ out → (o : Option Cause) × (first_test formula_test causes ≡ o) × old.IsStep s (was (Formula c)) (found told_of o)
   formula_picked true eo = (Some Outside, rw eo refl, rw eo refl)
   formula_picked false eo = (None, rw eo refl, rw eo refl)
 

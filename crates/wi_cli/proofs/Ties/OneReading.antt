@@ -1,20 +1,20 @@
 -- Lines have no other commands than those that they had.
-use Rattle.std.proofs.Common.{◌≡◌, ℕ, suc, ◌+◌, ◌-◌, ◌<◌, Bool, true, false, not, ◌==◌, ◌||◌, nat_lt, cond, List, [], ◌∷◌, ◌++◌, length, map, take, filter, filter_map, inl, inr, Option, Some, None, option_map, option_to_list, if◌then◌else◌, refl, sym, ap, ap₂, ◌∙◌, subst, arith, codes, bytes_eq, append_assoc, append-nil}
+use Rattle.std.proofs.Common.{◌≡◌, ℕ, suc, ◌+◌, ◌-◌, ◌<◌, Bool, true, false, not, ◌==◌, ◌||◌, nat_lt, cond, List, [], ◌∷◌, ◌++◌, length, map, take, filter, filter_map, ◌⊎◌, inl, inr, Option, Some, None, option_map, option_to_list, if◌then◌else◌, refl, sym, ap, ap₂, ◌∙◌, subst, arith, codes, bytes_eq, append_assoc, append-nil}
 use Rattle.std.specs.List.{cons_option, prefix_len, before_first}
 use Rattle.std.specs.Str.{byte, is_utf8}
 use Rattle.std.proofs.lemmas.Bool.Decides.{nat_tests}
 use Rattle.std.proofs.lemmas.Str.{IsUtf8-from_is_utf8, is_utf8-from_IsUtf8}
 use Rattle.wi_scenarios.specs.declared.refusal.Refusal.TheVariants as refusal
 use Rattle.wi_scenarios.specs.Step as old
-use Rattle.wi_cli.specs.Lines.{without_lf, max_line}
-use Rattle.wi_cli.specs.Words.{is_space, skip_spaces, first_word, after_word, is_all_spaces}
+use Rattle.wi_cli.specs.Lines.{without_lf, max_line, is_space, skip_spaces, first_word, after_word, Bytes}
+use Rattle.wi_cli.specs.Inner.Operands.{is_all_spaces}
 use Rattle.wi_cli.specs.Inner.CsvCommand.{csv_text, csv_named, csv_command}
 use Rattle.wi_cli.specs.Inner.Blocks.{Block, lines_of, blocks, blocks_from, is_complete}
 use Rattle.wi_cli.specs.Inner.Script.{block_command, spelled_command}
-use Rattle.wi_cli.specs.Operands.{Bytes, Cell, IsWritten}
+use Rattle.wi_cli.specs.Operands.{Cell, IsWritten}
 use Rattle.wi_cli.specs.Command.{Command, Set, Clear, Fill, Csv, Scenario, Drop, Base, Use, As, Show, Export, Compare, Table, Formula, Changes, Unknown, Unreadable, form}
-use Rattle.wi_cli.specs.Script.{text_of, IsGood, Takes, is_passed_over, IsCommand, none as no_commands, a_line as line_with, cut_short as line_cut, waiting}
-use Rattle.wi_cli.specs.Laws.{was, read_any, asked, block, kept, SameCommands}
+use Rattle.wi_cli.specs.Script.{text_of, IsGood, Asks, is_passed_over, IsCommand, none as no_commands, a_line as line_with, cut_short as line_cut}
+use Rattle.wi_cli.specs.Laws.{was, read_any, asked, block, kept, SameCommands, Takes}
 use Rattle.wi_cli.proofs.Ties.Tables.{clash}
 use Rattle.wi_cli.proofs.Ties.OperandsRead.{no_word}
 use Rattle.wi_cli.proofs.Ties.CsvLines.{AsksOrNot, it_asks, it_asks_none, asks_or_not, asked_is, short_line, not_long, TextReads, text_or, text_read}
@@ -30,6 +30,10 @@ is_asked line n (inr h) = by (asks_or_not line)
     by : AsksOrNot line → asked line ≡ n
     by (it_asks force o m within w r) = absurd (h.1 m (within, (force, o, w)))
     by (it_asks_none nothing e) = ap lines_of e ∙ sym h.0
+
+are_taken : (line : Bytes) (taken : List Bytes) → Asks line (length taken) ⊎ ((taken ≡ []) × ((n : ℕ) → Asks line n → ⊥)) → Takes line (length taken)
+are_taken line taken (inl h) = inl h
+are_taken line taken (inr h) = inr (ap (λ (ls : List Bytes). length ls) h.0, h.1)
 
 -- ---- a text that spells a command isn't passed over
 
@@ -220,17 +224,17 @@ kept_one true b bs e = refl
 kept_one false b bs e = ap (λ (v : Bool). cond v (b ∷ filter is_complete bs) (filter is_complete bs)) e
 
 pub same_commands : (ended : Bool) (lines : List Bytes) (cs : List Command) → SameCommands ended lines cs
-same_commands ended lines cs (no_commands true) = refl
-same_commands ended lines cs (no_commands false) = refl
-same_commands ended lines cs (line_with e line taken more o ds takes is rest) =
-    let many : asked line ≡ length taken = is_asked line (length taken) takes in
-    ap (λ (bs : List Block). filter_map block_command (kept e bs)) (block_filled line taken more many)
-    ∙ ap (filter_map block_command) (kept_one e (block line taken) (blocks more) (whole_block line taken many))
-    ∙ ap₂ cons_option (one_command line taken o is) (same_commands e more ds rest) ∙ onto_was o ds
-same_commands ended lines cs (line_cut line taken n o asks short is) =
+same_commands true lines cs no_commands = refl
+same_commands false lines cs no_commands = refl
+same_commands ended lines cs (line_with line taken more o ds takes is rest) =
+    let many : asked line ≡ length taken = is_asked line (length taken) (are_taken line taken takes) in
+    ap (λ (bs : List Block). filter_map block_command (kept ended bs)) (block_filled line taken more many)
+    ∙ ap (filter_map block_command) (kept_one ended (block line taken) (blocks more) (whole_block line taken many))
+    ∙ ap₂ cons_option (one_command line taken o is) (same_commands ended more ds rest) ∙ onto_was o ds
+same_commands true lines cs (line_cut line taken n o asks short is) =
     let less : length taken < asked line = subst (λ (k : ℕ). length taken < k) (sym (asked_is line n asks)) short in
     ap (filter_map block_command) (block_short line taken less) ∙ ap (λ (x : Option old.Command). cons_option x []) (one_command line taken o is) ∙ onto_none o
-same_commands ended lines cs (waiting line taken n asks short) =
+same_commands false lines cs (line_cut line taken n o asks short is) =
     let less : length taken < asked line = subst (λ (k : ℕ). length taken < k) (sym (asked_is line n asks)) short in
     ap (λ (bs : List Block). filter_map block_command (filter is_complete bs)) (block_short line taken less)
     ∙ ap (λ (v : Bool). filter_map block_command (cond v (block line taken ∷ []) [])) (cut_block line taken less)

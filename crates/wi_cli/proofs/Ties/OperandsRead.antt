@@ -9,10 +9,10 @@ use Rattle.wi_values.specs.AddressReading.{read_address, read_rect}
 use Rattle.wi_values.specs.Name.{is_name, read_name}
 use Rattle.wi_values.specs.declared.address.AddressFault.{AddressFault}
 use Rattle.wi_values.specs.declared.address.AddressFault.TheVariants.{Shape, Outside}
-use Rattle.wi_cli.specs.Words.{is_space, skip_spaces, first_word, after_word, is_all_spaces}
-use Rattle.wi_cli.specs.Inner.Operands.{read_side}
+use Rattle.wi_cli.specs.Lines.{is_space, skip_spaces, first_word, after_word, Bytes}
+use Rattle.wi_cli.specs.Inner.Operands.{read_side, is_all_spaces}
 use Rattle.wi_cli.specs.Inner.CsvCommand.{read_lines}
-use Rattle.wi_cli.specs.Operands.{Bytes, Cell, Corners, is_outside, address, area, IsAddr, IsRect, IsSpelled, SIDE, LINES}
+use Rattle.wi_cli.specs.Operands.{Cell, Corners, is_outside, address, area, IsAddr, IsRect, IsSpelled, SIDE, LINES}
 use Rattle.wi_cli.specs.Laws.{read_by}
 use Rattle.wi_cli.proofs.Ties.Addresses.{same_addr}
 use Rattle.wi_cli.proofs.Ties.Rects.{same_rect, both}

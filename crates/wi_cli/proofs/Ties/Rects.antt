@@ -11,7 +11,8 @@ use Rattle.wi_values.specs.Address.{rect_of}
 use Rattle.wi_values.specs.AddressReading.{read_address, read_rect, corners, read_corners as read_at_colon}
 use Rattle.wi_values.specs.declared.address.AddressFault.{AddressFault}
 use Rattle.wi_values.specs.declared.address.AddressFault.TheVariants.{Shape, Outside}
-use Rattle.wi_cli.specs.Operands.{Bytes, Cell, Corners, is_outside, address, IsAddr, addr, IsRect, a_cell, two_cells}
+use Rattle.wi_cli.specs.Operands.{Cell, Corners, is_outside, address, IsAddr, addr, IsRect, a_cell, two_cells}
+use Rattle.wi_cli.specs.Lines.{Bytes}
 use Rattle.wi_cli.specs.Laws.{read_by, read_corners, SameRect}
 use Rattle.wi_cli.proofs.Ties.Addresses.{all_digits, same_addr}
 use Rattle.wi_cli.proofs.Ties.Tables.{clash}

@@ -1,17 +1,18 @@
 -- The replies to commands are what they were.
-use Rattle.std.proofs.Common.{◌≡◌, List, [], ◌∷◌, ◌++◌, map, ℕ, inl, inr, Option, Some, None, Ok, Err, codes, refl, sym, ap, ◌∙◌, subst, subst₂}
+use Rattle.std.proofs.Common.{◌≡◌, List, [], ◌∷◌, ◌++◌, map, ℕ, inl, inr, Option, Some, None, Ok, Err, codes, refl, sym, ap, ◌∙◌, subst₂}
 use Rattle.wi_scenarios.specs.declared.refusal.Refusal.{Refusal}
 use Rattle.wi_scenarios.specs.declared.refusal.Refusal.TheVariants as refusal
 use Rattle.wi_scenarios.specs.State.{State}
 use Rattle.wi_cli.specs.Inner.Reply.{refused as refused_line, reply, state_after}
 use Rattle.wi_cli.specs.Inner.Run as old_run
-use Rattle.wi_cli.specs.Operands.{Bytes}
+use Rattle.wi_cli.specs.Lines.{Bytes}
 use Rattle.wi_cli.specs.Command.{Command}
-use Rattle.wi_cli.specs.Causes.{Cause, Stale, Holds, order, stale_cell}
-use Rattle.wi_cli.specs.Reply.{code, cell_told, Replies, accepted, refused, unserved, Runs, no_more, one_more}
-use Rattle.wi_cli.specs.Step.{Answer, Tells, IsStep}
+use Rattle.wi_cli.specs.Causes.{Cause, Stale, Holds, stale_cell}
+use Rattle.wi_cli.specs.Reply.{cell_told, Replies, accepted, refused, unserved}
+use Rattle.wi_cli.specs.Step.{Answer, Tells, IsStep, Runs, causes}
 use Rattle.wi_cli.specs.Laws.{was, SameReply, SameRuns}
 use Rattle.wi_cli.proofs.Ties.Uniqueness.{first_holds}
+use Rattle.wi_cli.proofs.Ties.Codes.{code, first_coded, first_of}
 use Rattle.wi_cli.proofs.Ties.Tests.{refusal_for}
 use Rattle.wi_cli.proofs.Ties.Steps.{same_step}
 use Rattle.wi_cli.proofs.Ties.Wants.{same_want}
@@ -36,7 +37,7 @@ module _ (s : State) (c : Command) where
 
   answered : (a : Answer) (told : Bytes) (t : State) → IsStep s c a → told ≡ reply a → t ≡ state_after s a → Replies s c told t
   answered (Ok done) told t is r u = subst₂ (Replies s c) (sym r) (sym u) (accepted done.0 done.1 is.0 is.1)
-  answered (Err e) told t is r u = subst₂ (Replies s c) (sym (r ∙ told_is is.0 e is.2)) (sym u) (refused is.0 is.1)
+  answered (Err e) told t is r u = subst₂ (Replies s c) (sym (r ∙ told_is is.0 e is.2)) (sym u) (refused is.0 (code is.0) (first_coded s c is.0 is.1))
 
   there : (told : Bytes) (t : State) → old_run.MayAnswer s (was c) told t → Replies s c told t
   there told t (inl h) = answered h.answer told t ((same_step s c h.answer).0 h.is_step) h.reply_is h.state_is
@@ -45,9 +46,15 @@ module _ (s : State) (c : Command) where
   back : (told : Bytes) (t : State) → Replies s c told t → old_run.MayAnswer s (was c) told t
   back told t (accepted u records none does) =
       inl (record { answer = Ok (u, records); is_step = (same_step s c (Ok (u, records))).1 (none, does); reply_is = refl; state_is = refl })
-  back told t (refused x first) =
-      let e = has_refusal x (first_holds s c order x first) in
-      inl (record { answer = Err e.0; is_step = (same_step s c (Err e.0)).1 (x, first, e.1); reply_is = sym (told_is x e.0 e.1); state_is = refl })
+  back told t (refused x digits first) =
+      let f = first_of s c (x, digits) first in
+      let e = has_refusal x (first_holds s c causes x f.0) in
+      inl (record {
+        answer = Err e.0;
+        is_step = (same_step s c (Err e.0)).1 (x, f.0, e.1);
+        reply_is = ap (λ (b : Bytes). codes "refused E" ++ b ++ cell_told x (stale_cell s c) ++ codes "\n") f.1 ∙ sym (told_is x e.0 e.1);
+        state_is = refl;
+      })
   back told t (unserved may) = inr (record { reply_is = sym no_memory; state_is = refl; may = (same_want s c).1 may })
 
   pub same_reply : (told : Bytes) (t : State) → SameReply s c told t
@@ -56,14 +63,16 @@ module _ (s : State) (c : Command) where
 -- ---- commands, one after another
 
 runs_there : (s : State) (cs : List Command) (rs : List Bytes) (t : State) → old_run.Runs s (map was cs) rs t → Runs s cs rs t
-runs_there s [] [] t h = subst (Runs s [] []) (sym h) (no_more s)
+runs_there s [] [] t h = h
 runs_there s [] (r ∷ rs) t h = absurd h
 runs_there s (c ∷ cs) [] t h = absurd h
-runs_there s (c ∷ cs) (r ∷ rs) t h = one_more s h.0 t c cs r rs ((same_reply s c r h.0).0 h.1) (runs_there h.0 cs rs t h.2)
+runs_there s (c ∷ cs) (r ∷ rs) t h = (h.0, (same_reply s c r h.0).0 h.1, runs_there h.0 cs rs t h.2)
 
 runs_back : (s : State) (cs : List Command) (rs : List Bytes) (t : State) → Runs s cs rs t → old_run.Runs s (map was cs) rs t
-runs_back s cs rs t (no_more u) = refl
-runs_back s cs rs t (one_more u mid v d ds q qs h more) = (mid, (same_reply u d q mid).1 h, runs_back mid ds qs v more)
+runs_back s [] [] t h = h
+runs_back s [] (r ∷ rs) t h = absurd h
+runs_back s (c ∷ cs) [] t h = absurd h
+runs_back s (c ∷ cs) (r ∷ rs) t h = (h.0, (same_reply s c r h.0).1 h.1, runs_back h.0 cs rs t h.2)
 
 pub same_runs : (s : State) (cs : List Command) (rs : List Bytes) (t : State) → SameRuns s cs rs t
 same_runs s cs rs t = (runs_there s cs rs t, runs_back s cs rs t)

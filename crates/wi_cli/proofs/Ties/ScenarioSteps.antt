@@ -1,26 +1,60 @@
 -- The steps of the commands of scenarios and sessions.
-use Rattle.std.proofs.Common.{◌≡◌, ◌≤◌, ℕ, Bool, true, false, not, ◌||◌, ◌&&◌, nat_le, [], ◌∷◌, length, Option, Some, None, is_some, refl, sym, ap, ◌∙◌, subst, arith}
-use Rattle.std.specs.List.{list_any}
+use Rattle.std.proofs.Common.{◌≡◌, ◌≤◌, ℕ, Bool, true, false, not, ◌||◌, ◌&&◌, nat_le, List, [], ◌∷◌, length, ◌⊎◌, inl, inr, Option, Some, None, is_some, refl, sym, ap, ◌∙◌, subst, arith}
+use Rattle.std.specs.List.{list_any, Any}
 use Rattle.std.proofs.lemmas.Bool.Decides.{nat_tests}
+use Rattle.std.proofs.lemmas.List.Folds.{Any-from_list_any, list_any-from_Any}
+use Rattle.std.proofs.lemmas.Slice.Eq.{bytes_eq-Decides}
 use Rattle.wi_values.specs.declared.value.Value.{Value}
 use Rattle.wi_values.specs.Imported.{IsImported}
 use Rattle.wi_values.specs.Inner.Import.{imported}
 use Rattle.wi_values.proofs.Imports.{imported_exactly}
-use Rattle.wi_scenario_list.specs.Scenarios.{has_scenario, scenario_for, without_scenario, with_own, without_own, is_full}
-use Rattle.wi_scenario_list.specs.Bases.{based_on, lacks, would_loop}
-use Rattle.wi_sessions.specs.Sessions.{has_session, max_sessions, with_session, place_of, using_scenario}
+use Rattle.wi_scenario_list.specs.Scenarios.{Scenario as Kept, is_named, has_scenario, chain, scenario_for, without_scenario, with_own, without_own, is_full}
+use Rattle.wi_scenario_list.specs.Bases.{is_name_of, is_base, based_on, lacks, would_loop}
+use Rattle.wi_sessions.specs.Sessions.{Session, has_session, max_sessions, with_session, place_of, using_scenario}
 use Rattle.wi_scenarios.specs.State.{State}
 use Rattle.wi_scenarios.specs.Drop.{is_in_use}
 use Rattle.wi_scenarios.specs.Views.{current_session, with_current}
 use Rattle.wi_scenarios.specs.Step as old
-use Rattle.wi_cli.specs.Operands.{Bytes, Cell, is_outside, address}
+use Rattle.wi_cli.specs.Operands.{Cell, is_outside, address}
+use Rattle.wi_cli.specs.Lines.{Bytes}
 use Rattle.wi_cli.specs.Command.{Command, Scenario, Drop, Base, Use, As, form}
-use Rattle.wi_cli.specs.Causes.{Cause, Outside, TooLarge, NoScenario, InUse, TooMany, TooLong, Stale, Loop, Full, EditLimit, Holds, order, lies_outside, is_missing}
+use Rattle.wi_cli.specs.Causes.{Cause, Outside, TooLarge, NoScenario, InUse, TooMany, TooLong, Stale, Loop, Full, EditLimit, Holds, lies_outside, is_missing}
 use Rattle.wi_cli.specs.Does.{Does, keeping}
+use Rattle.wi_cli.specs.Step.{causes}
 use Rattle.wi_cli.specs.Laws.{SameStep, was}
-use Rattle.wi_cli.proofs.Ties.Tables.{clash}
+use Rattle.wi_cli.proofs.Ties.Tables.{clash, first_inside, second_inside}
+use Rattle.wi_cli.proofs.Ties.CsvSteps.{any_as}
 use Rattle.wi_cli.proofs.Ties.Looks.{or_false}
 use Rattle.wi_cli.proofs.Ties.Tests.{first_test, found, some_none, by_tests}
+
+-- ---- names that are given
+
+named_is : (name : Bytes) (o : Option Bytes) → is_name_of name o ≡ true → o ≡ Some name
+named_is name None e = absurd (clash false refl e)
+named_is name (Some other) e = ap (λ (x : Bytes). Some x) (sym ((bytes_eq-Decides name other).0 e))
+
+is_named_so : (name : Bytes) (o : Option Bytes) → o ≡ Some name → is_name_of name o ≡ true
+is_named_so name o e = ap (is_name_of name) e ∙ (bytes_eq-Decides name name).1 refl
+
+module _ {X : Type 0} (given : X → Option Bytes) (name : Bytes) (xs : List X) where
+  some_named : list_any (λ x. is_name_of name (given x)) xs ≡ true → Any (λ x. given x ≡ Some name) xs
+  some_named e =
+      any_as (λ x. is_name_of name (given x) ≡ true) (λ x. given x ≡ Some name) xs (λ x h. named_is name (given x) h) (Any-from_list_any (λ x. is_name_of name (given x)) xs e)
+
+  none_named : list_any (λ x. is_name_of name (given x)) xs ≡ false → Any (λ x. given x ≡ Some name) xs → ⊥
+  none_named e h =
+      clash _ e (list_any-from_Any (λ x. is_name_of name (given x)) xs (any_as (λ x. given x ≡ Some name) (λ x. is_name_of name (given x) ≡ true) xs (λ x k. is_named_so name (given x) k) h))
+
+module _ (name : Bytes) (xs : List Kept) where
+  in_chain : list_any (is_named name) xs ≡ true → Any (λ x. x.name ≡ name) xs
+  in_chain e = any_as (λ x. is_named name x ≡ true) (λ x. x.name ≡ name) xs (λ x h. sym ((bytes_eq-Decides name x.name).0 h)) (Any-from_list_any (is_named name) xs e)
+
+  not_in_chain : list_any (is_named name) xs ≡ false → Any (λ x. x.name ≡ name) xs → ⊥
+  not_in_chain e h = clash _ e (list_any-from_Any (is_named name) xs (any_as (λ x. x.name ≡ name) (λ x. is_named name x ≡ true) xs (λ x k. (bytes_eq-Decides name x.name).1 (sym k)) h))
+
+either : (a b : Bool) → (a || b) ≡ true → (a ≡ true) ⊎ (b ≡ true)
+either true b e = inl refl
+either false b e = inr e
 
 -- ---- drop
 
@@ -35,21 +69,28 @@ module _ (s : State) (name : Bytes) where
 
   drop_yes : (x : Cause) → drop_test x ≡ true → Holds s x (Drop name)
   drop_yes NoScenario e = e
-  drop_yes InUse e = e
+  drop_yes InUse e = by (either (list_any (λ x. is_name_of name x.scenario) s.sessions) (is_base s.scenarios name) e)
+    where
+      by : (list_any (λ x. is_name_of name x.scenario) s.sessions ≡ true) ⊎ (is_base s.scenarios name ≡ true) → Holds s InUse (Drop name)
+      by (inl h) = inl (some_named (λ (x : Session). x.scenario) name s.sessions h)
+      by (inr h) = inr (some_named (λ (x : Kept). x.base) name s.scenarios h)
   drop_yes x e = absurd (clash false refl e)
 
   drop_no : (x : Cause) → drop_test x ≡ false → Holds s x (Drop name) → ⊥
   drop_no Outside e h = clash false refl h
   drop_no TooLarge e h = omega (arith, h)
   drop_no NoScenario e h = clash _ e h
-  drop_no InUse e h = clash _ e h
+  drop_no InUse e (inl h) =
+      none_named (λ (x : Session). x.scenario) name s.sessions (first_inside (list_any (λ x. is_name_of name x.scenario) s.sessions) (is_base s.scenarios name) e) h
+  drop_no InUse e (inr h) =
+      none_named (λ (x : Kept). x.base) name s.scenarios (second_inside (list_any (λ x. is_name_of name x.scenario) s.sessions) (is_base s.scenarios name) e) h
   drop_no Stale e h = h.1 refl
   drop_no Full e h = h.1
   drop_no EditLimit e h = h.1
   drop_no x e h = h
 
   drop_picked : (missing used : Bool) → not (has_scenario s.scenarios name) ≡ missing → is_in_use s name ≡ used
-      → (o : Option Cause) × (first_test drop_test order ≡ o) × old.IsStep s (was (Drop name)) (found dropped o)
+      → (o : Option Cause) × (first_test drop_test causes ≡ o) × old.IsStep s (was (Drop name)) (found dropped o)
   drop_picked true used em eu = (Some NoScenario, rw em refl, rw em refl)
   drop_picked false true em eu = (Some InUse, rw (em, eu) refl, rw (em, eu) refl)
   drop_picked false false em eu = (None, rw (em, eu) refl, rw (em, eu) refl)
@@ -87,7 +128,7 @@ use_no s name EditLimit e h = h.1
 use_no s name x e h = h
 
 module _ (s : State) (name : Option Bytes) where
-  use_picked : (missing : Bool) → lacks s.scenarios name ≡ missing → (o : Option Cause) × (first_test (use_test s name) order ≡ o) × old.IsStep s (was (Use name)) (found (used s name) o)
+  use_picked : (missing : Bool) → lacks s.scenarios name ≡ missing → (o : Option Cause) × (first_test (use_test s name) causes ≡ o) × old.IsStep s (was (Use name)) (found (used s name) o)
   use_picked true em = (Some NoScenario, rw em refl, rw em refl)
   use_picked false em = (None, rw em refl, rw em refl)
 
@@ -142,7 +183,7 @@ module _ (s : State) (name : Bytes) where
   as_no EditLimit e h = h.1
   as_no x e h = h
 
-  as_picked : (full : Bool) → (not there && many) ≡ full → (o : Option Cause) × (first_test as_test order ≡ o) × old.IsStep s (was (As name)) (found made_current o)
+  as_picked : (full : Bool) → (not there && many) ≡ full → (o : Option Cause) × (first_test as_test causes ≡ o) × old.IsStep s (was (As name)) (found made_current o)
   as_picked true e = (Some TooMany, rw e refl, rw e refl)
   as_picked false e = (None, rw e refl, rw e refl)
 
@@ -169,7 +210,7 @@ missing_base s name (Some other) = ap (λ (b : Bool). not (has_scenario s.scenar
 base_yes : (s : State) (name : Bytes) (other : Option Bytes) (x : Cause) → base_test s name other x ≡ true → Holds s x (Base name other)
 base_yes s name other NoScenario e = missing_base s name other ∙ e
 base_yes s name None Loop e = absurd (clash false refl e)
-base_yes s name (Some other) Loop e = e
+base_yes s name (Some other) Loop e = in_chain name (chain s.scenarios (Some other)) e
 base_yes s name other x e = absurd (clash false refl e)
 
 base_no : (s : State) (name : Bytes) (other : Option Bytes) (x : Cause) → base_test s name other x ≡ false → Holds s x (Base name other) → ⊥
@@ -179,7 +220,7 @@ base_no s name None TooLarge e h = omega (arith, h)
 base_no s name (Some other) TooLarge e h = omega (arith, h)
 base_no s name other NoScenario e h = clash _ e (sym (missing_base s name other) ∙ h)
 base_no s name None Loop e h = h
-base_no s name (Some other) Loop e h = clash _ e h
+base_no s name (Some other) Loop e h = not_in_chain name (chain s.scenarios (Some other)) e h
 base_no s name other Stale e h = h.1 refl
 base_no s name other Full e h = h.1
 base_no s name other EditLimit e h = h.1
@@ -187,7 +228,7 @@ base_no s name other x e h = h
 
 module _ (s : State) (name : Bytes) (other : Option Bytes) where
   base_picked : (missing loop : Bool) → (not (has_scenario s.scenarios name) || lacks s.scenarios other) ≡ missing → would_loop s.scenarios name other ≡ loop
-      → (o : Option Cause) × (first_test (base_test s name other) order ≡ o) × old.IsStep s (was (Base name other)) (found (based s name other) o)
+      → (o : Option Cause) × (first_test (base_test s name other) causes ≡ o) × old.IsStep s (was (Base name other)) (found (based s name other) o)
   base_picked true loop em el = (Some NoScenario, rw em refl, rw em refl)
   base_picked false true em el = (Some Loop, rw (em, el) refl, rw (em, el) refl)
   base_picked false false em el = (None, rw (em, el) refl, rw (em, el) refl)
@@ -223,7 +264,7 @@ module _ (s : State) (name : Bytes) (at : Cell) where
   away_no x e h = h
 
   away_picked : (out missing : Bool) → is_outside at ≡ out → not (has_scenario s.scenarios name) ≡ missing
-      → (o : Option Cause) × (first_test away_test order ≡ o) × old.IsStep s (was (Scenario name at [])) (found taken_away o)
+      → (o : Option Cause) × (first_test away_test causes ≡ o) × old.IsStep s (was (Scenario name at [])) (found taken_away o)
   away_picked true missing eo em = (Some Outside, rw eo refl, rw eo refl)
   away_picked false true eo em = (Some NoScenario, rw (eo, em) refl, rw (eo, em) refl)
   away_picked false false eo em = (None, rw (eo, em) refl, rw (eo, em) refl)
@@ -285,7 +326,7 @@ module _ (s : State) (name : Bytes) (at : Cell) (b : ℕ) (bs : Bytes) (value : 
 module _ (s : State) (name : Bytes) (at : Cell) (b : ℕ) (bs : Bytes) where
   abbrev Picked : (value : Option Value) → IsImported (b ∷ bs) value → Type 0
   Picked value is =
-      (o : Option Cause) × (first_test (put_test s name at b bs value is) order ≡ o) × old.IsStep s (was (Scenario name at (b ∷ bs))) (found (putting s name at b bs value is value) o)
+      (o : Option Cause) × (first_test (put_test s name at b bs value is) causes ≡ o) × old.IsStep s (was (Scenario name at (b ∷ bs))) (found (putting s name at b bs value is value) o)
 
   put_picked : (value : Option Value) (is : IsImported (b ∷ bs) value) (out full : Bool) → is_outside at ≡ out → is_full s.scenarios name (address at) ≡ full → Picked value is
   put_picked value is true full eo ef = (Some Outside, rw eo refl, rw eo refl)
@@ -294,12 +335,12 @@ module _ (s : State) (name : Bytes) (at : Cell) (b : ℕ) (bs : Bytes) where
   put_picked (Some v) is false false eo ef = (None, rw (eo, ef) refl, rw eo (record { value = Some v; is_value = is; answered = rw ef refl }))
 
   refused : (is : IsImported (b ∷ bs) None) (out full : Bool) → is_outside at ≡ out → is_full s.scenarios name (address at) ≡ full
-      → (x : Cause) × (first_test (put_test s name at b bs None is) order ≡ Some x)
+      → (x : Cause) × (first_test (put_test s name at b bs None is) causes ≡ Some x)
   refused is true full eo ef = (Outside, rw eo refl)
   refused is false true eo ef = (TooMany, rw (eo, ef) refl)
   refused is false false eo ef = (TooLong, rw (eo, ef) refl)
 
-  does : (value : Option Value) (is : IsImported (b ∷ bs) value) → first_test (put_test s name at b bs value is) order ≡ None
+  does : (value : Option Value) (is : IsImported (b ∷ bs) value) → first_test (put_test s name at b bs value is) causes ≡ None
       → Does s (Scenario name at (b ∷ bs)) (putting s name at b bs value is value)
   does None is e =
       let r = refused is (is_outside at) (is_full s.scenarios name (address at)) refl refl in

@@ -12,18 +12,18 @@ use Rattle.wi_parser.specs.Tree.{Tree}
 use Rattle.wi_parser.specs.Inner.Reading.{content_read}
 use Rattle.wi_parser.proofs.ContentsOfTexts.{content_is_one}
 use Rattle.wi_scenarios.specs.declared.refusal.Refusal.TheVariants as refusal
-use Rattle.wi_scenarios.specs.State.{State}
-use Rattle.wi_scenarios.specs.Areas.{max_area}
+use Rattle.wi_scenarios.specs.State.{State, max_area}
 use Rattle.wi_scenarios.specs.Step as old
 use Rattle.wi_scenarios.specs.Causes.{no_cause}
 use Rattle.wi_scenarios.specs.Edits.{edit_answer}
 use Rattle.wi_scenarios.specs.Set.{set_answer, set_edit, cell_area, fault_in}
 use Rattle.wi_cli.specs.Inner.Operands.{of_operand}
-use Rattle.wi_cli.specs.Operands.{Bytes, Cell, is_outside, address}
+use Rattle.wi_cli.specs.Operands.{Cell, is_outside, address}
+use Rattle.wi_cli.specs.Lines.{Bytes}
 use Rattle.wi_cli.specs.Command.{Command, Set, form}
 use Rattle.wi_cli.specs.Edits.{Put, Puts, after_edit}
-use Rattle.wi_cli.specs.Causes.{Cause, BadCommand, Outside, TooLarge, NoScenario, TooLong, OutOfSheet, NumberRange, TooDeep, Syntax, LeavesSheet, Stale, Full, EditLimit, Holds, IsFirst, order, lies_outside, is_missing, size}
-use Rattle.wi_cli.specs.Step.{Answer, IsStep}
+use Rattle.wi_cli.specs.Causes.{Cause, BadCommand, Outside, TooLarge, NoScenario, TooLong, OutOfSheet, NumberRange, TooDeep, Syntax, LeavesSheet, Stale, Full, EditLimit, Holds, lies_outside, is_missing, size}
+use Rattle.wi_cli.specs.Step.{Answer, IsStep, causes, IsFirstOf}
 use Rattle.wi_cli.specs.Does.{Does}
 use Rattle.wi_cli.specs.Laws.{SameStep, read_by, read_cell}
 use Rattle.wi_cli.proofs.Ties.Uniqueness.{answers, same_answers, outside_step}
@@ -103,7 +103,7 @@ module _ (s : State) (force : Bool) (c : Cell) (text : Bytes) (inside : is_outsi
   behind = TooLong ∷ OutOfSheet ∷ NumberRange ∷ TooDeep ∷ Syntax ∷ LeavesSheet ∷ last
 
   module _ (some : Holds s BadCommand set → ⊥) where
-    front : (x : Cause) → IsFirst s set behind x → IsFirst s set order x
+    front : (x : Cause) → IsFirstOf s set behind x → IsFirstOf s set causes x
     front x h =
         inr (λ k. k, inr (some, inr (λ k. k, inr (λ k. clash _ (not_outside force) k, inr (small force, inr (λ k. clash _ (none_missing force) k, inr (λ k. k, inr (λ k. k, inr (λ k. k, h)))))))))
 
@@ -121,7 +121,7 @@ module _ (s : State) (force : Bool) (c : Cell) (text : Bytes) (inside : is_outsi
       one_put : (q : List Put) → Puts s set q → q ≡ (address c, Some content) ∷ []
       one_put q h = one_puts s force c text q ((address c, Some content) ∷ []) h put
 
-      later : (x : Cause) → IsFirst s set last x → IsFirst s set order x
+      later : (x : Cause) → IsFirstOf s set last x → IsFirstOf s set causes x
       later x h = front x (inr (no_fault _, inr (no_fault _, inr (no_fault _, inr (no_fault _, inr (no_fault _, inr (λ k. k, h)))))))
 
       only : (x : Cause) → Holds s x set → Holds s Stale set ⊎ (Holds s Full set ⊎ Holds s EditLimit set)

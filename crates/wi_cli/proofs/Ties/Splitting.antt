@@ -3,7 +3,7 @@ use Rattle.std.proofs.Common.{◌≡◌, ℕ, ◌+◌, ◌-◌, Bool, true, fals
 use Rattle.std.proofs.lemmas.Bool.Decides.{nat_tests}
 use Rattle.std.proofs.lemmas.List.{length-append, append-nil, append_assoc}
 use Rattle.wi_cli.specs.Inner.Blocks.{Block, blocks_from, blocks, begun}
-use Rattle.wi_cli.specs.Operands.{Bytes}
+use Rattle.wi_cli.specs.Lines.{Bytes}
 use Rattle.wi_cli.specs.Laws.{Splits, none, a_line, cut_short, asked, block}
 
 same_block : (line : Bytes) (taken : List Bytes) (m : ℕ) → m ≡ asked line - length taken → ◌≡◌ {A = Block} (record { line = line; data_lines = taken; missing = m }) (block line taken)

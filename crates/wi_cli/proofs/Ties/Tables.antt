@@ -1,15 +1,15 @@
 -- The step of `table`.
 use Rattle.std.proofs.Common.{◌≡◌, ◌<◌, ℕ, min, max, Bool, true, false, not, ◌||◌, ◌&&◌, ◌==◌, nat_lt, inl, inr, None, Ok, Err, refl, sym, ap, ◌∙◌, subst, arith}
 use Rattle.std.proofs.lemmas.Bool.Decides.{nat_tests}
-use Rattle.wi_values.specs.Address.{Area, columns, place, column_of}
+use Rattle.wi_values.specs.Address.{Area, columns, place, row_of, column_of}
 use Rattle.wi_scenarios.specs.declared.refusal.Refusal.TheVariants as refusal
-use Rattle.wi_scenarios.specs.State.{State}
-use Rattle.wi_scenarios.specs.Areas.{max_area}
+use Rattle.wi_scenarios.specs.State.{State, max_area}
 use Rattle.wi_scenarios.specs.Views.{current_replacements}
 use Rattle.wi_scenarios.specs.Step as old
 use Rattle.wi_reports.specs.Table.{table_of, is_column, entries}
 use Rattle.wi_cli.specs.Inner.TableCommand.{table_of_one}
-use Rattle.wi_cli.specs.Operands.{Bytes, Cell, Corners, is_outside, address, area}
+use Rattle.wi_cli.specs.Operands.{Cell, Corners, is_outside, address, area}
+use Rattle.wi_cli.specs.Lines.{Bytes}
 use Rattle.wi_cli.specs.Command.{Command, Table}
 use Rattle.wi_cli.specs.Causes.{Cause, BadCommand, Outside, TooLarge, NoScenario, Stale, Full, EditLimit, Holds}
 use Rattle.wi_cli.specs.Step.{Answer, IsStep}
@@ -69,7 +69,10 @@ pub second_inside : (a b : Bool) → (a || b) ≡ false → b ≡ false
 second_inside true b e = absurd (clash true e refl)
 second_inside false b e = e
 
--- the column of a cell, and whether two columns are one
+-- the row and the column of a cell, and whether two columns are one
+pub row_place : (r c : ℕ) → c < columns → row_of (place r c) ≡ r
+row_place r c h = omega arith
+
 pub column_place : (r c : ℕ) → c < columns → column_of (place r c) ≡ c
 column_place r c h = omega arith
 

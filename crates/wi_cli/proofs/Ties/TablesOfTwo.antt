@@ -6,19 +6,19 @@ use Rattle.wi_values.specs.Address.{Area, columns, place, row_of, column_of, siz
 use Rattle.wi_values.specs.declared.address.AddressFault.{AddressFault}
 use Rattle.wi_values.specs.declared.address.AddressFault.TheVariants.{Shape, Outside as AtOutside}
 use Rattle.wi_scenarios.specs.declared.refusal.Refusal.TheVariants as refusal
-use Rattle.wi_scenarios.specs.State.{State}
-use Rattle.wi_scenarios.specs.Areas.{max_area}
+use Rattle.wi_scenarios.specs.State.{State, max_area}
 use Rattle.wi_scenarios.specs.Views.{current_replacements}
 use Rattle.wi_scenarios.specs.Step as old
 use Rattle.wi_reports.specs.Table.{table_of, is_column, is_row}
 use Rattle.wi_cli.specs.Inner.Operands.{of_operand, worse, column_fault, row_fault}
 use Rattle.wi_cli.specs.Inner.TableCommand.{unless_refused, table_of_one, table_of_two}
-use Rattle.wi_cli.specs.Operands.{Bytes, Cell, Corners, is_outside, address, area}
+use Rattle.wi_cli.specs.Operands.{Cell, Corners, is_outside, address, area}
+use Rattle.wi_cli.specs.Lines.{Bytes}
 use Rattle.wi_cli.specs.Command.{Command, Table}
-use Rattle.wi_cli.specs.Causes.{Cause, BadCommand, Outside, TooLarge, NoScenario, Stale, Full, EditLimit, Holds, order}
-use Rattle.wi_cli.specs.Step.{Answer}
+use Rattle.wi_cli.specs.Causes.{Cause, BadCommand, Outside, TooLarge, NoScenario, Stale, Full, EditLimit, Holds}
+use Rattle.wi_cli.specs.Step.{Answer, causes}
 use Rattle.wi_cli.specs.Laws.{SameStep, read_by, read_cell, read_corners, was}
-use Rattle.wi_cli.proofs.Ties.Tables.{clash, too_large, not_large, inside, first_inside, second_inside, column_place, min_max, column_is}
+use Rattle.wi_cli.proofs.Ties.Tables.{clash, too_large, not_large, inside, first_inside, second_inside, row_place, column_place, min_max, column_is}
 use Rattle.wi_cli.proofs.Ties.Looks.{once, or_false}
 use Rattle.wi_cli.proofs.Ties.Tests.{first_test, found, by_tests}
 
@@ -96,9 +96,6 @@ row_out true a = refl
 row_out false a = shape_out (is_row a)
 
 -- ---- rows
-
-row_place : (r c : ℕ) → c < columns → row_of (place r c) ≡ r
-row_place r c h = omega arith
 
 -- within the sheet two corners are in one row where the rectangle is
 row_is : (ys : Corners) → (is_outside ys.0 || is_outside ys.1) ≡ false → is_row (area ys) ≡ (ys.0.row == ys.1.row)
@@ -212,7 +209,7 @@ module _ (s : State) (f r : Cell) (xs : Corners) (c : Cell) (ys : Corners) where
   table_no x e h = h
 
   abbrev Picked : Type 0
-  Picked = (o : Option Cause) × (first_test table_test order ≡ o) × old.IsStep s (was table) (found done o)
+  Picked = (o : Option Cause) × (first_test table_test causes ≡ o) × old.IsStep s (was table) (found done o)
 
   abbrev pub proper : old.Command
   proper = old.Table (address f) (address r) (area xs) (Some (address c, area ys))

@@ -4,11 +4,11 @@ use Rattle.wi_scenarios.specs.declared.refusal.Refusal.{Refusal}
 use Rattle.wi_scenarios.specs.declared.refusal.Refusal.TheVariants as refusal
 use Rattle.wi_scenarios.specs.State.{State}
 use Rattle.wi_scenarios.specs.Step as old
-use Rattle.wi_cli.specs.Operands.{Bytes}
+use Rattle.wi_cli.specs.Lines.{Bytes}
 use Rattle.wi_cli.specs.Command.{Command}
-use Rattle.wi_cli.specs.Causes.{Cause, BadLine, BadCommand, CutShort, Outside, TooLarge, NoScenario, InUse, TooMany, BadField, TooLong, OutOfSheet, NumberRange, TooDeep, Syntax, LeavesSheet, Stale, Loop, Full, EditLimit, Holds, IsFirst, order}
+use Rattle.wi_cli.specs.Causes.{Cause, BadLine, BadCommand, CutShort, Outside, TooLarge, NoScenario, InUse, TooMany, BadField, TooLong, OutOfSheet, NumberRange, TooDeep, Syntax, LeavesSheet, Stale, Loop, Full, EditLimit, Holds}
 use Rattle.wi_cli.specs.Does.{Does}
-use Rattle.wi_cli.specs.Step.{Answer, Tells, IsStep}
+use Rattle.wi_cli.specs.Step.{Answer, Tells, IsStep, causes, IsFirstOf}
 use Rattle.wi_cli.proofs.Ties.Uniqueness.{DoesOne, same_answers}
 use Rattle.wi_cli.proofs.Ties.Tables.{clash}
 
@@ -50,7 +50,7 @@ abbrev Among : List Cause → Cause → Type 0
 Among [] x = ⊥
 Among (y ∷ ys) x = (y ≡ x) ⊎ Among ys x
 
-is_among : (x : Cause) → Among order x
+is_among : (x : Cause) → Among causes x
 is_among BadLine = inl refl
 is_among BadCommand = inr (inl refl)
 is_among CutShort = inr (inr (inl refl))
@@ -80,17 +80,17 @@ same_some x y e = cc
 -- ---- the step
 
 module _ (s : State) (c : Command) (test : Cause → Bool) (yes : (x : Cause) → test x ≡ true → Holds s x c) (no : (x : Cause) → test x ≡ false → Holds s x c → ⊥)
-    (fresh : test Stale ≡ false) (done : State × Bytes) (does : first_test test order ≡ None → Does s c done) (one : DoesOne s c) where
+    (fresh : test Stale ≡ false) (done : State × Bytes) (does : first_test test causes ≡ None → Does s c done) (one : DoesOne s c) where
   tells : (x : Cause) → test x ≡ true → Tells s c x (refusal_for x)
   tells Stale t = absurd (clash _ fresh t)
   tells x t = refl
 
-  first_is : (xs : List Cause) (x : Cause) → first_test test xs ≡ Some x → IsFirst s c xs x × (test x ≡ true)
+  first_is : (xs : List Cause) (x : Cause) → first_test test xs ≡ Some x → IsFirstOf s c xs x × (test x ≡ true)
   first_is [] x e = absurd (some_none x (sym e))
   first_is (y ∷ ys) x e = by (test y) refl e (λ k. first_is ys x k)
     where
-      by : (b : Bool) → test y ≡ b → (if b then Some y else first_test test ys) ≡ Some x → (first_test test ys ≡ Some x → IsFirst s c ys x × (test x ≡ true))
-          → IsFirst s c (y ∷ ys) x × (test x ≡ true)
+      by : (b : Bool) → test y ≡ b → (if b then Some y else first_test test ys) ≡ Some x → (first_test test ys ≡ Some x → IsFirstOf s c ys x × (test x ≡ true))
+          → IsFirstOf s c (y ∷ ys) x × (test x ≡ true)
       by true t e more =
           let same : y ≡ x = same_some y x e in
           (inl (yes y t, sym same), subst (λ (z : Cause). test z ≡ true) same t)
@@ -108,11 +108,11 @@ module _ (s : State) (c : Command) (test : Cause → Bool) (yes : (x : Cause) �
       by false t e (inl same) more = subst (λ (z : Cause). test z ≡ false) same t
       by false t e (inr h) more = more e h
 
-  step : (o : Option Cause) → first_test test order ≡ o → IsStep s c (found done o)
-  step None e = (λ x h. no x (none_is order e x (is_among x)) h, does e)
+  step : (o : Option Cause) → first_test test causes ≡ o → IsStep s c (found done o)
+  step None e = (λ x h. no x (none_is causes e x (is_among x)) h, does e)
   step (Some x) e =
-      let p = first_is order x e in
+      let p = first_is causes x e in
       (x, p.0, tells x p.1)
 
-  pub by_tests : (before : old.Command) (o : Option Cause) → first_test test order ≡ o → old.IsStep s before (found done o) → (a : Answer) → old.IsStep s before a ↔ IsStep s c a
+  pub by_tests : (before : old.Command) (o : Option Cause) → first_test test causes ≡ o → old.IsStep s before (found done o) → (a : Answer) → old.IsStep s before a ↔ IsStep s c a
   by_tests before o e h a = same_answers s c one before (found done o) h (step o e) a

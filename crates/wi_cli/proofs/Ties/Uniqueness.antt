@@ -5,19 +5,19 @@ use Rattle.wi_scenarios.specs.declared.refusal.Refusal.TheVariants as refusal
 use Rattle.wi_scenarios.specs.State.{State}
 use Rattle.wi_scenarios.specs.Step as old
 use Rattle.wi_scenarios.proofs.StepLemmas.{no_other}
-use Rattle.wi_cli.specs.Operands.{Bytes}
+use Rattle.wi_cli.specs.Lines.{Bytes}
 use Rattle.wi_cli.specs.Command.{Command}
-use Rattle.wi_cli.specs.Causes.{Cause, BadLine, BadCommand, CutShort, Outside, Stale, Holds, IsFirst, order}
+use Rattle.wi_cli.specs.Causes.{Cause, BadLine, BadCommand, CutShort, Outside, Stale, Holds}
 use Rattle.wi_cli.specs.Does.{Does}
-use Rattle.wi_cli.specs.Step.{Answer, Tells, IsStep}
+use Rattle.wi_cli.specs.Step.{Answer, Tells, IsStep, causes, IsFirstOf}
 
 module _ (s : State) (c : Command) where
-  pub first_holds : (xs : List Cause) (x : Cause) → IsFirst s c xs x → Holds s x c
+  pub first_holds : (xs : List Cause) (x : Cause) → IsFirstOf s c xs x → Holds s x c
   first_holds [] x h = absurd h
   first_holds (z ∷ zs) x (inl h) = subst (λ (y : Cause). Holds s y c) (sym h.1) h.0
   first_holds (z ∷ zs) x (inr h) = first_holds zs x h.1
 
-  pub one_first : (xs : List Cause) (x y : Cause) → IsFirst s c xs x → IsFirst s c xs y → x ≡ y
+  pub one_first : (xs : List Cause) (x y : Cause) → IsFirstOf s c xs x → IsFirstOf s c xs y → x ≡ y
   one_first [] x y h k = absurd h
   one_first (z ∷ zs) x y (inl h) (inl k) = h.1 ∙ sym k.1
   one_first (z ∷ zs) x y (inl h) (inr k) = absurd (k.0 h.0)
@@ -36,10 +36,10 @@ module _ (s : State) (c : Command) where
 
   pub one_answer : DoesOne → (a b : Answer) → IsStep s c a → IsStep s c b → a ≡ b
   one_answer one (Ok x) (Ok y) h k = ap (λ (z : State × Bytes). let a : Answer = Ok z in a) (one x y h.1 k.1)
-  one_answer one (Ok x) (Err e) h k = absurd (h.0 k.0 (first_holds order k.0 k.1))
-  one_answer one (Err d) (Ok y) h k = absurd (k.0 h.0 (first_holds order h.0 h.1))
+  one_answer one (Ok x) (Err e) h k = absurd (h.0 k.0 (first_holds causes k.0 k.1))
+  one_answer one (Err d) (Ok y) h k = absurd (k.0 h.0 (first_holds causes h.0 h.1))
   one_answer one (Err d) (Err e) h k =
-      let same : k.0 ≡ h.0 = one_first order k.0 h.0 k.1 h.1 in
+      let same : k.0 ≡ h.0 = one_first causes k.0 h.0 k.1 h.1 in
       ap (λ (r : Refusal). let a : Answer = Err r in a) (one_told h.0 d e h.2 (subst (λ (x : Cause). Tells s c x e) same k.2))
 
   -- where an answer is found, the step's answers are that one

@@ -9,12 +9,14 @@ use Rattle.wi_scenarios.specs.Answer.{MayGrow}
 use Rattle.wi_scenarios.specs.Step as old
 use Rattle.wi_cli.specs.Inner.Operands.{of_operand}
 use Rattle.wi_cli.specs.Inner.CsvCommand.{is_long}
-use Rattle.wi_cli.specs.Operands.{Bytes, Cell, Corners, is_outside, address, area}
+use Rattle.wi_cli.specs.Operands.{Cell, Corners, is_outside, address, area}
+use Rattle.wi_cli.specs.Lines.{Bytes}
 use Rattle.wi_cli.specs.Command.{Command, Set, Clear, Fill, Csv, Scenario, Drop, Base, Use, As, Show, Export, Compare, Table, Formula, Changes, Unknown, Unreadable, form}
-use Rattle.wi_cli.specs.Causes.{Cause, BadLine, BadCommand, CutShort, Outside, TooLarge, NoScenario, InUse, TooMany, BadField, TooLong, OutOfSheet, NumberRange, TooDeep, Syntax, LeavesSheet, Stale, Loop, Full, EditLimit, Holds, IsFirst, order, lies_outside}
+use Rattle.wi_cli.specs.Causes.{Cause, BadLine, BadCommand, CutShort, Outside, TooLarge, NoScenario, InUse, TooMany, BadField, TooLong, OutOfSheet, NumberRange, TooDeep, Syntax, LeavesSheet, Stale, Loop, Full, EditLimit, Holds, lies_outside}
 use Rattle.wi_cli.specs.Reply.{late}
-use Rattle.wi_cli.specs.Step.{Answer, IsStep}
+use Rattle.wi_cli.specs.Step.{Answer, IsStep, causes, IsFirstOf}
 use Rattle.wi_cli.specs.Laws.{was, read_by, SameLack}
+use Rattle.wi_cli.proofs.Ties.Codes.{LateCoded, same_late}
 use Rattle.wi_cli.proofs.Ties.Lacks.{not_late, same_lack}
 use Rattle.wi_cli.proofs.Ties.Steps.{same_step}
 use Rattle.wi_cli.proofs.Ties.Tables.{clash}
@@ -45,13 +47,10 @@ AllEarly [] = Unit {0}
 AllEarly (z ∷ zs) = (Contains late z → ⊥) × AllEarly zs
 
 module _ (s : State) (c : Command) where
-  abbrev Late : Type 0
-  Late = (x : Cause) → IsFirst s c order x → Contains late x
-
   abbrev Early : Type 0
-  Early = (x : Cause) → IsFirst s c order x → Contains late x → ⊥
+  Early = (x : Cause) → IsFirstOf s c causes x → Contains late x → ⊥
 
-  bounded : (front : List Cause) (y : Cause) (rest : List Cause) → AllEarly front → (Contains late y → ⊥) → Holds s y c → (x : Cause) → IsFirst s c (front ++ y ∷ rest) x → Contains late x → ⊥
+  bounded : (front : List Cause) (y : Cause) (rest : List Cause) → AllEarly front → (Contains late y → ⊥) → Holds s y c → (x : Cause) → IsFirstOf s c (front ++ y ∷ rest) x → Contains late x → ⊥
   bounded [] y rest all early h x (inl k) l = early (subst (Contains late) k.1 l)
   bounded [] y rest all early h x (inr k) l = k.0 h
   bounded (z ∷ zs) y rest all early h x (inl k) l = all.0 (subst (Contains late) k.1 l)
@@ -66,16 +65,16 @@ module _ (s : State) (c : Command) where
   early_outside : Holds s Outside c → Early
   early_outside h x f l = bounded (BadLine ∷ BadCommand ∷ CutShort ∷ []) Outside behind (late_line, (late_command, (late_come, tt))) late_outside h x f l
 
-  refused : (e : Refusal) → was c ≡ old.Refused e → Early → old.MayLackMemory s (was c) ↔ Late
+  refused : (e : Refusal) → was c ≡ old.Refused e → Early → old.MayLackMemory s (was c) ↔ LateCoded s c
   refused e eq early =
       let told : old.IsStep s (was c) (Err e) = subst (λ (w : old.Command). old.IsStep s w (Err e)) (sym eq) refl in
       let first : IsStep s c (Err e) = (same_step s c (Err e)).0 told in
-      (λ h. absurd (subst (old.MayLackMemory s) eq h), λ all. absurd (early first.0 first.1 (all first.0 first.1)))
+      (λ h. absurd (subst (old.MayLackMemory s) eq h), λ all. absurd (early first.0 first.1 ((same_late s c).1 all first.0 first.1)))
 
-  proper_lack : (w : old.Command) → was c ≡ w → old.MayLackMemory s w ↔ MayGrow (old.IsStep s w) → (Holds s Outside c → ⊥) → (Holds s CutShort c → ⊥) → old.MayLackMemory s (was c) ↔ Late
+  proper_lack : (w : old.Command) → was c ≡ w → old.MayLackMemory s w ↔ MayGrow (old.IsStep s w) → (Holds s Outside c → ⊥) → (Holds s CutShort c → ⊥) → old.MayLackMemory s (was c) ↔ LateCoded s c
   proper_lack w eq grows inside come =
       let lack = same_lack s c inside come w (subst (λ (x : old.Command). (a : Answer) → old.IsStep s x a ↔ IsStep s c a) eq (same_step s c)) in
-      (λ h. lack.0 (grows.0 (subst (old.MayLackMemory s) eq h)), λ k. subst (old.MayLackMemory s) (sym eq) (grows.1 (lack.1 k)))
+      (λ h. (same_late s c).0 (lack.0 (grows.0 (subst (old.MayLackMemory s) eq h))), λ k. subst (old.MayLackMemory s) (sym eq) (grows.1 (lack.1 ((same_late s c).1 k))))
 
 -- ---- each command
 
@@ -163,7 +162,7 @@ lack_use s (Some name) = proper_lack s (Use (Some name)) (old.Use (Some name)) r
 lack_as : (s : State) (name : Bytes) → SameLack s (As name)
 lack_as s name =
     let lack = same_lack s (As name) (λ h. clash false refl h) (λ h. h) (old.As name) (same_step s (As name)) in
-    (λ h. (h.0, lack.0 h.1), λ k. (k.0, lack.1 k.1))
+    (λ h. (h.0, (same_late s (As name)).0 (lack.0 h.1)), λ k. (k.0, lack.1 ((same_late s (As name)).1 k.1)))
 
 lack_one : (s : State) (f r : Cell) (xs : Corners) (b o : Bool) → one_bent s f r xs ≡ b → one_out s f r xs ≡ o → SameLack s (Table f r xs None)
 lack_one s f r xs true o eb eo = refused s (Table f r xs None) refusal.BadCommand (one_was_bent s f r xs eb) (early_command s (Table f r xs None) eb)

@@ -7,8 +7,8 @@ use Rattle.wi_values.specs.declared.address.AddressFault.{AddressFault}
 use Rattle.wi_values.specs.declared.address.AddressFault.TheVariants.{Shape, Outside}
 use Rattle.wi_scenarios.specs.declared.refusal.Refusal.TheVariants.{BadCommand, BadLine, OutOfSheet, CutShort}
 use Rattle.wi_scenarios.specs.Step.{Command, Csv, Refused, RefusedData}
-use Rattle.wi_cli.specs.Lines.{without_lf, without_cr, max_line}
-use Rattle.wi_cli.specs.Words.{first_word, after_word, is_all_spaces}
+use Rattle.wi_cli.specs.Lines.{without_lf, without_cr, max_line, first_word, after_word}
+use Rattle.wi_cli.specs.Inner.Operands.{is_all_spaces}
 
 -- ---- a line that asks for data lines
 

@@ -8,7 +8,7 @@ use Rattle.wi_values.specs.declared.address.AddressFault.TheVariants.{Shape, Out
 use Rattle.wi_scenarios.specs.declared.refusal.Refusal.TheVariants.{BadCommand}
 use Rattle.wi_scenarios.specs.Answer.{operand_refusal}
 use Rattle.wi_scenarios.specs.Step.{Command, Set, Clear, Fill, Refused}
-use Rattle.wi_cli.specs.Words.{first_word, after_word}
+use Rattle.wi_cli.specs.Lines.{first_word, after_word}
 use Rattle.wi_cli.specs.Inner.Operands.{at_end, of_operand}
 
 -- `set ADDR CONTENT`; CONTENT is all after the one space that follows ADDR

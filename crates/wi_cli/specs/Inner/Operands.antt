@@ -1,5 +1,6 @@
 -- The operands of commands.
-use Rattle.std.specs.Prelude.{ℕ, List, Option, Some, None, option_map, Result, Ok, Err, if◌then◌else◌, codes}
+use Rattle.std.specs.Prelude.{ℕ, Bool, List, Option, Some, None, option_map, Result, Ok, Err, if◌then◌else◌, codes}
+use Rattle.std.specs.List.{list_all}
 use Rattle.std.specs.Str.{bytes_eq}
 use Rattle.wi_values.specs.Address.{Area}
 use Rattle.wi_values.specs.Name.{read_name}
@@ -9,7 +10,11 @@ use Rattle.wi_reports.specs.Table.{is_column, is_row}
 use Rattle.wi_scenarios.specs.declared.refusal.Refusal.TheVariants.{BadCommand}
 use Rattle.wi_scenarios.specs.Answer.{operand_refusal}
 use Rattle.wi_scenarios.specs.Step.{Command, Refused}
-use Rattle.wi_cli.specs.Words.{first_word, after_word, is_all_spaces}
+use Rattle.wi_cli.specs.Lines.{is_space, first_word, after_word}
+
+-- no word is there
+abbrev pub is_all_spaces : List ℕ → Bool
+is_all_spaces text = list_all is_space text
 
 -- the command, where no word is left
 abbrev pub at_end : List ℕ → Command → Command

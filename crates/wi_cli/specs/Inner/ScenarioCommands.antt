@@ -3,7 +3,7 @@ use Rattle.std.specs.Prelude.{ℕ, List}
 use Rattle.wi_values.specs.AddressReading.{read_address}
 use Rattle.wi_values.specs.Name.{read_name}
 use Rattle.wi_scenarios.specs.Step.{Command, Scenario, Drop, Base, Use, As}
-use Rattle.wi_cli.specs.Words.{first_word, after_word}
+use Rattle.wi_cli.specs.Lines.{first_word, after_word}
 use Rattle.wi_cli.specs.Inner.Operands.{of_operand, of_name, only_name, name_or_none}
 
 -- `scenario NAME ADDR CONTENT`; CONTENT is all after the one space that follows ADDR, and may be empty

@@ -4,8 +4,8 @@ use Rattle.std.specs.Str.{byte, bytes_eq, is_utf8}
 use Rattle.wi_values.specs.AddressReading.{read_address}
 use Rattle.wi_scenarios.specs.declared.refusal.Refusal.TheVariants.{BadLine}
 use Rattle.wi_scenarios.specs.Step.{Command, Refused}
-use Rattle.wi_cli.specs.Lines.{raw_lines, without_lf, without_cr, is_whole, max_line}
-use Rattle.wi_cli.specs.Words.{first_word, after_word, is_all_spaces}
+use Rattle.wi_cli.specs.Lines.{raw_lines, without_lf, without_cr, is_whole, max_line, first_word, after_word}
+use Rattle.wi_cli.specs.Inner.Operands.{is_all_spaces}
 use Rattle.wi_cli.specs.Inner.EditCommands.{edit_command}
 use Rattle.wi_cli.specs.Inner.ScenarioCommands.{scenario_command, drop_command, base_command, use_command, as_command}
 use Rattle.wi_cli.specs.Inner.LookCommands.{show_command, export_command, changes_command, compare_command, formula_command}

@@ -6,8 +6,8 @@ use Rattle.wi_values.specs.AddressReading.{read_address, read_rect}
 use Rattle.wi_values.specs.declared.address.AddressFault.{AddressFault}
 use Rattle.wi_scenarios.specs.Answer.{operand_refusal}
 use Rattle.wi_scenarios.specs.Step.{Command, Table, Refused}
-use Rattle.wi_cli.specs.Words.{first_word, after_word, is_all_spaces}
-use Rattle.wi_cli.specs.Inner.Operands.{at_end, of_operand, column_fault, row_fault, worse}
+use Rattle.wi_cli.specs.Lines.{first_word, after_word}
+use Rattle.wi_cli.specs.Inner.Operands.{at_end, of_operand, column_fault, row_fault, worse, is_all_spaces}
 
 -- the command, unless an operand is refused
 abbrev pub unless_refused : Option AddressFault → Command → Command

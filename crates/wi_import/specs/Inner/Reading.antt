@@ -1,15 +1,28 @@
 -- What an import of fields comes to, as a function. A law ties it to what imports come to.
-use Rattle.std.specs.Prelude.{ℕ, nat_le, Bool, not, ◌||◌, if◌then◌else◌, List, map, Option, Some, None, is_some, Result, Ok, Err}
+use Rattle.std.specs.Prelude.{ℕ, nat_le, Bool, not, ◌||◌, if◌then◌else◌, List, map, Option, Some, None, is_some, Result, Ok, Err, IsUtf8}
 use Rattle.std.specs.List.{list_any}
 use Rattle.std.specs.Str.{is_utf8}
-use Rattle.wi_values.specs.Address.{rows, columns}
+use Rattle.wi_values.specs.Address.{rows, columns, place}
 use Rattle.wi_values.specs.Inner.Import.{field_value}
 use Rattle.wi_values.specs.declared.value.Value.{Value}
 use Rattle.wi_parser.specs.declared.content.Content.{Content}
 use Rattle.wi_parser.specs.Sheet.{constant}
 use Rattle.wi_import.specs.declared.fault.ImportFault.{ImportFault}
 use Rattle.wi_import.specs.declared.fault.ImportFault.TheVariants.{BadField, TooLong, OutOfSheet}
-use Rattle.wi_import.specs.Fields.{Field, field_cell}
+use Rattle.wi_values.specs.Imported.{IsImported}
+use Rattle.wi_import.specs.Fields.{Field}
+
+-- the cell for which a field is
+abbrev pub field_cell : Field → ℕ
+field_cell f = place f.row f.column
+
+-- a field is a text
+abbrev pub IsText : Field → Type 0
+IsText f = IsUtf8 f.bytes
+
+-- a field is too long for a text, and nothing else
+abbrev pub IsTooLong : Field → Type 0
+IsTooLong f = IsImported f.bytes None
 
 abbrev pub is_bad : List ℕ → Bool
 is_bad bytes = not (is_utf8 bytes)

@@ -1,8 +1,17 @@
 -- Laws of change lists, as statements.
-use Rattle.std.specs.Prelude.{◌≡◌, ℕ, ◌+◌, ◌<◌, ◌≤◌, ◌==◌, Bool, false, List, [], ◌∷◌}
-use Rattle.std.specs.List.{list_any}
+use Rattle.std.specs.Prelude.{◌≡◌, ℕ, ◌+◌, ◌<◌, ◌≤◌, ◌==◌, Bool, false, not, List, [], ◌∷◌, map, filter}
+use Rattle.std.specs.List.{list_any, range_with_len}
 use Rattle.wi_values.specs.declared.value.Value.{Value}
-use Rattle.wi_sessions.specs.Pictures.{value_in, with_changes, sheet_size, changes_among, changes_since}
+use Rattle.wi_sessions.specs.Pictures.{same_value, value_in, with_changes, sheet_size, changes_since}
+
+-- the cells of the sheet, in row-major order
+abbrev pub every_cell : List ℕ
+every_cell = range_with_len 0 sheet_size
+
+-- those of the cells whose value isn't the picture's, each with its value
+abbrev pub changes_among : List ℕ → List (ℕ × Value) → (ℕ → Value) → List (ℕ × Value)
+changes_among cells picture shown =
+    map (λ a. (a, shown a)) (filter (λ a. not (same_value (value_in picture a) (shown a))) cells)
 
 -- the cell is one of these
 abbrev pub is_listed : List ℕ → ℕ → Bool

@@ -1,6 +1,7 @@
 use Rattle.std.proofs.Common.{Err, rules, arith}
 use Rattle.std.proofs.lemmas.Result.{err_from_is_err_and}
-use Rattle.wi_cli.proofs.OutcomeLemmas.{going_none, going_on, ends_sent, ends_stopped, still_few, one_more, all_read, told}
+use Rattle.wi_cli.proofs.OutcomeLemmas.{going_none, going_on, ends_sent, ends_stopped, still_few, one_more, all_read, run_is}
+use Rattle.wi_cli.proofs.EndingLemmas.{not_run}
 use Rattle.wi_cli.proofs.runs.run.Goals as goal
 
 pub loop-out-init : goal.loop-out-init
@@ -33,19 +34,25 @@ loop-out-smaller g c =
     let few = still_few turned in
     omega arith
 
-pub returns-in_err-turn-clause-replies : goal.returns-in_err-turn-clause-replies
-returns-in_err-turn-clause-replies g c =
+pub returns-in_default : goal.returns-in_default
+returns-in_default g c = record { runs = not_run _ _ _ _ _ _ _ _ }
+
+pub returns-in_err-turn : goal.returns-in_err-turn
+returns-in_err-turn g c =
     let p = err_from_is_err_and c.from_residual.result c.from_residual.ensures.1 in
     let old = c.loop-out.invariant in
-    rw (p.1, p.2) (told (Err c.in_err-turn.field-0.0) _ _ _ _ _ _ (ends_stopped _ _ _ _ _ _ _ _ _ _ _ _ c.loop-out.lines old.going c.in_err-turn.ensures.done))
+    record {
+      runs =
+          run_is _ _ _ _ _ _ _ _ _ _ _ _ (rw (p.1, p.2) (ends_stopped _ _ _ _ _ _ _ _ _ _ _ _ c.loop-out.lines old.going c.in_err-turn.ensures.done))
+          (search rules) (search rules) (search rules) (search rules) (search rules) (search rules) (search rules) (search rules);
+    }
 
-pub returns-clause-replies : goal.returns-clause-replies
-returns-clause-replies g c =
+pub returns : goal.returns
+returns g c =
     let turned = rw c.if-branch.false at c.in_ok-turn.ensures.done in
     let old = c.loop-out.invariant in
-    told _ _ _ _ _ _ _ (ends_sent _ _ _ _ _ _ _ _ _ _ _ _ _ c.loop-out.lines _ old.going turned c.send.ensures.bytes c.send.ensures.fault)
-
-pub returns-clause-all_read : goal.returns-clause-all_read
-returns-clause-all_read g c =
-    let turned = rw c.if-branch.false at c.in_ok-turn.ensures.done in
-    all_read _ _ _ _ _ _ _ _ _ _ _ turned
+    record {
+      runs =
+          run_is _ _ _ _ _ _ _ _ _ _ _ _ (ends_sent _ _ _ _ _ _ _ _ _ _ _ _ _ c.loop-out.lines _ old.going turned c.send.ensures.bytes c.send.ensures.fault)
+          (all_read _ _ _ _ _ _ _ _ _ _ _ turned) (search rules) (search rules) (search rules) (search rules) (search rules) (search rules) (search rules);
+    }

@@ -1,7 +1,7 @@
 use Rattle.std.proofs.Common.{◌≡◌, ◌++◌, false}
 use Rattle.std.specs.List.{list_any}
 use Rattle.wi_values.specs.Address.{row_of, column_of}
-use Rattle.wi_import.specs.Areas.{areas_from}
+use Rattle.wi_import.specs.Fields.{areas_from}
 use Rattle.wi_import.specs.Inner.Reading.{is_outside}
 use Rattle.wi_import.specs.Inner.Records.{all_bytes}
 use Rattle.wi_import.proofs.AreaLemmas.{areas_left}

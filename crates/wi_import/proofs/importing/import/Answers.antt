@@ -3,8 +3,7 @@ use Rattle.std.specs.Prelude.{IfErr}
 use Rattle.std.specs.Result.{IsErrAnd}
 use Rattle.std.proofs.lemmas.Result.{IfOk-from_err}
 use Rattle.wi_values.specs.Address.{row_of, column_of}
-use Rattle.wi_import.specs.Areas.{areas_from}
-use Rattle.wi_import.specs.Fields.{fields_from, fields_at}
+use Rattle.wi_import.specs.Fields.{fields_from, fields_at, areas_from}
 use Rattle.wi_import.specs.Imports.{IsFault}
 use Rattle.wi_import.specs.declared.fault.ImportFault.{ImportFault}
 use Rattle.wi_import.specs.declared.fault.ImportFault.TheVariants.{Memory}

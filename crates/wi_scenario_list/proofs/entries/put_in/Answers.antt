@@ -3,7 +3,7 @@ use Rattle.std.specs.Ordering.{nat_cmp}
 use Rattle.std.specs.BTreeMap.{insert_entry}
 use Rattle.wi_values.specs.declared.value.Value.{Value}
 use Rattle.wi_values.specs.Replacements.{overridden}
-use Rattle.wi_scenario_list.specs.Scenarios.{as_replacements}
+use Rattle.wi_scenario_list.specs.Inner.Parts.{as_replacements}
 use Rattle.wi_scenario_list.proofs.Own.{order_of_entries}
 use Rattle.wi_scenario_list.proofs.entries.put_in.Goals as goal
 

@@ -2,7 +2,7 @@ use Rattle.std.proofs.Common.{◌∙◌, ℕ, List, BTreeMap, ap}
 use Rattle.wi_values.specs.declared.value.Value.{Value}
 use Rattle.std.specs.Ordering.{nat_cmp}
 use Rattle.std.specs.BTreeMap.{insert_entry}
-use Rattle.wi_scenario_list.specs.Scenarios.{as_replacements}
+use Rattle.wi_scenario_list.specs.Inner.Parts.{as_replacements}
 use Rattle.wi_scenario_list.proofs.Own.{if_ok, with_one}
 use Rattle.wi_scenario_list.proofs.layer.Layer.with.Goals as goal
 

@@ -3,7 +3,7 @@ use Rattle.wi_values.specs.declared.value.Value.{Value}
 use Rattle.std.specs.Ordering.{nat_cmp}
 use Rattle.std.specs.Map.{lookup}
 use Rattle.std.specs.BTreeMap.{is_at}
-use Rattle.wi_scenario_list.specs.Scenarios.{as_replacements, without_replacement}
+use Rattle.wi_scenario_list.specs.Inner.Parts.{as_replacements, without_replacement}
 use Rattle.wi_scenario_list.proofs.Own.{if_ok, without_one}
 use Rattle.wi_scenario_list.proofs.layer.Layer.without.Goals as goal
 

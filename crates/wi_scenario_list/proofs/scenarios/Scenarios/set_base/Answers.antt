@@ -1,7 +1,8 @@
 use Rattle.std.proofs.Common.{◌≡◌, Option, ap, ◌∙◌, rules}
 use Rattle.std.specs.Option.{option_copied}
 use Rattle.std.proofs.lemmas.Result.{on_ok_weaker}
-use Rattle.wi_scenario_list.specs.Scenarios.{Scenario, scenario_or_new, with_scenario}
+use Rattle.wi_scenario_list.specs.Scenarios.{Scenario, with_scenario}
+use Rattle.wi_scenario_list.specs.Inner.Parts.{scenario_or_new}
 use Rattle.wi_scenario_list.specs.Bases.{based_on}
 use Rattle.wi_scenario_list.specs.Inner.Held.{with_name}
 use Rattle.wi_scenario_list.proofs.Held.{not_found, found_there}

@@ -1,6 +1,7 @@
 use Rattle.std.proofs.Common.{◌≡◌, Option, ap, ◌∙◌, rules}
 use Rattle.std.proofs.lemmas.Result.{on_ok_weaker}
-use Rattle.wi_scenario_list.specs.Scenarios.{Scenario, scenario_or_new, with_scenario, without_own, without_replacement}
+use Rattle.wi_scenario_list.specs.Scenarios.{Scenario, with_scenario, without_own}
+use Rattle.wi_scenario_list.specs.Inner.Parts.{scenario_or_new, without_replacement}
 use Rattle.wi_scenario_list.specs.Inner.Held.{with_name, own_of, base_of}
 use Rattle.wi_scenario_list.proofs.Held.{not_found, found_there}
 use Rattle.wi_scenario_list.proofs.scenarios.Scenarios.take_away.Goals as goal
