@@ -4,7 +4,7 @@ use Rattle.std.specs.List.{concat, filter, filter_map}
 use Rattle.std.specs.Option.{option_to_list}
 use Rattle.std.specs.Io.KnownBytes.{Appends, Keeps, Consumes, IsAtEnd, prepend_known}
 use Rattle.std.proofs.KnownBytes.{Appends-trans, Appends-nil}
-use Rattle.std.proofs.lemmas.List.{take_at, take_all}
+use Rattle.std.proofs.lemmas.List.{take_at}
 use Rattle.std.proofs.lemmas.List.Elements.{filter_map-append, filter-append}
 use Rattle.std.proofs.lemmas.List.Folds.{concat-append}
 use Rattle.std.proofs.Math.Seq.{take-append-add}
@@ -111,11 +111,6 @@ limited_at : (ls more : List (List ℕ)) → length ls ≡ 1000000 → limited (
 unfolding limited
 limited_at ls more h = take_at ls more 1000000 h
 
--- lines within the limit, and what follows them
-limited_all : (ls : List (List ℕ)) → length ls ≤ 1000000 → limited ls ≡ ls
-unfolding limited
-limited_all ls h = take_all 1000000 ls h
-
 limited_more : (ls more : List (List ℕ)) (k : ℕ) → length ls + k ≡ 1000000 → limited (ls ++ more) ≡ ls ++ take k more
 unfolding limited
 limited_more ls more k h = ap (λ n. take n (ls ++ more)) (sym h) ∙ take-append-add ls more k
@@ -184,7 +179,6 @@ ends_ok : (left q : Option (List ℕ)) (s t : State) (w y z : Option (List ℕ))
 ends_ok left q s t w y z o e u = (o.input, o.out, o.taken, Appends-kept w y z o.out o.written e, (o.few, o.writes))
 
 ends_flush : (left q : Option (List ℕ)) (s t : State) (w y z : Option (List ℕ)) → IsOver left q s t w y → Keeps y z → Ends (Err Write) left q s t w z
-unfolding all_commands
 ends_flush left q s t w y z o e = (
   o.input,
   o.out,
@@ -192,11 +186,12 @@ ends_flush left q s t w y z o e = (
   Appends-kept w y z o.out o.written e,
   inr (
     o.at_end,
+    o.few,
     record {
       earlier = all_commands o.input;
       last = None;
       others = [];
-      first = ap commands (limited_all (raw_lines o.input) o.few) ∙ sym (append-nil (all_commands o.input));
+      first = sym (append-nil (all_commands o.input));
       mid = t;
       sent = o.out;
       whole = o.writes;
@@ -276,6 +271,10 @@ cut_said ls bs c k are_whole are_blocks room =
     ∙ ap (filter_map block_command) (filter-append is_complete bs (blocks (whole_lines more)) ∙ ap (λ z. z ++ filter is_complete (blocks (whole_lines more))) are_blocks.complete)
     ∙ filter_map-append block_command bs (filter is_complete (blocks (whole_lines more)))
 
+all_by_lines : (input : List ℕ) → all_commands input ≡ commands (raw_lines input)
+unfolding all_commands
+all_by_lines input = refl
+
 pub ends_write : (left : Option (List ℕ)) (b : List ℕ) (p : Option (List ℕ)) (c : List ℕ) (q : Option (List ℕ)) (s m t : State) (w x y : Option (List ℕ)) (count : ℕ)
     → IsGoing left b p s m w x count → CutShort b p c q count m t x y → Ends (Err Write) left q s t w y
 ends_write left b p c q s m t w x y count h k = go k.whole k.block where
@@ -316,12 +315,12 @@ ends_write left b p c q s m t w x y count h k = go k.whole k.block where
       let took = block.took in
       let lines = lines_behind left b p s m w x count h took.lines took.last took.are_whole in
       let few = few_behind left b p s m w x count h took.lines took.last k.count' took.counted took.few in
-      let said = ap commands (ap limited lines ∙ limited_all _ few) ∙ commands_behind left b p s m w x count h (took.lines ++ raw_lines took.last) block.taken k.command block.are_blocks block.is_command in (
+      let said = all_by_lines _ ∙ ap commands lines ∙ commands_behind left b p s m w x count h (took.lines ++ raw_lines took.last) block.taken k.command block.are_blocks block.is_command in (
         concat h.lines ++ (concat took.lines ++ took.last),
         h.out ++ k.out,
         consumed_all left c q _ (Takes-trans [] left b p c q _ _ h.taken took.taken) (took.at_end refl),
         written,
-        inr (at_end_of c q (took.at_end refl), front _ [] (said ∙ sym (append-nil (filter_map block_command h.done ++ option_to_list k.command)))),
+        inr (at_end_of c q (took.at_end refl), subst (λ z. length z ≤ 1000000) (sym lines) few, front _ [] (said ∙ sym (append-nil (filter_map block_command h.done ++ option_to_list k.command)))),
       )
 
 pub ends_stopped : (e : RunFault) (left : Option (List ℕ)) (b : List ℕ) (p : Option (List ℕ)) (c : List ℕ) (q : Option (List ℕ)) (s m t : State) (w x y : Option (List ℕ)) (count : ℕ)

@@ -34,7 +34,7 @@ module _ (left : Option Bytes) (s t : State) (input out : Bytes) where
   Outcome (Err Read) = (length lines ≤ max_lines) × Answers false false (filter is_whole lines)
   Outcome (Err ScriptLimit) = (max_lines < length lines) × Answers false false (take max_lines lines)
   Outcome (Err Write) =
-      Answers false true (filter is_whole (take max_lines lines)) ⊎ (IsAtEnd left × Answers true true (take max_lines lines))
+      Answers false true (filter is_whole (take max_lines lines)) ⊎ (IsAtEnd left × (length lines ≤ max_lines) × Answers true true lines)
 
 -- A run from the state s to the state t, of a source and a sink that it leaves so.
 pub record IsRun {R W : Type 0} (remaining : R → Option Bytes) (read_failed : R → Bool) (contents : W → Option Bytes)

@@ -207,9 +207,6 @@ many_is input h = ap complete_commands (limited_is input) ∙ complete_is (take 
 cut_is : (input : Bytes) → complete_commands (limited (raw_lines input)) ≡ before false (filter is_whole (take max_lines (raw_lines input)))
 cut_is input = ap complete_commands (limited_is input) ∙ complete_is (take max_lines (raw_lines input)) (filter is_whole (take max_lines (raw_lines input))) (taken_whole max_lines input)
 
-ended_is : (input : Bytes) → commands (limited (raw_lines input)) ≡ before true (take max_lines (raw_lines input))
-ended_is input = ap commands (limited_is input)
-
 -- ---- the outcome
 
 module _ (ended : Bool) (lines : List Bytes) (cs : List old.Command) (same : cs ≡ before ended lines) (s : State) (out : Bytes) (t : State) where
@@ -232,7 +229,7 @@ module _ (left : Option Bytes) (s t : State) (input out : Bytes) where
   there (Err Read) h = (h.0, (same_answers false (filter is_whole (raw_lines input)) (complete_commands (raw_lines input)) (read_is input) s out t).0 h.1)
   there (Err ScriptLimit) h = (h.0, (same_answers false (take max_lines (raw_lines input)) (complete_commands (limited (raw_lines input))) (many_is input h.0) s out t).0 h.1)
   there (Err Write) (inl h) = inl ((same_fronts false (filter is_whole (take max_lines (raw_lines input))) (complete_commands (limited (raw_lines input))) (cut_is input) s out t).0 h)
-  there (Err Write) (inr h) = inr (h.0, (same_fronts true (take max_lines (raw_lines input)) (commands (limited (raw_lines input))) (ended_is input) s out t).0 h.1)
+  there (Err Write) (inr h) = inr (h.0, h.1, (same_fronts true (raw_lines input) (all_commands input) (all_is input) s out t).0 h.2)
 
   back : (r : Result (Unit {0}) RunFault) → Outcome left s t input out r → RunOutcome r left s t input out
   back (Ok x) h = (h.0, (same_answers true (raw_lines input) (all_commands input) (all_is input) s out t).1 h.1)
@@ -240,7 +237,7 @@ module _ (left : Option Bytes) (s t : State) (input out : Bytes) where
   back (Err Read) h = (h.0, (same_answers false (filter is_whole (raw_lines input)) (complete_commands (raw_lines input)) (read_is input) s out t).1 h.1)
   back (Err ScriptLimit) h = (h.0, (same_answers false (take max_lines (raw_lines input)) (complete_commands (limited (raw_lines input))) (many_is input h.0) s out t).1 h.1)
   back (Err Write) (inl h) = inl ((same_fronts false (filter is_whole (take max_lines (raw_lines input))) (complete_commands (limited (raw_lines input))) (cut_is input) s out t).1 h)
-  back (Err Write) (inr h) = inr (h.0, (same_fronts true (take max_lines (raw_lines input)) (commands (limited (raw_lines input))) (ended_is input) s out t).1 h.1)
+  back (Err Write) (inr h) = inr (h.0, h.1, (same_fronts true (raw_lines input) (all_commands input) (all_is input) s out t).1 h.2)
 
 pub same_outcome : (r : Result (Unit {0}) RunFault) (left : Option Bytes) (s t : State) (input out : Bytes) → SameOutcome r left s t input out
 same_outcome r left s t input out = (there left s t input out r, back left s t input out r)
