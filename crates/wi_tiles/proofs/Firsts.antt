@@ -1,0 +1,52 @@
+-- The first bit of a word from one on.
+use Rattle.std.proofs.Common.{◌≡◌, ℕ, ◌+◌, ◌-◌, ◌/◌, ◌%◌, ◌^◌, ◌<◌, ◌≤◌, List, [], ◌∷◌, length, None, sym, ap, arith, ◌∙◌, ⊎_elim, get_or, zero, suc, subst, refl}
+use Rattle.std.specs.Prelude.{slice_get, count_ones, IsSome}
+use Rattle.std.specs.Int.{bit_at, w64, trailing_zeros}
+use Rattle.std.proofs.lemmas.Nat.{shr-shr, shr_le}
+use Rattle.std.proofs.lemmas.Nat.Bits.{bit_at-zero, bit_at-trailing_zeros}
+use mathlib.Core.Logic.{◌≢◌}
+use Rattle.wi_tiles.specs.Inner.Tile.{rank, slots}
+use Rattle.wi_tiles.proofs.Tiles.{at_zero, at_one, get-slots, remove_within}
+
+bit_of_part : (n f i : ℕ) → bit_at (n / 2 ^ f) i ≡ bit_at n (f + i)
+bit_of_part n f i = ap (λ x. x % 2) (shr-shr n f i)
+
+-- what a bit that is not set has
+clear_at : {V : Type 0} (n : ℕ) (vs : List V) (f i : ℕ) → f ≤ i → i < 64 → bit_at (n / 2 ^ f) (i - f) ≡ 0 → get_or (slots n vs) i None ≡ None
+clear_at n vs f i l h clear =
+    let place : f + (i - f) ≡ i = omega arith in
+    get-slots n vs i h None ∙ at_zero n vs i (ap (λ j. bit_at n j) (sym place) ∙ sym (bit_of_part n f (i - f)) ∙ clear)
+
+pub none_in_part : {V : Type 0} (n : ℕ) (vs : List V) (f e : ℕ) → e ≤ 64 → n / 2 ^ f ≡ 0 → (i : ℕ) → f ≤ i → i < e → get_or (slots n vs) i None ≡ None
+none_in_part n vs f e w none i l u = clear_at n vs f i l (omega (arith, u, w)) (ap (λ x. bit_at x (i - f)) none ∙ bit_at-zero (i - f))
+
+is_some_within : {V : Type 0} (vs : List V) (r : ℕ) → r < length vs → IsSome (slice_get vs r)
+is_some_within [] r h = absurd (omega arith)
+is_some_within (v ∷ vs) zero h = refl
+is_some_within (v ∷ vs) (suc r) h = is_some_within vs r (omega arith)
+
+-- the lowest one of what is left
+abbrev pub lowest : ℕ → ℕ → ℕ
+lowest n f = f + trailing_zeros w64 (n / 2 ^ f)
+
+least : (n f : ℕ) → n / 2 ^ f ≢ 0 → n < 2 ^ 64 → (trailing_zeros w64 (n / 2 ^ f) < 64) × (bit_at (n / 2 ^ f) (trailing_zeros w64 (n / 2 ^ f)) ≡ 1) × ((i : ℕ) → i < trailing_zeros w64 (n / 2 ^ f) → bit_at (n / 2 ^ f) i ≡ 0)
+least n f ne below = bit_at-trailing_zeros w64 (n / 2 ^ f) (omega (arith, ne)) (omega (arith, below, shr_le n f))
+
+none_below : {V : Type 0} (n : ℕ) (vs : List V) (f : ℕ) → n / 2 ^ f ≢ 0 → n < 2 ^ 64 → (i : ℕ) → f ≤ i → i < lowest n f → i < 64 → get_or (slots n vs) i None ≡ None
+none_below n vs f ne below i l u h = clear_at n vs f i l h ((least n f ne below).2 (i - f) (omega (arith, l, u)))
+
+pub none_before : {V : Type 0} (n : ℕ) (vs : List V) (f e : ℕ) → e ≤ 64 → n / 2 ^ f ≢ 0 → n < 2 ^ 64 → e ≤ lowest n f → (i : ℕ) → f ≤ i → i < e → get_or (slots n vs) i None ≡ None
+none_before n vs f e w ne below o i l u = none_below n vs f ne below i l (omega (arith, u, o)) (omega (arith, u, w))
+
+pub first_in_part : {V : Type 0} (n : ℕ) (vs : List V) (f e : ℕ) → e ≤ 64 → n < 2 ^ 64 → length vs ≡ count_ones n → n / 2 ^ f ≢ 0 → lowest n f < e
+    → (f ≤ lowest n f) × (lowest n f < e) × IsSome (get_or (slots n vs) (lowest n f) None) × ((i : ℕ) → f ≤ i → i < lowest n f → get_or (slots n vs) i None ≡ None)
+first_in_part {V} n vs f e w below full ne inside = (omega arith, inside, found, λ i l u. none_below n vs f ne below i l u (omega (arith, u, inside, w)))
+  where
+    set : bit_at n (lowest n f) ≡ 1
+    set = sym (bit_of_part n f (trailing_zeros w64 (n / 2 ^ f))) ∙ (least n f ne below).1
+
+    room : lowest n f < 64
+    room = omega (arith, inside, w)
+
+    found : IsSome (get_or (slots n vs) (lowest n f) None)
+    found = subst (λ q. IsSome q) (sym (get-slots n vs (lowest n f) room None ∙ at_one n vs (lowest n f) set)) (is_some_within vs (rank n (lowest n f)) (remove_within n (lowest n f) vs set room below full))

@@ -1,0 +1,14 @@
+pub mod CellLemmas
+pub mod Digits
+pub mod EntryLemmas
+pub mod Firsts
+pub mod Keys
+pub mod LineLemmas
+pub mod MapLemmas
+pub mod NextLemmas
+pub mod Outcomes
+pub mod Ranks
+pub mod Replaced
+pub mod Sorts
+pub mod Tiles
+pub mod Windows

@@ -1,0 +1,107 @@
+-- The entries of all pages, after a change of one path.
+use Rattle.std.proofs.Common.{◌≡◌, ℕ, ◌+◌, ◌<◌, ◌≤◌, [], length, Option, Some, None, sym, ap, arith, ◌∙◌, ⊎_elim, cond, refl, true}
+use Rattle.std.specs.Prelude.{◌==◌, if◌then◌else◌, option_map, nat_le, filter, IfSome, IfNone}
+use Rattle.std.specs.Ordering.{nat_cmp}
+use Rattle.std.specs.List.{find}
+use Rattle.std.specs.Map.{keys_of, remove_entry, set_value}
+use Rattle.std.specs.BTreeMap.{is_at, insert_entry}
+use Rattle.wi_tiles.specs.Entries.{get, IsOrdered}
+use Rattle.std.proofs.lemmas.Bool.{cases_eq, and_parts}
+use borrow.Author.Tests.{eq-eqb, ne_eqb}
+use Rattle.wi_values.specs.Address.{Area, is_within}
+use Rattle.wi_tiles.specs.Inner.Cells.{Pages, path_of, at_cell, is_ahead}
+use Rattle.wi_tiles.specs.Inner.Entries.{cells, entries_of, map_of}
+use Rattle.wi_tiles.specs.Inner.Lines.{slot}
+use Rattle.wi_tiles.specs.Inner.Next.{IsNext}
+use Rattle.wi_tiles.specs.Inner.Parts.{at_window}
+use Rattle.wi_tiles.specs.Inner.Sorted.{at_sorted}
+use Rattle.wi_tiles.proofs.CellLemmas.{one_cell}
+use Rattle.wi_tiles.proofs.EntryLemmas.{entries_same, entries_none, lookup_entries, entries_put, length_put, entries_cut, length_cut, entries_set, length_set, length_entries, entries_rise}
+use Rattle.wi_tiles.proofs.NextLemmas.{sought_none, sought_some}
+
+-- what the pages have at a path
+abbrev pub at_path : {V : Type 0} → Pages V → ℕ → Option V
+at_path w p = at_window (at_window (at_sorted slot)) w p
+
+cells_is : cells ≡ 17179869184
+unfolding cells
+cells_is = refl
+
+pub below : (c : ℕ) → c < 17179869184 → c < cells
+below c h = omega (arith, cells_is, h)
+
+pub above : (c : ℕ) → c < cells → c < 17179869184
+above c h = omega (arith, cells_is, h)
+
+pub get_is : {V : Type 0} (w : Pages V) (cell : ℕ) → cell < 17179869184 → get nat_cmp (map_of (entries_of w)) cell ≡ at_cell w cell
+get_is w cell h = lookup_entries (λ c. at_cell w c) cell cells (below cell h)
+
+pub none_is : {V : Type 0} (w : Pages V) → ((p : ℕ) → at_path w p ≡ None) → entries_of w ≡ []
+none_is w nothing = entries_none (λ c. at_cell w c) 0 cells (λ c. nothing (path_of c))
+
+pub same_is : {V : Type 0} (old new : Pages V) → ((p : ℕ) → at_path new p ≡ at_path old p) → entries_of new ≡ entries_of old
+same_is old new same = entries_same (λ c. at_cell old c) (λ c. at_cell new c) 0 cells (λ c l u. same (path_of c))
+
+pub rises : {V : Type 0} (w : Pages V) → IsOrdered nat_cmp (map_of (entries_of w))
+rises w = entries_rise (λ c. at_cell w c) 0 cells
+
+pub length_within : {V : Type 0} (w : Pages V) → length (entries_of w) ≤ 17179869184
+length_within w = omega (arith, length_entries (λ c. at_cell w c) 0 cells, cells_is)
+
+-- what stands at a cell's path
+pub found : {V : Type 0} (w : Pages V) (cell path : ℕ) → cell < 17179869184 → path ≡ path_of cell → at_path w path ≡ get nat_cmp (map_of (entries_of w)) cell
+found w cell path h is = ap (λ p. at_path w p) is ∙ sym (get_is w cell h)
+
+module _ {V : Type 0} (old new : Pages V) (cell path : ℕ) (h : cell < 17179869184) (is : path ≡ path_of cell) where
+  abbrev pub Changes : Option V → Type 0
+  Changes o = (p : ℕ) → at_path new p ≡ (if p == path then o else at_path old p)
+
+  by_cells : (o : Option V) → Changes o → (c : ℕ) → c < cells → at_cell new c ≡ (if c == cell then o else at_cell old c)
+  by_cells o changed c l = one_cell (λ p. at_path new p) (λ p. at_path old p) cell o h (λ p. changed p ∙ ap (λ q. cond (p == q) o (at_path old p)) is) c (above c l)
+
+  stood : (o : Option V) → at_path old path ≡ o → at_cell old cell ≡ o
+  stood o e = ap (λ p. at_path old p) (sym is) ∙ e
+
+  pub put_is : (v : V) → at_path old path ≡ None → Changes (Some v) → entries_of new ≡ insert_entry nat_cmp (entries_of old) cell v
+  put_is v none changed = entries_put (λ c. at_cell old c) cell cells (below cell h) (λ c. at_cell new c) v (stood None none) (by_cells (Some v) changed)
+
+  pub put_len : (v : V) → at_path old path ≡ None → Changes (Some v) → length (entries_of new) ≡ length (entries_of old) + 1
+  put_len v none changed = length_put (λ c. at_cell old c) cell cells (below cell h) (λ c. at_cell new c) v (stood None none) (by_cells (Some v) changed)
+
+  pub cut_is : Changes None → entries_of new ≡ remove_entry (is_at (nat_cmp cell)) (entries_of old)
+  cut_is changed = entries_cut (λ c. at_cell old c) cell cells (below cell h) (λ c. at_cell new c) (by_cells None changed)
+
+  pub cut_len : (v : V) → at_path old path ≡ Some v → Changes None → length (entries_of new) + 1 ≡ length (entries_of old)
+  cut_len v some changed = length_cut (λ c. at_cell old c) cell cells (below cell h) (λ c. at_cell new c) v (stood (Some v) some) (by_cells None changed)
+
+  -- where nothing stood, nothing is lost
+  pub cut_none : at_path old path ≡ None → Changes None → length (entries_of new) ≡ length (entries_of old)
+  cut_none none changed = ap length (same_is old new (λ p. changed p ∙ ⊎_elim
+      (λ e. ap (λ b. cond b None (at_path old p)) (eq-eqb p path e) ∙ sym (ap (λ q. at_path old q) e ∙ none))
+      (λ ne. ap (λ b. cond b None (at_path old p)) (ne_eqb p path ne))
+      (cases_eq p path)))
+
+  set_at : (v : V) → option_map (λ _. v) (at_path old path) ≡ option_map (λ _. v) (at_cell old cell)
+  set_at v = ap (λ p. option_map (λ _. v) (at_path old p)) is
+
+  set_by : (v : V) → Changes (option_map (λ _. v) (at_path old path)) → (c : ℕ) → c < cells → at_cell new c ≡ (if c == cell then option_map (λ _. v) (at_cell old cell) else at_cell old c)
+  set_by v changed c l = by_cells (option_map (λ _. v) (at_path old path)) changed c l ∙ ap (λ o. cond (c == cell) o (at_cell old c)) (set_at v)
+
+  pub set_is : (v : V) → Changes (option_map (λ _. v) (at_path old path)) → entries_of new ≡ set_value (is_at (nat_cmp cell)) (entries_of old) v
+  set_is v changed = entries_set (λ c. at_cell old c) cell cells (below cell h) (λ c. at_cell new c) v (set_by v changed)
+
+  pub set_len : (v : V) → Changes (option_map (λ _. v) (at_path old path)) → length (entries_of new) ≡ length (entries_of old)
+  set_len v changed = length_set (λ c. at_cell old c) cell cells (below cell h) (λ c. at_cell new c) v (set_by v changed)
+
+-- the first cell of a rectangle that has something, as a search through the entries
+pub next_is : {V : Type 0} (w : Pages V) (area : Area) (from a : ℕ) → a < 17179869184 → IsNext w area from a → find (λ c. nat_le from c) (filter (is_within area) (keys_of (entries_of w))) ≡ Some a
+next_is w area from a h next =
+    let p = and_parts (nat_le from a) _ next.ahead in
+    sought_some (λ c. at_cell w c) (λ c. nat_le from c) (is_within area) 0 cells a (omega arith) (omega (arith, below a h)) next.there p.0 p.1 (λ b l u both. next.first b both u)
+
+pub next_none : {V : Type 0} (w : Pages V) (area : Area) (from : ℕ) → ((b : ℕ) → is_ahead area from b ≡ true → at_cell w b ≡ None) → find (λ c. nat_le from c) (filter (is_within area) (keys_of (entries_of w))) ≡ None
+next_none w area from none = sought_none (λ c. at_cell w c) (λ c. nat_le from c) (is_within area) 0 cells (λ b l u both. none b both)
+
+pub next_found : {V : Type 0} (w : Pages V) (area : Area) (from : ℕ) (o : Option ℕ) → IfSome o (λ a. IsNext w area from a) → IfSome o (λ a. a < 17179869184) → IfNone o ((b : ℕ) → is_ahead area from b ≡ true → at_cell w b ≡ None) → o ≡ find (λ c. nat_le from c) (filter (is_within area) (keys_of (entries_of w)))
+next_found w area from None some within none = sym (next_none w area from none)
+next_found w area from (Some a) some within none = sym (next_is w area from a within some)

@@ -1,0 +1,105 @@
+-- What a change of one part, or a part more or less at an end, makes of all paths.
+use Rattle.std.proofs.Common.{◌≡◌, ℕ, ◌+◌, ◌-◌, ◌/◌, ◌%◌, ◌<◌, ◌≤◌, List, [], ◌∷◌, ◌++◌, length, Option, Some, None, sym, ap, arith, ◌∙◌, ⊎_elim, zero, suc, refl, cond}
+use Rattle.std.specs.Prelude.{slice_get, slice_set, slice_index_or, ◌==◌, if◌then◌else◌}
+use Rattle.std.proofs.lemmas.Bool.{cases_lt}
+use Rattle.std.proofs.lemmas.Option.{slice_get_read}
+use borrow.Author.Tests.{lt-ltb, le-ltb}
+use mathlib.Core.Logic.{◌≢◌}
+use Rattle.wi_tiles.specs.Inner.Parts.{at_part, part_from, at_window, span}
+use Rattle.wi_tiles.proofs.Digits.{IsDigit, digit_changed, digit_kept}
+
+digit : IsDigit 256
+digit p q r s = omega (arith, r, s)
+
+-- the part at an index, from the first on and before it
+pub part_here : {S : Type 0} (f : ℕ) (ts : List S) (i : ℕ) → f ≤ i → part_from (f, ts) i ≡ slice_get ts (i - f)
+part_here f ts i l = ap (λ b. cond b None (slice_get ts (i - f))) (le-ltb i f l)
+
+pub part_before : {S : Type 0} (f : ℕ) (ts : List S) (i : ℕ) → i < f → part_from (f, ts) i ≡ None
+part_before f ts i l = ap (λ b. cond b None (slice_get ts (i - f))) (lt-ltb i f l)
+
+pub part_read : {S : Type 0} (f : ℕ) (ts : List S) (i place : ℕ) (before : S) → f ≤ i → place ≡ i - f → place < length ts → before ≡ slice_index_or ts place before → part_from (f, ts) i ≡ Some before
+part_read f ts i place before l is h read = part_here f ts i l ∙ ap (λ j. slice_get ts j) (sym is) ∙ slice_get_read ts (length ts) place before (λ _. length ts) h read
+
+get_past : {S : Type 0} (ts : List S) (i : ℕ) → length ts ≤ i → slice_get ts i ≡ None
+get_past [] i h = refl
+get_past (t ∷ ts) zero h = absurd (omega arith)
+get_past (t ∷ ts) (suc i) h = get_past ts i (omega arith)
+
+pub part_past : {S : Type 0} (f : ℕ) (ts : List S) (i : ℕ) → f ≤ i → length ts ≤ i - f → part_from (f, ts) i ≡ None
+part_past f ts i l h = part_here f ts i l ∙ get_past ts (i - f) h
+
+get_set : {S : Type 0} (ts : List S) (i : ℕ) (w : S) → i < length ts → slice_get (slice_set ts i w) i ≡ Some w
+get_set [] i w l = absurd (omega arith)
+get_set (x ∷ xs) zero w l = refl
+get_set (x ∷ xs) (suc r) w l = get_set xs r w (omega arith)
+
+get_other : {S : Type 0} (ts : List S) (i j : ℕ) (w : S) → j ≢ i → slice_get (slice_set ts i w) j ≡ slice_get ts j
+get_other [] r j w ne = refl
+get_other (x ∷ xs) zero zero w ne = absurd (ne refl)
+get_other (x ∷ xs) zero (suc j) w ne = refl
+get_other (x ∷ xs) (suc r) zero w ne = refl
+get_other (x ∷ xs) (suc r) (suc j) w ne = get_other xs r j w (λ e. ne (ap suc e))
+
+set_here : {S : Type 0} (f : ℕ) (ts : List S) (i place : ℕ) (w : S) → f ≤ i → place ≡ i - f → place < length ts → part_from (f, slice_set ts place w) i ≡ Some w
+set_here f ts i place w l is h = part_here f (slice_set ts place w) i l ∙ ap (λ j. slice_get (slice_set ts place w) j) (sym is) ∙ get_set ts place w h
+
+set_other : {S : Type 0} (f : ℕ) (ts : List S) (i place j : ℕ) (w : S) → f ≤ i → place ≡ i - f → j ≢ i → part_from (f, slice_set ts place w) j ≡ part_from (f, ts) j
+set_other f ts i place j w l is ne = ⊎_elim
+    (λ m. part_before f (slice_set ts place w) j m ∙ sym (part_before f ts j m))
+    (λ m. part_here f (slice_set ts place w) j m ∙ get_other ts place (j - f) w (λ z. ne (omega (arith, z, is, l, m))) ∙ sym (part_here f ts j m))
+    (cases_lt j f)
+
+pub window_changed : {S V : Type 0} (at : S → ℕ → Option V) (f : ℕ) (ts : List S) (path place : ℕ) (before w : S) (o : Option V) → f ≤ path % span → place ≡ path % span - f → place < length ts → before ≡ slice_index_or ts place before → ((p : ℕ) → at w p ≡ (if p == path / span then o else at before p)) → (p : ℕ) → at_window at (f, slice_set ts place w) p ≡ (if p == path then o else at_window at (f, ts) p)
+window_changed at f ts path place before w o l is h read changed = digit_changed span digit at (λ i. part_from (f, ts) i) (λ i. part_from (f, slice_set ts place w) i) path o
+    (λ p. ap (λ x. at_part at x p) (set_here f ts (path % span) place w l is h) ∙ changed p ∙ ap (λ x. cond (p == path / span) o (at_part at x p)) (sym (part_read f ts (path % span) place before l is h read)))
+    (λ j ne. set_other f ts (path % span) place j w l is ne)
+
+pub window_kept : {S V : Type 0} (at : S → ℕ → Option V) (f : ℕ) (ts : List S) (place : ℕ) (before w : S) → place < length ts → before ≡ slice_index_or ts place before → ((p : ℕ) → at w p ≡ at before p) → (p : ℕ) → at_window at (f, slice_set ts place w) p ≡ at_window at (f, ts) p
+window_kept at f ts place before w h read kept =
+    let l : f ≤ f + place = omega arith in
+    let is : place ≡ (f + place) - f = omega arith in
+    digit_kept span digit at (λ i. part_from (f, ts) i) (λ i. part_from (f, slice_set ts place w) i) (f + place)
+    (λ p. ap (λ x. at_part at x p) (set_here f ts (f + place) place w l is h) ∙ kept p ∙ ap (λ x. at_part at x p) (sym (part_read f ts (f + place) place before l is h read)))
+    (λ j ne. set_other f ts (f + place) place j w l is ne)
+
+-- a part with nothing behind the last
+more_at : {S V : Type 0} (at : S → ℕ → Option V) (ts : List S) (s : S) (i q : ℕ) → ((p : ℕ) → at s p ≡ None) → at_part at (slice_get (ts ++ s ∷ []) i) q ≡ at_part at (slice_get ts i) q
+more_at at [] s zero q nothing = nothing q
+more_at at [] s (suc i) q nothing = refl
+more_at at (t ∷ ts) s zero q nothing = refl
+more_at at (t ∷ ts) s (suc i) q nothing = more_at at ts s i q nothing
+
+pub window_up : {S V : Type 0} (at : S → ℕ → Option V) (f : ℕ) (ts : List S) (s : S) → ((p : ℕ) → at s p ≡ None) → (p : ℕ) → at_window at (f, ts ++ s ∷ []) p ≡ at_window at (f, ts) p
+window_up at f ts s nothing p = ⊎_elim
+    (λ l. ap (λ x. at_part at x (p / span)) (part_before f (ts ++ s ∷ []) (p % span) l ∙ sym (part_before f ts (p % span) l)))
+    (λ l. ap (λ x. at_part at x (p / span)) (part_here f (ts ++ s ∷ []) (p % span) l) ∙ more_at at ts s (p % span - f) (p / span) nothing ∙ sym (ap (λ x. at_part at x (p / span)) (part_here f ts (p % span) l)))
+    (cases_lt (p % span) f)
+
+-- and one before the first
+pub window_down : {S V : Type 0} (at : S → ℕ → Option V) (f : ℕ) (ts : List S) (s : S) → 0 < f → ((p : ℕ) → at s p ≡ None) → (p : ℕ) → at_window at (f - 1, s ∷ ts) p ≡ at_window at (f, ts) p
+window_down at f ts s pos nothing p = ⊎_elim below above (cases_lt (p % span) f)
+  where
+    below : p % span < f → at_window at (f - 1, s ∷ ts) p ≡ at_window at (f, ts) p
+    below l = ⊎_elim
+        (λ m. ap (λ x. at_part at x (p / span)) (part_before (f - 1) (s ∷ ts) (p % span) m ∙ sym (part_before f ts (p % span) l)))
+        (λ m. ap (λ x. at_part at x (p / span)) (part_here (f - 1) (s ∷ ts) (p % span) m ∙ ap (λ j. slice_get (s ∷ ts) j) (let z : (p % span) - (f - 1) ≡ 0 = omega (arith, l, m) in z)) ∙ nothing (p / span) ∙ sym (ap (λ x. at_part at x (p / span)) (part_before f ts (p % span) l)))
+        (cases_lt (p % span) (f - 1))
+
+    above : f ≤ p % span → at_window at (f - 1, s ∷ ts) p ≡ at_window at (f, ts) p
+    above l = ap (λ x. at_part at x (p / span)) (part_here (f - 1) (s ∷ ts) (p % span) (omega (arith, l)) ∙ ap (λ j. slice_get (s ∷ ts) j) (let z : (p % span) - (f - 1) ≡ suc ((p % span) - f) = omega (arith, l, pos) in z) ∙ sym (part_here f ts (p % span) l))
+
+-- where there are no parts, any may be the first
+none_from : {S : Type 0} (f i : ℕ) → part_from {S = S} (f, []) i ≡ None
+none_from {S} f i = ⊎_elim (λ l. part_before {S = S} f [] i l) (λ l. part_here {S = S} f [] i l) (cases_lt i f)
+
+pub window_none : {S V : Type 0} (at : S → ℕ → Option V) (f : ℕ) (ts : List S) → length ts ≡ 0 → (p : ℕ) → at_window at (f, ts) p ≡ None
+window_none at f [] h p = ap (λ x. at_part at x (p / span)) (none_from f (p % span))
+window_none at f (t ∷ ts) h p = absurd (omega arith)
+
+-- the last of some parts
+pub last_read : {S : Type 0} (xs : List S) (x d : S) (n : ℕ) → n ≡ length xs → slice_index_or (xs ++ x ∷ []) n d ≡ x
+last_read [] x d zero h = refl
+last_read [] x d (suc n) h = absurd (omega arith)
+last_read (y ∷ xs) x d zero h = absurd (omega arith)
+last_read (y ∷ xs) x d (suc n) h = last_read xs x d n (omega arith)

@@ -1,0 +1,11 @@
+use Rattle.std.proofs.Common.{ap, ◌∙◌, length, subst}
+use Rattle.std.specs.Ordering.{nat_cmp}
+use Rattle.wi_tiles.specs.Entries.{IsOrdered}
+use Rattle.wi_tiles.proofs.MapLemmas.{rises}
+use Rattle.wi_tiles.proofs.cell_map.CellMap.len.Goals as goal
+
+pub returns-clause-len : goal.returns-clause-len
+returns-clause-len g c = c.self.invariant ∙ ap (λ m. length m.entries) c.self.view_is
+
+pub returns-clause-ordered : goal.returns-clause-ordered
+returns-clause-ordered g c = subst (λ m. IsOrdered nat_cmp m) c.self.view_is (rises c.self.inside.pages)

@@ -1,0 +1,50 @@
+use Rattle.std.proofs.Common.{rules, sym, ap, ◌∙◌, ◌≡◌, ◌<◌, arith}
+use Rattle.std.specs.Ordering.{nat_cmp}
+use Rattle.std.specs.Map.{remove_entry}
+use Rattle.std.specs.BTreeMap.{is_at}
+use Rattle.wi_tiles.specs.Entries.{get}
+use Rattle.wi_tiles.specs.Inner.Cells.{path_of}
+use Rattle.wi_tiles.proofs.MapLemmas.{found, cut_is, cut_len, cut_none}
+use Rattle.wi_tiles.proofs.cell_map.CellMap.remove.Goals as goal
+
+pub overflow_sub-self : goal.overflow_sub-self
+overflow_sub-self g c =
+    let here : c.args.cell < 17179869184 = search rules in
+    let path : c.path_of.result ≡ path_of c.args.cell = search rules in
+    omega (arith, c.self.invariant, cut_len c.self.inside.pages c.remove.new.self c.args.cell c.path_of.result here path c.in-Some.value (sym c.remove.ensures.value ∙ c.in-Some.is) c.remove.ensures.left)
+
+pub invariant_of-self : goal.invariant_of-self
+invariant_of-self g c =
+    let here : c.args.cell < 17179869184 = search rules in
+    let path : c.path_of.result ≡ path_of c.args.cell = search rules in
+    omega (arith, c.self.invariant, cut_len c.self.inside.pages c.remove.new.self c.args.cell c.path_of.result here path c.in-Some.value (sym c.remove.ensures.value ∙ c.in-Some.is) c.remove.ensures.left)
+
+pub returns-in-Some-clause-stood : goal.returns-in-Some-clause-stood
+returns-in-Some-clause-stood g c =
+    let here : c.args.cell < 17179869184 = search rules in
+    let path : c.path_of.result ≡ path_of c.args.cell = search rules in
+    sym c.in-Some.is ∙ c.remove.ensures.value ∙ found c.self.inside.pages c.args.cell c.path_of.result here path ∙ ap (λ m. get nat_cmp m c.args.cell) c.self.view_is
+
+pub returns-in-Some-clause-entries : goal.returns-in-Some-clause-entries
+returns-in-Some-clause-entries g c =
+    let here : c.args.cell < 17179869184 = search rules in
+    let path : c.path_of.result ≡ path_of c.args.cell = search rules in
+    cut_is c.self.inside.pages c.remove.new.self c.args.cell c.path_of.result here path c.remove.ensures.left ∙ ap (λ m. remove_entry (is_at (nat_cmp c.args.cell)) m.entries) c.self.view_is
+
+pub invariant_of-self-in-None : goal.invariant_of-self-in-None
+invariant_of-self-in-None g c =
+    let here : c.args.cell < 17179869184 = search rules in
+    let path : c.path_of.result ≡ path_of c.args.cell = search rules in
+    c.self.invariant ∙ sym (cut_none c.self.inside.pages c.remove.new.self c.args.cell c.path_of.result here path (sym c.remove.ensures.value ∙ c.in-None.is) c.remove.ensures.left)
+
+pub returns-in-None-clause-stood : goal.returns-in-None-clause-stood
+returns-in-None-clause-stood g c =
+    let here : c.args.cell < 17179869184 = search rules in
+    let path : c.path_of.result ≡ path_of c.args.cell = search rules in
+    sym c.in-None.is ∙ c.remove.ensures.value ∙ found c.self.inside.pages c.args.cell c.path_of.result here path ∙ ap (λ m. get nat_cmp m c.args.cell) c.self.view_is
+
+pub returns-in-None-clause-entries : goal.returns-in-None-clause-entries
+returns-in-None-clause-entries g c =
+    let here : c.args.cell < 17179869184 = search rules in
+    let path : c.path_of.result ≡ path_of c.args.cell = search rules in
+    cut_is c.self.inside.pages c.remove.new.self c.args.cell c.path_of.result here path c.remove.ensures.left ∙ ap (λ m. remove_entry (is_at (nat_cmp c.args.cell)) m.entries) c.self.view_is

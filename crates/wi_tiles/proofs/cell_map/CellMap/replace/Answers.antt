@@ -1,0 +1,26 @@
+use Rattle.std.proofs.Common.{rules, sym, ap, ◌∙◌, ◌≡◌, ◌<◌}
+use Rattle.std.specs.Ordering.{nat_cmp}
+use Rattle.std.specs.Map.{set_value}
+use Rattle.std.specs.BTreeMap.{is_at}
+use Rattle.wi_tiles.specs.Entries.{get}
+use Rattle.wi_tiles.specs.Inner.Cells.{path_of}
+use Rattle.wi_tiles.proofs.MapLemmas.{found, set_is, set_len}
+use Rattle.wi_tiles.proofs.cell_map.CellMap.replace.Goals as goal
+
+pub invariant_of-self : goal.invariant_of-self
+invariant_of-self g c =
+    let here : c.args.cell < 17179869184 = search rules in
+    let path : c.path_of.result ≡ path_of c.args.cell = search rules in
+    c.self.invariant ∙ sym (set_len c.self.inside.pages c.replace.new.self c.args.cell c.path_of.result here path c.args.value c.replace.ensures.put)
+
+pub returns-clause-stood : goal.returns-clause-stood
+returns-clause-stood g c =
+    let here : c.args.cell < 17179869184 = search rules in
+    let path : c.path_of.result ≡ path_of c.args.cell = search rules in
+    c.replace.ensures.value ∙ found c.self.inside.pages c.args.cell c.path_of.result here path ∙ ap (λ m. get nat_cmp m c.args.cell) c.self.view_is
+
+pub returns-clause-entries : goal.returns-clause-entries
+returns-clause-entries g c =
+    let here : c.args.cell < 17179869184 = search rules in
+    let path : c.path_of.result ≡ path_of c.args.cell = search rules in
+    set_is c.self.inside.pages c.replace.new.self c.args.cell c.path_of.result here path c.args.value c.replace.ensures.put ∙ ap (λ m. set_value (is_at (nat_cmp c.args.cell)) m.entries c.args.value) c.self.view_is

@@ -1,0 +1,34 @@
+use Rattle.std.proofs.Common.{rules, ap, ◌∙◌, sym, Some, ◌≡◌, ◌<◌, ◌%◌, ◌/◌, length, cond}
+use Rattle.std.specs.Prelude.{slice_index_or, ◌==◌}
+use Rattle.wi_tiles.specs.Inner.Parts.{at_part}
+use Rattle.wi_tiles.specs.Inner.Sorted.{at_sorted, groups, key}
+use Rattle.wi_tiles.proofs.Keys.{key_read, Rises-set}
+use Rattle.wi_tiles.proofs.Outcomes.{on_ok, on_err}
+use Rattle.wi_tiles.proofs.Sorts.{part_at, sorted_changed, sorted_kept}
+use Rattle.wi_tiles.proofs.sorted.SortedPlaces.put.Goals as goal
+
+pub put-requires-clause-vacant : goal.put-requires-clause-vacant
+put-requires-clause-vacant g c =
+    let read : c.index_mut.result.now ≡ slice_index_or c.self.inside.parts.items c.in-Ok.place c.index_mut.result.now = search rules in
+    let there : (c.in-Ok.place < length c.self.inside.parts.items) × (key c.self.inside.parts.items c.in-Ok.place ≡ c.args.path % groups) = search rules in
+    ap (λ x. at_part g.T.Places.at x (c.args.path / groups)) (sym (part_at c.self.inside.parts.items c.in-Ok.place (c.args.path % groups) c.index_mut.result.now c.self.invariant there.0 there.1 read)) ∙ ap (λ s. at_sorted g.T.Places.at s c.args.path) c.self.view_is ∙ c.requires.vacant
+
+pub invariant_of-self : goal.invariant_of-self
+invariant_of-self g c =
+    let read : c.index_mut.result.now ≡ slice_index_or c.self.inside.parts.items c.in-Ok.place c.index_mut.result.now = search rules in
+    let there : (c.in-Ok.place < length c.self.inside.parts.items) × (key c.self.inside.parts.items c.in-Ok.place ≡ c.args.path % groups) = search rules in
+    Rises-set c.self.inside.parts.items c.in-Ok.place (c.index_mut.result.now.0, c.put.new.self) c.self.invariant (key_read c.self.inside.parts.items c.in-Ok.place c.index_mut.result.now there.0 read)
+
+pub returns-in-Ok-clause-ok : goal.returns-in-Ok-clause-ok
+returns-in-Ok-clause-ok g c =
+    let read : c.index_mut.result.now ≡ slice_index_or c.self.inside.parts.items c.in-Ok.place c.index_mut.result.now = search rules in
+    let there : (c.in-Ok.place < length c.self.inside.parts.items) × (key c.self.inside.parts.items c.in-Ok.place ≡ c.args.path % groups) = search rules in
+    let stays : c.index_mut.result.now.0 ≡ c.args.path % groups = sym (key_read c.self.inside.parts.items c.in-Ok.place c.index_mut.result.now there.0 read) ∙ there.1 in
+    on_ok c.put.result (λ changed p. sorted_changed g.T.Places.at c.self.inside.parts.items c.args.path c.in-Ok.place c.index_mut.result.now (c.index_mut.result.now.0, c.put.new.self) (Some c.args.value) c.self.invariant there.0 there.1 read stays changed p ∙ ap (λ o. cond (p == c.args.path) (Some c.args.value) o) (ap (λ s. at_sorted g.T.Places.at s p) c.self.view_is)) c.put.ensures.ok
+
+pub returns-in-Ok-clause-err : goal.returns-in-Ok-clause-err
+returns-in-Ok-clause-err g c =
+    let read : c.index_mut.result.now ≡ slice_index_or c.self.inside.parts.items c.in-Ok.place c.index_mut.result.now = search rules in
+    let there : (c.in-Ok.place < length c.self.inside.parts.items) × (key c.self.inside.parts.items c.in-Ok.place ≡ c.args.path % groups) = search rules in
+    let stays : c.index_mut.result.now.0 ≡ c.args.path % groups = sym (key_read c.self.inside.parts.items c.in-Ok.place c.index_mut.result.now there.0 read) ∙ there.1 in
+    on_err c.put.result (λ kept p. sorted_kept g.T.Places.at c.self.inside.parts.items (c.args.path % groups) c.in-Ok.place c.index_mut.result.now (c.index_mut.result.now.0, c.put.new.self) c.self.invariant there.0 there.1 read stays kept p ∙ ap (λ s. at_sorted g.T.Places.at s p) c.self.view_is) c.put.ensures.err

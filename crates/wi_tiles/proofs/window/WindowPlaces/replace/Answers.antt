@@ -1,0 +1,14 @@
+use Rattle.std.proofs.Common.{rules, ap, ◌∙◌, sym, ◌≡◌, ◌-◌, ◌<◌, ◌≤◌, ◌%◌, ◌/◌, length, cond}
+use Rattle.std.specs.Prelude.{slice_index_or, option_map, ◌==◌}
+use Rattle.wi_tiles.specs.Inner.Parts.{at_part, at_window, span}
+use Rattle.wi_tiles.proofs.Windows.{part_read, window_changed}
+use Rattle.wi_tiles.proofs.window.WindowPlaces.replace.Goals as goal
+
+pub returns-in-Some-clause-put : goal.returns-in-Some-clause-put
+returns-in-Some-clause-put g c =
+    let read : c.index_mut.result.now ≡ slice_index_or c.self.inside.parts.items c.in-Some.place c.index_mut.result.now = search rules in
+    let there : (c.in-Some.place < length c.self.inside.parts.items) × (c.self.inside.first ≤ c.args.path % span) × (c.in-Some.place ≡ c.args.path % span - c.self.inside.first) = search rules in
+    let stood : g.T.Places.at c.index_mut.result.now (c.args.path / span) ≡ at_window g.T.Places.at c.args.self.now c.args.path = ap (λ x. at_part g.T.Places.at x (c.args.path / span)) (sym (part_read c.self.inside.first c.self.inside.parts.items (c.args.path % span) c.in-Some.place c.index_mut.result.now there.1 there.2 there.0 read)) ∙ ap (λ w. at_window g.T.Places.at w c.args.path) c.self.view_is in
+    λ p. window_changed g.T.Places.at c.self.inside.first c.self.inside.parts.items c.args.path c.in-Some.place c.index_mut.result.now c.replace.new.self (option_map (λ _. c.args.value) (g.T.Places.at c.index_mut.result.now (c.args.path / span))) there.1 there.2 there.0 read c.replace.ensures.put p
+    ∙ ap (λ o. cond (p == c.args.path) (option_map (λ _. c.args.value) o) (at_window g.T.Places.at (c.self.inside.first, c.self.inside.parts.items) p)) stood
+    ∙ ap (λ o. cond (p == c.args.path) (option_map (λ _. c.args.value) (at_window g.T.Places.at c.args.self.now c.args.path)) o) (ap (λ w. at_window g.T.Places.at w p) c.self.view_is)

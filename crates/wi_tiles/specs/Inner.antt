@@ -1,0 +1,8 @@
+-- What the representation means: no public clause cites it.
+pub mod Cells
+pub mod Entries
+pub mod Lines
+pub mod Next
+pub mod Parts
+pub mod Sorted
+pub mod Tile

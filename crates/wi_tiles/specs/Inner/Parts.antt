@@ -1,0 +1,19 @@
+-- Parts by their index, from a first one on.
+use Rattle.std.specs.Prelude.{ℕ, ◌-◌, ◌/◌, ◌%◌, nat_lt, List, Option, Some, None, slice_get, if◌then◌else◌}
+
+-- what a part has at a place, where there is such a part
+abbrev pub at_part : {P V : Type 0} → (P → ℕ → Option V) → Option P → ℕ → Option V
+at_part at None p = None
+at_part at (Some s) p = at s p
+
+-- how many parts there may be
+abbrev pub span : ℕ
+span = 256
+
+-- the part at an index, where parts stand from a first index on
+abbrev pub part_from : {S : Type 0} → ℕ × List S → ℕ → Option S
+part_from w i = if nat_lt i w.0 then None else slice_get w.1 (i - w.0)
+
+-- what the parts have at a path, whose first digit is the index
+abbrev pub at_window : {S V : Type 0} → (S → ℕ → Option V) → ℕ × List S → ℕ → Option V
+at_window at w p = at_part at (part_from w (p % span)) (p / span)

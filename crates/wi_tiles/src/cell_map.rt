@@ -1,0 +1,128 @@
+//! A map by cell address.
+
+ghost use Rattle.std.specs.Prelude.{◌≡◌, ◌↔◌, ℕ, [], nat_le, filter, length, is_some, not, IsTrue, IfOk, OnOk, OnErr, option_copied, if◌then◌else◌};
+ghost use Rattle.std.specs.Ordering.{nat_cmp};
+ghost use Rattle.std.specs.List.{find};
+ghost use Rattle.std.specs.Map.{keys_of, remove_entry, set_value};
+ghost use Rattle.std.specs.BTreeMap.{is_at, insert_entry};
+ghost use Rattle.wi_tiles.specs.Entries.{get, IsOrdered};
+ghost use Rattle.wi_values.specs.Address.{is_within};
+
+use crate::pages::{Pages, next_cell, path_of};
+use crate::places::Places;
+use crate::window::Window;
+use std::alloc::{AllocError, Global};
+use std::marker::Model;
+use wi_values::{Address, Rect};
+
+/// A map by cell address, in row-major order. It is seen as the kit's `BTreeMap` is.
+#[derive(Drop)]
+pub struct CellMap<V> {
+    pages: Pages<V>,
+    occupied: u64,
+    alloc: Global,
+}
+
+impl<V> Model for CellMap<V> {
+    ghost use Rattle.std.specs.Prelude.{ℕ, ◌≡◌, length};
+    ghost use Rattle.wi_tiles.specs.Entries.{CellEntries};
+    ghost use Rattle.wi_tiles.specs.Inner.Entries.{map_of, entries_of};
+
+    ghost Value = { CellEntries V };
+
+    ghost view = { λ m. map_of (entries_of m.pages) };
+
+    ghost invariant = { λ m. m.occupied ≡ length (entries_of m.pages) };
+}
+
+impl<V: Drop> CellMap<V> {
+    /// Nothing. Takes no memory.
+    pub fn new(alloc: Global) -> CellMap<V>
+        ensures { result.entries ≡ [] }
+    {
+        CellMap {
+            pages: Window::vacant(alloc),
+            occupied: 0,
+            alloc,
+        }
+    }
+
+    /// How many cells have something.
+    pub fn len(&self) -> usize
+        ensures len { result ≡ length self.now.entries }
+        ensures ordered { IsOrdered nat_cmp self.now }
+    {
+        self.occupied as usize
+    }
+
+    /// Whether no cell has anything.
+    pub fn is_empty(&self) -> bool
+        ensures { IsTrue result ↔ (self.now.entries ≡ []) }
+    {
+        self.occupied == 0
+    }
+
+    /// What a cell has. The work is the same however many cells have something, but for a search among the tiles of 16 rows.
+    pub fn get(&self, cell: Address) -> Option<&V>
+        ensures { option_copied result ≡ get nat_cmp self.now cell }
+    {
+        self.pages.get(path_of(cell))
+    }
+
+    /// Puts a value into a cell that has nothing, and answers whether it had nothing. If memory runs out, all is as before. The
+    /// work is that of `get`, and of moving up to 63 values.
+    pub fn put_new(&mut self, cell: Address, value: V) -> Result<bool, AllocError>
+        ensures new { IfOk result (λ new. new ≡ not (is_some (get nat_cmp self.old cell))) }
+        ensures entries { OnOk result (self.new.entries ≡ (if is_some (get nat_cmp self.old cell)
+            then self.old.entries else insert_entry nat_cmp self.old.entries cell value)) }
+        ensures err { OnErr result (self.new ≡ self.old) }
+    {
+        let path = path_of(cell);
+        if self.pages.get(path).is_some() {
+            return Ok(false);
+        }
+        self.pages.put(path, value, self.alloc)?;
+        self.occupied += 1;
+        Ok(true)
+    }
+
+    /// Puts a value in the place of what a cell has, and gives that; a cell that has nothing gets nothing. Takes no memory. The
+    /// work is that of `get`.
+    pub fn replace(&mut self, cell: Address, value: V) -> Option<V>
+        ensures stood { result ≡ get nat_cmp self.old cell }
+        ensures entries { self.new.entries ≡ set_value (is_at (nat_cmp cell)) self.old.entries value }
+    {
+        self.pages.replace(path_of(cell), value)
+    }
+
+    /// Takes away what a cell has, and gives that. Takes no memory, and a tile that has nothing then goes. The work is that of
+    /// `get`, and of moving up to 63 values.
+    pub fn remove(&mut self, cell: Address) -> Option<V>
+        ensures stood { result ≡ get nat_cmp self.old cell }
+        ensures entries { self.new.entries ≡ remove_entry (is_at (nat_cmp cell)) self.old.entries }
+    {
+        match self.pages.remove(path_of(cell), self.alloc) {
+            Some(value) => {
+                self.occupied -= 1;
+                Some(value)
+            }
+            None => None,
+        }
+    }
+
+    /// Takes away what all cells have. The work is that of dropping it.
+    pub fn clear(&mut self)
+        ensures { self.new.entries ≡ [] }
+    {
+        self.pages = Window::vacant(self.alloc);
+        self.occupied = 0;
+    }
+
+    /// The first cell of a rectangle, in row-major order, at a cell or after it, that has something. One search among the tiles
+    /// of 16 rows for each row up to it; 16 rows where nothing stands are passed at once.
+    pub fn next_in(&self, area: Rect, from: Address) -> Option<Address>
+        ensures { result ≡ find (λ a. nat_le from a) (filter (is_within area) (keys_of self.now.entries)) }
+    {
+        next_cell(&self.pages, area, from)
+    }
+}

@@ -1,0 +1,12 @@
+//! A map by cell address, ordered row by row.
+#![tactic(auto)]
+
+mod cell_map;
+mod line;
+mod pages;
+mod places;
+mod sorted;
+mod tile;
+mod window;
+
+pub use cell_map::CellMap;

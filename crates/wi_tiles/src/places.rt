@@ -1,0 +1,47 @@
+//! What has something at some of its places.
+
+ghost use Rattle.std.specs.Prelude.{◌≡◌, ◌<◌, ◌==◌, ℕ, Option, Some, None, IsTrue, OnOk, OnErr, option_copied, option_map, if◌then◌else◌};
+
+use std::alloc::{AllocError, Global};
+
+/// Something at some of so many places.
+pub trait Places<V> {
+    /// How many places there are.
+    ghost size: { ℕ };
+
+    /// What a place has.
+    ghost at: { Self → ℕ → Option V };
+
+    /// Nothing. Takes no memory.
+    fn vacant(alloc: Global) -> Self
+        ensures { (p : ℕ) → at result p ≡ None };
+
+    /// Whether nothing is kept for any place, so that it may go.
+    fn is_vacant(&self) -> bool
+        ensures { IsTrue result → (p : ℕ) → at self.now p ≡ None };
+
+    /// What a place has.
+    fn get(&self, place: u64) -> Option<&V>
+        requires { place < size }
+        ensures { option_copied result ≡ at self.now place };
+
+    /// Puts a value where nothing stands. If memory runs out, each place has what it had.
+    fn put(&mut self, place: u64, value: V, alloc: Global) -> Result<(), AllocError>
+        requires within { place < size }
+        requires vacant { at self.old place ≡ None }
+        ensures ok { OnOk result ((p : ℕ) → at self.new p ≡ (if p == place then Some value else at self.old p)) }
+        ensures err { OnErr result ((p : ℕ) → at self.new p ≡ at self.old p) };
+
+    /// Puts a value in the place of what stands, and gives that; where nothing stands it does nothing. Takes no memory.
+    fn replace(&mut self, place: u64, value: V) -> Option<V>
+        requires { place < size }
+        ensures value { result ≡ at self.old place }
+        ensures put { (p : ℕ) → at self.new p
+            ≡ (if p == place then option_map (λ _. value) (at self.old place) else at self.old p) };
+
+    /// Takes away what a place has. Takes no memory.
+    fn remove(&mut self, place: u64, alloc: Global) -> Option<V>
+        requires { place < size }
+        ensures value { result ≡ at self.old place }
+        ensures left { (p : ℕ) → at self.new p ≡ (if p == place then None else at self.old p) };
+}

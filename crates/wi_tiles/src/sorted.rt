@@ -1,0 +1,181 @@
+//! Parts in order of their keys.
+
+ghost use Rattle.std.specs.Prelude.{◌≡◌, ◌<◌, ◌≤◌, ◌+◌, ◌*◌, ◌/◌, ◌%◌, ◌==◌, ℕ, length, Some, None, IsSome, IsTrue, OnOk, OnErr, IfOk, IfErr, option_copied, option_map, slice_index_or, if◌then◌else◌};
+ghost use Rattle.wi_tiles.specs.Inner.Sorted.{find, key, Rises, at_sorted, groups};
+
+use crate::places::Places;
+use std::alloc::{AllocError, Global};
+use std::marker::Model;
+
+/// How many keys there may be.
+const GROUPS: u64 = 4_096;
+
+/// Parts in order of their keys, found by the first digit of a path.
+#[derive(Drop)]
+pub struct Sorted<T> {
+    parts: Vec<(u32, T)>,
+}
+
+impl<T> Model for Sorted<T> {
+    ghost use Rattle.std.specs.Prelude.{ℕ, List};
+    ghost use Rattle.wi_tiles.specs.Inner.Sorted.{Rises};
+
+    ghost Value = { List (ℕ × T) };
+
+    ghost view = { λ s. s.parts.items };
+
+    ghost invariant = { λ s. Rises s.parts.items };
+}
+
+impl<T> Sorted<T> {
+    /// The parts with their keys, in order.
+    pub fn parts(&self) -> &[(u32, T)]
+        ensures parts { result.now ≡ self.now }
+        ensures rises { Rises result.now }
+    {
+        &self.parts
+    }
+}
+
+impl<V: Drop, T: Places<V> + Drop> Places<V> for Sorted<T> {
+    ghost use Rattle.std.specs.Prelude.{◌*◌};
+    ghost use Rattle.wi_tiles.specs.Inner.Sorted.{at_sorted, groups};
+
+    ghost size = { groups * T.size };
+
+    ghost at = { λ s p. at_sorted T.at s p };
+
+    fn vacant(alloc: Global) -> Sorted<T> {
+        Sorted {
+            parts: Vec::new(alloc),
+        }
+    }
+
+    fn is_vacant(&self) -> bool {
+        self.parts.is_empty()
+    }
+
+    fn get(&self, path: u64) -> Option<&V> {
+        match part_of(&self.parts, (path % GROUPS) as u32) {
+            Some(part) => part.get(path / GROUPS),
+            None => None,
+        }
+    }
+
+    fn put(&mut self, path: u64, value: V, alloc: Global) -> Result<(), AllocError> {
+        let group = (path % GROUPS) as u32;
+        match place_of(&self.parts, group) {
+            Ok(place) => self.parts[place].1.put(path / GROUPS, value, alloc),
+            Err(place) => put_part(&mut self.parts, place, path, value, alloc),
+        }
+    }
+
+    fn replace(&mut self, path: u64, value: V) -> Option<V> {
+        match place_of(&self.parts, (path % GROUPS) as u32) {
+            Ok(place) => self.parts[place].1.replace(path / GROUPS, value),
+            Err(_) => None,
+        }
+    }
+
+    fn remove(&mut self, path: u64, alloc: Global) -> Option<V> {
+        match place_of(&self.parts, (path % GROUPS) as u32) {
+            Ok(place) => {
+                let value = self.parts[place].1.remove(path / GROUPS, alloc);
+                drop_vacant(&mut self.parts, place);
+                value
+            }
+            Err(_) => None,
+        }
+    }
+}
+
+/// Puts in a part with one value, at the place of its key. If memory runs out, all is as before.
+fn put_part<V: Drop, T: Places<V> + Drop>(
+    parts: &mut Vec<(u32, T)>,
+    place: usize,
+    path: u64,
+    value: V,
+    alloc: Global,
+) -> Result<(), AllocError>
+    requires rises { Rises parts.old.items }
+    requires within { path < groups * T.size }
+    requires bound { place ≤ length parts.old.items }
+    requires below { (i : ℕ) → i < place → key parts.old.items i < path % groups }
+    requires above { (i : ℕ) → place ≤ i → i < length parts.old.items → path % groups < key parts.old.items i }
+    ensures rises { Rises parts.new.items }
+    ensures ok { OnOk result ((p : ℕ) → at_sorted T.at parts.new.items p
+        ≡ (if p == path then Some value else at_sorted T.at parts.old.items p)) }
+    ensures err { OnErr result ((p : ℕ) → at_sorted T.at parts.new.items p ≡ at_sorted T.at parts.old.items p) }
+{
+    let mut part = T::vacant(alloc);
+    part.put(path / GROUPS, value, alloc)?;
+    parts.insert(place, ((path % GROUPS) as u32, part))?;
+    Ok(())
+}
+
+/// Takes away a part that has nothing.
+fn drop_vacant<V, T: Places<V> + Drop>(parts: &mut Vec<(u32, T)>, place: usize)
+    requires rises { Rises parts.old.items }
+    requires within { place < length parts.old.items }
+    ensures rises { Rises parts.new.items }
+    ensures kept { (p : ℕ) → at_sorted T.at parts.new.items p ≡ at_sorted T.at parts.old.items p }
+{
+    if parts[place].1.is_vacant() {
+        let _ = parts.remove(place);
+    }
+}
+
+/// Where the part with a key stands, or else where it would.
+fn place_of<T>(parts: &[(u32, T)], group: u32) -> Result<usize, usize>
+    requires { Rises parts.now }
+    ensures ok { IfOk result (λ i. (i < length parts.now) × (key parts.now i ≡ group)) }
+    ensures none { IfErr result (λ i. (i ≤ length parts.now) × (find group parts.now ≡ None)
+        × ((j : ℕ) → j < i → key parts.now j < group)
+        × ((j : ℕ) → i ≤ j → j < length parts.now → group < key parts.now j)) }
+{
+    let place = place_from(parts, group);
+    if parts.len() <= place {
+        return Err(place);
+    }
+    let part = &parts[place];
+    if part.0 != group {
+        return Err(place);
+    }
+    Ok(place)
+}
+
+/// The place of the first part with a key or a later one.
+pub fn place_from<T>(parts: &[(u32, T)], group: u32) -> usize
+    requires { Rises parts.now }
+    ensures bound { result ≤ length parts.now }
+    ensures below { (i : ℕ) → i < result → key parts.now i < group }
+    ensures above { (i : ℕ) → result ≤ i → i < length parts.now → group ≤ key parts.now i }
+{
+    let mut low = 0;
+    let mut high = parts.len();
+    while low < high {
+        let middle = low + (high - low) / 2;
+        if parts[middle].0 < group {
+            low = middle + 1;
+        } else {
+            high = middle;
+        }
+    }
+    low
+}
+
+/// The part with a key.
+fn part_of<T>(parts: &[(u32, T)], group: u32) -> Option<&T>
+    requires { Rises parts.now }
+    ensures { option_copied result ≡ find group parts.now }
+{
+    let place = place_from(parts, group);
+    if parts.len() <= place {
+        return None;
+    }
+    let part = &parts[place];
+    if part.0 != group {
+        return None;
+    }
+    Some(&part.1)
+}

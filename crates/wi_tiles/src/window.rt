@@ -1,0 +1,195 @@
+//! Parts by their index, from a first one on.
+
+ghost use Rattle.std.specs.Prelude.{◌≡◌, ◌<◌, ◌≤◌, ◌+◌, ◌-◌, ◌*◌, ◌%◌, ◌==◌, ◌++◌, ◌∷◌, [], ℕ, List, length, Some, None, IfSome, IfNone, IsTrue, OnOk, OnErr, option_copied, option_map, if◌then◌else◌};
+ghost use Rattle.wi_tiles.specs.Inner.Parts.{part_from, at_window, span};
+
+use crate::places::Places;
+use std::alloc::{AllocError, Global};
+use std::marker::Model;
+
+/// How many parts there may be.
+const SPAN: u64 = 256;
+
+/// Parts found by the first digit of a path. There are none before the first, and none behind the last, so that a lone part
+/// costs the same wherever it stands.
+#[derive(Drop)]
+pub struct Window<T> {
+    first: usize,
+    parts: Vec<T>,
+}
+
+impl<T> Model for Window<T> {
+    ghost use Rattle.std.specs.Prelude.{ℕ, List};
+
+    ghost Value = { ℕ × List T };
+
+    ghost view = { λ w. (w.first, w.parts.items) };
+}
+
+impl<T> Window<T> {
+    /// The part at an index.
+    pub fn part(&self, index: usize) -> Option<&T>
+        ensures { option_copied result ≡ part_from self.now index }
+    {
+        match place_in(self.first, &self.parts, index) {
+            Some(place) => Some(&self.parts[place]),
+            None => None,
+        }
+    }
+}
+
+impl<V: Drop, T: Places<V> + Drop> Places<V> for Window<T> {
+    ghost use Rattle.std.specs.Prelude.{◌*◌};
+    ghost use Rattle.wi_tiles.specs.Inner.Parts.{at_window, span};
+
+    ghost size = { span * T.size };
+
+    ghost at = { λ w p. at_window T.at w p };
+
+    fn vacant(alloc: Global) -> Window<T> {
+        Window {
+            first: 0,
+            parts: Vec::new(alloc),
+        }
+    }
+
+    fn is_vacant(&self) -> bool {
+        self.parts.is_empty()
+    }
+
+    fn get(&self, path: u64) -> Option<&V> {
+        match self.part((path % SPAN) as usize) {
+            Some(part) => part.get(path / SPAN),
+            None => None,
+        }
+    }
+
+    fn put(&mut self, path: u64, value: V, alloc: Global) -> Result<(), AllocError> {
+        let index = (path % SPAN) as usize;
+        reach_down(&mut self.first, &mut self.parts, index, alloc)?;
+        let place = index - self.first;
+        reach_up(self.first, &mut self.parts, place, alloc)?;
+        self.parts[place].put(path / SPAN, value, alloc)
+    }
+
+    fn replace(&mut self, path: u64, value: V) -> Option<V> {
+        match place_in(self.first, &self.parts, (path % SPAN) as usize) {
+            Some(place) => self.parts[place].replace(path / SPAN, value),
+            None => None,
+        }
+    }
+
+    fn remove(&mut self, path: u64, alloc: Global) -> Option<V> {
+        match place_in(self.first, &self.parts, (path % SPAN) as usize) {
+            Some(place) => {
+                let value = self.parts[place].remove(path / SPAN, alloc);
+                drop_vacant(self.first, &mut self.parts, place, alloc);
+                value
+            }
+            None => None,
+        }
+    }
+}
+
+/// Where the part with an index stands.
+fn place_in<T>(first: usize, parts: &[T], index: usize) -> Option<usize>
+    ensures some { IfSome result (λ i. (i < length parts.now) × (first ≤ index) × (i ≡ index - first)) }
+    ensures none { IfNone result (part_from (first, parts.now) index ≡ None) }
+{
+    if index < first {
+        return None;
+    }
+    let place = index - first;
+    if parts.len() <= place {
+        return None;
+    }
+    Some(place)
+}
+
+/// Sees to it that the first part is not after an index. If memory runs out, each place has what it had.
+fn reach_down<V, T: Places<V> + Drop>(
+    first: &mut usize,
+    parts: &mut Vec<T>,
+    index: usize,
+    alloc: Global,
+) -> Result<(), AllocError>
+    ensures reached { OnOk result (first.new ≤ index) }
+    ensures kept { (p : ℕ) → at_window T.at (first.new, parts.new.items) p ≡ at_window T.at (first.old, parts.old.items) p }
+{
+    if parts.is_empty() {
+        *first = index;
+        return Ok(());
+    }
+    'down: while index < *first {
+        parts.insert(0, T::vacant(alloc))?;
+        *first -= 1;
+    }
+    Ok(())
+}
+
+/// Sees to it that a part stands. If memory runs out, each place has what it had.
+fn reach_up<V, T: Places<V> + Drop>(
+    first: usize,
+    parts: &mut Vec<T>,
+    place: usize,
+    alloc: Global,
+) -> Result<(), AllocError>
+    requires { place < span }
+    ensures within { OnOk result (place < length parts.new.items) }
+    ensures kept { (p : ℕ) → at_window T.at (first, parts.new.items) p ≡ at_window T.at (first, parts.old.items) p }
+{
+    'up: while parts.len() <= place {
+        push_vacant(first, parts, alloc)?;
+    }
+    Ok(())
+}
+
+/// A part with nothing behind the last. If memory runs out, all is as before.
+fn push_vacant<V, T: Places<V> + Drop>(
+    first: usize,
+    parts: &mut Vec<T>,
+    alloc: Global,
+) -> Result<(), AllocError>
+    ensures longer { OnOk result (length parts.new.items ≡ length parts.old.items + 1) }
+    ensures kept { (p : ℕ) → at_window T.at (first, parts.new.items) p ≡ at_window T.at (first, parts.old.items) p }
+{
+    parts.push(T::vacant(alloc))?;
+    Ok(())
+}
+
+/// Gives back the memory of a part that has nothing, and of those at the end that have nothing.
+fn drop_vacant<V, T: Places<V> + Drop>(
+    first: usize,
+    parts: &mut Vec<T>,
+    place: usize,
+    alloc: Global,
+)
+    requires { place < length parts.old.items }
+    ensures { (p : ℕ) → at_window T.at (first, parts.new.items) p ≡ at_window T.at (first, parts.old.items) p }
+{
+    if parts[place].is_vacant() {
+        parts[place] = T::vacant(alloc);
+        trim(first, parts);
+    }
+}
+
+/// Takes away the parts at the end that have nothing.
+fn trim<V, T: Places<V> + Drop>(first: usize, parts: &mut Vec<T>)
+    ensures { (p : ℕ) → at_window T.at (first, parts.new.items) p ≡ at_window T.at (first, parts.old.items) p }
+{
+    'end: while ends_vacant(parts) {
+        let _ = parts.pop();
+    }
+}
+
+/// Whether the last part has nothing.
+fn ends_vacant<V, T: Places<V>>(parts: &[T]) -> bool
+    ensures some { IsTrue result → 0 < length parts.now }
+    ensures vacant { IsTrue result → (xs : List T) (x : T) → parts.now ≡ xs ++ x ∷ [] → (p : ℕ) → T.at x p ≡ None }
+{
+    let len = parts.len();
+    if len == 0 {
+        return false;
+    }
+    parts[len - 1].is_vacant()
+}
