@@ -1,7 +1,9 @@
 pub mod Below
 pub mod First
 pub mod Least
+pub mod Next
 pub mod Notes
+pub mod Noting
 pub mod Runs
 pub mod Shared
 pub mod Wide

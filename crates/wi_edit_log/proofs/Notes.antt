@@ -1,50 +1,48 @@
--- What is noted of cells that edits named alone: it tells of the first edits of a log, of one more after each, and finds what a search would.
-use Rattle.std.proofs.Common.{◌≡◌, ◌∙◌, ℕ, ◌+◌, ◌-◌, ◌==◌, ◌≤◌, ◌<◌, ◌⊎◌, inl, inr, Bool, true, false, not, ◌||◌, ◌&&◌, List, [], ◌∷◌, ◌++◌, length, take, drop, get_or, max, Option, Some, None, is_some, refl, ap, sym, subst, arith}
+-- What is noted of cells that edits of narrow rectangles named: it tells of the first edits of a log, of one more after each, and finds what a search would.
+use Rattle.std.proofs.Common.{◌≡◌, ◌∙◌, ℕ, ◌+◌, ◌-◌, ◌==◌, ◌≤◌, ◌<◌, ◌⊎◌, inl, inr, Bool, true, false, not, ◌||◌, ◌&&◌, List, [], ◌∷◌, ◌++◌, length, take, drop, get_or, max, Option, Some, refl, ap, sym, subst, arith}
 use Rattle.std.specs.Prelude.{nat_lt, if◌then◌else◌}
-use Rattle.std.specs.Bool.{then_some}
 use Rattle.std.proofs.Math.Bool.{and-false, and-true, or-false, or-true, and-or_distrib_left}
 use Rattle.std.proofs.lemmas.List.{drop_all, drop-append-le, length-append, length-take, length-take-le, take-append-le, take-take, take_more}
 use Rattle.std.proofs.lemmas.List.Folds.{list_any-append}
-use Rattle.std.proofs.lemmas.Bool.{and_from, and_parts, both_ways, cases_lt, eq-eqb, eqb-true, le-ltb, lt-ltb, ltb-false}
+use Rattle.std.proofs.lemmas.Bool.{cases_lt, eqb-true, le-ltb, lt-ltb, ltb-false}
 use Rattle.wi_values.specs.Address.{Area}
 use Rattle.wi_edit_log.specs.EditLog.{have_cell}
 use Rattle.wi_edit_log.specs.Inner.First.{IsFirst, sooner}
 use Rattle.wi_edit_log.specs.Inner.Edits.{AreInRuns, is_named_by_others, is_wanted_of_others}
-use Rattle.wi_edit_log.specs.Inner.Lone.{is_lone, only_cell}
-use Rattle.wi_edit_log.specs.Inner.Noted.{AreNoted, IsKept, before_of, last_after, last_of, tells, names_alone, names_for, is_named_alone, is_named_widely, is_wanted_alone, is_wanted_widely}
+use Rattle.wi_edit_log.specs.Inner.Narrow.{are_narrow}
+use Rattle.wi_edit_log.specs.Inner.Noted.{AreNoted, IsKept, NotesMore, before_of, is_told, is_wanted_told, last_after, last_of, tells, names_narrowly, is_named_narrowly, is_named_widely, is_wanted_narrowly, is_wanted_widely}
 use Rattle.wi_edit_log.specs.declared.edit.Edit.{Edit}
-use Rattle.wi_edit_log.specs.declared.lone.Last.{Last}
-use Rattle.wi_edit_log.proofs.First.{sooner_first}
+use Rattle.wi_edit_log.specs.declared.noted.Last.{Last}
+use Rattle.wi_edit_log.proofs.First.{same_first, sooner_first}
 use Rattle.wi_edit_log.proofs.Runs.{runs_of_fewer}
-use Rattle.wi_edit_log.proofs.Shared.{only_one}
 use Rattle.wi_edit_log.proofs.Wide.{named_in_parts}
 
 -- ---- one edit more
 
-none_beyond : (es : List Edit) (known since s a : ℕ) → known ≤ since → is_named_alone (drop since (take known es)) s a ≡ false
+none_beyond : (es : List Edit) (known since s a : ℕ) → known ≤ since → is_named_narrowly (drop since (take known es)) s a ≡ false
 none_beyond es known since s a l =
     let short : length (take known es) ≤ since = omega (arith, length-take known es, l) in
-    ap (λ ys. is_named_alone ys s a) (drop_all since (take known es) short)
+    ap (λ ys. is_named_narrowly ys s a) (drop_all since (take known es) short)
 
 one_more : (es : List Edit) (known : ℕ) (d : Edit) (s a since : ℕ) → known < length es
-    → is_named_alone (drop since (take (known + 1) es)) s a ≡ (is_named_alone (drop since (take known es)) s a || (nat_lt since (known + 1) && names_alone s a (get_or es known d)))
+    → is_named_narrowly (drop since (take (known + 1) es)) s a ≡ (is_named_narrowly (drop since (take known es)) s a || (nat_lt since (known + 1) && names_narrowly s a (get_or es known d)))
 one_more es known d s a since l = in_order (cases_lt known since)
   where
     in_order : (known < since) ⊎ (since ≤ known)
-        → is_named_alone (drop since (take (known + 1) es)) s a ≡ (is_named_alone (drop since (take known es)) s a || (nat_lt since (known + 1) && names_alone s a (get_or es known d)))
+        → is_named_narrowly (drop since (take (known + 1) es)) s a ≡ (is_named_narrowly (drop since (take known es)) s a || (nat_lt since (known + 1) && names_narrowly s a (get_or es known d)))
     in_order (inl m) =
         none_beyond es (known + 1) since s a (omega (arith, m))
-        ∙ sym (ap (λ b. b || (nat_lt since (known + 1) && names_alone s a (get_or es known d))) (none_beyond es known since s a (omega (arith, m)))
-        ∙ ap (λ b. b && names_alone s a (get_or es known d)) (le-ltb since (known + 1) (omega (arith, m))))
+        ∙ sym (ap (λ b. b || (nat_lt since (known + 1) && names_narrowly s a (get_or es known d))) (none_beyond es known since s a (omega (arith, m)))
+        ∙ ap (λ b. b && names_narrowly s a (get_or es known d)) (le-ltb since (known + 1) (omega (arith, m))))
     in_order (inr m) =
         let first : length (take known es) ≡ known = length-take-le known es (omega (arith, l)) in
-        ap (λ ys. is_named_alone (drop since ys) s a) (take_more es known d l)
-        ∙ ap (λ ys. is_named_alone ys s a) (drop-append-le since (take known es) (get_or es known d ∷ []) (omega (arith, first, m)))
-        ∙ list_any-append (names_alone s a) (drop since (take known es)) (get_or es known d ∷ [])
-        ∙ ap (λ b. is_named_alone (drop since (take known es)) s a || b)
-        (or-false (names_alone s a (get_or es known d)) ∙ sym (ap (λ b. b && names_alone s a (get_or es known d)) (lt-ltb since (known + 1) (omega (arith, m)))))
+        ap (λ ys. is_named_narrowly (drop since ys) s a) (take_more es known d l)
+        ∙ ap (λ ys. is_named_narrowly ys s a) (drop-append-le since (take known es) (get_or es known d ∷ []) (omega (arith, first, m)))
+        ∙ list_any-append (names_narrowly s a) (drop since (take known es)) (get_or es known d ∷ [])
+        ∙ ap (λ b. is_named_narrowly (drop since (take known es)) s a || b)
+        (or-false (names_narrowly s a (get_or es known d)) ∙ sym (ap (λ b. b && names_narrowly s a (get_or es known d)) (lt-ltb since (known + 1) (omega (arith, m)))))
 
--- a cell that one edit more names alone: named says whether others of those before do
+-- a cell that one edit more of narrow rectangles names: named says whether others of those before do
 named_now : (named : Bool) (old : Option Last) (s t since n : ℕ) → named ≡ tells old s since → (n ≤ since → named ≡ false)
     → (named || (nat_lt since n && not (t == s))) ≡ tells (Some (last_after old t n)) s since
 named_now named old s t since n e beyond = by (t == s) refl
@@ -61,45 +59,37 @@ named_now named old s t since n e beyond = by (t == s) refl
         ap (λ b. named || (nat_lt since n && not b)) other ∙ ap (λ b. named || b) (and-true (nat_lt since n)) ∙ later (nat_lt since n) refl
         ∙ sym (ap (λ b. nat_lt since (if b then before_of old t else n)) other)
 
-module _ (es : List Edit) (known : ℕ) (notes : List (ℕ × Last)) (x : Edit) (h : AreNoted es known notes) (l : known < length es) (e : x ≡ get_or es known x) where
-  -- an edit that names one cell alone
-  module _ (more : List (ℕ × Last)) (at : ℕ) (one : only_cell x.named ≡ Some at)
-      (put : (a : ℕ) → last_of more a ≡ (if at == a then Some (last_after (last_of notes at) x.session (known + 1)) else last_of notes a)) where
-    names : (a s : ℕ) → names_alone s a x ≡ (not (x.session == s) && (at == a))
-    names a s = ap (λ b. b && names_for s a x) (ap is_some one) ∙ ap (λ b. not (x.session == s) && b) (only_one x.named at a one)
+module _ (es : List Edit) (known : ℕ) (notes more : List (ℕ × Last)) (x : Edit) (h : AreNoted es known notes) (l : known < length es) (e : x ≡ get_or es known x)
+    (put : NotesMore (λ a. are_narrow x.named && have_cell x.named a) x.session (known + 1) notes more) where
+  reordered : (w o n : Bool) → (w && (o && n)) ≡ (o && (w && n))
+  reordered true true n = refl
+  reordered true false n = refl
+  reordered false true n = refl
+  reordered false false n = refl
 
-    now : (a s since : ℕ) (b : Bool) → (at == a) ≡ b
-        → (is_named_alone (drop since (take known es)) s a || (nat_lt since (known + 1) && names_alone s a x)) ≡ tells (last_of more a) s since
-    now a s since true t =
-        ap (λ b. is_named_alone (drop since (take known es)) s a || (nat_lt since (known + 1) && b)) (names a s ∙ ap (λ b. not (x.session == s) && b) t ∙ and-true (not (x.session == s)))
-        ∙ named_now (is_named_alone (drop since (take known es)) s a) (last_of notes at) s x.session since (known + 1)
-        (h.told a s since ∙ ap (λ k. tells (last_of notes k) s since) (sym (eqb-true at a t))) (λ m. none_beyond es known since s a (omega (arith, m)))
-        ∙ sym (ap (λ o. tells o s since) (put a ∙ ap (λ b. if b then Some (last_after (last_of notes at) x.session (known + 1)) else last_of notes a) t))
-    now a s since false f =
-        ap (λ b. is_named_alone (drop since (take known es)) s a || (nat_lt since (known + 1) && b)) (names a s ∙ ap (λ b. not (x.session == s) && b) f ∙ and-false (not (x.session == s)))
-        ∙ ap (λ b. is_named_alone (drop since (take known es)) s a || b) (and-false (nat_lt since (known + 1))) ∙ or-false (is_named_alone (drop since (take known es)) s a)
-        ∙ h.told a s since
-        ∙ sym (ap (λ o. tells o s since) (put a ∙ ap (λ b. if b then Some (last_after (last_of notes at) x.session (known + 1)) else last_of notes a) f))
+  names : (a s : ℕ) → names_narrowly s a x ≡ (not (x.session == s) && (are_narrow x.named && have_cell x.named a))
+  names a s = reordered (are_narrow x.named) (not (x.session == s)) (have_cell x.named a)
 
-    pub noted_one_more : AreNoted es (known + 1) more
-    noted_one_more = record {
-      within = omega (arith, l);
-      told = λ a s since.
-          one_more es known x s a since l
-          ∙ ap (λ (y : Edit). is_named_alone (drop since (take known es)) s a || (nat_lt since (known + 1) && names_alone s a y)) (sym e)
-          ∙ now a s since (at == a) refl;
-    }
+  now : (a s since : ℕ) (b : Bool) → (are_narrow x.named && have_cell x.named a) ≡ b
+      → (is_named_narrowly (drop since (take known es)) s a || (nat_lt since (known + 1) && names_narrowly s a x)) ≡ is_told more s since a
+  now a s since true t =
+      ap (λ b. is_named_narrowly (drop since (take known es)) s a || (nat_lt since (known + 1) && b)) (names a s ∙ ap (λ b. not (x.session == s) && b) t ∙ and-true (not (x.session == s)))
+      ∙ named_now (is_named_narrowly (drop since (take known es)) s a) (last_of notes a) s x.session since (known + 1)
+      (h.told a s since) (λ m. none_beyond es known since s a (omega (arith, m)))
+      ∙ sym (ap (λ o. tells o s since) (put a ∙ ap (λ b. if b then Some (last_after (last_of notes a) x.session (known + 1)) else last_of notes a) t))
+  now a s since false f =
+      ap (λ b. is_named_narrowly (drop since (take known es)) s a || (nat_lt since (known + 1) && b)) (names a s ∙ ap (λ b. not (x.session == s) && b) f ∙ and-false (not (x.session == s)))
+      ∙ ap (λ b. is_named_narrowly (drop since (take known es)) s a || b) (and-false (nat_lt since (known + 1))) ∙ or-false (is_named_narrowly (drop since (take known es)) s a)
+      ∙ h.told a s since
+      ∙ sym (ap (λ o. tells o s since) (put a ∙ ap (λ b. if b then Some (last_after (last_of notes a) x.session (known + 1)) else last_of notes a) f))
 
-  -- an edit that names anything else
-  pub noted_no_more : only_cell x.named ≡ None → AreNoted es (known + 1) notes
-  noted_no_more none = record {
+  pub noted_one_more : AreNoted es (known + 1) more
+  noted_one_more = record {
     within = omega (arith, l);
     told = λ a s since.
         one_more es known x s a since l
-        ∙ ap (λ (y : Edit). is_named_alone (drop since (take known es)) s a || (nat_lt since (known + 1) && names_alone s a y)) (sym e)
-        ∙ ap (λ b. is_named_alone (drop since (take known es)) s a || (nat_lt since (known + 1) && (b && names_for s a x))) (ap is_some none)
-        ∙ ap (λ b. is_named_alone (drop since (take known es)) s a || b) (and-false (nat_lt since (known + 1))) ∙ or-false (is_named_alone (drop since (take known es)) s a)
-        ∙ h.told a s since;
+        ∙ ap (λ (y : Edit). is_named_narrowly (drop since (take known es)) s a || (nat_lt since (known + 1) && names_narrowly s a y)) (sym e)
+        ∙ now a s since (are_narrow x.named && have_cell x.named a) refl;
   }
 
 -- ---- nothing noted, more edits and fewer
@@ -113,13 +103,13 @@ nothing_noted es known notes k n = rw (k, n) (record {
 pub noted_before_more : (es : List Edit) (known : ℕ) (notes : List (ℕ × Last)) (x : Edit) → AreNoted es known notes → AreNoted (es ++ x ∷ []) known notes
 noted_before_more es known notes x h = record {
   within = omega (arith, h.within, length-append es (x ∷ []));
-  told = λ a s since. ap (λ ys. is_named_alone (drop since ys) s a) (take-append-le known es (x ∷ []) h.within) ∙ h.told a s since;
+  told = λ a s since. ap (λ ys. is_named_narrowly (drop since ys) s a) (take-append-le known es (x ∷ []) h.within) ∙ h.told a s since;
 }
 
 pub noted_of_fewer : (es : List Edit) (known n : ℕ) (notes : List (ℕ × Last)) → AreNoted es known notes → known ≤ n → AreNoted (take n es) known notes
 noted_of_fewer es known n notes h l = record {
   within = omega (arith, h.within, length-take n es, l);
-  told = λ a s since. ap (λ ys. is_named_alone (drop since ys) s a) (take-take known n es l) ∙ h.told a s since;
+  told = λ a s since. ap (λ ys. is_named_narrowly (drop since ys) s a) (take-take known n es l) ∙ h.told a s since;
 }
 
 -- the last edit is taken back, and what is noted of more edits than are left is forgotten
@@ -131,41 +121,25 @@ kept_of_fewer es fs known fewer left notes rest h e l f =
       noted = subst (λ ys. AreNoted ys fewer rest) (ap (λ i. take i es) same ∙ sym e) (f es h.noted);
     }
 
--- ---- the first of wanted cells that are one cell
+-- ---- the first of wanted cells
 
-wanted_first : (test : ℕ → Bool) (wanted : List Area) (at : ℕ) (b : Bool) → only_cell wanted ≡ Some at → test at ≡ b → IsFirst (λ a. have_cell wanted a && test a) (then_some b at)
-wanted_first test wanted at true one t = record {
-  passes = and_from (have_cell wanted at) (test at) (only_one wanted at at one ∙ eq-eqb at at refl) t;
-  least = λ a h.
-      let p = and_parts (have_cell wanted a) (test a) h in
-      let same : at ≡ a = eqb-true at a (sym (only_one wanted at a one) ∙ p.0) in
-      omega (arith, same);
-}
-wanted_first test wanted at false one t = record {
-  passes = tt;
-  least = λ a h.
-      let p = and_parts (have_cell wanted a) (test a) h in
-      let same : at ≡ a = eqb-true at a (sym (only_one wanted at a one) ∙ p.0) in
-      both_ways (test at) t (ap test same ∙ p.1);
-}
-
-pub first_in_parts : (es : List Edit) (known : ℕ) (notes : List (ℕ × Last)) (s from at k : ℕ) (wanted : List Area) (noted wide left all : Option ℕ)
-    → AreNoted es known notes → only_cell wanted ≡ Some at → noted ≡ then_some (tells (last_of notes at) s from) at → k ≡ max from known → all ≡ sooner (sooner noted wide) left
-    → IsFirst (is_wanted_widely (drop from es) s wanted) wide → IsFirst (is_wanted_of_others (drop k es) s wanted) left → IsFirst (is_wanted_of_others (drop from es) s wanted) all
-first_in_parts es known notes s from at k wanted noted wide left all h one n m e w r =
+pub first_in_parts : (es : List Edit) (known : ℕ) (notes : List (ℕ × Last)) (s from k : ℕ) (wanted : List Area) (told wide left all : Option ℕ)
+    → AreNoted es known notes → k ≡ max from known → all ≡ sooner (sooner told wide) left
+    → IsFirst (is_wanted_told wanted notes s from) told → IsFirst (is_wanted_widely (drop from es) s wanted) wide → IsFirst (is_wanted_of_others (drop k es) s wanted) left → IsFirst (is_wanted_of_others (drop from es) s wanted) all
+first_in_parts es known notes s from k wanted told wide left all h m e t w r =
     let early = drop from (take known es) in
-    let both : ℕ → Bool = λ a. have_cell wanted a && (is_named_alone early s a || is_named_widely (drop from es) s a) in
-    let alone : IsFirst (is_wanted_alone early s wanted) noted =
-    subst (IsFirst (is_wanted_alone early s wanted)) (sym n) (wanted_first (is_named_alone early s) wanted at (tells (last_of notes at) s from) one (h.told at s from)) in
-    let soon : IsFirst both (sooner noted wide) =
-    sooner_first (is_wanted_alone early s wanted) (is_wanted_widely (drop from es) s wanted) both noted wide
-    (λ a. and-or_distrib_left (have_cell wanted a) (is_named_alone early s a) (is_named_widely (drop from es) s a)) alone w in
-    rw e (sooner_first both (is_wanted_of_others (drop k es) s wanted) (is_wanted_of_others (drop from es) s wanted) (sooner noted wide) left
+    let both : ℕ → Bool = λ a. have_cell wanted a && (is_named_narrowly early s a || is_named_widely (drop from es) s a) in
+    let narrow : IsFirst (is_wanted_narrowly early s wanted) told =
+    same_first (is_wanted_told wanted notes s from) (is_wanted_narrowly early s wanted) told (λ a. ap (λ b. have_cell wanted a && b) (sym (h.told a s from))) t in
+    let soon : IsFirst both (sooner told wide) =
+    sooner_first (is_wanted_narrowly early s wanted) (is_wanted_widely (drop from es) s wanted) both told wide
+    (λ a. and-or_distrib_left (have_cell wanted a) (is_named_narrowly early s a) (is_named_widely (drop from es) s a)) narrow w in
+    rw e (sooner_first both (is_wanted_of_others (drop k es) s wanted) (is_wanted_of_others (drop from es) s wanted) (sooner told wide) left
     (λ a. parts a) soon r)
   where
     parts : (a : ℕ) → is_wanted_of_others (drop from es) s wanted a
-        ≡ ((have_cell wanted a && (is_named_alone (drop from (take known es)) s a || is_named_widely (drop from es) s a)) || is_wanted_of_others (drop k es) s wanted a)
+        ≡ ((have_cell wanted a && (is_named_narrowly (drop from (take known es)) s a || is_named_widely (drop from es) s a)) || is_wanted_of_others (drop k es) s wanted a)
     parts a =
         ap (λ b. have_cell wanted a && b) (named_in_parts es known from s a h.within)
-        ∙ and-or_distrib_left (have_cell wanted a) (is_named_alone (drop from (take known es)) s a || is_named_widely (drop from es) s a) (is_named_by_others (drop (max from known) es) s a)
-        ∙ ap (λ i. (have_cell wanted a && (is_named_alone (drop from (take known es)) s a || is_named_widely (drop from es) s a)) || is_wanted_of_others (drop i es) s wanted a) (sym m)
+        ∙ and-or_distrib_left (have_cell wanted a) (is_named_narrowly (drop from (take known es)) s a || is_named_widely (drop from es) s a) (is_named_by_others (drop (max from known) es) s a)
+        ∙ ap (λ i. (have_cell wanted a && (is_named_narrowly (drop from (take known es)) s a || is_named_widely (drop from es) s a)) || is_wanted_of_others (drop i es) s wanted a) (sym m)

@@ -2,12 +2,12 @@
 use Rattle.std.proofs.Common.{◌≡◌, ◌∙◌, ℕ, zero, suc, ◌+◌, ◌-◌, ◌==◌, ◌≤◌, ◌<◌, ◌⊎◌, inl, inr, Bool, true, false, not, ◌||◌, ◌&&◌, List, [], ◌∷◌, ◌++◌, length, take, drop, get_or, max, Option, None, refl, ap, sym, subst, arith}
 use Rattle.std.proofs.Math.Bool.{and-false}
 use Rattle.std.proofs.lemmas.List.{drop_more, drop_all, get_or_append_left, get_or_default, get_or_push, get_or-take, length-take, length_push}
-use Rattle.std.proofs.lemmas.Bool.{cases_eq, eq-eqb, ne_eqb}
+use Rattle.std.proofs.lemmas.Bool.{cases_eq, cases_lt, eq-eqb, ne_eqb}
 use Rattle.wi_values.specs.Address.{Area}
 use Rattle.wi_edit_log.specs.EditLog.{have_cell}
 use Rattle.wi_edit_log.specs.Inner.First.{IsFirst, in_each, sooner}
 use Rattle.wi_edit_log.specs.Inner.Edits.{AreInRuns, IsInRun, is_named_by_others, is_wanted_of_others}
-use Rattle.wi_edit_log.specs.Inner.Lone.{is_lone}
+use Rattle.wi_edit_log.specs.Inner.Narrow.{are_narrow}
 use Rattle.wi_edit_log.specs.declared.edit.Edit.{Edit}
 use Rattle.wi_edit_log.proofs.First.{no_first, same_first, sooner_first}
 
@@ -18,8 +18,8 @@ module _ (es ys : List Edit) (i : ℕ) (e : Edit) (r : IsInRun es i e) (same : (
   in_run_of = record {
     begins = r.begins;
     one_session = λ k d l m. ap (λ (y : Edit). y.session) (same k d m) ∙ r.one_session k d l m;
-    lone = r.lone;
-    others_lone = λ k d l m. ap (λ (y : Edit). is_lone y.named) (same k d m) ∙ r.others_lone k d l m;
+    narrow = r.narrow;
+    others_narrow = λ k d l m. ap (λ (y : Edit). are_narrow y.named) (same k d m) ∙ r.others_narrow k d l m;
   }
 
 pub runs_of_more : (es : List Edit) (x : Edit) → AreInRuns es → IsInRun es (length es) x → AreInRuns (es ++ x ∷ [])
@@ -92,6 +92,20 @@ own_stepped_over es x s from place next wanted o runs l m at own e h =
           (λ a. ap (λ b. have_cell wanted a && b) (sym (stepped_over es x s a (place - next) next place (omega (arith, low)) m (λ k d p q. r.1 k d (omega (arith, e, p)) (omega (arith, q, l))))))
           h,
     )
+
+-- all from a place on are the session's own
+pub none_of_own : (es : List Edit) (s run from : ℕ) (wanted : List Area) → run ≤ from → ((k : ℕ) (d : Edit) → run ≤ k → k < length es → (get_or es k d).session ≡ s)
+    → IsFirst (is_wanted_of_others (drop from es) s wanted) None
+none_of_own es s run from wanted l own =
+    no_first (is_wanted_of_others (drop from es) s wanted) (λ a. ap (λ b. have_cell wanted a && b) (none es own a (cases_lt from (length es))) ∙ and-false (have_cell wanted a))
+  where
+    none : (xs : List Edit) → ((k : ℕ) (d : Edit) → run ≤ k → k < length xs → (get_or xs k d).session ≡ s) → (a : ℕ) → (from < length xs) ⊎ (length xs ≤ from)
+        → is_named_by_others (drop from xs) s a ≡ false
+    none [] own a m = ap (λ ys. is_named_by_others ys s a) (drop_all from [] (omega arith))
+    none (x ∷ xs) own a (inl m) =
+        stepped_over (x ∷ xs) x s a (length (x ∷ xs) - from) from (length (x ∷ xs)) (omega (arith, m)) (omega arith) (λ k d p q. own k d (omega (arith, p, l)) q)
+        ∙ ap (λ ys. is_named_by_others ys s a) (drop_all (length (x ∷ xs)) (x ∷ xs) (omega arith))
+    none (x ∷ xs) own a (inr m) = ap (λ ys. is_named_by_others ys s a) (drop_all from (x ∷ xs) m)
 
 -- ---- an edit of another session
 

@@ -1,28 +1,30 @@
 -- Which cells are in rectangles, one and many.
-use Rattle.std.proofs.Common.{◌==◌, ◌∷◌, Some, ◌≡◌, ◌∙◌, ℕ, ◌+◌, ◌≤◌, ◌<◌, ◌||◌, ◌&&◌, List, [], length, take, get_or, Option, None, Bool, true, false, max, nat_le, subst, refl, ap, sym, arith}
-use Rattle.std.proofs.Math.Bool.{and-false, and_comm, and-or_distrib_left, and-or_distrib_right, or-false}
+use Rattle.std.proofs.Common.{◌≡◌, ◌∙◌, ℕ, ◌+◌, ◌≤◌, ◌<◌, ◌||◌, ◌&&◌, List, [], length, take, get_or, Option, None, Bool, true, false, max, nat_le, subst, refl, ap, sym, arith}
+use Rattle.std.proofs.Math.Bool.{and-false, and_comm, and-or_distrib_left, and-or_distrib_right}
 use Rattle.std.specs.Bool.{then_some}
-use Rattle.std.proofs.lemmas.Bool.{and_parts, and_from, both_ways, eq-eqb, eqb-true, leb-true, le-leb}
+use Rattle.std.proofs.lemmas.Bool.{and_parts, and_from, both_ways, leb-true, le-leb}
 use Rattle.std.proofs.lemmas.List.{take_all}
 use Rattle.std.proofs.lemmas.List.Folds.{list_any_more}
 use Rattle.wi_values.specs.Address.{Area, columns, place, row_of, column_of, is_within}
 use Rattle.wi_edit_log.specs.EditLog.{have_cell}
 use Rattle.wi_edit_log.specs.Inner.First.{IsFirst, in_both, in_each, in_one, sooner}
 use Rattle.wi_edit_log.proofs.First.{no_first, same_first, sooner_first}
-use Rattle.wi_edit_log.specs.Inner.Lone.{only_cell}
-use Rattle.wi_edit_log.proofs.Least.{row_of_place, column_of_place, column_within, place_of, same_test}
+use Rattle.wi_edit_log.proofs.Least.{row_of_place, column_of_place, column_within}
 
 -- ---- one and some of the others
 
 pub in_none : (r : Area) → IsFirst (in_one r []) None
 in_none r = no_first (in_one r []) (λ a. and-false (is_within r a))
 
+pub one_more_of : (areas : List Area) (i : ℕ) (s : Area) → i < length areas → s ≡ get_or areas i s → (a : ℕ) → have_cell (take (i + 1) areas) a ≡ (have_cell (take i areas) a || is_within s a)
+one_more_of areas i s l at a = list_any_more (λ t. is_within t a) areas i s l ∙ ap (λ t. have_cell (take i areas) a || is_within t a) (sym at)
+
 -- one more of the others
 pub in_one_more : (r : Area) (areas : List Area) (i : ℕ) (s : Area) (o p q : Option ℕ) → i < length areas → s ≡ get_or areas i s → q ≡ sooner o p
     → IsFirst (in_one r (take i areas)) o → IsFirst (in_both r s) p → IsFirst (in_one r (take (i + 1) areas)) q
 in_one_more r areas i s o p q l at e h k =
     let more : (a : ℕ) → in_one r (take (i + 1) areas) a ≡ (in_one r (take i areas) a || in_both r s a) =
-    λ a. ap (λ b. is_within r a && b) (list_any_more (λ t. is_within t a) areas i s l ∙ ap (λ t. have_cell (take i areas) a || is_within t a) (sym at))
+    λ a. ap (λ b. is_within r a && b) (one_more_of areas i s l at a)
     ∙ and-or_distrib_left (is_within r a) (have_cell (take i areas) a) (is_within s a) in
     rw e (sooner_first (in_one r (take i areas)) (in_both r s) (in_one r (take (i + 1) areas)) o p more h k)
 
@@ -30,23 +32,23 @@ in_one_more r areas i s o p q l at e h k =
 pub in_one_all : (r : Area) (areas : List Area) (i : ℕ) (o : Option ℕ) → length areas ≤ i → IsFirst (in_one r (take i areas)) o → IsFirst (in_one r areas) o
 in_one_all r areas i o l h = rw (take_all i areas l) at h
 
--- ---- some of each
+-- ---- some of a list, and any test
 
-pub of_none : (others : List Area) → IsFirst (in_each [] others) None
-of_none others = no_first (in_each [] others) (λ a. refl)
+module _ (test : ℕ → Bool) where
+  pub of_none : IsFirst (λ a. have_cell [] a && test a) None
+  of_none = no_first (λ a. have_cell [] a && test a) (λ a. refl)
 
--- one more of the first list
-pub of_one_more : (areas others : List Area) (i : ℕ) (s : Area) (o p q : Option ℕ) → i < length areas → s ≡ get_or areas i s → q ≡ sooner o p
-    → IsFirst (in_each (take i areas) others) o → IsFirst (in_one s others) p → IsFirst (in_each (take (i + 1) areas) others) q
-of_one_more areas others i s o p q l at e h k =
-    let more : (a : ℕ) → in_each (take (i + 1) areas) others a ≡ (in_each (take i areas) others a || in_one s others a) =
-    λ a. ap (λ b. b && have_cell others a) (list_any_more (λ t. is_within t a) areas i s l ∙ ap (λ t. have_cell (take i areas) a || is_within t a) (sym at))
-    ∙ and-or_distrib_right (have_cell (take i areas) a) (is_within s a) (have_cell others a) in
-    rw e (sooner_first (in_each (take i areas) others) (in_one s others) (in_each (take (i + 1) areas) others) o p more h k)
+  -- one more of the list
+  pub of_one_more : (areas : List Area) (i : ℕ) (s : Area) (o p q : Option ℕ) → i < length areas → s ≡ get_or areas i s → q ≡ sooner o p
+      → IsFirst (λ a. have_cell (take i areas) a && test a) o → IsFirst (λ a. is_within s a && test a) p → IsFirst (λ a. have_cell (take (i + 1) areas) a && test a) q
+  of_one_more areas i s o p q l at e h k =
+      let more : (a : ℕ) → (have_cell (take (i + 1) areas) a && test a) ≡ ((have_cell (take i areas) a && test a) || (is_within s a && test a)) =
+      λ a. ap (λ b. b && test a) (one_more_of areas i s l at a) ∙ and-or_distrib_right (have_cell (take i areas) a) (is_within s a) (test a) in
+      rw e (sooner_first (λ a. have_cell (take i areas) a && test a) (λ a. is_within s a && test a) (λ a. have_cell (take (i + 1) areas) a && test a) o p more h k)
 
--- all of the first list
-pub of_all : (areas others : List Area) (i : ℕ) (o : Option ℕ) → length areas ≤ i → IsFirst (in_each (take i areas) others) o → IsFirst (in_each areas others) o
-of_all areas others i o l h = rw (take_all i areas l) at h
+  -- all of the list
+  pub of_all : (areas : List Area) (i : ℕ) (o : Option ℕ) → length areas ≤ i → IsFirst (λ a. have_cell (take i areas) a && test a) o → IsFirst (λ a. have_cell areas a && test a) o
+  of_all areas i o l h = rw (take_all i areas l) at h
 
 -- the lists may be turned
 pub turned : (areas others : List Area) (o : Option ℕ) → IsFirst (in_each areas others) o → IsFirst (in_each others areas) o
@@ -54,20 +56,20 @@ turned areas others o = same_first (in_each areas others) (in_each others areas)
 
 -- ---- two rectangles: their first cell is at the later of their first rows and of their first columns
 
-within_parts : (r : Area) (a : ℕ) → is_within r a ≡ true → (row_of r.first ≤ row_of a) × (row_of a ≤ row_of r.last) × (column_of r.first ≤ column_of a) × (column_of a ≤ column_of r.last)
+pub within_parts : (r : Area) (a : ℕ) → is_within r a ≡ true → (row_of r.first ≤ row_of a) × (row_of a ≤ row_of r.last) × (column_of r.first ≤ column_of a) × (column_of a ≤ column_of r.last)
 within_parts r a h =
     let p = and_parts (nat_le (row_of r.first) (row_of a) && nat_le (row_of a) (row_of r.last)) (nat_le (column_of r.first) (column_of a) && nat_le (column_of a) (column_of r.last)) h in
     let rows = and_parts (nat_le (row_of r.first) (row_of a)) (nat_le (row_of a) (row_of r.last)) p.0 in
     let columns = and_parts (nat_le (column_of r.first) (column_of a)) (nat_le (column_of a) (column_of r.last)) p.1 in
     (leb-true (row_of r.first) (row_of a) rows.0, leb-true (row_of a) (row_of r.last) rows.1, leb-true (column_of r.first) (column_of a) columns.0, leb-true (column_of a) (column_of r.last) columns.1)
 
-within_from : (r : Area) (a row column : ℕ) → row_of a ≡ row → column_of a ≡ column → row_of r.first ≤ row → row ≤ row_of r.last → column_of r.first ≤ column → column ≤ column_of r.last → is_within r a ≡ true
+pub within_from : (r : Area) (a row column : ℕ) → row_of a ≡ row → column_of a ≡ column → row_of r.first ≤ row → row ≤ row_of r.last → column_of r.first ≤ column → column ≤ column_of r.last → is_within r a ≡ true
 within_from r a row column e f l m n o =
     rw (e, f) (and_from (nat_le (row_of r.first) row && nat_le row (row_of r.last)) (nat_le (column_of r.first) column && nat_le column (column_of r.last))
     (and_from (nat_le (row_of r.first) row) (nat_le row (row_of r.last)) (le-leb (row_of r.first) row l) (le-leb row (row_of r.last) m))
     (and_from (nat_le (column_of r.first) column) (nat_le column (column_of r.last)) (le-leb (column_of r.first) column n) (le-leb column (column_of r.last) o)))
 
-no_sooner : (row column a : ℕ) → row ≤ row_of a → column ≤ column_of a → place row column ≤ a
+pub no_sooner : (row column a : ℕ) → row ≤ row_of a → column ≤ column_of a → place row column ≤ a
 no_sooner row column a l m = omega arith
 
 above_both : (k l m n : ℕ) → k ≡ max l m → l ≤ n → m ≤ n → k ≤ n
@@ -112,44 +114,3 @@ first_shared r s row column at shared found e f here is gives =
     by : (b : Bool) → in_both r s (place row column) ≡ b → IsFirst (in_both r s) (then_some b (place row column))
     by true t = record { passes = t; least = λ a h. (corner_shared r s row column a e f h).0 }
     by false t = record { passes = tt; least = λ a h. both_ways (in_both r s (place row column)) t (corner_shared r s row column a e f h).1 }
-
--- ---- rectangles that are one cell
-
-same_cell : (r : Area) (a : ℕ) → r.first ≡ r.last → is_within r a ≡ true → a ≡ r.first
-same_cell r a e h =
-    let p = within_parts r a h in
-    let row : row_of a ≡ row_of r.first = (let same = ap row_of e in omega (arith, p.0, p.1, same)) in
-    let column : column_of a ≡ column_of r.first = (let same = ap column_of e in omega (arith, p.2, p.3, same)) in
-    place_of a ∙ ap (λ k. place k (column_of a)) row ∙ ap (place (row_of r.first)) column ∙ sym (place_of r.first)
-
-own_cell : (r : Area) → r.first ≡ r.last → is_within r r.first ≡ true
-own_cell r e =
-    let row = ap row_of e in
-    let column = ap column_of e in
-    within_from r r.first (row_of r.first) (column_of r.first) refl refl (omega arith) (omega (arith, row)) (omega arith) (omega (arith, column))
-
-of_then : (b : Bool) (x y : ℕ) → then_some b x ≡ Some y → (b ≡ true) × (x ≡ y)
-of_then true x y e = (refl, cc)
-of_then false x y e = cc
-
--- their one cell is the only one
-pub only_one : (areas : List Area) (at a : ℕ) → only_cell areas ≡ Some at → have_cell areas a ≡ (at == a)
-only_one [] at a e = cc
-only_one (r ∷ []) at a e =
-    let p = of_then (r.first == r.last) r.first at e in
-    let one = eqb-true r.first r.last p.0 in
-    same_test (have_cell (r ∷ []) a) (at == a)
-    (λ h. eq-eqb at a (sym (same_cell r a one (sym (or-false (is_within r a)) ∙ h) ∙ p.1)))
-    (λ h. ap (λ k. is_within r k || false) (sym (p.1 ∙ eqb-true at a h)) ∙ ap (λ b. b || false) (own_cell r one))
-only_one (r ∷ s ∷ rs) at a e = cc
-
--- what the test for it finds
-pub no_only : (areas : List Area) → (length areas ≡ 1 → Prim.⊥) → None ≡ only_cell areas
-no_only [] n = refl
-no_only (r ∷ []) n = absurd (n refl)
-no_only (r ∷ s ∷ rs) n = refl
-
-pub an_only : (areas : List Area) (r : Area) → length areas ≡ 1 → r ≡ get_or areas 0 r → then_some (r.first == r.last) r.first ≡ only_cell areas
-an_only [] r l e = absurd (omega (arith, l))
-an_only (s ∷ []) r l e = ap (λ (t : Area). then_some (t.first == t.last) t.first) e
-an_only (s ∷ t ∷ rs) r l e = absurd (omega (arith, l))

@@ -1,4 +1,4 @@
--- Edits that name one cell alone, and those that name anything else: a search from the last edit to earlier ones passes over the first.
+-- Edits of narrow rectangles, and those that name a wider one: a search from the last edit to earlier ones passes over the first.
 use Rattle.std.proofs.Common.{◌≡◌, ◌∙◌, ℕ, zero, suc, ◌+◌, ◌-◌, ◌==◌, ◌≤◌, ◌<◌, ◌⊎◌, inl, inr, Bool, true, false, not, ◌||◌, ◌&&◌, List, [], ◌∷◌, ◌++◌, length, take, drop, get_or, max, Option, None, refl, ap, sym, subst, arith}
 use Rattle.std.specs.Prelude.{nat_lt}
 use Rattle.std.specs.List.{list_any}
@@ -10,20 +10,20 @@ use Rattle.wi_values.specs.Address.{Area}
 use Rattle.wi_edit_log.specs.EditLog.{have_cell}
 use Rattle.wi_edit_log.specs.Inner.First.{IsFirst, in_each, sooner}
 use Rattle.wi_edit_log.specs.Inner.Edits.{AreInRuns, IsInRun, is_named_by_others}
-use Rattle.wi_edit_log.specs.Inner.Lone.{is_lone}
-use Rattle.wi_edit_log.specs.Inner.Noted.{names_alone, names_for, names_widely, is_named_alone, is_named_widely, is_wanted_widely}
+use Rattle.wi_edit_log.specs.Inner.Narrow.{are_narrow}
+use Rattle.wi_edit_log.specs.Inner.Noted.{names_narrowly, names_for, names_widely, is_named_narrowly, is_named_widely, is_wanted_widely}
 use Rattle.wi_edit_log.specs.declared.edit.Edit.{Edit}
 use Rattle.wi_edit_log.proofs.First.{no_first, same_first, sooner_first}
 use Rattle.wi_edit_log.proofs.Runs.{reordered, run_before}
 
 -- ---- what names nothing widely
 
-lone_names_none : (e : Edit) (s a : ℕ) → is_lone e.named ≡ true → names_widely s a e ≡ false
-lone_names_none e s a h = ap (λ b. not b && names_for s a e) h
+narrow_names_none : (e : Edit) (s a : ℕ) → are_narrow e.named ≡ true → names_widely s a e ≡ false
+narrow_names_none e s a h = ap (λ b. not b && names_for s a e) h
 
 own_names_none : (e : Edit) (s a : ℕ) → e.session ≡ s → names_widely s a e ≡ false
 own_names_none e s a h =
-    ap (λ b. not (is_lone e.named) && (not b && have_cell e.named a)) (eq-eqb e.session s h) ∙ and-false (not (is_lone e.named))
+    ap (λ b. not (are_narrow e.named) && (not b && have_cell e.named a)) (eq-eqb e.session s h) ∙ and-false (not (are_narrow e.named))
 
 -- those between two places pass no test
 passed_over : (test : Edit → Bool) (es : List Edit) (d : Edit) (n j i : ℕ) → j + n ≡ i → i ≤ length es → ((k : ℕ) (d : Edit) → j ≤ k → k < i → test (get_or es k d) ≡ false)
@@ -45,9 +45,9 @@ stepped es d s next place wanted o l m h =
     same_first (is_wanted_widely (drop place es) s wanted) (is_wanted_widely (drop next es) s wanted) o
     (λ a. ap (λ b. have_cell wanted a && b) (sym (passed_over (names_widely s a) es d (place - next) next place (omega (arith, l)) m (h a))))
 
--- the lone edits up to the place i
-lone_before : (es : List Edit) (x : Edit) (i : ℕ) → AreInRuns es → i < length es → x ≡ get_or es i x → 0 < x.lone → (k : ℕ) (d : Edit) → i + 1 ≤ k + x.lone → k < i + 1 → is_lone (get_or es k d).named ≡ true
-lone_before es x i runs l at some k d m o = among (cases_eq k i)
+-- the edits of narrow rectangles up to the place i
+narrow_before : (es : List Edit) (x : Edit) (i : ℕ) → AreInRuns es → i < length es → x ≡ get_or es i x → 0 < x.narrow → (k : ℕ) (d : Edit) → i + 1 ≤ k + x.narrow → k < i + 1 → are_narrow (get_or es k d).named ≡ true
+narrow_before es x i runs l at some k d m o = among (cases_eq k i)
   where
     r : IsInRun es i x
     r = subst (IsInRun es i) (sym at) (runs i x l)
@@ -55,19 +55,19 @@ lone_before es x i runs l at some k d m o = among (cases_eq k i)
     not_last : (k i : ℕ) → k < i + 1 → (k ≡ i → Prim.⊥) → k < i
     not_last k i o f = omega (arith, o, f)
 
-    among : (k ≡ i) ⊎ (k ≡ i → Prim.⊥) → is_lone (get_or es k d).named ≡ true
+    among : (k ≡ i) ⊎ (k ≡ i → Prim.⊥) → are_narrow (get_or es k d).named ≡ true
     among (inl e) =
-        ap (λ n. is_lone (get_or es n d).named) e ∙ ap (λ (y : Edit). is_lone y.named) (get_or_default es i d x l ∙ sym at) ∙ r.lone ∙ lt-ltb 0 x.lone some
-    among (inr f) = r.others_lone k d m (not_last k i o f)
+        ap (λ n. are_narrow (get_or es n d).named) e ∙ ap (λ (y : Edit). are_narrow y.named) (get_or_default es i d x l ∙ sym at) ∙ r.narrow ∙ lt-ltb 0 x.narrow some
+    among (inr f) = r.others_narrow k d m (not_last k i o f)
 
-pub lone_stepped_over : (es : List Edit) (x : Edit) (s from place next : ℕ) (wanted : List Area) (o : Option ℕ) → AreInRuns es → from < place → place ≤ length es
-    → x ≡ get_or es (place - 1) x → 0 < x.lone → next ≡ max (place - x.lone) from
+pub narrow_stepped_over : (es : List Edit) (x : Edit) (s from place next : ℕ) (wanted : List Area) (o : Option ℕ) → AreInRuns es → from < place → place ≤ length es
+    → x ≡ get_or es (place - 1) x → 0 < x.narrow → next ≡ max (place - x.narrow) from
     → IsFirst (is_wanted_widely (drop place es) s wanted) o → (next < place) × IsFirst (is_wanted_widely (drop next es) s wanted) o
-lone_stepped_over es x s from place next wanted o runs l m at some e h =
+narrow_stepped_over es x s from place next wanted o runs l m at some e h =
     let low : next < place = omega (arith, e, l, some) in (
       low,
       stepped es x s next place wanted o low m
-          (λ a k d p q. lone_names_none (get_or es k d) s a (lone_before es x (place - 1) runs (omega (arith, l, m)) at some k d (omega (arith, e, p, l)) (omega (arith, q, l))))
+          (λ a k d p q. narrow_names_none (get_or es k d) s a (narrow_before es x (place - 1) runs (omega (arith, l, m)) at some k d (omega (arith, e, p, l)) (omega (arith, q, l))))
           h,
     )
 
@@ -82,11 +82,11 @@ run_stepped_over es x s from place next wanted o runs l m at own e h =
     )
 
 pub wide_looked_at : (es : List Edit) (x : Edit) (s place next : ℕ) (wanted : List Area) (o p q : Option ℕ) → AreInRuns es → 0 < place → place ≤ length es
-    → x ≡ get_or es next x → next + 1 ≡ place → x.lone ≡ 0 → (x.session ≡ s → Prim.⊥) → q ≡ sooner o p
+    → x ≡ get_or es next x → next + 1 ≡ place → x.narrow ≡ 0 → (x.session ≡ s → Prim.⊥) → q ≡ sooner o p
     → IsFirst (is_wanted_widely (drop place es) s wanted) o → IsFirst (in_each x.named wanted) p → IsFirst (is_wanted_widely (drop next es) s wanted) q
 wide_looked_at es x s place next wanted o p q runs l m at n none other e h k =
     let r : IsInRun es next x = subst (IsInRun es next) (sym at) (runs next x (omega (arith, m, n))) in
-    let wide : is_lone x.named ≡ false = r.lone ∙ ap (nat_lt 0) none in
+    let wide : are_narrow x.named ≡ false = r.narrow ∙ ap (nat_lt 0) none in
     let here : drop next es ≡ x ∷ drop place es = drop_more es next x (omega (arith, m, n)) ∙ ap (λ y. y ∷ drop (next + 1) es) (sym at) ∙ ap (λ i. x ∷ drop i es) n in
     let more : (a : ℕ) → is_wanted_widely (drop next es) s wanted a ≡ (is_wanted_widely (drop place es) s wanted a || in_each x.named wanted a) =
     λ a. ap (λ ys. is_wanted_widely ys s wanted a) here
@@ -98,7 +98,7 @@ pub none_wide_after_all : (es : List Edit) (s place : ℕ) (wanted : List Area) 
 none_wide_after_all es s place wanted l =
     no_first (is_wanted_widely (drop place es) s wanted) (λ a. ap (λ ys. is_wanted_widely ys s wanted a) (drop_all place es l) ∙ and-false (have_cell wanted a))
 
--- ---- all edits are those of one cell alone and the others
+-- ---- all edits are those of narrow rectangles and the others
 
 both_kinds : (l n a w : Bool) → (n || (a || w)) ≡ (((l && n) || a) || ((not l && n) || w))
 both_kinds true true a w = refl
@@ -107,10 +107,10 @@ both_kinds false true true w = refl
 both_kinds false true false w = refl
 both_kinds false false a w = refl
 
-named_alone_or_widely : (es : List Edit) (s a : ℕ) → is_named_by_others es s a ≡ (is_named_alone es s a || is_named_widely es s a)
-named_alone_or_widely [] s a = refl
-named_alone_or_widely (e ∷ es) s a =
-    ap (λ b. names_for s a e || b) (named_alone_or_widely es s a) ∙ both_kinds (is_lone e.named) (names_for s a e) (is_named_alone es s a) (is_named_widely es s a)
+named_narrowly_or_widely : (es : List Edit) (s a : ℕ) → is_named_by_others es s a ≡ (is_named_narrowly es s a || is_named_widely es s a)
+named_narrowly_or_widely [] s a = refl
+named_narrowly_or_widely (e ∷ es) s a =
+    ap (λ b. names_for s a e || b) (named_narrowly_or_widely es s a) ∙ both_kinds (are_narrow e.named) (names_for s a e) (is_named_narrowly es s a) (is_named_widely es s a)
 
 around : (a b v w : Bool) → ((a || b) || (v || w)) ≡ ((a || (v || w)) || (b || w))
 around true b v w = refl
@@ -125,35 +125,35 @@ repeated true false = refl
 repeated false true = refl
 repeated false false = refl
 
--- three searches find all: those of one cell alone among the first edits, the others, and again all after the first
+-- three searches find all: those of narrow rectangles among the first edits, the others, and again all after the first
 pub named_in_parts : (es : List Edit) (known from s a : ℕ) → known ≤ length es
-    → is_named_by_others (drop from es) s a ≡ ((is_named_alone (drop from (take known es)) s a || is_named_widely (drop from es) s a) || is_named_by_others (drop (max from known) es) s a)
+    → is_named_by_others (drop from es) s a ≡ ((is_named_narrowly (drop from (take known es)) s a || is_named_widely (drop from es) s a) || is_named_by_others (drop (max from known) es) s a)
 named_in_parts es known from s a l = in_order (cases_lt known from)
   where
     first : length (take known es) ≡ known
     first = length-take-le known es l
 
-    in_order : (known < from) ⊎ (from ≤ known) → is_named_by_others (drop from es) s a ≡ ((is_named_alone (drop from (take known es)) s a || is_named_widely (drop from es) s a) || is_named_by_others (drop (max from known) es) s a)
+    in_order : (known < from) ⊎ (from ≤ known) → is_named_by_others (drop from es) s a ≡ ((is_named_narrowly (drop from (take known es)) s a || is_named_widely (drop from es) s a) || is_named_by_others (drop (max from known) es) s a)
     in_order (inl m) =
         let none : drop from (take known es) ≡ [] = drop_all from (take known es) (omega (arith, first, m)) in
         let later : max from known ≡ from = omega (arith, m) in
-        named_alone_or_widely (drop from es) s a
-        ∙ repeated (is_named_alone (drop from es) s a) (is_named_widely (drop from es) s a)
-        ∙ sym (ap (λ ys. (is_named_alone ys s a || is_named_widely (drop from es) s a) || is_named_by_others (drop (max from known) es) s a) none
+        named_narrowly_or_widely (drop from es) s a
+        ∙ repeated (is_named_narrowly (drop from es) s a) (is_named_widely (drop from es) s a)
+        ∙ sym (ap (λ ys. (is_named_narrowly ys s a || is_named_widely (drop from es) s a) || is_named_by_others (drop (max from known) es) s a) none
         ∙ ap (λ k. is_named_widely (drop from es) s a || is_named_by_others (drop k es) s a) later
-        ∙ ap (λ b. is_named_widely (drop from es) s a || b) (named_alone_or_widely (drop from es) s a))
+        ∙ ap (λ b. is_named_widely (drop from es) s a || b) (named_narrowly_or_widely (drop from es) s a))
     in_order (inr m) =
         let later : max from known ≡ known = omega (arith, m) in
         let early = drop from (take known es) in
         let late = drop known es in
         let whole : drop from es ≡ drop from (take known es) ++ drop known es =
         ap (drop from) (sym (take-append-drop known es)) ∙ drop-append-le from (take known es) (drop known es) (omega (arith, first, m)) in
-        named_alone_or_widely (drop from es) s a
-        ∙ ap (λ ys. is_named_alone ys s a || is_named_widely ys s a) whole
-        ∙ ap (λ b. b || is_named_widely (early ++ late) s a) (list_any-append (names_alone s a) early late)
-        ∙ ap (λ b. (is_named_alone early s a || is_named_alone late s a) || b) (list_any-append (names_widely s a) early late)
-        ∙ around (is_named_alone early s a) (is_named_alone late s a) (is_named_widely early s a) (is_named_widely late s a)
-        ∙ sym (ap (λ k. (is_named_alone early s a || is_named_widely (drop from es) s a) || is_named_by_others (drop k es) s a) later
-        ∙ ap (λ b. (is_named_alone early s a || is_named_widely (drop from es) s a) || b) (named_alone_or_widely late s a)
-        ∙ ap (λ ys. (is_named_alone early s a || is_named_widely ys s a) || (is_named_alone late s a || is_named_widely late s a)) whole
-        ∙ ap (λ b. (is_named_alone early s a || b) || (is_named_alone late s a || is_named_widely late s a)) (list_any-append (names_widely s a) early late))
+        named_narrowly_or_widely (drop from es) s a
+        ∙ ap (λ ys. is_named_narrowly ys s a || is_named_widely ys s a) whole
+        ∙ ap (λ b. b || is_named_widely (early ++ late) s a) (list_any-append (names_narrowly s a) early late)
+        ∙ ap (λ b. (is_named_narrowly early s a || is_named_narrowly late s a) || b) (list_any-append (names_widely s a) early late)
+        ∙ around (is_named_narrowly early s a) (is_named_narrowly late s a) (is_named_widely early s a) (is_named_widely late s a)
+        ∙ sym (ap (λ k. (is_named_narrowly early s a || is_named_widely (drop from es) s a) || is_named_by_others (drop k es) s a) later
+        ∙ ap (λ b. (is_named_narrowly early s a || is_named_widely (drop from es) s a) || b) (named_narrowly_or_widely late s a)
+        ∙ ap (λ ys. (is_named_narrowly early s a || is_named_widely ys s a) || (is_named_narrowly late s a || is_named_widely late s a)) whole
+        ∙ ap (λ b. (is_named_narrowly early s a || b) || (is_named_narrowly late s a || is_named_widely late s a)) (list_any-append (names_widely s a) early late))

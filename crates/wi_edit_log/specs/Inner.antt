@@ -2,6 +2,6 @@
 pub mod First
 pub mod Rising
 pub mod Named
-pub mod Lone
+pub mod Narrow
 pub mod Edits
 pub mod Noted

@@ -3,23 +3,23 @@
 ghost use Rattle.std.specs.Prelude.{◌≡◌, ◌≤◌, ◌<◌, ◌+◌, ℕ, drop, length, nat_lt, slice_index_or, true};
 ghost use Rattle.wi_edit_log.specs.Inner.Edits.{AreInRuns, IsInRun, entry_in, is_wanted_of_others};
 ghost use Rattle.wi_edit_log.specs.Inner.First.{IsFirst};
-ghost use Rattle.wi_edit_log.specs.Inner.Lone.{is_lone, only_cell};
+ghost use Rattle.wi_edit_log.specs.Inner.Narrow.{are_narrow};
 ghost use Rattle.wi_edit_log.specs.Inner.Noted.{is_wanted_widely};
 ghost use Rattle.wi_edit_log.specs.declared.edit.Edit.{Edit};
 
-use crate::named::{Named, only_cell};
+use crate::named::{Named, are_narrow};
 use crate::rising::are_rising;
 use crate::search::sooner;
 use wi_values::{Address, Rect};
 
 /// An edit: its session, what it named, and the place in the log where its run begins, from which on all edits up to it
-/// are that session's. Of the last edits up to it so many, or more, named one cell alone.
+/// are that session's. Of the last edits up to it so many, or more, named narrow rectangles alone.
 #[derive(Drop)]
 pub(crate) struct Edit {
     named: Named,
     run: usize,
     session: u32,
-    lone: u32,
+    narrow: u32,
 }
 
 impl Edit {
@@ -30,12 +30,12 @@ impl Edit {
         ensures run { IsInRun edits.now (length edits.now) result }
     {
         let run = run_after(edits, session);
-        let lone = lone_after(edits, &cells);
+        let narrow = narrow_after(edits, &cells);
         Edit {
             named: Named::new(cells),
             run,
             session,
-            lone,
+            narrow,
         }
     }
 
@@ -46,11 +46,18 @@ impl Edit {
         self.session
     }
 
-    /// The cell that it named, if it named one alone.
-    pub(crate) fn only_cell(&self) -> Option<Address>
-        ensures { result ≡ only_cell self.now.named }
+    /// The rectangles that it named.
+    pub(crate) fn areas(&self) -> &[Rect]
+        ensures { result.now ≡ self.now.named }
     {
-        self.named.only_cell()
+        self.named.areas()
+    }
+
+    /// Whether each of them has few cells.
+    pub(crate) fn is_narrow(&self) -> bool
+        ensures { result ≡ are_narrow self.now.named }
+    {
+        are_narrow(self.areas())
     }
 }
 
@@ -66,17 +73,18 @@ pub(crate) fn run_after(edits: &[Edit], session: u32) -> usize
     }
 }
 
-/// Of the last edits up to one that names these cells after those, how many named one cell alone, as far as 32 bits count.
-fn lone_after(edits: &[Edit], cells: &[Rect]) -> u32
+/// Of the last edits up to one that names these cells after those, how many named narrow rectangles alone, as far as 32 bits
+/// count.
+fn narrow_after(edits: &[Edit], cells: &[Rect]) -> u32
     requires { AreInRuns edits.now }
-    ensures last { is_lone cells.now ≡ nat_lt 0 result }
-    ensures others { (k : ℕ) (d : Edit) → length edits.now + 1 ≤ k + result → k < length edits.now → is_lone (slice_index_or edits.now k d).named ≡ true }
+    ensures last { are_narrow cells.now ≡ nat_lt 0 result }
+    ensures others { (k : ℕ) (d : Edit) → length edits.now + 1 ≤ k + result → k < length edits.now → are_narrow (slice_index_or edits.now k d).named ≡ true }
 {
-    if only_cell(cells).is_none() {
+    if !are_narrow(cells) {
         return 0;
     }
     match edits.last() {
-        Some(last) => last.lone.saturating_add(1),
+        Some(last) => last.narrow.saturating_add(1),
         None => 1,
     }
 }
@@ -108,7 +116,7 @@ pub(crate) fn first_of_others(
     first
 }
 
-/// The same of the edits that name anything else than one cell. Each row of the others is one step too.
+/// The same of the edits that name a wider rectangle. Each row of the others is one step too.
 pub(crate) fn first_of_wide(
     edits: &[Edit],
     session: u32,
@@ -119,17 +127,18 @@ pub(crate) fn first_of_wide(
     requires from { from ≤ length edits.now }
     ensures { IsFirst (is_wanted_widely (drop from edits.now) session wanted.now) result }
 {
+    let wanted_rise = are_rising(wanted);
     let mut first = None;
     let mut place = edits.len();
     while from < place {
         let edit = &edits[place - 1];
-        if edit.lone > 0 {
-            place = place.saturating_sub(edit.lone as usize).max(from);
+        if edit.narrow > 0 {
+            place = place.saturating_sub(edit.narrow as usize).max(from);
         } else if edit.session == session {
             place = edit.run.max(from);
         } else {
             place -= 1;
-            first = sooner(first, edit.named.first_shared(wanted, false));
+            first = sooner(first, edit.named.first_shared(wanted, wanted_rise));
         }
     }
     first

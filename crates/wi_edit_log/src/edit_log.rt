@@ -3,20 +3,21 @@
 ghost use Rattle.std.specs.Prelude.{◌≡◌, ◌-◌, ◌<◌, ◌↔◌, ◌++◌, ◌∷◌, IsTrue, OnErr, OnOk, [], length, take};
 ghost use Rattle.wi_edit_log.specs.EditLog.{first_stale};
 
-use crate::edit::{Edit, first_of_others};
-use crate::lone::Lone;
-use crate::named::only_cell;
+use crate::edit::{Edit, first_of_others, run_after};
+use crate::named::are_narrow;
+use crate::noted::Noted;
 use std::alloc::{AllocError, Global};
 use std::marker::Model;
 use wi_values::{Address, Rect};
 
 /// The edits in their order, each with its session, and the rectangles that it named as they were given. An edit takes 48
-/// bytes, and where it named another number of rectangles than one 16 more for each. A cell that was named alone takes some
-/// 36 more once another session than the one that named it has asked. What grows has room for twice as much at most.
+/// bytes, and where it named another number of rectangles than one 16 more for each. A cell that was named by an edit of
+/// narrow rectangles, which have 32 cells at most, takes some 36 more once another session than that edit's has asked. What
+/// grows has room for twice as much at most.
 #[derive(Drop)]
 pub struct EditLog {
     edits: Vec<Edit>,
-    lone: Lone,
+    noted: Noted,
 }
 
 impl Model for EditLog {
@@ -30,7 +31,7 @@ impl Model for EditLog {
 
     ghost view = { λ log. entries_in log.edits.items };
 
-    ghost invariant = { λ log. IsKept log.edits.items log.lone.known log.lone.notes.entries };
+    ghost invariant = { λ log. IsKept log.edits.items log.noted.known log.noted.notes.entries };
 }
 
 impl EditLog {
@@ -40,7 +41,7 @@ impl EditLog {
     {
         EditLog {
             edits: Vec::new(alloc),
-            lone: Lone::new(alloc),
+            noted: Noted::new(alloc),
         }
     }
 
@@ -60,18 +61,18 @@ impl EditLog {
         ensures rest { self.new ≡ take (length self.old - 1) self.old }
     {
         let was = self.edits.pop().is_some();
-        self.lone.forget_beyond(self.edits.len());
+        self.noted.forget_beyond(self.edits.len());
         was
     }
 
-    /// Notes who edited which cell alone, as far as others than the session did, so that `first_stale` finds that in one
-    /// look. It is for the callers of `first_stale`, which answers the same without it. If memory runs out, a part is noted.
-    /// The work grows with the edits that aren't noted yet, so that each is noted once; where they are the session's own
-    /// there is none.
+    /// Notes who edited which cell of narrow rectangles, as far as others than the session did, so that `first_stale` finds
+    /// that in one look for each cell. It is for the callers of `first_stale`, which answers the same without it. If memory
+    /// runs out, nothing is noted. The work grows with the cells of the edits that aren't noted yet, so that each is noted
+    /// once; where they are the session's own there is none.
     pub fn catch_up(&mut self, session: u32) -> Result<(), AllocError>
         ensures { self.new ≡ self.old }
     {
-        self.lone.catch_up(&self.edits, session)
+        self.noted.catch_up(&self.edits, session)
     }
 
     /// How many edits there are.
@@ -84,20 +85,23 @@ impl EditLog {
     /// The first of the cells, in row-major order, that an edit of another session names, not counting the first `since`
     /// edits of the log. Takes no memory.
     ///
-    /// The edits are gone through from the last on. Each run of the session's own is one step. For one cell, each row of edits
-    /// that named one cell alone is one step too, as far as `catch_up` has noted them. For each other edit of another
-    /// session every rectangle of the shorter of its list and `cells` is looked for in the longer one. Where the longer
-    /// rises, each rectangle below the one before, as an import names them, that takes the logarithm of its length, and a
-    /// step for each of its rectangles in the rows of the one that is looked for, at most; where it doesn't, a step for each.
+    /// Where each of the rectangles has 32 cells at most, each cell is one look for the edits of such rectangles, as far as
+    /// `catch_up` has noted them. The others are gone through from the last on, and each run of the session's own is one step,
+    /// as is a row of edits that are noted. For each other edit of another session every rectangle of the shorter of its list
+    /// and `cells` is looked for in the longer one. Where the longer rises, each rectangle below the one before, as an import
+    /// names them, that takes the logarithm of its length, and a step for each of its rectangles in the rows of the one that
+    /// is looked for, at most; where it doesn't, a step for each.
     pub fn first_stale(&self, session: u32, since: u64, cells: &[Rect]) -> Option<Address>
         ensures { result ≡ first_stale self.now session since cells.now }
     {
         let since = (since as usize).min(self.edits.len());
-        match only_cell(cells) {
-            Some(at) => self
-                .lone
-                .first_of_cell(&self.edits, session, since, at, cells),
-            None => first_of_others(&self.edits, session, since, cells),
+        if run_after(&self.edits, session) <= since {
+            return None;
+        }
+        if are_narrow(cells) {
+            self.noted.first_named(&self.edits, session, since, cells)
+        } else {
+            first_of_others(&self.edits, session, since, cells)
         }
     }
 }

@@ -1,10 +1,11 @@
 //! The log of edits: who edited which cells.
 #![tactic(auto)]
 
+mod cells;
 mod edit;
 mod edit_log;
-mod lone;
 mod named;
+mod noted;
 mod rising;
 mod search;
 

@@ -2,13 +2,16 @@
 
 ghost use Rattle.std.specs.Prelude.{◌≡◌, true};
 ghost use Rattle.wi_edit_log.specs.Inner.First.{IsFirst, in_each};
-ghost use Rattle.wi_edit_log.specs.Inner.Lone.{only_cell};
+ghost use Rattle.wi_edit_log.specs.Inner.Narrow.{are_narrow};
 ghost use Rattle.wi_edit_log.specs.Inner.Rising.{are_rising};
 
 use crate::rising::are_rising;
 use crate::search::first_between;
 use std::marker::Model;
 use wi_values::{Address, Rect};
+
+/// So many cells a rectangle has at most that is noted cell by cell.
+const FEW: u64 = 32;
 
 /// Rectangles, seen as their list.
 #[derive(Drop)]
@@ -60,14 +63,14 @@ impl Named {
         }
     }
 
-    /// The cell that is all of them, if they are one cell.
-    pub(crate) fn only_cell(&self) -> Option<Address>
-        ensures { result ≡ only_cell self.now }
+    /// The rectangles.
+    pub(crate) fn areas(&self) -> &[Rect]
+        ensures { result.now ≡ self.now }
     {
         match &self.areas {
-            Areas::One(areas) => only_cell(areas),
-            Areas::Rising(areas) => only_cell(areas),
-            Areas::Any(areas) => only_cell(areas),
+            Areas::One(areas) => areas,
+            Areas::Rising(areas) => areas,
+            Areas::Any(areas) => areas,
         }
     }
 
@@ -84,13 +87,9 @@ impl Named {
     }
 }
 
-/// The cell that is all of some rectangles, if they are one cell.
-pub(crate) fn only_cell(areas: &[Rect]) -> Option<Address>
-    ensures { result ≡ only_cell areas.now }
+/// Whether each rectangle has few cells.
+pub(crate) fn are_narrow(areas: &[Rect]) -> bool
+    ensures { result ≡ are_narrow areas.now }
 {
-    if areas.len() != 1 {
-        return None;
-    }
-    let area = areas[0];
-    (area.first() == area.last()).then_some(area.first())
+    areas.iter().all(|area| area.size() <= FEW)
 }

@@ -29,7 +29,7 @@ pub(crate) struct Turns {
 }
 
 /// The cells that turn once what is next is put in, of which the cone is given in row-major order. Where each cell reads what
-/// it read before, the work grows with what is next; where no cell is circular and no cycle is closed, also with the count of
+/// it read before, the work grows with what is next, and with what that reads where the cone is one cell; where no cell is circular and no cycle is closed, also with the count of
 /// the cone, and with the rows of what that reads where the rectangle around the cone meets it, times the logarithm of that
 /// count, and it takes no memory; else also with the cone and what its cells read, times logarithms.
 pub(crate) fn turns_of(
@@ -44,10 +44,19 @@ pub(crate) fn turns_of(
     requires cone { IsEditCone rooms.now next.now (is_one_of cone.now) }
     ensures { IfOk result (AreTurns rooms.now next.now circles.now) }
 {
+    if is_alone(circles, cone) {
+        return turns_in(alloc, rooms, circles, next, cone);
+    }
     if reads_stay(rooms, next) {
         return Ok(no_turns(alloc));
     }
     turns_in(alloc, rooms, circles, next, cone)
+}
+
+/// Whether no cell is circular and a cone is one cell, so that a cycle that is closed is found with no search for what the cell
+/// read before.
+fn is_alone(circles: &CellSet, cone: &[Address]) -> bool {
+    circles.is_empty() && cone.len() <= 1
 }
 
 /// The same, whatever the cells read before.

@@ -77,7 +77,7 @@ is_below (r ∷ rs) a h = elim (or_cases (is_within r a) (have_cell rs a) h) [
 
 -- an edit that is kept as the entry
 kept : Entry → Edit
-kept e = record { named = e.cells; run = 0; session = e.session; lone = 0 }
+kept e = record { named = e.cells; run = 0; session = e.session; narrow = 0 }
 
 kept_entries : (log : List Entry) → entries_in (map kept log) ≡ log
 unfolding kept

@@ -3,7 +3,7 @@ use Rattle.std.specs.Prelude.{◌≡◌, ℕ, ◌+◌, ◌≤◌, ◌<◌, Bool,
 use Rattle.std.specs.List.{list_any}
 use Rattle.wi_values.specs.Address.{Area}
 use Rattle.wi_edit_log.specs.EditLog.{Entry, have_cell}
-use Rattle.wi_edit_log.specs.Inner.Lone.{is_lone}
+use Rattle.wi_edit_log.specs.Inner.Narrow.{are_narrow}
 use Rattle.wi_edit_log.specs.declared.edit.Edit.{Edit}
 
 -- the entry that is kept so
@@ -22,12 +22,12 @@ abbrev pub is_wanted_of_others : List Edit → ℕ → List Area → ℕ → Boo
 is_wanted_of_others es session wanted a = have_cell wanted a && is_named_by_others es session a
 
 -- The run begins at the edit's place i or before, and all from there on to it are its session's. Of the edits up to it the last
--- ones that are counted named one cell alone.
+-- ones that are counted named narrow rectangles alone.
 pub record IsInRun (es : List Edit) (i : ℕ) (e : Edit) : Type 0 where
   pub begins : e.run ≤ i
   pub one_session : (k : ℕ) (d : Edit) → e.run ≤ k → k < i → (slice_index_or es k d).session ≡ e.session
-  pub lone : is_lone e.named ≡ nat_lt 0 e.lone
-  pub others_lone : (k : ℕ) (d : Edit) → i + 1 ≤ k + e.lone → k < i → is_lone (slice_index_or es k d).named ≡ true
+  pub narrow : are_narrow e.named ≡ nat_lt 0 e.narrow
+  pub others_narrow : (k : ℕ) (d : Edit) → i + 1 ≤ k + e.narrow → k < i → are_narrow (slice_index_or es k d).named ≡ true
 
 -- each edit is in its run
 abbrev pub AreInRuns : List Edit → Type 0

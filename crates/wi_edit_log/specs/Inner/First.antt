@@ -1,5 +1,5 @@
 -- The first cell that passes a test.
-use Rattle.std.specs.Prelude.{◌≡◌, ℕ, ◌≤◌, Bool, true, ◌&&◌, min, List, Option, Some, None, IfSome}
+use Rattle.std.specs.Prelude.{◌≡◌, ℕ, ◌≤◌, Bool, true, ◌&&◌, nat_lt, min, List, Option, Some, None, IfSome}
 use Rattle.wi_values.specs.Address.{Area, is_within}
 use Rattle.wi_edit_log.specs.EditLog.{have_cell}
 
@@ -24,6 +24,10 @@ in_one r areas a = is_within r a && have_cell areas a
 -- the cell a is in one rectangle of each list
 abbrev pub in_each : List Area → List Area → ℕ → Bool
 in_each areas others a = have_cell areas a && have_cell others a
+
+-- the cell a is in the rectangle and comes after another, in row-major order
+abbrev pub is_after : Area → ℕ → ℕ → Bool
+is_after r at a = is_within r a && nat_lt at a
 
 -- the sooner of two cells that may be there
 abbrev pub sooner : Option ℕ → Option ℕ → Option ℕ

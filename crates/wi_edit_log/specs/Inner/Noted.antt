@@ -1,35 +1,35 @@
--- What is noted of edits that named one cell alone, and what the others named.
-use Rattle.std.specs.Prelude.{◌≡◌, ℕ, ◌≤◌, ◌+◌, Bool, false, ◌==◌, ◌&&◌, not, nat_lt, if◌then◌else◌, List, take, drop, length, Option, Some, None}
+-- What is noted of edits that named narrow rectangles alone, and what the others named.
+use Rattle.std.specs.Prelude.{◌≡◌, ℕ, ◌≤◌, Bool, ◌==◌, ◌&&◌, not, nat_lt, if◌then◌else◌, List, take, drop, length, Option, Some, None}
 use Rattle.std.specs.List.{list_any}
 use Rattle.std.specs.Map.{lookup}
-use Rattle.wi_values.specs.Address.{Area}
+use Rattle.wi_values.specs.Address.{Area, is_within}
 use Rattle.wi_edit_log.specs.EditLog.{have_cell}
 use Rattle.wi_edit_log.specs.Inner.Edits.{AreInRuns}
-use Rattle.wi_edit_log.specs.Inner.Lone.{is_lone}
+use Rattle.wi_edit_log.specs.Inner.Narrow.{are_narrow}
 use Rattle.wi_edit_log.specs.declared.edit.Edit.{Edit}
-use Rattle.wi_edit_log.specs.declared.lone.Last.{Last}
+use Rattle.wi_edit_log.specs.declared.noted.Last.{Last}
 
 -- the edit is of another session, and names the cell a
 abbrev pub names_for : ℕ → ℕ → Edit → Bool
 names_for session a e = not (e.session == session) && have_cell e.named a
 
--- it names it alone
-abbrev pub names_alone : ℕ → ℕ → Edit → Bool
-names_alone session a e = is_lone e.named && names_for session a e
+-- its rectangles are narrow
+abbrev pub names_narrowly : ℕ → ℕ → Edit → Bool
+names_narrowly session a e = are_narrow e.named && names_for session a e
 
--- it names it with others
+-- one of them is wider
 abbrev pub names_widely : ℕ → ℕ → Edit → Bool
-names_widely session a e = not (is_lone e.named) && names_for session a e
+names_widely session a e = not (are_narrow e.named) && names_for session a e
 
-abbrev pub is_named_alone : List Edit → ℕ → ℕ → Bool
-is_named_alone es session a = list_any (names_alone session a) es
+abbrev pub is_named_narrowly : List Edit → ℕ → ℕ → Bool
+is_named_narrowly es session a = list_any (names_narrowly session a) es
 
 abbrev pub is_named_widely : List Edit → ℕ → ℕ → Bool
 is_named_widely es session a = list_any (names_widely session a) es
 
 -- and the cell a is one of the wanted
-abbrev pub is_wanted_alone : List Edit → ℕ → List Area → ℕ → Bool
-is_wanted_alone es session wanted a = have_cell wanted a && is_named_alone es session a
+abbrev pub is_wanted_narrowly : List Edit → ℕ → List Area → ℕ → Bool
+is_wanted_narrowly es session wanted a = have_cell wanted a && is_named_narrowly es session a
 
 abbrev pub is_wanted_widely : List Edit → ℕ → List Area → ℕ → Bool
 is_wanted_widely es session wanted a = have_cell wanted a && is_named_widely es session a
@@ -54,10 +54,26 @@ last_after old session n = record { length = n; session = session; before = befo
 abbrev pub tells : Option Last → ℕ → ℕ → Bool
 tells old session since = nat_lt since (before_of old session)
 
--- the notes tell of the first edits, so many, which cells others than a session named alone
+-- that is so of the cell a
+abbrev pub is_told : List (ℕ × Last) → ℕ → ℕ → ℕ → Bool
+is_told notes session since a = tells (last_of notes a) session since
+
+-- and it is in the rectangle
+abbrev pub is_told_in : Area → List (ℕ × Last) → ℕ → ℕ → ℕ → Bool
+is_told_in r notes session since a = is_within r a && is_told notes session since a
+
+-- and it is one of the wanted
+abbrev pub is_wanted_told : List Area → List (ℕ × Last) → ℕ → ℕ → ℕ → Bool
+is_wanted_told wanted notes session since a = have_cell wanted a && is_told notes session since a
+
+-- one edit more is noted of the cells that pass the test
+abbrev pub NotesMore : (ℕ → Bool) → ℕ → ℕ → List (ℕ × Last) → List (ℕ × Last) → Type 0
+NotesMore test session n old new = (a : ℕ) → last_of new a ≡ (if test a then Some (last_after (last_of old a) session n) else last_of old a)
+
+-- the notes tell of the first edits, so many, which cells those of narrow rectangles by others than a session named
 pub record AreNoted (es : List Edit) (known : ℕ) (notes : List (ℕ × Last)) : Type 0 where
   pub within : known ≤ length es
-  pub told : (a session since : ℕ) → is_named_alone (drop since (take known es)) session a ≡ tells (last_of notes a) session since
+  pub told : (a session since : ℕ) → is_named_narrowly (drop since (take known es)) session a ≡ tells (last_of notes a) session since
 
 -- what holds of a log between calls
 pub record IsKept (es : List Edit) (known : ℕ) (notes : List (ℕ × Last)) : Type 0 where

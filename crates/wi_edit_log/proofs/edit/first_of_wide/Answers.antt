@@ -1,5 +1,5 @@
 use Rattle.std.proofs.Common.{◌<◌, ◌-◌, arith, rules}
-use Rattle.wi_edit_log.proofs.Wide.{lone_stepped_over, none_wide_after_all, run_stepped_over, wide_looked_at}
+use Rattle.wi_edit_log.proofs.Wide.{narrow_stepped_over, none_wide_after_all, run_stepped_over, wide_looked_at}
 use Rattle.wi_edit_log.proofs.edit.first_of_wide.Goals as goal
 
 pub loop-place-init : goal.loop-place-init
@@ -13,7 +13,7 @@ pub loop-place-smaller-then-edit-gt0 : goal.loop-place-smaller-then-edit-gt0
 loop-place-smaller-then-edit-gt0 c =
     let i = c.loop-place.invariant in
     let low : c.max-place.result < c.loop-place.place =
-    (lone_stepped_over c.args.edits.now c.index-edits-place.result c.args.session c.args.from c.loop-place.place c.max-place.result c.args.wanted.now c.loop-place.first
+    (narrow_stepped_over c.args.edits.now c.index-edits-place.result c.args.session c.args.from c.loop-place.place c.max-place.result c.args.wanted.now c.loop-place.first
     c.requires.runs c.loop-place-test.true i.within c.index-edits-place.is c.if-edit-gt0.true (omega (arith, c.max-place.ensures, c.saturating_sub.ensures)) i.first).0 in
     omega (arith, low, c.max-place.ensures, c.loop-place-test.true)
 
@@ -21,7 +21,7 @@ pub loop-place-preserved-then-edit-gt0 : goal.loop-place-preserved-then-edit-gt0
 loop-place-preserved-then-edit-gt0 c =
     let i = c.loop-place.invariant in
     let next =
-    lone_stepped_over c.args.edits.now c.index-edits-place.result c.args.session c.args.from c.loop-place.place c.max-place.result c.args.wanted.now c.loop-place.first
+    narrow_stepped_over c.args.edits.now c.index-edits-place.result c.args.session c.args.from c.loop-place.place c.max-place.result c.args.wanted.now c.loop-place.first
     c.requires.runs c.loop-place-test.true i.within c.index-edits-place.is c.if-edit-gt0.true (omega (arith, c.max-place.ensures, c.saturating_sub.ensures)) i.first in
     record { begins = omega (arith, c.max-place.ensures); within = omega (arith, next.0, i.within); first = next.1 }
 

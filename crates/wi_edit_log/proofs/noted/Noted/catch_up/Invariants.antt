@@ -1,6 +1,6 @@
 use Rattle.std.proofs.Common.{◌≡◌}
 use Rattle.wi_edit_log.specs.Inner.Noted.{AreNoted}
-use Rattle.wi_edit_log.proofs.lone.Lone.catch_up.Given as goal
+use Rattle.wi_edit_log.proofs.noted.Noted.catch_up.Given as goal
 
 abbrev pub invariant-loop-known : goal.invariant-loop-known
 invariant-loop-known l = record {

@@ -1,0 +1,212 @@
+-- The cells of a rectangle one after another, in row-major order.
+use Rattle.std.proofs.Common.{◌≡◌, ◌∙◌, ℕ, ◌+◌, ◌==◌, ◌≤◌, ◌<◌, ◌⊎◌, inl, inr, Bool, true, false, ◌||◌, ◌&&◌, Option, Some, None, IfSome, refl, ap, sym, subst, arith}
+use Rattle.std.specs.Prelude.{nat_lt}
+use Rattle.std.specs.Bool.{then_some}
+use Rattle.std.proofs.lemmas.Bool.{and_from, and_parts, both_ways, cases_eq, cases_lt, eq-eqb, eqb-true, le-ltb, lt-ltb, ltb-true, or_cases, or_left, or_right}
+use Rattle.wi_values.specs.Address.{Area, columns, place, row_of, column_of, is_within}
+use Rattle.wi_values.proofs.Within.{fewer_places, places_left, within_between}
+use Rattle.wi_edit_log.specs.Inner.First.{IsAtOrBefore, IsFirst, is_after}
+use Rattle.wi_edit_log.proofs.Least.{column_of_place, column_within, row_of_place, same_test}
+use Rattle.wi_edit_log.proofs.Shared.{no_sooner, within_from, within_parts}
+
+-- ---- the first
+
+first_within : (r : Area) (a : ℕ) → is_within r a ≡ true → is_within r r.first ≡ true
+first_within r a h =
+    let p = within_parts r a h in
+    within_from r r.first (row_of r.first) (column_of r.first) refl refl (omega arith) (omega (arith, p.0, p.1)) (omega arith) (omega (arith, p.2, p.3))
+
+pub first_is : (r : Area) (at x : ℕ) (b : Bool) (o : Option ℕ) → at ≡ r.first → x ≡ r.first → b ≡ is_within r at → o ≡ then_some b x → IsFirst (is_within r) o
+first_is r at x b o e f w t =
+    let told : o ≡ then_some (is_within r r.first) r.first = t ∙ ap (λ c. then_some c x) (w ∙ ap (is_within r) e) ∙ ap (then_some (is_within r r.first)) f in
+    subst (IsFirst (is_within r)) (sym told) (by (is_within r r.first) refl)
+  where
+    by : (c : Bool) → is_within r r.first ≡ c → IsFirst (is_within r) (then_some c r.first)
+    by true h = record { passes = h; least = λ a k. (within_between r a k).0 }
+    by false h = record { passes = tt; least = λ a k. both_ways (is_within r r.first) h (first_within r a k) }
+
+-- ---- the one after another
+
+one_more_right : (at : ℕ) → place (row_of at) (column_of at + 1) ≡ at + 1
+one_more_right at = omega arith
+
+pub right_of : (r : Area) (at next : ℕ) → is_within r at ≡ true → column_of at < column_of r.last → next ≡ place (row_of at) (column_of at + 1) → IsFirst (is_after r at) (Some next)
+right_of r at next w l e =
+    let more : next ≡ at + 1 = e ∙ one_more_right at in
+    let fits : column_of at + 1 < columns = fit (column_of at) (column_of r.last) l (column_within r.last) in
+    let p = within_parts r at w in
+    let row : row_of next ≡ row_of at = ap row_of e ∙ row_of_place (row_of at) (column_of at + 1) fits in
+    let column : column_of next ≡ column_of at + 1 = ap column_of e ∙ column_of_place (row_of at) (column_of at + 1) fits in
+    let inside = within_from r next (row_of at) (column_of at + 1) row column p.0 p.1 (later _ _ p.2) (sooner _ _ l) in record {
+      passes = and_from (is_within r next) (nat_lt at next) inside (lt-ltb at next (omega (arith, more)));
+      least = λ a h. (
+          let q = and_parts (is_within r a) (nat_lt at a) h in
+          let behind = ltb-true at a q.1 in
+          omega (arith, more, behind)
+          );
+    }
+  where
+    fit : (c d : ℕ) → c < d → d < columns → c + 1 < columns
+    fit c d g h = omega (arith, g, h)
+
+    later : (c d : ℕ) → c ≤ d → c ≤ d + 1
+    later c d g = omega (arith, g)
+
+    sooner : (c d : ℕ) → c < d → c + 1 ≤ d
+    sooner c d g = omega (arith, g)
+
+lower : (at a : ℕ) → at < a → column_of a ≤ column_of at → row_of at + 1 ≤ row_of a
+lower at a l h = omega arith
+
+-- the cells after the last of a row are below it
+below_row : (r : Area) (at a : ℕ) → column_of r.last ≤ column_of at → is_after r at a ≡ true → row_of at + 1 ≤ row_of a
+below_row r at a l h =
+    let q = and_parts (is_within r a) (nat_lt at a) h in
+    lower at a (ltb-true at a q.1) (no_more (column_of a) (column_of r.last) (column_of at) (within_parts r a q.0).3 l)
+  where
+    no_more : (c d e : ℕ) → c ≤ d → d ≤ e → c ≤ e
+    no_more c d e g h = omega (arith, g, h)
+
+next_row : (at row column : ℕ) → row ≡ row_of at + 1 → at < place row column
+next_row at row column e = omega arith
+
+pub below : (r : Area) (at next : ℕ) → is_within r at ≡ true → column_of r.last ≤ column_of at → row_of at < row_of r.last → next ≡ place (row_of at + 1) (column_of r.first) → IsFirst (is_after r at) (Some next)
+below r at next w l m e =
+    let p = within_parts r at w in
+    let row : row_of next ≡ row_of at + 1 = ap row_of e ∙ row_of_place (row_of at + 1) (column_of r.first) (column_within r.first) in
+    let column : column_of next ≡ column_of r.first = ap column_of e ∙ column_of_place (row_of at + 1) (column_of r.first) (column_within r.first) in
+    let inside = within_from r next (row_of at + 1) (column_of r.first) row column (later _ _ p.0) (sooner _ _ m) (same _) (through _ _ _ p.2 p.3) in record {
+      passes = and_from (is_within r next) (nat_lt at next) inside (lt-ltb at next (subst (λ n. at < n) (sym e) (next_row at (row_of at + 1) (column_of r.first) refl)));
+      least = λ a h. subst (λ n. n ≤ a) (sym e) (no_sooner (row_of at + 1) (column_of r.first) a (below_row r at a l h) (within_parts r a (and_parts (is_within r a) (nat_lt at a) h).0).2);
+    }
+  where
+    later : (c d : ℕ) → c ≤ d → c ≤ d + 1
+    later c d g = omega (arith, g)
+
+    sooner : (c d : ℕ) → c < d → c + 1 ≤ d
+    sooner c d g = omega (arith, g)
+
+    same : (c : ℕ) → c ≤ c
+    same c = omega arith
+
+    through : (c d e : ℕ) → c ≤ d → d ≤ e → c ≤ e
+    through c d e g h = omega (arith, g, h)
+
+pub none_after : (r : Area) (at : ℕ) → column_of r.last ≤ column_of at → row_of r.last ≤ row_of at → IsFirst (is_after r at) None
+none_after r at l m = record {
+  passes = tt;
+  least = λ a h. over (row_of a) (row_of r.last) (row_of at) (below_row r at a l h) (within_parts r a (and_parts (is_within r a) (nat_lt at a) h).0).1 m;
+}
+  where
+    over : (c d e : ℕ) → e + 1 ≤ c → c ≤ d → d ≤ e → Prim.⊥
+    over c d e f g h = omega (arith, f, g, h)
+
+-- ---- those before the one ahead
+
+-- the cell a comes before the one ahead; where there is none, each does
+abbrev pub is_before : Option ℕ → ℕ → Bool
+is_before None a = true
+is_before (Some b) a = nat_lt a b
+
+not_before : (o : Option ℕ) (a : ℕ) → IsAtOrBefore o a → is_before o a ≡ false
+not_before None a h = absurd h
+not_before (Some b) a h = le-ltb a b h
+
+pub none_before : (test : ℕ → Bool) (o : Option ℕ) → IsFirst test o → (a : ℕ) → (test a && is_before o a) ≡ false
+none_before test o h a = by (test a) refl
+  where
+    by : (b : Bool) → test a ≡ b → (test a && is_before o a) ≡ false
+    by true t = ap (λ c. c && is_before o a) t ∙ not_before o a (h.least a t)
+    by false t = ap (λ c. c && is_before o a) t
+
+before_beyond : (r : Area) (at : ℕ) (next : Option ℕ) (a : ℕ) → IfSome next (λ b. is_after r at b ≡ true) → a ≤ at → is_before next a ≡ true
+before_beyond r at None a h l = refl
+before_beyond r at (Some b) a h l =
+    let behind = ltb-true at b (and_parts (is_within r b) (nat_lt at b) h).1 in
+    lt-ltb a b (omega (arith, behind, l))
+
+-- those before the next are those before this one, and this one
+module _ (r : Area) (at : ℕ) (next : Option ℕ) (w : is_within r at ≡ true) (h : IsFirst (is_after r at) next) where
+  at_or_before : (a : ℕ) → (is_within r a && is_before next a) ≡ true → ((is_within r a && nat_lt a at) || (at == a)) ≡ true
+  at_or_before a t = elim (cases_lt a at) [
+    | inl l ↦ or_left (is_within r a && nat_lt a at) (at == a) (and_from (is_within r a) (nat_lt a at) p.0 (lt-ltb a at l))
+    | inr l ↦ by l (cases_eq at a)
+  ]
+    where
+      p : (is_within r a ≡ true) × (is_before next a ≡ true)
+      p = and_parts (is_within r a) (is_before next a) t
+
+      by : at ≤ a → (at ≡ a) ⊎ (at ≡ a → Prim.⊥) → ((is_within r a && nat_lt a at) || (at == a)) ≡ true
+      by l (inl e) = or_right (is_within r a && nat_lt a at) (at == a) (eq-eqb at a e)
+      by l (inr f) =
+          let late = not_before next a (h.least a (and_from (is_within r a) (nat_lt at a) p.0 (lt-ltb at a (beyond at a l f)))) in
+          absurd (both_ways (is_before next a) late p.1)
+        where
+          beyond : (c d : ℕ) → c ≤ d → (c ≡ d → Prim.⊥) → c < d
+          beyond c d g n = omega (arith, g, n)
+
+  before : (a : ℕ) → ((is_within r a && nat_lt a at) || (at == a)) ≡ true → (is_within r a && is_before next a) ≡ true
+  before a t = elim (or_cases (is_within r a && nat_lt a at) (at == a) t) [
+    | inl k ↦
+        let p = and_parts (is_within r a) (nat_lt a at) k in
+        let l = ltb-true a at p.1 in
+        and_from (is_within r a) (is_before next a) p.0 (before_beyond r at next a h.passes (omega (arith, l)))
+    | inr k ↦
+        let e = eqb-true at a k in
+        and_from (is_within r a) (is_before next a) (subst (λ n. is_within r n ≡ true) e w) (before_beyond r at next a h.passes (omega (arith, e)))
+  ]
+
+  pub one_more_before : (a : ℕ) → (is_within r a && is_before next a) ≡ ((is_within r a && nat_lt a at) || (at == a))
+  one_more_before a = same_test (is_within r a && is_before next a) ((is_within r a && nat_lt a at) || (at == a)) (at_or_before a) (before a)
+
+  next_within : (o : Option ℕ) → IfSome o (λ a. is_after r at a ≡ true) → IfSome o (λ a. is_within r a ≡ true)
+  next_within None k = tt
+  next_within (Some b) k = (and_parts (is_within r b) (nat_lt at b) k).0
+
+  pub all_within : IfSome next (λ a. is_within r a ≡ true)
+  all_within = next_within next h.passes
+
+  next_between : (o : Option ℕ) → IfSome o (λ a. is_after r at a ≡ true) → IfSome o (λ a. (at < a) × (a ≤ r.last))
+  next_between None k = tt
+  next_between (Some b) k = let p = and_parts (is_within r b) (nat_lt at b) k in (ltb-true at b p.1, (within_between r b p.0).1)
+
+  pub fewer_left : places_left r next < places_left r (Some at)
+  fewer_left = fewer_places r at at next (omega arith) (within_between r at w).1 (next_between next h.passes)
+
+-- ---- a search for the first cell that is told
+
+pub record IsSearched (r : Area) (told : ℕ → Bool) (ahead : Option ℕ) : Type 0 where
+  pub within : IfSome ahead (λ a. is_within r a ≡ true)
+  pub none : (a : ℕ) → (is_within r a && is_before ahead a) ≡ true → told a ≡ false
+
+pub searched_start : (r : Area) (told : ℕ → Bool) (ahead : Option ℕ) → IsFirst (is_within r) ahead → IsSearched r told ahead
+searched_start r told ahead h = record {
+  within = h.passes;
+  none = λ a t. absurd (both_ways (is_within r a && is_before ahead a) (none_before (is_within r) ahead h a) t);
+}
+
+pub searched_on : (r : Area) (told : ℕ → Bool) (at : ℕ) (next : Option ℕ) → IsSearched r told (Some at) → told at ≡ false → IsFirst (is_after r at) next → IsSearched r told next
+searched_on r told at next h f n = record {
+  within = all_within r at next h.within n;
+  none = λ a t. elim (or_cases (is_within r a && nat_lt a at) (at == a) (sym (one_more_before r at next h.within n a) ∙ t)) [
+    | inl k ↦ h.none a k
+    | inr k ↦ subst (λ b. told b ≡ false) (eqb-true at a k) f
+  ];
+}
+
+pub searched_found : (r : Area) (told : ℕ → Bool) (at : ℕ) → IsSearched r told (Some at) → told at ≡ true → IsFirst (λ a. is_within r a && told a) (Some at)
+searched_found r told at h t = record {
+  passes = and_from (is_within r at) (told at) h.within t;
+  least = λ a k. (let p = and_parts (is_within r a) (told a) k in elim (cases_lt a at) [
+    | inl l ↦ absurd (both_ways (told a) (h.none a (and_from (is_within r a) (nat_lt a at) p.0 (lt-ltb a at l))) p.1)
+    | inr l ↦ l
+  ]);
+}
+
+pub searched_none : (r : Area) (told : ℕ → Bool) → IsSearched r told None → IsFirst (λ a. is_within r a && told a) None
+searched_none r told h = record {
+  passes = tt;
+  least = λ a k.
+      let p = and_parts (is_within r a) (told a) k in
+      both_ways (told a) (h.none a (and_from (is_within r a) true p.0 refl)) p.1;
+}

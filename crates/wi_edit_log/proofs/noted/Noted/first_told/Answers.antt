@@ -1,0 +1,17 @@
+use Rattle.std.proofs.Common.{arith}
+use Rattle.wi_edit_log.specs.Inner.Noted.{is_told}
+use Rattle.wi_edit_log.proofs.Shared.{of_all, of_none, of_one_more}
+use Rattle.wi_edit_log.proofs.noted.Noted.first_told.Goals as goal
+
+pub loop-area-init : goal.loop-area-init
+loop-area-init c = of_none (is_told c.args.self.now.notes.entries c.args.session c.args.since)
+
+pub loop-area-preserved : goal.loop-area-preserved
+loop-area-preserved c =
+    of_one_more (is_told c.args.self.now.notes.entries c.args.session c.args.since) c.args.wanted.now c.loop-area.area-index c.area-item.result
+    c.loop-area.first c.first_told_in.result c.sooner-first.result
+    (omega arith) c.area-item.is c.sooner-first.ensures c.loop-area.invariant c.first_told_in.ensures
+
+pub returns : goal.returns
+returns c =
+    of_all (is_told c.args.self.now.notes.entries c.args.session c.args.since) c.args.wanted.now c.loop-area.area-index c.loop-area.first (omega arith) c.loop-area.invariant

@@ -1,0 +1,22 @@
+use Rattle.wi_edit_log.proofs.Next.{fewer_left}
+use Rattle.wi_edit_log.proofs.Noting.{noting_done, noting_on, noting_start}
+use Rattle.wi_edit_log.proofs.noted.note_area.Goals as goal
+
+pub loop-ahead-init : goal.loop-ahead-init
+loop-ahead-init c = noting_start c.args.area c.args.session c.args.count c.args.notes.now.entries c.first_cell-ahead.result c.first_cell-ahead.ensures
+
+pub cell_after-ahead-requires : goal.cell_after-ahead-requires
+cell_after-ahead-requires c = (rw c.in-Some.is at c.loop-ahead.invariant).within
+
+pub loop-ahead-smaller : goal.loop-ahead-smaller
+loop-ahead-smaller c =
+    rw c.in-Some.is (fewer_left c.args.area c.in-Some.at c.cell_after-ahead.result (rw c.in-Some.is at c.loop-ahead.invariant).within c.cell_after-ahead.ensures)
+
+pub loop-ahead-preserved : goal.loop-ahead-preserved
+loop-ahead-preserved c =
+    noting_on c.args.area c.args.session c.args.count c.args.notes.now.entries c.loop-ahead.notes.entries c.note.new.notes.entries c.in-Some.at c.cell_after-ahead.result
+    (rw c.in-Some.is at c.loop-ahead.invariant) c.in_ok-note.ensures c.cell_after-ahead.ensures
+
+pub returns : goal.returns
+returns c =
+    noting_done c.args.area c.args.session c.args.count c.args.notes.now.entries c.loop-ahead.notes.entries (rw c.in_default.is at c.loop-ahead.invariant)
