@@ -1,4 +1,3 @@
 -- What the proofs about one evaluation use.
-pub mod Attempting
-pub mod Filters
-pub mod Lacks
+pub mod KnownValues
+pub mod LackingCounts

@@ -1,3 +1,3 @@
 -- What the proofs about the filled cells of a rectangle use.
-pub mod Passing
-pub mod Replaced
+pub mod FirstTouched
+pub mod FirstReplaced

@@ -1,2 +1,2 @@
 -- What the proofs about what is known use.
-pub mod Handing
+pub mod HandOver

@@ -1,2 +1,2 @@
 -- What the proofs about what is remembered use.
-pub mod Remembering
+pub mod QuestionMemory

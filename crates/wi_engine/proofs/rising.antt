@@ -1,2 +1,2 @@
 -- What the proofs about cells in order use.
-pub mod Searching
+pub mod BinarySearch

@@ -45,7 +45,7 @@ pub fn look_ahead<'a, M: Memo>(
             frame.found.add_cell(at, value)?;
             Ok(None)
         }
-        Asked::Unknown(first) => {
+        Asked::Unvalued(first) => {
             frame.waiting = Waiting::Cells(at, Vec::new(alloc));
             Ok(Some(first))
         }

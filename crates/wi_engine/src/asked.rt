@@ -2,11 +2,9 @@
 
 ghost use Rattle.std.specs.Prelude.{◌≡◌, Some, IfOk};
 ghost use Rattle.wi_parser.specs.Sheet.{content_of, put_all};
-ghost use Rattle.wi_sheet.specs.CellValue as show;
 ghost use Rattle.wi_engine.specs.Inner.MemoState.{IsMemoOf};
-ghost use Rattle.wi_engine.specs.Inner.Frames.{MayBeRead, IsUnvaluedFormula};
-ghost use Rattle.wi_engine.specs.Inner.Saving.{NeedsNoEvaluation};
-ghost use Rattle.wi_engine.specs.Inner.Steps.{IfKnown, IfUnknown};
+ghost use Rattle.wi_engine.specs.Inner.Frames.{MayBeRead};
+ghost use Rattle.wi_engine.specs.Inner.Steps.{IsAskedOf};
 
 use crate::frame::{Asked, Unvalued};
 use crate::memo::Memo;
@@ -28,12 +26,7 @@ pub fn value_now<'a, M: Memo>(
 ) -> Result<Asked<'a>, AllocError>
     requires memo { IsMemoOf store.now.sheet (M.state memo.old) }
     requires read { MayBeRead store.now.sheet (M.state memo.old) at }
-    ensures known { IfOk result (λ a. IfKnown a (λ v.
-        v ≡ show.cell_value (put_all store.now.sheet world.now) at)) }
-    ensures unknown { IfOk result (λ a. IfUnknown a
-        (IsUnvaluedFormula store.now.sheet (M.state memo.old) world.now at)) }
-    ensures there { IfOk result (λ a. IfKnown a (λ _.
-        NeedsNoEvaluation store.now.sheet (M.state memo.old) world.now at)) }
+    ensures asked { IfOk result (IsAskedOf store.now.sheet (M.state memo.old) world.now at) }
     ensures same { M.state memo.new ≡ M.state memo.old }
 {
     if let Some(value) = replaced(world, at) {
@@ -59,17 +52,13 @@ pub fn remembered_value<'a, M: Memo>(
     requires read { MayBeRead (M.state memo.old).sheet (M.state memo.old) at }
     requires formula { content_of (put_all (M.state memo.old).sheet world.now) at
         ≡ Some (Content.Formula formula.now) }
-    ensures known { IfOk result (λ a. IfKnown a (λ v.
-        v ≡ show.cell_value (put_all (M.state memo.old).sheet world.now) at)) }
-    ensures unknown { IfOk result (λ a. IfUnknown a
-        (IsUnvaluedFormula (M.state memo.old).sheet (M.state memo.old) world.now at)) }
-    ensures there { IfOk result (λ a. IfKnown a (λ _.
-        NeedsNoEvaluation (M.state memo.old).sheet (M.state memo.old) world.now at)) }
+    ensures asked { IfOk result
+        (IsAskedOf (M.state memo.old).sheet (M.state memo.old) world.now at) }
     ensures same { M.state memo.new ≡ M.state memo.old }
 {
     let key = memo.key(at, world)?;
     match memo.look(&key) {
         Some(value) => Ok(Asked::Known(value.copy(alloc)?)),
-        None => Ok(Asked::Unknown(Unvalued { key, formula })),
+        None => Ok(Asked::Unvalued(Unvalued { key, formula })),
     }
 }

@@ -1,9 +1,7 @@
 //! What a frame does, from one value to the next.
 
-ghost use Rattle.std.specs.Prelude.{◌≡◌, ◌==◌, ◌&&◌, ◌-◌, ◌∷◌, [], ◌⊎◌, ℕ, true, false, None, Ok, All, map, IfOk, IfSome, IfNone, OnOk, is_ok};
-ghost use Rattle.std.specs.List.{list_any};
+ghost use Rattle.std.specs.Prelude.{◌≡◌, ◌==◌, ◌&&◌, ◌-◌, ◌∷◌, [], ◌⊎◌, ℕ, true, false, None, Ok, All, IfOk, IfSome, IfNone, OnOk, is_ok};
 ghost use Rattle.wi_values.specs.Replacements.{IsInOrder, same_replacements};
-ghost use Rattle.wi_parser.specs.View.{pair_of};
 ghost use Rattle.wi_parser.specs.Sheet.{put_all};
 ghost use Rattle.wi_functions.specs.declared.evaluation.Want.TheVariants as wanted;
 ghost use Rattle.wi_graph.specs.Reach.{is_one_of};
@@ -11,8 +9,8 @@ ghost use Rattle.wi_sheet.specs.CellValue as show;
 ghost use Rattle.wi_sheet.specs.Demand.{reaching};
 ghost use Rattle.wi_engine.specs.Inner.MemoState.{IsMemoOf};
 ghost use Rattle.wi_engine.specs.Inner.Attempt.{AsksAt, IsLacking, lacks_cell};
-ghost use Rattle.wi_engine.specs.Inner.Frames.{MayBeRead, StandsAt, IsUnvaluedFormula, AreReadHere, Awaits, IsFrame, IsNextFormula, case_at, waits, waits_at};
-ghost use Rattle.wi_engine.specs.Inner.Steps.{IfReplaced, IfInputUnknown, IfValued, IfNeedsValue, evaluations_after, FrameSteps, FrameCounts, FrameTakes, FrameWaits, IsFrameValue, IsWorldWith};
+ghost use Rattle.wi_engine.specs.Inner.Frames.{MayBeRead, StandsAt, AreReadHere, Awaits, IsFrame, IsNextFormula, case_at, waits, waits_at};
+ghost use Rattle.wi_engine.specs.Inner.Steps.{AreInputsOf, FrameSteps, FrameCounts, FrameTakes, FrameWaits, IsAdvanceOf};
 ghost use Rattle.wi_engine.specs.declared.frame.Waiting.TheVariants as waiting;
 
 use crate::ahead::look_ahead;
@@ -43,11 +41,8 @@ fn world_of_what_if<'a, M: Memo>(
     requires memo { IsMemoOf store.now.sheet (M.state memo.old) }
     requires read { All (λ p.
         MayBeRead store.now.sheet (M.state memo.old) p.replacement.at) pairs.now }
-    ensures known { IfOk result (λ i. IfReplaced i
-        (IsWorldWith store.now.sheet (M.state memo.old) world.now pairs.now)) }
-    ensures unknown { IfOk result (λ i. IfInputUnknown i (λ u.
-        (list_any (λ p. p.1.at == u.key.cell) (map pair_of pairs.now) ≡ true)
-        × IsUnvaluedFormula store.now.sheet (M.state memo.old) world.now u.key.cell u)) }
+    ensures inputs { IfOk result
+        (AreInputsOf store.now.sheet (M.state memo.old) world.now pairs.now) }
     ensures order { IsInOrder world.now }
     ensures same { M.state memo.new ≡ M.state memo.old }
 {
@@ -59,7 +54,7 @@ fn world_of_what_if<'a, M: Memo>(
                 at: pair.input.at,
                 value,
             })?,
-            Asked::Unknown(input) => return Ok(Inputs::Unknown(input)),
+            Asked::Unvalued(input) => return Ok(Inputs::Unvalued(input)),
         }
     }
     Ok(Inputs::Known(world.with(&inputs)?))
@@ -114,7 +109,7 @@ fn settle_cells<'a, M: Memo>(
     'cells: loop {
         match value_now(alloc, store, &frame.key.world, at, memo)? {
             Asked::Known(value) => frame.found.add_cell(at, value)?,
-            Asked::Unknown(first) => {
+            Asked::Unvalued(first) => {
                 frame.waiting = Waiting::Cells(at, others);
                 return Ok(Some(first));
             }
@@ -148,12 +143,12 @@ fn settle_what_if<'a, M: Memo>(
     ensures settled { result ≡ Ok None → frame.new.waiting ≡ waiting.Nothing }
 {
     match world_of_what_if(alloc, store, &frame.key.world, &pairs, memo)? {
-        Inputs::Unknown(first) => {
+        Inputs::Unvalued(first) => {
             frame.waiting = Waiting::WhatIf(at, pairs);
             Ok(Some(first))
         }
         Inputs::Known(world) => match value_now(alloc, store, &world, at, memo)? {
-            Asked::Unknown(first) => {
+            Asked::Unvalued(first) => {
                 frame.waiting = Waiting::WhatIf(at, pairs);
                 Ok(Some(first))
             }
@@ -221,20 +216,16 @@ pub fn advance<'a, M: Memo>(
     requires frame { IsFrame store.now.sheet (M.state memo.old) frame.old }
     ensures steps { FrameSteps store.now.sheet (M.state memo.old) (M.state memo.new)
         frame.old frame.new (meter.new.restarts - meter.old.restarts) (is_ok result) }
-    ensures done { IfOk result (λ s. IfValued s
-        (IsFrameValue store.now.sheet (M.state memo.old) frame.old)) }
-    ensures next { IfOk result (λ s. IfNeedsValue s
-        (IsNextFormula store.now.sheet (M.state memo.old) frame.old.key)) }
-    ensures evaluations { IfOk result (λ s.
-        meter.new.evaluations ≡ evaluations_after s meter.old.evaluations) }
+    ensures gives { IfOk result
+        (IsAdvanceOf store.now.sheet (M.state memo.old) frame.old meter.old meter.new) }
     ensures counts { FrameCounts store.now.sheet frame.old meter.old meter.new (is_ok result) }
 {
     if let Some(ahead) = look_ahead(alloc, store, frame, memo)? {
-        return Ok(Advance::Needs(ahead));
+        return Ok(Advance::Unvalued(ahead));
     }
     'rounds: loop {
         if let Some(first) = settle(alloc, store, frame, memo)? {
-            return Ok(Advance::Needs(first));
+            return Ok(Advance::Unvalued(first));
         }
         match attempt(alloc, store, frame, meter)? {
             Outcome::Done(value) => return Ok(Advance::Done(value)),

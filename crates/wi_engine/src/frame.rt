@@ -109,8 +109,7 @@ pub struct Unvalued<'a> {
 #[derive(Drop)]
 pub enum Asked<'a> {
     Known(Value),
-    /// It has to be valued.
-    Unknown(Unvalued<'a>),
+    Unvalued(Unvalued<'a>),
 }
 
 /// Replacements with those of a what-if put in, as far as its inputs' values are there.
@@ -118,7 +117,7 @@ pub enum Asked<'a> {
 pub enum Inputs<'a> {
     Known(World),
     /// It has to be valued first.
-    Unknown(Unvalued<'a>),
+    Unvalued(Unvalued<'a>),
 }
 
 /// How far a frame has come.
@@ -126,5 +125,5 @@ pub enum Inputs<'a> {
 pub enum Advance<'a> {
     Done(Value),
     /// It has to be valued first.
-    Needs(Unvalued<'a>),
+    Unvalued(Unvalued<'a>),
 }

@@ -35,7 +35,9 @@ pub struct Known<'a> {
     empty: Value,
     ghost is_empty: { empty ≡ Empty },
     // So what was found can be told before what stands in a cell.
-    ghost right: { AreAllRight (show.cell_value (put_all store.now.sheet world.now)) (show.what_if_value (put_all store.now.sheet world.now)) found.now } by { Prim.hlevel props },
+    ghost right: { AreAllRight (show.cell_value (put_all store.now.sheet world.now))
+        (show.what_if_value (put_all store.now.sheet world.now))
+        found.now } by { Prim.hlevel props },
 }
 
 impl<'a> Known<'a> {

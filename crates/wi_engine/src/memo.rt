@@ -33,9 +33,9 @@ pub trait Memo {
     fn look(&self, key: &Key) -> Option<&Value>
         requires generation { key.now.generation ≡ (state self.now).generation key.now.cell }
         ensures value { option_copied result ≡ (state self.now).known key.now.cell key.now.world }
-        ensures missing { result ≡ None
+        ensures unfound { result ≡ None
             → (state self.now).found key.now.cell key.now.world ≡ false }
-        ensures missing_kept { result ≡ None
+        ensures unkept { result ≡ None
             → (state self.now).kept key.now.cell key.now.world ≡ false };
 
     /// Remembers a value for a key. It is found from then on; whether it is also kept for longer, in the place of others if

@@ -7,7 +7,7 @@ ghost use Rattle.wi_sheet.specs.Demand.{reaching};
 ghost use Rattle.wi_sheet.specs.Settled.{IsSettled};
 ghost use Rattle.wi_sheet.specs.Inner.Spending.{HasCase};
 ghost use Rattle.wi_engine.specs.Inner.MemoState.{IsMemoOf};
-ghost use Rattle.wi_engine.specs.Inner.Frames.{MayBeRead, IsToFind, StandsAt, case_at};
+ghost use Rattle.wi_engine.specs.Inner.Frames.{MayBeRead, IsUnvaluedKey, StandsAt, case_at};
 ghost use Rattle.wi_engine.specs.Inner.Saving.{WhereRoom, NeedsNoEvaluation, IsValuedAnew};
 ghost use Rattle.wi_engine.specs.Inner.Spends.{Spends};
 
@@ -64,7 +64,7 @@ impl<M: Memo + Drop> Question<M> {
     {
         match value_now(self.pool.allocator(), store, world, at, &mut self.memo)? {
             Asked::Known(value) => Ok(value),
-            Asked::Unknown(cell) => self.run(store, cell.key, cell.formula),
+            Asked::Unvalued(cell) => self.run(store, cell.key, cell.formula),
         }
     }
 
@@ -72,7 +72,7 @@ impl<M: Memo + Drop> Question<M> {
     /// the place of another, and none twice.
     fn run(&mut self, store: &Store, key: Key, formula: &Formula) -> Result<Value, AllocError>
         requires memo { IsMemoOf store.now.sheet (M.state self.old.memo) }
-        requires key { IsToFind store.now.sheet (M.state self.old.memo) key }
+        requires key { IsUnvaluedKey store.now.sheet (M.state self.old.memo) key }
         requires formula { StandsAt store.now.sheet key formula.now }
         ensures value { IfOk result (λ v.
             v ≡ show.cell_value (put_all store.now.sheet key.world) key.cell) }
@@ -89,7 +89,7 @@ impl<M: Memo + Drop> Question<M> {
         let mut frame = Frame::new(key, formula, self.pool.take());
         'frames: loop {
             match advance(alloc, store, &mut frame, &mut self.memo, &mut self.meter)? {
-                Advance::Needs(next) => {
+                Advance::Unvalued(next) => {
                     stack.push(frame)?;
                     frame = Frame::new(next.key, next.formula, self.pool.take());
                 }

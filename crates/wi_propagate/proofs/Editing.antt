@@ -1,5 +1,6 @@
 -- What is so of a calculator that keeps values stays so over an edit.
 use Rattle.std.proofs.Common.{◌≡◌, ◌==◌, ◌||◌, ◌≤◌, ◌+◌, ℕ, Bool, true, false, cond, nat_lt, nat_le, List, [], ◌∷◌, map, Option, Some, None, Result, Ok, Err, refl, ap, sym, ◌∙◌, arith}
+use Rattle.std.proofs.lemmas.Bool.{or_parts}
 use Rattle.std.proofs.lemmas.Bool.Decides.{nat_tests}
 use Rattle.std.specs.Map.{keys_of}
 use Rattle.wi_values.specs.Address.{Area}
@@ -19,7 +20,7 @@ use Rattle.wi_graph.proofs.EdgeLemmas.{areas_with}
 use Rattle.wi_propagate.specs.KeptSheet.{Generations, generation_in}
 use Rattle.wi_propagate.specs.Right.{AreKeptRight}
 use Rattle.wi_sheet.proofs.Puts.{content_of-with}
-use Rattle.wi_propagate.proofs.KeptSteps.{AreRaised, kept_over_edit}
+use Rattle.wi_propagate.proofs.RightValues.{AreRaised, kept_over_edit}
 
 -- ---- the edges are those of the edited sheet
 
@@ -56,14 +57,10 @@ kept_content s c o d n = sym (content_of-with s c o d ∙ ap (λ (b : Bool). con
     turn : (x y : ℕ) → (x == y) ≡ false → (y == x) ≡ false
     turn x y h = grind (arith, nat_tests)
 
-neither : (a b : Bool) → (a || b) ≡ false → (a ≡ false) × (b ≡ false)
-neither true b h = cc
-neither false b h = (refl, h)
-
 pub same_off_edited : (s : Sheet) (changes : List (ℕ × Option Content)) → SameOff s (edited s (map settled_change changes)) (keys_of changes)
 same_off_edited s [] d h = refl
 same_off_edited s (x ∷ xs) d h =
-    let n = neither (x.0 == d) _ h in
+    let n = or_parts (x.0 == d) _ h in
     kept_content s x.0 (settled x.1) d n.0 ∙ same_off_edited (with_content s x.0 (settled x.1)) xs d n.1
 
 -- ---- an accepted edit

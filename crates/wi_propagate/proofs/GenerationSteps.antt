@@ -1,6 +1,7 @@
 -- Generations are given and raised, one cell after another.
-use Rattle.std.proofs.Common.{◌≡◌, ◌==◌, ◌||◌, ◌⊎◌, inl, inr, ◌<◌, ◌+◌, ℕ, zero, suc, Bool, true, false, cond, List, [], ◌∷◌, length, take, get_or, Option, Some, IsSome, refl, ap, sym, ◌∙◌, subst, arith}
-use Rattle.std.proofs.lemmas.Bool.{or_cases, or_left, or_right}
+use Rattle.std.proofs.Common.{◌≡◌, ◌==◌, ◌||◌, ◌⊎◌, inl, inr, ◌<◌, ◌+◌, ℕ, Bool, true, false, cond, List, [], ◌∷◌, length, take, get_or, Option, Some, IsSome, refl, ap, sym, ◌∙◌, subst, arith, eq-eqb}
+use Rattle.std.proofs.lemmas.Bool.{or_cases}
+use Rattle.std.proofs.lemmas.List.Folds.{list_any_at}
 use Rattle.std.proofs.lemmas.Bool.Decides.{nat_tests}
 use Rattle.std.specs.Option.{unwrap_or}
 use Rattle.std.specs.Ordering.{nat_cmp}
@@ -57,9 +58,4 @@ raised_more old new first xs i a edit l e u h c =
     at false false k = k
 
 pub is_there : (xs : List ℕ) (i a : ℕ) → i < length xs → a ≡ get_or xs i a → is_one_of xs a ≡ true
-is_there [] i a l e = absurd (omega arith)
-is_there (x ∷ xs) zero a l e = or_left (x == a) _ (ap (λ (y : ℕ). y == a) (sym e) ∙ itself)
-  where
-    itself : (a == a) ≡ true
-    itself = grind (arith, nat_tests)
-is_there (x ∷ xs) (suc i) a l e = or_right (x == a) _ (is_there xs i a (omega arith) e)
+is_there xs i a l e = list_any_at (λ (x : ℕ). x == a) xs i a l (eq-eqb (get_or xs i a) a (sym e))

@@ -1,14 +1,22 @@
+-- What the proofs use, in the order in which the lemmas rest on each other. Of cells and cones:
+-- `EmptyCells`, passed on from `wi_sheet`; `GenerationSteps`, how generations are given and raised; `ReplacedCones`, `KeptCones`.
+-- Of what is kept:
+-- `RightValues`: values that are kept stay right, over an edit, where one is kept, and where a question begins.
+-- `KeepSteps`: what is so where one value is kept; over it `ValuesAtHand`, what is kept or was given up in the question, and
+-- `PlaceCounts`, each value takes one place.
+-- `Editing`: what is so of a calculator stays so over an edit, by generations and `RightValues`.
+-- Of a question:
+-- `Questions`: how it begins (`Begins`), and what is kept when it ends; `Debts`: so it owes what its contract says (`Owes`).
+-- `EntryQuestions`: an entry of a data table.
 pub mod EmptyCells
-pub mod Marks
-pub mod SavingEntries
-pub mod ShowingEntries
+pub mod GenerationSteps
 pub mod ReplacedCones
 pub mod KeptCones
-pub mod GenerationSteps
-pub mod KeptSteps
-pub mod KeepingSteps
-pub mod GivenUp
-pub mod PlacesTaken
+pub mod RightValues
+pub mod KeepSteps
+pub mod ValuesAtHand
+pub mod PlaceCounts
 pub mod Editing
 pub mod Questions
-pub mod Owing
+pub mod Debts
+pub mod EntryQuestions

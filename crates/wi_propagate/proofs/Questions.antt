@@ -17,23 +17,34 @@ use Rattle.wi_sheet.specs.Demand.{Case, reaching}
 use Rattle.wi_sheet.specs.TableEntry.{asks_circular, table_entry}
 use Rattle.wi_sheet.specs.Settled.{IsWhatIfSettled}
 use Rattle.wi_sheet.specs.Inner.Spending.{IsClosed}
-use Rattle.wi_sheet.proofs.Counting.{left_is_unkept, sum_of_ones}
+use Rattle.wi_sheet.proofs.CaseCosts.{left_is_unkept, sum_of_ones}
 use Rattle.wi_sheet.proofs.TableEntries.{cells_open, entry_circular, none_circular}
 use Rattle.wi_engine.specs.Inner.Frames.{MayBeRead}
 use Rattle.wi_engine.specs.Inner.Saving as saving
 use Rattle.wi_engine.specs.Inner.Saving.{KeepsFound, WhereRoom, TakesNoMore, GivesUpWhenFull, NeedsNoEvaluation, IsValuedAnew}
-use Rattle.wi_engine.specs.Inner.Spends.{Saved}
-use Rattle.wi_sheet.proofs.StaysSettled.{what_if_more, rests_more}
-use Rattle.wi_engine.proofs.Saved.{none_went}
+use Rattle.wi_engine.specs.Inner.Spends.{IsSameBeside, Saved}
+use Rattle.wi_sheet.proofs.SettledTables.{what_if_more, rests_more}
+use Rattle.wi_engine.proofs.Places.{none_went}
 use Rattle.wi_propagate.specs.KeptSheet.{Generations, generation_in, KeptSheet, key_in, stands, is_kept, unkept, gone, IsAtHand, HasRoomFor, KeepsAll, KeepsNoMore, KeepsOld, KeepsWhileRoom}
 use Rattle.wi_propagate.specs.Right.{AreRight, AreKeptRight}
 use Rattle.wi_propagate.specs.Inner.Keeping.{kept_sheet, values_in, Keeping, keeping, begun, state_in, IsKeepingRight}
-use Rattle.wi_propagate.proofs.KeptSteps.{or_none}
-use Rattle.wi_propagate.proofs.PlacesTaken.{all_stand}
+use Rattle.wi_propagate.proofs.RightValues.{or_none}
+use Rattle.wi_propagate.proofs.PlaceCounts.{all_stand}
 
--- the question begins with what was kept
-pub begun_is : (s : Stored) (gs : Generations) (o : Option KeptValues) (n : Counts) (v : KeptValues) (q : Keeping) → q ≡ keeping s.sheet s.edits gs [] v → Some v ≡ o → q ≡ begun (kept_sheet s gs o n)
-begun_is s gs o n v q e f = e ∙ ap (λ (x : Option KeptValues). keeping s.sheet s.edits gs [] (values_in x)) f
+-- ---- how it begins
+
+-- with what was kept, which is no more than there is room for, each value under a key of its own
+pub record Begins (k : KeptSheet) (q : Keeping) : Type 0 where
+  pub is : q ≡ begun k
+  pub within : length k.values.entries ≤ k.values.capacity
+  pub one_each : HasOneEach k.values.entries
+
+pub begins : (s : Stored) (gs : Generations) (o : Option KeptValues) (n : Counts) (v : KeptValues) (q : Keeping) → Some v ≡ o → q ≡ keeping s.sheet s.edits gs [] v → length v.entries ≤ v.capacity → HasOneEach v.entries → Begins (kept_sheet s gs o n) q
+begins s gs o n v q f e within one_each = record {
+  is = e ∙ ap (λ (x : Option KeptValues). keeping s.sheet s.edits gs [] (values_in x)) f;
+  within = subst (λ (x : Option KeptValues). length (values_in x).entries ≤ (values_in x).capacity) f within;
+  one_each = subst (λ (x : Option KeptValues). HasOneEach (values_in x).entries) f one_each;
+}
 
 -- and what was kept is right
 pub begun_right : (s : Stored) (gs : Generations) (o : Option KeptValues) (n : Counts) (v : KeptValues) → Some v ≡ o → AreKeptRight (kept_sheet s gs o n) → IsKeepingRight (keeping s.sheet s.edits gs [] v)
@@ -42,86 +53,74 @@ begun_right s gs o n v f h = record {
   right = subst (λ (x : Option KeptValues). AreRight s.sheet s.edits (generation_in gs) (values_in x).entries) (sym f) h.right;
 }
 
--- and no more than there is room for
-pub begun_within : (o : Option KeptValues) (v : KeptValues) → Some v ≡ o → length v.entries ≤ v.capacity → length (values_in o).entries ≤ (values_in o).capacity
-begun_within o v e h = subst (λ (x : Option KeptValues). length (values_in x).entries ≤ (values_in x).capacity) e h
-
--- each under a key of its own
-pub begun_one_each : (o : Option KeptValues) (v : KeptValues) → Some v ≡ o → HasOneEach v.entries → HasOneEach (values_in o).entries
-begun_one_each o v e h = subst (λ (x : Option KeptValues). HasOneEach (values_in x).entries) e h
-
--- ---- a question, for each closed list of cases that has what it is to have
-
-module _ (k : KeptSheet) (q : Keeping) (e : q ≡ begun k) where
+module _ {k : KeptSheet} {q : Keeping} (e : Begins k q) where
   -- at its beginning what is found is what is kept
   begun_found : (c : ℕ) (w : List Replacement) → (state_in q).found c w ≡ is_kept k c w
-  begun_found c w = ap (λ (x : Keeping). (state_in x).found c w) e ∙ ap (λ (o : Option Value). is_some o) (or_none (value_for k.values.entries (key_in k.generations c w)))
+  begun_found c w = ap (λ (x : Keeping). (state_in x).found c w) e.is ∙ ap (λ (o : Option Value). is_some o) (or_none (value_for k.values.entries (key_in k.generations c w)))
 
   keeps_found : KeepsFound (state_in q)
-  keeps_found c w h = ap (λ (x : Keeping). (state_in x).kept c w) e ∙ sym (begun_found c w) ∙ h
-
-  pub same_unkept : (ks : List Case) → saving.not_kept (state_in q) ks ≡ length (unkept k ks)
-  same_unkept ks = ap (λ (x : Keeping). saving.not_kept (state_in x) ks) e ∙ left_is_unkept (λ c. 1) (is_kept k) ks ∙ sum_of_ones (unkept k ks)
+  keeps_found c w h = ap (λ (x : Keeping). (state_in x).kept c w) e.is ∙ sym (begun_found c w) ∙ h
 
   room_left : (ks : List Case) → HasRoomFor k ks → saving.not_kept (state_in q) ks ≤ (state_in q).room
   room_left ks h =
-      omega (arith, h, same_unkept ks, ap (λ (x : Keeping). (state_in x).room) e)
+      let same = ap (λ (x : Keeping). saving.not_kept (state_in x) ks) e.is ∙ left_is_unkept (λ c. 1) (is_kept k) ks ∙ sum_of_ones (unkept k ks) in
+      omega (arith, h, same, ap (λ (x : Keeping). (state_in x).room) e.is)
 
   -- its cell may be valued
   pub may_be_read : (a : ℕ) → circular k.stored.sheet a ≡ false → MayBeRead k.stored.sheet (state_in q) a
-  may_be_read a o = subst (λ (x : Keeping). MayBeRead k.stored.sheet (state_in x) a) (sym e) (record { open_cell = o; covered = λ h. refl })
+  may_be_read a o = subst (λ (x : Keeping). MayBeRead k.stored.sheet (state_in x) a) (sym e.is) (record { open_cell = o; covered = λ h. refl })
 
-  -- what is so where there is room is so of the cases, where there is room for them
+  -- what is so where there is room, for each closed list of cases that has what it is to have, is so of the cases, where there is room for them
   pub asked_where : (P : List Case → Type 0) (cases : List Case) (Has : List Case → Type 0) → WhereRoom k.stored.sheet Has (state_in q) P → IsClosed k.stored.sheet cases → Has cases → HasRoomFor k cases → P cases
   asked_where P cases Has h closed has room = h cases closed has keeps_found (room_left cases room)
 
 -- ---- what is kept when it ends
 
-module _ (k : KeptSheet) (q last : Keeping) (values : KeptValues) (counts : Counts) (e : q ≡ begun k) (gens : (state_in last).generation ≡ (state_in q).generation)
-    (caps : (state_in last).capacity ≡ (state_in q).capacity) (same : values ≡ last.values) where
+module _ {k : KeptSheet} {q : Keeping} (e : Begins k q) (last : Keeping) (values : KeptValues) (counts : Counts) (beside : IsSameBeside (state_in q) (state_in last)) (same : values ≡ last.values) where
   abbrev pub after : KeptSheet
   after = record { stored = k.stored; generations = k.generations; values = values; counts = counts }
 
+  room_before : (state_in q).room ≡ k.values.capacity - length k.values.entries
+  room_before = ap (λ (x : Keeping). (state_in x).room) e.is
+
+  room_after : (state_in last).room ≡ values.capacity - length values.entries
+  room_after = ap (λ (v : KeptValues). v.capacity - length v.entries) (sym same)
+
+  pub same_capacity : values.capacity ≡ k.values.capacity
+  same_capacity = ap (λ (v : KeptValues). v.capacity) same ∙ beside.capacity ∙ ap (λ (x : Keeping). x.values.capacity) e.is
+
   stood : (j : Key) → stands k j ≡ (state_in q).stands j
-  stood j = sym (ap (λ (x : Keeping). (state_in x).stands j) e)
+  stood j = sym (ap (λ (x : Keeping). (state_in x).stands j) e.is)
 
   stands_now : (j : Key) → stands after j ≡ (state_in last).stands j
   stands_now j = ap (λ (v : KeptValues). is_some (value_for v.entries j)) same
 
   kept_before_is : (c : ℕ) (w : List Replacement) → is_kept k c w ≡ (state_in q).kept c w
-  kept_before_is c w = sym (ap (λ (x : Keeping). (state_in x).kept c w) e)
+  kept_before_is c w = sym (ap (λ (x : Keeping). (state_in x).kept c w) e.is)
+
+  same_generations : generation_in last.generations ≡ generation_in k.generations
+  same_generations = beside.generation ∙ ap (λ (x : Keeping). generation_in x.generations) e.is
 
   pub kept_after_is : (c : ℕ) (w : List Replacement) → is_kept after c w ≡ (state_in last).kept c w
   kept_after_is c w =
-      let g : generation_in k.generations c ≡ generation_in last.generations c = sym (ap (λ (f : ℕ → ℕ). f c) (gens ∙ ap (λ (x : Keeping). generation_in x.generations) e)) in
-      ap (λ (v : KeptValues). is_some (value_for v.entries (key_in k.generations c w))) same ∙ ap (λ (n : ℕ). is_some (value_for last.values.entries (at n))) g
-    where
-      at : ℕ → Key
-      at n = record { cell = c; generation = n; world = w }
+      ap (λ (v : KeptValues). is_some (value_for v.entries (key_in k.generations c w))) same
+      ∙ ap (λ (f : ℕ → ℕ). is_some (value_for last.values.entries (record { cell = c; generation = f c; world = w }))) (sym same_generations)
 
-  pub right_then : (state_in last).sheet ≡ k.stored.sheet → (state_in last).latest ≡ (state_in q).latest → AreKeptRight k → IsKeepingRight last → AreKeptRight after
-  right_then sheet latest before h =
-      let generations : generation_in last.generations ≡ generation_in k.generations = gens ∙ ap (λ (x : Keeping). generation_in x.generations) e in
-      let edits : last.edits ≡ k.stored.edits = latest ∙ ap (λ (x : Keeping). x.edits) e in
+  pub right_then : (state_in last).sheet ≡ k.stored.sheet → AreKeptRight k → IsKeepingRight last → AreKeptRight after
+  right_then sheet before h =
+      let edits : last.edits ≡ k.stored.edits = beside.latest ∙ ap (λ (x : Keeping). x.edits) e.is in
       let here = subst (λ (t : Sheet). AreRight t last.edits (generation_in last.generations) last.values.entries) sheet h.right in
       let now = subst (λ (m : ℕ). AreRight k.stored.sheet m (generation_in last.generations) last.values.entries) edits here in
-      let then = subst (λ (f : ℕ → ℕ). AreRight k.stored.sheet k.stored.edits f last.values.entries) generations now in
+      let then = subst (λ (f : ℕ → ℕ). AreRight k.stored.sheet k.stored.edits f last.values.entries) same_generations now in
       record {
-        room = let x = ap (λ (v : KeptValues). v.capacity) same in let z = ap (λ (y : Keeping). (state_in y).capacity) e in let one = before.room in omega (arith, x, z, caps, one);
+        room = omega (arith, same_capacity, before.room);
         past = before.past;
         right = subst (λ (v : KeptValues). AreRight k.stored.sheet k.stored.edits (generation_in k.generations) v.entries) (sym same) then;
       }
 
   pub asked_keeps : (ks : List Case) → HasRoomFor k ks → Saved k.stored.sheet (state_in q) (state_in last) k.counts counts ks → KeepsAll k after
   asked_keeps ks room h = record {
-    added =
-        let a = h.added in
-        let f = h.room in
-        let x = ap (λ (y : Keeping). (state_in y).room) e in
-        let y = ap (λ (v : KeptValues). v.capacity) same in
-        let z = ap (λ (v : KeptValues). length v.entries) same in
-        let u = ap (λ (y : Keeping). (state_in y).capacity) e in
-        omega (arith, a, x, y, z, u, caps, room);
+    added = omega (arith, h.added, room_before, room_after, same_capacity, room);
     stays = λ j i. stands_now j ∙ h.stand j (sym (stood j) ∙ i);
     settled = λ c w i o. rests_more k.stored.sheet (state_in last).kept (is_kept after) (λ d v j. kept_after_is d v ∙ j) (c, w) (h.rests c w (sym (kept_after_is c w) ∙ i) (sym (kept_before_is c w) ∙ o));
   }
@@ -130,53 +129,37 @@ module _ (k : KeptSheet) (q last : Keeping) (values : KeptValues) (counts : Coun
   asked_settled w put x f h = what_if_more k.stored.sheet (state_in last).kept (is_kept after) (λ d v j. kept_after_is d v ∙ j) put x (subst (λ (p : List Replacement). IsWhatIfSettled k.stored.sheet (state_in last).kept p x) f h)
 
   -- as the places that are taken tell
-  gone_is : length (saving.missing (state_in last) (keys_of k.values.entries)) ≡ length (gone k after)
+  gone_is : length (saving.vacant (state_in last) (keys_of k.values.entries)) ≡ length (gone k after)
   gone_is = ap (λ (v : KeptValues). length (filter (λ j. not (is_some (value_for v.entries j))) (keys_of k.values.entries))) (sym same)
 
-  none_gone_before : length (saving.missing (state_in q) (keys_of k.values.entries)) ≡ 0
-  none_gone_before = ap (λ (x : Keeping). length (saving.missing (state_in x) (keys_of k.values.entries))) e ∙ all_stand k.values.entries
+  none_gone_before : length (saving.vacant (state_in q) (keys_of k.values.entries)) ≡ 0
+  none_gone_before = ap (λ (x : Keeping). length (saving.vacant (state_in x) (keys_of k.values.entries))) e.is ∙ all_stand k.values.entries
 
-  pub asked_no_more : length values.entries ≤ values.capacity → HasOneEach k.values.entries → TakesNoMore (state_in q) (state_in last) k.counts.evaluations counts.evaluations → KeepsNoMore k after
-  asked_no_more within one_each (inl h) =
-      let counted = h (keys_of k.values.entries) one_each in
-      let went = gone_is in
-      let none = none_gone_before in
-      let x = ap (λ (y : Keeping). (state_in y).room) e in
-      let y = ap (λ (v : KeptValues). v.capacity) same in
-      let z = ap (λ (v : KeptValues). length v.entries) same in
-      let u = ap (λ (y : Keeping). (state_in y).capacity) e in
-      inl (omega (arith, counted, went, none, x, y, z, u, caps, within))
-  asked_no_more within one_each (inr h) = inr h
+  pub asked_no_more : length values.entries ≤ values.capacity → TakesNoMore (state_in q) (state_in last) k.counts.evaluations counts.evaluations → KeepsNoMore k after
+  asked_no_more within (inl h) =
+      let counted = h (keys_of k.values.entries) e.one_each in
+      inl (omega (arith, counted, gone_is, none_gone_before, room_before, room_after, same_capacity, within))
+  asked_no_more within (inr h) = inr h
 
   -- and nothing went while there was room
   stays_with_room : GivesUpWhenFull (state_in q) (state_in last) → 1 ≤ (state_in last).room → KeepsOld k after
   stays_with_room h room j i = stands_now j ∙ h.stays room j (sym (stood j) ∙ i)
 
-  fits_places : length k.values.entries ≤ k.values.capacity → GivesUpWhenFull (state_in q) (state_in last) → TakesNoMore (state_in q) (state_in last) k.counts.evaluations counts.evaluations →
-      length k.values.entries + counts.evaluations ≤ k.counts.evaluations + values.capacity → counts.evaluations < 2 ^ 64 - 1 → KeepsOld k after
-  fits_places within gives (inr t) few short j i = absurd (omega (arith, t, short))
-  fits_places within gives (inl t) few short j i = elim (cases_lt 0 (state_in last).room) [
+  fits_places : GivesUpWhenFull (state_in q) (state_in last) → TakesNoMore (state_in q) (state_in last) k.counts.evaluations counts.evaluations → length k.values.entries + counts.evaluations ≤ k.counts.evaluations + values.capacity → counts.evaluations < 2 ^ 64 - 1 → KeepsOld k after
+  fits_places gives (inr t) few short j i = absurd (omega (arith, t, short))
+  fits_places gives (inl t) few short j i = elim (cases_lt 0 (state_in last).room) [
     | inl room ↦ stays_with_room gives room j i
     | inr full ↦ (
-        let x = ap (λ (y : Keeping). (state_in y).room) e in
-        let y = ap (λ (v : KeptValues). v.capacity) same in
-        let u = ap (λ (y : Keeping). (state_in y).capacity) e in
-        let fits : counts.evaluations + (state_in last).room ≤ k.counts.evaluations + (state_in q).room = omega (arith, full, x, y, u, caps, within, few) in
+        let fits : counts.evaluations + (state_in last).room ≤ k.counts.evaluations + (state_in q).room = omega (arith, full, room_before, same_capacity, e.within, few) in
         stands_now j ∙ none_went (state_in q) (state_in last) k.counts.evaluations counts.evaluations j t fits (sym (stood j) ∙ i))
   ]
 
-  pub asked_while_room : length k.values.entries ≤ k.values.capacity → GivesUpWhenFull (state_in q) (state_in last) → TakesNoMore (state_in q) (state_in last) k.counts.evaluations counts.evaluations → KeepsWhileRoom k after
-  asked_while_room within h t =
-      let a = h.room in
-      let x = ap (λ (y : Keeping). (state_in y).room) e in
-      let y = ap (λ (v : KeptValues). v.capacity) same in
-      let z = ap (λ (v : KeptValues). length v.entries) same in
-      let u = ap (λ (y : Keeping). (state_in y).capacity) e in
-      record {
-        count = omega (arith, a, x, y, z, u, caps, within);
-        stays = λ few. stays_with_room h (omega (arith, few, y, z));
-        fits = fits_places within h t;
-      }
+  pub asked_while_room : GivesUpWhenFull (state_in q) (state_in last) → TakesNoMore (state_in q) (state_in last) k.counts.evaluations counts.evaluations → KeepsWhileRoom k after
+  asked_while_room h t = record {
+    count = omega (arith, h.room, room_before, room_after, same_capacity, e.within);
+    stays = λ few. stays_with_room h (omega (arith, few, room_after));
+    fits = fits_places h t;
+  }
 
 -- where nothing is asked
 pub none_no_more : (k : KeptSheet) → KeepsNoMore k k
@@ -189,12 +172,12 @@ none_while_room k n e = subst (KeepsWhileRoom k) (sym e) (record { count = omega
 
 -- ---- the value of a cell
 
-module _ (k : KeptSheet) (q : Keeping) (w put : List Replacement) (a : ℕ) (e : q ≡ begun k) (o : circular k.stored.sheet a ≡ false) (same : w ≡ put) where
+module _ {k : KeptSheet} {q : Keeping} (e : Begins k q) (w put : List Replacement) (a : ℕ) (o : circular k.stored.sheet a ≡ false) (same : w ≡ put) where
   -- what is at hand needs no evaluation
   pub at_hand_is : IsAtHand k put a → NeedsNoEvaluation k.stored.sheet (state_in q) w a
   at_hand_is (inl h) = let z = o in cc
   at_hand_is (inr (inl h)) = inl (ap (λ (p : List Replacement). has_formula (content_of (put_all k.stored.sheet p) a)) same ∙ h)
-  at_hand_is (inr (inr h)) = inr (begun_found k q e a (reaching k.stored.sheet a w) ∙ ap (λ (p : List Replacement). is_kept k a (reaching k.stored.sheet a p)) same ∙ h)
+  at_hand_is (inr (inr h)) = inr (begun_found e a (reaching k.stored.sheet a w) ∙ ap (λ (p : List Replacement). is_kept k a (reaching k.stored.sheet a p)) same ∙ h)
 
   unkept_of : (b : Bool) → is_kept k a (reaching k.stored.sheet a put) ≡ b → (IsAtHand k put a → ⊥) → is_kept k a (reaching k.stored.sheet a put) ≡ false
   unkept_of true i h = absurd (h (inr (inr i)))
@@ -205,19 +188,19 @@ module _ (k : KeptSheet) (q : Keeping) (w put : List Replacement) (a : ℕ) (e :
   formula_of false i h = absurd (h (inr (inl i)))
 
   -- and any other is kept then
-  pub asked_kept : (last : Keeping) (values : KeptValues) (counts : Counts) (gens : (state_in last).generation ≡ (state_in q).generation) (caps : (state_in last).capacity ≡ (state_in q).capacity) (there : values ≡ last.values) → 1 ≤ k.values.capacity →
+  pub asked_kept : (last : Keeping) (values : KeptValues) (counts : Counts) → IsSameBeside (state_in q) (state_in last) → values ≡ last.values → 1 ≤ k.values.capacity →
       (IsValuedAnew k.stored.sheet (state_in q) w a → 1 ≤ (state_in q).capacity → (state_in last).kept a (reaching k.stored.sheet a w) ≡ true) → (IsAtHand k put a → ⊥) →
       is_kept (record { stored = k.stored; generations = k.generations; values = values; counts = counts }) a (reaching k.stored.sheet a put) ≡ true
-  asked_kept last values counts gens caps there one h hard =
+  asked_kept last values counts beside there one h hard =
       let f = formula_of (has_formula (content_of (put_all k.stored.sheet put) a)) refl hard in
       let anew : IsValuedAnew k.stored.sheet (state_in q) w a = record {
         formula = ap (λ (p : List Replacement). has_formula (content_of (put_all k.stored.sheet p) a)) same ∙ f;
         unfound =
-            begun_found k q e a (reaching k.stored.sheet a w) ∙ ap (λ (p : List Replacement). is_kept k a (reaching k.stored.sheet a p)) same
+            begun_found e a (reaching k.stored.sheet a w) ∙ ap (λ (p : List Replacement). is_kept k a (reaching k.stored.sheet a p)) same
             ∙ unkept_of (is_kept k a (reaching k.stored.sheet a put)) refl hard;
       } in
-      let room : 1 ≤ (state_in q).capacity = let x = ap (λ (y : Keeping). (state_in y).capacity) e in omega (arith, x, one) in
-      kept_after_is k q last values counts e gens caps there a (reaching k.stored.sheet a put) ∙ ap (λ (p : List Replacement). (state_in last).kept a (reaching k.stored.sheet a p)) (sym same) ∙ h anew room
+      let room : 1 ≤ (state_in q).capacity = omega (arith, ap (λ (x : Keeping). (state_in x).capacity) e.is, one) in
+      kept_after_is e last values counts beside there a (reaching k.stored.sheet a put) ∙ ap (λ (p : List Replacement). (state_in last).kept a (reaching k.stored.sheet a p)) (sym same) ∙ h anew room
 
 -- ---- an entry
 

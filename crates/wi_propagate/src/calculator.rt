@@ -46,7 +46,8 @@ pub trait Calculator {
 
     /// One edit: puts contents in or takes them away, one after another, or refuses and leaves all as it was.
     fn apply(&mut self, changes: Vec<(Address, Option<Content>)>) -> Result<(), StoreFault>
-        ensures applied { Applies (applied (stored self.old) changes.items) result (stored self.old) (stored self.new) }
+        ensures applied { Applies (applied (stored self.old) changes.items) result
+            (stored self.old) (stored self.new) }
         ensures same_evaluations { evaluated self.new ≡ evaluated self.old }
         ensures same_restarts { restarted self.new ≡ restarted self.old };
 
@@ -56,8 +57,10 @@ pub trait Calculator {
         changes: Vec<(Address, Option<Content>)>,
         cells: Vec<Address>,
     ) -> Result<(), StoreFault>
-        requires { (c : ℕ) → is_one_of cells.items c ≡ marked (stored self.old).sheet (keys_of changes.items) c }
-        ensures applied { Applies (applied (stored self.old) changes.items) result (stored self.old) (stored self.new) }
+        requires { (c : ℕ) → is_one_of cells.items c
+            ≡ marked (stored self.old).sheet (keys_of changes.items) c }
+        ensures applied { Applies (applied (stored self.old) changes.items) result
+            (stored self.old) (stored self.new) }
         ensures same_evaluations { evaluated self.new ≡ evaluated self.old }
         ensures same_restarts { restarted self.new ≡ restarted self.old }
     {
@@ -96,7 +99,8 @@ pub trait Calculator {
         ensures same { stored self.new ≡ stored self.old }
 
         // No more is evaluated than what the entry demands, also where memory runs out.
-        ensures evaluations { let cases = entry_demanded (stored self.old).sheet put.now formula_cell pairs.now in
+        ensures evaluations { let cases =
+            entry_demanded (stored self.old).sheet put.now formula_cell pairs.now in
             evaluated self.new ≤ evaluated self.old + length cases }
         ensures restarts { let sheet = (stored self.old).sheet in
             let cases = entry_demanded sheet put.now formula_cell pairs.now in
@@ -110,7 +114,8 @@ pub trait Calculator {
         ensures marked { let sheet = (stored self.now).sheet in
             IfOk result (λ found. (c : ℕ) → is_one_of found.items c ≡ marked sheet cells.now c) }
         ensures unmoved { let sheet = (stored self.now).sheet in
-            IfOk result (λ found. (c : ℕ) → is_one_of found.items c ≡ false → IsUnmoved sheet cells.now c) };
+            IfOk result (λ found. (c : ℕ) → is_one_of found.items c ≡ false
+            → IsUnmoved sheet cells.now c) };
 
     fn evaluations(&self) -> u64
         ensures { result ≡ evaluated self.now };

@@ -1,5 +1,5 @@
 -- The bound on a value is never felt.
-use Rattle.std.proofs.Common.{◌≡◌, ◌==◌, ℕ, zero, suc, ◌≤◌, Bool, true, false, cond, List, [], ◌∷◌, filter, Option, Some, None, length, refl, ap, sym, ◌∙◌, arith}
+use Rattle.std.proofs.Common.{◌≡◌, ◌==◌, ℕ, zero, suc, ◌≤◌, Bool, true, false, cond, List, [], ◌∷◌, Option, Some, None, length, refl, ap, sym, ◌∙◌, arith}
 use Rattle.std.proofs.lemmas.Bool.{false_from_ne_true}
 use Rattle.std.specs.Map.{keys_of}
 use Rattle.wi_values.specs.declared.value.Value.{Value}
@@ -17,6 +17,7 @@ use Rattle.wi_graph.proofs.Walks.{step, first_step}
 use Rattle.wi_sheet.specs.CellValue.{value_of, replacements, what_if_in, value_within, cell_value}
 use Rattle.wi_sheet.proofs.Puts.{overlaid, plain, content_of-put_all, formula_cells_put_all}
 use Rattle.wi_sheet.proofs.Meanings.{meaning_same, replacements_same}
+use Rattle.wi_sheet.proofs.Filters.{no_more}
 
 -- ---- replacements lengthen no walk
 
@@ -56,21 +57,11 @@ put_walk (suc n) s p c h =
     let f = first_step n (put_all s p) c h in
     step n s c f.0 (put_reads s p c f.0 f.1) (put_walk n s p f.0 f.2)
 
-filter_fewer : (p q : ℕ → Bool) → ((c : ℕ) → p c ≡ true → q c ≡ true) → (xs : List ℕ) → length (filter p xs) ≤ length (filter q xs)
-filter_fewer p q k [] = omega arith
-filter_fewer p q k (x ∷ xs) = at (p x) (q x) refl refl (filter_fewer p q k xs)
-  where
-    at : (b d : Bool) → p x ≡ b → q x ≡ d → length (filter p xs) ≤ length (filter q xs) → length (cond b (x ∷ filter p xs) (filter p xs)) ≤ length (cond d (x ∷ filter q xs) (filter q xs))
-    at true true e f ih = omega arith
-    at true false e f ih = let z = k x e in cc
-    at false true e f ih = omega arith
-    at false false e f ih = ih
-
 -- replacements make no more formulas
 pub put_formulas : (s : Sheet) (p : List Replacement) → length (cells_with_formula (put_all s p)) ≤ length (cells_with_formula s)
 put_formulas s p =
     let e = ap (λ (xs : List ℕ). length xs) (formula_cells_put_all s p) in
-    let l = filter_fewer (λ c. has_formula (content_of (put_all s p) c)) (λ c. has_formula (content_of s c)) (put_formula s p) (keys_of s) in
+    let l = no_more (λ c. has_formula (content_of s c)) (λ c. has_formula (content_of (put_all s p) c)) (put_formula s p) (keys_of s) in
     omega arith
 
 -- ---- a value by cases

@@ -14,14 +14,15 @@ use Rattle.wi_sheet.proofs.Members.{IsIn, in_contained, contains_in}
 use Rattle.wi_sheet.proofs.SmallerWorlds.{content_below}
 use Rattle.wi_sheet.proofs.Demands.{demand_closed, demand_has_itself}
 
-case_path : (a b : ℕ) (v w : List Replacement) → a ≡ b → v ≡ w → ◌≡◌ {A = Case} (a, v) (b, w)
-case_path a b v w e f = ap (λ (n : ℕ). (n, v)) e ∙ ap (λ (x : List Replacement). (b, x)) f
+-- pairs with the same parts are one
+pub pair_path : {A B : Type 0} (a b : A) (c d : B) → a ≡ b → c ≡ d → ◌≡◌ {A = A × B} (a, c) (b, d)
+pair_path {A} {B} a b c d e f = ap (λ (x : A). (x, c)) e ∙ ap (λ (y : B). (b, y)) f
 
 -- cases that pass the test are one
 pub one_case : (k j : Case) → same_case k j ≡ true → k ≡ j
 one_case k j h =
     let x = and_parts (k.0 == j.0) (same_replacements k.1 j.1) h in
-    case_path k.0 j.0 k.1 j.1 (eqb-true k.0 j.0 x.0) ((same_replacements_Decides k.1 j.1).0 x.1)
+    pair_path k.0 j.0 k.1 j.1 (eqb-true k.0 j.0 x.0) ((same_replacements_Decides k.1 j.1).0 x.1)
 
 -- a case passes it with itself
 pub same_case-refl : (k : Case) → same_case k k ≡ true

@@ -9,6 +9,7 @@ use Rattle.std.proofs.lemmas.Bool.{leb-true, le-leb, le-ltb}
 use Rattle.wi_values.specs.Address.{Area, is_within}
 use Rattle.wi_values.proofs.Within.{within_between, places_left, fewer_places}
 use Rattle.wi_parser.specs.Sheet.{Sheet}
+use Rattle.wi_sheet.proofs.Filters.{alike_within, all_pass, all_fail}
 use Rattle.wi_sheet.proofs.InOrder.{from_first, none_pass}
 
 -- the occupied cells of a rectangle
@@ -20,23 +21,12 @@ abbrev pub cells_ahead : Sheet → Area → Option ℕ → List ℕ
 cells_ahead s r None = []
 cells_ahead s r (Some from) = filter (nat_le from) (occupied s r)
 
--- a test that each cell of the rectangle passes, one that none passes, and two that are one for them
+-- a test that each cell of the rectangle passes, and one that none passes
 all_within : (r : Area) (p : ℕ → Bool) → ((a : ℕ) → is_within r a ≡ true → p a ≡ true) → (xs : List ℕ) → filter p (filter (is_within r) xs) ≡ filter (is_within r) xs
-all_within r p h [] = refl
-all_within r p h (x ∷ xs) = at (is_within r x) refl (all_within r p h xs)
-  where
-    at : (b : Bool) → is_within r x ≡ b → filter p (filter (is_within r) xs) ≡ filter (is_within r) xs →
-        filter p (cond b (x ∷ filter (is_within r) xs) (filter (is_within r) xs)) ≡ cond b (x ∷ filter (is_within r) xs) (filter (is_within r) xs)
-    at true e ih = rw (h x e, ih) refl
-    at false e ih = ih
+all_within r p h xs = alike_within (is_within r) p (λ a. true) h xs ∙ all_pass (λ a. true) (λ a. refl) (filter (is_within r) xs)
 
 none_within : (r : Area) (p : ℕ → Bool) → ((a : ℕ) → is_within r a ≡ true → p a ≡ false) → (xs : List ℕ) → filter p (filter (is_within r) xs) ≡ []
-none_within r p h [] = refl
-none_within r p h (x ∷ xs) = at (is_within r x) refl (none_within r p h xs)
-  where
-    at : (b : Bool) → is_within r x ≡ b → filter p (filter (is_within r) xs) ≡ [] → filter p (cond b (x ∷ filter (is_within r) xs) (filter (is_within r) xs)) ≡ []
-    at true e ih = rw (h x e) ih
-    at false e ih = ih
+none_within r p h xs = alike_within (is_within r) p (λ a. false) h xs ∙ all_fail (λ a. false) (λ a. refl) (filter (is_within r) xs)
 
 -- at first all are ahead
 pub all_ahead : (s : Sheet) (r : Area) (found : List ℕ) → found ≡ [] → found ++ cells_ahead s r (Some r.first) ≡ occupied s r
@@ -56,19 +46,7 @@ after_cell s r cell None some none = sym (none_within r (nat_lt cell) (λ a w. l
   where
     passed : (a : ℕ) → a ≤ r.last → r.last ≤ cell → a ≤ cell
     passed a l m = omega arith
-after_cell s r cell (Some n) some none = same (keys_of s)
-  where
-    one : (a : ℕ) → nat_le n a ≡ nat_lt cell a
-    one a = ap (λ (k : ℕ). nat_le k a) (some.0 ∙ add-one cell)
-
-    same : (xs : List ℕ) → filter (nat_le n) (filter (is_within r) xs) ≡ filter (nat_lt cell) (filter (is_within r) xs)
-    same [] = refl
-    same (x ∷ xs) = at (is_within r x) (same xs)
-      where
-        at : (b : Bool) → filter (nat_le n) (filter (is_within r) xs) ≡ filter (nat_lt cell) (filter (is_within r) xs) →
-            filter (nat_le n) (cond b (x ∷ filter (is_within r) xs) (filter (is_within r) xs)) ≡ filter (nat_lt cell) (cond b (x ∷ filter (is_within r) xs) (filter (is_within r) xs))
-        at true ih = rw (one x, ih) refl
-        at false ih = ih
+after_cell s r cell (Some n) some none = alike_within (is_within r) (nat_le n) (nat_lt cell) (λ a w. ap (λ (k : ℕ). nat_le k a) (some.0 ∙ add-one cell)) (keys_of s)
 
 -- one is found
 pub one_ahead : (s : Sheet) (r : Area) (found new : List ℕ) (ahead next : Option ℕ) (from cell last : ℕ) → IsStrictlyIncreasing (keys_of s) → ahead ≡ Some from

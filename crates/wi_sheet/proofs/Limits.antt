@@ -10,7 +10,7 @@ use Rattle.wi_parser.specs.Sheet.{Sheet, content_of, put_all, has_formula}
 use Rattle.wi_graph.specs.Circular.{circular}
 use Rattle.wi_sheet.specs.Demand.{Case, case_of, of_formula, rests_on, demand}
 use Rattle.wi_sheet.proofs.SmallerWorlds.{content_below}
-use Rattle.wi_sheet.proofs.RestsStay.{rests_stay}
+use Rattle.wi_sheet.proofs.RestsUnder.{rests_stay}
 use Rattle.wi_sheet.proofs.Demands.{demand_by_step, demand_circular, demand_plain}
 
 by_content : (o : Option Content) (ks : List Case) (f : Tree → List Case) → (has_formula o ≡ false → ks ≡ []) → ((t : Tree) → o ≡ Some (Formula t) → ks ≡ f t) → ks ≡ of_formula o [] f

@@ -1,8 +1,8 @@
 -- The occupied cells that a formula reads, as a list.
-use Rattle.std.proofs.Common.{◌≡◌, ◌==◌, ℕ, ◌||◌, ◌&&◌, Bool, true, false, cond, List, [], ◌∷◌, filter, Option, Some, None, refl, ap, sym, ◌∙◌}
+use Rattle.std.proofs.Common.{◌≡◌, ◌==◌, ℕ, ◌||◌, ◌&&◌, Bool, true, false, List, [], ◌∷◌, filter, Option, Some, None, refl, ap, sym, ◌∙◌}
 use Rattle.std.proofs.lemmas.Bool.{and_parts}
 use Rattle.std.proofs.lemmas.List.Folds.{list_any-append}
-use Rattle.std.proofs.Math.Bool.{and-true, and-false}
+use Rattle.std.proofs.Math.Bool.{and-true}
 use Rattle.std.specs.List.{list_any, flat_map}
 use Rattle.std.specs.Map.{keys_of}
 use Rattle.wi_values.specs.Address.{Area, is_within}
@@ -12,23 +12,9 @@ use Rattle.wi_parser.specs.Sheet.{Sheet, content_of, has_formula}
 use Rattle.wi_parser.specs.Reads.{content_reads, rectangles_of}
 use Rattle.wi_parser.proofs.Rectangles.{reads_within}
 use Rattle.wi_graph.proofs.Layers.{is_one_of}
-use Rattle.wi_graph.proofs.Walks.{same_cell, formula_cell}
+use Rattle.wi_graph.proofs.Walks.{formula_cell}
 use Rattle.wi_sheet.specs.Inner.ReadCells.{rectangles_in, occupied_within}
-
--- a cell is among those that pass a test exactly where it passes and is among all
-in_filter : (p : ℕ → Bool) (xs : List ℕ) (a : ℕ) → is_one_of (filter p xs) a ≡ (p a && is_one_of xs a)
-in_filter p [] a = sym (and-false (p a))
-in_filter p (x ∷ xs) a = by (p x) (x == a) refl refl (in_filter p xs a)
-  where
-    by : (b d : Bool) → p x ≡ b → (x == a) ≡ d → is_one_of (filter p xs) a ≡ (p a && is_one_of xs a) → is_one_of (cond b (x ∷ filter p xs) (filter p xs)) a ≡ (p a && (d || is_one_of xs a))
-    by true true e f ih =
-        ap (λ (c : Bool). c || is_one_of (filter p xs) a) f
-        ∙ sym (and-true (p a) ∙ sym (ap p (same_cell a x f)) ∙ e)
-    by true false e f ih = ap (λ (c : Bool). c || is_one_of (filter p xs) a) f ∙ ih
-    by false true e f ih =
-        let no = sym (ap p (same_cell a x f)) ∙ e in
-        ih ∙ ap (λ (c : Bool). c && is_one_of xs a) no ∙ sym (ap (λ (c : Bool). c && true) no)
-    by false false e f ih = ih
+use Rattle.wi_sheet.proofs.Filters.{in_filter}
 
 shared : (x y m : Bool) → ((x && m) || (y && m)) ≡ ((x || y) && m)
 shared true y true = refl

@@ -10,14 +10,14 @@ use Rattle.wi_functions.specs.Counts.{Counts}
 use Rattle.wi_cache.specs.declared.key.Key.{Key}
 use Rattle.wi_sheet.specs.Demand.{Case, same_case, of_formula, formulas_read_here, what_ifs_of, wants}
 use Rattle.wi_sheet.specs.Inner.Spending.{NeverFall, Table, cost, left, plus}
-use Rattle.wi_sheet.proofs.Counting.{left_falls, left_at_keep}
+use Rattle.wi_sheet.proofs.CaseCosts.{left_falls, left_at_keep}
 use Rattle.wi_sheet.specs.Inner.Rank.{reach_rank}
 use Rattle.wi_engine.specs.Inner.MemoState.{MemoState}
 use Rattle.wi_engine.specs.Inner.Attempt.{lacking}
 use Rattle.wi_engine.specs.Inner.Frames.{case_at, IsStack, taken, frame_cost, frames_cost, at_most, spare, waits}
 use Rattle.wi_engine.specs.declared.frame.Frame.{Frame}
 use Rattle.wi_engine.specs.declared.frame.Waiting.TheVariants.{Nothing}
-use Rattle.wi_engine.proofs.attempt.Lacks.{lacking_at_most}
+use Rattle.wi_engine.proofs.attempt.LackingCounts.{lacking_at_most}
 use Rattle.wi_engine.proofs.engine.Stacks.{other_case}
 
 -- ---- what is taken

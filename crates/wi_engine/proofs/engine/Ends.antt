@@ -7,18 +7,19 @@ use Rattle.wi_functions.specs.Counts.{Counts, one_more}
 use Rattle.wi_cache.specs.declared.key.Key.{Key}
 use Rattle.wi_sheet.specs.Demand.{Case}
 use Rattle.wi_sheet.specs.Inner.Spending.{NeverFall}
-use Rattle.wi_sheet.proofs.Counting.{never_fall-same, never_fall-then}
+use Rattle.wi_sheet.proofs.CaseCosts.{never_fall-same, never_fall-then}
 use Rattle.wi_engine.specs.Inner.MemoState.{MemoState, IsMemoOf}
-use Rattle.wi_engine.specs.Inner.Frames.{case_at, IsToFind}
+use Rattle.wi_engine.specs.Inner.Frames.{case_at, IsUnvaluedKey}
 use Rattle.wi_engine.specs.Inner.Saving.{WhereRoom, TakesPlaces, TakesNoMore, GivesUpWhenFull}
 use Rattle.wi_engine.specs.Inner.Keeps.{Keeps, HasKept}
 use Rattle.wi_engine.specs.Inner.Spends.{IsSameBeside, Spends}
 use Rattle.wi_engine.specs.Inner.Steps.{FrameCounts, FrameTakes, IsFrameValue}
 use Rattle.wi_engine.specs.declared.frame.Frame.{Frame}
-use Rattle.wi_engine.proofs.Saved.{takes_then, gives_up_none, gives_up_then}
-use Rattle.wi_engine.proofs.Spent.{spends_err}
-use Rattle.wi_engine.proofs.engine.Running.{IsRunning, IsNew, GoesDeeper, ComesBack, run_start, run_keeps, run_deeper, run_back, run_take, run_stops, run_ends}
-use Rattle.wi_engine.proofs.engine.Saving.{IsSaving, by_kept, saving_start, saving_deeper, saving_back, saving_take, saving_kept, saving_saved, saving_ends}
+use Rattle.wi_engine.proofs.Places.{takes_then, gives_up_none, gives_up_then}
+use Rattle.wi_engine.proofs.Ledger.{spends_err}
+use Rattle.wi_engine.proofs.engine.Stacks.{run_keeps}
+use Rattle.wi_engine.proofs.engine.FrameRuns.{IsRunning, IsNew, GoesDeeper, ComesBack, run_start, run_deeper, run_back, run_take, run_stops, run_ends}
+use Rattle.wi_engine.proofs.engine.RunsWithRoom.{IsSaving, by_kept, saving_start, saving_deeper, saving_back, saving_take, saving_kept, saving_saved, saving_ends}
 
 -- what is so all the way
 pub record IsGoing (s : Sheet) (old m : MemoState) (root : Case) (start now : Counts) (fs : List Frame) (f : Frame) : Type 0 where
@@ -59,24 +60,24 @@ turn_same {s} {m} {n} {f} {now} {next} h e counts =
     rw e alone
 
 -- one that keeps the frame's value
-pub turn_kept : {s : Sheet} {m a n : MemoState} {f : Frame} {k : Key} {v : Value} {now next : Counts} → IsMemoOf s m → a ≡ m → k ≡ f.key → IsFrameValue s m f v → Keeps a n k v → FrameCounts s f now next true → next.evaluations ≡ one_more now.evaluations → IsTurn s m n f now next
-turn_kept {s} {m} {a} {n} {f} {k} {v} {now} {next} h e ek is there counts ev =
+pub turn_kept : {s : Sheet} {m a n : MemoState} {f : Frame} {k : Key} {v : Value} {now next : Counts} → IsMemoOf s m → a ≡ m → k ≡ f.key → IsFrameValue s m f v × (next.evaluations ≡ one_more now.evaluations) → Keeps a n k v → FrameCounts s f now next true → IsTurn s m n f now next
+turn_kept {s} {m} {a} {n} {f} {k} {v} {now} {next} h e ek gives there counts =
     let keeps : Keeps m n f.key v = rw (e, ek) at there in
     record {
-      right = run_keeps s m n f.key v h keeps is.value;
+      right = run_keeps s m n f.key v h keeps gives.0.value;
       same = keeps.same;
       counts = counts;
-      places = takes_one m n now.evaluations next.evaluations keeps.places ev;
+      places = takes_one m n now.evaluations next.evaluations keeps.places gives.1;
       gives_up = keeps.gives_up;
     }
 
 -- and by which the frame comes to its end
-pub comes_back : {s : Sheet} {m a n : MemoState} {f : Frame} {k : Key} {v : Value} {now next : Counts} → a ≡ m → k ≡ f.key → Keeps a n k v → HasKept a n k → IsFrameValue s m f v → FrameCounts s f now next true → next.evaluations ≡ one_more now.evaluations → ComesBack s m n now next f v
-comes_back e ek keeps kept value counts evaluations = record { keeps = rw (e, ek) at keeps; kept = rw (e, ek) at kept; value = value; counts = counts; evaluations = evaluations }
+pub comes_back : {s : Sheet} {m a n : MemoState} {f : Frame} {k : Key} {v : Value} {now next : Counts} → a ≡ m → k ≡ f.key → Keeps a n k v → HasKept a n k → IsFrameValue s m f v × (next.evaluations ≡ one_more now.evaluations) → FrameCounts s f now next true → ComesBack s m n now next f v
+comes_back e ek keeps kept gives counts = record { keeps = rw (e, ek) at keeps; kept = rw (e, ek) at kept; value = gives.0; counts = counts; evaluations = gives.1 }
 
 -- ---- all the way
 
-pub going_start : {s : Sheet} {m : MemoState} {k : Key} {f : Frame} (now : Counts) → IsMemoOf s m → IsToFind s m k → IsNew s f k → IsGoing s m m (case_at k) now now [] f
+pub going_start : {s : Sheet} {m : MemoState} {k : Key} {f : Frame} (now : Counts) → IsMemoOf s m → IsUnvaluedKey s m k → IsNew s f k → IsGoing s m m (case_at k) now now [] f
 going_start {s} {m} {k} {f} now h key new = record {
   running = run_start s m k f now h key.key key.unfound new;
   same = same_itself m;

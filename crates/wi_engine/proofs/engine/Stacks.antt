@@ -10,8 +10,9 @@ use Rattle.wi_cache.specs.declared.key.Key.{Key}
 use Rattle.wi_sheet.specs.CellValue.{cell_value}
 use Rattle.wi_sheet.specs.Demand.{Case, same_case}
 use Rattle.wi_sheet.specs.Inner.Rank.{reach_rank}
-use Rattle.wi_engine.specs.Inner.MemoState.{MemoState, IsTold, IsMemoOf, AreKnownRight, IsClosedUnderReads}
+use Rattle.wi_engine.specs.Inner.MemoState.{MemoState, IsMemoOf, AreKnownRight, IsClosedUnderReads}
 use Rattle.wi_engine.specs.Inner.Frames.{case_at, IsFrame, IsBegun, IsNext, IsDemanded, AreBelow, IsStack, BottomIs}
+use Rattle.wi_engine.specs.Inner.Keeps.{Keeps}
 use Rattle.wi_engine.specs.declared.frame.Frame.{Frame}
 
 -- ---- ranks fall from the bottom to the top
@@ -102,14 +103,12 @@ right_kept s known after k v e h r = λ c w. at c w (after c w) (e c w)
     at c w None g = tt
     at c w (Some x) g = of c w x g
 
-pub kept_state : (s : Sheet) (m n : MemoState) (k : Key) (v : Value) → IsMemoOf s m → n.sheet ≡ m.sheet → n.covers ≡ m.covers →
-    ((c : ℕ) (w : List Replacement) → IfSome (n.known c w) (λ x. (m.known c w ≡ Some x) ⊎ ((c ≡ k.cell) × (w ≡ k.world) × (x ≡ v)))) → v ≡ cell_value (put_all s k.world) k.cell →
-    IsTold n → IsMemoOf s n
-kept_state s m n k v h es ec e is told = record {
-  sheet = es ∙ h.sheet;
-  right = right_kept s m.known n.known k v e is h.right;
-  closed = subst (λ (covers : ℕ → Bool). IsClosedUnderReads s covers) (sym ec) h.closed;
-  told = told;
+pub run_keeps : (s : Sheet) (m n : MemoState) (k : Key) (v : Value) → IsMemoOf s m → Keeps m n k v → v ≡ cell_value (put_all s k.world) k.cell → IsMemoOf s n
+run_keeps s m n k v h keeps is = record {
+  sheet = keeps.sheet ∙ h.sheet;
+  right = right_kept s m.known n.known k v keeps.known is h.right;
+  closed = subst (λ (covers : ℕ → Bool). IsClosedUnderReads s covers) (sym keeps.same.covers) h.closed;
+  told = keeps.told;
 }
 
 -- ---- a new frame, and the same frame with more values

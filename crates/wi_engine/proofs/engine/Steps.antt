@@ -10,22 +10,20 @@ use Rattle.wi_functions.specs.Counts.{Counts, one_more}
 use Rattle.wi_functions.specs.declared.evaluation.Want.{Want}
 use Rattle.wi_functions.specs.declared.evaluation.Want.TheVariants as wanted
 use Rattle.wi_cache.specs.declared.key.Key.{Key}
-use Rattle.wi_sheet.specs.CellValue.{cell_value}
 use Rattle.wi_sheet.specs.Inner.Spending.{NeverFall}
-use Rattle.wi_sheet.proofs.Counting.{never_fall-same, never_fall-then}
+use Rattle.wi_sheet.proofs.CaseCosts.{never_fall-same, never_fall-then}
 use Rattle.wi_engine.specs.Inner.MemoState.{MemoState, IsMemoOf}
 use Rattle.wi_engine.specs.Inner.Findings.{found_value, IsWithCell, IsWithWhatIf}
 use Rattle.wi_engine.specs.Inner.Attempt.{AsksAt, IsLacking}
 use Rattle.wi_engine.specs.Inner.Frames.{content_reads_here, IsFrame, lacks, spare, waits}
-use Rattle.wi_engine.specs.Inner.Saving.{NeedsNoEvaluation}
-use Rattle.wi_engine.specs.Inner.Steps.{FrameSteps, FrameCounts, FrameWaits, IsWorldWith}
+use Rattle.wi_engine.specs.Inner.Steps.{FrameSteps, FrameCounts, FrameWaits, IsShownNow, IsWorldWith}
 use Rattle.wi_engine.specs.declared.findings.FoundWhatIf.{FoundWhatIf}
 use Rattle.wi_engine.specs.declared.frame.Frame.{Frame}
 use Rattle.wi_engine.specs.declared.frame.Waiting.{Waiting}
 use Rattle.wi_engine.specs.declared.frame.Waiting.TheVariants.{Nothing, Cells, WhatIf}
-use Rattle.wi_engine.proofs.engine.Awaiting.{cell_falls, frame_with, what_if_falls}
-use Rattle.wi_engine.proofs.engine.FoundSettled.{IsSettledFor, frame_cell, frame_what_if, settled_again, settled_now}
-use Rattle.wi_engine.proofs.engine.Settling.{cell_found_frame, frame_waits, one_more_at_most, spare_falls, want_lacks, what_if_found_frame, what_if_right}
+use Rattle.wi_engine.proofs.engine.Waits.{cell_falls, frame_with, what_if_falls}
+use Rattle.wi_engine.proofs.engine.SettledFindings.{IsSettledFor, frame_cell, frame_what_if, settled_again, settled_now}
+use Rattle.wi_engine.proofs.engine.NextValues.{cell_found_frame, frame_waits, one_more_at_most, spare_falls, want_lacks, what_if_found_frame, what_if_right}
 
 -- ---- none, and one after another
 
@@ -106,13 +104,13 @@ module _ {s : Sheet} {m n l : MemoState} {f g h : Frame} {i : ℕ} (a : FrameSte
 
   -- a cell's value more
   pub steps_cell : {c : ℕ} {v : Value} → IsMemoOf s m → h.key ≡ g.key → h.formula.now ≡ g.formula.now → h.waiting ≡ Nothing → IsWithCell g.found h.found c v → found_value g.found c ≡ None →
-      content_reads_here (content_of (put_all s g.key.world) g.key.cell) c ≡ true → has_formula (content_of s c) ≡ true → v ≡ cell_value (put_all s g.key.world) c → NeedsNoEvaluation s n g.key.world c → FrameSteps s m l f h (i + 1) true
-  steps_cell {c} {v} memo key formula waiting more lacking read stands is there = record {
+      content_reads_here (content_of (put_all s g.key.world) g.key.cell) c ≡ true → has_formula (content_of s c) ≡ true → IsShownNow s n g.key.world c v → FrameSteps s m l f h (i + 1) true
+  steps_cell {c} {v} memo key formula waiting more lacking read stands shown = record {
     same = e ∙ a.same;
     key = key ∙ a.key;
-    frame = λ d. cell_found_frame s m g h c v (a.frame refl) key formula waiting more is;
+    frame = λ d. cell_found_frame s m g h c v (a.frame refl) key formula waiting more shown.value;
     settled = λ d whole k.
-        let now = settled_now s m n g.key.world c memo a.same whole there in
+        let now = settled_now s m n g.key.world c memo a.same whole shown.easy in
         subst (λ (x : Key). IsSettledFor s m.kept x h.found) (sym key) (frame_cell s m.kept g h.found c v more now (a.settled refl whole k));
     fewer = λ d.
         let less = cell_falls s g.key g.found h.found c v more lacking read stands in
@@ -121,14 +119,14 @@ module _ {s : Sheet} {m n l : MemoState} {f g h : Frame} {i : ℕ} (a : FrameSte
 
 -- a what-if's value more
 pub steps_what_if : {s : Sheet} {m n l : MemoState} {f h : Frame} {x : FoundWhatIf} {ps : List Pair} {world : List Replacement} → IsMemoOf s m → n ≡ m → l ≡ n → IsFrame s m f → f.waiting ≡ Nothing → h.key ≡ f.key → h.formula.now ≡ f.formula.now → h.waiting ≡ Nothing → IsWithWhatIf f.found h.found x →
-    IsLacking s f.key.world f.found (wanted.WhatIf x.at x.pairs) → AsksAt s f.key.world f.key.cell (wanted.WhatIf x.at x.pairs) → ps ≡ x.pairs.items → IsWorldWith s m f.key.world ps world → IsInOrder f.key.world → x.value ≡ cell_value (put_all s world) x.at → NeedsNoEvaluation s n world x.at →
+    IsLacking s f.key.world f.found (wanted.WhatIf x.at x.pairs) → AsksAt s f.key.world f.key.cell (wanted.WhatIf x.at x.pairs) → ps ≡ x.pairs.items → IsWorldWith s m f.key.world ps world → IsInOrder f.key.world → IsShownNow s n world x.at x.value →
     FrameSteps s m l f h 1 true
-steps_what_if {s} {m} {n} {l} {f} {h} {x} {ps} {world} memo e el is nothing key formula waiting more lacking asks pairs put order value there = record {
+steps_what_if {s} {m} {n} {l} {f} {h} {x} {ps} {world} memo e el is nothing key formula waiting more lacking asks pairs put order shown = record {
   same = el ∙ e;
   key = key;
-  frame = λ d. what_if_found_frame s m f h x is key formula waiting more (what_if_right s world f.key.world x.at x.pairs.items ps x.value order pairs put.world value);
+  frame = λ d. what_if_found_frame s m f h x is key formula waiting more (what_if_right s world f.key.world x.at x.pairs.items ps x.value order pairs put.world shown.value);
   settled = λ d whole k.
-      let now = settled_now s m n world x.at memo e whole there in
+      let now = settled_now s m n world x.at memo e whole shown.easy in
       subst (λ (j : Key). IsSettledFor s m.kept j h.found) (sym key) (frame_what_if s m.kept f h.found x world ps more asks pairs put.world (put.settled whole) now k);
   fewer = λ d.
       let less = what_if_falls s f.key f.found h.found x more asks lacking in

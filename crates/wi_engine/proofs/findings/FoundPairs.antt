@@ -3,11 +3,9 @@ use Rattle.std.proofs.Common.{◌≡◌, ◌==◌, ℕ, ◌++◌, ◌&&◌, Bool
 use Rattle.std.proofs.lemmas.Bool.{and_from, and_parts, eqb-true}
 use Rattle.std.specs.Option.{option_or}
 use Rattle.wi_values.specs.declared.value.Value.{Value}
+use Rattle.wi_sheet.proofs.Cases.{pair_path}
 use Rattle.wi_engine.specs.Inner.Findings.{same_pairs, pairs_of, first_for}
 use Rattle.wi_engine.specs.declared.findings.FoundWhatIf.{FoundWhatIf}
-
-pair_path : (a b c d : ℕ) → a ≡ b → c ≡ d → ◌≡◌ {A = ℕ × ℕ} (a, c) (b, d)
-pair_path a b c d e f = ap (λ (n : ℕ). (n, c)) e ∙ ap (λ (n : ℕ). (b, n)) f
 
 pub same_lists : (ps qs : List (ℕ × ℕ)) → same_pairs ps qs ≡ true → ps ≡ qs
 same_lists [] [] h = refl

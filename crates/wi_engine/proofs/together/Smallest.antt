@@ -1,9 +1,10 @@
 -- The smallest of those in a list that pass a test.
-use Rattle.std.proofs.Common.{◌≡◌, ◌≤◌, ◌<◌, ◌||◌, inl, inr, ℕ, Bool, true, false, if◌then◌else◌, List, [], ◌∷◌, drop, length, Option, Some, None, refl, ap, sym, ◌∙◌, arith}
+use Rattle.std.proofs.Common.{◌≡◌, ◌≤◌, ◌||◌, ◌⊎◌, inl, inr, ℕ, Bool, true, false, List, [], ◌∷◌, drop, length, Option, Some, None, IfSome, refl, ap, sym, ◌∙◌, subst, arith, true≢false, if◌then◌else◌}
 use Rattle.std.specs.Prelude.{nat_lt}
 use Rattle.std.specs.List.{list_any}
 use Rattle.std.proofs.Math.ListN.{drop_of_length-le}
 use Rattle.std.proofs.lemmas.Bool.{ltb-true, ltb-false}
+use Rattle.std.proofs.lemmas.Option.{IfSome_then}
 use Rattle.wi_values.specs.Address.{Area, is_within, size_of}
 use Rattle.wi_sheet.proofs.Members.{IsIn, in_contained, contains_in}
 use Rattle.wi_engine.specs.Inner.Courses.{IsSmallestWith}
@@ -18,99 +19,84 @@ abbrev pub least_from : (Area → Bool) → (Area → ℕ) → Option Area → L
 least_from p n kept [] = kept
 least_from p n kept (x ∷ xs) = if p x then least_from p n (Some (lesser n kept x)) xs else least_from p n kept xs
 
-record IsLeast (p : Area → Bool) (n : Area → ℕ) (xs : List Area) (l : Area) : Type 0 where
-  pub one : IsIn xs l
-  pub pass : p l ≡ true
+record IsLesser (n : Area → ℕ) (kept : Option Area) (x l : Area) : Type 0 where
+  pub one : (kept ≡ Some l) ⊎ (x ≡ l)
+  pub first : n l ≤ n x
+  pub below : IfSome kept (λ k. n l ≤ n k)
+
+lesser_is : (n : Area → ℕ) (kept : Option Area) (x : Area) → IsLesser n kept x (lesser n kept x)
+lesser_is n None x = record { one = inr refl; first = omega arith; below = tt }
+lesser_is n (Some k) x = at (nat_lt (n x) (n k)) refl
+  where
+    at : (b : Bool) → nat_lt (n x) (n k) ≡ b → IsLesser n (Some k) x (if b then x else k)
+    at true e = record { one = inr refl; first = omega arith; below = let l = ltb-true (n x) (n k) e in omega (arith, l) }
+    at false e = record { one = inl refl; first = ltb-false (n x) (n k) e; below = omega arith }
+
+-- it is what was kept, or one of those that pass, and none of these is smaller
+record IsLeast (p : Area → Bool) (n : Area → ℕ) (kept : Option Area) (xs : List Area) (l : Area) : Type 0 where
+  pub one : (kept ≡ Some l) ⊎ (IsIn xs l × (p l ≡ true))
   pub least : (o : Area) → IsIn xs o → p o ≡ true → n l ≤ n o
+  pub below : IfSome kept (λ k. n l ≤ n k)
 
--- one that doesn't pass changes nothing
-skipped : (p : Area → Bool) (n : Area → ℕ) (x : Area) (xs : List Area) (l : Area) → p x ≡ false → IsLeast p n xs l → IsLeast p n (x ∷ xs) l
-skipped p n x xs l e h = record { one = inr h.one; pass = h.pass; least = least }
+least_is : (p : Area → Bool) (n : Area → ℕ) (kept : Option Area) (xs : List Area) (l : Area) → least_from p n kept xs ≡ Some l → IsLeast p n kept xs l
+least_is p n kept [] l h = record { one = inl h; least = λ o m t. absurd m; below = subst (λ (o : Option Area). IfSome o (λ k. n l ≤ n k)) (sym h) (omega arith) }
+least_is p n kept (x ∷ xs) l h = at (p x) refl h (least_is p n (Some (lesser n kept x)) xs l) (least_is p n kept xs l)
   where
-    least : (o : Area) → IsIn (x ∷ xs) o → p o ≡ true → n l ≤ n o
-    least o (inl same) t = let no_pass : false ≡ true = sym e ∙ ap p same ∙ t in cc
-    least o (inr m) t = h.least o m t
+    lesser_here : IsLesser n kept x (lesser n kept x)
+    lesser_here = lesser_is n kept x
 
--- nor does one kept that another is below
-passed_over : (p : Area → Bool) (n : Area → ℕ) (k x : Area) (xs : List Area) (l : Area) → p x ≡ true → n x < n k → IsLeast p n (x ∷ xs) l → IsLeast p n (k ∷ x ∷ xs) l
-passed_over p n k x xs l e below h = record { one = inr h.one; pass = h.pass; least = least }
-  where
-    least : (o : Area) → IsIn (k ∷ x ∷ xs) o → p o ≡ true → n l ≤ n o
-    least o (inl same) t =
-        let low : n l ≤ n x = h.least x (inl refl) e in
-        let size : n k ≡ n o = ap n same in
-        omega (arith, low, size, below)
-    least o (inr m) t = h.least o m t
+    which : p x ≡ true → (kept ≡ Some l) ⊎ (x ≡ l) → (kept ≡ Some l) ⊎ (IsIn (x ∷ xs) l × (p l ≡ true))
+    which e (inl k) = inl k
+    which e (inr k) = inr (inl k, ap p (sym k) ∙ e)
 
--- nor one after it that doesn't pass, or isn't below it
-not_below : (p : Area → Bool) (n : Area → ℕ) (k x : Area) (xs : List Area) (l : Area) → p k ≡ true → (p x ≡ true → n k ≤ n x) → IsLeast p n (k ∷ xs) l → IsLeast p n (k ∷ x ∷ xs) l
-not_below p n k x xs l e above h = record { one = one h.one; pass = h.pass; least = least }
-  where
-    one : IsIn (k ∷ xs) l → IsIn (k ∷ x ∷ xs) l
-    one (inl same) = inl same
-    one (inr m) = inr (inr m)
+    one : p x ≡ true → (Some (lesser n kept x) ≡ Some l) ⊎ (IsIn xs l × (p l ≡ true)) → (kept ≡ Some l) ⊎ (IsIn (x ∷ xs) l × (p l ≡ true))
+    one e (inl k) = let same : lesser n kept x ≡ l = cc in which e (subst (λ (y : Area). IsLesser n kept x y) same lesser_here).one
+    one e (inr k) = inr (inr k.0, k.1)
 
-    least : (o : Area) → IsIn (k ∷ x ∷ xs) o → p o ≡ true → n l ≤ n o
-    least o (inl same) t = h.least o (inl same) t
-    least o (inr (inl same)) t =
-        let low : n l ≤ n k = h.least k (inl refl) e in
-        let size : n x ≡ n o = ap n same in
-        let high : n k ≤ n x = above (ap p same ∙ t) in
-        omega (arith, low, size, high)
-    least o (inr (inr m)) t = h.least o (inr m) t
+    no_more : n l ≤ n (lesser n kept x) → ((o : Area) → IsIn xs o → p o ≡ true → n l ≤ n o) → (o : Area) → IsIn (x ∷ xs) o → p o ≡ true → n l ≤ n o
+    no_more low rest o (inl same) t = let size : n x ≡ n o = ap n same in let first = lesser_here.first in omega (arith, low, first, size)
+    no_more low rest o (inr m) t = rest o m t
 
-from_kept : (p : Area → Bool) (n : Area → ℕ) (k : Area) (xs : List Area) (l : Area) → p k ≡ true → least_from p n (Some k) xs ≡ Some l → IsLeast p n (k ∷ xs) l
-from_kept p n k [] l e h = let same : k ≡ l = cc in record {
-  one = inl same;
-  pass = ap p (sym same) ∙ e;
-  least = only same;
-}
-  where
-    only : k ≡ l → (o : Area) → IsIn (k ∷ []) o → p o ≡ true → n l ≤ n o
-    only same o (inl other) t = let size : n l ≡ n o = ap n (sym same ∙ other) in omega (arith, size)
-    only same o (inr m) t = absurd m
-from_kept p n k (x ∷ xs) l e h = by (p x) refl h (nat_lt (n x) (n k)) refl (λ o. from_kept p n o xs l)
-  where
-    by : (b : Bool) → p x ≡ b → (if b then least_from p n (Some (if nat_lt (n x) (n k) then x else k)) xs else least_from p n (Some k) xs) ≡ Some l
-        → (c : Bool) → nat_lt (n x) (n k) ≡ c → ((o : Area) → p o ≡ true → least_from p n (Some o) xs ≡ Some l → IsLeast p n (o ∷ xs) l) → IsLeast p n (k ∷ x ∷ xs) l
-    by true f h true g later = passed_over p n k x xs l f (ltb-true (n x) (n k) g) (later x f (ap (λ (b : Bool). least_from p n (Some (if b then x else k)) xs) (sym g) ∙ h))
-    by true f h false g later = not_below p n k x xs l e (λ t. ltb-false (n x) (n k) g) (later k e (ap (λ (b : Bool). least_from p n (Some (if b then x else k)) xs) (sym g) ∙ h))
-    by false f h c g later = not_below p n k x xs l e (λ t. let no_pass : false ≡ true = sym f ∙ t in cc) (later k e h)
+    skipped : p x ≡ false → ((o : Area) → IsIn xs o → p o ≡ true → n l ≤ n o) → (o : Area) → IsIn (x ∷ xs) o → p o ≡ true → n l ≤ n o
+    skipped e rest o (inl same) t = absurd (true≢false (sym t ∙ ap p (sym same) ∙ e))
+    skipped e rest o (inr m) t = rest o m t
 
-from_none : (p : Area → Bool) (n : Area → ℕ) (xs : List Area) (l : Area) → least_from p n None xs ≡ Some l → IsLeast p n xs l
-from_none p n [] l h = cc
-from_none p n (x ∷ xs) l h = by (p x) refl h (from_none p n xs l)
-  where
-    by : (b : Bool) → p x ≡ b → (if b then least_from p n (Some x) xs else least_from p n None xs) ≡ Some l
-        → (least_from p n None xs ≡ Some l → IsLeast p n xs l) → IsLeast p n (x ∷ xs) l
-    by true e h later = from_kept p n x xs l e h
-    by false e h later = skipped p n x xs l e (later h)
+    also : (kept ≡ Some l) ⊎ (IsIn xs l × (p l ≡ true)) → (kept ≡ Some l) ⊎ (IsIn (x ∷ xs) l × (p l ≡ true))
+    also (inl k) = inl k
+    also (inr k) = inr (inr k.0, k.1)
+
+    at : (b : Bool) → p x ≡ b → (if b then least_from p n (Some (lesser n kept x)) xs else least_from p n kept xs) ≡ Some l → (least_from p n (Some (lesser n kept x)) xs ≡ Some l → IsLeast p n (Some (lesser n kept x)) xs l) →
+        (least_from p n kept xs ≡ Some l → IsLeast p n kept xs l) → IsLeast p n kept (x ∷ xs) l
+    at true e k here beside =
+        let i = here k in
+        let low : n l ≤ n (lesser n kept x) = i.below in
+        record { one = one e i.one; least = no_more low i.least; below = IfSome_then kept lesser_here.below (λ y m. omega (arith, m, low)) }
+    at false e k here beside = let i = beside k in record { one = also i.one; least = skipped e i.least; below = i.below }
 
 -- ---- rectangles
 
 pub smallest : (rs : List Area) (a : ℕ) (r : Area) → least_from (λ (o : Area). is_within o a) size_of None rs ≡ Some r → IsSmallestWith rs a r
 smallest rs a r h =
-    let l : IsLeast (λ (o : Area). is_within o a) size_of rs r = from_none (λ (o : Area). is_within o a) size_of rs r h in
-    record { one_of = contains_in rs r l.one; holds = l.pass; least = λ o m t. l.least o (in_contained rs o m) t }
-
--- one is found where one is kept, or passes
-kept_some : (p : Area → Bool) (n : Area → ℕ) (xs : List Area) (k : Area) → least_from p n (Some k) xs ≡ None → ⊥
-kept_some p n [] k h = cc
-kept_some p n (x ∷ xs) k h = by (p x) h (kept_some p n xs)
+    let l : IsLeast (λ (o : Area). is_within o a) size_of None rs r = least_is (λ (o : Area). is_within o a) size_of None rs r h in
+    let one = of l.one in
+    record { one_of = contains_in rs r one.0; holds = one.1; least = λ o m t. l.least o (in_contained rs o m) t }
   where
-    by : (b : Bool) → (if b then least_from p n (Some (if nat_lt (n x) (n k) then x else k)) xs else least_from p n (Some k) xs) ≡ None
-        → ((o : Area) → least_from p n (Some o) xs ≡ None → ⊥) → ⊥
-    by true h later = later (if nat_lt (n x) (n k) then x else k) h
-    by false h later = later k h
+    of : (None ≡ Some r) ⊎ (IsIn rs r × (is_within r a ≡ true)) → IsIn rs r × (is_within r a ≡ true)
+    of (inl k) = absurd (let z = k in cc)
+    of (inr k) = k
+
+-- where none is found none passes
+none_least : (p : Area → Bool) (n : Area → ℕ) (kept : Option Area) (xs : List Area) → least_from p n kept xs ≡ None → (kept ≡ None) × (list_any p xs ≡ false)
+none_least p n kept [] h = (h, refl)
+none_least p n kept (x ∷ xs) h = at (p x) h (none_least p n (Some (lesser n kept x)) xs) (none_least p n kept xs)
+  where
+    at : (b : Bool) → (if b then least_from p n (Some (lesser n kept x)) xs else least_from p n kept xs) ≡ None → (least_from p n (Some (lesser n kept x)) xs ≡ None → (Some (lesser n kept x) ≡ None) × (list_any p xs ≡ false)) →
+        (least_from p n kept xs ≡ None → (kept ≡ None) × (list_any p xs ≡ false)) → (kept ≡ None) × ((b || list_any p xs) ≡ false)
+    at true k here beside = absurd (let z = (here k).0 in cc)
+    at false k here beside = beside k
 
 pub some_least : (p : Area → Bool) (n : Area → ℕ) (xs : List Area) → list_any p xs ≡ true → least_from p n None xs ≡ None → ⊥
-some_least p n [] e h = cc
-some_least p n (x ∷ xs) e h = by (p x) refl h (some_least p n xs)
-  where
-    by : (b : Bool) → p x ≡ b → (if b then least_from p n (Some x) xs else least_from p n None xs) ≡ None
-        → (list_any p xs ≡ true → least_from p n None xs ≡ None → ⊥) → ⊥
-    by true f h later = kept_some p n xs x h
-    by false f h later = later (ap (λ (b : Bool). b || list_any p xs) (sym f) ∙ e) h
+some_least p n xs e h = true≢false (sym e ∙ (none_least p n None xs h).1)
 
 -- what is kept after all is the smallest of all
 pub after_all : (p : Area → Bool) (n : Area → ℕ) (xs : List Area) (i : ℕ) (kept : Option Area) → length xs ≤ i

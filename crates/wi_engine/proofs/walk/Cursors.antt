@@ -1,70 +1,18 @@
 -- What a visit is still to look at.
-use Rattle.std.proofs.Common.{◌≡◌, ℕ, suc, ◌+◌, ◌<◌, Bool, true, false, cond, List, [], ◌∷◌, ◌++◌, length, get_or, filter, drop, Option, Some, None, IfSome, IfNone, refl, sym, ap, ◌∙◌, arith, append_assoc, append-nil}
-use Rattle.std.specs.Prelude.{nat_le}
-use Rattle.std.specs.List.{find}
-use Rattle.std.specs.List.Sorted.{IsStrictlyIncreasing}
-use Rattle.std.specs.Map.{keys_of}
+use Rattle.std.proofs.Common.{◌≡◌, ℕ, suc, ◌+◌, ◌<◌, List, [], ◌∷◌, ◌++◌, length, get_or, drop, Option, Some, None, refl, sym, ap, ◌∙◌, arith, append_assoc, append-nil}
 use Rattle.std.proofs.Math.Seq.{drop-cons}
-use Rattle.std.proofs.lemmas.List.Kept.{AllPairs-from_increasing, IsStrictlyIncreasing-filter}
-use Rattle.wi_values.specs.Address.{Area, is_within}
+use Rattle.wi_values.specs.Address.{Area}
 use Rattle.wi_parser.specs.Sheet.{Sheet, content_of}
-use Rattle.wi_sheet.specs.Inner.ReadCells.{rectangles_in, occupied_within, is_after, cells_after}
+use Rattle.wi_sheet.specs.Inner.ReadCells.{rectangles_in, occupied_within, cells_after}
 use Rattle.wi_engine.specs.Inner.Walk.{Task, Enter, Leave, cells_ahead, unread, begun, enters, tasks_at, tasks_in}
 use Rattle.wi_engine.specs.declared.walk.Visit.{Visit}
-use Rattle.wi_sheet.proofs.InOrder.{from_first, none_pass}
-
--- two tests that are one where a third passes
-alike_within : (w p q : ℕ → Bool) → ((a : ℕ) → w a ≡ true → p a ≡ q a) → (xs : List ℕ) → filter p (filter w xs) ≡ filter q (filter w xs)
-alike_within w p q h [] = refl
-alike_within w p q h (x ∷ xs) = at (w x) refl (alike_within w p q h xs)
-  where
-    at : (b : Bool) → w x ≡ b → filter p (filter w xs) ≡ filter q (filter w xs) → filter p (cond b (x ∷ filter w xs) (filter w xs)) ≡ filter q (cond b (x ∷ filter w xs) (filter w xs))
-    at true e ih = rw (h x e, ih) refl
-    at false e ih = ih
-
-no_more : (xs : List ℕ) → filter (λ a. false) xs ≡ []
-no_more [] = refl
-no_more (x ∷ xs) = no_more xs
-
-pub all_pass : (xs : List ℕ) → filter (is_after None) xs ≡ xs
-all_pass [] = refl
-all_pass (x ∷ xs) = ap (λ (ys : List ℕ). x ∷ ys) (all_pass xs)
-
--- ---- one rectangle
-
-pub next_some : (s : Sheet) (r : Area) (after : Option ℕ) (from c : ℕ) → IsStrictlyIncreasing (keys_of s) → ((a : ℕ) → is_within r a ≡ true → is_after after a ≡ nat_le from a) →
-    find (λ a. nat_le from a) (filter (is_within r) (keys_of s)) ≡ Some c → cells_after s r after ≡ c ∷ cells_after s r (Some c)
-next_some s r after from c asc alike h =
-    alike_within (is_within r) (is_after after) (nat_le from) alike (keys_of s)
-    ∙ from_first from c (filter (is_within r) (keys_of s)) (AllPairs-from_increasing _ (IsStrictlyIncreasing-filter (is_within r) (keys_of s) asc)) h
-
-pub next_none : (s : Sheet) (r : Area) (after : Option ℕ) (from : ℕ) → ((a : ℕ) → is_within r a ≡ true → is_after after a ≡ nat_le from a) →
-    find (λ a. nat_le from a) (filter (is_within r) (keys_of s)) ≡ None → cells_after s r after ≡ []
-next_none s r after from alike h =
-    alike_within (is_within r) (is_after after) (nat_le from) alike (keys_of s) ∙ none_pass (nat_le from) (filter (is_within r) (keys_of s)) h
-
-pub none_after : (s : Sheet) (r : Area) (after : Option ℕ) → ((a : ℕ) → is_within r a ≡ true → is_after after a ≡ false) → cells_after s r after ≡ []
-none_after s r after h = alike_within (is_within r) (is_after after) (λ a. false) h (keys_of s) ∙ no_more (filter (is_within r) (keys_of s))
-
-pub next_if_some : (s : Sheet) (r : Area) (after : Option ℕ) (from : ℕ) (o : Option ℕ) → IsStrictlyIncreasing (keys_of s) → ((a : ℕ) → is_within r a ≡ true → is_after after a ≡ nat_le from a) →
-    o ≡ find (λ a. nat_le from a) (filter (is_within r) (keys_of s)) → IfSome o (λ c. cells_after s r after ≡ c ∷ cells_after s r (Some c))
-next_if_some s r after from None asc alike h = tt
-next_if_some s r after from (Some c) asc alike h = next_some s r after from c asc alike (sym h)
-
-pub next_if_none : (s : Sheet) (r : Area) (after : Option ℕ) (from : ℕ) (o : Option ℕ) → ((a : ℕ) → is_within r a ≡ true → is_after after a ≡ nat_le from a) →
-    o ≡ find (λ a. nat_le from a) (filter (is_within r) (keys_of s)) → IfNone o (cells_after s r after ≡ [])
-next_if_none s r after from None alike h = next_none s r after from alike (sym h)
-next_if_none s r after from (Some c) alike h = tt
-
-pub whichever : (P : Type 0) (o : Option ℕ) → P → IfNone o P
-whichever P None h = h
-whichever P (Some c) h = tt
+use Rattle.wi_sheet.proofs.NextCells.{all_after}
 
 -- ---- rectangles
 
 pub ahead_all : (s : Sheet) (rs : List Area) → cells_ahead s rs None ≡ occupied_within s rs
 ahead_all s [] = refl
-ahead_all s (r ∷ rs) = ap (λ (xs : List ℕ). xs ++ occupied_within s rs) (all_pass (filter (is_within r) (keys_of s)))
+ahead_all s (r ∷ rs) = ap (λ (xs : List ℕ). xs ++ occupied_within s rs) (all_after s r)
 
 pub ahead_some : (s : Sheet) (rs more : List Area) (r : Area) (o : Option ℕ) (c : ℕ) → rs ≡ r ∷ more → cells_after s r o ≡ c ∷ cells_after s r (Some c) → cells_ahead s rs o ≡ c ∷ cells_ahead s rs (Some c)
 ahead_some s rs more r o c e h = rw e (ap (λ (xs : List ℕ). xs ++ occupied_within s more) h)

@@ -1,6 +1,6 @@
 -- Steps of a walk along references.
-use Rattle.std.proofs.Common.{◌≡◌, ◌==◌, ℕ, Bool, true, false, ◌||◌, cond, if◌then◌else◌, List, [], ◌∷◌, ◌++◌, length, Option, Some, None, refl, ap, sym, ◌∙◌, subst, append_assoc, append-nil, arith, inl, inr, ◌⊎◌, eq-eqb}
-use Rattle.std.proofs.lemmas.Bool.{or_cases, or_left, or_right, or_parts, or_from}
+use Rattle.std.proofs.Common.{◌≡◌, ◌==◌, ℕ, Bool, true, false, ◌||◌, cond, List, [], ◌∷◌, ◌++◌, length, Option, Some, None, refl, ap, sym, ◌∙◌, subst, append_assoc, append-nil, arith, inl, inr, ◌⊎◌, eq-eqb, true≢false, if◌then◌else◌}
+use Rattle.std.proofs.lemmas.Bool.{or_cases, or_left, or_right, or_parts, false_from_ne_true}
 use Rattle.std.proofs.lemmas.List.Folds.{list_any-append}
 use Rattle.std.proofs.Math.Bool.{or-false}
 use Rattle.std.specs.List.{list_any}
@@ -9,16 +9,18 @@ use Rattle.std.specs.BTreeMap.{BTreeMap, get, is_at, Updates, IsEmpty}
 use Rattle.wi_parser.specs.Sheet.{Sheet, content_of, has_formula}
 use Rattle.wi_parser.specs.Reads.{content_reads}
 use Rattle.wi_graph.specs.Circular.{circular}
-use Rattle.wi_graph.specs.Reach.{is_one_of, Reaches}
-use Rattle.wi_graph.proofs.Walks.{same_cell}
+use Rattle.wi_graph.specs.Reach.{is_one_of, Reaches, reaches}
+use Rattle.wi_graph.proofs.Walks.{same_cell, found}
 use Rattle.wi_graph.proofs.Ends.{ends_open}
+use Rattle.wi_graph.proofs.Graphs.{left_circular}
+use Rattle.wi_graph.proofs.ReachTest.{finds_in, reaches_true, true_reaches}
+use Rattle.wi_graph.proofs.ReachSteps.{reaches_here, reaches_read, reaches_on, reaches_by_step}
 use Rattle.wi_values.proofs.Order.{turn_test, is_at-eq}
 use Rattle.wi_sheet.specs.Inner.ReadCells.{rectangles_in, occupied_within}
 use Rattle.wi_sheet.specs.Inner.ReadOrder.{MayFollow}
 use Rattle.wi_engine.specs.Inner.Walk.{Task, Enter, Leave, enters, task_cell, leaves, has_task, has_leave, LeadsTo, IsOpen, EachLeave, progress_of, IsWalk, IsBelow}
 use Rattle.wi_engine.specs.declared.walk.Progress.{Progress}
 use Rattle.wi_engine.specs.declared.walk.Progress.TheVariants.{Open, Done}
-use Rattle.wi_engine.proofs.walk.Loops.{loop_circular, reaches_circular, reaches-step}
 use Rattle.wi_sheet.proofs.ReadLists.{occupied_read, read_occupied}
 use Rattle.wi_sheet.proofs.ReadOrders.{order-push, order_clear, no_order}
 
@@ -63,15 +65,27 @@ some_leave P t c (Leave a ∷ ts) e h = at (or_cases (a == c) (has_leave ts c) h
     at (inl k) ih = (ts, subst (λ (x : ℕ). P x (ts ++ t ∷ [])) (same_cell c a k) e.0)
     at (inr k) ih = ih k
 
+-- what holds of those before a last task, once that is gone
+without_last : (P Q : ℕ → List Task → Type 0) (t : Task) → ((a : ℕ) (ys : List Task) → P a (ys ++ t ∷ []) → Q a ys) → (ts : List Task) → EachLeave P (ts ++ t ∷ []) → EachLeave Q ts
+without_last P Q t f [] e = tt
+without_last P Q t f (Enter a ∷ ts) e = without_last P Q t f ts e
+without_last P Q t f (Leave a ∷ ts) e = (f a ts e.0, without_last P Q t f ts e.1)
+
 -- ---- a cycle
 
-some_circular : (s : Sheet) (xs : List ℕ) (c : ℕ) → is_one_of xs c ≡ true → circular s c ≡ true → list_any (circular s) xs ≡ true
-some_circular s [] c m h = cc
-some_circular s (x ∷ xs) c m h = at (or_cases (x == c) _ m) (some_circular s xs c)
+-- a cell that reaches one which leads to itself is circular
+loop_circular : (s : Sheet) (c d : ℕ) → Reaches s c d → LeadsTo s d d → circular s c ≡ true
+loop_circular s c d r l = left_circular s (λ a. reaches s a d) (λ a h. on a (reaches_by_step s a d h)) c (true_reaches s c d r)
   where
-    at : ((x == c) ≡ true) ⊎ (is_one_of xs c ≡ true) → (is_one_of xs c ≡ true → circular s c ≡ true → list_any (circular s) xs ≡ true) → list_any (circular s) (x ∷ xs) ≡ true
-    at (inl k) ih = or_left (circular s x) _ (ap (circular s) (same_cell c x k) ∙ h)
-    at (inr k) ih = or_right (circular s x) _ (ih k h)
+    on : (a : ℕ) → (a ≡ d) ⊎ ((content_reads (content_of s a) d ≡ true) ⊎ ((e : ℕ) × (content_reads (content_of s a) e ≡ true) × (has_formula (content_of s e) ≡ true) × (reaches s e d ≡ true))) →
+        (e : ℕ) × (content_reads (content_of s a) e ≡ true) × (reaches s e d ≡ true)
+    on a (inl k) = (l.0, subst (λ (x : ℕ). content_reads (content_of s x) l.0 ≡ true) (sym k) l.1, true_reaches s l.0 d l.2)
+    on a (inr (inl k)) = (d, k, reaches_here s d)
+    on a (inr (inr k)) = (k.0, k.1, k.3)
+
+-- what reaches a cell reaches what that reads
+reaches_next : (s : Sheet) (a d e : ℕ) → Reaches s a d → content_reads (content_of s d) e ≡ true → Reaches s a e
+reaches_next s a d e w r = reaches_true s a e (reaches_on s a d e (true_reaches s a d w) (reaches_read s d e r))
 
 -- a cell that is to be entered and still to be left leads to itself
 pub walk-cycle : (s : Sheet) (roots : List ℕ) (c : ℕ) (ts : List Task) (progress : BTreeMap ℕ Progress) (order : List ℕ) → IsWalk s roots (ts ++ Enter c ∷ []) progress order → get nat_cmp progress c ≡ Some Open → list_any (circular s) roots ≡ true
@@ -79,7 +93,7 @@ walk-cycle s roots c ts progress order w m =
     let left = some_leave (IsOpen s order) (Enter c) c ts w.waiting (is_open (is_one_of order c) (has_leave (ts ++ Enter c ∷ []) c) (leave_parts ts (Enter c ∷ []) c) (sym (w.progressed c) ∙ m)) in
     let loop = left.1.leads c (task_back left.0 (Enter c ∷ []) c (is_of_one (Enter c))) in
     let from = w.reached c (task_back ts (Enter c ∷ []) c (is_of_one (Enter c))) in
-    some_circular s roots from.0 from.1 (reaches_circular s from.0 c from.2 (loop_circular s c loop))
+    found (circular s) roots from.0 from.1 (loop_circular s from.0 c from.2 loop)
   where
     is_open : (b d : Bool) → d ≡ (has_leave ts c || false) → (if b then Some Done else (if d then Some Open else None)) ≡ Some Open → has_leave ts c ≡ true
     is_open true d e h = cc
@@ -112,14 +126,9 @@ open-passed s c order p a ys o = record {
   once = sym (leave_parts ys (Enter c ∷ []) a ∙ or-false (has_leave ys a)) ∙ o.once;
 }
 
-waiting-passed : (s : Sheet) (c : ℕ) (order : List ℕ) → (has_formula (content_of s c) ≡ true → is_one_of order c ≡ true) → (ts : List Task) → EachLeave (IsOpen s order) (ts ++ Enter c ∷ []) → EachLeave (IsOpen s order) ts
-waiting-passed s c order p [] e = tt
-waiting-passed s c order p (Enter a ∷ ts) e = waiting-passed s c order p ts e
-waiting-passed s c order p (Leave a ∷ ts) e = (open-passed s c order p a ts e.0, waiting-passed s c order p ts e.1)
-
 pub walk-passed : (s : Sheet) (roots : List ℕ) (c : ℕ) (ts : List Task) (progress : BTreeMap ℕ Progress) (order : List ℕ) → IsWalk s roots (ts ++ Enter c ∷ []) progress order → (has_formula (content_of s c) ≡ true → is_one_of order c ≡ true) → IsWalk s roots ts progress order
 walk-passed s roots c ts progress order w p = record {
-  waiting = waiting-passed s c order p ts w.waiting;
+  waiting = without_last (IsOpen s order) (IsOpen s order) (Enter c) (open-passed s c order p) ts w.waiting;
   progressed = λ a. w.progressed a ∙ ap (λ (b : Bool). if is_one_of order a then Some Done else (if b then Some Open else None)) (leave_parts ts (Enter c ∷ []) a ∙ or-false (has_leave ts a));
   ordered = w.ordered;
   reached = λ d h. w.reached d (task_front ts (Enter c ∷ []) d h);
@@ -171,11 +180,6 @@ open-left s c order a ys o =
       once = parts.0;
     }
 
-waiting-left : (s : Sheet) (c : ℕ) (order : List ℕ) (ts : List Task) → EachLeave (IsOpen s order) (ts ++ Leave c ∷ []) → EachLeave (IsOpen s (order ++ c ∷ [])) ts
-waiting-left s c order [] e = tt
-waiting-left s c order (Enter a ∷ ts) e = waiting-left s c order ts e
-waiting-left s c order (Leave a ∷ ts) e = (open-left s c order a ts e.0, waiting-left s c order ts e.1)
-
 -- a cell that is left when no task comes before it may follow the order
 may_follow : (s : Sheet) (order : List ℕ) (c : ℕ) → IsOpen s order c [] → MayFollow s order c
 may_follow s order c o = record { formula = o.formula; reads = λ d r f. sym (or-false (is_one_of order d)) ∙ o.reads d r f; once = o.fresh }
@@ -195,7 +199,7 @@ progress-left ts order c a =
 pub walk-left : (s : Sheet) (roots : List ℕ) (c : ℕ) (ts : List Task) (old new : BTreeMap ℕ Progress) (order : List ℕ) → IsWalk s roots (ts ++ Leave c ∷ []) old order →
     ((q : ℕ) → get nat_cmp new q ≡ cond (is_at (nat_cmp c) q) (Some Done) (get nat_cmp old q)) → IsWalk s roots ts new (order ++ c ∷ [])
 walk-left s roots c ts old new order w u = record {
-  waiting = waiting-left s c order ts w.waiting;
+  waiting = without_last (IsOpen s order) (IsOpen s (order ++ c ∷ [])) (Leave c) (open-left s c order) ts w.waiting;
   progressed = λ a. u a ∙ ap (λ (m : Option Progress). cond (is_at (nat_cmp c) a) (Some Done) m) (w.progressed a) ∙ progress-left ts order c a;
   ordered = order-push s order c w.ordered (may_follow s order c (last_leave (IsOpen s order) c ts w.waiting));
   reached = λ d h. w.reached d (task_front ts (Leave c ∷ []) d h);
@@ -274,7 +278,7 @@ open-entered s c order cells r a ys n o = record {
     leads : (d : ℕ) → (has_task ys d ≡ true) ⊎ (c ≡ d) ⊎ (is_one_of cells d ≡ true) → LeadsTo s a d
     leads d (inl k) = o.leads d (task_front ys (Enter c ∷ []) d k)
     leads d (inr (inl k)) = subst (LeadsTo s a) k here
-    leads d (inr (inr k)) = (here.0, here.1, reaches-step s here.0 c d here.2 (r d k))
+    leads d (inr (inr k)) = (here.0, here.1, reaches_next s here.0 c d here.2 (r d k))
 
 waiting-entered : (s : Sheet) (c : ℕ) (order cells : List ℕ) → ((d : ℕ) → is_one_of cells d ≡ true → content_reads (content_of s c) d ≡ true) → IsOpen s order c (enters cells) →
     (ts : List Task) → has_leave ts c ≡ false → EachLeave (IsOpen s order) (ts ++ Enter c ∷ []) → EachLeave (IsOpen s order) (ts ++ Leave c ∷ enters cells)
@@ -338,7 +342,7 @@ walk-entered s roots c ts old new order w f n u =
     reached : (d : ℕ) → (has_task ts d ≡ true) ⊎ (c ≡ d) ⊎ (is_one_of (occupied_within s (rectangles_in (content_of s c))) d ≡ true) → IsBelow s roots d
     reached d (inl k) = w.reached d (task_front ts (Enter c ∷ []) d k)
     reached d (inr (inl k)) = subst (IsBelow s roots) k here
-    reached d (inr (inr k)) = (here.0, here.1, reaches-step s here.0 c d here.2 (occupied_read s (content_of s c) d k))
+    reached d (inr (inr k)) = (here.0, here.1, reaches_next s here.0 c d here.2 (occupied_read s (content_of s c) d k))
 
 -- a cell that is looked at for the first time: it has a formula or none
 pub walk-taken : (s : Sheet) (roots : List ℕ) (c : ℕ) (ts more : List Task) (old new : BTreeMap ℕ Progress) (order : List ℕ) → IsWalk s roots (ts ++ Enter c ∷ []) old order → get nat_cmp old c ≡ None → (has_formula (content_of s c) ≡ false → (more ≡ ts) × (new ≡ old)) →
@@ -357,12 +361,6 @@ below_one s c d b = at (or_cases (c == b.0) false b.1)
     at (inl k) = subst (λ (x : ℕ). Reaches s x d) (sym (same_cell b.0 c k)) b.2
     at (inr k) = cc
 
--- where no cell is circular, the test for one fails
-none_circular : (s : Sheet) (xs : List ℕ) → ((c : ℕ) → is_one_of xs c ≡ true → circular s c ≡ false) → list_any (circular s) xs ≡ false
-none_circular s [] h = refl
-none_circular s (x ∷ xs) h =
-    or_from (circular s x) _ (h x (or_left (x == x) _ (eq-eqb x x refl))) (none_circular s xs (λ c m. h c (or_right (x == c) _ m)))
-
 -- a walk with nothing before it has each of its roots that has a formula in its order
 pub walk-roots : (s : Sheet) (roots : List ℕ) (ts : List Task) (progress : BTreeMap ℕ Progress) (order : List ℕ) → IsWalk s roots ts progress order → length ts ≡ 0 → (c : ℕ) → is_one_of roots c ≡ true → has_formula (content_of s c) ≡ true → is_one_of order c ≡ true
 walk-roots s roots [] progress order w z c m f = sym (or-false (is_one_of order c)) ∙ w.rooted c m f
@@ -370,7 +368,7 @@ walk-roots s roots (t ∷ ts) progress order w z c m f = absurd (omega arith)
 
 -- and has met no cycle
 pub walk-ended : (s : Sheet) (roots : List ℕ) (ts : List Task) (progress : BTreeMap ℕ Progress) (order : List ℕ) → IsWalk s roots ts progress order → length ts ≡ 0 → list_any (circular s) roots ≡ false
-walk-ended s roots [] progress order w z = none_circular s roots (λ c m. at c m (has_formula (content_of s c)) refl)
+walk-ended s roots [] progress order w z = false_from_ne_true _ (λ h. let f = finds_in (circular s) roots h in true≢false (sym f.2 ∙ at f.0 f.1 (has_formula (content_of s f.0)) refl))
   where
     at : (c : ℕ) → is_one_of roots c ≡ true → (b : Bool) → has_formula (content_of s c) ≡ b → circular s c ≡ false
     at c m true f = order_clear s order w.ordered c (walk-roots s roots [] progress order w z c m f)

@@ -17,11 +17,11 @@ pub record IsValueAt (s : Sheet) (k : Key) (f : Findings) (v : Value) : Type 0 w
   pub one_meaning : HasOneMeaning s k.world k.cell f
 
 -- what the formula asks for, and was not found
-pub record IsLackedAt (s : Sheet) (k : Key) (f : Findings) (w : Want) : Type 0 where
+pub record IsLackingAt (s : Sheet) (k : Key) (f : Findings) (w : Want) : Type 0 where
   pub asked : AsksAt s k.world k.cell w
   pub lacking : IsLacking s k.world f w
 
 -- it ends with the value, or at what it lacks
 abbrev pub IsAttemptOf : Sheet → Key → Findings → Outcome → Type 0
 IsAttemptOf s k f (Done v) = IsValueAt s k f v
-IsAttemptOf s k f (Needs w) = IsLackedAt s k f w
+IsAttemptOf s k f (Needs w) = IsLackingAt s k f w

@@ -33,7 +33,7 @@ pub record MayBeRead (s : Sheet) (m : MemoState) (a : ℕ) : Type 0 where
   pub covered : has_formula (content_of s a) ≡ true → m.covers a ≡ true
 
 -- a key for a formula under replacements, all of them of cells that it reaches
-pub record IsToValue (s : Sheet) (m : MemoState) (k : Key) : Type 0 where
+pub record IsFormulaKey (s : Sheet) (m : MemoState) (k : Key) : Type 0 where
   pub formula : has_formula (content_of (put_all s k.world) k.cell) ≡ true
   pub open_cell : circular s k.cell ≡ false
   pub covered : m.covers k.cell ≡ true
@@ -41,8 +41,8 @@ pub record IsToValue (s : Sheet) (m : MemoState) (k : Key) : Type 0 where
   pub generation : k.generation ≡ m.generation k.cell
 
 -- and such a key for which no value is remembered
-pub record IsToFind (s : Sheet) (m : MemoState) (k : Key) : Type 0 where
-  pub key : IsToValue s m k
+pub record IsUnvaluedKey (s : Sheet) (m : MemoState) (k : Key) : Type 0 where
+  pub key : IsFormulaKey s m k
   pub unfound : m.found k.cell k.world ≡ false
   pub unkept : m.kept k.cell k.world ≡ false
 
@@ -55,7 +55,7 @@ pub record IsUnvalued (s : Sheet) (m : MemoState) (w : List Replacement) (a : �
   pub formula : has_formula (content_of (put_all s w) a) ≡ true
   pub cell : k.cell ≡ a
   pub world : k.world ≡ reaching s a w
-  pub to_find : IsToFind s m k
+  pub to_find : IsUnvaluedKey s m k
 
 -- and that formula with it
 pub record IsUnvaluedFormula (s : Sheet) (m : MemoState) (w : List Replacement) (a : ℕ) (u : Unvalued) : Type 0 where
@@ -79,7 +79,7 @@ Awaits s k f (WhatIf a pairs) = IsLacking s k.1 f (want.TheVariants.WhatIf a pai
 
 -- what is so of a frame by itself
 pub record IsFrame (s : Sheet) (m : MemoState) (f : Frame) : Type 0 where
-  pub key : IsToValue s m f.key
+  pub key : IsFormulaKey s m f.key
   pub formula : StandsAt s f.key f.formula.now
   pub found : AreAllRight (cell_value (put_all s f.key.world)) (what_if_value (put_all s f.key.world)) f.found
   pub waiting : Awaits s (case_at f.key) f.found f.waiting
@@ -93,7 +93,7 @@ waits_at (WhatIf a pairs) c = false
 -- a key whose value has to be found before a frame's
 pub record IsNext (s : Sheet) (m : MemoState) (below k : Key) : Type 0 where
   pub rests : RestsOn s (case_at below) (case_at k)
-  pub to_find : IsToFind s m k
+  pub to_find : IsUnvaluedKey s m k
 
 -- and its formula with it
 pub record IsNextFormula (s : Sheet) (m : MemoState) (below : Key) (u : Unvalued) : Type 0 where

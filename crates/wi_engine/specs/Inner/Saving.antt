@@ -23,13 +23,13 @@ abbrev pub WhereRoom : Sheet → (List Case → Type 0) → MemoState → (List 
 WhereRoom s Has m P = (ks : List Case) → IsClosed s ks → Has ks → KeepsFound m → not_kept m ks ≤ m.room → P ks
 
 -- those of these keys under which no value stands
-abbrev pub missing : MemoState → List Key → List Key
-missing m ks = filter (λ k. not (m.stands k)) ks
+abbrev pub vacant : MemoState → List Key → List Key
+vacant m ks = filter (λ k. not (m.stands k)) ks
 
 -- Each value that was counted took one place at most: one that was free, or that of a value that was given up, of whatever
 -- generation. So of keys that all differ no more lost their values, beside the places taken, than were counted.
 abbrev pub TakesPlaces : MemoState → MemoState → ℕ → ℕ → Type 0
-TakesPlaces old new before after = (ks : List Key) → IsDistinct same_key ks → length (missing new ks) + (old.room + before) ≤ length (missing old ks) + (new.room + after)
+TakesPlaces old new before after = (ks : List Key) → IsDistinct same_key ks → length (vacant new ks) + (old.room + before) ≤ length (vacant old ks) + (new.room + after)
 
 -- so short of the greatest count
 abbrev pub TakesNoMore : MemoState → MemoState → ℕ → ℕ → Type 0

@@ -1,5 +1,6 @@
 -- What a step of a valuation gives, and what it leaves.
-use Rattle.std.specs.Prelude.{◌≡◌, ◌+◌, ◌≤◌, ℕ, Bool, true, List, All, map}
+use Rattle.std.specs.Prelude.{◌≡◌, ◌==◌, ◌+◌, ◌≤◌, ℕ, Bool, true, List, All, map}
+use Rattle.std.specs.List.{list_any}
 use Rattle.wi_values.specs.declared.value.Value.{Value}
 use Rattle.wi_values.specs.declared.replacement.Replacement.{Replacement}
 use Rattle.wi_parser.specs.declared.expr.Pair.{Pair}
@@ -13,49 +14,13 @@ use Rattle.wi_sheet.specs.Demand.{with_what_if}
 use Rattle.wi_sheet.specs.Settled.{IsSettled, RestsOnKept}
 use Rattle.wi_sheet.specs.Inner.Spending.{NeverFall, Table, plus}
 use Rattle.wi_engine.specs.Inner.MemoState.{MemoState}
-use Rattle.wi_engine.specs.Inner.Frames.{Awaits, IsFrame, case_at, frame_cost, spare}
-use Rattle.wi_engine.specs.Inner.Saving.{KeepsFound}
+use Rattle.wi_engine.specs.Inner.Frames.{Awaits, IsFrame, IsUnvaluedFormula, IsNextFormula, case_at, frame_cost, spare}
+use Rattle.wi_engine.specs.Inner.Saving.{KeepsFound, NeedsNoEvaluation}
 use Rattle.wi_engine.specs.Inner.SettledFrames.{IsFrameSettled}
 use Rattle.wi_engine.specs.declared.frame.Frame.{Frame}
 use Rattle.wi_engine.specs.declared.frame.Asked as asked
 use Rattle.wi_engine.specs.declared.frame.Inputs as inputs
 use Rattle.wi_engine.specs.declared.frame.Advance as advance
-use Rattle.wi_engine.specs.declared.frame.Unvalued.{Unvalued}
-
--- a fact of a value that is there
-abbrev pub IfKnown : asked.Asked → (Value → Type 0) → Type 0
-IfKnown (asked.TheVariants.Known v) P = P v
-IfKnown (asked.TheVariants.Unknown u) P = Unit {0}
-
--- a fact of a formula whose value is not
-abbrev pub IfUnknown : asked.Asked → (Unvalued → Type 0) → Type 0
-IfUnknown (asked.TheVariants.Known v) P = Unit {0}
-IfUnknown (asked.TheVariants.Unknown u) P = P u
-
--- a fact of replacements with a what-if's put in
-abbrev pub IfReplaced : inputs.Inputs → (List Replacement → Type 0) → Type 0
-IfReplaced (inputs.TheVariants.Known w) P = P w
-IfReplaced (inputs.TheVariants.Unknown u) P = Unit {0}
-
--- a fact of the formula of an input whose value is not there
-abbrev pub IfInputUnknown : inputs.Inputs → (Unvalued → Type 0) → Type 0
-IfInputUnknown (inputs.TheVariants.Known w) P = Unit {0}
-IfInputUnknown (inputs.TheVariants.Unknown u) P = P u
-
--- a fact of a frame's value
-abbrev pub IfValued : advance.Advance → (Value → Type 0) → Type 0
-IfValued (advance.TheVariants.Done v) P = P v
-IfValued (advance.TheVariants.Needs u) P = Unit {0}
-
--- a fact of a formula whose value a frame needs
-abbrev pub IfNeedsValue : advance.Advance → (Unvalued → Type 0) → Type 0
-IfNeedsValue (advance.TheVariants.Done v) P = Unit {0}
-IfNeedsValue (advance.TheVariants.Needs u) P = P u
-
--- an evaluation that is done counts one
-abbrev pub evaluations_after : advance.Advance → ℕ → ℕ
-evaluations_after (advance.TheVariants.Done v) n = one_more n
-evaluations_after (advance.TheVariants.Needs u) n = n
 
 -- ---- what a step of a frame leaves
 
@@ -96,3 +61,25 @@ pub record FrameTakes (s : Sheet) (k : Key) (before after : Frame) (done : Bool)
   pub frame : done ≡ true → (m : MemoState) → IsFrame s m before → IsFrame s m after
   pub fewer : done ≡ true → spare s after ≤ spare s before
   pub settled : done ≡ true → (kept : Table) → kept k.cell k.world ≡ true → IsFrameSettled s kept before → IsFrameSettled s kept after
+
+-- ---- what is there, and what has to be valued first
+
+-- what a cell shows, where no formula has to be evaluated for it
+pub record IsShownNow (s : Sheet) (m : MemoState) (w : List Replacement) (a : ℕ) (v : Value) : Type 0 where
+  pub value : v ≡ cell_value (put_all s w) a
+  pub easy : NeedsNoEvaluation s m w a
+
+-- a cell's value, or its formula
+abbrev pub IsAskedOf : Sheet → MemoState → List Replacement → ℕ → asked.Asked → Type 0
+IsAskedOf s m w a (asked.TheVariants.Known v) = IsShownNow s m w a v
+IsAskedOf s m w a (asked.TheVariants.Unvalued u) = IsUnvaluedFormula s m w a u
+
+-- replacements with those of a what-if put in, or the formula of a replacement cell
+abbrev pub AreInputsOf : Sheet → MemoState → List Replacement → List Pair → inputs.Inputs → Type 0
+AreInputsOf s m w pairs (inputs.TheVariants.Known v) = IsWorldWith s m w pairs v
+AreInputsOf s m w pairs (inputs.TheVariants.Unvalued u) = (list_any (λ p. p.1.at == u.key.cell) (map pair_of pairs) ≡ true) × IsUnvaluedFormula s m w u.key.cell u
+
+-- a frame's value, for which an evaluation was counted, or a formula that has to be valued first
+abbrev pub IsAdvanceOf : Sheet → MemoState → Frame → Counts → Counts → advance.Advance → Type 0
+IsAdvanceOf s m f before after (advance.TheVariants.Done v) = IsFrameValue s m f v × (after.evaluations ≡ one_more before.evaluations)
+IsAdvanceOf s m f before after (advance.TheVariants.Unvalued u) = IsNextFormula s m f.key u × (after.evaluations ≡ before.evaluations)

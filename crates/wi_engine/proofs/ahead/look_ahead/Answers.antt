@@ -2,8 +2,8 @@ use Rattle.std.proofs.Common.{refl, ap, sym, subst, arith}
 use Rattle.wi_parser.specs.Sheet.{Sheet, has_formula}
 use Rattle.wi_sheet.proofs.Bounds.{put_formula}
 use Rattle.wi_engine.specs.Inner.Frames.{MayBeRead}
-use Rattle.wi_engine.proofs.ahead.Alone.{asks_at, read_at, awaits_alone}
-use Rattle.wi_engine.proofs.engine.Settling.{may_read_here, next_here}
+use Rattle.wi_engine.proofs.engine.Waits.{asks_at, read_at, awaits_alone}
+use Rattle.wi_engine.proofs.engine.NextValues.{may_read_here, next_here}
 use Rattle.wi_engine.proofs.engine.Steps.{steps_none, steps_err, steps_less, steps_wait, steps_cell}
 use Rattle.wi_engine.proofs.ahead.look_ahead.Goals as goal
 
@@ -37,14 +37,13 @@ returns-in_ok-add_cell-in-Known-clause-steps g c =
     let none = c.is_new.ensures.found c.if-not-is_new.false c.in-Some.at in
     let waiting = c.is_new.ensures.waiting c.if-not-is_new.false in
     let read = read_at s f.key f.formula.now c.in-Some.at c.requires.frame.formula c.in-Some.ensures in
-    let known = rw (c.in-Known.is, memo.sheet) at c.in_ok-value.ensures.known in
-    let there = rw (c.in-Known.is, memo.sheet) at c.in_ok-value.ensures.there in
-    steps_less (omega arith) (steps_cell (steps_none c.requires.frame refl) c.in_ok-value.ensures.same waiting memo refl refl waiting c.in_ok-add_cell-in-Known.ensures.ok none read formula known there)
+    let shown = rw (c.in-Known.is, memo.sheet) at c.in_ok-value.ensures.asked in
+    steps_less (omega arith) (steps_cell (steps_none c.requires.frame refl) c.in_ok-value.ensures.same waiting memo refl refl waiting c.in_ok-add_cell-in-Known.ensures.ok none read formula shown)
 
 -- ---- one that has to be found first
 
-pub returns-in-Unknown-clause-steps : goal.returns-in-Unknown-clause-steps
-returns-in-Unknown-clause-steps g c =
+pub returns-in-Unvalued-clause-steps : goal.returns-in-Unvalued-clause-steps
+returns-in-Unvalued-clause-steps g c =
     let s = c.args.store.now.sheet in
     let f = c.args.frame.now in
     let asks = asks_at s f.key f.formula.now c.in-Some.at c.requires.frame.formula c.in-Some.ensures in
@@ -52,10 +51,10 @@ returns-in-Unknown-clause-steps g c =
     let waiting = awaits_alone s f.key f.found c.in-Some.at c.new.result c.new.ensures.items asks (ap has_formula c.in-Some-formula_in.ensures.found, none) in
     steps_less (omega arith) (steps_wait (steps_none c.requires.frame refl) c.in_ok-value.ensures.same (c.is_new.ensures.waiting c.if-not-is_new.false) (record { key = refl; formula = refl; found = refl; awaits = λ d. waiting }) refl)
 
-pub returns-in-Unknown-clause-next : goal.returns-in-Unknown-clause-next
-returns-in-Unknown-clause-next g c =
+pub returns-in-Unvalued-clause-next : goal.returns-in-Unvalued-clause-next
+returns-in-Unvalued-clause-next g c =
     let f = c.args.frame.now in
-    let there = rw (c.in-Unknown.is, c.requires.memo.sheet) at c.in_ok-value.ensures.unknown in
+    let there = rw (c.in-Unvalued.is, c.requires.memo.sheet) at c.in_ok-value.ensures.asked in
     next_here f.key f.key refl refl there (read_at c.args.store.now.sheet f.key f.formula.now c.in-Some.at c.requires.frame.formula c.in-Some.ensures)
 
 pub returns-in_err-value-clause-steps : goal.returns-in_err-value-clause-steps

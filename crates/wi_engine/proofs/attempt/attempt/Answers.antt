@@ -7,7 +7,7 @@ use Rattle.wi_engine.specs.Inner.Attempt.{cell_known}
 use Rattle.wi_engine.specs.Inner.Findings.{what_if_found}
 use Rattle.wi_engine.specs.declared.findings.Findings.{Findings}
 use Rattle.wi_engine.specs.declared.lookup.Known.{Known}
-use Rattle.wi_engine.proofs.attempt.Attempting.{attempted}
+use Rattle.wi_engine.proofs.attempt.KnownValues.{attempted}
 use Rattle.wi_engine.proofs.attempt.attempt.Goals as goal
 
 pub returns-clause-outcome : goal.returns-clause-outcome

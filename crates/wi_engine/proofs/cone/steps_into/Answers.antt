@@ -7,7 +7,7 @@ use Rattle.wi_values.specs.Address.{Area, is_within}
 use Rattle.wi_parser.specs.Sheet.{content_of}
 use Rattle.wi_parser.specs.Reads.{content_reads}
 use Rattle.wi_sheet.specs.Inner.ReadCells.{occupied_within, rectangles_in}
-use Rattle.wi_engine.proofs.occupied.NextCells.{any_within}
+use Rattle.wi_sheet.proofs.NextCells.{any_within}
 use Rattle.wi_engine.proofs.cone.ConeSteps.{reads_rectangles, only_last}
 use Rattle.wi_engine.proofs.cone.steps_into.Goals as goal
 

@@ -3,11 +3,12 @@ use Rattle.wi_parser.specs.Sheet.{put_all}
 use Rattle.wi_functions.specs.Counts.{Counts, one_more}
 use Rattle.wi_cache.specs.declared.key.Key.{Key}
 use Rattle.wi_sheet.specs.CellValue.{cell_value}
-use Rattle.wi_sheet.proofs.Counting.{never_fall-same, never_fall-then}
+use Rattle.wi_sheet.proofs.CaseCosts.{never_fall-same, never_fall-then}
 use Rattle.wi_engine.specs.Inner.MemoState.{MemoState, IsMemoOf}
 use Rattle.wi_engine.specs.Inner.Frames.{IsFrame, IsNextFormula}
-use Rattle.wi_engine.proofs.engine.Settling.{one_more_at_most}
-use Rattle.wi_engine.proofs.engine.FoundSettled.{done_settled}
+use Rattle.wi_engine.specs.Inner.Steps.{IsFrameValue}
+use Rattle.wi_engine.proofs.engine.NextValues.{one_more_at_most}
+use Rattle.wi_engine.proofs.engine.SettledFindings.{done_settled}
 use Rattle.wi_engine.proofs.engine.Steps.{steps_err, steps_then, steps_less, steps_wait, counts_none, counts_want, counts_done, counts_then}
 use Rattle.wi_engine.proofs.engine.advance.Goals as goal
 
@@ -60,25 +61,27 @@ rounds-preserved g c =
 
 -- ---- what the frame gives
 
-pub returns-in-Some-clause-next : goal.returns-in-Some-clause-next
-returns-in-Some-clause-next g c = rw c.in-Some.is at c.in_ok-ahead.ensures.next
+pub returns-in-Some-clause-gives : goal.returns-in-Some-clause-gives
+returns-in-Some-clause-gives g c = (rw c.in-Some.is at c.in_ok-ahead.ensures.next, refl)
 
-pub returns-in-Some-2-clause-next : goal.returns-in-Some-2-clause-next
-returns-in-Some-2-clause-next g c =
+pub returns-in-Some-2-clause-gives : goal.returns-in-Some-2-clause-gives
+returns-in-Some-2-clause-gives g c =
     let s = c.args.store.now.sheet in
-    let i = c.rounds.invariant.steps in
-    let next = subst (λ (x : MemoState). IsNextFormula s x c.rounds.frame.key c.in-Some-2.first) i.same (rw c.in-Some-2.is at c.in_ok-first.ensures.next) in
-    subst (λ (k : Key). IsNextFormula s (g.M.Memo.state c.args.memo.now) k c.in-Some-2.first) i.key next
+    let i = c.rounds.invariant in
+    let next = subst (λ (x : MemoState). IsNextFormula s x c.rounds.frame.key c.in-Some-2.first) i.steps.same (rw c.in-Some-2.is at c.in_ok-first.ensures.next) in
+    (subst (λ (k : Key). IsNextFormula s (g.M.Memo.state c.args.memo.now) k c.in-Some-2.first) i.steps.key next, i.evaluations)
 
-pub returns-in-Done-clause-done : goal.returns-in-Done-clause-done
-returns-in-Done-clause-done g c =
+pub returns-in-Done-clause-gives : goal.returns-in-Done-clause-gives
+returns-in-Done-clause-gives g c =
     let s = c.args.store.now.sheet in
     let steps = steps_then {k = 0} (omega arith) c.rounds.invariant.steps c.in_ok-first.ensures.steps in
     let found = rw c.in-Done.is at c.in_ok-value.ensures.outcome in
-    record {
+    let counted = rw c.in-Done.is at c.in_ok-value.ensures.counted in
+    let value : IsFrameValue s (g.M.Memo.state c.args.memo.now) c.args.frame.now c.in-Done.value = record {
       value = found.value ∙ ap (λ (k : Key). cell_value (put_all s k.world) k.cell) steps.key;
       rests = done_settled s (g.M.Memo.state c.args.memo.now) c.args.frame.now c.settle.new.frame steps.key (steps.frame refl).found found.one_meaning (steps.settled refl);
-    }
+    } in
+    (value, search (ap (λ (m : Counts). m.evaluations) counted ∙ ap one_more c.rounds.invariant.evaluations))
 
 -- ---- what it leaves
 
@@ -152,11 +155,3 @@ returns-in_err-wait_for-in-Needs-clause-counts g c =
     let wanted = rw c.in-Needs.is at c.in_ok-value.ensures.outcome in
     let steps = steps_then {k = c.rounds.meter.restarts - c.args.meter.now.restarts} (omega arith) i.steps c.in_ok-first.ensures.steps in
     counts_then steps i.counts i.evaluations (counts_want c.in-Needs.want wanted.asked wanted.lacking nothing c.attempt.ensures.counts (ap (λ (m : Counts). m.evaluations) counted) (ap (λ (m : Counts). m.restarts) counted))
-
-pub returns-in-Done-clause-evaluations : goal.returns-in-Done-clause-evaluations
-returns-in-Done-clause-evaluations g c =
-    let counted = rw c.in-Done.is at c.in_ok-value.ensures.counted in
-    search (ap (λ (m : Counts). m.evaluations) counted ∙ ap one_more c.rounds.invariant.evaluations)
-
-pub returns-in-Some-2-clause-evaluations : goal.returns-in-Some-2-clause-evaluations
-returns-in-Some-2-clause-evaluations g c = c.rounds.invariant.evaluations

@@ -1,7 +1,7 @@
 use Rattle.std.proofs.Common.{inl, refl, sym, subst, ◌∙◌, arith}
 use Rattle.wi_engine.specs.Inner.MemoState.{MemoState, IsMemoOf}
 use Rattle.wi_engine.specs.Inner.Frames.{case_at}
-use Rattle.wi_engine.proofs.engine.Settling.{may_read_here, next_here, awaits_next, lacks_less, lacked_next}
+use Rattle.wi_engine.proofs.engine.NextValues.{may_read_here, next_here, awaits_next, lacks_less, lacked_next}
 use Rattle.wi_engine.proofs.engine.Steps.{steps_none, steps_err, steps_less, steps_wait, steps_cell}
 use Rattle.wi_engine.proofs.engine.settle_cells.Goals as goal
 
@@ -27,32 +27,30 @@ pub cells-preserved : goal.cells-preserved
 cells-preserved g c =
     let s = c.args.store.now.sheet in
     let i = c.cells.invariant in
-    let known = rw c.in-Known.is at c.in_ok-value.ensures.known in
-    let there = rw c.in-Known.is at c.in_ok-value.ensures.there in
+    let shown = rw c.in-Known.is at c.in_ok-value.ensures.asked in
     let more = c.in_ok-add_cell-in-Known.ensures.ok in
     record {
-      steps = steps_less (omega arith) (steps_cell i.steps c.in_ok-value.ensures.same i.nothing c.requires.memo refl refl i.nothing more i.awaits.0.1 i.awaits.1 i.awaits.2 known there);
+      steps = steps_less (omega arith) (steps_cell i.steps c.in_ok-value.ensures.same i.nothing c.requires.memo refl refl i.nothing more i.awaits.0.1 i.awaits.1 i.awaits.2 shown);
       nothing = i.nothing;
       awaits = awaits_next s (case_at c.cells.frame.key) c.add_cell.new.self c.in-Some.next c.next_lacking.new.cells c.in-Some.ensures.next c.in-Some.ensures.rest;
       lacked = lacked_next s c.cells.frame.key.world c.cells.frame.found c.add_cell.new.self c.cells.at c.in-Some.next c.in-Known.value c.args.others.items c.cells.others.items c.next_lacking.new.cells.items more i.lacked c.in-Some.ensures.passed;
     }
 
-pub returns-in-Unknown-clause-next : goal.returns-in-Unknown-clause-next
-returns-in-Unknown-clause-next g c =
+pub returns-in-Unvalued-clause-next : goal.returns-in-Unvalued-clause-next
+returns-in-Unvalued-clause-next g c =
     let i = c.cells.invariant in
-    next_here c.cells.frame.key c.args.frame.now.key i.steps.same i.steps.key (rw c.in-Unknown.is at c.in_ok-value.ensures.unknown) i.awaits.1
+    next_here c.cells.frame.key c.args.frame.now.key i.steps.same i.steps.key (rw c.in-Unvalued.is at c.in_ok-value.ensures.asked) i.awaits.1
 
-pub returns-in-Unknown-clause-steps : goal.returns-in-Unknown-clause-steps
-returns-in-Unknown-clause-steps g c =
+pub returns-in-Unvalued-clause-steps : goal.returns-in-Unvalued-clause-steps
+returns-in-Unvalued-clause-steps g c =
     let i = c.cells.invariant in
     steps_wait i.steps c.in_ok-value.ensures.same i.nothing (record { key = refl; formula = refl; found = refl; awaits = λ d. i.awaits }) refl
 
 pub returns-in-None-clause-steps : goal.returns-in-None-clause-steps
 returns-in-None-clause-steps g c =
     let i = c.cells.invariant in
-    let known = rw c.in-Known.is at c.in_ok-value.ensures.known in
-    let there = rw c.in-Known.is at c.in_ok-value.ensures.there in
-    steps_cell i.steps c.in_ok-value.ensures.same i.nothing c.requires.memo refl refl i.nothing c.in_ok-add_cell-in-Known.ensures.ok i.awaits.0.1 i.awaits.1 i.awaits.2 known there
+    let shown = rw c.in-Known.is at c.in_ok-value.ensures.asked in
+    steps_cell i.steps c.in_ok-value.ensures.same i.nothing c.requires.memo refl refl i.nothing c.in_ok-add_cell-in-Known.ensures.ok i.awaits.0.1 i.awaits.1 i.awaits.2 shown
 
 pub returns-in_err-value-clause-steps : goal.returns-in_err-value-clause-steps
 returns-in_err-value-clause-steps g c =

@@ -1,7 +1,7 @@
 use Rattle.std.proofs.Common.{refl, sym, subst, ◌∙◌}
 use Rattle.wi_engine.specs.Inner.MemoState.{MemoState, IsMemoOf}
 use Rattle.wi_engine.specs.declared.findings.FoundWhatIf.{FoundWhatIf}
-use Rattle.wi_engine.proofs.engine.Settling.{may_read_what_if, may_read_inputs, next_input, next_inner}
+use Rattle.wi_engine.proofs.engine.NextValues.{may_read_what_if, may_read_inputs, next_input, next_inner}
 use Rattle.wi_engine.proofs.engine.Steps.{steps_none, steps_err, steps_wait, steps_what_if}
 use Rattle.wi_engine.proofs.engine.settle_what_if.Goals as goal
 
@@ -19,35 +19,32 @@ pub value_now-requires-clause-read : goal.value_now-requires-clause-read
 value_now-requires-clause-read g c =
     may_read_what_if c.args.store.now.sheet (g.M.Memo.state c.args.memo.now) (g.M.Memo.state c.world_of_what_if.new.memo) c.args.frame.now.key c.args.at c.args.pairs c.requires.memo c.in_ok-first.ensures.same c.requires.frame.key c.requires.awaits.1
 
-pub returns-in-Unknown-clause-next : goal.returns-in-Unknown-clause-next
-returns-in-Unknown-clause-next g c =
-    let unknown = rw c.in-Unknown.is at c.in_ok-first.ensures.unknown in
-    next_input c.args.store.now.sheet (g.M.Memo.state c.args.memo.now) c.args.frame.now.key c.in-Unknown.first c.args.at c.args.pairs c.deref.result.now c.requires.awaits.1 c.deref.ensures.value unknown
+pub returns-in-Unvalued-clause-next : goal.returns-in-Unvalued-clause-next
+returns-in-Unvalued-clause-next g c =
+    next_input c.args.store.now.sheet (g.M.Memo.state c.args.memo.now) c.args.frame.now.key c.in-Unvalued.first c.args.at c.args.pairs c.deref.result.now c.requires.awaits.1 c.deref.ensures.value (rw c.in-Unvalued.is at c.in_ok-first.ensures.inputs)
 
-pub returns-in-Unknown-2-clause-next : goal.returns-in-Unknown-2-clause-next
-returns-in-Unknown-2-clause-next g c =
-    let world = rw c.in-Known.is at c.in_ok-first.ensures.known in
-    let unknown = rw c.in-Unknown-2.is at c.in_ok-first-in-Known.ensures.unknown in
-    next_inner c.args.store.now.sheet (g.M.Memo.state c.args.memo.now) (g.M.Memo.state c.world_of_what_if.new.memo) c.args.frame.now.key c.in-Unknown-2.first c.args.at c.args.pairs c.deref.result.now _
-    c.in_ok-first.ensures.same c.requires.awaits.1 c.deref.ensures.value world unknown
+pub returns-in-Unvalued-2-clause-next : goal.returns-in-Unvalued-2-clause-next
+returns-in-Unvalued-2-clause-next g c =
+    let world = rw c.in-Known.is at c.in_ok-first.ensures.inputs in
+    next_inner c.args.store.now.sheet (g.M.Memo.state c.args.memo.now) (g.M.Memo.state c.world_of_what_if.new.memo) c.args.frame.now.key c.in-Unvalued-2.first c.args.at c.args.pairs c.deref.result.now _
+    c.in_ok-first.ensures.same c.requires.awaits.1 c.deref.ensures.value world (rw c.in-Unvalued-2.is at c.in_ok-first-in-Known.ensures.asked)
 
 -- ---- what is left
 
-pub returns-in-Unknown-clause-steps : goal.returns-in-Unknown-clause-steps
-returns-in-Unknown-clause-steps g c = steps_wait (steps_none c.requires.frame refl) c.in_ok-first.ensures.same c.requires.waiting (record { key = refl; formula = refl; found = refl; awaits = λ d. c.requires.awaits }) refl
+pub returns-in-Unvalued-clause-steps : goal.returns-in-Unvalued-clause-steps
+returns-in-Unvalued-clause-steps g c = steps_wait (steps_none c.requires.frame refl) c.in_ok-first.ensures.same c.requires.waiting (record { key = refl; formula = refl; found = refl; awaits = λ d. c.requires.awaits }) refl
 
-pub returns-in-Unknown-2-clause-steps : goal.returns-in-Unknown-2-clause-steps
-returns-in-Unknown-2-clause-steps g c =
+pub returns-in-Unvalued-2-clause-steps : goal.returns-in-Unvalued-2-clause-steps
+returns-in-Unvalued-2-clause-steps g c =
     steps_wait (steps_none c.requires.frame c.in_ok-first.ensures.same) c.in_ok-first-in-Known.ensures.same c.requires.waiting (record { key = refl; formula = refl; found = refl; awaits = λ d. c.requires.awaits }) refl
 
 pub returns-clause-steps : goal.returns-clause-steps
 returns-clause-steps g c =
-    let world = rw c.in-Known.is at c.in_ok-first.ensures.known in
-    let known = rw c.in-Known-2.is at c.in_ok-first-in-Known.ensures.known in
-    let there = rw c.in-Known-2.is at c.in_ok-first-in-Known.ensures.there in
+    let world = rw c.in-Known.is at c.in_ok-first.ensures.inputs in
+    let shown = rw c.in-Known-2.is at c.in_ok-first-in-Known.ensures.asked in
     let x : FoundWhatIf = record { at = c.args.at; pairs = c.args.pairs; value = c.in-Known-2.value } in
     steps_what_if {x = x} c.requires.memo c.in_ok-first.ensures.same c.in_ok-first-in-Known.ensures.same c.requires.frame c.requires.waiting refl refl c.requires.waiting c.in_ok-add_what_if-in-Known-2.ensures.ok c.requires.awaits.0 c.requires.awaits.1
-    c.deref.ensures.value world c.in_ok-first.ensures.order known there
+    c.deref.ensures.value world c.in_ok-first.ensures.order shown
 
 pub returns-in_err-first-clause-steps : goal.returns-in_err-first-clause-steps
 returns-in_err-first-clause-steps g c = steps_err c.from_residual.result c.from_residual.ensures.0 c.world_of_what_if.ensures.same refl

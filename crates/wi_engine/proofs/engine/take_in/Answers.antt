@@ -1,5 +1,5 @@
 use Rattle.std.proofs.Common.{◌∙◌, refl, rules, sym}
-use Rattle.wi_engine.proofs.engine.Taking.{takes_none, takes_err, takes_value}
+use Rattle.wi_engine.proofs.engine.TakenValues.{takes_none, takes_err, takes_value}
 use Rattle.wi_engine.proofs.engine.take_in.Goals as goal
 
 pub returns-then-not-waits_for : goal.returns-then-not-waits_for

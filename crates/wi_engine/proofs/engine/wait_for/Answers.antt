@@ -1,6 +1,6 @@
 use Rattle.std.proofs.Common.{refl}
 use Rattle.wi_sheet.proofs.Bounds.{put_formula}
-use Rattle.wi_engine.proofs.engine.Awaiting.{cell_here, awaits_cells, waits_err}
+use Rattle.wi_engine.proofs.engine.Waits.{cell_here, awaits_cells, waits_err}
 use Rattle.wi_engine.proofs.engine.wait_for.Goals as goal
 
 pub together-requires-clause-read : goal.together-requires-clause-read

@@ -6,9 +6,9 @@ use Rattle.wi_parser.specs.Sheet.{put_all}
 use Rattle.wi_lookup.specs.Assignment.{addresses}
 use Rattle.wi_sheet.specs.CellValue.{replacements, cell_value}
 use Rattle.wi_sheet.proofs.Overrides.{replaced_world}
-use Rattle.wi_engine.proofs.engine.Awaiting.{input_unvalued}
+use Rattle.wi_engine.proofs.engine.Waits.{input_unvalued}
 use Rattle.wi_sheet.specs.Settled.{IsSettled}
-use Rattle.wi_engine.proofs.engine.FoundSettled.{settled_now}
+use Rattle.wi_engine.proofs.engine.SettledFindings.{settled_now}
 use Rattle.wi_sheet.proofs.Inputs.{one_more_input}
 use Rattle.wi_engine.proofs.engine.world_of_what_if.Goals as goal
 
@@ -18,23 +18,21 @@ loop-pair-preserved g c =
     let m = g.M.Memo.state c.args.memo.now in
     let w = c.args.world.now in
     let i = c.loop-pair.invariant in
-    let known = rw c.in-Known.is at c.in_ok-value.ensures.known in
-    let there = rw c.in-Known.is at c.in_ok-value.ensures.there in
+    let shown = rw c.in-Known.is at c.in_ok-value.ensures.asked in
     let P : Pair → Type 0 = λ p. IsSettled s m.kept w p.replacement.at in
     record {
-      inputs = one_more_input s w c.args.pairs.now c.loop-pair.pair-index c.pair-item.result c.in-Known.value c.loop-pair.inputs.items _ c.loop-pair-test.true c.pair-item.is i.inputs known (search rules);
-      settled = λ whole. All-more P c.args.pairs.now c.loop-pair.pair-index c.pair-item.result c.loop-pair-test.true (i.settled whole) (subst P c.pair-item.is (settled_now s m (g.M.Memo.state c.loop-pair.memo) w c.pair-item.result.replacement.at c.requires.memo i.same whole there));
+      inputs = one_more_input s w c.args.pairs.now c.loop-pair.pair-index c.pair-item.result c.in-Known.value c.loop-pair.inputs.items _ c.loop-pair-test.true c.pair-item.is i.inputs shown.value (search rules);
+      settled = λ whole. All-more P c.args.pairs.now c.loop-pair.pair-index c.pair-item.result c.loop-pair-test.true (i.settled whole) (subst P c.pair-item.is (settled_now s m (g.M.Memo.state c.loop-pair.memo) w c.pair-item.result.replacement.at c.requires.memo i.same whole shown.easy));
       same = c.in_ok-value.ensures.same ∙ i.same;
     }
 
-pub returns-in-Unknown-clause-unknown : goal.returns-in-Unknown-clause-unknown
-returns-in-Unknown-clause-unknown g c =
-    let unknown = rw c.in-Unknown.is at c.in_ok-value.ensures.unknown in
-    input_unvalued c.args.store.now.sheet (g.M.Memo.state c.args.memo.now) (g.M.Memo.state c.loop-pair.memo) c.args.world.now c.args.pairs.now c.loop-pair.pair-index c.pair-item.result c.in-Unknown.input
-    c.loop-pair-test.true c.pair-item.is c.loop-pair.invariant.same unknown
+pub returns-in-Unvalued-clause-inputs : goal.returns-in-Unvalued-clause-inputs
+returns-in-Unvalued-clause-inputs g c =
+    input_unvalued c.args.store.now.sheet (g.M.Memo.state c.args.memo.now) (g.M.Memo.state c.loop-pair.memo) c.args.world.now c.args.pairs.now c.loop-pair.pair-index c.pair-item.result c.in-Unvalued.input
+    c.loop-pair-test.true c.pair-item.is c.loop-pair.invariant.same (rw c.in-Unvalued.is at c.in_ok-value.ensures.asked)
 
-pub returns-clause-known : goal.returns-clause-known
-returns-clause-known g c =
+pub returns-clause-inputs : goal.returns-clause-inputs
+returns-clause-inputs g c =
     let s = c.args.store.now.sheet in
     let w = c.args.world.now in
     let all : take c.loop-pair.pair-index c.args.pairs.now ≡ c.args.pairs.now = take_all c.loop-pair.pair-index c.args.pairs.now (omega (arith, c.loop-pair-test.false)) in

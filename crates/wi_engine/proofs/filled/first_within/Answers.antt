@@ -1,6 +1,6 @@
 use Rattle.std.proofs.Common.{◌<◌, ◌∙◌, sym, arith}
 use Rattle.std.proofs.lemmas.Bool.Decides.{nat_tests}
-use Rattle.wi_engine.proofs.filled.Replaced.{past_the_last, stands_at}
+use Rattle.wi_engine.proofs.filled.FirstReplaced.{past_the_last, stands_at}
 use Rattle.wi_engine.proofs.filled.first_within.Goals as goal
 
 pub returns-then-lt-clause-cell : goal.returns-then-lt-clause-cell

@@ -7,7 +7,7 @@ use Rattle.std.proofs.lemmas.List.Sorted.{IsPartitionPoint-from_clause, IsPartit
 use Rattle.wi_values.specs.Address.{is_within}
 use Rattle.wi_values.specs.declared.replacement.Replacement.{Replacement}
 use Rattle.wi_values.specs.Replacements.{IsInOrder, as_map, replaced}
-use Rattle.wi_engine.proofs.filled.Replaced.{addresses_rise, drop_in_order, from_point, of_all}
+use Rattle.wi_engine.proofs.filled.FirstReplaced.{addresses_rise, drop_in_order, from_point, of_all}
 use Rattle.wi_engine.proofs.filled.next_replaced.Goals as goal
 
 pub first_within-requires : goal.first_within-requires

@@ -1,4 +1,4 @@
-use Rattle.wi_engine.proofs.filled.Passing.{are_sought, touched_inside, touched_seen, untouched_before}
+use Rattle.wi_engine.proofs.filled.FirstTouched.{are_sought, touched_inside, touched_seen, untouched_before}
 use Rattle.wi_engine.proofs.filled.next_touched.Goals as goal
 
 pub returns-clause-inside : goal.returns-clause-inside

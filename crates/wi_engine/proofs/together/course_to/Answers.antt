@@ -1,4 +1,4 @@
-use Rattle.wi_engine.proofs.together.LedOn.{led_to}
+use Rattle.wi_engine.proofs.together.Courses.{led_to}
 use Rattle.wi_engine.proofs.together.course_to.Goals as goal
 
 pub returns-in-Some-way_on-clause-count : goal.returns-in-Some-way_on-clause-count

@@ -1,4 +1,4 @@
-use Rattle.std.proofs.Common.{◌≡◌, ℕ, if◌then◌else◌, take}
+use Rattle.std.proofs.Common.{◌≡◌, ℕ, take, if◌then◌else◌}
 use Rattle.wi_graph.specs.Reach.{is_one_of}
 use Rattle.wi_propagate.specs.KeptSheet.{generation_in}
 use Rattle.wi_propagate.specs.Inner.Keeping.{HasGeneration}

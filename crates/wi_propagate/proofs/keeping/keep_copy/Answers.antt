@@ -1,5 +1,5 @@
 use Rattle.std.proofs.lemmas.Result.{IfOk-weaker}
-use Rattle.wi_propagate.proofs.KeepingSteps.{put_found}
+use Rattle.wi_propagate.proofs.KeepSteps.{put_found}
 use Rattle.wi_propagate.proofs.keeping.keep_copy.Goals as goal
 
 pub returns-clause-ok : goal.returns-clause-ok

@@ -8,8 +8,8 @@ use Rattle.wi_sheet.specs.Inner.Spending.{HasReplacing}
 use Rattle.wi_sheet.proofs.Overrides.{replaced_world}
 use Rattle.wi_engine.specs.Inner.Frames.{MayBeRead}
 use Rattle.wi_engine.specs.Inner.Saving.{WhereRoom}
-use Rattle.wi_engine.proofs.Spent.{spends_then, spends_weaken, spends_err}
-use Rattle.wi_propagate.proofs.SavingEntries.{has_pair, more_settled}
+use Rattle.wi_engine.proofs.Ledger.{spends_then, spends_weaken, spends_err}
+use Rattle.wi_propagate.proofs.EntryQuestions.{has_pair, more_settled}
 use Rattle.wi_propagate.proofs.table_entry.with_inputs.Goals as goal
 
 pub returns-clause-world : goal.returns-clause-world

@@ -3,7 +3,7 @@ use Rattle.std.proofs.lemmas.Result.{IfOk-weaker}
 use Rattle.wi_graph.specs.Circular.{circular}
 use Rattle.wi_sheet.specs.Demand.{case_of, demanded}
 use Rattle.wi_sheet.proofs.Cases.{demands_itself, different_closed}
-use Rattle.wi_sheet.proofs.Counting.{spent_nothing, spent_price}
+use Rattle.wi_sheet.proofs.CaseCosts.{spent_nothing, spent_price}
 use Rattle.wi_sheet.proofs.Overrides.{put_alone}
 use Rattle.wi_sheet.proofs.Steps.{shown_circular, shown_value}
 use Rattle.wi_propagate.proofs.value.shown.Goals as goal

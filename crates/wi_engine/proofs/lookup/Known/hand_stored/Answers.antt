@@ -4,7 +4,7 @@ use Rattle.wi_parser.specs.declared.content.Content.{Content}
 use Rattle.std.specs.Prelude.{Option}
 use Rattle.wi_engine.specs.Inner.Attempt.{known_in}
 use Rattle.wi_engine.specs.Inner.Findings.{found_value}
-use Rattle.wi_engine.proofs.lookup.Handing.{handed_enough, handed_to_end, handed_to_limit, inside_here, missing_here, one_more}
+use Rattle.wi_engine.proofs.lookup.HandOver.{handed_enough, handed_to_end, handed_to_limit, inside_here, missing_here, one_more}
 use Rattle.wi_engine.proofs.lookup.Known.hand_stored.Goals as goal
 
 pub returns-then-is_reached-clause-taken : goal.returns-then-is_reached-clause-taken

@@ -1,4 +1,4 @@
-use Rattle.wi_engine.proofs.lookup.Handing.{AreHanded}
+use Rattle.wi_engine.proofs.lookup.HandOver.{AreHanded}
 use Rattle.wi_engine.proofs.lookup.Known.hand_stored.Given as goal
 
 -- what was handed over, and what is to come

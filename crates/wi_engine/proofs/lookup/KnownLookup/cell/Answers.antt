@@ -4,7 +4,7 @@ use Rattle.wi_parser.specs.Sheet.{content_of, put_all}
 use Rattle.wi_sheet.specs.CellValue.{cell_value}
 use Rattle.wi_engine.specs.Inner.Attempt.{known_in}
 use Rattle.wi_engine.specs.Inner.Findings.{found_value}
-use Rattle.wi_engine.proofs.attempt.Attempting.{found_known}
+use Rattle.wi_engine.proofs.attempt.KnownValues.{found_known}
 use Rattle.wi_engine.proofs.lookup.KnownLookup.cell.Goals as goal
 
 -- what was found is right, and so it is known

@@ -1,5 +1,5 @@
 use Rattle.std.proofs.Common.{◌∙◌, None, Some, sym}
-use Rattle.wi_engine.proofs.lookup.Handing.{further, replaced_ahead, replaced_last, replaced_on, stands}
+use Rattle.wi_engine.proofs.lookup.HandOver.{further, replaced_ahead, replaced_last, replaced_on, stands}
 use Rattle.wi_engine.proofs.lookup.KnownLookup.hand_over.Goals as goal
 
 pub hand_stored-requires-clause-ahead : goal.hand_stored-requires-clause-ahead

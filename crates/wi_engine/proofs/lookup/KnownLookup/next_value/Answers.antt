@@ -1,5 +1,5 @@
 use Rattle.std.proofs.Common.{rules}
-use Rattle.wi_engine.proofs.filled.Passing.{passed_over}
+use Rattle.wi_engine.proofs.filled.FirstTouched.{passed_over}
 use Rattle.wi_engine.proofs.lookup.KnownLookup.next_value.Goals as goal
 
 pub loop-ahead-preserved : goal.loop-ahead-preserved

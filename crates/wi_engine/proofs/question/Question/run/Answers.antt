@@ -1,6 +1,6 @@
 use Rattle.std.proofs.Common.{◌≡◌, ◌∙◌, ℕ, List, [], ◌∷◌, length, refl, arith}
 use Rattle.wi_engine.specs.declared.frame.Frame.{Frame}
-use Rattle.wi_engine.proofs.engine.Running.{IsNew, GoesDeeper, deeper_smaller, back_smaller, run_below, run_value}
+use Rattle.wi_engine.proofs.engine.FrameRuns.{IsNew, GoesDeeper, deeper_smaller, back_smaller, run_below, run_value}
 use Rattle.wi_engine.proofs.engine.Ends.{turn_same, turn_kept, comes_back, going_start, going_deeper, going_back, going_stops, going_ends, root_kept, root_there}
 use Rattle.wi_engine.proofs.engine.Steps.{counts_less}
 use Rattle.wi_engine.proofs.question.Question.run.Goals as goal
@@ -24,25 +24,25 @@ advance-requires-clause-memo g c = c.frames.invariant.running.memo
 pub advance-requires-clause-frame : goal.advance-requires-clause-frame
 advance-requires-clause-frame g c = c.frames.invariant.running.begun.frame
 
-pub frames-smaller-in-Needs : goal.frames-smaller-in-Needs
-frames-smaller-in-Needs g c =
+pub frames-smaller-in-Unvalued : goal.frames-smaller-in-Unvalued
+frames-smaller-in-Unvalued g c =
     let a = c.in_ok-next.ensures in
-    deeper_smaller c.frames.invariant.running (g.M.Memo.state c.advance.new.memo) c.new-frame-in-Needs.result a.steps.same (rw c.in-Needs.is at a.next).next c.new-frame-in-Needs.ensures.key
+    deeper_smaller c.frames.invariant.running (g.M.Memo.state c.advance.new.memo) c.new-frame-in-Unvalued.result a.steps.same (rw c.in-Unvalued.is at a.gives).0.next c.new-frame-in-Unvalued.ensures.key
 
-pub frames-preserved-in-Needs : goal.frames-preserved-in-Needs
-frames-preserved-in-Needs g c =
+pub frames-preserved-in-Unvalued : goal.frames-preserved-in-Unvalued
+frames-preserved-in-Unvalued g c =
     let s = c.args.store.now.sheet in
-    let n = c.new-frame-in-Needs.ensures in
+    let n = c.new-frame-in-Unvalued.ensures in
     let a = c.in_ok-next.ensures in
-    let u = rw c.in-Needs.is at a.next in
-    let turn : GoesDeeper s (g.M.Memo.state c.frames.self.memo) c.frames.self.meter c.advance.new.meter c.frames.frame c.advance.new.frame c.new-frame-in-Needs.result c.in-Needs.next.key = record {
+    let u = rw c.in-Unvalued.is at a.gives in
+    let turn : GoesDeeper s (g.M.Memo.state c.frames.self.memo) c.frames.self.meter c.advance.new.meter c.frames.frame c.advance.new.frame c.new-frame-in-Unvalued.result c.in-Unvalued.next.key = record {
       steps = rw a.steps.same at a.steps;
       rises = a.counts.rises;
-      evaluations = rw c.in-Needs.is at a.evaluations;
-      key = u.next;
-      new = record { key = n.key; formula = rw n.formula u.stands; cells = n.cells; what_ifs = n.what_ifs; waiting = n.waiting };
+      evaluations = u.1;
+      key = u.0.next;
+      new = record { key = n.key; formula = rw n.formula u.0.stands; cells = n.cells; what_ifs = n.what_ifs; waiting = n.waiting };
     } in
-    rw (c.in_ok-push-in-Needs.ensures.items, a.steps.same) (going_deeper c.frames.invariant turn)
+    rw (c.in_ok-push-in-Unvalued.ensures.items, a.steps.same) (going_deeper c.frames.invariant turn)
 
 pub take_in-requires-clause-awaits : goal.take_in-requires-clause-awaits
 take_in-requires-clause-awaits g c = (run_below _ (rw c.in-Some.ensures.items at c.frames.invariant).running).waiting
@@ -53,13 +53,13 @@ take_in-requires-clause-own g c = rw c.retire-key.ensures (c.in_ok-next.ensures.
 pub take_in-requires-clause-right : goal.take_in-requires-clause-right
 take_in-requires-clause-right g c =
     let a = c.in_ok-next.ensures in
-    rw (c.retire-key.ensures, a.steps.key) (rw c.in-Done.is at a.done).value
+    rw (c.retire-key.ensures, a.steps.key) (rw c.in-Done.is at a.gives).0.value
 
 pub frames-smaller : goal.frames-smaller
 frames-smaller g c =
     let a = c.in_ok-next.ensures in
     let k = c.in_ok-keep-in-Some.ensures in
-    let turn = comes_back a.steps.same (c.retire-key.ensures ∙ a.steps.key) k.keeps k.kept (rw c.in-Done.is at a.done) a.counts (rw c.in-Done.is at a.evaluations) in
+    let turn = comes_back a.steps.same (c.retire-key.ensures ∙ a.steps.key) k.keeps k.kept (rw c.in-Done.is at a.gives) a.counts in
     back_smaller c.frames.invariant.running (g.M.Memo.state c.keep-in-Some.new.self) c.take_in.new.frame turn.kept.found c.requires.key.key.open_cell c.requires.key.key.formula
 
 pub frames-preserved : goal.frames-preserved
@@ -67,7 +67,7 @@ frames-preserved g c =
     let a = c.in_ok-next.ensures in
     let k = c.in_ok-keep-in-Some.ensures in
     let key = c.retire-key.ensures ∙ a.steps.key in
-    let turn = comes_back a.steps.same key k.keeps k.kept (rw c.in-Done.is at a.done) a.counts (rw c.in-Done.is at a.evaluations) in
+    let turn = comes_back a.steps.same key k.keeps k.kept (rw c.in-Done.is at a.gives) a.counts in
     let going = rw c.in-Some.ensures.items at c.frames.invariant in
     going_back going turn (rw key at c.in_ok-take_in-in-Some.ensures)
 
@@ -86,7 +86,7 @@ keep-requires-clause-open_cell g c =
 pub keep-requires-clause-right : goal.keep-requires-clause-right
 keep-requires-clause-right g c =
     let a = c.in_ok-next.ensures in
-    rw (c.retire-root.ensures, a.steps.key, a.steps.same, c.frames.invariant.running.memo.sheet) (rw c.in-Done.is at a.done).value
+    rw (c.retire-root.ensures, a.steps.key, a.steps.same, c.frames.invariant.running.memo.sheet) (rw c.in-Done.is at a.gives).0.value
 
 pub keep-requires-in-Some-clause-generation : goal.keep-requires-in-Some-clause-generation
 keep-requires-in-Some-clause-generation g c =
@@ -101,34 +101,34 @@ keep-requires-in-Some-clause-open_cell g c =
 pub keep-requires-in-Some-clause-right : goal.keep-requires-in-Some-clause-right
 keep-requires-in-Some-clause-right g c =
     let a = c.in_ok-next.ensures in
-    rw (c.retire-key.ensures, a.steps.key, a.steps.same, c.frames.invariant.running.memo.sheet) (rw c.in-Done.is at a.done).value
+    rw (c.retire-key.ensures, a.steps.key, a.steps.same, c.frames.invariant.running.memo.sheet) (rw c.in-Done.is at a.gives).0.value
 
 -- ---- the end, where the root's value is kept
 
 pub returns-in-None-clause-value : goal.returns-in-None-clause-value
 returns-in-None-clause-value g c =
     let going = rw (no_frames c.frames.stack.items c.frames.stack.len c.frames.stack.ok.0 c.in-None.ensures.cases.0) at c.frames.invariant in
-    run_value c.args.key going.running (c.in_ok-shown-in-None.ensures ∙ (rw c.in-Done.is at c.in_ok-next.ensures.done).value)
+    run_value c.args.key going.running (c.in_ok-shown-in-None.ensures ∙ (rw c.in-Done.is at c.in_ok-next.ensures.gives).0.value)
 
 pub returns-in-None-clause-spends : goal.returns-in-None-clause-spends
 returns-in-None-clause-spends g c =
     let a = c.in_ok-next.ensures in
     let k = c.in_ok-keep-in-None.ensures in
-    let turn = comes_back a.steps.same (c.retire-root.ensures ∙ a.steps.key) k.keeps k.kept (rw c.in-Done.is at a.done) a.counts (rw c.in-Done.is at a.evaluations) in
+    let turn = comes_back a.steps.same (c.retire-root.ensures ∙ a.steps.key) k.keeps k.kept (rw c.in-Done.is at a.gives) a.counts in
     going_ends (rw (no_frames c.frames.stack.items c.frames.stack.len c.frames.stack.ok.0 c.in-None.ensures.cases.0) at c.frames.invariant) turn
 
 pub returns-in-None-clause-kept : goal.returns-in-None-clause-kept
 returns-in-None-clause-kept g c =
     let a = c.in_ok-next.ensures in
     let k = c.in_ok-keep-in-None.ensures in
-    let turn = comes_back a.steps.same (c.retire-root.ensures ∙ a.steps.key) k.keeps k.kept (rw c.in-Done.is at a.done) a.counts (rw c.in-Done.is at a.evaluations) in
+    let turn = comes_back a.steps.same (c.retire-root.ensures ∙ a.steps.key) k.keeps k.kept (rw c.in-Done.is at a.gives) a.counts in
     root_there (rw (no_frames c.frames.stack.items c.frames.stack.len c.frames.stack.ok.0 c.in-None.ensures.cases.0) at c.frames.invariant) turn
 
 pub returns-in-None-clause-settled : goal.returns-in-None-clause-settled
 returns-in-None-clause-settled g c =
     let a = c.in_ok-next.ensures in
     let k = c.in_ok-keep-in-None.ensures in
-    let turn = comes_back a.steps.same (c.retire-root.ensures ∙ a.steps.key) k.keeps k.kept (rw c.in-Done.is at a.done) a.counts (rw c.in-Done.is at a.evaluations) in
+    let turn = comes_back a.steps.same (c.retire-root.ensures ∙ a.steps.key) k.keeps k.kept (rw c.in-Done.is at a.gives) a.counts in
     root_kept (rw (no_frames c.frames.stack.items c.frames.stack.len c.frames.stack.ok.0 c.in-None.ensures.cases.0) at c.frames.invariant) turn
 
 -- ---- where memory runs out
@@ -139,11 +139,11 @@ returns-in_err-next-clause-spends g c =
     let i = c.frames.invariant in
     going_stops i (turn_same i.running.memo a.steps.same (counts_less a.counts)) c.from_residual.result c.from_residual.ensures.0
 
-pub returns-in_err-push-in-Needs-clause-spends : goal.returns-in_err-push-in-Needs-clause-spends
-returns-in_err-push-in-Needs-clause-spends g c =
+pub returns-in_err-push-in-Unvalued-clause-spends : goal.returns-in_err-push-in-Unvalued-clause-spends
+returns-in_err-push-in-Unvalued-clause-spends g c =
     let a = c.in_ok-next.ensures in
     let i = c.frames.invariant in
-    going_stops i (turn_same i.running.memo a.steps.same a.counts) c.from_residual-in_err-push-in-Needs.result c.from_residual-in_err-push-in-Needs.ensures.0
+    going_stops i (turn_same i.running.memo a.steps.same a.counts) c.from_residual-in_err-push-in-Unvalued.result c.from_residual-in_err-push-in-Unvalued.ensures.0
 
 pub returns-in_err-shown-in-None-clause-spends : goal.returns-in_err-shown-in-None-clause-spends
 returns-in_err-shown-in-None-clause-spends g c =
@@ -161,12 +161,12 @@ pub returns-in_err-keep-in-Some-clause-spends : goal.returns-in_err-keep-in-Some
 returns-in_err-keep-in-Some-clause-spends g c =
     let a = c.in_ok-next.ensures in
     let i = c.frames.invariant in
-    let turn = turn_kept i.running.memo a.steps.same (c.retire-key.ensures ∙ a.steps.key) (rw c.in-Done.is at a.done) c.in_err-keep-in-Some.ensures.keeps a.counts (rw c.in-Done.is at a.evaluations) in
+    let turn = turn_kept i.running.memo a.steps.same (c.retire-key.ensures ∙ a.steps.key) (rw c.in-Done.is at a.gives) c.in_err-keep-in-Some.ensures.keeps a.counts in
     going_stops i turn c.from_residual-in_err-keep-in-Some.result c.from_residual-in_err-keep-in-Some.ensures.0
 
 pub returns-in_err-keep-in-None-clause-spends : goal.returns-in_err-keep-in-None-clause-spends
 returns-in_err-keep-in-None-clause-spends g c =
     let a = c.in_ok-next.ensures in
     let i = c.frames.invariant in
-    let turn = turn_kept i.running.memo a.steps.same (c.retire-root.ensures ∙ a.steps.key) (rw c.in-Done.is at a.done) c.in_err-keep-in-None.ensures.keeps a.counts (rw c.in-Done.is at a.evaluations) in
+    let turn = turn_kept i.running.memo a.steps.same (c.retire-root.ensures ∙ a.steps.key) (rw c.in-Done.is at a.gives) c.in_err-keep-in-None.ensures.keeps a.counts in
     going_stops i turn c.from_residual-in_err-keep-in-None.result c.from_residual-in_err-keep-in-None.ensures.0

@@ -1,45 +1,12 @@
 use Rattle.std.proofs.lemmas.Result.{IfOk-weaker}
 use Rattle.std.proofs.Common.{refl, subst, sym}
 use Rattle.wi_engine.specs.Inner.MemoState.{MemoState, IsMemoOf}
-use Rattle.wi_engine.specs.Inner.Frames.{IsToFind}
-use Rattle.wi_engine.proofs.engine.Running.{unvalued_in, unvalued_value}
-use Rattle.wi_engine.proofs.engine.Saving.{kept_before, not_easy, under_kept, under_settled, settled_before}
-use Rattle.wi_engine.proofs.Spent.{spends_none, spends_weaken}
+use Rattle.wi_engine.specs.Inner.Frames.{IsUnvaluedKey}
+use Rattle.wi_engine.proofs.engine.RunsWithRoom.{kept_before, settled_before, not_easy, unvalued_in, unvalued_value, unvalued_kept, unvalued_settled}
+use Rattle.wi_engine.proofs.Ledger.{spends_none, spends_weaken}
 use Rattle.wi_engine.proofs.question.Question.value.Goals as goal
 
-pub returns-in-Unknown-clause-value : goal.returns-in-Unknown-clause-value
-returns-in-Unknown-clause-value g c =
-    let u = (rw c.in-Unknown.is at c.in_ok-value.ensures.unknown).unvalued in
-    IfOk-weaker c.run.result _ _ (λ v h. unvalued_value c.args.store.now.sheet (g.M.Memo.state c.args.self.now.memo) c.args.world.now c.args.at c.in-Unknown.cell.key v u h) c.run.ensures.value
-
-pub returns-in-Known-clause-kept : goal.returns-in-Known-clause-kept
-returns-in-Known-clause-kept g c =
-    let there = rw c.in-Known.is at c.in_ok-value.ensures.there in
-    λ anew room. kept_before c.args.store.now.sheet (g.M.Memo.state c.args.self.now.memo) (g.M.Memo.state c.value_now.new.memo) c.args.world.now c.args.at c.requires.memo c.in_ok-value.ensures.same there anew
-
-pub returns-in-Known-clause-settled : goal.returns-in-Known-clause-settled
-returns-in-Known-clause-settled g c =
-    let there = rw c.in-Known.is at c.in_ok-value.ensures.there in
-    settled_before c.args.store.now.sheet (g.M.Memo.state c.args.self.now.memo) (g.M.Memo.state c.value_now.new.memo) c.args.world.now c.args.at _ c.requires.memo c.in_ok-value.ensures.same there
-
-pub returns-in-Unknown-clause-kept : goal.returns-in-Unknown-clause-kept
-returns-in-Unknown-clause-kept g c =
-    let u = (rw c.in-Unknown.is at c.in_ok-value.ensures.unknown).unvalued in
-    IfOk-weaker c.run.result _ _
-    (λ v h anew room. under_kept c.args.store.now.sheet (g.M.Memo.state c.args.self.now.memo) (g.M.Memo.state c.value_now.new.memo) (g.M.Memo.state c.run.new.self.memo) c.args.world.now c.args.at c.in-Unknown.cell.key c.in_ok-value.ensures.same u h room)
-    c.run.ensures.kept
-
-pub returns-in-Unknown-clause-uncounted : goal.returns-in-Unknown-clause-uncounted
-returns-in-Unknown-clause-uncounted g c =
-    let u = (rw c.in-Unknown.is at c.in_ok-value.ensures.unknown).unvalued in
-    λ easy. absurd (not_easy c.args.store.now.sheet (g.M.Memo.state c.args.self.now.memo) c.args.world.now c.args.at c.in-Unknown.cell.key c.requires.memo u easy)
-
-pub returns-in-Unknown-clause-settled : goal.returns-in-Unknown-clause-settled
-returns-in-Unknown-clause-settled g c =
-    let u = (rw c.in-Unknown.is at c.in_ok-value.ensures.unknown).unvalued in
-    IfOk-weaker c.run.result _ _
-    (λ v h. under_settled c.args.store.now.sheet (g.M.Memo.state c.args.self.now.memo) c.args.world.now c.args.at (g.M.Memo.state c.value_now.new.memo) (g.M.Memo.state c.run.new.self.memo) c.in-Unknown.cell.key c.in_ok-value.ensures.same u h)
-    c.run.ensures.settled
+-- ---- what is asked of the memory, and of the run
 
 pub value_now-requires-clause-memo : goal.value_now-requires-clause-memo
 value_now-requires-clause-memo g c = c.requires.memo
@@ -52,30 +19,55 @@ run-requires-clause-memo g c = subst (λ (x : MemoState). IsMemoOf c.args.store.
 
 pub run-requires-clause-key : goal.run-requires-clause-key
 run-requires-clause-key g c =
-    let u = (rw c.in-Unknown.is at c.in_ok-value.ensures.unknown).unvalued in
-    subst (λ (x : MemoState). IsToFind c.args.store.now.sheet x c.in-Unknown.cell.key) (sym c.in_ok-value.ensures.same) u.to_find
+    let u = (rw c.in-Unvalued.is at c.in_ok-value.ensures.asked).unvalued in
+    subst (λ (x : MemoState). IsUnvaluedKey c.args.store.now.sheet x c.in-Unvalued.cell.key) (sym c.in_ok-value.ensures.same) u.to_find
 
 pub run-requires-clause-formula : goal.run-requires-clause-formula
-run-requires-clause-formula g c = (rw c.in-Unknown.is at c.in_ok-value.ensures.unknown).stands
+run-requires-clause-formula g c = (rw c.in-Unvalued.is at c.in_ok-value.ensures.asked).stands
+
+-- ---- a value that is there
 
 pub returns-in-Known-clause-value : goal.returns-in-Known-clause-value
-returns-in-Known-clause-value g c = rw c.in-Known.is at c.in_ok-value.ensures.known
-
-pub returns-in-Known-clause-uncounted : goal.returns-in-Known-clause-uncounted
-returns-in-Known-clause-uncounted g c = λ easy. refl
-
-pub returns-in_err-value-clause-uncounted : goal.returns-in_err-value-clause-uncounted
-returns-in_err-value-clause-uncounted g c = λ easy. refl
-
--- ---- what was spent
-
-pub returns-in_err-value-clause-spends : goal.returns-in_err-value-clause-spends
-returns-in_err-value-clause-spends g c = spends_none c.requires.memo c.value_now.ensures.same
+returns-in-Known-clause-value g c = (rw c.in-Known.is at c.in_ok-value.ensures.asked).value
 
 pub returns-in-Known-clause-spends : goal.returns-in-Known-clause-spends
 returns-in-Known-clause-spends g c = spends_none c.requires.memo c.in_ok-value.ensures.same
 
-pub returns-in-Unknown-clause-spends : goal.returns-in-Unknown-clause-spends
-returns-in-Unknown-clause-spends g c =
-    let u = (rw c.in-Unknown.is at c.in_ok-value.ensures.unknown).unvalued in
-    spends_weaken c.in_ok-value.ensures.same (λ ks top. unvalued_in _ _ _ _ _ ks u top) (λ d. d) c.run.ensures.spends
+pub returns-in-Known-clause-uncounted : goal.returns-in-Known-clause-uncounted
+returns-in-Known-clause-uncounted g c = λ easy. refl
+
+pub returns-in-Known-clause-kept : goal.returns-in-Known-clause-kept
+returns-in-Known-clause-kept g c = λ anew room. kept_before (g.M.Memo.state c.value_now.new.memo) c.requires.memo c.in_ok-value.ensures.same (rw c.in-Known.is at c.in_ok-value.ensures.asked).easy anew
+
+pub returns-in-Known-clause-settled : goal.returns-in-Known-clause-settled
+returns-in-Known-clause-settled g c =
+    settled_before (g.M.Memo.state c.value_now.new.memo) c.args.world.now c.args.at _ c.requires.memo c.in_ok-value.ensures.same (rw c.in-Known.is at c.in_ok-value.ensures.asked).easy
+
+-- ---- a formula that has to be valued
+
+pub returns-in-Unvalued-clause-value : goal.returns-in-Unvalued-clause-value
+returns-in-Unvalued-clause-value g c = IfOk-weaker c.run.result _ _ (unvalued_value (rw c.in-Unvalued.is at c.in_ok-value.ensures.asked).unvalued) c.run.ensures.value
+
+pub returns-in-Unvalued-clause-spends : goal.returns-in-Unvalued-clause-spends
+returns-in-Unvalued-clause-spends g c = spends_weaken c.in_ok-value.ensures.same (unvalued_in (rw c.in-Unvalued.is at c.in_ok-value.ensures.asked).unvalued) (λ d. d) c.run.ensures.spends
+
+pub returns-in-Unvalued-clause-uncounted : goal.returns-in-Unvalued-clause-uncounted
+returns-in-Unvalued-clause-uncounted g c = λ easy. absurd (not_easy (rw c.in-Unvalued.is at c.in_ok-value.ensures.asked).unvalued c.requires.memo easy)
+
+pub returns-in-Unvalued-clause-kept : goal.returns-in-Unvalued-clause-kept
+returns-in-Unvalued-clause-kept g c =
+    let u = (rw c.in-Unvalued.is at c.in_ok-value.ensures.asked).unvalued in
+    IfOk-weaker c.run.result _ _ (λ v h anew room. unvalued_kept u (g.M.Memo.state c.value_now.new.memo) (g.M.Memo.state c.run.new.self.memo) c.in_ok-value.ensures.same h room) c.run.ensures.kept
+
+pub returns-in-Unvalued-clause-settled : goal.returns-in-Unvalued-clause-settled
+returns-in-Unvalued-clause-settled g c =
+    let u = (rw c.in-Unvalued.is at c.in_ok-value.ensures.asked).unvalued in
+    IfOk-weaker c.run.result _ _ (λ v h. unvalued_settled u (g.M.Memo.state c.value_now.new.memo) (g.M.Memo.state c.run.new.self.memo) c.in_ok-value.ensures.same h) c.run.ensures.settled
+
+-- ---- where memory runs out
+
+pub returns-in_err-value-clause-uncounted : goal.returns-in_err-value-clause-uncounted
+returns-in_err-value-clause-uncounted g c = λ easy. refl
+
+pub returns-in_err-value-clause-spends : goal.returns-in_err-value-clause-spends
+returns-in_err-value-clause-spends g c = spends_none c.requires.memo c.value_now.ensures.same

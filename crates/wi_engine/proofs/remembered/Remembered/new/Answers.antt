@@ -1,5 +1,5 @@
 use Rattle.std.proofs.Common.{rules}
-use Rattle.wi_engine.proofs.remembered.Remembering.{no_values}
+use Rattle.wi_engine.proofs.remembered.QuestionMemory.{no_values}
 use Rattle.wi_engine.proofs.remembered.Remembered.new.Goals as goal
 
 pub returns-clause-right : goal.returns-clause-right

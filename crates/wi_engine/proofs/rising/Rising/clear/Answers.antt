@@ -1,4 +1,4 @@
-use Rattle.wi_engine.proofs.rising.Searching.{none_rise}
+use Rattle.wi_engine.proofs.rising.BinarySearch.{none_rise}
 use Rattle.wi_engine.proofs.rising.Rising.clear.Goals as goal
 
 pub invariant_of-self : goal.invariant_of-self

@@ -1,5 +1,5 @@
 use Rattle.std.proofs.Common.{rules}
-use Rattle.wi_engine.proofs.rising.Searching.{ends}
+use Rattle.wi_engine.proofs.rising.BinarySearch.{ends}
 use Rattle.wi_engine.proofs.rising.Rising.ends_before.Goals as goal
 
 pub returns-in-Some : goal.returns-in-Some

@@ -1,4 +1,4 @@
-use Rattle.wi_engine.proofs.rising.Searching.{none_rise}
+use Rattle.wi_engine.proofs.rising.BinarySearch.{none_rise}
 use Rattle.wi_engine.proofs.rising.Rising.new.Goals as goal
 
 pub invariant_of-result : goal.invariant_of-result

@@ -1,6 +1,6 @@
 use Rattle.std.proofs.Common.{ℕ, ◌<◌, List, All, subst, sym}
 use Rattle.wi_values.specs.declared.value.Value.{Value}
-use Rattle.wi_engine.proofs.rising.Searching.{rise_more}
+use Rattle.wi_engine.proofs.rising.BinarySearch.{rise_more}
 use Rattle.wi_engine.proofs.rising.Rising.push.Goals as goal
 
 pub invariant_of-self-2 : goal.invariant_of-self-2

@@ -1,7 +1,7 @@
 use Rattle.std.proofs.Common.{ℕ, rules}
 use Rattle.std.proofs.lemmas.List.Sorted.{answers_always}
 use Rattle.wi_values.specs.declared.value.Value.{Value}
-use Rattle.wi_engine.proofs.rising.Searching.{searched_of}
+use Rattle.wi_engine.proofs.rising.BinarySearch.{searched_of}
 use Rattle.wi_engine.proofs.rising.Rising.value.Goals as goal
 
 pub returns-in-Ok : goal.returns-in-Ok

@@ -1,4 +1,4 @@
-use Rattle.wi_propagate.proofs.KeptSteps.{begun_is_memo}
+use Rattle.wi_propagate.proofs.RightValues.{begun_is_memo}
 use Rattle.wi_propagate.proofs.keeping.Keeping.new.Goals as goal
 
 pub returns-clause-memo : goal.returns-clause-memo

@@ -12,11 +12,11 @@ use Rattle.wi_propagate.specs.Right.{IsKeptFor}
 use Rattle.wi_engine.specs.Inner.Saving.{TakesPlaces, GivesUpWhenFull}
 use Rattle.wi_propagate.specs.Inner.Keeping.{Keeping, TakesOver, keeping, state_in, value_in}
 use Rattle.wi_propagate.specs.KeptSheet.{generation_in, key_in}
-use Rattle.wi_engine.proofs.Kept.{has_kept}
-use Rattle.wi_propagate.proofs.KeptSteps.{found_is_kept}
-use Rattle.wi_propagate.proofs.KeepingSteps.{KeepsIn, right_after, kept_after, there_after, room_after, gives_up_after}
-use Rattle.wi_propagate.proofs.GivenUp.{known_after, stays_after, found_after}
-use Rattle.wi_propagate.proofs.PlacesTaken.{one_place_after}
+use Rattle.wi_engine.proofs.Places.{has_kept}
+use Rattle.wi_propagate.proofs.RightValues.{found_is_kept}
+use Rattle.wi_propagate.proofs.KeepSteps.{KeepsIn, right_after, kept_after, there_after, room_after, gives_up_after}
+use Rattle.wi_propagate.proofs.ValuesAtHand.{known_after, stays_after, found_after}
+use Rattle.wi_propagate.proofs.PlaceCounts.{one_place_after}
 use Rattle.wi_propagate.proofs.keeping.KeepingMemo.keep.Goals as goal
 
 pub returns-clause-keeps : goal.returns-clause-keeps

@@ -4,5 +4,5 @@ use Rattle.wi_propagate.proofs.keeping.KeepingMemo.look.Goals as goal
 pub returns-in-None-clause-value : goal.returns-in-None-clause-value
 returns-in-None-clause-value c = search rules
 
-pub returns-in-None-clause-missing : goal.returns-in-None-clause-missing
-returns-in-None-clause-missing c = search rules
+pub returns-in-None-clause-unfound : goal.returns-in-None-clause-unfound
+returns-in-None-clause-unfound c = search rules

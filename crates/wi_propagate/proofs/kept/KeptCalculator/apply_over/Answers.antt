@@ -1,4 +1,4 @@
-use Rattle.std.proofs.Common.{rules, ◌≡◌, if◌then◌else◌, ◌∙◌, ℕ, Bool, List, Option, Some, None, Ok, IfSome, ap, sym, subst}
+use Rattle.std.proofs.Common.{rules, ◌≡◌, ◌∙◌, ℕ, Bool, List, Option, Some, None, Ok, IfSome, ap, sym, subst, if◌then◌else◌}
 use Rattle.std.specs.Map.{keys_of}
 use Rattle.std.specs.Option.{unwrap_or}
 use Rattle.wi_parser.specs.declared.content.Content.{Content}

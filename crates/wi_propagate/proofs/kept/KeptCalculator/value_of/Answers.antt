@@ -9,10 +9,9 @@ use Rattle.wi_sheet.proofs.Cases.{demands_itself, different_closed}
 use Rattle.wi_sheet.proofs.Steps.{shown_circular, shown_value}
 use Rattle.wi_propagate.specs.KeptSheet.{KeptSheet, IsAtHand, is_kept}
 use Rattle.wi_propagate.specs.Inner.Cones.{AreAllCones}
-use Rattle.wi_propagate.specs.Inner.Keeping.{kept_sheet, begun}
-use Rattle.wi_propagate.proofs.Questions.{begun_is, begun_right, begun_within, begun_one_each, may_be_read, right_then, asked_kept, at_hand_is}
+use Rattle.wi_propagate.proofs.Questions.{begins, begun_right, may_be_read, right_then, asked_kept, at_hand_is}
 use Rattle.wi_propagate.specs.Inner.Owes.{Owes}
-use Rattle.wi_propagate.proofs.Owing.{owes_none, owes_spent}
+use Rattle.wi_propagate.proofs.Debts.{owes_none, owes_spent}
 use Rattle.wi_propagate.proofs.kept.KeptCalculator.value_of.Goals as goal
 
 pub returns-then-is_circular-clause-value : goal.returns-then-is_circular-clause-value
@@ -28,29 +27,26 @@ new-memo-requires-clause-right c =
 pub value-result-requires-clause-read : goal.value-result-requires-clause-read
 value-result-requires-clause-read c =
     let i = c.self.inside in
-    let k : KeptSheet = kept_sheet i.store i.generations.entries i.kept i.meter in
     let o : circular i.store.sheet c.args.at ≡ false = sym (c.is_circular.ensures i.store.sheet c.self.invariant.1) ∙ c.if-is_circular.false in
-    let q : c.new-memo.result ≡ begun k = begun_is i.store i.generations.entries i.kept i.meter _ c.new-memo.result c.new-memo.ensures.value c.in-Some-take.ensures.value in
-    may_be_read k c.new-memo.result q c.args.at o
+    let q = begins i.store i.generations.entries i.kept i.meter _ c.new-memo.result c.in-Some-take.ensures.value c.new-memo.ensures.value c.new-memo.ensures.within c.new-memo.ensures.one_each in
+    may_be_read q c.args.at o
 
 pub invariant_of-self : goal.invariant_of-self
 invariant_of-self c =
     let i = c.self.inside in
-    let k : KeptSheet = kept_sheet i.store i.generations.entries i.kept i.meter in
-    let q : c.new-memo.result ≡ begun k = begun_is i.store i.generations.entries i.kept i.meter _ c.new-memo.result c.new-memo.ensures.value c.in-Some-take.ensures.value in
+    let q = begins i.store i.generations.entries i.kept i.meter _ c.new-memo.result c.in-Some-take.ensures.value c.new-memo.ensures.value c.new-memo.ensures.within c.new-memo.ensures.one_each in
     let e = c.value-result.ensures in
     let h = c.self.invariant in (
       refl,
       h.1,
       h.2,
-      right_then k c.new-memo.result c.value-result.new.self.memo c.into_parts-kept.result.0 c.value-result.new.self.meter q e.spends.same.generation e.spends.same.capacity c.into_parts-kept.ensures.kept e.spends.right.sheet e.spends.same.latest h.3 c.into_parts-kept.ensures.right,
+      right_then q c.value-result.new.self.memo c.into_parts-kept.result.0 c.value-result.new.self.meter e.spends.same c.into_parts-kept.ensures.kept e.spends.right.sheet h.3 c.into_parts-kept.ensures.right,
       subst (λ (x : Sheet). AreAllCones x c.into_parts-kept.result.1) e.spends.right.sheet c.into_parts-kept.ensures.cones,
     )
 
 pub returns-clause-value : goal.returns-clause-value
 returns-clause-value c =
     let i = c.self.inside in
-    let k : KeptSheet = kept_sheet i.store i.generations.entries i.kept i.meter in
     let o : circular i.store.sheet c.args.at ≡ false = sym (c.is_circular.ensures i.store.sheet c.self.invariant.1) ∙ c.if-is_circular.false in
     subst (λ (x : KeptSheet). IfOk c.value-result.result (λ v. v ≡ shown x.stored.sheet c.args.put.now c.args.at)) c.self.view_is
     (IfOk-weaker c.value-result.result _ _ (λ v e. shown_value i.store.sheet c.in_ok-world.world c.args.put.now c.args.at v o c.in_ok-world.ensures e) c.value-result.ensures.value)
@@ -58,23 +54,21 @@ returns-clause-value c =
 pub returns-clause-easy : goal.returns-clause-easy
 returns-clause-easy c =
     let i = c.self.inside in
-    let k : KeptSheet = kept_sheet i.store i.generations.entries i.kept i.meter in
     let o : circular i.store.sheet c.args.at ≡ false = sym (c.is_circular.ensures i.store.sheet c.self.invariant.1) ∙ c.if-is_circular.false in
-    let q : c.new-memo.result ≡ begun k = begun_is i.store i.generations.entries i.kept i.meter _ c.new-memo.result c.new-memo.ensures.value c.in-Some-take.ensures.value in
+    let q = begins i.store i.generations.entries i.kept i.meter _ c.new-memo.result c.in-Some-take.ensures.value c.new-memo.ensures.value c.new-memo.ensures.within c.new-memo.ensures.one_each in
     subst (λ (x : KeptSheet). IsAtHand x c.args.put.now c.args.at → c.value-result.new.self.meter ≡ x.counts) c.self.view_is
-    (λ h. c.value-result.ensures.uncounted (at_hand_is k c.new-memo.result c.in_ok-world.world c.args.put.now c.args.at q o c.in_ok-world.ensures h))
+    (λ h. c.value-result.ensures.uncounted (at_hand_is q c.in_ok-world.world c.args.put.now c.args.at o c.in_ok-world.ensures h))
 
 pub returns-clause-kept : goal.returns-clause-kept
 returns-clause-kept c =
     let i = c.self.inside in
-    let k : KeptSheet = kept_sheet i.store i.generations.entries i.kept i.meter in
     let o : circular i.store.sheet c.args.at ≡ false = sym (c.is_circular.ensures i.store.sheet c.self.invariant.1) ∙ c.if-is_circular.false in
-    let q : c.new-memo.result ≡ begun k = begun_is i.store i.generations.entries i.kept i.meter _ c.new-memo.result c.new-memo.ensures.value c.in-Some-take.ensures.value in
+    let q = begins i.store i.generations.entries i.kept i.meter _ c.new-memo.result c.in-Some-take.ensures.value c.new-memo.ensures.value c.new-memo.ensures.within c.new-memo.ensures.one_each in
     let new : KeptSheet = record { stored = i.store; generations = i.generations.entries; values = c.into_parts-kept.result.0; counts = c.value-result.new.self.meter } in
     let e = c.value-result.ensures in
     subst (λ (x : KeptSheet). OnOk c.value-result.result ((IsAtHand x c.args.put.now c.args.at → ⊥) → is_kept new c.args.at (reaching x.stored.sheet c.args.at c.args.put.now) ≡ true)) c.self.view_is
-    (IfOk-weaker c.value-result.result _ _ (λ v h. asked_kept k c.new-memo.result c.in_ok-world.world c.args.put.now c.args.at q o c.in_ok-world.ensures c.value-result.new.self.memo c.into_parts-kept.result.0 c.value-result.new.self.meter
-    e.spends.same.generation e.spends.same.capacity c.into_parts-kept.ensures.kept c.self.invariant.3.room h) e.kept)
+    (IfOk-weaker c.value-result.result _ _ (λ v h. asked_kept q c.in_ok-world.world c.args.put.now c.args.at o c.in_ok-world.ensures c.value-result.new.self.memo c.into_parts-kept.result.0 c.value-result.new.self.meter
+    e.spends.same c.into_parts-kept.ensures.kept c.self.invariant.3.room h) e.kept)
 
 pub new-memo-requires-clause-cones : goal.new-memo-requires-clause-cones
 new-memo-requires-clause-cones c = c.take_cones-cones.ensures c.self.inside.store.sheet c.self.invariant.4
@@ -109,14 +103,11 @@ returns-in_err-world-clause-owes c = owes_none c.args.self.now _ _
 pub returns-clause-owes : goal.returns-clause-owes
 returns-clause-owes c =
     let i = c.self.inside in
-    let k : KeptSheet = kept_sheet i.store i.generations.entries i.kept i.meter in
     let o : circular i.store.sheet c.args.at ≡ false = sym (c.is_circular.ensures i.store.sheet c.self.invariant.1) ∙ c.if-is_circular.false in
-    let q : c.new-memo.result ≡ begun k = begun_is i.store i.generations.entries i.kept i.meter _ c.new-memo.result c.new-memo.ensures.value c.in-Some-take.ensures.value in
+    let q = begins i.store i.generations.entries i.kept i.meter _ c.new-memo.result c.in-Some-take.ensures.value c.new-memo.ensures.value c.new-memo.ensures.within c.new-memo.ensures.one_each in
     let has = demands_itself i.store.sheet c.in_ok-world.world c.args.put.now c.args.at o c.in_ok-world.ensures in
     let closed = different_closed i.store.sheet (case_of i.store.sheet c.args.put.now c.args.at) in
     let Has = HasCase i.store.sheet c.in_ok-world.world c.args.at in
     let new : KeptSheet = record { stored = i.store; generations = i.generations.entries; values = c.into_parts-kept.result.0; counts = c.value-result.new.self.meter } in
-    let began = begun_within i.kept _ c.in-Some-take.ensures.value c.new-memo.ensures.within in
-    let one_each = begun_one_each i.kept _ c.in-Some-take.ensures.value c.new-memo.ensures.one_each in
     subst (λ (x : KeptSheet). Owes x new (demanded x.stored.sheet c.args.put.now c.args.at) (is_ok c.value-result.result)) c.self.view_is
-    (owes_spent k c.new-memo.result c.value-result.new.self.memo c.into_parts-kept.result.0 c.value-result.new.self.meter q c.into_parts-kept.ensures.kept began one_each c.into_parts-kept.ensures.within Has (demanded i.store.sheet c.args.put.now c.args.at) closed has _ c.value-result.ensures.spends)
+    (owes_spent q c.value-result.new.self.memo c.into_parts-kept.result.0 c.value-result.new.self.meter c.into_parts-kept.ensures.kept c.into_parts-kept.ensures.within Has (demanded i.store.sheet c.args.put.now c.args.at) closed has _ c.value-result.ensures.spends)

@@ -8,10 +8,10 @@ use Rattle.wi_sheet.specs.Settled.{IsWhatIfSettled}
 use Rattle.wi_sheet.proofs.TableEntries.{table_closed, entry_has, entry_shown}
 use Rattle.wi_propagate.specs.KeptSheet.{KeptSheet, HasRoomFor, is_kept}
 use Rattle.wi_propagate.specs.Inner.Cones.{AreAllCones}
-use Rattle.wi_propagate.specs.Inner.Keeping.{kept_sheet, begun, state_in}
-use Rattle.wi_propagate.proofs.Questions.{begun_is, begun_right, begun_within, begun_one_each, may_be_read, right_then, asked_where, asked_settled, circular_entry, circular_clash, open_cells}
+use Rattle.wi_propagate.specs.Inner.Keeping.{state_in}
+use Rattle.wi_propagate.proofs.Questions.{begins, begun_right, may_be_read, right_then, asked_where, asked_settled, circular_entry, circular_clash, open_cells}
 use Rattle.wi_propagate.specs.Inner.Owes.{Owes}
-use Rattle.wi_propagate.proofs.Owing.{owes_none, owes_spent}
+use Rattle.wi_propagate.proofs.Debts.{owes_none, owes_spent}
 use Rattle.wi_propagate.proofs.kept.KeptCalculator.value_of_entry.Goals as goal
 
 pub returns-then-entry_is_circular-clause-value : goal.returns-then-entry_is_circular-clause-value
@@ -32,39 +32,35 @@ new-memo-requires-clause-right c =
 pub open_entry-result-requires-clause-formula_cell : goal.open_entry-result-requires-clause-formula_cell
 open_entry-result-requires-clause-formula_cell c =
     let i = c.self.inside in
-    let k : KeptSheet = kept_sheet i.store i.generations.entries i.kept i.meter in
-    let q : c.new-memo.result ≡ begun k = begun_is i.store i.generations.entries i.kept i.meter _ c.new-memo.result c.new-memo.ensures.value c.in-Some.ensures.value in
+    let q = begins i.store i.generations.entries i.kept i.meter _ c.new-memo.result c.in-Some.ensures.value c.new-memo.ensures.value c.new-memo.ensures.within c.new-memo.ensures.one_each in
     let s = i.store.sheet in
     let o = open_cells s c.args.formula_cell c.args.pairs.now c.entry_is_circular.result (c.entry_is_circular.ensures s c.self.invariant.1) c.if-entry_is_circular.false in
-    may_be_read k c.new-memo.result q c.args.formula_cell o.0
+    may_be_read q c.args.formula_cell o.0
 
 pub open_entry-result-requires-clause-replacing : goal.open_entry-result-requires-clause-replacing
 open_entry-result-requires-clause-replacing c =
     let i = c.self.inside in
-    let k : KeptSheet = kept_sheet i.store i.generations.entries i.kept i.meter in
-    let q : c.new-memo.result ≡ begun k = begun_is i.store i.generations.entries i.kept i.meter _ c.new-memo.result c.new-memo.ensures.value c.in-Some.ensures.value in
+    let q = begins i.store i.generations.entries i.kept i.meter _ c.new-memo.result c.in-Some.ensures.value c.new-memo.ensures.value c.new-memo.ensures.within c.new-memo.ensures.one_each in
     let s = i.store.sheet in
     let o = open_cells s c.args.formula_cell c.args.pairs.now c.entry_is_circular.result (c.entry_is_circular.ensures s c.self.invariant.1) c.if-entry_is_circular.false in
-    λ j x less. may_be_read k c.new-memo.result q (get_or c.args.pairs.now j x).1 (o.1 j x less)
+    λ j x less. may_be_read q (get_or c.args.pairs.now j x).1 (o.1 j x less)
 
 pub invariant_of-self : goal.invariant_of-self
 invariant_of-self c =
     let i = c.self.inside in
-    let k : KeptSheet = kept_sheet i.store i.generations.entries i.kept i.meter in
-    let q : c.new-memo.result ≡ begun k = begun_is i.store i.generations.entries i.kept i.meter _ c.new-memo.result c.new-memo.ensures.value c.in-Some.ensures.value in
+    let q = begins i.store i.generations.entries i.kept i.meter _ c.new-memo.result c.in-Some.ensures.value c.new-memo.ensures.value c.new-memo.ensures.within c.new-memo.ensures.one_each in
     let e = c.open_entry-result.ensures in
     let h = c.self.invariant in (
       refl,
       h.1,
       h.2,
-      right_then k c.new-memo.result c.open_entry-result.new.question.memo c.into_parts-kept.result.0 c.open_entry-result.new.question.meter q e.spends.same.generation e.spends.same.capacity c.into_parts-kept.ensures.kept e.spends.right.sheet e.spends.same.latest h.3 c.into_parts-kept.ensures.right,
+      right_then q c.open_entry-result.new.question.memo c.into_parts-kept.result.0 c.open_entry-result.new.question.meter e.spends.same c.into_parts-kept.ensures.kept e.spends.right.sheet h.3 c.into_parts-kept.ensures.right,
       subst (λ (x : Sheet). AreAllCones x c.into_parts-kept.result.1) e.spends.right.sheet c.into_parts-kept.ensures.cones,
     )
 
 pub returns-clause-value : goal.returns-clause-value
 returns-clause-value c =
     let i = c.self.inside in
-    let k : KeptSheet = kept_sheet i.store i.generations.entries i.kept i.meter in
     let s = i.store.sheet in
     let o = open_cells s c.args.formula_cell c.args.pairs.now c.entry_is_circular.result (c.entry_is_circular.ensures s c.self.invariant.1) c.if-entry_is_circular.false in
     subst (λ (x : KeptSheet). IfOk c.open_entry-result.result (λ v. v ≡ table_entry x.stored.sheet c.args.put.now c.args.formula_cell c.args.pairs.now)) c.self.view_is
@@ -73,8 +69,7 @@ returns-clause-value c =
 pub returns-clause-settled : goal.returns-clause-settled
 returns-clause-settled c =
     let i = c.self.inside in
-    let k : KeptSheet = kept_sheet i.store i.generations.entries i.kept i.meter in
-    let q : c.new-memo.result ≡ begun k = begun_is i.store i.generations.entries i.kept i.meter _ c.new-memo.result c.new-memo.ensures.value c.in-Some.ensures.value in
+    let q = begins i.store i.generations.entries i.kept i.meter _ c.new-memo.result c.in-Some.ensures.value c.new-memo.ensures.value c.new-memo.ensures.within c.new-memo.ensures.one_each in
     let s = i.store.sheet in
     let o = open_cells s c.args.formula_cell c.args.pairs.now c.entry_is_circular.result (c.entry_is_circular.ensures s c.self.invariant.1) c.if-entry_is_circular.false in
     let cases = entry_demanded s c.args.put.now c.args.formula_cell c.args.pairs.now in
@@ -86,8 +81,8 @@ returns-clause-settled c =
     let x : ℕ × List (ℕ × ℕ) = (c.args.formula_cell, c.args.pairs.now) in
     subst (λ (y : KeptSheet). OnOk c.open_entry-result.result (HasRoomFor y (entry_demanded y.stored.sheet c.args.put.now c.args.formula_cell c.args.pairs.now) → circular y.stored.sheet c.args.formula_cell ≡ false → All (λ p. circular y.stored.sheet p.1 ≡ false) c.args.pairs.now
     → IsWhatIfSettled y.stored.sheet (is_kept new) c.args.put.now x)) c.self.view_is
-    (IfOk-weaker c.open_entry-result.result _ _ (λ v g room a b. asked_settled k c.new-memo.result c.open_entry-result.new.question.memo c.into_parts-kept.result.0 c.open_entry-result.new.question.meter q e.spends.same.generation e.spends.same.capacity c.into_parts-kept.ensures.kept c.in_ok-world.world c.args.put.now x c.in_ok-world.ensures
-    (asked_where k c.new-memo.result q (λ ks. IsWhatIfSettled s (state_in c.open_entry-result.new.question.memo).kept c.in_ok-world.world x) cases Has g closed has room)) e.settled)
+    (IfOk-weaker c.open_entry-result.result _ _ (λ v g room a b. asked_settled q c.open_entry-result.new.question.memo c.into_parts-kept.result.0 c.open_entry-result.new.question.meter e.spends.same c.into_parts-kept.ensures.kept c.in_ok-world.world c.args.put.now x c.in_ok-world.ensures
+    (asked_where q (λ ks. IsWhatIfSettled s (state_in c.open_entry-result.new.question.memo).kept c.in_ok-world.world x) cases Has g closed has room)) e.settled)
 
 pub new-memo-requires-clause-cones : goal.new-memo-requires-clause-cones
 new-memo-requires-clause-cones c = c.take_cones-cones.ensures c.self.inside.store.sheet c.self.invariant.4
@@ -104,8 +99,7 @@ returns-in_err-world-clause-owes c = owes_none c.args.self.now _ _
 pub returns-clause-owes : goal.returns-clause-owes
 returns-clause-owes c =
     let i = c.self.inside in
-    let k : KeptSheet = kept_sheet i.store i.generations.entries i.kept i.meter in
-    let q : c.new-memo.result ≡ begun k = begun_is i.store i.generations.entries i.kept i.meter _ c.new-memo.result c.new-memo.ensures.value c.in-Some.ensures.value in
+    let q = begins i.store i.generations.entries i.kept i.meter _ c.new-memo.result c.in-Some.ensures.value c.new-memo.ensures.value c.new-memo.ensures.within c.new-memo.ensures.one_each in
     let s = i.store.sheet in
     let o = open_cells s c.args.formula_cell c.args.pairs.now c.entry_is_circular.result (c.entry_is_circular.ensures s c.self.invariant.1) c.if-entry_is_circular.false in
     let cases = entry_demanded s c.args.put.now c.args.formula_cell c.args.pairs.now in
@@ -113,7 +107,5 @@ returns-clause-owes c =
     let closed = table_closed s c.args.put.now c.args.formula_cell c.args.pairs.now in
     let Has = HasEntry s c.in_ok-world.world c.args.formula_cell c.args.pairs.now in
     let new : KeptSheet = record { stored = i.store; generations = i.generations.entries; values = c.into_parts-kept.result.0; counts = c.open_entry-result.new.question.meter } in
-    let began = begun_within i.kept _ c.in-Some.ensures.value c.new-memo.ensures.within in
-    let one_each = begun_one_each i.kept _ c.in-Some.ensures.value c.new-memo.ensures.one_each in
     subst (λ (x : KeptSheet). Owes x new (entry_demanded x.stored.sheet c.args.put.now c.args.formula_cell c.args.pairs.now) (is_ok c.open_entry-result.result)) c.self.view_is
-    (owes_spent k c.new-memo.result c.open_entry-result.new.question.memo c.into_parts-kept.result.0 c.open_entry-result.new.question.meter q c.into_parts-kept.ensures.kept began one_each c.into_parts-kept.ensures.within Has cases closed has _ c.open_entry-result.ensures.spends)
+    (owes_spent q c.open_entry-result.new.question.memo c.into_parts-kept.result.0 c.open_entry-result.new.question.meter c.into_parts-kept.ensures.kept c.into_parts-kept.ensures.within Has cases closed has _ c.open_entry-result.ensures.spends)

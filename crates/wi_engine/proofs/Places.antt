@@ -1,11 +1,16 @@
 -- What is kept for longer where one question follows another over the same memory.
-use Rattle.std.proofs.Common.{◌≡◌, ◌≤◌, ◌+◌, inl, inr, ℕ, Bool, true, false, not, cond, [], ◌∷◌, length, refl, sym, subst, arith}
-use Rattle.std.specs.List.{IsDistinct}
+use Rattle.std.proofs.Common.{◌≡◌, ◌≤◌, ◌+◌, ◌||◌, inl, inr, ℕ, Bool, true, false, not, cond, List, [], ◌∷◌, length, Option, Some, None, IfSome, Result, Ok, Err, OnOk, ◌⊎◌, refl, ap, sym, subst, arith}
 use Rattle.std.proofs.lemmas.Bool.{true≢false}
+use Rattle.std.specs.List.{IsDistinct}
 use Rattle.std.proofs.lemmas.Map.Keys.{IsDistinct-cons}
+use Rattle.wi_values.specs.declared.value.Value.{Value}
+use Rattle.wi_values.specs.declared.replacement.Replacement.{Replacement}
 use Rattle.wi_cache.specs.declared.key.Key.{Key}
 use Rattle.wi_cache.specs.Entries.{same_key}
+use Rattle.wi_cache.proofs.Keys.{same_key_Decides}
+use Rattle.wi_sheet.specs.Demand.{same_case}
 use Rattle.wi_engine.specs.Inner.MemoState.{MemoState}
+use Rattle.wi_engine.specs.Inner.Keeps.{HasKept}
 use Rattle.wi_engine.specs.Inner.Saving.{TakesPlaces, TakesNoMore, GivesUpWhenFull}
 
 pub takes_then : (old mid new : MemoState) (a b c : ℕ) → TakesNoMore old mid a b → TakesNoMore mid new b c → b ≤ c → TakesNoMore old new a c
@@ -44,3 +49,19 @@ none_went old new a b k t l = at (old.stands k) (new.stands k) (t (k ∷ []) (on
     at true true c h = refl
     at true false c h = absurd (omega (arith, c, l))
     at false y c h = absurd (true≢false (sym h))
+
+-- ---- what is so where a value was remembered, from what is so of each of its parts
+
+pub has_kept : {X E : Type 0} (r : Result X E) (old new : MemoState) (k : Key) → OnOk r ((c : ℕ) (w : List Replacement) → new.found c w ≡ (old.found c w || same_case (k.cell, k.world) (c, w))) → OnOk r (1 ≤ old.capacity → new.kept k.cell k.world ≡ true) →
+    OnOk r (1 ≤ old.room → (c : ℕ) (w : List Replacement) → new.kept c w ≡ (old.kept c w || same_case (k.cell, k.world) (c, w))) → OnOk r (old.kept k.cell k.world ≡ false → 1 ≤ old.room → new.room + 1 ≡ old.room) → OnOk r (HasKept old new k)
+has_kept (Ok x) old new k found there kept room = record { found = found; there = there; kept = kept; room = room }
+has_kept (Err x) old new k found there kept room = tt
+
+-- under a key is then what was there before, or the value that came
+pub known_still : (old new : Option Value) (k q : Key) (v : Value) → new ≡ old → IfSome new (λ u. (old ≡ Some u) ⊎ ((q.cell ≡ k.cell) × (q.world ≡ k.world) × (u ≡ v)))
+known_still None new k q v e = rw e tt
+known_still (Some u) new k q v e = rw e (inl refl)
+
+pub known_then : (old new : Option Value) (k q : Key) (v : Value) (b : Bool) → same_key k q ≡ b → new ≡ cond b (Some v) old → IfSome new (λ u. (old ≡ Some u) ⊎ ((q.cell ≡ k.cell) × (q.world ≡ k.world) × (u ≡ v)))
+known_then old new k q v true e h = let same = (same_key_Decides k q).0 e in rw h (inr (ap (λ (y : Key). y.cell) (sym same), ap (λ (y : Key). y.world) (sym same), refl))
+known_then old new k q v false e h = known_still old new k q v h

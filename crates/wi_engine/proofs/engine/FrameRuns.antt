@@ -1,5 +1,5 @@
 -- A run of frames: what is so of it all the way, and what its turns do to that.
-use Rattle.std.proofs.Common.{◌≡◌, ◌<◌, ◌≤◌, ◌+◌, ◌-◌, ◌*◌, ◌||◌, ℕ, true, false, List, [], ◌∷◌, ◌++◌, length, Contains, None, refl, ap, sym, ◌∙◌, subst}
+use Rattle.std.proofs.Common.{◌≡◌, ◌<◌, ◌≤◌, ◌+◌, ◌-◌, ◌*◌, ◌||◌, ℕ, true, false, List, [], ◌∷◌, ◌++◌, length, Contains, None, refl, ap, sym, ◌∙◌}
 use Rattle.std.proofs.lemmas.Bool.{true≢false}
 use Rattle.wi_values.specs.declared.value.Value.{Value}
 use Rattle.wi_values.specs.declared.replacement.Replacement.{Replacement}
@@ -8,23 +8,21 @@ use Rattle.wi_functions.specs.Counts.{Counts, one_more}
 use Rattle.wi_cache.specs.declared.key.Key.{Key}
 use Rattle.wi_graph.specs.Circular.{circular}
 use Rattle.wi_sheet.specs.CellValue.{cell_value, what_if_value}
-use Rattle.wi_sheet.specs.Demand.{Case, same_case, case_of, reaching, demand}
+use Rattle.wi_sheet.specs.Demand.{Case, same_case, demand}
 use Rattle.wi_sheet.specs.Inner.Spending.{IsClosed, NeverFall, SpentOn, cost, left, plus}
-use Rattle.wi_sheet.proofs.Overrides.{reaching_suffices}
-use Rattle.wi_sheet.proofs.Counting.{one_less_left, spent_all}
+use Rattle.wi_sheet.proofs.CaseCosts.{one_less_left, spent_all}
 use Rattle.wi_sheet.proofs.Demands.{demand_closed, demand_has_itself}
 use Rattle.wi_sheet.specs.Inner.Rank.{reach_rank}
 use Rattle.wi_engine.specs.Inner.MemoState.{MemoState, IsMemoOf}
 use Rattle.wi_engine.specs.Inner.Findings.{found_value}
-use Rattle.wi_engine.specs.Inner.Frames.{case_at, IsToValue, StandsAt, IsUnvalued, IsFrame, IsNext, IsBegun, IsStack, BottomIs, at_most, spare}
+use Rattle.wi_engine.specs.Inner.Frames.{case_at, IsFormulaKey, StandsAt, IsFrame, IsNext, IsBegun, IsStack, BottomIs, at_most, spare}
 use Rattle.wi_engine.specs.Inner.Keeps.{Keeps, HasKept}
 use Rattle.wi_engine.specs.Inner.Steps.{FrameSteps, FrameCounts, IsFrameValue}
 use Rattle.wi_engine.specs.declared.frame.Frame.{Frame}
 use Rattle.wi_engine.specs.declared.frame.Waiting.TheVariants.{Nothing}
-use Rattle.wi_engine.proofs.engine.Rightness.{right_none}
+use Rattle.wi_engine.proofs.findings.FoundValues.{right_none}
 use Rattle.wi_sheet.proofs.Ranks.{rests_rank, measure_falls_at_keep, measure_falls_at_push}
-use Rattle.wi_engine.proofs.engine.Resting.{key_path}
-use Rattle.wi_engine.proofs.engine.Stacks.{push_stack, pop_stack, push_bottom, pop_bottom, same_bottom, found_stack, kept_state, begun_next, same_begun}
+use Rattle.wi_engine.proofs.engine.Stacks.{push_stack, pop_stack, push_bottom, pop_bottom, same_bottom, found_stack, run_keeps, begun_next, same_begun}
 use Rattle.wi_engine.proofs.engine.Steps.{restarts_after}
 use Rattle.wi_engine.proofs.engine.Budgets.{budget_start, budget_push, budget_pop, budget_same, budget_end, budget_kept, not_taken, spare_new}
 
@@ -64,7 +62,7 @@ pub record ComesBack (s : Sheet) (m n : MemoState) (now next : Counts) (f : Fram
   pub counts : FrameCounts s f now next true
   pub evaluations : next.evaluations ≡ one_more now.evaluations
 
-new_frame : (s : Sheet) (m : MemoState) (f : Frame) (k : Key) → IsNew s f k → IsToValue s m k → IsFrame s m f
+new_frame : (s : Sheet) (m : MemoState) (f : Frame) (k : Key) → IsNew s f k → IsFormulaKey s m k → IsFrame s m f
 new_frame s m f k n h = record {
   key = rw n.key h;
   formula = rw n.key n.formula;
@@ -72,7 +70,7 @@ new_frame s m f k n h = record {
   waiting = rw n.waiting tt;
 }
 
-pub run_start : (s : Sheet) (m : MemoState) (k : Key) (f : Frame) (now : Counts) → IsMemoOf s m → IsToValue s m k → m.found k.cell k.world ≡ false → IsNew s f k → IsRunning s m m (case_at k) now now [] f
+pub run_start : (s : Sheet) (m : MemoState) (k : Key) (f : Frame) (now : Counts) → IsMemoOf s m → IsFormulaKey s m k → m.found k.cell k.world ≡ false → IsNew s f k → IsRunning s m m (case_at k) now now [] f
 run_start s m k f now h key u n = record {
   memo = h;
   begun = record { frame = new_frame s m f k n key; unfound = rw n.key u; demanded = λ ks closed top. rw n.key top };
@@ -80,9 +78,6 @@ run_start s m k f now h key u n = record {
   bottom = ap case_at n.key;
   within = λ ks closed top. budget_start s m.found ks f (case_at k) now (ap case_at n.key) (spare_new s k f n.key n.waiting) u top;
 }
-
-pub run_keeps : (s : Sheet) (m n : MemoState) (k : Key) (v : Value) → IsMemoOf s m → Keeps m n k v → v ≡ cell_value (put_all s k.world) k.cell → IsMemoOf s n
-run_keeps s m n k v h keeps is = kept_state s m n k v h keeps.sheet keeps.same.covers keeps.known is keeps.told
 
 module _ {s : Sheet} {old m : MemoState} {root : Case} {start now : Counts} {fs : List Frame} {f : Frame} (i : IsRunning s old m root start now fs f) where
   -- ---- a frame more
@@ -160,12 +155,3 @@ run_below {s} {old} {m} {root} {start} {now} {f} {b} fs i = (pop_stack s m root 
 -- the value of the lowest frame is the root's
 pub run_value : {s : Sheet} {old m : MemoState} {start now : Counts} {f : Frame} {v : Value} (k : Key) → IsRunning s old m (case_at k) start now [] f → v ≡ cell_value (put_all s f.key.world) f.key.cell → v ≡ cell_value (put_all s k.world) k.cell
 run_value {s} {old} {m} {start} {now} {f} {v} k i is = is ∙ ap (λ (j : Case). cell_value (put_all s j.1) j.0) i.bottom
-
--- ---- a cell under any replacements
-
--- a value under the key of a cell is the cell's
-pub unvalued_value : (s : Sheet) (m : MemoState) (w : List Replacement) (a : ℕ) (k : Key) (v : Value) → IsUnvalued s m w a k → v ≡ cell_value (put_all s k.world) k.cell → v ≡ cell_value (put_all s w) a
-unvalued_value s m w a k v u is = is ∙ ap (λ (x : List Replacement). cell_value (put_all s x) k.cell) u.world ∙ ap (cell_value (put_all s (reaching s a w))) u.cell ∙ reaching_suffices s w a
-
-pub unvalued_in : (s : Sheet) (m : MemoState) (w : List Replacement) (a : ℕ) (k : Key) (ks : List Case) → IsUnvalued s m w a k → (has_formula (content_of (put_all s w) a) ≡ true → Contains ks (case_of s w a)) → Contains ks (case_at k)
-unvalued_in s m w a k ks u h = subst (λ (j : Case). Contains ks j) (key_path k.cell a k.world (reaching s a w) u.cell u.world) (h u.formula)

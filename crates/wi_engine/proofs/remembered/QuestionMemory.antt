@@ -1,5 +1,5 @@
 -- What is remembered in one question.
-use Rattle.std.proofs.Common.{◌≡◌, ◌==◌, ℕ, Bool, true, false, is_some, cond, List, [], ◌∷◌, ◌++◌, Option, Some, None, IfSome, Result, Ok, Err, OnOk, OnErr, refl, ap, sym, ◌∙◌, subst, inl, inr, ◌⊎◌}
+use Rattle.std.proofs.Common.{◌≡◌, ◌==◌, ℕ, true, is_some, List, [], ◌∷◌, ◌++◌, Some, IfSome, Result, Ok, Err, OnOk, OnErr, refl, ap, sym, ◌∙◌, subst, inl, inr, ◌⊎◌}
 use Rattle.std.proofs.lemmas.Bool.{or_cases, or_left}
 use Rattle.std.proofs.lemmas.List.Folds.{list_any-append}
 use Rattle.std.proofs.Math.Bool.{or-false}
@@ -9,13 +9,13 @@ use Rattle.wi_values.specs.declared.replacement.Replacement.{Replacement}
 use Rattle.wi_parser.specs.Sheet.{Sheet, put_all}
 use Rattle.wi_cache.specs.declared.key.Key.{Key}
 use Rattle.wi_cache.specs.Entries.{Entries, Puts, same_key, value_for}
-use Rattle.wi_cache.proofs.Keys.{same_key_Decides}
 use Rattle.wi_graph.specs.Reach.{is_one_of}
 use Rattle.wi_graph.proofs.Walks.{same_cell}
 use Rattle.wi_sheet.specs.CellValue.{cell_value}
 use Rattle.wi_engine.specs.Inner.MemoState.{IsClosedUnderReads, IsTold, IsMemoOf}
 use Rattle.wi_sheet.specs.Inner.ReadOrder.{IsReadOrder}
 use Rattle.wi_engine.specs.Inner.Remembered.{OneQuestion, key_of, question_state, remembered}
+use Rattle.wi_engine.proofs.Places.{known_still, known_then}
 
 -- a list, cut before one of its cells
 cut_before : (xs : List ℕ) (c : ℕ) → is_one_of xs c ≡ true → (front back : List ℕ) × (xs ≡ front ++ c ∷ back)
@@ -47,26 +47,7 @@ no_values s order values o e = record {
 }
 
 -- a value is remembered for a key that was put in, or was before
-known_put : (old new : Entries) (k : Key) (v : Value) → Puts old new k v → (c : ℕ) (w : List Replacement) →
-    IfSome (value_for new (key_of c w)) (λ u. (value_for old (key_of c w) ≡ Some u) ⊎ ((c ≡ k.cell) × (w ≡ k.world) × (u ≡ v)))
-known_put old new k v p c w = subst (λ (o : Option Value). IfSome o Known) (sym (p (key_of c w))) (at (same_key k (key_of c w)) refl)
-  where
-    Known : Value → Type 0
-    Known u = (value_for old (key_of c w) ≡ Some u) ⊎ ((c ≡ k.cell) × (w ≡ k.world) × (u ≡ v))
-
-    before : (o : Option Value) → value_for old (key_of c w) ≡ o → IfSome o Known
-    before None e = tt
-    before (Some u) e = inl e
-
-    at : (b : Bool) → same_key k (key_of c w) ≡ b → IfSome (cond b (Some v) (value_for old (key_of c w))) Known
-    at true e = let same = (same_key_Decides k (key_of c w)).0 e in inr (ap (λ (q : Key). q.cell) (sym same), ap (λ (q : Key). q.world) (sym same), refl)
-    at false e = before (value_for old (key_of c w)) refl
-
 pub known_kept : (r : Result (Unit {0}) AllocError) (old new : Entries) (k : Key) (v : Value) → OnOk r (Puts old new k v) → OnErr r (new ≡ old) → (c : ℕ) (w : List Replacement) →
     IfSome (value_for new (key_of c w)) (λ u. (value_for old (key_of c w) ≡ Some u) ⊎ ((c ≡ k.cell) × (w ≡ k.world) × (u ≡ v)))
-known_kept (Ok x) old new k v p e c w = known_put old new k v p c w
-known_kept (Err x) old new k v p e c w = before (value_for new (key_of c w)) (ap (λ (es : Entries). value_for es (key_of c w)) (sym e))
-  where
-    before : (o : Option Value) → value_for old (key_of c w) ≡ o → IfSome o (λ u. (value_for old (key_of c w) ≡ Some u) ⊎ ((c ≡ k.cell) × (w ≡ k.world) × (u ≡ v)))
-    before None h = tt
-    before (Some u) h = inl h
+known_kept (Ok x) old new k v p e c w = known_then (value_for old (key_of c w)) (value_for new (key_of c w)) k (key_of c w) v (same_key k (key_of c w)) refl (p (key_of c w))
+known_kept (Err x) old new k v p e c w = known_still (value_for old (key_of c w)) (value_for new (key_of c w)) k (key_of c w) v (ap (λ (es : Entries). value_for es (key_of c w)) e)

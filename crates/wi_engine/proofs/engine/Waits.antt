@@ -1,5 +1,5 @@
 -- What a frame waits for, and what it gets.
-use Rattle.std.proofs.Common.{◌≡◌, ◌==◌, ◌+◌, ◌<◌, ◌≤◌, ℕ, zero, suc, true, List, [], ◌∷◌, map, filter, length, get_or, Option, Some, None, Result, Ok, Err, IsErr, is_ok, ap, sym, ◌∙◌, arith, eq-eqb}
+use Rattle.std.proofs.Common.{◌≡◌, ◌==◌, ◌+◌, ◌<◌, ◌≤◌, ℕ, zero, suc, true, List, [], ◌∷◌, map, filter, length, get_or, Option, Some, None, Result, Ok, Err, IsErr, is_ok, refl, ap, sym, ◌∙◌, arith, eq-eqb}
 use Rattle.std.proofs.lemmas.Bool.{or_left, or_right, true≢false}
 use Rattle.std.specs.List.{list_any}
 use Rattle.std.specs.Option.{is_none}
@@ -12,6 +12,7 @@ use Rattle.wi_parser.specs.Tree.{Tree}
 use Rattle.wi_parser.specs.declared.content.Content.{Content}
 use Rattle.wi_parser.specs.declared.content.Content.TheVariants.{Formula}
 use Rattle.wi_parser.specs.Sheet.{Sheet, content_of, put_all, has_formula, cells_with_formula}
+use Rattle.wi_functions.specs.Wants.{Asks}
 use Rattle.wi_functions.specs.declared.evaluation.Want.{Want}
 use Rattle.wi_functions.specs.declared.evaluation.Want.TheVariants as wanted
 use Rattle.wi_cache.specs.declared.key.Key.{Key}
@@ -21,7 +22,7 @@ use Rattle.wi_sheet.specs.CellValue.{cell_value, what_if_value}
 use Rattle.wi_sheet.specs.Demand.{what_ifs_of, reads_here, formulas_read_here, of_formula}
 use Rattle.wi_sheet.proofs.Bounds.{put_formula}
 use Rattle.wi_sheet.proofs.Members.{IsIn, in_filter}
-use Rattle.wi_sheet.proofs.Asked.{is_in, asked_cell}
+use Rattle.wi_sheet.proofs.Wants.{is_in, asked_cell}
 use Rattle.wi_sheet.proofs.Demands.{same_tree}
 use Rattle.wi_engine.specs.Inner.MemoState.{MemoState}
 use Rattle.wi_engine.specs.Inner.Findings.{pairs_of, found_value, what_if_found, AreAllRight, IsWithCell, IsWithWhatIf}
@@ -34,22 +35,22 @@ use Rattle.wi_engine.specs.declared.frame.Frame.{Frame}
 use Rattle.wi_engine.specs.declared.frame.Unvalued.{Unvalued}
 use Rattle.wi_engine.specs.declared.frame.Waiting.{Waiting}
 use Rattle.wi_engine.specs.declared.frame.Waiting.TheVariants.{Nothing, Cells, WhatIf}
-use Rattle.wi_engine.proofs.attempt.Lacks.{cell_lacks_fewer, what_if_lacks_fewer}
-use Rattle.wi_engine.proofs.engine.Resting.{named, asked_in, tree_with}
+use Rattle.wi_engine.proofs.attempt.LackingCounts.{cell_lacks_fewer, what_if_lacks_fewer}
+use Rattle.wi_engine.proofs.engine.NextCases.{named, asked_in, tree_with}
 
 -- ---- a what-if's inputs
 
 -- a pair of a list is found in it by its replacement cell
-pair_found : (pairs : List Pair) (i : ℕ) (x : Pair) → i < length pairs → x ≡ get_or pairs i x → list_any (λ p. p.1.at == x.replacement.at) (map pair_of pairs) ≡ true
-pair_found [] i x h e = absurd (omega arith)
-pair_found (p ∷ ps) zero x h e = or_left (p.replacement.at == x.replacement.at) _ (eq-eqb p.replacement.at x.replacement.at (ap (λ (y : Pair). y.replacement.at) (sym e)))
-pair_found (p ∷ ps) (suc i) x h e = or_right (p.replacement.at == x.replacement.at) _ (pair_found ps i x (omega arith) e)
+pub found_at : (ps : List Pair) (i : ℕ) (d : Pair) → i < length ps → list_any (λ p. p.1.at == (get_or ps i d).replacement.at) (map pair_of ps) ≡ true
+found_at [] i d h = absurd (omega arith)
+found_at (p ∷ ps) zero d h = or_left (p.replacement.at == p.replacement.at) _ (eq-eqb p.replacement.at p.replacement.at refl)
+found_at (p ∷ ps) (suc i) d h = or_right (p.replacement.at == (get_or ps i d).replacement.at) _ (found_at ps i d (omega arith))
 
 pub input_unvalued : (s : Sheet) (m n : MemoState) (w : List Replacement) (pairs : List Pair) (i : ℕ) (x : Pair) (u : Unvalued) → i < length pairs → x ≡ get_or pairs i x → n ≡ m → IsUnvaluedFormula s n w x.replacement.at u →
     (list_any (λ p. p.1.at == u.key.cell) (map pair_of pairs) ≡ true) × IsUnvaluedFormula s m w u.key.cell u
 input_unvalued s m n w pairs i x u h e en f =
     let same = rw en at f.unvalued in
-    (ap (λ (a : ℕ). list_any (λ p. p.1.at == a) (map pair_of pairs)) f.unvalued.cell ∙ pair_found pairs i x h e, record { unvalued = rw (← f.unvalued.cell) at same; stands = f.stands })
+    (ap (λ (a : ℕ). list_any (λ p. p.1.at == a) (map pair_of pairs)) f.unvalued.cell ∙ ap (λ (y : Pair). list_any (λ p. p.1.at == y.replacement.at) (map pair_of pairs)) e ∙ found_at pairs i x h, record { unvalued = rw (← f.unvalued.cell) at same; stands = f.stands })
 
 -- ---- what a formula asks for
 
@@ -68,6 +69,22 @@ awaits_cells s k f want t a others h l e i r =
     let lacking = rw e at l in
     let here = λ (d : ℕ). ap (λ (o : Option Content). content_reads_here o d) i in
     (lacking, here a ∙ cell_here s k want t a h e i, put_formula s k.world a lacking.0, λ d m. (here d ∙ (r d m).0, (r d m).1))
+
+-- a cell for which a formula asks, and that is waited for alone
+module _ (s : Sheet) (k : Key) (t : Tree) (a : ℕ) (stands : StandsAt s k t) (asks : Asks t (wanted.Cell a)) where
+  -- what stands in the cell of the key asks for it
+  pub asks_at : AsksAt s k.world k.cell (wanted.Cell a)
+  asks_at = record { tree = t; is = stands; asks = asks }
+
+  -- and reads it as the sheet stands
+  pub read_at : content_reads_here (content_of (put_all s k.world) k.cell) a ≡ true
+  read_at = asked_here s k a asks_at
+
+pub awaits_alone : (s : Sheet) (k : Key) (f : Findings) (a : ℕ) (others : Vec ℕ) → others.items ≡ [] → AsksAt s k.world k.cell (wanted.Cell a) → IsLacking s k.world f (wanted.Cell a) → Awaits s (case_at k) f (Cells a others)
+awaits_alone s k f a others e h l = (l, asked_here s k a h, put_formula s k.world a l.0, λ d m. absurd (none d m))
+  where
+    none : (d : ℕ) → is_one_of others.items d ≡ true → ⊥
+    none d m = let z = ap (λ (xs : List ℕ). is_one_of xs d) e in cc
 
 -- ---- how much is lacking
 

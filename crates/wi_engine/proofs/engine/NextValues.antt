@@ -1,6 +1,6 @@
 -- What a frame waits for is found, or a key is next.
-use Rattle.std.proofs.Common.{◌≡◌, ◌==◌, ◌+◌, ◌-◌, ◌<◌, ◌≤◌, ℕ, zero, suc, Bool, true, false, ◌&&◌, if◌then◌else◌, List, [], ◌∷◌, map, length, get_or, All, Option, Some, inl, inr, ◌⊎◌, refl, ap, sym, ◌∙◌, subst, arith, eq-eqb}
-use Rattle.std.proofs.lemmas.Bool.{or_left, or_right}
+use Rattle.std.proofs.Common.{◌≡◌, ◌==◌, ◌+◌, ◌-◌, ◌<◌, ◌≤◌, ℕ, Bool, true, false, ◌&&◌, List, [], ◌∷◌, map, get_or, All, Option, Some, inl, inr, ◌⊎◌, refl, ap, sym, ◌∙◌, subst, arith, eq-eqb, if◌then◌else◌}
+use Rattle.std.proofs.lemmas.Bool.{or_left}
 use Rattle.std.specs.List.{list_any}
 use Rattle.std.specs.Option.{is_none}
 use Rattle.std.specs.Global.{Vec}
@@ -23,7 +23,7 @@ use Rattle.wi_sheet.proofs.Overrides.{with_what_if_value}
 use Rattle.wi_engine.specs.Inner.MemoState.{MemoState, IsMemoOf}
 use Rattle.wi_engine.specs.Inner.Attempt.{AsksAt, IsLacking, lacks_cell}
 use Rattle.wi_engine.specs.Inner.Findings.{IsWithCell, IsWithWhatIf, pairs_of, found_value}
-use Rattle.wi_engine.specs.Inner.Frames.{case_at, content_reads_here, MayBeRead, IsToValue, IsUnvaluedFormula, IsNextFormula, IsFrame, AreReadHere, Awaits, lacks, spare, waits}
+use Rattle.wi_engine.specs.Inner.Frames.{case_at, content_reads_here, MayBeRead, IsFormulaKey, IsUnvaluedFormula, IsNextFormula, IsFrame, AreReadHere, Awaits, lacks, spare, waits}
 use Rattle.wi_engine.specs.Inner.Steps.{FrameWaits, IsWorldWith}
 use Rattle.wi_engine.specs.declared.findings.Findings.{Findings}
 use Rattle.wi_engine.specs.declared.findings.FoundWhatIf.{FoundWhatIf}
@@ -31,9 +31,9 @@ use Rattle.wi_engine.specs.declared.frame.Frame.{Frame}
 use Rattle.wi_engine.specs.declared.frame.Unvalued.{Unvalued}
 use Rattle.wi_engine.specs.declared.frame.Waiting.{Waiting}
 use Rattle.wi_engine.specs.declared.frame.Waiting.TheVariants.{Nothing, Cells}
-use Rattle.wi_engine.proofs.engine.Rightness.{right_cell, right_what_if}
-use Rattle.wi_engine.proofs.engine.Resting.{may_be_read, here_in_sheet, what_if_in_sheet, replacing_reads, next_cell, next_what_if}
-use Rattle.wi_engine.proofs.engine.Awaiting.{asked_here, some_cell, some_what_if, some_lacks, cell_falls, frame_with}
+use Rattle.wi_engine.proofs.findings.FoundValues.{right_cell, right_what_if}
+use Rattle.wi_engine.proofs.engine.NextCases.{may_be_read, here_in_sheet, what_if_in_sheet, replacing_reads, next_cell, next_what_if}
+use Rattle.wi_engine.proofs.engine.Waits.{found_at, asked_here, some_cell, some_what_if, some_lacks, cell_falls, frame_with}
 
 -- ---- how often a formula may still be evaluated again
 
@@ -46,7 +46,7 @@ spare_waiting s k f w g a e l n =
 
 -- ---- cells
 
-pub may_read_here : (s : Sheet) (m n : MemoState) (k : Key) (a : ℕ) → IsMemoOf s m → n ≡ m → IsToValue s m k → content_reads_here (content_of (put_all s k.world) k.cell) a ≡ true → MayBeRead s n a
+pub may_read_here : (s : Sheet) (m n : MemoState) (k : Key) (a : ℕ) → IsMemoOf s m → n ≡ m → IsFormulaKey s m k → content_reads_here (content_of (put_all s k.world) k.cell) a ≡ true → MayBeRead s n a
 may_read_here s m n k a h en key r = rw en (may_be_read s m k.cell a h key.open_cell key.covered (here_in_sheet s (case_at k) a r))
 
 pub next_here : {s : Sheet} {m n : MemoState} {a : ℕ} {u : Unvalued} (k below : Key) → n ≡ m → k ≡ below → IsUnvaluedFormula s n k.world a u → content_reads_here (content_of (put_all s k.world) k.cell) a ≡ true → IsNextFormula s m below u
@@ -70,15 +70,10 @@ lacks_less s k f g a v others more h =
 
 -- ---- a what-if
 
-pub may_read_what_if : (s : Sheet) (m n : MemoState) (k : Key) (f : ℕ) (pairs : Vec Pair) → IsMemoOf s m → n ≡ m → IsToValue s m k → AsksAt s k.world k.cell (wanted.WhatIf f pairs) → MayBeRead s n f
+pub may_read_what_if : (s : Sheet) (m n : MemoState) (k : Key) (f : ℕ) (pairs : Vec Pair) → IsMemoOf s m → n ≡ m → IsFormulaKey s m k → AsksAt s k.world k.cell (wanted.WhatIf f pairs) → MayBeRead s n f
 may_read_what_if s m n k f pairs h en key asks = rw en (may_be_read s m k.cell f h key.open_cell key.covered (what_if_in_sheet s (case_at k) f pairs asks))
 
-found_at : (ps : List Pair) (i : ℕ) (d : Pair) → i < length ps → list_any (λ p. p.1.at == (get_or ps i d).replacement.at) (map pair_of ps) ≡ true
-found_at [] i d h = absurd (omega arith)
-found_at (p ∷ ps) zero d h = or_left (p.replacement.at == p.replacement.at) _ (eq-eqb p.replacement.at p.replacement.at refl)
-found_at (p ∷ ps) (suc i) d h = or_right (p.replacement.at == (get_or ps i d).replacement.at) _ (found_at ps i d (omega arith))
-
-pub may_read_inputs : (s : Sheet) (m : MemoState) (k : Key) (f : ℕ) (pairs : Vec Pair) (ps : List Pair) → IsMemoOf s m → IsToValue s m k → AsksAt s k.world k.cell (wanted.WhatIf f pairs) → ps ≡ pairs.items →
+pub may_read_inputs : (s : Sheet) (m : MemoState) (k : Key) (f : ℕ) (pairs : Vec Pair) (ps : List Pair) → IsMemoOf s m → IsFormulaKey s m k → AsksAt s k.world k.cell (wanted.WhatIf f pairs) → ps ≡ pairs.items →
     All (λ p. MayBeRead s m p.replacement.at) ps
 may_read_inputs s m k f pairs ps h key asks e = λ i d l.
     let here = replacing_reads s (case_at k) f pairs (get_or ps i d).replacement.at asks (ap (λ (qs : List Pair). list_any (λ p. p.1.at == (get_or ps i d).replacement.at) (map pair_of qs)) (sym e) ∙ found_at ps i d l) in

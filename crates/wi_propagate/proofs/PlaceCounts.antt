@@ -1,5 +1,5 @@
 -- Each value that is kept takes one place: of the entries one goes at most.
-use Rattle.std.proofs.Common.{◌≡◌, ◌≤◌, ◌+◌, inl, inr, ℕ, Bool, true, false, not, cond, if◌then◌else◌, min, List, [], ◌∷◌, filter, length, Option, Some, None, IsSome, is_some, Result, Ok, Err, refl, ap, sym, ◌∙◌, subst, arith}
+use Rattle.std.proofs.Common.{◌≡◌, ◌≤◌, ◌+◌, inl, inr, ℕ, Bool, true, false, not, cond, min, List, [], ◌∷◌, filter, length, Option, Some, None, IsSome, is_some, Result, Ok, Err, refl, ap, sym, ◌∙◌, subst, arith, if◌then◌else◌}
 use Rattle.std.specs.List.{AllByRecursion, IsDistinct}
 use Rattle.std.specs.Map.{keys_of}
 use Rattle.std.specs.declared.alloc.AllocError.{AllocError}
@@ -14,7 +14,7 @@ use Rattle.wi_sheet.proofs.Members.{IsIn}
 use Rattle.wi_engine.specs.Inner.Saving.{TakesPlaces}
 use Rattle.wi_propagate.specs.KeptSheet.{Generations}
 use Rattle.wi_propagate.specs.Inner.Keeping.{keeping, state_in}
-use Rattle.wi_propagate.proofs.KeepingSteps.{KeepsIn, stays_put}
+use Rattle.wi_propagate.proofs.KeepSteps.{KeepsIn, stays_put}
 
 -- ---- where one key alone may go
 

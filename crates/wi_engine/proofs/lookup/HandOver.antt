@@ -26,7 +26,7 @@ use Rattle.wi_sheet.proofs.Overrides.{content_in_order}
 use Rattle.wi_engine.specs.Inner.Attempt.{cell_known, known_in}
 use Rattle.wi_engine.specs.Inner.Findings.{found_value}
 use Rattle.wi_engine.specs.declared.findings.Findings.{Findings}
-use Rattle.wi_engine.proofs.filled.Passing.{found_passes, none_before}
+use Rattle.wi_engine.proofs.filled.FirstTouched.{found_passes, none_before}
 
 -- the occupied cells ahead in a rectangle, with what stands there
 abbrev pub ahead_in : Area → ℕ → Sheet → Sheet

@@ -10,9 +10,9 @@ use Rattle.wi_sheet.proofs.Cases.{one_case}
 use Rattle.wi_engine.specs.Inner.MemoState.{MemoState}
 use Rattle.wi_engine.specs.Inner.SettledFrames.{IsFrameSettled}
 use Rattle.wi_engine.specs.declared.frame.Frame.{Frame}
-use Rattle.wi_engine.proofs.engine.Running.{IsNew}
-use Rattle.wi_sheet.proofs.StaysSettled.{rests_more}
-use Rattle.wi_engine.proofs.engine.FoundSettled.{settled_none, found_more}
+use Rattle.wi_engine.proofs.engine.FrameRuns.{IsNew}
+use Rattle.wi_sheet.proofs.SettledTables.{rests_more}
+use Rattle.wi_engine.proofs.engine.SettledFindings.{settled_none, found_more}
 
 abbrev pub AreFramesSettled : Sheet → (ℕ → List Replacement → Bool) → List Frame → Type 0
 AreFramesSettled s kept [] = Unit {0}
@@ -27,23 +27,15 @@ pub record IsSettling (s : Sheet) (old m : MemoState) (fs : List Frame) (f : Fra
 new_settled : (s : Sheet) (kept : ℕ → List Replacement → Bool) (f : Frame) (k : Key) → IsNew s f k → IsFrameSettled s kept f
 new_settled s kept f k n t e = settled_none s kept f.key.world t f.found n.cells n.what_ifs
 
-pub settling_start : (s : Sheet) (m : MemoState) (fs : List Frame) (f : Frame) (k : Key) → IsNew s f k → fs ≡ [] → IsSettling s m m fs f
-settling_start s m fs f k n e = record {
-  top = new_settled s m.kept f k n;
-  below = rw e tt;
-  rests = λ c w h g. absurd (true≢false (sym h ∙ g));
-}
+pub settling_start : (s : Sheet) (m : MemoState) (f : Frame) (k : Key) → IsNew s f k → IsSettling s m m [] f
+settling_start s m f k n = record { top = new_settled s m.kept f k n; below = tt; rests = λ c w h g. absurd (true≢false (sym h ∙ g)) }
 
 one_more : (s : Sheet) (kept : ℕ → List Replacement → Bool) (fs : List Frame) (f : Frame) → AreFramesSettled s kept fs → IsFrameSettled s kept f → AreFramesSettled s kept (fs ++ f ∷ [])
 one_more s kept [] f h k = (k, tt)
 one_more s kept (g ∷ fs) f h k = (h.0, one_more s kept fs f h.1 k)
 
-pub settling_push : (s : Sheet) (old m n : MemoState) (fs gs : List Frame) (f h g : Frame) (k : Key) → IsSettling s old m fs f → n ≡ m → IsFrameSettled s m.kept h → IsNew s g k → gs ≡ fs ++ h ∷ [] → IsSettling s old n gs g
-settling_push s old m n fs gs f h g k i e settled new there = subst (λ (x : MemoState). IsSettling s old x gs g) (sym e) (record {
-  top = new_settled s m.kept g k new;
-  below = rw there (one_more s m.kept fs h i.below settled);
-  rests = i.rests;
-})
+pub settling_push : (s : Sheet) (old m : MemoState) (fs : List Frame) (f h g : Frame) (k : Key) → IsSettling s old m fs f → IsFrameSettled s m.kept h → IsNew s g k → IsSettling s old m (fs ++ h ∷ []) g
+settling_push s old m fs f h g k i settled new = record { top = new_settled s m.kept g k new; below = one_more s m.kept fs h i.below settled; rests = i.rests }
 
 last_one : (s : Sheet) (kept : ℕ → List Replacement → Bool) (fs : List Frame) (f : Frame) → AreFramesSettled s kept (fs ++ f ∷ []) → AreFramesSettled s kept fs × IsFrameSettled s kept f
 last_one s kept [] f h = (tt, h.0)
@@ -69,12 +61,7 @@ module _ (s : Sheet) (m n : MemoState) (k : Case) (finds : (c : ℕ) (w : List R
       at (inl j) = h c w j o
       at (inr j) = subst (λ (x : Case). RestsOnKept s m.kept x) (one_case k (c, w) j) r
 
-  pub settling_pop : (old : MemoState) (fs gs : List Frame) (f b : Frame) → IsSettling s old m gs f → gs ≡ fs ++ b ∷ [] → RestsOnKept s m.kept k → IsSettling s old n fs b
-  settling_pop old fs gs f b i e r =
-      let below : AreFramesSettled s m.kept (fs ++ b ∷ []) = subst (λ (xs : List Frame). AreFramesSettled s m.kept xs) e i.below in
-      let parts = last_one s m.kept fs b below in
-      record {
-        top = frame_more b parts.1;
-        below = frames_more fs parts.0;
-        rests = rests_after old r i.rests;
-      }
+  pub settling_pop : (old : MemoState) (fs : List Frame) (f b : Frame) → IsSettling s old m (fs ++ b ∷ []) f → RestsOnKept s m.kept k → IsSettling s old n fs b
+  settling_pop old fs f b i r =
+      let parts = last_one s m.kept fs b i.below in
+      record { top = frame_more b parts.1; below = frames_more fs parts.0; rests = rests_after old r i.rests }

@@ -1,5 +1,5 @@
 -- What is left to find falls with each case that is found.
-use Rattle.std.proofs.Common.{◌≡◌, ◌≤◌, ◌+◌, ◌||◌, inl, inr, ℕ, Bool, true, false, cond, not, filter, if◌then◌else◌, List, [], ◌∷◌, length, Contains, refl, ap, sym, ◌∙◌, arith, sum_by}
+use Rattle.std.proofs.Common.{◌≡◌, ◌≤◌, ◌+◌, ◌||◌, inl, inr, ℕ, Bool, true, false, cond, not, filter, List, [], ◌∷◌, length, Contains, refl, ap, sym, ◌∙◌, arith, sum_by, if◌then◌else◌}
 use Rattle.std.proofs.lemmas.Bool.{or_left, or_right, true≢false}
 use Rattle.std.proofs.lemmas.List.Sums.{sum_by-cons}
 use Rattle.wi_values.specs.declared.replacement.Replacement.{Replacement}

@@ -10,24 +10,23 @@ use Rattle.wi_graph.proofs.Walks.{reader_formula}
 use Rattle.wi_graph.proofs.Cones.{cone_least}
 use Rattle.wi_sheet.specs.Unmoved.{IsUnmoved}
 use Rattle.wi_sheet.proofs.Cones.{outside_unmoved}
-use Rattle.wi_propagate.specs.Inner.Plain.{has_formula_or_is_one_of}
 
 -- a cell is among those with a formula exactly where it has one
 formulas_alone : (s : Sheet) (c : ℕ) → is_one_of (cells_with_formula s) c ≡ has_formula (content_of s c)
 formulas_alone s c = ap (λ (xs : List ℕ). is_one_of xs c) (sym (layer_zero s)) ∙ in_layer 0 s c
 
-pub formulas_and_cells : (s : Sheet) (formulas cells found : List ℕ) → formulas ≡ cells_with_formula s → found ≡ formulas ++ cells → (c : ℕ) → is_one_of found c ≡ has_formula_or_is_one_of s cells c
+pub formulas_and_cells : (s : Sheet) (formulas cells found : List ℕ) → formulas ≡ cells_with_formula s → found ≡ formulas ++ cells → (c : ℕ) → is_one_of found c ≡ (has_formula (content_of s c) || is_one_of cells c)
 formulas_and_cells s formulas cells found e f c =
     ap (λ (xs : List ℕ). is_one_of xs c) (f ∙ ap (λ (xs : List ℕ). xs ++ cells) e) ∙ list_any-append (λ x. x == c) (cells_with_formula s) cells
     ∙ ap (λ (b : Bool). b || is_one_of cells c) (formulas_alone s c)
 
 -- so has each cell of their cone
-cone_has_formulas : (s : Sheet) (cells : List ℕ) (c : ℕ) → in_cone s cells c ≡ true → has_formula_or_is_one_of s cells c ≡ true
+cone_has_formulas : (s : Sheet) (cells : List ℕ) (c : ℕ) → in_cone s cells c ≡ true → (has_formula (content_of s c) || is_one_of cells c) ≡ true
 cone_has_formulas s cells =
-    cone_least s cells (has_formula_or_is_one_of s cells) (λ a m. or_right (has_formula (content_of s a)) (is_one_of cells a) m)
+    cone_least s cells (λ a. has_formula (content_of s a) || is_one_of cells a) (λ a m. or_right (has_formula (content_of s a)) (is_one_of cells a) m)
     (λ c d r h. or_left (has_formula (content_of s c)) (is_one_of cells c) (reader_formula (content_of s c) d r))
 
 -- and what is not marked is unmoved
-pub others_unmoved : (s : Sheet) (cells found : List ℕ) → ((c : ℕ) → is_one_of found c ≡ has_formula_or_is_one_of s cells c) → (c : ℕ) → is_one_of found c ≡ false → IsUnmoved s cells c
+pub others_unmoved : (s : Sheet) (cells found : List ℕ) → ((c : ℕ) → is_one_of found c ≡ (has_formula (content_of s c) || is_one_of cells c)) → (c : ℕ) → is_one_of found c ≡ false → IsUnmoved s cells c
 others_unmoved s cells found is c n =
     outside_unmoved s cells c (false_from_ne_true (in_cone s cells c) (λ i. clash (is_one_of found c) (is c ∙ cone_has_formulas s cells c i) n))

@@ -7,12 +7,12 @@ use Rattle.wi_functions.specs.Counts.{Counts}
 use Rattle.wi_sheet.specs.Demand.{Case}
 use Rattle.wi_sheet.specs.Settled.{RestsOnKept}
 use Rattle.wi_sheet.specs.Inner.Spending.{SpentOn}
-use Rattle.wi_sheet.proofs.Counting.{never_fall-same, never_fall-then, spent_none, spent_then, spent_weaken}
+use Rattle.wi_sheet.proofs.CaseCosts.{never_fall-same, never_fall-then, spent_none, spent_then, spent_weaken}
 use Rattle.wi_engine.specs.Inner.MemoState.{MemoState, IsMemoOf}
 use Rattle.wi_engine.specs.Inner.Saving.{WhereRoom}
 use Rattle.wi_engine.specs.Inner.Spends.{Saved, Spends}
-use Rattle.wi_sheet.proofs.StaysSettled.{rests_more}
-use Rattle.wi_engine.proofs.Saved.{takes_none, takes_then, gives_up_none, gives_up_then}
+use Rattle.wi_sheet.proofs.SettledTables.{rests_more}
+use Rattle.wi_engine.proofs.Places.{takes_none, takes_then, gives_up_none, gives_up_then}
 
 -- ---- of what is kept
 

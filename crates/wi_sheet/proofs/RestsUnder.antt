@@ -14,7 +14,7 @@ use Rattle.wi_sheet.proofs.Bounds.{put_reads, tree_reads}
 use Rattle.wi_sheet.proofs.SmallerWorlds.{reaching_below, content_below, what_if_below}
 use Rattle.wi_sheet.proofs.Members.{contains_in, of_filter, map_same}
 use Rattle.wi_sheet.proofs.Demands.{here_reads, what_if_reads}
-use Rattle.wi_sheet.proofs.Asked.{replacing_read}
+use Rattle.wi_sheet.proofs.Wants.{replacing_read}
 
 -- a cell below has the same case
 case_below : (s : Sheet) (w : List Replacement) (c d : ℕ) → reaches s c d ≡ true → case_of s (reaching s c w) d ≡ case_of s w d

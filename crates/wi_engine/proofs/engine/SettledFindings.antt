@@ -31,9 +31,9 @@ use Rattle.wi_engine.specs.Inner.Frames.{case_at}
 use Rattle.wi_engine.specs.declared.frame.Frame.{Frame}
 use Rattle.wi_engine.specs.declared.findings.Findings.{Findings}
 use Rattle.wi_engine.specs.declared.findings.FoundWhatIf.{FoundWhatIf}
-use Rattle.wi_sheet.proofs.StaysSettled.{settled_more, what_if_more}
-use Rattle.wi_engine.proofs.engine.Resting.{asked_in}
-use Rattle.wi_engine.proofs.attempt.Attempting.{known_agrees, values_in}
+use Rattle.wi_sheet.proofs.SettledTables.{settled_more, what_if_more}
+use Rattle.wi_engine.proofs.engine.NextCases.{asked_in}
+use Rattle.wi_engine.proofs.attempt.KnownValues.{known_agrees, values_in}
 use Rattle.wi_engine.proofs.findings.FoundValues.{cells_none, cells_same, cells_more, what_ifs_none, what_ifs_same, what_ifs_more}
 
 -- ---- a value that was found by what is settled rests on it
@@ -146,12 +146,10 @@ frame_what_if s kept f g x world ps more asks ep ew inputs inner h t k =
     settled_what_if s kept f.key.world t f.found g x more there (record { replacing = all; formula_cell = cell }) (h t k)
 
 -- a frame that is done rests on kept values
-pub frame_rests : (s : Sheet) (kept : ℕ → List Replacement → Bool) (f : Frame) → AreAllRight (cell_value (put_all s f.key.world)) (what_if_value (put_all s f.key.world)) f.found → IsFrameSettled s kept f → HasOneMeaning s f.key.world f.key.cell f.found → RestsOnKept s kept (case_at f.key)
-frame_rests s kept f r h one t a i g = done_rests s kept f.key.world f.key.cell t f.found i r (h t i) one t a i g
-
 pub done_settled : (s : Sheet) (m : MemoState) (f h : Frame) → h.key ≡ f.key → AreAllRight (cell_value (put_all s h.key.world)) (what_if_value (put_all s h.key.world)) h.found → HasOneMeaning s h.key.world h.key.cell h.found →
     (KeepsFound m → IsFrameSettled s m.kept f → IsFrameSettled s m.kept h) → KeepsFound m → IsFrameSettled s m.kept f → RestsOnKept s m.kept (case_at f.key)
-done_settled s m f h e r one grows whole k = subst (λ (x : Key). RestsOnKept s m.kept (case_at x)) e (frame_rests s m.kept h r (grows whole k) one)
+done_settled s m f h e r one grows whole k =
+    subst (λ (x : Key). RestsOnKept s m.kept (case_at x)) e (λ t a i g. done_rests s m.kept h.key.world h.key.cell t h.found i r (grows whole k t i) one t a i g)
 
 -- the same values, found for the same frame
 abbrev pub IsSettledFor : Sheet → (ℕ → List Replacement → Bool) → Key → Findings → Type 0

@@ -21,9 +21,9 @@ use Rattle.wi_engine.specs.declared.findings.Findings.{Findings}
 use Rattle.wi_engine.specs.declared.frame.Frame.{Frame}
 use Rattle.wi_engine.specs.declared.frame.Waiting.{Waiting}
 use Rattle.wi_engine.specs.declared.frame.Waiting.TheVariants.{Cells}
-use Rattle.wi_engine.proofs.engine.Awaiting.{cell_falls, frame_with}
-use Rattle.wi_engine.proofs.engine.FoundSettled.{IsSettledFor, frame_cell}
-use Rattle.wi_engine.proofs.engine.Rightness.{right_cell}
+use Rattle.wi_engine.proofs.engine.Waits.{cell_falls, frame_with}
+use Rattle.wi_engine.proofs.engine.SettledFindings.{IsSettledFor, frame_cell}
+use Rattle.wi_engine.proofs.findings.FoundValues.{right_cell}
 
 pub takes_none : {s : Sheet} {k : Key} {f : Frame} {done : Bool} → FrameTakes s k f f done
 takes_none = record { key = refl; frame = λ d m h. h; fewer = λ d. omega arith; settled = λ d kept there h. h }

@@ -21,11 +21,12 @@ use Rattle.wi_sheet.specs.CellValue.{cell_value}
 use Rattle.wi_sheet.specs.Demand.{Case, case_of, reaching, with_what_if, what_ifs_of, reads_here, of_formula}
 use Rattle.wi_sheet.specs.Inner.Spending.{RestsOn}
 use Rattle.wi_sheet.proofs.Bounds.{put_formula, put_reads, tree_reads}
+use Rattle.wi_sheet.proofs.Cases.{pair_path}
 use Rattle.wi_sheet.proofs.Steps.{reads_not_circular}
 use Rattle.wi_sheet.proofs.Overrides.{reaching_suffices}
 use Rattle.wi_sheet.proofs.Members.{IsIn, in_contained, contains_in}
 use Rattle.wi_sheet.proofs.SmallerWorlds.{content_below, reaching_below}
-use Rattle.wi_sheet.proofs.Asked.{rests_on_read, rests_on_what_if, asked_what_if, asked_replacing}
+use Rattle.wi_sheet.proofs.Wants.{rests_on_read, rests_on_what_if, asked_what_if, asked_replacing}
 use Rattle.wi_sheet.proofs.Demands.{here_reads, what_if_reads}
 use Rattle.wi_engine.specs.Inner.MemoState.{MemoState, IsMemoOf}
 use Rattle.wi_engine.specs.Inner.Attempt.{AsksAt}
@@ -124,17 +125,18 @@ what_if_in_sheet s k f pairs h =
 
 -- ---- the next key
 
-pub key_path : (a b : ℕ) (v w : List Replacement) → a ≡ b → v ≡ w → ◌≡◌ {A = Case} (b, w) (a, v)
-key_path a b v w e f = ap (λ (n : ℕ). (n, w)) (sym e) ∙ ap (λ (x : List Replacement). (a, x)) (sym f)
+-- the case of a cell whose formula has to be valued
+pub unvalued_case : (s : Sheet) (m : MemoState) (w : List Replacement) (a : ℕ) (k : Key) → IsUnvalued s m w a k → case_of s w a ≡ case_at k
+unvalued_case s m w a k u = sym (pair_path k.cell a k.world (reaching s a w) u.cell u.world)
 
 next_key : (s : Sheet) (m : MemoState) (below k : Key) (w : List Replacement) (a : ℕ) → IsUnvalued s m w a k → RestsOn s (case_at below) (case_of s w a) → IsNext s m below k
 next_key s m below k w a u r = record {
-  rests = subst (λ (j : Case). RestsOn s (case_at below) j) (key_path k.cell a k.world (reaching s a w) u.cell u.world) r;
+  rests = subst (λ (j : Case). RestsOn s (case_at below) j) (unvalued_case s m w a k u) r;
   to_find = u.to_find;
 }
 
 formula_there : (s : Sheet) (m : MemoState) (w : List Replacement) (a : ℕ) (k : Key) → IsUnvalued s m w a k → has_formula (content_of (put_all s (reaching s a w)) a) ≡ true
-formula_there s m w a k u = ap (λ (j : Case). has_formula (content_of (put_all s j.1) j.0)) (key_path k.cell a k.world (reaching s a w) u.cell u.world) ∙ u.to_find.key.formula
+formula_there s m w a k u = ap (λ (j : Case). has_formula (content_of (put_all s j.1) j.0)) (unvalued_case s m w a k u) ∙ u.to_find.key.formula
 
 -- the key of a cell that is read as the sheet stands
 pub next_cell : (s : Sheet) (m : MemoState) (below k : Key) (a : ℕ) → IsUnvalued s m below.world a k → content_reads_here (content_of (put_all s below.world) below.cell) a ≡ true → IsNext s m below k

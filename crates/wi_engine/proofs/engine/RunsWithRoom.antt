@@ -1,29 +1,32 @@
 -- A run of frames while there is room for all that it finds.
 use Rattle.std.proofs.Common.{◌≡◌, ◌≤◌, ◌+◌, ◌⊎◌, inl, inr, ◌||◌, ℕ, Bool, true, false, List, [], ◌∷◌, ◌++◌, Contains, Option, Some, is_some, refl, ap, sym, ◌∙◌, subst, arith}
-use Rattle.std.proofs.lemmas.Bool.{or_cases, or_left, or_right}
+use Rattle.std.proofs.lemmas.Bool.{or_cases, or_from, or_left, or_right, true≢false}
 use Rattle.wi_values.specs.declared.value.Value.{Value}
 use Rattle.wi_values.specs.declared.replacement.Replacement.{Replacement}
-use Rattle.wi_parser.specs.Sheet.{Sheet}
+use Rattle.wi_parser.specs.Sheet.{Sheet, put_all}
 use Rattle.wi_functions.specs.Counts.{Counts}
 use Rattle.wi_cache.specs.declared.key.Key.{Key}
-use Rattle.wi_sheet.specs.Demand.{Case, reaching, same_case}
-use Rattle.wi_sheet.specs.Inner.Spending.{IsClosed, HasCase, SpentOn}
+use Rattle.wi_sheet.specs.CellValue.{cell_value}
+use Rattle.wi_sheet.specs.Demand.{Case, case_of, reaching, same_case}
+use Rattle.wi_sheet.specs.Inner.Spending.{Table, IsClosed, HasCase, SpentOn}
 use Rattle.wi_sheet.specs.Settled.{IsSettled, RestsOnKept}
 use Rattle.wi_sheet.proofs.Cases.{same_case-refl}
-use Rattle.wi_sheet.proofs.Counting.{one_less_left}
+use Rattle.wi_sheet.proofs.Overrides.{reaching_suffices}
+use Rattle.wi_sheet.proofs.CaseCosts.{one_less_left}
 use Rattle.wi_engine.specs.Inner.MemoState.{MemoState, IsTold, IsMemoOf}
-use Rattle.wi_engine.specs.Inner.Frames.{case_at, IsToValue, IsToFind, IsUnvalued, IsNext}
+use Rattle.wi_engine.specs.Inner.Frames.{case_at, IsFormulaKey, IsUnvaluedKey, IsUnvalued, IsNext}
 use Rattle.wi_engine.specs.Inner.Saving.{not_kept, KeepsFound, WhereRoom, NeedsNoEvaluation, IsValuedAnew}
 use Rattle.wi_engine.specs.Inner.Spends.{Saved}
 use Rattle.wi_engine.specs.Inner.Steps.{FrameTakes}
 use Rattle.wi_engine.specs.Inner.Keeps.{Keeps}
 use Rattle.wi_engine.specs.declared.frame.Frame.{Frame}
-use Rattle.wi_engine.proofs.Saved.{none_went}
-use Rattle.wi_engine.proofs.engine.Settling.{one_more_at_most}
-use Rattle.wi_engine.proofs.engine.FoundSettled.{settled_now}
-use Rattle.wi_engine.proofs.engine.FramesSettled.{IsSettling, settling_start, settling_push, settling_pop, rests_after}
+use Rattle.wi_engine.proofs.Places.{none_went}
+use Rattle.wi_engine.proofs.engine.NextCases.{unvalued_case}
+use Rattle.wi_engine.proofs.engine.NextValues.{one_more_at_most}
+use Rattle.wi_engine.proofs.engine.SettledFindings.{settled_now}
+use Rattle.wi_engine.proofs.engine.SettledStacks.{IsSettling, settling_start, settling_push, settling_pop, rests_after}
 use Rattle.wi_engine.proofs.engine.Stacks.{same_frame}
-use Rattle.wi_engine.proofs.engine.Running.{unvalued_in, IsRunning, IsNew, Finds, GoesDeeper, ComesBack, run_start, run_deeper, run_back, run_take, run_ends}
+use Rattle.wi_engine.proofs.engine.FrameRuns.{IsRunning, IsNew, Finds, GoesDeeper, ComesBack, run_start, run_deeper, run_back, run_take, run_ends}
 
 -- a memory, seen as if what is kept were what was found
 abbrev pub by_kept : MemoState → MemoState
@@ -46,7 +49,7 @@ kept_memory_of s m h w = record {
   told = kept_told m h.told w;
 }
 
-kept_to_value : (s : Sheet) (m : MemoState) (k : Key) → IsToValue s m k → IsToValue s (by_kept m) k
+kept_to_value : (s : Sheet) (m : MemoState) (k : Key) → IsFormulaKey s m k → IsFormulaKey s (by_kept m) k
 kept_to_value s m k h = record { formula = h.formula; open_cell = h.open_cell; covered = h.covered; own = h.own; generation = h.generation }
 
 kept_next : (s : Sheet) (m : MemoState) (below k : Key) → IsNext s m below k → IsNext s (by_kept m) below k
@@ -88,7 +91,7 @@ pub record IsSaving (s : Sheet) (old m : MemoState) (root : Case) (start now : C
   pub stand : (k : Key) → old.stands k ≡ true → m.stands k ≡ true
   pub settling : IsSettling s old m fs f
 
-pub saving_start : (s : Sheet) (m : MemoState) (k : Key) (f : Frame) (now : Counts) (ks : List Case) → IsMemoOf s m → IsToFind s m k → IsNew s f k → KeepsFound m → not_kept m ks ≤ m.room → IsSaving s m m (case_at k) now now [] f ks
+pub saving_start : (s : Sheet) (m : MemoState) (k : Key) (f : Frame) (now : Counts) (ks : List Case) → IsMemoOf s m → IsUnvaluedKey s m k → IsNew s f k → KeepsFound m → not_kept m ks ≤ m.room → IsSaving s m m (case_at k) now now [] f ks
 saving_start s m k f now ks h key n whole room = record {
   running = run_start s (by_kept m) k f now (kept_memory_of s m h whole) (kept_to_value s m k key.key) key.unkept n;
   whole = whole;
@@ -96,7 +99,7 @@ saving_start s m k f now ks h key n whole room = record {
   room = room;
   stays = λ c v i. i;
   stand = λ j i. i;
-  settling = settling_start s m [] f k n refl;
+  settling = settling_start s m f k n;
 }
 
 pub saving_deeper : {s : Sheet} {old m : MemoState} {root : Case} {start now next : Counts} {fs : List Frame} {f h g : Frame} {k : Key} {ks : List Case} → GoesDeeper s m now next f h g k → IsSaving s old m root start now fs f ks → IsSaving s old m root start next (fs ++ h ∷ []) g ks
@@ -107,7 +110,7 @@ saving_deeper {s} {old} {m} {root} {start} {now} {next} {fs} {f} {h} {g} {k} {ks
   room = i.room;
   stays = i.stays;
   stand = i.stand;
-  settling = settling_push s old m m fs (fs ++ h ∷ []) f h g k i.settling refl (t.steps.settled refl i.whole i.settling.top) t.new refl;
+  settling = settling_push s old m fs f h g k i.settling (t.steps.settled refl i.whole i.settling.top) t.new;
 }
 
 pub saving_take : {s : Sheet} {old m : MemoState} {root : Case} {start now : Counts} {fs : List Frame} {f g : Frame} {ks : List Case} {k : Key} → FrameTakes s k f g true → m.kept k.cell k.world ≡ true → IsSaving s old m root start now fs f ks → IsSaving s old m root start now fs g ks
@@ -197,34 +200,18 @@ saving_back {s} {old} {m} {n} {root} {start} {now} {next} {fs} {f} {b} {v} {ks} 
   room = still t closed top i;
   stays = stays_then t closed top i;
   stand = stand_then t closed top i;
-  settling = settling_pop s m n (case_at f.key) (kept t closed top i) old fs (fs ++ b ∷ []) f b i.settling refl (rests_then t closed top i);
+  settling = settling_pop s m n (case_at f.key) (kept t closed top i) old fs f b i.settling (rests_then t closed top i);
 }
 
 pub saving_ends : {s : Sheet} {old m n : MemoState} {root : Case} {start now next : Counts} {f : Frame} {v : Value} {ks : List Case} → ComesBack s m n now next f v → IsClosed s ks → Contains ks root → IsSaving s old m root start now [] f ks → SpentOn s old.kept n.kept start next true ks
 saving_ends {s} {old} {m} {n} t closed top i = run_ends (by_kept n) (kept t closed top i) t.counts i.running _ closed top
 
--- ---- a cell under any replacements
-
-there_is : (a b c : Bool) → a ≡ (b || c) → a ≡ true → b ≡ false → c ≡ true
-there_is a true c e h n = cc
-there_is a false c e h n = sym e ∙ h
+-- ---- a cell under any replacements, where no formula has to be evaluated for it
 
 -- what needs no evaluation, and was not found, is kept
-pub kept_before : (s : Sheet) (m n : MemoState) (w : List Replacement) (a : ℕ) → IsMemoOf s m → n ≡ m → NeedsNoEvaluation s m w a → IsValuedAnew s m w a → n.kept a (reaching s a w) ≡ true
-kept_before s m n w a h e (inl k) v = let z = v.formula in cc
-kept_before s m n w a h e (inr k) v = rw e (there_is (is_some (m.known a (reaching s a w))) (m.found a (reaching s a w)) (m.kept a (reaching s a w)) (h.told a (reaching s a w)) k v.unfound)
-
-neither : (a b c : Bool) → a ≡ (b || c) → b ≡ false → c ≡ false → a ≡ true → ⊥
-neither a true c e n k h = cc
-neither a false c e n k h = cc
-
-pub not_easy : (s : Sheet) (m : MemoState) (w : List Replacement) (a : ℕ) (k : Key) → IsMemoOf s m → IsUnvalued s m w a k → NeedsNoEvaluation s m w a → ⊥
-not_easy s m w a k h u (inl j) = let z = u.formula in cc
-not_easy s m w a k h u (inr j) =
-    neither (is_some (m.known a (reaching s a w))) (m.found a (reaching s a w)) (m.kept a (reaching s a w)) (h.told a (reaching s a w)) (at m.found u.to_find.unfound) (at m.kept u.to_find.unkept) j
-  where
-    at : (f : ℕ → List Replacement → Bool) → f k.cell k.world ≡ false → f a (reaching s a w) ≡ false
-    at f e = ap (f a) (sym u.world) ∙ ap (λ (c : ℕ). f c k.world) (sym u.cell) ∙ e
+pub kept_before : {s : Sheet} {m : MemoState} {w : List Replacement} {a : ℕ} (n : MemoState) → IsMemoOf s m → n ≡ m → NeedsNoEvaluation s m w a → IsValuedAnew s m w a → n.kept a (reaching s a w) ≡ true
+kept_before n h e (inl k) v = let z = v.formula in cc
+kept_before {s} {m} {w} {a} n h e (inr k) v = rw e (sym (h.told a (reaching s a w) ∙ ap (λ (b : Bool). b || m.kept a (reaching s a w)) v.unfound) ∙ k)
 
 -- a value looked up needs no evaluation
 pub found_easy : (s : Sheet) (m n : MemoState) (w : List Replacement) (a : ℕ) (k : Key) (v : Value) → IsMemoOf s m → n ≡ m → k.cell ≡ a → k.world ≡ reaching m.sheet a w → Some v ≡ n.known k.cell k.world → NeedsNoEvaluation s m w a
@@ -233,16 +220,33 @@ found_easy s m n w a k v h en ec ew e =
     let there : Some v ≡ m.known k.cell k.world = e ∙ ap (λ (x : MemoState). x.known k.cell k.world) en in
     inr (ap (λ (u : List Replacement). is_some (m.known a u)) (sym world) ∙ ap (λ (c : ℕ). is_some (m.known c k.world)) (sym ec) ∙ ap (λ (o : Option Value). is_some o) (sym there))
 
-module _ (s : Sheet) (m : MemoState) (w : List Replacement) (a : ℕ) where
-  pub under_settled : (n l : MemoState) (k : Key) → n ≡ m → IsUnvalued s m w a k → WhereRoom s (λ ks. Contains ks (case_at k)) n (λ ks. l.kept k.cell k.world ≡ true) → WhereRoom s (HasCase s w a) m (λ ks. IsSettled s l.kept w a)
-  under_settled n l k e u h = λ ks closed top whole room.
-      let here : WhereRoom s (λ ks. Contains ks (case_at k)) m (λ ks. l.kept k.cell k.world ≡ true) = rw e at h in
-      inr (ap (l.kept a) (sym u.world) ∙ ap (λ (c : ℕ). l.kept c k.world) (sym u.cell) ∙ here ks closed (unvalued_in s m w a k ks u top) whole room)
-
 -- what needs no evaluation is settled where all that was found is kept
-pub settled_before : (s : Sheet) (m n : MemoState) (w : List Replacement) (a : ℕ) (Has : List Case → Type 0) → IsMemoOf s m → n ≡ m → NeedsNoEvaluation s m w a → WhereRoom s Has m (λ ks. IsSettled s n.kept w a)
-settled_before s m n w a Has h e easy = λ ks closed top whole room. subst (λ (x : MemoState). IsSettled s x.kept w a) (sym e) (settled_now s m m w a h refl whole easy)
+pub settled_before : {s : Sheet} {m : MemoState} (n : MemoState) (w : List Replacement) (a : ℕ) (Has : List Case → Type 0) → IsMemoOf s m → n ≡ m → NeedsNoEvaluation s m w a → WhereRoom s Has m (λ ks. IsSettled s n.kept w a)
+settled_before {s} {m} n w a Has h e easy = λ ks closed top whole room. subst (λ (x : MemoState). IsSettled s x.kept w a) (sym e) (settled_now s m m w a h refl whole easy)
 
-pub under_kept : (s : Sheet) (m n l : MemoState) (w : List Replacement) (a : ℕ) (k : Key) → n ≡ m → IsUnvalued s m w a k → (1 ≤ n.capacity → l.kept k.cell k.world ≡ true) → 1 ≤ m.capacity → l.kept a (reaching s a w) ≡ true
-under_kept s m n l w a k e u h r =
-    ap (l.kept a) (sym u.world) ∙ ap (λ (c : ℕ). l.kept c k.world) (sym u.cell) ∙ h (let z = ap (λ (x : MemoState). x.capacity) e in omega (arith, r, z))
+-- ---- and where its formula has to be valued
+
+module _ {s : Sheet} {m : MemoState} {w : List Replacement} {a : ℕ} {k : Key} (u : IsUnvalued s m w a k) where
+  here : case_of s w a ≡ case_at k
+  here = unvalued_case s m w a k u
+
+  -- a value under the key of a cell is the cell's
+  pub unvalued_value : (v : Value) → v ≡ cell_value (put_all s k.world) k.cell → v ≡ cell_value (put_all s w) a
+  unvalued_value v is = is ∙ ap (λ (j : Case). cell_value (put_all s j.1) j.0) (sym here) ∙ reaching_suffices s w a
+
+  pub unvalued_in : (ks : List Case) → HasCase s w a ks → Contains ks (case_at k)
+  unvalued_in ks h = subst (λ (j : Case). Contains ks j) here (h u.formula)
+
+  pub not_easy : IsMemoOf s m → NeedsNoEvaluation s m w a → ⊥
+  not_easy h (inl j) = let z = u.formula in cc
+  not_easy h (inr j) =
+      let at : (f : Table) → f k.cell k.world ≡ false → f a (reaching s a w) ≡ false = λ f e. ap (λ (i : Case). f i.0 i.1) here ∙ e in
+      true≢false (sym j ∙ h.told a (reaching s a w) ∙ or_from (m.found a (reaching s a w)) (m.kept a (reaching s a w)) (at m.found u.to_find.unfound) (at m.kept u.to_find.unkept))
+
+  pub unvalued_settled : (n l : MemoState) → n ≡ m → WhereRoom s (λ ks. Contains ks (case_at k)) n (λ ks. l.kept k.cell k.world ≡ true) → WhereRoom s (HasCase s w a) m (λ ks. IsSettled s l.kept w a)
+  unvalued_settled n l e h = λ ks closed top whole room.
+      let before : WhereRoom s (λ ks. Contains ks (case_at k)) m (λ ks. l.kept k.cell k.world ≡ true) = rw e at h in
+      inr (ap (λ (j : Case). l.kept j.0 j.1) here ∙ before ks closed (unvalued_in ks top) whole room)
+
+  pub unvalued_kept : (n l : MemoState) → n ≡ m → (1 ≤ n.capacity → l.kept k.cell k.world ≡ true) → 1 ≤ m.capacity → l.kept a (reaching s a w) ≡ true
+  unvalued_kept n l e h r = ap (λ (j : Case). l.kept j.0 j.1) here ∙ h (let z = ap (λ (x : MemoState). x.capacity) e in omega (arith, r, z))

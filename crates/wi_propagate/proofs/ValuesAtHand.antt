@@ -1,5 +1,5 @@
 -- What is kept or was given up in a question: a value comes, and none goes.
-use Rattle.std.proofs.Common.{◌≡◌, ◌≤◌, ◌-◌, ◌⊎◌, inl, inr, ◌||◌, ℕ, Bool, true, false, cond, if◌then◌else◌, nat_lt, List, [], ◌∷◌, length, slice_get, Option, Some, None, IfSome, IsSome, is_some, Result, Ok, Err, OnOk, refl, ap, sym, ◌∙◌, subst, arith}
+use Rattle.std.proofs.Common.{◌≡◌, ◌≤◌, ◌-◌, ◌⊎◌, inl, inr, ◌||◌, ℕ, Bool, true, false, cond, nat_lt, List, [], ◌∷◌, length, slice_get, Option, Some, None, IfSome, IsSome, is_some, Result, Ok, Err, OnOk, refl, ap, sym, ◌∙◌, subst, arith, if◌then◌else◌}
 use Rattle.std.proofs.lemmas.Bool.Decides.{nat_tests}
 use Rattle.std.proofs.lemmas.Map.Entries.{lookup_from_place}
 use Rattle.std.proofs.lemmas.Option.{slice_get_cases}
@@ -12,9 +12,10 @@ use Rattle.wi_cache.specs.declared.key.Key.{Key}
 use Rattle.wi_cache.specs.Entries.{Entries, KeptValues, HasOneEach, Puts, going, same_key, value_for}
 use Rattle.wi_cache.proofs.Keys.{key_means, same_key_equiv}
 use Rattle.wi_sheet.specs.Demand.{same_case}
+use Rattle.wi_engine.proofs.Places.{known_still, known_then}
 use Rattle.wi_propagate.specs.KeptSheet.{Generations, generation_in, key_in}
 use Rattle.wi_propagate.specs.Inner.Keeping.{TakesOver}
-use Rattle.wi_propagate.proofs.KeepingSteps.{KeepsIn, put_is_some}
+use Rattle.wi_propagate.proofs.KeepSteps.{KeepsIn, put_is_some}
 
 -- ---- the entry that goes for a new value
 
@@ -117,20 +118,9 @@ module _ (es fs : Entries) (m n : KeptValues) (k : Key) (v : Value) (one_each : 
         q : Key
         q = key_in g c w
 
-        Known : Value → Type 0
-        Known x = (before q ≡ Some x) ⊎ ((c ≡ k.cell) × (w ≡ k.world) × (x ≡ v))
-
-        itself : (o : Option Value) → before q ≡ o → IfSome o Known
-        itself None e = tt
-        itself (Some u) e = inl e
-
-        or_new : (b : Bool) → same_key k q ≡ b → IfSome (cond b (Some v) (before q)) Known
-        or_new true e = let same = sym (key_means k q e) in inr (ap (λ (y : Key). y.cell) same, ap (λ (y : Key). y.world) same, refl)
-        or_new false e = itself (before q) refl
-
-        by : (y : Result (Unit {0}) AllocError) → KeepsIn y m n k v → IfSome (after q) Known
-        by (Ok x) i = subst (λ (o : Option Value). IfSome o Known) (sym (accepted i q)) (or_new (same_key k q) refl)
-        by (Err x) i = subst (λ (o : Option Value). IfSome o Known) (sym (refused i.err q)) (itself (before q) refl)
+        by : (y : Result (Unit {0}) AllocError) → KeepsIn y m n k v → IfSome (after q) (λ x. (before q ≡ Some x) ⊎ ((c ≡ k.cell) × (w ≡ k.world) × (x ≡ v)))
+        by (Ok x) i = known_then (before q) (after q) k q v (same_key k q) refl (accepted i q)
+        by (Err x) i = known_still (before q) (after q) k q v (refused i.err q)
 
     stays_some : (b : Bool) (o : Option Value) → is_some o ≡ true → is_some (cond b (Some v) o) ≡ true
     stays_some true o h = refl

@@ -1,5 +1,5 @@
 -- A value is kept in one question, and for longer.
-use Rattle.std.proofs.Common.{◌≡◌, ◌==◌, ◌<◌, ◌≤◌, ◌-◌, ◌+◌, inl, inr, ◌||◌, ◌&&◌, ℕ, Bool, true, false, cond, if◌then◌else◌, min, List, length, Option, Some, None, IsSome, is_some, Result, Ok, Err, OnOk, OnErr, refl, ap, sym, ◌∙◌, subst, arith}
+use Rattle.std.proofs.Common.{◌≡◌, ◌==◌, ◌<◌, ◌≤◌, ◌-◌, ◌+◌, inl, inr, ◌||◌, ◌&&◌, ℕ, Bool, true, false, cond, min, List, length, Option, Some, None, IsSome, is_some, Result, Ok, Err, OnOk, OnErr, refl, ap, sym, ◌∙◌, subst, arith, if◌then◌else◌}
 use Rattle.std.proofs.lemmas.Bool.{or_left}
 use Rattle.std.proofs.lemmas.Bool.Decides.{nat_tests}
 use Rattle.std.specs.Map.{update}
@@ -15,7 +15,7 @@ use Rattle.wi_engine.specs.Inner.Saving.{GivesUpWhenFull}
 use Rattle.wi_propagate.specs.Right.{IsKeptFor, AreRight}
 use Rattle.wi_propagate.specs.KeptSheet.{Generations, generation_in, key_in}
 use Rattle.wi_propagate.specs.Inner.Keeping.{keeping, state_in}
-use Rattle.wi_propagate.proofs.KeptSteps.{kept_over_keep}
+use Rattle.wi_propagate.proofs.RightValues.{kept_over_keep}
 
 -- what an accepted `keep` of kept values ensures, and what a refused one does
 pub record KeepsIn (r : Result (Unit {0}) AllocError) (m n : KeptValues) (k : Key) (v : Value) : Type 0 where

@@ -12,62 +12,49 @@ use Rattle.wi_graph.proofs.Layers.{list_any-both}
 use Rattle.wi_graph.proofs.Walks.{same_cell, found, formula_cell}
 use Rattle.wi_graph.proofs.ReachTest.{keeps_few}
 use Rattle.wi_sheet.specs.Demand.{reads_here, formulas_read_here, what_ifs_of}
-use Rattle.wi_sheet.proofs.Asked.{asked_what_if}
+use Rattle.wi_sheet.proofs.Wants.{asked_what_if}
 use Rattle.wi_sheet.proofs.Members.{in_contained, found_in}
 use Rattle.wi_engine.specs.declared.findings.Findings.{Findings}
 use Rattle.wi_engine.specs.declared.findings.FoundWhatIf.{FoundWhatIf}
 use Rattle.wi_engine.specs.Inner.Findings.{same_pairs, pairs_of, first_for, found_value, what_if_found, IsWithCell, IsWithWhatIf}
 use Rattle.wi_engine.specs.Inner.Attempt.{lacking}
-use Rattle.wi_engine.proofs.attempt.Filters.{PassesToo, all_pass, no_more, fewer}
+use Rattle.wi_sheet.proofs.Filters.{PassesToo, no_more, fewer}
 use Rattle.wi_engine.proofs.findings.FoundPairs.{same_lists, same_pairs-refl, first_for-push}
 
 -- a cell of which no value was found
-abbrev lacks_cell : Findings → ℕ → Bool
-lacks_cell f c = is_none (found_value f c)
+abbrev unfound_cell : Findings → ℕ → Bool
+unfound_cell f c = is_none (found_value f c)
 
 -- a what-if of which no value was found
-abbrev lacks_what_if : Findings → ℕ × List (ℕ × ℕ) → Bool
-lacks_what_if f x = is_none (what_if_found f x.0 x.1)
+abbrev unfound_what_if : Findings → ℕ × List (ℕ × ℕ) → Bool
+unfound_what_if f x = is_none (what_if_found f x.0 x.1)
 
 -- ---- how many at most
 
 pub lacking_at_most : (s : Sheet) (t : Tree) (f : Findings) → lacking s t f ≤ length (formulas_read_here s t) + length (what_ifs_of t)
 lacking_at_most s t f =
-    let cells = keeps_few (lacks_cell f) (formulas_read_here s t) in
-    let what_ifs = keeps_few (lacks_what_if f) (what_ifs_of t) in
-    omega arith
-
-pub lacking_all : (s : Sheet) (t : Tree) (f : Findings) → ((c : ℕ) → found_value f c ≡ None) → f.what_ifs.items ≡ [] → lacking s t f ≡ length (formulas_read_here s t) + length (what_ifs_of t)
-lacking_all s t f e g =
-    let cells = all_pass (lacks_cell f) (λ c. ap (λ (o : Option Value). is_none o) (e c)) (formulas_read_here s t) in
-    let what_ifs = all_pass (lacks_what_if f) (λ x. ap (λ (fs : List FoundWhatIf). is_none (first_for fs x.0 x.1)) g) (what_ifs_of t) in
+    let cells = keeps_few (unfound_cell f) (formulas_read_here s t) in
+    let what_ifs = keeps_few (unfound_what_if f) (what_ifs_of t) in
     omega arith
 
 -- ---- a cell's value more
 
 module _ (f g : Findings) (a : ℕ) (v : Value) (more : IsWithCell f g a v) where
-  cell_lacked : PassesToo (lacks_cell f) (lacks_cell g)
-  cell_lacked c h = by (a == c) (sym (ap (λ (o : Option Value). is_none o) (more.cells c)) ∙ h)
+  cell_unfound : PassesToo (unfound_cell f) (unfound_cell g)
+  cell_unfound c h = by (a == c) (sym (ap (λ (o : Option Value). is_none o) (more.cells c)) ∙ h)
     where
       by : (b : Bool) → is_none (cond b (Some v) (found_value f c)) ≡ true → is_none (found_value f c) ≡ true
       by true k = cc
       by false k = k
 
-  same_what_ifs : (t : Tree) → length (filter (lacks_what_if g) (what_ifs_of t)) ≡ length (filter (lacks_what_if f) (what_ifs_of t))
+  same_what_ifs : (t : Tree) → length (filter (unfound_what_if g) (what_ifs_of t)) ≡ length (filter (unfound_what_if f) (what_ifs_of t))
   same_what_ifs t = ap (λ (fs : List FoundWhatIf). length (filter (λ (x : ℕ × List (ℕ × ℕ)). is_none (first_for fs x.0 x.1)) (what_ifs_of t))) more.what_ifs
 
-  -- whichever cell it is of, no more are lacking
-  pub cell_lacks_no_more : (s : Sheet) (t : Tree) → lacking s t g ≤ lacking s t f
-  cell_lacks_no_more s t =
-      let cells = no_more (lacks_cell f) (lacks_cell g) cell_lacked (formulas_read_here s t) in
-      let what_ifs = same_what_ifs t in
-      omega arith
-
-  cell_gone : found_value f a ≡ None → (c : ℕ) → (c == a) ≡ true → (lacks_cell f c ≡ true) × (lacks_cell g c ≡ false)
+  cell_gone : found_value f a ≡ None → (c : ℕ) → (c == a) ≡ true → (unfound_cell f c ≡ true) × (unfound_cell g c ≡ false)
   cell_gone e c h =
       let is = same_cell a c h in (
-        ap (lacks_cell f) is ∙ ap (λ (o : Option Value). is_none o) e,
-        ap (lacks_cell g) is ∙ ap (λ (o : Option Value). is_none o) (more.cells a) ∙ ap (λ (b : Bool). is_none (cond b (Some v) (found_value f a))) (eq-eqb a a refl),
+        ap (unfound_cell f) is ∙ ap (λ (o : Option Value). is_none o) e,
+        ap (unfound_cell g) is ∙ ap (λ (o : Option Value). is_none o) (more.cells a) ∙ ap (λ (b : Bool). is_none (cond b (Some v) (found_value f a))) (eq-eqb a a refl),
       )
 
   -- of a cell with a formula that the tree reads as the sheet stands, and that had none, fewer are lacking
@@ -76,7 +63,7 @@ module _ (f g : Findings) (a : ℕ) (v : Value) (more : IsWithCell f g a v) wher
       let listed =
       sym (list_any-both (λ (x : ℕ). x == a) (reads_here t) (cells_with_formula s))
       ∙ found (λ (x : ℕ). x == a && reads_here t x) (cells_with_formula s) a (formula_cell s a h) (and_from (a == a) _ (eq-eqb a a refl) r) in
-      let cells = fewer (lacks_cell f) (lacks_cell g) cell_lacked (λ c. c == a) (cell_gone e) (formulas_read_here s t) listed in
+      let cells = fewer (unfound_cell f) (unfound_cell g) cell_unfound (λ c. c == a) (cell_gone e) (formulas_read_here s t) listed in
       let what_ifs = same_what_ifs t in
       omega arith
 
@@ -92,24 +79,17 @@ asked_found t x h =
     found_in (is_what_if x) (what_ifs_of t) (x.at, pairs_of x) (in_contained (what_ifs_of t) (x.at, pairs_of x) (asked_what_if t x.at x.pairs h)) same
 
 module _ (f g : Findings) (x : FoundWhatIf) (more : IsWithWhatIf f g x) where
-  what_if_lacked : PassesToo (lacks_what_if f) (lacks_what_if g)
-  what_if_lacked y h = by (first_for f.what_ifs.items y.0 y.1) (sym (ap (λ (fs : List FoundWhatIf). is_none (first_for fs y.0 y.1)) more.what_ifs ∙ ap (λ (o : Option Value). is_none o) (first_for-push f.what_ifs.items x y.0 y.1)) ∙ h)
+  what_if_unfound : PassesToo (unfound_what_if f) (unfound_what_if g)
+  what_if_unfound y h = by (first_for f.what_ifs.items y.0 y.1) (sym (ap (λ (fs : List FoundWhatIf). is_none (first_for fs y.0 y.1)) more.what_ifs ∙ ap (λ (o : Option Value). is_none o) (first_for-push f.what_ifs.items x y.0 y.1)) ∙ h)
     where
       by : (o : Option Value) → is_none (option_or o (cond (is_what_if x y) (Some x.value) None)) ≡ true → is_none o ≡ true
       by None k = refl
       by (Some w) k = k
 
-  fewer_cells : (xs : List ℕ) → length (filter (lacks_cell g) xs) ≤ length (filter (lacks_cell f) xs)
-  fewer_cells xs = no_more (lacks_cell f) (lacks_cell g) (λ c h. sym (ap (λ (o : Option Value). is_none o) (more.cells c)) ∙ h) xs
+  fewer_cells : (xs : List ℕ) → length (filter (unfound_cell g) xs) ≤ length (filter (unfound_cell f) xs)
+  fewer_cells xs = no_more (unfound_cell f) (unfound_cell g) (λ c h. sym (ap (λ (o : Option Value). is_none o) (more.cells c)) ∙ h) xs
 
-  -- whichever what-if it is of, no more are lacking
-  pub what_if_lacks_no_more : (s : Sheet) (t : Tree) → lacking s t g ≤ lacking s t f
-  what_if_lacks_no_more s t =
-      let cells = fewer_cells (formulas_read_here s t) in
-      let what_ifs = no_more (lacks_what_if f) (lacks_what_if g) what_if_lacked (what_ifs_of t) in
-      omega arith
-
-  what_if_gone : what_if_found f x.at (pairs_of x) ≡ None → (y : ℕ × List (ℕ × ℕ)) → is_what_if x y ≡ true → (lacks_what_if f y ≡ true) × (lacks_what_if g y ≡ false)
+  what_if_gone : what_if_found f x.at (pairs_of x) ≡ None → (y : ℕ × List (ℕ × ℕ)) → is_what_if x y ≡ true → (unfound_what_if f y ≡ true) × (unfound_what_if g y ≡ false)
   what_if_gone e y h =
       let parts = and_parts (x.at == y.0) _ h in
       let there : what_if_found f y.0 y.1 ≡ None =
@@ -123,5 +103,5 @@ module _ (f g : Findings) (x : FoundWhatIf) (more : IsWithWhatIf f g x) where
   pub what_if_lacks_fewer : (s : Sheet) (t : Tree) → Asks t (WhatIf x.at x.pairs) → what_if_found f x.at (pairs_of x) ≡ None → lacking s t g < lacking s t f
   what_if_lacks_fewer s t asks e =
       let cells = fewer_cells (formulas_read_here s t) in
-      let what_ifs = fewer (lacks_what_if f) (lacks_what_if g) what_if_lacked (is_what_if x) (what_if_gone e) (what_ifs_of t) (asked_found t x asks) in
+      let what_ifs = fewer (unfound_what_if f) (unfound_what_if g) what_if_unfound (is_what_if x) (what_if_gone e) (what_ifs_of t) (asked_found t x asks) in
       omega arith

@@ -1,2 +1,0 @@
--- What the proofs about looking ahead use.
-pub mod Alone

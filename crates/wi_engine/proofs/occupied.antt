@@ -1,2 +1,0 @@
--- What the proofs about the occupied cells of a rectangle use.
-pub mod NextCells
