@@ -1,24 +1,29 @@
 -- Cones that are kept over an edit.
-use Rattle.std.proofs.Common.{◌≡◌, ◌||◌, ℕ, Bool, List, [], ◌∷◌, Option, Some, None, IfSome, refl, ap, sym, ◌∙◌}
+use Rattle.std.proofs.Common.{◌≡◌, ◌||◌, ℕ, Bool, List, [], ◌∷◌, Option, Some, None, IfSome, refl, ap, sym, ◌∙◌, subst}
+use Rattle.std.proofs.lemmas.Bool.{false≢true}
 use Rattle.std.specs.Global.{Vec}
 use Rattle.std.specs.Map.{keys_of}
-use Rattle.std.specs.Ordering.{nat_cmp}
-use Rattle.std.specs.BTreeMap.{BTreeMap, get}
-use Rattle.std.specs.BTreeSet.{BTreeSet, contains}
 use Rattle.wi_parser.specs.declared.content.Content.{Content}
 use Rattle.wi_parser.specs.Sheet.{Sheet}
+use Rattle.wi_worlds.specs.Reached.{ReachTable}
 use Rattle.wi_graph.specs.Reach.{is_one_of, reaches, in_cone}
 use Rattle.wi_graph.specs.Edges.{Edges, AreEdgesOf}
 use Rattle.wi_graph.proofs.GraphSteps.{same_reaches}
 use Rattle.wi_propagate.specs.Inner.Cones.{AreAllCones}
 
+-- where nothing is told
+pub none_told : (s : Sheet) (t : ReachTable) → t ≡ record { known = []; reached = [] } → AreAllCones s t
+none_told s t e = subst (AreAllCones s) (sym e) (record { so = λ c a h. absurd (false≢true h); all = λ c a h r. absurd (false≢true h) })
+
 -- where the sheets have the same edges
-pub cones_over : (es : Edges) (s t : Sheet) (cs : BTreeMap ℕ (BTreeSet ℕ)) → AreEdgesOf es s → AreEdgesOf es t → AreAllCones s cs → AreAllCones t cs
-cones_over es s t cs a b h x c = at (get nat_cmp cs x) (h x c)
+pub cones_over : (es : Edges) (s t : Sheet) (told : ReachTable) → AreEdgesOf es s → AreEdgesOf es t → AreAllCones s told → AreAllCones t told
+cones_over es s t told a b h = record {
+  so = λ c x k. sym (same c x) ∙ h.so c x k;
+  all = λ c x k r. h.all c x k (same c x ∙ r);
+}
   where
-    at : (o : Option (BTreeSet ℕ)) → IfSome o (λ cone. contains nat_cmp cone c ≡ reaches s c x) → IfSome o (λ cone. contains nat_cmp cone c ≡ reaches t c x)
-    at None k = tt
-    at (Some cone) k = k ∙ same_reaches s t (λ d. sym (a d) ∙ b d) c x
+    same : (c x : ℕ) → reaches s c x ≡ reaches t c x
+    same c x = same_reaches s t (λ d. sym (a d) ∙ b d) c x
 
 -- ---- a cone that is given
 

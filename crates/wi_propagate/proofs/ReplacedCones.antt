@@ -1,37 +1,90 @@
--- Cones of replaced cells, and the replacements that reach a cell.
-use Rattle.std.proofs.Common.{◌≡◌, ℕ, Bool, true, false, cond, List, [], ◌∷◌, Option, Some, None, IfSome, IsSome, filter, refl, ap, sym, ◌∙◌, subst}
-use Rattle.std.proofs.lemmas.List.Elements.{All-head, All-tail}
+-- What is told of replaced cells, and the replacements that reach a cell.
+use Rattle.std.proofs.Common.{◌≡◌, ◌==◌, ◌||◌, ◌&&◌, ◌⊎◌, inl, inr, ◌<◌, ◌+◌, ℕ, Bool, true, false, cond, List, [], ◌∷◌, length, take, get_or, Result, Ok, Err, OnOk, OnErr, filter, refl, ap, sym, ◌∙◌, subst}
+use Rattle.std.specs.List.{list_all}
+use Rattle.std.proofs.lemmas.Bool.{or_cases, and_parts}
 use Rattle.std.proofs.Math.Bool.{or-false}
-use Rattle.std.specs.Ordering.{nat_cmp}
-use Rattle.std.specs.BTreeMap.{BTreeMap, get, is_at}
-use Rattle.std.specs.BTreeSet.{BTreeSet, contains}
+use Rattle.std.proofs.lemmas.List.Folds.{list_all_more}
 use Rattle.wi_values.specs.declared.replacement.Replacement.{Replacement}
 use Rattle.wi_parser.specs.Sheet.{Sheet}
-use Rattle.wi_worlds.specs.Reaching as cones
-use Rattle.wi_graph.specs.Reach.{reaches, in_cone}
-use Rattle.wi_graph.proofs.Tests.{at_same}
+use Rattle.wi_worlds.specs.Reached.{ReachTable, AddsOf, is_known, is_reached_by, reached_by}
+use Rattle.wi_graph.specs.Reach.{is_one_of, reaches, in_cone}
+use Rattle.wi_graph.proofs.Walks.{same_cell, same_tests}
 use Rattle.wi_sheet.specs.Demand.{reaching}
-use Rattle.wi_engine.proofs.Passed.{HaveCones}
 use Rattle.wi_propagate.specs.Inner.Cones.{AreAllCones}
 
-pub cone_more : (s : Sheet) (a : ℕ) (cone : BTreeSet ℕ) (old new : BTreeMap ℕ (BTreeSet ℕ)) → AreAllCones s old → ((c : ℕ) → contains nat_cmp cone c ≡ in_cone s (a ∷ []) c) →
-    ((q : ℕ) → get nat_cmp new q ≡ cond (is_at (nat_cmp a) q) (Some cone) (get nat_cmp old q)) → AreAllCones s new
-cone_more s a cone old new h k u b c = subst (λ (o : Option (BTreeSet ℕ)). IfSome o (λ d. contains nat_cmp d c ≡ reaches s c b)) (sym (u b)) (at (is_at (nat_cmp a) b) refl)
+-- ---- one cell more
+
+module _ (s : Sheet) (a : ℕ) (cone : List ℕ) (old new : ReachTable) (h : AreAllCones s old)
+    (is : (c : ℕ) → is_one_of cone c ≡ in_cone s (a ∷ []) c) (adds : AddsOf a cone old.reached new.reached) where
+  in_one : (c : ℕ) → in_cone s (a ∷ []) c ≡ reaches s c a
+  in_one c = or-false (reaches s c a)
+
+  so_still : (c b : ℕ) → reached_by new c b ≡ true → reaches s c b ≡ true
+  so_still c b k = by (adds.within c b k)
+    where
+      by : (reached_by old c b ≡ true) ⊎ ((is_one_of cone c ≡ true) × (b ≡ a)) → reaches s c b ≡ true
+      by (inl m) = h.so c b m
+      by (inr m) = subst (λ (x : ℕ). reaches s c x ≡ true) (sym m.1) (sym (in_one c) ∙ sym (is c) ∙ m.0)
+
+  all_still : (c b : ℕ) → is_known old b ≡ true → reaches s c b ≡ true → reached_by new c b ≡ true
+  all_still c b k r = adds.stays c b (h.all c b k r)
+
+  cones_with : ((b : ℕ) → is_known new b ≡ ((a == b) || is_known old b)) → ((c : ℕ) → is_one_of cone c ≡ true → reached_by new c a ≡ true) → AreAllCones s new
+  cones_with known all = record { so = so_still; all = λ c b k r. by c b r (or_cases (a == b) (is_known old b) (sym (known b) ∙ k)) }
+    where
+      by : (c b : ℕ) → reaches s c b ≡ true → ((a == b) ≡ true) ⊎ (is_known old b ≡ true) → reached_by new c b ≡ true
+      by c b r (inl m) =
+          let same : a ≡ b = same_cell b a m in
+          subst (λ (x : ℕ). reached_by new c x ≡ true) same
+          (all c (is c ∙ in_one c ∙ ap (reaches s c) same ∙ r))
+      by c b r (inr m) = all_still c b m r
+
+  cones_without : new.known ≡ old.known → AreAllCones s new
+  cones_without same = record {
+    so = so_still;
+    all = λ c b k r. all_still c b (sym (ap (λ (xs : List ℕ). is_one_of xs b) same) ∙ k) r;
+  }
+
+  -- whether it was told of all, or memory ran out
+  pub cones_tried : {T E : Type 0} (r : Result T E) → OnOk r ((b : ℕ) → is_known new b ≡ ((a == b) || is_known old b)) → OnOk r ((c : ℕ) → is_one_of cone c ≡ true → reached_by new c a ≡ true)
+      → OnErr r (new.known ≡ old.known) → AreAllCones s new
+  cones_tried (Ok x) known all err = cones_with known all
+  cones_tried (Err e) known all err = cones_without err
+
+-- what is known stays
+pub known_still : {T E : Type 0} (a : ℕ) (old new : ReachTable) (r : Result T E) → OnOk r ((b : ℕ) → is_known new b ≡ ((a == b) || is_known old b)) → OnErr r (new.known ≡ old.known)
+    → (b : ℕ) → is_known old b ≡ true → is_known new b ≡ true
+known_still a old new (Ok x) known err b h = known b ∙ both (a == b)
   where
-    at : (t : Bool) → is_at (nat_cmp a) b ≡ t → IfSome (cond t (Some cone) (get nat_cmp old b)) (λ d. contains nat_cmp d c ≡ reaches s c b)
-    at true e = k c ∙ or-false (reaches s c a) ∙ ap (reaches s c) (sym (at_same a b e))
-    at false e = h b c
+    both : (t : Bool) → (t || is_known old b) ≡ true
+    both true = refl
+    both false = h
+known_still a old new (Err e) known err b h = ap (λ (xs : List ℕ). is_one_of xs b) err ∙ h
+
+-- ---- replacements passed one after another
+
+all_still_known : (old new : ReachTable) → ((b : ℕ) → is_known old b ≡ true → is_known new b ≡ true) → (w : List Replacement)
+    → list_all (λ r. is_known old r.at) w ≡ true → list_all (λ r. is_known new r.at) w ≡ true
+all_still_known old new h [] k = refl
+all_still_known old new h (r ∷ rs) k =
+    let p = and_parts (is_known old r.at) _ k in
+    ap (λ (b : Bool). b && list_all (λ x. is_known new x.at) rs) (h r.at p.0) ∙ all_still_known old new h rs p.1
+
+-- those that were passed are known, and one more
+pub all_known_more : (old new : ReachTable) (w : List Replacement) (i : ℕ) (r : Replacement) → i < length w → r ≡ get_or w i r → list_all (λ x. is_known old x.at) (take i w) ≡ true
+    → ((b : ℕ) → is_known old b ≡ true → is_known new b ≡ true) → is_known new r.at ≡ true → list_all (λ x. is_known new x.at) (take (i + 1) w) ≡ true
+all_known_more old new w i r l e h stay there =
+    list_all_more (λ x. is_known new x.at) w i r l
+    ∙ ap (λ (b : Bool). b && is_known new (get_or w i r).at) (all_still_known old new stay (take i w) h)
+    ∙ ap (λ (x : Replacement). is_known new x.at) (sym e) ∙ there
 
 -- ---- the replacements that reach a cell
 
--- with the cones of all replaced cells, those that reach a cell are told
-pub worlds_all : (s : Sheet) (cs : BTreeMap ℕ (BTreeSet ℕ)) (c : ℕ) → AreAllCones s cs → (w : List Replacement) → HaveCones cs w → filter (cones.is_reached cs c) w ≡ reaching s c w
-worlds_all s cs c h [] k = refl
-worlds_all s cs c h (r ∷ rs) k = all (here (get nat_cmp cs r.at) (All-head (λ (x : Replacement). IsSome (get nat_cmp cs x.at)) r rs k) (h r.at c)) (worlds_all s cs c h rs (All-tail (λ (x : Replacement). IsSome (get nat_cmp cs x.at)) r rs k))
-  where
-    here : (o : Option (BTreeSet ℕ)) → IsSome o → IfSome o (λ cone. contains nat_cmp cone c ≡ reaches s c r.at) → cones.has_cell o c ≡ reaches s c r.at
-    here None t i = cc
-    here (Some cone) t i = i
-
-    all : cones.is_reached cs c r ≡ reaches s c r.at → filter (cones.is_reached cs c) rs ≡ reaching s c rs → cond (cones.is_reached cs c r) (r ∷ filter (cones.is_reached cs c) rs) (filter (cones.is_reached cs c) rs) ≡ cond (reaches s c r.at) (r ∷ reaching s c rs) (reaching s c rs)
-    all e f = ap (λ (b : Bool). cond b (r ∷ filter (cones.is_reached cs c) rs) (filter (cones.is_reached cs c) rs)) e ∙ ap (λ (v : List Replacement). cond (reaches s c r.at) (r ∷ v) v) f
+-- with all replaced cells known, those that reach a cell are told
+pub worlds_all : (s : Sheet) (t : ReachTable) (c : ℕ) → AreAllCones s t → (w : List Replacement) → list_all (λ r. is_known t r.at) w ≡ true → filter (is_reached_by t c) w ≡ reaching s c w
+worlds_all s t c h [] k = refl
+worlds_all s t c h (r ∷ rs) k =
+    let p = and_parts (is_known t r.at) _ k in
+    let here : is_reached_by t c r ≡ reaches s c r.at = same_tests (reached_by t c r.at) (reaches s c r.at) (h.so c r.at) (h.all c r.at p.0) in
+    ap (λ (b : Bool). cond b (r ∷ filter (is_reached_by t c) rs) (filter (is_reached_by t c) rs)) here
+    ∙ ap (λ (v : List Replacement). cond (reaches s c r.at) (r ∷ v) v) (worlds_all s t c h rs p.1)

@@ -1,23 +1,17 @@
 //! Cones of replaced cells, by the graph.
 
-ghost use Rattle.std.specs.Prelude.{◌≡◌, ◌∷◌, ℕ, [], None, All, IsSome, IfSome, IfOk, OnOk};
-ghost use Rattle.std.specs.Ordering.{nat_cmp};
-ghost use Rattle.std.specs.BTreeMap.{get};
-ghost use Rattle.std.specs.BTreeSet.{contains};
+ghost use Rattle.std.specs.Prelude.{◌≡◌, ℕ, None, true, IfSome, OnOk};
+ghost use Rattle.std.specs.List.{list_all};
+ghost use Rattle.wi_worlds.specs.Reached.{is_known};
 ghost use Rattle.wi_parser.specs.Sheet.{Sheet};
 ghost use Rattle.wi_graph.specs.Edges.{AreEdgesOf};
-ghost use Rattle.wi_graph.specs.Reach.{in_cone};
 ghost use Rattle.wi_propagate.specs.Inner.Cones.{AreAllCones};
 
 use std::alloc::{AllocError, Global};
-use std::collections::{BTreeMap, BTreeSet};
 use std::mem;
 use wi_graph::Graph;
 use wi_values::Address;
-use wi_worlds::World;
-
-/// Dependents of a cell at any remove, itself among them, by that cell.
-pub type Cones = BTreeMap<Address, BTreeSet<Address>>;
+use wi_worlds::{Reaches, World};
 
 // The greatest number of cones, beside as many as the question with the most replaced cells had, that a question takes over
 // from the one before.
@@ -25,18 +19,19 @@ const MOST_CONES: usize = 64;
 
 /// Takes the cones out for a question, where questions have had at most so many replaced cells: none where they are more than
 /// it takes over. Takes no memory.
-pub fn take_cones(alloc: Global, widest: usize, cones: &mut Cones) -> Cones
+#[tactic(auto, using(crate::proofs::KeptCones::none_told))]
+pub fn take_cones(alloc: Global, widest: usize, cones: &mut Reaches) -> Reaches
     ensures { (s : Sheet) → AreAllCones s cones.old → AreAllCones s result }
 {
-    let taken = mem::replace(cones, BTreeMap::new(alloc));
+    let taken = mem::replace(cones, Reaches::new(alloc));
     if taken.len().saturating_sub(widest) > MOST_CONES {
-        return BTreeMap::new(alloc);
+        return Reaches::new(alloc);
     }
     taken
 }
 
 /// Lets the cones go over the edit that is staged if after it some cell reads other cells than before. Takes no memory.
-pub fn keep_over_edit(alloc: Global, graph: &Graph, cones: &mut Cones)
+pub fn keep_over_edit(alloc: Global, graph: &Graph, cones: &mut Reaches)
     ensures { (s t : Sheet) → AreEdgesOf graph.now.now s → IfSome graph.now.staged (λ es. AreEdgesOf es t)
         → AreAllCones s cones.old → AreAllCones t cones.new }
 {
@@ -44,55 +39,38 @@ pub fn keep_over_edit(alloc: Global, graph: &Graph, cones: &mut Cones)
         return;
     }
     if !graph.reads_stay() {
-        *cones = BTreeMap::new(alloc);
+        *cones = Reaches::new(alloc);
     }
 }
 
-/// Adds the cones of the replaced cells that have none yet. The work for each is that of its cone. If memory runs out, those
-/// added so far stay.
-pub fn add_cones(
-    alloc: Global,
-    graph: &Graph,
-    world: &World,
-    cones: &mut Cones,
-) -> Result<(), AllocError>
+/// Adds the cones of the replaced cells that have none yet. The work for each is that of its cone; where all have one it is
+/// that of `knows_all`. If memory runs out, those added so far stay.
+pub fn add_cones(graph: &Graph, world: &World, cones: &mut Reaches) -> Result<(), AllocError>
     requires { graph.now.staged ≡ None }
     ensures cones { (s : Sheet) → AreEdgesOf graph.now.now s → AreAllCones s cones.old
         → AreAllCones s cones.new }
-    ensures all { OnOk result (All (λ r. IsSome (get nat_cmp cones.new r.at)) world.now) }
+    ensures all { OnOk result (list_all (λ r. is_known cones.new r.at) world.now ≡ true) }
 {
+    if cones.knows_all(world) {
+        return Ok(());
+    }
     for replacement in world.replacements() {
-        add_cone(alloc, graph, replacement.at, cones)?;
+        add_cone(graph, replacement.at, cones)?;
     }
     Ok(())
 }
 
 // Adds the cone of a cell that has none yet.
-fn add_cone(alloc: Global, graph: &Graph, at: Address, cones: &mut Cones) -> Result<(), AllocError>
+fn add_cone(graph: &Graph, at: Address, cones: &mut Reaches) -> Result<(), AllocError>
     requires { graph.now.staged ≡ None }
     ensures cones { (s : Sheet) → AreEdgesOf graph.now.now s → AreAllCones s cones.old
         → AreAllCones s cones.new }
-    ensures there { OnOk result (IsSome (get nat_cmp cones.new at)) }
-    ensures stay { (a : ℕ) → IsSome (get nat_cmp cones.old a) → IsSome (get nat_cmp cones.new a) }
+    ensures there { OnOk result (is_known cones.new at ≡ true) }
+    ensures stay { (a : ℕ) → is_known cones.old a ≡ true → is_known cones.new a ≡ true }
 {
-    if cones.contains_key(&at) {
+    if cones.knows(at) {
         return Ok(());
     }
-    let cone = cone_of(alloc, graph, at)?;
-    cones.insert(at, cone)?;
-    Ok(())
-}
-
-// The cells that reach a cell.
-fn cone_of(alloc: Global, graph: &Graph, at: Address) -> Result<BTreeSet<Address>, AllocError>
-    requires { graph.now.staged ≡ None }
-    ensures { IfOk result (λ cone. (s : Sheet) → AreEdgesOf graph.now.now s
-        → (c : ℕ) → contains nat_cmp cone c ≡ in_cone s (at ∷ []) c) }
-{
-    let cells = graph.cone(&[at])?;
-    let mut cone = BTreeSet::new(alloc);
-    for cell in &cells {
-        cone.insert(*cell)?;
-    }
-    Ok(cone)
+    let cone = graph.cone(&[at])?;
+    cones.add(at, &cone)
 }

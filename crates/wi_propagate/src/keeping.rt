@@ -7,7 +7,7 @@ ghost use Rattle.wi_engine.specs.Inner.MemoState.{IsMemoOf};
 ghost use Rattle.wi_propagate.specs.Inner.Cones.{AreAllCones};
 ghost use Rattle.wi_propagate.specs.Inner.Keeping.{keeping, state_in, IsKeepingRight, TakesOver};
 
-use crate::cones::{Cones, add_cones};
+use crate::cones::add_cones;
 use crate::generations::{Generations, generation_of};
 use std::alloc::{AllocError, Global};
 use std::marker::Model;
@@ -16,7 +16,7 @@ use wi_engine::Memo;
 use wi_graph::Graph;
 use wi_store::Store;
 use wi_values::{Address, Value};
-use wi_worlds::World;
+use wi_worlds::{Reaches, World};
 
 /// What is remembered in one question: the values that are kept for longer, and a copy of each that was given up in it, so that
 /// none is lost before it ends.
@@ -27,7 +27,7 @@ pub struct Keeping<'a> {
     graph: &'a Graph,
     generations: &'a Generations,
     // Of the replaced cells so far, and of some before: which cells reach them.
-    cones: Cones,
+    cones: Reaches,
     // The replacements of the last key that had some of them, and not all.
     last: World,
     // Copies of the values that were given up in this question.
@@ -67,7 +67,7 @@ impl<'a> Keeping<'a> {
         store: &'a Store,
         graph: &'a Graph,
         generations: &'a Generations,
-        cones: Cones,
+        cones: Reaches,
         kept: Kept,
     ) -> Keeping<'a>
         requires edges { AreEdgesOf graph.now.now store.now.sheet }
@@ -95,7 +95,7 @@ impl<'a> Keeping<'a> {
     }
 
     /// What is kept for longer, which is no more than there is room for, and the cones that are known.
-    pub fn into_parts(self) -> (Kept, Cones)
+    pub fn into_parts(self) -> (Kept, Reaches)
         ensures kept { result.0 ≡ self.entry.values }
         ensures within { length result.0.entries ≤ result.0.capacity }
         ensures right { IsKeepingRight self.entry }
@@ -111,11 +111,11 @@ impl<'a> Memo for Keeping<'a> {
     ghost state = { state_in };
 
     /// The key for a cell under replacements. The work for a cell that is replaced for the first time is that of its cone;
-    /// else it grows with the count of replacements, and with logarithms. Keys in turn with the same part of the replacements
-    /// share it.
+    /// else it is a comparison for each replacement, and that of `reaching_by`. Keys in turn with the same part of the
+    /// replacements share it.
     fn key(&mut self, at: Address, world: &World) -> Result<Key, AllocError> {
-        add_cones(self.alloc, self.graph, world, &mut self.cones)?;
-        let world = world.reaching(at, &self.cones, &mut self.last)?;
+        add_cones(self.graph, world, &mut self.cones)?;
+        let world = world.reaching_by(at, &self.cones, &mut self.last)?;
         Ok(Key {
             cell: at,
             generation: generation_of(self.generations, at),

@@ -22,7 +22,7 @@ ghost use Rattle.wi_propagate.specs.Right.{AreKeptRight};
 ghost use Rattle.wi_propagate.specs.Inner.Keeping.{HasGeneration};
 
 use crate::calculator::Calculator;
-use crate::cones::{Cones, keep_over_edit, take_cones};
+use crate::cones::{keep_over_edit, take_cones};
 use crate::generations::{Generations, make_room, raise};
 use crate::keeping::Keeping;
 use crate::last_worlds::LastWorlds;
@@ -39,6 +39,7 @@ use wi_graph::Graph;
 use wi_parser::Content;
 use wi_store::{Limits, Store, StoreFault};
 use wi_values::{Address, ErrorKind, Rect, Replacement, Value};
+use wi_worlds::Reaches;
 
 /// A calculator that keeps values from one question to the next. It is seen as its sheet, the generations of cells, the values
 /// that are kept, and what was counted.
@@ -48,7 +49,7 @@ pub struct KeptCalculator {
     graph: Graph,
     generations: Generations,
     // Of some cells that were replaced since the last accepted edit: which cells reach them.
-    cones: Cones,
+    cones: Reaches,
     // What the last questions replaced, for one that replaces the same.
     worlds: LastWorlds,
     // The most replaced cells that a question had.
@@ -91,6 +92,7 @@ impl Model for KeptCalculator {
 impl KeptCalculator {
     /// An empty sheet within limits, with no edits yet, and room for so many kept values. Memory for them is taken as they
     /// come.
+    #[tactic(auto, using(crate::proofs::KeptCones::none_told))]
     pub fn new(alloc: Global, limits: Limits, keep: usize) -> Result<KeptCalculator, AllocError>
         requires { 1 ≤ keep }
         ensures stored { IfOk result (λ k.
@@ -104,7 +106,7 @@ impl KeptCalculator {
             store: Store::new(alloc, limits),
             graph: Graph::new(alloc),
             generations: BTreeMap::new(alloc),
-            cones: BTreeMap::new(alloc),
+            cones: Reaches::new(alloc),
             worlds: LastWorlds::new(alloc),
             widest: 0,
             kept: Some(kept),
@@ -318,9 +320,9 @@ impl Calculator for KeptCalculator {
     /// A cell that is circular takes no look at the replacements, and one without a formula that isn't replaced a search among
     /// them, with work that grows with the logarithm of their count. For any other all are compared with those of the last two
     /// questions, and where they are others they are copied, put in order and hashed. The key of each formula that is asked for
-    /// goes over all of them once more: it looks into the cone of each replaced cell, with work that grows with logarithms, and
-    /// finds the cone where it isn't known. Those that reach the formula are copied and hashed where others don't, and where they
-    /// aren't the same as for the last such key.
+    /// compares the replaced cells with those that are known, and finds the cone of one that isn't. Those that the formula reaches
+    /// are looked up at once, with work that grows with their count where they are few, and where they are many with that of all.
+    /// They are copied and hashed where they aren't all, and aren't the same as for the last such key.
     fn value(&mut self, put: &[Replacement], at: Address) -> Result<Value, AllocError>
         requires { IsInOrder put.now }
         ensures value { IfOk result (λ v. v ≡ show.shown self.old.stored.sheet put.now at) }

@@ -13,7 +13,7 @@ use wi_parser::Content;
 use wi_ranges::RangeIndex;
 use wi_store::{Limits, Store, StoreFault};
 use wi_values::{Address, Rect, Replacement, Text, Value};
-use wi_worlds::World;
+use wi_worlds::{Reaches, World};
 
 // What stands before a record.
 fn before(alloc: Global) -> Result<Vec<u8>, AllocError> {
@@ -307,4 +307,29 @@ fn is_made(rt: &impl Abort, alloc: Global) -> bool {
 #[test]
 fn of_worlds(rt: HostRuntime) {
     assert!(rt; is_made(&rt, rt.alloc()) || is_made(&rt, rt.alloc()));
+}
+
+// Forty cells of a column.
+fn column(alloc: Global) -> Result<Vec<Address>, AllocError> {
+    let mut cells = Vec::new(alloc);
+    for row in 0..40 {
+        cells.push(Address::at(row, 0))?;
+    }
+    Ok(cells)
+}
+
+// Whether a cell was made known, with the forty that reach it. Where it wasn't, none is known.
+fn is_made_known(rt: &impl Abort, alloc: Global) -> bool {
+    let Ok(cone) = column(alloc) else {
+        return false;
+    };
+    let mut reaches = Reaches::new(alloc);
+    let was_added = reaches.add(Address::at(0, 0), &cone).is_ok();
+    assert!(rt; reaches.len() == usize::from(was_added));
+    was_added
+}
+
+#[test]
+fn of_cells_that_are_told(rt: HostRuntime) {
+    assert!(rt; is_made_known(&rt, rt.alloc()) || is_made_known(&rt, rt.alloc()));
 }

@@ -10,7 +10,7 @@ use std::alloc::{AllocError, Global};
 use std::collections::{BTreeMap, BTreeSet, HashMap};
 use std::process::Abort;
 use wi_values::{Address, Replacement};
-use wi_worlds::World;
+use wi_worlds::{Reaches, World};
 
 /// The replacement of a cell by the value of a word.
 fn replacement(rt: &impl Abort, alloc: Global, at: &str, word: &str) -> Replacement {
@@ -185,6 +185,95 @@ fn cones_that_have_a_cell(rt: HostRuntime) {
             ("D4", "A2=TRUE C3= "),
             ("E5", "C3= "),
         ],
+    );
+}
+
+/// Tells that these cells reach a cell.
+fn tell(rt: &impl Abort, alloc: Global, reaches: &mut Reaches, at: &str, names: &str) {
+    let mut cone = Vec::new(alloc);
+    for name in names.split_whitespace() {
+        expect_that(rt, cone.push(cell(rt, name)).is_ok(), name);
+    }
+    reaches.add(cell(rt, at), &cone).expect(rt, at);
+}
+
+/// The replacements of a world that a cell is told to reach.
+fn reaching_by(
+    rt: &impl Abort,
+    alloc: Global,
+    world: &World,
+    reaches: &Reaches,
+    last: &mut World,
+    at: &str,
+) -> String {
+    let found = world
+        .reaching_by(cell(rt, at), reaches, last)
+        .expect(rt, at);
+    let text = told(rt, alloc, &found);
+    drop(found);
+    text
+}
+
+fn expect_told(
+    rt: &impl Abort,
+    alloc: Global,
+    world: &World,
+    reaches: &Reaches,
+    rows: &[(&str, &str)],
+) {
+    let mut last = World::new(alloc);
+    for (at, wanted) in rows {
+        let found = reaching_by(rt, alloc, world, reaches, &mut last, at);
+        expect_text(rt, at, &found, wanted);
+    }
+}
+
+/// The cells of which it is known which cells reach them, of the two that the world replaces, C3 told first.
+fn expect_known(rt: &impl Abort, alloc: Global, reaches: &mut Reaches, world: &World) {
+    expect_that(rt, reaches.is_empty(), "nothing yet");
+    tell(rt, alloc, reaches, "C3", "D4 C3 E5");
+    expect_that(rt, !reaches.knows_all(world), "one of two");
+    tell(rt, alloc, reaches, "A2", "A2 D4");
+    expect_that(rt, reaches.knows_all(world), "both");
+    expect_that(rt, reaches.len() == 2, "two");
+    expect_that(rt, !reaches.knows(cell(rt, "D4")), "one that reaches them");
+}
+
+#[test]
+fn cells_that_are_told_to_reach(rt: HostRuntime) {
+    let mut reaches = Reaches::new(rt.alloc());
+    let world = after(&rt, rt.alloc(), &[OLD]);
+    expect_known(&rt, rt.alloc(), &mut reaches, &world);
+    expect_told(
+        &rt,
+        rt.alloc(),
+        &world,
+        &reaches,
+        &[
+            ("A1", ""),
+            ("A2", "A2=TRUE "),
+            ("C3", "C3= "),
+            ("D4", "A2=TRUE C3= "),
+            ("E5", "C3= "),
+        ],
+    );
+}
+
+/// A column of replaced cells, of which the middle one alone reaches D4.
+#[test]
+fn few_of_many_are_told(rt: HostRuntime) {
+    let mut reaches = Reaches::new(rt.alloc());
+    for at in ["A1", "A2", "A3", "A4", "A5", "A6", "A7", "A8"] {
+        tell(&rt, rt.alloc(), &mut reaches, at, at);
+    }
+    tell(&rt, rt.alloc(), &mut reaches, "A4", "D4");
+    let all = "A1=TRUE, A2=, A3=, A4=FALSE, A5=, A6=, A7=, A8=";
+    expect_told(
+        &rt,
+        rt.alloc(),
+        &after(&rt, rt.alloc(), &[all]),
+        &reaches,
+        &[("D4", "A4=FALSE "), ("D5", ""), ("A8", "A8= ")],
     );
 }
 

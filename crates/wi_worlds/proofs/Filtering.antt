@@ -1,5 +1,5 @@
 -- Some of the replacements, by their count.
-use Rattle.std.proofs.Common.{◌≡◌, suc, refl, subst, arith, ◌≤◌, Bool, true, false, cond, List, [], ◌∷◌, filter, length, ap}
+use Rattle.std.proofs.Common.{◌≡◌, ◌∙◌, suc, refl, subst, arith, ◌≤◌, Bool, true, false, cond, List, [], ◌∷◌, Result, Ok, Err, IfOk, filter, length, ap}
 use Rattle.wi_values.specs.declared.replacement.Replacement.{Replacement}
 
 -- where as many are kept as there are, all are, and where none are counted, none is
@@ -29,3 +29,9 @@ filter_whole p seen rs same h = whole p rs (subst (λ (xs : List Replacement). l
 
 pub filter_nothing : (p : Replacement → Bool) (seen rs : List Replacement) → seen ≡ rs → length (filter p seen) ≡ 0 → filter p rs ≡ []
 filter_nothing p seen rs same h = nothing (filter p rs) (subst (λ (xs : List Replacement). length (filter p xs) ≡ 0) same h)
+
+-- what is made of them
+pub made_of : {E : Type 0} (p : Replacement → Bool) (rs kept : List Replacement) (r : Result (List Replacement) E)
+    → IfOk r (λ w. w ≡ kept) → kept ≡ filter p rs → IfOk r (λ w. w ≡ filter p rs)
+made_of p rs kept (Ok w) h e = h ∙ e
+made_of p rs kept (Err x) h e = tt

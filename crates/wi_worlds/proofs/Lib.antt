@@ -1,3 +1,6 @@
 pub mod Filtering
 mod Searching
 mod Digest
+mod RisingSteps
+mod TellSteps
+mod PickedLemmas

@@ -1,5 +1,6 @@
 -- What a binary search among replacements in order finds.
-use Rattle.std.proofs.Common.{◌≡◌, ℕ, zero, suc, ◌<◌, ◌≤◌, List, [], ◌∷◌, Some, None, Result, Ok, Err, MatchResult, length, get_or, map, refl, sym, ap, subst, arith}
+use Rattle.std.proofs.Common.{◌≡◌, ◌∙◌, ℕ, zero, suc, ◌<◌, ◌≤◌, List, [], ◌∷◌, Some, None, Result, Ok, Err, MatchResult, length, get_or, map, refl, sym, ap, subst, arith}
+use Rattle.std.specs.Option.{option_map}
 use Rattle.std.specs.Ordering.{nat_cmp, ordering_index}
 use Rattle.std.specs.List.Sorted.{IsSearchInRange, IsBinarySearchResult, IsNonDecreasingBy}
 use Rattle.std.proofs.lemmas.Bool.Decides.{nat_tests}
@@ -7,7 +8,9 @@ use Rattle.std.proofs.lemmas.Cmp.{ranked}
 use Rattle.std.proofs.lemmas.Map.Keys.{sorted_from_strictly_increasing, below_from_sorted}
 use Rattle.std.proofs.lemmas.List.{length-map, get_or-map}
 use Rattle.wi_values.specs.declared.replacement.Replacement.{Replacement}
+use Rattle.wi_values.specs.declared.value.Value.{Value}
 use Rattle.wi_values.specs.Replacements.{IsInOrder, replaced}
+use Rattle.wi_worlds.specs.Inner.Picked.{replacement_at}
 
 -- none of them is at the address
 abbrev NoneAt : ℕ → List Replacement → Type 0
@@ -62,3 +65,21 @@ searched_of rs a r s order is within position =
         → MatchResult t (λ i. (x : Replacement) → Some (get_or rs i x).value ≡ replaced rs a) (λ i. None ≡ replaced rs a)
     by (Ok i) h = λ x. sym (h x)
     by (Err i) h = sym h
+
+-- ---- the whole replacement that is found
+
+one_replacement : (r : Replacement) (a : ℕ) → r.at ≡ a → Some (record { at = a; value = r.value }) ≡ Some r
+one_replacement r a e = λ i. Some (record { at = sym e i; value = r.value })
+
+pub found_of : (rs : List Replacement) (a : ℕ) (r s : Result ℕ ℕ) → IsInOrder rs → r ≡ s
+    → IsSearchInRange r (length rs) → IsBinarySearchResult (λ x. nat_cmp x.at a) rs r
+    → MatchResult s (λ i. (x : Replacement) → Some (get_or rs i x) ≡ replacement_at rs a) (λ i. None ≡ replacement_at rs a)
+found_of rs a r s order is within position =
+    subst (λ (t : Result ℕ ℕ). MatchResult t (λ i. (x : Replacement) → Some (get_or rs i x) ≡ replacement_at rs a) (λ i. None ≡ replacement_at rs a)) is
+    (by r (searched rs order a r within position) position)
+  where
+    by : (t : Result ℕ ℕ) → MatchResult t (λ i. (d : Replacement) → replaced rs a ≡ Some (get_or rs i d).value) (λ i. replaced rs a ≡ None)
+        → IsBinarySearchResult (λ x. nat_cmp x.at a) rs t
+        → MatchResult t (λ i. (x : Replacement) → Some (get_or rs i x) ≡ replacement_at rs a) (λ i. None ≡ replacement_at rs a)
+    by (Ok i) h at = λ x. sym (ap (option_map (λ (v : Value). record { at = a; value = v })) (h x) ∙ one_replacement (get_or rs i x) a (ranked _ a _ (sym (at x))))
+    by (Err i) h at = sym (ap (option_map (λ (v : Value). record { at = a; value = v })) h)

@@ -1,2 +1,3 @@
 pub mod Reaching
+pub mod Reached
 pub mod Inner

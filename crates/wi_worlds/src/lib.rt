@@ -5,7 +5,11 @@ mod compared;
 mod entries;
 pub mod laws;
 mod lookup;
+mod part;
+mod reaches;
+mod rising;
 mod world;
 
 pub use lookup::value_at;
+pub use reaches::Reaches;
 pub use world::World;

@@ -6,10 +6,13 @@ ghost use Rattle.std.specs.Option.{option_copied, option_or};
 ghost use Rattle.std.specs.Ordering.{nat_cmp};
 ghost use Rattle.wi_values.specs.Replacements.{IsInOrder, as_map, last_for, overridden, replaced, same_replacements};
 ghost use Rattle.wi_worlds.specs.Inner.Compared.{digest_of};
+ghost use Rattle.wi_worlds.specs.Reached.{is_reached_by, reached_by};
 ghost use Rattle.wi_worlds.specs.Reaching.{cone_has, is_reached};
 
 use crate::entries::{copied, listed, put_in};
 use crate::lookup::value_at;
+use crate::part::{Part, copies_of, part_of};
+use crate::reaches::Reaches;
 use std::alloc::{AllocError, Global};
 use std::collections::{BTreeMap, BTreeSet};
 use std::hash::{FoldHasher, Hash, Hasher};
@@ -162,6 +165,42 @@ impl World {
         *last = world.copy()?;
         Ok(world)
     }
+
+    /// The replacements of the cells that a cell is told to reach. They are shared as by `reaching`, and the answer is the same
+    /// whatever the last are. If memory runs out, the last stay as they were. What the cell reaches is looked up once; then the
+    /// work grows with the count of the fewer, replacements or such cells, times the logarithm of that of the others; texts
+    /// are compared with the last byte by byte.
+    pub fn reaching_by(
+        &self,
+        at: Address,
+        reaches: &Reaches,
+        last: &mut World,
+    ) -> Result<World, AllocError>
+        ensures list { IfOk result (λ w. w ≡ filter (is_reached_by reaches.now at) self.now) }
+        ensures each { IfOk result (λ w. (a : ℕ) → replaced w a
+            ≡ (if reached_by reaches.now at a then replaced self.now a else None)) }
+        ensures last { OnErr result (last.new ≡ last.old) }
+    {
+        let all = self.replacements();
+        if all.is_empty() {
+            return self.copy();
+        }
+        let cells = reaches.reached(at);
+        let part = part_of(all, cells, last.replacements());
+        if part.count == all.len() {
+            return self.copy();
+        }
+        if part.count == 0 {
+            return Ok(World::new(self.alloc));
+        }
+        if part.is_last {
+            return last.copy();
+        }
+        let kept = copies_of(self.alloc, part.count, all, cells)?;
+        let world = World::of(self.alloc, kept)?;
+        *last = world.copy()?;
+        Ok(world)
+    }
 }
 
 /// A hash of replacements.
@@ -171,15 +210,6 @@ fn digest(replacements: &[Replacement]) -> u64
     let mut hasher = FoldHasher::default();
     replacements.hash(&mut hasher);
     hasher.finish()
-}
-
-/// Some of the replacements.
-#[derive(Clone, Copy)]
-struct Part {
-    /// How many they are.
-    count: usize,
-    /// Whether they are the last part once more.
-    is_last: bool,
 }
 
 /// The replacements whose cone has a cell, compared with the last part in the same walk.

@@ -1,11 +1,10 @@
--- Cones of replaced cells, of all cells.
-use Rattle.std.specs.Prelude.{◌≡◌, ℕ, IfSome}
-use Rattle.std.specs.Ordering.{nat_cmp}
-use Rattle.std.specs.BTreeMap.{BTreeMap, get}
-use Rattle.std.specs.BTreeSet.{BTreeSet, contains}
+-- What is told of the cells that reach replaced ones, of all cells.
+use Rattle.std.specs.Prelude.{◌≡◌, ℕ, true}
+use Rattle.wi_worlds.specs.Reached.{ReachTable, is_known, reached_by}
 use Rattle.wi_parser.specs.Sheet.{Sheet}
 use Rattle.wi_graph.specs.Reach.{reaches}
 
--- each cone has the cells that reach its cell
-abbrev pub AreAllCones : Sheet → BTreeMap ℕ (BTreeSet ℕ) → Type 0
-AreAllCones s cones = (a c : ℕ) → IfSome (get nat_cmp cones a) (λ cone. contains nat_cmp cone c ≡ reaches s c a)
+-- what is told is so, and of a cell that is known it is told of all that reach it
+pub record AreAllCones (s : Sheet) (t : ReachTable) : Type 0 where
+  pub so : (c a : ℕ) → reached_by t c a ≡ true → reaches s c a ≡ true
+  pub all : (c a : ℕ) → is_known t a ≡ true → reaches s c a ≡ true → reached_by t c a ≡ true

@@ -1,10 +1,18 @@
--- What a world holds.
-use Rattle.std.specs.Prelude.{List, [], Option, Some, None}
+-- What a world holds, and what a table of reached cells does.
+use Rattle.std.specs.Prelude.{ℕ, List, [], Option, Some, None}
+use Rattle.std.specs.Global.{Box}
+use Rattle.std.specs.HashMap.{HashMap}
 use Rattle.std.specs.Rc.{rc_slice_items}
 use Rattle.std.specs.declared.rc.RcSlice.{RcSlice}
 use Rattle.wi_values.specs.declared.replacement.Replacement.{Replacement}
+use Rattle.wi_worlds.specs.Reached.{Told}
 
 -- the replacements behind a shared list, and none where there is none
 abbrev pub shared_items : {Z : Type 0} → Option (RcSlice Replacement Z) → List Replacement
 shared_items None = []
 shared_items (Some shared) = rc_slice_items shared
+
+-- what was told, and nothing where there is no table
+abbrev pub told_in : {S : Type 0} → Option (Box (HashMap ℕ (List ℕ) S)) → Told
+told_in None = []
+told_in (Some table) = table.value.entries

@@ -1,6 +1,9 @@
-use Rattle.std.proofs.Common.{◌≡◌, ◌∙◌, subst, take, arith}
+use Rattle.std.proofs.Common.{◌≡◌, ◌∙◌, true, subst, take, arith}
+use Rattle.std.specs.List.{list_all}
 use Rattle.std.proofs.lemmas.Grind.{common_steps}
-use Rattle.wi_engine.proofs.Passed.{HaveCones, have_more}
+use Rattle.wi_values.specs.declared.replacement.Replacement.{Replacement}
+use Rattle.wi_worlds.specs.Reached.{is_known}
+use Rattle.wi_propagate.proofs.ReplacedCones.{all_known_more}
 use Rattle.wi_propagate.proofs.cones.add_cones.Goals as goal
 
 pub loop-replacement-preserved : goal.loop-replacement-preserved
@@ -8,10 +11,10 @@ loop-replacement-preserved c =
     let e = c.in_ok-add_cone.ensures in
     record {
       cones = λ s edges h. e.cones s edges (c.loop-replacement.invariant.cones s edges h);
-      all = have_more c.loop-replacement.cones c.add_cone.new.cones c.replacements-replacement-items.result.now c.loop-replacement.replacement-index c.replacement-item.result c.loop-replacement-test.true c.replacement-item.is c.loop-replacement.invariant.all e.stay e.there;
+      all = all_known_more c.loop-replacement.cones c.add_cone.new.cones c.replacements-replacement-items.result.now c.loop-replacement.replacement-index c.replacement-item.result c.loop-replacement-test.true c.replacement-item.is c.loop-replacement.invariant.all e.stay e.there;
     }
 
 pub returns-clause-all : goal.returns-clause-all
 returns-clause-all c =
     let whole : take c.loop-replacement.replacement-index c.replacements-replacement-items.result.now ≡ c.replacements-replacement-items.result.now = grind (arith, common_steps) in
-    subst (HaveCones c.loop-replacement.cones) (whole ∙ c.replacements-replacement-items.ensures.value) c.loop-replacement.invariant.all
+    subst (λ w. list_all (λ (r : Replacement). is_known c.loop-replacement.cones r.at) w ≡ true) (whole ∙ c.replacements-replacement-items.ensures.value) c.loop-replacement.invariant.all

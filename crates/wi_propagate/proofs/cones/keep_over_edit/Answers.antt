@@ -1,7 +1,10 @@
-use Rattle.std.proofs.Common.{Option, rules, subst, IfSome}
+use Rattle.std.proofs.Common.{Option, subst, IfSome}
 use Rattle.wi_graph.specs.Edges.{Edges, AreEdgesOf}
-use Rattle.wi_propagate.proofs.KeptCones.{cones_over}
+use Rattle.wi_propagate.proofs.KeptCones.{cones_over, none_told}
 use Rattle.wi_propagate.proofs.cones.keep_over_edit.Goals as goal
+
+pub returns-then-is_empty : goal.returns-then-is_empty
+returns-then-is_empty c = λ s t a b h. none_told t c.args.cones.now (c.is_empty.ensures.0 c.if-is_empty.true)
 
 pub returns-else-not-reads_stay : goal.returns-else-not-reads_stay
 returns-else-not-reads_stay c =
@@ -9,4 +12,4 @@ returns-else-not-reads_stay c =
     λ s t a b h. cones_over g.now s t c.args.cones.now a (subst (λ (o : Option Edges). IfSome o (λ es. AreEdgesOf es t)) (c.reads_stay.ensures.0 c.if-not-reads_stay.false) b) h
 
 pub returns-then-not-reads_stay : goal.returns-then-not-reads_stay
-returns-then-not-reads_stay c = search rules
+returns-then-not-reads_stay c = λ s t a b h. none_told t c.new.result c.new.ensures

@@ -1,4 +1,4 @@
-use Rattle.std.proofs.Common.{◌≡◌, ◌∙◌, ℕ, Bool, List, filter, None, IfOk, Ok, Err, Result, if◌then◌else◌, sym, ap, subst}
+use Rattle.std.proofs.Common.{◌≡◌, ◌∙◌, ℕ, List, filter, None, IfOk, Ok, Err, Result, if◌then◌else◌, sym, ap, subst}
 use Rattle.std.specs.Prelude.{All, IsSome}
 use Rattle.std.specs.BTreeMap.{BTreeMap, get}
 use Rattle.std.specs.BTreeSet.{BTreeSet}
@@ -8,7 +8,7 @@ use Rattle.wi_values.specs.Replacements.{IsInOrder, replaced}
 use Rattle.wi_values.proofs.Replacements.Same.{same_replacements_Decides}
 use Rattle.wi_values.proofs.Replacements.Filtering.{order_of_filter, replaced-filter}
 use Rattle.wi_worlds.specs.Reaching.{cone_has, is_reached}
-use Rattle.wi_worlds.proofs.Filtering.{filter_whole, filter_nothing}
+use Rattle.wi_worlds.proofs.Filtering.{filter_whole, filter_nothing, made_of}
 use Rattle.wi_worlds.proofs.world.World.reaching.Goals as goal
 
 -- what each address has in the replacements that are kept
@@ -17,11 +17,6 @@ each_of : {E : Type 0} (cones : BTreeMap ℕ (BTreeSet ℕ)) (at : ℕ) (rs : Li
     → IfOk r (λ w. (a : ℕ) → replaced w a ≡ (if cone_has cones a at then replaced rs a else None))
 each_of cones at rs (Ok w) h = λ a. ap (λ (v : List Replacement). replaced v a) h ∙ replaced-filter (λ b. cone_has cones b at) a rs
 each_of cones at rs (Err e) h = tt
-
-made_of : {E : Type 0} (p : Replacement → Bool) (rs kept : List Replacement) (r : Result (List Replacement) E)
-    → IfOk r (λ w. w ≡ kept) → kept ≡ filter p rs → IfOk r (λ w. w ≡ filter p rs)
-made_of p rs kept (Ok w) h e = h ∙ e
-made_of p rs kept (Err x) h e = tt
 
 pub returns-then-part-all-clause-list : goal.returns-then-part-all-clause-list
 returns-then-part-all-clause-list c =

@@ -1,0 +1,106 @@
+-- Cells in row-major order: a search among them, and one put in.
+use Rattle.std.proofs.Common.{◌≡◌, ◌==◌, ◌<◌, ◌≤◌, ◌+◌, ◌-◌, ◌||◌, ℕ, zero, suc, Bool, true, false, List, [], ◌∷◌, length, get_or, Result, Ok, Err, MatchResult, ⊎_elim, refl, sym, ap, ◌∙◌, subst, arith}
+use Rattle.std.specs.Ordering.{nat_cmp}
+use Rattle.std.specs.Result.{is_ok}
+use Rattle.std.specs.List.{insert}
+use Rattle.std.specs.List.Sorted.{IsStrictlyIncreasing, IsBinarySearchResult}
+use Rattle.std.proofs.lemmas.Bool.{cases_lt, or_right}
+use Rattle.std.proofs.lemmas.Bool.Decides.{nat_tests}
+use Rattle.std.proofs.lemmas.List.Edits.{length-insert, get_or-insert_below, get_or-insert_at, get_or-insert_above}
+use Rattle.std.proofs.lemmas.List.Sorted.{searched, IsPermutation-insert, list_any-IsPermutation}
+use Rattle.std.proofs.lemmas.Map.Keys.{sorted_from_strictly_increasing, non_decreasing_from_sorted}
+use Rattle.wi_worlds.specs.Reached.{has_cell}
+
+-- ---- a search
+
+itself : (x c : ℕ) → x ≡ c → (x == c) ≡ true
+itself x c e = grind (arith, nat_tests, e)
+
+other : (x c : ℕ) → (x ≡ c → ⊥) → (x == c) ≡ false
+other x c h = grind (arith, nat_tests, h)
+
+pub has_at : (xs : List ℕ) (i c : ℕ) → i < length xs → get_or xs i 0 ≡ c → has_cell xs c ≡ true
+has_at [] i c l e = absurd (omega (arith, l))
+has_at (x ∷ xs) zero c l e = ap (λ b. b || has_cell xs c) (itself x c e)
+has_at (x ∷ xs) (suc i) c l e = or_right _ _ (has_at xs i c (omega (arith, l)) e)
+
+has_nowhere : (xs : List ℕ) (c : ℕ) → ((k : ℕ) → k < length xs → get_or xs k 0 ≡ c → ⊥) → has_cell xs c ≡ false
+has_nowhere [] c h = refl
+has_nowhere (x ∷ xs) c h =
+    ap (λ b. b || has_cell xs c) (other x c (h 0 (omega arith))) ∙ has_nowhere xs c (λ k l e. h (suc k) (omega (arith, l)) e)
+
+-- what a binary search says
+abbrev pub Searched : List ℕ → ℕ → Result ℕ ℕ → Type 0
+Searched xs c r = MatchResult r (λ i. (i < length xs) × (get_or xs i 0 ≡ c))
+    (λ i. (i ≤ length xs) × ((k : ℕ) → k < i → get_or xs k 0 < c) × ((k : ℕ) → i ≤ k → k < length xs → c < get_or xs k 0))
+
+pub searched_in : (xs : List ℕ) (c : ℕ) (r : Result ℕ ℕ) → IsStrictlyIncreasing xs → IsBinarySearchResult (λ y. nat_cmp y c) xs r → Searched xs c r
+searched_in xs c r order h =
+    searched xs c r h (λ i j l m. non_decreasing_from_sorted xs (sorted_from_strictly_increasing xs order) i j 0 l m)
+
+pub search_tells : (xs : List ℕ) (c : ℕ) (r : Result ℕ ℕ) → IsStrictlyIncreasing xs → IsBinarySearchResult (λ y. nat_cmp y c) xs r → is_ok r ≡ has_cell xs c
+search_tells xs c r order h = by r (searched_in xs c r order h)
+  where
+    by : (s : Result ℕ ℕ) → Searched xs c s → is_ok s ≡ has_cell xs c
+    by (Ok i) f = sym (has_at xs i c f.0 f.1)
+    by (Err i) f = sym (has_nowhere xs c (λ k l e. ⊎_elim (λ m. omega (arith, f.1 k m, e)) (λ m. omega (arith, f.2 k m l, e)) (cases_lt k i)))
+
+-- ---- one more
+
+-- a cell that is there is put in
+pub has_still : (xs : List ℕ) (x c : ℕ) → has_cell xs x ≡ true → has_cell xs c ≡ ((x == c) || has_cell xs c)
+has_still xs x c h = by (x == c) refl
+  where
+    same : (x == c) ≡ true → x ≡ c
+    same t = grind (arith, nat_tests, t)
+
+    by : (b : Bool) → (x == c) ≡ b → has_cell xs c ≡ (b || has_cell xs c)
+    by true t = subst (λ (y : ℕ). has_cell xs y ≡ true) (same t) h
+    by false t = refl
+
+pub has_more : (xs : List ℕ) (i x c : ℕ) → has_cell (insert xs i x) c ≡ ((x == c) || has_cell xs c)
+has_more xs i x c = sym (list_any-IsPermutation (λ y. y == c) (x ∷ xs) (insert xs i x) (IsPermutation-insert xs i x))
+
+module _ (xs : List ℕ) (i c : ℕ) (order : IsStrictlyIncreasing xs) (within : i ≤ length xs)
+    (below : (k : ℕ) → k < i → get_or xs k 0 < c) (above : (k : ℕ) → i ≤ k → k < length xs → c < get_or xs k 0) where
+  long : length (insert xs i c) ≡ length xs + 1
+  long = length-insert xs i c within
+
+  here : (k : ℕ) → k ≡ i → get_or (insert xs i c) k 0 ≡ c
+  here k e = ap (λ (j : ℕ). get_or (insert xs i c) j 0) e ∙ get_or-insert_at xs i c 0 within
+
+  before : (k : ℕ) → k < i → get_or (insert xs i c) k 0 ≡ get_or xs k 0
+  before k l = get_or-insert_below xs i c 0 k l within
+
+  behind : (k : ℕ) → i < k → get_or (insert xs i c) k 0 ≡ get_or xs (k - 1) 0
+  behind k l =
+      let back : k ≡ k - 1 + 1 = omega (arith, l) in
+      ap (λ (j : ℕ). get_or (insert xs i c) j 0) back ∙ get_or-insert_above xs i c 0 (k - 1) (omega (arith, l)) within
+
+  rises : (k : ℕ) → k + 1 < length xs → get_or xs k 0 < get_or xs (k + 1) 0
+  rises k l = order k l
+
+  rises_behind : (k : ℕ) → i < k → k < length xs → get_or xs (k - 1) 0 < get_or xs k 0
+  rises_behind k l m =
+      let back : k - 1 + 1 ≡ k = omega (arith, l) in
+      subst (λ (j : ℕ). get_or xs (k - 1) 0 < get_or xs j 0) back (rises (k - 1) (omega (arith, l, m)))
+
+  next : (k : ℕ) → k + 1 < length (insert xs i c) → get_or (insert xs i c) k 0 < get_or (insert xs i c) (k + 1) 0
+  next k l =
+      ⊎_elim (λ m. omega (arith, before k (omega (arith, m)), before (k + 1) m, rises k (omega (arith, m, within))))
+      (λ m. ⊎_elim (λ n. omega (arith, before k n, here (k + 1) (omega (arith, m, n)), below k n))
+      (λ n. ⊎_elim (λ p. omega (arith, behind k p, last k p, rises_behind k p (omega (arith, l, long))))
+      (λ p. let same : k ≡ i = omega (arith, n, p) in omega (arith, here k same, last_here k same, above k n (omega (arith, l, long))))
+      (cases_lt i k)) (cases_lt k i)) (cases_lt (k + 1) i)
+    where
+      after : (j : ℕ) → j + 1 - 1 ≡ j
+      after j = omega arith
+
+      last : (j : ℕ) → i < j → get_or (insert xs i c) (j + 1) 0 ≡ get_or xs j 0
+      last j p = behind (j + 1) (omega (arith, p)) ∙ ap (λ (q : ℕ). get_or xs q 0) (after j)
+
+      last_here : (j : ℕ) → j ≡ i → get_or (insert xs i c) (j + 1) 0 ≡ get_or xs j 0
+      last_here j e = behind (j + 1) (omega (arith, e)) ∙ ap (λ (q : ℕ). get_or xs q 0) (after j)
+
+  pub rise_more : IsStrictlyIncreasing (insert xs i c)
+  rise_more k l = next k l

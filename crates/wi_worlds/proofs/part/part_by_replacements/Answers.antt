@@ -1,0 +1,13 @@
+use Rattle.std.proofs.Common.{◌≡◌, ◌==◌, filter, length, arith}
+use Rattle.std.proofs.lemmas.Grind.{common_steps}
+use Rattle.wi_values.specs.Replacements.{same_replacements}
+use Rattle.wi_worlds.specs.Reached.{is_of}
+use Rattle.wi_worlds.proofs.part.part_by_replacements.Goals as goal
+
+pub returns-then-is_last-2-clause-last : goal.returns-then-is_last-2-clause-last
+returns-then-is_last-2-clause-last c =
+    let whole : (c.loop-replacement.count == length c.args.last.now) ≡ same_replacements c.args.last.now (filter (is_of c.args.cells.now) c.args.replacements.now) = grind (arith, common_steps) in
+    search whole
+
+pub loop-replacement-preserved : goal.loop-replacement-preserved
+loop-replacement-preserved c = grind (arith, common_steps)

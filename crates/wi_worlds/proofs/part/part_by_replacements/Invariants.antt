@@ -1,0 +1,14 @@
+use Rattle.std.proofs.Common.{◌≡◌, ◌≤◌, ◌&&◌, true, drop, take, filter, length}
+use Rattle.wi_values.specs.Replacements.{same_replacements}
+use Rattle.wi_worlds.specs.Reached.{is_of}
+use Rattle.wi_worlds.proofs.part.part_by_replacements.Given as goal
+
+-- those that are counted, and whether what is left of both is the same
+abbrev pub invariant-loop-replacement : goal.invariant-loop-replacement
+invariant-loop-replacement l =
+    let p = is_of l.cells in record {
+      counted : l.count ≡ length (filter p (take l.replacement-index l.replacements));
+      within : l.count ≤ l.replacement-index;
+      ahead : (l.is_last && same_replacements (drop l.count l.last) (filter p (drop l.replacement-index l.replacements))) ≡ same_replacements l.last (filter p l.replacements);
+      room : l.is_last ≡ true → l.count ≤ length l.last;
+    }

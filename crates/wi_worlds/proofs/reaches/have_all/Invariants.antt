@@ -1,0 +1,8 @@
+use Rattle.std.proofs.Common.{◌≡◌, true, take}
+use Rattle.std.specs.List.{list_all}
+use Rattle.wi_worlds.specs.Reached.{has_cell}
+use Rattle.wi_worlds.proofs.reaches.have_all.Given as goal
+
+-- the cells have those passed
+abbrev pub invariant-loop-replacement : goal.invariant-loop-replacement
+invariant-loop-replacement l = list_all (λ r. has_cell l.cells r.at) (take l.replacement-index l.replacements) ≡ true
