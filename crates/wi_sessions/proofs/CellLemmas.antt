@@ -1,243 +1,346 @@
--- Laws of the rooms of pending cells.
-use Rattle.std.proofs.Common.{◌≡◌, ◌==◌, ◌<◌, ◌≤◌, ◌+◌, ◌||◌, ◌&&◌, ℕ, Bool, true, false, cond, not, List, [], ◌∷◌, ◌++◌, length, get_or, drop, filter, Option, Some, None, refl, sym, ap, ◌∙◌, arith, ◌*◌, Result, Ok, Err, IfOk, OnOk, subst, ⊎_elim}
-use Rattle.std.proofs.Math.Bool.{or-true}
-use Rattle.std.specs.Prelude.{unwrap_or}
-use Rattle.std.specs.Option.{is_some, option_or}
-use Rattle.std.specs.List.{All, list_any}
+-- Laws of pending cells, and of cells with room only.
+use Rattle.std.proofs.Common.{◌≡◌, ◌==◌, ◌<◌, ◌≤◌, ◌+◌, ◌||◌, ◌&&◌, ◌⊎◌, inl, inr, ℕ, Bool, true, false, cond, not, List, [], ◌∷◌, ◌++◌, length, take, get_or, filter, refl, sym, ap, ◌∙◌, arith, ◌*◌, Result, Ok, Err, IfOk, OnOk, subst}
+use Rattle.std.proofs.Math.Bool.{and_comm, and-false, and-true, or-false, or-true}
+use Rattle.std.specs.List.{All, AllByRecursion, list_any}
+use Rattle.std.specs.List.Sorted.{IsStrictlySortedBy}
 use Rattle.std.specs.Ordering.{nat_cmp}
-use Rattle.std.specs.Map.{keys_of}
+use Rattle.std.specs.declared.cmp.Ordering.TheVariants.{Less}
 use Rattle.std.specs.BTreeMap.{is_at}
-use Rattle.std.proofs.lemmas.Bool.{eqb-true}
-use Rattle.std.proofs.lemmas.List.{drop_more, drop_all, append_assoc, append-nil}
+use Rattle.std.proofs.lemmas.Bool.{both_ways, cases_order, eq-eqb, eqb-true, ne_eqb}
+use Rattle.std.proofs.lemmas.List.{append_assoc, append-nil, take_all}
 use Rattle.std.proofs.lemmas.List.Elements.{All-head, All-tail, All-same}
-use Rattle.std.proofs.lemmas.List.Folds.{list_any-append}
-use Rattle.std.proofs.lemmas.Map.Made.{is_some-lookup}
-use Rattle.wi_values.proofs.Order.{ComeAfter, Ascends, Ascends-filter, at_same, at_itself, is_at-eq, turn_test}
+use Rattle.std.proofs.lemmas.List.Folds.{list_any-append, list_any_more}
+use Rattle.std.proofs.lemmas.Map.Keys.{sorted_head, sorted_tail}
+use Rattle.std.proofs.lemmas.Map.Views.{any-filter_same}
+use Rattle.wi_values.proofs.Order.{below_from_Less, is_at-eq, turn_test}
 use Rattle.wi_values.specs.Address.{rows, columns}
 use Rattle.wi_sessions.specs.Pictures.{sheet_size}
 use Rattle.wi_sessions.specs.Pictures.Laws.{is_listed, Rises}
-use Rattle.wi_sessions.specs.Inner.Rooms.{room_of, held_at, HasNoVacancy, VacantOnlyAt, HoldsTheSame}
-use Rattle.wi_sessions.specs.Inner.Cells.{cells_in, vacant_in, new_room}
-use Rattle.wi_sessions.proofs.RoomLemmas.{same_rooms, passing, room_of-filter, vacancy_made}
+use Rattle.wi_sessions.specs.Inner.Cells.{cells_in, vacant_in}
 
--- ---- one step of a loop over cells
+-- ---- lists of cells in order
 
-more_new : (o : Option Bool) (b m : Bool) → option_or (option_or o (cond (b || false) (Some false) None)) (cond m (Some false) None) ≡ option_or o (cond (b || m) (Some false) None)
-more_new None true m = refl
-more_new None false m = refl
-more_new (Some x) b m = refl
+abbrev ComeAfter : ℕ → List ℕ → Type 0
+ComeAfter a [] = Unit {0}
+ComeAfter a (x ∷ xs) = (a < x) × ComeAfter a xs
 
--- after a room was made for the i-th cell, x
-pub made_more : (cells : List ℕ) (i x : ℕ) (all old new : List (ℕ × Bool)) → i < length cells → x ≡ get_or cells i x
-    → ((c : ℕ) → room_of new c ≡ option_or (room_of old c) (new_room (x ∷ []) c))
-    → ((c : ℕ) → option_or (room_of old c) (new_room (drop i cells) c) ≡ option_or (room_of all c) (new_room cells c))
-    → (c : ℕ) → option_or (room_of new c) (new_room (drop (i + 1) cells) c) ≡ option_or (room_of all c) (new_room cells c)
-made_more cells i x all old new l is made h =
-    λ c. ap (λ (o : Option Bool). option_or o (new_room (drop (i + 1) cells) c)) (made c)
-    ∙ more_new (room_of old c) (x == c) (is_listed (drop (i + 1) cells) c)
-    ∙ ap (λ (xs : List ℕ). option_or (room_of old c) (new_room xs c)) (ap (λ (y : ℕ). y ∷ drop (i + 1) cells) is ∙ sym (drop_more cells i x l)) ∙ h c
+abbrev pub Ascend : List ℕ → Type 0
+Ascend [] = Unit {0}
+Ascend (x ∷ xs) = ComeAfter x xs × Ascend xs
 
-or_none : (o : Option Bool) → option_or o None ≡ o
-or_none None = refl
-or_none (Some x) = refl
+come_after : (a : ℕ) (xs : List ℕ) → AllByRecursion (λ b. nat_cmp a b ≡ Less) xs → ComeAfter a xs
+come_after a [] h = tt
+come_after a (x ∷ xs) h = (below_from_Less a x h.0, come_after a xs h.1)
 
-pub made_all : (cells : List ℕ) (i : ℕ) (all new : List (ℕ × Bool)) → length cells ≤ i
-    → ((c : ℕ) → option_or (room_of new c) (new_room (drop i cells) c) ≡ option_or (room_of all c) (new_room cells c))
-    → (c : ℕ) → room_of new c ≡ option_or (room_of all c) (new_room cells c)
-made_all cells i all new l h =
-    λ c. sym (or_none (room_of new c)) ∙ ap (λ (xs : List ℕ). option_or (room_of new c) (new_room xs c)) (sym (drop_all i cells l)) ∙ h c
+pub ascend : (xs : List ℕ) → IsStrictlySortedBy nat_cmp xs → Ascend xs
+ascend [] h = tt
+ascend (x ∷ xs) h = (come_after x xs (sorted_head nat_cmp x xs h), ascend xs (sorted_tail nat_cmp x xs h))
 
--- after a vacant room was made for a cell that had none
-pub made_one : (a : ℕ) (w : Bool) (old new : List (ℕ × Bool)) → w ≡ false → room_of old a ≡ None → ((q : ℕ) → room_of new q ≡ cond (is_at (nat_cmp a) q) (Some w) (room_of old q))
-    → (q : ℕ) → room_of new q ≡ option_or (room_of old q) (new_room (a ∷ []) q)
-made_one a w old new vacant none put q = by (is_at (nat_cmp a) q) refl (put q)
+come_after_earlier : (a b : ℕ) (xs : List ℕ) → a < b → ComeAfter b xs → ComeAfter a xs
+come_after_earlier a b [] l h = tt
+come_after_earlier a b (x ∷ xs) l h = (omega (arith, l, h.0), come_after_earlier a b xs l h.1)
+
+come_after_filter : (p : ℕ → Bool) (a : ℕ) (xs : List ℕ) → ComeAfter a xs → ComeAfter a (filter p xs)
+come_after_filter p a [] h = tt
+come_after_filter p a (x ∷ xs) h = by (p x) (come_after_filter p a xs h.1)
   where
-    by : (b : Bool) → is_at (nat_cmp a) q ≡ b → room_of new q ≡ cond b (Some w) (room_of old q) → room_of new q ≡ option_or (room_of old q) (new_room (a ∷ []) q)
-    by true t f =
-        f ∙ ap (λ (x : Bool). Some x) vacant ∙ sym (ap (λ (o : Option Bool). option_or o (new_room (a ∷ []) q)) (ap (room_of old) (at_same a q t) ∙ none)
-        ∙ ap (λ (m : Bool). cond (m || false) (Some false) None) (sym (is_at-eq a q) ∙ t))
-    by false t f = f ∙ sym (ap (λ (m : Bool). option_or (room_of old q) (cond (m || false) (Some false) None)) (sym (is_at-eq a q) ∙ t) ∙ or_none (room_of old q))
+    by : (b : Bool) → ComeAfter a (filter p xs) → ComeAfter a (cond b (x ∷ filter p xs) (filter p xs))
+    by true ih = (h.0, ih)
+    by false ih = ih
 
-right_of_or : (b c : Bool) → (b || c) ≡ true → (b ≡ true → ⊥) → c ≡ true
-right_of_or true c h n = absurd (n refl)
-right_of_or false c h n = h
-
--- after the i-th cell has no vacant room
-pub vacant_less : (cells : List ℕ) (i x : ℕ) (old new : List (ℕ × Bool)) → i < length cells → x ≡ get_or cells i x
-    → (room_of new x ≡ Some false → ⊥)
-    → ((q : ℕ) → room_of new q ≡ Some false → room_of old q ≡ Some false)
-    → VacantOnlyAt false (drop i cells) old → VacantOnlyAt false (drop (i + 1) cells) new
-vacant_less cells i x old new l is gone kept h =
-    λ q v. right_of_or (x == q) _
-    (ap (λ (xs : List ℕ). is_listed xs q) (ap (λ (y : ℕ). y ∷ drop (i + 1) cells) is ∙ sym (drop_more cells i x l)) ∙ h q (kept q v))
-    (λ t. gone (ap (λ (a : ℕ). room_of new a) (eqb-true x q t) ∙ v))
-
-pub none_left : (cells : List ℕ) (i : ℕ) (rooms : List (ℕ × Bool)) → length cells ≤ i → VacantOnlyAt false (drop i cells) rooms → HasNoVacancy false rooms
-none_left cells i rooms l h =
-    λ q v. let e : is_listed [] q ≡ true = ap (λ (xs : List ℕ). is_listed xs q) (sym (drop_all i cells l)) ∙ h q v in cc
-
--- ---- one more cell noted
-
-last_noted : (noted new : List ℕ) (a : ℕ) → new ≡ noted ++ a ∷ [] → is_listed new a ≡ true
-last_noted noted new a e =
-    ap (λ (xs : List ℕ). is_listed xs a) e ∙ list_any-append (λ (c : ℕ). c == a) noted (a ∷ [])
-    ∙ ap (λ (b : Bool). is_listed noted a || (b || false)) (sym (is_at-eq a a) ∙ at_itself a) ∙ or-true (is_listed noted a)
-
-noted_more : (noted new : List ℕ) (a q : ℕ) → new ≡ noted ++ a ∷ [] → is_listed noted q ≡ true → is_listed new q ≡ true
-noted_more noted new a q e h =
-    ap (λ (xs : List ℕ). is_listed xs q) e ∙ list_any-append (λ (c : ℕ). c == q) noted (a ∷ []) ∙ ap (λ (b : Bool). b || is_listed (a ∷ []) q) h
-
--- all vacant rooms are noted after one was made and noted
-pub noted_made : (noted new : List ℕ) (a : ℕ) (w : Bool) (old made : List (ℕ × Bool)) → new ≡ noted ++ a ∷ []
-    → ((q : ℕ) → room_of made q ≡ cond (is_at (nat_cmp a) q) (Some w) (room_of old q))
-    → VacantOnlyAt false noted old → VacantOnlyAt false new made
-noted_made noted new a w old made e put h =
-    λ q v. ⊎_elim
-    (λ (p : q ≡ a). subst (λ (x : ℕ). is_listed new x ≡ true) (sym p) (last_noted noted new a e))
-    (λ (was : room_of old q ≡ Some false). noted_more noted new a q e (h q was))
-    (vacancy_made false a q w _ _ (put q) v)
-
--- ---- one room taken
-
-pub rooms_put : (a q : ℕ) (w : Bool) (old new : List (ℕ × Bool)) → room_of new q ≡ cond (is_at (nat_cmp a) q) (Some w) (room_of old q)
-    → is_some (room_of old a) ≡ true → is_some (room_of new q) ≡ is_some (room_of old q)
-rooms_put a q w old new e h = by (is_at (nat_cmp a) q) refl e
+ascend_filter : (p : ℕ → Bool) (xs : List ℕ) → Ascend xs → Ascend (filter p xs)
+ascend_filter p [] h = tt
+ascend_filter p (x ∷ xs) h = by (p x) (ascend_filter p xs h.1)
   where
-    by : (b : Bool) → is_at (nat_cmp a) q ≡ b → room_of new q ≡ cond b (Some w) (room_of old q) → is_some (room_of new q) ≡ is_some (room_of old q)
-    by true t f = ap is_some f ∙ sym h ∙ ap (λ (z : ℕ). is_some (room_of old z)) (sym (at_same a q t))
-    by false t f = ap is_some f
+    by : (b : Bool) → Ascend (filter p xs) → Ascend (cond b (x ∷ filter p xs) (filter p xs))
+    by true ih = (come_after_filter p x xs h.0, ih)
+    by false ih = ih
 
-pub vacancy_taken : (b : Bool) (x y : Option Bool) → x ≡ cond b (Some true) y → x ≡ Some false → y ≡ Some false
-vacancy_taken true x y e h = cc
-vacancy_taken false x y e h = sym e ∙ h
+-- ---- which cells are listed
+
+-- none that comes no later than all of them
+unlisted : (a q : ℕ) (xs : List ℕ) → ComeAfter a xs → q ≤ a → is_listed xs q ≡ false
+unlisted a q [] h l = refl
+unlisted a q (x ∷ xs) h l = ap (λ b. b || is_listed xs q) (ne_eqb x q (apart x h.0)) ∙ unlisted a q xs h.1 l
+  where
+    apart : (x : ℕ) → a < x → x ≡ q → Prim.⊥
+    apart x m e = omega (arith, m, l, e)
+
+first_listed : (x : ℕ) (xs : List ℕ) → is_listed (x ∷ xs) x ≡ true
+first_listed x xs = ap (λ b. b || is_listed xs x) (eq-eqb x x refl)
+
+not_there : (x : ℕ) (xs ys : List ℕ) → is_listed xs x ≡ true → is_listed ys x ≡ false → ((q : ℕ) → is_listed xs q ≡ is_listed ys q) → Prim.⊥
+not_there x xs ys h k e = both_ways (is_listed ys x) k (sym (e x) ∙ h)
+
+tails : (x : ℕ) (xs ys : List ℕ) → ComeAfter x xs → ComeAfter x ys → ((q : ℕ) → is_listed (x ∷ xs) q ≡ is_listed (x ∷ ys) q) → (q : ℕ) → is_listed xs q ≡ is_listed ys q
+tails x xs ys a b h q = by (x == q) refl (h q)
+  where
+    by : (d : Bool) → (x == q) ≡ d → (d || is_listed xs q) ≡ (d || is_listed ys q) → is_listed xs q ≡ is_listed ys q
+    by true t g = let e = eqb-true x q t in unlisted x q xs a (omega (arith, e)) ∙ sym (unlisted x q ys b (omega (arith, e)))
+    by false t g = g
+
+-- lists in order that have the same cells are the same
+pub same_listed : (xs ys : List ℕ) → Ascend xs → Ascend ys → ((q : ℕ) → is_listed xs q ≡ is_listed ys q) → xs ≡ ys
+same_listed [] [] a b h = refl
+same_listed [] (y ∷ ys) a b h = absurd (not_there y (y ∷ ys) [] (first_listed y ys) refl (λ q. sym (h q)))
+same_listed (x ∷ xs) [] a b h = absurd (not_there x (x ∷ xs) [] (first_listed x xs) refl h)
+same_listed (x ∷ xs) (y ∷ ys) a b h = by (cases_order x y) (same_listed xs ys a.1 b.1)
+  where
+    by : (x ≡ y) ⊎ ((x < y) ⊎ (y < x)) → (((q : ℕ) → is_listed xs q ≡ is_listed ys q) → xs ≡ ys) → x ∷ xs ≡ y ∷ ys
+    by (inl e) ih =
+        let after : ComeAfter x ys = subst (λ (z : ℕ). ComeAfter z ys) (sym e) b.0 in
+        let same : (q : ℕ) → is_listed (x ∷ xs) q ≡ is_listed (x ∷ ys) q = subst (λ (z : ℕ). (q : ℕ) → is_listed (x ∷ xs) q ≡ is_listed (z ∷ ys) q) (sym e) h in
+        ap (λ (zs : List ℕ). x ∷ zs) (ih (tails x xs ys a.0 after same)) ∙ ap (λ (z : ℕ). z ∷ ys) e
+    by (inr (inl l)) ih = absurd (not_there x (x ∷ xs) (y ∷ ys) (first_listed x xs) (unlisted x x (y ∷ ys) (l, come_after_earlier x y ys l b.0) (omega arith)) h)
+    by (inr (inr l)) ih = absurd (not_there y (y ∷ ys) (x ∷ xs) (first_listed y ys) (unlisted y y (x ∷ xs) (l, come_after_earlier y x xs l a.0) (omega arith)) (λ q. sym (h q)))
+
+-- those of a list that pass a test
+pub listed_filter : (p : ℕ → Bool) (xs : List ℕ) (q : ℕ) → is_listed (filter p xs) q ≡ (is_listed xs q && p q)
+listed_filter p xs q = any-filter_same (λ c. c == q) p (p q) (λ k t. ap p (eqb-true k q t)) xs ∙ and_comm (p q) (is_listed xs q)
+
+-- as a set tells it
+pub found_listed : (q : ℕ) (ks : List ℕ) → list_any (is_at (nat_cmp q)) ks ≡ is_listed ks q
+found_listed q [] = refl
+found_listed q (k ∷ ks) = ap (λ b. b || list_any (is_at (nat_cmp q)) ks) (is_at-eq q k ∙ turn_test q k) ∙ ap (λ b. (k == q) || b) (found_listed q ks)
+
+-- ---- a cell put in
+
+-- a set with one cell more, where `found` says which cells a set has
+pub put_in : (at c : ℕ) (old new : List ℕ) → list_any (is_at (nat_cmp c)) new ≡ cond (is_at (nat_cmp at) c) true (list_any (is_at (nat_cmp c)) old) → is_listed new c ≡ (is_listed old c || (at == c))
+put_in at c old new e = sym (found_listed c new) ∙ e ∙ ap (λ b. cond (is_at (nat_cmp at) c) true b) (found_listed c old) ∙ by (is_at (nat_cmp at) c) (is_at-eq at c)
+  where
+    by : (b : Bool) → b ≡ (at == c) → cond b true (is_listed old c) ≡ (is_listed old c || (at == c))
+    by true t = sym (ap (λ d. is_listed old c || d) (sym t) ∙ or-true (is_listed old c))
+    by false t = sym (ap (λ d. is_listed old c || d) (sym t) ∙ or-false (is_listed old c))
+
+pub one_more_listed : (xs ys : List ℕ) (at c : ℕ) → ys ≡ xs ++ at ∷ [] → is_listed ys c ≡ (is_listed xs c || (at == c))
+one_more_listed xs ys at c e = ap (λ zs. is_listed zs c) e ∙ list_any-append (λ d. d == c) xs (at ∷ []) ∙ ap (λ b. is_listed xs c || b) (or-false (at == c))
+
+-- whether it was there, as the set tells it
+told_new : (b n : Bool) → n ≡ not b → n ≡ false → b ≡ true
+told_new true n e f = refl
+told_new false n e f = cc
+
+told_there : (b n : Bool) → n ≡ not b → n ≡ true → b ≡ false
+told_there true n e f = cc
+told_there false n e f = refl
+
+pub was_there : (at : ℕ) (ks : List ℕ) (new : Bool) → new ≡ not (list_any (is_at (nat_cmp at)) ks) → new ≡ false → is_listed ks at ≡ true
+was_there at ks new e f = sym (found_listed at ks) ∙ told_new (list_any (is_at (nat_cmp at)) ks) new e f
+
+pub wasnt_there : (at : ℕ) (ks : List ℕ) (new : Bool) → new ≡ not (list_any (is_at (nat_cmp at)) ks) → new ≡ true → is_listed ks at ≡ false
+wasnt_there at ks new e f = sym (found_listed at ks) ∙ told_there (list_any (is_at (nat_cmp at)) ks) new e f
+
+-- where it was there
+none_new : (s n t : Bool) → (t ≡ true → s ≡ true) → n ≡ (n || (t && not s))
+none_new s true t h = refl
+none_new true false true h = refl
+none_new false false true h = absurd (both_ways false refl (h refl))
+none_new s false false h = refl
+
+pub none_made : (at c : ℕ) (s : ℕ → Bool) (n : Bool) → s at ≡ true → n ≡ (n || ((at == c) && not (s c)))
+none_made at c s n h = none_new (s c) n (at == c) (λ t. ap s (sym (eqb-true at c t)) ∙ h)
+
+-- where it wasn't
+new_made : (s n t : Bool) → (t ≡ true → s ≡ false) → (n || t) ≡ (n || (t && not s))
+new_made s true t h = refl
+new_made true false true h = absurd (both_ways true (h refl) refl)
+new_made false false true h = refl
+new_made s false false h = refl
+
+pub one_made : (at c : ℕ) (s : ℕ → Bool) (n : Bool) → s at ≡ false → (n || (at == c)) ≡ (n || ((at == c) && not (s c)))
+one_made at c s n h = new_made (s c) n (at == c) (λ t. ap s (sym (eqb-true at c t)) ∙ h)
+
+-- the pending ones stay
+kept_pending : (s n t u v : Bool) → u ≡ (s || t) → v ≡ (n || (t && not s)) → (u && not v) ≡ (s && not n)
+kept_pending s n t u v e f = ap (λ b. b && not v) e ∙ ap (λ b. (s || t) && not b) f ∙ by s n t
+  where
+    by : (s n t : Bool) → ((s || t) && not (n || (t && not s))) ≡ (s && not n)
+    by true true t = refl
+    by true false true = refl
+    by true false false = refl
+    by false n true = ap not (or-true n)
+    by false n false = refl
+
+-- ---- room made for several cells
+
+-- of the set and of those with room only, before and after: there is room for the cells that pass the test and weren't there
+pub record HasMade (test : ℕ → Bool) (all vacant more rooms : List ℕ) : Type 0 where
+  pub put : (c : ℕ) → is_listed more c ≡ (is_listed all c || test c)
+  pub made : (c : ℕ) → is_listed rooms c ≡ (is_listed vacant c || (test c && not (is_listed all c)))
+
+pub pending_stay : (test : ℕ → Bool) (all vacant more rooms : List ℕ) → HasMade test all vacant more rooms
+    → (c : ℕ) → (is_listed more c && not (is_listed rooms c)) ≡ (is_listed all c && not (is_listed vacant c))
+pending_stay test all vacant more rooms h c = kept_pending (is_listed all c) (is_listed vacant c) (test c) (is_listed more c) (is_listed rooms c) (h.put c) (h.made c)
+
+pub nothing_made : (all vacant : List ℕ) → HasMade (is_listed []) all vacant all vacant
+nothing_made all vacant = record { put = λ c. sym (or-false (is_listed all c)); made = λ c. sym (or-false (is_listed vacant c)) }
+
+joined : (a v t x m r : Bool) → m ≡ (a || t) → r ≡ (v || (t && not a)) → (r || (x && not m)) ≡ (v || ((t || x) && not a))
+joined a v t x m r e f = ap (λ b. b || (x && not m)) f ∙ ap (λ b. (v || (t && not a)) || (x && not b)) e ∙ by a v t x
+  where
+    by : (a v t x : Bool) → ((v || (t && not a)) || (x && not (a || t))) ≡ (v || ((t || x) && not a))
+    by a true t x = refl
+    by true false true x = and-false x
+    by true false false x = refl
+    by false false true x = refl
+    by false false false x = refl
+
+together : (a t x : Bool) → ((a || t) || x) ≡ (a || (t || x))
+together true t x = refl
+together false t x = refl
+
+-- after room was made for the i-th cell, at
+pub made_more : (cells : List ℕ) (i at : ℕ) (all vacant more rooms wider noted : List ℕ) → i < length cells → at ≡ get_or cells i at
+    → HasMade (is_listed (take i cells)) all vacant more rooms → ((c : ℕ) → is_listed wider c ≡ (is_listed more c || (at == c)))
+    → ((c : ℕ) → is_listed noted c ≡ (is_listed rooms c || ((at == c) && not (is_listed more c)))) → HasMade (is_listed (take (i + 1) cells)) all vacant wider noted
+made_more cells i at all vacant more rooms wider noted l is h p m = record {
+  put = λ c. p c ∙ ap (λ b. b || (at == c)) (h.put c) ∙ together (is_listed all c) (is_listed (take i cells) c) (at == c) ∙ ap (λ b. is_listed all c || b) (sym (one_more c));
+  made = λ c.
+      m c ∙ joined (is_listed all c) (is_listed vacant c) (is_listed (take i cells) c) (at == c) (is_listed more c) (is_listed rooms c) (h.put c) (h.made c)
+      ∙ ap (λ b. is_listed vacant c || (b && not (is_listed all c))) (sym (one_more c));
+}
+  where
+    one_more : (c : ℕ) → is_listed (take (i + 1) cells) c ≡ (is_listed (take i cells) c || (at == c))
+    one_more c = list_any_more (λ d. d == c) cells i at l ∙ ap (λ d. is_listed (take i cells) c || (d == c)) (sym is)
+
+pub made_all : (cells : List ℕ) (i : ℕ) (all vacant more rooms : List ℕ) → length cells ≤ i → HasMade (is_listed (take i cells)) all vacant more rooms → HasMade (is_listed cells) all vacant more rooms
+made_all cells i all vacant more rooms l h = subst (λ xs. HasMade (is_listed xs) all vacant more rooms) (take_all i cells l) h
+
+-- ---- cells taken out
+
+pub one_taken : (at c : ℕ) (old new : List ℕ) → list_any (is_at (nat_cmp c)) new ≡ cond (is_at (nat_cmp at) c) false (list_any (is_at (nat_cmp c)) old) → is_listed new c ≡ (is_listed old c && not (at == c))
+one_taken at c old new e = sym (found_listed c new) ∙ e ∙ ap (λ b. cond (is_at (nat_cmp at) c) false b) (found_listed c old) ∙ by (is_at (nat_cmp at) c) (is_at-eq at c)
+  where
+    by : (b : Bool) → b ≡ (at == c) → cond b false (is_listed old c) ≡ (is_listed old c && not (at == c))
+    by true t = sym (ap (λ d. is_listed old c && not d) (sym t) ∙ and-false (is_listed old c))
+    by false t = sym (ap (λ d. is_listed old c && not d) (sym t) ∙ and-true (is_listed old c))
+
+pub none_taken : (s : Bool) → s ≡ (s && true)
+none_taken s = sym (and-true s)
+
+taken_both : (s t x : Bool) → ((s && not t) && not x) ≡ (s && not (t || x))
+taken_both true true x = refl
+taken_both true false x = refl
+taken_both false t x = refl
+
+pub taken_more : (cells : List ℕ) (i at : ℕ) (all old new : List ℕ) → i < length cells → at ≡ get_or cells i at
+    → ((c : ℕ) → is_listed old c ≡ (is_listed all c && not (is_listed (take i cells) c))) → ((c : ℕ) → is_listed new c ≡ (is_listed old c && not (at == c)))
+    → (c : ℕ) → is_listed new c ≡ (is_listed all c && not (is_listed (take (i + 1) cells) c))
+taken_more cells i at all old new l is h k c =
+    k c ∙ ap (λ b. b && not (at == c)) (h c) ∙ taken_both (is_listed all c) (is_listed (take i cells) c) (at == c)
+    ∙ ap (λ b. is_listed all c && not b) (sym (list_any_more (λ d. d == c) cells i at l ∙ ap (λ d. is_listed (take i cells) c || (d == c)) (sym is)))
+
+pub taken_all : (cells : List ℕ) (i : ℕ) (all new : List ℕ) → length cells ≤ i → ((c : ℕ) → is_listed new c ≡ (is_listed all c && not (is_listed (take i cells) c)))
+    → (c : ℕ) → is_listed new c ≡ (is_listed all c && not (is_listed cells c))
+taken_all cells i all new l h c = h c ∙ ap (λ xs. is_listed all c && not (is_listed xs c)) (take_all i cells l)
 
 -- ---- the lists of cells
 
-abbrev itself : Bool → Bool
-itself b = b
+pub same_cells : (all vacant more rooms : List ℕ) → IsStrictlySortedBy nat_cmp all → IsStrictlySortedBy nat_cmp more
+    → ((c : ℕ) → (is_listed more c && not (is_listed rooms c)) ≡ (is_listed all c && not (is_listed vacant c))) → cells_in more rooms ≡ cells_in all vacant
+same_cells all vacant more rooms a b h =
+    same_listed (cells_in more rooms) (cells_in all vacant) (ascend_filter (λ c. not (is_listed rooms c)) more (ascend more b)) (ascend_filter (λ c. not (is_listed vacant c)) all (ascend all a))
+    (λ q. listed_filter (λ c. not (is_listed rooms c)) more q ∙ h q ∙ sym (listed_filter (λ c. not (is_listed vacant c)) all q))
 
-passing_same : (o p : Option Bool) → unwrap_or o false ≡ unwrap_or p false → passing itself o ≡ passing itself p
-passing_same None None h = refl
-passing_same None (Some true) h = cc
-passing_same None (Some false) h = refl
-passing_same (Some true) None h = cc
-passing_same (Some false) None h = refl
-passing_same (Some true) (Some true) h = refl
-passing_same (Some true) (Some false) h = cc
-passing_same (Some false) (Some true) h = cc
-passing_same (Some false) (Some false) h = refl
+-- once none has room only
+pub same_once_taken : (all vacant left none : List ℕ) → IsStrictlySortedBy nat_cmp all → IsStrictlySortedBy nat_cmp left → none ≡ []
+    → ((c : ℕ) → is_listed left c ≡ (is_listed all c && not (is_listed vacant c))) → cells_in left none ≡ cells_in all vacant
+same_once_taken all vacant left none a b e h =
+    same_cells all vacant left none a b (λ c. ap (λ xs. is_listed left c && not (is_listed xs c)) e ∙ and-true (is_listed left c) ∙ h c)
 
--- where the same cells are pending, the list of them is the same
-pub same_cells : (old new : List (ℕ × Bool)) → Ascends old → Ascends new → HoldsTheSame false old new → cells_in new ≡ cells_in old
-same_cells old new a b h =
-    ap (λ (es : List (ℕ × Bool)). keys_of es)
-    (same_rooms (filter (λ e. itself e.1) new) (filter (λ e. itself e.1) old) (Ascends-filter (λ e. itself e.1) new b) (Ascends-filter (λ e. itself e.1) old a)
-    (λ q. room_of-filter itself new b q ∙ passing_same (room_of new q) (room_of old q) (h q) ∙ sym (room_of-filter itself old a q)))
+nothing_passes : (xs : List ℕ) → filter (λ c. false) xs ≡ []
+nothing_passes [] = refl
+nothing_passes (x ∷ xs) = nothing_passes xs
 
-nothing_passes : (o : Option Bool) → (o ≡ Some false → ⊥) → passing not o ≡ None
-nothing_passes None h = refl
-nothing_passes (Some true) h = refl
-nothing_passes (Some false) h = absurd (h refl)
+pub none_vacant : (all none : List ℕ) → none ≡ [] → vacant_in all none ≡ []
+none_vacant all none e = ap (vacant_in all) e ∙ nothing_passes all
 
-pub none_vacant : (rooms : List (ℕ × Bool)) → Ascends rooms → HasNoVacancy false rooms → vacant_in rooms ≡ []
-none_vacant rooms a h =
-    ap (λ (es : List (ℕ × Bool)). keys_of es)
-    (same_rooms (filter (λ e. not e.1) rooms) [] (Ascends-filter (λ e. not e.1) rooms a) tt (λ q. room_of-filter not rooms a q ∙ nothing_passes (room_of rooms q) (h q)))
+either_way : (s v : Bool) → (s && true) ≡ ((s && not v) || (s && v))
+either_way true true = refl
+either_way true false = refl
+either_way false v = refl
 
-any_same : (q : ℕ) (ks : List ℕ) → is_listed ks q ≡ list_any (is_at (nat_cmp q)) ks
-any_same q [] = refl
-any_same q (k ∷ ks) = ap (λ (b : Bool). b || is_listed ks q) (turn_test k q ∙ sym (is_at-eq q k)) ∙ ap (λ (b : Bool). is_at (nat_cmp q) k || b) (any_same q ks)
+-- those with room only are pending
+pub pending_taken : (all vacant none : List ℕ) → none ≡ [] → (q : ℕ) → is_listed (cells_in all none) q ≡ (is_listed (cells_in all vacant) q || is_listed (vacant_in all vacant) q)
+pending_taken all vacant none e q =
+    listed_filter (λ c. not (is_listed none c)) all q ∙ ap (λ xs. is_listed all q && not (is_listed xs q)) e ∙ either_way (is_listed all q) (is_listed vacant q)
+    ∙ ap (λ b. b || (is_listed all q && is_listed vacant q)) (sym (listed_filter (λ c. not (is_listed vacant c)) all q))
+    ∙ ap (λ b. is_listed (cells_in all vacant) q || b) (sym (listed_filter (λ c. is_listed vacant c) all q))
 
-listed_passing : (p : Bool → Bool) (rooms : List (ℕ × Bool)) → Ascends rooms → (q : ℕ) → is_listed (keys_of (filter (λ e. p e.1) rooms)) q ≡ is_some (passing p (room_of rooms q))
-listed_passing p rooms a q =
-    any_same q (keys_of (filter (λ e. p e.1) rooms)) ∙ sym (is_some-lookup (is_at (nat_cmp q)) (filter (λ e. p e.1) rooms)) ∙ ap is_some (room_of-filter p rooms a q)
+room_made : (s v t m r : Bool) → m ≡ (s || t) → r ≡ (v || (t && not s)) → (m && r) ≡ ((s && v) || (t && not (s && not v)))
+room_made s v t m r e f = ap (λ b. b && r) e ∙ ap (λ b. (s || t) && b) f ∙ by s v t
+  where
+    by : (s v t : Bool) → ((s || t) && (v || (t && not s))) ≡ ((s && v) || (t && not (s && not v)))
+    by true true t = refl
+    by true false true = refl
+    by true false false = refl
+    by false v true = or-true v
+    by false v false = refl
 
-pending_is : (o : Option Bool) → is_some (passing itself o) ≡ unwrap_or o false
-pending_is None = refl
-pending_is (Some true) = refl
-pending_is (Some false) = refl
+-- for which cells there is room
+pub vacant_made : (cells all vacant more rooms : List ℕ) → HasMade (is_listed cells) all vacant more rooms
+    → (q : ℕ) → is_listed (vacant_in more rooms) q ≡ (is_listed (vacant_in all vacant) q || (is_listed cells q && not (is_listed (cells_in all vacant) q)))
+vacant_made cells all vacant more rooms h q =
+    listed_filter (λ c. is_listed rooms c) more q
+    ∙ room_made (is_listed all q) (is_listed vacant q) (is_listed cells q) (is_listed more q) (is_listed rooms q) (h.put q) (h.made q)
+    ∙ ap (λ b. b || (is_listed cells q && not (is_listed all q && not (is_listed vacant q)))) (sym (listed_filter (λ c. is_listed vacant c) all q))
+    ∙ ap (λ b. is_listed (vacant_in all vacant) q || (is_listed cells q && not b)) (sym (listed_filter (λ c. not (is_listed vacant c)) all q))
 
--- a cell is in the list of pending ones exactly where its room says so
-pub listed_cells : (rooms : List (ℕ × Bool)) → Ascends rooms → (q : ℕ) → is_listed (cells_in rooms) q ≡ held_at false rooms q
-listed_cells rooms a q = listed_passing itself rooms a q ∙ pending_is (room_of rooms q)
+-- whether a cell is pending, as the set and those with room only tell it
+pub pending_told : (all vacant : List ℕ) (at : ℕ) (s n : Bool) → s ≡ list_any (is_at (nat_cmp at)) all → s ≡ true → n ≡ is_listed vacant at → not n ≡ is_listed (cells_in all vacant) at
+pending_told all vacant at s n e t m =
+    ap not m
+    ∙ sym (listed_filter (λ c. not (is_listed vacant c)) all at ∙ ap (λ b. b && not (is_listed vacant at)) (sym (found_listed at all) ∙ sym e ∙ t))
 
-listed_vacant : (rooms : List (ℕ × Bool)) → Ascends rooms → (q : ℕ) → is_listed (vacant_in rooms) q ≡ is_some (passing not (room_of rooms q))
-listed_vacant rooms a q = listed_passing not rooms a q
+pub none_told : (all vacant : List ℕ) (at : ℕ) (s : Bool) → s ≡ list_any (is_at (nat_cmp at)) all → s ≡ false → s ≡ is_listed (cells_in all vacant) at
+none_told all vacant at s e f =
+    f ∙ sym (listed_filter (λ c. not (is_listed vacant c)) all at ∙ ap (λ b. b && not (is_listed vacant at)) (sym (found_listed at all) ∙ sym e ∙ f))
 
-room_made : (o n : Option Bool) (m : Bool) → n ≡ option_or o (cond m (Some false) None) → is_some (passing not n) ≡ (is_some (passing not o) || (m && not (unwrap_or o false)))
-room_made None n true e = ap (λ (x : Option Bool). is_some (passing not x)) e
-room_made None n false e = ap (λ (x : Option Bool). is_some (passing not x)) e
-room_made (Some true) n true e = ap (λ (x : Option Bool). is_some (passing not x)) e
-room_made (Some true) n false e = ap (λ (x : Option Bool). is_some (passing not x)) e
-room_made (Some false) n m e = ap (λ (x : Option Bool). is_some (passing not x)) e
-
--- which cells have a vacant room once rooms were made
-pub vacant_made : (cells : List ℕ) (old new : List (ℕ × Bool)) → Ascends old → Ascends new
-    → ((c : ℕ) → room_of new c ≡ option_or (room_of old c) (new_room cells c))
-    → (q : ℕ) → is_listed (vacant_in new) q ≡ (is_listed (vacant_in old) q || (is_listed cells q && not (is_listed (cells_in old) q)))
-vacant_made cells old new a b h q =
-    listed_vacant new b q ∙ room_made (room_of old q) (room_of new q) (is_listed cells q) (h q)
-    ∙ ap (λ (x : Bool). x || (is_listed cells q && not (held_at false old q))) (sym (listed_vacant old a q))
-    ∙ ap (λ (y : Bool). is_listed (vacant_in old) q || (is_listed cells q && not y)) (sym (listed_cells old a q))
-
-room_taken : (o n : Option Bool) → (n ≡ Some false → ⊥) → is_some n ≡ is_some o → unwrap_or n false ≡ (unwrap_or o false || is_some (passing not o))
-room_taken None None h e = refl
-room_taken (Some true) None h e = cc
-room_taken (Some false) None h e = cc
-room_taken o (Some false) h e = absurd (h refl)
-room_taken None (Some true) h e = cc
-room_taken (Some true) (Some true) h e = refl
-room_taken (Some false) (Some true) h e = refl
-
--- which cells are pending once rooms were taken
-pub pending_taken : (old new : List (ℕ × Bool)) → Ascends old → Ascends new → HasNoVacancy false new
-    → ((c : ℕ) → is_some (room_of new c) ≡ is_some (room_of old c))
-    → (q : ℕ) → is_listed (cells_in new) q ≡ (is_listed (cells_in old) q || is_listed (vacant_in old) q)
-pending_taken old new a b full h q =
-    listed_cells new b q ∙ room_taken (room_of old q) (room_of new q) (full q) (h q)
-    ∙ ap (λ (x : Bool). x || is_some (passing not (room_of old q))) (sym (listed_cells old a q))
-    ∙ ap (λ (y : Bool). is_listed (cells_in old) q || y) (sym (listed_vacant old a q))
+pub none_in_order : (ks : List ℕ) → ks ≡ [] → IsStrictlySortedBy nat_cmp ks
+unfolding IsStrictlySortedBy
+none_in_order ks e = rw e tt
 
 -- ---- the pending cells rise
 
-abbrev AtLeast : ℕ → List (ℕ × Bool) → Type 0
+abbrev AtLeast : ℕ → List ℕ → Type 0
 AtLeast low [] = Unit {0}
-AtLeast low (e ∷ es) = (low ≤ e.0) × AtLeast low es
+AtLeast low (x ∷ xs) = low ≤ x
 
-above : (a : ℕ) (es : List (ℕ × Bool)) → ComeAfter a es → AtLeast (a + 1) es
+above : (a : ℕ) (xs : List ℕ) → ComeAfter a xs → AtLeast (a + 1) xs
 above a [] h = tt
-above a (e ∷ es) h = (omega (arith, h.0), above a es h.1)
+above a (x ∷ xs) h = omega (arith, h.0)
 
-from_zero : (es : List (ℕ × Bool)) → AtLeast 0 es
+from_zero : (xs : List ℕ) → AtLeast 0 xs
 from_zero [] = tt
-from_zero (e ∷ es) = (omega arith, from_zero es)
+from_zero (x ∷ xs) = omega arith
 
-rising : (low high : ℕ) (es : List (ℕ × Bool)) → Ascends es → AtLeast low es → All (λ a. a < high) (keys_of es) → Rises low high (keys_of es)
+rising : (low high : ℕ) (xs : List ℕ) → Ascend xs → AtLeast low xs → All (λ a. a < high) xs → Rises low high xs
 rising low high [] a l h = tt
-rising low high (e ∷ es) a l h =
-    (l.0, All-head (λ k. k < high) e.0 (keys_of es) h, rising (e.0 + 1) high es a.1 (above e.0 es a.0) (All-tail (λ k. k < high) e.0 (keys_of es) h))
-
-pub cells_rise : (high : ℕ) (rooms : List (ℕ × Bool)) → Ascends rooms → All (λ a. a < high) (cells_in rooms) → Rises 0 high (cells_in rooms)
-cells_rise high rooms a h = rising 0 high (filter (λ e. e.1) rooms) (Ascends-filter (λ e. e.1) rooms a) (from_zero (filter (λ e. e.1) rooms)) h
+rising low high (x ∷ xs) a l h = (l, All-head (λ k. k < high) x xs h, rising (x + 1) high xs a.1 (above x xs a.0) (All-tail (λ k. k < high) x xs h))
 
 -- after a pending cell was appended to those found
-pub listed_more : (found new : List ℕ) (k : ℕ) (b : Bool) (rest it all : List (ℕ × Bool)) → new ≡ found ++ k ∷ [] → it ≡ (k, b) ∷ rest → b ≡ true
-    → found ++ cells_in it ≡ cells_in all → new ++ cells_in rest ≡ cells_in all
-listed_more found new k b rest it all e i t h =
-    ap (λ (xs : List ℕ). xs ++ cells_in rest) e ∙ append_assoc found (k ∷ []) (cells_in rest)
-    ∙ ap (λ (xs : List ℕ). found ++ xs) (by b t ∙ sym (ap cells_in i)) ∙ h
-  where
-    by : (d : Bool) → d ≡ true → k ∷ cells_in rest ≡ cells_in ((k, d) ∷ rest)
-    by true u = refl
-    by false u = cc
+pub listed_more : (found new vacant : List ℕ) (k : ℕ) (rest it all : List ℕ) → new ≡ found ++ k ∷ [] → it ≡ k ∷ rest → is_listed vacant k ≡ false
+    → found ++ cells_in it vacant ≡ cells_in all vacant → new ++ cells_in rest vacant ≡ cells_in all vacant
+listed_more found new vacant k rest it all e i f h =
+    ap (λ (xs : List ℕ). xs ++ cells_in rest vacant) e ∙ append_assoc found (k ∷ []) (cells_in rest vacant)
+    ∙ ap (λ (xs : List ℕ). found ++ xs) (sym (ap (λ xs. cells_in xs vacant) i ∙ ap (λ b. cond (not b) (k ∷ cells_in rest vacant) (cells_in rest vacant)) f)) ∙ h
+
+-- a cell with room only is passed
+pub listed_past : (found vacant : List ℕ) (k : ℕ) (rest it all : List ℕ) → it ≡ k ∷ rest → is_listed vacant k ≡ true
+    → found ++ cells_in it vacant ≡ cells_in all vacant → found ++ cells_in rest vacant ≡ cells_in all vacant
+listed_past found vacant k rest it all i t h =
+    ap (λ (xs : List ℕ). found ++ xs) (sym (ap (λ xs. cells_in xs vacant) i ∙ ap (λ b. cond (not b) (k ∷ cells_in rest vacant) (cells_in rest vacant)) t)) ∙ h
 
 -- once all were looked at, the cells found are all
-pub listed_all : (found : List ℕ) (it all : List (ℕ × Bool)) → it ≡ [] → found ++ cells_in it ≡ cells_in all → found ≡ cells_in all
-listed_all found it all e h = sym (append-nil found) ∙ ap (λ (xs : List (ℕ × Bool)). found ++ cells_in xs) (sym e) ∙ h
+pub listed_all : (found vacant : List ℕ) (it all : List ℕ) → it ≡ [] → found ++ cells_in it vacant ≡ cells_in all vacant → found ≡ cells_in all vacant
+listed_all found vacant it all e h = sym (append-nil found) ∙ ap (λ (xs : List ℕ). found ++ cells_in xs vacant) (sym e) ∙ h
 
 -- so the list of them that is told is in order
-pub told_in_order : {V E : Type 0} (r : Result V E) (items : V → List ℕ) (rooms : List (ℕ × Bool)) → Ascends rooms
-    → IfOk r (λ v. items v ≡ cells_in rooms) → IfOk r (λ v. All (λ a. a < rows * columns) (items v)) → OnOk r (Rises 0 sheet_size (cells_in rooms))
+pub told_in_order : {V E : Type 0} (r : Result V E) (items : V → List ℕ) (all vacant : List ℕ) → IsStrictlySortedBy nat_cmp all
+    → IfOk r (λ v. items v ≡ cells_in all vacant) → IfOk r (λ v. All (λ a. a < rows * columns) (items v)) → OnOk r (Rises 0 sheet_size (cells_in all vacant))
 unfolding sheet_size
-told_in_order (Ok v) items rooms a e h = cells_rise (rows * columns) rooms a (All-same (λ k. k < rows * columns) (cells_in rooms) (items v) (sym e) h)
-told_in_order (Err x) items rooms a e h = tt
+told_in_order (Ok v) items all vacant a e h =
+    rising 0 (rows * columns) (cells_in all vacant) (ascend_filter (λ c. not (is_listed vacant c)) all (ascend all a)) (from_zero (cells_in all vacant))
+    (All-same (λ k. k < rows * columns) (cells_in all vacant) (items v) (sym e) h)
+told_in_order (Err x) items all vacant a e h = tt

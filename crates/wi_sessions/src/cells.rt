@@ -1,176 +1,118 @@
-//! Rooms for pending cells. A cell with true is pending; one with false has a vacant room, which it can take later without
-//! memory. Every cell with a vacant room is noted in a list beside the rooms, so that none is looked for among the others.
+//! Cells that are pending, and those for which there is room only. All stand in one set, and those with room only in a list
+//! beside it too: as that is emptied they are pending, with no search and no memory.
 
-ghost use Rattle.std.specs.Prelude.{◌≡◌, ◌≢◌, ◌==◌, ◌⊎◌, ◌↔◌, ◌<◌, ◌*◌, ℕ, Bool, true, false, IsTrue, All, Some, None, IfOk, OnOk, OnErr, if◌then◌else◌, [], ◌∷◌, ◌++◌, ◌||◌, ◌&&◌, not};
-ghost use Rattle.std.specs.Option.{option_or, is_some};
+ghost use Rattle.std.specs.Prelude.{◌≡◌, ◌==◌, ◌<◌, ◌*◌, ℕ, All, IfOk, OnOk, OnErr, [], ◌∷◌, ◌++◌, ◌||◌, ◌&&◌, not};
+ghost use Rattle.std.specs.Ordering.{nat_cmp};
+ghost use Rattle.std.specs.BTreeSet.{IsOrdered};
 ghost use Rattle.wi_values.specs.Address.{rows, columns};
 ghost use Rattle.wi_sessions.specs.Pictures.Laws.{is_listed};
-ghost use Rattle.wi_sessions.specs.Inner.Rooms.{room_of, held_at, RoomsAreInOrder, HasNoVacancy, VacantOnlyAt, HoldsTheSame};
-ghost use Rattle.wi_sessions.specs.Inner.Cells.{cells_in, vacant_in, new_room};
+ghost use Rattle.wi_sessions.specs.Inner.Cells.{cells_in, vacant_in};
 
 use std::alloc::{AllocError, Global};
-use std::collections::BTreeMap;
-use std::collections::btree_map::Entry;
+use std::collections::BTreeSet;
 use wi_values::Address;
 
-/// The rooms by their cells.
-pub(crate) type Rooms = BTreeMap<Address, bool>;
+/// All cells that are pending or have room only.
+pub(crate) type Cells = BTreeSet<Address>;
 
-/// Makes a vacant room for a cell that has none, and notes it.
-fn make_one(rooms: &mut Rooms, noted: &mut Vec<Address>, at: Address) -> Result<(), AllocError>
-    ensures pending { HoldsTheSame false rooms.old.entries rooms.new.entries }
-    ensures order { RoomsAreInOrder rooms.old.entries → RoomsAreInOrder rooms.new.entries }
-    ensures noted { VacantOnlyAt false noted.old.items rooms.old.entries → VacantOnlyAt false noted.new.items rooms.new.entries }
-    ensures made { OnOk result ((c : ℕ) → room_of rooms.new.entries c ≡ option_or (room_of rooms.old.entries c) (new_room (at ∷ []) c)) }
+/// Makes room for a cell that isn't in the set.
+fn make_one(all: &mut Cells, vacant: &mut Vec<Address>, at: Address) -> Result<(), AllocError>
+    ensures order { IsOrdered nat_cmp all.old → IsOrdered nat_cmp all.new }
+    ensures pending { (c : ℕ) → (is_listed all.new.keys c && not (is_listed vacant.new.items c))
+        ≡ (is_listed all.old.keys c && not (is_listed vacant.old.items c)) }
+    ensures put { OnOk result ((c : ℕ) → is_listed all.new.keys c ≡ (is_listed all.old.keys c || at == c)) }
+    ensures made { OnOk result ((c : ℕ) → is_listed vacant.new.items c
+        ≡ (is_listed vacant.old.items c || (at == c && not (is_listed all.old.keys c)))) }
 {
-    if let Entry::Vacant(room) = rooms.entry(at)? {
-        noted.push(at)?;
-        room.insert(false);
+    vacant.reserve(1)?;
+    let is_new = all.insert(at)?;
+    if !is_new {
+        return Ok(());
     }
+    vacant.push(at).unwrap();
     Ok(())
 }
 
-/// Makes a vacant room for each cell that has none, and notes them. If memory runs out, the rooms made so far stay.
+/// Makes room for each cell that isn't in the set. If memory runs out, there is room for a part of them.
 fn make_each(
-    rooms: &mut Rooms,
-    noted: &mut Vec<Address>,
+    all: &mut Cells,
+    vacant: &mut Vec<Address>,
     cells: &[Address],
 ) -> Result<(), AllocError>
-    requires order { RoomsAreInOrder rooms.old.entries }
-    requires noted { VacantOnlyAt false noted.old.items rooms.old.entries }
-    ensures pending { HoldsTheSame false rooms.old.entries rooms.new.entries }
-    ensures order { RoomsAreInOrder rooms.new.entries }
-    ensures noted { VacantOnlyAt false noted.new.items rooms.new.entries }
-    ensures made { OnOk result ((c : ℕ) → room_of rooms.new.entries c ≡ option_or (room_of rooms.old.entries c) (new_room cells.now c)) }
+    requires { IsOrdered nat_cmp all.old }
+    ensures order { IsOrdered nat_cmp all.new }
+    ensures pending { (c : ℕ) → (is_listed all.new.keys c && not (is_listed vacant.new.items c))
+        ≡ (is_listed all.old.keys c && not (is_listed vacant.old.items c)) }
+    ensures put { OnOk result ((c : ℕ) → is_listed all.new.keys c
+        ≡ (is_listed all.old.keys c || is_listed cells.now c)) }
+    ensures made { OnOk result ((c : ℕ) → is_listed vacant.new.items c
+        ≡ (is_listed vacant.old.items c || (is_listed cells.now c && not (is_listed all.old.keys c)))) }
 {
     for at in cells {
-        make_one(rooms, noted, *at)?;
+        make_one(all, vacant, *at)?;
     }
     Ok(())
 }
 
-/// Whether a cell has a vacant room.
-fn is_vacant(rooms: &Rooms, at: Address) -> bool
-    ensures { IsTrue result ↔ (room_of rooms.now.entries at ≡ Some false) }
+/// Takes cells out of the set.
+fn take_out(all: &mut Cells, cells: &[Address])
+    requires { IsOrdered nat_cmp all.old }
+    ensures order { IsOrdered nat_cmp all.new }
+    ensures left { (c : ℕ) → is_listed all.new.keys c ≡ (is_listed all.old.keys c && not (is_listed cells.now c)) }
 {
-    matches!(rooms.get(&at), Some(false))
-}
-
-/// Takes away the room of a cell if it is vacant.
-fn release_one(rooms: &mut Rooms, at: Address)
-    ensures pending { HoldsTheSame false rooms.old.entries rooms.new.entries }
-    ensures order { RoomsAreInOrder rooms.old.entries → RoomsAreInOrder rooms.new.entries }
-    ensures released { room_of rooms.new.entries at ≢ Some false }
-    ensures vacant { (c : ℕ) → room_of rooms.new.entries c ≡ Some false → room_of rooms.old.entries c ≡ Some false }
-{
-    if is_vacant(rooms, at) {
-        let _ = rooms.remove(&at);
+    for at in cells {
+        let _ = all.remove(at);
     }
 }
 
-/// Takes away the vacant rooms, which are among those noted.
-fn release_each(rooms: &mut Rooms, noted: &[Address])
-    requires order { RoomsAreInOrder rooms.old.entries }
-    requires noted { VacantOnlyAt false noted.now rooms.old.entries }
-    ensures pending { HoldsTheSame false rooms.old.entries rooms.new.entries }
-    ensures order { RoomsAreInOrder rooms.new.entries }
-    ensures full { HasNoVacancy false rooms.new.entries }
-{
-    for at in noted {
-        release_one(rooms, *at);
-    }
-}
-
-/// Lets a cell take its room, if it has one.
-fn take_one(rooms: &mut Rooms, at: Address)
-    requires order { RoomsAreInOrder rooms.old.entries }
-    ensures rooms { (c : ℕ) → is_some (room_of rooms.new.entries c) ≡ is_some (room_of rooms.old.entries c) }
-    ensures order { RoomsAreInOrder rooms.new.entries }
-    ensures taken { room_of rooms.new.entries at ≢ Some false }
-    ensures vacant { (c : ℕ) → room_of rooms.new.entries c ≡ Some false → room_of rooms.old.entries c ≡ Some false }
-{
-    if let Some(room) = rooms.get_mut(&at) {
-        *room = true;
-    }
-}
-
-/// Lets the cells that are noted take their rooms.
-fn take_each(rooms: &mut Rooms, noted: &[Address])
-    requires order { RoomsAreInOrder rooms.old.entries }
-    requires noted { VacantOnlyAt false noted.now rooms.old.entries }
-    ensures rooms { (c : ℕ) → is_some (room_of rooms.new.entries c) ≡ is_some (room_of rooms.old.entries c) }
-    ensures order { RoomsAreInOrder rooms.new.entries }
-    ensures full { HasNoVacancy false rooms.new.entries }
-{
-    for at in noted {
-        take_one(rooms, *at);
-    }
-}
-
-/// Makes a vacant room for each cell that has none. If memory runs out, the vacant rooms go, those that were there too.
+/// Makes room for each cell that isn't in the set. If memory runs out, the cells with room only go, those that were there too.
 pub(crate) fn make_room(
-    rooms: &mut Rooms,
-    noted: &mut Vec<Address>,
+    all: &mut Cells,
+    vacant: &mut Vec<Address>,
     cells: &[Address],
 ) -> Result<(), AllocError>
-    requires order { RoomsAreInOrder rooms.old.entries }
-    requires noted { VacantOnlyAt false noted.old.items rooms.old.entries }
-    ensures cells { cells_in rooms.new.entries ≡ cells_in rooms.old.entries }
-    ensures room { OnOk result ((a : ℕ) → is_listed (vacant_in rooms.new.entries) a
-        ≡ (is_listed (vacant_in rooms.old.entries) a || (is_listed cells.now a && not (is_listed (cells_in rooms.old.entries) a)))) }
-    ensures refused { OnErr result (vacant_in rooms.new.entries ≡ []) }
-    ensures order { RoomsAreInOrder rooms.new.entries }
-    ensures noted { VacantOnlyAt false noted.new.items rooms.new.entries }
+    requires { IsOrdered nat_cmp all.old }
+    ensures cells { cells_in all.new.keys vacant.new.items ≡ cells_in all.old.keys vacant.old.items }
+    ensures room { OnOk result ((a : ℕ) → is_listed (vacant_in all.new.keys vacant.new.items) a
+        ≡ (is_listed (vacant_in all.old.keys vacant.old.items) a
+        || (is_listed cells.now a && not (is_listed (cells_in all.old.keys vacant.old.items) a)))) }
+    ensures refused { OnErr result (vacant_in all.new.keys vacant.new.items ≡ []) }
+    ensures order { IsOrdered nat_cmp all.new }
 {
-    match make_each(rooms, noted, cells) {
+    match make_each(all, vacant, cells) {
         Ok(()) => Ok(()),
         Err(error) => {
-            release_each(rooms, noted);
+            give_back(all, vacant);
             Err(error)
         }
     }
 }
 
-/// Lets the cells with a vacant room take it.
-pub(crate) fn take(rooms: &mut Rooms, noted: &mut Vec<Address>)
-    requires order { RoomsAreInOrder rooms.old.entries }
-    requires noted { VacantOnlyAt false noted.old.items rooms.old.entries }
-    ensures cells { (a : ℕ) → is_listed (cells_in rooms.new.entries) a
-        ≡ (is_listed (cells_in rooms.old.entries) a || is_listed (vacant_in rooms.old.entries) a) }
-    ensures vacant { vacant_in rooms.new.entries ≡ [] }
-    ensures order { RoomsAreInOrder rooms.new.entries }
-    ensures noted { VacantOnlyAt false noted.new.items rooms.new.entries }
+/// The cells with room only go.
+pub(crate) fn give_back(all: &mut Cells, vacant: &mut Vec<Address>)
+    requires { IsOrdered nat_cmp all.old }
+    ensures cells { cells_in all.new.keys vacant.new.items ≡ cells_in all.old.keys vacant.old.items }
+    ensures vacant { vacant_in all.new.keys vacant.new.items ≡ [] }
+    ensures order { IsOrdered nat_cmp all.new }
 {
-    take_each(rooms, noted);
-    noted.clear();
+    take_out(all, vacant);
+    vacant.clear();
 }
 
-/// Takes away the vacant rooms.
-pub(crate) fn give_back(rooms: &mut Rooms, noted: &mut Vec<Address>)
-    requires order { RoomsAreInOrder rooms.old.entries }
-    requires noted { VacantOnlyAt false noted.old.items rooms.old.entries }
-    ensures cells { cells_in rooms.new.entries ≡ cells_in rooms.old.entries }
-    ensures vacant { vacant_in rooms.new.entries ≡ [] }
-    ensures order { RoomsAreInOrder rooms.new.entries }
-    ensures noted { VacantOnlyAt false noted.new.items rooms.new.entries }
+/// No cell is pending, and none has room.
+pub(crate) fn clear(all: &mut Cells, vacant: &mut Vec<Address>)
+    ensures all { all.new.keys ≡ [] }
+    ensures vacant { vacant.new.items ≡ [] }
 {
-    release_each(rooms, noted);
-    noted.clear();
+    all.clear();
+    vacant.clear();
 }
 
-/// Whether a cell has a room that is not vacant.
-fn is_taken(rooms: &Rooms, at: Address) -> bool
-    ensures { result ≡ held_at false rooms.now.entries at }
+/// Whether a cell is pending. The work grows with the cells with room only too, of which there are none but within an edit.
+pub(crate) fn has(all: &Cells, vacant: &[Address], at: Address) -> bool
+    ensures { result ≡ is_listed (cells_in all.now.keys vacant.now) at }
 {
-    matches!(rooms.get(&at), Some(true))
-}
-
-/// Whether a cell is pending.
-pub(crate) fn has(rooms: &Rooms, at: Address) -> bool
-    requires { RoomsAreInOrder rooms.now.entries }
-    ensures { result ≡ is_listed (cells_in rooms.now.entries) at }
-{
-    is_taken(rooms, at)
+    all.contains(&at) && !vacant.contains(&at)
 }
 
 /// Appends a cell, which is one of the sheet.
@@ -182,15 +124,18 @@ fn push_cell(found: &mut Vec<Address>, cell: Address) -> Result<(), AllocError>
     Ok(())
 }
 
-/// The pending cells.
-pub(crate) fn listed(alloc: Global, rooms: &Rooms) -> Result<Vec<Address>, AllocError>
-    requires { RoomsAreInOrder rooms.now.entries }
-    ensures cells { IfOk result (λ found. found.items ≡ cells_in rooms.now.entries) }
+/// The pending cells. The work is that of `has` for each.
+pub(crate) fn listed(
+    alloc: Global,
+    all: &Cells,
+    vacant: &[Address],
+) -> Result<Vec<Address>, AllocError>
+    ensures cells { IfOk result (λ found. found.items ≡ cells_in all.now.keys vacant.now) }
     ensures within { IfOk result (λ found. All (λ a. a < rows * columns) found.items) }
 {
     let mut found = Vec::new(alloc);
-    for (cell, pending) in rooms {
-        if *pending {
+    for cell in all {
+        if !vacant.contains(cell) {
             push_cell(&mut found, *cell)?;
         }
     }

@@ -4,9 +4,9 @@ ghost use Rattle.std.specs.Prelude.{◌≡◌, ◌||◌, ◌&&◌, ◌↔◌, �
 ghost use Rattle.wi_sessions.specs.Pictures.{sheet_size};
 ghost use Rattle.wi_sessions.specs.Pictures.Laws.{is_listed, Rises};
 
-use crate::cells::{Rooms, give_back, has, listed, make_room, take};
+use crate::cells::{Cells, clear, give_back, has, listed, make_room};
 use std::alloc::{AllocError, Global};
-use std::collections::BTreeMap;
+use std::collections::BTreeSet;
 use std::marker::Model;
 use wi_values::Address;
 
@@ -14,26 +14,26 @@ use wi_values::Address;
 /// it may change, and lets them take it once it is done, which takes no memory.
 #[derive(Drop)]
 pub struct Pending {
-    rooms: Rooms,
-    // Every cell with a vacant room is one of these.
-    noted: Vec<Address>,
+    all: Cells,
+    // Those for which there is room only.
+    vacant: Vec<Address>,
     alloc: Global,
 }
 
 impl Model for Pending {
     ghost use Rattle.wi_sessions.specs.Pending.{PendingCells};
-    ghost use Rattle.std.specs.Prelude.{false};
     ghost use Rattle.std.specs.Coded.{codes};
     ghost use Rattle.wi_sessions.specs.Inner.Cells.{pending_in};
-    ghost use Rattle.wi_sessions.specs.Inner.Rooms.{RoomsAreInOrder, VacantOnlyAt};
+    ghost use Rattle.std.specs.Ordering.{nat_cmp};
+    ghost use Rattle.std.specs.BTreeSet.{IsOrdered};
 
     ghost Value = { PendingCells };
 
     ghost coded = { Prim.hlevel codes };
 
-    ghost view = { λ p. pending_in p.rooms.entries };
+    ghost view = { λ p. pending_in p.all.keys p.vacant.items };
 
-    ghost invariant = { λ p. RoomsAreInOrder p.rooms.entries × VacantOnlyAt false p.noted.items p.rooms.entries };
+    ghost invariant = { λ p. IsOrdered nat_cmp p.all };
 }
 
 impl Pending {
@@ -43,8 +43,8 @@ impl Pending {
         ensures vacant { result.vacant ≡ [] }
     {
         Pending {
-            rooms: BTreeMap::new(alloc),
-            noted: Vec::new(alloc),
+            all: BTreeSet::new(alloc),
+            vacant: Vec::new(alloc),
             alloc,
         }
     }
@@ -57,15 +57,15 @@ impl Pending {
             ≡ (is_listed self.old.vacant a || (is_listed cells.now a && not (is_listed self.old.cells a)))) }
         ensures refused { OnErr result (self.new.vacant ≡ []) }
     {
-        make_room(&mut self.rooms, &mut self.noted, cells)
+        make_room(&mut self.all, &mut self.vacant, cells)
     }
 
-    /// The cells for which there is room are pending now. Takes no memory. The work is that of `make_room` for them.
+    /// The cells for which there is room are pending now. Takes no memory, and no search.
     pub fn take(&mut self)
         ensures cells { (a : ℕ) → is_listed self.new.cells a ≡ (is_listed self.old.cells a || is_listed self.old.vacant a) }
         ensures vacant { self.new.vacant ≡ [] }
     {
-        take(&mut self.rooms, &mut self.noted);
+        self.vacant.clear();
     }
 
     /// The vacant rooms go. Takes no memory. The work is that of `make_room` for them.
@@ -73,7 +73,7 @@ impl Pending {
         ensures cells { self.new.cells ≡ self.old.cells }
         ensures vacant { self.new.vacant ≡ [] }
     {
-        give_back(&mut self.rooms, &mut self.noted);
+        give_back(&mut self.all, &mut self.vacant);
     }
 
     /// No cell is pending any more, and the vacant rooms go. Takes no memory.
@@ -81,15 +81,14 @@ impl Pending {
         ensures cells { self.new.cells ≡ [] }
         ensures vacant { self.new.vacant ≡ [] }
     {
-        self.rooms.clear();
-        self.noted.clear();
+        clear(&mut self.all, &mut self.vacant);
     }
 
     /// Whether a cell is pending. The work grows with the logarithm of the count of pending cells.
     pub fn contains(&self, at: Address) -> bool
         ensures { result ≡ is_listed self.now.cells at }
     {
-        has(&self.rooms, at)
+        has(&self.all, &self.vacant, at)
     }
 
     /// The pending cells, in row-major order.
@@ -97,6 +96,6 @@ impl Pending {
         ensures list { IfOk result (λ found. found.items ≡ self.now.cells) }
         ensures order { OnOk result (Rises 0 sheet_size self.now.cells) }
     {
-        listed(self.alloc, &self.rooms)
+        listed(self.alloc, &self.all, &self.vacant)
     }
 }

@@ -1,10 +1,12 @@
-use Rattle.wi_sessions.proofs.RoomLemmas.{Ascends-from_order}
-use Rattle.wi_sessions.proofs.CellLemmas.{same_cells, none_vacant}
+use Rattle.std.proofs.Common.{◌∙◌, ◌&&◌, ℕ, List, ap, not}
+use Rattle.wi_sessions.specs.Pictures.Laws.{is_listed}
+use Rattle.wi_sessions.proofs.CellLemmas.{none_vacant, same_once_taken}
 use Rattle.wi_sessions.proofs.cells.give_back.Goals as goal
 
 pub returns-clause-cells : goal.returns-clause-cells
 returns-clause-cells c =
-    same_cells c.args.rooms.now.entries c.release_each.new.rooms.entries (Ascends-from_order _ c.requires.order) (Ascends-from_order _ c.release_each.ensures.order) c.release_each.ensures.pending
+    same_once_taken c.args.all.now.keys c.args.vacant.now.items c.take_out.new.all.keys c.clear.new.self.items c.requires c.take_out.ensures.order c.clear.ensures.items
+    (λ q. c.take_out.ensures.left q ∙ ap (λ (xs : List ℕ). is_listed c.args.all.now.keys q && not (is_listed xs q)) c.deref.ensures.value)
 
 pub returns-clause-vacant : goal.returns-clause-vacant
-returns-clause-vacant c = none_vacant c.release_each.new.rooms.entries (Ascends-from_order _ c.release_each.ensures.order) c.release_each.ensures.full
+returns-clause-vacant c = none_vacant c.take_out.new.all.keys c.clear.new.self.items c.clear.ensures.items

@@ -7,6 +7,6 @@ use Rattle.wi_sessions.proofs.cells.listed.Given as goal
 -- what was found, with what is still to come, is all
 abbrev pub invariant-loop-cell : goal.invariant-loop-cell
 invariant-loop-cell l = record {
-  cells : l.found.items ++ cells_in l.cell-iterator ≡ cells_in l.rooms.entries;
+  cells : l.found.items ++ cells_in l.cell-iterator l.vacant ≡ cells_in l.all.keys l.vacant;
   within : All (λ a. a < rows * columns) l.found.items;
 }

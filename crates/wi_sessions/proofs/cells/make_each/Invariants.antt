@@ -1,13 +1,12 @@
-use Rattle.std.proofs.Common.{◌≡◌, ℕ, false, drop}
-use Rattle.std.specs.Option.{option_or}
-use Rattle.wi_sessions.specs.Inner.Rooms.{room_of, RoomsAreInOrder, VacantOnlyAt, HoldsTheSame}
-use Rattle.wi_sessions.specs.Inner.Cells.{new_room}
+use Rattle.std.proofs.Common.{take}
+use Rattle.std.specs.Ordering.{nat_cmp}
+use Rattle.std.specs.BTreeSet.{IsOrdered}
+use Rattle.wi_sessions.specs.Pictures.Laws.{is_listed}
+use Rattle.wi_sessions.proofs.CellLemmas.{HasMade}
 use Rattle.wi_sessions.proofs.cells.make_each.Given as goal
 
 abbrev pub invariant-loop-at : goal.invariant-loop-at
 invariant-loop-at l = record {
-  pending : HoldsTheSame false l.initial.rooms.entries l.rooms.entries;
-  order : RoomsAreInOrder l.rooms.entries;
-  noted : VacantOnlyAt false l.noted.items l.rooms.entries;
-  made : (c : ℕ) → option_or (room_of l.rooms.entries c) (new_room (drop l.at-index l.cells) c) ≡ option_or (room_of l.initial.rooms.entries c) (new_room l.cells c);
+  order : IsOrdered nat_cmp l.all;
+  made : HasMade (is_listed (take l.at-index l.cells)) l.initial.all.keys l.initial.vacant.items l.all.keys l.vacant.items;
 }

@@ -1,47 +1,47 @@
-use Rattle.std.proofs.Common.{rules, ◌≡◌, ℕ, Bool, false, List, Option, None, sym, ap, subst, ◌∙◌, arith}
-use Rattle.std.specs.Prelude.{unwrap_or, OnErr}
-use Rattle.std.specs.BTreeMap.Entry.{map_with_value}
-use Rattle.wi_sessions.specs.Inner.Rooms.{room_of, held_at, RoomsAreInOrder}
-use Rattle.wi_sessions.proofs.RoomLemmas.{held_made}
-use Rattle.wi_sessions.proofs.CellLemmas.{made_one, noted_made}
+use Rattle.std.proofs.Common.{◌≡◌, ◌∙◌, ◌==◌, ◌&&◌, ◌++◌, ◌∷◌, [], ℕ, true, false, List, not, ap, arith, rules}
+use Rattle.std.proofs.lemmas.Grind.{common_steps}
+use Rattle.wi_sessions.specs.Pictures.Laws.{is_listed}
+use Rattle.wi_sessions.proofs.CellLemmas.{none_made, one_made, one_more_listed, pending_stay, put_in, was_there, wasnt_there}
 use Rattle.wi_sessions.proofs.cells.make_one.Goals as goal
 
-pub returns-in_ok-push-clause-pending : goal.returns-in_ok-push-clause-pending
-returns-in_ok-push-clause-pending c =
-    let old = c.args.rooms.now.entries in
-    let w = c.insert.result.now in
-    let vacant : w ≡ false = search rules in
-    let none : room_of old c.args.at ≡ None = rw c.in-Vacant.is at c.in_ok-room.ensures.found in
-    λ q. grind (arith, held_made false c.args.at q w old (map_with_value c.in_ok-room.field-0 w).entries ((c.in_ok-room.ensures.update.0 w).0 q) (vacant ∙ sym (ap (λ (o : Option Bool). unwrap_or o false) none)))
+pub unwrap-requires : goal.unwrap-requires
+unwrap-requires c = c.push.ensures.succeeds (grind (arith, common_steps))
 
-pub returns-in_ok-push-clause-noted : goal.returns-in_ok-push-clause-noted
-returns-in_ok-push-clause-noted c =
-    let w = c.insert.result.now in
-    noted_made c.args.noted.now.items c.push.new.self.items c.args.at w c.args.rooms.now.entries _ c.in_ok-push.ensures.items
-    (λ q. grind (arith, (c.in_ok-room.ensures.update.0 w).0 q))
+pub returns-in_err-reserve-clause-pending : goal.returns-in_err-reserve-clause-pending
+returns-in_err-reserve-clause-pending c = λ q. ap (λ (xs : List ℕ). is_listed c.args.all.now.keys q && not (is_listed xs q)) c.reserve.ensures.items
 
-pub returns-in_ok-push-clause-made : goal.returns-in_ok-push-clause-made
-returns-in_ok-push-clause-made c =
-    let old = c.args.rooms.now.entries in
-    let w = c.insert.result.now in
-    let vacant : w ≡ false = search rules in
-    let none : room_of old c.args.at ≡ None = rw c.in-Vacant.is at c.in_ok-room.ensures.found in
-    λ q. grind (arith, made_one c.args.at w old (map_with_value c.in_ok-room.field-0 w).entries vacant none (λ r. (c.in_ok-room.ensures.update.0 w).0 r) q)
+pub returns-in_err-is_new-clause-pending : goal.returns-in_err-is_new-clause-pending
+returns-in_err-is_new-clause-pending c =
+    λ q. ap (λ (xs : List ℕ). is_listed c.insert.new.self.keys q && not (is_listed xs q)) c.reserve.ensures.items
+    ∙ ap (λ (xs : List ℕ). is_listed xs q && not (is_listed c.args.vacant.now.items q)) c.in_err-is_new.ensures.err
 
-pub returns-in_err-room-clause-pending : goal.returns-in_err-room-clause-pending
-returns-in_err-room-clause-pending c =
-    let same : c.entry.follows.lender-at-none.entries ≡ c.args.rooms.now.entries =
-    subst (λ r. OnErr r (c.entry.follows.lender-at-none.entries ≡ c.args.rooms.now.entries)) c.in_err-room.was c.entry.follows.holds-at-none in
-    λ q. ap (λ (es : List (ℕ × Bool)). held_at false es q) same
+pub returns-then-not-is_new-clause-pending : goal.returns-then-not-is_new-clause-pending
+returns-then-not-is_new-clause-pending c =
+    λ q. ap (λ (xs : List ℕ). is_listed c.insert.new.self.keys q && not (is_listed xs q)) c.reserve.ensures.items
+    ∙ ap (λ (xs : List ℕ). is_listed xs q && not (is_listed c.args.vacant.now.items q)) (search rules)
 
-pub returns-in_err-room-clause-order : goal.returns-in_err-room-clause-order
-returns-in_err-room-clause-order c =
-    let same : c.entry.follows.lender-at-none.entries ≡ c.args.rooms.now.entries =
-    subst (λ r. OnErr r (c.entry.follows.lender-at-none.entries ≡ c.args.rooms.now.entries)) c.in_err-room.was c.entry.follows.holds-at-none in
-    subst (λ (es : List (ℕ × Bool)). RoomsAreInOrder es) (sym same)
+pub returns-then-not-is_new-clause-put : goal.returns-then-not-is_new-clause-put
+returns-then-not-is_new-clause-put c = λ q. put_in c.args.at q c.args.all.now.keys c.insert.new.self.keys (c.in_ok-is_new.ensures.updates.0 q)
 
-pub returns-in_err-room-clause-noted : goal.returns-in_err-room-clause-noted
-returns-in_err-room-clause-noted c =
-    let same : c.entry.follows.lender-at-none.entries ≡ c.args.rooms.now.entries =
-    subst (λ r. OnErr r (c.entry.follows.lender-at-none.entries ≡ c.args.rooms.now.entries)) c.in_err-room.was c.entry.follows.holds-at-none in
-    λ h q v. h q (ap (λ (es : List (ℕ × Bool)). room_of es q) (sym same) ∙ v)
+pub returns-then-not-is_new-clause-made : goal.returns-then-not-is_new-clause-made
+returns-then-not-is_new-clause-made c =
+    let there : is_listed c.args.all.now.keys c.args.at ≡ true = was_there c.args.at c.args.all.now.keys c.in_ok-is_new.is_new c.in_ok-is_new.ensures.added (search rules) in
+    λ q. ap (λ (xs : List ℕ). is_listed xs q) c.reserve.ensures.items ∙ none_made c.args.at q (is_listed c.args.all.now.keys) (is_listed c.args.vacant.now.items q) there
+
+pub returns-clause-pending : goal.returns-clause-pending
+returns-clause-pending c =
+    let apart : is_listed c.args.all.now.keys c.args.at ≡ false = wasnt_there c.args.at c.args.all.now.keys c.in_ok-is_new.is_new c.in_ok-is_new.ensures.added (search rules) in
+    let pushed : c.push.new.self.items ≡ c.args.vacant.now.items ++ c.args.at ∷ [] = grind (arith, common_steps) in
+    pending_stay (λ q. c.args.at == q) c.args.all.now.keys c.args.vacant.now.items c.insert.new.self.keys c.push.new.self.items (record {
+      put = λ q. put_in c.args.at q c.args.all.now.keys c.insert.new.self.keys (c.in_ok-is_new.ensures.updates.0 q);
+      made = λ q. one_more_listed c.args.vacant.now.items c.push.new.self.items c.args.at q pushed ∙ one_made c.args.at q (is_listed c.args.all.now.keys) (is_listed c.args.vacant.now.items q) apart;
+    })
+
+pub returns-clause-put : goal.returns-clause-put
+returns-clause-put c = λ q. put_in c.args.at q c.args.all.now.keys c.insert.new.self.keys (c.in_ok-is_new.ensures.updates.0 q)
+
+pub returns-clause-made : goal.returns-clause-made
+returns-clause-made c =
+    let apart : is_listed c.args.all.now.keys c.args.at ≡ false = wasnt_there c.args.at c.args.all.now.keys c.in_ok-is_new.is_new c.in_ok-is_new.ensures.added (search rules) in
+    let pushed : c.push.new.self.items ≡ c.args.vacant.now.items ++ c.args.at ∷ [] = grind (arith, common_steps) in
+    λ q. one_more_listed c.args.vacant.now.items c.push.new.self.items c.args.at q pushed ∙ one_made c.args.at q (is_listed c.args.all.now.keys) (is_listed c.args.vacant.now.items q) apart
