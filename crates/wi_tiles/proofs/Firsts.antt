@@ -1,5 +1,5 @@
 -- The first bit of a word from one on.
-use Rattle.std.proofs.Common.{◌≡◌, ℕ, ◌+◌, ◌-◌, ◌/◌, ◌%◌, ◌^◌, ◌<◌, ◌≤◌, List, [], ◌∷◌, length, None, sym, ap, arith, ◌∙◌, ⊎_elim, get_or, zero, suc, subst, refl}
+use Rattle.std.proofs.Common.{◌≡◌, ℕ, ◌+◌, ◌-◌, ◌/◌, ◌%◌, ◌^◌, ◌<◌, ◌≤◌, List, [], ◌∷◌, length, None, sym, ap, arith, ◌∙◌, get_or, zero, suc, subst, refl}
 use Rattle.std.specs.Prelude.{slice_get, count_ones, IsSome}
 use Rattle.std.specs.Int.{bit_at, w64, trailing_zeros}
 use Rattle.std.proofs.lemmas.Nat.{shr-shr, shr_le}

@@ -11,4 +11,5 @@ pub mod Ranks
 pub mod Replaced
 pub mod Sorts
 pub mod Tiles
+pub mod WalkLemmas
 pub mod Windows

@@ -6,3 +6,4 @@ pub mod Next
 pub mod Parts
 pub mod Sorted
 pub mod Tile
+pub mod Within

@@ -1,6 +1,6 @@
 //! A map by cell address.
 
-ghost use Rattle.std.specs.Prelude.{◌≡◌, ◌↔◌, ℕ, [], nat_le, filter, length, is_some, not, IsTrue, IfOk, OnOk, OnErr, option_copied, if◌then◌else◌};
+ghost use Rattle.std.specs.Prelude.{◌≡◌, ◌↔◌, ◌&&◌, ℕ, [], nat_le, filter, length, is_some, not, IsTrue, IfOk, OnOk, OnErr, option_copied, if◌then◌else◌};
 ghost use Rattle.std.specs.Ordering.{nat_cmp};
 ghost use Rattle.std.specs.List.{find};
 ghost use Rattle.std.specs.Map.{keys_of, remove_entry, set_value};
@@ -11,6 +11,7 @@ ghost use Rattle.wi_values.specs.Address.{is_within};
 use crate::pages::{Pages, next_cell, path_of};
 use crate::places::Places;
 use crate::window::Window;
+use crate::within::Within;
 use std::alloc::{AllocError, Global};
 use std::marker::Model;
 use wi_values::{Address, Rect};
@@ -124,5 +125,13 @@ impl<V: Drop> CellMap<V> {
         ensures { result ≡ find (λ a. nat_le from a) (filter (is_within area) (keys_of self.now.entries)) }
     {
         next_cell(&self.pages, area, from)
+    }
+
+    /// What the cells of a rectangle have, with the cells, in row-major order, at a cell or after it. Takes no memory. The work
+    /// is that of its steps.
+    pub fn within(&self, area: Rect, from: Address) -> Within<'_, V>
+        ensures { result ≡ filter (λ e. nat_le from e.0 && is_within area e.0) self.now.entries }
+    {
+        Within::new(&self.pages, area, from)
     }
 }

@@ -8,5 +8,7 @@ mod places;
 mod sorted;
 mod tile;
 mod window;
+mod within;
 
 pub use cell_map::CellMap;
+pub use within::Within;

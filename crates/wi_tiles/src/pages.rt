@@ -4,9 +4,10 @@ ghost use Rattle.std.specs.Prelude.{◌≡◌, ◌<◌, ◌≤◌, ◌+◌, ◌*
 ghost use Rattle.wi_values.specs.Address.{rows, columns, place};
 ghost use Rattle.wi_tiles.specs.Inner.Cells.{path_of, at_cell, is_ahead};
 ghost use Rattle.wi_tiles.specs.Inner.Next.{band_at, HasNothing, IsNext, IsStart};
+ghost use Rattle.wi_tiles.specs.Inner.Within.{tile_at};
 
 use crate::line::first_in_line;
-use crate::sorted::Sorted;
+use crate::sorted::{Sorted, part_of};
 use crate::tile::Tile;
 use crate::window::Window;
 use wi_values::{Address, Rect};
@@ -34,6 +35,16 @@ fn band_of<V>(pages: &Pages<V>, row: u32) -> Option<&Sorted<Tile<V>>>
 {
     match pages.part((row / 4_096) as usize) {
         Some(page) => page.part((row / 16 % 256) as usize),
+        None => None,
+    }
+}
+
+/// The tile of a cell.
+pub fn tile_of<V>(pages: &Pages<V>, cell: Address) -> Option<&Tile<V>>
+    ensures { option_copied result ≡ tile_at pages.now cell }
+{
+    match band_of(pages, cell.row()) {
+        Some(band) => part_of(band.parts(), cell.column() / 4),
         None => None,
     }
 }

@@ -165,7 +165,7 @@ pub fn place_from<T>(parts: &[(u32, T)], group: u32) -> usize
 }
 
 /// The part with a key.
-fn part_of<T>(parts: &[(u32, T)], group: u32) -> Option<&T>
+pub fn part_of<T>(parts: &[(u32, T)], group: u32) -> Option<&T>
     requires { Rises parts.now }
     ensures { option_copied result ≡ find group parts.now }
 {

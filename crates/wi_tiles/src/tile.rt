@@ -45,7 +45,7 @@ impl<V> Tile<V> {
     }
 
     /// What a bit has.
-    fn value(&self, bit: u32) -> Option<&V>
+    pub fn value(&self, bit: u32) -> Option<&V>
         requires { bit < 64 }
         ensures { option_copied result ≡ slice_index_or self.now bit None }
     {

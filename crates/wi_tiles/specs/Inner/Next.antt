@@ -1,5 +1,5 @@
 -- The first cell of a rectangle that has something.
-use Rattle.std.specs.Prelude.{◌≡◌, ℕ, ◌+◌, ◌/◌, ◌%◌, ◌<◌, ◌≤◌, true, Option, Some, None, IsSome}
+use Rattle.std.specs.Prelude.{◌≡◌, ℕ, ◌/◌, ◌%◌, ◌<◌, ◌≤◌, true, Option, Some, None, IsSome}
 use Rattle.wi_values.specs.Address.{Area, place, row_of, column_of}
 use Rattle.wi_tiles.specs.Inner.Cells.{Pages, Page, Band, at_cell, is_ahead}
 use Rattle.wi_tiles.specs.Inner.Lines.{cell}

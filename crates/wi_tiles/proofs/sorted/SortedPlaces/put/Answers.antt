@@ -1,4 +1,4 @@
-use Rattle.std.proofs.Common.{rules, ap, ◌∙◌, sym, Some, ◌≡◌, ◌<◌, ◌%◌, ◌/◌, length, cond}
+use Rattle.std.proofs.Common.{rules, ap, ◌∙◌, sym, Some, ◌≡◌, ◌<◌, ◌≤◌, ◌%◌, ◌/◌, ℕ, length, cond, subst}
 use Rattle.std.specs.Prelude.{slice_index_or, ◌==◌}
 use Rattle.wi_tiles.specs.Inner.Parts.{at_part}
 use Rattle.wi_tiles.specs.Inner.Sorted.{at_sorted, groups, key}
@@ -32,3 +32,15 @@ returns-in-Ok-clause-err g c =
     let there : (c.in-Ok.place < length c.self.inside.parts.items) × (key c.self.inside.parts.items c.in-Ok.place ≡ c.args.path % groups) = search rules in
     let stays : c.index_mut.result.now.0 ≡ c.args.path % groups = sym (key_read c.self.inside.parts.items c.in-Ok.place c.index_mut.result.now there.0 read) ∙ there.1 in
     on_err c.put.result (λ kept p. sorted_kept g.T.Places.at c.self.inside.parts.items (c.args.path % groups) c.in-Ok.place c.index_mut.result.now (c.index_mut.result.now.0, c.put.new.self) c.self.invariant there.0 there.1 read stays kept p ∙ ap (λ s. at_sorted g.T.Places.at s p) c.self.view_is) c.put.ensures.err
+
+pub put_part-requires-clause-below : goal.put_part-requires-clause-below
+put_part-requires-clause-below g c = subst (λ xs. (i : ℕ) → i < c.in-Err.place → key xs i < c.args.path % groups) c.deref.ensures.value c.in-Err.ensures.none.2
+
+pub put_part-requires-clause-above : goal.put_part-requires-clause-above
+put_part-requires-clause-above g c = subst (λ xs. (i : ℕ) → c.in-Err.place ≤ i → i < length xs → c.args.path % groups < key xs i) c.deref.ensures.value c.in-Err.ensures.none.3
+
+pub returns-in-Err-clause-ok : goal.returns-in-Err-clause-ok
+returns-in-Err-clause-ok g c = on_ok c.put_part.result (λ changed p. changed p ∙ ap (λ o. cond (p == c.args.path) (Some c.args.value) o) (ap (λ s. at_sorted g.T.Places.at s p) c.self.view_is)) c.put_part.ensures.ok
+
+pub returns-in-Err-clause-err : goal.returns-in-Err-clause-err
+returns-in-Err-clause-err g c = on_err c.put_part.result (λ kept p. kept p ∙ ap (λ s. at_sorted g.T.Places.at s p) c.self.view_is) c.put_part.ensures.err

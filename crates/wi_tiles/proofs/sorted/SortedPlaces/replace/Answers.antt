@@ -1,4 +1,4 @@
-use Rattle.std.proofs.Common.{rules, ap, ◌∙◌, sym, None, ◌≡◌, ◌<◌, ◌%◌, ◌/◌, length, cond}
+use Rattle.std.proofs.Common.{rules, ap, ◌∙◌, sym, ◌≡◌, ◌<◌, ◌%◌, ◌/◌, length, cond}
 use Rattle.std.specs.Prelude.{slice_index_or, ◌==◌, option_map}
 use Rattle.wi_tiles.specs.Inner.Parts.{at_part}
 use Rattle.wi_tiles.specs.Inner.Sorted.{at_sorted, groups, key}

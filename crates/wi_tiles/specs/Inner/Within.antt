@@ -1,0 +1,82 @@
+-- Where a walk through a rectangle stands.
+use Rattle.std.specs.Prelude.{◌≡◌, ℕ, ◌+◌, ◌*◌, ◌/◌, ◌%◌, ◌<◌, ◌≤◌, Bool, true, false, ◌&&◌, ◌||◌, ◌==◌, nat_le, nat_lt, if◌then◌else◌, List, Option, Some, None, IfSome, IfNone}
+use Rattle.std.specs.Borrow.{Bor}
+use Rattle.wi_values.specs.Address.{Area, place, row_of, column_of, is_within}
+use Rattle.wi_tiles.specs.Inner.Cells.{Pages, Band}
+use Rattle.wi_tiles.specs.Inner.Lines.{slot}
+use Rattle.wi_tiles.specs.Inner.Next.{band_at}
+use Rattle.wi_tiles.specs.Inner.Sorted.{find}
+
+-- a value that is lent, with its cell
+abbrev pub entry : {V : Type 0} → ℕ × Bor V → ℕ × V
+entry x = (x.0, x.1.now)
+
+-- the bit of a cell in its tile
+abbrev pub bit_of : ℕ → ℕ
+bit_of c = row_of c % 16 * 4 + column_of c % 4
+
+-- the cell of a bit of the tile in which a cell stands
+abbrev pub cell_in : ℕ → ℕ → ℕ
+cell_in corner b = place (row_of corner / 16 * 16 + b / 4) (column_of corner / 4 * 4 + b % 4)
+
+-- the tile of a cell
+abbrev pub in_band_tile : {V : Type 0} → Option (Band V) → ℕ → Option (List (Option V))
+in_band_tile None g = None
+in_band_tile (Some ts) g = find g ts
+
+abbrev pub tile_at : {V : Type 0} → Pages V → ℕ → Option (List (Option V))
+tile_at w c = in_band_tile (band_at w (row_of c)) (column_of c / 4)
+
+-- the cell comes at a cell or after it; none does where there is no such cell
+abbrev pub is_from : Option ℕ → ℕ → Bool
+is_from None c = false
+is_from (Some a) c = nat_le a c
+
+-- it stands in the tile of a cell
+abbrev pub in_tile : ℕ → ℕ → Bool
+in_tile corner c = row_of c / 16 == row_of corner / 16 && column_of c / 4 == column_of corner / 4
+
+-- and there among the bits from one up to another
+abbrev pub is_left : ℕ → ℕ → ℕ → ℕ → Bool
+is_left corner bit end c = in_tile corner c && (nat_le bit (bit_of c) && nat_lt (bit_of c) end)
+
+-- it lies in the rectangle, among what is left of the tile or behind it
+abbrev pub is_pending : Area → Option ℕ → ℕ → ℕ → ℕ → ℕ → Bool
+is_pending r ahead corner bit end c = (is_left corner bit end c || is_from ahead c) && is_within r c
+
+-- b is the first of its bits, from one up to another, that has something and whose cell lies in the rectangle
+abbrev pub IsNextLeft : {V : Type 0} → Area → List (Option V) → ℕ → ℕ → ℕ → ℕ → V → Type 0
+IsNextLeft r t corner bit end b v = (bit ≤ b) × (b < end) × (is_within r (cell_in corner b) ≡ true) × (slot t b ≡ Some v)
+    × ((i : ℕ) → bit ≤ i → i < b → is_within r (cell_in corner i) ≡ true → slot t i ≡ None)
+
+abbrev pub HasNoneLeft : {V : Type 0} → Area → List (Option V) → ℕ → ℕ → ℕ → Type 0
+HasNoneLeft r t corner bit end = (i : ℕ) → bit ≤ i → i < end → is_within r (cell_in corner i) ≡ true → slot t i ≡ None
+
+-- what is left of the tile comes before what comes behind it
+pub record IsWalk {V : Type 0} (w : Pages V) (r : Area) (ahead : Option ℕ) (tile : Option (Bor (List (Option V)))) (corner bit end : ℕ) : Type 0 where
+  pub stands : IfSome tile (λ t. tile_at w corner ≡ Some t.now)
+  pub nothing : IfNone tile (end ≤ bit)
+  pub within : end ≤ 64
+  pub sheet : corner < 17179869184
+  pub order : (b c : ℕ) → is_left corner bit end b ≡ true → is_within r b ≡ true → is_from ahead c ≡ true → is_within r c ≡ true → b < c
+
+-- whether the rectangle lies in one column of tiles
+abbrev pub is_narrow : Area → Bool
+is_narrow r = column_of r.first / 4 == column_of r.last / 4
+
+-- up to which bit the walk stays in the tile of a cell: through all of it, or to the end of the cell's row
+abbrev pub end_in : Area → ℕ → ℕ
+end_in r a = if is_narrow r then 64 else row_of a % 16 * 4 + 4
+
+-- where it goes on behind that
+abbrev pub ahead_narrow : Area → ℕ → Option ℕ
+ahead_narrow r a = if nat_lt (row_of r.last) (row_of a / 16 * 16 + 16) then None else Some (place (row_of a / 16 * 16 + 16) (column_of r.first))
+
+abbrev pub ahead_below : Area → ℕ → Option ℕ
+ahead_below r a = if nat_lt (row_of a) (row_of r.last) then Some (place (row_of a + 1) (column_of r.first)) else None
+
+abbrev pub ahead_wide : Area → ℕ → Option ℕ
+ahead_wide r a = if nat_le (column_of a / 4 * 4 + 4) (column_of r.last) then Some (place (row_of a) (column_of a / 4 * 4 + 4)) else ahead_below r a
+
+abbrev pub ahead_in : Area → ℕ → Option ℕ
+ahead_in r a = if is_narrow r then ahead_narrow r a else ahead_wide r a
