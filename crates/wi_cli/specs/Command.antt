@@ -3,8 +3,7 @@ use Rattle.std.specs.Prelude.{ℕ, Bool, true, false, List, [], ◌∷◌, Optio
 use Rattle.wi_cli.specs.Operands.{Cell, Corners, Operand, WORD, ADDR, RECT, NAME, SESSION, SIDE, ANY, LINES, CONTENT}
 use Rattle.wi_cli.specs.Lines.{Bytes}
 
--- What a line asks for, whatever its operands are worth. `Csv` has the number of data lines asked for and those that came. No
--- name is the base.
+-- What a line asks for, whatever its operands are worth. `Csv` has the number of data lines asked for and those that came.
 pub data Command : Type 0 where
   Set : Bool → Cell → Bytes → Command
   Clear : Bool → Corners → Command

@@ -22,7 +22,8 @@ abbrev pub replacements : (ℕ → Value) → List (ℕ × ℕ) → List Replace
 replacements cells pairs = map (λ p. record { at = p.0; value = cells p.1 }) pairs
 
 -- A what-if's value, where `value` gives that of each cell of a sheet: its formula cell's, in the sheet with
--- each input replaced by the value of its replacement cell. Of two pairs for one input the second stands.
+-- each input replaced by the value that its replacement cell has in the sheet as it stands. The first pair's is
+-- put in first, so that of two for one input the second stands.
 abbrev pub what_if_in : (Sheet → ℕ → Value) → Sheet → ℕ → List (ℕ × ℕ) → Value
 what_if_in value s f pairs = value (put_all s (replacements (value s) pairs)) f
 
@@ -41,7 +42,8 @@ value_within (suc k) s c =
 unfoldable pub cell_value : Sheet → ℕ → Value
 cell_value s c = value_within (length (cells_with_formula s)) s c
 
--- A what-if's value, asked for only where nothing that it reads is circular: by itself it would let a replacement cut a cycle.
+-- A what-if's value, which is only asked for where nothing that it reads is circular in the sheet as it stands:
+-- by itself it would let a replacement cut a cycle.
 abbrev pub what_if_value : Sheet → ℕ → List (ℕ × ℕ) → Value
 what_if_value = what_if_in cell_value
 

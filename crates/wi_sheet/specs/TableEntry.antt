@@ -15,7 +15,9 @@ use Rattle.wi_sheet.specs.Demand.{Case, case_of, what_if_case, demand, different
 abbrev pub asks_circular : Sheet → ℕ → List (ℕ × ℕ) → Bool
 asks_circular s f pairs = circular s f || list_any (λ x. circular s x.1) pairs
 
--- What an entry shows under replacements. It is valued as a formula in a cell of its own that nothing reads, so Empty becomes 0.
+-- What an entry shows under replacements: Circular where its formula cell or a replacement cell is circular in the sheet as
+-- it stands; else the what-if's value in the sheet with the replacements put in. It is valued as a formula in a cell of its
+-- own that nothing reads, so Empty becomes 0.
 unfoldable pub table_entry : Sheet → List Replacement → ℕ → List (ℕ × ℕ) → Value
 table_entry s p f pairs =
     if asks_circular s f pairs then Fault Circular else zero_for_empty (what_if_value (put_all s p) f pairs)
