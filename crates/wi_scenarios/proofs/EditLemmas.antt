@@ -1,5 +1,5 @@
 -- What an edit is answered, and what is pending after it.
-use Rattle.std.proofs.Common.{◌≡◌, ◌==◌, ◌<◌, ◌≤◌, ◌+◌, ◌-◌, ℕ, zero, suc, Bool, true, false, not, ◌&&◌, ◌||◌, ◌⊎◌, inl, inr, List, [], ◌∷◌, ◌++◌, length, map, take, ◌≢◌, ⊎_elim, Option, Some, None, Result, Ok, Err, refl, sym, ap, ◌∙◌, subst, arith}
+use Rattle.std.proofs.Common.{◌≡◌, ◌==◌, ◌<◌, ◌≤◌, ◌+◌, ◌-◌, ℕ, zero, suc, Bool, true, false, not, ◌&&◌, ◌||◌, ◌⊎◌, inl, inr, List, [], ◌∷◌, ◌++◌, length, map, take, get_or, ◌≢◌, ⊎_elim, Option, Some, None, Result, Ok, Err, refl, sym, ap, ◌∙◌, subst, arith}
 use Rattle.std.specs.List.{slice_index_or}
 use Rattle.std.specs.Prelude.{MatchResult, IfOk}
 use Rattle.std.specs.Result.{IsErrAnd}
@@ -163,6 +163,12 @@ is_none b n e h = grind (arith, nat_tests)
 
 pub is_one : (b : Bool) (n : ℕ) → b ≡ (n == 0) → b ≡ false → 0 < n
 is_one b n e h = grind (arith, nat_tests)
+
+-- the address of the one cell
+pub one_address : (contents : List (ℕ × Option Content)) (change : ℕ × Option Content) → length contents ≡ 1 → change ≡ get_or contents 0 change → change.0 ∷ [] ≡ keys_of contents
+one_address [] change l e = absurd (omega (arith, l))
+one_address (x ∷ []) change l e = ap (λ (y : ℕ × Option Content). y.0 ∷ []) e
+one_address (x ∷ y ∷ xs) change l e = absurd (omega (arith, l))
 
 pub marked_as : (marked : Sheet → List ℕ → ℕ → Bool) (sheet : Sheet) (contents changes : List (ℕ × Option Content)) (found cells : List ℕ) → changes ≡ contents → cells ≡ found → AreMarked marked sheet changes found → AreMarked marked sheet contents cells
 marked_as marked sheet contents changes found cells c f h =

@@ -129,6 +129,9 @@ fn marked_by<C: Calculator>(
     if contents.is_empty() {
         return Ok(Vec::new(alloc));
     }
+    if contents.len() == 1 {
+        return calculator.mark(&[contents[0].0]);
+    }
     let cells = addresses(alloc, contents)?;
     calculator.mark(&cells)
 }
