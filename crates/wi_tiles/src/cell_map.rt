@@ -63,7 +63,8 @@ impl<V: Drop> CellMap<V> {
         self.occupied == 0
     }
 
-    /// What a cell has. The work is the same however many cells have something, but for a search among the tiles of 16 rows.
+    /// What a cell has. Beside two steps by index the work is a search among the tiles of its 16 rows, at most 12 halvings,
+    /// however many cells have something.
     pub fn get(&self, cell: Address) -> Option<&V>
         ensures { option_copied result ≡ get nat_cmp self.now cell }
     {
@@ -71,7 +72,8 @@ impl<V: Drop> CellMap<V> {
     }
 
     /// Puts a value into a cell that has nothing, and answers whether it had nothing. If memory runs out, all is as before. The
-    /// work is that of `get`, and of moving up to 63 values.
+    /// work is that of `get`, and of moving up to 63 values; where a tile is made, of moving the tiles behind it in its 16 rows,
+    /// and the bands of its page, 255 at most, once for each band that is made before them.
     pub fn put_new(&mut self, cell: Address, value: V) -> Result<bool, AllocError>
         ensures new { IfOk result (λ new. new ≡ not (is_some (get nat_cmp self.old cell))) }
         ensures entries { OnOk result (self.new.entries ≡ (if is_some (get nat_cmp self.old cell)
@@ -96,8 +98,8 @@ impl<V: Drop> CellMap<V> {
         self.pages.replace(path_of(cell), value)
     }
 
-    /// Takes away what a cell has, and gives that. Takes no memory, and a tile that has nothing then goes. The work is that of
-    /// `get`, and of moving up to 63 values.
+    /// Takes away what a cell has, and gives that. Takes no memory, and what keeps nothing then goes. The work is that of
+    /// `get`, and of moving up to 63 values; where a tile goes, of moving the tiles behind it in its 16 rows.
     pub fn remove(&mut self, cell: Address) -> Option<V>
         ensures stood { result ≡ get nat_cmp self.old cell }
         ensures entries { self.new.entries ≡ remove_entry (is_at (nat_cmp cell)) self.old.entries }
@@ -120,7 +122,8 @@ impl<V: Drop> CellMap<V> {
     }
 
     /// The first cell of a rectangle, in row-major order, at a cell or after it, that has something. One search among the tiles
-    /// of 16 rows for each row up to it; 16 rows where nothing stands are passed at once.
+    /// of 16 rows for each row up to it, and a step for each of these tiles in the rectangle that has nothing in the row; 16 or
+    /// 4,096 rows for which nothing is kept are passed at once.
     pub fn next_in(&self, area: Rect, from: Address) -> Option<Address>
         ensures { result ≡ find (λ a. nat_le from a) (filter (is_within area) (keys_of self.now.entries)) }
     {

@@ -8,13 +8,21 @@ use crate::sorted::place_from;
 use crate::tile::Tile;
 
 /// The first column of a line from one up to another that has something.
-pub fn first_in_line<V>(parts: &[(u32, Tile<V>)], line: u32, from: u32, end: u32) -> Option<u32>
+pub(crate) fn first_in_line<V>(
+    parts: &[(u32, Tile<V>)],
+    line: u32,
+    from: u32,
+    end: u32,
+) -> Option<u32>
     requires rises { Rises parts.now }
     requires line { line < 16 }
     requires order { from < end }
     requires within { end ≤ 16384 }
-    ensures some { IfSome result (λ c. (from ≤ c) × (c < end) × IsSome (cell parts.now line c) × ((i : ℕ) → from ≤ i → i < c → cell parts.now line i ≡ None)) }
-    ensures none { IfNone result ((i : ℕ) → from ≤ i → i < end → cell parts.now line i ≡ None) }
+    ensures some { IfSome result (λ c. (from ≤ c) × (c < end)
+        × IsSome (cell parts.now line c)
+        × ((i : ℕ) → from ≤ i → i < c → cell parts.now line i ≡ None)) }
+    ensures none { IfNone result
+        ((i : ℕ) → from ≤ i → i < end → cell parts.now line i ≡ None) }
 {
     let last = (end - 1) / 4;
     let mut place = place_from(parts, from / 4);

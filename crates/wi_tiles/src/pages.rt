@@ -13,10 +13,10 @@ use crate::window::Window;
 use wi_values::{Address, Rect};
 
 /// Tiles of 16 rows by 4 columns, in order of their columns in a band of 16 rows; 256 bands are a page.
-pub type Pages<V> = Window<Window<Sorted<Tile<V>>>>;
+pub(crate) type Pages<V> = Window<Window<Sorted<Tile<V>>>>;
 
 /// The digits of a cell: its page, its band, its group of columns, and its place in a tile.
-pub fn path_of(cell: Address) -> u64
+pub(crate) fn path_of(cell: Address) -> u64
     ensures value { result ≡ path_of cell }
     ensures within { result < 256 * (256 * (4096 * 64)) }
     ensures cell { cell < 17179869184 }
@@ -40,7 +40,7 @@ fn band_of<V>(pages: &Pages<V>, row: u32) -> Option<&Sorted<Tile<V>>>
 }
 
 /// The tile of a cell.
-pub fn tile_of<V>(pages: &Pages<V>, cell: Address) -> Option<&Tile<V>>
+pub(crate) fn tile_of<V>(pages: &Pages<V>, cell: Address) -> Option<&Tile<V>>
     ensures { option_copied result ≡ tile_at pages.now cell }
 {
     match band_of(pages, cell.row()) {
@@ -68,7 +68,8 @@ fn first_in_row<V>(pages: &Pages<V>, row: u32, from: u32, end: u32) -> Result<Ad
     requires row { row < rows }
     requires order { from < end }
     requires within { end ≤ columns }
-    ensures found { IfOk result (λ a. IsSome (at_cell pages.now a) × (place row from ≤ a) × (a < place row end)
+    ensures found { IfOk result (λ a. IsSome (at_cell pages.now a)
+        × (place row from ≤ a) × (a < place row end)
         × HasNothing pages.now (place row from) a) }
     ensures none { IfErr result (λ next. (row < next) × (next ≤ rows)
         × HasNothing pages.now (place row from) (place row end)
@@ -100,10 +101,11 @@ fn start(area: Rect, from: Address) -> (u32, u32)
 
 /// The first cell of a rectangle, at a cell or after it, that has something. One search among the tiles of a band for each row
 /// up to it; 16 rows without a band are passed at once, and so are 4,096 without a page.
-pub fn next_cell<V>(pages: &Pages<V>, area: Rect, from: Address) -> Option<Address>
+pub(crate) fn next_cell<V>(pages: &Pages<V>, area: Rect, from: Address) -> Option<Address>
     ensures some { IfSome result (λ a. IsNext pages.now area from a) }
     ensures sheet { IfSome result (λ a. a < 17179869184) }
-    ensures none { IfNone result ((b : ℕ) → is_ahead area from b ≡ true → at_cell pages.now b ≡ None) }
+    ensures none { IfNone result
+        ((b : ℕ) → is_ahead area from b ≡ true → at_cell pages.now b ≡ None) }
 {
     let left = area.first().column();
     let end = area.last().column() + 1;

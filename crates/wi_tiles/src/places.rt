@@ -5,7 +5,7 @@ ghost use Rattle.std.specs.Prelude.{◌≡◌, ◌<◌, ◌==◌, ℕ, Option, S
 use std::alloc::{AllocError, Global};
 
 /// Something at some of so many places.
-pub trait Places<V> {
+pub(crate) trait Places<V> {
     /// How many places there are.
     ghost size: { ℕ };
 
@@ -29,7 +29,8 @@ pub trait Places<V> {
     fn put(&mut self, place: u64, value: V, alloc: Global) -> Result<(), AllocError>
         requires within { place < size }
         requires vacant { at self.old place ≡ None }
-        ensures ok { OnOk result ((p : ℕ) → at self.new p ≡ (if p == place then Some value else at self.old p)) }
+        ensures ok { OnOk result ((p : ℕ) → at self.new p
+            ≡ (if p == place then Some value else at self.old p)) }
         ensures err { OnErr result ((p : ℕ) → at self.new p ≡ at self.old p) };
 
     /// Puts a value in the place of what stands, and gives that; where nothing stands it does nothing. Takes no memory.
@@ -37,11 +38,13 @@ pub trait Places<V> {
         requires { place < size }
         ensures value { result ≡ at self.old place }
         ensures put { (p : ℕ) → at self.new p
-            ≡ (if p == place then option_map (λ _. value) (at self.old place) else at self.old p) };
+            ≡ (if p == place then option_map (λ _. value) (at self.old place)
+            else at self.old p) };
 
     /// Takes away what a place has. Takes no memory.
     fn remove(&mut self, place: u64, alloc: Global) -> Option<V>
         requires { place < size }
         ensures value { result ≡ at self.old place }
-        ensures left { (p : ℕ) → at self.new p ≡ (if p == place then None else at self.old p) };
+        ensures left { (p : ℕ) → at self.new p
+            ≡ (if p == place then None else at self.old p) };
 }

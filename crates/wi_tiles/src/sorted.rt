@@ -12,7 +12,7 @@ const GROUPS: u64 = 4_096;
 
 /// Parts in order of their keys, found by the first digit of a path.
 #[derive(Drop)]
-pub struct Sorted<T> {
+pub(crate) struct Sorted<T> {
     parts: Vec<(u32, T)>,
 }
 
@@ -29,7 +29,7 @@ impl<T> Model for Sorted<T> {
 
 impl<T> Sorted<T> {
     /// The parts with their keys, in order.
-    pub fn parts(&self) -> &[(u32, T)]
+    pub(crate) fn parts(&self) -> &[(u32, T)]
         ensures parts { result.now ≡ self.now }
         ensures rises { Rises result.now }
     {
@@ -101,11 +101,13 @@ fn put_part<V: Drop, T: Places<V> + Drop>(
     requires within { path < groups * T.size }
     requires bound { place ≤ length parts.old.items }
     requires below { (i : ℕ) → i < place → key parts.old.items i < path % groups }
-    requires above { (i : ℕ) → place ≤ i → i < length parts.old.items → path % groups < key parts.old.items i }
+    requires above { (i : ℕ) → place ≤ i → i < length parts.old.items
+        → path % groups < key parts.old.items i }
     ensures rises { Rises parts.new.items }
     ensures ok { OnOk result ((p : ℕ) → at_sorted T.at parts.new.items p
         ≡ (if p == path then Some value else at_sorted T.at parts.old.items p)) }
-    ensures err { OnErr result ((p : ℕ) → at_sorted T.at parts.new.items p ≡ at_sorted T.at parts.old.items p) }
+    ensures err { OnErr result ((p : ℕ) → at_sorted T.at parts.new.items p
+        ≡ at_sorted T.at parts.old.items p) }
 {
     let mut part = T::vacant(alloc);
     part.put(path / GROUPS, value, alloc)?;
@@ -118,7 +120,8 @@ fn drop_vacant<V, T: Places<V> + Drop>(parts: &mut Vec<(u32, T)>, place: usize)
     requires rises { Rises parts.old.items }
     requires within { place < length parts.old.items }
     ensures rises { Rises parts.new.items }
-    ensures kept { (p : ℕ) → at_sorted T.at parts.new.items p ≡ at_sorted T.at parts.old.items p }
+    ensures kept { (p : ℕ) → at_sorted T.at parts.new.items p
+        ≡ at_sorted T.at parts.old.items p }
 {
     if parts[place].1.is_vacant() {
         let _ = parts.remove(place);
@@ -145,7 +148,7 @@ fn place_of<T>(parts: &[(u32, T)], group: u32) -> Result<usize, usize>
 }
 
 /// The place of the first part with a key or a later one.
-pub fn place_from<T>(parts: &[(u32, T)], group: u32) -> usize
+pub(crate) fn place_from<T>(parts: &[(u32, T)], group: u32) -> usize
     requires { Rises parts.now }
     ensures bound { result ≤ length parts.now }
     ensures below { (i : ℕ) → i < result → key parts.now i < group }
@@ -165,7 +168,7 @@ pub fn place_from<T>(parts: &[(u32, T)], group: u32) -> usize
 }
 
 /// The part with a key.
-pub fn part_of<T>(parts: &[(u32, T)], group: u32) -> Option<&T>
+pub(crate) fn part_of<T>(parts: &[(u32, T)], group: u32) -> Option<&T>
     requires { Rises parts.now }
     ensures { option_copied result ≡ find group parts.now }
 {

@@ -10,7 +10,7 @@ use std::mem;
 
 /// The cells of a tile that have something, by bits, and what they have. It is seen as 64 places.
 #[derive(Drop)]
-pub struct Tile<V> {
+pub(crate) struct Tile<V> {
     bits: u64,
     values: Vec<V>,
 }
@@ -45,7 +45,7 @@ impl<V> Tile<V> {
     }
 
     /// What a bit has.
-    pub fn value(&self, bit: u32) -> Option<&V>
+    pub(crate) fn value(&self, bit: u32) -> Option<&V>
         requires { bit < 64 }
         ensures { option_copied result ≡ slice_index_or self.now bit None }
     {
@@ -57,12 +57,14 @@ impl<V> Tile<V> {
     }
 
     /// The first bit from one up to another that has something.
-    pub fn first(&self, from: u32, end: u32) -> Option<u32>
+    pub(crate) fn first(&self, from: u32, end: u32) -> Option<u32>
         requires from { from < 64 }
         requires end { end ≤ 64 }
-        ensures some { IfSome result (λ b. (from ≤ b) × (b < end) × IsSome (slice_index_or self.now b None)
+        ensures some { IfSome result (λ b. (from ≤ b) × (b < end)
+            × IsSome (slice_index_or self.now b None)
             × ((i : ℕ) → from ≤ i → i < b → slice_index_or self.now i None ≡ None)) }
-        ensures none { IfNone result ((i : ℕ) → from ≤ i → i < end → slice_index_or self.now i None ≡ None) }
+        ensures none { IfNone result
+            ((i : ℕ) → from ≤ i → i < end → slice_index_or self.now i None ≡ None) }
     {
         let part = self.bits >> from;
         if part == 0 {
@@ -111,7 +113,8 @@ impl<V: Drop> Tile<V> {
         requires { bit < 64 }
         ensures value { result ≡ slice_index_or self.old bit None }
         ensures put { (i : ℕ) → slice_index_or self.new i None
-            ≡ (if i == bit then option_map (λ _. value) (slice_index_or self.old bit None) else slice_index_or self.old i None) }
+            ≡ (if i == bit then option_map (λ _. value) (slice_index_or self.old bit None)
+            else slice_index_or self.old i None) }
     {
         if (self.bits >> bit) & 1 == 0 {
             return None;

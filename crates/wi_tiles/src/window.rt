@@ -13,7 +13,7 @@ const SPAN: u64 = 256;
 /// Parts found by the first digit of a path. There are none before the first, and none behind the last, so that a lone part
 /// costs the same wherever it stands.
 #[derive(Drop)]
-pub struct Window<T> {
+pub(crate) struct Window<T> {
     first: usize,
     parts: Vec<T>,
 }
@@ -28,7 +28,7 @@ impl<T> Model for Window<T> {
 
 impl<T> Window<T> {
     /// The part at an index.
-    pub fn part(&self, index: usize) -> Option<&T>
+    pub(crate) fn part(&self, index: usize) -> Option<&T>
         ensures { option_copied result ≡ part_from self.now index }
     {
         match place_in(self.first, &self.parts, index) {
@@ -114,7 +114,8 @@ fn reach_down<V, T: Places<V> + Drop>(
     alloc: Global,
 ) -> Result<(), AllocError>
     ensures reached { OnOk result (first.new ≤ index) }
-    ensures kept { (p : ℕ) → at_window T.at (first.new, parts.new.items) p ≡ at_window T.at (first.old, parts.old.items) p }
+    ensures kept { (p : ℕ) → at_window T.at (first.new, parts.new.items) p
+        ≡ at_window T.at (first.old, parts.old.items) p }
 {
     if parts.is_empty() {
         *first = index;
@@ -136,7 +137,8 @@ fn reach_up<V, T: Places<V> + Drop>(
 ) -> Result<(), AllocError>
     requires { place < span }
     ensures within { OnOk result (place < length parts.new.items) }
-    ensures kept { (p : ℕ) → at_window T.at (first, parts.new.items) p ≡ at_window T.at (first, parts.old.items) p }
+    ensures kept { (p : ℕ) → at_window T.at (first, parts.new.items) p
+        ≡ at_window T.at (first, parts.old.items) p }
 {
     'up: while parts.len() <= place {
         push_vacant(first, parts, alloc)?;
@@ -151,7 +153,8 @@ fn push_vacant<V, T: Places<V> + Drop>(
     alloc: Global,
 ) -> Result<(), AllocError>
     ensures longer { OnOk result (length parts.new.items ≡ length parts.old.items + 1) }
-    ensures kept { (p : ℕ) → at_window T.at (first, parts.new.items) p ≡ at_window T.at (first, parts.old.items) p }
+    ensures kept { (p : ℕ) → at_window T.at (first, parts.new.items) p
+        ≡ at_window T.at (first, parts.old.items) p }
 {
     parts.push(T::vacant(alloc))?;
     Ok(())
@@ -165,7 +168,8 @@ fn drop_vacant<V, T: Places<V> + Drop>(
     alloc: Global,
 )
     requires { place < length parts.old.items }
-    ensures { (p : ℕ) → at_window T.at (first, parts.new.items) p ≡ at_window T.at (first, parts.old.items) p }
+    ensures { (p : ℕ) → at_window T.at (first, parts.new.items) p
+        ≡ at_window T.at (first, parts.old.items) p }
 {
     if parts[place].is_vacant() {
         parts[place] = T::vacant(alloc);
@@ -175,7 +179,8 @@ fn drop_vacant<V, T: Places<V> + Drop>(
 
 /// Takes away the parts at the end that have nothing.
 fn trim<V, T: Places<V> + Drop>(first: usize, parts: &mut Vec<T>)
-    ensures { (p : ℕ) → at_window T.at (first, parts.new.items) p ≡ at_window T.at (first, parts.old.items) p }
+    ensures { (p : ℕ) → at_window T.at (first, parts.new.items) p
+        ≡ at_window T.at (first, parts.old.items) p }
 {
     'end: while ends_vacant(parts) {
         let _ = parts.pop();
@@ -185,7 +190,8 @@ fn trim<V, T: Places<V> + Drop>(first: usize, parts: &mut Vec<T>)
 /// Whether the last part has nothing.
 fn ends_vacant<V, T: Places<V>>(parts: &[T]) -> bool
     ensures some { IsTrue result → 0 < length parts.now }
-    ensures vacant { IsTrue result → (xs : List T) (x : T) → parts.now ≡ xs ++ x ∷ [] → (p : ℕ) → T.at x p ≡ None }
+    ensures vacant { IsTrue result → (xs : List T) (x : T) → parts.now ≡ xs ++ x ∷ []
+        → (p : ℕ) → T.at x p ≡ None }
 {
     let len = parts.len();
     if len == 0 {

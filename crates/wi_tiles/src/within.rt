@@ -104,7 +104,8 @@ fn left_of<'a, V>(
     end: u32,
 ) -> Option<(u32, &'a V)>
     requires { end ≤ 64 }
-    ensures some { IfSome result (λ x. MatchOption tile.entry ⊥ (λ t. IsNextLeft area t.now corner bit end x.0 x.1.now)) }
+    ensures some { IfSome result (λ x. MatchOption tile.entry ⊥
+        (λ t. IsNextLeft area t.now corner bit end x.0 x.1.now)) }
     ensures none { IfNone result (IfSome tile.entry (λ t. HasNoneLeft area t.now corner bit end)) }
 {
     match tile {
@@ -149,10 +150,12 @@ fn found_from<'a, V>(
     area: Rect,
     from: Address,
 ) -> Option<(Address, &'a Tile<V>, &'a V)>
-    ensures some { IfSome result (λ x. IsNext pages.now area from x.0 × (tile_at pages.now x.0 ≡ Some x.1.now)
+    ensures some { IfSome result (λ x. IsNext pages.now area from x.0
+        × (tile_at pages.now x.0 ≡ Some x.1.now)
         × (at_cell pages.now x.0 ≡ Some x.2.now)) }
     ensures sheet { IfSome result (λ x. x.0 < 17179869184) }
-    ensures none { IfNone result ((c : ℕ) → is_ahead area from c ≡ true → at_cell pages.now c ≡ None) }
+    ensures none { IfNone result
+        ((c : ℕ) → is_ahead area from c ≡ true → at_cell pages.now c ≡ None) }
 {
     match next_cell(pages, area, from) {
         Some(cell) => match tile_of(pages, cell) {
