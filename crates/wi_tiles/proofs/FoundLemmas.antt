@@ -1,17 +1,17 @@
 -- The first cell of a rectangle in one column of tiles.
-use Rattle.std.proofs.Common.{◌≡◌, ℕ, ◌+◌, ◌*◌, ◌/◌, ◌%◌, ◌<◌, ◌≤◌, List, Option, Some, None, sym, ap, arith, ◌∙◌, ⊎_elim, refl, cond, subst, true}
-use Rattle.std.specs.Prelude.{◌==◌, nat_le, IsSome, IfSome, IfNone}
+use Rattle.std.proofs.Common.{◌≡◌, ℕ, ◌+◌, ◌*◌, ◌/◌, ◌%◌, ◌<◌, ◌≤◌, List, [], ◌∷◌, length, Option, Some, None, sym, ap, arith, ◌∙◌, ⊎_elim, refl, cond, subst, Bool, true, false}
+use Rattle.std.specs.Prelude.{◌==◌, nat_le, IsSome, IfSome, IfNone, MatchOption}
 use Rattle.std.specs.Borrow.{Bor}
 use Rattle.std.specs.Int.{bit_at}
 use Rattle.std.proofs.lemmas.Bool.{cases_lt, and_parts, and_from, le-leb}
 use borrow.Author.Tests.{eqb-true, eq-eqb}
 use Rattle.wi_values.specs.Address.{Area, rows, columns, place, row_of, column_of, is_within}
 use Rattle.wi_tiles.specs.Inner.Cells.{Pages, Band, at_cell, is_ahead}
-use Rattle.wi_tiles.specs.Inner.Lines.{slot}
+use Rattle.wi_tiles.specs.Inner.Lines.{cell, slot}
 use Rattle.wi_tiles.specs.Inner.Next.{band_at, in_band, IsNext}
 use Rattle.wi_tiles.specs.Inner.Parts.{at_part}
-use Rattle.wi_tiles.specs.Inner.Sorted.{find as find_part}
-use Rattle.wi_tiles.specs.Inner.Within.{bit_of, cell_in, in_band_tile, tile_at, is_narrow, end_narrow, end_in, IsMask, IsNextLeft, HasNoneLeft}
+use Rattle.wi_tiles.specs.Inner.Sorted.{key, find as find_part}
+use Rattle.wi_tiles.specs.Inner.Within.{bit_of, cell_in, in_band_tile, tile_at, is_narrow, end_narrow, IsAlone, IsMask, IsNextLeft, HasNoneLeft}
 use Rattle.wi_tiles.proofs.NextLemmas.{row_cell, sides, is_inside, Reached}
 use Rattle.wi_tiles.proofs.WalkLemmas.{of_bit, tile_cell, same_band, in_sheet, left_from, nothing_left, bits_rise, sides_of, cell_again, end_reaches, end_bound, in_columns, mask_made}
 
@@ -76,27 +76,24 @@ module _ {V : Type 0} (w : Pages V) (r : Area) (row column : ℕ) (narrow : is_n
   one_column : column_of r.first / 4 ≡ column_of r.last / 4
   one_column = eqb-true _ _ narrow
 
-  end_is : end_in r here ≡ end_narrow r here
-  end_is = ap (λ t. cond t (end_narrow r here) (row_of here % 16 * 4 + 4)) narrow
-
-  pub end_below : end_in r here ≤ 64
-  end_below = omega (arith, end_is, end_bound r here)
+  pub end_below : end_narrow r here ≤ 64
+  end_below = end_bound r here
 
   -- its cells there stand in the tile
-  in_tile : (c : ℕ) → is_ahead r here c ≡ true → row_of c < row / 16 * 16 + 16 → (here ≤ c) × (is_within r c ≡ true) × (row_of c / 16 ≡ row_of here / 16) × (column_of c / 4 ≡ column_of here / 4) × (bit_of here ≤ bit_of c) × (bit_of c < end_in r here)
+  in_tile : (c : ℕ) → is_ahead r here c ≡ true → row_of c < row / 16 * 16 + 16 → (here ≤ c) × (is_within r c ≡ true) × (row_of c / 16 ≡ row_of here / 16) × (column_of c / 4 ≡ column_of here / 4) × (bit_of here ≤ bit_of c) × (bit_of c < end_narrow r here)
   in_tile c h u =
       let s = sides r here c h in
       let w = (and_parts (nat_le here c) _ h).1 in
       let after : here ≤ c = s.0 in
       let band : row_of c / 16 ≡ row_of here / 16 = omega (arith, here_row, after, u) in
       let group : column_of c / 4 ≡ column_of here / 4 = omega (arith, here_column, s.3, s.4, left, right, one_column) in
-      (after, w, band, group, omega (arith, after, band, group), omega (arith, end_is, end_reaches r here c s.2 band))
+      (after, w, band, group, omega (arith, after, band, group), end_reaches r here c s.2 band)
 
-  pub band_found : (t : List (Option V)) (b : ℕ) (v : V) → tile_at w here ≡ Some t → IsNextLeft r t here (bit_of here) (end_in r here) b v
+  pub band_found : (t : List (Option V)) (b : ℕ) (v : V) → tile_at w here ≡ Some t → IsNextLeft r t here (bit_of here) (end_narrow r here) b v
       → IsNext w r here (cell_in here b) × (tile_at w (cell_in here b) ≡ Some t) × (at_cell w (cell_in here b) ≡ Some v) × (cell_in here b < 17179869184)
   band_found t b v is found =
       let from : bit_of here ≤ b = found.0 in
-      let high : b < end_in r here = found.1 in
+      let high : b < end_narrow r here = found.1 in
       let b64 : b < 64 = omega (arith, high, end_below) in
       let at = of_bit here b b64 in
       let sheet : cell_in here b < 17179869184 = in_sheet here b here_sheet b64 in
@@ -119,30 +116,30 @@ module _ {V : Type 0} (w : Pages V) (r : Area) (row column : ℕ) (narrow : is_n
       tile_same : (b : ℕ) → row_of (cell_in here b) / 16 ≡ row_of here / 16 → column_of (cell_in here b) / 4 ≡ column_of here / 4 → tile_at w (cell_in here b) ≡ tile_at w here
       tile_same b i j = ap (λ o. in_band_tile o (column_of (cell_in here b) / 4)) (same_band w (cell_in here b) here i) ∙ ap (λ k. in_band_tile (band_at w (row_of here)) k) j
 
-  pub band_none : (t : List (Option V)) → tile_at w here ≡ Some t → HasNoneLeft r t here (bit_of here) (end_in r here) → (c : ℕ) → is_ahead r here c ≡ true → row_of c < row / 16 * 16 + 16 → at_cell w c ≡ None
+  pub band_none : (t : List (Option V)) → tile_at w here ≡ Some t → HasNoneLeft r t here (bit_of here) (end_narrow r here) → (c : ℕ) → is_ahead r here c ≡ true → row_of c < row / 16 * 16 + 16 → at_cell w c ≡ None
   band_none t is none c h u =
       let p = in_tile c h u in
-      nothing_left w r here (bit_of here) (end_in r here) t is end_below none c (cell_below c (omega (arith, u, in_rows))) (left_from here (bit_of here) (end_in r here) c p.2 p.3 p.4 p.5) p.1
+      nothing_left w r here (bit_of here) (end_narrow r here) t is end_below none c (cell_below c (omega (arith, u, in_rows))) (left_from here (bit_of here) (end_narrow r here) c p.2 p.3 p.4 p.5) p.1
 
   -- the same, by what the calls give
   abbrev pub IsFound : ℕ → List (Option V) → V → Type 0
   IsFound a t v = IsNext w r here a × (tile_at w a ≡ Some t) × (at_cell w a ≡ Some v) × (a < 17179869184)
 
-  module _ (h b e : ℕ) (is : h ≡ here) (bit : b ≡ bit_of h) (end : e ≡ end_in r h) where
+  module _ (h b e : ℕ) (is : h ≡ here) (bit : b ≡ bit_of h) (end : e ≡ end_narrow r h) where
     pub end_at : e ≤ 64
-    end_at = omega (arith, end ∙ ap (λ q. end_in r q) is, end_below)
+    end_at = omega (arith, end ∙ ap (λ q. end_narrow r q) is, end_below)
 
     pub mask_at : (mask : ℕ) → ((i : ℕ) → i < 64 → (bit_at mask i == 1) ≡ in_columns r h i) → IsMask r h mask b e
-    mask_at mask columns = subst (λ q. IsMask r h mask b q) (sym end) (subst (λ q. IsMask r h mask q (end_in r h)) (sym bit) (mask_made r h mask (subst (λ q. is_within r q ≡ true) (sym is) here_within) columns))
+    mask_at mask columns = subst (λ q. IsMask r h mask b q) (sym end) (subst (λ q. IsMask r h mask q (end_narrow r h)) (sym bit) (mask_made r h true mask (subst (λ q. is_within r q ≡ true) (sym is) here_within) columns))
 
     pub found_at : (t : List (Option V)) (x : ℕ) (v : V) (a : ℕ) → tile_at w here ≡ Some t → a ≡ cell_in h x → IsNextLeft r t h b e x v → IsFound a t v
     found_at t x v a stands at found =
         subst (λ q. IsFound q t v) (sym (at ∙ ap (λ q. cell_in q x) is)) (band_found t x v stands
-        (subst (λ q. IsNextLeft r t q (bit_of q) (end_in r q) x v) is (subst (λ q. IsNextLeft r t h q (end_in r h) x v) bit (subst (λ q. IsNextLeft r t h b q x v) end found))))
+        (subst (λ q. IsNextLeft r t q (bit_of q) (end_narrow r q) x v) is (subst (λ q. IsNextLeft r t h q (end_narrow r h) x v) bit (subst (λ q. IsNextLeft r t h b q x v) end found))))
 
     pub none_at : (t : List (Option V)) → tile_at w here ≡ Some t → HasNoneLeft r t h b e → (c : ℕ) → is_ahead r here c ≡ true → row_of c < row / 16 * 16 + 16 → at_cell w c ≡ None
     none_at t stands none = band_none t stands
-        (subst (λ q. HasNoneLeft r t q (bit_of q) (end_in r q)) is (subst (λ q. HasNoneLeft r t h q (end_in r h)) bit (subst (λ q. HasNoneLeft r t h b q) end none)))
+        (subst (λ q. HasNoneLeft r t q (bit_of q) (end_narrow r q)) is (subst (λ q. HasNoneLeft r t h q (end_narrow r h)) bit (subst (λ q. HasNoneLeft r t h b q) end none)))
 
   pub band_bare : tile_at w here ≡ None → (c : ℕ) → is_ahead r here c ≡ true → row_of c < row / 16 * 16 + 16 → at_cell w c ≡ None
   band_bare none c h u =
@@ -184,3 +181,32 @@ reached_at w r from row column a reached next =
           (λ q. next.first b (is_inside r (place row column) b q t.1 t.2 t.3 t.4) l)
           (cases_lt b (place row column));
     }
+
+-- a rectangle in one column of tiles, and a band of one tile
+pub narrow_alone : {V : Type 0} (w : Pages V) (r : Area) (a : ℕ) → is_narrow r ≡ true → is_within r a ≡ true → IsAlone w r a
+narrow_alone w r a narrow within c h m same some =
+    let s = sides_of r c m in
+    let t = sides_of r a within in
+    let one : column_of r.first / 4 ≡ column_of r.last / 4 = eqb-true _ _ narrow in
+    omega (arith, s.2, s.3, t.2, t.3, one)
+
+nothing_some : (V : Type 0) → IsSome {T = V} None → ⊥
+nothing_some V e = grind arith
+
+one_key : {V : Type 0} (ts : Band V) (line k : ℕ) → length ts ≡ 1 → IsSome (cell ts line k) → k / 4 ≡ key ts 0
+one_key [] line k h some = absurd (omega (arith, h))
+one_key {V} (t ∷ []) line k h some = by (t.0 == k / 4) refl
+  where
+    by : (b : Bool) → (t.0 == k / 4) ≡ b → k / 4 ≡ t.0
+    by true e = sym (eqb-true t.0 (k / 4) e)
+    by false e = absurd (nothing_some V (subst (λ q. IsSome (at_part slot (cond q (Some t.1) None) (4 * line + k % 4))) e some))
+one_key (t ∷ u ∷ ts) line k h some = absurd (omega (arith, h))
+
+pub tile_alone : {V : Type 0} (w : Pages V) (r : Area) (a : ℕ) → a < 17179869184 → IsSome (at_cell w a) → MatchOption (band_at w (row_of a)) ⊥ (λ ts. length ts ≡ 1) → IsAlone w r a
+tile_alone {V} w r a sheet there one c h m same some =
+    by (band_at w (row_of a)) one (subst (λ o. IsSome o) (row_cell w a sheet) there)
+    (subst (λ o. IsSome (in_band o (row_of c % 16) (column_of c))) (same_band w c a same) (subst (λ o. IsSome o) (row_cell w c h) some))
+  where
+    by : (o : Option (Band V)) → MatchOption o ⊥ (λ ts. length ts ≡ 1) → IsSome (in_band o (row_of a % 16) (column_of a)) → IsSome (in_band o (row_of c % 16) (column_of c)) → column_of c / 4 ≡ column_of a / 4
+    by None e i j = absurd e
+    by (Some ts) e i j = one_key ts (row_of c % 16) (column_of c) e j ∙ sym (one_key ts (row_of a % 16) (column_of a) e i)

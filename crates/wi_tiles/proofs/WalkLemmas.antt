@@ -13,7 +13,7 @@ use Rattle.wi_tiles.specs.Inner.Lines.{slot}
 use Rattle.wi_tiles.specs.Inner.Next.{in_page, band_at, in_band, IsNext}
 use Rattle.wi_tiles.specs.Inner.Parts.{at_part, part_from}
 use Rattle.wi_tiles.specs.Inner.Sorted.{find as find_part}
-use Rattle.wi_tiles.specs.Inner.Within.{bit_of, cell_in, in_band_tile, tile_at, is_from, in_tile, is_left, is_pending, IsWalk, IsMask, IsNextLeft, HasNoneLeft, is_narrow, end_narrow, end_in, ahead_narrow, ahead_wide, ahead_in}
+use Rattle.wi_tiles.specs.Inner.Within.{bit_of, cell_in, in_band_tile, tile_at, is_from, in_tile, is_left, is_pending, IsWalk, IsMask, IsNextLeft, HasNoneLeft, IsAlone, end_narrow, end_in, ahead_narrow, ahead_wide, ahead_in}
 use Rattle.wi_tiles.proofs.MapLemmas.{below, above}
 use Rattle.wi_tiles.proofs.NextLemmas.{row_cell, sides, is_inside}
 
@@ -250,6 +250,9 @@ Sides r c = (row_of r.first ≤ row_of c) × (row_of c ≤ row_of r.last) × (co
 pub sides_of : (r : Area) (c : ℕ) → is_within r c ≡ true → (row_of r.first ≤ row_of c) × (row_of c ≤ row_of r.last) × (column_of r.first ≤ column_of c) × (column_of c ≤ column_of r.last)
 sides_of r c h = let s = sides r c c (and_from _ _ (le-leb c c (omega arith)) h) in (s.1, s.2, s.3, s.4)
 
+pub ahead_within : (r : Area) (from a : ℕ) → is_ahead r from a ≡ true → is_within r a ≡ true
+ahead_within r from a h = (and_parts (nat_le from a) (is_within r a) h).1
+
 -- how far a walk goes in a tile
 end_cases : (r : Area) (a : ℕ) → ((row_of r.last < row_of a / 16 * 16 + 16) × (end_narrow r a ≡ row_of r.last % 16 * 4 + 4)) ⊎ ((row_of a / 16 * 16 + 16 ≤ row_of r.last) × (end_narrow r a ≡ 64))
 end_cases r a = by (nat_lt (row_of r.last) (row_of a / 16 * 16 + 16)) refl
@@ -271,8 +274,8 @@ end_rows r a i u h = ⊎_elim (λ p. omega (arith, p.0, p.1, u, h)) (λ p. omega
 abbrev pub in_columns : Area → ℕ → ℕ → Bool
 in_columns r a i = nat_le (column_of r.first) (column_of (cell_in a i)) && nat_le (column_of (cell_in a i)) (column_of r.last)
 
-rows_in : (r : Area) (a i : ℕ) → is_within r a ≡ true → bit_of a ≤ i → i < end_in r a → (i < 64) × (row_of a ≤ row_of a / 16 * 16 + i / 4) × (row_of a / 16 * 16 + i / 4 ≤ row_of r.last)
-rows_in r a i within l = by (is_narrow r)
+rows_in : (r : Area) (a i : ℕ) (alone : Bool) → is_within r a ≡ true → bit_of a ≤ i → i < end_in r alone a → (i < 64) × (row_of a ≤ row_of a / 16 * 16 + i / 4) × (row_of a / 16 * 16 + i / 4 ≤ row_of r.last)
+rows_in r a i alone within l = by alone
   where
     above : row_of a ≤ row_of a / 16 * 16 + i / 4
     above = omega (arith, l)
@@ -281,17 +284,17 @@ rows_in r a i within l = by (is_narrow r)
     by true u = (omega (arith, u, end_bound r a), above, end_rows r a i u (sides_of r a within).1)
     by false u = (omega (arith, u), above, omega (arith, u, (sides_of r a within).1))
 
-pub mask_made : (r : Area) (a mask : ℕ) → is_within r a ≡ true → ((i : ℕ) → i < 64 → (bit_at mask i == 1) ≡ in_columns r a i) → IsMask r a mask (bit_of a) (end_in r a)
-mask_made r a mask within columns i l u =
-    let p = rows_in r a i within l u in
+pub mask_made : (r : Area) (a : ℕ) (alone : Bool) (mask : ℕ) → is_within r a ≡ true → ((i : ℕ) → i < 64 → (bit_at mask i == 1) ≡ in_columns r a i) → IsMask r a mask (bit_of a) (end_in r alone a)
+mask_made r a alone mask within columns i l u =
+    let p = rows_in r a i alone within l u in
     let row : row_of (cell_in a i) ≡ row_of a / 16 * 16 + i / 4 = row_in a i p.0 in
     let top : nat_le (row_of r.first) (row_of (cell_in a i)) ≡ true = le-leb _ _ (omega (arith, row, p.1, (sides_of r a within).0)) in
     let low : nat_le (row_of (cell_in a i)) (row_of r.last) ≡ true = le-leb _ _ (omega (arith, row, p.2)) in
     columns i p.0 ∙ sym (ap (λ t. (t && nat_le (row_of (cell_in a i)) (row_of r.last)) && in_columns r a i) top ∙ ap (λ t. t && in_columns r a i) low)
 
 -- where the walk goes on behind a cell
-record GoesOn (r : Area) (a end : ℕ) (ahead : Option ℕ) : Type 0 where
-  pub all : (c : ℕ) → is_within r c ≡ true → a < c → (is_left a (bit_of a + 1) end c ≡ true) ⊎ (is_from ahead c ≡ true)
+record GoesOn {V : Type 0} (w : Pages V) (r : Area) (a end : ℕ) (ahead : Option ℕ) : Type 0 where
+  pub all : (c : ℕ) → c < 17179869184 → is_within r c ≡ true → IsSome (at_cell w c) → a < c → (is_left a (bit_of a + 1) end c ≡ true) ⊎ (is_from ahead c ≡ true)
   pub order : (b c : ℕ) → is_left a (bit_of a + 1) end b ≡ true → is_within r b ≡ true → is_from ahead c ≡ true → is_within r c ≡ true → b < c
   pub after : (c : ℕ) → is_from ahead c ≡ true → is_within r c ≡ true → a < c
   pub bound : end ≤ 64
@@ -312,7 +315,7 @@ from_reads : (o : Option ℕ) (p c : ℕ) → o ≡ Some p → is_from o c ≡ t
 from_reads o p c e f = leb-true p c (sym (ap (λ q. is_from q c) e) ∙ f)
 
 -- a rectangle in one column of tiles
-module _ (r : Area) (a : ℕ) (within : is_within r a ≡ true) (narrow : column_of r.first / 4 ≡ column_of r.last / 4) where
+module _ {V : Type 0} (w : Pages V) (r : Area) (a : ℕ) (within : is_within r a ≡ true) (alone : IsAlone w r a) where
   narrow_ahead : ((nat_lt (row_of r.last) (row_of a / 16 * 16 + 16) ≡ true) × (ahead_narrow r a ≡ None)) ⊎ ((row_of a / 16 * 16 + 16 ≤ row_of r.last) × (ahead_narrow r a ≡ Some (place (row_of a / 16 * 16 + 16) (column_of r.first))))
   narrow_ahead = by (nat_lt (row_of r.last) (row_of a / 16 * 16 + 16)) refl
     where
@@ -320,14 +323,14 @@ module _ (r : Area) (a : ℕ) (within : is_within r a ≡ true) (narrow : column
       by true e = inl (e, if_true _ _ _ e)
       by false e = inr (ltb-false _ _ e, if_false _ _ _ e)
 
-  goes_on_narrow : GoesOn r a (end_narrow r a) (ahead_narrow r a)
+  goes_on_narrow : GoesOn w r a (end_narrow r a) (ahead_narrow r a)
   goes_on_narrow = record {
-    all = λ c m l.
+    all = λ c h m some l.
         let s = sides_of r c m in
-        let t = sides_of r a within in
-        let column : column_of c / 4 ≡ column_of a / 4 = omega (arith, s.2, s.3, t.2, t.3, narrow) in
         ⊎_elim
-        (λ same. inl (left_from a (bit_of a + 1) (end_narrow r a) c same column (omega (arith, bits_rise c a (sym same) (sym column) l)) (end_reaches r a c s.1 same)))
+        (λ same.
+        let column = alone c h m same some in
+        inl (left_from a (bit_of a + 1) (end_narrow r a) c same column (omega (arith, bits_rise c a (sym same) (sym column) l)) (end_reaches r a c s.1 same)))
         (λ ne.
         let below : row_of a / 16 * 16 + 16 ≤ row_of c = omega (arith, ne, l) in
         inr (⊎_elim
@@ -391,37 +394,34 @@ module _ (r : Area) (a : ℕ) (within : is_within r a ≡ true) where
   wide_order _ (under i j) b c p f = omega (arith, p.0, leb-true _ _ f)
   wide_order _ (ended i j) b c p f = absurd (true≢false (sym f))
 
-  goes_on_wide : GoesOn r a (row_of a % 16 * 4 + 4) (ahead_wide r a)
-  goes_on_wide = record {
-    all = wide_all (ahead_wide r a) wide_is;
+  goes_on_wide : {V : Type 0} (w : Pages V) → GoesOn w r a (row_of a % 16 * 4 + 4) (ahead_wide r a)
+  goes_on_wide w = record {
+    all = λ c h m some l. wide_all (ahead_wide r a) wide_is c m l;
     order = λ b c left m f k. wide_order (ahead_wide r a) wide_is b c (wide_left b left) f;
     after = λ c f m. wide_order (ahead_wide r a) wide_is a c (refl, refl) f;
     bound = omega arith;
   }
 
-goes_on : (r : Area) (a : ℕ) → is_within r a ≡ true → GoesOn r a (end_in r a) (ahead_in r a)
-goes_on r a within = by (is_narrow r) refl
-  where
-    by : (t : Bool) → is_narrow r ≡ t → GoesOn r a (cond t (end_narrow r a) (row_of a % 16 * 4 + 4)) (cond t (ahead_narrow r a) (ahead_wide r a))
-    by true e = goes_on_narrow r a within (eqb-true _ _ e)
-    by false e = goes_on_wide r a within
+goes_on : {V : Type 0} (w : Pages V) (r : Area) (a : ℕ) → is_within r a ≡ true → (alone : Bool) → (alone ≡ true → IsAlone w r a) → GoesOn w r a (end_in r alone a) (ahead_in r alone a)
+goes_on w r a within true alone = goes_on_narrow w r a within (alone refl)
+goes_on w r a within false alone = goes_on_wide r a within w
 
 -- the first cell behind a tile
-module _ {V : Type 0} (w : Pages V) (r : Area) (corner bit end from a : ℕ) (v : V) (left : (c : ℕ) → c < 17179869184 → is_left corner bit end c ≡ true → is_within r c ≡ true → at_cell w c ≡ None) (next : IsNext w r from a) (is : at_cell w a ≡ Some v) (on_sheet : a < 17179869184) where
+module _ {V : Type 0} (w : Pages V) (r : Area) (corner bit end from a : ℕ) (v : V) (left : (c : ℕ) → c < 17179869184 → is_left corner bit end c ≡ true → is_within r c ≡ true → at_cell w c ≡ None) (next : IsNext w r from a) (is : at_cell w a ≡ Some v) (on_sheet : a < 17179869184) (lone : Bool) (alone : lone ≡ true → IsAlone w r a) where
   reached : (from ≤ a) × (is_within r a ≡ true)
   reached = let p = and_parts (nat_le from a) _ next.ahead in (leb-true from a p.0, p.1)
 
-  on : GoesOn r a (end_in r a) (ahead_in r a)
-  on = goes_on r a reached.1
+  on : GoesOn w r a (end_in r lone a) (ahead_in r lone a)
+  on = goes_on w r a reached.1 lone alone
 
-  after : (c : ℕ) → is_pending r (ahead_in r a) a (bit_of a + 1) (end_in r a) c ≡ true → a < c
-  after c q = let p = pending_parts r (ahead_in r a) a (bit_of a + 1) (end_in r a) c q in ⊎_elim
-      (λ m. let s = left_parts a (bit_of a + 1) (end_in r a) c m in cells_rise a c s.0 s.1 (omega (arith, s.2)))
+  after : (c : ℕ) → is_pending r (ahead_in r lone a) a (bit_of a + 1) (end_in r lone a) c ≡ true → a < c
+  after c q = let p = pending_parts r (ahead_in r lone a) a (bit_of a + 1) (end_in r lone a) c q in ⊎_elim
+      (λ m. let s = left_parts a (bit_of a + 1) (end_in r lone a) c m in cells_rise a c s.0 s.1 (omega (arith, s.2)))
       (λ f. on.after c f p.1)
       p.0
 
-  pub takes_behind : passing (is_pending r (Some from) corner bit end) (entries_of w) ≡ (a, v) ∷ passing (is_pending r (ahead_in r a) a (bit_of a + 1) (end_in r a)) (entries_of w)
-  takes_behind = passing_first (λ c. at_cell w c) (is_pending r (Some from) corner bit end) (is_pending r (ahead_in r a) a (bit_of a + 1) (end_in r a)) 0 cells a v (omega arith) (omega (arith, below a on_sheet)) is
+  pub takes_behind : passing (is_pending r (Some from) corner bit end) (entries_of w) ≡ (a, v) ∷ passing (is_pending r (ahead_in r lone a) a (bit_of a + 1) (end_in r lone a)) (entries_of w)
+  takes_behind = passing_first (λ c. at_cell w c) (is_pending r (Some from) corner bit end) (is_pending r (ahead_in r lone a) a (bit_of a + 1) (end_in r lone a)) 0 cells a v (omega arith) (omega (arith, below a on_sheet)) is
       (pending_from r (Some from) corner bit end a (inr (le-leb from a reached.0)) reached.1)
       (not_true _ (λ q. omega (arith, after a q)))
       (λ c l q. let p = pending_parts r (Some from) corner bit end c q in ⊎_elim
@@ -429,24 +429,24 @@ module _ {V : Type 0} (w : Pages V) (r : Area) (corner bit end from a : ℕ) (v 
       (λ f. next.first c (and_from _ _ f p.1) l)
       p.0)
       (λ c l q. absurd (omega (arith, after c q, l)))
-      (λ c l u some. same_test (is_pending r (Some from) corner bit end c) (is_pending r (ahead_in r a) a (bit_of a + 1) (end_in r a) c)
-      (λ q. let p = pending_parts r (Some from) corner bit end c q in pending_from r (ahead_in r a) a (bit_of a + 1) (end_in r a) c (on.all c p.1 l) p.1)
-      (λ q. let p = pending_parts r (ahead_in r a) a (bit_of a + 1) (end_in r a) c q in pending_from r (Some from) corner bit end c (inr (le-leb from c (omega (arith, l, reached.0)))) p.1))
+      (λ c l u some. same_test (is_pending r (Some from) corner bit end c) (is_pending r (ahead_in r lone a) a (bit_of a + 1) (end_in r lone a) c)
+      (λ q. let p = pending_parts r (Some from) corner bit end c q in pending_from r (ahead_in r lone a) a (bit_of a + 1) (end_in r lone a) c (on.all c (above c (omega (arith, u))) p.1 some l) p.1)
+      (λ q. let p = pending_parts r (ahead_in r lone a) a (bit_of a + 1) (end_in r lone a) c q in pending_from r (Some from) corner bit end c (inr (le-leb from c (omega (arith, l, reached.0)))) p.1))
 
-  pub walks_behind : (t : Option (Bor (List (Option V)))) → IfSome t (λ x. tile_at w a ≡ Some x.now) → IfNone t (end_in r a ≤ bit_of a + 1) → (mask : ℕ) → IsMask r a mask (bit_of a + 1) (end_in r a) → IsWalk w r (ahead_in r a) t a mask (bit_of a + 1) (end_in r a)
+  pub walks_behind : (t : Option (Bor (List (Option V)))) → IfSome t (λ x. tile_at w a ≡ Some x.now) → IfNone t (end_in r lone a ≤ bit_of a + 1) → (mask : ℕ) → IsMask r a mask (bit_of a + 1) (end_in r lone a) → IsWalk w r (ahead_in r lone a) t a mask (bit_of a + 1) (end_in r lone a)
   walks_behind t stands nothing mask masks = record { stands = stands; nothing = nothing; within = on.bound; masks = masks; sheet = on_sheet; order = on.order }
 
-  pub step_behind : (ahead2 : Option ℕ) (bit2 end2 : ℕ) → ahead2 ≡ ahead_in r a → bit2 ≡ bit_of a → end2 ≡ end_in r a → passing (is_pending r (Some from) corner bit end) (entries_of w) ≡ (a, v) ∷ passing (is_pending r ahead2 a (bit2 + 1) end2) (entries_of w)
+  pub step_behind : (ahead2 : Option ℕ) (bit2 end2 : ℕ) → ahead2 ≡ ahead_in r lone a → bit2 ≡ bit_of a → end2 ≡ end_in r lone a → passing (is_pending r (Some from) corner bit end) (entries_of w) ≡ (a, v) ∷ passing (is_pending r ahead2 a (bit2 + 1) end2) (entries_of w)
   step_behind ahead2 bit2 end2 e f g = takes_behind
-      ∙ ap (λ o. (a, v) ∷ passing (is_pending r o a (bit_of a + 1) (end_in r a)) (entries_of w)) (sym e)
-      ∙ ap (λ b. (a, v) ∷ passing (is_pending r ahead2 a (b + 1) (end_in r a)) (entries_of w)) (sym f)
+      ∙ ap (λ o. (a, v) ∷ passing (is_pending r o a (bit_of a + 1) (end_in r lone a)) (entries_of w)) (sym e)
+      ∙ ap (λ b. (a, v) ∷ passing (is_pending r ahead2 a (b + 1) (end_in r lone a)) (entries_of w)) (sym f)
       ∙ ap (λ n. (a, v) ∷ passing (is_pending r ahead2 a (bit2 + 1) n) (entries_of w)) (sym g)
 
-  pub walk_behind : (t : Bor (List (Option V))) (ahead2 : Option ℕ) (mask2 bit2 end2 : ℕ) → ahead2 ≡ ahead_in r a → bit2 ≡ bit_of a → end2 ≡ end_in r a → tile_at w a ≡ Some t.now → ((i : ℕ) → i < 64 → (bit_at mask2 i == 1) ≡ in_columns r a i) → IsWalk w r ahead2 (Some t) a mask2 (bit2 + 1) end2
+  pub walk_behind : (t : Bor (List (Option V))) (ahead2 : Option ℕ) (mask2 bit2 end2 : ℕ) → ahead2 ≡ ahead_in r lone a → bit2 ≡ bit_of a → end2 ≡ end_in r lone a → tile_at w a ≡ Some t.now → ((i : ℕ) → i < 64 → (bit_at mask2 i == 1) ≡ in_columns r a i) → IsWalk w r ahead2 (Some t) a mask2 (bit2 + 1) end2
   walk_behind t ahead2 mask2 bit2 end2 e f g stands columns =
       subst (λ o. IsWalk w r o (Some t) a mask2 (bit2 + 1) end2) (sym e)
-      (subst (λ b. IsWalk w r (ahead_in r a) (Some t) a mask2 (b + 1) end2) (sym f)
-      (subst (λ n. IsWalk w r (ahead_in r a) (Some t) a mask2 (bit_of a + 1) n) (sym g) (walks_behind (Some t) stands tt mask2 (λ i l u. mask_made r a mask2 reached.1 columns i (omega (arith, l)) u))))
+      (subst (λ b. IsWalk w r (ahead_in r lone a) (Some t) a mask2 (b + 1) end2) (sym f)
+      (subst (λ n. IsWalk w r (ahead_in r lone a) (Some t) a mask2 (bit_of a + 1) n) (sym g) (walks_behind (Some t) stands tt mask2 (λ i l u. mask_made r a lone mask2 reached.1 columns i (omega (arith, l)) u))))
 
 -- and where there is none
 pub ends_behind : {V : Type 0} (w : Pages V) (r : Area) (corner bit end from : ℕ) → ((c : ℕ) → c < 17179869184 → is_left corner bit end c ≡ true → is_within r c ≡ true → at_cell w c ≡ None) → ((c : ℕ) → is_ahead r from c ≡ true → at_cell w c ≡ None) → passing (is_pending r (Some from) corner bit end) (entries_of w) ≡ []

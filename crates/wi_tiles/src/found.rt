@@ -1,12 +1,12 @@
 //! The first cell of a rectangle that has something, with what it has.
 
-ghost use Rattle.std.specs.Prelude.{◌≡◌, ◌<◌, ◌≤◌, ℕ, true, None, Some, IfSome, IfNone, IfOk, IfErr};
-ghost use Rattle.wi_values.specs.Address.{rows, columns, place, row_of, column_of};
+ghost use Rattle.std.specs.Prelude.{◌≡◌, ◌<◌, ◌≤◌, ℕ, true, None, Some, IsSome, IsTrue, IfSome, IfNone, IfOk, IfErr, MatchOption, length};
+ghost use Rattle.wi_values.specs.Address.{rows, place, row_of, column_of, is_within};
 ghost use Rattle.wi_tiles.specs.Inner.Cells.{at_cell, is_ahead};
-ghost use Rattle.wi_tiles.specs.Inner.Next.{IsNext};
-ghost use Rattle.wi_tiles.specs.Inner.Within.{is_narrow, tile_at};
+ghost use Rattle.wi_tiles.specs.Inner.Next.{IsNext, band_at};
+ghost use Rattle.wi_tiles.specs.Inner.Within.{is_narrow, tile_at, IsAlone};
 
-use crate::masks::{bit_of, cell_in, end_in, is_narrow, left_in, mask_in};
+use crate::masks::{bit_of, cell_in, end_narrow, is_narrow, left_in, mask_in};
 use crate::pages::{Pages, band_of, next_cell, past_gap, start, tile_of};
 use crate::sorted::part_of;
 use crate::tile::Tile;
@@ -27,6 +27,28 @@ pub fn found_from<'a, V>(
         found_narrow(pages, area, from)
     } else {
         found_wide(pages, area, from)
+    }
+}
+
+/// Whether what a rectangle has in the band of a cell stands in the tile of the cell alone.
+pub fn is_alone<V>(pages: &Pages<V>, area: Rect, cell: Address) -> bool
+    requires within { is_within area cell ≡ true }
+    requires there { IsSome (at_cell pages.now cell) }
+    ensures { IsTrue result → IsAlone pages.now area cell }
+{
+    if is_narrow(area) {
+        return true;
+    }
+    has_one_tile(pages, cell.row())
+}
+
+/// Whether the band of a row has one tile.
+fn has_one_tile<V>(pages: &Pages<V>, row: u32) -> bool
+    ensures { IsTrue result → MatchOption (band_at pages.now row) ⊥ (λ ts. length ts ≡ 1) }
+{
+    match band_of(pages, row) {
+        Some(band) => band.parts().len() == 1,
+        None => false,
     }
 }
 
@@ -82,7 +104,7 @@ fn found_in_band<'a, V>(
         Some(band) => match part_of(band.parts(), column / 4) {
             Some(tile) => {
                 let mask = mask_in(area, here);
-                match left_in(tile, area, mask, here, bit_of(here), end_in(area, here)) {
+                match left_in(tile, area, mask, here, bit_of(here), end_narrow(area, here)) {
                     Some(found) => Ok((cell_in(here, found.0), tile, found.1)),
                     None => Err(row / 16 * 16 + 16),
                 }

@@ -35,10 +35,10 @@ pub fn is_narrow(area: Rect) -> bool
 }
 
 /// Up to which bit a walk stays in the tile of a cell: through all rows of it, or to the end of the cell's row.
-pub fn end_in(area: Rect, cell: Address) -> u32
-    ensures { result ≡ end_in area cell }
+pub fn end_in(area: Rect, alone: bool, cell: Address) -> u32
+    ensures { result ≡ end_in area alone cell }
 {
-    if is_narrow(area) {
+    if alone {
         end_narrow(area, cell)
     } else {
         cell.row() % 16 * 4 + 4
@@ -46,7 +46,7 @@ pub fn end_in(area: Rect, cell: Address) -> u32
 }
 
 /// The end of the last row of a rectangle, or of the tile of a cell.
-fn end_narrow(area: Rect, cell: Address) -> u32
+pub fn end_narrow(area: Rect, cell: Address) -> u32
     ensures { result ≡ end_narrow area cell }
 {
     if area.last().row() < cell.row() / 16 * 16 + 16 {

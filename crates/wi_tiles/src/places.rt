@@ -47,3 +47,13 @@ pub trait Places<V> {
         ensures value { result ≡ at self.old place }
         ensures left { (p : ℕ) → at self.new p ≡ (if p == place then None else at self.old p) };
 }
+
+/// Takes room for one part, where there is none yet. If memory runs out, all is as before.
+pub fn room_for_first<T>(parts: &mut Vec<T>) -> Result<(), AllocError>
+    ensures { parts.new.items ≡ parts.old.items }
+{
+    if parts.is_empty() {
+        parts.reserve_exact(1)?;
+    }
+    Ok(())
+}

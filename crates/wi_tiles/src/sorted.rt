@@ -3,7 +3,7 @@
 ghost use Rattle.std.specs.Prelude.{◌≡◌, ◌<◌, ◌≤◌, ◌+◌, ◌*◌, ◌/◌, ◌%◌, ◌==◌, ℕ, length, true, Some, None, IsSome, IsTrue, OnOk, OnErr, IfOk, IfErr, option_copied, option_map, slice_index_or, if◌then◌else◌};
 ghost use Rattle.wi_tiles.specs.Inner.Sorted.{find, key, Rises, at_sorted, groups};
 
-use crate::places::Places;
+use crate::places::{Places, room_for_first};
 use std::alloc::{AllocError, Global};
 use std::marker::Model;
 
@@ -110,6 +110,7 @@ fn put_part<V: Drop, T: Places<V> + Drop>(
 {
     let mut part = T::vacant(alloc);
     part.put_new(path / GROUPS, value, alloc)?;
+    room_for_first(parts)?;
     parts.insert(place, ((path % GROUPS) as u32, part))?;
     Ok(true)
 }

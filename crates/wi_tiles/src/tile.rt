@@ -180,7 +180,6 @@ impl<V: Drop> Places<V> for Tile<V> {
 }
 
 /// How many ones stand below a bit.
-#[tactic(auto, using(crate::proofs::Tiles::rank_made))]
 fn rank(bits: u64, bit: u32) -> usize
     requires { bit < 64 }
     ensures { result ≡ rank bits bit }

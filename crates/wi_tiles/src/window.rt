@@ -3,7 +3,7 @@
 ghost use Rattle.std.specs.Prelude.{◌≡◌, ◌<◌, ◌≤◌, ◌+◌, ◌-◌, ◌*◌, ◌%◌, ◌==◌, ◌++◌, ◌∷◌, [], ℕ, List, length, Some, None, IfSome, IfNone, IsTrue, OnOk, OnErr, option_copied, option_map, if◌then◌else◌};
 ghost use Rattle.wi_tiles.specs.Inner.Parts.{part_from, at_window, span};
 
-use crate::places::Places;
+use crate::places::{Places, room_for_first};
 use std::alloc::{AllocError, Global};
 use std::marker::Model;
 
@@ -170,6 +170,7 @@ fn push_vacant<V, T: Places<V> + Drop>(
     ensures longer { OnOk result (length parts.new.items ≡ length parts.old.items + 1) }
     ensures kept { (p : ℕ) → at_window T.at (first, parts.new.items) p ≡ at_window T.at (first, parts.old.items) p }
 {
+    room_for_first(parts)?;
     parts.push(T::vacant(alloc))?;
     Ok(())
 }

@@ -1,12 +1,13 @@
 //! What the cells of a rectangle have, one after another.
 
 ghost use Rattle.std.specs.Prelude.{◌≡◌, ◌≤◌, IfSome, IfNone, MatchOption, filter};
+ghost use Rattle.std.specs.Map.Iter.{TakesFirst};
 ghost use Rattle.wi_tiles.specs.Inner.Cells.{is_ahead};
 ghost use Rattle.wi_tiles.specs.Inner.Entries.{entries_of};
-ghost use Rattle.wi_tiles.specs.Inner.Within.{IsMask, IsNextLeft, HasNoneLeft, ahead_in, ahead_narrow, ahead_wide};
+ghost use Rattle.wi_tiles.specs.Inner.Within.{entry, IsMask, IsNextLeft, HasNoneLeft, ahead_in, ahead_narrow, ahead_wide};
 
-use crate::found::found_from;
-use crate::masks::{bit_of, cell_in, end_in, is_narrow, left_in, mask_in};
+use crate::found::{found_from, is_alone};
+use crate::masks::{bit_of, cell_in, end_in, left_in, mask_in};
 use crate::pages::Pages;
 use crate::tile::Tile;
 use std::marker::Model;
@@ -56,23 +57,13 @@ impl<'a, V> Within<'a, V> {
             ahead: Some(from),
         }
     }
-}
 
-impl<'a, V> Iterator for Within<'a, V> {
-    ghost use Rattle.std.specs.Prelude.{length};
-    ghost use Rattle.std.specs.Iterator.{at_most};
-    ghost use Rattle.std.specs.Map.Iter.{TakesFirst};
-    ghost use Rattle.wi_tiles.specs.Inner.Within.{entry};
-
-    type Item = (Address, &'a V);
-
-    ghost next_gives = { TakesFirst entry };
-
-    ghost remaining = { λ s. at_most (length s) };
-
-    /// A step among the bits of a tile for each cell, and one search for each tile; for each row of a tile, where the rectangle
-    /// lies in more tiles than one beside another.
-    fn next(&mut self) -> Option<(Address, &'a V)> {
+    /// The next entry, where nothing may be left of the tile. It stands apart, so that a step from one cell of a tile to the
+    /// next takes little.
+    #[inline(never)]
+    fn next_behind(&mut self) -> Option<(Address, &'a V)>
+        ensures { TakesFirst entry self.old result self.new }
+    {
         match left_of(
             self.tile,
             self.area,
@@ -88,18 +79,51 @@ impl<'a, V> Iterator for Within<'a, V> {
             None => match self.ahead {
                 Some(from) => match found_from(self.pages, self.area, from) {
                     Some(found) => {
+                        let alone = is_alone(self.pages, self.area, found.0);
                         self.tile = Some(found.1);
                         self.corner = found.0;
                         self.mask = mask_in(self.area, found.0);
                         self.bit = bit_of(found.0) + 1;
-                        self.end = end_in(self.area, found.0);
-                        self.ahead = ahead_in(self.area, found.0);
+                        self.end = end_in(self.area, alone, found.0);
+                        self.ahead = ahead_in(self.area, alone, found.0);
                         Some((found.0, found.2))
                     }
                     None => None,
                 },
                 None => None,
             },
+        }
+    }
+}
+
+impl<'a, V> Iterator for Within<'a, V> {
+    ghost use Rattle.std.specs.Prelude.{length};
+    ghost use Rattle.std.specs.Iterator.{at_most};
+    ghost use Rattle.std.specs.Map.Iter.{TakesFirst};
+    ghost use Rattle.wi_tiles.specs.Inner.Within.{entry};
+
+    type Item = (Address, &'a V);
+
+    ghost next_gives = { TakesFirst entry };
+
+    ghost remaining = { λ s. at_most (length s) };
+
+    /// A step among the bits of a tile for each cell, and one search for each tile; for each row of a tile, where the rectangle
+    /// lies in more tiles than one beside another, and 16 rows have more than one.
+    fn next(&mut self) -> Option<(Address, &'a V)> {
+        match left_of(
+            self.tile,
+            self.area,
+            self.mask,
+            self.corner,
+            self.bit,
+            self.end,
+        ) {
+            Some(found) => {
+                self.bit = found.0 + 1;
+                Some((cell_in(self.corner, found.0), found.1))
+            }
+            None => self.next_behind(),
         }
     }
 }
@@ -125,10 +149,10 @@ fn left_of<'a, V>(
 }
 
 /// Where it goes on behind that.
-fn ahead_in(area: Rect, cell: Address) -> Option<Address>
-    ensures { result ≡ ahead_in area cell }
+fn ahead_in(area: Rect, alone: bool, cell: Address) -> Option<Address>
+    ensures { result ≡ ahead_in area alone cell }
 {
-    if is_narrow(area) {
+    if alone {
         ahead_narrow(area, cell)
     } else {
         ahead_wide(area, cell)

@@ -1,9 +1,9 @@
 -- Where a walk through a rectangle stands.
-use Rattle.std.specs.Prelude.{◌≡◌, ℕ, ◌+◌, ◌-◌, ◌*◌, ◌/◌, ◌%◌, ◌^◌, bit_and, ◌<◌, ◌≤◌, Bool, true, false, ◌&&◌, ◌||◌, ◌==◌, nat_le, nat_lt, if◌then◌else◌, List, Option, Some, None, IfSome, IfNone}
+use Rattle.std.specs.Prelude.{◌≡◌, ℕ, ◌+◌, ◌-◌, ◌*◌, ◌/◌, ◌%◌, ◌^◌, bit_and, ◌<◌, ◌≤◌, Bool, true, false, ◌&&◌, ◌||◌, ◌==◌, nat_le, nat_lt, if◌then◌else◌, List, Option, Some, None, IsSome, IfSome, IfNone}
 use Rattle.std.specs.Borrow.{Bor}
 use Rattle.std.specs.Int.{bit_at}
 use Rattle.wi_values.specs.Address.{Area, place, row_of, column_of, is_within}
-use Rattle.wi_tiles.specs.Inner.Cells.{Pages, Band}
+use Rattle.wi_tiles.specs.Inner.Cells.{Pages, Band, at_cell}
 use Rattle.wi_tiles.specs.Inner.Lines.{slot}
 use Rattle.wi_tiles.specs.Inner.Next.{band_at}
 use Rattle.wi_tiles.specs.Inner.Sorted.{find}
@@ -77,12 +77,16 @@ pub record IsWalk {V : Type 0} (w : Pages V) (r : Area) (ahead : Option ℕ) (ti
 abbrev pub is_narrow : Area → Bool
 is_narrow r = column_of r.first / 4 == column_of r.last / 4
 
+-- what the rectangle has in a cell's band stands in the cell's tile alone
+abbrev pub IsAlone : {V : Type 0} → Pages V → Area → ℕ → Type 0
+IsAlone w r a = (c : ℕ) → c < 17179869184 → is_within r c ≡ true → row_of c / 16 ≡ row_of a / 16 → IsSome (at_cell w c) → column_of c / 4 ≡ column_of a / 4
+
 -- up to which bit the walk stays in the tile of a cell: to the end of the rectangle or the tile, or to the end of the cell's row
 abbrev pub end_narrow : Area → ℕ → ℕ
 end_narrow r a = if nat_lt (row_of r.last) (row_of a / 16 * 16 + 16) then row_of r.last % 16 * 4 + 4 else 64
 
-abbrev pub end_in : Area → ℕ → ℕ
-end_in r a = if is_narrow r then end_narrow r a else row_of a % 16 * 4 + 4
+abbrev pub end_in : Area → Bool → ℕ → ℕ
+end_in r alone a = if alone then end_narrow r a else row_of a % 16 * 4 + 4
 
 -- where it goes on behind that
 abbrev pub ahead_narrow : Area → ℕ → Option ℕ
@@ -94,5 +98,5 @@ ahead_below r a = if nat_lt (row_of a) (row_of r.last) then Some (place (row_of 
 abbrev pub ahead_wide : Area → ℕ → Option ℕ
 ahead_wide r a = if nat_le (column_of a / 4 * 4 + 4) (column_of r.last) then Some (place (row_of a) (column_of a / 4 * 4 + 4)) else ahead_below r a
 
-abbrev pub ahead_in : Area → ℕ → Option ℕ
-ahead_in r a = if is_narrow r then ahead_narrow r a else ahead_wide r a
+abbrev pub ahead_in : Area → Bool → ℕ → Option ℕ
+ahead_in r alone a = if alone then ahead_narrow r a else ahead_wide r a

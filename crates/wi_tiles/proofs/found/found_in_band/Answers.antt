@@ -20,26 +20,26 @@ mask_in-mask-requires-clause-right g c =
 pub left_in-requires-clause-end : goal.left_in-requires-clause-end
 left_in-requires-clause-end g c =
     let here : c.at-here.result ≡ place c.args.row c.args.column = search rules in
-    end_at c.args.pages.now c.args.area c.args.row c.args.column c.requires.narrow c.requires.top c.requires.row c.requires.left c.requires.column c.requires.sheet c.at-here.result c.bit_of.result c.end_in.result here c.bit_of.ensures.bit c.end_in.ensures
+    end_at c.args.pages.now c.args.area c.args.row c.args.column c.requires.narrow c.requires.top c.requires.row c.requires.left c.requires.column c.requires.sheet c.at-here.result c.bit_of.result c.end_narrow.result here c.bit_of.ensures.bit c.end_narrow.ensures
 
 pub left_in-requires-clause-mask : goal.left_in-requires-clause-mask
 left_in-requires-clause-mask g c =
     let here : c.at-here.result ≡ place c.args.row c.args.column = search rules in
-    mask_at c.args.pages.now c.args.area c.args.row c.args.column c.requires.narrow c.requires.top c.requires.row c.requires.left c.requires.column c.requires.sheet c.at-here.result c.bit_of.result c.end_in.result here c.bit_of.ensures.bit c.end_in.ensures c.mask_in-mask.result c.mask_in-mask.ensures
+    mask_at c.args.pages.now c.args.area c.args.row c.args.column c.requires.narrow c.requires.top c.requires.row c.requires.left c.requires.column c.requires.sheet c.at-here.result c.bit_of.result c.end_narrow.result here c.bit_of.ensures.bit c.end_narrow.ensures c.mask_in-mask.result c.mask_in-mask.ensures
 
 pub returns-in-Some-left_in-clause-found : goal.returns-in-Some-left_in-clause-found
 returns-in-Some-left_in-clause-found g c =
     let here : c.at-here.result ≡ place c.args.row c.args.column = search rules in
     let band : band_at c.args.pages.now c.args.row ≡ Some c.parts.result.now = search rules in
     let tile = tile_here c.args.pages.now c.args.area c.args.row c.args.column c.requires.narrow c.requires.top c.requires.row c.requires.left c.requires.column c.requires.sheet c.parts.result.now (Some c.in-Some-part_of.tile.now) band (sym c.in-Some-part_of.ensures) in
-    found_at c.args.pages.now c.args.area c.args.row c.args.column c.requires.narrow c.requires.top c.requires.row c.requires.left c.requires.column c.requires.sheet c.at-here.result c.bit_of.result c.end_in.result here c.bit_of.ensures.bit c.end_in.ensures c.in-Some-part_of.tile.now c.in-Some-left_in.found.0 c.in-Some-left_in.found.1.now c.cell_in.result tile c.cell_in.ensures c.in-Some-left_in.ensures.some
+    found_at c.args.pages.now c.args.area c.args.row c.args.column c.requires.narrow c.requires.top c.requires.row c.requires.left c.requires.column c.requires.sheet c.at-here.result c.bit_of.result c.end_narrow.result here c.bit_of.ensures.bit c.end_narrow.ensures c.in-Some-part_of.tile.now c.in-Some-left_in.found.0 c.in-Some-left_in.found.1.now c.cell_in.result tile c.cell_in.ensures c.in-Some-left_in.ensures.some
 
 pub returns-in-None-left_in-clause-none : goal.returns-in-None-left_in-clause-none
 returns-in-None-left_in-clause-none g c =
     let here : c.at-here.result ≡ place c.args.row c.args.column = search rules in
     let band : band_at c.args.pages.now c.args.row ≡ Some c.parts.result.now = search rules in
     let tile = tile_here c.args.pages.now c.args.area c.args.row c.args.column c.requires.narrow c.requires.top c.requires.row c.requires.left c.requires.column c.requires.sheet c.parts.result.now (Some c.in-Some-part_of.tile.now) band (sym c.in-Some-part_of.ensures) in
-    (omega arith, omega (arith, c.requires.sheet), none_at c.args.pages.now c.args.area c.args.row c.args.column c.requires.narrow c.requires.top c.requires.row c.requires.left c.requires.column c.requires.sheet c.at-here.result c.bit_of.result c.end_in.result here c.bit_of.ensures.bit c.end_in.ensures c.in-Some-part_of.tile.now tile c.in-None-left_in.ensures.none)
+    (omega arith, omega (arith, c.requires.sheet), none_at c.args.pages.now c.args.area c.args.row c.args.column c.requires.narrow c.requires.top c.requires.row c.requires.left c.requires.column c.requires.sheet c.at-here.result c.bit_of.result c.end_narrow.result here c.bit_of.ensures.bit c.end_narrow.ensures c.in-Some-part_of.tile.now tile c.in-None-left_in.ensures.none)
 
 pub returns-in-None-part_of-clause-none : goal.returns-in-None-part_of-clause-none
 returns-in-None-part_of-clause-none g c =
