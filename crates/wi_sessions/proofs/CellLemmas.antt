@@ -5,10 +5,11 @@ use Rattle.std.specs.List.{All, AllByRecursion, list_any}
 use Rattle.std.specs.List.Sorted.{IsStrictlySortedBy}
 use Rattle.std.specs.Ordering.{nat_cmp}
 use Rattle.std.specs.declared.cmp.Ordering.TheVariants.{Less}
+use Rattle.std.specs.Map.{keys_of}
 use Rattle.std.specs.BTreeMap.{is_at}
 use Rattle.std.proofs.lemmas.Bool.{both_ways, cases_order, eq-eqb, eqb-true, ne_eqb}
 use Rattle.std.proofs.lemmas.List.{append_assoc, append-nil, take_all}
-use Rattle.std.proofs.lemmas.List.Elements.{All-head, All-tail, All-same}
+use Rattle.std.proofs.lemmas.List.Elements.{All-filter, All-head, All-map, All-same, All-tail, filter-append}
 use Rattle.std.proofs.lemmas.List.Folds.{list_any-append, list_any_more}
 use Rattle.std.proofs.lemmas.Map.Keys.{sorted_head, sorted_tail}
 use Rattle.std.proofs.lemmas.Map.Views.{any-filter_same}
@@ -105,31 +106,17 @@ found_listed q (k ∷ ks) = ap (λ b. b || list_any (is_at (nat_cmp q)) ks) (is_
 
 -- ---- a cell put in
 
--- a set with one cell more, where `found` says which cells a set has
-pub put_in : (at c : ℕ) (old new : List ℕ) → list_any (is_at (nat_cmp c)) new ≡ cond (is_at (nat_cmp at) c) true (list_any (is_at (nat_cmp c)) old) → is_listed new c ≡ (is_listed old c || (at == c))
-put_in at c old new e = sym (found_listed c new) ∙ e ∙ ap (λ b. cond (is_at (nat_cmp at) c) true b) (found_listed c old) ∙ by (is_at (nat_cmp at) c) (is_at-eq at c)
-  where
-    by : (b : Bool) → b ≡ (at == c) → cond b true (is_listed old c) ≡ (is_listed old c || (at == c))
-    by true t = sym (ap (λ d. is_listed old c || d) (sym t) ∙ or-true (is_listed old c))
-    by false t = sym (ap (λ d. is_listed old c || d) (sym t) ∙ or-false (is_listed old c))
-
 pub one_more_listed : (xs ys : List ℕ) (at c : ℕ) → ys ≡ xs ++ at ∷ [] → is_listed ys c ≡ (is_listed xs c || (at == c))
 one_more_listed xs ys at c e = ap (λ zs. is_listed zs c) e ∙ list_any-append (λ d. d == c) xs (at ∷ []) ∙ ap (λ b. is_listed xs c || b) (or-false (at == c))
 
 -- whether it was there, as the set tells it
-told_new : (b n : Bool) → n ≡ not b → n ≡ false → b ≡ true
-told_new true n e f = refl
-told_new false n e f = cc
+pub was_there : (s new : Bool) → new ≡ not s → new ≡ false → s ≡ true
+was_there true new e f = refl
+was_there false new e f = cc
 
-told_there : (b n : Bool) → n ≡ not b → n ≡ true → b ≡ false
-told_there true n e f = cc
-told_there false n e f = refl
-
-pub was_there : (at : ℕ) (ks : List ℕ) (new : Bool) → new ≡ not (list_any (is_at (nat_cmp at)) ks) → new ≡ false → is_listed ks at ≡ true
-was_there at ks new e f = sym (found_listed at ks) ∙ told_new (list_any (is_at (nat_cmp at)) ks) new e f
-
-pub wasnt_there : (at : ℕ) (ks : List ℕ) (new : Bool) → new ≡ not (list_any (is_at (nat_cmp at)) ks) → new ≡ true → is_listed ks at ≡ false
-wasnt_there at ks new e f = sym (found_listed at ks) ∙ told_there (list_any (is_at (nat_cmp at)) ks) new e f
+pub wasnt_there : (s new : Bool) → new ≡ not s → new ≡ true → s ≡ false
+wasnt_there true new e f = cc
+wasnt_there false new e f = refl
 
 -- where it was there
 none_new : (s n t : Bool) → (t ≡ true → s ≡ true) → n ≡ (n || (t && not s))
@@ -209,13 +196,6 @@ made_all cells i all vacant more rooms l h = subst (λ xs. HasMade (is_listed xs
 
 -- ---- cells taken out
 
-pub one_taken : (at c : ℕ) (old new : List ℕ) → list_any (is_at (nat_cmp c)) new ≡ cond (is_at (nat_cmp at) c) false (list_any (is_at (nat_cmp c)) old) → is_listed new c ≡ (is_listed old c && not (at == c))
-one_taken at c old new e = sym (found_listed c new) ∙ e ∙ ap (λ b. cond (is_at (nat_cmp at) c) false b) (found_listed c old) ∙ by (is_at (nat_cmp at) c) (is_at-eq at c)
-  where
-    by : (b : Bool) → b ≡ (at == c) → cond b false (is_listed old c) ≡ (is_listed old c && not (at == c))
-    by true t = sym (ap (λ d. is_listed old c && not d) (sym t) ∙ and-false (is_listed old c))
-    by false t = sym (ap (λ d. is_listed old c && not d) (sym t) ∙ and-true (is_listed old c))
-
 pub none_taken : (s : Bool) → s ≡ (s && true)
 none_taken s = sym (and-true s)
 
@@ -288,14 +268,13 @@ vacant_made cells all vacant more rooms h q =
     ∙ ap (λ b. is_listed (vacant_in all vacant) q || (is_listed cells q && not b)) (sym (listed_filter (λ c. not (is_listed vacant c)) all q))
 
 -- whether a cell is pending, as the set and those with room only tell it
-pub pending_told : (all vacant : List ℕ) (at : ℕ) (s n : Bool) → s ≡ list_any (is_at (nat_cmp at)) all → s ≡ true → n ≡ is_listed vacant at → not n ≡ is_listed (cells_in all vacant) at
+pub pending_told : (all vacant : List ℕ) (at : ℕ) (s n : Bool) → s ≡ is_listed all at → s ≡ true → n ≡ is_listed vacant at → not n ≡ is_listed (cells_in all vacant) at
 pending_told all vacant at s n e t m =
-    ap not m
-    ∙ sym (listed_filter (λ c. not (is_listed vacant c)) all at ∙ ap (λ b. b && not (is_listed vacant at)) (sym (found_listed at all) ∙ sym e ∙ t))
+    ap not m ∙ sym (listed_filter (λ c. not (is_listed vacant c)) all at ∙ ap (λ b. b && not (is_listed vacant at)) (sym e ∙ t))
 
-pub none_told : (all vacant : List ℕ) (at : ℕ) (s : Bool) → s ≡ list_any (is_at (nat_cmp at)) all → s ≡ false → s ≡ is_listed (cells_in all vacant) at
+pub none_told : (all vacant : List ℕ) (at : ℕ) (s : Bool) → s ≡ is_listed all at → s ≡ false → s ≡ is_listed (cells_in all vacant) at
 none_told all vacant at s e f =
-    f ∙ sym (listed_filter (λ c. not (is_listed vacant c)) all at ∙ ap (λ b. b && not (is_listed vacant at)) (sym (found_listed at all) ∙ sym e ∙ f))
+    f ∙ sym (listed_filter (λ c. not (is_listed vacant c)) all at ∙ ap (λ b. b && not (is_listed vacant at)) (sym e ∙ f))
 
 pub none_in_order : (ks : List ℕ) → ks ≡ [] → IsStrictlySortedBy nat_cmp ks
 unfolding IsStrictlySortedBy
@@ -319,22 +298,46 @@ rising : (low high : ℕ) (xs : List ℕ) → Ascend xs → AtLeast low xs → A
 rising low high [] a l h = tt
 rising low high (x ∷ xs) a l h = (l, All-head (λ k. k < high) x xs h, rising (x + 1) high xs a.1 (above x xs a.0) (All-tail (λ k. k < high) x xs h))
 
--- after a pending cell was appended to those found
-pub listed_more : (found new vacant : List ℕ) (k : ℕ) (rest it all : List ℕ) → new ≡ found ++ k ∷ [] → it ≡ k ∷ rest → is_listed vacant k ≡ false
-    → found ++ cells_in it vacant ≡ cells_in all vacant → new ++ cells_in rest vacant ≡ cells_in all vacant
-listed_more found new vacant k rest it all e i f h =
-    ap (λ (xs : List ℕ). xs ++ cells_in rest vacant) e ∙ append_assoc found (k ∷ []) (cells_in rest vacant)
-    ∙ ap (λ (xs : List ℕ). found ++ xs) (sym (ap (λ xs. cells_in xs vacant) i ∙ ap (λ b. cond (not b) (k ∷ cells_in rest vacant) (cells_in rest vacant)) f)) ∙ h
+-- ---- the pending cells listed
 
--- a cell with room only is passed
-pub listed_past : (found vacant : List ℕ) (k : ℕ) (rest it all : List ℕ) → it ≡ k ∷ rest → is_listed vacant k ≡ true
-    → found ++ cells_in it vacant ≡ cells_in all vacant → found ++ cells_in rest vacant ≡ cells_in all vacant
-listed_past found vacant k rest it all i t h =
-    ap (λ (xs : List ℕ). found ++ xs) (sym (ap (λ xs. cells_in xs vacant) i ∙ ap (λ b. cond (not b) (k ∷ cells_in rest vacant) (cells_in rest vacant)) t)) ∙ h
+-- a cell appended to those found, but for one with room only
+pub one_pushed : (found new vacant : List ℕ) (k : ℕ) → new ≡ found ++ k ∷ [] → is_listed vacant k ≡ false → new ≡ found ++ cells_in (k ∷ []) vacant
+one_pushed found new vacant k e f = e ∙ ap (λ (xs : List ℕ). found ++ xs) (sym (ap (λ b. cond (not b) (k ∷ []) []) f))
 
--- once all were looked at, the cells found are all
-pub listed_all : (found vacant : List ℕ) (it all : List ℕ) → it ≡ [] → found ++ cells_in it vacant ≡ cells_in all vacant → found ≡ cells_in all vacant
-listed_all found vacant it all e h = sym (append-nil found) ∙ ap (λ (xs : List ℕ). found ++ cells_in xs vacant) (sym e) ∙ h
+pub none_pushed : (found vacant : List ℕ) (k : ℕ) → is_listed vacant k ≡ true → found ≡ found ++ cells_in (k ∷ []) vacant
+none_pushed found vacant k t = sym (append-nil found) ∙ ap (λ (xs : List ℕ). found ++ xs) (sym (ap (λ b. cond (not b) (k ∷ []) []) t))
+
+module _ {X : Type 0} where
+  -- at first none is found
+  pub listed_none : (found vacant : List ℕ) (it all : List (ℕ × X)) → found ≡ [] → it ≡ all → found ++ cells_in (keys_of it) vacant ≡ cells_in (keys_of all) vacant
+  listed_none found vacant it all e f = ap (λ (xs : List ℕ). xs ++ cells_in (keys_of it) vacant) e ∙ ap (λ (es : List (ℕ × X)). cells_in (keys_of es) vacant) f
+
+  -- after one more was looked at
+  pub listed_more : (found new vacant : List ℕ) (e : ℕ × X) (rest it all : List (ℕ × X)) → new ≡ found ++ cells_in (e.0 ∷ []) vacant → it ≡ e ∷ rest
+      → found ++ cells_in (keys_of it) vacant ≡ cells_in (keys_of all) vacant → new ++ cells_in (keys_of rest) vacant ≡ cells_in (keys_of all) vacant
+  listed_more found new vacant e rest it all n i h =
+      ap (λ (xs : List ℕ). xs ++ cells_in (keys_of rest) vacant) n ∙ append_assoc found (cells_in (e.0 ∷ []) vacant) (cells_in (keys_of rest) vacant)
+      ∙ ap (λ (xs : List ℕ). found ++ xs) (sym (filter-append (λ c. not (is_listed vacant c)) (e.0 ∷ []) (keys_of rest)))
+      ∙ ap (λ (es : List (ℕ × X)). found ++ cells_in (keys_of es) vacant) (sym i) ∙ h
+
+  pub one_left : (e : ℕ × X) (rest it : List (ℕ × X)) (i n : ℕ) → it ≡ e ∷ rest → length it + i ≡ n → length rest + (i + 1) ≡ n
+  one_left e rest it i n is h =
+      let one : length it ≡ length (e ∷ rest) = ap length is in
+      omega (arith, one, h)
+
+  -- once all were looked at, the cells found are all
+  pub none_left : (it : List (ℕ × X)) (i n : ℕ) → length it + i ≡ n → n ≤ i → it ≡ []
+  none_left [] i n h l = refl
+  none_left (e ∷ it) i n h l = let no_more : Prim.⊥ = omega (arith, h, l) in absurd no_more
+
+  pub listed_all : (found vacant : List ℕ) (it all : List (ℕ × X)) → it ≡ [] → found ++ cells_in (keys_of it) vacant ≡ cells_in (keys_of all) vacant → found ≡ cells_in (keys_of all) vacant
+  listed_all found vacant it all e h = sym (append-nil found) ∙ ap (λ (es : List (ℕ × X)). found ++ cells_in (keys_of es) vacant) (sym e) ∙ h
+
+  -- so they are cells of the sheet
+  pub within_sheet : (all : List (ℕ × X)) (vacant found : List ℕ) → found ≡ cells_in (keys_of all) vacant → All (λ e. e.0 < rows * columns) all → All (λ a. a < rows * columns) found
+  within_sheet all vacant found e h =
+      All-same (λ a. a < rows * columns) found (cells_in (keys_of all) vacant) e
+      (All-filter (λ a. not (is_listed vacant a)) (λ a. a < rows * columns) (keys_of all) (All-map (λ a. a < rows * columns) (λ e. e.0) all h))
 
 -- so the list of them that is told is in order
 pub told_in_order : {V E : Type 0} (r : Result V E) (items : V → List ℕ) (all vacant : List ℕ) → IsStrictlySortedBy nat_cmp all

@@ -3,4 +3,5 @@ pub mod RoomLemmas
 pub mod PictureLemmas
 pub mod ChangeSteps
 pub mod CellLemmas
+pub mod EntryLemmas
 pub mod RosterLemmas

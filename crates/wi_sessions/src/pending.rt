@@ -6,8 +6,8 @@ ghost use Rattle.wi_sessions.specs.Pictures.Laws.{is_listed, Rises};
 
 use crate::cells::{Cells, clear, give_back, has, listed, make_room};
 use std::alloc::{AllocError, Global};
-use std::collections::BTreeSet;
 use std::marker::Model;
+use wi_tiles::CellMap;
 use wi_values::Address;
 
 /// The cells that are pending: of all others a session's picture has the value. An edit first makes room for the cells that
@@ -23,15 +23,15 @@ pub struct Pending {
 impl Model for Pending {
     ghost use Rattle.wi_sessions.specs.Pending.{PendingCells};
     ghost use Rattle.std.specs.Coded.{codes};
-    ghost use Rattle.wi_sessions.specs.Inner.Cells.{pending_in};
+    ghost use Rattle.wi_sessions.specs.Inner.Cells.{cells_of, pending_in};
     ghost use Rattle.std.specs.Ordering.{nat_cmp};
-    ghost use Rattle.std.specs.BTreeSet.{IsOrdered};
+    ghost use Rattle.wi_tiles.specs.Entries.{IsOrdered};
 
     ghost Value = { PendingCells };
 
     ghost coded = { Prim.hlevel codes };
 
-    ghost view = { λ p. pending_in p.all.keys p.vacant.items };
+    ghost view = { λ p. pending_in (cells_of p.all) p.vacant.items };
 
     ghost invariant = { λ p. IsOrdered nat_cmp p.all };
 }
@@ -43,14 +43,15 @@ impl Pending {
         ensures vacant { result.vacant ≡ [] }
     {
         Pending {
-            all: BTreeSet::new(alloc),
+            all: CellMap::new(alloc),
             vacant: Vec::new(alloc),
             alloc,
         }
     }
 
     /// Makes room for each of the cells that isn't pending; none is pending yet. On an error the vacant rooms go, those that
-    /// were there before too. The work for each cell grows with the logarithm of the count of pending ones.
+    /// were there before too. The work for each cell is that of one look-up, and of putting it in where it isn't pending: the same
+    /// however many are, but for a search among the tiles of 16 rows.
     pub fn make_room(&mut self, cells: &[Address]) -> Result<(), AllocError>
         ensures cells { self.new.cells ≡ self.old.cells }
         ensures room { OnOk result ((a : ℕ) → is_listed self.new.vacant a
@@ -84,14 +85,14 @@ impl Pending {
         clear(&mut self.all, &mut self.vacant);
     }
 
-    /// Whether a cell is pending. The work grows with the logarithm of the count of pending cells.
+    /// Whether a cell is pending. The work is that of one look-up, as in `make_room`.
     pub fn contains(&self, at: Address) -> bool
         ensures { result ≡ is_listed self.now.cells at }
     {
         has(&self.all, &self.vacant, at)
     }
 
-    /// The pending cells, in row-major order.
+    /// The pending cells, in row-major order. The work is a step for each; 16 rows with none between them are passed at once.
     pub fn cells(&self) -> Result<Vec<Address>, AllocError>
         ensures list { IfOk result (λ found. found.items ≡ self.now.cells) }
         ensures order { OnOk result (Rises 0 sheet_size self.now.cells) }
