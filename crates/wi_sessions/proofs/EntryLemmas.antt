@@ -1,16 +1,19 @@
 -- What stands in a map by cell once something is put in, replaced or taken away.
 use Rattle.std.proofs.Common.{◌≡◌, ◌==◌, ◌||◌, ◌&&◌, ℕ, Bool, true, false, cond, not, List, [], ◌∷◌, filter, Option, Some, None, refl, sym, ap, subst, ◌∙◌, arith}
 use Rattle.std.proofs.Math.Bool.{and-false, and-true, or-false, or-true}
+use Rattle.std.specs.Prelude.{unwrap_or}
 use Rattle.std.specs.Borrow.{Bor}
-use Rattle.std.specs.Option.{is_some, option_copied}
+use Rattle.std.specs.Option.{is_some, option_copied, IsSome}
 use Rattle.std.specs.List.Sorted.{IsStrictlySortedBy}
 use Rattle.std.specs.Ordering.{nat_cmp}
-use Rattle.std.specs.Map.{keys_of, lookup, remove_entry}
+use Rattle.std.specs.Map.{keys_of, lookup, remove_entry, set_value}
 use Rattle.std.specs.BTreeMap.{is_at, insert_entry}
 use Rattle.std.proofs.lemmas.Bool.{eqb-true, ne_eqb}
+use Rattle.std.proofs.lemmas.Cmp.{eq_by_cmp_equiv, nat_cmp_total}
+use Rattle.std.proofs.lemmas.Map.{keys-set_value, lookup-set_value}
 use Rattle.std.proofs.lemmas.Map.Made.{is_some-lookup}
 use Rattle.wi_values.proofs.Lookups.{found-insert, found-without}
-use Rattle.wi_values.proofs.Order.{Ascends, Ascends-filter, Ascends-from_order, Ascends-insert, ComeAfter, is_at-eq, order-from_Ascends, turn_test}
+use Rattle.wi_values.proofs.Order.{Ascends, Ascends-filter, Ascends-from_order, Ascends-insert, ComeAfter, at_same, is_at-eq, order-from_Ascends, turn_test}
 use Rattle.wi_sessions.specs.Pictures.Laws.{is_listed}
 use Rattle.wi_sessions.proofs.CellLemmas.{found_listed}
 
@@ -40,6 +43,22 @@ module _ {X : Type 0} where
       by true f = subst (λ (ds : List (ℕ × X)). IsStrictlySortedBy nat_cmp (keys_of ds)) (sym f) h
       by false f = subst (λ (ds : List (ℕ × X)). IsStrictlySortedBy nat_cmp (keys_of ds)) (sym f) (order-from_Ascends _ (Ascends-insert at x es (Ascends-from_order es h)))
 
+  -- it has what it had, or else what was put
+  pub found-with_new : (es new : List (ℕ × X)) (at : ℕ) (x : X) → new ≡ with_new es at x → (q : ℕ)
+      → lookup (is_at (nat_cmp q)) new ≡ cond (is_at (nat_cmp at) q) (Some (unwrap_or (lookup (is_at (nat_cmp at)) es) x)) (lookup (is_at (nat_cmp q)) es)
+  found-with_new es new at x e q = by (lookup (is_at (nat_cmp at)) es) refl e
+    where
+      itself : (v : X) (b : Bool) → is_at (nat_cmp at) q ≡ b → lookup (is_at (nat_cmp at)) es ≡ Some v → lookup (is_at (nat_cmp q)) es ≡ cond b (Some v) (lookup (is_at (nat_cmp q)) es)
+      itself v true t f = ap (λ (a : ℕ). lookup (is_at (nat_cmp a)) es) (at_same at q t) ∙ f
+      itself v false t f = refl
+
+      by : (o : Option X) → lookup (is_at (nat_cmp at)) es ≡ o → new ≡ cond (is_some o) es (insert_entry nat_cmp es at x)
+          → lookup (is_at (nat_cmp q)) new ≡ cond (is_at (nat_cmp at) q) (Some (unwrap_or o x)) (lookup (is_at (nat_cmp q)) es)
+      by (Some v) f g = ap (λ (ds : List (ℕ × X)). lookup (is_at (nat_cmp q)) ds) g ∙ itself v (is_at (nat_cmp at) q) refl f
+      by None f g =
+          ap (λ (ds : List (ℕ × X)). lookup (is_at (nat_cmp q)) ds) g ∙ found-insert es at x q
+          ∙ ap (λ (b : Bool). cond b (Some x) (lookup (is_at (nat_cmp q)) es)) (turn_test q at ∙ sym (is_at-eq at q))
+
   one_or : (t : Bool) (x : X) (o : Option X) → is_some (cond t (Some x) o) ≡ (is_some o || t)
   one_or true x o = sym (or-true (is_some o))
   one_or false x o = sym (or-false (is_some o))
@@ -55,6 +74,17 @@ module _ {X : Type 0} where
           ap (λ (ds : List (ℕ × X)). is_listed (keys_of ds) q) f ∙ sym (has_listed (insert_entry nat_cmp es at x) q)
           ∙ ap is_some (found-insert es at x q) ∙ one_or (q == at) x (lookup (is_at (nat_cmp q)) es)
           ∙ ap (λ (b : Bool). b || (q == at)) (has_listed es q) ∙ ap (λ (b : Bool). is_listed (keys_of es) q || b) (turn_test q at)
+
+  -- ---- something put in the place of what stands
+
+  pub keys-replaced : (es new : List (ℕ × X)) (at : ℕ) (w : X) → new ≡ set_value (is_at (nat_cmp at)) es w → keys_of new ≡ keys_of es
+  keys-replaced es new at w e = ap (λ (ds : List (ℕ × X)). keys_of ds) e ∙ keys-set_value (is_at (nat_cmp at)) es w
+
+  pub found-replaced : (es new : List (ℕ × X)) (at : ℕ) (w : X) → new ≡ set_value (is_at (nat_cmp at)) es w → IsSome (lookup (is_at (nat_cmp at)) es)
+      → (q : ℕ) → lookup (is_at (nat_cmp q)) new ≡ cond (is_at (nat_cmp at) q) (Some w) (lookup (is_at (nat_cmp q)) es)
+  found-replaced es new at w e there q =
+      ap (λ (ds : List (ℕ × X)). lookup (is_at (nat_cmp q)) ds) e
+      ∙ lookup-set_value (eq_by_cmp_equiv nat_cmp_total) (is_at (nat_cmp at)) (λ x y t. (eq_by_cmp_equiv nat_cmp_total).congr at x y t) q w es there
 
   -- ---- something taken away
 

@@ -11,7 +11,7 @@ use Rattle.std.proofs.lemmas.Bool.Decides.{nat_tests}
 use Rattle.std.proofs.lemmas.Map.Made.{is_some-lookup}
 pub use Rattle.wi_values.proofs.Order.{Ascends, Ascends-from_order}
 use Rattle.wi_values.proofs.Order.{ComeAfter, ComeAfter-filter, come_after_earlier, at_itself, at_same, is_at-eq, turn_test, lookup_after}
-use Rattle.wi_sessions.specs.Inner.Rooms.{room_of, HasRoomFor, held_at}
+use Rattle.wi_sessions.specs.Inner.Rooms.{room_of, HasNoVacancy, HasRoomFor, held_at}
 
 pub is_at_apart : (a q : ℕ) → (q ≡ a → ⊥) → is_at (nat_cmp a) q ≡ false
 is_at_apart a q h = grind (arith, nat_tests)
@@ -19,6 +19,10 @@ is_at_apart a q h = grind (arith, nat_tests)
 module _ {X : Type 0} (nothing : X) where
   abbrev or_nothing : Option X → X
   or_nothing o = unwrap_or o nothing
+
+  -- where there is no room none is vacant
+  pub no_rooms : (es : List (ℕ × X)) → es ≡ [] → HasNoVacancy nothing es
+  no_rooms es e = λ q v. let none : None ≡ Some nothing = sym (ap (λ (ds : List (ℕ × X)). room_of ds q) e) ∙ v in cc
 
   -- ---- a room made, filled and taken away
 

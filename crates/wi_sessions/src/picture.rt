@@ -7,8 +7,8 @@ ghost use Rattle.wi_sessions.specs.Pictures.{same_value, value_in, with_changes}
 
 use crate::rooms::{Rooms, put_changes};
 use std::alloc::{AllocError, Global};
-use std::collections::BTreeMap;
 use std::marker::Model;
+use wi_tiles::CellMap;
 use wi_values::{Address, Value};
 
 /// The values of a sheet's cells as they were at some time. A cell that was empty has no value here.
@@ -48,15 +48,16 @@ impl Picture {
         ensures { result ≡ [] }
     {
         Picture {
-            values: BTreeMap::new(alloc),
+            values: CellMap::new(alloc),
         }
     }
 
-    /// The value of a cell; none if it was empty. The work grows with the logarithm of the count of values.
+    /// The value of a cell; none if it was empty. The work is the same however many values there are, but for a search among the
+    /// tiles of 16 rows.
     pub fn value(&self, at: Address) -> Option<&Value>
         ensures { unwrap_or (option_copied result) Empty ≡ value_in self.now at }
     {
-        self.values.get(&at)
+        self.values.get(at)
     }
 
     /// Whether a cell had this value. The work is that of `value`, and a comparison.
@@ -70,7 +71,7 @@ impl Picture {
     }
 
     /// Puts changes in, one after another: cells and the values that they have now. On an error all is as before. The work
-    /// for each change grows with the logarithm of the count of values.
+    /// for each change is that of three look-ups, and of putting a value in where none stands or taking it away.
     pub fn apply(&mut self, mut changes: Vec<(Address, Value)>) -> Result<(), AllocError>
         ensures done { OnOk result (self.new ≡ with_changes self.old changes.items) }
         ensures refused { OnErr result (self.new ≡ self.old) }

@@ -1,4 +1,4 @@
-//! Rooms for the values of a picture. First there is made room for each change. Then values are exchanged, which takes no
+//! Rooms for the values of a picture. First there is made room for each change. Then the values are moved in, which takes no
 //! memory. At the end the vacant rooms go, which are those with Empty.
 
 ghost use Rattle.std.specs.Prelude.{◌≡◌, ◌≢◌, ◌==◌, ◌⊎◌, ◌↔◌, ℕ, IsTrue, All, Some, OnOk, OnErr, if◌then◌else◌};
@@ -8,12 +8,12 @@ ghost use Rattle.wi_sessions.specs.Pictures.{value_in, with_changes};
 ghost use Rattle.wi_sessions.specs.Inner.Rooms.{room_of, HasRoomFor, RoomsAreInOrder, HasNoVacancy, VacantOnlyAt, HoldsTheSame};
 
 use std::alloc::AllocError;
-use std::collections::BTreeMap;
 use std::mem;
+use wi_tiles::CellMap;
 use wi_values::{Address, Value};
 
 /// The rooms by their cells.
-pub(crate) type Rooms = BTreeMap<Address, Value>;
+pub(crate) type Rooms = CellMap<Value>;
 
 /// A cell, and the value that it has now.
 pub(crate) type Change = (Address, Value);
@@ -27,7 +27,7 @@ fn make_one(rooms: &mut Rooms, at: Address) -> Result<(), AllocError>
     ensures kept { (change : ℕ × Value) → HasRoomFor rooms.old.entries change → HasRoomFor rooms.new.entries change }
     ensures room { OnOk result ((v : Value) → HasRoomFor rooms.new.entries (at, v)) }
 {
-    rooms.entry(at)?.or_insert(Value::Empty);
+    rooms.put_new(at, Value::Empty)?;
     Ok(())
 }
 
@@ -46,17 +46,16 @@ fn make_room(rooms: &mut Rooms, changes: &[Change]) -> Result<(), AllocError>
     Ok(())
 }
 
-/// Exchanges a value with the one that stands in a cell's room.
+/// Moves a value into a cell's room, in the place of the one that stands there.
 fn exchange(rooms: &mut Rooms, at: Address, value: &mut Value)
     requires { HasRoomFor rooms.old.entries (at, value.old) }
     ensures values { (c : ℕ) → value_in rooms.new.entries c ≡ (if c == at then value.old else value_in rooms.old.entries c) }
-    ensures order { RoomsAreInOrder rooms.new.entries }
+    ensures order { RoomsAreInOrder rooms.old.entries → RoomsAreInOrder rooms.new.entries }
     ensures rooms { keys_of rooms.new.entries ≡ keys_of rooms.old.entries }
     ensures others { (c : ℕ) → c ≢ at → room_of rooms.new.entries c ≡ room_of rooms.old.entries c }
 {
-    if let Some(room) = rooms.get_mut(&at) {
-        mem::swap(room, value);
-    }
+    let new = mem::replace(value, Value::Empty);
+    let _ = rooms.replace(at, new);
 }
 
 /// Puts the values of the changes into the rooms of their cells, one after another.
@@ -78,18 +77,19 @@ fn exchange_all(rooms: &mut Rooms, changes: &mut [Change])
 fn is_vacant(rooms: &Rooms, at: Address) -> bool
     ensures { IsTrue result ↔ (room_of rooms.now.entries at ≡ Some Empty) }
 {
-    matches!(rooms.get(&at), Some(Value::Empty))
+    matches!(rooms.get(at), Some(Value::Empty))
 }
 
 /// Takes away the room of a cell if it is vacant.
 fn release_one(rooms: &mut Rooms, at: Address)
+    requires { RoomsAreInOrder rooms.old.entries }
     ensures values { HoldsTheSame Empty rooms.old.entries rooms.new.entries }
-    ensures order { RoomsAreInOrder rooms.old.entries → RoomsAreInOrder rooms.new.entries }
+    ensures order { RoomsAreInOrder rooms.new.entries }
     ensures released { room_of rooms.new.entries at ≢ Some Empty }
     ensures vacant { (c : ℕ) → room_of rooms.new.entries c ≡ Some Empty → room_of rooms.old.entries c ≡ Some Empty }
 {
     if is_vacant(rooms, at) {
-        let _ = rooms.remove(&at);
+        let _ = rooms.remove(at);
     }
 }
 

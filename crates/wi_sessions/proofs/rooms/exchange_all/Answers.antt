@@ -12,7 +12,7 @@ loop-change-preserved c =
     record {
       values = values_more (with_changes c.args.rooms.now.entries c.args.changes.now) c.loop-change.rooms.entries c.exchange.new.rooms.entries
           c.loop-change.changes c.loop-change.change-index c.change-item.result _ below c.exchange.ensures.values c.loop-change.invariant.values;
-      order = c.exchange.ensures.order;
+      order = c.exchange.ensures.order c.loop-change.invariant.order;
       room = room_more c.loop-change.changes c.loop-change.change-index (get_or c.loop-change.changes c.loop-change.change-index c.change-item.result).0 c.exchange.new.value
           (get_or c.loop-change.changes c.loop-change.change-index c.change-item.result).1
           c.loop-change.rooms.entries c.exchange.new.rooms.entries c.exchange.ensures.rooms

@@ -1,49 +1,49 @@
-use Rattle.std.proofs.Common.{◌≡◌, ℕ, List, ◌∙◌, Option, inr, sym, ap, subst, arith}
-use Rattle.std.specs.Prelude.{unwrap_or, OnErr}
+use Rattle.std.proofs.Common.{◌∙◌, cond, inr, refl, sym, ap, subst, Some}
+use Rattle.std.specs.Option.{is_some}
 use Rattle.std.specs.Ordering.{nat_cmp}
 use Rattle.std.specs.BTreeMap.{is_at}
-use Rattle.wi_values.specs.declared.value.Value.{Value}
+use Rattle.wi_values.proofs.Order.{at_itself}
 use Rattle.wi_values.specs.declared.value.Value.TheVariants.{Empty}
 use Rattle.wi_sessions.specs.Inner.Rooms.{held_at, room_of, HasRoomFor, RoomsAreInOrder}
+use Rattle.wi_sessions.proofs.EntryLemmas.{found-with_new, order-with_new}
 use Rattle.wi_sessions.proofs.RoomLemmas.{held_made, vacancy_made, room_kept}
 use Rattle.wi_sessions.proofs.rooms.make_one.Goals as goal
 
 pub returns-clause-values : goal.returns-clause-values
 returns-clause-values c =
-    let w = c.or_insert.result.now in
-    let had : w ≡ held_at Empty c.args.rooms.now.entries c.args.at = c.or_insert.ensures.value ∙ ap (λ (o : Option Value). unwrap_or o Empty) c.in_ok-rooms.ensures.value in
-    λ q. held_made Empty c.args.at q w c.args.rooms.now.entries _ (grind (arith, (c.in_ok-rooms.ensures.update.0 w).0 q)) had
+    let w = held_at Empty c.args.rooms.now.entries c.args.at in
+    λ q. held_made Empty c.args.at q w c.args.rooms.now.entries c.put_new.new.self.entries
+    (found-with_new c.args.rooms.now.entries c.put_new.new.self.entries c.args.at Empty c.in_ok-put_new.ensures.entries q) refl
+
+pub returns-clause-order : goal.returns-clause-order
+returns-clause-order c = λ h. order-with_new c.args.rooms.now.entries c.put_new.new.self.entries c.args.at Empty c.in_ok-put_new.ensures.entries h
 
 pub returns-clause-vacant : goal.returns-clause-vacant
 returns-clause-vacant c =
-    let w = c.or_insert.result.now in
-    λ q h. vacancy_made Empty c.args.at q w _ _ (grind (arith, (c.in_ok-rooms.ensures.update.0 w).0 q)) h
+    let w = held_at Empty c.args.rooms.now.entries c.args.at in
+    λ q h. vacancy_made Empty c.args.at q w (room_of c.put_new.new.self.entries q) (room_of c.args.rooms.now.entries q)
+    (found-with_new c.args.rooms.now.entries c.put_new.new.self.entries c.args.at Empty c.in_ok-put_new.ensures.entries q) h
 
 pub returns-clause-kept : goal.returns-clause-kept
 returns-clause-kept c =
-    let w = c.or_insert.result.now in
-    λ e h. room_kept (is_at (nat_cmp c.args.at) e.0) _ _ w (grind (arith, (c.in_ok-rooms.ensures.update.0 w).0 e.0)) h
+    let w = held_at Empty c.args.rooms.now.entries c.args.at in
+    λ e h. room_kept (is_at (nat_cmp c.args.at) e.0) (room_of c.put_new.new.self.entries e.0) (room_of c.args.rooms.now.entries e.0) w
+    (found-with_new c.args.rooms.now.entries c.put_new.new.self.entries c.args.at Empty c.in_ok-put_new.ensures.entries e.0) h
 
-pub returns-in_err-rooms-clause-values : goal.returns-in_err-rooms-clause-values
-returns-in_err-rooms-clause-values c =
-    let same : c.entry.follows.lender-at-none.entries ≡ c.args.rooms.now.entries =
-    subst (λ r. OnErr r (c.entry.follows.lender-at-none.entries ≡ c.args.rooms.now.entries)) c.in_err-rooms.was c.entry.follows.holds-at-none in
-    λ q. ap (λ (es : List (ℕ × Value)). held_at Empty es q) same
+pub returns-clause-room : goal.returns-clause-room
+returns-clause-room c =
+    let old = c.args.rooms.now.entries in
+    λ v. ap is_some (found-with_new old c.put_new.new.self.entries c.args.at Empty c.in_ok-put_new.ensures.entries c.args.at)
+    ∙ ap (λ b. is_some (cond b (Some (held_at Empty old c.args.at)) (room_of old c.args.at))) (at_itself c.args.at)
 
-pub returns-in_err-rooms-clause-order : goal.returns-in_err-rooms-clause-order
-returns-in_err-rooms-clause-order c =
-    let same : c.entry.follows.lender-at-none.entries ≡ c.args.rooms.now.entries =
-    subst (λ r. OnErr r (c.entry.follows.lender-at-none.entries ≡ c.args.rooms.now.entries)) c.in_err-rooms.was c.entry.follows.holds-at-none in
-    subst (λ (es : List (ℕ × Value)). RoomsAreInOrder es) (sym same)
+pub returns-in_err-put_new-clause-values : goal.returns-in_err-put_new-clause-values
+returns-in_err-put_new-clause-values c = λ q. ap (λ m. held_at Empty m.entries q) c.in_err-put_new.ensures.err
 
-pub returns-in_err-rooms-clause-vacant : goal.returns-in_err-rooms-clause-vacant
-returns-in_err-rooms-clause-vacant c =
-    let same : c.entry.follows.lender-at-none.entries ≡ c.args.rooms.now.entries =
-    subst (λ r. OnErr r (c.entry.follows.lender-at-none.entries ≡ c.args.rooms.now.entries)) c.in_err-rooms.was c.entry.follows.holds-at-none in
-    λ q v. inr (ap (λ (es : List (ℕ × Value)). room_of es q) (sym same) ∙ v)
+pub returns-in_err-put_new-clause-order : goal.returns-in_err-put_new-clause-order
+returns-in_err-put_new-clause-order c = subst (λ m. RoomsAreInOrder m.entries) (sym c.in_err-put_new.ensures.err)
 
-pub returns-in_err-rooms-clause-kept : goal.returns-in_err-rooms-clause-kept
-returns-in_err-rooms-clause-kept c =
-    let same : c.entry.follows.lender-at-none.entries ≡ c.args.rooms.now.entries =
-    subst (λ r. OnErr r (c.entry.follows.lender-at-none.entries ≡ c.args.rooms.now.entries)) c.in_err-rooms.was c.entry.follows.holds-at-none in
-    λ change h. subst (λ (es : List (ℕ × Value)). HasRoomFor es change) (sym same) h
+pub returns-in_err-put_new-clause-vacant : goal.returns-in_err-put_new-clause-vacant
+returns-in_err-put_new-clause-vacant c = λ q v. inr (ap (λ m. room_of m.entries q) (sym c.in_err-put_new.ensures.err) ∙ v)
+
+pub returns-in_err-put_new-clause-kept : goal.returns-in_err-put_new-clause-kept
+returns-in_err-put_new-clause-kept c = λ change h. subst (λ m. HasRoomFor m.entries change) (sym c.in_err-put_new.ensures.err) h

@@ -1,12 +1,29 @@
+use Rattle.std.proofs.Common.{◌≡◌, ◌∙◌, ap, cond, None}
 use Rattle.std.specs.Ordering.{nat_cmp}
 use Rattle.std.specs.BTreeMap.{is_at}
+use Rattle.wi_values.proofs.Order.{at_itself}
 use Rattle.wi_values.specs.declared.value.Value.TheVariants.{Empty}
+use Rattle.wi_sessions.specs.Inner.Rooms.{room_of}
+use Rattle.wi_sessions.proofs.EntryLemmas.{found-removed, order-removed}
 use Rattle.wi_sessions.proofs.RoomLemmas.{held_released, vacancy_kept}
 use Rattle.wi_sessions.proofs.rooms.release_one.Goals as goal
 
 pub returns-then-is_vacant-clause-values : goal.returns-then-is_vacant-clause-values
 returns-then-is_vacant-clause-values c =
-    λ q. held_released Empty c.args.at q c.args.rooms.now.entries c.remove.new.self.entries (c.remove.ensures.updates.0 q) (c.is_vacant.ensures.0 c.if-is_vacant.true)
+    λ q. held_released Empty c.args.at q c.args.rooms.now.entries c.remove.new.self.entries
+    (found-removed c.args.rooms.now.entries c.remove.new.self.entries c.args.at c.remove.ensures.entries c.requires q) (c.is_vacant.ensures.0 c.if-is_vacant.true)
+
+pub returns-then-is_vacant-clause-order : goal.returns-then-is_vacant-clause-order
+returns-then-is_vacant-clause-order c = order-removed c.args.rooms.now.entries c.remove.new.self.entries c.args.at c.remove.ensures.entries c.requires
+
+pub returns-then-is_vacant-clause-released : goal.returns-then-is_vacant-clause-released
+returns-then-is_vacant-clause-released c =
+    let none : room_of c.remove.new.self.entries c.args.at ≡ None =
+    found-removed c.args.rooms.now.entries c.remove.new.self.entries c.args.at c.remove.ensures.entries c.requires c.args.at
+    ∙ ap (λ b. cond b None (room_of c.args.rooms.now.entries c.args.at)) (at_itself c.args.at) in
+    λ vacant. cc
 
 pub returns-then-is_vacant-clause-vacant : goal.returns-then-is_vacant-clause-vacant
-returns-then-is_vacant-clause-vacant c = λ q h. vacancy_kept Empty (is_at (nat_cmp c.args.at) q) _ _ (c.remove.ensures.updates.0 q) h
+returns-then-is_vacant-clause-vacant c =
+    λ q h. vacancy_kept Empty (is_at (nat_cmp c.args.at) q) (room_of c.remove.new.self.entries q) (room_of c.args.rooms.now.entries q)
+    (found-removed c.args.rooms.now.entries c.remove.new.self.entries c.args.at c.remove.ensures.entries c.requires q) h

@@ -1,5 +1,12 @@
-use Rattle.std.proofs.Common.{rules}
+use Rattle.std.proofs.Common.{ap, rules}
+use Rattle.std.specs.Map.{keys_of}
+use Rattle.wi_values.specs.declared.value.Value.TheVariants.{Empty}
+use Rattle.wi_sessions.proofs.CellLemmas.{none_in_order}
+use Rattle.wi_sessions.proofs.RoomLemmas.{no_rooms}
 use Rattle.wi_sessions.proofs.picture.Picture.new.Goals as goal
 
 pub returns : goal.returns
 returns c = search rules
+
+pub invariant_of-result : goal.invariant_of-result
+invariant_of-result c = (none_in_order (keys_of c.new.result.entries) (ap (λ es. keys_of es) c.new.ensures), no_rooms Empty c.new.result.entries c.new.ensures)
