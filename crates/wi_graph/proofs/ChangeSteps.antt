@@ -12,15 +12,16 @@ use Rattle.wi_values.specs.contracts.rect.RectPartialEq.TheImpl as rect
 use Rattle.std.specs.Ordering.{nat_cmp}
 use Rattle.std.specs.Map.{keys_of, lookup}
 use Rattle.std.specs.Global.{Vec}
-use Rattle.std.specs.BTreeMap.{get, is_at, IsOrdered}
+use Rattle.std.specs.BTreeMap.{is_at}
 use Rattle.wi_values.specs.Address.{Area}
+use Rattle.wi_tiles.specs.Entries.{get, IsOrdered}
 use Rattle.wi_values.specs.declared.value.Value.TheVariants.{Empty}
 use Rattle.wi_parser.specs.declared.content.Content.{Content}
 use Rattle.wi_parser.specs.declared.content.Content.TheVariants.{Constant}
 use Rattle.wi_parser.specs.Sheet.{Sheet, content_of}
 use Rattle.wi_graph.specs.Reach.{SameOff}
 use Rattle.wi_graph.specs.Edges.{Edges, areas_in, areas_at, with_areas, edges_after}
-use Rattle.wi_graph.specs.Inner.Rooms.{Rooms, items_of, in_room, room_at, put_over, room_over, edges_in, edges_over}
+use Rattle.wi_graph.specs.Inner.Rooms.{Rooms, Coming, brought_to, items_of, in_room, room_at, put_over, room_over, edges_in, edges_over}
 use Rattle.wi_graph.specs.Inner.Changes.{areas_then, Brings, HasNoIdle, ReadsStay}
 use Rattle.wi_graph.proofs.Tests.{at_same, turn_test, is_at-eq}
 use Rattle.wi_graph.proofs.Walks.{same_cell}
@@ -42,22 +43,22 @@ pub cells_step : (xs : List (ℕ × Option Content)) (i : ℕ) (x : ℕ × Optio
 cells_step xs i x old new l e n h = n ∙ ap (λ (ys : List ℕ). ys ++ x.0 ∷ []) h ∙ sym (cells_more (take i xs) x) ∙ ap keys_of (sym (took xs i x l e))
 
 -- what is next for a cell is put in, or taken out
-abbrev pub Updates : ℕ → Option (Option (Vec Area)) → Rooms → Rooms → Type 0
-Updates k x old new = (q : ℕ) → get nat_cmp new q ≡ cond (is_at (nat_cmp k) q) x (get nat_cmp old q)
+abbrev pub Updates : ℕ → Option (Option (Vec Area)) → Coming → Coming → Type 0
+Updates k x old new = (q : ℕ) → brought_to new q ≡ cond (is_at (nat_cmp k) q) x (brought_to old q)
 
-abbrev pub Puts : Rooms → ℕ → Option (List Area) → Rooms → Rooms → Type 0
+abbrev pub Puts : Rooms → ℕ → Option (List Area) → Coming → Coming → Type 0
 Puts rooms k o old new = (c : ℕ) → room_over new rooms c ≡ (if k == c then o else room_over old rooms c)
 
-next_step : (rooms old new : Rooms) (k : ℕ) (x : Option (Option (Vec Area))) (o : Option (List Area)) → put_over x (room_at rooms k) ≡ o → Updates k x old new → Puts rooms k o old new
+next_step : (rooms : Rooms) (old new : Coming) (k : ℕ) (x : Option (Option (Vec Area))) (o : Option (List Area)) → put_over x (room_at rooms k) ≡ o → Updates k x old new → Puts rooms k o old new
 next_step rooms old new k x o e u c = ap (λ (z : Option (Option (Vec Area))). put_over z (room_at rooms c)) (u c) ∙ at (is_at (nat_cmp k) c) (k == c) (is_at-eq k c) refl
   where
-    at : (b d : Bool) → b ≡ d → (k == c) ≡ d → put_over (cond b x (get nat_cmp old c)) (room_at rooms c) ≡ cond d o (room_over old rooms c)
+    at : (b d : Bool) → b ≡ d → (k == c) ≡ d → put_over (cond b x (brought_to old c)) (room_at rooms c) ≡ cond d o (room_over old rooms c)
     at true true s f = ap (λ (y : ℕ). put_over x (room_at rooms y)) (sym (same_cell c k f)) ∙ e
     at false false s f = refl
     at true false s f = cc
     at false true s f = cc
 
-pub next_put : (rooms old new : Rooms) (k : ℕ) (r : Option (Vec Area)) → Updates k (Some r) old new → Puts rooms k (items_of r) old new
+pub next_put : (rooms : Rooms) (old new : Coming) (k : ℕ) (r : Option (Vec Area)) → Updates k (Some r) old new → Puts rooms k (items_of r) old new
 next_put rooms old new k r u = next_step rooms old new k (Some r) (items_of r) refl u
 
 none_both : (o p : Option (List Area)) → (is_none o && is_none p) ≡ true → o ≡ p
@@ -65,20 +66,20 @@ none_both None None h = refl
 none_both None (Some x) h = cc
 none_both (Some x) p h = cc
 
-pub next_out : (rooms old new : Rooms) (k : ℕ) (r : Option (Vec Area)) → (is_none (items_of r) && is_none (room_at rooms k)) ≡ true → Updates k None old new → Puts rooms k (items_of r) old new
+pub next_out : (rooms : Rooms) (old new : Coming) (k : ℕ) (r : Option (Vec Area)) → (is_none (items_of r) && is_none (room_at rooms k)) ≡ true → Updates k None old new → Puts rooms k (items_of r) old new
 next_out rooms old new k r h u = next_step rooms old new k None (items_of r) (sym (none_both (items_of r) (room_at rooms k) h)) u
 
 -- nothing idle is next after it either
-no_idle_step : (rooms old new : Rooms) (k : ℕ) (x : Option (Option (Vec Area))) → (room_at rooms k ≡ None → in_room x ≡ None → x ≡ None) → Updates k x old new → HasNoIdle rooms old → HasNoIdle rooms new
+no_idle_step : (rooms : Rooms) (old new : Coming) (k : ℕ) (x : Option (Option (Vec Area))) → (room_at rooms k ≡ None → in_room x ≡ None → x ≡ None) → Updates k x old new → HasNoIdle rooms old → HasNoIdle rooms new
 no_idle_step rooms old new k x e u h c n m = u c ∙ at (is_at (nat_cmp k) c) (k == c) (is_at-eq k c) refl (ap in_room (sym (u c)) ∙ m)
   where
-    at : (b d : Bool) → b ≡ d → (k == c) ≡ d → in_room (cond b x (get nat_cmp old c)) ≡ None → cond b x (get nat_cmp old c) ≡ None
+    at : (b d : Bool) → b ≡ d → (k == c) ≡ d → in_room (cond b x (brought_to old c)) ≡ None → cond b x (brought_to old c) ≡ None
     at true true s f i = e (ap (room_at rooms) (same_cell c k f) ∙ n) i
     at false false s f i = h c n i
     at true false s f i = cc
     at false true s f i = cc
 
-pub out_idle : (rooms old new : Rooms) (k : ℕ) → Updates k None old new → HasNoIdle rooms old → HasNoIdle rooms new
+pub out_idle : (rooms : Rooms) (old new : Coming) (k : ℕ) → Updates k None old new → HasNoIdle rooms old → HasNoIdle rooms new
 out_idle rooms old new k u = no_idle_step rooms old new k None (λ n i. refl) u
 
 not_both : (o p : Option (List Area)) → o ≡ None → p ≡ None → (is_none o && is_none p) ≡ true
@@ -86,10 +87,10 @@ not_both None None e f = refl
 not_both None (Some x) e f = cc
 not_both (Some x) p e f = cc
 
-pub put_idle : (rooms old new : Rooms) (k : ℕ) (r : Option (Vec Area)) → (is_none (items_of r) && is_none (room_at rooms k)) ≡ false → Updates k (Some r) old new → HasNoIdle rooms old → HasNoIdle rooms new
+pub put_idle : (rooms : Rooms) (old new : Coming) (k : ℕ) (r : Option (Vec Area)) → (is_none (items_of r) && is_none (room_at rooms k)) ≡ false → Updates k (Some r) old new → HasNoIdle rooms old → HasNoIdle rooms new
 put_idle rooms old new k r h u = no_idle_step rooms old new k (Some r) (λ n i. let z : true ≡ false = sym (not_both (items_of r) (room_at rooms k) i n) ∙ h in cc) u
 
-pub brings_step : (xs : List (ℕ × Option Content)) (i : ℕ) (x : ℕ × Option Content) (rooms old new : Rooms) (o : Option (List Area)) → i < length xs → x ≡ get_or xs i x → o ≡ areas_in x.1 → Puts rooms x.0 o old new → Brings rooms old (take i xs) → Brings rooms new (take (i + 1) xs)
+pub brings_step : (xs : List (ℕ × Option Content)) (i : ℕ) (x : ℕ × Option Content) (rooms : Rooms) (old new : Coming) (o : Option (List Area)) → i < length xs → x ≡ get_or xs i x → o ≡ areas_in x.1 → Puts rooms x.0 o old new → Brings rooms old (take i xs) → Brings rooms new (take (i + 1) xs)
 brings_step xs i x rooms old new o l e g u h c =
     u c ∙ ap (λ (b : Bool). cond b o (room_over old rooms c)) (turn_test x.0 c) ∙ at (c == x.0) ∙ sym (then_more (take i xs) x c (room_at rooms c))
     ∙ ap (λ (ys : List (ℕ × Option Content)). areas_then ys c (room_at rooms c)) (sym (took xs i x l e))
@@ -98,13 +99,13 @@ brings_step xs i x rooms old new o l e g u h c =
     at true = g
     at false = h c
 
-pub brings_start : (rooms next : Rooms) → next.entries ≡ [] → Brings rooms next [] × HasNoIdle rooms next
+pub brings_start : (rooms : Rooms) (next : Coming) → next ≡ [] → Brings rooms next [] × HasNoIdle rooms next
 brings_start rooms next e = (λ c. ap (λ (o : Option (Option (Vec Area))). put_over o (room_at rooms c)) (none c), λ c h k. none c)
   where
-    none : (c : ℕ) → get nat_cmp next c ≡ None
-    none c = ap (λ (es : List (ℕ × Option (Vec Area))). lookup (is_at (nat_cmp c)) es) e
+    none : (c : ℕ) → brought_to next c ≡ None
+    none c = ap (λ (es : Coming). brought_to es c) e
 
-pub brings_end : (rooms next : Rooms) (xs : List (ℕ × Option Content)) (i : ℕ) → length xs ≤ i → Brings rooms next (take i xs) → Brings rooms next xs
+pub brings_end : (rooms : Rooms) (next : Coming) (xs : List (ℕ × Option Content)) (i : ℕ) → length xs ≤ i → Brings rooms next (take i xs) → Brings rooms next xs
 brings_end rooms next xs i l h = subst (λ (ys : List (ℕ × Option Content)). Brings rooms next ys) (take_all i xs l) h
 
 -- ---- the edges after it
@@ -113,14 +114,14 @@ then_edges : (es : Edges) (xs : List (ℕ × Option Content)) (c : ℕ) → area
 then_edges es [] c = refl
 then_edges es (x ∷ xs) c = then_edges (with_areas es x.0 (areas_in x.1)) xs c ∙ ap (areas_then xs c) (areas_with es x.0 (areas_in x.1) c)
 
-pub staged_edges : (rooms new next later : Rooms) (xs : List (ℕ × Option Content)) → IsOrdered nat_cmp rooms → IsOrdered nat_cmp new → Brings rooms next xs → ((c : ℕ) → room_at new c ≡ room_at rooms c) → ((c : ℕ) → get nat_cmp later c ≡ get nat_cmp next c) →
-    edges_over (edges_in new.entries) later.entries ≡ edges_after (edges_in rooms.entries) xs
+pub staged_edges : (rooms new : Rooms) (next later : Coming) (xs : List (ℕ × Option Content)) → IsOrdered nat_cmp rooms → IsOrdered nat_cmp new → Brings rooms next xs → ((c : ℕ) → room_at new c ≡ room_at rooms c) → ((c : ℕ) → brought_to later c ≡ brought_to next c) →
+    edges_over (edges_in new.entries) later ≡ edges_after (edges_in rooms.entries) xs
 staged_edges rooms new next later xs o p b e f =
     let s = Ascends-from_order rooms.entries o in
     let t = Ascends-from_order new.entries p in
-    same_edges (edges_over (edges_in new.entries) later.entries) (edges_after (edges_in rooms.entries) xs) (ascends_over (edges_in new.entries) later.entries (ascends_rooms new.entries t)) (ascends_after (edges_in rooms.entries) xs (ascends_rooms rooms.entries s))
-    (λ q. areas_over (edges_in new.entries) later.entries q ∙ ap (λ (z : Option (Option (Vec Area))). put_over z (areas_at (edges_in new.entries) q)) (f q)
-    ∙ ap (put_over (get nat_cmp next q)) (areas_rooms new.entries t q ∙ e q) ∙ b q ∙ ap (areas_then xs q) (sym (areas_rooms rooms.entries s q)) ∙ sym (then_edges (edges_in rooms.entries) xs q))
+    same_edges (edges_over (edges_in new.entries) later) (edges_after (edges_in rooms.entries) xs) (ascends_over (edges_in new.entries) later (ascends_rooms new.entries t)) (ascends_after (edges_in rooms.entries) xs (ascends_rooms rooms.entries s))
+    (λ q. areas_over (edges_in new.entries) later q ∙ ap (λ (z : Option (Option (Vec Area))). put_over z (areas_at (edges_in new.entries) q)) (f q)
+    ∙ ap (put_over (brought_to next q)) (areas_rooms new.entries t q ∙ e q) ∙ b q ∙ ap (areas_then xs q) (sym (areas_rooms rooms.entries s q)) ∙ sym (then_edges (edges_in rooms.entries) xs q))
 
 -- ---- what stays
 
@@ -138,44 +139,44 @@ no_room rooms c r None e f = (λ h. sym (ap in_room e), λ h. f)
 no_room rooms c r (Some v) e f = (λ h. cc, λ h. let z : Some v.items ≡ None = h ∙ ap in_room e in cc)
 
 -- these rooms are as those that stand
-abbrev pub AreAsBefore : Rooms → List (ℕ × Option (Vec Area)) → Type 0
-AreAsBefore rooms es = (c : ℕ) → IfSome (lookup (is_at (nat_cmp c)) es) (λ r. items_of r ≡ room_at rooms c)
+abbrev pub AreAsBefore : Rooms → Coming → Type 0
+AreAsBefore rooms es = (c : ℕ) → IfSome (brought_to es c) (λ r. items_of r ≡ room_at rooms c)
 
-pub one_as_before : (rooms : Rooms) (x : ℕ × Option (Vec Area)) (es fs : List (ℕ × Option (Vec Area))) → es ≡ x ∷ fs → items_of x.1 ≡ room_at rooms x.0 → AreAsBefore rooms fs → AreAsBefore rooms es
-one_as_before rooms x es fs e k h c = subst (λ (gs : List (ℕ × Option (Vec Area))). IfSome (lookup (is_at (nat_cmp c)) gs) (λ r. items_of r ≡ room_at rooms c)) (sym e) (at (is_at (nat_cmp c) x.0) refl)
+pub one_as_before : (rooms : Rooms) (x : ℕ × Option (Vec Area)) (es fs : Coming) → es ≡ x ∷ fs → items_of x.1 ≡ room_at rooms x.0 → AreAsBefore rooms fs → AreAsBefore rooms es
+one_as_before rooms x es fs e k h c = subst (λ (gs : Coming). IfSome (brought_to gs c) (λ r. items_of r ≡ room_at rooms c)) (sym e) (at (is_at (nat_cmp c) x.0) refl)
   where
     at : (b : Bool) → is_at (nat_cmp c) x.0 ≡ b → IfSome (cond b (Some x.1) (lookup (is_at (nat_cmp c)) fs)) (λ r. items_of r ≡ room_at rooms c)
     at true f = k ∙ ap (room_at rooms) (at_same c x.0 f)
     at false f = h c
 
-pub none_as_before : (rooms : Rooms) (es : List (ℕ × Option (Vec Area))) → es ≡ [] → AreAsBefore rooms es
+pub none_as_before : (rooms : Rooms) (es : Coming) → es ≡ [] → AreAsBefore rooms es
 none_as_before rooms es e = subst (AreAsBefore rooms) (sym e) (λ c. tt)
 
 pub fewer_left : {A : Type 0} (x : A) (xs ys : List A) → xs ≡ x ∷ ys → length ys < length xs
 fewer_left x xs ys e = omega (arith, ap length e)
 
-pub all_as_before : (rooms next : Rooms) → AreAsBefore rooms next.entries → ReadsStay rooms next
-all_as_before rooms next h c = at (get nat_cmp next c) (h c)
+pub all_as_before : (rooms : Rooms) (next : Coming) → AreAsBefore rooms next → ReadsStay rooms next
+all_as_before rooms next h c = at (brought_to next c) (h c)
   where
     at : (o : Option (Option (Vec Area))) → IfSome o (λ r. items_of r ≡ room_at rooms c) → put_over o (room_at rooms c) ≡ room_at rooms c
     at None k = refl
     at (Some r) k = k
 
-pub one_stays : (rooms next : Rooms) (c : ℕ) (r : Option (Vec Area)) → get nat_cmp next c ≡ Some r → ReadsStay rooms next → items_of r ≡ room_at rooms c
+pub one_stays : (rooms : Rooms) (next : Coming) (c : ℕ) (r : Option (Vec Area)) → brought_to next c ≡ Some r → ReadsStay rooms next → items_of r ≡ room_at rooms c
 one_stays rooms next c r e h = ap (λ (o : Option (Option (Vec Area))). put_over o (room_at rooms c)) (sym e) ∙ h c
 
 -- so are the edges
-pub stay_edges : (rooms next : Rooms) → IsOrdered nat_cmp rooms → ReadsStay rooms next → edges_over (edges_in rooms.entries) next.entries ≡ edges_in rooms.entries
+pub stay_edges : (rooms : Rooms) (next : Coming) → IsOrdered nat_cmp rooms → ReadsStay rooms next → edges_over (edges_in rooms.entries) next ≡ edges_in rooms.entries
 stay_edges rooms next o h =
     let a = Ascends-from_order rooms.entries o in
     let s = ascends_rooms rooms.entries a in
-    same_edges (edges_over (edges_in rooms.entries) next.entries) (edges_in rooms.entries) (ascends_over (edges_in rooms.entries) next.entries s) s
-    (λ q. areas_over (edges_in rooms.entries) next.entries q ∙ ap (put_over (get nat_cmp next q)) (areas_rooms rooms.entries a q) ∙ h q ∙ sym (areas_rooms rooms.entries a q))
+    same_edges (edges_over (edges_in rooms.entries) next) (edges_in rooms.entries) (ascends_over (edges_in rooms.entries) next s) s
+    (λ q. areas_over (edges_in rooms.entries) next q ∙ ap (put_over (brought_to next q)) (areas_rooms rooms.entries a q) ∙ h q ∙ sym (areas_rooms rooms.entries a q))
 
-pub edges_stay : (rooms next : Rooms) → IsOrdered nat_cmp rooms → edges_over (edges_in rooms.entries) next.entries ≡ edges_in rooms.entries → ReadsStay rooms next
+pub edges_stay : (rooms : Rooms) (next : Coming) → IsOrdered nat_cmp rooms → edges_over (edges_in rooms.entries) next ≡ edges_in rooms.entries → ReadsStay rooms next
 edges_stay rooms next o e c =
     let a = Ascends-from_order rooms.entries o in
-    ap (put_over (get nat_cmp next c)) (sym (areas_rooms rooms.entries a c)) ∙ sym (areas_over (edges_in rooms.entries) next.entries c) ∙ ap (λ (es : Edges). areas_at es c) e ∙ areas_rooms rooms.entries a c
+    ap (put_over (brought_to next c)) (sym (areas_rooms rooms.entries a c)) ∙ sym (areas_over (edges_in rooms.entries) next c) ∙ ap (λ (es : Edges). areas_at es c) e ∙ areas_rooms rooms.entries a c
 
 -- ---- a sheet after it
 

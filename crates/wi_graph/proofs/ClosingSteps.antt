@@ -6,7 +6,7 @@ use Rattle.std.specs.List.{list_any}
 use Rattle.std.specs.Map.{keys_of, lookup}
 use Rattle.std.specs.Ordering.{nat_cmp}
 use Rattle.std.specs.Global.{Vec}
-use Rattle.std.specs.BTreeMap.{get, is_at}
+use Rattle.std.specs.BTreeMap.{is_at}
 use Rattle.std.specs.BTreeSet.{BTreeSet, btree_set_len, contains}
 use Rattle.wi_values.specs.Address.{Area, is_within}
 use Rattle.wi_values.proofs.Within.{within_between}
@@ -17,7 +17,7 @@ use Rattle.wi_graph.specs.Reach.{is_one_of}
 use Rattle.wi_graph.specs.Edges.{areas_in}
 use Rattle.wi_graph.specs.declared.turning.Turns.{Turns}
 use Rattle.wi_graph.specs.Inner.Changes.{IsEditCone}
-use Rattle.wi_graph.specs.Inner.Rooms.{Rooms, items_of, room_at, put_over, areas_of, AreCircles}
+use Rattle.wi_graph.specs.Inner.Rooms.{Rooms, Coming, brought_to, items_of, room_at, put_over, areas_of, AreCircles}
 use Rattle.wi_graph.specs.Inner.Stripping.{is_in}
 use Rattle.wi_graph.specs.Inner.Turning.{has_one, reads_one_of, AreTurns}
 use Rattle.wi_graph.specs.Inner.Within.{IsAhead, IsFoundBy}
@@ -49,7 +49,7 @@ has_one_is cells r (Some d) f n = sym (found (is_within r) cells.keys d (sym (tu
 
 -- ---- what reads none of them
 
-none_read : (cells : BTreeSet ℕ) (es : List (ℕ × Option (Vec Area))) (c : ℕ) (r : Option (Vec Area)) → lookup (is_at (nat_cmp c)) es ≡ Some r → reads_one_of es cells ≡ false → list_any (has_one cells) (areas_of (items_of r)) ≡ false
+none_read : (cells : BTreeSet ℕ) (es : Coming) (c : ℕ) (r : Option (Vec Area)) → brought_to es c ≡ Some r → reads_one_of es cells ≡ false → list_any (has_one cells) (areas_of (items_of r)) ≡ false
 none_read cells [] c r e h = cc
 none_read cells (x ∷ xs) c r e h = at (is_at (nat_cmp c) x.0) e (or_parts (list_any (has_one cells) (areas_of (items_of x.1))) _ h) (none_read cells xs c r)
   where
@@ -70,11 +70,11 @@ apart_from cells (r ∷ rs) d n h = at (or_cases (is_within r d) _ h) (or_parts 
 -- ---- so no cycle is closed
 
 -- a cell that is circular after the edit reads such a cell before it too
-still_reads : (rooms next : Rooms) (circles cone : BTreeSet ℕ) (g : AreCircles (room_at rooms) (contains nat_cmp circles)) (k : IsEditCone rooms next (contains nat_cmp cone)) → ((c : ℕ) → circular g.sheet c ≡ false) → reads_one_of next.entries cone ≡ false →
+still_reads : (rooms : Rooms) (next : Coming) (circles cone : BTreeSet ℕ) (g : AreCircles (room_at rooms) (contains nat_cmp circles)) (k : IsEditCone rooms next (contains nat_cmp cone)) → ((c : ℕ) → circular g.sheet c ≡ false) → reads_one_of next cone ≡ false →
     (c : ℕ) → circular (then_sheet g.sheet k.changes) c ≡ true → (d : ℕ) × (content_reads (content_of g.sheet c) d ≡ true) × (circular (then_sheet g.sheet k.changes) d ≡ true)
 still_reads rooms next circles cone g k none n c h =
     let f = reads_circular (then_sheet g.sheet k.changes) c h in
-    at f.0 f.1 f.2 (get nat_cmp next c) refl
+    at f.0 f.1 f.2 (brought_to next c) refl
   where
     t : Sheet
     t = then_sheet g.sheet k.changes
@@ -82,16 +82,16 @@ still_reads rooms next circles cone g k none n c h =
     reads : (o : Option (List Area)) → areas_in (content_of t c) ≡ o → (d : ℕ) → content_reads (content_of t c) d ≡ is_in (areas_of o) d
     reads o e d = reads_areas (content_of t c) d ∙ ap (λ (x : Option (List Area)). is_in (areas_of x) d) e
 
-    at : (d : ℕ) → content_reads (content_of t c) d ≡ true → circular t d ≡ true → (o : Option (Option (Vec Area))) → get nat_cmp next c ≡ o → (d : ℕ) × (content_reads (content_of g.sheet c) d ≡ true) × (circular t d ≡ true)
+    at : (d : ℕ) → content_reads (content_of t c) d ≡ true → circular t d ≡ true → (o : Option (Option (Vec Area))) → brought_to next c ≡ o → (d : ℕ) × (content_reads (content_of g.sheet c) d ≡ true) × (circular t d ≡ true)
     at d r u None e =
         (d, reads_areas (content_of g.sheet c) d ∙ ap (λ (x : Option (List Area)). is_in (areas_of x) d) (sym (g.are c)) ∙ sym (reads (room_at rooms c) (sym (brought rooms next circles cone g k c) ∙ ap (λ (x : Option (Option (Vec Area))). put_over x (room_at rooms c)) e) d) ∙ r, u)
     at d r u (Some v) e =
         let w : is_in (areas_of (items_of v)) d ≡ true = sym (reads (items_of v) (sym (brought rooms next circles cone g k c) ∙ ap (λ (x : Option (Option (Vec Area))). put_over x (room_at rooms c)) e) d) ∙ r in
-        let a = apart_from cone (areas_of (items_of v)) d (none_read cone next.entries c v e n) w in
+        let a = apart_from cone (areas_of (items_of v)) d (none_read cone next c v e n) w in
         let s = outside_circular g.sheet t (keys_of k.changes) d (then_same g.sheet k.changes) (not_in_cone g.sheet (keys_of k.changes) d (sym (k.is_cone g.sheet g.are d) ∙ a)) in
         clash (circular t d) u (sym s ∙ none d)
 
-pub none_turn : (rooms next : Rooms) (circles cone : BTreeSet ℕ) (turns : Turns) → AreCircles (room_at rooms) (contains nat_cmp circles) → IsEditCone rooms next (contains nat_cmp cone) → btree_set_len circles ≡ 0 → reads_one_of next.entries cone ≡ false → turns.came.items ≡ [] → turns.went.items ≡ [] →
+pub none_turn : (rooms : Rooms) (next : Coming) (circles cone : BTreeSet ℕ) (turns : Turns) → AreCircles (room_at rooms) (contains nat_cmp circles) → IsEditCone rooms next (contains nat_cmp cone) → btree_set_len circles ≡ 0 → reads_one_of next cone ≡ false → turns.came.items ≡ [] → turns.went.items ≡ [] →
     AreTurns rooms next circles turns
 none_turn rooms next circles cone turns g k z n f h = record {
   fresh = none_came circles turns f;

@@ -4,8 +4,9 @@ use Rattle.std.proofs.lemmas.Bool.{cases_order}
 use Rattle.std.specs.Ordering.{nat_cmp}
 use Rattle.std.specs.Map.{lookup}
 use Rattle.std.specs.Global.{Vec}
-use Rattle.std.specs.BTreeMap.{get, IsOrdered, is_at}
+use Rattle.std.specs.BTreeMap.{is_at}
 use Rattle.wi_values.specs.Address.{Area}
+use Rattle.wi_tiles.specs.Entries.{IsOrdered}
 use Rattle.wi_values.proofs.Order.{ComeAfter, Ascends, Ascends-from_order, Ascends-filter, Ascends-insert, come_after_earlier, lookup_after, is_at-eq, at_same, at_itself}
 use Rattle.wi_values.proofs.Lookups.{found-insert, found-without}
 use Rattle.wi_values.specs.declared.value.Value.{Value}
@@ -14,7 +15,7 @@ use Rattle.wi_parser.specs.declared.content.Content.{Content}
 use Rattle.wi_parser.specs.declared.content.Content.TheVariants.{Constant, Formula}
 use Rattle.wi_parser.specs.Sheet.{Sheet, constant, content_of, with_content}
 use Rattle.wi_graph.specs.Edges.{Edges, areas_in, areas_at, AreEdgesOf, with_areas, edges_after, brought, sheet_after}
-use Rattle.wi_graph.specs.Inner.Rooms.{Rooms, items_of, in_room, room_at, put_over, room_over, with_room, edges_in, edges_over}
+use Rattle.wi_graph.specs.Inner.Rooms.{Rooms, Coming, brought_to, items_of, in_room, room_at, put_over, room_over, with_room, edges_in, edges_over}
 
 -- ---- what is found
 
@@ -22,7 +23,7 @@ pub areas_with : (es : Edges) (c : ℕ) (o : Option (List Area)) (q : ℕ) → a
 areas_with es c None q = found-without es c q
 areas_with es c (Some x) q = found-insert es c x q
 
-pub areas_over : (es : Edges) (xs : List (ℕ × Option (Vec Area))) (q : ℕ) → areas_at (edges_over es xs) q ≡ put_over (lookup (is_at (nat_cmp q)) xs) (areas_at es q)
+pub areas_over : (es : Edges) (xs : Coming) (q : ℕ) → areas_at (edges_over es xs) q ≡ put_over (brought_to xs q) (areas_at es q)
 areas_over es [] q = refl
 areas_over es (x ∷ xs) q = areas_with (edges_over es xs) x.0 (items_of x.1) q ∙ at (q == x.0) (is_at (nat_cmp q) x.0) (is_at-eq q x.0) (areas_over es xs q)
   where
@@ -77,7 +78,7 @@ pub ascends_with : (es : Edges) (c : ℕ) (o : Option (List Area)) → Ascends e
 ascends_with es c None h = Ascends-filter (λ e. not (e.0 == c)) es h
 ascends_with es c (Some x) h = Ascends-insert c x es h
 
-pub ascends_over : (es : Edges) (xs : List (ℕ × Option (Vec Area))) → Ascends es → Ascends (edges_over es xs)
+pub ascends_over : (es : Edges) (xs : Coming) → Ascends es → Ascends (edges_over es xs)
 ascends_over es [] h = h
 ascends_over es (x ∷ xs) h = ascends_with (edges_over es xs) x.0 (items_of x.1) (ascends_over es xs h)
 
@@ -114,12 +115,12 @@ areas_rooms (x ∷ xs) h q = at x.1 (is_at (nat_cmp q) x.0) refl (areas_rooms xs
     at (Some v) true e ih = ap (λ (b : Bool). cond b (Some v.items) (areas_at (edges_in xs) q)) e
     at (Some v) false e ih = ap (λ (b : Bool). cond b (Some v.items) (areas_at (edges_in xs) q)) e ∙ ih
 
-pub rooms_over : (old new next : Rooms) → IsOrdered nat_cmp old → IsOrdered nat_cmp new → ((c : ℕ) → room_at new c ≡ room_over next old c) → edges_in new.entries ≡ edges_over (edges_in old.entries) next.entries
+pub rooms_over : (old new : Rooms) (next : Coming) → IsOrdered nat_cmp old → IsOrdered nat_cmp new → ((c : ℕ) → room_at new c ≡ room_over next old c) → edges_in new.entries ≡ edges_over (edges_in old.entries) next
 rooms_over old new next h k e =
     let a = Ascends-from_order old.entries h in
     let b = Ascends-from_order new.entries k in
-    same_edges (edges_in new.entries) (edges_over (edges_in old.entries) next.entries) (ascends_rooms new.entries b) (ascends_over (edges_in old.entries) next.entries (ascends_rooms old.entries a))
-    (λ q. areas_rooms new.entries b q ∙ e q ∙ ap (λ (o : Option (List Area)). put_over (get nat_cmp next q) o) (sym (areas_rooms old.entries a q)) ∙ sym (areas_over (edges_in old.entries) next.entries q))
+    same_edges (edges_in new.entries) (edges_over (edges_in old.entries) next) (ascends_rooms new.entries b) (ascends_over (edges_in old.entries) next (ascends_rooms old.entries a))
+    (λ q. areas_rooms new.entries b q ∙ e q ∙ ap (λ (o : Option (List Area)). put_over (brought_to next q) o) (sym (areas_rooms old.entries a q)) ∙ sym (areas_over (edges_in old.entries) next q))
 
 pub rooms_same : (old new : Rooms) → IsOrdered nat_cmp old → IsOrdered nat_cmp new → ((c : ℕ) → room_at new c ≡ room_at old c) → edges_in new.entries ≡ edges_in old.entries
 rooms_same old new h k e =

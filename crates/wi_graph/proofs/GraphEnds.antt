@@ -6,9 +6,10 @@ use Rattle.std.specs.Ordering.{nat_cmp}
 use Rattle.std.specs.Map.{lookup, keys_of}
 use Rattle.std.specs.Global.{Vec}
 use Rattle.std.specs.List.Sorted.{IsStrictlySortedBy}
-use Rattle.std.specs.BTreeMap.{IsOrdered, is_at}
+use Rattle.std.specs.BTreeMap.{is_at}
 use Rattle.std.specs.BTreeSet.{BTreeSet, contains}
 use Rattle.wi_values.specs.Address.{Area}
+use Rattle.wi_tiles.specs.Entries.{IsOrdered}
 use Rattle.wi_ranges.specs.Bag.{Bag, count_of}
 use Rattle.wi_graph.specs.Circular.{circular}
 use Rattle.std.specs.Option.{unwrap_or}
@@ -16,7 +17,7 @@ use Rattle.wi_parser.specs.Sheet.{Sheet}
 use Rattle.wi_graph.specs.Edges.{Edges, AreEdgesOf, Staging, staging}
 use Rattle.wi_graph.specs.declared.graph.Staged.{Staged}
 use Rattle.wi_graph.specs.declared.turning.Turns.{Turns}
-use Rattle.wi_graph.specs.Inner.Rooms.{Rooms, in_room, room_at, room_over, edges_in, edges_over, areas_of, times, HasPairs, less_these, AreCircles, IsGraph, IsStaged}
+use Rattle.wi_graph.specs.Inner.Rooms.{Rooms, Coming, in_room, room_at, room_over, edges_in, edges_over, areas_of, times, HasPairs, less_these, AreCircles, IsGraph, IsStaged}
 use Rattle.wi_graph.proofs.Walks.{circular_walks}
 use Rattle.wi_graph.proofs.GraphSteps.{graph_circular}
 
@@ -49,7 +50,7 @@ unstaged rooms readers circles (Some x) e h = cc
 pub circles_over : (f g : ℕ → Option (List Area)) (p q : ℕ → Bool) → ((c : ℕ) → f c ≡ g c) → ((c : ℕ) → p c ≡ q c) → AreCircles g q → AreCircles f p
 circles_over f g p q e h a = record { sheet = a.sheet; are = λ c. e c ∙ a.are c; circles = λ c. h c ∙ a.circles c }
 
-pub taken_graph : (old new next : Rooms) (before after : Bag) (had has : BTreeSet ℕ) (turns : Turns) → IsStaged old next before had turns → IsOrdered nat_cmp new → ((c : ℕ) → room_at new c ≡ room_over next old c) → HasPairs after new →
+pub taken_graph : (old new : Rooms) (next : Coming) (before after : Bag) (had has : BTreeSet ℕ) (turns : Turns) → IsStaged old next before had turns → IsOrdered nat_cmp new → ((c : ℕ) → room_at new c ≡ room_over next old c) → HasPairs after new →
     ((c : ℕ) → contains nat_cmp has c ≡ less_these had turns.went.items c) → IsGraph new after has
 taken_graph old new next before after had has turns s o e p h = record {
   ordered = o;
@@ -57,7 +58,7 @@ taken_graph old new next before after had has turns s o e p h = record {
   circular = circles_over (room_at new) (room_over next old) (contains nat_cmp has) (less_these had turns.went.items) e h s.after;
 }
 
-pub taken_back_graph : (old new next : Rooms) (before after : Bag) (had has : BTreeSet ℕ) (turns : Turns) → IsStaged old next before had turns → IsOrdered nat_cmp new → ((c : ℕ) → room_at new c ≡ room_at old c) → HasPairs after new →
+pub taken_back_graph : (old new : Rooms) (next : Coming) (before after : Bag) (had has : BTreeSet ℕ) (turns : Turns) → IsStaged old next before had turns → IsOrdered nat_cmp new → ((c : ℕ) → room_at new c ≡ room_at old c) → HasPairs after new →
     ((c : ℕ) → contains nat_cmp has c ≡ less_these had turns.came.items c) → IsGraph new after has
 taken_back_graph old new next before after had has turns s o e p h = record {
   ordered = o;
@@ -82,12 +83,12 @@ pub taken_back_view : (old new : Rooms) (o after : Option Staged) (now : Staging
 taken_back_view old new o (Some z) now f v k = cc
 taken_back_view old new o None now f v k = ap (λ (z : Edges). staging z None) k ∙ ap (λ (n : Staging). staging n.now None) v
 
-pub staged_is : (rooms : Rooms) (readers : Bag) (circles : BTreeSet ℕ) (o : Option Staged) (x : Staged) → o ≡ Some x → IfSome o (λ y. IsStaged rooms y.next readers circles y.turns) → IsStaged rooms x.next readers circles x.turns
+pub staged_is : (rooms : Rooms) (readers : Bag) (circles : BTreeSet ℕ) (o : Option Staged) (x : Staged) → o ≡ Some x → IfSome o (λ y. IsStaged rooms y.next.entries readers circles y.turns) → IsStaged rooms x.next.entries readers circles x.turns
 staged_is rooms readers circles o x e h = rw e at h
 
 -- which cells it says are circular
 pub circular_is : (rooms : Rooms) (readers : Bag) (circles : BTreeSet ℕ) (o : Option Staged) (now : Staging) (at : ℕ) (r : Bool) → view_of rooms o ≡ now → now.staged ≡ None →
-    IfNone o (IsGraph rooms readers circles) × IfSome o (λ x. IsStaged rooms x.next readers circles x.turns) → r ≡ contains nat_cmp circles at → (s : Sheet) → AreEdgesOf now.now s → r ≡ circular s at
+    IfNone o (IsGraph rooms readers circles) × IfSome o (λ x. IsStaged rooms x.next.entries readers circles x.turns) → r ≡ contains nat_cmp circles at → (s : Sheet) → AreEdgesOf now.now s → r ≡ circular s at
 circular_is rooms readers circles o now at r v n g e s h =
     let graph = unstaged rooms readers circles o (ap (λ (x : Staging). x.staged) v ∙ n) g.0 in
     e ∙ graph_circular rooms readers circles graph s (subst (λ (x : Staging). AreEdgesOf x.now s) (sym v) h) at

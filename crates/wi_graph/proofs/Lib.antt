@@ -15,6 +15,7 @@ pub mod CircularAfter
 pub mod StripSteps
 pub mod SearchSteps
 pub mod EdgeLemmas
+pub mod MapSteps
 pub mod RoomSteps
 pub mod StagingSteps
 pub mod TurningSteps

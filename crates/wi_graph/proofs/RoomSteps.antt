@@ -1,16 +1,16 @@
 -- Steps of taking an edit, and of taking it back.
-use Rattle.std.proofs.Common.{◌≡◌, ◌==◌, ◌+◌, ◌-◌, ◌<◌, ℕ, zero, suc, Bool, true, false, cond, not, List, [], ◌∷◌, take, get_or, length, Option, Some, None, refl, ap, sym, ◌∙◌, arith, add-one}
+use Rattle.std.proofs.Common.{◌≡◌, ◌==◌, ◌+◌, ◌-◌, ◌<◌, ℕ, zero, suc, Bool, true, false, cond, not, List, [], ◌∷◌, take, get_or, length, Option, Some, None, IsSome, refl, ap, sym, ◌∙◌, arith, add-one}
 use Rattle.std.specs.Prelude.{if◌then◌else◌}
 use Rattle.std.specs.Option.{is_some, is_none, option_flatten}
 use Rattle.std.specs.Ordering.{nat_cmp}
-use Rattle.std.specs.Map.{lookup}
 use Rattle.std.specs.Global.{Vec}
-use Rattle.std.specs.BTreeMap.{get, IsOrdered, is_at}
+use Rattle.std.specs.BTreeMap.{is_at}
 use Rattle.wi_values.specs.Address.{Area}
+use Rattle.wi_tiles.specs.Entries.{get, IsOrdered}
 use Rattle.wi_ranges.specs.declared.pair.RangePair.{RangePair}
 use Rattle.wi_ranges.specs.Bag.{Bag, pair_for, is_same, count_of, HasOneLess}
 use Rattle.wi_ranges.proofs.Exact.{same_is}
-use Rattle.wi_graph.specs.Inner.Rooms.{Rooms, items_of, in_room, room_at, put_over, room_over, areas_of, times, times_in, HasRooms, HasPairs, HasBoth}
+use Rattle.wi_graph.specs.Inner.Rooms.{Rooms, Coming, items_of, in_room, room_at, brought_to, coming_at, put_over, room_over, areas_of, times, times_in, times_coming, HasRooms, HasPairs, HasBoth}
 use Rattle.wi_graph.proofs.Tests.{is_at-eq, is_itself}
 use Rattle.wi_graph.proofs.Walks.{same_cell}
 
@@ -68,6 +68,15 @@ pub none_come : (old new : Rooms) (k : ℕ) (r : Option (Vec Area)) (b : Bool) �
 none_come old new k None b e t h = h
 none_come old new k (Some v) b e t h = let z : true ≡ false = e ∙ ap not t in cc
 
+-- some come, and have a room
+pub has_room : (old : Rooms) (k : ℕ) (r : Option (Vec Area)) (b : Bool) → is_some r ≡ not b → b ≡ false → (get nat_cmp old k ≡ None → items_of r ≡ None) → IsSome (get nat_cmp old k)
+has_room old k r b e t h = at (get nat_cmp old k) r (e ∙ ap not t) h
+  where
+    at : (o : Option (Option (Vec Area))) (x : Option (Vec Area)) → is_some x ≡ true → (o ≡ None → items_of x ≡ None) → IsSome o
+    at (Some y) x s n = refl
+    at None None s n = cc
+    at None (Some v) s n = let z = n refl in cc
+
 -- what a cell had
 pub had_room : (o : Option (Option (Vec Area))) (r : Option (Vec Area)) (s : Option (Option (Vec Area))) → s ≡ o → r ≡ option_flatten s → items_of r ≡ in_room o
 had_room o r s e f = ap items_of f ∙ ap (λ (x : Option (Option (Vec Area))). items_of (option_flatten x)) e ∙ at o
@@ -85,26 +94,26 @@ release_same old new k n u c = put_room old new k None None refl u c ∙ sym (pu
 
 -- ---- an edit is taken, cell by cell
 
-pub record IsTaking (first_next first next rooms : Rooms) (readers : Bag) : Type 0 where
+pub record IsTaking (first_next : Coming) (first : Rooms) (next : Coming) (rooms : Rooms) (readers : Bag) : Type 0 where
   pub ordered : IsOrdered nat_cmp rooms
   pub has_rooms : HasRooms rooms next
   pub pairs : HasBoth readers rooms next
   pub over : (c : ℕ) → room_over next rooms c ≡ room_over first_next first c
 
-pub record IsTakingBack (first next rooms : Rooms) (readers : Bag) : Type 0 where
+pub record IsTakingBack (first : Rooms) (next : Coming) (rooms : Rooms) (readers : Bag) : Type 0 where
   pub ordered : IsOrdered nat_cmp rooms
   pub pairs : HasBoth readers rooms next
   pub same : (c : ℕ) → room_at rooms c ≡ room_at first c
 
 -- the cell is no longer to come
-abbrev pub Popped : Rooms → Rooms → ℕ → Type 0
-Popped next later k = (q : ℕ) → get nat_cmp later q ≡ cond (is_at (nat_cmp k) q) None (get nat_cmp next q)
+abbrev pub Popped : Coming → Coming → ℕ → Type 0
+Popped next later k = (q : ℕ) → brought_to later q ≡ cond (is_at (nat_cmp k) q) None (brought_to next q)
 
-pub popped_here : (next later : Rooms) (k : ℕ) → Popped next later k → get nat_cmp later k ≡ None
-popped_here next later k u = u k ∙ ap (λ (b : Bool). cond b None (get nat_cmp next k)) (is_at-eq k k ∙ is_itself k)
+pub popped_here : (next later : Coming) (k : ℕ) → Popped next later k → brought_to later k ≡ None
+popped_here next later k u = u k ∙ ap (λ (b : Bool). cond b None (brought_to next k)) (is_at-eq k k ∙ is_itself k)
 
-pub popped_other : (next later : Rooms) (k : ℕ) → Popped next later k → (c : ℕ) → (k == c) ≡ false → get nat_cmp later c ≡ get nat_cmp next c
-popped_other next later k u c n = u c ∙ ap (λ (b : Bool). cond b None (get nat_cmp next c)) (is_at-eq k c ∙ n)
+pub popped_other : (next later : Coming) (k : ℕ) → Popped next later k → (c : ℕ) → (k == c) ≡ false → brought_to later c ≡ brought_to next c
+popped_other next later k u c n = u c ∙ ap (λ (b : Bool). cond b None (brought_to next c)) (is_at-eq k c ∙ n)
 
 abbrev pub Loses : ℕ → Option (List Area) → Bag → Bag → Type 0
 Loses k o old new = (p : RangePair) → count_of new p ≡ count_of old p - times k (areas_of o) p
@@ -112,7 +121,10 @@ Loses k o old new = (p : RangePair) → count_of new p ≡ count_of old p - time
 pub times_room : (rooms : Rooms) (p : RangePair) (o : Option (List Area)) → room_at rooms p.reader ≡ o → times_in rooms p ≡ times p.reader (areas_of o) p
 times_room rooms p o e = ap (λ (x : Option (List Area)). times p.reader (areas_of x) p) e
 
-pub taking_step : (first_next first next later rooms new : Rooms) (readers fewer : Bag) (k : ℕ) (o stood : Option (Vec Area)) → get nat_cmp next k ≡ Some o → Popped next later k → IsOrdered nat_cmp new →
+pub times_brought : (next : Coming) (p : RangePair) (o : Option (List Area)) → coming_at next p.reader ≡ o → times_coming next p ≡ times p.reader (areas_of o) p
+times_brought next p o e = ap (λ (x : Option (List Area)). times p.reader (areas_of x) p) e
+
+pub taking_step : (first_next : Coming) (first : Rooms) (next later : Coming) (rooms new : Rooms) (readers fewer : Bag) (k : ℕ) (o stood : Option (Vec Area)) → brought_to next k ≡ Some o → Popped next later k → IsOrdered nat_cmp new →
     ((c : ℕ) → room_at new c ≡ (if k == c then items_of o else room_at rooms c)) → ((c : ℕ) → (k == c) ≡ false → get nat_cmp new c ≡ get nat_cmp rooms c) → items_of stood ≡ room_at rooms k → Loses k (items_of stood) readers fewer →
     IsTaking first_next first next rooms readers → IsTaking first_next first later new fewer
 taking_step first_next first next later rooms new readers fewer k o stood g u ord n nx s l t = record {
@@ -128,37 +140,37 @@ taking_step first_next first next later rooms new readers fewer k o stood g u or
     there : (c : ℕ) → (k == c) ≡ false → room_at new c ≡ room_at rooms c
     there c e = n c ∙ ap (λ (b : Bool). cond b (items_of o) (room_at rooms c)) e
 
-    no_more : (c : ℕ) → (k == c) ≡ true → get nat_cmp later c ≡ None
-    no_more c e = ap (λ (x : ℕ). get nat_cmp later x) (sym (same_cell c k e)) ∙ popped_here next later k u
+    no_more : (c : ℕ) → (k == c) ≡ true → brought_to later c ≡ None
+    no_more c e = ap (λ (x : ℕ). brought_to later x) (sym (same_cell c k e)) ∙ popped_here next later k u
 
-    was : (c : ℕ) → (k == c) ≡ true → get nat_cmp next c ≡ Some o
-    was c e = ap (λ (x : ℕ). get nat_cmp next x) (sym (same_cell c k e)) ∙ g
+    was : (c : ℕ) → (k == c) ≡ true → brought_to next c ≡ Some o
+    was c e = ap (λ (x : ℕ). brought_to next x) (sym (same_cell c k e)) ∙ g
 
-    room : (c : ℕ) → get nat_cmp new c ≡ None → (b : Bool) → (k == c) ≡ b → room_at later c ≡ None
+    room : (c : ℕ) → get nat_cmp new c ≡ None → (b : Bool) → (k == c) ≡ b → coming_at later c ≡ None
     room c h true e = ap in_room (no_more c e)
     room c h false e = ap in_room (popped_other next later k u c e) ∙ t.has_rooms c (sym (nx c e) ∙ h)
 
     over : (c : ℕ) (b : Bool) → (k == c) ≡ b → room_over later new c ≡ room_over next rooms c
     over c true e = ap (λ (x : Option (Option (Vec Area))). put_over x (room_at new c)) (no_more c e) ∙ here c e ∙ ap (λ (x : Option (Option (Vec Area))). put_over x (room_at rooms c)) (sym (was c e))
-    over c false e = ap (λ (x : Option (Option (Vec Area))). put_over x (room_at new c)) (popped_other next later k u c e) ∙ ap (λ (x : Option (List Area)). put_over (get nat_cmp next c) x) (there c e)
+    over c false e = ap (λ (x : Option (Option (Vec Area))). put_over x (room_at new c)) (popped_other next later k u c e) ∙ ap (λ (x : Option (List Area)). put_over (brought_to next c) x) (there c e)
 
-    counted : (p : RangePair) (b : Bool) → (k == p.reader) ≡ b → count_of fewer p ≡ times_in new p + times_in later p
+    counted : (p : RangePair) (b : Bool) → (k == p.reader) ≡ b → count_of fewer p ≡ times_in new p + times_coming later p
     counted p true e =
         let r : k ≡ p.reader = same_cell p.reader k e in
         let a = t.pairs p in
         let d : times k (areas_of (items_of stood)) p ≡ times_in rooms p = ap (λ (x : Option (List Area)). times k (areas_of x) p) s ∙ ap (λ (x : ℕ). times x (areas_of (room_at rooms x)) p) r in
-        let f : times_in next p ≡ times p.reader (areas_of (items_of o)) p = times_room next p (items_of o) (ap in_room (was p.reader e)) in
+        let f : times_coming next p ≡ times p.reader (areas_of (items_of o)) p = times_brought next p (items_of o) (ap in_room (was p.reader e)) in
         let h : times_in new p ≡ times p.reader (areas_of (items_of o)) p = times_room new p (items_of o) (here p.reader e) in
-        let i : times_in later p ≡ 0 = times_room later p None (ap in_room (no_more p.reader e)) in
+        let i : times_coming later p ≡ 0 = times_brought later p None (ap in_room (no_more p.reader e)) in
         omega (arith, a, d, f, h, i, l p)
     counted p false e =
         let a = t.pairs p in
         let d = times_other k (areas_of (items_of stood)) p e in
-        let f : times_in later p ≡ times_in next p = times_room later p (room_at next p.reader) (ap in_room (popped_other next later k u p.reader e)) in
+        let f : times_coming later p ≡ times_coming next p = times_brought later p (coming_at next p.reader) (ap in_room (popped_other next later k u p.reader e)) in
         let h : times_in new p ≡ times_in rooms p = times_room new p (room_at rooms p.reader) (there p.reader e) in
         omega (arith, a, d, f, h, l p)
 
-pub taking_back_step : (first next later rooms new : Rooms) (readers fewer : Bag) (k : ℕ) (o : Option (Vec Area)) → get nat_cmp next k ≡ Some o → Popped next later k → Loses k (items_of o) readers fewer → IsOrdered nat_cmp new →
+pub taking_back_step : (first : Rooms) (next later : Coming) (rooms new : Rooms) (readers fewer : Bag) (k : ℕ) (o : Option (Vec Area)) → brought_to next k ≡ Some o → Popped next later k → Loses k (items_of o) readers fewer → IsOrdered nat_cmp new →
     ((c : ℕ) → room_at new c ≡ room_at rooms c) → IsTakingBack first next rooms readers → IsTakingBack first later new fewer
 taking_back_step first next later rooms new readers fewer k o g u l ord n t = record {
   ordered = ord;
@@ -166,37 +178,37 @@ taking_back_step first next later rooms new readers fewer k o g u l ord n t = re
   same = λ c. n c ∙ t.same c;
 }
   where
-    counted : (p : RangePair) (b : Bool) → (k == p.reader) ≡ b → count_of fewer p ≡ times_in new p + times_in later p
+    counted : (p : RangePair) (b : Bool) → (k == p.reader) ≡ b → count_of fewer p ≡ times_in new p + times_coming later p
     counted p true e =
         let r : k ≡ p.reader = same_cell p.reader k e in
         let a = t.pairs p in
         let d : times k (areas_of (items_of o)) p ≡ times p.reader (areas_of (items_of o)) p = ap (λ (x : ℕ). times x (areas_of (items_of o)) p) r in
-        let f : times_in next p ≡ times p.reader (areas_of (items_of o)) p = times_room next p (items_of o) (ap in_room (ap (λ (x : ℕ). get nat_cmp next x) (sym r) ∙ g)) in
+        let f : times_coming next p ≡ times p.reader (areas_of (items_of o)) p = times_brought next p (items_of o) (ap in_room (ap (λ (x : ℕ). brought_to next x) (sym r) ∙ g)) in
         let h : times_in new p ≡ times_in rooms p = times_room new p (room_at rooms p.reader) (n p.reader) in
-        let i : times_in later p ≡ 0 = times_room later p None (ap in_room (ap (λ (x : ℕ). get nat_cmp later x) (sym r) ∙ popped_here next later k u)) in
+        let i : times_coming later p ≡ 0 = times_brought later p None (ap in_room (ap (λ (x : ℕ). brought_to later x) (sym r) ∙ popped_here next later k u)) in
         omega (arith, a, d, f, h, i, l p)
     counted p false e =
         let a = t.pairs p in
         let d = times_other k (areas_of (items_of o)) p e in
-        let f : times_in later p ≡ times_in next p = times_room later p (room_at next p.reader) (ap in_room (popped_other next later k u p.reader e)) in
+        let f : times_coming later p ≡ times_coming next p = times_brought later p (coming_at next p.reader) (ap in_room (popped_other next later k u p.reader e)) in
         let h : times_in new p ≡ times_in rooms p = times_room new p (room_at rooms p.reader) (n p.reader) in
         omega (arith, a, d, f, h, l p)
 
-pub no_entries : (next : Rooms) → (0 < length next.entries → ⊥) → (c : ℕ) → get nat_cmp next c ≡ None
-no_entries next h c = at next.entries h
+pub no_entries : (next : Coming) → (0 < length next → ⊥) → (c : ℕ) → brought_to next c ≡ None
+no_entries next h c = at next h
   where
-    at : (es : List (ℕ × Option (Vec Area))) → (0 < length es → ⊥) → lookup (is_at (nat_cmp c)) es ≡ None
+    at : (es : Coming) → (0 < length es → ⊥) → brought_to es c ≡ None
     at [] k = refl
     at (e ∷ es) k = absurd (k (omega arith))
 
-none_left : (next : Rooms) → (0 < length next.entries → ⊥) → (p : RangePair) → times_in next p ≡ 0
-none_left next h p = times_room next p None (ap in_room (no_entries next h p.reader))
+none_left : (next : Coming) → (0 < length next → ⊥) → (p : RangePair) → times_coming next p ≡ 0
+none_left next h p = times_brought next p None (ap in_room (no_entries next h p.reader))
 
-pub taking_end : (first_next first next rooms : Rooms) (readers : Bag) → (0 < length next.entries → ⊥) → IsTaking first_next first next rooms readers → ((c : ℕ) → room_at rooms c ≡ room_over first_next first c) × HasPairs readers rooms
+pub taking_end : (first_next : Coming) (first : Rooms) (next : Coming) (rooms : Rooms) (readers : Bag) → (0 < length next → ⊥) → IsTaking first_next first next rooms readers → ((c : ℕ) → room_at rooms c ≡ room_over first_next first c) × HasPairs readers rooms
 taking_end first_next first next rooms readers h t = (
   λ c. ap (λ (x : Option (Option (Vec Area))). put_over x (room_at rooms c)) (sym (no_entries next h c)) ∙ t.over c,
   λ p. let a = t.pairs p in let b = none_left next h p in omega (arith, a, b),
 )
 
-pub taking_back_end : (first next rooms : Rooms) (readers : Bag) → (0 < length next.entries → ⊥) → IsTakingBack first next rooms readers → HasPairs readers rooms
+pub taking_back_end : (first : Rooms) (next : Coming) (rooms : Rooms) (readers : Bag) → (0 < length next → ⊥) → IsTakingBack first next rooms readers → HasPairs readers rooms
 taking_back_end first next rooms readers h t = λ p. let a = t.pairs p in let b = none_left next h p in omega (arith, a, b)

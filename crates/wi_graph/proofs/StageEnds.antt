@@ -1,15 +1,15 @@
 -- An edit is staged, or refused.
 use Rattle.std.proofs.Common.{◌≡◌, ℕ, Bool, ◌&&◌, ◌||◌, List, not, Option, Some, None, option_map, IfSome, IfNone, Result, Ok, Err, OnErr, refl, ap, sym, ◌∙◌}
 use Rattle.std.specs.Ordering.{nat_cmp}
-use Rattle.std.specs.BTreeMap.{IsOrdered, get}
 use Rattle.std.specs.BTreeSet.{BTreeSet, contains}
+use Rattle.wi_tiles.specs.Entries.{IsOrdered}
 use Rattle.wi_parser.specs.declared.content.Content.{Content}
 use Rattle.wi_ranges.specs.Bag.{Bag}
 use Rattle.wi_graph.specs.Reach.{is_one_of}
 use Rattle.wi_graph.specs.Edges.{Edges, Staging, staging, edges_after}
 use Rattle.wi_graph.specs.declared.graph.Staged.{Staged}
 use Rattle.wi_graph.specs.declared.turning.Turns.{Turns}
-use Rattle.wi_graph.specs.Inner.Rooms.{Rooms, room_at, put_over, room_over, edges_in, edges_over, HasRooms, HasPairs, HasBoth, less_these, IsGraph, IsStaged}
+use Rattle.wi_graph.specs.Inner.Rooms.{Rooms, Coming, brought_to, room_at, put_over, room_over, edges_in, edges_over, HasRooms, HasPairs, HasBoth, less_these, IsGraph, IsStaged}
 use Rattle.wi_graph.specs.Inner.Changes.{ReadsStay}
 use Rattle.wi_graph.specs.Inner.Turning.{turned_by, AreTurns}
 use Rattle.wi_graph.proofs.ChangeSteps.{stay_edges, edges_stay}
@@ -17,7 +17,7 @@ use Rattle.wi_graph.proofs.SetSteps.{AreNew, came_before}
 use Rattle.wi_graph.proofs.GraphEnds.{view_of, circles_over}
 
 -- the edit is staged
-pub staged_graph : (rooms new next : Rooms) (readers more : Bag) (circles has : BTreeSet ℕ) (turns : Turns) → IsGraph rooms readers circles → IsOrdered nat_cmp new → HasRooms new next → HasBoth more new next →
+pub staged_graph : (rooms new : Rooms) (next : Coming) (readers more : Bag) (circles has : BTreeSet ℕ) (turns : Turns) → IsGraph rooms readers circles → IsOrdered nat_cmp new → HasRooms new next → HasBoth more new next →
     ((c : ℕ) → room_at new c ≡ room_at rooms c) → AreTurns rooms next circles turns →
     ((c : ℕ) → contains nat_cmp has c ≡ (contains nat_cmp circles c || is_one_of turns.came.items c)) → IsStaged new next more has turns
 staged_graph rooms new next readers more circles has turns g o hr hb e t h = record {
@@ -26,7 +26,7 @@ staged_graph rooms new next readers more circles has turns g o hr hb e t h = rec
   pairs = hb;
   before = circles_over (room_at new) (room_at rooms) (less_these has turns.came.items) (contains nat_cmp circles) e (came_before circles has turns.came.items t.fresh h) g.circular;
   after = circles_over (room_over next new) (room_over next rooms) (less_these has turns.went.items) (turned_by circles turns)
-      (λ c. ap (put_over (get nat_cmp next c)) (e c))
+      (λ c. ap (put_over (brought_to next c)) (e c))
       (λ c. ap (λ (b : Bool). b && not (is_one_of turns.went.items c)) (h c)) t.after;
 }
 
@@ -51,31 +51,31 @@ refused_graph old new before after circles mid has came taken g o e p k m t h = 
 }
 
 pub refused_invariant : (old new : Rooms) (readers : Bag) (circles : BTreeSet ℕ) (o : Option Staged) → option_map (λ x. edges_over (edges_in old.entries) x.next.entries) o ≡ None → IsGraph new readers circles →
-    IfNone o (IsGraph new readers circles) × IfSome o (λ x. IsStaged new x.next readers circles x.turns)
+    IfNone o (IsGraph new readers circles) × IfSome o (λ x. IsStaged new x.next.entries readers circles x.turns)
 refused_invariant old new readers circles None e g = (g, tt)
 refused_invariant old new readers circles (Some x) e g = cc
 
 pub refused_view : (old new : Rooms) (o : Option Staged) (now : Staging) → view_of old o ≡ now → edges_in new.entries ≡ edges_in old.entries → view_of new o ≡ now
 refused_view old new o now v k = ap (λ (es : Edges). staging es (option_map (λ x. edges_over es x.next.entries) o)) k ∙ v
 
-pub staged_view : (old new later : Rooms) (o : Option Staged) (now : Staging) (xs : List (ℕ × Option Content)) → view_of old o ≡ now → edges_in new.entries ≡ edges_in old.entries → edges_over (edges_in new.entries) later.entries ≡ edges_after (edges_in old.entries) xs →
-    staging (edges_in new.entries) (Some (edges_over (edges_in new.entries) later.entries)) ≡ staging now.now (Some (edges_after now.now xs))
+pub staged_view : (old new : Rooms) (later : Coming) (o : Option Staged) (now : Staging) (xs : List (ℕ × Option Content)) → view_of old o ≡ now → edges_in new.entries ≡ edges_in old.entries → edges_over (edges_in new.entries) later ≡ edges_after (edges_in old.entries) xs →
+    staging (edges_in new.entries) (Some (edges_over (edges_in new.entries) later)) ≡ staging now.now (Some (edges_after now.now xs))
 staged_view old new later o now xs v k m =
-    ap (λ (es : Edges). staging es (Some (edges_over (edges_in new.entries) later.entries))) k ∙ ap (λ (es : Edges). staging (edges_in old.entries) (Some es)) m
+    ap (λ (es : Edges). staging es (Some (edges_over (edges_in new.entries) later))) k ∙ ap (λ (es : Edges). staging (edges_in old.entries) (Some es)) m
     ∙ ap (λ (n : Staging). staging n.now (Some (edges_after n.now xs))) v
 
 -- ---- whether it changes what cells read
 
-pub stays_view : (rooms : Rooms) (o : Option Staged) (now : Staging) (x : Staged) → o ≡ Some x → view_of rooms o ≡ now → IsOrdered nat_cmp rooms → ReadsStay rooms x.next → now.staged ≡ Some now.now
+pub stays_view : (rooms : Rooms) (o : Option Staged) (now : Staging) (x : Staged) → o ≡ Some x → view_of rooms o ≡ now → IsOrdered nat_cmp rooms → ReadsStay rooms x.next.entries → now.staged ≡ Some now.now
 stays_view rooms None now x e v h s = cc
 stays_view rooms (Some y) now x e v h s =
     let z : y ≡ x = cc in
-    ap (λ (n : Staging). n.staged) (sym v) ∙ ap (λ (es : Edges). Some es) (ap (λ (w : Staged). edges_over (edges_in rooms.entries) w.next.entries) z ∙ stay_edges rooms x.next h s) ∙ ap (λ (n : Staging). Some n.now) v
+    ap (λ (n : Staging). n.staged) (sym v) ∙ ap (λ (es : Edges). Some es) (ap (λ (w : Staged). edges_over (edges_in rooms.entries) w.next.entries) z ∙ stay_edges rooms x.next.entries h s) ∙ ap (λ (n : Staging). Some n.now) v
 
-pub view_stays : (rooms : Rooms) (o : Option Staged) (now : Staging) (x : Staged) → o ≡ Some x → view_of rooms o ≡ now → IsOrdered nat_cmp rooms → now.staged ≡ Some now.now → ReadsStay rooms x.next
+pub view_stays : (rooms : Rooms) (o : Option Staged) (now : Staging) (x : Staged) → o ≡ Some x → view_of rooms o ≡ now → IsOrdered nat_cmp rooms → now.staged ≡ Some now.now → ReadsStay rooms x.next.entries
 view_stays rooms None now x e v h k = cc
 view_stays rooms (Some y) now x e v h k =
     let z : y ≡ x = cc in
     let f : Some (edges_over (edges_in rooms.entries) y.next.entries) ≡ Some (edges_in rooms.entries) = ap (λ (n : Staging). n.staged) v ∙ k ∙ ap (λ (n : Staging). Some n.now) (sym v) in
     let g : edges_over (edges_in rooms.entries) y.next.entries ≡ edges_in rooms.entries = cc in
-    edges_stay rooms x.next h (ap (λ (w : Staged). edges_over (edges_in rooms.entries) w.next.entries) (sym z) ∙ g)
+    edges_stay rooms x.next.entries h (ap (λ (w : Staged). edges_over (edges_in rooms.entries) w.next.entries) (sym z) ∙ g)

@@ -6,9 +6,10 @@ use Rattle.std.specs.List.{list_any}
 use Rattle.std.specs.Map.{keys_of}
 use Rattle.std.specs.Ordering.{nat_cmp}
 use Rattle.std.specs.Global.{Vec}
-use Rattle.std.specs.BTreeMap.{BTreeMap, get, is_at, IsOrdered}
+use Rattle.std.specs.BTreeMap.{BTreeMap, get, is_at}
 use Rattle.std.specs.BTreeSet.{BTreeSet, contains, difference}
 use Rattle.wi_values.specs.Address.{Area, is_within}
+use Rattle.wi_tiles.specs.Entries.{IsOrdered}
 use Rattle.wi_parser.specs.Sheet.{Sheet, content_of}
 use Rattle.wi_parser.specs.Reads.{content_reads}
 use Rattle.wi_ranges.specs.Bag.{Bag}
@@ -17,7 +18,7 @@ use Rattle.wi_graph.specs.Reach.{is_one_of, in_cone}
 use Rattle.wi_graph.specs.Edges.{AreEdgesOf, areas_in}
 use Rattle.wi_graph.specs.declared.turning.Turns.{Turns}
 use Rattle.wi_graph.specs.Inner.Changes.{areas_then, ReadsStay, IsEditCone, went_from}
-use Rattle.wi_graph.specs.Inner.Rooms.{Rooms, room_at, room_over, edges_in, areas_of, HasPairs, AreCircles, IsGraph}
+use Rattle.wi_graph.specs.Inner.Rooms.{Rooms, Coming, room_at, room_over, edges_in, areas_of, HasPairs, AreCircles, IsGraph}
 use Rattle.wi_graph.specs.Inner.Search.{as_set, IsConeOf}
 use Rattle.wi_graph.specs.Inner.Stripping.{items_there, reads_in, EachReadsOne, AreStripped, IsWithin}
 use Rattle.wi_graph.specs.Inner.Turning.{reads_outside, turned_by, AreTurns, SettlesCone}
@@ -49,7 +50,7 @@ reads_step cells i x f old new v l e g u h c k = ap items_there (u c ∙ ap (λ 
 
 -- ---- what stripping leaves
 
-pub settles : (rooms next : Rooms) (circles cells held all rest : BTreeSet ℕ) (list outer : List ℕ) (reads : BTreeMap ℕ (Vec Area)) → list ≡ cells.keys → ((c : ℕ) → is_one_of list c ≡ true → items_there (get nat_cmp reads c) ≡ areas_of (room_over next rooms c)) →
+pub settles : (rooms : Rooms) (next : Coming) (circles cells held all rest : BTreeSet ℕ) (list outer : List ℕ) (reads : BTreeMap ℕ (Vec Area)) → list ≡ cells.keys → ((c : ℕ) → is_one_of list c ≡ true → items_there (get nat_cmp reads c) ≡ areas_of (room_over next rooms c)) →
     outer ≡ filter (reads_outside reads circles cells) cells.keys → ((c : ℕ) → contains nat_cmp held c ≡ is_one_of outer c) → ((c : ℕ) → contains nat_cmp all c ≡ is_one_of list c) →
     IsWithin rest all → AreStripped reads held all rest → EachReadsOne reads held rest → SettlesCone rooms next circles cells rest
 settles rooms next circles cells held all rest list outer reads e g o h a w st left s t xs same are circ cone c =
@@ -128,10 +129,10 @@ pub listed_cone : (rooms : Rooms) (readers : Bag) (circles : BTreeSet ℕ) (cell
 listed_cone rooms readers circles cells list g k s h = found_cone s readers cells (as_set list) (graph_readers rooms readers g.ordered g.pairs s h) k.all k.closed k.least
 
 -- a sheet after the edit
-pub brought : (rooms next : Rooms) (circles cone : BTreeSet ℕ) (g : AreCircles (room_at rooms) (contains nat_cmp circles)) (k : IsEditCone rooms next (contains nat_cmp cone)) → (c : ℕ) → room_over next rooms c ≡ areas_in (content_of (then_sheet g.sheet k.changes) c)
+pub brought : (rooms : Rooms) (next : Coming) (circles cone : BTreeSet ℕ) (g : AreCircles (room_at rooms) (contains nat_cmp circles)) (k : IsEditCone rooms next (contains nat_cmp cone)) → (c : ℕ) → room_over next rooms c ≡ areas_in (content_of (then_sheet g.sheet k.changes) c)
 brought rooms next circles cone g k c = k.brings c ∙ ap (areas_then k.changes c) (g.are c) ∙ sym (then_contents g.sheet k.changes c)
 
-pub cone_turns : (rooms next : Rooms) (circles cells rest : BTreeSet ℕ) (turns : Turns) → AreCircles (room_at rooms) (contains nat_cmp circles) → IsEditCone rooms next (contains nat_cmp cells) → SettlesCone rooms next circles cells rest → IsWithin rest cells → AreOf circles cells rest turns →
+pub cone_turns : (rooms : Rooms) (next : Coming) (circles cells rest : BTreeSet ℕ) (turns : Turns) → AreCircles (room_at rooms) (contains nat_cmp circles) → IsEditCone rooms next (contains nat_cmp cells) → SettlesCone rooms next circles cells rest → IsWithin rest cells → AreOf circles cells rest turns →
     AreTurns rooms next circles turns
 cone_turns rooms next circles cells rest turns g k st w e = record {
   fresh = λ c h. not-true (contains nat_cmp circles c) (and_parts (not (contains nat_cmp circles c)) _ (sym (in_difference rest circles c) ∙ ap (λ (ys : List ℕ). is_one_of ys c) (sym e.0) ∙ h)).0;
@@ -148,7 +149,7 @@ pub none_came : (circles : BTreeSet ℕ) (turns : Turns) → turns.came.items �
 none_came circles turns f c k = let z : is_one_of [] c ≡ true = ap (λ (xs : List ℕ). is_one_of xs c) (sym f) ∙ k in cc
 
 -- where each cell reads what it read before
-pub same_turns : (rooms next : Rooms) (circles : BTreeSet ℕ) (turns : Turns) → AreCircles (room_at rooms) (contains nat_cmp circles) → ReadsStay rooms next → turns.came.items ≡ [] → turns.went.items ≡ [] → AreTurns rooms next circles turns
+pub same_turns : (rooms : Rooms) (next : Coming) (circles : BTreeSet ℕ) (turns : Turns) → AreCircles (room_at rooms) (contains nat_cmp circles) → ReadsStay rooms next → turns.came.items ≡ [] → turns.went.items ≡ [] → AreTurns rooms next circles turns
 same_turns rooms next circles turns g e f h = record {
   fresh = none_came circles turns f;
   after = circles_over (room_over next rooms) (room_at rooms) (turned_by circles turns) (contains nat_cmp circles) e same g;

@@ -7,7 +7,7 @@ ghost use Rattle.wi_graph.specs.Edges.{areas_in};
 ghost use Rattle.wi_graph.specs.Inner.Rooms.{items_of, room_at, room_over};
 ghost use Rattle.wi_graph.specs.Inner.Changes.{Brings, HasNoIdle, ReadsStay};
 
-use crate::rooms::{Rooms, is_vacant};
+use crate::rooms::{Coming, Rooms, is_vacant};
 use std::alloc::{AllocError, Global};
 use std::collections::BTreeMap;
 use wi_parser::Content;
@@ -33,9 +33,9 @@ pub(crate) fn rooms_of(
     alloc: Global,
     rooms: &Rooms,
     changes: &[Change],
-) -> Result<Rooms, AllocError>
-    ensures brings { IfOk result (λ next. Brings rooms.now next changes.now) }
-    ensures no_idle { IfOk result (HasNoIdle rooms.now) }
+) -> Result<Coming, AllocError>
+    ensures brings { IfOk result (λ next. Brings rooms.now next.entries changes.now) }
+    ensures no_idle { IfOk result (λ next. HasNoIdle rooms.now next.entries) }
 {
     let mut next = BTreeMap::new(alloc);
     for change in changes {
@@ -48,13 +48,14 @@ pub(crate) fn rooms_of(
 /// Puts what a cell gets into what is next. Where there is no formula and none comes, nothing is next for the cell.
 fn put_next(
     rooms: &Rooms,
-    next: &mut Rooms,
+    next: &mut Coming,
     cell: Address,
     room: Option<Vec<Rect>>,
 ) -> Result<(), AllocError>
-    ensures puts { OnOk result ((c : ℕ) → room_over next.new rooms.now c
-        ≡ (if cell == c then items_of room else room_over next.old rooms.now c)) }
-    ensures no_idle { HasNoIdle rooms.now next.old → OnOk result (HasNoIdle rooms.now next.new) }
+    ensures puts { OnOk result ((c : ℕ) → room_over next.new.entries rooms.now c
+        ≡ (if cell == c then items_of room else room_over next.old.entries rooms.now c)) }
+    ensures no_idle { HasNoIdle rooms.now next.old.entries
+        → OnOk result (HasNoIdle rooms.now next.new.entries) }
 {
     if stays_vacant(rooms, cell, &room) {
         let _ = next.remove(&cell);
@@ -77,7 +78,7 @@ fn room_for(alloc: Global, content: &Option<Content>) -> Result<Option<Vec<Rect>
 {
     match content {
         Some(Content::Formula(formula)) => {
-            let areas = formula.rectangles().iter().copied().collect(alloc)?;
+            let areas = Vec::from_slice(alloc, formula.rectangles())?;
             Ok(Some(areas))
         }
         _ => Ok(None),
@@ -85,8 +86,8 @@ fn room_for(alloc: Global, content: &Option<Content>) -> Result<Option<Vec<Rect>
 }
 
 /// Whether each cell reads what it read before once what is next is put in. The work grows with what that reads.
-pub(crate) fn reads_stay(rooms: &Rooms, next: &Rooms) -> bool
-    ensures { IsTrue result ↔ ReadsStay rooms.now next.now }
+pub(crate) fn reads_stay(rooms: &Rooms, next: &Coming) -> bool
+    ensures { IsTrue result ↔ ReadsStay rooms.now next.now.entries }
 {
     for (cell, room) in next {
         if !reads_this(rooms, *cell, room) {
@@ -100,7 +101,7 @@ pub(crate) fn reads_stay(rooms: &Rooms, next: &Rooms) -> bool
 fn reads_this(rooms: &Rooms, cell: Address, room: &Option<Vec<Rect>>) -> bool
     ensures { IsTrue result ↔ (items_of room.now ≡ room_at rooms.now cell) }
 {
-    match rooms.get(&cell) {
+    match rooms.get(cell) {
         Some(stood) => room == stood,
         None => room.is_none(),
     }

@@ -9,13 +9,13 @@ ghost use Rattle.wi_graph.specs.Inner.Search.{as_set};
 ghost use Rattle.wi_graph.specs.Inner.Turning.{has_one, reads_one_of};
 
 use crate::bounds::around;
-use crate::rooms::Rooms;
+use crate::rooms::Coming;
 use crate::within::first_listed;
 use wi_values::{Address, Rect};
 
 /// Whether what is next reads a cell of a cone, which is in row-major order. The work grows with the count of the cone, and is
 /// that of `first_listed` for each rectangle that is read.
-pub(crate) fn closes_cycle(next: &Rooms, cone: &[Address]) -> bool
+pub(crate) fn closes_cycle(next: &Coming, cone: &[Address]) -> bool
     requires { IsStrictlyIncreasing cone.now }
     ensures { result ≡ reads_one_of next.now.entries (as_set cone.now) }
 {

@@ -5,7 +5,7 @@ ghost use Rattle.std.specs.List.Sorted.{IsStrictlyIncreasing};
 ghost use Rattle.std.specs.Map.{keys_of};
 ghost use Rattle.std.specs.Option.{unwrap_or};
 ghost use Rattle.std.specs.Ordering.{nat_cmp};
-ghost use Rattle.std.specs.BTreeMap.{IsOrdered};
+ghost use Rattle.wi_tiles.specs.Entries.{IsOrdered};
 ghost use Rattle.wi_parser.specs.Sheet.{Sheet, content_of};
 ghost use Rattle.wi_graph.specs.Circular.{circular};
 ghost use Rattle.wi_graph.specs.Reach.{is_one_of, in_cone};
@@ -16,22 +16,22 @@ ghost use Rattle.wi_graph.specs.Inner.Rooms.{room_at, IsGraph, IsStaged};
 use crate::cell_set::CellSet;
 use crate::changes::{Change, reads_stay, rooms_of};
 use crate::cone::{edit_cone, listed_cone, rise};
-use crate::rooms::{Rooms, take_back, take_over};
+use crate::rooms::{Coming, Rooms, take_back, take_over};
 use crate::sets::take_away;
 use crate::staging::bring_in;
 use crate::turning::{Turns, bring_circles, turns_of};
 use std::alloc::{AllocError, Global};
-use std::collections::BTreeMap;
 use std::marker::Model;
 use wi_parser::Content;
 use wi_ranges::RangeIndex;
+use wi_tiles::CellMap;
 use wi_values::Address;
 
 /// An edit that is neither taken nor taken back yet. Its rooms are made, its pairs are in the index, and what it makes
 /// circular is in the set.
 #[derive(Drop)]
 struct Staged {
-    next: Rooms,
+    next: Coming,
     turns: Turns,
 }
 
@@ -57,7 +57,7 @@ impl Model for Graph {
         (option_map (λ x. edges_over (edges_in g.rooms.entries) x.next.entries) g.staged) };
 
     ghost invariant = { λ g. IfNone g.staged (IsGraph g.rooms g.readers g.circles)
-        × IfSome g.staged (λ x. IsStaged g.rooms x.next g.readers g.circles x.turns) };
+        × IfSome g.staged (λ x. IsStaged g.rooms x.next.entries g.readers g.circles x.turns) };
 }
 
 impl Graph {
@@ -66,7 +66,7 @@ impl Graph {
         ensures { result ≡ staging [] None }
     {
         Graph {
-            rooms: BTreeMap::new(alloc),
+            rooms: CellMap::new(alloc),
             readers: RangeIndex::new(alloc),
             circles: CellSet::new(alloc),
             staged: None,
@@ -213,9 +213,9 @@ fn make_ready(
         → (c : ℕ) → is_one_of cone.now c ≡ in_cone s (keys_of changes.now) c }
     ensures ordered { IsOrdered nat_cmp rooms.new }
     ensures rooms { (c : ℕ) → room_at rooms.new c ≡ room_at rooms.old c }
-    ensures brings { IfOk result (λ staged. Brings rooms.old staged.next changes.now) }
+    ensures brings { IfOk result (λ staged. Brings rooms.old staged.next.entries changes.now) }
     ensures staged { IfOk result (λ staged.
-        IsStaged rooms.new staged.next readers.new circles.new staged.turns) }
+        IsStaged rooms.new staged.next.entries readers.new circles.new staged.turns) }
     ensures err { OnErr result (IsGraph rooms.new readers.new circles.new) }
 {
     let next = rooms_of(alloc, rooms, changes)?;

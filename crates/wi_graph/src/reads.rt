@@ -7,7 +7,7 @@ ghost use Rattle.wi_graph.specs.Reach.{is_one_of};
 ghost use Rattle.wi_graph.specs.Inner.Rooms.{room_over, areas_of, items_of};
 ghost use Rattle.wi_graph.specs.Inner.Stripping.{items_there};
 
-use crate::rooms::Rooms;
+use crate::rooms::{Coming, Rooms};
 use crate::stripping::Areas;
 use std::alloc::{AllocError, Global};
 use std::collections::BTreeMap;
@@ -17,11 +17,11 @@ use wi_values::{Address, Rect};
 pub(crate) fn reads_of(
     alloc: Global,
     rooms: &Rooms,
-    next: &Rooms,
+    next: &Coming,
     cells: &[Address],
 ) -> Result<Areas, AllocError>
     ensures { IfOk result (λ reads. (c : ℕ) → is_one_of cells.now c ≡ true
-        → items_there (get nat_cmp reads c) ≡ areas_of (room_over next.now rooms.now c)) }
+        → items_there (get nat_cmp reads c) ≡ areas_of (room_over next.now.entries rooms.now c)) }
 {
     let mut reads = BTreeMap::new(alloc);
     for cell in cells {
@@ -35,14 +35,14 @@ pub(crate) fn reads_of(
 fn areas_after(
     alloc: Global,
     rooms: &Rooms,
-    next: &Rooms,
+    next: &Coming,
     cell: Address,
 ) -> Result<Vec<Rect>, AllocError>
-    ensures { IfOk result (λ v. v.items ≡ areas_of (room_over next.now rooms.now cell)) }
+    ensures { IfOk result (λ v. v.items ≡ areas_of (room_over next.now.entries rooms.now cell)) }
 {
     match next.get(&cell) {
         Some(room) => copy_of(alloc, room),
-        None => match rooms.get(&cell) {
+        None => match rooms.get(cell) {
             Some(room) => copy_of(alloc, room),
             None => Ok(Vec::new(alloc)),
         },

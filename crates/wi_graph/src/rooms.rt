@@ -3,40 +3,43 @@
 
 ghost use Rattle.std.specs.Prelude.{◌≡◌, ◌==◌, ◌-◌, ℕ, None, false, if◌then◌else◌};
 ghost use Rattle.std.specs.Ordering.{nat_cmp};
-ghost use Rattle.std.specs.BTreeMap.{get, IsOrdered};
+ghost use Rattle.wi_tiles.specs.Entries.{get, IsOrdered};
 ghost use Rattle.std.specs.Option.{is_none};
 ghost use Rattle.wi_ranges.specs.declared.pair.RangePair.{RangePair};
 ghost use Rattle.wi_ranges.specs.Bag.{count_of};
 ghost use Rattle.wi_graph.specs.Inner.Rooms.{items_of, room_at, room_over, areas_of, times, HasRooms, HasPairs, HasBoth};
 
 use std::collections::BTreeMap;
-use std::mem;
 use wi_ranges::RangeIndex;
+use wi_tiles::CellMap;
 use wi_values::{Address, Rect};
 
 /// The rectangles that formulas read, by their cells; a vacant room has no formula.
-pub(crate) type Rooms = BTreeMap<Address, Option<Vec<Rect>>>;
+pub(crate) type Rooms = CellMap<Option<Vec<Rect>>>;
+
+/// What an edit brings, by its cells.
+pub(crate) type Coming = BTreeMap<Address, Option<Vec<Rect>>>;
 
 /// Takes what is next: it goes into the rooms, and the pairs of what stood there leave the index.
-pub(crate) fn take_over(rooms: &mut Rooms, readers: &mut RangeIndex, next: &mut Rooms)
+pub(crate) fn take_over(rooms: &mut Rooms, readers: &mut RangeIndex, next: &mut Coming)
     requires ordered { IsOrdered nat_cmp rooms.old }
-    requires has_rooms { HasRooms rooms.old next.old }
-    requires pairs { HasBoth readers.old rooms.old next.old }
+    requires has_rooms { HasRooms rooms.old next.old.entries }
+    requires pairs { HasBoth readers.old rooms.old next.old.entries }
     ensures ordered { IsOrdered nat_cmp rooms.new }
-    ensures rooms { (c : ℕ) → room_at rooms.new c ≡ room_over next.old rooms.old c }
+    ensures rooms { (c : ℕ) → room_at rooms.new c ≡ room_over next.old.entries rooms.old c }
     ensures pairs { HasPairs readers.new rooms.new }
 {
     'cells: while let Some(entry) = next.pop_first() {
-        let (cell, mut room) = entry;
-        exchange(rooms, cell, &mut room);
-        remove_room(readers, cell, &room);
+        let (cell, coming) = entry;
+        let stood = exchange(rooms, cell, coming);
+        remove_room(readers, cell, &stood);
     }
 }
 
 /// Takes back what is next: its pairs leave the index, and its vacant rooms go.
-pub(crate) fn take_back(rooms: &mut Rooms, readers: &mut RangeIndex, next: &mut Rooms)
+pub(crate) fn take_back(rooms: &mut Rooms, readers: &mut RangeIndex, next: &mut Coming)
     requires ordered { IsOrdered nat_cmp rooms.old }
-    requires pairs { HasBoth readers.old rooms.old next.old }
+    requires pairs { HasBoth readers.old rooms.old next.old.entries }
     ensures ordered { IsOrdered nat_cmp rooms.new }
     ensures rooms { (c : ℕ) → room_at rooms.new c ≡ room_at rooms.old c }
     ensures pairs { HasPairs readers.new rooms.new }
@@ -48,35 +51,34 @@ pub(crate) fn take_back(rooms: &mut Rooms, readers: &mut RangeIndex, next: &mut 
     }
 }
 
-/// Exchanges rectangles, or none, with what stands in a cell. Where none come, the cell is left without a room.
-fn exchange(rooms: &mut Rooms, at: Address, room: &mut Option<Vec<Rect>>)
+/// Puts rectangles, or none, in the place of what stands in a cell, and gives that. Where none come, the cell is left without a
+/// room.
+fn exchange(rooms: &mut Rooms, at: Address, room: Option<Vec<Rect>>) -> Option<Vec<Rect>>
     requires ordered { IsOrdered nat_cmp rooms.old }
-    requires room { get nat_cmp rooms.old at ≡ None → items_of room.old ≡ None }
+    requires room { get nat_cmp rooms.old at ≡ None → items_of room ≡ None }
     ensures ordered { IsOrdered nat_cmp rooms.new }
     ensures rooms { (c : ℕ) → room_at rooms.new c
-        ≡ (if at == c then items_of room.old else room_at rooms.old c) }
+        ≡ (if at == c then items_of room else room_at rooms.old c) }
     ensures others { (c : ℕ) → (at == c) ≡ false
         → get nat_cmp rooms.new c ≡ get nat_cmp rooms.old c }
-    ensures stood { items_of room.new ≡ room_at rooms.old at }
+    ensures stood { items_of result ≡ room_at rooms.old at }
 {
     if room.is_none() {
-        *room = take_room(rooms, at);
-        return;
+        return take_room(rooms, at);
     }
-    if let Some(stood) = rooms.get_mut(&at) {
-        mem::swap(stood, room);
-    }
+    rooms.replace(at, room).flatten()
 }
 
 /// Takes away the room of a cell, and gives what stood in it.
 fn take_room(rooms: &mut Rooms, at: Address) -> Option<Vec<Rect>>
+    requires { IsOrdered nat_cmp rooms.old }
     ensures ordered { IsOrdered nat_cmp rooms.new }
     ensures rooms { (c : ℕ) → room_at rooms.new c ≡ (if at == c then None else room_at rooms.old c) }
     ensures others { (c : ℕ) → (at == c) ≡ false
         → get nat_cmp rooms.new c ≡ get nat_cmp rooms.old c }
     ensures stood { items_of result ≡ room_at rooms.old at }
 {
-    rooms.remove(&at).flatten()
+    rooms.remove(at).flatten()
 }
 
 /// Takes away the room of a cell if it is vacant.
@@ -88,7 +90,7 @@ pub(crate) fn release(rooms: &mut Rooms, at: Address)
         → get nat_cmp rooms.new c ≡ get nat_cmp rooms.old c }
 {
     if is_vacant(rooms, at) {
-        let _ = rooms.remove(&at);
+        let _ = rooms.remove(at);
     }
 }
 
@@ -96,7 +98,7 @@ pub(crate) fn release(rooms: &mut Rooms, at: Address)
 pub(crate) fn is_vacant(rooms: &Rooms, at: Address) -> bool
     ensures { result ≡ is_none (room_at rooms.now at) }
 {
-    match rooms.get(&at) {
+    match rooms.get(at) {
         Some(room) => room.is_none(),
         None => true,
     }

@@ -2,13 +2,13 @@
 
 ghost use Rattle.std.specs.Prelude.{◌≡◌, ◌+◌, ℕ, None, OnOk, OnErr};
 ghost use Rattle.std.specs.Ordering.{nat_cmp};
-ghost use Rattle.std.specs.BTreeMap.{get, IsOrdered};
+ghost use Rattle.wi_tiles.specs.Entries.{get, IsOrdered};
 ghost use Rattle.wi_ranges.specs.declared.pair.RangePair.{RangePair};
 ghost use Rattle.wi_ranges.specs.Bag.{count_of};
 ghost use Rattle.wi_graph.specs.Inner.Rooms.{items_of, room_at, areas_of, times, HasRooms, HasPairs, HasBoth};
 ghost use Rattle.wi_graph.specs.Inner.Staging.{before, HasThese};
 
-use crate::rooms::{Rooms, release, remove_pairs, remove_room};
+use crate::rooms::{Coming, Rooms, release, remove_pairs, remove_room};
 use std::alloc::AllocError;
 use wi_ranges::RangeIndex;
 use wi_values::{Address, Rect};
@@ -18,14 +18,14 @@ use wi_values::{Address, Rect};
 pub(crate) fn bring_in(
     rooms: &mut Rooms,
     readers: &mut RangeIndex,
-    coming: &Rooms,
+    coming: &Coming,
 ) -> Result<(), AllocError>
     requires ordered { IsOrdered nat_cmp rooms.old }
     requires pairs { HasPairs readers.old rooms.old }
     ensures ordered { IsOrdered nat_cmp rooms.new }
     ensures rooms { (c : ℕ) → room_at rooms.new c ≡ room_at rooms.old c }
-    ensures has_rooms { OnOk result (HasRooms rooms.new coming.now) }
-    ensures pairs { OnOk result (HasBoth readers.new rooms.new coming.now) }
+    ensures has_rooms { OnOk result (HasRooms rooms.new coming.now.entries) }
+    ensures pairs { OnOk result (HasBoth readers.new rooms.new coming.now.entries) }
     ensures err { OnErr result (HasPairs readers.new rooms.new) }
 {
     for (cell, room) in coming {
@@ -64,7 +64,7 @@ fn bring_one(
 }
 
 /// Takes out again what is in for the cells before one: its pairs leave the index, and its vacant rooms go.
-fn take_out(rooms: &mut Rooms, readers: &mut RangeIndex, coming: &Rooms, end: Address)
+fn take_out(rooms: &mut Rooms, readers: &mut RangeIndex, coming: &Coming, end: Address)
     requires ordered { IsOrdered nat_cmp rooms.old }
     requires pairs { HasThese readers.old rooms.old (before end coming.now.entries) }
     ensures ordered { IsOrdered nat_cmp rooms.new }
@@ -85,7 +85,7 @@ fn make_room(rooms: &mut Rooms, at: Address) -> Result<(), AllocError>
     ensures there { OnOk result (get nat_cmp rooms.new at ≡ None → ⊥) }
     ensures stay { (c : ℕ) → get nat_cmp rooms.new c ≡ None → get nat_cmp rooms.old c ≡ None }
 {
-    rooms.entry(at)?.or_insert(None);
+    rooms.put_new(at, None)?;
     Ok(())
 }
 

@@ -15,7 +15,7 @@ use crate::changes::reads_stay;
 use crate::closing::closes_cycle;
 use crate::held::held_set;
 use crate::reads::reads_of;
-use crate::rooms::Rooms;
+use crate::rooms::{Coming, Rooms};
 use crate::sets::{insert_all, listed, set_of, take_away, without};
 use crate::stripping::strip;
 use std::alloc::{AllocError, Global};
@@ -36,13 +36,13 @@ pub(crate) fn turns_of(
     alloc: Global,
     rooms: &Rooms,
     circles: &CellSet,
-    next: &Rooms,
+    next: &Coming,
     cone: &[Address],
 ) -> Result<Turns, AllocError>
     requires circles { AreCircles (room_at rooms.now) (contains nat_cmp circles.now) }
     requires order { IsStrictlyIncreasing cone.now }
-    requires cone { IsEditCone rooms.now next.now (is_one_of cone.now) }
-    ensures { IfOk result (AreTurns rooms.now next.now circles.now) }
+    requires cone { IsEditCone rooms.now next.now.entries (is_one_of cone.now) }
+    ensures { IfOk result (AreTurns rooms.now next.now.entries circles.now) }
 {
     if is_alone(circles, cone) {
         return turns_in(alloc, rooms, circles, next, cone);
@@ -64,13 +64,13 @@ fn turns_in(
     alloc: Global,
     rooms: &Rooms,
     circles: &CellSet,
-    next: &Rooms,
+    next: &Coming,
     cone: &[Address],
 ) -> Result<Turns, AllocError>
     requires circles { AreCircles (room_at rooms.now) (contains nat_cmp circles.now) }
     requires order { IsStrictlyIncreasing cone.now }
-    requires cone { IsEditCone rooms.now next.now (is_one_of cone.now) }
-    ensures { IfOk result (AreTurns rooms.now next.now circles.now) }
+    requires cone { IsEditCone rooms.now next.now.entries (is_one_of cone.now) }
+    ensures { IfOk result (AreTurns rooms.now next.now.entries circles.now) }
 {
     if circles.is_empty() && !closes_cycle(next, cone) {
         return Ok(no_turns(alloc));
@@ -84,12 +84,12 @@ fn turns_among(
     alloc: Global,
     rooms: &Rooms,
     circles: &CellSet,
-    next: &Rooms,
+    next: &Coming,
     cone: &CellSet,
 ) -> Result<Turns, AllocError>
     requires circles { AreCircles (room_at rooms.now) (contains nat_cmp circles.now) }
-    requires cone { IsEditCone rooms.now next.now (contains nat_cmp cone.now) }
-    ensures { IfOk result (AreTurns rooms.now next.now circles.now) }
+    requires cone { IsEditCone rooms.now next.now.entries (contains nat_cmp cone.now) }
+    ensures { IfOk result (AreTurns rooms.now next.now.entries circles.now) }
 {
     let rest = circular_in_cone(alloc, rooms, next, circles, cone)?;
     let came = without(alloc, &rest, circles)?;
@@ -129,12 +129,12 @@ fn went_of(
 fn circular_in_cone(
     alloc: Global,
     rooms: &Rooms,
-    next: &Rooms,
+    next: &Coming,
     circles: &CellSet,
     cells: &CellSet,
 ) -> Result<CellSet, AllocError>
     ensures within { IfOk result (λ rest. IsWithin rest cells.now) }
-    ensures settles { IfOk result (SettlesCone rooms.now next.now circles.now cells.now) }
+    ensures settles { IfOk result (SettlesCone rooms.now next.now.entries circles.now cells.now) }
 {
     let list = listed(alloc, cells.set())?;
     let reads = reads_of(alloc, rooms, next, &list)?;

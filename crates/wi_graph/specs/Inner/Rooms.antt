@@ -2,9 +2,11 @@
 use Rattle.std.specs.Prelude.{◌≡◌, ◌+◌, ℕ, Bool, ◌&&◌, not, List, [], ◌∷◌, Option, Some, None, if◌then◌else◌}
 use Rattle.std.specs.Ordering.{nat_cmp}
 use Rattle.std.specs.Global.{Vec}
-use Rattle.std.specs.BTreeMap.{BTreeMap, get, IsOrdered}
+use Rattle.std.specs.Map.{lookup}
+use Rattle.std.specs.BTreeMap.{is_at}
 use Rattle.std.specs.BTreeSet.{BTreeSet, contains}
 use Rattle.wi_values.specs.Address.{Area}
+use Rattle.wi_tiles.specs.Entries.{CellEntries, get, IsOrdered}
 use Rattle.wi_parser.specs.Sheet.{Sheet, content_of}
 use Rattle.wi_ranges.specs.declared.pair.RangePair.{RangePair}
 use Rattle.wi_ranges.specs.Bag.{Bag, pair_for, is_same, count_of}
@@ -15,7 +17,11 @@ use Rattle.wi_graph.specs.declared.turning.Turns.{Turns}
 
 -- the rectangles that formulas read, by their cells; a vacant room has no formula
 abbrev pub Rooms : Type 0
-Rooms = BTreeMap ℕ (Option (Vec Area))
+Rooms = CellEntries (Option (Vec Area))
+
+-- what an edit brings, by its cells
+abbrev pub Coming : Type 0
+Coming = List (ℕ × Option (Vec Area))
 
 -- the rectangles in a room, as a list
 abbrev pub items_of : Option (Vec Area) → Option (List Area)
@@ -30,14 +36,22 @@ in_room (Some o) = items_of o
 abbrev pub room_at : Rooms → ℕ → Option (List Area)
 room_at rooms c = in_room (get nat_cmp rooms c)
 
+-- what an edit brings for a cell, if it names it
+abbrev pub brought_to : Coming → ℕ → Option (Option (Vec Area))
+brought_to next c = lookup (is_at (nat_cmp c)) next
+
+-- what the formula reads that it brings, if it brings one
+abbrev pub coming_at : Coming → ℕ → Option (List Area)
+coming_at next c = in_room (brought_to next c)
+
 -- what is put in counts, where something is
 abbrev pub put_over : Option (Option (Vec Area)) → Option (List Area) → Option (List Area)
 put_over None o = o
 put_over (Some x) o = items_of x
 
 -- and once the next are put in
-abbrev pub room_over : Rooms → Rooms → ℕ → Option (List Area)
-room_over next rooms c = put_over (get nat_cmp next c) (room_at rooms c)
+abbrev pub room_over : Coming → Rooms → ℕ → Option (List Area)
+room_over next rooms c = put_over (brought_to next c) (room_at rooms c)
 
 abbrev pub with_room : ℕ → Option (Vec Area) → Edges → Edges
 with_room c None es = es
@@ -49,7 +63,7 @@ edges_in [] = []
 edges_in (e ∷ es) = with_room e.0 e.1 (edges_in es)
 
 -- the edges with what is put in
-abbrev pub edges_over : Edges → List (ℕ × Option (Vec Area)) → Edges
+abbrev pub edges_over : Edges → Coming → Edges
 edges_over es [] = es
 edges_over es (x ∷ xs) = with_areas (edges_over es xs) x.0 (items_of x.1)
 
@@ -67,17 +81,21 @@ times c (r ∷ rs) p = (if is_same (pair_for r c) p then 1 else 0) + times c rs 
 abbrev pub times_in : Rooms → RangePair → ℕ
 times_in rooms p = times p.reader (areas_of (room_at rooms p.reader)) p
 
+-- how often an edit brings it so that it does
+abbrev pub times_coming : Coming → RangePair → ℕ
+times_coming next p = times p.reader (areas_of (coming_at next p.reader)) p
+
 -- each that is put in has a room
-abbrev pub HasRooms : Rooms → Rooms → Type 0
-HasRooms rooms next = (c : ℕ) → get nat_cmp rooms c ≡ None → room_at next c ≡ None
+abbrev pub HasRooms : Rooms → Coming → Type 0
+HasRooms rooms next = (c : ℕ) → get nat_cmp rooms c ≡ None → coming_at next c ≡ None
 
 -- the index has the pairs of the formulas
 abbrev pub HasPairs : Bag → Rooms → Type 0
 HasPairs readers rooms = (p : RangePair) → count_of readers p ≡ times_in rooms p
 
 -- and those of the next
-abbrev pub HasBoth : Bag → Rooms → Rooms → Type 0
-HasBoth readers rooms next = (p : RangePair) → count_of readers p ≡ times_in rooms p + times_in next p
+abbrev pub HasBoth : Bag → Rooms → Coming → Type 0
+HasBoth readers rooms next = (p : RangePair) → count_of readers p ≡ times_in rooms p + times_coming next p
 
 -- one of the set and none of the list
 abbrev pub less_these : BTreeSet ℕ → List ℕ → ℕ → Bool
@@ -96,7 +114,7 @@ pub record IsGraph (rooms : Rooms) (readers : Bag) (circles : BTreeSet ℕ) : Ty
   pub circular : AreCircles (room_at rooms) (contains nat_cmp circles)
 
 -- the set has the cells that are circular before or after
-pub record IsStaged (rooms next : Rooms) (readers : Bag) (circles : BTreeSet ℕ) (turns : Turns) : Type 0 where
+pub record IsStaged (rooms : Rooms) (next : Coming) (readers : Bag) (circles : BTreeSet ℕ) (turns : Turns) : Type 0 where
   pub ordered : IsOrdered nat_cmp rooms
   pub has_rooms : HasRooms rooms next
   pub pairs : HasBoth readers rooms next

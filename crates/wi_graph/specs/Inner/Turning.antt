@@ -1,5 +1,5 @@
 -- Which cells of a cone turn circular.
-use Rattle.std.specs.Prelude.{◌≡◌, ◌&&◌, ◌||◌, ℕ, Bool, true, false, cond, not, List, Option}
+use Rattle.std.specs.Prelude.{◌≡◌, ◌&&◌, ◌||◌, ℕ, Bool, true, false, cond, not, List}
 use Rattle.std.specs.List.{list_any}
 use Rattle.std.specs.Ordering.{nat_cmp}
 use Rattle.std.specs.Global.{Vec}
@@ -11,7 +11,7 @@ use Rattle.wi_graph.specs.Circular.{circular}
 use Rattle.wi_graph.specs.Reach.{is_one_of, SameOff, in_cone}
 use Rattle.wi_graph.specs.Edges.{areas_in}
 use Rattle.wi_graph.specs.Inner.Stripping.{items_there}
-use Rattle.wi_graph.specs.Inner.Rooms.{Rooms, items_of, areas_of, room_over, AreCircles}
+use Rattle.wi_graph.specs.Inner.Rooms.{Rooms, Coming, items_of, areas_of, room_over, AreCircles}
 use Rattle.wi_graph.specs.declared.turning.Turns.{Turns}
 
 -- the rectangle has one of the circular cells outside the cone
@@ -27,7 +27,7 @@ abbrev pub has_one : BTreeSet ℕ → Area → Bool
 has_one cells r = list_any (is_within r) cells.keys
 
 -- what is next reads one of the cells
-abbrev pub reads_one_of : List (ℕ × Option (Vec Area)) → BTreeSet ℕ → Bool
+abbrev pub reads_one_of : Coming → BTreeSet ℕ → Bool
 reads_one_of es cells = list_any (λ e. list_any (has_one cells) (areas_of (items_of e.1))) es
 
 -- the cell was circular or came, and did not go
@@ -35,12 +35,12 @@ abbrev pub turned_by : BTreeSet ℕ → Turns → ℕ → Bool
 turned_by circles turns c = (contains nat_cmp circles c || is_one_of turns.came.items c) && not (is_one_of turns.went.items c)
 
 -- with these turns the circular cells are those after what is next is put in
-pub record AreTurns (rooms next : Rooms) (circles : BTreeSet ℕ) (turns : Turns) : Type 0 where
+pub record AreTurns (rooms : Rooms) (next : Coming) (circles : BTreeSet ℕ) (turns : Turns) : Type 0 where
   pub fresh : (c : ℕ) → is_one_of turns.came.items c ≡ true → contains nat_cmp circles c ≡ false
   pub after : AreCircles (room_over next rooms) (turned_by circles turns)
 
 -- of each edit that brings what is next, the cells of the cone that are left are circular after it
-abbrev pub SettlesCone : Rooms → Rooms → BTreeSet ℕ → BTreeSet ℕ → BTreeSet ℕ → Type 0
+abbrev pub SettlesCone : Rooms → Coming → BTreeSet ℕ → BTreeSet ℕ → BTreeSet ℕ → Type 0
 SettlesCone rooms next circles cells rest = (s t : Sheet) (xs : List ℕ) → SameOff s t xs →
     ((c : ℕ) → room_over next rooms c ≡ areas_in (content_of t c)) →
     ((c : ℕ) → contains nat_cmp circles c ≡ circular s c) →

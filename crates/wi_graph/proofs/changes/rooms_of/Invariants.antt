@@ -3,4 +3,4 @@ use Rattle.wi_graph.specs.Inner.Changes.{Brings, HasNoIdle}
 use Rattle.wi_graph.proofs.changes.rooms_of.Given as goal
 
 abbrev pub invariant-loop-change : goal.invariant-loop-change
-invariant-loop-change l = Brings l.rooms l.next (take l.change-index l.changes) × HasNoIdle l.rooms l.next
+invariant-loop-change l = Brings l.rooms l.next.entries (take l.change-index l.changes) × HasNoIdle l.rooms l.next.entries

@@ -5,8 +5,8 @@ use Rattle.wi_graph.proofs.rooms.take_over.Goals as goal
 
 pub cells-preserved-in-Some : goal.cells-preserved-in-Some
 cells-preserved-in-Some c =
-    taking_step c.args.next.now c.args.rooms.now c.cells.next c.pop_first.new.self c.cells.rooms c.exchange.new.rooms c.cells.readers c.remove_room.new.readers c.in-Some.entry.0 c.in-Some.entry.1 c.exchange.new.room c.in-Some.ensures.value
-    c.in-Some.ensures.updates.0 c.exchange.ensures.ordered (search rules) c.exchange.ensures.others c.exchange.ensures.stood c.remove_room.ensures c.cells.invariant
+    taking_step c.args.next.now.entries c.args.rooms.now c.cells.next.entries c.pop_first.new.self.entries c.cells.rooms c.exchange-stood.new.rooms c.cells.readers c.remove_room.new.readers c.in-Some.entry.0 c.in-Some.entry.1 c.exchange-stood.result c.in-Some.ensures.value
+    c.in-Some.ensures.updates.0 c.exchange-stood.ensures.ordered (search rules) c.exchange-stood.ensures.others c.exchange-stood.ensures.stood c.remove_room.ensures c.cells.invariant
 
 pub cells-preserved : goal.cells-preserved
 cells-preserved c = grind (arith, common_steps)

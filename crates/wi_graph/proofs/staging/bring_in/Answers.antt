@@ -6,7 +6,7 @@ loop-cell-init c = bringing_start c.args.rooms.now c.args.readers.now c.into_ite
 
 pub take_out-requires-clause-pairs : goal.take_out-requires-clause-pairs
 take_out-requires-clause-pairs c =
-    bringing_refused c.args.rooms.now c.loop-cell.rooms c.bring_one.new.rooms c.args.coming.now c.loop-cell.readers c.bring_one.new.readers c.into_iter-cell-iterator.result c.loop-cell.cell-iterator c.next.new.self c.in-Some.cell.now c.in-Some.room.now
+    bringing_refused c.args.rooms.now c.loop-cell.rooms c.bring_one.new.rooms c.args.coming.now.entries c.loop-cell.readers c.bring_one.new.readers c.into_iter-cell-iterator.result c.loop-cell.cell-iterator c.next.new.self c.in-Some.cell.now c.in-Some.room.now
     c.into_iter-cell-iterator.ensures.into_iter_gives.0 c.into_iter-cell-iterator.ensures.into_iter_gives.5 c.in-Some.ensures.steps c.bring_one.ensures.rooms c.in-Err.ensures.same c.loop-cell.invariant
 
 pub loop-cell-preserved : goal.loop-cell-preserved
@@ -16,10 +16,10 @@ loop-cell-preserved c =
 
 pub returns-clause-has_rooms : goal.returns-clause-has_rooms
 returns-clause-has_rooms c =
-    (bringing_end c.args.rooms.now c.loop-cell.rooms c.args.coming.now c.loop-cell.readers c.into_iter-cell-iterator.result c.loop-cell.cell-iterator
+    (bringing_end c.args.rooms.now c.loop-cell.rooms c.args.coming.now.entries c.loop-cell.readers c.into_iter-cell-iterator.result c.loop-cell.cell-iterator
     c.into_iter-cell-iterator.ensures.into_iter_gives.0 c.into_iter-cell-iterator.ensures.into_iter_gives.5 c.in-None.ensures.steps.0 c.loop-cell.invariant).0
 
 pub returns-clause-pairs : goal.returns-clause-pairs
 returns-clause-pairs c =
-    (bringing_end c.args.rooms.now c.loop-cell.rooms c.args.coming.now c.loop-cell.readers c.into_iter-cell-iterator.result c.loop-cell.cell-iterator
+    (bringing_end c.args.rooms.now c.loop-cell.rooms c.args.coming.now.entries c.loop-cell.readers c.into_iter-cell-iterator.result c.loop-cell.cell-iterator
     c.into_iter-cell-iterator.ensures.into_iter_gives.0 c.into_iter-cell-iterator.ensures.into_iter_gives.5 c.in-None.ensures.steps.0 c.loop-cell.invariant).1
