@@ -10,7 +10,7 @@ use Rattle.std.specs.Option.{option_eq, is_none}
 use Rattle.std.specs.Cmp.Lexicographic.{pointwise}
 use Rattle.wi_values.specs.contracts.rect.RectPartialEq.TheImpl as rect
 use Rattle.std.specs.Ordering.{nat_cmp}
-use Rattle.std.specs.Map.{keys_of, lookup}
+use Rattle.std.specs.Map.{keys_of}
 use Rattle.std.specs.Global.{Vec}
 use Rattle.std.specs.BTreeMap.{is_at}
 use Rattle.wi_values.specs.Address.{Area}
@@ -21,11 +21,12 @@ use Rattle.wi_parser.specs.declared.content.Content.TheVariants.{Constant}
 use Rattle.wi_parser.specs.Sheet.{Sheet, content_of}
 use Rattle.wi_graph.specs.Reach.{SameOff}
 use Rattle.wi_graph.specs.Edges.{Edges, areas_in, areas_at, with_areas, edges_after}
-use Rattle.wi_graph.specs.Inner.Rooms.{Rooms, Coming, brought_to, items_of, in_room, room_at, put_over, room_over, edges_in, edges_over}
+use Rattle.wi_graph.specs.Inner.Rooms.{Rooms, Coming, AreInOrder, brought_to, coming_at, items_of, in_room, room_at, put_over, room_over, edges_in, edges_over}
 use Rattle.wi_graph.specs.Inner.Changes.{areas_then, Brings, HasNoIdle, ReadsStay}
 use Rattle.wi_graph.proofs.Tests.{at_same, turn_test, is_at-eq}
 use Rattle.wi_graph.proofs.Walks.{same_cell}
-use Rattle.wi_values.proofs.Order.{Ascends-from_order}
+use Rattle.wi_values.proofs.Order.{Ascends-from_order, order-from_Ascends}
+use Rattle.wi_graph.proofs.ComingSteps.{one_longer}
 use Rattle.wi_graph.proofs.EdgeLemmas.{same_edges, areas_with, areas_over, areas_rooms, ascends_over, ascends_after, ascends_rooms}
 
 then_more : (xs : List (ℕ × Option Content)) (x : ℕ × Option Content) (c : ℕ) (o : Option (List Area)) → areas_then (xs ++ x ∷ []) c o ≡ cond (c == x.0) (areas_in x.1) (areas_then xs c o)
@@ -108,6 +109,42 @@ brings_start rooms next e = (λ c. ap (λ (o : Option (Option (Vec Area))). put_
 pub brings_end : (rooms : Rooms) (next : Coming) (xs : List (ℕ × Option Content)) (i : ℕ) → length xs ≤ i → Brings rooms next (take i xs) → Brings rooms next xs
 brings_end rooms next xs i l h = subst (λ (ys : List (ℕ × Option Content)). Brings rooms next ys) (take_all i xs l) h
 
+-- ---- an edit of one cell
+
+pub only_one : (xs : List (ℕ × Option Content)) (x : ℕ × Option Content) → length xs ≡ 1 → x ≡ get_or xs 0 x → x ∷ [] ≡ xs
+only_one [] x l e = absurd (omega (arith, l))
+only_one (y ∷ []) x l e = ap (λ (z : ℕ × Option Content). z ∷ []) e
+only_one (y ∷ z ∷ zs) x l e = absurd (omega (arith, l))
+
+pub brings_one : (rooms : Rooms) (k : ℕ) (o : Option Content) (r : Option (Vec Area)) (next : Coming) → next ≡ (k, r) ∷ [] → items_of r ≡ areas_in o → Brings rooms next ((k, o) ∷ [])
+brings_one rooms k o r next e i c = ap (λ (es : Coming). room_over es rooms c) e ∙ at (is_at (nat_cmp c) k) (c == k) (is_at-eq c k)
+  where
+    at : (b d : Bool) → b ≡ d → put_over (cond b (Some r) None) (room_at rooms c) ≡ cond d (areas_in o) (room_at rooms c)
+    at true true s = i
+    at false false s = refl
+    at true false s = cc
+    at false true s = cc
+
+pub brings_none : (rooms : Rooms) (k : ℕ) (o : Option Content) (r : Option (Vec Area)) (next : Coming) → next ≡ [] → items_of r ≡ areas_in o → (is_none (items_of r) && is_none (room_at rooms k)) ≡ true → Brings rooms next ((k, o) ∷ [])
+brings_none rooms k o r next e i n c = ap (λ (es : Coming). room_over es rooms c) e ∙ at (c == k) refl
+  where
+    at : (d : Bool) → (c == k) ≡ d → room_at rooms c ≡ cond d (areas_in o) (room_at rooms c)
+    at true s = ap (room_at rooms) (same_cell k c s) ∙ sym (none_both (items_of r) (room_at rooms k) n) ∙ i
+    at false s = refl
+
+pub one_idle : (rooms : Rooms) (k : ℕ) (r : Option (Vec Area)) (next : Coming) → next ≡ (k, r) ∷ [] → (is_none (items_of r) && is_none (room_at rooms k)) ≡ false → HasNoIdle rooms next
+one_idle rooms k r next e n c h i = ap (λ (es : Coming). brought_to es c) e ∙ at (is_at (nat_cmp c) k) refl (ap (λ (es : Coming). coming_at es c) (sym e) ∙ i)
+  where
+    at : (b : Bool) → is_at (nat_cmp c) k ≡ b → in_room (cond b (Some r) None) ≡ None → cond b (Some r) None ≡ None
+    at true s j = let z : true ≡ false = sym (not_both (items_of r) (room_at rooms k) j (ap (room_at rooms) (at_same c k s) ∙ h)) ∙ n in cc
+    at false s j = refl
+
+pub one_order : (k : ℕ) (r : Option (Vec Area)) (next : Coming) → next ≡ (k, r) ∷ [] → AreInOrder next
+one_order k r next e = subst AreInOrder (sym e) (order-from_Ascends ((k, r) ∷ []) (tt, tt))
+
+pub none_order : (next : Coming) → next ≡ [] → AreInOrder next
+none_order next e = subst AreInOrder (sym e) (order-from_Ascends {X = Option (Vec Area)} [] tt)
+
 -- ---- the edges after it
 
 then_edges : (es : Edges) (xs : List (ℕ × Option Content)) (c : ℕ) → areas_at (edges_after es xs) c ≡ areas_then xs c (areas_at es c)
@@ -142,18 +179,21 @@ no_room rooms c r (Some v) e f = (λ h. cc, λ h. let z : Some v.items ≡ None 
 abbrev pub AreAsBefore : Rooms → Coming → Type 0
 AreAsBefore rooms es = (c : ℕ) → IfSome (brought_to es c) (λ r. items_of r ≡ room_at rooms c)
 
-pub one_as_before : (rooms : Rooms) (x : ℕ × Option (Vec Area)) (es fs : Coming) → es ≡ x ∷ fs → items_of x.1 ≡ room_at rooms x.0 → AreAsBefore rooms fs → AreAsBefore rooms es
-one_as_before rooms x es fs e k h c = subst (λ (gs : Coming). IfSome (brought_to gs c) (λ r. items_of r ≡ room_at rooms c)) (sym e) (at (is_at (nat_cmp c) x.0) refl)
+one_more : (rooms : Rooms) (c : ℕ) (x : ℕ × Option (Vec Area)) (front : Coming) → items_of x.1 ≡ room_at rooms x.0 → IfSome (brought_to front c) (λ r. items_of r ≡ room_at rooms c) → IfSome (brought_to (front ++ x ∷ []) c) (λ r. items_of r ≡ room_at rooms c)
+one_more rooms c x [] k h = at (is_at (nat_cmp c) x.0) refl
   where
-    at : (b : Bool) → is_at (nat_cmp c) x.0 ≡ b → IfSome (cond b (Some x.1) (lookup (is_at (nat_cmp c)) fs)) (λ r. items_of r ≡ room_at rooms c)
+    at : (b : Bool) → is_at (nat_cmp c) x.0 ≡ b → IfSome (cond {A = Option (Option (Vec Area))} b (Some x.1) None) (λ r. items_of r ≡ room_at rooms c)
     at true f = k ∙ ap (room_at rooms) (at_same c x.0 f)
-    at false f = h c
+    at false f = tt
+one_more rooms c x (y ∷ ys) k h = at (is_at (nat_cmp c) y.0) h (one_more rooms c x ys k)
+  where
+    at : (b : Bool) → IfSome (cond b (Some y.1) (brought_to ys c)) (λ r. items_of r ≡ room_at rooms c) → (IfSome (brought_to ys c) (λ r. items_of r ≡ room_at rooms c) → IfSome (brought_to (ys ++ x ∷ []) c) (λ r. items_of r ≡ room_at rooms c)) →
+        IfSome (cond b (Some y.1) (brought_to (ys ++ x ∷ []) c)) (λ r. items_of r ≡ room_at rooms c)
+    at true g ih = g
+    at false g ih = ih g
 
-pub none_as_before : (rooms : Rooms) (es : Coming) → es ≡ [] → AreAsBefore rooms es
-none_as_before rooms es e = subst (AreAsBefore rooms) (sym e) (λ c. tt)
-
-pub fewer_left : {A : Type 0} (x : A) (xs ys : List A) → xs ≡ x ∷ ys → length ys < length xs
-fewer_left x xs ys e = omega (arith, ap length e)
+pub more_as_before : (rooms : Rooms) (xs : Coming) (i : ℕ) (x : ℕ × Option (Vec Area)) → i < length xs → x ≡ get_or xs i x → items_of x.1 ≡ room_at rooms x.0 → AreAsBefore rooms (take i xs) → AreAsBefore rooms (take (i + 1) xs)
+more_as_before rooms xs i x l e k h = subst (AreAsBefore rooms) (sym (one_longer xs i x l e)) (λ c. one_more rooms c x (take i xs) k (h c))
 
 pub all_as_before : (rooms : Rooms) (next : Coming) → AreAsBefore rooms next → ReadsStay rooms next
 all_as_before rooms next h c = at (brought_to next c) (h c)

@@ -43,7 +43,7 @@ empty_graph rooms readers circles e r n = record {
 }
 
 -- nothing is staged
-pub unstaged : (rooms : Rooms) (readers : Bag) (circles : BTreeSet ℕ) (staged : Option Staged) → option_map (λ x. edges_over (edges_in rooms.entries) x.next.entries) staged ≡ None → IfNone staged (IsGraph rooms readers circles) → IsGraph rooms readers circles
+pub unstaged : (rooms : Rooms) (readers : Bag) (circles : BTreeSet ℕ) (staged : Option Staged) → option_map (λ x. edges_over (edges_in rooms.entries) x.next.items) staged ≡ None → IfNone staged (IsGraph rooms readers circles) → IsGraph rooms readers circles
 unstaged rooms readers circles None e h = h
 unstaged rooms readers circles (Some x) e h = cc
 
@@ -69,26 +69,26 @@ taken_back_graph old new next before after had has turns s o e p h = record {
 -- ---- what it is seen as
 
 abbrev pub view_of : Rooms → Option Staged → Staging
-view_of rooms o = staging (edges_in rooms.entries) (option_map (λ x. edges_over (edges_in rooms.entries) x.next.entries) o)
+view_of rooms o = staging (edges_in rooms.entries) (option_map (λ x. edges_over (edges_in rooms.entries) x.next.items) o)
 
-pub taken_view : (old new : Rooms) (o after : Option Staged) (now : Staging) (x : Staged) → o ≡ Some x → after ≡ None → view_of old o ≡ now → edges_in new.entries ≡ edges_over (edges_in old.entries) x.next.entries →
+pub taken_view : (old new : Rooms) (o after : Option Staged) (now : Staging) (x : Staged) → o ≡ Some x → after ≡ None → view_of old o ≡ now → edges_in new.entries ≡ edges_over (edges_in old.entries) x.next.items →
     view_of new after ≡ staging (unwrap_or now.staged now.now) None
 taken_view old new None after now x e f v k = cc
 taken_view old new (Some y) (Some z) now x e f v k = cc
 taken_view old new (Some y) None now x e f v k =
     let s : y ≡ x = cc in
-    ap (λ (z : Edges). staging z None) (k ∙ ap (λ (w : Staged). edges_over (edges_in old.entries) w.next.entries) (sym s)) ∙ ap (λ (n : Staging). staging (unwrap_or n.staged n.now) None) v
+    ap (λ (z : Edges). staging z None) (k ∙ ap (λ (w : Staged). edges_over (edges_in old.entries) w.next.items) (sym s)) ∙ ap (λ (n : Staging). staging (unwrap_or n.staged n.now) None) v
 
 pub taken_back_view : (old new : Rooms) (o after : Option Staged) (now : Staging) → after ≡ None → view_of old o ≡ now → edges_in new.entries ≡ edges_in old.entries → view_of new after ≡ staging now.now None
 taken_back_view old new o (Some z) now f v k = cc
 taken_back_view old new o None now f v k = ap (λ (z : Edges). staging z None) k ∙ ap (λ (n : Staging). staging n.now None) v
 
-pub staged_is : (rooms : Rooms) (readers : Bag) (circles : BTreeSet ℕ) (o : Option Staged) (x : Staged) → o ≡ Some x → IfSome o (λ y. IsStaged rooms y.next.entries readers circles y.turns) → IsStaged rooms x.next.entries readers circles x.turns
+pub staged_is : (rooms : Rooms) (readers : Bag) (circles : BTreeSet ℕ) (o : Option Staged) (x : Staged) → o ≡ Some x → IfSome o (λ y. IsStaged rooms y.next.items readers circles y.turns) → IsStaged rooms x.next.items readers circles x.turns
 staged_is rooms readers circles o x e h = rw e at h
 
 -- which cells it says are circular
 pub circular_is : (rooms : Rooms) (readers : Bag) (circles : BTreeSet ℕ) (o : Option Staged) (now : Staging) (at : ℕ) (r : Bool) → view_of rooms o ≡ now → now.staged ≡ None →
-    IfNone o (IsGraph rooms readers circles) × IfSome o (λ x. IsStaged rooms x.next.entries readers circles x.turns) → r ≡ contains nat_cmp circles at → (s : Sheet) → AreEdgesOf now.now s → r ≡ circular s at
+    IfNone o (IsGraph rooms readers circles) × IfSome o (λ x. IsStaged rooms x.next.items readers circles x.turns) → r ≡ contains nat_cmp circles at → (s : Sheet) → AreEdgesOf now.now s → r ≡ circular s at
 circular_is rooms readers circles o now at r v n g e s h =
     let graph = unstaged rooms readers circles o (ap (λ (x : Staging). x.staged) v ∙ n) g.0 in
     e ∙ graph_circular rooms readers circles graph s (subst (λ (x : Staging). AreEdgesOf x.now s) (sym v) h) at

@@ -16,6 +16,7 @@ pub mod StripSteps
 pub mod SearchSteps
 pub mod EdgeLemmas
 pub mod MapSteps
+pub mod ComingSteps
 pub mod RoomSteps
 pub mod StagingSteps
 pub mod TurningSteps

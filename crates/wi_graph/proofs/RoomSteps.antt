@@ -10,7 +10,7 @@ use Rattle.wi_tiles.specs.Entries.{get, IsOrdered}
 use Rattle.wi_ranges.specs.declared.pair.RangePair.{RangePair}
 use Rattle.wi_ranges.specs.Bag.{Bag, pair_for, is_same, count_of, HasOneLess}
 use Rattle.wi_ranges.proofs.Exact.{same_is}
-use Rattle.wi_graph.specs.Inner.Rooms.{Rooms, Coming, items_of, in_room, room_at, brought_to, coming_at, put_over, room_over, areas_of, times, times_in, times_coming, HasRooms, HasPairs, HasBoth}
+use Rattle.wi_graph.specs.Inner.Rooms.{Rooms, Coming, items_of, in_room, room_at, brought_to, coming_at, put_over, room_over, areas_of, times, times_in, times_coming, AreInOrder, HasRooms, HasPairs, HasBoth}
 use Rattle.wi_graph.proofs.Tests.{is_at-eq, is_itself}
 use Rattle.wi_graph.proofs.Walks.{same_cell}
 
@@ -96,12 +96,14 @@ release_same old new k n u c = put_room old new k None None refl u c ∙ sym (pu
 
 pub record IsTaking (first_next : Coming) (first : Rooms) (next : Coming) (rooms : Rooms) (readers : Bag) : Type 0 where
   pub ordered : IsOrdered nat_cmp rooms
+  pub order : AreInOrder next
   pub has_rooms : HasRooms rooms next
   pub pairs : HasBoth readers rooms next
   pub over : (c : ℕ) → room_over next rooms c ≡ room_over first_next first c
 
 pub record IsTakingBack (first : Rooms) (next : Coming) (rooms : Rooms) (readers : Bag) : Type 0 where
   pub ordered : IsOrdered nat_cmp rooms
+  pub order : AreInOrder next
   pub pairs : HasBoth readers rooms next
   pub same : (c : ℕ) → room_at rooms c ≡ room_at first c
 
@@ -124,11 +126,12 @@ times_room rooms p o e = ap (λ (x : Option (List Area)). times p.reader (areas_
 pub times_brought : (next : Coming) (p : RangePair) (o : Option (List Area)) → coming_at next p.reader ≡ o → times_coming next p ≡ times p.reader (areas_of o) p
 times_brought next p o e = ap (λ (x : Option (List Area)). times p.reader (areas_of x) p) e
 
-pub taking_step : (first_next : Coming) (first : Rooms) (next later : Coming) (rooms new : Rooms) (readers fewer : Bag) (k : ℕ) (o stood : Option (Vec Area)) → brought_to next k ≡ Some o → Popped next later k → IsOrdered nat_cmp new →
+pub taking_step : (first_next : Coming) (first : Rooms) (next later : Coming) (rooms new : Rooms) (readers fewer : Bag) (k : ℕ) (o stood : Option (Vec Area)) → brought_to next k ≡ Some o → Popped next later k → AreInOrder later → IsOrdered nat_cmp new →
     ((c : ℕ) → room_at new c ≡ (if k == c then items_of o else room_at rooms c)) → ((c : ℕ) → (k == c) ≡ false → get nat_cmp new c ≡ get nat_cmp rooms c) → items_of stood ≡ room_at rooms k → Loses k (items_of stood) readers fewer →
     IsTaking first_next first next rooms readers → IsTaking first_next first later new fewer
-taking_step first_next first next later rooms new readers fewer k o stood g u ord n nx s l t = record {
+taking_step first_next first next later rooms new readers fewer k o stood g u r ord n nx s l t = record {
   ordered = ord;
+  order = r;
   has_rooms = λ c h. room c h (k == c) refl;
   pairs = λ p. counted p (k == p.reader) refl;
   over = λ c. over c (k == c) refl ∙ t.over c;
@@ -170,10 +173,11 @@ taking_step first_next first next later rooms new readers fewer k o stood g u or
         let h : times_in new p ≡ times_in rooms p = times_room new p (room_at rooms p.reader) (there p.reader e) in
         omega (arith, a, d, f, h, l p)
 
-pub taking_back_step : (first : Rooms) (next later : Coming) (rooms new : Rooms) (readers fewer : Bag) (k : ℕ) (o : Option (Vec Area)) → brought_to next k ≡ Some o → Popped next later k → Loses k (items_of o) readers fewer → IsOrdered nat_cmp new →
+pub taking_back_step : (first : Rooms) (next later : Coming) (rooms new : Rooms) (readers fewer : Bag) (k : ℕ) (o : Option (Vec Area)) → brought_to next k ≡ Some o → Popped next later k → AreInOrder later → Loses k (items_of o) readers fewer → IsOrdered nat_cmp new →
     ((c : ℕ) → room_at new c ≡ room_at rooms c) → IsTakingBack first next rooms readers → IsTakingBack first later new fewer
-taking_back_step first next later rooms new readers fewer k o g u l ord n t = record {
+taking_back_step first next later rooms new readers fewer k o g u r l ord n t = record {
   ordered = ord;
+  order = r;
   pairs = λ p. counted p (k == p.reader) refl;
   same = λ c. n c ∙ t.same c;
 }
@@ -194,21 +198,17 @@ taking_back_step first next later rooms new readers fewer k o g u l ord n t = re
         let h : times_in new p ≡ times_in rooms p = times_room new p (room_at rooms p.reader) (n p.reader) in
         omega (arith, a, d, f, h, l p)
 
-pub no_entries : (next : Coming) → (0 < length next → ⊥) → (c : ℕ) → brought_to next c ≡ None
-no_entries next h c = at next h
-  where
-    at : (es : Coming) → (0 < length es → ⊥) → brought_to es c ≡ None
-    at [] k = refl
-    at (e ∷ es) k = absurd (k (omega arith))
+pub no_entries : (next : Coming) → next ≡ [] → (c : ℕ) → brought_to next c ≡ None
+no_entries next h c = ap (λ (es : Coming). brought_to es c) h
 
-none_left : (next : Coming) → (0 < length next → ⊥) → (p : RangePair) → times_coming next p ≡ 0
+none_left : (next : Coming) → next ≡ [] → (p : RangePair) → times_coming next p ≡ 0
 none_left next h p = times_brought next p None (ap in_room (no_entries next h p.reader))
 
-pub taking_end : (first_next : Coming) (first : Rooms) (next : Coming) (rooms : Rooms) (readers : Bag) → (0 < length next → ⊥) → IsTaking first_next first next rooms readers → ((c : ℕ) → room_at rooms c ≡ room_over first_next first c) × HasPairs readers rooms
+pub taking_end : (first_next : Coming) (first : Rooms) (next : Coming) (rooms : Rooms) (readers : Bag) → next ≡ [] → IsTaking first_next first next rooms readers → ((c : ℕ) → room_at rooms c ≡ room_over first_next first c) × HasPairs readers rooms
 taking_end first_next first next rooms readers h t = (
   λ c. ap (λ (x : Option (Option (Vec Area))). put_over x (room_at rooms c)) (sym (no_entries next h c)) ∙ t.over c,
   λ p. let a = t.pairs p in let b = none_left next h p in omega (arith, a, b),
 )
 
-pub taking_back_end : (first : Rooms) (next : Coming) (rooms : Rooms) (readers : Bag) → (0 < length next → ⊥) → IsTakingBack first next rooms readers → HasPairs readers rooms
+pub taking_back_end : (first : Rooms) (next : Coming) (rooms : Rooms) (readers : Bag) → next ≡ [] → IsTakingBack first next rooms readers → HasPairs readers rooms
 taking_back_end first next rooms readers h t = λ p. let a = t.pairs p in let b = none_left next h p in omega (arith, a, b)

@@ -9,7 +9,7 @@ use Rattle.wi_graph.specs.Reach.{is_one_of}
 use Rattle.wi_graph.specs.Edges.{Edges, Staging, staging, edges_after}
 use Rattle.wi_graph.specs.declared.graph.Staged.{Staged}
 use Rattle.wi_graph.specs.declared.turning.Turns.{Turns}
-use Rattle.wi_graph.specs.Inner.Rooms.{Rooms, Coming, brought_to, room_at, put_over, room_over, edges_in, edges_over, HasRooms, HasPairs, HasBoth, less_these, IsGraph, IsStaged}
+use Rattle.wi_graph.specs.Inner.Rooms.{Rooms, Coming, brought_to, room_at, put_over, room_over, edges_in, edges_over, AreInOrder, HasRooms, HasPairs, HasBoth, less_these, IsGraph, IsStaged}
 use Rattle.wi_graph.specs.Inner.Changes.{ReadsStay}
 use Rattle.wi_graph.specs.Inner.Turning.{turned_by, AreTurns}
 use Rattle.wi_graph.proofs.ChangeSteps.{stay_edges, edges_stay}
@@ -17,11 +17,12 @@ use Rattle.wi_graph.proofs.SetSteps.{AreNew, came_before}
 use Rattle.wi_graph.proofs.GraphEnds.{view_of, circles_over}
 
 -- the edit is staged
-pub staged_graph : (rooms new : Rooms) (next : Coming) (readers more : Bag) (circles has : BTreeSet ℕ) (turns : Turns) → IsGraph rooms readers circles → IsOrdered nat_cmp new → HasRooms new next → HasBoth more new next →
+pub staged_graph : (rooms new : Rooms) (next : Coming) (readers more : Bag) (circles has : BTreeSet ℕ) (turns : Turns) → IsGraph rooms readers circles → AreInOrder next → IsOrdered nat_cmp new → HasRooms new next → HasBoth more new next →
     ((c : ℕ) → room_at new c ≡ room_at rooms c) → AreTurns rooms next circles turns →
     ((c : ℕ) → contains nat_cmp has c ≡ (contains nat_cmp circles c || is_one_of turns.came.items c)) → IsStaged new next more has turns
-staged_graph rooms new next readers more circles has turns g o hr hb e t h = record {
+staged_graph rooms new next readers more circles has turns g r o hr hb e t h = record {
   ordered = o;
+  order = r;
   has_rooms = hr;
   pairs = hb;
   before = circles_over (room_at new) (room_at rooms) (less_these has turns.came.items) (contains nat_cmp circles) e (came_before circles has turns.came.items t.fresh h) g.circular;
@@ -50,13 +51,13 @@ refused_graph old new before after circles mid has came taken g o e p k m t h = 
   circular = circles_over (room_at new) (room_at old) (contains nat_cmp has) (contains nat_cmp circles) e (λ c. h c ∙ ap (λ (xs : List ℕ). less_these mid xs c) t ∙ came_before circles mid came k m c) g.circular;
 }
 
-pub refused_invariant : (old new : Rooms) (readers : Bag) (circles : BTreeSet ℕ) (o : Option Staged) → option_map (λ x. edges_over (edges_in old.entries) x.next.entries) o ≡ None → IsGraph new readers circles →
-    IfNone o (IsGraph new readers circles) × IfSome o (λ x. IsStaged new x.next.entries readers circles x.turns)
+pub refused_invariant : (old new : Rooms) (readers : Bag) (circles : BTreeSet ℕ) (o : Option Staged) → option_map (λ x. edges_over (edges_in old.entries) x.next.items) o ≡ None → IsGraph new readers circles →
+    IfNone o (IsGraph new readers circles) × IfSome o (λ x. IsStaged new x.next.items readers circles x.turns)
 refused_invariant old new readers circles None e g = (g, tt)
 refused_invariant old new readers circles (Some x) e g = cc
 
 pub refused_view : (old new : Rooms) (o : Option Staged) (now : Staging) → view_of old o ≡ now → edges_in new.entries ≡ edges_in old.entries → view_of new o ≡ now
-refused_view old new o now v k = ap (λ (es : Edges). staging es (option_map (λ x. edges_over es x.next.entries) o)) k ∙ v
+refused_view old new o now v k = ap (λ (es : Edges). staging es (option_map (λ x. edges_over es x.next.items) o)) k ∙ v
 
 pub staged_view : (old new : Rooms) (later : Coming) (o : Option Staged) (now : Staging) (xs : List (ℕ × Option Content)) → view_of old o ≡ now → edges_in new.entries ≡ edges_in old.entries → edges_over (edges_in new.entries) later ≡ edges_after (edges_in old.entries) xs →
     staging (edges_in new.entries) (Some (edges_over (edges_in new.entries) later)) ≡ staging now.now (Some (edges_after now.now xs))
@@ -66,16 +67,16 @@ staged_view old new later o now xs v k m =
 
 -- ---- whether it changes what cells read
 
-pub stays_view : (rooms : Rooms) (o : Option Staged) (now : Staging) (x : Staged) → o ≡ Some x → view_of rooms o ≡ now → IsOrdered nat_cmp rooms → ReadsStay rooms x.next.entries → now.staged ≡ Some now.now
+pub stays_view : (rooms : Rooms) (o : Option Staged) (now : Staging) (x : Staged) → o ≡ Some x → view_of rooms o ≡ now → IsOrdered nat_cmp rooms → ReadsStay rooms x.next.items → now.staged ≡ Some now.now
 stays_view rooms None now x e v h s = cc
 stays_view rooms (Some y) now x e v h s =
     let z : y ≡ x = cc in
-    ap (λ (n : Staging). n.staged) (sym v) ∙ ap (λ (es : Edges). Some es) (ap (λ (w : Staged). edges_over (edges_in rooms.entries) w.next.entries) z ∙ stay_edges rooms x.next.entries h s) ∙ ap (λ (n : Staging). Some n.now) v
+    ap (λ (n : Staging). n.staged) (sym v) ∙ ap (λ (es : Edges). Some es) (ap (λ (w : Staged). edges_over (edges_in rooms.entries) w.next.items) z ∙ stay_edges rooms x.next.items h s) ∙ ap (λ (n : Staging). Some n.now) v
 
-pub view_stays : (rooms : Rooms) (o : Option Staged) (now : Staging) (x : Staged) → o ≡ Some x → view_of rooms o ≡ now → IsOrdered nat_cmp rooms → now.staged ≡ Some now.now → ReadsStay rooms x.next.entries
+pub view_stays : (rooms : Rooms) (o : Option Staged) (now : Staging) (x : Staged) → o ≡ Some x → view_of rooms o ≡ now → IsOrdered nat_cmp rooms → now.staged ≡ Some now.now → ReadsStay rooms x.next.items
 view_stays rooms None now x e v h k = cc
 view_stays rooms (Some y) now x e v h k =
     let z : y ≡ x = cc in
-    let f : Some (edges_over (edges_in rooms.entries) y.next.entries) ≡ Some (edges_in rooms.entries) = ap (λ (n : Staging). n.staged) v ∙ k ∙ ap (λ (n : Staging). Some n.now) (sym v) in
-    let g : edges_over (edges_in rooms.entries) y.next.entries ≡ edges_in rooms.entries = cc in
-    edges_stay rooms x.next.entries h (ap (λ (w : Staged). edges_over (edges_in rooms.entries) w.next.entries) (sym z) ∙ g)
+    let f : Some (edges_over (edges_in rooms.entries) y.next.items) ≡ Some (edges_in rooms.entries) = ap (λ (n : Staging). n.staged) v ∙ k ∙ ap (λ (n : Staging). Some n.now) (sym v) in
+    let g : edges_over (edges_in rooms.entries) y.next.items ≡ edges_in rooms.entries = cc in
+    edges_stay rooms x.next.items h (ap (λ (w : Staged). edges_over (edges_in rooms.entries) w.next.items) (sym z) ∙ g)

@@ -1,9 +1,8 @@
 -- Steps of bringing an edit in.
-use Rattle.std.proofs.Common.{◌≡◌, ◌==◌, ◌+◌, ◌<◌, ◌≤◌, ℕ, Bool, true, false, cond, not, List, [], ◌∷◌, ◌++◌, take, get_or, length, Option, Some, None, refl, ap, sym, ◌∙◌, subst, arith, append_assoc, append-nil, is_le}
-use Rattle.std.proofs.lemmas.Bool.Decides.{nat_tests}
+use Rattle.std.proofs.Common.{◌≡◌, ◌==◌, ◌+◌, ◌<◌, ◌≤◌, ℕ, Bool, true, false, cond, List, [], ◌∷◌, ◌++◌, take, take_all, drop, drop-cons, get_or, length, Option, Some, None, refl, ap, sym, ◌∙◌, subst, arith, suc, add-one}
+use Rattle.std.proofs.lemmas.List.{drop_all}
 use Rattle.std.specs.Prelude.{if◌then◌else◌}
-use Rattle.std.specs.List.Sorted.{IsStrictlySortedBy}
-use Rattle.std.specs.Map.{keys_of, lookup}
+use Rattle.std.specs.Map.{lookup}
 use Rattle.std.specs.Ordering.{nat_cmp}
 use Rattle.std.specs.Global.{Vec}
 use Rattle.std.specs.BTreeMap.{is_at}
@@ -12,10 +11,11 @@ use Rattle.wi_tiles.specs.Entries.{get, IsOrdered}
 use Rattle.wi_ranges.specs.declared.pair.RangePair.{RangePair}
 use Rattle.wi_ranges.specs.Bag.{Bag, pair_for, is_same, count_of, HasOneMore}
 use Rattle.wi_values.proofs.Order.{ComeAfter, Ascends, Ascends-from_order, lookup_after}
-use Rattle.wi_graph.specs.Inner.Rooms.{Rooms, Coming, items_of, in_room, room_at, areas_of, times, times_in, times_coming, HasRooms, HasPairs, HasBoth}
-use Rattle.wi_graph.specs.Inner.Staging.{times_among, HasThese, before}
+use Rattle.wi_graph.specs.Inner.Rooms.{Rooms, Coming, brought_to, coming_at, items_of, in_room, room_at, areas_of, times, times_in, times_coming, AreInOrder, HasRooms, HasPairs, HasBoth}
+use Rattle.wi_graph.specs.Inner.Staging.{times_among, HasThese}
 use Rattle.wi_graph.proofs.Tests.{is_at-eq, is_itself, at_same, turn_test}
 use Rattle.wi_graph.proofs.Walks.{same_cell}
+use Rattle.wi_graph.proofs.ComingSteps.{one_longer, found_longer}
 use Rattle.wi_graph.proofs.MapSteps.{PutsNew, or_new, put}
 use Rattle.wi_graph.proofs.RoomSteps.{times_more, times_other, times_room, Loses}
 
@@ -90,102 +90,62 @@ among_all (e ∷ es) a p = at (is_at (nat_cmp p.reader) e.0) refl (among_all es 
         let n = times_other e.0 (areas_of (items_of e.1)) p (turn_test e.0 p.reader ∙ sym (is_at-eq p.reader e.0) ∙ h) in
         omega (arith, n, ih)
 
-passes : (c k : ℕ) (o : Option (Vec Area)) (front : Coming) → is_at (nat_cmp c) k ≡ false → lookup (is_at (nat_cmp c)) (front ++ (k, o) ∷ []) ≡ lookup (is_at (nat_cmp c)) front
-passes c k o [] h = ap (λ (b : Bool). cond {A = Option (Option (Vec Area))} b (Some o) None) h
-passes c k o (e ∷ front) h = ap (λ (x : Option (Option (Vec Area))). cond (is_at (nat_cmp c) e.0) (Some e.1) x) (passes c k o front h)
-
--- ---- those before a cell
-
-is_before : (k q : ℕ) → q < k → not (is_le (nat_cmp k q)) ≡ true
-is_before k q h = grind (arith, nat_tests)
-
-not_before : (k q : ℕ) → k ≤ q → not (is_le (nat_cmp k q)) ≡ false
-not_before k q h = grind (arith, nat_tests)
-
-none_before : (k : ℕ) (es : Coming) → ComeAfter k es → before k es ≡ []
-none_before k [] h = refl
-none_before k (e ∷ es) h = ap (λ (b : Bool). cond b (e ∷ before k es) (before k es)) (not_before k e.0 (omega (arith, h.0))) ∙ none_before k es h.1
-
-comes_before : (a k : ℕ) (o : Option (Vec Area)) (front es : Coming) → ComeAfter a (front ++ (k, o) ∷ es) → a < k
-comes_before a k o [] es h = h.0
-comes_before a k o (e ∷ front) es h = comes_before a k o front es h.1
-
-front_before : (k : ℕ) (o : Option (Vec Area)) (front es : Coming) → Ascends (front ++ (k, o) ∷ es) → before k (front ++ (k, o) ∷ es) ≡ front
-front_before k o [] es h = ap (λ (b : Bool). cond b ((k, o) ∷ before k es) (before k es)) (not_before k k (omega arith)) ∙ none_before k es h.0
-front_before k o (e ∷ front) es h =
-    ap (λ (b : Bool). cond b (e ∷ before k (front ++ (k, o) ∷ es)) (before k (front ++ (k, o) ∷ es))) (is_before k e.0 (comes_before e.0 k o front es h.0))
-    ∙ ap (λ (xs : Coming). e ∷ xs) (front_before k o front es h.1)
-
 -- ---- one after another is brought in
 
-abbrev pub AreInOrder : Coming → Type 0
-AreInOrder coming = IsStrictlySortedBy nat_cmp (keys_of coming)
-
-pub record IsBringing (first rooms : Rooms) (readers : Bag) (all left : Coming) : Type 0 where
+pub record IsBringing (first rooms : Rooms) (readers : Bag) (front : Coming) : Type 0 where
   pub ordered : IsOrdered nat_cmp rooms
   pub same : (c : ℕ) → room_at rooms c ≡ room_at first c
-  pub front : Coming
-  pub whole : all ≡ front ++ left
-  pub have_rooms : (c : ℕ) → get nat_cmp rooms c ≡ None → in_room (lookup (is_at (nat_cmp c)) front) ≡ None
+  pub have_rooms : HasRooms rooms front
   pub pairs : HasThese readers rooms front
 
-pub bringing_start : (rooms : Rooms) (readers : Bag) (all : Coming) → IsOrdered nat_cmp rooms → HasPairs readers rooms → IsBringing rooms rooms readers all all
-bringing_start rooms readers all o h = record {
+pub bringing_start : (rooms : Rooms) (readers : Bag) → IsOrdered nat_cmp rooms → HasPairs readers rooms → IsBringing rooms rooms readers []
+bringing_start rooms readers o h = record {
   ordered = o;
   same = λ c. refl;
-  front = [];
-  whole = refl;
   have_rooms = λ c n. refl;
   pairs = λ p. let a = h p in let b : count_of readers p ≡ times_in rooms p + 0 = omega (arith, a) in b;
 }
 
-pub bringing_step : (first rooms mid : Rooms) (readers more : Bag) (all left less : Coming) (k : ℕ) (o : Option (Vec Area)) → left ≡ (k, o) ∷ less → IsOrdered nat_cmp mid → ((c : ℕ) → room_at mid c ≡ room_at rooms c) →
-    (get nat_cmp mid k ≡ None → ⊥) → ((c : ℕ) → get nat_cmp mid c ≡ None → get nat_cmp rooms c ≡ None) → ((p : RangePair) → count_of more p ≡ count_of readers p + times k (areas_of (items_of o)) p) →
-    IsBringing first rooms readers all left → IsBringing first mid more all less
-bringing_step first rooms mid readers more all left less k o e ord n there stay g t = record {
+pub bringing_step : (first rooms mid : Rooms) (readers more : Bag) (coming : Coming) (i : ℕ) (x : ℕ × Option (Vec Area)) → AreInOrder coming → i < length coming → x ≡ get_or coming i x → IsOrdered nat_cmp mid → ((c : ℕ) → room_at mid c ≡ room_at rooms c) →
+    (get nat_cmp mid x.0 ≡ None → ⊥) → ((c : ℕ) → get nat_cmp mid c ≡ None → get nat_cmp rooms c ≡ None) → ((p : RangePair) → count_of more p ≡ count_of readers p + times x.0 (areas_of (items_of x.1)) p) →
+    IsBringing first rooms readers (take i coming) → IsBringing first mid more (take (i + 1) coming)
+bringing_step first rooms mid readers more coming i x order l e ord n there stay g t = subst (IsBringing first mid more) (sym longer) (record {
   ordered = ord;
   same = λ c. n c ∙ t.same c;
-  front = t.front ++ (k, o) ∷ [];
-  whole = t.whole ∙ ap (λ (xs : Coming). t.front ++ xs) e ∙ sym (append_assoc t.front ((k, o) ∷ []) less);
-  have_rooms = λ c h. room c h (is_at (nat_cmp c) k) refl;
+  have_rooms = λ c h. room c h (is_at (nat_cmp x.0) c) refl;
   pairs = λ p.
       let a = t.pairs p in
       let d : times_in mid p ≡ times_in rooms p = times_room mid p (room_at rooms p.reader) (n p.reader) in
-      let f = among_more t.front k o p in
+      let f = among_more (take i coming) x.0 x.1 p in
       omega (arith, a, d, f, g p);
-}
+})
   where
-    room : (c : ℕ) → get nat_cmp mid c ≡ None → (b : Bool) → is_at (nat_cmp c) k ≡ b → in_room (lookup (is_at (nat_cmp c)) (t.front ++ (k, o) ∷ [])) ≡ None
-    room c h true s = absurd (there (ap (λ (x : ℕ). get nat_cmp mid x) (at_same c k s) ∙ h))
-    room c h false s = ap in_room (passes c k o t.front s) ∙ t.have_rooms c (stay c h)
+    longer : take (i + 1) coming ≡ take i coming ++ (x.0, x.1) ∷ []
+    longer = one_longer coming i x l e
+
+    room : (c : ℕ) → get nat_cmp mid c ≡ None → (b : Bool) → is_at (nat_cmp x.0) c ≡ b → coming_at (take i coming ++ (x.0, x.1) ∷ []) c ≡ None
+    room c h true s = absurd (there (ap (get nat_cmp mid) (sym (at_same x.0 c s)) ∙ h))
+    room c h false s = ap in_room (ap (λ (xs : Coming). brought_to xs c) (sym longer) ∙ found_longer coming i x order l e c ∙ ap (λ (b : Bool). cond b (Some x.1) (brought_to (take i coming) c)) s) ∙ t.have_rooms c (stay c h)
 
 -- all are in
-pub bringing_end : (first rooms : Rooms) (coming : Coming) (readers : Bag) (all left : Coming) → all ≡ coming → AreInOrder coming → left ≡ [] → IsBringing first rooms readers all left → HasRooms rooms coming × HasBoth readers rooms coming
-bringing_end first rooms coming readers all left s o e t = (
-  λ c n. ap (λ (xs : Coming). in_room (lookup (is_at (nat_cmp c)) xs)) (sym all_in) ∙ t.have_rooms c n,
+pub bringing_end : (first rooms : Rooms) (coming : Coming) (readers : Bag) (i : ℕ) → AreInOrder coming → length coming ≤ i → IsBringing first rooms readers (take i coming) → HasRooms rooms coming × HasBoth readers rooms coming
+bringing_end first rooms coming readers i o l t = (
+  λ c n. ap (λ (xs : Coming). coming_at xs c) (sym all_in) ∙ t.have_rooms c n,
   λ p.
       let a = t.pairs p in
-      let d : times_among t.front p ≡ times_coming coming p = ap (λ (xs : Coming). times_among xs p) all_in ∙ among_all coming (Ascends-from_order coming o) p in
+      let d : times_among (take i coming) p ≡ times_coming coming p = ap (λ (xs : Coming). times_among xs p) all_in ∙ among_all coming (Ascends-from_order coming o) p in
       omega (arith, a, d),
 )
   where
-    all_in : t.front ≡ coming
-    all_in = sym (append-nil t.front) ∙ ap (λ (xs : Coming). t.front ++ xs) (sym e) ∙ sym t.whole ∙ s
+    all_in : take i coming ≡ coming
+    all_in = take_all i coming l
 
 -- one is refused, and those before it are in
-pub bringing_refused : (first rooms mid : Rooms) (coming : Coming) (readers more : Bag) (all left less : Coming) (k : ℕ) (o : Option (Vec Area)) → all ≡ coming → AreInOrder coming → left ≡ (k, o) ∷ less →
-    ((c : ℕ) → room_at mid c ≡ room_at rooms c) → ((p : RangePair) → count_of more p ≡ count_of readers p) → IsBringing first rooms readers all left → HasThese more mid (before k coming)
-bringing_refused first rooms mid coming readers more all left less k o s ord e n g t p =
+pub bringing_refused : (first rooms mid : Rooms) (readers more : Bag) (front : Coming) → ((c : ℕ) → room_at mid c ≡ room_at rooms c) → ((p : RangePair) → count_of more p ≡ count_of readers p) → IsBringing first rooms readers front → HasThese more mid front
+bringing_refused first rooms mid readers more front n g t p =
     let a = t.pairs p in
     let d : times_in mid p ≡ times_in rooms p = times_room mid p (room_at rooms p.reader) (n p.reader) in
-    let f : times_among (before k coming) p ≡ times_among t.front p = ap (λ (xs : Coming). times_among xs p) first_in in
-    omega (arith, a, d, f, g p)
-  where
-    split : coming ≡ t.front ++ (k, o) ∷ less
-    split = sym s ∙ t.whole ∙ ap (λ (xs : Coming). t.front ++ xs) e
-
-    first_in : before k coming ≡ t.front
-    first_in = ap (before k) split ∙ front_before k o t.front less (subst (λ (xs : Coming). Ascends xs) split (Ascends-from_order coming ord))
+    omega (arith, a, d, g p)
 
 -- ---- and taken out again
 
@@ -194,27 +154,26 @@ pub record IsTakingOut (first rooms : Rooms) (readers : Bag) (left : Coming) : T
   pub same : (c : ℕ) → room_at rooms c ≡ room_at first c
   pub pairs : HasThese readers rooms left
 
-pub taking_out_start : (rooms : Rooms) (readers : Bag) (some all : Coming) → all ≡ some → IsOrdered nat_cmp rooms → HasThese readers rooms some → IsTakingOut rooms rooms readers all
-taking_out_start rooms readers some all e o h = record {
-  ordered = o;
-  same = λ c. refl;
-  pairs = subst (λ (xs : Coming). HasThese readers rooms xs) (sym e) h;
-}
+pub taking_out_start : (rooms : Rooms) (readers : Bag) (brought : Coming) → IsOrdered nat_cmp rooms → HasThese readers rooms brought → IsTakingOut rooms rooms readers brought
+taking_out_start rooms readers brought o h = record { ordered = o; same = λ c. refl; pairs = h }
 
-pub taking_out_step : (first rooms mid : Rooms) (readers fewer : Bag) (left less : Coming) (k : ℕ) (o : Option (Vec Area)) → left ≡ (k, o) ∷ less → Loses k (items_of o) readers fewer → IsOrdered nat_cmp mid →
-    ((c : ℕ) → room_at mid c ≡ room_at rooms c) → IsTakingOut first rooms readers left → IsTakingOut first mid fewer less
-taking_out_step first rooms mid readers fewer left less k o e l ord n t = record {
+pub taking_out_step : (first rooms mid : Rooms) (readers fewer : Bag) (brought : Coming) (i : ℕ) (x : ℕ × Option (Vec Area)) → i < length brought → x ≡ get_or brought i x → Loses x.0 (items_of x.1) readers fewer → IsOrdered nat_cmp mid →
+    ((c : ℕ) → room_at mid c ≡ room_at rooms c) → IsTakingOut first rooms readers (drop i brought) → IsTakingOut first mid fewer (drop (i + 1) brought)
+taking_out_step first rooms mid readers fewer brought i x l e loses ord n t = record {
   ordered = ord;
   same = λ c. n c ∙ t.same c;
   pairs = λ p.
       let a = t.pairs p in
-      let b : times_among left p ≡ times k (areas_of (items_of o)) p + times_among less p = ap (λ (xs : Coming). times_among xs p) e in
+      let b : times_among (drop i brought) p ≡ times x.0 (areas_of (items_of x.1)) p + times_among (drop (i + 1) brought) p = ap (λ (xs : Coming). times_among xs p) opened in
       let d : times_in mid p ≡ times_in rooms p = times_room mid p (room_at rooms p.reader) (n p.reader) in
-      omega (arith, a, b, d, l p);
+      omega (arith, a, b, d, loses p);
 }
+  where
+    opened : drop i brought ≡ x ∷ drop (i + 1) brought
+    opened = drop-cons brought i x l ∙ ap (λ (y : ℕ × Option (Vec Area)). y ∷ drop (suc i) brought) (sym e) ∙ ap (λ (n : ℕ). x ∷ drop n brought) (sym (add-one i))
 
-pub taking_out_end : (first rooms : Rooms) (readers : Bag) (left : Coming) → left ≡ [] → IsTakingOut first rooms readers left → HasPairs readers rooms
-taking_out_end first rooms readers left e t p =
+pub taking_out_end : (first rooms : Rooms) (readers : Bag) (brought : Coming) (i : ℕ) → length brought ≤ i → IsTakingOut first rooms readers (drop i brought) → HasPairs readers rooms
+taking_out_end first rooms readers brought i l t p =
     let a = t.pairs p in
-    let b : times_among left p ≡ 0 = ap (λ (xs : Coming). times_among xs p) e in
+    let b : times_among (drop i brought) p ≡ 0 = ap (λ (xs : Coming). times_among xs p) (drop_all i brought l) in
     omega (arith, a, b)

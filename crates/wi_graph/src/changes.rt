@@ -1,13 +1,13 @@
 //! What an edit brings, by its cells.
 
-ghost use Rattle.std.specs.Prelude.{◌≡◌, ◌↔◌, ◌==◌, ◌&&◌, ℕ, if◌then◌else◌, IsTrue, IfOk, OnOk};
+ghost use Rattle.std.specs.Prelude.{◌≡◌, ◌↔◌, ◌==◌, ◌&&◌, ◌∷◌, ℕ, [], if◌then◌else◌, IsTrue, IfOk, OnOk};
 ghost use Rattle.std.specs.Map.{keys_of};
 ghost use Rattle.std.specs.Option.{is_none};
 ghost use Rattle.wi_graph.specs.Edges.{areas_in};
-ghost use Rattle.wi_graph.specs.Inner.Rooms.{items_of, room_at, room_over};
+ghost use Rattle.wi_graph.specs.Inner.Rooms.{items_of, room_at, room_over, AreInOrder};
 ghost use Rattle.wi_graph.specs.Inner.Changes.{Brings, HasNoIdle, ReadsStay};
 
-use crate::rooms::{Coming, Rooms, is_vacant};
+use crate::rooms::{Brought, Coming, Rooms, is_vacant};
 use std::alloc::{AllocError, Global};
 use std::collections::BTreeMap;
 use wi_parser::Content;
@@ -15,6 +15,9 @@ use wi_values::{Address, Rect};
 
 /// A cell, and the content that it gets, or none.
 pub(crate) type Change = (Address, Option<Content>);
+
+/// What an edit brings, by its cells.
+type Sorted = BTreeMap<Address, Option<Vec<Rect>>>;
 
 /// The cells of an edit.
 pub(crate) fn changed_cells(alloc: Global, changes: &[Change]) -> Result<Vec<Address>, AllocError>
@@ -34,6 +37,39 @@ pub(crate) fn rooms_of(
     rooms: &Rooms,
     changes: &[Change],
 ) -> Result<Coming, AllocError>
+    ensures brings { IfOk result (λ next. Brings rooms.now next.items changes.now) }
+    ensures no_idle { IfOk result (λ next. HasNoIdle rooms.now next.items) }
+    ensures order { IfOk result (λ next. AreInOrder next.items) }
+{
+    if changes.len() == 1 {
+        let change = &changes[0];
+        return room_of(alloc, rooms, change.0, &change.1);
+    }
+    let next = sorted_rooms(alloc, rooms, changes)?;
+    next.into_iter().collect(alloc)
+}
+
+/// The same of one cell.
+fn room_of(
+    alloc: Global,
+    rooms: &Rooms,
+    cell: Address,
+    content: &Option<Content>,
+) -> Result<Coming, AllocError>
+    ensures brings { IfOk result (λ next. Brings rooms.now next.items ((cell, content.now) ∷ [])) }
+    ensures no_idle { IfOk result (λ next. HasNoIdle rooms.now next.items) }
+    ensures order { IfOk result (λ next. AreInOrder next.items) }
+{
+    let room = room_for(alloc, content)?;
+    if stays_vacant(rooms, cell, &room) {
+        return Ok(Vec::new(alloc));
+    }
+    let next = vec![in alloc; (cell, room)]?;
+    Ok(next)
+}
+
+/// The same of more cells, in any order.
+fn sorted_rooms(alloc: Global, rooms: &Rooms, changes: &[Change]) -> Result<Sorted, AllocError>
     ensures brings { IfOk result (λ next. Brings rooms.now next.entries changes.now) }
     ensures no_idle { IfOk result (λ next. HasNoIdle rooms.now next.entries) }
 {
@@ -48,7 +84,7 @@ pub(crate) fn rooms_of(
 /// Puts what a cell gets into what is next. Where there is no formula and none comes, nothing is next for the cell.
 fn put_next(
     rooms: &Rooms,
-    next: &mut Coming,
+    next: &mut Sorted,
     cell: Address,
     room: Option<Vec<Rect>>,
 ) -> Result<(), AllocError>
@@ -87,10 +123,11 @@ fn room_for(alloc: Global, content: &Option<Content>) -> Result<Option<Vec<Rect>
 
 /// Whether each cell reads what it read before once what is next is put in. The work grows with what that reads.
 pub(crate) fn reads_stay(rooms: &Rooms, next: &Coming) -> bool
-    ensures { IsTrue result ↔ ReadsStay rooms.now next.now.entries }
+    requires { AreInOrder next.now.items }
+    ensures { IsTrue result ↔ ReadsStay rooms.now next.now.items }
 {
-    for (cell, room) in next {
-        if !reads_this(rooms, *cell, room) {
+    for entry in next {
+        if !reads_this(rooms, entry.0, &entry.1) {
             return false;
         }
     }

@@ -17,10 +17,10 @@ use wi_values::{Address, Rect};
 /// that of `first_listed` for each rectangle that is read.
 pub(crate) fn closes_cycle(next: &Coming, cone: &[Address]) -> bool
     requires { IsStrictlyIncreasing cone.now }
-    ensures { result ≡ reads_one_of next.now.entries (as_set cone.now) }
+    ensures { result ≡ reads_one_of next.now.items (as_set cone.now) }
 {
     let bounds = around(cone);
-    next.iter().any(|(_, room)| reads_one(room, cone, bounds))
+    next.iter().any(|entry| reads_one(&entry.1, cone, bounds))
 }
 
 /// Whether the rectangles of a room have one of the cells.

@@ -54,10 +54,10 @@ impl Model for Graph {
     ghost use Rattle.wi_graph.specs.Inner.Rooms.{edges_in, edges_over, IsGraph, IsStaged};
 
     ghost view = { λ g. staging (edges_in g.rooms.entries)
-        (option_map (λ x. edges_over (edges_in g.rooms.entries) x.next.entries) g.staged) };
+        (option_map (λ x. edges_over (edges_in g.rooms.entries) x.next.items) g.staged) };
 
     ghost invariant = { λ g. IfNone g.staged (IsGraph g.rooms g.readers g.circles)
-        × IfSome g.staged (λ x. IsStaged g.rooms x.next.entries g.readers g.circles x.turns) };
+        × IfSome g.staged (λ x. IsStaged g.rooms x.next.items g.readers g.circles x.turns) };
 }
 
 impl Graph {
@@ -213,9 +213,9 @@ fn make_ready(
         → (c : ℕ) → is_one_of cone.now c ≡ in_cone s (keys_of changes.now) c }
     ensures ordered { IsOrdered nat_cmp rooms.new }
     ensures rooms { (c : ℕ) → room_at rooms.new c ≡ room_at rooms.old c }
-    ensures brings { IfOk result (λ staged. Brings rooms.old staged.next.entries changes.now) }
+    ensures brings { IfOk result (λ staged. Brings rooms.old staged.next.items changes.now) }
     ensures staged { IfOk result (λ staged.
-        IsStaged rooms.new staged.next.entries readers.new circles.new staged.turns) }
+        IsStaged rooms.new staged.next.items readers.new circles.new staged.turns) }
     ensures err { OnErr result (IsGraph rooms.new readers.new circles.new) }
 {
     let next = rooms_of(alloc, rooms, changes)?;

@@ -4,7 +4,7 @@ ghost use Rattle.std.specs.Prelude.{◌≡◌, ℕ, true, IfOk};
 ghost use Rattle.std.specs.Ordering.{nat_cmp};
 ghost use Rattle.std.specs.BTreeMap.{get};
 ghost use Rattle.wi_graph.specs.Reach.{is_one_of};
-ghost use Rattle.wi_graph.specs.Inner.Rooms.{room_over, areas_of, items_of};
+ghost use Rattle.wi_graph.specs.Inner.Rooms.{room_at, room_over, areas_of, items_of, AreInOrder};
 ghost use Rattle.wi_graph.specs.Inner.Stripping.{items_there};
 
 use crate::rooms::{Coming, Rooms};
@@ -20,32 +20,38 @@ pub(crate) fn reads_of(
     next: &Coming,
     cells: &[Address],
 ) -> Result<Areas, AllocError>
+    requires { AreInOrder next.now.items }
     ensures { IfOk result (λ reads. (c : ℕ) → is_one_of cells.now c ≡ true
-        → items_there (get nat_cmp reads c) ≡ areas_of (room_over next.now.entries rooms.now c)) }
+        → items_there (get nat_cmp reads c) ≡ areas_of (room_over next.now.items rooms.now c)) }
+{
+    let mut reads = reads_before(alloc, rooms, cells)?;
+    for entry in next {
+        let areas = copy_of(alloc, &entry.1)?;
+        reads.insert(entry.0, areas)?;
+    }
+    Ok(reads)
+}
+
+/// What some cells read before that.
+fn reads_before(alloc: Global, rooms: &Rooms, cells: &[Address]) -> Result<Areas, AllocError>
+    ensures { IfOk result (λ reads. (c : ℕ) → is_one_of cells.now c ≡ true
+        → items_there (get nat_cmp reads c) ≡ areas_of (room_at rooms.now c)) }
 {
     let mut reads = BTreeMap::new(alloc);
     for cell in cells {
-        let areas = areas_after(alloc, rooms, next, *cell)?;
+        let areas = areas_before(alloc, rooms, *cell)?;
         reads.insert(*cell, areas)?;
     }
     Ok(reads)
 }
 
-/// What a cell reads once what is next is put in.
-fn areas_after(
-    alloc: Global,
-    rooms: &Rooms,
-    next: &Coming,
-    cell: Address,
-) -> Result<Vec<Rect>, AllocError>
-    ensures { IfOk result (λ v. v.items ≡ areas_of (room_over next.now.entries rooms.now cell)) }
+/// What a cell reads before that.
+fn areas_before(alloc: Global, rooms: &Rooms, cell: Address) -> Result<Vec<Rect>, AllocError>
+    ensures { IfOk result (λ v. v.items ≡ areas_of (room_at rooms.now cell)) }
 {
-    match next.get(&cell) {
+    match rooms.get(cell) {
         Some(room) => copy_of(alloc, room),
-        None => match rooms.get(cell) {
-            Some(room) => copy_of(alloc, room),
-            None => Ok(Vec::new(alloc)),
-        },
+        None => Ok(Vec::new(alloc)),
     }
 }
 

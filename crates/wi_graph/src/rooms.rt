@@ -7,9 +7,8 @@ ghost use Rattle.wi_tiles.specs.Entries.{get, IsOrdered};
 ghost use Rattle.std.specs.Option.{is_none};
 ghost use Rattle.wi_ranges.specs.declared.pair.RangePair.{RangePair};
 ghost use Rattle.wi_ranges.specs.Bag.{count_of};
-ghost use Rattle.wi_graph.specs.Inner.Rooms.{items_of, room_at, room_over, areas_of, times, HasRooms, HasPairs, HasBoth};
+ghost use Rattle.wi_graph.specs.Inner.Rooms.{items_of, room_at, room_over, areas_of, times, AreInOrder, HasRooms, HasPairs, HasBoth};
 
-use std::collections::BTreeMap;
 use wi_ranges::RangeIndex;
 use wi_tiles::CellMap;
 use wi_values::{Address, Rect};
@@ -17,19 +16,23 @@ use wi_values::{Address, Rect};
 /// The rectangles that formulas read, by their cells; a vacant room has no formula.
 pub(crate) type Rooms = CellMap<Option<Vec<Rect>>>;
 
-/// What an edit brings, by its cells.
-pub(crate) type Coming = BTreeMap<Address, Option<Vec<Rect>>>;
+/// A cell, and what an edit brings for it.
+pub(crate) type Brought = (Address, Option<Vec<Rect>>);
+
+/// What an edit brings, in row-major order of its cells.
+pub(crate) type Coming = Vec<Brought>;
 
 /// Takes what is next: it goes into the rooms, and the pairs of what stood there leave the index.
 pub(crate) fn take_over(rooms: &mut Rooms, readers: &mut RangeIndex, next: &mut Coming)
     requires ordered { IsOrdered nat_cmp rooms.old }
-    requires has_rooms { HasRooms rooms.old next.old.entries }
-    requires pairs { HasBoth readers.old rooms.old next.old.entries }
+    requires order { AreInOrder next.old.items }
+    requires has_rooms { HasRooms rooms.old next.old.items }
+    requires pairs { HasBoth readers.old rooms.old next.old.items }
     ensures ordered { IsOrdered nat_cmp rooms.new }
-    ensures rooms { (c : ℕ) → room_at rooms.new c ≡ room_over next.old.entries rooms.old c }
+    ensures rooms { (c : ℕ) → room_at rooms.new c ≡ room_over next.old.items rooms.old c }
     ensures pairs { HasPairs readers.new rooms.new }
 {
-    'cells: while let Some(entry) = next.pop_first() {
+    'cells: while let Some(entry) = next.pop() {
         let (cell, coming) = entry;
         let stood = exchange(rooms, cell, coming);
         remove_room(readers, cell, &stood);
@@ -39,12 +42,13 @@ pub(crate) fn take_over(rooms: &mut Rooms, readers: &mut RangeIndex, next: &mut 
 /// Takes back what is next: its pairs leave the index, and its vacant rooms go.
 pub(crate) fn take_back(rooms: &mut Rooms, readers: &mut RangeIndex, next: &mut Coming)
     requires ordered { IsOrdered nat_cmp rooms.old }
-    requires pairs { HasBoth readers.old rooms.old next.old.entries }
+    requires order { AreInOrder next.old.items }
+    requires pairs { HasBoth readers.old rooms.old next.old.items }
     ensures ordered { IsOrdered nat_cmp rooms.new }
     ensures rooms { (c : ℕ) → room_at rooms.new c ≡ room_at rooms.old c }
     ensures pairs { HasPairs readers.new rooms.new }
 {
-    'cells: while let Some(entry) = next.pop_first() {
+    'cells: while let Some(entry) = next.pop() {
         let (cell, room) = entry;
         remove_room(readers, cell, &room);
         release(rooms, cell);

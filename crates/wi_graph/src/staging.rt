@@ -5,10 +5,10 @@ ghost use Rattle.std.specs.Ordering.{nat_cmp};
 ghost use Rattle.wi_tiles.specs.Entries.{get, IsOrdered};
 ghost use Rattle.wi_ranges.specs.declared.pair.RangePair.{RangePair};
 ghost use Rattle.wi_ranges.specs.Bag.{count_of};
-ghost use Rattle.wi_graph.specs.Inner.Rooms.{items_of, room_at, areas_of, times, HasRooms, HasPairs, HasBoth};
-ghost use Rattle.wi_graph.specs.Inner.Staging.{before, HasThese};
+ghost use Rattle.wi_graph.specs.Inner.Rooms.{items_of, room_at, areas_of, times, AreInOrder, HasRooms, HasPairs, HasBoth};
+ghost use Rattle.wi_graph.specs.Inner.Staging.{HasThese};
 
-use crate::rooms::{Coming, Rooms, release, remove_pairs, remove_room};
+use crate::rooms::{Brought, Coming, Rooms, release, remove_pairs, remove_room};
 use std::alloc::AllocError;
 use wi_ranges::RangeIndex;
 use wi_values::{Address, Rect};
@@ -21,17 +21,22 @@ pub(crate) fn bring_in(
     coming: &Coming,
 ) -> Result<(), AllocError>
     requires ordered { IsOrdered nat_cmp rooms.old }
+    requires order { AreInOrder coming.now.items }
     requires pairs { HasPairs readers.old rooms.old }
     ensures ordered { IsOrdered nat_cmp rooms.new }
     ensures rooms { (c : ℕ) → room_at rooms.new c ≡ room_at rooms.old c }
-    ensures has_rooms { OnOk result (HasRooms rooms.new coming.now.entries) }
-    ensures pairs { OnOk result (HasBoth readers.new rooms.new coming.now.entries) }
+    ensures has_rooms { OnOk result (HasRooms rooms.new coming.now.items) }
+    ensures pairs { OnOk result (HasBoth readers.new rooms.new coming.now.items) }
     ensures err { OnErr result (HasPairs readers.new rooms.new) }
 {
-    for (cell, room) in coming {
-        if let Err(error) = bring_one(rooms, readers, *cell, room) {
-            take_out(rooms, readers, coming, *cell);
-            return Err(error);
+    let mut done = 0;
+    for entry in coming {
+        match bring_one(rooms, readers, entry.0, &entry.1) {
+            Ok(()) => done += 1,
+            Err(error) => {
+                take_out(rooms, readers, &coming[..done]);
+                return Err(error);
+            }
         }
     }
     Ok(())
@@ -63,17 +68,17 @@ fn bring_one(
     }
 }
 
-/// Takes out again what is in for the cells before one: its pairs leave the index, and its vacant rooms go.
-fn take_out(rooms: &mut Rooms, readers: &mut RangeIndex, coming: &Coming, end: Address)
+/// Takes out again what is in: its pairs leave the index, and its vacant rooms go.
+fn take_out(rooms: &mut Rooms, readers: &mut RangeIndex, brought: &[Brought])
     requires ordered { IsOrdered nat_cmp rooms.old }
-    requires pairs { HasThese readers.old rooms.old (before end coming.now.entries) }
+    requires pairs { HasThese readers.old rooms.old brought.now }
     ensures ordered { IsOrdered nat_cmp rooms.new }
     ensures rooms { (c : ℕ) → room_at rooms.new c ≡ room_at rooms.old c }
     ensures pairs { HasPairs readers.new rooms.new }
 {
-    for (cell, room) in coming.range(..end) {
-        remove_room(readers, *cell, room);
-        release(rooms, *cell);
+    for entry in brought {
+        remove_room(readers, entry.0, &entry.1);
+        release(rooms, entry.0);
     }
 }
 

@@ -6,7 +6,7 @@ ghost use Rattle.std.specs.Ordering.{nat_cmp};
 ghost use Rattle.std.specs.BTreeSet.{btree_set_len, contains};
 ghost use Rattle.wi_graph.specs.Reach.{is_one_of};
 ghost use Rattle.wi_graph.specs.Inner.Changes.{ReadsStay, IsEditCone, went_from};
-ghost use Rattle.wi_graph.specs.Inner.Rooms.{room_at, AreCircles};
+ghost use Rattle.wi_graph.specs.Inner.Rooms.{room_at, AreCircles, AreInOrder};
 ghost use Rattle.wi_graph.specs.Inner.Stripping.{IsWithin};
 ghost use Rattle.wi_graph.specs.Inner.Turning.{reads_one_of, AreTurns, SettlesCone};
 
@@ -41,8 +41,8 @@ pub(crate) fn turns_of(
 ) -> Result<Turns, AllocError>
     requires circles { AreCircles (room_at rooms.now) (contains nat_cmp circles.now) }
     requires order { IsStrictlyIncreasing cone.now }
-    requires cone { IsEditCone rooms.now next.now.entries (is_one_of cone.now) }
-    ensures { IfOk result (AreTurns rooms.now next.now.entries circles.now) }
+    requires cone { IsEditCone rooms.now next.now.items (is_one_of cone.now) }
+    ensures { IfOk result (AreTurns rooms.now next.now.items circles.now) }
 {
     if is_alone(circles, cone) {
         return turns_in(alloc, rooms, circles, next, cone);
@@ -69,8 +69,8 @@ fn turns_in(
 ) -> Result<Turns, AllocError>
     requires circles { AreCircles (room_at rooms.now) (contains nat_cmp circles.now) }
     requires order { IsStrictlyIncreasing cone.now }
-    requires cone { IsEditCone rooms.now next.now.entries (is_one_of cone.now) }
-    ensures { IfOk result (AreTurns rooms.now next.now.entries circles.now) }
+    requires cone { IsEditCone rooms.now next.now.items (is_one_of cone.now) }
+    ensures { IfOk result (AreTurns rooms.now next.now.items circles.now) }
 {
     if circles.is_empty() && !closes_cycle(next, cone) {
         return Ok(no_turns(alloc));
@@ -88,8 +88,8 @@ fn turns_among(
     cone: &CellSet,
 ) -> Result<Turns, AllocError>
     requires circles { AreCircles (room_at rooms.now) (contains nat_cmp circles.now) }
-    requires cone { IsEditCone rooms.now next.now.entries (contains nat_cmp cone.now) }
-    ensures { IfOk result (AreTurns rooms.now next.now.entries circles.now) }
+    requires cone { IsEditCone rooms.now next.now.items (contains nat_cmp cone.now) }
+    ensures { IfOk result (AreTurns rooms.now next.now.items circles.now) }
 {
     let rest = circular_in_cone(alloc, rooms, next, circles, cone)?;
     let came = without(alloc, &rest, circles)?;
@@ -133,8 +133,9 @@ fn circular_in_cone(
     circles: &CellSet,
     cells: &CellSet,
 ) -> Result<CellSet, AllocError>
+    requires { AreInOrder next.now.items }
     ensures within { IfOk result (λ rest. IsWithin rest cells.now) }
-    ensures settles { IfOk result (SettlesCone rooms.now next.now.entries circles.now cells.now) }
+    ensures settles { IfOk result (SettlesCone rooms.now next.now.items circles.now cells.now) }
 {
     let list = listed(alloc, cells.set())?;
     let reads = reads_of(alloc, rooms, next, &list)?;

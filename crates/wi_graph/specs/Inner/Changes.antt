@@ -8,7 +8,7 @@ use Rattle.wi_parser.specs.declared.content.Content.{Content}
 use Rattle.wi_parser.specs.Sheet.{Sheet, content_of}
 use Rattle.wi_graph.specs.Reach.{in_cone}
 use Rattle.wi_graph.specs.Edges.{areas_in}
-use Rattle.wi_graph.specs.Inner.Rooms.{Rooms, Coming, brought_to, coming_at, room_at, room_over}
+use Rattle.wi_graph.specs.Inner.Rooms.{Rooms, Coming, brought_to, coming_at, room_at, room_over, AreInOrder}
 
 -- what a cell reads after the changes, that read this before them
 abbrev pub areas_then : List (ℕ × Option Content) → ℕ → Option (List Area) → Option (List Area)
@@ -29,6 +29,7 @@ ReadsStay rooms next = (c : ℕ) → room_over next rooms c ≡ room_at rooms c
 
 -- the test finds the cone of an edit that brings the next
 pub record IsEditCone (rooms : Rooms) (next : Coming) (test : ℕ → Bool) : Type 0 where
+  pub order : AreInOrder next
   pub changes : List (ℕ × Option Content)
   pub brings : Brings rooms next changes
   pub is_cone : (s : Sheet) → ((c : ℕ) → room_at rooms c ≡ areas_in (content_of s c)) → (c : ℕ) → test c ≡ in_cone s (keys_of changes) c

@@ -2,7 +2,8 @@
 use Rattle.std.specs.Prelude.{◌≡◌, ◌+◌, ℕ, Bool, ◌&&◌, not, List, [], ◌∷◌, Option, Some, None, if◌then◌else◌}
 use Rattle.std.specs.Ordering.{nat_cmp}
 use Rattle.std.specs.Global.{Vec}
-use Rattle.std.specs.Map.{lookup}
+use Rattle.std.specs.List.Sorted.{IsStrictlySortedBy}
+use Rattle.std.specs.Map.{keys_of, lookup}
 use Rattle.std.specs.BTreeMap.{is_at}
 use Rattle.std.specs.BTreeSet.{BTreeSet, contains}
 use Rattle.wi_values.specs.Address.{Area}
@@ -35,6 +36,10 @@ in_room (Some o) = items_of o
 -- what the formula of a cell reads, if it has one
 abbrev pub room_at : Rooms → ℕ → Option (List Area)
 room_at rooms c = in_room (get nat_cmp rooms c)
+
+-- each cell once, in row-major order
+abbrev pub AreInOrder : Coming → Type 0
+AreInOrder next = IsStrictlySortedBy nat_cmp (keys_of next)
 
 -- what an edit brings for a cell, if it names it
 abbrev pub brought_to : Coming → ℕ → Option (Option (Vec Area))
@@ -116,6 +121,7 @@ pub record IsGraph (rooms : Rooms) (readers : Bag) (circles : BTreeSet ℕ) : Ty
 -- the set has the cells that are circular before or after
 pub record IsStaged (rooms : Rooms) (next : Coming) (readers : Bag) (circles : BTreeSet ℕ) (turns : Turns) : Type 0 where
   pub ordered : IsOrdered nat_cmp rooms
+  pub order : AreInOrder next
   pub has_rooms : HasRooms rooms next
   pub pairs : HasBoth readers rooms next
   pub before : AreCircles (room_at rooms) (less_these circles turns.came.items)

@@ -1,8 +1,5 @@
 -- What is brought in.
 use Rattle.std.specs.Prelude.{◌≡◌, ◌+◌, ℕ, [], ◌∷◌}
-use Rattle.std.specs.Ordering.{nat_cmp}
-use Rattle.std.specs.BTreeMap.Range.{entries_between}
-use Rattle.std.specs.declared.ops.Bound.TheVariants.{Excluded, Unbounded}
 use Rattle.wi_ranges.specs.declared.pair.RangePair.{RangePair}
 use Rattle.wi_ranges.specs.Bag.{Bag, count_of}
 use Rattle.wi_graph.specs.Inner.Rooms.{Rooms, Coming, items_of, areas_of, times, times_in}
@@ -15,7 +12,3 @@ times_among (e ∷ es) p = times e.0 (areas_of (items_of e.1)) p + times_among e
 -- the index has the pairs of the formulas, and those of some rooms
 abbrev pub HasThese : Bag → Rooms → Coming → Type 0
 HasThese readers rooms es = (p : RangePair) → count_of readers p ≡ times_in rooms p + times_among es p
-
--- the rooms of the cells before one
-abbrev pub before : ℕ → Coming → Coming
-before end es = entries_between nat_cmp Unbounded (Excluded end) es

@@ -1,6 +1,6 @@
+use Rattle.std.proofs.Common.{take}
 use Rattle.wi_graph.proofs.ChangeSteps.{AreAsBefore}
 use Rattle.wi_graph.proofs.changes.reads_stay.Given as goal
 
--- if what is still to come is as before, all is
-abbrev pub invariant-loop-cell : goal.invariant-loop-cell
-invariant-loop-cell l = AreAsBefore l.rooms l.cell-iterator → AreAsBefore l.rooms l.next.entries
+abbrev pub invariant-loop-entry : goal.invariant-loop-entry
+invariant-loop-entry l = AreAsBefore l.rooms (take l.entry-index l.next.items)

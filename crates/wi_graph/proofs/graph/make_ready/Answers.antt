@@ -8,14 +8,14 @@ pub turns_of-requires-clause-order : goal.turns_of-requires-clause-order
 turns_of-requires-clause-order c = c.requires.order
 
 pub turns_of-requires-clause-cone : goal.turns_of-requires-clause-cone
-turns_of-requires-clause-cone c = record { changes = c.args.changes.now; brings = c.in_ok-next.ensures.brings; is_cone = c.requires.cone }
+turns_of-requires-clause-cone c = record { order = c.in_ok-next.ensures.order; changes = c.args.changes.now; brings = c.in_ok-next.ensures.brings; is_cone = c.requires.cone }
 
 pub returns-in-Ok-clause-brings : goal.returns-in-Ok-clause-brings
 returns-in-Ok-clause-brings c = c.in_ok-next.ensures.brings
 
 pub returns-in-Ok-clause-staged : goal.returns-in-Ok-clause-staged
 returns-in-Ok-clause-staged c =
-    staged_graph c.args.rooms.now c.bring_in.new.rooms c.in_ok-next.next.entries c.args.readers.now c.bring_in.new.readers c.args.circles.now c.bring_circles.new.circles c.in_ok-turns.turns c.requires.graph c.bring_in.ensures.ordered
+    staged_graph c.args.rooms.now c.bring_in.new.rooms c.in_ok-next.next.items c.args.readers.now c.bring_in.new.readers c.args.circles.now c.bring_circles.new.circles c.in_ok-turns.turns c.requires.graph c.in_ok-next.ensures.order c.bring_in.ensures.ordered
     c.in-Ok.ensures.has_rooms c.in-Ok.ensures.pairs c.bring_in.ensures.rooms c.in_ok-turns.ensures (rw c.deref.ensures.value at c.in_ok-bring_circles.ensures.ok)
 
 pub returns-in_err-bring_circles-clause-err : goal.returns-in_err-bring_circles-clause-err

@@ -1,8 +1,19 @@
-use Rattle.wi_graph.specs.Inner.Rooms.{room_over, areas_of}
-use Rattle.wi_graph.proofs.TurningSteps.{reads_step}
+use Rattle.std.proofs.Common.{subst, ◌≡◌, take_all}
+use Rattle.std.specs.Ordering.{nat_cmp}
+use Rattle.std.specs.BTreeMap.{get}
+use Rattle.wi_graph.specs.Inner.Rooms.{Coming, areas_of, room_over}
+use Rattle.wi_graph.specs.Inner.Stripping.{items_there}
+use Rattle.wi_graph.proofs.TurningSteps.{brought_step}
 use Rattle.wi_graph.proofs.reads.reads_of.Goals as goal
 
-pub loop-cell-preserved : goal.loop-cell-preserved
-loop-cell-preserved c =
-    reads_step c.args.cells.now c.loop-cell.cell-index c.cell-item.result (λ d. areas_of (room_over c.args.next.now.entries c.args.rooms.now d)) c.loop-cell.reads c.insert.new.self c.in_ok-areas.areas c.loop-cell-test.true c.cell-item.is
-    c.in_ok-areas.ensures c.in_ok-insert.ensures.updates.0 c.loop-cell.invariant
+pub loop-entry-init : goal.loop-entry-init
+loop-entry-init c = c.in_ok-reads.ensures
+
+pub loop-entry-preserved : goal.loop-entry-preserved
+loop-entry-preserved c d h =
+    brought_step c.args.rooms.now c.args.next.now.items c.loop-entry.entry-index c.entry-item.result c.loop-entry.reads c.insert.new.self c.in_ok-areas.areas c.requires (rw c.deref-entry-items.ensures.value at c.loop-entry-test.true) (rw c.deref-entry-items.ensures.value at c.entry-item.is)
+    c.in_ok-areas.ensures c.in_ok-insert.ensures.updates.0 d (c.loop-entry.invariant d h)
+
+pub returns : goal.returns
+returns c d h =
+    subst (λ (xs : Coming). items_there (get nat_cmp c.loop-entry.reads d) ≡ areas_of (room_over xs c.args.rooms.now d)) (take_all c.loop-entry.entry-index c.args.next.now.items (rw c.deref-entry-items.ensures.value at c.loop-entry-test.false)) (c.loop-entry.invariant d h)

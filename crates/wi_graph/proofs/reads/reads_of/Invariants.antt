@@ -6,5 +6,5 @@ use Rattle.wi_graph.specs.Inner.Stripping.{items_there}
 use Rattle.wi_graph.specs.Inner.Rooms.{room_over, areas_of}
 use Rattle.wi_graph.proofs.reads.reads_of.Given as goal
 
-abbrev pub invariant-loop-cell : goal.invariant-loop-cell
-invariant-loop-cell l = (c : ℕ) → is_one_of (take l.cell-index l.cells) c ≡ true → items_there (get nat_cmp l.reads c) ≡ areas_of (room_over l.next.entries l.rooms c)
+abbrev pub invariant-loop-entry : goal.invariant-loop-entry
+invariant-loop-entry l = (c : ℕ) → is_one_of l.cells c ≡ true → items_there (get nat_cmp l.reads c) ≡ areas_of (room_over (take l.entry-index l.next.items) l.rooms c)

@@ -1,12 +1,42 @@
-use Rattle.std.proofs.Common.{rules, arith}
+use Rattle.std.proofs.Common.{◌≡◌, [], rules, ap, sym, ◌∙◌, arith}
 use Rattle.std.proofs.lemmas.Grind.{common_steps}
-use Rattle.wi_graph.proofs.RoomSteps.{taking_step}
+use Rattle.wi_graph.specs.Inner.Rooms.{in_room}
+use Rattle.wi_graph.proofs.ComingSteps.{last_there, last_gone, order_left}
+use Rattle.wi_graph.proofs.RoomSteps.{taking_step, taking_end}
 use Rattle.wi_graph.proofs.rooms.take_over.Goals as goal
+
+pub exchange-stood-requires-clause-room : goal.exchange-stood-requires-clause-room
+exchange-stood-requires-clause-room c h =
+    sym (ap in_room (last_there c.cells.next.items c.pop.new.self.items c.in-Some.entry.0 c.in-Some.entry.1 c.cells.invariant.order c.in-Some.ensures.items)) ∙ c.cells.invariant.has_rooms c.in-Some.entry.0 h
 
 pub cells-preserved-in-Some : goal.cells-preserved-in-Some
 cells-preserved-in-Some c =
-    taking_step c.args.next.now.entries c.args.rooms.now c.cells.next.entries c.pop_first.new.self.entries c.cells.rooms c.exchange-stood.new.rooms c.cells.readers c.remove_room.new.readers c.in-Some.entry.0 c.in-Some.entry.1 c.exchange-stood.result c.in-Some.ensures.value
-    c.in-Some.ensures.updates.0 c.exchange-stood.ensures.ordered (search rules) c.exchange-stood.ensures.others c.exchange-stood.ensures.stood c.remove_room.ensures c.cells.invariant
+    let next = c.cells.next.items in
+    let later = c.pop.new.self.items in
+    let k = c.in-Some.entry.0 in
+    let o = c.in-Some.entry.1 in
+    let order = c.cells.invariant.order in
+    let is = c.in-Some.ensures.items in
+    taking_step c.args.next.now.items c.args.rooms.now next later c.cells.rooms c.exchange-stood.new.rooms c.cells.readers c.remove_room.new.readers k o c.exchange-stood.result (last_there next later k o order is) (last_gone next later k o order is) (order_left next later k o order is)
+    c.exchange-stood.ensures.ordered (search rules) c.exchange-stood.ensures.others c.exchange-stood.ensures.stood c.remove_room.ensures c.cells.invariant
 
 pub cells-preserved : goal.cells-preserved
-cells-preserved c = grind (arith, common_steps)
+cells-preserved c =
+    let next = c.cells.next.items in
+    let later = c.pop.new.self.items in
+    let k = c.in-Some.entry.0 in
+    let o = c.in-Some.entry.1 in
+    let order = c.cells.invariant.order in
+    let is = c.in-Some.ensures.items in
+    taking_step c.args.next.now.items c.args.rooms.now next later c.cells.rooms c.exchange-stood.new.rooms c.cells.readers c.remove_room.new.readers k o c.exchange-stood.result (last_there next later k o order is) (last_gone next later k o order is) (order_left next later k o order is)
+    c.exchange-stood.ensures.ordered (search rules) c.exchange-stood.ensures.others c.exchange-stood.ensures.stood c.remove_room.ensures c.cells.invariant
+
+pub returns-clause-rooms : goal.returns-clause-rooms
+returns-clause-rooms c =
+    let none : c.cells.next.items ≡ [] = grind (arith, common_steps) in
+    (taking_end c.args.next.now.items c.args.rooms.now c.cells.next.items c.cells.rooms c.cells.readers none c.cells.invariant).0
+
+pub returns-clause-pairs : goal.returns-clause-pairs
+returns-clause-pairs c =
+    let none : c.cells.next.items ≡ [] = grind (arith, common_steps) in
+    (taking_end c.args.next.now.items c.args.rooms.now c.cells.next.items c.cells.rooms c.cells.readers none c.cells.invariant).1

@@ -3,7 +3,7 @@ use Rattle.wi_graph.proofs.RoomSteps.{IsTaking}
 use Rattle.wi_graph.proofs.rooms.take_over.Given as goal
 
 abbrev pub invariant-cells : goal.invariant-cells
-invariant-cells l = IsTaking l.fn.next.entries l.fn.rooms l.next.entries l.rooms l.readers
+invariant-cells l = IsTaking l.fn.next.items l.fn.rooms l.next.items l.rooms l.readers
 
 abbrev pub decreases-cells : goal.decreases-cells
-decreases-cells l = length l.next.entries
+decreases-cells l = length l.next.items

@@ -1,25 +1,19 @@
-use Rattle.wi_graph.proofs.StagingSteps.{bringing_start, bringing_step, bringing_end, bringing_refused}
+use Rattle.std.proofs.Common.{ap, refl, ◌+◌}
+use Rattle.wi_graph.proofs.StagingSteps.{bringing_start, bringing_step, bringing_end}
 use Rattle.wi_graph.proofs.staging.bring_in.Goals as goal
 
-pub loop-cell-init : goal.loop-cell-init
-loop-cell-init c = bringing_start c.args.rooms.now c.args.readers.now c.into_iter-cell-iterator.result c.requires.ordered c.requires.pairs
+pub loop-entry-init : goal.loop-entry-init
+loop-entry-init c = (refl, bringing_start c.args.rooms.now c.args.readers.now c.requires.ordered c.requires.pairs)
 
-pub take_out-requires-clause-pairs : goal.take_out-requires-clause-pairs
-take_out-requires-clause-pairs c =
-    bringing_refused c.args.rooms.now c.loop-cell.rooms c.bring_one.new.rooms c.args.coming.now.entries c.loop-cell.readers c.bring_one.new.readers c.into_iter-cell-iterator.result c.loop-cell.cell-iterator c.next.new.self c.in-Some.cell.now c.in-Some.room.now
-    c.into_iter-cell-iterator.ensures.into_iter_gives.0 c.into_iter-cell-iterator.ensures.into_iter_gives.5 c.in-Some.ensures.steps c.bring_one.ensures.rooms c.in-Err.ensures.same c.loop-cell.invariant
-
-pub loop-cell-preserved : goal.loop-cell-preserved
-loop-cell-preserved c =
-    bringing_step c.args.rooms.now c.loop-cell.rooms c.bring_one.new.rooms c.loop-cell.readers c.bring_one.new.readers c.into_iter-cell-iterator.result c.loop-cell.cell-iterator c.next.new.self c.in-Some.cell.now c.in-Some.room.now
-    c.in-Some.ensures.steps c.bring_one.ensures.ordered c.bring_one.ensures.rooms c.in_default.ensures.there c.in_default.ensures.stay c.in_default.ensures.readers c.loop-cell.invariant
+pub loop-entry-preserved : goal.loop-entry-preserved
+loop-entry-preserved c = (
+  ap (λ n. n + 1) c.loop-entry.invariant.0,
+  bringing_step c.args.rooms.now c.loop-entry.rooms c.bring_one.new.rooms c.loop-entry.readers c.bring_one.new.readers c.args.coming.now.items c.loop-entry.entry-index c.entry-item.result c.requires.order (rw c.deref-entry-items.ensures.value at c.loop-entry-test.true) (rw c.deref-entry-items.ensures.value at c.entry-item.is)
+      c.bring_one.ensures.ordered c.bring_one.ensures.rooms c.in-Ok.ensures.there c.in-Ok.ensures.stay c.in-Ok.ensures.readers c.loop-entry.invariant.1,
+)
 
 pub returns-clause-has_rooms : goal.returns-clause-has_rooms
-returns-clause-has_rooms c =
-    (bringing_end c.args.rooms.now c.loop-cell.rooms c.args.coming.now.entries c.loop-cell.readers c.into_iter-cell-iterator.result c.loop-cell.cell-iterator
-    c.into_iter-cell-iterator.ensures.into_iter_gives.0 c.into_iter-cell-iterator.ensures.into_iter_gives.5 c.in-None.ensures.steps.0 c.loop-cell.invariant).0
+returns-clause-has_rooms c = (bringing_end c.args.rooms.now c.loop-entry.rooms c.args.coming.now.items c.loop-entry.readers c.loop-entry.entry-index c.requires.order (rw c.deref-entry-items.ensures.value at c.loop-entry-test.false) c.loop-entry.invariant.1).0
 
 pub returns-clause-pairs : goal.returns-clause-pairs
-returns-clause-pairs c =
-    (bringing_end c.args.rooms.now c.loop-cell.rooms c.args.coming.now.entries c.loop-cell.readers c.into_iter-cell-iterator.result c.loop-cell.cell-iterator
-    c.into_iter-cell-iterator.ensures.into_iter_gives.0 c.into_iter-cell-iterator.ensures.into_iter_gives.5 c.in-None.ensures.steps.0 c.loop-cell.invariant).1
+returns-clause-pairs c = (bringing_end c.args.rooms.now c.loop-entry.rooms c.args.coming.now.items c.loop-entry.readers c.loop-entry.entry-index c.requires.order (rw c.deref-entry-items.ensures.value at c.loop-entry-test.false) c.loop-entry.invariant.1).1

@@ -9,4 +9,4 @@ returns-in-Some c =
     let x = c.in-Some.staged in
     let e = sym c.take.ensures.value ∙ c.in-Some.is in
     let s = staged_is g.rooms g.readers g.circles g.staged x e c.self.invariant.1 in
-    taken_view g.rooms c.take_over.new.rooms g.staged c.take.new.self c.args.self.now x e c.take.ensures.after c.self.view_is (rooms_over g.rooms c.take_over.new.rooms x.next.entries s.ordered c.take_over.ensures.ordered c.take_over.ensures.rooms)
+    taken_view g.rooms c.take_over.new.rooms g.staged c.take.new.self c.args.self.now x e c.take.ensures.after c.self.view_is (rooms_over g.rooms c.take_over.new.rooms x.next.items s.ordered c.take_over.ensures.ordered c.take_over.ensures.rooms)

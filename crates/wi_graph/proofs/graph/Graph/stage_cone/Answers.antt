@@ -36,8 +36,8 @@ pub returns-clause-ok : goal.returns-clause-ok
 returns-clause-ok c =
     let g = c.self.inside in
     let old = unstaged g.rooms g.readers g.circles g.staged (ap (λ (x : Staging). x.staged) c.self.view_is ∙ c.requires.staged) c.self.invariant.0 in
-    staged_view g.rooms c.make_ready.new.rooms c.in_ok-staged.staged.next.entries g.staged c.args.self.now c.args.changes.now c.self.view_is (rooms_same g.rooms c.make_ready.new.rooms old.ordered c.make_ready.ensures.ordered c.make_ready.ensures.rooms)
-    (staged_edges g.rooms c.make_ready.new.rooms c.in_ok-staged.staged.next.entries c.in_ok-staged.staged.next.entries c.args.changes.now old.ordered c.make_ready.ensures.ordered c.in_ok-staged.ensures.brings c.make_ready.ensures.rooms (λ d. refl))
+    staged_view g.rooms c.make_ready.new.rooms c.in_ok-staged.staged.next.items g.staged c.args.self.now c.args.changes.now c.self.view_is (rooms_same g.rooms c.make_ready.new.rooms old.ordered c.make_ready.ensures.ordered c.make_ready.ensures.rooms)
+    (staged_edges g.rooms c.make_ready.new.rooms c.in_ok-staged.staged.next.items c.in_ok-staged.staged.next.items c.args.changes.now old.ordered c.make_ready.ensures.ordered c.in_ok-staged.ensures.brings c.make_ready.ensures.rooms (λ d. refl))
 
 pub invariant_of-self : goal.invariant_of-self
 invariant_of-self c =

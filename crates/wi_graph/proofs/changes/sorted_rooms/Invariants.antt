@@ -1,6 +1,6 @@
 use Rattle.std.proofs.Common.{take}
 use Rattle.wi_graph.specs.Inner.Changes.{Brings, HasNoIdle}
-use Rattle.wi_graph.proofs.changes.rooms_of.Given as goal
+use Rattle.wi_graph.proofs.changes.sorted_rooms.Given as goal
 
 abbrev pub invariant-loop-change : goal.invariant-loop-change
 invariant-loop-change l = Brings l.rooms l.next.entries (take l.change-index l.changes) × HasNoIdle l.rooms l.next.entries

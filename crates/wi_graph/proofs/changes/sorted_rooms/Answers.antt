@@ -1,6 +1,6 @@
 use Rattle.std.proofs.lemmas.Result.{IfOk-from_err}
 use Rattle.wi_graph.proofs.ChangeSteps.{brings_start, brings_step, brings_end}
-use Rattle.wi_graph.proofs.changes.rooms_of.Goals as goal
+use Rattle.wi_graph.proofs.changes.sorted_rooms.Goals as goal
 
 pub loop-change-init : goal.loop-change-init
 loop-change-init c = brings_start c.args.rooms.now c.new-next.result.entries c.new-next.ensures.empty

@@ -1,0 +1,10 @@
+use Rattle.std.proofs.Common.{◌≡◌, ℕ, true, take}
+use Rattle.std.specs.Ordering.{nat_cmp}
+use Rattle.std.specs.BTreeMap.{get}
+use Rattle.wi_graph.specs.Reach.{is_one_of}
+use Rattle.wi_graph.specs.Inner.Stripping.{items_there}
+use Rattle.wi_graph.specs.Inner.Rooms.{room_at, areas_of}
+use Rattle.wi_graph.proofs.reads.reads_before.Given as goal
+
+abbrev pub invariant-loop-cell : goal.invariant-loop-cell
+invariant-loop-cell l = (c : ℕ) → is_one_of (take l.cell-index l.cells) c ≡ true → items_there (get nat_cmp l.reads c) ≡ areas_of (room_at l.rooms c)
