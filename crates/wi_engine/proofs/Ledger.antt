@@ -10,7 +10,7 @@ use Rattle.wi_sheet.specs.Inner.Spending.{SpentOn}
 use Rattle.wi_sheet.proofs.CaseCosts.{never_fall-same, never_fall-then, spent_none, spent_then, spent_weaken}
 use Rattle.wi_engine.specs.Inner.MemoState.{MemoState, IsMemoOf}
 use Rattle.wi_engine.specs.Inner.Saving.{WhereRoom}
-use Rattle.wi_engine.specs.Inner.Spends.{Saved, Spends}
+use Rattle.wi_engine.specs.Inner.Spends.{IsSameBeside, Saved, Spends}
 use Rattle.wi_sheet.proofs.SettledTables.{rests_more}
 use Rattle.wi_engine.proofs.Places.{takes_none, takes_then, gives_up_none, gives_up_then}
 
@@ -35,10 +35,16 @@ saved_then s old mid new a b c ks h k =
 
 -- ---- of both
 
+pub same_itself : (m : MemoState) → IsSameBeside m m
+same_itself m = record { covers = refl; generation = refl; capacity = refl; latest = refl }
+
+pub same_then : {old mid new : MemoState} → IsSameBeside old mid → IsSameBeside mid new → IsSameBeside old new
+same_then h k = record { covers = k.covers ∙ h.covers; generation = k.generation ∙ h.generation; capacity = k.capacity ∙ h.capacity; latest = k.latest ∙ h.latest }
+
 none_alone : (s : Sheet) (Has : List Case → Type 0) (m : MemoState) (a : Counts) (done : Bool) → IsMemoOf s m → Spends s Has m m a a done
 none_alone s Has m a done h = record {
   right = h;
-  same = record { covers = refl; generation = refl; capacity = refl; latest = refl };
+  same = same_itself m;
   counts = never_fall-same a;
   places = takes_none m m a.evaluations refl;
   gives_up = gives_up_none m m refl;
@@ -62,12 +68,7 @@ module _ {s : Sheet} {First Second Both : List Case → Type 0} {old mid : MemoS
   pub spends_then : {new : MemoState} {c : Counts} {done : Bool} → Spends s Second mid new b c done → Spends s Both old new a c done
   spends_then {new} {c} {done} k = record {
     right = k.right;
-    same = record {
-      covers = k.same.covers ∙ h.same.covers;
-      generation = k.same.generation ∙ h.same.generation;
-      capacity = k.same.capacity ∙ h.same.capacity;
-      latest = k.same.latest ∙ h.same.latest;
-    };
+    same = same_then h.same k.same;
     counts = never_fall-then a b c h.counts k.counts;
     places = takes_then old mid new a.evaluations b.evaluations c.evaluations h.places k.places k.counts.0;
     gives_up = gives_up_then old mid new h.gives_up k.gives_up;

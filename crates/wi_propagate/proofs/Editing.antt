@@ -1,22 +1,19 @@
 -- What is so of a calculator that keeps values stays so over an edit.
-use Rattle.std.proofs.Common.{◌≡◌, ◌==◌, ◌||◌, ◌≤◌, ◌+◌, ℕ, Bool, true, false, cond, nat_lt, nat_le, List, [], ◌∷◌, map, Option, Some, None, Result, Ok, Err, refl, ap, sym, ◌∙◌, arith}
+use Rattle.std.proofs.Common.{◌≡◌, ◌==◌, ◌≤◌, ◌+◌, ℕ, Bool, true, false, cond, nat_lt, nat_le, List, [], ◌∷◌, map, Option, Some, None, Result, Ok, Err, refl, ap, sym, ◌∙◌, subst, arith}
 use Rattle.std.proofs.lemmas.Bool.{or_parts}
-use Rattle.std.proofs.lemmas.Bool.Decides.{nat_tests}
 use Rattle.std.specs.Map.{keys_of}
-use Rattle.wi_values.specs.Address.{Area}
-use Rattle.wi_values.specs.declared.value.Value.{Value}
-use Rattle.wi_values.specs.declared.value.Value.TheVariants.{Empty, Number, Text, Logical, Fault}
+use Rattle.wi_values.proofs.Order.{turn_test}
 use Rattle.wi_parser.specs.declared.content.Content.{Content}
 use Rattle.wi_parser.specs.declared.content.Content.TheVariants.{Constant, Formula}
-use Rattle.wi_parser.specs.Sheet.{Sheet, constant, content_of, with_content}
+use Rattle.wi_parser.specs.Sheet.{Sheet, content_of, with_content}
 use Rattle.wi_store.specs.Store.{Stored, edited, settled, settled_change, accepted, applied}
 use Rattle.wi_store.specs.declared.fault.StoreFault.{StoreFault}
 use Rattle.wi_store.specs.declared.fault.StoreFault.TheVariants.{Full, EditLimit}
 use Rattle.wi_functions.specs.Counts.{Counts}
 use Rattle.wi_cache.specs.Entries.{KeptValues}
 use Rattle.wi_graph.specs.Reach.{is_one_of, SameOff, in_cone}
-use Rattle.wi_graph.specs.Edges.{Edges, areas_in, areas_at, AreEdgesOf, with_areas, edges_after}
-use Rattle.wi_graph.proofs.EdgeLemmas.{areas_with}
+use Rattle.wi_graph.specs.Edges.{Edges, AreEdgesOf, brought, edges_after, sheet_after}
+use Rattle.wi_graph.proofs.EdgeLemmas.{edges_follow}
 use Rattle.wi_propagate.specs.KeptSheet.{Generations, generation_in}
 use Rattle.wi_propagate.specs.Right.{AreKeptRight}
 use Rattle.wi_sheet.proofs.Puts.{content_of-with}
@@ -24,38 +21,20 @@ use Rattle.wi_propagate.proofs.RightValues.{AreRaised, kept_over_edit}
 
 -- ---- the edges are those of the edited sheet
 
-no_areas : (v : Value) → areas_in (constant v) ≡ None
-no_areas Empty = refl
-no_areas (Number n) = refl
-no_areas (Text t) = refl
-no_areas (Logical b) = refl
-no_areas (Fault e) = refl
+same_settled : (o : Option Content) → settled o ≡ brought o
+same_settled None = refl
+same_settled (Some (Constant v)) = refl
+same_settled (Some (Formula t)) = refl
 
-areas_settled : (o : Option Content) → areas_in (settled o) ≡ areas_in o
-areas_settled None = refl
-areas_settled (Some (Constant v)) = no_areas v
-areas_settled (Some (Formula t)) = refl
-
-in_cond : (b : Bool) (o p : Option Content) → areas_in (cond b o p) ≡ cond b (areas_in o) (areas_in p)
-in_cond true o p = refl
-in_cond false o p = refl
-
-edges_step : (es : Edges) (s : Sheet) (c : ℕ) (o : Option Content) → AreEdgesOf es s → AreEdgesOf (with_areas es c (areas_in o)) (with_content s c (settled o))
-edges_step es s c o h q =
-    areas_with es c (areas_in o) q ∙ ap (λ (x : Option (List Area)). cond (q == c) x (areas_at es q)) (sym (areas_settled o)) ∙ ap (cond (q == c) (areas_in (settled o))) (h q)
-    ∙ sym (in_cond (q == c) (settled o) (content_of s q)) ∙ ap areas_in (sym (content_of-with s c (settled o) q))
-
-pub edges_edited : (es : Edges) (s : Sheet) (changes : List (ℕ × Option Content)) → AreEdgesOf es s → AreEdgesOf (edges_after es changes) (edited s (map settled_change changes))
-edges_edited es s [] h = h
-edges_edited es s (x ∷ xs) h = edges_edited (with_areas es x.0 (areas_in x.1)) (with_content s x.0 (settled x.1)) xs (edges_step es s x.0 x.1 h)
+-- the store and the graph say the same of what an edit makes of a sheet
+edited_is_after : (s : Sheet) (changes : List (ℕ × Option Content)) → edited s (map settled_change changes) ≡ sheet_after s changes
+edited_is_after s [] = refl
+edited_is_after s (x ∷ xs) = ap (λ (o : Option Content). edited (with_content s x.0 o) (map settled_change xs)) (same_settled x.1) ∙ edited_is_after (with_content s x.0 (brought x.1)) xs
 
 -- ---- and the sheet is the same but for the edited cells
 
 kept_content : (s : Sheet) (c : ℕ) (o : Option Content) (d : ℕ) → (c == d) ≡ false → content_of s d ≡ content_of (with_content s c o) d
-kept_content s c o d n = sym (content_of-with s c o d ∙ ap (λ (b : Bool). cond b o (content_of s d)) (turn c d n))
-  where
-    turn : (x y : ℕ) → (x == y) ≡ false → (y == x) ≡ false
-    turn x y h = grind (arith, nat_tests)
+kept_content s c o d n = sym (content_of-with s c o d ∙ ap (λ (b : Bool). cond b o (content_of s d)) (turn_test d c ∙ n))
 
 pub same_off_edited : (s : Sheet) (changes : List (ℕ × Option Content)) → SameOff s (edited s (map settled_change changes)) (keys_of changes)
 same_off_edited s [] d h = refl
@@ -108,5 +87,4 @@ right_over_edit old new changes cone n g m r values before after h i same up e k
 
 pub edges_applied : (es : Edges) (old new : Stored) (changes : List (ℕ × Option Content)) → AreEdgesOf es old.sheet → applied old changes ≡ Ok new → AreEdgesOf (edges_after es changes) new.sheet
 edges_applied es old new changes h e =
-    let a = accepted_is old new (map settled_change changes) e in
-    rw a.0 (edges_edited es old.sheet changes h)
+    subst (AreEdgesOf (edges_after es changes)) (sym ((accepted_is old new (map settled_change changes) e).0 ∙ edited_is_after old.sheet changes)) (edges_follow es old.sheet changes h)

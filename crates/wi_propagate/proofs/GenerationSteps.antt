@@ -9,7 +9,7 @@ use Rattle.std.specs.Map.{lookup}
 use Rattle.std.specs.BTreeMap.{is_at}
 use Rattle.wi_values.proofs.Order.{is_at-eq}
 use Rattle.wi_graph.specs.Reach.{is_one_of}
-use Rattle.wi_engine.proofs.Passed.{one_more}
+use Rattle.wi_sheet.proofs.Filters.{one_more}
 use Rattle.wi_propagate.specs.KeptSheet.{Generations, generation_in}
 use Rattle.wi_propagate.specs.Inner.Keeping.{HasGeneration}
 

@@ -1,21 +1,21 @@
 -- A value is kept in one question, and for longer.
 use Rattle.std.proofs.Common.{◌≡◌, ◌==◌, ◌<◌, ◌≤◌, ◌-◌, ◌+◌, inl, inr, ◌||◌, ◌&&◌, ℕ, Bool, true, false, cond, min, List, length, Option, Some, None, IsSome, is_some, Result, Ok, Err, OnOk, OnErr, refl, ap, sym, ◌∙◌, subst, arith, if◌then◌else◌}
-use Rattle.std.proofs.lemmas.Bool.{or_left}
-use Rattle.std.proofs.lemmas.Bool.Decides.{nat_tests}
+use Rattle.std.proofs.lemmas.Bool.{eqb-true, or_left}
 use Rattle.std.specs.Map.{update}
 use Rattle.std.specs.declared.alloc.AllocError.{AllocError}
 use Rattle.wi_values.specs.declared.value.Value.{Value}
 use Rattle.wi_values.specs.declared.replacement.Replacement.{Replacement}
 use Rattle.wi_values.specs.Replacements.{same_replacements}
+use Rattle.wi_values.proofs.Order.{is_itself}
 use Rattle.wi_cache.specs.declared.key.Key.{Key}
 use Rattle.wi_cache.specs.Entries.{Entries, KeptValues, HasRoom, Puts, PutsForGoing, PutsForOne, same_key, value_for, len_after}
+use Rattle.wi_cache.proofs.Callers.{holds_after_keep}
 use Rattle.wi_parser.specs.Sheet.{Sheet}
 use Rattle.wi_sheet.specs.Demand.{same_case}
 use Rattle.wi_engine.specs.Inner.Saving.{GivesUpWhenFull}
 use Rattle.wi_propagate.specs.Right.{IsKeptFor, AreRight}
 use Rattle.wi_propagate.specs.KeptSheet.{Generations, generation_in, key_in}
 use Rattle.wi_propagate.specs.Inner.Keeping.{keeping, state_in}
-use Rattle.wi_propagate.proofs.RightValues.{kept_over_keep}
 
 -- what an accepted `keep` of kept values ensures, and what a refused one does
 pub record KeepsIn (r : Result (Unit {0}) AllocError) (m n : KeptValues) (k : Key) (v : Value) : Type 0 where
@@ -28,21 +28,15 @@ pub record KeepsIn (r : Result (Unit {0}) AllocError) (m n : KeptValues) (k : Ke
   pub err : OnErr r (n ≡ m)
 
 pub right_after : (r : Result (Unit {0}) AllocError) (s : Sheet) (edits : ℕ) (g : ℕ → ℕ) (m n : KeptValues) (k : Key) (v : Value) → KeepsIn r m n k v → IsKeptFor s edits g k v → AreRight s edits g m.entries → AreRight s edits g n.entries
-right_after (Ok x) s edits g m n k v h i a = kept_over_keep s edits g m n k v h.stays h.goes i a
+right_after (Ok x) s edits g m n k v h i a = holds_after_keep (IsKeptFor s edits g) k v i m n h.stays h.goes a
 right_after (Err x) s edits g m n k v h i a = rw h.err a
 
 -- keys of the present generation are one where their cases are
 pub same_here : (g : Generations) (k : Key) (c : ℕ) (w : List Replacement) → k.generation ≡ generation_in g k.cell → same_key k (key_in g c w) ≡ same_case (k.cell, k.world) (c, w)
 same_here g k c w e = at (k.cell == c) refl
   where
-    same : (k.cell == c) ≡ true → k.cell ≡ c
-    same h = grind (arith, nat_tests)
-
-    itself : (n : ℕ) → (n == n) ≡ true
-    itself n = grind (arith, nat_tests)
-
     at : (b : Bool) → (k.cell == c) ≡ b → (b && ((k.generation == generation_in g c) && same_replacements k.world w)) ≡ (b && same_replacements k.world w)
-    at true h = ap (λ (n : ℕ). (n == generation_in g c) && same_replacements k.world w) (e ∙ ap (generation_in g) (same h)) ∙ ap (λ (b : Bool). b && same_replacements k.world w) (itself (generation_in g c))
+    at true h = ap (λ (n : ℕ). (n == generation_in g c) && same_replacements k.world w) (e ∙ ap (generation_in g) (eqb-true k.cell c h)) ∙ ap (λ (b : Bool). b && same_replacements k.world w) (is_itself (generation_in g c))
     at false h = refl
 
 is_some_cond : (b : Bool) (v : Value) (o : Option Value) → is_some (cond b (Some v) o) ≡ (is_some o || b)

@@ -6,7 +6,7 @@
 -- `PlaceCounts`, each value takes one place.
 -- `Editing`: what is so of a calculator stays so over an edit, by generations and `RightValues`.
 -- Of a question:
--- `Questions`: how it begins (`Begins`), and what is kept when it ends; `Debts`: so it owes what its contract says (`Owes`).
+-- `Questions`: how it begins (`Begins`), what is kept when it ends, and that it owes what its contract says (`Owes`).
 -- `EntryQuestions`: an entry of a data table.
 pub mod EmptyCells
 pub mod GenerationSteps
@@ -18,5 +18,4 @@ pub mod ValuesAtHand
 pub mod PlaceCounts
 pub mod Editing
 pub mod Questions
-pub mod Debts
 pub mod EntryQuestions

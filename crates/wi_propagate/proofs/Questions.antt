@@ -1,7 +1,7 @@
 -- A question asked of a calculator that keeps values.
 use Rattle.std.proofs.Common.{◌≡◌, ◌≤◌, ◌<◌, ◌+◌, ◌-◌, ◌^◌, inl, inr, length, All, filter, not, is_some, ℕ, Bool, true, false, List, [], Option, Some, refl, ap, sym, ◌∙◌, subst, arith}
 use Rattle.std.specs.Map.{keys_of}
-use Rattle.std.proofs.lemmas.Bool.{cases_lt}
+use Rattle.std.proofs.lemmas.Bool.{cases_lt, true≢false}
 use Rattle.wi_values.specs.declared.value.Value.{Value}
 use Rattle.wi_values.specs.declared.value.Value.TheVariants.{Fault}
 use Rattle.wi_values.specs.declared.value.ErrorKind.TheVariants.{Circular}
@@ -16,18 +16,19 @@ use Rattle.wi_graph.proofs.Tests.{clash}
 use Rattle.wi_sheet.specs.Demand.{Case, reaching}
 use Rattle.wi_sheet.specs.TableEntry.{asks_circular, table_entry}
 use Rattle.wi_sheet.specs.Settled.{IsWhatIfSettled}
-use Rattle.wi_sheet.specs.Inner.Spending.{IsClosed}
-use Rattle.wi_sheet.proofs.CaseCosts.{left_is_unkept, sum_of_ones}
+use Rattle.wi_sheet.specs.Inner.Spending.{IsClosed, SpentOn}
+use Rattle.wi_sheet.proofs.CaseCosts.{left_is_unkept, sum_of_ones, never_fall-same, spent_price, spent_unkept}
 use Rattle.wi_sheet.proofs.TableEntries.{cells_open, entry_circular, none_circular}
 use Rattle.wi_engine.specs.Inner.Frames.{MayBeRead}
 use Rattle.wi_engine.specs.Inner.Saving as saving
 use Rattle.wi_engine.specs.Inner.Saving.{KeepsFound, WhereRoom, TakesNoMore, GivesUpWhenFull, NeedsNoEvaluation, IsValuedAnew}
-use Rattle.wi_engine.specs.Inner.Spends.{IsSameBeside, Saved}
+use Rattle.wi_engine.specs.Inner.Spends.{IsSameBeside, Saved, Spends}
 use Rattle.wi_sheet.proofs.SettledTables.{what_if_more, rests_more}
 use Rattle.wi_engine.proofs.Places.{none_went}
 use Rattle.wi_propagate.specs.KeptSheet.{Generations, generation_in, KeptSheet, key_in, stands, is_kept, unkept, gone, IsAtHand, HasRoomFor, KeepsAll, KeepsNoMore, KeepsOld, KeepsWhileRoom}
 use Rattle.wi_propagate.specs.Right.{AreRight, AreKeptRight}
 use Rattle.wi_propagate.specs.Inner.Keeping.{kept_sheet, values_in, Keeping, keeping, begun, state_in, IsKeepingRight}
+use Rattle.wi_propagate.specs.Inner.Owes.{Owes}
 use Rattle.wi_propagate.proofs.RightValues.{or_none}
 use Rattle.wi_propagate.proofs.PlaceCounts.{all_stand}
 
@@ -161,15 +162,6 @@ module _ {k : KeptSheet} {q : Keeping} (e : Begins k q) (last : Keeping) (values
     fits = fits_places h t;
   }
 
--- where nothing is asked
-pub none_no_more : (k : KeptSheet) → KeepsNoMore k k
-none_no_more k =
-    let none = all_stand k.values.entries in
-    inl (omega (arith, none))
-
-pub none_while_room : (k n : KeptSheet) → n ≡ k → KeepsWhileRoom k n
-none_while_room k n e = subst (KeepsWhileRoom k) (sym e) (record { count = omega arith; stays = λ few j i. i; fits = λ few short j i. i })
-
 -- ---- the value of a cell
 
 module _ {k : KeptSheet} {q : Keeping} (e : Begins k q) (w put : List Replacement) (a : ℕ) (o : circular k.stored.sheet a ≡ false) (same : w ≡ put) where
@@ -213,3 +205,38 @@ circular_entry s t p f pairs b e x h = sym (entry_circular s p f pairs (sym x �
 
 pub circular_clash : {A : Type 0} (s t : Sheet) (f : ℕ) (pairs : List (ℕ × ℕ)) (b : Bool) → s ≡ t → b ≡ asks_circular s f pairs → b ≡ true → circular t f ≡ false → All (λ x. circular t x.1 ≡ false) pairs → A
 circular_clash s t f pairs b e x h one all = clash (asks_circular t f pairs) (ap (λ (r : Sheet). asks_circular r f pairs) (sym e) ∙ sym x ∙ h) (none_circular t f pairs (one, all))
+
+-- ---- what it spends is what it owes
+
+-- where nothing is asked
+pub owes_none : (k : KeptSheet) (cases : List Case) (done : Bool) → Owes k k cases done
+owes_none k cases done = record {
+  same = refl;
+  same_generations = refl;
+  same_room = refl;
+  counts = never_fall-same k.counts;
+  demanded = (omega arith, omega arith);
+  not_kept = λ room. (omega arith, omega arith);
+  no_more = let none = all_stand k.values.entries in inl (omega (arith, none));
+  while_room = record { count = omega arith; stays = λ few j i. i; fits = λ few short j i. i };
+  keeps = λ d room. record { added = omega arith; stays = λ j i. i; settled = λ c w i o. absurd (true≢false (sym i ∙ o)) };
+}
+
+module _ {k : KeptSheet} {q : Keeping} (e : Begins k q) (last : Keeping) (values : KeptValues) (counts : Counts) (same : values ≡ last.values) (within : length values.entries ≤ values.capacity) (Has : List Case → Type 0) (cases : List Case) (closed : IsClosed k.stored.sheet cases) (has : Has cases) where
+  -- of each closed list that has what it is to have, so of the cases that are demanded
+  pub owes_spent : (done : Bool) → Spends k.stored.sheet Has (state_in q) (state_in last) k.counts counts done → Owes k (record { stored = k.stored; generations = k.generations; values = values; counts = counts }) cases done
+  owes_spent done h = record {
+    same = refl;
+    same_generations = refl;
+    same_room = same_capacity e last values counts h.same same;
+    counts = h.counts;
+    demanded = spent_price (h.on_found cases closed has);
+    not_kept = λ room.
+        let spent = asked_where e (λ ks. SpentOn k.stored.sheet (state_in q).kept (state_in last).kept k.counts counts done ks) cases Has h.on_kept closed has room in
+        spent_unkept (subst (λ (x : Keeping). SpentOn k.stored.sheet (state_in x).kept (state_in last).kept k.counts counts done cases) e.is spent);
+    no_more = asked_no_more e last values counts h.same same within h.places;
+    while_room = asked_while_room e last values counts h.same same h.gives_up h.places;
+    keeps = λ d room.
+        let saved = asked_where e (λ ks. Saved k.stored.sheet (state_in q) (state_in last) k.counts counts ks) cases Has (h.saved d) closed has room in
+        asked_keeps e last values counts h.same same cases room saved;
+  }

@@ -1,13 +1,12 @@
--- Values that are kept stay right: over an edit, where one is kept, and where one goes.
-use Rattle.std.proofs.Common.{◌≡◌, ◌≤◌, ◌<◌, ◌+◌, ◌||◌, ℕ, Bool, true, false, List, [], length, Option, Some, None, IfSome, is_some, refl, sym, ◌∙◌, subst, arith}
+-- Values that are kept are right: over an edit, where one is found, and where a question begins.
+use Rattle.std.proofs.Common.{◌≡◌, ◌≤◌, ◌<◌, ◌+◌, ◌||◌, ℕ, Bool, true, false, List, [], Option, Some, None, IfSome, is_some, refl, sym, ◌∙◌, subst, arith}
 use Rattle.std.proofs.lemmas.Bool.{true≢false}
 use Rattle.std.specs.Option.{option_or}
 use Rattle.wi_values.specs.declared.value.Value.{Value}
 use Rattle.wi_values.specs.declared.replacement.Replacement.{Replacement}
 use Rattle.wi_parser.specs.Sheet.{Sheet, put_all}
 use Rattle.wi_cache.specs.declared.key.Key.{Key}
-use Rattle.wi_cache.specs.Entries.{Entries, KeptValues, HasRoom, Puts, PutsForOne, value_for}
-use Rattle.wi_cache.proofs.Callers.{holds_after_keep}
+use Rattle.wi_cache.specs.Entries.{Entries, KeptValues, value_for}
 use Rattle.wi_graph.specs.Circular.{circular}
 use Rattle.wi_sheet.specs.CellValue.{cell_value}
 use Rattle.wi_graph.specs.Reach.{IsInCone, SameOff, in_cone}
@@ -54,13 +53,8 @@ kept_over_edit s t xs edits old new es same raised h k = at (value_for es k) (h 
     at None i = tt
     at (Some v) i = let y = i.past in record { past = omega arith; right = λ g. right v i g (in_cone s xs k.cell) refl }
 
--- ---- a value is kept, and others may go
+-- ---- what the engine finds is kept
 
-pub kept_over_keep : (s : Sheet) (edits : ℕ) (generation : ℕ → ℕ) (m n : KeptValues) (k : Key) (v : Value) → (HasRoom m k → Puts m.entries n.entries k v) → (value_for m.entries k ≡ None → m.capacity ≤ length m.entries → PutsForOne m.entries n.entries k v) →
-    IsKeptFor s edits generation k v → AreRight s edits generation m.entries → AreRight s edits generation n.entries
-kept_over_keep s edits generation m n k v stays goes i h = holds_after_keep (IsKeptFor s edits generation) k v i m n stays goes h
-
--- what the engine finds is put in
 pub found_is_kept : (s : Sheet) (edits : ℕ) (generation : ℕ → ℕ) (k : Key) (v : Value) → ((c : ℕ) → generation c ≤ edits) → circular s k.cell ≡ false → k.generation ≡ generation k.cell → v ≡ cell_value (put_all s k.world) k.cell →
     IsKeptFor s edits generation k v
 found_is_kept s edits generation k v past o g e = record {

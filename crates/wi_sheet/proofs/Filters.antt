@@ -1,6 +1,7 @@
 -- Which elements of a list pass a test.
-use Rattle.std.proofs.Common.{◌≡◌, ◌==◌, ℕ, zero, suc, ◌<◌, ◌≤◌, Bool, true, false, ◌||◌, ◌&&◌, cond, List, [], ◌∷◌, filter, length, take, refl, ap, sym, ◌∙◌, arith}
+use Rattle.std.proofs.Common.{◌≡◌, ◌==◌, ℕ, zero, suc, ◌+◌, ◌<◌, ◌≤◌, Bool, true, false, ◌||◌, ◌&&◌, cond, List, [], ◌∷◌, filter, length, take, get_or, refl, ap, sym, ◌∙◌, arith}
 use Rattle.std.proofs.Math.Bool.{and-false, and-true}
+use Rattle.std.proofs.lemmas.List.Folds.{list_any_more}
 use Rattle.std.specs.List.{list_any}
 use Rattle.wi_graph.specs.Reach.{is_one_of}
 use Rattle.wi_graph.proofs.Walks.{same_cell}
@@ -82,3 +83,7 @@ in_first (suc n) (x ∷ xs) a h = at (x == a) h (in_first n xs a)
     at : (b : Bool) → (b || is_one_of (take n xs) a) ≡ true → (is_one_of (take n xs) a ≡ true → is_one_of xs a ≡ true) → (b || is_one_of xs a) ≡ true
     at true k ih = refl
     at false k ih = ih k
+
+-- and one more, as at a step of a loop
+pub one_more : (xs : List ℕ) (i x q : ℕ) → i < length xs → x ≡ get_or xs i x → is_one_of (take (i + 1) xs) q ≡ (is_one_of (take i xs) q || (x == q))
+one_more xs i x q l e = list_any_more (λ (y : ℕ). y == q) xs i x l ∙ ap (λ (y : ℕ). is_one_of (take i xs) q || (y == q)) (sym e)

@@ -2,7 +2,7 @@
 use Rattle.std.proofs.Common.{◌≡◌, ◌==◌, ℕ, suc, ◌+◌, ◌<◌, Bool, true, false, ◌&&◌, ◌||◌, cond, List, [], ◌∷◌, ◌++◌, filter, take, drop, length, get_or, Option, Some, None, IsSome, IfSome, All, refl, ap, sym, ◌∙◌, subst, inl, inr, ◌⊎◌, eq-eqb, drop-cons}
 use Rattle.std.proofs.lemmas.Bool.{and_parts, and_from, or_cases, or_left, or_right}
 use Rattle.std.proofs.lemmas.List.{take-append-drop}
-use Rattle.std.proofs.lemmas.List.Elements.{All-head, All-tail}
+use Rattle.std.proofs.lemmas.List.Elements.{All-head, All-more, All-tail}
 use Rattle.std.specs.List.{list_any}
 use Rattle.std.specs.Ordering.{nat_cmp}
 use Rattle.std.specs.BTreeMap.{BTreeMap, get, is_at}
@@ -25,7 +25,7 @@ use Rattle.wi_sheet.specs.Inner.ReadCells.{rectangles_in, occupied_within}
 use Rattle.wi_sheet.specs.Inner.ReadOrder.{IsReadOrder}
 use Rattle.wi_engine.specs.Inner.Remembered.{AreCones}
 use Rattle.wi_sheet.proofs.ReadLists.{occupied_read, read_occupied}
-use Rattle.wi_engine.proofs.Passed.{one_more}
+use Rattle.wi_sheet.proofs.Filters.{one_more}
 
 -- a formula reads what lies in one of its rectangles
 pub reads_rectangles : (s : Sheet) (c : ℕ) (t : Tree) (a : ℕ) → content_of s c ≡ Some (Formula t) → content_reads (content_of s c) a ≡ list_any (λ (r : Area). is_within r a) (rectangles_of t)
@@ -91,6 +91,23 @@ cone_same s order i x a old l e h r c = h c ∙ by (x == c) (is_one_of (take i o
     by false f g n k = and_none f g (reaches s c a) n
 
 -- ---- cones by their cells
+
+-- no cone goes
+pub cones_stay : (a : ℕ) (cone : BTreeSet ℕ) (old new : BTreeMap ℕ (BTreeSet ℕ)) → ((q : ℕ) → get nat_cmp new q ≡ cond (is_at (nat_cmp a) q) (Some cone) (get nat_cmp old q)) → (b : ℕ) → IsSome (get nat_cmp old b) → IsSome (get nat_cmp new b)
+cones_stay a cone old new u b h = subst (λ (o : Option (BTreeSet ℕ)). IsSome o) (sym (u b)) (at (is_at (nat_cmp a) b))
+  where
+    at : (t : Bool) → IsSome (cond t (Some cone) (get nat_cmp old b))
+    at true = refl
+    at false = h
+
+abbrev pub HaveCones : BTreeMap ℕ (BTreeSet ℕ) → List Replacement → Type 0
+HaveCones cs w = All (λ r. IsSome (get nat_cmp cs r.at)) w
+
+-- the replacements passed have cones, and one more
+pub have_more : (old new : BTreeMap ℕ (BTreeSet ℕ)) (w : List Replacement) (i : ℕ) (r : Replacement) → i < length w → r ≡ get_or w i r → HaveCones old (take i w) →
+    ((b : ℕ) → IsSome (get nat_cmp old b) → IsSome (get nat_cmp new b)) → IsSome (get nat_cmp new r.at) → HaveCones new (take (i + 1) w)
+have_more old new w i r l e h stay there =
+    All-more (λ (x : Replacement). IsSome (get nat_cmp new x.at)) w i r l (λ k d g. stay (get_or (take i w) k d).at (h k d g)) (subst (λ (x : Replacement). IsSome (get nat_cmp new x.at)) e there)
 
 -- a cone more
 pub cones_more : (s : Sheet) (cells : List ℕ) (a : ℕ) (cone : BTreeSet ℕ) (old new : BTreeMap ℕ (BTreeSet ℕ)) → AreCones s cells old → ((c : ℕ) → contains nat_cmp cone c ≡ (is_one_of cells c && reaches s c a)) →

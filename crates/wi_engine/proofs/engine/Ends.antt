@@ -1,5 +1,5 @@
 -- A question in progress: what is so all the way, and what it has spent where it ends.
-use Rattle.std.proofs.Common.{◌≡◌, ◌<◌, ◌≤◌, ◌+◌, ◌-◌, ◌^◌, ◌⊎◌, inl, inr, ℕ, true, false, List, [], ◌∷◌, ◌++◌, Contains, Result, is_ok, IsErr, refl, sym, ◌∙◌, subst, arith}
+use Rattle.std.proofs.Common.{◌≡◌, ◌<◌, ◌≤◌, ◌+◌, ◌-◌, ◌^◌, ◌⊎◌, inl, inr, ℕ, true, false, List, [], ◌∷◌, ◌++◌, Contains, Result, is_ok, IsErr, refl, sym, subst, arith}
 use Rattle.std.proofs.lemmas.Bool.{cases_lt, true≢false}
 use Rattle.wi_values.specs.declared.value.Value.{Value}
 use Rattle.wi_parser.specs.Sheet.{Sheet}
@@ -16,7 +16,7 @@ use Rattle.wi_engine.specs.Inner.Spends.{IsSameBeside, Spends}
 use Rattle.wi_engine.specs.Inner.Steps.{FrameCounts, FrameTakes, IsFrameValue}
 use Rattle.wi_engine.specs.declared.frame.Frame.{Frame}
 use Rattle.wi_engine.proofs.Places.{takes_then, gives_up_none, gives_up_then}
-use Rattle.wi_engine.proofs.Ledger.{spends_err}
+use Rattle.wi_engine.proofs.Ledger.{same_itself, same_then, spends_err}
 use Rattle.wi_engine.proofs.engine.Stacks.{run_keeps}
 use Rattle.wi_engine.proofs.engine.FrameRuns.{IsRunning, IsNew, GoesDeeper, ComesBack, run_start, run_deeper, run_back, run_take, run_stops, run_ends}
 use Rattle.wi_engine.proofs.engine.RunsWithRoom.{IsSaving, by_kept, saving_start, saving_deeper, saving_back, saving_take, saving_kept, saving_saved, saving_ends}
@@ -29,12 +29,6 @@ pub record IsGoing (s : Sheet) (old m : MemoState) (root : Case) (start now : Co
   pub places : TakesNoMore old m start.evaluations now.evaluations
   pub gives_up : GivesUpWhenFull old m
   pub saving : WhereRoom s (λ ks. Contains ks root) old (λ ks. IsSaving s old m root start now fs f ks)
-
-same_itself : (m : MemoState) → IsSameBeside m m
-same_itself m = record { covers = refl; generation = refl; capacity = refl; latest = refl }
-
-same_then : {old mid new : MemoState} → IsSameBeside old mid → IsSameBeside mid new → IsSameBeside old new
-same_then h k = record { covers = k.covers ∙ h.covers; generation = k.generation ∙ h.generation; capacity = k.capacity ∙ h.capacity; latest = k.latest ∙ h.latest }
 
 takes_one : (m n : MemoState) (now next : ℕ) → TakesPlaces m n 0 1 → next ≡ one_more now → TakesNoMore m n now next
 takes_one m n now next l e = at (cases_lt now (2 ^ 64 - 1))

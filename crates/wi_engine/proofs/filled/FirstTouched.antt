@@ -106,6 +106,14 @@ either P (Some x) (Some r) h k = at (nat_lt x.0 r.at) refl
 abbrev ahead_in : Area → ℕ → ℕ → Bool
 ahead_in r from = is_ahead r (Some from)
 
+pub ahead_means : (r : Area) (from a : ℕ) → is_ahead r (Some from) a ≡ true → (is_within r a ≡ true) × (from ≤ a)
+ahead_means r from a h = let both = and_parts (nat_le from a) _ h in (both.1, leb-true from a both.0)
+
+-- a cell ahead that comes before the first replacement there isn't replaced
+pub stands_ahead : (s : Sheet) (w : List Replacement) (r : Area) (from a : ℕ) → IsInOrder w → is_ahead r (Some from) a ≡ true → ComesBefore a (find (is_ahead r (Some from)) (keys_of (as_map w))) → content_of (put_all s w) a ≡ content_of s a
+stands_ahead s w r from a order t h =
+    content_in_order s w a order ∙ ap (λ (v : Option Value). over v (content_of s a)) (none_before (is_ahead r (Some from)) a (as_map w) (Ascends-from_order (as_map w) (sorted_from_order w order)) t h)
+
 -- the first occupied cell ahead, with what stands there, and the first replacement ahead
 pub record AreSought (s : Sheet) (w : List Replacement) (r : Area) (from : ℕ) (p : Option (ℕ × Content)) (q : Option Replacement) : Type 0 where
   pub sheet : Ascends s
@@ -138,11 +146,8 @@ module _ (s : Sheet) (w : List Replacement) (r : Area) (from : ℕ) (p : Option 
   replaced_ahead : IfSome q (λ x. LiesAhead x.at)
   replaced_ahead = of_mapped (λ (x : Replacement). x.at) LiesAhead q (subst (λ (o : Option ℕ). IfSome o LiesAhead) (sym sought.at) (found_passes (ahead_in r from) (keys_of (as_map w))))
 
-  -- a cell ahead that comes before the first replacement there isn't replaced
   kept : (a : ℕ) → LiesAhead a → ComesBefore a (replaced_cell q) → content_of (put_all s w) a ≡ content_of s a
-  kept a t h =
-      let none : replaced w a ≡ None = none_before (ahead_in r from) a (as_map w) (Ascends-from_order (as_map w) (sorted_from_order w sought.order)) t (subst (ComesBefore a) sought.at h) in
-      content_in_order s w a sought.order ∙ ap (λ (v : Option Value). over v (content_of s a)) none
+  kept a t h = stands_ahead s w r from a sought.order t (subst (ComesBefore a) sought.at h)
 
   is_seen : IfSome (earlier p q) (λ x. x.1 ≡ content_of (put_all s w) x.0)
   is_seen =
@@ -151,14 +156,11 @@ module _ (s : Sheet) (w : List Replacement) (r : Area) (from : ℕ) (p : Option 
       (together (λ x. LiesAhead x.at) (λ x. replaced w x.at ≡ Some x.value) (λ x. constant x.value ≡ content_of (put_all s w) x.at)
       (λ x t e. sym (content_in_order s w x.at sought.order ∙ ap (λ (v : Option Value). over v (content_of s x.at)) e)) q replaced_ahead sought.value)
 
-  is_inside : (a : ℕ) → LiesAhead a → (is_within r a ≡ true) × (from ≤ a)
-  is_inside a h = let both = and_parts (nat_le from a) _ h in (both.1, leb-true from a both.0)
-
   lies_inside : IfSome (earlier p q) (λ x. (is_within r x.0 ≡ true) × (from ≤ x.0))
   lies_inside =
       either (λ x. (is_within r x.0 ≡ true) × (from ≤ x.0)) p q
-      (together (λ x. LiesAhead x.0) (λ x. LiesAhead x.0) (λ x. ComesBefore x.0 (replaced_cell q) → (is_within r x.0 ≡ true) × (from ≤ x.0)) (λ x t e h. is_inside x.0 t) p occupied_ahead occupied_ahead)
-      (together (λ x. LiesAhead x.at) (λ x. LiesAhead x.at) (λ x. (is_within r x.at ≡ true) × (from ≤ x.at)) (λ x t e. is_inside x.at t) q replaced_ahead replaced_ahead)
+      (together (λ x. LiesAhead x.0) (λ x. LiesAhead x.0) (λ x. ComesBefore x.0 (replaced_cell q) → (is_within r x.0 ≡ true) × (from ≤ x.0)) (λ x t e h. ahead_means r from x.0 t) p occupied_ahead occupied_ahead)
+      (together (λ x. LiesAhead x.at) (λ x. LiesAhead x.at) (λ x. (is_within r x.at ≡ true) × (from ≤ x.at)) (λ x t e. ahead_means r from x.at t) q replaced_ahead replaced_ahead)
 
   nothing_before : (a : ℕ) → is_within r a ≡ true → from ≤ a → ComesBefore a (seen_cell (earlier p q)) → content_of (put_all s w) a ≡ None
   nothing_before a i l b =

@@ -1,10 +1,9 @@
 -- The occupied cells of a rectangle, handed over up to the first that is replaced.
 use Rattle.std.proofs.Common.{◌≡◌, ℕ, ◌<◌, ◌≤◌, ◌+◌, Bool, true, false, ◌&&◌, cond, List, [], ◌∷◌, filter, Option, Some, None, IfSome, IfNone, refl, sym, ap, ◌∙◌, subst, arith}
-use Rattle.std.specs.Prelude.{nat_le}
 use Rattle.std.specs.List.{find}
 use Rattle.std.specs.List.Sorted.{IsStrictlyIncreasing}
 use Rattle.std.specs.Map.{keys_of}
-use Rattle.std.proofs.lemmas.Bool.{and_parts, leb-true, le-leb, lt-leb, and_from}
+use Rattle.std.proofs.lemmas.Bool.{le-leb, lt-leb, and_from}
 use Rattle.std.proofs.lemmas.Map.Keys.{sorted_from_strictly_increasing}
 use Rattle.wi_values.specs.Address.{Area, is_within}
 use Rattle.wi_values.specs.declared.value.Value.{Value}
@@ -12,7 +11,6 @@ use Rattle.wi_values.specs.declared.value.Value.TheVariants.{Empty, Number, Text
 use Rattle.wi_values.specs.declared.replacement.Replacement.{Replacement}
 use Rattle.wi_values.specs.Replacements.{IsInOrder, as_map, replaced}
 use Rattle.wi_values.proofs.Order.{ComeAfter, Ascends, Ascends-from_order, at_itself, at_earlier}
-use Rattle.wi_values.proofs.Replacements.InOrder.{sorted_from_order}
 use Rattle.wi_parser.specs.declared.content.Content.{Content}
 use Rattle.wi_parser.specs.Sheet.{Sheet, constant, content_of, put_all}
 use Rattle.wi_store.specs.Store.{is_ahead}
@@ -26,14 +24,11 @@ use Rattle.wi_sheet.proofs.Overrides.{content_in_order}
 use Rattle.wi_engine.specs.Inner.Attempt.{cell_known, known_in}
 use Rattle.wi_engine.specs.Inner.Findings.{found_value}
 use Rattle.wi_engine.specs.declared.findings.Findings.{Findings}
-use Rattle.wi_engine.proofs.filled.FirstTouched.{found_passes, none_before}
+use Rattle.wi_engine.proofs.filled.FirstTouched.{ahead_means, found_passes, none_before, stands_ahead}
 
 -- the occupied cells ahead in a rectangle, with what stands there
 abbrev pub ahead_in : Area → ℕ → Sheet → Sheet
 ahead_in r from s = filter (λ e. is_ahead r (Some from) e.0) s
-
-ahead_means : (r : Area) (from a : ℕ) → is_ahead r (Some from) a ≡ true → (is_within r a ≡ true) × (from ≤ a)
-ahead_means r from a h = let both = and_parts (nat_le from a) _ h in (both.1, leb-true from a both.0)
 
 ahead_is : (r : Area) (from a : ℕ) → is_within r a ≡ true → from ≤ a → is_ahead r (Some from) a ≡ true
 ahead_is r from a w l = and_from _ _ (le-leb from a l) w
@@ -121,10 +116,7 @@ abbrev pub StandsBefore : Sheet → List Replacement → Area → ℕ → Option
 StandsBefore s w r from limit = (a : ℕ) → is_ahead r (Some from) a ≡ true → ComesBefore a limit → content_of (put_all s w) a ≡ content_of s a
 
 pub stands : (s : Sheet) (v w : List Replacement) (r : Area) (from : ℕ) (limit : Option ℕ) → IsInOrder w → v ≡ w → limit ≡ find (is_ahead r (Some from)) (keys_of (as_map v)) → StandsBefore s w r from limit
-stands s v w r from limit order same h a t b =
-    content_in_order s w a order
-    ∙ ap (λ (o : Option Value). over o (content_of s a)) (none_before (is_ahead r (Some from)) a (as_map w) (Ascends-from_order (as_map w) (sorted_from_order w order)) t
-    (subst (ComesBefore a) (h ∙ ap (λ (rs : List Replacement). find (is_ahead r (Some from)) (keys_of (as_map rs))) same) b))
+stands s v w r from limit order same h a t b = stands_ahead s w r from a order t (subst (ComesBefore a) (h ∙ ap (λ (rs : List Replacement). find (is_ahead r (Some from)) (keys_of (as_map rs))) same) b)
 
 module _ {S : Type 0} (after : S → ℕ → Value → S) (passes_empty : PassesEmpty after) (s : Sheet) (w : List Replacement) (f : Findings) (r : Area) (from : ℕ) (limit : Option ℕ) where
   -- those before `start` were handed over, and these are to come

@@ -1,5 +1,4 @@
-use Rattle.wi_engine.proofs.Passed.{cones_stay}
-use Rattle.wi_engine.proofs.cone.ConeSteps.{cones_more}
+use Rattle.wi_engine.proofs.cone.ConeSteps.{cones_more, cones_stay}
 use Rattle.wi_engine.proofs.cone.add_cone.Goals as goal
 
 pub returns-clause-cones : goal.returns-clause-cones

@@ -9,9 +9,8 @@ use Rattle.wi_sheet.proofs.Cases.{demands_itself, different_closed}
 use Rattle.wi_sheet.proofs.Steps.{shown_circular, shown_value}
 use Rattle.wi_propagate.specs.KeptSheet.{KeptSheet, IsAtHand, is_kept}
 use Rattle.wi_propagate.specs.Inner.Cones.{AreAllCones}
-use Rattle.wi_propagate.proofs.Questions.{begins, begun_right, may_be_read, right_then, asked_kept, at_hand_is}
+use Rattle.wi_propagate.proofs.Questions.{begins, begun_right, may_be_read, right_then, asked_kept, at_hand_is, owes_none, owes_spent}
 use Rattle.wi_propagate.specs.Inner.Owes.{Owes}
-use Rattle.wi_propagate.proofs.Debts.{owes_none, owes_spent}
 use Rattle.wi_propagate.proofs.kept.KeptCalculator.value_of.Goals as goal
 
 pub returns-then-is_circular-clause-value : goal.returns-then-is_circular-clause-value

@@ -9,9 +9,8 @@ use Rattle.wi_sheet.proofs.TableEntries.{table_closed, entry_has, entry_shown}
 use Rattle.wi_propagate.specs.KeptSheet.{KeptSheet, HasRoomFor, is_kept}
 use Rattle.wi_propagate.specs.Inner.Cones.{AreAllCones}
 use Rattle.wi_propagate.specs.Inner.Keeping.{state_in}
-use Rattle.wi_propagate.proofs.Questions.{begins, begun_right, may_be_read, right_then, asked_where, asked_settled, circular_entry, circular_clash, open_cells}
+use Rattle.wi_propagate.proofs.Questions.{begins, begun_right, may_be_read, right_then, asked_where, asked_settled, circular_entry, circular_clash, open_cells, owes_none, owes_spent}
 use Rattle.wi_propagate.specs.Inner.Owes.{Owes}
-use Rattle.wi_propagate.proofs.Debts.{owes_none, owes_spent}
 use Rattle.wi_propagate.proofs.kept.KeptCalculator.value_of_entry.Goals as goal
 
 pub returns-then-entry_is_circular-clause-value : goal.returns-then-entry_is_circular-clause-value
