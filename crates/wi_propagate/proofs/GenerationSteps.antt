@@ -1,54 +1,79 @@
 -- Generations are given and raised, one cell after another.
-use Rattle.std.proofs.Common.{◌≡◌, ◌==◌, ◌||◌, ◌⊎◌, inl, inr, ◌<◌, ◌+◌, ℕ, Bool, true, false, cond, List, [], ◌∷◌, length, take, get_or, Option, Some, IsSome, refl, ap, sym, ◌∙◌, subst, arith, eq-eqb}
-use Rattle.std.proofs.lemmas.Bool.{or_cases}
+use Rattle.std.proofs.Common.{◌≡◌, ◌==◌, ◌||◌, ◌⊎◌, inl, inr, ◌<◌, ◌+◌, ℕ, Bool, true, false, cond, List, length, take, get_or, Option, Some, None, IsSome, is_some, refl, ap, sym, ◌∙◌, subst, eq-eqb}
+use Rattle.std.proofs.lemmas.Bool.{eqb-true, or_cases}
+use Rattle.std.proofs.lemmas.Cmp.{eq_by_cmp_equiv, nat_cmp_total}
 use Rattle.std.proofs.lemmas.List.Folds.{list_any_at}
-use Rattle.std.proofs.lemmas.Bool.Decides.{nat_tests}
+use Rattle.std.proofs.lemmas.Map.{lookup-set_value}
 use Rattle.std.specs.Option.{unwrap_or}
-use Rattle.std.specs.Ordering.{nat_cmp}
-use Rattle.std.specs.Map.{lookup}
-use Rattle.std.specs.BTreeMap.{is_at}
-use Rattle.wi_values.proofs.Order.{is_at-eq}
+use Rattle.std.specs.Ordering.{nat_cmp, eq_by_cmp}
+use Rattle.std.specs.Map.{lookup, set_value}
+use Rattle.std.specs.BTreeMap.{is_at, insert_entry}
+use Rattle.wi_values.proofs.Lookups.{found-insert}
+use Rattle.wi_values.proofs.Order.{is_at-eq, is_itself, turn_test}
 use Rattle.wi_graph.specs.Reach.{is_one_of}
 use Rattle.wi_sheet.proofs.Filters.{one_more}
 use Rattle.wi_propagate.specs.KeptSheet.{Generations, generation_in}
 use Rattle.wi_propagate.specs.Inner.Keeping.{HasGeneration}
 
--- once w was put at a cell, where w is the generation that it had
-pub given : (old new : Generations) (a w : ℕ) → w ≡ generation_in old a → ((q : ℕ) → lookup (is_at (nat_cmp q)) new ≡ cond (is_at (nat_cmp a) q) (Some w) (lookup (is_at (nat_cmp q)) old)) → (c : ℕ) → generation_in new c ≡ generation_in old c
-given old new a w e u c = ap (λ (o : Option ℕ). unwrap_or o 0) (u c) ∙ at (is_at (nat_cmp a) c) refl
-  where
-    same : is_at (nat_cmp a) c ≡ true → a ≡ c
-    same t = grind (arith, nat_tests)
+-- a cell is given a generation, and no other cell
+abbrev IsGiven : Generations → Generations → ℕ → ℕ → Type 0
+IsGiven old new a w = (c : ℕ) → lookup (is_at (nat_cmp c)) new ≡ cond (a == c) (Some w) (lookup (is_at (nat_cmp c)) old)
 
-    at : (b : Bool) → is_at (nat_cmp a) c ≡ b → unwrap_or (cond b (Some w) (lookup (is_at (nat_cmp c)) old)) 0 ≡ generation_in old c
-    at true t = e ∙ ap (generation_in old) (same t)
-    at false t = refl
-
--- each cell that had a generation has one after w was put at a cell
-pub still_there : (old new : Generations) (a w : ℕ) → ((q : ℕ) → lookup (is_at (nat_cmp q)) new ≡ cond (is_at (nat_cmp a) q) (Some w) (lookup (is_at (nat_cmp q)) old)) → (c : ℕ) → HasGeneration old c → HasGeneration new c
-still_there old new a w u c h = subst (λ (o : Option ℕ). IsSome o) (sym (u c)) (at (is_at (nat_cmp a) c))
+-- each cell that had a generation has one then
+pub still_there : (old new : Generations) (a w : ℕ) → IsGiven old new a w → (c : ℕ) → HasGeneration old c → HasGeneration new c
+still_there old new a w u c h = subst (λ (o : Option ℕ). IsSome o) (sym (u c)) (at (a == c))
   where
     at : (b : Bool) → IsSome (cond b (Some w) (lookup (is_at (nat_cmp c)) old))
     at true = refl
     at false = h
 
-pub there_more : (old new : Generations) (xs : List ℕ) (i a : ℕ) → i < length xs → a ≡ get_or xs i a → HasGeneration new a → ((c : ℕ) → HasGeneration old c → HasGeneration new c) → ((c : ℕ) → is_one_of (take i xs) c ≡ true → HasGeneration old c) →
-    (c : ℕ) → is_one_of (take (i + 1) xs) c ≡ true → HasGeneration new c
-there_more old new xs i a l e h stay k c m = at (or_cases (is_one_of (take i xs) c) (a == c) (sym (one_more xs i a c l e) ∙ m))
-  where
-    same : (a == c) ≡ true → a ≡ c
-    same f = grind (arith, nat_tests)
+-- ---- room is made
 
+-- for the generation of a cell
+pub record MakesRoom (old new : Generations) (a : ℕ) : Type 0 where
+  pub same : (c : ℕ) → generation_in new c ≡ generation_in old c
+  pub stay : (c : ℕ) → HasGeneration old c → HasGeneration new c
+  pub there : HasGeneration new a
+
+-- by 0, where the cell had none
+room_given : (old new : Generations) (a : ℕ) → generation_in old a ≡ 0 → IsGiven old new a 0 → MakesRoom old new a
+room_given old new a none u = record {
+  same = λ c. ap (λ (o : Option ℕ). unwrap_or o 0) (u c) ∙ at c (a == c) refl;
+  stay = still_there old new a 0 u;
+  there = subst (λ (o : Option ℕ). IsSome o) (sym (u a ∙ ap (λ (b : Bool). cond b (Some 0) (lookup (is_at (nat_cmp a)) old)) (is_itself a))) refl;
+}
+  where
+    at : (c : ℕ) (b : Bool) → (a == c) ≡ b → unwrap_or (cond b (Some 0) (lookup (is_at (nat_cmp c)) old)) 0 ≡ generation_in old c
+    at c true t = sym none ∙ ap (generation_in old) (eqb-true a c t)
+    at c false t = refl
+
+pub room_made : (old new : Generations) (a : ℕ) → new ≡ cond (is_some (lookup (is_at (nat_cmp a)) old)) old (insert_entry nat_cmp old a 0) → MakesRoom old new a
+room_made old new a e = at (lookup (is_at (nat_cmp a)) old) refl e
+  where
+    at : (o : Option ℕ) → lookup (is_at (nat_cmp a)) old ≡ o → new ≡ cond (is_some o) old (insert_entry nat_cmp old a 0) → MakesRoom old new a
+    at (Some w) h k = subst (λ (x : Generations). MakesRoom old x a) (sym k) (record { same = λ c. refl; stay = λ c g. g; there = subst (λ (o : Option ℕ). IsSome o) (sym h) refl })
+    at None h k =
+        room_given old new a (ap (λ (o : Option ℕ). unwrap_or o 0) h)
+        (λ c. ap (lookup (is_at (nat_cmp c))) k ∙ found-insert old a 0 c ∙ ap (λ (b : Bool). cond b (Some 0) (lookup (is_at (nat_cmp c)) old)) (turn_test c a))
+
+pub there_more : (old new : Generations) (xs : List ℕ) (i a : ℕ) → i < length xs → a ≡ get_or xs i a → MakesRoom old new a → ((c : ℕ) → is_one_of (take i xs) c ≡ true → HasGeneration old c) → (c : ℕ) → is_one_of (take (i + 1) xs) c ≡ true → HasGeneration new c
+there_more old new xs i a l e made k c m = at (or_cases (is_one_of (take i xs) c) (a == c) (sym (one_more xs i a c l e) ∙ m))
+  where
     at : (is_one_of (take i xs) c ≡ true) ⊎ ((a == c) ≡ true) → HasGeneration new c
-    at (inl f) = stay c (k c f)
-    at (inr f) = subst (HasGeneration new) (same f) h
+    at (inl f) = made.stay c (k c f)
+    at (inr f) = subst (HasGeneration new) (eqb-true a c f) made.there
 
 -- ---- raised
 
-pub raised_more : (old new first : Generations) (xs : List ℕ) (i a edit : ℕ) → i < length xs → a ≡ get_or xs i a → ((q : ℕ) → lookup (is_at (nat_cmp q)) new ≡ cond (is_at (nat_cmp a) q) (Some edit) (lookup (is_at (nat_cmp q)) old)) →
-    ((c : ℕ) → generation_in old c ≡ cond (is_one_of (take i xs) c) edit (generation_in first c)) → (c : ℕ) → generation_in new c ≡ cond (is_one_of (take (i + 1) xs) c) edit (generation_in first c)
+pub replaced : (old new : Generations) (a w : ℕ) → HasGeneration old a → new ≡ set_value (is_at (nat_cmp a)) old w → IsGiven old new a w
+replaced old new a w h e c =
+    let same = eq_by_cmp_equiv nat_cmp_total in
+    ap (lookup (is_at (nat_cmp c))) e ∙ lookup-set_value {eq = eq_by_cmp nat_cmp} same (is_at (nat_cmp a)) (same.congr a) c w old h ∙ ap (λ (b : Bool). cond b (Some w) (lookup (is_at (nat_cmp c)) old)) (is_at-eq a c)
+
+pub raised_more : (old new first : Generations) (xs : List ℕ) (i a edit : ℕ) → i < length xs → a ≡ get_or xs i a → IsGiven old new a edit → ((c : ℕ) → generation_in old c ≡ cond (is_one_of (take i xs) c) edit (generation_in first c)) →
+    (c : ℕ) → generation_in new c ≡ cond (is_one_of (take (i + 1) xs) c) edit (generation_in first c)
 raised_more old new first xs i a edit l e u h c =
-    ap (λ (o : Option ℕ). unwrap_or o 0) (u c) ∙ ap (λ (b : Bool). unwrap_or (cond b (Some edit) (lookup (is_at (nat_cmp c)) old)) 0) (is_at-eq a c) ∙ at (is_one_of (take i xs) c) (a == c) (h c)
+    ap (λ (o : Option ℕ). unwrap_or o 0) (u c) ∙ at (is_one_of (take i xs) c) (a == c) (h c)
     ∙ ap (λ (b : Bool). cond b edit (generation_in first c)) (sym (one_more xs i a c l e))
   where
     at : (b d : Bool) → generation_in old c ≡ cond b edit (generation_in first c) → unwrap_or (cond d (Some edit) (lookup (is_at (nat_cmp c)) old)) 0 ≡ cond (b || d) edit (generation_in first c)

@@ -6,29 +6,17 @@ ghost use Rattle.wi_propagate.specs.KeptSheet.{generation_in};
 ghost use Rattle.wi_propagate.specs.Inner.Keeping.{HasGeneration};
 
 use std::alloc::AllocError;
-use std::collections::BTreeMap;
+use wi_tiles::CellMap;
 use wi_values::Address;
 
 /// The generations of cells that have one. Any other is 0.
-pub type Generations = BTreeMap<Address, u64>;
+pub type Generations = CellMap<u64>;
 
 /// The generation of a cell.
 pub fn generation_of(generations: &Generations, at: Address) -> u64
     ensures { result ≡ generation_in generations.now.entries at }
 {
-    generations.get(&at).copied().unwrap_or(0)
-}
-
-/// Makes room for the generation of a cell: one that has none gets 0.
-fn make_one(generations: &mut Generations, at: Address) -> Result<(), AllocError>
-    ensures same { (c : ℕ)
-        → generation_in generations.new.entries c ≡ generation_in generations.old.entries c }
-    ensures stay { (c : ℕ) → HasGeneration generations.old.entries c
-        → HasGeneration generations.new.entries c }
-    ensures there { OnOk result (HasGeneration generations.new.entries at) }
-{
-    generations.entry(at)?.or_insert(0);
-    Ok(())
+    generations.get(at).copied().unwrap_or(0)
 }
 
 /// Makes room for the generations of these cells: each that has none gets 0. If memory runs out, the rooms made so far stay.
@@ -39,7 +27,7 @@ pub fn make_room(generations: &mut Generations, cells: &[Address]) -> Result<(),
         → HasGeneration generations.new.entries c) }
 {
     for cell in cells {
-        make_one(generations, *cell)?;
+        generations.put_new(*cell, 0)?;
     }
     Ok(())
 }
@@ -51,8 +39,6 @@ pub fn raise(generations: &mut Generations, cells: &[Address], edit: u64)
         ≡ (if is_one_of cells.now c then edit else generation_in generations.old.entries c) }
 {
     for cell in cells {
-        if let Some(generation) = generations.get_mut(cell) {
-            *generation = edit;
-        }
+        generations.replace(*cell, edit);
     }
 }

@@ -29,7 +29,6 @@ use crate::last_worlds::LastWorlds;
 use crate::standing::standing_value;
 use crate::table_entry::open_entry;
 use std::alloc::{AllocError, Global};
-use std::collections::BTreeMap;
 use std::marker::Model;
 use std::mem;
 use wi_cache::Kept;
@@ -105,7 +104,7 @@ impl KeptCalculator {
         Ok(KeptCalculator {
             store: Store::new(alloc, limits),
             graph: Graph::new(alloc),
-            generations: BTreeMap::new(alloc),
+            generations: Generations::new(alloc),
             cones: Reaches::new(alloc),
             worlds: LastWorlds::new(alloc),
             widest: 0,

@@ -1,11 +1,13 @@
 use Rattle.std.proofs.Common.{◌∙◌}
-use Rattle.wi_propagate.proofs.GenerationSteps.{there_more}
+use Rattle.wi_propagate.proofs.GenerationSteps.{room_made, there_more}
 use Rattle.wi_propagate.proofs.generations.make_room.Goals as goal
 
 pub loop-cell-preserved : goal.loop-cell-preserved
 loop-cell-preserved c =
+    let old = c.loop-cell.generations.entries in
+    let new = c.put_new.new.self.entries in
+    let made = room_made old new c.cell-item.result c.in_ok-put_new.ensures.entries in
     record {
-      same = λ q. c.make_one.ensures.same q ∙ c.loop-cell.invariant.same q;
-      there = there_more c.loop-cell.generations.entries c.make_one.new.generations.entries c.args.cells.now c.loop-cell.cell-index c.cell-item.result
-          c.loop-cell-test.true c.cell-item.is c.in_ok-make_one.ensures.there c.make_one.ensures.stay c.loop-cell.invariant.there;
+      same = λ q. made.same q ∙ c.loop-cell.invariant.same q;
+      there = there_more old new c.args.cells.now c.loop-cell.cell-index c.cell-item.result c.loop-cell-test.true c.cell-item.is made c.loop-cell.invariant.there;
     }
