@@ -15,8 +15,8 @@ use wi_cache::Key;
 use wi_values::{Address, Value};
 use wi_worlds::World;
 
-/// What is remembered of the values of a sheet's cells under replacements. A value stands under a key: its cell, how
-/// often that may have changed, and the replacements that reach it.
+/// What is remembered of the values of a sheet's cells under replacements. A value stands under a key: its cell, the
+/// cell's generation, and the replacements that reach it.
 pub trait Memo {
     /// The sheet, the cells for which keys are made, and what is remembered of them.
     ghost state: { Self → MemoState };
@@ -38,8 +38,9 @@ pub trait Memo {
         ensures unkept { result ≡ None
             → (state self.now).kept key.now.cell key.now.world ≡ false };
 
-    /// Remembers a value for a key. It is found from then on; whether it is also kept for longer, in the place of others if
-    /// there is no room, is told by the capacity.
+    /// Remembers a value for a key, which is found from then on. Where the capacity allows any, it is also kept for longer, and
+    /// another that was kept may be evicted for it; of those found none is forgotten. If memory runs out, the value may be
+    /// remembered or not.
     fn keep(&mut self, key: Key, value: Value) -> Result<(), AllocError>
         requires generation { key.generation ≡ (state self.old).generation key.cell }
         requires open_cell { circular (state self.old).sheet key.cell ≡ false }

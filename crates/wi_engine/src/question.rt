@@ -53,7 +53,8 @@ impl<M: Memo + Drop> Question<M> {
         ensures uncounted { NeedsNoEvaluation store.now.sheet (M.state self.old.memo) world.now at
             → self.new.meter ≡ self.old.meter }
 
-        // What is kept for longer, and where there is room for all that is found.
+        // The value is kept where anything is. Where there is room for some closed list of cases that has this one, the
+        // cell is settled: which list that is makes no difference, so it is left out.
         ensures kept { OnOk result (
             IsValuedAnew store.now.sheet (M.state self.old.memo) world.now at
             → 1 ≤ (M.state self.old.memo).capacity
@@ -68,8 +69,8 @@ impl<M: Memo + Drop> Question<M> {
         }
     }
 
-    /// The value of a formula under the replacements of its key, found by a stack of frames. No value is remembered in
-    /// the place of another, and none twice.
+    /// The value of a formula under the replacements of its key, found by a stack of frames. The value of each frame goes to
+    /// the one below, which may wait for it, and then to the memory, by `Memo::keep`.
     fn run(&mut self, store: &Store, key: Key, formula: &Formula) -> Result<Value, AllocError>
         requires memo { IsMemoOf store.now.sheet (M.state self.old.memo) }
         requires key { IsUnvaluedKey store.now.sheet (M.state self.old.memo) key }

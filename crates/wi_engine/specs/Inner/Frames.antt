@@ -27,7 +27,8 @@ use Rattle.wi_engine.specs.declared.frame.Waiting.TheVariants.{Nothing, Cells, W
 abbrev pub case_at : Key → Case
 case_at k = (k.cell, k.world)
 
--- a cell that may be valued: it is not circular, and keys are made for it if it has a formula
+-- A cell that may be valued: it is not circular, and the memory makes keys for it if it has a formula. (One that serves a single
+-- question may make them for the cells alone that the question reaches.)
 pub record MayBeRead (s : Sheet) (m : MemoState) (a : ℕ) : Type 0 where
   pub open_cell : circular s a ≡ false
   pub covered : has_formula (content_of s a) ≡ true → m.covers a ≡ true
@@ -102,7 +103,7 @@ pub record IsNextFormula (s : Sheet) (m : MemoState) (below : Key) (u : Unvalued
 
 -- ---- restarts
 
--- one where something is waited for
+-- one where a value is waited for: it asks for no restart any more
 abbrev pub waits : Waiting → ℕ
 waits Nothing = 0
 waits (Cells a others) = 1
@@ -112,7 +113,7 @@ waits (WhatIf a pairs) = 1
 abbrev pub lacks : Sheet → Key → Findings → ℕ
 lacks s k f = of_formula (content_of (put_all s k.world) k.cell) 0 (λ t. lacking s t f)
 
--- how often a frame's formula may still have to be evaluated again
+-- how many restarts a frame's formula may still ask for: one for each value that it lacks, none for one that is waited for
 abbrev pub spare : Sheet → Frame → ℕ
 spare s f = lacks s f.key f.found - waits f.waiting
 

@@ -9,7 +9,7 @@ use Rattle.wi_engine.specs.Inner.Saving.{TakesPlaces, GivesUpWhenFull}
 use Rattle.wi_engine.specs.Inner.Spends.{IsSameBeside}
 
 -- A value is remembered for a key, or memory ran out: what is remembered then was before, or is that value; it takes one place at
--- most, and nothing is given up while there is room.
+-- most, and nothing is evicted while there is room.
 pub record Keeps (old new : MemoState) (k : Key) (v : Value) : Type 0 where
   pub sheet : new.sheet ≡ old.sheet
   pub same : IsSameBeside old new
@@ -18,7 +18,8 @@ pub record Keeps (old new : MemoState) (k : Key) (v : Value) : Type 0 where
   pub places : TakesPlaces old new 0 1
   pub gives_up : GivesUpWhenFull old new
 
--- It is: found from then on, kept for longer where anything is, beside what was kept where there was room, and it takes one place.
+-- It is remembered: it is found, and kept for longer where the memory has any place. Where one was free, all that was kept still
+-- is, and the value takes one place unless it was kept already.
 pub record HasKept (old new : MemoState) (k : Key) : Type 0 where
   pub found : (c : ℕ) (w : List Replacement) → new.found c w ≡ (old.found c w || same_case (k.cell, k.world) (c, w))
   pub there : 1 ≤ old.capacity → new.kept k.cell k.world ≡ true

@@ -1,4 +1,4 @@
--- What is remembered of the values of a sheet's cells.
+-- What a memory remembers of the values of a sheet's cells. It is made for one question, and ends with it.
 use Rattle.std.specs.Prelude.{◌≡◌, ◌||◌, ℕ, Bool, true, List, Option, is_some, IfSome}
 use Rattle.wi_values.specs.declared.value.Value.{Value}
 use Rattle.wi_values.specs.declared.replacement.Replacement.{Replacement}
@@ -10,23 +10,24 @@ use Rattle.wi_sheet.specs.CellValue.{cell_value}
 pub record MemoState : Type 0 where
   -- the sheet whose values are remembered
   pub sheet : Sheet
-  -- the cells for which keys are made
+  -- the cells for which keys are made: all of them, or those that the question reaches
   pub covers : ℕ → Bool
-  -- how often a cell's value may have changed
+  -- A part of a cell's key: values under its other generations are stale. Edits raise it; no question does (`IsSameBeside`).
   pub generation : ℕ → ℕ
-  -- the value that is remembered of a cell under replacements; it may be forgotten
+  -- the value that is remembered of a cell under replacements; unless it is found, it may be forgotten
   pub known : ℕ → List Replacement → Option Value
-  -- whether a value was found since this was made; that is never forgotten
+  -- whether it is found: it is remembered as long as the memory lives (`stays` of `Memo::keep`). Some may be from the start.
   pub found : ℕ → List Replacement → Bool
-  -- whether a value is kept for longer; it may be given up where there is no room
+  -- whether it is kept for longer than the memory lives; it may be evicted where there is no room
   pub kept : ℕ → List Replacement → Bool
-  -- whether a value is kept for longer under a key, of whatever generation
+  -- whether an entry stands under a key, also under a stale one, which takes up a place and is never looked up
   pub stands : Key → Bool
-  -- for how many values more there is room
+  -- how many places for values that are kept are free
   pub room : ℕ
-  -- and for how many in all
+  -- and how many there are in all
   pub capacity : ℕ
-  -- no generation is past this
+  -- The number of the last edit. That no generation is past it says who makes the memory (`past` of `IsKeepingRight`, in
+  -- `wi_propagate`); here it is only left as it is.
   pub latest : ℕ
 
 -- each value that is remembered is the cell's

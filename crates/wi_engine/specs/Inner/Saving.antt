@@ -18,25 +18,26 @@ abbrev pub KeepsFound : MemoState → Type 0
 KeepsFound m = (c : ℕ) (w : List Replacement) → m.found c w ≡ true → m.kept c w ≡ true
 
 -- This holds of each closed list of cases that has what it is to have, where all that was found is kept and there is room
--- for those of the list that are not.
+-- for those of the list that are not. Where `P` leaves its list out, one such list is enough: it only says that there is room.
 abbrev pub WhereRoom : Sheet → (List Case → Type 0) → MemoState → (List Case → Type 0) → Type 0
 WhereRoom s Has m P = (ks : List Case) → IsClosed s ks → Has ks → KeepsFound m → not_kept m ks ≤ m.room → P ks
 
--- those of these keys under which no value stands
+-- those of these keys under which no entry stands
 abbrev pub vacant : MemoState → List Key → List Key
 vacant m ks = filter (λ k. not (m.stands k)) ks
 
--- Each value that was counted took one place at most: one that was free, or that of a value that was given up, of whatever
--- generation. So of keys that all differ no more lost their values, beside the places taken, than were counted.
+-- Each value that was counted took one place at most: a free one, or that of an evicted entry, stale ones included. So where e
+-- values were counted and f free places filled, at most e - f entries were evicted. It is said of any keys without repetition,
+-- by how many of them are vacant before and after: `vacant` counts keys, and `room` places of the memory.
 abbrev pub TakesPlaces : MemoState → MemoState → ℕ → ℕ → Type 0
 TakesPlaces old new before after = (ks : List Key) → IsDistinct same_key ks → length (vacant new ks) + (old.room + before) ≤ length (vacant old ks) + (new.room + after)
 
--- so short of the greatest count
+-- this, unless the count has come to its greatest value, from which it no longer rises
 abbrev pub TakesNoMore : MemoState → MemoState → ℕ → ℕ → Type 0
 TakesNoMore old new before after = TakesPlaces old new before after ⊎ (2 ^ 64 - 1 ≤ after)
 
--- Nothing was given up while there was room: no more room is left than before, and where some is left, all that was kept is kept,
--- of whatever generation.
+-- Nothing was evicted while there was room: no more room is left than before, and where some is left, each entry still stands,
+-- stale ones too.
 pub record GivesUpWhenFull (old new : MemoState) : Type 0 where
   pub room : new.room ≤ old.room
   pub stays : 1 ≤ new.room → (k : Key) → old.stands k ≡ true → new.stands k ≡ true
@@ -45,7 +46,7 @@ pub record GivesUpWhenFull (old new : MemoState) : Type 0 where
 abbrev pub NeedsNoEvaluation : Sheet → MemoState → List Replacement → ℕ → Type 0
 NeedsNoEvaluation s m w a = (has_formula (content_of (put_all s w) a) ≡ false) ⊎ (is_some (m.known a (reaching s a w)) ≡ true)
 
--- a cell has a formula under the replacements, and no value was found for it since this was made
+-- a cell has a formula under the replacements, and the memory has found no value of it yet
 pub record IsValuedAnew (s : Sheet) (m : MemoState) (w : List Replacement) (a : ℕ) : Type 0 where
   pub formula : has_formula (content_of (put_all s w) a) ≡ true
   pub unfound : m.found a (reaching s a w) ≡ false

@@ -1,4 +1,5 @@
--- What a question spends, and what it leaves: one ledger over what was found, and one over what is kept.
+-- What a question spends, and what it leaves. The counts are held against two tables: the values that were found, always, and
+-- those that are kept, where there is room.
 use Rattle.std.specs.Prelude.{◌≡◌, ◌+◌, ◌≤◌, ℕ, Bool, true, false, List}
 use Rattle.wi_values.specs.declared.replacement.Replacement.{Replacement}
 use Rattle.wi_parser.specs.Sheet.{Sheet}
@@ -10,8 +11,10 @@ use Rattle.wi_sheet.specs.Inner.Spending.{IsClosed, NeverFall, SpentOn}
 use Rattle.wi_engine.specs.Inner.MemoState.{MemoState, IsMemoOf}
 use Rattle.wi_engine.specs.Inner.Saving.{not_kept, KeepsFound, WhereRoom, TakesNoMore, GivesUpWhenFull}
 
--- As many values came to be kept as were evaluated. There is still room for the other cases, nothing was given up, of
--- whatever generation, and each that came rests on kept ones.
+-- At least as many free places were filled as values were evaluated. There is still room for the cases that are not kept, and no
+-- entry was evicted, stale ones included. The formula of each case that came to be kept means the same, whatever values stand for
+-- what isn't settled: that is `RestsOnKept`. (`RestsOn`, by which a list is closed, is another relation: one case's formula asks
+-- for the other.)
 pub record Saved (s : Sheet) (old new : MemoState) (before after : Counts) (ks : List Case) : Type 0 where
   pub added : after.evaluations + new.room ≤ before.evaluations + old.room
   pub room : not_kept new ks ≤ new.room
@@ -27,8 +30,9 @@ pub record IsSameBeside (old new : MemoState) : Type 0 where
   pub capacity : new.capacity ≡ old.capacity
   pub latest : new.latest ≡ old.latest
 
--- What is so after a question, or a part of one, also where memory ran out, and where it was done: of each closed list of
--- cases that has what it is to have.
+-- What is so after a question, or a part of one: where it was done, and also where memory ran out. `Has` says which cases a list
+-- is to have, those that were asked for; each closed list that has them bounds the counts. Where memory ran out, these clauses
+-- leave open which of the values found on the way are still found; `stays` of `Memo::keep` says that a memory forgets none.
 pub record Spends (s : Sheet) (Has : List Case → Type 0) (old new : MemoState) (before after : Counts) (done : Bool) : Type 0 where
   pub right : IsMemoOf s new
   pub same : IsSameBeside old new
