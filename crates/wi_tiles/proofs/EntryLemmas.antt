@@ -5,7 +5,8 @@ use Rattle.std.specs.declared.cmp.Ordering.TheVariants.{Less, Equal, Greater}
 use Rattle.std.specs.Ordering.{nat_cmp, is_eq, match_ordering}
 use Rattle.std.specs.Cmp.{nat_cmp_is}
 use Rattle.std.specs.BTreeMap.{is_at, insert_entry}
-use Rattle.std.specs.List.{AllByRecursion}
+use Rattle.std.specs.List.{All, AllByRecursion}
+use Rattle.std.proofs.lemmas.List.Elements.{All-nil, All-cons}
 use Rattle.std.specs.List.Sorted.{IsStrictlySortedBy}
 use Rattle.std.specs.Map.{keys_of, lookup, remove_entry, set_value}
 use borrow.Author.Tests.{eq-eqb, ne_eqb}
@@ -229,3 +230,12 @@ module _ {V : Type 0} where
       at : (o : Option V) → (IsStrictlySortedBy nat_cmp (keys_of (entries_from f (suc s) n))) → IsStrictlySortedBy nat_cmp (keys_of (with_entry s o (entries_from f (suc s) n)))
       at None rest = rest
       at (Some v) rest = rise_cons s (keys_of (entries_from f (suc s) n)) (all_after f s (suc s) n (omega arith)) rest
+
+  -- they are entries of these cells alone
+  pub entries_below : (f : ℕ → Option V) (s n k : ℕ) → s + n ≤ k → All (λ e. e.0 < k) (entries_from f s n)
+  entries_below f s zero k h = All-nil (λ e. e.0 < k)
+  entries_below f s (suc n) k h = at (f s) (entries_below f (suc s) n k (omega arith))
+    where
+      at : (o : Option V) → All (λ e. e.0 < k) (entries_from f (suc s) n) → All (λ e. e.0 < k) (with_entry s o (entries_from f (suc s) n))
+      at None rest = rest
+      at (Some v) rest = All-cons (λ e. e.0 < k) (s, v) (entries_from f (suc s) n) (omega arith) rest

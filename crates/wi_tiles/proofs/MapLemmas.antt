@@ -2,7 +2,7 @@
 use Rattle.std.proofs.Common.{◌≡◌, ℕ, ◌+◌, ◌<◌, ◌≤◌, [], length, Option, Some, None, sym, ap, arith, ◌∙◌, ⊎_elim, cond, refl, true}
 use Rattle.std.specs.Prelude.{◌==◌, if◌then◌else◌, option_map, nat_le, filter, IfSome, IfNone}
 use Rattle.std.specs.Ordering.{nat_cmp}
-use Rattle.std.specs.List.{find}
+use Rattle.std.specs.List.{find, All}
 use Rattle.std.specs.Map.{keys_of, remove_entry, set_value}
 use Rattle.std.specs.BTreeMap.{is_at, insert_entry}
 use Rattle.wi_tiles.specs.Entries.{get, IsOrdered}
@@ -16,7 +16,7 @@ use Rattle.wi_tiles.specs.Inner.Next.{IsNext}
 use Rattle.wi_tiles.specs.Inner.Parts.{at_window}
 use Rattle.wi_tiles.specs.Inner.Sorted.{at_sorted}
 use Rattle.wi_tiles.proofs.CellLemmas.{one_cell}
-use Rattle.wi_tiles.proofs.EntryLemmas.{entries_same, entries_none, lookup_entries, entries_put, length_put, entries_cut, length_cut, entries_set, length_set, length_entries, entries_rise}
+use Rattle.wi_tiles.proofs.EntryLemmas.{entries_same, entries_none, lookup_entries, entries_put, length_put, entries_cut, length_cut, entries_set, length_set, length_entries, entries_rise, entries_below}
 use Rattle.wi_tiles.proofs.NextLemmas.{sought_none, sought_some}
 
 -- what the pages have at a path
@@ -44,6 +44,9 @@ same_is old new same = entries_same (λ c. at_cell old c) (λ c. at_cell new c) 
 
 pub rises : {V : Type 0} (w : Pages V) → IsOrdered nat_cmp (map_of (entries_of w))
 rises w = entries_rise (λ c. at_cell w c) 0 cells
+
+pub within_sheet : {V : Type 0} (w : Pages V) → All (λ e. e.0 < 17179869184) (entries_of w)
+within_sheet w = entries_below (λ c. at_cell w c) 0 cells 17179869184 (omega (arith, cells_is))
 
 pub length_within : {V : Type 0} (w : Pages V) → length (entries_of w) ≤ 17179869184
 length_within w = omega (arith, length_entries (λ c. at_cell w c) 0 cells, cells_is)

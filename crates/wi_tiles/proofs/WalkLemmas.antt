@@ -14,7 +14,7 @@ use Rattle.wi_tiles.specs.Inner.Parts.{at_part, part_from}
 use Rattle.wi_tiles.specs.Inner.Sorted.{find as find_part}
 use Rattle.wi_tiles.specs.Inner.Within.{bit_of, cell_in, in_band_tile, tile_at, is_from, in_tile, is_left, is_pending, IsWalk, IsNextLeft, HasNoneLeft, is_narrow, end_in, ahead_narrow, ahead_wide, ahead_in}
 use Rattle.wi_tiles.proofs.MapLemmas.{below, above}
-use Rattle.wi_tiles.proofs.NextLemmas.{row_cell, sides}
+use Rattle.wi_tiles.proofs.NextLemmas.{row_cell, sides, is_inside}
 
 -- the entries of cells that pass
 abbrev pub passing : {V : Type 0} → (ℕ → Bool) → List (ℕ × V) → List (ℕ × V)
@@ -47,6 +47,15 @@ module _ {V : Type 0} (f : ℕ → Option V) (p q : ℕ → Bool) where
       at : (o : Option V) → f s ≡ o → passing p (entries_from f (suc s) n) ≡ [] → passing p (with_entry s o (entries_from f (suc s) n)) ≡ []
       at None e rest = rest
       at (Some v) e rest = ap (λ t. cond t ((s, v) ∷ passing p (entries_from f (suc s) n)) (passing p (entries_from f (suc s) n))) (not_so p s v (p s) refl e (none s (omega arith) (omega arith))) ∙ rest
+
+  -- a test that each passes
+  pub passing_all : (s n : ℕ) → ((b : ℕ) → s ≤ b → b < s + n → p b ≡ true) → passing p (entries_from f s n) ≡ entries_from f s n
+  passing_all s zero all = refl
+  passing_all s (suc n) all = at (f s) (passing_all (suc s) n (λ b l u. all b (omega arith) (omega arith)))
+    where
+      at : (o : Option V) → passing p (entries_from f (suc s) n) ≡ entries_from f (suc s) n → passing p (with_entry s o (entries_from f (suc s) n)) ≡ with_entry s o (entries_from f (suc s) n)
+      at None rest = rest
+      at (Some v) rest = ap (λ t. cond t ((s, v) ∷ passing p (entries_from f (suc s) n)) (passing p (entries_from f (suc s) n))) (all s (omega arith) (omega arith)) ∙ ap (λ es. (s, v) ∷ es) rest
 
   -- the first that passes, and those after it
   pub passing_first : (s n a : ℕ) (v : V) → s ≤ a → a < s + n → f a ≡ Some v → p a ≡ true → q a ≡ false → ((b : ℕ) → b < a → p b ≡ true → f b ≡ None) → ((b : ℕ) → b < a → q b ≡ true → f b ≡ None) → ((b : ℕ) → a < b → b < s + n → IsSome (f b) → q b ≡ p b) → passing p (entries_from f s n) ≡ (a, v) ∷ passing q (entries_from f s n)
@@ -428,3 +437,9 @@ pub begins : {V : Type 0} (w : Pages V) (r : Area) (from : ℕ) → passing (is_
 begins w r from = passing_same (λ c. at_cell w c) (λ c. is_ahead r from c) (is_pending r (Some from) from 0 0) 0 cells (λ c l u some. same_test (is_ahead r from c) (is_pending r (Some from) from 0 0 c)
     (λ q. let p = and_parts (nat_le from c) _ q in pending_from r (Some from) from 0 0 c (inr p.0) p.1)
     (λ q. let p = pending_parts r (Some from) from 0 0 c q in ⊎_elim (λ m. absurd (none_left from 0 0 (omega arith) c m)) (λ f. and_from _ _ f p.1) p.0))
+
+-- through all cells
+pub all_pass : {V : Type 0} (w : Pages V) (r : Area) (from : ℕ) → from ≡ 0 → r.first ≡ 0 → r.last ≡ 17179869183 → passing (λ c. is_ahead r from c) (entries_of w) ≡ entries_of w
+all_pass w r from e f l = passing_all (λ c. at_cell w c) (λ c. is_ahead r from c) (λ c. is_ahead r from c) 0 cells (λ c low u.
+    let h : c < 17179869184 = above c (omega (arith, u)) in
+    is_inside r from c (omega (arith, e)) (omega (arith, f)) (omega (arith, l, h)) (omega (arith, f)) (omega (arith, l, h)))

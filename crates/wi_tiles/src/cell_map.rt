@@ -1,20 +1,20 @@
 //! A map by cell address.
 
-ghost use Rattle.std.specs.Prelude.{◌≡◌, ◌↔◌, ◌&&◌, ℕ, [], nat_le, filter, length, is_some, not, IsTrue, IfOk, OnOk, OnErr, option_copied, if◌then◌else◌};
+ghost use Rattle.std.specs.Prelude.{◌≡◌, ◌↔◌, ◌&&◌, ◌<◌, ◌*◌, ℕ, [], Some, nat_le, filter, length, is_some, not, IsTrue, IfSome, IfOk, OnOk, OnErr, option_copied, option_map, if◌then◌else◌};
 ghost use Rattle.std.specs.Ordering.{nat_cmp};
-ghost use Rattle.std.specs.List.{find};
+ghost use Rattle.std.specs.List.{find, All};
 ghost use Rattle.std.specs.Map.{keys_of, remove_entry, set_value};
 ghost use Rattle.std.specs.BTreeMap.{is_at, insert_entry};
 ghost use Rattle.wi_tiles.specs.Entries.{get, IsOrdered};
-ghost use Rattle.wi_values.specs.Address.{is_within};
+ghost use Rattle.wi_values.specs.Address.{rows, columns, is_within};
 
 use crate::pages::{Pages, next_cell, path_of};
 use crate::places::Places;
 use crate::window::Window;
-use crate::within::Within;
+use crate::within::{Within, found_from};
 use std::alloc::{AllocError, Global};
 use std::marker::Model;
-use wi_values::{Address, Rect};
+use wi_values::{Address, COLUMNS, ROWS, Rect};
 
 /// A map by cell address, in row-major order. It is seen as the kit's `BTreeMap` is.
 #[derive(Drop)]
@@ -52,6 +52,7 @@ impl<V: Drop> CellMap<V> {
     pub fn len(&self) -> usize
         ensures len { result ≡ length self.now.entries }
         ensures ordered { IsOrdered nat_cmp self.now }
+        ensures sheet { All (λ e. e.0 < rows * columns) self.now.entries }
     {
         self.occupied as usize
     }
@@ -134,4 +135,31 @@ impl<V: Drop> CellMap<V> {
     {
         Within::new(&self.pages, area, from)
     }
+
+    /// The cell that `next_in` gives, with what it has. The work is that of `next_in`.
+    pub fn first_in(&self, area: Rect, from: Address) -> Option<(Address, &V)>
+        ensures cell { option_map (λ x. x.0) result ≡ find (λ a. nat_le from a) (filter (is_within area) (keys_of self.now.entries)) }
+        ensures value { IfSome result (λ x. get nat_cmp self.now x.0 ≡ Some x.1.now) }
+    {
+        match found_from(&self.pages, area, from) {
+            Some(found) => Some((found.0, found.2)),
+            None => None,
+        }
+    }
+
+    /// What all cells have, with the cells, in row-major order. Takes no memory. The work is that of its steps.
+    pub fn iter(&self) -> Within<'_, V>
+        ensures entries { result ≡ self.now.entries }
+        ensures sheet { All (λ e. e.0 < rows * columns) self.now.entries }
+    {
+        Within::new(&self.pages, sheet(), Address::at(0, 0))
+    }
+}
+
+/// All cells.
+fn sheet() -> Rect
+    ensures first { result.first ≡ 0 }
+    ensures last { result.last ≡ 17179869183 }
+{
+    Rect::new(Address::at(0, 0), Address::at(ROWS - 1, COLUMNS - 1))
 }

@@ -144,7 +144,7 @@ fn left_in<'a, V>(
 }
 
 /// The first cell of a rectangle, at a cell or after it, that has something, with its tile and with what it has.
-fn found_from<'a, V>(
+pub fn found_from<'a, V>(
     pages: &'a Pages<V>,
     area: Rect,
     from: Address,
