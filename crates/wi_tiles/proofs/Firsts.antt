@@ -1,9 +1,9 @@
 -- The first bit of a word from one on.
-use Rattle.std.proofs.Common.{◌≡◌, ℕ, ◌+◌, ◌-◌, ◌/◌, ◌%◌, ◌^◌, ◌<◌, ◌≤◌, List, [], ◌∷◌, length, None, sym, ap, arith, ◌∙◌, get_or, zero, suc, subst, refl}
-use Rattle.std.specs.Prelude.{slice_get, count_ones, IsSome}
+use Rattle.std.proofs.Common.{◌≡◌, ℕ, Some, ◌+◌, ◌-◌, ◌/◌, ◌%◌, ◌^◌, ◌<◌, ◌≤◌, List, [], ◌∷◌, length, None, sym, ap, arith, ◌∙◌, get_or, zero, suc, subst, refl}
+use Rattle.std.specs.Prelude.{slice_get, count_ones, IsSome, bit_and}
 use Rattle.std.specs.Int.{bit_at, w64, trailing_zeros}
-use Rattle.std.proofs.lemmas.Nat.{shr-shr, shr_le}
-use Rattle.std.proofs.lemmas.Nat.Bits.{bit_at-zero, bit_at-trailing_zeros}
+use Rattle.std.proofs.lemmas.Nat.{shr-shr, shr_le, and_le_l}
+use Rattle.std.proofs.lemmas.Nat.Bits.{bit_at-zero, bit_at-lt, bit_at-trailing_zeros, bit_at_and}
 use mathlib.Core.Logic.{◌≢◌}
 use Rattle.wi_tiles.specs.Inner.Tile.{rank, slots}
 use Rattle.wi_tiles.proofs.Tiles.{at_zero, at_one, get-slots, remove_within}
@@ -50,3 +50,40 @@ first_in_part {V} n vs f e w below full ne inside = (omega arith, inside, found,
 
     found : IsSome (get_or (slots n vs) (lowest n f) None)
     found = subst (λ q. IsSome q) (sym (get-slots n vs (lowest n f) room None ∙ at_one n vs (lowest n f) set)) (is_some_within vs (rank n (lowest n f)) (remove_within n (lowest n f) vs set room below full))
+
+-- among the bits of a mask
+masked_none : (n m i : ℕ) → bit_at (bit_and n m) i ≡ 0 → bit_at m i ≡ 1 → bit_at n i ≡ 0
+masked_none n m i z one = omega (arith, sym (bit_at_and n m i) ∙ z, one, bit_at-lt n i)
+
+masked_one : (n m i : ℕ) → bit_at (bit_and n m) i ≡ 1 → (bit_at n i ≡ 1) × (bit_at m i ≡ 1)
+masked_one n m i e = (omega (arith, sym (bit_at_and n m i) ∙ e, bit_at-lt n i, bit_at-lt m i), omega (arith, sym (bit_at_and n m i) ∙ e, bit_at-lt n i, bit_at-lt m i))
+
+masked_clear : {V : Type 0} (n m : ℕ) (vs : List V) (f i : ℕ) → f ≤ i → i < 64 → bit_at (bit_and n m / 2 ^ f) (i - f) ≡ 0 → bit_at m i ≡ 1 → get_or (slots n vs) i None ≡ None
+masked_clear n m vs f i l h clear one =
+    let place : f + (i - f) ≡ i = omega arith in
+    get-slots n vs i h None ∙ at_zero n vs i (masked_none n m i (ap (λ j. bit_at (bit_and n m) j) (sym place) ∙ sym (bit_of_part (bit_and n m) f (i - f)) ∙ clear) one)
+
+pub none_masked : {V : Type 0} (n m : ℕ) (vs : List V) (f e : ℕ) → e ≤ 64 → bit_and n m / 2 ^ f ≡ 0 → (i : ℕ) → f ≤ i → i < e → bit_at m i ≡ 1 → get_or (slots n vs) i None ≡ None
+none_masked n m vs f e w none i l u one = masked_clear n m vs f i l (omega (arith, u, w)) (ap (λ x. bit_at x (i - f)) none ∙ bit_at-zero (i - f)) one
+
+masked_below : (n m : ℕ) → n < 2 ^ 64 → bit_and n m < 2 ^ 64
+masked_below n m h = omega (arith, h, and_le_l n m)
+
+pub none_masked_before : {V : Type 0} (n m : ℕ) (vs : List V) (f e : ℕ) → e ≤ 64 → bit_and n m / 2 ^ f ≢ 0 → n < 2 ^ 64 → (i : ℕ) → f ≤ i → i < lowest (bit_and n m) f → i < e → bit_at m i ≡ 1 → get_or (slots n vs) i None ≡ None
+none_masked_before n m vs f e w ne below i l u h one = masked_clear n m vs f i l (omega (arith, h, w)) ((least (bit_and n m) f ne (masked_below n m below)).2 (i - f) (omega (arith, l, u))) one
+
+module _ {V : Type 0} (n m : ℕ) (vs : List V) (f e : ℕ) (w : e ≤ 64) (below : n < 2 ^ 64) (full : length vs ≡ count_ones n) (ne : bit_and n m / 2 ^ f ≢ 0) (inside : lowest (bit_and n m) f < e) where
+  abbrev b : ℕ
+  b = lowest (bit_and n m) f
+
+  both : (bit_at n b ≡ 1) × (bit_at m b ≡ 1)
+  both = masked_one n m b (sym (bit_of_part (bit_and n m) f (trailing_zeros w64 (bit_and n m / 2 ^ f))) ∙ (least (bit_and n m) f ne (masked_below n m below)).1)
+
+  room : b < 64
+  room = omega (arith, inside, w)
+
+  pub masked_within : rank n b < length vs
+  masked_within = remove_within n b vs both.0 room below full
+
+  pub masked_first : (v : V) → slice_get vs (rank n b) ≡ Some v → (f ≤ b) × (b < e) × (bit_at m b ≡ 1) × (get_or (slots n vs) b None ≡ Some v) × ((i : ℕ) → f ≤ i → i < b → bit_at m i ≡ 1 → get_or (slots n vs) i None ≡ None)
+  masked_first v is = (omega arith, inside, both.1, get-slots n vs b room None ∙ at_one n vs b both.0 ∙ is, λ i l u one. none_masked_before n m vs f e w ne below i l u (omega (arith, u, inside)) one)

@@ -2,9 +2,11 @@ pub mod CellLemmas
 pub mod Digits
 pub mod EntryLemmas
 pub mod Firsts
+pub mod FoundLemmas
 pub mod Keys
 pub mod LineLemmas
 pub mod MapLemmas
+pub mod MaskLemmas
 pub mod NextLemmas
 pub mod Outcomes
 pub mod Ranks

@@ -1,7 +1,9 @@
 -- The entries of all pages, after a change of one path.
-use Rattle.std.proofs.Common.{◌≡◌, ℕ, ◌+◌, ◌<◌, ◌≤◌, [], length, Option, Some, None, sym, ap, arith, ◌∙◌, ⊎_elim, cond, refl, true}
-use Rattle.std.specs.Prelude.{◌==◌, if◌then◌else◌, option_map, nat_le, filter, IfSome, IfNone}
+use Rattle.std.proofs.Common.{◌≡◌, ℕ, ◌+◌, ◌<◌, ◌≤◌, [], length, Option, Some, None, sym, ap, arith, ◌∙◌, ⊎_elim, cond, refl, true, false}
+use Rattle.std.specs.Prelude.{Bool, ◌==◌, if◌then◌else◌, option_map, nat_le, filter, IfSome, IfNone, is_some, not}
+use Rattle.std.specs.Int.{from_bool}
 use Rattle.std.specs.Ordering.{nat_cmp}
+use Rattle.std.specs.Option.{option_or}
 use Rattle.std.specs.List.{find, All}
 use Rattle.std.specs.Map.{keys_of, remove_entry, set_value}
 use Rattle.std.specs.BTreeMap.{is_at, insert_entry}
@@ -48,6 +50,10 @@ rises w = entries_rise (λ c. at_cell w c) 0 cells
 pub within_sheet : {V : Type 0} (w : Pages V) → All (λ e. e.0 < 17179869184) (entries_of w)
 within_sheet w = entries_below (λ c. at_cell w c) 0 cells 17179869184 (omega (arith, cells_is))
 
+pub one_at_most : (b : Bool) → from_bool b ≤ 1
+one_at_most true = omega arith
+one_at_most false = omega arith
+
 pub length_within : {V : Type 0} (w : Pages V) → length (entries_of w) ≤ 17179869184
 length_within w = omega (arith, length_entries (λ c. at_cell w c) 0 cells, cells_is)
 
@@ -83,6 +89,33 @@ module _ {V : Type 0} (old new : Pages V) (cell path : ℕ) (h : cell < 17179869
       (λ e. ap (λ b. cond b None (at_path old p)) (eq-eqb p path e) ∙ sym (ap (λ q. at_path old q) e ∙ none))
       (λ ne. ap (λ b. cond b None (at_path old p)) (ne_eqb p path ne))
       (cases_eq p path)))
+
+  -- what stands is kept
+  stays : (v w : V) → at_path old path ≡ Some w → Changes (option_or (at_path old path) (Some v)) → entries_of new ≡ entries_of old
+  stays v w some changed = same_is old new (λ p. changed p ∙ ⊎_elim
+      (λ e. ap (λ b. cond b (option_or (at_path old path) (Some v)) (at_path old p)) (eq-eqb p path e) ∙ ap (λ o. option_or o (Some v)) some ∙ sym some ∙ ap (λ q. at_path old q) (sym e))
+      (λ ne. ap (λ b. cond b (option_or (at_path old path) (Some v)) (at_path old p)) (ne_eqb p path ne))
+      (cases_eq p path))
+
+  -- and what doesn't is put
+  comes : (v : V) → at_path old path ≡ None → Changes (option_or (at_path old path) (Some v)) → Changes (Some v)
+  comes v none changed p = changed p ∙ ap (λ o. cond (p == path) (option_or o (Some v)) (at_path old p)) none
+
+  abbrev PutMade : V → Bool → Type 0
+  PutMade v b = (entries_of new ≡ (if is_some (at_path old path) then entries_of old else insert_entry nat_cmp (entries_of old) cell v)) × (length (entries_of new) ≡ length (entries_of old) + from_bool b)
+
+  pub put_made : (v : V) (b : Bool) → b ≡ not (is_some (at_path old path)) → Changes (option_or (at_path old path) (Some v)) → PutMade v b
+  put_made v b e changed = by (at_path old path) refl
+    where
+      by : (o : Option V) → at_path old path ≡ o → PutMade v b
+      by None none =
+          let put = comes v none changed in
+          let so : b ≡ true = e ∙ ap (λ o. not (is_some o)) none in
+          (put_is v none put ∙ sym (ap (λ o. cond (is_some o) (entries_of old) (insert_entry nat_cmp (entries_of old) cell v)) none), put_len v none put ∙ sym (ap (λ t. length (entries_of old) + from_bool t) so))
+      by (Some w) some =
+          let kept = stays v w some changed in
+          let so : b ≡ false = e ∙ ap (λ o. not (is_some o)) some in
+          (kept ∙ sym (ap (λ o. cond (is_some o) (entries_of old) (insert_entry nat_cmp (entries_of old) cell v)) some), ap length kept ∙ (let z : length (entries_of old) ≡ length (entries_of old) + 0 = omega arith in z) ∙ sym (ap (λ t. length (entries_of old) + from_bool t) so))
 
   set_at : (v : V) → option_map (λ _. v) (at_path old path) ≡ option_map (λ _. v) (at_cell old cell)
   set_at v = ap (λ p. option_map (λ _. v) (at_path old p)) is

@@ -35,6 +35,15 @@ row_cell w c h = in_pages w _ (c / 16384) (c % 16384) (digits (c / 16384) (c % 1
 pub bare_rows : {V : Type 0} (w : Pages V) (from end : ℕ) → end ≤ rows → ((r : ℕ) → from ≤ r → r < end → band_at w r ≡ None) → HasNothing w (place from 0) (place end 0)
 bare_rows w from end h bare b l u = row_cell w b (omega (arith, u, h)) ∙ ap (λ o. in_band o (b / 16384 % 16) (b % 16384)) (bare (b / 16384) (omega (arith, l)) (omega (arith, u)))
 
+-- rows without a band in a page, and pages that aren't there
+pub page_gap : {V : Type 0} (w : Pages V) (row n : ℕ) (p : Page V) → part_from w (row / 4096) ≡ Some p → n ≤ 256 → ((i : ℕ) → row / 16 % 256 ≤ i → i < n → part_from p i ≡ None) → (r : ℕ) → row ≤ r → r < row / 4096 * 4096 + 16 * n → band_at w r ≡ None
+page_gap w row n p is bound gap r l u =
+    let same : r / 4096 ≡ row / 4096 = omega (arith, l, u, bound) in
+    ap (λ i. in_page (part_from w i) (r / 16 % 256)) same ∙ ap (λ o. in_page o (r / 16 % 256)) is ∙ gap (r / 16 % 256) (omega (arith, l, same)) (omega (arith, u, same))
+
+pub pages_gap : {V : Type 0} (w : Pages V) (row n : ℕ) → ((i : ℕ) → row / 4096 ≤ i → i < n → part_from w i ≡ None) → (r : ℕ) → row ≤ r → r < 4096 * n → band_at w r ≡ None
+pages_gap w row n gap r l u = ap (λ o. in_page o (r / 16 % 256)) (gap (r / 4096) (omega (arith, l)) (omega (arith, u)))
+
 -- a line of a band is a part of a row
 pub line_cell : {V : Type 0} (w : Pages V) (row k : ℕ) (ts : Band V) → row < rows → k < columns → band_at w row ≡ Some ts → at_cell w (place row k) ≡ cell ts (row % 16) k
 line_cell w row k ts h l is =

@@ -1,7 +1,8 @@
 -- A walk through a rectangle, tile by tile.
 use Rattle.std.proofs.Common.{◌≡◌, ℕ, ◌+◌, ◌*◌, ◌/◌, ◌%◌, ◌<◌, ◌≤◌, List, [], ◌∷◌, Option, Some, None, sym, ap, arith, ◌∙◌, ⊎_elim, inl, inr, zero, suc, refl, cond, subst, true, false}
-use Rattle.std.specs.Prelude.{Bool, ◌||◌, ◌==◌, nat_le, nat_lt, filter, IsSome, IfSome, IfNone, MatchOption, if◌then◌else◌}
+use Rattle.std.specs.Prelude.{Bool, ◌&&◌, ◌||◌, ◌==◌, nat_le, nat_lt, filter, IsSome, IfSome, IfNone, MatchOption, if◌then◌else◌}
 use Rattle.std.specs.Borrow.{Bor}
+use Rattle.std.specs.Int.{bit_at}
 use Rattle.std.proofs.lemmas.Bool.{true≢false, cases_eq, and_parts, and_from, leb-true, leb-false, le-leb, lt-ltb}
 use borrow.Author.Tests.{ltb-true, ltb-false, eqb-true, eq-eqb}
 use mathlib.Core.Logic.{◌≢◌, ◌⊎◌}
@@ -12,7 +13,7 @@ use Rattle.wi_tiles.specs.Inner.Lines.{slot}
 use Rattle.wi_tiles.specs.Inner.Next.{in_page, band_at, in_band, IsNext}
 use Rattle.wi_tiles.specs.Inner.Parts.{at_part, part_from}
 use Rattle.wi_tiles.specs.Inner.Sorted.{find as find_part}
-use Rattle.wi_tiles.specs.Inner.Within.{bit_of, cell_in, in_band_tile, tile_at, is_from, in_tile, is_left, is_pending, IsWalk, IsNextLeft, HasNoneLeft, is_narrow, end_in, ahead_narrow, ahead_wide, ahead_in}
+use Rattle.wi_tiles.specs.Inner.Within.{bit_of, cell_in, in_band_tile, tile_at, is_from, in_tile, is_left, is_pending, IsWalk, IsMask, IsNextLeft, HasNoneLeft, is_narrow, end_narrow, end_in, ahead_narrow, ahead_wide, ahead_in}
 use Rattle.wi_tiles.proofs.MapLemmas.{below, above}
 use Rattle.wi_tiles.proofs.NextLemmas.{row_cell, sides, is_inside}
 
@@ -79,7 +80,7 @@ module _ {V : Type 0} (f : ℕ → Option V) (p q : ℕ → Bool) where
           ∙ ap (λ es. (a, v) ∷ es) (sym (ap (λ t. cond t ((s, w) ∷ passing q (entries_from f (suc s) n)) (passing q (entries_from f (suc s) n))) (not_so q s w (q s) refl e (nor s (omega (arith, ne))))))
 
 -- tests by what they say
-same_test : (a b : Bool) → (a ≡ true → b ≡ true) → (b ≡ true → a ≡ true) → b ≡ a
+pub same_test : (a b : Bool) → (a ≡ true → b ≡ true) → (b ≡ true → a ≡ true) → b ≡ a
 same_test true true f g = refl
 same_test true false f g = f refl
 same_test false true f g = sym (g refl)
@@ -107,7 +108,7 @@ left_parts corner bit end c h =
     let b = and_parts (nat_le bit (bit_of c)) _ p.1 in
     (eqb-true _ _ t.0, eqb-true _ _ t.1, leb-true _ _ b.0, ltb-true _ _ b.1)
 
-left_from : (corner bit end c : ℕ) → row_of c / 16 ≡ row_of corner / 16 → column_of c / 4 ≡ column_of corner / 4 → bit ≤ bit_of c → bit_of c < end → is_left corner bit end c ≡ true
+pub left_from : (corner bit end c : ℕ) → row_of c / 16 ≡ row_of corner / 16 → column_of c / 4 ≡ column_of corner / 4 → bit ≤ bit_of c → bit_of c < end → is_left corner bit end c ≡ true
 left_from corner bit end c i j k l = and_from _ _ (and_from _ _ (eq-eqb _ _ i) (eq-eqb _ _ j)) (and_from _ _ (le-leb _ _ k) (lt-ltb _ _ l))
 
 pending_parts : (r : Area) (ahead : Option ℕ) (corner bit end c : ℕ) → is_pending r ahead corner bit end c ≡ true → ((is_left corner bit end c ≡ true) ⊎ (is_from ahead c ≡ true)) × (is_within r c ≡ true)
@@ -117,13 +118,13 @@ pending_from : (r : Area) (ahead : Option ℕ) (corner bit end c : ℕ) → (is_
 pending_from r ahead corner bit end c either w = and_from _ _ (⊎_elim (λ l. or_left _ _ l) (λ f. or_right _ _ f) either) w
 
 -- cells of one tile come in the order of their bits
-bits_rise : (a c : ℕ) → row_of c / 16 ≡ row_of a / 16 → column_of c / 4 ≡ column_of a / 4 → c < a → bit_of c < bit_of a
+pub bits_rise : (a c : ℕ) → row_of c / 16 ≡ row_of a / 16 → column_of c / 4 ≡ column_of a / 4 → c < a → bit_of c < bit_of a
 bits_rise a c i j l = omega (arith, i, j, l)
 
 cells_rise : (a c : ℕ) → row_of c / 16 ≡ row_of a / 16 → column_of c / 4 ≡ column_of a / 4 → bit_of a < bit_of c → a < c
 cells_rise a c i j l = omega (arith, i, j, l)
 
-cell_again : (corner c : ℕ) → row_of c / 16 ≡ row_of corner / 16 → column_of c / 4 ≡ column_of corner / 4 → cell_in corner (bit_of c) ≡ c
+pub cell_again : (corner c : ℕ) → row_of c / 16 ≡ row_of corner / 16 → column_of c / 4 ≡ column_of corner / 4 → cell_in corner (bit_of c) ≡ c
 cell_again corner c i j = omega (arith, i, j)
 
 pub of_bit : (corner b : ℕ) → b < 64 → (row_of (cell_in corner b) / 16 ≡ row_of corner / 16) × (column_of (cell_in corner b) / 4 ≡ column_of corner / 4) × (bit_of (cell_in corner b) ≡ b)
@@ -133,18 +134,28 @@ of_bit corner b h =
     let column : column_of (cell_in corner b) ≡ column_of corner / 4 * 4 + b % 4 = omega (arith, k) in
     (omega (arith, row, h), omega (arith, column), omega (arith, row, column, h))
 
--- what a cell has is what its tile has at its bit
-pub tile_cell : {V : Type 0} (w : Pages V) (corner c : ℕ) (t : List (Option V)) → c < 17179869184 → tile_at w corner ≡ Some t → row_of c / 16 ≡ row_of corner / 16 → column_of c / 4 ≡ column_of corner / 4 → at_cell w c ≡ slot t (bit_of c)
-tile_cell {V} w corner c t h is i j = row_cell w c h ∙ band (band_at w (row_of c)) (ap (λ o. in_band_tile o (column_of corner / 4)) same ∙ is)
+row_in : (corner b : ℕ) → b < 64 → row_of (cell_in corner b) ≡ row_of corner / 16 * 16 + b / 4
+row_in corner b h =
+    let k : column_of corner / 4 * 4 + b % 4 < 16384 = omega arith in
+    omega (arith, k)
+
+pub column_in : (corner b : ℕ) → column_of (cell_in corner b) ≡ column_of corner / 4 * 4 + b % 4
+column_in corner b =
+    let k : column_of corner / 4 * 4 + b % 4 < 16384 = omega arith in
+    omega (arith, k)
+
+pub same_band : {V : Type 0} (w : Pages V) (c corner : ℕ) → row_of c / 16 ≡ row_of corner / 16 → band_at w (row_of c) ≡ band_at w (row_of corner)
+same_band w c corner i = ap (λ p. in_page (part_from w p) (row_of c / 16 % 256)) pages ∙ ap (λ b. in_page (part_from w (row_of corner / 4096)) b) (ap (λ q. q % 256) i)
   where
     pages : row_of c / 4096 ≡ row_of corner / 4096
     pages = omega (arith, i)
 
-    bands : row_of c / 16 % 256 ≡ row_of corner / 16 % 256
-    bands = ap (λ q. q % 256) i
-
+-- what a cell has is what its tile has at its bit
+pub tile_cell : {V : Type 0} (w : Pages V) (corner c : ℕ) (t : List (Option V)) → c < 17179869184 → tile_at w corner ≡ Some t → row_of c / 16 ≡ row_of corner / 16 → column_of c / 4 ≡ column_of corner / 4 → at_cell w c ≡ slot t (bit_of c)
+tile_cell {V} w corner c t h is i j = row_cell w c h ∙ band (band_at w (row_of c)) (ap (λ o. in_band_tile o (column_of corner / 4)) same ∙ is)
+  where
     same : band_at w (row_of c) ≡ band_at w (row_of corner)
-    same = ap (λ p. in_page (part_from w p) (row_of c / 16 % 256)) pages ∙ ap (λ b. in_page (part_from w (row_of corner / 4096)) b) bands
+    same = same_band w c corner i
 
     band : (o : Option (Band V)) → in_band_tile o (column_of corner / 4) ≡ Some t → in_band o (row_of c % 16) (column_of c) ≡ slot t (bit_of c)
     band None e = absurd (never e)
@@ -233,6 +244,51 @@ module _ {V : Type 0} (w : Pages V) (r : Area) (ahead : Option ℕ) (corner bit 
   pub walks_on : (b2 c : ℕ) → is_left corner (b + 1) end b2 ≡ true → is_within r b2 ≡ true → is_from ahead c ≡ true → is_within r c ≡ true → b2 < c
   walks_on d c left m f k = let s = left_parts corner (b + 1) end d left in order d c (left_from corner bit end d s.0 s.1 (omega (arith, s.2, low)) s.3) m f k
 
+abbrev Sides : Area → ℕ → Type 0
+Sides r c = (row_of r.first ≤ row_of c) × (row_of c ≤ row_of r.last) × (column_of r.first ≤ column_of c) × (column_of c ≤ column_of r.last)
+
+pub sides_of : (r : Area) (c : ℕ) → is_within r c ≡ true → (row_of r.first ≤ row_of c) × (row_of c ≤ row_of r.last) × (column_of r.first ≤ column_of c) × (column_of c ≤ column_of r.last)
+sides_of r c h = let s = sides r c c (and_from _ _ (le-leb c c (omega arith)) h) in (s.1, s.2, s.3, s.4)
+
+-- how far a walk goes in a tile
+end_cases : (r : Area) (a : ℕ) → ((row_of r.last < row_of a / 16 * 16 + 16) × (end_narrow r a ≡ row_of r.last % 16 * 4 + 4)) ⊎ ((row_of a / 16 * 16 + 16 ≤ row_of r.last) × (end_narrow r a ≡ 64))
+end_cases r a = by (nat_lt (row_of r.last) (row_of a / 16 * 16 + 16)) refl
+  where
+    by : (t : Bool) → nat_lt (row_of r.last) (row_of a / 16 * 16 + 16) ≡ t → ((row_of r.last < row_of a / 16 * 16 + 16) × (end_narrow r a ≡ row_of r.last % 16 * 4 + 4)) ⊎ ((row_of a / 16 * 16 + 16 ≤ row_of r.last) × (end_narrow r a ≡ 64))
+    by true e = inl (ltb-true _ _ e, ap (λ t. cond t (row_of r.last % 16 * 4 + 4) 64) e)
+    by false e = inr (ltb-false _ _ e, ap (λ t. cond t (row_of r.last % 16 * 4 + 4) 64) e)
+
+pub end_reaches : (r : Area) (a c : ℕ) → row_of c ≤ row_of r.last → row_of c / 16 ≡ row_of a / 16 → bit_of c < end_narrow r a
+end_reaches r a c h same = ⊎_elim (λ p. omega (arith, p.0, p.1, h, same)) (λ p. omega (arith, p.1)) (end_cases r a)
+
+pub end_bound : (r : Area) (a : ℕ) → end_narrow r a ≤ 64
+end_bound r a = ⊎_elim (λ p. omega (arith, p.1)) (λ p. omega (arith, p.1)) (end_cases r a)
+
+end_rows : (r : Area) (a i : ℕ) → i < end_narrow r a → row_of a ≤ row_of r.last → row_of a / 16 * 16 + i / 4 ≤ row_of r.last
+end_rows r a i u h = ⊎_elim (λ p. omega (arith, p.0, p.1, u, h)) (λ p. omega (arith, p.0, p.1, u)) (end_cases r a)
+
+-- the columns of a rectangle make the mask of what is left of a tile
+abbrev pub in_columns : Area → ℕ → ℕ → Bool
+in_columns r a i = nat_le (column_of r.first) (column_of (cell_in a i)) && nat_le (column_of (cell_in a i)) (column_of r.last)
+
+rows_in : (r : Area) (a i : ℕ) → is_within r a ≡ true → bit_of a ≤ i → i < end_in r a → (i < 64) × (row_of a ≤ row_of a / 16 * 16 + i / 4) × (row_of a / 16 * 16 + i / 4 ≤ row_of r.last)
+rows_in r a i within l = by (is_narrow r)
+  where
+    above : row_of a ≤ row_of a / 16 * 16 + i / 4
+    above = omega (arith, l)
+
+    by : (t : Bool) → i < cond t (end_narrow r a) (row_of a % 16 * 4 + 4) → (i < 64) × (row_of a ≤ row_of a / 16 * 16 + i / 4) × (row_of a / 16 * 16 + i / 4 ≤ row_of r.last)
+    by true u = (omega (arith, u, end_bound r a), above, end_rows r a i u (sides_of r a within).1)
+    by false u = (omega (arith, u), above, omega (arith, u, (sides_of r a within).1))
+
+pub mask_made : (r : Area) (a mask : ℕ) → is_within r a ≡ true → ((i : ℕ) → i < 64 → (bit_at mask i == 1) ≡ in_columns r a i) → IsMask r a mask (bit_of a) (end_in r a)
+mask_made r a mask within columns i l u =
+    let p = rows_in r a i within l u in
+    let row : row_of (cell_in a i) ≡ row_of a / 16 * 16 + i / 4 = row_in a i p.0 in
+    let top : nat_le (row_of r.first) (row_of (cell_in a i)) ≡ true = le-leb _ _ (omega (arith, row, p.1, (sides_of r a within).0)) in
+    let low : nat_le (row_of (cell_in a i)) (row_of r.last) ≡ true = le-leb _ _ (omega (arith, row, p.2)) in
+    columns i p.0 ∙ sym (ap (λ t. (t && nat_le (row_of (cell_in a i)) (row_of r.last)) && in_columns r a i) top ∙ ap (λ t. t && in_columns r a i) low)
+
 -- where the walk goes on behind a cell
 record GoesOn (r : Area) (a end : ℕ) (ahead : Option ℕ) : Type 0 where
   pub all : (c : ℕ) → is_within r c ≡ true → a < c → (is_left a (bit_of a + 1) end c ≡ true) ⊎ (is_from ahead c ≡ true)
@@ -255,12 +311,6 @@ from_not o c e f = absurd (true≢false (sym f ∙ ap (λ q. is_from q c) e))
 from_reads : (o : Option ℕ) (p c : ℕ) → o ≡ Some p → is_from o c ≡ true → p ≤ c
 from_reads o p c e f = leb-true p c (sym (ap (λ q. is_from q c) e) ∙ f)
 
-abbrev Sides : Area → ℕ → Type 0
-Sides r c = (row_of r.first ≤ row_of c) × (row_of c ≤ row_of r.last) × (column_of r.first ≤ column_of c) × (column_of c ≤ column_of r.last)
-
-sides_of : (r : Area) (c : ℕ) → is_within r c ≡ true → (row_of r.first ≤ row_of c) × (row_of c ≤ row_of r.last) × (column_of r.first ≤ column_of c) × (column_of c ≤ column_of r.last)
-sides_of r c h = let s = sides r c c (and_from _ _ (le-leb c c (omega arith)) h) in (s.1, s.2, s.3, s.4)
-
 -- a rectangle in one column of tiles
 module _ (r : Area) (a : ℕ) (within : is_within r a ≡ true) (narrow : column_of r.first / 4 ≡ column_of r.last / 4) where
   narrow_ahead : ((nat_lt (row_of r.last) (row_of a / 16 * 16 + 16) ≡ true) × (ahead_narrow r a ≡ None)) ⊎ ((row_of a / 16 * 16 + 16 ≤ row_of r.last) × (ahead_narrow r a ≡ Some (place (row_of a / 16 * 16 + 16) (column_of r.first))))
@@ -270,14 +320,14 @@ module _ (r : Area) (a : ℕ) (within : is_within r a ≡ true) (narrow : column
       by true e = inl (e, if_true _ _ _ e)
       by false e = inr (ltb-false _ _ e, if_false _ _ _ e)
 
-  goes_on_narrow : GoesOn r a 64 (ahead_narrow r a)
+  goes_on_narrow : GoesOn r a (end_narrow r a) (ahead_narrow r a)
   goes_on_narrow = record {
     all = λ c m l.
         let s = sides_of r c m in
         let t = sides_of r a within in
         let column : column_of c / 4 ≡ column_of a / 4 = omega (arith, s.2, s.3, t.2, t.3, narrow) in
         ⊎_elim
-        (λ same. inl (left_from a (bit_of a + 1) 64 c same column (omega (arith, bits_rise c a (sym same) (sym column) l)) (omega arith)))
+        (λ same. inl (left_from a (bit_of a + 1) (end_narrow r a) c same column (omega (arith, bits_rise c a (sym same) (sym column) l)) (end_reaches r a c s.1 same)))
         (λ ne.
         let below : row_of a / 16 * 16 + 16 ≤ row_of c = omega (arith, ne, l) in
         inr (⊎_elim
@@ -287,13 +337,13 @@ module _ (r : Area) (a : ℕ) (within : is_within r a ≡ true) (narrow : column
         (cases_eq (row_of c / 16) (row_of a / 16));
     order = λ b c left m f k. ⊎_elim
         (λ over. absurd (from_not _ c over.1 f))
-        (λ on. let p = left_parts a (bit_of a + 1) 64 b left in omega (arith, p.0, from_reads _ _ c on.1 f))
+        (λ on. let p = left_parts a (bit_of a + 1) (end_narrow r a) b left in omega (arith, p.0, from_reads _ _ c on.1 f))
         narrow_ahead;
     after = λ c f m. ⊎_elim
         (λ over. absurd (from_not _ c over.1 f))
         (λ on. omega (arith, from_reads _ _ c on.1 f))
         narrow_ahead;
-    bound = omega arith;
+    bound = end_bound r a;
   }
 
 -- a rectangle of more than one
@@ -352,7 +402,7 @@ module _ (r : Area) (a : ℕ) (within : is_within r a ≡ true) where
 goes_on : (r : Area) (a : ℕ) → is_within r a ≡ true → GoesOn r a (end_in r a) (ahead_in r a)
 goes_on r a within = by (is_narrow r) refl
   where
-    by : (t : Bool) → is_narrow r ≡ t → GoesOn r a (cond t 64 (row_of a % 16 * 4 + 4)) (cond t (ahead_narrow r a) (ahead_wide r a))
+    by : (t : Bool) → is_narrow r ≡ t → GoesOn r a (cond t (end_narrow r a) (row_of a % 16 * 4 + 4)) (cond t (ahead_narrow r a) (ahead_wide r a))
     by true e = goes_on_narrow r a within (eqb-true _ _ e)
     by false e = goes_on_wide r a within
 
@@ -383,8 +433,8 @@ module _ {V : Type 0} (w : Pages V) (r : Area) (corner bit end from a : ℕ) (v 
       (λ q. let p = pending_parts r (Some from) corner bit end c q in pending_from r (ahead_in r a) a (bit_of a + 1) (end_in r a) c (on.all c p.1 l) p.1)
       (λ q. let p = pending_parts r (ahead_in r a) a (bit_of a + 1) (end_in r a) c q in pending_from r (Some from) corner bit end c (inr (le-leb from c (omega (arith, l, reached.0)))) p.1))
 
-  pub walks_behind : (t : Option (Bor (List (Option V)))) → IfSome t (λ x. tile_at w a ≡ Some x.now) → IfNone t (end_in r a ≤ bit_of a + 1) → IsWalk w r (ahead_in r a) t a (bit_of a + 1) (end_in r a)
-  walks_behind t stands nothing = record { stands = stands; nothing = nothing; within = on.bound; sheet = on_sheet; order = on.order }
+  pub walks_behind : (t : Option (Bor (List (Option V)))) → IfSome t (λ x. tile_at w a ≡ Some x.now) → IfNone t (end_in r a ≤ bit_of a + 1) → (mask : ℕ) → IsMask r a mask (bit_of a + 1) (end_in r a) → IsWalk w r (ahead_in r a) t a mask (bit_of a + 1) (end_in r a)
+  walks_behind t stands nothing mask masks = record { stands = stands; nothing = nothing; within = on.bound; masks = masks; sheet = on_sheet; order = on.order }
 
   pub step_behind : (ahead2 : Option ℕ) (bit2 end2 : ℕ) → ahead2 ≡ ahead_in r a → bit2 ≡ bit_of a → end2 ≡ end_in r a → passing (is_pending r (Some from) corner bit end) (entries_of w) ≡ (a, v) ∷ passing (is_pending r ahead2 a (bit2 + 1) end2) (entries_of w)
   step_behind ahead2 bit2 end2 e f g = takes_behind
@@ -392,11 +442,11 @@ module _ {V : Type 0} (w : Pages V) (r : Area) (corner bit end from a : ℕ) (v 
       ∙ ap (λ b. (a, v) ∷ passing (is_pending r ahead2 a (b + 1) (end_in r a)) (entries_of w)) (sym f)
       ∙ ap (λ n. (a, v) ∷ passing (is_pending r ahead2 a (bit2 + 1) n) (entries_of w)) (sym g)
 
-  pub walk_behind : (t : Bor (List (Option V))) (ahead2 : Option ℕ) (bit2 end2 : ℕ) → ahead2 ≡ ahead_in r a → bit2 ≡ bit_of a → end2 ≡ end_in r a → tile_at w a ≡ Some t.now → IsWalk w r ahead2 (Some t) a (bit2 + 1) end2
-  walk_behind t ahead2 bit2 end2 e f g stands =
-      subst (λ o. IsWalk w r o (Some t) a (bit2 + 1) end2) (sym e)
-      (subst (λ b. IsWalk w r (ahead_in r a) (Some t) a (b + 1) end2) (sym f)
-      (subst (λ n. IsWalk w r (ahead_in r a) (Some t) a (bit_of a + 1) n) (sym g) (walks_behind (Some t) stands tt)))
+  pub walk_behind : (t : Bor (List (Option V))) (ahead2 : Option ℕ) (mask2 bit2 end2 : ℕ) → ahead2 ≡ ahead_in r a → bit2 ≡ bit_of a → end2 ≡ end_in r a → tile_at w a ≡ Some t.now → ((i : ℕ) → i < 64 → (bit_at mask2 i == 1) ≡ in_columns r a i) → IsWalk w r ahead2 (Some t) a mask2 (bit2 + 1) end2
+  walk_behind t ahead2 mask2 bit2 end2 e f g stands columns =
+      subst (λ o. IsWalk w r o (Some t) a mask2 (bit2 + 1) end2) (sym e)
+      (subst (λ b. IsWalk w r (ahead_in r a) (Some t) a mask2 (b + 1) end2) (sym f)
+      (subst (λ n. IsWalk w r (ahead_in r a) (Some t) a mask2 (bit_of a + 1) n) (sym g) (walks_behind (Some t) stands tt mask2 (λ i l u. mask_made r a mask2 reached.1 columns i (omega (arith, l)) u))))
 
 -- and where there is none
 pub ends_behind : {V : Type 0} (w : Pages V) (r : Area) (corner bit end from : ℕ) → ((c : ℕ) → c < 17179869184 → is_left corner bit end c ≡ true → is_within r c ≡ true → at_cell w c ≡ None) → ((c : ℕ) → is_ahead r from c ≡ true → at_cell w c ≡ None) → passing (is_pending r (Some from) corner bit end) (entries_of w) ≡ []
@@ -410,20 +460,21 @@ pub none_left : (corner bit end : ℕ) → end ≤ bit → (c : ℕ) → is_left
 none_left corner bit end h c left = let p = left_parts corner bit end c left in omega (arith, p.2, p.3, h)
 
 -- what a walk tells of its tile
-pub left_nothing : {V : Type 0} (w : Pages V) (r : Area) (ahead : Option ℕ) (tile : Option (Bor (List (Option V)))) (corner bit end : ℕ) → IsWalk w r ahead tile corner bit end → IfSome tile (λ t. HasNoneLeft r t.now corner bit end) → (c : ℕ) → c < 17179869184 → is_left corner bit end c ≡ true → is_within r c ≡ true → at_cell w c ≡ None
-left_nothing w r ahead None corner bit end walk none c l left within = absurd (none_left corner bit end walk.nothing c left)
-left_nothing w r ahead (Some t) corner bit end walk none c l left within = nothing_left w r corner bit end t.now walk.stands walk.within none c l left within
+pub left_nothing : {V : Type 0} (w : Pages V) (r : Area) (ahead : Option ℕ) (tile : Option (Bor (List (Option V)))) (corner mask bit end : ℕ) → IsWalk w r ahead tile corner mask bit end → IfSome tile (λ t. HasNoneLeft r t.now corner bit end) → (c : ℕ) → c < 17179869184 → is_left corner bit end c ≡ true → is_within r c ≡ true → at_cell w c ≡ None
+left_nothing w r ahead None corner mask bit end walk none c l left within = absurd (none_left corner bit end walk.nothing c left)
+left_nothing w r ahead (Some t) corner mask bit end walk none c l left within = nothing_left w r corner bit end t.now walk.stands walk.within none c l left within
 
-pub step_left : {V : Type 0} (w : Pages V) (r : Area) (ahead : Option ℕ) (tile : Option (Bor (List (Option V)))) (corner bit end b : ℕ) (v : V) → IsWalk w r ahead tile corner bit end → MatchOption tile ⊥ (λ t. IsNextLeft r t.now corner bit end b v) → passing (is_pending r ahead corner bit end) (entries_of w) ≡ (cell_in corner b, v) ∷ passing (is_pending r ahead corner (b + 1) end) (entries_of w)
-step_left w r ahead None corner bit end b v walk found = absurd found
-step_left w r ahead (Some t) corner bit end b v walk found = takes_left w r ahead corner bit end b t.now v walk.stands walk.within walk.order found (in_sheet corner b walk.sheet (let l : b < end = found.1 in omega (arith, l, walk.within)))
+pub step_left : {V : Type 0} (w : Pages V) (r : Area) (ahead : Option ℕ) (tile : Option (Bor (List (Option V)))) (corner mask bit end b : ℕ) (v : V) → IsWalk w r ahead tile corner mask bit end → MatchOption tile ⊥ (λ t. IsNextLeft r t.now corner bit end b v) → passing (is_pending r ahead corner bit end) (entries_of w) ≡ (cell_in corner b, v) ∷ passing (is_pending r ahead corner (b + 1) end) (entries_of w)
+step_left w r ahead None corner mask bit end b v walk found = absurd found
+step_left w r ahead (Some t) corner mask bit end b v walk found = takes_left w r ahead corner bit end b t.now v walk.stands walk.within walk.order found (in_sheet corner b walk.sheet (let l : b < end = found.1 in omega (arith, l, walk.within)))
 
-pub walk_left : {V : Type 0} (w : Pages V) (r : Area) (ahead : Option ℕ) (tile : Option (Bor (List (Option V)))) (corner bit end b : ℕ) (v : V) → IsWalk w r ahead tile corner bit end → MatchOption tile ⊥ (λ t. IsNextLeft r t.now corner bit end b v) → IsWalk w r ahead tile corner (b + 1) end
-walk_left w r ahead None corner bit end b v walk found = absurd found
-walk_left w r ahead (Some t) corner bit end b v walk found = record {
+pub walk_left : {V : Type 0} (w : Pages V) (r : Area) (ahead : Option ℕ) (tile : Option (Bor (List (Option V)))) (corner mask bit end b : ℕ) (v : V) → IsWalk w r ahead tile corner mask bit end → MatchOption tile ⊥ (λ t. IsNextLeft r t.now corner bit end b v) → IsWalk w r ahead tile corner mask (b + 1) end
+walk_left w r ahead None corner mask bit end b v walk found = absurd found
+walk_left w r ahead (Some t) corner mask bit end b v walk found = record {
   stands = walk.stands;
   nothing = tt;
   within = walk.within;
+  masks = λ i l u. walk.masks i (let low : bit ≤ b = found.0 in omega (arith, low, l)) u;
   sheet = walk.sheet;
   order = walks_on w r ahead corner bit end b t.now v walk.stands walk.within walk.order found;
 }

@@ -29,6 +29,23 @@ get_past (t ∷ ts) (suc i) h = get_past ts i (omega arith)
 pub part_past : {S : Type 0} (f : ℕ) (ts : List S) (i : ℕ) → f ≤ i → length ts ≤ i - f → part_from (f, ts) i ≡ None
 part_past f ts i l h = part_here f ts i l ∙ get_past ts (i - f) h
 
+get_none : {S : Type 0} (ts : List S) (i : ℕ) → slice_get ts i ≡ None → length ts ≤ i
+get_none [] i e = omega arith
+get_none {S} (t ∷ ts) zero e = absurd (never t e)
+  where
+    never : (s : S) → Some s ≡ None → ⊥
+    never s z = grind arith
+get_none (t ∷ ts) (suc i) e = let h : length ts ≤ i = get_none ts i e in omega (arith, h)
+
+-- the indices before the first part, and behind the last
+pub gap_before : {S : Type 0} (w : ℕ × List S) (i : ℕ) → i < w.0 → part_from w i ≡ None
+gap_before w i l = part_before w.0 w.1 i l
+
+pub gap_behind : {S : Type 0} (w : ℕ × List S) (index i : ℕ) → w.0 ≤ index → part_from w index ≡ None → index ≤ i → part_from w i ≡ None
+gap_behind w index i f none l =
+    let past : length w.1 ≤ index - w.0 = get_none w.1 (index - w.0) (sym (part_here w.0 w.1 index f) ∙ none) in
+    part_past w.0 w.1 i (omega (arith, f, l)) (omega (arith, past, f, l))
+
 get_set : {S : Type 0} (ts : List S) (i : ℕ) (w : S) → i < length ts → slice_get (slice_set ts i w) i ≡ Some w
 get_set [] i w l = absurd (omega arith)
 get_set (x ∷ xs) zero w l = refl

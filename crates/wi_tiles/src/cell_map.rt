@@ -1,6 +1,6 @@
 //! A map by cell address.
 
-ghost use Rattle.std.specs.Prelude.{◌≡◌, ◌↔◌, ◌&&◌, ◌<◌, ◌*◌, ℕ, [], Some, nat_le, filter, length, is_some, not, IsTrue, IfSome, IfOk, OnOk, OnErr, option_copied, option_map, if◌then◌else◌};
+ghost use Rattle.std.specs.Prelude.{◌≡◌, ◌↔◌, ◌&&◌, ◌<◌, ◌≤◌, ◌*◌, ℕ, [], Some, nat_le, filter, length, is_some, not, IsTrue, IfSome, IfOk, OnOk, OnErr, option_copied, option_map, if◌then◌else◌};
 ghost use Rattle.std.specs.Ordering.{nat_cmp};
 ghost use Rattle.std.specs.List.{find, All};
 ghost use Rattle.std.specs.Map.{keys_of, remove_entry, set_value};
@@ -8,10 +8,11 @@ ghost use Rattle.std.specs.BTreeMap.{is_at, insert_entry};
 ghost use Rattle.wi_tiles.specs.Entries.{get, IsOrdered};
 ghost use Rattle.wi_values.specs.Address.{rows, columns, is_within};
 
-use crate::pages::{Pages, next_cell, path_of};
+use crate::found::found_from;
+use crate::pages::{Pages, path_of};
 use crate::places::Places;
 use crate::window::Window;
-use crate::within::{Within, found_from};
+use crate::within::Within;
 use std::alloc::{AllocError, Global};
 use std::marker::Model;
 use wi_values::{Address, COLUMNS, ROWS, Rect};
@@ -53,6 +54,7 @@ impl<V: Drop> CellMap<V> {
         ensures len { result ≡ length self.now.entries }
         ensures ordered { IsOrdered nat_cmp self.now }
         ensures sheet { All (λ e. e.0 < rows * columns) self.now.entries }
+        ensures small { result ≤ rows * columns }
     {
         self.occupied as usize
     }
@@ -79,13 +81,9 @@ impl<V: Drop> CellMap<V> {
             then self.old.entries else insert_entry nat_cmp self.old.entries cell value)) }
         ensures err { OnErr result (self.new ≡ self.old) }
     {
-        let path = path_of(cell);
-        if self.pages.get(path).is_some() {
-            return Ok(false);
-        }
-        self.pages.put(path, value, self.alloc)?;
-        self.occupied += 1;
-        Ok(true)
+        let new = self.pages.put_new(path_of(cell), value, self.alloc)?;
+        self.occupied += u64::from(new);
+        Ok(new)
     }
 
     /// Puts a value in the place of what a cell has, and gives that; a cell that has nothing gets nothing. Takes no memory. The
@@ -121,11 +119,15 @@ impl<V: Drop> CellMap<V> {
     }
 
     /// The first cell of a rectangle, in row-major order, at a cell or after it, that has something. One search among the tiles
-    /// of 16 rows for each row up to it; 16 rows where nothing stands are passed at once.
+    /// of 16 rows for each row up to it, and where the rectangle lies in one column of tiles, of four columns, for 16 rows; rows
+    /// where nothing stands are passed at once.
     pub fn next_in(&self, area: Rect, from: Address) -> Option<Address>
         ensures { result ≡ find (λ a. nat_le from a) (filter (is_within area) (keys_of self.now.entries)) }
     {
-        next_cell(&self.pages, area, from)
+        match self.first_in(area, from) {
+            Some(found) => Some(found.0),
+            None => None,
+        }
     }
 
     /// What the cells of a rectangle have, with the cells, in row-major order, at a cell or after it. Takes no memory. The work

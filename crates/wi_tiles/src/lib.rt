@@ -2,7 +2,9 @@
 #![tactic(auto)]
 
 mod cell_map;
+mod found;
 mod line;
+mod masks;
 mod pages;
 mod places;
 mod sorted;

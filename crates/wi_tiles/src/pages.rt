@@ -30,7 +30,7 @@ pub fn path_of(cell: Address) -> u64
 }
 
 /// The band of a row.
-fn band_of<V>(pages: &Pages<V>, row: u32) -> Option<&Sorted<Tile<V>>>
+pub fn band_of<V>(pages: &Pages<V>, row: u32) -> Option<&Sorted<Tile<V>>>
     ensures { option_copied result ≡ band_at pages.now row }
 {
     match pages.part((row / 4_096) as usize) {
@@ -50,7 +50,7 @@ pub fn tile_of<V>(pages: &Pages<V>, cell: Address) -> Option<&Tile<V>>
 }
 
 /// The row behind those that have nothing because a row has no band.
-fn past_gap<V>(pages: &Pages<V>, row: u32) -> u32
+pub fn past_gap<V>(pages: &Pages<V>, row: u32) -> u32
     requires row { row < rows }
     requires bare { band_at pages.now row ≡ None }
     ensures later { row < result }
@@ -58,8 +58,8 @@ fn past_gap<V>(pages: &Pages<V>, row: u32) -> u32
     ensures gap { (r : ℕ) → row ≤ r → r < result → band_at pages.now r ≡ None }
 {
     match pages.part((row / 4_096) as usize) {
-        Some(_) => (row / 16 + 1) * 16,
-        None => (row / 4_096 + 1) * 4_096,
+        Some(page) => row / 4_096 * 4_096 + 16 * page.past_gap((row / 16 % 256) as usize) as u32,
+        None => 4_096 * pages.past_gap((row / 4_096) as usize) as u32,
     }
 }
 
@@ -84,7 +84,7 @@ fn first_in_row<V>(pages: &Pages<V>, row: u32, from: u32, end: u32) -> Result<Ad
 }
 
 /// The row and the column of a rectangle's first cell at a cell or after it, or a row below the rectangle.
-fn start(area: Rect, from: Address) -> (u32, u32)
+pub fn start(area: Rect, from: Address) -> (u32, u32)
     ensures { IsStart area from result.0 result.1 }
 {
     let left = area.first().column();

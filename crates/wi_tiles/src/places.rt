@@ -1,6 +1,7 @@
 //! What has something at some of its places.
 
-ghost use Rattle.std.specs.Prelude.{◌≡◌, ◌<◌, ◌==◌, ℕ, Option, Some, None, IsTrue, OnOk, OnErr, option_copied, option_map, if◌then◌else◌};
+ghost use Rattle.std.specs.Prelude.{◌≡◌, ◌<◌, ◌==◌, ℕ, Option, Some, None, is_some, not, IsTrue, IfOk, OnOk, OnErr, option_copied, option_map, if◌then◌else◌};
+ghost use Rattle.std.specs.Option.{option_or};
 
 use std::alloc::{AllocError, Global};
 
@@ -25,11 +26,12 @@ pub trait Places<V> {
         requires { place < size }
         ensures { option_copied result ≡ at self.now place };
 
-    /// Puts a value where nothing stands. If memory runs out, each place has what it had.
-    fn put(&mut self, place: u64, value: V, alloc: Global) -> Result<(), AllocError>
-        requires within { place < size }
-        requires vacant { at self.old place ≡ None }
-        ensures ok { OnOk result ((p : ℕ) → at self.new p ≡ (if p == place then Some value else at self.old p)) }
+    /// Puts a value where nothing stands, and answers whether nothing stood. If memory runs out, each place has what it had.
+    fn put_new(&mut self, place: u64, value: V, alloc: Global) -> Result<bool, AllocError>
+        requires { place < size }
+        ensures new { IfOk result (λ new. new ≡ not (is_some (at self.old place))) }
+        ensures ok { OnOk result ((p : ℕ) → at self.new p
+            ≡ (if p == place then option_or (at self.old place) (Some value) else at self.old p)) }
         ensures err { OnErr result ((p : ℕ) → at self.new p ≡ at self.old p) };
 
     /// Puts a value in the place of what stands, and gives that; where nothing stands it does nothing. Takes no memory.

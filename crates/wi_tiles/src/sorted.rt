@@ -1,6 +1,6 @@
 //! Parts in order of their keys.
 
-ghost use Rattle.std.specs.Prelude.{◌≡◌, ◌<◌, ◌≤◌, ◌+◌, ◌*◌, ◌/◌, ◌%◌, ◌==◌, ℕ, length, Some, None, IsSome, IsTrue, OnOk, OnErr, IfOk, IfErr, option_copied, option_map, slice_index_or, if◌then◌else◌};
+ghost use Rattle.std.specs.Prelude.{◌≡◌, ◌<◌, ◌≤◌, ◌+◌, ◌*◌, ◌/◌, ◌%◌, ◌==◌, ℕ, length, true, Some, None, IsSome, IsTrue, OnOk, OnErr, IfOk, IfErr, option_copied, option_map, slice_index_or, if◌then◌else◌};
 ghost use Rattle.wi_tiles.specs.Inner.Sorted.{find, key, Rises, at_sorted, groups};
 
 use crate::places::Places;
@@ -62,10 +62,10 @@ impl<V: Drop, T: Places<V> + Drop> Places<V> for Sorted<T> {
         }
     }
 
-    fn put(&mut self, path: u64, value: V, alloc: Global) -> Result<(), AllocError> {
+    fn put_new(&mut self, path: u64, value: V, alloc: Global) -> Result<bool, AllocError> {
         let group = (path % GROUPS) as u32;
         match place_of(&self.parts, group) {
-            Ok(place) => self.parts[place].1.put(path / GROUPS, value, alloc),
+            Ok(place) => self.parts[place].1.put_new(path / GROUPS, value, alloc),
             Err(place) => put_part(&mut self.parts, place, path, value, alloc),
         }
     }
@@ -96,21 +96,22 @@ fn put_part<V: Drop, T: Places<V> + Drop>(
     path: u64,
     value: V,
     alloc: Global,
-) -> Result<(), AllocError>
+) -> Result<bool, AllocError>
     requires rises { Rises parts.old.items }
     requires within { path < groups * T.size }
     requires bound { place ≤ length parts.old.items }
     requires below { (i : ℕ) → i < place → key parts.old.items i < path % groups }
     requires above { (i : ℕ) → place ≤ i → i < length parts.old.items → path % groups < key parts.old.items i }
     ensures rises { Rises parts.new.items }
+    ensures new { IfOk result (λ new. new ≡ true) }
     ensures ok { OnOk result ((p : ℕ) → at_sorted T.at parts.new.items p
         ≡ (if p == path then Some value else at_sorted T.at parts.old.items p)) }
     ensures err { OnErr result ((p : ℕ) → at_sorted T.at parts.new.items p ≡ at_sorted T.at parts.old.items p) }
 {
     let mut part = T::vacant(alloc);
-    part.put(path / GROUPS, value, alloc)?;
+    part.put_new(path / GROUPS, value, alloc)?;
     parts.insert(place, ((path % GROUPS) as u32, part))?;
-    Ok(())
+    Ok(true)
 }
 
 /// Takes away a part that has nothing.

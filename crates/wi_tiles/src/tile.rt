@@ -1,6 +1,7 @@
 //! Something for each of some of 64 cells.
 
 ghost use Rattle.std.specs.Prelude.{◌≡◌, ◌<◌, ◌≤◌, ◌+◌, ◌*◌, ◌%◌, ◌==◌, if◌then◌else◌, ◌^◌, ℕ, Some, None, IsSome, IsTrue, IfSome, IfNone, OnOk, OnErr, option_copied, option_map, slice_index_or, slice_set};
+ghost use Rattle.std.specs.Int.{bit_at};
 ghost use Rattle.wi_tiles.specs.Inner.Tile.{rank};
 
 use crate::places::Places;
@@ -75,6 +76,27 @@ impl<V> Tile<V> {
         Some(bit)
     }
 
+    /// The first bit from one up to another, among those of a mask, that has something, with what it has.
+    pub fn first_of(&self, mask: u64, from: u32, end: u32) -> Option<(u32, &V)>
+        requires from { from < 64 }
+        requires end { end ≤ 64 }
+        ensures some { IfSome result (λ x. (from ≤ x.0) × (x.0 < end) × (bit_at mask x.0 ≡ 1)
+            × (slice_index_or self.now x.0 None ≡ Some x.1.now)
+            × ((i : ℕ) → from ≤ i → i < x.0 → bit_at mask i ≡ 1 → slice_index_or self.now i None ≡ None)) }
+        ensures none { IfNone result ((i : ℕ) → from ≤ i → i < end → bit_at mask i ≡ 1 → slice_index_or self.now i None ≡ None) }
+    {
+        let part = (self.bits & mask) >> from;
+        if part == 0 {
+            return None;
+        }
+        let bit = from + part.trailing_zeros();
+        if end <= bit {
+            return None;
+        }
+        let place = rank(self.bits, bit);
+        Some((bit, &self.values[place]))
+    }
+
     /// Puts a value where nothing stands. If memory runs out, all is as before.
     fn put_value(&mut self, bit: u32, value: V) -> Result<(), AllocFailed<V>>
         requires within { bit < 64 }
@@ -140,9 +162,12 @@ impl<V: Drop> Places<V> for Tile<V> {
         self.value(place as u32)
     }
 
-    fn put(&mut self, place: u64, value: V, _alloc: Global) -> Result<(), AllocError> {
+    fn put_new(&mut self, place: u64, value: V, _alloc: Global) -> Result<bool, AllocError> {
+        if self.value(place as u32).is_some() {
+            return Ok(false);
+        }
         self.put_value(place as u32, value)?;
-        Ok(())
+        Ok(true)
     }
 
     fn replace(&mut self, place: u64, value: V) -> Option<V> {

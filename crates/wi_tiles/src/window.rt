@@ -38,6 +38,23 @@ impl<T> Window<T> {
     }
 }
 
+impl<T> Window<T> {
+    /// The index behind those, from one without a part on, that have none because it has none.
+    pub fn past_gap(&self, index: usize) -> usize
+        requires within { index < span }
+        requires bare { part_from self.now index ≡ None }
+        ensures later { index < result }
+        ensures within { result ≤ span }
+        ensures gap { (i : ℕ) → index ≤ i → i < result → part_from self.now i ≡ None }
+    {
+        if index < self.first {
+            self.first.min(256)
+        } else {
+            256
+        }
+    }
+}
+
 impl<V: Drop, T: Places<V> + Drop> Places<V> for Window<T> {
     ghost use Rattle.std.specs.Prelude.{◌*◌};
     ghost use Rattle.wi_tiles.specs.Inner.Parts.{at_window, span};
@@ -64,12 +81,12 @@ impl<V: Drop, T: Places<V> + Drop> Places<V> for Window<T> {
         }
     }
 
-    fn put(&mut self, path: u64, value: V, alloc: Global) -> Result<(), AllocError> {
+    fn put_new(&mut self, path: u64, value: V, alloc: Global) -> Result<bool, AllocError> {
         let index = (path % SPAN) as usize;
         reach_down(&mut self.first, &mut self.parts, index, alloc)?;
         let place = index - self.first;
         reach_up(self.first, &mut self.parts, place, alloc)?;
-        self.parts[place].put(path / SPAN, value, alloc)
+        self.parts[place].put_new(path / SPAN, value, alloc)
     }
 
     fn replace(&mut self, path: u64, value: V) -> Option<V> {

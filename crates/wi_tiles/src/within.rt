@@ -1,14 +1,13 @@
 //! What the cells of a rectangle have, one after another.
 
-ghost use Rattle.std.specs.Prelude.{◌≡◌, ◌<◌, ◌≤◌, ◌+◌, ◌*◌, ◌/◌, ◌%◌, ℕ, true, Some, None, IfSome, IfNone, MatchOption, filter};
-ghost use Rattle.wi_values.specs.Address.{row_of, column_of, is_within};
-ghost use Rattle.wi_tiles.specs.Inner.Cells.{at_cell, is_ahead};
+ghost use Rattle.std.specs.Prelude.{◌≡◌, ◌≤◌, IfSome, IfNone, MatchOption, filter};
+ghost use Rattle.wi_tiles.specs.Inner.Cells.{is_ahead};
 ghost use Rattle.wi_tiles.specs.Inner.Entries.{entries_of};
-ghost use Rattle.wi_tiles.specs.Inner.Lines.{slot};
-ghost use Rattle.wi_tiles.specs.Inner.Next.{IsNext};
-ghost use Rattle.wi_tiles.specs.Inner.Within.{bit_of, cell_in, is_narrow, end_in, ahead_in, ahead_narrow, ahead_wide, tile_at, IsNextLeft, HasNoneLeft};
+ghost use Rattle.wi_tiles.specs.Inner.Within.{IsMask, IsNextLeft, HasNoneLeft, ahead_in, ahead_narrow, ahead_wide};
 
-use crate::pages::{Pages, next_cell, tile_of};
+use crate::found::found_from;
+use crate::masks::{bit_of, cell_in, end_in, is_narrow, left_in, mask_in};
+use crate::pages::Pages;
 use crate::tile::Tile;
 use std::marker::Model;
 use wi_values::{Address, Rect};
@@ -21,7 +20,8 @@ pub struct Within<'a, V> {
     // The tile that is walked through, and one of its cells.
     tile: Option<&'a Tile<V>>,
     corner: Address,
-    // What is left of it: from which of its bits up to which.
+    // What is left of it: which of its bits lie in the rectangle, from which of them up to which.
+    mask: u64,
     bit: u32,
     end: u32,
     // Where the walk goes on behind it, if it does.
@@ -37,7 +37,7 @@ impl<'a, V> Model for Within<'a, V> {
 
     ghost view = { λ w. filter (λ e. is_pending w.area w.ahead w.corner w.bit w.end e.0) (entries_of w.pages.now) };
 
-    ghost invariant = { λ w. IsWalk w.pages.now w.area w.ahead w.tile w.corner w.bit w.end };
+    ghost invariant = { λ w. IsWalk w.pages.now w.area w.ahead w.tile w.corner w.mask w.bit w.end };
 }
 
 impl<'a, V> Within<'a, V> {
@@ -50,6 +50,7 @@ impl<'a, V> Within<'a, V> {
             area,
             tile: None,
             corner: from,
+            mask: 0,
             bit: 0,
             end: 0,
             ahead: Some(from),
@@ -69,10 +70,17 @@ impl<'a, V> Iterator for Within<'a, V> {
 
     ghost remaining = { λ s. at_most (length s) };
 
-    /// A step among the bits of a tile for each cell of it up to the next one of the rectangle, and one search for each tile; for
-    /// each row of a tile, where the rectangle lies in more tiles than one beside another.
+    /// A step among the bits of a tile for each cell, and one search for each tile; for each row of a tile, where the rectangle
+    /// lies in more tiles than one beside another.
     fn next(&mut self) -> Option<(Address, &'a V)> {
-        match left_of(self.tile, self.area, self.corner, self.bit, self.end) {
+        match left_of(
+            self.tile,
+            self.area,
+            self.mask,
+            self.corner,
+            self.bit,
+            self.end,
+        ) {
             Some(found) => {
                 self.bit = found.0 + 1;
                 Some((cell_in(self.corner, found.0), found.1))
@@ -82,6 +90,7 @@ impl<'a, V> Iterator for Within<'a, V> {
                     Some(found) => {
                         self.tile = Some(found.1);
                         self.corner = found.0;
+                        self.mask = mask_in(self.area, found.0);
                         self.bit = bit_of(found.0) + 1;
                         self.end = end_in(self.area, found.0);
                         self.ahead = ahead_in(self.area, found.0);
@@ -99,107 +108,19 @@ impl<'a, V> Iterator for Within<'a, V> {
 fn left_of<'a, V>(
     tile: Option<&'a Tile<V>>,
     area: Rect,
+    mask: u64,
     corner: Address,
     bit: u32,
     end: u32,
 ) -> Option<(u32, &'a V)>
-    requires { end ≤ 64 }
+    requires end { end ≤ 64 }
+    requires mask { IsMask area corner mask bit end }
     ensures some { IfSome result (λ x. MatchOption tile.entry ⊥ (λ t. IsNextLeft area t.now corner bit end x.0 x.1.now)) }
     ensures none { IfNone result (IfSome tile.entry (λ t. HasNoneLeft area t.now corner bit end)) }
 {
     match tile {
-        Some(tile) => left_in(tile, area, corner, bit, end),
+        Some(tile) => left_in(tile, area, mask, corner, bit, end),
         None => None,
-    }
-}
-
-/// The first bit of what is left of a tile, of a cell of a rectangle, that has something, with what it has.
-fn left_in<'a, V>(
-    tile: &'a Tile<V>,
-    area: Rect,
-    corner: Address,
-    bit: u32,
-    end: u32,
-) -> Option<(u32, &'a V)>
-    requires { end ≤ 64 }
-    ensures some { IfSome result (λ x. IsNextLeft area tile.now corner bit end x.0 x.1.now) }
-    ensures none { IfNone result (HasNoneLeft area tile.now corner bit end) }
-{
-    let mut from = bit;
-    'bits: while from < end {
-        match tile.first(from, end) {
-            Some(found) => {
-                if area.contains(cell_in(corner, found)) {
-                    return match tile.value(found) {
-                        Some(value) => Some((found, value)),
-                        None => unreachable!(),
-                    };
-                }
-                from = found + 1;
-            }
-            None => return None,
-        }
-    }
-    None
-}
-
-/// The first cell of a rectangle, at a cell or after it, that has something, with its tile and with what it has.
-pub fn found_from<'a, V>(
-    pages: &'a Pages<V>,
-    area: Rect,
-    from: Address,
-) -> Option<(Address, &'a Tile<V>, &'a V)>
-    ensures some { IfSome result (λ x. IsNext pages.now area from x.0 × (tile_at pages.now x.0 ≡ Some x.1.now)
-        × (at_cell pages.now x.0 ≡ Some x.2.now)) }
-    ensures sheet { IfSome result (λ x. x.0 < 17179869184) }
-    ensures none { IfNone result ((c : ℕ) → is_ahead area from c ≡ true → at_cell pages.now c ≡ None) }
-{
-    match next_cell(pages, area, from) {
-        Some(cell) => match tile_of(pages, cell) {
-            Some(tile) => match tile.value(bit_of(cell)) {
-                Some(value) => Some((cell, tile, value)),
-                None => unreachable!(),
-            },
-            None => unreachable!(),
-        },
-        None => None,
-    }
-}
-
-/// The bit of a cell in its tile.
-fn bit_of(cell: Address) -> u32
-    ensures bit { result ≡ bit_of cell }
-    ensures within { result < 64 }
-{
-    cell.row() % 16 * 4 + cell.column() % 4
-}
-
-/// The cell of a bit of the tile in which a cell stands.
-fn cell_in(corner: Address, bit: u32) -> Address
-    requires { bit < 64 }
-    ensures { result ≡ cell_in corner bit }
-{
-    Address::at(
-        corner.row() / 16 * 16 + bit / 4,
-        corner.column() / 4 * 4 + bit % 4,
-    )
-}
-
-/// Whether a rectangle lies in one column of tiles.
-fn is_narrow(area: Rect) -> bool
-    ensures { result ≡ is_narrow area }
-{
-    area.first().column() / 4 == area.last().column() / 4
-}
-
-/// Up to which bit a walk stays in the tile of a cell: through all of it, or to the end of the cell's row.
-fn end_in(area: Rect, cell: Address) -> u32
-    ensures { result ≡ end_in area cell }
-{
-    if is_narrow(area) {
-        64
-    } else {
-        cell.row() % 16 * 4 + 4
     }
 }
 

@@ -1,6 +1,7 @@
 -- Where a walk through a rectangle stands.
-use Rattle.std.specs.Prelude.{◌≡◌, ℕ, ◌+◌, ◌*◌, ◌/◌, ◌%◌, ◌<◌, ◌≤◌, Bool, true, false, ◌&&◌, ◌||◌, ◌==◌, nat_le, nat_lt, if◌then◌else◌, List, Option, Some, None, IfSome, IfNone}
+use Rattle.std.specs.Prelude.{◌≡◌, ℕ, ◌+◌, ◌-◌, ◌*◌, ◌/◌, ◌%◌, ◌^◌, bit_and, ◌<◌, ◌≤◌, Bool, true, false, ◌&&◌, ◌||◌, ◌==◌, nat_le, nat_lt, if◌then◌else◌, List, Option, Some, None, IfSome, IfNone}
 use Rattle.std.specs.Borrow.{Bor}
+use Rattle.std.specs.Int.{bit_at}
 use Rattle.wi_values.specs.Address.{Area, place, row_of, column_of, is_within}
 use Rattle.wi_tiles.specs.Inner.Cells.{Pages, Band}
 use Rattle.wi_tiles.specs.Inner.Lines.{slot}
@@ -52,11 +53,23 @@ IsNextLeft r t corner bit end b v = (bit ≤ b) × (b < end) × (is_within r (ce
 abbrev pub HasNoneLeft : {V : Type 0} → Area → List (Option V) → ℕ → ℕ → ℕ → Type 0
 HasNoneLeft r t corner bit end = (i : ℕ) → bit ≤ i → i < end → is_within r (cell_in corner i) ≡ true → slot t i ≡ None
 
+-- of its bits, from one up to another, those are in the mask whose cells lie in the rectangle
+abbrev pub IsMask : Area → ℕ → ℕ → ℕ → ℕ → Type 0
+IsMask r corner mask bit end = (i : ℕ) → bit ≤ i → i < end → (bit_at mask i == 1) ≡ is_within r (cell_in corner i)
+
+-- the bits from one of a line up to another, and the same in each line
+abbrev pub line_of : ℕ → ℕ → ℕ
+line_of low high = bit_and (15 / 2 ^ (4 - high)) (15 * 2 ^ low % 2 ^ 64)
+
+abbrev pub lines_of : ℕ → ℕ
+lines_of line = line * 1229782938247303441
+
 -- what is left of the tile comes before what comes behind it
-pub record IsWalk {V : Type 0} (w : Pages V) (r : Area) (ahead : Option ℕ) (tile : Option (Bor (List (Option V)))) (corner bit end : ℕ) : Type 0 where
+pub record IsWalk {V : Type 0} (w : Pages V) (r : Area) (ahead : Option ℕ) (tile : Option (Bor (List (Option V)))) (corner mask bit end : ℕ) : Type 0 where
   pub stands : IfSome tile (λ t. tile_at w corner ≡ Some t.now)
   pub nothing : IfNone tile (end ≤ bit)
   pub within : end ≤ 64
+  pub masks : IsMask r corner mask bit end
   pub sheet : corner < 17179869184
   pub order : (b c : ℕ) → is_left corner bit end b ≡ true → is_within r b ≡ true → is_from ahead c ≡ true → is_within r c ≡ true → b < c
 
@@ -64,9 +77,12 @@ pub record IsWalk {V : Type 0} (w : Pages V) (r : Area) (ahead : Option ℕ) (ti
 abbrev pub is_narrow : Area → Bool
 is_narrow r = column_of r.first / 4 == column_of r.last / 4
 
--- up to which bit the walk stays in the tile of a cell: through all of it, or to the end of the cell's row
+-- up to which bit the walk stays in the tile of a cell: to the end of the rectangle or the tile, or to the end of the cell's row
+abbrev pub end_narrow : Area → ℕ → ℕ
+end_narrow r a = if nat_lt (row_of r.last) (row_of a / 16 * 16 + 16) then row_of r.last % 16 * 4 + 4 else 64
+
 abbrev pub end_in : Area → ℕ → ℕ
-end_in r a = if is_narrow r then 64 else row_of a % 16 * 4 + 4
+end_in r a = if is_narrow r then end_narrow r a else row_of a % 16 * 4 + 4
 
 -- where it goes on behind that
 abbrev pub ahead_narrow : Area → ℕ → Option ℕ

@@ -1,9 +1,9 @@
-use Rattle.std.proofs.Common.{ap, ◌∙◌, ◌<◌, ◌*◌, length, subst}
+use Rattle.std.proofs.Common.{arith, ap, ◌∙◌, ◌<◌, ◌*◌, length, subst}
 use Rattle.std.specs.Ordering.{nat_cmp}
 use Rattle.std.specs.List.{All}
 use Rattle.wi_values.specs.Address.{rows, columns}
 use Rattle.wi_tiles.specs.Entries.{IsOrdered}
-use Rattle.wi_tiles.proofs.MapLemmas.{rises, within_sheet}
+use Rattle.wi_tiles.proofs.MapLemmas.{rises, within_sheet, length_within}
 use Rattle.wi_tiles.proofs.cell_map.CellMap.len.Goals as goal
 
 pub returns-clause-len : goal.returns-clause-len
@@ -14,3 +14,6 @@ returns-clause-ordered g c = subst (λ m. IsOrdered nat_cmp m) c.self.view_is (r
 
 pub returns-clause-sheet : goal.returns-clause-sheet
 returns-clause-sheet g c = subst (λ m. All (λ e. e.0 < rows * columns) m.entries) c.self.view_is (within_sheet c.self.inside.pages)
+
+pub returns-clause-small : goal.returns-clause-small
+returns-clause-small g c = omega (arith, c.self.invariant, length_within c.self.inside.pages)

@@ -9,6 +9,7 @@ invariant_of-result g c =
       stands = tt;
       nothing = omega arith;
       within = omega arith;
+      masks = λ i l u. absurd (omega (arith, u));
       sheet = here;
       order = λ b d left m f k. absurd (none_left c.args.from 0 0 (omega arith) b left);
     }

@@ -1,7 +1,7 @@
 use Rattle.std.proofs.Common.{sym, ap, ◌∙◌, refl}
 use Rattle.wi_tiles.specs.Inner.Lines.{slot}
 use Rattle.wi_tiles.proofs.WalkLemmas.{tile_cell, no_tile, no_value}
-use Rattle.wi_tiles.proofs.within.found_from.Goals as goal
+use Rattle.wi_tiles.proofs.found.found_wide.Goals as goal
 
 pub unreachable-requires : goal.unreachable-requires
 unreachable-requires g c =
