@@ -6,7 +6,7 @@ use Rattle.wi_parser.specs.declared.expr.Sign.TheVariants.{Plus, Minus}
 use Rattle.wi_parser.specs.Tree.{Tree, Trees}
 use Rattle.wi_parser.specs.Symbol.{Symbol, numeral, text_literal, open_parenthesis, close_parenthesis, separator, infix_mark, sign_mark, percent_mark, what_if_name, name, refused}
 use Rattle.wi_parser.specs.Nesting.{is_sign}
-use Rattle.wi_parser.specs.Grammar.{pair_symbols}
+use Rattle.wi_parser.specs.Inner.WhatIf.{pair_symbols}
 use Rattle.wi_parser.specs.Inner.Lines.{loosest, Spells, a_number, a_text, a_cell, a_rectangle, in_parentheses, one_input, two_inputs, a_call, with_sign, with_percent, tighter, joined, SpellsAll, SpellsMore, no_parameter, parameters, last_parameter, another_parameter}
 
 -- an operand may begin with the symbol

@@ -9,7 +9,8 @@ use Rattle.wi_parser.specs.declared.expr.Sign.{Sign}
 use Rattle.wi_parser.specs.declared.expr.Sign.TheVariants.{Plus, Minus}
 use Rattle.wi_parser.specs.Tree.{Tree, number, cell, rectangle, parenthesized, signed, percent, binary, what_if, Trees, text, call, no_trees, more_trees}
 use Rattle.wi_parser.specs.Symbol.{Symbol, numeral, reference, corners, open_parenthesis, close_parenthesis, infix_mark, sign_mark, percent_mark, text_literal, separator, name}
-use Rattle.wi_parser.specs.Grammar.{line_of, pair_symbols, what_if_symbols}
+use Rattle.wi_parser.specs.Grammar.{line_of}
+use Rattle.wi_parser.specs.Inner.WhatIf.{pair_symbols, what_if_symbols}
 use Rattle.wi_parser.specs.Inner.Lines.{loosest, Spells, a_number, a_cell, a_rectangle, in_parentheses, one_input, two_inputs, with_sign, with_percent, tighter, joined, SpellsAll, SpellsMore, a_text, a_call, no_parameter, parameters, last_parameter, another_parameter}
 use Rattle.wi_parser.specs.Inner.Reader.{Parse, read_then, then_close, after_percent, operator_at, pair_at, what_if_at, atom, signed_read, prefixed, percents, chain, line, expression, if_last, whole, after_close, put_first, more_parameters, parameters_at, as_call}
 use Rattle.wi_parser.specs.Nesting.{depth, greatest_depth}

@@ -7,7 +7,7 @@ use Rattle.wi_values.specs.Address.{columns, rows, place, row_of, column_of}
 use Rattle.wi_parser.specs.declared.expr.Expr.{Expr}
 use Rattle.wi_parser.specs.declared.expr.Reference.{Reference}
 use Rattle.wi_parser.specs.Inner.FormulaText.{formula_symbols}
-use Rattle.wi_parser.specs.Grammar.{pair_symbols}
+use Rattle.wi_parser.specs.Inner.WhatIf.{pair_symbols}
 use Rattle.wi_parser.specs.Inner.Lines.{loosest, Spells}
 use Rattle.wi_parser.specs.Nesting.{deepest, most_signs, max_depth, is_sign}
 use Rattle.wi_parser.specs.Printing.{printed}

@@ -8,7 +8,8 @@ use Rattle.wi_parser.specs.declared.expr.Reference.{Reference}
 use Rattle.wi_parser.specs.declared.expr.Sign.{Sign}
 use Rattle.wi_parser.specs.declared.expr.Sign.TheVariants.{Plus, Minus}
 use Rattle.wi_parser.specs.Symbol.{Symbol, reference, open_parenthesis, close_parenthesis, separator, infix_mark, sign_mark, percent_mark}
-use Rattle.wi_parser.specs.Grammar.{line_of, pair_symbols}
+use Rattle.wi_parser.specs.Grammar.{line_of}
+use Rattle.wi_parser.specs.Inner.WhatIf.{pair_symbols}
 use Rattle.wi_parser.specs.Inner.Reader.{after_open, after_close, after_separator, after_percent, reference_at, sign_of, sign_at, operator_at, operator_within, parameter_at, pair_at}
 
 pub open_is : (ts us : List Symbol) → after_open ts ≡ Some us → ts ≡ open_parenthesis ∷ us

@@ -24,7 +24,7 @@ use Rattle.wi_parser.specs.declared.expr.Reference as references
 use Rattle.wi_parser.specs.declared.fault.ParseFault.TheVariants.{OutOfSheet}
 use Rattle.wi_parser.specs.Inner.FormulaText.{number_symbol, cell_symbol, reference_symbol, corners_symbol, rectangle_symbol, mark_symbol, symbol_of}
 use Rattle.wi_parser.specs.Symbols.{reference_to}
-use Rattle.wi_parser.specs.Printing.{mark_of}
+use Rattle.wi_parser.specs.Printing.{operator_text}
 use Rattle.wi_parser.specs.Symbol.{Symbol, text_literal, refused, infix_mark}
 use Rattle.wi_parser.specs.Symbols.{Means, a_number, an_unfit_number, a_text, a_reference, an_outside_reference, a_rectangle, an_outside_rectangle, a_name, an_opening_parenthesis, a_closing_parenthesis, a_separator, a_percent_mark, an_operator}
 
@@ -91,6 +91,25 @@ no_corners (Some r) None h = refl
 no_corners (Some r) (Some s) (inl e) = cc
 no_corners (Some r) (Some s) (inr e) = cc
 
+-- the token of an operator
+abbrev pub mark_of : Operator → mark.Mark
+mark_of operator.Add = Plus
+mark_of operator.Subtract = Minus
+mark_of operator.Multiply = Asterisk
+mark_of operator.Divide = Slash
+mark_of operator.Power = Caret
+mark_of operator.Join = Ampersand
+mark_of operator.Equal = Equal
+mark_of operator.NotEqual = NotEqual
+mark_of operator.Less = Less
+mark_of operator.LessOrEqual = LessOrEqual
+mark_of operator.Greater = Greater
+mark_of operator.GreaterOrEqual = GreaterOrEqual
+
+pub operator_is : (op : Operator) → operator_text op ≡ mark_text (mark_of op)
+operator_is operator.Add = refl
+operator_is op = refl
+
 pub operator_means : (op : Operator) → mark_symbol (mark_of op) ≡ infix_mark op
 operator_means operator.Add = refl
 operator_means op = refl
@@ -112,7 +131,7 @@ means_token text s an_opening_parenthesis = (Mark OpenParenthesis, refl, refl)
 means_token text s a_closing_parenthesis = (Mark CloseParenthesis, refl, refl)
 means_token text s a_separator = (Mark Semicolon, refl, refl)
 means_token text s a_percent_mark = (Mark Percent, refl, refl)
-means_token text s (an_operator op) = (Mark (mark_of op), refl, operator_means op)
+means_token text s (an_operator op) = (Mark (mark_of op), operator_is op, operator_means op)
 
 meant : (text : List ℕ) (s : Symbol) → StandsFor text s → Means text s
 meant text s h = subst (Means text) h.2 (token_means h.0 text h.1)

@@ -4,18 +4,18 @@ use Rattle.std.proofs.lemmas.List.Concat.{flat_map-append}
 use Rattle.std.specs.List.{flat_map}
 use Rattle.std.specs.Io.{StartsWith}
 pub use Rattle.wi_fraction.proofs.Decimals.{starts_itself, starts_more, starts_trans, starts_with, cut_place}
-use Rattle.wi_lexer.specs.Mark.{mark_text}
 use Rattle.wi_lexer.specs.Reference.{reference_text}
 use Rattle.wi_parser.specs.declared.expr.Expr.{Expr}
 use Rattle.wi_parser.specs.declared.expr.Operator.{Operator}
 use Rattle.wi_parser.specs.declared.expr.Pair.{Pair}
 use Rattle.wi_parser.specs.declared.expr.Reference.{Reference}
-use Rattle.wi_parser.specs.Grammar.{pair_symbols}
+use Rattle.wi_parser.specs.Inner.WhatIf.{pair_symbols}
 use Rattle.wi_parser.specs.Spelling.{spelling, spelling_of_all, spelling_of_more}
 use Rattle.wi_parser.specs.Tree.{Tree, Trees, parenthesized, percent, binary, what_if, no_trees, more_trees}
 use Rattle.wi_parser.specs.Symbol.{Symbol, close_parenthesis, infix_mark, percent_mark}
 use Rattle.wi_parser.specs.View.{tree_of, all_of, pair_of}
-use Rattle.wi_parser.specs.Printing.{cell_named, mark_of, symbol_text, symbols_text, tree_text}
+use Rattle.wi_parser.specs.Printing.{cell_named, operator_text, symbol_text}
+use Rattle.wi_parser.specs.Inner.SymbolLists.{symbols_text, tree_text}
 use Rattle.wi_parser.specs.Inner.PrintedParts.{pairs_text}
 
 -- what a text begins with, a text that is the same begins with
@@ -101,9 +101,9 @@ pub symbol_written : {E : Type 0} (r : Result (Unit {0}) E) (o d word : List ℕ
 symbol_written r o d word e h same = subst (λ x. OnOk r (d ≡ o ++ x)) (sym (same ∙ append-nil word)) h
 
 pub binary_written : {E : Type 0} (r : Result (Unit {0}) E) (o a d : List ℕ) (e : Expr) (op : Operator) (t u : Tree)
-    → tree_of e ≡ binary op t u → a ≡ o ++ tree_text t → OnOk r (d ≡ a ++ (mark_text (mark_of op) ++ tree_text u)) → OnOk r (d ≡ o ++ tree_text (tree_of e))
+    → tree_of e ≡ binary op t u → a ≡ o ++ tree_text t → OnOk r (d ≡ a ++ (operator_text op ++ tree_text u)) → OnOk r (d ≡ o ++ tree_text (tree_of e))
 binary_written (Ok x) o a d e op t u same h k =
-    let more = mark_text (mark_of op) ++ tree_text u in
+    let more = operator_text op ++ tree_text u in
     k ∙ ap (λ x. x ++ more) h ∙ append_assoc o (tree_text t) more ∙ ap (λ x. o ++ x) (sym (symbols_more (spelling t) (infix_mark op ∷ spelling u)))
     ∙ ap (λ v. o ++ tree_text v) (sym same)
 binary_written (Err x) o a d e op t u same h k = tt

@@ -9,7 +9,8 @@ use Rattle.wi_parser.specs.Symbol.{Symbol}
 use Rattle.wi_parser.specs.Inner.Lines.{loosest, Spells}
 use Rattle.wi_parser.specs.Nesting.{deepest, most_signs, max_depth}
 use Rattle.wi_parser.specs.Spelling.{spelling}
-use Rattle.wi_parser.specs.Printing.{symbol_text, symbols_text, printed}
+use Rattle.wi_parser.specs.Printing.{symbol_text, printed}
+use Rattle.wi_parser.specs.Inner.SymbolLists.{symbols_text}
 use Rattle.wi_parser.specs.Inner.FormulaText.{symbols_of, formula_symbols}
 use Rattle.wi_parser.specs.Limits.{max_formula}
 use Rattle.wi_parser.specs.Inner.Reading.{IsWithinLimits, parsed}

@@ -17,7 +17,9 @@ use Rattle.wi_lexer.proofs.RunLemmas.{digits_all}
 use Rattle.wi_parser.specs.declared.expr.Operator.{Operator}
 use Rattle.wi_parser.specs.declared.expr.Operator.TheVariants as operator
 use Rattle.wi_parser.specs.Symbol.{Symbol, numeral, text_literal, reference, corners, open_parenthesis, close_parenthesis, separator, infix_mark, percent_mark, what_if_name, name, refused}
-use Rattle.wi_parser.specs.Printing.{mark_of, symbol_text, symbols_text}
+use Rattle.wi_parser.specs.Printing.{symbol_text}
+use Rattle.wi_parser.specs.Inner.SymbolLists.{symbols_text}
+use Rattle.wi_parser.proofs.Meanings.{mark_of}
 use Rattle.wi_parser.specs.Writable.{IsWritable}
 use Rattle.wi_parser.proofs.Apart.{begins, at_operand, after_operand, at_parenthesis, stands_before}
 use Rattle.wi_parser.proofs.WrittenSymbols.{kind_of, number_is}

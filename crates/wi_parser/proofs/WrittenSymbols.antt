@@ -26,12 +26,12 @@ use Rattle.wi_parser.specs.declared.expr.Reference as references
 use Rattle.wi_parser.specs.Symbol.{Symbol, numeral, text_literal, reference, corners, open_parenthesis, close_parenthesis, separator, infix_mark, percent_mark, what_if_name, name, refused}
 use Rattle.wi_parser.specs.Capitals.{in_capitals}
 use Rattle.wi_parser.specs.Shift.{in_sheet}
-use Rattle.wi_parser.specs.Printing.{cell_named, mark_of, symbol_text}
+use Rattle.wi_parser.specs.Printing.{cell_named, symbol_text}
 use Rattle.wi_parser.specs.Inner.FormulaText.{number_symbol, cell_symbol, reference_symbol, corners_symbol, rectangle_symbol, symbol_of}
 use Rattle.wi_parser.specs.Writable.{IsFunctionName, IsWritable}
 use Rattle.wi_parser.proofs.CellsOfSheet.{cell_is, cell_means}
 use Rattle.wi_parser.proofs.Apart.{stands_before}
-use Rattle.wi_parser.proofs.Meanings.{operator_means}
+use Rattle.wi_parser.proofs.Meanings.{mark_of, operator_is, operator_means}
 
 -- the kind of the token that a symbol is written as; a refused one is not written
 abbrev pub kind_of : Symbol → Kind
@@ -103,7 +103,7 @@ written (numeral x) ts w e = number_written x w
 written (text_literal s) ts w e = record { token = of_content s; means = ap text_literal (text_reads_back s) }
 written (reference r) ts w e = reference_written r w
 written (corners c) ts w e = corners_written c w.0 w.1
-written (infix_mark op) ts w e = record { token = refl; means = operator_means op }
+written (infix_mark op) ts w e = record { token = operator_is op; means = operator_means op }
 written what_if_name ts w e = record { token = record { start = refl; parts = refl }; means = refl }
 written (name f) ts w e = name_written f w
 written (refused f) ts w e = cc

@@ -1,10 +1,8 @@
--- The grammar of formulas: which trees are formulas, and which parts stand between which symbols (OpenFormula, "Expression Syntax").
-use Rattle.std.specs.Prelude.{ℕ, ◌≤◌, ◌<◌, List, [], ◌∷◌, ◌++◌, length}
+-- The grammar of formulas: which trees are formulas (OpenFormula, "Expression Syntax").
+use Rattle.std.specs.Prelude.{ℕ, ◌≤◌, ◌<◌, length}
 use Rattle.wi_parser.specs.declared.expr.Operator.{Operator}
-use Rattle.wi_parser.specs.declared.expr.Operator.TheVariants.{Add, Subtract, Multiply, Divide, Power, Join, Equal, NotEqual, Less, LessOrEqual, Greater, GreaterOrEqual}
-use Rattle.wi_parser.specs.declared.expr.Reference.{Reference}
+use Rattle.wi_parser.specs.declared.expr.Operator.TheVariants.{Add, Subtract, Multiply, Divide, Power, Join}
 use Rattle.wi_parser.specs.Tree.{Tree, parenthesized, signed, percent, binary, what_if, Trees, call, no_trees, more_trees}
-use Rattle.wi_parser.specs.Symbol.{Symbol, reference, open_parenthesis, close_parenthesis, separator, what_if_name}
 
 abbrev pub line_of : Operator → ℕ
 line_of Power = 3
@@ -13,12 +11,7 @@ line_of Divide = 4
 line_of Add = 5
 line_of Subtract = 5
 line_of Join = 6
-line_of Equal = 7
-line_of NotEqual = 7
-line_of Less = 7
-line_of LessOrEqual = 7
-line_of Greater = 7
-line_of GreaterOrEqual = 7
+line_of op = 7
 
 -- the line of a tree: 0 Atom, 1 Prefix, 2 Percent, 3 Power, 4 Product, 5 Sum, 6 Concat, 7 Compare
 abbrev pub tree_line : Tree → ℕ
@@ -42,12 +35,3 @@ abbrev mutual
   pub AreGrammatical : Trees → Type 0
   AreGrammatical no_trees = Unit {0}
   AreGrammatical (more_trees t ts) = IsGrammatical t × AreGrammatical ts
-
--- ---- symbols between the parts
-
--- an input and its replacement cell
-abbrev pub pair_symbols : Reference × Reference → List Symbol
-pair_symbols p = separator ∷ reference p.0 ∷ separator ∷ reference p.1 ∷ []
-
-abbrev pub what_if_symbols : Reference → List Symbol → List Symbol
-what_if_symbols f parameters = what_if_name ∷ open_parenthesis ∷ reference f ∷ parameters ++ close_parenthesis ∷ []

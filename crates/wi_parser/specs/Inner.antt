@@ -8,5 +8,7 @@ pub mod Outcome
 pub mod PrintedParts
 pub mod Reader
 pub mod Reading
+pub mod SymbolLists
 pub mod SymbolCode
 pub mod TreeCode
+pub mod WhatIf

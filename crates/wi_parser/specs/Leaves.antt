@@ -2,7 +2,7 @@
 use Rattle.std.specs.Prelude.{List, [], ◌∷◌, ◌++◌}
 use Rattle.wi_parser.specs.declared.expr.Corners.{Corners}
 use Rattle.wi_parser.specs.declared.expr.Reference.{Reference}
-use Rattle.wi_parser.specs.Tree.{Tree, Trees, number, text, cell, rectangle, parenthesized, signed, percent, binary, what_if, call, no_trees, more_trees}
+use Rattle.wi_parser.specs.Tree.{Tree, Trees, cell, rectangle, parenthesized, signed, percent, binary, what_if, call, no_trees, more_trees}
 
 -- a what-if has its formula cell, and each input with its replacement cell
 pub data Leaf : Type 0 where
@@ -13,8 +13,6 @@ pub data Leaf : Type 0 where
 abbrev mutual
   -- from the left
   pub leaves : Tree → List Leaf
-  leaves (number x) = []
-  leaves (text s) = []
   leaves (cell r) = cell_leaf r ∷ []
   leaves (rectangle c) = rectangle_leaf c ∷ []
   leaves (parenthesized t) = leaves t
@@ -23,6 +21,7 @@ abbrev mutual
   leaves (binary op t u) = leaves t ++ leaves u
   leaves (what_if f pairs) = what_if_leaf f pairs ∷ []
   leaves (call f ts) = all_leaves ts
+  leaves t = []
 
   pub all_leaves : Trees → List Leaf
   all_leaves no_trees = []

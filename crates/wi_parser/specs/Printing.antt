@@ -1,5 +1,5 @@
 -- The text of a formula.
-use Rattle.std.specs.Prelude.{◌+◌, List, [], ◌++◌, codes}
+use Rattle.std.specs.Prelude.{◌+◌, [], ◌++◌, codes}
 use Rattle.std.specs.Fmt.{decimal}
 use Rattle.std.specs.List.{flat_map}
 use Rattle.wi_fraction.specs.Decimal.{decimal_text}
@@ -8,9 +8,6 @@ use Rattle.wi_quoting.specs.Quoted.{quoted}
 use Rattle.wi_lexer.specs.Cell.{Cell}
 use Rattle.wi_lexer.specs.Reference.{reference_text}
 use Rattle.wi_lexer.specs.Rectangle.{rectangle_text}
-use Rattle.wi_lexer.specs.Mark.{mark_text}
-use Rattle.wi_lexer.specs.declared.token.Mark.{Mark}
-use Rattle.wi_lexer.specs.declared.token.Mark.TheVariants as mark
 use Rattle.wi_parser.specs.declared.expr.Operator.{Operator}
 use Rattle.wi_parser.specs.declared.expr.Operator.TheVariants.{Add, Subtract, Multiply, Divide, Power, Join, Equal, NotEqual, Less, LessOrEqual, Greater, GreaterOrEqual}
 use Rattle.wi_parser.specs.declared.expr.Reference.{Reference}
@@ -28,19 +25,19 @@ cell_named r = record {
   digits = decimal (row_of r.at + 1);
 }
 
-abbrev pub mark_of : Operator → Mark
-mark_of Add = mark.Plus
-mark_of Subtract = mark.Minus
-mark_of Multiply = mark.Asterisk
-mark_of Divide = mark.Slash
-mark_of Power = mark.Caret
-mark_of Join = mark.Ampersand
-mark_of Equal = mark.Equal
-mark_of NotEqual = mark.NotEqual
-mark_of Less = mark.Less
-mark_of LessOrEqual = mark.LessOrEqual
-mark_of Greater = mark.Greater
-mark_of GreaterOrEqual = mark.GreaterOrEqual
+abbrev pub operator_text : Operator → Bytes
+operator_text Add = codes "+"
+operator_text Subtract = codes "-"
+operator_text Multiply = codes "*"
+operator_text Divide = codes "/"
+operator_text Power = codes "^"
+operator_text Join = codes "&"
+operator_text Equal = codes "="
+operator_text NotEqual = codes "<>"
+operator_text Less = codes "<"
+operator_text LessOrEqual = codes "<="
+operator_text Greater = codes ">"
+operator_text GreaterOrEqual = codes ">="
 
 -- no tree has a refused symbol
 abbrev pub symbol_text : Symbol → Bytes
@@ -51,17 +48,11 @@ symbol_text (corners c) = rectangle_text (cell_named c.one) (cell_named c.other)
 symbol_text open_parenthesis = codes "("
 symbol_text close_parenthesis = codes ")"
 symbol_text separator = codes ";"
-symbol_text (infix_mark op) = mark_text (mark_of op)
+symbol_text (infix_mark op) = operator_text op
 symbol_text percent_mark = codes "%"
 symbol_text what_if_name = codes "MULTIPLE.OPERATIONS"
 symbol_text (name f) = f
 symbol_text (refused e) = []
 
-abbrev pub symbols_text : List Symbol → Bytes
-symbols_text = flat_map symbol_text
-
-abbrev pub tree_text : Tree → Bytes
-tree_text t = symbols_text (spelling t)
-
 abbrev pub printed : Tree → Bytes
-printed t = codes "=" ++ tree_text t
+printed t = codes "=" ++ flat_map symbol_text (spelling t)

@@ -5,7 +5,7 @@ use Rattle.wi_values.specs.Address.{columns, rows, place, row_of, column_of}
 use Rattle.wi_parser.specs.declared.expr.Reference.{Reference}
 use Rattle.wi_parser.specs.declared.shift.ShiftFault.{ShiftFault}
 use Rattle.wi_parser.specs.declared.shift.ShiftFault.TheVariants.{LeavesSheet, Memory}
-use Rattle.wi_parser.specs.Tree.{Tree, Trees, number, text, cell, rectangle, parenthesized, signed, percent, binary, what_if, call, no_trees, more_trees}
+use Rattle.wi_parser.specs.Tree.{Tree, Trees, cell, rectangle, parenthesized, signed, percent, binary, what_if, call, no_trees, more_trees}
 use Rattle.wi_parser.specs.Leaves.{Leaf, cell_leaf, rectangle_leaf, what_if_leaf, leaves}
 
 -- ---- references
@@ -49,8 +49,6 @@ all_references p t = list_all p (flat_map leaf_references (leaves t))
 
 abbrev mutual
   pub map_references : (Reference → Reference) → Tree → Tree
-  map_references f (number x) = number x
-  map_references f (text s) = text s
   map_references f (cell r) = cell (f r)
   map_references f (rectangle c) = rectangle (record { one = f c.one; other = f c.other })
   map_references f (parenthesized t) = parenthesized (map_references f t)
@@ -59,6 +57,7 @@ abbrev mutual
   map_references f (binary op t u) = binary op (map_references f t) (map_references f u)
   map_references f (what_if r pairs) = what_if (f r) (map (λ q. (f q.0, f q.1)) pairs)
   map_references f (call g ts) = call g (map_references_in f ts)
+  map_references f t = t
 
   pub map_references_in : (Reference → Reference) → Trees → Trees
   map_references_in f no_trees = no_trees

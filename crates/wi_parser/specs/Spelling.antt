@@ -2,8 +2,8 @@
 use Rattle.std.specs.Prelude.{◌≡◌, List, [], ◌∷◌, ◌++◌}
 use Rattle.std.specs.List.{flat_map}
 use Rattle.wi_parser.specs.Tree.{Tree, Trees, number, text, cell, rectangle, parenthesized, signed, percent, binary, what_if, call, no_trees, more_trees}
-use Rattle.wi_parser.specs.Symbol.{Symbol, numeral, text_literal, reference, corners, open_parenthesis, close_parenthesis, separator, infix_mark, sign_mark, percent_mark, name}
-use Rattle.wi_parser.specs.Grammar.{IsGrammatical, pair_symbols, what_if_symbols}
+use Rattle.wi_parser.specs.Symbol.{Symbol, numeral, text_literal, reference, corners, open_parenthesis, close_parenthesis, separator, infix_mark, sign_mark, percent_mark, what_if_name, name}
+use Rattle.wi_parser.specs.Grammar.{IsGrammatical}
 use Rattle.wi_parser.specs.Inner.Lines.{loosest, Spells}
 
 abbrev mutual
@@ -17,7 +17,9 @@ abbrev mutual
   spelling (signed s t) = sign_mark s ∷ spelling t
   spelling (percent t) = spelling t ++ percent_mark ∷ []
   spelling (binary op l r) = spelling l ++ infix_mark op ∷ spelling r
-  spelling (what_if f pairs) = what_if_symbols f (flat_map pair_symbols pairs)
+  spelling (what_if f pairs) =
+      what_if_name ∷ open_parenthesis ∷ reference f
+      ∷ flat_map (λ p. separator ∷ reference p.0 ∷ separator ∷ reference p.1 ∷ []) pairs ++ close_parenthesis ∷ []
   spelling (call f ts) = name f ∷ open_parenthesis ∷ spelling_of_all ts
 
   pub spelling_of_all : Trees → List Symbol

@@ -19,11 +19,8 @@ pub data Symbol : Type 0 where
   reference : Reference → Symbol
   -- a reference to a rectangle
   corners : Corners → Symbol
-  open_parenthesis : Symbol
-  close_parenthesis : Symbol
-  separator : Symbol
+  open_parenthesis close_parenthesis separator percent_mark : Symbol
   infix_mark : Operator → Symbol
-  percent_mark : Symbol
   -- the name MULTIPLE.OPERATIONS
   what_if_name : Symbol
   -- another name, in capitals

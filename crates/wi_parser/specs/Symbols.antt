@@ -1,10 +1,9 @@
 -- The symbols of a text: what its tokens mean, as facts about its bytes.
-use Rattle.std.specs.Prelude.{◌≡◌, ◌≢◌, ℕ, ◌≤◌, ℤ, true, false, List, [], ◌∷◌, ◌++◌, length, ◌⊎◌, Some, None, codes, if◌then◌else◌, Option, option_map}
+use Rattle.std.specs.Prelude.{◌≡◌, ◌≢◌, ℕ, ◌≤◌, ℤ, true, false, List, [], ◌∷◌, ◌++◌, length, ◌⊎◌, Some, None, codes, if◌then◌else◌, Option, option_map, map}
 use Rattle.wi_fraction.specs.Number.{Number}
 use Rattle.wi_fraction.specs.Written.{Writes, written_value}
 use Rattle.wi_quoting.specs.Quoted.{quoted}
 use Rattle.wi_lexer.specs.Cell.{Cell, IsCell}
-use Rattle.wi_lexer.specs.Mark.{mark_text}
 use Rattle.wi_lexer.specs.Name.{IsName}
 use Rattle.wi_lexer.specs.Rectangle.{rectangle_text}
 use Rattle.wi_lexer.specs.Reference.{reference_text}
@@ -13,11 +12,11 @@ use Rattle.wi_parser.specs.declared.expr.Corners.{Corners}
 use Rattle.wi_parser.specs.declared.expr.Operator.{Operator}
 use Rattle.wi_parser.specs.declared.expr.Reference.{Reference}
 use Rattle.wi_parser.specs.declared.fault.ParseFault.TheVariants.{OutOfSheet, NumberRange, Syntax}
-use Rattle.wi_parser.specs.Printing.{mark_of}
+use Rattle.wi_parser.specs.Printing.{operator_text}
 use Rattle.wi_parser.specs.Symbol.{Symbol, numeral, text_literal, reference, corners, open_parenthesis, close_parenthesis, separator, infix_mark, percent_mark, refused, what_if_name, name}
 use Rattle.std.specs.Str.{str_eq_ignore_ascii_case}
 use Rattle.wi_values.specs.AddressReading.{address_at}
-use Rattle.wi_parser.specs.Capitals.{in_capitals}
+use Rattle.std.specs.Char.{to_ascii_uppercase}
 use Rattle.wi_fraction.specs.Text.{Bytes}
 
 -- if the sheet has the cell
@@ -26,7 +25,7 @@ reference_to c =
     option_map (λ a. record { at = a; column_is_absolute = c.column_is_absolute; row_is_absolute = c.row_is_absolute }) (address_at c.letters c.digits)
 
 abbrev pub name_symbol : Bytes → Symbol
-name_symbol bs = if str_eq_ignore_ascii_case bs (codes "MULTIPLE.OPERATIONS") then what_if_name else name (in_capitals bs)
+name_symbol bs = if str_eq_ignore_ascii_case bs (codes "MULTIPLE.OPERATIONS") then what_if_name else name (map to_ascii_uppercase bs)
 
 -- the token means this symbol
 pub data Means : Bytes → Symbol → Type 0 where
@@ -46,7 +45,7 @@ pub data Means : Bytes → Symbol → Type 0 where
   a_closing_parenthesis : Means (codes ")") close_parenthesis
   a_separator : Means (codes ";") separator
   a_percent_mark : Means (codes "%") percent_mark
-  an_operator : (op : Operator) → Means (mark_text (mark_of op)) (infix_mark op)
+  an_operator : (op : Operator) → Means (operator_text op) (infix_mark op)
 
 abbrev pub NoneLonger : Bytes → Bytes → Type 0
 NoneLonger token bytes = (other rest : Bytes) (s : Symbol) → Means other s → other ++ rest ≡ bytes → length other ≤ length token

@@ -14,9 +14,8 @@ mutual
     text : Bytes → Tree
     cell : Reference → Tree
     rectangle : Corners → Tree
-    parenthesized : Tree → Tree
+    parenthesized percent : Tree → Tree
     signed : Sign → Tree → Tree
-    percent : Tree → Tree
     binary : Operator → Tree → Tree → Tree
     what_if : Reference → List (Reference × Reference) → Tree
     call : Bytes → Trees → Tree

@@ -5,12 +5,12 @@ ghost use Rattle.std.specs.Io.{StartsWith};
 ghost use Rattle.wi_fraction.specs.Decimal.{decimal_text};
 ghost use Rattle.wi_quoting.specs.Quoted.{quoted};
 ghost use Rattle.wi_lexer.specs.Cell.{dollar, cell_text};
-ghost use Rattle.wi_lexer.specs.Mark.{mark_text};
 ghost use Rattle.wi_lexer.specs.Reference.{reference_text};
 ghost use Rattle.wi_lexer.specs.Rectangle.{rectangle_text};
-ghost use Rattle.wi_parser.specs.Grammar.{pair_symbols};
+ghost use Rattle.wi_parser.specs.Inner.WhatIf.{pair_symbols};
 ghost use Rattle.wi_parser.specs.Printing as spec;
-ghost use Rattle.wi_parser.specs.Printing.{cell_named, symbols_text, tree_text, printed};
+ghost use Rattle.wi_parser.specs.Printing.{cell_named, printed};
+ghost use Rattle.wi_parser.specs.Inner.SymbolLists.{symbols_text, tree_text};
 ghost use Rattle.wi_parser.specs.Symbol.{written_as};
 ghost use Rattle.wi_parser.specs.Tree as tree;
 ghost use Rattle.wi_parser.specs.View.{tree_of, all_of, pair_of};
@@ -88,7 +88,7 @@ fn push_percent(operand: &Expr, out: &mut String) -> Result<(), AllocError>
 // Appends an operator and the operand after it. On an error a part of them may be there.
 #[cycle(print)]
 fn push_operation(op: Operator, operand: &Expr, out: &mut String) -> Result<(), AllocError>
-    ensures ok { OnOk result (string_bytes out.new ≡ string_bytes out.old ++ (mark_text (spec.mark_of op) ++ tree_text (tree_of operand.now))) }
+    ensures ok { OnOk result (string_bytes out.new ≡ string_bytes out.old ++ (spec.operator_text op ++ tree_text (tree_of operand.now))) }
     ensures kept { StartsWith (string_bytes out.new) (string_bytes out.old) }
 {
     out.push_str(operator_text(op))?;
@@ -220,7 +220,7 @@ fn push_pair(pair: Pair, out: &mut String) -> Result<(), AllocError>
 
 // How an operator is written.
 fn operator_text(op: Operator) -> &'static str
-    ensures { result.now ≡ mark_text (spec.mark_of op) }
+    ensures { result.now ≡ spec.operator_text op }
 {
     match op {
         Operator::Add => "+",
@@ -240,7 +240,7 @@ fn operator_text(op: Operator) -> &'static str
 
 // How a sign is written.
 fn sign_text(sign: Sign) -> &'static str
-    ensures { result.now ≡ mark_text (spec.mark_of (written_as sign)) }
+    ensures { result.now ≡ spec.operator_text (written_as sign) }
 {
     match sign {
         Sign::Plus => "+",

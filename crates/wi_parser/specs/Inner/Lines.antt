@@ -7,7 +7,8 @@ use Rattle.wi_parser.specs.declared.expr.Operator.{Operator}
 use Rattle.wi_parser.specs.declared.expr.Reference.{Reference}
 use Rattle.wi_parser.specs.declared.expr.Sign.{Sign}
 use Rattle.wi_parser.specs.Tree.{Tree, number, cell, rectangle, parenthesized, signed, percent, binary, what_if, Trees, text, call, no_trees, more_trees}
-use Rattle.wi_parser.specs.Grammar.{line_of, pair_symbols, what_if_symbols}
+use Rattle.wi_parser.specs.Grammar.{line_of}
+use Rattle.wi_parser.specs.Inner.WhatIf.{pair_symbols, what_if_symbols}
 use Rattle.wi_parser.specs.Symbol.{Symbol, numeral, reference, corners, open_parenthesis, close_parenthesis, separator, infix_mark, sign_mark, percent_mark, text_literal, name}
 
 -- the line of a whole formula

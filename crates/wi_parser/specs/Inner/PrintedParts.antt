@@ -2,8 +2,8 @@
 use Rattle.std.specs.Prelude.{ℕ, List, map}
 use Rattle.std.specs.List.{flat_map}
 use Rattle.wi_parser.specs.declared.expr.Pair.{Pair}
-use Rattle.wi_parser.specs.Grammar.{pair_symbols}
-use Rattle.wi_parser.specs.Printing.{symbols_text}
+use Rattle.wi_parser.specs.Inner.WhatIf.{pair_symbols}
+use Rattle.wi_parser.specs.Inner.SymbolLists.{symbols_text}
 use Rattle.wi_parser.specs.View.{pair_of}
 
 -- inputs with their replacement cells, each after a separator

@@ -7,8 +7,8 @@ use Rattle.wi_parser.specs.declared.expr.Expr.{Expr}
 use Rattle.wi_parser.specs.declared.expr.Pair.{Pair}
 use Rattle.wi_parser.specs.Tree.{parenthesized, signed, percent, binary, what_if, call}
 use Rattle.wi_parser.specs.View.{tree_of, all_of, pair_of}
-use Rattle.wi_parser.specs.Printing.{mark_of, symbols_text, tree_text}
-use Rattle.wi_lexer.specs.Mark.{mark_text}
+use Rattle.wi_parser.specs.Printing.{operator_text}
+use Rattle.wi_parser.specs.Inner.SymbolLists.{symbols_text, tree_text}
 use Rattle.wi_parser.specs.Symbol.{written_as}
 use Rattle.wi_parser.specs.Spelling.{spelling_of_all}
 use Rattle.wi_parser.proofs.ExprTrees.{number_tree, text_tree, cell_tree, rectangle_tree, parenthesized_tree, signed_tree, percent_tree, binary_tree, what_if_tree, call_tree}
@@ -91,11 +91,11 @@ push_parenthesized-returns-clause-ok t c =
 
 pub push_operation-returns-clause-ok : goal.push_operation-returns-clause-ok
 push_operation-returns-clause-ok t c =
-    after_written _ _ _ _ (mark_text (mark_of c.args.op)) _ (c.in_ok-push_str.ensures.bytes ∙ ap (λ x. string_bytes c.args.out.now ++ x) c.operator_text.ensures) c.push_tree.ensures.ok
+    after_written _ _ _ _ (operator_text c.args.op) _ (c.in_ok-push_str.ensures.bytes ∙ ap (λ x. string_bytes c.args.out.now ++ x) c.operator_text.ensures) c.push_tree.ensures.ok
 
 pub push_signed-returns-clause-ok : goal.push_signed-returns-clause-ok
 push_signed-returns-clause-ok t c =
-    after_written _ _ _ _ (mark_text (mark_of (written_as c.args.sign))) _ (c.in_ok-push_str.ensures.bytes ∙ ap (λ x. string_bytes c.args.out.now ++ x) c.sign_text.ensures) c.push_tree.ensures.ok
+    after_written _ _ _ _ (operator_text (written_as c.args.sign)) _ (c.in_ok-push_str.ensures.bytes ∙ ap (λ x. string_bytes c.args.out.now ++ x) c.sign_text.ensures) c.push_tree.ensures.ok
 
 pub push_parameters-returns-clause-kept : goal.push_parameters-returns-clause-kept
 push_parameters-returns-clause-kept t c = starts_still c.push_str-2.result _ _ _ _ c.push_str-2.ensures.bytes c.loop-parameter.invariant.kept

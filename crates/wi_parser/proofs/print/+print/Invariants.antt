@@ -4,7 +4,7 @@ use denote.Shadow.{shadow}
 use Rattle.std.specs.Io.{StartsWith}
 use Rattle.wi_parser.specs.View.{all_of}
 use Rattle.wi_parser.specs.Spelling.{spelling_of_all}
-use Rattle.wi_parser.specs.Printing.{symbols_text}
+use Rattle.wi_parser.specs.Inner.SymbolLists.{symbols_text}
 use Rattle.wi_parser.proofs.PrintLemmas.{parameters_from}
 use Rattle.wi_parser.proofs.print.+print.Given as goal
 
