@@ -2,10 +2,11 @@
 use Rattle.std.proofs.Common.{◌≡◌, ℕ, zero, suc, List, [], ◌∷◌, refl, ap}
 use Rattle.std.specs.Prelude.{map}
 use Rattle.wi_standard_functions.specs.Arguments.{Argument, value_or}
-use Rattle.wi_standard_functions.specs.Functions.{of_one, of_two_or, of_three_or, zero_value, one_value}
+use Rattle.wi_standard_functions.specs.Functions.{of_one, of_two_or, of_three_or}
+use Rattle.wi_standard_functions.specs.Inner.Named.{zero_value, one_value, power_value}
 use Rattle.wi_standard_functions.specs.Logical.{not_value}
 use Rattle.wi_standard_functions.specs.Information.{value_value}
-use Rattle.wi_standard_functions.specs.Mathematical.{abs_value, sign_value, quotient_value, mod_value, power_value}
+use Rattle.wi_standard_functions.specs.Mathematical.{abs_value, sign_value, quotient_value, mod_value}
 use Rattle.wi_standard_functions.specs.Rounding.{int_value, round_value}
 use Rattle.wi_standard_functions.specs.Text.{len_value, left_value, right_value, mid_value, concatenate_value, exact_value, find_value, rept_value}
 use Rattle.wi_values.specs.declared.value.Value.{Value as AnyValue}

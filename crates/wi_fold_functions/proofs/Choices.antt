@@ -11,7 +11,8 @@ use Rattle.wi_standard_functions.specs.Arguments.{Argument}
 use Rattle.wi_standard_functions.specs.Convert.{zero_number}
 use Rattle.wi_standard_functions.specs.Logical.{tested, and_value, or_value}
 use Rattle.wi_standard_functions.specs.Sequence.{Item, sequence_of, number_of_item, logical_of_item, all_that_count}
-use Rattle.wi_standard_functions.specs.Statistical.{smaller_number, greater_number, min_value, max_value}
+use Rattle.wi_standard_functions.specs.Statistical.{min_value, max_value}
+use Rattle.wi_standard_functions.specs.Inner.Named.{smaller_number, greater_number}
 use Rattle.wi_standard_functions.specs.Steps.{◌>>=◌, and_then, map_until_error, fold_until_error}
 use Rattle.wi_fold_functions.specs.declared.logical.AllTrue.{AllTrue}
 use Rattle.wi_fold_functions.specs.declared.logical.AnyTrue.{AnyTrue}

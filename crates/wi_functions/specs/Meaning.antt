@@ -1,21 +1,17 @@
 -- What a formula's tree means, given a value for each cell and for each what-if (OpenFormula, "Standard Operators" and
 -- "MULTIPLE.OPERATIONS").
-use Rattle.std.specs.Prelude.{◌==◌, ℕ, Bool, if◌then◌else◌, List, [], ◌∷◌, map, Option, Some, None}
+use Rattle.std.specs.Prelude.{◌==◌, ℕ, if◌then◌else◌, List, [], ◌∷◌, map, Option, Some, None, option_map}
 use Rattle.wi_values.specs.declared.value.Value.{Value}
 use Rattle.wi_values.specs.declared.value.Value.TheVariants.{Empty, Number, Text, Fault}
 use Rattle.wi_values.specs.declared.value.ErrorKind.TheVariants.{BadValue}
-use Rattle.wi_parser.specs.declared.expr.Corners.{Corners}
+use Rattle.wi_parser.specs.declared.expr.Operator.TheVariants.{Divide}
 use Rattle.wi_parser.specs.Tree.{Tree, Trees, number, text, cell, rectangle, parenthesized, signed, percent, binary, what_if, call, no_trees, more_trees}
 use Rattle.wi_parser.specs.Reads.{area_of, cell_area}
 use Rattle.wi_values.specs.Address.{Area}
-use Rattle.wi_lookup.specs.Assignment.{addresses}
-use Rattle.wi_standard_functions.specs.Arguments.{Argument, argument_of}
+use Rattle.wi_standard_functions.specs.Arguments.{Argument, region_of}
 use Rattle.wi_standard_functions.specs.Functions.{call_value}
-use Rattle.wi_standard_functions.specs.Convert.{zero_number}
-use Rattle.wi_functions.specs.Operators.{operate, with_sign, hundredth}
-
-abbrev pub is_one_cell : Corners → Bool
-is_one_cell c = c.one.at == c.other.at
+use Rattle.wi_standard_functions.specs.Convert.{zero_number, hundred_number}
+use Rattle.wi_functions.specs.Operators.{operate, with_sign}
 
 -- what a parameter refers to, also in parentheses
 abbrev pub referred : Tree → Option Area
@@ -30,17 +26,18 @@ abbrev mutual
   meaning (number x) cells what_ifs = Number x
   meaning (text s) cells what_ifs = Text s
   meaning (cell r) cells what_ifs = cells r.at
-  meaning (rectangle c) cells what_ifs = if is_one_cell c then cells c.one.at else Fault BadValue
+  meaning (rectangle c) cells what_ifs = if c.one.at == c.other.at then cells c.one.at else Fault BadValue
   meaning (parenthesized t) cells what_ifs = meaning t cells what_ifs
   meaning (signed s t) cells what_ifs = with_sign s (meaning t cells what_ifs)
-  meaning (percent t) cells what_ifs = hundredth (meaning t cells what_ifs)
+  meaning (percent t) cells what_ifs = operate Divide (meaning t cells what_ifs) (Number hundred_number)
   meaning (binary op t u) cells what_ifs = operate op (meaning t cells what_ifs) (meaning u cells what_ifs)
-  meaning (what_if f pairs) cells what_ifs = what_ifs f.at (map addresses pairs)
+  meaning (what_if f pairs) cells what_ifs = what_ifs f.at (map (λ p. (p.0.at, p.1.at)) pairs)
   meaning (call f ts) cells what_ifs = call_value f (arguments ts cells what_ifs)
 
   pub arguments : Trees → (ℕ → Value) → (ℕ → List (ℕ × ℕ) → Value) → List Argument
   arguments no_trees cells what_ifs = []
-  arguments (more_trees t ts) cells what_ifs = argument_of cells (meaning t cells what_ifs) (referred t) ∷ arguments ts cells what_ifs
+  arguments (more_trees t ts) cells what_ifs =
+      record { value = meaning t cells what_ifs; region = option_map (region_of cells) (referred t) } ∷ arguments ts cells what_ifs
 
 -- a formula's result
 abbrev pub zero_for_empty : Value → Value

@@ -8,7 +8,8 @@ ghost use Rattle.wi_standard_functions.specs.Arithmetic.{division, calculated, l
 ghost use Rattle.wi_standard_functions.specs.Comparison.{beside, order, compared};
 ghost use Rattle.wi_standard_functions.specs.Convert.{to_number};
 ghost use Rattle.wi_scalar_functions.specs.Inner.Outcome.{number_value};
-ghost use Rattle.wi_functions.specs.Operators.{operate, with_sign, hundredth};
+ghost use Rattle.wi_functions.specs.Operators.{operate, with_sign};
+ghost use Rattle.wi_functions.specs.Inner.Named.{hundredth};
 
 use std::alloc::{AllocError, Global};
 use wi_fraction::Fraction;

@@ -7,7 +7,8 @@ use Rattle.wi_values.specs.declared.value.ErrorKind.{ErrorKind}
 use Rattle.wi_values.specs.declared.value.ErrorKind.TheVariants.{BadValue}
 use Rattle.wi_values.specs.declared.value.Value.{Value}
 use Rattle.wi_values.specs.declared.value.Value.TheVariants.{Fault}
-use Rattle.wi_standard_functions.specs.Arguments.{Argument, argument_of}
+use Rattle.wi_standard_functions.specs.Arguments.{Argument}
+use Rattle.wi_standard_functions.specs.Inner.Named.{argument_of}
 use Rattle.wi_lookup.specs.declared.argument.Argument as given
 use Rattle.wi_lookup.specs.declared.stop.Stop as stop
 

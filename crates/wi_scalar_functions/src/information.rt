@@ -1,7 +1,8 @@
 //! OpenFormula, "Information Functions". No error passes through a test.
 
 ghost use Rattle.std.specs.Prelude.{◌≡◌};
-ghost use Rattle.wi_standard_functions.specs.Information.{is_empty_value, is_number_value, is_text_value, is_no_text, is_logical_value, is_error_value, is_not_available, is_other_error, na_value, value_value};
+ghost use Rattle.wi_standard_functions.specs.Information.{is_empty_value, is_number_value, is_text_value, is_logical_value, is_error_value, is_not_available, value_value};
+ghost use Rattle.wi_standard_functions.specs.Inner.Named.{is_no_text, is_other_error, na_value};
 
 use wi_fraction::Fraction;
 use wi_values::{ErrorKind, Value};

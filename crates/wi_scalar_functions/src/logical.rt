@@ -1,7 +1,8 @@
 //! OpenFormula, "Logical Functions".
 
 ghost use Rattle.std.specs.Prelude.{◌≡◌};
-ghost use Rattle.wi_standard_functions.specs.Logical.{true_value, false_value, not_value};
+ghost use Rattle.wi_standard_functions.specs.Logical.{not_value};
+ghost use Rattle.wi_standard_functions.specs.Inner.Named.{true_value, false_value};
 
 use crate::convert::to_logical;
 use wi_values::Value;

@@ -1,7 +1,8 @@
 //! OpenFormula, "Mathematical Functions".
 
 ghost use Rattle.std.specs.Prelude.{◌≡◌};
-ghost use Rattle.wi_standard_functions.specs.Mathematical.{abs_value, sign_value, quotient_value, mod_value, power_value};
+ghost use Rattle.wi_standard_functions.specs.Mathematical.{abs_value, sign_value, quotient_value, mod_value};
+ghost use Rattle.wi_standard_functions.specs.Inner.Named.{power_value};
 ghost use Rattle.wi_scalar_functions.specs.Inner.Outcome.{number_value};
 
 use crate::arithmetic::{divide, multiply, number_value, raise, subtract};

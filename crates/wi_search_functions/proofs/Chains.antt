@@ -11,7 +11,8 @@ use Rattle.wi_standard_functions.specs.Arguments.{Argument, Region, region_of, r
 use Rattle.wi_standard_functions.specs.Arithmetic.{whole_value}
 use Rattle.wi_standard_functions.specs.Convert.{one_number, to_number, to_whole, to_logical}
 use Rattle.wi_standard_functions.specs.FirstError.{no_error}
-use Rattle.wi_standard_functions.specs.Lookup.{cell_in, first_column_of, first_row_of, h_lookup_value, index_along, index_by_both, match_value, nth_cell, nth_cell_along, place_among, type_for, v_lookup_value, values_along}
+use Rattle.wi_standard_functions.specs.Lookup.{cell_in, h_lookup_value, index_along, index_by_both, match_value, nth_cell, nth_cell_along, place_among, v_lookup_value}
+use Rattle.wi_standard_functions.specs.Inner.Named.{values_along, first_column_of, first_row_of, type_for}
 use Rattle.wi_standard_functions.specs.Matching.{match_position, sought_for}
 use Rattle.wi_standard_functions.specs.Steps.{◌>>=◌, and_then}
 use Rattle.wi_search_functions.specs.declared.rule.Rule.{Rule}

@@ -7,7 +7,8 @@ use Rattle.std.proofs.Math.Nat.{mod-lt}
 use Rattle.wi_values.specs.Address.{Area, cells_of, place, row_of, column_of, is_within, rect_of}
 use Rattle.wi_values.specs.declared.value.Value.{Value}
 use Rattle.wi_standard_functions.specs.Arguments.{region_of}
-use Rattle.wi_standard_functions.specs.Lookup.{cell_in, first_column_of, first_row_of}
+use Rattle.wi_standard_functions.specs.Lookup.{cell_in}
+use Rattle.wi_standard_functions.specs.Inner.Named.{first_column_of, first_row_of}
 use Rattle.wi_search_functions.specs.Inner.Lines.{height, width, is_line, first_column, first_row}
 use Rattle.wi_search_functions.proofs.Places.{run, block, cell_at, column_cells, row_cells}
 use Rattle.wi_search_functions.proofs.Lines.{one_row, one_column}

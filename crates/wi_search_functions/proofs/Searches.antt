@@ -8,7 +8,7 @@ use Rattle.std.proofs.lemmas.Bool.Decides.{nat_tests}
 use Rattle.wi_fraction.specs.Number as numbers
 use Rattle.wi_values.specs.declared.value.Value.{Value}
 use Rattle.wi_standard_functions.specs.Matching.{is_match, last_position, match_position}
-use Rattle.wi_standard_functions.specs.Lookup.{type_for}
+use Rattle.wi_standard_functions.specs.Inner.Named.{type_for}
 use Rattle.wi_search_functions.specs.declared.rule.Rule.{Rule}
 use Rattle.wi_search_functions.specs.declared.rule.Rule.TheVariants.{FirstEqual, LastAtMost, LastAtLeast}
 use Rattle.wi_search_functions.specs.Inner.Search.{found_after, position_by, rule_of_match_type, rule_in_order}

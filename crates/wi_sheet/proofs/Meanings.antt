@@ -14,11 +14,12 @@ use Rattle.wi_parser.specs.Tree.{Tree, number, text, cell, rectangle, parenthesi
 use Rattle.wi_parser.specs.Leaves.{Leaf, cell_leaf, rectangle_leaf, what_if_leaf, leaves, all_leaves}
 use Rattle.wi_parser.specs.Reads.{cell_area, area_of, leaf_reads, reads}
 use Rattle.wi_parser.proofs.Rectangles.{one_cell}
-use Rattle.wi_functions.specs.Operators.{operate, with_sign, hundredth}
+use Rattle.wi_functions.specs.Operators.{operate, with_sign}
+use Rattle.wi_functions.specs.Inner.Named.{hundredth, is_one_cell}
 use Rattle.wi_standard_functions.specs.Arguments.{Region, Argument, region_of}
 use Rattle.wi_standard_functions.specs.Functions.{call_value}
 use Rattle.wi_lookup.proofs.RowMajor.{region_same}
-use Rattle.wi_functions.specs.Meaning.{meaning, arguments, referred, is_one_cell}
+use Rattle.wi_functions.specs.Meaning.{meaning, arguments, referred}
 use Rattle.wi_lookup.specs.Assignment.{addresses}
 use Rattle.wi_sheet.specs.CellValue.{replacements}
 

@@ -1,5 +1,5 @@
 -- The arguments of a call, as its function sees them (OpenFormula, "Functions and Function Parameters").
-use Rattle.std.specs.Prelude.{ℕ, ◌-◌, ◌+◌, List, map, Option, option_map, Result, Err, ok_or, slice_get}
+use Rattle.std.specs.Prelude.{ℕ, ◌-◌, ◌+◌, List, map, Option, Result, Err, ok_or, slice_get}
 use Rattle.std.specs.Option.{option_map_or}
 use Rattle.wi_values.specs.Address.{Area, cells_of, row_of, column_of}
 use Rattle.wi_values.specs.declared.value.ErrorKind.{ErrorKind}
@@ -25,9 +25,6 @@ region_of cells r = record {
   width = (column_of r.last + 1) - column_of r.first;
   values = map cells (cells_of r);
 }
-
-abbrev pub argument_of : (ℕ → Value) → Value → Option Area → Argument
-argument_of cells v area = record { value = v; region = option_map (region_of cells) area }
 
 -- what is no reference has no region, whatever its value is
 abbrev pub region_referred : Argument → Result Region ErrorKind

@@ -41,19 +41,13 @@ exponentiation x y =
     else Err BadNumber
 
 abbrev pub calculated : Operation → Value → Value → Value
-calculated operation v w = do
-  x ← to_number v
-  y ← to_number w
-  z ← operation x y
-  Number z
+calculated operation v w = do x ← to_number v; y ← to_number w; z ← operation x y; Number z
 
 abbrev pub whole_number : ℕ → Result numbers.Number ErrorKind
 whole_number n = fitting (number_of (pos n) 1)
 
 abbrev pub whole_value : ℕ → Value
-whole_value n = do
-  x ← whole_number n
-  Number x
+whole_value n = do x ← whole_number n; Number x
 
 -- ---- texts
 

@@ -35,7 +35,4 @@ order (Logical a) (Logical b) = bool_cmp a b
 order v w = nat_cmp (rank v) (rank w)
 
 abbrev pub compared : (Ordering → Bool) → Value → Value → Value
-compared test v w = do
-  x ← no_error v
-  y ← no_error w
-  Logical (test (order (beside y x) (beside x y)))
+compared test v w = do x ← no_error v; y ← no_error w; Logical (test (order (beside y x) (beside x y)))

@@ -22,7 +22,6 @@ equal_to operand = record { relation = is_match is_eq; operand = operand }
 abbrev pub is_unequal : Value → Value → Bool
 is_unequal operand v = can_be_found v && not (is_match is_eq operand v)
 
--- what a text is imported as
 abbrev pub import_of : (text : Bytes) → (o : Option Value) × IsImported text o
 import_of text = the_import text
 
@@ -33,13 +32,8 @@ constant_of text = unwrap_or (import_of text).0 (Text text)
 -- the operators and the relations that they stand for, longer ones first
 abbrev pub operators : List (Bytes × (Value → Value → Bool))
 operators =
-    (codes "<>", is_unequal)
-    ∷ (codes "<=", is_match is_le)
-    ∷ (codes ">=", is_match is_ge)
-    ∷ (codes "=", is_match is_eq)
-    ∷ (codes "<", is_match is_lt)
-    ∷ (codes ">", is_match is_gt)
-    ∷ []
+    (codes "<>", is_unequal) ∷ (codes "<=", is_match is_le) ∷ (codes ">=", is_match is_ge)
+    ∷ (codes "=", is_match is_eq) ∷ (codes "<", is_match is_lt) ∷ (codes ">", is_match is_gt) ∷ []
 
 -- the relation of the first operator that the text begins with, to the constant that follows; else equality to the whole text's
 abbrev pub criterion_by : List (Bytes × (Value → Value → Bool)) → Bytes → Criterion

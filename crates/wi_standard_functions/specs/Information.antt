@@ -1,5 +1,5 @@
 -- OpenFormula, "Information Functions".
-use Rattle.std.specs.Prelude.{◌≡◌, ◌↔◌, Bool, true, false, not, ◌&&◌, List, count_by, Option, Some, ok_or}
+use Rattle.std.specs.Prelude.{◌≡◌, ◌↔◌, Bool, true, false, not, List, count_by, Option, Some, ok_or}
 use Rattle.wi_fraction.specs.Number as numbers
 use Rattle.wi_values.specs.Imported.{SpellsNumber}
 use Rattle.wi_values.proofs.Imports.{the_number}
@@ -21,26 +21,18 @@ abbrev pub is_empty_value : Value → Bool
 is_empty_value Empty = true
 is_empty_value v = false
 
--- ISNUMBER
 abbrev pub is_number_value : Value → Bool
 is_number_value (Number x) = true
 is_number_value v = false
 
--- ISTEXT
 abbrev pub is_text_value : Value → Bool
 is_text_value (Text t) = true
 is_text_value v = false
 
--- ISNONTEXT
-abbrev pub is_no_text : Value → Bool
-is_no_text v = not (is_text_value v)
-
--- ISLOGICAL
 abbrev pub is_logical_value : Value → Bool
 is_logical_value (Logical b) = true
 is_logical_value v = false
 
--- ISERROR
 abbrev pub is_error_value : Value → Bool
 is_error_value (Fault e) = true
 is_error_value v = false
@@ -49,14 +41,6 @@ is_error_value v = false
 abbrev pub is_not_available : Value → Bool
 is_not_available (Fault NotAvailable) = true
 is_not_available v = false
-
--- ISERR: an error other than #N/A
-abbrev pub is_other_error : Value → Bool
-is_other_error v = is_error_value v && not (is_not_available v)
-
--- NA
-abbrev pub na_value : Value
-na_value = Fault NotAvailable
 
 -- ---- counts
 
@@ -83,8 +67,6 @@ number_in text = the_number text
 -- VALUE: of a Number itself, of a Text the number that it spells
 abbrev pub value_value : Value → Value
 value_value (Number x) = Number x
-value_value (Text t) = do
-  x ← ok_or (number_in t).0 BadValue
-  Number x
+value_value (Text t) = do x ← ok_or (number_in t).0 BadValue; Number x
 value_value (Fault e) = Fault e
 value_value v = Fault BadValue

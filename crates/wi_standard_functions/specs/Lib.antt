@@ -12,6 +12,7 @@ pub mod Rounding
 pub mod Statistical
 pub mod Logical
 pub mod Information
+pub mod Inner
 pub mod Lookup
 pub mod Text
 pub mod Functions

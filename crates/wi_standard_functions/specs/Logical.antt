@@ -4,54 +4,35 @@ use Rattle.std.specs.List.{list_all, list_any}
 use Rattle.wi_values.specs.declared.value.ErrorKind.TheVariants.{BadValue, NotAvailable}
 use Rattle.wi_values.specs.declared.value.Value.{Value}
 use Rattle.wi_values.specs.declared.value.Value.TheVariants.{Logical, Fault}
-use Rattle.wi_standard_functions.specs.Arguments.{Argument}
+use Rattle.wi_standard_functions.specs.Arguments.{Argument, value_at, value_or}
 use Rattle.wi_standard_functions.specs.Convert.{to_logical}
 use Rattle.wi_standard_functions.specs.Sequence.{sequence_of, all_that_count, logical_of_item}
 use Rattle.wi_standard_functions.specs.Steps.{◌>>=◌}
 
--- TRUE
-abbrev pub true_value : Value
-true_value = Logical true
-
--- FALSE
-abbrev pub false_value : Value
-false_value = Logical false
-
--- NOT
 abbrev pub not_value : Value → Value
-not_value l = do
-  b ← to_logical l
-  Logical (not b)
+not_value l = do b ← to_logical l; Logical (not b)
 
 -- of none there is no result
 abbrev pub tested : (List Bool → Bool) → List Bool → Value
 tested test [] = Fault BadValue
 tested test (b ∷ bs) = Logical (test (b ∷ bs))
 
--- AND
 abbrev pub and_value : List Argument → Value
-and_value args = do
-  bs ← all_that_count logical_of_item (sequence_of args)
-  tested (list_all (λ b. b)) bs
+and_value args = do bs ← all_that_count logical_of_item (sequence_of args); tested (list_all (λ b. b)) bs
 
--- OR
 abbrev pub or_value : List Argument → Value
-or_value args = do
-  bs ← all_that_count logical_of_item (sequence_of args)
-  tested (list_any (λ b. b)) bs
+or_value args = do bs ← all_that_count logical_of_item (sequence_of args); tested (list_any (λ b. b)) bs
 
--- IF: only the error of the branch that is chosen counts
-abbrev pub if_value : Value → Value → Value → Value
-if_value condition then_value else_value = do
-  b ← to_logical condition
-  (if b then then_value else else_value)
+-- A missing second is TRUE, and a missing third FALSE. Only the error of the branch that is chosen counts.
+abbrev pub if_value : List Argument → Value
+if_value args = do
+  b ← to_logical (value_at args 0)
+  (if b then value_or (Logical true) args 1 else value_or (Logical false) args 2)
 
--- IFERROR
 abbrev pub if_error_value : Value → Value → Value
 if_error_value (Fault e) w = w
 if_error_value v w = v
 
--- IFNA
 abbrev pub if_na_value : Value → Value → Value
 if_na_value (Fault NotAvailable) w = w
 if_na_value v w = v

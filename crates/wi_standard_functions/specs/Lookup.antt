@@ -1,5 +1,5 @@
 -- OpenFormula, "Lookup Functions".
-use Rattle.std.specs.Prelude.{ℕ, ℤ, pos, ◌+◌, ◌*◌, ◌-◌, ◌==◌, ◌||◌, Bool, true, nat_lt, int_lt, unsigned_abs, nat_le, length, List, map, slice_get, unwrap_or, None, Result, Ok, Err, ok_or, if◌then◌else◌}
+use Rattle.std.specs.Prelude.{ℕ, ℤ, pos, ◌+◌, ◌*◌, ◌-◌, ◌==◌, ◌||◌, true, nat_lt, int_lt, unsigned_abs, nat_le, length, List, map, slice_get, unwrap_or, None, Result, Ok, Err, ok_or, if◌then◌else◌}
 use Rattle.std.specs.List.{range_with_len}
 use Rattle.wi_fraction.specs.Number as numbers
 use Rattle.wi_values.specs.declared.value.ErrorKind.{ErrorKind}
@@ -17,12 +17,9 @@ use Rattle.wi_standard_functions.specs.Steps.{◌>>=◌}
 abbrev pub chosen : ℤ → List Argument → Result Argument ErrorKind
 chosen k args = ok_or (if int_lt k (pos 1) then None else slice_get args (unsigned_abs k)) BadValue
 
--- CHOOSE: only the error of the argument that is chosen counts
+-- only the error of the argument that is chosen counts
 abbrev pub choose_value : List Argument → Value
-choose_value args = do
-  k ← to_whole (value_at args 0)
-  a ← chosen k args
-  a.value
+choose_value args = do k ← to_whole (value_at args 0); a ← chosen k args; a.value
 
 -- ---- places in a region
 
@@ -36,12 +33,6 @@ place_among n k =
 -- row and column count from 0
 abbrev pub cell_in : Region → ℕ → ℕ → Value
 cell_in r row column = unwrap_or (slice_get r.values (row * r.width + column)) (Fault BadReference)
-
-abbrev pub first_column_of : Region → List Value
-first_column_of r = map (λ row. cell_in r row 0) (range_with_len 0 r.height)
-
-abbrev pub first_row_of : Region → List Value
-first_row_of r = map (λ column. cell_in r 0 column) (range_with_len 0 r.width)
 
 -- ---- INDEX
 
@@ -61,62 +52,44 @@ nth_cell_along r k =
     Fault BadValue
 
 abbrev pub index_by_both : List Argument → Value
-index_by_both args = do
-  r ← region_at args 0
-  j ← to_whole (value_at args 1)
-  k ← to_whole (value_at args 2)
-  nth_cell r j k
+index_by_both args = do r ← region_at args 0; j ← to_whole (value_at args 1); k ← to_whole (value_at args 2); nth_cell r j k
 
 abbrev pub index_along : List Argument → Value
-index_along args = do
-  r ← region_at args 0
-  k ← to_whole (value_at args 1)
-  nth_cell_along r k
+index_along args = do r ← region_at args 0; k ← to_whole (value_at args 1); nth_cell_along r k
 
--- INDEX: with three arguments by row and column, with two along the region
+-- with three arguments by row and column, with two along the region
 abbrev pub index_value : List Argument → Value
 index_value args = if nat_le (length args) 2 then index_along args else index_by_both args
 
 -- ---- searches
 
-abbrev pub place_of : numbers.Number → Value → List Value → Result ℕ ErrorKind
-place_of match_type v vs = ok_or (match_position match_type (sought_for v) vs) NotAvailable
+abbrev pub position_of : numbers.Number → Value → List Value → Result ℕ ErrorKind
+position_of match_type v vs = ok_or (match_position match_type (sought_for v) vs) NotAvailable
 
--- of one row or one column
-abbrev pub values_along : Region → Result (List Value) ErrorKind
-values_along r = if (r.height == 1) || (r.width == 1) then Ok r.values else Err BadValue
-
--- MATCH: the place counts from 1, and the type is 1 if it is not given
+-- the place counts from 1, and the type is 1 if it is not given
 abbrev pub match_value : List Argument → Value
 match_value args = do
   v ← no_error (value_at args 0)
   r ← region_at args 1
   match_type ← to_number (value_or (Number one_number) args 2)
-  vs ← values_along r
-  i ← place_of match_type v vs
+  vs ← if (r.height == 1) || (r.width == 1) then Ok r.values else Err BadValue
+  i ← position_of match_type v vs
   whole_value (i + 1)
 
-abbrev pub type_for : Bool → numbers.Number
-type_for in_order = if in_order then one_number else zero_number
+-- The k-th cell of the line whose first cell is found; a fourth argument that is not given is TRUE.
+abbrev pub look_up_value : (Region → ℕ) → (Region → ℕ) → (Region → ℕ → ℕ → Value) → List Argument → Value
+look_up_value lines width cell args = do
+  v ← no_error (value_at args 0)
+  r ← region_at args 1
+  k ← to_whole (value_at args 2)
+  in_order ← to_logical (value_or (Logical true) args 3)
+  i ← place_among (width r) k
+  line ← position_of (if in_order then one_number else zero_number) v (map (λ l. cell r l 0) (range_with_len 0 (lines r)))
+  cell r line i
 
--- VLOOKUP: a fourth argument that is not given is TRUE
+-- the lines are rows, or columns
 abbrev pub v_lookup_value : List Argument → Value
-v_lookup_value args = do
-  v ← no_error (value_at args 0)
-  r ← region_at args 1
-  k ← to_whole (value_at args 2)
-  in_order ← to_logical (value_or (Logical true) args 3)
-  column ← place_among r.width k
-  row ← place_of (type_for in_order) v (first_column_of r)
-  cell_in r row column
+v_lookup_value = look_up_value (λ r. r.height) (λ r. r.width) cell_in
 
--- HLOOKUP
 abbrev pub h_lookup_value : List Argument → Value
-h_lookup_value args = do
-  v ← no_error (value_at args 0)
-  r ← region_at args 1
-  k ← to_whole (value_at args 2)
-  in_order ← to_logical (value_or (Logical true) args 3)
-  row ← place_among r.height k
-  column ← place_of (type_for in_order) v (first_row_of r)
-  cell_in r row column
+h_lookup_value = look_up_value (λ r. r.width) (λ r. r.height) (λ r column row. cell_in r row column)

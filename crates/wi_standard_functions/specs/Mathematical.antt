@@ -11,7 +11,7 @@ use Rattle.wi_values.specs.declared.value.ErrorKind.TheVariants.{BadValue}
 use Rattle.wi_values.specs.declared.value.Value.{Value}
 use Rattle.wi_values.specs.declared.value.Value.TheVariants.{Empty, Number, Fault}
 use Rattle.wi_standard_functions.specs.Arguments.{Argument, Region, region_referred, region_at, region_or, value_at}
-use Rattle.wi_standard_functions.specs.Arithmetic.{addition, subtraction, multiplication, division, exponentiation, calculated}
+use Rattle.wi_standard_functions.specs.Arithmetic.{addition, subtraction, multiplication, division}
 use Rattle.wi_standard_functions.specs.Convert.{to_number, zero_number, one_number}
 use Rattle.wi_standard_functions.specs.Criterion.{meets_criterion}
 use Rattle.wi_standard_functions.specs.FirstError.{no_error}
@@ -20,27 +20,19 @@ use Rattle.wi_standard_functions.specs.Steps.{◌>>=◌, map_until_error}
 
 -- ---- of one number, or of two
 
--- ABS
 abbrev pub abs_value : Value → Value
-abs_value n = do
-  x ← to_number n
-  Number (if int_lt x.num (pos 0) then negated x else x)
+abs_value n = do x ← to_number n; Number (if int_lt x.num (pos 0) then negated x else x)
 
--- SIGN
 abbrev pub sign_value : Value → Value
 sign_value n = do
   x ← to_number n
   Number (if int_lt x.num (pos 0) then negated one_number else if int_eq x.num (pos 0) then zero_number else one_number)
 
--- QUOTIENT: the quotient cut toward zero
+-- cut toward zero
 abbrev pub quotient_value : Value → Value → Value
-quotient_value n m = do
-  x ← to_number n
-  y ← to_number m
-  q ← division x y
-  Number (rounded Toward q)
+quotient_value n m = do x ← to_number n; y ← to_number m; q ← division x y; Number (rounded Toward q)
 
--- MOD: a - b * INT(a / b), step by step
+-- a - b * INT(a / b), step by step
 abbrev pub mod_value : Value → Value → Value
 mod_value n m = do
   a ← to_number n
@@ -50,26 +42,16 @@ mod_value n m = do
   r ← subtraction a p
   Number r
 
--- POWER: as the operator
-abbrev pub power_value : Value → Value → Value
-power_value n m = calculated exponentiation n m
-
 -- ---- of sequences
 
 abbrev pub sum_of_items : List Item → Result numbers.Number ErrorKind
 sum_of_items items = number_fold addition zero_number items
 
--- SUM
 abbrev pub sum_value : List Argument → Value
-sum_value args = do
-  x ← sum_of_items (sequence_of args)
-  Number x
+sum_value args = do x ← sum_of_items (sequence_of args); Number x
 
--- PRODUCT
 abbrev pub product_value : List Argument → Value
-product_value args = do
-  x ← number_fold multiplication one_number (sequence_of args)
-  Number x
+product_value args = do x ← number_fold multiplication one_number (sequence_of args); Number x
 
 -- ---- of regions
 
@@ -83,7 +65,7 @@ chosen_cells criterion r s =
     then Ok (map (λ p. from_cell p.1) (filter (λ p. meets_criterion criterion p.0) (zip r.values s.values)))
     else Err BadValue
 
--- SUMIF: without a third region it is the first
+-- without a third region it is the first
 abbrev pub sum_if_value : List Argument → Value
 sum_if_value args = do
   r ← region_at args 0
@@ -117,7 +99,6 @@ place_count (r ∷ rs) = length r.values
 abbrev pub products : List Region → List Item
 products rs = map (λ i. scalar (product_at rs i)) (range_with_len 0 (place_count rs))
 
--- SUMPRODUCT
 abbrev pub sum_product_value : List Argument → Value
 sum_product_value args = do
   regions ← map_until_error region_referred args

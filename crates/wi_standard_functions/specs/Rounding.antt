@@ -7,16 +7,9 @@ use Rattle.wi_standard_functions.specs.Arithmetic.{fitting}
 use Rattle.wi_standard_functions.specs.Convert.{to_number, to_whole}
 use Rattle.wi_standard_functions.specs.Steps.{◌>>=◌}
 
--- INT
 abbrev pub int_value : Value → Value
-int_value n = do
-  x ← to_number n
-  Number (floored x)
+int_value n = do x ← to_number n; Number (floored x)
 
 -- ROUND, ROUNDUP, ROUNDDOWN and TRUNC, by the mode of each
 abbrev pub round_value : Mode → Value → Value → Value
-round_value mode n places = do
-  x ← to_number n
-  k ← to_whole places
-  y ← fitting (round_to x k mode)
-  Number y
+round_value mode n places = do x ← to_number n; k ← to_whole places; y ← fitting (round_to x k mode); Number y

@@ -1,7 +1,8 @@
 -- OpenFormula, "Statistical Functions".
-use Rattle.std.specs.Prelude.{List, length, unwrap_or, if◌then◌else◌}
+use Rattle.std.specs.Prelude.{Bool, List, length, unwrap_or, if◌then◌else◌}
 use Rattle.std.specs.List.{reduce}
 use Rattle.std.specs.Ordering.{is_lt, is_gt}
+use Rattle.std.specs.declared.cmp.Ordering.{Ordering}
 use Rattle.wi_fraction.specs.Number as numbers
 use Rattle.wi_fraction.specs.Order.{cross_cmp}
 use Rattle.wi_values.specs.declared.value.Value.{Value}
@@ -13,25 +14,18 @@ use Rattle.wi_standard_functions.specs.Mathematical.{sum_of_items}
 use Rattle.wi_standard_functions.specs.Sequence.{sequence_of, numbers_of}
 use Rattle.wi_standard_functions.specs.Steps.{◌>>=◌}
 
-abbrev pub smaller_number : numbers.Number → numbers.Number → numbers.Number
-smaller_number x y = if is_lt (cross_cmp y x) then y else x
+-- the number that stands so to all others; of none 0
+abbrev pub extreme_value : (Ordering → Bool) → List Argument → Value
+extreme_value test args = do
+  xs ← numbers_of (sequence_of args)
+  Number (unwrap_or (reduce (λ x y. if test (cross_cmp y x) then y else x) xs) zero_number)
 
-abbrev pub greater_number : numbers.Number → numbers.Number → numbers.Number
-greater_number x y = if is_gt (cross_cmp y x) then y else x
-
--- MIN: of no number 0
 abbrev pub min_value : List Argument → Value
-min_value args = do
-  xs ← numbers_of (sequence_of args)
-  Number (unwrap_or (reduce smaller_number xs) zero_number)
+min_value = extreme_value is_lt
 
--- MAX: of no number 0
 abbrev pub max_value : List Argument → Value
-max_value args = do
-  xs ← numbers_of (sequence_of args)
-  Number (unwrap_or (reduce greater_number xs) zero_number)
+max_value = extreme_value is_gt
 
--- AVERAGE
 abbrev pub average_value : List Argument → Value
 average_value args = do
   total ← sum_of_items (sequence_of args)

@@ -15,29 +15,16 @@ at_least bound k = if int_lt k (pos bound) then Err BadValue else Ok (unsigned_a
 abbrev pub of_chars : List ℕ → Value
 of_chars cs = limited_text (encode_utf8_all cs)
 
--- LEN
 abbrev pub len_value : Value → Value
-len_value t = do
-  s ← to_text t
-  whole_value (length (chars s))
+len_value t = do s ← to_text t; whole_value (length (chars s))
 
--- LEFT
 abbrev pub left_value : Value → Value → Value
-left_value t count = do
-  s ← to_text t
-  k ← to_whole count
-  n ← at_least 0 k
-  of_chars (take n (chars s))
+left_value t count = do s ← to_text t; k ← to_whole count; n ← at_least 0 k; of_chars (take n (chars s))
 
--- RIGHT
 abbrev pub right_value : Value → Value → Value
-right_value t count = do
-  s ← to_text t
-  k ← to_whole count
-  n ← at_least 0 k
-  of_chars (drop (length (chars s) - n) (chars s))
+right_value t count = do s ← to_text t; k ← to_whole count; n ← at_least 0 k; of_chars (drop (length (chars s) - n) (chars s))
 
--- MID: places count from 1
+-- places count from 1
 abbrev pub mid_value : Value → Value → Value → Value
 mid_value t place count = do
   s ← to_text t
@@ -47,18 +34,11 @@ mid_value t place count = do
   n ← at_least 0 k
   of_chars (take n (drop (first - 1) (chars s)))
 
--- CONCATENATE
 abbrev pub concatenate_value : List Value → Value
-concatenate_value vs = do
-  ts ← map_until_error to_text vs
-  limited_text (concat ts)
+concatenate_value vs = do ts ← map_until_error to_text vs; limited_text (concat ts)
 
--- EXACT
 abbrev pub exact_value : Value → Value → Value
-exact_value t u = do
-  s ← to_text t
-  r ← to_text u
-  Logical (bytes_eq s r)
+exact_value t u = do s ← to_text t; r ← to_text u; Logical (bytes_eq s r)
 
 -- the first place, from 0, where the characters stand in others
 abbrev pub first_place : List ℕ → List ℕ → Option ℕ
@@ -68,7 +48,7 @@ first_place sought cs = find (λ i. starts_with nat_eq (drop i cs) sought) (rang
 abbrev pub place_from : ℕ → List ℕ → List ℕ → Option ℕ
 place_from from sought cs = if nat_le from (length cs) then option_map (λ i. from + i) (first_place sought (drop from cs)) else None
 
--- FIND: places count from 1
+-- places count from 1
 abbrev pub find_value : Value → Value → Value → Value
 find_value t u place = do
   sought ← to_text t
@@ -78,10 +58,5 @@ find_value t u place = do
   i ← ok_or (place_from (from - 1) (chars sought) (chars s)) BadValue
   whole_value (i + 1)
 
--- REPT
 abbrev pub rept_value : Value → Value → Value
-rept_value t count = do
-  s ← to_text t
-  k ← to_whole count
-  n ← at_least 0 k
-  limited_text (repeat n s)
+rept_value t count = do s ← to_text t; k ← to_whole count; n ← at_least 0 k; limited_text (repeat n s)

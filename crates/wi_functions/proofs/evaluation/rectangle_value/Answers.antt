@@ -1,6 +1,6 @@
 use Rattle.std.proofs.Common.{◌≡◌, true, rules}
 use Rattle.wi_parser.specs.Tree.{cell, rectangle}
-use Rattle.wi_functions.specs.Meaning.{is_one_cell}
+use Rattle.wi_functions.specs.Inner.Named.{is_one_cell}
 use Rattle.wi_functions.specs.Inner.Parts.{of_tree}
 use Rattle.wi_functions.proofs.Asking.{corner_asks, evaluates_too}
 use Rattle.wi_functions.proofs.Parameters.{value_of_corner}

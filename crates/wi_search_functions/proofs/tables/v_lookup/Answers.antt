@@ -7,7 +7,8 @@ use Rattle.std.specs.Prelude.{ok_or}
 use Rattle.wi_lookup.specs.Arguments.{arguments_in, IsMissing}
 use Rattle.wi_standard_functions.specs.Arguments.{region_of, value_at}
 use Rattle.wi_standard_functions.specs.Convert.{to_whole}
-use Rattle.wi_standard_functions.specs.Lookup.{place_among, first_column_of, v_lookup_value}
+use Rattle.wi_standard_functions.specs.Lookup.{place_among, v_lookup_value}
+use Rattle.wi_standard_functions.specs.Inner.Named.{first_column_of}
 use Rattle.wi_values.specs.Address.{cells_of, is_within}
 use Rattle.wi_values.specs.declared.value.ErrorKind.TheVariants.{NotAvailable}
 use Rattle.wi_search_functions.specs.declared.halt.Halt.TheVariants.{Error}
