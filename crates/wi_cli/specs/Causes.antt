@@ -59,12 +59,12 @@ module _ (s : State) where
   abbrev pub stale_cell : Command → Option ℕ
   stale_cell c = first_stale s.log s.current (current_session s).seen (named c)
 
-  -- The cause holds for the command. It doesn't where no line here says so.
+  -- The cause holds for the command; none holds where no line says so.
   abbrev pub Holds : Cause → Command → Type 0
-  -- A line is longer than the limit or isn't UTF-8; a data line is longer than the limit.
+  -- A line or a data line is too long, or a line isn't UTF-8.
   Holds BadLine Unreadable = Unit {0}
   Holds BadLine (Csv force at n lines) = Any (λ line. max_line < length (without_lf line)) lines
-  -- Unknown command, wrong number of words, wrong shape; XCOLUMN or YROW within the sheet, but not one column or not one row.
+  -- Unknown command, wrong number of words, wrong shape; XCOLUMN or YROW not one column or one row.
   Holds BadCommand Unknown = Unit {0}
   Holds BadCommand (Set force at []) = Unit {0}
   Holds BadCommand (Csv force None n lines) = Unit {0}
@@ -91,7 +91,7 @@ module _ (s : State) where
   Holds TooLong (Set force at text) = IsContent text (Err parse.TooLong)
   Holds TooLong (Scenario name at (b ∷ bs)) = IsImported (b ∷ bs) None
   Holds TooLong (Csv force (Some at) n lines) = Any (λ f. IsImported f.bytes None) (fields at lines)
-  -- A formula has an address outside the sheet, or an import a field, perhaps an empty one.
+  -- A formula's address, or a field of an import, lies outside the sheet.
   Holds OutOfSheet (Set force at text) = IsContent text (Err parse.OutOfSheet)
   Holds OutOfSheet (Csv force (Some at) n lines) = Any (λ f. IsInside f → ⊥) (fields at lines)
   -- A formula's number doesn't fit; its nesting; its syntax.

@@ -37,7 +37,6 @@ module _ (s : State) where
       done ≡ (record s { sessions = with_session s.sessions name; current = place_of s.sessions name }, [])
   Does (Show rect) done = done ≡ (s, rows_shown s.stored.sheet (current_replacements s) (area rect))
   Does (Export rect) done = done ≡ (s, export_of (rows_shown s.stored.sheet (current_replacements s) (area rect)))
-  -- The picture becomes the present, and the whole log is seen.
   Does Changes done =
       done ≡ (with_current s (told (current_session s) (change_list s) (length s.log)), change_records (change_list s))
   Does (Compare p q rect) done =

@@ -23,7 +23,7 @@ is_forced (Fill force at rect) = force
 is_forced (Csv force at n lines) = force
 is_forced c = false
 
--- the fields of an import, each with the cell for which it is
+-- the fields of an import
 abbrev pub fields : Cell → List Bytes → List Field
 fields at lines = fields_from at.row at.column (recs (concat lines))
 
@@ -40,7 +40,7 @@ abbrev pub Put : Type 0
 Put = ℕ × Option Content
 
 module _ (s : State) where
-  -- what a cell gets as the copy of another, if there is a copy
+  -- the copy of one cell for another, if there is one
   abbrev pub copy_in : ℕ → ℕ → Option (Option Content)
   copy_in from to =
       copied (pos (row_of to) -ℤ pos (row_of from)) (pos (column_of to) -ℤ pos (column_of from)) (content_of s.stored.sheet from)
@@ -53,7 +53,7 @@ module _ (s : State) where
   Puts (Csv force (Some at) n lines) puts = AreChanges (fields at lines) puts
   Puts c puts = ⊥
 
-  -- the sheet with what is put, and the state after such an edit, which enters the log
+  -- the sheet after an edit, and the state, whose log has it
   abbrev pub sheet_with : List Put → Sheet
   sheet_with puts = edited s.stored.sheet (map settled_change puts)
 

@@ -9,8 +9,8 @@ use Rattle.wi_cli.specs.Command.{Command}
 use Rattle.wi_cli.specs.Script.{AreCommands}
 use Rattle.wi_cli.specs.Reply.{Replies}
 
--- The commands are answered one after another, from the state s to the state t, and `out` is their replies. Where the sink fails
--- this may end early: of a reply only a part is written, and nothing is served after it.
+-- The commands are answered one after another, and `out` is their replies. Where the sink fails this may end early: of a reply a
+-- part is written, and nothing is served after it.
 abbrev pub Writes : Bool → State → List Command → Bytes → State → Type 0
 Writes fails s [] out t = (out ≡ []) × (t ≡ s)
 Writes fails s (c ∷ cs) out t =
@@ -20,7 +20,6 @@ Writes fails s (c ∷ cs) out t =
 -- ---- from the state s to the state t, and from the bytes taken to the bytes written
 
 module _ (left : Option Bytes) (s t : State) (input out : Bytes) where
-  -- the commands of these lines are answered
   abbrev pub Answers : Bool → Bool → List Bytes → Type 0
   Answers ended fails lines = (cs : List Command) × AreCommands ended lines cs × Writes fails s cs out t
 
@@ -36,7 +35,7 @@ module _ (left : Option Bytes) (s t : State) (input out : Bytes) where
   Outcome (Err Write) =
       Answers false true (filter is_whole (take max_lines lines)) ⊎ (IsAtEnd left × (length lines ≤ max_lines) × Answers true true lines)
 
--- A run from the state s to the state t, of a source and a sink that it leaves so.
+-- a run, of a source and a sink that it leaves so
 pub record IsRun {R W : Type 0} (remaining : R → Option Bytes) (read_failed : R → Bool) (contents : W → Option Bytes)
     (write_failed flushed : W → Bool) (r : Result (Unit {0}) RunFault) (source source' : R) (sink sink' : W) (s t : State) : Type 0 where
   pub input : Bytes

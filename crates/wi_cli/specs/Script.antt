@@ -26,7 +26,7 @@ abbrev pub is_passed_over : Bytes → Bool
 is_passed_over [] = true
 is_passed_over (b ∷ bs) = if b == byte "#" then true else list_all is_space (b ∷ bs)
 
--- what a line asks for with its data lines, if anything
+-- what a line and its data lines ask for, if anything
 abbrev pub IsCommand : Bytes → List Bytes → Option Command → Type 0
 IsCommand line taken None = IsGood line × (is_passed_over (text_of line) ≡ true)
 IsCommand line taken (Some Unreadable) = IsGood line → ⊥

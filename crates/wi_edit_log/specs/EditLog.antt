@@ -8,7 +8,6 @@ pub record Entry : Type 0 where
   pub session : ℕ
   pub cells : List Area
 
--- the rectangles have the cell a
 abbrev pub have_cell : List Area → ℕ → Bool
 have_cell areas a = list_any (λ r. is_within r a) areas
 

@@ -10,16 +10,16 @@ use Rattle.wi_import.specs.declared.fault.ImportFault.{ImportFault}
 use Rattle.wi_import.specs.declared.fault.ImportFault.TheVariants.{BadField, TooLong, OutOfSheet}
 use Rattle.wi_import.specs.Fields.{Field, IsInside}
 
--- what the cell of a field of these bytes gets
+-- what a field of these bytes puts into its cell
 pub data IsFieldContent : List ℕ → Option Content → Type 0 where
   no_content : IsFieldContent [] None
   a_constant : (bytes : List ℕ) (v : Value) → bytes ≢ [] → IsImported bytes (Some v) → IsFieldContent bytes (Some (Constant v))
 
--- the change that a field brings: a cell, and what it gets
+-- a field's cell, and what it gets
 abbrev pub IsChange : Field → ℕ × Option Content → Type 0
 IsChange f change = (change.0 ≡ place f.row f.column) × IsFieldContent f.bytes change.1
 
--- These are the changes that the fields bring, in the order of the fields, and no field has a fault.
+-- One change for each field, in the order of the fields, which are all UTF-8 and inside the sheet.
 pub record AreChanges (fields : List Field) (changes : List (ℕ × Option Content)) : Type 0 where
   pub texts : All (λ f. IsUtf8 f.bytes) fields
   pub inside : All IsInside fields

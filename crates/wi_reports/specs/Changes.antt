@@ -15,6 +15,5 @@ kind_text (Text t) = codes "T"
 kind_text (Logical b) = codes "L"
 kind_text (Fault e) = codes "E"
 
--- the records of a list of changes
 abbrev pub change_records : List (ℕ × Value) → List ℕ
 change_records es = flat_map (λ e. row (address_text e.0 ∷ kind_text e.1 ∷ shown_text e.1 ∷ [])) es

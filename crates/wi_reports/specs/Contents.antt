@@ -21,6 +21,5 @@ content_text None = []
 content_text (Some (Constant v)) = constant_text v
 content_text (Some (Formula t)) = printed t
 
--- the record of a cell
 abbrev pub content_record : Sheet → ℕ → List ℕ
 content_record sheet at = row (address_text at ∷ content_text (content_of sheet at) ∷ [])

@@ -13,7 +13,6 @@ use Rattle.wi_csv.specs.Row.{row}
 abbrev pub text_under : Sheet → List Replacement → ℕ → List ℕ
 text_under sheet put c = value.shown_text (cell.shown sheet put c)
 
--- the records of a rectangle
 abbrev pub rows_shown : Sheet → List Replacement → Area → List ℕ
 rows_shown sheet put area = flat_map (λ r. row (map (text_under sheet put) (cells_of_row r area))) (rows_in area)
 

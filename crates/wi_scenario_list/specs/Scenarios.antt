@@ -69,7 +69,6 @@ without_scenario xs name = filter (λ x. not (is_named name x)) xs
 abbrev pub scenario_for : List Scenario → List ℕ → Scenario
 scenario_for xs name = unwrap_or (scenario_of xs (Some name)) (record { name = name; own = []; base = None })
 
--- whether an address has a replacement
 abbrev pub is_replaced : List Replacement → ℕ → Bool
 is_replaced rs a = list_any (λ r. r.at == a) rs
 

@@ -27,8 +27,7 @@ rows_between from to = pos (row_of to) -ℤ pos (row_of from)
 abbrev pub columns_between : ℕ → ℕ → ℤ
 columns_between from to = pos (column_of to) -ℤ pos (column_of from)
 
--- What a cell gets that stands so far from the one that is copied: its content, none too. The relative parts of a formula's
--- references move; where one leaves the sheet, there is no copy.
+-- the copy of a content so far down and to the right; none of a formula that can't be shifted so
 abbrev pub copied : ℤ → ℤ → Option Content → Option (Option Content)
 copied down right None = Some None
 copied down right (Some (Constant v)) = Some (Some (Constant v))

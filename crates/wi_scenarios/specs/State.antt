@@ -8,12 +8,11 @@ use Rattle.wi_sessions.specs.Sessions.{Session, new_session}
 pub record State : Type 0 where
   -- the sheet, with the count of accepted edits and the limits of both
   pub stored : Stored
-  -- the scenarios and the sessions, each in the order of making
+  -- each in the order of making
   pub scenarios : List Scenario
   pub sessions : List Session
-  -- the place of the current session
+  -- the current one of the sessions, counted from 0
   pub current : ℕ
-  -- the log of accepted edits
   pub log : List Entry
 
 -- a new workbook over a sheet has the one session `main`
@@ -25,6 +24,6 @@ state_over stored =
 abbrev pub new_state : State
 new_state = state_over (record { sheet = []; edits = 0; limits = record { cells = 200000; edits = 1000000000 } })
 
--- how many cells, or entries of a table, may be asked for at once, or filled
+-- the most cells, or entries of a table, that a command may ask for
 abbrev pub max_area : ℕ
 max_area = 65536
