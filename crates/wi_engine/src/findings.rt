@@ -1,6 +1,6 @@
 //! The values that were found for one formula.
 
-ghost use Rattle.std.specs.Prelude.{◌≡◌, ℕ, [], map, true, None, OnOk, OnErr};
+ghost use Rattle.std.specs.Prelude.{◌≡◌, ℕ, [], map, true, None, IfOk, OnOk, OnErr};
 ghost use Rattle.std.specs.Option.{option_copied};
 ghost use Rattle.wi_parser.specs.View.{pair_of};
 ghost use Rattle.wi_lookup.specs.Assignment.{addresses};
@@ -27,6 +27,13 @@ pub struct FoundWhatIf {
 /// that the list of the first suffices; a fold over many finds them in row-major order. Arrays are used again for other formulas.
 #[derive(Drop)]
 pub struct Findings {
+    /// Behind a box, since a frame has them, which goes from place to place.
+    pub lists: Box<Lists>,
+}
+
+/// Where they stand.
+#[derive(Drop)]
+pub struct Lists {
     /// Those of the first cells, as they were found.
     pub first: Vec<(Address, Value)>,
     /// Those of later cells, of which each came after all that stood here.
@@ -37,59 +44,64 @@ pub struct Findings {
 }
 
 impl Findings {
-    /// No values yet. Takes no memory.
-    pub fn new(alloc: Global) -> Findings
-        ensures first { result.first.items ≡ [] }
-        ensures rising { result.rising ≡ [] }
-        ensures others { result.others.entries ≡ [] }
-        ensures what_ifs { result.what_ifs.items ≡ [] }
+    /// No values yet.
+    pub fn new(alloc: Global) -> Result<Findings, AllocError>
+        ensures cells { IfOk result (λ f. (c : ℕ) → found_value f c ≡ None) }
+        ensures what_ifs { IfOk result (λ f. f.lists.value.what_ifs.items ≡ []) }
     {
-        Findings {
+        let lists = Lists {
             first: Vec::new(alloc),
             rising: Rising::new(alloc),
             others: BTreeMap::new(alloc),
             what_ifs: Vec::new(alloc),
-        }
+        };
+        Ok(Findings {
+            lists: Box::new(alloc, lists)?,
+        })
     }
 
     /// Takes the values away. Arrays keep their memory. The work grows with the count of values.
     pub fn clear(&mut self)
         ensures cells { (c : ℕ) → found_value self.new c ≡ None }
-        ensures what_ifs { self.new.what_ifs.items ≡ [] }
+        ensures what_ifs { self.new.lists.value.what_ifs.items ≡ [] }
     {
-        self.first.clear();
-        self.rising.clear();
-        self.others.clear();
-        self.what_ifs.clear();
+        if self.is_empty() {
+            return;
+        }
+        self.lists.first.clear();
+        self.lists.rising.clear();
+        self.lists.others.clear();
+        self.lists.what_ifs.clear();
     }
 
     /// Whether no array that grows with the cells found has more than so many values.
     pub fn is_within(&self, most: usize) -> bool {
-        self.rising.count() <= most && self.what_ifs.len() <= most
+        self.lists.rising.count() <= most && self.lists.what_ifs.len() <= most
     }
 
     /// Whether no value was found.
     pub fn is_empty(&self) -> bool
-        ensures { result ≡ true → (c : ℕ) → found_value self.now c ≡ None }
+        ensures cells { result ≡ true → (c : ℕ) → found_value self.now c ≡ None }
+        ensures what_ifs { result ≡ true → self.now.lists.value.what_ifs.items ≡ [] }
     {
-        self.first.is_empty()
-            && self.what_ifs.is_empty()
-            && self.rising.is_empty()
-            && self.others.is_empty()
+        self.lists.first.is_empty()
+            && self.lists.what_ifs.is_empty()
+            && self.lists.rising.is_empty()
+            && self.lists.others.is_empty()
     }
 
     /// The value found of a cell. The work grows with the logarithm of the count of cells found.
     pub fn cell(&self, at: Address) -> Option<&Value>
         ensures { option_copied result ≡ found_value self.now at }
     {
-        for cell in &self.first {
+        for cell in &self.lists.first {
             if cell.0 == at {
                 return Some(&cell.1);
             }
         }
-        match self.rising.value(at) {
+        match self.lists.rising.value(at) {
             Some(value) => Some(value),
-            None => self.others.get(&at),
+            None => self.lists.others.get(&at),
         }
     }
 
@@ -98,7 +110,7 @@ impl Findings {
         ensures { option_copied result
             ≡ what_if_found self.now at (map addresses (map pair_of pairs.now)) }
     {
-        for found in &self.what_ifs {
+        for found in &self.lists.what_ifs {
             if found.at == at && are_same(&found.pairs, pairs) {
                 return Some(&found.value);
             }
@@ -112,15 +124,15 @@ impl Findings {
         ensures ok { OnOk result (IsWithCell self.old self.new at value) }
         ensures err { OnErr result (IsSame self.old self.new) }
     {
-        if self.first.len() < MAX_LISTED {
-            self.first.push((at, value))?;
+        if self.lists.first.len() < MAX_LISTED {
+            self.lists.first.push((at, value))?;
             return Ok(());
         }
-        if self.rising.ends_before(at) {
-            self.rising.push(at, value)?;
+        if self.lists.rising.ends_before(at) {
+            self.lists.rising.push(at, value)?;
             return Ok(());
         }
-        self.others.insert(at, value)?;
+        self.lists.others.insert(at, value)?;
         Ok(())
     }
 
@@ -129,7 +141,7 @@ impl Findings {
         ensures ok { OnOk result (IsWithWhatIf self.old self.new found) }
         ensures err { OnErr result (IsSame self.old self.new) }
     {
-        self.what_ifs.push(found)?;
+        self.lists.what_ifs.push(found)?;
         Ok(())
     }
 }

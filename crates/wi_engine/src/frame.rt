@@ -41,7 +41,7 @@ impl<'a> Frame<'a> {
         ensures key { result.key ≡ key }
         ensures formula { result.formula.now ≡ formula.now }
         ensures cells { (c : ℕ) → found_value result.found c ≡ None }
-        ensures what_ifs { result.found.what_ifs.items ≡ [] }
+        ensures what_ifs { result.found.lists.value.what_ifs.items ≡ [] }
         ensures waiting { result.waiting ≡ Nothing }
     {
         let mut found = arrays.found;

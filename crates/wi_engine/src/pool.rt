@@ -2,7 +2,7 @@
 
 use crate::course::Course;
 use crate::findings::Findings;
-use std::alloc::Global;
+use std::alloc::{AllocError, Global};
 
 /// Of how many frames the arrays are kept. Formulas that are valued one after another seldom stand deeper in one another.
 const MAX_KEPT: usize = 64;
@@ -45,14 +45,14 @@ impl Pool {
         self.alloc
     }
 
-    /// The arrays that were put in last, or new ones, without values. Takes no memory.
-    pub(crate) fn take(&mut self) -> Arrays {
+    /// The arrays that were put in last, which takes no memory, or new ones, without values.
+    pub(crate) fn take(&mut self) -> Result<Arrays, AllocError> {
         match self.kept.pop() {
-            Some(arrays) => arrays,
-            None => Arrays {
-                found: Findings::new(self.alloc),
+            Some(arrays) => Ok(arrays),
+            None => Ok(Arrays {
+                found: Findings::new(self.alloc)?,
                 courses: Vec::new(self.alloc),
-            },
+            }),
         }
     }
 

@@ -86,12 +86,14 @@ impl<M: Memo + Drop> Question<M> {
     {
         let alloc = self.pool.allocator();
         let mut stack = Vec::new(alloc);
-        let mut frame = Frame::new(key, formula, self.pool.take());
+        let arrays = self.pool.take()?;
+        let mut frame = Frame::new(key, formula, arrays);
         'frames: loop {
             match advance(alloc, store, &mut frame, &mut self.memo, &mut self.meter)? {
                 Advance::Unvalued(next) => {
+                    let arrays = self.pool.take()?;
                     stack.push(frame)?;
-                    frame = Frame::new(next.key, next.formula, self.pool.take());
+                    frame = Frame::new(next.key, next.formula, arrays);
                 }
                 Advance::Done(value) => match stack.pop() {
                     None => {

@@ -80,7 +80,7 @@ asked_found t x h =
 
 module _ (f g : Findings) (x : FoundWhatIf) (more : IsWithWhatIf f g x) where
   what_if_unfound : PassesToo (unfound_what_if f) (unfound_what_if g)
-  what_if_unfound y h = by (first_for f.what_ifs.items y.0 y.1) (sym (ap (λ (fs : List FoundWhatIf). is_none (first_for fs y.0 y.1)) more.what_ifs ∙ ap (λ (o : Option Value). is_none o) (first_for-push f.what_ifs.items x y.0 y.1)) ∙ h)
+  what_if_unfound y h = by (first_for f.lists.value.what_ifs.items y.0 y.1) (sym (ap (λ (fs : List FoundWhatIf). is_none (first_for fs y.0 y.1)) more.what_ifs ∙ ap (λ (o : Option Value). is_none o) (first_for-push f.lists.value.what_ifs.items x y.0 y.1)) ∙ h)
     where
       by : (o : Option Value) → is_none (option_or o (cond (is_what_if x y) (Some x.value) None)) ≡ true → is_none o ≡ true
       by None k = refl
@@ -95,7 +95,7 @@ module _ (f g : Findings) (x : FoundWhatIf) (more : IsWithWhatIf f g x) where
       let there : what_if_found f y.0 y.1 ≡ None =
       ap (λ (n : ℕ). what_if_found f n y.1) (sym (same_cell y.0 x.at parts.0)) ∙ ap (what_if_found f x.at) (sym (same_lists (pairs_of x) y.1 parts.1)) ∙ e in
       let now : what_if_found g y.0 y.1 ≡ Some x.value =
-      ap (λ (fs : List FoundWhatIf). first_for fs y.0 y.1) more.what_ifs ∙ first_for-push f.what_ifs.items x y.0 y.1
+      ap (λ (fs : List FoundWhatIf). first_for fs y.0 y.1) more.what_ifs ∙ first_for-push f.lists.value.what_ifs.items x y.0 y.1
       ∙ ap (λ (o : Option Value). option_or o (cond (is_what_if x y) (Some x.value) None)) there ∙ ap (λ (b : Bool). cond b (Some x.value) None) h in
       (ap (λ (o : Option Value). is_none o) there, ap (λ (o : Option Value). is_none o) now)
 

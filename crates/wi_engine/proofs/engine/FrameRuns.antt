@@ -43,7 +43,7 @@ pub record IsNew (s : Sheet) (f : Frame) (k : Key) : Type 0 where
   pub key : f.key ≡ k
   pub formula : StandsAt s k f.formula.now
   pub cells : (c : ℕ) → found_value f.found c ≡ None
-  pub what_ifs : f.found.what_ifs.items ≡ []
+  pub what_ifs : f.found.lists.value.what_ifs.items ≡ []
   pub waiting : f.waiting ≡ Nothing
 
 -- a turn in which the frame on top comes to wait, as h, for a key whose frame is on top from then on

@@ -108,7 +108,7 @@ module _ (s : Sheet) (kept : ℕ → List Replacement → Bool) (w : List Replac
   abbrev IsWhatIf : ℕ → List (ℕ × ℕ) → Value → Type 0
   IsWhatIf c ps v = Contains (what_ifs_of t) (c, ps) × IsWhatIfSettled s kept w (c, ps)
 
-  pub settled_none : (f : Findings) → ((c : ℕ) → found_value f c ≡ None) → f.what_ifs.items ≡ [] → AreFoundSettled s kept w t f
+  pub settled_none : (f : Findings) → ((c : ℕ) → found_value f c ≡ None) → f.lists.value.what_ifs.items ≡ [] → AreFoundSettled s kept w t f
   settled_none f e h = record { cells = cells_none IsCell f e; what_ifs = what_ifs_none IsWhatIf f h }
 
   pub settled_cell : (f g : Findings) (a : ℕ) (v : Value) → IsWithCell f g a v → IsSettled s kept w a → AreFoundSettled s kept w t f → AreFoundSettled s kept w t g

@@ -34,11 +34,11 @@ first_of (e ∷ es) c = if e.0 == c then Some e.1 else first_of es c
 
 -- the value found of a cell
 abbrev pub found_value : Findings → ℕ → Option Value
-found_value f c = option_or (first_of f.first.items c) (option_or (lookup (is_at (nat_cmp c)) f.rising) (get nat_cmp f.others c))
+found_value f c = option_or (first_of f.lists.value.first.items c) (option_or (lookup (is_at (nat_cmp c)) f.lists.value.rising) (get nat_cmp f.lists.value.others c))
 
 -- the value found of a what-if
 abbrev pub what_if_found : Findings → ℕ → List (ℕ × ℕ) → Option Value
-what_if_found f = first_for f.what_ifs.items
+what_if_found f = first_for f.lists.value.what_ifs.items
 
 -- each value found of a cell, and each of a what-if, is so
 abbrev pub AreAllRight : (ℕ → Value) → (ℕ → List (ℕ × ℕ) → Value) → Findings → Type 0
@@ -47,16 +47,16 @@ AreAllRight cells what_ifs f = AgreesWith (found_value f) (what_if_found f) (rec
 -- the second is the first with a cell's value
 pub record IsWithCell (f g : Findings) (a : ℕ) (v : Value) : Type 0 where
   pub cells : (c : ℕ) → found_value g c ≡ (if a == c then Some v else found_value f c)
-  pub what_ifs : g.what_ifs.items ≡ f.what_ifs.items
+  pub what_ifs : g.lists.value.what_ifs.items ≡ f.lists.value.what_ifs.items
 
 -- the second is the first with a what-if's value behind the others
 pub record IsWithWhatIf (f g : Findings) (x : FoundWhatIf) : Type 0 where
   pub cells : (c : ℕ) → found_value g c ≡ found_value f c
-  pub what_ifs : g.what_ifs.items ≡ f.what_ifs.items ++ x ∷ []
+  pub what_ifs : g.lists.value.what_ifs.items ≡ f.lists.value.what_ifs.items ++ x ∷ []
 
 -- both have the same values
 pub record IsSame (f g : Findings) : Type 0 where
-  pub first : g.first.items ≡ f.first.items
-  pub rising : g.rising ≡ f.rising
-  pub others : g.others.entries ≡ f.others.entries
-  pub what_ifs : g.what_ifs.items ≡ f.what_ifs.items
+  pub first : g.lists.value.first.items ≡ f.lists.value.first.items
+  pub rising : g.lists.value.rising ≡ f.lists.value.rising
+  pub others : g.lists.value.others.entries ≡ f.lists.value.others.entries
+  pub what_ifs : g.lists.value.what_ifs.items ≡ f.lists.value.what_ifs.items

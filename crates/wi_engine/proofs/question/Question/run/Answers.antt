@@ -3,6 +3,7 @@ use Rattle.wi_engine.specs.declared.frame.Frame.{Frame}
 use Rattle.wi_engine.proofs.engine.FrameRuns.{IsNew, GoesDeeper, deeper_smaller, back_smaller, run_below, run_value}
 use Rattle.wi_engine.proofs.engine.Ends.{turn_same, turn_kept, comes_back, going_start, going_deeper, going_back, going_stops, going_ends, root_kept, root_there}
 use Rattle.wi_engine.proofs.engine.Steps.{counts_less}
+use Rattle.wi_engine.proofs.Ledger.{spends_none}
 use Rattle.wi_engine.proofs.question.Question.run.Goals as goal
 
 -- a stack of no frames
@@ -133,11 +134,20 @@ returns-in-None-clause-settled g c =
 
 -- ---- where memory runs out
 
+pub returns-in_err-arrays-clause-spends : goal.returns-in_err-arrays-clause-spends
+returns-in_err-arrays-clause-spends g c = spends_none c.requires.memo refl
+
 pub returns-in_err-next-clause-spends : goal.returns-in_err-next-clause-spends
 returns-in_err-next-clause-spends g c =
     let a = c.in_err-next.ensures in
     let i = c.frames.invariant in
-    going_stops i (turn_same i.running.memo a.steps.same (counts_less a.counts)) c.from_residual.result c.from_residual.ensures.0
+    going_stops i (turn_same i.running.memo a.steps.same (counts_less a.counts)) c.from_residual-in_err-next.result c.from_residual-in_err-next.ensures.0
+
+pub returns-in_err-arrays-in-Unvalued-clause-spends : goal.returns-in_err-arrays-in-Unvalued-clause-spends
+returns-in_err-arrays-in-Unvalued-clause-spends g c =
+    let a = c.in_ok-next.ensures in
+    let i = c.frames.invariant in
+    going_stops i (turn_same i.running.memo a.steps.same a.counts) c.from_residual-in_err-arrays-in-Unvalued.result c.from_residual-in_err-arrays-in-Unvalued.ensures.0
 
 pub returns-in_err-push-in-Unvalued-clause-spends : goal.returns-in_err-push-in-Unvalued-clause-spends
 returns-in_err-push-in-Unvalued-clause-spends g c =
