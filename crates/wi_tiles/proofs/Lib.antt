@@ -1,3 +1,4 @@
+pub mod AmongLemmas
 pub mod CellLemmas
 pub mod Digits
 pub mod EntryLemmas

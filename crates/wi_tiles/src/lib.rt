@@ -1,6 +1,7 @@
 //! A map by cell address, ordered row by row.
 #![tactic(auto)]
 
+mod band;
 mod cell_map;
 mod found;
 mod line;

@@ -1,12 +1,14 @@
 //! What the cells of a rectangle have, one after another.
 
-ghost use Rattle.std.specs.Prelude.{◌≡◌, ◌≤◌, IfSome, IfNone, MatchOption, filter};
+ghost use Rattle.std.specs.Prelude.{◌≡◌, ◌≤◌, ℕ, true, Some, None, IfSome, IfNone, MatchOption, filter};
 ghost use Rattle.std.specs.Map.Iter.{TakesFirst};
-ghost use Rattle.wi_tiles.specs.Inner.Cells.{is_ahead};
+ghost use Rattle.wi_tiles.specs.Inner.Cells.{at_cell, is_ahead};
 ghost use Rattle.wi_tiles.specs.Inner.Entries.{entries_of};
-ghost use Rattle.wi_tiles.specs.Inner.Within.{entry, IsMask, IsNextLeft, HasNoneLeft, ahead_in, ahead_narrow, ahead_wide};
+ghost use Rattle.wi_tiles.specs.Inner.Next.{IsNext};
+ghost use Rattle.wi_tiles.specs.Inner.Within.{entry, IsMask, IsNextLeft, HasNoneLeft, IsFound, IsBeside, ahead_in, ahead_narrow, ahead_wide};
 
-use crate::found::{found_from, is_alone};
+use crate::band::Found;
+use crate::found::{found_beside, found_from};
 use crate::masks::{bit_of, cell_in, end_in, left_in, mask_in};
 use crate::pages::Pages;
 use crate::tile::Tile;
@@ -27,6 +29,9 @@ pub struct Within<'a, V> {
     end: u32,
     // Where the walk goes on behind it, if it does.
     ahead: Option<Address>,
+    // If more tiles of its band lie in the rectangle, all these, and its place among them.
+    tiles: Option<&'a [(u32, Tile<V>)]>,
+    place: usize,
 }
 
 impl<'a, V> Model for Within<'a, V> {
@@ -38,7 +43,7 @@ impl<'a, V> Model for Within<'a, V> {
 
     ghost view = { λ w. filter (λ e. is_pending w.area w.ahead w.corner w.bit w.end e.0) (entries_of w.pages.now) };
 
-    ghost invariant = { λ w. IsWalk w.pages.now w.area w.ahead w.tile w.corner w.mask w.bit w.end };
+    ghost invariant = { λ w. IsWalk w.pages.now w.area w.ahead w.tile w.corner w.mask w.bit w.end w.tiles w.place };
 }
 
 impl<'a, V> Within<'a, V> {
@@ -55,6 +60,8 @@ impl<'a, V> Within<'a, V> {
             bit: 0,
             end: 0,
             ahead: Some(from),
+            tiles: None,
+            place: 0,
         }
     }
 
@@ -77,15 +84,24 @@ impl<'a, V> Within<'a, V> {
                 Some((cell_in(self.corner, found.0), found.1))
             }
             None => match self.ahead {
-                Some(from) => match found_from(self.pages, self.area, from) {
+                Some(from) => match found_behind(
+                    self.pages,
+                    self.area,
+                    from,
+                    self.corner,
+                    self.tiles,
+                    self.place,
+                ) {
                     Some(found) => {
-                        let alone = is_alone(self.pages, self.area, found.0);
+                        let alone = found.3.is_none();
                         self.tile = Some(found.1);
                         self.corner = found.0;
                         self.mask = mask_in(self.area, found.0);
                         self.bit = bit_of(found.0) + 1;
                         self.end = end_in(self.area, alone, found.0);
                         self.ahead = ahead_in(self.area, alone, found.0);
+                        self.tiles = found.3;
+                        self.place = found.4;
                         Some((found.0, found.2))
                     }
                     None => None,
@@ -108,8 +124,8 @@ impl<'a, V> Iterator for Within<'a, V> {
 
     ghost remaining = { λ s. at_most (length s) };
 
-    /// A step among the bits of a tile for each cell, and one search for each tile; for each row of a tile, where the rectangle
-    /// lies in more tiles than one beside another, and 16 rows have more than one.
+    /// A step among the bits of a tile for each cell, and one search for each 16 rows; and where more than one of their tiles lie in
+    /// the rectangle, one step more for each tile of each row.
     fn next(&mut self) -> Option<(Address, &'a V)> {
         match left_of(
             self.tile,
@@ -145,6 +161,25 @@ fn left_of<'a, V>(
     match tile {
         Some(tile) => left_in(tile, area, mask, corner, bit, end),
         None => None,
+    }
+}
+
+/// The first cell of a rectangle, at a cell or after it, that has something, where the walk goes on there behind a tile.
+fn found_behind<'a, V>(
+    pages: &'a Pages<V>,
+    area: Rect,
+    from: Address,
+    corner: Address,
+    tiles: Option<&'a [(u32, Tile<V>)]>,
+    place: usize,
+) -> Option<Found<'a, V>>
+    requires { IfSome tiles (λ ts. IsBeside pages.now area (Some from) corner ts.now place) }
+    ensures some { IfSome result (λ x. IsNext pages.now area from x.0 × IsFound pages.now area x.0 x.1.now x.2.now x.3 x.4) }
+    ensures none { IfNone result ((c : ℕ) → is_ahead area from c ≡ true → at_cell pages.now c ≡ None) }
+{
+    match tiles {
+        Some(tiles) => found_beside(pages, area, from, corner, tiles, place),
+        None => found_from(pages, area, from),
     }
 }
 

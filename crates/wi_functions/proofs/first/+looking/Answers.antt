@@ -1,10 +1,10 @@
-use Rattle.std.proofs.Common.{◌≡◌, List, IfSome, refl, sym, subst, rules}
+use Rattle.std.proofs.Common.{◌≡◌, IfSome, refl, sym, subst, rules}
 use Rattle.std.proofs.lemmas.Option.{IfSome_then}
-use Rattle.wi_parser.specs.View.{tree_of, all_of}
+use Rattle.wi_parser.specs.View.{tree_of}
 use Rattle.wi_parser.specs.Leaves.{cell_leaf}
-use Rattle.wi_parser.specs.Tree.{Tree, cell, binary, call}
+use Rattle.wi_parser.specs.Tree.{Tree, cell, binary}
 use Rattle.wi_parser.specs.declared.expr.Expr.{Expr, the_lemmas}
-use Rattle.wi_functions.specs.Wants.{Asks, AnyAsks}
+use Rattle.wi_functions.specs.Wants.{Asks}
 use Rattle.wi_functions.specs.declared.evaluation.Want.TheVariants.{Cell}
 use Rattle.wi_functions.proofs.Asking.{leaf_asks, left_asks, right_asks}
 use Rattle.wi_functions.proofs.first.+looking.Goals as goal
@@ -33,9 +33,3 @@ first_of-returns-in-None t c =
 
 pub first_of-returns-in-WhatIf : goal.first_of-returns-in-WhatIf
 first_of-returns-in-WhatIf t c = search rules
-
-pub first_of-returns-in-Call : goal.first_of-returns-in-Call
-first_of-returns-in-Call t c =
-    let is : tree_of c.args.expr.now ≡ call c.in-Call.name (all_of c.in-Call.parameters.items) = search (rules, the_lemmas) in
-    subst (λ (u : Tree). IfSome c.first_of_call.result (λ a. Asks u (Cell a))) (sym is)
-    (subst (λ (es : List Expr). IfSome c.first_of_call.result (λ a. AnyAsks (all_of es) (Cell a))) c.deref-in-Call.ensures.value c.first_of_call.ensures)

@@ -1,0 +1,13 @@
+use Rattle.std.proofs.Common.{◌≡◌, ℕ, ◌<◌, get_or, Option}
+use Rattle.std.specs.Map.{keys_of}
+use Rattle.wi_parser.specs.declared.content.Content.{Content}
+use Rattle.wi_store.specs.Inner.Rooms.{sheet_in, RoomsAreInOrder, VacantOnlyAt, HasRoomFor}
+use Rattle.wi_store.proofs.rooms.make_rooms.Given as goal
+
+abbrev pub invariant-loop-at : goal.invariant-loop-at
+invariant-loop-at l = record {
+  sheet : sheet_in l.rooms.entries ≡ sheet_in l.initial.rooms.entries;
+  order : RoomsAreInOrder l.rooms.entries;
+  vacant : VacantOnlyAt (keys_of l.changes) l.rooms.entries;
+  room : (k : ℕ) (d : ℕ × Option Content) → k < l.at-index → HasRoomFor l.rooms.entries (get_or l.changes k d);
+}
