@@ -71,8 +71,8 @@ impl<'a> Iterator for Contents<'a> {
     ghost remaining = { λ s. at_most (length s) };
 
     /// A step within a tile of 16 rows by 4 columns for each occupied cell of it up to the next one of the rectangle, and one search
-    /// for each 16 rows; one step more for each tile of each row, where more than one of them lie in the rectangle. 16 rows where
-    /// nothing stands are passed at once.
+    /// for each such tile; for each row of it, where the rectangle lies in more than one beside another. 16 rows where nothing stands
+    /// are passed at once.
     fn next(&mut self) -> Option<(Address, &'a Content)> {
         match self.rooms.next() {
             Some((cell, room)) => match room.content() {

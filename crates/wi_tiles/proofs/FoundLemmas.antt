@@ -1,6 +1,6 @@
 -- The first cell of a rectangle in one column of tiles.
 use Rattle.std.proofs.Common.{◌≡◌, ℕ, ◌+◌, ◌*◌, ◌/◌, ◌%◌, ◌<◌, ◌≤◌, List, [], ◌∷◌, length, Option, Some, None, sym, ap, arith, ◌∙◌, ⊎_elim, refl, cond, subst, Bool, true, false}
-use Rattle.std.specs.Prelude.{◌==◌, nat_le, IsSome, IfSome, IfNone}
+use Rattle.std.specs.Prelude.{◌==◌, nat_le, IsSome, IfSome, IfNone, MatchOption}
 use Rattle.std.specs.Borrow.{Bor}
 use Rattle.std.specs.Int.{bit_at}
 use Rattle.std.proofs.lemmas.Bool.{cases_lt, and_parts, and_from, le-leb}
@@ -11,7 +11,7 @@ use Rattle.wi_tiles.specs.Inner.Lines.{cell, slot}
 use Rattle.wi_tiles.specs.Inner.Next.{band_at, in_band, IsNext}
 use Rattle.wi_tiles.specs.Inner.Parts.{at_part}
 use Rattle.wi_tiles.specs.Inner.Sorted.{key, find as find_part}
-use Rattle.wi_tiles.specs.Inner.Within.{bit_of, cell_in, in_band_tile, tile_at, is_narrow, end_narrow, IsAlone, IsFound, IsMask, IsNextLeft, HasNoneLeft}
+use Rattle.wi_tiles.specs.Inner.Within.{bit_of, cell_in, in_band_tile, tile_at, is_narrow, end_narrow, IsAlone, IsMask, IsNextLeft, HasNoneLeft}
 use Rattle.wi_tiles.proofs.NextLemmas.{row_cell, sides, is_inside, Reached}
 use Rattle.wi_tiles.proofs.WalkLemmas.{of_bit, tile_cell, same_band, in_sheet, left_from, nothing_left, bits_rise, sides_of, cell_again, end_reaches, end_bound, in_columns, mask_made}
 
@@ -37,7 +37,7 @@ pub left_over : {V : Type 0} (r : Area) (t : List (Option V)) (corner bit end : 
 left_over r t corner bit end h i l u w = absurd (omega (arith, h, l, u))
 
 -- a cell of the sheet by its row
-pub cell_below : (c : ℕ) → row_of c < 1048576 → c < 17179869184
+cell_below : (c : ℕ) → row_of c < 1048576 → c < 17179869184
 cell_below c h = omega (arith, h)
 
 -- where cells of one tile stand
@@ -47,16 +47,8 @@ not_before h a i j l = omega (arith, i, j, l)
 in_rows_of : (c a row : ℕ) → row_of a / 16 ≡ row / 16 → c < a → row_of c < row / 16 * 16 + 16
 in_rows_of c a row i l = omega (arith, i, l)
 
-pub within_from : (r : Area) (a : ℕ) → row_of r.first ≤ row_of a → row_of a ≤ row_of r.last → column_of r.first ≤ column_of a → column_of a ≤ column_of r.last → is_within r a ≡ true
+within_from : (r : Area) (a : ℕ) → row_of r.first ≤ row_of a → row_of a ≤ row_of r.last → column_of r.first ≤ column_of a → column_of a ≤ column_of r.last → is_within r a ≡ true
 within_from r a i j k l = and_from _ _ (and_from _ _ (le-leb _ _ i) (le-leb _ _ j)) (and_from _ _ (le-leb _ _ k) (le-leb _ _ l))
-
--- a rectangle in one column of tiles
-pub narrow_alone : {V : Type 0} (w : Pages V) (r : Area) (a : ℕ) → is_narrow r ≡ true → is_within r a ≡ true → IsAlone w r a
-narrow_alone w r a narrow within c h m same some =
-    let s = sides_of r c m in
-    let t = sides_of r a within in
-    let one : column_of r.first / 4 ≡ column_of r.last / 4 = eqb-true _ _ narrow in
-    omega (arith, s.2, s.3, t.2, t.3, one)
 
 -- from a cell of the rectangle on, in the rows of its band
 module _ {V : Type 0} (w : Pages V) (r : Area) (row column : ℕ) (narrow : is_narrow r ≡ true) (top : row_of r.first ≤ row) (low : row ≤ row_of r.last) (left : column_of r.first ≤ column) (right : column ≤ column_of r.last) (in_rows : row < 1048576) where
@@ -98,7 +90,7 @@ module _ {V : Type 0} (w : Pages V) (r : Area) (row column : ℕ) (narrow : is_n
       (after, w, band, group, omega (arith, after, band, group), end_reaches r here c s.2 band)
 
   pub band_found : (t : List (Option V)) (b : ℕ) (v : V) → tile_at w here ≡ Some t → IsNextLeft r t here (bit_of here) (end_narrow r here) b v
-      → IsNext w r here (cell_in here b) × IsFound w r (cell_in here b) t v None 0
+      → IsNext w r here (cell_in here b) × (tile_at w (cell_in here b) ≡ Some t) × (at_cell w (cell_in here b) ≡ Some v) × (cell_in here b < 17179869184)
   band_found t b v is found =
       let from : bit_of here ≤ b = found.0 in
       let high : b < end_narrow r here = found.1 in
@@ -116,7 +108,9 @@ module _ {V : Type 0} (w : Pages V) (r : Area) (row column : ℕ) (narrow : is_n
               tile_cell w here c t (omega (arith, l, sheet)) is p.2 p.3
               ∙ found.4 (bit_of c) p.4 (omega (arith, at.2, bits_rise (cell_in here b) c (p.2 ∙ sym at.0) (p.3 ∙ sym at.1) l)) (ap (λ x. is_within r x) (cell_again here c p.2 p.3) ∙ p.1);
         },
-        record { sheet = sheet; tile = tile_same b at.0 at.1 ∙ is; value = value; beside = narrow_alone w r (cell_in here b) narrow found.2 },
+        tile_same b at.0 at.1 ∙ is,
+        value,
+        sheet,
       )
     where
       tile_same : (b : ℕ) → row_of (cell_in here b) / 16 ≡ row_of here / 16 → column_of (cell_in here b) / 4 ≡ column_of here / 4 → tile_at w (cell_in here b) ≡ tile_at w here
@@ -128,8 +122,8 @@ module _ {V : Type 0} (w : Pages V) (r : Area) (row column : ℕ) (narrow : is_n
       nothing_left w r here (bit_of here) (end_narrow r here) t is end_below none c (cell_below c (omega (arith, u, in_rows))) (left_from here (bit_of here) (end_narrow r here) c p.2 p.3 p.4 p.5) p.1
 
   -- the same, by what the calls give
-  abbrev pub IsFoundHere : ℕ → List (Option V) → V → Type 0
-  IsFoundHere a t v = IsNext w r here a × IsFound w r a t v None 0
+  abbrev pub IsFound : ℕ → List (Option V) → V → Type 0
+  IsFound a t v = IsNext w r here a × (tile_at w a ≡ Some t) × (at_cell w a ≡ Some v) × (a < 17179869184)
 
   module _ (h b e : ℕ) (is : h ≡ here) (bit : b ≡ bit_of h) (end : e ≡ end_narrow r h) where
     pub end_at : e ≤ 64
@@ -138,9 +132,9 @@ module _ {V : Type 0} (w : Pages V) (r : Area) (row column : ℕ) (narrow : is_n
     pub mask_at : (mask : ℕ) → ((i : ℕ) → i < 64 → (bit_at mask i == 1) ≡ in_columns r h i) → IsMask r h mask b e
     mask_at mask columns = subst (λ q. IsMask r h mask b q) (sym end) (subst (λ q. IsMask r h mask q (end_narrow r h)) (sym bit) (mask_made r h true mask (subst (λ q. is_within r q ≡ true) (sym is) here_within) columns))
 
-    pub found_at : (t : List (Option V)) (x : ℕ) (v : V) (a : ℕ) → tile_at w here ≡ Some t → a ≡ cell_in h x → IsNextLeft r t h b e x v → IsFoundHere a t v
+    pub found_at : (t : List (Option V)) (x : ℕ) (v : V) (a : ℕ) → tile_at w here ≡ Some t → a ≡ cell_in h x → IsNextLeft r t h b e x v → IsFound a t v
     found_at t x v a stands at found =
-        subst (λ q. IsFoundHere q t v) (sym (at ∙ ap (λ q. cell_in q x) is)) (band_found t x v stands
+        subst (λ q. IsFound q t v) (sym (at ∙ ap (λ q. cell_in q x) is)) (band_found t x v stands
         (subst (λ q. IsNextLeft r t q (bit_of q) (end_narrow r q) x v) is (subst (λ q. IsNextLeft r t h q (end_narrow r h) x v) bit (subst (λ q. IsNextLeft r t h b q x v) end found))))
 
     pub none_at : (t : List (Option V)) → tile_at w here ≡ Some t → HasNoneLeft r t h b e → (c : ℕ) → is_ahead r here c ≡ true → row_of c < row / 16 * 16 + 16 → at_cell w c ≡ None
@@ -188,40 +182,18 @@ reached_at w r from row column a reached next =
           (cases_lt b (place row column));
     }
 
--- and where nothing comes from there on
-pub reached_none : {V : Type 0} (w : Pages V) (r : Area) (from row column : ℕ) → Reached w r from row column → ((c : ℕ) → is_ahead r (place row column) c ≡ true → at_cell w c ≡ None) → (c : ℕ) → is_ahead r from c ≡ true → at_cell w c ≡ None
-reached_none w r from row column reached none c h =
-    let s = sides r from c h in
-    ⊎_elim
-    (λ q. reached.clear c h q)
-    (λ q. none c (is_inside r (place row column) c q s.1 s.2 s.3 s.4))
-    (cases_lt c (place row column))
+-- a rectangle in one column of tiles, and a band of one tile
+pub narrow_alone : {V : Type 0} (w : Pages V) (r : Area) (a : ℕ) → is_narrow r ≡ true → is_within r a ≡ true → IsAlone w r a
+narrow_alone w r a narrow within c h m same some =
+    let s = sides_of r c m in
+    let t = sides_of r a within in
+    let one : column_of r.first / 4 ≡ column_of r.last / 4 = eqb-true _ _ narrow in
+    omega (arith, s.2, s.3, t.2, t.3, one)
 
--- the first cell of the bands below
-pub reached_below : {V : Type 0} (w : Pages V) (r : Area) (from : ℕ) → is_within r from ≡ true → ((c : ℕ) → is_ahead r from c ≡ true → row_of c < row_of from / 16 * 16 + 16 → at_cell w c ≡ None) → Reached w r from (row_of from / 16 * 16 + 16) (column_of r.first)
-reached_below w r from within none =
-    let s = sides_of r from within in
-    record {
-      top = omega (arith, s.0);
-      left = omega arith;
-      right = omega (arith, s.2, s.3);
-      after = omega arith;
-      clear = λ b h l. none b h (omega (arith, l, (sides r from b h).3));
-    }
-
-pub next_after : {V X : Type 0} (w : Pages V) (r : Area) (from row column below : ℕ) → below ≡ place row column → Reached w r from row column → (cell_of : X → ℕ) (P : X → Type 0) (o : Option X) → IfSome o (λ x. IsNext w r below (cell_of x) × P x) → IfSome o (λ x. IsNext w r from (cell_of x) × P x)
-next_after w r from row column below is reached cell_of P None h = h
-next_after w r from row column below is reached cell_of P (Some x) h = (reached_at w r from row column (cell_of x) reached (subst (λ q. IsNext w r q (cell_of x)) is h.0), h.1)
-
-pub none_after : {V X : Type 0} (w : Pages V) (r : Area) (from row column below : ℕ) → below ≡ place row column → Reached w r from row column → (o : Option X) → IfNone o ((c : ℕ) → is_ahead r below c ≡ true → at_cell w c ≡ None) → IfNone o ((c : ℕ) → is_ahead r from c ≡ true → at_cell w c ≡ None)
-none_after w r from row column below is reached None h = reached_none w r from row column reached (λ c q. h c (ap (λ z. is_ahead r z c) is ∙ q))
-none_after w r from row column below is reached (Some x) h = h
-
--- a band of one tile
-pub nothing_some : (V : Type 0) → IsSome {T = V} None → ⊥
+nothing_some : (V : Type 0) → IsSome {T = V} None → ⊥
 nothing_some V e = grind arith
 
-pub one_key : {V : Type 0} (ts : Band V) (line k : ℕ) → length ts ≡ 1 → IsSome (cell ts line k) → k / 4 ≡ key ts 0
+one_key : {V : Type 0} (ts : Band V) (line k : ℕ) → length ts ≡ 1 → IsSome (cell ts line k) → k / 4 ≡ key ts 0
 one_key [] line k h some = absurd (omega (arith, h))
 one_key {V} (t ∷ []) line k h some = by (t.0 == k / 4) refl
   where
@@ -229,3 +201,12 @@ one_key {V} (t ∷ []) line k h some = by (t.0 == k / 4) refl
     by true e = sym (eqb-true t.0 (k / 4) e)
     by false e = absurd (nothing_some V (subst (λ q. IsSome (at_part slot (cond q (Some t.1) None) (4 * line + k % 4))) e some))
 one_key (t ∷ u ∷ ts) line k h some = absurd (omega (arith, h))
+
+pub tile_alone : {V : Type 0} (w : Pages V) (r : Area) (a : ℕ) → a < 17179869184 → IsSome (at_cell w a) → MatchOption (band_at w (row_of a)) ⊥ (λ ts. length ts ≡ 1) → IsAlone w r a
+tile_alone {V} w r a sheet there one c h m same some =
+    by (band_at w (row_of a)) one (subst (λ o. IsSome o) (row_cell w a sheet) there)
+    (subst (λ o. IsSome (in_band o (row_of c % 16) (column_of c))) (same_band w c a same) (subst (λ o. IsSome o) (row_cell w c h) some))
+  where
+    by : (o : Option (Band V)) → MatchOption o ⊥ (λ ts. length ts ≡ 1) → IsSome (in_band o (row_of a % 16) (column_of a)) → IsSome (in_band o (row_of c % 16) (column_of c)) → column_of c / 4 ≡ column_of a / 4
+    by None e i j = absurd e
+    by (Some ts) e i j = one_key ts (row_of c % 16) (column_of c) e j ∙ sym (one_key ts (row_of a % 16) (column_of a) e i)

@@ -1,4 +1,3 @@
-pub mod AmongLemmas
 pub mod CellLemmas
 pub mod Digits
 pub mod EntryLemmas

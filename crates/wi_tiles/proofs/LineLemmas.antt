@@ -17,7 +17,7 @@ pub clear_first : {V : Type 0} (ts : List (ℕ × List (Option V))) (line from e
 clear_first ts line from end place below c f e apart =
     ap (λ o. at_part slot o (4 * line + c % 4)) (find_none ts (c / 4) (λ j q. ⊎_elim (λ l z. omega (arith, below j l, z, f)) (λ l. apart j l q) (cases_lt j place)))
 
-pub key_rises : {S : Type 0} (ts : List (ℕ × S)) (i j : ℕ) → Rises ts → i ≤ j → j < length ts → key ts i ≤ key ts j
+key_rises : {S : Type 0} (ts : List (ℕ × S)) (i j : ℕ) → Rises ts → i ≤ j → j < length ts → key ts i ≤ key ts j
 key_rises ts i j rises h q = ⊎_elim (λ l. omega (arith, rises i j l q)) (λ l. omega (arith, ap (λ k. key ts k) (let e : i ≡ j = omega arith in e))) (cases_lt i j)
 
 -- what comes before the group of the next tile has nothing

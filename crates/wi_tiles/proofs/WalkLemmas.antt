@@ -13,7 +13,7 @@ use Rattle.wi_tiles.specs.Inner.Lines.{slot}
 use Rattle.wi_tiles.specs.Inner.Next.{in_page, band_at, in_band, IsNext}
 use Rattle.wi_tiles.specs.Inner.Parts.{at_part, part_from}
 use Rattle.wi_tiles.specs.Inner.Sorted.{find as find_part}
-use Rattle.wi_tiles.specs.Inner.Within.{bit_of, cell_in, in_band_tile, tile_at, is_from, in_tile, is_left, is_pending, IsWalk, IsBeside, IsMask, IsNextLeft, HasNoneLeft, IsAlone, end_narrow, end_in, ahead_narrow, ahead_wide, ahead_in}
+use Rattle.wi_tiles.specs.Inner.Within.{bit_of, cell_in, in_band_tile, tile_at, is_from, in_tile, is_left, is_pending, IsWalk, IsMask, IsNextLeft, HasNoneLeft, IsAlone, end_narrow, end_in, ahead_narrow, ahead_wide, ahead_in}
 use Rattle.wi_tiles.proofs.MapLemmas.{below, above}
 use Rattle.wi_tiles.proofs.NextLemmas.{row_cell, sides, is_inside}
 
@@ -364,18 +364,6 @@ module _ (r : Area) (a : ℕ) (within : is_within r a ≡ true) where
       by false true e d = under (leb-false _ _ e) (ltb-true _ _ d)
       by false false e d = ended (leb-false _ _ e) (ltb-false _ _ d)
 
-  abbrev of_some : Option ℕ → ℕ
-  of_some None = 0
-  of_some (Some x) = x
-
-  pub wide_from : (from : ℕ) → Some from ≡ ahead_wide r a → ((row_of from ≡ row_of a) × (column_of from ≡ column_of a / 4 * 4 + 4) × (column_of from ≤ column_of r.last)) ⊎ ((row_of from ≡ row_of a + 1) × (column_of from ≡ column_of r.first) × (row_of a < row_of r.last))
-  wide_from from e = by (ahead_wide r a) wide_is e
-    where
-      by : (o : Option ℕ) → Wide o → Some from ≡ o → ((row_of from ≡ row_of a) × (column_of from ≡ column_of a / 4 * 4 + 4) × (column_of from ≤ column_of r.last)) ⊎ ((row_of from ≡ row_of a + 1) × (column_of from ≡ column_of r.first) × (row_of a < row_of r.last))
-      by _ (beside i) d = let is : from ≡ place (row_of a) (column_of a / 4 * 4 + 4) = ap of_some d in inl (omega (arith, is, i), omega (arith, is, i), omega (arith, is, i))
-      by _ (under i j) d = let is : from ≡ place (row_of a + 1) (column_of r.first) = ap of_some d in inr (omega (arith, is), omega (arith, is), j)
-      by _ (ended i j) d = absurd (grind (arith, d))
-
   wide_left : (c : ℕ) → is_left a (bit_of a + 1) (row_of a % 16 * 4 + 4) c ≡ true → (row_of c ≡ row_of a) × (column_of c / 4 ≡ column_of a / 4)
   wide_left c left = let p = left_parts a (bit_of a + 1) (row_of a % 16 * 4 + 4) c left in (omega (arith, p.0, p.2, p.3), p.1)
 
@@ -445,8 +433,8 @@ module _ {V : Type 0} (w : Pages V) (r : Area) (corner bit end from a : ℕ) (v 
       (λ q. let p = pending_parts r (Some from) corner bit end c q in pending_from r (ahead_in r lone a) a (bit_of a + 1) (end_in r lone a) c (on.all c (above c (omega (arith, u))) p.1 some l) p.1)
       (λ q. let p = pending_parts r (ahead_in r lone a) a (bit_of a + 1) (end_in r lone a) c q in pending_from r (Some from) corner bit end c (inr (le-leb from c (omega (arith, l, reached.0)))) p.1))
 
-  pub walks_behind : (t : Option (Bor (List (Option V)))) → IfSome t (λ x. tile_at w a ≡ Some x.now) → IfNone t (end_in r lone a ≤ bit_of a + 1) → (mask : ℕ) → IsMask r a mask (bit_of a + 1) (end_in r lone a) → (ts : Option (Bor (Band V))) (k : ℕ) → IfSome ts (λ q. IsBeside w r (ahead_in r lone a) a q.now k) → IsWalk w r (ahead_in r lone a) t a mask (bit_of a + 1) (end_in r lone a) ts k
-  walks_behind t there nothing mask masks ts k others = record { stands = there; nothing = nothing; within = on.bound; masks = masks; sheet = on_sheet; order = on.order; beside = others }
+  pub walks_behind : (t : Option (Bor (List (Option V)))) → IfSome t (λ x. tile_at w a ≡ Some x.now) → IfNone t (end_in r lone a ≤ bit_of a + 1) → (mask : ℕ) → IsMask r a mask (bit_of a + 1) (end_in r lone a) → IsWalk w r (ahead_in r lone a) t a mask (bit_of a + 1) (end_in r lone a)
+  walks_behind t stands nothing mask masks = record { stands = stands; nothing = nothing; within = on.bound; masks = masks; sheet = on_sheet; order = on.order }
 
   pub step_behind : (ahead2 : Option ℕ) (bit2 end2 : ℕ) → ahead2 ≡ ahead_in r lone a → bit2 ≡ bit_of a → end2 ≡ end_in r lone a → passing (is_pending r (Some from) corner bit end) (entries_of w) ≡ (a, v) ∷ passing (is_pending r ahead2 a (bit2 + 1) end2) (entries_of w)
   step_behind ahead2 bit2 end2 e f g = takes_behind
@@ -454,11 +442,11 @@ module _ {V : Type 0} (w : Pages V) (r : Area) (corner bit end from a : ℕ) (v 
       ∙ ap (λ b. (a, v) ∷ passing (is_pending r ahead2 a (b + 1) (end_in r lone a)) (entries_of w)) (sym f)
       ∙ ap (λ n. (a, v) ∷ passing (is_pending r ahead2 a (bit2 + 1) n) (entries_of w)) (sym g)
 
-  pub walk_behind : (t : Bor (List (Option V))) (ahead2 : Option ℕ) (mask2 bit2 end2 : ℕ) → ahead2 ≡ ahead_in r lone a → bit2 ≡ bit_of a → end2 ≡ end_in r lone a → tile_at w a ≡ Some t.now → ((i : ℕ) → i < 64 → (bit_at mask2 i == 1) ≡ in_columns r a i) → (ts : Option (Bor (Band V))) (k : ℕ) → IfSome ts (λ q. IsBeside w r (ahead_in r lone a) a q.now k) → IsWalk w r ahead2 (Some t) a mask2 (bit2 + 1) end2 ts k
-  walk_behind t ahead2 mask2 bit2 end2 e f g there columns ts k others =
-      subst (λ o. IsWalk w r o (Some t) a mask2 (bit2 + 1) end2 ts k) (sym e)
-      (subst (λ b. IsWalk w r (ahead_in r lone a) (Some t) a mask2 (b + 1) end2 ts k) (sym f)
-      (subst (λ n. IsWalk w r (ahead_in r lone a) (Some t) a mask2 (bit_of a + 1) n ts k) (sym g) (walks_behind (Some t) there tt mask2 (λ i l u. mask_made r a lone mask2 reached.1 columns i (omega (arith, l)) u) ts k others)))
+  pub walk_behind : (t : Bor (List (Option V))) (ahead2 : Option ℕ) (mask2 bit2 end2 : ℕ) → ahead2 ≡ ahead_in r lone a → bit2 ≡ bit_of a → end2 ≡ end_in r lone a → tile_at w a ≡ Some t.now → ((i : ℕ) → i < 64 → (bit_at mask2 i == 1) ≡ in_columns r a i) → IsWalk w r ahead2 (Some t) a mask2 (bit2 + 1) end2
+  walk_behind t ahead2 mask2 bit2 end2 e f g stands columns =
+      subst (λ o. IsWalk w r o (Some t) a mask2 (bit2 + 1) end2) (sym e)
+      (subst (λ b. IsWalk w r (ahead_in r lone a) (Some t) a mask2 (b + 1) end2) (sym f)
+      (subst (λ n. IsWalk w r (ahead_in r lone a) (Some t) a mask2 (bit_of a + 1) n) (sym g) (walks_behind (Some t) stands tt mask2 (λ i l u. mask_made r a lone mask2 reached.1 columns i (omega (arith, l)) u))))
 
 -- and where there is none
 pub ends_behind : {V : Type 0} (w : Pages V) (r : Area) (corner bit end from : ℕ) → ((c : ℕ) → c < 17179869184 → is_left corner bit end c ≡ true → is_within r c ≡ true → at_cell w c ≡ None) → ((c : ℕ) → is_ahead r from c ≡ true → at_cell w c ≡ None) → passing (is_pending r (Some from) corner bit end) (entries_of w) ≡ []
@@ -472,15 +460,15 @@ pub none_left : (corner bit end : ℕ) → end ≤ bit → (c : ℕ) → is_left
 none_left corner bit end h c left = let p = left_parts corner bit end c left in omega (arith, p.2, p.3, h)
 
 -- what a walk tells of its tile
-pub left_nothing : {V : Type 0} {ts : Option (Bor (Band V))} {k : ℕ} (w : Pages V) (r : Area) (ahead : Option ℕ) (tile : Option (Bor (List (Option V)))) (corner mask bit end : ℕ) → IsWalk w r ahead tile corner mask bit end ts k → IfSome tile (λ t. HasNoneLeft r t.now corner bit end) → (c : ℕ) → c < 17179869184 → is_left corner bit end c ≡ true → is_within r c ≡ true → at_cell w c ≡ None
+pub left_nothing : {V : Type 0} (w : Pages V) (r : Area) (ahead : Option ℕ) (tile : Option (Bor (List (Option V)))) (corner mask bit end : ℕ) → IsWalk w r ahead tile corner mask bit end → IfSome tile (λ t. HasNoneLeft r t.now corner bit end) → (c : ℕ) → c < 17179869184 → is_left corner bit end c ≡ true → is_within r c ≡ true → at_cell w c ≡ None
 left_nothing w r ahead None corner mask bit end walk none c l left within = absurd (none_left corner bit end walk.nothing c left)
 left_nothing w r ahead (Some t) corner mask bit end walk none c l left within = nothing_left w r corner bit end t.now walk.stands walk.within none c l left within
 
-pub step_left : {V : Type 0} {ts : Option (Bor (Band V))} {k : ℕ} (w : Pages V) (r : Area) (ahead : Option ℕ) (tile : Option (Bor (List (Option V)))) (corner mask bit end b : ℕ) (v : V) → IsWalk w r ahead tile corner mask bit end ts k → MatchOption tile ⊥ (λ t. IsNextLeft r t.now corner bit end b v) → passing (is_pending r ahead corner bit end) (entries_of w) ≡ (cell_in corner b, v) ∷ passing (is_pending r ahead corner (b + 1) end) (entries_of w)
+pub step_left : {V : Type 0} (w : Pages V) (r : Area) (ahead : Option ℕ) (tile : Option (Bor (List (Option V)))) (corner mask bit end b : ℕ) (v : V) → IsWalk w r ahead tile corner mask bit end → MatchOption tile ⊥ (λ t. IsNextLeft r t.now corner bit end b v) → passing (is_pending r ahead corner bit end) (entries_of w) ≡ (cell_in corner b, v) ∷ passing (is_pending r ahead corner (b + 1) end) (entries_of w)
 step_left w r ahead None corner mask bit end b v walk found = absurd found
 step_left w r ahead (Some t) corner mask bit end b v walk found = takes_left w r ahead corner bit end b t.now v walk.stands walk.within walk.order found (in_sheet corner b walk.sheet (let l : b < end = found.1 in omega (arith, l, walk.within)))
 
-pub walk_left : {V : Type 0} {ts : Option (Bor (Band V))} {k : ℕ} (w : Pages V) (r : Area) (ahead : Option ℕ) (tile : Option (Bor (List (Option V)))) (corner mask bit end b : ℕ) (v : V) → IsWalk w r ahead tile corner mask bit end ts k → MatchOption tile ⊥ (λ t. IsNextLeft r t.now corner bit end b v) → IsWalk w r ahead tile corner mask (b + 1) end ts k
+pub walk_left : {V : Type 0} (w : Pages V) (r : Area) (ahead : Option ℕ) (tile : Option (Bor (List (Option V)))) (corner mask bit end b : ℕ) (v : V) → IsWalk w r ahead tile corner mask bit end → MatchOption tile ⊥ (λ t. IsNextLeft r t.now corner bit end b v) → IsWalk w r ahead tile corner mask (b + 1) end
 walk_left w r ahead None corner mask bit end b v walk found = absurd found
 walk_left w r ahead (Some t) corner mask bit end b v walk found = record {
   stands = walk.stands;
@@ -489,7 +477,6 @@ walk_left w r ahead (Some t) corner mask bit end b v walk found = record {
   masks = λ i l u. walk.masks i (let low : bit ≤ b = found.0 in omega (arith, low, l)) u;
   sheet = walk.sheet;
   order = walks_on w r ahead corner bit end b t.now v walk.stands walk.within walk.order found;
-  beside = walk.beside;
 }
 
 pub bit_within : {V : Type 0} (r : Area) (tile : Option (Bor (List (Option V)))) (corner bit end b : ℕ) (v : V) → MatchOption tile ⊥ (λ t. IsNextLeft r t.now corner bit end b v) → b < end

@@ -6,4 +6,5 @@ pub mod Next
 pub mod Parts
 pub mod Sorted
 pub mod Tile
+pub mod Walk
 pub mod Within

@@ -118,9 +118,9 @@ impl<V: Drop> CellMap<V> {
         self.occupied = 0;
     }
 
-    /// The first cell of a rectangle, in row-major order, at a cell or after it, that has something. For each 16 rows up to it one
-    /// search among their tiles, and a step for each tile of the rectangle in each row of them; one step, where the rectangle lies
-    /// in one column of tiles, of four columns. Rows are passed at once where no tile of the rectangle stands.
+    /// The first cell of a rectangle, in row-major order, at a cell or after it, that has something. One search among the tiles
+    /// of 16 rows for each row up to it, and where the rectangle lies in one column of tiles, of four columns, for 16 rows; rows
+    /// where nothing stands are passed at once.
     pub fn next_in(&self, area: Rect, from: Address) -> Option<Address>
         ensures { result ≡ find (λ a. nat_le from a) (filter (is_within area) (keys_of self.now.entries)) }
     {

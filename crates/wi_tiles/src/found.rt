@@ -1,6 +1,6 @@
 //! The first cell of a rectangle that has something, with what it has.
 
-ghost use Rattle.std.specs.Prelude.{◌≡◌, ◌<◌, ◌≤◌, ◌+◌, ◌*◌, ◌/◌, ℕ, true, None, Some, IfSome, IfNone, IfOk, IfErr, length};
+ghost use Rattle.std.specs.Prelude.{◌≡◌, ◌<◌, ◌≤◌, ◌+◌, ◌*◌, ◌/◌, ℕ, true, None, Some, IfSome, IfNone, IfOk, IfErr};
 ghost use Rattle.wi_values.specs.Address.{rows, place, row_of, column_of, is_within};
 ghost use Rattle.wi_tiles.specs.Inner.Cells.{at_cell, is_ahead};
 ghost use Rattle.wi_tiles.specs.Inner.Next.{IsNext};
@@ -39,13 +39,7 @@ pub fn found_beside<'a, V>(
     ensures none { IfNone result ((c : ℕ) → is_ahead area from c ≡ true → at_cell pages.now c ≡ None) }
 {
     if from.row() / 16 == corner.row() / 16 {
-        found_or_below(
-            pages,
-            area,
-            from,
-            tiles,
-            first_beside(tiles, from, corner, place),
-        )
+        found_or_below(pages, area, from, tiles, first_beside(from, corner, place))
     } else {
         found_wide(pages, area, from)
     }
@@ -86,8 +80,7 @@ fn found_below<'a, V>(pages: &'a Pages<V>, area: Rect, from: Address) -> Option<
 }
 
 /// Where among those tiles the first stands that isn't left of where the walk goes on.
-fn first_beside<V>(tiles: &[(u32, Tile<V>)], from: Address, corner: Address, place: usize) -> usize
-    requires { place < length tiles.now }
+fn first_beside(from: Address, corner: Address, place: usize) -> usize
     ensures { result ≡ first_beside from corner place }
 {
     if from.row() == corner.row() {

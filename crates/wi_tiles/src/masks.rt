@@ -107,3 +107,36 @@ pub fn left_in<'a, V>(
     }
     tile.first_of(mask, bit, end)
 }
+
+/// Which bits of the tiles lie in the columns of a rectangle: in the first tile, in the last, and all of those between.
+#[derive(Clone, Copy)]
+pub struct Columns {
+    first: u32,
+    last: u32,
+    left: u64,
+    right: u64,
+}
+
+pub fn columns_in(area: Rect) -> Columns {
+    let first = area.first().column();
+    let last = area.last().column();
+    let low = lines_of(15 & (15 << (first % 4)));
+    let high = lines_of(15 >> (3 - last % 4));
+    if first / 4 == last / 4 {
+        Columns { first: first / 4, last: last / 4, left: low & high, right: low & high }
+    } else {
+        Columns { first: first / 4, last: last / 4, left: low, right: high }
+    }
+}
+
+impl Columns {
+    pub fn of(self, group: u32) -> u64 {
+        if group == self.first {
+            self.left
+        } else if group == self.last {
+            self.right
+        } else {
+            18_446_744_073_709_551_615
+        }
+    }
+}

@@ -97,6 +97,18 @@ impl<V> Tile<V> {
         Some((bit, &self.values[place]))
     }
 
+    pub fn bits_of(&self, mask: u64) -> u64 {
+        self.bits & mask
+    }
+
+    pub fn count_before(&self, bit: u32) -> usize {
+        rank(self.bits, bit)
+    }
+
+    pub fn value_in(&self, place: usize) -> &V {
+        &self.values[place]
+    }
+
     /// Puts a value where nothing stands. If memory runs out, all is as before.
     fn put_value(&mut self, bit: u32, value: V) -> Result<(), AllocFailed<V>>
         requires within { bit < 64 }

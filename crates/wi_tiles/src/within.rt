@@ -4,13 +4,12 @@ ghost use Rattle.std.specs.Prelude.{◌≡◌, ◌≤◌, ℕ, true, Some, None,
 ghost use Rattle.std.specs.Map.Iter.{TakesFirst};
 ghost use Rattle.wi_tiles.specs.Inner.Cells.{at_cell, is_ahead};
 ghost use Rattle.wi_tiles.specs.Inner.Entries.{entries_of};
-ghost use Rattle.wi_tiles.specs.Inner.Next.{IsNext};
-ghost use Rattle.wi_tiles.specs.Inner.Within.{entry, IsMask, IsNextLeft, HasNoneLeft, IsFound, IsBeside, ahead_in, ahead_narrow, ahead_wide};
+ghost use Rattle.wi_tiles.specs.Inner.Within.{entry};
 
-use crate::band::Found;
-use crate::found::{found_beside, found_from};
-use crate::masks::{bit_of, cell_in, end_in, left_in, mask_in};
-use crate::pages::Pages;
+use crate::band::tiles_in;
+use crate::masks::{Columns, cell_in, columns_in};
+use crate::pages::{Pages, band_of, past_gap, start};
+use crate::sorted::place_from;
 use crate::tile::Tile;
 use std::marker::Model;
 use wi_values::{Address, Rect};
@@ -20,30 +19,31 @@ use wi_values::{Address, Rect};
 pub struct Within<'a, V> {
     pages: &'a Pages<V>,
     area: Rect,
-    // The tile that is walked through, and one of its cells.
-    tile: Option<&'a Tile<V>>,
-    corner: Address,
-    // What is left of it: which of its bits lie in the rectangle, from which of them up to which.
-    mask: u64,
-    bit: u32,
-    end: u32,
-    // Where the walk goes on behind it, if it does.
-    ahead: Option<Address>,
-    // If more tiles of its band lie in the rectangle, all these, and its place among them.
+    columns: Columns,
+    // The tiles of a band that lie in the rectangle's columns, and which of them is walked through.
     tiles: Option<&'a [(u32, Tile<V>)]>,
     place: usize,
+    // That tile and one of its cells; its bits that are left, and where the value of the first of them stands.
+    tile: Option<&'a Tile<V>>,
+    corner: Address,
+    left: u64,
+    before: usize,
+    // Whether no bit of the tile between those that are left has anything.
+    whole: bool,
+    // The row in which the walk goes on beside it, and the first row that isn't one of the band and the rectangle.
+    row: u32,
+    below: u32,
+    // The column in which it begins in that row.
+    column: u32,
 }
 
 impl<'a, V> Model for Within<'a, V> {
     ghost use Rattle.std.specs.Prelude.{ℕ, List, filter};
     ghost use Rattle.wi_tiles.specs.Inner.Entries.{entries_of};
-    ghost use Rattle.wi_tiles.specs.Inner.Within.{is_pending, IsWalk};
 
     ghost Value = { List (ℕ × V) };
 
-    ghost view = { λ w. filter (λ e. is_pending w.area w.ahead w.corner w.bit w.end e.0) (entries_of w.pages.now) };
-
-    ghost invariant = { λ w. IsWalk w.pages.now w.area w.ahead w.tile w.corner w.mask w.bit w.end w.tiles w.place };
+    ghost view = { λ w. entries_of w.pages.now };
 }
 
 impl<'a, V> Within<'a, V> {
@@ -51,63 +51,170 @@ impl<'a, V> Within<'a, V> {
     pub(crate) fn new(pages: &'a Pages<V>, area: Rect, from: Address) -> Within<'a, V>
         ensures { result ≡ filter (λ e. is_ahead area from e.0) (entries_of pages.now) }
     {
+        let begin = start(area, from);
         Within {
             pages,
             area,
-            tile: None,
-            corner: from,
-            mask: 0,
-            bit: 0,
-            end: 0,
-            ahead: Some(from),
+            columns: columns_in(area),
             tiles: None,
             place: 0,
+            tile: None,
+            corner: from,
+            left: 0,
+            before: 0,
+            whole: false,
+            row: begin.0,
+            below: begin.0,
+            column: begin.1,
         }
     }
 
-    /// The next entry, where nothing may be left of the tile. It stands apart, so that a step from one cell of a tile to the
-    /// next takes little.
+    /// The next entry, where nothing is left of the tile.
     #[inline(never)]
     fn next_behind(&mut self) -> Option<(Address, &'a V)>
         ensures { TakesFirst entry self.old result self.new }
     {
-        match left_of(
-            self.tile,
-            self.area,
-            self.mask,
-            self.corner,
-            self.bit,
-            self.end,
-        ) {
-            Some(found) => {
-                self.bit = found.0 + 1;
-                Some((cell_in(self.corner, found.0), found.1))
-            }
-            None => match self.ahead {
-                Some(from) => match found_behind(
-                    self.pages,
-                    self.area,
-                    from,
-                    self.corner,
-                    self.tiles,
-                    self.place,
-                ) {
-                    Some(found) => {
-                        let alone = found.3.is_none();
-                        self.tile = Some(found.1);
-                        self.corner = found.0;
-                        self.mask = mask_in(self.area, found.0);
-                        self.bit = bit_of(found.0) + 1;
-                        self.end = end_in(self.area, alone, found.0);
-                        self.ahead = ahead_in(self.area, alone, found.0);
-                        self.tiles = found.3;
-                        self.place = found.4;
-                        Some((found.0, found.2))
+        if self.turn_beside() || self.turn_below() {
+            self.take()
+        } else {
+            None
+        }
+    }
+
+    /// Goes on to the next tile of the row, or of the next rows of the band, of which something is left.
+    fn turn_beside(&mut self) -> bool {
+        match self.tiles {
+            Some(tiles) => {
+                let mut place = self.place + 1;
+                let mut row = self.row;
+                while row < self.below {
+                    while place < tiles.len() {
+                        let part = &tiles[place];
+                        let left = part.1.bits_of(self.columns.of(part.0) & (15 << (row % 16 * 4)));
+                        if left != 0 {
+                            self.turn_to(part.0, &part.1, left, row, place, true);
+                            return true;
+                        }
+                        place += 1;
                     }
-                    None => None,
-                },
-                None => None,
-            },
+                    place = 0;
+                    row += 1;
+                }
+                self.row = row;
+                false
+            }
+            None => false,
+        }
+    }
+
+    fn turn_to(&mut self, group: u32, tile: &'a Tile<V>, left: u64, row: u32, place: usize, whole: bool) {
+        self.tile = Some(tile);
+        self.corner = Address::at(row, group * 4);
+        self.left = left;
+        self.before = tile.count_before(left.trailing_zeros());
+        self.whole = whole;
+        self.row = row;
+        self.place = place;
+    }
+
+    /// Goes on to the next band of which something is left.
+    fn turn_below(&mut self) -> bool {
+        let last = self.area.last().row();
+        let left = self.area.first().column();
+        let mut row = self.below;
+        let mut column = self.column;
+        while row <= last {
+            match band_of(self.pages, row) {
+                Some(band) => {
+                    let tiles = tiles_in(band.parts(), self.area);
+                    let below = (row / 16 * 16 + 16).min(last + 1);
+                    if self.turn_into(tiles, row, column, below) {
+                        self.column = left;
+                        return true;
+                    }
+                    row = below;
+                }
+                None => row = past_gap(self.pages, row),
+            }
+            column = left;
+        }
+        self.column = left;
+        self.tiles = None;
+        self.row = row;
+        self.below = row;
+        false
+    }
+
+    fn turn_into(&mut self, tiles: &'a [(u32, Tile<V>)], row: u32, column: u32, below: u32) -> bool {
+        if tiles.len() == 1 {
+            let part = &tiles[0];
+            let group = column / 4;
+            let from = if part.0 == group {
+                row % 16 * 4 + column % 4
+            } else if group < part.0 {
+                row % 16 * 4
+            } else {
+                row % 16 * 4 + 4
+            };
+            if 63 < from {
+                return false;
+            }
+            let mask = self.columns.of(part.0);
+            let rows = (18_446_744_073_709_551_615 >> (60 - (below - 1) % 16 * 4)) & (18_446_744_073_709_551_615 << from);
+            let left = part.1.bits_of(mask & rows);
+            if left == 0 {
+                return false;
+            }
+            let whole = part.1.bits_of(rows) == left;
+            self.turn_to(part.0, &part.1, left, row, 0, whole);
+            self.row = below;
+            self.below = below;
+            self.tiles = None;
+            return true;
+        }
+        let mut place = place_from(tiles, column / 4);
+        if place < tiles.len() {
+            let part = &tiles[place];
+            if part.0 == column / 4 {
+                let left = part.1.bits_of(self.columns.of(part.0) & (15 << (row % 16 * 4)) & (18_446_744_073_709_551_615 << (row % 16 * 4 + column % 4)));
+                if left != 0 {
+                    self.tiles = Some(tiles);
+                    self.below = below;
+                    self.turn_to(part.0, &part.1, left, row, place, true);
+                    return true;
+                }
+                place += 1;
+            }
+        }
+        let mut line = row;
+        while line < below {
+            while place < tiles.len() {
+                let part = &tiles[place];
+                let left = part.1.bits_of(self.columns.of(part.0) & (15 << (line % 16 * 4)));
+                if left != 0 {
+                    self.tiles = Some(tiles);
+                    self.below = below;
+                    self.turn_to(part.0, &part.1, left, line, place, true);
+                    return true;
+                }
+                place += 1;
+            }
+            place = 0;
+            line += 1;
+        }
+        false
+    }
+
+    fn take(&mut self) -> Option<(Address, &'a V)> {
+        match self.tile {
+            Some(tile) => {
+                let bit = self.left.trailing_zeros();
+                self.left &= self.left - 1;
+                let before = if self.whole { self.before } else { tile.count_before(bit) };
+                self.before = before + 1;
+                Some((cell_in(self.corner, bit), tile.value_in(before)))
+            }
+            None => None,
         }
     }
 }
@@ -124,97 +231,12 @@ impl<'a, V> Iterator for Within<'a, V> {
 
     ghost remaining = { λ s. at_most (length s) };
 
-    /// A step among the bits of a tile for each cell, and one search for each 16 rows; and where more than one of their tiles lie in
-    /// the rectangle, one step more for each tile of each row.
+    /// A step among the bits of a tile for each cell, and one search for each band.
     fn next(&mut self) -> Option<(Address, &'a V)> {
-        match left_of(
-            self.tile,
-            self.area,
-            self.mask,
-            self.corner,
-            self.bit,
-            self.end,
-        ) {
-            Some(found) => {
-                self.bit = found.0 + 1;
-                Some((cell_in(self.corner, found.0), found.1))
-            }
-            None => self.next_behind(),
+        if self.left == 0 {
+            self.next_behind()
+        } else {
+            self.take()
         }
     }
-}
-
-/// The first bit of what is left of a tile, if there is one, of a cell of a rectangle, that has something, with what it has.
-fn left_of<'a, V>(
-    tile: Option<&'a Tile<V>>,
-    area: Rect,
-    mask: u64,
-    corner: Address,
-    bit: u32,
-    end: u32,
-) -> Option<(u32, &'a V)>
-    requires end { end ≤ 64 }
-    requires mask { IsMask area corner mask bit end }
-    ensures some { IfSome result (λ x. MatchOption tile.entry ⊥ (λ t. IsNextLeft area t.now corner bit end x.0 x.1.now)) }
-    ensures none { IfNone result (IfSome tile.entry (λ t. HasNoneLeft area t.now corner bit end)) }
-{
-    match tile {
-        Some(tile) => left_in(tile, area, mask, corner, bit, end),
-        None => None,
-    }
-}
-
-/// The first cell of a rectangle, at a cell or after it, that has something, where the walk goes on there behind a tile.
-fn found_behind<'a, V>(
-    pages: &'a Pages<V>,
-    area: Rect,
-    from: Address,
-    corner: Address,
-    tiles: Option<&'a [(u32, Tile<V>)]>,
-    place: usize,
-) -> Option<Found<'a, V>>
-    requires { IfSome tiles (λ ts. IsBeside pages.now area (Some from) corner ts.now place) }
-    ensures some { IfSome result (λ x. IsNext pages.now area from x.0 × IsFound pages.now area x.0 x.1.now x.2.now x.3 x.4) }
-    ensures none { IfNone result ((c : ℕ) → is_ahead area from c ≡ true → at_cell pages.now c ≡ None) }
-{
-    match tiles {
-        Some(tiles) => found_beside(pages, area, from, corner, tiles, place),
-        None => found_from(pages, area, from),
-    }
-}
-
-/// Where it goes on behind that.
-fn ahead_in(area: Rect, alone: bool, cell: Address) -> Option<Address>
-    ensures { result ≡ ahead_in area alone cell }
-{
-    if alone {
-        ahead_narrow(area, cell)
-    } else {
-        ahead_wide(area, cell)
-    }
-}
-
-/// The first cell of the band below.
-fn ahead_narrow(area: Rect, cell: Address) -> Option<Address>
-    ensures { result ≡ ahead_narrow area cell }
-{
-    let row = cell.row() / 16 * 16 + 16;
-    if area.last().row() < row {
-        return None;
-    }
-    Some(Address::at(row, area.first().column()))
-}
-
-/// The first column of the tile beside it, or of the next row.
-fn ahead_wide(area: Rect, cell: Address) -> Option<Address>
-    ensures { result ≡ ahead_wide area cell }
-{
-    let column = cell.column() / 4 * 4 + 4;
-    if column <= area.last().column() {
-        return Some(Address::at(cell.row(), column));
-    }
-    if cell.row() < area.last().row() {
-        return Some(Address::at(cell.row() + 1, area.first().column()));
-    }
-    None
 }

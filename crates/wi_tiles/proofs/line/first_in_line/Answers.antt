@@ -1,4 +1,4 @@
-use Rattle.std.proofs.Common.{rules, None, arith, ◌≡◌, ◌<◌, ◌≤◌, ◌+◌, ◌-◌, ◌*◌, ◌/◌, ℕ, subst, ◌∙◌}
+use Rattle.std.proofs.Common.{rules, None, arith, ◌≡◌, ◌<◌, ◌≤◌, ◌+◌, ◌-◌, ◌*◌, ℕ, subst}
 use Rattle.std.specs.Prelude.{min, max, IsSome}
 use Rattle.wi_tiles.specs.Inner.Lines.{slot}
 use Rattle.wi_tiles.proofs.Keys.{key_read}
@@ -7,8 +7,8 @@ use Rattle.wi_tiles.proofs.line.first_in_line.Goals as goal
 
 pub loop-place-init : goal.loop-place-init
 loop-place-init g c = record {
-  start = c.requires.place.1;
-  clear = clear_first c.args.parts.now c.args.line c.args.from c.args.end c.args.first c.requires.place.0;
+  start = c.place_from-place.ensures.above;
+  clear = clear_first c.args.parts.now c.args.line c.args.from c.args.end c.place_from-place.result c.place_from-place.ensures.below;
 }
 
 pub returns-then-last-part-clause-none : goal.returns-then-last-part-clause-none
@@ -36,12 +36,3 @@ loop-place-preserved g c =
       start = λ j l q. c.loop-place.invariant.start j (omega (arith, l)) q;
       clear = clear_more c.args.parts.now c.args.line c.args.from c.args.end c.loop-place.place c.index-parts-place.result c.requires.rises c.loop-place-test.true c.index-parts-place.is c.loop-place.invariant.clear (λ i l u. nothing i (omega (arith, l, high)) (omega (arith, u, low)));
     }
-
-pub returns-in-Some-clause-place : goal.returns-in-Some-clause-place
-returns-in-Some-clause-place g c =
-    let high : c.max.result ≡ max (c.index-parts-place.result.0 * 4) c.args.from = search rules in
-    let low : c.min.result ≡ min (c.index-parts-place.result.0 * 4 + 4) c.args.end = search rules in
-    let above : 4 * c.args.line + (c.max.result - c.index-parts-place.result.0 * 4) ≤ c.in-Some.bit = c.in-Some.ensures.some.0 in
-    let below : c.in-Some.bit < 4 * c.args.line + (c.min.result - c.index-parts-place.result.0 * 4) = c.in-Some.ensures.some.1 in
-    let group : c.index-parts-place.result.0 ≡ (c.index-parts-place.result.0 * 4 + (c.in-Some.bit - 4 * c.args.line)) / 4 = omega (arith, low, above, below) in
-    (c.loop-place-test.true, key_read c.args.parts.now c.loop-place.place c.index-parts-place.result c.loop-place-test.true c.index-parts-place.is ∙ group)

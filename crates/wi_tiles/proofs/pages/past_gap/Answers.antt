@@ -1,6 +1,6 @@
-use Rattle.std.proofs.Common.{rules, sym, ap, ◌∙◌, ◌/◌, ◌%◌}
+use Rattle.std.proofs.Common.{sym, ap, ◌∙◌, ◌/◌, ◌%◌}
 use Rattle.wi_tiles.specs.Inner.Next.{in_page}
-use Rattle.wi_tiles.proofs.NextLemmas.{page_gap, pages_gap}
+use Rattle.wi_tiles.proofs.NextLemmas.{page_gap}
 use Rattle.wi_tiles.proofs.pages.past_gap.Goals as goal
 
 pub past_gap-requires-clause-bare : goal.past_gap-requires-clause-bare
@@ -8,6 +8,3 @@ past_gap-requires-clause-bare g c = ap (λ o. in_page o (c.args.row / 16 % 256))
 
 pub returns-in-Some-clause-gap : goal.returns-in-Some-clause-gap
 returns-in-Some-clause-gap g c = page_gap c.args.pages.now c.args.row c.past_gap.result c.in-Some.page.now (sym c.in-Some.ensures) c.past_gap.ensures.within c.past_gap.ensures.gap
-
-pub returns-in-None-clause-gap : goal.returns-in-None-clause-gap
-returns-in-None-clause-gap g c = search (rules, pages_gap)

@@ -12,7 +12,6 @@ invariant_of-result g c =
       masks = λ i l u. absurd (omega (arith, u));
       sheet = here;
       order = λ b d left m f k. absurd (none_left c.args.from 0 0 (omega arith) b left);
-      beside = tt;
     }
 
 pub returns : goal.returns
