@@ -10,6 +10,8 @@
 -- `EntryQuestions`: an entry of a data table.
 pub mod EmptyCells
 pub mod GenerationSteps
+pub mod NotedSteps
+pub mod SettlingSteps
 pub mod ReplacedCones
 pub mod KeptCones
 pub mod RightValues

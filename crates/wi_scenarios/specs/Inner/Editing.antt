@@ -1,5 +1,6 @@
 -- What an edit of the sheet finds on its way, step by step.
 use Rattle.std.specs.Prelude.{◌≡◌, ℕ, ◌<◌, Bool, true, false, not, ◌&&◌, if◌then◌else◌, List, [], ◌∷◌, ◌++◌, length, map, Option, Some, None, Result, Ok, Err}
+use Rattle.std.specs.List.{list_all}
 use Rattle.std.specs.Map.{keys_of}
 use Rattle.wi_values.specs.Address.{Area}
 use Rattle.wi_values.specs.declared.replacement.Replacement.{Replacement}
@@ -52,3 +53,7 @@ MayFail e answer = limit_of answer ≡ Some e
 abbrev pub Commits : Result Stored StoreFault → Entry → Result (Unit {0}) Refusal → Stored → Stored → List Entry → List Entry → Type 0
 Commits answer entry (Ok _) old new before after = (answer ≡ Ok new) × (after ≡ before ++ entry ∷ [])
 Commits answer entry (Err e) old new before after = MayFail e answer × (new ≡ old) × (after ≡ before)
+
+-- the cell is pending for each session
+abbrev pub is_pending_for_all : Roster → ℕ → Bool
+is_pending_for_all r c = list_all (λ cells. is_listed cells c) r.pending

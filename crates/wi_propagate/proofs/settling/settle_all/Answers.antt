@@ -1,0 +1,34 @@
+use Rattle.std.proofs.Common.{◌∙◌, ap, sym, rules, arith}
+use Rattle.std.proofs.lemmas.List.{length-append}
+use Rattle.std.specs.Map.{keys_of}
+use Rattle.wi_propagate.specs.Inner.Settling.{second_cells, has_seen}
+use Rattle.wi_propagate.proofs.SettlingSteps.{settling_first, settling_again, settling_more, settling_owes, last_part, part_within}
+use Rattle.wi_propagate.proofs.settling.settle_all.Goals as goal
+
+pub cells-init : goal.cells-init
+cells-init c =
+    record {
+      settling = settling_first c.args.graph.now.now c.args.named.now.entries c.args.noted.now.entries (keys_of c.args.owed.now.entries) c.in_ok-order.order.items c.new-seen.result 0 c.in_ok-order.ensures c.new-seen.ensures c.requires.owed;
+      within = λ x h. c.in_ok-order.ensures x ∙ h;
+    }
+
+pub settle_one-requires-clause-closed : goal.settle_one-requires-clause-closed
+settle_one-requires-clause-closed c = λ s a.
+    (settling_again c.args.graph.now.now c.args.named.now.entries c.cells.noted.entries (second_cells c.cells.order.items) c.cells.last c.number_at-number.result (has_seen c.cells.seen) (has_seen c.forget.new.seen) c.forget.ensures c.cells.invariant.settling s a).closed
+
+pub cells-preserved : goal.cells-preserved
+cells-preserved c =
+    let es = c.args.graph.now.now in
+    let named = c.args.named.now.entries in
+    let rest = second_cells c.cells.order.items in
+    let less = second_cells c.pop.new.self.items in
+    let number = c.number_at-number.result in
+    let again = settling_again es named c.cells.noted.entries rest c.cells.last number (has_seen c.cells.seen) (has_seen c.forget.new.seen) c.forget.ensures c.cells.invariant.settling in
+    record {
+      settling = settling_more es named c.cells.noted.entries c.settle_one.new.noted.entries rest less c.in-Some.entry.1 number _ (has_seen c.forget.new.seen) (has_seen c.settle_one.new.seen) (last_part c.cells.order.items c.pop.new.self.items c.in-Some.entry c.in-Some.ensures.items)
+          c.number_at-number.ensures (omega arith) c.in_ok-settle_one.ensures.noted c.in_ok-settle_one.ensures.seen again;
+      within = λ x h. c.cells.invariant.within x (part_within c.cells.order.items c.pop.new.self.items c.in-Some.entry c.in-Some.ensures.items x h);
+    }
+
+pub returns-clause-owed : goal.returns-clause-owed
+returns-clause-owed c = settling_owes c.args.graph.now.now c.args.named.now.entries c.cells.noted.entries (keys_of c.args.owed.now.entries) (second_cells c.cells.order.items) (has_seen c.cells.seen) c.cells.last c.cells.invariant.within c.cells.invariant.settling
