@@ -74,7 +74,7 @@ is_key (e ∷ es) a h = at (is_at (nat_cmp a) e.0) (is_at-eq a e.0) h (is_key es
     at false t h ih = ap (λ (c : Bool). c || list_any (λ k. k == a) (keys_of es)) (turn_test e.0 a ∙ sym t) ∙ ih h
 
 -- a cell is found among those that pass a test exactly where it is one and passes
-among : (p : ℕ → Bool) (xs : List ℕ) (a : ℕ) → list_any (λ x. x == a) (filter p xs) ≡ (p a && list_any (λ x. x == a) xs)
+pub among : (p : ℕ → Bool) (xs : List ℕ) (a : ℕ) → list_any (λ x. x == a) (filter p xs) ≡ (p a && list_any (λ x. x == a) xs)
 among p xs a = any-filter_same (λ x. x == a) p (p a) (λ k h. ap p (eqb-true k a h)) xs
 
 implied : (b c : Bool) → (b ≡ true → c ≡ true) → (b && c) ≡ b

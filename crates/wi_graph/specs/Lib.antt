@@ -1,4 +1,5 @@
 pub mod Circular
 pub mod Reach
+pub mod Latest
 pub mod Edges
 pub mod Inner

@@ -41,3 +41,7 @@ reaches s c a = reaches_by (length (cells_with_formula s)) s c a
 -- c is in the cone of these cells, as a test
 abbrev pub in_cone : Sheet → List ℕ → ℕ → Bool
 in_cone s xs c = list_any (reaches s c) xs
+
+-- with each cell that passes the test each that reads it passes
+abbrev pub IsClosedUp : Sheet → (ℕ → Bool) → Type 0
+IsClosedUp s p = (c d : ℕ) → content_reads (content_of s c) d ≡ true → p d ≡ true → p c ≡ true

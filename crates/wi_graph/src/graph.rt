@@ -1,6 +1,6 @@
 //! The graph of references.
 
-ghost use Rattle.std.specs.Prelude.{◌≡◌, ◌↔◌, [], ℕ, Some, None, IsTrue, IfOk, OnOk, OnErr};
+ghost use Rattle.std.specs.Prelude.{◌≡◌, ◌↔◌, ◌&&◌, [], ℕ, not, Some, None, IsTrue, IfOk, OnOk, OnErr};
 ghost use Rattle.std.specs.List.Sorted.{IsStrictlyIncreasing};
 ghost use Rattle.std.specs.Map.{keys_of};
 ghost use Rattle.std.specs.Option.{unwrap_or};
@@ -8,18 +8,21 @@ ghost use Rattle.std.specs.Ordering.{nat_cmp};
 ghost use Rattle.wi_tiles.specs.Entries.{IsOrdered};
 ghost use Rattle.wi_parser.specs.Sheet.{Sheet, content_of};
 ghost use Rattle.wi_graph.specs.Circular.{circular};
-ghost use Rattle.wi_graph.specs.Reach.{is_one_of, in_cone};
+ghost use Rattle.wi_graph.specs.Reach.{is_one_of, in_cone, IsClosedUp};
 ghost use Rattle.wi_graph.specs.Edges.{AreEdgesOf, areas_in, edges_after, staging};
 ghost use Rattle.wi_graph.specs.Inner.Changes.{Brings};
 ghost use Rattle.wi_graph.specs.Inner.Rooms.{room_at, IsGraph, IsStaged};
 
+use crate::beyond::listed_beyond;
 use crate::cell_set::CellSet;
 use crate::changes::{Change, reads_stay, rooms_of};
-use crate::cone::{edit_cone, listed_cone, rise};
+use crate::cone::{edit_cone, listed_cone, none_is_read, rise};
 use crate::rooms::{Coming, Rooms, take_back, take_over};
 use crate::sets::take_away;
 use crate::staging::bring_in;
-use crate::turning::{Turns, bring_circles, turns_of};
+use crate::joining::may_turn;
+use crate::turning::{Turns, bring_circles, no_turns, turns_of};
+use crate::watch::Watch;
 use std::alloc::{AllocError, Global};
 use std::marker::Model;
 use wi_parser::Content;
@@ -147,6 +150,34 @@ impl Graph {
         Ok(cone)
     }
 
+    /// Makes ready an edit without its cone, where that isn't needed.
+    pub fn stage_alone(&mut self, changes: &[Change]) -> Result<(), AllocError> {
+        let next = rooms_of(self.alloc, &self.rooms, changes)?;
+        let turns = if may_turn(self.alloc, &self.rooms, &self.readers, &self.circles, &next)? {
+            let cone = edit_cone(self.alloc, &self.readers, changes)?;
+            turns_of(self.alloc, &self.rooms, &self.circles, &next, &cone)?
+        } else {
+            no_turns(self.alloc)
+        };
+        bring_circles(&mut self.circles, &turns.came)?;
+        match bring_in(&mut self.rooms, &mut self.readers, &next) {
+            Ok(()) => {
+                self.staged = Some(Staged { next, turns });
+                Ok(())
+            }
+            Err(error) => {
+                take_away(&mut self.circles, &turns.came);
+                Err(error)
+            }
+        }
+    }
+
+    /// Whether some cell reads one of these.
+    pub fn any_is_read(&self, cells: &[Address]) -> Result<bool, AllocError> {
+        let none = none_is_read(&self.readers, cells)?;
+        Ok(!none)
+    }
+
     /// Whether an edit is staged after which each cell reads what it read before. The work grows with what the edited cells
     /// read.
     pub fn reads_stay(&self) -> bool
@@ -195,6 +226,22 @@ impl Graph {
             → (c : ℕ) → is_one_of cone.items c ≡ in_cone s cells.now c) }
     {
         listed_cone(self.alloc, &self.readers, cells)
+    }
+
+    /// The same but for cells that are watched, where each that reads a watched cell is watched. The work grows with the count of
+    /// the cells that it tells and that of their readers, times logarithms.
+    pub fn cone_beyond<W: Watch>(
+        &self,
+        cells: &[Address],
+        watch: &W,
+    ) -> Result<Vec<Address>, AllocError>
+        requires staged { self.now.staged ≡ None }
+        requires closed { (s : Sheet) → AreEdgesOf self.now.now s → IsClosedUp s (W.watched watch.now) }
+        ensures order { IfOk result (λ cone. IsStrictlyIncreasing cone.items) }
+        ensures cells { IfOk result (λ cone. (s : Sheet) → AreEdgesOf self.now.now s
+            → (c : ℕ) → is_one_of cone.items c ≡ (in_cone s cells.now c && not (W.watched watch.now c))) }
+    {
+        listed_beyond(self.alloc, &self.readers, cells, watch)
     }
 }
 

@@ -4,9 +4,24 @@ ghost use Rattle.std.specs.Prelude.{ℕ, List, Option};
 ghost use Rattle.wi_parser.specs.declared.content.Content.{Content};
 ghost use Rattle.wi_parser.specs.Sheet.{Sheet};
 ghost use Rattle.wi_graph.specs.Edges.{Edges, AreEdgesOf, edges_after, sheet_after};
+ghost use Rattle.wi_graph.specs.Latest.{LatestOfCone, OneIsLatest, LatestRises, LatestByStep, EditOwes, NoneIsOwed};
 
 /// The edges after an edit are those of the edited sheet. So what is staged and then taken is the graph of that sheet.
 pub fn edges_follow_edits()
     ensures { (es : Edges) (s : Sheet) (changes : List (ℕ × Option Content)) → AreEdgesOf es s
         → AreEdgesOf (edges_after es changes) (sheet_after s changes) }
+{}
+
+/// The latest edit that a cell's value may rest on is the latest of those that named a cell which it reaches now.
+pub fn latest_is_reached()
+    ensures cone { LatestOfCone }
+    ensures one { OneIsLatest }
+    ensures rises { LatestRises }
+    ensures step { LatestByStep }
+{}
+
+/// It may be noted late, as long as it is known which edits are owed.
+pub fn latest_may_be_owed()
+    ensures edit { EditOwes }
+    ensures none { NoneIsOwed }
 {}

@@ -12,7 +12,7 @@ ghost use Rattle.wi_graph.specs.Inner.Turning.{reads_one_of, AreTurns, SettlesCo
 
 use crate::cell_set::CellSet;
 use crate::changes::reads_stay;
-use crate::closing::closes_cycle;
+use crate::closing::{closes_cycle, meets_circle};
 use crate::held::held_set;
 use crate::reads::reads_of;
 use crate::rooms::{Coming, Rooms};
@@ -29,9 +29,10 @@ pub(crate) struct Turns {
 }
 
 /// The cells that turn once what is next is put in, of which the cone is given in row-major order. Where each cell reads what
-/// it read before, the work grows with what is next, and with what that reads where the cone is one cell; where no cell is circular and no cycle is closed, also with the count of
-/// the cone, and with the rows of what that reads where the rectangle around the cone meets it, times the logarithm of that
-/// count, and it takes no memory; else also with the cone and what its cells read, times logarithms.
+/// it read before, the work grows with what is next, and with what that reads where the cone is one cell; where what is next is for no
+/// circular cell and reads none, and no cycle is closed, also with the count of the cone, and with the rows of what that reads where the
+/// rectangle around the cone or that around the circular cells meets it, times the logarithms of their counts, and it takes no memory; else
+/// also with the cone and what its cells read, times logarithms.
 pub(crate) fn turns_of(
     alloc: Global,
     rooms: &Rooms,
@@ -72,7 +73,7 @@ fn turns_in(
     requires cone { IsEditCone rooms.now next.now.items (is_one_of cone.now) }
     ensures { IfOk result (AreTurns rooms.now next.now.items circles.now) }
 {
-    if circles.is_empty() && !closes_cycle(next, cone) {
+    if !meets_circle(next, circles) && !closes_cycle(next, cone) {
         return Ok(no_turns(alloc));
     }
     let cone = set_of(alloc, cone)?;
@@ -98,7 +99,7 @@ fn turns_among(
 }
 
 /// No cells that turn.
-fn no_turns(alloc: Global) -> Turns
+pub(crate) fn no_turns(alloc: Global) -> Turns
     ensures came { result.came.items ≡ [] }
     ensures went { result.went.items ≡ [] }
 {

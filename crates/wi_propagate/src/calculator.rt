@@ -16,6 +16,7 @@ ghost use Rattle.wi_sheet.specs.TableEntry.{table_entry, entry_demanded};
 ghost use Rattle.wi_sheet.specs.Unmoved.{IsUnmoved};
 
 use std::alloc::AllocError;
+use wi_graph::Watch;
 use wi_parser::Content;
 use wi_store::StoreFault;
 use wi_values::{Address, Rect, Replacement, Value};
@@ -116,6 +117,16 @@ pub trait Calculator {
         ensures unmoved { let sheet = (stored self.now).sheet in
             IfOk result (λ found. (c : ℕ) → is_one_of found.items c ≡ false
             → IsUnmoved sheet cells.now c) };
+
+    /// The same but for watched cells.
+    fn mark_beyond<W: Watch>(
+        &self,
+        cells: &[Address],
+        watch: &W,
+    ) -> Result<Vec<Address>, AllocError> {
+        let _ = watch;
+        self.mark(cells)
+    }
 
     fn evaluations(&self) -> u64
         ensures { result ≡ evaluated self.now };

@@ -8,7 +8,7 @@ ghost use Rattle.wi_propagate.specs.Inner.Cones.{AreAllCones};
 ghost use Rattle.wi_propagate.specs.Inner.Keeping.{keeping, state_in, IsKeepingRight, TakesOver};
 
 use crate::cones::add_cones;
-use crate::generations::{Generations, generation_of};
+use crate::generations::Generations;
 use std::alloc::{AllocError, Global};
 use std::marker::Model;
 use wi_cache::{Kept, Key, RunTable};
@@ -118,7 +118,7 @@ impl<'a> Memo for Keeping<'a> {
         let world = world.reaching_by(at, &self.cones, &mut self.last)?;
         Ok(Key {
             cell: at,
-            generation: generation_of(self.generations, at),
+            generation: self.generations.generation_of(at),
             world,
         })
     }

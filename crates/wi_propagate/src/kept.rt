@@ -23,7 +23,7 @@ ghost use Rattle.wi_propagate.specs.Inner.Keeping.{HasGeneration};
 
 use crate::calculator::Calculator;
 use crate::cones::{keep_over_edit, take_cones};
-use crate::generations::{Generations, make_room, raise};
+use crate::generations::Generations;
 use crate::keeping::Keeping;
 use crate::last_worlds::LastWorlds;
 use crate::standing::standing_value;
@@ -34,7 +34,7 @@ use std::mem;
 use wi_cache::Kept;
 use wi_engine::{Pool, Question};
 use wi_functions::Meter;
-use wi_graph::Graph;
+use wi_graph::{Graph, Watch};
 use wi_parser::Content;
 use wi_store::{Limits, Store, StoreFault};
 use wi_values::{Address, ErrorKind, Rect, Replacement, Value};
@@ -142,12 +142,20 @@ impl KeptCalculator {
         ensures same_generations { OnErr result ((c : ℕ)
             → generation_in self.new.generations c ≡ generation_in self.old.generations c) }
     {
-        let cone = stage(&mut self.graph, &changes, cone)?;
-        match edit(&mut self.store, &mut self.generations, &cone, changes) {
+        drop(cone);
+        let cells = cells_of(self.alloc, &changes)?;
+        self.graph.stage_alone(&changes)?;
+        match edit(
+            &mut self.store,
+            &mut self.generations,
+            &self.graph,
+            &cells,
+            changes,
+        ) {
             Ok(()) => {
                 keep_over_edit(self.alloc, &self.graph, &mut self.cones);
                 self.graph.commit();
-                raise(&mut self.generations, &cone, self.store.edits());
+                self.generations.name(&cells, self.store.edits());
                 Ok(())
             }
             Err(fault) => {
@@ -175,6 +183,7 @@ impl KeptCalculator {
             return Ok(value);
         }
         let world = self.worlds.world_for(self.alloc, put)?;
+        self.generations.settle(&self.graph, self.store.edits())?;
         let Some(kept) = self.kept.take() else {
             unreachable!()
         };
@@ -226,6 +235,7 @@ impl KeptCalculator {
             return Ok(Value::Fault(ErrorKind::Circular));
         }
         let world = self.worlds.world_for(self.alloc, put)?;
+        self.generations.settle(&self.graph, self.store.edits())?;
         let Some(kept) = self.kept.take() else {
             unreachable!()
         };
@@ -421,6 +431,14 @@ impl Calculator for KeptCalculator {
         self.graph.cone(cells)
     }
 
+    fn mark_beyond<W: Watch>(
+        &self,
+        cells: &[Address],
+        watch: &W,
+    ) -> Result<Vec<Address>, AllocError> {
+        self.graph.cone_beyond(cells, watch)
+    }
+
     fn evaluations(&self) -> u64 {
         self.meter.evaluations()
     }
@@ -430,31 +448,22 @@ impl Calculator for KeptCalculator {
     }
 }
 
-// Stages an edit over its cone, which is searched for where it isn't given.
-fn stage(
-    graph: &mut Graph,
+fn cells_of(
+    alloc: Global,
     changes: &[(Address, Option<Content>)],
-    cone: Option<Vec<Address>>,
-) -> Result<Vec<Address>, AllocError>
-    requires staged { graph.old.staged ≡ None }
-    requires cone { IfSome cone (λ cone. (s : Sheet) → AreEdgesOf graph.old.now s
-        → (c : ℕ) → is_one_of cone.items c ≡ in_cone s (keys_of changes.now) c) }
-    ensures ok { OnOk result (graph.new
-        ≡ staging graph.old.now (Some (edges_after graph.old.now changes.now))) }
-    ensures err { OnErr result (graph.new ≡ graph.old) }
-    ensures cells { IfOk result (λ cone. (s : Sheet) → AreEdgesOf graph.old.now s
-        → (c : ℕ) → is_one_of cone.items c ≡ in_cone s (keys_of changes.now) c) }
-{
-    match cone {
-        Some(cone) => graph.stage_over(changes, cone),
-        None => graph.stage(changes),
+) -> Result<Vec<Address>, AllocError> {
+    let mut cells = Vec::new(alloc);
+    for change in changes {
+        cells.push(change.0)?;
     }
+    Ok(cells)
 }
 
 // Does an edit of a sheet, with room for the generations of its cone. After a refusal the sheet is as it was.
 fn edit(
     store: &mut Store,
     generations: &mut Generations,
+    graph: &Graph,
     cone: &[Address],
     changes: Vec<(Address, Option<Content>)>,
 ) -> Result<(), StoreFault>
@@ -464,7 +473,7 @@ fn edit(
     ensures there { OnOk result ((c : ℕ) → is_one_of cone.now c ≡ true
         → HasGeneration generations.new.entries c) }
 {
-    make_room(generations, cone)?;
+    generations.make_room(graph, cone)?;
     store.apply(changes)
 }
 

@@ -17,7 +17,7 @@ use crate::refusal::Refusal;
 use std::alloc::{AllocError, Global};
 use wi_edit_log::EditLog;
 use wi_parser::Content;
-use wi_propagate::Calculator;
+use wi_propagate::{Calculator, Watch};
 use wi_sessions::Sessions;
 use wi_store::StoreFault;
 use wi_values::{Address, Rect};
@@ -70,7 +70,7 @@ fn edit_caught_up<C: Calculator>(
     if let Some(at) = first_stale(desk, &edit.named, force) {
         return Err(Refusal::Stale(at));
     }
-    let marked = marked_by(alloc, calculator, &edit.contents)?;
+    let marked = marked_by(alloc, calculator, &desk.sessions, &edit.contents)?;
     match edit_with_rooms(calculator, desk, edit, marked) {
         Ok(()) => {
             desk.sessions.take_all();
@@ -121,6 +121,7 @@ fn first_stale(desk: &Desk, named: &[Rect], force: bool) -> Option<Address>
 fn marked_by<C: Calculator>(
     alloc: Global,
     calculator: &C,
+    sessions: &Sessions,
     contents: &[(Address, Option<Content>)],
 ) -> Result<Vec<Address>, AllocError>
     ensures marked { IfOk result (λ found. AreMarked C.marked (C.stored calculator.now).sheet contents.now found.items) }
@@ -130,7 +131,28 @@ fn marked_by<C: Calculator>(
         return Ok(Vec::new(alloc));
     }
     let cells = addresses(alloc, contents)?;
-    calculator.mark(&cells)
+    calculator.mark_beyond(&cells, &ForAll { sessions })
+}
+
+/// Cells that are pending for all sessions.
+#[derive(Drop)]
+struct ForAll<'a> {
+    sessions: &'a Sessions,
+}
+
+impl<'a> Watch for ForAll<'a> {
+    ghost use Rattle.std.specs.Prelude.{true};
+
+    ghost watched = { λ w c. true };
+
+    fn has(&self, at: Address) -> bool {
+        for i in 0..self.sessions.len() {
+            if !self.sessions.pending(i).contains(at) {
+                return false;
+            }
+        }
+        true
+    }
 }
 
 /// The cells that get contents.
@@ -209,8 +231,6 @@ fn apply_over_marked<C: Calculator>(
     requires { AreAllMarked C.marked (C.stored calculator.old).sheet contents.items marked.items }
     ensures { Applies (applied (C.stored calculator.old) contents.items) result (C.stored calculator.old) (C.stored calculator.new) }
 {
-    if contents.is_empty() {
-        return calculator.apply(contents);
-    }
-    calculator.apply_marked(contents, marked)
+    drop(marked);
+    calculator.apply(contents)
 }

@@ -30,6 +30,10 @@ has_one cells r = list_any (is_within r) cells.keys
 abbrev pub reads_one_of : Coming → BTreeSet ℕ → Bool
 reads_one_of es cells = list_any (λ e. list_any (has_one cells) (areas_of (items_of e.1))) es
 
+-- what is next is for one of the cells, or reads one
+abbrev pub meets_one_of : Coming → BTreeSet ℕ → Bool
+meets_one_of es cells = list_any (λ e. contains nat_cmp cells e.0 || list_any (has_one cells) (areas_of (items_of e.1))) es
+
 -- the cell was circular or came, and did not go
 abbrev pub turned_by : BTreeSet ℕ → Turns → ℕ → Bool
 turned_by circles turns c = (contains nat_cmp circles c || is_one_of turns.came.items c) && not (is_one_of turns.went.items c)
