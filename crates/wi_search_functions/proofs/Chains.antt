@@ -1,6 +1,7 @@
 -- The functions by their steps.
 use Rattle.std.proofs.Common.{◌≡◌, ℕ, ℤ, ◌+◌, Bool, true, false, cond, List, map, Option, Result, Ok, Err, sym, ap, ◌∙◌}
 use Rattle.std.specs.Prelude.{ok_or}
+use Rattle.std.specs.List.{range_with_len}
 use Rattle.wi_fraction.specs.Number as numbers
 use Rattle.wi_values.specs.Address.{Area, cells_of}
 use Rattle.wi_values.specs.declared.value.ErrorKind.{ErrorKind}
@@ -11,11 +12,13 @@ use Rattle.wi_standard_functions.specs.Arguments.{Argument, Region, region_of, r
 use Rattle.wi_standard_functions.specs.Arithmetic.{whole_value}
 use Rattle.wi_standard_functions.specs.Convert.{one_number, to_number, to_whole, to_logical}
 use Rattle.wi_standard_functions.specs.FirstError.{no_error}
-use Rattle.wi_standard_functions.specs.Lookup.{cell_in, h_lookup_value, index_along, index_by_both, match_value, nth_cell, nth_cell_along, place_among, v_lookup_value}
-use Rattle.wi_standard_functions.specs.Inner.Named.{values_along, first_column_of, first_row_of, type_for}
+use Rattle.wi_standard_functions.specs.Lookup.{index_along, index_by_both, match_value, nth_cell, nth_cell_along, place_among}
+use Rattle.wi_standard_functions.specs.Inner.Named.{values_along, type_for}
 use Rattle.wi_standard_functions.specs.Matching.{match_position, sought_for}
 use Rattle.wi_standard_functions.specs.Steps.{◌>>=◌, and_then}
 use Rattle.wi_search_functions.specs.declared.rule.Rule.{Rule}
+use Rattle.wi_search_functions.specs.declared.axis.Axis.{Axis}
+use Rattle.wi_search_functions.specs.Inner.Axis.{cell_in_line, lines_in, look_up_by, width_in}
 use Rattle.wi_search_functions.specs.Inner.Lines.{is_line}
 use Rattle.wi_search_functions.specs.Inner.Search.{position_by, rule_in_order, rule_of_match_type}
 use Rattle.wi_search_functions.proofs.Searches.{by_match_type, by_order}
@@ -112,98 +115,63 @@ match_on_line args cells s r x rule h k l e m =
 abbrev pub order_in : List Argument → Result Bool ErrorKind
 order_in args = to_logical (value_or (Logical true) args 3)
 
-module _ (rest : Value → Region → ℤ → Bool → Value) where
-  -- what both do with their arguments
-  abbrev pub look_up : List Argument → Value → Value
-  look_up args s = region_at args 1 >>= (λ r. to_whole (value_at args 2) >>= (λ k. order_in args >>= rest s r k))
+abbrev pub first_cells_in : Axis → Region → List Value
+first_cells_in axis r = map (λ line. cell_in_line axis r line 0) (range_with_len 0 (lines_in axis r))
 
-  look_no_area : (args : List Argument) (s : Value) (e : ErrorKind) → region_at args 1 ≡ Err e → look_up args s ≡ Fault e
-  look_no_area args s e h = fails (region_at args 1) e (λ r. to_whole (value_at args 2) >>= (λ k. order_in args >>= rest s r k)) h
+abbrev pub seen_in : Bool → Value → List Value → Result ℕ ErrorKind
+seen_in b s vs = ok_or (match_position (type_for b) s vs) NotAvailable
 
-  look_no_number : (args : List Argument) (s : Value) (r : Region) (e : ErrorKind) → region_at args 1 ≡ Ok r → to_whole (value_at args 2) ≡ Err e → look_up args s ≡ Fault e
-  look_no_number args s r e h k =
-      step (region_at args 1) r (λ q. to_whole (value_at args 2) >>= (λ j. order_in args >>= rest s q j)) h
-      ∙ fails (to_whole (value_at args 2)) e (λ j. order_in args >>= rest s r j) k
+-- what they do with the values of their arguments
+abbrev in_line : Axis → Value → Region → ℤ → Bool → Value
+in_line axis s r k b = place_among (width_in axis r) k >>= (λ i. seen_in b s (first_cells_in axis r) >>= (λ line. cell_in_line axis r line i))
 
-  look_no_order : (args : List Argument) (s : Value) (r : Region) (k : ℤ) (e : ErrorKind) → region_at args 1 ≡ Ok r → to_whole (value_at args 2) ≡ Ok k → order_in args ≡ Err e → look_up args s ≡ Fault e
-  look_no_order args s r k e h l m =
-      step (region_at args 1) r (λ q. to_whole (value_at args 2) >>= (λ j. order_in args >>= rest s q j)) h
-      ∙ step (to_whole (value_at args 2)) k (λ j. order_in args >>= rest s r j) l
-      ∙ fails (order_in args) e (rest s r k) m
+abbrev look_up : Axis → List Argument → Value → Value
+look_up axis args s = region_at args 1 >>= (λ r. to_whole (value_at args 2) >>= (λ k. order_in args >>= in_line axis s r k))
 
-  looks : (args : List Argument) (s : Value) (r : Region) (k : ℤ) (b : Bool) → region_at args 1 ≡ Ok r → to_whole (value_at args 2) ≡ Ok k → order_in args ≡ Ok b → look_up args s ≡ rest s r k b
-  looks args s r k b h l m =
-      step (region_at args 1) r (λ q. to_whole (value_at args 2) >>= (λ j. order_in args >>= rest s q j)) h
-      ∙ step (to_whole (value_at args 2)) k (λ j. order_in args >>= rest s r j) l
-      ∙ step (order_in args) b (rest s r k) m
-
-abbrev pub in_column : Value → Region → ℤ → Bool → Value
-in_column s r k b = place_among r.width k >>= (λ column. ok_or (match_position (type_for b) s (first_column_of r)) NotAvailable >>= (λ row. cell_in r row column))
-
-abbrev pub in_row : Value → Region → ℤ → Bool → Value
-in_row s r k b = place_among r.height k >>= (λ row. ok_or (match_position (type_for b) s (first_row_of r)) NotAvailable >>= (λ column. cell_in r row column))
-
-pub v_no_sought : (args : List Argument) (e : ErrorKind) → sought_in args ≡ Err e → v_lookup_value args ≡ Fault e
-v_no_sought args e h = seeks_nothing (no_error (value_at args 0)) (look_up in_column args) e h
-
-pub h_no_sought : (args : List Argument) (e : ErrorKind) → sought_in args ≡ Err e → h_lookup_value args ≡ Fault e
-h_no_sought args e h = seeks_nothing (no_error (value_at args 0)) (look_up in_row args) e h
-
-pub v_no_area : (args : List Argument) (s : Value) (e : ErrorKind) → sought_in args ≡ Ok s → region_at args 1 ≡ Err e → v_lookup_value args ≡ Fault e
-v_no_area args s e h k = seeks (no_error (value_at args 0)) (look_up in_column args) s h ∙ look_no_area in_column args s e k
-
-pub h_no_area : (args : List Argument) (s : Value) (e : ErrorKind) → sought_in args ≡ Ok s → region_at args 1 ≡ Err e → h_lookup_value args ≡ Fault e
-h_no_area args s e h k = seeks (no_error (value_at args 0)) (look_up in_row args) s h ∙ look_no_area in_row args s e k
-
-pub v_no_number : (args : List Argument) (s : Value) (r : Region) (e : ErrorKind) → sought_in args ≡ Ok s → region_at args 1 ≡ Ok r → to_whole (value_at args 2) ≡ Err e → v_lookup_value args ≡ Fault e
-v_no_number args s r e h k l = seeks (no_error (value_at args 0)) (look_up in_column args) s h ∙ look_no_number in_column args s r e k l
-
-pub h_no_number : (args : List Argument) (s : Value) (r : Region) (e : ErrorKind) → sought_in args ≡ Ok s → region_at args 1 ≡ Ok r → to_whole (value_at args 2) ≡ Err e → h_lookup_value args ≡ Fault e
-h_no_number args s r e h k l = seeks (no_error (value_at args 0)) (look_up in_row args) s h ∙ look_no_number in_row args s r e k l
-
-pub v_no_order : (args : List Argument) (s : Value) (r : Region) (k : ℤ) (e : ErrorKind) → sought_in args ≡ Ok s → region_at args 1 ≡ Ok r → to_whole (value_at args 2) ≡ Ok k → order_in args ≡ Err e → v_lookup_value args ≡ Fault e
-v_no_order args s r k e h l m n = seeks (no_error (value_at args 0)) (look_up in_column args) s h ∙ look_no_order in_column args s r k e l m n
-
-pub h_no_order : (args : List Argument) (s : Value) (r : Region) (k : ℤ) (e : ErrorKind) → sought_in args ≡ Ok s → region_at args 1 ≡ Ok r → to_whole (value_at args 2) ≡ Ok k → order_in args ≡ Err e → h_lookup_value args ≡ Fault e
-h_no_order args s r k e h l m n = seeks (no_error (value_at args 0)) (look_up in_row args) s h ∙ look_no_order in_row args s r k e l m n
-
--- the arguments of VLOOKUP or HLOOKUP are these
+-- the arguments are these
 pub record IsAsked (args : List Argument) (s : Value) (r : Region) (k : ℤ) (b : Bool) : Type 0 where
   pub sought_is : sought_in args ≡ Ok s
   pub region_is : region_at args 1 ≡ Ok r
   pub number_is : to_whole (value_at args 2) ≡ Ok k
   pub order_is : order_in args ≡ Ok b
 
-pub v_looks : (args : List Argument) (s : Value) (r : Region) (k : ℤ) (b : Bool) → IsAsked args s r k b → v_lookup_value args ≡ in_column s r k b
-v_looks args s r k b a = seeks (no_error (value_at args 0)) (look_up in_column args) s a.sought_is ∙ looks in_column args s r k b a.region_is a.number_is a.order_is
+module _ (axis : Axis) (args : List Argument) where
+  pub no_sought : (e : ErrorKind) → sought_in args ≡ Err e → look_up_by axis args ≡ Fault e
+  no_sought e h = seeks_nothing (no_error (value_at args 0)) (look_up axis args) e h
 
-pub h_looks : (args : List Argument) (s : Value) (r : Region) (k : ℤ) (b : Bool) → IsAsked args s r k b → h_lookup_value args ≡ in_row s r k b
-h_looks args s r k b a = seeks (no_error (value_at args 0)) (look_up in_row args) s a.sought_is ∙ looks in_row args s r k b a.region_is a.number_is a.order_is
+  pub no_area : (s : Value) (e : ErrorKind) → sought_in args ≡ Ok s → region_at args 1 ≡ Err e → look_up_by axis args ≡ Fault e
+  no_area s e h k =
+      seeks (no_error (value_at args 0)) (look_up axis args) s h
+      ∙ fails (region_at args 1) e (λ r. to_whole (value_at args 2) >>= (λ k. order_in args >>= in_line axis s r k)) k
 
-abbrev pub seen_in : Bool → Value → List Value → Result ℕ ErrorKind
-seen_in b s vs = ok_or (match_position (type_for b) s vs) NotAvailable
+  with_region : (s : Value) (r : Region) → sought_in args ≡ Ok s → region_at args 1 ≡ Ok r → look_up_by axis args ≡ (to_whole (value_at args 2) >>= (λ k. order_in args >>= in_line axis s r k))
+  with_region s r h k =
+      seeks (no_error (value_at args 0)) (look_up axis args) s h
+      ∙ step (region_at args 1) r (λ q. to_whole (value_at args 2) >>= (λ k. order_in args >>= in_line axis s q k)) k
+
+  pub no_number : (s : Value) (r : Region) (e : ErrorKind) → sought_in args ≡ Ok s → region_at args 1 ≡ Ok r → to_whole (value_at args 2) ≡ Err e → look_up_by axis args ≡ Fault e
+  no_number s r e h k l = with_region s r h k ∙ fails (to_whole (value_at args 2)) e (λ j. order_in args >>= in_line axis s r j) l
+
+  with_number : (s : Value) (r : Region) (k : ℤ) → sought_in args ≡ Ok s → region_at args 1 ≡ Ok r → to_whole (value_at args 2) ≡ Ok k → look_up_by axis args ≡ (order_in args >>= in_line axis s r k)
+  with_number s r k h l m = with_region s r h l ∙ step (to_whole (value_at args 2)) k (λ j. order_in args >>= in_line axis s r j) m
+
+  pub no_order : (s : Value) (r : Region) (k : ℤ) (e : ErrorKind) → sought_in args ≡ Ok s → region_at args 1 ≡ Ok r → to_whole (value_at args 2) ≡ Ok k → order_in args ≡ Err e → look_up_by axis args ≡ Fault e
+  no_order s r k e h l m n = with_number s r k h l m ∙ fails (order_in args) e (in_line axis s r k) n
+
+  looks : (s : Value) (r : Region) (k : ℤ) (b : Bool) → IsAsked args s r k b → look_up_by axis args ≡ in_line axis s r k b
+  looks s r k b a = with_number s r k a.sought_is a.region_is a.number_is ∙ step (order_in args) b (in_line axis s r k) a.order_is
+
+  pub no_place : (s : Value) (r : Region) (k : ℤ) (b : Bool) (e : ErrorKind) → IsAsked args s r k b → place_among (width_in axis r) k ≡ Err e → look_up_by axis args ≡ Fault e
+  no_place s r k b e a h = looks s r k b a ∙ fails (place_among (width_in axis r) k) e (λ i. seen_in b s (first_cells_in axis r) >>= (λ line. cell_in_line axis r line i)) h
+
+  with_place : (s : Value) (r : Region) (k : ℤ) (b : Bool) (i : ℕ) → IsAsked args s r k b → place_among (width_in axis r) k ≡ Ok i → look_up_by axis args ≡ (seen_in b s (first_cells_in axis r) >>= (λ line. cell_in_line axis r line i))
+  with_place s r k b i a h = looks s r k b a ∙ step (place_among (width_in axis r) k) i (λ j. seen_in b s (first_cells_in axis r) >>= (λ line. cell_in_line axis r line j)) h
+
+  pub not_seen : (s : Value) (r : Region) (k : ℤ) (b : Bool) (i : ℕ) (e : ErrorKind) → IsAsked args s r k b → place_among (width_in axis r) k ≡ Ok i → seen_in b s (first_cells_in axis r) ≡ Err e → look_up_by axis args ≡ Fault e
+  not_seen s r k b i e a h l = with_place s r k b i a h ∙ fails (seen_in b s (first_cells_in axis r)) e (λ line. cell_in_line axis r line i) l
+
+  pub seen : (s : Value) (r : Region) (k : ℤ) (b : Bool) (i line : ℕ) → IsAsked args s r k b → place_among (width_in axis r) k ≡ Ok i → seen_in b s (first_cells_in axis r) ≡ Ok line → look_up_by axis args ≡ cell_in_line axis r line i
+  seen s r k b i line a h l = with_place s r k b i a h ∙ step (seen_in b s (first_cells_in axis r)) line (λ j. cell_in_line axis r j i) l
 
 pub seen_along : (rule : Rule) (b : Bool) (s : Value) (vs ws : List Value) → vs ≡ ws → rule ≡ rule_in_order b → seen_in b s vs ≡ ok_or (position_by rule s ws) NotAvailable
 seen_along rule b s vs ws e h = ap (seen_in b s) e ∙ ap (λ (o : Option ℕ). ok_or o NotAvailable) (by_order b s ws ∙ ap (λ (t : Rule). position_by t s ws) (sym h))
-
-pub column_no_place : (s : Value) (r : Region) (k : ℤ) (b : Bool) (e : ErrorKind) → place_among r.width k ≡ Err e → in_column s r k b ≡ Fault e
-column_no_place s r k b e h = fails (place_among r.width k) e (λ column. seen_in b s (first_column_of r) >>= (λ row. cell_in r row column)) h
-
-pub row_no_place : (s : Value) (r : Region) (k : ℤ) (b : Bool) (e : ErrorKind) → place_among r.height k ≡ Err e → in_row s r k b ≡ Fault e
-row_no_place s r k b e h = fails (place_among r.height k) e (λ row. seen_in b s (first_row_of r) >>= (λ column. cell_in r row column)) h
-
-pub column_not_seen : (s : Value) (r : Region) (k : ℤ) (b : Bool) (column : ℕ) (e : ErrorKind) → place_among r.width k ≡ Ok column → seen_in b s (first_column_of r) ≡ Err e → in_column s r k b ≡ Fault e
-column_not_seen s r k b column e h l =
-    step (place_among r.width k) column (λ i. seen_in b s (first_column_of r) >>= (λ row. cell_in r row i)) h ∙ fails (seen_in b s (first_column_of r)) e (λ row. cell_in r row column) l
-
-pub row_not_seen : (s : Value) (r : Region) (k : ℤ) (b : Bool) (row : ℕ) (e : ErrorKind) → place_among r.height k ≡ Ok row → seen_in b s (first_row_of r) ≡ Err e → in_row s r k b ≡ Fault e
-row_not_seen s r k b row e h l =
-    step (place_among r.height k) row (λ i. seen_in b s (first_row_of r) >>= (λ column. cell_in r i column)) h ∙ fails (seen_in b s (first_row_of r)) e (λ column. cell_in r row column) l
-
-pub column_seen : (s : Value) (r : Region) (k : ℤ) (b : Bool) (column row : ℕ) → place_among r.width k ≡ Ok column → seen_in b s (first_column_of r) ≡ Ok row → in_column s r k b ≡ cell_in r row column
-column_seen s r k b column row h l =
-    step (place_among r.width k) column (λ i. seen_in b s (first_column_of r) >>= (λ j. cell_in r j i)) h ∙ step (seen_in b s (first_column_of r)) row (λ j. cell_in r j column) l
-
-pub row_seen : (s : Value) (r : Region) (k : ℤ) (b : Bool) (row column : ℕ) → place_among r.height k ≡ Ok row → seen_in b s (first_row_of r) ≡ Ok column → in_row s r k b ≡ cell_in r row column
-row_seen s r k b row column h l =
-    step (place_among r.height k) row (λ i. seen_in b s (first_row_of r) >>= (λ j. cell_in r i j)) h ∙ step (seen_in b s (first_row_of r)) column (λ j. cell_in r row j) l

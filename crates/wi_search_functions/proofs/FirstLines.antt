@@ -8,9 +8,12 @@ use Rattle.wi_values.specs.Address.{Area, cells_of, place, row_of, column_of, is
 use Rattle.wi_values.specs.declared.value.Value.{Value}
 use Rattle.wi_standard_functions.specs.Arguments.{region_of}
 use Rattle.wi_standard_functions.specs.Lookup.{cell_in}
-use Rattle.wi_standard_functions.specs.Inner.Named.{first_column_of, first_row_of}
+use Rattle.wi_search_functions.specs.declared.axis.Axis.{Axis}
+use Rattle.wi_search_functions.specs.declared.axis.Axis.TheVariants.{Rows, Columns}
+use Rattle.wi_search_functions.specs.Inner.Axis.{line_count, line_width, first_cells}
 use Rattle.wi_search_functions.specs.Inner.Lines.{height, width, is_line, first_column, first_row}
 use Rattle.wi_search_functions.proofs.Places.{run, block, cell_at, column_cells, row_cells}
+use Rattle.wi_search_functions.proofs.Chains.{first_cells_in}
 use Rattle.wi_search_functions.proofs.Lines.{one_row, one_column}
 
 pub row_of_place : (r c : ℕ) → c < 16384 → row_of (place r c) ≡ r
@@ -39,55 +42,38 @@ spans_rect a b top bottom left right e f g h l m = record {
 
 -- ---- what the first column and the first row are
 
-least : (a b : ℕ) → a ≤ b → min a b ≡ a
-least a b h = omega (arith, h)
+-- a rectangle from a cell to one below it and to its right
+spans_to : (a bottom right : ℕ) → row_of a ≤ bottom → column_of a ≤ right → right < 16384 → Spans (rect_of a (place bottom right)) (row_of a) bottom (column_of a) right
+spans_to a bottom right h k l =
+    let row_is = row_of_place bottom right l in
+    let column_is = column_of_place bottom right l in
+    let top : min (row_of a) bottom ≡ row_of a = omega (arith, h) in
+    let low : max (row_of a) bottom ≡ bottom = omega (arith, h) in
+    let left : min (column_of a) right ≡ column_of a = omega (arith, k) in
+    let far : max (column_of a) right ≡ right = omega (arith, k) in
+    spans_rect a (place bottom right) (row_of a) bottom (column_of a) right
+    (ap (min (row_of a)) row_is ∙ top) (ap (max (row_of a)) row_is ∙ low) (ap (min (column_of a)) column_is ∙ left) (ap (max (column_of a)) column_is ∙ far) (narrow a) l
 
-most : (a b : ℕ) → a ≤ b → max a b ≡ b
-most a b h = omega (arith, h)
+-- a line that there is unless a test holds
+there : (b : Bool) (m l : Area) → cond b None (Some m) ≡ Some l → (b ≡ false) × (m ≡ l)
+there true m l h = cc
+there false m l h = (refl, cc)
+
+absent : (b : Bool) (m : Area) → cond b None (Some m) ≡ None → b ≡ true
+absent true m h = refl
+absent false m h = cc
 
 column_spans : (r l : Area) → first_column r ≡ Some l → Spans l (row_of r.first) (row_of r.last) (column_of r.first) (column_of r.first)
-column_spans r l h = at (nat_lt (row_of r.last) (row_of r.first)) refl h
-  where
-    row_is : row_of (place (row_of r.last) (column_of r.first)) ≡ row_of r.last
-    row_is = row_of_place (row_of r.last) (column_of r.first) (narrow r.first)
-
-    column_is : column_of (place (row_of r.last) (column_of r.first)) ≡ column_of r.first
-    column_is = column_of_place (row_of r.last) (column_of r.first) (narrow r.first)
-
-    at : (b : Bool) → nat_lt (row_of r.last) (row_of r.first) ≡ b → cond b None (Some (rect_of r.first (place (row_of r.last) (column_of r.first)))) ≡ Some l → Spans l (row_of r.first) (row_of r.last) (column_of r.first) (column_of r.first)
-    at true e k = cc
-    at false e k =
-        let down : row_of r.first ≤ row_of r.last = ltb-false (row_of r.last) (row_of r.first) e in
-        let same : rect_of r.first (place (row_of r.last) (column_of r.first)) ≡ l = cc in
-        subst (λ (m : Area). Spans m (row_of r.first) (row_of r.last) (column_of r.first) (column_of r.first)) same
-        (spans_rect r.first (place (row_of r.last) (column_of r.first)) (row_of r.first) (row_of r.last) (column_of r.first) (column_of r.first)
-        (ap (min (row_of r.first)) row_is ∙ least (row_of r.first) (row_of r.last) down)
-        (ap (max (row_of r.first)) row_is ∙ most (row_of r.first) (row_of r.last) down)
-        (ap (min (column_of r.first)) column_is ∙ least (column_of r.first) (column_of r.first) (omega arith))
-        (ap (max (column_of r.first)) column_is ∙ most (column_of r.first) (column_of r.first) (omega arith))
-        (narrow r.first) (narrow r.first))
+column_spans r l h =
+    let t = there (nat_lt (row_of r.last) (row_of r.first)) (rect_of r.first (place (row_of r.last) (column_of r.first))) l h in
+    subst (λ (m : Area). Spans m (row_of r.first) (row_of r.last) (column_of r.first) (column_of r.first)) t.1
+    (spans_to r.first (row_of r.last) (column_of r.first) (ltb-false (row_of r.last) (row_of r.first) t.0) (omega arith) (narrow r.first))
 
 row_spans : (r l : Area) → first_row r ≡ Some l → Spans l (row_of r.first) (row_of r.first) (column_of r.first) (column_of r.last)
-row_spans r l h = at (nat_lt (column_of r.last) (column_of r.first)) refl h
-  where
-    row_is : row_of (place (row_of r.first) (column_of r.last)) ≡ row_of r.first
-    row_is = row_of_place (row_of r.first) (column_of r.last) (narrow r.last)
-
-    column_is : column_of (place (row_of r.first) (column_of r.last)) ≡ column_of r.last
-    column_is = column_of_place (row_of r.first) (column_of r.last) (narrow r.last)
-
-    at : (b : Bool) → nat_lt (column_of r.last) (column_of r.first) ≡ b → cond b None (Some (rect_of r.first (place (row_of r.first) (column_of r.last)))) ≡ Some l → Spans l (row_of r.first) (row_of r.first) (column_of r.first) (column_of r.last)
-    at true e k = cc
-    at false e k =
-        let on : column_of r.first ≤ column_of r.last = ltb-false (column_of r.last) (column_of r.first) e in
-        let same : rect_of r.first (place (row_of r.first) (column_of r.last)) ≡ l = cc in
-        subst (λ (m : Area). Spans m (row_of r.first) (row_of r.first) (column_of r.first) (column_of r.last)) same
-        (spans_rect r.first (place (row_of r.first) (column_of r.last)) (row_of r.first) (row_of r.first) (column_of r.first) (column_of r.last)
-        (ap (min (row_of r.first)) row_is ∙ least (row_of r.first) (row_of r.first) (omega arith))
-        (ap (max (row_of r.first)) row_is ∙ most (row_of r.first) (row_of r.first) (omega arith))
-        (ap (min (column_of r.first)) column_is ∙ least (column_of r.first) (column_of r.last) on)
-        (ap (max (column_of r.first)) column_is ∙ most (column_of r.first) (column_of r.last) on)
-        (narrow r.first) (narrow r.last))
+row_spans r l h =
+    let t = there (nat_lt (column_of r.last) (column_of r.first)) (rect_of r.first (place (row_of r.first) (column_of r.last))) l h in
+    subst (λ (m : Area). Spans m (row_of r.first) (row_of r.first) (column_of r.first) (column_of r.last)) t.1
+    (spans_to r.first (row_of r.first) (column_of r.last) (omega arith) (ltb-false (column_of r.last) (column_of r.first) t.0) (narrow r.last))
 
 -- ---- their cells
 
@@ -112,7 +98,7 @@ within_parts r c h =
 pub within_from : (r : Area) (c : ℕ) → row_of r.first ≤ row_of c → row_of c ≤ row_of r.last → column_of r.first ≤ column_of c → column_of c ≤ column_of r.last → is_within r c ≡ true
 within_from r c h k l m = and_from _ _ (and_from _ _ (le-leb _ _ h) (le-leb _ _ k)) (and_from _ _ (le-leb _ _ l) (le-leb _ _ m))
 
-pub column_line : (r l : Area) → first_column r ≡ Some l → 0 < width r → IsFirstLine r l (λ cells. first_column_of (region_of cells r)) (height r)
+column_line : (r l : Area) → first_column r ≡ Some l → 0 < width r → IsFirstLine r l (λ cells. first_cells_in Rows (region_of cells r)) (height r)
 column_line r l h w =
     let s : Spans l (row_of r.first) (row_of r.last) (column_of r.first) (column_of r.first) = column_spans r l h in
     let thin : width l ≡ 1 = omega (arith, s.left_is, s.right_is) in
@@ -129,7 +115,7 @@ column_line r l h w =
       inside = λ c k. let p = within_parts l c k in within_from r c (omega (arith, p.0, s.top_is)) (omega (arith, p.1, s.bottom_is)) (omega (arith, p.2, s.left_is)) (omega (arith, p.3, s.right_is, w));
     }
 
-pub row_line : (r l : Area) → first_row r ≡ Some l → 0 < height r → IsFirstLine r l (λ cells. first_row_of (region_of cells r)) (width r)
+row_line : (r l : Area) → first_row r ≡ Some l → 0 < height r → IsFirstLine r l (λ cells. first_cells_in Columns (region_of cells r)) (width r)
 row_line r l h w =
     let s : Spans l (row_of r.first) (row_of r.first) (column_of r.first) (column_of r.last) = row_spans r l h in
     let flat : height l ≡ 1 = omega (arith, s.top_is, s.bottom_is) in
@@ -147,16 +133,18 @@ row_line r l h w =
     }
 
 -- a rectangle without rows has no first column, and one without columns no first row
-pub no_rows : (r : Area) → first_column r ≡ None → height r ≡ 0
-no_rows r h = at (nat_lt (row_of r.last) (row_of r.first)) refl h
-  where
-    at : (b : Bool) → nat_lt (row_of r.last) (row_of r.first) ≡ b → cond b None (Some (rect_of r.first (place (row_of r.last) (column_of r.first)))) ≡ None → height r ≡ 0
-    at true e k = let up : row_of r.last < row_of r.first = ltb-true (row_of r.last) (row_of r.first) e in omega (arith, up)
-    at false e k = cc
+no_rows : (r : Area) → first_column r ≡ None → height r ≡ 0
+no_rows r h = let up = ltb-true (row_of r.last) (row_of r.first) (absent _ (rect_of r.first (place (row_of r.last) (column_of r.first))) h) in omega (arith, up)
 
-pub no_columns : (r : Area) → first_row r ≡ None → width r ≡ 0
-no_columns r h = at (nat_lt (column_of r.last) (column_of r.first)) refl h
-  where
-    at : (b : Bool) → nat_lt (column_of r.last) (column_of r.first) ≡ b → cond b None (Some (rect_of r.first (place (row_of r.first) (column_of r.last)))) ≡ None → width r ≡ 0
-    at true e k = let back : column_of r.last < column_of r.first = ltb-true (column_of r.last) (column_of r.first) e in omega (arith, back)
-    at false e k = cc
+no_columns : (r : Area) → first_row r ≡ None → width r ≡ 0
+no_columns r h = let back = ltb-true (column_of r.last) (column_of r.first) (absent _ (rect_of r.first (place (row_of r.first) (column_of r.last))) h) in omega (arith, back)
+
+-- ---- by the axis
+
+pub first_line : (axis : Axis) (r l : Area) → first_cells axis r ≡ Some l → 0 < line_width axis r → IsFirstLine r l (λ cells. first_cells_in axis (region_of cells r)) (line_count axis r)
+first_line Rows = column_line
+first_line Columns = row_line
+
+pub no_lines : (axis : Axis) (r : Area) → first_cells axis r ≡ None → line_count axis r ≡ 0
+no_lines Rows = no_rows
+no_lines Columns = no_columns

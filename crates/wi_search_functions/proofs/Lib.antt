@@ -6,3 +6,4 @@ pub mod Finding
 pub mod Asked
 pub mod Chains
 pub mod Endings
+pub mod Axes

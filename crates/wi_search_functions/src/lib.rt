@@ -2,6 +2,7 @@
 #![tactic(auto)]
 
 mod arguments;
+mod axis;
 mod halt;
 mod index;
 mod match_place;

@@ -5,12 +5,14 @@ ghost use Rattle.wi_lookup.specs.Arguments.{IfMissing, IsMissing, IsOfArguments}
 ghost use Rattle.wi_standard_functions.specs.Convert.{zero_number};
 ghost use Rattle.wi_standard_functions.specs.Lookup.{h_lookup_value, v_lookup_value};
 ghost use Rattle.wi_values.specs.declared.value.Value.TheVariants.{Number};
+ghost use Rattle.wi_search_functions.specs.Inner.Axis.{look_up_by};
 ghost use Rattle.wi_search_functions.specs.Inner.Giving.{Finds};
 
 use crate::arguments::{area_at, logical_or, sought_at, whole_at};
+use crate::axis::Axis;
 use crate::halt::Halt;
 use crate::outcome::value_found;
-use crate::region::{cell_at, first_column, first_row, height, place_among, width};
+use crate::region::place_among;
 use crate::rule::Rule;
 use crate::search::place_along;
 use std::alloc::Global;
@@ -29,7 +31,7 @@ pub fn v_lookup_value<L: Lookup>(
     ensures missing { IfErr result (λ s. IfMissing s (IsMissing (L.known_cell lookup.now) arguments.now)) }
 {
     let zero = Value::Number(zero());
-    value_found(alloc, v_lookup(&zero, arguments, lookup), lookup)
+    value_found(alloc, look_up(Axis::Rows, &zero, arguments, lookup), lookup)
 }
 
 /// The value in a row of a rectangle, in the column whose first cell is found. The work is that of `v_lookup_value`, along the
@@ -43,35 +45,29 @@ pub fn h_lookup_value<L: Lookup>(
     ensures missing { IfErr result (λ s. IfMissing s (IsMissing (L.known_cell lookup.now) arguments.now)) }
 {
     let zero = Value::Number(zero());
-    value_found(alloc, h_lookup(&zero, arguments, lookup), lookup)
+    value_found(
+        alloc,
+        look_up(Axis::Columns, &zero, arguments, lookup),
+        lookup,
+    )
 }
 
-/// The cell in a column of a rectangle. The zero is what an Empty value is sought as.
-fn v_lookup<L: Lookup>(zero: &Value, arguments: &[Argument], lookup: &L) -> Result<Address, Halt>
+/// The cell at a place in the line whose first cell is found. The zero is what an Empty value is sought as.
+fn look_up<L: Lookup>(
+    axis: Axis,
+    zero: &Value,
+    arguments: &[Argument],
+    lookup: &L,
+) -> Result<Address, Halt>
     requires { zero.now ≡ Number zero_number }
-    ensures { Finds (L.known_cell lookup.now) arguments.now v_lookup_value result }
+    ensures { Finds (L.known_cell lookup.now) arguments.now (look_up_by axis) result }
 {
     let sought = sought_at(zero, arguments, 0, lookup)?;
     let area = area_at(arguments, 1)?;
     let k = whole_at(arguments, 2, lookup)?;
     let in_order = logical_or(true, arguments, 3, lookup)?;
-    let column = place_among(width(area), k)?;
-    let line = first_column(area).ok_or(ErrorKind::NotAvailable)?;
-    let row = place_along(Rule::in_order(in_order), sought, line, lookup)?;
-    Ok(cell_at(area, row, column))
-}
-
-/// The cell in a row of a rectangle. The zero is what an Empty value is sought as.
-fn h_lookup<L: Lookup>(zero: &Value, arguments: &[Argument], lookup: &L) -> Result<Address, Halt>
-    requires { zero.now ≡ Number zero_number }
-    ensures { Finds (L.known_cell lookup.now) arguments.now h_lookup_value result }
-{
-    let sought = sought_at(zero, arguments, 0, lookup)?;
-    let area = area_at(arguments, 1)?;
-    let k = whole_at(arguments, 2, lookup)?;
-    let in_order = logical_or(true, arguments, 3, lookup)?;
-    let row = place_among(height(area), k)?;
-    let line = first_row(area).ok_or(ErrorKind::NotAvailable)?;
-    let column = place_along(Rule::in_order(in_order), sought, line, lookup)?;
-    Ok(cell_at(area, row, column))
+    let place = place_among(axis.width(area), k)?;
+    let firsts = axis.first_cells(area).ok_or(ErrorKind::NotAvailable)?;
+    let line = place_along(Rule::in_order(in_order), sought, firsts, lookup)?;
+    Ok(axis.cell_at(area, line, place))
 }
