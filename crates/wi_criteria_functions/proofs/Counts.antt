@@ -1,18 +1,12 @@
 -- What COUNTIF counts.
-use Rattle.std.proofs.Common.{◌≡◌, ℕ, ◌+◌, ◌<◌, Bool, true, false, cond, List, [], ◌∷◌, map, Option, refl, sym, ap, ◌∙◌, subst, inl, add_assoc, add-zero, zero-add, arith}
-use Rattle.std.specs.Prelude.{◌^◌, ◌-◌, min, nat_le, Result, Ok, Err, count_by}
-use Rattle.std.proofs.Math.Nat.{sub-add-min_cancel}
-use Rattle.std.proofs.lemmas.Bool.Decides.{nat_tests}
+use Rattle.std.proofs.Common.{◌≡◌, ℕ, ◌+◌, cond, List, [], ◌∷◌, map, Option, refl, sym, ap, ◌∙◌, subst, add_assoc, add-zero, zero-add}
+use Rattle.std.specs.Prelude.{◌^◌, ◌-◌, min, Result, Ok, Err, count_by}
 use Rattle.std.proofs.lemmas.List.Sums.{sum_by-cons}
-use Rattle.wi_fraction.specs.Number as numbers
-use Rattle.wi_fraction.proofs.Numbers.{number_at-too_large, number_of-whole}
 use Rattle.wi_values.specs.Address.{Area, cells_of}
 use Rattle.wi_values.specs.declared.value.ErrorKind.{ErrorKind}
-use Rattle.wi_values.specs.declared.value.ErrorKind.TheVariants.{BadNumber}
 use Rattle.wi_values.specs.declared.value.Value.{Value}
-use Rattle.wi_values.specs.declared.value.Value.TheVariants.{Number, Fault}
 use Rattle.wi_standard_functions.specs.Arguments.{Argument, Region, region_at, value_at}
-use Rattle.wi_standard_functions.specs.Arithmetic.{fitting, whole_number, whole_value}
+use Rattle.wi_standard_functions.specs.Arithmetic.{whole_value}
 use Rattle.wi_standard_functions.specs.Criterion as defined
 use Rattle.wi_standard_functions.specs.Criterion.{criterion_of, meets_criterion}
 use Rattle.wi_standard_functions.specs.FirstError.{no_error}
@@ -21,40 +15,15 @@ use Rattle.wi_standard_functions.specs.Steps.{◌>>=◌, and_then}
 use Rattle.wi_lookup.specs.declared.argument.Argument as given
 use Rattle.wi_lookup.specs.Arguments.{arguments_in, KnownAgrees}
 use Rattle.wi_lookup.specs.Walk.{after_cells}
+use Rattle.wi_scalar_functions.specs.Inner.Counts.{counted, IsCut}
+use Rattle.wi_scalar_functions.proofs.Counts.{cut_counted, cut_value}
 use Rattle.wi_matching.specs.declared.criterion.Criterion.{Criterion}
 use Rattle.wi_matching.specs.Inner.Meeting.{criterion_held, is_met}
 use Rattle.wi_criteria_functions.specs.declared.counting.Counting.{Counting}
 use Rattle.wi_criteria_functions.specs.declared.ending.Ending.{Ending}
 use Rattle.wi_criteria_functions.specs.declared.ending.Ending.TheVariants.{Error, Stopped}
-use Rattle.wi_criteria_functions.specs.Inner.Counts.{counted, IsCut}
 use Rattle.wi_criteria_functions.specs.Inner.Giving.{region_in, criterion_argument, Gives}
 use Rattle.wi_criteria_functions.proofs.Referring.{IsCriterionAt}
-
--- ---- a count goes no higher than it fits, and no number is so great
-
-too_many_number : (n : ℕ) → 2 ^ 127 - 1 < n → whole_number n ≡ Err BadNumber
-too_many_number n h = ap fitting (sym (number_at-too_large false n 1 (inl h) ∙ number_of-whole false n))
-
-pub too_many : (n : ℕ) → 2 ^ 127 - 1 < n → whole_value n ≡ Fault BadNumber
-too_many n h = ap (λ (x : Result numbers.Number ErrorKind). x >>= (λ y. Number y)) (too_many_number n h)
-
-pub cut_value : (c n : ℕ) → IsCut c n → whole_value c ≡ whole_value n
-cut_value c n e = at (nat_le n (2 ^ 128 - 1)) refl
-  where
-    at : (b : Bool) → nat_le n (2 ^ 128 - 1) ≡ b → whole_value c ≡ whole_value n
-    at true h = let m = sub-add-min_cancel n (2 ^ 128 - 1) in let same : c ≡ n = grind (arith, nat_tests) in ap whole_value same
-    at false h = let m = sub-add-min_cancel n (2 ^ 128 - 1) in let great : 2 ^ 127 - 1 < n = grind (arith, nat_tests) in let great_cut : 2 ^ 127 - 1 < c = grind (arith, nat_tests) in too_many c great_cut ∙ sym (too_many n great)
-
-cut_more : (c n : ℕ) → IsCut c n → IsCut (min (c + 1) (2 ^ 128 - 1)) (n + 1)
-cut_more c n e =
-    let m = sub-add-min_cancel n (2 ^ 128 - 1) in
-    let k = sub-add-min_cancel (c + 1) (2 ^ 128 - 1) in
-    let l = sub-add-min_cancel (n + 1) (2 ^ 128 - 1) in
-    omega arith
-
-cut_counted : (b : Bool) (c n : ℕ) → IsCut c n → IsCut (counted b c) (n + cond b 1 0)
-cut_counted true c n e = cut_more c n e
-cut_counted false c n e = omega (arith, e)
 
 -- ---- the count of a walk
 

@@ -7,17 +7,17 @@ ghost use Rattle.wi_values.specs.declared.value.Value.{Value as Values};
 ghost use Rattle.wi_standard_functions.specs.Information.{count_if_value};
 ghost use Rattle.wi_lookup.specs.Arguments.{IfMissing, IsMissing, IsOfArguments, KnownAgrees};
 ghost use Rattle.wi_matching.specs.Inner.Meeting.{is_met};
-ghost use Rattle.wi_criteria_functions.specs.Inner.Counts.{counted, IsCut};
-ghost use Rattle.wi_criteria_functions.specs.Inner.Counts.Laws.{empty_not_counted};
+ghost use Rattle.wi_scalar_functions.specs.Inner.Counts.{counted, IsCut};
+ghost use Rattle.wi_criteria_functions.specs.Inner.Laws.{empty_not_counted};
 ghost use Rattle.wi_criteria_functions.specs.Inner.Giving.{Gives};
 
 use crate::arguments::{area_at, criterion_at};
-use crate::count::whole_value;
 use crate::ending::{Ending, settled};
 use std::alloc::Global;
 use std::ops::ControlFlow;
 use wi_lookup::{Argument, Lookup, Stop, TakesCells, take_cells};
 use wi_matching::Criterion;
+use wi_scalar_functions::{counted, whole_value};
 use wi_values::{Address, Rect, Value};
 
 /// COUNTIF: how many cells of the first argument meet the criterion that the second is. The work is that of a walk through the
@@ -67,9 +67,7 @@ impl<'a> TakesCells for Counting<'a> {
     ghost after = { λ s _ v. record { criterion = s.criterion; count = counted (is_met s.criterion.now v) s.count } };
 
     fn take(&mut self, _at: Address, value: &Value) -> ControlFlow<()> {
-        if self.criterion.meets(value) {
-            self.count = self.count.saturating_add(1);
-        }
+        self.count = counted(self.count, self.criterion.meets(value));
         ControlFlow::Continue(())
     }
 

@@ -3,7 +3,6 @@
 
 mod arguments;
 mod cells;
-mod count;
 mod counting;
 mod ending;
 mod extent;

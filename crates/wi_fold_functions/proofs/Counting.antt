@@ -1,63 +1,30 @@
 -- What COUNT, COUNTA and AVERAGE make of the items.
-use Rattle.std.proofs.Common.{◌≡◌, ℕ, ◌+◌, ◌<◌, Bool, true, false, cond, not, List, [], ◌∷◌, length, fold, Option, Some, None, refl, sym, ap, ◌∙◌, subst, inl, arith}
-use Rattle.std.specs.Prelude.{is_some, ◌^◌, ◌-◌, min, nat_le, Result, Ok, Err, IfErr}
+use Rattle.std.proofs.Common.{◌≡◌, ℕ, ◌+◌, Bool, true, cond, not, List, [], ◌∷◌, length, fold, Option, Some, None, refl, sym, ap, ◌∙◌, subst, arith}
+use Rattle.std.specs.Prelude.{is_some, Result, Ok, Err, IfErr}
 use Rattle.std.specs.Result.{IsErrAnd}
-use Rattle.std.proofs.Math.Nat.{sub-add-min_cancel}
-use Rattle.std.proofs.lemmas.Bool.Decides.{nat_tests}
 use Rattle.std.specs.List.{flat_map}
 use Rattle.std.specs.Option.{option_to_list}
 use Rattle.wi_fraction.specs.Number as numbers
-use Rattle.wi_fraction.specs.Number.{number_of}
-use Rattle.wi_fraction.proofs.Numbers.{number_at-too_large, number_of-whole}
 use Rattle.wi_values.specs.declared.value.ErrorKind.{ErrorKind}
-use Rattle.wi_values.specs.declared.value.ErrorKind.TheVariants.{BadNumber}
 use Rattle.wi_values.specs.declared.value.Value.{Value}
 use Rattle.wi_values.specs.declared.value.Value.TheVariants.{Number}
 use Rattle.wi_standard_functions.specs.Arguments.{Argument}
-use Rattle.wi_standard_functions.specs.Arithmetic.{addition, division, fitting, whole_number, whole_value}
+use Rattle.wi_standard_functions.specs.Arithmetic.{addition, division, whole_number, whole_value}
 use Rattle.wi_standard_functions.specs.Convert.{zero_number}
 use Rattle.wi_standard_functions.specs.Information.{is_number_value, is_empty_value, count_value, count_a_value}
 use Rattle.wi_standard_functions.specs.Sequence.{Item, sequence_of, value_of_item, number_of_item, numbers_of, number_fold, with_number}
 use Rattle.wi_standard_functions.specs.Statistical.{average_value}
 use Rattle.wi_standard_functions.specs.Steps.{◌>>=◌, and_then, map_until_error, fold_until_error}
+use Rattle.wi_scalar_functions.specs.Inner.Counts.{counted, IsCut}
+use Rattle.wi_scalar_functions.proofs.Counts.{cut_counted, cut_more, cut_number, cut_value, none_cut}
 use Rattle.wi_fold_functions.specs.declared.information.FilledCount.{FilledCount}
 use Rattle.wi_fold_functions.specs.declared.information.NumberCount.{NumberCount}
 use Rattle.wi_fold_functions.specs.declared.statistical.Average.{Average}
 use Rattle.wi_fold_functions.specs.Inner.Items.{go_on_through}
-use Rattle.wi_fold_functions.specs.Inner.Made.{calculated_with, counted, numbers_with, filled_with, mean_with, mean_value}
+use Rattle.wi_fold_functions.specs.Inner.Made.{calculated_with, numbers_with, filled_with, mean_with, mean_value}
 use Rattle.wi_fold_functions.proofs.Steps.{stays}
 
--- ---- a count goes no higher than it fits, and no number is so great
-
-pub too_many : (n : ℕ) → 2 ^ 127 - 1 < n → whole_number n ≡ Err BadNumber
-too_many n h = ap fitting (sym (number_at-too_large false n 1 (inl h) ∙ number_of-whole false n))
-
--- the count as far as it fits
-abbrev IsCut : ℕ → ℕ → Type 0
-IsCut c n = c ≡ min n (2 ^ 128 - 1)
-
-cut_number : (c n : ℕ) → IsCut c n → whole_number c ≡ whole_number n
-cut_number c n e = at (nat_le n (2 ^ 128 - 1)) refl
-  where
-    at : (b : Bool) → nat_le n (2 ^ 128 - 1) ≡ b → whole_number c ≡ whole_number n
-    at true h = let m = sub-add-min_cancel n (2 ^ 128 - 1) in let same : c ≡ n = grind (arith, nat_tests) in ap whole_number same
-    at false h = let m = sub-add-min_cancel n (2 ^ 128 - 1) in let great : 2 ^ 127 - 1 < n = grind (arith, nat_tests) in let great_cut : 2 ^ 127 - 1 < c = grind (arith, nat_tests) in too_many c great_cut ∙ sym (too_many n great)
-
-cut_more : (c n : ℕ) → IsCut c n → IsCut (min (c + 1) (2 ^ 128 - 1)) (n + 1)
-cut_more c n e =
-    let m = sub-add-min_cancel n (2 ^ 128 - 1) in
-    let k = sub-add-min_cancel (c + 1) (2 ^ 128 - 1) in
-    let l = sub-add-min_cancel (n + 1) (2 ^ 128 - 1) in
-    omega arith
-
-cut_counted : (b : Bool) (c n : ℕ) → IsCut c n → IsCut (counted b c) (n + cond b 1 0)
-cut_counted true c n e = cut_more c n e
-cut_counted false c n e = omega arith
-
 -- ---- COUNT and COUNTA
-
-cut_value : (c n : ℕ) → IsCut c n → whole_value c ≡ whole_value n
-cut_value c n e = ap (λ (r : Result numbers.Number ErrorKind). r >>= (λ x. Number x)) (cut_number c n e)
 
 -- a count from so many on
 abbrev count_from : (Value → Bool) → ℕ → List Item → ℕ
@@ -74,9 +41,6 @@ filled_counted [] s n e = cut_value s.filled n e
 filled_counted (item ∷ items) s n e =
     let test = not (is_empty_value (value_of_item item)) in
     filled_counted items (record { filled = counted test s.filled }) (n + cond test 1 0) (cut_counted test s.filled n e)
-
-none_cut : (c : ℕ) → c ≡ 0 → IsCut c 0
-none_cut c e = let m = sub-add-min_cancel 0 (2 ^ 128 - 1) in omega arith
 
 pub count_is : (args : List Argument) (s : NumberCount) → s.numbers ≡ 0 → (fold_until_error numbers_with s (sequence_of args) >>= (λ t. whole_value t.numbers)) ≡ count_value args
 count_is args s e = numbers_counted (sequence_of args) s 0 (none_cut s.numbers e)

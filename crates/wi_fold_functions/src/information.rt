@@ -6,12 +6,11 @@ ghost use Rattle.wi_standard_functions.specs.Arithmetic.{whole_value};
 ghost use Rattle.wi_standard_functions.specs.Information.{is_empty_value, is_number_value, count_value, count_a_value};
 ghost use Rattle.wi_fold_functions.specs.Inner.Made.{numbers_with, filled_with};
 
-use crate::count::{counted, whole_value};
 use crate::fold::Fold;
 use crate::folding::fold_arguments;
 use crate::item::Item;
 use wi_lookup::{Argument, Lookup};
-use wi_scalar_functions::{is_empty_value, is_number_value};
+use wi_scalar_functions::{counted, is_empty_value, is_number_value, whole_value};
 use wi_values::{Address, ErrorKind, Value};
 
 /// COUNT: how many items are Numbers. No error passes through. The cell that is missing is told.

@@ -1,7 +1,6 @@
 //! The functions of OpenFormula that fold a sequence of items: the cells of references, and values.
 #![tactic(auto)]
 
-mod count;
 mod fold;
 mod folding;
 mod information;

@@ -6,14 +6,13 @@ ghost use Rattle.wi_standard_functions.specs.Statistical.{min_value, max_value, 
 ghost use Rattle.wi_standard_functions.specs.Inner.Named.{smaller_number, greater_number};
 ghost use Rattle.wi_fold_functions.specs.Inner.Made.{least_with, greatest_with, mean_with, mean_of, mean_value, number_chosen};
 
-use crate::count::{counted, whole_number};
 use crate::fold::Fold;
 use crate::folding::fold_arguments;
 use crate::item::Item;
 use std::cmp::Ordering;
 use wi_fraction::Fraction;
 use wi_lookup::{Argument, Lookup};
-use wi_scalar_functions::{add, divide, number_value, zero};
+use wi_scalar_functions::{add, counted, divide, number_value, whole_number, zero};
 use wi_values::{Address, ErrorKind, Value};
 
 /// MIN: the smallest number, and of none 0, or the first error met. The cell that is missing is told.

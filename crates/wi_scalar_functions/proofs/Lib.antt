@@ -1,3 +1,4 @@
 pub mod Constants
+pub mod Counts
 pub mod Cutting
 pub mod Places

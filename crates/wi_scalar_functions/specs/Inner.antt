@@ -1,4 +1,5 @@
 -- Words of the code's own contracts. Nothing here needs belief.
 pub mod Both
+pub mod Counts
 pub mod Fractions
 pub mod Outcome

@@ -3,6 +3,7 @@
 
 mod arithmetic;
 mod convert;
+mod count;
 mod first_error;
 mod information;
 mod logical;
@@ -11,6 +12,7 @@ mod rounding;
 
 pub use arithmetic::{add, divide, multiply, number_value, raise, subtract};
 pub use convert::{hundred, one, to_logical, to_number, to_whole, zero};
+pub use count::{counted, whole_number, whole_value};
 pub use first_error::{both, no_error};
 pub use information::{
     is_empty_value, is_error_value, is_logical_value, is_no_text, is_not_available,

@@ -10,9 +10,9 @@ ghost use Rattle.wi_search_functions.specs.Inner.Giving.{Finds, Places};
 
 use crate::halt::Halt;
 use std::alloc::Global;
-use wi_fraction::Fraction;
 use wi_lookup::{LookedUp, Lookup, Stop};
-use wi_values::{Address, ErrorKind, Value};
+use wi_scalar_functions::whole_value;
+use wi_values::{Address, Value};
 
 /// The value of the cell that was found, or the error. A text is copied.
 pub(crate) fn value_found<L: Lookup>(
@@ -53,15 +53,5 @@ pub(crate) fn value_placed(found: Result<u32, Halt>) -> Result<Value, Address>
 fn counted_from_one(place: u32) -> Value
     ensures { result ≡ whole_value (place + 1) }
 {
-    whole_value(u64::from(place) + 1)
-}
-
-/// A count, or a place.
-fn whole_value(n: u64) -> Value
-    ensures { result ≡ whole_value n }
-{
-    match Fraction::new(i128::from(n), 1) {
-        Ok(x) => Value::Number(x),
-        Err(_) => Value::Fault(ErrorKind::BadNumber),
-    }
+    whole_value(u128::from(place) + 1)
 }

@@ -1,4 +1,3 @@
-mod Cutting
 mod Counting
 mod Texts
 mod Joining

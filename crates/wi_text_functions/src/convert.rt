@@ -1,9 +1,6 @@
 //! Values taken for texts and whole numbers (OpenFormula, "Implicit Conversion Operators").
 
 ghost use Rattle.std.specs.Prelude.{◌≡◌, IfOk, string_bytes};
-ghost use Rattle.wi_fraction.specs.Rounding.{rounded};
-ghost use Rattle.wi_fraction.specs.declared.rounding.Mode.TheVariants.{Toward};
-ghost use Rattle.wi_standard_functions.specs.Arithmetic.{whole_value};
 ghost use Rattle.wi_standard_functions.specs.Convert.{to_text, to_whole};
 ghost use Rattle.wi_standard_functions.specs.Text.{at_least};
 ghost use Rattle.wi_text_functions.specs.Inner.Gives.{Agrees, shown_bytes};
@@ -11,8 +8,6 @@ ghost use Rattle.wi_values.specs.Value.{shown_text};
 
 use crate::stop::Stop;
 use std::alloc::{AllocError, Global};
-use wi_fraction::{Fraction, Mode};
-use wi_scalar_functions::to_number;
 use wi_values::{ErrorKind, Value};
 
 /// The text that a value is taken for: that of a Text is lent, any other is written.
@@ -60,19 +55,9 @@ fn written(alloc: Global, value: &Value) -> Result<String, AllocError>
 pub(crate) fn to_whole(value: &Value) -> Result<i128, Stop>
     ensures { Agrees (λ k. k) result (to_whole value.now) }
 {
-    match to_number(value) {
-        Ok(x) => Ok(cut(x).numerator()),
+    match wi_scalar_functions::to_whole(value) {
+        Ok(k) => Ok(k),
         Err(e) => Err(Stop::Error(e)),
-    }
-}
-
-/// The number cut toward zero.
-fn cut(x: Fraction) -> Fraction
-    ensures { result ≡ rounded Toward x }
-{
-    match x.round_to(0, Mode::Toward) {
-        Ok(whole) => whole,
-        Err(_) => unreachable!(),
     }
 }
 
@@ -84,14 +69,4 @@ pub(crate) fn at_least(bound: u8, k: i128) -> Result<u128, Stop>
         return Err(Stop::Error(ErrorKind::BadValue));
     }
     Ok(k.unsigned_abs())
-}
-
-/// A count, or a place.
-pub(crate) fn whole_value(n: usize) -> Value
-    ensures { result ≡ whole_value n }
-{
-    match Fraction::new(n as i128, 1) {
-        Ok(x) => Value::Number(x),
-        Err(_) => Value::Fault(ErrorKind::BadNumber),
-    }
 }

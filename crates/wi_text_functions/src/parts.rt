@@ -5,9 +5,10 @@ ghost use Rattle.wi_standard_functions.specs.Text.{len_value, left_value, right_
 ghost use Rattle.wi_text_functions.specs.Inner.Gives.{Gives};
 
 use crate::characters::{after, before, count};
-use crate::convert::{at_least, to_text, to_whole, whole_value};
+use crate::convert::{at_least, to_text, to_whole};
 use crate::stop::{Stop, limited_text, settled};
 use std::alloc::{AllocError, Global};
+use wi_scalar_functions::whole_value;
 use wi_values::Value;
 
 /// How many characters a text has. Linear in the text.
@@ -47,7 +48,7 @@ fn len(alloc: Global, text: &Value) -> Result<Value, Stop>
     ensures { Gives result (len_value text.now) }
 {
     let shown = to_text(alloc, text)?;
-    Ok(whole_value(count(shown.as_str())))
+    Ok(whole_value(count(shown.as_str()) as u128))
 }
 
 fn left(alloc: Global, text: &Value, number: &Value) -> Result<Value, Stop>

@@ -5,9 +5,10 @@ ghost use Rattle.wi_standard_functions.specs.Text.{exact_value, find_value, firs
 ghost use Rattle.wi_text_functions.specs.Inner.Gives.{Gives};
 
 use crate::characters::{after, count};
-use crate::convert::{at_least, to_text, to_whole, whole_value};
+use crate::convert::{at_least, to_text, to_whole};
 use crate::stop::{Stop, settled};
 use std::alloc::{AllocError, Global};
+use wi_scalar_functions::whole_value;
 use wi_values::{ErrorKind, Value};
 
 /// Whether two texts are equal byte for byte. Linear in the shorter.
@@ -44,7 +45,7 @@ fn find(alloc: Global, sought: &Value, text: &Value, start: &Value) -> Result<Va
     let text = to_text(alloc, text)?;
     let start = at_least(1, to_whole(start)?)?;
     match place_from(start - 1, sought.as_str(), text.as_str()) {
-        Some(place) => Ok(whole_value(place + 1)),
+        Some(place) => Ok(whole_value(place as u128 + 1)),
         None => Err(Stop::Error(ErrorKind::BadValue)),
     }
 }

@@ -1,5 +1,5 @@
 -- What each function makes of the items so far, and with one more.
-use Rattle.std.specs.Prelude.{not, ◌&&◌, ◌||◌, ℕ, ◌+◌, ◌-◌, ◌^◌, min, Bool, Option, Some, None, is_some, Result, Ok, if◌then◌else◌}
+use Rattle.std.specs.Prelude.{not, ◌&&◌, ◌||◌, ℕ, Bool, Option, Some, None, is_some, Result, Ok}
 use Rattle.wi_fraction.specs.Number as numbers
 use Rattle.wi_values.specs.declared.value.ErrorKind.{ErrorKind}
 use Rattle.wi_values.specs.declared.value.ErrorKind.TheVariants.{BadValue}
@@ -11,6 +11,7 @@ use Rattle.wi_standard_functions.specs.Information.{is_empty_value, is_number_va
 use Rattle.wi_standard_functions.specs.Sequence.{Item, number_of_item, logical_of_item, value_of_item, with_number}
 use Rattle.wi_standard_functions.specs.Inner.Named.{smaller_number, greater_number}
 use Rattle.wi_standard_functions.specs.Steps.{◌>>=◌, and_then}
+use Rattle.wi_scalar_functions.specs.Inner.Counts.{counted}
 use Rattle.wi_fold_functions.specs.declared.information.FilledCount.{FilledCount}
 use Rattle.wi_fold_functions.specs.declared.information.NumberCount.{NumberCount}
 use Rattle.wi_fold_functions.specs.declared.logical.AllTrue.{AllTrue}
@@ -68,10 +69,6 @@ logical_chosen None = Fault BadValue
 logical_chosen (Some b) = Logical b
 
 -- ---- counts
-
--- a count with one more, or none: it goes no higher than it fits
-abbrev pub counted : Bool → ℕ → ℕ
-counted counts n = if counts then min (n + 1) (2 ^ 128 - 1) else n
 
 abbrev pub numbers_with : NumberCount → Item → Result NumberCount ErrorKind
 numbers_with s item = Ok (record { numbers = counted (is_number_value (value_of_item item)) s.numbers })

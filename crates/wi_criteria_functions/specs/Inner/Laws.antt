@@ -5,7 +5,7 @@ use Rattle.wi_values.specs.declared.value.Value.TheVariants.{Empty}
 use Rattle.wi_matching.specs.declared.criterion.Criterion.{Criterion}
 use Rattle.wi_matching.specs.Inner.Meeting.{is_met}
 use Rattle.wi_matching.proofs.Meeting.{empty_meets_none}
-use Rattle.wi_criteria_functions.specs.Inner.Counts.{counted}
+use Rattle.wi_scalar_functions.specs.Inner.Counts.{counted}
 
 -- Empty is not counted
 pub empty_not_counted : (c : Criterion) (n : ℕ) → counted (is_met c Empty) n ≡ n

@@ -1,5 +1,4 @@
 -- A count goes no higher than it fits: no number is so great.
-pub mod Laws
 use Rattle.std.specs.Prelude.{◌≡◌, ℕ, ◌+◌, ◌-◌, ◌^◌, Bool, min, if◌then◌else◌}
 
 -- a count with one more, or none

@@ -2,13 +2,13 @@
 
 ghost use Rattle.std.specs.Prelude.{◌≡◌};
 ghost use Rattle.wi_standard_functions.specs.Arithmetic.{whole_number, whole_value};
-ghost use Rattle.wi_fold_functions.specs.Inner.Made.{counted};
+ghost use Rattle.wi_scalar_functions.specs.Inner.Counts.{counted};
 
 use wi_fraction::Fraction;
 use wi_values::{ErrorKind, Value};
 
 /// A count with one more, where it counts. It goes no higher than it fits: no number is so great.
-pub(crate) fn counted(count: u128, counts: bool) -> u128
+pub fn counted(count: u128, counts: bool) -> u128
     ensures { result ≡ counted counts count }
 {
     if counts {
@@ -18,8 +18,8 @@ pub(crate) fn counted(count: u128, counts: bool) -> u128
     }
 }
 
-/// A count as a value, or `BadNumber` where it doesn't fit.
-pub(crate) fn whole_value(count: u128) -> Value
+/// A count, or a place, as a value, or `BadNumber` where it doesn't fit.
+pub fn whole_value(count: u128) -> Value
     ensures { result ≡ whole_value count }
 {
     match whole_number(count) {
@@ -29,8 +29,8 @@ pub(crate) fn whole_value(count: u128) -> Value
 }
 
 /// A count as a number, or `BadNumber` where it doesn't fit.
-#[tactic(auto, using(crate::proofs::Counting::too_many))]
-pub(crate) fn whole_number(count: u128) -> Result<Fraction, ErrorKind>
+#[tactic(auto, using(crate::proofs::Counts::too_many))]
+pub fn whole_number(count: u128) -> Result<Fraction, ErrorKind>
     ensures { result ≡ whole_number count }
 {
     let Ok(whole) = i128::try_from(count) else {
