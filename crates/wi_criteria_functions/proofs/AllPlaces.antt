@@ -14,13 +14,14 @@ use Rattle.wi_standard_functions.specs.Arithmetic.{addition}
 use Rattle.wi_standard_functions.specs.Convert.{zero_number, one_number}
 use Rattle.wi_standard_functions.specs.Information.{is_empty_value}
 use Rattle.wi_standard_functions.specs.Steps.{and_then}
-use Rattle.wi_values.proofs.Within.{within_between}
+use Rattle.wi_values.proofs.Within.{places_left, within_between}
 use Rattle.wi_lookup.specs.declared.stop.Stop.TheVariants.{Missing}
 use Rattle.wi_lookup.specs.Arguments.{KnownAgrees}
 use Rattle.wi_lookup.specs.Filled.{ComesBefore, IsNextFilled, is_known_empty}
 use Rattle.wi_lookup.specs.Walk.{after_cells}
+use Rattle.wi_lookup.proofs.Given.{known_is}
 use Rattle.wi_lookup.proofs.Walking as walk
-use Rattle.wi_lookup.proofs.Walking.{cells_left}
+use Rattle.wi_lookup.proofs.Walking.{first_of}
 use Rattle.wi_lookup.proofs.RowMajor.{is_less}
 use Rattle.wi_criteria_functions.specs.declared.ending.Ending.{Ending}
 use Rattle.wi_criteria_functions.specs.declared.ending.Ending.TheVariants.{Error, Stopped}
@@ -29,12 +30,8 @@ use Rattle.wi_criteria_functions.specs.Inner.Places.{ComesAfter, IsNextPlace}
 use Rattle.wi_criteria_functions.specs.Inner.Products.{product_there, sum_through, with_factor, with_place, IsMissingInAny}
 use Rattle.wi_criteria_functions.specs.Inner.Sums.{same_extent, same_place}
 use Rattle.wi_criteria_functions.proofs.Extents.{same_place_inside}
-use Rattle.wi_criteria_functions.proofs.InOrder.{all_at, within_found}
+use Rattle.wi_criteria_functions.proofs.InOrder.{all_at}
 use Rattle.wi_criteria_functions.proofs.Zeros.{added_zero, multiplied_zero}
-
-value_there : (o : Option Value) (v w : Value) → IfSome o (λ u. u ≡ w) → Some v ≡ o → v ≡ w
-value_there None v w h e = cc
-value_there (Some u) v w h e = let same : u ≡ v = cc in sym same ∙ h
 
 pub any_at : {X : Type 0} (p : X → Bool) (xs : List X) (i : ℕ) (x : X) → i < length xs → x ≡ get_or xs i x → p x ≡ true → list_any p xs ≡ true
 any_at p [] i x l e h = absurd (omega (arith, l))
@@ -66,7 +63,7 @@ module _ (known : ℕ → Option Value) (r : Area) (rs : List Area) (c : ℕ) wh
   taken : (product : numbers.Number) (i : ℕ) (s : Area) (other : ℕ) (v : Value) → i < length rs → s ≡ get_or rs i s → Some v ≡ known other → other ≡ same_place r s c → Left product (drop i rs) →
       (cells : ℕ → Value) → KnownAgrees known cells → fold (times cells) (with_factor product v) (drop (i + 1) rs) ≡ product_there cells r rs c
   taken product i s other v l is k e h cells a =
-      ap (λ (w : Value). fold (times cells) (with_factor product w) (drop (i + 1) rs)) (value_there (known other) v (cells other) (a other) k ∙ ap cells e)
+      ap (λ (w : Value). fold (times cells) (with_factor product w) (drop (i + 1) rs)) (known_is (known other) v (cells other) (a other) k ∙ ap cells e)
       ∙ ap (λ (t : Area). fold (times cells) (Ok product) (t ∷ drop (i + 1) rs)) is
       ∙ ap (fold (times cells) (Ok product)) (sym (drop_more rs i s l))
       ∙ h cells a
@@ -209,7 +206,7 @@ module _ (known : ℕ → Option Value) (r : Area) (all : List Area) where
 
   pub begins : (sum : numbers.Number) (found : Option ℕ) → sum ≡ zero_number → IsNextPlace known r all None found → Rest sum found
   begins sum found z h = subst (λ (x : numbers.Number). Rest x found) (sym z) record {
-    inside = within_found (λ c. is_within r c ≡ true) (λ c. ComesAfter None c) found h.inside;
+    inside = first_of (λ c. is_within r c ≡ true) (λ c. ComesAfter None c) found h.inside;
     whole = λ cells l.
         let first = walk.begins (after cells) (passes cells) (passed_over found) r (Ok zero_number) r.first found refl (found_first found h.inside) in
         (first.0, λ others e. first.1 others (passed_agrees cells l found h others e));
@@ -220,13 +217,13 @@ module _ (known : ℕ → Option Value) (r : Area) (all : List Area) where
   IsSum o = Agrees known (IsMissingInAny known all) (λ (x : numbers.Number). x) (λ cells. sum_through cells r all) o
 
   -- and each place comes after the one before
-  pub fewer_left : (sum : numbers.Number) (ahead : Option ℕ) (c : ℕ) (found : Option ℕ) → Rest sum ahead → ahead ≡ Some c → IsNextPlace known r all (Some c) found → cells_left r found < cells_left r ahead
-  fewer_left sum ahead c found h a n = subst (λ (o : Option ℕ). cells_left r found < cells_left r o) (sym a) (at found n.inside)
+  pub fewer_left : (sum : numbers.Number) (ahead : Option ℕ) (c : ℕ) (found : Option ℕ) → Rest sum ahead → ahead ≡ Some c → IsNextPlace known r all (Some c) found → places_left r found < places_left r ahead
+  fewer_left sum ahead c found h a n = subst (λ (o : Option ℕ). places_left r found < places_left r o) (sym a) (at found n.inside)
     where
       last : c ≤ r.last
       last = (within_between r c (subst (λ (o : Option ℕ). IfSome o (λ d. is_within r d ≡ true)) a h.inside)).1
 
-      at : (o : Option ℕ) → IfSome o (λ d. (is_within r d ≡ true) × (c < d)) → cells_left r o < cells_left r (Some c)
+      at : (o : Option ℕ) → IfSome o (λ d. (is_within r d ≡ true) × (c < d)) → places_left r o < places_left r (Some c)
       at None i = omega (arith, last)
       at (Some d) i = omega (arith, last, (within_between r d i.0).1, i.1)
 
@@ -246,7 +243,7 @@ module _ (known : ℕ → Option Value) (r : Area) (all : List Area) where
 
     pub goes_on_place : (sum more product : numbers.Number) (ahead : Option ℕ) (c : ℕ) (found : Option ℕ) → Rest sum ahead → ahead ≡ Some c → IsProduct known r all c (Ok product) → Ok more ≡ addition sum product → IsNextPlace known r all (Some c) found → Rest more found
     goes_on_place sum more product ahead c found h a p m n = record {
-      inside = within_found (λ d. is_within r d ≡ true) (λ d. c < d) found n.inside;
+      inside = first_of (λ d. is_within r d ≡ true) (λ d. c < d) found n.inside;
       whole = λ cells l. walk.goes_on (after cells) (passes cells) (all_known cells) r (Ok zero_number) (Ok sum) (Ok more) ahead c (shown cells c) found (h.whole cells l) a refl
           (m ∙ ap (and_then (addition sum)) (sym (p cells l)) ∙ sym (after_place cells (Ok sum) c))
           (record { inside = n.inside; empty_between = λ b w k j. ap (λ (v : Value). is_known_empty (Some v)) (shown_empty cells l b (n.empty_between b w k j)) });

@@ -8,12 +8,12 @@ use Rattle.wi_values.specs.declared.value.Value.{Value}
 use Rattle.wi_standard_functions.specs.Arguments.{Argument, Region, region_at, value_at}
 use Rattle.wi_standard_functions.specs.Arithmetic.{whole_value}
 use Rattle.wi_standard_functions.specs.Criterion as defined
-use Rattle.wi_standard_functions.specs.Criterion.{criterion_of, meets_criterion}
+use Rattle.wi_standard_functions.specs.Criterion.{meets_criterion}
 use Rattle.wi_standard_functions.specs.FirstError.{no_error}
 use Rattle.wi_standard_functions.specs.Information.{count_if_value}
-use Rattle.wi_standard_functions.specs.Steps.{◌>>=◌, and_then}
+use Rattle.wi_standard_functions.specs.Steps.{◌>>=◌}
 use Rattle.wi_lookup.specs.declared.argument.Argument as given
-use Rattle.wi_lookup.specs.Arguments.{arguments_in, KnownAgrees}
+use Rattle.wi_lookup.specs.Arguments.{arguments_in, KnownAgrees, region_in}
 use Rattle.wi_lookup.specs.Walk.{after_cells}
 use Rattle.wi_scalar_functions.specs.Inner.Counts.{counted, IsCut}
 use Rattle.wi_scalar_functions.proofs.Counts.{cut_counted, cut_value}
@@ -22,8 +22,8 @@ use Rattle.wi_matching.specs.Inner.Meeting.{criterion_held, is_met}
 use Rattle.wi_criteria_functions.specs.declared.counting.Counting.{Counting}
 use Rattle.wi_criteria_functions.specs.declared.ending.Ending.{Ending}
 use Rattle.wi_criteria_functions.specs.declared.ending.Ending.TheVariants.{Error, Stopped}
-use Rattle.wi_criteria_functions.specs.Inner.Giving.{region_in, criterion_argument, Gives}
-use Rattle.wi_criteria_functions.proofs.Referring.{IsCriterionAt}
+use Rattle.wi_criteria_functions.specs.Inner.Giving.{criterion_argument, Gives}
+use Rattle.wi_criteria_functions.proofs.Referring.{IsCriterionAt, by_criterion}
 
 -- ---- the count of a walk
 
@@ -49,10 +49,6 @@ all_counted cells s t xs e z =
 -- COUNTIF by its steps
 abbrev pub count_by_steps : Result Region ErrorKind → Result defined.Criterion ErrorKind → Value
 count_by_steps o q = o >>= (λ r. q >>= (λ (d : defined.Criterion). whole_value (count_by (λ v. d.relation d.operand v) r.values)))
-
-by_criterion : (p : Result Value ErrorKind) (k : defined.Criterion → Value) → (p >>= (λ w. k (criterion_of w))) ≡ (and_then (λ w. Ok (criterion_of w)) p >>= k)
-by_criterion (Ok w) k = refl
-by_criterion (Err e) k = refl
 
 by_steps : (args : List Argument) (o : Result Region ErrorKind) (q : Result defined.Criterion ErrorKind) → region_at args 0 ≡ o → criterion_argument (value_at args 1) ≡ q → count_if_value args ≡ count_by_steps o q
 by_steps args o q h k = ap (λ (p : Result Region ErrorKind). p >>= (λ r. no_error (value_at args 1) >>= (λ w. whole_value (count_by (meets_criterion w) r.values)))) h ∙ at o

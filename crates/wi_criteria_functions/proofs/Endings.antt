@@ -1,17 +1,16 @@
 -- How a function ends.
-use Rattle.std.proofs.Common.{◌≡◌, ℕ, true, List, Option, Some, None, IfSome, refl, sym, subst}
-use Rattle.std.specs.Prelude.{Result, Ok, Err, IfOk, IfErr, unwrap_or}
+use Rattle.std.proofs.Common.{◌≡◌, ℕ, true, List, Option, None, sym, subst}
+use Rattle.std.specs.Prelude.{Result, Ok, Err, IfOk, IfErr}
 use Rattle.wi_values.specs.Address.{Area, is_within}
 use Rattle.wi_values.specs.declared.value.Value.{Value}
-use Rattle.wi_values.specs.declared.value.Value.TheVariants.{Empty}
 use Rattle.wi_standard_functions.specs.Arguments.{Argument}
 use Rattle.wi_lookup.specs.declared.argument.Argument as given
 use Rattle.wi_lookup.specs.declared.stop.Stop.{Stop}
 use Rattle.wi_lookup.specs.declared.stop.Stop.TheVariants.{Missing}
-use Rattle.wi_lookup.specs.Arguments.{KnownAgrees, IsOfArguments, IsMissing, IfMissing}
+use Rattle.wi_lookup.specs.Arguments.{IsOfArguments, IsMissing, IfMissing, IsReferred}
 use Rattle.wi_criteria_functions.specs.declared.ending.Ending.{Ending}
 use Rattle.wi_criteria_functions.specs.declared.ending.Ending.TheVariants.{Error, Stopped}
-use Rattle.wi_criteria_functions.specs.Inner.Giving.{settled, Gives, IsReferred}
+use Rattle.wi_criteria_functions.specs.Inner.Giving.{settled, Gives}
 
 pub settled_done : (known : ℕ → Option Value) (f : List Argument → Value) (args : List given.Argument) (o : Result Value Ending) (r : Result Value Stop) → r ≡ settled o → Gives known f args o → IfOk r (IsOfArguments known f args)
 settled_done known f args o r e h = subst (λ (s : Result Value Stop). IfOk s (IsOfArguments known f args)) (sym e) (at o h)
@@ -32,15 +31,3 @@ settled_missing known f args o r e h = subst (λ (p : Result Value Stop). IfErr 
 -- a cell of a rectangle that an argument refers to is missing
 pub stopped_inside : (known : ℕ → Option Value) (f : List Argument → Value) (args : List given.Argument) (r : Area) (c : ℕ) (x : Ending) → x ≡ Stopped (Missing c) → IsReferred args r → known c ≡ None → is_within r c ≡ true → Gives known f args (Err x)
 stopped_inside known f args r c x e h k w = subst (λ (y : Ending). Gives known f args (Err y)) (sym e) (k, h c w)
-
--- what is known agrees with some values
-pub taken_for_known : (ℕ → Option Value) → ℕ → Value
-taken_for_known known c = unwrap_or (known c) Empty
-
-pub known_agrees : (known : ℕ → Option Value) → KnownAgrees known (taken_for_known known)
-unfolding taken_for_known
-known_agrees known c = at (known c)
-  where
-    at : (o : Option Value) → IfSome o (λ v. v ≡ unwrap_or o Empty)
-    at None = tt
-    at (Some v) = refl

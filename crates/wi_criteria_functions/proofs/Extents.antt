@@ -1,19 +1,11 @@
 -- Rectangles of one size, cell by cell.
-use Rattle.std.proofs.Common.{◌≡◌, ℕ, zero, suc, ◌<◌, ◌≤◌, ◌-◌, ◌+◌, ◌==◌, true, ◌&&◌, List, ◌∷◌, ◌++◌, map, refl, sym, ap, ◌∙◌, arith}
-use Rattle.std.specs.Prelude.{nat_le}
-use Rattle.std.specs.List.{range_with_len, flat_map}
+use Rattle.std.proofs.Common.{◌≡◌, ℕ, zero, suc, ◌<◌, ◌≤◌, ◌-◌, ◌+◌, ◌==◌, true, List, ◌∷◌, ◌++◌, map, refl, sym, ap, ◌∙◌, arith}
 use Rattle.std.proofs.lemmas.Bool.{and_parts, and_from, eqb-true}
-use Rattle.std.proofs.lemmas.Bool.Decides.{nat_tests}
 use Rattle.std.proofs.lemmas.List.{map-append}
 use Rattle.std.proofs.Math.Nat.{mod-lt}
 use Rattle.wi_values.specs.Address.{Area, is_within, cells_of, place, row_of, column_of}
+use Rattle.wi_lookup.proofs.RowMajor.{at_most_is, block, run, within_parts}
 use Rattle.wi_criteria_functions.specs.Inner.Sums.{same_extent, same_place}
-
-at_most_is : (x y : ℕ) → x ≤ y → nat_le x y ≡ true
-at_most_is x y h = grind (arith, nat_tests)
-
-is_at_most : (x y : ℕ) → nat_le x y ≡ true → x ≤ y
-is_at_most x y h = grind (arith, nat_tests)
 
 -- where a cell of a rectangle stands
 pub record StandsIn (r : Area) (c : ℕ) : Type 0 where
@@ -23,11 +15,7 @@ pub record StandsIn (r : Area) (c : ℕ) : Type 0 where
   pub right : column_of c ≤ column_of r.last
 
 stands_in : (r : Area) (c : ℕ) → is_within r c ≡ true → StandsIn r c
-stands_in r c h =
-    let p = and_parts (nat_le (row_of r.first) (row_of c) && nat_le (row_of c) (row_of r.last)) (nat_le (column_of r.first) (column_of c) && nat_le (column_of c) (column_of r.last)) h in
-    let q = and_parts (nat_le (row_of r.first) (row_of c)) (nat_le (row_of c) (row_of r.last)) p.0 in
-    let s = and_parts (nat_le (column_of r.first) (column_of c)) (nat_le (column_of c) (column_of r.last)) p.1 in
-    record { top = is_at_most _ _ q.0; bottom = is_at_most _ _ q.1; left = is_at_most _ _ s.0; right = is_at_most _ _ s.1 }
+stands_in r c h = let p = within_parts r c h in record { top = p.0; bottom = p.1; left = p.2; right = p.3 }
 
 -- the two have so many rows and columns
 pub record SameExtent (r s : Area) : Type 0 where
@@ -61,12 +49,6 @@ same_place_inside r s c h k =
     rw (row_is, column_is) (and_from _ _ (and_from _ _ (at_most_is _ _ (omega arith)) (at_most_is _ _ p.bottom)) (and_from _ _ (at_most_is _ _ (omega arith)) (at_most_is _ _ p.right)))
 
 -- ---- one row, and rows
-
-abbrev run : ℕ → ℕ → ℕ → List ℕ
-run row a n = map (place row) (range_with_len a n)
-
-abbrev block : ℕ → ℕ → ℕ → ℕ → List ℕ
-block row h a n = flat_map (λ i. run i a n) (range_with_len row h)
 
 -- the same rows and columns, counted from the corners of each
 module _ (r s : Area) where

@@ -104,10 +104,6 @@ module _ (known : ℕ → Option Value) (r s : Area) (k : same_extent r s ≡ tr
 
 -- ---- of several
 
-pub within_found : (P Q : ℕ → Type 0) (o : Option ℕ) → IfSome o (λ c. P c × Q c) → IfSome o P
-within_found P Q None h = tt
-within_found P Q (Some c) h = h.0
-
 least_is : (x y : ℕ) → x ≤ y → min x y ≡ x
 least_is x y h = omega (arith, h)
 

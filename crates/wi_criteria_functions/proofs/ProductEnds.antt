@@ -20,20 +20,17 @@ use Rattle.wi_standard_functions.specs.Sequence.{Item, scalar, number_of_item, w
 use Rattle.wi_standard_functions.specs.Steps.{◌>>=◌, and_then, map_until_error}
 use Rattle.wi_lookup.specs.declared.argument.Argument as given
 use Rattle.wi_lookup.specs.declared.stop.Stop.TheVariants.{Missing, Memory}
-use Rattle.wi_lookup.specs.Arguments.{arguments_in, refers_to}
+use Rattle.wi_lookup.specs.Arguments.{arguments_in, refers_to, area_referred}
 use Rattle.wi_criteria_functions.specs.declared.ending.Ending.{Ending}
 use Rattle.wi_criteria_functions.specs.declared.ending.Ending.TheVariants.{Error, Stopped}
-use Rattle.wi_criteria_functions.specs.Inner.Giving.{area_referred, Agrees, Gives}
+use Rattle.wi_criteria_functions.specs.Inner.Giving.{Agrees, Gives}
 use Rattle.wi_criteria_functions.specs.Inner.Products.{areas_of, product_there, sum_over, sum_through, with_factor, with_place, IsAreaError, IsMissingInAny}
 use Rattle.wi_criteria_functions.specs.Inner.Sums.{same_extent, same_place}
 use Rattle.wi_criteria_functions.proofs.Extents.{cells_moved}
 use Rattle.wi_criteria_functions.proofs.InOrder.{equal_is}
+use Rattle.wi_criteria_functions.proofs.Sums.{added}
 
 -- ---- the sum over all places is the sum of the products
-
--- a sum with one more item, or the error met before
-abbrev added : Result numbers.Number ErrorKind → Item → Result numbers.Number ErrorKind
-added before item = and_then (λ x. and_then (with_number addition x) (number_of_item item)) before
 
 -- a product with one more item
 abbrev multiplied : Result numbers.Number ErrorKind → Item → Result numbers.Number ErrorKind

@@ -12,32 +12,31 @@ use Rattle.wi_standard_functions.specs.Arguments.{Argument, Region, region_of, r
 use Rattle.wi_standard_functions.specs.Arithmetic.{addition}
 use Rattle.wi_standard_functions.specs.Convert.{zero_number}
 use Rattle.wi_standard_functions.specs.Criterion as defined
-use Rattle.wi_standard_functions.specs.Criterion.{criterion_of}
 use Rattle.wi_standard_functions.specs.FirstError.{no_error}
 use Rattle.wi_standard_functions.specs.Mathematical.{same_size, chosen_cells, sum_of_items, sum_if_value}
 use Rattle.wi_standard_functions.specs.Sequence.{Item, from_cell, number_of_item, with_number}
 use Rattle.wi_standard_functions.specs.Steps.{◌>>=◌, and_then}
 use Rattle.wi_lookup.specs.declared.argument.Argument as given
 use Rattle.wi_lookup.specs.declared.stop.Stop.TheVariants.{Missing, Memory}
-use Rattle.wi_lookup.specs.Arguments.{arguments_in, refers_to, KnownAgrees}
+use Rattle.wi_lookup.specs.Arguments.{arguments_in, refers_to, KnownAgrees, region_in, IsReferred}
 use Rattle.wi_lookup.specs.Filled.{IsNextFilled}
 use Rattle.wi_lookup.specs.Walk.{after_cells, IsNextAfter}
+use Rattle.wi_lookup.proofs.Given.{known_agrees, known_is, taken_for_known}
 use Rattle.wi_lookup.proofs.Walking as walk
 use Rattle.wi_matching.specs.declared.criterion.Criterion.{Criterion}
 use Rattle.wi_matching.specs.Inner.Meeting.{criterion_held, is_met}
 use Rattle.wi_matching.proofs.Meeting.{empty_meets_none}
 use Rattle.wi_criteria_functions.specs.declared.ending.Ending.{Ending}
 use Rattle.wi_criteria_functions.specs.declared.ending.Ending.TheVariants.{Error, Stopped}
-use Rattle.wi_criteria_functions.specs.Inner.Giving.{region_in, criterion_argument, Agrees, Gives, IsReferred}
+use Rattle.wi_criteria_functions.specs.Inner.Giving.{criterion_argument, Agrees, Gives}
 use Rattle.wi_criteria_functions.specs.Inner.Sums.{same_extent, same_place, values_where, with_cell, with_met, IsMissingIn}
-use Rattle.wi_criteria_functions.proofs.Endings.{taken_for_known, known_agrees}
 use Rattle.wi_criteria_functions.proofs.Extents.{cells_moved, same_place_inside}
-use Rattle.wi_criteria_functions.proofs.Referring.{IsCriterionAt}
+use Rattle.wi_criteria_functions.proofs.Referring.{IsCriterionAt, by_criterion}
 
 -- ---- the walk adds the items
 
 -- a sum with one more item, or the error met before
-abbrev added : Result numbers.Number ErrorKind → Item → Result numbers.Number ErrorKind
+abbrev pub added : Result numbers.Number ErrorKind → Item → Result numbers.Number ErrorKind
 added before item = and_then (λ x. and_then (with_number addition x) (number_of_item item)) before
 
 as_items : (criterion : Criterion) (other : ℕ → ℕ) (cells : ℕ → Value) (t : Result numbers.Number ErrorKind) (xs : List ℕ) →
@@ -52,16 +51,12 @@ as_items criterion other cells t (x ∷ xs) = at (is_met criterion (cells x)) (�
 
 -- ---- one cell
 
-value_there : (o : Option Value) (v w : Value) → IfSome o (λ u. u ≡ w) → Some v ≡ o → v ≡ w
-value_there None v w h e = cc
-value_there (Some u) v w h e = let same : u ≡ v = cc in sym same ∙ h
-
 -- the cell that stands beside one whose value meets the criterion is added
 pub adds_met : (known : ℕ → Option Value) (criterion : Criterion) (v : Value) (sum : numbers.Number) (other : ℕ) (w : Value) (o : Result numbers.Number ErrorKind) → is_met criterion v ≡ true → Some w ≡ known other → o ≡ with_cell (Ok sum) w →
     (cells : ℕ → Value) → KnownAgrees known cells → (if is_met criterion v then with_cell (Ok sum) (cells other) else Ok sum) ≡ o
 adds_met known criterion v sum other w o m k e cells agrees =
     ap (λ (b : Bool). if b then with_cell (Ok sum) (cells other) else Ok sum) m
-    ∙ ap (λ (u : Value). with_cell (Ok sum) u) (sym (value_there (known other) w (cells other) (agrees other) k))
+    ∙ ap (λ (u : Value). with_cell (Ok sum) u) (sym (known_is (known other) w (cells other) (agrees other) k))
     ∙ sym e
 
 -- and any other isn't
@@ -156,10 +151,6 @@ module _ (known : ℕ → Option Value) (criterion : Criterion) (r s : Area) whe
 -- the end of SUMIF, given both regions and the criterion
 abbrev pub summed : defined.Criterion → Region → Region → Value
 summed d r s = (if same_size r s then Ok (values_where (λ v. d.relation d.operand v) r.values s.values) else Err BadValue) >>= (λ items. sum_of_items items >>= (λ x. Number x))
-
-by_criterion : (p : Result Value ErrorKind) (k : defined.Criterion → Value) → (p >>= (λ w. k (criterion_of w))) ≡ (and_then (λ w. Ok (criterion_of w)) p >>= k)
-by_criterion (Ok w) k = refl
-by_criterion (Err e) k = refl
 
 -- SUMIF from its first region on
 abbrev from_region : List Argument → Region → Value

@@ -1,38 +1,25 @@
 -- What zero does to a sum and to a product.
 use Rattle.std.proofs.Common.{◌≡◌, ℕ, ◌≤◌, Some, refl, sym, ap, ◌∙◌, arith}
-use Rattle.std.specs.Prelude.{ℤ, pos, negsuc, ◌*◌, ◌/◌, ◌*ℤ◌, ◌+ℤ◌, int_lt, unsigned_abs, Ok}
+use Rattle.std.specs.Prelude.{ℤ, pos, negsuc, ◌*◌, ◌/◌, ◌*ℤ◌, ◌+ℤ◌, unsigned_abs, Ok}
 use Rattle.std.proofs.lemmas.Bool.Decides.{nat_tests}
 use Rattle.std.proofs.lemmas.Int.{ints}
 use Rattle.std.proofs.Math.Nat.{div-one, div_self, mul-one}
 use Rattle.wi_fraction.specs.Arithmetic.{bounded, int_bounded}
 use Rattle.wi_fraction.specs.Gcd.{gcd}
 use Rattle.wi_fraction.specs.Number as numbers
-use Rattle.wi_fraction.specs.Number.{number_of, number_at, max_size}
-use Rattle.wi_fraction.specs.Number.Laws.{number_at-some}
+use Rattle.wi_fraction.specs.Number.{number_of, max_size}
 use Rattle.wi_fraction.specs.Gcd.Laws.{gcd-one}
 use Rattle.wi_fraction.proofs.Exponents.{zero_of}
-use Rattle.wi_fraction.proofs.Numbers.{number_of-lowest, zero_number as zero_is}
-use Rattle.wi_fraction.proofs.Steps.{sum_from_steps, signed-abs}
+use Rattle.wi_fraction.proofs.NearWholes.{of_parts}
+use Rattle.wi_fraction.proofs.Reading.{bounded-small}
+use Rattle.wi_fraction.proofs.Numbers.{zero_number as zero_is}
+use Rattle.wi_fraction.proofs.Steps.{sum_from_steps}
+use Rattle.wi_scalar_functions.proofs.Cutting.{times_one}
 use Rattle.wi_standard_functions.specs.Arithmetic.{fitting, addition, multiplication}
 use Rattle.wi_standard_functions.specs.Convert.{zero_number}
 
--- a number is in lowest terms
-of_parts : (x : numbers.Number) → number_of x.num x.den ≡ Some x
-of_parts x =
-    ap (λ (n : ℤ). number_of n x.den) (sym (signed-abs x.num))
-    ∙ number_of-lowest (int_lt x.num (pos 0)) (unsigned_abs x.num) x.den x.is_number.lowest
-    ∙ ap (λ (n : ℤ). number_at n x.den) (signed-abs x.num)
-    ∙ number_at-some x.num x.den x refl refl
-
-bounded_is : (n : ℕ) → n ≤ max_size → Some n ≡ bounded n
-bounded_is n h = grind (arith, nat_tests, h)
-
 int_bounded_is : (z : ℤ) → unsigned_abs z ≤ max_size → Some z ≡ int_bounded z
 int_bounded_is z h = grind (arith, nat_tests, h)
-
-times_one : (z : ℤ) → z *ℤ pos 1 ≡ z
-times_one (pos n) = omega (arith, ints)
-times_one (negsuc n) = omega (arith, ints)
 
 times_zero : (z : ℤ) → z *ℤ pos 0 ≡ pos 0
 times_zero (pos n) = omega (arith, ints)
@@ -52,7 +39,7 @@ added_zero x =
     let first : x.num *ℤ pos (x.den / x.den) ≡ x.num = ap (λ (k : ℕ). x.num *ℤ pos k) (div_self x.is_number.above_zero) ∙ times_one x.num in
     let second : pos 0 *ℤ pos (x.den / 1) ≡ pos 0 = zero_times (x.den / 1) in
     sym (ap fitting (sum_from_steps x zero_number x.den x.num (pos 0) x.num (Some x)
-    (bounded_is x.den x.is_number.den_fits ∙ ap bounded (sym multiple))
+    (bounded-small x.den x.is_number.den_fits ∙ ap bounded (sym multiple))
     (int_bounded_is x.num x.is_number.num_fits ∙ ap int_bounded (sym first))
     (int_bounded_is (pos 0) (omega arith) ∙ ap int_bounded (sym second))
     (int_bounded_is x.num x.is_number.num_fits ∙ ap int_bounded (sym (plus_zero x.num)))

@@ -3,10 +3,10 @@
 ghost use Rattle.std.specs.Prelude.{◌≡◌, ◌∷◌, [], ℕ, IfOk, slice_get};
 ghost use Rattle.std.specs.Option.{option_copied};
 ghost use Rattle.wi_values.specs.declared.value.Value.{Value as Values};
-ghost use Rattle.wi_standard_functions.specs.Arguments.{region_at, region_or, value_at};
-ghost use Rattle.wi_lookup.specs.Arguments.{argument_in, arguments_in, IsMissing};
+ghost use Rattle.wi_standard_functions.specs.Arguments.{region_or, value_at};
+ghost use Rattle.wi_lookup.specs.Arguments.{argument_in, arguments_in, region_in, IsMissing, IsReferred};
 ghost use Rattle.wi_matching.specs.Inner.Meeting.{criterion_held};
-ghost use Rattle.wi_criteria_functions.specs.Inner.Giving.{area_referred, criterion_argument, region_in, Agrees, IsCriterionOf, IsReferred};
+ghost use Rattle.wi_criteria_functions.specs.Inner.Giving.{criterion_argument, Agrees, IsCriterionOf};
 
 use crate::ending::Ending;
 use std::alloc::Global;
@@ -15,18 +15,7 @@ use wi_matching::Criterion;
 use wi_scalar_functions::no_error;
 use wi_values::{ErrorKind, Rect, Value};
 
-/// The rectangle that the argument at a place refers to, counted from 0.
-pub(crate) fn area_at(arguments: &[Argument], place: usize) -> Result<Rect, ErrorKind>
-    ensures region { (cells : ℕ → Values) → region_at (arguments_in cells arguments.now) place ≡ region_in cells result }
-    ensures referred { IfOk result (IsReferred arguments.now) }
-{
-    match argument_at(arguments, place) {
-        Some(argument) => area_referred(argument),
-        None => Err(ErrorKind::BadValue),
-    }
-}
-
-/// The same, or the default where there is no such argument.
+/// The rectangle that the argument at a place refers to, counted from 0, or the default where there is no such argument.
 pub(crate) fn area_or(
     default: Rect,
     arguments: &[Argument],
@@ -37,7 +26,7 @@ pub(crate) fn area_or(
     ensures referred { IfOk result (IsReferred arguments.now) }
 {
     match argument_at(arguments, place) {
-        Some(argument) => area_referred(argument),
+        Some(argument) => argument.area(),
         None => Ok(default),
     }
 }
@@ -77,16 +66,6 @@ fn criterion_of(alloc: Global, value: &Value) -> Result<Criterion, Ending>
     no_error(value)?;
     let criterion = Criterion::of(alloc, value)?;
     Ok(criterion)
-}
-
-/// The rectangle that an argument refers to.
-pub(crate) fn area_referred(argument: &Argument) -> Result<Rect, ErrorKind>
-    ensures { result ≡ area_referred argument.now }
-{
-    match argument {
-        Argument::Reference(area) => Ok(*area),
-        Argument::Value(_) => Err(ErrorKind::BadValue),
-    }
 }
 
 /// The argument at a place, where there is one.

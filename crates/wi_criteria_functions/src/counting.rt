@@ -11,11 +11,11 @@ ghost use Rattle.wi_scalar_functions.specs.Inner.Counts.{counted, IsCut};
 ghost use Rattle.wi_criteria_functions.specs.Inner.Laws.{empty_not_counted};
 ghost use Rattle.wi_criteria_functions.specs.Inner.Giving.{Gives};
 
-use crate::arguments::{area_at, criterion_at};
+use crate::arguments::criterion_at;
 use crate::ending::{Ending, settled};
 use std::alloc::Global;
 use std::ops::ControlFlow;
-use wi_lookup::{Argument, Lookup, Stop, TakesCells, take_cells};
+use wi_lookup::{Argument, Lookup, Stop, TakesCells, area_at, take_cells};
 use wi_matching::Criterion;
 use wi_scalar_functions::{counted, whole_value};
 use wi_values::{Address, Rect, Value};

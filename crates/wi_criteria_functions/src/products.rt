@@ -10,7 +10,6 @@ ghost use Rattle.wi_criteria_functions.specs.Inner.Giving.{Agrees, Gives};
 ghost use Rattle.wi_criteria_functions.specs.Inner.Products.{areas_of, product_there, sum_over, sum_through, with_factor, IsAreaError, IsMissingInAny};
 ghost use Rattle.wi_criteria_functions.specs.Inner.Sums.{same_extent};
 
-use crate::arguments::area_referred;
 use crate::cells::value_of;
 use crate::ending::{Ending, settled};
 use crate::extent::same_place;
@@ -55,7 +54,7 @@ fn areas_of(alloc: Global, arguments: &[Argument]) -> Result<Vec<Rect>, Ending>
 {
     let mut areas = Vec::new(alloc);
     for argument in arguments {
-        areas.push(area_referred(argument)?)?;
+        areas.push(argument.area()?)?;
     }
     Ok(areas)
 }

@@ -10,13 +10,13 @@ ghost use Rattle.wi_matching.specs.Inner.Meeting.{is_met};
 ghost use Rattle.wi_criteria_functions.specs.Inner.Giving.{Agrees, Gives};
 ghost use Rattle.wi_criteria_functions.specs.Inner.Sums.{same_extent, same_place, values_where, with_cell, with_met, IsMissingIn};
 
-use crate::arguments::{area_at, area_or, criterion_at};
+use crate::arguments::{area_or, criterion_at};
 use crate::cells::{next_after, value_of};
 use crate::ending::{Ending, settled};
 use crate::extent::{same_extent, same_place};
 use std::alloc::Global;
 use wi_fraction::Fraction;
-use wi_lookup::{Argument, Lookup, Stop};
+use wi_lookup::{Argument, Lookup, Stop, area_at};
 use wi_matching::Criterion;
 use wi_scalar_functions::{add, zero};
 use wi_values::{Address, ErrorKind, Rect, Value};

@@ -1,3 +1,4 @@
+pub mod Given
 pub mod Passing
 pub mod RowMajor
 pub mod Walking

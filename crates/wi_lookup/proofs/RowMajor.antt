@@ -82,7 +82,7 @@ itself c = ap (λ (b : Bool). cond b (c ∷ []) []) (at_most_is c c (omega arith
 
 -- ---- one row
 
-abbrev run : ℕ → ℕ → ℕ → List ℕ
+abbrev pub run : ℕ → ℕ → ℕ → List ℕ
 run row a n = map (place row) (range_with_len a n)
 
 run_below : (c row a n : ℕ) → place row (a + n) ≤ c → AllByRecursion (λ z. z < c) (run row a n)
@@ -105,7 +105,7 @@ run_splits c row a (suc n) h k = at (nat_lt (place row a) c) refl (λ l. run_spl
 
 -- ---- rows
 
-abbrev block : ℕ → ℕ → ℕ → ℕ → List ℕ
+abbrev pub block : ℕ → ℕ → ℕ → ℕ → List ℕ
 block row h a n = flat_map (λ i. run i a n) (range_with_len row h)
 
 block_above : (c row h a n : ℕ) → c < place row a → AllByRecursion (λ z. c < z) (block row h a n)
@@ -124,7 +124,7 @@ block_splits c at_row row (suc h) a n l m w p q = at (nat_lt row at_row) refl (�
 
 -- ---- a rectangle
 
-within_parts : (r : Area) (c : ℕ) → is_within r c ≡ true → (row_of r.first ≤ row_of c) × (row_of c ≤ row_of r.last) × (column_of r.first ≤ column_of c) × (column_of c ≤ column_of r.last)
+pub within_parts : (r : Area) (c : ℕ) → is_within r c ≡ true → (row_of r.first ≤ row_of c) × (row_of c ≤ row_of r.last) × (column_of r.first ≤ column_of c) × (column_of c ≤ column_of r.last)
 within_parts r c h =
     let p = and_parts (nat_le (row_of r.first) (row_of c) && nat_le (row_of c) (row_of r.last)) _ h in
     let q = and_parts (nat_le (row_of r.first) (row_of c)) _ p.0 in

@@ -13,16 +13,12 @@ use Rattle.wi_lookup.specs.Assignment.{value_if_known}
 use Rattle.wi_lookup.specs.Filled.{IsNextFilled, ComesBefore, is_known_empty}
 use Rattle.wi_lookup.specs.Walk.{after_cells, to_come, HasTaken, IsNextAfter}
 use Rattle.wi_values.proofs.Within.{within_between}
+use Rattle.wi_lookup.proofs.Given.{known_is}
 use Rattle.wi_lookup.proofs.RowMajor.{cells_inside, from_cell_on, is_below, is_at_most, is_less, at_most_is, not_at_most}
 
 -- ---- what is still to come
 
--- how far a walk over a rectangle has to go
-abbrev pub cells_left : Area → Option ℕ → ℕ
-cells_left r None = 0
-cells_left r (Some a) = (r.last + 1) - a
-
--- the same of one that may begin beyond it
+-- how far a walk over a rectangle has to go, which may begin beyond it
 abbrev pub steps_left : Area → Option ℕ → ℕ
 steps_left r None = 0
 steps_left r (Some a) = ((r.last + 1) - a) + 1
@@ -62,6 +58,10 @@ pub successor_to_come : (r : Area) (c last : ℕ) (next : Option ℕ) → last �
 successor_to_come r c last None e some none =
     sym (none_pass (λ a. nat_le (c + 1) a) (cells_of r) (each (λ a. is_within r a ≡ true) (λ a. nat_le (c + 1) a ≡ false) (λ a w. let l = (within_between r a w).1 in not_at_most (c + 1) a (omega (arith, e, none, l))) (cells_of r) (cells_inside r)))
 successor_to_come r c last (Some d) e some none = ap (λ (n : ℕ). to_come r (Some n)) some.0
+
+pub first_of : (P Q : ℕ → Type 0) (o : Option ℕ) → IfSome o (λ c. P c × Q c) → IfSome o P
+first_of P Q None h = tt
+first_of P Q (Some c) h = h.0
 
 module _ {S : Type 0} (after : S → ℕ → Value → S) where
   -- to which an Empty cell makes no difference
@@ -135,17 +135,13 @@ module _ {S : Type 0} (after : S → ℕ → Value → S) where
       on_from None m = tt
       on_from (Some d) m = λ a n. grind (arith, nat_tests, m, n)
 
-  value_there : (o : Option Value) (v w : Value) → IfSome o (λ u. u ≡ w) → Some v ≡ o → v ≡ w
-  value_there None v w h e = cc
-  value_there (Some u) v w h e = let same : u ≡ v = cc in sym same ∙ h
-
   -- the next cell is taken
   pub moves_on : (passes_empty : PassesEmpty) (known : ℕ → Option Value) (r : Area) (s t : S) (from c : ℕ) (v : Value) → is_within r c ≡ true → from ≤ c → ((a : ℕ) → is_within r a ≡ true → from ≤ a → a < c → is_known_empty (known a) ≡ true) →
       Some v ≡ known c → t ≡ after s c v → HasTaken after known r s (Some from) t (Some (c + 1))
   moves_on passes_empty known r s t from c v w l h k e =
       λ cells agrees.
       ap (λ (xs : List ℕ). after_cells after cells t xs) (filter_agree (λ a. nat_le (c + 1) a) (λ a. nat_lt c a) (next_cell c) (cells_of r))
-      ∙ ap (λ (u : S). after_cells after cells u (filter (λ a. nat_lt c a) (cells_of r))) (e ∙ ap (after s c) (value_there (known c) v (cells c) (agrees c) k))
+      ∙ ap (λ (u : S). after_cells after cells u (filter (λ a. nat_lt c a) (cells_of r))) (e ∙ ap (after s c) (known_is (known c) v (cells c) (agrees c) k))
       ∙ ap (λ (xs : List ℕ). after_cells after cells s xs) (sym (from_cell_on r c w))
       ∙ reaches passes_empty known r s from (Some c) l h cells agrees
     where
@@ -204,10 +200,6 @@ module _ {S : Type 0} (after : S → ℕ → Value → S) where
   all_pass [] = refl
   all_pass (x ∷ xs) = ap (λ (ys : List ℕ). x ∷ ys) (all_pass xs)
 
-  first_of : (P Q : ℕ → Type 0) (o : Option ℕ) → IfSome o (λ c. P c × Q c) → IfSome o P
-  first_of P Q None h = tt
-  first_of P Q (Some c) h = h.0
-
   any_is_reached : (o : Option ℕ) → IfSome o (λ d. (a : ℕ) → d ≤ a → true ≡ true)
   any_is_reached None = tt
   any_is_reached (Some d) = λ a l. refl
@@ -225,7 +217,7 @@ module _ {S : Type 0} (after : S → ℕ → Value → S) where
   taken : (known : ℕ → Option Value) (r : Area) (whole s t : S) (c : ℕ) (v : Value) → Rest known r whole s (Some c) → Some v ≡ known c → t ≡ after s c v →
       (cells : ℕ → Value) → KnownAgrees known cells → after_cells after cells t (filter (λ a. nat_lt c a) (cells_of r)) ≡ after_cells after cells whole (cells_of r)
   taken known r whole s t c v h k e cells agrees =
-      ap (λ (u : S). after_cells after cells u (filter (λ a. nat_lt c a) (cells_of r))) (e ∙ ap (after s c) (value_there (known c) v (cells c) (agrees c) k))
+      ap (λ (u : S). after_cells after cells u (filter (λ a. nat_lt c a) (cells_of r))) (e ∙ ap (after s c) (known_is (known c) v (cells c) (agrees c) k))
       ∙ ap (λ (xs : List ℕ). after_cells after cells s xs) (sym (from_cell_on r c h.0))
       ∙ h.1 cells agrees
 

@@ -2,11 +2,10 @@
 
 ghost use Rattle.std.specs.Prelude.{◌≡◌, ℕ, IfOk, IfErr, [], ◌∷◌};
 ghost use Rattle.wi_values.specs.declared.value.Value.{Value as Values};
-ghost use Rattle.wi_lookup.specs.Arguments.{argument_in, value_lent, KnownAgrees, IfMissing, IsMissing};
+ghost use Rattle.wi_lookup.specs.Arguments.{area_at, area_referred, argument_in, value_lent, KnownAgrees, IsMissing};
 
 use crate::lookup::{LookedUp, Lookup};
-use crate::stop::Stop;
-use wi_values::{ErrorKind, Rect, Value};
+use wi_values::{Address, ErrorKind, Rect, Value};
 
 /// A parameter, as its function is given it.
 #[derive(Drop)]
@@ -17,13 +16,24 @@ pub enum Argument {
 }
 
 impl Argument {
-    /// Its value: of a reference to one cell what that cell holds, and of one to more an error.
+    /// The rectangle that it refers to.
+    pub fn area(&self) -> Result<Rect, ErrorKind>
+        ensures { result ≡ area_referred self.now }
+    {
+        match self {
+            Argument::Reference(area) => Ok(*area),
+            Argument::Value(_) => Err(ErrorKind::BadValue),
+        }
+    }
+
+    /// Its value: of a reference to one cell what that cell holds, and of one to more an error. The cell that is missing is
+    /// told.
     pub fn value<'a, L: Lookup>(
         &'a self,
         lookup: &'a L,
-    ) -> Result<Result<&'a Value, ErrorKind>, Stop>
+    ) -> Result<Result<&'a Value, ErrorKind>, Address>
         ensures done { IfOk result (λ r. (cells : ℕ → Values) → KnownAgrees (L.known_cell lookup.now) cells → value_lent r ≡ (argument_in cells self.now).value) }
-        ensures missing { IfErr result (λ s. IfMissing s (IsMissing (L.known_cell lookup.now) (self.now ∷ []))) }
+        ensures missing { IfErr result (IsMissing (L.known_cell lookup.now) (self.now ∷ [])) }
     {
         match self {
             Argument::Value(value) => Ok(Ok(value)),
@@ -33,9 +43,19 @@ impl Argument {
                 }
                 match lookup.cell(area.first()) {
                     LookedUp::Known(value) => Ok(Ok(value)),
-                    LookedUp::Missing => Err(Stop::Missing(area.first())),
+                    LookedUp::Missing => Err(area.first()),
                 }
             }
         }
+    }
+}
+
+/// The rectangle that the argument at a place refers to, counted from 0.
+pub fn area_at(arguments: &[Argument], place: usize) -> Result<Rect, ErrorKind>
+    ensures { result ≡ area_at arguments.now place }
+{
+    match arguments.get(place) {
+        Some(argument) => argument.area(),
+        None => Err(ErrorKind::BadValue),
     }
 }

@@ -8,7 +8,7 @@ mod stop;
 mod taker;
 mod walk;
 
-pub use argument::Argument;
+pub use argument::{Argument, area_at};
 pub use cells::successor;
 pub use lookup::{LookedUp, Lookup};
 pub use stop::Stop;

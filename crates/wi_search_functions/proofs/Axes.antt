@@ -4,15 +4,14 @@ use Rattle.wi_values.specs.Address.{Area, is_within}
 use Rattle.wi_values.specs.declared.value.ErrorKind.{ErrorKind}
 use Rattle.wi_values.specs.declared.value.Value.{Value}
 use Rattle.wi_lookup.specs.declared.argument.Argument as given
-use Rattle.wi_lookup.specs.Arguments.{arguments_in}
+use Rattle.wi_lookup.specs.Arguments.{arguments_in, area_at}
 use Rattle.wi_standard_functions.specs.Arguments.{region_of, value_at}
 use Rattle.wi_standard_functions.specs.Convert.{to_whole}
 use Rattle.wi_standard_functions.specs.Lookup.{place_among}
 use Rattle.wi_search_functions.specs.declared.axis.Axis.{Axis}
 use Rattle.wi_search_functions.specs.declared.axis.Axis.TheVariants.{Rows, Columns}
 use Rattle.wi_search_functions.specs.Inner.Axis.{cell_along, cell_in_line, line_count, line_width, width_in}
-use Rattle.wi_search_functions.specs.Inner.Giving.{area_at}
-use Rattle.wi_search_functions.proofs.Asked as arguments
+use Rattle.wi_lookup.proofs.Given as arguments
 use Rattle.wi_search_functions.proofs.Chains.{IsAsked, order_in, sought_in}
 use Rattle.wi_search_functions.proofs.Endings.{nth_within}
 use Rattle.wi_search_functions.proofs.Places.{cell_at}
@@ -33,5 +32,5 @@ along_within Rows r line i h k = nth_within r line i h k
 along_within Columns r line i h k = nth_within r i line k h
 
 pub asked : (cells : ℕ → Value) (args : List given.Argument) (s : Value) (r : Area) (k : ℤ) (b : Bool) →
-    sought_in (arguments_in cells args) ≡ Ok s → area_at args 1 ≡ Ok r → to_whole (value_at (arguments_in cells args) 2) ≡ Ok k → order_in (arguments_in cells args) ≡ Ok b → IsAsked (arguments_in cells args) s (region_of cells r) k b
-asked cells args s r k b g h l m = record { sought_is = g; region_is = arguments.region_is cells args 1 r h; number_is = l; order_is = m }
+    sought_in (arguments_in cells args) ≡ Ok s → Ok r ≡ area_at args 1 → to_whole (value_at (arguments_in cells args) 2) ≡ Ok k → order_in (arguments_in cells args) ≡ Ok b → IsAsked (arguments_in cells args) s (region_of cells r) k b
+asked cells args s r k b g h l m = record { sought_is = g; region_is = arguments.region_is args 1 (Ok r) h cells; number_is = l; order_is = m }

@@ -1,6 +1,6 @@
 -- What a walk along one row or one column has found is the place that is asked for.
 use Rattle.std.proofs.Common.{◌≡◌, ℕ, suc, ◌<◌, ◌+◌, Bool, true, false, cond, List, [], ◌∷◌, map, filter, length, Option, Some, None, IfSome, Ok, Err, refl, sym, ap, ◌∙◌, subst, arith}
-use Rattle.std.specs.Prelude.{nat_lt, ok_or, unwrap_or}
+use Rattle.std.specs.Prelude.{nat_lt, ok_or}
 use Rattle.std.specs.Option.{option_map}
 use Rattle.std.specs.List.{position, position_or_len, enumerate_from, last_or}
 use Rattle.std.specs.Ordering.{is_eq, is_le, is_ge}
@@ -9,8 +9,7 @@ use Rattle.std.proofs.lemmas.List.{length-map}
 use Rattle.wi_values.specs.Address.{Area, cells_of}
 use Rattle.wi_values.specs.declared.value.ErrorKind.TheVariants.{NotAvailable}
 use Rattle.wi_values.specs.declared.value.Value.{Value}
-use Rattle.wi_values.specs.declared.value.Value.TheVariants.{Empty}
-use Rattle.wi_lookup.specs.Arguments.{KnownAgrees}
+use Rattle.wi_lookup.proofs.Given.{known_agrees, taken_for_known}
 use Rattle.wi_standard_functions.specs.Matching.{is_match}
 use Rattle.wi_search_functions.specs.declared.rule.Rule.{Rule}
 use Rattle.wi_search_functions.specs.declared.rule.Rule.TheVariants.{FirstEqual, LastAtMost, LastAtLeast}
@@ -63,15 +62,8 @@ place_found known r rule sought found c l h e = λ cells a. ap (λ (o : Option �
 pub place_none : (known : ℕ → Option Value) (r : Area) (rule : Rule) (sought : Value) (found : Option ℕ) → is_line r ≡ true → HasFound known r rule sought found → found ≡ None → WhateverHeld known (λ cells. ok_or (position_by rule sought (map cells (cells_of r))) NotAvailable ≡ Err NotAvailable)
 place_none known r rule sought found l h e = λ cells a. ap (λ (o : Option ℕ). ok_or o NotAvailable) (place_is known r rule sought found l h cells a ∙ ap (option_map (steps r)) e)
 
-agrees_with_known : (known : ℕ → Option Value) → KnownAgrees known (λ c. unwrap_or (known c) Empty)
-agrees_with_known known c = at (known c)
-  where
-    at : (o : Option Value) → IfSome o (λ v. v ≡ unwrap_or o Empty)
-    at None = tt
-    at (Some v) = refl
-
 pub place_within : (known : ℕ → Option Value) (r : Area) (rule : Rule) (sought : Value) (found : Option ℕ) (c : ℕ) → is_line r ≡ true → HasFound known r rule sought found → found ≡ Some c → steps r c < length (cells_of r)
 place_within known r rule sought found c l h e =
-    subst (λ (n : ℕ). steps r c < n) (length-map (cells_of r) (λ c. unwrap_or (known c) Empty))
-    (position_within rule sought (map (λ c. unwrap_or (known c) Empty) (cells_of r)) (steps r c)
-    (place_is known r rule sought found l h (λ c. unwrap_or (known c) Empty) (agrees_with_known known) ∙ ap (option_map (steps r)) e))
+    subst (λ (n : ℕ). steps r c < n) (length-map (cells_of r) (taken_for_known known))
+    (position_within rule sought (map (taken_for_known known) (cells_of r)) (steps r c)
+    (place_is known r rule sought found l h (taken_for_known known) (known_agrees known) ∙ ap (option_map (steps r)) e))

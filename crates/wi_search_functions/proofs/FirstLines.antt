@@ -1,18 +1,19 @@
 -- The first column and the first row of a rectangle.
-use Rattle.std.proofs.Common.{◌≡◌, ℕ, zero, suc, ◌<◌, ◌≤◌, ◌+◌, ◌==◌, ◌&&◌, Bool, true, false, cond, List, length, map, min, max, Some, None, refl, sym, ap, ◌∙◌, subst, arith}
-use Rattle.std.specs.Prelude.{nat_lt, nat_le}
-use Rattle.std.proofs.lemmas.Bool.{and_parts, and_from, ltb-false, ltb-true, leb-true, le-leb, or_left, or_right, eq-eqb}
+use Rattle.std.proofs.Common.{◌≡◌, ℕ, zero, suc, ◌<◌, ◌≤◌, ◌+◌, ◌==◌, Bool, true, false, cond, List, length, map, min, max, Some, None, refl, sym, ap, ◌∙◌, subst, arith}
+use Rattle.std.specs.Prelude.{nat_lt}
+use Rattle.std.proofs.lemmas.Bool.{and_from, ltb-false, ltb-true, le-leb, or_left, or_right, eq-eqb}
 use Rattle.std.proofs.lemmas.List.FromFn.{length-map-range_with_len}
 use Rattle.std.proofs.Math.Nat.{mod-lt}
 use Rattle.wi_values.specs.Address.{Area, cells_of, place, row_of, column_of, is_within, rect_of}
 use Rattle.wi_values.specs.declared.value.Value.{Value}
+use Rattle.wi_lookup.proofs.RowMajor.{block, run, within_parts}
 use Rattle.wi_standard_functions.specs.Arguments.{region_of}
 use Rattle.wi_standard_functions.specs.Lookup.{cell_in}
 use Rattle.wi_search_functions.specs.declared.axis.Axis.{Axis}
 use Rattle.wi_search_functions.specs.declared.axis.Axis.TheVariants.{Rows, Columns}
 use Rattle.wi_search_functions.specs.Inner.Axis.{line_count, line_width, first_cells}
 use Rattle.wi_search_functions.specs.Inner.Lines.{height, width, is_line, first_column, first_row}
-use Rattle.wi_search_functions.proofs.Places.{run, block, cell_at, column_cells, row_cells}
+use Rattle.wi_search_functions.proofs.Places.{cell_at, column_cells, row_cells}
 use Rattle.wi_search_functions.proofs.Chains.{first_cells_in}
 use Rattle.wi_search_functions.proofs.Lines.{one_row, one_column}
 
@@ -87,13 +88,6 @@ pub record IsFirstLine (r l : Area) (values : (ℕ → Value) → List Value) (c
 length-block : (row n a : ℕ) → length (block row n a 1) ≡ n
 length-block row zero a = refl
 length-block row (suc n) a = ap suc (length-block (row + 1) n a)
-
-within_parts : (r : Area) (c : ℕ) → is_within r c ≡ true → (row_of r.first ≤ row_of c) × (row_of c ≤ row_of r.last) × (column_of r.first ≤ column_of c) × (column_of c ≤ column_of r.last)
-within_parts r c h =
-    let p = and_parts (nat_le (row_of r.first) (row_of c) && nat_le (row_of c) (row_of r.last)) _ h in
-    let q = and_parts (nat_le (row_of r.first) (row_of c)) _ p.0 in
-    let s = and_parts (nat_le (column_of r.first) (column_of c)) _ p.1 in
-    (leb-true _ _ q.0, leb-true _ _ q.1, leb-true _ _ s.0, leb-true _ _ s.1)
 
 pub within_from : (r : Area) (c : ℕ) → row_of r.first ≤ row_of c → row_of c ≤ row_of r.last → column_of r.first ≤ column_of c → column_of c ≤ column_of r.last → is_within r c ≡ true
 within_from r c h k l m = and_from _ _ (and_from _ _ (le-leb _ _ h) (le-leb _ _ k)) (and_from _ _ (le-leb _ _ l) (le-leb _ _ m))

@@ -5,7 +5,7 @@ use Rattle.std.proofs.lemmas.Bool.{or_cases, eqb-true}
 use Rattle.std.proofs.Math.Nat.{mod-lt}
 use Rattle.wi_values.specs.Address.{Area, cells_of, place, row_of, column_of}
 use Rattle.wi_search_functions.specs.Inner.Lines.{height, width, steps, is_line}
-use Rattle.wi_search_functions.proofs.Places.{run, block}
+use Rattle.wi_lookup.proofs.RowMajor.{block, run}
 use Rattle.wi_search_functions.proofs.Searches.{IsNumbered}
 
 run_numbered : (r : Area) (a k n : ℕ) → a ≡ column_of r.first + k → a + n ≤ 16384 → IsNumbered (steps r) k (run (row_of r.first) a n)

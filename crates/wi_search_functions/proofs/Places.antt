@@ -2,7 +2,7 @@
 use Rattle.std.proofs.Common.{◌≡◌, ℕ, zero, suc, ◌<◌, ◌+◌, ◌*◌, List, [], ◌∷◌, ◌++◌, map, length, Option, Some, refl, ap, ◌∙◌, arith}
 use Rattle.std.specs.Prelude.{slice_get, unwrap_or}
 use Rattle.std.specs.Option.{option_map}
-use Rattle.std.specs.List.{range_with_len, flat_map}
+use Rattle.std.specs.List.{range_with_len}
 use Rattle.std.proofs.Math.Nat.{suc-mul}
 use Rattle.std.proofs.lemmas.Option.{slice_get-map}
 use Rattle.std.proofs.lemmas.List.FromFn.{length-map-range_with_len}
@@ -10,16 +10,10 @@ use Rattle.wi_values.specs.Address.{Area, cells_of, place, row_of, column_of}
 use Rattle.wi_values.specs.declared.value.Value.{Value}
 use Rattle.wi_values.specs.declared.value.Value.TheVariants.{Fault}
 use Rattle.wi_values.specs.declared.value.ErrorKind.TheVariants.{BadReference}
+use Rattle.wi_lookup.proofs.RowMajor.{block, run}
 use Rattle.wi_standard_functions.specs.Arguments.{region_of}
 use Rattle.wi_standard_functions.specs.Lookup.{cell_in}
 use Rattle.wi_search_functions.specs.Inner.Lines.{height, width}
-
--- so many cells of one row, and of so many rows
-abbrev pub run : ℕ → ℕ → ℕ → List ℕ
-run row a n = map (place row) (range_with_len a n)
-
-abbrev pub block : ℕ → ℕ → ℕ → ℕ → List ℕ
-block row h a n = flat_map (λ i. run i a n) (range_with_len row h)
 
 in_run : (row a n k : ℕ) → k < n → slice_get (run row a n) k ≡ Some (place row (a + k))
 in_run row a zero k h = absurd (omega (arith, h))

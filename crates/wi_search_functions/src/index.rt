@@ -7,12 +7,12 @@ ghost use Rattle.wi_standard_functions.specs.Lookup.{index_along, index_by_both,
 ghost use Rattle.wi_values.specs.declared.value.Value.{Value as Values};
 ghost use Rattle.wi_search_functions.specs.Inner.Giving.{Finds, IsPlacedIn};
 
-use crate::arguments::{area_at, whole_at};
+use crate::arguments::whole_at;
 use crate::halt::Halt;
 use crate::outcome::value_found;
 use crate::region::{cell_at, height, place_among, width};
 use std::alloc::Global;
-use wi_lookup::{Argument, Lookup, Stop};
+use wi_lookup::{Argument, Lookup, Stop, area_at};
 use wi_values::{Address, ErrorKind, Rect, Value};
 
 /// The value of a cell by its row and its column in a rectangle, or by its place along a row or a column. One cell is looked

@@ -2,18 +2,16 @@
 
 ghost use Rattle.std.specs.Prelude.{◌≡◌, IfOk, IfErr};
 ghost use Rattle.wi_lookup.specs.Arguments.{IsMissing, IsOfArguments};
-ghost use Rattle.wi_standard_functions.specs.Convert.{zero_number};
 ghost use Rattle.wi_standard_functions.specs.Lookup.{match_value};
-ghost use Rattle.wi_values.specs.declared.value.Value.TheVariants.{Number};
 ghost use Rattle.wi_search_functions.specs.Inner.Giving.{Places};
 
-use crate::arguments::{area_at, number_or, sought_at};
+use crate::arguments::{number_or, sought_at};
 use crate::halt::Halt;
 use crate::outcome::value_placed;
 use crate::region::is_line;
 use crate::rule::Rule;
 use crate::search::place_along;
-use wi_lookup::{Argument, Lookup};
+use wi_lookup::{Argument, Lookup, area_at};
 use wi_scalar_functions::{one, zero};
 use wi_values::{Address, ErrorKind, Value};
 
@@ -23,16 +21,15 @@ pub fn match_value<L: Lookup>(arguments: &[Argument], lookup: &L) -> Result<Valu
     ensures done { IfOk result (IsOfArguments (L.known_cell lookup.now) match_value arguments.now) }
     ensures missing { IfErr result (IsMissing (L.known_cell lookup.now) arguments.now) }
 {
-    let zero = Value::Number(zero());
-    value_placed(match_place(&zero, arguments, lookup))
+    value_placed(match_place(arguments, lookup))
 }
 
-/// The place, counted from 0. The zero is what an Empty value is sought as.
-fn match_place<L: Lookup>(zero: &Value, arguments: &[Argument], lookup: &L) -> Result<u32, Halt>
-    requires { zero.now ≡ Number zero_number }
+/// The place, counted from 0.
+fn match_place<L: Lookup>(arguments: &[Argument], lookup: &L) -> Result<u32, Halt>
     ensures { Places (L.known_cell lookup.now) arguments.now match_value result }
 {
-    let sought = sought_at(zero, arguments, 0, lookup)?;
+    let zero = Value::Number(zero());
+    let sought = sought_at(&zero, arguments, 0, lookup)?;
     let area = area_at(arguments, 1)?;
     let match_type = number_or(one(), arguments, 2, lookup)?;
     if !is_line(area) {

@@ -2,13 +2,11 @@
 
 ghost use Rattle.std.specs.Prelude.{◌≡◌, IfOk, IfErr};
 ghost use Rattle.wi_lookup.specs.Arguments.{IfMissing, IsMissing, IsOfArguments};
-ghost use Rattle.wi_standard_functions.specs.Convert.{zero_number};
 ghost use Rattle.wi_standard_functions.specs.Lookup.{h_lookup_value, v_lookup_value};
-ghost use Rattle.wi_values.specs.declared.value.Value.TheVariants.{Number};
 ghost use Rattle.wi_search_functions.specs.Inner.Axis.{look_up_by};
 ghost use Rattle.wi_search_functions.specs.Inner.Giving.{Finds};
 
-use crate::arguments::{area_at, logical_or, sought_at, whole_at};
+use crate::arguments::{logical_or, sought_at, whole_at};
 use crate::axis::Axis;
 use crate::halt::Halt;
 use crate::outcome::value_found;
@@ -16,7 +14,7 @@ use crate::region::place_among;
 use crate::rule::Rule;
 use crate::search::place_along;
 use std::alloc::Global;
-use wi_lookup::{Argument, Lookup, Stop};
+use wi_lookup::{Argument, Lookup, Stop, area_at};
 use wi_scalar_functions::zero;
 use wi_values::{Address, ErrorKind, Value};
 
@@ -30,8 +28,7 @@ pub fn v_lookup_value<L: Lookup>(
     ensures done { IfOk result (IsOfArguments (L.known_cell lookup.now) v_lookup_value arguments.now) }
     ensures missing { IfErr result (λ s. IfMissing s (IsMissing (L.known_cell lookup.now) arguments.now)) }
 {
-    let zero = Value::Number(zero());
-    value_found(alloc, look_up(Axis::Rows, &zero, arguments, lookup), lookup)
+    value_found(alloc, look_up(Axis::Rows, arguments, lookup), lookup)
 }
 
 /// The value in a row of a rectangle, in the column whose first cell is found. The work is that of `v_lookup_value`, along the
@@ -44,25 +41,15 @@ pub fn h_lookup_value<L: Lookup>(
     ensures done { IfOk result (IsOfArguments (L.known_cell lookup.now) h_lookup_value arguments.now) }
     ensures missing { IfErr result (λ s. IfMissing s (IsMissing (L.known_cell lookup.now) arguments.now)) }
 {
-    let zero = Value::Number(zero());
-    value_found(
-        alloc,
-        look_up(Axis::Columns, &zero, arguments, lookup),
-        lookup,
-    )
+    value_found(alloc, look_up(Axis::Columns, arguments, lookup), lookup)
 }
 
-/// The cell at a place in the line whose first cell is found. The zero is what an Empty value is sought as.
-fn look_up<L: Lookup>(
-    axis: Axis,
-    zero: &Value,
-    arguments: &[Argument],
-    lookup: &L,
-) -> Result<Address, Halt>
-    requires { zero.now ≡ Number zero_number }
+/// The cell at a place in the line whose first cell is found.
+fn look_up<L: Lookup>(axis: Axis, arguments: &[Argument], lookup: &L) -> Result<Address, Halt>
     ensures { Finds (L.known_cell lookup.now) arguments.now (look_up_by axis) result }
 {
-    let sought = sought_at(zero, arguments, 0, lookup)?;
+    let zero = Value::Number(zero());
+    let sought = sought_at(&zero, arguments, 0, lookup)?;
     let area = area_at(arguments, 1)?;
     let k = whole_at(arguments, 2, lookup)?;
     let in_order = logical_or(true, arguments, 3, lookup)?;

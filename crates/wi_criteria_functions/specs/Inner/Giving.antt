@@ -1,12 +1,9 @@
 -- How the code's outcomes stand to the definitions.
-use Rattle.std.specs.Prelude.{◌≡◌, ℕ, true, List, Option, Result, Ok, Err}
-use Rattle.std.specs.List.{list_any}
-use Rattle.wi_values.specs.Address.{Area, is_within}
+use Rattle.std.specs.Prelude.{◌≡◌, ℕ, List, Option, Result, Ok, Err}
 use Rattle.wi_values.specs.declared.value.ErrorKind.{ErrorKind}
-use Rattle.wi_values.specs.declared.value.ErrorKind.TheVariants.{BadValue}
 use Rattle.wi_values.specs.declared.value.Value.{Value}
 use Rattle.wi_values.specs.declared.value.Value.TheVariants.{Fault}
-use Rattle.wi_standard_functions.specs.Arguments.{Argument, Region, region_of}
+use Rattle.wi_standard_functions.specs.Arguments.{Argument}
 use Rattle.wi_standard_functions.specs.Criterion as defined
 use Rattle.wi_standard_functions.specs.Criterion.{criterion_of}
 use Rattle.wi_standard_functions.specs.FirstError.{no_error}
@@ -14,7 +11,7 @@ use Rattle.wi_standard_functions.specs.Steps.{and_then}
 use Rattle.wi_lookup.specs.declared.argument.Argument as given
 use Rattle.wi_lookup.specs.declared.stop.Stop.{Stop}
 use Rattle.wi_lookup.specs.declared.stop.Stop.TheVariants.{Memory}
-use Rattle.wi_lookup.specs.Arguments.{KnownAgrees, IsOfArguments, IsMissing, IfMissing, refers_to}
+use Rattle.wi_lookup.specs.Arguments.{KnownAgrees, IsOfArguments, IsMissing, IfMissing}
 use Rattle.wi_matching.specs.declared.criterion.Criterion.{Criterion}
 use Rattle.wi_matching.specs.Inner.Meeting.{criterion_held}
 use Rattle.wi_criteria_functions.specs.declared.ending.Ending.{Ending}
@@ -39,19 +36,6 @@ Agrees known missing seen r (Err (Error e)) = (cells : ℕ → Value) → KnownA
 Agrees known missing seen r (Err (Stopped s)) = IfMissing s missing
 
 -- ---- arguments
-
--- the rectangle that an argument refers to
-abbrev pub area_referred : given.Argument → Result Area ErrorKind
-area_referred (given.TheVariants.Reference r) = Ok r
-area_referred (given.TheVariants.Value v) = Err BadValue
-
--- the region of a rectangle, or the error
-abbrev pub region_in : (ℕ → Value) → Result Area ErrorKind → Result Region ErrorKind
-region_in cells area = and_then (λ r. Ok (region_of cells r)) area
-
--- one of the arguments refers to each cell of the rectangle
-abbrev pub IsReferred : List given.Argument → Area → Type 0
-IsReferred args r = (c : ℕ) → is_within r c ≡ true → list_any (refers_to c) args ≡ true
 
 -- the criterion that an argument's value is, unless that is an error
 abbrev pub criterion_argument : Value → Result defined.Criterion ErrorKind

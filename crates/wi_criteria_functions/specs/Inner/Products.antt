@@ -13,9 +13,9 @@ use Rattle.wi_standard_functions.specs.Sequence.{number_of_item, with_number}
 use Rattle.wi_standard_functions.specs.Steps.{and_then, map_until_error}
 use Rattle.wi_lookup.specs.declared.argument.Argument as given
 use Rattle.wi_lookup.specs.declared.stop.Stop.TheVariants.{Memory}
+use Rattle.wi_lookup.specs.Arguments.{area_referred}
 use Rattle.wi_criteria_functions.specs.declared.ending.Ending.{Ending}
 use Rattle.wi_criteria_functions.specs.declared.ending.Ending.TheVariants.{Error, Stopped}
-use Rattle.wi_criteria_functions.specs.Inner.Giving.{area_referred}
 use Rattle.wi_criteria_functions.specs.Inner.Sums.{same_place}
 
 -- the rectangles that all arguments refer to

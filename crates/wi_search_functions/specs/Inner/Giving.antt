@@ -1,10 +1,8 @@
 -- How the code's outcomes stand to the definitions, whatever cells hold of which nothing is known.
-use Rattle.std.specs.Prelude.{◌≡◌, ℕ, ◌+◌, true, List, Option, None, Result, Ok, Err, slice_get}
-use Rattle.std.specs.Option.{option_map_or}
+use Rattle.std.specs.Prelude.{◌≡◌, ℕ, ◌+◌, true, List, Option, None, Result, Ok, Err}
 use Rattle.std.specs.List.{list_any}
 use Rattle.wi_values.specs.Address.{Area, is_within}
 use Rattle.wi_values.specs.declared.value.ErrorKind.{ErrorKind}
-use Rattle.wi_values.specs.declared.value.ErrorKind.TheVariants.{BadValue}
 use Rattle.wi_values.specs.declared.value.Value.{Value}
 use Rattle.wi_values.specs.declared.value.Value.TheVariants.{Fault}
 use Rattle.wi_lookup.specs.declared.argument.Argument as given
@@ -29,16 +27,6 @@ abbrev pub Finds : (ℕ → Option Value) → List given.Argument → (List Argu
 Finds known args f (Ok c) = WhateverHeld known (λ cells. f (arguments_in cells args) ≡ cells c) × (list_any (refers_to c) args ≡ true)
 Finds known args f (Err (Error e)) = WhateverHeld known (λ cells. f (arguments_in cells args) ≡ Fault e)
 Finds known args f (Err (Missing c)) = IsMissing known args c
-
--- ---- arguments
-
--- the rectangle that an argument refers to
-abbrev pub area_referred : given.Argument → Result Area ErrorKind
-area_referred (given.TheVariants.Reference r) = Ok r
-area_referred (given.TheVariants.Value v) = Err BadValue
-
-abbrev pub area_at : List given.Argument → ℕ → Result Area ErrorKind
-area_at args i = option_map_or area_referred (slice_get args i) (Err BadValue)
 
 -- the cell isn't known, and lies in the rectangle
 abbrev pub IsMissingIn : (ℕ → Option Value) → Area → ℕ → Type 0
